@@ -1,0 +1,2 @@
+pub mod Reading
+pub mod Codes
