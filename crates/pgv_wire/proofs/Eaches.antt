@@ -6,7 +6,7 @@ use Rattle.pgv_buf.specs.Tokens.{Token, blank}
 use Rattle.pgv_wire.specs.Arguments.{Argument, Added}
 use Rattle.pgv_wire.specs.Outcome.{Refused}
 use Rattle.pgv_wire.specs.Each.{Outcome, IsOutcome, AreOutcomes, argument_by, added_by, accepted}
-use Rattle.pgv_wire.specs.declared.CodecError.{CodecError}
+use Rattle.pgv_value.specs.declared.error.CodecError.{CodecError}
 
 pub not_err : {A E : Type 0} (r : Result A E) (e : E) → IsOk r → r ≡ Err e → ⊥
 not_err (Ok x) e k h = absurd cc

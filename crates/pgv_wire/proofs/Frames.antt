@@ -6,8 +6,8 @@ use Rattle.pgv_buf.specs.Blank.{width-blank}
 use Rattle.pgv_buf.specs.Parse.{width-append}
 use Rattle.pgv_wire.specs.Image.{Image, null_image, image_of, frame}
 use Rattle.pgv_wire.specs.Outcome.{Encoded}
-use Rattle.pgv_wire.specs.declared.IsNull.{IsNull}
-use Rattle.pgv_wire.specs.declared.IsNull.TheVariants.{Yes, No}
+use Rattle.pgv_wire.specs.declared.buffer.IsNull.{IsNull}
+use Rattle.pgv_wire.specs.declared.buffer.IsNull.TheVariants.{Yes, No}
 
 pub null_frame : (h : ℕ) (i : Option Image) → h ≤ 2147483647 → i ≡ Some null_image → frame h i ≡ Some (bytes (be4 4294967295))
 null_frame h i l e = rw e (grind (arith, nat_tests))

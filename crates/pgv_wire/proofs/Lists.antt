@@ -7,7 +7,7 @@ use Rattle.pgv_wire.specs.Image.{Image, frame, frames, join, image_of, header, a
 use Rattle.pgv_types.specs.Ty.{Ty}
 use Rattle.std.proofs.lemmas.Bool.Decides.{nat_tests}
 use Rattle.pgv_wire.specs.Outcome.{AppendedAll, Refused}
-use Rattle.pgv_wire.specs.declared.CodecError.{CodecError}
+use Rattle.pgv_value.specs.declared.error.CodecError.{CodecError}
 
 -- tokens behind tokens
 pub both : (was mid now : List Cell) (a b : List Token) → mid ≡ was ++ blank a → now ≡ mid ++ blank b → now ≡ was ++ blank (a ++ b)

@@ -9,7 +9,7 @@ use Rattle.pgv_wire.specs.Fronts.{front_of, behind, front_is, behind_is}
 use Rattle.pgv_wire.specs.Image.{field_at}
 use Rattle.pgv_wire.specs.Outcome.{Refused}
 use Rattle.pgv_wire.specs.Record.{Writing, writing_at, with_field, so_far, IsOpen, AddsField}
-use Rattle.pgv_wire.specs.declared.CodecError.{CodecError}
+use Rattle.pgv_value.specs.declared.error.CodecError.{CodecError}
 
 -- what is being written, where the buffer is known
 pub writing_is : (m : Mark) (n : ℕ) (now was : List Cell) (fs : List Token) → m ≡ mark_of was → now ≡ was ++ blank (bytes (be4 n) ++ fs) → writing_at m n now ≡ record { before = was; count = n; fields = fs }

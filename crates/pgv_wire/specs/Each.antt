@@ -4,7 +4,7 @@ use Rattle.pgv_types.specs.Ty.{Ty}
 use Rattle.pgv_buf.specs.Tokens.{Token, blank}
 use Rattle.pgv_wire.specs.Arguments.{Argument}
 use Rattle.pgv_wire.specs.Outcome.{Refused}
-use Rattle.pgv_wire.specs.declared.CodecError.{CodecError}
+use Rattle.pgv_value.specs.declared.error.CodecError.{CodecError}
 
 abbrev pub Outcome : Type 0
 Outcome = Result (Unit {0}) CodecError

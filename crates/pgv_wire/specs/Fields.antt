@@ -6,7 +6,7 @@ use Rattle.pgv_buf.specs.Tokens.{Token, Cell, bytes, be4, blank}
 use Rattle.pgv_wire.specs.Image.{Image, image_of, joined, join, field_at, record_of_fields, record_image}
 use Rattle.pgv_wire.specs.Outcome.{Encoded}
 use Rattle.pgv_wire.specs.Record.{Writing, begun, with_field, so_far, AddsField}
-use Rattle.pgv_wire.specs.declared.IsNull.TheVariants.{No}
+use Rattle.pgv_wire.specs.declared.buffer.IsNull.TheVariants.{No}
 
 -- these fields have been written behind what was there
 pub record HasFields (was : List Cell) (fs : List (Option (List Token))) (w : Writing) : Type 0 where

@@ -6,7 +6,7 @@ use Rattle.pgv_buf.specs.declared.Mark.{Mark}
 use Rattle.pgv_buf.specs.Tokens.{Cell, width, hole_count, slot_count}
 use Rattle.pgv_wire.specs.Arguments.{Argument, all_tokens, types_in, sizes_in, counts_in}
 use Rattle.pgv_wire.specs.Fronts.{front_of, behind, front_is, behind_is}
-use Rattle.pgv_wire.specs.declared.PgArguments.TheInside.{Inside}
+use Rattle.pgv_wire.specs.declared.arguments.PgArguments.TheInside.{Inside}
 
 abbrev pub first_size : List Mark → Mark
 first_size [] = record { bytes = 0; holes = 0; slots = 0 }

@@ -2,10 +2,10 @@
 use Rattle.std.specs.Prelude.{◌≡◌, ◌⊎◌, List, ◌++◌, Option, Some, None}
 use Rattle.pgv_buf.specs.Tokens.{Token, Cell, blank}
 use Rattle.pgv_wire.specs.Image.{Image, null_image, image_of}
-use Rattle.pgv_wire.specs.declared.IsNull.{IsNull}
-use Rattle.pgv_wire.specs.declared.IsNull.TheVariants.{Yes, No}
-use Rattle.pgv_wire.specs.declared.CodecError.{CodecError}
-use Rattle.pgv_wire.specs.declared.CodecError.TheVariants.{Memory}
+use Rattle.pgv_wire.specs.declared.buffer.IsNull.{IsNull}
+use Rattle.pgv_wire.specs.declared.buffer.IsNull.TheVariants.{Yes, No}
+use Rattle.pgv_value.specs.declared.error.CodecError.{CodecError}
+use Rattle.pgv_value.specs.declared.error.CodecError.TheVariants.{Memory}
 
 -- exactly the image is behind what was there
 abbrev pub Encoded : IsNull → Option Image → List Cell → List Cell → Type 0

@@ -1,5 +1,5 @@
 -- What a record encoder has written.
-use Rattle.pgv_wire.specs.declared.PgRecordEncoder.{PgRecordEncoder}
+use Rattle.pgv_wire.specs.declared.types.record.PgRecordEncoder.{PgRecordEncoder}
 use Rattle.pgv_wire.specs.Record.{Writing, writing_at}
 
 abbrev pub written : PgRecordEncoder → Writing

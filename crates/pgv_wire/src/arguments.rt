@@ -1,0 +1,148 @@
+//! The parameters of a statement.
+
+ghost use Rattle.std.specs.Prelude.{◌≡◌, ◌≢◌, ◌+◌, ◌++◌, ℕ, List, [], ◌∷◌, length, OnOk, OnErr, IfOk, IfErr, IsOk, IsErrOf};
+ghost use Rattle.pgv_buf.specs.Tokens.{shown, hole_count};
+ghost use Rattle.pgv_value.specs.declared.error.CodecError.TheVariants.{Memory, ParameterCount, HoleCount};
+ghost use Rattle.pgv_wire.specs.Arguments.{types_in, all_tokens, Added, filled_arguments, framed, early};
+ghost use Rattle.pgv_wire.specs.Each.{AreOutcomes, accepted};
+ghost use Rattle.pgv_wire.specs.Image.{frame, or_else};
+ghost use Rattle.pgv_wire.specs.Outcome.{Refused};
+
+use crate::buffer::PgArgumentBuffer;
+use crate::traits::{Encode, Type};
+use crate::types::array::type_of_value;
+use pgv_buf::Mark;
+use pgv_types::{Oid, PgTypeInfo};
+use pgv_value::CodecError;
+use std::alloc::Global;
+use std::marker::Model;
+
+#[derive(Drop)]
+pub struct PgArguments {
+    buffer: PgArgumentBuffer,
+    types: Vec<PgTypeInfo>,
+    sizes: Vec<Mark>,
+    counts: Vec<usize>,
+}
+
+impl Model for PgArguments {
+    ghost use Rattle.std.specs.Prelude.{List};
+    ghost use Rattle.std.specs.Coded.{coded×, coded_list};
+    ghost use Rattle.pgv_types.specs.Ty.{ty_code};
+    ghost use Rattle.pgv_buf.specs.Tokens.{cells_code};
+    ghost use Rattle.pgv_wire.specs.Arguments.{Argument};
+
+    ghost Value = { List Argument };
+
+    ghost coded = { coded_list (coded× ty_code cells_code) };
+
+    ghost use Rattle.pgv_wire.specs.Kept.{seen, IsKept};
+
+    ghost view = { seen };
+
+    ghost invariant = { IsKept };
+}
+
+impl PgArguments {
+    pub fn new(alloc: Global) -> PgArguments
+        ensures { result ≡ [] }
+    {
+        PgArguments {
+            buffer: PgArgumentBuffer::new(alloc),
+            types: Vec::new(alloc),
+            sizes: Vec::new(alloc),
+            counts: Vec::new(alloc),
+        }
+    }
+
+    pub fn len(&self) -> usize
+        ensures { result ≡ length self.now }
+    {
+        self.types.len()
+    }
+
+    pub fn types(&self) -> &[PgTypeInfo]
+        ensures { result.now ≡ types_in self.now }
+    {
+        self.types.as_slice()
+    }
+
+    pub fn buffer(&self) -> &PgArgumentBuffer
+        ensures { result.now ≡ all_tokens self.now }
+    {
+        &self.buffer
+    }
+
+    pub fn add_by_ref<T: Encode + Type>(&mut self, value: &T) -> Result<(), CodecError>
+        ensures ok { OnOk result (Added (frame (T.hint value.now) (T.image value.now)) (or_else (T.produced value.now) T.info) self.old self.new) }
+        ensures err { IfErr result (λ e. Refused e (frame (T.hint value.now) (T.image value.now))) }
+        ensures unchanged { OnErr result (self.new ≡ self.old) }
+    {
+        self.types.reserve(1)?;
+        self.sizes.reserve(1)?;
+        self.counts.reserve(1)?;
+        let argument_type = type_of_value(value)?;
+        let mark = self.buffer.mark();
+        if let Err(error) = self.buffer.encode(value) {
+            self.buffer.back(mark);
+            return Err(error);
+        }
+        let size = self.buffer.mark().since(mark);
+        self.types.push(argument_type)?;
+        self.sizes.push(size)?;
+        self.counts.push(size.slots())?;
+        Ok(())
+    }
+
+    pub fn add<T: Encode + Type + Drop>(&mut self, value: T) -> Result<(), CodecError>
+        ensures ok { OnOk result (Added (frame (T.hint value) (T.image value)) (or_else (T.produced value) T.info) self.old self.new) }
+        ensures err { IfErr result (λ e. Refused e (frame (T.hint value) (T.image value))) }
+        ensures unchanged { OnErr result (self.new ≡ self.old) }
+    {
+        self.add_by_ref(&value)
+    }
+
+    /// Adds each value, and says which were accepted.
+    pub fn add_each<T: Encode + Type>(
+        &mut self,
+        alloc: Global,
+        values: &[T],
+    ) -> Result<Vec<Result<(), CodecError>>, CodecError>
+        ensures outcomes { IfOk result (λ rs. AreOutcomes (λ x. frame (T.hint x) (T.image x)) (λ x. or_else (T.produced x) T.info) values.now rs.items) }
+        ensures added { IfOk result (λ rs. self.new ≡ self.old ++ accepted (λ x. frame (T.hint x) (T.image x)) (λ x. or_else (T.produced x) T.info) values.now rs.items) }
+        ensures err { IfErr result (λ e. e ≡ Memory) }
+        ensures unchanged { OnErr result (self.new ≡ self.old) }
+    {
+        let mut outcomes = Vec::with_capacity(alloc, values.len())?;
+        for value in values {
+            let outcome = self.add_by_ref(value);
+            outcomes.push(outcome)?;
+        }
+        Ok(outcomes)
+    }
+
+    // How many holes there are.
+    fn holes(&self) -> usize
+        ensures { result ≡ hole_count (all_tokens self.now) }
+    {
+        self.buffer.hole_types().len()
+    }
+
+    pub fn apply_patches(&mut self, types: &[PgTypeInfo], oids: &[Oid]) -> Result<(), CodecError>
+        ensures ok { length types.now ≡ length self.old → length oids.now ≡ hole_count (all_tokens self.old) → IsOk result }
+        ensures parameters { length types.now ≢ length self.old → IsErrOf result ParameterCount }
+        ensures holes { length types.now ≡ length self.old → length oids.now ≢ hole_count (all_tokens self.old) → IsErrOf result HoleCount }
+        ensures filled { OnOk result (self.new ≡ filled_arguments self.old types.now oids.now) }
+        ensures written { OnOk result (shown (all_tokens self.new) ≡ early (framed self.old) types.now oids.now) }
+        ensures unchanged { OnErr result (self.new ≡ self.old) }
+    {
+        if types.len() != self.len() {
+            return Err(CodecError::ParameterCount);
+        }
+        if oids.len() != self.holes() {
+            return Err(CodecError::HoleCount);
+        }
+        self.buffer.fill(types, self.counts.as_slice(), oids);
+        Ok(())
+    }
+}
