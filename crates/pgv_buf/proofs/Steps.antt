@@ -68,3 +68,8 @@ pub cut_at :
   Represents front (take m.bytes b) (take m.holes ps) (take m.holes hs) (take m.slots ks)
 cut_at {b} {ps} {hs} {ks} ts r m front rest e f =
     rw f (cut front rest (subst (λ us. Represents us b ps hs ks) e r))
+
+pub same_as :
+  {ts : List Cell} {b ps b' ps' : List ℕ} {hs hs' : List Ty} {ks ks' : List Kept} → Represents ts b ps hs ks →
+  b' ≡ b → ps' ≡ ps → hs' ≡ hs → ks' ≡ ks → Represents ts b' ps' hs' ks'
+same_as r e f g h = rw (e, f, g, h) r

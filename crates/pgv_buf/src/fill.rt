@@ -6,6 +6,7 @@ ghost use Rattle.pgv_buf.specs.Fill.{put, written, Within, slot_types, written_s
 ghost use Rattle.pgv_buf.specs.Shown.{kept_of};
 
 use pgv_types::{Oid, PgTypeInfo};
+use std::alloc::AllocError;
 
 /// A slot as it is kept: its place, its default, and what it shows for which parameter types.
 #[derive(Drop)]
@@ -13,6 +14,20 @@ pub(crate) struct Slot {
     pub(crate) place: usize,
     pub(crate) standard: Vec<u8>,
     pub(crate) cases: Vec<(PgTypeInfo, Vec<u8>)>,
+}
+
+impl Clone for Slot {
+    ghost use Rattle.pgv_buf.specs.Shown.{kept_of};
+
+    ghost is_clone = { λ s copy. kept_of copy ≡ kept_of s };
+
+    fn clone(&self) -> Result<Slot, AllocError> {
+        Ok(Slot {
+            place: self.place,
+            standard: self.standard.clone()?,
+            cases: self.cases.clone()?,
+        })
+    }
 }
 
 /// Writes a number as four bytes, the highest first.

@@ -150,6 +150,20 @@ impl Tokens {
     }
 }
 
+impl Clone for Tokens {
+    ghost is_clone = { λ tokens copy. copy ≡ tokens };
+
+    fn clone(&self) -> Result<Tokens, AllocError> {
+        Ok(Tokens {
+            bytes: self.bytes.clone()?,
+            places: self.places.clone()?,
+            types: self.types.clone()?,
+            slots: self.slots.clone()?,
+            alloc: self.alloc,
+        })
+    }
+}
+
 impl Tokens {
     /// How far the list has come.
     pub fn mark(&self) -> Mark
