@@ -1,2 +1,6 @@
 pub mod Reading
 pub mod Codes
+pub mod Given
+pub mod Row
+pub mod Utf8
+pub mod Frame

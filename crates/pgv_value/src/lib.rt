@@ -2,7 +2,8 @@
 #![tactic(auto)]
 
 pub mod error;
+mod frame;
 pub mod value;
 
 pub use error::CodecError;
-pub use value::PgValueFormat;
+pub use value::{PgValue, PgValueFormat, PgValueRef};

@@ -1,0 +1,2 @@
+pub mod Number
+pub mod Scalars

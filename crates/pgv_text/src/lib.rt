@@ -1,0 +1,10 @@
+//! Texts of PostgreSQL's values.
+#![tactic(auto)]
+
+pub mod laws;
+pub mod number;
+
+pub use number::{NumberFault, bool_of, char_of, number_of, unsigned_number_of};
+
+#[cfg(test)]
+mod tests;
