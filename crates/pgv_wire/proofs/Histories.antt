@@ -1,7 +1,7 @@
 -- What any list of calls leaves.
 use Rattle.std.proofs.Common.{◌≡◌, ℕ, ◌+◌, List, [], ◌∷◌, ◌++◌, take, drop, replicate, refl, sym, ◌∙◌, ap, append_assoc, append-nil}
 use Rattle.pgv_types.specs.Ty.{Ty}
-use Rattle.pgv_types.specs.declared.Oid.{Oid}
+use Rattle.pgv_types.specs.declared.oid.Oid.{Oid}
 use Rattle.pgv_buf.specs.Tokens.{Token, Cell, byte, hole, slot, fixed, hole_cell, slot_cell, be4, blank, plain, shown, hole_count, slot_count, chosen}
 use Rattle.pgv_buf.specs.Blank.{plain-blank}
 use Rattle.pgv_buf.specs.Parse.{shown-append, first_type}

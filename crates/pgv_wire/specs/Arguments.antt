@@ -1,7 +1,7 @@
 -- A list of arguments, each a type and the cells of its frame, and what it is written args.
 use Rattle.std.specs.Prelude.{◌≡◌, ℕ, List, [], ◌∷◌, ◌++◌, take, drop, replicate, Option, Some}
 use Rattle.pgv_types.specs.Ty.{Ty}
-use Rattle.pgv_types.specs.declared.Oid.{Oid}
+use Rattle.pgv_types.specs.declared.oid.Oid.{Oid}
 use Rattle.pgv_buf.specs.declared.Mark.{Mark}
 use Rattle.pgv_buf.specs.Tokens.{Token, byte, hole, slot, tokens_holes, Cell, be4, blank, plain, hole_count, slot_count, chosen}
 use Rattle.pgv_buf.specs.Marks.{mark_of}

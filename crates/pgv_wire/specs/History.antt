@@ -2,7 +2,7 @@
 use Rattle.std.specs.Prelude.{◌≡◌, ℕ, List, [], ◌∷◌, ◌++◌, take, drop, replicate, Option, Some, refl}
 use Rattle.std.proofs.Common.{sym, ap, ◌∙◌, append_assoc, append-nil}
 use Rattle.pgv_types.specs.Ty.{Ty}
-use Rattle.pgv_types.specs.declared.Oid.{Oid}
+use Rattle.pgv_types.specs.declared.oid.Oid.{Oid}
 use Rattle.pgv_buf.specs.Tokens.{Token, Cell, fixed, hole_cell, slot_cell, be4, blank, plain, shown, hole_count, slot_count, chosen}
 use Rattle.pgv_buf.specs.Blank.{plain-blank}
 use Rattle.pgv_buf.specs.Parse.{shown-append, first_type}

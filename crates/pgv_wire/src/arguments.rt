@@ -1,7 +1,7 @@
 //! The parameters of a statement.
 
-ghost use Rattle.std.specs.Prelude.{◌≡◌, ◌≢◌, ◌+◌, ◌++◌, ℕ, List, [], ◌∷◌, length, OnOk, OnErr, IfOk, IfErr, IsOk, IsErrOf};
-ghost use Rattle.pgv_buf.specs.Tokens.{shown, hole_count};
+ghost use Rattle.std.specs.Prelude.{◌≡◌, ◌≢◌, ◌+◌, ◌++◌, ℕ, List, [], ◌∷◌, length, OnOk, OnErr, IfOk, IfErr, IsOk, IsErrOf, string_bytes};
+ghost use Rattle.pgv_buf.specs.Tokens.{shown, hole_count, hole_types_of};
 ghost use Rattle.pgv_value.specs.declared.error.CodecError.TheVariants.{Memory, ParameterCount, HoleCount};
 ghost use Rattle.pgv_wire.specs.Arguments.{types_in, all_tokens, Added, filled_arguments, framed, early};
 ghost use Rattle.pgv_wire.specs.Each.{AreOutcomes, accepted};
@@ -14,7 +14,7 @@ use crate::types::array::type_of_value;
 use pgv_buf::Mark;
 use pgv_types::{Oid, PgTypeInfo};
 use pgv_value::CodecError;
-use std::alloc::Global;
+use std::alloc::{AllocError, Global};
 use std::marker::Model;
 
 #[derive(Drop)]
@@ -55,6 +55,19 @@ impl PgArguments {
         }
     }
 
+    /// Makes room for so many arguments more, and so many bytes. Nothing is added, also where it is refused (C1).
+    pub fn reserve(&mut self, additional: usize, size: usize) -> Result<(), CodecError>
+        ensures same { self.new ≡ self.old }
+        ensures err { IfErr result (λ e. e ≡ Memory) }
+    {
+        self.types.reserve(additional)?;
+        self.sizes.reserve(additional)?;
+        self.counts.reserve(additional)?;
+        self.buffer.reserve(size)?;
+        Ok(())
+    }
+
+    /// How many arguments there are.
     pub fn len(&self) -> usize
         ensures { result ≡ length self.now }
     {
@@ -121,6 +134,25 @@ impl PgArguments {
         Ok(outcomes)
     }
 
+    /// Appends the placeholder of the last argument, `$` and [`len`](PgArguments::len) in decimal. C1 leaves the
+    /// text as it was.
+    pub fn format_placeholder(&self, out: &mut String) -> Result<(), CodecError>
+        ensures ok { OnOk result (string_bytes out.new ≡ string_bytes out.old ++ 36 ∷ decimal (length self.now)) }
+        ensures err { IfErr result (λ e. (e ≡ Memory) × (string_bytes out.new ≡ string_bytes out.old)) }
+    {
+        let count = self.len();
+        let text = format!(in *out.allocator(); "${count}")?;
+        out.push_str(text.as_str())?;
+        Ok(())
+    }
+
+    /// The types whose OIDs are missing, in the order of their holes.
+    pub fn hole_types(&self) -> &[PgTypeInfo]
+        ensures { result.now ≡ hole_types_of (all_tokens self.now) }
+    {
+        self.buffer.hole_types()
+    }
+
     // How many holes there are.
     fn holes(&self) -> usize
         ensures { result ≡ hole_count (all_tokens self.now) }
@@ -144,5 +176,18 @@ impl PgArguments {
         }
         self.buffer.fill(types, self.counts.as_slice(), oids);
         Ok(())
+    }
+}
+
+impl Clone for PgArguments {
+    ghost is_clone = { λ arguments copy. copy ≡ arguments };
+
+    fn clone(&self) -> Result<PgArguments, AllocError> {
+        Ok(PgArguments {
+            buffer: self.buffer.clone()?,
+            types: self.types.clone()?,
+            sizes: self.sizes.clone()?,
+            counts: self.counts.clone()?,
+        })
     }
 }

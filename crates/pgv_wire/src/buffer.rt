@@ -13,7 +13,7 @@ use crate::traits::Encode;
 use pgv_buf::{Mark, Tokens};
 use pgv_types::{Oid, PgTypeInfo};
 use pgv_value::CodecError;
-use std::alloc::Global;
+use std::alloc::{AllocError, Global};
 use std::marker::Model;
 
 /// Whether an encoder was given null.
@@ -119,6 +119,13 @@ impl PgArgumentBuffer {
         Ok(())
     }
 
+    /// Forgets everything, as if the buffer were new. It keeps its memory.
+    pub fn clear(&mut self)
+        ensures { self.new ≡ [] }
+    {
+        self.tokens.clear();
+    }
+
     /// Appends one frame: a length of four bytes, and that many bytes of the value; the length -1 for null.
     /// A refused one may have appended something.
     pub fn encode<T: Encode>(&mut self, value: &T) -> Result<(), CodecError>
@@ -150,7 +157,26 @@ impl PgArgumentBuffer {
     }
 }
 
+impl Clone for PgArgumentBuffer {
+    ghost is_clone = { λ buffer copy. copy ≡ buffer };
+
+    fn clone(&self) -> Result<PgArgumentBuffer, AllocError> {
+        Ok(PgArgumentBuffer {
+            tokens: self.tokens.clone()?,
+        })
+    }
+}
+
 impl PgArgumentBuffer {
+    // Makes room for so many bytes more.
+    pub(crate) fn reserve(&mut self, additional: usize) -> Result<(), CodecError>
+        ensures same { self.new ≡ self.old }
+        ensures err { IfErr result (λ e. e ≡ Memory) }
+    {
+        self.tokens.reserve(additional)?;
+        Ok(())
+    }
+
     // A number as four bytes.
     pub(crate) fn push_u32(&mut self, value: u32) -> Result<(), CodecError>
         ensures ok { OnOk result (self.new ≡ self.old ++ blank (bytes (be4 value))) }

@@ -2,7 +2,7 @@
 
 ghost use Rattle.std.specs.Prelude.{◌≡◌, List, []};
 ghost use Rattle.pgv_types.specs.Ty.{Ty};
-ghost use Rattle.pgv_types.specs.declared.Oid.{Oid};
+ghost use Rattle.pgv_types.specs.declared.oid.Oid.{Oid};
 ghost use Rattle.pgv_buf.specs.Tokens.{shown};
 ghost use Rattle.pgv_wire.specs.Arguments.{Argument, all_tokens, filled_arguments};
 ghost use Rattle.pgv_wire.specs.History.{Call, after, told, bytes_by};

@@ -9,7 +9,8 @@ pub mod types;
 
 pub use arguments::PgArguments;
 pub use buffer::{IsNull, PgArgumentBuffer};
-pub use pgv_value::{CodecError, PgValueFormat};
-pub use traits::{Encode, PgHasArrayType, Type};
+pub use pgv_value::{CodecError, PgValue, PgValueFormat, PgValueRef};
+pub use traits::{Decode, Encode, PgHasArrayType, Type};
 pub use types::array::encode_array;
 pub use types::record::PgRecordEncoder;
+pub use types::str::encode_text;

@@ -1,14 +1,17 @@
 //! What can be written, and of which type it is.
 
-ghost use Rattle.std.specs.Prelude.{◌≡◌, ℕ, Bool, Option, IfOk, IfErr, OnErr};
+ghost use Rattle.std.specs.Prelude.{◌≡◌, ℕ, Bool, List, Option, None, IfOk, IfErr, OnErr, IsErrOf};
 ghost use Rattle.pgv_types.specs.Ty.{Ty};
+ghost use Rattle.pgv_value.specs.Reading.{Answers};
+ghost use Rattle.pgv_value.specs.declared.error.CodecError.TheVariants.{UnexpectedNull};
+ghost use Rattle.pgv_value.specs.declared.value.PgValueFormat.{PgValueFormat as Format};
 ghost use Rattle.pgv_wire.specs.Image.{Image};
 ghost use Rattle.pgv_wire.specs.Outcome.{Encoded, Refused, Appended};
 
 use crate::buffer::{IsNull, PgArgumentBuffer};
 use pgv_types::PgTypeInfo;
-use pgv_value::CodecError;
-use std::alloc::AllocError;
+use pgv_value::{CodecError, PgValueRef};
+use std::alloc::{AllocError, Global};
 
 /// A Rust type that stands for a type of PostgreSQL.
 pub trait Type {
@@ -71,4 +74,24 @@ pub trait Encode {
     /// The type of this value, where it isn't the one that its Rust type has.
     fn produces(&self) -> Result<Option<PgTypeInfo>, AllocError>
         ensures { IfOk result (λ t. t ≡ produced self.now) };
+}
+
+/// A value that can be read from null or bytes.
+///
+/// A decoder answers a value exactly where the grammar that it states gives it one, and it refuses, but for want
+/// of memory (C1), exactly where the grammar gives none.
+pub trait Decode: Sized + Drop {
+    /// What a value says, without where it lies in memory.
+    ghost Meaning: { Type 0 };
+
+    /// What a value says.
+    ghost meaning: { Self → Meaning };
+
+    /// What null or bytes mean under a type and in a format, where they mean anything.
+    ghost reading: { Ty → Format → Option (List ℕ) → Option Meaning };
+
+    /// The value that is read. Null is refused with C13, exactly where the type doesn't read null.
+    fn decode(alloc: Global, value: PgValueRef<'_>) -> Result<Self, CodecError>
+        ensures exact { Answers meaning (reading value.entry.type_info value.entry.format value.entry.bytes) result }
+        ensures null { value.entry.bytes ≡ None → reading value.entry.type_info value.entry.format None ≡ None → IsErrOf result UnexpectedNull };
 }

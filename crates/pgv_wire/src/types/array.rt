@@ -5,7 +5,6 @@ ghost use Rattle.pgv_buf.specs.Tokens.{blank};
 ghost use Rattle.pgv_value.specs.declared.error.CodecError.TheVariants.{Memory};
 ghost use Rattle.pgv_wire.specs.Image.{array_image, or_else, header, frames, element_type as element_type_of};
 ghost use Rattle.pgv_wire.specs.Outcome.{Encoded, Refused, Appended, AppendedAll};
-ghost use Rattle.pgv_wire.specs.declared.buffer.IsNull.TheVariants.{No};
 
 use crate::buffer::{IsNull, PgArgumentBuffer};
 use crate::traits::{Encode, PgHasArrayType, Type};
@@ -18,8 +17,8 @@ use std::alloc::AllocError;
 pub fn encode_array<T: Encode + Type>(
     values: &[T],
     out: &mut PgArgumentBuffer,
-) -> Result<(), CodecError>
-    ensures ok { OnOk result (Encoded No (array_image T.hint T.image T.produced T.info values.now) out.old out.new) }
+) -> Result<IsNull, CodecError>
+    ensures ok { IfOk result (λ n. Encoded n (array_image T.hint T.image T.produced T.info values.now) out.old out.new) }
     ensures err { IfErr result (λ e. Refused e (array_image T.hint T.image T.produced T.info values.now)) }
     ensures appended { OnErr result (Appended out.old out.new) }
 {
@@ -28,9 +27,10 @@ pub fn encode_array<T: Encode + Type>(
         return Err(CodecError::ArrayLength(count));
     }
     let element = element_type(values)?;
+    out.reserve(20 + 8 * count)?;
     write_header(out, element, count as u32)?;
     write_frames(values, out)?;
-    Ok(())
+    Ok(IsNull::No)
 }
 
 // The type of the elements, as an array writes it.
@@ -108,8 +108,7 @@ impl<T: Encode + Type> Encode for Vec<T> {
     ghost produced = { λ _. None };
 
     fn encode_by_ref(&self, out: &mut PgArgumentBuffer) -> Result<IsNull, CodecError> {
-        encode_array(self.as_slice(), out)?;
-        Ok(IsNull::No)
+        encode_array(self.as_slice(), out)
     }
 
     fn size_hint(&self) -> usize {
@@ -146,8 +145,7 @@ impl<T: Encode + Type, const N: usize> Encode for [T; N] {
     ghost produced = { λ _. None };
 
     fn encode_by_ref(&self, out: &mut PgArgumentBuffer) -> Result<IsNull, CodecError> {
-        encode_array(self.as_slice(), out)?;
-        Ok(IsNull::No)
+        encode_array(self.as_slice(), out)
     }
 
     fn size_hint(&self) -> usize {
