@@ -1,0 +1,4 @@
+pub mod Texts
+pub mod Feeds
+pub mod SoFar
+pub mod Lists

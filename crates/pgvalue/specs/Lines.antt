@@ -1,0 +1,138 @@
+-- The lines of the program: `add TYPE TEXT`, `null TYPE`, `holes`, `resolve OID ..`, `wire`, `read TYPE HEX`. A line
+-- is bytes; its words end at single spaces, and a text is all that stands behind its space.
+use Rattle.std.specs.Prelude.{ℕ, ◌==◌, Bool, false, codes, bytes_eq, List, [], ◌∷◌, Option, Some, None, Result, Ok, Err, option_map, if◌then◌else◌}
+use Rattle.hex.specs.Hex.{decode_of}
+use Rattle.hex.specs.declared.error.FromHexError.{FromHexError}
+use Rattle.pgvalue.specs.declared.line.ValueType.{ValueType}
+use Rattle.pgvalue.specs.declared.line.ValueType.TheVariants.{Bool as BoolType, Char, Int2, Int4, Int8, Oid as OidType, Text, Uuid, Int4Array, TextArray}
+use Rattle.pgv_types.specs.declared.oid.Oid.{Oid}
+use Rattle.pgv_text.specs.Number.{unsigned_value}
+use Rattle.pgv_value.specs.Utf8.{is_utf8}
+use Rattle.pgv_value.specs.Numbers.{in_range_unsigned}
+
+-- what stands before the first byte of a kind, and behind it where there is one
+abbrev pub before : ℕ → List ℕ → List ℕ
+before mark [] = []
+before mark (c ∷ cs) = if c == mark then [] else c ∷ before mark cs
+
+abbrev pub behind : ℕ → List ℕ → Option (List ℕ)
+behind mark [] = None
+behind mark (c ∷ cs) = if c == mark then Some cs else behind mark cs
+
+-- the first word, which ends at a space or with the line, and what stands behind the space
+abbrev pub first_word : List ℕ → List ℕ
+first_word line = before 32 line
+
+abbrev pub behind_word : List ℕ → Option (List ℕ)
+behind_word line = behind 32 line
+
+-- one more character at the front of the first word
+abbrev pub at_first : ℕ → List (List ℕ) → List (List ℕ)
+at_first c [] = (c ∷ []) ∷ []
+at_first c (word ∷ rest) = (c ∷ word) ∷ rest
+
+-- the words between single spaces
+abbrev pub words : List ℕ → List (List ℕ)
+words [] = [] ∷ []
+words (c ∷ cs) = if c == 32 then [] ∷ words cs else at_first c (words cs)
+
+-- ---- names
+
+abbrev pub type_named : List ℕ → Option ValueType
+type_named word =
+    if bytes_eq word (codes "bool") then Some BoolType else
+    if bytes_eq word (codes "char") then Some Char else
+    if bytes_eq word (codes "int2") then Some Int2 else
+    if bytes_eq word (codes "int4") then Some Int4 else
+    if bytes_eq word (codes "int8") then Some Int8 else
+    if bytes_eq word (codes "oid") then Some OidType else
+    if bytes_eq word (codes "text") then Some Text else
+    if bytes_eq word (codes "uuid") then Some Uuid else
+    if bytes_eq word (codes "int4[]") then Some Int4Array else
+    if bytes_eq word (codes "text[]") then Some TextArray else None
+
+abbrev pub starts_with_plus : List ℕ → Bool
+starts_with_plus [] = false
+starts_with_plus (c ∷ cs) = c == 43
+
+abbrev pub with_first : {A : Type 0} → Option A → Option (List A) → Option (List A)
+with_first None rest = None
+with_first (Some x) None = None
+with_first (Some x) (Some xs) = Some (x ∷ xs)
+
+-- digits up to 4294967295; 43 is `+`
+abbrev pub oid_of : ℕ → Oid
+oid_of n = record { 0 = n }
+
+abbrev pub oid_named : List ℕ → Option Oid
+oid_named word = if is_utf8 word then (if starts_with_plus word then None else option_map oid_of (in_range_unsigned (unsigned_value word))) else None
+
+abbrev pub oids_named : List (List ℕ) → Option (List Oid)
+oids_named [] = Some []
+oids_named (word ∷ rest) = with_first (oid_named word) (oids_named rest)
+
+-- ---- what is asked for
+
+pub data Request : Type 0 where
+  adds : ValueType → List ℕ → Request
+  adds_null : ValueType → Request
+  asks_holes : Request
+  resolves : List Oid → Request
+  asks_wire : Request
+  reads : ValueType → Option (List ℕ) → Request
+
+abbrev pub hex_bytes : Result (List ℕ) FromHexError → Option (List ℕ)
+hex_bytes (Ok bytes) = Some bytes
+hex_bytes (Err e) = None
+
+-- `null`, or an even number of hex digits of either case
+abbrev pub given_bytes : List ℕ → Option (Option (List ℕ))
+given_bytes text = if bytes_eq text (codes "null") then Some None else option_map (λ bytes. Some bytes) (hex_bytes (decode_of text))
+
+abbrev pub added : Option ValueType → Option (List ℕ) → Option Request
+added None text = None
+added (Some t) None = None
+added (Some t) (Some text) = Some (adds t text)
+
+abbrev pub read_as : ValueType → Option (Option (List ℕ)) → Option Request
+read_as t None = None
+read_as t (Some bytes) = Some (reads t bytes)
+
+abbrev pub read_of : Option ValueType → Option (List ℕ) → Option Request
+read_of None text = None
+read_of (Some t) None = None
+read_of (Some t) (Some text) = read_as t (given_bytes text)
+
+-- what stands behind the first word, by that word
+abbrev pub alone : Request → Option (List ℕ) → Option Request
+alone r None = Some r
+alone r (Some text) = None
+
+abbrev pub add_line : Option (List ℕ) → Option Request
+add_line None = None
+add_line (Some text) = added (type_named (first_word text)) (behind_word text)
+
+abbrev pub null_line : Option (List ℕ) → Option Request
+null_line None = None
+null_line (Some text) = option_map (λ t. adds_null t) (type_named text)
+
+abbrev pub resolve_line : Option (List ℕ) → Option Request
+resolve_line None = Some (resolves [])
+resolve_line (Some text) = option_map (λ oids. resolves oids) (oids_named (words text))
+
+abbrev pub read_line : Option (List ℕ) → Option Request
+read_line None = None
+read_line (Some text) = read_of (type_named (first_word text)) (behind_word text)
+
+abbrev pub request_by : List ℕ → Option (List ℕ) → Option Request
+request_by verb rest =
+    if bytes_eq verb (codes "add") then add_line rest else
+    if bytes_eq verb (codes "null") then null_line rest else
+    if bytes_eq verb (codes "holes") then alone asks_holes rest else
+    if bytes_eq verb (codes "resolve") then resolve_line rest else
+    if bytes_eq verb (codes "wire") then alone asks_wire rest else
+    if bytes_eq verb (codes "read") then read_line rest else None
+
+-- what a line asks for, if anything
+abbrev pub request : List ℕ → Option Request
+request line = request_by (first_word line) (behind_word line)

@@ -1,0 +1,246 @@
+//! What a line asks for.
+
+ghost use Rattle.std.specs.Prelude.{◌≡◌, Option, option_map, bytes_eq, IfOk};
+ghost use Rattle.std.specs.Option.{option_copied};
+ghost use Rattle.pgvalue.specs.Lines.{before, behind, first_word, behind_word, words, type_named, oid_named, oids_named, request, given_bytes as bytes_given, alone as alone_by, add_line as added_by, null_line as null_by, resolve_line as resolve_by, read_line as read_by};
+ghost use Rattle.pgvalue.specs.Requests.{request_seen};
+
+use hex::FromHexError;
+use pgv_text::unsigned_number_of;
+use pgv_types::Oid;
+use std::alloc::{AllocError, Global};
+
+/// A TYPE of the lines.
+#[derive(Clone, Copy, PartialEq, Eq, Debug)]
+pub enum ValueType {
+    /// `bool`.
+    Bool,
+    /// `char`, one byte.
+    Char,
+    /// `int2`.
+    Int2,
+    /// `int4`.
+    Int4,
+    /// `int8`.
+    Int8,
+    /// `oid`.
+    Oid,
+    /// `text`.
+    Text,
+    /// `uuid`.
+    Uuid,
+    /// `int4[]`, whose elements may be null.
+    Int4Array,
+    /// `text[]`, whose elements may be null.
+    TextArray,
+}
+
+/// What a line asks for.
+#[derive(Drop)]
+pub enum Request<'a> {
+    /// `add TYPE TEXT`: the text is read under the type, and the value is added.
+    Add(ValueType, &'a [u8]),
+    /// `null TYPE`: a null is added.
+    Null(ValueType),
+    /// `holes`: the names of the types whose OIDs are missing.
+    Holes,
+    /// `resolve OID ..`: the holes are filled.
+    Resolve(Vec<Oid>),
+    /// `wire`: the bytes of the buffer.
+    Wire,
+    /// `read TYPE HEX`: the bytes, or null, are read under the type and written again.
+    Read(ValueType, Option<Vec<u8>>),
+}
+
+/// What stands before the first byte of a kind, and behind it, where there is one.
+pub fn split_at_byte(line: &[u8], mark: u8) -> (&[u8], Option<&[u8]>)
+    ensures before { result.0.now ≡ before mark line.now }
+    ensures behind { option_copied result.1 ≡ behind mark line.now }
+{
+    for (place, byte) in line.iter().enumerate() {
+        if *byte == mark {
+            return (&line[..place], Some(&line[place + 1..]));
+        }
+    }
+    (line, None)
+}
+
+/// A line's first word, and what stands behind the space that ends it, where one does.
+fn split_word(line: &[u8]) -> (&[u8], Option<&[u8]>)
+    ensures word { result.0.now ≡ first_word line.now }
+    ensures behind { option_copied result.1 ≡ behind_word line.now }
+{
+    split_at_byte(line, b' ')
+}
+
+fn is(word: &[u8], name: &str) -> bool
+    ensures { result ≡ bytes_eq word.now name.now }
+{
+    word == name.as_bytes()
+}
+
+/// The type that a word names.
+fn value_type(word: &[u8]) -> Option<ValueType>
+    ensures { result ≡ type_named word.now }
+{
+    if is(word, "bool") {
+        return Some(ValueType::Bool);
+    }
+    if is(word, "char") {
+        return Some(ValueType::Char);
+    }
+    if is(word, "int2") {
+        return Some(ValueType::Int2);
+    }
+    if is(word, "int4") {
+        return Some(ValueType::Int4);
+    }
+    if is(word, "int8") {
+        return Some(ValueType::Int8);
+    }
+    if is(word, "oid") {
+        return Some(ValueType::Oid);
+    }
+    if is(word, "text") {
+        return Some(ValueType::Text);
+    }
+    if is(word, "uuid") {
+        return Some(ValueType::Uuid);
+    }
+    if is(word, "int4[]") {
+        return Some(ValueType::Int4Array);
+    }
+    if is(word, "text[]") {
+        return Some(ValueType::TextArray);
+    }
+    None
+}
+
+#[tactic(auto, using(crate::proofs::Texts::whole_text))]
+/// Digits up to 4294967295.
+fn oid(word: &[u8]) -> Option<Oid>
+    ensures { result ≡ oid_named word.now }
+{
+    let text = str::from_utf8(word).ok()?;
+    if text.as_bytes().first() == Some(&b'+') {
+        return None;
+    }
+    let number = unsigned_number_of(text).ok()?;
+    Some(Oid(u32::try_from(number).ok()?))
+}
+
+/// OIDs with one space between them.
+fn oids(alloc: Global, text: &[u8]) -> Result<Option<Vec<Oid>>, AllocError>
+    ensures { IfOk result (λ found. option_map (λ v. v.items) found ≡ oids_named (words text.now)) }
+{
+    let mut oids = Vec::new(alloc);
+    let mut left = Some(text);
+    while let Some(text) = left {
+        let (word, behind) = split_word(text);
+        let Some(oid) = oid(word) else {
+            return Ok(None);
+        };
+        oids.push(oid)?;
+        left = behind;
+    }
+    Ok(Some(oids))
+}
+
+/// `null`, or hex digits.
+fn given_bytes(alloc: Global, text: &[u8]) -> Result<Option<Option<Vec<u8>>>, AllocError>
+    ensures { IfOk result (λ found. option_map (option_map (λ v. v.items)) found ≡ bytes_given text.now) }
+{
+    if is(text, "null") {
+        return Ok(Some(None));
+    }
+    match hex::decode(alloc, text) {
+        Ok(bytes) => Ok(Some(Some(bytes))),
+        Err(FromHexError::OutOfMemory) => Err(AllocError),
+        Err(_) => Ok(None),
+    }
+}
+
+/// What a line asks for, if anything.
+pub fn parse<'a>(alloc: Global, line: &'a [u8]) -> Result<Option<Request<'a>>, AllocError>
+    ensures { IfOk result (λ found. option_map request_seen found ≡ request line.now) }
+{
+    let (verb, behind) = split_word(line);
+    if is(verb, "add") {
+        return Ok(add_line(behind));
+    }
+    if is(verb, "null") {
+        return Ok(null_line(behind));
+    }
+    if is(verb, "holes") {
+        return Ok(alone(Request::Holes, behind));
+    }
+    if is(verb, "resolve") {
+        return resolve_line(alloc, behind);
+    }
+    if is(verb, "wire") {
+        return Ok(alone(Request::Wire, behind));
+    }
+    if is(verb, "read") {
+        return read_line(alloc, behind);
+    }
+    Ok(None)
+}
+
+fn alone<'a>(request: Request<'a>, behind: Option<&[u8]>) -> Option<Request<'a>>
+    ensures { option_map request_seen result ≡ alone_by (request_seen request) (option_copied behind) }
+{
+    match behind {
+        None => Some(request),
+        Some(_) => None,
+    }
+}
+
+fn add_line<'a>(behind: Option<&'a [u8]>) -> Option<Request<'a>>
+    ensures { option_map request_seen result ≡ added_by (option_copied behind) }
+{
+    let (name, text) = split_word(behind?);
+    Some(Request::Add(value_type(name)?, text?))
+}
+
+fn null_line<'a>(behind: Option<&'a [u8]>) -> Option<Request<'a>>
+    ensures { option_map request_seen result ≡ null_by (option_copied behind) }
+{
+    Some(Request::Null(value_type(behind?)?))
+}
+
+fn resolve_line<'a>(
+    alloc: Global,
+    behind: Option<&'a [u8]>,
+) -> Result<Option<Request<'a>>, AllocError>
+    ensures { IfOk result (λ found. option_map request_seen found ≡ resolve_by (option_copied behind)) }
+{
+    let Some(behind) = behind else {
+        return Ok(Some(Request::Resolve(Vec::new(alloc))));
+    };
+    match oids(alloc, behind)? {
+        Some(oids) => Ok(Some(Request::Resolve(oids))),
+        None => Ok(None),
+    }
+}
+
+fn read_line<'a>(
+    alloc: Global,
+    behind: Option<&'a [u8]>,
+) -> Result<Option<Request<'a>>, AllocError>
+    ensures { IfOk result (λ found. option_map request_seen found ≡ read_by (option_copied behind)) }
+{
+    let Some(behind) = behind else {
+        return Ok(None);
+    };
+    let (name, text) = split_word(behind);
+    let Some(value_type) = value_type(name) else {
+        return Ok(None);
+    };
+    let Some(text) = text else {
+        return Ok(None);
+    };
+    match given_bytes(alloc, text)? {
+        Some(bytes) => Ok(Some(Request::Read(value_type, bytes))),
+        None => Ok(None),
+    }
+}
