@@ -1,4 +1,2 @@
 pub mod Texts
-pub mod Feeds
-pub mod SoFar
-pub mod Lists
+pub mod Wording

@@ -1,5 +1,2 @@
 pub mod Lines
 pub mod Requests
-pub mod Session
-pub mod Values
-pub mod Faults

@@ -1,6 +1,6 @@
 -- The lines of the program: `add TYPE TEXT`, `null TYPE`, `holes`, `resolve OID ..`, `wire`, `read TYPE HEX`. A line
 -- is bytes; its words end at single spaces, and a text is all that stands behind its space.
-use Rattle.std.specs.Prelude.{ℕ, ◌==◌, Bool, false, codes, bytes_eq, List, [], ◌∷◌, Option, Some, None, Result, Ok, Err, option_map, if◌then◌else◌}
+use Rattle.std.specs.Prelude.{ℕ, ◌==◌, nat_lt, Bool, false, codes, bytes_eq, List, [], ◌∷◌, Option, Some, None, Result, Ok, Err, option_map, if◌then◌else◌}
 use Rattle.hex.specs.Hex.{decode_of}
 use Rattle.hex.specs.declared.error.FromHexError.{FromHexError}
 use Rattle.pgvalue.specs.declared.line.ValueType.{ValueType}
@@ -8,7 +8,6 @@ use Rattle.pgvalue.specs.declared.line.ValueType.TheVariants.{Bool as BoolType, 
 use Rattle.pgv_types.specs.declared.oid.Oid.{Oid}
 use Rattle.pgv_text.specs.Number.{unsigned_value}
 use Rattle.pgv_value.specs.Utf8.{is_utf8}
-use Rattle.pgv_value.specs.Numbers.{in_range_unsigned}
 
 -- what stands before the first byte of a kind, and behind it where there is one
 abbrev pub before : ℕ → List ℕ → List ℕ
@@ -61,11 +60,12 @@ with_first (Some x) None = None
 with_first (Some x) (Some xs) = Some (x ∷ xs)
 
 -- digits up to 4294967295; 43 is `+`
-abbrev pub oid_of : ℕ → Oid
-oid_of n = record { 0 = n }
+abbrev pub oid_of : Option ℕ → Option Oid
+oid_of None = None
+oid_of (Some n) = if nat_lt n 4294967296 then Some (record { 0 = n }) else None
 
 abbrev pub oid_named : List ℕ → Option Oid
-oid_named word = if is_utf8 word then (if starts_with_plus word then None else option_map oid_of (in_range_unsigned (unsigned_value word))) else None
+oid_named word = if is_utf8 word then (if starts_with_plus word then None else oid_of (unsigned_value word)) else None
 
 abbrev pub oids_named : List (List ℕ) → Option (List Oid)
 oids_named [] = Some []

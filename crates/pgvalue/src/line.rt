@@ -2,11 +2,12 @@
 
 ghost use Rattle.std.specs.Prelude.{◌≡◌, Option, option_map, bytes_eq, IfOk};
 ghost use Rattle.std.specs.Option.{option_copied};
-ghost use Rattle.pgvalue.specs.Lines.{before, behind, first_word, behind_word, words, type_named, oid_named, oids_named, request, given_bytes as bytes_given, alone as alone_by, add_line as added_by, null_line as null_by, resolve_line as resolve_by, read_line as read_by};
+ghost use Rattle.pgv_text.specs.Number.{unsigned_value};
+ghost use Rattle.pgvalue.specs.Lines.{before, behind, first_word, behind_word, words, type_named, starts_with_plus, oid_of, oid_named, oids_named, request, given_bytes as bytes_given, alone as alone_by, add_line as added_by, null_line as null_by, resolve_line as resolve_by, read_line as read_by};
 ghost use Rattle.pgvalue.specs.Requests.{request_seen};
 
 use hex::FromHexError;
-use pgv_text::unsigned_number_of;
+use pgv_text::{NumberFault, unsigned_number_of};
 use pgv_types::Oid;
 use std::alloc::{AllocError, Global};
 
@@ -122,11 +123,33 @@ fn oid(word: &[u8]) -> Option<Oid>
     ensures { result ≡ oid_named word.now }
 {
     let text = str::from_utf8(word).ok()?;
-    if text.as_bytes().first() == Some(&b'+') {
+    if is_plus_first(text) {
         return None;
     }
-    let number = unsigned_number_of(text).ok()?;
-    Some(Oid(u32::try_from(number).ok()?))
+    number(text)
+}
+
+fn is_plus_first(text: &str) -> bool
+    ensures { result ≡ starts_with_plus text.now }
+{
+    match text.as_bytes() {
+        [first, ..] => *first == b'+',
+        [] => false,
+    }
+}
+
+/// A number up to 4294967295.
+fn number(text: &str) -> Option<Oid>
+    ensures { result ≡ oid_of (unsigned_value text.now) }
+{
+    match unsigned_number_of(text) {
+        Ok(number) => match u32::try_from(number) {
+            Ok(oid) => Some(Oid(oid)),
+            Err(_) => None,
+        },
+        Err(NumberFault::Syntax) => None,
+        Err(NumberFault::OutOfRange) => None,
+    }
 }
 
 /// OIDs with one space between them.
@@ -187,7 +210,7 @@ pub fn parse<'a>(alloc: Global, line: &'a [u8]) -> Result<Option<Request<'a>>, A
 }
 
 fn alone<'a>(request: Request<'a>, behind: Option<&[u8]>) -> Option<Request<'a>>
-    ensures { option_map request_seen result ≡ alone_by (request_seen request) (option_copied behind) }
+    ensures { option_map request_seen result ≡ alone_by (request_seen request.entry) (option_copied behind.entry) }
 {
     match behind {
         None => Some(request),
@@ -196,14 +219,14 @@ fn alone<'a>(request: Request<'a>, behind: Option<&[u8]>) -> Option<Request<'a>>
 }
 
 fn add_line<'a>(behind: Option<&'a [u8]>) -> Option<Request<'a>>
-    ensures { option_map request_seen result ≡ added_by (option_copied behind) }
+    ensures { option_map request_seen result ≡ added_by (option_copied behind.entry) }
 {
     let (name, text) = split_word(behind?);
     Some(Request::Add(value_type(name)?, text?))
 }
 
 fn null_line<'a>(behind: Option<&'a [u8]>) -> Option<Request<'a>>
-    ensures { option_map request_seen result ≡ null_by (option_copied behind) }
+    ensures { option_map request_seen result ≡ null_by (option_copied behind.entry) }
 {
     Some(Request::Null(value_type(behind?)?))
 }
@@ -212,7 +235,7 @@ fn resolve_line<'a>(
     alloc: Global,
     behind: Option<&'a [u8]>,
 ) -> Result<Option<Request<'a>>, AllocError>
-    ensures { IfOk result (λ found. option_map request_seen found ≡ resolve_by (option_copied behind)) }
+    ensures { IfOk result (λ found. option_map request_seen found ≡ resolve_by (option_copied behind.entry)) }
 {
     let Some(behind) = behind else {
         return Ok(Some(Request::Resolve(Vec::new(alloc))));
@@ -227,7 +250,7 @@ fn read_line<'a>(
     alloc: Global,
     behind: Option<&'a [u8]>,
 ) -> Result<Option<Request<'a>>, AllocError>
-    ensures { IfOk result (λ found. option_map request_seen found ≡ read_by (option_copied behind)) }
+    ensures { IfOk result (λ found. option_map request_seen found ≡ read_by (option_copied behind.entry)) }
 {
     let Some(behind) = behind else {
         return Ok(None);
