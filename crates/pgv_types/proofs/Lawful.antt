@@ -7,7 +7,7 @@ use Rattle.pgv_types.proofs.Tells.{agree-refl, agree-sym}
 use Rattle.pgv_types.specs.Ty.{Ty, builtin, custom, named, by_oid, simple, domain}
 use Rattle.pgv_types.specs.Facts.{base_oid, name_of, element_of, type_size}
 use Rattle.pgv_types.specs.Relations.{Level, level, Levels, last, over, levels, related, decide, known_or, common_base, is_by_oid, softly, exactly, by_rules, elements_or}
-use Rattle.pgv_types.proofs.Related.{related_is, rest_at}
+use Rattle.pgv_types.proofs.Related.{related_is, rest_at, by_bases}
 
 -- ---- the rules
 
@@ -98,3 +98,9 @@ by_oid-soft o t e =
 
 pub domain-size : (o : ℕ) (name : List ℕ) (t : Ty) → type_size t < type_size (custom o name (domain t))
 domain-size o name t = omega arith
+
+-- ---- two base OIDs decide
+
+pub bases_decide : (soft : Bool) (a b : Ty) (x y : ℕ) → base_oid a ≡ Some x → base_oid b ≡ Some y → related soft (levels a) (levels b) ≡ (x == y)
+bases_decide soft a b x y p q =
+    sym (by_bases soft a b (x == y) (ap (λ m. common_base m (base_oid b)) p ∙ ap (common_base (Some x)) q))

@@ -1,11 +1,11 @@
 //! Types as callers hold them.
 ghost use Rattle.std.specs.Prelude.{◌≡◌, ◌||◌, false, option_map, IfOk};
 ghost use Rattle.pgv_types.specs.Whole.{whole};
-ghost use Rattle.pgv_types.specs.Facts.{is_void, oid_of, element_of, element_built_in, name_element, kind_at, name_of, has_brackets, display_of, shows_brackets, is_a_type, built_in};
+ghost use Rattle.pgv_types.specs.Facts.{is_void, oid_of, element_of, element_built_in, name_element, kind_at, kind_when_built_in, name_of, has_brackets, display_of, shows_brackets, is_a_type, built_in};
 ghost use Rattle.pgv_types.specs.Relations.{is_by_oid};
 ghost use Rattle.pgv_types.specs.Ty.{named, array_of, by_oid, custom};
 ghost use Rattle.pgv_types.specs.Shown.{kind_of, type_of};
-ghost use Rattle.pgv_types.specs.Parts.{ref_type, kind_seen};
+ghost use Rattle.pgv_types.specs.Parts.{ref_type, kind_lent};
 
 use crate::{Oid, PgArrayOf, PgCustomType, PgTypeKind, PgTypeKindRef, PgTypeName, PgTypeRef, StaticText};
 use std::alloc::{AllocError, Global};
@@ -159,27 +159,34 @@ impl PgType {
         }
     }
 
-    /// The kind, if it is known.
+    /// The kind. `None` for a type that is only declared, of which nothing else is known.
     pub fn kind(&self) -> Option<PgTypeKindRef<'_>>
-        ensures { option_map kind_seen result ≡ kind_at (type_of self.now) }
+        ensures { option_map kind_lent result ≡ kind_at (type_of self.now) }
     {
         match self {
-            PgType::Int4Range => Some(PgTypeKindRef::Range(PgTypeRef::Owned(PgTypeInfo(PgType::Int4)))),
-            PgType::NumRange => Some(PgTypeKindRef::Range(PgTypeRef::Owned(PgTypeInfo(PgType::Numeric)))),
-            PgType::TsRange => Some(PgTypeKindRef::Range(PgTypeRef::Owned(PgTypeInfo(PgType::Timestamp)))),
-            PgType::TstzRange => Some(PgTypeKindRef::Range(PgTypeRef::Owned(PgTypeInfo(PgType::Timestamptz)))),
-            PgType::DateRange => Some(PgTypeKindRef::Range(PgTypeRef::Owned(PgTypeInfo(PgType::Date)))),
-            PgType::Int8Range => Some(PgTypeKindRef::Range(PgTypeRef::Owned(PgTypeInfo(PgType::Int8)))),
-            PgType::Void => Some(PgTypeKindRef::Pseudo),
             PgType::Custom(custom) => Some(custom.kind()),
             PgType::DeclareWithOid(_) => None,
             PgType::DeclareWithName(_) => None,
             PgType::DeclareArrayOf(_) => None,
-            _ => match self.built_in_element() {
-                Some(element) => Some(PgTypeKindRef::Array(PgTypeRef::Owned(PgTypeInfo(element)))),
-                None => Some(PgTypeKindRef::Simple),
-            },
+            _ => Some(self.built_in_kind()),
         }
+    }
+
+    /// The kind of a built-in type.
+    #[tactic(auto, using(crate::proofs::KindParts::kind_of_array, crate::proofs::KindParts::kind_of_range, crate::proofs::KindParts::kind_of_pseudo, crate::proofs::KindParts::kind_of_simple))]
+    fn built_in_kind(&self) -> PgTypeKindRef<'_>
+        ensures { kind_lent result ≡ kind_when_built_in (type_of self.now) }
+    {
+        if let Some(element) = self.built_in_element() {
+            return PgTypeKindRef::Array(PgTypeRef::Owned(PgTypeInfo(element)));
+        }
+        if let Some(element) = self.built_in_range() {
+            return PgTypeKindRef::Range(PgTypeRef::Owned(PgTypeInfo(element)));
+        }
+        if self.is_pseudo() {
+            return PgTypeKindRef::Pseudo;
+        }
+        PgTypeKindRef::Simple
     }
 
     /// The catalogue name.
@@ -330,8 +337,8 @@ impl Clone for PgType {
             PgType::JsonpathArray => PgType::JsonpathArray,
             PgType::Custom(custom) => PgType::Custom(custom.clone()?),
             PgType::DeclareWithOid(oid) => PgType::DeclareWithOid(*oid),
-            PgType::DeclareWithName(name) => PgType::DeclareWithName(name.duplicate()),
-            PgType::DeclareArrayOf(of) => PgType::DeclareArrayOf(of.duplicate()),
+            PgType::DeclareWithName(name) => PgType::DeclareWithName(name.clone()?),
+            PgType::DeclareArrayOf(of) => PgType::DeclareArrayOf(of.clone()?),
         };
         Ok(copy)
     }
@@ -399,7 +406,7 @@ impl PgTypeInfo {
 
     /// The kind, if it is known.
     pub fn kind(&self) -> Option<PgTypeKindRef<'_>>
-        ensures { option_map kind_seen result ≡ kind_at self.now }
+        ensures { option_map kind_lent result ≡ kind_at self.now }
     {
         self.0.kind()
     }
