@@ -1,4 +1,5 @@
--- When two names agree.
+-- When two names agree: as identifiers do, which are folded to lower case outside quotes and kept inside
+-- (PostgreSQL, "Lexical Structure", "Identifiers and Key Words").
 use Rattle.std.specs.Prelude.{◌≡◌, ◌⊎◌, ℕ, ◌==◌, ◌&&◌, ◌||◌, Bool, true, false, cond, List, [], ◌∷◌}
 use Rattle.std.specs.Str.{chars, bytes_eq}
 use Rattle.pgv_types.specs.declared.name.IdentifierChar.{IdentifierChar}

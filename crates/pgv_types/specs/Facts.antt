@@ -1,4 +1,5 @@
--- Facts of types, by cases: OIDs, elements, kinds, names and sizes.
+-- Facts of types, by cases: OIDs, elements, kinds, names and sizes (PostgreSQL, "System Catalogs", "pg_type";
+-- "CREATE TYPE" on the _ before the name of an array).
 use Rattle.std.specs.Prelude.{◌≡◌, ℕ, ◌+◌, ◌^◌, ◌==◌, ◌||◌, ltb, Bool, true, false, cond, Option, Some, None, List, [], ◌∷◌, ◌++◌, codes, option_map}
 use Rattle.pgv_types.specs.Suffix.{suffix_of}
 use Rattle.pgv_types.specs.Ty.{Ty, builtin, custom, named, by_oid, array_of, Kind, simple, pseudo, domain, composite, array, enumeration, range, Fields, no_fields, field}
@@ -142,6 +143,16 @@ is_void (custom o n k) = false
 is_void (named n) = false
 is_void (by_oid o) = false
 is_void (array_of n) = false
+
+abbrev pub is_custom : Ty → Bool
+is_custom (builtin o) = false
+is_custom (custom o n k) = true
+is_custom (named n) = false
+is_custom (by_oid o) = false
+is_custom (array_of n) = false
+
+abbrev pub IsNotCustom : Ty → Type 0
+IsNotCustom t = is_custom t ≡ false
 
 -- ---- names: a text and a suffix
 

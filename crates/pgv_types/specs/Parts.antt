@@ -1,4 +1,4 @@
--- What contracts see of types and kinds that are lent out.
+-- The trees that types and kinds stand for that are lent out.
 use Rattle.std.specs.Prelude.{map}
 use Rattle.std.specs.Rc.{rc_str_bytes}
 use Rattle.pgv_types.specs.Ty.{Ty, Kind, simple, pseudo, domain, composite, array, enumeration, range}

@@ -1,4 +1,4 @@
--- What contracts see of a type: a tree, with no places in memory.
+-- The tree that a running type stands for.
 use Rattle.std.specs.Prelude.{◌≡◌, ℕ, List, [], ◌∷◌, map}
 use Rattle.std.specs.Rc.{rc_str_bytes, rc_slice_items}
 use Rattle.std.specs.declared.rc.RcStr.{RcStr}

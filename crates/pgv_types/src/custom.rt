@@ -103,6 +103,10 @@ impl Clone for PgArrayOf {
 
     ghost is_clone = { λ a copy. element_name_of copy ≡ element_name_of a };
 
+    ghost use Rattle.std.specs.Prelude.{⊤};
+
+    ghost is_infallible = { λ _. ⊤ };
+
     fn clone(&self) -> Result<PgArrayOf, AllocError> {
         Ok(PgArrayOf::new(self.elem_name()))
     }

@@ -55,6 +55,10 @@ impl Clone for StaticText {
 
     ghost is_clone = { λ t copy. copy ≡ t };
 
+    ghost use Rattle.std.specs.Prelude.{⊤};
+
+    ghost is_infallible = { λ _. ⊤ };
+
     fn clone(&self) -> Result<StaticText, AllocError> {
         Ok(StaticText::new(self.as_str()))
     }
