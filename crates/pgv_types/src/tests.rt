@@ -62,8 +62,9 @@ fn declared(rt: HostRuntime) -> Result<(), Fail> {
     };
     let quoted = PgTypeInfo::with_name("\"_foo\"");
     assert!(rt; quoted.array_element().is_none());
-    let text = format!(in a; "{} {quoted}", foo.as_ref())?;
-    assert_eq!(rt; text.as_str(), "foo \"_foo\"");
+    assert_eq!(rt; foo.as_ref().name().text(), "foo");
+    let text = format!(in a; "{quoted}")?;
+    assert_eq!(rt; text.as_str(), "\"_foo\"");
     let other = PgTypeInfo::array_of("foo");
     assert!(rt; other.type_compatible(&foos) && other.type_eq(&foos));
     Ok(())
@@ -120,6 +121,13 @@ fn kinds(alloc: Global) -> Result<Vec<PgTypeKind>, AllocError> {
     Ok(kinds)
 }
 
+fn is_range_of(info: &PgTypeInfo, element: &PgTypeInfo) -> bool {
+    match info.kind() {
+        Some(PgTypeKindRef::Range(found)) => found.as_ref().type_eq(element),
+        _ => false,
+    }
+}
+
 #[test]
 fn copies(rt: HostRuntime) -> Result<(), Fail> {
     let a = rt.alloc();
@@ -132,8 +140,7 @@ fn copies(rt: HostRuntime) -> Result<(), Fail> {
             assert!(rt; own == **inner && own.oid() == Oid(16500) && own.name() == "mood");
         }
     }
-    let range = PgTypeInfo(PgType::Int4Range);
-    assert!(rt; matches!(range.kind(), Some(PgTypeKindRef::Range(t)) if t.as_ref().type_eq(&PgTypeInfo(PgType::Int4))));
+    assert!(rt; is_range_of(&PgTypeInfo(PgType::Int4Range), &PgTypeInfo(PgType::Int4)));
     if let PgType::DeclareArrayOf(of) = &PgTypeInfo::array_of("z").0 {
         assert_eq!(rt; of.clone()?.elem_name(), "z");
     }
