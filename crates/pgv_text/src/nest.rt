@@ -8,7 +8,7 @@ ghost use Rattle.pgv_text.specs.View.{values_of};
 ghost use Rattle.pgv_text.specs.Arrays.{IsArrayText};
 ghost use Rattle.pgv_text.specs.Records.{IsRecordText};
 
-use super::scanner::{scanned, TextForm};
+use super::scanner::{TextForm, scanned};
 use std::alloc::{AllocError, Global};
 
 /// The elements of an array text of one dimension, as `{a,"b c",NULL}`; `None` where the text is none.
