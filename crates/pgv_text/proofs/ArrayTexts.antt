@@ -4,8 +4,8 @@ use Rattle.std.specs.Str.{encode_utf8_all, bytes_eq}
 use Rattle.std.proofs.lemmas.Bool.{eqb-true, false≢true}
 use Rattle.std.proofs.lemmas.Slice.Eq.{bytes_eq-Decides}
 use Rattle.std.proofs.lemmas.Str.{encodes_same}
-use Rattle.pgv_text.specs.Pieces.{Piece, plain, escaped, quoted, text_of, all_plain, value_of}
-use Rattle.pgv_text.specs.Arrays.{array_form, null_pieces, IsElement, AreElements, IsArrayText}
+use Rattle.pgv_text.specs.Pieces.{Pairwise, Piece, plain, escaped, quoted, text_of, all_plain, value_of}
+use Rattle.pgv_text.specs.Arrays.{array_form, null_pieces, IsElement, IsArrayText}
 use Rattle.pgv_text.proofs.Classes.{open-class, close-class}
 use Rattle.pgv_text.proofs.Spelled.{text_read}
 use Rattle.pgv_text.proofs.Sound.{text_sound}
@@ -52,11 +52,11 @@ chosen pieces (Some text) false if_so if_not h = ap Some h.1
 pub element_value : (pieces : List Piece) (value : Option (List ℕ)) → IsElement pieces value → value ≡ value_of array_form pieces
 element_value pieces value h = chosen pieces value (all_plain pieces && bytes_eq (encode_utf8_all (text_of pieces)) (78 ∷ 85 ∷ 76 ∷ 76 ∷ [])) (is_null pieces) (null_is pieces) h
 
-values_elements : (parts : List (List Piece)) → AreElements parts (map (value_of array_form) parts)
+values_elements : (parts : List (List Piece)) → Pairwise IsElement parts (map (value_of array_form) parts)
 values_elements [] = tt
 values_elements (part ∷ parts) = (value_element part, values_elements parts)
 
-elements_values : (parts : List (List Piece)) (values : List (Option (List ℕ))) → AreElements parts values → values ≡ map (value_of array_form) parts
+elements_values : (parts : List (List Piece)) (values : List (Option (List ℕ))) → Pairwise IsElement parts values → values ≡ map (value_of array_form) parts
 elements_values [] [] h = refl
 elements_values [] (value ∷ values) h = absurd h
 elements_values (part ∷ parts) [] h = absurd h

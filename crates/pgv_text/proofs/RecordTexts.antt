@@ -1,8 +1,8 @@
 -- The texts of the record form are the record texts.
-use Rattle.std.proofs.Common.{◌≡◌, ℕ, false, List, [], ◌∷◌, Option, Some, None, map, ap, ◌∙◌, refl}
+use Rattle.std.proofs.Common.{◌≡◌, ℕ, List, [], ◌∷◌, Option, Some, None, map, ap, ◌∙◌, refl}
 use Rattle.std.proofs.lemmas.Bool.{eqb-true, false≢true}
-use Rattle.pgv_text.specs.Pieces.{Piece, value_of}
-use Rattle.pgv_text.specs.Records.{record_form, IsField, AreFields, IsRecordText}
+use Rattle.pgv_text.specs.Pieces.{Pairwise, Piece, value_of}
+use Rattle.pgv_text.specs.Records.{record_form, IsField, IsRecordText}
 use Rattle.pgv_text.proofs.Classes.{open-class, close-class}
 use Rattle.pgv_text.proofs.Spelled.{text_read}
 use Rattle.pgv_text.proofs.Sound.{text_sound}
@@ -18,11 +18,11 @@ field_value [] (Some text) h = absurd (h.0 refl)
 field_value (piece ∷ pieces) None h = cc
 field_value (piece ∷ pieces) (Some text) h = ap Some h.1
 
-values_fields : (parts : List (List Piece)) → AreFields parts (map (value_of record_form) parts)
+values_fields : (parts : List (List Piece)) → Pairwise IsField parts (map (value_of record_form) parts)
 values_fields [] = tt
 values_fields (part ∷ parts) = (value_field part, values_fields parts)
 
-fields_values : (parts : List (List Piece)) (values : List (Option (List ℕ))) → AreFields parts values → values ≡ map (value_of record_form) parts
+fields_values : (parts : List (List Piece)) (values : List (Option (List ℕ))) → Pairwise IsField parts values → values ≡ map (value_of record_form) parts
 fields_values [] [] h = refl
 fields_values [] (value ∷ values) h = absurd h
 fields_values (part ∷ parts) [] h = absurd h

@@ -1,9 +1,8 @@
 -- The text of an array of one dimension (PostgreSQL: "Array Input and Output Syntax", 8.15.6).
-use Rattle.std.specs.Prelude.{◌≡◌, ◌≢◌, ℕ, Bool, true, false, cond, ◌&&◌, ◌==◌, List, [], ◌∷◌, ◌++◌, Option, Some, None, String, string_bytes}
-use Rattle.std.specs.Option.{option_map}
+use Rattle.std.specs.Prelude.{◌≡◌, ◌≢◌, ℕ, Bool, true, false, cond, ◌&&◌, ◌==◌, List, [], ◌∷◌, ◌++◌, Option, Some, None}
 use Rattle.std.specs.List.{AllByRecursion}
 use Rattle.std.specs.Str.{encode_utf8_all, bytes_eq}
-use Rattle.pgv_text.specs.Pieces.{Piece, plain, Form, ArePieces, text_of, joined}
+use Rattle.pgv_text.specs.Pieces.{Pairwise, Piece, plain, Form, ArePieces, text_of, joined}
 
 abbrev pub array_value : Bool → Bool → List ℕ → Option (List ℕ)
 array_value present bare text = cond (bare && bytes_eq text (78 ∷ 85 ∷ 76 ∷ 76 ∷ [])) None (Some text)
@@ -21,12 +20,6 @@ abbrev pub IsElement : List Piece → Option (List ℕ) → Type 0
 IsElement pieces None = pieces ≡ null_pieces
 IsElement pieces (Some text) = (pieces ≢ null_pieces) × (text ≡ encode_utf8_all (text_of pieces))
 
-abbrev pub AreElements : List (List Piece) → List (Option (List ℕ)) → Type 0
-AreElements [] [] = Unit {0}
-AreElements [] (value ∷ values) = ⊥
-AreElements (part ∷ parts) [] = ⊥
-AreElements (part ∷ parts) (value ∷ values) = IsElement part value × AreElements parts values
-
 -- These characters are an array of these values.
 pub record IsArrayText (text : List ℕ) (values : List (Option (List ℕ))) : Type 0 where
   pub parts : List (List Piece)
@@ -34,4 +27,4 @@ pub record IsArrayText (text : List ℕ) (values : List (Option (List ℕ))) : T
   -- Nothing at all between the braces is no element.
   pub some : parts ≢ [] ∷ []
   pub whole : text ≡ 123 ∷ joined parts ++ 125 ∷ []
-  pub elements : AreElements parts values
+  pub elements : Pairwise IsElement parts values

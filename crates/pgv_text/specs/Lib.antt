@@ -7,3 +7,5 @@ pub mod Forms
 pub mod Scan
 pub mod Values
 pub mod View
+pub mod Spellings
+pub mod Laws

@@ -90,6 +90,13 @@ abbrev pub joined : List (List Piece) → List ℕ
 joined [] = []
 joined (part ∷ parts) = spelled part ++ flat_map (λ p. 44 ∷ spelled p) parts
 
+-- R holds of the elements of two lists in order, and the lists are as long.
+abbrev pub Pairwise : {X Y : Type 0} → (X → Y → Type 0) → List X → List Y → Type 0
+Pairwise R [] [] = Unit {0}
+Pairwise R [] (y ∷ ys) = ⊥
+Pairwise R (x ∷ xs) [] = ⊥
+Pairwise R (x ∷ xs) (y ∷ ys) = R x y × Pairwise R xs ys
+
 -- What the value of a part depends on.
 abbrev pub has_pieces : List Piece → Bool
 has_pieces [] = false

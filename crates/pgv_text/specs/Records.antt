@@ -2,7 +2,7 @@
 use Rattle.std.specs.Prelude.{◌≡◌, ◌≢◌, ℕ, List, [], ◌∷◌, ◌++◌, Option, Some, None, Bool, true, false, cond, ◌==◌}
 use Rattle.std.specs.List.{AllByRecursion}
 use Rattle.std.specs.Str.{encode_utf8_all}
-use Rattle.pgv_text.specs.Pieces.{Form, Piece, ArePieces, text_of, joined}
+use Rattle.pgv_text.specs.Pieces.{Pairwise, Form, Piece, ArePieces, text_of, joined}
 
 -- A field without pieces is null.
 abbrev pub present_value : Bool → Bool → List ℕ → Option (List ℕ)
@@ -17,16 +17,10 @@ abbrev pub IsField : List Piece → Option (List ℕ) → Type 0
 IsField pieces None = pieces ≡ []
 IsField pieces (Some text) = (pieces ≢ []) × (text ≡ encode_utf8_all (text_of pieces))
 
-abbrev pub AreFields : List (List Piece) → List (Option (List ℕ)) → Type 0
-AreFields [] [] = Unit {0}
-AreFields [] (value ∷ values) = ⊥
-AreFields (part ∷ parts) [] = ⊥
-AreFields (part ∷ parts) (value ∷ values) = IsField part value × AreFields parts values
-
 -- These characters are a record of these values.
 pub record IsRecordText (text : List ℕ) (values : List (Option (List ℕ))) : Type 0 where
   pub parts : List (List Piece)
   pub each : AllByRecursion (ArePieces record_form) parts
   pub any : parts ≢ []
   pub whole : text ≡ 40 ∷ joined parts ++ 41 ∷ []
-  pub fields : AreFields parts values
+  pub fields : Pairwise IsField parts values

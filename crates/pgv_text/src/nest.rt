@@ -3,8 +3,7 @@
 ghost use Rattle.std.specs.Prelude.{◌≡◌, ℕ, List, Option, IfOk, IfSome, IfNone, map};
 ghost use Rattle.std.specs.Option.{option_map};
 ghost use Rattle.std.specs.Str.{chars};
-ghost use Rattle.pgv_text.specs.Values.{array_values, part_bytes, record_values};
-ghost use Rattle.pgv_text.specs.View.{values_of};
+ghost use Rattle.pgv_text.specs.Values.{array_values, part_bytes, record_values, values_of};
 ghost use Rattle.pgv_text.specs.Arrays.{IsArrayText};
 ghost use Rattle.pgv_text.specs.Records.{IsRecordText};
 

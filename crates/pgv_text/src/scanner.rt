@@ -5,9 +5,9 @@ ghost use Rattle.std.specs.Prelude.{◌≡◌, IfOk, Some, None, Option, cond, s
 ghost use Rattle.std.specs.Option.{option_map};
 ghost use Rattle.std.specs.Str.{chars};
 ghost use Rattle.pgv_text.specs.Scan.{at_first, behind_part, class, has_nothing, pushed, run, step};
-ghost use Rattle.pgv_text.specs.View.{state, values_of};
+ghost use Rattle.pgv_text.specs.View.{state};
 ghost use Rattle.pgv_text.specs.Forms.{form_of};
-ghost use Rattle.pgv_text.specs.Values.{part_bytes};
+ghost use Rattle.pgv_text.specs.Values.{part_bytes, values_of};
 ghost use Rattle.pgv_text.specs.declared.scanner.Class as Class;
 
 use std::alloc::{AllocError, Global};

@@ -1,6 +1,6 @@
 use Rattle.std.specs.Str.{chars}
 use Rattle.pgv_text.specs.Arrays.{array_form, IsArrayText}
-use Rattle.pgv_text.specs.View.{values_of}
+use Rattle.pgv_text.specs.Values.{values_of}
 use Rattle.pgv_text.proofs.Answered.{found_in, none_in}
 use Rattle.pgv_text.proofs.ArrayTexts.{array_means}
 use Rattle.pgv_text.proofs.nest.array_elements.Goals as goal

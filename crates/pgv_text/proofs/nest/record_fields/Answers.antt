@@ -1,6 +1,6 @@
 use Rattle.std.specs.Str.{chars}
 use Rattle.pgv_text.specs.Records.{record_form, IsRecordText}
-use Rattle.pgv_text.specs.View.{values_of}
+use Rattle.pgv_text.specs.Values.{values_of}
 use Rattle.pgv_text.proofs.Answered.{found_in, none_in}
 use Rattle.pgv_text.proofs.RecordTexts.{record_means}
 use Rattle.pgv_text.proofs.nest.record_fields.Goals as goal
