@@ -4,7 +4,7 @@
 ghost use Rattle.std.specs.Prelude.{◌≡◌, IfOk, Some, None, Option, cond, string_bytes};
 ghost use Rattle.std.specs.Option.{option_map};
 ghost use Rattle.std.specs.Str.{chars};
-ghost use Rattle.pgv_text.specs.Scan.{at_first, behind_part, class, has_nothing, pushed, run, step};
+ghost use Rattle.pgv_text.specs.Scan.{at_first, behind_part, class, has_nothing, outside, pushed, run, step};
 ghost use Rattle.pgv_text.specs.View.{state};
 ghost use Rattle.pgv_text.specs.Forms.{form_of};
 ghost use Rattle.pgv_text.specs.Values.{part_bytes, values_of};
@@ -145,6 +145,29 @@ impl Scanner {
         self.form == TextForm::Array && self.place == Place::Start && self.first
     }
 
+    /// Takes a character of this class outside quotes, and says whether a text may go on so.
+    fn take_outside(&mut self, alloc: Global, class: Class, c: char) -> Result<bool, AllocError>
+        ensures ok { IfOk result (λ goes_on. outside (form_of self.old.form) (state self.old) c class ≡ cond goes_on (Some (state self.new)) None) }
+        ensures form { self.new.form ≡ self.old.form }
+    {
+        match class {
+            Class::Quote => {
+                self.place = Place::Quoted;
+                self.bare = false;
+            }
+            Class::Backslash => {
+                self.place = Place::BehindBackslash;
+                self.bare = false;
+            }
+            Class::Comma => self.end_part(alloc, Place::Start)?,
+            Class::Open => return Ok(false),
+            Class::Close if self.has_nothing() => self.place = Place::Ended,
+            Class::Close => self.end_part(alloc, Place::Ended)?,
+            Class::Other => self.push(Place::Outside, c)?,
+        }
+        Ok(true)
+    }
+
     /// Takes the next character, and says whether a text may go on so.
     fn take(&mut self, alloc: Global, c: char) -> Result<bool, AllocError>
         ensures ok { IfOk result (λ goes_on. step (form_of self.old.form) (state self.old) c ≡ cond goes_on (Some (state self.new)) None) }
@@ -161,21 +184,9 @@ impl Scanner {
             Place::BehindQuote if class == Class::Quote && self.form != TextForm::Array => {
                 self.push(Place::Quoted, c)?;
             }
-            Place::Start | Place::Outside | Place::BehindQuote => match class {
-                Class::Quote => {
-                    self.place = Place::Quoted;
-                    self.bare = false;
-                }
-                Class::Backslash => {
-                    self.place = Place::BehindBackslash;
-                    self.bare = false;
-                }
-                Class::Comma => self.end_part(alloc, Place::Start)?,
-                Class::Open => return Ok(false),
-                Class::Close if self.has_nothing() => self.place = Place::Ended,
-                Class::Close => self.end_part(alloc, Place::Ended)?,
-                Class::Other => self.push(Place::Outside, c)?,
-            },
+            Place::Start | Place::Outside | Place::BehindQuote => {
+                return self.take_outside(alloc, class, c);
+            }
             Place::Quoted => match class {
                 Class::Quote => self.place = Place::BehindQuote,
                 Class::Backslash => self.place = Place::QuotedBackslash,
