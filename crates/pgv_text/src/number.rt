@@ -1,0 +1,122 @@
+//! Texts of whole numbers, of the type "char" and of truth values.
+
+ghost use Rattle.std.specs.Prelude.{◌≡◌, ◌↔◌, IsTrue, EachIndex, slice_index, if◌then◌else◌};
+ghost use Rattle.std.specs.Int.{IsInRange};
+ghost use Rattle.std.specs.Str.Parse.{IsNumeral, without_leading_plus, without_leading_sign};
+ghost use Rattle.pgv_text.specs.Number.{IsComputed, IsRead, IsUnsignedComputed, IsUnsignedRead};
+ghost use Rattle.pgv_text.specs.Scalars.{bool_value, char_value, octal_byte};
+
+/// Why a text is no number of its type.
+#[derive(Debug, Clone, Copy, PartialEq, Eq, Drop)]
+pub enum NumberFault {
+    /// It is not written as a number.
+    Syntax,
+    /// It is a number that the type does not have.
+    OutOfRange,
+}
+
+fn without_plus(bytes: &[u8]) -> &[u8]
+    ensures { result.now ≡ without_leading_plus bytes.now }
+{
+    match bytes {
+        [b'+', rest @ ..] => rest,
+        _ => bytes,
+    }
+}
+
+fn without_sign(bytes: &[u8]) -> &[u8]
+    ensures { result.now ≡ without_leading_sign bytes.now }
+{
+    match bytes {
+        [b'+' | b'-', rest @ ..] => rest,
+        _ => bytes,
+    }
+}
+
+fn are_digits(bytes: &[u8]) -> bool
+    ensures { IsTrue result ↔ EachIndex bytes.now (λ k. IsInRange 48 57 (slice_index bytes.now k)) }
+{
+    bytes.iter().all(|byte| byte.is_ascii_digit())
+}
+
+/// Whether there is one digit or more, and nothing else.
+fn is_numeral(bytes: &[u8]) -> bool
+    ensures { IsTrue result ↔ IsNumeral 10 bytes.now }
+{
+    !bytes.is_empty() && are_digits(bytes)
+}
+
+fn fault_of(is_number: bool) -> NumberFault
+    ensures { result ≡ (if is_number then NumberFault.OutOfRange else NumberFault.Syntax) }
+{
+    if is_number {
+        NumberFault::OutOfRange
+    } else {
+        NumberFault::Syntax
+    }
+}
+
+/// The number of a text: perhaps `+` or `-`, and one or more digits, as PostgreSQL writes `int2`,
+/// `int4` and `int8`. A refusal says whether the text is no number, or one outside 64 bits.
+pub fn number_of(text: &str) -> Result<i64, NumberFault>
+    // The number that the text is, and why it is none that fits.
+    ensures reads { IsRead text.now result }
+    // The same by the computed number.
+    ensures computed { IsComputed text.now result }
+{
+    match text.parse::<i64>() {
+        Ok(number) => Ok(number),
+        Err(_) => Err(fault_of(is_numeral(without_sign(text.as_bytes())))),
+    }
+}
+
+/// The number of a text without a minus: perhaps `+`, and one or more digits, as PostgreSQL writes
+/// `oid`. A refusal says whether the text is no such number, or one outside 64 bits.
+pub fn unsigned_number_of(text: &str) -> Result<u64, NumberFault>
+    // The number that the text is, and why it is none that fits.
+    ensures reads { IsUnsignedRead text.now result }
+    // The same by the computed number.
+    ensures computed { IsUnsignedComputed text.now result }
+{
+    match text.parse::<u64>() {
+        Ok(number) => Ok(number),
+        Err(_) => Err(fault_of(is_numeral(without_plus(text.as_bytes())))),
+    }
+}
+
+/// The byte of three octal digits up to 377.
+fn octal_byte_of(digits: &[u8]) -> Option<u8>
+    ensures { result ≡ octal_byte digits.now }
+{
+    match digits {
+        [high @ b'0'..=b'3', middle @ b'0'..=b'7', low @ b'0'..=b'7'] => Some(
+            (high - b'0') * 64 + (middle - b'0') * 8 + (low - b'0'),
+        ),
+        _ => None,
+    }
+}
+
+/// The value of a text of the type "char", a byte that is read as a signed one: nothing is 0, `\`
+/// alone is itself, `\` and three octal digits up to 377 is their byte, and a text that begins
+/// otherwise its first byte. `None` for other texts that begin with `\`.
+pub fn char_of(text: &str) -> Option<i8>
+    ensures { result ≡ char_value text.now }
+{
+    match text.as_bytes() {
+        [] => Some(0),
+        [b'\\'] => Some(92),
+        [b'\\', digits @ ..] => octal_byte_of(digits).map(|byte| byte.cast_signed()),
+        [first, ..] => Some(first.cast_signed()),
+    }
+}
+
+/// The truth value of a text: `t` or `f`, as PostgreSQL writes them.
+pub fn bool_of(text: &str) -> Option<bool>
+    ensures { result ≡ bool_value text.now }
+{
+    match text {
+        "t" => Some(true),
+        "f" => Some(false),
+        _ => None,
+    }
+}
