@@ -1,6 +1,13 @@
--- Facts on types, by cases.
-use Rattle.std.specs.Prelude.{ℕ, Option, Some, None, Bool, true, ◌==◌}
-use Rattle.pgv_types.specs.Ty.{Ty, builtin, custom, named, by_oid, array_of}
+-- Facts of types, by cases.
+use Rattle.std.specs.Prelude.{ℕ, ◌+◌, ◌==◌, ◌||◌, Bool, true, false, cond, Option, Some, None, List, [], ◌∷◌, ◌++◌, codes, option_map}
+use Rattle.pgv_types.specs.Suffix.{suffix_of}
+use Rattle.pgv_types.specs.Ty.{Ty, builtin, custom, named, by_oid, array_of, Kind, simple, pseudo, domain, composite, array, enumeration, range, Fields, no_fields, field}
+use Rattle.pgv_types.specs.Table.{Entry, RowKind, a_simple, a_pseudo, range_of, entry_of}
+
+-- ---- OIDs
+
+abbrev pub built_in : ℕ → Option Ty
+built_in o = option_map (λ (e : Entry). builtin e.oid) (entry_of o)
 
 abbrev pub oid_of : Ty → Option ℕ
 oid_of (builtin o) = Some o
@@ -9,11 +16,156 @@ oid_of (named n) = None
 oid_of (by_oid o) = Some o
 oid_of (array_of n) = None
 
--- (of the prototype: two known OIDs are equal or not, and else true)
-abbrev pub same_oid : Option ℕ → Option ℕ → Bool
-same_oid (Some a) (Some b) = a == b
-same_oid (Some a) None = true
-same_oid None b = true
+-- A domain has the OID of the type directly under it.
+abbrev pub base_under : ℕ → Kind → Option ℕ
+base_under o simple = Some o
+base_under o pseudo = Some o
+base_under o (domain t) = oid_of t
+base_under o (composite fs) = Some o
+base_under o (array t) = Some o
+base_under o (enumeration ls) = Some o
+base_under o (range t) = Some o
 
-abbrev pub softly : Ty → Ty → Bool
-softly a b = same_oid (oid_of a) (oid_of b)
+abbrev pub base_oid : Ty → Option ℕ
+base_oid (builtin o) = Some o
+base_oid (custom o n k) = base_under o k
+base_oid (named n) = None
+base_oid (by_oid o) = Some o
+base_oid (array_of n) = None
+
+-- ---- elements
+
+abbrev pub entry_element : Option Entry → Option ℕ
+entry_element None = None
+entry_element (Some e) = e.element
+
+abbrev pub element_oid : ℕ → Option ℕ
+element_oid o = entry_element (entry_of o)
+
+abbrev pub element_in : Kind → Option Ty
+element_in simple = None
+element_in pseudo = None
+element_in (domain t) = None
+element_in (composite fs) = None
+element_in (array t) = Some t
+element_in (enumeration ls) = None
+element_in (range t) = None
+
+-- what stands behind the _ of a declared name
+abbrev pub name_element : List ℕ → Option (List ℕ)
+name_element [] = None
+name_element (c ∷ cs) = cond (c == 95) (Some cs) None
+
+abbrev pub element_of : Ty → Option Ty
+element_of (builtin o) = option_map builtin (element_oid o)
+element_of (custom o n k) = element_in k
+element_of (named n) = option_map named (name_element n)
+element_of (by_oid o) = None
+element_of (array_of n) = Some (named n)
+
+abbrev pub element_built_in : Ty → Option Ty
+element_built_in (builtin o) = option_map builtin (element_oid o)
+element_built_in (custom o n k) = None
+element_built_in (named n) = None
+element_built_in (by_oid o) = None
+element_built_in (array_of n) = None
+
+-- ---- kinds
+
+abbrev pub row_kind : RowKind → Kind
+row_kind a_simple = simple
+row_kind a_pseudo = pseudo
+row_kind (range_of o) = range (builtin o)
+
+abbrev pub kind_or_array : RowKind → Option ℕ → Kind
+kind_or_array k None = row_kind k
+kind_or_array k (Some o) = array (builtin o)
+
+abbrev pub kind_at : Ty → Option Kind
+kind_at (builtin o) = option_map (λ (e : Entry). kind_or_array e.kind e.element) (entry_of o)
+kind_at (custom o n k) = Some k
+kind_at (named n) = None
+kind_at (by_oid o) = None
+kind_at (array_of n) = None
+
+abbrev pub is_void : Ty → Bool
+is_void (builtin o) = o == 2278
+is_void (custom o n k) = false
+is_void (named n) = false
+is_void (by_oid o) = false
+is_void (array_of n) = false
+
+-- ---- names: a text and a suffix
+
+abbrev pub entry_name : Option Entry → List ℕ
+entry_name None = []
+entry_name (Some e) = e.name
+
+abbrev pub entry_display : Option Entry → List ℕ
+entry_display None = []
+entry_display (Some e) = e.display
+
+abbrev pub name_text_of : Ty → List ℕ
+name_text_of (builtin o) = entry_name (entry_of o)
+name_text_of (custom o n k) = n
+name_text_of (named n) = n
+name_text_of (by_oid o) = codes "?"
+name_text_of (array_of n) = n
+
+abbrev pub has_brackets : Ty → Bool
+has_brackets (builtin o) = false
+has_brackets (custom o n k) = false
+has_brackets (named n) = false
+has_brackets (by_oid o) = false
+has_brackets (array_of n) = true
+
+abbrev pub name_of : Ty → List ℕ
+name_of t = name_text_of t ++ suffix_of (has_brackets t)
+
+abbrev pub display_text_of : Ty → List ℕ
+display_text_of (builtin o) = entry_display (entry_of o)
+display_text_of (custom o n k) = n
+display_text_of (named n) = n
+display_text_of (by_oid o) = codes "?"
+display_text_of (array_of n) = n
+
+abbrev pub is_a_type : Option Ty → Bool
+is_a_type None = false
+is_a_type (Some t) = true
+
+abbrev pub shows_brackets : Ty → Bool
+shows_brackets t = has_brackets t || is_a_type (element_built_in t)
+
+abbrev pub display_of : Ty → List ℕ
+display_of t = display_text_of t ++ suffix_of (shows_brackets t)
+
+-- ---- size: one for each custom type, built-in array and array_of, and for each _ at the front of a declared name
+
+abbrev pub underscores : List ℕ → ℕ
+underscores [] = 0
+underscores (c ∷ cs) = cond (c == 95) (1 + underscores cs) 0
+
+abbrev pub one_if_known : Option ℕ → ℕ
+one_if_known None = 0
+one_if_known (Some o) = 1
+
+abbrev mutual
+  pub type_size : Ty → ℕ
+  type_size (builtin o) = one_if_known (element_oid o)
+  type_size (custom o n k) = 1 + kind_size k
+  type_size (named n) = underscores n
+  type_size (by_oid o) = 0
+  type_size (array_of n) = 1 + underscores n
+
+  pub kind_size : Kind → ℕ
+  kind_size simple = 0
+  kind_size pseudo = 0
+  kind_size (domain t) = type_size t
+  kind_size (composite fs) = fields_size fs
+  kind_size (array t) = type_size t
+  kind_size (enumeration ls) = 0
+  kind_size (range t) = type_size t
+
+  pub fields_size : Fields → ℕ
+  fields_size no_fields = 0
+  fields_size (field n t fs) = type_size t + fields_size fs

@@ -1,0 +1,11 @@
+pub mod Loans
+pub mod Made
+pub mod Letter
+pub mod Same
+pub mod Walks
+pub mod Tells
+pub mod Found
+pub mod Elements
+pub mod Related
+pub mod Rows
+pub mod Lawful

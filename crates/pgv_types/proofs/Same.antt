@@ -1,0 +1,66 @@
+-- Names with brackets behind them, or none.
+use Rattle.std.proofs.Common.{◌≡◌, ℕ, Bool, true, false, Option, Some, None, List, [], ◌∷◌, ◌++◌, length, take, ap, ◌∙◌, sym, refl, arith, codes, cond}
+use Rattle.std.proofs.lemmas.Bool.{false≢true}
+use Rattle.std.specs.Prelude.{Decides, MatchOption}
+use Rattle.std.specs.Str.{chars, bytes_eq, IsUtf8}
+use Rattle.std.proofs.lemmas.Str.{chars-append}
+use Rattle.std.proofs.lemmas.List.{append_cancel_right}
+use Rattle.std.proofs.lemmas.Slice.Eq.{bytes_eq-Decides}
+use Rattle.std.proofs.lemmas.Bool.Decides.{same_from_decides, Decides-like}
+use Rattle.pgv_types.specs.Suffix.{suffix_of}
+use Rattle.pgv_types.specs.Agree.{BeginsUnicode}
+
+pub letters_append : (text : List ℕ) (brackets : Bool) → IsUtf8 text → chars (text ++ suffix_of brackets) ≡ chars text ++ chars (suffix_of brackets)
+letters_append text brackets u = chars-append text (suffix_of brackets) u
+
+pub same_before : (text front rest : List ℕ) → text ≡ rest ++ codes "[]" → bytes_eq rest front ≡ bytes_eq text (front ++ codes "[]")
+same_before text front rest e =
+    same_from_decides (bytes_eq rest front) (bytes_eq text (front ++ codes "[]"))
+        (Decides-like (bytes_eq rest front) (λ (q : rest ≡ front). e ∙ ap (λ l. l ++ codes "[]") q) (λ (q : text ≡ front ++ codes "[]"). append_cancel_right rest front (codes "[]") (sym e ∙ q)) (bytes_eq-Decides rest front))
+        (bytes_eq-Decides text (front ++ codes "[]"))
+
+never_same : (text front : List ℕ) (t : Bool) → ((whole : List ℕ) → text ≡ whole ++ codes "[]" → ⊥) → Decides t (text ≡ front ++ codes "[]") → false ≡ t
+never_same text front true n d = absurd (n front (d.0 refl))
+never_same text front false n d = refl
+
+pub not_same : (text front : List ℕ) → ((whole : List ℕ) → text ≡ whole ++ codes "[]" → ⊥) → false ≡ bytes_eq text (front ++ codes "[]")
+not_same text front n = never_same text front (bytes_eq text (front ++ codes "[]")) n (bytes_eq-Decides text (front ++ codes "[]"))
+
+pub bytes_eq_sym : (a b : List ℕ) → bytes_eq a b ≡ bytes_eq b a
+bytes_eq_sym a b =
+    same_from_decides (bytes_eq a b) (bytes_eq b a) (bytes_eq-Decides a b) (Decides-like (bytes_eq b a) (λ (q : b ≡ a). sym q) (λ (q : a ≡ b). sym q) (bytes_eq-Decides b a))
+
+-- brackets behind a text don't change whether it begins with U&
+abbrev first_of : List ℕ → ℕ
+first_of [] = 0
+first_of (a ∷ cs) = a
+
+abbrev second_of : List ℕ → ℕ
+second_of [] = 0
+second_of (a ∷ []) = 0
+second_of (a ∷ b ∷ cs) = b
+
+none_alone : (brackets : Bool) (rest : List ℕ) → suffix_of brackets ≡ 85 ∷ 38 ∷ rest → ⊥
+none_alone true rest e = let q : 91 ≡ 85 = ap first_of e in absurd (omega (arith, q))
+none_alone false rest e = let q : 0 ≡ 85 = ap first_of e in absurd (omega (arith, q))
+
+none_behind : (c : ℕ) (brackets : Bool) (rest : List ℕ) → c ∷ suffix_of brackets ≡ 85 ∷ 38 ∷ rest → ⊥
+none_behind c true rest e = let q : 91 ≡ 38 = ap second_of e in absurd (omega (arith, q))
+none_behind c false rest e = let q : 0 ≡ 38 = ap second_of e in absurd (omega (arith, q))
+
+whole_begins : (text : List ℕ) (brackets : Bool) → BeginsUnicode (text ++ suffix_of brackets) → BeginsUnicode text
+whole_begins [] brackets h = absurd (none_alone brackets h.0 h.1)
+whole_begins (c ∷ []) brackets h = absurd (none_behind c brackets h.0 h.1)
+whole_begins (c ∷ d ∷ cs) brackets h =
+    let e : c ≡ 85 = ap first_of h.1 in
+    let f : d ≡ 38 = ap second_of h.1 in
+    (cs, ap (λ x. x ∷ d ∷ cs) e ∙ ap (λ x. 85 ∷ x ∷ cs) f)
+
+pub begins_whole : (r : Bool) (text : List ℕ) (brackets : Bool) → Decides r (BeginsUnicode text) → Decides r (BeginsUnicode (text ++ suffix_of brackets))
+begins_whole r text brackets d =
+    Decides-like r (λ (h : BeginsUnicode text). (h.0 ++ suffix_of brackets, ap (λ l. l ++ suffix_of brackets) h.1)) (λ (h : BeginsUnicode (text ++ suffix_of brackets)). whole_begins text brackets h) d
+
+pub same_behind : (a b s : List ℕ) → bytes_eq a b ≡ bytes_eq (a ++ s) (b ++ s)
+same_behind a b s =
+    same_from_decides (bytes_eq a b) (bytes_eq (a ++ s) (b ++ s)) (bytes_eq-Decides a b)
+        (Decides-like (bytes_eq (a ++ s) (b ++ s)) (λ (q : a ++ s ≡ b ++ s). append_cancel_right a b s q) (λ (q : a ≡ b). ap (λ l. l ++ s) q) (bytes_eq-Decides (a ++ s) (b ++ s)))

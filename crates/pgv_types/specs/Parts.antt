@@ -1,0 +1,22 @@
+-- What contracts see of types and kinds that are lent out.
+use Rattle.std.specs.Prelude.{map}
+use Rattle.std.specs.Rc.{rc_str_bytes}
+use Rattle.pgv_types.specs.Ty.{Ty, Kind, simple, pseudo, domain, composite, array, enumeration, range}
+use Rattle.pgv_types.specs.Shown.{fields_of}
+use Rattle.pgv_types.specs.declared.kind.PgTypeRef.{PgTypeRef}
+use Rattle.pgv_types.specs.declared.kind.PgTypeRef.TheVariants.{Owned, Borrowed}
+use Rattle.pgv_types.specs.declared.kind.PgTypeKindRef.{PgTypeKindRef}
+use Rattle.pgv_types.specs.declared.kind.PgTypeKindRef.TheVariants.{Simple, Pseudo, Domain, Composite, Array, Enum, Range}
+
+abbrev pub ref_type : PgTypeRef → Ty
+ref_type (Owned t) = t
+ref_type (Borrowed t) = t.now
+
+abbrev pub kind_seen : PgTypeKindRef → Kind
+kind_seen Simple = simple
+kind_seen Pseudo = pseudo
+kind_seen (Domain t) = domain (ref_type t)
+kind_seen (Composite fs) = composite (fields_of fs.now)
+kind_seen (Array t) = array (ref_type t)
+kind_seen (Enum labels) = enumeration (map rc_str_bytes labels.now)
+kind_seen (Range t) = range (ref_type t)

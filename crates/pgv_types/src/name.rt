@@ -1,0 +1,271 @@
+//! Names of types, and when two agree.
+
+ghost use Rattle.std.specs.Prelude.{◌≡◌, ℕ, List, ◌∷◌, ◌++◌, codes, true, option_to_list, Decides};
+ghost use Rattle.std.specs.Option.{option_map};
+ghost use Rattle.std.specs.Str.{chars, is_utf8, bytes_eq};
+ghost use Rattle.std.specs.Iterator.{YieldsFirst, YieldsFirstBy, item_count};
+ghost use Rattle.pgv_types.specs.Names.{walk, alike, all_alike};
+ghost use Rattle.pgv_types.specs.Agree.{Agree, agree, BeginsUnicode, significant, char_seen};
+ghost use Rattle.pgv_types.specs.Suffix.{suffix_of};
+ghost use Rattle.pgv_types.specs.Left.{left};
+ghost use Rattle.pgv_types.specs.Whole.{whole, name_text, name_suffix};
+
+use std::fmt::{Display, Formatter, Result, Write};
+
+use crate::characters::Letters;
+
+/// A significant character of a name.
+#[derive(Clone, Copy, PartialEq, Eq)]
+pub struct IdentifierChar {
+    pub ch: char,
+    pub case_sensitive: bool,
+}
+
+impl IdentifierChar {
+    fn is_like(self, other: IdentifierChar) -> bool
+        ensures { result ≡ alike (char_seen self) (char_seen other) }
+    {
+        if self.case_sensitive || other.case_sensitive {
+            self.ch == other.ch
+        } else {
+            self.ch.eq_ignore_ascii_case(&other.ch)
+        }
+    }
+}
+
+/// What stands behind the text of a name.
+fn suffix(brackets: bool) -> &'static str
+    ensures { result.now ≡ suffix_of brackets }
+{
+    if brackets { "[]" } else { "" }
+}
+
+/// The characters of a name: of its text, then of its brackets.
+#[derive(Drop)]
+struct NameLetters<'a> {
+    text: Letters<'a>,
+    brackets: Letters<'a>,
+}
+
+impl<'a> NameLetters<'a> {
+    ghost use Rattle.pgv_types.specs.Left.{name_letters_left};
+
+    #[tactic(auto, using(crate::proofs::Same::letters_append))]
+    fn new(text: &'a str, brackets: bool) -> Self
+        ensures { name_letters_left result ≡ chars (text.now ++ suffix_of brackets) }
+    {
+        NameLetters {
+            text: Letters::new(text),
+            brackets: Letters::new(suffix(brackets)),
+        }
+    }
+}
+
+impl Iterator for NameLetters<'_> {
+    ghost use Rattle.pgv_types.specs.Left.{name_letters_left};
+
+    type Item = char;
+
+    ghost next_gives = { YieldsFirst name_letters_left };
+
+    ghost remaining = { item_count name_letters_left };
+
+    fn next(&mut self) -> Option<char> {
+        match self.text.next() {
+            Some(ch) => Some(ch),
+            None => self.brackets.next(),
+        }
+    }
+}
+
+/// The significant characters of a name that are still to come.
+#[derive(Drop)]
+pub struct IdentifierChars<'a> {
+    letters: NameLetters<'a>,
+    case_sensitive: bool,
+    last_char_quote: bool,
+}
+
+impl<'a> IdentifierChars<'a> {
+    ghost use Rattle.pgv_types.specs.Left.{left};
+
+    fn new(text: &'a str, brackets: bool) -> Self
+        ensures { left result ≡ significant (text.now ++ suffix_of brackets) }
+    {
+        IdentifierChars {
+            letters: NameLetters::new(text, brackets),
+            case_sensitive: false,
+            last_char_quote: false,
+        }
+    }
+
+    /// What the next character of the text is, if it is significant at once.
+    fn seen(&mut self, ch: char) -> Option<IdentifierChar>
+        ensures letters { self.new.letters ≡ self.old.letters }
+        ensures goes { (cs : List ℕ) → walk self.old.case_sensitive self.old.last_char_quote (ch ∷ cs) ≡ option_to_list (option_map char_seen result) ++ walk self.new.case_sensitive self.new.last_char_quote cs }
+    {
+        if ch == '"' {
+            if !self.last_char_quote {
+                self.last_char_quote = true;
+                return None;
+            }
+            self.last_char_quote = false;
+        } else if self.last_char_quote {
+            self.last_char_quote = false;
+            self.case_sensitive = !self.case_sensitive;
+        }
+        Some(IdentifierChar {
+            ch,
+            case_sensitive: self.case_sensitive,
+        })
+    }
+}
+
+impl Iterator for IdentifierChars<'_> {
+    ghost use Rattle.pgv_types.specs.Left.{left};
+
+    type Item = IdentifierChar;
+
+    ghost next_gives = { YieldsFirstBy char_seen left };
+
+    ghost remaining = { item_count left };
+
+    fn next(&mut self) -> Option<IdentifierChar> {
+        while let Some(ch) = self.letters.next() {
+            if let Some(found) = self.seen(ch) {
+                return Some(found);
+            }
+        }
+        None
+    }
+}
+
+/// The significant characters of a name.
+pub fn identifier_chars(name: &str) -> IdentifierChars<'_>
+    ensures { left result ≡ significant name.now }
+{
+    IdentifierChars::new(name, false)
+}
+
+fn begins_unicode(name: &str) -> bool
+    ensures { Decides result (BeginsUnicode name.now) }
+{
+    matches!(name.as_bytes(), [b'U', b'&', ..])
+}
+
+/// The name of a type: a text, and `[]` behind it or nothing.
+#[derive(Clone, Copy)]
+pub struct PgTypeName<'a> {
+    text: &'a str,
+    brackets: bool,
+}
+
+impl<'a> PgTypeName<'a> {
+    /// A text, and `[]` behind it or nothing.
+    pub fn new(text: &'a str, brackets: bool) -> Self
+        ensures { whole result ≡ text.now ++ suffix_of brackets }
+    {
+        PgTypeName { text, brackets }
+    }
+
+    /// The name that is this text.
+    pub fn plain(text: &'a str) -> Self
+        ensures { whole result ≡ text.now }
+    {
+        PgTypeName::new(text, false)
+    }
+
+    /// The text before the suffix.
+    pub fn text(&self) -> &'a str
+        ensures { result.now ≡ name_text self.now }
+    {
+        self.text
+    }
+
+    /// `[]` or nothing.
+    pub fn suffix(&self) -> &'static str
+        ensures { result.now ≡ name_suffix self.now }
+    {
+        suffix(self.brackets)
+    }
+
+    fn begins_unicode(&self) -> bool
+        ensures { Decides result (BeginsUnicode (whole self.now)) }
+    {
+        begins_unicode(self.text)
+    }
+
+    #[tactic(auto, using(crate::proofs::Same::same_behind, crate::proofs::Same::bytes_eq_sym))]
+    fn is_same(&self, other: &PgTypeName<'_>) -> bool
+        ensures { result ≡ bytes_eq (whole self.now) (whole other.now) }
+    {
+        match (self.brackets, other.brackets) {
+            (true, false) => is_with_brackets(other.text, self.text),
+            (false, true) => is_with_brackets(self.text, other.text),
+            (true, true) => self.text == other.text,
+            (false, false) => self.text == other.text,
+        }
+    }
+
+    /// Whether two names agree.
+    pub fn agrees(&self, other: &PgTypeName<'_>) -> bool
+        ensures { result ≡ agree (whole self.now) (whole other.now) }
+    {
+        if self.begins_unicode() || other.begins_unicode() {
+            return self.is_same(other);
+        }
+        are_alike(
+            IdentifierChars::new(self.text, self.brackets),
+            IdentifierChars::new(other.text, other.brackets),
+        )
+    }
+}
+
+impl Display for PgTypeName<'_> {
+    ghost use Rattle.std.specs.Prelude.{Some};
+    ghost use Rattle.pgv_types.specs.Whole.{whole};
+
+    ghost output = { λ n. Some (whole n) };
+
+    fn fmt<W: Write>(&self, f: &mut Formatter<W>) -> Result {
+        f.write_str(self.text)?;
+        f.write_str(suffix(self.brackets))
+    }
+}
+
+/// Whether a text is another with `[]` behind it.
+fn is_with_brackets(text: &str, front: &str) -> bool
+    ensures { result ≡ bytes_eq text.now (front.now ++ codes "[]") }
+{
+    match text.as_bytes().strip_suffix(b"[]") {
+        Some(rest) => rest == front.as_bytes(),
+        None => false,
+    }
+}
+
+/// Whether significant characters are alike, place by place.
+fn are_alike(first: IdentifierChars<'_>, second: IdentifierChars<'_>) -> bool
+    ensures { result ≡ all_alike (left first.entry) (left second.entry) }
+{
+    let mut left = first;
+    let mut right = second;
+    loop {
+        match (left.next(), right.next()) {
+            (Some(a), Some(b)) => {
+                if !a.is_like(b) {
+                    return false;
+                }
+            }
+            (None, None) => return true,
+            _ => return false,
+        }
+    }
+}
+
+/// Whether two names agree.
+pub fn name_eq(first: &str, second: &str) -> bool
+    ensures computed { result ≡ agree first.now second.now }
+    ensures meaning { Decides result (Agree first.now second.now) }
+{
+    PgTypeName::plain(first).agrees(&PgTypeName::plain(second))
+}

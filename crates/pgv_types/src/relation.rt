@@ -1,0 +1,85 @@
+//! When two types are softly or exactly the same.
+ghost use Rattle.std.specs.Prelude.{◌≡◌, ◌&&◌, ◌||◌, option_map};
+ghost use Rattle.pgv_types.specs.Agree.{agree};
+ghost use Rattle.pgv_types.specs.Facts.{base_oid, name_of};
+ghost use Rattle.pgv_types.specs.Relations.{softly, exactly, related, levels, common_base, is_by_oid};
+ghost use Rattle.pgv_types.specs.Shown.{type_of};
+
+use crate::{Oid, PgType, PgTypeInfo, PgTypeKind};
+
+impl PgType {
+    /// The OID, or that of the type under a domain.
+    pub(crate) fn base_oid(&self) -> Option<Oid>
+        ensures { option_map (λ o. o.0) result ≡ base_oid (type_of self.now) }
+    {
+        match self {
+            PgType::Custom(custom) => match &custom.kind {
+                PgTypeKind::Domain(info) => info.oid(),
+                _ => Some(custom.oid),
+            },
+            _ => self.oid(),
+        }
+    }
+}
+
+impl PgTypeInfo {
+    /// Whether the base OIDs are equal, where both are known.
+    fn same_base(&self, other: &PgTypeInfo) -> Option<bool>
+        ensures { result ≡ common_base (base_oid self.now) (base_oid other.now) }
+    {
+        let first = self.0.base_oid()?;
+        let second = other.0.base_oid()?;
+        Some(first == second)
+    }
+
+    fn is_by_oid(&self) -> bool
+        ensures { result ≡ is_by_oid self.now }
+    {
+        self.0.is_by_oid()
+    }
+
+    /// Whether the soft relation asks no more, since one of the two is declared by its OID.
+    fn is_open(&self, other: &PgTypeInfo, soft: bool) -> bool
+        ensures { result ≡ (soft && (is_by_oid self.now || is_by_oid other.now)) }
+    {
+        soft && (self.is_by_oid() || other.is_by_oid())
+    }
+
+    fn names_agree(&self, other: &PgTypeInfo) -> bool
+        ensures { result ≡ agree (name_of self.now) (name_of other.now) }
+    {
+        self.0.name().agrees(&other.0.name())
+    }
+
+    fn is_related(&self, other: &PgTypeInfo, soft: bool) -> bool
+        ensures { result ≡ related soft (levels self.now) (levels other.now) }
+    {
+        if let Some(same) = self.same_base(other) {
+            return same;
+        }
+        if self.is_open(other, soft) {
+            return true;
+        }
+        let Some(first) = self.array_element() else {
+            return self.names_agree(other);
+        };
+        let Some(second) = other.array_element() else {
+            return self.names_agree(other);
+        };
+        first.as_ref().is_related(second.as_ref(), soft)
+    }
+
+    /// The soft relation.
+    pub fn type_compatible(&self, other: &PgTypeInfo) -> bool
+        ensures { result ≡ softly self.now other.now }
+    {
+        self.is_related(other, true)
+    }
+
+    /// The exact relation.
+    pub fn type_eq(&self, other: &PgTypeInfo) -> bool
+        ensures { result ≡ exactly self.now other.now }
+    {
+        self.is_related(other, false)
+    }
+}
