@@ -1,12 +1,12 @@
 -- What 64 bits don't have, fewer bits don't have.
-use Rattle.std.proofs.Common.{◌≡◌, ℕ, ◌≤◌, ◌<◌, ◌^◌, Bool, true, false, cond, nat_lt, ltb, ℤ, pos, negsuc, List, Option, Some, None, Result, Ok, Err, IsErr, refl, arith}
+use Rattle.std.proofs.Common.{◌≡◌, ℕ, ◌≤◌, ◌^◌, Bool, true, false, cond, nat_lt, ℤ, pos, negsuc, List, Option, Some, None, Result, Ok, Err, IsErr, refl, arith}
 use mir.Val.{hbits}
 use Rattle.std.specs.Int.{Width, w64}
 use Rattle.std.proofs.lemmas.Bool.{false≢true}
 use Rattle.std.proofs.lemmas.Bool.Decides.{nat_tests}
 use Rattle.pgv_types.specs.Ty.{Ty}
 use Rattle.pgv_value.specs.Reading.{AnswersExactly}
-use Rattle.pgv_value.specs.Numbers.{fits_signed, in_range, whole_number}
+use Rattle.pgv_value.specs.Numbers.{in_range, whole_number}
 use Rattle.pgv_value.specs.Scalars.{int_reading}
 use Rattle.pgv_value.specs.Utf8.{is_utf8}
 use Rattle.pgv_text.specs.Number.{number_value}

@@ -6,7 +6,7 @@ use Rattle.byteorder.specs.Endian.{big_number, twos_complement}
 use Rattle.pgv_text.specs.declared.number.NumberFault.{NumberFault}
 use Rattle.pgv_text.specs.declared.number.NumberFault.TheVariants.{Syntax, OutOfRange}
 use Rattle.pgv_value.specs.declared.error.CodecError.{CodecError}
-use Rattle.pgv_value.specs.declared.error.CodecError.TheVariants.{Short, WrongLength, Syntax as SyntaxRefused, OutOfRange as RangeRefused}
+use Rattle.pgv_value.specs.declared.error.CodecError.TheVariants.{WrongLength, Syntax as SyntaxRefused, OutOfRange as RangeRefused}
 
 -- whether a signed number of this width can be the number (`negsuc n` is -(n + 1))
 abbrev pub fits_signed : Width → ℤ → Bool

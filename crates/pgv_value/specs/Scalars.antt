@@ -1,6 +1,6 @@
 -- What the plain types read, in binary and in text (PostgreSQL: "Boolean Type", 8.6; "Numeric Types", 8.1.1;
 -- "Character Types", 8.3; "Object Identifier Types", 8.19; "UUID Type", 8.12).
-use Rattle.std.specs.Prelude.{◌≡◌, ℕ, Bool, not, ◌==◌, if◌then◌else◌, ℤ, List, [], ◌∷◌, length, Option, Some, None}
+use Rattle.std.specs.Prelude.{ℕ, Bool, not, ◌==◌, if◌then◌else◌, ℤ, List, [], ◌∷◌, length, Option, Some, None}
 use Rattle.std.specs.Int.{Width, w8}
 use Rattle.uuid.specs.Text.{parsed}
 use Rattle.pgv_text.specs.Number.{number_value, unsigned_value}
