@@ -1,0 +1,67 @@
+-- Filling: the i-th hole shows the i-th number.
+use Rattle.std.specs.Prelude.{◌≡◌, ℕ, ◌+◌, ◌≤◌, List, [], ◌∷◌, ◌++◌, length, take, drop, map, replicate}
+use Rattle.pgv_types.specs.Ty.{Ty}
+use Rattle.pgv_types.specs.declared.Oid.{Oid}
+use Rattle.pgv_buf.specs.Tokens.{Cell, fixed, hole_cell, slot_cell, be4, chosen, CasesFit}
+use Rattle.pgv_buf.specs.Parse.{Kept, first_type}
+
+abbrev pub first_number : List Oid → ℕ
+first_number [] = 0
+first_number (o ∷ os) = o.0
+
+abbrev pub rest_numbers : List Oid → List Oid
+rest_numbers [] = []
+rest_numbers (o ∷ os) = os
+
+abbrev pub fill_holes : List Oid → List Cell → List Cell
+fill_holes os [] = []
+fill_holes os (fixed x ∷ ts) = fixed x ∷ fill_holes os ts
+fill_holes os (hole_cell t s ∷ ts) = hole_cell t (be4 (first_number os)) ∷ fill_holes (rest_numbers os) ts
+fill_holes os (slot_cell d cs s ∷ ts) = slot_cell d cs s ∷ fill_holes os ts
+
+-- w in place of what stood at p
+abbrev pub put : ℕ → List ℕ → List ℕ → List ℕ
+put p w b = take p b ++ w ++ drop (p + length w) b
+
+abbrev pub written : List ℕ → List Oid → List ℕ → List ℕ
+written [] os b = b
+written (p ∷ ps) os b = written ps (rest_numbers os) (put p (be4 (first_number os)) b)
+
+-- four bytes stand at each place
+abbrev pub Within : ℕ → List ℕ → Type 0
+Within n [] = Unit {0}
+Within n (p ∷ ps) = (p + 4 ≤ n) × Within n ps
+
+-- ---- slots
+
+abbrev pub rest_types : List Ty → List Ty
+rest_types [] = []
+rest_types (p ∷ ps) = ps
+
+-- the i-th slot shows what it has for the i-th type
+abbrev pub fill_slots : List Ty → List Cell → List Cell
+fill_slots ps [] = []
+fill_slots ps (fixed x ∷ ts) = fixed x ∷ fill_slots ps ts
+fill_slots ps (hole_cell t s ∷ ts) = hole_cell t s ∷ fill_slots ps ts
+fill_slots ps (slot_cell d cs s ∷ ts) = slot_cell d cs (chosen (first_type ps) d cs) ∷ fill_slots (rest_types ps) ts
+
+abbrev pub first_count : List ℕ → ℕ
+first_count [] = 0
+first_count (n ∷ ns) = n
+
+abbrev pub rest_counts : List ℕ → List ℕ
+rest_counts [] = []
+rest_counts (n ∷ ns) = ns
+
+-- the type of each slot, from the types of the arguments and how many slots each has
+abbrev pub slot_types : List Ty → List ℕ → List Ty
+slot_types [] ns = []
+slot_types (p ∷ ps) ns = replicate (first_count ns) p ++ slot_types ps (rest_counts ns)
+
+abbrev pub written_slots : List Ty → List Kept → List ℕ → List ℕ
+written_slots ps [] b = b
+written_slots ps (k ∷ ks) b = written_slots (rest_types ps) ks (put k.place (chosen (first_type ps) k.standard k.cases) b)
+
+abbrev pub SlotsWithin : ℕ → List Kept → Type 0
+SlotsWithin n [] = Unit {0}
+SlotsWithin n (k ∷ ks) = (k.place + length k.standard ≤ n) × CasesFit (length k.standard) k.cases × SlotsWithin n ks

@@ -1,0 +1,146 @@
+-- Tokens, which values are written as, and cells, which a buffer is: tokens, each with the bytes that it shows.
+use Rattle.std.specs.Prelude.{cond, replicate, ◌≡◌, ℕ, ◌+◌, ◌≤◌, List, [], ◌∷◌, ◌++◌, length, take, drop, ◌⊎◌, refl, map}
+use Rattle.std.specs.Int.{to_be_bytes, w32}
+use Rattle.std.proofs.Common.{inl, inr}
+use Rattle.std.specs.Coded.{Coded, code_by, coded×, coded⊎, coded_ℕ, coded_list}
+use Rattle.pgv_types.specs.Ty.{Ty, by_oid, ty_code}
+use Rattle.pgv_types.specs.Facts.{softly}
+
+pub data Token : Type 0 where
+  byte : ℕ → Token
+  hole : Ty → Token
+  slot : List ℕ → List (Ty × List ℕ) → Token
+
+-- plain bytes, as tokens
+abbrev pub bytes : List ℕ → List Token
+bytes [] = []
+bytes (x ∷ xs) = byte x ∷ bytes xs
+
+-- the width of tokens, and how many holes are among them
+abbrev pub tokens_width : List Token → ℕ
+tokens_width [] = 0
+tokens_width (byte x ∷ ts) = 1 + tokens_width ts
+tokens_width (hole t ∷ ts) = 4 + tokens_width ts
+tokens_width (slot d cs ∷ ts) = length d + tokens_width ts
+
+abbrev pub tokens_holes : List Token → ℕ
+tokens_holes [] = 0
+tokens_holes (byte x ∷ ts) = tokens_holes ts
+tokens_holes (hole t ∷ ts) = 1 + tokens_holes ts
+tokens_holes (slot d cs ∷ ts) = tokens_holes ts
+
+-- ---- cells
+
+pub data Cell : Type 0 where
+  fixed : ℕ → Cell
+  hole_cell : Ty → List ℕ → Cell
+  slot_cell : List ℕ → List (Ty × List ℕ) → List ℕ → Cell
+
+-- tokens as they are first written: a hole is four zeros, a slot its default
+abbrev pub blank : List Token → List Cell
+blank [] = []
+blank (byte x ∷ ts) = fixed x ∷ blank ts
+blank (hole t ∷ ts) = hole_cell t (0 ∷ 0 ∷ 0 ∷ 0 ∷ []) ∷ blank ts
+blank (slot d cs ∷ ts) = slot_cell d cs d ∷ blank ts
+
+-- cells without what they show
+abbrev pub plain : List Cell → List Token
+plain [] = []
+plain (fixed x ∷ ts) = byte x ∷ plain ts
+plain (hole_cell t s ∷ ts) = hole t ∷ plain ts
+plain (slot_cell d cs s ∷ ts) = slot d cs ∷ plain ts
+
+-- ---- how the logic stores a cell
+
+abbrev pub Parts : Type 0
+Parts = ℕ ⊎ ((Ty × List ℕ) ⊎ (List ℕ × (List (Ty × List ℕ) × List ℕ)))
+
+abbrev pub to_parts : Cell → Parts
+to_parts (fixed x) = inl x
+to_parts (hole_cell t s) = inr (inl (t, s))
+to_parts (slot_cell d cs s) = inr (inr (d, (cs, s)))
+
+abbrev pub from_parts : Parts → Cell
+from_parts (inl x) = fixed x
+from_parts (inr (inl p)) = hole_cell p.0 p.1
+from_parts (inr (inr p)) = slot_cell p.0 p.1.0 p.1.1
+
+pub from_parts-to_parts : (t : Cell) → from_parts (to_parts t) ≡ t
+from_parts-to_parts (fixed x) = refl
+from_parts-to_parts (hole_cell t s) = refl
+from_parts-to_parts (slot_cell d cs s) = refl
+
+abbrev pub cell_code : Coded Cell
+cell_code =
+    code_by Parts
+    (coded⊎ coded_ℕ (coded⊎ (coded× ty_code (coded_list coded_ℕ)) (coded× (coded_list coded_ℕ) (coded× (coded_list (coded× ty_code (coded_list coded_ℕ))) (coded_list coded_ℕ)))))
+    to_parts from_parts from_parts-to_parts
+
+abbrev pub cells_code : Coded (List Cell)
+cells_code = coded_list cell_code
+
+-- ---- words
+
+-- the bytes that a cell shows, and how many they are
+abbrev pub cell_shown : Cell → List ℕ
+cell_shown (fixed x) = x ∷ []
+cell_shown (hole_cell t s) = s
+cell_shown (slot_cell d cs s) = s
+
+abbrev pub cell_width : Cell → ℕ
+cell_width (fixed x) = 1
+cell_width (hole_cell t s) = 4
+cell_width (slot_cell d cs s) = length d
+
+abbrev pub shown : List Cell → List ℕ
+shown [] = []
+shown (t ∷ ts) = cell_shown t ++ shown ts
+
+abbrev pub width : List Cell → ℕ
+width [] = 0
+width (t ∷ ts) = cell_width t + width ts
+
+-- plain bytes, as cells
+abbrev pub fixed_bytes : List ℕ → List Cell
+fixed_bytes [] = []
+fixed_bytes (x ∷ xs) = fixed x ∷ fixed_bytes xs
+
+-- a number as four bytes, the highest first
+abbrev pub be4 : ℕ → List ℕ
+be4 n = to_be_bytes w32 n
+
+-- a hole that is not filled yet
+abbrev pub new_hole : Ty → Cell
+new_hole t = hole_cell t (0 ∷ 0 ∷ 0 ∷ 0 ∷ [])
+
+abbrev pub new_slot : List ℕ → List (Ty × List ℕ) → Cell
+new_slot d cs = slot_cell d cs d
+
+-- the types of the holes, in order
+abbrev pub hole_types_of : List Cell → List Ty
+hole_types_of [] = []
+hole_types_of (fixed x ∷ ts) = hole_types_of ts
+hole_types_of (hole_cell t s ∷ ts) = t ∷ hole_types_of ts
+hole_types_of (slot_cell d cs s ∷ ts) = hole_types_of ts
+
+abbrev pub hole_count : List Cell → ℕ
+hole_count [] = 0
+hole_count (fixed x ∷ ts) = hole_count ts
+hole_count (hole_cell t s ∷ ts) = 1 + hole_count ts
+hole_count (slot_cell d cs s ∷ ts) = hole_count ts
+
+abbrev pub slot_count : List Cell → ℕ
+slot_count [] = 0
+slot_count (fixed x ∷ ts) = slot_count ts
+slot_count (hole_cell t s ∷ ts) = slot_count ts
+slot_count (slot_cell d cs s ∷ ts) = 1 + slot_count ts
+
+-- each case has as many bytes as the default
+abbrev pub CasesFit : ℕ → List (Ty × List ℕ) → Type 0
+CasesFit n [] = Unit {0}
+CasesFit n (c ∷ cs) = (length c.1 ≡ n) × CasesFit n cs
+
+-- what a slot shows for a parameter type: its first case that is softly equal, else the default
+abbrev pub chosen : Ty → List ℕ → List (Ty × List ℕ) → List ℕ
+chosen p d [] = d
+chosen p d (c ∷ cs) = cond (softly c.0 p) c.1 (chosen p d cs)

@@ -1,0 +1,35 @@
+-- Frames (PostgreSQL: "Message Formats", DataRow): a signed length of four bytes, the highest first, and that many
+-- bytes; the length -1 is null.
+use Rattle.std.specs.Prelude.{◌≡◌, ℕ, ◌<◌, ◌^◌, nat_lt, nat_eq, List, ◌∷◌, ◌++◌, length, take, drop, Option, Some, None, if◌then◌else◌}
+use Rattle.std.specs.Int.{w32, from_be_bytes, to_be_bytes, cast_signed}
+use Rattle.pgv_value.specs.declared.error.CodecError.{CodecError}
+use Rattle.pgv_value.specs.declared.error.CodecError.TheVariants.{Short, NegativeLength}
+
+-- a part that is null or bytes
+abbrev pub Part : Type 0
+Part = Option (List ℕ)
+
+-- the bytes are a frame of a part, followed by a rest
+abbrev pub IsFrame : List ℕ → Part → List ℕ → Type 0
+IsFrame bytes None rest = bytes ≡ 255 ∷ 255 ∷ 255 ∷ 255 ∷ rest
+IsFrame bytes (Some part) rest = (length part < 2 ^ 31) × (bytes ≡ to_be_bytes w32 (length part) ++ (part ++ rest))
+
+-- the length that stands in front
+abbrev pub front_length : List ℕ → ℕ
+front_length bytes = from_be_bytes w32 (take 4 bytes)
+
+-- what stands in front: a part and the rest, or nothing
+unfoldable pub front : List ℕ → Option (Part × List ℕ)
+front bytes =
+    if nat_lt (length bytes) 4 then None else
+    if nat_eq (front_length bytes) 4294967295 then Some (None, drop 4 bytes) else
+    if nat_lt 2147483647 (front_length bytes) then None else
+    if nat_lt (length (drop 4 bytes)) (front_length bytes) then None else
+    Some (Some (take (front_length bytes) (drop 4 bytes)), drop (front_length bytes) (drop 4 bytes))
+
+-- why nothing stands in front: the bytes end too early, or the length is negative
+abbrev pub frame_fault : List ℕ → CodecError
+frame_fault bytes =
+    if nat_lt (length bytes) 4 then Short else
+    if nat_lt 2147483647 (front_length bytes) then NegativeLength (cast_signed w32 (front_length bytes)) else
+    Short

@@ -1,0 +1,39 @@
+//! Frames: a length and that many bytes, or null.
+
+ghost use Rattle.std.specs.Prelude.{◌≡◌, ◌<◌, length, Some, None, IfOk, OnErr, IfErr};
+ghost use Rattle.std.specs.Option.{option_copied};
+ghost use Rattle.pgv_value.specs.Frame.{front, frame_fault};
+
+use crate::error::CodecError;
+
+/// The length that means null.
+const NULL_LENGTH: u32 = 0xffff_ffff;
+/// The largest length of a part.
+const MAX_LENGTH: u32 = 0x7fff_ffff;
+
+/// The part of the frame at the front, and what stands behind it.
+#[tactic(auto, unfolding(crate::specs::Frame::front))]
+pub(crate) fn front_of(bytes: &[u8]) -> Result<(Option<&[u8]>, &[u8]), CodecError>
+    ensures found { IfOk result (λ p. front bytes.now ≡ Some (option_copied p.0, p.1.now)) }
+    ensures shorter { IfOk result (λ p. length p.1.now < length bytes.now) }
+    ensures none { OnErr result (front bytes.now ≡ None) }
+    ensures fault { IfErr result (λ e. e ≡ frame_fault bytes.now) }
+{
+    if bytes.len() < 4 {
+        return Err(CodecError::Short);
+    }
+    let (head, rest) = bytes.split_at(4);
+    let length = u32::from_be_bytes([head[0], head[1], head[2], head[3]]);
+    if length == NULL_LENGTH {
+        return Ok((None, rest));
+    }
+    if length > MAX_LENGTH {
+        return Err(CodecError::NegativeLength(length.cast_signed()));
+    }
+    let length = length as usize;
+    if rest.len() < length {
+        return Err(CodecError::Short);
+    }
+    let (part, rest) = rest.split_at(length);
+    Ok((Some(part), rest))
+}

@@ -1,0 +1,272 @@
+//! A value as it stands in a row: null or bytes, with its type and its format.
+
+ghost use Rattle.std.specs.Prelude.{◌≡◌, ◌<◌, ◌≤◌, slice_range, length, Some, None, IfOk, OnOk, OnErr, IfErr, IsErrOf, IsTrue, is_none};
+ghost use Rattle.std.specs.Option.{option_copied};
+ghost use Rattle.pgv_value.specs.Frame.{front, frame_fault};
+ghost use Rattle.pgv_value.specs.Given.{Given};
+ghost use Rattle.pgv_value.specs.Utf8.{is_utf8, RefusesText};
+ghost use Rattle.pgv_value.specs.declared.error.CodecError.TheVariants.{UnexpectedNull, Memory};
+
+use crate::error::CodecError;
+use crate::frame::front_of;
+use bytes::Bytes;
+use pgv_types::PgTypeInfo;
+use std::alloc::{AllocError, Global};
+use std::marker::Model;
+
+/// How a value is written: as the text that a person reads, or in PostgreSQL's binary form.
+#[derive(Clone, Copy, Debug, PartialEq, Eq)]
+pub enum PgValueFormat {
+    /// The text form.
+    Text = 0,
+    /// The binary form.
+    Binary = 1,
+}
+
+/// A value that has its own bytes, or shares those of its row, and so outlives the reference that it was made
+/// from. It is made by [`PgValueRef::to_owned`] and read through [`PgValue::as_ref`].
+#[derive(Drop)]
+pub struct PgValue {
+    bytes: Option<Bytes>,
+    type_info: PgTypeInfo,
+    format: PgValueFormat,
+}
+
+impl Model for PgValue {
+    ghost use Rattle.pgv_value.specs.Given.{Given, given_code};
+
+    ghost Value = { Given };
+
+    ghost coded = { given_code };
+
+    ghost view = { λ v. record { bytes = v.bytes; type_info = v.type_info; format = v.format } };
+}
+
+impl PgValue {
+    /// The value as a reader takes it. It is refused only for memory (C1): the type is cloned.
+    pub fn as_ref(&self) -> Result<PgValueRef<'_>, CodecError>
+        ensures same { IfOk result (λ v. v ≡ self.now) }
+        ensures memory { IfErr result (λ e. e ≡ Memory) }
+    {
+        let value = match &self.bytes {
+            Some(bytes) => Some(bytes.as_slice()),
+            None => None,
+        };
+        Ok(PgValueRef::new(value, self.type_info.clone()?, self.format))
+    }
+
+    /// The type that the value was given with.
+    pub fn type_info(&self) -> &PgTypeInfo
+        ensures { result.now ≡ self.now.type_info }
+    {
+        &self.type_info
+    }
+
+    /// Whether the value is null.
+    pub fn is_null(&self) -> bool
+        ensures { result ≡ is_none self.now.bytes }
+    {
+        self.bytes.is_none()
+    }
+}
+
+impl Clone for PgValue {
+    ghost is_clone = { λ v copy. copy ≡ v };
+
+    fn clone(&self) -> Result<PgValue, AllocError> {
+        let bytes = match &self.bytes {
+            Some(bytes) => Some(bytes.clone()?),
+            None => None,
+        };
+        Ok(PgValue {
+            bytes,
+            type_info: self.type_info.clone()?,
+            format: self.format,
+        })
+    }
+}
+
+/// The row that a value is a part of.
+#[derive(Clone, Copy)]
+struct RowPart<'r> {
+    bytes: &'r Bytes,
+    start: usize,
+    end: usize,
+}
+
+/// A value as it stands in a row: null or bytes, its type and its format. The bytes are borrowed from the row, and
+/// what [`PgValueRef::as_bytes`] and [`PgValueRef::as_str`] hand out lives as long as the row does.
+#[derive(Drop)]
+pub struct PgValueRef<'r> {
+    row: Option<RowPart<'r>>,
+    value: Option<&'r [u8]>,
+    type_info: PgTypeInfo,
+    format: PgValueFormat,
+}
+
+impl<'r> Model for PgValueRef<'r> {
+    ghost use Rattle.std.specs.Option.{option_copied};
+    ghost use Rattle.pgv_value.specs.Given.{Given, given_code};
+
+    ghost Value = { Given };
+
+    ghost coded = { given_code };
+
+    ghost view = { λ v. record { bytes = option_copied v.value; type_info = v.type_info; format = v.format } };
+
+    ghost use Rattle.pgv_value.specs.Row.{IsOfRow};
+
+    ghost invariant = { λ v. IsOfRow v.row v.value };
+}
+
+impl<'r> PgValueRef<'r> {
+    /// A value of these bytes, or null.
+    pub fn new(value: Option<&'r [u8]>, type_info: PgTypeInfo, format: PgValueFormat) -> Self
+        ensures { result ≡ record { bytes = option_copied value.entry; type_info = type_info; format = format } }
+    {
+        PgValueRef {
+            row: None,
+            value,
+            type_info,
+            format,
+        }
+    }
+
+    /// The value whose bytes are those of a row from `start` to `end`. Kept by [`PgValueRef::to_owned`], it shares
+    /// the row's bytes.
+    pub fn from_row(
+        row: &'r Bytes,
+        start: usize,
+        end: usize,
+        type_info: PgTypeInfo,
+        format: PgValueFormat,
+    ) -> Self
+        requires start_le_end { start ≤ end }
+        requires in_row { end ≤ length row.now }
+        ensures { result ≡ record { bytes = Some (slice_range row.now start end); type_info = type_info; format = format } }
+    {
+        PgValueRef {
+            row: Some(RowPart {
+                bytes: row,
+                start,
+                end,
+            }),
+            value: Some(&row.as_slice()[start..end]),
+            type_info,
+            format,
+        }
+    }
+
+    /// Reads the frame at the front of a slice, hands out its part and moves the slice on behind it (PostgreSQL,
+    /// "Message Formats", DataRow: a signed length of four bytes, the highest first, and that many bytes; -1 is
+    /// null). A slice that ends too early is refused with C15 and any other negative length with C16; the slice then
+    /// stays where it was.
+    pub fn get(
+        bytes: &mut &'r [u8],
+        format: PgValueFormat,
+        type_info: PgTypeInfo,
+    ) -> Result<Self, CodecError>
+        // What is answered is the part of the frame in front, and the slice goes on behind it.
+        ensures found { IfOk result (λ v. front bytes.old.now ≡ Some (v.bytes, bytes.new.now)) }
+        ensures kind { IfOk result (λ v. v.type_info ≡ type_info) }
+        ensures format { IfOk result (λ v. v.format ≡ format) }
+        ensures shorter { OnOk result (length bytes.new.now < length bytes.old.now) }
+        // It refuses only where no frame stands in front, and then the slice stays.
+        ensures none { OnErr result (front bytes.old.now ≡ None) }
+        ensures fault { IfErr result (λ e. e ≡ frame_fault bytes.old.now) }
+        ensures unmoved { OnErr result (bytes.new.now ≡ bytes.old.now) }
+    {
+        let all: &'r [u8] = *bytes;
+        let (part, rest) = front_of(all)?;
+        *bytes = rest;
+        Ok(PgValueRef::new(part, type_info, format))
+    }
+
+    /// The format that the value is written in.
+    pub fn format(&self) -> PgValueFormat
+        ensures { result ≡ self.now.format }
+    {
+        self.format
+    }
+
+    /// The type that the value was given with.
+    pub fn type_info(&self) -> &PgTypeInfo
+        ensures { result.now ≡ self.now.type_info }
+    {
+        &self.type_info
+    }
+
+    /// The type alone, which is moved out of the value: a reader of parts keeps it without a clone.
+    pub fn into_type_info(self) -> PgTypeInfo
+        ensures { result ≡ self.entry.type_info }
+    {
+        self.type_info
+    }
+
+    /// Whether the value is null.
+    pub fn is_null(&self) -> bool
+        ensures { result ≡ is_none self.now.bytes }
+    {
+        self.value.is_none()
+    }
+
+    /// The bytes, in either format, which live as long as the row. Null is refused with C13.
+    pub fn as_bytes(&self) -> Result<&'r [u8], CodecError>
+        ensures found { IfOk result (λ b. self.now.bytes ≡ Some b.now) }
+        ensures null { IfErr result (λ e. (e ≡ UnexpectedNull) × (self.now.bytes ≡ None)) }
+    {
+        match self.value {
+            Some(bytes) => Ok(bytes),
+            None => Err(CodecError::UnexpectedNull),
+        }
+    }
+
+    /// The bytes as text, in either format, which lives as long as the row. Null is refused with C13, and bytes
+    /// that are not UTF-8 with C14.
+    #[tactic(auto, using(crate::proofs::Text::whole_text))]
+    pub fn as_str(&self) -> Result<&'r str, CodecError>
+        ensures found { IfOk result (λ s. self.now.bytes ≡ Some s.now) }
+        ensures text { IfOk result (λ s. IsTrue (is_utf8 s.now)) }
+        ensures null { self.now.bytes ≡ None → IsErrOf result UnexpectedNull }
+        ensures refused { IfErr result (RefusesText self.now.bytes) }
+    {
+        let bytes = self.as_bytes()?;
+        match str::from_utf8(bytes) {
+            Ok(text) => Ok(text),
+            Err(_) => Err(CodecError::Utf8),
+        }
+    }
+
+    /// The value without a borrow: of a row, it shares that part of the row's bytes; else its bytes are copied.
+    /// It is refused only for memory (C1).
+    pub fn to_owned(&self, alloc: Global) -> Result<PgValue, CodecError>
+        ensures same { IfOk result (λ v. v ≡ self.now) }
+        ensures memory { IfErr result (λ e. e ≡ Memory) }
+    {
+        let bytes = match self.row {
+            Some(part) => Some(part.bytes.slice(part.start..part.end)?),
+            None => match self.value {
+                Some(bytes) => Some(Bytes::copy_from_slice(alloc, bytes)?),
+                None => None,
+            },
+        };
+        Ok(PgValue {
+            bytes,
+            type_info: self.type_info.clone()?,
+            format: self.format,
+        })
+    }
+}
+
+impl<'r> Clone for PgValueRef<'r> {
+    ghost is_clone = { λ v copy. copy ≡ v };
+
+    fn clone(&self) -> Result<PgValueRef<'r>, AllocError> {
+        Ok(PgValueRef {
+            row: self.row,
+            value: self.value,
+            type_info: self.type_info.clone()?,
+            format: self.format,
+        })
+    }
+}
