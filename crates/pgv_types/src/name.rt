@@ -202,7 +202,12 @@ impl<'a> PgTypeName<'a> {
     /// Writes as many characters of the name as the precision allows, padded to the width.
     pub(crate) fn pad<W: Write>(&self, f: &mut Formatter<W>) -> Result {
         let most = f.precision().unwrap_or(usize::MAX);
-        let len = self.text.chars().count().saturating_add(self.suffix().len()).min(most);
+        let len = self
+            .text
+            .chars()
+            .count()
+            .saturating_add(self.suffix().len())
+            .min(most);
         let room = f.width().unwrap_or(0).saturating_sub(len);
         let before = match f.align() {
             Some(Alignment::Right) => room,
