@@ -173,7 +173,9 @@ pub struct PgTypeName<'a> {
 impl<'a> PgTypeName<'a> {
     /// A text, with `[]` behind it or nothing.
     pub fn new(text: &'a str, brackets: bool) -> Self
-        ensures { whole result ≡ text.now ++ suffix_of brackets }
+        ensures whole { whole result ≡ text.now ++ suffix_of brackets }
+        ensures text { name_text result ≡ text.now }
+        ensures suffix { name_suffix result ≡ suffix_of brackets }
     {
         PgTypeName { text, brackets }
     }
