@@ -3,7 +3,7 @@ use Rattle.std.proofs.Common.{◌≡◌, ℕ, ◌==◌, ◌&&◌, Bool, true, fa
 use Rattle.std.proofs.lemmas.Bool.{false≢true}
 use Rattle.std.proofs.lemmas.List.{append-nil}
 use Rattle.std.proofs.lemmas.Slice.Eq.{bytes_eq-Decides}
-use Rattle.pgv_types.specs.Ty.{Ty, builtin}
+use Rattle.pgv_types.specs.Ty.{builtin}
 use Rattle.pgv_types.specs.Table.{Entry, entries, entry_of, find}
 use Rattle.pgv_types.specs.Suffix.{suffix_of}
 use Rattle.pgv_types.specs.Facts.{element_oid, entry_element, entry_name, entry_display, name_of, display_of, is_a_type}
@@ -67,8 +67,7 @@ array_names o x q =
     let h = named_when (entry_of o) x (found_named o entries entries_named) q in
     let flat : element_oid x ≡ None = subst FlatAt q (element_flat o) in
     let d = entry_display (entry_of x) in
-    let plain : d ++ mark (element_oid x) ≡ d = ap (λ m. d ++ mark m) flat ∙ append-nil d in
-    (
+    let plain : d ++ mark (element_oid x) ≡ d = ap (λ m. d ++ mark m) flat ∙ append-nil d in (
       ap (λ l. l ++ []) h.0,
-      ap (λ l. l ++ mark (element_oid o)) h.1 ∙ ap (λ m. d ++ mark m) q ∙ ap (λ l. l ++ codes "[]") (sym plain)
+      ap (λ l. l ++ mark (element_oid o)) h.1 ∙ ap (λ m. d ++ mark m) q ∙ ap (λ l. l ++ codes "[]") (sym plain),
     )

@@ -1,5 +1,5 @@
 -- OIDs of four bytes.
-use Rattle.std.proofs.Common.{◌≡◌, ℕ, ◌^◌, ◌<◌, ltb, true, Option, Some, None, ap, ◌∙◌, sym, refl, option_map}
+use Rattle.std.proofs.Common.{◌≡◌, ℕ, ◌^◌, ◌<◌, Some, ap, ◌∙◌, sym}
 use Rattle.std.proofs.lemmas.Bool.{ltb-true}
 use Rattle.pgv_types.specs.Ty.{Ty}
 use Rattle.pgv_types.specs.Facts.{fits_oid, HasOid32, oid_of}

@@ -1,7 +1,7 @@
 -- The kind of a built-in type, from its element, its range and whether it is a pseudo-type.
 use Rattle.std.proofs.Common.{◌≡◌, ℕ, Bool, true, false, Option, Some, None, ap, ◌∙◌, sym, refl, option_map}
 use Rattle.std.proofs.lemmas.Bool.{false≢true}
-use Rattle.pgv_types.specs.Ty.{Ty, builtin, custom, named, by_oid, array_of, Kind, simple, pseudo, array, range}
+use Rattle.pgv_types.specs.Ty.{Ty, builtin, custom, named, by_oid, array_of, simple, pseudo, array, range}
 use Rattle.pgv_types.specs.Table.{RowKind, a_simple, a_pseudo, range_of, entry_of}
 use Rattle.pgv_types.specs.Facts.{element_oid, element_built_in, kind_or_array, row_kind, entry_kind, kind_when_built_in, range_oid, range_built_in, is_pseudo_row, is_pseudo}
 

@@ -7,7 +7,6 @@ mod custom;
 mod kind;
 mod lasting;
 pub mod laws;
-
 mod name;
 mod oid;
 mod relation;

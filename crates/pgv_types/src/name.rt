@@ -173,7 +173,9 @@ pub struct PgTypeName<'a> {
 impl<'a> PgTypeName<'a> {
     /// A text, with `[]` behind it or nothing.
     pub fn new(text: &'a str, brackets: bool) -> Self
-        ensures { whole result ≡ text.now ++ suffix_of brackets }
+        ensures whole { whole result ≡ text.now ++ suffix_of brackets }
+        ensures text { name_text result ≡ text.now }
+        ensures suffix { name_suffix result ≡ suffix_of brackets }
     {
         PgTypeName { text, brackets }
     }
@@ -202,7 +204,12 @@ impl<'a> PgTypeName<'a> {
     /// Writes as many characters of the name as the precision allows, padded to the width.
     pub(crate) fn pad<W: Write>(&self, f: &mut Formatter<W>) -> Result {
         let most = f.precision().unwrap_or(usize::MAX);
-        let len = self.text.chars().count().saturating_add(self.suffix().len()).min(most);
+        let len = self
+            .text
+            .chars()
+            .count()
+            .saturating_add(self.suffix().len())
+            .min(most);
         let room = f.width().unwrap_or(0).saturating_sub(len);
         let before = match f.align() {
             Some(Alignment::Right) => room,

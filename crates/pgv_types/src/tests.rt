@@ -96,9 +96,16 @@ fn printed(rt: HostRuntime) -> Result<(), Fail> {
     let array = PgTypeInfo(PgType::CharArray);
     let text = format!(in a; "{int4:>8}|{int4:<6}|{int4:*^7}|{int4:.3}|{int4:>5.3}|{int4:2}")?;
     assert_eq!(rt; text.as_str(), "    INT4|INT4  |*INT4**|INT|  INT|INT4");
-    let text = format!(in a; "{array}|{array:9}|{array:.7}|{}", PgTypeInfo(PgType::Bpchar))?;
+    let text = format!(in a;
+        "{array}|{array:9}|{array:.7}|{}",
+        PgTypeInfo(PgType::Bpchar)
+    )?;
     assert_eq!(rt; text.as_str(), "\"CHAR\"[]|\"CHAR\"[] |\"CHAR\"[|CHAR");
-    let text = format!(in a; "{} {}", PgTypeInfo::array_of("hstore"), PgTypeInfo::with_oid(Oid(1)))?;
+    let text = format!(in a;
+        "{} {}",
+        PgTypeInfo::array_of("hstore"),
+        PgTypeInfo::with_oid(Oid(1))
+    )?;
     assert_eq!(rt; text.as_str(), "hstore[] ?");
     assert!(rt; PgTypeInfo(PgType::Void).is_void() && !int4.is_void() && !int4.is_null());
     Ok(())

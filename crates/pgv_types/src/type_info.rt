@@ -7,7 +7,9 @@ ghost use Rattle.pgv_types.specs.Ty.{named, array_of, by_oid, custom};
 ghost use Rattle.pgv_types.specs.Shown.{kind_of, type_of};
 ghost use Rattle.pgv_types.specs.Parts.{ref_type, kind_lent};
 
-use crate::{Oid, PgArrayOf, PgCustomType, PgTypeKind, PgTypeKindRef, PgTypeName, PgTypeRef, StaticText};
+use crate::{
+    Oid, PgArrayOf, PgCustomType, PgTypeKind, PgTypeKindRef, PgTypeName, PgTypeRef, StaticText,
+};
 use std::alloc::{AllocError, Global};
 use std::fmt::{self, Display, Formatter};
 use std::marker::Model;
@@ -163,7 +165,9 @@ impl PgType {
                 let element = element_name(name.as_str())?;
                 Some(PgTypeRef::Owned(PgTypeInfo::with_name(element)))
             }
-            PgType::DeclareArrayOf(of) => Some(PgTypeRef::Owned(PgTypeInfo::with_name(of.elem_name()))),
+            PgType::DeclareArrayOf(of) => Some(PgTypeRef::Owned(PgTypeInfo::with_name(
+                of.elem_name(),
+            ))),
             PgType::DeclareWithOid(_) => None,
             _ => Some(PgTypeRef::Owned(PgTypeInfo(self.built_in_element()?))),
         }

@@ -9,5 +9,5 @@ returns-in_ok-clone-in-Composite c =
     record {
       cases =
           ap composite (fields_copied c.in-Composite.fields.items c.in_ok-clone-in-Composite.field-0.items c.in_ok-clone-in-Composite.ensures.cases.0)
-              ∙ ap kind_of (sym c.in-Composite.is);
+          ∙ ap kind_of (sym c.in-Composite.is);
     }
