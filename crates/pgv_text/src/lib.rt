@@ -1,4 +1,6 @@
-//! Texts of PostgreSQL's values.
+//! Readers of the texts that PostgreSQL writes for values: whole numbers, the type "char", truth values,
+//! and the lists of optional texts in arrays and records. They know no types and no wire format, and each
+//! answers a value exactly where the text is in its grammar.
 #![tactic(auto)]
 
 pub mod laws;
