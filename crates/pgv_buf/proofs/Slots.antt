@@ -6,7 +6,7 @@ use Rattle.pgv_types.specs.Facts.{softly}
 use Rattle.pgv_types.specs.declared.Oid.{Oid}
 use Rattle.pgv_buf.specs.Tokens.{Cell, fixed, hole_cell, slot_cell, chosen, CasesFit, shown, width, new_slot, slot_count, hole_types_of}
 use Rattle.pgv_buf.specs.Shown.{cases_of, kept_of}
-use Rattle.pgv_buf.specs.declared.Slot.{Slot}
+use Rattle.pgv_buf.specs.declared.fill.Slot.{Slot}
 use Rattle.pgv_buf.specs.Parse.{Kept, Represents, Proper, joined, first_type, kept_slots, hole_places, take_front}
 use Rattle.pgv_buf.specs.Fill.{fill_holes, rest_numbers, put, written_slots, SlotsWithin, fill_slots, rest_types, slot_types, first_count, rest_counts}
 use Rattle.pgv_buf.proofs.Writes.{put_at}

@@ -1,7 +1,7 @@
 -- What each call leaves, for the tokens that are kept.
 use Rattle.std.proofs.Common.{◌≡◌, ℕ, ◌+◌, List, [], ◌∷◌, ◌++◌, length, take, map, refl, sym, ◌∙◌, ap, subst, arith, append-nil, length-append, add-zero}
 use Rattle.pgv_types.specs.Ty.{Ty}
-use Rattle.pgv_buf.specs.declared.Mark.{Mark}
+use Rattle.pgv_buf.specs.declared.mark.Mark.{Mark}
 use Rattle.pgv_buf.specs.Tokens.{Cell, fixed, hole_cell, slot_cell, fixed_bytes, shown, width, new_hole, new_slot, hole_types_of, hole_count, slot_count}
 use Rattle.pgv_buf.specs.Marks.{mark_of}
 use Rattle.pgv_buf.specs.Parse.{Kept, Represents, Valid, Proper, tokens_of, tokens_of-kept, hole_places, kept_slots, joined, cut, length-shown, length-hole_places, length-kept_slots, parsed}
@@ -68,3 +68,8 @@ pub cut_at :
   Represents front (take m.bytes b) (take m.holes ps) (take m.holes hs) (take m.slots ks)
 cut_at {b} {ps} {hs} {ks} ts r m front rest e f =
     rw f (cut front rest (subst (λ us. Represents us b ps hs ks) e r))
+
+pub same_as :
+  {ts : List Cell} {b ps b' ps' : List ℕ} {hs hs' : List Ty} {ks ks' : List Kept} → Represents ts b ps hs ks →
+  b' ≡ b → ps' ≡ ps → hs' ≡ hs → ks' ≡ ks → Represents ts b' ps' hs' ks'
+same_as r e f g h = rw (e, f, g, h) r

@@ -1,6 +1,6 @@
 -- Numbers of bytes, holes and slots.
 use Rattle.std.specs.Prelude.{◌≡◌, ℕ, ◌-◌, ◌≤◌, List}
-use Rattle.pgv_buf.specs.declared.Mark.{Mark}
+use Rattle.pgv_buf.specs.declared.mark.Mark.{Mark}
 use Rattle.pgv_buf.specs.Tokens.{Cell, width, hole_count, slot_count}
 
 abbrev pub mark_of : List Cell → Mark

@@ -3,8 +3,8 @@ use Rattle.std.specs.Prelude.{ℕ, List, map}
 use Rattle.std.specs.declared.vec.Vec.{Vec}
 use Rattle.std.specs.declared.alloc.Global.{Global}
 use Rattle.pgv_types.specs.Ty.{Ty}
-use Rattle.pgv_buf.specs.declared.Tokens.TheInside.{Inside}
-use Rattle.pgv_buf.specs.declared.Slot.{Slot}
+use Rattle.pgv_buf.specs.declared.tokens.Tokens.TheInside.{Inside}
+use Rattle.pgv_buf.specs.declared.fill.Slot.{Slot}
 use Rattle.pgv_buf.specs.Tokens.{Cell}
 use Rattle.pgv_buf.specs.Parse.{Kept, tokens_of, Valid}
 

@@ -1,0 +1,10 @@
+use Rattle.std.proofs.Common.{◌≡◌, []}
+use Rattle.pgv_buf.specs.Parse.{valid, tokens_are}
+use Rattle.pgv_buf.proofs.Steps.{none_kept}
+use Rattle.pgv_buf.proofs.tokens.Tokens.clear.Goals as goal
+
+pub invariant_of-self : goal.invariant_of-self
+invariant_of-self c = rw (c.clear.ensures.items, c.clear-2.ensures.items, c.clear-3.ensures.items, c.clear-4.ensures.items) (valid none_kept)
+
+pub returns : goal.returns
+returns c = rw (c.clear.ensures.items, c.clear-2.ensures.items, c.clear-3.ensures.items, c.clear-4.ensures.items) (tokens_are none_kept)

@@ -1,0 +1,13 @@
+use Rattle.std.proofs.Common.{[], ◌∷◌, ◌++◌, ◌∙◌, sym, ap}
+use Rattle.pgv_buf.specs.Blank.{blank-bytes}
+use Rattle.pgv_buf.specs.Parse.{valid, tokens_are}
+use Rattle.pgv_buf.proofs.Steps.{held, bytes_joined}
+use Rattle.pgv_buf.proofs.tokens.Tokens.extend_from_slice.Goals as goal
+
+pub invariant_of-self-2 : goal.invariant_of-self-2
+invariant_of-self-2 c = valid (bytes_joined (held c.args.self.now c.self.invariant c.self.view_is) c.args.values.now _ c.in_ok-extend_from_slice.ensures.items)
+
+pub returns-clause-ok : goal.returns-clause-ok
+returns-clause-ok c =
+    tokens_are (bytes_joined (held c.args.self.now c.self.invariant c.self.view_is) c.args.values.now _ c.in_ok-extend_from_slice.ensures.items)
+    ∙ ap (λ r. c.args.self.now ++ r) (sym (blank-bytes c.args.values.now))

@@ -1,0 +1,34 @@
+use Rattle.std.proofs.Common.{◌≡◌, ℕ, List, ◌++◌, ◌+◌, ◌≤◌, length, ◌∙◌, ap, sym, arith, subst, refl, map}
+use Rattle.pgv_types.specs.Ty.{Ty}
+use Rattle.pgv_buf.specs.declared.mark.Mark.{Mark}
+use Rattle.pgv_buf.specs.Tokens.{Cell, fixed_bytes, be4, width}
+use Rattle.pgv_buf.specs.Marks.{mark_of}
+use Rattle.pgv_buf.specs.Fill.{put}
+use Rattle.pgv_buf.specs.Parse.{Represents, Kept, valid, tokens_are}
+use Rattle.pgv_buf.proofs.Steps.{held}
+use Rattle.pgv_buf.proofs.Writes.{replaced, room}
+use Rattle.pgv_buf.proofs.tokens.Tokens.put_u32.Goals as goal
+
+replaced_at :
+  {b ps : List ℕ} {hs : List Ty} {ks : List Kept} (ts : List Cell) → Represents ts b ps hs ks → (m : Mark) (v : ℕ) (b' : List ℕ) → b' ≡ put m.bytes (be4 v) b →
+  (front : List Cell) (xs : List ℕ) (rest : List Cell) → ts ≡ front ++ fixed_bytes xs ++ rest → length xs ≡ 4 → m ≡ mark_of front →
+  Represents (front ++ fixed_bytes (be4 v) ++ rest) b' ps hs ks
+replaced_at {b} {ps} {hs} {ks} ts r m v b' f front xs rest e n g =
+    replaced front xs (be4 v) rest (subst (λ us. Represents us b ps hs ks) e r) n b' (f ∙ ap (λ k. put k.bytes (be4 v) b) g)
+
+room_at :
+  {b ps : List ℕ} {hs : List Ty} {ks : List Kept} (ts : List Cell) → Represents ts b ps hs ks → (m : Mark) →
+  (front : List Cell) (xs : List ℕ) (rest : List Cell) → ts ≡ front ++ fixed_bytes xs ++ rest → length xs ≡ 4 → m ≡ mark_of front → m.bytes + 4 ≤ length b
+room_at {b} {ps} {hs} {ks} ts r m front xs rest e n g = rw g (room front xs rest (subst (λ us. Represents us b ps hs ks) e r) n)
+
+pub put_number-requires : goal.put_number-requires
+put_number-requires c =
+    room_at c.args.self.now (held c.args.self.now c.self.invariant c.self.view_is) c.args.mark c.requires.0 c.requires.1 c.requires.2 c.requires.3 c.requires.4 c.requires.5
+
+pub invariant_of-self : goal.invariant_of-self
+invariant_of-self c =
+    valid (replaced_at c.args.self.now (held c.args.self.now c.self.invariant c.self.view_is) c.args.mark c.args.value _ c.put_number.ensures c.requires.0 c.requires.1 c.requires.2 c.requires.3 c.requires.4 c.requires.5)
+
+pub returns : goal.returns
+returns c = λ front xs rest e n g.
+    tokens_are (replaced_at c.args.self.now (held c.args.self.now c.self.invariant c.self.view_is) c.args.mark c.args.value _ c.put_number.ensures front xs rest e n g)

@@ -1,0 +1,17 @@
+use Rattle.std.proofs.Common.{◌≡◌, List, ℕ, map}
+use Rattle.std.specs.List.{each_same}
+use Rattle.pgv_types.specs.Ty.{Ty}
+use Rattle.pgv_buf.specs.Tokens.{Cell}
+use Rattle.pgv_buf.specs.Parse.{Kept, valid, tokens_are, Represents}
+use Rattle.pgv_buf.proofs.Steps.{held, same_as}
+use Rattle.pgv_buf.proofs.Clones.{slots_same}
+use Rattle.pgv_buf.proofs.tokens.TokensClone.clone.Goals as goal
+
+pub invariant_of-result : goal.invariant_of-result
+invariant_of-result c =
+    valid (same_as (held c.args.self.now c.self.invariant c.self.view_is) (each_same _ _ c.in_ok-clone.ensures.cases.0) (each_same _ _ c.in_ok-clone-2.ensures.cases.0) (each_same _ _ c.in_ok-clone-3.ensures.cases.0) (slots_same _ _ c.in_ok-clone-4.ensures.cases.0))
+
+pub returns : goal.returns
+returns c = record {
+  cases = tokens_are (same_as (held c.args.self.now c.self.invariant c.self.view_is) (each_same _ _ c.in_ok-clone.ensures.cases.0) (each_same _ _ c.in_ok-clone-2.ensures.cases.0) (each_same _ _ c.in_ok-clone-3.ensures.cases.0) (slots_same _ _ c.in_ok-clone-4.ensures.cases.0))
+}

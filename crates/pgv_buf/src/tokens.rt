@@ -1,0 +1,224 @@
+//! A list of tokens, kept as one run of bytes.
+
+ghost use Rattle.std.specs.Prelude.{◌≡◌, ℕ, ◌++◌, List, [], ◌∷◌, length, OnOk, OnErr, sum};
+ghost use Rattle.pgv_buf.specs.Tokens.{CasesFit, slot_count, byte, hole, slot, bytes, blank, Cell, fixed_bytes, hole_count, shown, width, be4, hole_types_of};
+ghost use Rattle.pgv_buf.specs.Marks.{mark_of};
+ghost use Rattle.pgv_buf.specs.Fill.{fill_holes, fill_slots, slot_types};
+ghost use Rattle.pgv_buf.specs.Shown.{cases_of};
+
+use crate::fill::{Slot, put_number, write_oids, write_slots};
+use crate::mark::Mark;
+use pgv_types::{Oid, PgTypeInfo};
+use std::alloc::{AllocError, Global};
+use std::marker::Model;
+
+/// A list of tokens with the bytes that they show.
+///
+/// A call that is refused for want of memory leaves the list as it was. [`mark`](Tokens::mark),
+/// [`back`](Tokens::back), [`put_u32`](Tokens::put_u32) and [`fill`](Tokens::fill) take no memory.
+#[derive(Drop)]
+pub struct Tokens {
+    bytes: Vec<u8>,
+    places: Vec<usize>,
+    types: Vec<PgTypeInfo>,
+    slots: Vec<Slot>,
+    alloc: Global,
+}
+
+impl Model for Tokens {
+    ghost use Rattle.std.specs.Prelude.{List};
+    ghost use Rattle.pgv_buf.specs.Tokens.{Cell, cells_code};
+
+    ghost Value = { List Cell };
+
+    ghost coded = { cells_code };
+
+    ghost use Rattle.pgv_buf.specs.Shown.{seen, IsValid};
+
+    ghost view = { seen };
+
+    ghost invariant = { IsValid };
+}
+
+impl Tokens {
+    /// No tokens.
+    pub fn new(alloc: Global) -> Tokens
+        ensures { result ≡ [] }
+    {
+        Tokens {
+            bytes: Vec::new(alloc),
+            places: Vec::new(alloc),
+            types: Vec::new(alloc),
+            slots: Vec::new(alloc),
+            alloc,
+        }
+    }
+
+    /// How many bytes are shown.
+    pub fn len(&self) -> usize
+        ensures { result ≡ width self.now }
+    {
+        self.bytes.len()
+    }
+
+    /// The bytes that are shown.
+    pub fn as_slice(&self) -> &[u8]
+        ensures { result.now ≡ shown self.now }
+    {
+        self.bytes.as_slice()
+    }
+
+    /// The types of the holes, in order.
+    pub fn hole_types(&self) -> &[PgTypeInfo]
+        ensures { result.now ≡ hole_types_of self.now }
+    {
+        self.types.as_slice()
+    }
+
+    /// Makes room for so many bytes more. The tokens stay as they are.
+    pub fn reserve(&mut self, additional: usize) -> Result<(), AllocError>
+        ensures { self.new ≡ self.old }
+    {
+        self.bytes.reserve(additional)?;
+        Ok(())
+    }
+
+    /// Appends a byte.
+    pub fn push(&mut self, value: u8) -> Result<(), AllocError>
+        ensures ok { OnOk result (self.new ≡ self.old ++ blank (byte value ∷ [])) }
+        ensures err { OnErr result (self.new ≡ self.old) }
+    {
+        self.bytes.push(value)?;
+        Ok(())
+    }
+
+    /// Appends bytes.
+    pub fn extend_from_slice(&mut self, values: &[u8]) -> Result<(), AllocError>
+        ensures ok { OnOk result (self.new ≡ self.old ++ blank (bytes values.now)) }
+        ensures err { OnErr result (self.new ≡ self.old) }
+    {
+        self.bytes.extend_from_slice(values)?;
+        Ok(())
+    }
+
+    /// Appends a hole: four bytes for the OID of a type, zeros until it is filled.
+    pub fn push_hole(&mut self, hole_type: PgTypeInfo) -> Result<(), AllocError>
+        ensures ok { OnOk result (self.new ≡ self.old ++ blank (hole hole_type ∷ [])) }
+        ensures err { OnErr result (self.new ≡ self.old) }
+    {
+        let place = self.bytes.len();
+        self.bytes.reserve(4)?;
+        self.places.reserve(1)?;
+        self.types.push(hole_type)?;
+        self.places.push(place)?;
+        self.bytes.extend_from_slice(&[0, 0, 0, 0])?;
+        Ok(())
+    }
+
+    /// Appends a slot: it shows the first case whose type is softly equal to the parameter's type, else, and
+    /// until it is filled, the default. Each case has as many bytes as the default.
+    pub fn push_slot(
+        &mut self,
+        default: &[u8],
+        cases: Vec<(PgTypeInfo, Vec<u8>)>,
+    ) -> Result<(), AllocError>
+        requires { CasesFit (length default.now) (cases_of cases.items) }
+        ensures ok { OnOk result (self.new ≡ self.old ++ blank (slot default.now (cases_of cases.items) ∷ [])) }
+        ensures err { OnErr result (self.new ≡ self.old) }
+    {
+        let place = self.bytes.len();
+        let mut standard = Vec::new(self.alloc);
+        standard.extend_from_slice(default)?;
+        self.bytes.reserve(default.len())?;
+        self.slots.push(Slot {
+            place,
+            standard,
+            cases,
+        })?;
+        self.bytes.extend_from_slice(default)?;
+        Ok(())
+    }
+
+    /// Forgets all tokens.
+    pub fn clear(&mut self)
+        ensures { self.new ≡ [] }
+    {
+        self.bytes.clear();
+        self.places.clear();
+        self.types.clear();
+        self.slots.clear();
+    }
+}
+
+impl Clone for Tokens {
+    ghost is_clone = { λ tokens copy. copy ≡ tokens };
+
+    fn clone(&self) -> Result<Tokens, AllocError> {
+        Ok(Tokens {
+            bytes: self.bytes.clone()?,
+            places: self.places.clone()?,
+            types: self.types.clone()?,
+            slots: self.slots.clone()?,
+            alloc: self.alloc,
+        })
+    }
+}
+
+impl Tokens {
+    /// How far the list has come.
+    pub fn mark(&self) -> Mark
+        ensures { result ≡ mark_of self.now }
+    {
+        Mark {
+            bytes: self.bytes.len(),
+            holes: self.places.len(),
+            slots: self.slots.len(),
+        }
+    }
+
+    /// Goes back to the beginning of the list that has the numbers of a mark.
+    pub fn back(&mut self, mark: Mark)
+        requires { (front : List Cell) × (rest : List Cell) × (self.old ≡ front ++ rest) × (mark ≡ mark_of front) }
+        ensures { (front : List Cell) (rest : List Cell) → self.old ≡ front ++ rest → mark ≡ mark_of front → self.new ≡ front }
+    {
+        self.bytes.truncate(mark.bytes);
+        self.places.truncate(mark.holes);
+        self.types.truncate(mark.holes);
+        self.slots.truncate(mark.slots);
+    }
+
+    /// Puts a number, the highest byte first, in place of the four bytes behind a mark.
+    pub fn put_u32(&mut self, mark: Mark, value: u32)
+        requires { (front : List Cell) × (xs : List ℕ) × (rest : List Cell) × (self.old ≡ front ++ fixed_bytes xs ++ rest) × (length xs ≡ 4) × (mark ≡ mark_of front) }
+        ensures { (front : List Cell) (xs : List ℕ) (rest : List Cell) → self.old ≡ front ++ fixed_bytes xs ++ rest → length xs ≡ 4 → mark ≡ mark_of front → self.new ≡ front ++ fixed_bytes (be4 value) ++ rest }
+    {
+        put_number(&mut self.bytes, mark.bytes, value);
+    }
+
+    /// Fills each hole with its OID and each slot by the parameter type of its own argument, whatever they
+    /// showed before: `types` has the parameter type of each argument, `counts` how many slots each has.
+    pub fn fill(&mut self, types: &[PgTypeInfo], counts: &[usize], oids: &[Oid])
+        requires arguments { length types.now ≡ length counts.now }
+        requires slots { sum counts.now ≡ slot_count self.old }
+        requires holes { length oids.now ≡ hole_count self.old }
+        ensures { self.new ≡ fill_slots (slot_types types.now counts.now) (fill_holes oids.now self.old) }
+    {
+        self.fill_oids(oids);
+        self.fill_types(types, counts);
+    }
+
+    fn fill_oids(&mut self, oids: &[Oid])
+        requires { length oids.now ≡ hole_count self.old }
+        ensures { self.new ≡ fill_holes oids.now self.old }
+    {
+        write_oids(&mut self.bytes, self.places.as_slice(), oids);
+    }
+
+    fn fill_types(&mut self, types: &[PgTypeInfo], counts: &[usize])
+        requires arguments { length types.now ≡ length counts.now }
+        requires slots { sum counts.now ≡ slot_count self.old }
+        ensures { self.new ≡ fill_slots (slot_types types.now counts.now) self.old }
+    {
+        write_slots(&mut self.bytes, self.slots.as_slice(), types, counts);
+    }
+}
