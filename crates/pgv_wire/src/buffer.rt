@@ -4,6 +4,7 @@ ghost use Rattle.std.specs.Prelude.{◌≡◌, ◌++◌, ℕ, List, [], ◌∷�
 ghost use Rattle.pgv_buf.specs.Tokens.{byte, hole, slot, bytes, Cell, blank, fixed_bytes, shown, width, be4, hole_types_of, hole_count, slot_count, CasesFit};
 ghost use Rattle.pgv_buf.specs.Shown.{cases_of};
 ghost use Rattle.pgv_buf.specs.Marks.{mark_of};
+ghost use Rattle.pgv_buf.specs.Parse.{Proper};
 ghost use Rattle.pgv_buf.specs.Fill.{fill_holes, fill_slots, slot_types};
 ghost use Rattle.pgv_value.specs.declared.error.CodecError.TheVariants.{Memory};
 ghost use Rattle.pgv_wire.specs.Image.{frame, typed};
@@ -63,9 +64,11 @@ impl PgArgumentBuffer {
         self.tokens.len()
     }
 
-    /// The bytes, holes and slots as they are shown now.
+    /// The bytes, holes and slots as they are shown now: four bytes for a hole, and for a slot as many as its
+    /// default has, and each of its cases.
     pub fn as_slice(&self) -> &[u8]
-        ensures { result.now ≡ shown self.now }
+        ensures shown { result.now ≡ shown self.now }
+        ensures proper { Proper self.now }
     {
         self.tokens.as_slice()
     }
