@@ -1,1 +1,2 @@
-pub mod Text
+mod Text
+mod Narrower
