@@ -1,2 +1,3 @@
 mod Text
 mod Narrower
+mod Fronts

@@ -6,3 +6,4 @@ pub mod Utf8
 pub mod Frame
 pub mod Numbers
 pub mod Scalars
+pub mod Laws
