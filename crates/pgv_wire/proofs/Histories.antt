@@ -22,7 +22,7 @@ plain-slots ps (fixed x ∷ a) = ap (λ r. byte x ∷ r) (plain-slots ps a)
 plain-slots ps (hole_cell t s ∷ a) = ap (λ r. hole t ∷ r) (plain-slots ps a)
 plain-slots ps (slot_cell d cs s ∷ a) = ap (λ r. slot d cs ∷ r) (plain-slots (rest_types ps) a)
 
-framed-filled : (args : List Argument) (ps : List Ty) (os : List Oid) → framed (filled_arguments args ps os) ≡ framed args
+pub framed-filled : (args : List Argument) (ps : List Ty) (os : List Oid) → framed (filled_arguments args ps os) ≡ framed args
 framed-filled [] ps os = refl
 framed-filled (a ∷ args) ps os =
     ap (λ (f : List Token). (a.0, f) ∷ framed (filled_arguments args (rest_types ps) (drop (hole_count a.1) os))) (plain-slots (replicate (slot_count a.1) (first_type ps)) (fill_holes (take (hole_count a.1) os) a.1) ∙ plain-holes (take (hole_count a.1) os) a.1)
@@ -131,7 +131,7 @@ holes_in-plain (fixed x ∷ a) = holes_in-plain a
 holes_in-plain (hole_cell t s ∷ a) = ap (λ (r : List Ty). t ∷ r) (holes_in-plain a)
 holes_in-plain (slot_cell d cs s ∷ a) = holes_in-plain a
 
-width-plain : (a : List Cell) → width a ≡ tokens_width (plain a)
+pub width-plain : (a : List Cell) → width a ≡ tokens_width (plain a)
 width-plain [] = refl
 width-plain (fixed x ∷ a) = ap (λ n. 1 + n) (width-plain a)
 width-plain (hole_cell t s ∷ a) = ap (λ n. 4 + n) (width-plain a)

@@ -1,5 +1,5 @@
 -- The frames of arguments, read one behind the other.
-use Rattle.std.proofs.Common.{◌≡◌, ℕ, ◌+◌, ◌<◌, ◌≤◌, ◌^◌, nat_le, true, false, cond, arith, List, [], ◌∷◌, ◌++◌, length, take, drop, replicate, Option, Some, None, refl, sym, ◌∙◌, ap, subst, append_assoc}
+use Rattle.std.proofs.Common.{◌≡◌, ℕ, ◌+◌, ◌<◌, ◌≤◌, ◌^◌, nat_le, Bool, true, false, suc, cond, arith, List, [], ◌∷◌, ◌++◌, length, take, drop, replicate, Option, Some, None, refl, sym, ◌∙◌, ap, subst, append_assoc}
 use Rattle.std.proofs.lemmas.Bool.{leb-true}
 use Rattle.std.specs.Int.{w32, to_be_bytes}
 use Rattle.pgv_types.specs.Ty.{Ty}
@@ -86,4 +86,30 @@ pub as_many : (args : List Argument) (is : List Image) → AreFrames is (framed 
 as_many [] [] h = refl
 as_many [] (i ∷ is) h = absurd h
 as_many (a ∷ args) [] h = absurd h
-as_many (a ∷ args) (i ∷ is) h = ap (λ n. 1 + n) (as_many args is h.1)
+as_many (a ∷ args) (i ∷ is) h = ap suc (as_many args is h.1)
+
+-- ---- after a filling
+
+part_filled : (i : Image) (c : List Cell) (p : Ty) (os : List Oid) → frame_of (Some i) ≡ Some (plain c) → part_in i (filled_frame p os c) ≡ written_part i p os
+part_filled null_image c p os e = refl
+part_filled (image_of ts) c p os e =
+    let k = cut ts (plain c) _ refl e in
+    ap (λ (r : List ℕ). let q : Part = Some (drop 4 r) in q) (shown-frame (slot_count c) p os c refl ∙ ap (λ (r : List Token). write p os r) k.1)
+
+holes_are : (i : Image) (c : List Cell) → frame_of (Some i) ≡ Some (plain c) → hole_count c ≡ image_holes i
+holes_are null_image c e =
+    let tokens : plain c ≡ bytes (255 ∷ 255 ∷ 255 ∷ 255 ∷ []) = cc in
+    sym (holes-plain c) ∙ ap tokens_holes tokens
+holes_are (image_of ts) c e =
+    let k = cut ts (plain c) _ refl e in
+    sym (holes-plain c) ∙ ap tokens_holes k.1
+
+pub parts_filled : (args : List Argument) (is : List Image) (ps : List Ty) (os : List Oid) → AreFrames is (framed args) → parts_in is (filled_arguments args ps os) ≡ written_parts is ps os
+parts_filled [] [] ps os h = refl
+parts_filled [] (i ∷ is) ps os h = absurd h
+parts_filled (a ∷ args) [] ps os h = absurd h
+parts_filled (a ∷ args) (i ∷ is) ps os h =
+    let n = hole_count a.1 in
+    ap (λ (p : Part). p ∷ parts_in is (filled_arguments args (rest_types ps) (drop n os))) (part_filled i a.1 (first_type ps) (take n os) h.0)
+    ∙ (ap (λ (r : List Part). written_part i (first_type ps) (take n os) ∷ r) (parts_filled args is (rest_types ps) (drop n os) h.1)
+    ∙ ap (λ (m : ℕ). written_part i (first_type ps) (take m os) ∷ written_parts is (rest_types ps) (drop m os)) (holes_are i a.1 h.0))

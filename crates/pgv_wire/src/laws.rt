@@ -8,7 +8,7 @@ ghost use Rattle.pgv_buf.specs.Tokens.{Cell, shown, width, tokens_width, hole_ty
 ghost use Rattle.pgv_wire.specs.Arguments.{Argument, all_tokens, types_in, framed, filled_arguments};
 ghost use Rattle.pgv_wire.specs.History.{Call, after, told, bytes_by, added_in, joined_frames, framed_types, holes_in, lengths_in, ArePlain, joined_bytes};
 ghost use Rattle.pgv_wire.specs.Image.{Image};
-ghost use Rattle.pgv_wire.specs.Parts.{ReadAs, AreFrames, parts_in};
+ghost use Rattle.pgv_wire.specs.Parts.{ReadAs, AreFrames, parts_in, written_parts};
 
 /// Whatever was added, refused and filled, in any order: the bytes are those that the arguments at the last
 /// filling are written as with what it was given, and then the others with zeros and defaults.
@@ -58,4 +58,11 @@ pub fn frames_joined()
 pub fn frames_read()
     ensures parts { (args : List Argument) (is : List Image) → AreFrames is (framed args) → Proper (all_tokens args) → ReadAs (shown (all_tokens args)) (parts_in is args) [] }
     ensures many { (args : List Argument) (is : List Image) → AreFrames is (framed args) → length (parts_in is args) ≡ length args }
+{}
+
+/// After a filling these parts are what the images are written as, each for its own parameter type and with the
+/// OIDs of its own holes.
+#[tactic(auto, using(crate::proofs::PartsRead::parts_filled))]
+pub fn parts_written()
+    ensures { (args : List Argument) (is : List Image) (ps : List Ty) (os : List Oid) → AreFrames is (framed args) → parts_in is (filled_arguments args ps os) ≡ written_parts is ps os }
 {}
