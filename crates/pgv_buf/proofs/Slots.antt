@@ -2,8 +2,8 @@
 use Rattle.std.proofs.Common.{◌≡◌, ℕ, ◌+◌, ◌≤◌, ◌<◌, Bool, true, false, cond, suc, zero, List, [], ◌∷◌, ◌++◌, length, take, drop, map, get_or, replicate, sum, refl, sym, ◌∙◌, ap, subst, arith, append_assoc, append-nil, length-append, length-take, length-drop, Vec, Global}
 use Rattle.std.proofs.lemmas.List.{drop_more, take-map, drop-map, drop-drop, take-append-drop, length-map}
 use Rattle.pgv_types.specs.Ty.{Ty}
-use Rattle.pgv_types.specs.Facts.{softly}
-use Rattle.pgv_types.specs.declared.Oid.{Oid}
+use Rattle.pgv_types.specs.Relations.{softly}
+use Rattle.pgv_types.specs.declared.oid.Oid.{Oid}
 use Rattle.pgv_buf.specs.Tokens.{Cell, fixed, hole_cell, slot_cell, chosen, CasesFit, shown, width, new_slot, slot_count, hole_types_of}
 use Rattle.pgv_buf.specs.Shown.{cases_of, kept_of}
 use Rattle.pgv_buf.specs.declared.fill.Slot.{Slot}

@@ -2,7 +2,7 @@
 use Rattle.std.proofs.Common.{◌≡◌, ℕ, ◌+◌, ◌≤◌, List, [], ◌∷◌, ◌++◌, length, take, drop, refl, sym, ◌∙◌, ap, subst, arith, append-nil, append_assoc, add_assoc, length-append, add-zero, zero-add}
 use Rattle.std.proofs.Math.Seq.{take-append_seam, drop-append_seam}
 use Rattle.pgv_types.specs.Ty.{Ty}
-use Rattle.pgv_types.specs.declared.Oid.{Oid}
+use Rattle.pgv_types.specs.declared.oid.Oid.{Oid}
 use Rattle.pgv_buf.specs.declared.mark.Mark.{Mark}
 use Rattle.pgv_buf.specs.Tokens.{Cell, fixed, hole_cell, slot_cell, fixed_bytes, be4, shown, width, hole_types_of, hole_count, slot_count}
 use Rattle.pgv_buf.specs.Marks.{mark_of}

@@ -4,7 +4,7 @@ use Rattle.std.specs.Int.{to_be_bytes, w32}
 use Rattle.std.proofs.Common.{inl, inr}
 use Rattle.std.specs.Coded.{Coded, code_by, coded×, coded⊎, coded_ℕ, coded_list}
 use Rattle.pgv_types.specs.Ty.{Ty, by_oid, ty_code}
-use Rattle.pgv_types.specs.Facts.{softly}
+use Rattle.pgv_types.specs.Relations.{softly}
 
 pub data Token : Type 0 where
   byte : ℕ → Token

@@ -2,6 +2,7 @@
 
 ghost use Rattle.std.specs.Prelude.{◌≡◌, ℕ, ◌++◌, List, [], ◌∷◌, length, OnOk, OnErr, sum};
 ghost use Rattle.pgv_buf.specs.Tokens.{CasesFit, slot_count, byte, hole, slot, bytes, blank, Cell, fixed_bytes, hole_count, shown, width, be4, hole_types_of};
+ghost use Rattle.pgv_buf.specs.Parse.{Proper};
 ghost use Rattle.pgv_buf.specs.Marks.{mark_of};
 ghost use Rattle.pgv_buf.specs.Fill.{fill_holes, fill_slots, slot_types};
 ghost use Rattle.pgv_buf.specs.Shown.{cases_of};
@@ -61,9 +62,10 @@ impl Tokens {
         self.bytes.len()
     }
 
-    /// The bytes that are shown.
+    /// The bytes that are shown: four for a hole, and for a slot as many as its default and each of its cases has.
     pub fn as_slice(&self) -> &[u8]
-        ensures { result.now ≡ shown self.now }
+        ensures shown { result.now ≡ shown self.now }
+        ensures proper { Proper self.now }
     {
         self.bytes.as_slice()
     }

@@ -30,7 +30,7 @@ front_of_part part rest n len lt =
     let enough : nat_lt (length (part ++ rest)) n ≡ false = le-ltb _ _ (omega (arith, length-append part rest)) in
     found ∙ rw (not_null, small, enough, take_at part rest n len, drop_at part rest n len) refl
 
-frame_in_front : (bytes : List ℕ) (part : Part) (rest : List ℕ) → IsFrame bytes part rest → front bytes ≡ Some (part, rest)
+pub frame_in_front : (bytes : List ℕ) (part : Part) (rest : List ℕ) → IsFrame bytes part rest → front bytes ≡ Some (part, rest)
 frame_in_front bytes None rest h = subst (λ (xs : List ℕ). front xs ≡ Some (None, rest)) (sym h) (front_of_null rest)
 frame_in_front bytes (Some part) rest h = subst (λ (xs : List ℕ). front xs ≡ Some (Some part, rest)) (sym h.1) (front_of_part part rest (length part) refl h.0)
 

@@ -1,3 +1,3 @@
 mod Text
 mod Narrower
-mod Fronts
+pub mod Fronts

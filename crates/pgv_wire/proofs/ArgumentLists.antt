@@ -1,0 +1,213 @@
+-- Lists of arguments: one more, and all filled.
+use Rattle.std.proofs.Common.{◌≡◌, ℕ, ◌+◌, suc, zero, List, [], ◌∷◌, ◌++◌, length, take, drop, refl, sym, ◌∙◌, ap, subst, arith, append_assoc, append-nil, replicate, sum}
+use Rattle.std.proofs.lemmas.Grind.{common_steps}
+use Rattle.std.proofs.Math.Numerals.{one-add}
+use Rattle.pgv_types.specs.Ty.{Ty}
+use Rattle.pgv_types.specs.declared.oid.Oid.{Oid}
+use Rattle.pgv_buf.specs.declared.Mark.{Mark}
+use Rattle.pgv_buf.specs.Tokens.{plain, Cell, fixed, hole_cell, slot_cell, be4, shown, width, hole_count, slot_count, chosen}
+use Rattle.pgv_buf.specs.Blank.{holes-plain}
+use Rattle.pgv_buf.specs.Marks.{mark_of, between_marks, IsBefore}
+use Rattle.pgv_buf.specs.Fill.{fill_holes, first_number, rest_numbers, fill_slots, slot_types, rest_types}
+use Rattle.pgv_buf.specs.Parse.{width-append, shown-append, first_type}
+use Rattle.pgv_wire.specs.Arguments.{Argument, all_tokens, types_in, sizes_in, counts_in, framed, write, early, filled_arguments, filled_frame}
+use Rattle.pgv_wire.specs.Kept.{Stands, arguments_of}
+
+pub nothing_stands : Stands [] [] [] [] []
+nothing_stands = record { types_are = refl; sizes_are = refl; counts_are = refl; tokens_are = refl }
+
+pub held : {hs : List Ty} {ms : List Mark} {ns : List ℕ} {ts : List Cell} (args : List Argument) → Stands (arguments_of hs ms ts) hs ms ns ts → arguments_of hs ms ts ≡ args → Stands args hs ms ns ts
+held {hs} {ms} {ns} {ts} args s e = subst (λ bs. Stands bs hs ms ns ts) e s
+
+pub hole_count-append : (a c : List Cell) → hole_count (a ++ c) ≡ hole_count a + hole_count c
+hole_count-append [] c = omega arith
+hole_count-append (fixed x ∷ a) c = hole_count-append a c
+hole_count-append (hole_cell t s ∷ a) c = omega (arith, hole_count-append a c)
+hole_count-append (slot_cell d cs s ∷ a) c = hole_count-append a c
+
+pub slot_count-append : (a c : List Cell) → slot_count (a ++ c) ≡ slot_count a + slot_count c
+slot_count-append [] c = omega arith
+slot_count-append (fixed x ∷ a) c = slot_count-append a c
+slot_count-append (hole_cell t s ∷ a) c = slot_count-append a c
+slot_count-append (slot_cell d cs s ∷ a) c = omega (arith, slot_count-append a c)
+
+pub is_before : (a c : List Cell) → IsBefore (mark_of a) (mark_of (a ++ c))
+is_before a c = (omega (arith, width-append a c), omega (arith, hole_count-append a c), omega (arith, slot_count-append a c))
+
+same_mark : {a b c a' b' c' : ℕ} → a ≡ a' → b ≡ b' → c ≡ c' → ◌≡◌ {A = Mark} (record { bytes = a; holes = b; slots = c }) (record { bytes = a'; holes = b'; slots = c' })
+same_mark e f g = cc
+
+pub between : (a c : List Cell) → between_marks (mark_of a) (mark_of (a ++ c)) ≡ mark_of c
+between a c = same_mark (omega (arith, width-append a c)) (omega (arith, hole_count-append a c)) (omega (arith, slot_count-append a c))
+
+types_in-push : (args : List Argument) (t : Ty) (f : List Cell) → types_in (args ++ (t, f) ∷ []) ≡ types_in args ++ t ∷ []
+types_in-push [] t f = refl
+types_in-push (a ∷ args) t f = ap (λ r. a.0 ∷ r) (types_in-push args t f)
+
+sizes_in-push : (args : List Argument) (t : Ty) (f : List Cell) → sizes_in (args ++ (t, f) ∷ []) ≡ sizes_in args ++ mark_of f ∷ []
+sizes_in-push [] t f = refl
+sizes_in-push (a ∷ args) t f = ap (λ r. mark_of a.1 ∷ r) (sizes_in-push args t f)
+
+all_tokens-push : (args : List Argument) (t : Ty) (f : List Cell) → all_tokens (args ++ (t, f) ∷ []) ≡ all_tokens args ++ f
+all_tokens-push [] t f = append-nil f
+all_tokens-push (a ∷ args) t f = ap (λ r. a.1 ++ r) (all_tokens-push args t f) ∙ sym (append_assoc a.1 (all_tokens args) f)
+
+counts_in-push : (args : List Argument) (t : Ty) (f : List Cell) → counts_in (args ++ (t, f) ∷ []) ≡ counts_in args ++ slot_count f ∷ []
+counts_in-push [] t f = refl
+counts_in-push (a ∷ args) t f = ap (λ r. slot_count a.1 ∷ r) (counts_in-push args t f)
+
+pub one_more :
+    {args : List Argument} {hs : List Ty} {ms : List Mark} {ns : List ℕ} {ts : List Cell} → Stands args hs ms ns ts → (t : Ty) (f : List Cell) →
+    (hs' : List Ty) (ms' : List Mark) (ns' : List ℕ) (ts' : List Cell) → hs' ≡ hs ++ t ∷ [] → ms' ≡ ms ++ mark_of f ∷ [] → ns' ≡ ns ++ slot_count f ∷ [] → ts' ≡ ts ++ f →
+    Stands (args ++ (t, f) ∷ []) hs' ms' ns' ts'
+one_more {args} {hs} {ms} {ns} {ts} s t f hs' ms' ns' ts' d e k g = record {
+  counts_are = k ∙ (ap (λ r. r ++ slot_count f ∷ []) s.counts_are ∙ sym (counts_in-push args t f));
+  types_are = d ∙ (ap (λ r. r ++ t ∷ []) s.types_are ∙ sym (types_in-push args t f));
+  sizes_are = e ∙ (ap (λ r. r ++ mark_of f ∷ []) s.sizes_are ∙ sym (sizes_in-push args t f));
+  tokens_are = g ∙ (ap (λ r. r ++ f) s.tokens_are ∙ sym (all_tokens-push args t f));
+}
+
+-- ---- filling
+
+no_more : (n : ℕ) → take n (let xs : List Oid = [] in xs) ≡ []
+no_more zero = refl
+no_more (suc n) = refl
+
+none_left : (n : ℕ) → drop n (let xs : List Oid = [] in xs) ≡ []
+none_left zero = refl
+none_left (suc n) = refl
+
+sum_first : (n : ℕ) (ns : List ℕ) → sum (n ∷ ns) ≡ n + sum ns
+sum_first n ns = grind (arith, common_steps)
+
+pub fill_holes-append :
+    (os : List Oid) (a c : List Cell) → fill_holes os (a ++ c) ≡ fill_holes (take (hole_count a) os) a ++ fill_holes (drop (hole_count a) os) c
+fill_holes-append os [] c = refl
+fill_holes-append os (fixed x ∷ a) c = ap (λ r. fixed x ∷ r) (fill_holes-append os a c)
+fill_holes-append [] (hole_cell t s ∷ a) c = rw one-add (ap (λ r. hole_cell t (be4 0) ∷ r) (fill_holes-append [] a c ∙ rw (no_more (hole_count a), none_left (hole_count a))))
+fill_holes-append (o ∷ os) (hole_cell t s ∷ a) c = rw one-add (ap (λ r. hole_cell t (be4 o.0) ∷ r) (fill_holes-append os a c))
+fill_holes-append os (slot_cell d cs s ∷ a) c = ap (λ r. slot_cell d cs s ∷ r) (fill_holes-append os a c)
+
+width-filled : (os : List Oid) (a : List Cell) → width (fill_holes os a) ≡ width a
+width-filled os [] = refl
+width-filled os (fixed x ∷ a) = ap (λ n. 1 + n) (width-filled os a)
+width-filled os (hole_cell t s ∷ a) = ap (λ n. 4 + n) (width-filled (rest_numbers os) a)
+width-filled os (slot_cell d cs s ∷ a) = ap (λ n. length d + n) (width-filled os a)
+
+hole_count-filled : (os : List Oid) (a : List Cell) → hole_count (fill_holes os a) ≡ hole_count a
+hole_count-filled os [] = refl
+hole_count-filled os (fixed x ∷ a) = hole_count-filled os a
+hole_count-filled os (hole_cell t s ∷ a) = ap (λ n. 1 + n) (hole_count-filled (rest_numbers os) a)
+hole_count-filled os (slot_cell d cs s ∷ a) = hole_count-filled os a
+
+slot_count-filled : (os : List Oid) (a : List Cell) → slot_count (fill_holes os a) ≡ slot_count a
+slot_count-filled os [] = refl
+slot_count-filled os (fixed x ∷ a) = slot_count-filled os a
+slot_count-filled os (hole_cell t s ∷ a) = slot_count-filled (rest_numbers os) a
+slot_count-filled os (slot_cell d cs s ∷ a) = ap (λ n. 1 + n) (slot_count-filled os a)
+
+width-slots : (ps : List Ty) (a : List Cell) → width (fill_slots ps a) ≡ width a
+width-slots ps [] = refl
+width-slots ps (fixed x ∷ a) = ap (λ n. 1 + n) (width-slots ps a)
+width-slots ps (hole_cell t s ∷ a) = ap (λ n. 4 + n) (width-slots ps a)
+width-slots ps (slot_cell d cs s ∷ a) = ap (λ n. length d + n) (width-slots (rest_types ps) a)
+
+hole_count-slots : (ps : List Ty) (a : List Cell) → hole_count (fill_slots ps a) ≡ hole_count a
+hole_count-slots ps [] = refl
+hole_count-slots ps (fixed x ∷ a) = hole_count-slots ps a
+hole_count-slots ps (hole_cell t s ∷ a) = ap (λ n. 1 + n) (hole_count-slots ps a)
+hole_count-slots ps (slot_cell d cs s ∷ a) = hole_count-slots (rest_types ps) a
+
+slot_count-slots : (ps : List Ty) (a : List Cell) → slot_count (fill_slots ps a) ≡ slot_count a
+slot_count-slots ps [] = refl
+slot_count-slots ps (fixed x ∷ a) = slot_count-slots ps a
+slot_count-slots ps (hole_cell t s ∷ a) = slot_count-slots ps a
+slot_count-slots ps (slot_cell d cs s ∷ a) = ap (λ n. 1 + n) (slot_count-slots (rest_types ps) a)
+
+pub width-frame : (p : Ty) (os : List Oid) (a : List Cell) → width (filled_frame p os a) ≡ width a
+width-frame p os a = width-slots (replicate (slot_count a) p) (fill_holes os a) ∙ width-filled os a
+
+hole_count-frame : (p : Ty) (os : List Oid) (a : List Cell) → hole_count (filled_frame p os a) ≡ hole_count a
+hole_count-frame p os a = hole_count-slots (replicate (slot_count a) p) (fill_holes os a) ∙ hole_count-filled os a
+
+slot_count-frame : (p : Ty) (os : List Oid) (a : List Cell) → slot_count (filled_frame p os a) ≡ slot_count a
+slot_count-frame p os a = slot_count-slots (replicate (slot_count a) p) (fill_holes os a) ∙ slot_count-filled os a
+
+types_in-filled : (args : List Argument) (ps : List Ty) (os : List Oid) → types_in (filled_arguments args ps os) ≡ types_in args
+types_in-filled [] ps os = refl
+types_in-filled (a ∷ args) ps os = ap (λ r. a.0 ∷ r) (types_in-filled args (rest_types ps) (drop (hole_count a.1) os))
+
+sizes_in-filled : (args : List Argument) (ps : List Ty) (os : List Oid) → sizes_in (filled_arguments args ps os) ≡ sizes_in args
+sizes_in-filled [] ps os = refl
+sizes_in-filled (a ∷ args) ps os =
+    let p : Ty = first_type ps in
+    let o : List Oid = take (hole_count a.1) os in
+    let e : mark_of (filled_frame p o a.1) ≡ mark_of a.1 = same_mark (width-frame p o a.1) (hole_count-frame p o a.1) (slot_count-frame p o a.1) in
+    ap (λ m. m ∷ sizes_in (filled_arguments args (rest_types ps) (drop (hole_count a.1) os))) e ∙ ap (λ r. mark_of a.1 ∷ r) (sizes_in-filled args (rest_types ps) (drop (hole_count a.1) os))
+
+counts_in-filled : (args : List Argument) (ps : List Ty) (os : List Oid) → counts_in (filled_arguments args ps os) ≡ counts_in args
+counts_in-filled [] ps os = refl
+counts_in-filled (a ∷ args) ps os =
+    let e : slot_count (filled_frame (first_type ps) (take (hole_count a.1) os) a.1) ≡ slot_count a.1 = slot_count-frame (first_type ps) (take (hole_count a.1) os) a.1 in
+    ap (λ m. m ∷ counts_in (filled_arguments args (rest_types ps) (drop (hole_count a.1) os))) e ∙ ap (λ r. slot_count a.1 ∷ r) (counts_in-filled args (rest_types ps) (drop (hole_count a.1) os))
+
+fill_slots-append :
+    (n : ℕ) (p : Ty) (ps : List Ty) (a c : List Cell) → n ≡ slot_count a → fill_slots (replicate n p ++ ps) (a ++ c) ≡ fill_slots (replicate n p) a ++ fill_slots ps c
+fill_slots-append n p ps [] c e = rw e refl
+fill_slots-append n p ps (fixed x ∷ a) c e = ap (λ r. fixed x ∷ r) (fill_slots-append n p ps a c e)
+fill_slots-append n p ps (hole_cell t s ∷ a) c e = ap (λ r. hole_cell t s ∷ r) (fill_slots-append n p ps a c e)
+fill_slots-append zero p ps (slot_cell d cs s ∷ a) c e = absurd (omega (arith, e))
+fill_slots-append (suc n) p ps (slot_cell d cs s ∷ a) c e = ap (λ r. slot_cell d cs (chosen p d cs) ∷ r) (fill_slots-append n p ps a c (omega (arith, e)))
+
+pub all_tokens-filled :
+    (args : List Argument) (ps : List Ty) (os : List Oid) → length ps ≡ length args →
+    all_tokens (filled_arguments args ps os) ≡ fill_slots (slot_types ps (counts_in args)) (fill_holes os (all_tokens args))
+all_tokens-filled [] ps os e = refl
+all_tokens-filled (a ∷ args) [] os e = absurd (omega (arith, e))
+all_tokens-filled (a ∷ args) (p ∷ ps) os e =
+    let o : List Oid = take (hole_count a.1) os in
+    let r : List Oid = drop (hole_count a.1) os in
+    let n : slot_count a.1 ≡ slot_count (fill_holes o a.1) = sym (slot_count-filled o a.1) in
+    ap (λ x. filled_frame p o a.1 ++ x) (all_tokens-filled args ps r (omega (arith, e)))
+    ∙ (sym (fill_slots-append (slot_count a.1) p (slot_types ps (counts_in args)) (fill_holes o a.1) (fill_holes r (all_tokens args)) n)
+    ∙ ap (λ x. fill_slots (replicate (slot_count a.1) p ++ slot_types ps (counts_in args)) x) (sym (fill_holes-append os a.1 (all_tokens args))))
+
+pub all_filled :
+    {args : List Argument} {hs : List Ty} {ms : List Mark} {ns : List ℕ} {ts : List Cell} → Stands args hs ms ns ts → (ps : List Ty) (os : List Oid) (ts' : List Cell) → length ps ≡ length args →
+    ts' ≡ fill_slots (slot_types ps ns) (fill_holes os ts) → Stands (filled_arguments args ps os) hs ms ns ts'
+all_filled {args} {hs} {ms} {ns} {ts} s ps os ts' n e = record {
+  types_are = s.types_are ∙ sym (types_in-filled args ps os);
+  sizes_are = s.sizes_are ∙ sym (sizes_in-filled args ps os);
+  counts_are = s.counts_are ∙ sym (counts_in-filled args ps os);
+  tokens_are = e ∙ (ap (λ r. fill_slots (slot_types ps ns) (fill_holes os r)) s.tokens_are ∙ (ap (λ r. fill_slots (slot_types ps r) (fill_holes os (all_tokens args))) s.counts_are ∙ sym (all_tokens-filled args ps os n)));
+}
+
+pub shown-frame : (n : ℕ) (p : Ty) (os : List Oid) (a : List Cell) → n ≡ slot_count a → shown (fill_slots (replicate n p) (fill_holes os a)) ≡ write p os (plain a)
+shown-frame n p os [] e = refl
+shown-frame n p os (fixed x ∷ a) e = ap (λ r. x ∷ r) (shown-frame n p os a e)
+shown-frame n p os (hole_cell t s ∷ a) e = ap (λ r. be4 (first_number os) ++ r) (shown-frame n p (rest_numbers os) a e)
+shown-frame zero p os (slot_cell d cs s ∷ a) e = absurd (omega (arith, e))
+shown-frame (suc n) p os (slot_cell d cs s ∷ a) e = ap (λ r. chosen p d cs ++ r) (shown-frame n p os a (omega (arith, e)))
+
+-- late equals early
+pub late_is_early : (args : List Argument) (ps : List Ty) (os : List Oid) → shown (all_tokens (filled_arguments args ps os)) ≡ early (framed args) ps os
+late_is_early [] ps os = refl
+late_is_early (a ∷ args) ps os =
+    let p : Ty = first_type ps in
+    let o : List Oid = take (hole_count a.1) os in
+    let r : List Oid = drop (hole_count a.1) os in
+    shown-append (filled_frame p o a.1) (all_tokens (filled_arguments args (rest_types ps) r))
+    ∙ (ap (λ x. x ++ shown (all_tokens (filled_arguments args (rest_types ps) r))) (shown-frame (slot_count a.1) p o a.1 refl) ∙ ap (λ x. write p o (plain a.1) ++ x) (late_is_early args (rest_types ps) r)
+    ∙ sym (ap (λ n. write p (take n os) (plain a.1) ++ early (framed args) (rest_types ps) (drop n os)) (holes-plain a.1)))
+
+pub length-types_in : (args : List Argument) → length (types_in args) ≡ length args
+length-types_in [] = refl
+length-types_in (a ∷ args) = ap suc (length-types_in args)
+
+pub length-counts_in : (args : List Argument) → length (counts_in args) ≡ length args
+length-counts_in [] = refl
+length-counts_in (a ∷ args) = ap suc (length-counts_in args)
+
+pub sum-counts_in : (args : List Argument) → sum (counts_in args) ≡ slot_count (all_tokens args)
+sum-counts_in [] = refl
+sum-counts_in (a ∷ args) = sum_first (slot_count a.1) (counts_in args) ∙ (ap (λ n. slot_count a.1 + n) (sum-counts_in args) ∙ sym (slot_count-append a.1 (all_tokens args)))

@@ -1,0 +1,33 @@
+use Rattle.std.proofs.Common.{ℕ, List, ◌∙◌, sym, ap, length, sum}
+use Rattle.pgv_buf.specs.Tokens.{hole_count, slot_count, shown}
+use Rattle.pgv_buf.specs.Fill.{fill_slots, fill_holes, slot_types}
+use Rattle.pgv_wire.specs.Arguments.{all_tokens}
+use Rattle.pgv_wire.specs.Kept.{stands, arguments_are}
+use Rattle.pgv_wire.proofs.ArgumentLists.{held, all_filled, late_is_early, length-counts_in, sum-counts_in}
+use Rattle.pgv_wire.proofs.arguments.PgArguments.apply_patches.Goals as goal
+
+pub fill-requires-clause-arguments : goal.fill-requires-clause-arguments
+fill-requires-clause-arguments c =
+    let s = held c.args.self.now c.self.invariant c.self.view_is in
+    c.if-types-len.false ∙ (c.len.ensures ∙ sym (ap length (c.as_slice.ensures.value ∙ s.counts_are) ∙ length-counts_in c.args.self.now))
+
+pub fill-requires-clause-slots : goal.fill-requires-clause-slots
+fill-requires-clause-slots c =
+    let s = held c.args.self.now c.self.invariant c.self.view_is in
+    ap sum (c.as_slice.ensures.value ∙ s.counts_are) ∙ (sum-counts_in c.args.self.now ∙ sym (ap slot_count s.tokens_are))
+
+pub fill-requires-clause-holes : goal.fill-requires-clause-holes
+fill-requires-clause-holes c =
+    let s = held c.args.self.now c.self.invariant c.self.view_is in
+    c.if-oids-holes.false ∙ (c.holes.ensures ∙ sym (ap hole_count s.tokens_are))
+
+pub invariant_of-self : goal.invariant_of-self
+invariant_of-self c = stands (all_filled (held c.args.self.now c.self.invariant c.self.view_is) c.args.types.now c.args.oids.now _ (c.if-types-len.false ∙ c.len.ensures) (c.fill.ensures ∙ ap (λ (n : List ℕ). fill_slots (slot_types c.args.types.now n) (fill_holes c.args.oids.now c.self.inside.buffer)) c.as_slice.ensures.value))
+
+pub returns-clause-filled : goal.returns-clause-filled
+returns-clause-filled c = arguments_are (all_filled (held c.args.self.now c.self.invariant c.self.view_is) c.args.types.now c.args.oids.now _ (c.if-types-len.false ∙ c.len.ensures) (c.fill.ensures ∙ ap (λ (n : List ℕ). fill_slots (slot_types c.args.types.now n) (fill_holes c.args.oids.now c.self.inside.buffer)) c.as_slice.ensures.value))
+
+pub returns-clause-written : goal.returns-clause-written
+returns-clause-written c =
+    ap (λ a. shown (all_tokens a)) (arguments_are (all_filled (held c.args.self.now c.self.invariant c.self.view_is) c.args.types.now c.args.oids.now _ (c.if-types-len.false ∙ c.len.ensures) (c.fill.ensures ∙ ap (λ (n : List ℕ). fill_slots (slot_types c.args.types.now n) (fill_holes c.args.oids.now c.self.inside.buffer)) c.as_slice.ensures.value)))
+    ∙ late_is_early c.args.self.now c.args.types.now c.args.oids.now

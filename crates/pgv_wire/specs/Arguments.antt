@@ -1,0 +1,68 @@
+-- A list of arguments, each a type and the cells of its frame, and what it is written args.
+use Rattle.std.specs.Prelude.{◌≡◌, ℕ, List, [], ◌∷◌, ◌++◌, take, drop, replicate, Option, Some}
+use Rattle.pgv_types.specs.Ty.{Ty}
+use Rattle.pgv_types.specs.declared.oid.Oid.{Oid}
+use Rattle.pgv_buf.specs.declared.Mark.{Mark}
+use Rattle.pgv_buf.specs.Tokens.{Token, byte, hole, slot, tokens_holes, Cell, be4, blank, plain, hole_count, slot_count, chosen}
+use Rattle.pgv_buf.specs.Marks.{mark_of}
+use Rattle.pgv_buf.specs.Fill.{first_number, rest_numbers, fill_holes, fill_slots, rest_types}
+use Rattle.pgv_buf.specs.Parse.{first_type}
+
+abbrev pub Argument : Type 0
+Argument = Ty × List Cell
+
+abbrev pub frame_in : Argument → List Cell
+frame_in a = a.1
+
+abbrev pub type_in : Argument → Ty
+type_in a = a.0
+
+abbrev pub all_tokens : List Argument → List Cell
+all_tokens [] = []
+all_tokens (a ∷ args) = a.1 ++ all_tokens args
+
+abbrev pub types_in : List Argument → List Ty
+types_in [] = []
+types_in (a ∷ args) = a.0 ∷ types_in args
+
+abbrev pub sizes_in : List Argument → List Mark
+sizes_in [] = []
+sizes_in (a ∷ args) = mark_of a.1 ∷ sizes_in args
+
+abbrev pub counts_in : List Argument → List ℕ
+counts_in [] = []
+counts_in (a ∷ args) = slot_count a.1 ∷ counts_in args
+
+-- ---- written directly
+
+-- a type and the tokens of a frame
+abbrev pub Framed : Type 0
+Framed = Ty × List Token
+
+abbrev pub framed : List Argument → List Framed
+framed [] = []
+framed (a ∷ args) = (a.0, plain a.1) ∷ framed args
+
+-- tokens, written for a parameter type and with the OIDs of their holes
+abbrev pub write : Ty → List Oid → List Token → List ℕ
+write p os [] = []
+write p os (byte x ∷ ts) = x ∷ write p os ts
+write p os (hole t ∷ ts) = be4 (first_number os) ++ write p (rest_numbers os) ts
+write p os (slot d cs ∷ ts) = chosen p d cs ++ write p os ts
+
+-- each frame with its own parameter type and its share of the OIDs
+abbrev pub early : List Framed → List Ty → List Oid → List ℕ
+early [] ps os = []
+early (a ∷ args) ps os = write (first_type ps) (take (tokens_holes a.1) os) a.1 ++ early args (rest_types ps) (drop (tokens_holes a.1) os)
+
+-- a frame, with these shown
+abbrev pub filled_frame : Ty → List Oid → List Cell → List Cell
+filled_frame p os ts = fill_slots (replicate (slot_count ts) p) (fill_holes os ts)
+
+abbrev pub filled_arguments : List Argument → List Ty → List Oid → List Argument
+filled_arguments [] ps os = []
+filled_arguments (a ∷ args) ps os = (a.0, filled_frame (first_type ps) (take (hole_count a.1) os) a.1) ∷ filled_arguments args (rest_types ps) (drop (hole_count a.1) os)
+
+-- an argument is added at the end, not yet filled
+abbrev pub Added : Option (List Token) → Ty → List Argument → List Argument → Type 0
+Added f t was now = (ts : List Token) × (f ≡ Some ts) × (now ≡ was ++ (t, blank ts) ∷ [])

@@ -1,0 +1,83 @@
+-- Any list of calls on arguments, and what they leave.
+use Rattle.std.specs.Prelude.{◌≡◌, ℕ, List, [], ◌∷◌, ◌++◌, ⊤}
+use Rattle.pgv_types.specs.Ty.{Ty}
+use Rattle.pgv_types.specs.declared.oid.Oid.{Oid}
+use Rattle.pgv_buf.specs.Tokens.{Token, byte, hole, slot, bytes, blank, shown, width}
+use Rattle.pgv_wire.specs.Arguments.{Argument, Framed, all_tokens, early, filled_arguments}
+
+-- an accepted addition, an accepted filling, or a call that was refused
+pub data Call : Type 0 where
+  adds : Framed → Call
+  fills : List Ty → List Oid → Call
+  is_refused : Call
+
+-- arguments that are not filled yet
+abbrev pub blanks : List Framed → List Argument
+blanks [] = []
+blanks (f ∷ fs) = (f.0, blank f.1) ∷ blanks fs
+
+-- as the calls' contracts have it
+abbrev pub after : List Argument → List Call → List Argument
+after args [] = args
+after args (adds f ∷ calls) = after (args ++ (f.0, blank f.1) ∷ []) calls
+after args (fills ps os ∷ calls) = after (filled_arguments args ps os) calls
+after args (is_refused ∷ calls) = after args calls
+
+-- the arguments at the last filling, what it was given, and those added since
+pub record Told : Type 0 where
+  pub filled : List Framed
+  pub types : List Ty
+  pub oids : List Oid
+  pub since : List Framed
+
+abbrev pub told_by : Told → List Call → Told
+told_by h [] = h
+told_by h (adds f ∷ calls) = told_by (record { filled = h.filled; types = h.types; oids = h.oids; since = h.since ++ f ∷ [] }) calls
+told_by h (fills ps os ∷ calls) = told_by (record { filled = h.filled ++ h.since; types = ps; oids = os; since = [] }) calls
+told_by h (is_refused ∷ calls) = told_by h calls
+
+abbrev pub told : List Call → Told
+told calls = told_by (record { filled = []; types = []; oids = []; since = [] }) calls
+
+-- the bytes: those at the last filling written early, the others blank
+abbrev pub bytes_by : Told → List ℕ
+bytes_by h = early h.filled h.types h.oids ++ shown (all_tokens (blanks h.since))
+
+-- the accepted additions, in order, whatever was filled or refused between
+abbrev pub added_in : List Call → List Framed
+added_in [] = []
+added_in (adds f ∷ calls) = f ∷ added_in calls
+added_in (fills ps os ∷ calls) = added_in calls
+added_in (is_refused ∷ calls) = added_in calls
+
+-- their tokens, one behind the other
+abbrev pub joined_frames : List Framed → List Token
+joined_frames [] = []
+joined_frames (f ∷ fs) = f.1 ++ joined_frames fs
+
+abbrev pub framed_types : List Framed → List Ty
+framed_types [] = []
+framed_types (f ∷ fs) = f.0 ∷ framed_types fs
+
+-- the types that holes name, in order
+abbrev pub holes_in : List Token → List Ty
+holes_in [] = []
+holes_in (byte x ∷ ts) = holes_in ts
+holes_in (hole t ∷ ts) = t ∷ holes_in ts
+holes_in (slot d cs ∷ ts) = holes_in ts
+
+-- the lengths of arguments
+abbrev pub lengths_in : List Argument → List ℕ
+lengths_in [] = []
+lengths_in (a ∷ args) = width a.1 ∷ lengths_in args
+
+-- frames without holes and slots, which are these bytes
+abbrev pub ArePlain : List Framed → List (List ℕ) → Type 0
+ArePlain [] [] = ⊤
+ArePlain [] (xs ∷ xss) = ⊥
+ArePlain (f ∷ fs) [] = ⊥
+ArePlain (f ∷ fs) (xs ∷ xss) = (f.1 ≡ bytes xs) × ArePlain fs xss
+
+abbrev pub joined_bytes : List (List ℕ) → List ℕ
+joined_bytes [] = []
+joined_bytes (xs ∷ xss) = xs ++ joined_bytes xss

@@ -1,0 +1,211 @@
+//! The parameters of a statement.
+
+ghost use Rattle.std.specs.Prelude.{◌≡◌, ◌≢◌, ◌+◌, ◌++◌, ℕ, List, [], ◌∷◌, length, OnOk, OnErr, IfOk, IfErr, IsOk, IsErrOf, string_bytes, decimal};
+ghost use Rattle.pgv_buf.specs.Tokens.{shown, hole_count, hole_types_of};
+ghost use Rattle.pgv_value.specs.declared.error.CodecError.TheVariants.{Memory, ParameterCount, HoleCount};
+ghost use Rattle.pgv_wire.specs.Arguments.{types_in, all_tokens, Added, filled_arguments, framed, early};
+ghost use Rattle.pgv_wire.specs.Each.{AreOutcomes, accepted};
+ghost use Rattle.pgv_wire.specs.Image.{frame, or_else};
+ghost use Rattle.pgv_wire.specs.Outcome.{Refused};
+
+use crate::buffer::PgArgumentBuffer;
+use crate::traits::{Encode, Type};
+use crate::types::array::type_of_value;
+use pgv_buf::Mark;
+use pgv_types::{Oid, PgTypeInfo};
+use pgv_value::CodecError;
+use std::alloc::{AllocError, Global};
+use std::marker::Model;
+
+/// The parameters of a statement: for each its type, and its frame in one buffer.
+///
+/// A contract sees them as a list of pairs, a type and the cells of a frame: bytes, holes and slots with the bytes
+/// that they show. An addition that is accepted appends one pair whose holes show zeros and whose slots show their
+/// defaults; one that is refused changes nothing.
+#[derive(Drop)]
+pub struct PgArguments {
+    buffer: PgArgumentBuffer,
+    types: Vec<PgTypeInfo>,
+    sizes: Vec<Mark>,
+    counts: Vec<usize>,
+}
+
+impl Model for PgArguments {
+    ghost use Rattle.std.specs.Prelude.{List};
+    ghost use Rattle.std.specs.Coded.{coded×, coded_list};
+    ghost use Rattle.pgv_types.specs.Ty.{ty_code};
+    ghost use Rattle.pgv_buf.specs.Tokens.{cells_code};
+    ghost use Rattle.pgv_wire.specs.Arguments.{Argument};
+
+    ghost Value = { List Argument };
+
+    ghost coded = { coded_list (coded× ty_code cells_code) };
+
+    ghost use Rattle.pgv_wire.specs.Kept.{seen, IsKept};
+
+    ghost view = { seen };
+
+    ghost invariant = { IsKept };
+}
+
+impl PgArguments {
+    /// No arguments. It takes no memory yet.
+    pub fn new(alloc: Global) -> PgArguments
+        ensures { result ≡ [] }
+    {
+        PgArguments {
+            buffer: PgArgumentBuffer::new(alloc),
+            types: Vec::new(alloc),
+            sizes: Vec::new(alloc),
+            counts: Vec::new(alloc),
+        }
+    }
+
+    /// Makes room for so many arguments more, and so many bytes. Nothing is added, also where it is refused (C1).
+    pub fn reserve(&mut self, additional: usize, size: usize) -> Result<(), CodecError>
+        ensures same { self.new ≡ self.old }
+        ensures err { IfErr result (λ e. e ≡ Memory) }
+    {
+        self.types.reserve(additional)?;
+        self.sizes.reserve(additional)?;
+        self.counts.reserve(additional)?;
+        self.buffer.reserve(size)?;
+        Ok(())
+    }
+
+    /// How many arguments there are.
+    pub fn len(&self) -> usize
+        ensures { result ≡ length self.now }
+    {
+        self.types.len()
+    }
+
+    /// The type of each argument: what its value produced, or else its Rust type's.
+    pub fn types(&self) -> &[PgTypeInfo]
+        ensures { result.now ≡ types_in self.now }
+    {
+        self.types.as_slice()
+    }
+
+    /// The frames of the arguments, one behind the other.
+    pub fn buffer(&self) -> &PgArgumentBuffer
+        ensures { result.now ≡ all_tokens self.now }
+    {
+        &self.buffer
+    }
+
+    /// Adds a value, and remembers what it produces or else its type's info. It is accepted, want of memory (C1)
+    /// aside, exactly where the value has a frame; a refused one leaves all as it was. C2 where the size hint or the
+    /// image is above 2147483647.
+    pub fn add_by_ref<T: Encode + Type>(&mut self, value: &T) -> Result<(), CodecError>
+        ensures ok { OnOk result (Added (frame (T.hint value.now) (T.image value.now)) (or_else (T.produced value.now) T.info) self.old self.new) }
+        ensures err { IfErr result (λ e. Refused e (frame (T.hint value.now) (T.image value.now))) }
+        ensures unchanged { OnErr result (self.new ≡ self.old) }
+    {
+        self.types.reserve(1)?;
+        self.sizes.reserve(1)?;
+        self.counts.reserve(1)?;
+        let argument_type = type_of_value(value)?;
+        let mark = self.buffer.mark();
+        if let Err(error) = self.buffer.encode(value) {
+            self.buffer.back(mark);
+            return Err(error);
+        }
+        let size = self.buffer.mark().since(mark);
+        self.types.push(argument_type)?;
+        self.sizes.push(size)?;
+        self.counts.push(size.slots())?;
+        Ok(())
+    }
+
+    /// Adds a value, as [`add_by_ref`](PgArguments::add_by_ref) does.
+    pub fn add<T: Encode + Type + Drop>(&mut self, value: T) -> Result<(), CodecError>
+        ensures ok { OnOk result (Added (frame (T.hint value) (T.image value)) (or_else (T.produced value) T.info) self.old self.new) }
+        ensures err { IfErr result (λ e. Refused e (frame (T.hint value) (T.image value))) }
+        ensures unchanged { OnErr result (self.new ≡ self.old) }
+    {
+        self.add_by_ref(&value)
+    }
+
+    /// Adds each value in order, and answers an outcome for each. The list of outcomes is reserved first: where that
+    /// is refused (C1), nothing was added.
+    pub fn add_each<T: Encode + Type>(
+        &mut self,
+        alloc: Global,
+        values: &[T],
+    ) -> Result<Vec<Result<(), CodecError>>, CodecError>
+        ensures outcomes { IfOk result (λ rs. AreOutcomes (λ x. frame (T.hint x) (T.image x)) (λ x. or_else (T.produced x) T.info) values.now rs.items) }
+        ensures added { IfOk result (λ rs. self.new ≡ self.old ++ accepted (λ x. frame (T.hint x) (T.image x)) (λ x. or_else (T.produced x) T.info) values.now rs.items) }
+        ensures err { IfErr result (λ e. e ≡ Memory) }
+        ensures unchanged { OnErr result (self.new ≡ self.old) }
+    {
+        let mut outcomes = Vec::with_capacity(alloc, values.len())?;
+        for value in values {
+            let outcome = self.add_by_ref(value);
+            outcomes.push(outcome)?;
+        }
+        Ok(outcomes)
+    }
+
+    /// Appends the placeholder of the last argument, `$` and [`len`](PgArguments::len) in decimal. C1 leaves the
+    /// text as it was.
+    pub fn format_placeholder(&self, out: &mut String) -> Result<(), CodecError>
+        ensures ok { OnOk result (string_bytes out.new ≡ string_bytes out.old ++ 36 ∷ decimal (length self.now)) }
+        ensures err { IfErr result (λ e. (e ≡ Memory) × (string_bytes out.new ≡ string_bytes out.old)) }
+    {
+        let count = self.len();
+        let text = format!(in *out.allocator(); "${count}")?;
+        out.push_str(text.as_str())?;
+        Ok(())
+    }
+
+    /// The types whose OIDs are missing, in the order of their holes.
+    pub fn hole_types(&self) -> &[PgTypeInfo]
+        ensures { result.now ≡ hole_types_of (all_tokens self.now) }
+    {
+        self.buffer.hole_types()
+    }
+
+    // How many holes there are.
+    fn holes(&self) -> usize
+        ensures { result ≡ hole_count (all_tokens self.now) }
+    {
+        self.hole_types().len()
+    }
+
+    /// Writes the OIDs into the holes, in order, and fills each slot by the parameter type of its own argument: with
+    /// the first case whose type is softly equal to it, else with the default. As many types as arguments are
+    /// wanted (C10), and as many OIDs as holes (C11); a refusal changes nothing, and with the right numbers there is
+    /// none. It takes no memory and may be called again, also with additions between: each call fills all anew, and
+    /// the bytes are those that the frames are written as with these types and OIDs at once.
+    pub fn apply_patches(&mut self, types: &[PgTypeInfo], oids: &[Oid]) -> Result<(), CodecError>
+        ensures ok { length types.now ≡ length self.old → length oids.now ≡ hole_count (all_tokens self.old) → IsOk result }
+        ensures parameters { length types.now ≢ length self.old → IsErrOf result ParameterCount }
+        ensures holes { length types.now ≡ length self.old → length oids.now ≢ hole_count (all_tokens self.old) → IsErrOf result HoleCount }
+        ensures filled { OnOk result (self.new ≡ filled_arguments self.old types.now oids.now) }
+        ensures written { OnOk result (shown (all_tokens self.new) ≡ early (framed self.old) types.now oids.now) }
+        ensures unchanged { OnErr result (self.new ≡ self.old) }
+    {
+        if types.len() != self.len() {
+            return Err(CodecError::ParameterCount);
+        }
+        if oids.len() != self.holes() {
+            return Err(CodecError::HoleCount);
+        }
+        self.buffer.fill(types, self.counts.as_slice(), oids);
+        Ok(())
+    }
+}
+
+impl Clone for PgArguments {
+    ghost is_clone = { λ arguments copy. copy ≡ arguments };
+
+    fn clone(&self) -> Result<PgArguments, AllocError> {
+        Ok(PgArguments {
+            buffer: self.buffer.clone()?,
+            types: self.types.clone()?,
+            sizes: self.sizes.clone()?,
+            counts: self.counts.clone()?,
+        })
+    }
+}

@@ -1,0 +1,66 @@
+//! Values that may be null.
+
+use crate::buffer::{IsNull, PgArgumentBuffer};
+use crate::traits::{Encode, PgHasArrayType, Type};
+use pgv_types::PgTypeInfo;
+use pgv_value::CodecError;
+use std::alloc::AllocError;
+
+impl<T: Type> Type for Option<T> {
+    ghost info = { T.info };
+
+    ghost accepts = { T.accepts };
+
+    fn type_info() -> PgTypeInfo {
+        T::type_info()
+    }
+
+    fn compatible(type_info: &PgTypeInfo) -> bool {
+        T::compatible(type_info)
+    }
+}
+
+impl<T: PgHasArrayType> PgHasArrayType for Option<T> {
+    ghost array_info = { T.array_info };
+
+    ghost accepts_array = { T.accepts_array };
+
+    fn array_type_info() -> PgTypeInfo {
+        T::array_type_info()
+    }
+
+    fn array_compatible(type_info: &PgTypeInfo) -> bool {
+        T::array_compatible(type_info)
+    }
+}
+
+impl<T: Encode + Type> Encode for Option<T> {
+    ghost use Rattle.pgv_wire.specs.Image.{option_image, option_hint, option_produced};
+
+    ghost image = { option_image T.image };
+
+    ghost hint = { option_hint T.hint };
+
+    ghost produced = { option_produced T.produced T.info };
+
+    fn encode_by_ref(&self, out: &mut PgArgumentBuffer) -> Result<IsNull, CodecError> {
+        match self {
+            None => Ok(IsNull::Yes),
+            Some(value) => value.encode_by_ref(out),
+        }
+    }
+
+    fn size_hint(&self) -> usize {
+        match self {
+            None => 0,
+            Some(value) => value.size_hint(),
+        }
+    }
+
+    fn produces(&self) -> Result<Option<PgTypeInfo>, AllocError> {
+        match self {
+            None => Ok(Some(T::type_info())),
+            Some(value) => value.produces(),
+        }
+    }
+}

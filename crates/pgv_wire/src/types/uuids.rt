@@ -1,0 +1,66 @@
+//! UUIDs (PostgreSQL, "UUID Type"): their sixteen bytes.
+
+use crate::buffer::{IsNull, PgArgumentBuffer};
+use crate::traits::{Encode, PgHasArrayType, Type};
+use pgv_types::{PgType, PgTypeInfo};
+use pgv_value::CodecError;
+use std::alloc::AllocError;
+use uuid::Uuid;
+
+impl Type for Uuid {
+    ghost use Rattle.pgv_types.specs.Relations.{softly};
+    ghost use Rattle.pgv_types.specs.Ty.{builtin};
+
+    ghost info = { builtin 2950 };
+
+    ghost accepts = { λ t. softly t (builtin 2950) };
+
+    fn type_info() -> PgTypeInfo {
+        PgTypeInfo(PgType::Uuid)
+    }
+
+    fn compatible(type_info: &PgTypeInfo) -> bool {
+        type_info.type_compatible(&Self::type_info())
+    }
+}
+
+impl PgHasArrayType for Uuid {
+    ghost use Rattle.pgv_types.specs.Relations.{softly};
+    ghost use Rattle.pgv_types.specs.Ty.{builtin};
+
+    ghost array_info = { builtin 2951 };
+
+    ghost accepts_array = { λ t. softly t (builtin 2951) };
+
+    fn array_type_info() -> PgTypeInfo {
+        PgTypeInfo(PgType::UuidArray)
+    }
+
+    fn array_compatible(type_info: &PgTypeInfo) -> bool {
+        type_info.type_compatible(&Self::array_type_info())
+    }
+}
+
+impl Encode for Uuid {
+    ghost use Rattle.std.specs.Prelude.{None};
+    ghost use Rattle.pgv_wire.specs.Scalars.{uuid_image};
+
+    ghost image = { uuid_image };
+
+    ghost hint = { λ _. 0 };
+
+    ghost produced = { λ _. None };
+
+    fn encode_by_ref(&self, out: &mut PgArgumentBuffer) -> Result<IsNull, CodecError> {
+        out.extend_from_slice(self.as_bytes())?;
+        Ok(IsNull::No)
+    }
+
+    fn size_hint(&self) -> usize {
+        0
+    }
+
+    fn produces(&self) -> Result<Option<PgTypeInfo>, AllocError> {
+        Ok(None)
+    }
+}
