@@ -8,6 +8,8 @@
 
 mod fill;
 mod mark;
+#[cfg(test)]
+mod tests;
 mod tokens;
 
 pub use mark::Mark;

@@ -1,13 +1,13 @@
 -- The relations are reflexive and symmetric, and not transitive.
-use Rattle.std.proofs.Common.{◌≡◌, ℕ, ◌+◌, ◌<◌, ◌==◌, ◌&&◌, ◌||◌, Bool, true, false, cond, Option, Some, None, List, [], ◌∷◌, codes, ap, ◌∙◌, sym, refl, arith, option_map}
+use Rattle.std.proofs.Common.{◌≡◌, ℕ, ◌<◌, ◌==◌, ◌&&◌, ◌||◌, Bool, true, false, cond, Option, Some, None, List, [], codes, ap, ◌∙◌, sym, refl, arith, option_map}
 use Rattle.std.proofs.lemmas.Bool.{false≢true}
 use Rattle.std.proofs.lemmas.Cmp.{nat_eq_equiv}
 use Rattle.pgv_types.specs.Agree.{agree}
 use Rattle.pgv_types.proofs.Tells.{agree-refl, agree-sym}
 use Rattle.pgv_types.specs.Ty.{Ty, builtin, custom, named, by_oid, simple, domain}
 use Rattle.pgv_types.specs.Facts.{base_oid, name_of, element_of, type_size}
-use Rattle.pgv_types.specs.Relations.{Level, level, Levels, last, over, levels, related, decide, known_or, common_base, is_by_oid, softly, exactly, by_rules, elements_or}
-use Rattle.pgv_types.proofs.Related.{related_is, rest_at}
+use Rattle.pgv_types.specs.Relations.{Level, level, Levels, last, over, levels, related, decide, known_or, common_base, softly, exactly, by_rules, elements_or}
+use Rattle.pgv_types.proofs.Related.{related_is, rest_at, by_bases}
 
 -- ---- the rules
 
@@ -59,8 +59,8 @@ or_sym false false = refl
 decide_sym : (soft : Bool) (a b : Level) (r s : Bool) → r ≡ s → decide soft a b r ≡ decide soft b a s
 decide_sym soft a b r s e =
     ap (decide soft a b) e
-        ∙ ap (λ m. known_or m (cond (soft && (a.by_oid || b.by_oid)) true s)) (base_sym a.base b.base)
-        ∙ ap (λ t. known_or (common_base b.base a.base) (cond (soft && t) true s)) (or_sym a.by_oid b.by_oid)
+    ∙ ap (λ m. known_or m (cond (soft && (a.by_oid || b.by_oid)) true s)) (base_sym a.base b.base)
+    ∙ ap (λ t. known_or (common_base b.base a.base) (cond (soft && t) true s)) (or_sym a.by_oid b.by_oid)
 
 related_sym : (soft : Bool) (x y : Levels) → related soft x y ≡ related soft y x
 related_sym soft (last a) (last b) = decide_sym soft a b (agree a.name b.name) (agree b.name a.name) (agree-sym a.name b.name)
@@ -92,9 +92,15 @@ exactly-breaks h = false≢true (h (builtin 23) (named int4) (custom 99 int4 sim
 pub by_oid-soft : (o : ℕ) (t : Ty) → base_oid t ≡ None → softly (by_oid o) t ≡ true
 by_oid-soft o t e =
     related_is true (by_oid o) t
-        ∙ ap (λ m. known_or (common_base (Some o) m) true) e
+    ∙ ap (λ m. known_or (common_base (Some o) m) true) e
 
 -- ---- sizes
 
 pub domain-size : (o : ℕ) (name : List ℕ) (t : Ty) → type_size t < type_size (custom o name (domain t))
 domain-size o name t = omega arith
+
+-- ---- two base OIDs decide
+
+pub bases_decide : (soft : Bool) (a b : Ty) (x y : ℕ) → base_oid a ≡ Some x → base_oid b ≡ Some y → related soft (levels a) (levels b) ≡ (x == y)
+bases_decide soft a b x y p q =
+    sym (by_bases soft a b (x == y) (ap (λ m. common_base m (base_oid b)) p ∙ ap (common_base (Some x)) q))

@@ -6,6 +6,10 @@ pub mod Walks
 pub mod Tells
 pub mod Found
 pub mod Elements
+pub mod KindParts
 pub mod Related
 pub mod Rows
+pub mod Copies
+pub mod Arrays
+pub mod Fits
 pub mod Lawful

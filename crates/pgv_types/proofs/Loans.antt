@@ -1,5 +1,5 @@
 -- Ghost steps of bytes that lie in the program for ever. Assumes `Logic`.
-use Rattle.std.proofs.Common.{List, [], ◌∷◌, ℕ}
+use Rattle.std.proofs.Common.{List, [], ℕ}
 use seplogic.Ra.Ura.{Ura}
 use base.Logic.{ent, sep}
 use types.Logic.{Logic, sem}

@@ -1,5 +1,5 @@
 -- The relations, rule by rule.
-use Rattle.std.proofs.Common.{◌≡◌, ℕ, ◌==◌, ◌&&◌, ◌||◌, Bool, true, false, cond, Option, Some, None, List, [], ◌∷◌, ap, ◌∙◌, sym, refl, subst, option_map}
+use Rattle.std.proofs.Common.{◌≡◌, ℕ, ◌==◌, ◌&&◌, ◌||◌, Bool, true, false, cond, Option, Some, None, List, [], ◌∷◌, ap, ◌∙◌, sym, refl, option_map}
 use Rattle.pgv_types.specs.Agree.{agree}
 use Rattle.pgv_types.specs.Ty.{Ty, builtin, custom, named, by_oid, array_of, Kind, simple, pseudo, domain, composite, array, enumeration, range}
 use Rattle.pgv_types.specs.Facts.{base_oid, name_of, element_oid, element_of, element_in}
@@ -51,8 +51,8 @@ related_at soft a b (Some x) (Some y) = refl
 pub related_is : (soft : Bool) (a b : Ty) → related soft (levels a) (levels b) ≡ decide soft (level a) (level b) (rest_at soft (level a) (level b) (option_map levels (element_of a)) (option_map levels (element_of b)))
 related_is soft a b =
     ap (λ x. related soft x (levels b)) (levels_of a)
-        ∙ ap (λ x. related soft (on_top (level a) (option_map levels (element_of a))) x) (levels_of b)
-        ∙ related_at soft (level a) (level b) (option_map levels (element_of a)) (option_map levels (element_of b))
+    ∙ ap (λ x. related soft (on_top (level a) (option_map levels (element_of a))) x) (levels_of b)
+    ∙ related_at soft (level a) (level b) (option_map levels (element_of a)) (option_map levels (element_of b))
 
 module _ (soft : Bool) (a b : Ty) where
   abbrev the_rest : Bool
@@ -83,11 +83,11 @@ module _ (soft : Bool) (a b : Ty) where
   pub by_names_second : common_base (base_oid a) (base_oid b) ≡ None → is_open ≡ false → element_of b ≡ None → agree (name_of a) (name_of b) ≡ related soft (levels a) (levels b)
   by_names_second e h p =
       either_way (option_map levels (element_of a))
-          ∙ ap (λ m. rest_at soft (level a) (level b) (option_map levels (element_of a)) (option_map levels m)) (sym p)
-          ∙ past_open e h
+      ∙ ap (λ m. rest_at soft (level a) (level b) (option_map levels (element_of a)) (option_map levels m)) (sym p)
+      ∙ past_open e h
 
   pub by_elements : (x y : Ty) → common_base (base_oid a) (base_oid b) ≡ None → is_open ≡ false → element_of a ≡ Some x → element_of b ≡ Some y → related soft (levels x) (levels y) ≡ related soft (levels a) (levels b)
   by_elements x y e h p q =
       ap (λ m. rest_at soft (level a) (level b) (option_map levels m) (Some (levels y))) (sym p)
-          ∙ ap (λ m. rest_at soft (level a) (level b) (option_map levels (element_of a)) (option_map levels m)) (sym q)
-          ∙ past_open e h
+      ∙ ap (λ m. rest_at soft (level a) (level b) (option_map levels (element_of a)) (option_map levels m)) (sym q)
+      ∙ past_open e h

@@ -1,7 +1,6 @@
 -- Names with brackets behind them, or none.
-use Rattle.std.proofs.Common.{◌≡◌, ℕ, Bool, true, false, Option, Some, None, List, [], ◌∷◌, ◌++◌, length, take, ap, ◌∙◌, sym, refl, arith, codes, cond}
-use Rattle.std.proofs.lemmas.Bool.{false≢true}
-use Rattle.std.specs.Prelude.{Decides, MatchOption}
+use Rattle.std.proofs.Common.{◌≡◌, ℕ, Bool, true, false, List, [], ◌∷◌, ◌++◌, ap, ◌∙◌, sym, refl, arith, codes}
+use Rattle.std.specs.Prelude.{Decides}
 use Rattle.std.specs.Str.{chars, bytes_eq, IsUtf8}
 use Rattle.std.proofs.lemmas.Str.{chars-append}
 use Rattle.std.proofs.lemmas.List.{append_cancel_right}
@@ -16,8 +15,8 @@ letters_append text brackets u = chars-append text (suffix_of brackets) u
 pub same_before : (text front rest : List ℕ) → text ≡ rest ++ codes "[]" → bytes_eq rest front ≡ bytes_eq text (front ++ codes "[]")
 same_before text front rest e =
     same_from_decides (bytes_eq rest front) (bytes_eq text (front ++ codes "[]"))
-        (Decides-like (bytes_eq rest front) (λ (q : rest ≡ front). e ∙ ap (λ l. l ++ codes "[]") q) (λ (q : text ≡ front ++ codes "[]"). append_cancel_right rest front (codes "[]") (sym e ∙ q)) (bytes_eq-Decides rest front))
-        (bytes_eq-Decides text (front ++ codes "[]"))
+    (Decides-like (bytes_eq rest front) (λ (q : rest ≡ front). e ∙ ap (λ l. l ++ codes "[]") q) (λ (q : text ≡ front ++ codes "[]"). append_cancel_right rest front (codes "[]") (sym e ∙ q)) (bytes_eq-Decides rest front))
+    (bytes_eq-Decides text (front ++ codes "[]"))
 
 never_same : (text front : List ℕ) (t : Bool) → ((whole : List ℕ) → text ≡ whole ++ codes "[]" → ⊥) → Decides t (text ≡ front ++ codes "[]") → false ≡ t
 never_same text front true n d = absurd (n front (d.0 refl))
@@ -63,4 +62,4 @@ begins_whole r text brackets d =
 pub same_behind : (a b s : List ℕ) → bytes_eq a b ≡ bytes_eq (a ++ s) (b ++ s)
 same_behind a b s =
     same_from_decides (bytes_eq a b) (bytes_eq (a ++ s) (b ++ s)) (bytes_eq-Decides a b)
-        (Decides-like (bytes_eq (a ++ s) (b ++ s)) (λ (q : a ++ s ≡ b ++ s). append_cancel_right a b s q) (λ (q : a ≡ b). ap (λ l. l ++ s) q) (bytes_eq-Decides (a ++ s) (b ++ s)))
+    (Decides-like (bytes_eq (a ++ s) (b ++ s)) (λ (q : a ++ s ≡ b ++ s). append_cancel_right a b s q) (λ (q : a ≡ b). ap (λ l. l ++ s) q) (bytes_eq-Decides (a ++ s) (b ++ s)))

@@ -6,7 +6,7 @@ use Rattle.std.specs.Char.{to_ascii_lowercase}
 use Rattle.std.specs.Str.{chars, bytes_eq}
 use Rattle.std.proofs.lemmas.Slice.Eq.{bytes_eq-Decides}
 use Rattle.std.proofs.lemmas.Bool.Decides.{same_from_decides, Decides-at, Decides-like, Decides-and, Decides-or, Decides-eqb}
-use Rattle.pgv_types.specs.Names.{Significant, AreAlike, AllAlike, alike, all_alike, walk, AreSignificant}
+use Rattle.pgv_types.specs.Names.{Significant, AreAlike, AllAlike, alike, all_alike}
 use Rattle.pgv_types.specs.Agree.{Agree, agree, BeginsUnicode, begins_unicode, significant}
 use Rattle.pgv_types.proofs.Walks.{walk_gives, only_walk}
 
@@ -18,7 +18,7 @@ insensitive false false e d = (λ q. (refl, refl, d.0 q), λ h. d.1 h.2)
 pub alike_tells : (a b : Significant) → Decides (alike a b) (AreAlike a b)
 alike_tells a b =
     Decides-or (a.char == b.char) (not a.sensitive && not b.sensitive && (to_ascii_lowercase a.char == to_ascii_lowercase b.char)) (Decides-eqb a.char b.char)
-        (insensitive a.sensitive b.sensitive (to_ascii_lowercase a.char == to_ascii_lowercase b.char) (Decides-eqb (to_ascii_lowercase a.char) (to_ascii_lowercase b.char)))
+    (insensitive a.sensitive b.sensitive (to_ascii_lowercase a.char == to_ascii_lowercase b.char) (Decides-eqb (to_ascii_lowercase a.char) (to_ascii_lowercase b.char)))
 
 pub all_tells : (xs ys : List Significant) → Decides (all_alike xs ys) (AllAlike xs ys)
 all_tells [] [] = (λ q. tt, λ h. refl)
@@ -45,9 +45,9 @@ begins_tells [] = (λ q. absurd (false≢true q), λ h. absurd (too_short [] (om
 begins_tells (c ∷ []) = (λ q. absurd (false≢true q), λ h. absurd (too_short (c ∷ []) (omega arith) h))
 begins_tells (c ∷ d ∷ cs) =
     Decides-like ((c == 85) && (d == 38))
-        (λ (h : (c ≡ 85) × (d ≡ 38)). (cs, ap (λ x. x ∷ d ∷ cs) h.0 ∙ ap (λ x. 85 ∷ x ∷ cs) h.1))
-        (λ (h : BeginsUnicode (c ∷ d ∷ cs)). (ap first_of h.1, ap second_of h.1))
-        (Decides-and (c == 85) (d == 38) (Decides-eqb c 85) (Decides-eqb d 38))
+    (λ (h : (c ≡ 85) × (d ≡ 38)). (cs, ap (λ x. x ∷ d ∷ cs) h.0 ∙ ap (λ x. 85 ∷ x ∷ cs) h.1))
+    (λ (h : BeginsUnicode (c ∷ d ∷ cs)). (ap first_of h.1, ap second_of h.1))
+    (Decides-and (c == 85) (d == 38) (Decides-eqb c 85) (Decides-eqb d 38))
 
 -- ---- whole names
 
@@ -59,12 +59,12 @@ agree_at a b true d =
     Decides-like (bytes_eq a b) (λ (e : a ≡ b). inl (d.0 refl, e)) (λ (h : Agree a b). elim h [ inl x ↦ x.1 | inr x ↦ absurd (x.0 (d.0 refl)) ]) (bytes_eq-Decides a b)
 agree_at a b false d =
     Decides-like (all_alike (significant a) (significant b))
-        (λ (h : AllAlike (significant a) (significant b)). inr (λ u. false≢true (d.1 u), (significant a, significant b, walk_gives (chars a), walk_gives (chars b), h)))
-        (λ (h : Agree a b). elim h [
-          | inl x ↦ absurd (false≢true (d.1 x.0))
-          | inr x ↦ let w = x.1 in along w.0 w.1 (significant a) (significant b) (only_walk (chars a) w.0 w.2) (only_walk (chars b) w.1 w.3) w.4
-        ])
-        (all_tells (significant a) (significant b))
+    (λ (h : AllAlike (significant a) (significant b)). inr (λ u. false≢true (d.1 u), (significant a, significant b, walk_gives (chars a), walk_gives (chars b), h)))
+    (λ (h : Agree a b). elim h [
+      | inl x ↦ absurd (false≢true (d.1 x.0))
+      | inr x ↦ let w = x.1 in along w.0 w.1 (significant a) (significant b) (only_walk (chars a) w.0 w.2) (only_walk (chars b) w.1 w.3) w.4
+    ])
+    (all_tells (significant a) (significant b))
 
 pub agree_tells : (a b : List ℕ) → Decides (agree a b) (Agree a b)
 agree_tells a b = agree_at a b (begins_unicode a || begins_unicode b) (Decides-or (begins_unicode a) (begins_unicode b) (begins_tells a) (begins_tells b))

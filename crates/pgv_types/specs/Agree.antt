@@ -1,5 +1,6 @@
--- When two names agree.
-use Rattle.std.specs.Prelude.{◌≡◌, ◌⊎◌, ℕ, ◌==◌, ◌&&◌, ◌||◌, Bool, true, false, cond, List, [], ◌∷◌}
+-- When two names agree: as identifiers do, which are folded to lower case outside quotes and kept inside
+-- (PostgreSQL, "Lexical Structure", "Identifiers and Key Words").
+use Rattle.std.specs.Prelude.{◌≡◌, ◌⊎◌, ℕ, ◌==◌, ◌&&◌, ◌||◌, Bool, false, cond, List, [], ◌∷◌}
 use Rattle.std.specs.Str.{chars, bytes_eq}
 use Rattle.pgv_types.specs.declared.name.IdentifierChar.{IdentifierChar}
 use Rattle.pgv_types.specs.Names.{Significant, AllAlike, AreSignificant, all_alike, walk}

@@ -1,5 +1,6 @@
--- Facts of types, by cases.
-use Rattle.std.specs.Prelude.{ℕ, ◌+◌, ◌==◌, ◌||◌, Bool, true, false, cond, Option, Some, None, List, [], ◌∷◌, ◌++◌, codes, option_map}
+-- Facts of types, by cases: OIDs, elements, kinds, names and sizes (PostgreSQL, "System Catalogs", "pg_type";
+-- "CREATE TYPE" on the _ before the name of an array).
+use Rattle.std.specs.Prelude.{◌≡◌, ℕ, ◌+◌, ◌^◌, ◌==◌, ◌||◌, ltb, Bool, true, false, cond, Option, Some, None, List, [], ◌∷◌, ◌++◌, codes, option_map}
 use Rattle.pgv_types.specs.Suffix.{suffix_of}
 use Rattle.pgv_types.specs.Ty.{Ty, builtin, custom, named, by_oid, array_of, Kind, simple, pseudo, domain, composite, array, enumeration, range, Fields, no_fields, field}
 use Rattle.pgv_types.specs.Table.{Entry, RowKind, a_simple, a_pseudo, range_of, entry_of}
@@ -32,6 +33,14 @@ base_oid (custom o n k) = base_under o k
 base_oid (named n) = None
 base_oid (by_oid o) = Some o
 base_oid (array_of n) = None
+
+-- The OID, where there is one, fits in four bytes.
+abbrev pub fits_oid : Option ℕ → Bool
+fits_oid None = true
+fits_oid (Some o) = ltb o (2 ^ 32)
+
+abbrev pub HasOid32 : Ty → Type 0
+HasOid32 t = fits_oid (oid_of t) ≡ true
 
 -- ---- elements
 
@@ -70,7 +79,7 @@ element_built_in (named n) = None
 element_built_in (by_oid o) = None
 element_built_in (array_of n) = None
 
--- ---- kinds
+-- ---- kinds (pg_type, column typtype)
 
 abbrev pub row_kind : RowKind → Kind
 row_kind a_simple = simple
@@ -81,12 +90,52 @@ abbrev pub kind_or_array : RowKind → Option ℕ → Kind
 kind_or_array k None = row_kind k
 kind_or_array k (Some o) = array (builtin o)
 
+-- a number that no row has counts as simple: no type that runs has it
+abbrev pub entry_kind : Option Entry → RowKind
+entry_kind None = a_simple
+entry_kind (Some e) = e.kind
+
+abbrev pub built_in_kind : ℕ → Kind
+built_in_kind o = kind_or_array (entry_kind (entry_of o)) (element_oid o)
+
 abbrev pub kind_at : Ty → Option Kind
-kind_at (builtin o) = option_map (λ (e : Entry). kind_or_array e.kind e.element) (entry_of o)
+kind_at (builtin o) = Some (built_in_kind o)
 kind_at (custom o n k) = Some k
 kind_at (named n) = None
 kind_at (by_oid o) = None
 kind_at (array_of n) = None
+
+-- the same parts for a built-in type alone
+abbrev pub kind_when_built_in : Ty → Kind
+kind_when_built_in (builtin o) = built_in_kind o
+kind_when_built_in (custom o n k) = simple
+kind_when_built_in (named n) = simple
+kind_when_built_in (by_oid o) = simple
+kind_when_built_in (array_of n) = simple
+
+abbrev pub range_oid : RowKind → Option ℕ
+range_oid a_simple = None
+range_oid a_pseudo = None
+range_oid (range_of o) = Some o
+
+abbrev pub range_built_in : Ty → Option Ty
+range_built_in (builtin o) = option_map builtin (range_oid (entry_kind (entry_of o)))
+range_built_in (custom o n k) = None
+range_built_in (named n) = None
+range_built_in (by_oid o) = None
+range_built_in (array_of n) = None
+
+abbrev pub is_pseudo_row : RowKind → Bool
+is_pseudo_row a_simple = false
+is_pseudo_row a_pseudo = true
+is_pseudo_row (range_of o) = false
+
+abbrev pub is_pseudo : Ty → Bool
+is_pseudo (builtin o) = is_pseudo_row (entry_kind (entry_of o))
+is_pseudo (custom o n k) = false
+is_pseudo (named n) = false
+is_pseudo (by_oid o) = false
+is_pseudo (array_of n) = false
 
 abbrev pub is_void : Ty → Bool
 is_void (builtin o) = o == 2278
@@ -94,6 +143,16 @@ is_void (custom o n k) = false
 is_void (named n) = false
 is_void (by_oid o) = false
 is_void (array_of n) = false
+
+abbrev pub is_custom : Ty → Bool
+is_custom (builtin o) = false
+is_custom (custom o n k) = true
+is_custom (named n) = false
+is_custom (by_oid o) = false
+is_custom (array_of n) = false
+
+abbrev pub IsNotCustom : Ty → Type 0
+IsNotCustom t = is_custom t ≡ false
 
 -- ---- names: a text and a suffix
 

@@ -1,4 +1,4 @@
--- What is still to come.
+-- The significant characters of a name that an iterator has still to give.
 use Rattle.std.specs.Prelude.{ℕ, List, ◌++◌}
 use Rattle.std.specs.Str.{chars}
 use Rattle.pgv_types.specs.declared.characters.Letters.{Letters}

@@ -1,4 +1,4 @@
--- What contracts see of types and kinds that are lent out.
+-- The trees that types and kinds stand for that are lent out.
 use Rattle.std.specs.Prelude.{map}
 use Rattle.std.specs.Rc.{rc_str_bytes}
 use Rattle.pgv_types.specs.Ty.{Ty, Kind, simple, pseudo, domain, composite, array, enumeration, range}
@@ -12,11 +12,11 @@ abbrev pub ref_type : PgTypeRef → Ty
 ref_type (Owned t) = t
 ref_type (Borrowed t) = t.now
 
-abbrev pub kind_seen : PgTypeKindRef → Kind
-kind_seen Simple = simple
-kind_seen Pseudo = pseudo
-kind_seen (Domain t) = domain (ref_type t)
-kind_seen (Composite fs) = composite (fields_of fs.now)
-kind_seen (Array t) = array (ref_type t)
-kind_seen (Enum labels) = enumeration (map rc_str_bytes labels.now)
-kind_seen (Range t) = range (ref_type t)
+abbrev pub kind_lent : PgTypeKindRef → Kind
+kind_lent Simple = simple
+kind_lent Pseudo = pseudo
+kind_lent (Domain t) = domain (ref_type t)
+kind_lent (Composite fs) = composite (fields_of fs.now)
+kind_lent (Array t) = array (ref_type t)
+kind_lent (Enum labels) = enumeration (map rc_str_bytes labels.now)
+kind_lent (Range t) = range (ref_type t)

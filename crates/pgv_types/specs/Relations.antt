@@ -1,4 +1,5 @@
--- When two types are softly or exactly the same.
+-- When two types are softly or exactly the same: by their OIDs, by a domain's base (PostgreSQL, "Domain Types"),
+-- by their elements, and last by their names.
 use Rattle.std.specs.Prelude.{ℕ, ◌==◌, ◌&&◌, ◌||◌, Bool, true, false, cond, Option, Some, None, List, [], ◌∷◌}
 use Rattle.pgv_types.specs.Agree.{agree}
 use Rattle.pgv_types.specs.Ty.{Ty, builtin, custom, named, by_oid, array_of, Kind, simple, pseudo, domain, composite, array, enumeration, range}

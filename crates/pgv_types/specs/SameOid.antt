@@ -1,7 +1,7 @@
--- Custom types are equal where their OIDs are.
+-- Custom types are equal where their OIDs are (PostgreSQL, "Object Identifier Types").
 use Rattle.std.specs.Prelude.{Bool, ◌==◌}
 use Rattle.std.proofs.lemmas.Cmp.{nat_eq_equiv}
-use Rattle.std.specs.Cmp.{IsPartialEquivalence, IsEquivalence, on_per, on_equiv, partial_equiv_from_equiv}
+use Rattle.std.specs.Cmp.{IsPartialEquivalence, IsEquivalence, on_equiv, partial_equiv_from_equiv}
 use Rattle.pgv_types.specs.declared.custom.PgCustomType.{PgCustomType}
 
 abbrev pub same_oid : PgCustomType → PgCustomType → Bool

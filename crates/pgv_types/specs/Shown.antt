@@ -1,9 +1,10 @@
--- What contracts see of a type: a tree, with no places in memory.
-use Rattle.std.specs.Prelude.{ℕ, List, [], ◌∷◌, map}
+-- The tree that a running type stands for.
+use Rattle.std.specs.Prelude.{◌≡◌, ℕ, List, [], ◌∷◌, map}
 use Rattle.std.specs.Rc.{rc_str_bytes, rc_slice_items}
 use Rattle.std.specs.declared.rc.RcStr.{RcStr}
 use Rattle.std.specs.declared.alloc.Global.{Global}
 use Rattle.pgv_types.specs.Ty.{Ty, builtin, custom, named, by_oid, array_of, Kind, simple, pseudo, domain, composite, array, enumeration, range, Fields, no_fields, field}
+use Rattle.pgv_types.specs.declared.custom.PgCustomType.{PgCustomType}
 use Rattle.pgv_types.specs.declared.custom.PgArrayOf.{PgArrayOf}
 use Rattle.pgv_types.specs.declared.type_info.PgTypeInfo.TheInside.{Inside}
 use Rattle.pgv_types.specs.declared.type_info.PgType.{PgType}
@@ -23,6 +24,19 @@ kind_of (Composite fs) = composite (fields_of fs.items)
 kind_of (Array t) = array t
 kind_of (Enum labels) = enumeration (map rc_str_bytes (rc_slice_items labels))
 kind_of (Range t) = range t
+
+-- what the server told of a custom type
+abbrev pub custom_oid : PgCustomType → ℕ
+custom_oid c = c.oid.0
+
+abbrev pub custom_name : PgCustomType → List ℕ
+custom_name c = rc_str_bytes c.name
+
+abbrev pub custom_kind : PgCustomType → Kind
+custom_kind c = kind_of c.kind
+
+abbrev pub IsSameCustom : PgCustomType → PgCustomType → Type 0
+IsSameCustom c copy = (custom_oid copy ≡ custom_oid c) × (custom_name copy ≡ custom_name c) × (custom_kind copy ≡ custom_kind c)
 
 abbrev pub element_name_of : PgArrayOf → List ℕ
 element_name_of a = a.elem_name
@@ -120,7 +134,7 @@ type_of Int8Range = builtin 3926
 type_of Int8RangeArray = builtin 3927
 type_of Jsonpath = builtin 4072
 type_of JsonpathArray = builtin 4073
-type_of (Custom c) = custom c.value.oid.0 (rc_str_bytes c.value.name) (kind_of c.value.kind)
+type_of (Custom c) = custom (custom_oid c.value) (custom_name c.value) (custom_kind c.value)
 type_of (DeclareWithName n) = named n
 type_of (DeclareWithOid o) = by_oid o.0
 type_of (DeclareArrayOf a) = array_of (element_name_of a)

@@ -1,6 +1,7 @@
-//! The table of the built-in types: their OIDs, names and elements.
+//! The table of the built-in types: their OIDs, elements, ranges and names, as the server's own
+//! catalogue has them from its start (PostgreSQL, "pg_type").
 ghost use Rattle.std.specs.Prelude.{◌≡◌, option_map};
-ghost use Rattle.pgv_types.specs.Facts.{oid_of, element_built_in, name_text_of, display_text_of, built_in};
+ghost use Rattle.pgv_types.specs.Facts.{oid_of, element_built_in, range_built_in, is_pseudo, name_text_of, display_text_of, built_in};
 ghost use Rattle.pgv_types.specs.Shown.{type_of};
 
 use crate::{Oid, PgType};
@@ -264,6 +265,28 @@ impl PgType {
             PgType::JsonpathArray => Some(PgType::Jsonpath),
             _ => None,
         }
+    }
+
+    /// The element of a built-in range.
+    pub(crate) fn built_in_range(&self) -> Option<PgType>
+        ensures { option_map type_of result ≡ range_built_in (type_of self.now) }
+    {
+        match self {
+            PgType::Int4Range => Some(PgType::Int4),
+            PgType::NumRange => Some(PgType::Numeric),
+            PgType::TsRange => Some(PgType::Timestamp),
+            PgType::TstzRange => Some(PgType::Timestamptz),
+            PgType::DateRange => Some(PgType::Date),
+            PgType::Int8Range => Some(PgType::Int8),
+            _ => None,
+        }
+    }
+
+    /// Whether it is the one pseudo-type of the table.
+    pub(crate) fn is_pseudo(&self) -> bool
+        ensures { result ≡ is_pseudo (type_of self.now) }
+    {
+        matches!(self, PgType::Void)
     }
 
     /// The catalogue name before its suffix.

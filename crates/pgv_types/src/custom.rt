@@ -1,13 +1,13 @@
 //! Types that the server told of, and arrays that are declared by their element's name.
 ghost use Rattle.std.specs.Prelude.{◌≡◌};
-ghost use Rattle.std.specs.Rc.{rc_str_bytes};
-ghost use Rattle.pgv_types.specs.Shown.{kind_of, element_name_of};
-ghost use Rattle.pgv_types.specs.Parts.{kind_seen};
+ghost use Rattle.pgv_types.specs.Shown.{custom_oid, custom_name, custom_kind, element_name_of};
+ghost use Rattle.pgv_types.specs.Parts.{kind_lent};
 
-use crate::{Oid, PgTypeKind, PgTypeKindRef, PgTypeRef, StaticText};
+use crate::{Oid, PgTypeKind, PgTypeKindRef, StaticText};
+use std::alloc::AllocError;
 use std::rc::RcStr;
 
-/// A type that the server told of.
+/// A type that the server told of, as its catalogue has it (PostgreSQL, "pg_type").
 #[derive(Drop)]
 #[cycle(types)]
 pub struct PgCustomType {
@@ -17,37 +17,29 @@ pub struct PgCustomType {
 }
 
 impl PgCustomType {
-    /// The type's own OID.
+    /// The type's own OID, of a domain too.
     pub fn oid(&self) -> Oid
-        ensures { result ≡ self.now.oid }
+        ensures { result.0 ≡ custom_oid self.now }
     {
         self.oid
     }
 
-    /// The name.
+    /// The name, as it stands in the catalogue.
     pub fn name(&self) -> &str
-        ensures { result.now ≡ rc_str_bytes self.now.name }
+        ensures { result.now ≡ custom_name self.now }
     {
         self.name.as_str()
     }
 
-    /// The kind.
+    /// The kind, with its parts lent.
     pub fn kind(&self) -> PgTypeKindRef<'_>
-        ensures { kind_seen result ≡ kind_of self.now.kind }
+        ensures { kind_lent result ≡ custom_kind self.now }
     {
-        match &self.kind {
-            PgTypeKind::Simple => PgTypeKindRef::Simple,
-            PgTypeKind::Pseudo => PgTypeKindRef::Pseudo,
-            PgTypeKind::Domain(info) => PgTypeKindRef::Domain(PgTypeRef::Borrowed(info)),
-            PgTypeKind::Composite(fields) => PgTypeKindRef::Composite(fields.as_slice()),
-            PgTypeKind::Array(info) => PgTypeKindRef::Array(PgTypeRef::Borrowed(info)),
-            PgTypeKind::Enum(labels) => PgTypeKindRef::Enum(labels.as_slice()),
-            PgTypeKind::Range(info) => PgTypeKindRef::Range(PgTypeRef::Borrowed(info)),
-        }
+        self.kind.lend()
     }
 }
 
-/// Custom types are equal where their OIDs are.
+/// Custom types are equal where their OIDs are, whatever their names and kinds.
 impl PartialEq for PgCustomType {
     ghost use Rattle.pgv_types.specs.SameOid.{same_oid, same_oid_per};
 
@@ -57,6 +49,27 @@ impl PartialEq for PgCustomType {
 
     fn eq(&self, other: &PgCustomType) -> bool {
         self.oid == other.oid
+    }
+}
+
+impl Eq for PgCustomType {
+    ghost use Rattle.pgv_types.specs.SameOid.{same_oid_equiv};
+
+    ghost laws = { same_oid_equiv };
+}
+
+/// A copy has the same OID, name and kind.
+impl Clone for PgCustomType {
+    ghost use Rattle.pgv_types.specs.Shown.{IsSameCustom};
+
+    ghost is_clone = { IsSameCustom };
+
+    fn clone(&self) -> Result<PgCustomType, AllocError> {
+        Ok(PgCustomType {
+            oid: self.oid,
+            name: self.name.clone()?,
+            kind: self.kind.clone()?,
+        })
     }
 }
 
@@ -70,19 +83,31 @@ impl PgArrayOf {
     pub(crate) fn new(elem_name: &'static str) -> PgArrayOf
         ensures { element_name_of result ≡ elem_name.now }
     {
-        PgArrayOf { elem_name: StaticText::new(elem_name) }
+        PgArrayOf {
+            elem_name: StaticText::new(elem_name),
+        }
     }
 
-    pub(crate) fn duplicate(&self) -> PgArrayOf
-        ensures { element_name_of result ≡ element_name_of self.now }
-    {
-        PgArrayOf::new(self.elem_name())
-    }
-
-    /// The element's name.
+    /// The element's name, as it was declared.
     pub fn elem_name(&self) -> &'static str
         ensures { result.now ≡ element_name_of self.now }
     {
         self.elem_name.as_str()
+    }
+}
+
+/// A copy has the same element's name. It takes no memory.
+impl Clone for PgArrayOf {
+    ghost use Rattle.std.specs.Prelude.{◌≡◌};
+    ghost use Rattle.pgv_types.specs.Shown.{element_name_of};
+
+    ghost is_clone = { λ a copy. element_name_of copy ≡ element_name_of a };
+
+    ghost use Rattle.std.specs.Prelude.{⊤};
+
+    ghost is_infallible = { λ _. ⊤ };
+
+    fn clone(&self) -> Result<PgArrayOf, AllocError> {
+        Ok(PgArrayOf::new(self.elem_name()))
     }
 }

@@ -1,27 +1,75 @@
 //! What kind of type a type is.
 ghost use Rattle.std.specs.Prelude.{◌≡◌};
-ghost use Rattle.pgv_types.specs.Parts.{ref_type};
+ghost use Rattle.pgv_types.specs.Parts.{ref_type, kind_lent};
+ghost use Rattle.pgv_types.specs.Shown.{kind_of};
 
 use crate::PgTypeInfo;
+use std::alloc::AllocError;
 use std::rc::{RcSlice, RcStr};
 
-/// What kind of type it is.
+/// What kind of type it is (PostgreSQL, "pg_type", column `typtype`).
 #[derive(Drop)]
 #[cycle(types)]
 pub enum PgTypeKind {
+    /// A base type.
     Simple,
+    /// A pseudo-type, which no column has.
     Pseudo,
+    /// A domain, over the type that is given.
     Domain(PgTypeInfo),
+    /// A composite type, with the names and types of its fields in order.
     Composite(Vec<(RcStr, PgTypeInfo)>),
+    /// An array of the element that is given.
     Array(PgTypeInfo),
+    /// An enumeration, with its labels in order.
     Enum(RcSlice<RcStr>),
+    /// A range over the type that is given.
     Range(PgTypeInfo),
 }
 
-/// A type that is made here, or one that is part of another.
+impl PgTypeKind {
+    /// The kind, with its parts lent.
+    pub(crate) fn lend(&self) -> PgTypeKindRef<'_>
+        ensures { kind_lent result ≡ kind_of self.now }
+    {
+        match self {
+            PgTypeKind::Simple => PgTypeKindRef::Simple,
+            PgTypeKind::Pseudo => PgTypeKindRef::Pseudo,
+            PgTypeKind::Domain(info) => PgTypeKindRef::Domain(PgTypeRef::Borrowed(info)),
+            PgTypeKind::Composite(fields) => PgTypeKindRef::Composite(fields.as_slice()),
+            PgTypeKind::Array(info) => PgTypeKindRef::Array(PgTypeRef::Borrowed(info)),
+            PgTypeKind::Enum(labels) => PgTypeKindRef::Enum(labels.as_slice()),
+            PgTypeKind::Range(info) => PgTypeKindRef::Range(PgTypeRef::Borrowed(info)),
+        }
+    }
+}
+
+/// A copy is of the same kind. It asks for memory for the list of a composite type's fields.
+impl Clone for PgTypeKind {
+    ghost use Rattle.std.specs.Prelude.{◌≡◌};
+    ghost use Rattle.pgv_types.specs.Shown.{kind_of};
+
+    ghost is_clone = { λ k copy. kind_of copy ≡ kind_of k };
+
+    fn clone(&self) -> Result<PgTypeKind, AllocError> {
+        match self {
+            PgTypeKind::Simple => Ok(PgTypeKind::Simple),
+            PgTypeKind::Pseudo => Ok(PgTypeKind::Pseudo),
+            PgTypeKind::Domain(info) => Ok(PgTypeKind::Domain(info.clone()?)),
+            PgTypeKind::Composite(fields) => Ok(PgTypeKind::Composite(fields.clone()?)),
+            PgTypeKind::Array(info) => Ok(PgTypeKind::Array(info.clone()?)),
+            PgTypeKind::Enum(labels) => Ok(PgTypeKind::Enum(labels.clone()?)),
+            PgTypeKind::Range(info) => Ok(PgTypeKind::Range(info.clone()?)),
+        }
+    }
+}
+
+/// A type that is made here (a built-in one, or one that is declared), or one that is part of another.
 #[derive(Drop)]
 pub enum PgTypeRef<'a> {
+    /// A type of its own.
     Owned(PgTypeInfo),
+    /// A part of another type.
     Borrowed(&'a PgTypeInfo),
 }
 
@@ -37,14 +85,21 @@ impl PgTypeRef<'_> {
     }
 }
 
-/// A kind with borrowed parts.
+/// A `PgTypeKind` whose parts are lent. The parts of a built-in type are made here.
 #[derive(Drop)]
 pub enum PgTypeKindRef<'a> {
+    /// A base type.
     Simple,
+    /// A pseudo-type.
     Pseudo,
+    /// A domain, over the type that is given.
     Domain(PgTypeRef<'a>),
+    /// A composite type, with the names and types of its fields in order.
     Composite(&'a [(RcStr, PgTypeInfo)]),
+    /// An array of the element that is given.
     Array(PgTypeRef<'a>),
+    /// An enumeration, with its labels in order.
     Enum(&'a [RcStr]),
+    /// A range over the type that is given.
     Range(PgTypeRef<'a>),
 }

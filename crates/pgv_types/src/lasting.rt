@@ -21,12 +21,14 @@ impl Model for Lasting {
 }
 
 impl Lasting {
+    /// The address of the bytes, and the right to read them.
     pub(crate) fn of(bytes: &'static [u8]) -> (*const u8, Lasting)
         ensures { (result.1.ptr ≡ result.0) × (result.1.items ≡ bytes.now) }
     {
         (bytes.as_ptr(), Lasting {})
     }
 
+    /// The bytes again, from their address and their number.
     pub(crate) fn read(&self, ptr: *const u8, len: usize) -> &'static [u8]
         requires { (ptr ≡ self.now.ptr) × (len ≡ length self.now.items) }
         ensures { result.now ≡ self.now.items }

@@ -7,11 +7,12 @@ mod custom;
 mod kind;
 mod lasting;
 pub mod laws;
-
 mod name;
 mod oid;
 mod relation;
 mod static_text;
+#[cfg(test)]
+mod tests;
 mod type_info;
 
 pub use custom::{PgArrayOf, PgCustomType};

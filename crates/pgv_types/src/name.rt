@@ -1,27 +1,30 @@
-//! Names of types, and when two agree.
-
+//! Names of types, and when two agree: as identifiers do, whose quotes keep the case of what stands
+//! between them (PostgreSQL, "Lexical Structure", "Identifiers and Key Words").
 ghost use Rattle.std.specs.Prelude.{◌≡◌, ℕ, List, ◌∷◌, ◌++◌, codes, true, option_to_list, Decides};
 ghost use Rattle.std.specs.Option.{option_map};
 ghost use Rattle.std.specs.Str.{chars, is_utf8, bytes_eq};
 ghost use Rattle.std.specs.Iterator.{YieldsFirst, YieldsFirstBy, item_count};
-ghost use Rattle.pgv_types.specs.Names.{walk, alike, all_alike};
+ghost use Rattle.pgv_types.specs.Names.{AreSignificant, walk, alike, all_alike};
 ghost use Rattle.pgv_types.specs.Agree.{Agree, agree, BeginsUnicode, significant, char_seen};
 ghost use Rattle.pgv_types.specs.Suffix.{suffix_of};
 ghost use Rattle.pgv_types.specs.Left.{left};
 ghost use Rattle.pgv_types.specs.Whole.{whole, name_text, name_suffix};
 
-use std::fmt::{Display, Formatter, Result, Write};
-
 use crate::characters::Letters;
+use std::fmt::{Alignment, Display, Formatter, Result, Write};
 
 /// A significant character of a name.
 #[derive(Clone, Copy, PartialEq, Eq)]
 pub struct IdentifierChar {
+    /// The character.
     pub ch: char,
+    /// Whether it stands between quotes, where its case counts.
     pub case_sensitive: bool,
 }
 
 impl IdentifierChar {
+    /// Whether two characters are equal, or, where neither stands between quotes, equal but for
+    /// ASCII case.
     fn is_like(self, other: IdentifierChar) -> bool
         ensures { result ≡ alike (char_seen self) (char_seen other) }
     {
@@ -50,6 +53,7 @@ struct NameLetters<'a> {
 impl<'a> NameLetters<'a> {
     ghost use Rattle.pgv_types.specs.Left.{name_letters_left};
 
+    /// The characters of a text, with `[]` behind it or nothing.
     #[tactic(auto, using(crate::proofs::Same::letters_append))]
     fn new(text: &'a str, brackets: bool) -> Self
         ensures { name_letters_left result ≡ chars (text.now ++ suffix_of brackets) }
@@ -78,7 +82,10 @@ impl Iterator for NameLetters<'_> {
     }
 }
 
-/// The significant characters of a name that are still to come.
+/// The significant characters of a name, from left to right, that are still to come.
+///
+/// Two quotes next to each other are one quote character. A single quote is a switch, which isn't
+/// significant: what stands behind an odd number of switches is sensitive.
 #[derive(Drop)]
 pub struct IdentifierChars<'a> {
     letters: NameLetters<'a>,
@@ -89,6 +96,7 @@ pub struct IdentifierChars<'a> {
 impl<'a> IdentifierChars<'a> {
     ghost use Rattle.pgv_types.specs.Left.{left};
 
+    /// The significant characters of a text, with `[]` behind it or nothing.
     fn new(text: &'a str, brackets: bool) -> Self
         ensures { left result ≡ significant (text.now ++ suffix_of brackets) }
     {
@@ -140,20 +148,22 @@ impl Iterator for IdentifierChars<'_> {
     }
 }
 
-/// The significant characters of a name.
+/// The significant characters of a name, in order. It takes no memory.
 pub fn identifier_chars(name: &str) -> IdentifierChars<'_>
-    ensures { left result ≡ significant name.now }
+    ensures computed { left result ≡ significant name.now }
+    ensures meaning { AreSignificant (chars name.now) (left result) }
 {
     IdentifierChars::new(name, false)
 }
 
+/// Whether a text begins with `U&`.
 fn begins_unicode(name: &str) -> bool
     ensures { Decides result (BeginsUnicode name.now) }
 {
     matches!(name.as_bytes(), [b'U', b'&', ..])
 }
 
-/// The name of a type: a text, and `[]` behind it or nothing.
+/// The name of a type: a text, and `[]` behind it or nothing. It is printed as it is, and never padded.
 #[derive(Clone, Copy)]
 pub struct PgTypeName<'a> {
     text: &'a str,
@@ -161,9 +171,11 @@ pub struct PgTypeName<'a> {
 }
 
 impl<'a> PgTypeName<'a> {
-    /// A text, and `[]` behind it or nothing.
+    /// A text, with `[]` behind it or nothing.
     pub fn new(text: &'a str, brackets: bool) -> Self
-        ensures { whole result ≡ text.now ++ suffix_of brackets }
+        ensures whole { whole result ≡ text.now ++ suffix_of brackets }
+        ensures text { name_text result ≡ text.now }
+        ensures suffix { name_suffix result ≡ suffix_of brackets }
     {
         PgTypeName { text, brackets }
     }
@@ -189,12 +201,36 @@ impl<'a> PgTypeName<'a> {
         suffix(self.brackets)
     }
 
+    /// Writes as many characters of the name as the precision allows, padded to the width.
+    pub(crate) fn pad<W: Write>(&self, f: &mut Formatter<W>) -> Result {
+        let most = f.precision().unwrap_or(usize::MAX);
+        let len = self
+            .text
+            .chars()
+            .count()
+            .saturating_add(self.suffix().len())
+            .min(most);
+        let room = f.width().unwrap_or(0).saturating_sub(len);
+        let before = match f.align() {
+            Some(Alignment::Right) => room,
+            Some(Alignment::Center) => room / 2,
+            _ => 0,
+        };
+        fill(before, f)?;
+        for ch in NameLetters::new(self.text, self.brackets).take(len) {
+            f.write_char(ch)?;
+        }
+        fill(room - before, f)
+    }
+
+    /// Whether the name begins with `U&`.
     fn begins_unicode(&self) -> bool
         ensures { Decides result (BeginsUnicode (whole self.now)) }
     {
         begins_unicode(self.text)
     }
 
+    /// Whether two names are the same text.
     #[tactic(auto, using(crate::proofs::Same::same_behind, crate::proofs::Same::bytes_eq_sym))]
     fn is_same(&self, other: &PgTypeName<'_>) -> bool
         ensures { result ≡ bytes_eq (whole self.now) (whole other.now) }
@@ -207,7 +243,7 @@ impl<'a> PgTypeName<'a> {
         }
     }
 
-    /// Whether two names agree.
+    /// Whether two names agree, as `name_eq` says of texts. It takes no memory.
     pub fn agrees(&self, other: &PgTypeName<'_>) -> bool
         ensures { result ≡ agree (whole self.now) (whole other.now) }
     {
@@ -221,6 +257,16 @@ impl<'a> PgTypeName<'a> {
     }
 }
 
+/// Writes the formatter's fill a number of times.
+fn fill<W: Write>(count: usize, f: &mut Formatter<W>) -> Result {
+    let fill = f.fill();
+    for _ in 0..count {
+        f.write_char(fill)?;
+    }
+    Ok(())
+}
+
+/// The whole name. It is never padded.
 impl Display for PgTypeName<'_> {
     ghost use Rattle.std.specs.Prelude.{Some};
     ghost use Rattle.pgv_types.specs.Whole.{whole};
@@ -262,7 +308,9 @@ fn are_alike(first: IdentifierChars<'_>, second: IdentifierChars<'_>) -> bool
     }
 }
 
-/// Whether two names agree.
+/// Whether two names agree: where either begins with `U&`, which starts an identifier with escapes,
+/// the texts must be equal; else their significant characters must be alike, place by place. It
+/// takes no memory.
 pub fn name_eq(first: &str, second: &str) -> bool
     ensures computed { result ≡ agree first.now second.now }
     ensures meaning { Decides result (Agree first.now second.now) }

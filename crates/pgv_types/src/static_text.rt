@@ -1,11 +1,12 @@
 //! A `&'static str` in a type that names no lifetime.
 //!
-//! A buffer of arguments holds types, and is lent by `&mut` to those who write into it. A type that
-//! holds a reference could not be lent so and come back out of a `Result`: so declared names are
-//! held by their address and length, beside the right to read them for ever.
-ghost use Rattle.std.specs.Prelude.{◌≡◌, length};
+//! A buffer of arguments holds types, and is lent by `&mut` to those who write into it. A value
+//! that holds a reference can't be lent so and come back out of a `Result`. So a declared name is
+//! held by its address and its length, beside the right to read it for ever.
+ghost use Rattle.std.specs.Prelude.{◌≡◌};
 
 use crate::lasting::Lasting;
+use std::alloc::AllocError;
 use std::marker::Model;
 use std::str;
 
@@ -46,11 +47,19 @@ impl StaticText {
     {
         unsafe { str::from_utf8_unchecked(self.lasting.read(self.ptr, self.len)) }
     }
+}
 
-    /// The same text again. It takes no memory.
-    pub fn duplicate(&self) -> StaticText
-        ensures { result ≡ self.now }
-    {
-        StaticText::new(self.as_str())
+/// A copy is the same text. It takes no memory.
+impl Clone for StaticText {
+    ghost use Rattle.std.specs.Prelude.{◌≡◌};
+
+    ghost is_clone = { λ t copy. copy ≡ t };
+
+    ghost use Rattle.std.specs.Prelude.{⊤};
+
+    ghost is_infallible = { λ _. ⊤ };
+
+    fn clone(&self) -> Result<StaticText, AllocError> {
+        Ok(StaticText::new(self.as_str()))
     }
 }

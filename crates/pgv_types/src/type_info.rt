@@ -1,19 +1,24 @@
 //! Types as callers hold them.
 ghost use Rattle.std.specs.Prelude.{◌≡◌, ◌||◌, false, option_map, IfOk};
 ghost use Rattle.pgv_types.specs.Whole.{whole};
-ghost use Rattle.pgv_types.specs.Facts.{is_void, oid_of, element_of, element_built_in, name_element, kind_at, name_of, has_brackets, display_of, shows_brackets, is_a_type, built_in};
+ghost use Rattle.pgv_types.specs.Facts.{is_void, oid_of, element_of, element_built_in, name_element, kind_at, kind_when_built_in, name_of, has_brackets, display_of, shows_brackets, is_a_type, built_in};
 ghost use Rattle.pgv_types.specs.Relations.{is_by_oid};
 ghost use Rattle.pgv_types.specs.Ty.{named, array_of, by_oid, custom};
 ghost use Rattle.pgv_types.specs.Shown.{kind_of, type_of};
-ghost use Rattle.pgv_types.specs.Parts.{ref_type, kind_seen};
+ghost use Rattle.pgv_types.specs.Parts.{ref_type, kind_lent};
 
-use crate::{Oid, PgArrayOf, PgCustomType, PgTypeKind, PgTypeKindRef, PgTypeName, PgTypeRef, StaticText};
+use crate::{
+    Oid, PgArrayOf, PgCustomType, PgTypeKind, PgTypeKindRef, PgTypeName, PgTypeRef, StaticText,
+};
 use std::alloc::{AllocError, Global};
-use std::fmt::{self, Alignment, Display, Formatter};
+use std::fmt::{self, Display, Formatter};
 use std::marker::Model;
 use std::rc::{Rc, RcStr};
 
-/// A type.
+/// A type of PostgreSQL. `PgTypeInfo(PgType::Int4)` is a built-in one.
+///
+/// A clause sees it as a tree: a built-in type by its OID, a custom one by its OID, name and kind,
+/// and one that is declared by its name, OID or element's name.
 #[derive(Drop)]
 #[cycle(types)]
 pub struct PgTypeInfo(pub PgType);
@@ -38,6 +43,8 @@ impl Model for PgTypeInfo {
 }
 
 /// A built-in type, a custom one, or one that is declared.
+///
+/// The names of the built-in variants are those of PostgreSQL's catalogue.
 #[derive(Drop)]
 #[cycle(types)]
 pub enum PgType {
@@ -133,14 +140,19 @@ pub enum PgType {
     Int8RangeArray,
     Jsonpath,
     JsonpathArray,
+    /// A type that the server told of. Its copies share it.
     Custom(Rc<PgCustomType>),
+    /// A type of which only the name is known.
     DeclareWithName(StaticText),
+    /// A type of which only the OID is known.
     DeclareWithOid(Oid),
+    /// An array of which only the element's name is known.
     DeclareArrayOf(PgArrayOf),
 }
 
 impl PgType {
-    /// The element of an array.
+    /// The element of an array: a built-in array's or a custom one's, the name behind the `_` of a
+    /// declared name, or the name that an array was declared by. It takes no memory.
     pub fn array_element(&self) -> Option<PgTypeRef<'_>>
         ensures { option_map ref_type result ≡ element_of (type_of self.now) }
     {
@@ -153,36 +165,45 @@ impl PgType {
                 let element = element_name(name.as_str())?;
                 Some(PgTypeRef::Owned(PgTypeInfo::with_name(element)))
             }
-            PgType::DeclareArrayOf(of) => Some(PgTypeRef::Owned(PgTypeInfo::with_name(of.elem_name()))),
+            PgType::DeclareArrayOf(of) => Some(PgTypeRef::Owned(PgTypeInfo::with_name(
+                of.elem_name(),
+            ))),
             PgType::DeclareWithOid(_) => None,
             _ => Some(PgTypeRef::Owned(PgTypeInfo(self.built_in_element()?))),
         }
     }
 
-    /// The kind, if it is known.
+    /// The kind. `None` for a type that is only declared, of which nothing else is known.
     pub fn kind(&self) -> Option<PgTypeKindRef<'_>>
-        ensures { option_map kind_seen result ≡ kind_at (type_of self.now) }
+        ensures { option_map kind_lent result ≡ kind_at (type_of self.now) }
     {
         match self {
-            PgType::Int4Range => Some(PgTypeKindRef::Range(PgTypeRef::Owned(PgTypeInfo(PgType::Int4)))),
-            PgType::NumRange => Some(PgTypeKindRef::Range(PgTypeRef::Owned(PgTypeInfo(PgType::Numeric)))),
-            PgType::TsRange => Some(PgTypeKindRef::Range(PgTypeRef::Owned(PgTypeInfo(PgType::Timestamp)))),
-            PgType::TstzRange => Some(PgTypeKindRef::Range(PgTypeRef::Owned(PgTypeInfo(PgType::Timestamptz)))),
-            PgType::DateRange => Some(PgTypeKindRef::Range(PgTypeRef::Owned(PgTypeInfo(PgType::Date)))),
-            PgType::Int8Range => Some(PgTypeKindRef::Range(PgTypeRef::Owned(PgTypeInfo(PgType::Int8)))),
-            PgType::Void => Some(PgTypeKindRef::Pseudo),
             PgType::Custom(custom) => Some(custom.kind()),
             PgType::DeclareWithOid(_) => None,
             PgType::DeclareWithName(_) => None,
             PgType::DeclareArrayOf(_) => None,
-            _ => match self.built_in_element() {
-                Some(element) => Some(PgTypeKindRef::Array(PgTypeRef::Owned(PgTypeInfo(element)))),
-                None => Some(PgTypeKindRef::Simple),
-            },
+            _ => Some(self.built_in_kind()),
         }
     }
 
-    /// The catalogue name.
+    /// The kind of a built-in type.
+    #[tactic(auto, using(crate::proofs::KindParts::kind_of_array, crate::proofs::KindParts::kind_of_range, crate::proofs::KindParts::kind_of_pseudo, crate::proofs::KindParts::kind_of_simple))]
+    fn built_in_kind(&self) -> PgTypeKindRef<'_>
+        ensures { kind_lent result ≡ kind_when_built_in (type_of self.now) }
+    {
+        if let Some(element) = self.built_in_element() {
+            return PgTypeKindRef::Array(PgTypeRef::Owned(PgTypeInfo(element)));
+        }
+        if let Some(element) = self.built_in_range() {
+            return PgTypeKindRef::Range(PgTypeRef::Owned(PgTypeInfo(element)));
+        }
+        if self.is_pseudo() {
+            return PgTypeKindRef::Pseudo;
+        }
+        PgTypeKindRef::Simple
+    }
+
+    /// The catalogue name: a custom type's or a declared one's own, and `?` where only an OID is known.
     pub fn name(&self) -> PgTypeName<'_>
         ensures { whole result ≡ name_of (type_of self.now) }
     {
@@ -196,24 +217,28 @@ impl PgType {
         PgTypeName::new(self.display_text(), self.shows_brackets())
     }
 
-    pub(crate) fn shows_brackets(&self) -> bool
+    /// Whether `[]` stands behind the name that is shown.
+    fn shows_brackets(&self) -> bool
         ensures { result ≡ shows_brackets (type_of self.now) }
     {
         self.is_array_of() || self.is_built_in_array()
     }
 
+    /// Whether it is an array of the table.
     fn is_built_in_array(&self) -> bool
         ensures { result ≡ is_a_type (element_built_in (type_of self.now)) }
     {
         self.built_in_element().is_some()
     }
 
-    pub(crate) fn is_array_of(&self) -> bool
+    /// Whether it was declared by its element's name.
+    fn is_array_of(&self) -> bool
         ensures { result ≡ has_brackets (type_of self.now) }
     {
         matches!(self, PgType::DeclareArrayOf(_))
     }
 
+    /// Whether it was declared by its OID.
     pub(crate) fn is_by_oid(&self) -> bool
         ensures { result ≡ is_by_oid (type_of self.now) }
     {
@@ -228,11 +253,17 @@ fn element_name(name: &'static str) -> Option<&'static str>
     name.strip_prefix('_')
 }
 
+/// A copy is the same type, and shares a custom type. It takes no memory, and can fail only at a
+/// custom type with too many copies.
 impl Clone for PgType {
     ghost use Rattle.std.specs.Prelude.{◌≡◌};
     ghost use Rattle.pgv_types.specs.Shown.{type_of};
 
     ghost is_clone = { λ t copy. type_of copy ≡ type_of t };
+
+    ghost use Rattle.pgv_types.specs.Facts.{IsNotCustom};
+
+    ghost is_infallible = { λ t. IsNotCustom (type_of t) };
 
     fn clone(&self) -> Result<PgType, AllocError> {
         let copy = match self {
@@ -330,17 +361,23 @@ impl Clone for PgType {
             PgType::JsonpathArray => PgType::JsonpathArray,
             PgType::Custom(custom) => PgType::Custom(custom.clone()?),
             PgType::DeclareWithOid(oid) => PgType::DeclareWithOid(*oid),
-            PgType::DeclareWithName(name) => PgType::DeclareWithName(name.duplicate()),
-            PgType::DeclareArrayOf(of) => PgType::DeclareArrayOf(of.duplicate()),
+            PgType::DeclareWithName(name) => PgType::DeclareWithName(name.clone()?),
+            PgType::DeclareArrayOf(of) => PgType::DeclareArrayOf(of.clone()?),
         };
         Ok(copy)
     }
 }
 
+/// A copy is the same type, and shares a custom type. It takes no memory, and can fail only at a
+/// custom type with too many copies.
 impl Clone for PgTypeInfo {
     ghost use Rattle.std.specs.Prelude.{◌≡◌};
 
     ghost is_clone = { λ t copy. copy ≡ t };
+
+    ghost use Rattle.pgv_types.specs.Facts.{IsNotCustom};
+
+    ghost is_infallible = { IsNotCustom };
 
     fn clone(&self) -> Result<PgTypeInfo, AllocError> {
         Ok(PgTypeInfo(self.0.clone()?))
@@ -348,35 +385,37 @@ impl Clone for PgTypeInfo {
 }
 
 impl PgTypeInfo {
-    /// A type that is declared by its name.
+    /// A type that is declared by its name. The name of an array may be written with a `_` in front.
+    /// It takes no memory.
     pub fn with_name(name: &'static str) -> PgTypeInfo
         ensures { result ≡ named name.now }
     {
         PgTypeInfo(PgType::DeclareWithName(StaticText::new(name)))
     }
 
-    /// An array that is declared by its element's name.
+    /// An array that is declared by its element's name. It takes no memory.
     pub fn array_of(elem_name: &'static str) -> PgTypeInfo
         ensures { result ≡ array_of elem_name.now }
     {
         PgTypeInfo(PgType::DeclareArrayOf(PgArrayOf::new(elem_name)))
     }
 
-    /// A type that is declared by its OID.
+    /// A type that is declared by its OID, of which nothing else is known.
     pub fn with_oid(oid: Oid) -> PgTypeInfo
         ensures { result ≡ by_oid oid.0 }
     {
         PgTypeInfo(PgType::DeclareWithOid(oid))
     }
 
-    /// The built-in type with this OID.
+    /// The built-in type with this OID. `None` where no built-in type has it.
     pub fn try_from_oid(oid: Oid) -> Option<PgTypeInfo>
         ensures { result ≡ built_in oid.0 }
     {
         Some(PgTypeInfo(PgType::try_from_oid(oid)?))
     }
 
-    /// A custom type.
+    /// A type that the server told of: its own OID, its name and its kind. An error means that there
+    /// was no memory; `kind` is dropped then.
     pub fn custom(
         alloc: Global,
         oid: Oid,
@@ -390,42 +429,42 @@ impl PgTypeInfo {
         Ok(PgTypeInfo(PgType::Custom(custom)))
     }
 
-    /// The OID, if it is known.
+    /// The OID. `None` where only a name is known.
     pub fn oid(&self) -> Option<Oid>
         ensures { option_map (λ o. o.0) result ≡ oid_of self.now }
     {
         self.0.oid()
     }
 
-    /// The kind, if it is known.
+    /// The kind. `None` for a type that is only declared.
     pub fn kind(&self) -> Option<PgTypeKindRef<'_>>
-        ensures { option_map kind_seen result ≡ kind_at self.now }
+        ensures { option_map kind_lent result ≡ kind_at self.now }
     {
         self.0.kind()
     }
 
-    /// The element of an array.
+    /// The element of an array. `None` where the type is not known to be one.
     pub fn array_element(&self) -> Option<PgTypeRef<'_>>
         ensures { option_map ref_type result ≡ element_of self.now }
     {
         self.0.array_element()
     }
 
-    /// The name that is shown.
+    /// The name that is shown: in upper case for a built-in type, with `[]` behind an array.
     pub fn name(&self) -> PgTypeName<'_>
         ensures { whole result ≡ display_of self.now }
     {
         self.0.display_name()
     }
 
-    /// Whether it is Void.
+    /// Whether it is the pseudo-type `void`.
     pub fn is_void(&self) -> bool
         ensures { result ≡ is_void self.now }
     {
         matches!(self.0, PgType::Void)
     }
 
-    /// Never.
+    /// Whether it is the type of null: never, since PostgreSQL has none.
     pub fn is_null(&self) -> bool
         ensures { result ≡ false }
     {
@@ -433,6 +472,8 @@ impl PgTypeInfo {
     }
 }
 
+/// The display name. A width, a fill, an alignment and a precision are met as `Formatter::pad`
+/// meets them.
 impl Display for PgTypeInfo {
     ghost use Rattle.std.specs.Prelude.{Some};
     ghost use Rattle.pgv_types.specs.Facts.{display_of};
@@ -441,25 +482,9 @@ impl Display for PgTypeInfo {
 
     fn fmt<W: fmt::Write>(&self, f: &mut Formatter<W>) -> fmt::Result {
         let name = self.name();
-        let Some(width) = f.width() else {
+        if f.width().is_none() && f.precision().is_none() {
             return name.fmt(f);
-        };
-        let len = name.text().chars().count().saturating_add(name.suffix().len());
-        let room = width.saturating_sub(len);
-        let before = match f.align() {
-            Some(Alignment::Right) => room,
-            Some(Alignment::Center) => room / 2,
-            _ => 0,
-        };
-        let fill = f.fill();
-        for _ in 0..before {
-            f.write_char(fill)?;
         }
-        f.write_str(name.text())?;
-        f.write_str(name.suffix())?;
-        for _ in before..room {
-            f.write_char(fill)?;
-        }
-        Ok(())
+        name.pad(f)
     }
 }

@@ -1,1 +1,3 @@
-pub mod Text
+mod Text
+mod Narrower
+pub mod Fronts

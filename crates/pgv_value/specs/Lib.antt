@@ -4,3 +4,6 @@ pub mod Given
 pub mod Row
 pub mod Utf8
 pub mod Frame
+pub mod Numbers
+pub mod Scalars
+pub mod Laws

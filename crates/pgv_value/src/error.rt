@@ -3,7 +3,9 @@
 ghost use Rattle.std.specs.Prelude.{◌≡◌};
 ghost use Rattle.pgv_value.specs.declared.error.CodecError.TheVariants.{Memory};
 ghost use Rattle.pgv_value.specs.Codes.{code_of};
+ghost use Rattle.pgv_value.specs.Numbers.{refusal_of};
 
+use pgv_text::NumberFault;
 use pgv_types::Oid;
 use std::alloc::{AllocError, AllocFailed};
 use thiserror::Error;
@@ -181,5 +183,16 @@ impl<T: Drop> From<AllocFailed<T>> for CodecError {
 
     fn from(_error: AllocFailed<T>) -> CodecError {
         CodecError::Memory
+    }
+}
+
+impl From<NumberFault> for CodecError {
+    ghost from_gives = { λ fault e. e ≡ refusal_of fault };
+
+    fn from(fault: NumberFault) -> CodecError {
+        match fault {
+            NumberFault::Syntax => CodecError::Syntax,
+            NumberFault::OutOfRange => CodecError::OutOfRange,
+        }
     }
 }

@@ -27,7 +27,7 @@ pub enum PgValueFormat {
 /// from. It is made by [`PgValueRef::to_owned`] and read through [`PgValue::as_ref`].
 #[derive(Drop)]
 pub struct PgValue {
-    value: Option<Bytes>,
+    bytes: Option<Bytes>,
     type_info: PgTypeInfo,
     format: PgValueFormat,
 }
@@ -39,7 +39,7 @@ impl Model for PgValue {
 
     ghost coded = { given_code };
 
-    ghost view = { λ v. record { bytes = v.value; type_info = v.type_info; format = v.format } };
+    ghost view = { λ v. record { bytes = v.bytes; type_info = v.type_info; format = v.format } };
 }
 
 impl PgValue {
@@ -48,7 +48,7 @@ impl PgValue {
         ensures same { IfOk result (λ v. v ≡ self.now) }
         ensures memory { IfErr result (λ e. e ≡ Memory) }
     {
-        let value = match &self.value {
+        let value = match &self.bytes {
             Some(bytes) => Some(bytes.as_slice()),
             None => None,
         };
@@ -66,7 +66,7 @@ impl PgValue {
     pub fn is_null(&self) -> bool
         ensures { result ≡ is_none self.now.bytes }
     {
-        self.value.is_none()
+        self.bytes.is_none()
     }
 }
 
@@ -74,12 +74,12 @@ impl Clone for PgValue {
     ghost is_clone = { λ v copy. copy ≡ v };
 
     fn clone(&self) -> Result<PgValue, AllocError> {
-        let value = match &self.value {
+        let bytes = match &self.bytes {
             Some(bytes) => Some(bytes.clone()?),
             None => None,
         };
         Ok(PgValue {
-            value,
+            bytes,
             type_info: self.type_info.clone()?,
             format: self.format,
         })
@@ -179,12 +179,7 @@ impl<'r> PgValueRef<'r> {
         let all: &'r [u8] = *bytes;
         let (part, rest) = front_of(all)?;
         *bytes = rest;
-        Ok(PgValueRef {
-            row: None,
-            value: part,
-            type_info,
-            format,
-        })
+        Ok(PgValueRef::new(part, type_info, format))
     }
 
     /// The format that the value is written in.
@@ -248,7 +243,7 @@ impl<'r> PgValueRef<'r> {
         ensures same { IfOk result (λ v. v ≡ self.now) }
         ensures memory { IfErr result (λ e. e ≡ Memory) }
     {
-        let value = match self.row {
+        let bytes = match self.row {
             Some(part) => Some(part.bytes.slice(part.start..part.end)?),
             None => match self.value {
                 Some(bytes) => Some(Bytes::copy_from_slice(alloc, bytes)?),
@@ -256,7 +251,7 @@ impl<'r> PgValueRef<'r> {
             },
         };
         Ok(PgValue {
-            value,
+            bytes,
             type_info: self.type_info.clone()?,
             format: self.format,
         })

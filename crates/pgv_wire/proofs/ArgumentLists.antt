@@ -124,7 +124,7 @@ slot_count-slots ps (fixed x ∷ a) = slot_count-slots ps a
 slot_count-slots ps (hole_cell t s ∷ a) = slot_count-slots ps a
 slot_count-slots ps (slot_cell d cs s ∷ a) = ap (λ n. 1 + n) (slot_count-slots (rest_types ps) a)
 
-width-frame : (p : Ty) (os : List Oid) (a : List Cell) → width (filled_frame p os a) ≡ width a
+pub width-frame : (p : Ty) (os : List Oid) (a : List Cell) → width (filled_frame p os a) ≡ width a
 width-frame p os a = width-slots (replicate (slot_count a) p) (fill_holes os a) ∙ width-filled os a
 
 hole_count-frame : (p : Ty) (os : List Oid) (a : List Cell) → hole_count (filled_frame p os a) ≡ hole_count a
@@ -182,7 +182,7 @@ all_filled {args} {hs} {ms} {ns} {ts} s ps os ts' n e = record {
   tokens_are = e ∙ (ap (λ r. fill_slots (slot_types ps ns) (fill_holes os r)) s.tokens_are ∙ (ap (λ r. fill_slots (slot_types ps r) (fill_holes os (all_tokens args))) s.counts_are ∙ sym (all_tokens-filled args ps os n)));
 }
 
-shown-frame : (n : ℕ) (p : Ty) (os : List Oid) (a : List Cell) → n ≡ slot_count a → shown (fill_slots (replicate n p) (fill_holes os a)) ≡ write p os (plain a)
+pub shown-frame : (n : ℕ) (p : Ty) (os : List Oid) (a : List Cell) → n ≡ slot_count a → shown (fill_slots (replicate n p) (fill_holes os a)) ≡ write p os (plain a)
 shown-frame n p os [] e = refl
 shown-frame n p os (fixed x ∷ a) e = ap (λ r. x ∷ r) (shown-frame n p os a e)
 shown-frame n p os (hole_cell t s ∷ a) e = ap (λ r. be4 (first_number os) ++ r) (shown-frame n p (rest_numbers os) a e)

@@ -1,14 +1,14 @@
 -- What any list of calls leaves.
-use Rattle.std.proofs.Common.{◌≡◌, ℕ, ◌+◌, List, [], ◌∷◌, ◌++◌, take, drop, replicate, refl, sym, ◌∙◌, ap, append_assoc, append-nil}
+use Rattle.std.proofs.Common.{◌≡◌, ℕ, List, [], ◌∷◌, ◌++◌, take, drop, replicate, refl, sym, ◌∙◌, ap, subst, length, ◌+◌, append_assoc, append-nil}
 use Rattle.pgv_types.specs.Ty.{Ty}
 use Rattle.pgv_types.specs.declared.oid.Oid.{Oid}
-use Rattle.pgv_buf.specs.Tokens.{Token, Cell, byte, hole, slot, fixed, hole_cell, slot_cell, be4, blank, plain, shown, hole_count, slot_count, chosen}
-use Rattle.pgv_buf.specs.Blank.{plain-blank}
+use Rattle.pgv_buf.specs.Tokens.{Token, Cell, byte, hole, slot, bytes, tokens_width, fixed, hole_cell, slot_cell, be4, blank, plain, shown, width, hole_types_of, hole_count, slot_count, chosen}
+use Rattle.pgv_buf.specs.Blank.{plain-append, plain-blank}
 use Rattle.pgv_buf.specs.Parse.{shown-append, first_type}
 use Rattle.pgv_buf.specs.Fill.{first_number, rest_numbers, fill_holes, fill_slots, rest_types}
-use Rattle.pgv_wire.specs.Arguments.{Argument, Framed, framed, all_tokens, early, filled_frame, filled_arguments}
-use Rattle.pgv_wire.specs.History.{Call, adds, fills, is_refused, blanks, after, Told, told_by, told, bytes_by}
-use Rattle.pgv_wire.proofs.ArgumentLists.{late_is_early}
+use Rattle.pgv_wire.specs.Arguments.{Argument, Framed, framed, all_tokens, types_in, early, filled_frame, filled_arguments}
+use Rattle.pgv_wire.specs.History.{Call, adds, fills, is_refused, blanks, after, Told, told_by, told, bytes_by, added_in, joined_frames, framed_types, holes_in, lengths_in, ArePlain, joined_bytes}
+use Rattle.pgv_wire.proofs.ArgumentLists.{late_is_early, width-frame}
 
 plain-holes : (os : List Oid) (a : List Cell) → plain (fill_holes os a) ≡ plain a
 plain-holes os [] = refl
@@ -22,7 +22,7 @@ plain-slots ps (fixed x ∷ a) = ap (λ r. byte x ∷ r) (plain-slots ps a)
 plain-slots ps (hole_cell t s ∷ a) = ap (λ r. hole t ∷ r) (plain-slots ps a)
 plain-slots ps (slot_cell d cs s ∷ a) = ap (λ r. slot d cs ∷ r) (plain-slots (rest_types ps) a)
 
-framed-filled : (args : List Argument) (ps : List Ty) (os : List Oid) → framed (filled_arguments args ps os) ≡ framed args
+pub framed-filled : (args : List Argument) (ps : List Ty) (os : List Oid) → framed (filled_arguments args ps os) ≡ framed args
 framed-filled [] ps os = refl
 framed-filled (a ∷ args) ps os =
     ap (λ (f : List Token). (a.0, f) ∷ framed (filled_arguments args (rest_types ps) (drop (hole_count a.1) os))) (plain-slots (replicate (slot_count a.1) (first_type ps)) (fill_holes (take (hole_count a.1) os) a.1) ∙ plain-holes (take (hole_count a.1) os) a.1)
@@ -109,3 +109,83 @@ after-told (is_refused ∷ calls) args h e = after-told calls args h e
 
 pub history_told : (calls : List Call) → shown (all_tokens (after [] calls)) ≡ bytes_by (told calls)
 history_told calls = after-told calls [] (record { filled = []; types = []; oids = []; since = [] }) refl
+
+-- ---- what doesn't depend on what is filled in
+
+after-framed : (calls : List Call) (args : List Argument) → framed (after args calls) ≡ framed args ++ added_in calls
+after-framed [] args = sym (append-nil (framed args))
+after-framed (adds f ∷ calls) args =
+    after-framed calls (args ++ (f.0, blank f.1) ∷ [])
+    ∙ (ap (λ (r : List Framed). r ++ added_in calls) (framed-append args ((f.0, blank f.1) ∷ []) ∙ ap (λ (r : List Framed). framed args ++ r) (framed-blanks (f ∷ [])))
+    ∙ append_assoc (framed args) (f ∷ []) (added_in calls))
+after-framed (fills ps os ∷ calls) args =
+    after-framed calls (filled_arguments args ps os) ∙ ap (λ (r : List Framed). r ++ added_in calls) (framed-filled args ps os)
+after-framed (is_refused ∷ calls) args = after-framed calls args
+
+pub only_added : (calls : List Call) → framed (after [] calls) ≡ added_in calls
+only_added calls = after-framed calls []
+
+holes_in-plain : (a : List Cell) → hole_types_of a ≡ holes_in (plain a)
+holes_in-plain [] = refl
+holes_in-plain (fixed x ∷ a) = holes_in-plain a
+holes_in-plain (hole_cell t s ∷ a) = ap (λ (r : List Ty). t ∷ r) (holes_in-plain a)
+holes_in-plain (slot_cell d cs s ∷ a) = holes_in-plain a
+
+pub width-plain : (a : List Cell) → width a ≡ tokens_width (plain a)
+width-plain [] = refl
+width-plain (fixed x ∷ a) = ap (λ n. 1 + n) (width-plain a)
+width-plain (hole_cell t s ∷ a) = ap (λ n. 4 + n) (width-plain a)
+width-plain (slot_cell d cs s ∷ a) = ap (λ n. length d + n) (width-plain a)
+
+joined-plain : (args : List Argument) → plain (all_tokens args) ≡ joined_frames (framed args)
+joined-plain [] = refl
+joined-plain (a ∷ args) = plain-append a.1 (all_tokens args) ∙ ap (λ (r : List Token). plain a.1 ++ r) (joined-plain args)
+
+types-framed : (args : List Argument) → types_in args ≡ framed_types (framed args)
+types-framed [] = refl
+types-framed (a ∷ args) = ap (λ (r : List Ty). a.0 ∷ r) (types-framed args)
+
+pub holes_told : (calls : List Call) → hole_types_of (all_tokens (after [] calls)) ≡ holes_in (joined_frames (added_in calls))
+holes_told calls =
+    let args : List Argument = after [] calls in
+    holes_in-plain (all_tokens args) ∙ (ap holes_in (joined-plain args) ∙ ap (λ (f : List Framed). holes_in (joined_frames f)) (only_added calls))
+
+pub width_told : (calls : List Call) → width (all_tokens (after [] calls)) ≡ tokens_width (joined_frames (added_in calls))
+width_told calls =
+    let args : List Argument = after [] calls in
+    width-plain (all_tokens args) ∙ (ap tokens_width (joined-plain args) ∙ ap (λ (f : List Framed). tokens_width (joined_frames f)) (only_added calls))
+
+pub types_told : (calls : List Call) → types_in (after [] calls) ≡ framed_types (added_in calls)
+types_told calls = types-framed (after [] calls) ∙ ap framed_types (only_added calls)
+
+pub lengths_kept : (args : List Argument) (ps : List Ty) (os : List Oid) → lengths_in (filled_arguments args ps os) ≡ lengths_in args
+lengths_kept [] ps os = refl
+lengths_kept (a ∷ args) ps os =
+    ap (λ n. n ∷ lengths_in (filled_arguments args (rest_types ps) (drop (hole_count a.1) os))) (width-frame (first_type ps) (take (hole_count a.1) os) a.1)
+    ∙ ap (λ (r : List ℕ). width a.1 ∷ r) (lengths_kept args (rest_types ps) (drop (hole_count a.1) os))
+
+-- ---- frames without holes and slots
+
+pub shown_plain : (c : List Cell) (xs : List ℕ) → plain c ≡ bytes xs → shown c ≡ xs
+shown_plain [] [] e = refl
+shown_plain [] (x ∷ xs) e = absurd cc
+shown_plain (fixed y ∷ c) [] e = absurd cc
+shown_plain (fixed y ∷ c) (x ∷ xs) e =
+    let head : y ≡ x = cc in
+    let tail : plain c ≡ bytes xs = cc in
+    ap (λ n. n ∷ shown c) head ∙ ap (λ (r : List ℕ). x ∷ r) (shown_plain c xs tail)
+shown_plain (hole_cell t s ∷ c) [] e = absurd cc
+shown_plain (hole_cell t s ∷ c) (x ∷ xs) e = absurd cc
+shown_plain (slot_cell d cs s ∷ c) [] e = absurd cc
+shown_plain (slot_cell d cs s ∷ c) (x ∷ xs) e = absurd cc
+
+plain_shown : (args : List Argument) (xss : List (List ℕ)) → ArePlain (framed args) xss → shown (all_tokens args) ≡ joined_bytes xss
+plain_shown [] [] h = refl
+plain_shown [] (xs ∷ xss) h = absurd h
+plain_shown (a ∷ args) [] h = absurd h
+plain_shown (a ∷ args) (xs ∷ xss) h =
+    shown-append a.1 (all_tokens args)
+    ∙ (ap (λ (r : List ℕ). r ++ shown (all_tokens args)) (shown_plain a.1 xs h.0) ∙ ap (λ (r : List ℕ). xs ++ r) (plain_shown args xss h.1))
+
+pub plain_told : (calls : List Call) (xss : List (List ℕ)) → ArePlain (added_in calls) xss → shown (all_tokens (after [] calls)) ≡ joined_bytes xss
+plain_told calls xss h = plain_shown (after [] calls) xss (subst (λ (f : List Framed). ArePlain f xss) (sym (only_added calls)) h)

@@ -1,9 +1,10 @@
 -- The frames of a list.
-use Rattle.std.proofs.Common.{◌≡◌, ℕ, ◌+◌, ◌<◌, ◌≤◌, arith, List, [], ◌∷◌, ◌++◌, length, Option, Some, None, get_or, take, drop, refl, sym, ◌∙◌, ap, append_assoc, append-nil, inl, inr}
+use Rattle.std.proofs.Common.{◌≡◌, ℕ, ◌+◌, ◌<◌, ◌≤◌, arith, Result, Ok, Err, OnOk, List, [], ◌∷◌, ◌++◌, length, Option, Some, None, get_or, take, drop, refl, sym, ◌∙◌, ap, append_assoc, append-nil, inl, inr}
 use Rattle.std.proofs.lemmas.List.{take_more, drop_more, take-append-drop}
-use Rattle.pgv_buf.specs.Tokens.{Token, Cell, blank}
+use Rattle.pgv_types.specs.Facts.{oid_of}
+use Rattle.pgv_buf.specs.Tokens.{Token, Cell, hole, bytes, be4, blank}
 use Rattle.pgv_buf.specs.Blank.{blank-append}
-use Rattle.pgv_wire.specs.Image.{Image, frame, frames, join, image_of, header, array_of_frames}
+use Rattle.pgv_wire.specs.Image.{Image, frame, frames, join, image_of, typed, header, array_of_frames, field_of}
 use Rattle.pgv_types.specs.Ty.{Ty}
 use Rattle.std.proofs.lemmas.Bool.Decides.{nat_tests}
 use Rattle.pgv_wire.specs.Outcome.{AppendedAll, Refused}
@@ -28,8 +29,23 @@ join_nothing None = refl
 join_nothing (Some a) = refl
 
 pub array_there :
-    (t : Ty) (n : ℕ) (fs : Option (List Token)) (ts : List Token) → n ≤ 2147483647 → fs ≡ Some ts → array_of_frames t n fs ≡ Some (image_of (header t n ++ ts))
-array_there t n fs ts l e = rw e (grind (arith, nat_tests))
+    (t : Ty) (n : ℕ) (fs : Option (List Token)) (hs ts : List Token) → n ≤ 2147483647 → header t n ≡ Some hs → fs ≡ Some ts → array_of_frames t n fs ≡ Some (image_of (hs ++ ts))
+array_there t n fs hs ts l h e = rw (e, h) (grind (arith, nat_tests))
+
+-- one list behind the other, each where it is there
+pub appended_both : (f g : Option (List Token)) (was mid now : List Cell) → AppendedAll f was mid → AppendedAll g mid now → AppendedAll (join f g) was now
+appended_both f g was mid now a b = (a.0 ++ b.0, rw (a.1, b.1) refl, both was mid now a.0 b.0 a.2 b.2)
+
+-- a type, and behind it a frame
+pub field_written : (t : Ty) (f : Option (List Token)) (was mid now : List Cell) → AppendedAll (typed t) was mid → AppendedAll f mid now → AppendedAll (field_of t f) was now
+field_written t f was mid now a b = (a.0 ++ b.0, rw (b.1, a.1) refl, both was mid now a.0 b.0 a.2 b.2)
+
+-- a type that is written by its OID, or as a hole
+pub typed_known : (t : Ty) (o : ℕ) → Some o ≡ oid_of t → o < 4294967296 → typed t ≡ Some (bytes (be4 o))
+typed_known t o e l = rw (← e) (grind (arith, nat_tests))
+
+pub typed_unknown : (t : Ty) → None ≡ oid_of t → typed t ≡ Some (hole t ∷ [])
+typed_unknown t e = rw (← e) refl
 
 module _ {X : Type 0} (hint : X → ℕ) (image : X → Option Image) where
   pub frames-append : (xs ys : List X) → frames hint image (xs ++ ys) ≡ join (frames hint image xs) (frames hint image ys)
@@ -58,3 +74,8 @@ module _ {X : Type 0} (hint : X → ℕ) (image : X → Option Image) where
       Refused error (frame (hint x) (image x)) → Refused error (frames hint image xs)
   frames_refused xs i x error l e (inl n) = inl (frames_none xs i x l e n)
   frames_refused xs i x error l e (inr m) = inr m
+
+-- where it is Ok, exactly what is written is appended
+pub written_if_ok : {E : Type 0} (r : Result (Unit {0}) E) (f : Option (List Token)) (ts : List Token) (was now : List Cell) → f ≡ Some ts → OnOk r (now ≡ was ++ blank ts) → OnOk r (AppendedAll f was now)
+written_if_ok (Ok u) f ts was now e h = (ts, e, h)
+written_if_ok (Err e) f ts was now p h = tt

@@ -1,13 +1,9 @@
 -- Any list of calls on arguments, and what they leave.
-use Rattle.std.specs.Prelude.{◌≡◌, ℕ, List, [], ◌∷◌, ◌++◌, take, drop, replicate, Option, Some, refl}
-use Rattle.std.proofs.Common.{sym, ap, ◌∙◌, append_assoc, append-nil}
+use Rattle.std.specs.Prelude.{◌≡◌, ℕ, List, [], ◌∷◌, ◌++◌, ⊤}
 use Rattle.pgv_types.specs.Ty.{Ty}
 use Rattle.pgv_types.specs.declared.oid.Oid.{Oid}
-use Rattle.pgv_buf.specs.Tokens.{Token, Cell, fixed, hole_cell, slot_cell, be4, blank, plain, shown, hole_count, slot_count, chosen}
-use Rattle.pgv_buf.specs.Blank.{plain-blank}
-use Rattle.pgv_buf.specs.Parse.{shown-append, first_type}
-use Rattle.pgv_buf.specs.Fill.{first_number, rest_numbers, fill_holes, fill_slots, rest_types}
-use Rattle.pgv_wire.specs.Arguments.{Argument, Framed, framed, all_tokens, early, filled_frame, filled_arguments}
+use Rattle.pgv_buf.specs.Tokens.{Token, byte, hole, slot, bytes, blank, shown, width}
+use Rattle.pgv_wire.specs.Arguments.{Argument, Framed, all_tokens, early, filled_arguments}
 
 -- an accepted addition, an accepted filling, or a call that was refused
 pub data Call : Type 0 where
@@ -46,3 +42,42 @@ told calls = told_by (record { filled = []; types = []; oids = []; since = [] })
 -- the bytes: those at the last filling written early, the others blank
 abbrev pub bytes_by : Told → List ℕ
 bytes_by h = early h.filled h.types h.oids ++ shown (all_tokens (blanks h.since))
+
+-- the accepted additions, in order, whatever was filled or refused between
+abbrev pub added_in : List Call → List Framed
+added_in [] = []
+added_in (adds f ∷ calls) = f ∷ added_in calls
+added_in (fills ps os ∷ calls) = added_in calls
+added_in (is_refused ∷ calls) = added_in calls
+
+-- their tokens, one behind the other
+abbrev pub joined_frames : List Framed → List Token
+joined_frames [] = []
+joined_frames (f ∷ fs) = f.1 ++ joined_frames fs
+
+abbrev pub framed_types : List Framed → List Ty
+framed_types [] = []
+framed_types (f ∷ fs) = f.0 ∷ framed_types fs
+
+-- the types that holes name, in order
+abbrev pub holes_in : List Token → List Ty
+holes_in [] = []
+holes_in (byte x ∷ ts) = holes_in ts
+holes_in (hole t ∷ ts) = t ∷ holes_in ts
+holes_in (slot d cs ∷ ts) = holes_in ts
+
+-- the lengths of arguments
+abbrev pub lengths_in : List Argument → List ℕ
+lengths_in [] = []
+lengths_in (a ∷ args) = width a.1 ∷ lengths_in args
+
+-- frames without holes and slots, which are these bytes
+abbrev pub ArePlain : List Framed → List (List ℕ) → Type 0
+ArePlain [] [] = ⊤
+ArePlain [] (xs ∷ xss) = ⊥
+ArePlain (f ∷ fs) [] = ⊥
+ArePlain (f ∷ fs) (xs ∷ xss) = (f.1 ≡ bytes xs) × ArePlain fs xss
+
+abbrev pub joined_bytes : List (List ℕ) → List ℕ
+joined_bytes [] = []
+joined_bytes (xs ∷ xss) = xs ++ joined_bytes xss

@@ -1,5 +1,5 @@
 -- What a value is written as.
-use Rattle.std.specs.Prelude.{ℕ, List, [], ◌∷◌, ◌++◌, length, Option, Some, None, cond, nat_le, nat_eq, ◌+◌}
+use Rattle.std.specs.Prelude.{ℕ, List, [], ◌∷◌, ◌++◌, length, Option, Some, None, cond, nat_le, nat_lt, nat_eq, ◌+◌}
 use Rattle.pgv_types.specs.Ty.{Ty}
 use Rattle.pgv_types.specs.Facts.{oid_of}
 use Rattle.pgv_buf.specs.Tokens.{Token, hole, bytes, be4, tokens_width}
@@ -27,12 +27,12 @@ join None b = None
 join (Some a) None = None
 join (Some a) (Some b) = Some (a ++ b)
 
--- a type, as an element's or a field's is written
-abbrev pub typed_oid : Ty → Option ℕ → List Token
-typed_oid t (Some o) = bytes (be4 o)
-typed_oid t None = hole t ∷ []
+-- a type, as an element's or a field's is written: its OID, which is a number of four bytes, or a hole
+abbrev pub typed_oid : Ty → Option ℕ → Option (List Token)
+typed_oid t (Some o) = cond (nat_lt o 4294967296) (Some (bytes (be4 o))) None
+typed_oid t None = Some (hole t ∷ [])
 
-abbrev pub typed : Ty → List Token
+abbrev pub typed : Ty → Option (List Token)
 typed t = typed_oid t (oid_of t)
 
 abbrev pub or_else : Option Ty → Ty → Ty
@@ -51,12 +51,17 @@ module _ {X : Type 0} (produced : X → Option Ty) (info : Ty) where
   element_type [] = info
   element_type (x ∷ xs) = or_else (produced x) info
 
-abbrev pub header : Ty → ℕ → List Token
-header t n = bytes (be4 1) ++ bytes (be4 0) ++ typed t ++ bytes (be4 n) ++ bytes (be4 1)
+-- one dimension, no flags, the type of the elements, how many there are, and the lower bound
+abbrev pub header : Ty → ℕ → Option (List Token)
+header t n = join (join (Some (bytes (be4 1) ++ bytes (be4 0))) (typed t)) (Some (bytes (be4 n) ++ bytes (be4 1)))
+
+abbrev pub array_behind : Option (List Token) → List Token → Option Image
+array_behind None fs = None
+array_behind (Some h) fs = Some (image_of (h ++ fs))
 
 abbrev pub array_of_frames : Ty → ℕ → Option (List Token) → Option Image
 array_of_frames t n None = None
-array_of_frames t n (Some fs) = cond (nat_le n limit) (Some (image_of (header t n ++ fs))) None
+array_of_frames t n (Some fs) = cond (nat_le n limit) (array_behind (header t n) fs) None
 
 abbrev pub array_image : {X : Type 0} → (X → ℕ) → (X → Option Image) → (X → Option Ty) → Ty → List X → Option Image
 array_image hint image produced info xs = array_of_frames (element_type produced info xs) (length xs) (frames hint image xs)
@@ -77,7 +82,8 @@ option_hint hint (Some x) = hint x
 
 -- a field: its type, and its frame
 abbrev pub field_of : Ty → Option (List Token) → Option (List Token)
-field_of t f = join (Some (typed t)) f
+field_of t None = None
+field_of t (Some f) = join (typed t) (Some f)
 
 abbrev pub field : {X : Type 0} → (X → ℕ) → (X → Option Image) → (X → Option Ty) → Ty → X → Option (List Token)
 field hint image produced info x = field_of (or_else (produced x) info) (frame (hint x) (image x))

@@ -1,6 +1,6 @@
 //! The parameters of a statement.
 
-ghost use Rattle.std.specs.Prelude.{◌≡◌, ◌≢◌, ◌+◌, ◌++◌, ℕ, List, [], ◌∷◌, length, OnOk, OnErr, IfOk, IfErr, IsOk, IsErrOf, string_bytes};
+ghost use Rattle.std.specs.Prelude.{◌≡◌, ◌≢◌, ◌+◌, ◌++◌, ℕ, List, [], ◌∷◌, length, OnOk, OnErr, IfOk, IfErr, IsOk, IsErrOf, string_bytes, decimal};
 ghost use Rattle.pgv_buf.specs.Tokens.{shown, hole_count, hole_types_of};
 ghost use Rattle.pgv_value.specs.declared.error.CodecError.TheVariants.{Memory, ParameterCount, HoleCount};
 ghost use Rattle.pgv_wire.specs.Arguments.{types_in, all_tokens, Added, filled_arguments, framed, early};
@@ -17,6 +17,11 @@ use pgv_value::CodecError;
 use std::alloc::{AllocError, Global};
 use std::marker::Model;
 
+/// The parameters of a statement: for each its type, and its frame in one buffer.
+///
+/// A contract sees them as a list of pairs, a type and the cells of a frame: bytes, holes and slots with the bytes
+/// that they show. An addition that is accepted appends one pair whose holes show zeros and whose slots show their
+/// defaults; one that is refused changes nothing.
 #[derive(Drop)]
 pub struct PgArguments {
     buffer: PgArgumentBuffer,
@@ -44,6 +49,7 @@ impl Model for PgArguments {
 }
 
 impl PgArguments {
+    /// No arguments. It takes no memory yet.
     pub fn new(alloc: Global) -> PgArguments
         ensures { result ≡ [] }
     {
@@ -74,18 +80,23 @@ impl PgArguments {
         self.types.len()
     }
 
+    /// The type of each argument: what its value produced, or else its Rust type's.
     pub fn types(&self) -> &[PgTypeInfo]
         ensures { result.now ≡ types_in self.now }
     {
         self.types.as_slice()
     }
 
+    /// The frames of the arguments, one behind the other.
     pub fn buffer(&self) -> &PgArgumentBuffer
         ensures { result.now ≡ all_tokens self.now }
     {
         &self.buffer
     }
 
+    /// Adds a value, and remembers what it produces or else its type's info. It is accepted, want of memory (C1)
+    /// aside, exactly where the value has a frame; a refused one leaves all as it was. C2 where the size hint or the
+    /// image is above 2147483647.
     pub fn add_by_ref<T: Encode + Type>(&mut self, value: &T) -> Result<(), CodecError>
         ensures ok { OnOk result (Added (frame (T.hint value.now) (T.image value.now)) (or_else (T.produced value.now) T.info) self.old self.new) }
         ensures err { IfErr result (λ e. Refused e (frame (T.hint value.now) (T.image value.now))) }
@@ -107,6 +118,7 @@ impl PgArguments {
         Ok(())
     }
 
+    /// Adds a value, as [`add_by_ref`](PgArguments::add_by_ref) does.
     pub fn add<T: Encode + Type + Drop>(&mut self, value: T) -> Result<(), CodecError>
         ensures ok { OnOk result (Added (frame (T.hint value) (T.image value)) (or_else (T.produced value) T.info) self.old self.new) }
         ensures err { IfErr result (λ e. Refused e (frame (T.hint value) (T.image value))) }
@@ -115,7 +127,8 @@ impl PgArguments {
         self.add_by_ref(&value)
     }
 
-    /// Adds each value, and says which were accepted.
+    /// Adds each value in order, and answers an outcome for each. The list of outcomes is reserved first: where that
+    /// is refused (C1), nothing was added.
     pub fn add_each<T: Encode + Type>(
         &mut self,
         alloc: Global,
@@ -157,9 +170,14 @@ impl PgArguments {
     fn holes(&self) -> usize
         ensures { result ≡ hole_count (all_tokens self.now) }
     {
-        self.buffer.hole_types().len()
+        self.hole_types().len()
     }
 
+    /// Writes the OIDs into the holes, in order, and fills each slot by the parameter type of its own argument: with
+    /// the first case whose type is softly equal to it, else with the default. As many types as arguments are
+    /// wanted (C10), and as many OIDs as holes (C11); a refusal changes nothing, and with the right numbers there is
+    /// none. It takes no memory and may be called again, also with additions between: each call fills all anew, and
+    /// the bytes are those that the frames are written as with these types and OIDs at once.
     pub fn apply_patches(&mut self, types: &[PgTypeInfo], oids: &[Oid]) -> Result<(), CodecError>
         ensures ok { length types.now ≡ length self.old → length oids.now ≡ hole_count (all_tokens self.old) → IsOk result }
         ensures parameters { length types.now ≢ length self.old → IsErrOf result ParameterCount }

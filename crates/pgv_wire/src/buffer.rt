@@ -1,9 +1,10 @@
 //! The buffer that encoders append to.
 
-ghost use Rattle.std.specs.Prelude.{◌≡◌, ◌++◌, ℕ, List, [], ◌∷◌, length, OnOk, OnErr, IfOk, IfErr, sum};
+ghost use Rattle.std.specs.Prelude.{◌≡◌, ◌<◌, ◌++◌, ℕ, List, [], ◌∷◌, length, OnOk, OnErr, IfOk, IfErr, sum};
 ghost use Rattle.pgv_buf.specs.Tokens.{byte, hole, slot, bytes, Cell, blank, fixed_bytes, shown, width, be4, hole_types_of, hole_count, slot_count, CasesFit};
 ghost use Rattle.pgv_buf.specs.Shown.{cases_of};
 ghost use Rattle.pgv_buf.specs.Marks.{mark_of};
+ghost use Rattle.pgv_buf.specs.Parse.{Proper};
 ghost use Rattle.pgv_buf.specs.Fill.{fill_holes, fill_slots, slot_types};
 ghost use Rattle.pgv_value.specs.declared.error.CodecError.TheVariants.{Memory};
 ghost use Rattle.pgv_wire.specs.Image.{frame, typed};
@@ -63,9 +64,11 @@ impl PgArgumentBuffer {
         self.tokens.len()
     }
 
-    /// The bytes, holes and slots as they are shown now.
+    /// The bytes, holes and slots as they are shown now: four bytes for a hole, and for a slot as many as its
+    /// default has, and each of its cases.
     pub fn as_slice(&self) -> &[u8]
-        ensures { result.now ≡ shown self.now }
+        ensures shown { result.now ≡ shown self.now }
+        ensures proper { Proper self.now }
     {
         self.tokens.as_slice()
     }
@@ -180,6 +183,7 @@ impl PgArgumentBuffer {
     // A number as four bytes.
     pub(crate) fn push_u32(&mut self, value: u32) -> Result<(), CodecError>
         ensures ok { OnOk result (self.new ≡ self.old ++ blank (bytes (be4 value))) }
+        ensures number { value < 4294967296 }
         ensures err { IfErr result (λ e. (e ≡ Memory) × (self.new ≡ self.old)) }
     {
         let number = value.to_be_bytes();
@@ -188,7 +192,7 @@ impl PgArgumentBuffer {
 
     // A type, as an element's or a field's is written.
     pub(crate) fn push_type(&mut self, written: PgTypeInfo) -> Result<(), CodecError>
-        ensures ok { OnOk result (self.new ≡ self.old ++ blank (typed written)) }
+        ensures ok { OnOk result (AppendedAll (typed written) self.old self.new) }
         ensures err { IfErr result (λ e. (e ≡ Memory) × (self.new ≡ self.old)) }
     {
         match written.oid() {

@@ -1,11 +1,14 @@
 //! Laws of what buffers and arguments hold: each is the contract of a function that does nothing.
 
-ghost use Rattle.std.specs.Prelude.{◌≡◌, List, []};
+ghost use Rattle.std.specs.Prelude.{◌≡◌, ℕ, List, [], length};
 ghost use Rattle.pgv_types.specs.Ty.{Ty};
 ghost use Rattle.pgv_types.specs.declared.oid.Oid.{Oid};
-ghost use Rattle.pgv_buf.specs.Tokens.{shown};
-ghost use Rattle.pgv_wire.specs.Arguments.{Argument, all_tokens, filled_arguments};
-ghost use Rattle.pgv_wire.specs.History.{Call, after, told, bytes_by};
+ghost use Rattle.pgv_buf.specs.Parse.{Proper};
+ghost use Rattle.pgv_buf.specs.Tokens.{Cell, shown, width, tokens_width, hole_types_of};
+ghost use Rattle.pgv_wire.specs.Arguments.{Argument, all_tokens, types_in, framed, filled_arguments};
+ghost use Rattle.pgv_wire.specs.History.{Call, after, told, bytes_by, added_in, joined_frames, framed_types, holes_in, lengths_in, ArePlain, joined_bytes};
+ghost use Rattle.pgv_wire.specs.Image.{Image};
+ghost use Rattle.pgv_wire.specs.Parts.{ReadAs, AreFrames, parts_in, written_parts};
 
 /// Whatever was added, refused and filled, in any order: the bytes are those that the arguments at the last
 /// filling are written as with what it was given, and then the others with zeros and defaults.
@@ -18,4 +21,48 @@ pub fn history()
 #[tactic(auto, using(crate::proofs::Histories::filled_over))]
 pub fn filled_again()
     ensures { (args : List Argument) (ps ps' : List Ty) (os os' : List Oid) → filled_arguments (filled_arguments args ps os) ps' os' ≡ filled_arguments args ps' os' }
+{}
+
+/// No filling changes a length.
+#[tactic(auto, using(crate::proofs::Histories::lengths_kept))]
+pub fn lengths_stay()
+    ensures { (args : List Argument) (ps : List Ty) (os : List Oid) → lengths_in (filled_arguments args ps os) ≡ lengths_in args }
+{}
+
+/// What was accepted, the types, the holes and the length of the bytes don't depend on what is filled in: they are
+/// those of the accepted additions, in order.
+#[tactic(auto, using(crate::proofs::Histories::only_added, crate::proofs::Histories::types_told, crate::proofs::Histories::holes_told, crate::proofs::Histories::width_told))]
+pub fn only_additions_count()
+    ensures frames { (calls : List Call) → framed (after [] calls) ≡ added_in calls }
+    ensures types { (calls : List Call) → types_in (after [] calls) ≡ framed_types (added_in calls) }
+    ensures holes { (calls : List Call) → hole_types_of (all_tokens (after [] calls)) ≡ holes_in (joined_frames (added_in calls)) }
+    ensures length { (calls : List Call) → width (all_tokens (after [] calls)) ≡ tokens_width (joined_frames (added_in calls)) }
+{}
+
+/// As many bytes are shown as are counted.
+pub fn all_counted()
+    ensures { (cells : List Cell) → Proper cells → length (shown cells) ≡ width cells }
+{}
+
+/// Where the accepted frames have neither holes nor slots, the bytes are these frames joined, whatever was refused
+/// or filled between.
+#[tactic(auto, using(crate::proofs::Histories::plain_told))]
+pub fn frames_joined()
+    ensures { (calls : List Call) (xss : List (List ℕ)) → ArePlain (added_in calls) xss → shown (all_tokens (after [] calls)) ≡ joined_bytes xss }
+{}
+
+/// The frames of arguments, read from the buffer one behind the other as [`PgValueRef::get`](crate::PgValueRef::get)
+/// does, give as many parts as there are arguments, null where an image is null and else what it shows, and leave
+/// nothing. [`PgArgumentBuffer::as_slice`](crate::PgArgumentBuffer::as_slice) says that its cells are proper.
+#[tactic(auto, using(crate::proofs::PartsRead::frames_read, crate::proofs::PartsRead::as_many))]
+pub fn frames_read()
+    ensures parts { (args : List Argument) (is : List Image) → AreFrames is (framed args) → Proper (all_tokens args) → ReadAs (shown (all_tokens args)) (parts_in is args) [] }
+    ensures many { (args : List Argument) (is : List Image) → AreFrames is (framed args) → length (parts_in is args) ≡ length args }
+{}
+
+/// After a filling these parts are what the images are written as, each for its own parameter type and with the
+/// OIDs of its own holes.
+#[tactic(auto, using(crate::proofs::PartsRead::parts_filled))]
+pub fn parts_written()
+    ensures { (args : List Argument) (is : List Image) (ps : List Ty) (os : List Oid) → AreFrames is (framed args) → parts_in is (filled_arguments args ps os) ≡ written_parts is ps os }
 {}

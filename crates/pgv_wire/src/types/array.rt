@@ -59,7 +59,7 @@ fn write_header(
     element: PgTypeInfo,
     count: u32,
 ) -> Result<(), CodecError>
-    ensures ok { OnOk result (out.new ≡ out.old ++ blank (header element count)) }
+    ensures ok { OnOk result (AppendedAll (header element count) out.old out.new) }
     ensures err { IfErr result (λ e. e ≡ Memory) }
     ensures appended { OnErr result (Appended out.old out.new) }
 {

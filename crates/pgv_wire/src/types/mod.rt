@@ -8,5 +8,5 @@ pub mod option;
 pub mod record;
 pub mod reference;
 pub mod str;
-pub mod uuid;
+pub mod uuids;
 pub mod void;

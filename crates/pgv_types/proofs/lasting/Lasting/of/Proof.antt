@@ -11,7 +11,7 @@ use contract.Monad.{Fun}
 use contract.Running.{tables, tables_of}
 use sound.WpLaws.{WpFn-mono}
 use types.Logic.{Logic}
-use types.Kit.{‵, raw, ◌⊛◌, prop, ◌$◌, ◌∵◌, !, qed, move, keep, drop, use0, split, fsplit, fjoin, feq_l, feq_i, regoal, suffices, done, flt_l}
+use types.Kit.{‵, raw, ◌⊛◌, prop, ◌$◌, ◌∵◌, !, qed, move, keep, drop, split, fsplit, fjoin, feq_l, feq_i, regoal, suffices, done, flt_l}
 use types.Part.{agg, sub, whole}
 use types.Run.{enter, returns, and_then, no_more, fld, stop, addr, from, hop}
 use types.ByLocal.{alloc_all, pass_all, free_all, look_at, get, sets, look_in_at}

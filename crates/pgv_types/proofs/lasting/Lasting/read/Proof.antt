@@ -1,7 +1,7 @@
 -- `read` lends what never ends. Assumes `Logic`.
-use Rattle.std.proofs.Common.{◌≡◌, ◌+◌, ◌^◌, List, [], ◌∷◌, ◌++◌, length, refl, sym, ap, ◌∙◌, arith, ◌*◌, length-take-le, length-drop}
+use Rattle.std.proofs.Common.{◌≡◌, ◌^◌, List, [], ◌∷◌, ◌++◌, length, refl, ap, ◌∙◌, arith, ◌*◌}
 use seplogic.Ra.Ura.{Ura}
-use mir.Syntax.{Fn, w8, w64, seq, assign, place, rv_opd, copy, return}
+use mir.Syntax.{Fn, w64, seq, assign, place, rv_opd, copy, return}
 use mir.Val.{Val, vptr, vint}
 use base.Logic.{SProp, ent}
 use base.Fml.{Lft}
@@ -12,13 +12,13 @@ use contract.Monad.{Fun, fact}
 use contract.Running.{tables, tables_of}
 use sound.WpLaws.{WpFn-mono}
 use types.Logic.{Logic}
-use types.Kit.{‵, raw, ◌⊛◌, prop, ◌$◌, ◌∵◌, !, qed, move, drop, use1, split, fsplit, fjoin, feq_l, feq_i, regoal, rewrite, suffices, done, at_ret, flt_l, flt_i}
+use types.Kit.{‵, raw, ◌⊛◌, prop, ◌$◌, ◌∵◌, !, qed, move, drop, split, fsplit, fjoin, feq_l, feq_i, regoal, suffices, done, at_ret, flt_l, flt_i}
 use types.Part.{agg}
 use types.Run.{enter, returns, of_opd, and_then, no_more, first, blocks, exec}
 use types.ByLocal.{alloc_all, pass_all, free_all, look_at, get, sets, sets_last, env}
 use denote.Exit.{yes}
 use denote.RattleType.{owns}
-use denote.Builtin.{u8, RefOf, RawPtr, usize}
+use denote.Builtin.{RefOf, RawPtr, usize}
 use denote.Signature.{plain, types_at}
 use denote.Steps.{nothing, heard}
 use denote.Triple.Clauses.{Clauses, Ended, closing}
@@ -28,8 +28,8 @@ use denote.Triple.Table.{entered}
 use denote.Triple.Walked.{says, Stays, stay_dropped, walk_of, ends_at, walk_Meets, Goes-dropped}
 use Rattle.pgv_types.specs.contracts.lasting.Lasting as Lasting
 use denote.Opens.{unhide, hide}
-use denote.RawPtr.{block_ptr, block_of, count_of, ptr_val, ◌+ₚ◌}
-use denote.Slice.{slice_val, elements_shared, elements_shr_laws}
+use denote.RawPtr.{block_ptr, block_of, count_of, ptr_val}
+use denote.Slice.{slice_val}
 use Rattle.pgv_types.specs.contracts.lasting.Lasting.read as F
 use Rattle.pgv_types.specs.contracts.lasting.Lasting.read.Key.{name as #self}
 use Rattle.pgv_types.proofs.lasting.Lasting.read.Statement as stated

@@ -1,0 +1,62 @@
+//! Lists of tokens that are appended to, cut back, filled and copied, with the bytes that they must show.
+
+use crate::Tokens;
+use pgv_types::{Oid, PgTypeInfo};
+use std::alloc::AllocError;
+
+#[test]
+fn holes_are_filled_in_order(rt: HostRuntime) -> Result<(), AllocError> {
+    let mut tokens = Tokens::new(rt.alloc());
+    tokens.reserve(10)?;
+    tokens.push(7)?;
+    tokens.push_hole(PgTypeInfo::with_name("mood"))?;
+    tokens.extend_from_slice(b"ok")?;
+    tokens.push_hole(PgTypeInfo::with_name("size"))?;
+    assert_eq!(rt; tokens.as_slice(), [7, 0, 0, 0, 0, b'o', b'k', 0, 0, 0, 0].as_slice());
+    assert_eq!(rt; tokens.hole_types().len(), 2);
+    tokens.fill(&[], &[], &[Oid(16600), Oid(16601)]);
+    assert_eq!(rt; tokens.as_slice(), [7, 0, 0, 0x40, 0xd8, b'o', b'k', 0, 0, 0x40, 0xd9].as_slice());
+    tokens.fill(&[], &[], &[Oid(1), Oid(2)]);
+    assert_eq!(rt; tokens.as_slice(), [7, 0, 0, 0, 1, b'o', b'k', 0, 0, 0, 2].as_slice());
+    Ok(())
+}
+
+#[test]
+fn slots_are_filled_by_their_argument(rt: HostRuntime) -> Result<(), AllocError> {
+    let mut tokens = Tokens::new(rt.alloc());
+    for _ in 0..2 {
+        let mut version = Vec::new(rt.alloc());
+        version.push(1)?;
+        let mut cases = Vec::new(rt.alloc());
+        cases.push((PgTypeInfo::with_oid(Oid(3802)), version))?;
+        tokens.push_slot(b" ", cases)?;
+        tokens.extend_from_slice(b"{}")?;
+    }
+    assert_eq!(rt; tokens.as_slice(), b" {} {}".as_slice());
+    let types = [PgTypeInfo::with_oid(Oid(114)), PgTypeInfo::with_oid(Oid(3802))];
+    tokens.fill(&types, &[1, 1], &[]);
+    assert_eq!(rt; tokens.len(), 6);
+    let copy = tokens.clone()?;
+    let types = [PgTypeInfo::with_oid(Oid(3802)), PgTypeInfo::with_oid(Oid(114))];
+    tokens.fill(&types, &[1, 1], &[]);
+    assert_eq!(rt; copy.len(), 6);
+    tokens.clear();
+    assert_eq!(rt; tokens.as_slice(), b"".as_slice());
+    Ok(())
+}
+
+#[test]
+fn what_was_appended_is_taken_off_again(rt: HostRuntime) -> Result<(), AllocError> {
+    let mut tokens = Tokens::new(rt.alloc());
+    let start = tokens.mark();
+    tokens.extend_from_slice(&[0, 0, 0, 0])?;
+    let behind = tokens.mark();
+    tokens.push_hole(PgTypeInfo::with_name("mood"))?;
+    tokens.push(1)?;
+    assert_eq!(rt; tokens.mark().since(behind).slots(), 0);
+    tokens.back(behind);
+    assert_eq!(rt; tokens.hole_types().len(), 0);
+    tokens.put_u32(start, 258);
+    assert_eq!(rt; tokens.as_slice(), [0, 0, 1, 2].as_slice());
+    Ok(())
+}

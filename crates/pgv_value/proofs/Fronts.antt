@@ -1,0 +1,112 @@
+-- What stands in front of bytes is a frame, and every frame is found there.
+use Rattle.std.proofs.Common.{◌≡◌, ℕ, zero, suc, ◌<◌, ◌≤◌, ◌^◌, Bool, true, false, cond, nat_lt, nat_eq, List, [], ◌∷◌, ◌++◌, length, get_or, take, drop, Option, Some, None, refl, sym, ap, ◌∙◌, subst, arith}
+use Rattle.std.specs.Prelude.{◌↔◌}
+use Rattle.std.specs.Int.{w32, to_be_bytes, from_be_bytes}
+use Rattle.std.proofs.lemmas.Nat.{be_bytes_4, from_be_bytes-to_be_bytes_4}
+use Rattle.std.proofs.lemmas.Bool.{le-ltb, lt-ltb, ne_eqb, eqb-true, ltb-false}
+use Rattle.std.proofs.lemmas.List.{take-append-drop, length-take-le, length-append, length-drop, take_at, drop_at, take-append-le}
+use Rattle.pgv_value.specs.Frame.{Part, IsFrame, front, front_length, frame_fault}
+use Rattle.pgv_value.specs.Laws.{AreBytes}
+use Rattle.pgv_value.specs.declared.error.CodecError.TheVariants.{Short}
+
+-- ---- a frame is found in front
+
+front_of_null : (rest : List ℕ) → front (255 ∷ 255 ∷ 255 ∷ 255 ∷ rest) ≡ Some (None, rest)
+unfolding front
+front_of_null rest =
+    let long : nat_lt (length (to_be_bytes w32 4294967295 ++ rest)) 4 ≡ false = le-ltb _ _ (omega arith) in
+    rw long refl
+
+front_by : (bytes behind : List ℕ) (n : ℕ) → nat_lt (length bytes) 4 ≡ false → front_length bytes ≡ n → drop 4 bytes ≡ behind →
+    front bytes ≡ cond {A = Option (Part × List ℕ)} (nat_eq n 4294967295) (Some (None, behind)) (cond (nat_lt 2147483647 n) None (cond (nat_lt (length behind) n) None (Some (Some (take n behind), drop n behind))))
+unfolding front
+front_by bytes behind n long n_is behind_is = rw (long, n_is, behind_is) refl
+
+front_of_part : (part rest : List ℕ) (n : ℕ) → length part ≡ n → n < 2 ^ 31 → front (to_be_bytes w32 n ++ (part ++ rest)) ≡ Some (Some part, rest)
+front_of_part part rest n len lt =
+    let found = front_by (to_be_bytes w32 n ++ (part ++ rest)) (part ++ rest) n (le-ltb _ _ (omega arith)) (from_be_bytes-to_be_bytes_4 n (omega arith)) refl in
+    let not_null : nat_eq n 4294967295 ≡ false = ne_eqb n 4294967295 (λ e. omega arith) in
+    let small : nat_lt 2147483647 n ≡ false = le-ltb _ _ (omega arith) in
+    let enough : nat_lt (length (part ++ rest)) n ≡ false = le-ltb _ _ (omega (arith, length-append part rest)) in
+    found ∙ rw (not_null, small, enough, take_at part rest n len, drop_at part rest n len) refl
+
+pub frame_in_front : (bytes : List ℕ) (part : Part) (rest : List ℕ) → IsFrame bytes part rest → front bytes ≡ Some (part, rest)
+frame_in_front bytes None rest h = subst (λ (xs : List ℕ). front xs ≡ Some (None, rest)) (sym h) (front_of_null rest)
+frame_in_front bytes (Some part) rest h = subst (λ (xs : List ℕ). front xs ≡ Some (Some part, rest)) (sym h.1) (front_of_part part rest (length part) refl h.0)
+
+-- ---- what is found in front is a frame
+
+bytes_below : (xs : List ℕ) → AreBytes xs → (i : ℕ) → get_or xs i 0 < 256
+bytes_below [] h i = omega arith
+bytes_below (x ∷ xs) h zero = h.0
+bytes_below (x ∷ xs) h (suc i) = bytes_below xs h.1 i
+
+AreBytes-take : (n : ℕ) (xs : List ℕ) → AreBytes xs → AreBytes (take n xs)
+AreBytes-take zero xs h = tt
+AreBytes-take (suc n) [] h = tt
+AreBytes-take (suc n) (x ∷ xs) h = (h.0, AreBytes-take n xs h.1)
+
+some_is : {A : Type 0} (x y : A) → (let o : Option A = Some x in o) ≡ Some y → x ≡ y
+some_is x y e = cc
+
+-- of a length and what stands behind it
+frame_of : (bytes head behind : List ℕ) (n : ℕ) (part : Part) (rest : List ℕ) → bytes ≡ head ++ behind → to_be_bytes w32 n ≡ head → (x y z : Bool) → nat_eq n 4294967295 ≡ x → nat_lt 2147483647 n ≡ y → nat_lt (length behind) n ≡ z →
+    cond {A = Option (Part × List ℕ)} x (Some (None, behind)) (cond y None (cond z None (Some (Some (take n behind), drop n behind)))) ≡ Some (part, rest) → IsFrame bytes part rest
+frame_of bytes head behind n part rest whole head_is true y z null large short e =
+    let n_is : n ≡ 4294967295 = eqb-true n 4294967295 null in
+    let head_null : head ≡ 255 ∷ 255 ∷ 255 ∷ 255 ∷ [] = sym head_is ∙ ap (to_be_bytes w32) n_is in
+    subst (λ (p : Part × List ℕ). IsFrame bytes p.0 p.1) (some_is {A = Part × List ℕ} (None, behind) (part, rest) e) (whole ∙ ap (λ (xs : List ℕ). xs ++ behind) head_null)
+frame_of bytes head behind n part rest whole head_is false true z null large short e = absurd cc
+frame_of bytes head behind n part rest whole head_is false false true null large short e = absurd cc
+frame_of bytes head behind n part rest whole head_is false false false null large short e =
+    let small : n ≤ 2147483647 = ltb-false 2147483647 n large in
+    let enough : n ≤ length behind = ltb-false (length behind) n short in
+    let len : length (take n behind) ≡ n = length-take-le n behind enough in
+    let parts : bytes ≡ to_be_bytes w32 (length (take n behind)) ++ (take n behind ++ drop n behind) =
+    whole ∙ ap (λ (xs : List ℕ). xs ++ behind) (sym head_is ∙ ap (to_be_bytes w32) (sym len)) ∙ ap (λ (xs : List ℕ). to_be_bytes w32 (length (take n behind)) ++ xs) (sym (take-append-drop n behind)) in
+    subst (λ (p : Part × List ℕ). IsFrame bytes p.0 p.1) (some_is {A = Part × List ℕ} (Some (take n behind), drop n behind) (part, rest) e) (omega (arith, len), parts)
+
+front_needs_four : (bytes : List ℕ) (part : Part) (rest : List ℕ) → nat_lt (length bytes) 4 ≡ true → front bytes ≡ Some (part, rest) → ⊥
+unfolding front
+front_needs_four bytes part rest few e = let none : front bytes ≡ None = rw few refl in absurd cc
+
+front_is_frame : (bytes : List ℕ) (part : Part) (rest : List ℕ) → AreBytes bytes → (few : Bool) → nat_lt (length bytes) 4 ≡ few → front bytes ≡ Some (part, rest) → IsFrame bytes part rest
+front_is_frame bytes part rest h true few e = absurd (front_needs_four bytes part rest few e)
+front_is_frame bytes part rest h false enough e =
+    let long : 4 ≤ length bytes = ltb-false (length bytes) 4 enough in
+    let four : to_be_bytes w32 (front_length bytes) ≡ take 4 bytes =
+    be_bytes_4 (take 4 bytes) (front_length bytes) (length-take-le 4 bytes long) (bytes_below (take 4 bytes) (AreBytes-take 4 bytes h)) refl in
+    frame_of bytes (take 4 bytes) (drop 4 bytes) (front_length bytes) part rest (sym (take-append-drop 4 bytes)) four _ _ _ refl refl refl
+    (sym (front_by bytes (drop 4 bytes) (front_length bytes) enough refl refl) ∙ e)
+
+pub front_exactly : (bytes : List ℕ) (part : Part) (rest : List ℕ) → AreBytes bytes → (front bytes ≡ Some (part, rest)) ↔ IsFrame bytes part rest
+front_exactly bytes part rest h = (front_is_frame bytes part rest h _ refl, frame_in_front bytes part rest)
+
+-- ---- a frame that is cut off
+
+front_of_few : (bytes : List ℕ) → nat_lt (length bytes) 4 ≡ true → (front bytes ≡ None) × (frame_fault bytes ≡ Short)
+unfolding front
+front_of_few bytes few = (rw few refl, rw few refl)
+
+front_of_cut : (bytes : List ℕ) (n : ℕ) → nat_lt (length bytes) 4 ≡ false → front_length bytes ≡ n → nat_eq n 4294967295 ≡ false → nat_lt 2147483647 n ≡ false → nat_lt (length (drop 4 bytes)) n ≡ true →
+    (front bytes ≡ None) × (frame_fault bytes ≡ Short)
+unfolding front
+front_of_cut bytes n enough n_is not_null small cut = (rw (enough, n_is, not_null, small, cut) refl, rw (enough, n_is, small) refl)
+
+cut_off : (bytes behind : List ℕ) (part : Part) (few : Bool) → nat_lt (length bytes) 4 ≡ few → 0 < length behind → IsFrame (bytes ++ behind) part [] → (front bytes ≡ None) × (frame_fault bytes ≡ Short)
+cut_off bytes behind part true few more h = front_of_few bytes few
+cut_off bytes behind None false enough more h =
+    let long : 4 ≤ length bytes = ltb-false (length bytes) 4 enough in
+    let len = ap length h in
+    absurd (omega (arith, length-append bytes behind))
+cut_off bytes behind (Some part) false enough more h =
+    let long : 4 ≤ length bytes = ltb-false (length bytes) 4 enough in
+    let small : length part < 2 ^ 31 = h.0 in
+    let len : length (bytes ++ behind) ≡ length (to_be_bytes w32 (length part) ++ (part ++ [])) = ap length h.1 in
+    let four : take 4 bytes ≡ to_be_bytes w32 (length part) = sym (take-append-le 4 bytes behind long) ∙ ap (λ (xs : List ℕ). take 4 xs) h.1 in
+    let n_is : front_length bytes ≡ length part = ap (from_be_bytes w32) four ∙ from_be_bytes-to_be_bytes_4 (length part) (omega arith) in
+    front_of_cut bytes (length part) enough n_is (ne_eqb (length part) 4294967295 (λ e. omega arith)) (le-ltb _ _ (omega arith))
+    (lt-ltb _ _ (omega (arith, length-append bytes behind, length-append part [], length-drop 4 bytes)))
+
+pub cut_is_short : (bytes behind : List ℕ) (part : Part) → 0 < length behind → IsFrame (bytes ++ behind) part [] → (front bytes ≡ None) × (frame_fault bytes ≡ Short)
+cut_is_short bytes behind part more h = cut_off bytes behind part _ refl more h

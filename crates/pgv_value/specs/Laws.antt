@@ -1,0 +1,17 @@
+-- The laws of frames (PostgreSQL: "Message Formats", DataRow).
+use Rattle.std.specs.Prelude.{◌≡◌, ◌↔◌, ℕ, ◌<◌, List, [], ◌++◌, length, Some, None}
+use Rattle.std.specs.List.{AllByRecursion}
+use Rattle.pgv_value.specs.Frame.{Part, IsFrame, front, frame_fault}
+use Rattle.pgv_value.specs.declared.error.CodecError.TheVariants.{Short}
+
+-- each is a number of eight bits
+abbrev pub AreBytes : List ℕ → Type 0
+AreBytes bytes = AllByRecursion (λ byte. byte < 256) bytes
+
+-- what is found in front is a frame of that part, followed by that rest, and every frame is found
+abbrev pub FrontIsFrame : Type 0
+FrontIsFrame = (bytes : List ℕ) (part : Part) (rest : List ℕ) → AreBytes bytes → (front bytes ≡ Some (part, rest)) ↔ IsFrame bytes part rest
+
+-- nothing is found in front of a frame that is cut off, and the fault is that the bytes end too early
+abbrev pub CutFrameIsShort : Type 0
+CutFrameIsShort = (bytes behind : List ℕ) (part : Part) → 0 < length behind → IsFrame (bytes ++ behind) part [] → (front bytes ≡ None) × (frame_fault bytes ≡ Short)

@@ -1,0 +1,27 @@
+//! Laws of the definitions: what holds of all bytes, with nothing to run.
+
+ghost use Rattle.std.specs.Prelude.{◌≡◌};
+ghost use Rattle.pgv_value.specs.Laws.{CutFrameIsShort, FrontIsFrame};
+
+use std::hash::{Hash, Hasher};
+use uuid::Uuid;
+
+/// What is found at the front of bytes is a frame of that part, followed by that rest, and every frame is found.
+pub fn front_is_frame()
+    ensures { FrontIsFrame }
+{}
+
+/// Nothing is found at the front of a frame that is cut off, and the fault is that the bytes end too early.
+pub fn cut_frame_is_short()
+    ensures { CutFrameIsShort }
+{}
+
+/// Equal identifiers have equal hashes: from one state of a hasher they lead to one state.
+pub fn equal_ids_hash_alike<H: Hasher>(a: &Uuid, b: &Uuid, first: &mut H, second: &mut H)
+    requires state { first.old ≡ second.old }
+    requires equal { a.now ≡ b.now }
+    ensures { first.new ≡ second.new }
+{
+    a.hash(first);
+    b.hash(second);
+}

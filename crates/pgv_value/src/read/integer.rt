@@ -1,0 +1,91 @@
+//! Whole numbers of 8, 16, 32 and 64 bits.
+
+ghost use Rattle.std.specs.Prelude.{◌≡◌, None, IfErr, IsErrOf};
+ghost use Rattle.std.specs.Int.{w16, w32, w64};
+ghost use Rattle.pgv_value.specs.Reading.{AnswersExactly};
+ghost use Rattle.pgv_value.specs.Numbers.{whole_number, whole_refusal};
+ghost use Rattle.pgv_value.specs.Scalars.{char_reading, char_refusal, int_reading, int_refusal};
+ghost use Rattle.pgv_value.specs.declared.error.CodecError.TheVariants.{UnexpectedNull};
+
+use crate::error::CodecError;
+use crate::value::{PgValueFormat, PgValueRef};
+use byteorder::{BigEndian, ByteOrder};
+use pgv_text::{char_of, number_of};
+
+/// The number in one to eight bytes of two's complement, the highest first. Another length is refused with C17.
+fn whole_number_of(bytes: &[u8]) -> Result<i64, CodecError>
+    ensures exact { AnswersExactly (λ number. number) (whole_number bytes.now) result }
+    ensures refused { IfErr result (λ e. e ≡ whole_refusal bytes.now) }
+{
+    if bytes.is_empty() || bytes.len() > 8 {
+        return Err(CodecError::WrongLength(bytes.len()));
+    }
+    Ok(BigEndian::read_int(bytes, bytes.len()))
+}
+
+/// The number in either format, if 64 bits have it.
+fn integer(value: &PgValueRef<'_>) -> Result<i64, CodecError>
+    ensures exact { AnswersExactly (λ number. number) (int_reading w64 value.now.type_info value.now.format value.now.bytes) result }
+    ensures refused { IfErr result (λ e. e ≡ int_refusal value.now.format value.now.bytes) }
+    ensures null { value.now.bytes ≡ None → IsErrOf result UnexpectedNull }
+{
+    match value.format() {
+        PgValueFormat::Binary => whole_number_of(value.as_bytes()?),
+        PgValueFormat::Text => Ok(number_of(value.as_str()?)?),
+    }
+}
+
+/// Reads a `"char"` as a signed number: in binary one to eight bytes of two's complement, in text nothing for 0, `\`
+/// for 92, `\` and three octal digits up to 377 for their byte, and else the first byte, where a text that begins
+/// with `\` otherwise is refused with C29. Another number of bytes is refused with C17, and a number that is outside
+/// 8 bits with C30.
+pub fn read_i8(value: &PgValueRef<'_>) -> Result<i8, CodecError>
+    ensures exact { AnswersExactly (λ number. number) (char_reading value.now.type_info value.now.format value.now.bytes) result }
+    ensures refused { IfErr result (λ e. e ≡ char_refusal value.now.format value.now.bytes) }
+    ensures null { value.now.bytes ≡ None → IsErrOf result UnexpectedNull }
+{
+    match value.format() {
+        PgValueFormat::Binary => match i8::try_from(whole_number_of(value.as_bytes()?)?) {
+            Ok(number) => Ok(number),
+            Err(_) => Err(CodecError::OutOfRange),
+        },
+        PgValueFormat::Text => match char_of(value.as_str()?) {
+            Some(number) => Ok(number),
+            None => Err(CodecError::Syntax),
+        },
+    }
+}
+
+/// Reads an `int2`: in binary one to eight bytes of two's complement, in text perhaps `+` or `-` and one or more
+/// digits. Another number of bytes is refused with C17, another text with C29, and a number outside 16 bits with C30.
+pub fn read_i16(value: &PgValueRef<'_>) -> Result<i16, CodecError>
+    ensures exact { AnswersExactly (λ number. number) (int_reading w16 value.now.type_info value.now.format value.now.bytes) result }
+    ensures refused { IfErr result (λ e. e ≡ int_refusal value.now.format value.now.bytes) }
+    ensures null { value.now.bytes ≡ None → IsErrOf result UnexpectedNull }
+{
+    match i16::try_from(integer(value)?) {
+        Ok(number) => Ok(number),
+        Err(_) => Err(CodecError::OutOfRange),
+    }
+}
+
+/// Reads an `int4`, as [`read_i16`] reads an `int2`; a number outside 32 bits is refused with C30.
+pub fn read_i32(value: &PgValueRef<'_>) -> Result<i32, CodecError>
+    ensures exact { AnswersExactly (λ number. number) (int_reading w32 value.now.type_info value.now.format value.now.bytes) result }
+    ensures refused { IfErr result (λ e. e ≡ int_refusal value.now.format value.now.bytes) }
+    ensures null { value.now.bytes ≡ None → IsErrOf result UnexpectedNull }
+{
+    match i32::try_from(integer(value)?) {
+        Ok(number) => Ok(number),
+        Err(_) => Err(CodecError::OutOfRange),
+    }
+}
+
+/// Reads an `int8`, as [`read_i16`] reads an `int2`; a number outside 64 bits is refused with C30.
+pub fn read_i64(value: &PgValueRef<'_>) -> Result<i64, CodecError>
+    ensures exact { AnswersExactly (λ number. number) (int_reading w64 value.now.type_info value.now.format value.now.bytes) result }
+    ensures refused { IfErr result (λ e. e ≡ int_refusal value.now.format value.now.bytes) }
+    ensures null { value.now.bytes ≡ None → IsErrOf result UnexpectedNull }
+{
+    integer(value)
+}

@@ -1,0 +1,31 @@
+//! Object identifiers.
+
+ghost use Rattle.std.specs.Prelude.{◌≡◌, None, IfErr, IsErrOf};
+ghost use Rattle.pgv_value.specs.Reading.{AnswersExactly};
+ghost use Rattle.pgv_value.specs.Scalars.{oid_reading, oid_refusal};
+ghost use Rattle.pgv_value.specs.declared.error.CodecError.TheVariants.{UnexpectedNull};
+
+use crate::error::CodecError;
+use crate::value::{PgValueFormat, PgValueRef};
+use pgv_text::unsigned_number_of;
+use pgv_types::Oid;
+
+/// Reads an `oid`: in binary the first four bytes, the highest first, whatever stands behind them, and in text
+/// perhaps `+` and one or more digits. Fewer bytes are refused with C15, another text with C29, and a number above
+/// 4294967295 with C30.
+pub fn read_oid(value: &PgValueRef<'_>) -> Result<Oid, CodecError>
+    ensures exact { AnswersExactly (λ oid. oid.0) (oid_reading value.now.type_info value.now.format value.now.bytes) result }
+    ensures refused { IfErr result (λ e. e ≡ oid_refusal value.now.format value.now.bytes) }
+    ensures null { value.now.bytes ≡ None → IsErrOf result UnexpectedNull }
+{
+    match value.format() {
+        PgValueFormat::Binary => match value.as_bytes()? {
+            [a, b, c, d, ..] => Ok(Oid(u32::from_be_bytes([*a, *b, *c, *d]))),
+            _ => Err(CodecError::Short),
+        },
+        PgValueFormat::Text => match u32::try_from(unsigned_number_of(value.as_str()?)?) {
+            Ok(number) => Ok(Oid(number)),
+            Err(_) => Err(CodecError::OutOfRange),
+        },
+    }
+}

@@ -1,0 +1,115 @@
+-- The frames of arguments, read one behind the other.
+use Rattle.std.proofs.Common.{◌≡◌, ℕ, ◌+◌, ◌<◌, ◌≤◌, ◌^◌, nat_le, Bool, true, false, suc, cond, arith, List, [], ◌∷◌, ◌++◌, length, take, drop, replicate, Option, Some, None, refl, sym, ◌∙◌, ap, subst, append_assoc}
+use Rattle.std.proofs.lemmas.Bool.{leb-true}
+use Rattle.std.specs.Int.{w32, to_be_bytes}
+use Rattle.pgv_types.specs.Ty.{Ty}
+use Rattle.pgv_types.specs.declared.oid.Oid.{Oid}
+use Rattle.pgv_buf.specs.Fill.{rest_types}
+use Rattle.pgv_buf.specs.Blank.{holes-plain}
+use Rattle.pgv_buf.specs.Parse.{Proper, first_type, shown-append, length-shown}
+use Rattle.pgv_buf.specs.Tokens.{Token, byte, hole, slot, bytes, be4, tokens_width, tokens_holes, Cell, fixed, hole_cell, slot_cell, fixed_bytes, plain, shown, width, hole_count, slot_count}
+use Rattle.pgv_value.specs.Frame.{Part, IsFrame, front}
+use Rattle.pgv_value.proofs.Fronts.{frame_in_front}
+use Rattle.pgv_wire.specs.Arguments.{Argument, Framed, framed, all_tokens, write, filled_frame, filled_arguments}
+use Rattle.pgv_wire.specs.Image.{Image, null_image, image_of, frame_of}
+use Rattle.pgv_wire.specs.Parts.{ReadAs, AreFrames, part_in, parts_in, written_part, image_holes, written_parts}
+use Rattle.pgv_wire.proofs.ArgumentLists.{shown-frame}
+use Rattle.pgv_wire.proofs.Histories.{shown_plain, width-plain}
+
+-- cells whose tokens begin with bytes begin with these
+record Behind (xs : List ℕ) (ts : List Token) (c : List Cell) : Type 0 where
+  cells : List Cell
+  whole : c ≡ fixed_bytes xs ++ cells
+  tokens : plain cells ≡ ts
+
+behind_bytes : (xs : List ℕ) (ts : List Token) (c : List Cell) → plain c ≡ bytes xs ++ ts → Behind xs ts c
+behind_bytes [] ts c e = record { cells = c; whole = refl; tokens = e }
+behind_bytes (x ∷ xs) ts [] e = absurd cc
+behind_bytes (x ∷ xs) ts (fixed y ∷ c) e =
+    let head : y ≡ x = cc in
+    let tail : plain c ≡ bytes xs ++ ts = cc in
+    let b = behind_bytes xs ts c tail in
+    record {
+      cells = b.cells;
+      whole = ap (λ n. fixed n ∷ c) head ∙ ap (λ (r : List Cell). fixed x ∷ r) b.whole;
+      tokens = b.tokens;
+    }
+behind_bytes (x ∷ xs) ts (hole_cell t s ∷ c) e = absurd cc
+behind_bytes (x ∷ xs) ts (slot_cell d cs s ∷ c) e = absurd cc
+
+-- the image's width is small enough, and its frame is its width and its tokens
+cut : (ts us : List Token) (b : Bool) → nat_le (tokens_width ts) 2147483647 ≡ b → cond b (Some (bytes (be4 (tokens_width ts)) ++ ts)) None ≡ Some us → (tokens_width ts ≤ 2147483647) × (us ≡ bytes (be4 (tokens_width ts)) ++ ts)
+cut ts us true e f = (leb-true (tokens_width ts) 2147483647 e, cc)
+cut ts us false e f = absurd cc
+
+-- one frame is found in front
+frame_found : (i : Image) (c : List Cell) (rest : List ℕ) → frame_of (Some i) ≡ Some (plain c) → Proper c → front (shown c ++ rest) ≡ Some (part_in i c, rest)
+frame_found null_image c rest e p =
+    let tokens : plain c ≡ bytes (255 ∷ 255 ∷ 255 ∷ 255 ∷ []) = cc in
+    frame_in_front (shown c ++ rest) None rest (ap (λ (r : List ℕ). r ++ rest) (shown_plain c (255 ∷ 255 ∷ 255 ∷ 255 ∷ []) tokens))
+frame_found (image_of ts) c rest e p =
+    let k = cut ts (plain c) _ refl e in
+    let b = behind_bytes (be4 (tokens_width ts)) ts c k.1 in
+    let q : Proper b.cells = subst (λ (r : List Cell). Proper r) b.whole p in
+    let len : length (shown b.cells) ≡ tokens_width ts = length-shown b.cells q ∙ (width-plain b.cells ∙ ap tokens_width b.tokens) in
+    let bytes_are : shown c ≡ be4 (tokens_width ts) ++ shown b.cells = ap shown b.whole in
+    let found : front (shown c ++ rest) ≡ Some (Some (shown b.cells), rest) =
+        frame_in_front (shown c ++ rest) (Some (shown b.cells)) rest (
+          omega (arith, len, k.0),
+          ap (λ (r : List ℕ). r ++ rest) bytes_are ∙ ap (λ n. to_be_bytes w32 n ++ (shown b.cells ++ rest)) (sym len),
+        ) in
+    found ∙ ap (λ (r : List ℕ). Some (Some r, rest)) (sym (ap (drop 4) bytes_are))
+
+Proper-first : (a c : List Cell) → Proper (a ++ c) → Proper a
+Proper-first [] c p = tt
+Proper-first (fixed x ∷ a) c p = Proper-first a c p
+Proper-first (hole_cell t s ∷ a) c p = (p.0, Proper-first a c p.1)
+Proper-first (slot_cell d cs s ∷ a) c p = (p.0, p.1, Proper-first a c p.2)
+
+Proper-rest : (a c : List Cell) → Proper (a ++ c) → Proper c
+Proper-rest [] c p = p
+Proper-rest (fixed x ∷ a) c p = Proper-rest a c p
+Proper-rest (hole_cell t s ∷ a) c p = Proper-rest a c p.1
+Proper-rest (slot_cell d cs s ∷ a) c p = Proper-rest a c p.2
+
+pub frames_read : (args : List Argument) (is : List Image) → AreFrames is (framed args) → Proper (all_tokens args) → ReadAs (shown (all_tokens args)) (parts_in is args) []
+frames_read [] [] h p = refl
+frames_read [] (i ∷ is) h p = absurd h
+frames_read (a ∷ args) [] h p = absurd h
+frames_read (a ∷ args) (i ∷ is) h p = (
+  shown (all_tokens args),
+  ap front (shown-append a.1 (all_tokens args)) ∙ frame_found i a.1 (shown (all_tokens args)) h.0 (Proper-first a.1 (all_tokens args) p),
+  frames_read args is h.1 (Proper-rest a.1 (all_tokens args) p),
+)
+
+pub as_many : (args : List Argument) (is : List Image) → AreFrames is (framed args) → length (parts_in is args) ≡ length args
+as_many [] [] h = refl
+as_many [] (i ∷ is) h = absurd h
+as_many (a ∷ args) [] h = absurd h
+as_many (a ∷ args) (i ∷ is) h = ap suc (as_many args is h.1)
+
+-- ---- after a filling
+
+part_filled : (i : Image) (c : List Cell) (p : Ty) (os : List Oid) → frame_of (Some i) ≡ Some (plain c) → part_in i (filled_frame p os c) ≡ written_part i p os
+part_filled null_image c p os e = refl
+part_filled (image_of ts) c p os e =
+    let k = cut ts (plain c) _ refl e in
+    ap (λ (r : List ℕ). let q : Part = Some (drop 4 r) in q) (shown-frame (slot_count c) p os c refl ∙ ap (λ (r : List Token). write p os r) k.1)
+
+holes_are : (i : Image) (c : List Cell) → frame_of (Some i) ≡ Some (plain c) → hole_count c ≡ image_holes i
+holes_are null_image c e =
+    let tokens : plain c ≡ bytes (255 ∷ 255 ∷ 255 ∷ 255 ∷ []) = cc in
+    sym (holes-plain c) ∙ ap tokens_holes tokens
+holes_are (image_of ts) c e =
+    let k = cut ts (plain c) _ refl e in
+    sym (holes-plain c) ∙ ap tokens_holes k.1
+
+pub parts_filled : (args : List Argument) (is : List Image) (ps : List Ty) (os : List Oid) → AreFrames is (framed args) → parts_in is (filled_arguments args ps os) ≡ written_parts is ps os
+parts_filled [] [] ps os h = refl
+parts_filled [] (i ∷ is) ps os h = absurd h
+parts_filled (a ∷ args) [] ps os h = absurd h
+parts_filled (a ∷ args) (i ∷ is) ps os h =
+    let n = hole_count a.1 in
+    ap (λ (p : Part). p ∷ parts_in is (filled_arguments args (rest_types ps) (drop n os))) (part_filled i a.1 (first_type ps) (take n os) h.0)
+    ∙ (ap (λ (r : List Part). written_part i (first_type ps) (take n os) ∷ r) (parts_filled args is (rest_types ps) (drop n os) h.1)
+    ∙ ap (λ (m : ℕ). written_part i (first_type ps) (take m os) ∷ written_parts is (rest_types ps) (drop m os)) (holes_are i a.1 h.0))

@@ -1,0 +1,48 @@
+-- Frames that are read one behind the other (PostgreSQL: "Message Formats", Bind: each parameter value is a length
+-- of four bytes, the highest first, and that many bytes; the length -1 is null).
+use Rattle.std.specs.Prelude.{◌≡◌, ℕ, List, [], ◌∷◌, take, drop, Option, Some, None, ⊤}
+use Rattle.pgv_types.specs.Ty.{Ty}
+use Rattle.pgv_types.specs.declared.oid.Oid.{Oid}
+use Rattle.pgv_buf.specs.Fill.{rest_types}
+use Rattle.pgv_buf.specs.Parse.{first_type}
+use Rattle.pgv_buf.specs.Tokens.{Token, Cell, shown, tokens_holes}
+use Rattle.pgv_value.specs.Frame.{Part, front}
+use Rattle.pgv_wire.specs.Arguments.{Argument, Framed, write}
+use Rattle.pgv_wire.specs.Image.{Image, null_image, image_of, frame_of}
+
+-- one frame after the other is found in front, with these parts, and then this is left
+abbrev pub ReadAs : List ℕ → List Part → List ℕ → Type 0
+ReadAs bs [] rest = bs ≡ rest
+ReadAs bs (p ∷ ps) rest = (behind : List ℕ) × (front bs ≡ Some (p, behind)) × ReadAs behind ps rest
+
+-- frames of these images
+abbrev pub AreFrames : List Image → List Framed → Type 0
+AreFrames [] [] = ⊤
+AreFrames [] (f ∷ fs) = ⊥
+AreFrames (i ∷ is) [] = ⊥
+AreFrames (i ∷ is) (f ∷ fs) = (frame_of (Some i) ≡ Some f.1) × AreFrames is fs
+
+-- the part of a frame: null, or what it shows behind its length
+abbrev pub part_in : Image → List Cell → Part
+part_in null_image ts = None
+part_in (image_of us) ts = Some (drop 4 (shown ts))
+
+abbrev pub parts_in : List Image → List Argument → List Part
+parts_in [] args = []
+parts_in (i ∷ is) [] = []
+parts_in (i ∷ is) (a ∷ args) = part_in i a.1 ∷ parts_in is args
+
+-- the part that an image is written as, for a parameter type and with the OIDs of its holes
+abbrev pub written_part : Image → Ty → List Oid → Part
+written_part null_image p os = None
+written_part (image_of ts) p os = Some (write p os ts)
+
+-- how many holes an image has
+abbrev pub image_holes : Image → ℕ
+image_holes null_image = 0
+image_holes (image_of ts) = tokens_holes ts
+
+-- the parts of all, each with its own parameter type and its share of the OIDs
+abbrev pub written_parts : List Image → List Ty → List Oid → List Part
+written_parts [] ps os = []
+written_parts (i ∷ is) ps os = written_part i (first_type ps) (take (image_holes i) os) ∷ written_parts is (rest_types ps) (drop (image_holes i) os)
