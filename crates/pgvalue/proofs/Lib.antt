@@ -1,2 +1,5 @@
 pub mod Texts
 pub mod Wording
+pub mod Feeds
+pub mod SoFar
+pub mod Lists

@@ -1,2 +1,5 @@
 pub mod Lines
 pub mod Requests
+pub mod Session
+pub mod Values
+pub mod Faults
