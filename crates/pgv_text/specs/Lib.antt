@@ -1,2 +1,11 @@
 pub mod Number
 pub mod Scalars
+pub mod Pieces
+pub mod Arrays
+pub mod Records
+pub mod Forms
+pub mod Scan
+pub mod Values
+pub mod View
+pub mod Spellings
+pub mod Laws

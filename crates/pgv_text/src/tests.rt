@@ -1,35 +1,108 @@
 use super::*;
+use std::alloc::{AllocError, Global};
 use std::test::Fail;
+
+/// The parts of a text, each in brackets.
+fn shown(alloc: Global, parts: Option<Vec<Option<String>>>) -> Result<String, AllocError> {
+    let mut text = String::new(alloc);
+    let Some(parts) = parts else {
+        text.push_str("refused")?;
+        return Ok(text);
+    };
+    for part in &parts {
+        match part {
+            None => text.push_str("null ")?,
+            Some(part) => {
+                text.push('[')?;
+                text.push_str(part.as_str())?;
+                text.push_str("] ")?;
+            }
+        }
+    }
+    Ok(text)
+}
+
+#[test]
+fn array_text(rt: HostRuntime) -> Result<(), Fail> {
+    let alloc = rt.alloc();
+    let rows = [
+        ("{x,NULL,\"a,b\"}", "[x] null [a,b] "),
+        ("{\"NULL\"}", "[NULL] "),
+        ("{}", ""),
+        ("{a\\}", "refused"),
+        ("{{1},{2}}", "refused"),
+        ("{\"a\"\"b\"}", "[ab] "),
+        ("{a\\,b,\"c\\\"d\"}", "[a,b] [c\"d] "),
+        ("{nUlL}", "[nUlL] "),
+        ("{N\\ULL}", "[NULL] "),
+        ("{,}", "[] [] "),
+        ("{ a}", "[ a] "),
+        ("{a}}", "refused"),
+        ("{\"(1,a)\",\"(2,\\\"x y\\\")\"}", "[(1,a)] [(2,\"x y\")] "),
+        ("", "refused"),
+        ("{\"é\"}", "[é] "),
+    ];
+    for (text, wanted) in rows {
+        assert_eq!(rt;
+            shown(alloc, array_elements(alloc, text)?)?.as_str(),
+            wanted
+        );
+    }
+    Ok(())
+}
+
+#[test]
+fn record_text(rt: HostRuntime) -> Result<(), Fail> {
+    let alloc = rt.alloc();
+    let rows = [
+        ("(1,)", "[1] null "),
+        ("()", "null "),
+        ("(\"\"\")", "refused"),
+        ("(\"a\"\"b\")", "[a\"b] "),
+        ("(,)", "null null "),
+        ("(\"\",a)", "[] [a] "),
+        ("(a\\,b)", "[a,b] "),
+        ("(2,\"x y\")", "[2] [x y] "),
+    ];
+    for (text, wanted) in rows {
+        assert_eq!(rt; shown(alloc, record_fields(alloc, text)?)?.as_str(), wanted);
+    }
+    Ok(())
+}
 
 #[test]
 fn numbers(rt: HostRuntime) -> Result<(), Fail> {
-    assert_eq!(rt; number_of("+0007"), Ok(7));
-    assert_eq!(rt; number_of("-9223372036854775808"), Ok(i64::MIN));
-    assert_eq!(rt;
-        number_of("9223372036854775808"),
-        Err(NumberFault::OutOfRange)
-    );
-    assert_eq!(rt;
-        number_of("99999999999999999999x"),
-        Err(NumberFault::Syntax)
-    );
-    assert_eq!(rt; number_of("-"), Err(NumberFault::Syntax));
-    assert_eq!(rt; number_of("+-1"), Err(NumberFault::Syntax));
-    assert_eq!(rt; number_of(""), Err(NumberFault::Syntax));
+    let rows = [
+        ("+0007", Ok(7)),
+        ("-9223372036854775808", Ok(i64::MIN)),
+        ("9223372036854775808", Err(NumberFault::OutOfRange)),
+        ("99999999999999999999x", Err(NumberFault::Syntax)),
+        ("-", Err(NumberFault::Syntax)),
+        ("+-1", Err(NumberFault::Syntax)),
+        ("", Err(NumberFault::Syntax)),
+    ];
+    for (text, wanted) in rows {
+        assert_eq!(rt; number_of(text), wanted);
+    }
     assert_eq!(rt; unsigned_number_of("+4294967295"), Ok(4294967295));
     assert_eq!(rt; unsigned_number_of("-0"), Err(NumberFault::Syntax));
     assert_eq!(rt;
         unsigned_number_of("18446744073709551616"),
         Err(NumberFault::OutOfRange)
     );
-    assert_eq!(rt; char_of(""), Some(0));
-    assert_eq!(rt; char_of("\\"), Some(92));
-    assert_eq!(rt; char_of("\\377"), Some(-1));
-    assert_eq!(rt; char_of("\\101"), Some(65));
-    assert_eq!(rt; char_of("\\400"), None);
-    assert_eq!(rt; char_of("\\a"), None);
-    assert_eq!(rt; char_of("ab"), Some(97));
-    assert_eq!(rt; char_of("é"), Some(-61));
+    let rows = [
+        ("", Some(0)),
+        ("\\", Some(92)),
+        ("\\377", Some(-1)),
+        ("\\101", Some(65)),
+        ("\\400", None),
+        ("\\a", None),
+        ("ab", Some(97)),
+        ("é", Some(-61)),
+    ];
+    for (text, wanted) in rows {
+        assert_eq!(rt; char_of(text), wanted);
+    }
     assert_eq!(rt; bool_of("t"), Some(true));
     assert_eq!(rt; bool_of("f"), Some(false));
     assert_eq!(rt; bool_of("true"), None);

@@ -1,0 +1,12 @@
+use Rattle.std.specs.Str.{chars}
+use Rattle.pgv_text.specs.Arrays.{array_form, IsArrayText}
+use Rattle.pgv_text.specs.Values.{values_of}
+use Rattle.pgv_text.proofs.Answered.{found_in, none_in}
+use Rattle.pgv_text.proofs.ArrayTexts.{array_means}
+use Rattle.pgv_text.proofs.nest.array_elements.Goals as goal
+
+pub returns-clause-found : goal.returns-clause-found
+returns-clause-found c = found_in array_form IsArrayText array_means values_of (chars c.args.text.now) c.scanned.result c.scanned.ensures
+
+pub returns-clause-none : goal.returns-clause-none
+returns-clause-none c = none_in array_form IsArrayText array_means values_of (chars c.args.text.now) c.scanned.result c.scanned.ensures

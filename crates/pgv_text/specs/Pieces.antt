@@ -1,0 +1,112 @@
+-- Pieces of the texts of nests, and what they mean (PostgreSQL: "Array Input and Output Syntax", 8.15.6;
+-- "Composite Type Input and Output Syntax", 8.16.6). Characters are their codes.
+use Rattle.std.specs.Prelude.{◌≡◌, ◌≢◌, ℕ, Bool, true, false, List, [], ◌∷◌, ◌++◌, map, Option, not, ◌||◌, ◌==◌}
+use Rattle.std.specs.List.{flat_map, AllByRecursion}
+use Rattle.std.specs.Str.{encode_utf8_all}
+
+-- What stands between quotes: a character, a character behind a backslash, or a doubled quote.
+pub data Item : Type 0 where
+  inner : ℕ → Item
+  behind : ℕ → Item
+  doubled : Item
+
+-- A character, a character behind a backslash, or what stands between quotes.
+pub data Piece : Type 0 where
+  plain : ℕ → Piece
+  escaped : ℕ → Piece
+  quoted : List Item → Piece
+
+-- What the forms differ in: the brackets, whether a quote is doubled inside quotes, whether nothing at all
+-- between the brackets is no part, and which value a part has: by whether it has pieces, whether all of
+-- them are plain, and its text.
+pub record Form : Type 0 where
+  pub opens : ℕ → Bool
+  pub closes : ℕ → Bool
+  pub doubles : Bool
+  pub may_be_empty : Bool
+  pub value : Bool → Bool → List ℕ → Option (List ℕ)
+
+-- All but `"`, `\`, `,` and the brackets may stand plain.
+abbrev pub may_be_plain : Form → ℕ → Bool
+may_be_plain form c = not (c == 34 || c == 92 || c == 44 || form.opens c || form.closes c)
+
+-- 34 is `"` and 92 is `\`.
+abbrev pub item_spelling : Item → List ℕ
+item_spelling (inner c) = c ∷ []
+item_spelling (behind c) = 92 ∷ c ∷ []
+item_spelling doubled = 34 ∷ 34 ∷ []
+
+abbrev pub item_meaning : Item → ℕ
+item_meaning (inner c) = c
+item_meaning (behind c) = c
+item_meaning doubled = 34
+
+abbrev pub spelling : Piece → List ℕ
+spelling (plain c) = c ∷ []
+spelling (escaped c) = 92 ∷ c ∷ []
+spelling (quoted items) = 34 ∷ flat_map item_spelling items ++ 34 ∷ []
+
+abbrev pub meaning : Piece → List ℕ
+meaning (plain c) = c ∷ []
+meaning (escaped c) = c ∷ []
+meaning (quoted items) = map item_meaning items
+
+abbrev pub IsItem : Form → Item → Type 0
+IsItem form (inner c) = (c ≢ 34) × (c ≢ 92)
+IsItem form (behind c) = Unit {0}
+IsItem form doubled = form.doubles ≡ true
+
+abbrev pub IsPiece : Form → Piece → Type 0
+IsPiece form (plain c) = may_be_plain form c ≡ true
+IsPiece form (escaped c) = Unit {0}
+IsPiece form (quoted items) = AllByRecursion (IsItem form) items
+
+-- Where quotes are doubled, no quoted piece directly follows another.
+abbrev pub NotQuotedFirst : List Piece → Type 0
+NotQuotedFirst [] = Unit {0}
+NotQuotedFirst (plain c ∷ pieces) = Unit {0}
+NotQuotedFirst (escaped c ∷ pieces) = Unit {0}
+NotQuotedFirst (quoted items ∷ pieces) = ⊥
+
+abbrev pub QuotedApart : List Piece → Type 0
+QuotedApart [] = Unit {0}
+QuotedApart (plain c ∷ pieces) = QuotedApart pieces
+QuotedApart (escaped c ∷ pieces) = QuotedApart pieces
+QuotedApart (quoted items ∷ pieces) = NotQuotedFirst pieces × QuotedApart pieces
+
+pub record ArePieces (form : Form) (pieces : List Piece) : Type 0 where
+  pub each : AllByRecursion (IsPiece form) pieces
+  pub apart : form.doubles ≡ true → QuotedApart pieces
+
+-- The spelling of a list of pieces, and its text.
+abbrev pub spelled : List Piece → List ℕ
+spelled pieces = flat_map spelling pieces
+
+abbrev pub text_of : List Piece → List ℕ
+text_of pieces = flat_map meaning pieces
+
+-- Parts joined by commas.
+abbrev pub joined : List (List Piece) → List ℕ
+joined [] = []
+joined (part ∷ parts) = spelled part ++ flat_map (λ p. 44 ∷ spelled p) parts
+
+-- R holds of the elements of two lists in order, and the lists are as long.
+abbrev pub Pairwise : {X Y : Type 0} → (X → Y → Type 0) → List X → List Y → Type 0
+Pairwise R [] [] = Unit {0}
+Pairwise R [] (y ∷ ys) = ⊥
+Pairwise R (x ∷ xs) [] = ⊥
+Pairwise R (x ∷ xs) (y ∷ ys) = R x y × Pairwise R xs ys
+
+-- What the value of a part depends on.
+abbrev pub has_pieces : List Piece → Bool
+has_pieces [] = false
+has_pieces (piece ∷ pieces) = true
+
+abbrev pub all_plain : List Piece → Bool
+all_plain [] = true
+all_plain (plain c ∷ pieces) = all_plain pieces
+all_plain (escaped c ∷ pieces) = false
+all_plain (quoted items ∷ pieces) = false
+
+abbrev pub value_of : Form → List Piece → Option (List ℕ)
+value_of form pieces = form.value (has_pieces pieces) (all_plain pieces) (encode_utf8_all (text_of pieces))
