@@ -9,3 +9,6 @@ pub mod scalar;
 pub mod tuple;
 
 pub use record::PgRecordDecoder;
+
+#[cfg(test)]
+mod tests;

@@ -7,3 +7,6 @@ pub mod traits;
 pub use decode::PgRecordDecoder;
 pub use pgv_value::{CodecError, PgValue, PgValueFormat, PgValueRef};
 pub use traits::{Decode, PgHasArrayType, Type};
+
+#[cfg(test)]
+mod stand_in;

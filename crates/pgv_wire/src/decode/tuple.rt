@@ -1,10 +1,28 @@
-//! Tuples of one to nine, which are read from records.
+//! Tuples of one to nine, which are read from records (PostgreSQL, "Composite Types"). Their fields are read from the
+//! front; further fields are ignored.
+
+ghost use Rattle.std.specs.Prelude.{◌≡◌};
+ghost use Rattle.pgv_types.specs.Ty.{builtin};
 
 use super::record::PgRecordDecoder;
 use crate::traits::{Decode, PgHasArrayType, Type};
 use pgv_types::{PgType, PgTypeInfo};
 use pgv_value::{CodecError, PgValueRef};
 use std::alloc::Global;
+
+/// The type of a tuple.
+fn record() -> PgTypeInfo
+    ensures { result ≡ builtin 2249 }
+{
+    PgTypeInfo(PgType::Record)
+}
+
+/// The type of an array of tuples.
+fn records() -> PgTypeInfo
+    ensures { result ≡ builtin 2287 }
+{
+    PgTypeInfo(PgType::RecordArray)
+}
 
 /// The first field of a record. Further fields are ignored.
 impl<A: Type + Decode> Decode for (A,) {
@@ -32,11 +50,11 @@ impl<A> Type for (A,) {
     ghost accepts = { λ t. softly t (builtin 2249) };
 
     fn type_info() -> PgTypeInfo {
-        PgTypeInfo(PgType::Record)
+        record()
     }
 
     fn compatible(type_info: &PgTypeInfo) -> bool {
-        type_info.type_compatible(&PgTypeInfo(PgType::Record))
+        type_info.type_compatible(&record())
     }
 }
 
@@ -49,11 +67,11 @@ impl<A> PgHasArrayType for (A,) {
     ghost accepts_array = { λ t. softly t (builtin 2287) };
 
     fn array_type_info() -> PgTypeInfo {
-        PgTypeInfo(PgType::RecordArray)
+        records()
     }
 
     fn array_compatible(type_info: &PgTypeInfo) -> bool {
-        type_info.type_compatible(&PgTypeInfo(PgType::RecordArray))
+        type_info.type_compatible(&records())
     }
 }
 
@@ -85,11 +103,11 @@ impl<A, B> Type for (A, B) {
     ghost accepts = { λ t. softly t (builtin 2249) };
 
     fn type_info() -> PgTypeInfo {
-        PgTypeInfo(PgType::Record)
+        record()
     }
 
     fn compatible(type_info: &PgTypeInfo) -> bool {
-        type_info.type_compatible(&PgTypeInfo(PgType::Record))
+        type_info.type_compatible(&record())
     }
 }
 
@@ -102,11 +120,11 @@ impl<A, B> PgHasArrayType for (A, B) {
     ghost accepts_array = { λ t. softly t (builtin 2287) };
 
     fn array_type_info() -> PgTypeInfo {
-        PgTypeInfo(PgType::RecordArray)
+        records()
     }
 
     fn array_compatible(type_info: &PgTypeInfo) -> bool {
-        type_info.type_compatible(&PgTypeInfo(PgType::RecordArray))
+        type_info.type_compatible(&records())
     }
 }
 
@@ -139,11 +157,11 @@ impl<A, B, C> Type for (A, B, C) {
     ghost accepts = { λ t. softly t (builtin 2249) };
 
     fn type_info() -> PgTypeInfo {
-        PgTypeInfo(PgType::Record)
+        record()
     }
 
     fn compatible(type_info: &PgTypeInfo) -> bool {
-        type_info.type_compatible(&PgTypeInfo(PgType::Record))
+        type_info.type_compatible(&record())
     }
 }
 
@@ -156,11 +174,11 @@ impl<A, B, C> PgHasArrayType for (A, B, C) {
     ghost accepts_array = { λ t. softly t (builtin 2287) };
 
     fn array_type_info() -> PgTypeInfo {
-        PgTypeInfo(PgType::RecordArray)
+        records()
     }
 
     fn array_compatible(type_info: &PgTypeInfo) -> bool {
-        type_info.type_compatible(&PgTypeInfo(PgType::RecordArray))
+        type_info.type_compatible(&records())
     }
 }
 
@@ -194,11 +212,11 @@ impl<A, B, C, D> Type for (A, B, C, D) {
     ghost accepts = { λ t. softly t (builtin 2249) };
 
     fn type_info() -> PgTypeInfo {
-        PgTypeInfo(PgType::Record)
+        record()
     }
 
     fn compatible(type_info: &PgTypeInfo) -> bool {
-        type_info.type_compatible(&PgTypeInfo(PgType::Record))
+        type_info.type_compatible(&record())
     }
 }
 
@@ -211,11 +229,11 @@ impl<A, B, C, D> PgHasArrayType for (A, B, C, D) {
     ghost accepts_array = { λ t. softly t (builtin 2287) };
 
     fn array_type_info() -> PgTypeInfo {
-        PgTypeInfo(PgType::RecordArray)
+        records()
     }
 
     fn array_compatible(type_info: &PgTypeInfo) -> bool {
-        type_info.type_compatible(&PgTypeInfo(PgType::RecordArray))
+        type_info.type_compatible(&records())
     }
 }
 
@@ -250,11 +268,11 @@ impl<A, B, C, D, E> Type for (A, B, C, D, E) {
     ghost accepts = { λ t. softly t (builtin 2249) };
 
     fn type_info() -> PgTypeInfo {
-        PgTypeInfo(PgType::Record)
+        record()
     }
 
     fn compatible(type_info: &PgTypeInfo) -> bool {
-        type_info.type_compatible(&PgTypeInfo(PgType::Record))
+        type_info.type_compatible(&record())
     }
 }
 
@@ -267,11 +285,11 @@ impl<A, B, C, D, E> PgHasArrayType for (A, B, C, D, E) {
     ghost accepts_array = { λ t. softly t (builtin 2287) };
 
     fn array_type_info() -> PgTypeInfo {
-        PgTypeInfo(PgType::RecordArray)
+        records()
     }
 
     fn array_compatible(type_info: &PgTypeInfo) -> bool {
-        type_info.type_compatible(&PgTypeInfo(PgType::RecordArray))
+        type_info.type_compatible(&records())
     }
 }
 
@@ -307,11 +325,11 @@ impl<A, B, C, D, E, F> Type for (A, B, C, D, E, F) {
     ghost accepts = { λ t. softly t (builtin 2249) };
 
     fn type_info() -> PgTypeInfo {
-        PgTypeInfo(PgType::Record)
+        record()
     }
 
     fn compatible(type_info: &PgTypeInfo) -> bool {
-        type_info.type_compatible(&PgTypeInfo(PgType::Record))
+        type_info.type_compatible(&record())
     }
 }
 
@@ -324,11 +342,11 @@ impl<A, B, C, D, E, F> PgHasArrayType for (A, B, C, D, E, F) {
     ghost accepts_array = { λ t. softly t (builtin 2287) };
 
     fn array_type_info() -> PgTypeInfo {
-        PgTypeInfo(PgType::RecordArray)
+        records()
     }
 
     fn array_compatible(type_info: &PgTypeInfo) -> bool {
-        type_info.type_compatible(&PgTypeInfo(PgType::RecordArray))
+        type_info.type_compatible(&records())
     }
 }
 
@@ -365,11 +383,11 @@ impl<A, B, C, D, E, F, G> Type for (A, B, C, D, E, F, G) {
     ghost accepts = { λ t. softly t (builtin 2249) };
 
     fn type_info() -> PgTypeInfo {
-        PgTypeInfo(PgType::Record)
+        record()
     }
 
     fn compatible(type_info: &PgTypeInfo) -> bool {
-        type_info.type_compatible(&PgTypeInfo(PgType::Record))
+        type_info.type_compatible(&record())
     }
 }
 
@@ -382,11 +400,11 @@ impl<A, B, C, D, E, F, G> PgHasArrayType for (A, B, C, D, E, F, G) {
     ghost accepts_array = { λ t. softly t (builtin 2287) };
 
     fn array_type_info() -> PgTypeInfo {
-        PgTypeInfo(PgType::RecordArray)
+        records()
     }
 
     fn array_compatible(type_info: &PgTypeInfo) -> bool {
-        type_info.type_compatible(&PgTypeInfo(PgType::RecordArray))
+        type_info.type_compatible(&records())
     }
 }
 
@@ -424,11 +442,11 @@ impl<A, B, C, D, E, F, G, H> Type for (A, B, C, D, E, F, G, H) {
     ghost accepts = { λ t. softly t (builtin 2249) };
 
     fn type_info() -> PgTypeInfo {
-        PgTypeInfo(PgType::Record)
+        record()
     }
 
     fn compatible(type_info: &PgTypeInfo) -> bool {
-        type_info.type_compatible(&PgTypeInfo(PgType::Record))
+        type_info.type_compatible(&record())
     }
 }
 
@@ -441,11 +459,11 @@ impl<A, B, C, D, E, F, G, H> PgHasArrayType for (A, B, C, D, E, F, G, H) {
     ghost accepts_array = { λ t. softly t (builtin 2287) };
 
     fn array_type_info() -> PgTypeInfo {
-        PgTypeInfo(PgType::RecordArray)
+        records()
     }
 
     fn array_compatible(type_info: &PgTypeInfo) -> bool {
-        type_info.type_compatible(&PgTypeInfo(PgType::RecordArray))
+        type_info.type_compatible(&records())
     }
 }
 
@@ -484,11 +502,11 @@ impl<A, B, C, D, E, F, G, H, I> Type for (A, B, C, D, E, F, G, H, I) {
     ghost accepts = { λ t. softly t (builtin 2249) };
 
     fn type_info() -> PgTypeInfo {
-        PgTypeInfo(PgType::Record)
+        record()
     }
 
     fn compatible(type_info: &PgTypeInfo) -> bool {
-        type_info.type_compatible(&PgTypeInfo(PgType::Record))
+        type_info.type_compatible(&record())
     }
 }
 
@@ -501,10 +519,10 @@ impl<A, B, C, D, E, F, G, H, I> PgHasArrayType for (A, B, C, D, E, F, G, H, I) {
     ghost accepts_array = { λ t. softly t (builtin 2287) };
 
     fn array_type_info() -> PgTypeInfo {
-        PgTypeInfo(PgType::RecordArray)
+        records()
     }
 
     fn array_compatible(type_info: &PgTypeInfo) -> bool {
-        type_info.type_compatible(&PgTypeInfo(PgType::RecordArray))
+        type_info.type_compatible(&records())
     }
 }
