@@ -55,6 +55,7 @@
 
 pub mod arguments;
 pub mod buffer;
+pub mod decode;
 pub mod laws;
 #[cfg(test)]
 mod tests;
@@ -63,6 +64,7 @@ pub mod types;
 
 pub use arguments::PgArguments;
 pub use buffer::{IsNull, PgArgumentBuffer};
+pub use decode::PgRecordDecoder;
 pub use pgv_value::{CodecError, PgValue, PgValueFormat, PgValueRef};
 pub use traits::{Decode, Encode, PgHasArrayType, Type};
 pub use types::array::encode_array;
