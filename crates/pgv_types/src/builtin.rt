@@ -7,7 +7,8 @@ ghost use Rattle.pgv_types.specs.Shown.{type_of};
 use crate::{Oid, PgType};
 
 impl PgType {
-    /// The OID, if it is known.
+    /// The OID: a built-in type's, a custom type's own, or the declared one. `None` where only a name
+    /// is known.
     pub fn oid(&self) -> Option<Oid>
         ensures { option_map (λ o. o.0) result ≡ oid_of (type_of self.now) }
     {
@@ -111,7 +112,7 @@ impl PgType {
         }
     }
 
-    /// The built-in type with this OID.
+    /// The built-in type with this OID. `None` where no built-in type has it.
     pub fn try_from_oid(oid: Oid) -> Option<PgType>
         ensures { option_map type_of result ≡ built_in oid.0 }
     {

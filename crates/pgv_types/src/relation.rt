@@ -32,6 +32,7 @@ impl PgTypeInfo {
         Some(first == second)
     }
 
+    /// Whether it was declared by its OID.
     fn is_by_oid(&self) -> bool
         ensures { result ≡ is_by_oid self.now }
     {
@@ -45,12 +46,14 @@ impl PgTypeInfo {
         soft && (self.is_by_oid() || other.is_by_oid())
     }
 
+    /// Whether the catalogue names agree.
     fn names_agree(&self, other: &PgTypeInfo) -> bool
         ensures { result ≡ agree (name_of self.now) (name_of other.now) }
     {
         self.0.name().agrees(&other.0.name())
     }
 
+    /// Whether the two are softly, or else exactly, the same.
     fn is_related(&self, other: &PgTypeInfo, soft: bool) -> bool
         ensures { result ≡ related soft (levels self.now) (levels other.now) }
     {
@@ -69,14 +72,21 @@ impl PgTypeInfo {
         first.as_ref().is_related(second.as_ref(), soft)
     }
 
-    /// The soft relation.
+    /// Whether a value of one type may stand for one of the other: the soft relation.
+    ///
+    /// By the first rule that applies: two base OIDs, a domain's being that of the type under it,
+    /// are equal or not; yes where either type is declared by its OID; two elements, softly; else
+    /// whether the catalogue names agree. It takes no memory.
     pub fn type_compatible(&self, other: &PgTypeInfo) -> bool
         ensures { result ≡ softly self.now other.now }
     {
         self.is_related(other, true)
     }
 
-    /// The exact relation.
+    /// Whether the two are one type, as far as is known: the exact relation.
+    ///
+    /// As `type_compatible`, but a type that is declared by its OID has no rule of its own, and
+    /// elements are asked exactly. It takes no memory.
     pub fn type_eq(&self, other: &PgTypeInfo) -> bool
         ensures { result ≡ exactly self.now other.now }
     {
