@@ -71,7 +71,19 @@ impl ValueType {
         ensures err { IfErr result (λ e. (e ≡ Memory) ⊎ (value_framed self format (option_copied part) ≡ None)) }
         ensures null { option_copied part ≡ None → IsErrOf result UnexpectedNull }
     {
-        Err(CodecError::Memory)
+        let given = PgValueRef::new(part, self.info(), format);
+        Ok(match self {
+            ValueType::Bool => Value::Bool(bool::decode(alloc, given)?),
+            ValueType::Char => Value::Char(i8::decode(alloc, given)?),
+            ValueType::Int2 => Value::Int2(i16::decode(alloc, given)?),
+            ValueType::Int4 => Value::Int4(i32::decode(alloc, given)?),
+            ValueType::Int8 => Value::Int8(i64::decode(alloc, given)?),
+            ValueType::Oid => Value::Oid(Oid::decode(alloc, given)?),
+            ValueType::Text => Value::Text(String::decode(alloc, given)?),
+            ValueType::Uuid => Value::Uuid(Uuid::decode(alloc, given)?),
+            ValueType::Int4Array => Value::Int4Array(Vec::<Option<i32>>::decode(alloc, given)?),
+            ValueType::TextArray => Value::TextArray(Vec::<Option<String>>::decode(alloc, given)?),
+        })
     }
 }
 
