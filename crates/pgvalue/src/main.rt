@@ -4,6 +4,8 @@
 mod line;
 mod run;
 mod session;
+#[cfg(test)]
+mod tests;
 mod value;
 
 use run::{RunFault, fault_text, run};

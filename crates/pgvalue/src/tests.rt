@@ -1,0 +1,191 @@
+//! Sessions with the answers that they must have, and readers and writers that fail.
+
+use crate::run::{RunFault, fault_text, run};
+use std::fs;
+use std::io::{self, BufRead, Error, ErrorKind, Read, Write};
+use std::test::Fail;
+
+/// The lines of one session, each with its answer.
+fn check(rt: &HostRuntime, session: &[(&str, &str)]) -> Result<(), Fail> {
+    let mut input = String::new(rt.alloc());
+    let mut wanted = String::new(rt.alloc());
+    for (line, answer) in session {
+        input.push_str(line)?;
+        input.push('\n')?;
+        wanted.push_str(answer)?;
+        wanted.push('\n')?;
+    }
+    check_bytes(rt, input.as_bytes(), wanted.as_bytes())
+}
+
+fn check_bytes(rt: &HostRuntime, input: &[u8], wanted: &[u8]) -> Result<(), Fail> {
+    let mut input = input;
+    let mut output: Vec<u8> = Vec::new(rt.alloc());
+    let done = run(rt.alloc(), &mut input, &mut output);
+    assert_eq!(rt; done, Ok(()));
+    assert_eq!(rt; output.as_slice(), wanted);
+    Ok(())
+}
+
+#[test]
+fn numbers_and_texts(rt: HostRuntime) -> Result<(), Fail> {
+    check(&rt, &[
+        ("add int4 7", "$1"),
+        ("add text ", "$2"),
+        ("add int4 2147483648", "refused C30"),
+        ("wire", "000000040000000700000000"),
+        ("read int4 00000007", "0000000400000007"),
+        ("read int4 null", "refused C13"),
+        ("read text ff", "refused C14"),
+        ("add text", "refused line"),
+    ])
+}
+
+#[test]
+fn plain_values(rt: HostRuntime) -> Result<(), Fail> {
+    check(&rt, &[
+        ("read bool 02", "0000000101"),
+        ("read bool ", "refused C15"),
+        ("read int2 ff", "00000002ffff"),
+        ("read int2 00008000", "refused C30"),
+        ("add char \\377", "$1"),
+        ("add oid +4294967295", "$2"),
+        ("add oid 4294967296", "refused C30"),
+        ("add oid -1", "refused C29"),
+        ("null uuid", "$3"),
+        ("wire", "00000001ff00000004ffffffffffffffff"),
+    ])
+}
+
+#[test]
+fn arrays_and_holes(rt: HostRuntime) -> Result<(), Fail> {
+    check(&rt, &[
+        ("holes", "none"),
+        ("resolve", "ok"),
+        ("resolve 1", "refused C11"),
+        ("resolve 4294967296", "refused line"),
+        ("resolve +1", "refused line"),
+        ("resolve 1  2", "refused line"),
+        ("add text[] {x,NULL,\"a,b\"}", "$1"),
+        ("wire", "0000002400000001000000000000001900000003000000010000000178ffffffff00000003612c62"),
+        ("add int4[] {1,x}", "refused C29"),
+        ("read int4[] 0000000000", "0000001400000001000000000000001700000000"),
+        ("", "refused line"),
+        ("wire now", "refused line"),
+        ("read int4 0", "refused line"),
+        ("null money", "refused line"),
+    ])
+}
+
+/// What a PostgreSQL server wrote: `data/README.md` says how these sessions were made.
+#[test]
+fn vectors_of_scalars(rt: HostRuntime) -> Result<(), Fail> {
+    let input = fs::read(&rt, "data/scalars.in")?;
+    let wanted = fs::read(&rt, "data/scalars.out")?;
+    check_bytes(&rt, input.as_slice(), wanted.as_slice())
+}
+
+#[test]
+fn vectors_of_arrays(rt: HostRuntime) -> Result<(), Fail> {
+    let input = fs::read(&rt, "data/arrays.in")?;
+    let wanted = fs::read(&rt, "data/arrays.out")?;
+    check_bytes(&rt, input.as_slice(), wanted.as_slice())
+}
+
+/// A reader that fails at a call.
+#[derive(Drop)]
+struct FailingReader<'a> {
+    bytes: &'a [u8],
+    calls: u32,
+}
+
+impl FailingReader<'_> {
+    fn step(&mut self) -> io::Result<()> {
+        if self.calls == 0 {
+            return Err(Error::from(ErrorKind::Other));
+        }
+        self.calls -= 1;
+        Ok(())
+    }
+}
+
+impl Read for FailingReader<'_> {
+    fn read(&mut self, buf: &mut [u8]) -> io::Result<usize> {
+        self.step()?;
+        let Some((first, rest)) = self.bytes.split_first() else {
+            return Ok(0);
+        };
+        if buf.is_empty() {
+            return Ok(0);
+        }
+        buf[0] = *first;
+        self.bytes = rest;
+        Ok(1)
+    }
+}
+
+impl BufRead for FailingReader<'_> {
+    fn fill_buf(&mut self) -> io::Result<&[u8]> {
+        self.step()?;
+        let shown = if self.bytes.len() < 3 { self.bytes.len() } else { 3 };
+        Ok(&self.bytes[..shown])
+    }
+
+    fn consume(&mut self, amount: usize) {
+        if amount <= self.bytes.len() {
+            self.bytes = &self.bytes[amount..];
+        }
+    }
+}
+
+/// A writer that fails at a call.
+#[derive(Drop)]
+struct FailingWriter {
+    written: Vec<u8>,
+    calls: u32,
+}
+
+impl Write for FailingWriter {
+    fn write(&mut self, buf: &[u8]) -> io::Result<usize> {
+        if self.calls == 0 {
+            return Err(Error::from(ErrorKind::Other));
+        }
+        self.calls -= 1;
+        self.written.extend_from_slice(buf)?;
+        Ok(buf.len())
+    }
+
+    fn flush(&mut self) -> io::Result<()> {
+        Ok(())
+    }
+}
+
+#[test]
+fn faults_are_told(rt: HostRuntime) -> Result<(), Fail> {
+    let lines = b"add int4 7\nwire\nwhat".as_slice();
+    let answers = b"$1\n0000000400000007\nrefused line\n".as_slice();
+    for calls in 0..40u32 {
+        let mut reader = FailingReader {
+            bytes: lines,
+            calls,
+        };
+        let mut written: Vec<u8> = Vec::new(rt.alloc());
+        let done = run(rt.alloc(), &mut reader, &mut written);
+        assert!(rt; done == Ok(()) || done == Err(RunFault::Read));
+        assert!(rt; answers.starts_with(written.as_slice()));
+    }
+    for calls in 0..6u32 {
+        let mut writer = FailingWriter {
+            written: Vec::new(rt.alloc()),
+            calls,
+        };
+        let mut reader = lines;
+        let done = run(rt.alloc(), &mut reader, &mut writer);
+        assert_eq!(rt; done, if calls < 3 { Err(RunFault::Write) } else { Ok(()) });
+        assert!(rt; answers.starts_with(writer.written.as_slice()));
+    }
+    assert_eq!(rt; fault_text(&RunFault::Read), "pgvalue: read failed");
+    assert_eq!(rt; fault_text(&RunFault::Write), "pgvalue: write failed");
+    assert_eq!(rt; fault_text(&RunFault::Memory), "pgvalue: out of memory");
+    Ok(())
+}
