@@ -3,3 +3,4 @@ pub mod Wording
 pub mod Feeds
 pub mod SoFar
 pub mod Lists
+pub mod Refusals

@@ -1,7 +1,7 @@
 -- What a session has read and written so far.
 use Rattle.std.proofs.Common.{◌≡◌, ◌≢◌, ◌++◌, ◌∙◌, sym, ap, subst, List, ℕ, [], ◌∷◌, refl, append_assoc, append-nil}
 use Rattle.std.specs.Prelude.{Option, Some, None, IfSome, ⊤}
-use Rattle.std.specs.Io.KnownBytes.{Appends}
+use Rattle.std.specs.Io.KnownBytes.{Appends, IsAtEnd}
 use Rattle.std.specs.Io.BufRead.{take_through, drop_through, DropsThrough}
 use Rattle.pgvalue.specs.Lines.{before}
 use Rattle.pgvalue.specs.Session.{State, Answers, IsSession, lines_of}
@@ -16,7 +16,7 @@ IsSoFar (Some xs) (Some ys) old new now =
 
 nothing_appended : (o : Option (List ℕ)) → Appends o o []
 nothing_appended None = tt
-nothing_appended (Some os) = sym append-nil
+nothing_appended (Some os) = sym (append-nil os)
 
 pub at_first : (a o : Option (List ℕ)) → IsSoFar a a o o []
 at_first None o = tt
@@ -50,9 +50,9 @@ so_far (Some xs) (Some (y ∷ ys)) c o w v was now line text h n t d r p =
     )
 
 -- the input was read to its end
-pub whole : (a b o w : Option (List ℕ)) (now : State) → IsSoFar a b o w now → IfSome b (λ xs. xs ≡ []) →
+pub whole : (a b o w : Option (List ℕ)) (now : State) → IsSoFar a b o w now → IsAtEnd b →
     IfSome a (λ xs. (out : List ℕ) × Appends o w out × IsSession [] (lines_of xs) out)
 whole None b o w now h e = tt
 whole (Some xs) None o w now h e = absurd h
 whole (Some xs) (Some ys) o w now h e =
-    (h.0, h.1, subst (λ (out : List ℕ). IsSession [] (lines_of xs) out) append-nil (h.2 [] (subst (λ (l : List ℕ). IsSession now (lines_of l) []) (sym e) refl)))
+    (h.0, h.1, subst (λ (out : List ℕ). IsSession [] (lines_of xs) out) (append-nil h.0) (h.2 [] (subst (λ (l : List ℕ). IsSession now (lines_of l) []) (sym e) refl)))

@@ -1,5 +1,5 @@
 -- A session of the program: what each line does to the arguments, and what it answers.
-use Rattle.std.specs.Prelude.{◌≡◌, ℕ, ℤ, ◌+◌, ◌≤◌, ◌==◌, nat_eq, Bool, true, false, codes, decimal, List, [], ◌∷◌, ◌++◌, length, Option, Some, None, option_map, if◌then◌else◌, ⊤, flat_map}
+use Rattle.std.specs.Prelude.{◌≡◌, ℕ, ℤ, ◌+◌, ◌≤◌, ◌==◌, Bool, true, false, codes, decimal, List, [], ◌∷◌, ◌++◌, length, Option, Some, None, option_map, if◌then◌else◌}
 use Rattle.std.specs.Int.{Width, w8, w16, w32, w64}
 use Rattle.hex.specs.Hex.{encode_lower}
 use Rattle.pgv_types.specs.Ty.{Ty, builtin}
@@ -63,44 +63,45 @@ State = List Argument
 abbrev pub placeholder : State → List ℕ
 placeholder args = 36 ∷ decimal (length args)
 
+-- `refused Cn`
+abbrev pub refused : ℕ → List ℕ
+refused n = codes "refused C" ++ decimal n
+
 -- `refused Cn`, n from 2 to 38; which n is left open
 abbrev pub IsRefusal : List ℕ → Type 0
-IsRefusal answer = (n : ℕ) × (2 ≤ n) × (n ≤ 38) × (answer ≡ codes "refused C" ++ decimal n)
+IsRefusal answer = (n : ℕ) × (2 ≤ n) × (n ≤ 38) × (answer ≡ refused n)
 
 -- what is accepted is added, and what is refused changes nothing
 abbrev pub Adds : Option Framed → State → List ℕ → State → Type 0
 Adds None was answer now = IsRefusal answer × (now ≡ was)
 Adds (Some f) was answer now = (answer ≡ placeholder now) × (now ≡ was ++ (f.0, blank f.1) ∷ [])
 
-abbrev pub display_names : List Ty → List (List ℕ)
-display_names [] = []
-display_names (t ∷ ts) = display_of t ∷ display_names ts
+-- the display names, with one space before each
+abbrev pub names_behind : List Ty → List ℕ
+names_behind [] = []
+names_behind (t ∷ ts) = 32 ∷ (display_of t ++ names_behind ts)
 
--- the names with one space between them
-abbrev pub spaced : List (List ℕ) → List ℕ
-spaced [] = []
-spaced (name ∷ names) = name ++ flat_map (λ n. 32 ∷ n) names
-
+-- the display names with one space between them, or `none`
 abbrev pub names_shown : List Ty → List ℕ
 names_shown [] = codes "none"
-names_shown (t ∷ ts) = spaced (display_names (t ∷ ts))
+names_shown (t ∷ ts) = display_of t ++ names_behind ts
 
 -- each argument's parameter type is its own
 abbrev pub Resolves : Bool → List Oid → State → List ℕ → State → Type 0
-Resolves false oids was answer now = (answer ≡ codes "refused C11") × (now ≡ was)
+Resolves false oids was answer now = (answer ≡ refused 11) × (now ≡ was)
 Resolves true oids was answer now = (answer ≡ codes "ok") × (now ≡ filled_arguments was (types_in was) oids)
 
 -- the frame that the value writes, its holes as zeros; a null that is not read is C13
 abbrev pub Reads : Option Framed → Option (List ℕ) → List ℕ → Type 0
 Reads (Some f) part answer = answer ≡ encode_lower (shown (blank f.1))
 Reads None (Some bytes) answer = IsRefusal answer
-Reads None None answer = answer ≡ codes "refused C13"
+Reads None None answer = answer ≡ refused 13
 
 abbrev pub Responds : Request → State → List ℕ → State → Type 0
 Responds (adds t text) was answer now = Adds (value_framed t InText (Some text)) was answer now
 Responds (adds_null t) was answer now = Adds (Some (info_of t, bytes (be4 4294967295))) was answer now
 Responds asks_holes was answer now = (answer ≡ names_shown (hole_types_of (all_tokens was))) × (now ≡ was)
-Responds (resolves oids) was answer now = Resolves (nat_eq (length oids) (hole_count (all_tokens was))) oids was answer now
+Responds (resolves oids) was answer now = Resolves (length oids == hole_count (all_tokens was)) oids was answer now
 Responds asks_wire was answer now = (answer ≡ encode_lower (shown (all_tokens was))) × (now ≡ was)
 Responds (reads t part) was answer now = Reads (value_framed t InBinary part) part answer × (now ≡ was)
 

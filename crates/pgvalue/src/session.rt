@@ -1,13 +1,15 @@
 //! What a line does, and what it answers.
 
-ghost use Rattle.std.specs.Prelude.{◌≡◌, ◌++◌, Some, IfOk, MatchOption, length, nat_eq, string_bytes, codes, decimal};
+ghost use Rattle.std.specs.Prelude.{◌≡◌, ◌≢◌, ◌++◌, Some, IfOk, OnOk, MatchOption, length, ◌==◌, string_bytes};
 ghost use Rattle.std.specs.Option.{option_copied};
 ghost use Rattle.hex.specs.Hex.{encode_lower};
+ghost use Rattle.pgv_types.specs.Facts.{display_of};
 ghost use Rattle.pgv_buf.specs.Tokens.{shown, blank, hole_count};
 ghost use Rattle.pgv_value.specs.Codes.{code_of};
+ghost use Rattle.pgv_value.specs.declared.error.CodecError.TheVariants.{Memory};
 ghost use Rattle.pgv_value.specs.declared.value.PgValueFormat.TheVariants.{Text as InText, Binary as InBinary};
 ghost use Rattle.pgv_wire.specs.Arguments.{all_tokens};
-ghost use Rattle.pgvalue.specs.Session.{Answers, Adds, Reads, Resolves, IsRefusal, names_shown, value_framed, placeholder as placeholder_of};
+ghost use Rattle.pgvalue.specs.Session.{Answers, Adds, Reads, Resolves, refused, IsRefusal, names_shown, value_framed, placeholder as placeholder_of};
 ghost use Rattle.pgvalue.specs.Values.{framed_as};
 
 use crate::line::{Request, ValueType, parse};
@@ -86,7 +88,7 @@ fn resolve(
     arguments: &mut PgArguments,
     oids: &[Oid],
 ) -> Result<String, AllocError>
-    ensures { IfOk result (λ answer. Resolves (nat_eq (length oids.now) (hole_count (all_tokens arguments.old))) oids.now arguments.old (string_bytes answer) arguments.new) }
+    ensures { IfOk result (λ answer. Resolves (length oids.now == hole_count (all_tokens arguments.old)) oids.now arguments.old (string_bytes answer) arguments.new) }
 {
     let types = arguments.types().to_vec(alloc)?;
     match arguments.apply_patches(types.as_slice(), oids) {
@@ -101,7 +103,7 @@ fn read(
     value_type: ValueType,
     part: Option<&[u8]>,
 ) -> Result<String, AllocError>
-    ensures { IfOk result (λ answer. Reads (value_framed value_type InBinary (option_copied part)) (option_copied part) (string_bytes answer)) }
+    ensures { IfOk result (λ answer. Reads (value_framed value_type InBinary (option_copied part.entry)) (option_copied part.entry) (string_bytes answer)) }
 {
     match value_type.read(alloc, part, PgValueFormat::Binary) {
         Ok(value) => frame_text(alloc, &value),
@@ -122,7 +124,8 @@ fn frame_text(alloc: Global, value: &Value) -> Result<String, AllocError>
 /// `refused Cn`. Want of memory (C1) is none of a session's refusals.
 fn refusal(alloc: Global, error: &CodecError) -> Result<String, AllocError>
     ensures refused { IfOk result (λ text. IsRefusal (string_bytes text)) }
-    ensures number { IfOk result (λ text. string_bytes text ≡ codes "refused C" ++ decimal (code_of error.now)) }
+    ensures told { IfOk result (λ _. error.now ≢ Memory) }
+    ensures number { IfOk result (λ text. string_bytes text ≡ refused (code_of error.now)) }
 {
     if let CodecError::Memory = error {
         return Err(AllocError);
@@ -135,17 +138,23 @@ fn refusal(alloc: Global, error: &CodecError) -> Result<String, AllocError>
 fn names(alloc: Global, types: &[PgTypeInfo]) -> Result<String, AllocError>
     ensures { IfOk result (λ text. string_bytes text ≡ names_shown types.now) }
 {
+    let Some((first, rest)) = types.split_first() else {
+        return String::from_str(alloc, "none");
+    };
     let mut text = String::new(alloc);
-    for (place, hole_type) in types.iter().enumerate() {
-        if place > 0 {
-            text.push(' ')?;
-        }
-        let name = hole_type.name();
-        text.push_str(name.text())?;
-        text.push_str(name.suffix())?;
-    }
-    if types.is_empty() {
-        text.push_str("none")?;
+    push_name(&mut text, first)?;
+    for hole_type in rest {
+        text.push(' ')?;
+        push_name(&mut text, hole_type)?;
     }
     Ok(text)
+}
+
+fn push_name(text: &mut String, hole_type: &PgTypeInfo) -> Result<(), AllocError>
+    ensures { OnOk result (string_bytes text.new ≡ string_bytes text.old ++ display_of hole_type.now) }
+{
+    let name = hole_type.name();
+    text.push_str(name.text())?;
+    text.push_str(name.suffix())?;
+    Ok(())
 }

@@ -67,23 +67,27 @@ impl ValueType {
         part: Option<&[u8]>,
         format: PgValueFormat,
     ) -> Result<Value, CodecError>
-        ensures ok { IfOk result (λ value. value_framed self format (option_copied part) ≡ framed_as value) }
-        ensures err { IfErr result (λ e. (e ≡ Memory) ⊎ (value_framed self format (option_copied part) ≡ None)) }
-        ensures null { option_copied part ≡ None → IsErrOf result UnexpectedNull }
+        ensures ok { IfOk result (λ value. value_framed self format (option_copied part.entry) ≡ framed_as value) }
+        ensures err { IfErr result (λ e. (e ≡ Memory) ⊎ (value_framed self format (option_copied part.entry) ≡ None)) }
+        ensures null { option_copied part.entry ≡ None → IsErrOf result UnexpectedNull }
     {
         let given = PgValueRef::new(part, self.info(), format);
-        Ok(match self {
-            ValueType::Bool => Value::Bool(bool::decode(alloc, given)?),
-            ValueType::Char => Value::Char(i8::decode(alloc, given)?),
-            ValueType::Int2 => Value::Int2(i16::decode(alloc, given)?),
-            ValueType::Int4 => Value::Int4(i32::decode(alloc, given)?),
-            ValueType::Int8 => Value::Int8(i64::decode(alloc, given)?),
-            ValueType::Oid => Value::Oid(Oid::decode(alloc, given)?),
-            ValueType::Text => Value::Text(String::decode(alloc, given)?),
-            ValueType::Uuid => Value::Uuid(Uuid::decode(alloc, given)?),
-            ValueType::Int4Array => Value::Int4Array(Vec::<Option<i32>>::decode(alloc, given)?),
-            ValueType::TextArray => Value::TextArray(Vec::<Option<String>>::decode(alloc, given)?),
-        })
+        match self {
+            ValueType::Bool => Ok(Value::Bool(bool::decode(alloc, given)?)),
+            ValueType::Char => Ok(Value::Char(i8::decode(alloc, given)?)),
+            ValueType::Int2 => Ok(Value::Int2(i16::decode(alloc, given)?)),
+            ValueType::Int4 => Ok(Value::Int4(i32::decode(alloc, given)?)),
+            ValueType::Int8 => Ok(Value::Int8(i64::decode(alloc, given)?)),
+            ValueType::Oid => Ok(Value::Oid(Oid::decode(alloc, given)?)),
+            ValueType::Text => Ok(Value::Text(String::decode(alloc, given)?)),
+            ValueType::Uuid => Ok(Value::Uuid(Uuid::decode(alloc, given)?)),
+            ValueType::Int4Array => {
+                Ok(Value::Int4Array(Vec::<Option<i32>>::decode(alloc, given)?))
+            }
+            ValueType::TextArray => {
+                Ok(Value::TextArray(Vec::<Option<String>>::decode(alloc, given)?))
+            }
+        }
     }
 }
 
