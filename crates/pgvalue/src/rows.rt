@@ -22,11 +22,7 @@ const MOODS_16600: &str = "0000001a 00000001 00000000 000040d8 00000001 00000001
 const MOODS_16601: &str = "0000001a 00000001 00000000 000040d9 00000001 00000001 00000002 6f6b";
 
 /// Compares what a buffer shows with texts of hex digits, one behind the other. Their spaces say nothing.
-fn check(
-    rt: &HostRuntime,
-    buffer: &PgArgumentBuffer,
-    texts: &[&str],
-) -> Result<(), CodecError> {
+fn check(rt: &HostRuntime, buffer: &PgArgumentBuffer, texts: &[&str]) -> Result<(), CodecError> {
     let mut wanted = String::new(rt.alloc());
     for text in texts {
         for group in text.split(' ') {
@@ -69,12 +65,16 @@ fn frames_of_arguments(rt: HostRuntime) -> Result<(), CodecError> {
     texts.push(None)?;
     arguments.add(texts)?;
     arguments.add(Some(None::<i32>))?;
-    check(&rt, arguments.buffer(), &[
-        "00000024 00000001 00000000 00000017 00000002 00000001 00000004 00000001 00000004 00000002",
-        "00000014 00000001 00000000 00000017 00000000 00000001",
-        "0000001c 00000001 00000000 00000019 00000002 00000001 00000000 ffffffff",
-        "ffffffff",
-    ])?;
+    check(
+        &rt,
+        arguments.buffer(),
+        &[
+            "00000024 00000001 00000000 00000017 00000002 00000001 00000004 00000001 00000004 00000002",
+            "00000014 00000001 00000000 00000017 00000000 00000001",
+            "0000001c 00000001 00000000 00000019 00000002 00000001 00000000 ffffffff",
+            "ffffffff",
+        ],
+    )?;
     let null = PgValueRef::new(None, PgTypeInfo(PgType::Int4), PgValueFormat::Binary);
     let read = Option::<Option<i32>>::decode(alloc, null)?;
     assert!(rt; read.is_none());
@@ -107,13 +107,21 @@ fn refused_values_leave_the_arguments(rt: HostRuntime) -> Result<(), CodecError>
 fn some_of_each_are_refused(rt: HostRuntime) -> Result<(), CodecError> {
     let alloc = rt.alloc();
     let mut arguments = PgArguments::new(alloc);
-    let values = [ButThree { number: 2 }, ButThree { number: 3 }, ButThree { number: 4 }];
+    let values = [
+        ButThree { number: 2 },
+        ButThree { number: 3 },
+        ButThree { number: 4 },
+    ];
     let outcomes = arguments.add_each(alloc, &values)?;
     assert_eq!(rt; outcomes.len(), 3);
     assert!(rt; outcomes[0].is_ok());
     assert!(rt; matches!(&outcomes[1], Err(CodecError::Caller(1))));
     assert!(rt; outcomes[2].is_ok());
-    check(&rt, arguments.buffer(), &["00000004 00000002 00000004 00000004"])
+    check(
+        &rt,
+        arguments.buffer(),
+        &["00000004 00000002 00000004 00000004"],
+    )
 }
 
 #[test]
@@ -166,7 +174,11 @@ fn slots_of_arguments(rt: HostRuntime) -> Result<(), CodecError> {
     arguments.add(EmptyObject { alloc })?;
     let types = [PgTypeInfo(PgType::Json), PgTypeInfo(PgType::Jsonb)];
     arguments.apply_patches(&types, &[])?;
-    check(&rt, arguments.buffer(), &["00000003 20 7b7d", "00000003 01 7b7d"])
+    check(
+        &rt,
+        arguments.buffer(),
+        &["00000003 20 7b7d", "00000003 01 7b7d"],
+    )
 }
 
 #[test]
@@ -184,11 +196,15 @@ fn values_that_produce_another_type(rt: HostRuntime) -> Result<(), CodecError> {
     arguments.add(one)?;
     check_names(&rt, arguments.hole_types(), "mood ")?;
     arguments.add(Vec::<MoodText>::new(alloc))?;
-    check(&rt, arguments.buffer(), &[
-        "00000002 6f6b",
-        MOODS,
-        "00000014 00000001 00000000 00000019 00000000 00000001",
-    ])
+    check(
+        &rt,
+        arguments.buffer(),
+        &[
+            "00000002 6f6b",
+            MOODS,
+            "00000014 00000001 00000000 00000019 00000000 00000001",
+        ],
+    )
 }
 
 #[test]
@@ -199,10 +215,18 @@ fn records_of_callers(rt: HostRuntime) -> Result<(), CodecError> {
         id: 1,
         mood: Mood::ok(alloc)?,
     })?;
-    check(&rt, arguments.buffer(), &["0000001a 00000002 00000017 00000004 00000001 00000000 00000002 6f6b"])?;
+    check(
+        &rt,
+        arguments.buffer(),
+        &["0000001a 00000002 00000017 00000004 00000001 00000000 00000002 6f6b"],
+    )?;
     let person = [PgTypeInfo::with_name("person")];
     arguments.apply_patches(&person, &[Oid(16600)])?;
-    check(&rt, arguments.buffer(), &["0000001a 00000002 00000017 00000004 00000001 000040d8 00000002 6f6b"])?;
+    check(
+        &rt,
+        arguments.buffer(),
+        &["0000001a 00000002 00000017 00000004 00000001 000040d8 00000002 6f6b"],
+    )?;
     let mut arguments = PgArguments::new(alloc);
     arguments.add(Household {
         id: 1,
@@ -211,10 +235,14 @@ fn records_of_callers(rt: HostRuntime) -> Result<(), CodecError> {
     check_names(&rt, arguments.hole_types(), "mood[] mood ")?;
     let household = [PgTypeInfo::with_name("household")];
     arguments.apply_patches(&household, &[Oid(16601), Oid(16600)])?;
-    check(&rt, arguments.buffer(), &[
-        "00000032 00000002 00000017 00000004 00000001 000040d9",
-        MOODS_16600,
-    ])
+    check(
+        &rt,
+        arguments.buffer(),
+        &[
+            "00000032 00000002 00000017 00000004 00000001 000040d9",
+            MOODS_16600,
+        ],
+    )
 }
 
 #[test]
@@ -227,7 +255,11 @@ fn refused_fields_and_cleared_buffers(rt: HostRuntime) -> Result<(), CodecError>
     let refused = record.encode(Size { alloc, number: 0 });
     assert!(rt; matches!(refused, Err(CodecError::Caller(38))));
     record.finish();
-    check(&rt, &out, &["00000002 00000017 00000004 00000001 00000000 00000002 6f6b"])?;
+    check(
+        &rt,
+        &out,
+        &["00000002 00000017 00000004 00000001 00000000 00000002 6f6b"],
+    )?;
     check_names(&rt, out.hole_types(), "mood ")?;
     out.clear();
     assert!(rt; out.as_slice().is_empty());
