@@ -1,6 +1,6 @@
 //! Laws of the definitions: what holds of all bytes, with nothing to run.
 
-ghost use Rattle.std.specs.Prelude.{◌≡◌};
+ghost use Rattle.std.specs.Prelude.{◌≡◌, fold};
 ghost use Rattle.pgv_value.specs.Laws.{CutFrameIsShort, FrontIsFrame};
 
 use std::hash::{Hash, Hasher};
@@ -20,7 +20,9 @@ pub fn cut_frame_is_short()
 pub fn equal_ids_hash_alike<H: Hasher>(a: &Uuid, b: &Uuid, first: &mut H, second: &mut H)
     requires state { first.old ≡ second.old }
     requires equal { a.now ≡ b.now }
-    ensures { first.new ≡ second.new }
+    // Each hasher took in what the identifier's hash is made of.
+    ensures hashed { first.new ≡ fold H.write first.old (⟦<Uuid as Hash>⟧.hash_input a.now) }
+    ensures alike { first.new ≡ second.new }
 {
     a.hash(first);
     b.hash(second);

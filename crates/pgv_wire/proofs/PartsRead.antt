@@ -54,10 +54,10 @@ frame_found (image_of ts) c rest e p =
     let len : length (shown b.cells) ≡ tokens_width ts = length-shown b.cells q ∙ (width-plain b.cells ∙ ap tokens_width b.tokens) in
     let bytes_are : shown c ≡ be4 (tokens_width ts) ++ shown b.cells = ap shown b.whole in
     let found : front (shown c ++ rest) ≡ Some (Some (shown b.cells), rest) =
-        frame_in_front (shown c ++ rest) (Some (shown b.cells)) rest (
-          omega (arith, len, k.0),
-          ap (λ (r : List ℕ). r ++ rest) bytes_are ∙ ap (λ n. to_be_bytes w32 n ++ (shown b.cells ++ rest)) (sym len),
-        ) in
+    frame_in_front (shown c ++ rest) (Some (shown b.cells)) rest (
+      omega (arith, len, k.0),
+      ap (λ (r : List ℕ). r ++ rest) bytes_are ∙ ap (λ n. to_be_bytes w32 n ++ (shown b.cells ++ rest)) (sym len),
+    ) in
     found ∙ ap (λ (r : List ℕ). Some (Some r, rest)) (sym (ap (drop 4) bytes_are))
 
 Proper-first : (a c : List Cell) → Proper (a ++ c) → Proper a

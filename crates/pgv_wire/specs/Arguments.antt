@@ -1,4 +1,5 @@
--- A list of arguments, each a type and the cells of its frame, and what it is written args.
+-- A list of arguments, each a type and the cells of its frame, and what it is written as with parameter types and
+-- OIDs (PostgreSQL: "Message Formats", Bind; "Extended Query").
 use Rattle.std.specs.Prelude.{◌≡◌, ℕ, List, [], ◌∷◌, ◌++◌, take, drop, replicate, Option, Some}
 use Rattle.pgv_types.specs.Ty.{Ty}
 use Rattle.pgv_types.specs.declared.oid.Oid.{Oid}

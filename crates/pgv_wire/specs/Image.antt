@@ -1,4 +1,5 @@
--- What a value is written as.
+-- What a value is written as: its image, its frame (PostgreSQL: "Message Formats", Bind), and the binary forms of
+-- arrays, nulls and records ("Arrays", "Composite Types").
 use Rattle.std.specs.Prelude.{ℕ, List, [], ◌∷◌, ◌++◌, length, Option, Some, None, cond, nat_le, nat_lt, nat_eq, ◌+◌}
 use Rattle.pgv_types.specs.Ty.{Ty}
 use Rattle.pgv_types.specs.Facts.{oid_of}

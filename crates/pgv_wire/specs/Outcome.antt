@@ -1,4 +1,4 @@
--- What an encoder did.
+-- What an encoder did to its buffer.
 use Rattle.std.specs.Prelude.{◌≡◌, ◌⊎◌, List, ◌++◌, Option, Some, None}
 use Rattle.pgv_buf.specs.Tokens.{Token, Cell, blank}
 use Rattle.pgv_wire.specs.Image.{Image, null_image, image_of}

@@ -1,4 +1,4 @@
--- A record that is being written.
+-- A record that is being written (PostgreSQL: "Composite Types"; its binary form is that of record_send).
 use Rattle.std.specs.Prelude.{◌≡◌, ℕ, ◌+◌, List, [], ◌++◌, drop, Option, Some}
 use Rattle.pgv_buf.specs.declared.Mark.{Mark}
 use Rattle.pgv_buf.specs.Tokens.{Token, Cell, bytes, be4, blank, plain}

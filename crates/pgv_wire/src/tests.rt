@@ -2,7 +2,10 @@
 
 ghost use Rattle.std.specs.Prelude.{codes};
 
-use crate::{CodecError, Encode, IsNull, PgArgumentBuffer, PgArguments, PgHasArrayType, PgRecordEncoder, Type, encode_array, encode_text};
+use crate::{
+    CodecError, Encode, IsNull, PgArgumentBuffer, PgArguments, PgHasArrayType, PgRecordEncoder,
+    Type, encode_array, encode_text,
+};
 use pgv_types::{Oid, PgType, PgTypeInfo};
 use std::alloc::AllocError;
 use uuid::Uuid;
@@ -131,21 +134,33 @@ fn numbers_and_lists(rt: HostRuntime) -> Result<(), CodecError> {
     let mut arguments = PgArguments::new(rt.alloc());
     arguments.reserve(1, 8)?;
     arguments.add(7)?;
-    assert_eq!(rt; arguments.buffer().as_slice(), [0, 0, 0, 4, 0, 0, 0, 7].as_slice());
+    assert_eq!(rt;
+        arguments.buffer().as_slice(),
+        [0, 0, 0, 4, 0, 0, 0, 7].as_slice()
+    );
     assert_eq!(rt; arguments.len(), 1);
     let mut text = String::new(rt.alloc());
     arguments.format_placeholder(&mut text)?;
     assert_eq!(rt; text.as_str(), "$1");
     let mut out = PgArgumentBuffer::new(rt.alloc());
     out.encode(&[1, 2])?;
-    assert_eq!(rt; out.as_slice(), b"\0\0\0\x24\0\0\0\x01\0\0\0\0\0\0\0\x17\0\0\0\x02\0\0\0\x01\0\0\0\x04\0\0\0\x01\0\0\0\x04\0\0\0\x02".as_slice());
+    assert_eq!(rt;
+        out.as_slice(),
+        b"\0\0\0\x24\0\0\0\x01\0\0\0\0\0\0\0\x17\0\0\0\x02\0\0\0\x01\0\0\0\x04\0\0\0\x01\0\0\0\x04\0\0\0\x02".as_slice()
+    );
     out.clear();
     let none: Vec<i32> = Vec::new(rt.alloc());
     out.encode(&none)?;
-    assert_eq!(rt; out.as_slice(), b"\0\0\0\x14\0\0\0\x01\0\0\0\0\0\0\0\x17\0\0\0\0\0\0\0\x01".as_slice());
+    assert_eq!(rt;
+        out.as_slice(),
+        b"\0\0\0\x14\0\0\0\x01\0\0\0\0\0\0\0\x17\0\0\0\0\0\0\0\x01".as_slice()
+    );
     out.clear();
     out.encode(&[Some(String::new(rt.alloc())), None])?;
-    assert_eq!(rt; out.as_slice(), b"\0\0\0\x1c\0\0\0\x01\0\0\0\0\0\0\0\x19\0\0\0\x02\0\0\0\x01\0\0\0\0\xff\xff\xff\xff".as_slice());
+    assert_eq!(rt;
+        out.as_slice(),
+        b"\0\0\0\x1c\0\0\0\x01\0\0\0\0\0\0\0\x19\0\0\0\x02\0\0\0\x01\0\0\0\0\xff\xff\xff\xff".as_slice()
+    );
     Ok(())
 }
 
@@ -159,7 +174,10 @@ fn other_scalars(rt: HostRuntime) -> Result<(), CodecError> {
     out.encode(&Oid(16600))?;
     out.encode(&Uuid::from_bytes([9; 16]))?;
     out.encode(&&None::<i32>)?;
-    assert_eq!(rt; out.as_slice(), b"\0\0\0\x01\x01\0\0\0\x01\xff\0\0\0\x02\x01\x02\0\0\0\x08\xff\xff\xff\xff\xff\xff\xff\xfe\0\0\0\x04\0\0\x40\xd8\0\0\0\x10\x09\x09\x09\x09\x09\x09\x09\x09\x09\x09\x09\x09\x09\x09\x09\x09\xff\xff\xff\xff".as_slice());
+    assert_eq!(rt;
+        out.as_slice(),
+        b"\0\0\0\x01\x01\0\0\0\x01\xff\0\0\0\x02\x01\x02\0\0\0\x08\xff\xff\xff\xff\xff\xff\xff\xfe\0\0\0\x04\0\0\x40\xd8\0\0\0\x10\x09\x09\x09\x09\x09\x09\x09\x09\x09\x09\x09\x09\x09\x09\x09\x09\xff\xff\xff\xff".as_slice()
+    );
     let citext = PgTypeInfo::with_name("citext");
     assert!(rt; String::compatible(&citext));
     assert!(rt; <Option<i32> as Type>::compatible(&PgTypeInfo(PgType::Int4)));
@@ -178,7 +196,10 @@ fn holes_are_filled_again(rt: HostRuntime) -> Result<(), CodecError> {
     assert_eq!(rt; arguments.hole_types().len(), 1);
     let types = [PgTypeInfo::array_of("mood")];
     arguments.apply_patches(&types, &[Oid(16600)])?;
-    assert_eq!(rt; arguments.buffer().as_slice(), b"\0\0\0\x1a\0\0\0\x01\0\0\0\0\0\0\x40\xd8\0\0\0\x01\0\0\0\x01\0\0\0\x02ok".as_slice());
+    assert_eq!(rt;
+        arguments.buffer().as_slice(),
+        b"\0\0\0\x1a\0\0\0\x01\0\0\0\0\0\0\x40\xd8\0\0\0\x01\0\0\0\x01\0\0\0\x02ok".as_slice()
+    );
     let few = arguments.apply_patches(&types, &[]);
     assert!(rt; matches!(few, Err(CodecError::HoleCount)));
     let none = arguments.apply_patches(&[], &[]);
@@ -196,7 +217,10 @@ fn refused_additions_are_taken_back(rt: HostRuntime) -> Result<(), CodecError> {
     assert!(rt; outcomes[0].is_ok() && outcomes[1].is_err() && outcomes[2].is_ok());
     let refused = arguments.add([Mood(true), Mood(false)]);
     assert!(rt; matches!(refused, Err(CodecError::Caller(38))));
-    assert_eq!(rt; arguments.buffer().as_slice(), b"\0\0\0\x02ok\0\0\0\x02ok".as_slice());
+    assert_eq!(rt;
+        arguments.buffer().as_slice(),
+        b"\0\0\0\x02ok\0\0\0\x02ok".as_slice()
+    );
     assert_eq!(rt; arguments.hole_types().len(), 0);
     assert_eq!(rt; arguments.types().len(), 2);
     Ok(())
@@ -233,7 +257,10 @@ fn parts_for_callers(rt: HostRuntime) -> Result<(), CodecError> {
     cases.push((PgTypeInfo(PgType::Jsonb), version))?;
     out.push_slot(b" ", cases)?;
     out.extend_from_slice(b"{}")?;
-    assert_eq!(rt; out.clone()?.as_slice(), b"a\0\0\0\x01\0\0\0\0\0\0\0\x10\0\0\0\x01\0\0\0\x01\0\0\0\x01\0 {}".as_slice());
+    assert_eq!(rt;
+        out.clone()?.as_slice(),
+        b"a\0\0\0\x01\0\0\0\0\0\0\0\x10\0\0\0\x01\0\0\0\x01\0\0\0\x01\0 {}".as_slice()
+    );
     assert_eq!(rt; out.len(), 29);
     Ok(())
 }

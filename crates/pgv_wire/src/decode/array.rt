@@ -122,10 +122,7 @@ fn one_dimension_of<'a>(
 
 /// The head, or none where the array has no dimensions and so no elements.
 #[tactic(auto, unfolding(crate::specs::Arrays::head))]
-fn head_of<'a>(
-    type_info: &PgTypeInfo,
-    bytes: &'a [u8],
-) -> Result<Option<ArrayHead<'a>>, CodecError>
+fn head_of<'a>(type_info: &PgTypeInfo, bytes: &'a [u8]) -> Result<Option<ArrayHead<'a>>, CodecError>
     ensures exact { Answers (option_map head_shown) (head type_info.now bytes.now) result }
     ensures within { IfOk result (λ found. IfSome found (λ h. length h.frames.now ≤ length bytes.now)) }
 {

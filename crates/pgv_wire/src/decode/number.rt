@@ -19,5 +19,8 @@ pub(crate) fn number_of(bytes: &[u8]) -> Result<(u32, &[u8]), CodecError>
         return Err(CodecError::Short);
     }
     let (front, rest) = bytes.split_at(4);
-    Ok((u32::from_be_bytes([front[0], front[1], front[2], front[3]]), rest))
+    Ok((
+        u32::from_be_bytes([front[0], front[1], front[2], front[3]]),
+        rest,
+    ))
 }

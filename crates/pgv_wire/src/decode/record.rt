@@ -96,8 +96,12 @@ impl<'r> PgRecordDecoder<'r> {
     {
         match &mut self.left {
             FieldsLeft::Binary(fields) => {
-                let (value, rest) =
-                    read_field::<T>(self.alloc, &fields.type_info, fields.place, fields.rest)?;
+                let (value, rest) = read_field::<T>(
+                    self.alloc,
+                    &fields.type_info,
+                    fields.place,
+                    fields.rest,
+                )?;
                 fields.rest = rest;
                 fields.place += 1;
                 Ok(value)
@@ -126,11 +130,7 @@ fn text_fields_of(alloc: Global, text: &str) -> Result<TextFields, CodecError>
 }
 
 /// The type of the field at a place that has this OID.
-fn field_type_of(
-    type_info: &PgTypeInfo,
-    place: usize,
-    oid: Oid,
-) -> Result<PgTypeInfo, CodecError>
+fn field_type_of(type_info: &PgTypeInfo, place: usize, oid: Oid) -> Result<PgTypeInfo, CodecError>
     ensures { Answers (λ t. t) (field_type type_info.now place oid.0) result }
 {
     match &type_info.0 {

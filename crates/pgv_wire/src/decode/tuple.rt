@@ -183,7 +183,8 @@ impl<A, B, C> PgHasArrayType for (A, B, C) {
 }
 
 /// The first four fields of a record. Further fields are ignored.
-impl<A: Type + Decode, B: Type + Decode, C: Type + Decode, D: Type + Decode> Decode for (A, B, C, D) {
+impl<A: Type + Decode, B: Type + Decode, C: Type + Decode, D: Type + Decode> Decode
+    for (A, B, C, D) {
     ghost use Rattle.pgv_wire.specs.Records.{next};
     ghost use Rattle.pgv_wire.specs.Tuples.{record_of, ◌then◌};
 
@@ -238,7 +239,13 @@ impl<A, B, C, D> PgHasArrayType for (A, B, C, D) {
 }
 
 /// The first five fields of a record. Further fields are ignored.
-impl<A: Type + Decode, B: Type + Decode, C: Type + Decode, D: Type + Decode, E: Type + Decode> Decode for (A, B, C, D, E) {
+impl<
+    A: Type + Decode,
+    B: Type + Decode,
+    C: Type + Decode,
+    D: Type + Decode,
+    E: Type + Decode,
+> Decode for (A, B, C, D, E) {
     ghost use Rattle.pgv_wire.specs.Records.{next};
     ghost use Rattle.pgv_wire.specs.Tuples.{record_of, ◌then◌};
 
@@ -294,7 +301,14 @@ impl<A, B, C, D, E> PgHasArrayType for (A, B, C, D, E) {
 }
 
 /// The first six fields of a record. Further fields are ignored.
-impl<A: Type + Decode, B: Type + Decode, C: Type + Decode, D: Type + Decode, E: Type + Decode, F: Type + Decode> Decode for (A, B, C, D, E, F) {
+impl<
+    A: Type + Decode,
+    B: Type + Decode,
+    C: Type + Decode,
+    D: Type + Decode,
+    E: Type + Decode,
+    F: Type + Decode,
+> Decode for (A, B, C, D, E, F) {
     ghost use Rattle.pgv_wire.specs.Records.{next};
     ghost use Rattle.pgv_wire.specs.Tuples.{record_of, ◌then◌};
 
@@ -351,7 +365,15 @@ impl<A, B, C, D, E, F> PgHasArrayType for (A, B, C, D, E, F) {
 }
 
 /// The first seven fields of a record. Further fields are ignored.
-impl<A: Type + Decode, B: Type + Decode, C: Type + Decode, D: Type + Decode, E: Type + Decode, F: Type + Decode, G: Type + Decode> Decode for (A, B, C, D, E, F, G) {
+impl<
+    A: Type + Decode,
+    B: Type + Decode,
+    C: Type + Decode,
+    D: Type + Decode,
+    E: Type + Decode,
+    F: Type + Decode,
+    G: Type + Decode,
+> Decode for (A, B, C, D, E, F, G) {
     ghost use Rattle.pgv_wire.specs.Records.{next};
     ghost use Rattle.pgv_wire.specs.Tuples.{record_of, ◌then◌};
 
@@ -409,7 +431,16 @@ impl<A, B, C, D, E, F, G> PgHasArrayType for (A, B, C, D, E, F, G) {
 }
 
 /// The first eight fields of a record. Further fields are ignored.
-impl<A: Type + Decode, B: Type + Decode, C: Type + Decode, D: Type + Decode, E: Type + Decode, F: Type + Decode, G: Type + Decode, H: Type + Decode> Decode for (A, B, C, D, E, F, G, H) {
+impl<
+    A: Type + Decode,
+    B: Type + Decode,
+    C: Type + Decode,
+    D: Type + Decode,
+    E: Type + Decode,
+    F: Type + Decode,
+    G: Type + Decode,
+    H: Type + Decode,
+> Decode for (A, B, C, D, E, F, G, H) {
     ghost use Rattle.pgv_wire.specs.Records.{next};
     ghost use Rattle.pgv_wire.specs.Tuples.{record_of, ◌then◌};
 
@@ -419,7 +450,10 @@ impl<A: Type + Decode, B: Type + Decode, C: Type + Decode, D: Type + Decode, E: 
 
     ghost reading = { record_of (next A.accepts A.reading then next B.accepts B.reading then next C.accepts C.reading then next D.accepts D.reading then next E.accepts E.reading then next F.accepts F.reading then next G.accepts G.reading then next H.accepts H.reading) };
 
-    fn decode(alloc: Global, value: PgValueRef<'_>) -> Result<(A, B, C, D, E, F, G, H), CodecError> {
+    fn decode(
+        alloc: Global,
+        value: PgValueRef<'_>,
+    ) -> Result<(A, B, C, D, E, F, G, H), CodecError> {
         let mut fields = PgRecordDecoder::new(alloc, value)?;
         let a = fields.try_decode::<A>()?;
         let b = fields.try_decode::<B>()?;
@@ -468,7 +502,17 @@ impl<A, B, C, D, E, F, G, H> PgHasArrayType for (A, B, C, D, E, F, G, H) {
 }
 
 /// The first nine fields of a record. Further fields are ignored.
-impl<A: Type + Decode, B: Type + Decode, C: Type + Decode, D: Type + Decode, E: Type + Decode, F: Type + Decode, G: Type + Decode, H: Type + Decode, I: Type + Decode> Decode for (A, B, C, D, E, F, G, H, I) {
+impl<
+    A: Type + Decode,
+    B: Type + Decode,
+    C: Type + Decode,
+    D: Type + Decode,
+    E: Type + Decode,
+    F: Type + Decode,
+    G: Type + Decode,
+    H: Type + Decode,
+    I: Type + Decode,
+> Decode for (A, B, C, D, E, F, G, H, I) {
     ghost use Rattle.pgv_wire.specs.Records.{next};
     ghost use Rattle.pgv_wire.specs.Tuples.{record_of, ◌then◌};
 
@@ -478,7 +522,10 @@ impl<A: Type + Decode, B: Type + Decode, C: Type + Decode, D: Type + Decode, E: 
 
     ghost reading = { record_of (next A.accepts A.reading then next B.accepts B.reading then next C.accepts C.reading then next D.accepts D.reading then next E.accepts E.reading then next F.accepts F.reading then next G.accepts G.reading then next H.accepts H.reading then next I.accepts I.reading) };
 
-    fn decode(alloc: Global, value: PgValueRef<'_>) -> Result<(A, B, C, D, E, F, G, H, I), CodecError> {
+    fn decode(
+        alloc: Global,
+        value: PgValueRef<'_>,
+    ) -> Result<(A, B, C, D, E, F, G, H, I), CodecError> {
         let mut fields = PgRecordDecoder::new(alloc, value)?;
         let a = fields.try_decode::<A>()?;
         let b = fields.try_decode::<B>()?;
