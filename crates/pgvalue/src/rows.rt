@@ -11,6 +11,7 @@ use pgv_wire::{
     CodecError, Decode, PgArgumentBuffer, PgArguments, PgRecordEncoder, PgValueFormat, PgValueRef,
 };
 use std::alloc::Global;
+use std::process::Abort;
 
 /// The frame of the moods `ok`, with its hole.
 const MOODS: &str = "0000001a 00000001 00000000 00000000 00000001 00000001 00000002 6f6b";
@@ -22,21 +23,31 @@ const MOODS_16600: &str = "0000001a 00000001 00000000 000040d8 00000001 00000001
 const MOODS_16601: &str = "0000001a 00000001 00000000 000040d9 00000001 00000001 00000002 6f6b";
 
 /// Compares what a buffer shows with texts of hex digits, one behind the other. Their spaces say nothing.
-fn check(rt: &HostRuntime, buffer: &PgArgumentBuffer, texts: &[&str]) -> Result<(), CodecError> {
-    let mut wanted = String::new(rt.alloc());
+fn check(
+    rt: &impl Abort,
+    alloc: Global,
+    buffer: &PgArgumentBuffer,
+    texts: &[&str],
+) -> Result<(), CodecError> {
+    let mut wanted = String::new(alloc);
     for text in texts {
         for group in text.split(' ') {
             wanted.push_str(group)?;
         }
     }
-    let shown = hex::encode(rt.alloc(), buffer.as_slice())?;
+    let shown = hex::encode(alloc, buffer.as_slice())?;
     assert_eq!(rt; shown.as_str(), wanted.as_str());
     Ok(())
 }
 
 /// Compares the names of types, each with a space behind it.
-fn check_names(rt: &HostRuntime, types: &[PgTypeInfo], wanted: &str) -> Result<(), CodecError> {
-    let mut names = String::new(rt.alloc());
+fn check_names(
+    rt: &impl Abort,
+    alloc: Global,
+    types: &[PgTypeInfo],
+    wanted: &str,
+) -> Result<(), CodecError> {
+    let mut names = String::new(alloc);
     for known in types {
         let name = known.name();
         names.push_str(name.text())?;
@@ -67,6 +78,7 @@ fn frames_of_arguments(rt: HostRuntime) -> Result<(), CodecError> {
     arguments.add(Some(None::<i32>))?;
     check(
         &rt,
+        alloc,
         arguments.buffer(),
         &[
             "00000024 00000001 00000000 00000017 00000002 00000001 00000004 00000001 00000004 00000002",
@@ -93,7 +105,7 @@ fn refused_values_leave_the_arguments(rt: HostRuntime) -> Result<(), CodecError>
     arguments.reserve(3, 100)?;
     let copy = arguments.clone()?;
     for same in [&arguments, &copy] {
-        check(&rt, same.buffer(), &["00000004 00000007"])?;
+        check(&rt, alloc, same.buffer(), &["00000004 00000007"])?;
         assert_eq!(rt; same.len(), 1);
         assert_eq!(rt; same.types().len(), 1);
         let mut text = String::new(alloc);
@@ -119,6 +131,7 @@ fn some_of_each_are_refused(rt: HostRuntime) -> Result<(), CodecError> {
     assert!(rt; outcomes[2].is_ok());
     check(
         &rt,
+        alloc,
         arguments.buffer(),
         &["00000004 00000002 00000004 00000004"],
     )
@@ -130,20 +143,20 @@ fn holes_of_arguments(rt: HostRuntime) -> Result<(), CodecError> {
     let mut arguments = PgArguments::new(alloc);
     let types = [PgTypeInfo::array_of("mood"), PgTypeInfo::array_of("mood")];
     arguments.add(moods(alloc)?)?;
-    check(&rt, arguments.buffer(), &[MOODS])?;
+    check(&rt, alloc, arguments.buffer(), &[MOODS])?;
     arguments.apply_patches(&types[..1], &[Oid(16600)])?;
-    check(&rt, arguments.buffer(), &[MOODS_16600])?;
+    check(&rt, alloc, arguments.buffer(), &[MOODS_16600])?;
     arguments.add(moods(alloc)?)?;
-    check(&rt, arguments.buffer(), &[MOODS_16600, MOODS])?;
+    check(&rt, alloc, arguments.buffer(), &[MOODS_16600, MOODS])?;
     arguments.apply_patches(&types, &[Oid(16600), Oid(16601)])?;
-    check(&rt, arguments.buffer(), &[MOODS_16600, MOODS_16601])?;
+    check(&rt, alloc, arguments.buffer(), &[MOODS_16600, MOODS_16601])?;
     let one_oid = arguments.apply_patches(&types, &[Oid(16700)]);
     assert!(rt; matches!(one_oid, Err(CodecError::HoleCount)));
     let one_type = arguments.apply_patches(&types[..1], &[Oid(16700), Oid(16701)]);
     assert!(rt; matches!(one_type, Err(CodecError::ParameterCount)));
-    check(&rt, arguments.buffer(), &[MOODS_16600, MOODS_16601])?;
-    check_names(&rt, arguments.hole_types(), "mood mood ")?;
-    check_names(&rt, arguments.types(), "mood[] mood[] ")
+    check(&rt, alloc, arguments.buffer(), &[MOODS_16600, MOODS_16601])?;
+    check_names(&rt, alloc, arguments.hole_types(), "mood mood ")?;
+    check_names(&rt, alloc, arguments.types(), "mood[] mood[] ")
 }
 
 #[test]
@@ -154,9 +167,14 @@ fn refused_between_others(rt: HostRuntime) -> Result<(), CodecError> {
     let refused = arguments.add([Size { alloc, number: 7 }, Size { alloc, number: 0 }]);
     assert!(rt; matches!(refused, Err(CodecError::Caller(38))));
     arguments.add(moods(alloc)?)?;
-    check_names(&rt, arguments.hole_types(), "mood ")?;
+    check_names(&rt, alloc, arguments.hole_types(), "mood ")?;
     assert_eq!(rt; arguments.len(), 2);
-    check(&rt, arguments.buffer(), &["00000004 00000001", MOODS])
+    check(
+        &rt,
+        alloc,
+        arguments.buffer(),
+        &["00000004 00000001", MOODS],
+    )
 }
 
 #[test]
@@ -166,16 +184,17 @@ fn slots_of_arguments(rt: HostRuntime) -> Result<(), CodecError> {
     let refused = arguments.add(Size { alloc, number: 0 });
     assert!(rt; matches!(refused, Err(CodecError::Caller(38))));
     arguments.add(EmptyObject { alloc })?;
-    check(&rt, arguments.buffer(), &["00000003 20 7b7d"])?;
+    check(&rt, alloc, arguments.buffer(), &["00000003 20 7b7d"])?;
     arguments.apply_patches(&[PgTypeInfo(PgType::Jsonb)], &[])?;
-    check(&rt, arguments.buffer(), &["00000003 01 7b7d"])?;
+    check(&rt, alloc, arguments.buffer(), &["00000003 01 7b7d"])?;
     arguments.apply_patches(&[PgTypeInfo(PgType::Json)], &[])?;
-    check(&rt, arguments.buffer(), &["00000003 20 7b7d"])?;
+    check(&rt, alloc, arguments.buffer(), &["00000003 20 7b7d"])?;
     arguments.add(EmptyObject { alloc })?;
     let types = [PgTypeInfo(PgType::Json), PgTypeInfo(PgType::Jsonb)];
     arguments.apply_patches(&types, &[])?;
     check(
         &rt,
+        alloc,
         arguments.buffer(),
         &["00000003 20 7b7d", "00000003 01 7b7d"],
     )
@@ -188,16 +207,17 @@ fn values_that_produce_another_type(rt: HostRuntime) -> Result<(), CodecError> {
     arguments.add(MoodText {
         mood: Mood::ok(alloc)?,
     })?;
-    check_names(&rt, arguments.types(), "mood ")?;
+    check_names(&rt, alloc, arguments.types(), "mood ")?;
     let mut one = Vec::new(alloc);
     one.push(MoodText {
         mood: Mood::ok(alloc)?,
     })?;
     arguments.add(one)?;
-    check_names(&rt, arguments.hole_types(), "mood ")?;
+    check_names(&rt, alloc, arguments.hole_types(), "mood ")?;
     arguments.add(Vec::<MoodText>::new(alloc))?;
     check(
         &rt,
+        alloc,
         arguments.buffer(),
         &[
             "00000002 6f6b",
@@ -217,6 +237,7 @@ fn records_of_callers(rt: HostRuntime) -> Result<(), CodecError> {
     })?;
     check(
         &rt,
+        alloc,
         arguments.buffer(),
         &["0000001a 00000002 00000017 00000004 00000001 00000000 00000002 6f6b"],
     )?;
@@ -224,6 +245,7 @@ fn records_of_callers(rt: HostRuntime) -> Result<(), CodecError> {
     arguments.apply_patches(&person, &[Oid(16600)])?;
     check(
         &rt,
+        alloc,
         arguments.buffer(),
         &["0000001a 00000002 00000017 00000004 00000001 000040d8 00000002 6f6b"],
     )?;
@@ -232,11 +254,12 @@ fn records_of_callers(rt: HostRuntime) -> Result<(), CodecError> {
         id: 1,
         moods: moods(alloc)?,
     })?;
-    check_names(&rt, arguments.hole_types(), "mood[] mood ")?;
+    check_names(&rt, alloc, arguments.hole_types(), "mood[] mood ")?;
     let household = [PgTypeInfo::with_name("household")];
     arguments.apply_patches(&household, &[Oid(16601), Oid(16600)])?;
     check(
         &rt,
+        alloc,
         arguments.buffer(),
         &[
             "00000032 00000002 00000017 00000004 00000001 000040d9",
@@ -257,10 +280,11 @@ fn refused_fields_and_cleared_buffers(rt: HostRuntime) -> Result<(), CodecError>
     record.finish();
     check(
         &rt,
+        alloc,
         &out,
         &["00000002 00000017 00000004 00000001 00000000 00000002 6f6b"],
     )?;
-    check_names(&rt, out.hole_types(), "mood ")?;
+    check_names(&rt, alloc, out.hole_types(), "mood ")?;
     out.clear();
     assert!(rt; out.as_slice().is_empty());
     assert_eq!(rt; out.len(), 0);

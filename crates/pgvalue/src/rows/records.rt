@@ -7,6 +7,7 @@ use pgv_wire::{
 };
 use std::alloc::{AllocError, Global};
 use std::fs;
+use std::process::Abort;
 use std::rc::RcStr;
 use std::test::Fail;
 use uuid::Uuid;
@@ -59,17 +60,18 @@ fn field_again(
 
 /// Reads the fields of a record in both formats. Both are written as the same frame, and as the server's.
 fn check_fields(
-    rt: &HostRuntime,
+    rt: &impl Abort,
+    alloc: Global,
     binary: PgValueRef<'_>,
     text: PgValueRef<'_>,
     wanted: &str,
 ) -> Result<(), Fail> {
-    let mut from_binary = PgRecordDecoder::new(rt.alloc(), binary)?;
-    let mut from_text = PgRecordDecoder::new(rt.alloc(), text)?;
+    let mut from_binary = PgRecordDecoder::new(alloc, binary)?;
+    let mut from_text = PgRecordDecoder::new(alloc, text)?;
     for field in wanted.split(' ') {
         let (name, frame) = field.split_once('=').ok_or("no frame")?;
-        let written = field_again(rt.alloc(), &mut from_binary, name)?;
-        let same = field_again(rt.alloc(), &mut from_text, name)?;
+        let written = field_again(alloc, &mut from_binary, name)?;
+        let same = field_again(alloc, &mut from_text, name)?;
         assert_eq!(rt; same.as_str(), written.as_str());
         if frame != "?" {
             assert_eq!(rt; written.as_str(), frame);
@@ -79,23 +81,23 @@ fn check_fields(
 }
 
 /// Checks one line.
-fn check_line(rt: &HostRuntime, line: &str) -> Result<(), Fail> {
+fn check_line(rt: &impl Abort, alloc: Global, line: &str) -> Result<(), Fail> {
     let (name, rest) = line.split_once('\t').ok_or("no binary form")?;
     let (binary, rest) = rest.split_once('\t').ok_or("no text")?;
     let (text, wanted) = rest.split_once('\t').ok_or("no fields")?;
-    let binary = hex::decode(rt.alloc(), binary)?;
-    let text = hex::decode(rt.alloc(), text)?;
+    let binary = hex::decode(alloc, binary)?;
+    let text = hex::decode(alloc, text)?;
     let in_binary = PgValueRef::new(
         Some(binary.as_slice()),
-        record_type(rt.alloc(), name)?,
+        record_type(alloc, name)?,
         PgValueFormat::Binary,
     );
     let in_text = PgValueRef::new(
         Some(text.as_slice()),
-        record_type(rt.alloc(), name)?,
+        record_type(alloc, name)?,
         PgValueFormat::Text,
     );
-    check_fields(rt, in_binary, in_text, wanted)
+    check_fields(rt, alloc, in_binary, in_text, wanted)
 }
 
 #[test]
@@ -104,7 +106,7 @@ fn records_of_a_server(rt: HostRuntime) -> Result<(), Fail> {
     let mut count = 0u32;
     for line in lines.as_str().split('\n') {
         if !line.is_empty() {
-            check_line(&rt, line)?;
+            check_line(&rt, rt.alloc(), line)?;
             count = count.saturating_add(1);
         }
     }
