@@ -2,6 +2,8 @@
 #![tactic(auto)]
 
 mod line;
+#[cfg(test)]
+mod rows;
 mod run;
 mod session;
 #[cfg(test)]
