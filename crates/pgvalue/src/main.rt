@@ -9,6 +9,8 @@ mod session;
 #[cfg(test)]
 mod tests;
 mod value;
+#[cfg(test)]
+mod vectors;
 
 use run::{RunFault, fault_text, run};
 use std::io::{self, BufReader, BufWriter, Write};
