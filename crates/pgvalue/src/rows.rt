@@ -3,6 +3,7 @@
 mod callers;
 mod composites;
 mod records;
+mod server;
 
 use callers::{ButThree, EmptyObject, Huge, Mood, MoodText, Refusing, Size};
 use composites::{Household, Person};

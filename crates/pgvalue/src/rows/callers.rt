@@ -396,7 +396,8 @@ impl Type for ButThree {
 }
 
 impl Encode for ButThree {
-    ghost use Rattle.std.specs.Prelude.{cond, int_eq, pos, None};
+    ghost use Rattle.std.specs.Prelude.{cond, pos, None};
+    ghost use Rattle.std.specs.Ordering.{int_eq};
     ghost use Rattle.std.specs.Int.{w32};
     ghost use Rattle.pgv_wire.specs.Scalars.{signed_image};
 

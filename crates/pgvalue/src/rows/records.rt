@@ -1,12 +1,12 @@
-//! Records that a PostgreSQL server wrote: `data/README.md` says what a line holds.
+//! Records of a PostgreSQL server, read in both formats and written again.
 
 use crate::rows::composites::Entry;
+use crate::rows::server::RECORDS;
 use pgv_types::{Oid, PgType, PgTypeInfo, PgTypeKind};
 use pgv_wire::{
     CodecError, Decode, Encode, PgArgumentBuffer, PgRecordDecoder, PgValueFormat, PgValueRef, Type,
 };
 use std::alloc::{AllocError, Global};
-use std::fs;
 use std::process::Abort;
 use std::rc::RcStr;
 use std::test::Fail;
@@ -82,9 +82,9 @@ fn check_fields(
 
 /// Checks one line.
 fn check_line(rt: &impl Abort, alloc: Global, line: &str) -> Result<(), Fail> {
-    let (name, rest) = line.split_once('\t').ok_or("no binary form")?;
-    let (binary, rest) = rest.split_once('\t').ok_or("no text")?;
-    let (text, wanted) = rest.split_once('\t').ok_or("no fields")?;
+    let (name, rest) = line.split_once(' ').ok_or("no binary form")?;
+    let (binary, rest) = rest.split_once(' ').ok_or("no text")?;
+    let (text, wanted) = rest.split_once(' ').ok_or("no fields")?;
     let binary = hex::decode(alloc, binary)?;
     let text = hex::decode(alloc, text)?;
     let in_binary = PgValueRef::new(
@@ -102,9 +102,8 @@ fn check_line(rt: &impl Abort, alloc: Global, line: &str) -> Result<(), Fail> {
 
 #[test]
 fn records_of_a_server(rt: HostRuntime) -> Result<(), Fail> {
-    let lines = fs::read_to_string(&rt, "data/records.txt")?;
     let mut count = 0u32;
-    for line in lines.as_str().split('\n') {
+    for line in RECORDS.split('\n') {
         if !line.is_empty() {
             check_line(&rt, rt.alloc(), line)?;
             count = count.saturating_add(1);
