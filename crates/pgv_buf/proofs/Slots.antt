@@ -12,9 +12,9 @@ use Rattle.pgv_buf.specs.Fill.{fill_holes, rest_numbers, put, written_slots, Slo
 use Rattle.pgv_buf.proofs.Writes.{put_at}
 
 pub slot_joined :
-  {ts : List Cell} {b ps : List ℕ} {hs : List Ty} {ks : List Kept} → Represents ts b ps hs ks →
-  (d : List ℕ) (cs : List (Ty × List ℕ)) → CasesFit (length d) cs → (b' : List ℕ) (ks' : List Kept) → b' ≡ b ++ d → ks' ≡ ks ++ record { place = length b; standard = d; cases = cs } ∷ [] →
-  Represents (ts ++ new_slot d cs ∷ []) b' ps hs ks'
+    {ts : List Cell} {b ps : List ℕ} {hs : List Ty} {ks : List Kept} → Represents ts b ps hs ks →
+    (d : List ℕ) (cs : List (Ty × List ℕ)) → CasesFit (length d) cs → (b' : List ℕ) (ks' : List Kept) → b' ≡ b ++ d → ks' ≡ ks ++ record { place = length b; standard = d; cases = cs } ∷ [] →
+    Represents (ts ++ new_slot d cs ∷ []) b' ps hs ks'
 slot_joined {ts} {b} {ps} {hs} {ks} r d cs fit b' ks' e f =
     let j = joined r (new_slot d cs ∷ []) (refl, fit, tt) in
     record {
@@ -22,12 +22,12 @@ slot_joined {ts} {b} {ps} {hs} {ks} r d cs fit b' ks' e f =
       places_are = (rw append-nil at j.places_are);
       types_are = (rw append-nil at j.types_are);
       slots_are = f ∙ j.slots_are;
-      proper = j.proper
+      proper = j.proper;
     }
 
 pub chosen_here :
-  (p : Ty) (d : List ℕ) (xs : List (Ty × Vec ℕ Global)) (i : ℕ) (x : Ty × Vec ℕ Global) → i < length xs → x ≡ get_or xs i x → softly x.0 p ≡ true →
-  chosen p d (cases_of (drop i xs)) ≡ chosen p d (cases_of xs) → x.1.items ≡ chosen p d (cases_of xs)
+    (p : Ty) (d : List ℕ) (xs : List (Ty × Vec ℕ Global)) (i : ℕ) (x : Ty × Vec ℕ Global) → i < length xs → x ≡ get_or xs i x → softly x.0 p ≡ true →
+    chosen p d (cases_of (drop i xs)) ≡ chosen p d (cases_of xs) → x.1.items ≡ chosen p d (cases_of xs)
 chosen_here p d xs i x l e s h =
     let m : drop i xs ≡ x ∷ drop (i + 1) xs = drop_more xs i x l ∙ ap (λ y. y ∷ drop (i + 1) xs) (sym e) in
     let k : chosen p d (cases_of (x ∷ drop (i + 1) xs)) ≡ chosen p d (cases_of xs) = ap (λ ys. chosen p d (cases_of ys)) (sym m) ∙ h in
@@ -35,8 +35,8 @@ chosen_here p d xs i x l e s h =
     sym n ∙ k
 
 pub chosen_later :
-  (p : Ty) (d : List ℕ) (xs : List (Ty × Vec ℕ Global)) (i : ℕ) (x : Ty × Vec ℕ Global) → i < length xs → x ≡ get_or xs i x → softly x.0 p ≡ false →
-  chosen p d (cases_of (drop i xs)) ≡ chosen p d (cases_of xs) → chosen p d (cases_of (drop (i + 1) xs)) ≡ chosen p d (cases_of xs)
+    (p : Ty) (d : List ℕ) (xs : List (Ty × Vec ℕ Global)) (i : ℕ) (x : Ty × Vec ℕ Global) → i < length xs → x ≡ get_or xs i x → softly x.0 p ≡ false →
+    chosen p d (cases_of (drop i xs)) ≡ chosen p d (cases_of xs) → chosen p d (cases_of (drop (i + 1) xs)) ≡ chosen p d (cases_of xs)
 chosen_later p d xs i x l e s h =
     let m : drop i xs ≡ x ∷ drop (i + 1) xs = drop_more xs i x l ∙ ap (λ y. y ∷ drop (i + 1) xs) (sym e) in
     let k : chosen p d (cases_of (x ∷ drop (i + 1) xs)) ≡ chosen p d (cases_of xs) = ap (λ ys. chosen p d (cases_of ys)) (sym m) ∙ h in
@@ -55,8 +55,8 @@ length-put p w b h =
     omega (arith, length-append (take p b ++ w) (drop (p + length w) b), length-append (take p b) w, length-take p b, length-drop (p + length w) b)
 
 pub written_slots-append :
-  (n : ℕ) (p : Ty) (ps : List Ty) (xs ys : List Kept) (b : List ℕ) → length xs ≡ n →
-  written_slots (replicate n p ++ ps) (xs ++ ys) b ≡ written_slots ps ys (written_slots (replicate n p) xs b)
+    (n : ℕ) (p : Ty) (ps : List Ty) (xs ys : List Kept) (b : List ℕ) → length xs ≡ n →
+    written_slots (replicate n p ++ ps) (xs ++ ys) b ≡ written_slots ps ys (written_slots (replicate n p) xs b)
 written_slots-append zero p ps [] ys b h = refl
 written_slots-append zero p ps (x ∷ xs) ys b h = absurd (omega (arith, h))
 written_slots-append (suc n) p ps [] ys b h = absurd (omega (arith, h))
@@ -69,18 +69,18 @@ here : (xs : List Slot) (i : ℕ) (x : Slot) → i < length xs → x ≡ get_or 
 here xs i x l e = drop_more xs i x l ∙ ap (λ y. y ∷ drop (i + 1) xs) (sym e)
 
 pub within_here :
-  (xs : List Slot) (i n : ℕ) (x : Slot) → i < length xs → x ≡ get_or xs i x → SlotsWithin n (map kept_of (drop i xs)) →
-  (x.place + length x.standard.items ≤ n) × CasesFit (length x.standard.items) (cases_of x.cases.items) × SlotsWithin n (map kept_of (drop (i + 1) xs))
+    (xs : List Slot) (i n : ℕ) (x : Slot) → i < length xs → x ≡ get_or xs i x → SlotsWithin n (map kept_of (drop i xs)) →
+    (x.place + length x.standard.items ≤ n) × CasesFit (length x.standard.items) (cases_of x.cases.items) × SlotsWithin n (map kept_of (drop (i + 1) xs))
 within_here xs i n x l e h = subst (λ ys. SlotsWithin n (map kept_of ys)) (here xs i x l e) h
 
 pub told_here :
-  (xs : List Slot) (i : ℕ) (x : Slot) (p : Ty) (b b' target : List ℕ) → i < length xs → x ≡ get_or xs i x →
-  written_slots (replicate (length (drop i xs)) p) (map kept_of (drop i xs)) b ≡ target →
-  b' ≡ put x.place (chosen p x.standard.items (cases_of x.cases.items)) b →
-  written_slots (replicate (length (drop (i + 1) xs)) p) (map kept_of (drop (i + 1) xs)) b' ≡ target
+    (xs : List Slot) (i : ℕ) (x : Slot) (p : Ty) (b b' target : List ℕ) → i < length xs → x ≡ get_or xs i x →
+    written_slots (replicate (length (drop i xs)) p) (map kept_of (drop i xs)) b ≡ target →
+    b' ≡ put x.place (chosen p x.standard.items (cases_of x.cases.items)) b →
+    written_slots (replicate (length (drop (i + 1) xs)) p) (map kept_of (drop (i + 1) xs)) b' ≡ target
 told_here xs i x p b b' target l e t f =
     let k : written_slots (replicate (length (x ∷ drop (i + 1) xs)) p) (map kept_of (x ∷ drop (i + 1) xs)) b ≡ target =
-      ap (λ ys. written_slots (replicate (length ys) p) (map kept_of ys) b) (sym (here xs i x l e)) ∙ t in
+    ap (λ ys. written_slots (replicate (length ys) p) (map kept_of ys) b) (sym (here xs i x l e)) ∙ t in
     ap (λ z. written_slots (replicate (length (drop (i + 1) xs)) p) (map kept_of (drop (i + 1) xs)) z) f ∙ k
 
 -- ---- writing run after run
@@ -106,11 +106,11 @@ pub rest_within : (slots : List Slot) (next n m : ℕ) → SlotsWithin m (map ke
 rest_within slots next n m h = rw (rest_slots slots next n) (SlotsWithin-drop m n (map kept_of (drop next slots)) h)
 
 pub told_after :
-  (slots : List Slot) (types : List Ty) (counts : List ℕ) (next i k : ℕ) (t : Ty) (b b' target : List ℕ) →
-  i < length types → i < length counts → t ≡ get_or types i t → k ≡ get_or counts i 0 → next + get_or counts i 0 ≤ length slots →
-  written_slots (slot_types (drop i types) (drop i counts)) (map kept_of (drop next slots)) b ≡ target →
-  b' ≡ written_slots (replicate (length (take k (drop next slots))) t) (map kept_of (take k (drop next slots))) b →
-  written_slots (slot_types (drop (i + 1) types) (drop (i + 1) counts)) (map kept_of (drop (next + get_or counts i 0) slots)) b' ≡ target
+    (slots : List Slot) (types : List Ty) (counts : List ℕ) (next i k : ℕ) (t : Ty) (b b' target : List ℕ) →
+    i < length types → i < length counts → t ≡ get_or types i t → k ≡ get_or counts i 0 → next + get_or counts i 0 ≤ length slots →
+    written_slots (slot_types (drop i types) (drop i counts)) (map kept_of (drop next slots)) b ≡ target →
+    b' ≡ written_slots (replicate (length (take k (drop next slots))) t) (map kept_of (take k (drop next slots))) b →
+    written_slots (slot_types (drop (i + 1) types) (drop (i + 1) counts)) (map kept_of (drop (next + get_or counts i 0) slots)) b' ≡ target
 told_after slots types counts next i k t b b' target l m e f fits told w =
     let n : ℕ = get_or counts i 0 in
     let ks : List Kept = map kept_of (drop next slots) in
@@ -121,10 +121,10 @@ told_after slots types counts next i k t b b' target l m e f fits told w =
     let size : length (take n (drop next slots)) ≡ n = omega (arith, length-take n (drop next slots), length-drop next slots) in
     let size' : length (take n ks) ≡ n = omega (arith, length-take n ks, length-map (drop next slots) kept_of, length-drop next slots) in
     let w' : b' ≡ written_slots (replicate n t) (take n ks) b =
-      w ∙ (ap (λ j. written_slots (replicate (length (take j (drop next slots))) t) (map kept_of (take j (drop next slots))) b) f
-      ∙ (ap (λ j. written_slots (replicate j t) (map kept_of (take n (drop next slots))) b) size ∙ ap (λ y. written_slots (replicate n t) y b) (sym (take-map kept_of n (drop next slots))))) in
+    w ∙ (ap (λ j. written_slots (replicate (length (take j (drop next slots))) t) (map kept_of (take j (drop next slots))) b) f
+    ∙ (ap (λ j. written_slots (replicate j t) (map kept_of (take n (drop next slots))) b) size ∙ ap (λ y. written_slots (replicate n t) y b) (sym (take-map kept_of n (drop next slots))))) in
     let split : written_slots (replicate n t ++ ps) (take n ks ++ drop n ks) b ≡ target =
-      ap (λ y. written_slots (replicate n t ++ ps) y b) (take-append-drop n ks) ∙ (ap (λ y. written_slots y ks b) (sym a) ∙ told) in
+    ap (λ y. written_slots (replicate n t ++ ps) y b) (take-append-drop n ks) ∙ (ap (λ y. written_slots y ks b) (sym a) ∙ told) in
     ap (λ y. written_slots ps y b') (rest_slots slots next n) ∙ (ap (λ z. written_slots ps (drop n ks) z) w' ∙ (sym (written_slots-append n t ps (take n ks) (drop n ks) b size') ∙ split))
 
 -- ---- all slots, for the tokens that are kept
@@ -154,8 +154,8 @@ slots_still_proper ps (hole_cell t s ∷ ts) p = (p.0, slots_still_proper ps ts 
 slots_still_proper ps (slot_cell d cs s ∷ ts) p = (chosen_fits (first_type ps) d cs p.1, p.1, slots_still_proper (rest_types ps) ts p.2)
 
 written_slots-shown :
-  (before : List ℕ) (ps : List Ty) (ts : List Cell) → Proper ts →
-  written_slots ps (kept_slots (length before) ts) (before ++ shown ts) ≡ before ++ shown (fill_slots ps ts)
+    (before : List ℕ) (ps : List Ty) (ts : List Cell) → Proper ts →
+    written_slots ps (kept_slots (length before) ts) (before ++ shown ts) ≡ before ++ shown (fill_slots ps ts)
 written_slots-shown before ps [] p = refl
 written_slots-shown before ps (fixed x ∷ ts) p =
     let h : written_slots ps (kept_slots (length (before ++ x ∷ [])) ts) ((before ++ x ∷ []) ++ shown ts) ≡ (before ++ x ∷ []) ++ shown (fill_slots ps ts) = written_slots-shown (before ++ x ∷ []) ps ts p in
@@ -172,14 +172,14 @@ written_slots-shown before ps (slot_cell d cs s ∷ ts) p =
     ap (λ z. written_slots (rest_types ps) (kept_slots (length before + length d) ts) z) e ∙ (h' ∙ append_assoc before w (shown (fill_slots (rest_types ps) ts)))
 
 pub slots_filled :
-  {ts : List Cell} {b ps : List ℕ} {hs : List Ty} {ks : List Kept} → Represents ts b ps hs ks →
-  (us : List Ty) (b' : List ℕ) → b' ≡ written_slots us ks b → Represents (fill_slots us ts) b' ps hs ks
+    {ts : List Cell} {b ps : List ℕ} {hs : List Ty} {ks : List Kept} → Represents ts b ps hs ks →
+    (us : List Ty) (b' : List ℕ) → b' ≡ written_slots us ks b → Represents (fill_slots us ts) b' ps hs ks
 slots_filled {ts} {b} {ps} {hs} {ks} r us b' e = record {
   bytes_are = e ∙ rw (r.slots_are, r.bytes_are) (written_slots-shown [] us ts r.proper);
   places_are = r.places_are ∙ sym (slots_same_places us 0 ts);
   types_are = r.types_are ∙ sym (slots_same_types us ts);
   slots_are = r.slots_are ∙ sym (slots_same_slots us 0 ts);
-  proper = slots_still_proper us ts r.proper
+  proper = slots_still_proper us ts r.proper;
 }
 
 pub slots_within : (n i : ℕ) (ts : List Cell) → Proper ts → i + width ts ≤ n → SlotsWithin n (kept_slots i ts)

@@ -33,8 +33,8 @@ Proper-bytes [] = tt
 Proper-bytes (x ∷ xs) = Proper-bytes xs
 
 pub bytes_joined :
-  {ts : List Cell} {b ps : List ℕ} {hs : List Ty} {ks : List Kept} → Represents ts b ps hs ks →
-  (xs b' : List ℕ) → b' ≡ b ++ xs → Represents (ts ++ fixed_bytes xs) b' ps hs ks
+    {ts : List Cell} {b ps : List ℕ} {hs : List Ty} {ks : List Kept} → Represents ts b ps hs ks →
+    (xs b' : List ℕ) → b' ≡ b ++ xs → Represents (ts ++ fixed_bytes xs) b' ps hs ks
 bytes_joined {ts} {b} {ps} {hs} {ks} r xs b' e =
     let j = joined r (fixed_bytes xs) (Proper-bytes xs) in
     record {
@@ -42,13 +42,13 @@ bytes_joined {ts} {b} {ps} {hs} {ks} r xs b' e =
       places_are = (rw (hole_places-bytes (length b) xs, append-nil) at j.places_are);
       types_are = (rw (hole_types_of-bytes xs, append-nil) at j.types_are);
       slots_are = (rw (kept_slots-bytes (length b) xs, append-nil) at j.slots_are);
-      proper = j.proper
+      proper = j.proper;
     }
 
 pub hole_joined :
-  {ts : List Cell} {b ps : List ℕ} {hs : List Ty} {ks : List Kept} → Represents ts b ps hs ks →
-  (t : Ty) (b' ps' : List ℕ) (hs' : List Ty) → b' ≡ b ++ 0 ∷ 0 ∷ 0 ∷ 0 ∷ [] → ps' ≡ ps ++ length b ∷ [] → hs' ≡ hs ++ t ∷ [] →
-  Represents (ts ++ new_hole t ∷ []) b' ps' hs' ks
+    {ts : List Cell} {b ps : List ℕ} {hs : List Ty} {ks : List Kept} → Represents ts b ps hs ks →
+    (t : Ty) (b' ps' : List ℕ) (hs' : List Ty) → b' ≡ b ++ 0 ∷ 0 ∷ 0 ∷ 0 ∷ [] → ps' ≡ ps ++ length b ∷ [] → hs' ≡ hs ++ t ∷ [] →
+    Represents (ts ++ new_hole t ∷ []) b' ps' hs' ks
 hole_joined {ts} {b} {ps} {hs} {ks} r t b' ps' hs' e f g =
     let j = joined r (new_hole t ∷ []) (refl, tt) in
     record {
@@ -56,20 +56,20 @@ hole_joined {ts} {b} {ps} {hs} {ks} r t b' ps' hs' e f g =
       places_are = f ∙ j.places_are;
       types_are = g ∙ j.types_are;
       slots_are = (rw append-nil at j.slots_are);
-      proper = j.proper
+      proper = j.proper;
     }
 
 pub same_mark : {a b c a' b' c' : ℕ} → a ≡ a' → b ≡ b' → c ≡ c' → ◌≡◌ {A = Mark} (record { bytes = a; holes = b; slots = c }) (record { bytes = a'; holes = b'; slots = c' })
 same_mark e f g = cc
 
 pub cut_at :
-  {b ps : List ℕ} {hs : List Ty} {ks : List Kept} (ts : List Cell) → Represents ts b ps hs ks →
-  (m : Mark) (front rest : List Cell) → ts ≡ front ++ rest → m ≡ mark_of front →
-  Represents front (take m.bytes b) (take m.holes ps) (take m.holes hs) (take m.slots ks)
+    {b ps : List ℕ} {hs : List Ty} {ks : List Kept} (ts : List Cell) → Represents ts b ps hs ks →
+    (m : Mark) (front rest : List Cell) → ts ≡ front ++ rest → m ≡ mark_of front →
+    Represents front (take m.bytes b) (take m.holes ps) (take m.holes hs) (take m.slots ks)
 cut_at {b} {ps} {hs} {ks} ts r m front rest e f =
     rw f (cut front rest (subst (λ us. Represents us b ps hs ks) e r))
 
 pub same_as :
-  {ts : List Cell} {b ps b' ps' : List ℕ} {hs hs' : List Ty} {ks ks' : List Kept} → Represents ts b ps hs ks →
-  b' ≡ b → ps' ≡ ps → hs' ≡ hs → ks' ≡ ks → Represents ts b' ps' hs' ks'
+    {ts : List Cell} {b ps b' ps' : List ℕ} {hs hs' : List Ty} {ks ks' : List Kept} → Represents ts b ps hs ks →
+    b' ≡ b → ps' ≡ ps → hs' ≡ hs → ks' ≡ ks → Represents ts b' ps' hs' ks'
 same_as r e f g h = rw (e, f, g, h) r

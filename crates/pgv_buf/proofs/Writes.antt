@@ -42,8 +42,8 @@ still_proper os (slot_cell d cs s ∷ ts) p = (p.0, p.1, still_proper os ts p.2)
 
 -- behind bytes that stand already
 written-shown :
-  (before : List ℕ) (os : List Oid) (ts : List Cell) → Proper ts →
-  written (hole_places (length before) ts) os (before ++ shown ts) ≡ before ++ shown (fill_holes os ts)
+    (before : List ℕ) (os : List Oid) (ts : List Cell) → Proper ts →
+    written (hole_places (length before) ts) os (before ++ shown ts) ≡ before ++ shown (fill_holes os ts)
 written-shown before os [] p = refl
 written-shown before os (fixed x ∷ ts) p =
     let h : written (hole_places (length (before ++ x ∷ [])) ts) os ((before ++ x ∷ []) ++ shown ts) ≡ (before ++ x ∷ []) ++ shown (fill_holes os ts) = written-shown (before ++ x ∷ []) os ts p in
@@ -59,14 +59,14 @@ written-shown before os (slot_cell d cs s ∷ ts) p =
     (rw (length-append before s, p.0, append_assoc before s (shown ts), append_assoc before s (shown (fill_holes os ts))) at h)
 
 pub filled :
-  {ts : List Cell} {b ps : List ℕ} {hs : List Ty} {ks : List Kept} → Represents ts b ps hs ks →
-  (os : List Oid) (b' : List ℕ) → b' ≡ written ps os b → Represents (fill_holes os ts) b' ps hs ks
+    {ts : List Cell} {b ps : List ℕ} {hs : List Ty} {ks : List Kept} → Represents ts b ps hs ks →
+    (os : List Oid) (b' : List ℕ) → b' ≡ written ps os b → Represents (fill_holes os ts) b' ps hs ks
 filled {ts} {b} {ps} {hs} {ks} r os b' e = record {
   bytes_are = e ∙ rw (r.places_are, r.bytes_are) (written-shown [] os ts r.proper);
   places_are = r.places_are ∙ sym (same_places os 0 ts);
   types_are = r.types_are ∙ sym (same_types os ts);
   slots_are = r.slots_are ∙ sym (same_slots os 0 ts);
-  proper = still_proper os ts r.proper
+  proper = still_proper os ts r.proper;
 }
 
 pub within : (n i : ℕ) (ts : List Cell) → i + width ts ≤ n → Within n (hole_places i ts)
@@ -104,27 +104,27 @@ Proper-back (hole_cell t s ∷ a) c p = Proper-back a c p.1
 Proper-back (slot_cell d cs s ∷ a) c p = Proper-back a c p.2
 
 pub replaced :
-  {b ps : List ℕ} {hs : List Ty} {ks : List Kept} (front : List Cell) (xs ys : List ℕ) (rest : List Cell) →
-  Represents (front ++ fixed_bytes xs ++ rest) b ps hs ks → length xs ≡ length ys →
-  (b' : List ℕ) → b' ≡ put (width front) ys b → Represents (front ++ fixed_bytes ys ++ rest) b' ps hs ks
+    {b ps : List ℕ} {hs : List Ty} {ks : List Kept} (front : List Cell) (xs ys : List ℕ) (rest : List Cell) →
+    Represents (front ++ fixed_bytes xs ++ rest) b ps hs ks → length xs ≡ length ys →
+    (b' : List ℕ) → b' ≡ put (width front) ys b → Represents (front ++ fixed_bytes ys ++ rest) b' ps hs ks
 replaced {b} {ps} {hs} {ks} front xs ys rest r0 e b' f =
     let r : Represents (front ++ (fixed_bytes xs ++ rest)) b ps hs ks = subst (λ us. Represents us b ps hs ks) (append_assoc front (fixed_bytes xs) rest) r0 in
     let wide : width front ≡ length (shown front) = sym (length-shown front (Proper-front front (fixed_bytes xs ++ rest) r.proper)) in
     let was : b ≡ shown front ++ xs ++ shown rest =
-      r.bytes_are ∙ (shown-append front (fixed_bytes xs ++ rest) ∙ (ap (λ z. shown front ++ z) (shown-append (fixed_bytes xs) rest ∙ ap (λ z. z ++ shown rest) (shown-bytes xs)) ∙ sym (append_assoc (shown front) xs (shown rest)))) in
+    r.bytes_are ∙ (shown-append front (fixed_bytes xs ++ rest) ∙ (ap (λ z. shown front ++ z) (shown-append (fixed_bytes xs) rest ∙ ap (λ z. z ++ shown rest) (shown-bytes xs)) ∙ sym (append_assoc (shown front) xs (shown rest)))) in
     let is : shown (front ++ (fixed_bytes ys ++ rest)) ≡ shown front ++ ys ++ shown rest =
-      shown-append front (fixed_bytes ys ++ rest) ∙ (ap (λ z. shown front ++ z) (shown-append (fixed_bytes ys) rest ∙ ap (λ z. z ++ shown rest) (shown-bytes ys)) ∙ sym (append_assoc (shown front) ys (shown rest))) in
+    shown-append front (fixed_bytes ys ++ rest) ∙ (ap (λ z. shown front ++ z) (shown-append (fixed_bytes ys) rest ∙ ap (λ z. z ++ shown rest) (shown-bytes ys)) ∙ sym (append_assoc (shown front) ys (shown rest))) in
     subst (λ us. Represents us b' ps hs ks) (sym (append_assoc front (fixed_bytes ys) rest)) (record {
       bytes_are = f ∙ (rw (wide, was) (put_at (shown front) xs (shown rest) ys e) ∙ sym is);
       places_are = r.places_are ∙ rw (hole_places-append 0 front (fixed_bytes xs ++ rest), hole_places-append 0 front (fixed_bytes ys ++ rest), behind_bytes (0 + width front) xs rest, behind_bytes (0 + width front) ys rest, e);
       types_are = r.types_are ∙ rw (hole_types_of-append front (fixed_bytes xs ++ rest), hole_types_of-append front (fixed_bytes ys ++ rest), types_behind_bytes xs rest, types_behind_bytes ys rest);
       slots_are = r.slots_are ∙ rw (kept_slots-append 0 front (fixed_bytes xs ++ rest), kept_slots-append 0 front (fixed_bytes ys ++ rest), slots_behind_bytes (0 + width front) xs rest, slots_behind_bytes (0 + width front) ys rest, e);
-      proper = Proper-append front (fixed_bytes ys ++ rest) (Proper-front front (fixed_bytes xs ++ rest) r.proper) (Proper-append (fixed_bytes ys) rest (Proper-bytes ys) (proper_behind_bytes xs rest (Proper-back front (fixed_bytes xs ++ rest) r.proper)))
+      proper = Proper-append front (fixed_bytes ys ++ rest) (Proper-front front (fixed_bytes xs ++ rest) r.proper) (Proper-append (fixed_bytes ys) rest (Proper-bytes ys) (proper_behind_bytes xs rest (Proper-back front (fixed_bytes xs ++ rest) r.proper)));
     })
 
 -- four bytes stand behind the front
 pub room :
-  {b ps : List ℕ} {hs : List Ty} {ks : List Kept} (front : List Cell) (xs : List ℕ) (rest : List Cell) →
-  Represents (front ++ fixed_bytes xs ++ rest) b ps hs ks → length xs ≡ 4 → width front + 4 ≤ length b
+    {b ps : List ℕ} {hs : List Ty} {ks : List Kept} (front : List Cell) (xs : List ℕ) (rest : List Cell) →
+    Represents (front ++ fixed_bytes xs ++ rest) b ps hs ks → length xs ≡ 4 → width front + 4 ≤ length b
 room front xs rest r e =
     omega (arith, ap length r.bytes_are, length-shown (front ++ fixed_bytes xs ++ rest) r.proper, width-append (front ++ fixed_bytes xs) rest, width-append front (fixed_bytes xs), width-bytes xs)

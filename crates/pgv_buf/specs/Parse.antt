@@ -205,9 +205,9 @@ length-kept_slots i (hole_cell t s ∷ ts) = length-kept_slots (i + 4) ts
 length-kept_slots i (slot_cell d cs s ∷ ts) = omega (arith, length-kept_slots (i + length d) ts)
 
 pub joined :
-  {a : List Cell} {b ps : List ℕ} {hs : List Ty} {ks : List Kept} →
-  Represents a b ps hs ks → (c : List Cell) → Proper c →
-  Represents (a ++ c) (b ++ shown c) (ps ++ hole_places (length b) c) (hs ++ hole_types_of c) (ks ++ kept_slots (length b) c)
+    {a : List Cell} {b ps : List ℕ} {hs : List Ty} {ks : List Kept} →
+    Represents a b ps hs ks → (c : List Cell) → Proper c →
+    Represents (a ++ c) (b ++ shown c) (ps ++ hole_places (length b) c) (hs ++ hole_types_of c) (ks ++ kept_slots (length b) c)
 joined {a} {b} {ps} {hs} {ks} r c q =
     let wide : length b ≡ width a = ap length r.bytes_are ∙ length-shown a r.proper in
     record {
@@ -215,17 +215,17 @@ joined {a} {b} {ps} {hs} {ks} r c q =
       places_are = rw (wide, r.places_are) (sym (hole_places-append 0 a c ∙ ap (λ n. hole_places 0 a ++ hole_places n c) (zero-add (width a))));
       types_are = rw (hole_types_of-append a c, r.types_are);
       slots_are = rw (wide, r.slots_are) (sym (kept_slots-append 0 a c ∙ ap (λ n. kept_slots 0 a ++ kept_slots n c) (zero-add (width a))));
-      proper = Proper-append a c r.proper q
+      proper = Proper-append a c r.proper q;
     }
 
 pub cut :
-  {b ps : List ℕ} {hs : List Ty} {ks : List Kept} → (a c : List Cell) →
-  Represents (a ++ c) b ps hs ks →
-  Represents a (take (width a) b) (take (hole_count a) ps) (take (hole_count a) hs) (take (slot_count a) ks)
+    {b ps : List ℕ} {hs : List Ty} {ks : List Kept} → (a c : List Cell) →
+    Represents (a ++ c) b ps hs ks →
+    Represents a (take (width a) b) (take (hole_count a) ps) (take (hole_count a) hs) (take (slot_count a) ks)
 cut a c r = record {
   bytes_are = rw (r.bytes_are, shown-append a c) (take_front (width a) (shown a) (shown c) (length-shown a (Proper-front a c r.proper)));
   places_are = rw (r.places_are, hole_places-append 0 a c) (take_front (hole_count a) (hole_places 0 a) (hole_places (0 + width a) c) (length-hole_places 0 a));
   types_are = rw (r.types_are, hole_types_of-append a c) (take_front (hole_count a) (hole_types_of a) (hole_types_of c) (length-hole_types_of a));
   slots_are = rw (r.slots_are, kept_slots-append 0 a c) (take_front (slot_count a) (kept_slots 0 a) (kept_slots (0 + width a) c) (length-kept_slots 0 a));
-  proper = Proper-front a c r.proper
+  proper = Proper-front a c r.proper;
 }

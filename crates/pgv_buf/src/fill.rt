@@ -85,7 +85,12 @@ fn write_run(bytes: &mut Vec<u8>, slots: &[Slot], parameter: &PgTypeInfo)
 }
 
 /// Fills the slots of each argument by the parameter type of that argument.
-pub(crate) fn write_slots(bytes: &mut Vec<u8>, slots: &[Slot], types: &[PgTypeInfo], counts: &[usize])
+pub(crate) fn write_slots(
+    bytes: &mut Vec<u8>,
+    slots: &[Slot],
+    types: &[PgTypeInfo],
+    counts: &[usize],
+)
     requires arguments { length types.now ≡ length counts.now }
     requires slots { sum counts.now ≡ length slots.now }
     requires within { SlotsWithin (length bytes.old.items) (map kept_of slots.now) }

@@ -12,12 +12,21 @@ fn holes_are_filled_in_order(rt: HostRuntime) -> Result<(), AllocError> {
     tokens.push_hole(PgTypeInfo::with_name("mood"))?;
     tokens.extend_from_slice(b"ok")?;
     tokens.push_hole(PgTypeInfo::with_name("size"))?;
-    assert_eq!(rt; tokens.as_slice(), [7, 0, 0, 0, 0, b'o', b'k', 0, 0, 0, 0].as_slice());
+    assert_eq!(rt;
+        tokens.as_slice(),
+        [7, 0, 0, 0, 0, b'o', b'k', 0, 0, 0, 0].as_slice()
+    );
     assert_eq!(rt; tokens.hole_types().len(), 2);
     tokens.fill(&[], &[], &[Oid(16600), Oid(16601)]);
-    assert_eq!(rt; tokens.as_slice(), [7, 0, 0, 0x40, 0xd8, b'o', b'k', 0, 0, 0x40, 0xd9].as_slice());
+    assert_eq!(rt;
+        tokens.as_slice(),
+        [7, 0, 0, 0x40, 0xd8, b'o', b'k', 0, 0, 0x40, 0xd9].as_slice()
+    );
     tokens.fill(&[], &[], &[Oid(1), Oid(2)]);
-    assert_eq!(rt; tokens.as_slice(), [7, 0, 0, 0, 1, b'o', b'k', 0, 0, 0, 2].as_slice());
+    assert_eq!(rt;
+        tokens.as_slice(),
+        [7, 0, 0, 0, 1, b'o', b'k', 0, 0, 0, 2].as_slice()
+    );
     Ok(())
 }
 
@@ -33,11 +42,17 @@ fn slots_are_filled_by_their_argument(rt: HostRuntime) -> Result<(), AllocError>
         tokens.extend_from_slice(b"{}")?;
     }
     assert_eq!(rt; tokens.as_slice(), b" {} {}".as_slice());
-    let types = [PgTypeInfo::with_oid(Oid(114)), PgTypeInfo::with_oid(Oid(3802))];
+    let types = [
+        PgTypeInfo::with_oid(Oid(114)),
+        PgTypeInfo::with_oid(Oid(3802)),
+    ];
     tokens.fill(&types, &[1, 1], &[]);
     assert_eq!(rt; tokens.len(), 6);
     let copy = tokens.clone()?;
-    let types = [PgTypeInfo::with_oid(Oid(3802)), PgTypeInfo::with_oid(Oid(114))];
+    let types = [
+        PgTypeInfo::with_oid(Oid(3802)),
+        PgTypeInfo::with_oid(Oid(114)),
+    ];
     tokens.fill(&types, &[1, 1], &[]);
     assert_eq!(rt; copy.len(), 6);
     tokens.clear();

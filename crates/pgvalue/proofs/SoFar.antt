@@ -45,8 +45,8 @@ so_far (Some xs) (Some (y ∷ ys)) c o w v was now line text h n t d r p =
       h.0 ++ (text ++ 10 ∷ []),
       appended o w v h.0 (text ++ 10 ∷ []) h.1 p,
       λ rest s. subst (λ (out : List ℕ). IsSession [] (lines_of xs) out)
-        (ap (λ (out : List ℕ). h.0 ++ out) (sym (append_assoc text (10 ∷ []) rest)) ∙ sym (append_assoc h.0 (text ++ 10 ∷ []) rest))
-        (h.2 (text ++ 10 ∷ rest) (with_line was now y ys line text rest t r s)),
+          (ap (λ (out : List ℕ). h.0 ++ out) (sym (append_assoc text (10 ∷ []) rest)) ∙ sym (append_assoc h.0 (text ++ 10 ∷ []) rest))
+          (h.2 (text ++ 10 ∷ rest) (with_line was now y ys line text rest t r s)),
     )
 
 -- the input was read to its end

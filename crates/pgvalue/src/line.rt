@@ -246,10 +246,7 @@ fn resolve_line<'a>(
     }
 }
 
-fn read_line<'a>(
-    alloc: Global,
-    behind: Option<&'a [u8]>,
-) -> Result<Option<Request<'a>>, AllocError>
+fn read_line<'a>(alloc: Global, behind: Option<&'a [u8]>) -> Result<Option<Request<'a>>, AllocError>
     ensures { IfOk result (λ found. option_map request_seen found ≡ read_by (option_copied behind.entry)) }
 {
     let Some(behind) = behind else {

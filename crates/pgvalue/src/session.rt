@@ -19,11 +19,7 @@ use pgv_wire::{CodecError, PgArgumentBuffer, PgArguments, PgValueFormat};
 use std::alloc::{AllocError, Global};
 
 /// Answers a line. Only want of memory is an error; what the arguments are then is not said.
-pub fn answer(
-    alloc: Global,
-    arguments: &mut PgArguments,
-    line: &[u8],
-) -> Result<String, AllocError>
+pub fn answer(alloc: Global, arguments: &mut PgArguments, line: &[u8]) -> Result<String, AllocError>
     ensures { IfOk result (λ text. Answers line.now arguments.old (string_bytes text) arguments.new) }
 {
     let Some(request) = parse(alloc, line)? else {
@@ -83,11 +79,7 @@ fn placeholder(alloc: Global, arguments: &PgArguments) -> Result<String, AllocEr
 }
 
 /// Fills the holes. Each argument's parameter type is its own.
-fn resolve(
-    alloc: Global,
-    arguments: &mut PgArguments,
-    oids: &[Oid],
-) -> Result<String, AllocError>
+fn resolve(alloc: Global, arguments: &mut PgArguments, oids: &[Oid]) -> Result<String, AllocError>
     ensures { IfOk result (λ answer. Resolves (length oids.now == hole_count (all_tokens arguments.old)) oids.now arguments.old (string_bytes answer) arguments.new) }
 {
     let types = arguments.types().to_vec(alloc)?;
@@ -98,11 +90,7 @@ fn resolve(
 }
 
 /// The frame that the value of null or bytes writes, in hex.
-fn read(
-    alloc: Global,
-    value_type: ValueType,
-    part: Option<&[u8]>,
-) -> Result<String, AllocError>
+fn read(alloc: Global, value_type: ValueType, part: Option<&[u8]>) -> Result<String, AllocError>
     ensures { IfOk result (λ answer. Reads (value_framed value_type InBinary (option_copied part.entry)) (option_copied part.entry) (string_bytes answer)) }
 {
     match value_type.read(alloc, part, PgValueFormat::Binary) {

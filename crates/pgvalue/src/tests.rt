@@ -73,9 +73,15 @@ fn arrays_and_holes(rt: HostRuntime) -> Result<(), Fail> {
         ("resolve +1", "refused line"),
         ("resolve 1  2", "refused line"),
         ("add text[] {x,NULL,\"a,b\"}", "$1"),
-        ("wire", "0000002400000001000000000000001900000003000000010000000178ffffffff00000003612c62"),
+        (
+            "wire",
+            "0000002400000001000000000000001900000003000000010000000178ffffffff00000003612c62",
+        ),
         ("add int4[] {1,x}", "refused C29"),
-        ("read int4[] 0000000000", "000000140000000100000000000000170000000000000001"),
+        (
+            "read int4[] 0000000000",
+            "000000140000000100000000000000170000000000000001",
+        ),
         ("", "refused line"),
         ("wire now", "refused line"),
         ("read int4 0", "refused line"),
@@ -134,7 +140,11 @@ impl Read for FailingReader<'_> {
 impl BufRead for FailingReader<'_> {
     fn fill_buf(&mut self) -> io::Result<&[u8]> {
         self.step()?;
-        let shown = if self.bytes.len() < 3 { self.bytes.len() } else { 3 };
+        let shown = if self.bytes.len() < 3 {
+            self.bytes.len()
+        } else {
+            3
+        };
         Ok(&self.bytes[..shown])
     }
 
@@ -188,7 +198,14 @@ fn faults_are_told(rt: HostRuntime) -> Result<(), Fail> {
         };
         let mut reader = lines;
         let done = run(rt.alloc(), &mut reader, &mut writer);
-        assert_eq!(rt; done, if calls < 3 { Err(RunFault::Write) } else { Ok(()) });
+        assert_eq!(rt;
+            done,
+            if calls < 3 {
+                Err(RunFault::Write)
+            } else {
+                Ok(())
+            }
+        );
         assert!(rt; answers.starts_with(writer.written.as_slice()));
     }
     assert_eq!(rt; fault_text(&RunFault::Read), "pgvalue: read failed");

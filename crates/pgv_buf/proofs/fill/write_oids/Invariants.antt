@@ -6,5 +6,5 @@ abbrev pub invariant-loop-i : goal.invariant-loop-i
 invariant-loop-i l = record {
   told : written (drop l.i l.places) (drop l.i l.oids) l.bytes.items ≡ written l.places l.oids l.fn.bytes.items;
   within : Within (length l.bytes.items) (drop l.i l.places);
-  many : length l.oids ≡ length l.places
+  many : length l.oids ≡ length l.places;
 }

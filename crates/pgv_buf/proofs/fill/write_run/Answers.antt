@@ -19,5 +19,5 @@ loop-slot-preserved c =
     record {
       told = told_here c.args.slots.now c.loop-slot.slot-index c.slot-item.result c.args.parameter.now c.loop-slot.bytes.items c.put_bytes.new.bytes.items _ c.loop-slot-test.true c.slot-item.is c.loop-slot.invariant.told f;
       within = rw m w.2;
-      len = m ∙ c.loop-slot.invariant.len
+      len = m ∙ c.loop-slot.invariant.len;
     }

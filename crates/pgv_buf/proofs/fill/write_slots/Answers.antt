@@ -21,5 +21,5 @@ loop-i-preserved c =
       told = told_after c.args.slots.now c.args.types.now c.args.counts.now c.loop-i.next c.loop-i.i _ c.index-types-i.result c.loop-i.bytes.items c.write_run.new.bytes.items _ c.loop-i-test.true m c.index-types-i.is (omega arith) (omega (arith, s, c.loop-i.invariant.left)) c.loop-i.invariant.told c.write_run.ensures.items;
       left = omega (arith, s, c.loop-i.invariant.left);
       within = rw c.write_run.ensures.len (rest_within c.args.slots.now c.loop-i.next (get_or c.args.counts.now c.loop-i.i 0) (length c.loop-i.bytes.items) c.loop-i.invariant.within);
-      many = c.requires.arguments
+      many = c.requires.arguments;
     }

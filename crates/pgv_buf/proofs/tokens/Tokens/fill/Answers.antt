@@ -6,5 +6,5 @@ use Rattle.pgv_buf.proofs.tokens.Tokens.fill.Goals as goal
 pub fill_types-requires : goal.fill_types-requires
 fill_types-requires c = record {
   arguments = c.requires.arguments;
-  slots = c.requires.slots ∙ sym (ap slot_count c.fill_oids.ensures ∙ filled_hole_slot_count c.args.oids.now c.args.self.now)
+  slots = c.requires.slots ∙ sym (ap slot_count c.fill_oids.ensures ∙ filled_hole_slot_count c.args.oids.now c.args.self.now);
 }

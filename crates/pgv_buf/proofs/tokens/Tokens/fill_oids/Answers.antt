@@ -13,7 +13,7 @@ write_oids-requires c =
     let w : length c.self.inside.bytes.items ≡ width c.args.self.now = ap length r.bytes_are ∙ length-shown c.args.self.now r.proper in
     record {
       many = c.requires ∙ sym (ap length e ∙ length-hole_places 0 c.args.self.now);
-      within = rw e (within (length c.self.inside.bytes.items) 0 c.args.self.now (omega arith))
+      within = rw e (within (length c.self.inside.bytes.items) 0 c.args.self.now (omega arith));
     }
 
 pub invariant_of-self : goal.invariant_of-self

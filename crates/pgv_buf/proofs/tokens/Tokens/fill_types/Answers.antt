@@ -17,7 +17,7 @@ write_slots-requires c =
     record {
       arguments = c.requires.arguments;
       slots = c.requires.slots ∙ sym (sym (length-map c.as_slice.result.now kept_of) ∙ (ap length e ∙ length-kept_slots 0 c.args.self.now));
-      within = rw e (slots_within (length c.self.inside.bytes.items) 0 c.args.self.now r.proper (omega arith))
+      within = rw e (slots_within (length c.self.inside.bytes.items) 0 c.args.self.now r.proper (omega arith));
     }
 
 pub invariant_of-self : goal.invariant_of-self

@@ -10,15 +10,15 @@ use Rattle.pgv_buf.proofs.Writes.{replaced, room}
 use Rattle.pgv_buf.proofs.tokens.Tokens.put_u32.Goals as goal
 
 replaced_at :
-  {b ps : List ℕ} {hs : List Ty} {ks : List Kept} (ts : List Cell) → Represents ts b ps hs ks → (m : Mark) (v : ℕ) (b' : List ℕ) → b' ≡ put m.bytes (be4 v) b →
-  (front : List Cell) (xs : List ℕ) (rest : List Cell) → ts ≡ front ++ fixed_bytes xs ++ rest → length xs ≡ 4 → m ≡ mark_of front →
-  Represents (front ++ fixed_bytes (be4 v) ++ rest) b' ps hs ks
+    {b ps : List ℕ} {hs : List Ty} {ks : List Kept} (ts : List Cell) → Represents ts b ps hs ks → (m : Mark) (v : ℕ) (b' : List ℕ) → b' ≡ put m.bytes (be4 v) b →
+    (front : List Cell) (xs : List ℕ) (rest : List Cell) → ts ≡ front ++ fixed_bytes xs ++ rest → length xs ≡ 4 → m ≡ mark_of front →
+    Represents (front ++ fixed_bytes (be4 v) ++ rest) b' ps hs ks
 replaced_at {b} {ps} {hs} {ks} ts r m v b' f front xs rest e n g =
     replaced front xs (be4 v) rest (subst (λ us. Represents us b ps hs ks) e r) n b' (f ∙ ap (λ k. put k.bytes (be4 v) b) g)
 
 room_at :
-  {b ps : List ℕ} {hs : List Ty} {ks : List Kept} (ts : List Cell) → Represents ts b ps hs ks → (m : Mark) →
-  (front : List Cell) (xs : List ℕ) (rest : List Cell) → ts ≡ front ++ fixed_bytes xs ++ rest → length xs ≡ 4 → m ≡ mark_of front → m.bytes + 4 ≤ length b
+    {b ps : List ℕ} {hs : List Ty} {ks : List Kept} (ts : List Cell) → Represents ts b ps hs ks → (m : Mark) →
+    (front : List Cell) (xs : List ℕ) (rest : List Cell) → ts ≡ front ++ fixed_bytes xs ++ rest → length xs ≡ 4 → m ≡ mark_of front → m.bytes + 4 ≤ length b
 room_at {b} {ps} {hs} {ks} ts r m front xs rest e n g = rw g (room front xs rest (subst (λ us. Represents us b ps hs ks) e r) n)
 
 pub put_number-requires : goal.put_number-requires

@@ -13,5 +13,5 @@ invariant_of-result c =
 
 pub returns : goal.returns
 returns c = record {
-  cases = tokens_are (same_as (held c.args.self.now c.self.invariant c.self.view_is) (each_same _ _ c.in_ok-clone.ensures.cases.0) (each_same _ _ c.in_ok-clone-2.ensures.cases.0) (each_same _ _ c.in_ok-clone-3.ensures.cases.0) (slots_same _ _ c.in_ok-clone-4.ensures.cases.0))
+  cases = tokens_are (same_as (held c.args.self.now c.self.invariant c.self.view_is) (each_same _ _ c.in_ok-clone.ensures.cases.0) (each_same _ _ c.in_ok-clone-2.ensures.cases.0) (each_same _ _ c.in_ok-clone-3.ensures.cases.0) (slots_same _ _ c.in_ok-clone-4.ensures.cases.0));
 }
