@@ -1,4 +1,4 @@
-//! Writing values as PostgreSQL's binary protocol wants them.
+//! Writing values as PostgreSQL's binary protocol wants them, and reading those that it brings.
 //!
 //! [`PgArguments`] collects the parameters of a statement. Each is a frame: a length of four bytes and that many
 //! bytes, or the length -1 for null. What a value is written as is its *image*, which its [`Encode`] states: null,
@@ -65,7 +65,10 @@ pub mod types;
 pub use arguments::PgArguments;
 pub use buffer::{IsNull, PgArgumentBuffer};
 pub use decode::PgRecordDecoder;
-pub use pgv_value::{CodecError, PgValue, PgValueFormat, PgValueRef};
+pub use pgv_value::{
+    CodecError, PgValue, PgValueFormat, PgValueRef, read_bool, read_i8, read_i16, read_i32, read_i64,
+    read_oid, read_uuid,
+};
 pub use traits::{Decode, Encode, PgHasArrayType, Type};
 pub use types::array::encode_array;
 pub use types::record::PgRecordEncoder;
