@@ -66,8 +66,8 @@ pub use arguments::PgArguments;
 pub use buffer::{IsNull, PgArgumentBuffer};
 pub use decode::PgRecordDecoder;
 pub use pgv_value::{
-    CodecError, PgValue, PgValueFormat, PgValueRef, read_bool, read_i8, read_i16, read_i32, read_i64,
-    read_oid, read_uuid,
+    CodecError, PgValue, PgValueFormat, PgValueRef, read_bool, read_i8, read_i16, read_i32,
+    read_i64, read_oid, read_uuid,
 };
 pub use traits::{Decode, Encode, PgHasArrayType, Type};
 pub use types::array::encode_array;

@@ -149,7 +149,7 @@ impl Encode for EmptyObject {
 #[derive(Drop)]
 pub struct Size {
     pub alloc: Global,
-    pub number: u8,
+    pub number: i8,
 }
 
 impl Type for Size {
@@ -189,24 +189,25 @@ impl PgHasArrayType for Size {
 }
 
 impl Encode for Size {
-    ghost use Rattle.std.specs.Prelude.{cond, nat_eq, Some, None, [], ◌∷◌};
-    ghost use Rattle.pgv_buf.specs.Tokens.{byte};
-    ghost use Rattle.pgv_wire.specs.Image.{image_of};
+    ghost use Rattle.std.specs.Prelude.{cond, pos, None};
+    ghost use Rattle.std.specs.Ordering.{int_eq};
+    ghost use Rattle.std.specs.Int.{w8};
+    ghost use Rattle.pgv_wire.specs.Scalars.{signed_image};
 
-    ghost image = { λ size. cond (nat_eq size.number 0) None (Some (image_of (byte size.number ∷ []))) };
+    ghost image = { λ size. cond (int_eq size.number (pos 0)) None (signed_image w8 size.number) };
 
     ghost hint = { λ _. 0 };
 
     ghost produced = { λ _. None };
 
     fn encode_by_ref(&self, out: &mut PgArgumentBuffer) -> Result<IsNull, CodecError> {
-        out.push(self.number)?;
         if self.number == 0 {
+            out.push(0)?;
             out.push_hole(PgTypeInfo::with_name("size"))?;
             push_version(self.alloc, out)?;
             return Err(CodecError::Caller(38));
         }
-        Ok(IsNull::No)
+        self.number.encode_by_ref(out)
     }
 
     fn size_hint(&self) -> usize {
