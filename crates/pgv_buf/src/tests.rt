@@ -33,45 +33,33 @@ fn holes_are_filled_in_order(rt: HostRuntime) -> Result<(), AllocError> {
 #[test]
 fn slots_are_filled_by_their_argument(rt: HostRuntime) -> Result<(), AllocError> {
     let mut tokens = Tokens::new(rt.alloc());
-    for _ in 0..2 {
-        let mut version = Vec::new(rt.alloc());
-        version.push(1)?;
-        let mut cases = Vec::new(rt.alloc());
-        cases.push((PgTypeInfo::with_oid(Oid(3802)), version))?;
-        tokens.push_slot(b" ", cases)?;
-        tokens.extend_from_slice(b"{}")?;
-    }
-    assert_eq!(rt; tokens.as_slice(), b" {} {}".as_slice());
-    let types = [
-        PgTypeInfo::with_oid(Oid(114)),
-        PgTypeInfo::with_oid(Oid(3802)),
-    ];
-    tokens.fill(&types, &[1, 1], &[]);
-    assert_eq!(rt; tokens.len(), 6);
+    let mut version = Vec::new(rt.alloc());
+    version.push(1)?;
+    let mut cases = Vec::new(rt.alloc());
+    cases.push((PgTypeInfo::with_oid(Oid(3802)), version))?;
+    tokens.push_slot(b" ", cases)?;
+    tokens.push(b'{')?;
+    assert_eq!(rt; tokens.as_slice(), b" {".as_slice());
+    tokens.fill(&[PgTypeInfo::with_oid(Oid(3802))], &[1], &[]);
+    assert_eq!(rt; tokens.as_slice(), b"\x01{".as_slice());
     let copy = tokens.clone()?;
-    let types = [
-        PgTypeInfo::with_oid(Oid(3802)),
-        PgTypeInfo::with_oid(Oid(114)),
-    ];
-    tokens.fill(&types, &[1, 1], &[]);
-    assert_eq!(rt; copy.len(), 6);
+    tokens.fill(&[PgTypeInfo::with_oid(Oid(114))], &[1], &[]);
+    assert_eq!(rt; tokens.as_slice(), b" {".as_slice());
+    assert_eq!(rt; copy.as_slice(), b"\x01{".as_slice());
     tokens.clear();
-    assert_eq!(rt; tokens.as_slice(), b"".as_slice());
+    assert_eq!(rt; tokens.len(), 0);
     Ok(())
 }
 
 #[test]
 fn what_was_appended_is_taken_off_again(rt: HostRuntime) -> Result<(), AllocError> {
     let mut tokens = Tokens::new(rt.alloc());
-    let start = tokens.mark();
-    tokens.extend_from_slice(&[0, 0, 0, 0])?;
+    tokens.extend_from_slice(&[1, 2])?;
     let behind = tokens.mark();
     tokens.push_hole(PgTypeInfo::with_name("mood"))?;
     tokens.push(1)?;
-    assert_eq!(rt; tokens.mark().since(behind).slots(), 0);
     tokens.back(behind);
     assert_eq!(rt; tokens.hole_types().len(), 0);
-    tokens.put_u32(start, 258);
-    assert_eq!(rt; tokens.as_slice(), [0, 0, 1, 2].as_slice());
+    assert_eq!(rt; tokens.as_slice(), [1, 2].as_slice());
     Ok(())
 }
