@@ -1,5 +1,5 @@
 -- Slots: which bytes one shows, and all of them.
-use Rattle.std.proofs.Common.{◌≡◌, ℕ, ◌+◌, ◌≤◌, ◌<◌, Bool, true, false, cond, suc, zero, List, [], ◌∷◌, ◌++◌, length, take, drop, map, get_or, replicate, sum, refl, sym, ◌∙◌, ap, subst, arith, append_assoc, append-nil, length-append, length-take, length-drop, Vec, Global}
+use Rattle.std.proofs.Common.{◌≡◌, ℕ, ◌+◌, ◌≤◌, ◌<◌, true, false, cond, suc, zero, List, [], ◌∷◌, ◌++◌, length, take, drop, map, get_or, replicate, refl, sym, ◌∙◌, ap, subst, arith, append_assoc, append-nil, length-append, length-take, length-drop, Vec, Global}
 use Rattle.std.proofs.lemmas.List.{drop_more, take-map, drop-map, drop-drop, take-append-drop, length-map}
 use Rattle.pgv_types.specs.Ty.{Ty}
 use Rattle.pgv_types.specs.Relations.{softly}
@@ -7,8 +7,8 @@ use Rattle.pgv_types.specs.declared.oid.Oid.{Oid}
 use Rattle.pgv_buf.specs.Tokens.{Cell, fixed, hole_cell, slot_cell, chosen, CasesFit, shown, width, new_slot, slot_count, hole_types_of}
 use Rattle.pgv_buf.specs.Shown.{cases_of, kept_of}
 use Rattle.pgv_buf.specs.declared.fill.Slot.{Slot}
-use Rattle.pgv_buf.specs.Parse.{Kept, Represents, Proper, joined, first_type, kept_slots, hole_places, take_front}
-use Rattle.pgv_buf.specs.Fill.{fill_holes, rest_numbers, put, written_slots, SlotsWithin, fill_slots, rest_types, slot_types, first_count, rest_counts}
+use Rattle.pgv_buf.specs.Parse.{Kept, Represents, Proper, joined, first_type, kept_slots, hole_places}
+use Rattle.pgv_buf.specs.Fill.{fill_holes, rest_numbers, put, written_slots, SlotsWithin, fill_slots, rest_types, slot_types}
 use Rattle.pgv_buf.proofs.Writes.{put_at}
 
 pub slot_joined :

@@ -1,10 +1,10 @@
 -- What each call leaves, for the tokens that are kept.
-use Rattle.std.proofs.Common.{◌≡◌, ℕ, ◌+◌, List, [], ◌∷◌, ◌++◌, length, take, map, refl, sym, ◌∙◌, ap, subst, arith, append-nil, length-append, add-zero}
+use Rattle.std.proofs.Common.{◌≡◌, ℕ, ◌+◌, List, [], ◌∷◌, ◌++◌, length, take, refl, sym, ◌∙◌, ap, subst, append-nil}
 use Rattle.pgv_types.specs.Ty.{Ty}
 use Rattle.pgv_buf.specs.declared.mark.Mark.{Mark}
-use Rattle.pgv_buf.specs.Tokens.{Cell, fixed, hole_cell, slot_cell, fixed_bytes, shown, width, new_hole, new_slot, hole_types_of, hole_count, slot_count}
+use Rattle.pgv_buf.specs.Tokens.{Cell, fixed_bytes, shown, new_hole, hole_types_of}
 use Rattle.pgv_buf.specs.Marks.{mark_of}
-use Rattle.pgv_buf.specs.Parse.{Kept, Represents, Valid, Proper, tokens_of, tokens_of-kept, hole_places, kept_slots, joined, cut, length-shown, length-hole_places, length-kept_slots, parsed}
+use Rattle.pgv_buf.specs.Parse.{Kept, Represents, Valid, Proper, tokens_of, hole_places, kept_slots, joined, cut}
 
 pub none_kept : Represents [] [] [] [] []
 none_kept = record { bytes_are = refl; places_are = refl; types_are = refl; slots_are = refl; proper = tt }

@@ -1,6 +1,6 @@
 -- Laws of `blank` and `plain`.
 use Rattle.std.specs.Prelude.{◌≡◌, ℕ, ◌+◌, List, [], ◌∷◌, ◌++◌, length, refl}
-use Rattle.std.proofs.Common.{ap, arith}
+use Rattle.std.proofs.Common.{ap}
 use Rattle.pgv_buf.specs.Tokens.{Token, byte, hole, slot, bytes, tokens_width, tokens_holes, Cell, fixed, hole_cell, slot_cell, fixed_bytes, width, hole_count, blank, plain}
 
 pub blank-append : (a c : List Token) → blank (a ++ c) ≡ blank a ++ blank c

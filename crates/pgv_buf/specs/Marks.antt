@@ -1,5 +1,5 @@
 -- Numbers of bytes, holes and slots.
-use Rattle.std.specs.Prelude.{◌≡◌, ℕ, ◌-◌, ◌≤◌, List}
+use Rattle.std.specs.Prelude.{◌-◌, ◌≤◌, List}
 use Rattle.pgv_buf.specs.declared.mark.Mark.{Mark}
 use Rattle.pgv_buf.specs.Tokens.{Cell, width, hole_count, slot_count}
 

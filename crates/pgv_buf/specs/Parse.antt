@@ -1,9 +1,9 @@
 -- How tokens are kept: their bytes, the places and types of the holes, and the slots with their places.
-use Rattle.std.specs.Prelude.{◌≡◌, ℕ, ◌+◌, ◌≤◌, ◌<◌, ◌==◌, Bool, true, false, cond, List, [], ◌∷◌, ◌++◌, length, take, drop, slice_index_or, refl}
+use Rattle.std.specs.Prelude.{◌≡◌, ℕ, ◌+◌, ◌≤◌, ◌<◌, ◌==◌, Bool, true, false, cond, List, [], ◌∷◌, ◌++◌, length, take, drop, refl}
 use Rattle.std.proofs.Common.{arith, suc, zero, sym, ◌∙◌, ap, subst, length-append, append_assoc, add_assoc, add-zero, zero-add}
 use Rattle.std.proofs.Math.Seq.{take-append_seam, drop-append_seam}
 use Rattle.pgv_types.specs.Ty.{Ty, by_oid}
-use Rattle.pgv_buf.specs.Tokens.{CasesFit, Cell, fixed, hole_cell, slot_cell, shown, width, cell_shown, cell_width, hole_types_of, hole_count, slot_count}
+use Rattle.pgv_buf.specs.Tokens.{CasesFit, Cell, fixed, hole_cell, slot_cell, shown, width, cell_shown, hole_types_of, hole_count, slot_count}
 
 -- a slot as it is kept: its place, its default and its cases
 pub record Kept : Type 0 where

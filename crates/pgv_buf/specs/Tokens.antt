@@ -1,9 +1,9 @@
 -- Tokens, which values are written as, and cells, which a buffer is: tokens, each with the bytes that it shows.
-use Rattle.std.specs.Prelude.{cond, replicate, ◌≡◌, ℕ, ◌+◌, ◌≤◌, List, [], ◌∷◌, ◌++◌, length, take, drop, ◌⊎◌, refl, map}
+use Rattle.std.specs.Prelude.{cond, ◌≡◌, ℕ, ◌+◌, List, [], ◌∷◌, ◌++◌, length, ◌⊎◌, refl}
 use Rattle.std.specs.Int.{to_be_bytes, w32}
 use Rattle.std.proofs.Common.{inl, inr}
 use Rattle.std.specs.Coded.{Coded, code_by, coded×, coded⊎, coded_ℕ, coded_list}
-use Rattle.pgv_types.specs.Ty.{Ty, by_oid, ty_code}
+use Rattle.pgv_types.specs.Ty.{Ty, ty_code}
 use Rattle.pgv_types.specs.Relations.{softly}
 
 pub data Token : Type 0 where

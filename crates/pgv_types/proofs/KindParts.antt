@@ -1,54 +1,42 @@
 -- The kind of a built-in type, from its element, its range and whether it is a pseudo-type.
 use Rattle.std.proofs.Common.{◌≡◌, ℕ, Bool, true, false, Option, Some, None, ap, ◌∙◌, sym, refl, option_map}
 use Rattle.std.proofs.lemmas.Bool.{false≢true}
+use Rattle.std.proofs.lemmas.Option.{none-some}
 use Rattle.pgv_types.specs.Ty.{Ty, builtin, custom, named, by_oid, array_of, simple, pseudo, array, range}
 use Rattle.pgv_types.specs.Table.{RowKind, a_simple, a_pseudo, range_of, entry_of}
+use Rattle.pgv_types.proofs.Rows.{type_or}
 use Rattle.pgv_types.specs.Facts.{element_oid, element_built_in, kind_or_array, row_kind, entry_kind, kind_when_built_in, range_oid, range_built_in, is_pseudo_row, is_pseudo}
-
-abbrev type_or : Ty → Option Ty → Ty
-type_or d None = d
-type_or d (Some t) = t
-
-abbrev is_there : Option Ty → Bool
-is_there None = false
-is_there (Some t) = true
-
-none_some : {x : Ty} → None ≡ Some x → ⊥
-none_some e = false≢true (ap is_there e)
-
-some_none : {x : Ty} → Some x ≡ None → ⊥
-some_none e = none_some (sym e)
 
 -- ---- arrays
 
 array_at : (k : RowKind) (m : Option ℕ) (x : Ty) → option_map builtin m ≡ Some x → array x ≡ kind_or_array k m
-array_at k None x e = absurd (none_some e)
+array_at k None x e = absurd (none-some x e)
 array_at k (Some o) x e = ap (λ m. array (type_or x m)) (sym e)
 
 pub kind_of_array : (t x : Ty) → element_built_in t ≡ Some x → array x ≡ kind_when_built_in t
 kind_of_array (builtin o) x e = array_at (entry_kind (entry_of o)) (element_oid o) x e
-kind_of_array (custom o n k) x e = absurd (none_some e)
-kind_of_array (named n) x e = absurd (none_some e)
-kind_of_array (by_oid o) x e = absurd (none_some e)
-kind_of_array (array_of n) x e = absurd (none_some e)
+kind_of_array (custom o n k) x e = absurd (none-some x e)
+kind_of_array (named n) x e = absurd (none-some x e)
+kind_of_array (by_oid o) x e = absurd (none-some x e)
+kind_of_array (array_of n) x e = absurd (none-some x e)
 
 -- ---- ranges
 
 row_at : (k : RowKind) (m : Option ℕ) → option_map builtin m ≡ None → row_kind k ≡ kind_or_array k m
 row_at k None e = refl
-row_at k (Some o) e = absurd (some_none e)
+row_at k (Some o) e = absurd (none-some _ (sym e))
 
 range_at : (k : RowKind) (x : Ty) → option_map builtin (range_oid k) ≡ Some x → range x ≡ row_kind k
-range_at a_simple x e = absurd (none_some e)
-range_at a_pseudo x e = absurd (none_some e)
+range_at a_simple x e = absurd (none-some x e)
+range_at a_pseudo x e = absurd (none-some x e)
 range_at (range_of o) x e = ap (λ m. range (type_or x m)) (sym e)
 
 pub kind_of_range : (t x : Ty) → element_built_in t ≡ None → range_built_in t ≡ Some x → range x ≡ kind_when_built_in t
 kind_of_range (builtin o) x n e = range_at (entry_kind (entry_of o)) x e ∙ row_at (entry_kind (entry_of o)) (element_oid o) n
-kind_of_range (custom o m k) x n e = absurd (none_some e)
-kind_of_range (named m) x n e = absurd (none_some e)
-kind_of_range (by_oid o) x n e = absurd (none_some e)
-kind_of_range (array_of m) x n e = absurd (none_some e)
+kind_of_range (custom o m k) x n e = absurd (none-some x e)
+kind_of_range (named m) x n e = absurd (none-some x e)
+kind_of_range (by_oid o) x n e = absurd (none-some x e)
+kind_of_range (array_of m) x n e = absurd (none-some x e)
 
 -- ---- the others
 
@@ -67,7 +55,7 @@ kind_of_pseudo (array_of m) n p = absurd (false≢true p)
 simple_at : (k : RowKind) → option_map builtin (range_oid k) ≡ None → is_pseudo_row k ≡ false → simple ≡ row_kind k
 simple_at a_simple e p = refl
 simple_at a_pseudo e p = absurd (false≢true (sym p))
-simple_at (range_of o) e p = absurd (some_none e)
+simple_at (range_of o) e p = absurd (none-some _ (sym e))
 
 pub kind_of_simple : (t : Ty) → element_built_in t ≡ None → range_built_in t ≡ None → is_pseudo t ≡ false → simple ≡ kind_when_built_in t
 kind_of_simple (builtin o) n e p = simple_at (entry_kind (entry_of o)) e p ∙ row_at (entry_kind (entry_of o)) (element_oid o) n

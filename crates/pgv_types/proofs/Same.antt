@@ -8,6 +8,7 @@ use Rattle.std.proofs.lemmas.Slice.Eq.{bytes_eq-Decides}
 use Rattle.std.proofs.lemmas.Bool.Decides.{same_from_decides, Decides-like}
 use Rattle.pgv_types.specs.Suffix.{suffix_of}
 use Rattle.pgv_types.specs.Agree.{BeginsUnicode}
+use Rattle.pgv_types.proofs.Tells.{first_of, second_of}
 
 pub letters_append : (text : List ℕ) (brackets : Bool) → IsUtf8 text → chars (text ++ suffix_of brackets) ≡ chars text ++ chars (suffix_of brackets)
 letters_append text brackets u = chars-append text (suffix_of brackets) u
@@ -30,15 +31,6 @@ bytes_eq_sym a b =
     same_from_decides (bytes_eq a b) (bytes_eq b a) (bytes_eq-Decides a b) (Decides-like (bytes_eq b a) (λ (q : b ≡ a). sym q) (λ (q : a ≡ b). sym q) (bytes_eq-Decides b a))
 
 -- brackets behind a text don't change whether it begins with U&
-abbrev first_of : List ℕ → ℕ
-first_of [] = 0
-first_of (a ∷ cs) = a
-
-abbrev second_of : List ℕ → ℕ
-second_of [] = 0
-second_of (a ∷ []) = 0
-second_of (a ∷ b ∷ cs) = b
-
 none_alone : (brackets : Bool) (rest : List ℕ) → suffix_of brackets ≡ 85 ∷ 38 ∷ rest → ⊥
 none_alone true rest e = let q : 91 ≡ 85 = ap first_of e in absurd (omega (arith, q))
 none_alone false rest e = let q : 0 ≡ 85 = ap first_of e in absurd (omega (arith, q))

@@ -31,11 +31,11 @@ all_tells (x ∷ xs) (y ∷ ys) = Decides-and (alike x y) (all_alike xs ys) (ali
 too_short : (a : List ℕ) → length a < 2 → BeginsUnicode a → ⊥
 too_short a n h = let e = ap length h.1 in omega arith
 
-abbrev first_of : List ℕ → ℕ
+abbrev pub first_of : List ℕ → ℕ
 first_of [] = 0
 first_of (a ∷ cs) = a
 
-abbrev second_of : List ℕ → ℕ
+abbrev pub second_of : List ℕ → ℕ
 second_of [] = 0
 second_of (a ∷ []) = 0
 second_of (a ∷ b ∷ cs) = b

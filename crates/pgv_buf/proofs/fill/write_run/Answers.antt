@@ -1,4 +1,4 @@
-use Rattle.std.proofs.Common.{◌≡◌, ◌+◌, ◌≤◌, length, ap, ◌∙◌, sym, arith, subst}
+use Rattle.std.proofs.Common.{◌≡◌, length, ap, ◌∙◌, arith}
 use Rattle.pgv_buf.specs.Tokens.{chosen}
 use Rattle.pgv_buf.specs.Shown.{cases_of}
 use Rattle.pgv_buf.specs.Fill.{put}

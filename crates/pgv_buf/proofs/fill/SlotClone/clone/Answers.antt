@@ -1,4 +1,4 @@
-use Rattle.std.proofs.Common.{◌≡◌, refl}
+use Rattle.std.proofs.Common.{refl}
 use Rattle.std.specs.List.{each_same}
 use Rattle.pgv_buf.proofs.Clones.{cases_same, same_case, same_kept}
 use Rattle.pgv_buf.proofs.fill.SlotClone.clone.Goals as goal

@@ -1,7 +1,6 @@
-use Rattle.std.proofs.Common.{◌≡◌, List, ℕ, map, take, ◌∙◌, ap, sym}
 use Rattle.std.proofs.lemmas.List.{take-map}
 use Rattle.pgv_buf.specs.Shown.{kept_of}
-use Rattle.pgv_buf.specs.Parse.{valid, tokens_are, Represents}
+use Rattle.pgv_buf.specs.Parse.{valid, tokens_are}
 use Rattle.pgv_buf.proofs.Steps.{held, cut_at}
 use Rattle.pgv_buf.proofs.tokens.Tokens.back.Goals as goal
 

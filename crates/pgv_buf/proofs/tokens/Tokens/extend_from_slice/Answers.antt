@@ -1,4 +1,4 @@
-use Rattle.std.proofs.Common.{[], ◌∷◌, ◌++◌, ◌∙◌, sym, ap}
+use Rattle.std.proofs.Common.{◌++◌, ◌∙◌, sym, ap}
 use Rattle.pgv_buf.specs.Blank.{blank-bytes}
 use Rattle.pgv_buf.specs.Parse.{valid, tokens_are}
 use Rattle.pgv_buf.proofs.Steps.{held, bytes_joined}

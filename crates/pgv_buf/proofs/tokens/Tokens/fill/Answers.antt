@@ -1,4 +1,4 @@
-use Rattle.std.proofs.Common.{◌≡◌, ◌∙◌, ap, sym}
+use Rattle.std.proofs.Common.{◌∙◌, ap, sym}
 use Rattle.pgv_buf.specs.Tokens.{slot_count}
 use Rattle.pgv_buf.proofs.Slots.{filled_hole_slot_count}
 use Rattle.pgv_buf.proofs.tokens.Tokens.fill.Goals as goal

@@ -1,7 +1,7 @@
-use Rattle.std.proofs.Common.{◌≡◌, ℕ, ◌+◌, ◌≤◌, length, ◌∙◌, ap, sym, arith}
-use Rattle.pgv_buf.specs.Tokens.{width, hole_count}
+use Rattle.std.proofs.Common.{◌≡◌, length, ◌∙◌, ap, sym, arith}
+use Rattle.pgv_buf.specs.Tokens.{width}
 use Rattle.pgv_buf.specs.Parse.{valid, tokens_are, length-shown, length-hole_places, hole_places}
-use Rattle.pgv_buf.specs.Fill.{Within, written}
+use Rattle.pgv_buf.specs.Fill.{written}
 use Rattle.pgv_buf.proofs.Steps.{held}
 use Rattle.pgv_buf.proofs.Writes.{filled, within}
 use Rattle.pgv_buf.proofs.tokens.Tokens.fill_oids.Goals as goal

@@ -1,10 +1,10 @@
-use Rattle.std.proofs.Common.{◌≡◌, ℕ, ◌+◌, ◌≤◌, length, map, List, ◌∙◌, ap, sym, arith, sum}
+use Rattle.std.proofs.Common.{◌≡◌, length, map, List, ◌∙◌, ap, sym, arith}
 use Rattle.std.proofs.lemmas.List.{length-map}
 use Rattle.pgv_buf.specs.declared.fill.Slot.{Slot}
 use Rattle.pgv_buf.specs.Shown.{kept_of}
-use Rattle.pgv_buf.specs.Tokens.{width, slot_count}
+use Rattle.pgv_buf.specs.Tokens.{width}
 use Rattle.pgv_buf.specs.Parse.{valid, tokens_are, length-shown, length-kept_slots, kept_slots}
-use Rattle.pgv_buf.specs.Fill.{SlotsWithin, written_slots, slot_types}
+use Rattle.pgv_buf.specs.Fill.{written_slots, slot_types}
 use Rattle.pgv_buf.proofs.Steps.{held}
 use Rattle.pgv_buf.proofs.Slots.{slots_filled, slots_within}
 use Rattle.pgv_buf.proofs.tokens.Tokens.fill_types.Goals as goal

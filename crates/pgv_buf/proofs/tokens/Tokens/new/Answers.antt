@@ -1,4 +1,3 @@
-use Rattle.std.proofs.Common.{◌≡◌, List, []}
 use Rattle.pgv_buf.specs.Parse.{valid, tokens_are}
 use Rattle.pgv_buf.proofs.Steps.{none_kept}
 use Rattle.pgv_buf.proofs.tokens.Tokens.new.Goals as goal

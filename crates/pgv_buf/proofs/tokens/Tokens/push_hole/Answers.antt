@@ -1,6 +1,5 @@
-use Rattle.std.proofs.Common.{◌≡◌, List, ℕ, length, [], ◌∷◌, ◌++◌, ◌∙◌, ap, arith}
-use Rattle.pgv_buf.specs.Tokens.{new_hole}
-use Rattle.pgv_buf.specs.Parse.{valid, tokens_are, Represents}
+use Rattle.std.proofs.Common.{◌≡◌, length, [], ◌∷◌, ◌++◌, ◌∙◌, ap, arith}
+use Rattle.pgv_buf.specs.Parse.{valid, tokens_are}
 use Rattle.pgv_buf.proofs.Steps.{held, hole_joined}
 use Rattle.pgv_buf.proofs.tokens.Tokens.push_hole.Goals as goal
 

@@ -1,4 +1,4 @@
-use Rattle.std.proofs.Common.{◌≡◌, List, ℕ, length, [], ◌∷◌, ◌++◌, ◌∙◌, ap, sym, arith, map, Vec, Global, refl}
+use Rattle.std.proofs.Common.{◌≡◌, List, ℕ, length, [], ◌∷◌, ◌++◌, ◌∙◌, ap, arith, map, refl}
 use Rattle.std.proofs.lemmas.List.{map-append}
 use Rattle.pgv_types.specs.Ty.{Ty}
 use Rattle.pgv_buf.specs.Shown.{kept_of, cases_of}

@@ -1,7 +1,7 @@
-use Rattle.std.proofs.Common.{◌≡◌, ℕ, List, ◌++◌, ◌+◌, ◌≤◌, length, ◌∙◌, ap, sym, arith, subst, refl, map}
+use Rattle.std.proofs.Common.{◌≡◌, ℕ, List, ◌++◌, ◌+◌, ◌≤◌, length, ◌∙◌, ap, subst}
 use Rattle.pgv_types.specs.Ty.{Ty}
 use Rattle.pgv_buf.specs.declared.mark.Mark.{Mark}
-use Rattle.pgv_buf.specs.Tokens.{Cell, fixed_bytes, be4, width}
+use Rattle.pgv_buf.specs.Tokens.{Cell, fixed_bytes, be4}
 use Rattle.pgv_buf.specs.Marks.{mark_of}
 use Rattle.pgv_buf.specs.Fill.{put}
 use Rattle.pgv_buf.specs.Parse.{Represents, Kept, valid, tokens_are}

@@ -1,8 +1,5 @@
-use Rattle.std.proofs.Common.{◌≡◌, List, ℕ, map}
 use Rattle.std.specs.List.{each_same}
-use Rattle.pgv_types.specs.Ty.{Ty}
-use Rattle.pgv_buf.specs.Tokens.{Cell}
-use Rattle.pgv_buf.specs.Parse.{Kept, valid, tokens_are, Represents}
+use Rattle.pgv_buf.specs.Parse.{valid, tokens_are}
 use Rattle.pgv_buf.proofs.Steps.{held, same_as}
 use Rattle.pgv_buf.proofs.Clones.{slots_same}
 use Rattle.pgv_buf.proofs.tokens.TokensClone.clone.Goals as goal
