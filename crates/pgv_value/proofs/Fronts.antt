@@ -5,6 +5,7 @@ use Rattle.std.specs.Int.{w32, to_be_bytes, from_be_bytes}
 use Rattle.std.proofs.lemmas.Nat.{be_bytes_4, from_be_bytes-to_be_bytes_4}
 use Rattle.std.proofs.lemmas.Bool.{le-ltb, lt-ltb, ne_eqb, eqb-true, ltb-false}
 use Rattle.std.proofs.lemmas.List.{take-append-drop, length-take-le, length-append, length-drop, take_at, drop_at, take-append-le}
+use Rattle.std.proofs.lemmas.Option.{same_Some}
 use Rattle.pgv_value.specs.Frame.{Part, IsFrame, front, front_length, frame_fault}
 use Rattle.pgv_value.specs.Laws.{AreBytes}
 use Rattle.pgv_value.specs.declared.error.CodecError.TheVariants.{Short}
@@ -46,16 +47,13 @@ AreBytes-take zero xs h = tt
 AreBytes-take (suc n) [] h = tt
 AreBytes-take (suc n) (x ∷ xs) h = (h.0, AreBytes-take n xs h.1)
 
-some_is : {A : Type 0} (x y : A) → (let o : Option A = Some x in o) ≡ Some y → x ≡ y
-some_is x y e = cc
-
 -- of a length and what stands behind it
 frame_of : (bytes head behind : List ℕ) (n : ℕ) (part : Part) (rest : List ℕ) → bytes ≡ head ++ behind → to_be_bytes w32 n ≡ head → (x y z : Bool) → nat_eq n 4294967295 ≡ x → nat_lt 2147483647 n ≡ y → nat_lt (length behind) n ≡ z →
     cond {A = Option (Part × List ℕ)} x (Some (None, behind)) (cond y None (cond z None (Some (Some (take n behind), drop n behind)))) ≡ Some (part, rest) → IsFrame bytes part rest
 frame_of bytes head behind n part rest whole head_is true y z null large short e =
     let n_is : n ≡ 4294967295 = eqb-true n 4294967295 null in
     let head_null : head ≡ 255 ∷ 255 ∷ 255 ∷ 255 ∷ [] = sym head_is ∙ ap (to_be_bytes w32) n_is in
-    subst (λ (p : Part × List ℕ). IsFrame bytes p.0 p.1) (some_is {A = Part × List ℕ} (None, behind) (part, rest) e) (whole ∙ ap (λ (xs : List ℕ). xs ++ behind) head_null)
+    subst (λ (p : Part × List ℕ). IsFrame bytes p.0 p.1) (same_Some {A = Part × List ℕ} (None, behind) (part, rest) e) (whole ∙ ap (λ (xs : List ℕ). xs ++ behind) head_null)
 frame_of bytes head behind n part rest whole head_is false true z null large short e = absurd cc
 frame_of bytes head behind n part rest whole head_is false false true null large short e = absurd cc
 frame_of bytes head behind n part rest whole head_is false false false null large short e =
@@ -64,7 +62,7 @@ frame_of bytes head behind n part rest whole head_is false false false null larg
     let len : length (take n behind) ≡ n = length-take-le n behind enough in
     let parts : bytes ≡ to_be_bytes w32 (length (take n behind)) ++ (take n behind ++ drop n behind) =
     whole ∙ ap (λ (xs : List ℕ). xs ++ behind) (sym head_is ∙ ap (to_be_bytes w32) (sym len)) ∙ ap (λ (xs : List ℕ). to_be_bytes w32 (length (take n behind)) ++ xs) (sym (take-append-drop n behind)) in
-    subst (λ (p : Part × List ℕ). IsFrame bytes p.0 p.1) (some_is {A = Part × List ℕ} (Some (take n behind), drop n behind) (part, rest) e) (omega (arith, len), parts)
+    subst (λ (p : Part × List ℕ). IsFrame bytes p.0 p.1) (same_Some {A = Part × List ℕ} (Some (take n behind), drop n behind) (part, rest) e) (omega (arith, len), parts)
 
 front_needs_four : (bytes : List ℕ) (part : Part) (rest : List ℕ) → nat_lt (length bytes) 4 ≡ true → front bytes ≡ Some (part, rest) → ⊥
 unfolding front
