@@ -1,17 +1,17 @@
 -- What is written over bytes that stand, for the tokens that are kept.
-use Rattle.std.proofs.Common.{◌≡◌, ℕ, ◌+◌, ◌≤◌, List, [], ◌∷◌, ◌++◌, length, take, drop, refl, sym, ◌∙◌, ap, subst, arith, append_assoc, length-append, add-zero}
+use Rattle.std.proofs.Common.{◌≡◌, ℕ, ◌+◌, ◌≤◌, List, [], ◌∷◌, ◌++◌, length, take, drop, drop_at, refl, sym, ◌∙◌, ap, subst, arith, append_assoc, length-append, add-zero}
 use Rattle.std.proofs.Math.Seq.{take-append_seam}
 use Rattle.pgv_types.specs.Ty.{Ty}
 use Rattle.pgv_types.specs.declared.oid.Oid.{Oid}
 use Rattle.pgv_buf.specs.Tokens.{Cell, fixed, hole_cell, slot_cell, fixed_bytes, be4, shown, width, hole_types_of}
 use Rattle.pgv_buf.specs.Fill.{put, written, Within, fill_holes, first_number, rest_numbers}
-use Rattle.pgv_buf.specs.Parse.{Kept, Represents, Proper, hole_places, kept_slots, drop_front, shown-append, hole_places-append, hole_types_of-append, kept_slots-append, length-shown, Proper-front, Proper-append, width-append}
+use Rattle.pgv_buf.specs.Parse.{Kept, Represents, Proper, hole_places, kept_slots, shown-append, hole_places-append, hole_types_of-append, kept_slots-append, length-shown, Proper-front, Proper-append, width-append}
 use Rattle.pgv_buf.proofs.Steps.{shown-bytes, Proper-bytes}
 
 pub put_at : (x y z w : List ℕ) → length y ≡ length w → put (length x) w (x ++ y ++ z) ≡ x ++ w ++ z
 put_at x y z w e =
     let front : take (length x) (x ++ y ++ z) ≡ x = rw append_assoc (take-append_seam x (y ++ z)) in
-    let back : drop (length x + length w) (x ++ y ++ z) ≡ z = drop_front (length x + length w) (x ++ y) z (omega (arith, length-append x y, e)) in
+    let back : drop (length x + length w) (x ++ y ++ z) ≡ z = drop_at (x ++ y) z (length x + length w) (omega (arith, length-append x y, e)) in
     rw (front, back)
 
 same_places : (os : List Oid) (i : ℕ) (ts : List Cell) → hole_places i (fill_holes os ts) ≡ hole_places i ts

@@ -1,7 +1,8 @@
 -- How tokens are kept: their bytes, the places and types of the holes, and the slots with their places.
 use Rattle.std.specs.Prelude.{◌≡◌, ℕ, ◌+◌, ◌≤◌, ◌<◌, ◌==◌, Bool, true, false, cond, List, [], ◌∷◌, ◌++◌, length, take, drop, refl}
 use Rattle.std.proofs.Common.{arith, suc, zero, sym, ◌∙◌, ap, subst, length-append, append_assoc, add_assoc, add-zero, zero-add}
-use Rattle.std.proofs.Math.Seq.{take-append_seam, drop-append_seam}
+use Rattle.std.proofs.lemmas.Bool.{eq-eqb}
+use Rattle.std.proofs.lemmas.List.{take_at, drop_at}
 use Rattle.pgv_types.specs.Ty.{Ty, by_oid}
 use Rattle.pgv_buf.specs.Tokens.{CasesFit, Cell, fixed, hole_cell, slot_cell, shown, width, cell_shown, hole_types_of, hole_count, slot_count}
 
@@ -89,15 +90,6 @@ no_hole i j (fixed x ∷ ts) h = no_hole i (j + 1) ts (omega arith)
 no_hole i j (hole_cell t s ∷ ts) h = grind arith
 no_hole i j (slot_cell d cs s ∷ ts) h = no_hole i (j + length d) ts (omega arith)
 
-pub take_front : {A : Type 0} (n : ℕ) (s r : List A) → length s ≡ n → take n (s ++ r) ≡ s
-take_front n s r h = rw (sym h) (take-append_seam s r)
-
-pub drop_front : {A : Type 0} (n : ℕ) (s r : List A) → length s ≡ n → drop n (s ++ r) ≡ r
-drop_front n s r h = rw (sym h) (drop-append_seam s r)
-
-pub same_place : (i : ℕ) → (i == i) ≡ true
-same_place i = grind arith
-
 pub parsed : (n i : ℕ) (ts : List Cell) → Proper ts → steps ts ≤ n → parse n i (shown ts) (hole_places i ts) (hole_types_of ts) (kept_slots i ts) ≡ ts
 parsed zero i [] p h = refl
 parsed zero i (t ∷ ts) p h = absurd (omega arith)
@@ -105,10 +97,10 @@ parsed (suc n) i [] p h = refl
 parsed (suc n) i (fixed x ∷ ts) p h =
     rw (no_slot i (i + 1) ts (omega arith), no_hole i (i + 1) ts (omega arith)) (ap (λ r. fixed x ∷ r) (parsed n (i + 1) ts p (omega arith)))
 parsed (suc n) i (hole_cell t s ∷ ts) p h =
-    rw (no_slot i (i + 4) ts (omega arith), same_place i, take_front 4 s (shown ts) p.0, drop_front 4 s (shown ts) p.0)
+    rw (no_slot i (i + 4) ts (omega arith), eq-eqb i i refl, take_at s (shown ts) 4 p.0, drop_at s (shown ts) 4 p.0)
     (ap (λ r. hole_cell t s ∷ r) (parsed n (i + 4) ts p.1 (omega arith)))
 parsed (suc n) i (slot_cell d cs s ∷ ts) p h =
-    rw (same_place i, take_front (length d) s (shown ts) p.0, drop_front (length d) s (shown ts) p.0)
+    rw (eq-eqb i i refl, take_at s (shown ts) (length d) p.0, drop_at s (shown ts) (length d) p.0)
     (ap (λ r. slot_cell d cs s ∷ r) (parsed n (i + length d) ts p.2 (omega arith)))
 
 pub steps_fit : (i : ℕ) (ts : List Cell) → steps ts ≤ length (shown ts) + length (hole_places i ts) + length (kept_slots i ts)
@@ -223,9 +215,9 @@ pub cut :
     Represents (a ++ c) b ps hs ks →
     Represents a (take (width a) b) (take (hole_count a) ps) (take (hole_count a) hs) (take (slot_count a) ks)
 cut a c r = record {
-  bytes_are = rw (r.bytes_are, shown-append a c) (take_front (width a) (shown a) (shown c) (length-shown a (Proper-front a c r.proper)));
-  places_are = rw (r.places_are, hole_places-append 0 a c) (take_front (hole_count a) (hole_places 0 a) (hole_places (0 + width a) c) (length-hole_places 0 a));
-  types_are = rw (r.types_are, hole_types_of-append a c) (take_front (hole_count a) (hole_types_of a) (hole_types_of c) (length-hole_types_of a));
-  slots_are = rw (r.slots_are, kept_slots-append 0 a c) (take_front (slot_count a) (kept_slots 0 a) (kept_slots (0 + width a) c) (length-kept_slots 0 a));
+  bytes_are = rw (r.bytes_are, shown-append a c) (take_at (shown a) (shown c) (width a) (length-shown a (Proper-front a c r.proper)));
+  places_are = rw (r.places_are, hole_places-append 0 a c) (take_at (hole_places 0 a) (hole_places (0 + width a) c) (hole_count a) (length-hole_places 0 a));
+  types_are = rw (r.types_are, hole_types_of-append a c) (take_at (hole_types_of a) (hole_types_of c) (hole_count a) (length-hole_types_of a));
+  slots_are = rw (r.slots_are, kept_slots-append 0 a c) (take_at (kept_slots 0 a) (kept_slots (0 + width a) c) (slot_count a) (length-kept_slots 0 a));
   proper = Proper-front a c r.proper;
 }
