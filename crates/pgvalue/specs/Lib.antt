@@ -1,4 +1,5 @@
 pub mod Lines
+pub mod Spelled
 pub mod Requests
 pub mod Session
 pub mod Values
