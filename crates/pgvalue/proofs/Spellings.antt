@@ -1,8 +1,11 @@
 -- What is computed of a line is what it asks for.
-use Rattle.std.proofs.Common.{◌≡◌, ◌++◌, ◌∙◌, sym, ap, subst, ℕ, List, [], ◌∷◌, refl, Option, Some, None}
-use Rattle.std.specs.Prelude.{◌↔◌, codes, option_map}
+use Rattle.std.proofs.Common.{◌≡◌, ◌++◌, ◌∙◌, sym, ap, subst, ℕ, List, [], ◌∷◌, refl, Option, Some, None, Result, Ok, Err}
+use Rattle.std.specs.Prelude.{◌↔◌, codes, option_map, IfOk}
+use Rattle.std.specs.declared.alloc.AllocError.{AllocError}
 use Rattle.pgv_types.specs.declared.oid.Oid.{Oid}
+use Rattle.pgvalue.specs.declared.line.Request.{Request as Parsed}
 use Rattle.pgvalue.specs.declared.line.ValueType.{ValueType}
+use Rattle.pgvalue.specs.Requests.{request_seen}
 use Rattle.pgvalue.specs.Lines.{before, behind, first_word, behind_word, words, type_named, oids_named, Request, adds, adds_null, asks_holes, resolves, asks_wire, reads, given_bytes, added, read_as, read_of, alone, add_line, null_line, resolve_line, read_line, request_by, request}
 use Rattle.pgvalue.specs.Spelled.{type_name, SpellsOids, SpellsPart, Spells, Asks}
 use Rattle.pgvalue.proofs.Marks.{some_is, joined, whole, split_joined, word_or, named_is, type_named_by_name, no_space_in_name}
@@ -111,3 +114,8 @@ request_exactly line asked = (asked_is line asked, asked_found line asked)
 
 pub one_asked : (line : List ℕ) (asked other : Option Request) → Asks line asked → Asks line other → asked ≡ other
 one_asked line asked other a b = sym (asked_found line asked a) ∙ asked_found line other b
+
+-- what is parsed of a line is what it asks for
+pub meant : (line : List ℕ) (r : Result (Option Parsed) AllocError) → IfOk r (λ found. option_map request_seen found ≡ request line) → IfOk r (λ found. Asks line (option_map request_seen found))
+meant line (Ok parsed) h = asked_is line (option_map request_seen parsed) (sym h)
+meant line (Err e) h = tt
