@@ -6,8 +6,8 @@ use Rattle.pgv_types.specs.declared.oid.Oid.{Oid}
 use Rattle.pgvalue.specs.declared.line.Request.{Request as Parsed}
 use Rattle.pgvalue.specs.declared.line.ValueType.{ValueType}
 use Rattle.pgvalue.specs.Requests.{request_seen}
-use Rattle.pgvalue.specs.Lines.{before, behind, first_word, behind_word, words, type_named, oids_named, Request, adds, adds_null, asks_holes, resolves, asks_wire, reads, given_bytes, added, read_as, read_of, alone, add_line, null_line, resolve_line, read_line, request_by, request}
-use Rattle.pgvalue.specs.Spelled.{type_name, SpellsOids, SpellsPart, Spells, Asks}
+use Rattle.pgvalue.specs.Lines.{first_word, behind_word, words, type_named, oids_named, given_bytes, added, read_as, read_of, alone, add_line, null_line, resolve_line, read_line, request}
+use Rattle.pgvalue.specs.Spelled.{Request, adds, adds_null, asks_holes, resolves, asks_wire, reads, type_name, SpellsOids, SpellsPart, Spells, Asks}
 use Rattle.pgvalue.proofs.Marks.{some_is, joined, whole, split_joined, word_or, named_is, type_named_by_name, no_space_in_name}
 use Rattle.pgvalue.proofs.OidWords.{oids_are, oids_found}
 use Rattle.pgvalue.proofs.HexTexts.{part_is, part_given}

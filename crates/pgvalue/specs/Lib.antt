@@ -1,5 +1,6 @@
-pub mod Lines
 pub mod Spelled
+pub mod Lines
+pub mod Laws
 pub mod Requests
 pub mod Session
 pub mod Values

@@ -17,7 +17,7 @@ use Rattle.pgv_wire.specs.Nullable.{nullable}
 use Rattle.pgv_wire.specs.Arrays.{array as array_reading}
 use Rattle.pgvalue.specs.declared.line.ValueType.{ValueType}
 use Rattle.pgvalue.specs.declared.line.ValueType.TheVariants.{Bool as BoolType, Char, Int2, Int4, Int8, Oid as OidType, Text, Uuid, Int4Array, TextArray}
-use Rattle.pgvalue.specs.Lines.{Request, adds, adds_null, asks_holes, resolves, asks_wire, reads, request}
+use Rattle.pgvalue.specs.Spelled.{Request, adds, adds_null, asks_holes, resolves, asks_wire, reads, Asks}
 
 -- ---- the value that a text or bytes are under a type, as it is added: its type and its frame, where it has one
 
@@ -109,9 +109,9 @@ abbrev pub RespondsTo : Option Request → State → List ℕ → State → Type
 RespondsTo None was answer now = (answer ≡ codes "refused line") × (now ≡ was)
 RespondsTo (Some r) was answer now = Responds r was answer now
 
--- a line, from one state to the next
+-- a line, from one state to the next: what it asks for is answered
 abbrev pub Answers : List ℕ → State → List ℕ → State → Type 0
-Answers line was answer now = RespondsTo (request line) was answer now
+Answers line was answer now = (asked : Option Request) × Asks line asked × RespondsTo asked was answer now
 
 -- ---- whole sessions
 

@@ -1,11 +1,23 @@
--- How a request is spelled as a line of the program.
-use Rattle.std.specs.Prelude.{◌≡◌, ◌↔◌, ◌⊎◌, ◌≤◌, ◌<◌, ◌^◌, ◌+◌, ◌*◌, ℕ, codes, List, [], ◌∷◌, ◌++◌, map, length, Option, Some, None}
+-- The lines of the program, by their spellings: `add TYPE TEXT`, `null TYPE`, `holes`, `resolve OID ..`, `wire`,
+-- `read TYPE HEX`. A line is a list of bytes.
+use Rattle.std.specs.Prelude.{◌≡◌, ◌⊎◌, ◌≤◌, ◌<◌, ◌+◌, ◌*◌, ℕ, codes, List, [], ◌∷◌, ◌++◌, map, length, Option, Some, None}
 use Rattle.std.specs.List.{AllByRecursion}
 use Rattle.std.specs.Int.Digits.{number_from_digits}
 use Rattle.pgv_types.specs.declared.oid.Oid.{Oid}
 use Rattle.pgvalue.specs.declared.line.ValueType.{ValueType}
 use Rattle.pgvalue.specs.declared.line.ValueType.TheVariants.{Bool as BoolType, Char, Int2, Int4, Int8, Oid as OidType, Text, Uuid, Int4Array, TextArray}
-use Rattle.pgvalue.specs.Lines.{Request, adds, adds_null, asks_holes, resolves, asks_wire, reads, request}
+
+-- ---- what is asked for
+
+pub data Request : Type 0 where
+  adds : ValueType → List ℕ → Request
+  adds_null : ValueType → Request
+  asks_holes : Request
+  resolves : List Oid → Request
+  asks_wire : Request
+  reads : ValueType → Option (List ℕ) → Request
+
+-- ---- how it is spelled
 
 abbrev pub type_name : ValueType → List ℕ
 type_name BoolType = codes "bool"
@@ -62,10 +74,3 @@ Spells (reads t part) line = (text : List ℕ) × SpellsPart part text × (line 
 abbrev pub Asks : List ℕ → Option Request → Type 0
 Asks line None = (r : Request) → ¬ (Spells r line)
 Asks line (Some r) = Spells r line
-
--- The laws: what is computed is what the line asks for, and a line asks for one thing only.
-abbrev pub RequestIsItsSpelling : Type 0
-RequestIsItsSpelling = (line : List ℕ) (asked : Option Request) → (request line ≡ asked) ↔ Asks line asked
-
-abbrev pub OneRequest : Type 0
-OneRequest = (line : List ℕ) (asked other : Option Request) → Asks line asked → Asks line other → asked ≡ other
