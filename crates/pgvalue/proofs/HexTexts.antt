@@ -38,9 +38,18 @@ pairs_are i (a ∷ b ∷ rest) bytes h =
     let low = then_ok (value_at b (i + 1)) _ pair.0 high.2 in
     let left = then_ok (decode_pairs (i + 2) rest) _ bytes pair.2 in
     let sum : high.0 * 16 + low.0 ≡ pair.0 = ok_is {A = ℕ} _ _ low.2 in
-    subst (λ (bs : List ℕ). SpellsBytes bs (a ∷ b ∷ rest)) (ok_is {A = List ℕ} _ _ left.2)
-    (a, b, high.0, low.0, rest, value_read a i high.0 (hex_digit_value a) refl high.1, value_read b (i + 1) low.0 (hex_digit_value b) refl low.1,
-    omega (arith, sum), pairs_are (i + 2) rest left.0 left.1, refl)
+    subst (λ (bs : List ℕ). SpellsBytes bs (a ∷ b ∷ rest)) (ok_is {A = List ℕ} _ _ left.2) (
+      a,
+      b,
+      high.0,
+      low.0,
+      rest,
+      value_read a i high.0 (hex_digit_value a) refl high.1,
+      value_read b (i + 1) low.0 (hex_digit_value b) refl low.1,
+      omega (arith, sum),
+      pairs_are (i + 2) rest left.0 left.1,
+      refl,
+    )
 
 value_at_digit : (c i v : ℕ) → IsHexDigit c v → value_at c i ≡ Ok v
 value_at_digit c i v h = ap (digit_or_error c i) (value_of_digit c v h)
