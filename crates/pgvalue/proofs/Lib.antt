@@ -4,6 +4,7 @@ pub mod Marks
 pub mod OidWords
 pub mod HexTexts
 pub mod Spellings
+pub mod InputLines
 pub mod Feeds
 pub mod SoFar
 pub mod Lists

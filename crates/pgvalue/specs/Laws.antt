@@ -1,6 +1,7 @@
--- The laws of lines.
+-- The laws of lines and of inputs.
 use Rattle.std.specs.Prelude.{◌≡◌, ◌↔◌, ℕ, List, Option}
 use Rattle.pgvalue.specs.Lines.{request}
+use Rattle.pgvalue.specs.Session.{lines_of, AreLines}
 use Rattle.pgvalue.specs.Spelled.{Request, Asks}
 
 -- What is computed of a line is what it asks for.
@@ -10,3 +11,7 @@ RequestIsItsSpelling = (line : List ℕ) (asked : Option Request) → (request l
 -- A line asks for one thing only.
 abbrev pub OneRequest : Type 0
 OneRequest = (line : List ℕ) (asked other : Option Request) → Asks line asked → Asks line other → asked ≡ other
+
+-- The lines that are computed of an input are those that it is put together of.
+abbrev pub InputIsItsLines : Type 0
+InputIsItsLines = (input : List ℕ) (lines : List (List ℕ)) → (lines_of input ≡ lines) ↔ AreLines input lines

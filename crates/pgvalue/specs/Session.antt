@@ -1,5 +1,6 @@
 -- A session of the program: what each line does to the arguments, and what it answers.
-use Rattle.std.specs.Prelude.{◌≡◌, ℕ, ℤ, ◌+◌, ◌≤◌, ◌==◌, Bool, true, false, codes, decimal, List, [], ◌∷◌, ◌++◌, length, Option, Some, None, option_map, if◌then◌else◌}
+use Rattle.std.specs.Prelude.{◌≡◌, ◌≢◌, ℕ, ℤ, ◌+◌, ◌≤◌, ◌==◌, Bool, true, false, codes, decimal, List, [], ◌∷◌, ◌++◌, length, Option, Some, None, option_map, if◌then◌else◌}
+use Rattle.std.specs.List.{AllByRecursion}
 use Rattle.std.specs.Int.{Width, w8, w16, w32, w64}
 use Rattle.hex.specs.Hex.{encode_lower}
 use Rattle.pgv_types.specs.Ty.{Ty, builtin}
@@ -126,6 +127,22 @@ lines_from begun (c ∷ cs) = if c == 10 then begun ∷ lines_from [] cs else li
 
 abbrev pub lines_of : List ℕ → List (List ℕ)
 lines_of input = lines_from [] input
+
+-- The same by spellings: full lines, each with its line feed (10), and behind them perhaps one without.
+abbrev pub ended : List (List ℕ) → List ℕ
+ended [] = []
+ended (line ∷ lines) = line ++ 10 ∷ ended lines
+
+abbrev pub HasNoLineFeed : List ℕ → Type 0
+HasNoLineFeed line = AllByRecursion (λ c. c ≢ 10) line
+
+pub record AreLines (input : List ℕ) (lines : List (List ℕ)) : Type 0 where
+  pub full : List (List ℕ)
+  pub last : List ℕ
+  pub each : AllByRecursion HasNoLineFeed full
+  pub unended : HasNoLineFeed last
+  pub whole : input ≡ ended full ++ last
+  pub lines_are : lines ≡ full ++ line_more last []
 
 -- one answer, with its line feed, for each line
 abbrev pub IsSession : State → List (List ℕ) → List ℕ → Type 0
