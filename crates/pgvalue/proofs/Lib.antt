@@ -1,5 +1,10 @@
 pub mod Texts
 pub mod Wording
+pub mod Marks
+pub mod OidWords
+pub mod HexTexts
+pub mod Spellings
+pub mod InputLines
 pub mod Feeds
 pub mod SoFar
 pub mod Lists

@@ -1,4 +1,6 @@
+pub mod Spelled
 pub mod Lines
+pub mod Laws
 pub mod Requests
 pub mod Session
 pub mod Values

@@ -1,5 +1,5 @@
--- The lines of the program: `add TYPE TEXT`, `null TYPE`, `holes`, `resolve OID ..`, `wire`, `read TYPE HEX`. A line
--- is bytes; its words end at single spaces, and a text is all that stands behind its space.
+-- What a line asks for, computed: its words end at single spaces, and a text is all that stands behind its space. That a
+-- line spells what is computed, and that each spelled line is found, is a law (Laws).
 use Rattle.std.specs.Prelude.{ℕ, ◌==◌, nat_lt, Bool, false, codes, bytes_eq, List, [], ◌∷◌, Option, Some, None, Result, Ok, Err, option_map, if◌then◌else◌}
 use Rattle.hex.specs.Hex.{decode_of}
 use Rattle.hex.specs.declared.error.FromHexError.{FromHexError}
@@ -8,6 +8,7 @@ use Rattle.pgvalue.specs.declared.line.ValueType.TheVariants.{Bool as BoolType, 
 use Rattle.pgv_types.specs.declared.oid.Oid.{Oid}
 use Rattle.pgv_text.specs.Number.{unsigned_value}
 use Rattle.pgv_value.specs.Utf8.{is_utf8}
+use Rattle.pgvalue.specs.Spelled.{Request, adds, adds_null, asks_holes, resolves, asks_wire, reads}
 
 -- what stands before the first byte of a kind, and behind it where there is one
 abbrev pub before : ℕ → List ℕ → List ℕ
@@ -72,14 +73,6 @@ oids_named [] = Some []
 oids_named (word ∷ rest) = with_first (oid_named word) (oids_named rest)
 
 -- ---- what is asked for
-
-pub data Request : Type 0 where
-  adds : ValueType → List ℕ → Request
-  adds_null : ValueType → Request
-  asks_holes : Request
-  resolves : List Oid → Request
-  asks_wire : Request
-  reads : ValueType → Option (List ℕ) → Request
 
 abbrev pub hex_bytes : Result (List ℕ) FromHexError → Option (List ℕ)
 hex_bytes (Ok bytes) = Some bytes

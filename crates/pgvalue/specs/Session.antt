@@ -1,5 +1,6 @@
 -- A session of the program: what each line does to the arguments, and what it answers.
-use Rattle.std.specs.Prelude.{◌≡◌, ℕ, ℤ, ◌+◌, ◌≤◌, ◌==◌, Bool, true, false, codes, decimal, List, [], ◌∷◌, ◌++◌, length, Option, Some, None, option_map, if◌then◌else◌}
+use Rattle.std.specs.Prelude.{◌≡◌, ◌≢◌, ℕ, ℤ, ◌+◌, ◌≤◌, ◌==◌, Bool, true, false, codes, decimal, List, [], ◌∷◌, ◌++◌, length, Option, Some, None, option_map, if◌then◌else◌}
+use Rattle.std.specs.List.{AllByRecursion}
 use Rattle.std.specs.Int.{Width, w8, w16, w32, w64}
 use Rattle.hex.specs.Hex.{encode_lower}
 use Rattle.pgv_types.specs.Ty.{Ty, builtin}
@@ -17,7 +18,7 @@ use Rattle.pgv_wire.specs.Nullable.{nullable}
 use Rattle.pgv_wire.specs.Arrays.{array as array_reading}
 use Rattle.pgvalue.specs.declared.line.ValueType.{ValueType}
 use Rattle.pgvalue.specs.declared.line.ValueType.TheVariants.{Bool as BoolType, Char, Int2, Int4, Int8, Oid as OidType, Text, Uuid, Int4Array, TextArray}
-use Rattle.pgvalue.specs.Lines.{Request, adds, adds_null, asks_holes, resolves, asks_wire, reads, request}
+use Rattle.pgvalue.specs.Spelled.{Request, adds, adds_null, asks_holes, resolves, asks_wire, reads, Asks}
 
 -- ---- the value that a text or bytes are under a type, as it is added: its type and its frame, where it has one
 
@@ -109,9 +110,9 @@ abbrev pub RespondsTo : Option Request → State → List ℕ → State → Type
 RespondsTo None was answer now = (answer ≡ codes "refused line") × (now ≡ was)
 RespondsTo (Some r) was answer now = Responds r was answer now
 
--- a line, from one state to the next
+-- a line, from one state to the next: what it asks for is answered
 abbrev pub Answers : List ℕ → State → List ℕ → State → Type 0
-Answers line was answer now = RespondsTo (request line) was answer now
+Answers line was answer now = (asked : Option Request) × Asks line asked × RespondsTo asked was answer now
 
 -- ---- whole sessions
 
@@ -126,6 +127,22 @@ lines_from begun (c ∷ cs) = if c == 10 then begun ∷ lines_from [] cs else li
 
 abbrev pub lines_of : List ℕ → List (List ℕ)
 lines_of input = lines_from [] input
+
+-- The same by spellings: full lines, each with its line feed (10), and behind them perhaps one without.
+abbrev pub ended : List (List ℕ) → List ℕ
+ended [] = []
+ended (line ∷ lines) = line ++ 10 ∷ ended lines
+
+abbrev pub HasNoLineFeed : List ℕ → Type 0
+HasNoLineFeed line = AllByRecursion (λ c. c ≢ 10) line
+
+pub record AreLines (input : List ℕ) (lines : List (List ℕ)) : Type 0 where
+  pub full : List (List ℕ)
+  pub last : List ℕ
+  pub each : AllByRecursion HasNoLineFeed full
+  pub unended : HasNoLineFeed last
+  pub whole : input ≡ ended full ++ last
+  pub lines_are : lines ≡ full ++ line_more last []
 
 -- one answer, with its line feed, for each line
 abbrev pub IsSession : State → List (List ℕ) → List ℕ → Type 0

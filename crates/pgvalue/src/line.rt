@@ -5,6 +5,7 @@ ghost use Rattle.std.specs.Option.{option_copied};
 ghost use Rattle.pgv_text.specs.Number.{unsigned_value};
 ghost use Rattle.pgvalue.specs.Lines.{before, behind, first_word, behind_word, words, type_named, starts_with_plus, oid_of, oid_named, oids_named, request, given_bytes as bytes_given, alone as alone_by, add_line as added_by, null_line as null_by, resolve_line as resolve_by, read_line as read_by};
 ghost use Rattle.pgvalue.specs.Requests.{request_seen};
+ghost use Rattle.pgvalue.specs.Spelled.{Asks};
 
 use hex::FromHexError;
 use pgv_text::{NumberFault, unsigned_number_of};
@@ -185,7 +186,8 @@ fn given_bytes(alloc: Global, text: &[u8]) -> Result<Option<Option<Vec<u8>>>, Al
 
 /// What a line asks for, if anything.
 pub fn parse<'a>(alloc: Global, line: &'a [u8]) -> Result<Option<Request<'a>>, AllocError>
-    ensures { IfOk result (λ found. option_map request_seen found ≡ request line.now) }
+    ensures computed { IfOk result (λ found. option_map request_seen found ≡ request line.now) }
+    ensures meaning { IfOk result (λ found. Asks line.now (option_map request_seen found)) }
 {
     let (verb, behind) = split_word(line);
     if is(verb, "add") {

@@ -1,6 +1,7 @@
 //! `pgvalue`: reads lines of standard input, and shows what the codec writes and reads.
 #![tactic(auto)]
 
+mod laws;
 mod line;
 #[cfg(test)]
 mod rows;

@@ -1,6 +1,6 @@
 //! What a line does, and what it answers.
 
-ghost use Rattle.std.specs.Prelude.{◌≡◌, ◌≢◌, ◌++◌, Some, IfOk, OnOk, MatchOption, length, ◌==◌, string_bytes};
+ghost use Rattle.std.specs.Prelude.{◌≡◌, ◌≢◌, ◌++◌, Some, IfOk, OnOk, MatchOption, length, ◌==◌, string_bytes, option_map};
 ghost use Rattle.std.specs.Option.{option_copied};
 ghost use Rattle.hex.specs.Hex.{encode_lower};
 ghost use Rattle.pgv_types.specs.Facts.{display_of};
@@ -9,7 +9,8 @@ ghost use Rattle.pgv_value.specs.Codes.{code_of};
 ghost use Rattle.pgv_value.specs.declared.error.CodecError.TheVariants.{Memory};
 ghost use Rattle.pgv_value.specs.declared.value.PgValueFormat.TheVariants.{Text as InText, Binary as InBinary};
 ghost use Rattle.pgv_wire.specs.Arguments.{all_tokens};
-ghost use Rattle.pgvalue.specs.Session.{Answers, Adds, Reads, Resolves, refused, IsRefusal, names_shown, value_framed, placeholder as placeholder_of};
+ghost use Rattle.pgvalue.specs.Requests.{request_seen};
+ghost use Rattle.pgvalue.specs.Session.{Answers, RespondsTo, Adds, Reads, Resolves, refused, IsRefusal, names_shown, value_framed, placeholder as placeholder_of};
 ghost use Rattle.pgvalue.specs.Values.{framed_as};
 
 use crate::line::{Request, ValueType, parse};
@@ -22,7 +23,19 @@ use std::alloc::{AllocError, Global};
 pub fn answer(alloc: Global, arguments: &mut PgArguments, line: &[u8]) -> Result<String, AllocError>
     ensures { IfOk result (λ text. Answers line.now arguments.old (string_bytes text) arguments.new) }
 {
-    let Some(request) = parse(alloc, line)? else {
+    let request = parse(alloc, line)?;
+    respond_to(alloc, arguments, request)
+}
+
+/// Answers what is asked for, if anything.
+fn respond_to(
+    alloc: Global,
+    arguments: &mut PgArguments,
+    request: Option<Request>,
+) -> Result<String, AllocError>
+    ensures { IfOk result (λ text. RespondsTo (option_map request_seen request.entry) arguments.old (string_bytes text) arguments.new) }
+{
+    let Some(request) = request else {
         return String::from_str(alloc, "refused line");
     };
     match request {

@@ -1,0 +1,95 @@
+-- Lines, split at a mark and put together, and the names of types.
+use Rattle.std.proofs.Common.{◌≡◌, ◌++◌, ◌∙◌, sym, ap, subst, ℕ, ◌==◌, Bool, true, false, if◌then◌else◌, List, [], ◌∷◌, refl, Option, Some, None}
+use Rattle.std.specs.Prelude.{bytes_eq}
+use Rattle.std.proofs.lemmas.Slice.Eq.{bytes_eq-Decides}
+use Rattle.std.proofs.lemmas.Bool.{eqb-true, eq-eqb}
+use Rattle.pgvalue.specs.declared.line.ValueType.{ValueType}
+use Rattle.pgvalue.specs.declared.line.ValueType.TheVariants.{Bool as BoolType, Char, Int2, Int4, Int8, Oid as OidType, Text, Uuid, Int4Array, TextArray}
+use Rattle.pgvalue.specs.Lines.{before, behind, type_named}
+use Rattle.pgvalue.specs.Spelled.{type_name}
+
+pub some_is : {A : Type 0} (x y : A) → (let o : Option A = Some x in o) ≡ Some y → x ≡ y
+some_is x y e = cc
+
+-- ---- a line is split at its first mark
+
+abbrev pub joined : ℕ → List ℕ → Option (List ℕ) → List ℕ
+joined mark word None = word
+joined mark word (Some rest) = word ++ mark ∷ rest
+
+joined_more : (mark c : ℕ) (word : List ℕ) (rest : Option (List ℕ)) → joined mark (c ∷ word) rest ≡ c ∷ joined mark word rest
+joined_more mark c word None = refl
+joined_more mark c word (Some rest) = refl
+
+whole_at : (mark c : ℕ) (cs : List ℕ) (b : Bool) → (c == mark) ≡ b → cs ≡ joined mark (before mark cs) (behind mark cs) →
+    c ∷ cs ≡ joined mark (before mark (c ∷ cs)) (behind mark (c ∷ cs))
+whole_at mark c cs true e h = rw e (ap (λ (d : ℕ). d ∷ cs) (eqb-true c mark e))
+whole_at mark c cs false e h = rw e (ap (λ (ds : List ℕ). c ∷ ds) h ∙ sym (joined_more mark c (before mark cs) (behind mark cs)))
+
+-- put together again
+pub whole : (mark : ℕ) (line : List ℕ) → line ≡ joined mark (before mark line) (behind mark line)
+whole mark [] = refl
+whole mark (c ∷ cs) = whole_at mark c cs (c == mark) refl (whole mark cs)
+
+abbrev IsSplit : ℕ → List ℕ → List ℕ → Option (List ℕ) → Type 0
+IsSplit mark line word rest = (before mark line ≡ word) × (behind mark line ≡ rest)
+
+split_at : (mark c : ℕ) (word : List ℕ) (rest : Option (List ℕ)) (b : Bool) → (c == mark) ≡ b → behind mark (c ∷ word) ≡ None →
+    (behind mark word ≡ None → IsSplit mark (joined mark word rest) word rest) → IsSplit mark (c ∷ joined mark word rest) (c ∷ word) rest
+split_at mark c word rest true e none h = let found : behind mark (c ∷ word) ≡ Some word = rw e refl in absurd cc
+split_at mark c word rest false e none h =
+    let left : behind mark (c ∷ word) ≡ behind mark word = rw e refl in
+    let parts = h (sym left ∙ none) in
+    rw e (ap (λ (ds : List ℕ). c ∷ ds) parts.0, parts.1)
+
+pub split_joined : (mark : ℕ) (word : List ℕ) (rest : Option (List ℕ)) → behind mark word ≡ None → IsSplit mark (joined mark word rest) word rest
+split_joined mark [] None none = (refl, refl)
+split_joined mark [] (Some rest) none = let same : (mark == mark) ≡ true = eq-eqb mark mark refl in rw same (refl, refl)
+split_joined mark (c ∷ word) rest none =
+    subst (λ (line : List ℕ). IsSplit mark line (c ∷ word) rest) (sym (joined_more mark c word rest))
+    (split_at mark c word rest (c == mark) refl none (split_joined mark word rest))
+
+-- ---- a word among some
+
+by_test : {A Q : Type 0} (word name : List ℕ) (this rest : Option A) (x : A) (b : Bool) → bytes_eq word name ≡ b → (word ≡ name → this ≡ Some x → Q) → (rest ≡ Some x → Q) →
+    (if b then this else rest) ≡ Some x → Q
+by_test word name this rest x true e here there h = here ((bytes_eq-Decides word name).0 e) h
+by_test word name this rest x false e here there h = there h
+
+pub word_or : {A Q : Type 0} (word name : List ℕ) (this rest : Option A) (x : A) → (word ≡ name → this ≡ Some x → Q) → (rest ≡ Some x → Q) → (if bytes_eq word name then this else rest) ≡ Some x → Q
+word_or word name this rest x here there h = by_test word name this rest x (bytes_eq word name) refl here there h
+
+-- ---- names of types
+
+name_or : (word : List ℕ) (named t : ValueType) (rest : Option ValueType) → (rest ≡ Some t → word ≡ type_name t) →
+    (if bytes_eq word (type_name named) then Some named else rest) ≡ Some t → word ≡ type_name t
+name_or word named t rest there h = word_or word (type_name named) (Some named) rest t (λ e s. e ∙ ap type_name (some_is named t s)) there h
+
+pub named_is : (word : List ℕ) (t : ValueType) → type_named word ≡ Some t → word ≡ type_name t
+named_is word t h =
+    name_or word BoolType t _ (name_or word Char t _ (name_or word Int2 t _ (name_or word Int4 t _ (name_or word Int8 t _
+    (name_or word OidType t _ (name_or word Text t _ (name_or word Uuid t _ (name_or word Int4Array t _ (name_or word TextArray t None (λ e. absurd cc)))))))))) h
+
+pub type_named_by_name : (t : ValueType) → type_named (type_name t) ≡ Some t
+type_named_by_name BoolType = refl
+type_named_by_name Char = refl
+type_named_by_name Int2 = refl
+type_named_by_name Int4 = refl
+type_named_by_name Int8 = refl
+type_named_by_name OidType = refl
+type_named_by_name Text = refl
+type_named_by_name Uuid = refl
+type_named_by_name Int4Array = refl
+type_named_by_name TextArray = refl
+
+pub no_space_in_name : (t : ValueType) → behind 32 (type_name t) ≡ None
+no_space_in_name BoolType = refl
+no_space_in_name Char = refl
+no_space_in_name Int2 = refl
+no_space_in_name Int4 = refl
+no_space_in_name Int8 = refl
+no_space_in_name OidType = refl
+no_space_in_name Text = refl
+no_space_in_name Uuid = refl
+no_space_in_name Int4Array = refl
+no_space_in_name TextArray = refl

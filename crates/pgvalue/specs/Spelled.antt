@@ -1,0 +1,76 @@
+-- The lines of the program, by their spellings: `add TYPE TEXT`, `null TYPE`, `holes`, `resolve OID ..`, `wire`,
+-- `read TYPE HEX`. A line is a list of bytes.
+use Rattle.std.specs.Prelude.{◌≡◌, ◌⊎◌, ◌≤◌, ◌<◌, ◌+◌, ◌*◌, ℕ, codes, List, [], ◌∷◌, ◌++◌, map, length, Option, Some, None}
+use Rattle.std.specs.List.{AllByRecursion}
+use Rattle.std.specs.Int.Digits.{number_from_digits}
+use Rattle.pgv_types.specs.declared.oid.Oid.{Oid}
+use Rattle.pgvalue.specs.declared.line.ValueType.{ValueType}
+use Rattle.pgvalue.specs.declared.line.ValueType.TheVariants.{Bool as BoolType, Char, Int2, Int4, Int8, Oid as OidType, Text, Uuid, Int4Array, TextArray}
+
+-- ---- what is asked for
+
+pub data Request : Type 0 where
+  adds : ValueType → List ℕ → Request
+  adds_null : ValueType → Request
+  asks_holes : Request
+  resolves : List Oid → Request
+  asks_wire : Request
+  reads : ValueType → Option (List ℕ) → Request
+
+-- ---- how it is spelled
+
+abbrev pub type_name : ValueType → List ℕ
+type_name BoolType = codes "bool"
+type_name Char = codes "char"
+type_name Int2 = codes "int2"
+type_name Int4 = codes "int4"
+type_name Int8 = codes "int8"
+type_name OidType = codes "oid"
+type_name Text = codes "text"
+type_name Uuid = codes "uuid"
+type_name Int4Array = codes "int4[]"
+type_name TextArray = codes "text[]"
+
+-- The word is this OID: one decimal digit or more, with no sign; 48 is `0`.
+pub record IsOid (word : List ℕ) (oid : Oid) : Type 0 where
+  pub digits : List ℕ
+  pub some : 0 < length digits
+  pub each : AllByRecursion (λ d. d < 10) digits
+  pub whole : word ≡ map (λ d. 48 + d) digits
+  pub value : oid.0 ≡ number_from_digits 10 digits
+  pub fits : oid.0 ≤ 4294967295
+
+-- the OIDs in turn, with one space before each
+abbrev pub SpellsOids : List Oid → List ℕ → Type 0
+SpellsOids [] text = text ≡ []
+SpellsOids (oid ∷ oids) text = (word rest : List ℕ) × IsOid word oid × SpellsOids oids rest × (text ≡ 32 ∷ (word ++ rest))
+
+-- The character is the hex digit of this value: `0` is 48, `a` is 97 and `A` is 65.
+abbrev pub IsHexDigit : ℕ → ℕ → Type 0
+IsHexDigit c v = ((v < 10) × (c ≡ 48 + v)) ⊎ ((10 ≤ v) × (v < 16) × ((c ≡ 87 + v) ⊎ (c ≡ 55 + v)))
+
+-- two digits for each byte, the high one first
+abbrev pub SpellsBytes : List ℕ → List ℕ → Type 0
+SpellsBytes [] text = text ≡ []
+SpellsBytes (byte ∷ bytes) text =
+    (first second high low : ℕ) × (rest : List ℕ) × IsHexDigit first high × IsHexDigit second low × (byte ≡ 16 * high + low)
+    × SpellsBytes bytes rest × (text ≡ first ∷ second ∷ rest)
+
+-- the bytes of a value, or that it is null
+abbrev pub SpellsPart : Option (List ℕ) → List ℕ → Type 0
+SpellsPart None text = text ≡ codes "null"
+SpellsPart (Some bytes) text = SpellsBytes bytes text
+
+-- The line is this request; 32 is a space.
+abbrev pub Spells : Request → List ℕ → Type 0
+Spells (adds t text) line = line ≡ codes "add " ++ (type_name t ++ 32 ∷ text)
+Spells (adds_null t) line = line ≡ codes "null " ++ type_name t
+Spells asks_holes line = line ≡ codes "holes"
+Spells (resolves oids) line = (text : List ℕ) × SpellsOids oids text × (line ≡ codes "resolve" ++ text)
+Spells asks_wire line = line ≡ codes "wire"
+Spells (reads t part) line = (text : List ℕ) × SpellsPart part text × (line ≡ codes "read " ++ (type_name t ++ 32 ∷ text))
+
+-- what a line asks for: the request that it spells, or nothing where it spells none
+abbrev pub Asks : List ℕ → Option Request → Type 0
+Asks line None = (r : Request) → ¬ (Spells r line)
+Asks line (Some r) = Spells r line
