@@ -2,13 +2,14 @@
 use Rattle.std.proofs.Common.{◌≡◌, ◌+◌, ◌*◌, ◌%◌, ◌∙◌, sym, ap, subst, ℕ, Bool, true, false, List, [], ◌∷◌, length, refl, arith, Option, Some, None, Result, Ok, Err}
 use Rattle.std.specs.Prelude.{codes, bytes_eq, option_map}
 use Rattle.std.proofs.lemmas.Slice.Eq.{bytes_eq-Decides}
+use Rattle.std.proofs.lemmas.Option.{same_Some}
 use Rattle.hex.specs.Hex.{decode_of, decode_pairs, hex_digit_value, digit_or_error, value_at, pair_value, ◌>>=◌}
 use Rattle.hex.specs.declared.error.FromHexError.{FromHexError}
 use Rattle.hex.proofs.Pairs.{cons_byte, decode_pairs-ok_pair}
 use Rattle.hex.proofs.HexLemmas.{decode_of-ok, decode_of-even}
 use Rattle.pgvalue.specs.Lines.{hex_bytes, given_bytes}
 use Rattle.pgvalue.specs.Spelled.{IsHexDigit, SpellsBytes, SpellsPart}
-use Rattle.pgvalue.proofs.Marks.{some_is, word_or}
+use Rattle.pgvalue.proofs.Marks.{word_or}
 
 digit_value_is : (c v : ℕ) → hex_digit_value c ≡ Some v → IsHexDigit c v
 digit_value_is c v h = grind (arith)
@@ -86,13 +87,13 @@ null_is_none (byte ∷ bytes) s =
 decoded_part : (text : List ℕ) (part : Option (List ℕ)) (decoded : Result (List ℕ) FromHexError) → decode_of text ≡ decoded → option_map (λ bytes. Some bytes) (hex_bytes decoded) ≡ Some part → SpellsPart part text
 decoded_part text part (Ok bytes) e h =
     let pairs : decode_pairs 0 text ≡ Ok bytes = sym (decode_of-even text (decode_of-ok text bytes e).0) ∙ e in
-    subst (λ (p : Option (List ℕ)). SpellsPart p text) (some_is {A = Option (List ℕ)} (Some bytes) part h) (pairs_are 0 text bytes pairs)
+    subst (λ (p : Option (List ℕ)). SpellsPart p text) (same_Some {A = Option (List ℕ)} (Some bytes) part h) (pairs_are 0 text bytes pairs)
 decoded_part text part (Err x) e h = absurd cc
 
 pub part_is : (text : List ℕ) (part : Option (List ℕ)) → given_bytes text ≡ Some part → SpellsPart part text
 part_is text part h =
     word_or text (codes "null") (Some None) (option_map (λ bytes. Some bytes) (hex_bytes (decode_of text))) part
-    (λ e s. subst (λ (p : Option (List ℕ)). SpellsPart p text) (some_is {A = Option (List ℕ)} None part s) e)
+    (λ e s. subst (λ (p : Option (List ℕ)). SpellsPart p text) (same_Some {A = Option (List ℕ)} None part s) e)
     (λ s. decoded_part text part (decode_of text) refl s) h
 
 given_hex : (text bytes : List ℕ) (null : Bool) → bytes_eq text (codes "null") ≡ null → SpellsBytes bytes text → given_bytes text ≡ Some (Some bytes)

@@ -1,11 +1,9 @@
 -- Words, and lists of values that may be null.
-use Rattle.std.proofs.Common.{◌≡◌, ◌++◌, ◌∙◌, sym, ap, List, ℕ, [], ◌∷◌, ◌==◌, Bool, true, false, refl, map}
+use Rattle.std.proofs.Common.{◌≡◌, ◌∙◌, sym, ap, List, [], ◌∷◌, refl, map}
 use Rattle.std.specs.Prelude.{Option, Some, None, option_map}
 use Rattle.std.proofs.lemmas.List.{length-map}
 use Rattle.pgv_types.specs.Ty.{Ty}
-use Rattle.pgv_buf.specs.Tokens.{Token}
-use Rattle.pgv_wire.specs.Image.{Image, frame, frames, join, element_type, option_hint, option_image, option_produced, array_image, array_of_frames}
-use Rattle.pgvalue.specs.Lines.{before, behind, words, at_first}
+use Rattle.pgv_wire.specs.Image.{Image, frame, frames, element_type, option_hint, option_image, option_produced}
 use Rattle.pgvalue.specs.Session.{list_image, framed_by}
 use Rattle.pgvalue.proofs.Refusals.{framed_with}
 

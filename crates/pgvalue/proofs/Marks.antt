@@ -3,13 +3,11 @@ use Rattle.std.proofs.Common.{◌≡◌, ◌++◌, ◌∙◌, sym, ap, subst, �
 use Rattle.std.specs.Prelude.{bytes_eq}
 use Rattle.std.proofs.lemmas.Slice.Eq.{bytes_eq-Decides}
 use Rattle.std.proofs.lemmas.Bool.{eqb-true, eq-eqb}
+use Rattle.std.proofs.lemmas.Option.{same_Some}
 use Rattle.pgvalue.specs.declared.line.ValueType.{ValueType}
 use Rattle.pgvalue.specs.declared.line.ValueType.TheVariants.{Bool as BoolType, Char, Int2, Int4, Int8, Oid as OidType, Text, Uuid, Int4Array, TextArray}
 use Rattle.pgvalue.specs.Lines.{before, behind, type_named}
 use Rattle.pgvalue.specs.Spelled.{type_name}
-
-pub some_is : {A : Type 0} (x y : A) → (let o : Option A = Some x in o) ≡ Some y → x ≡ y
-some_is x y e = cc
 
 -- ---- a line is split at its first mark
 
@@ -63,7 +61,7 @@ word_or word name this rest x here there h = by_test word name this rest x (byte
 
 name_or : (word : List ℕ) (named t : ValueType) (rest : Option ValueType) → (rest ≡ Some t → word ≡ type_name t) →
     (if bytes_eq word (type_name named) then Some named else rest) ≡ Some t → word ≡ type_name t
-name_or word named t rest there h = word_or word (type_name named) (Some named) rest t (λ e s. e ∙ ap type_name (some_is named t s)) there h
+name_or word named t rest there h = word_or word (type_name named) (Some named) rest t (λ e s. e ∙ ap type_name (same_Some named t s)) there h
 
 pub named_is : (word : List ℕ) (t : ValueType) → type_named word ≡ Some t → word ≡ type_name t
 named_is word t h =

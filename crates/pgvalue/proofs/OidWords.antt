@@ -7,13 +7,14 @@ use Rattle.std.specs.Int.Digits.{number_from_digits}
 use Rattle.std.proofs.lemmas.Bool.{ltb-true, lt-ltb, eq-eqb, ne_eqb}
 use Rattle.std.proofs.lemmas.Str.{IsUtf8-from_ascii, utf8_valid_len-IsUtf8}
 use Rattle.std.proofs.lemmas.Str.Ascii.{IsAscii-nil, IsAscii-cons}
+use Rattle.std.proofs.lemmas.Option.{same_Some}
 use Rattle.pgv_types.specs.declared.oid.Oid.{Oid}
 use Rattle.pgv_text.specs.Number.{unsigned_value, IsUnsignedNumber, plus_text}
 use Rattle.pgv_text.proofs.Numbers.{value_unsigned, unsigned_value_of}
 use Rattle.pgv_value.specs.Utf8.{is_utf8}
 use Rattle.pgvalue.specs.Lines.{before, behind, words, starts_with_plus, with_first, oid_of, oid_named, oids_named}
 use Rattle.pgvalue.specs.Spelled.{IsOid, SpellsOids}
-use Rattle.pgvalue.proofs.Marks.{some_is, joined, whole, split_joined}
+use Rattle.pgvalue.proofs.Marks.{joined, whole, split_joined}
 use Rattle.pgvalue.proofs.Wording.{words_behind, words_split}
 
 digits_ascii : (digits : List ℕ) → AllByRecursion (λ d. d < 10) digits → IsAscii (map (λ d. 48 + d) digits)
@@ -53,7 +54,7 @@ from_number : (word : List ℕ) (oid : Oid) (n : ℕ) (b : Bool) → starts_with
     (if b then Some (let o : Oid = record { 0 = n } in o) else None) ≡ Some oid → IsOid word oid
 from_number word oid n true plain v e h =
     let number : IsUnsignedNumber word n = value_unsigned word n v in
-    let same : oid.0 ≡ n = ap (λ (o : Oid). o.0) (sym (some_is {A = Oid} (record { 0 = n }) oid h)) in
+    let same : oid.0 ≡ n = ap (λ (o : Oid). o.0) (sym (same_Some {A = Oid} (record { 0 = n }) oid h)) in
     from_unsigned word oid number.plus number.digits number.some number.each number.whole (same ∙ number.value) (omega (arith, same, ltb-true n 4294967296 e)) plain
 from_number word oid n false plain v e h = absurd cc
 
@@ -96,7 +97,7 @@ split_named text oids h = ap oids_named (sym (words_split text)) ∙ h
 oids_behind : (oid : Oid) (oids : List Oid) (text : List ℕ) (rest : Option (List ℕ)) → text ≡ joined 32 (before 32 text) rest → IsOid (before 32 text) oid →
     ((left : List ℕ) → oids_named (words left) ≡ Some oids → SpellsOids oids (32 ∷ left)) → oids_named (words_behind rest) ≡ Some oids → SpellsOids (oid ∷ oids) (32 ∷ text)
 oids_behind oid oids text None all first more h =
-    let none : [] ≡ oids = some_is {A = List Oid} [] oids h in
+    let none : [] ≡ oids = same_Some {A = List Oid} [] oids h in
     (before 32 text, [], first, subst (λ (os : List Oid). SpellsOids os []) none refl, ap (λ (t : List ℕ). 32 ∷ t) (all ∙ sym (append-nil (before 32 text))))
 oids_behind oid oids text (Some left) all first more h = (before 32 text, 32 ∷ left, first, more left h, ap (λ (t : List ℕ). 32 ∷ t) all)
 

@@ -2,20 +2,21 @@
 use Rattle.std.proofs.Common.{◌≡◌, ◌++◌, ◌∙◌, sym, ap, subst, ℕ, List, [], ◌∷◌, refl, Option, Some, None, Result, Ok, Err}
 use Rattle.std.specs.Prelude.{◌↔◌, codes, option_map, IfOk}
 use Rattle.std.specs.declared.alloc.AllocError.{AllocError}
+use Rattle.std.proofs.lemmas.Option.{same_Some}
 use Rattle.pgv_types.specs.declared.oid.Oid.{Oid}
 use Rattle.pgvalue.specs.declared.line.Request.{Request as Parsed}
 use Rattle.pgvalue.specs.declared.line.ValueType.{ValueType}
 use Rattle.pgvalue.specs.Requests.{request_seen}
 use Rattle.pgvalue.specs.Lines.{first_word, behind_word, words, type_named, oids_named, given_bytes, added, read_as, read_of, alone, add_line, null_line, resolve_line, read_line, request}
 use Rattle.pgvalue.specs.Spelled.{Request, adds, adds_null, asks_holes, resolves, asks_wire, reads, type_name, SpellsOids, SpellsPart, Spells, Asks}
-use Rattle.pgvalue.proofs.Marks.{some_is, joined, whole, split_joined, word_or, named_is, type_named_by_name, no_space_in_name}
+use Rattle.pgvalue.proofs.Marks.{joined, whole, split_joined, word_or, named_is, type_named_by_name, no_space_in_name}
 use Rattle.pgvalue.proofs.OidWords.{oids_are, oids_found}
 use Rattle.pgvalue.proofs.HexTexts.{part_is, part_given}
 
 -- ---- what is found is spelled
 
 alone_spelled : (line verb : List ℕ) (asked r : Request) (rest : Option (List ℕ)) → line ≡ joined 32 verb rest → alone asked rest ≡ Some r → (line ≡ verb) × (asked ≡ r)
-alone_spelled line verb asked r None l h = (l, some_is asked r h)
+alone_spelled line verb asked r None l h = (l, same_Some asked r h)
 alone_spelled line verb asked r (Some text) l h = absurd cc
 
 added_spelled : (line text : List ℕ) (r : Request) (t : Option ValueType) (body : Option (List ℕ)) → line ≡ codes "add " ++ text → text ≡ joined 32 (first_word text) body →
@@ -23,7 +24,7 @@ added_spelled : (line text : List ℕ) (r : Request) (t : Option ValueType) (bod
 added_spelled line text r None body l split n h = absurd cc
 added_spelled line text r (Some t) None l split n h = absurd cc
 added_spelled line text r (Some t) (Some body) l split n h =
-    subst (λ (asked : Request). Spells asked line) (some_is (adds t body) r h)
+    subst (λ (asked : Request). Spells asked line) (same_Some (adds t body) r h)
     (l ∙ ap (λ (xs : List ℕ). codes "add " ++ xs) (split ∙ ap (λ (word : List ℕ). word ++ 32 ∷ body) (named_is (first_word text) t n)))
 
 add_spelled : (line : List ℕ) (r : Request) (rest : Option (List ℕ)) → line ≡ joined 32 (codes "add") rest → add_line rest ≡ Some r → Spells r line
@@ -32,7 +33,7 @@ add_spelled line r (Some text) l h = added_spelled line text r (type_named (firs
 
 null_of : (line text : List ℕ) (r : Request) (t : Option ValueType) → line ≡ codes "null " ++ text → type_named text ≡ t → option_map (λ t. adds_null t) t ≡ Some r → Spells r line
 null_of line text r None l n h = absurd cc
-null_of line text r (Some t) l n h = subst (λ (asked : Request). Spells asked line) (some_is (adds_null t) r h) (l ∙ ap (λ (xs : List ℕ). codes "null " ++ xs) (named_is text t n))
+null_of line text r (Some t) l n h = subst (λ (asked : Request). Spells asked line) (same_Some (adds_null t) r h) (l ∙ ap (λ (xs : List ℕ). codes "null " ++ xs) (named_is text t n))
 
 null_spelled : (line : List ℕ) (r : Request) (rest : Option (List ℕ)) → line ≡ joined 32 (codes "null") rest → null_line rest ≡ Some r → Spells r line
 null_spelled line r None l h = absurd cc
@@ -40,15 +41,15 @@ null_spelled line r (Some text) l h = null_of line text r (type_named text) l re
 
 resolve_of : (line text : List ℕ) (r : Request) (oids : Option (List Oid)) → line ≡ codes "resolve " ++ text → oids_named (words text) ≡ oids → option_map (λ oids. resolves oids) oids ≡ Some r → Spells r line
 resolve_of line text r None l n h = absurd cc
-resolve_of line text r (Some oids) l n h = subst (λ (asked : Request). Spells asked line) (some_is (resolves oids) r h) (32 ∷ text, oids_are oids text n, l)
+resolve_of line text r (Some oids) l n h = subst (λ (asked : Request). Spells asked line) (same_Some (resolves oids) r h) (32 ∷ text, oids_are oids text n, l)
 
 resolve_spelled : (line : List ℕ) (r : Request) (rest : Option (List ℕ)) → line ≡ joined 32 (codes "resolve") rest → resolve_line rest ≡ Some r → Spells r line
-resolve_spelled line r None l h = subst (λ (asked : Request). Spells asked line) (some_is (resolves []) r h) ([], refl, l)
+resolve_spelled line r None l h = subst (λ (asked : Request). Spells asked line) (same_Some (resolves []) r h) ([], refl, l)
 resolve_spelled line r (Some text) l h = resolve_of line text r (oids_named (words text)) l refl h
 
 part_spelled : (line text : List ℕ) (r : Request) (t : ValueType) (part : Option (Option (List ℕ))) → line ≡ codes "read " ++ (type_name t ++ 32 ∷ text) → given_bytes text ≡ part → read_as t part ≡ Some r → Spells r line
 part_spelled line text r t None l n h = absurd cc
-part_spelled line text r t (Some part) l n h = subst (λ (asked : Request). Spells asked line) (some_is (reads t part) r h) (text, part_is text part n, l)
+part_spelled line text r t (Some part) l n h = subst (λ (asked : Request). Spells asked line) (same_Some (reads t part) r h) (text, part_is text part n, l)
 
 read_spelled_by : (line text : List ℕ) (r : Request) (t : Option ValueType) (body : Option (List ℕ)) → line ≡ codes "read " ++ text → text ≡ joined 32 (first_word text) body →
     type_named (first_word text) ≡ t → read_of t body ≡ Some r → Spells r line

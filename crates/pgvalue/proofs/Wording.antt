@@ -1,6 +1,6 @@
 -- Words, and the numbers that they are.
-use Rattle.std.proofs.Common.{◌≡◌, ◌++◌, ◌+◌, ◌≤◌, ◌<◌, ◌∙◌, sym, ap, List, ℕ, [], ◌∷◌, ◌==◌, Bool, true, false, refl, length, take, drop, append_assoc, append-nil, arith, get_or}
-use Rattle.std.specs.Prelude.{Option, Some, None, option_map, ⊤}
+use Rattle.std.proofs.Common.{◌≡◌, ◌++◌, ◌+◌, ◌≤◌, ◌<◌, ◌∙◌, sym, ap, List, ℕ, [], ◌∷◌, ◌==◌, Bool, true, false, refl, length, append_assoc, arith}
+use Rattle.std.specs.Prelude.{Option, Some, None, option_map}
 use Rattle.pgv_types.specs.declared.oid.Oid.{Oid}
 use Rattle.pgvalue.specs.Lines.{before, behind, words, at_first, oid_named, oids_named, with_first}
 

@@ -1,5 +1,5 @@
 -- What contracts see of a request.
-use Rattle.std.specs.Prelude.{ℕ, List, Option, Some, None, option_map}
+use Rattle.std.specs.Prelude.{option_map}
 use Rattle.pgvalue.specs.Spelled.{adds, adds_null, asks_holes, resolves, asks_wire, reads, Request as Asked}
 use Rattle.pgvalue.specs.declared.line.Request.{Request}
 use Rattle.pgvalue.specs.declared.line.Request.TheVariants.{Add, Null, Holes, Resolve, Wire, Read}

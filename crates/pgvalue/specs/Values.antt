@@ -1,7 +1,7 @@
 -- Values of the types that the lines name, as the program has them.
-use Rattle.std.specs.Prelude.{ℕ, List, Option, Some, None, option_map, string_bytes}
+use Rattle.std.specs.Prelude.{Option, Some, option_map, string_bytes}
 use Rattle.std.specs.Int.{w8, w16, w32, w64}
-use Rattle.pgv_types.specs.Ty.{Ty, builtin}
+use Rattle.pgv_types.specs.Ty.{builtin}
 use Rattle.pgv_wire.specs.Arguments.{Framed}
 use Rattle.pgv_wire.specs.Image.{Image, null_image, frame}
 use Rattle.pgv_wire.specs.Scalars.{bool_image, signed_image, unsigned_image, text_image, uuid_image}

@@ -1,4 +1,4 @@
-use Rattle.std.proofs.Common.{rules, ◌≡◌, ◌∙◌, sym, ap}
+use Rattle.std.proofs.Common.{rules}
 use Rattle.std.specs.Option.{option_copied}
 use Rattle.pgvalue.proofs.Wording.{oid_more, oid_none, less_left}
 use Rattle.pgvalue.proofs.line.oids.Goals as goal

@@ -1,4 +1,3 @@
-use Rattle.std.proofs.Common.{rules, ◌≡◌}
 use Rattle.pgvalue.proofs.Refusals.{not_added}
 use Rattle.pgvalue.proofs.session.add_value.Goals as goal
 

@@ -1,4 +1,3 @@
-use Rattle.std.proofs.Common.{rules, ◌≡◌}
 use Rattle.pgvalue.proofs.Refusals.{not_shown}
 use Rattle.pgvalue.proofs.session.frame_text.Goals as goal
 

@@ -1,4 +1,3 @@
-use Rattle.std.proofs.Common.{rules, ◌≡◌}
 use Rattle.pgvalue.proofs.Refusals.{not_read}
 use Rattle.pgvalue.proofs.session.read.Goals as goal
 

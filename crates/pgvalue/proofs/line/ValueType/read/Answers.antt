@@ -1,5 +1,5 @@
-use Rattle.std.proofs.Common.{rules, ◌≡◌, map, refl, List, ℕ, ℤ}
-use Rattle.std.specs.Prelude.{Option, Some, option_map, string_bytes}
+use Rattle.std.proofs.Common.{rules, ◌≡◌, map, refl, ℤ}
+use Rattle.std.specs.Prelude.{Some, option_map, string_bytes}
 use Rattle.std.specs.Option.{option_copied}
 use Rattle.std.specs.Int.{w32}
 use Rattle.pgv_types.specs.Ty.{builtin}
