@@ -5,4 +5,4 @@ use Rattle.pgv_wire.proofs.PartsRead.{frames_read}
 use Rattle.pgv_wire.proofs.laws.arguments_read.Goals as goal
 
 pub returns : goal.returns
-returns c = λ images framed. frames_read c.args.arguments.now images framed (subst (λ (r : List Cell). Proper r) c.buffer.ensures c.as_slice.ensures.proper)
+returns c = λ images framed. frames_read c.args.arguments.now images framed (subst (λ (r : List Cell). Proper r) c.buffer.ensures c.as_slice-bytes.ensures.proper)
