@@ -2,6 +2,7 @@
 use Rattle.std.proofs.Common.{◌≡◌, ℕ, zero, suc, ◌<◌, ◌≤◌, ◌^◌, arith, Bool, true, false, nat_lt, nat_eq, List, [], ◌∷◌, ◌++◌, length, Option, Some, None, refl, sym, ◌∙◌, ap, subst, inl, inr}
 use Rattle.std.specs.Prelude.{◌↔◌, if◌then◌else◌}
 use Rattle.std.proofs.lemmas.Bool.{le-ltb, ltb-false, eqb-true}
+use Rattle.std.proofs.lemmas.Option.{same_Some}
 use Rattle.pgv_types.specs.Ty.{Ty}
 use Rattle.pgv_buf.specs.Tokens.{be4}
 use Rattle.pgv_value.specs.Frame.{Part, IsFrame, front}
@@ -10,7 +11,7 @@ use Rattle.pgv_value.proofs.Fronts.{front_exactly, frame_in_front}
 use Rattle.pgv_wire.specs.Arrays.{element_type, Head, one_dimension, head, frames, elements, array_of}
 use Rattle.pgv_wire.specs.Grammar.{BeginWithFrames, IsArray}
 use Rattle.pgv_wire.specs.Steps.{◌>>=◌, number}
-use Rattle.pgv_wire.proofs.Numbers.{step_taken, test_failed, test_held, some_is, number_of_four, number_there, number_splits, number_is, bytes_behind, behind_four, behind_frame}
+use Rattle.pgv_wire.proofs.Numbers.{step_taken, test_failed, test_held, number_of_four, number_there, number_splits, number_is, bytes_behind, behind_four, behind_frame}
 
 frames_are : {M : Type 0} (read : Part → Option M) (n : ℕ) (bytes : List ℕ) (ms : List M) → AreBytes bytes → frames read n bytes ≡ Some ms → (length ms ≡ n) × BeginWithFrames read bytes ms
 unfolding frames
@@ -60,7 +61,7 @@ counted_is element bytes h b e =
     let small : count.0.0 ≤ 2147483647 = ltb-false 2147483647 count.0.0 fits.0 in
     let found : Head = record { element = element; count = count.0.0; frames = lower.0.1 } in
     let last : count.0.1 ≡ be4 1 ++ lower.0.1 = l.1 ∙ ap (λ (n : ℕ). be4 n ++ lower.0.1) n_is in
-    subst (λ (x : Head). (element ≡ x.element) × (x.count < 2 ^ 31) × (bytes ≡ be4 x.count ++ (be4 1 ++ x.frames))) (some_is found h one.1)
+    subst (λ (x : Head). (element ≡ x.element) × (x.count < 2 ^ 31) × (bytes ≡ be4 x.count ++ (be4 1 ++ x.frames))) (same_Some found h one.1)
     (refl, omega arith, c.1 ∙ ap (λ (r : List ℕ). be4 count.0.0 ++ r) last)
 
 one_dimension_is : (t : Ty) (bytes : List ℕ) (h : Head) → AreBytes bytes → one_dimension t bytes ≡ Some h → Found t bytes h
@@ -98,15 +99,15 @@ array_with :
     AreBytes behind → bytes ≡ be4 n ++ behind → nat_eq n 0 ≡ none → nat_eq n 1 ≡ one →
     (if none then Some None else if one then (one_dimension t behind >>= λ x. Some (Some x)) else None) ≡ Some h → elements read h ≡ Some ms → IsArray read t bytes ms
 array_with {M} read t bytes behind n h ms true one b whole e f found read_is =
-    let no_head = some_is None h found in
+    let no_head = same_Some None h found in
     let nothing : elements read None ≡ Some ms = subst (λ (o : Option Head). elements read o ≡ Some ms) (sym no_head) read_is in
     let n_is : n ≡ 0 = eqb-true n 0 e in
-    inl (behind, whole ∙ ap (λ (m : ℕ). be4 m ++ behind) n_is, sym (some_is {A = List M} [] ms nothing))
+    inl (behind, whole ∙ ap (λ (m : ℕ). be4 m ++ behind) n_is, sym (same_Some {A = List M} [] ms nothing))
 array_with read t bytes behind n h ms false false b whole e f found read_is = absurd cc
 array_with read t bytes behind n h ms false true b whole e f found read_is =
     let x = step_taken (one_dimension t behind) (λ (y : Head). let o : Option (Option Head) = Some (Some y) in o) h found in
     let k = one_dimension_is t behind x.0 b x.1 in
-    let there : elements read (Some x.0) ≡ Some ms = subst (λ (o : Option Head). elements read o ≡ Some ms) (sym (some_is (let o : Option Head = Some x.0 in o) h x.2)) read_is in
+    let there : elements read (Some x.0) ≡ Some ms = subst (λ (o : Option Head). elements read o ≡ Some ms) (sym (same_Some (let o : Option Head = Some x.0 in o) h x.2)) read_is in
     let tail : List ℕ = be4 1 ++ x.0.frames in
     let b_oid = bytes_behind k.flags (be4 k.oid ++ (be4 x.0.count ++ tail)) (subst AreBytes k.whole b) in
     let b_frames : AreBytes x.0.frames = bytes_behind (be4 1) x.0.frames (bytes_behind (be4 x.0.count) tail (bytes_behind (be4 k.oid) (be4 x.0.count ++ tail) b_oid)) in

@@ -1,12 +1,11 @@
 -- One more value of a list.
-use Rattle.std.proofs.Common.{◌≡◌, ℕ, ◌+◌, ◌<◌, List, [], ◌∷◌, ◌++◌, length, Option, Some, None, Result, Ok, Err, IsOk, OnOk, OnErr, IfErr, get_or, take, refl, sym, ◌∙◌, ap, append_assoc, append-nil}
+use Rattle.std.proofs.Common.{◌≡◌, ℕ, ◌+◌, ◌<◌, List, [], ◌∷◌, ◌++◌, length, Option, Result, Ok, Err, IsOk, OnOk, OnErr, IfErr, get_or, take, sym, ◌∙◌, ap, append_assoc, append-nil}
 use Rattle.std.proofs.lemmas.List.{take_more}
 use Rattle.pgv_types.specs.Ty.{Ty}
-use Rattle.pgv_buf.specs.Tokens.{Token, blank}
+use Rattle.pgv_buf.specs.Tokens.{Token}
 use Rattle.pgv_wire.specs.Arguments.{Argument, Added}
 use Rattle.pgv_wire.specs.Outcome.{Refused}
 use Rattle.pgv_wire.specs.Each.{Outcome, IsOutcome, AreOutcomes, argument_by, added_by, accepted}
-use Rattle.pgv_value.specs.declared.error.CodecError.{CodecError}
 
 pub not_err : {A E : Type 0} (r : Result A E) (e : E) → IsOk r → r ≡ Err e → ⊥
 not_err (Ok x) e k h = absurd cc

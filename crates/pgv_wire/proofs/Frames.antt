@@ -1,5 +1,5 @@
 -- One frame.
-use Rattle.std.proofs.Common.{◌≡◌, ℕ, ◌-◌, ◌+◌, ◌≤◌, ◌<◌, List, ◌++◌, Option, Some, None, ◌∙◌, ap, subst, arith}
+use Rattle.std.proofs.Common.{◌≡◌, ℕ, ◌+◌, ◌≤◌, ◌<◌, List, ◌++◌, Option, Some, None, ◌∙◌, ap, subst, arith}
 use Rattle.std.proofs.lemmas.Bool.Decides.{nat_tests}
 use Rattle.pgv_buf.specs.Tokens.{Token, Cell, bytes, be4, blank, width, tokens_width}
 use Rattle.pgv_buf.specs.Blank.{width-blank}

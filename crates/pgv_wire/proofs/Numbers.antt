@@ -5,6 +5,7 @@ use Rattle.std.specs.Int.{w32, to_be_bytes, from_be_bytes}
 use Rattle.std.proofs.lemmas.Bool.{le-ltb}
 use Rattle.std.proofs.lemmas.List.{take_at, drop_at, length-append}
 use Rattle.std.proofs.lemmas.Nat.{be_bytes_4, from_be_bytes-to_be_bytes_4}
+use Rattle.std.proofs.lemmas.Option.{same_Some}
 use Rattle.pgv_buf.specs.Tokens.{be4}
 use Rattle.pgv_value.specs.Frame.{Part, IsFrame}
 use Rattle.pgv_value.specs.Laws.{AreBytes}
@@ -23,9 +24,6 @@ test_failed false o y e = (refl, e)
 pub test_held : {A : Type 0} (b : Bool) (o : Option A) (y : A) → (if b then o else None) ≡ Some y → (b ≡ true) × (o ≡ Some y)
 test_held true o y e = (refl, e)
 test_held false o y e = absurd cc
-
-pub some_is : {A : Type 0} (x y : A) → (let o : Option A = Some x in o) ≡ Some y → x ≡ y
-some_is x y e = cc
 
 -- ---- numbers
 
@@ -50,7 +48,7 @@ four_fit a b c d p q r s = omega arith
 
 pub pair_is : {A B : Type 0} (a c : A) (b d : B) → (let o : Option (A × B) = Some (a, b) in o) ≡ Some (c, d) → (a ≡ c) × (b ≡ d)
 pair_is {A} {B} a c b d e =
-    let p = some_is {A = A × B} (a, b) (c, d) e in
+    let p = same_Some {A = A × B} (a, b) (c, d) e in
     (ap (λ (q : A × B). q.0) p, ap (λ (q : A × B). q.1) p)
 
 -- a number in front is four bytes

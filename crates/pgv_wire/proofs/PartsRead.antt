@@ -1,5 +1,5 @@
 -- The frames of arguments, read one behind the other.
-use Rattle.std.proofs.Common.{◌≡◌, ℕ, ◌+◌, ◌<◌, ◌≤◌, ◌^◌, nat_le, Bool, true, false, suc, cond, arith, List, [], ◌∷◌, ◌++◌, length, take, drop, replicate, Option, Some, None, refl, sym, ◌∙◌, ap, subst, append_assoc}
+use Rattle.std.proofs.Common.{◌≡◌, ℕ, ◌≤◌, nat_le, Bool, true, false, suc, cond, arith, List, [], ◌∷◌, ◌++◌, length, take, drop, Some, None, refl, sym, ◌∙◌, ap, subst}
 use Rattle.std.proofs.lemmas.Bool.{leb-true}
 use Rattle.std.specs.Int.{w32, to_be_bytes}
 use Rattle.pgv_types.specs.Ty.{Ty}
@@ -7,10 +7,10 @@ use Rattle.pgv_types.specs.declared.oid.Oid.{Oid}
 use Rattle.pgv_buf.specs.Fill.{rest_types}
 use Rattle.pgv_buf.specs.Blank.{holes-plain}
 use Rattle.pgv_buf.specs.Parse.{Proper, first_type, shown-append, length-shown}
-use Rattle.pgv_buf.specs.Tokens.{Token, byte, hole, slot, bytes, be4, tokens_width, tokens_holes, Cell, fixed, hole_cell, slot_cell, fixed_bytes, plain, shown, width, hole_count, slot_count}
-use Rattle.pgv_value.specs.Frame.{Part, IsFrame, front}
+use Rattle.pgv_buf.specs.Tokens.{Token, bytes, be4, tokens_width, tokens_holes, Cell, fixed, hole_cell, slot_cell, fixed_bytes, plain, shown, hole_count, slot_count}
+use Rattle.pgv_value.specs.Frame.{Part, front}
 use Rattle.pgv_value.proofs.Fronts.{frame_in_front}
-use Rattle.pgv_wire.specs.Arguments.{Argument, Framed, framed, all_tokens, write, filled_frame, filled_arguments}
+use Rattle.pgv_wire.specs.Arguments.{Argument, framed, all_tokens, write, filled_frame, filled_arguments}
 use Rattle.pgv_wire.specs.Image.{Image, null_image, image_of, frame_of}
 use Rattle.pgv_wire.specs.Parts.{ReadAs, AreFrames, part_in, parts_in, written_part, image_holes, written_parts}
 use Rattle.pgv_wire.proofs.ArgumentLists.{shown-frame}

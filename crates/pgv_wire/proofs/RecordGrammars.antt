@@ -2,6 +2,7 @@
 use Rattle.std.proofs.Common.{◌≡◌, ℕ, suc, Bool, true, false, nat_eq, List, [], ◌∷◌, ◌++◌, length, Option, Some, None, option_map, refl, sym, ◌∙◌, ap, subst}
 use Rattle.std.specs.Prelude.{◌↔◌, if◌then◌else◌}
 use Rattle.std.proofs.lemmas.Bool.{eqb-true, eq-eqb}
+use Rattle.std.proofs.lemmas.Option.{same_Some}
 use Rattle.pgv_types.specs.Ty.{Ty, builtin, custom, named, by_oid, array_of, Kind, simple, pseudo, domain, composite, array, enumeration, range}
 use Rattle.pgv_types.specs.Facts.{built_in, oid_of}
 use Rattle.pgv_buf.specs.Tokens.{be4}
@@ -14,7 +15,7 @@ use Rattle.pgv_wire.specs.Grammar.{HasFieldType, of_record, of_custom_record, of
 use Rattle.pgv_wire.specs.Records.{is_oid, field_at, if_oid, field_type, field_type_in, field_head, field_in, Left, binary_fields, next, fields_of}
 use Rattle.pgv_wire.specs.Steps.{number}
 use Rattle.pgv_wire.specs.Tuples.{record_of, ◌then◌}
-use Rattle.pgv_wire.proofs.Numbers.{step_taken, test_held, some_is, pair_is, number_of_four, number_there, number_splits, number_is, bytes_behind, behind_four, behind_frame}
+use Rattle.pgv_wire.proofs.Numbers.{step_taken, test_held, pair_is, number_of_four, number_there, number_splits, number_is, bytes_behind, behind_four, behind_frame}
 
 -- ---- the types of fields
 
@@ -26,7 +27,7 @@ if_oid_is : (at : Option Ty) (oid : ℕ) (found : Ty) → if_oid at oid ≡ Some
 if_oid_is None oid found e = absurd cc
 if_oid_is (Some t) oid found e =
     let k = test_held (is_oid (oid_of t) oid) (Some t) found e in
-    let t_is = some_is t found k.1 in
+    let t_is = same_Some t found k.1 in
     (k.1, ap oid_of (sym t_is) ∙ known (oid_of t) oid k.0)
   where
     known : (own : Option ℕ) (oid : ℕ) → is_oid own oid ≡ true → own ≡ Some oid
@@ -75,7 +76,7 @@ module _ {M : Type 0} (accepts : Ty → Bool) (reading : Reading M) (t : Ty) (pl
       let oid = step_taken (number bytes) _ h.0 h.1 in
       let o = number_is bytes oid.0.1 oid.0.0 b oid.1 in
       let own = step_taken (field_type t place oid.0.0) _ h.0 oid.2 in
-      let h_is = some_is {A = Ty × List ℕ} (own.0, oid.0.1) h.0 own.2 in
+      let h_is = same_Some {A = Ty × List ℕ} (own.0, oid.0.1) h.0 own.2 in
       let own_is : own.0 ≡ h.0.0 = ap (λ (x : Ty × List ℕ). x.0) h_is in
       let behind_is : oid.0.1 ≡ h.0.1 = ap (λ (x : Ty × List ℕ). x.1) h_is in
       let accepted = test_held (accepts h.0.0) _ (m, rest) h.2 in
@@ -182,9 +183,9 @@ record_found {M} steps fields found t bytes m b = (
   λ e.
       let start = step_taken (fields_of t Binary (Some bytes)) _ m e in
       let x = step_taken (steps start.0) _ m start.2 in
-      let m_is = some_is x.0.0 m x.2 in
+      let m_is = same_Some x.0.0 m x.2 in
       let c = step_taken (number bytes) (λ (y : ℕ × List ℕ). let o : Option Left = Some (binary_fields t 0 y.1) in o) start.0 start.1 in
-      let start_is = some_is (binary_fields t 0 c.0.1) start.0 c.2 in
+      let start_is = same_Some (binary_fields t 0 c.0.1) start.0 c.2 in
       let count = four_in_front bytes c.0.1 c.0.0 c.1 in
       let first : steps (binary_fields t 0 c.0.1) ≡ Some (x.0.0, x.0.1) = ap steps start_is ∙ x.1 in
       let rest = (found t 0 c.0.1 x.0.0 (bytes_behind count.0 c.0.1 (subst AreBytes count.1 b))).0 (x.0.1, first) in

@@ -1,15 +1,13 @@
 -- A record that is being written.
-use Rattle.std.proofs.Common.{◌≡◌, ◌≢◌, ℕ, ◌+◌, List, [], ◌∷◌, ◌++◌, length, drop, Option, Some, None, refl, sym, ◌∙◌, ap, arith, append_assoc, inl}
+use Rattle.std.proofs.Common.{◌≡◌, ◌≢◌, ℕ, List, ◌++◌, Option, Some, None, refl, sym, ◌∙◌, ap, append_assoc}
 use Rattle.std.proofs.lemmas.Bool.{ne_eqb}
 use Rattle.pgv_buf.specs.declared.Mark.{Mark}
-use Rattle.pgv_buf.specs.Tokens.{Token, Cell, bytes, be4, blank, plain, fixed_bytes, width, hole_count, slot_count}
+use Rattle.pgv_buf.specs.Tokens.{Token, Cell, bytes, be4, blank, fixed_bytes, width, hole_count, slot_count}
 use Rattle.pgv_buf.specs.Blank.{blank-append, plain-blank}
 use Rattle.pgv_buf.specs.Marks.{mark_of}
-use Rattle.pgv_wire.specs.Fronts.{front_of, behind, front_is, behind_is}
+use Rattle.pgv_wire.specs.Fronts.{front_is, behind_is}
 use Rattle.pgv_wire.specs.Image.{field_at}
-use Rattle.pgv_wire.specs.Outcome.{Refused}
-use Rattle.pgv_wire.specs.Record.{Writing, writing_at, with_field, so_far, IsOpen, AddsField}
-use Rattle.pgv_value.specs.declared.error.CodecError.{CodecError}
+use Rattle.pgv_wire.specs.Record.{Writing, writing_at, IsOpen}
 
 -- what is being written, where the buffer is known
 pub writing_is : (m : Mark) (n : ℕ) (now was : List Cell) (fs : List Token) → m ≡ mark_of was → now ≡ was ++ blank (bytes (be4 n) ++ fs) → writing_at m n now ≡ record { before = was; count = n; fields = fs }

@@ -8,7 +8,6 @@ use Rattle.pgv_text.specs.Values.{array_values}
 use Rattle.pgv_value.specs.Frame.{Part, front}
 use Rattle.pgv_value.specs.Reading.{Reading}
 use Rattle.pgv_value.specs.Utf8.{is_utf8}
-use Rattle.pgv_value.specs.declared.value.PgValueFormat.{PgValueFormat}
 use Rattle.pgv_value.specs.declared.value.PgValueFormat.TheVariants.{Text, Binary}
 use Rattle.pgv_wire.specs.Steps.{◌>>=◌, number}
 

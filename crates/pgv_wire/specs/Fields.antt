@@ -2,10 +2,10 @@
 use Rattle.std.specs.Prelude.{◌≡◌, ℕ, ◌+◌, List, [], ◌∷◌, ◌++◌, length, Option, Some, refl}
 use Rattle.std.proofs.Common.{sym, ap, ◌∙◌, arith}
 use Rattle.std.proofs.lemmas.List.{length-append}
-use Rattle.pgv_buf.specs.Tokens.{Token, Cell, bytes, be4, blank}
-use Rattle.pgv_wire.specs.Image.{Image, image_of, joined, join, field_at, record_of_fields, record_image}
+use Rattle.pgv_buf.specs.Tokens.{Token, Cell, bytes, be4}
+use Rattle.pgv_wire.specs.Image.{joined, join, field_at, record_of_fields, record_image}
 use Rattle.pgv_wire.specs.Outcome.{Encoded}
-use Rattle.pgv_wire.specs.Record.{Writing, begun, with_field, so_far, AddsField}
+use Rattle.pgv_wire.specs.Record.{Writing, begun, so_far, AddsField}
 use Rattle.pgv_wire.specs.declared.buffer.IsNull.TheVariants.{No}
 
 -- these fields have been written behind what was there

@@ -1,5 +1,5 @@
 -- What is left of a record, without where it lies in memory.
-use Rattle.std.specs.Prelude.{◌+◌, ◌<◌, ◌≤◌, ◌^◌, List, ℕ, map, drop, length}
+use Rattle.std.specs.Prelude.{◌+◌, ◌<◌, ◌≤◌, ◌^◌, map, drop, length}
 use Rattle.pgv_text.specs.Values.{part_bytes}
 use Rattle.pgv_wire.specs.declared.decode.record.FieldsLeft.{FieldsLeft}
 use Rattle.pgv_wire.specs.declared.decode.record.FieldsLeft.TheVariants.{Binary, Text}

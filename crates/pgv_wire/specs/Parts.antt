@@ -1,11 +1,11 @@
 -- Frames that are read one behind the other (PostgreSQL: "Message Formats", Bind: each parameter value is a length
 -- of four bytes, the highest first, and that many bytes; the length -1 is null).
-use Rattle.std.specs.Prelude.{◌≡◌, ℕ, List, [], ◌∷◌, take, drop, Option, Some, None, ⊤}
+use Rattle.std.specs.Prelude.{◌≡◌, ℕ, List, [], ◌∷◌, take, drop, Some, None, ⊤}
 use Rattle.pgv_types.specs.Ty.{Ty}
 use Rattle.pgv_types.specs.declared.oid.Oid.{Oid}
 use Rattle.pgv_buf.specs.Fill.{rest_types}
 use Rattle.pgv_buf.specs.Parse.{first_type}
-use Rattle.pgv_buf.specs.Tokens.{Token, Cell, shown, tokens_holes}
+use Rattle.pgv_buf.specs.Tokens.{Cell, shown, tokens_holes}
 use Rattle.pgv_value.specs.Frame.{Part, front}
 use Rattle.pgv_wire.specs.Arguments.{Argument, Framed, write}
 use Rattle.pgv_wire.specs.Image.{Image, null_image, image_of, frame_of}

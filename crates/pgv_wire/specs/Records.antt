@@ -1,6 +1,6 @@
 -- Records (PostgreSQL: "Composite Types", 8.16; the binary form is that of its source, record_send): the number of
 -- fields, and for each field the OID of its type and its frame. In text the values of a record text.
-use Rattle.std.specs.Prelude.{◌≡◌, ℕ, zero, suc, nat_lt, nat_eq, Bool, true, false, List, [], ◌∷◌, length, drop, Option, Some, None, Result, Ok, Err, option_map, if◌then◌else◌, refl}
+use Rattle.std.specs.Prelude.{◌≡◌, ℕ, zero, suc, nat_eq, Bool, false, List, [], ◌∷◌, Option, Some, None, Result, Ok, Err, option_map, if◌then◌else◌, refl}
 use Rattle.std.specs.Coded.{Coded, code_by, coded×, coded_ℕ, coded_list, coded_option}
 use Rattle.pgv_types.specs.Ty.{Ty, ty_code, builtin, custom, named, by_oid, array_of, Kind, simple, pseudo, domain, composite, array, enumeration, range, Fields, no_fields, field}
 use Rattle.pgv_types.specs.Facts.{built_in, oid_of}

@@ -1,6 +1,6 @@
 -- What scalars are written as (PostgreSQL: "Data Types"; the binary forms of "Formats and Format Codes"), and under
 -- which types texts are read.
-use Rattle.std.specs.Prelude.{ℕ, ◌^◌, Bool, true, false, ◌||◌, nat_lt, nat_eq, ℤ, pos, negsuc, codes, List, [], ◌∷◌, length, Option, Some, None, if◌then◌else◌}
+use Rattle.std.specs.Prelude.{ℕ, ◌^◌, Bool, false, ◌||◌, nat_lt, nat_eq, ℤ, pos, negsuc, codes, List, [], ◌∷◌, length, Option, Some, None, if◌then◌else◌}
 use Rattle.std.specs.Int.{Width, cast_unsigned, to_be_bytes}
 use mir.Val.{bits, hbits}
 use Rattle.pgv_types.specs.Ty.{Ty, Kind, builtin, named, simple, domain, composite, array, pseudo, enumeration, range}

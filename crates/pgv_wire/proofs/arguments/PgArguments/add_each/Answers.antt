@@ -1,6 +1,4 @@
-use Rattle.std.proofs.Common.{◌≡◌, ◌+◌, ◌≤◌, List, sym, ◌∙◌, ap, arith, append-nil}
-use Rattle.std.specs.Prelude.{vec_len, vec_capacity}
-use Rattle.pgv_types.specs.Ty.{Ty}
+use Rattle.std.proofs.Common.{◌+◌, sym, ◌∙◌, ap, arith, append-nil}
 use Rattle.pgv_wire.specs.Image.{frame, or_else}
 use Rattle.pgv_wire.proofs.Eaches.{more, outcome_is, not_err}
 use Rattle.pgv_wire.proofs.arguments.PgArguments.add_each.Goals as goal

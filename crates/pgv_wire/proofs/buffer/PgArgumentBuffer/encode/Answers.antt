@@ -1,5 +1,5 @@
 use Rattle.std.proofs.Common.{◌≡◌, ◌-◌, ◌++◌, [], refl, sym, ◌∙◌, ap, arith, inl, append-nil, append_assoc}
-use Rattle.pgv_buf.specs.Tokens.{bytes, be4, blank, fixed_bytes, width, tokens_width}
+use Rattle.pgv_buf.specs.Tokens.{bytes, be4, blank, fixed_bytes, tokens_width}
 use Rattle.pgv_buf.specs.Marks.{mark_of}
 use Rattle.pgv_wire.proofs.Frames.{null_frame, image_frame, long_frame, encoded_null, encoded_image, grown}
 use Rattle.pgv_wire.proofs.buffer.PgArgumentBuffer.encode.Goals as goal

@@ -1,4 +1,4 @@
-use Rattle.std.proofs.Common.{◌≡◌, map, drop, refl, Some, None, ◌++◌, ◌∷◌, [], ◌+◌, arith}
+use Rattle.std.proofs.Common.{◌≡◌, map, drop, refl, Some, None, ◌++◌, ◌∷◌, [], ◌+◌}
 use Rattle.std.proofs.lemmas.List.{map_push, drop_all}
 use Rattle.std.proofs.lemmas.Result.{err_from_is_err_and}
 use Rattle.pgv_text.specs.Values.{part_bytes}

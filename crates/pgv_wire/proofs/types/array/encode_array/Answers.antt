@@ -1,4 +1,4 @@
-use Rattle.std.proofs.Common.{List, ◌++◌, ◌≤◌, length, ap, subst, arith, ◌∙◌}
+use Rattle.std.proofs.Common.{List, ◌++◌, length, subst, arith}
 use Rattle.pgv_types.specs.Ty.{Ty}
 use Rattle.pgv_buf.specs.Tokens.{Cell}
 use Rattle.pgv_wire.specs.Image.{header, element_type, frames}

@@ -1,4 +1,4 @@
-use Rattle.std.proofs.Common.{◌++◌, Option, Some, subst, refl}
+use Rattle.std.proofs.Common.{subst}
 use Rattle.pgv_types.specs.Ty.{Ty}
 use Rattle.pgv_wire.specs.Image.{typed, or_else}
 use Rattle.pgv_wire.specs.Outcome.{AppendedAll}

@@ -1,6 +1,6 @@
-use Rattle.std.proofs.Common.{◌++◌, ◌+◌, refl, sym, ◌∙◌, ap, arith, inl}
+use Rattle.std.proofs.Common.{◌++◌, ◌+◌, refl, inl}
 use Rattle.pgv_buf.specs.Tokens.{be4, blank}
-use Rattle.pgv_wire.specs.Record.{writing_at, with_field, so_far}
+use Rattle.pgv_wire.specs.Record.{writing_at}
 use Rattle.pgv_wire.specs.Image.{field}
 use Rattle.pgv_wire.proofs.Records.{parts, counted, open_by, writing_is, field_there, field_too_many}
 use Rattle.pgv_wire.proofs.types.record.PgRecordEncoder.encode.Goals as goal
