@@ -118,8 +118,8 @@ fn value_type(word: &[u8]) -> Option<ValueType>
     None
 }
 
-#[tactic(auto, using(crate::proofs::Texts::whole_text))]
 /// Digits up to 4294967295.
+#[tactic(auto, using(crate::proofs::Texts::whole_text))]
 fn oid(word: &[u8]) -> Option<Oid>
     ensures { result ≡ oid_named word.now }
 {

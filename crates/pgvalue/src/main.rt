@@ -27,7 +27,7 @@ fn main(rt: HostRuntime) -> ExitCode {
     }
 }
 
-/// A session over standard input and output.
+/// A session over standard input and output. What was answered before a fault is written too.
 fn run_standard(rt: &HostRuntime) -> Result<(), RunFault> {
     let Ok(mut reader) = BufReader::new(rt.alloc(), rt.reader()) else {
         return Err(RunFault::Memory);
@@ -35,9 +35,9 @@ fn run_standard(rt: &HostRuntime) -> Result<(), RunFault> {
     let Ok(mut writer) = BufWriter::new(rt.alloc(), io::writer(rt)) else {
         return Err(RunFault::Memory);
     };
-    run(rt.alloc(), &mut reader, &mut writer)?;
-    if writer.flush().is_err() {
-        return Err(RunFault::Write);
+    let done = run(rt.alloc(), &mut reader, &mut writer);
+    match writer.flush() {
+        Ok(()) => done,
+        Err(_) => done.and(Err(RunFault::Write)),
     }
-    Ok(())
 }
