@@ -12,9 +12,10 @@ use Rattle.pgv_buf.specs.Fill.{fill_holes, first_number, rest_numbers, fill_slot
 use Rattle.pgv_buf.specs.Parse.{width-append, shown-append, first_type}
 use Rattle.pgv_wire.specs.Arguments.{Argument, all_tokens, types_in, sizes_in, counts_in, framed, write, early, filled_arguments, filled_frame}
 use Rattle.pgv_wire.specs.Kept.{Stands, arguments_of}
+use Rattle.pgv_wire.proofs.Framed.{OfImage, images_more, images_filled}
 
 pub nothing_stands : Stands [] [] [] [] []
-nothing_stands = record { types_are = refl; sizes_are = refl; counts_are = refl; tokens_are = refl }
+nothing_stands = record { types_are = refl; sizes_are = refl; counts_are = refl; tokens_are = refl; images_are = ([], tt) }
 
 pub held : {hs : List Ty} {ms : List Mark} {ns : List ℕ} {ts : List Cell} (args : List Argument) → Stands (arguments_of hs ms ts) hs ms ns ts → arguments_of hs ms ts ≡ args → Stands args hs ms ns ts
 held {hs} {ms} {ns} {ts} args s e = subst (λ bs. Stands bs hs ms ns ts) e s
@@ -58,13 +59,14 @@ counts_in-push (a ∷ args) t f = ap (λ r. slot_count a.1 ∷ r) (counts_in-pus
 
 pub one_more :
     {args : List Argument} {hs : List Ty} {ms : List Mark} {ns : List ℕ} {ts : List Cell} → Stands args hs ms ns ts → (t : Ty) (f : List Cell) →
-    (hs' : List Ty) (ms' : List Mark) (ns' : List ℕ) (ts' : List Cell) → hs' ≡ hs ++ t ∷ [] → ms' ≡ ms ++ mark_of f ∷ [] → ns' ≡ ns ++ slot_count f ∷ [] → ts' ≡ ts ++ f →
+    (hs' : List Ty) (ms' : List Mark) (ns' : List ℕ) (ts' : List Cell) → hs' ≡ hs ++ t ∷ [] → ms' ≡ ms ++ mark_of f ∷ [] → ns' ≡ ns ++ slot_count f ∷ [] → ts' ≡ ts ++ f → OfImage (plain f) →
     Stands (args ++ (t, f) ∷ []) hs' ms' ns' ts'
-one_more {args} {hs} {ms} {ns} {ts} s t f hs' ms' ns' ts' d e k g = record {
+one_more {args} {hs} {ms} {ns} {ts} s t f hs' ms' ns' ts' d e k g i = record {
   counts_are = k ∙ (ap (λ r. r ++ slot_count f ∷ []) s.counts_are ∙ sym (counts_in-push args t f));
   types_are = d ∙ (ap (λ r. r ++ t ∷ []) s.types_are ∙ sym (types_in-push args t f));
   sizes_are = e ∙ (ap (λ r. r ++ mark_of f ∷ []) s.sizes_are ∙ sym (sizes_in-push args t f));
   tokens_are = g ∙ (ap (λ r. r ++ f) s.tokens_are ∙ sym (all_tokens-push args t f));
+  images_are = images_more args t f s.images_are i;
 }
 
 -- ---- filling
@@ -180,6 +182,7 @@ all_filled {args} {hs} {ms} {ns} {ts} s ps os ts' n e = record {
   sizes_are = s.sizes_are ∙ sym (sizes_in-filled args ps os);
   counts_are = s.counts_are ∙ sym (counts_in-filled args ps os);
   tokens_are = e ∙ (ap (λ r. fill_slots (slot_types ps ns) (fill_holes os r)) s.tokens_are ∙ (ap (λ r. fill_slots (slot_types ps r) (fill_holes os (all_tokens args))) s.counts_are ∙ sym (all_tokens-filled args ps os n)));
+  images_are = images_filled args ps os s.images_are;
 }
 
 pub shown-frame : (n : ℕ) (p : Ty) (os : List Oid) (a : List Cell) → n ≡ slot_count a → shown (fill_slots (replicate n p) (fill_holes os a)) ≡ write p os (plain a)

@@ -2,39 +2,14 @@
 use Rattle.std.proofs.Common.{◌≡◌, ℕ, List, [], ◌∷◌, ◌++◌, take, drop, replicate, refl, sym, ◌∙◌, ap, subst, length, ◌+◌, append_assoc, append-nil}
 use Rattle.pgv_types.specs.Ty.{Ty}
 use Rattle.pgv_types.specs.declared.oid.Oid.{Oid}
-use Rattle.pgv_buf.specs.Tokens.{Token, Cell, byte, hole, slot, bytes, tokens_width, fixed, hole_cell, slot_cell, be4, blank, plain, shown, width, hole_types_of, hole_count, slot_count, chosen}
-use Rattle.pgv_buf.specs.Blank.{plain-append, plain-blank}
+use Rattle.pgv_buf.specs.Tokens.{Token, Cell, bytes, tokens_width, fixed, hole_cell, slot_cell, be4, blank, plain, shown, width, hole_types_of, hole_count, slot_count, chosen}
+use Rattle.pgv_buf.specs.Blank.{plain-append}
 use Rattle.pgv_buf.specs.Parse.{shown-append, first_type}
 use Rattle.pgv_buf.specs.Fill.{first_number, rest_numbers, fill_holes, fill_slots, rest_types}
 use Rattle.pgv_wire.specs.Arguments.{Argument, Framed, framed, all_tokens, types_in, early, filled_frame, filled_arguments}
 use Rattle.pgv_wire.specs.History.{Call, adds, fills, is_refused, blanks, after, Told, told_by, told, bytes_by, added_in, joined_frames, framed_types, holes_in, lengths_in, ArePlain, joined_bytes}
 use Rattle.pgv_wire.proofs.ArgumentLists.{late_is_early, width-frame}
-
-plain-holes : (os : List Oid) (a : List Cell) → plain (fill_holes os a) ≡ plain a
-plain-holes os [] = refl
-plain-holes os (fixed x ∷ a) = ap (λ r. byte x ∷ r) (plain-holes os a)
-plain-holes os (hole_cell t s ∷ a) = ap (λ r. hole t ∷ r) (plain-holes (rest_numbers os) a)
-plain-holes os (slot_cell d cs s ∷ a) = ap (λ r. slot d cs ∷ r) (plain-holes os a)
-
-plain-slots : (ps : List Ty) (a : List Cell) → plain (fill_slots ps a) ≡ plain a
-plain-slots ps [] = refl
-plain-slots ps (fixed x ∷ a) = ap (λ r. byte x ∷ r) (plain-slots ps a)
-plain-slots ps (hole_cell t s ∷ a) = ap (λ r. hole t ∷ r) (plain-slots ps a)
-plain-slots ps (slot_cell d cs s ∷ a) = ap (λ r. slot d cs ∷ r) (plain-slots (rest_types ps) a)
-
-pub framed-filled : (args : List Argument) (ps : List Ty) (os : List Oid) → framed (filled_arguments args ps os) ≡ framed args
-framed-filled [] ps os = refl
-framed-filled (a ∷ args) ps os =
-    ap (λ (f : List Token). (a.0, f) ∷ framed (filled_arguments args (rest_types ps) (drop (hole_count a.1) os))) (plain-slots (replicate (slot_count a.1) (first_type ps)) (fill_holes (take (hole_count a.1) os) a.1) ∙ plain-holes (take (hole_count a.1) os) a.1)
-    ∙ ap (λ (r : List Framed). (a.0, plain a.1) ∷ r) (framed-filled args (rest_types ps) (drop (hole_count a.1) os))
-
-framed-blanks : (fs : List Framed) → framed (blanks fs) ≡ fs
-framed-blanks [] = refl
-framed-blanks (f ∷ fs) = ap (λ (t : List Token). (f.0, t) ∷ framed (blanks fs)) (plain-blank f.1) ∙ ap (λ (r : List Framed). (f.0, f.1) ∷ r) (framed-blanks fs)
-
-framed-append : (a c : List Argument) → framed (a ++ c) ≡ framed a ++ framed c
-framed-append [] c = refl
-framed-append (x ∷ a) c = ap (λ (r : List Framed). (x.0, plain x.1) ∷ r) (framed-append a c)
+use Rattle.pgv_wire.proofs.Framed.{framed-filled, framed-blanks, framed-append}
 
 blanks-append : (a c : List Framed) → blanks (a ++ c) ≡ blanks a ++ blanks c
 blanks-append [] c = refl

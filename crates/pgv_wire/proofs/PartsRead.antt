@@ -10,9 +10,9 @@ use Rattle.pgv_buf.specs.Parse.{Proper, first_type, shown-append, length-shown}
 use Rattle.pgv_buf.specs.Tokens.{Token, bytes, be4, tokens_width, tokens_holes, Cell, fixed, hole_cell, slot_cell, fixed_bytes, plain, shown, hole_count, slot_count}
 use Rattle.pgv_value.specs.Frame.{Part, front}
 use Rattle.pgv_value.proofs.Fronts.{frame_in_front}
-use Rattle.pgv_wire.specs.Arguments.{Argument, framed, all_tokens, write, filled_frame, filled_arguments}
+use Rattle.pgv_wire.specs.Arguments.{Argument, Framed, framed, all_tokens, write, filled_frame, filled_arguments}
 use Rattle.pgv_wire.specs.Image.{Image, null_image, image_of, frame_of}
-use Rattle.pgv_wire.specs.Parts.{ReadAs, AreFrames, part_in, parts_in, written_part, image_holes, written_parts}
+use Rattle.pgv_wire.specs.Parts.{ReadAs, AreFrames, OfImages, AllRead, part_in, parts_in, written_part, image_holes, written_parts}
 use Rattle.pgv_wire.proofs.ArgumentLists.{shown-frame}
 use Rattle.pgv_wire.proofs.Histories.{shown_plain, width-plain}
 
@@ -87,6 +87,40 @@ as_many [] [] h = refl
 as_many [] (i ∷ is) h = absurd h
 as_many (a ∷ args) [] h = absurd h
 as_many (a ∷ args) (i ∷ is) h = ap suc (as_many args is h.1)
+
+-- arguments whose images are known to exist are all read
+pub all_read : (args : List Argument) → OfImages args → Proper (all_tokens args) → AllRead args
+all_read args h p = (h.0, h.1, frames_read args h.0 h.1 p, as_many args h.0 h.1)
+
+-- ---- a frame is that of one image
+
+-- null's frame is no other image's
+not_null : (us : List Token) → bytes (be4 4294967295) ≡ bytes (be4 (tokens_width us)) ++ us → ⊥
+not_null [] e = absurd cc
+not_null (u ∷ us) e = absurd cc
+
+pub one_image : (i j : Image) (f : List Token) → frame_of (Some i) ≡ Some f → frame_of (Some j) ≡ Some f → i ≡ j
+one_image null_image null_image f d e = refl
+one_image null_image (image_of us) f d e =
+    let null : bytes (be4 4294967295) ≡ f = cc in
+    absurd (not_null us (null ∙ (cut us f _ refl e).1))
+one_image (image_of ts) null_image f d e =
+    let null : bytes (be4 4294967295) ≡ f = cc in
+    absurd (not_null ts (null ∙ (cut ts f _ refl d).1))
+one_image (image_of ts) (image_of us) f d e =
+    let both : bytes (be4 (tokens_width ts)) ++ ts ≡ bytes (be4 (tokens_width us)) ++ us = sym (cut ts f _ refl d).1 ∙ (cut us f _ refl e).1 in
+    let same : ts ≡ us = cc in
+    ap image_of same
+
+pub same_images : (is js : List Image) (fs : List Framed) → AreFrames is fs → AreFrames js fs → is ≡ js
+same_images [] [] [] h k = refl
+same_images [] [] (f ∷ fs) h k = absurd h
+same_images [] (j ∷ js) [] h k = absurd k
+same_images [] (j ∷ js) (f ∷ fs) h k = absurd h
+same_images (i ∷ is) [] [] h k = absurd h
+same_images (i ∷ is) [] (f ∷ fs) h k = absurd k
+same_images (i ∷ is) (j ∷ js) [] h k = absurd h
+same_images (i ∷ is) (j ∷ js) (f ∷ fs) h k = ap (λ n. n ∷ is) (one_image i j f.1 h.0 k.0) ∙ ap (λ (r : List Image). j ∷ r) (same_images is js fs h.1 k.1)
 
 -- ---- after a filling
 

@@ -1,13 +1,13 @@
 -- Frames that are read one behind the other (PostgreSQL: "Message Formats", Bind: each parameter value is a length
 -- of four bytes, the highest first, and that many bytes; the length -1 is null).
-use Rattle.std.specs.Prelude.{◌≡◌, ℕ, List, [], ◌∷◌, take, drop, Some, None, ⊤}
+use Rattle.std.specs.Prelude.{◌≡◌, ℕ, List, [], ◌∷◌, length, take, drop, Some, None, ⊤}
 use Rattle.pgv_types.specs.Ty.{Ty}
 use Rattle.pgv_types.specs.declared.oid.Oid.{Oid}
 use Rattle.pgv_buf.specs.Fill.{rest_types}
 use Rattle.pgv_buf.specs.Parse.{first_type}
 use Rattle.pgv_buf.specs.Tokens.{Cell, shown, tokens_holes}
 use Rattle.pgv_value.specs.Frame.{Part, front}
-use Rattle.pgv_wire.specs.Arguments.{Argument, Framed, write}
+use Rattle.pgv_wire.specs.Arguments.{Argument, Framed, framed, all_tokens, write}
 use Rattle.pgv_wire.specs.Image.{Image, null_image, image_of, frame_of}
 
 -- one frame after the other is found in front, with these parts, and then this is left
@@ -21,6 +21,10 @@ AreFrames [] [] = ⊤
 AreFrames [] (f ∷ fs) = ⊥
 AreFrames (i ∷ is) [] = ⊥
 AreFrames (i ∷ is) (f ∷ fs) = (frame_of (Some i) ≡ Some f.1) × AreFrames is fs
+
+-- each argument is the frame of an image
+abbrev pub OfImages : List Argument → Type 0
+OfImages args = (is : List Image) × AreFrames is (framed args)
 
 -- the part of a frame: null, or what it shows behind its length
 abbrev pub part_in : Image → List Cell → Part
@@ -46,3 +50,8 @@ image_holes (image_of ts) = tokens_holes ts
 abbrev pub written_parts : List Image → List Ty → List Oid → List Part
 written_parts [] ps os = []
 written_parts (i ∷ is) ps os = written_part i (first_type ps) (take (image_holes i) os) ∷ written_parts is (rest_types ps) (drop (image_holes i) os)
+
+-- frames that are read one behind the other, a part for each and nothing behind: null where the image is null, and
+-- else what the argument shows behind its length
+abbrev pub AllRead : List Argument → Type 0
+AllRead args = (is : List Image) × AreFrames is (framed args) × ReadAs (shown (all_tokens args)) (parts_in is args) [] × (length (parts_in is args) ≡ length args)

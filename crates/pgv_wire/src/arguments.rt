@@ -7,6 +7,7 @@ ghost use Rattle.pgv_wire.specs.Arguments.{types_in, all_tokens, Added, filled_a
 ghost use Rattle.pgv_wire.specs.Each.{AreOutcomes, accepted};
 ghost use Rattle.pgv_wire.specs.Image.{frame, or_else};
 ghost use Rattle.pgv_wire.specs.Outcome.{Refused};
+ghost use Rattle.pgv_wire.specs.Parts.{OfImages};
 
 use crate::buffer::PgArgumentBuffer;
 use crate::traits::{Encode, Type};
@@ -87,9 +88,11 @@ impl PgArguments {
         self.types.as_slice()
     }
 
-    /// The frames of the arguments, one behind the other.
+    /// The frames of the arguments, one behind the other. Each is the frame of an image, filled or not:
+    /// [`laws::arguments_read`](crate::laws::arguments_read) says what reading them gives.
     pub fn buffer(&self) -> &PgArgumentBuffer
-        ensures { result.now ≡ all_tokens self.now }
+        ensures frames { result.now ≡ all_tokens self.now }
+        ensures images { OfImages self.now }
     {
         &self.buffer
     }

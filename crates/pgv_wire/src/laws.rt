@@ -1,18 +1,18 @@
 //! Laws of what buffers and arguments hold, and of what arrays and records in binary are: each is the contract of a
 //! function that does nothing.
 
-ghost use Rattle.std.specs.Prelude.{◌≡◌, ℕ, Bool, List, [], length, Option};
+ghost use Rattle.std.specs.Prelude.{◌≡◌, ℕ, Bool, List, [], length, Option, Some};
 ghost use Rattle.pgv_types.specs.Ty.{Ty};
 ghost use Rattle.pgv_types.specs.declared.oid.Oid.{Oid};
 ghost use Rattle.pgv_buf.specs.Parse.{Proper};
-ghost use Rattle.pgv_buf.specs.Tokens.{Cell, shown, width, tokens_width, hole_types_of};
+ghost use Rattle.pgv_buf.specs.Tokens.{Token, Cell, shown, width, tokens_width, hole_types_of};
 ghost use Rattle.pgv_value.specs.Frame.{Part};
 ghost use Rattle.pgv_value.specs.Reading.{Reading};
-ghost use Rattle.pgv_wire.specs.Arguments.{Argument, all_tokens, types_in, framed, filled_arguments};
+ghost use Rattle.pgv_wire.specs.Arguments.{Argument, Framed, all_tokens, types_in, framed, filled_arguments};
 ghost use Rattle.pgv_wire.specs.Grammar.{ArrayIsItsElements, OneArray, FieldTypeIsFound, FieldIsItsValue, OneField, RecordBegins, RecordIsItsFields, IsField, ◌and◌};
 ghost use Rattle.pgv_wire.specs.History.{Call, after, told, bytes_by, added_in, joined_frames, framed_types, holes_in, lengths_in, ArePlain, joined_bytes};
-ghost use Rattle.pgv_wire.specs.Image.{Image};
-ghost use Rattle.pgv_wire.specs.Parts.{ReadAs, AreFrames, parts_in, written_parts};
+ghost use Rattle.pgv_wire.specs.Image.{Image, frame_of};
+ghost use Rattle.pgv_wire.specs.Parts.{ReadAs, AreFrames, AllRead, parts_in, written_parts};
 
 use crate::arguments::PgArguments;
 use crate::traits::{Decode, Type};
@@ -67,13 +67,21 @@ pub fn frames_read()
     ensures many { (args : List Argument) (is : List Image) → AreFrames is (framed args) → length (parts_in is args) ≡ length args }
 {}
 
-/// Whatever was added to arguments that run: read from their buffer one behind the other, as
-/// [`PgValueRef::get`](crate::PgValueRef::get) does, their frames give a part for each, and leave nothing.
+/// Whatever was added to running arguments, refused between and filled: they are the frames of images, and read from
+/// their buffer one behind the other, as [`PgValueRef::get`](crate::PgValueRef::get) does, they give as many parts as
+/// there are arguments, null where an image is null and else what it shows, and leave nothing.
 pub fn arguments_read(arguments: &PgArguments)
-    ensures { (is : List Image) → AreFrames is (framed arguments.now) → ReadAs (shown (all_tokens arguments.now)) (parts_in is arguments.now) [] }
+    ensures { AllRead arguments.now }
 {
     let _bytes = arguments.buffer().as_slice();
 }
+
+/// A frame is that of one image only, so that the images of arguments are those that were added.
+#[tactic(auto, using(crate::proofs::PartsRead::one_image, crate::proofs::PartsRead::same_images))]
+pub fn one_image()
+    ensures frame { (i j : Image) (f : List Token) → frame_of (Some i) ≡ Some f → frame_of (Some j) ≡ Some f → i ≡ j }
+    ensures frames { (is js : List Image) (fs : List Framed) → AreFrames is fs → AreFrames js fs → is ≡ js }
+{}
 
 /// After a filling these parts are what the images are written as, each for its own parameter type and with the
 /// OIDs of its own holes.

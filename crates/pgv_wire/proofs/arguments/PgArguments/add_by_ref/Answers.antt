@@ -6,6 +6,7 @@ use Rattle.pgv_buf.specs.Marks.{mark_of, between_marks, IsBefore}
 use Rattle.pgv_wire.specs.Kept.{stands, arguments_are}
 use Rattle.pgv_wire.specs.Image.{or_else}
 use Rattle.pgv_wire.proofs.ArgumentLists.{held, one_more, is_before, between}
+use Rattle.pgv_wire.proofs.Framed.{of_image}
 use Rattle.pgv_wire.proofs.arguments.PgArguments.add_by_ref.Goals as goal
 
 before : (a b : Mark) (was now ts : List Cell) → a ≡ mark_of was → b ≡ mark_of now → now ≡ was ++ ts → IsBefore a b
@@ -26,7 +27,7 @@ invariant_of-self-2 g c =
     (c.in_ok-push.ensures.items ∙ (ap (λ (r : List Ty). r ++ c.in_ok-argument_type.argument_type ∷ []) c.reserve.ensures.items ∙ ap (λ (t : Ty). c.self.inside.types.items ++ t ∷ []) c.in_ok-argument_type.ensures))
     (c.in_ok-push-2.ensures.items ∙ (ap (λ (r : List Mark). r ++ c.since-size.result ∷ []) c.reserve-2.ensures.items ∙ ap (λ (m : Mark). c.self.inside.sizes.items ++ m ∷ []) (size_is c.mark-mark.result c.mark.result c.since-size.result c.self.inside.buffer c.encode.new.self (blank a.0) c.mark-mark.ensures c.mark.ensures a.2 c.since-size.ensures)))
     (c.in_ok-push-3.ensures.items ∙ (ap (λ (r : List ℕ). r ++ c.slots.result ∷ []) c.reserve-3.ensures.items ∙ ap (λ (n : ℕ). c.self.inside.counts.items ++ n ∷ []) (c.slots.ensures ∙ ap (λ (m : Mark). m.slots) (size_is c.mark-mark.result c.mark.result c.since-size.result c.self.inside.buffer c.encode.new.self (blank a.0) c.mark-mark.ensures c.mark.ensures a.2 c.since-size.ensures))))
-    a.2)
+    a.2 (of_image (g.T.Encode.hint c.args.value.now) (g.T.Encode.image c.args.value.now) a.0 a.1))
 
 pub returns-clause-ok : goal.returns-clause-ok
 returns-clause-ok g c =
@@ -37,5 +38,5 @@ returns-clause-ok g c =
           (c.in_ok-push.ensures.items ∙ (ap (λ (r : List Ty). r ++ c.in_ok-argument_type.argument_type ∷ []) c.reserve.ensures.items ∙ ap (λ (t : Ty). c.self.inside.types.items ++ t ∷ []) c.in_ok-argument_type.ensures))
           (c.in_ok-push-2.ensures.items ∙ (ap (λ (r : List Mark). r ++ c.since-size.result ∷ []) c.reserve-2.ensures.items ∙ ap (λ (m : Mark). c.self.inside.sizes.items ++ m ∷ []) (size_is c.mark-mark.result c.mark.result c.since-size.result c.self.inside.buffer c.encode.new.self (blank a.0) c.mark-mark.ensures c.mark.ensures a.2 c.since-size.ensures)))
           (c.in_ok-push-3.ensures.items ∙ (ap (λ (r : List ℕ). r ++ c.slots.result ∷ []) c.reserve-3.ensures.items ∙ ap (λ (n : ℕ). c.self.inside.counts.items ++ n ∷ []) (c.slots.ensures ∙ ap (λ (m : Mark). m.slots) (size_is c.mark-mark.result c.mark.result c.since-size.result c.self.inside.buffer c.encode.new.self (blank a.0) c.mark-mark.ensures c.mark.ensures a.2 c.since-size.ensures))))
-          a.2),
+          a.2 (of_image (g.T.Encode.hint c.args.value.now) (g.T.Encode.image c.args.value.now) a.0 a.1)),
     )
