@@ -5,17 +5,18 @@ use Rattle.std.proofs.Math.Numerals.{one-add}
 use Rattle.pgv_types.specs.Ty.{Ty}
 use Rattle.pgv_types.specs.declared.oid.Oid.{Oid}
 use Rattle.pgv_buf.specs.declared.Mark.{Mark}
-use Rattle.pgv_buf.specs.Tokens.{plain, Cell, fixed, hole_cell, slot_cell, be4, shown, width, hole_count, slot_count, chosen}
+use Rattle.pgv_buf.specs.Tokens.{blank, plain, Cell, fixed, hole_cell, slot_cell, be4, shown, width, hole_count, slot_count, chosen}
 use Rattle.pgv_buf.specs.Blank.{holes-plain}
 use Rattle.pgv_buf.specs.Marks.{mark_of, between_marks, IsBefore}
 use Rattle.pgv_buf.specs.Fill.{fill_holes, first_number, rest_numbers, fill_slots, slot_types, rest_types}
 use Rattle.pgv_buf.specs.Parse.{width-append, shown-append, first_type}
-use Rattle.pgv_wire.specs.Arguments.{Argument, all_tokens, types_in, sizes_in, counts_in, framed, write, early, filled_arguments, filled_frame}
+use Rattle.pgv_wire.specs.Arguments.{Argument, Framed, all_tokens, types_in, sizes_in, counts_in, framed, write, early, filled_arguments, filled_frame}
 use Rattle.pgv_wire.specs.Kept.{Stands, arguments_of}
-use Rattle.pgv_wire.proofs.Framed.{OfImage, images_more, images_filled}
+use Rattle.pgv_wire.specs.History.{told}
+use Rattle.pgv_wire.proofs.Framed.{OfImage, images_more, images_filled, left_more, left_filled}
 
 pub nothing_stands : Stands [] [] [] [] []
-nothing_stands = record { types_are = refl; sizes_are = refl; counts_are = refl; tokens_are = refl; images_are = ([], tt) }
+nothing_stands = record { types_are = refl; sizes_are = refl; counts_are = refl; tokens_are = refl; images_are = ([], tt); left_are = (told [], record { arguments_are = refl; as_many_types = refl; as_many_oids = refl }) }
 
 pub held : {hs : List Ty} {ms : List Mark} {ns : List ℕ} {ts : List Cell} (args : List Argument) → Stands (arguments_of hs ms ts) hs ms ns ts → arguments_of hs ms ts ≡ args → Stands args hs ms ns ts
 held {hs} {ms} {ns} {ts} args s e = subst (λ bs. Stands bs hs ms ns ts) e s
@@ -58,15 +59,16 @@ counts_in-push [] t f = refl
 counts_in-push (a ∷ args) t f = ap (λ r. slot_count a.1 ∷ r) (counts_in-push args t f)
 
 pub one_more :
-    {args : List Argument} {hs : List Ty} {ms : List Mark} {ns : List ℕ} {ts : List Cell} → Stands args hs ms ns ts → (t : Ty) (f : List Cell) →
-    (hs' : List Ty) (ms' : List Mark) (ns' : List ℕ) (ts' : List Cell) → hs' ≡ hs ++ t ∷ [] → ms' ≡ ms ++ mark_of f ∷ [] → ns' ≡ ns ++ slot_count f ∷ [] → ts' ≡ ts ++ f → OfImage (plain f) →
-    Stands (args ++ (t, f) ∷ []) hs' ms' ns' ts'
-one_more {args} {hs} {ms} {ns} {ts} s t f hs' ms' ns' ts' d e k g i = record {
-  counts_are = k ∙ (ap (λ r. r ++ slot_count f ∷ []) s.counts_are ∙ sym (counts_in-push args t f));
-  types_are = d ∙ (ap (λ r. r ++ t ∷ []) s.types_are ∙ sym (types_in-push args t f));
-  sizes_are = e ∙ (ap (λ r. r ++ mark_of f ∷ []) s.sizes_are ∙ sym (sizes_in-push args t f));
-  tokens_are = g ∙ (ap (λ r. r ++ f) s.tokens_are ∙ sym (all_tokens-push args t f));
-  images_are = images_more args t f s.images_are i;
+    {args : List Argument} {hs : List Ty} {ms : List Mark} {ns : List ℕ} {ts : List Cell} → Stands args hs ms ns ts → (f : Framed) → OfImage f.1 →
+    (hs' : List Ty) (ms' : List Mark) (ns' : List ℕ) (ts' : List Cell) → hs' ≡ hs ++ f.0 ∷ [] → ms' ≡ ms ++ mark_of (blank f.1) ∷ [] → ns' ≡ ns ++ slot_count (blank f.1) ∷ [] → ts' ≡ ts ++ blank f.1 →
+    Stands (args ++ (f.0, blank f.1) ∷ []) hs' ms' ns' ts'
+one_more {args} {hs} {ms} {ns} {ts} s f i hs' ms' ns' ts' d e k g = record {
+  types_are = d ∙ (ap (λ r. r ++ f.0 ∷ []) s.types_are ∙ sym (types_in-push args f.0 (blank f.1)));
+  sizes_are = e ∙ (ap (λ r. r ++ mark_of (blank f.1) ∷ []) s.sizes_are ∙ sym (sizes_in-push args f.0 (blank f.1)));
+  counts_are = k ∙ (ap (λ r. r ++ slot_count (blank f.1) ∷ []) s.counts_are ∙ sym (counts_in-push args f.0 (blank f.1)));
+  tokens_are = g ∙ (ap (λ r. r ++ blank f.1) s.tokens_are ∙ sym (all_tokens-push args f.0 (blank f.1)));
+  images_are = images_more args f s.images_are i;
+  left_are = left_more args f s.left_are;
 }
 
 -- ---- filling
@@ -175,14 +177,15 @@ all_tokens-filled (a ∷ args) (p ∷ ps) os e =
     ∙ ap (λ x. fill_slots (replicate (slot_count a.1) p ++ slot_types ps (counts_in args)) x) (sym (fill_holes-append os a.1 (all_tokens args))))
 
 pub all_filled :
-    {args : List Argument} {hs : List Ty} {ms : List Mark} {ns : List ℕ} {ts : List Cell} → Stands args hs ms ns ts → (ps : List Ty) (os : List Oid) (ts' : List Cell) → length ps ≡ length args →
+    {args : List Argument} {hs : List Ty} {ms : List Mark} {ns : List ℕ} {ts : List Cell} → Stands args hs ms ns ts → (ps : List Ty) (os : List Oid) (ts' : List Cell) → length ps ≡ length args → length os ≡ hole_count (all_tokens args) →
     ts' ≡ fill_slots (slot_types ps ns) (fill_holes os ts) → Stands (filled_arguments args ps os) hs ms ns ts'
-all_filled {args} {hs} {ms} {ns} {ts} s ps os ts' n e = record {
+all_filled {args} {hs} {ms} {ns} {ts} s ps os ts' n m e = record {
   types_are = s.types_are ∙ sym (types_in-filled args ps os);
   sizes_are = s.sizes_are ∙ sym (sizes_in-filled args ps os);
   counts_are = s.counts_are ∙ sym (counts_in-filled args ps os);
   tokens_are = e ∙ (ap (λ r. fill_slots (slot_types ps ns) (fill_holes os r)) s.tokens_are ∙ (ap (λ r. fill_slots (slot_types ps r) (fill_holes os (all_tokens args))) s.counts_are ∙ sym (all_tokens-filled args ps os n)));
   images_are = images_filled args ps os s.images_are;
+  left_are = left_filled args ps os n m s.left_are;
 }
 
 pub shown-frame : (n : ℕ) (p : Ty) (os : List Oid) (a : List Cell) → n ≡ slot_count a → shown (fill_slots (replicate n p) (fill_holes os a)) ≡ write p os (plain a)

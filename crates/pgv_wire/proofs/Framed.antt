@@ -1,13 +1,14 @@
--- The frames of arguments without what they show: kept by additions and fillings, and each that of an image.
-use Rattle.std.proofs.Common.{◌≡◌, ℕ, Bool, true, false, cond, List, [], ◌∷◌, ◌++◌, drop, take, replicate, Option, Some, None, refl, sym, ◌∙◌, ap, subst}
+-- What additions and fillings keep of arguments: their frames without what these show, that each is the frame of an
+-- image, and that each shows what the last filling has written, or is not filled yet.
+use Rattle.std.proofs.Common.{◌≡◌, ℕ, ◌+◌, suc, Bool, true, false, cond, List, [], ◌∷◌, ◌++◌, length, drop, take, replicate, Option, Some, None, refl, sym, ◌∙◌, ap, subst, append_assoc, append-nil}
 use Rattle.pgv_types.specs.Ty.{Ty}
 use Rattle.pgv_types.specs.declared.oid.Oid.{Oid}
-use Rattle.pgv_buf.specs.Tokens.{Token, byte, hole, slot, Cell, fixed, hole_cell, slot_cell, blank, plain, hole_count, slot_count}
-use Rattle.pgv_buf.specs.Blank.{plain-blank}
-use Rattle.pgv_buf.specs.Fill.{rest_numbers, fill_holes, fill_slots, rest_types}
+use Rattle.pgv_buf.specs.Tokens.{Token, byte, hole, slot, tokens_holes, Cell, fixed, hole_cell, slot_cell, be4, blank, plain, hole_count, slot_count, chosen}
+use Rattle.pgv_buf.specs.Blank.{plain-append, plain-blank, holes-plain}
+use Rattle.pgv_buf.specs.Fill.{first_number, rest_numbers, fill_holes, fill_slots, rest_types}
 use Rattle.pgv_buf.specs.Parse.{first_type}
-use Rattle.pgv_wire.specs.Arguments.{Argument, Framed, framed, filled_arguments}
-use Rattle.pgv_wire.specs.History.{blanks}
+use Rattle.pgv_wire.specs.Arguments.{Argument, Framed, framed, all_tokens, filled_frame, filled_arguments}
+use Rattle.pgv_wire.specs.History.{blanks, Told, with_added, with_filled, left_by, joined_frames, LeftBySome}
 use Rattle.pgv_wire.specs.Image.{Image, frame_of, frame}
 use Rattle.pgv_wire.specs.Parts.{AreFrames, OfImages}
 
@@ -37,6 +38,91 @@ pub framed-append : (a c : List Argument) → framed (a ++ c) ≡ framed a ++ fr
 framed-append [] c = refl
 framed-append (x ∷ a) c = ap (λ (r : List Framed). (x.0, plain x.1) ∷ r) (framed-append a c)
 
+pub blanks-append : (a c : List Framed) → blanks (a ++ c) ≡ blanks a ++ blanks c
+blanks-append [] c = refl
+blanks-append (x ∷ a) c = ap (λ (r : List Argument). (x.0, blank x.1) ∷ r) (blanks-append a c)
+
+-- a filling sees nothing of what was shown
+
+filled-same : (ps : List Ty) (os : List Oid) (a : List Cell) → fill_slots ps (fill_holes os a) ≡ fill_slots ps (fill_holes os (blank (plain a)))
+filled-same ps os [] = refl
+filled-same ps os (fixed x ∷ a) = ap (λ r. fixed x ∷ r) (filled-same ps os a)
+filled-same ps os (hole_cell t s ∷ a) = ap (λ r. hole_cell t (be4 (first_number os)) ∷ r) (filled-same ps (rest_numbers os) a)
+filled-same ps os (slot_cell d cs s ∷ a) = ap (λ r. slot_cell d cs (chosen (first_type ps) d cs) ∷ r) (filled-same (rest_types ps) os a)
+
+holes-same : (a : List Cell) → hole_count (blank (plain a)) ≡ hole_count a
+holes-same [] = refl
+holes-same (fixed x ∷ a) = holes-same a
+holes-same (hole_cell t s ∷ a) = ap (λ n. 1 + n) (holes-same a)
+holes-same (slot_cell d cs s ∷ a) = holes-same a
+
+slots-same : (a : List Cell) → slot_count (blank (plain a)) ≡ slot_count a
+slots-same [] = refl
+slots-same (fixed x ∷ a) = slots-same a
+slots-same (hole_cell t s ∷ a) = slots-same a
+slots-same (slot_cell d cs s ∷ a) = ap (λ n. 1 + n) (slots-same a)
+
+frame-same : (p : Ty) (os : List Oid) (a : List Cell) → filled_frame p os a ≡ filled_frame p os (blank (plain a))
+frame-same p os a =
+    filled-same (replicate (slot_count a) p) os a ∙ ap (λ n. fill_slots (replicate n p) (fill_holes os (blank (plain a)))) (sym (slots-same a))
+
+pub arguments-same : (args : List Argument) (ps : List Ty) (os : List Oid) → filled_arguments args ps os ≡ filled_arguments (blanks (framed args)) ps os
+arguments-same [] ps os = refl
+arguments-same (a ∷ args) ps os =
+    let n = hole_count a.1 in
+    let m = hole_count (blank (plain a.1)) in
+    let rest : ℕ → List Argument = λ k. filled_arguments (blanks (framed args)) (rest_types ps) (drop k os) in
+    ap (λ (r : List Argument). (a.0, filled_frame (first_type ps) (take n os) a.1) ∷ r) (arguments-same args (rest_types ps) (drop n os))
+    ∙ (ap (λ (f : List Cell). (a.0, f) ∷ rest n) (frame-same (first_type ps) (take n os) a.1)
+    ∙ ap (λ (k : ℕ). (a.0, filled_frame (first_type ps) (take k os) (blank (plain a.1))) ∷ rest k) (sym (holes-same a.1)))
+
+framed-stands : (a s : List Framed) (ps : List Ty) (os : List Oid) → framed (filled_arguments (blanks a) ps os ++ blanks s) ≡ a ++ s
+framed-stands a s ps os =
+    framed-append (filled_arguments (blanks a) ps os) (blanks s)
+    ∙ (ap (λ r. r ++ framed (blanks s)) (framed-filled (blanks a) ps os ∙ framed-blanks a) ∙ ap (λ r. a ++ r) (framed-blanks s))
+
+pub joined-plain : (args : List Argument) → plain (all_tokens args) ≡ joined_frames (framed args)
+joined-plain [] = refl
+joined-plain (a ∷ args) = plain-append a.1 (all_tokens args) ∙ ap (λ (r : List Token). plain a.1 ++ r) (joined-plain args)
+
+-- ---- what a filling and later additions leave
+
+pub left-added : (args : List Argument) (h : Told) (f : Framed) → args ≡ left_by h → args ++ (f.0, blank f.1) ∷ [] ≡ left_by (with_added h f)
+left-added args h f e =
+    let a : List Argument = filled_arguments (blanks h.filled) h.types h.oids in
+    ap (λ (r : List Argument). r ++ (f.0, blank f.1) ∷ []) e ∙ (append_assoc a (blanks h.since) ((f.0, blank f.1) ∷ []) ∙ ap (λ r. a ++ r) (sym (blanks-append h.since (f ∷ []))))
+
+pub left-filled : (args : List Argument) (h : Told) (ps : List Ty) (os : List Oid) → args ≡ left_by h → filled_arguments args ps os ≡ left_by (with_filled h ps os)
+left-filled args h ps os e =
+    arguments-same args ps os
+    ∙ (ap (λ r. filled_arguments (blanks (framed r)) ps os) e
+    ∙ (ap (λ f. filled_arguments (blanks f) ps os) (framed-stands h.filled h.since h.types h.oids) ∙ sym (append-nil (filled_arguments (blanks (h.filled ++ h.since)) ps os))))
+
+pub framed-left : (args : List Argument) (h : Told) → args ≡ left_by h → framed args ≡ h.filled ++ h.since
+framed-left args h e = ap framed e ∙ framed-stands h.filled h.since h.types h.oids
+
+length-framed : (args : List Argument) → length (framed args) ≡ length args
+length-framed [] = refl
+length-framed (a ∷ args) = ap suc (length-framed args)
+
+-- one more behind the others
+pub left_more : (args : List Argument) (f : Framed) → LeftBySome args → LeftBySome (args ++ (f.0, blank f.1) ∷ [])
+left_more args f l = (with_added l.0 f, record {
+  arguments_are = left-added args l.0 f l.1.arguments_are;
+  as_many_types = l.1.as_many_types;
+  as_many_oids = l.1.as_many_oids;
+})
+
+-- all filled
+pub left_filled : (args : List Argument) (ps : List Ty) (os : List Oid) → length ps ≡ length args → length os ≡ hole_count (all_tokens args) → LeftBySome args → LeftBySome (filled_arguments args ps os)
+left_filled args ps os n m l =
+    let fs : framed args ≡ l.0.filled ++ l.0.since = framed-left args l.0 l.1.arguments_are in
+    (with_filled l.0 ps os, record {
+      arguments_are = left-filled args l.0 ps os l.1.arguments_are;
+      as_many_types = n ∙ (sym (length-framed args) ∙ ap length fs);
+      as_many_oids = m ∙ (sym (holes-plain (all_tokens args)) ∙ ap tokens_holes (joined-plain args ∙ ap joined_frames fs));
+    })
+
 -- ---- each is the frame of an image
 
 -- a token list is the frame of an image
@@ -49,8 +135,8 @@ image_within true (Some i) f e = (i, e)
 image_within false i f e = absurd cc
 
 -- the frame of a value is that of its image
-pub of_image : (hint : ℕ) (i : Option Image) (f : List Token) → frame hint i ≡ Some f → OfImage (plain (blank f))
-of_image hint i f e = subst OfImage (sym (plain-blank f)) (image_within _ i f e)
+pub of_image : (hint : ℕ) (i : Option Image) (f : List Token) → frame hint i ≡ Some f → OfImage f
+of_image hint i f e = image_within _ i f e
 
 -- one more behind the others
 are-more : (is : List Image) (fs : List Framed) (i : Image) (f : Framed) → AreFrames is fs → frame_of (Some i) ≡ Some f.1 → AreFrames (is ++ i ∷ []) (fs ++ f ∷ [])
@@ -59,10 +145,11 @@ are-more [] (g ∷ fs) i f h e = absurd h
 are-more (j ∷ is) [] i f h e = absurd h
 are-more (j ∷ is) (g ∷ fs) i f h e = (h.0, are-more is fs i f h.1 e)
 
-pub images_more : (args : List Argument) (t : Ty) (c : List Cell) → OfImages args → OfImage (plain c) → OfImages (args ++ (t, c) ∷ [])
-images_more args t c h k = (
+pub images_more : (args : List Argument) (f : Framed) → OfImages args → OfImage f.1 → OfImages (args ++ (f.0, blank f.1) ∷ [])
+images_more args f h k = (
   h.0 ++ k.0 ∷ [],
-  subst (λ (fs : List Framed). AreFrames (h.0 ++ k.0 ∷ []) fs) (sym (framed-append args ((t, c) ∷ []))) (are-more h.0 (framed args) k.0 (t, plain c) h.1 k.1),
+  subst (λ (fs : List Framed). AreFrames (h.0 ++ k.0 ∷ []) fs) (sym (framed-append args ((f.0, blank f.1) ∷ []) ∙ ap (λ (r : List Framed). framed args ++ r) (framed-blanks (f ∷ []))))
+      (are-more h.0 (framed args) k.0 f h.1 k.1),
 )
 
 -- a filling changes none

@@ -1,9 +1,9 @@
 -- Any list of calls on arguments, and what they leave.
-use Rattle.std.specs.Prelude.{◌≡◌, ℕ, List, [], ◌∷◌, ◌++◌, ⊤}
+use Rattle.std.specs.Prelude.{◌≡◌, ℕ, List, [], ◌∷◌, ◌++◌, length, ⊤}
 use Rattle.pgv_types.specs.Ty.{Ty}
 use Rattle.pgv_types.specs.declared.oid.Oid.{Oid}
-use Rattle.pgv_buf.specs.Tokens.{Token, byte, hole, slot, bytes, blank, shown, width}
-use Rattle.pgv_wire.specs.Arguments.{Argument, Framed, all_tokens, early, filled_arguments}
+use Rattle.pgv_buf.specs.Tokens.{Token, byte, hole, slot, bytes, blank, shown, width, tokens_holes}
+use Rattle.pgv_wire.specs.Arguments.{Argument, Framed, framed, all_tokens, early, filled_arguments}
 
 -- an accepted addition, an accepted filling, or a call that was refused
 pub data Call : Type 0 where
@@ -30,10 +30,16 @@ pub record Told : Type 0 where
   pub oids : List Oid
   pub since : List Framed
 
+abbrev pub with_added : Told → Framed → Told
+with_added h f = record { filled = h.filled; types = h.types; oids = h.oids; since = h.since ++ f ∷ [] }
+
+abbrev pub with_filled : Told → List Ty → List Oid → Told
+with_filled h ps os = record { filled = h.filled ++ h.since; types = ps; oids = os; since = [] }
+
 abbrev pub told_by : Told → List Call → Told
 told_by h [] = h
-told_by h (adds f ∷ calls) = told_by (record { filled = h.filled; types = h.types; oids = h.oids; since = h.since ++ f ∷ [] }) calls
-told_by h (fills ps os ∷ calls) = told_by (record { filled = h.filled ++ h.since; types = ps; oids = os; since = [] }) calls
+told_by h (adds f ∷ calls) = told_by (with_added h f) calls
+told_by h (fills ps os ∷ calls) = told_by (with_filled h ps os) calls
 told_by h (is_refused ∷ calls) = told_by h calls
 
 abbrev pub told : List Call → Told
@@ -42,6 +48,10 @@ told calls = told_by (record { filled = []; types = []; oids = []; since = [] })
 -- the bytes: those at the last filling written early, the others blank
 abbrev pub bytes_by : Told → List ℕ
 bytes_by h = early h.filled h.types h.oids ++ shown (all_tokens (blanks h.since))
+
+-- the arguments: those at the last filling as it left them, and the others blank
+abbrev pub left_by : Told → List Argument
+left_by h = filled_arguments (blanks h.filled) h.types h.oids ++ blanks h.since
 
 -- the accepted additions, in order, whatever was filled or refused between
 abbrev pub added_in : List Call → List Framed
@@ -58,6 +68,21 @@ joined_frames (f ∷ fs) = f.1 ++ joined_frames fs
 abbrev pub framed_types : List Framed → List Ty
 framed_types [] = []
 framed_types (f ∷ fs) = f.0 ∷ framed_types fs
+
+-- arguments that a filling with as many types and OIDs as arguments and holes, and additions since, have left
+pub record LeftBy (args : List Argument) (h : Told) : Type 0 where
+  pub arguments_are : args ≡ left_by h
+  pub as_many_types : length h.types ≡ length h.filled
+  pub as_many_oids : length h.oids ≡ tokens_holes (joined_frames h.filled)
+
+abbrev pub LeftBySome : List Argument → Type 0
+LeftBySome args = (h : Told) × LeftBy args h
+
+-- the bytes are the frames at some filling, written at once with its types and OIDs, as many as these have arguments
+-- and holes, and then the others blank; there are no other frames
+abbrev pub WrittenAtOnce : List Argument → Type 0
+WrittenAtOnce args =
+    (h : Told) × (framed args ≡ h.filled ++ h.since) × (length h.types ≡ length h.filled) × (length h.oids ≡ tokens_holes (joined_frames h.filled)) × (shown (all_tokens args) ≡ bytes_by h)
 
 -- the types that holes name, in order
 abbrev pub holes_in : List Token → List Ty

@@ -1,5 +1,5 @@
 -- How arguments are kept: their tokens one behind the other, their types, and how much each frame is. Each is the frame
--- of an image.
+-- of an image, and shows what the last filling has written, or is not filled yet.
 use Rattle.std.specs.Prelude.{◌≡◌, ℕ, List, [], ◌∷◌, refl}
 use Rattle.std.proofs.Common.{sym, ap, subst}
 use Rattle.pgv_types.specs.Ty.{Ty}
@@ -7,6 +7,7 @@ use Rattle.pgv_buf.specs.declared.Mark.{Mark}
 use Rattle.pgv_buf.specs.Tokens.{Cell, width, hole_count, slot_count}
 use Rattle.pgv_wire.specs.Arguments.{Argument, all_tokens, types_in, sizes_in, counts_in}
 use Rattle.pgv_wire.specs.Parts.{OfImages}
+use Rattle.pgv_wire.specs.History.{LeftBySome}
 use Rattle.pgv_wire.specs.Fronts.{front_of, behind, front_is, behind_is}
 use Rattle.pgv_wire.specs.declared.arguments.PgArguments.TheInside.{Inside}
 
@@ -33,6 +34,7 @@ pub record Stands (args : List Argument) (hs : List Ty) (ms : List Mark) (ns : L
   pub counts_are : ns ≡ counts_in args
   pub tokens_are : ts ≡ all_tokens args
   pub images_are : OfImages args
+  pub left_are : LeftBySome args
 
 split_back : (args : List Argument) → split (types_in args) (sizes_in args) (all_tokens args) ≡ args
 split_back [] = refl

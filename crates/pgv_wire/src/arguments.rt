@@ -5,6 +5,7 @@ ghost use Rattle.pgv_buf.specs.Tokens.{shown, hole_count, hole_types_of};
 ghost use Rattle.pgv_value.specs.declared.error.CodecError.TheVariants.{Memory, ParameterCount, HoleCount};
 ghost use Rattle.pgv_wire.specs.Arguments.{types_in, all_tokens, Added, filled_arguments, framed, early};
 ghost use Rattle.pgv_wire.specs.Each.{AreOutcomes, accepted};
+ghost use Rattle.pgv_wire.specs.History.{WrittenAtOnce};
 ghost use Rattle.pgv_wire.specs.Image.{frame, or_else};
 ghost use Rattle.pgv_wire.specs.Outcome.{Refused};
 ghost use Rattle.pgv_wire.specs.Parts.{OfImages};
@@ -88,11 +89,14 @@ impl PgArguments {
         self.types.as_slice()
     }
 
-    /// The frames of the arguments, one behind the other. Each is the frame of an image, filled or not:
-    /// [`laws::arguments_read`](crate::laws::arguments_read) says what reading them gives.
+    /// The frames of the arguments, one behind the other. Each is the frame of an image. Their bytes are those of the
+    /// frames at the last filling, written at once with what it was given, and then of those added since, with zeros
+    /// for holes and defaults for slots. [`laws::arguments_read`](crate::laws::arguments_read) says what reading them
+    /// gives.
     pub fn buffer(&self) -> &PgArgumentBuffer
         ensures frames { result.now ≡ all_tokens self.now }
         ensures images { OfImages self.now }
+        ensures written { WrittenAtOnce self.now }
     {
         &self.buffer
     }

@@ -22,12 +22,12 @@ fill-requires-clause-holes c =
     c.if-oids-holes.false ∙ (c.holes.ensures ∙ sym (ap hole_count s.tokens_are))
 
 pub invariant_of-self : goal.invariant_of-self
-invariant_of-self c = stands (all_filled (held c.args.self.now c.self.invariant c.self.view_is) c.args.types.now c.args.oids.now _ (c.if-types-len.false ∙ c.len.ensures) (c.fill.ensures ∙ ap (λ (n : List ℕ). fill_slots (slot_types c.args.types.now n) (fill_holes c.args.oids.now c.self.inside.buffer)) c.as_slice.ensures.value))
+invariant_of-self c = stands (all_filled (held c.args.self.now c.self.invariant c.self.view_is) c.args.types.now c.args.oids.now _ (c.if-types-len.false ∙ c.len.ensures) (c.if-oids-holes.false ∙ c.holes.ensures) (c.fill.ensures ∙ ap (λ (n : List ℕ). fill_slots (slot_types c.args.types.now n) (fill_holes c.args.oids.now c.self.inside.buffer)) c.as_slice.ensures.value))
 
 pub returns-clause-filled : goal.returns-clause-filled
-returns-clause-filled c = arguments_are (all_filled (held c.args.self.now c.self.invariant c.self.view_is) c.args.types.now c.args.oids.now _ (c.if-types-len.false ∙ c.len.ensures) (c.fill.ensures ∙ ap (λ (n : List ℕ). fill_slots (slot_types c.args.types.now n) (fill_holes c.args.oids.now c.self.inside.buffer)) c.as_slice.ensures.value))
+returns-clause-filled c = arguments_are (all_filled (held c.args.self.now c.self.invariant c.self.view_is) c.args.types.now c.args.oids.now _ (c.if-types-len.false ∙ c.len.ensures) (c.if-oids-holes.false ∙ c.holes.ensures) (c.fill.ensures ∙ ap (λ (n : List ℕ). fill_slots (slot_types c.args.types.now n) (fill_holes c.args.oids.now c.self.inside.buffer)) c.as_slice.ensures.value))
 
 pub returns-clause-written : goal.returns-clause-written
 returns-clause-written c =
-    ap (λ a. shown (all_tokens a)) (arguments_are (all_filled (held c.args.self.now c.self.invariant c.self.view_is) c.args.types.now c.args.oids.now _ (c.if-types-len.false ∙ c.len.ensures) (c.fill.ensures ∙ ap (λ (n : List ℕ). fill_slots (slot_types c.args.types.now n) (fill_holes c.args.oids.now c.self.inside.buffer)) c.as_slice.ensures.value)))
+    ap (λ a. shown (all_tokens a)) (arguments_are (all_filled (held c.args.self.now c.self.invariant c.self.view_is) c.args.types.now c.args.oids.now _ (c.if-types-len.false ∙ c.len.ensures) (c.if-oids-holes.false ∙ c.holes.ensures) (c.fill.ensures ∙ ap (λ (n : List ℕ). fill_slots (slot_types c.args.types.now n) (fill_holes c.args.oids.now c.self.inside.buffer)) c.as_slice.ensures.value)))
     ∙ late_is_early c.args.self.now c.args.types.now c.args.oids.now
