@@ -10,5 +10,3 @@ pub mod tuple;
 
 pub use record::PgRecordDecoder;
 
-#[cfg(test)]
-mod tests;

@@ -57,8 +57,6 @@ pub mod arguments;
 pub mod buffer;
 pub mod decode;
 pub mod laws;
-#[cfg(test)]
-mod tests;
 pub mod traits;
 pub mod types;
 
