@@ -107,21 +107,26 @@ length-framed (a ∷ args) = ap suc (length-framed args)
 
 -- one more behind the others
 pub left_more : (args : List Argument) (f : Framed) → LeftBySome args → LeftBySome (args ++ (f.0, blank f.1) ∷ [])
-left_more args f l = (with_added l.0 f, record {
-  arguments_are = left-added args l.0 f l.1.arguments_are;
-  as_many_types = l.1.as_many_types;
-  as_many_oids = l.1.as_many_oids;
-})
+left_more args f l = (
+  with_added l.0 f,
+  record {
+    arguments_are = left-added args l.0 f l.1.arguments_are;
+    as_many_types = l.1.as_many_types;
+    as_many_oids = l.1.as_many_oids;
+  },
+)
 
 -- all filled
 pub left_filled : (args : List Argument) (ps : List Ty) (os : List Oid) → length ps ≡ length args → length os ≡ hole_count (all_tokens args) → LeftBySome args → LeftBySome (filled_arguments args ps os)
 left_filled args ps os n m l =
-    let fs : framed args ≡ l.0.filled ++ l.0.since = framed-left args l.0 l.1.arguments_are in
-    (with_filled l.0 ps os, record {
-      arguments_are = left-filled args l.0 ps os l.1.arguments_are;
-      as_many_types = n ∙ (sym (length-framed args) ∙ ap length fs);
-      as_many_oids = m ∙ (sym (holes-plain (all_tokens args)) ∙ ap tokens_holes (joined-plain args ∙ ap joined_frames fs));
-    })
+    let fs : framed args ≡ l.0.filled ++ l.0.since = framed-left args l.0 l.1.arguments_are in (
+      with_filled l.0 ps os,
+      record {
+        arguments_are = left-filled args l.0 ps os l.1.arguments_are;
+        as_many_types = n ∙ (sym (length-framed args) ∙ ap length fs);
+        as_many_oids = m ∙ (sym (holes-plain (all_tokens args)) ∙ ap tokens_holes (joined-plain args ∙ ap joined_frames fs));
+      },
+    )
 
 -- ---- each is the frame of an image
 

@@ -9,4 +9,3 @@ pub mod scalar;
 pub mod tuple;
 
 pub use record::PgRecordDecoder;
-
