@@ -1,5 +1,5 @@
 -- The head of an array, without where it lies in memory.
-use Rattle.pgv_wire.specs.declared.decode.array.ArrayHead.{ArrayHead}
+use Rattle.pgv_wire.specs.declared.types.array.ArrayHead.{ArrayHead}
 use Rattle.pgv_wire.specs.Arrays.{Head}
 
 abbrev pub head_shown : ArrayHead → Head

@@ -1,8 +1,8 @@
 -- What is left of a record, without where it lies in memory.
 use Rattle.std.specs.Prelude.{◌+◌, ◌<◌, ◌≤◌, ◌^◌, map, drop, length}
 use Rattle.pgv_text.specs.Values.{part_bytes}
-use Rattle.pgv_wire.specs.declared.decode.record.FieldsLeft.{FieldsLeft}
-use Rattle.pgv_wire.specs.declared.decode.record.FieldsLeft.TheVariants.{Binary, Text}
+use Rattle.pgv_wire.specs.declared.types.record.FieldsLeft.{FieldsLeft}
+use Rattle.pgv_wire.specs.declared.types.record.FieldsLeft.TheVariants.{Binary, Text}
 use Rattle.pgv_wire.specs.Records.{Left, binary_fields, text_fields}
 
 abbrev pub left_of : FieldsLeft → Left

@@ -55,19 +55,17 @@
 
 pub mod arguments;
 pub mod buffer;
-pub mod decode;
 pub mod laws;
 pub mod traits;
 pub mod types;
 
 pub use arguments::PgArguments;
 pub use buffer::{IsNull, PgArgumentBuffer};
-pub use decode::PgRecordDecoder;
 pub use pgv_value::{
     CodecError, PgValue, PgValueFormat, PgValueRef, read_bool, read_i8, read_i16, read_i32,
     read_i64, read_oid, read_uuid,
 };
 pub use traits::{Decode, Encode, PgHasArrayType, Type};
 pub use types::array::encode_array;
-pub use types::record::PgRecordEncoder;
+pub use types::record::{PgRecordDecoder, PgRecordEncoder};
 pub use types::str::encode_text;

@@ -1,10 +1,15 @@
 //! Truth values (PostgreSQL, "Boolean Type"): one byte, 1 or 0.
 
+ghost use Rattle.std.specs.Prelude.{◌≡◌, None, IsErrOf};
+ghost use Rattle.pgv_value.specs.Reading.{Answers, AnswersExactly};
+ghost use Rattle.pgv_value.specs.Scalars.{bool_reading};
+ghost use Rattle.pgv_value.specs.declared.error.CodecError.TheVariants.{UnexpectedNull};
+
 use crate::buffer::{IsNull, PgArgumentBuffer};
-use crate::traits::{Encode, PgHasArrayType, Type};
+use crate::traits::{Decode, Encode, PgHasArrayType, Type};
 use pgv_types::{PgType, PgTypeInfo};
-use pgv_value::CodecError;
-use std::alloc::AllocError;
+use pgv_value::{CodecError, PgValueRef, read_bool};
+use std::alloc::{AllocError, Global};
 
 impl Type for bool {
     ghost use Rattle.pgv_types.specs.Relations.{softly};
@@ -61,5 +66,25 @@ impl Encode for bool {
 
     fn produces(&self) -> Result<Option<PgTypeInfo>, AllocError> {
         Ok(None)
+    }
+}
+
+/// A truth value (PostgreSQL, "Boolean Type"), as [`read_bool`] reads it.
+impl Decode for bool {
+    ghost use Rattle.std.specs.Prelude.{Bool};
+    ghost use Rattle.pgv_value.specs.Scalars.{bool_reading};
+
+    ghost Meaning = { Bool };
+
+    ghost meaning = { λ truth. truth };
+
+    ghost reading = { bool_reading };
+
+    fn decode(_alloc: Global, value: PgValueRef<'_>) -> Result<bool, CodecError>
+        ensures exact { Answers (λ truth. truth) (bool_reading value.entry.type_info value.entry.format value.entry.bytes) result }
+        ensures exactly { AnswersExactly (λ truth. truth) (bool_reading value.entry.type_info value.entry.format value.entry.bytes) result }
+        ensures null { value.entry.bytes ≡ None → IsErrOf result UnexpectedNull }
+    {
+        read_bool(&value)
     }
 }

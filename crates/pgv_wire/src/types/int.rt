@@ -1,11 +1,17 @@
 //! Integers (PostgreSQL, "Numeric Types"; the type "char" of "Character Types" for one byte): in two's
 //! complement, the highest byte first.
 
+ghost use Rattle.std.specs.Int.{w16, w32, w64};
+ghost use Rattle.std.specs.Prelude.{◌≡◌, None, IsErrOf};
+ghost use Rattle.pgv_value.specs.Reading.{Answers, AnswersExactly};
+ghost use Rattle.pgv_value.specs.Scalars.{char_reading, int_reading};
+ghost use Rattle.pgv_value.specs.declared.error.CodecError.TheVariants.{UnexpectedNull};
+
 use crate::buffer::{IsNull, PgArgumentBuffer};
-use crate::traits::{Encode, PgHasArrayType, Type};
+use crate::traits::{Decode, Encode, PgHasArrayType, Type};
 use pgv_types::{PgType, PgTypeInfo};
-use pgv_value::CodecError;
-use std::alloc::AllocError;
+use pgv_value::{CodecError, PgValueRef, read_i8, read_i16, read_i32, read_i64};
+use std::alloc::{AllocError, Global};
 
 impl Type for i8 {
     ghost use Rattle.pgv_types.specs.Relations.{softly};
@@ -64,6 +70,26 @@ impl Encode for i8 {
 
     fn produces(&self) -> Result<Option<PgTypeInfo>, AllocError> {
         Ok(None)
+    }
+}
+
+/// A `"char"` as a number (PostgreSQL, "Character Types"), as [`read_i8`] reads it.
+impl Decode for i8 {
+    ghost use Rattle.std.specs.Prelude.{ℤ};
+    ghost use Rattle.pgv_value.specs.Scalars.{char_reading};
+
+    ghost Meaning = { ℤ };
+
+    ghost meaning = { λ number. number };
+
+    ghost reading = { char_reading };
+
+    fn decode(_alloc: Global, value: PgValueRef<'_>) -> Result<i8, CodecError>
+        ensures exact { Answers (λ number. number) (char_reading value.entry.type_info value.entry.format value.entry.bytes) result }
+        ensures exactly { AnswersExactly (λ number. number) (char_reading value.entry.type_info value.entry.format value.entry.bytes) result }
+        ensures null { value.entry.bytes ≡ None → IsErrOf result UnexpectedNull }
+    {
+        read_i8(&value)
     }
 }
 
@@ -127,6 +153,27 @@ impl Encode for i16 {
     }
 }
 
+/// An `int2` (PostgreSQL, "Integer Types"), as [`read_i16`] reads it.
+impl Decode for i16 {
+    ghost use Rattle.std.specs.Prelude.{ℤ};
+    ghost use Rattle.std.specs.Int.{w16};
+    ghost use Rattle.pgv_value.specs.Scalars.{int_reading};
+
+    ghost Meaning = { ℤ };
+
+    ghost meaning = { λ number. number };
+
+    ghost reading = { int_reading w16 };
+
+    fn decode(_alloc: Global, value: PgValueRef<'_>) -> Result<i16, CodecError>
+        ensures exact { Answers (λ number. number) (int_reading w16 value.entry.type_info value.entry.format value.entry.bytes) result }
+        ensures exactly { AnswersExactly (λ number. number) (int_reading w16 value.entry.type_info value.entry.format value.entry.bytes) result }
+        ensures null { value.entry.bytes ≡ None → IsErrOf result UnexpectedNull }
+    {
+        read_i16(&value)
+    }
+}
+
 impl Type for i32 {
     ghost use Rattle.pgv_types.specs.Relations.{softly};
     ghost use Rattle.pgv_types.specs.Ty.{builtin};
@@ -187,6 +234,27 @@ impl Encode for i32 {
     }
 }
 
+/// An `int4` (PostgreSQL, "Integer Types"), as [`read_i32`] reads it.
+impl Decode for i32 {
+    ghost use Rattle.std.specs.Prelude.{ℤ};
+    ghost use Rattle.std.specs.Int.{w32};
+    ghost use Rattle.pgv_value.specs.Scalars.{int_reading};
+
+    ghost Meaning = { ℤ };
+
+    ghost meaning = { λ number. number };
+
+    ghost reading = { int_reading w32 };
+
+    fn decode(_alloc: Global, value: PgValueRef<'_>) -> Result<i32, CodecError>
+        ensures exact { Answers (λ number. number) (int_reading w32 value.entry.type_info value.entry.format value.entry.bytes) result }
+        ensures exactly { AnswersExactly (λ number. number) (int_reading w32 value.entry.type_info value.entry.format value.entry.bytes) result }
+        ensures null { value.entry.bytes ≡ None → IsErrOf result UnexpectedNull }
+    {
+        read_i32(&value)
+    }
+}
+
 impl Type for i64 {
     ghost use Rattle.pgv_types.specs.Relations.{softly};
     ghost use Rattle.pgv_types.specs.Ty.{builtin};
@@ -244,5 +312,26 @@ impl Encode for i64 {
 
     fn produces(&self) -> Result<Option<PgTypeInfo>, AllocError> {
         Ok(None)
+    }
+}
+
+/// An `int8` (PostgreSQL, "Integer Types"), as [`read_i64`] reads it.
+impl Decode for i64 {
+    ghost use Rattle.std.specs.Prelude.{ℤ};
+    ghost use Rattle.std.specs.Int.{w64};
+    ghost use Rattle.pgv_value.specs.Scalars.{int_reading};
+
+    ghost Meaning = { ℤ };
+
+    ghost meaning = { λ number. number };
+
+    ghost reading = { int_reading w64 };
+
+    fn decode(_alloc: Global, value: PgValueRef<'_>) -> Result<i64, CodecError>
+        ensures exact { Answers (λ number. number) (int_reading w64 value.entry.type_info value.entry.format value.entry.bytes) result }
+        ensures exactly { AnswersExactly (λ number. number) (int_reading w64 value.entry.type_info value.entry.format value.entry.bytes) result }
+        ensures null { value.entry.bytes ≡ None → IsErrOf result UnexpectedNull }
+    {
+        read_i64(&value)
     }
 }

@@ -1,10 +1,15 @@
 //! Object identifiers (PostgreSQL, "Object Identifier Types"): unsigned, four bytes, the highest first.
 
+ghost use Rattle.std.specs.Prelude.{◌≡◌, None, IsErrOf};
+ghost use Rattle.pgv_value.specs.Reading.{Answers, AnswersExactly};
+ghost use Rattle.pgv_value.specs.Scalars.{oid_reading};
+ghost use Rattle.pgv_value.specs.declared.error.CodecError.TheVariants.{UnexpectedNull};
+
 use crate::buffer::{IsNull, PgArgumentBuffer};
-use crate::traits::{Encode, PgHasArrayType, Type};
+use crate::traits::{Decode, Encode, PgHasArrayType, Type};
 use pgv_types::{Oid, PgType, PgTypeInfo};
-use pgv_value::CodecError;
-use std::alloc::AllocError;
+use pgv_value::{CodecError, PgValueRef, read_oid};
+use std::alloc::{AllocError, Global};
 
 impl Type for Oid {
     ghost use Rattle.pgv_types.specs.Relations.{softly};
@@ -63,5 +68,25 @@ impl Encode for Oid {
 
     fn produces(&self) -> Result<Option<PgTypeInfo>, AllocError> {
         Ok(None)
+    }
+}
+
+/// An object identifier (PostgreSQL, "Object Identifier Types"), as [`read_oid`] reads it.
+impl Decode for Oid {
+    ghost use Rattle.std.specs.Prelude.{ℕ};
+    ghost use Rattle.pgv_value.specs.Scalars.{oid_reading};
+
+    ghost Meaning = { ℕ };
+
+    ghost meaning = { λ oid. oid.0 };
+
+    ghost reading = { oid_reading };
+
+    fn decode(_alloc: Global, value: PgValueRef<'_>) -> Result<Oid, CodecError>
+        ensures exact { Answers (λ oid. oid.0) (oid_reading value.entry.type_info value.entry.format value.entry.bytes) result }
+        ensures exactly { AnswersExactly (λ oid. oid.0) (oid_reading value.entry.type_info value.entry.format value.entry.bytes) result }
+        ensures null { value.entry.bytes ≡ None → IsErrOf result UnexpectedNull }
+    {
+        read_oid(&value)
     }
 }

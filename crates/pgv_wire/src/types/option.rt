@@ -1,10 +1,10 @@
 //! Values that may be null.
 
 use crate::buffer::{IsNull, PgArgumentBuffer};
-use crate::traits::{Encode, PgHasArrayType, Type};
+use crate::traits::{Decode, Encode, PgHasArrayType, Type};
 use pgv_types::PgTypeInfo;
-use pgv_value::CodecError;
-use std::alloc::AllocError;
+use pgv_value::{CodecError, PgValueRef};
+use std::alloc::{AllocError, Global};
 
 impl<T: Type> Type for Option<T> {
     ghost info = { T.info };
@@ -62,5 +62,24 @@ impl<T: Encode + Type> Encode for Option<T> {
             None => Ok(Some(T::type_info())),
             Some(value) => value.produces(),
         }
+    }
+}
+
+/// Null is read as `None`, and anything else as `Some` of what the type reads.
+impl<T: Decode> Decode for Option<T> {
+    ghost use Rattle.std.specs.Prelude.{Option, option_map};
+    ghost use Rattle.pgv_wire.specs.Nullable.{nullable};
+
+    ghost Meaning = { Option T.Meaning };
+
+    ghost meaning = { option_map T.meaning };
+
+    ghost reading = { nullable T.reading };
+
+    fn decode(alloc: Global, value: PgValueRef<'_>) -> Result<Option<T>, CodecError> {
+        if value.is_null() {
+            return Ok(None);
+        }
+        Ok(Some(T::decode(alloc, value)?))
     }
 }

@@ -1,15 +1,28 @@
 //! Records: composite types, field by field.
 
-ghost use Rattle.std.specs.Prelude.{IfErr, OnOk, OnErr};
+ghost use Rattle.std.specs.Prelude.{IfErr, OnOk, OnErr, ◌≡◌, ◌+◌, ◌<◌, length, slice_get, Some, None, IfOk, IsErrOf, option_map};
+ghost use Rattle.pgv_types.specs.Facts.{oid_of};
+ghost use Rattle.pgv_text.specs.Values.{record_values, values_of};
+ghost use Rattle.pgv_value.specs.Reading.{Answers};
+ghost use Rattle.pgv_value.specs.declared.error.CodecError.TheVariants.{UnexpectedNull};
 ghost use Rattle.pgv_wire.specs.Image.{field};
+ghost use Rattle.pgv_wire.specs.Left.{left_of, IsInPlace};
 ghost use Rattle.pgv_wire.specs.Outcome.{Refused, Appended, AppendedAll};
 ghost use Rattle.pgv_wire.specs.Record.{IsOpen};
+ghost use Rattle.pgv_wire.specs.Records.{by_own_oid, field_head, field_in, field_type, fields_of, if_oid, is_oid, next, Takes};
 
+use super::number::number_of;
+use super::part::read_part;
 use crate::buffer::PgArgumentBuffer;
-use crate::traits::{Encode, Type};
+use crate::traits::{Decode, Encode, Type};
 use crate::types::array::type_of_value;
 use pgv_buf::Mark;
-use pgv_value::CodecError;
+use pgv_text::record_fields;
+use pgv_types::{Oid, PgType, PgTypeInfo, PgTypeKindRef};
+use pgv_value::{CodecError, PgValueFormat, PgValueRef};
+use std::alloc::Global;
+use std::marker::Model;
+use std::rc::RcStr;
 
 /// Writes a record field by field, at the end of a buffer.
 #[derive(Drop)]
@@ -90,4 +103,207 @@ fn encode_field<T: Encode + Type>(out: &mut PgArgumentBuffer, value: &T) -> Resu
     out.push_type(field_type)?;
     out.encode(value)?;
     Ok(())
+}
+
+/// The OID of the type `record`.
+const RECORD: Oid = Oid(2249);
+
+/// The fields of a record that are left, read one behind the other (PostgreSQL, "Composite Types").
+#[derive(Drop)]
+pub struct PgRecordDecoder<'r> {
+    alloc: Global,
+    left: FieldsLeft<'r>,
+}
+
+impl<'r> Model for PgRecordDecoder<'r> {
+    ghost use Rattle.pgv_wire.specs.Records.{Left, left_code};
+
+    ghost Value = { Left };
+
+    ghost coded = { left_code };
+
+    ghost use Rattle.pgv_wire.specs.Left.{left_of, IsInPlace};
+
+    ghost view = { λ d. left_of d.left };
+
+    ghost invariant = { λ d. IsInPlace d.left };
+}
+
+/// The fields that are left, by the record's format.
+#[derive(Drop)]
+enum FieldsLeft<'r> {
+    Binary(BinaryFields<'r>),
+    Text(TextFields),
+}
+
+/// The record's type, the place of the next field, and the bytes from it on.
+#[derive(Drop)]
+struct BinaryFields<'r> {
+    type_info: PgTypeInfo,
+    place: usize,
+    rest: &'r [u8],
+}
+
+/// The texts of all fields, and the place of the next.
+#[derive(Drop)]
+struct TextFields {
+    parts: Vec<Option<String>>,
+    place: usize,
+}
+
+impl<'r> PgRecordDecoder<'r> {
+    /// The fields of a record. In binary the number of fields is passed over (C15 where it isn't there); a text is
+    /// read whole (C14 where it is not UTF-8, C29 where it is no record text). Null is refused with C13.
+    pub fn new(alloc: Global, value: PgValueRef<'r>) -> Result<Self, CodecError>
+        ensures exact { Answers (λ d. d) (fields_of value.entry.type_info value.entry.format value.entry.bytes) result }
+        ensures null { value.entry.bytes ≡ None → IsErrOf result UnexpectedNull }
+    {
+        let left = match value.format() {
+            PgValueFormat::Text => FieldsLeft::Text(text_fields_of(alloc, value.as_str()?)?),
+            PgValueFormat::Binary => {
+                let (_count, rest) = number_of(value.as_bytes()?)?;
+                FieldsLeft::Binary(BinaryFields {
+                    type_info: value.into_type_info(),
+                    place: 0,
+                    rest,
+                })
+            }
+        };
+        Ok(PgRecordDecoder { alloc, left })
+    }
+
+    /// The next field. Where it is refused the decoder is as before.
+    ///
+    /// In binary: without a byte left, or without a field at this place of a composite type, it is C25, bytes that
+    /// end too early are C15, a field of another OID than that of the composite's field C26, an OID that is no
+    /// built-in type's under `record` C28, a type that is no record C24, and a field's type that isn't compatible
+    /// with `T` C27. In text a field is read without a type, and without a field left it is C25.
+    pub fn try_decode<T: Type + Decode>(&mut self) -> Result<T, CodecError>
+        ensures { Takes T.meaning self.old self.new (next T.accepts T.reading self.old) result }
+    {
+        match &mut self.left {
+            FieldsLeft::Binary(fields) => {
+                let (value, rest) = read_field::<T>(
+                    self.alloc,
+                    &fields.type_info,
+                    fields.place,
+                    fields.rest,
+                )?;
+                fields.rest = rest;
+                fields.place += 1;
+                Ok(value)
+            }
+            FieldsLeft::Text(fields) => {
+                let Some(part) = fields.parts.get(fields.place) else {
+                    return Err(CodecError::NoField(fields.place));
+                };
+                let value = read_part::<T>(self.alloc, PgTypeInfo::with_oid(Oid(0)), part)?;
+                fields.place += 1;
+                Ok(value)
+            }
+        }
+    }
+}
+
+/// The fields of a record text.
+fn text_fields_of(alloc: Global, text: &str) -> Result<TextFields, CodecError>
+    ensures exact { Answers (λ fields. values_of fields.parts) (record_values text.now) result }
+    ensures first { IfOk result (λ fields. fields.place ≡ 0) }
+{
+    match record_fields(alloc, text)? {
+        None => Err(CodecError::Syntax),
+        Some(parts) => Ok(TextFields { parts, place: 0 }),
+    }
+}
+
+/// The type of the field at a place that has this OID.
+fn field_type_of(type_info: &PgTypeInfo, place: usize, oid: Oid) -> Result<PgTypeInfo, CodecError>
+    ensures { Answers (λ t. t) (field_type type_info.now place oid.0) result }
+{
+    match &type_info.0 {
+        PgType::Record => by_own_oid_of(RECORD, oid),
+        PgType::Custom(custom) => match custom.kind() {
+            PgTypeKindRef::Simple => by_own_oid_of(custom.oid(), oid),
+            PgTypeKindRef::Domain(base) => field_type_of(base.as_ref(), place, oid),
+            PgTypeKindRef::Composite(fields) => composite_field(fields, place, oid),
+            _ => Err(CodecError::NotARecord),
+        },
+        _ => Err(CodecError::NotARecord),
+    }
+}
+
+/// The type of a field of a record whose type says nothing of its fields.
+fn by_own_oid_of(own: Oid, oid: Oid) -> Result<PgTypeInfo, CodecError>
+    ensures { Answers (λ t. t) (by_own_oid own.0 oid.0) result }
+{
+    if own != RECORD {
+        return Err(CodecError::NotARecord);
+    }
+    match PgTypeInfo::try_from_oid(oid) {
+        Some(type_info) => Ok(type_info),
+        None => Err(CodecError::FieldTypeUnknown(oid)),
+    }
+}
+
+/// The type of the field at a place of a composite type, if it has this OID.
+fn composite_field(
+    fields: &[(RcStr, PgTypeInfo)],
+    place: usize,
+    oid: Oid,
+) -> Result<PgTypeInfo, CodecError>
+    ensures { Answers (λ t. t) (if_oid (option_map (λ field. field.1) (slice_get fields.now place)) oid.0) result }
+{
+    let Some((_name, type_info)) = fields.get(place) else {
+        return Err(CodecError::NoField(place));
+    };
+    if !has_oid(type_info, oid) {
+        return Err(CodecError::FieldOid);
+    }
+    Ok(type_info.clone()?)
+}
+
+/// Whether a type is known to have this OID.
+fn has_oid(type_info: &PgTypeInfo, oid: Oid) -> bool
+    ensures { result ≡ is_oid (oid_of type_info.now) oid.0 }
+{
+    match type_info.oid() {
+        Some(known) => known == oid,
+        None => false,
+    }
+}
+
+/// The type of the next field, and what stands behind its OID.
+#[tactic(auto, unfolding(crate::specs::Records::field_head))]
+fn field_head_of<'r>(
+    type_info: &PgTypeInfo,
+    place: usize,
+    bytes: &'r [u8],
+) -> Result<(PgTypeInfo, &'r [u8]), CodecError>
+    ensures exact { Answers (λ h. (h.0, h.1.now)) (field_head type_info.now place bytes.now) result }
+    ensures shorter { IfOk result (λ h. length h.1.now + 4 ≡ length bytes.now) }
+{
+    if bytes.is_empty() {
+        return Err(CodecError::NoField(place));
+    }
+    let (oid, rest) = number_of(bytes)?;
+    Ok((field_type_of(type_info, place, Oid(oid))?, rest))
+}
+
+/// The next field in binary, and the bytes behind it.
+fn read_field<'r, T: Type + Decode>(
+    alloc: Global,
+    type_info: &PgTypeInfo,
+    place: usize,
+    bytes: &'r [u8],
+) -> Result<(T, &'r [u8]), CodecError>
+    ensures exact { Answers (λ x. (T.meaning x.0, x.1.now)) (field_in T.accepts T.reading type_info.now place bytes.now) result }
+    ensures shorter { IfOk result (λ x. length x.1.now < length bytes.now) }
+{
+    let (type_info, mut rest) = field_head_of(type_info, place, bytes)?;
+    if !T::compatible(&type_info) {
+        return Err(CodecError::MismatchedTypes);
+    }
+    let part = PgValueRef::get(&mut rest, PgValueFormat::Binary, type_info)?;
+    let value = T::decode(alloc, part)?;
+    Ok((value, rest))
 }

@@ -5,10 +5,10 @@ ghost use Rattle.pgv_wire.specs.Outcome.{Encoded, Refused, Appended};
 ghost use Rattle.pgv_wire.specs.Scalars.{text_image, is_text as is_text_type, is_text_array as is_text_array_type};
 
 use crate::buffer::{IsNull, PgArgumentBuffer};
-use crate::traits::{Encode, PgHasArrayType, Type};
+use crate::traits::{Decode, Encode, PgHasArrayType, Type};
 use pgv_types::{PgType, PgTypeInfo, PgTypeKindRef};
-use pgv_value::CodecError;
-use std::alloc::AllocError;
+use pgv_value::{CodecError, PgValueRef};
+use std::alloc::{AllocError, Global};
 
 /// Appends a text, for a caller's own encoder, as the encoder of `String` does. C1 leaves the buffer as it was.
 pub fn encode_text(text: &str, out: &mut PgArgumentBuffer) -> Result<IsNull, CodecError>
@@ -97,5 +97,23 @@ impl Encode for String {
 
     fn produces(&self) -> Result<Option<PgTypeInfo>, AllocError> {
         Ok(None)
+    }
+}
+
+/// A text (PostgreSQL, "Character Types"), the same in either format: bytes that are UTF-8, else C14. Null is refused
+/// with C13.
+impl Decode for String {
+    ghost use Rattle.std.specs.Prelude.{ℕ, List};
+    ghost use Rattle.std.specs.String.{string_bytes};
+    ghost use Rattle.pgv_value.specs.Scalars.{text_reading};
+
+    ghost Meaning = { List ℕ };
+
+    ghost meaning = { λ text. string_bytes text };
+
+    ghost reading = { text_reading };
+
+    fn decode(alloc: Global, value: PgValueRef<'_>) -> Result<String, CodecError> {
+        Ok(String::from_str(alloc, value.as_str()?)?)
     }
 }

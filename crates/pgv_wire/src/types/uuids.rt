@@ -1,10 +1,15 @@
 //! UUIDs (PostgreSQL, "UUID Type"): their sixteen bytes.
 
+ghost use Rattle.std.specs.Prelude.{◌≡◌, None, IsErrOf};
+ghost use Rattle.pgv_value.specs.Reading.{Answers, AnswersExactly};
+ghost use Rattle.pgv_value.specs.Scalars.{uuid_reading};
+ghost use Rattle.pgv_value.specs.declared.error.CodecError.TheVariants.{UnexpectedNull};
+
 use crate::buffer::{IsNull, PgArgumentBuffer};
-use crate::traits::{Encode, PgHasArrayType, Type};
+use crate::traits::{Decode, Encode, PgHasArrayType, Type};
 use pgv_types::{PgType, PgTypeInfo};
-use pgv_value::CodecError;
-use std::alloc::AllocError;
+use pgv_value::{CodecError, PgValueRef, read_uuid};
+use std::alloc::{AllocError, Global};
 use uuid::Uuid;
 
 impl Type for Uuid {
@@ -62,5 +67,25 @@ impl Encode for Uuid {
 
     fn produces(&self) -> Result<Option<PgTypeInfo>, AllocError> {
         Ok(None)
+    }
+}
+
+/// A UUID (PostgreSQL, "UUID Type"), as [`read_uuid`] reads it.
+impl Decode for Uuid {
+    ghost use Rattle.std.specs.Prelude.{ℕ, List};
+    ghost use Rattle.pgv_value.specs.Scalars.{uuid_reading};
+
+    ghost Meaning = { List ℕ };
+
+    ghost meaning = { λ id. id };
+
+    ghost reading = { uuid_reading };
+
+    fn decode(_alloc: Global, value: PgValueRef<'_>) -> Result<Uuid, CodecError>
+        ensures exact { Answers (λ id. id) (uuid_reading value.entry.type_info value.entry.format value.entry.bytes) result }
+        ensures exactly { AnswersExactly (λ id. id) (uuid_reading value.entry.type_info value.entry.format value.entry.bytes) result }
+        ensures null { value.entry.bytes ≡ None → IsErrOf result UnexpectedNull }
+    {
+        read_uuid(&value)
     }
 }

@@ -2,7 +2,7 @@ use Rattle.std.proofs.Common.{◌≡◌, ◌-◌, map}
 use Rattle.pgv_value.specs.declared.value.PgValueFormat.TheVariants.{Binary}
 use Rattle.pgv_wire.specs.Arrays.{frames}
 use Rattle.pgv_wire.proofs.FrameLoop.{with_front}
-use Rattle.pgv_wire.proofs.decode.array.read_frames.Given as goal
+use Rattle.pgv_wire.proofs.types.array.read_frames.Given as goal
 
 -- what was read and what is left to read are what the bytes hold
 abbrev pub invariant-loop : goal.invariant-loop

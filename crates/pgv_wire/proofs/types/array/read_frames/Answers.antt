@@ -7,7 +7,7 @@ use Rattle.pgv_value.specs.Reading.{Refuses}
 use Rattle.pgv_wire.proofs.Refusing.{Refuses-weaker, Refuses-from}
 use Rattle.pgv_wire.proofs.FewElements.{few_frames}
 use Rattle.pgv_wire.proofs.FrameLoop.{is_done, goes_on, ends_short, ends_unread}
-use Rattle.pgv_wire.proofs.decode.array.read_frames.Goals as goal
+use Rattle.pgv_wire.proofs.types.array.read_frames.Goals as goal
 
 pub returns-in_err-part-clause-exact : goal.returns-in_err-part-clause-exact
 returns-in_err-part-clause-exact g c =

@@ -3,7 +3,7 @@ use Rattle.pgv_types.specs.Parts.{kind_lent}
 use Rattle.pgv_types.specs.Shown.{kind_of, fields_of}
 use Rattle.pgv_types.specs.Ty.{composite}
 use Rattle.pgv_wire.proofs.CompositeFields.{composite_type}
-use Rattle.pgv_wire.proofs.decode.record.+field_type_of.Goals as goal
+use Rattle.pgv_wire.proofs.types.record.+field_type_of.Goals as goal
 
 pub returns-in-Composite : goal.returns-in-Composite
 returns-in-Composite t c =

@@ -7,7 +7,7 @@ use Rattle.pgv_value.specs.declared.value.PgValueFormat.TheVariants.{Text}
 use Rattle.pgv_wire.specs.Arrays.{each}
 use Rattle.pgv_wire.proofs.PartLoop.{parts_split, part_read, part_unread, parts_done}
 use Rattle.pgv_wire.proofs.Refusing.{Refuses-weaker}
-use Rattle.pgv_wire.proofs.decode.array.read_parts.Goals as goal
+use Rattle.pgv_wire.proofs.types.array.read_parts.Goals as goal
 
 pub returns-in_err-read_part : goal.returns-in_err-read_part
 returns-in_err-read_part g c =

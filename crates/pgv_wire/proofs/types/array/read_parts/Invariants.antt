@@ -3,7 +3,7 @@ use Rattle.pgv_text.specs.Values.{part_bytes}
 use Rattle.pgv_value.specs.declared.value.PgValueFormat.TheVariants.{Text}
 use Rattle.pgv_wire.specs.Arrays.{each}
 use Rattle.pgv_wire.proofs.FrameLoop.{with_front}
-use Rattle.pgv_wire.proofs.decode.array.read_parts.Given as goal
+use Rattle.pgv_wire.proofs.types.array.read_parts.Given as goal
 
 -- what was read and what is left to read are what the parts mean
 abbrev pub invariant-loop-part : goal.invariant-loop-part

@@ -2,7 +2,7 @@ use Rattle.std.proofs.Common.{◌≡◌, length, refl, arith}
 use Rattle.std.proofs.lemmas.Grind.{common_steps}
 use Rattle.pgv_wire.specs.Records.{field_head}
 use Rattle.pgv_wire.proofs.Short.{no_number}
-use Rattle.pgv_wire.proofs.decode.record.field_head_of.Goals as goal
+use Rattle.pgv_wire.proofs.types.record.field_head_of.Goals as goal
 
 pub returns-then-is_empty-clause-exact : goal.returns-then-is_empty-clause-exact
 unfolding field_head
