@@ -1,5 +1,5 @@
 -- Slots: which bytes one shows, and all of them.
-use Rattle.std.proofs.Common.{◌≡◌, ℕ, ◌+◌, ◌≤◌, ◌<◌, true, false, cond, suc, zero, List, [], ◌∷◌, ◌++◌, length, take, drop, map, get_or, replicate, refl, sym, ◌∙◌, ap, subst, arith, append_assoc, append-nil, length-append, length-take, length-drop, Vec, Global}
+use Rattle.std.proofs.Common.{◌≡◌, ℕ, ◌+◌, ◌≤◌, ◌<◌, true, false, cond, suc, zero, List, [], ◌∷◌, ◌++◌, length, take, drop, map, get_or, replicate, refl, sym, ◌∙◌, ap, subst, arith, append_assoc, append-nil, length-append, length-take, length-drop}
 use Rattle.std.proofs.lemmas.List.{drop_more, take-map, drop-map, drop-drop, take-append-drop, length-map}
 use Rattle.pgv_types.specs.Ty.{Ty}
 use Rattle.pgv_types.specs.Relations.{softly}
@@ -24,24 +24,6 @@ slot_joined {ts} {b} {ps} {hs} {ks} r d cs fit b' ks' e f =
       slots_are = f ∙ j.slots_are;
       proper = j.proper;
     }
-
-pub chosen_here :
-    (p : Ty) (d : List ℕ) (xs : List (Ty × Vec ℕ Global)) (i : ℕ) (x : Ty × Vec ℕ Global) → i < length xs → x ≡ get_or xs i x → softly x.0 p ≡ true →
-    chosen p d (cases_of (drop i xs)) ≡ chosen p d (cases_of xs) → x.1.items ≡ chosen p d (cases_of xs)
-chosen_here p d xs i x l e s h =
-    let m : drop i xs ≡ x ∷ drop (i + 1) xs = drop_more xs i x l ∙ ap (λ y. y ∷ drop (i + 1) xs) (sym e) in
-    let k : chosen p d (cases_of (x ∷ drop (i + 1) xs)) ≡ chosen p d (cases_of xs) = ap (λ ys. chosen p d (cases_of ys)) (sym m) ∙ h in
-    let n : cond (softly x.0 p) x.1.items (chosen p d (cases_of (drop (i + 1) xs))) ≡ x.1.items = ap (λ b. cond b x.1.items (chosen p d (cases_of (drop (i + 1) xs)))) s in
-    sym n ∙ k
-
-pub chosen_later :
-    (p : Ty) (d : List ℕ) (xs : List (Ty × Vec ℕ Global)) (i : ℕ) (x : Ty × Vec ℕ Global) → i < length xs → x ≡ get_or xs i x → softly x.0 p ≡ false →
-    chosen p d (cases_of (drop i xs)) ≡ chosen p d (cases_of xs) → chosen p d (cases_of (drop (i + 1) xs)) ≡ chosen p d (cases_of xs)
-chosen_later p d xs i x l e s h =
-    let m : drop i xs ≡ x ∷ drop (i + 1) xs = drop_more xs i x l ∙ ap (λ y. y ∷ drop (i + 1) xs) (sym e) in
-    let k : chosen p d (cases_of (x ∷ drop (i + 1) xs)) ≡ chosen p d (cases_of xs) = ap (λ ys. chosen p d (cases_of ys)) (sym m) ∙ h in
-    let n : cond (softly x.0 p) x.1.items (chosen p d (cases_of (drop (i + 1) xs))) ≡ chosen p d (cases_of (drop (i + 1) xs)) = ap (λ b. cond b x.1.items (chosen p d (cases_of (drop (i + 1) xs)))) s in
-    sym n ∙ k
 
 pub chosen_fits : (p : Ty) (d : List ℕ) (cs : List (Ty × List ℕ)) → CasesFit (length d) cs → length (chosen p d cs) ≡ length d
 chosen_fits p d [] h = refl

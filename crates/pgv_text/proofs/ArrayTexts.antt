@@ -17,9 +17,6 @@ plain_pieces (plain c ∷ pieces) e = ap (λ p. plain c ∷ p) (plain_pieces pie
 plain_pieces (escaped c ∷ pieces) e = absurd (false≢true e)
 plain_pieces (quoted items ∷ pieces) e = absurd (false≢true e)
 
-null_bytes : List ℕ
-null_bytes = 78 ∷ 85 ∷ 76 ∷ 76 ∷ []
-
 both : (a b : Bool) → a && b ≡ true → (a ≡ true) × (b ≡ true)
 both true true h = (refl, refl)
 both true false h = absurd (false≢true h)

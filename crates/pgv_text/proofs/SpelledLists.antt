@@ -38,9 +38,6 @@ element_spelt (Some text) spelling u (inl e) = element_of text spelling u (quote
 element_spelt (Some text) spelling u (inr h) = element_of text spelling u (bare_spelt array_form false (chars text) spelling h.0 h.1 (λ f. h.2))
 
 -- fields
-some_pieces : (pieces : List Piece) (text : List ℕ) → pieces ≢ [] → text ≡ encode_utf8_all (text_of pieces) → IsField pieces (Some text)
-some_pieces pieces text n e = (n, e)
-
 field_of : (text spelling : List ℕ) → IsUtf8 text → Spelt record_form true (chars text) spelling → SpeltValue record_form IsField (Some text) spelling
 field_of text spelling u s = record {
   pieces = s.pieces;

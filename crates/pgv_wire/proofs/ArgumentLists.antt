@@ -10,16 +10,24 @@ use Rattle.pgv_buf.specs.Blank.{holes-plain}
 use Rattle.pgv_buf.specs.Marks.{mark_of, between_marks, IsBefore}
 use Rattle.pgv_buf.specs.Fill.{fill_holes, first_number, rest_numbers, fill_slots, slot_types, rest_types}
 use Rattle.pgv_buf.specs.Parse.{width-append, shown-append, first_type}
-use Rattle.pgv_wire.specs.Arguments.{Argument, Framed, all_tokens, types_in, sizes_in, counts_in, framed, write, early, filled_arguments, filled_frame}
+use Rattle.pgv_wire.specs.Arguments.{Argument, Framed, all_tokens, types_in, counts_in, framed, write, early, filled_arguments, filled_frame}
 use Rattle.pgv_wire.specs.Kept.{Stands, arguments_of}
 use Rattle.pgv_wire.specs.History.{told}
 use Rattle.pgv_wire.proofs.Framed.{OfImage, images_more, images_filled, left_more, left_filled}
+use Rattle.pgv_wire.proofs.Split.{split_back}
 
-pub nothing_stands : Stands [] [] [] [] []
-nothing_stands = record { types_are = refl; sizes_are = refl; counts_are = refl; tokens_are = refl; images_are = ([], tt); left_are = (told [], record { arguments_are = refl; as_many_types = refl; as_many_oids = refl }) }
+pub nothing_stands : Stands [] [] [] []
+nothing_stands = record { types_are = refl; counts_are = refl; tokens_are = refl; images_are = ([], tt); left_are = (told [], record { arguments_are = refl; as_many_types = refl; as_many_oids = refl }) }
 
-pub held : {hs : List Ty} {ms : List Mark} {ns : List ℕ} {ts : List Cell} (args : List Argument) → Stands (arguments_of hs ms ts) hs ms ns ts → arguments_of hs ms ts ≡ args → Stands args hs ms ns ts
-held {hs} {ms} {ns} {ts} args s e = subst (λ bs. Stands bs hs ms ns ts) e s
+pub arguments_are : {args : List Argument} {hs : List Ty} {ns : List ℕ} {ts : List Cell} → Stands args hs ns ts → arguments_of hs ts ≡ args
+unfolding arguments_of
+arguments_are {args} s = rw (s.types_are, s.tokens_are) (split_back args s.images_are.0 s.images_are.1)
+
+pub stands : {args : List Argument} {hs : List Ty} {ns : List ℕ} {ts : List Cell} → Stands args hs ns ts → Stands (arguments_of hs ts) hs ns ts
+stands {args} {hs} {ns} {ts} s = subst (λ bs. Stands bs hs ns ts) (sym (arguments_are s)) s
+
+pub held : {hs : List Ty} {ns : List ℕ} {ts : List Cell} (args : List Argument) → Stands (arguments_of hs ts) hs ns ts → arguments_of hs ts ≡ args → Stands args hs ns ts
+held {hs} {ns} {ts} args s e = subst (λ bs. Stands bs hs ns ts) e s
 
 pub hole_count-append : (a c : List Cell) → hole_count (a ++ c) ≡ hole_count a + hole_count c
 hole_count-append [] c = omega arith
@@ -46,10 +54,6 @@ types_in-push : (args : List Argument) (t : Ty) (f : List Cell) → types_in (ar
 types_in-push [] t f = refl
 types_in-push (a ∷ args) t f = ap (λ r. a.0 ∷ r) (types_in-push args t f)
 
-sizes_in-push : (args : List Argument) (t : Ty) (f : List Cell) → sizes_in (args ++ (t, f) ∷ []) ≡ sizes_in args ++ mark_of f ∷ []
-sizes_in-push [] t f = refl
-sizes_in-push (a ∷ args) t f = ap (λ r. mark_of a.1 ∷ r) (sizes_in-push args t f)
-
 all_tokens-push : (args : List Argument) (t : Ty) (f : List Cell) → all_tokens (args ++ (t, f) ∷ []) ≡ all_tokens args ++ f
 all_tokens-push [] t f = append-nil f
 all_tokens-push (a ∷ args) t f = ap (λ r. a.1 ++ r) (all_tokens-push args t f) ∙ sym (append_assoc a.1 (all_tokens args) f)
@@ -59,12 +63,11 @@ counts_in-push [] t f = refl
 counts_in-push (a ∷ args) t f = ap (λ r. slot_count a.1 ∷ r) (counts_in-push args t f)
 
 pub one_more :
-    {args : List Argument} {hs : List Ty} {ms : List Mark} {ns : List ℕ} {ts : List Cell} → Stands args hs ms ns ts → (f : Framed) → OfImage f.1 →
-    (hs' : List Ty) (ms' : List Mark) (ns' : List ℕ) (ts' : List Cell) → hs' ≡ hs ++ f.0 ∷ [] → ms' ≡ ms ++ mark_of (blank f.1) ∷ [] → ns' ≡ ns ++ slot_count (blank f.1) ∷ [] → ts' ≡ ts ++ blank f.1 →
-    Stands (args ++ (f.0, blank f.1) ∷ []) hs' ms' ns' ts'
-one_more {args} {hs} {ms} {ns} {ts} s f i hs' ms' ns' ts' d e k g = record {
+    {args : List Argument} {hs : List Ty} {ns : List ℕ} {ts : List Cell} → Stands args hs ns ts → (f : Framed) → OfImage f.1 →
+    (hs' : List Ty) (ns' : List ℕ) (ts' : List Cell) → hs' ≡ hs ++ f.0 ∷ [] → ns' ≡ ns ++ slot_count (blank f.1) ∷ [] → ts' ≡ ts ++ blank f.1 →
+    Stands (args ++ (f.0, blank f.1) ∷ []) hs' ns' ts'
+one_more {args} s f i hs' ns' ts' d k g = record {
   types_are = d ∙ (ap (λ r. r ++ f.0 ∷ []) s.types_are ∙ sym (types_in-push args f.0 (blank f.1)));
-  sizes_are = e ∙ (ap (λ r. r ++ mark_of (blank f.1) ∷ []) s.sizes_are ∙ sym (sizes_in-push args f.0 (blank f.1)));
   counts_are = k ∙ (ap (λ r. r ++ slot_count (blank f.1) ∷ []) s.counts_are ∙ sym (counts_in-push args f.0 (blank f.1)));
   tokens_are = g ∙ (ap (λ r. r ++ blank f.1) s.tokens_are ∙ sym (all_tokens-push args f.0 (blank f.1)));
   images_are = images_more args f s.images_are i;
@@ -98,12 +101,6 @@ width-filled os (fixed x ∷ a) = ap (λ n. 1 + n) (width-filled os a)
 width-filled os (hole_cell t s ∷ a) = ap (λ n. 4 + n) (width-filled (rest_numbers os) a)
 width-filled os (slot_cell d cs s ∷ a) = ap (λ n. length d + n) (width-filled os a)
 
-hole_count-filled : (os : List Oid) (a : List Cell) → hole_count (fill_holes os a) ≡ hole_count a
-hole_count-filled os [] = refl
-hole_count-filled os (fixed x ∷ a) = hole_count-filled os a
-hole_count-filled os (hole_cell t s ∷ a) = ap (λ n. 1 + n) (hole_count-filled (rest_numbers os) a)
-hole_count-filled os (slot_cell d cs s ∷ a) = hole_count-filled os a
-
 slot_count-filled : (os : List Oid) (a : List Cell) → slot_count (fill_holes os a) ≡ slot_count a
 slot_count-filled os [] = refl
 slot_count-filled os (fixed x ∷ a) = slot_count-filled os a
@@ -116,12 +113,6 @@ width-slots ps (fixed x ∷ a) = ap (λ n. 1 + n) (width-slots ps a)
 width-slots ps (hole_cell t s ∷ a) = ap (λ n. 4 + n) (width-slots ps a)
 width-slots ps (slot_cell d cs s ∷ a) = ap (λ n. length d + n) (width-slots (rest_types ps) a)
 
-hole_count-slots : (ps : List Ty) (a : List Cell) → hole_count (fill_slots ps a) ≡ hole_count a
-hole_count-slots ps [] = refl
-hole_count-slots ps (fixed x ∷ a) = hole_count-slots ps a
-hole_count-slots ps (hole_cell t s ∷ a) = ap (λ n. 1 + n) (hole_count-slots ps a)
-hole_count-slots ps (slot_cell d cs s ∷ a) = hole_count-slots (rest_types ps) a
-
 slot_count-slots : (ps : List Ty) (a : List Cell) → slot_count (fill_slots ps a) ≡ slot_count a
 slot_count-slots ps [] = refl
 slot_count-slots ps (fixed x ∷ a) = slot_count-slots ps a
@@ -131,23 +122,12 @@ slot_count-slots ps (slot_cell d cs s ∷ a) = ap (λ n. 1 + n) (slot_count-slot
 pub width-frame : (p : Ty) (os : List Oid) (a : List Cell) → width (filled_frame p os a) ≡ width a
 width-frame p os a = width-slots (replicate (slot_count a) p) (fill_holes os a) ∙ width-filled os a
 
-hole_count-frame : (p : Ty) (os : List Oid) (a : List Cell) → hole_count (filled_frame p os a) ≡ hole_count a
-hole_count-frame p os a = hole_count-slots (replicate (slot_count a) p) (fill_holes os a) ∙ hole_count-filled os a
-
 slot_count-frame : (p : Ty) (os : List Oid) (a : List Cell) → slot_count (filled_frame p os a) ≡ slot_count a
 slot_count-frame p os a = slot_count-slots (replicate (slot_count a) p) (fill_holes os a) ∙ slot_count-filled os a
 
 types_in-filled : (args : List Argument) (ps : List Ty) (os : List Oid) → types_in (filled_arguments args ps os) ≡ types_in args
 types_in-filled [] ps os = refl
 types_in-filled (a ∷ args) ps os = ap (λ r. a.0 ∷ r) (types_in-filled args (rest_types ps) (drop (hole_count a.1) os))
-
-sizes_in-filled : (args : List Argument) (ps : List Ty) (os : List Oid) → sizes_in (filled_arguments args ps os) ≡ sizes_in args
-sizes_in-filled [] ps os = refl
-sizes_in-filled (a ∷ args) ps os =
-    let p : Ty = first_type ps in
-    let o : List Oid = take (hole_count a.1) os in
-    let e : mark_of (filled_frame p o a.1) ≡ mark_of a.1 = same_mark (width-frame p o a.1) (hole_count-frame p o a.1) (slot_count-frame p o a.1) in
-    ap (λ m. m ∷ sizes_in (filled_arguments args (rest_types ps) (drop (hole_count a.1) os))) e ∙ ap (λ r. mark_of a.1 ∷ r) (sizes_in-filled args (rest_types ps) (drop (hole_count a.1) os))
 
 counts_in-filled : (args : List Argument) (ps : List Ty) (os : List Oid) → counts_in (filled_arguments args ps os) ≡ counts_in args
 counts_in-filled [] ps os = refl
@@ -177,11 +157,10 @@ all_tokens-filled (a ∷ args) (p ∷ ps) os e =
     ∙ ap (λ x. fill_slots (replicate (slot_count a.1) p ++ slot_types ps (counts_in args)) x) (sym (fill_holes-append os a.1 (all_tokens args))))
 
 pub all_filled :
-    {args : List Argument} {hs : List Ty} {ms : List Mark} {ns : List ℕ} {ts : List Cell} → Stands args hs ms ns ts → (ps : List Ty) (os : List Oid) (ts' : List Cell) → length ps ≡ length args → length os ≡ hole_count (all_tokens args) →
-    ts' ≡ fill_slots (slot_types ps ns) (fill_holes os ts) → Stands (filled_arguments args ps os) hs ms ns ts'
-all_filled {args} {hs} {ms} {ns} {ts} s ps os ts' n m e = record {
+    {args : List Argument} {hs : List Ty} {ns : List ℕ} {ts : List Cell} → Stands args hs ns ts → (ps : List Ty) (os : List Oid) (ts' : List Cell) → length ps ≡ length args → length os ≡ hole_count (all_tokens args) →
+    ts' ≡ fill_slots (slot_types ps ns) (fill_holes os ts) → Stands (filled_arguments args ps os) hs ns ts'
+all_filled {args} {hs} {ns} {ts} s ps os ts' n m e = record {
   types_are = s.types_are ∙ sym (types_in-filled args ps os);
-  sizes_are = s.sizes_are ∙ sym (sizes_in-filled args ps os);
   counts_are = s.counts_are ∙ sym (counts_in-filled args ps os);
   tokens_are = e ∙ (ap (λ r. fill_slots (slot_types ps ns) (fill_holes os r)) s.tokens_are ∙ (ap (λ r. fill_slots (slot_types ps r) (fill_holes os (all_tokens args))) s.counts_are ∙ sym (all_tokens-filled args ps os n)));
   images_are = images_filled args ps os s.images_are;

@@ -11,10 +11,6 @@ module _ {M : Type 0} where
   with_front ms None = None
   with_front ms (Some ns) = Some (ms ++ ns)
 
-  pub with_front-nil : (r : Option (List M)) → with_front [] r ≡ r
-  with_front-nil None = refl
-  with_front-nil (Some ns) = refl
-
   pub regroup : (ms : List M) (m : M) (r : Option (List M)) → with_front ms (r >>= λ ns. Some (m ∷ ns)) ≡ with_front (ms ++ m ∷ []) r
   regroup ms m None = refl
   regroup ms m (Some ns) = ap (λ (xs : List M). Some xs) (sym (append_assoc ms (m ∷ []) ns))

@@ -3,7 +3,7 @@
 use Rattle.std.proofs.Common.{◌≡◌, ℕ, ◌+◌, suc, Bool, true, false, cond, List, [], ◌∷◌, ◌++◌, length, drop, take, replicate, Option, Some, None, refl, sym, ◌∙◌, ap, subst, append_assoc, append-nil}
 use Rattle.pgv_types.specs.Ty.{Ty}
 use Rattle.pgv_types.specs.declared.oid.Oid.{Oid}
-use Rattle.pgv_buf.specs.Tokens.{Token, byte, hole, slot, tokens_holes, Cell, fixed, hole_cell, slot_cell, be4, blank, plain, hole_count, slot_count, chosen}
+use Rattle.pgv_buf.specs.Tokens.{width, tokens_width, Token, byte, hole, slot, tokens_holes, Cell, fixed, hole_cell, slot_cell, be4, blank, plain, hole_count, slot_count, chosen}
 use Rattle.pgv_buf.specs.Blank.{plain-append, plain-blank, holes-plain}
 use Rattle.pgv_buf.specs.Fill.{first_number, rest_numbers, fill_holes, fill_slots, rest_types}
 use Rattle.pgv_buf.specs.Parse.{first_type}
@@ -84,6 +84,12 @@ framed-stands a s ps os =
 pub joined-plain : (args : List Argument) → plain (all_tokens args) ≡ joined_frames (framed args)
 joined-plain [] = refl
 joined-plain (a ∷ args) = plain-append a.1 (all_tokens args) ∙ ap (λ (r : List Token). plain a.1 ++ r) (joined-plain args)
+
+pub width-plain : (a : List Cell) → width a ≡ tokens_width (plain a)
+width-plain [] = refl
+width-plain (fixed x ∷ a) = ap (λ n. 1 + n) (width-plain a)
+width-plain (hole_cell t s ∷ a) = ap (λ n. 4 + n) (width-plain a)
+width-plain (slot_cell d cs s ∷ a) = ap (λ n. length d + n) (width-plain a)
 
 -- ---- what a filling and later additions leave
 

@@ -18,12 +18,6 @@ image_frame h i ts l e w = rw e (grind (arith, nat_tests))
 pub long_frame : (h : ℕ) (i : Option Image) (ts : List Token) → i ≡ Some (image_of ts) → 2147483647 < tokens_width ts → frame h i ≡ None
 long_frame h i ts e w = rw e (grind (arith, nat_tests))
 
-pub hint_frame : (h : ℕ) (i : Option Image) → 2147483647 < h → frame h i ≡ None
-hint_frame h i l = grind (arith, nat_tests)
-
-pub no_image_frame : (h : ℕ) (i : Option Image) → i ≡ None → frame h i ≡ None
-no_image_frame h i e = rw e (grind (arith, nat_tests))
-
 pub encoded_null : {n : IsNull} {i : Option Image} (was now : List Cell) → n ≡ Yes → Encoded n i was now → (i ≡ Some null_image) × (now ≡ was)
 encoded_null {n} {i} was now e h = subst (λ m. Encoded m i was now) e h
 

@@ -1,5 +1,5 @@
 -- What any list of calls leaves.
-use Rattle.std.proofs.Common.{◌≡◌, ℕ, List, [], ◌∷◌, ◌++◌, take, drop, refl, sym, ◌∙◌, ap, subst, length, ◌+◌, append_assoc, append-nil}
+use Rattle.std.proofs.Common.{◌≡◌, ℕ, List, [], ◌∷◌, ◌++◌, take, drop, refl, sym, ◌∙◌, ap, subst, append_assoc, append-nil}
 use Rattle.pgv_types.specs.Ty.{Ty}
 use Rattle.pgv_types.specs.declared.oid.Oid.{Oid}
 use Rattle.pgv_buf.specs.Tokens.{Cell, bytes, tokens_width, fixed, hole_cell, slot_cell, blank, plain, shown, width, hole_types_of, hole_count}
@@ -8,7 +8,7 @@ use Rattle.pgv_buf.specs.Fill.{rest_types}
 use Rattle.pgv_wire.specs.Arguments.{Argument, Framed, framed, all_tokens, types_in, early, filled_arguments}
 use Rattle.pgv_wire.specs.History.{LeftBySome, WrittenAtOnce, left_by, with_added, with_filled, Call, adds, fills, is_refused, blanks, after, Told, told_by, told, bytes_by, added_in, joined_frames, framed_types, holes_in, lengths_in, ArePlain, joined_bytes}
 use Rattle.pgv_wire.proofs.ArgumentLists.{late_is_early, width-frame}
-use Rattle.pgv_wire.proofs.Framed.{framed-filled, framed-blanks, framed-append, arguments-same, joined-plain, left-added, left-filled, framed-left}
+use Rattle.pgv_wire.proofs.Framed.{width-plain, framed-filled, framed-blanks, framed-append, arguments-same, joined-plain, left-added, left-filled, framed-left}
 
 -- a second filling answers as if it were the only one
 pub filled_over : (args : List Argument) (ps ps' : List Ty) (os os' : List Oid) → filled_arguments (filled_arguments args ps os) ps' os' ≡ filled_arguments args ps' os'
@@ -66,12 +66,6 @@ holes_in-plain [] = refl
 holes_in-plain (fixed x ∷ a) = holes_in-plain a
 holes_in-plain (hole_cell t s ∷ a) = ap (λ (r : List Ty). t ∷ r) (holes_in-plain a)
 holes_in-plain (slot_cell d cs s ∷ a) = holes_in-plain a
-
-pub width-plain : (a : List Cell) → width a ≡ tokens_width (plain a)
-width-plain [] = refl
-width-plain (fixed x ∷ a) = ap (λ n. 1 + n) (width-plain a)
-width-plain (hole_cell t s ∷ a) = ap (λ n. 4 + n) (width-plain a)
-width-plain (slot_cell d cs s ∷ a) = ap (λ n. length d + n) (width-plain a)
 
 types-framed : (args : List Argument) → types_in args ≡ framed_types (framed args)
 types-framed [] = refl

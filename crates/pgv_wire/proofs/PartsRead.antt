@@ -1,46 +1,21 @@
 -- The frames of arguments, read one behind the other.
-use Rattle.std.proofs.Common.{◌≡◌, ℕ, ◌≤◌, nat_le, Bool, true, false, suc, cond, arith, List, [], ◌∷◌, ◌++◌, length, take, drop, Some, None, refl, sym, ◌∙◌, ap, subst}
-use Rattle.std.proofs.lemmas.Bool.{leb-true}
+use Rattle.std.proofs.Common.{◌≡◌, ℕ, suc, arith, List, [], ◌∷◌, ◌++◌, length, take, drop, Some, None, refl, sym, ◌∙◌, ap, subst}
 use Rattle.std.specs.Int.{w32, to_be_bytes}
 use Rattle.pgv_types.specs.Ty.{Ty}
 use Rattle.pgv_types.specs.declared.oid.Oid.{Oid}
 use Rattle.pgv_buf.specs.Fill.{rest_types}
 use Rattle.pgv_buf.specs.Blank.{holes-plain}
 use Rattle.pgv_buf.specs.Parse.{Proper, first_type, shown-append, length-shown}
-use Rattle.pgv_buf.specs.Tokens.{Token, bytes, be4, tokens_width, tokens_holes, Cell, fixed, hole_cell, slot_cell, fixed_bytes, plain, shown, hole_count, slot_count}
+use Rattle.pgv_buf.specs.Tokens.{Token, bytes, be4, tokens_width, tokens_holes, Cell, fixed, hole_cell, slot_cell, plain, shown, hole_count, slot_count}
 use Rattle.pgv_value.specs.Frame.{Part, front}
 use Rattle.pgv_value.proofs.Fronts.{frame_in_front}
 use Rattle.pgv_wire.specs.Arguments.{Argument, Framed, framed, all_tokens, write, filled_frame, filled_arguments}
 use Rattle.pgv_wire.specs.Image.{Image, null_image, image_of, frame_of}
 use Rattle.pgv_wire.specs.Parts.{ReadAs, AreFrames, OfImages, AllRead, part_in, parts_in, written_part, image_holes, written_parts}
 use Rattle.pgv_wire.proofs.ArgumentLists.{shown-frame}
-use Rattle.pgv_wire.proofs.Histories.{shown_plain, width-plain}
-
--- cells whose tokens begin with bytes begin with these
-record Behind (xs : List ℕ) (ts : List Token) (c : List Cell) : Type 0 where
-  cells : List Cell
-  whole : c ≡ fixed_bytes xs ++ cells
-  tokens : plain cells ≡ ts
-
-behind_bytes : (xs : List ℕ) (ts : List Token) (c : List Cell) → plain c ≡ bytes xs ++ ts → Behind xs ts c
-behind_bytes [] ts c e = record { cells = c; whole = refl; tokens = e }
-behind_bytes (x ∷ xs) ts [] e = absurd cc
-behind_bytes (x ∷ xs) ts (fixed y ∷ c) e =
-    let head : y ≡ x = cc in
-    let tail : plain c ≡ bytes xs ++ ts = cc in
-    let b = behind_bytes xs ts c tail in
-    record {
-      cells = b.cells;
-      whole = ap (λ n. fixed n ∷ c) head ∙ ap (λ (r : List Cell). fixed x ∷ r) b.whole;
-      tokens = b.tokens;
-    }
-behind_bytes (x ∷ xs) ts (hole_cell t s ∷ c) e = absurd cc
-behind_bytes (x ∷ xs) ts (slot_cell d cs s ∷ c) e = absurd cc
-
--- the image's width is small enough, and its frame is its width and its tokens
-cut : (ts us : List Token) (b : Bool) → nat_le (tokens_width ts) 2147483647 ≡ b → cond b (Some (bytes (be4 (tokens_width ts)) ++ ts)) None ≡ Some us → (tokens_width ts ≤ 2147483647) × (us ≡ bytes (be4 (tokens_width ts)) ++ ts)
-cut ts us true e f = (leb-true (tokens_width ts) 2147483647 e, cc)
-cut ts us false e f = absurd cc
+use Rattle.pgv_wire.proofs.Framed.{width-plain}
+use Rattle.pgv_wire.proofs.Histories.{shown_plain}
+use Rattle.pgv_wire.proofs.Split.{behind_bytes, cut}
 
 -- one frame is found in front
 frame_found : (i : Image) (c : List Cell) (rest : List ℕ) → frame_of (Some i) ≡ Some (plain c) → Proper c → front (shown c ++ rest) ≡ Some (part_in i c, rest)

@@ -3,20 +3,12 @@
 use Rattle.std.specs.Prelude.{◌≡◌, ℕ, List, [], ◌∷◌, ◌++◌, take, drop, replicate, Option, Some}
 use Rattle.pgv_types.specs.Ty.{Ty}
 use Rattle.pgv_types.specs.declared.oid.Oid.{Oid}
-use Rattle.pgv_buf.specs.declared.Mark.{Mark}
 use Rattle.pgv_buf.specs.Tokens.{Token, byte, hole, slot, tokens_holes, Cell, be4, blank, plain, hole_count, slot_count, chosen}
-use Rattle.pgv_buf.specs.Marks.{mark_of}
 use Rattle.pgv_buf.specs.Fill.{first_number, rest_numbers, fill_holes, fill_slots, rest_types}
 use Rattle.pgv_buf.specs.Parse.{first_type}
 
 abbrev pub Argument : Type 0
 Argument = Ty × List Cell
-
-abbrev pub frame_in : Argument → List Cell
-frame_in a = a.1
-
-abbrev pub type_in : Argument → Ty
-type_in a = a.0
 
 abbrev pub all_tokens : List Argument → List Cell
 all_tokens [] = []
@@ -25,10 +17,6 @@ all_tokens (a ∷ args) = a.1 ++ all_tokens args
 abbrev pub types_in : List Argument → List Ty
 types_in [] = []
 types_in (a ∷ args) = a.0 ∷ types_in args
-
-abbrev pub sizes_in : List Argument → List Mark
-sizes_in [] = []
-sizes_in (a ∷ args) = mark_of a.1 ∷ sizes_in args
 
 abbrev pub counts_in : List Argument → List ℕ
 counts_in [] = []

@@ -13,7 +13,6 @@ ghost use Rattle.pgv_wire.specs.Parts.{OfImages};
 use crate::buffer::PgArgumentBuffer;
 use crate::traits::{Encode, Type};
 use crate::types::array::type_of_value;
-use pgv_buf::Mark;
 use pgv_types::{Oid, PgTypeInfo};
 use pgv_value::CodecError;
 use std::alloc::{AllocError, Global};
@@ -28,7 +27,6 @@ use std::marker::Model;
 pub struct PgArguments {
     buffer: PgArgumentBuffer,
     types: Vec<PgTypeInfo>,
-    sizes: Vec<Mark>,
     counts: Vec<usize>,
 }
 
@@ -58,7 +56,6 @@ impl PgArguments {
         PgArguments {
             buffer: PgArgumentBuffer::new(alloc),
             types: Vec::new(alloc),
-            sizes: Vec::new(alloc),
             counts: Vec::new(alloc),
         }
     }
@@ -69,7 +66,6 @@ impl PgArguments {
         ensures err { IfErr result (λ e. e ≡ Memory) }
     {
         self.types.reserve(additional)?;
-        self.sizes.reserve(additional)?;
         self.counts.reserve(additional)?;
         self.buffer.reserve(size)?;
         Ok(())
@@ -110,7 +106,6 @@ impl PgArguments {
         ensures unchanged { OnErr result (self.new ≡ self.old) }
     {
         self.types.reserve(1)?;
-        self.sizes.reserve(1)?;
         self.counts.reserve(1)?;
         let argument_type = type_of_value(value)?;
         let mark = self.buffer.mark();
@@ -120,7 +115,6 @@ impl PgArguments {
         }
         let size = self.buffer.mark().since(mark);
         self.types.push(argument_type)?;
-        self.sizes.push(size)?;
         self.counts.push(size.slots())?;
         Ok(())
     }
@@ -211,7 +205,6 @@ impl Clone for PgArguments {
         Ok(PgArguments {
             buffer: self.buffer.clone()?,
             types: self.types.clone()?,
-            sizes: self.sizes.clone()?,
             counts: self.counts.clone()?,
         })
     }

@@ -29,11 +29,6 @@ pub shorter : (text : List ℕ) → size_left (behind 32 text) ≤ length text
 shorter [] = omega arith
 shorter (c ∷ cs) = shorter_at c cs (c == 32) refl (shorter cs)
 
--- nothing has been read yet
-pub none_yet : (rest : Option (List Oid)) → option_map (λ os. [] ++ os) rest ≡ rest
-none_yet None = refl
-none_yet (Some os) = refl
-
 put_first : (done : List Oid) (oid : Oid) (rest : Option (List Oid)) → option_map (λ os. (done ++ oid ∷ []) ++ os) rest ≡ option_map (λ os. done ++ os) (with_first (Some oid) rest)
 put_first done oid None = refl
 put_first done oid (Some os) = ap (λ (l : List Oid). Some l) (append_assoc done (oid ∷ []) os)

@@ -2,8 +2,7 @@ use Rattle.std.proofs.Common.{ℕ, List, ◌∙◌, sym, ap, length, sum}
 use Rattle.pgv_buf.specs.Tokens.{hole_count, slot_count, shown}
 use Rattle.pgv_buf.specs.Fill.{fill_slots, fill_holes, slot_types}
 use Rattle.pgv_wire.specs.Arguments.{all_tokens}
-use Rattle.pgv_wire.specs.Kept.{stands, arguments_are}
-use Rattle.pgv_wire.proofs.ArgumentLists.{held, all_filled, late_is_early, length-counts_in, sum-counts_in}
+use Rattle.pgv_wire.proofs.ArgumentLists.{stands, arguments_are, held, all_filled, late_is_early, length-counts_in, sum-counts_in}
 use Rattle.pgv_wire.proofs.arguments.PgArguments.apply_patches.Goals as goal
 
 pub fill-requires-clause-arguments : goal.fill-requires-clause-arguments

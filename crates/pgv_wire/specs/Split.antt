@@ -1,0 +1,29 @@
+-- Frames one behind the other, told apart by the lengths that they begin with.
+use Rattle.std.specs.Prelude.{ℕ, ◌+◌, ◌-◌, nat_le, nat_eq, cond, List, [], ◌∷◌, take}
+use Rattle.std.specs.Int.{w32, from_be_bytes}
+use Rattle.pgv_types.specs.Ty.{Ty}
+use Rattle.pgv_buf.specs.Tokens.{Cell, cell_width, shown}
+use Rattle.pgv_wire.specs.Arguments.{Argument}
+
+-- the cells in front that are so many bytes, and then those without bytes
+abbrev pub as_wide : ℕ → List Cell → List Cell
+as_wide w [] = []
+as_wide w (t ∷ ts) = cond (nat_le (cell_width t) w) (t ∷ as_wide (w - cell_width t) ts) []
+
+-- what stands behind these
+abbrev pub behind_wide : ℕ → List Cell → List Cell
+behind_wide w [] = []
+behind_wide w (t ∷ ts) = cond (nat_le (cell_width t) w) (behind_wide (w - cell_width t) ts) (t ∷ ts)
+
+-- a frame's bytes: four for its length, and as many as this says; the length -1 is null's
+abbrev pub bytes_by_length : ℕ → ℕ
+bytes_by_length n = cond (nat_eq n 4294967295) 4 (4 + n)
+
+-- the bytes of the frame in front
+abbrev pub frame_width : List Cell → ℕ
+frame_width ts = bytes_by_length (from_be_bytes w32 (shown (take 4 ts)))
+
+-- so many frames, each with its type
+abbrev pub split : List Ty → List Cell → List Argument
+split [] ts = []
+split (t ∷ hs) ts = (t, as_wide (frame_width ts) ts) ∷ split hs (behind_wide (frame_width ts) ts)
