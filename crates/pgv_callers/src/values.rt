@@ -1,7 +1,7 @@
 //! Values of a caller's own types: what a crate above the codec writes to have them written.
 //!
-//! Each type says in `Type` which type of PostgreSQL it stands for, in `PgHasArrayType` which arrays are made of it, and in
-//! `Encode` what a value is written as; the bodies need no proof by hand.
+//! Each type says in `Type` which type of PostgreSQL it stands for, in `PgHasArrayType` which arrays are made of it, and
+//! in `Encode` what a value is written as; the bodies need no proof by hand.
 
 ghost use Rattle.std.specs.Prelude.{◌≡◌, ◌++◌, [], ◌∷◌, OnOk, IfErr};
 ghost use Rattle.pgv_types.specs.Ty.{builtin};
