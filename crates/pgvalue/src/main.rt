@@ -3,8 +3,6 @@
 
 mod laws;
 mod line;
-#[cfg(test)]
-mod rows;
 mod run;
 mod session;
 #[cfg(test)]

@@ -1,6 +1,6 @@
 //! Records of a PostgreSQL server, read in both formats and written again.
 
-use crate::rows::composites::Entry;
+use crate::composites::Pair;
 use crate::rows::server::RECORDS;
 use pgv_types::{Oid, PgType, PgTypeInfo, PgTypeKind};
 use pgv_wire::{
@@ -53,7 +53,7 @@ fn field_again(
         "uuid" => written_again::<Uuid>(alloc, fields),
         "int4[]" => written_again::<Vec<Option<i32>>>(alloc, fields),
         "text[]" => written_again::<Vec<Option<String>>>(alloc, fields),
-        "(int4,text)" => written_again::<Entry>(alloc, fields),
+        "(int4,text)" => written_again::<Pair<Option<i32>, Option<String>>>(alloc, fields),
         _ => Err(CodecError::MismatchedTypes),
     }
 }

@@ -1,6 +1,9 @@
-//! Composite types of a caller.
+//! Composite types of a caller, which are written as records, field by field.
+//!
+//! Each `encode_by_ref` has one answer in `proofs/composites/`, with one `more_fields` for each field. A record whose
+//! fields may be null is read by the reader of the tuple of its fields.
 
-use crate::rows::callers::Mood;
+use crate::values::Mood;
 use pgv_types::{PgType, PgTypeInfo};
 use pgv_wire::{
     CodecError, Decode, Encode, IsNull, PgArgumentBuffer, PgRecordEncoder, PgValueRef, Type,
@@ -10,7 +13,9 @@ use std::alloc::{AllocError, Global};
 /// A number and a mood.
 #[derive(Drop)]
 pub struct Person {
+    /// The first field, an `int4`.
     pub id: i32,
+    /// The second field, of a type without an OID.
     pub mood: Mood,
 }
 
@@ -65,7 +70,9 @@ impl Encode for Person {
 /// A number and moods: the type of the elements has no OID, and neither has that of their array.
 #[derive(Drop)]
 pub struct Household {
-    pub id: i32,
+    /// The first field, an `int4`.
+    pub number: i32,
+    /// The second field, an array.
     pub moods: Vec<Mood>,
 }
 
@@ -92,7 +99,7 @@ impl Encode for Household {
     ghost use Rattle.pgv_wire.specs.Image.{field, record_image};
 
     ghost image = { λ v. record_image (
-        field ⟦<i32 as Encode>⟧.hint ⟦<i32 as Encode>⟧.image ⟦<i32 as Encode>⟧.produced ⟦<i32 as Type>⟧.info v.id
+        field ⟦<i32 as Encode>⟧.hint ⟦<i32 as Encode>⟧.image ⟦<i32 as Encode>⟧.produced ⟦<i32 as Type>⟧.info v.number
         ∷ field ⟦<Vec<Mood> as Encode>⟧.hint ⟦<Vec<Mood> as Encode>⟧.image ⟦<Vec<Mood> as Encode>⟧.produced ⟦<Vec<Mood> as Type>⟧.info v.moods
         ∷ []) };
 
@@ -102,7 +109,7 @@ impl Encode for Household {
 
     fn encode_by_ref(&self, out: &mut PgArgumentBuffer) -> Result<IsNull, CodecError> {
         let mut record = PgRecordEncoder::new(out)?;
-        record.encode(&self.id)?;
+        record.encode(&self.number)?;
         record.encode(&self.moods)?;
         record.finish();
         Ok(IsNull::No)
@@ -117,14 +124,16 @@ impl Encode for Household {
     }
 }
 
-/// A number and a text, each of which may be null: read from a record, and written as one.
+/// A record of two fields of any types.
 #[derive(Drop)]
-pub struct Entry {
-    pub id: Option<i32>,
-    pub label: Option<String>,
+pub struct Pair<A, B> {
+    /// The first field.
+    pub first: A,
+    /// The second field.
+    pub second: B,
 }
 
-impl Type for Entry {
+impl<A, B> Type for Pair<A, B> {
     ghost use Rattle.pgv_types.specs.Ty.{builtin};
     ghost use Rattle.pgv_types.specs.Relations.{softly};
 
@@ -141,14 +150,11 @@ impl Type for Entry {
     }
 }
 
-impl Encode for Entry {
+impl<A: Encode + Type, B: Encode + Type> Encode for Pair<A, B> {
     ghost use Rattle.std.specs.Prelude.{None, [], ◌∷◌};
     ghost use Rattle.pgv_wire.specs.Image.{field, record_image};
 
-    ghost image = { λ v. record_image (
-        field ⟦<Option<i32> as Encode>⟧.hint ⟦<Option<i32> as Encode>⟧.image ⟦<Option<i32> as Encode>⟧.produced ⟦<Option<i32> as Type>⟧.info v.id
-        ∷ field ⟦<Option<String> as Encode>⟧.hint ⟦<Option<String> as Encode>⟧.image ⟦<Option<String> as Encode>⟧.produced ⟦<Option<String> as Type>⟧.info v.label
-        ∷ []) };
+    ghost image = { λ v. record_image (field A.hint A.image A.produced A.info v.first ∷ field B.hint B.image B.produced B.info v.second ∷ []) };
 
     ghost hint = { λ _. 0 };
 
@@ -156,8 +162,8 @@ impl Encode for Entry {
 
     fn encode_by_ref(&self, out: &mut PgArgumentBuffer) -> Result<IsNull, CodecError> {
         let mut record = PgRecordEncoder::new(out)?;
-        record.encode(&self.id)?;
-        record.encode(&self.label)?;
+        record.encode(&self.first)?;
+        record.encode(&self.second)?;
         record.finish();
         Ok(IsNull::No)
     }
@@ -171,15 +177,15 @@ impl Encode for Entry {
     }
 }
 
-impl Decode for Entry {
-    ghost Meaning = { ⟦<(Option<i32>, Option<String>) as Decode>⟧.Meaning };
+impl<A: Type + Decode, B: Type + Decode> Decode for Pair<A, B> {
+    ghost Meaning = { ⟦<(A, B) as Decode>⟧.Meaning };
 
-    ghost meaning = { λ v. ⟦<(Option<i32>, Option<String>) as Decode>⟧.meaning (v.id, v.label) };
+    ghost meaning = { λ v. ⟦<(A, B) as Decode>⟧.meaning (v.first, v.second) };
 
-    ghost reading = { ⟦<(Option<i32>, Option<String>) as Decode>⟧.reading };
+    ghost reading = { ⟦<(A, B) as Decode>⟧.reading };
 
-    fn decode(alloc: Global, value: PgValueRef<'_>) -> Result<Entry, CodecError> {
-        let (id, label) = <(Option<i32>, Option<String>) as Decode>::decode(alloc, value)?;
-        Ok(Entry { id, label })
+    fn decode(alloc: Global, value: PgValueRef<'_>) -> Result<Pair<A, B>, CodecError> {
+        let (first, second) = <(A, B) as Decode>::decode(alloc, value)?;
+        Ok(Pair { first, second })
     }
 }

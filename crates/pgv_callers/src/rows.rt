@@ -1,12 +1,10 @@
 //! What arguments, buffers and records hold, with values of a caller's own types.
 
-mod callers;
-mod composites;
 mod records;
 mod server;
 
-use callers::{ButThree, EmptyObject, Huge, Mood, MoodText, Refusing, Size};
-use composites::{Household, Person};
+use crate::composites::{Household, Person};
+use crate::values::{ButThree, EmptyObject, Huge, Mood, MoodText, Refusing, Size};
 use pgv_types::{Oid, PgType, PgTypeInfo};
 use pgv_wire::{
     CodecError, Decode, PgArgumentBuffer, PgArguments, PgRecordEncoder, PgValueFormat, PgValueRef,
@@ -252,7 +250,7 @@ fn records_of_callers(rt: HostRuntime) -> Result<(), CodecError> {
     )?;
     let mut arguments = PgArguments::new(alloc);
     arguments.add(Household {
-        id: 1,
+        number: 1,
         moods: moods(alloc)?,
     })?;
     check_names(&rt, alloc, arguments.hole_types(), "mood[] mood ")?;

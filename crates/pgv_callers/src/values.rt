@@ -1,4 +1,7 @@
-//! Types of a caller: what a crate above the codec writes to have its own types written.
+//! Values of a caller's own types: what a crate above the codec writes to have them written.
+//!
+//! Each type says in `Type` which type of PostgreSQL it stands for, in `PgHasArrayType` which arrays are made of it, and
+//! in `Encode` what a value is written as; the bodies need no proof by hand.
 
 ghost use Rattle.std.specs.Prelude.{◌≡◌, ◌++◌, [], ◌∷◌, OnOk, IfErr};
 ghost use Rattle.pgv_types.specs.Ty.{builtin};
@@ -12,6 +15,7 @@ use std::alloc::{AllocError, Global};
 /// A label of a type that is known by its name alone.
 #[derive(Drop)]
 pub struct Mood {
+    /// The label, which is what is written.
     pub label: String,
 }
 
@@ -98,6 +102,7 @@ fn push_version(alloc: Global, out: &mut PgArgumentBuffer) -> Result<(), CodecEr
 /// An empty object, of `json` or of `jsonb`.
 #[derive(Drop)]
 pub struct EmptyObject {
+    /// What the cases of its slot are allocated by.
     pub alloc: Global,
 }
 
@@ -145,10 +150,12 @@ impl Encode for EmptyObject {
     }
 }
 
-/// One byte, of a type that is known by its name alone. Zero is refused with C38, behind a byte, a hole and a slot.
+/// One byte, of a type that is known by its name alone. Zero is refused with C38(38), behind a byte, a hole and a slot.
 #[derive(Drop)]
 pub struct Size {
+    /// What the cases of its slot are allocated by.
     pub alloc: Global,
+    /// The byte that is written.
     pub number: i8,
 }
 
@@ -219,7 +226,7 @@ impl Encode for Size {
     }
 }
 
-/// Nothing that could be written: refused with C38 behind a byte.
+/// Nothing that could be written: refused with C38(1) behind a byte.
 #[derive(Drop)]
 pub struct Refusing;
 
@@ -312,6 +319,7 @@ impl Encode for Huge {
 /// A mood among texts: the type is `text`, and each value is a `mood`.
 #[derive(Drop)]
 pub struct MoodText {
+    /// The mood, which says what is written.
     pub mood: Mood,
 }
 
@@ -373,9 +381,10 @@ impl Encode for MoodText {
     }
 }
 
-/// A number as `i32` is, but 3 is refused with C38 behind a byte.
+/// A number as `i32` is, but 3 is refused with C38(1) behind a byte.
 #[derive(Drop)]
 pub struct ButThree {
+    /// The number that is written.
     pub number: i32,
 }
 
