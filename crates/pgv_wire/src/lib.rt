@@ -9,7 +9,8 @@
 //!
 //! # A composite type of one's own
 //!
-//! A caller's record writes its fields by a [`PgRecordEncoder`]; each goes by reference.
+//! A caller's record writes its fields by a [`PgRecordEncoder`]; each goes by reference. The crate `pgv_callers` has such
+//! records, and other types of callers, with their proofs.
 //!
 //! ```text
 //! impl Encode for Person {
