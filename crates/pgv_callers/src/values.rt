@@ -3,7 +3,7 @@
 //! Each type says in `Type` which type of PostgreSQL it stands for, in `PgHasArrayType` which arrays are made of it, and
 //! in `Encode` what a value is written as; the bodies need no proof by hand.
 
-ghost use Rattle.std.specs.Prelude.{◌≡◌, ◌++◌, [], ◌∷◌, OnOk, IfErr};
+ghost use Rattle.std.specs.Prelude.{◌≡◌, ◌++◌, [], ◌∷◌, OnOk, IfOk, IfErr, codes, string_bytes};
 ghost use Rattle.pgv_types.specs.Ty.{builtin};
 ghost use Rattle.pgv_buf.specs.Tokens.{blank, slot};
 ghost use Rattle.pgv_value.specs.declared.error.CodecError.TheVariants.{Memory};
@@ -20,8 +20,11 @@ pub struct Mood {
 }
 
 impl Mood {
-    /// The mood `ok`.
-    pub fn ok(alloc: Global) -> Result<Mood, CodecError> {
+    /// The mood `ok`. C1 where there is no memory for its label.
+    pub fn ok(alloc: Global) -> Result<Mood, CodecError>
+        ensures ok { IfOk result (λ mood. string_bytes mood.label ≡ codes "ok") }
+        ensures err { IfErr result (λ e. e ≡ Memory) }
+    {
         Ok(Mood {
             label: String::from_str(alloc, "ok")?,
         })

@@ -1,8 +1,7 @@
-use Rattle.std.proofs.Common.{rules, ◌≡◌, sym, ◌∙◌}
+use Rattle.std.proofs.Common.{rules}
 use Rattle.pgv_wire.specs.Fields.{no_fields, more_fields, all_fields}
 use Rattle.pgv_callers.proofs.composites.PairEncode.encode_by_ref.Goals as goal
 
 pub returns-clause-ok : goal.returns-clause-ok
 returns-clause-ok g c =
-    let same : c.finish.new.self.0 ≡ c.out-2-1.given.0 = search rules in
-    all_fields (more_fields _ (more_fields _ (no_fields c.in_ok-record.ensures.begun) c.in_ok-encode.ensures.ok) c.in_ok-encode-2.ensures.ok) (sym same ∙ c.finish.ensures)
+    all_fields (more_fields _ (more_fields _ (no_fields c.in_ok-record.ensures.begun) c.in_ok-encode.ensures.ok) c.in_ok-encode-2.ensures.ok) (search (rules, c.finish.ensures))
