@@ -3,12 +3,11 @@ use Rattle.std.proofs.Common.{◌≡◌, ℕ, ◌+◌, ◌≤◌, ◌<◌, true,
 use Rattle.std.proofs.lemmas.List.{drop_more, take-map, drop-map, drop-drop, take-append-drop, length-map}
 use Rattle.pgv_types.specs.Ty.{Ty}
 use Rattle.pgv_types.specs.Relations.{softly}
-use Rattle.pgv_types.specs.declared.oid.Oid.{Oid}
-use Rattle.pgv_buf.specs.Tokens.{Cell, fixed, hole_cell, slot_cell, chosen, CasesFit, shown, width, new_slot, slot_count, hole_types_of}
+use Rattle.pgv_buf.specs.Tokens.{Cell, fixed, hole_cell, slot_cell, chosen, CasesFit, shown, width, new_slot, hole_types_of}
 use Rattle.pgv_buf.specs.Shown.{cases_of, kept_of}
 use Rattle.pgv_buf.specs.declared.fill.Slot.{Slot}
 use Rattle.pgv_buf.specs.Parse.{Kept, Represents, Proper, joined, first_type, kept_slots, hole_places}
-use Rattle.pgv_buf.specs.Fill.{fill_holes, rest_numbers, put, written_slots, SlotsWithin, fill_slots, rest_types, slot_types}
+use Rattle.pgv_buf.specs.Fill.{put, written_slots, SlotsWithin, fill_slots, rest_types, slot_types}
 use Rattle.pgv_buf.proofs.Writes.{put_at}
 
 pub slot_joined :
@@ -169,9 +168,3 @@ slots_within n i [] p h = tt
 slots_within n i (fixed x ∷ ts) p h = slots_within n (i + 1) ts p (omega arith)
 slots_within n i (hole_cell t s ∷ ts) p h = slots_within n (i + 4) ts p.1 (omega arith)
 slots_within n i (slot_cell d cs s ∷ ts) p h = (omega arith, p.1, slots_within n (i + length d) ts p.2 (omega arith))
-
-pub filled_hole_slot_count : (os : List Oid) (ts : List Cell) → slot_count (fill_holes os ts) ≡ slot_count ts
-filled_hole_slot_count os [] = refl
-filled_hole_slot_count os (fixed x ∷ ts) = filled_hole_slot_count os ts
-filled_hole_slot_count os (hole_cell t s ∷ ts) = filled_hole_slot_count (rest_numbers os) ts
-filled_hole_slot_count os (slot_cell d cs s ∷ ts) = ap (λ n. 1 + n) (filled_hole_slot_count os ts)

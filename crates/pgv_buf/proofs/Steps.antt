@@ -59,9 +59,6 @@ hole_joined {ts} {b} {ps} {hs} {ks} r t b' ps' hs' e f g =
       proper = j.proper;
     }
 
-pub same_mark : {a b c a' b' c' : ℕ} → a ≡ a' → b ≡ b' → c ≡ c' → ◌≡◌ {A = Mark} (record { bytes = a; holes = b; slots = c }) (record { bytes = a'; holes = b'; slots = c' })
-same_mark e f g = cc
-
 pub cut_at :
     {b ps : List ℕ} {hs : List Ty} {ks : List Kept} (ts : List Cell) → Represents ts b ps hs ks →
     (m : Mark) (front rest : List Cell) → ts ≡ front ++ rest → m ≡ mark_of front →

@@ -5,7 +5,7 @@ use Rattle.pgv_types.specs.Ty.{Ty}
 use Rattle.pgv_types.specs.declared.oid.Oid.{Oid}
 use Rattle.pgv_buf.specs.Tokens.{Cell, fixed, hole_cell, slot_cell, fixed_bytes, be4, shown, width, hole_types_of}
 use Rattle.pgv_buf.specs.Fill.{put, written, Within, fill_holes, first_number, rest_numbers}
-use Rattle.pgv_buf.specs.Parse.{Kept, Represents, Proper, hole_places, kept_slots, shown-append, hole_places-append, hole_types_of-append, kept_slots-append, length-shown, Proper-front, Proper-append, width-append}
+use Rattle.pgv_buf.specs.Parse.{Proper-back, Kept, Represents, Proper, hole_places, kept_slots, shown-append, hole_places-append, hole_types_of-append, kept_slots-append, length-shown, Proper-front, Proper-append, width-append}
 use Rattle.pgv_buf.proofs.Steps.{shown-bytes, Proper-bytes}
 
 pub put_at : (x y z w : List ℕ) → length y ≡ length w → put (length x) w (x ++ y ++ z) ≡ x ++ w ++ z
@@ -94,12 +94,6 @@ types_behind_bytes (x ∷ xs) ts = types_behind_bytes xs ts
 proper_behind_bytes : (xs : List ℕ) (ts : List Cell) → Proper (fixed_bytes xs ++ ts) → Proper ts
 proper_behind_bytes [] ts p = p
 proper_behind_bytes (x ∷ xs) ts p = proper_behind_bytes xs ts p
-
-Proper-back : (a c : List Cell) → Proper (a ++ c) → Proper c
-Proper-back [] c p = p
-Proper-back (fixed x ∷ a) c p = Proper-back a c p
-Proper-back (hole_cell t s ∷ a) c p = Proper-back a c p.1
-Proper-back (slot_cell d cs s ∷ a) c p = Proper-back a c p.2
 
 pub replaced :
     {b ps : List ℕ} {hs : List Ty} {ks : List Kept} (front : List Cell) (xs ys : List ℕ) (rest : List Cell) →

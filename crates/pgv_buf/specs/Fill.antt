@@ -1,8 +1,9 @@
 -- Filling: the i-th hole shows the i-th number.
-use Rattle.std.specs.Prelude.{ℕ, ◌+◌, ◌≤◌, List, [], ◌∷◌, ◌++◌, length, take, drop, replicate}
+use Rattle.std.specs.Prelude.{◌≡◌, ℕ, refl, ◌+◌, ◌≤◌, List, [], ◌∷◌, ◌++◌, length, take, drop, replicate}
+use Rattle.std.proofs.Common.{ap}
 use Rattle.pgv_types.specs.Ty.{Ty}
 use Rattle.pgv_types.specs.declared.oid.Oid.{Oid}
-use Rattle.pgv_buf.specs.Tokens.{Cell, fixed, hole_cell, slot_cell, be4, chosen, CasesFit}
+use Rattle.pgv_buf.specs.Tokens.{slot_count, Cell, fixed, hole_cell, slot_cell, be4, chosen, CasesFit}
 use Rattle.pgv_buf.specs.Parse.{Kept, first_type}
 
 abbrev pub first_number : List Oid → ℕ
@@ -65,3 +66,10 @@ written_slots ps (k ∷ ks) b = written_slots (rest_types ps) ks (put k.place (c
 abbrev pub SlotsWithin : ℕ → List Kept → Type 0
 SlotsWithin n [] = Unit {0}
 SlotsWithin n (k ∷ ks) = (k.place + length k.standard ≤ n) × CasesFit (length k.standard) k.cases × SlotsWithin n ks
+
+-- holes that are filled change no number of slots
+pub slot_count-filled : (os : List Oid) (ts : List Cell) → slot_count (fill_holes os ts) ≡ slot_count ts
+slot_count-filled os [] = refl
+slot_count-filled os (fixed x ∷ ts) = slot_count-filled os ts
+slot_count-filled os (hole_cell t s ∷ ts) = slot_count-filled (rest_numbers os) ts
+slot_count-filled os (slot_cell d cs s ∷ ts) = ap (λ n. 1 + n) (slot_count-filled os ts)

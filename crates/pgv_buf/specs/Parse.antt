@@ -172,6 +172,12 @@ Proper-front (fixed x ∷ a) c p = Proper-front a c p
 Proper-front (hole_cell t s ∷ a) c p = (p.0, Proper-front a c p.1)
 Proper-front (slot_cell d cs s ∷ a) c p = (p.0, p.1, Proper-front a c p.2)
 
+pub Proper-back : (a c : List Cell) → Proper (a ++ c) → Proper c
+Proper-back [] c p = p
+Proper-back (fixed x ∷ a) c p = Proper-back a c p
+Proper-back (hole_cell t s ∷ a) c p = Proper-back a c p.1
+Proper-back (slot_cell d cs s ∷ a) c p = Proper-back a c p.2
+
 pub length-shown : (ts : List Cell) → Proper ts → length (shown ts) ≡ width ts
 length-shown [] p = refl
 length-shown (fixed x ∷ ts) p = omega (arith, length-shown ts p)

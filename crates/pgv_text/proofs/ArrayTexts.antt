@@ -1,7 +1,7 @@
 -- The texts of the array form are the array texts, and each has one list of values.
 use Rattle.std.proofs.Common.{◌≡◌, ◌≢◌, ℕ, Bool, true, false, cond, ◌&&◌, List, [], ◌∷◌, Option, Some, None, map, ap, ◌∙◌, sym, refl}
 use Rattle.std.specs.Str.{encode_utf8_all, bytes_eq}
-use Rattle.std.proofs.lemmas.Bool.{eqb-true, false≢true}
+use Rattle.std.proofs.lemmas.Bool.{and_parts, eqb-true, false≢true}
 use Rattle.std.proofs.lemmas.Slice.Eq.{bytes_eq-Decides}
 use Rattle.std.proofs.lemmas.Str.{encodes_same}
 use Rattle.pgv_text.specs.Pieces.{Pairwise, Piece, plain, escaped, quoted, text_of, all_plain, value_of}
@@ -17,15 +17,10 @@ plain_pieces (plain c ∷ pieces) e = ap (λ p. plain c ∷ p) (plain_pieces pie
 plain_pieces (escaped c ∷ pieces) e = absurd (false≢true e)
 plain_pieces (quoted items ∷ pieces) e = absurd (false≢true e)
 
-both : (a b : Bool) → a && b ≡ true → (a ≡ true) × (b ≡ true)
-both true true h = (refl, refl)
-both true false h = absurd (false≢true h)
-both false b h = absurd (false≢true h)
-
 is_null : (pieces : List Piece) → all_plain pieces && bytes_eq (encode_utf8_all (text_of pieces)) (78 ∷ 85 ∷ 76 ∷ 76 ∷ []) ≡ true → pieces ≡ null_pieces
 unfolding lib.Utf8.encode
 is_null pieces h =
-    let parts = both (all_plain pieces) (bytes_eq (encode_utf8_all (text_of pieces)) (78 ∷ 85 ∷ 76 ∷ 76 ∷ [])) h in
+    let parts = and_parts (all_plain pieces) (bytes_eq (encode_utf8_all (text_of pieces)) (78 ∷ 85 ∷ 76 ∷ 76 ∷ [])) h in
     let bytes : encode_utf8_all (text_of pieces) ≡ encode_utf8_all (78 ∷ 85 ∷ 76 ∷ 76 ∷ []) = (bytes_eq-Decides (encode_utf8_all (text_of pieces)) (78 ∷ 85 ∷ 76 ∷ 76 ∷ [])).0 parts.1 in
     plain_pieces pieces parts.0 ∙ ap (map plain) (encodes_same (text_of pieces) (78 ∷ 85 ∷ 76 ∷ 76 ∷ []) bytes)
 

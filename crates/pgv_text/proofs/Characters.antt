@@ -1,10 +1,10 @@
 -- The characters of parts and of their spellings are characters of UTF-8.
-use Rattle.std.proofs.Common.{◌≡◌, ℕ, Bool, true, false, ◌&&◌, List, [], ◌∷◌, ◌++◌, Option, Some, None, map, ap, ◌∙◌, sym, refl}
+use Rattle.std.proofs.Common.{◌≡◌, ℕ, true, ◌&&◌, List, [], ◌∷◌, ◌++◌, Option, Some, None, map, ap, ◌∙◌, sym, refl}
 use Rattle.std.specs.List.{flat_map, AllByRecursion}
 use Rattle.std.specs.Char.{IsScalar}
 use Rattle.std.specs.Str.{IsUtf8, chars, encode_utf8_all}
 use Rattle.std.proofs.Math.Utf8.{scalar, scalars}
-use Rattle.std.proofs.lemmas.Bool.{false≢true}
+use Rattle.std.proofs.lemmas.Bool.{and_parts}
 use Rattle.std.proofs.lemmas.Str.{scalars-chars}
 use Rattle.pgv_text.specs.Pieces.{Item, inner, behind, doubled, Piece, plain, escaped, quoted, item_spelling, item_meaning, spelled, text_of, joined, Pairwise}
 use Rattle.pgv_text.specs.Spellings.{IsOptionalText}
@@ -12,14 +12,9 @@ use Rattle.pgv_text.specs.Spellings.{IsOptionalText}
 abbrev pub AreScalars : List ℕ → Type 0
 AreScalars cs = AllByRecursion IsScalar cs
 
-both : (a b : Bool) → a && b ≡ true → (a ≡ true) × (b ≡ true)
-both true true h = (refl, refl)
-both true false h = absurd (false≢true h)
-both false b h = absurd (false≢true h)
-
 pub are_scalars : (cs : List ℕ) → scalars cs ≡ true → AreScalars cs
 are_scalars [] h = tt
-are_scalars (c ∷ cs) h = let p = both (scalar c) (scalars cs) h in (p.0, are_scalars cs p.1)
+are_scalars (c ∷ cs) h = let p = and_parts (scalar c) (scalars cs) h in (p.0, are_scalars cs p.1)
 
 pub scalars_are : (cs : List ℕ) → AreScalars cs → scalars cs ≡ true
 scalars_are [] h = refl

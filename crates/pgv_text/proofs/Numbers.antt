@@ -14,7 +14,7 @@ use Rattle.std.proofs.Common.{get_or}
 use Rattle.std.proofs.lemmas.Str.Parse.{digit_from_value, tells_by_index, numerals_by_value}
 use Rattle.std.proofs.lemmas.Int.Digits.{digits_value_is, all_below_base_from_digits}
 use Rattle.std.proofs.lemmas.List.{length-map}
-use Rattle.std.proofs.lemmas.Bool.{eqb-true, ne_eqb, ltb-true, lt-ltb}
+use Rattle.std.proofs.lemmas.Bool.{and_parts, eqb-true, ne_eqb, ltb-true, lt-ltb}
 use Rattle.std.proofs.Common.{not, cond, ◌&&◌, nat_lt, Some, None, Ok, Err, Result, subst, ◌↔◌, ◌^◌, IsTrue, if◌then◌else◌}
 use Rattle.std.specs.Str.Parse.{without_leading_plus}
 use Rattle.std.specs.List.{list_all}
@@ -49,11 +49,6 @@ numeral bs digits h some e = rw e (
   (rw length-map some, digits_back digits h),
   digits_value_is 10 (map (λ d. 48 + d) digits) ∙ ap (number_from_digits 10) (values_back digits h),
 )
-
-both : (a b : Bool) → a && b ≡ true → (a ≡ true) × (b ≡ true)
-both true true h = (refl, refl)
-both true false h = absurd (false≢true h)
-both false b h = absurd (false≢true h)
 
 -- a text that begins with a digit has no sign
 no_sign : (b : ℕ) (bs : List ℕ) → b ≢ 45 → b ≢ 43 → without_leading_sign (b ∷ bs) ≡ b ∷ bs
@@ -125,7 +120,7 @@ to_index ds h = (numerals_by_value (λ ds. (i : ℕ) → i < length ds → IsInR
 all_digits : (ds : List ℕ) → list_all (λ c. nat_lt (digit_value c) 10) ds ≡ true → AllDigits 10 ds
 all_digits [] h = tt
 all_digits (d ∷ ds) h =
-    let parts = both (nat_lt (digit_value d) 10) (list_all (λ c. nat_lt (digit_value c) 10) ds) h in
+    let parts = and_parts (nat_lt (digit_value d) 10) (list_all (λ c. nat_lt (digit_value c) 10) ds) h in
     (ltb-true (digit_value d) 10 parts.0, all_digits ds parts.1)
 
 digits_all : (ds : List ℕ) → AllDigits 10 ds → list_all (λ c. nat_lt (digit_value c) 10) ds ≡ true
@@ -136,7 +131,7 @@ pub numeral_tested : (ds : List ℕ) → is_numeral ds ≡ true → IsNumeral 10
 numeral_tested [] h = absurd (false≢true h)
 numeral_tested (d ∷ ds) h =
     let some : 0 < length (d ∷ ds) = omega arith in
-    let all : list_all (λ c. nat_lt (digit_value c) 10) (d ∷ ds) ≡ true = (both (not (length (d ∷ ds) == 0)) (list_all (λ c. nat_lt (digit_value c) 10) (d ∷ ds)) h).1 in
+    let all : list_all (λ c. nat_lt (digit_value c) 10) (d ∷ ds) ≡ true = (and_parts (not (length (d ∷ ds) == 0)) (list_all (λ c. nat_lt (digit_value c) 10) (d ∷ ds)) h).1 in
     (some, all_digits (d ∷ ds) all)
 
 not_none : (n : ℕ) → 0 < n → not (n == 0) ≡ true

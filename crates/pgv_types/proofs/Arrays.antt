@@ -1,6 +1,6 @@
 -- The names of built-in arrays: one test over the whole table.
 use Rattle.std.proofs.Common.{◌≡◌, ℕ, ◌==◌, ◌&&◌, Bool, true, false, cond, Option, Some, None, List, [], ◌∷◌, ◌++◌, codes, ap, ◌∙◌, sym, refl, subst, bytes_eq, option_map}
-use Rattle.std.proofs.lemmas.Bool.{false≢true}
+use Rattle.std.proofs.lemmas.Bool.{and_parts, false≢true}
 use Rattle.std.proofs.lemmas.List.{append-nil}
 use Rattle.std.proofs.lemmas.Slice.Eq.{bytes_eq-Decides}
 use Rattle.pgv_types.specs.Ty.{builtin}
@@ -28,14 +28,10 @@ abbrev NamedAt : Option Entry → Type 0
 NamedAt None = Unit {0}
 NamedAt (Some e) = NamedFrom e.name e.display e.element
 
-both : (a b : Bool) → (a && b) ≡ true → (a ≡ true) × (b ≡ true)
-both true b h = (refl, h)
-both false b h = absurd (false≢true h)
-
 named_from : (name display : List ℕ) (m : Option ℕ) → is_named name display m ≡ true → NamedFrom name display m
 named_from name display None h = tt
 named_from name display (Some x) h =
-    let k = both (bytes_eq name (codes "_" ++ entry_name (entry_of x))) (bytes_eq display (entry_display (entry_of x))) h in
+    let k = and_parts (bytes_eq name (codes "_" ++ entry_name (entry_of x))) (bytes_eq display (entry_display (entry_of x))) h in
     ((bytes_eq-Decides name (codes "_" ++ entry_name (entry_of x))).0 k.0, (bytes_eq-Decides display (entry_display (entry_of x))).0 k.1)
 
 named_choice : (b : Bool) (e : Entry) (m : Option Entry) → NamedFrom e.name e.display e.element → NamedAt m → NamedAt (cond b (Some e) m)
@@ -45,7 +41,7 @@ named_choice false e m h k = k
 found_named : (o : ℕ) (es : List Entry) → are_named es ≡ true → NamedAt (find o es)
 found_named o [] h = tt
 found_named o (e ∷ es) h =
-    let k = both (is_named e.name e.display e.element) (are_named es) h in
+    let k = and_parts (is_named e.name e.display e.element) (are_named es) h in
     named_choice (e.oid == o) e (find o es) (named_from e.name e.display e.element k.0) (found_named o es k.1)
 
 abbrev is_there : Option ℕ → Bool

@@ -4,11 +4,10 @@ use Rattle.std.proofs.lemmas.Grind.{common_steps}
 use Rattle.std.proofs.Math.Numerals.{one-add}
 use Rattle.pgv_types.specs.Ty.{Ty}
 use Rattle.pgv_types.specs.declared.oid.Oid.{Oid}
-use Rattle.pgv_buf.specs.declared.Mark.{Mark}
 use Rattle.pgv_buf.specs.Tokens.{blank, plain, Cell, fixed, hole_cell, slot_cell, be4, shown, width, hole_count, slot_count, chosen}
 use Rattle.pgv_buf.specs.Blank.{holes-plain}
-use Rattle.pgv_buf.specs.Marks.{mark_of, between_marks, IsBefore}
-use Rattle.pgv_buf.specs.Fill.{fill_holes, first_number, rest_numbers, fill_slots, slot_types, rest_types}
+use Rattle.pgv_buf.specs.Marks.{same_mark, mark_of, between_marks, IsBefore}
+use Rattle.pgv_buf.specs.Fill.{slot_count-filled, fill_holes, first_number, rest_numbers, fill_slots, slot_types, rest_types}
 use Rattle.pgv_buf.specs.Parse.{width-append, shown-append, first_type}
 use Rattle.pgv_wire.specs.Arguments.{Argument, Framed, all_tokens, types_in, counts_in, framed, write, early, filled_arguments, filled_frame}
 use Rattle.pgv_wire.specs.Kept.{Stands, arguments_of}
@@ -43,9 +42,6 @@ slot_count-append (slot_cell d cs s ∷ a) c = omega (arith, slot_count-append a
 
 pub is_before : (a c : List Cell) → IsBefore (mark_of a) (mark_of (a ++ c))
 is_before a c = (omega (arith, width-append a c), omega (arith, hole_count-append a c), omega (arith, slot_count-append a c))
-
-same_mark : {a b c a' b' c' : ℕ} → a ≡ a' → b ≡ b' → c ≡ c' → ◌≡◌ {A = Mark} (record { bytes = a; holes = b; slots = c }) (record { bytes = a'; holes = b'; slots = c' })
-same_mark e f g = cc
 
 pub between : (a c : List Cell) → between_marks (mark_of a) (mark_of (a ++ c)) ≡ mark_of c
 between a c = same_mark (omega (arith, width-append a c)) (omega (arith, hole_count-append a c)) (omega (arith, slot_count-append a c))
@@ -100,12 +96,6 @@ width-filled os [] = refl
 width-filled os (fixed x ∷ a) = ap (λ n. 1 + n) (width-filled os a)
 width-filled os (hole_cell t s ∷ a) = ap (λ n. 4 + n) (width-filled (rest_numbers os) a)
 width-filled os (slot_cell d cs s ∷ a) = ap (λ n. length d + n) (width-filled os a)
-
-slot_count-filled : (os : List Oid) (a : List Cell) → slot_count (fill_holes os a) ≡ slot_count a
-slot_count-filled os [] = refl
-slot_count-filled os (fixed x ∷ a) = slot_count-filled os a
-slot_count-filled os (hole_cell t s ∷ a) = slot_count-filled (rest_numbers os) a
-slot_count-filled os (slot_cell d cs s ∷ a) = ap (λ n. 1 + n) (slot_count-filled os a)
 
 width-slots : (ps : List Ty) (a : List Cell) → width (fill_slots ps a) ≡ width a
 width-slots ps [] = refl

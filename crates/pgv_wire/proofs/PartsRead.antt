@@ -5,8 +5,8 @@ use Rattle.pgv_types.specs.Ty.{Ty}
 use Rattle.pgv_types.specs.declared.oid.Oid.{Oid}
 use Rattle.pgv_buf.specs.Fill.{rest_types}
 use Rattle.pgv_buf.specs.Blank.{holes-plain}
-use Rattle.pgv_buf.specs.Parse.{Proper, first_type, shown-append, length-shown}
-use Rattle.pgv_buf.specs.Tokens.{Token, bytes, be4, tokens_width, tokens_holes, Cell, fixed, hole_cell, slot_cell, plain, shown, hole_count, slot_count}
+use Rattle.pgv_buf.specs.Parse.{Proper, Proper-front, Proper-back, first_type, shown-append, length-shown}
+use Rattle.pgv_buf.specs.Tokens.{Token, bytes, be4, tokens_width, tokens_holes, Cell, plain, shown, hole_count, slot_count}
 use Rattle.pgv_value.specs.Frame.{Part, front}
 use Rattle.pgv_value.proofs.Fronts.{frame_in_front}
 use Rattle.pgv_wire.specs.Arguments.{Argument, Framed, framed, all_tokens, write, filled_frame, filled_arguments}
@@ -35,26 +35,14 @@ frame_found (image_of ts) c rest e p =
     ) in
     found ∙ ap (λ (r : List ℕ). Some (Some r, rest)) (sym (ap (drop 4) bytes_are))
 
-Proper-first : (a c : List Cell) → Proper (a ++ c) → Proper a
-Proper-first [] c p = tt
-Proper-first (fixed x ∷ a) c p = Proper-first a c p
-Proper-first (hole_cell t s ∷ a) c p = (p.0, Proper-first a c p.1)
-Proper-first (slot_cell d cs s ∷ a) c p = (p.0, p.1, Proper-first a c p.2)
-
-Proper-rest : (a c : List Cell) → Proper (a ++ c) → Proper c
-Proper-rest [] c p = p
-Proper-rest (fixed x ∷ a) c p = Proper-rest a c p
-Proper-rest (hole_cell t s ∷ a) c p = Proper-rest a c p.1
-Proper-rest (slot_cell d cs s ∷ a) c p = Proper-rest a c p.2
-
 pub frames_read : (args : List Argument) (is : List Image) → AreFrames is (framed args) → Proper (all_tokens args) → ReadAs (shown (all_tokens args)) (parts_in is args) []
 frames_read [] [] h p = refl
 frames_read [] (i ∷ is) h p = absurd h
 frames_read (a ∷ args) [] h p = absurd h
 frames_read (a ∷ args) (i ∷ is) h p = (
   shown (all_tokens args),
-  ap front (shown-append a.1 (all_tokens args)) ∙ frame_found i a.1 (shown (all_tokens args)) h.0 (Proper-first a.1 (all_tokens args) p),
-  frames_read args is h.1 (Proper-rest a.1 (all_tokens args) p),
+  ap front (shown-append a.1 (all_tokens args)) ∙ frame_found i a.1 (shown (all_tokens args)) h.0 (Proper-front a.1 (all_tokens args) p),
+  frames_read args is h.1 (Proper-back a.1 (all_tokens args) p),
 )
 
 pub as_many : (args : List Argument) (is : List Image) → AreFrames is (framed args) → length (parts_in is args) ≡ length args

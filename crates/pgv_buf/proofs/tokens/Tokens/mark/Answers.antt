@@ -2,7 +2,8 @@ use Rattle.std.proofs.Common.{◌≡◌, length, ◌∙◌, ap, arith}
 use Rattle.std.proofs.lemmas.List.{length-map}
 use Rattle.pgv_buf.specs.Tokens.{width, hole_count}
 use Rattle.pgv_buf.specs.Parse.{length-shown, length-hole_places, length-kept_slots}
-use Rattle.pgv_buf.proofs.Steps.{held, same_mark}
+use Rattle.pgv_buf.specs.Marks.{same_mark}
+use Rattle.pgv_buf.proofs.Steps.{held}
 use Rattle.pgv_buf.proofs.tokens.Tokens.mark.Goals as goal
 
 pub returns : goal.returns
