@@ -1,5 +1,5 @@
 -- What additions and fillings keep of arguments: their frames without what these show, that each is the frame of an
--- image, and that each shows what the last filling has written, or is not filled yet.
+-- image, and that each shows what some types and OIDs write, or is not filled yet.
 use Rattle.std.proofs.Common.{◌≡◌, ℕ, ◌+◌, suc, Bool, true, false, cond, List, [], ◌∷◌, ◌++◌, length, drop, take, replicate, Option, Some, None, refl, sym, ◌∙◌, ap, subst, append_assoc, append-nil}
 use Rattle.pgv_types.specs.Ty.{Ty}
 use Rattle.pgv_types.specs.declared.oid.Oid.{Oid}

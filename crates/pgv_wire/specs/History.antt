@@ -78,8 +78,8 @@ pub record LeftBy (args : List Argument) (h : Told) : Type 0 where
 abbrev pub LeftBySome : List Argument → Type 0
 LeftBySome args = (h : Told) × LeftBy args h
 
--- the bytes are the frames at some filling, written at once with its types and OIDs, as many as these have arguments
--- and holes, and then the others blank; there are no other frames
+-- there are types and OIDs with which the bytes are the first so many frames, written at once, as many as these have
+-- arguments and holes, and then the others blank; there are no other frames
 abbrev pub WrittenAtOnce : List Argument → Type 0
 WrittenAtOnce args =
     (h : Told) × (framed args ≡ h.filled ++ h.since) × (length h.types ≡ length h.filled) × (length h.oids ≡ tokens_holes (joined_frames h.filled)) × (shown (all_tokens args) ≡ bytes_by h)

@@ -85,10 +85,11 @@ impl PgArguments {
         self.types.as_slice()
     }
 
-    /// The frames of the arguments, one behind the other. Each is the frame of an image. Their bytes are those of the
-    /// frames at the last filling, written at once with what it was given, and then of those added since, with zeros
-    /// for holes and defaults for slots. [`laws::arguments_read`](crate::laws::arguments_read) says what reading them
-    /// gives.
+    /// The frames of the arguments, one behind the other. Each is the frame of an image. There are types and OIDs, as
+    /// many as arguments and holes, with which the bytes are the first of these frames, written at once, and then the
+    /// others with zeros for holes and defaults for slots. That they are the last filling's is what
+    /// [`apply_patches`](PgArguments::apply_patches) and [`laws::history`](crate::laws::history) say;
+    /// [`laws::arguments_read`](crate::laws::arguments_read) says what reading the frames gives.
     pub fn buffer(&self) -> &PgArgumentBuffer
         ensures frames { result.now ≡ all_tokens self.now }
         ensures images { OfImages self.now }
