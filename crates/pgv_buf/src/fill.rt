@@ -96,6 +96,9 @@ pub(crate) fn write_slots(
     requires within { SlotsWithin (length bytes.old.items) (map kept_of slots.now) }
     ensures { bytes.new.items ≡ written_slots (slot_types types.now counts.now) (map kept_of slots.now) bytes.old.items }
 {
+    if slots.is_empty() {
+        return;
+    }
     let mut next = 0;
     for (i, parameter) in types.iter().enumerate() {
         let end = next + counts[i];

@@ -3,10 +3,18 @@
 //! Each `encode_by_ref` has one answer in `proofs/composites/`, with one `more_fields` for each field. A record whose
 //! fields may be null is read by the reader of the tuple of its fields.
 
+ghost use Rattle.std.specs.Prelude.{List};
+ghost use Rattle.pgv_types.specs.Ty.{Ty};
+ghost use Rattle.pgv_types.specs.declared.oid.Oid.{Oid};
+ghost use Rattle.pgv_wire.specs.Back.{Followed};
+ghost use Rattle.pgv_wire.specs.Image.{field};
+ghost use Rattle.pgv_wire.specs.Plain.{FieldIsPlain};
+
 use crate::values::Mood;
 use pgv_types::{PgType, PgTypeInfo};
 use pgv_wire::{
-    CodecError, Decode, Encode, IsNull, PgArgumentBuffer, PgRecordEncoder, PgValueRef, Type,
+    Codec, CodecError, Decode, Encode, IsNull, PgArgumentBuffer, PgRecordEncoder, PgValueRef,
+    ReadBack, Type,
 };
 use std::alloc::{AllocError, Global};
 
@@ -38,17 +46,13 @@ impl Type for Person {
 }
 
 impl Encode for Person {
-    ghost use Rattle.std.specs.Prelude.{None, [], ◌∷◌};
+    ghost use Rattle.std.specs.Prelude.{[], ◌∷◌};
     ghost use Rattle.pgv_wire.specs.Image.{field, record_image};
 
     ghost image = { λ v. record_image (
         field ⟦<i32 as Encode>⟧.hint ⟦<i32 as Encode>⟧.image ⟦<i32 as Encode>⟧.produced ⟦<i32 as Type>⟧.info v.id
         ∷ field ⟦<Mood as Encode>⟧.hint ⟦<Mood as Encode>⟧.image ⟦<Mood as Encode>⟧.produced ⟦<Mood as Type>⟧.info v.mood
         ∷ []) };
-
-    ghost hint = { λ _. 0 };
-
-    ghost produced = { λ _. None };
 
     fn encode_by_ref(&self, out: &mut PgArgumentBuffer) -> Result<IsNull, CodecError> {
         let mut record = PgRecordEncoder::new(out)?;
@@ -65,6 +69,37 @@ impl Encode for Person {
     fn produces(&self) -> Result<Option<PgTypeInfo>, AllocError> {
         Ok(None)
     }
+}
+
+/// A person is read as a record of two fields, under each type that names a field for each.
+impl Decode for Person {
+    ghost Meaning = { ⟦<(i32, Mood) as Decode>⟧.Meaning };
+
+    ghost meaning = { λ v. ⟦<(i32, Mood) as Decode>⟧.meaning (v.id, v.mood) };
+
+    ghost reading = { ⟦<(i32, Mood) as Decode>⟧.reading };
+
+    ghost written = { ⟦<(i32, Mood) as Decode>⟧.written };
+
+    fn decode(alloc: Global, value: PgValueRef<'_>) -> Result<Person, CodecError> {
+        let (id, mood) = <(i32, Mood) as Decode>::decode(alloc, value)?;
+        Ok(Person { id, mood })
+    }
+}
+
+/// A person comes back where each field does.
+impl ReadBack for Person {
+    ghost use Rattle.std.specs.Prelude.{[]};
+    ghost use Rattle.pgv_wire.specs.Back.{FieldFits, Followed};
+    ghost use Rattle.pgv_wire.specs.BackRecords.{last_back, further_back, record_back};
+    ghost use Rattle.pgv_wire.specs.BackScalars.{int4_back, text_back};
+    ghost use Rattle.pgv_wire.specs.Image.{field};
+
+    ghost kept = { λ v. v };
+
+    ghost fits = { λ v t oids. Followed (FieldFits ⟦<i32 as Type>⟧.info ⟦<i32 as Encode>⟧.produced ⟦<i32 as Encode>⟧.image ⟦<i32 as Type>⟧.accepts ⟦<i32 as ReadBack>⟧.fits v.id) (field ⟦<i32 as Encode>⟧.hint ⟦<i32 as Encode>⟧.image ⟦<i32 as Encode>⟧.produced ⟦<i32 as Type>⟧.info v.id) (FieldFits ⟦<Mood as Type>⟧.info ⟦<Mood as Encode>⟧.produced ⟦<Mood as Encode>⟧.image ⟦<Mood as Type>⟧.accepts ⟦<Mood as ReadBack>⟧.fits v.mood) t 0 oids };
+
+    ghost reads_back = { λ v. record_back (further_back ⟦<i32 as Type>⟧.info ⟦<i32 as Encode>⟧.produced ⟦<i32 as Encode>⟧.hint ⟦<i32 as Encode>⟧.image ⟦<i32 as Type>⟧.accepts ⟦<i32 as Decode>⟧.reading ⟦<i32 as Decode>⟧.meaning ⟦<i32 as ReadBack>⟧.fits int4_back v.id (last_back ⟦<Mood as Type>⟧.info ⟦<Mood as Encode>⟧.produced ⟦<Mood as Encode>⟧.hint ⟦<Mood as Encode>⟧.image ⟦<Mood as Type>⟧.accepts ⟦<Mood as Decode>⟧.reading ⟦<Mood as Decode>⟧.meaning ⟦<Mood as ReadBack>⟧.fits (λ mood. text_back mood.label) v.mood [])) };
 }
 
 /// A number and moods: the type of the elements has no OID, and neither has that of their array.
@@ -95,17 +130,13 @@ impl Type for Household {
 }
 
 impl Encode for Household {
-    ghost use Rattle.std.specs.Prelude.{None, [], ◌∷◌};
+    ghost use Rattle.std.specs.Prelude.{[], ◌∷◌};
     ghost use Rattle.pgv_wire.specs.Image.{field, record_image};
 
     ghost image = { λ v. record_image (
         field ⟦<i32 as Encode>⟧.hint ⟦<i32 as Encode>⟧.image ⟦<i32 as Encode>⟧.produced ⟦<i32 as Type>⟧.info v.number
         ∷ field ⟦<Vec<Mood> as Encode>⟧.hint ⟦<Vec<Mood> as Encode>⟧.image ⟦<Vec<Mood> as Encode>⟧.produced ⟦<Vec<Mood> as Type>⟧.info v.moods
         ∷ []) };
-
-    ghost hint = { λ _. 0 };
-
-    ghost produced = { λ _. None };
 
     fn encode_by_ref(&self, out: &mut PgArgumentBuffer) -> Result<IsNull, CodecError> {
         let mut record = PgRecordEncoder::new(out)?;
@@ -151,14 +182,10 @@ impl<A, B> Type for Pair<A, B> {
 }
 
 impl<A: Encode + Type, B: Encode + Type> Encode for Pair<A, B> {
-    ghost use Rattle.std.specs.Prelude.{None, [], ◌∷◌};
+    ghost use Rattle.std.specs.Prelude.{[], ◌∷◌};
     ghost use Rattle.pgv_wire.specs.Image.{field, record_image};
 
     ghost image = { λ v. record_image (field A.hint A.image A.produced A.info v.first ∷ field B.hint B.image B.produced B.info v.second ∷ []) };
-
-    ghost hint = { λ _. 0 };
-
-    ghost produced = { λ _. None };
 
     fn encode_by_ref(&self, out: &mut PgArgumentBuffer) -> Result<IsNull, CodecError> {
         let mut record = PgRecordEncoder::new(out)?;
@@ -178,14 +205,49 @@ impl<A: Encode + Type, B: Encode + Type> Encode for Pair<A, B> {
 }
 
 impl<A: Type + Decode, B: Type + Decode> Decode for Pair<A, B> {
+    ghost use Rattle.std.specs.Prelude.{[], ◌∷◌};
+    ghost use Rattle.pgv_wire.specs.Image.{record_image};
+    ghost use Rattle.pgv_wire.specs.Saying.{plainly, field_written};
+
     ghost Meaning = { ⟦<(A, B) as Decode>⟧.Meaning };
 
     ghost meaning = { λ v. ⟦<(A, B) as Decode>⟧.meaning (v.first, v.second) };
 
     ghost reading = { ⟦<(A, B) as Decode>⟧.reading };
 
+    ghost written = { plainly (λ m. record_image (field_written A.info A.written m.0 ∷ field_written B.info B.written m.1 ∷ [])) };
+
     fn decode(alloc: Global, value: PgValueRef<'_>) -> Result<Pair<A, B>, CodecError> {
         let (first, second) = <(A, B) as Decode>::decode(alloc, value)?;
         Ok(Pair { first, second })
     }
+}
+
+/// A pair comes back where each field does.
+impl<A: ReadBack + Type, B: ReadBack + Type> ReadBack for Pair<A, B> {
+    ghost use Rattle.std.specs.Prelude.{[]};
+    ghost use Rattle.pgv_wire.specs.Back.{FieldFits, Followed};
+    ghost use Rattle.pgv_wire.specs.BackRecords.{last_back, further_back, record_back};
+    ghost use Rattle.pgv_wire.specs.Image.{field};
+
+    ghost kept = { λ v. record { first = A.kept v.first; second = B.kept v.second } };
+
+    ghost fits = { λ v t oids. Followed (FieldFits A.info A.produced A.image A.accepts A.fits v.first) (field A.hint A.image A.produced A.info v.first) (FieldFits B.info B.produced B.image B.accepts B.fits v.second) t 0 oids };
+
+    ghost reads_back = { λ v. record_back (further_back A.info A.produced A.hint A.image A.accepts A.reading (λ x. A.meaning (A.kept x)) A.fits A.reads_back v.first (last_back B.info B.produced B.hint B.image B.accepts B.reading (λ x. B.meaning (B.kept x)) B.fits B.reads_back v.second [])) };
+}
+
+/// A pair comes back under a composite type, a domain of one or `record`, where the OID of the type at each place was written,
+/// that type is accepted, and the field comes back under it.
+pub fn pair_fits<A: ReadBack + Type, B: ReadBack + Type>()
+    ensures { (v : _) (t : Ty) (oids : List Oid) → Followed (FieldIsPlain A.info A.produced A.image A.accepts A.fits v.first) (field A.hint A.image A.produced A.info v.first) (FieldIsPlain B.info B.produced B.image B.accepts B.fits v.second) t 0 oids → ⟦<Pair<A, B> as ReadBack>⟧.fits v t oids }
+{}
+
+impl<A: Codec, B: Codec> Codec for Pair<A, B> {
+    ghost use Rattle.pgv_types.specs.Ty.{builtin};
+    ghost use Rattle.pgv_wire.specs.Saying.{field_agrees, same_none, same_fields, record_agrees};
+
+    ghost agrees = { λ v. record_agrees (builtin 2249) v
+        (same_fields (field_agrees A.hint A.image A.produced A.info A.meaning A.written A.agrees v.first)
+        (same_fields (field_agrees B.hint B.image B.produced B.info B.meaning B.written B.agrees v.second) same_none)) };
 }

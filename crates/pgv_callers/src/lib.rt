@@ -5,6 +5,8 @@
 //! type than it says; [`composites`] has records with fields of such types, and one that is read too.
 #![tactic(auto)]
 
+#[cfg(test)]
+mod back;
 pub mod composites;
 #[cfg(test)]
 mod reading;

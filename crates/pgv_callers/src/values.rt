@@ -9,7 +9,10 @@ ghost use Rattle.pgv_buf.specs.Tokens.{blank, slot};
 ghost use Rattle.pgv_value.specs.declared.error.CodecError.TheVariants.{Memory};
 
 use pgv_types::{PgType, PgTypeInfo};
-use pgv_wire::{CodecError, Encode, IsNull, PgArgumentBuffer, PgHasArrayType, Type, encode_text};
+use pgv_wire::{
+    CodecError, Decode, Encode, IsNull, PgArgumentBuffer, PgHasArrayType, PgValueRef, ReadBack,
+    Type, encode_text,
+};
 use std::alloc::{AllocError, Global};
 
 /// A label of a type that is known by its name alone.
@@ -68,14 +71,10 @@ impl PgHasArrayType for Mood {
 }
 
 impl Encode for Mood {
-    ghost use Rattle.std.specs.Prelude.{None, string_bytes};
+    ghost use Rattle.std.specs.Prelude.{string_bytes};
     ghost use Rattle.pgv_wire.specs.Scalars.{text_image};
 
     ghost image = { λ mood. text_image (string_bytes mood.label) };
-
-    ghost hint = { λ _. 0 };
-
-    ghost produced = { λ _. None };
 
     fn encode_by_ref(&self, out: &mut PgArgumentBuffer) -> Result<IsNull, CodecError> {
         encode_text(self.label.as_str(), out)
@@ -88,6 +87,40 @@ impl Encode for Mood {
     fn produces(&self) -> Result<Option<PgTypeInfo>, AllocError> {
         Ok(None)
     }
+}
+
+/// A mood is read as a text.
+impl Decode for Mood {
+    ghost use Rattle.std.specs.Prelude.{ℕ, List, string_bytes};
+    ghost use Rattle.pgv_value.specs.Scalars.{text_reading};
+    ghost use Rattle.pgv_wire.specs.Saying.{plainly};
+    ghost use Rattle.pgv_wire.specs.Scalars.{text_image};
+
+    ghost Meaning = { List ℕ };
+
+    ghost meaning = { λ mood. string_bytes mood.label };
+
+    ghost reading = { text_reading };
+
+    ghost written = { plainly text_image };
+
+    fn decode(alloc: Global, value: PgValueRef<'_>) -> Result<Mood, CodecError> {
+        Ok(Mood {
+            label: String::decode(alloc, value)?,
+        })
+    }
+}
+
+/// A mood comes back as its label does.
+impl ReadBack for Mood {
+    ghost use Rattle.pgv_wire.specs.Back.{always};
+    ghost use Rattle.pgv_wire.specs.BackScalars.{text_back};
+
+    ghost kept = { λ mood. mood };
+
+    ghost fits = { always };
+
+    ghost reads_back = { λ mood. text_back mood.label };
 }
 
 /// Appends a slot: a version where the parameter is `jsonb`, and else a space. A refusal leaves the buffer.
@@ -127,16 +160,12 @@ impl Type for EmptyObject {
 }
 
 impl Encode for EmptyObject {
-    ghost use Rattle.std.specs.Prelude.{Some, None, [], ◌∷◌};
+    ghost use Rattle.std.specs.Prelude.{Some, [], ◌∷◌};
     ghost use Rattle.pgv_types.specs.Ty.{builtin};
     ghost use Rattle.pgv_buf.specs.Tokens.{byte, slot};
     ghost use Rattle.pgv_wire.specs.Image.{image_of};
 
     ghost image = { λ _. Some (image_of (slot (32 ∷ []) ((builtin 3802, 1 ∷ []) ∷ []) ∷ byte 123 ∷ byte 125 ∷ [])) };
-
-    ghost hint = { λ _. 0 };
-
-    ghost produced = { λ _. None };
 
     fn encode_by_ref(&self, out: &mut PgArgumentBuffer) -> Result<IsNull, CodecError> {
         push_version(self.alloc, out)?;
@@ -151,6 +180,42 @@ impl Encode for EmptyObject {
     fn produces(&self) -> Result<Option<PgTypeInfo>, AllocError> {
         Ok(None)
     }
+}
+
+/// An empty object, whatever byte stands in front of its braces, in either format. Other bytes are refused with C29, and null
+/// with C13.
+impl Decode for EmptyObject {
+    ghost use Rattle.std.specs.Prelude.{⊤};
+    ghost use Rattle.pgv_callers.specs.Objects.{object_reading};
+    ghost use Rattle.pgv_wire.specs.Saying.{unwritten};
+
+    ghost Meaning = { ⊤ };
+
+    ghost meaning = { λ _. tt };
+
+    ghost reading = { object_reading };
+
+    ghost written = { unwritten };
+
+    fn decode(alloc: Global, value: PgValueRef<'_>) -> Result<EmptyObject, CodecError> {
+        let bytes = value.as_bytes()?;
+        if bytes.len() == 3 && bytes[1] == b'{' && bytes[2] == b'}' {
+            return Ok(EmptyObject { alloc });
+        }
+        Err(CodecError::Syntax)
+    }
+}
+
+/// An empty object comes back, whichever case its slot shows.
+impl ReadBack for EmptyObject {
+    ghost use Rattle.pgv_wire.specs.Back.{always};
+    ghost use Rattle.pgv_callers.specs.Objects.{object_back};
+
+    ghost kept = { λ object. object };
+
+    ghost fits = { always };
+
+    ghost reads_back = { object_back };
 }
 
 /// One byte, of a type that is known by its name alone. Zero is refused with C38(38), behind a byte, a hole and a slot.
@@ -206,10 +271,6 @@ impl Encode for Size {
 
     ghost image = { λ size. cond (int_eq size.number (pos 0)) None (signed_image w8 size.number) };
 
-    ghost hint = { λ _. 0 };
-
-    ghost produced = { λ _. None };
-
     fn encode_by_ref(&self, out: &mut PgArgumentBuffer) -> Result<IsNull, CodecError> {
         if self.number == 0 {
             out.push(0)?;
@@ -255,10 +316,6 @@ impl Encode for Refusing {
 
     ghost image = { λ _. None };
 
-    ghost hint = { λ _. 0 };
-
-    ghost produced = { λ _. None };
-
     fn encode_by_ref(&self, out: &mut PgArgumentBuffer) -> Result<IsNull, CodecError> {
         out.push(255)?;
         Err(CodecError::Caller(1))
@@ -295,15 +352,13 @@ impl Type for Huge {
 }
 
 impl Encode for Huge {
-    ghost use Rattle.std.specs.Prelude.{Some, None, [], ◌∷◌};
+    ghost use Rattle.std.specs.Prelude.{Some, [], ◌∷◌};
     ghost use Rattle.pgv_buf.specs.Tokens.{byte};
     ghost use Rattle.pgv_wire.specs.Image.{image_of};
 
     ghost image = { λ _. Some (image_of (byte 97 ∷ [])) };
 
     ghost hint = { λ _. 2147483648 };
-
-    ghost produced = { λ _. None };
 
     fn encode_by_ref(&self, out: &mut PgArgumentBuffer) -> Result<IsNull, CodecError> {
         out.push(97)?;
@@ -367,8 +422,6 @@ impl Encode for MoodText {
 
     ghost image = { λ text. text_image (string_bytes text.mood.label) };
 
-    ghost hint = { λ _. 0 };
-
     ghost produced = { λ _. Some (named (codes "mood")) };
 
     fn encode_by_ref(&self, out: &mut PgArgumentBuffer) -> Result<IsNull, CodecError> {
@@ -415,10 +468,6 @@ impl Encode for ButThree {
     ghost use Rattle.pgv_wire.specs.Scalars.{signed_image};
 
     ghost image = { λ v. cond (int_eq v.number (pos 3)) None (signed_image w32 v.number) };
-
-    ghost hint = { λ _. 0 };
-
-    ghost produced = { λ _. None };
 
     fn encode_by_ref(&self, out: &mut PgArgumentBuffer) -> Result<IsNull, CodecError> {
         if self.number == 3 {

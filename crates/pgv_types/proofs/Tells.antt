@@ -105,3 +105,6 @@ agree-refl a = refl_at a (begins_unicode a || begins_unicode a)
 
 pub agree_meant : (a b x y : List ℕ) (r : Bool) → x ≡ a → y ≡ b → r ≡ agree x y → Decides r (Agree a b)
 agree_meant a b x y r e f g = Decides-at r (agree a b) (g ∙ ap (λ v. agree v y) e ∙ ap (λ v. agree a v) f) (agree_tells a b)
+
+pub agree_same : (a b : List ℕ) → bytes_eq a b ≡ true → agree a b ≡ true
+agree_same a b q = ap (λ v. agree a v) (sym ((bytes_eq-Decides a b).0 q)) ∙ agree-refl a

@@ -244,9 +244,13 @@ impl<'a> PgTypeName<'a> {
     }
 
     /// Whether two names agree, as `name_eq` says of texts. It takes no memory.
+    #[tactic(auto, using(crate::proofs::Tells::agree_same))]
     pub fn agrees(&self, other: &PgTypeName<'_>) -> bool
         ensures { result ≡ agree (whole self.now) (whole other.now) }
     {
+        if self.is_same(other) {
+            return true;
+        }
         if self.begins_unicode() || other.begins_unicode() {
             return self.is_same(other);
         }

@@ -7,3 +7,4 @@ pub mod Frame
 pub mod Numbers
 pub mod Scalars
 pub mod Laws
+pub mod OwnBytes

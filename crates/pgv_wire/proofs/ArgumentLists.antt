@@ -1,5 +1,5 @@
 -- Lists of arguments: one more, and all filled.
-use Rattle.std.proofs.Common.{◌≡◌, ℕ, ◌+◌, suc, zero, List, [], ◌∷◌, ◌++◌, length, take, drop, refl, sym, ◌∙◌, ap, subst, arith, append_assoc, append-nil, replicate, sum}
+use Rattle.std.proofs.Common.{◌≡◌, ℕ, ◌+◌, suc, zero, List, [], ◌∷◌, ◌++◌, length, take, drop, refl, sym, ◌∙◌, ap, subst, arith, append_assoc, append-nil, replicate, sum, Some}
 use Rattle.std.proofs.lemmas.Grind.{common_steps}
 use Rattle.std.proofs.Math.Numerals.{one-add}
 use Rattle.pgv_types.specs.Ty.{Ty}
@@ -157,7 +157,7 @@ all_filled {args} {hs} {ns} {ts} s ps os ts' n m e = record {
   left_are = left_filled args ps os n m s.left_are;
 }
 
-pub shown-frame : (n : ℕ) (p : Ty) (os : List Oid) (a : List Cell) → n ≡ slot_count a → shown (fill_slots (replicate n p) (fill_holes os a)) ≡ write p os (plain a)
+pub shown-frame : (n : ℕ) (p : Ty) (os : List Oid) (a : List Cell) → n ≡ slot_count a → shown (fill_slots (replicate n p) (fill_holes os a)) ≡ write (Some p) os (plain a)
 shown-frame n p os [] e = refl
 shown-frame n p os (fixed x ∷ a) e = ap (λ r. x ∷ r) (shown-frame n p os a e)
 shown-frame n p os (hole_cell t s ∷ a) e = ap (λ r. be4 (first_number os) ++ r) (shown-frame n p (rest_numbers os) a e)
@@ -172,8 +172,8 @@ late_is_early (a ∷ args) ps os =
     let o : List Oid = take (hole_count a.1) os in
     let r : List Oid = drop (hole_count a.1) os in
     shown-append (filled_frame p o a.1) (all_tokens (filled_arguments args (rest_types ps) r))
-    ∙ (ap (λ x. x ++ shown (all_tokens (filled_arguments args (rest_types ps) r))) (shown-frame (slot_count a.1) p o a.1 refl) ∙ ap (λ x. write p o (plain a.1) ++ x) (late_is_early args (rest_types ps) r)
-    ∙ sym (ap (λ n. write p (take n os) (plain a.1) ++ early (framed args) (rest_types ps) (drop n os)) (holes-plain a.1)))
+    ∙ (ap (λ x. x ++ shown (all_tokens (filled_arguments args (rest_types ps) r))) (shown-frame (slot_count a.1) p o a.1 refl) ∙ ap (λ x. write (Some p) o (plain a.1) ++ x) (late_is_early args (rest_types ps) r)
+    ∙ sym (ap (λ n. write (Some p) (take n os) (plain a.1) ++ early (framed args) (rest_types ps) (drop n os)) (holes-plain a.1)))
 
 pub length-types_in : (args : List Argument) → length (types_in args) ≡ length args
 length-types_in [] = refl

@@ -1,17 +1,18 @@
 -- What is computed of an array in binary is what its bytes are.
 use Rattle.std.proofs.Common.{◌≡◌, ℕ, zero, suc, ◌<◌, ◌≤◌, ◌^◌, arith, Bool, true, false, nat_lt, nat_eq, List, [], ◌∷◌, ◌++◌, length, Option, Some, None, refl, sym, ◌∙◌, ap, subst, inl, inr}
 use Rattle.std.specs.Prelude.{◌↔◌, if◌then◌else◌}
-use Rattle.std.proofs.lemmas.Bool.{le-ltb, ltb-false, eqb-true}
+use Rattle.std.proofs.lemmas.Bool.{ltb-false, eqb-true}
 use Rattle.std.proofs.lemmas.Option.{same_Some}
 use Rattle.pgv_types.specs.Ty.{Ty}
 use Rattle.pgv_buf.specs.Tokens.{be4}
 use Rattle.pgv_value.specs.Frame.{Part, IsFrame, front}
 use Rattle.pgv_value.specs.Laws.{AreBytes}
-use Rattle.pgv_value.proofs.Fronts.{front_exactly, frame_in_front}
+use Rattle.pgv_value.proofs.Fronts.{front_exactly}
 use Rattle.pgv_wire.specs.Arrays.{element_type, Head, one_dimension, head, frames, elements, array_of}
+use Rattle.pgv_wire.specs.Found.{array_there}
 use Rattle.pgv_wire.specs.Grammar.{BeginWithFrames, IsArray}
 use Rattle.pgv_wire.specs.Steps.{◌>>=◌, number}
-use Rattle.pgv_wire.proofs.Numbers.{step_taken, test_failed, test_held, number_of_four, number_there, number_splits, number_is, bytes_behind, behind_four, behind_frame}
+use Rattle.pgv_wire.proofs.Numbers.{step_taken, test_failed, test_held, number_splits, number_is, bytes_behind, behind_four, behind_frame}
 
 frames_are : {M : Type 0} (read : Part → Option M) (n : ℕ) (bytes : List ℕ) (ms : List M) → AreBytes bytes → frames read n bytes ≡ Some ms → (length ms ≡ n) × BeginWithFrames read bytes ms
 unfolding frames
@@ -26,11 +27,6 @@ frames_are {M} read (suc n) bytes ms h e =
     let tail = frames_are read n a.0.1 c.0 (behind_frame bytes a.0.0 a.0.1 frame h) c.1 in
     let ms_are : b.0 ∷ c.0 ≡ ms = cc in
     subst (λ (ns : List M). (length ns ≡ suc n) × BeginWithFrames read bytes ns) ms_are (ap suc tail.0, (a.0.0, a.0.1, frame, b.1, tail.1))
-
-frames_there : {M : Type 0} (read : Part → Option M) (bytes : List ℕ) (ms : List M) → BeginWithFrames read bytes ms → frames read (length ms) bytes ≡ Some ms
-unfolding frames
-frames_there read bytes [] h = refl
-frames_there read bytes (m ∷ ms) h = rw (frame_in_front bytes h.0 h.1 h.2, h.3, frames_there read h.1 ms h.4) refl
 
 -- what is found behind the number of dimensions
 record Found (t : Ty) (bytes : List ℕ) (h : Head) : Type 0 where
@@ -85,14 +81,6 @@ one_dimension_is t bytes h b e =
       typed = element.1 ∙ ap (λ (u : Ty). let r : Option Ty = Some u in r) c.0;
     }
 
-one_dimension_there :
-    (t : Ty) (flags frames : List ℕ) (oid n : ℕ) (element : Ty) → length flags ≡ 4 → oid < 2 ^ 32 → n < 2 ^ 31 → element_type t oid ≡ Some element →
-    one_dimension t (flags ++ (be4 oid ++ (be4 n ++ (be4 1 ++ frames)))) ≡ Some (record { element = element; count = n; frames = frames })
-unfolding one_dimension
-one_dimension_there t flags frames oid n element four oid_fits count_fits typed =
-    let small : nat_lt 2147483647 n ≡ false = le-ltb _ _ (omega arith) in
-    rw (number_of_four flags (be4 oid ++ (be4 n ++ (be4 1 ++ frames))) four, number_there oid (be4 n ++ (be4 1 ++ frames)) oid_fits, typed, number_there n (be4 1 ++ frames) (omega arith), small, number_there 1 frames (omega arith)) refl
-
 -- by the number of dimensions
 array_with :
     {M : Type 0} (read : Ty → Part → Option M) (t : Ty) (bytes behind : List ℕ) (n : ℕ) (h : Option Head) (ms : List M) (none one : Bool) →
@@ -136,14 +124,6 @@ array_is read t bytes ms b e =
     let d = step_taken (number bytes) _ h.0 h.1 in
     let n = number_is bytes d.0.1 d.0.0 b d.1 in
     array_with read t bytes d.0.1 d.0.0 h.0 ms _ _ (behind_four d.0.0 bytes d.0.1 n.1 b) n.1 refl refl d.2 h.2
-
-array_there : {M : Type 0} (read : Ty → Part → Option M) (t : Ty) (bytes : List ℕ) (ms : List M) → IsArray read t bytes ms → array_of read t bytes ≡ Some ms
-unfolding head
-array_there read t bytes ms (inl h) = rw (h.1, h.2, number_there 0 h.0 (omega arith)) refl
-array_there read t bytes ms (inr h) =
-    let behind : List ℕ = h.flags ++ (be4 h.oid ++ (be4 (length ms) ++ (be4 1 ++ h.frames))) in
-    rw (h.whole, number_there 1 behind (omega arith), one_dimension_there t h.flags h.frames h.oid (length ms) h.element h.four_flags h.oid_fits h.count_fits h.typed)
-    (frames_there (read h.element) h.frames ms h.framed)
 
 pub array_exactly : {M : Type 0} (read : Ty → Part → Option M) (t : Ty) (bytes : List ℕ) (ms : List M) → AreBytes bytes → (array_of read t bytes ≡ Some ms) ↔ IsArray read t bytes ms
 array_exactly read t bytes ms b = (array_is read t bytes ms b, array_there read t bytes ms)

@@ -27,11 +27,15 @@ stands-shown h =
     ∙ (shown-append (all_tokens a) (all_tokens (blanks h.since))
     ∙ ap (λ r. r ++ shown (all_tokens (blanks h.since))) (late_is_early (blanks h.filled) h.types h.oids ∙ ap (λ f. early f h.types h.oids) (framed-blanks h.filled)))
 
-after-told : (calls : List Call) (args : List Argument) (h : Told) → args ≡ left_by h → shown (all_tokens (after args calls)) ≡ bytes_by (told_by h calls)
-after-told [] args h e = ap (λ a. shown (all_tokens a)) e ∙ stands-shown h
-after-told (adds f ∷ calls) args h e = after-told calls (args ++ (f.0, blank f.1) ∷ []) (with_added h f) (left-added args h f e)
-after-told (fills ps os ∷ calls) args h e = after-told calls (filled_arguments args ps os) (with_filled h ps os) (left-filled args h ps os e)
-after-told (is_refused ∷ calls) args h e = after-told calls args h e
+after-left : (calls : List Call) (args : List Argument) (h : Told) → args ≡ left_by h → after args calls ≡ left_by (told_by h calls)
+after-left [] args h e = e
+after-left (adds f ∷ calls) args h e = after-left calls (args ++ (f.0, blank f.1) ∷ []) (with_added h f) (left-added args h f e)
+after-left (fills ps os ∷ calls) args h e = after-left calls (filled_arguments args ps os) (with_filled h ps os) (left-filled args h ps os e)
+after-left (is_refused ∷ calls) args h e = after-left calls args h e
+
+-- the arguments after any list of calls
+pub left_told : (calls : List Call) → after [] calls ≡ left_by (told calls)
+left_told calls = after-left calls [] (record { filled = []; types = []; oids = []; since = [] }) refl
 
 -- what a filling and later additions have left shows what is written at once
 pub at_once : (args : List Argument) → LeftBySome args → WrittenAtOnce args
@@ -44,7 +48,7 @@ at_once args l = (
 )
 
 pub history_told : (calls : List Call) → shown (all_tokens (after [] calls)) ≡ bytes_by (told calls)
-history_told calls = after-told calls [] (record { filled = []; types = []; oids = []; since = [] }) refl
+history_told calls = ap (λ a. shown (all_tokens a)) (left_told calls) ∙ stands-shown (told calls)
 
 -- ---- what doesn't depend on what is filled in
 

@@ -1,14 +1,13 @@
 -- Steps one behind the other, and the numbers of four bytes that they read.
-use Rattle.std.proofs.Common.{◌≡◌, ℕ, zero, suc, ◌<◌, ◌^◌, arith, Bool, true, false, nat_lt, List, [], ◌∷◌, ◌++◌, length, get_or, Option, Some, None, refl, sym, ◌∙◌, ap, subst}
+use Rattle.std.proofs.Common.{◌≡◌, ℕ, zero, suc, ◌<◌, ◌^◌, arith, Bool, true, false, List, [], ◌∷◌, ◌++◌, length, get_or, Option, Some, None, refl, sym, ◌∙◌, ap, subst}
 use Rattle.std.specs.Prelude.{if◌then◌else◌}
 use Rattle.std.specs.Int.{w32, to_be_bytes, from_be_bytes}
-use Rattle.std.proofs.lemmas.Bool.{le-ltb}
-use Rattle.std.proofs.lemmas.List.{take_at, drop_at, length-append}
-use Rattle.std.proofs.lemmas.Nat.{be_bytes_4, from_be_bytes-to_be_bytes_4}
+use Rattle.std.proofs.lemmas.Nat.{be_bytes_4}
 use Rattle.std.proofs.lemmas.Option.{same_Some}
 use Rattle.pgv_buf.specs.Tokens.{be4}
 use Rattle.pgv_value.specs.Frame.{Part, IsFrame}
 use Rattle.pgv_value.specs.Laws.{AreBytes}
+use Rattle.pgv_wire.specs.Found.{number_of_four}
 use Rattle.pgv_wire.specs.Steps.{◌>>=◌, number}
 
 -- ---- steps and tests
@@ -26,15 +25,6 @@ test_held true o y e = (refl, e)
 test_held false o y e = absurd cc
 
 -- ---- numbers
-
-pub number_of_four : (four rest : List ℕ) → length four ≡ 4 → number (four ++ rest) ≡ Some (from_be_bytes w32 four, rest)
-unfolding number
-number_of_four four rest len =
-    let long : nat_lt (length (four ++ rest)) 4 ≡ false = le-ltb _ _ (omega (arith, length-append four rest)) in
-    rw (long, take_at four rest 4 len, drop_at four rest 4 len) refl
-
-pub number_there : (n : ℕ) (rest : List ℕ) → n < 2 ^ 32 → number (be4 n ++ rest) ≡ Some (n, rest)
-number_there n rest fits = number_of_four (be4 n) rest refl ∙ ap (λ (m : ℕ). Some (m, rest)) (from_be_bytes-to_be_bytes_4 n fits)
 
 four_below : (a b c d : ℕ) → a < 256 → b < 256 → c < 256 → d < 256 → (i : ℕ) → get_or (a ∷ b ∷ c ∷ d ∷ []) i 0 < 256
 four_below a b c d p q r s zero = p

@@ -87,11 +87,11 @@ same_images (i ∷ is) (j ∷ js) (f ∷ fs) h k = ap (λ n. n ∷ is) (one_imag
 
 -- ---- after a filling
 
-part_filled : (i : Image) (c : List Cell) (p : Ty) (os : List Oid) → frame_of (Some i) ≡ Some (plain c) → part_in i (filled_frame p os c) ≡ written_part i p os
+pub part_filled : (i : Image) (c : List Cell) (p : Ty) (os : List Oid) → frame_of (Some i) ≡ Some (plain c) → part_in i (filled_frame p os c) ≡ written_part i (Some p) os
 part_filled null_image c p os e = refl
 part_filled (image_of ts) c p os e =
     let k = cut ts (plain c) _ refl e in
-    ap (λ (r : List ℕ). let q : Part = Some (drop 4 r) in q) (shown-frame (slot_count c) p os c refl ∙ ap (λ (r : List Token). write p os r) k.1)
+    ap (λ (r : List ℕ). let q : Part = Some (drop 4 r) in q) (shown-frame (slot_count c) p os c refl ∙ ap (λ (r : List Token). write (Some p) os r) k.1)
 
 holes_are : (i : Image) (c : List Cell) → frame_of (Some i) ≡ Some (plain c) → hole_count c ≡ image_holes i
 holes_are null_image c e =
@@ -108,5 +108,5 @@ parts_filled (a ∷ args) [] ps os h = absurd h
 parts_filled (a ∷ args) (i ∷ is) ps os h =
     let n = hole_count a.1 in
     ap (λ (p : Part). p ∷ parts_in is (filled_arguments args (rest_types ps) (drop n os))) (part_filled i a.1 (first_type ps) (take n os) h.0)
-    ∙ (ap (λ (r : List Part). written_part i (first_type ps) (take n os) ∷ r) (parts_filled args is (rest_types ps) (drop n os) h.1)
-    ∙ ap (λ (m : ℕ). written_part i (first_type ps) (take m os) ∷ written_parts is (rest_types ps) (drop m os)) (holes_are i a.1 h.0))
+    ∙ (ap (λ (r : List Part). written_part i (Some (first_type ps)) (take n os) ∷ r) (parts_filled args is (rest_types ps) (drop n os) h.1)
+    ∙ ap (λ (m : ℕ). written_part i (Some (first_type ps)) (take m os) ∷ written_parts is (rest_types ps) (drop m os)) (holes_are i a.1 h.0))

@@ -1,7 +1,7 @@
 -- What is computed of a record in binary is what its bytes are.
 use Rattle.std.proofs.Common.{◌≡◌, ℕ, suc, Bool, true, false, nat_eq, List, [], ◌∷◌, ◌++◌, length, Option, Some, None, option_map, refl, sym, ◌∙◌, ap, subst}
 use Rattle.std.specs.Prelude.{◌↔◌, if◌then◌else◌}
-use Rattle.std.proofs.lemmas.Bool.{eqb-true, eq-eqb}
+use Rattle.std.proofs.lemmas.Bool.{eqb-true}
 use Rattle.std.proofs.lemmas.Option.{same_Some}
 use Rattle.pgv_types.specs.Ty.{Ty, builtin, custom, named, by_oid, array_of, Kind, simple, pseudo, domain, composite, array, enumeration, range}
 use Rattle.pgv_types.specs.Facts.{built_in, oid_of}
@@ -10,12 +10,13 @@ use Rattle.pgv_value.specs.Frame.{IsFrame, front}
 use Rattle.pgv_value.specs.Laws.{AreBytes}
 use Rattle.pgv_value.specs.Reading.{Reading}
 use Rattle.pgv_value.specs.declared.value.PgValueFormat.TheVariants.{Binary}
-use Rattle.pgv_value.proofs.Fronts.{front_exactly, frame_in_front}
+use Rattle.pgv_value.proofs.Fronts.{front_exactly}
+use Rattle.pgv_wire.specs.Found.{number_of_four, field_type_there, field_there, next_there}
 use Rattle.pgv_wire.specs.Grammar.{HasFieldType, of_record, of_custom_record, of_composite, of_domain, Stretch, IsField, ◌and◌, RecordIsItsFields}
 use Rattle.pgv_wire.specs.Records.{is_oid, field_at, if_oid, field_type, field_type_in, field_head, field_in, Left, binary_fields, next, fields_of}
 use Rattle.pgv_wire.specs.Steps.{number}
 use Rattle.pgv_wire.specs.Tuples.{record_of, ◌then◌}
-use Rattle.pgv_wire.proofs.Numbers.{step_taken, test_held, pair_is, number_of_four, number_there, number_splits, number_is, bytes_behind, behind_four, behind_frame}
+use Rattle.pgv_wire.proofs.Numbers.{step_taken, test_held, pair_is, number_splits, number_is, bytes_behind, behind_four, behind_frame}
 
 -- ---- the types of fields
 
@@ -57,12 +58,6 @@ mutual
   kind_is own name (enumeration labels) place oid found e = absurd cc
   kind_is own name (range element) place oid found e = absurd cc
 
-field_type_there : (place oid : ℕ) (found t : Ty) → HasFieldType place oid found t → field_type t place oid ≡ Some found
-field_type_there place oid found t (of_record e) = e
-field_type_there place oid found t (of_custom_record name e) = e
-field_type_there place oid found t (of_composite own name _ e f) = rw (e, f, eq-eqb oid oid refl) refl
-field_type_there place oid found t (of_domain own name base h) = field_type_there place oid found base h
-
 pub field_type_found : (t : Ty) (place oid : ℕ) (found : Ty) → (field_type t place oid ≡ Some found) ↔ HasFieldType place oid found t
 field_type_found t place oid found = (field_type_is t place oid found, field_type_there place oid found t)
 
@@ -98,16 +93,11 @@ module _ {M : Type 0} (accepts : Ty → Bool) (reading : Reading M) (t : Ty) (pl
         read = read.1 ∙ ap (λ (x : M). let r : Option M = Some x in r) k.0;
       }
 
-  field_there : (bytes : List ℕ) (m : M) (rest : List ℕ) → IsField accepts reading t place bytes m rest → field_in accepts reading t place bytes ≡ Some (m, rest)
-  unfolding field_head
-  field_there bytes m rest f =
-      rw (f.whole, number_there f.oid f.behind f.oid_fits, field_type_there place f.oid f.own t f.typed, f.accepted, frame_in_front f.behind f.part rest f.framed, f.read) refl
-
   pub field_exactly : (bytes : List ℕ) (m : M) (rest : List ℕ) → AreBytes bytes → (field_in accepts reading t place bytes ≡ Some (m, rest)) ↔ IsField accepts reading t place bytes m rest
-  field_exactly bytes m rest b = (field_is bytes m rest b, field_there bytes m rest)
+  field_exactly bytes m rest b = (field_is bytes m rest b, field_there accepts reading t place bytes m rest)
 
   pub one_field : (bytes : List ℕ) (m n : M) (rest others : List ℕ) → IsField accepts reading t place bytes m rest → IsField accepts reading t place bytes n others → (m ≡ n) × (rest ≡ others)
-  one_field bytes m n rest others f g = pair_is m n rest others (sym (field_there bytes m rest f) ∙ field_there bytes n others g)
+  one_field bytes m n rest others f g = pair_is m n rest others (sym (field_there accepts reading t place bytes m rest f) ∙ field_there accepts reading t place bytes n others g)
 
   behind_field : (bytes : List ℕ) (m : M) (rest : List ℕ) → IsField accepts reading t place bytes m rest → AreBytes bytes → AreBytes rest
   behind_field bytes m rest f b = behind_frame f.behind f.part rest f.framed (behind_four f.oid bytes f.behind f.whole b)
@@ -123,9 +113,6 @@ module _ {M : Type 0} (accepts : Ty → Bool) (reading : Reading M) (t : Ty) (pl
       mapped (Some x) f g =
           let k = pair_is x.0 m (binary_fields t (suc place) x.1) left g in
           (x.1, sym k.1, subst (λ (y : M). IsField accepts reading t place bytes y x.1) k.0 (field_is bytes x.0 x.1 b f))
-
-  next_there : (bytes : List ℕ) (m : M) (rest : List ℕ) → IsField accepts reading t place bytes m rest → next accepts reading (binary_fields t place bytes) ≡ Some (m, binary_fields t (suc place) rest)
-  next_there bytes m rest f = rw (field_there bytes m rest f) refl
 
 -- ---- records
 

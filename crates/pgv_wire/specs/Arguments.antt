@@ -1,6 +1,6 @@
 -- A list of arguments, each a type and the cells of its frame, and what it is written as with parameter types and
 -- OIDs (PostgreSQL: "Message Formats", Bind; "Extended Query").
-use Rattle.std.specs.Prelude.{◌≡◌, ℕ, List, [], ◌∷◌, ◌++◌, take, drop, replicate, Option, Some}
+use Rattle.std.specs.Prelude.{◌≡◌, ℕ, List, [], ◌∷◌, ◌++◌, take, drop, replicate, Option, Some, None}
 use Rattle.pgv_types.specs.Ty.{Ty}
 use Rattle.pgv_types.specs.declared.oid.Oid.{Oid}
 use Rattle.pgv_buf.specs.Tokens.{Token, byte, hole, slot, tokens_holes, Cell, be4, blank, plain, hole_count, slot_count, chosen}
@@ -32,17 +32,22 @@ abbrev pub framed : List Argument → List Framed
 framed [] = []
 framed (a ∷ args) = (a.0, plain a.1) ∷ framed args
 
--- tokens, written for a parameter type and with the OIDs of their holes
-abbrev pub write : Ty → List Oid → List Token → List ℕ
+-- what a slot shows for a parameter type, and without one: its default
+abbrev pub chosen_for : Option Ty → List ℕ → List (Ty × List ℕ) → List ℕ
+chosen_for None d cs = d
+chosen_for (Some p) d cs = chosen p d cs
+
+-- tokens, written for a parameter type, or for none, and with the OIDs of their holes
+abbrev pub write : Option Ty → List Oid → List Token → List ℕ
 write p os [] = []
 write p os (byte x ∷ ts) = x ∷ write p os ts
 write p os (hole t ∷ ts) = be4 (first_number os) ++ write p (rest_numbers os) ts
-write p os (slot d cs ∷ ts) = chosen p d cs ++ write p os ts
+write p os (slot d cs ∷ ts) = chosen_for p d cs ++ write p os ts
 
 -- each frame with its own parameter type and its share of the OIDs
 abbrev pub early : List Framed → List Ty → List Oid → List ℕ
 early [] ps os = []
-early (a ∷ args) ps os = write (first_type ps) (take (tokens_holes a.1) os) a.1 ++ early args (rest_types ps) (drop (tokens_holes a.1) os)
+early (a ∷ args) ps os = write (Some (first_type ps)) (take (tokens_holes a.1) os) a.1 ++ early args (rest_types ps) (drop (tokens_holes a.1) os)
 
 -- a frame, with these shown
 abbrev pub filled_frame : Ty → List Oid → List Cell → List Cell

@@ -67,6 +67,10 @@ array_of_frames t n (Some fs) = cond (nat_le n limit) (array_behind (header t n)
 abbrev pub array_image : {X : Type 0} → (X → ℕ) → (X → Option Image) → (X → Option Ty) → Ty → List X → Option Image
 array_image hint image produced info xs = array_of_frames (element_type produced info xs) (length xs) (frames hint image xs)
 
+-- an array of so many elements; a list of another number is none
+abbrev pub sized_image : {X : Type 0} → ℕ → (X → ℕ) → (X → Option Image) → (X → Option Ty) → Ty → List X → Option Image
+sized_image n hint image produced info xs = cond (nat_eq (length xs) n) (array_image hint image produced info xs) None
+
 abbrev pub option_image : {X : Type 0} → (X → Option Image) → Option X → Option Image
 option_image image None = Some null_image
 option_image image (Some x) = image x

@@ -1,6 +1,6 @@
 -- Frames that are read one behind the other (PostgreSQL: "Message Formats", Bind: each parameter value is a length
 -- of four bytes, the highest first, and that many bytes; the length -1 is null).
-use Rattle.std.specs.Prelude.{◌≡◌, ℕ, List, [], ◌∷◌, length, take, drop, Some, None, ⊤}
+use Rattle.std.specs.Prelude.{◌≡◌, ℕ, List, [], ◌∷◌, length, take, drop, Option, Some, None, ⊤}
 use Rattle.pgv_types.specs.Ty.{Ty}
 use Rattle.pgv_types.specs.declared.oid.Oid.{Oid}
 use Rattle.pgv_buf.specs.Fill.{rest_types}
@@ -36,8 +36,8 @@ parts_in [] args = []
 parts_in (i ∷ is) [] = []
 parts_in (i ∷ is) (a ∷ args) = part_in i a.1 ∷ parts_in is args
 
--- the part that an image is written as, for a parameter type and with the OIDs of its holes
-abbrev pub written_part : Image → Ty → List Oid → Part
+-- the part that an image is written as, for a parameter type, or for none, and with the OIDs of its holes
+abbrev pub written_part : Image → Option Ty → List Oid → Part
 written_part null_image p os = None
 written_part (image_of ts) p os = Some (write p os ts)
 
@@ -49,7 +49,7 @@ image_holes (image_of ts) = tokens_holes ts
 -- the parts of all, each with its own parameter type and its share of the OIDs
 abbrev pub written_parts : List Image → List Ty → List Oid → List Part
 written_parts [] ps os = []
-written_parts (i ∷ is) ps os = written_part i (first_type ps) (take (image_holes i) os) ∷ written_parts is (rest_types ps) (drop (image_holes i) os)
+written_parts (i ∷ is) ps os = written_part i (Some (first_type ps)) (take (image_holes i) os) ∷ written_parts is (rest_types ps) (drop (image_holes i) os)
 
 -- frames that are read one behind the other, a part for each and nothing behind: null where the image is null, and
 -- else what the argument shows behind its length

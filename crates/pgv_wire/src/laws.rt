@@ -1,21 +1,28 @@
-//! Laws of what buffers and arguments hold, and of what arrays and records in binary are: each is the contract of a
-//! function that does nothing.
+//! Laws of what buffers and arguments hold, of what arrays and records in binary are, and of what is read back of what was
+//! written: each is the contract of a function that does nothing.
 
-ghost use Rattle.std.specs.Prelude.{◌≡◌, ℕ, Bool, List, [], length, Option, Some};
-ghost use Rattle.pgv_types.specs.Ty.{Ty};
+ghost use Rattle.std.specs.Prelude.{◌≡◌, ◌<◌, ◌^◌, ℕ, Bool, List, [], ◌∷◌, length, Option, Some, None};
+ghost use Rattle.pgv_types.specs.Ty.{Ty, builtin};
+ghost use Rattle.std.specs.Int.{w32};
 ghost use Rattle.pgv_types.specs.declared.oid.Oid.{Oid};
 ghost use Rattle.pgv_buf.specs.Parse.{Proper};
 ghost use Rattle.pgv_buf.specs.Tokens.{Token, Cell, shown, width, tokens_width, hole_types_of};
 ghost use Rattle.pgv_value.specs.Frame.{Part};
 ghost use Rattle.pgv_value.specs.Reading.{Reading};
 ghost use Rattle.pgv_wire.specs.Arguments.{Argument, Framed, all_tokens, types_in, framed, filled_arguments};
+ghost use Rattle.pgv_wire.specs.Back.{AreOids, ReadsBack, FieldFits, Followed, FieldReadsBack, RecordFieldsFollow, RecordReadsBack};
+ghost use Rattle.pgv_wire.specs.Given.{ArgumentReadsBack, given_in, parts_given};
 ghost use Rattle.pgv_wire.specs.Grammar.{ArrayIsItsElements, OneArray, FieldTypeIsFound, FieldIsItsValue, OneField, RecordBegins, RecordIsItsFields, IsField, ◌and◌};
 ghost use Rattle.pgv_wire.specs.History.{Call, after, told, bytes_by, added_in, joined_frames, framed_types, holes_in, lengths_in, ArePlain, joined_bytes};
-ghost use Rattle.pgv_wire.specs.Image.{Image, frame_of};
+ghost use Rattle.pgv_wire.specs.Image.{Image, field, frame_of};
+ghost use Rattle.pgv_wire.specs.Plain.{ArrayIsPlain, FieldIsPlain};
 ghost use Rattle.pgv_wire.specs.Parts.{ReadAs, AreFrames, AllRead, parts_in, written_parts};
+ghost use Rattle.pgv_value.specs.Scalars.{int_reading};
+ghost use Rattle.pgv_wire.specs.Saying.{said, plainly};
+ghost use Rattle.pgv_wire.specs.Scalars.{signed_image};
 
 use crate::arguments::PgArguments;
-use crate::traits::{Decode, Type};
+use crate::traits::{Codec, Decode, ReadBack, Type};
 
 /// Whatever was added, refused and filled, in any order: the bytes are those that the arguments at the last
 /// filling are written as with what it was given, and then the others with zeros and defaults.
@@ -143,4 +150,99 @@ pub fn tuple_is_its_fields<
     ensures seven { RecordIsItsFields ⟦<(A, B, C, D, E, F, G) as Decode>⟧.reading (IsField A.accepts A.reading and IsField B.accepts B.reading and IsField C.accepts C.reading and IsField D.accepts D.reading and IsField E.accepts E.reading and IsField F.accepts F.reading and IsField G.accepts G.reading) }
     ensures eight { RecordIsItsFields ⟦<(A, B, C, D, E, F, G, H) as Decode>⟧.reading (IsField A.accepts A.reading and IsField B.accepts B.reading and IsField C.accepts C.reading and IsField D.accepts D.reading and IsField E.accepts E.reading and IsField F.accepts F.reading and IsField G.accepts G.reading and IsField H.accepts H.reading) }
     ensures nine { RecordIsItsFields ⟦<(A, B, C, D, E, F, G, H, I) as Decode>⟧.reading (IsField A.accepts A.reading and IsField B.accepts B.reading and IsField C.accepts C.reading and IsField D.accepts D.reading and IsField E.accepts E.reading and IsField F.accepts F.reading and IsField G.accepts G.reading and IsField H.accepts H.reading and IsField I.accepts I.reading) }
+{}
+
+/// What is written of a value is read back, in binary by its own type, as what it keeps: for every parameter type, or none
+/// with each slot at its default, under every type and with all OIDs in the holes that fit.
+pub fn read_back<T: ReadBack>()
+    ensures { ReadsBack T.image T.reading (λ v. T.meaning (T.kept v)) T.fits }
+{}
+
+// An OID is a number of 32 bits.
+fn oid_fits(oid: pgv_types::Oid)
+    ensures { oid.0 < 2 ^ 32 }
+{
+    let _number = oid.0;
+}
+
+/// The OIDs that a filling is given are numbers of 32 bits.
+pub fn oids_fit(oids: &[pgv_types::Oid])
+    ensures { AreOids oids.now }
+{
+    for oid in oids {
+        oid_fits(*oid);
+    }
+}
+
+/// The parts of arguments after any list of calls are what their images are written as, each with what its argument was given:
+/// at the last filling its parameter's type and the OIDs of its own holes, or neither, where zeros and defaults stand.
+#[tactic(auto, using(crate::proofs::ArgumentsBack::parts_told))]
+pub fn parts_after()
+    ensures { (calls : List Call) (is : List Image) → AreFrames is (added_in calls) → parts_in is (after [] calls) ≡ parts_given is (given_in (told calls)) }
+{}
+
+/// Whatever was added, refused and filled, in any order: the part of an argument that was added for a value of `T` is read back
+/// in binary as what the value keeps, under each type that fits with the OIDs that the argument was given. That the buffer
+/// is proper is what [`PgArgumentBuffer::as_slice`](crate::PgArgumentBuffer::as_slice) says, and that reading it frame by frame gives these
+/// parts [`frames_read`].
+pub fn argument_reads_back<T: ReadBack>()
+    ensures { ArgumentReadsBack T.hint T.image T.reading (λ v. T.meaning (T.kept v)) T.fits }
+{}
+
+/// A field of a record that was written is read back by its own type, under each type that fits; and what stands behind it is
+/// left, with the OIDs that it leaves. So it is for every list of fields, one after the other.
+pub fn field_reads_back<T: ReadBack + Type>()
+    ensures { FieldReadsBack T.info T.produced T.hint T.image T.accepts T.reading (λ v. T.meaning (T.kept v)) T.fits }
+{}
+
+/// The fields of a record that was written stand behind its first four bytes, one behind the other.
+#[tactic(auto, using(crate::specs::BackRecords::fields_back))]
+pub fn record_fields_follow()
+    ensures { RecordFieldsFollow }
+{}
+
+/// A record that was written is read back by a tuple of its first fields, under each type that these fit, each with the OIDs
+/// that those before it leave.
+pub fn tuple_reads_back<A: ReadBack + Type, B: ReadBack + Type, C: ReadBack + Type>()
+    ensures one { (a : A) (further : List (Option (List Token))) → RecordReadsBack ⟦<(A,) as Decode>⟧.reading (field A.hint A.image A.produced A.info a ∷ further) (A.meaning (A.kept a)) (FieldFits A.info A.produced A.image A.accepts A.fits a) }
+    ensures two { (a : A) (b : B) (further : List (Option (List Token))) → RecordReadsBack ⟦<(A, B) as Decode>⟧.reading (field A.hint A.image A.produced A.info a ∷ field B.hint B.image B.produced B.info b ∷ further) (A.meaning (A.kept a), B.meaning (B.kept b)) (Followed (FieldFits A.info A.produced A.image A.accepts A.fits a) (field A.hint A.image A.produced A.info a) (FieldFits B.info B.produced B.image B.accepts B.fits b)) }
+    ensures three { (a : A) (b : B) (c : C) (further : List (Option (List Token))) → RecordReadsBack ⟦<(A, B, C) as Decode>⟧.reading (field A.hint A.image A.produced A.info a ∷ field B.hint B.image B.produced B.info b ∷ field C.hint C.image C.produced C.info c ∷ further) (A.meaning (A.kept a), (B.meaning (B.kept b), C.meaning (C.kept c))) (Followed (FieldFits A.info A.produced A.image A.accepts A.fits a) (field A.hint A.image A.produced A.info a) (Followed (FieldFits B.info B.produced B.image B.accepts B.fits b) (field B.hint B.image B.produced B.info b) (FieldFits C.info C.produced C.image C.accepts C.fits c))) }
+{}
+
+/// A plain value comes back under every type.
+pub fn plain_types_fit()
+    ensures bool { (v : _) (t : Ty) (oids : List Oid) → ⟦<bool as ReadBack>⟧.fits v t oids }
+    ensures i8 { (v : _) (t : Ty) (oids : List Oid) → ⟦<i8 as ReadBack>⟧.fits v t oids }
+    ensures i16 { (v : _) (t : Ty) (oids : List Oid) → ⟦<i16 as ReadBack>⟧.fits v t oids }
+    ensures i32 { (v : _) (t : Ty) (oids : List Oid) → ⟦<i32 as ReadBack>⟧.fits v t oids }
+    ensures i64 { (v : _) (t : Ty) (oids : List Oid) → ⟦<i64 as ReadBack>⟧.fits v t oids }
+    ensures oid { (v : _) (t : Ty) (oids : List Oid) → ⟦<pgv_types::Oid as ReadBack>⟧.fits v t oids }
+    ensures string { (v : _) (t : Ty) (oids : List Oid) → ⟦<String as ReadBack>⟧.fits v t oids }
+    ensures uuid { (v : _) (t : Ty) (oids : List Oid) → ⟦<uuid::Uuid as ReadBack>⟧.fits v t oids }
+{}
+
+/// None comes back under every type, and Some where its value does. A list or an array comes back under an array whose
+/// element's own OID was written, where each element does. A field comes back under a composite type, a domain of one or
+/// `record`, where the OID of the type at its place was written, that type is accepted, and the value comes back under it.
+///
+/// Applied at each place, this says that a nest comes back under a type that is resolved and of its shape at every place,
+/// where each OID that was written is that of the type there, and no custom type has a built-in's.
+pub fn nests_fit<T: ReadBack + Type, const N: usize>()
+    ensures none { (t : Ty) (oids : List Oid) → ⟦<Option<T> as ReadBack>⟧.fits None t oids }
+    ensures some { (v : T) (t : Ty) (oids : List Oid) → T.fits v t oids → ⟦<Option<T> as ReadBack>⟧.fits (Some v) t oids }
+    ensures list { (v : _) (t : Ty) (oids : List Oid) → ArrayIsPlain T.info T.produced T.image T.fits v.items t oids → ⟦<Vec<T> as ReadBack>⟧.fits v t oids }
+    ensures array { (v : _) (t : Ty) (oids : List Oid) → ArrayIsPlain T.info T.produced T.image T.fits v t oids → ⟦<[T; N] as ReadBack>⟧.fits v t oids }
+    ensures field { (v : T) (t : Ty) (place : ℕ) (oids : List Oid) → FieldIsPlain T.info T.produced T.image T.accepts T.fits v t place oids → FieldFits T.info T.produced T.image T.accepts T.fits v t place oids }
+{}
+
+/// What an encoder says of a value is what is written of its meaning, so that values of one meaning are written alike.
+pub fn written_as_read<T: Codec>(value: &T)
+    ensures { said T.hint T.image T.produced T.info value.now ≡ T.written T.info (T.meaning value.now) }
+{}
+
+/// What an `i32` is: an int4, read and written as an integer of 32 bits.
+pub fn int4_is_an_integer()
+    ensures info { ⟦<i32 as Type>⟧.info ≡ builtin 23 }
+    ensures reading { ⟦<i32 as Decode>⟧.reading ≡ int_reading w32 }
+    ensures written { ⟦<i32 as Decode>⟧.written ≡ plainly (signed_image w32) }
 {}

@@ -14,17 +14,13 @@
 //!
 //! ```text
 //! impl Encode for Person {
-//!     ghost use Rattle.std.specs.Prelude.{None, [], ◌∷◌};
+//!     ghost use Rattle.std.specs.Prelude.{[], ◌∷◌};
 //!     ghost use Rattle.pgv_wire.specs.Image.{field, record_image};
 //!
 //!     ghost image = { λ v. record_image (
 //!         field ⟦<i32 as Encode>⟧.hint ⟦<i32 as Encode>⟧.image ⟦<i32 as Encode>⟧.produced ⟦<i32 as Type>⟧.info v.id
 //!         ∷ field ⟦<Tags as Encode>⟧.hint ⟦<Tags as Encode>⟧.image ⟦<Tags as Encode>⟧.produced ⟦<Tags as Type>⟧.info v.tags
 //!         ∷ []) };
-//!
-//!     ghost hint = { λ _. 0 };
-//!
-//!     ghost produced = { λ _. None };
 //!
 //!     fn encode_by_ref(&self, out: &mut PgArgumentBuffer) -> Result<IsNull, CodecError> {
 //!         let mut record = PgRecordEncoder::new(out)?;
@@ -65,7 +61,7 @@ pub use pgv_value::{
     CodecError, PgValue, PgValueFormat, PgValueRef, read_bool, read_i8, read_i16, read_i32,
     read_i64, read_oid, read_uuid,
 };
-pub use traits::{Decode, Encode, PgHasArrayType, Type};
+pub use traits::{Codec, Decode, Encode, PgHasArrayType, ReadBack, Type};
 pub use types::array::encode_array;
 pub use types::record::{PgRecordDecoder, PgRecordEncoder};
 pub use types::str::encode_text;

@@ -7,5 +7,4 @@ pub mod Spellings
 pub mod InputLines
 pub mod Feeds
 pub mod SoFar
-pub mod Lists
 pub mod Refusals

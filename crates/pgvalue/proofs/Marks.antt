@@ -1,13 +1,10 @@
--- Lines, split at a mark and put together, and the names of types.
-use Rattle.std.proofs.Common.{◌≡◌, ◌++◌, ◌∙◌, sym, ap, subst, ℕ, ◌==◌, Bool, true, false, if◌then◌else◌, List, [], ◌∷◌, refl, Option, Some, None}
+-- Lines, split at a mark and put together.
+use Rattle.std.proofs.Common.{◌≡◌, ◌≢◌, ◌++◌, ◌∙◌, sym, ap, subst, ℕ, ◌==◌, Bool, true, false, if◌then◌else◌, List, [], ◌∷◌, refl, Option, Some, None}
 use Rattle.std.specs.Prelude.{bytes_eq}
+use Rattle.std.specs.List.{AllByRecursion}
 use Rattle.std.proofs.lemmas.Slice.Eq.{bytes_eq-Decides}
-use Rattle.std.proofs.lemmas.Bool.{eqb-true, eq-eqb}
-use Rattle.std.proofs.lemmas.Option.{same_Some}
-use Rattle.pgvalue.specs.declared.line.ValueType.{ValueType}
-use Rattle.pgvalue.specs.declared.line.ValueType.TheVariants.{Bool as BoolType, Char, Int2, Int4, Int8, Oid as OidType, Text, Uuid, Int4Array, TextArray}
-use Rattle.pgvalue.specs.Lines.{before, behind, type_named}
-use Rattle.pgvalue.specs.Spelled.{type_name}
+use Rattle.std.proofs.lemmas.Bool.{eqb-true, eqb-false, eq-eqb, ne_eqb}
+use Rattle.pgvalue.specs.Lines.{before, behind}
 
 -- ---- a line is split at its first mark
 
@@ -47,6 +44,20 @@ split_joined mark (c ∷ word) rest none =
     subst (λ (line : List ℕ). IsSplit mark line (c ∷ word) rest) (sym (joined_more mark c word rest))
     (split_at mark c word rest (c == mark) refl none (split_joined mark word rest))
 
+-- what stands before a mark has none
+before_at : (mark c : ℕ) (cs : List ℕ) (b : Bool) → (c == mark) ≡ b → AllByRecursion (λ d. d ≢ mark) (before mark cs) → AllByRecursion (λ d. d ≢ mark) (before mark (c ∷ cs))
+before_at mark c cs true e h = rw e tt
+before_at mark c cs false e h = rw e (eqb-false c mark e, h)
+
+pub before_has_none : (mark : ℕ) (line : List ℕ) → AllByRecursion (λ d. d ≢ mark) (before mark line)
+before_has_none mark [] = tt
+before_has_none mark (c ∷ cs) = before_at mark c cs (c == mark) refl (before_has_none mark cs)
+
+-- and nothing stands behind one in what has none
+pub none_behind : (mark : ℕ) (word : List ℕ) → AllByRecursion (λ d. d ≢ mark) word → behind mark word ≡ None
+none_behind mark [] h = refl
+none_behind mark (c ∷ cs) h = let other : (c == mark) ≡ false = ne_eqb c mark h.0 in rw other (none_behind mark cs h.1)
+
 -- ---- a word among some
 
 by_test : {A Q : Type 0} (word name : List ℕ) (this rest : Option A) (x : A) (b : Bool) → bytes_eq word name ≡ b → (word ≡ name → this ≡ Some x → Q) → (rest ≡ Some x → Q) →
@@ -56,38 +67,3 @@ by_test word name this rest x false e here there h = there h
 
 pub word_or : {A Q : Type 0} (word name : List ℕ) (this rest : Option A) (x : A) → (word ≡ name → this ≡ Some x → Q) → (rest ≡ Some x → Q) → (if bytes_eq word name then this else rest) ≡ Some x → Q
 word_or word name this rest x here there h = by_test word name this rest x (bytes_eq word name) refl here there h
-
--- ---- names of types
-
-name_or : (word : List ℕ) (named t : ValueType) (rest : Option ValueType) → (rest ≡ Some t → word ≡ type_name t) →
-    (if bytes_eq word (type_name named) then Some named else rest) ≡ Some t → word ≡ type_name t
-name_or word named t rest there h = word_or word (type_name named) (Some named) rest t (λ e s. e ∙ ap type_name (same_Some named t s)) there h
-
-pub named_is : (word : List ℕ) (t : ValueType) → type_named word ≡ Some t → word ≡ type_name t
-named_is word t h =
-    name_or word BoolType t _ (name_or word Char t _ (name_or word Int2 t _ (name_or word Int4 t _ (name_or word Int8 t _
-    (name_or word OidType t _ (name_or word Text t _ (name_or word Uuid t _ (name_or word Int4Array t _ (name_or word TextArray t None (λ e. absurd cc)))))))))) h
-
-pub type_named_by_name : (t : ValueType) → type_named (type_name t) ≡ Some t
-type_named_by_name BoolType = refl
-type_named_by_name Char = refl
-type_named_by_name Int2 = refl
-type_named_by_name Int4 = refl
-type_named_by_name Int8 = refl
-type_named_by_name OidType = refl
-type_named_by_name Text = refl
-type_named_by_name Uuid = refl
-type_named_by_name Int4Array = refl
-type_named_by_name TextArray = refl
-
-pub no_space_in_name : (t : ValueType) → behind 32 (type_name t) ≡ None
-no_space_in_name BoolType = refl
-no_space_in_name Char = refl
-no_space_in_name Int2 = refl
-no_space_in_name Int4 = refl
-no_space_in_name Int8 = refl
-no_space_in_name OidType = refl
-no_space_in_name Text = refl
-no_space_in_name Uuid = refl
-no_space_in_name Int4Array = refl
-no_space_in_name TextArray = refl

@@ -5,11 +5,10 @@ use Rattle.std.specs.declared.alloc.AllocError.{AllocError}
 use Rattle.std.proofs.lemmas.Option.{same_Some}
 use Rattle.pgv_types.specs.declared.oid.Oid.{Oid}
 use Rattle.pgvalue.specs.declared.line.Request.{Request as Parsed}
-use Rattle.pgvalue.specs.declared.line.ValueType.{ValueType}
 use Rattle.pgvalue.specs.Requests.{request_seen}
-use Rattle.pgvalue.specs.Lines.{first_word, behind_word, words, type_named, oids_named, given_bytes, added, read_as, read_of, alone, add_line, null_line, resolve_line, read_line, request}
-use Rattle.pgvalue.specs.Spelled.{Request, adds, adds_null, asks_holes, resolves, asks_wire, reads, type_name, SpellsOids, SpellsPart, Spells, Asks}
-use Rattle.pgvalue.proofs.Marks.{joined, whole, split_joined, word_or, named_is, type_named_by_name, no_space_in_name}
+use Rattle.pgvalue.specs.Lines.{first_word, behind_word, words, oids_named, given_bytes, added, read_of, alone, add_line, null_line, resolve_line, read_line, request}
+use Rattle.pgvalue.specs.Spelled.{Request, asks, to_add, to_add_null, to_read, asks_holes, resolves, asks_wire, IsName, SpellsOids, SpellsPart, Spells, Asks}
+use Rattle.pgvalue.proofs.Marks.{joined, whole, split_joined, word_or, before_has_none, none_behind}
 use Rattle.pgvalue.proofs.OidWords.{oids_are, oids_found}
 use Rattle.pgvalue.proofs.HexTexts.{part_is, part_given}
 
@@ -19,25 +18,21 @@ alone_spelled : (line verb : List ℕ) (asked r : Request) (rest : Option (List 
 alone_spelled line verb asked r None l h = (l, same_Some asked r h)
 alone_spelled line verb asked r (Some text) l h = absurd cc
 
-added_spelled : (line text : List ℕ) (r : Request) (t : Option ValueType) (body : Option (List ℕ)) → line ≡ codes "add " ++ text → text ≡ joined 32 (first_word text) body →
-    type_named (first_word text) ≡ t → added t body ≡ Some r → Spells r line
-added_spelled line text r None body l split n h = absurd cc
-added_spelled line text r (Some t) None l split n h = absurd cc
-added_spelled line text r (Some t) (Some body) l split n h =
-    subst (λ (asked : Request). Spells asked line) (same_Some (adds t body) r h)
-    (l ∙ ap (λ (xs : List ℕ). codes "add " ++ xs) (split ∙ ap (λ (word : List ℕ). word ++ 32 ∷ body) (named_is (first_word text) t n)))
+added_spelled : (line text : List ℕ) (r : Request) (body : Option (List ℕ)) → line ≡ codes "add " ++ text → text ≡ joined 32 (first_word text) body → added (first_word text) body ≡ Some r → Spells r line
+added_spelled line text r None l split h = absurd cc
+added_spelled line text r (Some body) l split h =
+    subst (λ (asked : Request). Spells asked line) (same_Some (asks (first_word text) (to_add body)) r h)
+    (before_has_none 32 text, l ∙ ap (λ (xs : List ℕ). codes "add " ++ xs) split)
 
 add_spelled : (line : List ℕ) (r : Request) (rest : Option (List ℕ)) → line ≡ joined 32 (codes "add") rest → add_line rest ≡ Some r → Spells r line
 add_spelled line r None l h = absurd cc
-add_spelled line r (Some text) l h = added_spelled line text r (type_named (first_word text)) (behind_word text) l (whole 32 text) refl h
-
-null_of : (line text : List ℕ) (r : Request) (t : Option ValueType) → line ≡ codes "null " ++ text → type_named text ≡ t → option_map (λ t. adds_null t) t ≡ Some r → Spells r line
-null_of line text r None l n h = absurd cc
-null_of line text r (Some t) l n h = subst (λ (asked : Request). Spells asked line) (same_Some (adds_null t) r h) (l ∙ ap (λ (xs : List ℕ). codes "null " ++ xs) (named_is text t n))
+add_spelled line r (Some text) l h = added_spelled line text r (behind_word text) l (whole 32 text) h
 
 null_spelled : (line : List ℕ) (r : Request) (rest : Option (List ℕ)) → line ≡ joined 32 (codes "null") rest → null_line rest ≡ Some r → Spells r line
 null_spelled line r None l h = absurd cc
-null_spelled line r (Some text) l h = null_of line text r (type_named text) l refl h
+null_spelled line r (Some text) l h =
+    let is = alone_spelled text (first_word text) (asks (first_word text) to_add_null) r (behind_word text) (whole 32 text) h in
+    subst (λ (asked : Request). Spells asked line) is.1 (before_has_none 32 text, l ∙ ap (λ (xs : List ℕ). codes "null " ++ xs) is.0)
 
 resolve_of : (line text : List ℕ) (r : Request) (oids : Option (List Oid)) → line ≡ codes "resolve " ++ text → oids_named (words text) ≡ oids → option_map (λ oids. resolves oids) oids ≡ Some r → Spells r line
 resolve_of line text r None l n h = absurd cc
@@ -47,20 +42,19 @@ resolve_spelled : (line : List ℕ) (r : Request) (rest : Option (List ℕ)) →
 resolve_spelled line r None l h = subst (λ (asked : Request). Spells asked line) (same_Some (resolves []) r h) ([], refl, l)
 resolve_spelled line r (Some text) l h = resolve_of line text r (oids_named (words text)) l refl h
 
-part_spelled : (line text : List ℕ) (r : Request) (t : ValueType) (part : Option (Option (List ℕ))) → line ≡ codes "read " ++ (type_name t ++ 32 ∷ text) → given_bytes text ≡ part → read_as t part ≡ Some r → Spells r line
-part_spelled line text r t None l n h = absurd cc
-part_spelled line text r t (Some part) l n h = subst (λ (asked : Request). Spells asked line) (same_Some (reads t part) r h) (text, part_is text part n, l)
+part_spelled : (line name text : List ℕ) (r : Request) (part : Option (Option (List ℕ))) → IsName name → line ≡ codes "read " ++ (name ++ 32 ∷ text) → given_bytes text ≡ part →
+    option_map (λ p. asks name (to_read p)) part ≡ Some r → Spells r line
+part_spelled line name text r None n l g h = absurd cc
+part_spelled line name text r (Some part) n l g h = subst (λ (asked : Request). Spells asked line) (same_Some (asks name (to_read part)) r h) (text, n, part_is text part g, l)
 
-read_spelled_by : (line text : List ℕ) (r : Request) (t : Option ValueType) (body : Option (List ℕ)) → line ≡ codes "read " ++ text → text ≡ joined 32 (first_word text) body →
-    type_named (first_word text) ≡ t → read_of t body ≡ Some r → Spells r line
-read_spelled_by line text r None body l split n h = absurd cc
-read_spelled_by line text r (Some t) None l split n h = absurd cc
-read_spelled_by line text r (Some t) (Some body) l split n h =
-    part_spelled line body r t (given_bytes body) (l ∙ ap (λ (xs : List ℕ). codes "read " ++ xs) (split ∙ ap (λ (word : List ℕ). word ++ 32 ∷ body) (named_is (first_word text) t n))) refl h
+read_spelled_by : (line text : List ℕ) (r : Request) (body : Option (List ℕ)) → line ≡ codes "read " ++ text → text ≡ joined 32 (first_word text) body → read_of (first_word text) body ≡ Some r → Spells r line
+read_spelled_by line text r None l split h = absurd cc
+read_spelled_by line text r (Some body) l split h =
+    part_spelled line (first_word text) body r (given_bytes body) (before_has_none 32 text) (l ∙ ap (λ (xs : List ℕ). codes "read " ++ xs) split) refl h
 
 read_spelled : (line : List ℕ) (r : Request) (rest : Option (List ℕ)) → line ≡ joined 32 (codes "read") rest → read_line rest ≡ Some r → Spells r line
 read_spelled line r None l h = absurd cc
-read_spelled line r (Some text) l h = read_spelled_by line text r (type_named (first_word text)) (behind_word text) l (whole 32 text) refl h
+read_spelled line r (Some text) l h = read_spelled_by line text r (behind_word text) l (whole 32 text) h
 
 spelled : (line : List ℕ) (r : Request) → request line ≡ Some r → Spells r line
 spelled line r h =
@@ -78,23 +72,26 @@ spelled line r h =
 
 -- ---- what is spelled is found
 
-add_found : (t : ValueType) (text : List ℕ) → add_line (Some (type_name t ++ 32 ∷ text)) ≡ Some (adds t text)
-add_found t text = let parts = split_joined 32 (type_name t) (Some text) (no_space_in_name t) in rw (parts.0, parts.1, type_named_by_name t) refl
+add_found : (name text : List ℕ) → IsName name → add_line (Some (name ++ 32 ∷ text)) ≡ Some (asks name (to_add text))
+add_found name text n = let parts = split_joined 32 name (Some text) (none_behind 32 name n) in rw (parts.0, parts.1) refl
 
-read_found : (t : ValueType) (text : List ℕ) (part : Option (List ℕ)) → SpellsPart part text → read_line (Some (type_name t ++ 32 ∷ text)) ≡ Some (reads t part)
-read_found t text part s = let parts = split_joined 32 (type_name t) (Some text) (no_space_in_name t) in rw (parts.0, parts.1, type_named_by_name t, part_given text part s) refl
+null_found : (name : List ℕ) → IsName name → null_line (Some name) ≡ Some (asks name to_add_null)
+null_found name n = let parts = split_joined 32 name None (none_behind 32 name n) in rw (parts.0, parts.1) refl
+
+read_found : (name text : List ℕ) (part : Option (List ℕ)) → IsName name → SpellsPart part text → read_line (Some (name ++ 32 ∷ text)) ≡ Some (asks name (to_read part))
+read_found name text part n s = let parts = split_joined 32 name (Some text) (none_behind 32 name n) in rw (parts.0, parts.1, part_given text part s) refl
 
 resolve_found : (oids : List Oid) (text : List ℕ) → SpellsOids oids text → request (codes "resolve" ++ text) ≡ Some (resolves oids)
 resolve_found [] text s = ap (λ (xs : List ℕ). request (codes "resolve" ++ xs)) s
 resolve_found (oid ∷ oids) text s = ap (λ (xs : List ℕ). request (codes "resolve" ++ xs)) s.4 ∙ ap (option_map (λ os. resolves os)) (oids_found s.0 oid oids s.1 s.2 s.3)
 
 found : (r : Request) (line : List ℕ) → Spells r line → request line ≡ Some r
-found (adds t text) line s = ap request s ∙ add_found t text
-found (adds_null t) line s = ap request s ∙ ap (option_map (λ t. adds_null t)) (type_named_by_name t)
+found (asks name (to_add text)) line s = ap request s.1 ∙ add_found name text s.0
+found (asks name to_add_null) line s = ap request s.1 ∙ null_found name s.0
 found asks_holes line s = ap request s
 found (resolves oids) line s = ap request s.2 ∙ resolve_found oids s.0 s.1
 found asks_wire line s = ap request s
-found (reads t part) line s = ap request s.2 ∙ read_found t s.0 part s.1
+found (asks name (to_read part)) line s = ap request s.3 ∙ read_found name s.0 part s.1 s.2
 
 -- ---- exactly
 

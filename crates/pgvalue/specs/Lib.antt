@@ -3,5 +3,5 @@ pub mod Lines
 pub mod Laws
 pub mod Requests
 pub mod Session
-pub mod Values
+pub mod Types
 pub mod Faults

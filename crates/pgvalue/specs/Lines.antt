@@ -3,12 +3,10 @@
 use Rattle.std.specs.Prelude.{ℕ, ◌==◌, nat_lt, Bool, false, codes, bytes_eq, List, [], ◌∷◌, Option, Some, None, Result, Ok, Err, option_map, if◌then◌else◌}
 use Rattle.hex.specs.Hex.{decode_of}
 use Rattle.hex.specs.declared.error.FromHexError.{FromHexError}
-use Rattle.pgvalue.specs.declared.line.ValueType.{ValueType}
-use Rattle.pgvalue.specs.declared.line.ValueType.TheVariants.{Bool as BoolType, Char, Int2, Int4, Int8, Oid as OidType, Text, Uuid, Int4Array, TextArray}
 use Rattle.pgv_types.specs.declared.oid.Oid.{Oid}
 use Rattle.pgv_text.specs.Number.{unsigned_value}
 use Rattle.pgv_value.specs.Utf8.{is_utf8}
-use Rattle.pgvalue.specs.Spelled.{Request, adds, adds_null, asks_holes, resolves, asks_wire, reads}
+use Rattle.pgvalue.specs.Spelled.{Request, asks, to_add, to_add_null, to_read, asks_holes, resolves, asks_wire}
 
 -- what stands before the first byte of a kind, and behind it where there is one
 abbrev pub before : ℕ → List ℕ → List ℕ
@@ -36,20 +34,7 @@ abbrev pub words : List ℕ → List (List ℕ)
 words [] = [] ∷ []
 words (c ∷ cs) = if c == 32 then [] ∷ words cs else at_first c (words cs)
 
--- ---- names
-
-abbrev pub type_named : List ℕ → Option ValueType
-type_named word =
-    if bytes_eq word (codes "bool") then Some BoolType else
-    if bytes_eq word (codes "char") then Some Char else
-    if bytes_eq word (codes "int2") then Some Int2 else
-    if bytes_eq word (codes "int4") then Some Int4 else
-    if bytes_eq word (codes "int8") then Some Int8 else
-    if bytes_eq word (codes "oid") then Some OidType else
-    if bytes_eq word (codes "text") then Some Text else
-    if bytes_eq word (codes "uuid") then Some Uuid else
-    if bytes_eq word (codes "int4[]") then Some Int4Array else
-    if bytes_eq word (codes "text[]") then Some TextArray else None
+-- ---- numbers
 
 abbrev pub starts_with_plus : List ℕ → Bool
 starts_with_plus [] = false
@@ -82,19 +67,13 @@ hex_bytes (Err e) = None
 abbrev pub given_bytes : List ℕ → Option (Option (List ℕ))
 given_bytes text = if bytes_eq text (codes "null") then Some None else option_map (λ bytes. Some bytes) (hex_bytes (decode_of text))
 
-abbrev pub added : Option ValueType → Option (List ℕ) → Option Request
-added None text = None
-added (Some t) None = None
-added (Some t) (Some text) = Some (adds t text)
+abbrev pub added : List ℕ → Option (List ℕ) → Option Request
+added name None = None
+added name (Some text) = Some (asks name (to_add text))
 
-abbrev pub read_as : ValueType → Option (Option (List ℕ)) → Option Request
-read_as t None = None
-read_as t (Some bytes) = Some (reads t bytes)
-
-abbrev pub read_of : Option ValueType → Option (List ℕ) → Option Request
-read_of None text = None
-read_of (Some t) None = None
-read_of (Some t) (Some text) = read_as t (given_bytes text)
+abbrev pub read_of : List ℕ → Option (List ℕ) → Option Request
+read_of name None = None
+read_of name (Some text) = option_map (λ part. asks name (to_read part)) (given_bytes text)
 
 -- what stands behind the first word, by that word
 abbrev pub alone : Request → Option (List ℕ) → Option Request
@@ -103,11 +82,11 @@ alone r (Some text) = None
 
 abbrev pub add_line : Option (List ℕ) → Option Request
 add_line None = None
-add_line (Some text) = added (type_named (first_word text)) (behind_word text)
+add_line (Some text) = added (first_word text) (behind_word text)
 
 abbrev pub null_line : Option (List ℕ) → Option Request
 null_line None = None
-null_line (Some text) = option_map (λ t. adds_null t) (type_named text)
+null_line (Some text) = alone (asks (first_word text) to_add_null) (behind_word text)
 
 abbrev pub resolve_line : Option (List ℕ) → Option Request
 resolve_line None = Some (resolves [])
@@ -115,7 +94,7 @@ resolve_line (Some text) = option_map (λ oids. resolves oids) (oids_named (word
 
 abbrev pub read_line : Option (List ℕ) → Option Request
 read_line None = None
-read_line (Some text) = read_of (type_named (first_word text)) (behind_word text)
+read_line (Some text) = read_of (first_word text) (behind_word text)
 
 abbrev pub request_by : List ℕ → Option (List ℕ) → Option Request
 request_by verb rest =

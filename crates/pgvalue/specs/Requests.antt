@@ -1,13 +1,18 @@
 -- What contracts see of a request.
 use Rattle.std.specs.Prelude.{option_map}
-use Rattle.pgvalue.specs.Spelled.{adds, adds_null, asks_holes, resolves, asks_wire, reads, Request as Asked}
+use Rattle.pgvalue.specs.Spelled.{Ask as Asked, to_add, to_add_null, to_read, asks, asks_holes, resolves, asks_wire, Request as RequestSeen}
+use Rattle.pgvalue.specs.declared.line.Ask.{Ask}
+use Rattle.pgvalue.specs.declared.line.Ask.TheVariants.{Add, Null, Read}
 use Rattle.pgvalue.specs.declared.line.Request.{Request}
-use Rattle.pgvalue.specs.declared.line.Request.TheVariants.{Add, Null, Holes, Resolve, Wire, Read}
+use Rattle.pgvalue.specs.declared.line.Request.TheVariants.{Of, Holes, Resolve, Wire}
 
-abbrev pub request_seen : Request → Asked
-request_seen (Add t text) = adds t text.now
-request_seen (Null t) = adds_null t
+abbrev pub ask_seen : Ask → Asked
+ask_seen (Add text) = to_add text.now
+ask_seen Null = to_add_null
+ask_seen (Read part) = to_read (option_map (λ b. b.items) part)
+
+abbrev pub request_seen : Request → RequestSeen
+request_seen (Of name ask) = asks name.now (ask_seen ask)
 request_seen Holes = asks_holes
 request_seen (Resolve oids) = resolves oids.items
 request_seen Wire = asks_wire
-request_seen (Read t bytes) = reads t (option_map (λ b. b.items) bytes)

@@ -1,58 +1,15 @@
 -- A session of the program: what each line does to the arguments, and what it answers.
-use Rattle.std.specs.Prelude.{◌≡◌, ◌≢◌, ℕ, ◌≤◌, ◌==◌, Bool, true, false, codes, decimal, List, [], ◌∷◌, ◌++◌, length, Option, Some, None, option_map, if◌then◌else◌}
+use Rattle.std.specs.Prelude.{◌≡◌, ◌≢◌, ℕ, ◌≤◌, ◌==◌, Bool, true, false, codes, decimal, List, [], ◌∷◌, ◌++◌, length, Option, Some, None, if◌then◌else◌}
 use Rattle.std.specs.List.{AllByRecursion}
-use Rattle.std.specs.Int.{w8, w16, w32, w64}
 use Rattle.hex.specs.Hex.{encode_lower}
-use Rattle.pgv_types.specs.Ty.{Ty, builtin}
+use Rattle.pgv_types.specs.Ty.{Ty}
 use Rattle.pgv_types.specs.Facts.{display_of}
 use Rattle.pgv_types.specs.declared.oid.Oid.{Oid}
 use Rattle.pgv_buf.specs.Tokens.{bytes, be4, blank, shown, hole_count, hole_types_of}
-use Rattle.pgv_value.specs.Scalars.{bool_reading, int_reading, char_reading, oid_reading, text_reading, uuid_reading}
-use Rattle.pgv_value.specs.declared.value.PgValueFormat.{PgValueFormat}
 use Rattle.pgv_value.specs.declared.value.PgValueFormat.TheVariants.{Text as InText, Binary as InBinary}
 use Rattle.pgv_wire.specs.Arguments.{Argument, Framed, all_tokens, types_in, filled_arguments}
-use Rattle.pgv_wire.specs.Image.{Image, frame, array_image, option_hint, option_image, option_produced}
-use Rattle.pgv_wire.specs.Scalars.{bool_image, signed_image, unsigned_image, text_image, uuid_image}
-use Rattle.pgv_wire.specs.Nullable.{nullable}
-use Rattle.pgv_wire.specs.Arrays.{array as array_reading}
-use Rattle.pgvalue.specs.declared.line.ValueType.{ValueType}
-use Rattle.pgvalue.specs.declared.line.ValueType.TheVariants.{Bool as BoolType, Char, Int2, Int4, Int8, Oid as OidType, Text, Uuid, Int4Array, TextArray}
-use Rattle.pgvalue.specs.Spelled.{Request, adds, adds_null, asks_holes, resolves, asks_wire, reads, Asks}
-
--- ---- the value that a text or bytes are under a type, as it is added: its type and its frame, where it has one
-
-abbrev pub framed_by : {M : Type 0} → Ty → (M → Option Image) → Option M → Option Framed
-framed_by t image None = None
-framed_by t image (Some m) = option_map (λ ts. (t, ts)) (frame 0 (image m))
-
--- a list of values that may be null, of elements of this type
-abbrev pub list_image : {M : Type 0} → Ty → (M → Option Image) → List (Option M) → Option Image
-list_image element image = array_image (option_hint (λ _. 0)) (option_image image) (option_produced (λ _. None) element) element
-
-abbrev pub value_framed : ValueType → PgValueFormat → Option (List ℕ) → Option Framed
-value_framed BoolType f part = framed_by (builtin 16) bool_image (bool_reading (builtin 16) f part)
-value_framed Char f part = framed_by (builtin 18) (signed_image w8) (char_reading (builtin 18) f part)
-value_framed Int2 f part = framed_by (builtin 21) (signed_image w16) (int_reading w16 (builtin 21) f part)
-value_framed Int4 f part = framed_by (builtin 23) (signed_image w32) (int_reading w32 (builtin 23) f part)
-value_framed Int8 f part = framed_by (builtin 20) (signed_image w64) (int_reading w64 (builtin 20) f part)
-value_framed OidType f part = framed_by (builtin 26) (unsigned_image w32) (oid_reading (builtin 26) f part)
-value_framed Text f part = framed_by (builtin 25) text_image (text_reading (builtin 25) f part)
-value_framed Uuid f part = framed_by (builtin 2950) uuid_image (uuid_reading (builtin 2950) f part)
-value_framed Int4Array f part = framed_by (builtin 1007) (list_image (builtin 23) (signed_image w32)) (array_reading (builtin 23) (nullable (int_reading w32)) (builtin 1007) f part)
-value_framed TextArray f part = framed_by (builtin 1009) (list_image (builtin 25) text_image) (array_reading (builtin 25) (nullable text_reading) (builtin 1009) f part)
-
--- the type of a TYPE
-abbrev pub info_of : ValueType → Ty
-info_of BoolType = builtin 16
-info_of Char = builtin 18
-info_of Int2 = builtin 21
-info_of Int4 = builtin 23
-info_of Int8 = builtin 20
-info_of OidType = builtin 26
-info_of Text = builtin 25
-info_of Uuid = builtin 2950
-info_of Int4Array = builtin 1007
-info_of TextArray = builtin 1009
+use Rattle.pgvalue.specs.Spelled.{Ask, to_add, to_add_null, to_read, Request, asks, asks_holes, resolves, asks_wire, Asks}
+use Rattle.pgvalue.specs.Types.{Row, types, row_named}
 
 -- ---- answers
 
@@ -97,13 +54,18 @@ Reads (Some f) part answer = answer ≡ encode_lower (shown (blank f.1))
 Reads None (Some bytes) answer = IsRefusal answer
 Reads None None answer = answer ≡ refused 13
 
+-- what is asked of a value, by the row of its TYPE, where that has one
+abbrev pub RespondsBy : Option Row → Ask → State → List ℕ → State → Type 0
+RespondsBy None ask was answer now = (answer ≡ codes "refused line") × (now ≡ was)
+RespondsBy (Some row) (to_add text) was answer now = Adds (row.value InText (Some text)) was answer now
+RespondsBy (Some row) to_add_null was answer now = Adds (Some (row.info, bytes (be4 4294967295))) was answer now
+RespondsBy (Some row) (to_read part) was answer now = Reads (row.value InBinary part) part answer × (now ≡ was)
+
 abbrev pub Responds : Request → State → List ℕ → State → Type 0
-Responds (adds t text) was answer now = Adds (value_framed t InText (Some text)) was answer now
-Responds (adds_null t) was answer now = Adds (Some (info_of t, bytes (be4 4294967295))) was answer now
+Responds (asks name ask) was answer now = RespondsBy (row_named types name) ask was answer now
 Responds asks_holes was answer now = (answer ≡ names_shown (hole_types_of (all_tokens was))) × (now ≡ was)
 Responds (resolves oids) was answer now = Resolves (length oids == hole_count (all_tokens was)) oids was answer now
 Responds asks_wire was answer now = (answer ≡ encode_lower (shown (all_tokens was))) × (now ≡ was)
-Responds (reads t part) was answer now = Reads (value_framed t InBinary part) part answer × (now ≡ was)
 
 abbrev pub RespondsTo : Option Request → State → List ℕ → State → Type 0
 RespondsTo None was answer now = (answer ≡ codes "refused line") × (now ≡ was)

@@ -1,35 +1,29 @@
 -- The lines of the program, by their spellings: `add TYPE TEXT`, `null TYPE`, `holes`, `resolve OID ..`, `wire`,
 -- `read TYPE HEX`. A line is a list of bytes.
-use Rattle.std.specs.Prelude.{◌≡◌, ◌⊎◌, ◌≤◌, ◌<◌, ◌+◌, ◌*◌, ℕ, codes, List, [], ◌∷◌, ◌++◌, map, length, Option, Some, None}
+use Rattle.std.specs.Prelude.{◌≡◌, ◌≢◌, ◌⊎◌, ◌≤◌, ◌<◌, ◌+◌, ◌*◌, ℕ, codes, List, [], ◌∷◌, ◌++◌, map, length, Option, Some, None}
 use Rattle.std.specs.List.{AllByRecursion}
 use Rattle.std.specs.Int.Digits.{number_from_digits}
 use Rattle.pgv_types.specs.declared.oid.Oid.{Oid}
-use Rattle.pgvalue.specs.declared.line.ValueType.{ValueType}
-use Rattle.pgvalue.specs.declared.line.ValueType.TheVariants.{Bool as BoolType, Char, Int2, Int4, Int8, Oid as OidType, Text, Uuid, Int4Array, TextArray}
 
 -- ---- what is asked for
 
+-- of a value of a TYPE
+pub data Ask : Type 0 where
+  to_add : List ℕ → Ask
+  to_add_null : Ask
+  to_read : Option (List ℕ) → Ask
+
 pub data Request : Type 0 where
-  adds : ValueType → List ℕ → Request
-  adds_null : ValueType → Request
+  asks : List ℕ → Ask → Request
   asks_holes : Request
   resolves : List Oid → Request
   asks_wire : Request
-  reads : ValueType → Option (List ℕ) → Request
 
 -- ---- how it is spelled
 
-abbrev pub type_name : ValueType → List ℕ
-type_name BoolType = codes "bool"
-type_name Char = codes "char"
-type_name Int2 = codes "int2"
-type_name Int4 = codes "int4"
-type_name Int8 = codes "int8"
-type_name OidType = codes "oid"
-type_name Text = codes "text"
-type_name Uuid = codes "uuid"
-type_name Int4Array = codes "int4[]"
-type_name TextArray = codes "text[]"
+-- a name, of which nothing is said but that it has no space
+abbrev pub IsName : List ℕ → Type 0
+IsName name = AllByRecursion (λ c. c ≢ 32) name
 
 -- The word is this OID: one decimal digit or more, with no sign; 48 is `0`.
 pub record IsOid (word : List ℕ) (oid : Oid) : Type 0 where
@@ -63,12 +57,12 @@ SpellsPart (Some bytes) text = SpellsBytes bytes text
 
 -- The line is this request; 32 is a space.
 abbrev pub Spells : Request → List ℕ → Type 0
-Spells (adds t text) line = line ≡ codes "add " ++ (type_name t ++ 32 ∷ text)
-Spells (adds_null t) line = line ≡ codes "null " ++ type_name t
+Spells (asks name (to_add text)) line = IsName name × (line ≡ codes "add " ++ (name ++ 32 ∷ text))
+Spells (asks name to_add_null) line = IsName name × (line ≡ codes "null " ++ name)
+Spells (asks name (to_read part)) line = (text : List ℕ) × IsName name × SpellsPart part text × (line ≡ codes "read " ++ (name ++ 32 ∷ text))
 Spells asks_holes line = line ≡ codes "holes"
 Spells (resolves oids) line = (text : List ℕ) × SpellsOids oids text × (line ≡ codes "resolve" ++ text)
 Spells asks_wire line = line ≡ codes "wire"
-Spells (reads t part) line = (text : List ℕ) × SpellsPart part text × (line ≡ codes "read " ++ (type_name t ++ 32 ∷ text))
 
 -- what a line asks for: the request that it spells, or nothing where it spells none
 abbrev pub Asks : List ℕ → Option Request → Type 0

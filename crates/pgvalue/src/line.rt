@@ -3,7 +3,7 @@
 ghost use Rattle.std.specs.Prelude.{◌≡◌, Option, option_map, bytes_eq, IfOk};
 ghost use Rattle.std.specs.Option.{option_copied};
 ghost use Rattle.pgv_text.specs.Number.{unsigned_value};
-ghost use Rattle.pgvalue.specs.Lines.{before, behind, first_word, behind_word, words, type_named, starts_with_plus, oid_of, oid_named, oids_named, request, given_bytes as bytes_given, alone as alone_by, add_line as added_by, null_line as null_by, resolve_line as resolve_by, read_line as read_by};
+ghost use Rattle.pgvalue.specs.Lines.{before, behind, first_word, behind_word, words, starts_with_plus, oid_of, oid_named, oids_named, request, given_bytes as bytes_given, alone as alone_by, add_line as added_by, null_line as null_by, resolve_line as resolve_by, read_line as read_by};
 ghost use Rattle.pgvalue.specs.Requests.{request_seen};
 ghost use Rattle.pgvalue.specs.Spelled.{Asks};
 
@@ -12,46 +12,28 @@ use pgv_text::{NumberFault, unsigned_number_of};
 use pgv_types::Oid;
 use std::alloc::{AllocError, Global};
 
-/// A TYPE of the lines.
-#[derive(Clone, Copy, PartialEq, Eq, Debug)]
-pub enum ValueType {
-    /// `bool`.
-    Bool,
-    /// `char`, one byte.
-    Char,
-    /// `int2`.
-    Int2,
-    /// `int4`.
-    Int4,
-    /// `int8`.
-    Int8,
-    /// `oid`.
-    Oid,
-    /// `text`.
-    Text,
-    /// `uuid`.
-    Uuid,
-    /// `int4[]`, whose elements may be null.
-    Int4Array,
-    /// `text[]`, whose elements may be null.
-    TextArray,
+/// What is asked of a value of a TYPE.
+#[derive(Drop)]
+pub enum Ask<'a> {
+    /// `add TYPE TEXT`: the text is read under the type, and the value is added.
+    Add(&'a [u8]),
+    /// `null TYPE`: a null is added.
+    Null,
+    /// `read TYPE HEX`: the bytes, or null, are read under the type and written again.
+    Read(Option<Vec<u8>>),
 }
 
 /// What a line asks for.
 #[derive(Drop)]
 pub enum Request<'a> {
-    /// `add TYPE TEXT`: the text is read under the type, and the value is added.
-    Add(ValueType, &'a [u8]),
-    /// `null TYPE`: a null is added.
-    Null(ValueType),
+    /// Something of a value of the TYPE of this name, if there is one.
+    Of(&'a [u8], Ask<'a>),
     /// `holes`: the names of the types whose OIDs are missing.
     Holes,
     /// `resolve OID ..`: the holes are filled.
     Resolve(Vec<Oid>),
     /// `wire`: the bytes of the buffer.
     Wire,
-    /// `read TYPE HEX`: the bytes, or null, are read under the type and written again.
-    Read(ValueType, Option<Vec<u8>>),
 }
 
 /// What stands before the first byte of a kind, and behind it, where there is one.
@@ -75,47 +57,11 @@ fn split_word(line: &[u8]) -> (&[u8], Option<&[u8]>)
     split_at_byte(line, b' ')
 }
 
-fn is(word: &[u8], name: &str) -> bool
+/// Whether a word is this name.
+pub fn is(word: &[u8], name: &str) -> bool
     ensures { result ≡ bytes_eq word.now name.now }
 {
     word == name.as_bytes()
-}
-
-/// The type that a word names.
-fn value_type(word: &[u8]) -> Option<ValueType>
-    ensures { result ≡ type_named word.now }
-{
-    if is(word, "bool") {
-        return Some(ValueType::Bool);
-    }
-    if is(word, "char") {
-        return Some(ValueType::Char);
-    }
-    if is(word, "int2") {
-        return Some(ValueType::Int2);
-    }
-    if is(word, "int4") {
-        return Some(ValueType::Int4);
-    }
-    if is(word, "int8") {
-        return Some(ValueType::Int8);
-    }
-    if is(word, "oid") {
-        return Some(ValueType::Oid);
-    }
-    if is(word, "text") {
-        return Some(ValueType::Text);
-    }
-    if is(word, "uuid") {
-        return Some(ValueType::Uuid);
-    }
-    if is(word, "int4[]") {
-        return Some(ValueType::Int4Array);
-    }
-    if is(word, "text[]") {
-        return Some(ValueType::TextArray);
-    }
-    None
 }
 
 /// Digits up to 4294967295.
@@ -224,13 +170,14 @@ fn add_line<'a>(behind: Option<&'a [u8]>) -> Option<Request<'a>>
     ensures { option_map request_seen result ≡ added_by (option_copied behind.entry) }
 {
     let (name, text) = split_word(behind?);
-    Some(Request::Add(value_type(name)?, text?))
+    Some(Request::Of(name, Ask::Add(text?)))
 }
 
 fn null_line<'a>(behind: Option<&'a [u8]>) -> Option<Request<'a>>
     ensures { option_map request_seen result ≡ null_by (option_copied behind.entry) }
 {
-    Some(Request::Null(value_type(behind?)?))
+    let (name, behind) = split_word(behind?);
+    alone(Request::Of(name, Ask::Null), behind)
 }
 
 fn resolve_line<'a>(
@@ -255,14 +202,11 @@ fn read_line<'a>(alloc: Global, behind: Option<&'a [u8]>) -> Result<Option<Reque
         return Ok(None);
     };
     let (name, text) = split_word(behind);
-    let Some(value_type) = value_type(name) else {
-        return Ok(None);
-    };
     let Some(text) = text else {
         return Ok(None);
     };
     match given_bytes(alloc, text)? {
-        Some(bytes) => Ok(Some(Request::Read(value_type, bytes))),
+        Some(bytes) => Ok(Some(Request::Of(name, Ask::Read(bytes)))),
         None => Ok(None),
     }
 }

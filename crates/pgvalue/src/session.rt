@@ -1,22 +1,17 @@
 //! What a line does, and what it answers.
 
-ghost use Rattle.std.specs.Prelude.{◌≡◌, ◌≢◌, ◌++◌, Some, IfOk, OnOk, MatchOption, length, ◌==◌, string_bytes, option_map};
-ghost use Rattle.std.specs.Option.{option_copied};
+ghost use Rattle.std.specs.Prelude.{◌≡◌, ◌++◌, IfOk, OnOk, length, ◌==◌, string_bytes, option_map};
 ghost use Rattle.hex.specs.Hex.{encode_lower};
 ghost use Rattle.pgv_types.specs.Facts.{display_of};
-ghost use Rattle.pgv_buf.specs.Tokens.{shown, blank, hole_count};
-ghost use Rattle.pgv_value.specs.Codes.{code_of};
-ghost use Rattle.pgv_value.specs.declared.error.CodecError.TheVariants.{Memory};
-ghost use Rattle.pgv_value.specs.declared.value.PgValueFormat.TheVariants.{Text as InText, Binary as InBinary};
+ghost use Rattle.pgv_buf.specs.Tokens.{shown, hole_count};
 ghost use Rattle.pgv_wire.specs.Arguments.{all_tokens};
 ghost use Rattle.pgvalue.specs.Requests.{request_seen};
-ghost use Rattle.pgvalue.specs.Session.{Answers, RespondsTo, Adds, Reads, Resolves, refused, IsRefusal, names_shown, value_framed, placeholder as placeholder_of};
-ghost use Rattle.pgvalue.specs.Values.{framed_as};
+ghost use Rattle.pgvalue.specs.Session.{Answers, RespondsTo, Resolves, names_shown};
 
-use crate::line::{Request, ValueType, parse};
-use crate::value::Value;
+use crate::line::{Request, parse};
+use crate::value::{refusal, respond_by};
 use pgv_types::{Oid, PgTypeInfo};
-use pgv_wire::{CodecError, PgArgumentBuffer, PgArguments, PgValueFormat};
+use pgv_wire::PgArguments;
 use std::alloc::{AllocError, Global};
 
 /// Answers a line. Only want of memory is an error; what the arguments are then is not said.
@@ -39,55 +34,10 @@ fn respond_to(
         return String::from_str(alloc, "refused line");
     };
     match request {
-        Request::Add(value_type, text) => add(alloc, arguments, value_type, text),
-        Request::Null(value_type) => add_value(alloc, arguments, &Value::Null(value_type)),
+        Request::Of(name, ask) => respond_by(alloc, arguments, name, ask),
         Request::Holes => names(alloc, arguments.hole_types()),
         Request::Resolve(oids) => resolve(alloc, arguments, oids.as_slice()),
         Request::Wire => hex::encode(alloc, arguments.buffer().as_slice()),
-        Request::Read(value_type, bytes) => match &bytes {
-            Some(bytes) => read(alloc, value_type, Some(bytes.as_slice())),
-            None => read(alloc, value_type, None),
-        },
-    }
-}
-
-/// Adds the value that a text is.
-fn add(
-    alloc: Global,
-    arguments: &mut PgArguments,
-    value_type: ValueType,
-    text: &[u8],
-) -> Result<String, AllocError>
-    ensures { IfOk result (λ answer. Adds (value_framed value_type InText (Some text.now)) arguments.old (string_bytes answer) arguments.new) }
-{
-    match value_type.read(alloc, Some(text), PgValueFormat::Text) {
-        Ok(value) => add_value(alloc, arguments, &value),
-        Err(error) => refusal(alloc, &error),
-    }
-}
-
-/// Adds a value: its place, or why it is refused.
-fn add_value(
-    alloc: Global,
-    arguments: &mut PgArguments,
-    value: &Value,
-) -> Result<String, AllocError>
-    ensures { IfOk result (λ answer. Adds (framed_as value.now) arguments.old (string_bytes answer) arguments.new) }
-{
-    match arguments.add_by_ref(value) {
-        Ok(()) => placeholder(alloc, arguments),
-        Err(error) => refusal(alloc, &error),
-    }
-}
-
-/// The place of the last argument.
-fn placeholder(alloc: Global, arguments: &PgArguments) -> Result<String, AllocError>
-    ensures { IfOk result (λ text. string_bytes text ≡ placeholder_of arguments.now) }
-{
-    let mut text = String::new(alloc);
-    match arguments.format_placeholder(&mut text) {
-        Ok(()) => Ok(text),
-        Err(_) => Err(AllocError),
     }
 }
 
@@ -100,39 +50,6 @@ fn resolve(alloc: Global, arguments: &mut PgArguments, oids: &[Oid]) -> Result<S
         Ok(()) => String::from_str(alloc, "ok"),
         Err(error) => refusal(alloc, &error),
     }
-}
-
-/// The frame that the value of null or bytes writes, in hex.
-fn read(alloc: Global, value_type: ValueType, part: Option<&[u8]>) -> Result<String, AllocError>
-    ensures { IfOk result (λ answer. Reads (value_framed value_type InBinary (option_copied part.entry)) (option_copied part.entry) (string_bytes answer)) }
-{
-    match value_type.read(alloc, part, PgValueFormat::Binary) {
-        Ok(value) => frame_text(alloc, &value),
-        Err(error) => refusal(alloc, &error),
-    }
-}
-
-fn frame_text(alloc: Global, value: &Value) -> Result<String, AllocError>
-    ensures { IfOk result (λ answer. MatchOption (framed_as value.now) (IsRefusal (string_bytes answer)) (λ f. string_bytes answer ≡ encode_lower (shown (blank f.1)))) }
-{
-    let mut buffer = PgArgumentBuffer::new(alloc);
-    match buffer.encode(value) {
-        Ok(()) => hex::encode(alloc, buffer.as_slice()),
-        Err(error) => refusal(alloc, &error),
-    }
-}
-
-/// `refused Cn`. Want of memory (C1) is none of a session's refusals.
-fn refusal(alloc: Global, error: &CodecError) -> Result<String, AllocError>
-    ensures refused { IfOk result (λ text. IsRefusal (string_bytes text)) }
-    ensures told { IfOk result (λ _. error.now ≢ Memory) }
-    ensures number { IfOk result (λ text. string_bytes text ≡ refused (code_of error.now)) }
-{
-    if let CodecError::Memory = error {
-        return Err(AllocError);
-    }
-    let number = error.code();
-    format!(in alloc; "refused C{number}")
 }
 
 /// The names of the types whose OIDs are missing, or `none`.

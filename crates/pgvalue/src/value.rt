@@ -1,167 +1,144 @@
-//! Values of the types that the lines name.
+//! What is asked of a value of a TYPE.
 
-ghost use Rattle.std.specs.Prelude.{◌≡◌, ◌⊎◌, None, IfOk, IfErr, IsErrOf};
+ghost use Rattle.std.specs.Prelude.{◌≡◌, ◌≢◌, Some, None, IfOk, MatchOption, string_bytes};
 ghost use Rattle.std.specs.Option.{option_copied};
-ghost use Rattle.pgv_value.specs.declared.error.CodecError.TheVariants.{Memory, UnexpectedNull};
-ghost use Rattle.pgvalue.specs.Session.{info_of, value_framed};
-ghost use Rattle.pgvalue.specs.Values.{framed_as, type_of_value};
+ghost use Rattle.hex.specs.Hex.{encode_lower};
+ghost use Rattle.pgv_buf.specs.Tokens.{shown, blank};
+ghost use Rattle.pgv_value.specs.Codes.{code_of};
+ghost use Rattle.pgv_value.specs.declared.error.CodecError.TheVariants.{Memory};
+ghost use Rattle.pgv_value.specs.declared.value.PgValueFormat.TheVariants.{Text as InText, Binary as InBinary};
+ghost use Rattle.pgv_wire.specs.Saying.{said};
+ghost use Rattle.pgvalue.specs.Requests.{ask_seen};
+ghost use Rattle.pgvalue.specs.Session.{RespondsBy, Adds, Reads, IsRefusal, refused, placeholder as placeholder_of};
+ghost use Rattle.pgvalue.specs.Types.{framed_as, framed_by, row, row_named, types};
 
-use crate::line::ValueType;
-use pgv_types::{Oid, PgType, PgTypeInfo};
+use crate::line::{Ask, is};
+use pgv_types::Oid;
 use pgv_wire::{
-    CodecError, Decode, Encode, IsNull, PgArgumentBuffer, PgValueFormat, PgValueRef, Type,
+    Codec, CodecError, Encode, PgArgumentBuffer, PgArguments, PgValueFormat, PgValueRef, Type,
 };
 use std::alloc::{AllocError, Global};
 use uuid::Uuid;
 
-/// A value of one of the types, or null.
-#[derive(Drop)]
-pub enum Value {
-    /// Null, of a type.
-    Null(ValueType),
-    /// A `bool`.
-    Bool(bool),
-    /// A `char`.
-    Char(i8),
-    /// An `int2`.
-    Int2(i16),
-    /// An `int4`.
-    Int4(i32),
-    /// An `int8`.
-    Int8(i64),
-    /// An `oid`.
-    Oid(Oid),
-    /// A `text`.
-    Text(String),
-    /// A `uuid`.
-    Uuid(Uuid),
-    /// An `int4[]`.
-    Int4Array(Vec<Option<i32>>),
-    /// A `text[]`.
-    TextArray(Vec<Option<String>>),
-}
-
-impl ValueType {
-    /// The type that a value is added with, and read under.
-    pub fn info(self) -> PgTypeInfo
-        ensures { result ≡ info_of self }
-    {
-        PgTypeInfo(match self {
-            ValueType::Bool => PgType::Bool,
-            ValueType::Char => PgType::Char,
-            ValueType::Int2 => PgType::Int2,
-            ValueType::Int4 => PgType::Int4,
-            ValueType::Int8 => PgType::Int8,
-            ValueType::Oid => PgType::Oid,
-            ValueType::Text => PgType::Text,
-            ValueType::Uuid => PgType::Uuid,
-            ValueType::Int4Array => PgType::Int4Array,
-            ValueType::TextArray => PgType::TextArray,
-        })
-    }
-
-    /// The value that null or bytes are in a format.
-    pub fn read(
-        self,
-        alloc: Global,
-        part: Option<&[u8]>,
-        format: PgValueFormat,
-    ) -> Result<Value, CodecError>
-        ensures ok { IfOk result (λ value. value_framed self format (option_copied part.entry) ≡ framed_as value) }
-        ensures err { IfErr result (λ e. (e ≡ Memory) ⊎ (value_framed self format (option_copied part.entry) ≡ None)) }
-        ensures null { option_copied part.entry ≡ None → IsErrOf result UnexpectedNull }
-    {
-        let given = PgValueRef::new(part, self.info(), format);
-        match self {
-            ValueType::Bool => Ok(Value::Bool(bool::decode(alloc, given)?)),
-            ValueType::Char => Ok(Value::Char(i8::decode(alloc, given)?)),
-            ValueType::Int2 => Ok(Value::Int2(i16::decode(alloc, given)?)),
-            ValueType::Int4 => Ok(Value::Int4(i32::decode(alloc, given)?)),
-            ValueType::Int8 => Ok(Value::Int8(i64::decode(alloc, given)?)),
-            ValueType::Oid => Ok(Value::Oid(Oid::decode(alloc, given)?)),
-            ValueType::Text => Ok(Value::Text(String::decode(alloc, given)?)),
-            ValueType::Uuid => Ok(Value::Uuid(Uuid::decode(alloc, given)?)),
-            ValueType::Int4Array => {
-                Ok(Value::Int4Array(Vec::<Option<i32>>::decode(alloc, given)?))
-            }
-            ValueType::TextArray => {
-                Ok(Value::TextArray(Vec::<Option<String>>::decode(alloc, given)?))
-            }
-        }
+/// Answers what is asked of a value of the TYPE of this name, if there is one.
+pub fn respond_by(
+    alloc: Global,
+    arguments: &mut PgArguments,
+    name: &[u8],
+    ask: Ask,
+) -> Result<String, AllocError>
+    ensures { IfOk result (λ text. RespondsBy (row_named types name.now) (ask_seen ask.entry) arguments.old (string_bytes text) arguments.new) }
+{
+    match name {
+        _ if is(name, "bool") => respond_as::<bool>(alloc, arguments, ask),
+        _ if is(name, "char") => respond_as::<i8>(alloc, arguments, ask),
+        _ if is(name, "int2") => respond_as::<i16>(alloc, arguments, ask),
+        _ if is(name, "int4") => respond_as::<i32>(alloc, arguments, ask),
+        _ if is(name, "int8") => respond_as::<i64>(alloc, arguments, ask),
+        _ if is(name, "oid") => respond_as::<Oid>(alloc, arguments, ask),
+        _ if is(name, "text") => respond_as::<String>(alloc, arguments, ask),
+        _ if is(name, "uuid") => respond_as::<Uuid>(alloc, arguments, ask),
+        _ if is(name, "int4[]") => respond_as::<Vec<Option<i32>>>(alloc, arguments, ask),
+        _ if is(name, "text[]") => respond_as::<Vec<Option<String>>>(alloc, arguments, ask),
+        _ => String::from_str(alloc, "refused line"),
     }
 }
 
-impl Value {
-    /// The type of the value.
-    fn value_type(&self) -> ValueType
-        ensures { result ≡ type_of_value self.now }
-    {
-        match self {
-            Value::Null(value_type) => *value_type,
-            Value::Bool(_) => ValueType::Bool,
-            Value::Char(_) => ValueType::Char,
-            Value::Int2(_) => ValueType::Int2,
-            Value::Int4(_) => ValueType::Int4,
-            Value::Int8(_) => ValueType::Int8,
-            Value::Oid(_) => ValueType::Oid,
-            Value::Text(_) => ValueType::Text,
-            Value::Uuid(_) => ValueType::Uuid,
-            Value::Int4Array(_) => ValueType::Int4Array,
-            Value::TextArray(_) => ValueType::TextArray,
-        }
+/// Answers what is asked of a value of a Rust type, of which null is none.
+fn respond_as<T: Codec>(
+    alloc: Global,
+    arguments: &mut PgArguments,
+    ask: Ask,
+) -> Result<String, AllocError>
+    requires { T.reading T.info InBinary None ≡ None }
+    ensures { IfOk result (λ text. RespondsBy (Some (row T.info T.reading T.written)) (ask_seen ask.entry) arguments.old (string_bytes text) arguments.new) }
+{
+    match ask {
+        Ask::Add(text) => add::<T>(alloc, arguments, text),
+        Ask::Null => add_value(alloc, arguments, &None::<T>),
+        Ask::Read(part) => match &part {
+            Some(bytes) => read::<T>(alloc, Some(bytes.as_slice())),
+            None => read::<T>(alloc, None),
+        },
     }
 }
 
-/// A value says its own type: the type of all of them together is not known.
-impl Type for Value {
-    ghost use Rattle.pgv_types.specs.Ty.{builtin};
-    ghost use Rattle.pgv_types.specs.Relations.{softly};
-
-    ghost info = { builtin 705 };
-
-    ghost accepts = { λ t. softly t (builtin 705) };
-
-    fn type_info() -> PgTypeInfo {
-        PgTypeInfo(PgType::Unknown)
-    }
-
-    fn compatible(type_info: &PgTypeInfo) -> bool {
-        type_info.type_compatible(&Self::type_info())
+/// Adds the value that a text is.
+fn add<T: Codec>(
+    alloc: Global,
+    arguments: &mut PgArguments,
+    text: &[u8],
+) -> Result<String, AllocError>
+    ensures { IfOk result (λ answer. Adds (framed_by T.info T.written (T.reading T.info InText (Some text.now))) arguments.old (string_bytes answer) arguments.new) }
+{
+    match T::decode(
+        alloc,
+        PgValueRef::new(Some(text), T::type_info(), PgValueFormat::Text),
+    ) {
+        Ok(value) => add_value(alloc, arguments, &value),
+        Err(error) => refusal(alloc, &error),
     }
 }
 
-impl Encode for Value {
-    ghost use Rattle.std.specs.Prelude.{Some};
-    ghost use Rattle.pgvalue.specs.Session.{info_of};
-    ghost use Rattle.pgvalue.specs.Values.{image_of_value, type_of_value};
-
-    ghost image = { image_of_value };
-
-    ghost hint = { λ _. 0 };
-
-    ghost produced = { λ value. Some (info_of (type_of_value value)) };
-
-    fn encode_by_ref(&self, out: &mut PgArgumentBuffer) -> Result<IsNull, CodecError> {
-        match self {
-            Value::Null(_) => Ok(IsNull::Yes),
-            Value::Bool(value) => value.encode_by_ref(out),
-            Value::Char(value) => value.encode_by_ref(out),
-            Value::Int2(value) => value.encode_by_ref(out),
-            Value::Int4(value) => value.encode_by_ref(out),
-            Value::Int8(value) => value.encode_by_ref(out),
-            Value::Oid(value) => value.encode_by_ref(out),
-            Value::Text(value) => value.encode_by_ref(out),
-            Value::Uuid(value) => value.encode_by_ref(out),
-            Value::Int4Array(value) => value.encode_by_ref(out),
-            Value::TextArray(value) => value.encode_by_ref(out),
-        }
+/// Adds a value: its place, or why it is refused.
+fn add_value<T: Encode + Type>(
+    alloc: Global,
+    arguments: &mut PgArguments,
+    value: &T,
+) -> Result<String, AllocError>
+    ensures { IfOk result (λ answer. Adds (framed_as (said T.hint T.image T.produced T.info value.now)) arguments.old (string_bytes answer) arguments.new) }
+{
+    match arguments.add_by_ref(value) {
+        Ok(()) => placeholder(alloc, arguments),
+        Err(error) => refusal(alloc, &error),
     }
+}
 
-    fn size_hint(&self) -> usize {
-        0
+/// The place of the last argument.
+fn placeholder(alloc: Global, arguments: &PgArguments) -> Result<String, AllocError>
+    ensures { IfOk result (λ text. string_bytes text ≡ placeholder_of arguments.now) }
+{
+    let mut text = String::new(alloc);
+    match arguments.format_placeholder(&mut text) {
+        Ok(()) => Ok(text),
+        Err(_) => Err(AllocError),
     }
+}
 
-    fn produces(&self) -> Result<Option<PgTypeInfo>, AllocError> {
-        Ok(Some(self.value_type().info()))
+/// The frame that the value of null or bytes writes, in hex.
+fn read<T: Codec>(alloc: Global, part: Option<&[u8]>) -> Result<String, AllocError>
+    requires { T.reading T.info InBinary None ≡ None }
+    ensures { IfOk result (λ answer. Reads (framed_by T.info T.written (T.reading T.info InBinary (option_copied part.entry))) (option_copied part.entry) (string_bytes answer)) }
+{
+    match T::decode(
+        alloc,
+        PgValueRef::new(part, T::type_info(), PgValueFormat::Binary),
+    ) {
+        Ok(value) => frame_text(alloc, &value),
+        Err(error) => refusal(alloc, &error),
     }
+}
+
+/// The frame that a value writes, in hex, or why it is refused.
+fn frame_text<T: Encode + Type>(alloc: Global, value: &T) -> Result<String, AllocError>
+    ensures { IfOk result (λ answer. MatchOption (framed_as (said T.hint T.image T.produced T.info value.now)) (IsRefusal (string_bytes answer)) (λ f. string_bytes answer ≡ encode_lower (shown (blank f.1)))) }
+{
+    let mut buffer = PgArgumentBuffer::new(alloc);
+    match buffer.encode(value) {
+        Ok(()) => hex::encode(alloc, buffer.as_slice()),
+        Err(error) => refusal(alloc, &error),
+    }
+}
+
+/// `refused Cn`. Want of memory (C1) is none of a session's refusals.
+pub fn refusal(alloc: Global, error: &CodecError) -> Result<String, AllocError>
+    ensures refused { IfOk result (λ text. IsRefusal (string_bytes text)) }
+    ensures told { IfOk result (λ _. error.now ≢ Memory) }
+    ensures number { IfOk result (λ text. string_bytes text ≡ refused (code_of error.now)) }
+{
+    if let CodecError::Memory = error {
+        return Err(AllocError);
+    }
+    let number = error.code();
+    format!(in alloc; "refused C{number}")
 }

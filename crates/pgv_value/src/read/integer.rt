@@ -20,7 +20,12 @@ fn whole_number_of(bytes: &[u8]) -> Result<i64, CodecError>
     if bytes.is_empty() || bytes.len() > 8 {
         return Err(CodecError::WrongLength(bytes.len()));
     }
-    Ok(BigEndian::read_int(bytes, bytes.len()))
+    Ok(match bytes.len() {
+        2 => BigEndian::read_int(bytes, 2),
+        4 => BigEndian::read_int(bytes, 4),
+        8 => BigEndian::read_int(bytes, 8),
+        len => BigEndian::read_int(bytes, len),
+    })
 }
 
 /// The number in either format, if 64 bits have it.

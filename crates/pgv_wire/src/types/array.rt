@@ -14,7 +14,7 @@ ghost use Rattle.pgv_wire.specs.Outcome.{Encoded, Refused, Appended, AppendedAll
 use super::number::number_of;
 use super::part::read_part;
 use crate::buffer::{IsNull, PgArgumentBuffer};
-use crate::traits::{Decode, Encode, PgHasArrayType, Type};
+use crate::traits::{Codec, Decode, Encode, PgHasArrayType, ReadBack, Type};
 use pgv_text::array_elements;
 use pgv_types::{Oid, PgTypeInfo, PgTypeRef};
 use pgv_value::{CodecError, PgValueFormat, PgValueRef};
@@ -106,14 +106,9 @@ impl<T: PgHasArrayType> Type for Vec<T> {
 }
 
 impl<T: Encode + Type> Encode for Vec<T> {
-    ghost use Rattle.std.specs.Prelude.{None};
     ghost use Rattle.pgv_wire.specs.Image.{array_image};
 
     ghost image = { λ v. array_image T.hint T.image T.produced T.info v.items };
-
-    ghost hint = { λ _. 0 };
-
-    ghost produced = { λ _. None };
 
     fn encode_by_ref(&self, out: &mut PgArgumentBuffer) -> Result<IsNull, CodecError> {
         encode_array(self.as_slice(), out)
@@ -143,14 +138,9 @@ impl<T: PgHasArrayType, const N: usize> Type for [T; N] {
 }
 
 impl<T: Encode + Type, const N: usize> Encode for [T; N] {
-    ghost use Rattle.std.specs.Prelude.{None};
-    ghost use Rattle.pgv_wire.specs.Image.{array_image};
+    ghost use Rattle.pgv_wire.specs.Image.{sized_image};
 
-    ghost image = { λ v. array_image T.hint T.image T.produced T.info v };
-
-    ghost hint = { λ _. 0 };
-
-    ghost produced = { λ _. None };
+    ghost image = { sized_image N T.hint T.image T.produced T.info };
 
     fn encode_by_ref(&self, out: &mut PgArgumentBuffer) -> Result<IsNull, CodecError> {
         encode_array(self.as_slice(), out)
@@ -179,12 +169,15 @@ const MAX_COUNT: u32 = 0x7fff_ffff;
 impl<T: Decode + Type> Decode for Vec<T> {
     ghost use Rattle.std.specs.Prelude.{List, map};
     ghost use Rattle.pgv_wire.specs.Arrays.{array};
+    ghost use Rattle.pgv_wire.specs.Saying.{array_written};
 
     ghost Meaning = { List T.Meaning };
 
     ghost meaning = { λ v. map T.meaning v.items };
 
     ghost reading = { array T.info T.reading };
+
+    ghost written = { array_written T.info T.written };
 
     fn decode(alloc: Global, value: PgValueRef<'_>) -> Result<Vec<T>, CodecError>
         ensures exact { Answers (λ v. map T.meaning v.items) (array T.info T.reading value.entry.type_info value.entry.format value.entry.bytes) result }
@@ -203,12 +196,15 @@ impl<T: Decode + Type> Decode for Vec<T> {
 impl<T: Decode + Type, const N: usize> Decode for [T; N] {
     ghost use Rattle.std.specs.Prelude.{List, map};
     ghost use Rattle.pgv_wire.specs.Arrays.{array_of_length};
+    ghost use Rattle.pgv_wire.specs.Saying.{sized_written};
 
     ghost Meaning = { List T.Meaning };
 
     ghost meaning = { map T.meaning };
 
     ghost reading = { array_of_length N T.info T.reading };
+
+    ghost written = { sized_written N T.info T.written };
 
     fn decode(alloc: Global, value: PgValueRef<'_>) -> Result<[T; N], CodecError> {
         let items = Vec::<T>::decode(alloc, value)?;
@@ -218,6 +214,18 @@ impl<T: Decode + Type, const N: usize> Decode for [T; N] {
             Err(_) => Err(CodecError::ElementCount(count)),
         }
     }
+}
+
+impl<T: Codec + PgHasArrayType> Codec for Vec<T> {
+    ghost use Rattle.pgv_wire.specs.Saying.{array_agrees};
+
+    ghost agrees = { λ v. array_agrees T.hint T.image T.produced T.info T.meaning T.written T.agrees T.array_info v.items };
+}
+
+impl<T: Codec + PgHasArrayType, const N: usize> Codec for [T; N] {
+    ghost use Rattle.pgv_wire.specs.Saying.{sized_agrees};
+
+    ghost agrees = { λ v. sized_agrees T.hint T.image T.produced T.info T.meaning T.written T.agrees N T.array_info v };
 }
 
 /// What stands in front of the frames of an array's elements.
@@ -340,4 +348,31 @@ fn read_parts<T: Decode + Type>(
         items.push(read_part(alloc, T::type_info(), part)?)?;
     }
     Ok(items)
+}
+
+/// A list comes back where each element does, under the type that is found by the OID that was written.
+impl<T: ReadBack + Type> ReadBack for Vec<T> {
+    ghost use Rattle.std.specs.Prelude.{map};
+    ghost use Rattle.std.specs.Vec.{with_items};
+    ghost use Rattle.pgv_wire.specs.Back.{ArrayFits};
+    ghost use Rattle.pgv_wire.specs.BackNests.{vec_back};
+
+    ghost kept = { λ v. with_items v (map T.kept v.items) };
+
+    ghost fits = { λ v t os. ArrayFits T.info T.produced T.image T.fits v.items t os };
+
+    ghost reads_back = { vec_back T.info T.produced T.hint T.image T.reading T.meaning T.kept T.fits T.reads_back };
+}
+
+/// An array comes back as a list of its elements does.
+impl<T: ReadBack + Type, const N: usize> ReadBack for [T; N] {
+    ghost use Rattle.std.specs.Prelude.{map};
+    ghost use Rattle.pgv_wire.specs.Back.{ArrayFits};
+    ghost use Rattle.pgv_wire.specs.BackNests.{sized_back};
+
+    ghost kept = { map T.kept };
+
+    ghost fits = { ArrayFits T.info T.produced T.image T.fits };
+
+    ghost reads_back = { sized_back T.info T.produced T.hint T.image T.reading T.meaning T.kept T.fits T.reads_back N };
 }

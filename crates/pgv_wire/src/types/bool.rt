@@ -1,20 +1,19 @@
 //! Truth values (PostgreSQL, "Boolean Type"): one byte, 1 or 0.
 
-ghost use Rattle.std.specs.Prelude.{◌≡◌, None, IsErrOf};
-ghost use Rattle.pgv_value.specs.Reading.{Answers, AnswersExactly};
+ghost use Rattle.pgv_types.specs.Relations.{softly};
+ghost use Rattle.pgv_types.specs.Ty.{builtin};
+ghost use Rattle.pgv_wire.specs.Scalars.{bool_image};
+ghost use Rattle.std.specs.Prelude.{Bool, false, refl};
 ghost use Rattle.pgv_value.specs.Scalars.{bool_reading};
-ghost use Rattle.pgv_value.specs.declared.error.CodecError.TheVariants.{UnexpectedNull};
+ghost use Rattle.pgv_wire.specs.Saying.{plainly};
 
 use crate::buffer::{IsNull, PgArgumentBuffer};
-use crate::traits::{Decode, Encode, PgHasArrayType, Type};
+use crate::traits::{Codec, Decode, Encode, PgHasArrayType, ReadBack, Type};
 use pgv_types::{PgType, PgTypeInfo};
 use pgv_value::{CodecError, PgValueRef, read_bool};
 use std::alloc::{AllocError, Global};
 
 impl Type for bool {
-    ghost use Rattle.pgv_types.specs.Relations.{softly};
-    ghost use Rattle.pgv_types.specs.Ty.{builtin};
-
     ghost info = { builtin 16 };
 
     ghost accepts = { λ t. softly t (builtin 16) };
@@ -29,9 +28,6 @@ impl Type for bool {
 }
 
 impl PgHasArrayType for bool {
-    ghost use Rattle.pgv_types.specs.Relations.{softly};
-    ghost use Rattle.pgv_types.specs.Ty.{builtin};
-
     ghost array_info = { builtin 1000 };
 
     ghost accepts_array = { λ t. softly t (builtin 1000) };
@@ -46,14 +42,7 @@ impl PgHasArrayType for bool {
 }
 
 impl Encode for bool {
-    ghost use Rattle.std.specs.Prelude.{None};
-    ghost use Rattle.pgv_wire.specs.Scalars.{bool_image};
-
     ghost image = { bool_image };
-
-    ghost hint = { λ _. 0 };
-
-    ghost produced = { λ _. None };
 
     fn encode_by_ref(&self, out: &mut PgArgumentBuffer) -> Result<IsNull, CodecError> {
         out.push(u8::from(*self))?;
@@ -71,20 +60,32 @@ impl Encode for bool {
 
 /// A truth value (PostgreSQL, "Boolean Type"), as [`read_bool`] reads it.
 impl Decode for bool {
-    ghost use Rattle.std.specs.Prelude.{Bool};
-    ghost use Rattle.pgv_value.specs.Scalars.{bool_reading};
-
     ghost Meaning = { Bool };
 
     ghost meaning = { λ truth. truth };
 
     ghost reading = { bool_reading };
 
-    fn decode(_alloc: Global, value: PgValueRef<'_>) -> Result<bool, CodecError>
-        ensures exact { Answers (λ truth. truth) (bool_reading value.entry.type_info value.entry.format value.entry.bytes) result }
-        ensures exactly { AnswersExactly (λ truth. truth) (bool_reading value.entry.type_info value.entry.format value.entry.bytes) result }
-        ensures null { value.entry.bytes ≡ None → IsErrOf result UnexpectedNull }
-    {
+    ghost written = { plainly bool_image };
+
+    ghost takes_memory = { false };
+
+    fn decode(_alloc: Global, value: PgValueRef<'_>) -> Result<bool, CodecError> {
         read_bool(&value)
     }
+}
+
+impl ReadBack for bool {
+    ghost use Rattle.pgv_wire.specs.Back.{always};
+    ghost use Rattle.pgv_wire.specs.BackScalars.{bool_back};
+
+    ghost kept = { λ v. v };
+
+    ghost fits = { always };
+
+    ghost reads_back = { bool_back };
+}
+
+impl Codec for bool {
+    ghost agrees = { λ _. refl };
 }

@@ -1,20 +1,20 @@
 //! Object identifiers (PostgreSQL, "Object Identifier Types"): unsigned, four bytes, the highest first.
 
-ghost use Rattle.std.specs.Prelude.{◌≡◌, None, IsErrOf};
-ghost use Rattle.pgv_value.specs.Reading.{Answers, AnswersExactly};
+ghost use Rattle.pgv_types.specs.Relations.{softly};
+ghost use Rattle.pgv_types.specs.Ty.{builtin};
+ghost use Rattle.std.specs.Int.{w32};
+ghost use Rattle.pgv_wire.specs.Scalars.{unsigned_image};
+ghost use Rattle.std.specs.Prelude.{ℕ, false, refl};
 ghost use Rattle.pgv_value.specs.Scalars.{oid_reading};
-ghost use Rattle.pgv_value.specs.declared.error.CodecError.TheVariants.{UnexpectedNull};
+ghost use Rattle.pgv_wire.specs.Saying.{plainly};
 
 use crate::buffer::{IsNull, PgArgumentBuffer};
-use crate::traits::{Decode, Encode, PgHasArrayType, Type};
+use crate::traits::{Codec, Decode, Encode, PgHasArrayType, ReadBack, Type};
 use pgv_types::{Oid, PgType, PgTypeInfo};
 use pgv_value::{CodecError, PgValueRef, read_oid};
 use std::alloc::{AllocError, Global};
 
 impl Type for Oid {
-    ghost use Rattle.pgv_types.specs.Relations.{softly};
-    ghost use Rattle.pgv_types.specs.Ty.{builtin};
-
     ghost info = { builtin 26 };
 
     ghost accepts = { λ t. softly t (builtin 26) };
@@ -29,9 +29,6 @@ impl Type for Oid {
 }
 
 impl PgHasArrayType for Oid {
-    ghost use Rattle.pgv_types.specs.Relations.{softly};
-    ghost use Rattle.pgv_types.specs.Ty.{builtin};
-
     ghost array_info = { builtin 1028 };
 
     ghost accepts_array = { λ t. softly t (builtin 1028) };
@@ -46,15 +43,7 @@ impl PgHasArrayType for Oid {
 }
 
 impl Encode for Oid {
-    ghost use Rattle.std.specs.Prelude.{None};
-    ghost use Rattle.std.specs.Int.{w32};
-    ghost use Rattle.pgv_wire.specs.Scalars.{unsigned_image};
-
     ghost image = { λ o. unsigned_image w32 o.0 };
-
-    ghost hint = { λ _. 0 };
-
-    ghost produced = { λ _. None };
 
     fn encode_by_ref(&self, out: &mut PgArgumentBuffer) -> Result<IsNull, CodecError> {
         let number = self.0.to_be_bytes();
@@ -73,20 +62,32 @@ impl Encode for Oid {
 
 /// An object identifier (PostgreSQL, "Object Identifier Types"), as [`read_oid`] reads it.
 impl Decode for Oid {
-    ghost use Rattle.std.specs.Prelude.{ℕ};
-    ghost use Rattle.pgv_value.specs.Scalars.{oid_reading};
-
     ghost Meaning = { ℕ };
 
     ghost meaning = { λ oid. oid.0 };
 
     ghost reading = { oid_reading };
 
-    fn decode(_alloc: Global, value: PgValueRef<'_>) -> Result<Oid, CodecError>
-        ensures exact { Answers (λ oid. oid.0) (oid_reading value.entry.type_info value.entry.format value.entry.bytes) result }
-        ensures exactly { AnswersExactly (λ oid. oid.0) (oid_reading value.entry.type_info value.entry.format value.entry.bytes) result }
-        ensures null { value.entry.bytes ≡ None → IsErrOf result UnexpectedNull }
-    {
+    ghost written = { plainly (unsigned_image w32) };
+
+    ghost takes_memory = { false };
+
+    fn decode(_alloc: Global, value: PgValueRef<'_>) -> Result<Oid, CodecError> {
         read_oid(&value)
     }
+}
+
+impl ReadBack for Oid {
+    ghost use Rattle.pgv_wire.specs.Back.{always};
+    ghost use Rattle.pgv_wire.specs.BackScalars.{oid_back};
+
+    ghost kept = { λ v. v };
+
+    ghost fits = { always };
+
+    ghost reads_back = { oid_back };
+}
+
+impl Codec for Oid {
+    ghost agrees = { λ _. refl };
 }

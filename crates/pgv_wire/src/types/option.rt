@@ -1,7 +1,7 @@
 //! Values that may be null.
 
 use crate::buffer::{IsNull, PgArgumentBuffer};
-use crate::traits::{Decode, Encode, PgHasArrayType, Type};
+use crate::traits::{Codec, Decode, Encode, PgHasArrayType, ReadBack, Type};
 use pgv_types::PgTypeInfo;
 use pgv_value::{CodecError, PgValueRef};
 use std::alloc::{AllocError, Global};
@@ -69,6 +69,7 @@ impl<T: Encode + Type> Encode for Option<T> {
 impl<T: Decode> Decode for Option<T> {
     ghost use Rattle.std.specs.Prelude.{Option, option_map};
     ghost use Rattle.pgv_wire.specs.Nullable.{nullable};
+    ghost use Rattle.pgv_wire.specs.Saying.{option_written};
 
     ghost Meaning = { Option T.Meaning };
 
@@ -76,10 +77,32 @@ impl<T: Decode> Decode for Option<T> {
 
     ghost reading = { nullable T.reading };
 
+    ghost written = { option_written T.written };
+
+    ghost takes_memory = { T.takes_memory };
+
     fn decode(alloc: Global, value: PgValueRef<'_>) -> Result<Option<T>, CodecError> {
         if value.is_null() {
             return Ok(None);
         }
         Ok(Some(T::decode(alloc, value)?))
     }
+}
+
+/// `None` comes back, and so does `Some` where its value does; but a value that is written as null comes back as `None`.
+impl<T: ReadBack + Type> ReadBack for Option<T> {
+    ghost use Rattle.pgv_wire.specs.Back.{option_kept, option_fits};
+    ghost use Rattle.pgv_wire.specs.BackNests.{option_back};
+
+    ghost kept = { option_kept T.image T.kept };
+
+    ghost fits = { option_fits T.fits };
+
+    ghost reads_back = { option_back T.image T.reading T.meaning T.kept T.fits T.reads_back };
+}
+
+impl<T: Codec> Codec for Option<T> {
+    ghost use Rattle.std.specs.Prelude.{Some, None, refl};
+
+    ghost agrees = { elim [ None ↦ refl | Some v ↦ T.agrees v ] };
 }

@@ -5,7 +5,7 @@ ghost use Rattle.pgv_wire.specs.Outcome.{Encoded, Refused, Appended};
 ghost use Rattle.pgv_wire.specs.Scalars.{text_image, is_text as is_text_type, is_text_array as is_text_array_type};
 
 use crate::buffer::{IsNull, PgArgumentBuffer};
-use crate::traits::{Decode, Encode, PgHasArrayType, Type};
+use crate::traits::{Codec, Decode, Encode, PgHasArrayType, ReadBack, Type};
 use pgv_types::{PgType, PgTypeInfo, PgTypeKindRef};
 use pgv_value::{CodecError, PgValueRef};
 use std::alloc::{AllocError, Global};
@@ -77,15 +77,10 @@ impl PgHasArrayType for String {
 }
 
 impl Encode for String {
-    ghost use Rattle.std.specs.Prelude.{None};
     ghost use Rattle.std.specs.Prelude.{string_bytes};
     ghost use Rattle.pgv_wire.specs.Scalars.{text_image};
 
     ghost image = { λ s. text_image (string_bytes s) };
-
-    ghost hint = { λ _. 0 };
-
-    ghost produced = { λ _. None };
 
     fn encode_by_ref(&self, out: &mut PgArgumentBuffer) -> Result<IsNull, CodecError> {
         encode_text(self.as_str(), out)
@@ -106,6 +101,8 @@ impl Decode for String {
     ghost use Rattle.std.specs.Prelude.{ℕ, List};
     ghost use Rattle.std.specs.String.{string_bytes};
     ghost use Rattle.pgv_value.specs.Scalars.{text_reading};
+    ghost use Rattle.pgv_wire.specs.Saying.{plainly};
+    ghost use Rattle.pgv_wire.specs.Scalars.{text_image};
 
     ghost Meaning = { List ℕ };
 
@@ -113,7 +110,26 @@ impl Decode for String {
 
     ghost reading = { text_reading };
 
+    ghost written = { plainly text_image };
+
     fn decode(alloc: Global, value: PgValueRef<'_>) -> Result<String, CodecError> {
         Ok(String::from_str(alloc, value.as_str()?)?)
     }
+}
+
+impl ReadBack for String {
+    ghost use Rattle.pgv_wire.specs.Back.{always};
+    ghost use Rattle.pgv_wire.specs.BackScalars.{text_back};
+
+    ghost kept = { λ v. v };
+
+    ghost fits = { always };
+
+    ghost reads_back = { text_back };
+}
+
+impl Codec for String {
+    ghost use Rattle.std.specs.Prelude.{refl};
+
+    ghost agrees = { λ _. refl };
 }

@@ -28,12 +28,15 @@ fn records() -> PgTypeInfo
 impl<A: Type + Decode> Decode for (A,) {
     ghost use Rattle.pgv_wire.specs.Records.{next};
     ghost use Rattle.pgv_wire.specs.Tuples.{record_of};
+    ghost use Rattle.pgv_wire.specs.Saying.{unwritten};
 
     ghost Meaning = { A.Meaning };
 
     ghost meaning = { λ v. A.meaning v.0 };
 
     ghost reading = { record_of (next A.accepts A.reading) };
+
+    ghost written = { unwritten };
 
     fn decode(alloc: Global, value: PgValueRef<'_>) -> Result<(A,), CodecError> {
         let mut fields = PgRecordDecoder::new(alloc, value)?;
@@ -79,12 +82,15 @@ impl<A> PgHasArrayType for (A,) {
 impl<A: Type + Decode, B: Type + Decode> Decode for (A, B) {
     ghost use Rattle.pgv_wire.specs.Records.{next};
     ghost use Rattle.pgv_wire.specs.Tuples.{record_of, ◌then◌};
+    ghost use Rattle.pgv_wire.specs.Saying.{unwritten};
 
     ghost Meaning = { A.Meaning × B.Meaning };
 
     ghost meaning = { λ v. (A.meaning v.0, B.meaning v.1) };
 
     ghost reading = { record_of (next A.accepts A.reading then next B.accepts B.reading) };
+
+    ghost written = { unwritten };
 
     fn decode(alloc: Global, value: PgValueRef<'_>) -> Result<(A, B), CodecError> {
         let mut fields = PgRecordDecoder::new(alloc, value)?;
@@ -132,12 +138,15 @@ impl<A, B> PgHasArrayType for (A, B) {
 impl<A: Type + Decode, B: Type + Decode, C: Type + Decode> Decode for (A, B, C) {
     ghost use Rattle.pgv_wire.specs.Records.{next};
     ghost use Rattle.pgv_wire.specs.Tuples.{record_of, ◌then◌};
+    ghost use Rattle.pgv_wire.specs.Saying.{unwritten};
 
     ghost Meaning = { A.Meaning × (B.Meaning × C.Meaning) };
 
     ghost meaning = { λ v. (A.meaning v.0, (B.meaning v.1, C.meaning v.2)) };
 
     ghost reading = { record_of (next A.accepts A.reading then next B.accepts B.reading then next C.accepts C.reading) };
+
+    ghost written = { unwritten };
 
     fn decode(alloc: Global, value: PgValueRef<'_>) -> Result<(A, B, C), CodecError> {
         let mut fields = PgRecordDecoder::new(alloc, value)?;
@@ -187,12 +196,15 @@ impl<A: Type + Decode, B: Type + Decode, C: Type + Decode, D: Type + Decode> Dec
     for (A, B, C, D) {
     ghost use Rattle.pgv_wire.specs.Records.{next};
     ghost use Rattle.pgv_wire.specs.Tuples.{record_of, ◌then◌};
+    ghost use Rattle.pgv_wire.specs.Saying.{unwritten};
 
     ghost Meaning = { A.Meaning × (B.Meaning × (C.Meaning × D.Meaning)) };
 
     ghost meaning = { λ v. (A.meaning v.0, (B.meaning v.1, (C.meaning v.2, D.meaning v.3))) };
 
     ghost reading = { record_of (next A.accepts A.reading then next B.accepts B.reading then next C.accepts C.reading then next D.accepts D.reading) };
+
+    ghost written = { unwritten };
 
     fn decode(alloc: Global, value: PgValueRef<'_>) -> Result<(A, B, C, D), CodecError> {
         let mut fields = PgRecordDecoder::new(alloc, value)?;
@@ -248,12 +260,15 @@ impl<
 > Decode for (A, B, C, D, E) {
     ghost use Rattle.pgv_wire.specs.Records.{next};
     ghost use Rattle.pgv_wire.specs.Tuples.{record_of, ◌then◌};
+    ghost use Rattle.pgv_wire.specs.Saying.{unwritten};
 
     ghost Meaning = { A.Meaning × (B.Meaning × (C.Meaning × (D.Meaning × E.Meaning))) };
 
     ghost meaning = { λ v. (A.meaning v.0, (B.meaning v.1, (C.meaning v.2, (D.meaning v.3, E.meaning v.4)))) };
 
     ghost reading = { record_of (next A.accepts A.reading then next B.accepts B.reading then next C.accepts C.reading then next D.accepts D.reading then next E.accepts E.reading) };
+
+    ghost written = { unwritten };
 
     fn decode(alloc: Global, value: PgValueRef<'_>) -> Result<(A, B, C, D, E), CodecError> {
         let mut fields = PgRecordDecoder::new(alloc, value)?;
@@ -311,12 +326,15 @@ impl<
 > Decode for (A, B, C, D, E, F) {
     ghost use Rattle.pgv_wire.specs.Records.{next};
     ghost use Rattle.pgv_wire.specs.Tuples.{record_of, ◌then◌};
+    ghost use Rattle.pgv_wire.specs.Saying.{unwritten};
 
     ghost Meaning = { A.Meaning × (B.Meaning × (C.Meaning × (D.Meaning × (E.Meaning × F.Meaning)))) };
 
     ghost meaning = { λ v. (A.meaning v.0, (B.meaning v.1, (C.meaning v.2, (D.meaning v.3, (E.meaning v.4, F.meaning v.5))))) };
 
     ghost reading = { record_of (next A.accepts A.reading then next B.accepts B.reading then next C.accepts C.reading then next D.accepts D.reading then next E.accepts E.reading then next F.accepts F.reading) };
+
+    ghost written = { unwritten };
 
     fn decode(alloc: Global, value: PgValueRef<'_>) -> Result<(A, B, C, D, E, F), CodecError> {
         let mut fields = PgRecordDecoder::new(alloc, value)?;
@@ -376,12 +394,15 @@ impl<
 > Decode for (A, B, C, D, E, F, G) {
     ghost use Rattle.pgv_wire.specs.Records.{next};
     ghost use Rattle.pgv_wire.specs.Tuples.{record_of, ◌then◌};
+    ghost use Rattle.pgv_wire.specs.Saying.{unwritten};
 
     ghost Meaning = { A.Meaning × (B.Meaning × (C.Meaning × (D.Meaning × (E.Meaning × (F.Meaning × G.Meaning))))) };
 
     ghost meaning = { λ v. (A.meaning v.0, (B.meaning v.1, (C.meaning v.2, (D.meaning v.3, (E.meaning v.4, (F.meaning v.5, G.meaning v.6)))))) };
 
     ghost reading = { record_of (next A.accepts A.reading then next B.accepts B.reading then next C.accepts C.reading then next D.accepts D.reading then next E.accepts E.reading then next F.accepts F.reading then next G.accepts G.reading) };
+
+    ghost written = { unwritten };
 
     fn decode(alloc: Global, value: PgValueRef<'_>) -> Result<(A, B, C, D, E, F, G), CodecError> {
         let mut fields = PgRecordDecoder::new(alloc, value)?;
@@ -443,12 +464,15 @@ impl<
 > Decode for (A, B, C, D, E, F, G, H) {
     ghost use Rattle.pgv_wire.specs.Records.{next};
     ghost use Rattle.pgv_wire.specs.Tuples.{record_of, ◌then◌};
+    ghost use Rattle.pgv_wire.specs.Saying.{unwritten};
 
     ghost Meaning = { A.Meaning × (B.Meaning × (C.Meaning × (D.Meaning × (E.Meaning × (F.Meaning × (G.Meaning × H.Meaning)))))) };
 
     ghost meaning = { λ v. (A.meaning v.0, (B.meaning v.1, (C.meaning v.2, (D.meaning v.3, (E.meaning v.4, (F.meaning v.5, (G.meaning v.6, H.meaning v.7))))))) };
 
     ghost reading = { record_of (next A.accepts A.reading then next B.accepts B.reading then next C.accepts C.reading then next D.accepts D.reading then next E.accepts E.reading then next F.accepts F.reading then next G.accepts G.reading then next H.accepts H.reading) };
+
+    ghost written = { unwritten };
 
     fn decode(
         alloc: Global,
@@ -515,12 +539,15 @@ impl<
 > Decode for (A, B, C, D, E, F, G, H, I) {
     ghost use Rattle.pgv_wire.specs.Records.{next};
     ghost use Rattle.pgv_wire.specs.Tuples.{record_of, ◌then◌};
+    ghost use Rattle.pgv_wire.specs.Saying.{unwritten};
 
     ghost Meaning = { A.Meaning × (B.Meaning × (C.Meaning × (D.Meaning × (E.Meaning × (F.Meaning × (G.Meaning × (H.Meaning × I.Meaning))))))) };
 
     ghost meaning = { λ v. (A.meaning v.0, (B.meaning v.1, (C.meaning v.2, (D.meaning v.3, (E.meaning v.4, (F.meaning v.5, (G.meaning v.6, (H.meaning v.7, I.meaning v.8)))))))) };
 
     ghost reading = { record_of (next A.accepts A.reading then next B.accepts B.reading then next C.accepts C.reading then next D.accepts D.reading then next E.accepts E.reading then next F.accepts F.reading then next G.accepts G.reading then next H.accepts H.reading then next I.accepts I.reading) };
+
+    ghost written = { unwritten };
 
     fn decode(
         alloc: Global,

@@ -1,9 +1,5 @@
 //! Nothing: the type of a call that answers no value (PostgreSQL, "Pseudo-Types", void). It isn't written.
 
-ghost use Rattle.std.specs.Prelude.{IsOk};
-ghost use Rattle.pgv_value.specs.Reading.{Answers, AnswersExactly};
-ghost use Rattle.pgv_wire.specs.Nothing.{anything};
-
 use crate::traits::{Decode, Type};
 use pgv_types::{PgType, PgTypeInfo};
 use pgv_value::{CodecError, PgValueRef};
@@ -29,8 +25,9 @@ impl Type for () {
 
 /// Nothing (PostgreSQL, "Pseudo-Types", void): whatever is there, null too, is passed over.
 impl Decode for () {
-    ghost use Rattle.std.specs.Prelude.{⊤};
+    ghost use Rattle.std.specs.Prelude.{⊤, false};
     ghost use Rattle.pgv_wire.specs.Nothing.{anything};
+    ghost use Rattle.pgv_wire.specs.Saying.{unwritten};
 
     ghost Meaning = { ⊤ };
 
@@ -38,11 +35,11 @@ impl Decode for () {
 
     ghost reading = { anything };
 
-    fn decode(_alloc: Global, value: PgValueRef<'_>) -> Result<(), CodecError>
-        ensures exact { Answers (λ _. tt) (anything value.entry.type_info value.entry.format value.entry.bytes) result }
-        ensures exactly { AnswersExactly (λ _. tt) (anything value.entry.type_info value.entry.format value.entry.bytes) result }
-        ensures null { IsOk result }
-    {
+    ghost written = { unwritten };
+
+    ghost takes_memory = { false };
+
+    fn decode(_alloc: Global, value: PgValueRef<'_>) -> Result<(), CodecError> {
         Ok(())
     }
 }

@@ -1,0 +1,133 @@
+-- The parts of arguments after any list of calls, and that they are read back.
+use Rattle.std.proofs.Common.{◌≡◌, ℕ, zero, suc, nat_le, List, [], ◌∷◌, ◌++◌, take, drop, Option, Some, None, refl, sym, ◌∙◌, ap, subst, arith}
+use Rattle.std.specs.List.{slice_get}
+use Rattle.std.proofs.lemmas.Option.{same_Some}
+use Rattle.pgv_types.specs.Ty.{Ty}
+use Rattle.pgv_types.specs.declared.oid.Oid.{Oid}
+use Rattle.pgv_buf.specs.Blank.{plain-blank, holes-plain}
+use Rattle.pgv_buf.specs.Fill.{rest_types}
+use Rattle.pgv_buf.specs.Parse.{Proper, Proper-front, Proper-back, first_type}
+use Rattle.pgv_buf.specs.Tokens.{Token, byte, hole, slot, bytes, be4, tokens_width, tokens_holes, Cell, fixed, hole_cell, slot_cell, blank, plain, shown, hole_count}
+use Rattle.pgv_value.specs.Frame.{Part}
+use Rattle.pgv_value.specs.Reading.{Reading}
+use Rattle.pgv_value.specs.declared.value.PgValueFormat.TheVariants.{Binary}
+use Rattle.pgv_wire.specs.Arguments.{Argument, Framed, framed, all_tokens, write, filled_arguments}
+use Rattle.pgv_wire.specs.Back.{AreOids, SlotsFit, ImageFits, ReadsBack}
+use Rattle.pgv_wire.specs.BackParts.{guarded, SlotsFit-back, AreOids-take, AreOids-drop}
+use Rattle.pgv_wire.specs.Given.{Given, zeros, given_by, given_none, given_in, parts_given, ArgumentReadsBack}
+use Rattle.pgv_wire.specs.History.{Call, told, after, added_in, blanks}
+use Rattle.pgv_wire.specs.Image.{Image, null_image, image_of, limit, frame_of}
+use Rattle.pgv_wire.specs.Parts.{AreFrames, part_in, parts_in, written_part}
+use Rattle.pgv_wire.proofs.Framed.{framed-left}
+use Rattle.pgv_wire.proofs.Histories.{left_told, only_added}
+use Rattle.pgv_wire.proofs.PartsRead.{part_filled, one_image}
+use Rattle.pgv_wire.proofs.Split.{cut}
+
+-- ---- the parts
+
+-- what is not filled yet is written with zeros and defaults
+shown-blank : (n : ℕ) (ts : List Token) → shown (blank ts) ≡ write None (zeros n) ts
+shown-blank n [] = refl
+shown-blank n (byte x ∷ ts) = ap (λ (r : List ℕ). x ∷ r) (shown-blank n ts)
+shown-blank zero (hole t ∷ ts) = ap (λ (r : List ℕ). be4 0 ++ r) (shown-blank zero ts)
+shown-blank (suc n) (hole t ∷ ts) = ap (λ (r : List ℕ). be4 0 ++ r) (shown-blank n ts)
+shown-blank n (slot d cs ∷ ts) = ap (λ (r : List ℕ). d ++ r) (shown-blank n ts)
+
+part_blank : (i : Image) (f : List Token) → frame_of (Some i) ≡ Some f → part_in i (blank f) ≡ written_part i None (zeros (tokens_holes f))
+part_blank null_image f e = refl
+part_blank (image_of ts) f e =
+    let k = cut ts f _ refl e in
+    ap (λ (r : List Token). let q : Part = Some (drop 4 (shown (blank r))) in q) k.1 ∙ ap (λ (r : List ℕ). let q : Part = Some r in q) (shown-blank (tokens_holes f) ts)
+
+parts_since : (fs : List Framed) (is : List Image) → AreFrames is fs → parts_in is (blanks fs) ≡ parts_given is (given_none fs)
+parts_since [] [] h = refl
+parts_since [] (i ∷ is) h = absurd h
+parts_since (f ∷ fs) [] h = absurd h
+parts_since (f ∷ fs) (i ∷ is) h =
+    ap (λ (p : Part). p ∷ parts_in is (blanks fs)) (part_blank i f.1 h.0) ∙ ap (λ (r : List Part). written_part i None (zeros (tokens_holes f.1)) ∷ r) (parts_since fs is h.1)
+
+parts_left : (fs since : List Framed) (is : List Image) (ps : List Ty) (os : List Oid) → AreFrames is (fs ++ since) → parts_in is (filled_arguments (blanks fs) ps os ++ blanks since) ≡ parts_given is (given_by fs ps os ++ given_none since)
+parts_left [] since is ps os h = parts_since since is h
+parts_left (f ∷ fs) since [] ps os h = absurd h
+parts_left (f ∷ fs) since (i ∷ is) ps os h =
+    let c : List Cell = blank f.1 in
+    let same : plain c ≡ f.1 = plain-blank f.1 in
+    let there : frame_of (Some i) ≡ Some (plain c) = h.0 ∙ ap (λ (r : List Token). let o : Option (List Token) = Some r in o) (sym same) in
+    let many : hole_count c ≡ tokens_holes f.1 = sym (holes-plain c) ∙ ap tokens_holes same in
+    let rest : ℕ → List Part = λ n. parts_in is (filled_arguments (blanks fs) (rest_types ps) (drop n os) ++ blanks since) in
+    ap (λ (p : Part). p ∷ rest (hole_count c)) (part_filled i c (first_type ps) (take (hole_count c) os) there)
+    ∙ (ap (λ (n : ℕ). written_part i (Some (first_type ps)) (take n os) ∷ rest n) many
+    ∙ ap (λ (r : List Part). written_part i (Some (first_type ps)) (take (tokens_holes f.1) os) ∷ r) (parts_left fs since is (rest_types ps) (drop (tokens_holes f.1) os) h.1))
+
+pub parts_told : (calls : List Call) (is : List Image) → AreFrames is (added_in calls) → parts_in is (after [] calls) ≡ parts_given is (given_in (told calls))
+parts_told calls is h =
+    let left = left_told calls in
+    let fs_are : added_in calls ≡ (told calls).filled ++ (told calls).since = sym (only_added calls) ∙ framed-left (after [] calls) (told calls) left in
+    ap (λ (args : List Argument). parts_in is args) left
+    ∙ parts_left (told calls).filled (told calls).since is (told calls).types (told calls).oids (subst (λ (fs : List Framed). AreFrames is fs) fs_are h)
+
+-- ---- one argument
+
+part_at : (is : List Image) (gs : List Given) (k : ℕ) (i : Image) (g : Given) → slice_get is k ≡ Some i → slice_get gs k ≡ Some g → slice_get (parts_given is gs) k ≡ Some (written_part i g.parameter g.oids)
+part_at [] gs k i g e f = absurd cc
+part_at (j ∷ is) [] k i g e f = absurd cc
+part_at (j ∷ is) (x ∷ gs) zero i g e f = rw (same_Some j i e, same_Some x g f) refl
+part_at (j ∷ is) (x ∷ gs) (suc k) i g e f = part_at is gs k i g e f
+
+image_at : (is : List Image) (fs : List Framed) (k : ℕ) (a : Framed) (j : Image) → AreFrames is fs → slice_get fs k ≡ Some a → frame_of (Some j) ≡ Some a.1 → slice_get is k ≡ Some j
+image_at [] [] k a j h e f = absurd cc
+image_at [] (x ∷ fs) k a j h e f = absurd h
+image_at (i ∷ is) [] k a j h e f = absurd h
+image_at (i ∷ is) (x ∷ fs) zero a j h e f =
+    let there : frame_of (Some i) ≡ Some a.1 = h.0 ∙ ap (λ (r : Framed). let o : Option (List Token) = Some r.1 in o) (same_Some x a e) in
+    ap (λ (r : Image). let o : Option Image = Some r in o) (one_image i j a.1 there f)
+image_at (i ∷ is) (x ∷ fs) (suc k) a j h e f = image_at is fs k a j h.1 e f
+
+-- slots of proper cells fit
+slots_fit : (c : List Cell) → Proper c → SlotsFit (plain c)
+slots_fit [] h = tt
+slots_fit (fixed x ∷ c) h = slots_fit c h
+slots_fit (hole_cell t s ∷ c) h = slots_fit c h.1
+slots_fit (slot_cell d cs s ∷ c) h = (h.1, slots_fit c h.2)
+
+slots_fit_at : (args : List Argument) (k : ℕ) (a : Framed) → Proper (all_tokens args) → slice_get (framed args) k ≡ Some a → SlotsFit a.1
+slots_fit_at [] k a h e = absurd cc
+slots_fit_at (x ∷ args) zero a h e = subst (λ (f : Framed). SlotsFit f.1) (same_Some (x.0, plain x.1) a e) (slots_fit x.1 (Proper-front x.1 (all_tokens args) h))
+slots_fit_at (x ∷ args) (suc k) a h e = slots_fit_at args k a (Proper-back x.1 (all_tokens args) h) e
+
+image_fits : (i : Image) (f : List Token) → frame_of (Some i) ≡ Some f → SlotsFit f → ImageFits i
+image_fits null_image f e h = tt
+image_fits (image_of ts) f e h =
+    let k = cut ts f _ refl e in
+    SlotsFit-back (bytes (be4 (tokens_width ts))) ts (subst SlotsFit k.1 h)
+
+zeros_fit : (n : ℕ) → AreOids (zeros n)
+zeros_fit zero = tt
+zeros_fit (suc n) = (omega arith, zeros_fit n)
+
+since_fit : (fs : List Framed) (k : ℕ) (g : Given) → slice_get (given_none fs) k ≡ Some g → AreOids g.oids
+since_fit [] k g e = absurd cc
+since_fit (f ∷ fs) zero g e = subst (λ (x : Given). AreOids x.oids) (same_Some _ g e) (zeros_fit (tokens_holes f.1))
+since_fit (f ∷ fs) (suc k) g e = since_fit fs k g e
+
+oids_fit : (fs since : List Framed) (ps : List Ty) (os : List Oid) (k : ℕ) (g : Given) → AreOids os → slice_get (given_by fs ps os ++ given_none since) k ≡ Some g → AreOids g.oids
+oids_fit [] since ps os k g h e = since_fit since k g e
+oids_fit (f ∷ fs) since ps os zero g h e = subst (λ (x : Given). AreOids x.oids) (same_Some _ g e) (AreOids-take (tokens_holes f.1) os h)
+oids_fit (f ∷ fs) since ps os (suc k) g h e = oids_fit fs since (rest_types ps) (drop (tokens_holes f.1) os) k g (AreOids-drop (tokens_holes f.1) os h) e
+
+module _ {A M : Type 0} (hint : A → ℕ) (image : A → Option Image) (reading : Reading M) (kept : A → M) (fits : A → Ty → List Oid → Type 0) (law : ReadsBack image reading kept fits) where
+  pub argument_back : ArgumentReadsBack hint image reading kept fits
+  argument_back calls is place a g v t frames proper small there framed_as given fit = by_image (image v) refl (guarded (nat_le (hint v) limit) (frame_of (image v)) a.1 framed_as).1
+    where
+      by_image : (o : Option Image) → image v ≡ o → frame_of (image v) ≡ Some a.1 → (part : Part) × (slice_get (parts_in is (after [] calls)) place ≡ Some part) × (reading t Binary part ≡ Some (kept v))
+      by_image None o_is e = absurd (let none : frame_of None ≡ Some a.1 = ap frame_of (sym o_is) ∙ e in cc)
+      by_image (Some j) o_is e =
+          let frame_is : frame_of (Some j) ≡ Some a.1 = ap frame_of (sym o_is) ∙ e in
+          let j_there = image_at is (added_in calls) place a j frames there frame_is in
+          let a_there : slice_get (framed (after [] calls)) place ≡ Some a = ap (λ (fs : List Framed). slice_get fs place) (only_added calls) ∙ there in
+          let whole = image_fits j a.1 frame_is (slots_fit_at (after [] calls) place a proper a_there) in
+          let own = oids_fit (told calls).filled (told calls).since (told calls).types (told calls).oids place g small given in (
+            written_part j g.parameter g.oids,
+            ap (λ (ps : List Part). slice_get ps place) (parts_told calls is frames) ∙ part_at is (given_in (told calls)) place j g j_there given,
+            law v j t g.parameter g.oids o_is whole own fit,
+          )

@@ -1,0 +1,53 @@
+-- What each argument was given last: the type of its parameter and its share of the OIDs, or no type and zeros, where no
+-- filling came since it was added.
+use Rattle.std.specs.Prelude.{◌≡◌, ℕ, List, [], ◌∷◌, ◌++◌, take, drop, replicate, Option, Some, None}
+use Rattle.std.specs.List.{slice_get}
+use Rattle.pgv_types.specs.Ty.{Ty}
+use Rattle.pgv_types.specs.declared.oid.Oid.{Oid}
+use Rattle.pgv_buf.specs.Fill.{rest_types}
+use Rattle.pgv_buf.specs.Parse.{Proper, first_type}
+use Rattle.pgv_buf.specs.Tokens.{tokens_holes}
+use Rattle.pgv_value.specs.Frame.{Part}
+use Rattle.pgv_value.specs.Reading.{Reading}
+use Rattle.pgv_value.specs.declared.value.PgValueFormat.TheVariants.{Binary}
+use Rattle.pgv_wire.specs.Arguments.{Framed, all_tokens}
+use Rattle.pgv_wire.specs.Back.{AreOids}
+use Rattle.pgv_wire.specs.History.{Call, Told, told, after, added_in}
+use Rattle.pgv_wire.specs.Image.{Image, frame}
+use Rattle.pgv_wire.specs.Parts.{AreFrames, parts_in, written_part}
+
+pub record Given : Type 0 where
+  pub parameter : Option Ty
+  pub oids : List Oid
+
+abbrev pub zeros : ℕ → List Oid
+zeros n = replicate n (record { 0 = 0 })
+
+-- the arguments at a filling
+abbrev pub given_by : List Framed → List Ty → List Oid → List Given
+given_by [] ps os = []
+given_by (f ∷ fs) ps os =
+    record { parameter = Some (first_type ps); oids = take (tokens_holes f.1) os } ∷ given_by fs (rest_types ps) (drop (tokens_holes f.1) os)
+
+-- those that were added since
+abbrev pub given_none : List Framed → List Given
+given_none [] = []
+given_none (f ∷ fs) = record { parameter = None; oids = zeros (tokens_holes f.1) } ∷ given_none fs
+
+abbrev pub given_in : Told → List Given
+given_in h = given_by h.filled h.types h.oids ++ given_none h.since
+
+-- the parts of images, each written with what its argument was given
+abbrev pub parts_given : List Image → List Given → List Part
+parts_given [] gs = []
+parts_given (i ∷ is) [] = []
+parts_given (i ∷ is) (g ∷ gs) = written_part i g.parameter g.oids ∷ parts_given is gs
+
+-- Whatever was added, refused and filled: where the argument at a place was added for a value, its part is read in binary as
+-- what the value keeps, under each type that fits with the OIDs that the argument was given.
+abbrev pub ArgumentReadsBack : {A M : Type 0} → (A → ℕ) → (A → Option Image) → Reading M → (A → M) → (A → Ty → List Oid → Type 0) → Type 0
+ArgumentReadsBack {A} hint image reading kept fits =
+    (calls : List Call) (is : List Image) (place : ℕ) (a : Framed) (g : Given) (v : A) (t : Ty) →
+    AreFrames is (added_in calls) → Proper (all_tokens (after [] calls)) → AreOids (told calls).oids →
+    slice_get (added_in calls) place ≡ Some a → frame (hint v) (image v) ≡ Some a.1 → slice_get (given_in (told calls)) place ≡ Some g → fits v t g.oids →
+    (part : Part) × (slice_get (parts_in is (after [] calls)) place ≡ Some part) × (reading t Binary part ≡ Some (kept v))

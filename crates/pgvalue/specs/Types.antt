@@ -1,0 +1,54 @@
+-- The TYPEs of the lines: for each its name, and what is read and written under it.
+use Rattle.std.specs.Prelude.{ℕ, codes, bytes_eq, List, [], ◌∷◌, Option, Some, None, option_map, if◌then◌else◌}
+use Rattle.std.specs.Int.{w8, w16, w32, w64}
+use Rattle.pgv_types.specs.Ty.{Ty, builtin}
+use Rattle.pgv_value.specs.Reading.{Reading}
+use Rattle.pgv_value.specs.Scalars.{bool_reading, int_reading, char_reading, oid_reading, text_reading, uuid_reading}
+use Rattle.pgv_value.specs.declared.value.PgValueFormat.{PgValueFormat}
+use Rattle.pgv_wire.specs.Arguments.{Framed}
+use Rattle.pgv_wire.specs.Arrays.{array}
+use Rattle.pgv_wire.specs.Image.{frame}
+use Rattle.pgv_wire.specs.Nullable.{nullable}
+use Rattle.pgv_wire.specs.Saying.{Saying, plainly, option_written, array_written}
+use Rattle.pgv_wire.specs.Scalars.{bool_image, signed_image, unsigned_image, text_image, uuid_image}
+
+-- what is added of a value: its type and its frame, where it has one
+abbrev pub framed_as : Saying → Option Framed
+framed_as s = option_map (λ ts. (s.value_type, ts)) (frame s.hint s.image)
+
+-- what is added of a meaning that was read, if any
+abbrev pub framed_by : {M : Type 0} → Ty → (Ty → M → Saying) → Option M → Option Framed
+framed_by info written None = None
+framed_by info written (Some m) = framed_as (written info m)
+
+-- a TYPE: its type, and what is added of the value that a text or bytes are under it
+pub record Row : Type 0 where
+  pub info : Ty
+  pub value : PgValueFormat → Option (List ℕ) → Option Framed
+
+-- values that are read and written so
+abbrev pub row : {M : Type 0} → Ty → Reading M → (Ty → M → Saying) → Row
+row info reading written = record { info = info; value = λ f part. framed_by info written (reading info f part) }
+
+-- lists of such values, which may be null, of elements of this type
+abbrev pub list_row : {M : Type 0} → Ty → Ty → Reading M → (Ty → M → Saying) → Row
+list_row info element reading written = row info (array element (nullable reading)) (array_written element (option_written written))
+
+abbrev pub types : List (List ℕ × Row)
+types =
+    (codes "bool", row (builtin 16) bool_reading (plainly bool_image)) ∷
+    (codes "char", row (builtin 18) char_reading (plainly (signed_image w8))) ∷
+    (codes "int2", row (builtin 21) (int_reading w16) (plainly (signed_image w16))) ∷
+    (codes "int4", row (builtin 23) (int_reading w32) (plainly (signed_image w32))) ∷
+    (codes "int8", row (builtin 20) (int_reading w64) (plainly (signed_image w64))) ∷
+    (codes "oid", row (builtin 26) oid_reading (plainly (unsigned_image w32))) ∷
+    (codes "text", row (builtin 25) text_reading (plainly text_image)) ∷
+    (codes "uuid", row (builtin 2950) uuid_reading (plainly uuid_image)) ∷
+    (codes "int4[]", list_row (builtin 1007) (builtin 23) (int_reading w32) (plainly (signed_image w32))) ∷
+    (codes "text[]", list_row (builtin 1009) (builtin 25) text_reading (plainly text_image)) ∷
+    []
+
+-- the row of a name, where it has one
+abbrev pub row_named : List (List ℕ × Row) → List ℕ → Option Row
+row_named [] name = None
+row_named (t ∷ ts) name = if bytes_eq name t.0 then Some t.1 else row_named ts name
