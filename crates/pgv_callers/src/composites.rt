@@ -13,8 +13,8 @@ ghost use Rattle.pgv_wire.specs.Plain.{FieldIsPlain};
 use crate::values::Mood;
 use pgv_types::{PgType, PgTypeInfo};
 use pgv_wire::{
-    Codec, CodecError, Decode, Encode, IsNull, PgArgumentBuffer, PgRecordEncoder, PgValueRef,
-    ReadBack, Type,
+    Codec, CodecError, Decode, Encode, IsNull, PgArgumentBuffer, PgHasArrayType, PgRecordEncoder,
+    PgValueRef, ReadBack, Type,
 };
 use std::alloc::{AllocError, Global};
 
@@ -42,6 +42,24 @@ impl Type for Person {
 
     fn compatible(type_info: &PgTypeInfo) -> bool {
         type_info.type_compatible(&Self::type_info())
+    }
+}
+
+impl PgHasArrayType for Person {
+    ghost use Rattle.std.specs.Prelude.{codes};
+    ghost use Rattle.pgv_types.specs.Ty.{array_of};
+    ghost use Rattle.pgv_types.specs.Relations.{softly};
+
+    ghost array_info = { array_of (codes "person") };
+
+    ghost accepts_array = { λ t. softly t (array_of (codes "person")) };
+
+    fn array_type_info() -> PgTypeInfo {
+        PgTypeInfo::array_of("person")
+    }
+
+    fn array_compatible(type_info: &PgTypeInfo) -> bool {
+        type_info.type_compatible(&Self::array_type_info())
     }
 }
 
@@ -90,14 +108,13 @@ impl Decode for Person {
 /// A person comes back where each field does.
 impl ReadBack for Person {
     ghost use Rattle.std.specs.Prelude.{[]};
-    ghost use Rattle.pgv_wire.specs.Back.{FieldFits, Followed};
+    ghost use Rattle.pgv_wire.specs.Back.{FieldFits, FieldsFit};
     ghost use Rattle.pgv_wire.specs.BackRecords.{last_back, further_back, record_back};
     ghost use Rattle.pgv_wire.specs.BackScalars.{int4_back, text_back};
-    ghost use Rattle.pgv_wire.specs.Image.{field};
 
     ghost kept = { λ v. v };
 
-    ghost fits = { λ v t oids. Followed (FieldFits ⟦<i32 as Type>⟧.info ⟦<i32 as Encode>⟧.produced ⟦<i32 as Encode>⟧.image ⟦<i32 as Type>⟧.accepts ⟦<i32 as ReadBack>⟧.fits v.id) (field ⟦<i32 as Encode>⟧.hint ⟦<i32 as Encode>⟧.image ⟦<i32 as Encode>⟧.produced ⟦<i32 as Type>⟧.info v.id) (FieldFits ⟦<Mood as Type>⟧.info ⟦<Mood as Encode>⟧.produced ⟦<Mood as Encode>⟧.image ⟦<Mood as Type>⟧.accepts ⟦<Mood as ReadBack>⟧.fits v.mood) t 0 oids };
+    ghost fits = { λ v t oids. FieldsFit ⟦<i32 as Type>⟧.info ⟦<i32 as Encode>⟧.produced ⟦<i32 as Encode>⟧.hint ⟦<i32 as Encode>⟧.image ⟦<i32 as Type>⟧.accepts ⟦<i32 as ReadBack>⟧.fits v.id (FieldFits ⟦<Mood as Type>⟧.info ⟦<Mood as Encode>⟧.produced ⟦<Mood as Encode>⟧.image ⟦<Mood as Type>⟧.accepts ⟦<Mood as ReadBack>⟧.fits v.mood) t 0 oids };
 
     ghost reads_back = { λ v. record_back (further_back ⟦<i32 as Type>⟧.info ⟦<i32 as Encode>⟧.produced ⟦<i32 as Encode>⟧.hint ⟦<i32 as Encode>⟧.image ⟦<i32 as Type>⟧.accepts ⟦<i32 as Decode>⟧.reading ⟦<i32 as Decode>⟧.meaning ⟦<i32 as ReadBack>⟧.fits int4_back v.id (last_back ⟦<Mood as Type>⟧.info ⟦<Mood as Encode>⟧.produced ⟦<Mood as Encode>⟧.hint ⟦<Mood as Encode>⟧.image ⟦<Mood as Type>⟧.accepts ⟦<Mood as Decode>⟧.reading ⟦<Mood as Decode>⟧.meaning ⟦<Mood as ReadBack>⟧.fits (λ mood. text_back mood.label) v.mood [])) };
 }
@@ -226,13 +243,12 @@ impl<A: Type + Decode, B: Type + Decode> Decode for Pair<A, B> {
 /// A pair comes back where each field does.
 impl<A: ReadBack + Type, B: ReadBack + Type> ReadBack for Pair<A, B> {
     ghost use Rattle.std.specs.Prelude.{[]};
-    ghost use Rattle.pgv_wire.specs.Back.{FieldFits, Followed};
+    ghost use Rattle.pgv_wire.specs.Back.{FieldFits, FieldsFit};
     ghost use Rattle.pgv_wire.specs.BackRecords.{last_back, further_back, record_back};
-    ghost use Rattle.pgv_wire.specs.Image.{field};
 
     ghost kept = { λ v. record { first = A.kept v.first; second = B.kept v.second } };
 
-    ghost fits = { λ v t oids. Followed (FieldFits A.info A.produced A.image A.accepts A.fits v.first) (field A.hint A.image A.produced A.info v.first) (FieldFits B.info B.produced B.image B.accepts B.fits v.second) t 0 oids };
+    ghost fits = { λ v t oids. FieldsFit A.info A.produced A.hint A.image A.accepts A.fits v.first (FieldFits B.info B.produced B.image B.accepts B.fits v.second) t 0 oids };
 
     ghost reads_back = { λ v. record_back (further_back A.info A.produced A.hint A.image A.accepts A.reading (λ x. A.meaning (A.kept x)) A.fits A.reads_back v.first (last_back B.info B.produced B.hint B.image B.accepts B.reading (λ x. B.meaning (B.kept x)) B.fits B.reads_back v.second [])) };
 }

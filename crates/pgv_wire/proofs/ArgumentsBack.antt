@@ -17,10 +17,10 @@ use Rattle.pgv_wire.specs.BackParts.{guarded, SlotsFit-back, AreOids-take, AreOi
 use Rattle.pgv_wire.specs.Given.{Given, zeros, given_by, given_none, given_in, parts_given, ArgumentReadsBack}
 use Rattle.pgv_wire.specs.History.{Call, told, after, added_in, blanks}
 use Rattle.pgv_wire.specs.Image.{Image, null_image, image_of, limit, frame_of}
-use Rattle.pgv_wire.specs.Parts.{AreFrames, part_in, parts_in, written_part}
+use Rattle.pgv_wire.specs.Parts.{AreFrames, ReadAs, part_in, parts_in, written_part}
 use Rattle.pgv_wire.proofs.Framed.{framed-left}
 use Rattle.pgv_wire.proofs.Histories.{left_told, only_added}
-use Rattle.pgv_wire.proofs.PartsRead.{part_filled, one_image}
+use Rattle.pgv_wire.proofs.PartsRead.{frames_read, part_filled, one_image}
 use Rattle.pgv_wire.proofs.Split.{cut}
 
 -- ---- the parts
@@ -119,15 +119,19 @@ module _ {A M : Type 0} (hint : A → ℕ) (image : A → Option Image) (reading
   pub argument_back : ArgumentReadsBack hint image reading kept fits
   argument_back calls is place a g v t frames proper small there framed_as given fit = by_image (image v) refl (guarded (nat_le (hint v) limit) (frame_of (image v)) a.1 framed_as).1
     where
-      by_image : (o : Option Image) → image v ≡ o → frame_of (image v) ≡ Some a.1 → (part : Part) × (slice_get (parts_in is (after [] calls)) place ≡ Some part) × (reading t Binary part ≡ Some (kept v))
+      by_image : (o : Option Image) → image v ≡ o → frame_of (image v) ≡ Some a.1 →
+          (parts : List Part) × (part : Part) × ReadAs (shown (all_tokens (after [] calls))) parts [] × (slice_get parts place ≡ Some part) × (reading t Binary part ≡ Some (kept v))
       by_image None o_is e = absurd (let none : frame_of None ≡ Some a.1 = ap frame_of (sym o_is) ∙ e in cc)
       by_image (Some j) o_is e =
           let frame_is : frame_of (Some j) ≡ Some a.1 = ap frame_of (sym o_is) ∙ e in
           let j_there = image_at is (added_in calls) place a j frames there frame_is in
           let a_there : slice_get (framed (after [] calls)) place ≡ Some a = ap (λ (fs : List Framed). slice_get fs place) (only_added calls) ∙ there in
           let whole = image_fits j a.1 frame_is (slots_fit_at (after [] calls) place a proper a_there) in
-          let own = oids_fit (told calls).filled (told calls).since (told calls).types (told calls).oids place g small given in (
+          let own = oids_fit (told calls).filled (told calls).since (told calls).types (told calls).oids place g small given in
+          let framed_too = subst (λ (fs : List Framed). AreFrames is fs) (sym (only_added calls)) frames in (
+            parts_in is (after [] calls),
             written_part j g.parameter g.oids,
+            frames_read (after [] calls) is framed_too proper,
             ap (λ (ps : List Part). slice_get ps place) (parts_told calls is frames) ∙ part_at is (given_in (told calls)) place j g j_there given,
             law v j t g.parameter g.oids o_is whole own fit,
           )

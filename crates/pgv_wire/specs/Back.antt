@@ -65,10 +65,10 @@ abbrev pub written_oid : Option ℕ → List Oid → ℕ
 written_oid (Some o) os = o
 written_oid None os = first_number os
 
--- the OIDs that it leaves to what stands behind it
-abbrev pub oids_behind : Option ℕ → List Oid → List Oid
-oids_behind (Some o) os = os
-oids_behind None os = rest_numbers os
+-- the OIDs that are left after it
+abbrev pub oids_after : Option ℕ → List Oid → List Oid
+oids_after (Some o) os = os
+oids_after None os = rest_numbers os
 
 -- how many OIDs a value takes
 abbrev pub holes_of : Option Image → ℕ
@@ -87,7 +87,7 @@ FitEach image fits u (x ∷ xs) os = fits x u (take (holes_of (image x)) os) × 
 abbrev pub ArrayFits : {A : Type 0} → Ty → (A → Option Ty) → (A → Option Image) → (A → Ty → List Oid → Type 0) → List A → Ty → List Oid → Type 0
 ArrayFits info produced image fits xs t os =
     let own = oid_of (written_type produced info xs) in
-    (u : Ty) × (element_type t (written_oid own os) ≡ Some u) × FitEach image fits u xs (oids_behind own os)
+    (u : Ty) × (element_type t (written_oid own os) ≡ Some u) × FitEach image fits u xs (oids_after own os)
 
 -- ---- the fields of records
 
@@ -101,24 +101,28 @@ field_holes (Some ts) = tokens_holes ts
 abbrev pub FieldFits : {A : Type 0} → Ty → (A → Option Ty) → (A → Option Image) → (Ty → Bool) → (A → Ty → List Oid → Type 0) → A → Ty → ℕ → List Oid → Type 0
 FieldFits info produced image accepts fits x t place os =
     let own = oid_of (or_else (produced x) info) in
-    (u : Ty) × HasFieldType place (written_oid own os) u t × (accepts u ≡ true) × fits x u (take (holes_of (image x)) (oids_behind own os))
+    (u : Ty) × HasFieldType place (written_oid own os) u t × (accepts u ≡ true) × fits x u (take (holes_of (image x)) (oids_after own os))
 
 -- fields fit from a place on: the first, which is written so, and the further ones with the OIDs that it leaves
 abbrev pub Followed : (Ty → ℕ → List Oid → Type 0) → Option (List Token) → (Ty → ℕ → List Oid → Type 0) → Ty → ℕ → List Oid → Type 0
 Followed one written further t place os = one t place os × further t (suc place) (drop (field_holes written) os)
+
+-- a field that is read fits, and so do the further ones
+abbrev pub FieldsFit : {A : Type 0} → Ty → (A → Option Ty) → (A → ℕ) → (A → Option Image) → (Ty → Bool) → (A → Ty → List Oid → Type 0) → A → (Ty → ℕ → List Oid → Type 0) → Ty → ℕ → List Oid → Type 0
+FieldsFit info produced hint image accepts fits x further = Followed (FieldFits info produced image accepts fits x) (field hint image produced info x) further
 
 -- the tokens of fields, from the first on
 abbrev pub in_order : List (Option (List Token)) → Option (List Token)
 in_order [] = Some []
 in_order (f ∷ fs) = join f (in_order fs)
 
--- A field that was written is the next that is read, of whatever stands behind it, under each type that fits; and what stands
--- behind it is left, with the OIDs that it leaves.
+-- A field that was written is the next that is read, whatever comes after it, under each type that fits; and what
+-- comes after it is left, with the OIDs that are left.
 abbrev pub FieldReadsBack : {A M : Type 0} → Ty → (A → Option Ty) → (A → ℕ) → (A → Option Image) → (Ty → Bool) → Reading M → (A → M) → (A → Ty → List Oid → Type 0) → Type 0
 FieldReadsBack {A} info produced hint image accepts reading kept fits =
-    (x : A) (g behind : List Token) (t : Ty) (place : ℕ) (p : Option Ty) (os : List Oid) →
+    (x : A) (g after : List Token) (t : Ty) (place : ℕ) (p : Option Ty) (os : List Oid) →
     field hint image produced info x ≡ Some g → SlotsFit g → AreOids os → FieldFits info produced image accepts fits x t place os →
-    next accepts reading (binary_fields t place (write p os (g ++ behind))) ≡ Some (kept x, binary_fields t (suc place) (write p (drop (tokens_holes g) os) behind))
+    next accepts reading (binary_fields t place (write p os (g ++ after))) ≡ Some (kept x, binary_fields t (suc place) (write p (drop (tokens_holes g) os) after))
 
 -- the fields of a record are what is left of it where none was read
 abbrev pub RecordFieldsFollow : Type 0
@@ -126,7 +130,7 @@ RecordFieldsFollow =
     (fs : List (Option (List Token))) (i : Image) (t : Ty) (p : Option Ty) (os : List Oid) → record_image fs ≡ Some i →
     (gs : List Token) × (in_order fs ≡ Some gs) × (image_of (bytes (be4 (length fs)) ++ gs) ≡ i) × (fields_of t Binary (written_part i p os) ≡ Some (binary_fields t 0 (write p os gs)))
 
--- Steps that read fields back which are written one behind the other. Further fields may stand behind those that are read.
+-- Steps that read back fields that are written one after another. Further fields may come after those that are read.
 pub record FieldsBack {M : Type 0} (steps : Left → Option (M × Left)) (fs : List (Option (List Token))) (kept : M) (fit : Ty → ℕ → List Oid → Type 0) : Type 0 where
   pub back :
       (t : Ty) (place : ℕ) (p : Option Ty) (os : List Oid) (gs : List Token) → in_order fs ≡ Some gs → SlotsFit gs → AreOids os → fit t place os →

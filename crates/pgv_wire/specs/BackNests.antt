@@ -14,8 +14,8 @@ use Rattle.pgv_value.specs.Reading.{Reading}
 use Rattle.pgv_value.specs.declared.value.PgValueFormat.TheVariants.{Binary}
 use Rattle.pgv_wire.specs.Arguments.{write}
 use Rattle.pgv_wire.specs.Arrays.{array, array_of_length}
-use Rattle.pgv_wire.specs.Back.{AreOids, SlotsFit, ImageFits, ReadsBack, is_null, option_kept, option_fits, written_oid, oids_behind, ArrayFits}
-use Rattle.pgv_wire.specs.BackParts.{guarded, joined_parts, type_written, SlotsFit-back, AreOids-behind, frames_back}
+use Rattle.pgv_wire.specs.Back.{AreOids, SlotsFit, ImageFits, ReadsBack, is_null, option_kept, option_fits, written_oid, oids_after, ArrayFits}
+use Rattle.pgv_wire.specs.BackParts.{guarded, joined_parts, type_written, SlotsFit-back, AreOids-after, frames_back}
 use Rattle.pgv_wire.specs.Found.{array_there}
 use Rattle.pgv_wire.specs.Grammar.{IsArray}
 use Rattle.pgv_wire.specs.Image.{Image, null_image, image_of, limit, frames, join, typed, header, array_behind, array_of_frames, array_image, sized_image, option_image, element_type as written_type}
@@ -68,7 +68,7 @@ module _ {A M : Type 0} (info : Ty) (produced : A → Option Ty) (hint : A → �
       let w = written_type produced info xs in
       let n = length xs in
       let rest : List Token = (bytes (be4 n) ++ bytes (be4 1)) ++ fs in
-      let left : List Oid = oids_behind (oid_of w) os in
+      let left : List Oid = oids_after (oid_of w) os in
       let type_is = type_written w (oid_of w) ys rest p os small e in
       let count_is : length (map kept xs) ≡ n = length-map xs kept in
       let le = leb-true _ _ few in
@@ -85,7 +85,7 @@ module _ {A M : Type 0} (info : Ty) (produced : A → Option Ty) (hint : A → �
         oid_fits = type_is.0;
         count_fits = omega (arith, count_is, le);
         typed = fit.1;
-        framed = frames_back image reading kept fits law hint xs fs fit.0 p left f whole (AreOids-behind (oid_of w) os small) fit.2;
+        framed = frames_back image reading kept fits law hint xs fs fit.0 p left f whole (AreOids-after (oid_of w) os small) fit.2;
       })
 
   pub array_back : (xs : List A) (i : Image) (t : Ty) (p : Option Ty) (os : List Oid) → array_image hint image produced info xs ≡ Some i → ImageFits i → AreOids os → ArrayFits info produced image fits xs t os →

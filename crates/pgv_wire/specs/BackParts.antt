@@ -1,4 +1,4 @@
--- What tokens write, one behind the other, and the frames that are found in it.
+-- What tokens write, one after another, and the frames that are found in it.
 use Rattle.std.specs.Prelude.{◌≡◌, ℕ, ◌+◌, zero, suc, ◌<◌, ◌≤◌, ◌^◌, nat_le, nat_lt, Bool, true, false, cond, List, [], ◌∷◌, ◌++◌, length, take, drop, map, Option, Some, None, refl}
 use Rattle.std.specs.Int.{w32, to_be_bytes}
 use Rattle.std.proofs.Common.{sym, ap, ◌∙◌, subst, arith, append_assoc}
@@ -15,7 +15,7 @@ use Rattle.pgv_value.specs.Frame.{Part, IsFrame}
 use Rattle.pgv_value.specs.Reading.{Reading}
 use Rattle.pgv_value.specs.declared.value.PgValueFormat.TheVariants.{Binary}
 use Rattle.pgv_wire.specs.Arguments.{write, chosen_for}
-use Rattle.pgv_wire.specs.Back.{AreOids, SlotsFit, ReadsBack, FitEach, holes_of, written_oid, oids_behind}
+use Rattle.pgv_wire.specs.Back.{AreOids, SlotsFit, ReadsBack, FitEach, holes_of, written_oid, oids_after}
 use Rattle.pgv_wire.specs.Grammar.{BeginWithFrames}
 use Rattle.pgv_wire.specs.Image.{Image, null_image, image_of, limit, frame, frame_of, frames, join, typed_oid}
 
@@ -29,7 +29,7 @@ drop_nil : (n : ℕ) → drop n (let xs : List Oid = [] in xs) ≡ []
 drop_nil zero = refl
 drop_nil (suc n) = refl
 
--- two rows of tokens are written one behind the other, each with its own OIDs
+-- two lists of tokens are written one after the other, each with its own OIDs
 pub write-append : (p : Option Ty) (os : List Oid) (ts us : List Token) → write p os (ts ++ us) ≡ write p (take (tokens_holes ts) os) ts ++ write p (drop (tokens_holes ts) os) us
 write-append p os [] us = refl
 write-append p os (byte b ∷ ts) us = ap (λ (xs : List ℕ). b ∷ xs) (write-append p os ts us)
@@ -99,10 +99,10 @@ pub AreOids-more : (os : List Oid) (o : Oid) → AreOids os → o.0 < 2 ^ 32 →
 AreOids-more [] o h lt = (lt, tt)
 AreOids-more (x ∷ os) o h lt = (h.0, AreOids-more os o h.1 lt)
 
-pub AreOids-behind : (o : Option ℕ) (os : List Oid) → AreOids os → AreOids (oids_behind o os)
-AreOids-behind (Some o) os h = h
-AreOids-behind None [] h = tt
-AreOids-behind None (o ∷ os) h = h.1
+pub AreOids-after : (o : Option ℕ) (os : List Oid) → AreOids os → AreOids (oids_after o os)
+AreOids-after (Some o) os h = h
+AreOids-after None [] h = tt
+AreOids-after None (o ∷ os) h = h.1
 
 -- ---- what is there is made of parts
 
@@ -115,24 +115,24 @@ joined_parts None b ts e = absurd cc
 joined_parts (Some f) None ts e = absurd cc
 joined_parts (Some f) (Some fs) ts e = (f, fs, refl, refl, same_Some (f ++ fs) ts e)
 
--- ---- a type, with anything behind it
+-- ---- a type, with anything after it
 
 first_fits : (os : List Oid) → AreOids os → first_number os < 2 ^ 32
 first_fits [] h = omega arith
 first_fits (o ∷ os) h = h.0
 
-pub type_written : (w : Ty) (o : Option ℕ) (ys behind : List Token) (p : Option Ty) (os : List Oid) → AreOids os → typed_oid w o ≡ Some ys →
-    (written_oid o os < 2 ^ 32) × (write p os (ys ++ behind) ≡ be4 (written_oid o os) ++ write p (oids_behind o os) behind)
-type_written w (Some o) ys behind p os small e =
+pub type_written : (w : Ty) (o : Option ℕ) (ys after : List Token) (p : Option Ty) (os : List Oid) → AreOids os → typed_oid w o ≡ Some ys →
+    (written_oid o os < 2 ^ 32) × (write p os (ys ++ after) ≡ be4 (written_oid o os) ++ write p (oids_after o os) after)
+type_written w (Some o) ys after p os small e =
     let g = guarded (nat_lt o 4294967296) (Some (bytes (be4 o))) ys e in
     let ys_are : bytes (be4 o) ≡ ys = same_Some _ _ g.1 in
     (ltb-true o (2 ^ 32) g.0, rw (← ys_are) refl)
-type_written w None ys behind p os small e =
+type_written w None ys after p os small e =
     let ys_are : hole w ∷ [] ≡ ys = same_Some _ _ e in
     (first_fits os small, rw (← ys_are) refl)
 
--- the OIDs behind a type are those that its holes leave
-pub oids_left : (w : Ty) (o : Option ℕ) (ys : List Token) (os : List Oid) → typed_oid w o ≡ Some ys → drop (tokens_holes ys) os ≡ oids_behind o os
+-- the OIDs after a type are those that its holes leave
+pub oids_left : (w : Ty) (o : Option ℕ) (ys : List Token) (os : List Oid) → typed_oid w o ≡ Some ys → drop (tokens_holes ys) os ≡ oids_after o os
 oids_left w (Some o) ys os e =
     let g = guarded (nat_lt o 4294967296) (Some (bytes (be4 o))) ys e in
     let ys_are : bytes (be4 o) ≡ ys = same_Some _ _ g.1 in
@@ -147,29 +147,29 @@ oids_left w None ys (o ∷ os) e =
 -- ---- frames
 
 module _ {A M : Type 0} (image : A → Option Image) (reading : Reading M) (kept : A → M) (fits : A → Ty → List Oid → Type 0) (law : ReadsBack image reading kept fits) where
-  -- the frame of one value, with anything behind it
-  pub frame_back : (x : A) (i : Option Image) (f behind : List Token) (u : Ty) (p : Option Ty) (os : List Oid) → image x ≡ i → frame_of i ≡ Some f → SlotsFit f → AreOids os → fits x u (take (holes_of i) os) →
-      (part : Part) × IsFrame (write p os (f ++ behind)) part (write p (drop (holes_of i) os) behind) × (reading u Binary part ≡ Some (kept x))
-  frame_back x None f behind u p os is e whole small fit = absurd cc
-  frame_back x (Some null_image) f behind u p os is e whole small fit =
+  -- the frame of one value, with anything after it
+  pub frame_back : (x : A) (i : Option Image) (f after : List Token) (u : Ty) (p : Option Ty) (os : List Oid) → image x ≡ i → frame_of i ≡ Some f → SlotsFit f → AreOids os → fits x u (take (holes_of i) os) →
+      (part : Part) × IsFrame (write p os (f ++ after)) part (write p (drop (holes_of i) os) after) × (reading u Binary part ≡ Some (kept x))
+  frame_back x None f after u p os is e whole small fit = absurd cc
+  frame_back x (Some null_image) f after u p os is e whole small fit =
       let f_is : bytes (be4 4294967295) ≡ f = same_Some _ _ e in
       (None, rw (← f_is) refl, law x null_image u p (take 0 os) is tt tt fit)
-  frame_back x (Some (image_of ts)) f behind u p os is e whole small fit =
+  frame_back x (Some (image_of ts)) f after u p os is e whole small fit =
       let g = guarded (nat_le (tokens_width ts) limit) (Some (bytes (be4 (tokens_width ts)) ++ ts)) f e in
       let f_is : bytes (be4 (tokens_width ts)) ++ ts ≡ f = same_Some _ _ g.1 in
       let mine : List Oid = take (tokens_holes ts) os in
-      let rest : List ℕ = write p (drop (tokens_holes ts) os) behind in
+      let rest : List ℕ = write p (drop (tokens_holes ts) os) after in
       let ts_fit : SlotsFit ts = SlotsFit-back (bytes (be4 (tokens_width ts))) ts (subst SlotsFit (sym f_is) whole) in
       let len : length (write p mine ts) ≡ tokens_width ts = length-write p mine ts ts_fit in
       let narrow : tokens_width ts ≤ limit = leb-true _ _ g.0 in
-      let parts : write p os (f ++ behind) ≡ be4 (tokens_width ts) ++ (write p mine ts ++ rest)
-      = rw (← f_is) (ap (λ (xs : List ℕ). be4 (tokens_width ts) ++ xs) (write-append p os ts behind)) in (
+      let parts : write p os (f ++ after) ≡ be4 (tokens_width ts) ++ (write p mine ts ++ rest)
+      = rw (← f_is) (ap (λ (xs : List ℕ). be4 (tokens_width ts) ++ xs) (write-append p os ts after)) in (
         Some (write p mine ts),
         (omega (arith, len, narrow), parts ∙ ap (λ (n : ℕ). to_be_bytes w32 n ++ (write p mine ts ++ rest)) (sym len)),
         law x (image_of ts) u p mine is ts_fit (AreOids-take (tokens_holes ts) os small) fit,
       )
 
-  -- the frames of values, one behind the other
+  -- the frames of values, one after another
   pub frames_back : (hint : A → ℕ) (xs : List A) (fs : List Token) (u : Ty) (p : Option Ty) (os : List Oid) → frames hint image xs ≡ Some fs → SlotsFit fs → AreOids os → FitEach image fits u xs os →
       BeginWithFrames (reading u Binary) (write p os fs) (map kept xs)
   frames_back hint [] fs u p os e whole small fit = tt

@@ -10,8 +10,8 @@ use Rattle.pgv_buf.specs.Tokens.{Token, bytes, be4, tokens_width, tokens_holes}
 use Rattle.pgv_value.specs.Reading.{Reading}
 use Rattle.pgv_value.specs.declared.value.PgValueFormat.TheVariants.{Binary}
 use Rattle.pgv_wire.specs.Arguments.{write}
-use Rattle.pgv_wire.specs.Back.{AreOids, SlotsFit, ImageFits, ReadsBack, holes_of, written_oid, oids_behind, field_holes, FieldFits, Followed, in_order, FieldReadsBack, FieldsBack, RecordReadsBack, RecordFieldsFollow}
-use Rattle.pgv_wire.specs.BackParts.{guarded, joined_parts, type_written, oids_left, tokens_holes-append, SlotsFit-front, SlotsFit-back, AreOids-drop, AreOids-behind, frame_back}
+use Rattle.pgv_wire.specs.Back.{AreOids, SlotsFit, ImageFits, ReadsBack, holes_of, written_oid, oids_after, field_holes, FieldFits, Followed, in_order, FieldReadsBack, FieldsBack, RecordReadsBack, RecordFieldsFollow}
+use Rattle.pgv_wire.specs.BackParts.{guarded, joined_parts, type_written, oids_left, tokens_holes-append, SlotsFit-front, SlotsFit-back, AreOids-drop, AreOids-after, frame_back}
 use Rattle.pgv_wire.specs.Found.{number_of_four, next_there}
 use Rattle.pgv_wire.specs.Grammar.{IsField}
 use Rattle.pgv_value.specs.Frame.{IsFrame}
@@ -22,7 +22,7 @@ use Rattle.pgv_wire.specs.Tuples.{record_of, ◌then◌}
 
 -- ---- the tokens of a record
 
--- what is joined behind nothing is nothing
+-- what is joined to nothing is nothing
 none_joined : (n : ℕ) (fs : List (Option (List Token))) → joined n None fs ≡ None
 none_joined n [] = refl
 none_joined n (f ∷ fs) = none_joined (n + 1) fs
@@ -76,17 +76,17 @@ module _ {A M : Type 0} (info : Ty) (produced : A → Option Ty) (hint : A → �
       let f_is : bytes (be4 (tokens_width ts)) ++ ts ≡ f = same_Some _ _ g.1 in
       rw (← f_is) refl
 
-  -- a field is read, and what stands behind it is left with the OIDs that it leaves
-  pub is_field : (x : A) (g behind : List Token) (t : Ty) (place : ℕ) (p : Option Ty) (os : List Oid) → field hint image produced info x ≡ Some g → SlotsFit g → AreOids os → FieldFits info produced image accepts fits x t place os →
-      IsField accepts reading t place (write p os (g ++ behind)) (kept x) (write p (drop (tokens_holes g) os) behind)
-  is_field x g behind t place p os e whole small fit =
+  -- a field is read, and what comes after it is left, with the OIDs that are left
+  pub is_field : (x : A) (g after : List Token) (t : Ty) (place : ℕ) (p : Option Ty) (os : List Oid) → field hint image produced info x ≡ Some g → SlotsFit g → AreOids os → FieldFits info produced image accepts fits x t place os →
+      IsField accepts reading t place (write p os (g ++ after)) (kept x) (write p (drop (tokens_holes g) os) after)
+  is_field x g after t place p os e whole small fit =
       let a = field_parts x g e in
       let w = or_else (produced x) info in
-      let left : List Oid = oids_behind (oid_of w) os in
+      let left : List Oid = oids_after (oid_of w) os in
       let both : SlotsFit (a.0 ++ a.1) = subst SlotsFit (sym a.4) whole in
-      let type_is = type_written w (oid_of w) a.0 (a.1 ++ behind) p os small a.2 in
+      let type_is = type_written w (oid_of w) a.0 (a.1 ++ after) p os small a.2 in
       let h = guarded (nat_le (hint x) limit) (frame_of (image x)) a.1 a.3 in
-      let one = frame_back image reading kept fits law x (image x) a.1 behind fit.0 p left refl h.1 (SlotsFit-back a.0 a.1 both) (AreOids-behind (oid_of w) os small) fit.3 in
+      let one = frame_back image reading kept fits law x (image x) a.1 after fit.0 p left refl h.1 (SlotsFit-back a.0 a.1 both) (AreOids-after (oid_of w) os small) fit.3 in
       let taken : drop (holes_of (image x)) left ≡ drop (tokens_holes g) os =
       ap (λ (r : List Oid). drop (holes_of (image x)) r) (sym (oids_left w (oid_of w) a.0 os a.2))
       ∙ (drop-drop _ _ os
@@ -95,21 +95,21 @@ module _ {A M : Type 0} (info : Ty) (produced : A → Option Ty) (hint : A → �
         oid = written_oid (oid_of w) os;
         own = fit.0;
         part = one.0;
-        behind = write p left (a.1 ++ behind);
-        whole = ap (λ (r : List Token). write p os (r ++ behind)) (sym a.4) ∙ (ap (λ (r : List Token). write p os r) (append_assoc a.0 a.1 behind) ∙ type_is.1);
-        framed = subst (λ (r : List Oid). IsFrame (write p left (a.1 ++ behind)) one.0 (write p r behind)) taken one.1;
+        behind = write p left (a.1 ++ after);
+        whole = ap (λ (r : List Token). write p os (r ++ after)) (sym a.4) ∙ (ap (λ (r : List Token). write p os r) (append_assoc a.0 a.1 after) ∙ type_is.1);
+        framed = subst (λ (r : List Oid). IsFrame (write p left (a.1 ++ after)) one.0 (write p r after)) taken one.1;
         oid_fits = type_is.0;
         typed = fit.1;
         accepted = fit.2;
         read = one.2;
       }
 
-  -- the next step reads it, and leaves what stands behind it
+  -- the next step reads it, and leaves what comes after it
   pub next_back : FieldReadsBack info produced hint image accepts reading kept fits
-  next_back x g behind t place p os e whole small fit =
-      next_there accepts reading t place (write p os (g ++ behind)) (kept x) (write p (drop (tokens_holes g) os) behind) (is_field x g behind t place p os e whole small fit)
+  next_back x g after t place p os e whole small fit =
+      next_there accepts reading t place (write p os (g ++ after)) (kept x) (write p (drop (tokens_holes g) os) after) (is_field x g after t place p os e whole small fit)
 
--- ---- fields one behind the other
+-- ---- fields, one after another
 
 module _ {A M : Type 0} (info : Ty) (produced : A → Option Ty) (hint : A → ℕ) (image : A → Option Image) (accepts : Ty → Bool) (reading : Reading M) (kept : A → M) (fits : A → Ty → List Oid → Type 0) (law : ReadsBack image reading kept fits) where
   -- the last field that is read
@@ -143,7 +143,7 @@ record_back {M} {steps} {fs} {kept} {fit} fields i t p os e whole small fits_the
     let rest = fields.back t 0 p os a.0 a.1 gs_fit small fits_there in
     rw (← a.2, number_of_four (be4 (length fs)) (write p os a.0) refl, rest.1) refl
 
--- behind four bytes stand the fields
+-- the fields come after four bytes
 pub fields_back : RecordFieldsFollow
 fields_back fs i t p os e =
     let a = record_parts fs i e in

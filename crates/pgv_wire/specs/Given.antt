@@ -6,7 +6,7 @@ use Rattle.pgv_types.specs.Ty.{Ty}
 use Rattle.pgv_types.specs.declared.oid.Oid.{Oid}
 use Rattle.pgv_buf.specs.Fill.{rest_types}
 use Rattle.pgv_buf.specs.Parse.{Proper, first_type}
-use Rattle.pgv_buf.specs.Tokens.{tokens_holes}
+use Rattle.pgv_buf.specs.Tokens.{tokens_holes, shown}
 use Rattle.pgv_value.specs.Frame.{Part}
 use Rattle.pgv_value.specs.Reading.{Reading}
 use Rattle.pgv_value.specs.declared.value.PgValueFormat.TheVariants.{Binary}
@@ -14,7 +14,7 @@ use Rattle.pgv_wire.specs.Arguments.{Framed, all_tokens}
 use Rattle.pgv_wire.specs.Back.{AreOids}
 use Rattle.pgv_wire.specs.History.{Call, Told, told, after, added_in}
 use Rattle.pgv_wire.specs.Image.{Image, frame}
-use Rattle.pgv_wire.specs.Parts.{AreFrames, parts_in, written_part}
+use Rattle.pgv_wire.specs.Parts.{AreFrames, ReadAs, written_part}
 
 pub record Given : Type 0 where
   pub parameter : Option Ty
@@ -43,11 +43,12 @@ parts_given [] gs = []
 parts_given (i ∷ is) [] = []
 parts_given (i ∷ is) (g ∷ gs) = written_part i g.parameter g.oids ∷ parts_given is gs
 
--- Whatever was added, refused and filled: where the argument at a place was added for a value, its part is read in binary as
--- what the value keeps, under each type that fits with the OIDs that the argument was given.
+-- Whatever was added, refused and filled: the bytes are frames, one after another, with nothing left; and where the argument
+-- at a place was added for a value, the part of its frame is read in binary as what the value keeps, under each type that
+-- fits with the OIDs that the argument was given.
 abbrev pub ArgumentReadsBack : {A M : Type 0} → (A → ℕ) → (A → Option Image) → Reading M → (A → M) → (A → Ty → List Oid → Type 0) → Type 0
 ArgumentReadsBack {A} hint image reading kept fits =
     (calls : List Call) (is : List Image) (place : ℕ) (a : Framed) (g : Given) (v : A) (t : Ty) →
     AreFrames is (added_in calls) → Proper (all_tokens (after [] calls)) → AreOids (told calls).oids →
     slice_get (added_in calls) place ≡ Some a → frame (hint v) (image v) ≡ Some a.1 → slice_get (given_in (told calls)) place ≡ Some g → fits v t g.oids →
-    (part : Part) × (slice_get (parts_in is (after [] calls)) place ≡ Some part) × (reading t Binary part ≡ Some (kept v))
+    (parts : List Part) × (part : Part) × ReadAs (shown (all_tokens (after [] calls))) parts [] × (slice_get parts place ≡ Some part) × (reading t Binary part ≡ Some (kept v))

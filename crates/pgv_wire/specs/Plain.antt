@@ -4,7 +4,7 @@ use Rattle.std.specs.Prelude.{◌≡◌, ℕ, Bool, true, List, take, Option, So
 use Rattle.pgv_types.specs.Ty.{Ty, builtin, custom, domain, composite, Fields}
 use Rattle.pgv_types.specs.Facts.{built_in, oid_of, element_of}
 use Rattle.pgv_types.specs.declared.oid.Oid.{Oid}
-use Rattle.pgv_wire.specs.Back.{FitEach, holes_of, written_oid, oids_behind}
+use Rattle.pgv_wire.specs.Back.{FitEach, holes_of, written_oid, oids_after}
 use Rattle.pgv_wire.specs.Image.{Image, or_else, element_type as written_type}
 use Rattle.pgv_wire.specs.Records.{field_at}
 
@@ -16,7 +16,7 @@ IsOwnOid u oid = (oid_of u ≡ Some oid) × ((other : Ty) → built_in oid ≡ S
 abbrev pub ArrayIsPlain : {A : Type 0} → Ty → (A → Option Ty) → (A → Option Image) → (A → Ty → List Oid → Type 0) → List A → Ty → List Oid → Type 0
 ArrayIsPlain info produced image fits xs t os =
     let own = oid_of (written_type produced info xs) in
-    (u : Ty) × (element_of t ≡ Some u) × IsOwnOid u (written_oid own os) × FitEach image fits u xs (oids_behind own os)
+    (u : Ty) × (element_of t ≡ Some u) × IsOwnOid u (written_oid own os) × FitEach image fits u xs (oids_after own os)
 
 -- The type of the field at a place: of a composite type, under a domain of its base, and under `record` a built-in type.
 pub data HasField (place : ℕ) (found : Ty) : Ty → Type 0 where
@@ -28,4 +28,4 @@ pub data HasField (place : ℕ) (found : Ty) : Ty → Type 0 where
 abbrev pub FieldIsPlain : {A : Type 0} → Ty → (A → Option Ty) → (A → Option Image) → (Ty → Bool) → (A → Ty → List Oid → Type 0) → A → Ty → ℕ → List Oid → Type 0
 FieldIsPlain info produced image accepts fits x t place os =
     let own = oid_of (or_else (produced x) info) in
-    (u : Ty) × HasField place u t × (oid_of u ≡ Some (written_oid own os)) × (accepts u ≡ true) × fits x u (take (holes_of (image x)) (oids_behind own os))
+    (u : Ty) × HasField place u t × (oid_of u ≡ Some (written_oid own os)) × (accepts u ≡ true) × fits x u (take (holes_of (image x)) (oids_after own os))

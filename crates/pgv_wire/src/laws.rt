@@ -2,24 +2,23 @@
 //! written: each is the contract of a function that does nothing.
 
 ghost use Rattle.std.specs.Prelude.{◌≡◌, ◌<◌, ◌^◌, ℕ, Bool, List, [], ◌∷◌, length, Option, Some, None};
-ghost use Rattle.pgv_types.specs.Ty.{Ty, builtin};
-ghost use Rattle.std.specs.Int.{w32};
+ghost use Rattle.pgv_types.specs.Ty.{Ty};
 ghost use Rattle.pgv_types.specs.declared.oid.Oid.{Oid};
 ghost use Rattle.pgv_buf.specs.Parse.{Proper};
 ghost use Rattle.pgv_buf.specs.Tokens.{Token, Cell, shown, width, tokens_width, hole_types_of};
 ghost use Rattle.pgv_value.specs.Frame.{Part};
 ghost use Rattle.pgv_value.specs.Reading.{Reading};
 ghost use Rattle.pgv_wire.specs.Arguments.{Argument, Framed, all_tokens, types_in, framed, filled_arguments};
-ghost use Rattle.pgv_wire.specs.Back.{AreOids, ReadsBack, FieldFits, Followed, FieldReadsBack, RecordFieldsFollow, RecordReadsBack};
+ghost use Rattle.pgv_wire.specs.Back.{AreOids, ReadsBack, FieldFits, FieldsFit, FieldReadsBack, RecordFieldsFollow, RecordReadsBack};
 ghost use Rattle.pgv_wire.specs.Given.{ArgumentReadsBack, given_in, parts_given};
 ghost use Rattle.pgv_wire.specs.Grammar.{ArrayIsItsElements, OneArray, FieldTypeIsFound, FieldIsItsValue, OneField, RecordBegins, RecordIsItsFields, IsField, ◌and◌};
 ghost use Rattle.pgv_wire.specs.History.{Call, after, told, bytes_by, added_in, joined_frames, framed_types, holes_in, lengths_in, ArePlain, joined_bytes};
 ghost use Rattle.pgv_wire.specs.Image.{Image, field, frame_of};
 ghost use Rattle.pgv_wire.specs.Plain.{ArrayIsPlain, FieldIsPlain};
 ghost use Rattle.pgv_wire.specs.Parts.{ReadAs, AreFrames, AllRead, parts_in, written_parts};
-ghost use Rattle.pgv_value.specs.Scalars.{int_reading};
-ghost use Rattle.pgv_wire.specs.Saying.{said, plainly};
-ghost use Rattle.pgv_wire.specs.Scalars.{signed_image};
+ghost use Rattle.pgv_wire.specs.Saying.{said};
+
+pub mod rows;
 
 use crate::arguments::PgArguments;
 use crate::traits::{Codec, Decode, ReadBack, Type};
@@ -65,7 +64,7 @@ pub fn frames_joined()
     ensures { (calls : List Call) (xss : List (List ℕ)) → ArePlain (added_in calls) xss → shown (all_tokens (after [] calls)) ≡ joined_bytes xss }
 {}
 
-/// The frames of arguments, read from the buffer one behind the other as [`PgValueRef::get`](crate::PgValueRef::get)
+/// The frames of arguments, read from the buffer one after another as [`PgValueRef::get`](crate::PgValueRef::get)
 /// does, give as many parts as there are arguments, null where an image is null and else what it shows, and leave
 /// nothing. [`PgArgumentBuffer::as_slice`](crate::PgArgumentBuffer::as_slice) says that its cells are proper.
 #[tactic(auto, using(crate::proofs::PartsRead::frames_read, crate::proofs::PartsRead::as_many))]
@@ -75,7 +74,7 @@ pub fn frames_read()
 {}
 
 /// Whatever was added to running arguments, refused between and filled: they are the frames of images, and read from
-/// their buffer one behind the other, as [`PgValueRef::get`](crate::PgValueRef::get) does, they give as many parts as
+/// their buffer one after another, as [`PgValueRef::get`](crate::PgValueRef::get) does, they give as many parts as
 /// there are arguments, null where an image is null and else what it shows, and leave nothing.
 pub fn arguments_read(arguments: &PgArguments)
     ensures { AllRead arguments.now }
@@ -113,7 +112,7 @@ pub fn field_type_is_found()
     ensures { FieldTypeIsFound }
 {}
 
-/// The value that is read of a record's next field in binary, and the bytes behind it, are those of the field that the
+/// The value that is read of a record's next field in binary, and the rest of the bytes, are those of the field that the
 /// bytes begin with, whatever reads it (PostgreSQL: "Composite Types"; record_send).
 pub fn field_is_its_value<T: Decode>()
     ensures { (accepts : Ty → Bool) (reading : Reading T.Meaning) → FieldIsItsValue accepts reading }
@@ -124,7 +123,7 @@ pub fn one_field<T: Decode>()
     ensures { (accepts : Ty → Bool) (reading : Reading T.Meaning) → OneField accepts reading }
 {}
 
-/// The fields of a record in binary stand behind four bytes.
+/// The fields of a record in binary come after four bytes.
 pub fn record_begins()
     ensures { RecordBegins }
 {}
@@ -181,21 +180,25 @@ pub fn parts_after()
     ensures { (calls : List Call) (is : List Image) → AreFrames is (added_in calls) → parts_in is (after [] calls) ≡ parts_given is (given_in (told calls)) }
 {}
 
-/// Whatever was added, refused and filled, in any order: the part of an argument that was added for a value of `T` is read back
-/// in binary as what the value keeps, under each type that fits with the OIDs that the argument was given. That the buffer
-/// is proper is what [`PgArgumentBuffer::as_slice`](crate::PgArgumentBuffer::as_slice) says, and that reading it frame by frame gives these
-/// parts [`frames_read`].
+/// The main sentence's last part. Whatever was added, refused and filled, in any order: the buffer's bytes are read frame by
+/// frame, as [`PgValueRef::get`](crate::PgValueRef::get) does, with nothing left; and the part of the frame that was added for a
+/// value of `T` is read in binary, by `T` itself, as what the value keeps, under each type that fits with the OIDs that the
+/// argument was given: its share at the last filling, or zeros where it was added since.
+///
+/// That the cells are proper is what [`PgArgumentBuffer::as_slice`](crate::PgArgumentBuffer::as_slice) says of every running
+/// buffer, that each addition is the frame of an image what [`PgArguments::buffer`] says, and that OIDs are numbers of 32 bits
+/// [`oids_fit`].
 pub fn argument_reads_back<T: ReadBack>()
     ensures { ArgumentReadsBack T.hint T.image T.reading (λ v. T.meaning (T.kept v)) T.fits }
 {}
 
-/// A field of a record that was written is read back by its own type, under each type that fits; and what stands behind it is
+/// A field of a record that was written is read back by its own type, under each type that fits; and what comes after it is
 /// left, with the OIDs that it leaves. So it is for every list of fields, one after the other.
 pub fn field_reads_back<T: ReadBack + Type>()
     ensures { FieldReadsBack T.info T.produced T.hint T.image T.accepts T.reading (λ v. T.meaning (T.kept v)) T.fits }
 {}
 
-/// The fields of a record that was written stand behind its first four bytes, one behind the other.
+/// The fields of a record that was written come after its first four bytes, one after another.
 #[tactic(auto, using(crate::specs::BackRecords::fields_back))]
 pub fn record_fields_follow()
     ensures { RecordFieldsFollow }
@@ -203,10 +206,26 @@ pub fn record_fields_follow()
 
 /// A record that was written is read back by a tuple of its first fields, under each type that these fit, each with the OIDs
 /// that those before it leave.
-pub fn tuple_reads_back<A: ReadBack + Type, B: ReadBack + Type, C: ReadBack + Type>()
+pub fn tuple_reads_back<
+    A: ReadBack + Type,
+    B: ReadBack + Type,
+    C: ReadBack + Type,
+    D: ReadBack + Type,
+    E: ReadBack + Type,
+    F: ReadBack + Type,
+    G: ReadBack + Type,
+    H: ReadBack + Type,
+    I: ReadBack + Type,
+>()
     ensures one { (a : A) (further : List (Option (List Token))) → RecordReadsBack ⟦<(A,) as Decode>⟧.reading (field A.hint A.image A.produced A.info a ∷ further) (A.meaning (A.kept a)) (FieldFits A.info A.produced A.image A.accepts A.fits a) }
-    ensures two { (a : A) (b : B) (further : List (Option (List Token))) → RecordReadsBack ⟦<(A, B) as Decode>⟧.reading (field A.hint A.image A.produced A.info a ∷ field B.hint B.image B.produced B.info b ∷ further) (A.meaning (A.kept a), B.meaning (B.kept b)) (Followed (FieldFits A.info A.produced A.image A.accepts A.fits a) (field A.hint A.image A.produced A.info a) (FieldFits B.info B.produced B.image B.accepts B.fits b)) }
-    ensures three { (a : A) (b : B) (c : C) (further : List (Option (List Token))) → RecordReadsBack ⟦<(A, B, C) as Decode>⟧.reading (field A.hint A.image A.produced A.info a ∷ field B.hint B.image B.produced B.info b ∷ field C.hint C.image C.produced C.info c ∷ further) (A.meaning (A.kept a), (B.meaning (B.kept b), C.meaning (C.kept c))) (Followed (FieldFits A.info A.produced A.image A.accepts A.fits a) (field A.hint A.image A.produced A.info a) (Followed (FieldFits B.info B.produced B.image B.accepts B.fits b) (field B.hint B.image B.produced B.info b) (FieldFits C.info C.produced C.image C.accepts C.fits c))) }
+    ensures two { (a : A) (b : B) (further : List (Option (List Token))) → RecordReadsBack ⟦<(A, B) as Decode>⟧.reading (field A.hint A.image A.produced A.info a ∷ field B.hint B.image B.produced B.info b ∷ further) (A.meaning (A.kept a), B.meaning (B.kept b)) (FieldsFit A.info A.produced A.hint A.image A.accepts A.fits a (FieldFits B.info B.produced B.image B.accepts B.fits b)) }
+    ensures three { (a : A) (b : B) (c : C) (further : List (Option (List Token))) → RecordReadsBack ⟦<(A, B, C) as Decode>⟧.reading (field A.hint A.image A.produced A.info a ∷ field B.hint B.image B.produced B.info b ∷ field C.hint C.image C.produced C.info c ∷ further) (A.meaning (A.kept a), (B.meaning (B.kept b), C.meaning (C.kept c))) (FieldsFit A.info A.produced A.hint A.image A.accepts A.fits a (FieldsFit B.info B.produced B.hint B.image B.accepts B.fits b (FieldFits C.info C.produced C.image C.accepts C.fits c))) }
+    ensures four { (a : A) (b : B) (c : C) (d : D) (further : List (Option (List Token))) → RecordReadsBack ⟦<(A, B, C, D) as Decode>⟧.reading (field A.hint A.image A.produced A.info a ∷ field B.hint B.image B.produced B.info b ∷ field C.hint C.image C.produced C.info c ∷ field D.hint D.image D.produced D.info d ∷ further) (A.meaning (A.kept a), (B.meaning (B.kept b), (C.meaning (C.kept c), D.meaning (D.kept d)))) (FieldsFit A.info A.produced A.hint A.image A.accepts A.fits a (FieldsFit B.info B.produced B.hint B.image B.accepts B.fits b (FieldsFit C.info C.produced C.hint C.image C.accepts C.fits c (FieldFits D.info D.produced D.image D.accepts D.fits d)))) }
+    ensures five { (a : A) (b : B) (c : C) (d : D) (e : E) (further : List (Option (List Token))) → RecordReadsBack ⟦<(A, B, C, D, E) as Decode>⟧.reading (field A.hint A.image A.produced A.info a ∷ field B.hint B.image B.produced B.info b ∷ field C.hint C.image C.produced C.info c ∷ field D.hint D.image D.produced D.info d ∷ field E.hint E.image E.produced E.info e ∷ further) (A.meaning (A.kept a), (B.meaning (B.kept b), (C.meaning (C.kept c), (D.meaning (D.kept d), E.meaning (E.kept e))))) (FieldsFit A.info A.produced A.hint A.image A.accepts A.fits a (FieldsFit B.info B.produced B.hint B.image B.accepts B.fits b (FieldsFit C.info C.produced C.hint C.image C.accepts C.fits c (FieldsFit D.info D.produced D.hint D.image D.accepts D.fits d (FieldFits E.info E.produced E.image E.accepts E.fits e))))) }
+    ensures six { (a : A) (b : B) (c : C) (d : D) (e : E) (f : F) (further : List (Option (List Token))) → RecordReadsBack ⟦<(A, B, C, D, E, F) as Decode>⟧.reading (field A.hint A.image A.produced A.info a ∷ field B.hint B.image B.produced B.info b ∷ field C.hint C.image C.produced C.info c ∷ field D.hint D.image D.produced D.info d ∷ field E.hint E.image E.produced E.info e ∷ field F.hint F.image F.produced F.info f ∷ further) (A.meaning (A.kept a), (B.meaning (B.kept b), (C.meaning (C.kept c), (D.meaning (D.kept d), (E.meaning (E.kept e), F.meaning (F.kept f)))))) (FieldsFit A.info A.produced A.hint A.image A.accepts A.fits a (FieldsFit B.info B.produced B.hint B.image B.accepts B.fits b (FieldsFit C.info C.produced C.hint C.image C.accepts C.fits c (FieldsFit D.info D.produced D.hint D.image D.accepts D.fits d (FieldsFit E.info E.produced E.hint E.image E.accepts E.fits e (FieldFits F.info F.produced F.image F.accepts F.fits f)))))) }
+    ensures seven { (a : A) (b : B) (c : C) (d : D) (e : E) (f : F) (g : G) (further : List (Option (List Token))) → RecordReadsBack ⟦<(A, B, C, D, E, F, G) as Decode>⟧.reading (field A.hint A.image A.produced A.info a ∷ field B.hint B.image B.produced B.info b ∷ field C.hint C.image C.produced C.info c ∷ field D.hint D.image D.produced D.info d ∷ field E.hint E.image E.produced E.info e ∷ field F.hint F.image F.produced F.info f ∷ field G.hint G.image G.produced G.info g ∷ further) (A.meaning (A.kept a), (B.meaning (B.kept b), (C.meaning (C.kept c), (D.meaning (D.kept d), (E.meaning (E.kept e), (F.meaning (F.kept f), G.meaning (G.kept g))))))) (FieldsFit A.info A.produced A.hint A.image A.accepts A.fits a (FieldsFit B.info B.produced B.hint B.image B.accepts B.fits b (FieldsFit C.info C.produced C.hint C.image C.accepts C.fits c (FieldsFit D.info D.produced D.hint D.image D.accepts D.fits d (FieldsFit E.info E.produced E.hint E.image E.accepts E.fits e (FieldsFit F.info F.produced F.hint F.image F.accepts F.fits f (FieldFits G.info G.produced G.image G.accepts G.fits g))))))) }
+    ensures eight { (a : A) (b : B) (c : C) (d : D) (e : E) (f : F) (g : G) (h : H) (further : List (Option (List Token))) → RecordReadsBack ⟦<(A, B, C, D, E, F, G, H) as Decode>⟧.reading (field A.hint A.image A.produced A.info a ∷ field B.hint B.image B.produced B.info b ∷ field C.hint C.image C.produced C.info c ∷ field D.hint D.image D.produced D.info d ∷ field E.hint E.image E.produced E.info e ∷ field F.hint F.image F.produced F.info f ∷ field G.hint G.image G.produced G.info g ∷ field H.hint H.image H.produced H.info h ∷ further) (A.meaning (A.kept a), (B.meaning (B.kept b), (C.meaning (C.kept c), (D.meaning (D.kept d), (E.meaning (E.kept e), (F.meaning (F.kept f), (G.meaning (G.kept g), H.meaning (H.kept h)))))))) (FieldsFit A.info A.produced A.hint A.image A.accepts A.fits a (FieldsFit B.info B.produced B.hint B.image B.accepts B.fits b (FieldsFit C.info C.produced C.hint C.image C.accepts C.fits c (FieldsFit D.info D.produced D.hint D.image D.accepts D.fits d (FieldsFit E.info E.produced E.hint E.image E.accepts E.fits e (FieldsFit F.info F.produced F.hint F.image F.accepts F.fits f (FieldsFit G.info G.produced G.hint G.image G.accepts G.fits g (FieldFits H.info H.produced H.image H.accepts H.fits h)))))))) }
+    ensures nine { (a : A) (b : B) (c : C) (d : D) (e : E) (f : F) (g : G) (h : H) (i : I) (further : List (Option (List Token))) → RecordReadsBack ⟦<(A, B, C, D, E, F, G, H, I) as Decode>⟧.reading (field A.hint A.image A.produced A.info a ∷ field B.hint B.image B.produced B.info b ∷ field C.hint C.image C.produced C.info c ∷ field D.hint D.image D.produced D.info d ∷ field E.hint E.image E.produced E.info e ∷ field F.hint F.image F.produced F.info f ∷ field G.hint G.image G.produced G.info g ∷ field H.hint H.image H.produced H.info h ∷ field I.hint I.image I.produced I.info i ∷ further) (A.meaning (A.kept a), (B.meaning (B.kept b), (C.meaning (C.kept c), (D.meaning (D.kept d), (E.meaning (E.kept e), (F.meaning (F.kept f), (G.meaning (G.kept g), (H.meaning (H.kept h), I.meaning (I.kept i))))))))) (FieldsFit A.info A.produced A.hint A.image A.accepts A.fits a (FieldsFit B.info B.produced B.hint B.image B.accepts B.fits b (FieldsFit C.info C.produced C.hint C.image C.accepts C.fits c (FieldsFit D.info D.produced D.hint D.image D.accepts D.fits d (FieldsFit E.info E.produced E.hint E.image E.accepts E.fits e (FieldsFit F.info F.produced F.hint F.image F.accepts F.fits f (FieldsFit G.info G.produced G.hint G.image G.accepts G.fits g (FieldsFit H.info H.produced H.hint H.image H.accepts H.fits h (FieldFits I.info I.produced I.image I.accepts I.fits i))))))))) }
 {}
 
 /// A plain value comes back under every type.
@@ -238,11 +257,4 @@ pub fn nests_fit<T: ReadBack + Type, const N: usize>()
 /// What an encoder says of a value is what is written of its meaning, so that values of one meaning are written alike.
 pub fn written_as_read<T: Codec>(value: &T)
     ensures { said T.hint T.image T.produced T.info value.now ≡ T.written T.info (T.meaning value.now) }
-{}
-
-/// What an `i32` is: an int4, read and written as an integer of 32 bits.
-pub fn int4_is_an_integer()
-    ensures info { ⟦<i32 as Type>⟧.info ≡ builtin 23 }
-    ensures reading { ⟦<i32 as Decode>⟧.reading ≡ int_reading w32 }
-    ensures written { ⟦<i32 as Decode>⟧.written ≡ plainly (signed_image w32) }
 {}
