@@ -6,9 +6,9 @@ use Rattle.pgv_types.specs.Relations.{softly}
 use Rattle.pgv_buf.specs.Tokens.{Token, byte, slot}
 use Rattle.pgv_value.specs.Reading.{Reading}
 use Rattle.pgv_value.specs.declared.value.PgValueFormat.TheVariants.{Binary}
-use Rattle.pgv_wire.specs.Back.{ReadsBack, always}
-use Rattle.pgv_wire.specs.Image.{image_of}
-use Rattle.pgv_wire.specs.Parts.{written_part}
+use Rattle.pgv_codec.specs.Back.{ReadsBack, always}
+use Rattle.pgv_codec.specs.Image.{image_of}
+use Rattle.pgv_codec.specs.Writing.{written_part}
 
 -- a byte of any value, which is the slot's, and the braces
 abbrev pub braces : List ℕ → Option ⊤

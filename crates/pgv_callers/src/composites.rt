@@ -6,9 +6,9 @@
 ghost use Rattle.std.specs.Prelude.{List};
 ghost use Rattle.pgv_types.specs.Ty.{Ty};
 ghost use Rattle.pgv_types.specs.declared.oid.Oid.{Oid};
-ghost use Rattle.pgv_wire.specs.Back.{Followed};
-ghost use Rattle.pgv_wire.specs.Image.{field};
-ghost use Rattle.pgv_wire.specs.Plain.{FieldIsPlain};
+ghost use Rattle.pgv_codec.specs.Back.{Followed};
+ghost use Rattle.pgv_codec.specs.Image.{field};
+ghost use Rattle.pgv_codec.specs.Plain.{FieldIsPlain};
 
 use crate::values::Mood;
 use pgv_types::{PgType, PgTypeInfo};
@@ -65,7 +65,7 @@ impl PgHasArrayType for Person {
 
 impl Encode for Person {
     ghost use Rattle.std.specs.Prelude.{[], ◌∷◌};
-    ghost use Rattle.pgv_wire.specs.Image.{field, record_image};
+    ghost use Rattle.pgv_codec.specs.Image.{field, record_image};
 
     ghost image = { λ v. record_image (
         field ⟦<i32 as Encode>⟧.hint ⟦<i32 as Encode>⟧.image ⟦<i32 as Encode>⟧.produced ⟦<i32 as Type>⟧.info v.id
@@ -108,9 +108,9 @@ impl Decode for Person {
 /// A person comes back where each field does.
 impl ReadBack for Person {
     ghost use Rattle.std.specs.Prelude.{[]};
-    ghost use Rattle.pgv_wire.specs.Back.{FieldFits, FieldsFit};
-    ghost use Rattle.pgv_wire.specs.BackRecords.{last_back, further_back, record_back};
-    ghost use Rattle.pgv_wire.specs.BackScalars.{int4_back, text_back};
+    ghost use Rattle.pgv_codec.specs.Back.{FieldFits, FieldsFit};
+    ghost use Rattle.pgv_codec.specs.BackRecords.{last_back, further_back, record_back};
+    ghost use Rattle.pgv_codec.specs.BackScalars.{int4_back, text_back};
 
     ghost kept = { λ v. v };
 
@@ -148,7 +148,7 @@ impl Type for Household {
 
 impl Encode for Household {
     ghost use Rattle.std.specs.Prelude.{[], ◌∷◌};
-    ghost use Rattle.pgv_wire.specs.Image.{field, record_image};
+    ghost use Rattle.pgv_codec.specs.Image.{field, record_image};
 
     ghost image = { λ v. record_image (
         field ⟦<i32 as Encode>⟧.hint ⟦<i32 as Encode>⟧.image ⟦<i32 as Encode>⟧.produced ⟦<i32 as Type>⟧.info v.number
@@ -200,7 +200,7 @@ impl<A, B> Type for Pair<A, B> {
 
 impl<A: Encode + Type, B: Encode + Type> Encode for Pair<A, B> {
     ghost use Rattle.std.specs.Prelude.{[], ◌∷◌};
-    ghost use Rattle.pgv_wire.specs.Image.{field, record_image};
+    ghost use Rattle.pgv_codec.specs.Image.{field, record_image};
 
     ghost image = { λ v. record_image (field A.hint A.image A.produced A.info v.first ∷ field B.hint B.image B.produced B.info v.second ∷ []) };
 
@@ -223,8 +223,8 @@ impl<A: Encode + Type, B: Encode + Type> Encode for Pair<A, B> {
 
 impl<A: Type + Decode, B: Type + Decode> Decode for Pair<A, B> {
     ghost use Rattle.std.specs.Prelude.{[], ◌∷◌};
-    ghost use Rattle.pgv_wire.specs.Image.{record_image};
-    ghost use Rattle.pgv_wire.specs.Saying.{plainly, field_written};
+    ghost use Rattle.pgv_codec.specs.Image.{record_image};
+    ghost use Rattle.pgv_codec.specs.Saying.{plainly, field_written};
 
     ghost Meaning = { ⟦<(A, B) as Decode>⟧.Meaning };
 
@@ -243,8 +243,8 @@ impl<A: Type + Decode, B: Type + Decode> Decode for Pair<A, B> {
 /// A pair comes back where each field does.
 impl<A: ReadBack + Type, B: ReadBack + Type> ReadBack for Pair<A, B> {
     ghost use Rattle.std.specs.Prelude.{[]};
-    ghost use Rattle.pgv_wire.specs.Back.{FieldFits, FieldsFit};
-    ghost use Rattle.pgv_wire.specs.BackRecords.{last_back, further_back, record_back};
+    ghost use Rattle.pgv_codec.specs.Back.{FieldFits, FieldsFit};
+    ghost use Rattle.pgv_codec.specs.BackRecords.{last_back, further_back, record_back};
 
     ghost kept = { λ v. record { first = A.kept v.first; second = B.kept v.second } };
 
@@ -261,7 +261,7 @@ pub fn pair_fits<A: ReadBack + Type, B: ReadBack + Type>()
 
 impl<A: Codec, B: Codec> Codec for Pair<A, B> {
     ghost use Rattle.pgv_types.specs.Ty.{builtin};
-    ghost use Rattle.pgv_wire.specs.Saying.{field_agrees, same_none, same_fields, record_agrees};
+    ghost use Rattle.pgv_codec.specs.Saying.{field_agrees, same_none, same_fields, record_agrees};
 
     ghost agrees = { λ v. record_agrees (builtin 2249) v
         (same_fields (field_agrees A.hint A.image A.produced A.info A.meaning A.written A.agrees v.first)

@@ -72,7 +72,7 @@ impl PgHasArrayType for Mood {
 
 impl Encode for Mood {
     ghost use Rattle.std.specs.Prelude.{string_bytes};
-    ghost use Rattle.pgv_wire.specs.Scalars.{text_image};
+    ghost use Rattle.pgv_codec.specs.Scalars.{text_image};
 
     ghost image = { λ mood. text_image (string_bytes mood.label) };
 
@@ -93,8 +93,8 @@ impl Encode for Mood {
 impl Decode for Mood {
     ghost use Rattle.std.specs.Prelude.{ℕ, List, string_bytes};
     ghost use Rattle.pgv_value.specs.Scalars.{text_reading};
-    ghost use Rattle.pgv_wire.specs.Saying.{plainly};
-    ghost use Rattle.pgv_wire.specs.Scalars.{text_image};
+    ghost use Rattle.pgv_codec.specs.Saying.{plainly};
+    ghost use Rattle.pgv_codec.specs.Scalars.{text_image};
 
     ghost Meaning = { List ℕ };
 
@@ -113,8 +113,8 @@ impl Decode for Mood {
 
 /// A mood comes back as its label does.
 impl ReadBack for Mood {
-    ghost use Rattle.pgv_wire.specs.Back.{always};
-    ghost use Rattle.pgv_wire.specs.BackScalars.{text_back};
+    ghost use Rattle.pgv_codec.specs.Back.{always};
+    ghost use Rattle.pgv_codec.specs.BackScalars.{text_back};
 
     ghost kept = { λ mood. mood };
 
@@ -163,7 +163,7 @@ impl Encode for EmptyObject {
     ghost use Rattle.std.specs.Prelude.{Some, [], ◌∷◌};
     ghost use Rattle.pgv_types.specs.Ty.{builtin};
     ghost use Rattle.pgv_buf.specs.Tokens.{byte, slot};
-    ghost use Rattle.pgv_wire.specs.Image.{image_of};
+    ghost use Rattle.pgv_codec.specs.Image.{image_of};
 
     ghost image = { λ _. Some (image_of (slot (32 ∷ []) ((builtin 3802, 1 ∷ []) ∷ []) ∷ byte 123 ∷ byte 125 ∷ [])) };
 
@@ -187,7 +187,7 @@ impl Encode for EmptyObject {
 impl Decode for EmptyObject {
     ghost use Rattle.std.specs.Prelude.{⊤};
     ghost use Rattle.pgv_callers.specs.Objects.{object_reading};
-    ghost use Rattle.pgv_wire.specs.Saying.{unwritten};
+    ghost use Rattle.pgv_codec.specs.Saying.{unwritten};
 
     ghost Meaning = { ⊤ };
 
@@ -208,7 +208,7 @@ impl Decode for EmptyObject {
 
 /// An empty object comes back, whichever case its slot shows.
 impl ReadBack for EmptyObject {
-    ghost use Rattle.pgv_wire.specs.Back.{always};
+    ghost use Rattle.pgv_codec.specs.Back.{always};
     ghost use Rattle.pgv_callers.specs.Objects.{object_back};
 
     ghost kept = { λ object. object };
@@ -267,7 +267,7 @@ impl Encode for Size {
     ghost use Rattle.std.specs.Prelude.{cond, pos, None};
     ghost use Rattle.std.specs.Ordering.{int_eq};
     ghost use Rattle.std.specs.Int.{w8};
-    ghost use Rattle.pgv_wire.specs.Scalars.{signed_image};
+    ghost use Rattle.pgv_codec.specs.Scalars.{signed_image};
 
     ghost image = { λ size. cond (int_eq size.number (pos 0)) None (signed_image w8 size.number) };
 
@@ -354,7 +354,7 @@ impl Type for Huge {
 impl Encode for Huge {
     ghost use Rattle.std.specs.Prelude.{Some, [], ◌∷◌};
     ghost use Rattle.pgv_buf.specs.Tokens.{byte};
-    ghost use Rattle.pgv_wire.specs.Image.{image_of};
+    ghost use Rattle.pgv_codec.specs.Image.{image_of};
 
     ghost image = { λ _. Some (image_of (byte 97 ∷ [])) };
 
@@ -418,7 +418,7 @@ impl PgHasArrayType for MoodText {
 impl Encode for MoodText {
     ghost use Rattle.std.specs.Prelude.{Some, codes, string_bytes};
     ghost use Rattle.pgv_types.specs.Ty.{named};
-    ghost use Rattle.pgv_wire.specs.Scalars.{text_image};
+    ghost use Rattle.pgv_codec.specs.Scalars.{text_image};
 
     ghost image = { λ text. text_image (string_bytes text.mood.label) };
 
@@ -465,7 +465,7 @@ impl Encode for ButThree {
     ghost use Rattle.std.specs.Prelude.{cond, pos, None};
     ghost use Rattle.std.specs.Ordering.{int_eq};
     ghost use Rattle.std.specs.Int.{w32};
-    ghost use Rattle.pgv_wire.specs.Scalars.{signed_image};
+    ghost use Rattle.pgv_codec.specs.Scalars.{signed_image};
 
     ghost image = { λ v. cond (int_eq v.number (pos 3)) None (signed_image w32 v.number) };
 

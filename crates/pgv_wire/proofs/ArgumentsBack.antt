@@ -11,13 +11,15 @@ use Rattle.pgv_buf.specs.Tokens.{Token, byte, hole, slot, bytes, be4, tokens_wid
 use Rattle.pgv_value.specs.Frame.{Part}
 use Rattle.pgv_value.specs.Reading.{Reading}
 use Rattle.pgv_value.specs.declared.value.PgValueFormat.TheVariants.{Binary}
-use Rattle.pgv_wire.specs.Arguments.{Argument, Framed, framed, all_tokens, write, filled_arguments}
-use Rattle.pgv_wire.specs.Back.{AreOids, SlotsFit, ImageFits, ReadsBack}
-use Rattle.pgv_wire.specs.BackParts.{guarded, SlotsFit-back, AreOids-take, AreOids-drop}
+use Rattle.pgv_wire.specs.Arguments.{Argument, Framed, framed, all_tokens, filled_arguments}
+use Rattle.pgv_codec.specs.Writing.{write}
+use Rattle.pgv_codec.specs.Back.{AreOids, SlotsFit, ImageFits, ReadsBack}
+use Rattle.pgv_codec.specs.BackParts.{guarded, SlotsFit-back, AreOids-take, AreOids-drop}
 use Rattle.pgv_wire.specs.Given.{Given, zeros, given_by, given_none, given_in, parts_given, ArgumentReadsBack}
 use Rattle.pgv_wire.specs.History.{Call, told, after, added_in, blanks}
-use Rattle.pgv_wire.specs.Image.{Image, null_image, image_of, limit, frame_of}
-use Rattle.pgv_wire.specs.Parts.{AreFrames, ReadAs, part_in, parts_in, written_part}
+use Rattle.pgv_codec.specs.Image.{Image, null_image, image_of, limit, frame_of}
+use Rattle.pgv_wire.specs.Parts.{AreFrames, ReadAs, part_in, parts_in}
+use Rattle.pgv_codec.specs.Writing.{written_part}
 use Rattle.pgv_wire.proofs.Framed.{framed-left}
 use Rattle.pgv_wire.proofs.Histories.{left_told, only_added}
 use Rattle.pgv_wire.proofs.PartsRead.{frames_read, part_filled, one_image}

@@ -4,7 +4,7 @@ use Rattle.std.proofs.lemmas.List.{take_more}
 use Rattle.pgv_types.specs.Ty.{Ty}
 use Rattle.pgv_buf.specs.Tokens.{Token}
 use Rattle.pgv_wire.specs.Arguments.{Argument, Added}
-use Rattle.pgv_wire.specs.Outcome.{Refused}
+use Rattle.pgv_codec.specs.Outcome.{Refused}
 use Rattle.pgv_wire.specs.Each.{Outcome, IsOutcome, AreOutcomes, argument_by, added_by, accepted}
 
 pub not_err : {A E : Type 0} (r : Result A E) (e : E) → IsOk r → r ≡ Err e → ⊥

@@ -9,7 +9,7 @@ use Rattle.pgv_buf.specs.Fill.{first_number, rest_numbers, fill_holes, fill_slot
 use Rattle.pgv_buf.specs.Parse.{first_type}
 use Rattle.pgv_wire.specs.Arguments.{Argument, Framed, framed, all_tokens, filled_frame, filled_arguments}
 use Rattle.pgv_wire.specs.History.{blanks, Told, with_added, with_filled, left_by, joined_frames, LeftBySome}
-use Rattle.pgv_wire.specs.Image.{Image, frame_of, frame}
+use Rattle.pgv_codec.specs.Image.{Image, frame_of, frame}
 use Rattle.pgv_wire.specs.Parts.{AreFrames, OfImages}
 
 plain-holes : (os : List Oid) (a : List Cell) → plain (fill_holes os a) ≡ plain a

@@ -9,9 +9,11 @@ use Rattle.pgv_buf.specs.Parse.{Proper, Proper-front, Proper-back, first_type, s
 use Rattle.pgv_buf.specs.Tokens.{Token, bytes, be4, tokens_width, tokens_holes, Cell, plain, shown, hole_count, slot_count}
 use Rattle.pgv_value.specs.Frame.{Part, front}
 use Rattle.pgv_value.proofs.Fronts.{frame_in_front}
-use Rattle.pgv_wire.specs.Arguments.{Argument, Framed, framed, all_tokens, write, filled_frame, filled_arguments}
-use Rattle.pgv_wire.specs.Image.{Image, null_image, image_of, frame_of}
-use Rattle.pgv_wire.specs.Parts.{ReadAs, AreFrames, OfImages, AllRead, part_in, parts_in, written_part, image_holes, written_parts}
+use Rattle.pgv_wire.specs.Arguments.{Argument, Framed, framed, all_tokens, filled_frame, filled_arguments}
+use Rattle.pgv_codec.specs.Writing.{write}
+use Rattle.pgv_codec.specs.Image.{Image, null_image, image_of, frame_of}
+use Rattle.pgv_wire.specs.Parts.{ReadAs, AreFrames, OfImages, AllRead, part_in, parts_in, written_parts}
+use Rattle.pgv_codec.specs.Writing.{written_part, image_holes}
 use Rattle.pgv_wire.proofs.ArgumentLists.{shown-frame}
 use Rattle.pgv_wire.proofs.Framed.{width-plain}
 use Rattle.pgv_wire.proofs.Histories.{shown_plain}

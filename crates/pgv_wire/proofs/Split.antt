@@ -5,7 +5,7 @@ use Rattle.std.proofs.lemmas.Bool.{leb-true, le-leb, ne_eqb}
 use Rattle.std.proofs.lemmas.Nat.{from_be_bytes-to_be_bytes_4}
 use Rattle.pgv_buf.specs.Tokens.{Token, bytes, be4, tokens_width, Cell, fixed, hole_cell, slot_cell, fixed_bytes, cell_width, plain, width}
 use Rattle.pgv_wire.specs.Arguments.{Argument, framed, all_tokens, types_in}
-use Rattle.pgv_wire.specs.Image.{Image, null_image, image_of, frame_of}
+use Rattle.pgv_codec.specs.Image.{Image, null_image, image_of, frame_of}
 use Rattle.pgv_wire.specs.Parts.{AreFrames}
 use Rattle.pgv_wire.specs.Split.{as_wide, behind_wide, bytes_by_length, frame_width, split}
 use Rattle.pgv_wire.proofs.Framed.{width-plain}

@@ -3,9 +3,10 @@
 use Rattle.std.specs.Prelude.{◌≡◌, ℕ, List, [], ◌∷◌, ◌++◌, take, drop, replicate, Option, Some, None}
 use Rattle.pgv_types.specs.Ty.{Ty}
 use Rattle.pgv_types.specs.declared.oid.Oid.{Oid}
-use Rattle.pgv_buf.specs.Tokens.{Token, byte, hole, slot, tokens_holes, Cell, be4, blank, plain, hole_count, slot_count, chosen}
-use Rattle.pgv_buf.specs.Fill.{first_number, rest_numbers, fill_holes, fill_slots, rest_types}
+use Rattle.pgv_buf.specs.Tokens.{Token, tokens_holes, Cell, blank, plain, hole_count, slot_count}
+use Rattle.pgv_buf.specs.Fill.{fill_holes, fill_slots, rest_types}
 use Rattle.pgv_buf.specs.Parse.{first_type}
+use Rattle.pgv_codec.specs.Writing.{write}
 
 abbrev pub Argument : Type 0
 Argument = Ty × List Cell
@@ -31,18 +32,6 @@ Framed = Ty × List Token
 abbrev pub framed : List Argument → List Framed
 framed [] = []
 framed (a ∷ args) = (a.0, plain a.1) ∷ framed args
-
--- what a slot shows for a parameter type, and without one: its default
-abbrev pub chosen_for : Option Ty → List ℕ → List (Ty × List ℕ) → List ℕ
-chosen_for None d cs = d
-chosen_for (Some p) d cs = chosen p d cs
-
--- tokens, written for a parameter type, or for none, and with the OIDs of their holes
-abbrev pub write : Option Ty → List Oid → List Token → List ℕ
-write p os [] = []
-write p os (byte x ∷ ts) = x ∷ write p os ts
-write p os (hole t ∷ ts) = be4 (first_number os) ++ write p (rest_numbers os) ts
-write p os (slot d cs ∷ ts) = chosen_for p d cs ++ write p os ts
 
 -- each frame with its own parameter type and its share of the OIDs
 abbrev pub early : List Framed → List Ty → List Oid → List ℕ

@@ -3,7 +3,7 @@ use Rattle.std.specs.Prelude.{◌≡◌, List, [], ◌∷◌, ◌++◌, Option, 
 use Rattle.pgv_types.specs.Ty.{Ty}
 use Rattle.pgv_buf.specs.Tokens.{Token, blank}
 use Rattle.pgv_wire.specs.Arguments.{Argument}
-use Rattle.pgv_wire.specs.Outcome.{Refused}
+use Rattle.pgv_codec.specs.Outcome.{Refused}
 use Rattle.pgv_value.specs.declared.error.CodecError.{CodecError}
 
 abbrev pub Outcome : Type 0

@@ -11,10 +11,11 @@ use Rattle.pgv_value.specs.Frame.{Part}
 use Rattle.pgv_value.specs.Reading.{Reading}
 use Rattle.pgv_value.specs.declared.value.PgValueFormat.TheVariants.{Binary}
 use Rattle.pgv_wire.specs.Arguments.{Framed, all_tokens}
-use Rattle.pgv_wire.specs.Back.{AreOids}
+use Rattle.pgv_codec.specs.Back.{AreOids}
 use Rattle.pgv_wire.specs.History.{Call, Told, told, after, added_in}
-use Rattle.pgv_wire.specs.Image.{Image, frame}
-use Rattle.pgv_wire.specs.Parts.{AreFrames, ReadAs, written_part}
+use Rattle.pgv_codec.specs.Image.{Image, frame}
+use Rattle.pgv_wire.specs.Parts.{AreFrames, ReadAs}
+use Rattle.pgv_codec.specs.Writing.{written_part}
 
 pub record Given : Type 0 where
   pub parameter : Option Ty

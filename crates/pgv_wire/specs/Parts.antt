@@ -7,8 +7,9 @@ use Rattle.pgv_buf.specs.Fill.{rest_types}
 use Rattle.pgv_buf.specs.Parse.{first_type}
 use Rattle.pgv_buf.specs.Tokens.{Cell, shown, tokens_holes}
 use Rattle.pgv_value.specs.Frame.{Part, front}
-use Rattle.pgv_wire.specs.Arguments.{Argument, Framed, framed, all_tokens, write}
-use Rattle.pgv_wire.specs.Image.{Image, null_image, image_of, frame_of}
+use Rattle.pgv_codec.specs.Image.{Image, null_image, image_of, frame_of}
+use Rattle.pgv_codec.specs.Writing.{written_part, image_holes}
+use Rattle.pgv_wire.specs.Arguments.{Argument, Framed, framed, all_tokens}
 
 -- one frame after the other is found in front, with these parts, and then this is left
 abbrev pub ReadAs : List ℕ → List Part → List ℕ → Type 0
@@ -35,16 +36,6 @@ abbrev pub parts_in : List Image → List Argument → List Part
 parts_in [] args = []
 parts_in (i ∷ is) [] = []
 parts_in (i ∷ is) (a ∷ args) = part_in i a.1 ∷ parts_in is args
-
--- the part that an image is written as, for a parameter type, or for none, and with the OIDs of its holes
-abbrev pub written_part : Image → Option Ty → List Oid → Part
-written_part null_image p os = None
-written_part (image_of ts) p os = Some (write p os ts)
-
--- how many holes an image has
-abbrev pub image_holes : Image → ℕ
-image_holes null_image = 0
-image_holes (image_of ts) = tokens_holes ts
 
 -- the parts of all, each with its own parameter type and its share of the OIDs
 abbrev pub written_parts : List Image → List Ty → List Oid → List Part

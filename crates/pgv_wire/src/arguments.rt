@@ -6,13 +6,11 @@ ghost use Rattle.pgv_value.specs.declared.error.CodecError.TheVariants.{Memory, 
 ghost use Rattle.pgv_wire.specs.Arguments.{types_in, all_tokens, Added, filled_arguments, framed, early};
 ghost use Rattle.pgv_wire.specs.Each.{AreOutcomes, accepted};
 ghost use Rattle.pgv_wire.specs.History.{WrittenAtOnce};
-ghost use Rattle.pgv_wire.specs.Image.{frame, or_else};
-ghost use Rattle.pgv_wire.specs.Outcome.{Refused};
+ghost use Rattle.pgv_codec.specs.Image.{frame, or_else};
+ghost use Rattle.pgv_codec.specs.Outcome.{Refused};
 ghost use Rattle.pgv_wire.specs.Parts.{OfImages};
 
-use crate::buffer::PgArgumentBuffer;
-use crate::traits::{Encode, Type};
-use crate::types::array::type_of_value;
+use pgv_codec::{Encode, PgArgumentBuffer, Type, type_of_value};
 use pgv_types::{Oid, PgTypeInfo};
 use pgv_value::CodecError;
 use std::alloc::{AllocError, Global};

@@ -13,7 +13,7 @@ use Rattle.pgv_value.specs.Codes.{code_of}
 use Rattle.pgv_value.specs.declared.error.CodecError.{CodecError}
 use Rattle.pgv_value.specs.declared.error.CodecError.TheVariants.{Memory, HoleCount, UnexpectedNull}
 use Rattle.pgv_wire.specs.Arguments.{Framed, types_in}
-use Rattle.pgv_wire.specs.Outcome.{Refused}
+use Rattle.pgv_codec.specs.Outcome.{Refused}
 use Rattle.pgvalue.specs.Session.{State, Adds, Reads, Resolves, refused, IsRefusal}
 
 abbrev pub Text : Type 0

@@ -6,11 +6,11 @@ use Rattle.pgv_value.specs.Reading.{Reading}
 use Rattle.pgv_value.specs.Scalars.{bool_reading, int_reading, char_reading, oid_reading, text_reading, uuid_reading}
 use Rattle.pgv_value.specs.declared.value.PgValueFormat.{PgValueFormat}
 use Rattle.pgv_wire.specs.Arguments.{Framed}
-use Rattle.pgv_wire.specs.Arrays.{array}
-use Rattle.pgv_wire.specs.Image.{frame}
-use Rattle.pgv_wire.specs.Nullable.{nullable}
-use Rattle.pgv_wire.specs.Saying.{Saying, plainly, option_written, array_written}
-use Rattle.pgv_wire.specs.Scalars.{bool_image, signed_image, unsigned_image, text_image, uuid_image}
+use Rattle.pgv_nest.specs.Arrays.{array}
+use Rattle.pgv_codec.specs.Image.{frame}
+use Rattle.pgv_codec.specs.Nullable.{nullable}
+use Rattle.pgv_codec.specs.Saying.{Saying, plainly, option_written, array_written}
+use Rattle.pgv_codec.specs.Scalars.{bool_image, signed_image, unsigned_image, text_image, uuid_image}
 
 -- what is added of a value: its type and its frame, where it has one
 abbrev pub framed_as : Saying → Option Framed

@@ -7,7 +7,7 @@ ghost use Rattle.pgv_buf.specs.Tokens.{shown, blank};
 ghost use Rattle.pgv_value.specs.Codes.{code_of};
 ghost use Rattle.pgv_value.specs.declared.error.CodecError.TheVariants.{Memory};
 ghost use Rattle.pgv_value.specs.declared.value.PgValueFormat.TheVariants.{Text as InText, Binary as InBinary};
-ghost use Rattle.pgv_wire.specs.Saying.{said};
+ghost use Rattle.pgv_codec.specs.Saying.{said};
 ghost use Rattle.pgvalue.specs.Requests.{ask_seen};
 ghost use Rattle.pgvalue.specs.Session.{RespondsBy, Adds, Reads, IsRefusal, refused, placeholder as placeholder_of};
 ghost use Rattle.pgvalue.specs.Types.{framed_as, framed_by, row, row_named, types};

@@ -1,4 +1,4 @@
-use Rattle.pgv_wire.proofs.PlainFits.{field_fits}
+use Rattle.pgv_codec.proofs.PlainFits.{field_fits}
 use Rattle.pgv_callers.proofs.composites.pair_fits.Goals as goal
 
 pub returns : goal.returns

@@ -1,5 +1,5 @@
 use Rattle.std.proofs.Common.{rules}
-use Rattle.pgv_wire.specs.Fields.{no_fields, more_fields, all_fields}
+use Rattle.pgv_codec.specs.Fields.{no_fields, more_fields, all_fields}
 use Rattle.pgv_callers.proofs.composites.PersonEncode.encode_by_ref.Goals as goal
 
 pub returns-clause-ok : goal.returns-clause-ok

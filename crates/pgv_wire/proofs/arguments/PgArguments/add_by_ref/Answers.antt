@@ -2,7 +2,7 @@ use Rattle.std.proofs.Common.{◌≡◌, ℕ, List, [], ◌∷◌, ◌++◌, ref
 use Rattle.pgv_buf.specs.declared.Mark.{Mark}
 use Rattle.pgv_buf.specs.Tokens.{Cell, blank, slot_count}
 use Rattle.pgv_buf.specs.Marks.{mark_of, between_marks, IsBefore}
-use Rattle.pgv_wire.specs.Image.{or_else}
+use Rattle.pgv_codec.specs.Image.{or_else}
 use Rattle.pgv_wire.proofs.ArgumentLists.{stands, arguments_are, held, one_more, is_before, between}
 use Rattle.pgv_wire.proofs.Framed.{of_image}
 use Rattle.pgv_wire.proofs.arguments.PgArguments.add_by_ref.Goals as goal

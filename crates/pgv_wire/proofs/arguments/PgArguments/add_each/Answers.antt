@@ -1,5 +1,5 @@
 use Rattle.std.proofs.Common.{◌+◌, sym, ◌∙◌, ap, arith, append-nil}
-use Rattle.pgv_wire.specs.Image.{frame, or_else}
+use Rattle.pgv_codec.specs.Image.{frame, or_else}
 use Rattle.pgv_wire.proofs.Eaches.{more, outcome_is, not_err}
 use Rattle.pgv_wire.proofs.arguments.PgArguments.add_each.Goals as goal
 

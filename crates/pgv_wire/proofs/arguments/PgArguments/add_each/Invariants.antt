@@ -1,6 +1,6 @@
 use Rattle.std.proofs.Common.{◌≡◌, ◌≤◌, length, take}
 use Rattle.std.specs.Prelude.{vec_len, vec_capacity}
-use Rattle.pgv_wire.specs.Image.{frame, or_else}
+use Rattle.pgv_codec.specs.Image.{frame, or_else}
 use Rattle.pgv_wire.proofs.Eaches.{SoFar}
 use Rattle.pgv_wire.proofs.arguments.PgArguments.add_each.Given as goal
 

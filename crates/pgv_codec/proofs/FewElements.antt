@@ -1,0 +1,40 @@
+-- An array has few elements for its bytes: each takes four or more.
+use Rattle.std.proofs.Common.{◌≡◌, ℕ, zero, suc, ◌+◌, ◌*◌, ◌≤◌, List, [], ◌∷◌, length, Option, Some, None, refl, arith}
+use Rattle.std.proofs.lemmas.Grind.{common_steps}
+use Rattle.pgv_value.specs.Frame.{Part, front}
+use Rattle.pgv_nest.specs.Arrays.{frames}
+use Rattle.pgv_nest.specs.Steps.{◌>>=◌}
+
+-- a frame takes four bytes or more
+pub front_takes : (bytes : List ℕ) (part : Part) (rest : List ℕ) → front bytes ≡ Some (part, rest) → 4 + length rest ≤ length bytes
+unfolding front
+front_takes bytes part rest f = grind (arith, common_steps)
+
+module _ {M : Type 0} (read : Part → Option M) where
+  -- so many frames have few elements for their bytes
+  abbrev Few : ℕ → Type 0
+  Few n = (bytes : List ℕ) (ms : List M) → frames read n bytes ≡ Some ms → 4 * length ms ≤ length bytes
+
+  few_more : (n : ℕ) → Few n → (bytes : List ℕ) (ms : List M) (part : Part) (rest : List ℕ) (m : M) (o : Option (List M)) → front bytes ≡ Some (part, rest) →
+      frames read n rest ≡ o → (o >>= λ ns. Some (m ∷ ns)) ≡ Some ms → 4 * length ms ≤ length bytes
+  few_more n few bytes ms part rest m None f r e = let impossible : ⊥ = cc in elim impossible [ ]
+  few_more n few bytes ms part rest m (Some ns) f r e =
+      let all : m ∷ ns ≡ ms = cc in
+      let less = few rest ns r in
+      let here = front_takes bytes part rest f in
+      rw (← all) (omega arith)
+
+  few_read : (n : ℕ) → Few n → (bytes : List ℕ) (ms : List M) (part : Part) (rest : List ℕ) (o : Option M) → front bytes ≡ Some (part, rest) →
+      (o >>= λ m. frames read n rest >>= λ ns. Some (m ∷ ns)) ≡ Some ms → 4 * length ms ≤ length bytes
+  few_read n few bytes ms part rest None f e = let impossible : ⊥ = cc in elim impossible [ ]
+  few_read n few bytes ms part rest (Some m) f e = few_more n few bytes ms part rest m (frames read n rest) f refl e
+
+  few_front : (n : ℕ) → Few n → (bytes : List ℕ) (ms : List M) (o : Option (Part × List ℕ)) → front bytes ≡ o →
+      (o >>= λ p. read p.0 >>= λ m. frames read n p.1 >>= λ ns. Some (m ∷ ns)) ≡ Some ms → 4 * length ms ≤ length bytes
+  few_front n few bytes ms None f e = let impossible : ⊥ = cc in elim impossible [ ]
+  few_front n few bytes ms (Some (part, rest)) f e = few_read n few bytes ms part rest (read part) f e
+
+  pub few_frames : (n : ℕ) → Few n
+  unfolding frames
+  few_frames zero bytes ms e = let none : [] ≡ ms = cc in rw (← none) (omega arith)
+  few_frames (suc n) bytes ms e = few_front n (few_frames n) bytes ms (front bytes) refl e

@@ -1,0 +1,8 @@
+pub mod Frames
+pub mod Lists
+pub mod Records
+pub mod FrameLoop
+pub mod PartLoop
+pub mod FewElements
+pub mod PlainFits
+pub mod Refusing

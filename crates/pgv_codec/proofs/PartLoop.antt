@@ -1,0 +1,34 @@
+-- Parts that are read one after the other.
+use Rattle.std.proofs.Common.{◌≡◌, ℕ, ◌+◌, ◌<◌, List, [], ◌∷◌, ◌++◌, Option, Some, None, length, get_or, drop, map, refl, sym, ap, ◌∙◌, drop-cons, add-one}
+use Rattle.std.proofs.lemmas.List.{append-nil}
+use Rattle.pgv_value.specs.Frame.{Part}
+use Rattle.pgv_nest.specs.Arrays.{each}
+use Rattle.pgv_codec.proofs.FrameLoop.{with_front, regroup}
+
+-- the parts from a place on begin with the one at that place
+pub parts_split : {P : Type 0} (show : P → Part) (xs : List P) (i : ℕ) (x : P) → i < length xs → x ≡ get_or xs i x → map show (drop i xs) ≡ show x ∷ map show (drop (i + 1) xs)
+parts_split show xs i x lt is =
+    let first = drop-cons xs i x in
+    rw (add-one, first, ← is) refl
+
+module _ {M : Type 0} (read : Part → Option M) where
+  -- a loop over parts: it goes on, it is done, a part isn't read
+  pub part_read : (ms : List M) (here : List Part) (part : Part) (behind : List Part) (m : M) (total : Option (List M)) → here ≡ part ∷ behind →
+      read part ≡ Some m → with_front ms (each read here) ≡ total → with_front (ms ++ m ∷ []) (each read behind) ≡ total
+  unfolding each
+  part_read ms here part behind m total split r so_far =
+      let one : with_front ms (each read here) ≡ with_front (ms ++ m ∷ []) (each read behind) = rw (split, r) (regroup ms m (each read behind)) in
+      sym one ∙ so_far
+
+  pub part_unread : (ms : List M) (here : List Part) (part : Part) (behind : List Part) (total : Option (List M)) → here ≡ part ∷ behind →
+      with_front ms (each read here) ≡ total → read part ≡ None → total ≡ None
+  unfolding each
+  part_unread ms here part behind total split so_far r =
+      let one : with_front ms (each read here) ≡ None = rw (split, r) refl in
+      sym so_far ∙ one
+
+  pub parts_done : (ms : List M) (here : List Part) (total : Option (List M)) → here ≡ [] → with_front ms (each read here) ≡ total → total ≡ Some ms
+  unfolding each
+  parts_done ms here total none so_far =
+      let one : with_front ms (each read here) ≡ Some ms = rw none (ap (λ (xs : List M). Some xs) (append-nil ms)) in
+      sym so_far ∙ one

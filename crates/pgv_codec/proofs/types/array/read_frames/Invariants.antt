@@ -1,0 +1,11 @@
+use Rattle.std.proofs.Common.{◌≡◌, ◌-◌, map}
+use Rattle.pgv_value.specs.declared.value.PgValueFormat.TheVariants.{Binary}
+use Rattle.pgv_nest.specs.Arrays.{frames}
+use Rattle.pgv_codec.proofs.FrameLoop.{with_front}
+use Rattle.pgv_codec.proofs.types.array.read_frames.Given as goal
+
+-- what was read and what is left to read are what the bytes hold
+abbrev pub invariant-loop : goal.invariant-loop
+invariant-loop g l =
+    with_front (map g.T.Decode.meaning l.items.items) (frames (g.T.Decode.reading l.element Binary) (l.count - l.counter) l.rest)
+    ≡ frames (g.T.Decode.reading l.element Binary) l.count l.bytes

@@ -1,0 +1,142 @@
+-- What was written is read back: the law that a type states of its values, and where optional values, arrays and the
+-- fields of records fit a type.
+use Rattle.std.specs.Prelude.{◌≡◌, ℕ, suc, ◌<◌, ◌^◌, Bool, true, false, cond, List, [], ◌∷◌, ◌++◌, length, take, drop, Option, Some, None, ⊤}
+use Rattle.pgv_types.specs.Ty.{Ty}
+use Rattle.pgv_types.specs.Facts.{oid_of}
+use Rattle.pgv_types.specs.declared.oid.Oid.{Oid}
+use Rattle.pgv_buf.specs.Fill.{first_number, rest_numbers}
+use Rattle.pgv_buf.specs.Tokens.{Token, byte, hole, slot, bytes, be4, tokens_holes, CasesFit}
+use Rattle.pgv_value.specs.Reading.{Reading}
+use Rattle.pgv_value.specs.declared.value.PgValueFormat.TheVariants.{Binary}
+use Rattle.pgv_codec.specs.Writing.{write}
+use Rattle.pgv_nest.specs.Arrays.{element_type}
+use Rattle.pgv_nest.specs.Grammar.{HasFieldType}
+use Rattle.pgv_codec.specs.Image.{Image, null_image, image_of, or_else, join, field, record_image, element_type as written_type}
+use Rattle.pgv_codec.specs.Writing.{image_holes, written_part}
+use Rattle.pgv_nest.specs.Records.{Left, binary_fields, next, fields_of}
+
+-- OIDs are numbers of 32 bits
+abbrev pub AreOids : List Oid → Type 0
+AreOids [] = ⊤
+AreOids (o ∷ os) = (o.0 < 2 ^ 32) × AreOids os
+
+-- each case of a slot has as many bytes as its default, as a buffer wants it of the slots that are pushed
+abbrev pub SlotsFit : List Token → Type 0
+SlotsFit [] = ⊤
+SlotsFit (byte x ∷ ts) = SlotsFit ts
+SlotsFit (hole t ∷ ts) = SlotsFit ts
+SlotsFit (slot d cs ∷ ts) = CasesFit (length d) cs × SlotsFit ts
+
+abbrev pub ImageFits : Image → Type 0
+ImageFits null_image = ⊤
+ImageFits (image_of ts) = SlotsFit ts
+
+-- The law: for a value with an image, for every parameter type, or none with each slot at its default, under every type
+-- and with all OIDs in the holes that fit, the part that is written so is read in binary as what the value keeps.
+abbrev pub ReadsBack : {A M : Type 0} → (A → Option Image) → Reading M → (A → M) → (A → Ty → List Oid → Type 0) → Type 0
+ReadsBack {A} image reading kept fits =
+    (v : A) (i : Image) (t : Ty) (p : Option Ty) (os : List Oid) → image v ≡ Some i → ImageFits i → AreOids os → fits v t os → reading t Binary (written_part i p os) ≡ Some (kept v)
+
+-- ---- plain types fit every type
+
+abbrev pub always : {A : Type 0} → A → Ty → List Oid → Type 0
+always v t os = ⊤
+
+-- ---- optional values
+
+abbrev pub is_null : Option Image → Bool
+is_null None = false
+is_null (Some null_image) = true
+is_null (Some (image_of ts)) = false
+
+-- a value that is written as null comes back as None
+abbrev pub option_kept : {A : Type 0} → (A → Option Image) → (A → A) → Option A → Option A
+option_kept image kept None = None
+option_kept image kept (Some x) = cond (is_null (image x)) None (Some (kept x))
+
+abbrev pub option_fits : {A : Type 0} → (A → Ty → List Oid → Type 0) → Option A → Ty → List Oid → Type 0
+option_fits fits None t os = ⊤
+option_fits fits (Some x) t os = fits x t os
+
+-- ---- types that are written
+
+-- the OID that a type is written by: its own, or the one in its hole
+abbrev pub written_oid : Option ℕ → List Oid → ℕ
+written_oid (Some o) os = o
+written_oid None os = first_number os
+
+-- the OIDs that are left after it
+abbrev pub oids_after : Option ℕ → List Oid → List Oid
+oids_after (Some o) os = os
+oids_after None os = rest_numbers os
+
+-- how many OIDs a value takes
+abbrev pub holes_of : Option Image → ℕ
+holes_of None = 0
+holes_of (Some i) = image_holes i
+
+-- ---- arrays
+
+-- each element fits the type, with the OIDs of its own holes
+abbrev pub FitEach : {A : Type 0} → (A → Option Image) → (A → Ty → List Oid → Type 0) → Ty → List A → List Oid → Type 0
+FitEach image fits u [] os = ⊤
+FitEach image fits u (x ∷ xs) os = fits x u (take (holes_of (image x)) os) × FitEach image fits u xs (drop (holes_of (image x)) os)
+
+-- elements fit the type of their array where the type of the elements exists, by the OID that is written and by the
+-- array's type, and each fits that
+abbrev pub ArrayFits : {A : Type 0} → Ty → (A → Option Ty) → (A → Option Image) → (A → Ty → List Oid → Type 0) → List A → Ty → List Oid → Type 0
+ArrayFits info produced image fits xs t os =
+    let own = oid_of (written_type produced info xs) in
+    (u : Ty) × (element_type t (written_oid own os) ≡ Some u) × FitEach image fits u xs (oids_after own os)
+
+-- ---- the fields of records
+
+-- how many OIDs a field takes, its type's among them
+abbrev pub field_holes : Option (List Token) → ℕ
+field_holes None = 0
+field_holes (Some ts) = tokens_holes ts
+
+-- A field fits a record's type at a place where the type of the field there exists, by the OID that is written, the reader
+-- accepts it, and the value fits it.
+abbrev pub FieldFits : {A : Type 0} → Ty → (A → Option Ty) → (A → Option Image) → (Ty → Bool) → (A → Ty → List Oid → Type 0) → A → Ty → ℕ → List Oid → Type 0
+FieldFits info produced image accepts fits x t place os =
+    let own = oid_of (or_else (produced x) info) in
+    (u : Ty) × HasFieldType place (written_oid own os) u t × (accepts u ≡ true) × fits x u (take (holes_of (image x)) (oids_after own os))
+
+-- fields fit from a place on: the first, which is written so, and the further ones with the OIDs that it leaves
+abbrev pub Followed : (Ty → ℕ → List Oid → Type 0) → Option (List Token) → (Ty → ℕ → List Oid → Type 0) → Ty → ℕ → List Oid → Type 0
+Followed one written further t place os = one t place os × further t (suc place) (drop (field_holes written) os)
+
+-- a field that is read fits, and so do the further ones
+abbrev pub FieldsFit : {A : Type 0} → Ty → (A → Option Ty) → (A → ℕ) → (A → Option Image) → (Ty → Bool) → (A → Ty → List Oid → Type 0) → A → (Ty → ℕ → List Oid → Type 0) → Ty → ℕ → List Oid → Type 0
+FieldsFit info produced hint image accepts fits x further = Followed (FieldFits info produced image accepts fits x) (field hint image produced info x) further
+
+-- the tokens of fields, from the first on
+abbrev pub in_order : List (Option (List Token)) → Option (List Token)
+in_order [] = Some []
+in_order (f ∷ fs) = join f (in_order fs)
+
+-- A field that was written is the next that is read, whatever comes after it, under each type that fits; and what
+-- comes after it is left, with the OIDs that are left.
+abbrev pub FieldReadsBack : {A M : Type 0} → Ty → (A → Option Ty) → (A → ℕ) → (A → Option Image) → (Ty → Bool) → Reading M → (A → M) → (A → Ty → List Oid → Type 0) → Type 0
+FieldReadsBack {A} info produced hint image accepts reading kept fits =
+    (x : A) (g after : List Token) (t : Ty) (place : ℕ) (p : Option Ty) (os : List Oid) →
+    field hint image produced info x ≡ Some g → SlotsFit g → AreOids os → FieldFits info produced image accepts fits x t place os →
+    next accepts reading (binary_fields t place (write p os (g ++ after))) ≡ Some (kept x, binary_fields t (suc place) (write p (drop (tokens_holes g) os) after))
+
+-- the fields of a record are what is left of it where none was read
+abbrev pub RecordFieldsFollow : Type 0
+RecordFieldsFollow =
+    (fs : List (Option (List Token))) (i : Image) (t : Ty) (p : Option Ty) (os : List Oid) → record_image fs ≡ Some i →
+    (gs : List Token) × (in_order fs ≡ Some gs) × (image_of (bytes (be4 (length fs)) ++ gs) ≡ i) × (fields_of t Binary (written_part i p os) ≡ Some (binary_fields t 0 (write p os gs)))
+
+-- Steps that read back fields that are written one after another. Further fields may come after those that are read.
+pub record FieldsBack {M : Type 0} (steps : Left → Option (M × Left)) (fs : List (Option (List Token))) (kept : M) (fit : Ty → ℕ → List Oid → Type 0) : Type 0 where
+  pub back :
+      (t : Ty) (place : ℕ) (p : Option Ty) (os : List Oid) (gs : List Token) → in_order fs ≡ Some gs → SlotsFit gs → AreOids os → fit t place os →
+      (left : Left) × (steps (binary_fields t place (write p os gs)) ≡ Some (kept, left))
+
+-- what is written as a record of these fields is read in binary as what is kept of those that are read
+abbrev pub RecordReadsBack : {M : Type 0} → Reading M → List (Option (List Token)) → M → (Ty → ℕ → List Oid → Type 0) → Type 0
+RecordReadsBack reading fs kept fit =
+    (i : Image) (t : Ty) (p : Option Ty) (os : List Oid) → record_image fs ≡ Some i → ImageFits i → AreOids os → fit t 0 os → reading t Binary (written_part i p os) ≡ Some kept

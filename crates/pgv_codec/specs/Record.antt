@@ -1,0 +1,32 @@
+-- A record that is being written (PostgreSQL: "Composite Types"; its binary form is that of record_send).
+use Rattle.std.specs.Prelude.{◌≡◌, ℕ, ◌+◌, List, [], ◌++◌, drop, Option, Some}
+use Rattle.pgv_buf.specs.declared.Mark.{Mark}
+use Rattle.pgv_buf.specs.Tokens.{Token, Cell, bytes, be4, blank, plain}
+use Rattle.pgv_buf.specs.Marks.{mark_of}
+use Rattle.pgv_codec.specs.Fronts.{front_of, behind}
+
+-- what stood before it, how many fields it has, and these
+pub record Writing : Type 0 where
+  pub before : List Cell
+  pub count : ℕ
+  pub fields : List Token
+
+unfoldable pub writing_at : Mark → ℕ → List Cell → Writing
+writing_at m n ts = record { before = front_of m.bytes m.holes m.slots ts; count = n; fields = drop 4 (plain (behind m.bytes m.holes m.slots ts)) }
+
+abbrev pub begun : List Cell → Writing
+begun was = record { before = was; count = 0; fields = [] }
+
+abbrev pub with_field : Writing → List Token → Writing
+with_field w f = record { before = w.before; count = w.count + 1; fields = w.fields ++ f }
+
+-- the buffer then
+abbrev pub so_far : Writing → List Cell
+so_far w = w.before ++ blank (bytes (be4 w.count) ++ w.fields)
+
+-- one more field
+abbrev pub AddsField : Option (List Token) → Writing → Writing → Type 0
+AddsField f was now = (ts : List Token) × (f ≡ Some ts) × (now ≡ with_field was ts)
+
+abbrev pub IsOpen : Mark → ℕ → List Cell → Type 0
+IsOpen m n ts = (m ≡ mark_of (writing_at m n ts).before) × (ts ≡ so_far (writing_at m n ts))

@@ -1,0 +1,14 @@
+-- What one type is, in the words of the table of types: the type that its values have, the types under which they are
+-- read, and what they are written as. The laws of `laws::rows` give each type's row by these.
+use Rattle.std.specs.Prelude.{◌≡◌, ℕ, Bool, Option, None}
+use Rattle.pgv_types.specs.Ty.{Ty, builtin}
+use Rattle.pgv_types.specs.Relations.{softly}
+use Rattle.pgv_codec.specs.Image.{Image}
+
+-- values have the built-in type of this OID, and are read under each type that is softly equal to it
+abbrev pub IsBuiltIn : ℕ → Ty → (Ty → Bool) → Type 0
+IsBuiltIn oid info accepts = (info ≡ builtin oid) × ((t : Ty) → accepts t ≡ softly t (builtin oid))
+
+-- values are written as this image, with the size hint 0, and produce no other type
+abbrev pub IsWrittenAs : {A : Type 0} → (A → Option Image) → (A → ℕ) → (A → Option Image) → (A → Option Ty) → Type 0
+IsWrittenAs {A} wanted hint image produced = (v : A) → (image v ≡ wanted v) × (hint v ≡ 0) × (produced v ≡ None)

@@ -1,0 +1,237 @@
+//! The buffer that encoders append to.
+
+ghost use Rattle.std.specs.Prelude.{◌≡◌, ◌<◌, ◌++◌, ℕ, List, [], ◌∷◌, length, OnOk, OnErr, IfOk, IfErr, sum};
+ghost use Rattle.pgv_buf.specs.Tokens.{byte, hole, slot, bytes, Cell, blank, fixed_bytes, shown, width, be4, hole_types_of, hole_count, slot_count, CasesFit};
+ghost use Rattle.pgv_buf.specs.Shown.{cases_of};
+ghost use Rattle.pgv_buf.specs.Marks.{mark_of};
+ghost use Rattle.pgv_buf.specs.Parse.{Proper};
+ghost use Rattle.pgv_buf.specs.Fill.{fill_holes, fill_slots, slot_types};
+ghost use Rattle.pgv_value.specs.declared.error.CodecError.TheVariants.{Memory};
+ghost use Rattle.pgv_codec.specs.Image.{frame, typed};
+ghost use Rattle.pgv_codec.specs.Outcome.{Refused, Appended, AppendedAll};
+
+use crate::traits::Encode;
+use pgv_buf::{Mark, Tokens};
+use pgv_types::{Oid, PgTypeInfo};
+use pgv_value::CodecError;
+use std::alloc::{AllocError, Global};
+use std::marker::Model;
+
+/// Whether an encoder was given null.
+#[derive(Clone, Copy, Debug, PartialEq, Eq)]
+pub enum IsNull {
+    /// The value is null: nothing was appended.
+    Yes,
+    /// The value's image was appended.
+    No,
+}
+
+/// The bytes of values, with holes for the OIDs of types that aren't known yet, and slots whose bytes depend on
+/// the type of a parameter.
+///
+/// A contract sees it as a list of cells: bytes, holes and slots, each with the bytes that it shows. A hole
+/// shows four zeros, and a slot its default, until [`PgArguments::apply_patches`](crate::PgArguments::apply_patches) fills them.
+#[derive(Drop)]
+pub struct PgArgumentBuffer {
+    tokens: Tokens,
+}
+
+impl Model for PgArgumentBuffer {
+    ghost use Rattle.std.specs.Prelude.{List};
+    ghost use Rattle.pgv_buf.specs.Tokens.{Cell, cells_code};
+
+    ghost Value = { List Cell };
+
+    ghost coded = { cells_code };
+
+    ghost view = { λ b. b.tokens };
+}
+
+impl PgArgumentBuffer {
+    /// A buffer with nothing in it. It takes no memory yet.
+    pub fn new(alloc: Global) -> PgArgumentBuffer
+        ensures { result ≡ [] }
+    {
+        PgArgumentBuffer {
+            tokens: Tokens::new(alloc),
+        }
+    }
+
+    /// How many bytes there are; a hole is four.
+    pub fn len(&self) -> usize
+        ensures { result ≡ width self.now }
+    {
+        self.tokens.len()
+    }
+
+    /// The bytes, holes and slots as they are shown now: four bytes for a hole, and for a slot as many as its
+    /// default has, and each of its cases.
+    pub fn as_slice(&self) -> &[u8]
+        ensures shown { result.now ≡ shown self.now }
+        ensures proper { Proper self.now }
+    {
+        self.tokens.as_slice()
+    }
+
+    /// The types whose OIDs are missing, in the order of their holes.
+    pub fn hole_types(&self) -> &[PgTypeInfo]
+        ensures { result.now ≡ hole_types_of self.now }
+    {
+        self.tokens.hole_types()
+    }
+
+    /// Appends a byte. C1 leaves the buffer as it was.
+    pub fn push(&mut self, value: u8) -> Result<(), CodecError>
+        ensures ok { OnOk result (self.new ≡ self.old ++ blank (byte value ∷ [])) }
+        ensures err { IfErr result (λ e. (e ≡ Memory) × (self.new ≡ self.old)) }
+    {
+        self.tokens.push(value)?;
+        Ok(())
+    }
+
+    /// Appends bytes. C1 leaves the buffer as it was.
+    pub fn extend_from_slice(&mut self, values: &[u8]) -> Result<(), CodecError>
+        ensures ok { OnOk result (self.new ≡ self.old ++ blank (bytes values.now)) }
+        ensures err { IfErr result (λ e. (e ≡ Memory) × (self.new ≡ self.old)) }
+    {
+        self.tokens.extend_from_slice(values)?;
+        Ok(())
+    }
+
+    /// Appends a hole: four bytes for the OID of a type, which are zeros for now. C1 leaves the buffer as it was.
+    pub fn push_hole(&mut self, hole_type: PgTypeInfo) -> Result<(), CodecError>
+        ensures ok { OnOk result (self.new ≡ self.old ++ blank (hole hole_type ∷ [])) }
+        ensures err { IfErr result (λ e. (e ≡ Memory) × (self.new ≡ self.old)) }
+    {
+        self.tokens.push_hole(hole_type)?;
+        Ok(())
+    }
+
+    /// Appends a slot: bytes that depend on the type of the parameter that they are part of. A filling shows the
+    /// first case whose type is softly equal to it, else the default. C1 leaves the buffer as it was.
+    pub fn push_slot(
+        &mut self,
+        standard: &[u8],
+        cases: Vec<(PgTypeInfo, Vec<u8>)>,
+    ) -> Result<(), CodecError>
+        requires { CasesFit (length standard.now) (cases_of cases.items) }
+        ensures ok { OnOk result (self.new ≡ self.old ++ blank (slot standard.now (cases_of cases.items) ∷ [])) }
+        ensures err { IfErr result (λ e. (e ≡ Memory) × (self.new ≡ self.old)) }
+    {
+        self.tokens.push_slot(standard, cases)?;
+        Ok(())
+    }
+
+    /// Forgets everything, as if the buffer were new. It keeps its memory.
+    pub fn clear(&mut self)
+        ensures { self.new ≡ [] }
+    {
+        self.tokens.clear();
+    }
+
+    /// Appends one frame: a length of four bytes, and that many bytes of the value; the length -1 for null.
+    /// A refused one may have appended something.
+    pub fn encode<T: Encode>(&mut self, value: &T) -> Result<(), CodecError>
+        ensures ok { OnOk result (AppendedAll (frame (T.hint value.now) (T.image value.now)) self.old self.new) }
+        ensures err { IfErr result (λ e. Refused e (frame (T.hint value.now) (T.image value.now))) }
+        ensures appended { OnErr result (Appended self.old self.new) }
+    {
+        let hint = value.size_hint();
+        if hint > 2147483647 {
+            return Err(CodecError::ValueSize(hint));
+        }
+        let mark = self.tokens.mark();
+        self.push_u32(0)?;
+        let start = self.len();
+        match value.encode_by_ref(self)? {
+            IsNull::Yes => {
+                self.tokens.put_u32(mark, 4294967295);
+                Ok(())
+            }
+            IsNull::No => {
+                let size = self.len() - start;
+                if size > 2147483647 {
+                    return Err(CodecError::ValueSize(size));
+                }
+                self.tokens.put_u32(mark, size as u32);
+                Ok(())
+            }
+        }
+    }
+}
+
+impl Clone for PgArgumentBuffer {
+    ghost is_clone = { λ buffer copy. copy ≡ buffer };
+
+    fn clone(&self) -> Result<PgArgumentBuffer, AllocError> {
+        Ok(PgArgumentBuffer {
+            tokens: self.tokens.clone()?,
+        })
+    }
+}
+
+impl PgArgumentBuffer {
+    /// Makes room for so many bytes more. Nothing is appended, also where it is refused (C1).
+    pub fn reserve(&mut self, additional: usize) -> Result<(), CodecError>
+        ensures same { self.new ≡ self.old }
+        ensures err { IfErr result (λ e. e ≡ Memory) }
+    {
+        self.tokens.reserve(additional)?;
+        Ok(())
+    }
+
+    // A number as four bytes.
+    pub(crate) fn push_u32(&mut self, value: u32) -> Result<(), CodecError>
+        ensures ok { OnOk result (self.new ≡ self.old ++ blank (bytes (be4 value))) }
+        ensures number { value < 4294967296 }
+        ensures err { IfErr result (λ e. (e ≡ Memory) × (self.new ≡ self.old)) }
+    {
+        let number = value.to_be_bytes();
+        self.extend_from_slice(&number)
+    }
+
+    // A type, as an element's or a field's is written.
+    pub(crate) fn push_type(&mut self, written: PgTypeInfo) -> Result<(), CodecError>
+        ensures ok { OnOk result (AppendedAll (typed written) self.old self.new) }
+        ensures err { IfErr result (λ e. (e ≡ Memory) × (self.new ≡ self.old)) }
+    {
+        match written.oid() {
+            Some(oid) => self.push_u32(oid.0),
+            None => self.push_hole(written),
+        }
+    }
+
+    /// How many bytes, holes and slots there are: a place that [`back`](PgArgumentBuffer::back) goes back to.
+    pub fn mark(&self) -> Mark
+        ensures { result ≡ mark_of self.now }
+    {
+        self.tokens.mark()
+    }
+
+    /// Goes back to where `mark` was taken: what was appended since is gone, its holes and slots too.
+    pub fn back(&mut self, mark: Mark)
+        requires { (front : List Cell) × (rest : List Cell) × (self.old ≡ front ++ rest) × (mark ≡ mark_of front) }
+        ensures { (front : List Cell) (rest : List Cell) → self.old ≡ front ++ rest → mark ≡ mark_of front → self.new ≡ front }
+    {
+        self.tokens.back(mark);
+    }
+
+    // A number in place of four bytes.
+    pub(crate) fn put_u32(&mut self, mark: Mark, value: u32)
+        requires { (front : List Cell) × (xs : List ℕ) × (rest : List Cell) × (self.old ≡ front ++ fixed_bytes xs ++ rest) × (length xs ≡ 4) × (mark ≡ mark_of front) }
+        ensures { (front : List Cell) (xs : List ℕ) (rest : List Cell) → self.old ≡ front ++ fixed_bytes xs ++ rest → length xs ≡ 4 → mark ≡ mark_of front → self.new ≡ front ++ fixed_bytes (be4 value) ++ rest }
+    {
+        self.tokens.put_u32(mark, value);
+    }
+
+    /// Writes the OIDs into the holes, in order, and fills each slot by the parameter type of its argument; `counts` has the number of slots of
+    /// each argument. Who keeps the arguments counts them.
+    pub fn fill(&mut self, types: &[PgTypeInfo], counts: &[usize], oids: &[Oid])
+        requires arguments { length types.now ≡ length counts.now }
+        requires slots { sum counts.now ≡ slot_count self.old }
+        requires holes { length oids.now ≡ hole_count self.old }
+        ensures { self.new ≡ fill_slots (slot_types types.now counts.now) (fill_holes oids.now self.old) }
+    {
+        self.tokens.fill(types, counts, oids);
+    }
+}

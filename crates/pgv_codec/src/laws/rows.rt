@@ -1,0 +1,144 @@
+//! What each type is: the type that its values and its arrays have, the types under which they are read, what they are
+//! written as and what is read. PostgreSQL lists the OIDs in `pg_type`; the binary forms are those of its send functions.
+//!
+//! Each is the contract of a function that does nothing. A codec that reads nothing, or writes nothing, meets its trait's
+//! contract; it does not meet its row.
+
+ghost use Rattle.std.specs.Prelude.{◌≡◌, Bool, Option, option_map, string_bytes, map};
+ghost use Rattle.std.specs.Int.{w8, w16, w32, w64};
+ghost use Rattle.pgv_types.specs.Ty.{Ty, builtin};
+ghost use Rattle.pgv_types.specs.declared.oid.Oid.{Oid};
+ghost use Rattle.pgv_value.specs.Scalars.{bool_reading, char_reading, int_reading, oid_reading, text_reading, uuid_reading};
+ghost use Rattle.pgv_nest.specs.Arrays.{array, array_of_length};
+ghost use Rattle.pgv_codec.specs.Image.{array_image, sized_image, option_image, option_hint, option_produced};
+ghost use Rattle.pgv_codec.specs.Nullable.{nullable};
+ghost use Rattle.pgv_codec.specs.Row.{IsBuiltIn, IsWrittenAs};
+ghost use Rattle.pgv_codec.specs.Scalars.{bool_image, signed_image, unsigned_image, text_image, uuid_image, is_text, is_text_array, is_void_or_record};
+
+use crate::traits::{Codec, Decode, Encode, PgHasArrayType, Type};
+
+/// A `bool` is a boolean (OID 16), written as the byte 00 or 01, as `01` for true. Its arrays are `bool[]` (1000).
+pub fn bool_is_a_boolean()
+    ensures types { IsBuiltIn 16 ⟦<bool as Type>⟧.info ⟦<bool as Type>⟧.accepts }
+    ensures arrays { IsBuiltIn 1000 ⟦<bool as PgHasArrayType>⟧.array_info ⟦<bool as PgHasArrayType>⟧.accepts_array }
+    ensures written { IsWrittenAs bool_image ⟦<bool as Encode>⟧.hint ⟦<bool as Encode>⟧.image ⟦<bool as Encode>⟧.produced }
+    ensures means { ⟦<bool as Decode>⟧.meaning ≡ (λ v. v) }
+    ensures read { ⟦<bool as Decode>⟧.reading ≡ bool_reading }
+{}
+
+/// An `i8` is a `"char"` (OID 18), one byte in two's complement, as `ff` for -1. Its arrays are `"char"[]` (1002).
+pub fn i8_is_a_char()
+    ensures types { IsBuiltIn 18 ⟦<i8 as Type>⟧.info ⟦<i8 as Type>⟧.accepts }
+    ensures arrays { IsBuiltIn 1002 ⟦<i8 as PgHasArrayType>⟧.array_info ⟦<i8 as PgHasArrayType>⟧.accepts_array }
+    ensures written { IsWrittenAs (signed_image w8) ⟦<i8 as Encode>⟧.hint ⟦<i8 as Encode>⟧.image ⟦<i8 as Encode>⟧.produced }
+    ensures means { ⟦<i8 as Decode>⟧.meaning ≡ (λ v. v) }
+    ensures read { ⟦<i8 as Decode>⟧.reading ≡ char_reading }
+{}
+
+/// An `i16` is an int2 (OID 21), two bytes, as `0007` for 7. Its arrays are `int2[]` (1005).
+pub fn i16_is_an_int2()
+    ensures types { IsBuiltIn 21 ⟦<i16 as Type>⟧.info ⟦<i16 as Type>⟧.accepts }
+    ensures arrays { IsBuiltIn 1005 ⟦<i16 as PgHasArrayType>⟧.array_info ⟦<i16 as PgHasArrayType>⟧.accepts_array }
+    ensures written { IsWrittenAs (signed_image w16) ⟦<i16 as Encode>⟧.hint ⟦<i16 as Encode>⟧.image ⟦<i16 as Encode>⟧.produced }
+    ensures means { ⟦<i16 as Decode>⟧.meaning ≡ (λ v. v) }
+    ensures read { ⟦<i16 as Decode>⟧.reading ≡ int_reading w16 }
+{}
+
+/// An `i32` is an int4 (OID 23), four bytes, as `00000007` for 7. Its arrays are `int4[]` (1007).
+pub fn i32_is_an_int4()
+    ensures types { IsBuiltIn 23 ⟦<i32 as Type>⟧.info ⟦<i32 as Type>⟧.accepts }
+    ensures arrays { IsBuiltIn 1007 ⟦<i32 as PgHasArrayType>⟧.array_info ⟦<i32 as PgHasArrayType>⟧.accepts_array }
+    ensures written { IsWrittenAs (signed_image w32) ⟦<i32 as Encode>⟧.hint ⟦<i32 as Encode>⟧.image ⟦<i32 as Encode>⟧.produced }
+    ensures means { ⟦<i32 as Decode>⟧.meaning ≡ (λ v. v) }
+    ensures read { ⟦<i32 as Decode>⟧.reading ≡ int_reading w32 }
+{}
+
+/// An `i64` is an int8 (OID 20), eight bytes, as `0000000000000007` for 7. Its arrays are `int8[]` (1016).
+pub fn i64_is_an_int8()
+    ensures types { IsBuiltIn 20 ⟦<i64 as Type>⟧.info ⟦<i64 as Type>⟧.accepts }
+    ensures arrays { IsBuiltIn 1016 ⟦<i64 as PgHasArrayType>⟧.array_info ⟦<i64 as PgHasArrayType>⟧.accepts_array }
+    ensures written { IsWrittenAs (signed_image w64) ⟦<i64 as Encode>⟧.hint ⟦<i64 as Encode>⟧.image ⟦<i64 as Encode>⟧.produced }
+    ensures means { ⟦<i64 as Decode>⟧.meaning ≡ (λ v. v) }
+    ensures read { ⟦<i64 as Decode>⟧.reading ≡ int_reading w64 }
+{}
+
+/// An `Oid` is an oid (OID 26), four bytes, as `00000019` for that of text. Its arrays are `oid[]` (1028).
+pub fn oid_is_an_oid()
+    ensures types { IsBuiltIn 26 ⟦<pgv_types::Oid as Type>⟧.info ⟦<pgv_types::Oid as Type>⟧.accepts }
+    ensures arrays { IsBuiltIn 1028 ⟦<pgv_types::Oid as PgHasArrayType>⟧.array_info ⟦<pgv_types::Oid as PgHasArrayType>⟧.accepts_array }
+    ensures written { IsWrittenAs (λ o. unsigned_image w32 o.0) ⟦<pgv_types::Oid as Encode>⟧.hint ⟦<pgv_types::Oid as Encode>⟧.image ⟦<pgv_types::Oid as Encode>⟧.produced }
+    ensures means { ⟦<pgv_types::Oid as Decode>⟧.meaning ≡ (λ o. o.0) }
+    ensures read { ⟦<pgv_types::Oid as Decode>⟧.reading ≡ oid_reading }
+{}
+
+/// A `Uuid` is a uuid (OID 2950), its sixteen bytes. Its arrays are `uuid[]` (2951).
+pub fn uuid_is_a_uuid()
+    ensures types { IsBuiltIn 2950 ⟦<uuid::Uuid as Type>⟧.info ⟦<uuid::Uuid as Type>⟧.accepts }
+    ensures arrays { IsBuiltIn 2951 ⟦<uuid::Uuid as PgHasArrayType>⟧.array_info ⟦<uuid::Uuid as PgHasArrayType>⟧.accepts_array }
+    ensures written { IsWrittenAs uuid_image ⟦<uuid::Uuid as Encode>⟧.hint ⟦<uuid::Uuid as Encode>⟧.image ⟦<uuid::Uuid as Encode>⟧.produced }
+    ensures means { ⟦<uuid::Uuid as Decode>⟧.meaning ≡ (λ v. v) }
+    ensures read { ⟦<uuid::Uuid as Decode>⟧.reading ≡ uuid_reading }
+{}
+
+/// A `String` is a text (OID 25), its bytes in UTF-8, as `6869` for `hi`. It is read under text, name, bpchar, varchar,
+/// unknown and citext. Its arrays are `text[]` (1009), read under each array of one of these.
+pub fn string_is_a_text()
+    ensures types { ⟦<String as Type>⟧.info ≡ builtin 25 }
+    ensures accepts { (t : Ty) → ⟦<String as Type>⟧.accepts t ≡ is_text t }
+    ensures arrays { ⟦<String as PgHasArrayType>⟧.array_info ≡ builtin 1009 }
+    ensures accepts_arrays { (t : Ty) → ⟦<String as PgHasArrayType>⟧.accepts_array t ≡ is_text_array t }
+    ensures written { IsWrittenAs (λ s. text_image (string_bytes s)) ⟦<String as Encode>⟧.hint ⟦<String as Encode>⟧.image ⟦<String as Encode>⟧.produced }
+    ensures means { ⟦<String as Decode>⟧.meaning ≡ (λ s. string_bytes s) }
+    ensures read { ⟦<String as Decode>⟧.reading ≡ text_reading }
+{}
+
+/// `()` is a void (OID 2278), read under void and record. It is never written.
+pub fn unit_is_a_void()
+    ensures types { ⟦<() as Type>⟧.info ≡ builtin 2278 }
+    ensures accepts { (t : Ty) → ⟦<() as Type>⟧.accepts t ≡ is_void_or_record t }
+{}
+
+/// An `Option<T>` has the types of `T`. None is null, Some is written as its value, and null is read as None.
+pub fn option_may_be_null<T: Codec + PgHasArrayType>()
+    ensures types { ⟦<Option<T> as Type>⟧.info ≡ T.info }
+    ensures accepts { ⟦<Option<T> as Type>⟧.accepts ≡ T.accepts }
+    ensures arrays { ⟦<Option<T> as PgHasArrayType>⟧.array_info ≡ T.array_info }
+    ensures accepts_arrays { ⟦<Option<T> as PgHasArrayType>⟧.accepts_array ≡ T.accepts_array }
+    ensures written { ⟦<Option<T> as Encode>⟧.image ≡ option_image T.image }
+    ensures hint { ⟦<Option<T> as Encode>⟧.hint ≡ option_hint T.hint }
+    ensures produced { ⟦<Option<T> as Encode>⟧.produced ≡ option_produced T.produced T.info }
+    ensures means { ⟦<Option<T> as Decode>⟧.meaning ≡ option_map T.meaning }
+    ensures read { ⟦<Option<T> as Decode>⟧.reading ≡ nullable T.reading }
+{}
+
+/// A `Vec<T>` has the type of `T`'s arrays, and is written and read as an array of one dimension.
+pub fn list_is_an_array<T: Codec + PgHasArrayType>()
+    ensures types { ⟦<Vec<T> as Type>⟧.info ≡ T.array_info }
+    ensures accepts { ⟦<Vec<T> as Type>⟧.accepts ≡ T.accepts_array }
+    ensures written { IsWrittenAs (λ v. array_image T.hint T.image T.produced T.info v.items) ⟦<Vec<T> as Encode>⟧.hint ⟦<Vec<T> as Encode>⟧.image ⟦<Vec<T> as Encode>⟧.produced }
+    ensures means { ⟦<Vec<T> as Decode>⟧.meaning ≡ (λ v. map T.meaning v.items) }
+    ensures read { ⟦<Vec<T> as Decode>⟧.reading ≡ array T.info T.reading }
+{}
+
+/// A `[T; N]` has the type of `T`'s arrays, and is written and read as an array of `N` elements.
+pub fn sized_array_is_an_array<T: Codec + PgHasArrayType, const N: usize>()
+    ensures types { ⟦<[T; N] as Type>⟧.info ≡ T.array_info }
+    ensures accepts { ⟦<[T; N] as Type>⟧.accepts ≡ T.accepts_array }
+    ensures written { IsWrittenAs (sized_image N T.hint T.image T.produced T.info) ⟦<[T; N] as Encode>⟧.hint ⟦<[T; N] as Encode>⟧.image ⟦<[T; N] as Encode>⟧.produced }
+    ensures means { ⟦<[T; N] as Decode>⟧.meaning ≡ map T.meaning }
+    ensures read { ⟦<[T; N] as Decode>⟧.reading ≡ array_of_length N T.info T.reading }
+{}
+
+/// A tuple is a record (OID 2249), and its arrays are `record[]` (2287). What it reads is
+/// [`tuple_is_its_fields`](super::tuple_is_its_fields).
+pub fn tuple_is_a_record<A, B, C, D, E, F, G, H, I>()
+    ensures one { IsBuiltIn 2249 ⟦<(A,) as Type>⟧.info ⟦<(A,) as Type>⟧.accepts × IsBuiltIn 2287 ⟦<(A,) as PgHasArrayType>⟧.array_info ⟦<(A,) as PgHasArrayType>⟧.accepts_array }
+    ensures two { IsBuiltIn 2249 ⟦<(A, B) as Type>⟧.info ⟦<(A, B) as Type>⟧.accepts × IsBuiltIn 2287 ⟦<(A, B) as PgHasArrayType>⟧.array_info ⟦<(A, B) as PgHasArrayType>⟧.accepts_array }
+    ensures three { IsBuiltIn 2249 ⟦<(A, B, C) as Type>⟧.info ⟦<(A, B, C) as Type>⟧.accepts × IsBuiltIn 2287 ⟦<(A, B, C) as PgHasArrayType>⟧.array_info ⟦<(A, B, C) as PgHasArrayType>⟧.accepts_array }
+    ensures four { IsBuiltIn 2249 ⟦<(A, B, C, D) as Type>⟧.info ⟦<(A, B, C, D) as Type>⟧.accepts × IsBuiltIn 2287 ⟦<(A, B, C, D) as PgHasArrayType>⟧.array_info ⟦<(A, B, C, D) as PgHasArrayType>⟧.accepts_array }
+    ensures five { IsBuiltIn 2249 ⟦<(A, B, C, D, E) as Type>⟧.info ⟦<(A, B, C, D, E) as Type>⟧.accepts × IsBuiltIn 2287 ⟦<(A, B, C, D, E) as PgHasArrayType>⟧.array_info ⟦<(A, B, C, D, E) as PgHasArrayType>⟧.accepts_array }
+    ensures six { IsBuiltIn 2249 ⟦<(A, B, C, D, E, F) as Type>⟧.info ⟦<(A, B, C, D, E, F) as Type>⟧.accepts × IsBuiltIn 2287 ⟦<(A, B, C, D, E, F) as PgHasArrayType>⟧.array_info ⟦<(A, B, C, D, E, F) as PgHasArrayType>⟧.accepts_array }
+    ensures seven { IsBuiltIn 2249 ⟦<(A, B, C, D, E, F, G) as Type>⟧.info ⟦<(A, B, C, D, E, F, G) as Type>⟧.accepts × IsBuiltIn 2287 ⟦<(A, B, C, D, E, F, G) as PgHasArrayType>⟧.array_info ⟦<(A, B, C, D, E, F, G) as PgHasArrayType>⟧.accepts_array }
+    ensures eight { IsBuiltIn 2249 ⟦<(A, B, C, D, E, F, G, H) as Type>⟧.info ⟦<(A, B, C, D, E, F, G, H) as Type>⟧.accepts × IsBuiltIn 2287 ⟦<(A, B, C, D, E, F, G, H) as PgHasArrayType>⟧.array_info ⟦<(A, B, C, D, E, F, G, H) as PgHasArrayType>⟧.accepts_array }
+    ensures nine { IsBuiltIn 2249 ⟦<(A, B, C, D, E, F, G, H, I) as Type>⟧.info ⟦<(A, B, C, D, E, F, G, H, I) as Type>⟧.accepts × IsBuiltIn 2287 ⟦<(A, B, C, D, E, F, G, H, I) as PgHasArrayType>⟧.array_info ⟦<(A, B, C, D, E, F, G, H, I) as PgHasArrayType>⟧.accepts_array }
+{}

@@ -1,0 +1,128 @@
+//! What can be written and read, and of which type it is.
+
+ghost use Rattle.std.specs.Prelude.{◌≡◌, ℕ, Bool, true, false, List, Option, None, IfOk, IfErr, OnErr, IsErrOf};
+ghost use Rattle.pgv_types.specs.Ty.{Ty};
+ghost use Rattle.pgv_value.specs.Reading.{Answers, AnswersExactly};
+ghost use Rattle.pgv_value.specs.declared.error.CodecError.TheVariants.{UnexpectedNull};
+ghost use Rattle.pgv_value.specs.declared.value.PgValueFormat.{PgValueFormat as Format};
+ghost use Rattle.pgv_types.specs.declared.oid.Oid.{Oid};
+ghost use Rattle.pgv_codec.specs.Back.{ReadsBack};
+ghost use Rattle.pgv_codec.specs.Image.{Image};
+ghost use Rattle.pgv_codec.specs.Outcome.{Encoded, Refused, Appended};
+ghost use Rattle.pgv_codec.specs.Saying.{Saying, said};
+
+use crate::buffer::{IsNull, PgArgumentBuffer};
+use pgv_types::PgTypeInfo;
+use pgv_value::{CodecError, PgValueRef};
+use std::alloc::{AllocError, Global};
+
+/// A Rust type that stands for a type of PostgreSQL.
+pub trait Type {
+    /// The type that its values have where they say nothing else.
+    ghost info: { Ty };
+
+    /// The types under which its values are read.
+    ghost accepts: { Ty → Bool };
+
+    /// The type that its values have where they say nothing else.
+    fn type_info() -> PgTypeInfo
+        ensures { result ≡ info };
+
+    /// Whether its values are read under this type.
+    fn compatible(type_info: &PgTypeInfo) -> bool
+        ensures { result ≡ accepts type_info.now };
+}
+
+/// A Rust type of which arrays are made.
+pub trait PgHasArrayType {
+    /// The type of such an array.
+    ghost array_info: { Ty };
+
+    /// The types under which such arrays are read.
+    ghost accepts_array: { Ty → Bool };
+
+    /// The type of such an array.
+    fn array_type_info() -> PgTypeInfo
+        ensures { result ≡ array_info };
+
+    /// Whether such arrays are read under this type.
+    fn array_compatible(type_info: &PgTypeInfo) -> bool
+        ensures { result ≡ accepts_array type_info.now };
+}
+
+/// A value that can be written.
+///
+/// An encoder appends exactly the image that it states, says that the value is null, or refuses exactly where
+/// it has no image. A refused one may have appended something: whoever called it goes back.
+pub trait Encode {
+    /// What a value is written as: null, tokens, or none where it can't be written.
+    ghost image: { Self → Option Image };
+
+    /// A number of bytes that the value says to need. A frame is refused where it is above 2147483647.
+    ghost hint: { Self → ℕ } = { λ _. 0 };
+
+    /// The type of this value, where it isn't the one that its Rust type has.
+    ghost produced: { Self → Option Ty } = { λ _. None };
+
+    /// Appends the value's image. `Yes` says that it is null, and then nothing was appended.
+    fn encode_by_ref(&self, out: &mut PgArgumentBuffer) -> Result<IsNull, CodecError>
+        ensures ok { IfOk result (λ n. Encoded n (image self.now) out.old out.new) }
+        ensures err { IfErr result (λ e. Refused e (image self.now)) }
+        ensures appended { OnErr result (Appended out.old out.new) };
+
+    /// A number of bytes that the value says to need; 0 where it doesn't say.
+    fn size_hint(&self) -> usize
+        ensures { result ≡ hint self.now };
+
+    /// The type of this value, where it isn't the one that its Rust type has.
+    fn produces(&self) -> Result<Option<PgTypeInfo>, AllocError>
+        ensures { IfOk result (λ t. t ≡ produced self.now) };
+}
+
+/// A value that can be read from null or bytes.
+///
+/// A decoder answers a value exactly where the grammar that it states gives it one, and it refuses, but for want
+/// of memory (C1), exactly where the grammar gives none.
+pub trait Decode: Sized + Drop {
+    /// What a value says, without where it lies in memory.
+    ghost Meaning: { Type 0 };
+
+    /// What a value says.
+    ghost meaning: { Self → Meaning };
+
+    /// What null or bytes mean under a type and in a format, where they mean anything.
+    ghost reading: { Ty → Format → Option (List ℕ) → Option Meaning };
+
+    /// What is written of a meaning under a type, where values are written too (see [`Codec`]), and else no image.
+    ghost written: { Ty → Meaning → Saying };
+
+    /// Whether reading takes memory. Where it takes none, nothing is refused for want of it.
+    ghost takes_memory: { Bool } = { true };
+
+    /// The value that is read. Null is refused with C13, exactly where the type doesn't read null.
+    fn decode(alloc: Global, value: PgValueRef<'_>) -> Result<Self, CodecError>
+        ensures exact { Answers meaning (reading value.entry.type_info value.entry.format value.entry.bytes) result }
+        ensures exactly { takes_memory ≡ false → AnswersExactly meaning (reading value.entry.type_info value.entry.format value.entry.bytes) result }
+        ensures null { value.entry.bytes ≡ None → reading value.entry.type_info value.entry.format None ≡ None → IsErrOf result UnexpectedNull };
+}
+
+/// A value that is read back as it was written.
+///
+/// What the law says holds whatever the type of the parameter is and before a filling, when each slot is at its
+/// default, and with all OIDs in the holes. A value of a type that is made of others reads back by their laws.
+pub trait ReadBack: Encode + Decode {
+    /// The value as it comes back.
+    ghost kept: { Self → Self };
+
+    /// Whether a value comes back under a type, where these OIDs are in its holes, in order.
+    ghost fits: { Self → Ty → List Oid → Type 0 };
+
+    /// What is written of a value is read in binary as what it keeps, under each type that fits.
+    ghost reads_back: { ReadsBack Self.image Self.reading (λ v. Self.meaning (kept v)) fits };
+}
+
+/// A value that can be written and read. It is written as what it says: two values of one meaning are written alike.
+pub trait Codec: Type + Encode + Decode {
+    /// What an encoder says of a value is what is written of its meaning.
+    ghost agrees: { (v : Self) → said Self.hint Self.image Self.produced Self.info v ≡ Self.written Self.info (Self.meaning v) };
+}

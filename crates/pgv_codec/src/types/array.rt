@@ -1,0 +1,312 @@
+//! Arrays of one dimension (PostgreSQL, "Arrays").
+
+ghost use Rattle.std.specs.Prelude.{◌≡◌, ◌++◌, IfOk, IfErr, OnOk, OnErr, ◌*◌, ◌≤◌, length, map, Some, None, IfSome, IsErrOf, option_map};
+ghost use Rattle.pgv_text.specs.Values.{part_bytes};
+ghost use Rattle.pgv_buf.specs.Tokens.{blank};
+ghost use Rattle.pgv_value.specs.Reading.{Answers};
+ghost use Rattle.pgv_value.specs.declared.error.CodecError.TheVariants.{Memory, UnexpectedNull};
+ghost use Rattle.pgv_value.specs.declared.value.PgValueFormat.TheVariants.{Binary, Text};
+ghost use Rattle.pgv_nest.specs.Arrays.{array, array_in_text, array_of, each, element_type, frames, head, one_dimension};
+ghost use Rattle.pgv_nest.specs.Heads.{head_shown};
+ghost use Rattle.pgv_codec.specs.Image.{array_image, or_else, header, frames as written_frames, element_type as written_element_type};
+ghost use Rattle.pgv_codec.specs.Outcome.{Encoded, Refused, Appended, AppendedAll};
+
+use super::part::read_part;
+use crate::buffer::{IsNull, PgArgumentBuffer};
+use crate::traits::{Codec, Decode, Encode, PgHasArrayType, ReadBack, Type};
+use pgv_nest::array_head_of;
+use pgv_text::array_elements;
+use pgv_types::{Oid, PgTypeInfo, PgTypeRef};
+use pgv_value::{CodecError, PgValueFormat, PgValueRef};
+use std::alloc::{AllocError, Global};
+
+/// Appends the elements as an array of one dimension, for a caller's own encoder. C3 where there are more than
+/// 2147483647. A refused one may have appended something.
+pub fn encode_array<T: Encode + Type>(
+    values: &[T],
+    out: &mut PgArgumentBuffer,
+) -> Result<IsNull, CodecError>
+    ensures ok { IfOk result (λ n. Encoded n (array_image T.hint T.image T.produced T.info values.now) out.old out.new) }
+    ensures err { IfErr result (λ e. Refused e (array_image T.hint T.image T.produced T.info values.now)) }
+    ensures appended { OnErr result (Appended out.old out.new) }
+{
+    let count = values.len();
+    if count > 2147483647 {
+        return Err(CodecError::ArrayLength(count));
+    }
+    let element = type_of_elements(values)?;
+    out.reserve(20 + 8 * count)?;
+    write_header(out, element, count as u32)?;
+    write_frames(values, out)?;
+    Ok(IsNull::No)
+}
+
+// The type of the elements, as an array writes it.
+fn type_of_elements<T: Encode + Type>(values: &[T]) -> Result<PgTypeInfo, AllocError>
+    ensures { IfOk result (λ t. t ≡ written_element_type T.produced T.info values.now) }
+{
+    match values.first() {
+        None => Ok(T::type_info()),
+        Some(first) => type_of_value(first),
+    }
+}
+
+/// The type that a value has: what it produces, or else its Rust type's own.
+pub fn type_of_value<T: Encode + Type>(value: &T) -> Result<PgTypeInfo, AllocError>
+    ensures { IfOk result (λ t. t ≡ or_else (T.produced value.now) T.info) }
+{
+    match value.produces()? {
+        Some(produced) => Ok(produced),
+        None => Ok(T::type_info()),
+    }
+}
+
+// What stands before the elements.
+fn write_header(
+    out: &mut PgArgumentBuffer,
+    element: PgTypeInfo,
+    count: u32,
+) -> Result<(), CodecError>
+    ensures ok { OnOk result (AppendedAll (header element count) out.old out.new) }
+    ensures err { IfErr result (λ e. e ≡ Memory) }
+    ensures appended { OnErr result (Appended out.old out.new) }
+{
+    out.push_u32(1)?;
+    out.push_u32(0)?;
+    out.push_type(element)?;
+    out.push_u32(count)?;
+    out.push_u32(1)?;
+    Ok(())
+}
+
+// A frame for each element.
+fn write_frames<T: Encode>(values: &[T], out: &mut PgArgumentBuffer) -> Result<(), CodecError>
+    ensures ok { OnOk result (AppendedAll (written_frames T.hint T.image values.now) out.old out.new) }
+    ensures err { IfErr result (λ e. Refused e (written_frames T.hint T.image values.now)) }
+    ensures appended { OnErr result (Appended out.old out.new) }
+{
+    for value in values {
+        out.encode(value)?;
+    }
+    Ok(())
+}
+
+impl<T: PgHasArrayType> Type for Vec<T> {
+    ghost info = { T.array_info };
+
+    ghost accepts = { T.accepts_array };
+
+    fn type_info() -> PgTypeInfo {
+        T::array_type_info()
+    }
+
+    fn compatible(type_info: &PgTypeInfo) -> bool {
+        T::array_compatible(type_info)
+    }
+}
+
+impl<T: Encode + Type> Encode for Vec<T> {
+    ghost use Rattle.pgv_codec.specs.Image.{array_image};
+
+    ghost image = { λ v. array_image T.hint T.image T.produced T.info v.items };
+
+    fn encode_by_ref(&self, out: &mut PgArgumentBuffer) -> Result<IsNull, CodecError> {
+        encode_array(self.as_slice(), out)
+    }
+
+    fn size_hint(&self) -> usize {
+        0
+    }
+
+    fn produces(&self) -> Result<Option<PgTypeInfo>, AllocError> {
+        Ok(None)
+    }
+}
+
+impl<T: PgHasArrayType, const N: usize> Type for [T; N] {
+    ghost info = { T.array_info };
+
+    ghost accepts = { T.accepts_array };
+
+    fn type_info() -> PgTypeInfo {
+        T::array_type_info()
+    }
+
+    fn compatible(type_info: &PgTypeInfo) -> bool {
+        T::array_compatible(type_info)
+    }
+}
+
+impl<T: Encode + Type, const N: usize> Encode for [T; N] {
+    ghost use Rattle.pgv_codec.specs.Image.{sized_image};
+
+    ghost image = { sized_image N T.hint T.image T.produced T.info };
+
+    fn encode_by_ref(&self, out: &mut PgArgumentBuffer) -> Result<IsNull, CodecError> {
+        encode_array(self.as_slice(), out)
+    }
+
+    fn size_hint(&self) -> usize {
+        0
+    }
+
+    fn produces(&self) -> Result<Option<PgTypeInfo>, AllocError> {
+        Ok(None)
+    }
+}
+
+/// An array of no or one dimension, of elements that `T` reads (PostgreSQL, "Arrays"). The type of the elements is the
+/// built-in type of the OID that stands in the bytes, else the element of the value's type.
+///
+/// In text the elements are read under `T`'s own type.
+///
+/// Null is refused with C13, a text that is not UTF-8 with C14 and one outside the grammar with C29, bytes that end too
+/// early with C15, a negative number of elements or length with C16, other dimensions with C19, a lower bound other than
+/// 1 with C20, elements of an unknown type with C21, and what an element is refused with.
+impl<T: Decode + Type> Decode for Vec<T> {
+    ghost use Rattle.std.specs.Prelude.{List, map};
+    ghost use Rattle.pgv_nest.specs.Arrays.{array};
+    ghost use Rattle.pgv_codec.specs.Saying.{array_written};
+
+    ghost Meaning = { List T.Meaning };
+
+    ghost meaning = { λ v. map T.meaning v.items };
+
+    ghost reading = { array T.info T.reading };
+
+    ghost written = { array_written T.info T.written };
+
+    fn decode(alloc: Global, value: PgValueRef<'_>) -> Result<Vec<T>, CodecError>
+        ensures exact { Answers (λ v. map T.meaning v.items) (array T.info T.reading value.entry.type_info value.entry.format value.entry.bytes) result }
+        ensures null { value.entry.bytes ≡ None → IsErrOf result UnexpectedNull }
+        // In binary each element takes four bytes or more.
+        ensures few { value.entry.format ≡ Binary → IfOk result (λ v. IfSome value.entry.bytes (λ bytes. 4 * length v.items ≤ length bytes)) }
+    {
+        match value.format() {
+            PgValueFormat::Text => read_text(alloc, value.as_str()?),
+            PgValueFormat::Binary => read_array(alloc, value.type_info(), value.as_bytes()?),
+        }
+    }
+}
+
+/// An array of `N` elements, read as a list; another number of elements is refused with C22.
+impl<T: Decode + Type, const N: usize> Decode for [T; N] {
+    ghost use Rattle.std.specs.Prelude.{List, map};
+    ghost use Rattle.pgv_nest.specs.Arrays.{array_of_length};
+    ghost use Rattle.pgv_codec.specs.Saying.{sized_written};
+
+    ghost Meaning = { List T.Meaning };
+
+    ghost meaning = { map T.meaning };
+
+    ghost reading = { array_of_length N T.info T.reading };
+
+    ghost written = { sized_written N T.info T.written };
+
+    fn decode(alloc: Global, value: PgValueRef<'_>) -> Result<[T; N], CodecError> {
+        let items = Vec::<T>::decode(alloc, value)?;
+        let count = items.len();
+        match items.try_into() {
+            Ok(items) => Ok(items),
+            Err(_) => Err(CodecError::ElementCount(count)),
+        }
+    }
+}
+
+impl<T: Codec + PgHasArrayType> Codec for Vec<T> {
+    ghost use Rattle.pgv_codec.specs.Saying.{array_agrees};
+
+    ghost agrees = { λ v. array_agrees T.hint T.image T.produced T.info T.meaning T.written T.agrees T.array_info v.items };
+}
+
+impl<T: Codec + PgHasArrayType, const N: usize> Codec for [T; N] {
+    ghost use Rattle.pgv_codec.specs.Saying.{sized_agrees};
+
+    ghost agrees = { λ v. sized_agrees T.hint T.image T.produced T.info T.meaning T.written T.agrees N T.array_info v };
+}
+
+/// An array in binary.
+fn read_array<T: Decode>(
+    alloc: Global,
+    type_info: &PgTypeInfo,
+    bytes: &[u8],
+) -> Result<Vec<T>, CodecError>
+    ensures exact { Answers (λ v. map T.meaning v.items) (array_of (λ u. T.reading u Binary) type_info.now bytes.now) result }
+    ensures few { IfOk result (λ v. 4 * length v.items ≤ length bytes.now) }
+{
+    match array_head_of(type_info, bytes)? {
+        None => Ok(Vec::new(alloc)),
+        Some(head) => read_frames(alloc, &head.element, head.count, head.frames),
+    }
+}
+
+/// So many frames. Room is asked for as many elements as the bytes can hold at most, whatever the count says.
+fn read_frames<T: Decode>(
+    alloc: Global,
+    element: &PgTypeInfo,
+    count: u32,
+    bytes: &[u8],
+) -> Result<Vec<T>, CodecError>
+    ensures exact { Answers (λ v. map T.meaning v.items) (frames (T.reading element.now Binary) count bytes.now) result }
+    ensures few { IfOk result (λ v. 4 * length v.items ≤ length bytes.now) }
+{
+    let room = (count as usize).min(bytes.len() / 4);
+    let mut items = Vec::with_capacity(alloc, room)?;
+    let mut rest = bytes;
+    for _ in 0..count {
+        let part = PgValueRef::get(&mut rest, PgValueFormat::Binary, element.clone()?)?;
+        items.push(T::decode(alloc, part)?)?;
+    }
+    Ok(items)
+}
+
+/// An array in text.
+fn read_text<T: Decode + Type>(alloc: Global, text: &str) -> Result<Vec<T>, CodecError>
+    ensures { Answers (λ v. map T.meaning v.items) (array_in_text (T.reading T.info Text) text.now) result }
+{
+    match array_elements(alloc, text)? {
+        None => Err(CodecError::Syntax),
+        Some(parts) => read_parts(alloc, parts.as_slice()),
+    }
+}
+
+/// Texts, each read under the own type of `T`.
+fn read_parts<T: Decode + Type>(
+    alloc: Global,
+    parts: &[Option<String>],
+) -> Result<Vec<T>, CodecError>
+    ensures { Answers (λ v. map T.meaning v.items) (each (T.reading T.info Text) (map part_bytes parts.now)) result }
+{
+    let mut items = Vec::with_capacity(alloc, parts.len())?;
+    for part in parts {
+        items.push(read_part(alloc, T::type_info(), part)?)?;
+    }
+    Ok(items)
+}
+
+/// A list comes back where each element does, under the type that is found by the OID that was written.
+impl<T: ReadBack + Type> ReadBack for Vec<T> {
+    ghost use Rattle.std.specs.Prelude.{map};
+    ghost use Rattle.std.specs.Vec.{with_items};
+    ghost use Rattle.pgv_codec.specs.Back.{ArrayFits};
+    ghost use Rattle.pgv_codec.specs.BackNests.{vec_back};
+
+    ghost kept = { λ v. with_items v (map T.kept v.items) };
+
+    ghost fits = { λ v t os. ArrayFits T.info T.produced T.image T.fits v.items t os };
+
+    ghost reads_back = { vec_back T.info T.produced T.hint T.image T.reading T.meaning T.kept T.fits T.reads_back };
+}
+
+/// An array comes back as a list of its elements does.
+impl<T: ReadBack + Type, const N: usize> ReadBack for [T; N] {
+    ghost use Rattle.std.specs.Prelude.{map};
+    ghost use Rattle.pgv_codec.specs.Back.{ArrayFits};
+    ghost use Rattle.pgv_codec.specs.BackNests.{sized_back};
+
+    ghost kept = { map T.kept };
+
+    ghost fits = { ArrayFits T.info T.produced T.image T.fits };
+
+    ghost reads_back = { sized_back T.info T.produced T.hint T.image T.reading T.meaning T.kept T.fits T.reads_back N };
+}

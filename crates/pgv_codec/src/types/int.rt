@@ -1,0 +1,328 @@
+//! Integers (PostgreSQL, "Numeric Types"; the type "char" of "Character Types" for one byte): in two's
+//! complement, the highest byte first.
+
+ghost use Rattle.pgv_types.specs.Relations.{softly};
+ghost use Rattle.pgv_types.specs.Ty.{builtin};
+ghost use Rattle.std.specs.Int.{w8, w16, w32, w64};
+ghost use Rattle.pgv_codec.specs.Scalars.{signed_image};
+ghost use Rattle.std.specs.Prelude.{ℤ, false, refl};
+ghost use Rattle.pgv_value.specs.Scalars.{char_reading, int_reading};
+ghost use Rattle.pgv_codec.specs.Saying.{plainly};
+
+use crate::buffer::{IsNull, PgArgumentBuffer};
+use crate::traits::{Codec, Decode, Encode, PgHasArrayType, ReadBack, Type};
+use pgv_types::{PgType, PgTypeInfo};
+use pgv_value::{CodecError, PgValueRef, read_i8, read_i16, read_i32, read_i64};
+use std::alloc::{AllocError, Global};
+
+impl Type for i8 {
+    ghost info = { builtin 18 };
+
+    ghost accepts = { λ t. softly t (builtin 18) };
+
+    fn type_info() -> PgTypeInfo {
+        PgTypeInfo(PgType::Char)
+    }
+
+    fn compatible(type_info: &PgTypeInfo) -> bool {
+        type_info.type_compatible(&Self::type_info())
+    }
+}
+
+impl PgHasArrayType for i8 {
+    ghost array_info = { builtin 1002 };
+
+    ghost accepts_array = { λ t. softly t (builtin 1002) };
+
+    fn array_type_info() -> PgTypeInfo {
+        PgTypeInfo(PgType::CharArray)
+    }
+
+    fn array_compatible(type_info: &PgTypeInfo) -> bool {
+        type_info.type_compatible(&Self::array_type_info())
+    }
+}
+
+impl Encode for i8 {
+    ghost image = { signed_image w8 };
+
+    fn encode_by_ref(&self, out: &mut PgArgumentBuffer) -> Result<IsNull, CodecError> {
+        let number = self.to_be_bytes();
+        out.extend_from_slice(&number)?;
+        Ok(IsNull::No)
+    }
+
+    fn size_hint(&self) -> usize {
+        0
+    }
+
+    fn produces(&self) -> Result<Option<PgTypeInfo>, AllocError> {
+        Ok(None)
+    }
+}
+
+/// A `"char"` as a number (PostgreSQL, "Character Types"), as [`read_i8`] reads it.
+impl Decode for i8 {
+    ghost Meaning = { ℤ };
+
+    ghost meaning = { λ number. number };
+
+    ghost reading = { char_reading };
+
+    ghost written = { plainly (signed_image w8) };
+
+    ghost takes_memory = { false };
+
+    fn decode(_alloc: Global, value: PgValueRef<'_>) -> Result<i8, CodecError> {
+        read_i8(&value)
+    }
+}
+
+impl ReadBack for i8 {
+    ghost use Rattle.pgv_codec.specs.Back.{always};
+    ghost use Rattle.pgv_codec.specs.BackScalars.{char_back};
+
+    ghost kept = { λ v. v };
+
+    ghost fits = { always };
+
+    ghost reads_back = { char_back };
+}
+
+impl Codec for i8 {
+    ghost agrees = { λ _. refl };
+}
+
+impl Type for i16 {
+    ghost info = { builtin 21 };
+
+    ghost accepts = { λ t. softly t (builtin 21) };
+
+    fn type_info() -> PgTypeInfo {
+        PgTypeInfo(PgType::Int2)
+    }
+
+    fn compatible(type_info: &PgTypeInfo) -> bool {
+        type_info.type_compatible(&Self::type_info())
+    }
+}
+
+impl PgHasArrayType for i16 {
+    ghost array_info = { builtin 1005 };
+
+    ghost accepts_array = { λ t. softly t (builtin 1005) };
+
+    fn array_type_info() -> PgTypeInfo {
+        PgTypeInfo(PgType::Int2Array)
+    }
+
+    fn array_compatible(type_info: &PgTypeInfo) -> bool {
+        type_info.type_compatible(&Self::array_type_info())
+    }
+}
+
+impl Encode for i16 {
+    ghost image = { signed_image w16 };
+
+    fn encode_by_ref(&self, out: &mut PgArgumentBuffer) -> Result<IsNull, CodecError> {
+        let number = self.to_be_bytes();
+        out.extend_from_slice(&number)?;
+        Ok(IsNull::No)
+    }
+
+    fn size_hint(&self) -> usize {
+        0
+    }
+
+    fn produces(&self) -> Result<Option<PgTypeInfo>, AllocError> {
+        Ok(None)
+    }
+}
+
+/// An `int2` (PostgreSQL, "Integer Types"), as [`read_i16`] reads it.
+impl Decode for i16 {
+    ghost Meaning = { ℤ };
+
+    ghost meaning = { λ number. number };
+
+    ghost reading = { int_reading w16 };
+
+    ghost written = { plainly (signed_image w16) };
+
+    ghost takes_memory = { false };
+
+    fn decode(_alloc: Global, value: PgValueRef<'_>) -> Result<i16, CodecError> {
+        read_i16(&value)
+    }
+}
+
+impl ReadBack for i16 {
+    ghost use Rattle.pgv_codec.specs.Back.{always};
+    ghost use Rattle.pgv_codec.specs.BackScalars.{int2_back};
+
+    ghost kept = { λ v. v };
+
+    ghost fits = { always };
+
+    ghost reads_back = { int2_back };
+}
+
+impl Codec for i16 {
+    ghost agrees = { λ _. refl };
+}
+
+impl Type for i32 {
+    ghost info = { builtin 23 };
+
+    ghost accepts = { λ t. softly t (builtin 23) };
+
+    fn type_info() -> PgTypeInfo {
+        PgTypeInfo(PgType::Int4)
+    }
+
+    fn compatible(type_info: &PgTypeInfo) -> bool {
+        type_info.type_compatible(&Self::type_info())
+    }
+}
+
+impl PgHasArrayType for i32 {
+    ghost array_info = { builtin 1007 };
+
+    ghost accepts_array = { λ t. softly t (builtin 1007) };
+
+    fn array_type_info() -> PgTypeInfo {
+        PgTypeInfo(PgType::Int4Array)
+    }
+
+    fn array_compatible(type_info: &PgTypeInfo) -> bool {
+        type_info.type_compatible(&Self::array_type_info())
+    }
+}
+
+impl Encode for i32 {
+    ghost image = { signed_image w32 };
+
+    fn encode_by_ref(&self, out: &mut PgArgumentBuffer) -> Result<IsNull, CodecError> {
+        let number = self.to_be_bytes();
+        out.extend_from_slice(&number)?;
+        Ok(IsNull::No)
+    }
+
+    fn size_hint(&self) -> usize {
+        0
+    }
+
+    fn produces(&self) -> Result<Option<PgTypeInfo>, AllocError> {
+        Ok(None)
+    }
+}
+
+/// An `int4` (PostgreSQL, "Integer Types"), as [`read_i32`] reads it.
+impl Decode for i32 {
+    ghost Meaning = { ℤ };
+
+    ghost meaning = { λ number. number };
+
+    ghost reading = { int_reading w32 };
+
+    ghost written = { plainly (signed_image w32) };
+
+    ghost takes_memory = { false };
+
+    fn decode(_alloc: Global, value: PgValueRef<'_>) -> Result<i32, CodecError> {
+        read_i32(&value)
+    }
+}
+
+impl ReadBack for i32 {
+    ghost use Rattle.pgv_codec.specs.Back.{always};
+    ghost use Rattle.pgv_codec.specs.BackScalars.{int4_back};
+
+    ghost kept = { λ v. v };
+
+    ghost fits = { always };
+
+    ghost reads_back = { int4_back };
+}
+
+impl Codec for i32 {
+    ghost agrees = { λ _. refl };
+}
+
+impl Type for i64 {
+    ghost info = { builtin 20 };
+
+    ghost accepts = { λ t. softly t (builtin 20) };
+
+    fn type_info() -> PgTypeInfo {
+        PgTypeInfo(PgType::Int8)
+    }
+
+    fn compatible(type_info: &PgTypeInfo) -> bool {
+        type_info.type_compatible(&Self::type_info())
+    }
+}
+
+impl PgHasArrayType for i64 {
+    ghost array_info = { builtin 1016 };
+
+    ghost accepts_array = { λ t. softly t (builtin 1016) };
+
+    fn array_type_info() -> PgTypeInfo {
+        PgTypeInfo(PgType::Int8Array)
+    }
+
+    fn array_compatible(type_info: &PgTypeInfo) -> bool {
+        type_info.type_compatible(&Self::array_type_info())
+    }
+}
+
+impl Encode for i64 {
+    ghost image = { signed_image w64 };
+
+    fn encode_by_ref(&self, out: &mut PgArgumentBuffer) -> Result<IsNull, CodecError> {
+        let number = self.to_be_bytes();
+        out.extend_from_slice(&number)?;
+        Ok(IsNull::No)
+    }
+
+    fn size_hint(&self) -> usize {
+        0
+    }
+
+    fn produces(&self) -> Result<Option<PgTypeInfo>, AllocError> {
+        Ok(None)
+    }
+}
+
+/// An `int8` (PostgreSQL, "Integer Types"), as [`read_i64`] reads it.
+impl Decode for i64 {
+    ghost Meaning = { ℤ };
+
+    ghost meaning = { λ number. number };
+
+    ghost reading = { int_reading w64 };
+
+    ghost written = { plainly (signed_image w64) };
+
+    ghost takes_memory = { false };
+
+    fn decode(_alloc: Global, value: PgValueRef<'_>) -> Result<i64, CodecError> {
+        read_i64(&value)
+    }
+}
+
+impl ReadBack for i64 {
+    ghost use Rattle.pgv_codec.specs.Back.{always};
+    ghost use Rattle.pgv_codec.specs.BackScalars.{int8_back};
+
+    ghost kept = { λ v. v };
+
+    ghost fits = { always };
+
+    ghost reads_back = { int8_back };
+}
+
+impl Codec for i64 {
+    ghost agrees = { λ _. refl };
+}

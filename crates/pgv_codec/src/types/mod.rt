@@ -1,0 +1,14 @@
+//! The codecs of values: of std's types and of other crates', and what is made of other types.
+
+pub mod array;
+pub mod bool;
+pub mod int;
+pub mod oid;
+pub mod option;
+mod part;
+pub mod record;
+pub mod reference;
+pub mod str;
+pub mod tuple;
+pub mod uuids;
+pub mod void;

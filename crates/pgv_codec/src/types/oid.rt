@@ -1,0 +1,93 @@
+//! Object identifiers (PostgreSQL, "Object Identifier Types"): unsigned, four bytes, the highest first.
+
+ghost use Rattle.pgv_types.specs.Relations.{softly};
+ghost use Rattle.pgv_types.specs.Ty.{builtin};
+ghost use Rattle.std.specs.Int.{w32};
+ghost use Rattle.pgv_codec.specs.Scalars.{unsigned_image};
+ghost use Rattle.std.specs.Prelude.{ℕ, false, refl};
+ghost use Rattle.pgv_value.specs.Scalars.{oid_reading};
+ghost use Rattle.pgv_codec.specs.Saying.{plainly};
+
+use crate::buffer::{IsNull, PgArgumentBuffer};
+use crate::traits::{Codec, Decode, Encode, PgHasArrayType, ReadBack, Type};
+use pgv_types::{Oid, PgType, PgTypeInfo};
+use pgv_value::{CodecError, PgValueRef, read_oid};
+use std::alloc::{AllocError, Global};
+
+impl Type for Oid {
+    ghost info = { builtin 26 };
+
+    ghost accepts = { λ t. softly t (builtin 26) };
+
+    fn type_info() -> PgTypeInfo {
+        PgTypeInfo(PgType::Oid)
+    }
+
+    fn compatible(type_info: &PgTypeInfo) -> bool {
+        type_info.type_compatible(&Self::type_info())
+    }
+}
+
+impl PgHasArrayType for Oid {
+    ghost array_info = { builtin 1028 };
+
+    ghost accepts_array = { λ t. softly t (builtin 1028) };
+
+    fn array_type_info() -> PgTypeInfo {
+        PgTypeInfo(PgType::OidArray)
+    }
+
+    fn array_compatible(type_info: &PgTypeInfo) -> bool {
+        type_info.type_compatible(&Self::array_type_info())
+    }
+}
+
+impl Encode for Oid {
+    ghost image = { λ o. unsigned_image w32 o.0 };
+
+    fn encode_by_ref(&self, out: &mut PgArgumentBuffer) -> Result<IsNull, CodecError> {
+        let number = self.0.to_be_bytes();
+        out.extend_from_slice(&number)?;
+        Ok(IsNull::No)
+    }
+
+    fn size_hint(&self) -> usize {
+        0
+    }
+
+    fn produces(&self) -> Result<Option<PgTypeInfo>, AllocError> {
+        Ok(None)
+    }
+}
+
+/// An object identifier (PostgreSQL, "Object Identifier Types"), as [`read_oid`] reads it.
+impl Decode for Oid {
+    ghost Meaning = { ℕ };
+
+    ghost meaning = { λ oid. oid.0 };
+
+    ghost reading = { oid_reading };
+
+    ghost written = { plainly (unsigned_image w32) };
+
+    ghost takes_memory = { false };
+
+    fn decode(_alloc: Global, value: PgValueRef<'_>) -> Result<Oid, CodecError> {
+        read_oid(&value)
+    }
+}
+
+impl ReadBack for Oid {
+    ghost use Rattle.pgv_codec.specs.Back.{always};
+    ghost use Rattle.pgv_codec.specs.BackScalars.{oid_back};
+
+    ghost kept = { λ v. v };
+
+    ghost fits = { always };
+
+    ghost reads_back = { oid_back };
+}
+
+impl Codec for Oid {
+    ghost agrees = { λ _. refl };
+}

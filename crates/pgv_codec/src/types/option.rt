@@ -1,0 +1,108 @@
+//! Values that may be null.
+
+use crate::buffer::{IsNull, PgArgumentBuffer};
+use crate::traits::{Codec, Decode, Encode, PgHasArrayType, ReadBack, Type};
+use pgv_types::PgTypeInfo;
+use pgv_value::{CodecError, PgValueRef};
+use std::alloc::{AllocError, Global};
+
+impl<T: Type> Type for Option<T> {
+    ghost info = { T.info };
+
+    ghost accepts = { T.accepts };
+
+    fn type_info() -> PgTypeInfo {
+        T::type_info()
+    }
+
+    fn compatible(type_info: &PgTypeInfo) -> bool {
+        T::compatible(type_info)
+    }
+}
+
+impl<T: PgHasArrayType> PgHasArrayType for Option<T> {
+    ghost array_info = { T.array_info };
+
+    ghost accepts_array = { T.accepts_array };
+
+    fn array_type_info() -> PgTypeInfo {
+        T::array_type_info()
+    }
+
+    fn array_compatible(type_info: &PgTypeInfo) -> bool {
+        T::array_compatible(type_info)
+    }
+}
+
+impl<T: Encode + Type> Encode for Option<T> {
+    ghost use Rattle.pgv_codec.specs.Image.{option_image, option_hint, option_produced};
+
+    ghost image = { option_image T.image };
+
+    ghost hint = { option_hint T.hint };
+
+    ghost produced = { option_produced T.produced T.info };
+
+    fn encode_by_ref(&self, out: &mut PgArgumentBuffer) -> Result<IsNull, CodecError> {
+        match self {
+            None => Ok(IsNull::Yes),
+            Some(value) => value.encode_by_ref(out),
+        }
+    }
+
+    fn size_hint(&self) -> usize {
+        match self {
+            None => 0,
+            Some(value) => value.size_hint(),
+        }
+    }
+
+    fn produces(&self) -> Result<Option<PgTypeInfo>, AllocError> {
+        match self {
+            None => Ok(Some(T::type_info())),
+            Some(value) => value.produces(),
+        }
+    }
+}
+
+/// Null is read as `None`, and anything else as `Some` of what the type reads.
+impl<T: Decode> Decode for Option<T> {
+    ghost use Rattle.std.specs.Prelude.{Option, option_map};
+    ghost use Rattle.pgv_codec.specs.Nullable.{nullable};
+    ghost use Rattle.pgv_codec.specs.Saying.{option_written};
+
+    ghost Meaning = { Option T.Meaning };
+
+    ghost meaning = { option_map T.meaning };
+
+    ghost reading = { nullable T.reading };
+
+    ghost written = { option_written T.written };
+
+    ghost takes_memory = { T.takes_memory };
+
+    fn decode(alloc: Global, value: PgValueRef<'_>) -> Result<Option<T>, CodecError> {
+        if value.is_null() {
+            return Ok(None);
+        }
+        Ok(Some(T::decode(alloc, value)?))
+    }
+}
+
+/// `None` comes back, and so does `Some` where its value does; but a value that is written as null comes back as `None`.
+impl<T: ReadBack + Type> ReadBack for Option<T> {
+    ghost use Rattle.pgv_codec.specs.Back.{option_kept, option_fits};
+    ghost use Rattle.pgv_codec.specs.BackNests.{option_back};
+
+    ghost kept = { option_kept T.image T.kept };
+
+    ghost fits = { option_fits T.fits };
+
+    ghost reads_back = { option_back T.image T.reading T.meaning T.kept T.fits T.reads_back };
+}
+
+impl<T: Codec> Codec for Option<T> {
+    ghost use Rattle.std.specs.Prelude.{Some, None, refl};
+
+    ghost agrees = { elim [ None ↦ refl | Some v ↦ T.agrees v ] };
+}

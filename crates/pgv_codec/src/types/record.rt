@@ -1,0 +1,233 @@
+//! Records: composite types, field by field.
+
+ghost use Rattle.std.specs.Prelude.{IfErr, OnOk, OnErr, ◌≡◌, ◌+◌, ◌<◌, length, slice_get, Some, None, IfOk, IsErrOf, option_map};
+ghost use Rattle.pgv_types.specs.Facts.{oid_of};
+ghost use Rattle.pgv_text.specs.Values.{record_values, values_of};
+ghost use Rattle.pgv_value.specs.Reading.{Answers};
+ghost use Rattle.pgv_value.specs.declared.error.CodecError.TheVariants.{UnexpectedNull};
+ghost use Rattle.pgv_codec.specs.Image.{field};
+ghost use Rattle.pgv_codec.specs.Left.{left_of, IsInPlace};
+ghost use Rattle.pgv_codec.specs.Outcome.{Refused, Appended, AppendedAll};
+ghost use Rattle.pgv_codec.specs.Record.{IsOpen};
+ghost use Rattle.pgv_nest.specs.Records.{by_own_oid, field_head, field_in, field_type, fields_of, if_oid, is_oid, next, Takes};
+
+use super::part::read_part;
+use crate::buffer::PgArgumentBuffer;
+use crate::traits::{Decode, Encode, Type};
+use crate::types::array::type_of_value;
+use pgv_buf::Mark;
+use pgv_nest::{field_head_of, u32_in_front};
+use pgv_text::record_fields;
+use pgv_types::{Oid, PgType, PgTypeInfo, PgTypeKindRef};
+use pgv_value::{CodecError, PgValueFormat, PgValueRef};
+use std::alloc::Global;
+use std::marker::Model;
+use std::rc::RcStr;
+
+/// Writes a record field by field, at the end of a buffer.
+#[derive(Drop)]
+pub struct PgRecordEncoder<'a> {
+    out: &'a mut PgArgumentBuffer,
+    mark: Mark,
+    count: u32,
+    ghost open: { IsOpen mark count out.now },
+}
+
+impl<'a> PgRecordEncoder<'a> {
+    ghost use Rattle.std.specs.Prelude.{◌≡◌, OnOk, OnErr, IfOk, IfErr};
+    ghost use Rattle.std.specs.Borrow.{sem, RestsIfErr};
+    ghost use Rattle.pgv_value.specs.declared.error.CodecError.TheVariants.{Memory};
+    ghost use Rattle.pgv_codec.specs.contracts.buffer.PgArgumentBuffer.{the_row};
+    ghost use Rattle.pgv_codec.specs.Image.{field, field_at};
+    ghost use Rattle.pgv_codec.specs.Outcome.{Refused};
+    ghost use Rattle.pgv_codec.specs.Record.{begun, so_far, AddsField};
+    ghost use Rattle.pgv_codec.specs.Written.{written};
+
+    /// Begins a record behind what the buffer has. C1 leaves the buffer as it was.
+    pub fn new(out: &'a mut PgArgumentBuffer) -> Result<PgRecordEncoder<'a>, CodecError>
+        ensures same_reference { IfOk result (λ e. e.out.ghost_name ≡ out.entry.ghost_name) }
+        ensures begun { IfOk result (λ e. written e ≡ begun out.old) }
+        ensures so_far { IfOk result (λ e. e.out.now ≡ so_far (written e)) }
+        ensures err { IfErr result (λ e. e ≡ Memory) }
+        ensures* refused { sem 𝓛 (RestsIfErr the_row out.entry (λ e. e.out.ghost_name) result (λ n. n ≡ out.old)) }
+    {
+        let mark = out.mark();
+        out.push_u32(0)?;
+        Ok(PgRecordEncoder {
+            out,
+            mark,
+            count: 0,
+        })
+    }
+
+    /// Writes a field: its type and its frame. A refused one is taken back; C12 behind 4294967295 fields.
+    pub fn encode<T: Encode + Type + Drop>(&mut self, value: T) -> Result<(), CodecError>
+        ensures same_reference { self.new.out.ghost_name ≡ self.old.out.ghost_name }
+        ensures ok { OnOk result (AddsField (field_at (written self.old).count (field T.hint T.image T.produced T.info value)) (written self.old) (written self.new)) }
+        ensures err { IfErr result (λ e. Refused e (field_at (written self.old).count (field T.hint T.image T.produced T.info value))) }
+        ensures unchanged { OnErr result (written self.new ≡ written self.old) }
+        ensures so_far { self.new.out.now ≡ so_far (written self.new) }
+    {
+        if self.count == 4294967295 {
+            return Err(CodecError::FieldCount);
+        }
+        let mark = self.out.mark();
+        if let Err(error) = encode_field(self.out, &value) {
+            self.out.back(mark);
+            return Err(error);
+        }
+        self.count += 1;
+        self.out.put_u32(self.mark, self.count);
+        Ok(())
+    }
+
+    /// Ends the record. Each accepted field has put the count in its place already.
+    pub fn finish(self)
+        ensures { self.exit.0.now ≡ so_far (written self.entry) }
+    {
+        let PgRecordEncoder {
+            out: _,
+            mark: _,
+            count: _,
+        } = self;
+    }
+}
+
+// One field: its type, and its frame.
+fn encode_field<T: Encode + Type>(out: &mut PgArgumentBuffer, value: &T) -> Result<(), CodecError>
+    ensures ok { OnOk result (AppendedAll (field T.hint T.image T.produced T.info value.now) out.old out.new) }
+    ensures err { IfErr result (λ e. Refused e (field T.hint T.image T.produced T.info value.now)) }
+    ensures appended { OnErr result (Appended out.old out.new) }
+{
+    let field_type = type_of_value(value)?;
+    out.push_type(field_type)?;
+    out.encode(value)?;
+    Ok(())
+}
+
+/// The fields of a record that are left, read one behind the other (PostgreSQL, "Composite Types").
+#[derive(Drop)]
+pub struct PgRecordDecoder<'r> {
+    alloc: Global,
+    left: FieldsLeft<'r>,
+}
+
+impl<'r> Model for PgRecordDecoder<'r> {
+    ghost use Rattle.pgv_nest.specs.Records.{Left, left_code};
+
+    ghost Value = { Left };
+
+    ghost coded = { left_code };
+
+    ghost use Rattle.pgv_codec.specs.Left.{left_of, IsInPlace};
+
+    ghost view = { λ d. left_of d.left };
+
+    ghost invariant = { λ d. IsInPlace d.left };
+}
+
+/// The fields that are left, by the record's format.
+#[derive(Drop)]
+enum FieldsLeft<'r> {
+    Binary(BinaryFields<'r>),
+    Text(TextFields),
+}
+
+/// The record's type, the place of the next field, and the bytes from it on.
+#[derive(Drop)]
+struct BinaryFields<'r> {
+    type_info: PgTypeInfo,
+    place: usize,
+    rest: &'r [u8],
+}
+
+/// The texts of all fields, and the place of the next.
+#[derive(Drop)]
+struct TextFields {
+    parts: Vec<Option<String>>,
+    place: usize,
+}
+
+impl<'r> PgRecordDecoder<'r> {
+    /// The fields of a record. In binary the number of fields is passed over (C15 where it isn't there); a text is
+    /// read whole (C14 where it is not UTF-8, C29 where it is no record text). Null is refused with C13.
+    pub fn new(alloc: Global, value: PgValueRef<'r>) -> Result<Self, CodecError>
+        ensures exact { Answers (λ d. d) (fields_of value.entry.type_info value.entry.format value.entry.bytes) result }
+        ensures null { value.entry.bytes ≡ None → IsErrOf result UnexpectedNull }
+    {
+        let left = match value.format() {
+            PgValueFormat::Text => FieldsLeft::Text(text_fields_of(alloc, value.as_str()?)?),
+            PgValueFormat::Binary => {
+                let (_count, rest) = u32_in_front(value.as_bytes()?)?;
+                FieldsLeft::Binary(BinaryFields {
+                    type_info: value.into_type_info(),
+                    place: 0,
+                    rest,
+                })
+            }
+        };
+        Ok(PgRecordDecoder { alloc, left })
+    }
+
+    /// The next field. Where it is refused the decoder is as before.
+    ///
+    /// In binary: without a byte left, or without a field at this place of a composite type, it is C25, bytes that
+    /// end too early are C15, a field of another OID than that of the composite's field C26, an OID that is no
+    /// built-in type's under `record` C28, a type that is no record C24, and a field's type that isn't compatible
+    /// with `T` C27. In text a field is read without a type, and without a field left it is C25.
+    pub fn try_decode<T: Type + Decode>(&mut self) -> Result<T, CodecError>
+        ensures { Takes T.meaning self.old self.new (next T.accepts T.reading self.old) result }
+    {
+        match &mut self.left {
+            FieldsLeft::Binary(fields) => {
+                let (value, rest) = read_field::<T>(
+                    self.alloc,
+                    &fields.type_info,
+                    fields.place,
+                    fields.rest,
+                )?;
+                fields.rest = rest;
+                fields.place += 1;
+                Ok(value)
+            }
+            FieldsLeft::Text(fields) => {
+                let Some(part) = fields.parts.get(fields.place) else {
+                    return Err(CodecError::NoField(fields.place));
+                };
+                let value = read_part::<T>(self.alloc, PgTypeInfo::with_oid(Oid(0)), part)?;
+                fields.place += 1;
+                Ok(value)
+            }
+        }
+    }
+}
+
+/// The fields of a record text.
+fn text_fields_of(alloc: Global, text: &str) -> Result<TextFields, CodecError>
+    ensures exact { Answers (λ fields. values_of fields.parts) (record_values text.now) result }
+    ensures first { IfOk result (λ fields. fields.place ≡ 0) }
+{
+    match record_fields(alloc, text)? {
+        None => Err(CodecError::Syntax),
+        Some(parts) => Ok(TextFields { parts, place: 0 }),
+    }
+}
+
+/// The next field in binary, and the bytes behind it.
+fn read_field<'r, T: Type + Decode>(
+    alloc: Global,
+    type_info: &PgTypeInfo,
+    place: usize,
+    bytes: &'r [u8],
+) -> Result<(T, &'r [u8]), CodecError>
+    ensures exact { Answers (λ x. (T.meaning x.0, x.1.now)) (field_in T.accepts T.reading type_info.now place bytes.now) result }
+    ensures shorter { IfOk result (λ x. length x.1.now < length bytes.now) }
+{
+    let (type_info, mut rest) = field_head_of(type_info, place, bytes)?;
+    if !T::compatible(&type_info) {
+        return Err(CodecError::MismatchedTypes);
+    }
+    let part = PgValueRef::get(&mut rest, PgValueFormat::Binary, type_info)?;
+    let value = T::decode(alloc, part)?;
+    Ok((value, rest))
+}

@@ -1,0 +1,135 @@
+//! Texts (PostgreSQL, "Character Types"): their bytes in UTF-8.
+
+ghost use Rattle.std.specs.Prelude.{◌≡◌, IfOk, IfErr, OnErr};
+ghost use Rattle.pgv_codec.specs.Outcome.{Encoded, Refused, Appended};
+ghost use Rattle.pgv_codec.specs.Scalars.{text_image, is_text as is_text_type, is_text_array as is_text_array_type};
+
+use crate::buffer::{IsNull, PgArgumentBuffer};
+use crate::traits::{Codec, Decode, Encode, PgHasArrayType, ReadBack, Type};
+use pgv_types::{PgType, PgTypeInfo, PgTypeKindRef};
+use pgv_value::{CodecError, PgValueRef};
+use std::alloc::{AllocError, Global};
+
+/// Appends a text, for a caller's own encoder, as the encoder of `String` does. C1 leaves the buffer as it was.
+pub fn encode_text(text: &str, out: &mut PgArgumentBuffer) -> Result<IsNull, CodecError>
+    ensures ok { IfOk result (λ n. Encoded n (text_image text.now) out.old out.new) }
+    ensures err { IfErr result (λ e. Refused e (text_image text.now)) }
+    ensures appended { OnErr result (Appended out.old out.new) }
+{
+    out.extend_from_slice(text.as_bytes())?;
+    Ok(IsNull::No)
+}
+
+// Whether values of this type are read as texts.
+fn is_text(type_info: &PgTypeInfo) -> bool
+    ensures { result ≡ is_text_type type_info.now }
+{
+    type_info.type_compatible(&PgTypeInfo(PgType::Text))
+        || type_info.type_compatible(&PgTypeInfo(PgType::Name))
+        || type_info.type_compatible(&PgTypeInfo(PgType::Bpchar))
+        || type_info.type_compatible(&PgTypeInfo(PgType::Varchar))
+        || type_info.type_compatible(&PgTypeInfo(PgType::Unknown))
+        || type_info.type_compatible(&PgTypeInfo::with_name("citext"))
+}
+
+// Whether it is an array of such a type.
+fn is_text_array(type_info: &PgTypeInfo) -> bool
+    ensures { result ≡ is_text_array_type type_info.now }
+{
+    match type_info.kind() {
+        Some(PgTypeKindRef::Array(element)) => is_text(element.as_ref()),
+        _ => false,
+    }
+}
+
+impl Type for String {
+    ghost use Rattle.pgv_types.specs.Ty.{builtin};
+    ghost use Rattle.pgv_codec.specs.Scalars.{is_text};
+
+    ghost info = { builtin 25 };
+
+    ghost accepts = { is_text };
+
+    fn type_info() -> PgTypeInfo {
+        PgTypeInfo(PgType::Text)
+    }
+
+    fn compatible(type_info: &PgTypeInfo) -> bool {
+        is_text(type_info)
+    }
+}
+
+impl PgHasArrayType for String {
+    ghost use Rattle.pgv_types.specs.Ty.{builtin};
+    ghost use Rattle.pgv_codec.specs.Scalars.{is_text_array};
+
+    ghost array_info = { builtin 1009 };
+
+    ghost accepts_array = { is_text_array };
+
+    fn array_type_info() -> PgTypeInfo {
+        PgTypeInfo(PgType::TextArray)
+    }
+
+    fn array_compatible(type_info: &PgTypeInfo) -> bool {
+        is_text_array(type_info)
+    }
+}
+
+impl Encode for String {
+    ghost use Rattle.std.specs.Prelude.{string_bytes};
+    ghost use Rattle.pgv_codec.specs.Scalars.{text_image};
+
+    ghost image = { λ s. text_image (string_bytes s) };
+
+    fn encode_by_ref(&self, out: &mut PgArgumentBuffer) -> Result<IsNull, CodecError> {
+        encode_text(self.as_str(), out)
+    }
+
+    fn size_hint(&self) -> usize {
+        0
+    }
+
+    fn produces(&self) -> Result<Option<PgTypeInfo>, AllocError> {
+        Ok(None)
+    }
+}
+
+/// A text (PostgreSQL, "Character Types"), the same in either format: bytes that are UTF-8, else C14. Null is refused
+/// with C13.
+impl Decode for String {
+    ghost use Rattle.std.specs.Prelude.{ℕ, List};
+    ghost use Rattle.std.specs.String.{string_bytes};
+    ghost use Rattle.pgv_value.specs.Scalars.{text_reading};
+    ghost use Rattle.pgv_codec.specs.Saying.{plainly};
+    ghost use Rattle.pgv_codec.specs.Scalars.{text_image};
+
+    ghost Meaning = { List ℕ };
+
+    ghost meaning = { λ text. string_bytes text };
+
+    ghost reading = { text_reading };
+
+    ghost written = { plainly text_image };
+
+    fn decode(alloc: Global, value: PgValueRef<'_>) -> Result<String, CodecError> {
+        Ok(String::from_str(alloc, value.as_str()?)?)
+    }
+}
+
+impl ReadBack for String {
+    ghost use Rattle.pgv_codec.specs.Back.{always};
+    ghost use Rattle.pgv_codec.specs.BackScalars.{text_back};
+
+    ghost kept = { λ v. v };
+
+    ghost fits = { always };
+
+    ghost reads_back = { text_back };
+}
+
+impl Codec for String {
+    ghost use Rattle.std.specs.Prelude.{refl};
+
+    ghost agrees = { λ _. refl };
+}

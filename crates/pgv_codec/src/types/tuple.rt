@@ -1,0 +1,602 @@
+//! Tuples of one to nine, which are read from records (PostgreSQL, "Composite Types"). Their fields are read from the
+//! front; further fields are ignored.
+
+ghost use Rattle.std.specs.Prelude.{◌≡◌};
+ghost use Rattle.pgv_types.specs.Ty.{builtin};
+
+use super::record::PgRecordDecoder;
+use crate::traits::{Decode, PgHasArrayType, Type};
+use pgv_types::{PgType, PgTypeInfo};
+use pgv_value::{CodecError, PgValueRef};
+use std::alloc::Global;
+
+/// The type of a tuple.
+fn record() -> PgTypeInfo
+    ensures { result ≡ builtin 2249 }
+{
+    PgTypeInfo(PgType::Record)
+}
+
+/// The type of an array of tuples.
+fn records() -> PgTypeInfo
+    ensures { result ≡ builtin 2287 }
+{
+    PgTypeInfo(PgType::RecordArray)
+}
+
+/// The first field of a record. Further fields are ignored.
+impl<A: Type + Decode> Decode for (A,) {
+    ghost use Rattle.pgv_nest.specs.Records.{next};
+    ghost use Rattle.pgv_nest.specs.Tuples.{record_of};
+    ghost use Rattle.pgv_codec.specs.Saying.{unwritten};
+
+    ghost Meaning = { A.Meaning };
+
+    ghost meaning = { λ v. A.meaning v.0 };
+
+    ghost reading = { record_of (next A.accepts A.reading) };
+
+    ghost written = { unwritten };
+
+    fn decode(alloc: Global, value: PgValueRef<'_>) -> Result<(A,), CodecError> {
+        let mut fields = PgRecordDecoder::new(alloc, value)?;
+        Ok((fields.try_decode::<A>()?,))
+    }
+}
+
+impl<A> Type for (A,) {
+    ghost use Rattle.pgv_types.specs.Relations.{softly};
+    ghost use Rattle.pgv_types.specs.Ty.{builtin};
+
+    ghost info = { builtin 2249 };
+
+    ghost accepts = { λ t. softly t (builtin 2249) };
+
+    fn type_info() -> PgTypeInfo {
+        record()
+    }
+
+    fn compatible(type_info: &PgTypeInfo) -> bool {
+        type_info.type_compatible(&record())
+    }
+}
+
+impl<A> PgHasArrayType for (A,) {
+    ghost use Rattle.pgv_types.specs.Relations.{softly};
+    ghost use Rattle.pgv_types.specs.Ty.{builtin};
+
+    ghost array_info = { builtin 2287 };
+
+    ghost accepts_array = { λ t. softly t (builtin 2287) };
+
+    fn array_type_info() -> PgTypeInfo {
+        records()
+    }
+
+    fn array_compatible(type_info: &PgTypeInfo) -> bool {
+        type_info.type_compatible(&records())
+    }
+}
+
+/// The first two fields of a record. Further fields are ignored.
+impl<A: Type + Decode, B: Type + Decode> Decode for (A, B) {
+    ghost use Rattle.pgv_nest.specs.Records.{next};
+    ghost use Rattle.pgv_nest.specs.Tuples.{record_of, ◌then◌};
+    ghost use Rattle.pgv_codec.specs.Saying.{unwritten};
+
+    ghost Meaning = { A.Meaning × B.Meaning };
+
+    ghost meaning = { λ v. (A.meaning v.0, B.meaning v.1) };
+
+    ghost reading = { record_of (next A.accepts A.reading then next B.accepts B.reading) };
+
+    ghost written = { unwritten };
+
+    fn decode(alloc: Global, value: PgValueRef<'_>) -> Result<(A, B), CodecError> {
+        let mut fields = PgRecordDecoder::new(alloc, value)?;
+        let a = fields.try_decode::<A>()?;
+        let b = fields.try_decode::<B>()?;
+        Ok((a, b))
+    }
+}
+
+impl<A, B> Type for (A, B) {
+    ghost use Rattle.pgv_types.specs.Relations.{softly};
+    ghost use Rattle.pgv_types.specs.Ty.{builtin};
+
+    ghost info = { builtin 2249 };
+
+    ghost accepts = { λ t. softly t (builtin 2249) };
+
+    fn type_info() -> PgTypeInfo {
+        record()
+    }
+
+    fn compatible(type_info: &PgTypeInfo) -> bool {
+        type_info.type_compatible(&record())
+    }
+}
+
+impl<A, B> PgHasArrayType for (A, B) {
+    ghost use Rattle.pgv_types.specs.Relations.{softly};
+    ghost use Rattle.pgv_types.specs.Ty.{builtin};
+
+    ghost array_info = { builtin 2287 };
+
+    ghost accepts_array = { λ t. softly t (builtin 2287) };
+
+    fn array_type_info() -> PgTypeInfo {
+        records()
+    }
+
+    fn array_compatible(type_info: &PgTypeInfo) -> bool {
+        type_info.type_compatible(&records())
+    }
+}
+
+/// The first three fields of a record. Further fields are ignored.
+impl<A: Type + Decode, B: Type + Decode, C: Type + Decode> Decode for (A, B, C) {
+    ghost use Rattle.pgv_nest.specs.Records.{next};
+    ghost use Rattle.pgv_nest.specs.Tuples.{record_of, ◌then◌};
+    ghost use Rattle.pgv_codec.specs.Saying.{unwritten};
+
+    ghost Meaning = { A.Meaning × (B.Meaning × C.Meaning) };
+
+    ghost meaning = { λ v. (A.meaning v.0, (B.meaning v.1, C.meaning v.2)) };
+
+    ghost reading = { record_of (next A.accepts A.reading then next B.accepts B.reading then next C.accepts C.reading) };
+
+    ghost written = { unwritten };
+
+    fn decode(alloc: Global, value: PgValueRef<'_>) -> Result<(A, B, C), CodecError> {
+        let mut fields = PgRecordDecoder::new(alloc, value)?;
+        let a = fields.try_decode::<A>()?;
+        let b = fields.try_decode::<B>()?;
+        let c = fields.try_decode::<C>()?;
+        Ok((a, b, c))
+    }
+}
+
+impl<A, B, C> Type for (A, B, C) {
+    ghost use Rattle.pgv_types.specs.Relations.{softly};
+    ghost use Rattle.pgv_types.specs.Ty.{builtin};
+
+    ghost info = { builtin 2249 };
+
+    ghost accepts = { λ t. softly t (builtin 2249) };
+
+    fn type_info() -> PgTypeInfo {
+        record()
+    }
+
+    fn compatible(type_info: &PgTypeInfo) -> bool {
+        type_info.type_compatible(&record())
+    }
+}
+
+impl<A, B, C> PgHasArrayType for (A, B, C) {
+    ghost use Rattle.pgv_types.specs.Relations.{softly};
+    ghost use Rattle.pgv_types.specs.Ty.{builtin};
+
+    ghost array_info = { builtin 2287 };
+
+    ghost accepts_array = { λ t. softly t (builtin 2287) };
+
+    fn array_type_info() -> PgTypeInfo {
+        records()
+    }
+
+    fn array_compatible(type_info: &PgTypeInfo) -> bool {
+        type_info.type_compatible(&records())
+    }
+}
+
+/// The first four fields of a record. Further fields are ignored.
+impl<A: Type + Decode, B: Type + Decode, C: Type + Decode, D: Type + Decode> Decode
+    for (A, B, C, D) {
+    ghost use Rattle.pgv_nest.specs.Records.{next};
+    ghost use Rattle.pgv_nest.specs.Tuples.{record_of, ◌then◌};
+    ghost use Rattle.pgv_codec.specs.Saying.{unwritten};
+
+    ghost Meaning = { A.Meaning × (B.Meaning × (C.Meaning × D.Meaning)) };
+
+    ghost meaning = { λ v. (A.meaning v.0, (B.meaning v.1, (C.meaning v.2, D.meaning v.3))) };
+
+    ghost reading = { record_of (next A.accepts A.reading then next B.accepts B.reading then next C.accepts C.reading then next D.accepts D.reading) };
+
+    ghost written = { unwritten };
+
+    fn decode(alloc: Global, value: PgValueRef<'_>) -> Result<(A, B, C, D), CodecError> {
+        let mut fields = PgRecordDecoder::new(alloc, value)?;
+        let a = fields.try_decode::<A>()?;
+        let b = fields.try_decode::<B>()?;
+        let c = fields.try_decode::<C>()?;
+        let d = fields.try_decode::<D>()?;
+        Ok((a, b, c, d))
+    }
+}
+
+impl<A, B, C, D> Type for (A, B, C, D) {
+    ghost use Rattle.pgv_types.specs.Relations.{softly};
+    ghost use Rattle.pgv_types.specs.Ty.{builtin};
+
+    ghost info = { builtin 2249 };
+
+    ghost accepts = { λ t. softly t (builtin 2249) };
+
+    fn type_info() -> PgTypeInfo {
+        record()
+    }
+
+    fn compatible(type_info: &PgTypeInfo) -> bool {
+        type_info.type_compatible(&record())
+    }
+}
+
+impl<A, B, C, D> PgHasArrayType for (A, B, C, D) {
+    ghost use Rattle.pgv_types.specs.Relations.{softly};
+    ghost use Rattle.pgv_types.specs.Ty.{builtin};
+
+    ghost array_info = { builtin 2287 };
+
+    ghost accepts_array = { λ t. softly t (builtin 2287) };
+
+    fn array_type_info() -> PgTypeInfo {
+        records()
+    }
+
+    fn array_compatible(type_info: &PgTypeInfo) -> bool {
+        type_info.type_compatible(&records())
+    }
+}
+
+/// The first five fields of a record. Further fields are ignored.
+impl<
+    A: Type + Decode,
+    B: Type + Decode,
+    C: Type + Decode,
+    D: Type + Decode,
+    E: Type + Decode,
+> Decode for (A, B, C, D, E) {
+    ghost use Rattle.pgv_nest.specs.Records.{next};
+    ghost use Rattle.pgv_nest.specs.Tuples.{record_of, ◌then◌};
+    ghost use Rattle.pgv_codec.specs.Saying.{unwritten};
+
+    ghost Meaning = { A.Meaning × (B.Meaning × (C.Meaning × (D.Meaning × E.Meaning))) };
+
+    ghost meaning = { λ v. (A.meaning v.0, (B.meaning v.1, (C.meaning v.2, (D.meaning v.3, E.meaning v.4)))) };
+
+    ghost reading = { record_of (next A.accepts A.reading then next B.accepts B.reading then next C.accepts C.reading then next D.accepts D.reading then next E.accepts E.reading) };
+
+    ghost written = { unwritten };
+
+    fn decode(alloc: Global, value: PgValueRef<'_>) -> Result<(A, B, C, D, E), CodecError> {
+        let mut fields = PgRecordDecoder::new(alloc, value)?;
+        let a = fields.try_decode::<A>()?;
+        let b = fields.try_decode::<B>()?;
+        let c = fields.try_decode::<C>()?;
+        let d = fields.try_decode::<D>()?;
+        let e = fields.try_decode::<E>()?;
+        Ok((a, b, c, d, e))
+    }
+}
+
+impl<A, B, C, D, E> Type for (A, B, C, D, E) {
+    ghost use Rattle.pgv_types.specs.Relations.{softly};
+    ghost use Rattle.pgv_types.specs.Ty.{builtin};
+
+    ghost info = { builtin 2249 };
+
+    ghost accepts = { λ t. softly t (builtin 2249) };
+
+    fn type_info() -> PgTypeInfo {
+        record()
+    }
+
+    fn compatible(type_info: &PgTypeInfo) -> bool {
+        type_info.type_compatible(&record())
+    }
+}
+
+impl<A, B, C, D, E> PgHasArrayType for (A, B, C, D, E) {
+    ghost use Rattle.pgv_types.specs.Relations.{softly};
+    ghost use Rattle.pgv_types.specs.Ty.{builtin};
+
+    ghost array_info = { builtin 2287 };
+
+    ghost accepts_array = { λ t. softly t (builtin 2287) };
+
+    fn array_type_info() -> PgTypeInfo {
+        records()
+    }
+
+    fn array_compatible(type_info: &PgTypeInfo) -> bool {
+        type_info.type_compatible(&records())
+    }
+}
+
+/// The first six fields of a record. Further fields are ignored.
+impl<
+    A: Type + Decode,
+    B: Type + Decode,
+    C: Type + Decode,
+    D: Type + Decode,
+    E: Type + Decode,
+    F: Type + Decode,
+> Decode for (A, B, C, D, E, F) {
+    ghost use Rattle.pgv_nest.specs.Records.{next};
+    ghost use Rattle.pgv_nest.specs.Tuples.{record_of, ◌then◌};
+    ghost use Rattle.pgv_codec.specs.Saying.{unwritten};
+
+    ghost Meaning = { A.Meaning × (B.Meaning × (C.Meaning × (D.Meaning × (E.Meaning × F.Meaning)))) };
+
+    ghost meaning = { λ v. (A.meaning v.0, (B.meaning v.1, (C.meaning v.2, (D.meaning v.3, (E.meaning v.4, F.meaning v.5))))) };
+
+    ghost reading = { record_of (next A.accepts A.reading then next B.accepts B.reading then next C.accepts C.reading then next D.accepts D.reading then next E.accepts E.reading then next F.accepts F.reading) };
+
+    ghost written = { unwritten };
+
+    fn decode(alloc: Global, value: PgValueRef<'_>) -> Result<(A, B, C, D, E, F), CodecError> {
+        let mut fields = PgRecordDecoder::new(alloc, value)?;
+        let a = fields.try_decode::<A>()?;
+        let b = fields.try_decode::<B>()?;
+        let c = fields.try_decode::<C>()?;
+        let d = fields.try_decode::<D>()?;
+        let e = fields.try_decode::<E>()?;
+        let f = fields.try_decode::<F>()?;
+        Ok((a, b, c, d, e, f))
+    }
+}
+
+impl<A, B, C, D, E, F> Type for (A, B, C, D, E, F) {
+    ghost use Rattle.pgv_types.specs.Relations.{softly};
+    ghost use Rattle.pgv_types.specs.Ty.{builtin};
+
+    ghost info = { builtin 2249 };
+
+    ghost accepts = { λ t. softly t (builtin 2249) };
+
+    fn type_info() -> PgTypeInfo {
+        record()
+    }
+
+    fn compatible(type_info: &PgTypeInfo) -> bool {
+        type_info.type_compatible(&record())
+    }
+}
+
+impl<A, B, C, D, E, F> PgHasArrayType for (A, B, C, D, E, F) {
+    ghost use Rattle.pgv_types.specs.Relations.{softly};
+    ghost use Rattle.pgv_types.specs.Ty.{builtin};
+
+    ghost array_info = { builtin 2287 };
+
+    ghost accepts_array = { λ t. softly t (builtin 2287) };
+
+    fn array_type_info() -> PgTypeInfo {
+        records()
+    }
+
+    fn array_compatible(type_info: &PgTypeInfo) -> bool {
+        type_info.type_compatible(&records())
+    }
+}
+
+/// The first seven fields of a record. Further fields are ignored.
+impl<
+    A: Type + Decode,
+    B: Type + Decode,
+    C: Type + Decode,
+    D: Type + Decode,
+    E: Type + Decode,
+    F: Type + Decode,
+    G: Type + Decode,
+> Decode for (A, B, C, D, E, F, G) {
+    ghost use Rattle.pgv_nest.specs.Records.{next};
+    ghost use Rattle.pgv_nest.specs.Tuples.{record_of, ◌then◌};
+    ghost use Rattle.pgv_codec.specs.Saying.{unwritten};
+
+    ghost Meaning = { A.Meaning × (B.Meaning × (C.Meaning × (D.Meaning × (E.Meaning × (F.Meaning × G.Meaning))))) };
+
+    ghost meaning = { λ v. (A.meaning v.0, (B.meaning v.1, (C.meaning v.2, (D.meaning v.3, (E.meaning v.4, (F.meaning v.5, G.meaning v.6)))))) };
+
+    ghost reading = { record_of (next A.accepts A.reading then next B.accepts B.reading then next C.accepts C.reading then next D.accepts D.reading then next E.accepts E.reading then next F.accepts F.reading then next G.accepts G.reading) };
+
+    ghost written = { unwritten };
+
+    fn decode(alloc: Global, value: PgValueRef<'_>) -> Result<(A, B, C, D, E, F, G), CodecError> {
+        let mut fields = PgRecordDecoder::new(alloc, value)?;
+        let a = fields.try_decode::<A>()?;
+        let b = fields.try_decode::<B>()?;
+        let c = fields.try_decode::<C>()?;
+        let d = fields.try_decode::<D>()?;
+        let e = fields.try_decode::<E>()?;
+        let f = fields.try_decode::<F>()?;
+        let g = fields.try_decode::<G>()?;
+        Ok((a, b, c, d, e, f, g))
+    }
+}
+
+impl<A, B, C, D, E, F, G> Type for (A, B, C, D, E, F, G) {
+    ghost use Rattle.pgv_types.specs.Relations.{softly};
+    ghost use Rattle.pgv_types.specs.Ty.{builtin};
+
+    ghost info = { builtin 2249 };
+
+    ghost accepts = { λ t. softly t (builtin 2249) };
+
+    fn type_info() -> PgTypeInfo {
+        record()
+    }
+
+    fn compatible(type_info: &PgTypeInfo) -> bool {
+        type_info.type_compatible(&record())
+    }
+}
+
+impl<A, B, C, D, E, F, G> PgHasArrayType for (A, B, C, D, E, F, G) {
+    ghost use Rattle.pgv_types.specs.Relations.{softly};
+    ghost use Rattle.pgv_types.specs.Ty.{builtin};
+
+    ghost array_info = { builtin 2287 };
+
+    ghost accepts_array = { λ t. softly t (builtin 2287) };
+
+    fn array_type_info() -> PgTypeInfo {
+        records()
+    }
+
+    fn array_compatible(type_info: &PgTypeInfo) -> bool {
+        type_info.type_compatible(&records())
+    }
+}
+
+/// The first eight fields of a record. Further fields are ignored.
+impl<
+    A: Type + Decode,
+    B: Type + Decode,
+    C: Type + Decode,
+    D: Type + Decode,
+    E: Type + Decode,
+    F: Type + Decode,
+    G: Type + Decode,
+    H: Type + Decode,
+> Decode for (A, B, C, D, E, F, G, H) {
+    ghost use Rattle.pgv_nest.specs.Records.{next};
+    ghost use Rattle.pgv_nest.specs.Tuples.{record_of, ◌then◌};
+    ghost use Rattle.pgv_codec.specs.Saying.{unwritten};
+
+    ghost Meaning = { A.Meaning × (B.Meaning × (C.Meaning × (D.Meaning × (E.Meaning × (F.Meaning × (G.Meaning × H.Meaning)))))) };
+
+    ghost meaning = { λ v. (A.meaning v.0, (B.meaning v.1, (C.meaning v.2, (D.meaning v.3, (E.meaning v.4, (F.meaning v.5, (G.meaning v.6, H.meaning v.7))))))) };
+
+    ghost reading = { record_of (next A.accepts A.reading then next B.accepts B.reading then next C.accepts C.reading then next D.accepts D.reading then next E.accepts E.reading then next F.accepts F.reading then next G.accepts G.reading then next H.accepts H.reading) };
+
+    ghost written = { unwritten };
+
+    fn decode(
+        alloc: Global,
+        value: PgValueRef<'_>,
+    ) -> Result<(A, B, C, D, E, F, G, H), CodecError> {
+        let mut fields = PgRecordDecoder::new(alloc, value)?;
+        let a = fields.try_decode::<A>()?;
+        let b = fields.try_decode::<B>()?;
+        let c = fields.try_decode::<C>()?;
+        let d = fields.try_decode::<D>()?;
+        let e = fields.try_decode::<E>()?;
+        let f = fields.try_decode::<F>()?;
+        let g = fields.try_decode::<G>()?;
+        let h = fields.try_decode::<H>()?;
+        Ok((a, b, c, d, e, f, g, h))
+    }
+}
+
+impl<A, B, C, D, E, F, G, H> Type for (A, B, C, D, E, F, G, H) {
+    ghost use Rattle.pgv_types.specs.Relations.{softly};
+    ghost use Rattle.pgv_types.specs.Ty.{builtin};
+
+    ghost info = { builtin 2249 };
+
+    ghost accepts = { λ t. softly t (builtin 2249) };
+
+    fn type_info() -> PgTypeInfo {
+        record()
+    }
+
+    fn compatible(type_info: &PgTypeInfo) -> bool {
+        type_info.type_compatible(&record())
+    }
+}
+
+impl<A, B, C, D, E, F, G, H> PgHasArrayType for (A, B, C, D, E, F, G, H) {
+    ghost use Rattle.pgv_types.specs.Relations.{softly};
+    ghost use Rattle.pgv_types.specs.Ty.{builtin};
+
+    ghost array_info = { builtin 2287 };
+
+    ghost accepts_array = { λ t. softly t (builtin 2287) };
+
+    fn array_type_info() -> PgTypeInfo {
+        records()
+    }
+
+    fn array_compatible(type_info: &PgTypeInfo) -> bool {
+        type_info.type_compatible(&records())
+    }
+}
+
+/// The first nine fields of a record. Further fields are ignored.
+impl<
+    A: Type + Decode,
+    B: Type + Decode,
+    C: Type + Decode,
+    D: Type + Decode,
+    E: Type + Decode,
+    F: Type + Decode,
+    G: Type + Decode,
+    H: Type + Decode,
+    I: Type + Decode,
+> Decode for (A, B, C, D, E, F, G, H, I) {
+    ghost use Rattle.pgv_nest.specs.Records.{next};
+    ghost use Rattle.pgv_nest.specs.Tuples.{record_of, ◌then◌};
+    ghost use Rattle.pgv_codec.specs.Saying.{unwritten};
+
+    ghost Meaning = { A.Meaning × (B.Meaning × (C.Meaning × (D.Meaning × (E.Meaning × (F.Meaning × (G.Meaning × (H.Meaning × I.Meaning))))))) };
+
+    ghost meaning = { λ v. (A.meaning v.0, (B.meaning v.1, (C.meaning v.2, (D.meaning v.3, (E.meaning v.4, (F.meaning v.5, (G.meaning v.6, (H.meaning v.7, I.meaning v.8)))))))) };
+
+    ghost reading = { record_of (next A.accepts A.reading then next B.accepts B.reading then next C.accepts C.reading then next D.accepts D.reading then next E.accepts E.reading then next F.accepts F.reading then next G.accepts G.reading then next H.accepts H.reading then next I.accepts I.reading) };
+
+    ghost written = { unwritten };
+
+    fn decode(
+        alloc: Global,
+        value: PgValueRef<'_>,
+    ) -> Result<(A, B, C, D, E, F, G, H, I), CodecError> {
+        let mut fields = PgRecordDecoder::new(alloc, value)?;
+        let a = fields.try_decode::<A>()?;
+        let b = fields.try_decode::<B>()?;
+        let c = fields.try_decode::<C>()?;
+        let d = fields.try_decode::<D>()?;
+        let e = fields.try_decode::<E>()?;
+        let f = fields.try_decode::<F>()?;
+        let g = fields.try_decode::<G>()?;
+        let h = fields.try_decode::<H>()?;
+        let i = fields.try_decode::<I>()?;
+        Ok((a, b, c, d, e, f, g, h, i))
+    }
+}
+
+impl<A, B, C, D, E, F, G, H, I> Type for (A, B, C, D, E, F, G, H, I) {
+    ghost use Rattle.pgv_types.specs.Relations.{softly};
+    ghost use Rattle.pgv_types.specs.Ty.{builtin};
+
+    ghost info = { builtin 2249 };
+
+    ghost accepts = { λ t. softly t (builtin 2249) };
+
+    fn type_info() -> PgTypeInfo {
+        record()
+    }
+
+    fn compatible(type_info: &PgTypeInfo) -> bool {
+        type_info.type_compatible(&record())
+    }
+}
+
+impl<A, B, C, D, E, F, G, H, I> PgHasArrayType for (A, B, C, D, E, F, G, H, I) {
+    ghost use Rattle.pgv_types.specs.Relations.{softly};
+    ghost use Rattle.pgv_types.specs.Ty.{builtin};
+
+    ghost array_info = { builtin 2287 };
+
+    ghost accepts_array = { λ t. softly t (builtin 2287) };
+
+    fn array_type_info() -> PgTypeInfo {
+        records()
+    }
+
+    fn array_compatible(type_info: &PgTypeInfo) -> bool {
+        type_info.type_compatible(&records())
+    }
+}

@@ -1,0 +1,92 @@
+//! UUIDs (PostgreSQL, "UUID Type"): their sixteen bytes.
+
+ghost use Rattle.pgv_types.specs.Relations.{softly};
+ghost use Rattle.pgv_types.specs.Ty.{builtin};
+ghost use Rattle.pgv_codec.specs.Scalars.{uuid_image};
+ghost use Rattle.std.specs.Prelude.{ℕ, List, false, refl};
+ghost use Rattle.pgv_value.specs.Scalars.{uuid_reading};
+ghost use Rattle.pgv_codec.specs.Saying.{plainly};
+
+use crate::buffer::{IsNull, PgArgumentBuffer};
+use crate::traits::{Codec, Decode, Encode, PgHasArrayType, ReadBack, Type};
+use pgv_types::{PgType, PgTypeInfo};
+use pgv_value::{CodecError, PgValueRef, read_uuid};
+use std::alloc::{AllocError, Global};
+use uuid::Uuid;
+
+impl Type for Uuid {
+    ghost info = { builtin 2950 };
+
+    ghost accepts = { λ t. softly t (builtin 2950) };
+
+    fn type_info() -> PgTypeInfo {
+        PgTypeInfo(PgType::Uuid)
+    }
+
+    fn compatible(type_info: &PgTypeInfo) -> bool {
+        type_info.type_compatible(&Self::type_info())
+    }
+}
+
+impl PgHasArrayType for Uuid {
+    ghost array_info = { builtin 2951 };
+
+    ghost accepts_array = { λ t. softly t (builtin 2951) };
+
+    fn array_type_info() -> PgTypeInfo {
+        PgTypeInfo(PgType::UuidArray)
+    }
+
+    fn array_compatible(type_info: &PgTypeInfo) -> bool {
+        type_info.type_compatible(&Self::array_type_info())
+    }
+}
+
+impl Encode for Uuid {
+    ghost image = { uuid_image };
+
+    fn encode_by_ref(&self, out: &mut PgArgumentBuffer) -> Result<IsNull, CodecError> {
+        out.extend_from_slice(self.as_bytes())?;
+        Ok(IsNull::No)
+    }
+
+    fn size_hint(&self) -> usize {
+        0
+    }
+
+    fn produces(&self) -> Result<Option<PgTypeInfo>, AllocError> {
+        Ok(None)
+    }
+}
+
+/// A UUID (PostgreSQL, "UUID Type"), as [`read_uuid`] reads it.
+impl Decode for Uuid {
+    ghost Meaning = { List ℕ };
+
+    ghost meaning = { λ id. id };
+
+    ghost reading = { uuid_reading };
+
+    ghost written = { plainly uuid_image };
+
+    ghost takes_memory = { false };
+
+    fn decode(_alloc: Global, value: PgValueRef<'_>) -> Result<Uuid, CodecError> {
+        read_uuid(&value)
+    }
+}
+
+impl ReadBack for Uuid {
+    ghost use Rattle.pgv_codec.specs.Back.{always};
+    ghost use Rattle.pgv_codec.specs.BackScalars.{uuid_back};
+
+    ghost kept = { λ v. v };
+
+    ghost fits = { always };
+
+    ghost reads_back = { uuid_back };
+}
+
+impl Codec for Uuid {
+    ghost agrees = { λ _. refl };
+}

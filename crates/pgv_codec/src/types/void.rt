@@ -1,0 +1,45 @@
+//! Nothing: the type of a call that answers no value (PostgreSQL, "Pseudo-Types", void). It isn't written.
+
+use crate::traits::{Decode, Type};
+use pgv_types::{PgType, PgTypeInfo};
+use pgv_value::{CodecError, PgValueRef};
+use std::alloc::Global;
+
+impl Type for () {
+    ghost use Rattle.pgv_types.specs.Ty.{builtin};
+    ghost use Rattle.pgv_codec.specs.Scalars.{is_void_or_record};
+
+    ghost info = { builtin 2278 };
+
+    ghost accepts = { is_void_or_record };
+
+    fn type_info() -> PgTypeInfo {
+        PgTypeInfo(PgType::Void)
+    }
+
+    fn compatible(type_info: &PgTypeInfo) -> bool {
+        type_info.type_compatible(&PgTypeInfo(PgType::Void))
+            || type_info.type_compatible(&PgTypeInfo(PgType::Record))
+    }
+}
+
+/// Nothing (PostgreSQL, "Pseudo-Types", void): whatever is there, null too, is passed over.
+impl Decode for () {
+    ghost use Rattle.std.specs.Prelude.{⊤, false};
+    ghost use Rattle.pgv_codec.specs.Nothing.{anything};
+    ghost use Rattle.pgv_codec.specs.Saying.{unwritten};
+
+    ghost Meaning = { ⊤ };
+
+    ghost meaning = { λ _. tt };
+
+    ghost reading = { anything };
+
+    ghost written = { unwritten };
+
+    ghost takes_memory = { false };
+
+    fn decode(_alloc: Global, value: PgValueRef<'_>) -> Result<(), CodecError> {
+        Ok(())
+    }
+}

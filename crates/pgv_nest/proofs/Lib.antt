@@ -1,0 +1,6 @@
+pub mod Domains
+pub mod CompositeFields
+pub mod Short
+mod Numbers
+mod ArrayGrammars
+pub mod RecordGrammars

@@ -1,0 +1,108 @@
+-- Arrays and records in binary, as what the bytes are and not as how they are read (PostgreSQL: "Arrays", 8.15, and
+-- "Composite Types", 8.16; the forms are those of its source, array_send and record_send).
+use Rattle.std.specs.Prelude.{◌≡◌, ◌↔◌, ◌⊎◌, ℕ, suc, ◌<◌, ◌^◌, Bool, true, List, [], ◌∷◌, ◌++◌, length, Option, Some, ⊤}
+use Rattle.std.specs.Int.{w32, to_be_bytes}
+use Rattle.pgv_types.specs.Ty.{Ty, builtin, custom, simple, domain, composite, Fields}
+use Rattle.pgv_types.specs.Facts.{built_in, oid_of}
+use Rattle.pgv_value.specs.Frame.{Part, IsFrame}
+use Rattle.pgv_value.specs.Laws.{AreBytes}
+use Rattle.pgv_value.specs.Reading.{Reading}
+use Rattle.pgv_value.specs.declared.value.PgValueFormat.TheVariants.{Binary}
+use Rattle.pgv_nest.specs.Arrays.{element_type, array_of}
+use Rattle.pgv_nest.specs.Records.{field_at, field_type, field_in, binary_fields, fields_of}
+
+-- ---- arrays
+
+-- The bytes begin with a frame of each of these values, one behind the other. Anything may stand behind them.
+abbrev pub BeginWithFrames : {M : Type 0} → (Part → Option M) → List ℕ → List M → Type 0
+BeginWithFrames read bytes [] = ⊤
+BeginWithFrames read bytes (m ∷ ms) = (part : Part) × (rest : List ℕ) × IsFrame bytes part rest × (read part ≡ Some m) × BeginWithFrames read rest ms
+
+-- An array of no dimensions has no elements. Behind the 0 nothing is looked at.
+abbrev pub IsWithoutDimensions : {M : Type 0} → List ℕ → List M → Type 0
+IsWithoutDimensions bytes ms = (behind : List ℕ) × (bytes ≡ to_be_bytes w32 0 ++ behind) × (ms ≡ [])
+
+-- An array of one dimension: flags, the OID of the elements' type, how many there are, the lower bound 1, and a frame
+-- for each.
+pub record IsOneDimension {M : Type 0} (read : Ty → Part → Option M) (t : Ty) (bytes : List ℕ) (ms : List M) : Type 0 where
+  pub flags : List ℕ
+  pub oid : ℕ
+  pub element : Ty
+  pub frames : List ℕ
+  pub whole : bytes ≡ to_be_bytes w32 1 ++ (flags ++ (to_be_bytes w32 oid ++ (to_be_bytes w32 (length ms) ++ (to_be_bytes w32 1 ++ frames))))
+  pub four_flags : length flags ≡ 4
+  pub oid_fits : oid < 2 ^ 32
+  pub count_fits : length ms < 2 ^ 31
+  pub typed : element_type t oid ≡ Some element
+  pub framed : BeginWithFrames (read element) frames ms
+
+-- the bytes are an array of these elements, under a type
+abbrev pub IsArray : {M : Type 0} → (Ty → Part → Option M) → Ty → List ℕ → List M → Type 0
+IsArray read t bytes ms = IsWithoutDimensions bytes ms ⊎ IsOneDimension read t bytes ms
+
+-- ---- the fields of records
+
+-- The type of the field at a place that has an OID, under a type: the built-in type of the OID, where the type is
+-- `record` or a custom one of its OID and of no other kind; the composite type's field there, where it has the OID;
+-- and under a domain what it is under its base.
+pub data HasFieldType (place oid : ℕ) (found : Ty) : Ty → Type 0 where
+  of_record : built_in oid ≡ Some found → HasFieldType place oid found (builtin 2249)
+  of_custom_record : (name : List ℕ) → built_in oid ≡ Some found → HasFieldType place oid found (custom 2249 name simple)
+  of_composite :
+      (own : ℕ) (name : List ℕ) (fields : Fields) → field_at fields place ≡ Some found → oid_of found ≡ Some oid →
+      HasFieldType place oid found (custom own name (composite fields))
+  of_domain : (own : ℕ) (name : List ℕ) (base : Ty) → HasFieldType place oid found base → HasFieldType place oid found (custom own name (domain base))
+
+-- Fields one behind the other: under a type, from a place on, these bytes have this meaning, and this stands behind.
+abbrev pub Stretch : Type 0 → Type 1
+Stretch M = Ty → ℕ → List ℕ → M → List ℕ → Type 0
+
+-- One field: the OID of its type, which the reader accepts, and a frame that has the meaning under this type.
+pub record IsField {M : Type 0} (accepts : Ty → Bool) (reading : Reading M) (t : Ty) (place : ℕ) (bytes : List ℕ) (m : M) (rest : List ℕ) : Type 0 where
+  pub oid : ℕ
+  pub own : Ty
+  pub part : Part
+  pub behind : List ℕ
+  pub whole : bytes ≡ to_be_bytes w32 oid ++ behind
+  pub framed : IsFrame behind part rest
+  pub oid_fits : oid < 2 ^ 32
+  pub typed : HasFieldType place oid own t
+  pub accepted : accepts own ≡ true
+  pub read : reading own Binary part ≡ Some m
+
+-- one field, and further ones from the next place on
+infixr 12 ◌and◌
+abbrev pub ◌and◌ : {A B : Type 0} → Stretch A → Stretch B → Stretch (A × B)
+(one and further) t place bytes m rest = (between : List ℕ) × one t place bytes m.0 between × further t (suc place) between m.1 rest
+
+-- A record: four bytes for the number of fields, which say nothing here, and the fields. Anything may stand behind them.
+abbrev pub IsRecord : {M : Type 0} → Stretch M → Ty → List ℕ → M → Type 0
+IsRecord fields t bytes m = (count : List ℕ) × (behind : List ℕ) × (rest : List ℕ) × (bytes ≡ count ++ behind) × (length count ≡ 4) × fields t 0 behind m rest
+
+-- ---- what is computed is what the bytes are
+
+abbrev pub ArrayIsItsElements : {M : Type 0} → (Ty → Part → Option M) → Type 0
+ArrayIsItsElements {M} read = (t : Ty) (bytes : List ℕ) (ms : List M) → AreBytes bytes → (array_of read t bytes ≡ Some ms) ↔ IsArray read t bytes ms
+
+abbrev pub OneArray : {M : Type 0} → (Ty → Part → Option M) → Type 0
+OneArray {M} read = (t : Ty) (bytes : List ℕ) (ms others : List M) → IsArray read t bytes ms → IsArray read t bytes others → ms ≡ others
+
+abbrev pub FieldTypeIsFound : Type 0
+FieldTypeIsFound = (t : Ty) (place oid : ℕ) (found : Ty) → (field_type t place oid ≡ Some found) ↔ HasFieldType place oid found t
+
+abbrev pub FieldIsItsValue : {M : Type 0} → (Ty → Bool) → Reading M → Type 0
+FieldIsItsValue {M} accepts reading =
+    (t : Ty) (place : ℕ) (bytes : List ℕ) (m : M) (rest : List ℕ) → AreBytes bytes →
+    (field_in accepts reading t place bytes ≡ Some (m, rest)) ↔ IsField accepts reading t place bytes m rest
+
+abbrev pub OneField : {M : Type 0} → (Ty → Bool) → Reading M → Type 0
+OneField {M} accepts reading =
+    (t : Ty) (place : ℕ) (bytes : List ℕ) (m n : M) (rest others : List ℕ) →
+    IsField accepts reading t place bytes m rest → IsField accepts reading t place bytes n others → (m ≡ n) × (rest ≡ others)
+
+abbrev pub RecordBegins : Type 0
+RecordBegins = (t : Ty) (bytes rest : List ℕ) → (fields_of t Binary (Some bytes) ≡ Some (binary_fields t 0 rest)) ↔ ((count : List ℕ) × (bytes ≡ count ++ rest) × (length count ≡ 4))
+
+-- what is read of bytes in binary under a type is what they are a record of
+abbrev pub RecordIsItsFields : {M : Type 0} → Reading M → Stretch M → Type 0
+RecordIsItsFields {M} reading fields = (t : Ty) (bytes : List ℕ) (m : M) → AreBytes bytes → (reading t Binary (Some bytes) ≡ Some m) ↔ IsRecord fields t bytes m

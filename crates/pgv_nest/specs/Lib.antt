@@ -1,0 +1,7 @@
+pub mod Steps
+pub mod Arrays
+pub mod Heads
+pub mod Records
+pub mod Grammar
+pub mod Found
+pub mod Tuples

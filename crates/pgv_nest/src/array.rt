@@ -1,0 +1,84 @@
+//! The heads of arrays in binary (PostgreSQL, "Arrays"; array_send).
+
+ghost use Rattle.std.specs.Prelude.{◌≡◌, ◌≤◌, length, IfOk, IfSome, option_map};
+ghost use Rattle.pgv_value.specs.Reading.{Answers};
+ghost use Rattle.pgv_nest.specs.Arrays.{element_type, head, one_dimension};
+ghost use Rattle.pgv_nest.specs.Heads.{head_shown};
+
+use crate::number::u32_in_front;
+use pgv_types::{Oid, PgTypeInfo, PgTypeRef};
+use pgv_value::CodecError;
+
+/// The largest number of elements.
+const MAX_COUNT: u32 = 0x7fff_ffff;
+
+/// What comes before the frames of an array's elements, and these frames.
+#[derive(Drop)]
+pub struct ArrayHead<'a> {
+    /// The type of the elements.
+    pub element: PgTypeInfo,
+    /// How many elements there are; at most 2147483647.
+    pub count: u32,
+    /// The frames of the elements, and whatever comes after them.
+    pub frames: &'a [u8],
+}
+
+/// The head of an array, or none where it has no dimensions and so no elements. Bytes that end too early are refused with
+/// C15, a negative number of elements with C16, more dimensions than one with C19, a lower bound other than 1 with C20, and elements of
+/// a type that neither the OID nor the array's type gives with C21.
+#[tactic(auto, unfolding(crate::specs::Arrays::head))]
+pub fn array_head_of<'a>(
+    type_info: &PgTypeInfo,
+    bytes: &'a [u8],
+) -> Result<Option<ArrayHead<'a>>, CodecError>
+    ensures exact { Answers (option_map head_shown) (head type_info.now bytes.now) result }
+    ensures within { IfOk result (λ found. IfSome found (λ h. length h.frames.now ≤ length bytes.now)) }
+{
+    let (dimensions, rest) = u32_in_front(bytes)?;
+    match dimensions {
+        0 => Ok(None),
+        1 => Ok(Some(one_dimension_of(type_info, rest)?)),
+        _ => Err(CodecError::Dimensions(dimensions.cast_signed())),
+    }
+}
+
+// The head after the number of dimensions, where that is one.
+#[tactic(auto, unfolding(crate::specs::Arrays::one_dimension))]
+fn one_dimension_of<'a>(
+    type_info: &PgTypeInfo,
+    bytes: &'a [u8],
+) -> Result<ArrayHead<'a>, CodecError>
+    ensures exact { Answers head_shown (one_dimension type_info.now bytes.now) result }
+    ensures within { IfOk result (λ h. length h.frames.now ≤ length bytes.now) }
+{
+    let (_flags, rest) = u32_in_front(bytes)?;
+    let (oid, rest) = u32_in_front(rest)?;
+    let element = element_type_of(type_info, Oid(oid))?;
+    let (count, rest) = u32_in_front(rest)?;
+    if count > MAX_COUNT {
+        return Err(CodecError::NegativeLength(count.cast_signed()));
+    }
+    let (lower_bound, frames) = u32_in_front(rest)?;
+    if lower_bound != 1 {
+        return Err(CodecError::LowerBound(lower_bound.cast_signed()));
+    }
+    Ok(ArrayHead {
+        element,
+        count,
+        frames,
+    })
+}
+
+// The type of the elements: the built-in type of the OID, else the element of the array's type.
+fn element_type_of(type_info: &PgTypeInfo, oid: Oid) -> Result<PgTypeInfo, CodecError>
+    ensures { Answers (λ t. t) (element_type type_info.now oid.0) result }
+{
+    if let Some(element) = PgTypeInfo::try_from_oid(oid) {
+        return Ok(element);
+    }
+    match type_info.array_element() {
+        Some(PgTypeRef::Owned(element)) => Ok(element),
+        Some(PgTypeRef::Borrowed(element)) => Ok(element.clone()?),
+        None => Err(CodecError::ElementType(oid)),
+    }
+}

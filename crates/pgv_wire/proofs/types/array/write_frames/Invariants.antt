@@ -1,8 +1,0 @@
-use Rattle.std.proofs.Common.{take}
-use Rattle.pgv_wire.specs.Image.{frames}
-use Rattle.pgv_wire.specs.Outcome.{AppendedAll}
-use Rattle.pgv_wire.proofs.types.array.write_frames.Given as goal
-
--- the frames of the values so far
-abbrev pub invariant-loop-value : goal.invariant-loop-value
-invariant-loop-value g l = AppendedAll (frames g.T.Encode.hint g.T.Encode.image (take l.value-index l.values)) l.initial.out l.out
