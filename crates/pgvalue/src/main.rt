@@ -1,18 +1,13 @@
 //! `pgvalue`: reads lines of standard input, and shows what the codec writes and reads.
 #![tactic(auto)]
 
-mod laws;
-mod line;
-mod run;
-mod session;
 #[cfg(test)]
 mod tests;
-mod value;
 #[cfg(test)]
 mod vectors;
 
-use run::{RunFault, fault_text, run};
-use std::io::{self, BufReader, BufWriter, Write};
+use pgv_session::{RunFault, fault_text, run};
+use std::io::{self, BufReader, BufWriter};
 use std::process::ExitCode;
 
 fn main(rt: HostRuntime) -> ExitCode {
@@ -25,7 +20,7 @@ fn main(rt: HostRuntime) -> ExitCode {
     }
 }
 
-/// A session over standard input and output. What was answered before a fault is written too.
+/// A session over standard input and output.
 fn run_standard(rt: &HostRuntime) -> Result<(), RunFault> {
     let Ok(mut reader) = BufReader::new(rt.alloc(), rt.reader()) else {
         return Err(RunFault::Memory);
@@ -33,9 +28,5 @@ fn run_standard(rt: &HostRuntime) -> Result<(), RunFault> {
     let Ok(mut writer) = BufWriter::new(rt.alloc(), io::writer(rt)) else {
         return Err(RunFault::Memory);
     };
-    let done = run(rt.alloc(), &mut reader, &mut writer);
-    match writer.flush() {
-        Ok(()) => done,
-        Err(_) => done.and(Err(RunFault::Write)),
-    }
+    run(rt.alloc(), &mut reader, &mut writer)
 }

@@ -1,7 +1,7 @@
 //! Sessions with the answers that they must have, and readers and writers that fail.
 
-use crate::run::{RunFault, fault_text, run};
 use crate::vectors::{ARRAYS, SCALARS};
+use pgv_session::{RunFault, fault_text, run};
 use std::alloc::{AllocError, Global};
 use std::io::{self, BufRead, Error, ErrorKind, Read, Write};
 use std::test::Fail;

@@ -1,0 +1,113 @@
+-- A session of the program: what each line does to the arguments, and what it answers.
+use Rattle.std.specs.Prelude.{◌≡◌, ◌≢◌, ℕ, ◌≤◌, ◌==◌, Bool, true, false, codes, decimal, List, [], ◌∷◌, ◌++◌, length, Option, Some, None, if◌then◌else◌}
+use Rattle.std.specs.List.{AllByRecursion}
+use Rattle.hex.specs.Hex.{encode_lower}
+use Rattle.pgv_types.specs.Ty.{Ty}
+use Rattle.pgv_types.specs.Facts.{display_of}
+use Rattle.pgv_types.specs.declared.oid.Oid.{Oid}
+use Rattle.pgv_buf.specs.Tokens.{bytes, be4, blank, shown, hole_count, hole_types_of}
+use Rattle.pgv_value.specs.declared.value.PgValueFormat.TheVariants.{Text as InText, Binary as InBinary}
+use Rattle.pgv_wire.specs.Arguments.{Argument, Framed, all_tokens, types_in, filled_arguments}
+use Rattle.pgv_session.specs.Spelled.{Ask, to_add, to_add_null, to_read, Request, asks, asks_holes, resolves, asks_wire, Asks}
+use Rattle.pgv_session.specs.Types.{Row, types, row_named}
+
+-- ---- answers
+
+abbrev pub State : Type 0
+State = List Argument
+
+-- `$` and the number of arguments
+abbrev pub placeholder : State → List ℕ
+placeholder args = 36 ∷ decimal (length args)
+
+-- `refused Cn`
+abbrev pub refused : ℕ → List ℕ
+refused n = codes "refused C" ++ decimal n
+
+-- `refused Cn`, n from 2 to 38; which n is left open
+abbrev pub IsRefusal : List ℕ → Type 0
+IsRefusal answer = (n : ℕ) × (2 ≤ n) × (n ≤ 38) × (answer ≡ refused n)
+
+-- what is accepted is added, and what is refused changes nothing
+abbrev pub Adds : Option Framed → State → List ℕ → State → Type 0
+Adds None was answer now = IsRefusal answer × (now ≡ was)
+Adds (Some f) was answer now = (answer ≡ placeholder now) × (now ≡ was ++ (f.0, blank f.1) ∷ [])
+
+-- the display names, with one space before each
+abbrev pub names_behind : List Ty → List ℕ
+names_behind [] = []
+names_behind (t ∷ ts) = 32 ∷ (display_of t ++ names_behind ts)
+
+-- the display names with one space between them, or `none`
+abbrev pub names_shown : List Ty → List ℕ
+names_shown [] = codes "none"
+names_shown (t ∷ ts) = display_of t ++ names_behind ts
+
+-- each argument's parameter type is its own
+abbrev pub Resolves : Bool → List Oid → State → List ℕ → State → Type 0
+Resolves false oids was answer now = (answer ≡ refused 11) × (now ≡ was)
+Resolves true oids was answer now = (answer ≡ codes "ok") × (now ≡ filled_arguments was (types_in was) oids)
+
+-- the frame that the value writes, its holes as zeros; a null that is not read is C13
+abbrev pub Reads : Option Framed → Option (List ℕ) → List ℕ → Type 0
+Reads (Some f) part answer = answer ≡ encode_lower (shown (blank f.1))
+Reads None (Some bytes) answer = IsRefusal answer
+Reads None None answer = answer ≡ refused 13
+
+-- what is asked of a value, by the row of its TYPE, where that has one
+abbrev pub RespondsBy : Option Row → Ask → State → List ℕ → State → Type 0
+RespondsBy None ask was answer now = (answer ≡ codes "refused line") × (now ≡ was)
+RespondsBy (Some row) (to_add text) was answer now = Adds (row.value InText (Some text)) was answer now
+RespondsBy (Some row) to_add_null was answer now = Adds (Some (row.info, bytes (be4 4294967295))) was answer now
+RespondsBy (Some row) (to_read part) was answer now = Reads (row.value InBinary part) part answer × (now ≡ was)
+
+abbrev pub Responds : Request → State → List ℕ → State → Type 0
+Responds (asks name ask) was answer now = RespondsBy (row_named types name) ask was answer now
+Responds asks_holes was answer now = (answer ≡ names_shown (hole_types_of (all_tokens was))) × (now ≡ was)
+Responds (resolves oids) was answer now = Resolves (length oids == hole_count (all_tokens was)) oids was answer now
+Responds asks_wire was answer now = (answer ≡ encode_lower (shown (all_tokens was))) × (now ≡ was)
+
+abbrev pub RespondsTo : Option Request → State → List ℕ → State → Type 0
+RespondsTo None was answer now = (answer ≡ codes "refused line") × (now ≡ was)
+RespondsTo (Some r) was answer now = Responds r was answer now
+
+-- a line, from one state to the next: what it asks for is answered
+abbrev pub Answers : List ℕ → State → List ℕ → State → Type 0
+Answers line was answer now = (asked : Option Request) × Asks line asked × RespondsTo asked was answer now
+
+-- ---- whole sessions
+
+-- the lines of an input: each ends at a line feed, which the last may lack
+abbrev pub line_more : List ℕ → List (List ℕ) → List (List ℕ)
+line_more [] lines = lines
+line_more (c ∷ cs) lines = (c ∷ cs) ∷ lines
+
+abbrev pub lines_from : List ℕ → List ℕ → List (List ℕ)
+lines_from begun [] = line_more begun []
+lines_from begun (c ∷ cs) = if c == 10 then begun ∷ lines_from [] cs else lines_from (begun ++ c ∷ []) cs
+
+abbrev pub lines_of : List ℕ → List (List ℕ)
+lines_of input = lines_from [] input
+
+-- The same by spellings: full lines, each with its line feed (10), and behind them perhaps one without.
+abbrev pub ended : List (List ℕ) → List ℕ
+ended [] = []
+ended (line ∷ lines) = line ++ 10 ∷ ended lines
+
+abbrev pub HasNoLineFeed : List ℕ → Type 0
+HasNoLineFeed line = AllByRecursion (λ c. c ≢ 10) line
+
+pub record AreLines (input : List ℕ) (lines : List (List ℕ)) : Type 0 where
+  pub full : List (List ℕ)
+  pub last : List ℕ
+  pub each : AllByRecursion HasNoLineFeed full
+  pub unended : HasNoLineFeed last
+  pub whole : input ≡ ended full ++ last
+  pub lines_are : lines ≡ full ++ line_more last []
+
+-- one answer, with its line feed, for each line
+abbrev pub IsSession : State → List (List ℕ) → List ℕ → Type 0
+IsSession was [] output = output ≡ []
+IsSession was (line ∷ lines) output =
+    (answer : List ℕ) × (now : State) × (rest : List ℕ) ×
+    Answers line was answer now × (output ≡ answer ++ 10 ∷ rest) × IsSession now lines rest

@@ -1,0 +1,212 @@
+//! What a line asks for.
+
+ghost use Rattle.std.specs.Prelude.{◌≡◌, Option, option_map, bytes_eq, IfOk};
+ghost use Rattle.std.specs.Option.{option_copied};
+ghost use Rattle.pgv_text.specs.Number.{unsigned_value};
+ghost use Rattle.pgv_session.specs.Lines.{before, behind, first_word, behind_word, words, starts_with_plus, oid_of, oid_named, oids_named, request, given_bytes as bytes_given, alone as alone_by, add_line as added_by, null_line as null_by, resolve_line as resolve_by, read_line as read_by};
+ghost use Rattle.pgv_session.specs.Requests.{request_seen};
+ghost use Rattle.pgv_session.specs.Spelled.{Asks};
+
+use hex::FromHexError;
+use pgv_text::{NumberFault, unsigned_number_of};
+use pgv_types::Oid;
+use std::alloc::{AllocError, Global};
+
+/// What is asked of a value of a TYPE.
+#[derive(Drop)]
+pub enum Ask<'a> {
+    /// `add TYPE TEXT`: the text is read under the type, and the value is added.
+    Add(&'a [u8]),
+    /// `null TYPE`: a null is added.
+    Null,
+    /// `read TYPE HEX`: the bytes, or null, are read under the type and written again.
+    Read(Option<Vec<u8>>),
+}
+
+/// What a line asks for.
+#[derive(Drop)]
+pub enum Request<'a> {
+    /// Something of a value of the TYPE of this name, if there is one.
+    Of(&'a [u8], Ask<'a>),
+    /// `holes`: the names of the types whose OIDs are missing.
+    Holes,
+    /// `resolve OID ..`: the holes are filled.
+    Resolve(Vec<Oid>),
+    /// `wire`: the bytes of the buffer.
+    Wire,
+}
+
+/// What stands before the first byte of a kind, and behind it, where there is one.
+pub fn split_at_byte(line: &[u8], mark: u8) -> (&[u8], Option<&[u8]>)
+    ensures before { result.0.now ≡ before mark line.now }
+    ensures behind { option_copied result.1 ≡ behind mark line.now }
+{
+    for (place, byte) in line.iter().enumerate() {
+        if *byte == mark {
+            return (&line[..place], Some(&line[place + 1..]));
+        }
+    }
+    (line, None)
+}
+
+/// A line's first word, and what stands behind the space that ends it, where one does.
+fn split_word(line: &[u8]) -> (&[u8], Option<&[u8]>)
+    ensures word { result.0.now ≡ first_word line.now }
+    ensures behind { option_copied result.1 ≡ behind_word line.now }
+{
+    split_at_byte(line, b' ')
+}
+
+/// Whether a word is this name.
+pub fn is(word: &[u8], name: &str) -> bool
+    ensures { result ≡ bytes_eq word.now name.now }
+{
+    word == name.as_bytes()
+}
+
+/// Digits up to 4294967295.
+#[tactic(auto, using(crate::proofs::Texts::whole_text))]
+fn oid(word: &[u8]) -> Option<Oid>
+    ensures { result ≡ oid_named word.now }
+{
+    let text = str::from_utf8(word).ok()?;
+    if is_plus_first(text) {
+        return None;
+    }
+    number(text)
+}
+
+fn is_plus_first(text: &str) -> bool
+    ensures { result ≡ starts_with_plus text.now }
+{
+    match text.as_bytes() {
+        [first, ..] => *first == b'+',
+        [] => false,
+    }
+}
+
+/// A number up to 4294967295.
+fn number(text: &str) -> Option<Oid>
+    ensures { result ≡ oid_of (unsigned_value text.now) }
+{
+    match unsigned_number_of(text) {
+        Ok(number) => match u32::try_from(number) {
+            Ok(oid) => Some(Oid(oid)),
+            Err(_) => None,
+        },
+        Err(NumberFault::Syntax) => None,
+        Err(NumberFault::OutOfRange) => None,
+    }
+}
+
+/// OIDs with one space between them.
+fn oids(alloc: Global, text: &[u8]) -> Result<Option<Vec<Oid>>, AllocError>
+    ensures { IfOk result (λ found. option_map (λ v. v.items) found ≡ oids_named (words text.now)) }
+{
+    let mut oids = Vec::new(alloc);
+    let mut left = Some(text);
+    while let Some(text) = left {
+        let (word, behind) = split_word(text);
+        let Some(oid) = oid(word) else {
+            return Ok(None);
+        };
+        oids.push(oid)?;
+        left = behind;
+    }
+    Ok(Some(oids))
+}
+
+/// `null`, or hex digits.
+fn given_bytes(alloc: Global, text: &[u8]) -> Result<Option<Option<Vec<u8>>>, AllocError>
+    ensures { IfOk result (λ found. option_map (option_map (λ v. v.items)) found ≡ bytes_given text.now) }
+{
+    if is(text, "null") {
+        return Ok(Some(None));
+    }
+    match hex::decode(alloc, text) {
+        Ok(bytes) => Ok(Some(Some(bytes))),
+        Err(FromHexError::OutOfMemory) => Err(AllocError),
+        Err(_) => Ok(None),
+    }
+}
+
+/// What a line asks for, if anything.
+pub fn parse<'a>(alloc: Global, line: &'a [u8]) -> Result<Option<Request<'a>>, AllocError>
+    ensures computed { IfOk result (λ found. option_map request_seen found ≡ request line.now) }
+    ensures meaning { IfOk result (λ found. Asks line.now (option_map request_seen found)) }
+{
+    let (verb, behind) = split_word(line);
+    if is(verb, "add") {
+        return Ok(add_line(behind));
+    }
+    if is(verb, "null") {
+        return Ok(null_line(behind));
+    }
+    if is(verb, "holes") {
+        return Ok(alone(Request::Holes, behind));
+    }
+    if is(verb, "resolve") {
+        return resolve_line(alloc, behind);
+    }
+    if is(verb, "wire") {
+        return Ok(alone(Request::Wire, behind));
+    }
+    if is(verb, "read") {
+        return read_line(alloc, behind);
+    }
+    Ok(None)
+}
+
+fn alone<'a>(request: Request<'a>, behind: Option<&[u8]>) -> Option<Request<'a>>
+    ensures { option_map request_seen result ≡ alone_by (request_seen request.entry) (option_copied behind.entry) }
+{
+    match behind {
+        None => Some(request),
+        Some(_) => None,
+    }
+}
+
+fn add_line<'a>(behind: Option<&'a [u8]>) -> Option<Request<'a>>
+    ensures { option_map request_seen result ≡ added_by (option_copied behind.entry) }
+{
+    let (name, text) = split_word(behind?);
+    Some(Request::Of(name, Ask::Add(text?)))
+}
+
+fn null_line<'a>(behind: Option<&'a [u8]>) -> Option<Request<'a>>
+    ensures { option_map request_seen result ≡ null_by (option_copied behind.entry) }
+{
+    let (name, behind) = split_word(behind?);
+    alone(Request::Of(name, Ask::Null), behind)
+}
+
+fn resolve_line<'a>(
+    alloc: Global,
+    behind: Option<&'a [u8]>,
+) -> Result<Option<Request<'a>>, AllocError>
+    ensures { IfOk result (λ found. option_map request_seen found ≡ resolve_by (option_copied behind.entry)) }
+{
+    let Some(behind) = behind else {
+        return Ok(Some(Request::Resolve(Vec::new(alloc))));
+    };
+    match oids(alloc, behind)? {
+        Some(oids) => Ok(Some(Request::Resolve(oids))),
+        None => Ok(None),
+    }
+}
+
+fn read_line<'a>(alloc: Global, behind: Option<&'a [u8]>) -> Result<Option<Request<'a>>, AllocError>
+    ensures { IfOk result (λ found. option_map request_seen found ≡ read_by (option_copied behind.entry)) }
+{
+    let Some(behind) = behind else {
+        return Ok(None);
+    };
+    let (name, text) = split_word(behind);
+    let Some(text) = text else {
+        return Ok(None);
+    };
+    match given_bytes(alloc, text)? {
+        Some(bytes) => Ok(Some(Request::Of(name, Ask::Read(bytes)))),
+        None => Ok(None),
+    }
+}

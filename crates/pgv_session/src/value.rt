@@ -1,0 +1,144 @@
+//! What is asked of a value of a TYPE.
+
+ghost use Rattle.std.specs.Prelude.{◌≡◌, ◌≢◌, Some, None, IfOk, MatchOption, string_bytes};
+ghost use Rattle.std.specs.Option.{option_copied};
+ghost use Rattle.hex.specs.Hex.{encode_lower};
+ghost use Rattle.pgv_buf.specs.Tokens.{shown, blank};
+ghost use Rattle.pgv_value.specs.Codes.{code_of};
+ghost use Rattle.pgv_value.specs.declared.error.CodecError.TheVariants.{Memory};
+ghost use Rattle.pgv_value.specs.declared.value.PgValueFormat.TheVariants.{Text as InText, Binary as InBinary};
+ghost use Rattle.pgv_codec.specs.Saying.{said};
+ghost use Rattle.pgv_session.specs.Requests.{ask_seen};
+ghost use Rattle.pgv_session.specs.Session.{RespondsBy, Adds, Reads, IsRefusal, refused, placeholder as placeholder_of};
+ghost use Rattle.pgv_session.specs.Types.{framed_as, framed_by, row, row_named, types};
+
+use crate::line::{Ask, is};
+use pgv_types::Oid;
+use pgv_wire::{
+    Codec, CodecError, Encode, PgArgumentBuffer, PgArguments, PgValueFormat, PgValueRef, Type,
+};
+use std::alloc::{AllocError, Global};
+use uuid::Uuid;
+
+/// Answers what is asked of a value of the TYPE of this name, if there is one.
+pub fn respond_by(
+    alloc: Global,
+    arguments: &mut PgArguments,
+    name: &[u8],
+    ask: Ask,
+) -> Result<String, AllocError>
+    ensures { IfOk result (λ text. RespondsBy (row_named types name.now) (ask_seen ask.entry) arguments.old (string_bytes text) arguments.new) }
+{
+    match name {
+        _ if is(name, "bool") => respond_as::<bool>(alloc, arguments, ask),
+        _ if is(name, "char") => respond_as::<i8>(alloc, arguments, ask),
+        _ if is(name, "int2") => respond_as::<i16>(alloc, arguments, ask),
+        _ if is(name, "int4") => respond_as::<i32>(alloc, arguments, ask),
+        _ if is(name, "int8") => respond_as::<i64>(alloc, arguments, ask),
+        _ if is(name, "oid") => respond_as::<Oid>(alloc, arguments, ask),
+        _ if is(name, "text") => respond_as::<String>(alloc, arguments, ask),
+        _ if is(name, "uuid") => respond_as::<Uuid>(alloc, arguments, ask),
+        _ if is(name, "int4[]") => respond_as::<Vec<Option<i32>>>(alloc, arguments, ask),
+        _ if is(name, "text[]") => respond_as::<Vec<Option<String>>>(alloc, arguments, ask),
+        _ => String::from_str(alloc, "refused line"),
+    }
+}
+
+/// Answers what is asked of a value of a Rust type, of which null is none.
+fn respond_as<T: Codec>(
+    alloc: Global,
+    arguments: &mut PgArguments,
+    ask: Ask,
+) -> Result<String, AllocError>
+    requires { T.reading T.info InBinary None ≡ None }
+    ensures { IfOk result (λ text. RespondsBy (Some (row T.info T.reading T.written)) (ask_seen ask.entry) arguments.old (string_bytes text) arguments.new) }
+{
+    match ask {
+        Ask::Add(text) => add::<T>(alloc, arguments, text),
+        Ask::Null => add_value(alloc, arguments, &None::<T>),
+        Ask::Read(part) => match &part {
+            Some(bytes) => read::<T>(alloc, Some(bytes.as_slice())),
+            None => read::<T>(alloc, None),
+        },
+    }
+}
+
+/// Adds the value that a text is.
+fn add<T: Codec>(
+    alloc: Global,
+    arguments: &mut PgArguments,
+    text: &[u8],
+) -> Result<String, AllocError>
+    ensures { IfOk result (λ answer. Adds (framed_by T.info T.written (T.reading T.info InText (Some text.now))) arguments.old (string_bytes answer) arguments.new) }
+{
+    match T::decode(
+        alloc,
+        PgValueRef::new(Some(text), T::type_info(), PgValueFormat::Text),
+    ) {
+        Ok(value) => add_value(alloc, arguments, &value),
+        Err(error) => refusal(alloc, &error),
+    }
+}
+
+/// Adds a value: its place, or why it is refused.
+fn add_value<T: Encode + Type>(
+    alloc: Global,
+    arguments: &mut PgArguments,
+    value: &T,
+) -> Result<String, AllocError>
+    ensures { IfOk result (λ answer. Adds (framed_as (said T.hint T.image T.produced T.info value.now)) arguments.old (string_bytes answer) arguments.new) }
+{
+    match arguments.add_by_ref(value) {
+        Ok(()) => placeholder(alloc, arguments),
+        Err(error) => refusal(alloc, &error),
+    }
+}
+
+/// The place of the last argument.
+fn placeholder(alloc: Global, arguments: &PgArguments) -> Result<String, AllocError>
+    ensures { IfOk result (λ text. string_bytes text ≡ placeholder_of arguments.now) }
+{
+    let mut text = String::new(alloc);
+    match arguments.format_placeholder(&mut text) {
+        Ok(()) => Ok(text),
+        Err(_) => Err(AllocError),
+    }
+}
+
+/// The frame that the value of null or bytes writes, in hex.
+fn read<T: Codec>(alloc: Global, part: Option<&[u8]>) -> Result<String, AllocError>
+    requires { T.reading T.info InBinary None ≡ None }
+    ensures { IfOk result (λ answer. Reads (framed_by T.info T.written (T.reading T.info InBinary (option_copied part.entry))) (option_copied part.entry) (string_bytes answer)) }
+{
+    match T::decode(
+        alloc,
+        PgValueRef::new(part, T::type_info(), PgValueFormat::Binary),
+    ) {
+        Ok(value) => frame_text(alloc, &value),
+        Err(error) => refusal(alloc, &error),
+    }
+}
+
+/// The frame that a value writes, in hex, or why it is refused.
+fn frame_text<T: Encode + Type>(alloc: Global, value: &T) -> Result<String, AllocError>
+    ensures { IfOk result (λ answer. MatchOption (framed_as (said T.hint T.image T.produced T.info value.now)) (IsRefusal (string_bytes answer)) (λ f. string_bytes answer ≡ encode_lower (shown (blank f.1)))) }
+{
+    let mut buffer = PgArgumentBuffer::new(alloc);
+    match buffer.encode(value) {
+        Ok(()) => hex::encode(alloc, buffer.as_slice()),
+        Err(error) => refusal(alloc, &error),
+    }
+}
+
+/// `refused Cn`. Want of memory (C1) is none of a session's refusals.
+pub fn refusal(alloc: Global, error: &CodecError) -> Result<String, AllocError>
+    ensures refused { IfOk result (λ text. IsRefusal (string_bytes text)) }
+    ensures told { IfOk result (λ _. error.now ≢ Memory) }
+    ensures number { IfOk result (λ text. string_bytes text ≡ refused (code_of error.now)) }
+{
+    if let CodecError::Memory = error {
+        return Err(AllocError);
+    }
+    let number = error.code();
+    format!(in alloc; "refused C{number}")
+}

@@ -1,7 +1,0 @@
-use Rattle.std.proofs.Common.{◌≡◌, ◌++◌, drop}
-use Rattle.std.specs.Prelude.{string_bytes}
-use Rattle.pgvalue.specs.Session.{names_behind, names_shown}
-use Rattle.pgvalue.proofs.session.names.Given as goal
-
-abbrev pub invariant-loop-hole_type : goal.invariant-loop-hole_type
-invariant-loop-hole_type l = string_bytes l.text ++ names_behind (drop l.hole_type-index l.rest) ≡ names_shown l.fn.types
