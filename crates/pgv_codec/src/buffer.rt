@@ -1,12 +1,12 @@
 //! The buffer that encoders append to.
 
-ghost use Rattle.std.specs.Prelude.{◌≡◌, ◌<◌, ◌++◌, ℕ, List, [], ◌∷◌, length, OnOk, OnErr, IfOk, IfErr, sum};
+ghost use Rattle.std.specs.Prelude.{◌≡◌, ◌<◌, ◌++◌, ℕ, List, [], ◌∷◌, length, OnOk, OnErr, IfOk, IfErr, Err, sum};
 ghost use Rattle.pgv_buf.specs.Tokens.{byte, hole, slot, bytes, Cell, blank, fixed_bytes, shown, width, be4, hole_types_of, hole_count, slot_count, CasesFit};
 ghost use Rattle.pgv_buf.specs.Shown.{cases_of};
 ghost use Rattle.pgv_buf.specs.Marks.{mark_of};
 ghost use Rattle.pgv_buf.specs.Parse.{Proper};
 ghost use Rattle.pgv_buf.specs.Fill.{fill_holes, fill_slots, slot_types};
-ghost use Rattle.pgv_value.specs.declared.error.CodecError.TheVariants.{Memory};
+ghost use Rattle.pgv_value.specs.declared.error.CodecError.TheVariants.{Memory, ValueSize};
 ghost use Rattle.pgv_codec.specs.Image.{frame, typed};
 ghost use Rattle.pgv_codec.specs.Outcome.{Refused, Appended, AppendedAll};
 
@@ -129,12 +129,14 @@ impl PgArgumentBuffer {
         self.tokens.clear();
     }
 
-    /// Appends one frame: a length of four bytes, and that many bytes of the value; the length -1 for null.
-    /// A refused one may have appended something.
+    /// Appends one frame: a length of four bytes, and that many bytes of the value; the length -1 for null, as `0000000400000007`
+    /// for 7 and `ffffffff` for None. A size hint above 2147483647 is refused with C2 before anything is written; a value that is refused
+    /// later may have appended something.
     pub fn encode<T: Encode>(&mut self, value: &T) -> Result<(), CodecError>
         ensures ok { OnOk result (AppendedAll (frame (T.hint value.now) (T.image value.now)) self.old self.new) }
         ensures err { IfErr result (λ e. Refused e (frame (T.hint value.now) (T.image value.now))) }
         ensures appended { OnErr result (Appended self.old self.new) }
+        ensures hint { 2147483647 < T.hint value.now → (result ≡ Err (ValueSize (T.hint value.now))) × (self.new ≡ self.old) }
     {
         let hint = value.size_hint();
         if hint > 2147483647 {

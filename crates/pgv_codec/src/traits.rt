@@ -1,8 +1,9 @@
 //! What can be written and read, and of which type it is.
 
-ghost use Rattle.std.specs.Prelude.{◌≡◌, ℕ, Bool, true, false, List, Option, None, IfOk, IfErr, OnErr, IsErrOf};
+ghost use Rattle.std.specs.Prelude.{◌≡◌, ℕ, Bool, true, false, List, Option, None, IfOk, IfErr, IfSome, OnErr, IsErrOf};
 ghost use Rattle.pgv_types.specs.Ty.{Ty};
-ghost use Rattle.pgv_value.specs.Reading.{Answers, AnswersExactly};
+ghost use Rattle.pgv_value.specs.Reading.{Answers, AnswersExactly, Refuses};
+ghost use Rattle.pgv_value.specs.declared.error.CodecError.{CodecError};
 ghost use Rattle.pgv_value.specs.declared.error.CodecError.TheVariants.{UnexpectedNull};
 ghost use Rattle.pgv_value.specs.declared.value.PgValueFormat.{PgValueFormat as Format};
 ghost use Rattle.pgv_types.specs.declared.oid.Oid.{Oid};
@@ -96,13 +97,18 @@ pub trait Decode: Sized + Drop {
     /// What is written of a meaning under a type, where values are written too (see [`Codec`]), and else no image.
     ghost written: { Ty → Meaning → Saying };
 
-    /// Whether reading takes memory. Where it takes none, nothing is refused for want of it.
+    /// Whether reading takes memory. Where it takes none, it is never refused as out of memory.
     ghost takes_memory: { Bool } = { true };
+
+    /// Which refusal is answered, out of memory aside, by the format and the bytes, where the type states it. A plain type that was
+    /// given bytes never answers that it was given null (C13); a nest may pass on what a part of it is refused with.
+    ghost refusal: { Option (Format → Option (List ℕ) → CodecError) } = { None };
 
     /// The value that is read. Null is refused with C13, exactly where the type doesn't read null.
     fn decode(alloc: Global, value: PgValueRef<'_>) -> Result<Self, CodecError>
         ensures exact { Answers meaning (reading value.entry.type_info value.entry.format value.entry.bytes) result }
         ensures exactly { takes_memory ≡ false → AnswersExactly meaning (reading value.entry.type_info value.entry.format value.entry.bytes) result }
+        ensures refused { IfSome refusal (λ why. IfErr result (λ e. Refuses e (e ≡ why value.entry.format value.entry.bytes))) }
         ensures null { value.entry.bytes ≡ None → reading value.entry.type_info value.entry.format None ≡ None → IsErrOf result UnexpectedNull };
 }
 

@@ -3,8 +3,8 @@
 ghost use Rattle.pgv_types.specs.Relations.{softly};
 ghost use Rattle.pgv_types.specs.Ty.{builtin};
 ghost use Rattle.pgv_codec.specs.Scalars.{bool_image};
-ghost use Rattle.std.specs.Prelude.{Bool, false, refl};
-ghost use Rattle.pgv_value.specs.Scalars.{bool_reading};
+ghost use Rattle.std.specs.Prelude.{Bool, false, refl, Some};
+ghost use Rattle.pgv_value.specs.Scalars.{bool_reading, bool_refusal};
 ghost use Rattle.pgv_codec.specs.Saying.{plainly};
 
 use crate::buffer::{IsNull, PgArgumentBuffer};
@@ -69,6 +69,8 @@ impl Decode for bool {
     ghost written = { plainly bool_image };
 
     ghost takes_memory = { false };
+
+    ghost refusal = { Some bool_refusal };
 
     fn decode(_alloc: Global, value: PgValueRef<'_>) -> Result<bool, CodecError> {
         read_bool(&value)

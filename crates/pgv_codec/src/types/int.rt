@@ -5,8 +5,8 @@ ghost use Rattle.pgv_types.specs.Relations.{softly};
 ghost use Rattle.pgv_types.specs.Ty.{builtin};
 ghost use Rattle.std.specs.Int.{w8, w16, w32, w64};
 ghost use Rattle.pgv_codec.specs.Scalars.{signed_image};
-ghost use Rattle.std.specs.Prelude.{ℤ, false, refl};
-ghost use Rattle.pgv_value.specs.Scalars.{char_reading, int_reading};
+ghost use Rattle.std.specs.Prelude.{ℤ, Some, false, refl};
+ghost use Rattle.pgv_value.specs.Scalars.{char_reading, char_refusal, int_reading, int_refusal};
 ghost use Rattle.pgv_codec.specs.Saying.{plainly};
 
 use crate::buffer::{IsNull, PgArgumentBuffer};
@@ -72,6 +72,8 @@ impl Decode for i8 {
     ghost written = { plainly (signed_image w8) };
 
     ghost takes_memory = { false };
+
+    ghost refusal = { Some char_refusal };
 
     fn decode(_alloc: Global, value: PgValueRef<'_>) -> Result<i8, CodecError> {
         read_i8(&value)
@@ -151,6 +153,8 @@ impl Decode for i16 {
 
     ghost takes_memory = { false };
 
+    ghost refusal = { Some int_refusal };
+
     fn decode(_alloc: Global, value: PgValueRef<'_>) -> Result<i16, CodecError> {
         read_i16(&value)
     }
@@ -229,6 +233,8 @@ impl Decode for i32 {
 
     ghost takes_memory = { false };
 
+    ghost refusal = { Some int_refusal };
+
     fn decode(_alloc: Global, value: PgValueRef<'_>) -> Result<i32, CodecError> {
         read_i32(&value)
     }
@@ -306,6 +312,8 @@ impl Decode for i64 {
     ghost written = { plainly (signed_image w64) };
 
     ghost takes_memory = { false };
+
+    ghost refusal = { Some int_refusal };
 
     fn decode(_alloc: Global, value: PgValueRef<'_>) -> Result<i64, CodecError> {
         read_i64(&value)

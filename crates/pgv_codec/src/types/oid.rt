@@ -4,8 +4,8 @@ ghost use Rattle.pgv_types.specs.Relations.{softly};
 ghost use Rattle.pgv_types.specs.Ty.{builtin};
 ghost use Rattle.std.specs.Int.{w32};
 ghost use Rattle.pgv_codec.specs.Scalars.{unsigned_image};
-ghost use Rattle.std.specs.Prelude.{ℕ, false, refl};
-ghost use Rattle.pgv_value.specs.Scalars.{oid_reading};
+ghost use Rattle.std.specs.Prelude.{ℕ, false, refl, Some};
+ghost use Rattle.pgv_value.specs.Scalars.{oid_reading, oid_refusal};
 ghost use Rattle.pgv_codec.specs.Saying.{plainly};
 
 use crate::buffer::{IsNull, PgArgumentBuffer};
@@ -71,6 +71,8 @@ impl Decode for Oid {
     ghost written = { plainly (unsigned_image w32) };
 
     ghost takes_memory = { false };
+
+    ghost refusal = { Some oid_refusal };
 
     fn decode(_alloc: Global, value: PgValueRef<'_>) -> Result<Oid, CodecError> {
         read_oid(&value)

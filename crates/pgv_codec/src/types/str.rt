@@ -98,7 +98,8 @@ impl Encode for String {
 /// A text (PostgreSQL, "Character Types"), the same in either format: bytes that are UTF-8, else C14. Null is refused
 /// with C13.
 impl Decode for String {
-    ghost use Rattle.std.specs.Prelude.{ℕ, List};
+    ghost use Rattle.std.specs.Prelude.{ℕ, List, Some};
+    ghost use Rattle.pgv_value.specs.Utf8.{text_refusal};
     ghost use Rattle.std.specs.String.{string_bytes};
     ghost use Rattle.pgv_value.specs.Scalars.{text_reading};
     ghost use Rattle.pgv_codec.specs.Saying.{plainly};
@@ -111,6 +112,8 @@ impl Decode for String {
     ghost reading = { text_reading };
 
     ghost written = { plainly text_image };
+
+    ghost refusal = { Some text_refusal };
 
     fn decode(alloc: Global, value: PgValueRef<'_>) -> Result<String, CodecError> {
         Ok(String::from_str(alloc, value.as_str()?)?)

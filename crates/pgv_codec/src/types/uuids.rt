@@ -3,8 +3,8 @@
 ghost use Rattle.pgv_types.specs.Relations.{softly};
 ghost use Rattle.pgv_types.specs.Ty.{builtin};
 ghost use Rattle.pgv_codec.specs.Scalars.{uuid_image};
-ghost use Rattle.std.specs.Prelude.{ℕ, List, false, refl};
-ghost use Rattle.pgv_value.specs.Scalars.{uuid_reading};
+ghost use Rattle.std.specs.Prelude.{ℕ, List, false, refl, Some};
+ghost use Rattle.pgv_value.specs.Scalars.{uuid_reading, uuid_refusal};
 ghost use Rattle.pgv_codec.specs.Saying.{plainly};
 
 use crate::buffer::{IsNull, PgArgumentBuffer};
@@ -70,6 +70,8 @@ impl Decode for Uuid {
     ghost written = { plainly uuid_image };
 
     ghost takes_memory = { false };
+
+    ghost refusal = { Some uuid_refusal };
 
     fn decode(_alloc: Global, value: PgValueRef<'_>) -> Result<Uuid, CodecError> {
         read_uuid(&value)
