@@ -6,8 +6,8 @@
 
 pub mod laws;
 mod line;
-mod run;
+mod runner;
 mod session;
 mod value;
 
-pub use run::{RunFault, fault_text, run};
+pub use runner::{RunFault, fault_text, run};

@@ -5,7 +5,7 @@ use Rattle.std.specs.Io.BufRead.{take_through, DropsThrough}
 use Rattle.pgv_session.specs.Lines.{before}
 use Rattle.pgv_session.specs.Session.{Answers}
 use Rattle.pgv_session.proofs.SoFar.{so_far, whole}
-use Rattle.pgv_session.proofs.run.answer_lines.Goals as goal
+use Rattle.pgv_session.proofs.runner.answer_lines.Goals as goal
 
 pub returns-in-Ok-eq0-clause-session : goal.returns-in-Ok-eq0-clause-session
 returns-in-Ok-eq0-clause-session g c = whole _ _ _ _ c.loop.arguments c.loop.invariant (c.in-Ok-eq0.ensures.end (search rules))
