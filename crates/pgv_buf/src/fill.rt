@@ -4,6 +4,7 @@ ghost use Rattle.std.specs.Prelude.{◌≡◌, ◌+◌, ◌≤◌, length, sum, 
 ghost use Rattle.pgv_buf.specs.Tokens.{chosen, be4};
 ghost use Rattle.pgv_buf.specs.Fill.{slot_types};
 ghost use Rattle.pgv_buf.specs.Patches.{put, written, Within, numbers, choices};
+ghost use Rattle.pgv_buf.specs.Gaps.{places_after};
 ghost use Rattle.pgv_buf.specs.TokensView.{kept_of};
 
 use pgv_types::{Oid, PgTypeInfo};
@@ -48,14 +49,16 @@ pub(crate) fn put_number(bytes: &mut Vec<u8>, place: usize, value: u32)
     put_bytes(bytes, place, &number);
 }
 
-/// Writes the i-th OID at the i-th place.
-pub(crate) fn write_oids(bytes: &mut Vec<u8>, places: &[usize], oids: &[Oid])
-    requires many { length oids.now ≡ length places.now }
-    requires within { Within (length bytes.old.items) places.now (numbers oids.now) }
-    ensures { bytes.new.items ≡ written places.now (numbers oids.now) bytes.old.items }
+/// Writes the i-th OID at the i-th place, where the gaps lead to the places.
+pub(crate) fn write_oids(bytes: &mut Vec<u8>, gaps: &[usize], oids: &[Oid])
+    requires many { length oids.now ≡ length gaps.now }
+    requires within { Within (length bytes.old.items) (places_after 0 gaps.now) (numbers oids.now) }
+    ensures { bytes.new.items ≡ written (places_after 0 gaps.now) (numbers oids.now) bytes.old.items }
 {
-    for (i, place) in places.iter().enumerate() {
-        put_number(bytes, *place, oids[i].0);
+    let mut place = 0;
+    for (i, gap) in gaps.iter().enumerate() {
+        place += *gap;
+        put_number(bytes, place, oids[i].0);
     }
 }
 
@@ -71,39 +74,50 @@ fn choose<'a>(slot: &'a Slot, parameter: &PgTypeInfo) -> &'a [u8]
     slot.standard.as_slice()
 }
 
-/// Fills the slots of one argument.
-fn write_run(bytes: &mut Vec<u8>, places: &[usize], slots: &[Slot], parameter: &PgTypeInfo)
-    requires many { length places.now ≡ length slots.now }
-    requires within { Within (length bytes.old.items) places.now (choices (replicate (length slots.now) parameter.now) (map kept_of slots.now)) }
-    ensures items { bytes.new.items ≡ written places.now (choices (replicate (length slots.now) parameter.now) (map kept_of slots.now)) bytes.old.items }
+/// Fills the slots of one argument, of which `before` is the place before the first, and gives the place of the last.
+fn write_run(
+    bytes: &mut Vec<u8>,
+    before: usize,
+    gaps: &[usize],
+    slots: &[Slot],
+    parameter: &PgTypeInfo,
+) -> usize
+    requires many { length gaps.now ≡ length slots.now }
+    requires within { Within (length bytes.old.items) (places_after before gaps.now) (choices (replicate (length slots.now) parameter.now) (map kept_of slots.now)) }
+    ensures items { bytes.new.items ≡ written (places_after before gaps.now) (choices (replicate (length slots.now) parameter.now) (map kept_of slots.now)) bytes.old.items }
     ensures len { length bytes.new.items ≡ length bytes.old.items }
+    ensures last { result ≡ before + sum gaps.now }
 {
+    let mut place = before;
     for (i, slot) in slots.iter().enumerate() {
-        put_bytes(bytes, places[i], choose(slot, parameter));
+        place += gaps[i];
+        put_bytes(bytes, place, choose(slot, parameter));
     }
+    place
 }
 
 /// Fills the slots of each argument by the parameter type of that argument.
 pub(crate) fn write_slots(
     bytes: &mut Vec<u8>,
-    places: &[usize],
+    gaps: &[usize],
     slots: &[Slot],
     types: &[PgTypeInfo],
     counts: &[usize],
 )
     requires arguments { length types.now ≡ length counts.now }
     requires slots { sum counts.now ≡ length slots.now }
-    requires places { length places.now ≡ length slots.now }
-    requires within { Within (length bytes.old.items) places.now (choices (slot_types types.now counts.now) (map kept_of slots.now)) }
-    ensures { bytes.new.items ≡ written places.now (choices (slot_types types.now counts.now) (map kept_of slots.now)) bytes.old.items }
+    requires gaps { length gaps.now ≡ length slots.now }
+    requires within { Within (length bytes.old.items) (places_after 0 gaps.now) (choices (slot_types types.now counts.now) (map kept_of slots.now)) }
+    ensures { bytes.new.items ≡ written (places_after 0 gaps.now) (choices (slot_types types.now counts.now) (map kept_of slots.now)) bytes.old.items }
 {
     if slots.is_empty() {
         return;
     }
     let mut next = 0;
+    let mut place = 0;
     for (i, parameter) in types.iter().enumerate() {
         let end = next + counts[i];
-        write_run(bytes, &places[next..end], &slots[next..end], parameter);
+        place = write_run(bytes, place, &gaps[next..end], &slots[next..end], parameter);
         next = end;
     }
 }

@@ -1,15 +1,20 @@
 //! The places of the holes, or of the slots, from the start of the bytes on.
 
-ghost use Rattle.std.specs.Prelude.{◌≡◌, ◌≤◌, ◌++◌, [], ◌∷◌, length, take, OnOk, OnErr};
+ghost use Rattle.std.specs.Prelude.{◌≡◌, ◌+◌, ◌≤◌, ◌++◌, [], ◌∷◌, length, take, sum, OnOk, OnErr};
 ghost use Rattle.pgv_buf.specs.Layout.{last_from};
+ghost use Rattle.pgv_buf.specs.Gaps.{places_after};
 
 use std::alloc::{AllocError, Global};
 use std::marker::Model;
 
 /// Places in order. Two may be the same, since a slot may have no width.
+///
+/// Each is kept as its gap, its distance from the place before, the first from the start. Of the places themselves
+/// only the last is kept.
 #[derive(Drop)]
 pub(crate) struct Places {
-    places: Vec<usize>,
+    gaps: Vec<usize>,
+    pub(crate) last: usize,
 }
 
 impl Model for Places {
@@ -20,9 +25,11 @@ impl Model for Places {
 
     ghost coded = { coded_list coded_ℕ };
 
-    ghost use Rattle.pgv_buf.specs.PlacesView.{seen};
+    ghost use Rattle.pgv_buf.specs.PlacesView.{seen, IsValid};
 
     ghost view = { seen };
+
+    ghost invariant = { IsValid };
 }
 
 impl Places {
@@ -31,15 +38,16 @@ impl Places {
         ensures { result ≡ [] }
     {
         Places {
-            places: Vec::new(alloc),
+            gaps: Vec::new(alloc),
+            last: 0,
         }
     }
 
-    /// The places, as they are kept.
-    pub(crate) fn as_slice(&self) -> &[usize]
-        ensures { result.now ≡ self.now }
+    /// The gaps, which lead from place to place.
+    pub(crate) fn gaps(&self) -> &[usize]
+        ensures { places_after 0 result.now ≡ self.now }
     {
-        self.places.as_slice()
+        self.gaps.as_slice()
     }
 
     /// Appends a place that isn't before the last one.
@@ -48,7 +56,9 @@ impl Places {
         ensures ok { OnOk result (self.new ≡ self.old ++ place ∷ []) }
         ensures err { OnErr result (self.new ≡ self.old) }
     {
-        self.places.push(place)?;
+        let gap = place - self.last;
+        self.gaps.push(gap)?;
+        self.last = place;
         Ok(())
     }
 
@@ -57,14 +67,17 @@ impl Places {
         requires { count ≤ length self.old }
         ensures { self.new ≡ take count self.old }
     {
-        self.places.truncate(count);
+        let last = take_off(self.last, &self.gaps[count..]);
+        self.gaps.truncate(count);
+        self.last = last;
     }
 
     /// Drops all places.
     pub(crate) fn clear(&mut self)
         ensures { self.new ≡ [] }
     {
-        self.places.clear();
+        self.gaps.clear();
+        self.last = 0;
     }
 }
 
@@ -73,7 +86,20 @@ impl Clone for Places {
 
     fn clone(&self) -> Result<Places, AllocError> {
         Ok(Places {
-            places: self.places.clone()?,
+            gaps: self.gaps.clone()?,
+            last: self.last,
         })
     }
+}
+
+/// The place that stands before these gaps, where `last` is the place after them.
+fn take_off(last: usize, gaps: &[usize]) -> usize
+    requires { sum gaps.now ≤ last }
+    ensures { result + sum gaps.now ≡ last }
+{
+    let mut place = last;
+    for gap in gaps {
+        place -= *gap;
+    }
+    place
 }

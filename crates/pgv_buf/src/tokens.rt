@@ -21,7 +21,7 @@ use std::marker::Model;
 #[derive(Drop)]
 pub struct Tokens {
     bytes: Vec<u8>,
-    holes: Places,
+    pub(crate) holes: Places,
     types: Vec<PgTypeInfo>,
     slot_places: Places,
     slots: Vec<Slot>,
@@ -217,7 +217,7 @@ impl Tokens {
         requires { length oids.now ≡ hole_count self.old }
         ensures { self.new ≡ fill_holes oids.now self.old }
     {
-        write_oids(&mut self.bytes, self.holes.as_slice(), oids);
+        write_oids(&mut self.bytes, self.holes.gaps(), oids);
     }
 
     fn fill_types(&mut self, types: &[PgTypeInfo], counts: &[usize])
@@ -227,7 +227,7 @@ impl Tokens {
     {
         write_slots(
             &mut self.bytes,
-            self.slot_places.as_slice(),
+            self.slot_places.gaps(),
             self.slots.as_slice(),
             types,
             counts,
