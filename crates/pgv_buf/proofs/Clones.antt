@@ -4,8 +4,9 @@ use Rattle.std.specs.List.{AllZip}
 use Rattle.std.specs.declared.vec.Vec.{Vec}
 use Rattle.std.specs.declared.alloc.Global.{Global}
 use Rattle.pgv_types.specs.Ty.{Ty}
-use Rattle.pgv_buf.specs.Shown.{kept_of, cases_of}
-use Rattle.pgv_buf.specs.Parse.{Kept}
+use Rattle.pgv_buf.specs.Shown.{cases_of}
+use Rattle.pgv_buf.specs.TokensView.{kept_of}
+use Rattle.pgv_buf.specs.Layout.{Kept}
 use Rattle.pgv_buf.specs.declared.fill.Slot.{Slot}
 
 -- the cases of a slot are those of its clone, where the parts of each are
@@ -18,9 +19,9 @@ cases_same same (x ∷ xs) [] h = absurd h
 cases_same same (x ∷ xs) (y ∷ ys) h =
     ap (λ (c : Ty × List ℕ). c ∷ cases_of ys) (same x y h.0) ∙ ap (λ (cs : List (Ty × List ℕ)). (x.0, x.1.items) ∷ cs) (cases_same same xs ys h.1)
 
-pub same_kept : (a b : ℕ) (d e : List ℕ) (f g : List (Ty × List ℕ)) → a ≡ b → d ≡ e → f ≡ g →
-    ◌≡◌ {A = Kept} (record { place = a; standard = d; cases = f }) (record { place = b; standard = e; cases = g })
-same_kept a b d e f g p q r = cc
+pub same_kept : (d e : List ℕ) (f g : List (Ty × List ℕ)) → d ≡ e → f ≡ g →
+    ◌≡◌ {A = Kept} (record { standard = d; cases = f }) (record { standard = e; cases = g })
+same_kept d e f g q r = cc
 
 pub slots_same : (xs ys : List Slot) → AllZip (λ s copy. kept_of copy ≡ kept_of s) xs ys → map kept_of ys ≡ map kept_of xs
 slots_same [] [] h = refl

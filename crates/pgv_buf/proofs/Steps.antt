@@ -1,72 +1,111 @@
--- What each call leaves, for the tokens that are kept.
-use Rattle.std.proofs.Common.{◌≡◌, ℕ, ◌+◌, List, [], ◌∷◌, ◌++◌, length, take, refl, sym, ◌∙◌, ap, subst, append-nil}
+-- What each call leaves, for the cells that are kept.
+use Rattle.std.proofs.Common.{◌≡◌, ℕ, Bool, false, ◌+◌, ◌≤◌, List, [], ◌∷◌, ◌++◌, length, take, refl, sym, ◌∙◌, ap, subst, arith, append-nil, length-take}
 use Rattle.pgv_types.specs.Ty.{Ty}
 use Rattle.pgv_buf.specs.declared.mark.Mark.{Mark}
-use Rattle.pgv_buf.specs.Tokens.{Cell, fixed_bytes, shown, new_hole, hole_types_of}
+use Rattle.pgv_buf.specs.Tokens.{byte, bytes, Token, Cell, fixed_bytes, plain, shown, new_hole, new_slot, CasesFit}
+use Rattle.pgv_buf.specs.Blank.{plain-blank, blank-bytes}
 use Rattle.pgv_buf.specs.Marks.{mark_of}
-use Rattle.pgv_buf.specs.Parse.{Kept, Represents, Valid, Proper, tokens_of, hole_places, kept_slots, joined, cut}
+use Rattle.pgv_buf.specs.Parse.{Proper}
+use Rattle.pgv_buf.specs.Layout.{is_hole, is_slot, places, last_from, types_of, Kept, slots_of, Layout, Represents}
+use Rattle.pgv_buf.proofs.Layouts.{joined, cut, cut_layout, same_layout, width-plain, last_before, wide, with_more, length-holes, length-slot_places}
 
-pub none_kept : Represents [] [] [] [] []
-none_kept = record { bytes_are = refl; places_are = refl; types_are = refl; slots_are = refl; proper = tt }
-
-pub held : {b ps : List ℕ} {hs : List Ty} {ks : List Kept} (ts : List Cell) → Valid b ps hs ks → tokens_of b ps hs ks ≡ ts → Represents ts b ps hs ks
-held {b} {ps} {hs} {ks} ts v e = subst (λ us. Represents us b ps hs ks) e v
+pub none_kept : Represents [] [] (record { holes = []; types = []; slot_places = []; slots = [] })
+none_kept = record { bytes_are = refl; layout_is = refl; proper = tt }
 
 pub shown-bytes : (xs : List ℕ) → shown (fixed_bytes xs) ≡ xs
 shown-bytes [] = refl
 shown-bytes (x ∷ xs) = ap (λ r. x ∷ r) (shown-bytes xs)
 
-hole_places-bytes : (i : ℕ) (xs : List ℕ) → hole_places i (fixed_bytes xs) ≡ []
-hole_places-bytes i [] = refl
-hole_places-bytes i (x ∷ xs) = hole_places-bytes (i + 1) xs
-
-pub hole_types_of-bytes : (xs : List ℕ) → hole_types_of (fixed_bytes xs) ≡ []
-hole_types_of-bytes [] = refl
-hole_types_of-bytes (x ∷ xs) = hole_types_of-bytes xs
-
-kept_slots-bytes : (i : ℕ) (xs : List ℕ) → kept_slots i (fixed_bytes xs) ≡ []
-kept_slots-bytes i [] = refl
-kept_slots-bytes i (x ∷ xs) = kept_slots-bytes (i + 1) xs
+pub plain-bytes : (xs : List ℕ) → plain (fixed_bytes xs) ≡ bytes xs
+plain-bytes xs = ap plain (sym (blank-bytes xs)) ∙ plain-blank (bytes xs)
 
 pub Proper-bytes : (xs : List ℕ) → Proper (fixed_bytes xs)
 Proper-bytes [] = tt
 Proper-bytes (x ∷ xs) = Proper-bytes xs
 
-pub bytes_joined :
-    {ts : List Cell} {b ps : List ℕ} {hs : List Ty} {ks : List Kept} → Represents ts b ps hs ks →
-    (xs b' : List ℕ) → b' ≡ b ++ xs → Represents (ts ++ fixed_bytes xs) b' ps hs ks
-bytes_joined {ts} {b} {ps} {hs} {ks} r xs b' e =
+no_places : (is : Token → Bool) → ((x : ℕ) → is (byte x) ≡ false) → (i : ℕ) (xs : List ℕ) → places is i (bytes xs) ≡ []
+no_places is h i [] = refl
+no_places is h i (x ∷ xs) = rw (h x) (no_places is h (i + 1) xs)
+
+no_types : (xs : List ℕ) → types_of (bytes xs) ≡ []
+no_types [] = refl
+no_types (x ∷ xs) = no_types xs
+
+no_slots : (xs : List ℕ) → slots_of (bytes xs) ≡ []
+no_slots [] = refl
+no_slots (x ∷ xs) = no_slots xs
+
+-- bytes are kept nowhere else
+pub bytes_alone : (l : Layout) (n : ℕ) (xs : List ℕ) → with_more l n (bytes xs) ≡ l
+bytes_alone l n xs =
+    same_layout
+    (rw (no_places is_hole (λ x. refl) n xs) (append-nil l.holes))
+    (rw (no_types xs) (append-nil l.types))
+    (rw (no_places is_slot (λ x. refl) n xs) (append-nil l.slot_places))
+    (rw (no_slots xs) (append-nil l.slots))
+
+pub bytes_joined : {ts : List Cell} {b : List ℕ} {l : Layout} → Represents ts b l → (xs b' : List ℕ) → b' ≡ b ++ xs → Represents (ts ++ fixed_bytes xs) b' l
+bytes_joined {ts} {b} {l} r xs b' e =
     let j = joined r (fixed_bytes xs) (Proper-bytes xs) in
     record {
       bytes_are = e ∙ (ap (λ r. b ++ r) (sym (shown-bytes xs)) ∙ j.bytes_are);
-      places_are = (rw (hole_places-bytes (length b) xs, append-nil) at j.places_are);
-      types_are = (rw (hole_types_of-bytes xs, append-nil) at j.types_are);
-      slots_are = (rw (kept_slots-bytes (length b) xs, append-nil) at j.slots_are);
+      layout_is = sym (ap (λ c. with_more l (length b) c) (plain-bytes xs) ∙ bytes_alone l (length b) xs) ∙ j.layout_is;
       proper = j.proper;
     }
 
+-- a hole, or a slot, at the end of the bytes is after those before
+pub holes_before : {ts : List Cell} {b : List ℕ} {l : Layout} → Represents ts b l → last_from 0 l.holes ≤ length b
+holes_before {ts} {b} {l} r =
+    let e : last_from 0 l.holes ≡ last_from 0 (places is_hole 0 (plain ts)) = ap (λ (m : Layout). last_from 0 m.holes) r.layout_is in
+    omega (arith, e, wide r, width-plain ts, last_before is_hole 0 0 (plain ts) (omega arith))
+
+pub slots_before : {ts : List Cell} {b : List ℕ} {l : Layout} → Represents ts b l → last_from 0 l.slot_places ≤ length b
+slots_before {ts} {b} {l} r =
+    let e : last_from 0 l.slot_places ≡ last_from 0 (places is_slot 0 (plain ts)) = ap (λ (m : Layout). last_from 0 m.slot_places) r.layout_is in
+    omega (arith, e, wide r, width-plain ts, last_before is_slot 0 0 (plain ts) (omega arith))
+
 pub hole_joined :
-    {ts : List Cell} {b ps : List ℕ} {hs : List Ty} {ks : List Kept} → Represents ts b ps hs ks →
-    (t : Ty) (b' ps' : List ℕ) (hs' : List Ty) → b' ≡ b ++ 0 ∷ 0 ∷ 0 ∷ 0 ∷ [] → ps' ≡ ps ++ length b ∷ [] → hs' ≡ hs ++ t ∷ [] →
-    Represents (ts ++ new_hole t ∷ []) b' ps' hs' ks
-hole_joined {ts} {b} {ps} {hs} {ks} r t b' ps' hs' e f g =
+    {ts : List Cell} {b : List ℕ} {l : Layout} → Represents ts b l →
+    (t : Ty) (b' ps' : List ℕ) (hs' : List Ty) → b' ≡ b ++ 0 ∷ 0 ∷ 0 ∷ 0 ∷ [] → ps' ≡ l.holes ++ length b ∷ [] → hs' ≡ l.types ++ t ∷ [] →
+    Represents (ts ++ new_hole t ∷ []) b' (record { holes = ps'; types = hs'; slot_places = l.slot_places; slots = l.slots })
+hole_joined {ts} {b} {l} r t b' ps' hs' e f g =
     let j = joined r (new_hole t ∷ []) (refl, tt) in
     record {
       bytes_are = e ∙ j.bytes_are;
-      places_are = f ∙ j.places_are;
-      types_are = g ∙ j.types_are;
-      slots_are = (rw append-nil at j.slots_are);
+      layout_is = same_layout f g (sym (append-nil l.slot_places)) (sym (append-nil l.slots)) ∙ j.layout_is;
+      proper = j.proper;
+    }
+
+pub slot_joined :
+    {ts : List Cell} {b : List ℕ} {l : Layout} → Represents ts b l →
+    (d : List ℕ) (cs : List (Ty × List ℕ)) → CasesFit (length d) cs → (b' qs' : List ℕ) (ks' : List Kept) →
+    b' ≡ b ++ d → qs' ≡ l.slot_places ++ length b ∷ [] → ks' ≡ l.slots ++ record { standard = d; cases = cs } ∷ [] →
+    Represents (ts ++ new_slot d cs ∷ []) b' (record { holes = l.holes; types = l.types; slot_places = qs'; slots = ks' })
+slot_joined {ts} {b} {l} r d cs fit b' qs' ks' e f g =
+    let j = joined r (new_slot d cs ∷ []) (refl, fit, tt) in
+    record {
+      bytes_are = e ∙ (ap (λ x. b ++ x) (sym (append-nil d)) ∙ j.bytes_are);
+      layout_is = same_layout (sym (append-nil l.holes)) (sym (append-nil l.types)) f g ∙ j.layout_is;
       proper = j.proper;
     }
 
 pub cut_at :
-    {b ps : List ℕ} {hs : List Ty} {ks : List Kept} (ts : List Cell) → Represents ts b ps hs ks →
+    {b : List ℕ} {l : Layout} (ts : List Cell) → Represents ts b l →
     (m : Mark) (front rest : List Cell) → ts ≡ front ++ rest → m ≡ mark_of front →
-    Represents front (take m.bytes b) (take m.holes ps) (take m.holes hs) (take m.slots ks)
-cut_at {b} {ps} {hs} {ks} ts r m front rest e f =
-    rw f (cut front rest (subst (λ us. Represents us b ps hs ks) e r))
+    Represents front (take m.bytes b) (cut_layout m.holes m.slots l)
+cut_at {b} {l} ts r m front rest e f =
+    rw f (cut front rest (subst (λ us. Represents us b l) e r))
 
 pub same_as :
-    {ts : List Cell} {b ps b' ps' : List ℕ} {hs hs' : List Ty} {ks ks' : List Kept} → Represents ts b ps hs ks →
-    b' ≡ b → ps' ≡ ps → hs' ≡ hs → ks' ≡ ks → Represents ts b' ps' hs' ks'
-same_as r e f g h = rw (e, f, g, h) r
+    {ts : List Cell} {b b' : List ℕ} {l l' : Layout} → Represents ts b l → b' ≡ b → l' ≡ l → Represents ts b' l'
+same_as r e f = rw (e, f) r
+
+-- the numbers of a mark are there to go back to
+pub enough :
+    {b : List ℕ} {l : Layout} (ts : List Cell) → Represents ts b l →
+    (m : Mark) (front rest : List Cell) → ts ≡ front ++ rest → m ≡ mark_of front → (m.holes ≤ length l.holes) × (m.slots ≤ length l.slot_places)
+enough {b} {l} ts r m front rest e f =
+    let c : Represents front (take m.bytes b) (cut_layout m.holes m.slots l) = cut_at ts r m front rest e f in
+    let h : length (take m.holes l.holes) ≡ m.holes = ap (λ (k : Layout). length k.holes) c.layout_is ∙ (length-holes 0 front ∙ ap (λ (k : Mark). k.holes) (sym f)) in
+    let s : length (take m.slots l.slot_places) ≡ m.slots = ap (λ (k : Layout). length k.slot_places) c.layout_is ∙ (length-slot_places 0 front ∙ ap (λ (k : Mark). k.slots) (sym f)) in
+    (omega (arith, h, length-take m.holes l.holes), omega (arith, s, length-take m.slots l.slot_places))

@@ -1,10 +1,10 @@
--- Filling: the i-th hole shows the i-th number.
-use Rattle.std.specs.Prelude.{◌≡◌, ℕ, refl, ◌+◌, ◌≤◌, List, [], ◌∷◌, ◌++◌, length, take, drop, replicate}
+-- Filling: the i-th hole shows the i-th number, and each slot what it has for its type.
+use Rattle.std.specs.Prelude.{◌≡◌, ℕ, refl, ◌+◌, List, [], ◌∷◌, ◌++◌, replicate}
 use Rattle.std.proofs.Common.{ap}
 use Rattle.pgv_types.specs.Ty.{Ty}
 use Rattle.pgv_types.specs.declared.oid.Oid.{Oid}
-use Rattle.pgv_buf.specs.Tokens.{slot_count, Cell, fixed, hole_cell, slot_cell, be4, chosen, CasesFit}
-use Rattle.pgv_buf.specs.Parse.{Kept, first_type}
+use Rattle.pgv_buf.specs.Tokens.{slot_count, Cell, fixed, hole_cell, slot_cell, be4, chosen}
+use Rattle.pgv_buf.specs.Parse.{first_type}
 
 abbrev pub first_number : List Oid → ℕ
 first_number [] = 0
@@ -19,19 +19,6 @@ fill_holes os [] = []
 fill_holes os (fixed x ∷ ts) = fixed x ∷ fill_holes os ts
 fill_holes os (hole_cell t s ∷ ts) = hole_cell t (be4 (first_number os)) ∷ fill_holes (rest_numbers os) ts
 fill_holes os (slot_cell d cs s ∷ ts) = slot_cell d cs s ∷ fill_holes os ts
-
--- w in place of what stood at p
-abbrev pub put : ℕ → List ℕ → List ℕ → List ℕ
-put p w b = take p b ++ w ++ drop (p + length w) b
-
-abbrev pub written : List ℕ → List Oid → List ℕ → List ℕ
-written [] os b = b
-written (p ∷ ps) os b = written ps (rest_numbers os) (put p (be4 (first_number os)) b)
-
--- four bytes stand at each place
-abbrev pub Within : ℕ → List ℕ → Type 0
-Within n [] = Unit {0}
-Within n (p ∷ ps) = (p + 4 ≤ n) × Within n ps
 
 -- ---- slots
 
@@ -58,14 +45,6 @@ rest_counts (n ∷ ns) = ns
 abbrev pub slot_types : List Ty → List ℕ → List Ty
 slot_types [] ns = []
 slot_types (p ∷ ps) ns = replicate (first_count ns) p ++ slot_types ps (rest_counts ns)
-
-abbrev pub written_slots : List Ty → List Kept → List ℕ → List ℕ
-written_slots ps [] b = b
-written_slots ps (k ∷ ks) b = written_slots (rest_types ps) ks (put k.place (chosen (first_type ps) k.standard k.cases) b)
-
-abbrev pub SlotsWithin : ℕ → List Kept → Type 0
-SlotsWithin n [] = Unit {0}
-SlotsWithin n (k ∷ ks) = (k.place + length k.standard ≤ n) × CasesFit (length k.standard) k.cases × SlotsWithin n ks
 
 -- holes that are filled change no number of slots
 pub slot_count-filled : (os : List Oid) (ts : List Cell) → slot_count (fill_holes os ts) ≡ slot_count ts

@@ -8,6 +8,7 @@
 
 mod fill;
 mod mark;
+mod places;
 #[cfg(test)]
 mod tests;
 mod tokens;

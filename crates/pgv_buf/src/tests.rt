@@ -63,3 +63,50 @@ fn what_was_appended_is_taken_off_again(rt: HostRuntime) -> Result<(), AllocErro
     assert_eq!(rt; tokens.as_slice(), [1, 2].as_slice());
     Ok(())
 }
+
+/// The frame of one label tree `a.b` in a list: its type's OID isn't known yet.
+fn append_label_trees(tokens: &mut Tokens) -> Result<(), AllocError> {
+    tokens.extend_from_slice(&[0, 0, 0, 28, 0, 0, 0, 1, 0, 0, 0, 0])?;
+    tokens.push_hole(PgTypeInfo::with_name("ltree"))?;
+    tokens.extend_from_slice(&[0, 0, 0, 1, 0, 0, 0, 1, 0, 0, 0, 4])?;
+    tokens.extend_from_slice(b"\x01a.b")?;
+    Ok(())
+}
+
+#[test]
+fn holes_are_kept_by_their_gaps(rt: HostRuntime) -> Result<(), AllocError> {
+    let mut tokens = Tokens::new(rt.alloc());
+    tokens.extend_from_slice(&[0, 0, 0, 4, 0, 0, 0, 1])?;
+    let before = tokens.mark();
+    tokens.extend_from_slice(&[0, 0, 0, 24, 0, 0, 0, 1, 0, 0, 0, 0])?;
+    tokens.push_hole(PgTypeInfo::with_name("mood"))?;
+    tokens.back(before);
+    assert_eq!(rt; tokens.as_slice(), [0, 0, 0, 4, 0, 0, 0, 1].as_slice());
+    assert_eq!(rt; tokens.hole_types().len(), 0);
+    assert_eq!(rt; tokens.holes.gaps().len(), 0);
+    assert_eq!(rt; tokens.holes.last, 0);
+    append_label_trees(&mut tokens)?;
+    append_label_trees(&mut tokens)?;
+    assert_eq!(rt; tokens.hole_types().len(), 2);
+    assert_eq!(rt; tokens.holes.gaps(), [20, 32].as_slice());
+    assert_eq!(rt; tokens.holes.last, 52);
+    assert_eq!(rt;
+        tokens.as_slice(),
+        b"\0\0\0\x04\0\0\0\x01\0\0\0\x1c\0\0\0\x01\0\0\0\0\0\0\0\0\0\0\0\x01\0\0\0\x01\0\0\0\x04\x01a.b\0\0\0\x1c\0\0\0\x01\0\0\0\0\0\0\0\0\0\0\0\x01\0\0\0\x01\0\0\0\x04\x01a.b".as_slice()
+    );
+    Ok(())
+}
+
+#[test]
+fn slots_of_no_width_are_kept_by_their_number(rt: HostRuntime) -> Result<(), AllocError> {
+    let mut tokens = Tokens::new(rt.alloc());
+    tokens.push(b'{')?;
+    tokens.push_slot(b"", Vec::new(rt.alloc()))?;
+    let one = tokens.mark();
+    tokens.push_slot(b"", Vec::new(rt.alloc()))?;
+    assert_eq!(rt; tokens.mark().slots(), 2);
+    tokens.back(one);
+    assert_eq!(rt; tokens.mark().slots(), 1);
+    assert_eq!(rt; tokens.as_slice(), b"{".as_slice());
+    Ok(())
+}

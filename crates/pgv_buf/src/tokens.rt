@@ -9,6 +9,7 @@ ghost use Rattle.pgv_buf.specs.Shown.{cases_of};
 
 use crate::fill::{Slot, put_number, write_oids, write_slots};
 use crate::mark::Mark;
+use crate::places::Places;
 use pgv_types::{Oid, PgTypeInfo};
 use std::alloc::{AllocError, Global};
 use std::marker::Model;
@@ -20,8 +21,9 @@ use std::marker::Model;
 #[derive(Drop)]
 pub struct Tokens {
     bytes: Vec<u8>,
-    places: Vec<usize>,
+    pub(crate) holes: Places,
     types: Vec<PgTypeInfo>,
+    slot_places: Places,
     slots: Vec<Slot>,
     alloc: Global,
 }
@@ -34,7 +36,7 @@ impl Model for Tokens {
 
     ghost coded = { cells_code };
 
-    ghost use Rattle.pgv_buf.specs.Shown.{seen, IsValid};
+    ghost use Rattle.pgv_buf.specs.TokensView.{seen, IsValid};
 
     ghost view = { seen };
 
@@ -48,8 +50,9 @@ impl Tokens {
     {
         Tokens {
             bytes: Vec::new(alloc),
-            places: Vec::new(alloc),
+            holes: Places::new(alloc),
             types: Vec::new(alloc),
+            slot_places: Places::new(alloc),
             slots: Vec::new(alloc),
             alloc,
         }
@@ -110,9 +113,9 @@ impl Tokens {
     {
         let place = self.bytes.len();
         self.bytes.reserve(4)?;
-        self.places.reserve(1)?;
+        self.types.reserve(1)?;
+        self.holes.push(place)?;
         self.types.push(hole_type)?;
-        self.places.push(place)?;
         self.bytes.extend_from_slice(&[0, 0, 0, 0])?;
         Ok(())
     }
@@ -132,11 +135,9 @@ impl Tokens {
         let mut standard = Vec::new(self.alloc);
         standard.extend_from_slice(default)?;
         self.bytes.reserve(default.len())?;
-        self.slots.push(Slot {
-            place,
-            standard,
-            cases,
-        })?;
+        self.slots.reserve(1)?;
+        self.slot_places.push(place)?;
+        self.slots.push(Slot { standard, cases })?;
         self.bytes.extend_from_slice(default)?;
         Ok(())
     }
@@ -146,8 +147,9 @@ impl Tokens {
         ensures { self.new ≡ [] }
     {
         self.bytes.clear();
-        self.places.clear();
+        self.holes.clear();
         self.types.clear();
+        self.slot_places.clear();
         self.slots.clear();
     }
 }
@@ -158,8 +160,9 @@ impl Clone for Tokens {
     fn clone(&self) -> Result<Tokens, AllocError> {
         Ok(Tokens {
             bytes: self.bytes.clone()?,
-            places: self.places.clone()?,
+            holes: self.holes.clone()?,
             types: self.types.clone()?,
+            slot_places: self.slot_places.clone()?,
             slots: self.slots.clone()?,
             alloc: self.alloc,
         })
@@ -173,7 +176,7 @@ impl Tokens {
     {
         Mark {
             bytes: self.bytes.len(),
-            holes: self.places.len(),
+            holes: self.types.len(),
             slots: self.slots.len(),
         }
     }
@@ -184,8 +187,9 @@ impl Tokens {
         ensures { (front : List Cell) (rest : List Cell) → self.old ≡ front ++ rest → mark ≡ mark_of front → self.new ≡ front }
     {
         self.bytes.truncate(mark.bytes);
-        self.places.truncate(mark.holes);
+        self.holes.truncate(mark.holes);
         self.types.truncate(mark.holes);
+        self.slot_places.truncate(mark.slots);
         self.slots.truncate(mark.slots);
     }
 
@@ -213,7 +217,7 @@ impl Tokens {
         requires { length oids.now ≡ hole_count self.old }
         ensures { self.new ≡ fill_holes oids.now self.old }
     {
-        write_oids(&mut self.bytes, self.places.as_slice(), oids);
+        write_oids(&mut self.bytes, self.holes.gaps(), oids);
     }
 
     fn fill_types(&mut self, types: &[PgTypeInfo], counts: &[usize])
@@ -221,6 +225,12 @@ impl Tokens {
         requires slots { sum counts.now ≡ slot_count self.old }
         ensures { self.new ≡ fill_slots (slot_types types.now counts.now) self.old }
     {
-        write_slots(&mut self.bytes, self.slots.as_slice(), types, counts);
+        write_slots(
+            &mut self.bytes,
+            self.slot_places.gaps(),
+            self.slots.as_slice(),
+            types,
+            counts,
+        );
     }
 }

@@ -1,12 +1,14 @@
-use Rattle.std.proofs.Common.{◌≡◌, drop, length, replicate, map}
-use Rattle.pgv_buf.specs.Shown.{kept_of}
-use Rattle.pgv_buf.specs.Fill.{written_slots, SlotsWithin}
+use Rattle.std.proofs.Common.{◌≡◌, ◌+◌, drop, length, sum}
+use Rattle.pgv_buf.specs.Patches.{written, Within}
+use Rattle.pgv_buf.specs.Gaps.{places_after}
+use Rattle.pgv_buf.proofs.Runs.{run_choices}
 use Rattle.pgv_buf.proofs.fill.write_run.Given as goal
 
-abbrev pub invariant-loop-slot : goal.invariant-loop-slot
-invariant-loop-slot l = record {
-  told : written_slots (replicate (length (drop l.slot-index l.slots)) l.parameter) (map kept_of (drop l.slot-index l.slots)) l.bytes.items
-      ≡ written_slots (replicate (length l.slots) l.parameter) (map kept_of l.slots) l.fn.bytes.items;
-  within : SlotsWithin (length l.bytes.items) (map kept_of (drop l.slot-index l.slots));
+abbrev pub invariant-loop-i : goal.invariant-loop-i
+invariant-loop-i l = record {
+  told : written (places_after l.place (drop l.i l.gaps)) (run_choices l.parameter (drop l.i l.slots)) l.bytes.items ≡ written (places_after l.before l.gaps) (run_choices l.parameter l.slots) l.fn.bytes.items;
+  within : Within (length l.bytes.items) (places_after l.place (drop l.i l.gaps)) (run_choices l.parameter (drop l.i l.slots));
   len : length l.bytes.items ≡ length l.fn.bytes.items;
+  last : l.place + sum (drop l.i l.gaps) ≡ l.before + sum l.gaps;
+  many : length l.gaps ≡ length l.slots;
 }

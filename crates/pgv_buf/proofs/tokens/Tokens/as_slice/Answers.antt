@@ -1,4 +1,4 @@
-use Rattle.pgv_buf.proofs.Steps.{held}
+use Rattle.pgv_buf.proofs.Layouts.{held}
 use Rattle.pgv_buf.proofs.tokens.Tokens.as_slice.Goals as goal
 
 pub returns-clause-proper : goal.returns-clause-proper

@@ -1,25 +1,24 @@
 use Rattle.std.proofs.Common.{◌≡◌, ℕ, List, ◌++◌, ◌+◌, ◌≤◌, length, ◌∙◌, ap, subst}
-use Rattle.pgv_types.specs.Ty.{Ty}
 use Rattle.pgv_buf.specs.declared.mark.Mark.{Mark}
 use Rattle.pgv_buf.specs.Tokens.{Cell, fixed_bytes, be4}
 use Rattle.pgv_buf.specs.Marks.{mark_of}
-use Rattle.pgv_buf.specs.Fill.{put}
-use Rattle.pgv_buf.specs.Parse.{Represents, Kept, valid, tokens_are}
-use Rattle.pgv_buf.proofs.Steps.{held}
-use Rattle.pgv_buf.proofs.Writes.{replaced, room}
+use Rattle.pgv_buf.specs.Layout.{Layout, Represents}
+use Rattle.pgv_buf.specs.Patches.{put}
+use Rattle.pgv_buf.proofs.Layouts.{held, valid, tokens_are}
+use Rattle.pgv_buf.proofs.Patches.{replaced, room}
 use Rattle.pgv_buf.proofs.tokens.Tokens.put_u32.Goals as goal
 
 replaced_at :
-    {b ps : List ℕ} {hs : List Ty} {ks : List Kept} (ts : List Cell) → Represents ts b ps hs ks → (m : Mark) (v : ℕ) (b' : List ℕ) → b' ≡ put m.bytes (be4 v) b →
+    {b : List ℕ} {l : Layout} (ts : List Cell) → Represents ts b l → (m : Mark) (v : ℕ) (b' : List ℕ) → b' ≡ put m.bytes (be4 v) b →
     (front : List Cell) (xs : List ℕ) (rest : List Cell) → ts ≡ front ++ fixed_bytes xs ++ rest → length xs ≡ 4 → m ≡ mark_of front →
-    Represents (front ++ fixed_bytes (be4 v) ++ rest) b' ps hs ks
-replaced_at {b} {ps} {hs} {ks} ts r m v b' f front xs rest e n g =
-    replaced front xs (be4 v) rest (subst (λ us. Represents us b ps hs ks) e r) n b' (f ∙ ap (λ k. put k.bytes (be4 v) b) g)
+    Represents (front ++ fixed_bytes (be4 v) ++ rest) b' l
+replaced_at {b} {l} ts r m v b' f front xs rest e n g =
+    replaced front xs (be4 v) rest (subst (λ us. Represents us b l) e r) n b' (f ∙ ap (λ k. put k.bytes (be4 v) b) g)
 
 room_at :
-    {b ps : List ℕ} {hs : List Ty} {ks : List Kept} (ts : List Cell) → Represents ts b ps hs ks → (m : Mark) →
+    {b : List ℕ} {l : Layout} (ts : List Cell) → Represents ts b l → (m : Mark) →
     (front : List Cell) (xs : List ℕ) (rest : List Cell) → ts ≡ front ++ fixed_bytes xs ++ rest → length xs ≡ 4 → m ≡ mark_of front → m.bytes + 4 ≤ length b
-room_at {b} {ps} {hs} {ks} ts r m front xs rest e n g = rw g (room front xs rest (subst (λ us. Represents us b ps hs ks) e r) n)
+room_at {b} {l} ts r m front xs rest e n g = rw g (room front xs rest (subst (λ us. Represents us b l) e r) n)
 
 pub put_number-requires : goal.put_number-requires
 put_number-requires c =

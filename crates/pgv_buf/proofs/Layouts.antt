@@ -1,0 +1,174 @@
+-- Cells and how they are kept: only these cells are kept so, and what joining and cutting them leaves.
+use Rattle.std.proofs.Common.{◌≡◌, ℕ, ◌+◌, ◌≤◌, ◌<◌, ◌==◌, suc, zero, Bool, true, false, List, [], ◌∷◌, ◌++◌, length, take, refl, sym, ◌∙◌, ap, subst, arith, length-append, append_assoc, add-zero, zero-add}
+use Rattle.std.proofs.lemmas.Bool.{eq-eqb}
+use Rattle.std.proofs.lemmas.List.{take_at, drop_at}
+use Rattle.pgv_types.specs.Ty.{Ty}
+use Rattle.pgv_buf.specs.Tokens.{Token, byte, hole, slot, tokens_width, Cell, fixed, hole_cell, slot_cell, plain, shown, width, hole_types_of, hole_count, slot_count}
+use Rattle.pgv_buf.specs.Blank.{plain-append}
+use Rattle.pgv_buf.specs.Parse.{Proper, Proper-append, Proper-front, shown-append, length-shown, length-hole_types_of}
+use Rattle.pgv_buf.specs.Layout.{is_hole, is_slot, token_width, if_so, places, last_from, types_of, Kept, slots_of, Layout, layout_of, first_at, parse, tokens_of, Represents, Valid}
+
+-- ---- places
+
+pub width_first : (t : Token) (ts : List Token) → tokens_width (t ∷ ts) ≡ token_width t + tokens_width ts
+width_first (byte x) ts = refl
+width_first (hole t) ts = refl
+width_first (slot d cs) ts = refl
+
+pub width-plain : (ts : List Cell) → tokens_width (plain ts) ≡ width ts
+width-plain [] = refl
+width-plain (fixed x ∷ ts) = ap (λ n. 1 + n) (width-plain ts)
+width-plain (hole_cell t s ∷ ts) = ap (λ n. 4 + n) (width-plain ts)
+width-plain (slot_cell d cs s ∷ ts) = ap (λ n. length d + n) (width-plain ts)
+
+places-append : (is : Token → Bool) (i : ℕ) (a c : List Token) → places is i (a ++ c) ≡ places is i a ++ places is (i + tokens_width a) c
+places-append is i [] c = rw add-zero
+places-append is i (t ∷ a) c =
+    let e : (i + token_width t) + tokens_width a ≡ i + tokens_width (t ∷ a) = omega (arith, width_first t a) in
+    ap (λ r. if_so (is t) i ++ r) (places-append is (i + token_width t) a c ∙ ap (λ n. places is (i + token_width t) a ++ places is n c) e)
+    ∙ sym (append_assoc (if_so (is t) i) (places is (i + token_width t) a) (places is (i + tokens_width (t ∷ a)) c))
+
+-- the last place is before the end
+pub last_before : (is : Token → Bool) (q i : ℕ) (ts : List Token) → q ≤ i → last_from q (places is i ts) ≤ i + tokens_width ts
+last_before is q i [] h = omega arith
+last_before is q i (t ∷ ts) h =
+    elim (is t) as (λ b. last_from q (if_so b i ++ places is (i + token_width t) ts) ≤ i + tokens_width (t ∷ ts)) [
+      | true ↦ omega (arith, width_first t ts, last_before is i (i + token_width t) ts (omega arith))
+      | false ↦ omega (arith, width_first t ts, last_before is q (i + token_width t) ts (omega arith))
+    ]
+
+-- no piece is at i where the tokens begin later
+none_at : (is : Token → Bool) (i j : ℕ) (ts : List Token) → i < j → first_at i (places is j ts) ≡ false
+none_at is i j [] h = refl
+none_at is i j (t ∷ ts) h =
+    elim (is t) as (λ b. first_at i (if_so b j ++ places is (j + token_width t) ts) ≡ false) [
+      | true ↦ later i j h
+      | false ↦ none_at is i (j + token_width t) ts (omega arith)
+    ]
+  where
+    later : (i j : ℕ) → i < j → (j == i) ≡ false
+    later i j h = grind arith
+
+pub length-holes : (i : ℕ) (ts : List Cell) → length (places is_hole i (plain ts)) ≡ hole_count ts
+length-holes i [] = refl
+length-holes i (fixed x ∷ ts) = length-holes (i + 1) ts
+length-holes i (hole_cell t s ∷ ts) = omega (arith, length-holes (i + 4) ts)
+length-holes i (slot_cell d cs s ∷ ts) = length-holes (i + length d) ts
+
+pub length-slot_places : (i : ℕ) (ts : List Cell) → length (places is_slot i (plain ts)) ≡ slot_count ts
+length-slot_places i [] = refl
+length-slot_places i (fixed x ∷ ts) = length-slot_places (i + 1) ts
+length-slot_places i (hole_cell t s ∷ ts) = length-slot_places (i + 4) ts
+length-slot_places i (slot_cell d cs s ∷ ts) = omega (arith, length-slot_places (i + length d) ts)
+
+-- ---- types and slots
+
+pub types-plain : (ts : List Cell) → types_of (plain ts) ≡ hole_types_of ts
+types-plain [] = refl
+types-plain (fixed x ∷ ts) = types-plain ts
+types-plain (hole_cell t s ∷ ts) = ap (λ r. t ∷ r) (types-plain ts)
+types-plain (slot_cell d cs s ∷ ts) = types-plain ts
+
+types-append : (a c : List Token) → types_of (a ++ c) ≡ types_of a ++ types_of c
+types-append [] c = refl
+types-append (byte x ∷ a) c = types-append a c
+types-append (hole t ∷ a) c = ap (λ r. t ∷ r) (types-append a c)
+types-append (slot d cs ∷ a) c = types-append a c
+
+slots-append : (a c : List Token) → slots_of (a ++ c) ≡ slots_of a ++ slots_of c
+slots-append [] c = refl
+slots-append (byte x ∷ a) c = slots-append a c
+slots-append (hole t ∷ a) c = slots-append a c
+slots-append (slot d cs ∷ a) c = ap (λ r. record { standard = d; cases = cs } ∷ r) (slots-append a c)
+
+pub length-slots : (ts : List Cell) → length (slots_of (plain ts)) ≡ slot_count ts
+length-slots [] = refl
+length-slots (fixed x ∷ ts) = length-slots ts
+length-slots (hole_cell t s ∷ ts) = length-slots ts
+length-slots (slot_cell d cs s ∷ ts) = omega (arith, length-slots ts)
+
+-- ---- layouts
+
+pub same_layout : {ps ps' qs qs' : List ℕ} {hs hs' : List Ty} {ks ks' : List Kept} → ps ≡ ps' → hs ≡ hs' → qs ≡ qs' → ks ≡ ks' →
+    ◌≡◌ {A = Layout} (record { holes = ps; types = hs; slot_places = qs; slots = ks }) (record { holes = ps'; types = hs'; slot_places = qs'; slots = ks' })
+same_layout e f g h = cc
+
+-- one layout and then that of tokens that begin at n
+abbrev pub with_more : Layout → ℕ → List Token → Layout
+with_more l n c = record { holes = l.holes ++ places is_hole n c; types = l.types ++ types_of c; slot_places = l.slot_places ++ places is_slot n c; slots = l.slots ++ slots_of c }
+
+pub layout-append : (a c : List Token) → layout_of (a ++ c) ≡ with_more (layout_of a) (tokens_width a) c
+layout-append a c =
+    same_layout
+    (places-append is_hole 0 a c ∙ ap (λ n. places is_hole 0 a ++ places is_hole n c) (zero-add (tokens_width a)))
+    (types-append a c)
+    (places-append is_slot 0 a c ∙ ap (λ n. places is_slot 0 a ++ places is_slot n c) (zero-add (tokens_width a)))
+    (slots-append a c)
+
+-- ---- only these cells are kept so
+
+parsed : (n i : ℕ) (ts : List Cell) → Proper ts → length ts ≤ n → parse n i (shown ts) (places is_hole i (plain ts)) (types_of (plain ts)) (places is_slot i (plain ts)) (slots_of (plain ts)) ≡ ts
+parsed zero i [] p h = refl
+parsed zero i (t ∷ ts) p h = absurd (omega arith)
+parsed (suc n) i [] p h = refl
+parsed (suc n) i (fixed x ∷ ts) p h =
+    rw (none_at is_slot i (i + 1) (plain ts) (omega arith), none_at is_hole i (i + 1) (plain ts) (omega arith)) (ap (λ r. fixed x ∷ r) (parsed n (i + 1) ts p (omega arith)))
+parsed (suc n) i (hole_cell t s ∷ ts) p h =
+    rw (none_at is_slot i (i + 4) (plain ts) (omega arith), eq-eqb i i refl, take_at s (shown ts) 4 p.0, drop_at s (shown ts) 4 p.0)
+    (ap (λ r. hole_cell t s ∷ r) (parsed n (i + 4) ts p.1 (omega arith)))
+parsed (suc n) i (slot_cell d cs s ∷ ts) p h =
+    rw (eq-eqb i i refl, take_at s (shown ts) (length d) p.0, drop_at s (shown ts) (length d) p.0)
+    (ap (λ r. slot_cell d cs s ∷ r) (parsed n (i + length d) ts p.2 (omega arith)))
+
+steps_fit : (i : ℕ) (ts : List Cell) → length ts ≤ length (shown ts) + length (places is_hole i (plain ts)) + length (places is_slot i (plain ts))
+steps_fit i [] = omega arith
+steps_fit i (fixed x ∷ ts) = omega (arith, steps_fit (i + 1) ts)
+steps_fit i (hole_cell t s ∷ ts) = omega (arith, steps_fit (i + 4) ts, length-append s (shown ts))
+steps_fit i (slot_cell d cs s ∷ ts) = omega (arith, steps_fit (i + length d) ts, length-append s (shown ts))
+
+tokens_of-kept : (ts : List Cell) → Proper ts → tokens_of (shown ts) (layout_of (plain ts)) ≡ ts
+unfolding tokens_of
+tokens_of-kept ts p = parsed (length (shown ts) + length (places is_hole 0 (plain ts)) + length (places is_slot 0 (plain ts))) 0 ts p (steps_fit 0 ts)
+
+pub tokens_are : {ts : List Cell} {b : List ℕ} {l : Layout} → Represents ts b l → tokens_of b l ≡ ts
+tokens_are {ts} r = rw (r.bytes_are, r.layout_is) (tokens_of-kept ts r.proper)
+
+pub valid : {ts : List Cell} {b : List ℕ} {l : Layout} → Represents ts b l → Valid b l
+valid {ts} {b} {l} r = subst (λ us. Represents us b l) (sym (tokens_are r)) r
+
+pub held : {b : List ℕ} {l : Layout} (ts : List Cell) → Valid b l → tokens_of b l ≡ ts → Represents ts b l
+held {b} {l} ts v e = subst (λ us. Represents us b l) e v
+
+-- ---- joining and cutting
+
+pub wide : {ts : List Cell} {b : List ℕ} {l : Layout} → Represents ts b l → length b ≡ width ts
+wide {ts} r = ap length r.bytes_are ∙ length-shown ts r.proper
+
+pub joined : {a : List Cell} {b : List ℕ} {l : Layout} → Represents a b l → (c : List Cell) → Proper c → Represents (a ++ c) (b ++ shown c) (with_more l (length b) (plain c))
+joined {a} {b} {l} r c q =
+    let n : tokens_width (plain a) ≡ length b = width-plain a ∙ sym (wide r) in
+    let k : with_more (layout_of (plain a)) (tokens_width (plain a)) (plain c) ≡ layout_of (plain (a ++ c)) =
+    sym (ap layout_of (plain-append a c) ∙ layout-append (plain a) (plain c)) in
+    record {
+      bytes_are = rw (shown-append a c, r.bytes_are);
+      layout_is = ap (λ m. with_more m (length b) (plain c)) r.layout_is ∙ (ap (λ m. with_more (layout_of (plain a)) m (plain c)) (sym n) ∙ k);
+      proper = Proper-append a c r.proper q;
+    }
+
+abbrev pub cut_layout : ℕ → ℕ → Layout → Layout
+cut_layout h s l = record { holes = take h l.holes; types = take h l.types; slot_places = take s l.slot_places; slots = take s l.slots }
+
+pub cut : {b : List ℕ} {l : Layout} (a c : List Cell) → Represents (a ++ c) b l → Represents a (take (width a) b) (cut_layout (hole_count a) (slot_count a) l)
+cut {b} {l} a c r =
+    let e : l ≡ with_more (layout_of (plain a)) (tokens_width (plain a)) (plain c) = r.layout_is ∙ (ap layout_of (plain-append a c) ∙ layout-append (plain a) (plain c)) in
+    record {
+      bytes_are = rw (r.bytes_are, shown-append a c) (take_at (shown a) (shown c) (width a) (length-shown a (Proper-front a c r.proper)));
+      layout_is =
+          ap (λ m. cut_layout (hole_count a) (slot_count a) m) e
+          ∙ same_layout
+          (take_at (places is_hole 0 (plain a)) (places is_hole (tokens_width (plain a)) (plain c)) (hole_count a) (length-holes 0 a))
+          (take_at (types_of (plain a)) (types_of (plain c)) (hole_count a) (ap length (types-plain a) ∙ length-hole_types_of a))
+          (take_at (places is_slot 0 (plain a)) (places is_slot (tokens_width (plain a)) (plain c)) (slot_count a) (length-slot_places 0 a))
+          (take_at (slots_of (plain a)) (slots_of (plain c)) (slot_count a) (length-slots a));
+      proper = Proper-front a c r.proper;
+    }

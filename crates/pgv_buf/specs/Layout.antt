@@ -1,0 +1,106 @@
+-- How tokens are kept beside their bytes: the places and types of the holes, and the places of the slots and the slots.
+use Rattle.std.specs.Prelude.{◌≡◌, ℕ, ◌+◌, ◌==◌, Bool, true, false, cond, List, [], ◌∷◌, ◌++◌, length, take, drop}
+use Rattle.std.proofs.Common.{suc, zero}
+use Rattle.pgv_types.specs.Ty.{Ty}
+use Rattle.pgv_buf.specs.Tokens.{Token, byte, hole, slot, Cell, fixed, hole_cell, slot_cell, plain, shown}
+use Rattle.pgv_buf.specs.Parse.{Proper, first_type}
+
+-- holes and slots are pieces: of known places and widths, and written over
+abbrev pub is_hole : Token → Bool
+is_hole (byte x) = false
+is_hole (hole t) = true
+is_hole (slot d cs) = false
+
+abbrev pub is_slot : Token → Bool
+is_slot (byte x) = false
+is_slot (hole t) = false
+is_slot (slot d cs) = true
+
+abbrev pub token_width : Token → ℕ
+token_width (byte x) = 1
+token_width (hole t) = 4
+token_width (slot d cs) = length d
+
+-- a number that counts, or none
+abbrev pub if_so : Bool → ℕ → List ℕ
+if_so true n = n ∷ []
+if_so false n = []
+
+-- the places of the pieces of one sort, where the first token is at i
+abbrev pub places : (Token → Bool) → ℕ → List Token → List ℕ
+places is i [] = []
+places is i (t ∷ ts) = if_so (is t) i ++ places is (i + token_width t) ts
+
+-- the last of them, or q where there is none
+abbrev pub last_from : ℕ → List ℕ → ℕ
+last_from q [] = q
+last_from q (p ∷ ps) = last_from p ps
+
+abbrev pub types_of : List Token → List Ty
+types_of [] = []
+types_of (byte x ∷ ts) = types_of ts
+types_of (hole t ∷ ts) = t ∷ types_of ts
+types_of (slot d cs ∷ ts) = types_of ts
+
+-- a slot as it is kept: its default and its cases
+pub record Kept : Type 0 where
+  pub standard : List ℕ
+  pub cases : List (Ty × List ℕ)
+
+abbrev pub slots_of : List Token → List Kept
+slots_of [] = []
+slots_of (byte x ∷ ts) = slots_of ts
+slots_of (hole t ∷ ts) = slots_of ts
+slots_of (slot d cs ∷ ts) = record { standard = d; cases = cs } ∷ slots_of ts
+
+pub record Layout : Type 0 where
+  pub holes : List ℕ
+  pub types : List Ty
+  pub slot_places : List ℕ
+  pub slots : List Kept
+
+abbrev pub layout_of : List Token → Layout
+layout_of ts = record { holes = places is_hole 0 ts; types = types_of ts; slot_places = places is_slot 0 ts; slots = slots_of ts }
+
+-- ---- the cells that are kept so
+
+abbrev pub first_at : ℕ → List ℕ → Bool
+first_at i [] = false
+first_at i (p ∷ ps) = p == i
+
+abbrev pub rest_of : {A : Type 0} → List A → List A
+rest_of [] = []
+rest_of (x ∷ xs) = xs
+
+abbrev pub first_slot : List Kept → Kept
+first_slot [] = record { standard = []; cases = [] }
+first_slot (k ∷ ks) = k
+
+abbrev pub first_byte : List ℕ → ℕ
+first_byte [] = 0
+first_byte (x ∷ xs) = x
+
+abbrev pub is_empty : List ℕ → Bool
+is_empty [] = true
+is_empty (x ∷ xs) = false
+
+-- bytes, places and types of holes, places of slots, slots
+abbrev pub parse : ℕ → ℕ → List ℕ → List ℕ → List Ty → List ℕ → List Kept → List Cell
+parse zero i b ps ts qs ks = []
+parse (suc n) i b ps ts qs ks =
+    cond (first_at i qs)
+    (slot_cell (first_slot ks).standard (first_slot ks).cases (take (length (first_slot ks).standard) b) ∷ parse n (i + length (first_slot ks).standard) (drop (length (first_slot ks).standard) b) ps ts (rest_of qs) (rest_of ks))
+    (cond (first_at i ps)
+    (hole_cell (first_type ts) (take 4 b) ∷ parse n (i + 4) (drop 4 b) (rest_of ps) (rest_of ts) qs ks)
+    (cond (is_empty b) [] (fixed (first_byte b) ∷ parse n (i + 1) (rest_of b) ps ts qs ks)))
+
+unfoldable pub tokens_of : List ℕ → Layout → List Cell
+tokens_of b l = parse (length b + length l.holes + length l.slot_places) 0 b l.holes l.types l.slot_places l.slots
+
+pub record Represents (ts : List Cell) (b : List ℕ) (l : Layout) : Type 0 where
+  pub bytes_are : b ≡ shown ts
+  pub layout_is : l ≡ layout_of (plain ts)
+  pub proper : Proper ts
+
+abbrev pub Valid : List ℕ → Layout → Type 0
+Valid b l = Represents (tokens_of b l) b l
