@@ -3,6 +3,5 @@ pub mod Lists
 pub mod Records
 pub mod FrameLoop
 pub mod PartLoop
-pub mod FewElements
 pub mod PlainFits
 pub mod Refusing

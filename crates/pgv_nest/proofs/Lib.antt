@@ -4,3 +4,4 @@ pub mod Short
 mod Numbers
 mod ArrayGrammars
 pub mod RecordGrammars
+pub mod FewElements

@@ -1,6 +1,6 @@
 -- Arrays and records in binary, as what the bytes are and not as how they are read (PostgreSQL: "Arrays", 8.15, and
 -- "Composite Types", 8.16; the forms are those of its source, array_send and record_send).
-use Rattle.std.specs.Prelude.{◌≡◌, ◌↔◌, ◌⊎◌, ℕ, suc, ◌<◌, ◌^◌, Bool, true, List, [], ◌∷◌, ◌++◌, length, Option, Some, ⊤}
+use Rattle.std.specs.Prelude.{◌≡◌, ◌↔◌, ◌⊎◌, ℕ, suc, ◌<◌, ◌^◌, Bool, true, List, [], ◌∷◌, ◌++◌, length, Option, Some, ⊤, ◌*◌, ◌≤◌}
 use Rattle.std.specs.Int.{w32, to_be_bytes}
 use Rattle.pgv_types.specs.Ty.{Ty, builtin, custom, simple, domain, composite, Fields}
 use Rattle.pgv_types.specs.Facts.{built_in, oid_of}
@@ -83,6 +83,10 @@ IsRecord fields t bytes m = (count : List ℕ) × (behind : List ℕ) × (rest :
 
 abbrev pub ArrayIsItsElements : {M : Type 0} → (Ty → Part → Option M) → Type 0
 ArrayIsItsElements {M} read = (t : Ty) (bytes : List ℕ) (ms : List M) → AreBytes bytes → (array_of read t bytes ≡ Some ms) ↔ IsArray read t bytes ms
+
+-- an array has at most a quarter as many elements as bytes
+abbrev pub FewElements : {M : Type 0} → (Ty → Part → Option M) → Type 0
+FewElements {M} read = (t : Ty) (bytes : List ℕ) (ms : List M) → IsArray read t bytes ms → 4 * length ms ≤ length bytes
 
 abbrev pub OneArray : {M : Type 0} → (Ty → Part → Option M) → Type 0
 OneArray {M} read = (t : Ty) (bytes : List ℕ) (ms others : List M) → IsArray read t bytes ms → IsArray read t bytes others → ms ≡ others

@@ -4,12 +4,18 @@ ghost use Rattle.std.specs.Prelude.{Bool, Option};
 ghost use Rattle.pgv_types.specs.Ty.{Ty};
 ghost use Rattle.pgv_value.specs.Frame.{Part};
 ghost use Rattle.pgv_value.specs.Reading.{Reading};
-ghost use Rattle.pgv_nest.specs.Grammar.{ArrayIsItsElements, OneArray, FieldTypeIsFound, FieldIsItsValue, OneField, RecordBegins};
+ghost use Rattle.pgv_nest.specs.Grammar.{ArrayIsItsElements, FewElements, OneArray, FieldTypeIsFound, FieldIsItsValue, OneField, RecordBegins};
 
 /// The elements that are read of bytes in binary are those that the bytes are an array of, whatever reads the elements
 /// (PostgreSQL: "Arrays"; array_send).
 pub fn array_is_its_elements<M>()
     ensures { (read : Ty → Part → Option M) → ArrayIsItsElements read }
+{}
+
+/// An array has at most a quarter as many elements as bytes: each takes four bytes or more. So it is for lists and for arrays of
+/// any number.
+pub fn few_elements<M>()
+    ensures { (read : Ty → Part → Option M) → FewElements read }
 {}
 
 /// No bytes are an array of two lists of elements.

@@ -23,8 +23,8 @@ pub use pgv_codec::laws::{
     tuple_is_its_fields, tuple_reads_back, written_as_read,
 };
 pub use pgv_nest::laws::{
-    array_is_its_elements, field_is_its_value, field_type_is_found, one_array, one_field,
-    record_begins,
+    array_is_its_elements, few_elements, field_is_its_value, field_type_is_found, one_array,
+    one_field, record_begins,
 };
 
 use crate::arguments::PgArguments;

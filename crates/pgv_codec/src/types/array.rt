@@ -203,12 +203,7 @@ impl<T: Decode + Type, const N: usize> Decode for [T; N] {
 
     ghost written = { sized_written N T.info T.written };
 
-    fn decode(alloc: Global, value: PgValueRef<'_>) -> Result<[T; N], CodecError>
-        ensures exact { Answers (map T.meaning) (array_of_length N T.info T.reading value.entry.type_info value.entry.format value.entry.bytes) result }
-        ensures null { value.entry.bytes ≡ None → IsErrOf result UnexpectedNull }
-        // In binary each element takes four bytes or more.
-        ensures few { value.entry.format ≡ Binary → IfOk result (λ v. IfSome value.entry.bytes (λ bytes. 4 * length v ≤ length bytes)) }
-    {
+    fn decode(alloc: Global, value: PgValueRef<'_>) -> Result<[T; N], CodecError> {
         let items = Vec::<T>::decode(alloc, value)?;
         let count = items.len();
         match items.try_into() {

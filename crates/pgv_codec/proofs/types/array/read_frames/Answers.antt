@@ -5,7 +5,7 @@ use Rattle.pgv_value.specs.declared.value.PgValueFormat.TheVariants.{Binary}
 use Rattle.pgv_nest.specs.Arrays.{frames}
 use Rattle.pgv_value.specs.Reading.{Refuses}
 use Rattle.pgv_codec.proofs.Refusing.{Refuses-weaker, Refuses-from}
-use Rattle.pgv_codec.proofs.FewElements.{few_frames}
+use Rattle.pgv_nest.proofs.FewElements.{few_frames}
 use Rattle.pgv_codec.proofs.FrameLoop.{is_done, goes_on, ends_short, ends_unread}
 use Rattle.pgv_codec.proofs.types.array.read_frames.Goals as goal
 

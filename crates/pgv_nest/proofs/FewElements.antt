@@ -1,8 +1,13 @@
 -- An array has few elements for its bytes: each takes four or more.
-use Rattle.std.proofs.Common.{◌≡◌, ℕ, zero, suc, ◌+◌, ◌*◌, ◌≤◌, List, [], ◌∷◌, length, Option, Some, None, refl, arith}
+use Rattle.std.proofs.Common.{◌≡◌, ℕ, zero, suc, ◌+◌, ◌*◌, ◌≤◌, List, [], ◌∷◌, ◌++◌, length, Option, Some, None, refl, arith, ◌∙◌, ap, inl, inr}
+use Rattle.std.proofs.lemmas.List.{length-append}
+use Rattle.std.specs.Int.{w32, to_be_bytes}
 use Rattle.std.proofs.lemmas.Grind.{common_steps}
 use Rattle.pgv_value.specs.Frame.{Part, front}
+use Rattle.pgv_types.specs.Ty.{Ty}
 use Rattle.pgv_nest.specs.Arrays.{frames}
+use Rattle.pgv_nest.specs.Found.{frames_there}
+use Rattle.pgv_nest.specs.Grammar.{IsArray, FewElements}
 use Rattle.pgv_nest.specs.Steps.{◌>>=◌}
 
 -- a frame takes four bytes or more
@@ -38,3 +43,22 @@ module _ {M : Type 0} (read : Part → Option M) where
   unfolding frames
   few_frames zero bytes ms e = let none : [] ≡ ms = cc in rw (← none) (omega arith)
   few_frames (suc n) bytes ms e = few_front n (few_frames n) bytes ms (front bytes) refl e
+
+-- what is added in front makes nothing shorter
+shorter : (front rest : List ℕ) → length rest ≤ length (front ++ rest)
+shorter front rest = omega (arith, length-append front rest)
+
+pub few_elements : {M : Type 0} (read : Ty → Part → Option M) → FewElements read
+few_elements read t bytes ms (inl h) = rw h.2 (omega arith)
+few_elements read t bytes ms (inr h) =
+    let few = few_frames (read h.element) (length ms) h.frames ms (frames_there (read h.element) h.frames ms h.framed) in
+    let r1 : List ℕ = to_be_bytes w32 1 ++ h.frames in
+    let r2 : List ℕ = to_be_bytes w32 (length ms) ++ r1 in
+    let r3 : List ℕ = to_be_bytes w32 h.oid ++ r2 in
+    let r4 : List ℕ = h.flags ++ r3 in
+    let s1 = shorter (to_be_bytes w32 1) h.frames in
+    let s2 = shorter (to_be_bytes w32 (length ms)) r1 in
+    let s3 = shorter (to_be_bytes w32 h.oid) r2 in
+    let s4 = shorter h.flags r3 in
+    let s5 = shorter (to_be_bytes w32 1) r4 in
+    rw h.whole (omega (arith, few, s1, s2, s3, s4, s5))
