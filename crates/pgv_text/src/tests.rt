@@ -71,6 +71,70 @@ fn record_text(rt: HostRuntime) -> Result<(), Fail> {
 }
 
 #[test]
+fn range_text(rt: HostRuntime) -> Result<(), Fail> {
+    let alloc = rt.alloc();
+    let rows = [
+        ("[\"a\",\"b\"]", "[a] [b] "),
+        ("[,b]", "null [b] "),
+        ("[\"\",)", "[] null "),
+        ("(,)", "null null "),
+        ("[\"a\"\"b\",)", "[a\"b] null "),
+        ("empty", "refused"),
+        ("(a,b", "refused"),
+        ("[1]", "refused"),
+        ("[1,2,3]", "refused"),
+        ("[1,2]x", "refused"),
+        ("[\"a\"b\"c\",]", "[abc] null "),
+        ("[\"a\"b\"c\"\"\",é\\é)", "[abc\"] [éé] "),
+    ];
+    for (text, wanted) in rows {
+        let mut list = Vec::new(alloc);
+        let found = match range_parts(alloc, text)? {
+            None => None,
+            Some((lower, upper, _, _)) => {
+                list.push(lower)?;
+                list.push(upper)?;
+                Some(list)
+            }
+        };
+        assert_eq!(rt; shown(alloc, found)?.as_str(), wanted);
+    }
+    for (text, wanted) in [
+        ("[,]", (true, true)),
+        ("[1,2)", (true, false)),
+        ("(1,2]", (false, true)),
+        ("(,)", (false, false)),
+    ] {
+        assert_eq!(rt;
+            Parts::new(TextForm::Range, text).map(|parts| parts.includes()),
+            Some(wanted)
+        );
+    }
+    Ok(())
+}
+
+#[test]
+fn parts(rt: HostRuntime) -> Result<(), Fail> {
+    let alloc = rt.alloc();
+    let mut text = String::new(alloc);
+    assert!(rt; Parts::new(TextForm::Array, "{{1}}").is_none());
+    if let Some(mut parts) = Parts::new(TextForm::Array, "{a\\,b,NULL,\"\\\"é\"}") {
+        let kept = parts;
+        assert_eq!(rt; parts.next_into(&mut text)?, Some(true));
+        assert_eq!(rt; text.as_str(), "a,b");
+        assert_eq!(rt; parts.next_into(&mut text)?, Some(false));
+        assert_eq!(rt; text.as_str(), "");
+        assert_eq!(rt; parts.next_into(&mut text)?, Some(true));
+        assert_eq!(rt; text.as_str(), "\"é");
+        assert_eq!(rt; parts.next_into(&mut text)?, None);
+        parts = kept;
+        assert_eq!(rt; parts.next_into(&mut text)?, Some(true));
+        assert_eq!(rt; text.as_str(), "a,b");
+    }
+    Ok(())
+}
+
+#[test]
 fn numbers(rt: HostRuntime) -> Result<(), Fail> {
     let rows = [
         ("+0007", Ok(7)),

@@ -1,7 +1,7 @@
 //! Arrays of one dimension (PostgreSQL, "Arrays").
 
-ghost use Rattle.std.specs.Prelude.{◌≡◌, ◌++◌, IfOk, IfErr, OnOk, OnErr, ◌*◌, ◌≤◌, length, map, Some, None, IfSome, IsErrOf, option_map};
-ghost use Rattle.pgv_text.specs.Values.{part_bytes};
+ghost use Rattle.std.specs.Prelude.{◌≡◌, ◌++◌, IfOk, IfErr, OnOk, OnErr, ◌*◌, ◌≤◌, length, map, Some, None, IfSome, IsErrOf, option_map, cond};
+ghost use Rattle.pgv_text.specs.Left.{nest};
 ghost use Rattle.pgv_buf.specs.Tokens.{blank};
 ghost use Rattle.pgv_value.specs.Reading.{Answers};
 ghost use Rattle.pgv_value.specs.declared.error.CodecError.TheVariants.{Memory, UnexpectedNull};
@@ -12,10 +12,9 @@ ghost use Rattle.pgv_wire.specs.Image.{array_image, or_else, header, frames as w
 ghost use Rattle.pgv_wire.specs.Outcome.{Encoded, Refused, Appended, AppendedAll};
 
 use super::number::number_of;
-use super::part::read_part;
 use crate::buffer::{IsNull, PgArgumentBuffer};
 use crate::traits::{Codec, Decode, Encode, PgHasArrayType, ReadBack, Type};
-use pgv_text::array_elements;
+use pgv_text::{Parts, TextForm};
 use pgv_types::{Oid, PgTypeInfo, PgTypeRef};
 use pgv_value::{CodecError, PgValueFormat, PgValueRef};
 use std::alloc::{AllocError, Global};
@@ -330,22 +329,21 @@ fn read_frames<T: Decode>(
 fn read_text<T: Decode + Type>(alloc: Global, text: &str) -> Result<Vec<T>, CodecError>
     ensures { Answers (λ v. map T.meaning v.items) (array_in_text (T.reading T.info Text) text.now) result }
 {
-    match array_elements(alloc, text)? {
+    match Parts::new(TextForm::Array, text) {
         None => Err(CodecError::Syntax),
-        Some(parts) => read_parts(alloc, parts.as_slice()),
+        Some(parts) => read_parts(alloc, parts),
     }
 }
 
-/// Texts, each read under the own type of `T`.
-fn read_parts<T: Decode + Type>(
-    alloc: Global,
-    parts: &[Option<String>],
-) -> Result<Vec<T>, CodecError>
-    ensures { Answers (λ v. map T.meaning v.items) (each (T.reading T.info Text) (map part_bytes parts.now)) result }
+/// Parts, each read from one text under the own type of `T`.
+fn read_parts<T: Decode + Type>(alloc: Global, parts: Parts<'_>) -> Result<Vec<T>, CodecError>
+    ensures { Answers (λ v. map T.meaning v.items) (each (T.reading T.info Text) (nest parts.entry).values) result }
 {
-    let mut items = Vec::with_capacity(alloc, parts.len())?;
-    for part in parts {
-        items.push(read_part(alloc, T::type_info(), part)?)?;
+    let mut parts = parts;
+    let mut items = Vec::new(alloc);
+    let mut text = String::new(alloc);
+    while let Some(present) = parts.next_into(&mut text)? {
+        items.push(read_present(alloc, T::type_info(), present, text.as_str())?)?;
     }
     Ok(items)
 }
@@ -375,4 +373,20 @@ impl<T: ReadBack + Type, const N: usize> ReadBack for [T; N] {
     ghost fits = { ArrayFits T.info T.produced T.image T.fits };
 
     ghost reads_back = { sized_back T.info T.produced T.hint T.image T.reading T.meaning T.kept T.fits T.reads_back N };
+}
+
+/// A part that is present, or null, read under a type.
+fn read_present<T: Decode>(
+    alloc: Global,
+    type_info: PgTypeInfo,
+    present: bool,
+    text: &str,
+) -> Result<T, CodecError>
+    ensures { Answers T.meaning (T.reading type_info Text (cond present (Some text.now) None)) result }
+{
+    let bytes = if present { Some(text.as_bytes()) } else { None };
+    T::decode(
+        alloc,
+        PgValueRef::new(bytes, type_info, PgValueFormat::Text),
+    )
 }
