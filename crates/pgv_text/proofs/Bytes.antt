@@ -13,11 +13,11 @@ use Rattle.pgv_text.specs.declared.scanner.TextForm.TheVariants.{Array, Range, R
 use Rattle.pgv_text.specs.declared.scanner.Class.{Class}
 use Rattle.pgv_text.specs.declared.scanner.Class.TheVariants.{Quote, Backslash, Comma, Open, Close, Other}
 use Rattle.pgv_text.specs.declared.scanner.Place.{Place}
-use Rattle.pgv_text.specs.declared.scanner.Place.TheVariants.{Start, Outside, Quoted, BehindQuote, BehindBackslash, QuotedBackslash}
-use Rattle.pgv_text.specs.Pieces.{Item, inner, behind, doubled, Piece, plain, escaped, quoted, item_meaning, meaning, text_of}
+use Rattle.pgv_text.specs.declared.scanner.Place.TheVariants.{Start, Outside, Quoted, AfterQuote, AfterBackslash, QuotedBackslash}
+use Rattle.pgv_text.specs.Pieces.{Item, inner, inner_escaped, doubled, Piece, plain, escaped, quoted, item_meaning, meaning, text_of}
 use Rattle.pgv_text.specs.Forms.{form_of}
-use Rattle.pgv_text.specs.Scan.{Rest, class, cell, read, read_by, kept, grown, next, at_end, outside_cell, quoted_cell, behind_quote_cell, behind_text, value_here, ends, counted, stands, closes_here, nest_between, values_from, nest_read}
-use Rattle.pgv_text.specs.Parsed.{Found, with_piece, with_item, item_first, with_part, closed, parse_outside, parse_quoted, parse_behind_quote, parse, nest_of}
+use Rattle.pgv_text.specs.Scan.{Rest, class, cell, read, read_by, kept, grown, next, at_end, outside_cell, quoted_cell, after_quote_cell, after_text, value_here, ends, counted, stands, closes_here, nest_between, values_from, nest_read}
+use Rattle.pgv_text.specs.Parsed.{Found, with_piece, with_item, item_first, with_part, closed, parse_outside, parse_quoted, parse_after_quote, parse, nest_of}
 use Rattle.pgv_text.proofs.Classes.{says}
 use Rattle.pgv_text.proofs.Stops.{not_equal, high_class, other_cell, onward, grown_none, grown_twice}
 
@@ -43,8 +43,8 @@ onward_again : (p : Place) → onward (onward p) ≡ onward p
 onward_again Start = refl
 onward_again Outside = refl
 onward_again Quoted = refl
-onward_again BehindQuote = refl
-onward_again BehindBackslash = refl
+onward_again AfterQuote = refl
+onward_again AfterBackslash = refl
 onward_again QuotedBackslash = refl
 
 run_read : (t : TextForm) (p : Place) (hs bs : List ℕ) → AllByRecursion (λ x. 128 ≤ x) hs → onward p ≡ p → read (form_of t) p (hs ++ bs) ≡ grown hs (read (form_of t) p bs)
@@ -71,7 +71,7 @@ mapped g f x None h e = ap (option_map g) e
 mapped g f x (Some r) h e = ap (option_map g) e ∙ ap Some (h r)
 
 -- a piece or an item adds its character
-adds_piece : (piece : Piece) (c : ℕ) → meaning piece ≡ c ∷ [] → (r : Found) → behind_text (encode_utf8 c) (summary r) ≡ summary (with_piece piece r)
+adds_piece : (piece : Piece) (c : ℕ) → meaning piece ≡ c ∷ [] → (r : Found) → after_text (encode_utf8 c) (summary r) ≡ summary (with_piece piece r)
 adds_piece piece c e r = ap (λ m. record { text = encode_utf8_all (m ++ text_of r.first); values = r.values; closing = r.closing }) (sym e)
 
 item_text : (item : Item) (pieces : List Piece) → text_of (item_first item pieces) ≡ item_meaning item ∷ text_of pieces
@@ -80,7 +80,7 @@ item_text item (plain c ∷ pieces) = refl
 item_text item (escaped c ∷ pieces) = refl
 item_text item (quoted items ∷ pieces) = refl
 
-adds_item : (item : Item) (c : ℕ) → item_meaning item ≡ c → (r : Found) → behind_text (encode_utf8 c) (summary r) ≡ summary (with_item item r)
+adds_item : (item : Item) (c : ℕ) → item_meaning item ≡ c → (r : Found) → after_text (encode_utf8 c) (summary r) ≡ summary (with_item item r)
 adds_item item c e r = ap (λ m. record { text = encode_utf8_all m; values = r.values; closing = r.closing }) (ap (λ c. c ∷ text_of r.first) (sym e) ∙ sym (item_text item r.first))
 
 quote_adds_nothing : (o : Option Found) → option_map summary o ≡ option_map summary (option_map (with_piece (quoted [])) o)
@@ -89,26 +89,26 @@ quote_adds_nothing (Some r) = refl
 
 module _ (t : TextForm) (c : ℕ) (cs : List ℕ) (all : (q : Place) → read (form_of t) q (encode_utf8_all cs) ≡ option_map summary (parse (form_of t) q cs)) where
   piece_read : (piece : Piece) → meaning piece ≡ c ∷ [] → grown (encode_utf8 c) (read (form_of t) Outside (encode_utf8_all cs)) ≡ option_map summary (option_map (with_piece piece) (parse (form_of t) Outside cs))
-  piece_read piece e = mapped (behind_text (encode_utf8 c)) (with_piece piece) (read (form_of t) Outside (encode_utf8_all cs)) (parse (form_of t) Outside cs) (adds_piece piece c e) (all Outside)
+  piece_read piece e = mapped (after_text (encode_utf8 c)) (with_piece piece) (read (form_of t) Outside (encode_utf8_all cs)) (parse (form_of t) Outside cs) (adds_piece piece c e) (all Outside)
 
   item_read : (item : Item) → item_meaning item ≡ c → grown (encode_utf8 c) (read (form_of t) Quoted (encode_utf8_all cs)) ≡ option_map summary (option_map (with_item item) (parse (form_of t) Quoted cs))
-  item_read item e = mapped (behind_text (encode_utf8 c)) (with_item item) (read (form_of t) Quoted (encode_utf8_all cs)) (parse (form_of t) Quoted cs) (adds_item item c e) (all Quoted)
+  item_read item e = mapped (after_text (encode_utf8 c)) (with_item item) (read (form_of t) Quoted (encode_utf8_all cs)) (parse (form_of t) Quoted cs) (adds_item item c e) (all Quoted)
 
-  other_behind : (b : Bool) → option_map (with_piece (quoted [])) (option_map (with_piece (plain c)) (parse (form_of t) Outside cs)) ≡ parse_behind_quote (form_of t) c cs (λ q. parse (form_of t) q cs) b Other
-  other_behind true = refl
-  other_behind false = refl
+  other_after : (b : Bool) → option_map (with_piece (quoted [])) (option_map (with_piece (plain c)) (parse (form_of t) Outside cs)) ≡ parse_after_quote (form_of t) c cs (λ q. parse (form_of t) q cs) b Other
+  other_after true = refl
+  other_after false = refl
 
   -- a character that isn't ASCII
   high : class (form_of t) c ≡ Other → (p : Place) → grown (encode_utf8 c) (read (form_of t) (onward p) (encode_utf8_all cs)) ≡ option_map summary (parse (form_of t) p (c ∷ cs))
   high k Start = piece_read (plain c) refl ∙ ap (λ k. option_map summary (parse_outside (form_of t) c cs (λ q. parse (form_of t) q cs) k)) (sym k)
   high k Outside = piece_read (plain c) refl ∙ ap (λ k. option_map summary (parse_outside (form_of t) c cs (λ q. parse (form_of t) q cs) k)) (sym k)
   high k Quoted = item_read (inner c) refl ∙ ap (λ k. option_map summary (parse_quoted c (λ q. parse (form_of t) q cs) k)) (sym k)
-  high k BehindQuote =
+  high k AfterQuote =
       piece_read (plain c) refl ∙ quote_adds_nothing (option_map (with_piece (plain c)) (parse (form_of t) Outside cs))
-      ∙ ap (option_map summary) (other_behind (form_of t).doubles)
-      ∙ ap (λ k. option_map summary (parse_behind_quote (form_of t) c cs (λ q. parse (form_of t) q cs) (form_of t).doubles k)) (sym k)
-  high k BehindBackslash = piece_read (escaped c) refl
-  high k QuotedBackslash = item_read (behind c) refl
+      ∙ ap (option_map summary) (other_after (form_of t).doubles)
+      ∙ ap (λ k. option_map summary (parse_after_quote (form_of t) c cs (λ q. parse (form_of t) q cs) (form_of t).doubles k)) (sym k)
+  high k AfterBackslash = piece_read (escaped c) refl
+  high k QuotedBackslash = item_read (inner_escaped c) refl
 
   -- an ASCII character
   module _ (bytes : encode_utf8 c ≡ c ∷ []) (same : (text : List ℕ) → value_here (form_of t) (encode_utf8_all cs) text ≡ value_here (form_of t) cs text) where
@@ -128,7 +128,7 @@ module _ (t : TextForm) (c : ℕ) (cs : List ℕ) (all : (q : Place) → read (f
 
     outside_low : (k : Class) → read_by (form_of t) c (encode_utf8_all cs) (λ q. read (form_of t) q (encode_utf8_all cs)) (outside_cell k) ≡ option_map summary (parse_outside (form_of t) c cs (λ q. parse (form_of t) q cs) k)
     outside_low Quote = all Quoted
-    outside_low Backslash = all BehindBackslash
+    outside_low Backslash = all AfterBackslash
     outside_low Comma =
         mapped (next (form_of t) (encode_utf8_all cs)) (with_part (form_of t) cs) (read (form_of t) Start (encode_utf8_all cs)) (parse (form_of t) Start cs)
         (λ r. ap (λ v. record { text = []; values = v ∷ r.values; closing = r.closing }) (same (encode_utf8_all (text_of r.first)))) (all Start)
@@ -137,29 +137,29 @@ module _ (t : TextForm) (c : ℕ) (cs : List ℕ) (all : (q : Place) → read (f
     outside_low Other = piece_low (plain c) refl
 
     quoted_low : (k : Class) → read_by (form_of t) c (encode_utf8_all cs) (λ q. read (form_of t) q (encode_utf8_all cs)) (quoted_cell k) ≡ option_map summary (parse_quoted c (λ q. parse (form_of t) q cs) k)
-    quoted_low Quote = all BehindQuote
+    quoted_low Quote = all AfterQuote
     quoted_low Backslash = all QuotedBackslash
     quoted_low Comma = item_low (inner c) refl
     quoted_low Open = item_low (inner c) refl
     quoted_low Close = item_low (inner c) refl
     quoted_low Other = item_low (inner c) refl
 
-    behind_low : (b : Bool) (k : Class) → class (form_of t) c ≡ k → read_by (form_of t) c (encode_utf8_all cs) (λ q. read (form_of t) q (encode_utf8_all cs)) (behind_quote_cell b k) ≡ option_map summary (parse_behind_quote (form_of t) c cs (λ q. parse (form_of t) q cs) b k)
-    behind_low true Quote h = item_low doubled (sym (says (form_of t) c Quote h))
-    behind_low true Backslash h = outside_low Backslash ∙ quote_adds_nothing (parse_outside (form_of t) c cs (λ q. parse (form_of t) q cs) Backslash)
-    behind_low true Comma h = outside_low Comma ∙ quote_adds_nothing (parse_outside (form_of t) c cs (λ q. parse (form_of t) q cs) Comma)
-    behind_low true Open h = refl
-    behind_low true Close h = outside_low Close ∙ quote_adds_nothing (parse_outside (form_of t) c cs (λ q. parse (form_of t) q cs) Close)
-    behind_low true Other h = outside_low Other ∙ quote_adds_nothing (parse_outside (form_of t) c cs (λ q. parse (form_of t) q cs) Other)
-    behind_low false k h = outside_low k ∙ quote_adds_nothing (parse_outside (form_of t) c cs (λ q. parse (form_of t) q cs) k)
+    after_low : (b : Bool) (k : Class) → class (form_of t) c ≡ k → read_by (form_of t) c (encode_utf8_all cs) (λ q. read (form_of t) q (encode_utf8_all cs)) (after_quote_cell b k) ≡ option_map summary (parse_after_quote (form_of t) c cs (λ q. parse (form_of t) q cs) b k)
+    after_low true Quote h = item_low doubled (sym (says (form_of t) c Quote h))
+    after_low true Backslash h = outside_low Backslash ∙ quote_adds_nothing (parse_outside (form_of t) c cs (λ q. parse (form_of t) q cs) Backslash)
+    after_low true Comma h = outside_low Comma ∙ quote_adds_nothing (parse_outside (form_of t) c cs (λ q. parse (form_of t) q cs) Comma)
+    after_low true Open h = refl
+    after_low true Close h = outside_low Close ∙ quote_adds_nothing (parse_outside (form_of t) c cs (λ q. parse (form_of t) q cs) Close)
+    after_low true Other h = outside_low Other ∙ quote_adds_nothing (parse_outside (form_of t) c cs (λ q. parse (form_of t) q cs) Other)
+    after_low false k h = outside_low k ∙ quote_adds_nothing (parse_outside (form_of t) c cs (λ q. parse (form_of t) q cs) k)
 
     low : (p : Place) → read (form_of t) p (c ∷ encode_utf8_all cs) ≡ option_map summary (parse (form_of t) p (c ∷ cs))
     low Start = outside_low (class (form_of t) c)
     low Outside = outside_low (class (form_of t) c)
     low Quoted = quoted_low (class (form_of t) c)
-    low BehindQuote = behind_low (form_of t).doubles (class (form_of t) c) refl
-    low BehindBackslash = piece_low (escaped c) refl
-    low QuotedBackslash = item_low (behind c) refl
+    low AfterQuote = after_low (form_of t).doubles (class (form_of t) c) refl
+    low AfterBackslash = piece_low (escaped c) refl
+    low QuotedBackslash = item_low (inner_escaped c) refl
 
 high_stands : (t : TextForm) (hs bs : List ℕ) → AllByRecursion (λ x. 128 ≤ x) hs → ¬ (length (hs ++ bs) ≡ length bs) → stands (form_of t) [] (hs ++ bs) ≡ false
 high_stands t [] bs h n = absurd (n refl)

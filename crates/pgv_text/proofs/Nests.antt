@@ -14,7 +14,7 @@ use Rattle.pgv_text.specs.Scan.{class, value_here, closes_here, counted, nest_be
 use Rattle.pgv_text.specs.Parsed.{Found, closed, parse_outside, parse, nest_of}
 use Rattle.pgv_text.proofs.Classes.{says, class_plain, class_closing}
 use Rattle.pgv_text.proofs.Nothing.{value_is}
-use Rattle.pgv_text.proofs.Sound.{Valid, behind_part, part_end, sound}
+use Rattle.pgv_text.proofs.Sound.{Valid, after_part, part_end, sound}
 use Rattle.pgv_text.proofs.Spelled.{parts_read}
 
 some_same : {X : Type 0} (a b : X) → Some a ≡ Some b → a ≡ b
@@ -74,11 +74,11 @@ module _ (t : TextForm) where
         all_built r value nest v is (subst (λ c. AreCounted c (r.first ∷ r.more)) (sym k) n) h
     two_built false r value nest e v is k h = cc
 
-    not_at_once : (first : List Piece) (more : List (List Piece)) (closing : ℕ) → class (form_of t) closing ≡ Close → closes_here (form_of t) cs ≡ false → cs ≡ spelled first ++ behind_part more closing → first ∷ more ≢ [] ∷ []
+    not_at_once : (first : List Piece) (more : List (List Piece)) (closing : ℕ) → class (form_of t) closing ≡ Close → closes_here (form_of t) cs ≡ false → cs ≡ spelled first ++ after_part more closing → first ∷ more ≢ [] ∷ []
     not_at_once first more closing k h e n =
         let f : first ≡ [] = cc in
         let m : more ≡ [] = cc in
-        let whole : cs ≡ closing ∷ [] = e ∙ ap (λ x. spelled x ++ behind_part more closing) f ∙ ap (λ x. behind_part x closing) m in
+        let whole : cs ≡ closing ∷ [] = e ∙ ap (λ x. spelled x ++ after_part more closing) f ∙ ap (λ x. after_part x closing) m in
         false≢true (sym h ∙ ap (closes_here (form_of t)) whole ∙ says (form_of t) closing Close k)
 
     from_counted : (k : Count) (b : Bool) (r : Found) (value : Option (List ℕ)) (nest : Nest) → (form_of t).count ≡ k → closes_here (form_of t) cs ≡ b → parse (form_of t) Start cs ≡ Some r → Valid (form_of t) [] false cs r → IsPart (form_of t) r.first value →
@@ -108,7 +108,7 @@ module _ (t : TextForm) where
   not_closing : (c : ℕ) (k : Class) → class (form_of t) c ≡ k → k ≢ Close → (form_of t).closes c ≡ false
   not_closing c k h n = only_true ((form_of t).closes c) (λ e. n (sym h ∙ class_closing t c e))
 
-  goes_on : (part : List Piece) (parts : List (List Piece)) (closing : ℕ) → ArePieces (form_of t) part → part ∷ parts ≢ [] ∷ [] → closes_here (form_of t) (spelled part ++ behind_part parts closing) ≡ false
+  goes_on : (part : List Piece) (parts : List (List Piece)) (closing : ℕ) → ArePieces (form_of t) part → part ∷ parts ≢ [] ∷ [] → closes_here (form_of t) (spelled part ++ after_part parts closing) ≡ false
   goes_on [] [] closing h n = absurd (n refl)
   goes_on [] (part ∷ parts) closing h n = not_closing 44 Comma refl (λ e. cc)
   goes_on (plain c ∷ pieces) parts closing h n = not_closing c Other (class_plain (form_of t) c h.each.0) (λ e. cc)
@@ -116,7 +116,7 @@ module _ (t : TextForm) where
   goes_on (quoted items ∷ pieces) parts closing h n = not_closing 34 Quote refl (λ e. cc)
 
   count_met : (k : Count) (part : List Piece) (parts : List (List Piece)) (values : List (Option (List ℕ))) (closing : ℕ) → ArePieces (form_of t) part → AreCounted k (part ∷ parts) → length values ≡ length (part ∷ parts) →
-      counted k (closes_here (form_of t) (spelled part ++ behind_part parts closing)) values ≡ Some values
+      counted k (closes_here (form_of t) (spelled part ++ after_part parts closing)) values ≡ Some values
   count_met any part parts values closing h n e = ap (λ b. counted any b values) (goes_on part parts closing h n)
   count_met some part parts values closing h n e = refl
   count_met two part parts values closing h n e = ap (λ m. cond (m == 2) (Some values) None) (e ∙ n)
@@ -139,7 +139,7 @@ module _ (t : TextForm) where
   nest_read_from o closing [] (value ∷ values) w k hs n vs = absurd vs
   nest_read_from o closing (part ∷ parts) [] w k hs n vs = absurd vs
   nest_read_from o closing (part ∷ parts) (value ∷ values) w k hs n vs =
-      let cs : List ℕ = spelled part ++ behind_part parts closing in
+      let cs : List ℕ = spelled part ++ after_part parts closing in
       let between : Found → Option Nest = λ r. nest_between (form_of t) o cs (value_here (form_of t) cs (encode_utf8_all (text_of r.first)) ∷ r.values) r.closing in
       let p = parts_read t part parts value values closing (class_closing t closing k) hs.0 hs.1 vs.0 vs.1 in
       ap (λ x. nest_of (form_of t) (o ∷ x)) (append_assoc (spelled part) (flat_map (λ p. 44 ∷ spelled p) parts) (closing ∷ []))

@@ -8,24 +8,24 @@ use Rattle.pgv_text.specs.declared.scanner.TextForm.{TextForm}
 use Rattle.pgv_text.specs.declared.scanner.Class.{Class}
 use Rattle.pgv_text.specs.declared.scanner.Class.TheVariants.{Quote, Backslash, Comma, Open, Close, Other}
 use Rattle.pgv_text.specs.declared.scanner.Place.{Place}
-use Rattle.pgv_text.specs.declared.scanner.Place.TheVariants.{Start, Outside, Quoted, BehindQuote, BehindBackslash, QuotedBackslash}
-use Rattle.pgv_text.specs.Pieces.{Form, Item, inner, behind, doubled, Piece, plain, escaped, quoted, item_spelling, IsItem, IsPiece, NotQuotedFirst, QuotedApart, ArePieces, Pairwise, IsPart, spelling, spelled, text_of}
+use Rattle.pgv_text.specs.declared.scanner.Place.TheVariants.{Start, Outside, Quoted, AfterQuote, AfterBackslash, QuotedBackslash}
+use Rattle.pgv_text.specs.Pieces.{Form, Item, inner, inner_escaped, doubled, Piece, plain, escaped, quoted, item_spelling, IsItem, IsPiece, NotQuotedFirst, QuotedApart, ArePieces, Pairwise, IsPart, spelling, spelled, text_of}
 use Rattle.pgv_text.specs.Forms.{form_of}
 use Rattle.pgv_text.specs.Scan.{class, ends, value_here}
-use Rattle.pgv_text.specs.Parsed.{Found, with_piece, with_item, with_part, closed, parse_outside, parse_quoted, parse_behind_quote, parse}
+use Rattle.pgv_text.specs.Parsed.{Found, with_piece, with_item, with_part, closed, parse_outside, parse_quoted, parse_after_quote, parse}
 use Rattle.pgv_text.proofs.Classes.{says}
 use Rattle.pgv_text.proofs.Nothing.{value_is}
 
-abbrev pub behind_part : List (List Piece) → ℕ → List ℕ
-behind_part more closing = flat_map (λ p. 44 ∷ spelled p) more ++ closing ∷ []
+abbrev pub after_part : List (List Piece) → ℕ → List ℕ
+after_part more closing = flat_map (λ p. 44 ∷ spelled p) more ++ closing ∷ []
 
--- behind these characters, the rest of a part, the parts behind it, and the bracket; an open quoted piece comes first
+-- after these characters, the rest of a part, the parts after it, and the bracket; an open quoted piece comes first
 pub record Valid (form : Form) (before : List ℕ) (within : Bool) (cs : List ℕ) (r : Found) : Type 0 where
   pub first : ArePieces form r.first
   pub more : AllByRecursion (ArePieces form) r.more
   pub values : Pairwise (IsPart form) r.more r.values
   pub closes : class form r.closing ≡ Close
-  pub whole : before ++ cs ≡ spelled r.first ++ behind_part r.more r.closing
+  pub whole : before ++ cs ≡ spelled r.first ++ after_part r.more r.closing
   pub quoted_first : within ≡ true → (items : List Item) × (pieces : List Piece) × (r.first ≡ quoted items ∷ pieces)
 
 -- what of a piece has been passed over
@@ -33,16 +33,16 @@ abbrev pub before : Place → List ℕ
 before Start = []
 before Outside = []
 before Quoted = 34 ∷ []
-before BehindQuote = 34 ∷ 34 ∷ []
-before BehindBackslash = 92 ∷ []
+before AfterQuote = 34 ∷ 34 ∷ []
+before AfterBackslash = 92 ∷ []
 before QuotedBackslash = 34 ∷ 92 ∷ []
 
 abbrev pub in_quotes : Place → Bool
 in_quotes Start = false
 in_quotes Outside = false
 in_quotes Quoted = true
-in_quotes BehindQuote = true
-in_quotes BehindBackslash = false
+in_quotes AfterQuote = true
+in_quotes AfterBackslash = false
 in_quotes QuotedBackslash = true
 
 abbrev pub Reads : Form → Place → List ℕ → Type 0
@@ -56,8 +56,8 @@ if_weaker : {X : Type 0} (P Q : X → Type 0) (o : Option X) → ((x : X) → P 
 if_weaker P Q None g h = tt
 if_weaker P Q (Some x) g h = g x h
 
--- the comma or bracket behind a part
-pub part_end : (form : Form) (more : List (List Piece)) (closing : ℕ) → class form closing ≡ Close → (e : ℕ) × (tail : List ℕ) × (behind_part more closing ≡ e ∷ tail) × (ends (class form e) ≡ true)
+-- the comma or bracket after a part
+pub part_end : (form : Form) (more : List (List Piece)) (closing : ℕ) → class form closing ≡ Close → (e : ℕ) × (tail : List ℕ) × (after_part more closing ≡ e ∷ tail) × (ends (class form e) ≡ true)
 part_end form [] closing k = (closing, [], refl, ap ends k)
 part_end form (part ∷ more) closing k = (44, (spelled part ++ flat_map (λ p. 44 ∷ spelled p) more) ++ closing ∷ [], refl, refl)
 
@@ -78,14 +78,14 @@ module _ (t : TextForm) where
     more = v.more;
     values = v.values;
     closes = v.closes;
-    whole = e ∙ ap (λ x. spelling piece ++ x) v.whole ∙ sym (append_assoc (spelling piece) (spelled r.first) (behind_part r.more r.closing));
+    whole = e ∙ ap (λ x. spelling piece ++ x) v.whole ∙ sym (append_assoc (spelling piece) (spelled r.first) (after_part r.more r.closing));
     quoted_first = o;
   }
 
   item_valid_at : (item : Item) (b ds cs : List ℕ) (items : List Item) (pieces : List Piece) (r : Found) → IsItem (form_of t) item → b ++ ds ≡ 34 ∷ (item_spelling item ++ cs) →
       Valid (form_of t) (34 ∷ []) true cs (record r { first = quoted items ∷ pieces }) → Valid (form_of t) b true ds (with_item item (record r { first = quoted items ∷ pieces }))
   item_valid_at item b ds cs items pieces r is e v =
-      let tail = behind_part r.more r.closing in
+      let tail = after_part r.more r.closing in
       let rest : cs ≡ (flat_map item_spelling items ++ 34 ∷ []) ++ spelled pieces ++ tail = cc in
       let regrouped : 34 ∷ (item_spelling item ++ ((flat_map item_spelling items ++ 34 ∷ []) ++ spelled pieces ++ tail)) ≡ spelled (quoted (item ∷ items) ∷ pieces) ++ tail = simp append_assoc in
       record {
@@ -125,7 +125,7 @@ module _ (t : TextForm) where
 
     outside_valid : (k : Class) → class (form_of t) c ≡ k → IfSome (parse_outside (form_of t) c cs (λ q. parse (form_of t) q cs) k) (Valid (form_of t) [] false (c ∷ cs))
     outside_valid Quote k = if_weaker _ _ (parse (form_of t) Quoted cs) (λ r. again (34 ∷ []) [] true false cs (c ∷ cs) r (λ h. refl) (ap (λ x. x ∷ cs) (says (form_of t) c Quote k))) (all Quoted)
-    outside_valid Backslash k = if_weaker _ _ (parse (form_of t) BehindBackslash cs) (λ r. again (92 ∷ []) [] false false cs (c ∷ cs) r (λ h. h) (ap (λ x. x ∷ cs) (says (form_of t) c Backslash k))) (all BehindBackslash)
+    outside_valid Backslash k = if_weaker _ _ (parse (form_of t) AfterBackslash cs) (λ r. again (92 ∷ []) [] false false cs (c ∷ cs) r (λ h. h) (ap (λ x. x ∷ cs) (says (form_of t) c Backslash k))) (all AfterBackslash)
     outside_valid Comma k = if_mapped _ _ (with_part (form_of t) cs) (parse (form_of t) Start cs) (λ r. part_valid c cs r (says (form_of t) c Comma k)) (all Start)
     outside_valid Open k = tt
     outside_valid Close k = closed_valid c cs k
@@ -140,37 +140,37 @@ module _ (t : TextForm) where
         (λ r. item_valid (inner c) (34 ∷ []) (c ∷ cs) cs r (not_class k Quote 34 h refl n, not_class k Backslash 92 h refl m) refl) (all Quoted)
 
     quoted_valid : (k : Class) → class (form_of t) c ≡ k → IfSome (parse_quoted c (λ q. parse (form_of t) q cs) k) (Valid (form_of t) (34 ∷ []) true (c ∷ cs))
-    quoted_valid Quote k = if_weaker _ _ (parse (form_of t) BehindQuote cs) (λ r. again (34 ∷ 34 ∷ []) (34 ∷ []) true true cs (c ∷ cs) r (λ h. h) (ap (λ x. 34 ∷ x ∷ cs) (says (form_of t) c Quote k))) (all BehindQuote)
+    quoted_valid Quote k = if_weaker _ _ (parse (form_of t) AfterQuote cs) (λ r. again (34 ∷ 34 ∷ []) (34 ∷ []) true true cs (c ∷ cs) r (λ h. h) (ap (λ x. 34 ∷ x ∷ cs) (says (form_of t) c Quote k))) (all AfterQuote)
     quoted_valid Backslash k = if_weaker _ _ (parse (form_of t) QuotedBackslash cs) (λ r. again (34 ∷ 92 ∷ []) (34 ∷ []) true true cs (c ∷ cs) r (λ h. h) (ap (λ x. 34 ∷ x ∷ cs) (says (form_of t) c Backslash k))) (all QuotedBackslash)
     quoted_valid Comma k = inner_valid Comma k (λ e. cc) (λ e. cc)
     quoted_valid Open k = inner_valid Open k (λ e. cc) (λ e. cc)
     quoted_valid Close k = inner_valid Close k (λ e. cc) (λ e. cc)
     quoted_valid Other k = inner_valid Other k (λ e. cc) (λ e. cc)
 
-    -- behind a quote that closes
+    -- after a quote that closes
     after_quote : (k : Class) → class (form_of t) c ≡ k → ((form_of t).doubles ≡ true → c ≢ 34) → IfSome (option_map (with_piece (quoted [])) (parse_outside (form_of t) c cs (λ q. parse (form_of t) q cs) k)) (Valid (form_of t) (34 ∷ 34 ∷ []) true (c ∷ cs))
     after_quote k h n = if_mapped _ _ (with_piece (quoted [])) (parse_outside (form_of t) c cs (λ q. parse (form_of t) q cs) k)
-        (λ r v. piece_valid (quoted []) (34 ∷ 34 ∷ []) true (c ∷ cs) (c ∷ cs) r tt (λ d a. (not_quoted r.first c cs (behind_part r.more r.closing) v.whole (n d), a)) refl (λ h. ([], r.first, refl)) v) (outside_valid k h)
+        (λ r v. piece_valid (quoted []) (34 ∷ 34 ∷ []) true (c ∷ cs) (c ∷ cs) r tt (λ d a. (not_quoted r.first c cs (after_part r.more r.closing) v.whole (n d), a)) refl (λ h. ([], r.first, refl)) v) (outside_valid k h)
 
-    behind_valid : (b : Bool) → (form_of t).doubles ≡ b → (k : Class) → class (form_of t) c ≡ k → IfSome (parse_behind_quote (form_of t) c cs (λ q. parse (form_of t) q cs) b k) (Valid (form_of t) (34 ∷ 34 ∷ []) true (c ∷ cs))
-    behind_valid true d Quote k = if_mapped _ _ (with_item doubled) (parse (form_of t) Quoted cs)
+    after_valid : (b : Bool) → (form_of t).doubles ≡ b → (k : Class) → class (form_of t) c ≡ k → IfSome (parse_after_quote (form_of t) c cs (λ q. parse (form_of t) q cs) b k) (Valid (form_of t) (34 ∷ 34 ∷ []) true (c ∷ cs))
+    after_valid true d Quote k = if_mapped _ _ (with_item doubled) (parse (form_of t) Quoted cs)
         (λ r. item_valid doubled (34 ∷ 34 ∷ []) (c ∷ cs) cs r d (ap (λ x. 34 ∷ 34 ∷ x ∷ cs) (says (form_of t) c Quote k))) (all Quoted)
-    behind_valid true d Backslash k = after_quote Backslash k (λ d. not_class Backslash Quote 34 k refl (λ e. cc))
-    behind_valid true d Comma k = after_quote Comma k (λ d. not_class Comma Quote 34 k refl (λ e. cc))
-    behind_valid true d Open k = tt
-    behind_valid true d Close k = after_quote Close k (λ d. not_class Close Quote 34 k refl (λ e. cc))
-    behind_valid true d Other k = after_quote Other k (λ d. not_class Other Quote 34 k refl (λ e. cc))
-    behind_valid false d k h = after_quote k h (λ e. absurd (false≢true (sym d ∙ e)))
+    after_valid true d Backslash k = after_quote Backslash k (λ d. not_class Backslash Quote 34 k refl (λ e. cc))
+    after_valid true d Comma k = after_quote Comma k (λ d. not_class Comma Quote 34 k refl (λ e. cc))
+    after_valid true d Open k = tt
+    after_valid true d Close k = after_quote Close k (λ d. not_class Close Quote 34 k refl (λ e. cc))
+    after_valid true d Other k = after_quote Other k (λ d. not_class Other Quote 34 k refl (λ e. cc))
+    after_valid false d k h = after_quote k h (λ e. absurd (false≢true (sym d ∙ e)))
 
     place_valid : (place : Place) → Reads (form_of t) place (c ∷ cs)
     place_valid Start = outside_valid (class (form_of t) c) refl
     place_valid Outside = outside_valid (class (form_of t) c) refl
     place_valid Quoted = quoted_valid (class (form_of t) c) refl
-    place_valid BehindQuote = behind_valid (form_of t).doubles refl (class (form_of t) c) refl
-    place_valid BehindBackslash = if_mapped _ _ (with_piece (escaped c)) (parse (form_of t) Outside cs)
+    place_valid AfterQuote = after_valid (form_of t).doubles refl (class (form_of t) c) refl
+    place_valid AfterBackslash = if_mapped _ _ (with_piece (escaped c)) (parse (form_of t) Outside cs)
         (λ r. piece_valid (escaped c) (92 ∷ []) false (c ∷ cs) cs r tt (λ d a. a) refl (λ h. absurd (false≢true h))) (all Outside)
-    place_valid QuotedBackslash = if_mapped _ _ (with_item (behind c)) (parse (form_of t) Quoted cs)
-        (λ r. item_valid (behind c) (34 ∷ 92 ∷ []) (c ∷ cs) cs r tt refl) (all Quoted)
+    place_valid QuotedBackslash = if_mapped _ _ (with_item (inner_escaped c)) (parse (form_of t) Quoted cs)
+        (λ r. item_valid (inner_escaped c) (34 ∷ 92 ∷ []) (c ∷ cs) cs r tt refl) (all Quoted)
 
   pub sound : (cs : List ℕ) (place : Place) → Reads (form_of t) place cs
   sound [] place = tt

@@ -6,12 +6,12 @@ use Rattle.pgv_text.specs.declared.scanner.TextForm.{TextForm}
 use Rattle.pgv_text.specs.declared.scanner.TextForm.TheVariants.{Array, Range, Record}
 use Rattle.pgv_text.specs.declared.scanner.Class.TheVariants.{Other}
 use Rattle.pgv_text.specs.declared.scanner.Place.{Place}
-use Rattle.pgv_text.specs.declared.scanner.Place.TheVariants.{Start, Outside, Quoted, BehindQuote, BehindBackslash, QuotedBackslash}
+use Rattle.pgv_text.specs.declared.scanner.Place.TheVariants.{Start, Outside, Quoted, AfterQuote, AfterBackslash, QuotedBackslash}
 use Rattle.pgv_text.specs.declared.scanner.Cell.{Cell}
 use Rattle.pgv_text.specs.declared.scanner.Cell.TheVariants.{Keep}
 use Rattle.pgv_text.specs.Pieces.{Form}
 use Rattle.pgv_text.specs.Forms.{form_of}
-use Rattle.pgv_text.specs.Scan.{Rest, class, cell, behind_quote_cell, grown}
+use Rattle.pgv_text.specs.Scan.{Rest, class, cell, after_quote_cell, grown}
 
 pub grown_none : (r : Option Rest) → grown [] r ≡ r
 grown_none None = refl
@@ -30,25 +30,25 @@ high_class Array b h = rw (not_equal b 34 (omega arith) h, not_equal b 92 (omega
 high_class Range b h = rw (not_equal b 34 (omega arith) h, not_equal b 92 (omega arith) h, not_equal b 44 (omega arith) h, not_equal b 40 (omega arith) h, not_equal b 91 (omega arith) h, not_equal b 41 (omega arith) h, not_equal b 93 (omega arith) h) refl
 high_class Record b h = rw (not_equal b 34 (omega arith) h, not_equal b 92 (omega arith) h, not_equal b 44 (omega arith) h, not_equal b 40 (omega arith) h, not_equal b 41 (omega arith) h) refl
 
--- the place behind a character that isn't ASCII
+-- the place after a character that isn't ASCII
 abbrev pub onward : Place → Place
 onward Start = Outside
 onward Outside = Outside
 onward Quoted = Quoted
-onward BehindQuote = Outside
-onward BehindBackslash = Outside
+onward AfterQuote = Outside
+onward AfterBackslash = Outside
 onward QuotedBackslash = Quoted
 
-behind_other : (d : Bool) → behind_quote_cell d Other ≡ Keep Outside
-behind_other true = refl
-behind_other false = refl
+after_other : (d : Bool) → after_quote_cell d Other ≡ Keep Outside
+after_other true = refl
+after_other false = refl
 
 pub other_cell : (form : Form) (p : Place) → cell form p Other ≡ Keep (onward p)
 other_cell form Start = refl
 other_cell form Outside = refl
 other_cell form Quoted = refl
-other_cell form BehindQuote = behind_other form.doubles
-other_cell form BehindBackslash = refl
+other_cell form AfterQuote = after_other form.doubles
+other_cell form AfterBackslash = refl
 other_cell form QuotedBackslash = refl
 
 -- a byte that isn't kept is ASCII

@@ -6,7 +6,7 @@ use Rattle.std.specs.List.{flat_map, AllByRecursion}
 use Rattle.std.specs.Char.{IsScalar, to_ascii_lowercase}
 use Rattle.std.proofs.lemmas.Bool.{eqb-true, false≢true}
 use Rattle.std.proofs.lemmas.List.{append-nil}
-use Rattle.pgv_text.specs.Pieces.{Form, Item, inner, behind, doubled, Piece, plain, quoted, item_spelling, item_meaning, IsItem, IsPiece, QuotedApart, ArePieces, may_be_plain, spelled, text_of, joined, Pairwise, IsPart, escaped, Count, any, some, two, AreCounted, Nest, IsNestText}
+use Rattle.pgv_text.specs.Pieces.{Form, Item, inner, inner_escaped, doubled, Piece, plain, quoted, item_spelling, item_meaning, IsItem, IsPiece, QuotedApart, ArePieces, may_be_plain, spelled, text_of, joined, Pairwise, IsPart, escaped, Count, any, some, two, AreCounted, Nest, IsNestText}
 use Rattle.pgv_text.specs.declared.scanner.TextForm.{TextForm}
 use Rattle.pgv_text.specs.declared.scanner.TextForm.TheVariants.{Array, Range, Record}
 use Rattle.pgv_text.specs.Forms.{form_of}
@@ -56,7 +56,7 @@ neither c false true e f h = absurd (false≢true (sym h))
 neither c false false e f h = (λ is. false≢true (sym e ∙ ap (λ x. x == 34) is), λ is. false≢true (sym f ∙ ap (λ x. x == 92) is))
 
 escaped_from : (form : Form) (c : ℕ) (b : Bool) → (c == 34) || (c == 92) ≡ b → ItemOf form (λ c. cond b (92 ∷ c ∷ []) (c ∷ [])) c
-escaped_from form c true e = record { item = behind c; is = tt; same = refl; means = refl; scalars = λ h. (refl, (h, tt)) }
+escaped_from form c true e = record { item = inner_escaped c; is = tt; same = refl; means = refl; scalars = λ h. (refl, (h, tt)) }
 escaped_from form c false e = record { item = inner c; is = neither c (c == 34) (c == 92) refl refl e; same = refl; means = refl; scalars = λ h. (h, tt) }
 
 pub escaped_item : (form : Form) (c : ℕ) → ItemOf form escaped_character c
@@ -68,7 +68,7 @@ doubled_from form d c true b e f =
     record { item = doubled; is = d; same = ap (λ x. x ∷ x ∷ []) (sym is); means = sym is; scalars = λ h. (h, (h, tt)) }
 doubled_from form d c false true e f =
     let is : c ≡ 92 = eqb-true c 92 f in
-    record { item = behind c; is = tt; same = ap (λ x. x ∷ c ∷ []) (sym is); means = refl; scalars = λ h. (h, (h, tt)) }
+    record { item = inner_escaped c; is = tt; same = ap (λ x. x ∷ c ∷ []) (sym is); means = refl; scalars = λ h. (h, (h, tt)) }
 doubled_from form d c false false e f = record { item = inner c; is = neither c false false e f refl; same = refl; means = refl; scalars = λ h. (h, tt) }
 
 pub doubled_item : (form : Form) → form.doubles ≡ true → (c : ℕ) → ItemOf form doubled_character c

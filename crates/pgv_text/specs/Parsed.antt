@@ -5,11 +5,11 @@ use Rattle.std.specs.Str.{encode_utf8_all}
 use Rattle.pgv_text.specs.declared.scanner.Class.{Class}
 use Rattle.pgv_text.specs.declared.scanner.Class.TheVariants.{Quote, Backslash, Comma, Open, Close, Other}
 use Rattle.pgv_text.specs.declared.scanner.Place.{Place}
-use Rattle.pgv_text.specs.declared.scanner.Place.TheVariants.{Start, Outside, Quoted, BehindQuote, BehindBackslash, QuotedBackslash}
-use Rattle.pgv_text.specs.Pieces.{Form, Item, inner, behind, doubled, Piece, plain, escaped, quoted, text_of, Nest}
+use Rattle.pgv_text.specs.declared.scanner.Place.TheVariants.{Start, Outside, Quoted, AfterQuote, AfterBackslash, QuotedBackslash}
+use Rattle.pgv_text.specs.Pieces.{Form, Item, inner, inner_escaped, doubled, Piece, plain, escaped, quoted, text_of, Nest}
 use Rattle.pgv_text.specs.Scan.{class, value_here, nest_between}
 
--- The rest of a part in pieces, an open quoted one first, the parts behind it with their values, and the bracket.
+-- The rest of a part in pieces, an open quoted one first, the parts after it with their values, and the bracket.
 pub record Found : Type 0 where
   pub first : List Piece
   pub more : List (List Piece)
@@ -38,29 +38,29 @@ closed c (d ∷ cs) = None
 
 abbrev pub parse_outside : Form → ℕ → List ℕ → (Place → Option Found) → Class → Option Found
 parse_outside form c cs go Quote = go Quoted
-parse_outside form c cs go Backslash = go BehindBackslash
+parse_outside form c cs go Backslash = go AfterBackslash
 parse_outside form c cs go Comma = option_map (with_part form cs) (go Start)
 parse_outside form c cs go Open = None
 parse_outside form c cs go Close = closed c cs
 parse_outside form c cs go Other = option_map (with_piece (plain c)) (go Outside)
 
 abbrev pub parse_quoted : ℕ → (Place → Option Found) → Class → Option Found
-parse_quoted c go Quote = go BehindQuote
+parse_quoted c go Quote = go AfterQuote
 parse_quoted c go Backslash = go QuotedBackslash
 parse_quoted c go _ = option_map (with_item (inner c)) (go Quoted)
 
 -- Where quotes are doubled, a second quote goes on with the quoted piece, which else ends.
-abbrev pub parse_behind_quote : Form → ℕ → List ℕ → (Place → Option Found) → Bool → Class → Option Found
-parse_behind_quote form c cs go true Quote = option_map (with_item doubled) (go Quoted)
-parse_behind_quote form c cs go _ k = option_map (with_piece (quoted [])) (parse_outside form c cs go k)
+abbrev pub parse_after_quote : Form → ℕ → List ℕ → (Place → Option Found) → Bool → Class → Option Found
+parse_after_quote form c cs go true Quote = option_map (with_item doubled) (go Quoted)
+parse_after_quote form c cs go _ k = option_map (with_piece (quoted [])) (parse_outside form c cs go k)
 
 abbrev pub parse_at : Form → ℕ → List ℕ → (Place → Option Found) → Class → Place → Option Found
 parse_at form c cs go k Start = parse_outside form c cs go k
 parse_at form c cs go k Outside = parse_outside form c cs go k
 parse_at form c cs go k Quoted = parse_quoted c go k
-parse_at form c cs go k BehindQuote = parse_behind_quote form c cs go form.doubles k
-parse_at form c cs go k BehindBackslash = option_map (with_piece (escaped c)) (go Outside)
-parse_at form c cs go k QuotedBackslash = option_map (with_item (behind c)) (go Quoted)
+parse_at form c cs go k AfterQuote = parse_after_quote form c cs go form.doubles k
+parse_at form c cs go k AfterBackslash = option_map (with_piece (escaped c)) (go Outside)
+parse_at form c cs go k QuotedBackslash = option_map (with_item (inner_escaped c)) (go Quoted)
 
 abbrev pub parse : Form → Place → List ℕ → Option Found
 parse form place [] = None

@@ -4,13 +4,13 @@ use Rattle.std.specs.Prelude.{◌≡◌, ◌≢◌, ℕ, Bool, true, List, [], �
 use Rattle.std.specs.List.{flat_map, AllByRecursion}
 use Rattle.std.specs.Str.{encode_utf8_all}
 
--- What stands between quotes: a character, a character behind a backslash, or a doubled quote.
+-- What stands between quotes: a character, a character after a backslash, or a doubled quote.
 pub data Item : Type 0 where
   inner : ℕ → Item
-  behind : ℕ → Item
+  inner_escaped : ℕ → Item
   doubled : Item
 
--- A character, a character behind a backslash, or what stands between quotes.
+-- A character, a character after a backslash, or what stands between quotes.
 pub data Piece : Type 0 where
   plain : ℕ → Piece
   escaped : ℕ → Piece
@@ -38,12 +38,12 @@ may_be_plain form c = not (c == 34 || c == 92 || c == 44 || form.opens c || form
 -- 34 is `"` and 92 is `\`.
 abbrev pub item_spelling : Item → List ℕ
 item_spelling (inner c) = c ∷ []
-item_spelling (behind c) = 92 ∷ c ∷ []
+item_spelling (inner_escaped c) = 92 ∷ c ∷ []
 item_spelling doubled = 34 ∷ 34 ∷ []
 
 abbrev pub item_meaning : Item → ℕ
 item_meaning (inner c) = c
-item_meaning (behind c) = c
+item_meaning (inner_escaped c) = c
 item_meaning doubled = 34
 
 abbrev pub spelling : Piece → List ℕ
@@ -58,7 +58,7 @@ meaning (quoted items) = map item_meaning items
 
 abbrev pub IsItem : Form → Item → Type 0
 IsItem form (inner c) = (c ≢ 34) × (c ≢ 92)
-IsItem form (behind c) = Unit {0}
+IsItem form (inner_escaped c) = Unit {0}
 IsItem form doubled = form.doubles ≡ true
 
 abbrev pub IsPiece : Form → Piece → Type 0

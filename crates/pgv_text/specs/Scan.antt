@@ -4,7 +4,7 @@ use Rattle.std.specs.Option.{option_and_then, option_map}
 use Rattle.pgv_text.specs.declared.scanner.Class.{Class}
 use Rattle.pgv_text.specs.declared.scanner.Class.TheVariants.{Quote, Backslash, Comma, Open, Close, Other}
 use Rattle.pgv_text.specs.declared.scanner.Place.{Place}
-use Rattle.pgv_text.specs.declared.scanner.Place.TheVariants.{Start, Outside, Quoted, BehindQuote, BehindBackslash, QuotedBackslash}
+use Rattle.pgv_text.specs.declared.scanner.Place.TheVariants.{Start, Outside, Quoted, AfterQuote, AfterBackslash, QuotedBackslash}
 use Rattle.pgv_text.specs.declared.scanner.Cell.{Cell}
 use Rattle.pgv_text.specs.declared.scanner.Cell.TheVariants.{Keep, Pass, Part, End, Refuse}
 use Rattle.pgv_text.specs.Pieces.{Form, Piece, plain, Count, any, some, two, Nest}
@@ -16,28 +16,28 @@ class form c =
 
 abbrev pub outside_cell : Class → Cell
 outside_cell Quote = Pass Quoted
-outside_cell Backslash = Pass BehindBackslash
+outside_cell Backslash = Pass AfterBackslash
 outside_cell Comma = Part
 outside_cell Open = Refuse
 outside_cell Close = End
 outside_cell Other = Keep Outside
 
 abbrev pub quoted_cell : Class → Cell
-quoted_cell Quote = Pass BehindQuote
+quoted_cell Quote = Pass AfterQuote
 quoted_cell Backslash = Pass QuotedBackslash
 quoted_cell _ = Keep Quoted
 
--- Where quotes are doubled, a quote behind a quote is kept.
-abbrev pub behind_quote_cell : Bool → Class → Cell
-behind_quote_cell true Quote = Keep Quoted
-behind_quote_cell _ k = outside_cell k
+-- Where quotes are doubled, a quote after a quote is kept.
+abbrev pub after_quote_cell : Bool → Class → Cell
+after_quote_cell true Quote = Keep Quoted
+after_quote_cell _ k = outside_cell k
 
 abbrev pub cell : Form → Place → Class → Cell
 cell form Start k = outside_cell k
 cell form Outside k = outside_cell k
 cell form Quoted k = quoted_cell k
-cell form BehindQuote k = behind_quote_cell form.doubles k
-cell form BehindBackslash k = Keep Outside
+cell form AfterQuote k = after_quote_cell form.doubles k
+cell form AfterBackslash k = Keep Outside
 cell form QuotedBackslash k = Keep Quoted
 
 -- a part ends here
@@ -68,12 +68,12 @@ counted any false values = Some values
 counted some at_once values = Some values
 counted two at_once values = cond (length values == 2) (Some values) None
 
--- behind an opening bracket, with these values and this closing one
+-- after an opening bracket, with these values and this closing one
 abbrev pub nest_between : Form → ℕ → List ℕ → List (Option (List ℕ)) → ℕ → Option Nest
 nest_between form opening cs values closing =
     option_map (λ values. record { values = values; lower = opening == 91; upper = closing == 93 }) (counted form.count (closes_here form cs) values)
 
--- What is read from a place in a part: the rest of its text, the values of the parts behind it, and the bracket.
+-- What is read from a place in a part: the rest of its text, the values of the parts after it, and the bracket.
 pub record Rest : Type 0 where
   pub text : List ℕ
   pub values : List (Option (List ℕ))
@@ -108,12 +108,12 @@ abbrev pub nest_read : Form → List ℕ → Option Nest
 nest_read form [] = None
 nest_read form (b ∷ bs) = cond (form.opens b) (option_and_then (λ r. nest_between form b bs (values_from form bs r) r.closing) (read form Start bs)) None
 
--- behind these bytes of the text
-abbrev pub behind_text : List ℕ → Rest → Rest
-behind_text text r = record r { text = text ++ r.text }
+-- after these bytes of the text
+abbrev pub after_text : List ℕ → Rest → Rest
+after_text text r = record r { text = text ++ r.text }
 
 abbrev pub grown : List ℕ → Option Rest → Option Rest
-grown text r = option_map (behind_text text) r
+grown text r = option_map (after_text text) r
 
 -- a cell that doesn't keep the byte
 abbrev pub stops : Cell → Bool

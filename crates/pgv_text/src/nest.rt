@@ -44,6 +44,7 @@ pub fn record_fields(alloc: Global, text: &str) -> Result<Option<Vec<Option<Stri
 }
 
 /// The bounds of a range text, as `["a b",)`, and whether its brackets include them; `None` where the text is none.
+#[tactic(auto, using(crate::proofs::Lists::two_bounds))]
 pub fn range_parts(
     alloc: Global,
     text: &str,

@@ -1,6 +1,6 @@
 //! The parts of a text, one by one.
 
-ghost use Rattle.std.specs.Prelude.{◌≡◌, ◌+◌, ◌∷◌, [], ℕ, List, Option, Some, None, IfOk, IfSome, IfNone, OnErr, cond, string_bytes, false, true, not};
+ghost use Rattle.std.specs.Prelude.{◌≡◌, ◌+◌, ◌∷◌, [], ℕ, List, Option, Some, None, IfOk, IfSome, IfNone, OnErr, cond, string_bytes, false, true, length};
 ghost use Rattle.std.specs.Option.{MatchOption, option_map};
 ghost use Rattle.std.specs.Str.{chars};
 ghost use Rattle.pgv_text.specs.Forms.{form_of};
@@ -8,14 +8,14 @@ ghost use Rattle.pgv_text.specs.Scan.{nest_read, numbered, read};
 ghost use Rattle.pgv_text.specs.Pieces.{Nest, IsNestText};
 ghost use Rattle.pgv_text.specs.Parsed.{nest_of};
 ghost use Rattle.pgv_text.specs.Values.{part_bytes, values_of};
-ghost use Rattle.pgv_text.specs.View.{is_left, values_left};
+ghost use Rattle.pgv_text.specs.View.{values_left};
 ghost use Rattle.pgv_text.specs.declared.scanner.Place.TheVariants.{Start};
 
 use super::scanner::{Cell, Place, TextForm, closes, is_nothing, next_stop, opens};
 use std::alloc::{AllocError, Global};
 
-/// The opening bracket, and what is behind it; `None` where there is none.
-fn behind_opening(form: TextForm, text: &str) -> Option<(u8, &str)>
+/// The opening bracket, and what is after it; `None` where there is none.
+fn after_opening(form: TextForm, text: &str) -> Option<(u8, &str)>
     ensures { MatchOption result (nest_read (form_of form) text.now ≡ None) (λ p. (text.now ≡ p.0 ∷ p.1.now) × ((form_of form).opens p.0 ≡ true)) }
 {
     match text.as_bytes() {
@@ -32,7 +32,7 @@ fn part_count(form: TextForm, text: &str) -> Option<(usize, u8)>
     let mut place = Place::Start;
     let mut left = text;
     while let Some(stop) = next_stop(form, place, left) {
-        left = stop.behind;
+        left = stop.rest;
         match stop.cell {
             Cell::Pass(next) => place = next,
             Cell::Part => {
@@ -52,9 +52,11 @@ pub struct Parts<'a> {
     form: TextForm,
     lower_included: bool,
     upper_included: bool,
-    /// The parts to come and the closing bracket; empty behind the last part.
+    /// How many parts are to come.
+    count: usize,
+    /// These parts and the closing bracket; empty after the last part.
     rest: &'a str,
-    ghost is_left: { is_left form rest.now ≡ true },
+    ghost counted: { count ≡ length (values_left form rest.now) },
 }
 
 impl<'a> Parts<'a> {
@@ -76,17 +78,18 @@ impl<'a> Parts<'a> {
     fn begun(form: TextForm, text: &'a str) -> Option<Self>
         ensures { option_map nest result ≡ nest_read (form_of form) text.now }
     {
-        let (opening, rest) = behind_opening(form, text)?;
+        let (opening, rest) = after_opening(form, text)?;
         let (count, closing) = part_count(form, rest)?;
-        let rest = match form {
-            TextForm::Array if closes(form, *rest.as_bytes().first()?) => "",
+        let (count, rest) = match form {
+            TextForm::Array if closes(form, *rest.as_bytes().first()?) => (0, ""),
             TextForm::Range if count != 2 => return None,
-            _ => rest,
+            _ => (count, rest),
         };
         Some(Parts {
             form,
             lower_included: opening == b'[',
             upper_included: closing == b']',
+            count,
             rest,
         })
     }
@@ -98,8 +101,15 @@ impl<'a> Parts<'a> {
         (self.lower_included, self.upper_included)
     }
 
+    /// How many parts are still to come.
+    pub fn len(&self) -> usize
+        ensures { result ≡ length (nest self.now).values }
+    {
+        self.count
+    }
+
     /// Puts the next part into a text, and says whether it is present: one that is null or absent
-    /// leaves the text empty. `None` behind the last part.
+    /// leaves the text empty. `None` after the last part.
     pub fn next_into(&mut self, text: &mut String) -> Result<Option<bool>, AllocError>
         ensures next { IfOk result (λ found. MatchOption found
             (((nest self.old).values ≡ []) × (self.new ≡ self.old) × (string_bytes text.new ≡ []))
@@ -109,7 +119,7 @@ impl<'a> Parts<'a> {
         ensures upper { (nest self.new).upper ≡ (nest self.old).upper }
     {
         text.clear();
-        if self.rest.is_empty() {
+        if self.count == 0 {
             return Ok(None);
         }
         let present = !is_nothing(self.form, self.rest);
@@ -120,13 +130,14 @@ impl<'a> Parts<'a> {
                 text.clear();
                 return Err(error);
             }
-            left = stop.behind;
+            left = stop.rest;
             match stop.cell {
                 Cell::Pass(next) => place = next,
                 _ => {
                     if !present {
                         text.clear();
                     }
+                    self.count -= 1;
                     self.rest = left;
                     return Ok(Some(present));
                 }
@@ -154,7 +165,7 @@ impl<'a> Parts<'a> {
         ensures { IfOk result (λ v. values_of v ≡ (nest self.entry).values) }
     {
         let mut parts = self;
-        let mut list = Vec::new(alloc);
+        let mut list = Vec::with_capacity(alloc, self.len())?;
         while let Some(part) = parts.next_part(alloc)? {
             list.push(part)?;
         }

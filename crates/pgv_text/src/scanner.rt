@@ -33,15 +33,15 @@ pub enum Class {
 pub enum Place {
     /// At its start.
     Start,
-    /// Behind a plain or escaped piece.
+    /// After a plain or escaped piece.
     Outside,
     /// Inside quotes.
     Quoted,
-    /// Behind a quote that closes, or is the first of two.
-    BehindQuote,
-    /// Behind a backslash outside quotes.
-    BehindBackslash,
-    /// Behind a backslash inside quotes.
+    /// After a quote that closes, or is the first of two.
+    AfterQuote,
+    /// After a backslash outside quotes.
+    AfterBackslash,
+    /// After a backslash inside quotes.
     QuotedBackslash,
 }
 
@@ -63,7 +63,7 @@ pub enum Cell {
 /// Outside quotes, by class.
 const OUTSIDE: [Cell; 6] = [
     Cell::Pass(Place::Quoted),
-    Cell::Pass(Place::BehindBackslash),
+    Cell::Pass(Place::AfterBackslash),
     Cell::Part,
     Cell::Refuse,
     Cell::End,
@@ -72,7 +72,7 @@ const OUTSIDE: [Cell; 6] = [
 
 /// Inside quotes.
 const QUOTED: [Cell; 6] = [
-    Cell::Pass(Place::BehindQuote),
+    Cell::Pass(Place::AfterQuote),
     Cell::Pass(Place::QuotedBackslash),
     Cell::Keep(Place::Quoted),
     Cell::Keep(Place::Quoted),
@@ -80,17 +80,17 @@ const QUOTED: [Cell; 6] = [
     Cell::Keep(Place::Quoted),
 ];
 
-/// Behind a quote, where quotes are doubled.
+/// After a quote, where quotes are doubled.
 const DOUBLING: [Cell; 6] = [
     Cell::Keep(Place::Quoted),
-    Cell::Pass(Place::BehindBackslash),
+    Cell::Pass(Place::AfterBackslash),
     Cell::Part,
     Cell::Refuse,
     Cell::End,
     Cell::Keep(Place::Outside),
 ];
 
-/// Behind a backslash.
+/// After a backslash.
 const ESCAPED: [Cell; 6] = [Cell::Keep(Place::Outside); 6];
 
 const QUOTED_ESCAPED: [Cell; 6] = [Cell::Keep(Place::Quoted); 6];
@@ -159,19 +159,19 @@ pub fn is_nothing(form: TextForm, text: &str) -> bool
     }
 }
 
-/// The next byte that isn't kept, with what is before and behind it.
+/// The next byte that isn't kept, with what is before and after it.
 #[derive(Clone, Copy, Drop)]
 pub struct Stop<'a> {
     pub run: &'a str,
     pub byte: u8,
     pub cell: Cell,
-    pub behind: &'a str,
+    pub rest: &'a str,
 }
 
 /// The next byte that isn't kept; `None` where there is none, and so no text of the form.
 pub fn next_stop(form: TextForm, place: Place, text: &str) -> Option<Stop<'_>>
-    ensures whole { MatchOption result (read (form_of form) place text.now ≡ None) (λ s. text.now ≡ s.run.now ++ s.byte ∷ s.behind.now) }
-    ensures read { MatchOption result (read (form_of form) place text.now ≡ None) (λ s. read (form_of form) place text.now ≡ grown s.run.now (read_by (form_of form) s.byte s.behind.now (λ q. read (form_of form) q s.behind.now) s.cell)) }
+    ensures whole { MatchOption result (read (form_of form) place text.now ≡ None) (λ s. text.now ≡ s.run.now ++ s.byte ∷ s.rest.now) }
+    ensures read { MatchOption result (read (form_of form) place text.now ≡ None) (λ s. read (form_of form) place text.now ≡ grown s.run.now (read_by (form_of form) s.byte s.rest.now (λ q. read (form_of form) q s.rest.now) s.cell)) }
     ensures stops { MatchOption result (read (form_of form) place text.now ≡ None) (λ s. stops s.cell ≡ true) }
 {
     let bytes = text.as_bytes();
@@ -189,7 +189,7 @@ pub fn next_stop(form: TextForm, place: Place, text: &str) -> Option<Stop<'_>>
                     run: &text[..index],
                     byte: bytes[index],
                     cell,
-                    behind: &text[index + 1..],
+                    rest: &text[index + 1..],
                 });
             }
         }

@@ -1,7 +1,7 @@
 use Rattle.std.proofs.Common.{◌≤◌, length, arith}
 use Rattle.std.proofs.lemmas.Str.{IsCharBoundary-after_ascii}
 use Rattle.pgv_text.proofs.Left.{opens_low}
-use Rattle.pgv_text.proofs.parts.behind_opening.Goals as goal
+use Rattle.pgv_text.proofs.parts.after_opening.Goals as goal
 
 pub range_from-requires : goal.range_from-requires
 range_from-requires c =
