@@ -1,6 +1,6 @@
 //! Arrays of one dimension (PostgreSQL, "Arrays").
 
-ghost use Rattle.std.specs.Prelude.{◌≡◌, ◌++◌, IfOk, IfErr, OnOk, OnErr, ◌*◌, ◌≤◌, length, map, Some, None, IfSome, IsErrOf, option_map, cond};
+ghost use Rattle.std.specs.Prelude.{◌≡◌, ◌++◌, IfOk, IfErr, OnOk, OnErr, ◌*◌, ◌≤◌, length, map, Some, None, IfSome, IsErrOf, option_map};
 ghost use Rattle.pgv_text.specs.Left.{nest};
 ghost use Rattle.pgv_buf.specs.Tokens.{blank};
 ghost use Rattle.pgv_value.specs.Reading.{Answers};
@@ -12,6 +12,7 @@ ghost use Rattle.pgv_wire.specs.Image.{array_image, or_else, header, frames as w
 ghost use Rattle.pgv_wire.specs.Outcome.{Encoded, Refused, Appended, AppendedAll};
 
 use super::number::number_of;
+use super::part::read_part;
 use crate::buffer::{IsNull, PgArgumentBuffer};
 use crate::traits::{Codec, Decode, Encode, PgHasArrayType, ReadBack, Type};
 use pgv_text::{Parts, TextForm};
@@ -340,10 +341,10 @@ fn read_parts<T: Decode + Type>(alloc: Global, parts: Parts<'_>) -> Result<Vec<T
     ensures { Answers (λ v. map T.meaning v.items) (each (T.reading T.info Text) (nest parts.entry).values) result }
 {
     let mut parts = parts;
-    let mut items = Vec::new(alloc);
+    let mut items = Vec::with_capacity(alloc, parts.len())?;
     let mut text = String::new(alloc);
     while let Some(present) = parts.next_into(&mut text)? {
-        items.push(read_present(alloc, T::type_info(), present, text.as_str())?)?;
+        items.push(read_part(alloc, T::type_info(), present, text.as_str())?)?;
     }
     Ok(items)
 }
@@ -373,20 +374,4 @@ impl<T: ReadBack + Type, const N: usize> ReadBack for [T; N] {
     ghost fits = { ArrayFits T.info T.produced T.image T.fits };
 
     ghost reads_back = { sized_back T.info T.produced T.hint T.image T.reading T.meaning T.kept T.fits T.reads_back N };
-}
-
-/// A part that is present, or null, read under a type.
-fn read_present<T: Decode>(
-    alloc: Global,
-    type_info: PgTypeInfo,
-    present: bool,
-    text: &str,
-) -> Result<T, CodecError>
-    ensures { Answers T.meaning (T.reading type_info Text (cond present (Some text.now) None)) result }
-{
-    let bytes = if present { Some(text.as_bytes()) } else { None };
-    T::decode(
-        alloc,
-        PgValueRef::new(bytes, type_info, PgValueFormat::Text),
-    )
 }

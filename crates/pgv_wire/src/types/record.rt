@@ -2,7 +2,8 @@
 
 ghost use Rattle.std.specs.Prelude.{IfErr, OnOk, OnErr, ◌≡◌, ◌+◌, ◌<◌, length, slice_get, Some, None, IfOk, IsErrOf, option_map};
 ghost use Rattle.pgv_types.specs.Facts.{oid_of};
-ghost use Rattle.pgv_text.specs.Values.{record_values, values_of};
+ghost use Rattle.pgv_text.specs.Left.{nest};
+ghost use Rattle.pgv_text.specs.Values.{record_values};
 ghost use Rattle.pgv_value.specs.Reading.{Answers};
 ghost use Rattle.pgv_value.specs.declared.error.CodecError.TheVariants.{UnexpectedNull};
 ghost use Rattle.pgv_wire.specs.Image.{field};
@@ -17,7 +18,7 @@ use crate::buffer::PgArgumentBuffer;
 use crate::traits::{Decode, Encode, Type};
 use crate::types::array::type_of_value;
 use pgv_buf::Mark;
-use pgv_text::record_fields;
+use pgv_text::{Parts, TextForm};
 use pgv_types::{Oid, PgType, PgTypeInfo, PgTypeKindRef};
 use pgv_value::{CodecError, PgValueFormat, PgValueRef};
 use std::alloc::Global;
@@ -133,7 +134,7 @@ impl<'r> Model for PgRecordDecoder<'r> {
 #[derive(Drop)]
 enum FieldsLeft<'r> {
     Binary(BinaryFields<'r>),
-    Text(TextFields),
+    Text(TextFields<'r>),
 }
 
 /// The record's type, the place of the next field, and the bytes from it on.
@@ -144,11 +145,12 @@ struct BinaryFields<'r> {
     rest: &'r [u8],
 }
 
-/// The texts of all fields, and the place of the next.
+/// The fields of a text that are left, how many it has in all, and the text that each is read from.
 #[derive(Drop)]
-struct TextFields {
-    parts: Vec<Option<String>>,
-    place: usize,
+struct TextFields<'r> {
+    parts: Parts<'r>,
+    count: usize,
+    text: String,
 }
 
 impl<'r> PgRecordDecoder<'r> {
@@ -194,11 +196,17 @@ impl<'r> PgRecordDecoder<'r> {
                 Ok(value)
             }
             FieldsLeft::Text(fields) => {
-                let Some(part) = fields.parts.get(fields.place) else {
-                    return Err(CodecError::NoField(fields.place));
+                let mut parts = fields.parts;
+                let Some(present) = parts.next_into(&mut fields.text)? else {
+                    return Err(CodecError::NoField(fields.count));
                 };
-                let value = read_part::<T>(self.alloc, PgTypeInfo::with_oid(Oid(0)), part)?;
-                fields.place += 1;
+                let value = read_part::<T>(
+                    self.alloc,
+                    PgTypeInfo::with_oid(Oid(0)),
+                    present,
+                    fields.text.as_str(),
+                )?;
+                fields.parts = parts;
                 Ok(value)
             }
         }
@@ -206,13 +214,16 @@ impl<'r> PgRecordDecoder<'r> {
 }
 
 /// The fields of a record text.
-fn text_fields_of(alloc: Global, text: &str) -> Result<TextFields, CodecError>
-    ensures exact { Answers (λ fields. values_of fields.parts) (record_values text.now) result }
-    ensures first { IfOk result (λ fields. fields.place ≡ 0) }
+fn text_fields_of(alloc: Global, text: &str) -> Result<TextFields<'_>, CodecError>
+    ensures { Answers (λ fields. (nest fields.parts).values) (record_values text.now) result }
 {
-    match record_fields(alloc, text)? {
+    match Parts::new(TextForm::Record, text) {
         None => Err(CodecError::Syntax),
-        Some(parts) => Ok(TextFields { parts, place: 0 }),
+        Some(parts) => Ok(TextFields {
+            parts,
+            count: parts.len(),
+            text: String::new(alloc),
+        }),
     }
 }
 

@@ -10,28 +10,28 @@ use Rattle.pgv_wire.proofs.PartLoop.{part_read, part_unread, parts_done}
 use Rattle.pgv_wire.proofs.Refusing.{Refuses-weaker}
 use Rattle.pgv_wire.proofs.types.array.read_parts.Goals as goal
 
-pub returns-in_err-read_present : goal.returns-in_err-read_present
-returns-in_err-read_present g c =
+pub returns-in_err-read_part : goal.returns-in_err-read_part
+returns-in_err-read_part g c =
     let read = g.T.Decode.reading g.T.Type.info Text in
     let part : Part = cond c.in-Some.present (Some c.as_str.result.now) None in
-    let behind : List Part = (nest c.next_into.new.self).values in
+    let rest : List Part = (nest c.next_into.new.self).values in
     let next = rw c.in-Some.is at c.in_ok-present.ensures.next in
-    let split : (nest c.loop-text.parts).values ≡ part ∷ behind = next.0 ∙ ap (λ (t : List ℕ). cond c.in-Some.present (Some t) None ∷ behind) (sym c.as_str.ensures.value) in
-    let e : Refuses c.in_err-read_present.field-0.0 (read part ≡ None) = rw (← c.type_info.ensures) c.in_err-read_present.ensures in
-    let p = err_from_is_err_and c.from_residual-in_err-read_present.result c.from_residual-in_err-read_present.ensures.1 in
-    rw (p.1, p.2) (Refuses-weaker c.in_err-read_present.field-0.0 (part_unread read (map g.T.Decode.meaning c.loop-text.items.items) (nest c.loop-text.parts).values part behind (each read (nest c.args.parts).values) split c.loop-text.invariant) e)
+    let split : (nest c.loop-text.parts).values ≡ part ∷ rest = next.0 ∙ ap (λ (t : List ℕ). cond c.in-Some.present (Some t) None ∷ rest) (sym c.as_str.ensures.value) in
+    let e : Refuses c.in_err-read_part.field-0.0 (read part ≡ None) = rw (← c.type_info.ensures) c.in_err-read_part.ensures in
+    let p = err_from_is_err_and c.from_residual-in_err-read_part.result c.from_residual-in_err-read_part.ensures.1 in
+    rw (p.1, p.2) (Refuses-weaker c.in_err-read_part.field-0.0 (part_unread read (map g.T.Decode.meaning c.loop-text.items.items) (nest c.loop-text.parts).values part rest (each read (nest c.args.parts).values) split c.loop-text.invariant) e)
 
 pub loop-text-preserved : goal.loop-text-preserved
 loop-text-preserved g c =
     let read = g.T.Decode.reading g.T.Type.info Text in
     let part : Part = cond c.in-Some.present (Some c.as_str.result.now) None in
-    let behind : List Part = (nest c.next_into.new.self).values in
-    let m = g.T.Decode.meaning c.in_ok-read_present.field-0 in
+    let rest : List Part = (nest c.next_into.new.self).values in
+    let m = g.T.Decode.meaning c.in_ok-read_part.field-0 in
     let next = rw c.in-Some.is at c.in_ok-present.ensures.next in
-    let split : (nest c.loop-text.parts).values ≡ part ∷ behind = next.0 ∙ ap (λ (t : List ℕ). cond c.in-Some.present (Some t) None ∷ behind) (sym c.as_str.ensures.value) in
-    let e : read part ≡ Some m = rw (← c.type_info.ensures) c.in_ok-read_present.ensures in
-    let it : map g.T.Decode.meaning c.push.new.self.items ≡ map g.T.Decode.meaning c.loop-text.items.items ++ m ∷ [] = rw c.in_ok-push.ensures.items (map_push _ c.loop-text.items.items c.in_ok-read_present.field-0) in
-    rw it (part_read read (map g.T.Decode.meaning c.loop-text.items.items) (nest c.loop-text.parts).values part behind m (each read (nest c.args.parts).values) split e c.loop-text.invariant)
+    let split : (nest c.loop-text.parts).values ≡ part ∷ rest = next.0 ∙ ap (λ (t : List ℕ). cond c.in-Some.present (Some t) None ∷ rest) (sym c.as_str.ensures.value) in
+    let e : read part ≡ Some m = rw (← c.type_info.ensures) c.in_ok-read_part.ensures in
+    let it : map g.T.Decode.meaning c.push.new.self.items ≡ map g.T.Decode.meaning c.loop-text.items.items ++ m ∷ [] = rw c.in_ok-push.ensures.items (map_push _ c.loop-text.items.items c.in_ok-read_part.field-0) in
+    rw it (part_read read (map g.T.Decode.meaning c.loop-text.items.items) (nest c.loop-text.parts).values part rest m (each read (nest c.args.parts).values) split e c.loop-text.invariant)
 
 pub returns : goal.returns
 returns g c =
