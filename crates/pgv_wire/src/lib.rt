@@ -52,6 +52,7 @@
 pub mod arguments;
 pub mod buffer;
 pub mod laws;
+pub mod text_laws;
 pub mod traits;
 pub mod types;
 
