@@ -102,7 +102,7 @@ static CELLS: [[[Cell; 6]; 6]; 3] = [
     [OUTSIDE, OUTSIDE, QUOTED, DOUBLING, ESCAPED, QUOTED_ESCAPED],
 ];
 
-const _: () = prove!(OUTSIDE.len() == 6 && QUOTED.len() == 6 && DOUBLING.len() == 6);
+const _: () = prove!(CELLS.len() == 3 && CELLS[0].len() == 6 && CELLS[0][0].len() == 6);
 
 /// What a byte of this class does at this place.
 fn cell_of(form: TextForm, place: Place, class: Class) -> Cell

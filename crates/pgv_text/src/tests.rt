@@ -74,41 +74,35 @@ fn record_text(rt: HostRuntime) -> Result<(), Fail> {
 fn range_text(rt: HostRuntime) -> Result<(), Fail> {
     let alloc = rt.alloc();
     let rows = [
-        ("[\"a\",\"b\"]", "[a] [b] "),
-        ("[,b]", "null [b] "),
-        ("[\"\",)", "[] null "),
-        ("(,)", "null null "),
-        ("[\"a\"\"b\",)", "[a\"b] null "),
-        ("empty", "refused"),
-        ("(a,b", "refused"),
-        ("[1]", "refused"),
-        ("[1,2,3]", "refused"),
-        ("[1,2]x", "refused"),
-        ("[\"a\"b\"c\",]", "[abc] null "),
-        ("[\"a\"b\"c\"\"\",é\\é)", "[abc\"] [éé] "),
+        ("[\"a\",\"b\"]", "[a] [b] ", true, true),
+        ("[,b]", "null [b] ", true, true),
+        ("[\"\",)", "[] null ", true, false),
+        ("(,)", "null null ", false, false),
+        ("(1,2]", "[1] [2] ", false, true),
+        ("[\"a\"\"b\",)", "[a\"b] null ", true, false),
+        ("empty", "refused", false, false),
+        ("(a,b", "refused", false, false),
+        ("[1]", "refused", false, false),
+        ("[1,2,3]", "refused", false, false),
+        ("[1,2]x", "refused", false, false),
+        ("[\"a\"b\"c\",]", "[abc] null ", true, true),
+        ("[\"a\"b\"c\"\"\",é\\é)", "[abc\"] [éé] ", true, false),
     ];
-    for (text, wanted) in rows {
+    for (text, wanted, lower_included, upper_included) in rows {
         let mut list = Vec::new(alloc);
         let found = match range_parts(alloc, text)? {
             None => None,
-            Some((lower, upper, _, _)) => {
+            Some((lower, upper, lower_found, upper_found)) => {
+                assert_eq!(rt;
+                    (lower_found, upper_found),
+                    (lower_included, upper_included)
+                );
                 list.push(lower)?;
                 list.push(upper)?;
                 Some(list)
             }
         };
         assert_eq!(rt; shown(alloc, found)?.as_str(), wanted);
-    }
-    for (text, wanted) in [
-        ("[,]", (true, true)),
-        ("[1,2)", (true, false)),
-        ("(1,2]", (false, true)),
-        ("(,)", (false, false)),
-    ] {
-        assert_eq!(rt;
-            Parts::new(TextForm::Range, text).map(|parts| parts.includes()),
-            Some(wanted)
-        );
     }
     Ok(())
 }
@@ -120,6 +114,7 @@ fn parts(rt: HostRuntime) -> Result<(), Fail> {
     assert!(rt; Parts::new(TextForm::Array, "{{1}}").is_none());
     if let Some(mut parts) = Parts::new(TextForm::Array, "{a\\,b,NULL,\"\\\"é\"}") {
         let kept = parts;
+        assert_eq!(rt; (parts.len(), parts.includes()), (3, (false, false)));
         assert_eq!(rt; parts.next_into(&mut text)?, Some(true));
         assert_eq!(rt; text.as_str(), "a,b");
         assert_eq!(rt; parts.next_into(&mut text)?, Some(false));
