@@ -14,21 +14,21 @@ use Rattle.pgv_text.specs.declared.scanner.Class.{Class}
 use Rattle.pgv_text.specs.declared.scanner.Class.TheVariants.{Quote, Backslash, Comma, Open, Close, Other}
 use Rattle.pgv_text.specs.declared.scanner.Place.{Place}
 use Rattle.pgv_text.specs.declared.scanner.Place.TheVariants.{Start, Outside, Quoted, AfterQuote, AfterBackslash, QuotedBackslash}
-use Rattle.pgv_text.specs.Pieces.{Item, inner, inner_escaped, doubled, Piece, plain, escaped, quoted, item_meaning, meaning, text_of}
+use Rattle.pgv_text.specs.Pieces.{Nest, Item, inner, inner_escaped, doubled, Piece, plain, escaped, quoted, item_meaning, meaning, text_of}
 use Rattle.pgv_text.specs.Forms.{form_of}
 use Rattle.pgv_text.specs.Scan.{Rest, class, cell, read, read_by, kept, grown, next, at_end, outside_cell, quoted_cell, after_quote_cell, after_text, value_here, ends, counted, stands, closes_here, nest_between, values_from, nest_read}
 use Rattle.pgv_text.specs.Parsed.{Found, with_piece, with_item, item_first, with_part, closed, parse_outside, parse_quoted, parse_after_quote, parse, nest_of}
 use Rattle.pgv_text.proofs.Classes.{says}
 use Rattle.pgv_text.proofs.Stops.{not_equal, high_class, other_cell, onward, grown_none, grown_twice}
 
-high_from : (c : ℕ) (a b d : Bool) → 128 ≤ c → ltb c 128 ≡ a → AllByRecursion (λ x. 128 ≤ x) (cond a (c ∷ []) (cond b ((192 + c / 64) ∷ (128 + c % 64) ∷ []) (cond d ((224 + c / 4096) ∷ (128 + c / 64 % 64) ∷ (128 + c % 64) ∷ []) ((240 + c / 262144) ∷ (128 + c / 4096 % 64) ∷ (128 + c / 64 % 64) ∷ (128 + c % 64) ∷ []))))
-high_from c true b d h e = (h, tt)
-high_from c false true d h e = (omega arith, (omega arith, tt))
-high_from c false false true h e = (omega arith, (omega arith, (omega arith, tt)))
-high_from c false false false h e = (omega arith, (omega arith, (omega arith, (omega arith, tt))))
+high_from : (c : ℕ) (a b d : Bool) → 128 ≤ c → ltb c 128 ≡ a → (x : ℕ) × (hs : List ℕ) × (cond a (c ∷ []) (cond b ((192 + c / 64) ∷ (128 + c % 64) ∷ []) (cond d ((224 + c / 4096) ∷ (128 + c / 64 % 64) ∷ (128 + c % 64) ∷ []) ((240 + c / 262144) ∷ (128 + c / 4096 % 64) ∷ (128 + c / 64 % 64) ∷ (128 + c % 64) ∷ []))) ≡ x ∷ hs) × (128 ≤ x) × AllByRecursion (λ y. 128 ≤ y) hs
+high_from c true b d h e = (c, [], refl, h, tt)
+high_from c false true d h e = (192 + c / 64, (128 + c % 64) ∷ [], refl, omega arith, (omega arith, tt))
+high_from c false false true h e = (224 + c / 4096, (128 + c / 64 % 64) ∷ (128 + c % 64) ∷ [], refl, omega arith, (omega arith, (omega arith, tt)))
+high_from c false false false h e = (240 + c / 262144, (128 + c / 4096 % 64) ∷ (128 + c / 64 % 64) ∷ (128 + c % 64) ∷ [], refl, omega arith, (omega arith, (omega arith, (omega arith, tt))))
 
--- the bytes of a character that isn't ASCII aren't
-high_bytes : (c : ℕ) → 128 ≤ c → AllByRecursion (λ x. 128 ≤ x) (encode_utf8 c)
+-- the bytes of a character that isn't ASCII: there is a first one, and none is ASCII
+high_bytes : (c : ℕ) → 128 ≤ c → (x : ℕ) × (hs : List ℕ) × (encode_utf8 c ≡ x ∷ hs) × (128 ≤ x) × AllByRecursion (λ y. 128 ≤ y) hs
 unfolding lib.Utf8.encode
 high_bytes c h = high_from c (ltb c 128) (ltb c 2048) (ltb c 65536) h refl
 
@@ -55,12 +55,10 @@ run_read t p (x ∷ hs) bs h o =
     ∙ ap (grown (x ∷ [])) (run_read t p hs bs h.1 o)
     ∙ sym (grown_twice (x ∷ []) hs (read (form_of t) p bs))
 
-character_read : (t : TextForm) (p : Place) (hs bs : List ℕ) → AllByRecursion (λ x. 128 ≤ x) hs → ¬ (length (hs ++ bs) ≡ length bs) → read (form_of t) p (hs ++ bs) ≡ grown hs (read (form_of t) (onward p) bs)
-character_read t p [] bs h n = absurd (n refl)
-character_read t p (x ∷ hs) bs h n =
-    high_read t p x (hs ++ bs) h.0
-    ∙ ap (grown (x ∷ [])) (run_read t (onward p) hs bs h.1 (onward_again p))
-    ∙ sym (grown_twice (x ∷ []) hs (read (form_of t) (onward p) bs))
+character_read : (t : TextForm) (p : Place) (c : ℕ) (bs : List ℕ) → 128 ≤ c → read (form_of t) p (encode_utf8 c ++ bs) ≡ grown (encode_utf8 c) (read (form_of t) (onward p) bs)
+character_read t p c bs k =
+    let e = high_bytes c k in
+    rw e.2 (high_read t p e.0 (e.1 ++ bs) e.3 ∙ ap (grown (e.0 ∷ [])) (run_read t (onward p) e.1 bs e.4 (onward_again p)) ∙ sym (grown_twice (e.0 ∷ []) e.1 (read (form_of t) (onward p) bs)))
 
 -- what is parsed, without its pieces
 abbrev pub summary : Found → Rest
@@ -161,25 +159,10 @@ module _ (t : TextForm) (c : ℕ) (cs : List ℕ) (all : (q : Place) → read (f
     low AfterBackslash = piece_low (escaped c) refl
     low QuotedBackslash = item_low (inner_escaped c) refl
 
-high_stands : (t : TextForm) (hs bs : List ℕ) → AllByRecursion (λ x. 128 ≤ x) hs → ¬ (length (hs ++ bs) ≡ length bs) → stands (form_of t) [] (hs ++ bs) ≡ false
-high_stands t [] bs h n = absurd (n refl)
-high_stands t (x ∷ hs) bs h n = ap ends (high_class t x h.0)
-
-high_differs : (t : TextForm) (d : ℕ) (pieces : List Piece) (hs bs : List ℕ) → d < 128 → AllByRecursion (λ x. 128 ≤ x) hs → ¬ (length (hs ++ bs) ≡ length bs) → stands (form_of t) (plain d ∷ pieces) (hs ++ bs) ≡ false
-high_differs t d pieces [] bs k h n = absurd (n refl)
-high_differs t d pieces (x ∷ hs) bs k h n = ap (λ b. b && stands (form_of t) pieces (hs ++ bs)) (not_equal x d k h.0)
-
 open_high : (t : TextForm) (x : ℕ) → 128 ≤ x → (form_of t).closes x ≡ false
 open_high Array x h = not_equal x 125 (omega arith) h
 open_high Range x h = rw (not_equal x 41 (omega arith) h, not_equal x 93 (omega arith) h) refl
 open_high Record x h = not_equal x 41 (omega arith) h
-
-high_closes : (t : TextForm) (hs bs : List ℕ) → AllByRecursion (λ x. 128 ≤ x) hs → ¬ (length (hs ++ bs) ≡ length bs) → closes_here (form_of t) (hs ++ bs) ≡ false
-high_closes t [] bs h n = absurd (n refl)
-high_closes t (x ∷ hs) bs h n = open_high t x h.0
-
-longer : (c : ℕ) (bs : List ℕ) → ¬ (length (encode_utf8 c ++ bs) ≡ length bs)
-longer c bs h = let n = length-encode c in let b = len_utf8_bounds c in let a = length-append (encode_utf8 c) bs in omega (arith, h, n, b, a)
 
 abbrev AreLow : List Piece → Type 0
 AreLow [] = Unit {0}
@@ -197,13 +180,15 @@ stands_same t [] h [] = refl
 stands_same t [] h (c ∷ cs) =
     elim (cases_lt c 128) [
       | inl k ↦ ap (λ b. stands (form_of t) [] (b ++ encode_utf8_all cs)) (encode_ascii c k)
-      | inr k ↦ high_stands t (encode_utf8 c) (encode_utf8_all cs) (high_bytes c k) (longer c (encode_utf8_all cs)) ∙ sym (ap ends (high_class t c k))
+      | inr k ↦ let e = high_bytes c k in ap (λ b. stands (form_of t) [] (b ++ encode_utf8_all cs)) e.2 ∙ ap ends (high_class t e.0 e.3 ∙ sym (high_class t c k))
     ]
 stands_same t (plain d ∷ pieces) h [] = refl
 stands_same t (plain d ∷ pieces) h (c ∷ cs) =
     elim (cases_lt c 128) [
       | inl k ↦ ap (λ b. stands (form_of t) (plain d ∷ pieces) (b ++ encode_utf8_all cs)) (encode_ascii c k) ∙ ap (λ b. (c == d) && b) (stands_same t pieces h.1 cs)
-      | inr k ↦ high_differs t d pieces (encode_utf8 c) (encode_utf8_all cs) h.0 (high_bytes c k) (longer c (encode_utf8_all cs)) ∙ sym (ap (λ b. b && stands (form_of t) pieces cs) (not_equal c d h.0 k))
+      | inr k ↦ let e = high_bytes c k in
+          ap (λ b. stands (form_of t) (plain d ∷ pieces) (b ++ encode_utf8_all cs)) e.2 ∙ ap (λ b. b && stands (form_of t) pieces (e.1 ++ encode_utf8_all cs)) (not_equal e.0 d h.0 e.3)
+          ∙ sym (ap (λ b. b && stands (form_of t) pieces cs) (not_equal c d h.0 k))
     ]
 stands_same t (escaped d ∷ pieces) h cs = absurd h
 stands_same t (quoted items ∷ pieces) h cs = absurd h
@@ -216,7 +201,7 @@ closes_same t [] = refl
 closes_same t (c ∷ cs) =
     elim (cases_lt c 128) [
       | inl k ↦ ap (λ b. closes_here (form_of t) (b ++ encode_utf8_all cs)) (encode_ascii c k)
-      | inr k ↦ high_closes t (encode_utf8 c) (encode_utf8_all cs) (high_bytes c k) (longer c (encode_utf8_all cs)) ∙ sym (open_high t c k)
+      | inr k ↦ let e = high_bytes c k in ap (λ b. closes_here (form_of t) (b ++ encode_utf8_all cs)) e.2 ∙ open_high t e.0 e.3 ∙ sym (open_high t c k)
     ]
 
 bytes_read : (t : TextForm) (cs : List ℕ) (p : Place) → read (form_of t) p (encode_utf8_all cs) ≡ option_map summary (parse (form_of t) p cs)
@@ -224,7 +209,7 @@ bytes_read t [] p = refl
 bytes_read t (c ∷ cs) p =
     elim (cases_lt c 128) [
       | inl k ↦ ap (λ b. read (form_of t) p (b ++ encode_utf8_all cs)) (encode_ascii c k) ∙ low t c cs (bytes_read t cs) (encode_ascii c k) (value_same t cs) p
-      | inr k ↦ character_read t p (encode_utf8 c) (encode_utf8_all cs) (high_bytes c k) (longer c (encode_utf8_all cs)) ∙ high t c cs (bytes_read t cs) (high_class t c k) p
+      | inr k ↦ character_read t p c (encode_utf8_all cs) k ∙ high t c cs (bytes_read t cs) (high_class t c k) p
     ]
 
 from_summary : (t : TextForm) (o : ℕ) (cs : List ℕ) (x : Option Rest) (f : Option Found) → x ≡ option_map summary f →
@@ -241,9 +226,8 @@ high_opens Array x h = not_equal x 123 (omega arith) h
 high_opens Range x h = rw (not_equal x 40 (omega arith) h, not_equal x 91 (omega arith) h) refl
 high_opens Record x h = not_equal x 40 (omega arith) h
 
-not_opening : (t : TextForm) (hs bs : List ℕ) → AllByRecursion (λ x. 128 ≤ x) hs → ¬ (length (hs ++ bs) ≡ length bs) → nest_read (form_of t) (hs ++ bs) ≡ None
-not_opening t [] bs h n = absurd (n refl)
-not_opening t (x ∷ hs) bs h n = ap (λ b. cond b (option_and_then (λ r. nest_between (form_of t) x (hs ++ bs) (values_from (form_of t) (hs ++ bs) r) r.closing) (read (form_of t) Start (hs ++ bs))) None) (high_opens t x h.0)
+not_opened : (o : Option Nest) (b : Bool) → b ≡ false → cond b o None ≡ None
+not_opened o b h = ap (λ b. cond b o None) h
 
 nest_encoded : (t : TextForm) (cs : List ℕ) → nest_read (form_of t) (encode_utf8_all cs) ≡ nest_of (form_of t) cs
 nest_encoded t [] = refl
@@ -251,8 +235,7 @@ nest_encoded t (o ∷ cs) =
     elim (cases_lt o 128) [
       | inl k ↦ ap (λ b. nest_read (form_of t) (b ++ encode_utf8_all cs)) (encode_ascii o k)
           ∙ ap (λ x. cond ((form_of t).opens o) x None) (from_summary t o cs (read (form_of t) Start (encode_utf8_all cs)) (parse (form_of t) Start cs) (bytes_read t cs Start))
-      | inr k ↦ not_opening t (encode_utf8 o) (encode_utf8_all cs) (high_bytes o k) (longer o (encode_utf8_all cs))
-          ∙ sym (ap (λ b. cond b (option_and_then (λ r. nest_between (form_of t) o cs (value_here (form_of t) cs (encode_utf8_all (text_of r.first)) ∷ r.values) r.closing) (parse (form_of t) Start cs)) None) (high_opens t o k))
+      | inr k ↦ let e = high_bytes o k in ap (λ b. nest_read (form_of t) (b ++ encode_utf8_all cs)) e.2 ∙ not_opened _ _ (high_opens t e.0 e.3) ∙ sym (not_opened _ _ (high_opens t o k))
     ]
 
 -- What the scanner makes of the bytes of a text is computed of its characters.
