@@ -340,3 +340,31 @@ fn fields_one_by_one(rt: HostRuntime) -> Result<(), CodecError> {
     assert!(rt; matches!(fields.try_decode::<i32>(), Err(CodecError::NoField(2))));
     Ok(())
 }
+
+#[test]
+fn parts_of_texts(rt: HostRuntime) -> Result<(), CodecError> {
+    let alloc = rt.alloc();
+    // A text outside the grammar is refused before any of its parts.
+    for (array, wanted) in [
+        ("{99999999999,{}", "Err(Syntax)"),
+        ("{99999999999}", "Err(OutOfRange)"),
+    ] {
+        assert_eq!(rt;
+            text::<Vec<i32>>(alloc, PgTypeInfo(PgType::Int4Array), array)?.as_str(),
+            wanted
+        );
+    }
+    let value = PgValueRef::new(
+        Some(b"(x,\"2\")"),
+        PgTypeInfo(PgType::Record),
+        PgValueFormat::Text,
+    );
+    let mut fields = PgRecordDecoder::new(alloc, value)?;
+    // A field that is refused is read again.
+    assert!(rt; matches!(fields.try_decode::<i32>(), Err(CodecError::Syntax)));
+    assert!(rt; matches!(fields.try_decode::<i32>(), Err(CodecError::Syntax)));
+    assert_eq!(rt; fields.try_decode::<String>()?.as_str(), "x");
+    assert_eq!(rt; fields.try_decode::<i32>()?, 2);
+    assert!(rt; matches!(fields.try_decode::<i32>(), Err(CodecError::NoField(2))));
+    Ok(())
+}

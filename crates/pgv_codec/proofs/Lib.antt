@@ -5,3 +5,4 @@ pub mod FrameLoop
 pub mod PartLoop
 pub mod PlainFits
 pub mod Refusing
+pub mod Tuples

@@ -1,15 +1,15 @@
 -- What is left of a record, without where it lies in memory.
-use Rattle.std.specs.Prelude.{◌+◌, ◌<◌, ◌≤◌, ◌^◌, map, drop, length}
-use Rattle.pgv_text.specs.Values.{part_bytes}
+use Rattle.std.specs.Prelude.{◌+◌, ◌<◌, ◌^◌, length, ⊤}
+use Rattle.pgv_text.specs.Left.{nest}
 use Rattle.pgv_codec.specs.declared.types.record.FieldsLeft.{FieldsLeft}
 use Rattle.pgv_codec.specs.declared.types.record.FieldsLeft.TheVariants.{Binary, Text}
 use Rattle.pgv_nest.specs.Records.{Left, binary_fields, text_fields}
 
 abbrev pub left_of : FieldsLeft → Left
 left_of (Binary fields) = binary_fields fields.type_info fields.place fields.rest.now
-left_of (Text fields) = text_fields (map part_bytes (drop fields.place fields.parts.items))
+left_of (Text fields) = text_fields (nest fields.parts).values
 
--- the next place is a number that the code has, and in text that of a part or behind the last
+-- in binary the next place is a number that the code has
 abbrev pub IsInPlace : FieldsLeft → Type 0
 IsInPlace (Binary fields) = fields.place + length fields.rest.now < 2 ^ 64
-IsInPlace (Text fields) = fields.place ≤ length fields.parts.items
+IsInPlace (Text fields) = ⊤

@@ -5,3 +5,4 @@ mod Numbers
 mod ArrayGrammars
 pub mod RecordGrammars
 pub mod FewElements
+pub mod TextGrammars

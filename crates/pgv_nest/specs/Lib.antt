@@ -5,3 +5,4 @@ pub mod Records
 pub mod Grammar
 pub mod Found
 pub mod Tuples
+pub mod TextGrammar

@@ -1,10 +1,13 @@
-//! Laws of what arrays and records in binary are: each is the contract of a function that does nothing.
+//! Laws of what arrays and records are, in binary and in text: each is the contract of a function that does nothing.
 
 ghost use Rattle.std.specs.Prelude.{Bool, Option};
 ghost use Rattle.pgv_types.specs.Ty.{Ty};
 ghost use Rattle.pgv_value.specs.Frame.{Part};
 ghost use Rattle.pgv_value.specs.Reading.{Reading};
+ghost use Rattle.pgv_nest.specs.TextGrammar.{RecordTextBegins, TextFieldIsItsValue};
 ghost use Rattle.pgv_nest.specs.Grammar.{ArrayIsItsElements, FewElements, OneArray, FieldTypeIsFound, FieldIsItsValue, OneField, RecordBegins};
+
+use pgv_text::laws::record_is_its_values;
 
 /// The elements that are read of bytes in binary are those that the bytes are an array of, whatever reads the elements
 /// (PostgreSQL: "Arrays"; array_send).
@@ -42,4 +45,17 @@ pub fn one_field<M>()
 /// The fields of a record in binary come after four bytes.
 pub fn record_begins()
     ensures { RecordBegins }
+{}
+
+/// The fields that a record's decoder has at first are those that the text is a record of (PostgreSQL: "Composite Type Input
+/// and Output Syntax").
+pub fn record_text_begins()
+    ensures { RecordTextBegins }
+{
+    record_is_its_values();
+}
+
+/// The field that is read next in text is the first of those that are left, and the others are left, whatever reads it.
+pub fn text_field_is_its_value<M>()
+    ensures { (accepts : Ty → Bool) (reading : Reading M) → TextFieldIsItsValue accepts reading }
 {}

@@ -6,7 +6,7 @@ use Rattle.std.specs.Str.{IsUtf8, chars, encode_utf8_all}
 use Rattle.std.proofs.Math.Utf8.{scalar, scalars}
 use Rattle.std.proofs.lemmas.Bool.{and_parts}
 use Rattle.std.proofs.lemmas.Str.{scalars-chars}
-use Rattle.pgv_text.specs.Pieces.{Item, inner, behind, doubled, Piece, plain, escaped, quoted, item_spelling, item_meaning, spelled, text_of, joined, Pairwise}
+use Rattle.pgv_text.specs.Pieces.{Item, inner, inner_escaped, doubled, Piece, plain, escaped, quoted, item_spelling, item_meaning, spelled, text_of, joined, Pairwise}
 use Rattle.pgv_text.specs.Spellings.{IsOptionalText}
 
 abbrev pub AreScalars : List ℕ → Type 0
@@ -35,7 +35,7 @@ all_right (x ∷ xs) ys h = all_right xs ys h.1
 -- what is spelled in characters means characters
 item_scalar : (item : Item) → AreScalars (item_spelling item) → IsScalar (item_meaning item)
 item_scalar (inner c) h = h.0
-item_scalar (behind c) h = h.1.0
+item_scalar (inner_escaped c) h = h.1.0
 item_scalar doubled h = h.0
 
 items_scalars : (items : List Item) → AreScalars (flat_map item_spelling items) → AreScalars (map item_meaning items)

@@ -1,280 +1,177 @@
--- What is read is spelled so.
-use Rattle.std.proofs.Common.{◌≡◌, ◌≢◌, ℕ, Bool, true, false, not, cond, ◌⊎◌, inl, inr, List, [], ◌∷◌, ◌++◌, Option, Some, map, ap, subst, ◌∙◌, sym, refl, append_assoc}
-use Rattle.std.specs.Prelude.{encode_utf8}
+-- What is parsed is spelled so.
+use Rattle.std.proofs.Common.{◌≡◌, ◌≢◌, ℕ, Bool, true, false, List, [], ◌∷◌, ◌++◌, Option, Some, None, IfSome, ap, subst, ◌∙◌, sym, refl, append_assoc}
+use Rattle.std.specs.Option.{option_map}
 use Rattle.std.specs.Str.{encode_utf8_all}
 use Rattle.std.specs.List.{flat_map, AllByRecursion}
-use Rattle.std.proofs.lemmas.List.{append-nil}
-use Rattle.std.proofs.lemmas.Str.{encodes-append}
 use Rattle.std.proofs.lemmas.Bool.{false≢true}
+use Rattle.pgv_text.specs.declared.scanner.TextForm.{TextForm}
 use Rattle.pgv_text.specs.declared.scanner.Class.{Class}
 use Rattle.pgv_text.specs.declared.scanner.Class.TheVariants.{Quote, Backslash, Comma, Open, Close, Other}
 use Rattle.pgv_text.specs.declared.scanner.Place.{Place}
-use Rattle.pgv_text.specs.declared.scanner.Place.TheVariants.{Before, Start, Outside, Quoted, BehindQuote, BehindBackslash, QuotedBackslash, Ended}
-use Rattle.pgv_text.specs.Pieces.{Form, Item, inner, behind, doubled, Piece, plain, escaped, quoted, item_spelling, item_meaning, IsItem, NotQuotedFirst, ArePieces, spelled, text_of, has_pieces, value_of}
-use Rattle.pgv_text.specs.Scan.{class, run, outside, behind_quote, quoted as quoted_step, before, pushed, has_nothing, is_start, at_first, closed}
-use Rattle.pgv_text.proofs.Text.{IsText}
-use Rattle.pgv_text.proofs.Classes.{plain-class, quote-class, backslash-class, comma-class, not_quote, not_backslash}
-use Rattle.pgv_text.proofs.Spelled.{at, goes, place_after, bare_after, has_from_place, plain_from_bare}
+use Rattle.pgv_text.specs.declared.scanner.Place.TheVariants.{Start, Outside, Quoted, AfterQuote, AfterBackslash, QuotedBackslash}
+use Rattle.pgv_text.specs.Pieces.{Form, Item, inner, inner_escaped, doubled, Piece, plain, escaped, quoted, item_spelling, IsItem, IsPiece, NotQuotedFirst, QuotedApart, ArePieces, Pairwise, IsPart, spelling, spelled, text_of}
+use Rattle.pgv_text.specs.Forms.{form_of}
+use Rattle.pgv_text.specs.Scan.{class, ends, value_here}
+use Rattle.pgv_text.specs.Parsed.{Found, with_piece, with_item, with_part, closed, parse_outside, parse_quoted, parse_after_quote, parse}
+use Rattle.pgv_text.proofs.Classes.{says}
+use Rattle.pgv_text.proofs.Nothing.{value_is}
 
--- the rest of a part, the parts behind it, and the bracket
-pub record Parsed (form : Form) (read : List (Option (List ℕ))) (place : Place) (bare : Bool) (text : List ℕ) (done : List (Option (List ℕ))) (cs : List ℕ) : Type 0 where
-  pub first : List Piece
-  pub more : List (List Piece)
-  pub closing : ℕ
-  pub closes : class form closing ≡ Close
-  pub first_are : ArePieces form first
-  pub more_are : AllByRecursion (ArePieces form) more
-  pub apart : place ≡ BehindQuote → form.doubles ≡ true → NotQuotedFirst first
-  pub whole : cs ≡ spelled first ++ (flat_map (λ p. 44 ∷ spelled p) more ++ closing ∷ [])
-  pub values_are : read ≡ (done ++ form.value (not (is_start (place_after place first))) (bare_after bare first) (text ++ encode_utf8_all (text_of first)) ∷ map (value_of form) more)
+abbrev pub after_part : List (List Piece) → ℕ → List ℕ
+after_part more closing = flat_map (λ p. 44 ∷ spelled p) more ++ closing ∷ []
 
--- the rest of what stands between quotes, and what is behind it
-pub record Inside (form : Form) (read : List (Option (List ℕ))) (bare : Bool) (text : List ℕ) (done : List (Option (List ℕ))) (cs : List ℕ) : Type 0 where
-  pub items : List Item
-  pub rest : List ℕ
-  pub are : AllByRecursion (IsItem form) items
-  pub whole : cs ≡ flat_map item_spelling items ++ 34 ∷ rest
-  pub parsed : Parsed form read BehindQuote bare (text ++ encode_utf8_all (map item_meaning items)) done rest
+-- after these characters, the rest of a part, the parts after it, and the bracket; an open quoted piece comes first
+pub record Valid (form : Form) (before : List ℕ) (within : Bool) (cs : List ℕ) (r : Found) : Type 0 where
+  pub first : ArePieces form r.first
+  pub more : AllByRecursion (ArePieces form) r.more
+  pub values : Pairwise (IsPart form) r.more r.values
+  pub closes : class form r.closing ≡ Close
+  pub whole : before ++ cs ≡ spelled r.first ++ after_part r.more r.closing
+  pub quoted_first : within ≡ true → (items : List Item) × (pieces : List Piece) × (r.first ≡ quoted items ∷ pieces)
 
--- behind a quote: the next piece, or the second of two quotes
-abbrev pub Continued : Form → List (Option (List ℕ)) → Bool → List ℕ → List (Option (List ℕ)) → List ℕ → Type 0
-Continued form read bare text done cs =
-    Parsed form read BehindQuote bare text done cs
-    ⊎ ((tail : List ℕ) × (cs ≡ 34 ∷ tail) × (form.doubles ≡ true) × Inside form read bare (text ++ encode_utf8 34) done tail)
+-- what of a piece has been passed over
+abbrev pub before : Place → List ℕ
+before Start = []
+before Outside = []
+before Quoted = 34 ∷ []
+before AfterQuote = 34 ∷ 34 ∷ []
+before AfterBackslash = 92 ∷ []
+before QuotedBackslash = 34 ∷ 92 ∷ []
 
-abbrev pub Reads : Form → List (Option (List ℕ)) → Place → Bool → List ℕ → List (Option (List ℕ)) → List ℕ → Type 0
-Reads form read Before bare text done cs = Unit {0}
-Reads form read Start bare text done cs = Parsed form read Start bare text done cs
-Reads form read Outside bare text done cs = Parsed form read Outside bare text done cs
-Reads form read Quoted bare text done cs = Inside form read bare text done cs
-Reads form read BehindQuote bare text done cs = Continued form read bare text done cs
-Reads form read BehindBackslash bare text done cs = (c : ℕ) × (tail : List ℕ) × (cs ≡ c ∷ tail) × Parsed form read Outside bare (text ++ encode_utf8 c) done tail
-Reads form read QuotedBackslash bare text done cs = (c : ℕ) × (tail : List ℕ) × (cs ≡ c ∷ tail) × Inside form read bare (text ++ encode_utf8 c) done tail
-Reads form read Ended bare text done cs = Unit {0}
+abbrev pub in_quotes : Place → Bool
+in_quotes Start = false
+in_quotes Outside = false
+in_quotes Quoted = true
+in_quotes AfterQuote = true
+in_quotes AfterBackslash = false
+in_quotes QuotedBackslash = true
 
-abbrev pub AllRead : Form → List (Option (List ℕ)) → List ℕ → Type 0
-AllRead form read cs = (first : Bool) (place : Place) (bare : Bool) (text : List ℕ) (done : List (Option (List ℕ))) → has_nothing form (at first place bare text done) ≡ false → run form (at first place bare text done) cs ≡ Some read → Reads form read place bare text done cs
+abbrev pub Reads : Form → Place → List ℕ → Type 0
+Reads form place cs = IfSome (parse form place cs) (Valid form (before place) (in_quotes place) cs)
 
-idle : (m : Bool) → cond m false false ≡ false
-idle true = refl
-idle false = refl
+if_mapped : {X Y : Type 0} (P : X → Type 0) (Q : Y → Type 0) (f : X → Y) (o : Option X) → ((x : X) → P x → Q (f x)) → IfSome o P → IfSome (option_map f o) Q
+if_mapped P Q f None g h = tt
+if_mapped P Q f (Some x) g h = g x h
 
-ended_sound : (form : Form) (read : List (Option (List ℕ))) (first bare : Bool) (text : List ℕ) (done : List (Option (List ℕ))) (cs : List ℕ) → run form (at first Ended bare text done) cs ≡ Some read → (cs ≡ []) × (read ≡ done)
-ended_sound form read first bare text done [] h = (refl, cc)
-ended_sound form read first bare text done (c ∷ cs) h = cc
+if_weaker : {X : Type 0} (P Q : X → Type 0) (o : Option X) → ((x : X) → P x → Q x) → IfSome o P → IfSome o Q
+if_weaker P Q None g h = tt
+if_weaker P Q (Some x) g h = g x h
 
-outside_sound : (form : Form) (read : List (Option (List ℕ))) (c : ℕ) (cs : List ℕ) → AllRead form read cs → (first : Bool) (place : Place) (bare : Bool) (text : List ℕ) (done : List (Option (List ℕ))) → (k : Class) → (k ≡ Close → has_nothing form (at first place bare text done) ≡ false) → class form c ≡ k → (k ≡ Quote → place ≡ BehindQuote → form.doubles ≡ true → ⊥) → goes form cs (outside form (at first place bare text done) c k) ≡ Some read → Parsed form read place bare text done (c ∷ cs)
-outside_sound form read c cs all first place bare text done Quote busy k n h =
-    let i = all first Quoted false text done (idle form.may_be_empty) h in
-    let p = i.parsed in
-    let tail : List ℕ = flat_map (λ p. 44 ∷ spelled p) p.more ++ p.closing ∷ [] in
-    let regrouped : 34 ∷ (flat_map item_spelling i.items ++ 34 ∷ (spelled p.first ++ tail)) ≡ spelled (quoted i.items ∷ p.first) ++ tail = simp append_assoc in
-    record {
-      first = quoted i.items ∷ p.first;
-      more = p.more;
-      closing = p.closing;
-      closes = p.closes;
-      first_are = record { each = (i.are, p.first_are.each); apart = λ d. (p.apart refl d, p.first_are.apart d) };
-      more_are = p.more_are;
-      apart = λ e d. n refl e d;
-      whole = ap (λ x. x ∷ cs) (quote-class form c k) ∙ ap (λ t. 34 ∷ t) (i.whole ∙ ap (λ t. flat_map item_spelling i.items ++ 34 ∷ t) p.whole) ∙ regrouped;
-      values_are = p.values_are ∙ ap (λ t. (done ++ form.value (not (is_start (place_after BehindQuote p.first))) (bare_after false p.first) t ∷ map (value_of form) p.more))
-          (append_assoc text (encode_utf8_all (map item_meaning i.items)) (encode_utf8_all (text_of p.first)) ∙ ap (λ t. text ++ t) (sym (encodes-append (map item_meaning i.items) (text_of p.first))));
-    }
-outside_sound form read c cs all first place bare text done Backslash busy k n h =
-    let e = all first BehindBackslash false text done (idle form.may_be_empty) h in
-    let d = e.0 in
-    let p = e.3 in
-    record {
-      first = escaped d ∷ p.first;
-      more = p.more;
-      closing = p.closing;
-      closes = p.closes;
-      first_are = record { each = (tt, p.first_are.each); apart = p.first_are.apart };
-      more_are = p.more_are;
-      apart = λ e d. tt;
-      whole = ap (λ x. x ∷ cs) (backslash-class form c k) ∙ ap (λ t. 92 ∷ t) (e.2 ∙ ap (λ t. d ∷ t) p.whole);
-      values_are = p.values_are ∙ ap (λ t. (done ++ form.value (not (is_start (place_after Outside p.first))) (bare_after false p.first) t ∷ map (value_of form) p.more))
-          (append_assoc text (encode_utf8 d) (encode_utf8_all (text_of p.first)));
-    }
-outside_sound form read c cs all first place bare text done Comma busy k n h =
-    let value : Option (List ℕ) = form.value (not (is_start place)) bare text in
-    let free : has_nothing form (at false Start true [] (done ++ value ∷ [])) ≡ false = idle form.may_be_empty in
-    let p = all false Start true [] (done ++ value ∷ []) free h in
-    record {
-      first = [];
-      more = p.first ∷ p.more;
-      closing = p.closing;
-      closes = p.closes;
-      first_are = record { each = tt; apart = λ d. tt };
-      more_are = (p.first_are, p.more_are);
-      apart = λ e d. tt;
-      whole = ap (λ x. x ∷ cs) (comma-class form c k) ∙ ap (λ t. 44 ∷ t) (p.whole ∙ sym (append_assoc (spelled p.first) (flat_map (λ p. 44 ∷ spelled p) p.more) (p.closing ∷ [])));
-      values_are = p.values_are
-          ∙ (append_assoc done (value ∷ []) _)
-          ∙ ap (λ b. (done ++ value ∷ form.value b (bare_after true p.first) (encode_utf8_all (text_of p.first)) ∷ map (value_of form) p.more)) (has_from_place p.first)
-          ∙ ap (λ b. (done ++ value ∷ form.value (has_pieces p.first) b (encode_utf8_all (text_of p.first)) ∷ map (value_of form) p.more)) (plain_from_bare p.first)
-          ∙ ap (λ t. (done ++ form.value (not (is_start place)) bare t ∷ map (value_of form) (p.first ∷ p.more))) (sym (append-nil text));
-    }
-outside_sound form read c cs all first place bare text done Open busy k n h = cc
-outside_sound form read c cs all first place bare text done Close busy k n h =
-    let s = at first place bare text done in
-    let value : Option (List ℕ) = form.value (not (is_start place)) bare text in
-    let e = ended_sound form read false true [] (done ++ value ∷ []) cs (ap (λ b. goes form cs (Some (closed form s b))) (sym (busy refl)) ∙ h) in
-    record {
-      first = [];
-      more = [];
-      closing = c;
-      closes = k;
-      first_are = record { each = tt; apart = λ d. tt };
-      more_are = tt;
-      apart = λ e d. tt;
-      whole = ap (λ t. c ∷ t) e.0;
-      values_are = e.1 ∙ ap (λ t. (done ++ form.value (not (is_start place)) bare t ∷ [])) (sym (append-nil text));
-    }
-outside_sound form read c cs all first place bare text done Other busy k n h =
-    let p = all first Outside bare (text ++ encode_utf8 c) done (idle form.may_be_empty) h in
-    record {
-      first = plain c ∷ p.first;
-      more = p.more;
-      closing = p.closing;
-      closes = p.closes;
-      first_are = record { each = (plain-class form c k, p.first_are.each); apart = p.first_are.apart };
-      more_are = p.more_are;
-      apart = λ e d. tt;
-      whole = ap (λ t. c ∷ t) p.whole;
-      values_are = p.values_are ∙ ap (λ t. (done ++ form.value (not (is_start (place_after Outside p.first))) (bare_after bare p.first) t ∷ map (value_of form) p.more))
-          (append_assoc text (encode_utf8 c) (encode_utf8_all (text_of p.first)));
-    }
+-- the comma or bracket after a part
+pub part_end : (form : Form) (more : List (List Piece)) (closing : ℕ) → class form closing ≡ Close → (e : ℕ) × (tail : List ℕ) × (after_part more closing ≡ e ∷ tail) × (ends (class form e) ≡ true)
+part_end form [] closing k = (closing, [], refl, ap ends k)
+part_end form (part ∷ more) closing k = (44, (spelled part ++ flat_map (λ p. 44 ∷ spelled p) more) ++ closing ∷ [], refl, refl)
 
-inside_more : (form : Form) (read : List (Option (List ℕ))) (bare : Bool) (text : List ℕ) (done : List (Option (List ℕ))) (item : Item) → IsItem form item → (cs tail : List ℕ) → cs ≡ item_spelling item ++ tail → Inside form read bare (text ++ encode_utf8 (item_meaning item)) done tail → Inside form read bare text done cs
-inside_more form read bare text done item is cs tail e i = record {
-  items = item ∷ i.items;
-  rest = i.rest;
-  are = (is, i.are);
-  whole = e ∙ ap (λ t. item_spelling item ++ t) i.whole ∙ sym (append_assoc (item_spelling item) (flat_map item_spelling i.items) (34 ∷ i.rest));
-  parsed = subst (λ t. Parsed form read BehindQuote bare t done i.rest) (append_assoc text (encode_utf8 (item_meaning item)) (encode_utf8_all (map item_meaning i.items))) i.parsed;
-}
+not_quoted : (pieces : List Piece) (c : ℕ) (cs tail : List ℕ) → c ∷ cs ≡ spelled pieces ++ tail → c ≢ 34 → NotQuotedFirst pieces
+not_quoted [] c cs tail e n = tt
+not_quoted (plain d ∷ pieces) c cs tail e n = tt
+not_quoted (escaped d ∷ pieces) c cs tail e n = tt
+not_quoted (quoted items ∷ pieces) c cs tail e n = let same : c ≡ 34 = cc in absurd (n same)
 
-quoted_sound : (form : Form) (read : List (Option (List ℕ))) (c : ℕ) (cs : List ℕ) → AllRead form read cs → (first : Bool) (bare : Bool) (text : List ℕ) (done : List (Option (List ℕ))) → (k : Class) → class form c ≡ k → goes form cs (quoted_step (at first Quoted bare text done) c k) ≡ Some read → Inside form read bare text done (c ∷ cs)
-quoted_sound form read c cs all first bare text done Quote k h =
-    elim (all first BehindQuote bare text done (idle form.may_be_empty) h) [
-      | inl p ↦ record {
-        items = [];
-        rest = cs;
-        are = tt;
-        whole = ap (λ x. x ∷ cs) (quote-class form c k);
-        parsed = subst (λ t. Parsed form read BehindQuote bare t done cs) (sym (append-nil text)) p;
+module _ (t : TextForm) where
+  again : (b d : List ℕ) (p q : Bool) (cs ds : List ℕ) (r : Found) → (q ≡ true → p ≡ true) → d ++ ds ≡ b ++ cs → Valid (form_of t) b p cs r → Valid (form_of t) d q ds r
+  again b d p q cs ds r o e v = record { first = v.first; more = v.more; values = v.values; closes = v.closes; whole = e ∙ v.whole; quoted_first = λ h. v.quoted_first (o h) }
+
+  piece_valid : (piece : Piece) (b : List ℕ) (q : Bool) (ds cs : List ℕ) (r : Found) → IsPiece (form_of t) piece → ((form_of t).doubles ≡ true → QuotedApart r.first → QuotedApart (piece ∷ r.first)) → b ++ ds ≡ spelling piece ++ cs →
+      (q ≡ true → (items : List Item) × (pieces : List Piece) × (piece ∷ r.first ≡ quoted items ∷ pieces)) → Valid (form_of t) [] false cs r → Valid (form_of t) b q ds (with_piece piece r)
+  piece_valid piece b q ds cs r is apart e o v = record {
+    first = record { each = (is, v.first.each); apart = λ d. apart d (v.first.apart d) };
+    more = v.more;
+    values = v.values;
+    closes = v.closes;
+    whole = e ∙ ap (λ x. spelling piece ++ x) v.whole ∙ sym (append_assoc (spelling piece) (spelled r.first) (after_part r.more r.closing));
+    quoted_first = o;
+  }
+
+  item_valid_at : (item : Item) (b ds cs : List ℕ) (items : List Item) (pieces : List Piece) (r : Found) → IsItem (form_of t) item → b ++ ds ≡ 34 ∷ (item_spelling item ++ cs) →
+      Valid (form_of t) (34 ∷ []) true cs (record r { first = quoted items ∷ pieces }) → Valid (form_of t) b true ds (with_item item (record r { first = quoted items ∷ pieces }))
+  item_valid_at item b ds cs items pieces r is e v =
+      let tail = after_part r.more r.closing in
+      let rest : cs ≡ (flat_map item_spelling items ++ 34 ∷ []) ++ spelled pieces ++ tail = cc in
+      let regrouped : 34 ∷ (item_spelling item ++ ((flat_map item_spelling items ++ 34 ∷ []) ++ spelled pieces ++ tail)) ≡ spelled (quoted (item ∷ items) ∷ pieces) ++ tail = simp append_assoc in
+      record {
+        first = record { each = ((is, v.first.each.0), v.first.each.1); apart = v.first.apart };
+        more = v.more;
+        values = v.values;
+        closes = v.closes;
+        whole = e ∙ ap (λ x. 34 ∷ (item_spelling item ++ x)) rest ∙ regrouped;
+        quoted_first = λ h. (item ∷ items, pieces, refl);
       }
-      | inr w ↦ inside_more form read bare text done doubled w.2 (c ∷ cs) w.0 (ap (λ x. x ∷ cs) (quote-class form c k) ∙ ap (λ t. 34 ∷ t) w.1) w.3
-    ]
-quoted_sound form read c cs all first bare text done Backslash k h =
-    let e = all first QuotedBackslash bare text done (idle form.may_be_empty) h in
-    inside_more form read bare text done (behind e.0) tt (c ∷ cs) e.1 (ap (λ x. x ∷ cs) (backslash-class form c k) ∙ ap (λ t. 92 ∷ t) e.2) e.3
-quoted_sound form read c cs all first bare text done Comma k h =
-    inside_more form read bare text done (inner c) (not_quote form c (λ e. cc), not_backslash form c (λ e. cc)) (c ∷ cs) cs refl (all first Quoted bare (text ++ encode_utf8 c) done (idle form.may_be_empty) h)
-quoted_sound form read c cs all first bare text done Open k h =
-    inside_more form read bare text done (inner c) (not_quote form c (λ e. cc), not_backslash form c (λ e. cc)) (c ∷ cs) cs refl (all first Quoted bare (text ++ encode_utf8 c) done (idle form.may_be_empty) h)
-quoted_sound form read c cs all first bare text done Close k h =
-    inside_more form read bare text done (inner c) (not_quote form c (λ e. cc), not_backslash form c (λ e. cc)) (c ∷ cs) cs refl (all first Quoted bare (text ++ encode_utf8 c) done (idle form.may_be_empty) h)
-quoted_sound form read c cs all first bare text done Other k h =
-    inside_more form read bare text done (inner c) (not_quote form c (λ e. cc), not_backslash form c (λ e. cc)) (c ∷ cs) cs refl (all first Quoted bare (text ++ encode_utf8 c) done (idle form.may_be_empty) h)
 
-doubled_or_not : (form : Form) (read : List (Option (List ℕ))) (c : ℕ) (cs : List ℕ) → AllRead form read cs → (first : Bool) (bare : Bool) (text : List ℕ) (done : List (Option (List ℕ))) → class form c ≡ Quote → (b : Bool) → form.doubles ≡ b → goes form cs (cond b (Some (pushed (at first BehindQuote bare text done) Quoted c)) (outside form (at first BehindQuote bare text done) c Quote)) ≡ Some read → Continued form read bare text done (c ∷ cs)
-doubled_or_not form read c cs all first bare text done k true d h =
-    let quote = quote-class form c k in
-    inr (cs, ap (λ x. x ∷ cs) quote, d, subst (λ x. Inside form read bare (text ++ encode_utf8 x) done cs) quote (all first Quoted bare (text ++ encode_utf8 c) done (idle form.may_be_empty) h))
-doubled_or_not form read c cs all first bare text done k false d h =
-    inl (outside_sound form read c cs all first BehindQuote bare text done Quote (λ e. idle form.may_be_empty) k (λ e f g. cc) h)
+  item_valid : (item : Item) (b ds cs : List ℕ) (r : Found) → IsItem (form_of t) item → b ++ ds ≡ 34 ∷ (item_spelling item ++ cs) → Valid (form_of t) (34 ∷ []) true cs r → Valid (form_of t) b true ds (with_item item r)
+  item_valid item b ds cs r is e v =
+      let q = v.quoted_first refl in
+      subst (λ (f : List Piece). Valid (form_of t) (34 ∷ []) true cs (record r { first = f }) → Valid (form_of t) b true ds (with_item item (record r { first = f }))) (sym q.2) (item_valid_at item b ds cs q.0 q.1 r is e) v
 
-behind_sound : (form : Form) (read : List (Option (List ℕ))) (c : ℕ) (cs : List ℕ) → AllRead form read cs → (first : Bool) (bare : Bool) (text : List ℕ) (done : List (Option (List ℕ))) → (k : Class) → class form c ≡ k → goes form cs (behind_quote form (at first BehindQuote bare text done) c k) ≡ Some read → Continued form read bare text done (c ∷ cs)
-behind_sound form read c cs all first bare text done Quote k h = doubled_or_not form read c cs all first bare text done k form.doubles refl h
-behind_sound form read c cs all first bare text done Backslash k h = inl (outside_sound form read c cs all first BehindQuote bare text done Backslash (λ e. idle form.may_be_empty) k (λ e f g. cc) h)
-behind_sound form read c cs all first bare text done Comma k h = inl (outside_sound form read c cs all first BehindQuote bare text done Comma (λ e. idle form.may_be_empty) k (λ e f g. cc) h)
-behind_sound form read c cs all first bare text done Open k h = cc
-behind_sound form read c cs all first bare text done Close k h = inl (outside_sound form read c cs all first BehindQuote bare text done Close (λ e. idle form.may_be_empty) k (λ e f g. cc) h)
-behind_sound form read c cs all first bare text done Other k h = inl (outside_sound form read c cs all first BehindQuote bare text done Other (λ e. idle form.may_be_empty) k (λ e f g. cc) h)
+  part_valid : (c : ℕ) (cs : List ℕ) (r : Found) → c ≡ 44 → Valid (form_of t) [] false cs r → Valid (form_of t) [] false (c ∷ cs) (with_part (form_of t) cs r)
+  part_valid c cs r k v =
+      let end = part_end (form_of t) r.more r.closing v.closes in
+      let whole : cs ≡ spelled r.first ++ end.0 ∷ end.1 = v.whole ∙ ap (λ x. spelled r.first ++ x) end.2 in
+      record {
+        first = record { each = tt; apart = λ d. tt };
+        more = (v.first, v.more);
+        values = (subst (λ x. IsPart (form_of t) r.first (value_here (form_of t) x (encode_utf8_all (text_of r.first)))) (sym whole) (value_is t r.first end.0 end.1 end.3 v.first.each), v.values);
+        closes = v.closes;
+        whole = ap (λ x. x ∷ cs) k ∙ ap (λ x. 44 ∷ x) (v.whole ∙ sym (append_assoc (spelled r.first) (flat_map (λ p. 44 ∷ spelled p) r.more) (r.closing ∷ [])));
+        quoted_first = λ h. absurd (false≢true h);
+      }
 
-pub sound : (form : Form) (read : List (Option (List ℕ))) (cs : List ℕ) → AllRead form read cs
-sound form read [] first Before bare text done busy h = tt
-sound form read [] first Start bare text done busy h = cc
-sound form read [] first Outside bare text done busy h = cc
-sound form read [] first Quoted bare text done busy h = cc
-sound form read [] first BehindQuote bare text done busy h = cc
-sound form read [] first BehindBackslash bare text done busy h = cc
-sound form read [] first QuotedBackslash bare text done busy h = cc
-sound form read [] first Ended bare text done busy h = tt
-sound form read (c ∷ cs) first Before bare text done busy h = tt
-sound form read (c ∷ cs) first Start bare text done busy h = outside_sound form read c cs (sound form read cs) first Start bare text done (class form c) (λ e. busy) refl (λ e f g. cc) h
-sound form read (c ∷ cs) first Outside bare text done busy h = outside_sound form read c cs (sound form read cs) first Outside bare text done (class form c) (λ e. busy) refl (λ e f g. cc) h
-sound form read (c ∷ cs) first Quoted bare text done busy h = quoted_sound form read c cs (sound form read cs) first bare text done (class form c) refl h
-sound form read (c ∷ cs) first BehindQuote bare text done busy h = behind_sound form read c cs (sound form read cs) first bare text done (class form c) refl h
-sound form read (c ∷ cs) first BehindBackslash bare text done busy h = (c, cs, refl, sound form read cs first Outside bare (text ++ encode_utf8 c) done (idle form.may_be_empty) h)
-sound form read (c ∷ cs) first QuotedBackslash bare text done busy h = (c, cs, refl, sound form read cs first Quoted bare (text ++ encode_utf8 c) done (idle form.may_be_empty) h)
-sound form read (c ∷ cs) first Ended bare text done busy h = tt
+  closed_valid : (c : ℕ) (cs : List ℕ) → class (form_of t) c ≡ Close → IfSome (closed c cs) (Valid (form_of t) [] false (c ∷ cs))
+  closed_valid c [] k = record { first = record { each = tt; apart = λ d. tt }; more = tt; values = tt; closes = k; whole = refl; quoted_first = λ h. absurd (false≢true h) }
+  closed_valid c (d ∷ cs) k = tt
 
--- what is read first, behind the opening bracket: not nothing at all, where that is no part
-from_parsed : (form : Form) (read : List (Option (List ℕ))) (opening : ℕ) (cs : List ℕ) → class form opening ≡ Open → (form.may_be_empty ≡ true → (p : Parsed form read Start true [] [] cs) → p.first ∷ p.more ≢ [] ∷ []) → Parsed form read Start true [] [] cs → IsText form (opening ∷ cs) read
-from_parsed form read opening cs w some p = record {
-  opening = opening;
-  closing = p.closing;
-  parts = p.first ∷ p.more;
-  opens = w;
-  closes = p.closes;
-  each = (p.first_are, p.more_are);
-  some = λ m. some m p;
-  any = λ m e. cc;
-  whole = ap (λ t. opening ∷ t) (p.whole ∙ sym (append_assoc (spelled p.first) (flat_map (λ p. 44 ∷ spelled p) p.more) (p.closing ∷ [])));
-  found_are = p.values_are
-      ∙ ap (λ b. (form.value b (bare_after true p.first) (encode_utf8_all (text_of p.first)) ∷ map (value_of form) p.more)) (has_from_place p.first)
-      ∙ ap (λ b. (form.value (has_pieces p.first) b (encode_utf8_all (text_of p.first)) ∷ map (value_of form) p.more)) (plain_from_bare p.first);
-}
+  module _ (c : ℕ) (cs : List ℕ) (all : (q : Place) → Reads (form_of t) q cs) where
+    go : Place → Option Found
+    go q = parse (form_of t) q cs
 
-no_close : (form : Form) (read : List (Option (List ℕ))) (c : ℕ) (cs : List ℕ) → class form c ≢ Close → (p : Parsed form read Start true [] [] (c ∷ cs)) → p.first ∷ p.more ≢ [] ∷ []
-no_close form read c cs n p e =
-    let first : p.first ≡ [] = cc in
-    let more : p.more ≡ [] = cc in
-    let whole : c ∷ cs ≡ p.closing ∷ [] = p.whole ∙ ap (λ x. spelled x ++ (flat_map (λ p. 44 ∷ spelled p) p.more ++ p.closing ∷ [])) first ∙ ap (λ x. flat_map (λ p. 44 ∷ spelled p) x ++ p.closing ∷ []) more in
-    let same : c ≡ p.closing = cc in
-    n (ap (class form) same ∙ p.closes)
+    outside_valid : (k : Class) → class (form_of t) c ≡ k → IfSome (parse_outside (form_of t) c cs (λ q. parse (form_of t) q cs) k) (Valid (form_of t) [] false (c ∷ cs))
+    outside_valid Quote k = if_weaker _ _ (parse (form_of t) Quoted cs) (λ r. again (34 ∷ []) [] true false cs (c ∷ cs) r (λ h. refl) (ap (λ x. x ∷ cs) (says (form_of t) c Quote k))) (all Quoted)
+    outside_valid Backslash k = if_weaker _ _ (parse (form_of t) AfterBackslash cs) (λ r. again (92 ∷ []) [] false false cs (c ∷ cs) r (λ h. h) (ap (λ x. x ∷ cs) (says (form_of t) c Backslash k))) (all AfterBackslash)
+    outside_valid Comma k = if_mapped _ _ (with_part (form_of t) cs) (parse (form_of t) Start cs) (λ r. part_valid c cs r (says (form_of t) c Comma k)) (all Start)
+    outside_valid Open k = tt
+    outside_valid Close k = closed_valid c cs k
+    outside_valid Other k = if_mapped _ _ (with_piece (plain c)) (parse (form_of t) Outside cs)
+        (λ r. piece_valid (plain c) [] false (c ∷ cs) cs r (says (form_of t) c Other k) (λ d a. a) refl (λ h. absurd (false≢true h))) (all Outside)
 
-closed_at_once : (form : Form) (read : List (Option (List ℕ))) (opening c : ℕ) (cs : List ℕ) → class form opening ≡ Open → class form c ≡ Close → (m : Bool) → form.may_be_empty ≡ m → goes form cs (Some (closed form (at true Start true [] []) (cond m true false))) ≡ Some read → IsText form (opening ∷ c ∷ cs) read
-closed_at_once form read opening c cs w k true m h =
-    let e = ended_sound form read true true [] [] cs h in
-    record {
-      opening = opening;
-      closing = c;
-      parts = [];
-      opens = w;
-      closes = k;
-      each = tt;
-      some = λ m e. cc;
-      any = λ n e. false≢true (sym n ∙ m);
-      whole = ap (λ t. opening ∷ c ∷ t) e.0;
-      found_are = e.1;
-    }
-closed_at_once form read opening c cs w k false m h =
-    from_parsed form read opening (c ∷ cs) w (λ n p e. false≢true (sym m ∙ n))
-    (outside_sound form read c cs (sound form read cs) true Start true [] [] Close (λ e. ap (λ b. cond b true false) m) k (λ e. cc) (ap (λ b. goes form cs (Some (closed form (at true Start true [] []) (cond b true false)))) m ∙ h))
+    not_class : (k d : Class) (e : ℕ) → class (form_of t) c ≡ k → class (form_of t) e ≡ d → k ≢ d → c ≢ e
+    not_class k d e h g n same = n (sym h ∙ ap (class (form_of t)) same ∙ g)
 
-start_sound : (form : Form) (read : List (Option (List ℕ))) (opening c : ℕ) (cs : List ℕ) → class form opening ≡ Open → (k : Class) → class form c ≡ k → goes form cs (outside form (at true Start true [] []) c k) ≡ Some read → IsText form (opening ∷ c ∷ cs) read
-start_sound form read opening c cs w Close k h = closed_at_once form read opening c cs w k form.may_be_empty refl h
-start_sound form read opening c cs w Quote k h = from_parsed form read opening (c ∷ cs) w (λ m. no_close form read c cs (λ e. cc)) (outside_sound form read c cs (sound form read cs) true Start true [] [] Quote (λ e. cc) k (λ e f g. cc) h)
-start_sound form read opening c cs w Backslash k h = from_parsed form read opening (c ∷ cs) w (λ m. no_close form read c cs (λ e. cc)) (outside_sound form read c cs (sound form read cs) true Start true [] [] Backslash (λ e. cc) k (λ e f g. cc) h)
-start_sound form read opening c cs w Comma k h = from_parsed form read opening (c ∷ cs) w (λ m. no_close form read c cs (λ e. cc)) (outside_sound form read c cs (sound form read cs) true Start true [] [] Comma (λ e. cc) k (λ e f g. cc) h)
-start_sound form read opening c cs w Other k h = from_parsed form read opening (c ∷ cs) w (λ m. no_close form read c cs (λ e. cc)) (outside_sound form read c cs (sound form read cs) true Start true [] [] Other (λ e. cc) k (λ e f g. cc) h)
-start_sound form read opening c cs w Open k h = cc
+    inner_valid : (k : Class) → class (form_of t) c ≡ k → k ≢ Quote → k ≢ Backslash → IfSome (option_map (with_item (inner c)) (parse (form_of t) Quoted cs)) (Valid (form_of t) (34 ∷ []) true (c ∷ cs))
+    inner_valid k h n m = if_mapped _ _ (with_item (inner c)) (parse (form_of t) Quoted cs)
+        (λ r. item_valid (inner c) (34 ∷ []) (c ∷ cs) cs r (not_class k Quote 34 h refl n, not_class k Backslash 92 h refl m) refl) (all Quoted)
 
-opened : (form : Form) (read : List (Option (List ℕ))) (opening : ℕ) (cs : List ℕ) (k : Class) → class form opening ≡ k → goes form cs (before at_first k) ≡ Some read → IsText form (opening ∷ cs) read
-opened form read opening [] Open k h = cc
-opened form read opening (c ∷ cs) Open k h = start_sound form read opening c cs k (class form c) refl h
-opened form read opening cs Quote k h = cc
-opened form read opening cs Backslash k h = cc
-opened form read opening cs Comma k h = cc
-opened form read opening cs Close k h = cc
-opened form read opening cs Other k h = cc
+    quoted_valid : (k : Class) → class (form_of t) c ≡ k → IfSome (parse_quoted c (λ q. parse (form_of t) q cs) k) (Valid (form_of t) (34 ∷ []) true (c ∷ cs))
+    quoted_valid Quote k = if_weaker _ _ (parse (form_of t) AfterQuote cs) (λ r. again (34 ∷ 34 ∷ []) (34 ∷ []) true true cs (c ∷ cs) r (λ h. h) (ap (λ x. 34 ∷ x ∷ cs) (says (form_of t) c Quote k))) (all AfterQuote)
+    quoted_valid Backslash k = if_weaker _ _ (parse (form_of t) QuotedBackslash cs) (λ r. again (34 ∷ 92 ∷ []) (34 ∷ []) true true cs (c ∷ cs) r (λ h. h) (ap (λ x. 34 ∷ x ∷ cs) (says (form_of t) c Backslash k))) (all QuotedBackslash)
+    quoted_valid Comma k = inner_valid Comma k (λ e. cc) (λ e. cc)
+    quoted_valid Open k = inner_valid Open k (λ e. cc) (λ e. cc)
+    quoted_valid Close k = inner_valid Close k (λ e. cc) (λ e. cc)
+    quoted_valid Other k = inner_valid Other k (λ e. cc) (λ e. cc)
 
--- Only a text of a form is read, as its values.
-pub text_sound : (form : Form) (text : List ℕ) (read : List (Option (List ℕ))) → run form at_first text ≡ Some read → IsText form text read
-text_sound form [] read h = cc
-text_sound form (c ∷ cs) read h = opened form read c cs (class form c) refl h
+    -- after a quote that closes
+    after_quote : (k : Class) → class (form_of t) c ≡ k → ((form_of t).doubles ≡ true → c ≢ 34) → IfSome (option_map (with_piece (quoted [])) (parse_outside (form_of t) c cs (λ q. parse (form_of t) q cs) k)) (Valid (form_of t) (34 ∷ 34 ∷ []) true (c ∷ cs))
+    after_quote k h n = if_mapped _ _ (with_piece (quoted [])) (parse_outside (form_of t) c cs (λ q. parse (form_of t) q cs) k)
+        (λ r v. piece_valid (quoted []) (34 ∷ 34 ∷ []) true (c ∷ cs) (c ∷ cs) r tt (λ d a. (not_quoted r.first c cs (after_part r.more r.closing) v.whole (n d), a)) refl (λ h. ([], r.first, refl)) v) (outside_valid k h)
+
+    after_valid : (b : Bool) → (form_of t).doubles ≡ b → (k : Class) → class (form_of t) c ≡ k → IfSome (parse_after_quote (form_of t) c cs (λ q. parse (form_of t) q cs) b k) (Valid (form_of t) (34 ∷ 34 ∷ []) true (c ∷ cs))
+    after_valid true d Quote k = if_mapped _ _ (with_item doubled) (parse (form_of t) Quoted cs)
+        (λ r. item_valid doubled (34 ∷ 34 ∷ []) (c ∷ cs) cs r d (ap (λ x. 34 ∷ 34 ∷ x ∷ cs) (says (form_of t) c Quote k))) (all Quoted)
+    after_valid true d Backslash k = after_quote Backslash k (λ d. not_class Backslash Quote 34 k refl (λ e. cc))
+    after_valid true d Comma k = after_quote Comma k (λ d. not_class Comma Quote 34 k refl (λ e. cc))
+    after_valid true d Open k = tt
+    after_valid true d Close k = after_quote Close k (λ d. not_class Close Quote 34 k refl (λ e. cc))
+    after_valid true d Other k = after_quote Other k (λ d. not_class Other Quote 34 k refl (λ e. cc))
+    after_valid false d k h = after_quote k h (λ e. absurd (false≢true (sym d ∙ e)))
+
+    place_valid : (place : Place) → Reads (form_of t) place (c ∷ cs)
+    place_valid Start = outside_valid (class (form_of t) c) refl
+    place_valid Outside = outside_valid (class (form_of t) c) refl
+    place_valid Quoted = quoted_valid (class (form_of t) c) refl
+    place_valid AfterQuote = after_valid (form_of t).doubles refl (class (form_of t) c) refl
+    place_valid AfterBackslash = if_mapped _ _ (with_piece (escaped c)) (parse (form_of t) Outside cs)
+        (λ r. piece_valid (escaped c) (92 ∷ []) false (c ∷ cs) cs r tt (λ d a. a) refl (λ h. absurd (false≢true h))) (all Outside)
+    place_valid QuotedBackslash = if_mapped _ _ (with_item (inner_escaped c)) (parse (form_of t) Quoted cs)
+        (λ r. item_valid (inner_escaped c) (34 ∷ 92 ∷ []) (c ∷ cs) cs r tt refl) (all Quoted)
+
+  pub sound : (cs : List ℕ) (place : Place) → Reads (form_of t) place cs
+  sound [] place = tt
+  sound (c ∷ cs) place = place_valid c cs (sound cs) place

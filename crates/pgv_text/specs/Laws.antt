@@ -1,12 +1,23 @@
--- The laws of the texts of arrays and records.
-use Rattle.std.specs.Prelude.{◌≡◌, ◌≢◌, ◌↔◌, ℕ, List, [], Option, Some}
+-- The laws of the texts of arrays, ranges and records.
+use Rattle.std.specs.Prelude.{◌≡◌, ◌↔◌, ℕ, true, ◌==◌, List, Some, Option}
 use Rattle.std.specs.List.{AllByRecursion}
-use Rattle.std.specs.Str.{IsUtf8, chars}
+use Rattle.std.specs.Str.{chars, IsUtf8}
+use Rattle.pgv_text.specs.Spellings.{IsOptionalText, IsSpelled, AreEnough, nest_text}
+use Rattle.pgv_text.specs.declared.scanner.TextForm.{TextForm}
+use Rattle.pgv_text.specs.Forms.{form_of}
 use Rattle.pgv_text.specs.Arrays.{IsArrayText}
-use Rattle.pgv_text.specs.Pieces.{Pairwise}
 use Rattle.pgv_text.specs.Records.{IsRecordText}
-use Rattle.pgv_text.specs.Spellings.{IsOptionalText, IsSpelledElement, IsSpelledField, array_text, record_text}
+use Rattle.pgv_text.specs.Pieces.{Pairwise, Nest, IsNestText}
+use Rattle.pgv_text.specs.Parsed.{nest_of}
 use Rattle.pgv_text.specs.Values.{array_values, record_values}
+
+-- What is computed of a text is what it is of.
+abbrev pub NestIsComputed : Type 0
+NestIsComputed = (form : TextForm) (text : List ℕ) (nest : Nest) → (nest_of (form_of form) text ≡ Some nest) ↔ IsNestText (form_of form) text nest
+
+-- No text is of two lists, nor of two readings of its brackets.
+abbrev pub OneNest : Type 0
+OneNest = (form : TextForm) (text : List ℕ) (nest other : Nest) → IsNestText (form_of form) text nest → IsNestText (form_of form) text other → nest ≡ other
 
 -- The computed values are those that the text is of.
 abbrev pub ArrayIsItsValues : Type 0
@@ -15,34 +26,18 @@ ArrayIsItsValues = (text : List ℕ) (values : List (Option (List ℕ))) → (ar
 abbrev pub RecordIsItsValues : Type 0
 RecordIsItsValues = (text : List ℕ) (values : List (Option (List ℕ))) → (record_values text ≡ Some values) ↔ IsRecordText (chars text) values
 
--- No text is of two lists.
-abbrev pub OneArrayList : Type 0
-OneArrayList = (text : List ℕ) (values others : List (Option (List ℕ))) → IsArrayText text values → IsArrayText text others → values ≡ others
+-- However the values are spelled, the text is of them.
+abbrev pub SpelledReadsBack : Type 0
+SpelledReadsBack = (form : TextForm) (opening closing : ℕ) (values : List (Option (List ℕ))) (spellings : List (List ℕ)) →
+    (form_of form).opens opening ≡ true → (form_of form).closes closing ≡ true → AreEnough (form_of form).count values → AllByRecursion IsOptionalText values → Pairwise (IsSpelled (form_of form)) values spellings →
+    IsUtf8 (nest_text opening closing spellings) × IsNestText (form_of form) (chars (nest_text opening closing spellings)) (record { values = values; lower = opening == 91; upper = closing == 93 })
 
-abbrev pub OneRecordList : Type 0
-OneRecordList = (text : List ℕ) (values others : List (Option (List ℕ))) → IsRecordText text values → IsRecordText text others → values ≡ others
+-- Every list of as many optional texts as the form has parts has a text, with any brackets of the form.
+abbrev pub EveryListHasAText : Type 0
+EveryListHasAText = (form : TextForm) (opening closing : ℕ) (values : List (Option (List ℕ))) →
+    (form_of form).opens opening ≡ true → (form_of form).closes closing ≡ true → AreEnough (form_of form).count values → AllByRecursion IsOptionalText values →
+    (text : List ℕ) × IsUtf8 text × IsNestText (form_of form) (chars text) (record { values = values; lower = opening == 91; upper = closing == 93 })
 
 -- The values of a text are texts themselves.
-abbrev pub ArrayValuesAreTexts : Type 0
-ArrayValuesAreTexts = (text : List ℕ) (values : List (Option (List ℕ))) → IsUtf8 text → array_values text ≡ Some values → AllByRecursion IsOptionalText values
-
-abbrev pub RecordValuesAreTexts : Type 0
-RecordValuesAreTexts = (text : List ℕ) (values : List (Option (List ℕ))) → IsUtf8 text → record_values text ≡ Some values → AllByRecursion IsOptionalText values
-
--- However the values are spelled, the text is of them and is read back as them.
-abbrev pub SpelledArrayReadsBack : Type 0
-SpelledArrayReadsBack = (values : List (Option (List ℕ))) (spellings : List (List ℕ)) → AllByRecursion IsOptionalText values → Pairwise IsSpelledElement values spellings
-    → IsUtf8 (array_text spellings) × IsArrayText (chars (array_text spellings)) values × (array_values (array_text spellings) ≡ Some values)
-
-abbrev pub SpelledRecordReadsBack : Type 0
-SpelledRecordReadsBack = (values : List (Option (List ℕ))) (spellings : List (List ℕ)) → values ≢ [] → AllByRecursion IsOptionalText values → Pairwise IsSpelledField values spellings
-    → IsUtf8 (record_text spellings) × IsRecordText (chars (record_text spellings)) values × (record_values (record_text spellings) ≡ Some values)
-
--- Every list of optional texts has an array text, and every one that isn't empty a record text.
-abbrev pub EveryListHasAnArrayText : Type 0
-EveryListHasAnArrayText = (values : List (Option (List ℕ))) → AllByRecursion IsOptionalText values
-    → (text : List ℕ) × IsUtf8 text × IsArrayText (chars text) values × (array_values text ≡ Some values)
-
-abbrev pub EveryListHasARecordText : Type 0
-EveryListHasARecordText = (values : List (Option (List ℕ))) → values ≢ [] → AllByRecursion IsOptionalText values
-    → (text : List ℕ) × IsUtf8 text × IsRecordText (chars text) values × (record_values text ≡ Some values)
+abbrev pub ValuesAreTexts : Type 0
+ValuesAreTexts = (form : TextForm) (text : List ℕ) (nest : Nest) → IsUtf8 text → IsNestText (form_of form) (chars text) nest → AllByRecursion IsOptionalText nest.values

@@ -2,10 +2,13 @@ pub mod Number
 pub mod Scalars
 pub mod Pieces
 pub mod Arrays
+pub mod Ranges
 pub mod Records
 pub mod Forms
 pub mod Scan
+pub mod Parsed
 pub mod Values
 pub mod View
+pub mod Left
 pub mod Spellings
 pub mod Laws

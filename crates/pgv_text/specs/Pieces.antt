@@ -1,30 +1,35 @@
 -- Pieces of the texts of nests, and what they mean (PostgreSQL: "Array Input and Output Syntax", 8.15.6;
 -- "Composite Type Input and Output Syntax", 8.16.6). Characters are their codes.
-use Rattle.std.specs.Prelude.{◌≡◌, ◌≢◌, ℕ, Bool, true, false, List, [], ◌∷◌, ◌++◌, map, Option, not, ◌||◌, ◌==◌}
+use Rattle.std.specs.Prelude.{◌≡◌, ◌≢◌, ℕ, Bool, true, List, [], ◌∷◌, ◌++◌, length, map, Option, Some, None, not, ◌||◌, ◌==◌}
 use Rattle.std.specs.List.{flat_map, AllByRecursion}
 use Rattle.std.specs.Str.{encode_utf8_all}
 
--- What stands between quotes: a character, a character behind a backslash, or a doubled quote.
+-- What stands between quotes: a character, a character after a backslash, or a doubled quote.
 pub data Item : Type 0 where
   inner : ℕ → Item
-  behind : ℕ → Item
+  inner_escaped : ℕ → Item
   doubled : Item
 
--- A character, a character behind a backslash, or what stands between quotes.
+-- A character, a character after a backslash, or what stands between quotes.
 pub data Piece : Type 0 where
   plain : ℕ → Piece
   escaped : ℕ → Piece
   quoted : List Item → Piece
 
--- What the forms differ in: the brackets, whether a quote is doubled inside quotes, whether nothing at all
--- between the brackets is no part, and which value a part has: by whether it has pieces, whether all of
--- them are plain, and its text.
+-- How many parts there may be.
+pub data Count : Type 0 where
+  any : Count
+  some : Count
+  two : Count
+
+-- What the forms differ in: the brackets, whether a quote is doubled inside quotes, which part is null or
+-- absent, and how many parts there are.
 pub record Form : Type 0 where
   pub opens : ℕ → Bool
   pub closes : ℕ → Bool
   pub doubles : Bool
-  pub may_be_empty : Bool
-  pub value : Bool → Bool → List ℕ → Option (List ℕ)
+  pub nothing : List Piece
+  pub count : Count
 
 -- All but `"`, `\`, `,` and the brackets may stand plain.
 abbrev pub may_be_plain : Form → ℕ → Bool
@@ -33,12 +38,12 @@ may_be_plain form c = not (c == 34 || c == 92 || c == 44 || form.opens c || form
 -- 34 is `"` and 92 is `\`.
 abbrev pub item_spelling : Item → List ℕ
 item_spelling (inner c) = c ∷ []
-item_spelling (behind c) = 92 ∷ c ∷ []
+item_spelling (inner_escaped c) = 92 ∷ c ∷ []
 item_spelling doubled = 34 ∷ 34 ∷ []
 
 abbrev pub item_meaning : Item → ℕ
 item_meaning (inner c) = c
-item_meaning (behind c) = c
+item_meaning (inner_escaped c) = c
 item_meaning doubled = 34
 
 abbrev pub spelling : Piece → List ℕ
@@ -53,7 +58,7 @@ meaning (quoted items) = map item_meaning items
 
 abbrev pub IsItem : Form → Item → Type 0
 IsItem form (inner c) = (c ≢ 34) × (c ≢ 92)
-IsItem form (behind c) = Unit {0}
+IsItem form (inner_escaped c) = Unit {0}
 IsItem form doubled = form.doubles ≡ true
 
 abbrev pub IsPiece : Form → Piece → Type 0
@@ -97,16 +102,33 @@ Pairwise R [] (y ∷ ys) = ⊥
 Pairwise R (x ∷ xs) [] = ⊥
 Pairwise R (x ∷ xs) (y ∷ ys) = R x y × Pairwise R xs ys
 
--- What the value of a part depends on.
-abbrev pub has_pieces : List Piece → Bool
-has_pieces [] = false
-has_pieces (piece ∷ pieces) = true
+-- A part is null or absent where it is that list of pieces, and else the bytes of its text.
+abbrev pub IsPart : Form → List Piece → Option (List ℕ) → Type 0
+IsPart form pieces None = pieces ≡ form.nothing
+IsPart form pieces (Some text) = (pieces ≢ form.nothing) × (text ≡ encode_utf8_all (text_of pieces))
 
-abbrev pub all_plain : List Piece → Bool
-all_plain [] = true
-all_plain (plain c ∷ pieces) = all_plain pieces
-all_plain (escaped c ∷ pieces) = false
-all_plain (quoted items ∷ pieces) = false
+-- Nothing at all between the brackets is no part, where there may be none, and else one.
+abbrev pub AreCounted : Count → List (List Piece) → Type 0
+AreCounted any parts = parts ≢ [] ∷ []
+AreCounted some parts = parts ≢ []
+AreCounted two parts = length parts ≡ 2
 
-abbrev pub value_of : Form → List Piece → Option (List ℕ)
-value_of form pieces = form.value (has_pieces pieces) (all_plain pieces) (encode_utf8_all (text_of pieces))
+-- What a text is of: the values of its parts, and whether the brackets are square ones.
+pub record Nest : Type 0 where
+  pub values : List (Option (List ℕ))
+  pub lower : Bool
+  pub upper : Bool
+
+-- These characters are a text of this form. 91 is `[` and 93 is `]`.
+pub record IsNestText (form : Form) (text : List ℕ) (nest : Nest) : Type 0 where
+  pub opening : ℕ
+  pub closing : ℕ
+  pub parts : List (List Piece)
+  pub opens : form.opens opening ≡ true
+  pub closes : form.closes closing ≡ true
+  pub each : AllByRecursion (ArePieces form) parts
+  pub counted : AreCounted form.count parts
+  pub whole : text ≡ opening ∷ joined parts ++ closing ∷ []
+  pub values : Pairwise (IsPart form) parts nest.values
+  pub lower : nest.lower ≡ (opening == 91)
+  pub upper : nest.upper ≡ (closing == 93)

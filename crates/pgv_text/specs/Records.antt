@@ -1,26 +1,11 @@
 -- The text of a record (PostgreSQL: "Composite Type Input and Output Syntax", 8.16.6).
-use Rattle.std.specs.Prelude.{◌≡◌, ◌≢◌, ℕ, List, [], ◌∷◌, ◌++◌, Option, Some, None, Bool, true, false, cond, ◌==◌}
-use Rattle.std.specs.List.{AllByRecursion}
-use Rattle.std.specs.Str.{encode_utf8_all}
-use Rattle.pgv_text.specs.Pieces.{Pairwise, Form, Piece, ArePieces, text_of, joined}
+use Rattle.std.specs.Prelude.{ℕ, true, false, ◌==◌, List, [], Option}
+use Rattle.pgv_text.specs.Pieces.{Form, some, IsNestText}
 
--- A field without pieces is null.
-abbrev pub present_value : Bool → Bool → List ℕ → Option (List ℕ)
-present_value present bare text = cond present (Some text) None
-
--- `(` and `)`
+-- `(` and `)`; a field without pieces is null.
 abbrev pub record_form : Form
-record_form = record { opens = λ c. c == 40; closes = λ c. c == 41; doubles = true; may_be_empty = false; value = present_value }
-
--- A field is null exactly where it has no pieces, and else the bytes of its text.
-abbrev pub IsField : List Piece → Option (List ℕ) → Type 0
-IsField pieces None = pieces ≡ []
-IsField pieces (Some text) = (pieces ≢ []) × (text ≡ encode_utf8_all (text_of pieces))
+record_form = record { opens = λ c. c == 40; closes = λ c. c == 41; doubles = true; nothing = []; count = some }
 
 -- These characters are a record of these values.
-pub record IsRecordText (text : List ℕ) (values : List (Option (List ℕ))) : Type 0 where
-  pub parts : List (List Piece)
-  pub each : AllByRecursion (ArePieces record_form) parts
-  pub any : parts ≢ []
-  pub whole : text ≡ 40 ∷ joined parts ++ 41 ∷ []
-  pub fields : Pairwise IsField parts values
+abbrev pub IsRecordText : List ℕ → List (Option (List ℕ)) → Type 0
+IsRecordText text values = IsNestText record_form text record { values = values; lower = false; upper = false }

@@ -14,15 +14,15 @@ abbrev pub octal_byte : List ℕ → Option ℕ
 octal_byte (a ∷ b ∷ c ∷ []) = cond (is_octal a && nat_le a 51 && is_octal b && is_octal c) (Some ((a - 48) * 64 + (b - 48) * 8 + (c - 48))) None
 octal_byte _ = None
 
--- What stands behind a backslash: nothing, for the backslash itself (92), or a byte.
-abbrev pub behind_backslash : List ℕ → Option ℤ
-behind_backslash [] = Some (pos 92)
-behind_backslash (c ∷ cs) = option_map (cast_signed w8) (octal_byte (c ∷ cs))
+-- What stands after a backslash: nothing, for the backslash itself (92), or a byte.
+abbrev pub after_backslash : List ℕ → Option ℤ
+after_backslash [] = Some (pos 92)
+after_backslash (c ∷ cs) = option_map (cast_signed w8) (octal_byte (c ∷ cs))
 
 -- A "char" is one byte, here as a signed number of 8 bits; no text is the byte 0.
 abbrev pub char_value : List ℕ → Option ℤ
 char_value [] = Some (pos 0)
-char_value (c ∷ cs) = cond (c == 92) (behind_backslash cs) (Some (cast_signed w8 c))
+char_value (c ∷ cs) = cond (c == 92) (after_backslash cs) (Some (cast_signed w8 c))
 
 -- `t` is 116 and `f` is 102.
 abbrev pub bool_value : List ℕ → Option Bool

@@ -1,98 +1,128 @@
--- The reading of a text, character by character.
-use Rattle.std.specs.Prelude.{ℕ, Bool, true, false, not, cond, ◌==◌, List, [], ◌∷◌, ◌++◌, Option, Some, None, encode_utf8}
+-- The table of the scanner, and what it makes of bytes.
+use Rattle.std.specs.Prelude.{ℕ, Bool, true, false, cond, ◌&&◌, ◌==◌, ◌+◌, List, [], ◌∷◌, ◌++◌, length, Option, Some, None}
+use Rattle.std.specs.Option.{option_and_then, option_map}
 use Rattle.pgv_text.specs.declared.scanner.Class.{Class}
 use Rattle.pgv_text.specs.declared.scanner.Class.TheVariants.{Quote, Backslash, Comma, Open, Close, Other}
 use Rattle.pgv_text.specs.declared.scanner.Place.{Place}
-use Rattle.pgv_text.specs.declared.scanner.Place.TheVariants.{Before, Start, Outside, Quoted, BehindQuote, BehindBackslash, QuotedBackslash, Ended}
-use Rattle.std.specs.Option.{option_and_then}
-use Rattle.pgv_text.specs.Pieces.{Form}
+use Rattle.pgv_text.specs.declared.scanner.Place.TheVariants.{Start, Outside, Quoted, AfterQuote, AfterBackslash, QuotedBackslash}
+use Rattle.pgv_text.specs.declared.scanner.Cell.{Cell}
+use Rattle.pgv_text.specs.declared.scanner.Cell.TheVariants.{Keep, Pass, Part, End, Refuse}
+use Rattle.pgv_text.specs.Pieces.{Form, Piece, plain, Count, any, some, two, Nest}
 
 abbrev pub class : Form → ℕ → Class
 class form c =
     cond (c == 34) Quote (cond (c == 92) Backslash (cond (c == 44) Comma
     (cond (form.opens c) Open (cond (form.closes c) Close Other))))
 
-pub record State : Type 0 where
-  pub place : Place
-  -- whether no part has ended yet
-  pub first : Bool
-  -- whether all of this part so far is plain
-  pub bare : Bool
-  -- what this part means so far
+abbrev pub outside_cell : Class → Cell
+outside_cell Quote = Pass Quoted
+outside_cell Backslash = Pass AfterBackslash
+outside_cell Comma = Part
+outside_cell Open = Refuse
+outside_cell Close = End
+outside_cell Other = Keep Outside
+
+abbrev pub quoted_cell : Class → Cell
+quoted_cell Quote = Pass AfterQuote
+quoted_cell Backslash = Pass QuotedBackslash
+quoted_cell _ = Keep Quoted
+
+-- Where quotes are doubled, a quote after a quote is kept.
+abbrev pub after_quote_cell : Bool → Class → Cell
+after_quote_cell true Quote = Keep Quoted
+after_quote_cell _ k = outside_cell k
+
+abbrev pub cell : Form → Place → Class → Cell
+cell form Start k = outside_cell k
+cell form Outside k = outside_cell k
+cell form Quoted k = quoted_cell k
+cell form AfterQuote k = after_quote_cell form.doubles k
+cell form AfterBackslash k = Keep Outside
+cell form QuotedBackslash k = Keep Quoted
+
+-- a part ends here
+abbrev pub ends : Class → Bool
+ends Comma = true
+ends Close = true
+ends _ = false
+
+-- the part that is null or absent stands here, and ends
+abbrev pub stands : Form → List Piece → List ℕ → Bool
+stands form [] (c ∷ cs) = ends (class form c)
+stands form (plain d ∷ pieces) (c ∷ cs) = c == d && stands form pieces cs
+stands form _ _ = false
+
+-- the value of the part that begins here and means this text
+abbrev pub value_here : Form → List ℕ → List ℕ → Option (List ℕ)
+value_here form cs text = cond (stands form form.nothing cs) None (Some text)
+
+-- the closing bracket stands here
+abbrev pub closes_here : Form → List ℕ → Bool
+closes_here form [] = false
+closes_here form (c ∷ cs) = form.closes c
+
+-- as many values as the form has; the bracket may close at once
+abbrev pub counted : Count → Bool → List (Option (List ℕ)) → Option (List (Option (List ℕ)))
+counted any true values = Some []
+counted any false values = Some values
+counted some at_once values = Some values
+counted two at_once values = cond (length values == 2) (Some values) None
+
+-- after an opening bracket, with these values and this closing one
+abbrev pub nest_between : Form → ℕ → List ℕ → List (Option (List ℕ)) → ℕ → Option Nest
+nest_between form opening cs values closing =
+    option_map (λ values. record { values = values; lower = opening == 91; upper = closing == 93 }) (counted form.count (closes_here form cs) values)
+
+-- What is read from a place in a part: the rest of its text, the values of the parts after it, and the bracket.
+pub record Rest : Type 0 where
   pub text : List ℕ
-  -- the parts that have ended
-  pub done : List (Option (List ℕ))
+  pub values : List (Option (List ℕ))
+  pub closing : ℕ
 
-abbrev pub is_start : Place → Bool
-is_start Start = true
-is_start _ = false
+abbrev pub kept : ℕ → Rest → Rest
+kept b r = record r { text = b ∷ r.text }
 
--- with the character, at another place
-abbrev pub pushed : State → Place → ℕ → State
-pushed s place c = record s { place = place; text = s.text ++ encode_utf8 c }
+abbrev pub next : Form → List ℕ → Rest → Rest
+next form bs r = record r { text = []; values = value_here form bs r.text ∷ r.values }
 
-abbrev pub with_value : Form → State → List (Option (List ℕ))
-with_value form s = s.done ++ form.value (not (is_start s.place)) s.bare s.text ∷ []
+abbrev pub at_end : ℕ → List ℕ → Option Rest
+at_end b [] = Some (record { text = []; values = []; closing = b })
+at_end b (c ∷ cs) = None
 
--- behind the comma or the bracket that ends a part
-abbrev pub behind_part : Form → State → Place → State
-behind_part form s place = record s { place = place; first = false; bare = true; text = []; done = with_value form s }
+abbrev pub read_by : Form → ℕ → List ℕ → (Place → Option Rest) → Cell → Option Rest
+read_by form b bs go (Keep place) = option_map (kept b) (go place)
+read_by form b bs go (Pass place) = go place
+read_by form b bs go Part = option_map (next form bs) (go Start)
+read_by form b bs go End = at_end b bs
+read_by form b bs go Refuse = None
 
--- behind the closing bracket, where nothing stands between the brackets or a part ends there
-abbrev pub closed : Form → State → Bool → State
-closed form s true = record s { place = Ended }
-closed form s false = behind_part form s Ended
+abbrev pub read : Form → Place → List ℕ → Option Rest
+read form place [] = None
+read form place (b ∷ bs) = read_by form b bs (λ q. read form q bs) (cell form place (class form b))
 
--- nothing at all stands between the brackets, where that is no part
-abbrev pub has_nothing : Form → State → Bool
-has_nothing form s = cond form.may_be_empty (cond (is_start s.place) s.first false) false
+-- the values from the start of a part on, and all that a text is of
+abbrev pub values_from : Form → List ℕ → Rest → List (Option (List ℕ))
+values_from form bs r = value_here form bs r.text ∷ r.values
 
-abbrev pub outside : Form → State → ℕ → Class → Option State
-outside form s c Quote = Some (record s { place = Quoted; bare = false })
-outside form s c Backslash = Some (record s { place = BehindBackslash; bare = false })
-outside form s c Comma = Some (behind_part form s Start)
-outside form s c Open = None
-outside form s c Close = Some (closed form s (has_nothing form s))
-outside form s c Other = Some (pushed s Outside c)
+abbrev pub nest_read : Form → List ℕ → Option Nest
+nest_read form [] = None
+nest_read form (b ∷ bs) = cond (form.opens b) (option_and_then (λ r. nest_between form b bs (values_from form bs r) r.closing) (read form Start bs)) None
 
-abbrev pub behind_quote : Form → State → ℕ → Class → Option State
-behind_quote form s c Quote = cond form.doubles (Some (pushed s Quoted c)) (outside form s c Quote)
-behind_quote form s c Backslash = outside form s c Backslash
-behind_quote form s c Comma = outside form s c Comma
-behind_quote form s c Open = None
-behind_quote form s c Close = outside form s c Close
-behind_quote form s c Other = outside form s c Other
+-- after these bytes of the text
+abbrev pub after_text : List ℕ → Rest → Rest
+after_text text r = record r { text = text ++ r.text }
 
-abbrev pub quoted : State → ℕ → Class → Option State
-quoted s c Quote = Some (record s { place = BehindQuote })
-quoted s c Backslash = Some (record s { place = QuotedBackslash })
-quoted s c _ = Some (pushed s Quoted c)
+abbrev pub grown : List ℕ → Option Rest → Option Rest
+grown text r = option_map (after_text text) r
 
-abbrev pub before : State → Class → Option State
-before s Open = Some (record s { place = Start })
-before s _ = None
+-- a cell that doesn't keep the byte
+abbrev pub stops : Cell → Bool
+stops (Keep place) = false
+stops _ = true
 
-abbrev pub step_at : Form → State → ℕ → Class → Place → Option State
-step_at form s c k Before = before s k
-step_at form s c k Start = outside form s c k
-step_at form s c k Outside = outside form s c k
-step_at form s c k Quoted = quoted s c k
-step_at form s c k BehindQuote = behind_quote form s c k
-step_at form s c k BehindBackslash = Some (pushed s Outside c)
-step_at form s c k QuotedBackslash = Some (pushed s Quoted c)
-step_at form s c k Ended = None
+-- how many parts there are with this many before, and the closing bracket
+abbrev pub number_and_closing : ℕ → Rest → ℕ × ℕ
+number_and_closing n r = (n + length r.values, r.closing)
 
-abbrev pub step : Form → State → ℕ → Option State
-step form s c = step_at form s c (class form c) s.place
-
-abbrev pub result_at : State → Place → Option (List (Option (List ℕ)))
-result_at s Ended = Some s.done
-result_at s _ = None
-
--- the values of the text that is left
-abbrev pub run : Form → State → List ℕ → Option (List (Option (List ℕ)))
-run form s [] = result_at s s.place
-run form s (c ∷ cs) = option_and_then (λ t. run form t cs) (step form s c)
-
-abbrev pub at_first : State
-at_first = record { place = Before; first = true; bare = true; text = []; done = [] }
+abbrev pub numbered : ℕ → Option Rest → Option (ℕ × ℕ)
+numbered n r = option_map (number_and_closing n) r

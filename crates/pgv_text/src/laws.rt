@@ -1,6 +1,6 @@
 //! Laws of the definitions: what holds of every text, with nothing to run.
 
-ghost use Rattle.pgv_text.specs.Laws.{ArrayIsItsValues, ArrayValuesAreTexts, EveryListHasAnArrayText, EveryListHasARecordText, OneArrayList, OneRecordList, RecordIsItsValues, RecordValuesAreTexts, SpelledArrayReadsBack, SpelledRecordReadsBack};
+ghost use Rattle.pgv_text.specs.Laws.{ArrayIsItsValues, EveryListHasAText, NestIsComputed, OneNest, RecordIsItsValues, SpelledReadsBack, ValuesAreTexts};
 ghost use Rattle.pgv_text.specs.Number.{NumberIsItsValue, OneNumber, OneUnsignedNumber, UnsignedIsItsValue};
 
 /// A text is a number exactly where one is computed of it, and it is that one.
@@ -23,6 +23,16 @@ pub fn one_unsigned_number()
     ensures { OneUnsignedNumber }
 {}
 
+/// What is computed of a text of any form is what it is of.
+pub fn nest_is_computed()
+    ensures { NestIsComputed }
+{}
+
+/// No text of any form is of two lists.
+pub fn one_nest()
+    ensures { OneNest }
+{}
+
 /// The computed elements of a text are those that it is an array text of.
 pub fn array_is_its_values()
     ensures { ArrayIsItsValues }
@@ -33,42 +43,18 @@ pub fn record_is_its_values()
     ensures { RecordIsItsValues }
 {}
 
-/// No text is an array text of two lists.
-pub fn one_array_list()
-    ensures { OneArrayList }
+/// The values of a text in UTF-8 are UTF-8.
+pub fn values_are_texts()
+    ensures { ValuesAreTexts }
 {}
 
-/// No text is a record text of two lists.
-pub fn one_record_list()
-    ensures { OneRecordList }
+/// However the values are spelled, the text is of them, and so is read back as them.
+pub fn spelled_reads_back()
+    ensures { SpelledReadsBack }
 {}
 
-/// The elements of an array text in UTF-8 are UTF-8.
-pub fn array_values_are_texts()
-    ensures { ArrayValuesAreTexts }
-{}
-
-/// The fields of a record text in UTF-8 are UTF-8.
-pub fn record_values_are_texts()
-    ensures { RecordValuesAreTexts }
-{}
-
-/// However the elements are spelled, the text is an array text of them and is read back as them.
-pub fn spelled_array_reads_back()
-    ensures { SpelledArrayReadsBack }
-{}
-
-/// However the fields are spelled, the text is a record text of them and is read back as them.
-pub fn spelled_record_reads_back()
-    ensures { SpelledRecordReadsBack }
-{}
-
-/// Every list of optional texts has an array text.
-pub fn every_list_has_an_array_text()
-    ensures { EveryListHasAnArrayText }
-{}
-
-/// Every list of one optional text or more has a record text.
-pub fn every_list_has_a_record_text()
-    ensures { EveryListHasARecordText }
+/// Every list of optional texts has an array text, every one that isn't empty a record text, and every
+/// two a range text with any bracket at each end.
+pub fn every_list_has_a_text()
+    ensures { EveryListHasAText }
 {}

@@ -1,15 +1,18 @@
 //! Readers of the texts that PostgreSQL writes for values: whole numbers, the type "char", truth values,
-//! and the lists of optional texts in arrays and records. They know no types and no wire format, and each
+//! and the lists of optional texts in arrays, ranges and records. They know no types and no wire format, and each
 //! answers a value exactly where the text is in its grammar.
 #![tactic(auto)]
 
 pub mod laws;
 pub mod nest;
 pub mod number;
-mod scanner;
+pub mod parts;
+pub mod scanner;
 
-pub use nest::{array_elements, record_fields};
+pub use nest::{array_elements, range_parts, record_fields};
 pub use number::{NumberFault, bool_of, char_of, number_of, unsigned_number_of};
+pub use parts::Parts;
+pub use scanner::TextForm;
 
 #[cfg(test)]
 mod tests;

@@ -1,21 +1,25 @@
-//! One scanner for the texts of nests: a bracket, parts separated by commas, a bracket. The forms differ
-//! in the brackets, in the doubling of quotes and in which part is null.
+//! One scanner for the texts of nests: a bracket, parts separated by commas, a bracket. A table of cells
+//! says what a byte does at a place, by its class; all bytes that mean something are ASCII.
 
-ghost use Rattle.std.specs.Prelude.{◌≡◌, IfOk, Some, None, Option, cond, string_bytes};
-ghost use Rattle.std.specs.Option.{option_map};
-ghost use Rattle.std.specs.Str.{chars};
-ghost use Rattle.pgv_text.specs.Scan.{at_first, behind_part, class, has_nothing, outside, pushed, run, step};
-ghost use Rattle.pgv_text.specs.View.{state};
+ghost use Rattle.std.specs.Prelude.{◌≡◌, ◌==◌, ◌++◌, ◌∷◌, ℕ, List, Option, None, true, cond};
+ghost use Rattle.std.specs.Option.{MatchOption};
 ghost use Rattle.pgv_text.specs.Forms.{form_of};
-ghost use Rattle.pgv_text.specs.Values.{part_bytes, values_of};
-ghost use Rattle.pgv_text.specs.declared.scanner.Class as Class;
+ghost use Rattle.pgv_text.specs.Scan.{cell, class, grown, read, read_by, stands, stops};
 
-use std::alloc::{AllocError, Global};
-use std::mem;
-
-/// What a character is to the scanner.
+/// The form of a text.
 #[derive(Clone, Copy, PartialEq, Eq, Drop)]
-enum Class {
+pub enum TextForm {
+    /// `{..}`
+    Array,
+    /// `[..]`, with a round bracket at an end that is not included
+    Range,
+    /// `(..)`
+    Record,
+}
+
+/// What a byte is to the scanner.
+#[derive(Clone, Copy, PartialEq, Eq, Drop)]
+pub enum Class {
     Quote,
     Backslash,
     Comma,
@@ -24,198 +28,171 @@ enum Class {
     Other,
 }
 
-/// Where the scanner stands.
+/// Where the scanner stands in a part.
 #[derive(Clone, Copy, PartialEq, Eq, Drop)]
-enum Place {
-    /// Before the opening bracket.
-    Before,
-    /// At the start of a part.
+pub enum Place {
+    /// At its start.
     Start,
-    /// In a part, outside quotes.
+    /// After a plain or escaped piece.
     Outside,
     /// Inside quotes.
     Quoted,
-    /// Behind a quote that closes, or is the first of two.
-    BehindQuote,
-    /// Behind a backslash outside quotes.
-    BehindBackslash,
-    /// Behind a backslash inside quotes.
+    /// After a quote that closes, or is the first of two.
+    AfterQuote,
+    /// After a backslash outside quotes.
+    AfterBackslash,
+    /// After a backslash inside quotes.
     QuotedBackslash,
-    /// Behind the closing bracket.
-    Ended,
 }
 
-/// The form of a text.
+/// What a byte does.
 #[derive(Clone, Copy, PartialEq, Eq, Drop)]
-pub enum TextForm {
-    /// `{..}`
-    Array,
-    /// `(..)`
-    Record,
+pub enum Cell {
+    /// It belongs to the part's text.
+    Keep(Place),
+    /// It doesn't, and the part goes on.
+    Pass(Place),
+    /// The part ends, and another begins.
+    Part,
+    /// The part ends, and the text.
+    End,
+    /// No text goes on so.
+    Refuse,
 }
 
-fn bracket_class(form: TextForm, c: char) -> Class
-    ensures { result ≡ cond ((form_of form).opens c) Class.Open (cond ((form_of form).closes c) Class.Close Class.Other) }
+/// Outside quotes, by class.
+const OUTSIDE: [Cell; 6] = [
+    Cell::Pass(Place::Quoted),
+    Cell::Pass(Place::AfterBackslash),
+    Cell::Part,
+    Cell::Refuse,
+    Cell::End,
+    Cell::Keep(Place::Outside),
+];
+
+/// Inside quotes.
+const QUOTED: [Cell; 6] = [
+    Cell::Pass(Place::AfterQuote),
+    Cell::Pass(Place::QuotedBackslash),
+    Cell::Keep(Place::Quoted),
+    Cell::Keep(Place::Quoted),
+    Cell::Keep(Place::Quoted),
+    Cell::Keep(Place::Quoted),
+];
+
+/// After a quote, where quotes are doubled.
+const DOUBLING: [Cell; 6] = [
+    Cell::Keep(Place::Quoted),
+    Cell::Pass(Place::AfterBackslash),
+    Cell::Part,
+    Cell::Refuse,
+    Cell::End,
+    Cell::Keep(Place::Outside),
+];
+
+/// After a backslash.
+const ESCAPED: [Cell; 6] = [Cell::Keep(Place::Outside); 6];
+
+const QUOTED_ESCAPED: [Cell; 6] = [Cell::Keep(Place::Quoted); 6];
+
+/// By form, place and class.
+static CELLS: [[[Cell; 6]; 6]; 3] = [
+    [OUTSIDE, OUTSIDE, QUOTED, OUTSIDE, ESCAPED, QUOTED_ESCAPED],
+    [OUTSIDE, OUTSIDE, QUOTED, DOUBLING, ESCAPED, QUOTED_ESCAPED],
+    [OUTSIDE, OUTSIDE, QUOTED, DOUBLING, ESCAPED, QUOTED_ESCAPED],
+];
+
+const _: () = prove!(CELLS.len() == 3 && CELLS[0].len() == 6 && CELLS[0][0].len() == 6);
+
+/// What a byte of this class does at this place.
+fn cell_of(form: TextForm, place: Place, class: Class) -> Cell
+    ensures { result ≡ cell (form_of form) place class }
 {
-    match (form, c) {
-        (TextForm::Array, '{') | (TextForm::Record, '(') => Class::Open,
-        (TextForm::Array, '}') | (TextForm::Record, ')') => Class::Close,
+    CELLS[form as usize][place as usize][class as usize]
+}
+
+/// Whether a byte is an opening bracket of the form.
+pub fn opens(form: TextForm, byte: u8) -> bool
+    ensures { result ≡ (form_of form).opens byte }
+{
+    match form {
+        TextForm::Array => byte == b'{',
+        TextForm::Range => byte == b'(' || byte == b'[',
+        TextForm::Record => byte == b'(',
+    }
+}
+
+/// Whether a byte is a closing bracket of the form.
+pub fn closes(form: TextForm, byte: u8) -> bool
+    ensures { result ≡ (form_of form).closes byte }
+{
+    match form {
+        TextForm::Array => byte == b'}',
+        TextForm::Range => byte == b')' || byte == b']',
+        TextForm::Record => byte == b')',
+    }
+}
+
+fn class_of(form: TextForm, byte: u8) -> Class
+    ensures { result ≡ class (form_of form) byte }
+{
+    match byte {
+        b'"' => Class::Quote,
+        b'\\' => Class::Backslash,
+        b',' => Class::Comma,
+        b'-'..=b'Z' | b'^'..=b'z' => Class::Other,
+        _ if opens(form, byte) => Class::Open,
+        _ if closes(form, byte) => Class::Close,
         _ => Class::Other,
     }
 }
 
-fn class_of(form: TextForm, c: char) -> Class
-    ensures { result ≡ class (form_of form) c }
+/// Whether the part that is null or absent stands here, and ends.
+pub fn is_nothing(form: TextForm, text: &str) -> bool
+    ensures { result ≡ stands (form_of form) (form_of form).nothing text.now }
 {
-    match c {
-        '"' => Class::Quote,
-        '\\' => Class::Backslash,
-        ',' => Class::Comma,
-        _ => bracket_class(form, c),
+    match (form, text.as_bytes()) {
+        (TextForm::Array, [b'N', b'U', b'L', b'L', b',' | b'}', ..]) => true,
+        (TextForm::Range, [b',' | b')' | b']', ..]) => true,
+        (TextForm::Record, [b',' | b')', ..]) => true,
+        _ => false,
     }
 }
 
-/// The value of a part: by whether anything was written, whether all of it was plain, and its text.
-fn part(form: TextForm, present: bool, bare: bool, text: String) -> Option<String>
-    ensures { part_bytes result ≡ (form_of form).value present bare (string_bytes text) }
+/// The next byte that isn't kept, with what is before and after it.
+#[derive(Clone, Copy, Drop)]
+pub struct Stop<'a> {
+    pub run: &'a str,
+    pub byte: u8,
+    pub cell: Cell,
+    pub rest: &'a str,
+}
+
+/// The next byte that isn't kept; `None` where there is none, and so no text of the form.
+pub fn next_stop(form: TextForm, place: Place, text: &str) -> Option<Stop<'_>>
+    ensures whole { MatchOption result (read (form_of form) place text.now ≡ None) (λ s. text.now ≡ s.run.now ++ s.byte ∷ s.rest.now) }
+    ensures read { MatchOption result (read (form_of form) place text.now ≡ None) (λ s. read (form_of form) place text.now ≡ grown s.run.now (read_by (form_of form) s.byte s.rest.now (λ q. read (form_of form) q s.rest.now) s.cell)) }
+    ensures stops { MatchOption result (read (form_of form) place text.now ≡ None) (λ s. stops s.cell ≡ true) }
 {
-    let is_null = match form {
-        TextForm::Array => bare && text.as_str() == "NULL",
-        TextForm::Record => !present,
-    };
-    if is_null { None } else { Some(text) }
-}
-
-/// A reading so far.
-#[derive(Drop)]
-struct Scanner {
-    form: TextForm,
-    place: Place,
-    /// Whether no part has ended yet.
-    first: bool,
-    /// Whether all of this part so far is plain.
-    bare: bool,
-    /// What this part means so far.
-    text: String,
-    /// The parts that have ended.
-    parts: Vec<Option<String>>,
-}
-
-impl Scanner {
-    fn new(alloc: Global, form: TextForm) -> Self
-        ensures state { state result ≡ at_first }
-        ensures form { result.form ≡ form }
-    {
-        Scanner {
-            form,
-            place: Place::Before,
-            first: true,
-            bare: true,
-            text: String::new(alloc),
-            parts: Vec::new(alloc),
+    let bytes = text.as_bytes();
+    let mut place = place;
+    for index in 0..bytes.len() {
+        let class = class_of(form, bytes[index]);
+        if class == Class::Other && (place == Place::Outside || place == Place::Quoted) {
+            continue;
+        }
+        let cell = cell_of(form, place, class);
+        match cell {
+            Cell::Keep(next) => place = next,
+            _ => {
+                return Some(Stop {
+                    run: &text[..index],
+                    byte: bytes[index],
+                    cell,
+                    rest: &text[index + 1..],
+                });
+            }
         }
     }
-
-    fn push(&mut self, place: Place, c: char) -> Result<(), AllocError>
-        ensures ok { IfOk result (λ _. state self.new ≡ pushed (state self.old) place c) }
-        ensures form { self.new.form ≡ self.old.form }
-    {
-        self.text.push(c)?;
-        self.place = place;
-        Ok(())
-    }
-
-    fn end_part(&mut self, alloc: Global, place: Place) -> Result<(), AllocError>
-        ensures ok { IfOk result (λ _. state self.new ≡ behind_part (form_of self.old.form) (state self.old) place) }
-        ensures form { self.new.form ≡ self.old.form }
-    {
-        let text = mem::replace(&mut self.text, String::new(alloc));
-        let present = self.place != Place::Start;
-        self.parts.push(part(self.form, present, self.bare, text))?;
-        self.first = false;
-        self.bare = true;
-        self.place = place;
-        Ok(())
-    }
-
-    /// Whether nothing at all stands between the brackets of a form where that is no part.
-    fn has_nothing(&self) -> bool
-        ensures { result ≡ has_nothing (form_of self.now.form) (state self.now) }
-    {
-        self.form == TextForm::Array && self.place == Place::Start && self.first
-    }
-
-    /// Takes a character of this class outside quotes, and says whether a text may go on so.
-    fn take_outside(&mut self, alloc: Global, class: Class, c: char) -> Result<bool, AllocError>
-        ensures ok { IfOk result (λ goes_on. outside (form_of self.old.form) (state self.old) c class ≡ cond goes_on (Some (state self.new)) None) }
-        ensures form { self.new.form ≡ self.old.form }
-    {
-        match class {
-            Class::Quote => {
-                self.place = Place::Quoted;
-                self.bare = false;
-            }
-            Class::Backslash => {
-                self.place = Place::BehindBackslash;
-                self.bare = false;
-            }
-            Class::Comma => self.end_part(alloc, Place::Start)?,
-            Class::Open => return Ok(false),
-            Class::Close if self.has_nothing() => self.place = Place::Ended,
-            Class::Close => self.end_part(alloc, Place::Ended)?,
-            Class::Other => self.push(Place::Outside, c)?,
-        }
-        Ok(true)
-    }
-
-    /// Takes the next character, and says whether a text may go on so.
-    fn take(&mut self, alloc: Global, c: char) -> Result<bool, AllocError>
-        ensures ok { IfOk result (λ goes_on. step (form_of self.old.form) (state self.old) c ≡ cond goes_on (Some (state self.new)) None) }
-        ensures form { self.new.form ≡ self.old.form }
-    {
-        let class = class_of(self.form, c);
-        match self.place {
-            Place::Before => {
-                if class != Class::Open {
-                    return Ok(false);
-                }
-                self.place = Place::Start;
-            }
-            Place::BehindQuote if class == Class::Quote && self.form != TextForm::Array => {
-                self.push(Place::Quoted, c)?;
-            }
-            Place::Start | Place::Outside | Place::BehindQuote => {
-                return self.take_outside(alloc, class, c);
-            }
-            Place::Quoted => match class {
-                Class::Quote => self.place = Place::BehindQuote,
-                Class::Backslash => self.place = Place::QuotedBackslash,
-                _ => self.push(Place::Quoted, c)?,
-            },
-            Place::BehindBackslash => self.push(Place::Outside, c)?,
-            Place::QuotedBackslash => self.push(Place::Quoted, c)?,
-            Place::Ended => return Ok(false),
-        }
-        Ok(true)
-    }
-}
-
-/// The parts of a text of a form; `None` where it is none.
-pub fn scanned(
-    alloc: Global,
-    form: TextForm,
-    text: &str,
-) -> Result<Option<Vec<Option<String>>>, AllocError>
-    ensures { IfOk result (λ found. option_map values_of found ≡ run (form_of form) at_first (chars text.now)) }
-{
-    let mut scanner = Scanner::new(alloc, form);
-    for c in text.chars() {
-        if !scanner.take(alloc, c)? {
-            return Ok(None);
-        }
-    }
-    match scanner.place {
-        Place::Ended => Ok(Some(scanner.parts)),
-        _ => Ok(None),
-    }
+    None
 }

@@ -71,6 +71,65 @@ fn record_text(rt: HostRuntime) -> Result<(), Fail> {
 }
 
 #[test]
+fn range_text(rt: HostRuntime) -> Result<(), Fail> {
+    let alloc = rt.alloc();
+    let rows = [
+        ("[\"a\",\"b\"]", "[a] [b] ", true, true),
+        ("[,b]", "null [b] ", true, true),
+        ("[\"\",)", "[] null ", true, false),
+        ("(,)", "null null ", false, false),
+        ("(1,2]", "[1] [2] ", false, true),
+        ("[\"a\"\"b\",)", "[a\"b] null ", true, false),
+        ("empty", "refused", false, false),
+        ("(a,b", "refused", false, false),
+        ("[1]", "refused", false, false),
+        ("[1,2,3]", "refused", false, false),
+        ("[1,2]x", "refused", false, false),
+        ("[\"a\"b\"c\",]", "[abc] null ", true, true),
+        ("[\"a\"b\"c\"\"\",é\\é)", "[abc\"] [éé] ", true, false),
+    ];
+    for (text, wanted, lower_included, upper_included) in rows {
+        let mut list = Vec::new(alloc);
+        let found = match range_parts(alloc, text)? {
+            None => None,
+            Some((lower, upper, lower_found, upper_found)) => {
+                assert_eq!(rt;
+                    (lower_found, upper_found),
+                    (lower_included, upper_included)
+                );
+                list.push(lower)?;
+                list.push(upper)?;
+                Some(list)
+            }
+        };
+        assert_eq!(rt; shown(alloc, found)?.as_str(), wanted);
+    }
+    Ok(())
+}
+
+#[test]
+fn parts(rt: HostRuntime) -> Result<(), Fail> {
+    let alloc = rt.alloc();
+    let mut text = String::new(alloc);
+    assert!(rt; Parts::new(TextForm::Array, "{{1}}").is_none());
+    if let Some(mut parts) = Parts::new(TextForm::Array, "{a\\,b,NULL,\"\\\"é\"}") {
+        let kept = parts;
+        assert_eq!(rt; (parts.len(), parts.includes()), (3, (false, false)));
+        assert_eq!(rt; parts.next_into(&mut text)?, Some(true));
+        assert_eq!(rt; text.as_str(), "a,b");
+        assert_eq!(rt; parts.next_into(&mut text)?, Some(false));
+        assert_eq!(rt; text.as_str(), "");
+        assert_eq!(rt; parts.next_into(&mut text)?, Some(true));
+        assert_eq!(rt; text.as_str(), "\"é");
+        assert_eq!(rt; parts.next_into(&mut text)?, None);
+        parts = kept;
+        assert_eq!(rt; parts.next_into(&mut text)?, Some(true));
+        assert_eq!(rt; text.as_str(), "a,b");
+    }
+    Ok(())
+}
+
+#[test]
 fn numbers(rt: HostRuntime) -> Result<(), Fail> {
     let rows = [
         ("+0007", Ok(7)),

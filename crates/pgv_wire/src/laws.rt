@@ -20,11 +20,11 @@ ghost use Rattle.pgv_codec.specs.Saying.{said};
 
 pub use pgv_codec::laws::{
     field_reads_back, nests_fit, oids_fit, plain_types_fit, read_back, record_fields_follow, rows,
-    tuple_is_its_fields, tuple_reads_back, written_as_read,
+    texts, tuple_is_its_fields, tuple_reads_back, written_as_read,
 };
 pub use pgv_nest::laws::{
     array_is_its_elements, few_elements, field_is_its_value, field_type_is_found, one_array,
-    one_field, record_begins,
+    one_field, record_begins, record_text_begins, text_field_is_its_value,
 };
 
 use crate::arguments::PgArguments;

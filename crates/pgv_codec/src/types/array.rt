@@ -1,13 +1,12 @@
 //! Arrays of one dimension (PostgreSQL, "Arrays").
 
-ghost use Rattle.std.specs.Prelude.{◌≡◌, ◌++◌, IfOk, IfErr, OnOk, OnErr, ◌*◌, ◌≤◌, length, map, Some, None, IfSome, IsErrOf, option_map};
-ghost use Rattle.pgv_text.specs.Values.{part_bytes};
+ghost use Rattle.std.specs.Prelude.{◌≡◌, ◌++◌, IfOk, IfErr, OnOk, OnErr, ◌*◌, ◌≤◌, length, map, Some, None, IfSome, IsErrOf};
+ghost use Rattle.pgv_text.specs.Left.{nest};
 ghost use Rattle.pgv_buf.specs.Tokens.{blank};
 ghost use Rattle.pgv_value.specs.Reading.{Answers};
 ghost use Rattle.pgv_value.specs.declared.error.CodecError.TheVariants.{Memory, UnexpectedNull};
 ghost use Rattle.pgv_value.specs.declared.value.PgValueFormat.TheVariants.{Binary, Text};
-ghost use Rattle.pgv_nest.specs.Arrays.{array, array_in_text, array_of, each, element_type, frames, head, one_dimension};
-ghost use Rattle.pgv_nest.specs.Heads.{head_shown};
+ghost use Rattle.pgv_nest.specs.Arrays.{array, array_in_text, array_of, each, frames};
 ghost use Rattle.pgv_codec.specs.Image.{array_image, or_else, header, frames as written_frames, element_type as written_element_type};
 ghost use Rattle.pgv_codec.specs.Outcome.{Encoded, Refused, Appended, AppendedAll};
 
@@ -15,8 +14,8 @@ use super::part::read_part;
 use crate::buffer::{IsNull, PgArgumentBuffer};
 use crate::traits::{Codec, Decode, Encode, PgHasArrayType, ReadBack, Type};
 use pgv_nest::array_head_of;
-use pgv_text::array_elements;
-use pgv_types::{Oid, PgTypeInfo, PgTypeRef};
+use pgv_text::{Parts, TextForm};
+use pgv_types::PgTypeInfo;
 use pgv_value::{CodecError, PgValueFormat, PgValueRef};
 use std::alloc::{AllocError, Global};
 
@@ -264,22 +263,21 @@ fn read_frames<T: Decode>(
 fn read_text<T: Decode + Type>(alloc: Global, text: &str) -> Result<Vec<T>, CodecError>
     ensures { Answers (λ v. map T.meaning v.items) (array_in_text (T.reading T.info Text) text.now) result }
 {
-    match array_elements(alloc, text)? {
+    match Parts::new(TextForm::Array, text) {
         None => Err(CodecError::Syntax),
-        Some(parts) => read_parts(alloc, parts.as_slice()),
+        Some(parts) => read_parts(alloc, parts),
     }
 }
 
-/// Texts, each read under the own type of `T`.
-fn read_parts<T: Decode + Type>(
-    alloc: Global,
-    parts: &[Option<String>],
-) -> Result<Vec<T>, CodecError>
-    ensures { Answers (λ v. map T.meaning v.items) (each (T.reading T.info Text) (map part_bytes parts.now)) result }
+/// Parts, each read from one text under the own type of `T`.
+fn read_parts<T: Decode + Type>(alloc: Global, parts: Parts<'_>) -> Result<Vec<T>, CodecError>
+    ensures { Answers (λ v. map T.meaning v.items) (each (T.reading T.info Text) (nest parts.entry).values) result }
 {
+    let mut parts = parts;
     let mut items = Vec::with_capacity(alloc, parts.len())?;
-    for part in parts {
-        items.push(read_part(alloc, T::type_info(), part)?)?;
+    let mut text = String::new(alloc);
+    while let Some(present) = parts.next_into(&mut text)? {
+        items.push(read_part(alloc, T::type_info(), present, text.as_str())?)?;
     }
     Ok(items)
 }

@@ -1,15 +1,15 @@
 //! Records: composite types, field by field.
 
-ghost use Rattle.std.specs.Prelude.{IfErr, OnOk, OnErr, ◌≡◌, ◌+◌, ◌<◌, length, slice_get, Some, None, IfOk, IsErrOf, option_map};
-ghost use Rattle.pgv_types.specs.Facts.{oid_of};
-ghost use Rattle.pgv_text.specs.Values.{record_values, values_of};
+ghost use Rattle.std.specs.Prelude.{IfErr, OnOk, OnErr, ◌≡◌, ◌+◌, ◌<◌, length, None, IfOk, IsErrOf};
+ghost use Rattle.pgv_text.specs.Left.{nest};
+ghost use Rattle.pgv_text.specs.Values.{record_values};
 ghost use Rattle.pgv_value.specs.Reading.{Answers};
 ghost use Rattle.pgv_value.specs.declared.error.CodecError.TheVariants.{UnexpectedNull};
 ghost use Rattle.pgv_codec.specs.Image.{field};
 ghost use Rattle.pgv_codec.specs.Left.{left_of, IsInPlace};
 ghost use Rattle.pgv_codec.specs.Outcome.{Refused, Appended, AppendedAll};
 ghost use Rattle.pgv_codec.specs.Record.{IsOpen};
-ghost use Rattle.pgv_nest.specs.Records.{by_own_oid, field_head, field_in, field_type, fields_of, if_oid, is_oid, next, Takes};
+ghost use Rattle.pgv_nest.specs.Records.{field_in, fields_of, next, Takes};
 
 use super::part::read_part;
 use crate::buffer::PgArgumentBuffer;
@@ -17,12 +17,11 @@ use crate::traits::{Decode, Encode, Type};
 use crate::types::array::type_of_value;
 use pgv_buf::Mark;
 use pgv_nest::{field_head_of, u32_in_front};
-use pgv_text::record_fields;
-use pgv_types::{Oid, PgType, PgTypeInfo, PgTypeKindRef};
+use pgv_text::{Parts, TextForm};
+use pgv_types::{Oid, PgTypeInfo};
 use pgv_value::{CodecError, PgValueFormat, PgValueRef};
 use std::alloc::Global;
 use std::marker::Model;
-use std::rc::RcStr;
 
 /// Writes a record field by field, at the end of a buffer.
 #[derive(Drop)]
@@ -130,7 +129,7 @@ impl<'r> Model for PgRecordDecoder<'r> {
 #[derive(Drop)]
 enum FieldsLeft<'r> {
     Binary(BinaryFields<'r>),
-    Text(TextFields),
+    Text(TextFields<'r>),
 }
 
 /// The record's type, the place of the next field, and the bytes from it on.
@@ -141,11 +140,12 @@ struct BinaryFields<'r> {
     rest: &'r [u8],
 }
 
-/// The texts of all fields, and the place of the next.
+/// The fields of a text that are left, how many it has in all, and the text that each is read from.
 #[derive(Drop)]
-struct TextFields {
-    parts: Vec<Option<String>>,
-    place: usize,
+struct TextFields<'r> {
+    parts: Parts<'r>,
+    count: usize,
+    text: String,
 }
 
 impl<'r> PgRecordDecoder<'r> {
@@ -191,11 +191,17 @@ impl<'r> PgRecordDecoder<'r> {
                 Ok(value)
             }
             FieldsLeft::Text(fields) => {
-                let Some(part) = fields.parts.get(fields.place) else {
-                    return Err(CodecError::NoField(fields.place));
+                let mut parts = fields.parts;
+                let Some(present) = parts.next_into(&mut fields.text)? else {
+                    return Err(CodecError::NoField(fields.count));
                 };
-                let value = read_part::<T>(self.alloc, PgTypeInfo::with_oid(Oid(0)), part)?;
-                fields.place += 1;
+                let value = read_part::<T>(
+                    self.alloc,
+                    PgTypeInfo::with_oid(Oid(0)),
+                    present,
+                    fields.text.as_str(),
+                )?;
+                fields.parts = parts;
                 Ok(value)
             }
         }
@@ -203,13 +209,16 @@ impl<'r> PgRecordDecoder<'r> {
 }
 
 /// The fields of a record text.
-fn text_fields_of(alloc: Global, text: &str) -> Result<TextFields, CodecError>
-    ensures exact { Answers (λ fields. values_of fields.parts) (record_values text.now) result }
-    ensures first { IfOk result (λ fields. fields.place ≡ 0) }
+fn text_fields_of(alloc: Global, text: &str) -> Result<TextFields<'_>, CodecError>
+    ensures { Answers (λ fields. (nest fields.parts).values) (record_values text.now) result }
 {
-    match record_fields(alloc, text)? {
+    match Parts::new(TextForm::Record, text) {
         None => Err(CodecError::Syntax),
-        Some(parts) => Ok(TextFields { parts, place: 0 }),
+        Some(parts) => Ok(TextFields {
+            parts,
+            count: parts.len(),
+            text: String::new(alloc),
+        }),
     }
 }
 

@@ -1,12 +1,5 @@
-use Rattle.std.specs.Str.{chars}
-use Rattle.pgv_text.specs.Arrays.{array_form, IsArrayText}
-use Rattle.pgv_text.specs.Values.{values_of}
-use Rattle.pgv_text.proofs.Answered.{found_in, none_in}
-use Rattle.pgv_text.proofs.ArrayTexts.{array_means}
+use Rattle.std.proofs.Common.{false}
 use Rattle.pgv_text.proofs.nest.array_elements.Goals as goal
 
-pub returns-clause-found : goal.returns-clause-found
-returns-clause-found c = found_in array_form IsArrayText array_means values_of (chars c.args.text.now) c.scanned.result c.scanned.ensures
-
-pub returns-clause-none : goal.returns-clause-none
-returns-clause-none c = none_in array_form IsArrayText array_means values_of (chars c.args.text.now) c.scanned.result c.scanned.ensures
+pub returns-in-None-clause-none : goal.returns-in-None-clause-none
+returns-in-None-clause-none c = λ values. c.in-None.ensures.none (record { values = values; lower = false; upper = false })

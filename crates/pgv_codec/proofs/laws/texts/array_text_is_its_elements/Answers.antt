@@ -1,0 +1,8 @@
+use Rattle.pgv_nest.proofs.TextGrammars.{array_text, sized_text}
+use Rattle.pgv_codec.proofs.laws.texts.array_text_is_its_elements.Goals as goal
+
+pub returns : goal.returns
+returns g c = record {
+  list = array_text c.array_is_its_values.ensures g.T.Type.info g.T.Decode.reading;
+  array = sized_text c.array_is_its_values.ensures g.T.Type.info g.T.Decode.reading _;
+}

@@ -1,0 +1,67 @@
+-- Arrays and records in text, as what their characters are and not as how they are read (PostgreSQL: "Array Input and
+-- Output Syntax", 8.15.6; "Composite Type Input and Output Syntax", 8.16.6).
+use Rattle.std.specs.Prelude.{◌≡◌, ◌↔◌, ℕ, Bool, true, List, ◌∷◌, length, Option, Some}
+use Rattle.std.specs.Str.{chars}
+use Rattle.pgv_types.specs.Ty.{Ty, by_oid}
+use Rattle.pgv_text.specs.Arrays.{IsArrayText}
+use Rattle.pgv_text.specs.Pieces.{Pairwise}
+use Rattle.pgv_text.specs.Records.{IsRecordText}
+use Rattle.pgv_value.specs.Frame.{Part}
+use Rattle.pgv_value.specs.Reading.{Reading}
+use Rattle.pgv_value.specs.Utf8.{is_utf8}
+use Rattle.pgv_value.specs.declared.value.PgValueFormat.TheVariants.{Text}
+use Rattle.pgv_nest.specs.Records.{Left, text_fields, next, fields_of}
+
+-- ---- arrays
+
+-- The bytes are UTF-8, their characters an array text, and its elements are read as these values.
+pub record IsArrayInText {M : Type 0} (read : Part → Option M) (bytes : List ℕ) (ms : List M) : Type 0 where
+  pub elements : List Part
+  pub utf8 : is_utf8 bytes ≡ true
+  pub whole : IsArrayText (chars bytes) elements
+  pub each : Pairwise (λ part m. read part ≡ Some m) elements ms
+
+-- an array of so many elements
+abbrev pub IsSizedInText : {M : Type 0} → ℕ → (Part → Option M) → List ℕ → List M → Type 0
+IsSizedInText n read bytes ms = IsArrayInText read bytes ms × (length ms ≡ n)
+
+-- ---- records
+
+-- Fields one after the other: these parts have this meaning, and these are the rest.
+abbrev pub TextStretch : Type 0 → Type 1
+TextStretch M = List Part → M → List Part → Type 0
+
+-- One field: the first part has the meaning, under no type.
+abbrev pub IsTextField : {M : Type 0} → Reading M → TextStretch M
+IsTextField reading parts m rest = (part : Part) × (parts ≡ part ∷ rest) × (reading (by_oid 0) Text part ≡ Some m)
+
+-- one field, and further ones after it
+infixr 12 ◌before◌
+abbrev pub ◌before◌ : {A B : Type 0} → TextStretch A → TextStretch B → TextStretch (A × B)
+(one before further) parts m rest = (between : List Part) × one parts m.0 between × further between m.1 rest
+
+-- The bytes are UTF-8, their characters a record text, and its first fields have this meaning.
+pub record IsRecordInText {M : Type 0} (fields : TextStretch M) (bytes : List ℕ) (m : M) : Type 0 where
+  pub parts : List Part
+  pub rest : List Part
+  pub utf8 : is_utf8 bytes ≡ true
+  pub whole : IsRecordText (chars bytes) parts
+  pub read : fields parts m rest
+
+-- ---- what is computed is what the text is
+
+-- what is read of bytes in text, under any type, is what they are
+abbrev pub TextIs : {M : Type 0} → Reading M → (List ℕ → M → Type 0) → Type 0
+TextIs {M} reading Is = (t : Ty) (bytes : List ℕ) (m : M) → (reading t Text (Some bytes) ≡ Some m) ↔ Is bytes m
+
+-- The fields that are left of a record text at its beginning are all of them.
+abbrev pub RecordTextBegins : Type 0
+RecordTextBegins =
+    (t : Ty) (bytes : List ℕ) (left : Left) →
+    (fields_of t Text (Some bytes) ≡ Some left) ↔ ((parts : List Part) × (left ≡ text_fields parts) × (is_utf8 bytes ≡ true) × IsRecordText (chars bytes) parts)
+
+-- The next field is the first part, and the others are left.
+abbrev pub TextFieldIsItsValue : {M : Type 0} → (Ty → Bool) → Reading M → Type 0
+TextFieldIsItsValue {M} accepts reading =
+    (parts : List Part) (m : M) (left : Left) →
+    (next accepts reading (text_fields parts) ≡ Some (m, left)) ↔ ((rest : List Part) × (left ≡ text_fields rest) × IsTextField reading parts m rest)

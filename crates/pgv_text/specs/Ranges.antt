@@ -1,0 +1,12 @@
+-- The text of a range (PostgreSQL: "Range Types", 8.17.5).
+use Rattle.std.specs.Prelude.{ℕ, Bool, true, ◌==◌, ◌||◌, List, [], ◌∷◌, Option}
+use Rattle.pgv_text.specs.Pieces.{Form, two, IsNestText}
+
+-- `[` or `(`, and `]` or `)`; a part without pieces is unbounded.
+abbrev pub range_form : Form
+range_form = record { opens = λ c. c == 40 || c == 91; closes = λ c. c == 41 || c == 93; doubles = true; nothing = []; count = two }
+
+-- These characters are a range of these bounds, each included or not by its bracket.
+abbrev pub IsRangeText : List ℕ → Option (List ℕ) → Option (List ℕ) → Bool → Bool → Type 0
+IsRangeText text lower upper lower_included upper_included =
+    IsNestText range_form text record { values = lower ∷ upper ∷ []; lower = lower_included; upper = upper_included }

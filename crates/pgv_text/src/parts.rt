@@ -1,0 +1,174 @@
+//! The parts of a text, one by one.
+
+ghost use Rattle.std.specs.Prelude.{◌≡◌, ◌+◌, ◌∷◌, [], ℕ, List, Option, Some, None, IfOk, IfSome, IfNone, OnErr, cond, string_bytes, false, true, length};
+ghost use Rattle.std.specs.Option.{MatchOption, option_map};
+ghost use Rattle.std.specs.Str.{chars};
+ghost use Rattle.pgv_text.specs.Forms.{form_of};
+ghost use Rattle.pgv_text.specs.Scan.{nest_read, numbered, read};
+ghost use Rattle.pgv_text.specs.Pieces.{Nest, IsNestText};
+ghost use Rattle.pgv_text.specs.Parsed.{nest_of};
+ghost use Rattle.pgv_text.specs.Values.{part_bytes, values_of};
+ghost use Rattle.pgv_text.specs.View.{values_left};
+ghost use Rattle.pgv_text.specs.declared.scanner.Place.TheVariants.{Start};
+
+use super::scanner::{Cell, Place, TextForm, closes, is_nothing, next_stop, opens};
+use std::alloc::{AllocError, Global};
+
+/// The opening bracket, and what is after it; `None` where there is none.
+fn after_opening(form: TextForm, text: &str) -> Option<(u8, &str)>
+    ensures { MatchOption result (nest_read (form_of form) text.now ≡ None) (λ p. (text.now ≡ p.0 ∷ p.1.now) × ((form_of form).opens p.0 ≡ true)) }
+{
+    match text.as_bytes() {
+        [opening, ..] if opens(form, *opening) => Some((*opening, &text[1..])),
+        _ => None,
+    }
+}
+
+/// How many parts there are to the closing bracket, and which bracket it is; `None` where the rest isn't in the form.
+fn part_count(form: TextForm, text: &str) -> Option<(usize, u8)>
+    ensures { result ≡ numbered 1 (read (form_of form) Start text.now) }
+{
+    let mut count = 1;
+    let mut place = Place::Start;
+    let mut left = text;
+    while let Some(stop) = next_stop(form, place, left) {
+        left = stop.rest;
+        match stop.cell {
+            Cell::Pass(next) => place = next,
+            Cell::Part => {
+                place = Place::Start;
+                count += 1;
+            }
+            Cell::End if left.is_empty() => return Some((count, stop.byte)),
+            _ => return None,
+        }
+    }
+    None
+}
+
+/// The parts of a text that are still to come. It takes no memory of its own.
+#[derive(Clone, Copy, Drop)]
+pub struct Parts<'a> {
+    form: TextForm,
+    lower_included: bool,
+    upper_included: bool,
+    /// How many parts are to come.
+    count: usize,
+    /// These parts and the closing bracket; empty after the last part.
+    rest: &'a str,
+    ghost counted: { count ≡ length (values_left form rest.now) },
+}
+
+impl<'a> Parts<'a> {
+    ghost use Rattle.pgv_text.specs.Left.{nest};
+
+    /// The parts of a text; `None` where it isn't in the form.
+    pub fn new(form: TextForm, text: &'a str) -> Option<Self>
+        // The parts to come and the brackets are what the text is of.
+        ensures found { IfSome result (λ p. IsNestText (form_of form) (chars text.now) (nest p)) }
+        // Where there are none, the text is not in the form.
+        ensures none { IfNone result ((other : Nest) → IsNestText (form_of form) (chars text.now) other → ⊥) }
+        // The same, computed.
+        ensures computed { option_map nest result ≡ nest_of (form_of form) (chars text.now) }
+    {
+        Parts::begun(form, text)
+    }
+
+    /// The same, said of the bytes.
+    fn begun(form: TextForm, text: &'a str) -> Option<Self>
+        ensures { option_map nest result ≡ nest_read (form_of form) text.now }
+    {
+        let (opening, rest) = after_opening(form, text)?;
+        let (count, closing) = part_count(form, rest)?;
+        let (count, rest) = match form {
+            TextForm::Array if closes(form, *rest.as_bytes().first()?) => (0, ""),
+            TextForm::Range if count != 2 => return None,
+            _ => (count, rest),
+        };
+        Some(Parts {
+            form,
+            lower_included: opening == b'[',
+            upper_included: closing == b']',
+            count,
+            rest,
+        })
+    }
+
+    /// Whether the lower and the upper bracket include the bound: no but for ranges with square ones.
+    pub fn includes(&self) -> (bool, bool)
+        ensures { result ≡ ((nest self.now).lower, (nest self.now).upper) }
+    {
+        (self.lower_included, self.upper_included)
+    }
+
+    /// How many parts are still to come.
+    pub fn len(&self) -> usize
+        ensures { result ≡ length (nest self.now).values }
+    {
+        self.count
+    }
+
+    /// Puts the next part into a text, and says whether it is present: one that is null or absent
+    /// leaves the text empty. `None` after the last part.
+    pub fn next_into(&mut self, text: &mut String) -> Result<Option<bool>, AllocError>
+        ensures next { IfOk result (λ found. MatchOption found
+            (((nest self.old).values ≡ []) × (self.new ≡ self.old) × (string_bytes text.new ≡ []))
+            (λ present. ((nest self.old).values ≡ cond present (Some (string_bytes text.new)) None ∷ (nest self.new).values) × (present ≡ false → string_bytes text.new ≡ []))) }
+        ensures err { OnErr result ((self.new ≡ self.old) × (string_bytes text.new ≡ [])) }
+        ensures lower { (nest self.new).lower ≡ (nest self.old).lower }
+        ensures upper { (nest self.new).upper ≡ (nest self.old).upper }
+    {
+        text.clear();
+        if self.count == 0 {
+            return Ok(None);
+        }
+        let present = !is_nothing(self.form, self.rest);
+        let mut place = Place::Start;
+        let mut left = self.rest;
+        while let Some(stop) = next_stop(self.form, place, left) {
+            if let Err(error) = text.push_str(stop.run) {
+                text.clear();
+                return Err(error);
+            }
+            left = stop.rest;
+            match stop.cell {
+                Cell::Pass(next) => place = next,
+                _ => {
+                    if !present {
+                        text.clear();
+                    }
+                    self.count -= 1;
+                    self.rest = left;
+                    return Ok(Some(present));
+                }
+            }
+        }
+        Ok(None)
+    }
+
+    /// The next part, in a text of its own.
+    pub fn next_part(&mut self, alloc: Global) -> Result<Option<Option<String>>, AllocError>
+        ensures next { IfOk result (λ found. MatchOption found (((nest self.old).values ≡ []) × (self.new ≡ self.old)) (λ part. (nest self.old).values ≡ part_bytes part ∷ (nest self.new).values)) }
+        ensures lower { (nest self.new).lower ≡ (nest self.old).lower }
+        ensures upper { (nest self.new).upper ≡ (nest self.old).upper }
+    {
+        let mut text = String::new(alloc);
+        match self.next_into(&mut text)? {
+            None => Ok(None),
+            Some(true) => Ok(Some(Some(text))),
+            Some(false) => Ok(Some(None)),
+        }
+    }
+
+    /// All parts that are still to come.
+    pub fn list(self, alloc: Global) -> Result<Vec<Option<String>>, AllocError>
+        ensures { IfOk result (λ v. values_of v ≡ (nest self.entry).values) }
+    {
+        let mut parts = self;
+        let mut list = Vec::with_capacity(alloc, self.len())?;
+        while let Some(part) = parts.next_part(alloc)? {
+            list.push(part)?;
+        }
+        Ok(list)
+    }
+}
