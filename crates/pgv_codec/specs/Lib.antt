@@ -17,3 +17,4 @@ pub mod BackNests
 pub mod BackScalars
 pub mod BackRecords
 pub mod Plain
+pub mod RecordCalls

@@ -9,6 +9,7 @@ ghost use Rattle.pgv_nest.specs.Grammar.{RecordIsItsFields, IsField, ◌and◌};
 ghost use Rattle.pgv_codec.specs.Back.{AreOids, ReadsBack, FieldFits, FieldsFit, FieldReadsBack, RecordFieldsFollow, RecordReadsBack};
 ghost use Rattle.pgv_codec.specs.Image.{field};
 ghost use Rattle.pgv_codec.specs.Plain.{ArrayIsPlain, FieldIsPlain};
+ghost use Rattle.pgv_codec.specs.RecordCalls.{RecordIsItsAccepted};
 ghost use Rattle.pgv_codec.specs.Saying.{said};
 
 pub mod rows;
@@ -37,6 +38,13 @@ pub fn tuple_is_its_fields<
     ensures seven { RecordIsItsFields ⟦<(A, B, C, D, E, F, G) as Decode>⟧.reading (IsField A.accepts A.reading and IsField B.accepts B.reading and IsField C.accepts C.reading and IsField D.accepts D.reading and IsField E.accepts E.reading and IsField F.accepts F.reading and IsField G.accepts G.reading) }
     ensures eight { RecordIsItsFields ⟦<(A, B, C, D, E, F, G, H) as Decode>⟧.reading (IsField A.accepts A.reading and IsField B.accepts B.reading and IsField C.accepts C.reading and IsField D.accepts D.reading and IsField E.accepts E.reading and IsField F.accepts F.reading and IsField G.accepts G.reading and IsField H.accepts H.reading) }
     ensures nine { RecordIsItsFields ⟦<(A, B, C, D, E, F, G, H, I) as Decode>⟧.reading (IsField A.accepts A.reading and IsField B.accepts B.reading and IsField C.accepts C.reading and IsField D.accepts D.reading and IsField E.accepts E.reading and IsField F.accepts F.reading and IsField G.accepts G.reading and IsField H.accepts H.reading and IsField I.accepts I.reading) }
+{}
+
+/// Whatever a record encoder accepted and refused, in any order, and then was given `finish`: the buffer is what stood before
+/// [`PgRecordEncoder::new`](crate::PgRecordEncoder::new), and after it the record of the accepted fields.
+#[tactic(auto, using(crate::specs::RecordCalls::record_is_its_accepted))]
+pub fn record_is_its_accepted_fields()
+    ensures { RecordIsItsAccepted }
 {}
 
 /// What is written of a value is read back, in binary by its own type, as what it keeps: for every parameter type, or none

@@ -19,7 +19,7 @@ ghost use Rattle.pgv_wire.specs.Parts.{ReadAs, AreFrames, AllRead, parts_in, wri
 ghost use Rattle.pgv_codec.specs.Saying.{said};
 
 pub use pgv_codec::laws::{
-    field_reads_back, nests_fit, oids_fit, plain_types_fit, read_back, record_fields_follow, rows,
+    field_reads_back, nests_fit, oids_fit, plain_types_fit, read_back, record_fields_follow, record_is_its_accepted_fields, rows,
     texts, tuple_is_its_fields, tuple_reads_back, written_as_read,
 };
 pub use pgv_nest::laws::{

@@ -1,6 +1,6 @@
 //! Records: composite types, field by field.
 
-ghost use Rattle.std.specs.Prelude.{IfErr, OnOk, OnErr, ◌≡◌, ◌+◌, ◌<◌, length, None, IfOk, IsErrOf};
+ghost use Rattle.std.specs.Prelude.{IfErr, OnOk, OnErr, ◌≡◌, ◌≢◌, ◌+◌, ◌<◌, length, None, IfOk, IsErrOf};
 ghost use Rattle.pgv_text.specs.Left.{nest};
 ghost use Rattle.pgv_text.specs.Values.{record_values};
 ghost use Rattle.pgv_value.specs.Reading.{Answers};
@@ -150,10 +150,11 @@ struct TextFields<'r> {
 
 impl<'r> PgRecordDecoder<'r> {
     /// The fields of a record. In binary the number of fields is passed over (C15 where it isn't there); a text is
-    /// read whole (C14 where it is not UTF-8, C29 where it is no record text). Null is refused with C13.
+    /// read whole (C14 where it is not UTF-8, C29 where it is no record text). Null is refused with C13, and nothing else is.
     pub fn new(alloc: Global, value: PgValueRef<'r>) -> Result<Self, CodecError>
         ensures exact { Answers (λ d. d) (fields_of value.entry.type_info value.entry.format value.entry.bytes) result }
         ensures null { value.entry.bytes ≡ None → IsErrOf result UnexpectedNull }
+        ensures present { value.entry.bytes ≢ None → IfErr result (λ e. e ≢ UnexpectedNull) }
     {
         let left = match value.format() {
             PgValueFormat::Text => FieldsLeft::Text(text_fields_of(alloc, value.as_str()?)?),
@@ -210,7 +211,8 @@ impl<'r> PgRecordDecoder<'r> {
 
 /// The fields of a record text.
 fn text_fields_of(alloc: Global, text: &str) -> Result<TextFields<'_>, CodecError>
-    ensures { Answers (λ fields. (nest fields.parts).values) (record_values text.now) result }
+    ensures exact { Answers (λ fields. (nest fields.parts).values) (record_values text.now) result }
+    ensures present { IfErr result (λ e. e ≢ UnexpectedNull) }
 {
     match Parts::new(TextForm::Record, text) {
         None => Err(CodecError::Syntax),
