@@ -101,8 +101,13 @@ fn nulls(rt: HostRuntime) -> Result<(), CodecError> {
 #[test]
 fn arrays_in_binary(rt: HostRuntime) -> Result<(), AllocError> {
     let alloc = rt.alloc();
-    let rows: [(&[u8], &str); 8] = [
+    let rows: [(&[u8], &str); 9] = [
         (b"\0\0\0\0\xff", "Ok([])"),
+        // The number of elements comes before the lower bound.
+        (
+            b"\0\0\0\x01\0\0\0\0\0\0\0\x17\xff\xff\xff\xff\0\0\0\0",
+            "Err(NegativeLength(-1))",
+        ),
         (b"\0\0\0\x02", "Err(Dimensions(2))"),
         (b"\0\0\0\x01\0\0\0\0\0\0\0\x17\0\0\0\0\0\0\0\x01", "Ok([])"),
         (
@@ -222,6 +227,35 @@ fn records_in_binary(rt: HostRuntime) -> Result<(), AllocError> {
         binary::<(i32, String, i32)>(alloc, record(), ONE_AND_A)?.as_str(),
         "Err(NoField(2))"
     );
+    Ok(())
+}
+
+/// Where several refusals would be right, the first in the order of the bytes is answered.
+#[test]
+fn first_refusals(rt: HostRuntime) -> Result<(), AllocError> {
+    let alloc = rt.alloc();
+    let record = || PgTypeInfo(PgType::Record);
+    // A field of another type, whose frame is cut short.
+    let cut = b"\0\0\0\x01\0\0\0\x17\0\0\0\x04\0";
+    assert_eq!(rt;
+        binary::<(String,)>(alloc, record(), cut)?.as_str(),
+        "Err(MismatchedTypes)"
+    );
+    // A third field under a composite type of two, with bytes of its own.
+    let third = b"\0\0\0\x03\0\0\0\x17\0\0\0\x04\0\0\0\x01\0\0\0\x19\0\0\0\x01a\0\0\0\x17\0\0\0\x04\0\0\0\x02";
+    assert_eq!(rt;
+        binary::<(i32, String, i32)>(alloc, pair(alloc, PgType::Int4, PgType::Text)?, third)?
+            .as_str(),
+        "Err(NoField(2))"
+    );
+    // An array of a count past its bytes, read as arrays of 64.
+    let short = b"\0\0\0\x01\0\0\0\0\0\0\0\x19\x7f\xff\xff\xff\0\0\0\x01";
+    assert_eq!(rt;
+        binary::<Vec<[Option<String>; 64]>>(alloc, PgTypeInfo(PgType::TextArray), short)?.as_str(),
+        "Err(Short)"
+    );
+    let bytes = PgValueRef::new(Some(b"(\xff)"), record(), PgValueFormat::Text);
+    assert!(rt; matches!(<(String,)>::decode(alloc, bytes), Err(CodecError::Utf8)));
     Ok(())
 }
 

@@ -292,6 +292,16 @@ fn refused_fields_and_cleared_buffers(rt: HostRuntime) -> Result<(), CodecError>
 }
 
 #[test]
+fn a_huge_hint_is_refused_first(rt: HostRuntime) -> Result<(), CodecError> {
+    let alloc = rt.alloc();
+    let mut out = PgArgumentBuffer::new(alloc);
+    let refused = out.encode(&Huge);
+    assert!(rt; matches!(refused, Err(CodecError::ValueSize(2147483648))));
+    assert_eq!(rt; out.len(), 0);
+    Ok(())
+}
+
+#[test]
 fn frames_are_read_in_turn(rt: HostRuntime) -> Result<(), CodecError> {
     let alloc = rt.alloc();
     let mut arguments = PgArguments::new(alloc);

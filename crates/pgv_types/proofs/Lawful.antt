@@ -76,16 +76,16 @@ exactly-sym a b = related_sym false (levels a) (levels b)
 
 -- ---- not transitive: OID 1 and OID 2 are both softly the same as any name
 
-pub softly-breaks : ¬ ((a b c : Ty) → softly a b ≡ true → softly b c ≡ true → softly a c ≡ true)
-softly-breaks h = false≢true (h (by_oid 1) (named []) (by_oid 2) refl refl)
+pub softly-breaks : (softly (by_oid 1) (named (codes "foo")) ≡ true) × (softly (named (codes "foo")) (by_oid 2) ≡ true) × (softly (by_oid 1) (by_oid 2) ≡ false)
+softly-breaks = (refl, refl, refl)
 
 -- and a custom type that is named as a built-in one is no less that name than it
 
 abbrev int4 : List ℕ
 int4 = codes "int4"
 
-pub exactly-breaks : ¬ ((a b c : Ty) → exactly a b ≡ true → exactly b c ≡ true → exactly a c ≡ true)
-exactly-breaks h = false≢true (h (builtin 23) (named int4) (custom 99 int4 simple) (agree-refl int4) (agree-refl int4))
+pub exactly-breaks : (exactly (builtin 23) (named int4) ≡ true) × (exactly (named int4) (custom 99 int4 simple) ≡ true) × (exactly (builtin 23) (custom 99 int4 simple) ≡ false)
+exactly-breaks = (agree-refl int4, agree-refl int4, refl)
 
 -- ---- declared by OID
 

@@ -13,3 +13,4 @@ pub mod Copies
 pub mod Arrays
 pub mod Fits
 pub mod Lawful
+mod Printing

@@ -277,6 +277,8 @@ impl Display for PgTypeName<'_> {
 
     ghost output = { λ n. Some (whole n) };
 
+    ghost styled_output = { λ n _. Some (whole n) };
+
     fn fmt<W: Write>(&self, f: &mut Formatter<W>) -> Result {
         f.write_str(self.text)?;
         f.write_str(suffix(self.brackets))

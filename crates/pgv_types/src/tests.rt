@@ -94,6 +94,10 @@ fn printed(rt: HostRuntime) -> Result<(), Fail> {
     let a = rt.alloc();
     let int4 = PgTypeInfo(PgType::Int4);
     let array = PgTypeInfo(PgType::CharArray);
+    // Padding counts characters, and a name alone is never padded.
+    let declared = PgTypeInfo::with_name("é");
+    let text = format!(in a; "{declared:>4}|{:8}|", int4.name())?;
+    assert_eq!(rt; text.as_str(), "   é|INT4|");
     let text = format!(in a; "{int4:>8}|{int4:<6}|{int4:*^7}|{int4:.3}|{int4:>5.3}|{int4:2}")?;
     assert_eq!(rt; text.as_str(), "    INT4|INT4  |*INT4**|INT|  INT|INT4");
     let text = format!(in a;
