@@ -55,10 +55,10 @@ fn slots_are_filled_by_their_argument(rt: HostRuntime) -> Result<(), AllocError>
 fn what_was_appended_is_taken_off_again(rt: HostRuntime) -> Result<(), AllocError> {
     let mut tokens = Tokens::new(rt.alloc());
     tokens.extend_from_slice(&[1, 2])?;
-    let behind = tokens.mark();
+    let before = tokens.mark();
     tokens.push_hole(PgTypeInfo::with_name("mood"))?;
     tokens.push(1)?;
-    tokens.back(behind);
+    tokens.back(before);
     assert_eq!(rt; tokens.hole_types().len(), 0);
     assert_eq!(rt; tokens.as_slice(), [1, 2].as_slice());
     Ok(())
