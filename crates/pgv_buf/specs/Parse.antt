@@ -23,12 +23,6 @@ pub width-append : (a c : List Cell) → width (a ++ c) ≡ width a + width c
 width-append [] c = omega arith
 width-append (t ∷ a) c = omega (arith, width-append a c)
 
-pub hole_types_of-append : (a c : List Cell) → hole_types_of (a ++ c) ≡ hole_types_of a ++ hole_types_of c
-hole_types_of-append [] c = refl
-hole_types_of-append (fixed x ∷ a) c = hole_types_of-append a c
-hole_types_of-append (hole_cell t s ∷ a) c = ap (λ r. t ∷ r) (hole_types_of-append a c)
-hole_types_of-append (slot_cell d cs s ∷ a) c = hole_types_of-append a c
-
 pub Proper-append : (a c : List Cell) → Proper a → Proper c → Proper (a ++ c)
 Proper-append [] c p q = q
 Proper-append (fixed x ∷ a) c p q = Proper-append a c p q

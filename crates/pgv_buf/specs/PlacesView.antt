@@ -1,5 +1,5 @@
 -- What contracts see of the fields of a list of places.
-use Rattle.std.specs.Prelude.{◌≡◌, ℕ, ◌+◌, List, [], ◌∷◌}
+use Rattle.std.specs.Prelude.{◌≡◌, ℕ, List}
 use Rattle.pgv_buf.specs.declared.places.Places.TheInside.{Inside}
 use Rattle.pgv_buf.specs.Layout.{last_from}
 use Rattle.pgv_buf.specs.Gaps.{places_after}

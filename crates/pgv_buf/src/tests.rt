@@ -55,10 +55,10 @@ fn slots_are_filled_by_their_argument(rt: HostRuntime) -> Result<(), AllocError>
 fn what_was_appended_is_taken_off_again(rt: HostRuntime) -> Result<(), AllocError> {
     let mut tokens = Tokens::new(rt.alloc());
     tokens.extend_from_slice(&[1, 2])?;
-    let behind = tokens.mark();
+    let before = tokens.mark();
     tokens.push_hole(PgTypeInfo::with_name("mood"))?;
     tokens.push(1)?;
-    tokens.back(behind);
+    tokens.back(before);
     assert_eq!(rt; tokens.hole_types().len(), 0);
     assert_eq!(rt; tokens.as_slice(), [1, 2].as_slice());
     Ok(())
@@ -73,6 +73,11 @@ fn append_label_trees(tokens: &mut Tokens) -> Result<(), AllocError> {
     Ok(())
 }
 
+/// That the holes have these gaps, and the last this place.
+fn holes_have(tokens: &Tokens, gaps: &[usize], last: usize) -> bool {
+    tokens.holes.gaps() == gaps && tokens.holes.last == last
+}
+
 #[test]
 fn holes_are_kept_by_their_gaps(rt: HostRuntime) -> Result<(), AllocError> {
     let mut tokens = Tokens::new(rt.alloc());
@@ -83,13 +88,11 @@ fn holes_are_kept_by_their_gaps(rt: HostRuntime) -> Result<(), AllocError> {
     tokens.back(before);
     assert_eq!(rt; tokens.as_slice(), [0, 0, 0, 4, 0, 0, 0, 1].as_slice());
     assert_eq!(rt; tokens.hole_types().len(), 0);
-    assert_eq!(rt; tokens.holes.gaps().len(), 0);
-    assert_eq!(rt; tokens.holes.last, 0);
+    assert!(rt; holes_have(&tokens, &[], 0));
     append_label_trees(&mut tokens)?;
     append_label_trees(&mut tokens)?;
     assert_eq!(rt; tokens.hole_types().len(), 2);
-    assert_eq!(rt; tokens.holes.gaps(), [20, 32].as_slice());
-    assert_eq!(rt; tokens.holes.last, 52);
+    assert!(rt; holes_have(&tokens, &[20, 32], 52));
     assert_eq!(rt;
         tokens.as_slice(),
         b"\0\0\0\x04\0\0\0\x01\0\0\0\x1c\0\0\0\x01\0\0\0\0\0\0\0\0\0\0\0\x01\0\0\0\x01\0\0\0\x04\x01a.b\0\0\0\x1c\0\0\0\x01\0\0\0\0\0\0\0\0\0\0\0\x01\0\0\0\x01\0\0\0\x04\x01a.b".as_slice()

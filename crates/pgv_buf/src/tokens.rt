@@ -16,7 +16,7 @@ use std::marker::Model;
 
 /// A list of tokens with the bytes that they show.
 ///
-/// A call that is refused for want of memory leaves the list as it was. [`mark`](Tokens::mark),
+/// A call that is refused, out of memory, leaves the list as it was. [`mark`](Tokens::mark),
 /// [`back`](Tokens::back), [`put_u32`](Tokens::put_u32) and [`fill`](Tokens::fill) take no memory.
 #[derive(Drop)]
 pub struct Tokens {
@@ -80,7 +80,7 @@ impl Tokens {
         self.types.as_slice()
     }
 
-    /// Makes room for so many bytes more. The tokens stay as they are.
+    /// Makes room for `additional` bytes more. The tokens stay as they are.
     pub fn reserve(&mut self, additional: usize) -> Result<(), AllocError>
         ensures { self.new ≡ self.old }
     {
@@ -193,7 +193,7 @@ impl Tokens {
         self.slots.truncate(mark.slots);
     }
 
-    /// Puts a number, the highest byte first, in place of the four bytes behind a mark.
+    /// Puts a number, the highest byte first, in place of the four bytes after a mark.
     pub fn put_u32(&mut self, mark: Mark, value: u32)
         requires { (front : List Cell) × (xs : List ℕ) × (rest : List Cell) × (self.old ≡ front ++ fixed_bytes xs ++ rest) × (length xs ≡ 4) × (mark ≡ mark_of front) }
         ensures { (front : List Cell) (xs : List ℕ) (rest : List Cell) → self.old ≡ front ++ fixed_bytes xs ++ rest → length xs ≡ 4 → mark ≡ mark_of front → self.new ≡ front ++ fixed_bytes (be4 value) ++ rest }

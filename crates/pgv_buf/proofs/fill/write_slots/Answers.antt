@@ -1,6 +1,5 @@
-use Rattle.std.proofs.Common.{◌≡◌, ◌+◌, ◌-◌, ◌<◌, ◌≤◌, length, get_or, ap, sym, subst, ◌∙◌, arith, sum, take, drop, map, replicate, ℕ, List, ◌∷◌, ◌++◌, length-take, length-drop}
-use Rattle.std.proofs.lemmas.List.{drop_more, take-map, drop-map, drop-drop, take-append-drop, length-map}
-use Rattle.std.proofs.lemmas.Grind.{common_steps}
+use Rattle.std.proofs.Common.{◌≡◌, ◌+◌, ◌-◌, ◌<◌, ◌≤◌, length, get_or, ap, sym, subst, ◌∙◌, arith, sum, take, drop, map, replicate, ℕ, List, ◌++◌, length-take, length-drop}
+use Rattle.std.proofs.lemmas.List.{take-map, drop-map, drop-drop, length-map}
 use Rattle.pgv_types.specs.Ty.{Ty}
 use Rattle.pgv_buf.specs.declared.fill.Slot.{Slot}
 use Rattle.pgv_buf.specs.TokensView.{kept_of}
