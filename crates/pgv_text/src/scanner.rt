@@ -186,8 +186,15 @@ pub fn next_stop(form: TextForm, place: Place, text: &str) -> Option<Stop<'_>>
     let mut place = place;
     for index in 0..bytes.len() {
         let byte = bytes[index];
-        if (place == Place::Outside || place == Place::Quoted) && is_never_special(byte) {
-            continue;
+        if is_never_special(byte) {
+            match place {
+                Place::Start | Place::Outside => {
+                    place = Place::Outside;
+                    continue;
+                }
+                Place::Quoted => continue,
+                _ => {}
+            }
         }
         let cell = cell_of(form, place, class_of(form, byte));
         match cell {
