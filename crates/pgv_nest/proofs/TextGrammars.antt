@@ -1,8 +1,7 @@
 -- What is computed of an array or a record in text is what its characters are.
-use Rattle.std.proofs.Common.{◌≡◌, ℕ, Bool, true, nat_eq, List, [], ◌∷◌, length, Option, Some, None, option_map, inl, inr, refl, sym, ◌∙◌, ap, subst}
+use Rattle.std.proofs.Common.{◌≡◌, ℕ, Bool, true, nat_eq, List, [], ◌∷◌, length, Option, Some, None, option_map, refl, sym, ◌∙◌, ap, subst}
 use Rattle.std.specs.Prelude.{◌↔◌, if◌then◌else◌}
-use Rattle.std.proofs.lemmas.Bool.{eqb-true}
-use Rattle.std.proofs.lemmas.Bool.Decides.{eqb_tells}
+use Rattle.std.proofs.lemmas.Bool.{eq-eqb, eqb-true}
 use Rattle.std.proofs.lemmas.Option.{same_Some}
 use Rattle.pgv_types.specs.Ty.{Ty, by_oid}
 use Rattle.pgv_text.specs.Laws.{ArrayIsItsValues, RecordIsItsValues}
@@ -56,15 +55,12 @@ module _ (law : ArrayIsItsValues) {M : Type 0} (info : Ty) (reading : Reading M)
       let same = same_Some ns ms k.1 in
       (k.1, ap length (sym same) ∙ eqb-true (length ns) n k.0)
 
-  same_number : (n : ℕ) → nat_eq n n ≡ true
-  same_number n = elim (eqb_tells n n) [ inl h ↦ h.0 | inr h ↦ absurd (h.1 refl) ]
-
   pub sized_text : (n : ℕ) → TextIs (array_of_length n info reading) (IsSizedInText n (reading info Text))
   sized_text n t bytes ms = (
     λ e.
         let k = long n (array info reading t Text (Some bytes)) ms e in
         ((array_text t bytes ms).0 k.0, k.1),
-    λ h. rw ((array_text t bytes ms).1 h.0, h.1, same_number n) refl,
+    λ h. rw ((array_text t bytes ms).1 h.0, h.1, eq-eqb n n refl) refl,
   )
 
 -- ---- records

@@ -1,8 +1,6 @@
 -- The brackets are ASCII.
-use Rattle.std.proofs.Common.{◌≡◌, ◌<◌, ℕ, Bool, true, false, cond, ◌==◌, ◌||◌, ◌&&◌, refl, arith}
-use Rattle.std.proofs.lemmas.Bool.{eqb-true, false≢true, ltb-false}
-use lib.Dec.{ltb, leb}
-use Rattle.std.specs.Char.{IsScalar}
+use Rattle.std.proofs.Common.{◌≡◌, ◌<◌, ℕ, Bool, true, false, ◌==◌, ◌||◌, refl, arith}
+use Rattle.std.proofs.lemmas.Bool.{eqb-true, false≢true}
 use Rattle.pgv_text.specs.declared.scanner.TextForm.{TextForm}
 use Rattle.pgv_text.specs.declared.scanner.TextForm.TheVariants.{Array, Range, Record}
 use Rattle.pgv_text.specs.Forms.{form_of}
@@ -26,10 +24,3 @@ pub closes_low : (form : TextForm) (b : ℕ) → (form_of form).closes b ≡ tru
 closes_low Array b h = low b 125 (omega arith) h
 closes_low Range b h = either_low b 41 93 (omega arith) (omega arith) (b == 41) (b == 93) refl refl h
 closes_low Record b h = low b 41 (omega arith) h
-
-below : (b : ℕ) (x : Bool) → b < 128 → ltb b 55296 ≡ x → cond x true (leb 57344 b && ltb b 1114112) ≡ true
-below b true h e = refl
-below b false h e = absurd (omega (arith, h, ltb-false b 55296 e))
-
-pub low_scalar : (b : ℕ) → b < 128 → IsScalar b
-low_scalar b h = below b (ltb b 55296) h refl

@@ -3,7 +3,8 @@ use Rattle.std.proofs.Common.{◌≡◌, ◌≢◌, ℕ, Bool, true, false, cond
 use Rattle.std.specs.Option.{option_map, option_and_then}
 use Rattle.std.specs.Str.{encode_utf8_all}
 use Rattle.std.specs.List.{flat_map, AllByRecursion}
-use Rattle.std.proofs.lemmas.Bool.{eqb-true, false≢true}
+use Rattle.std.proofs.lemmas.Bool.{eqb-true, false≢true, false_from_ne_true}
+use Rattle.std.proofs.lemmas.Option.{same_Some}
 use Rattle.pgv_text.specs.declared.scanner.TextForm.{TextForm}
 use Rattle.pgv_text.specs.declared.scanner.Class.{Class}
 use Rattle.pgv_text.specs.declared.scanner.Class.TheVariants.{Quote, Backslash, Comma, Close, Other}
@@ -17,9 +18,6 @@ use Rattle.pgv_text.proofs.Nothing.{value_is}
 use Rattle.pgv_text.proofs.Sound.{Valid, after_part, part_end, sound}
 use Rattle.pgv_text.proofs.Spelled.{parts_read}
 
-some_same : {X : Type 0} (a b : X) → Some a ≡ Some b → a ≡ b
-some_same a b h = cc
-
 pub as_many : {X Y : Type 0} (R : X → Y → Type 0) (xs : List X) (ys : List Y) → Pairwise R xs ys → length ys ≡ length xs
 as_many R [] [] h = refl
 as_many R [] (y ∷ ys) h = absurd h
@@ -27,12 +25,8 @@ as_many R (x ∷ xs) [] h = absurd h
 as_many R (x ∷ xs) (y ∷ ys) h = ap suc (as_many R xs ys h.1)
 
 closed_end : (c : ℕ) (cs : List ℕ) (r : Found) → closed c cs ≡ Some r → c ∷ cs ≡ r.closing ∷ []
-closed_end c [] r h = ap (λ r. r.closing ∷ []) (some_same (record { first = []; more = []; values = []; closing = c }) r h)
+closed_end c [] r h = ap (λ r. r.closing ∷ []) (same_Some (record { first = []; more = []; values = []; closing = c }) r h)
 closed_end c (d ∷ cs) r h = cc
-
-only_true : (b : Bool) → (b ≡ true → ⊥) → b ≡ false
-only_true true h = absurd (h refl)
-only_true false h = refl
 
 module _ (t : TextForm) where
   built : (o closing : ℕ) (cs : List ℕ) (parts : List (List Piece)) (values : List (Option (List ℕ))) → (form_of t).opens o ≡ true → class (form_of t) closing ≡ Close → AllByRecursion (ArePieces (form_of t)) parts → AreCounted (form_of t).count parts →
@@ -65,7 +59,7 @@ module _ (t : TextForm) where
         Some (record { values = value ∷ r.values; lower = o == 91; upper = r.closing == 93 }) ≡ Some nest → IsNestText (form_of t) (o ∷ cs) nest
     all_built r value nest v is n h =
         let whole : cs ≡ joined (r.first ∷ r.more) ++ r.closing ∷ [] = v.whole ∙ sym (append_assoc (spelled r.first) (flat_map (λ p. 44 ∷ spelled p) r.more) (r.closing ∷ [])) in
-        subst (IsNestText (form_of t) (o ∷ cs)) (some_same _ nest h) (built o r.closing cs (r.first ∷ r.more) (value ∷ r.values) w v.closes (v.first, v.more) n whole (is, v.values))
+        subst (IsNestText (form_of t) (o ∷ cs)) (same_Some _ nest h) (built o r.closing cs (r.first ∷ r.more) (value ∷ r.values) w v.closes (v.first, v.more) n whole (is, v.values))
 
     two_built : (b : Bool) (r : Found) (value : Option (List ℕ)) (nest : Nest) → (length (value ∷ r.values) == 2) ≡ b → Valid (form_of t) [] false cs r → IsPart (form_of t) r.first value → (form_of t).count ≡ two →
         option_map (λ values. record { values = values; lower = o == 91; upper = r.closing == 93 }) (cond b (Some (value ∷ r.values)) None) ≡ Some nest → IsNestText (form_of t) (o ∷ cs) nest
@@ -85,7 +79,7 @@ module _ (t : TextForm) where
         option_map (λ values. record { values = values; lower = o == 91; upper = r.closing == 93 }) (counted k b (value ∷ r.values)) ≡ Some nest → IsNestText (form_of t) (o ∷ cs) nest
     from_counted any true r value nest c e p v is h =
         let none : AreCounted (form_of t).count [] = subst (λ c. AreCounted c []) (sym c) (λ e. cc) in
-        subst (IsNestText (form_of t) (o ∷ cs)) (some_same _ nest h) (built o r.closing cs [] [] w v.closes tt none (closed_at_once cs r e p) tt)
+        subst (IsNestText (form_of t) (o ∷ cs)) (same_Some _ nest h) (built o r.closing cs [] [] w v.closes tt none (closed_at_once cs r e p) tt)
     from_counted any false r value nest c e p v is h = all_built r value nest v is (subst (λ c. AreCounted c (r.first ∷ r.more)) (sym c) (not_at_once r.first r.more r.closing v.closes e v.whole)) h
     from_counted some b r value nest c e p v is h = all_built r value nest v is (subst (λ c. AreCounted c (r.first ∷ r.more)) (sym c) (λ e. cc)) h
     from_counted two b r value nest c e p v is h = two_built (length (value ∷ r.values) == 2) r value nest refl v is c h
@@ -106,7 +100,7 @@ module _ (t : TextForm) where
   nest_sound (o ∷ cs) nest h = opened o cs ((form_of t).opens o) nest refl h
 
   not_closing : (c : ℕ) (k : Class) → class (form_of t) c ≡ k → k ≢ Close → (form_of t).closes c ≡ false
-  not_closing c k h n = only_true ((form_of t).closes c) (λ e. n (sym h ∙ class_closing t c e))
+  not_closing c k h n = false_from_ne_true ((form_of t).closes c) (λ e. n (sym h ∙ class_closing t c e))
 
   goes_on : (part : List Piece) (parts : List (List Piece)) (closing : ℕ) → ArePieces (form_of t) part → part ∷ parts ≢ [] ∷ [] → closes_here (form_of t) (spelled part ++ after_part parts closing) ≡ false
   goes_on [] [] closing h n = absurd (n refl)

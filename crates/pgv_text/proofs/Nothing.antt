@@ -1,9 +1,8 @@
 -- Where the part that is null or absent stands.
-use Rattle.std.proofs.Common.{◌≡◌, ℕ, Bool, true, false, cond, ◌&&◌, ◌==◌, List, [], ◌∷◌, ◌++◌, Option, Some, None, ap, subst, ◌∙◌, sym, refl, inl, inr}
+use Rattle.std.proofs.Common.{◌≡◌, ℕ, Bool, true, false, cond, ◌&&◌, ◌==◌, List, [], ◌∷◌, ◌++◌, Option, Some, None, ap, subst, ◌∙◌, sym, refl}
 use Rattle.std.specs.List.{AllByRecursion}
 use Rattle.std.specs.Str.{encode_utf8_all}
-use Rattle.std.proofs.lemmas.Bool.{and_parts, eqb-true, false≢true}
-use Rattle.std.proofs.lemmas.Bool.Decides.{eqb_tells}
+use Rattle.std.proofs.lemmas.Bool.{and_parts, eq-eqb, eqb-true, false≢true}
 use Rattle.pgv_text.specs.declared.scanner.TextForm.{TextForm}
 use Rattle.pgv_text.specs.declared.scanner.TextForm.TheVariants.{Array, Range, Record}
 use Rattle.pgv_text.specs.Pieces.{Form, Piece, plain, escaped, quoted, IsPiece, IsPart, may_be_plain, spelled, text_of}
@@ -22,13 +21,10 @@ nothing_plain Array = (refl, (refl, (refl, (refl, tt))))
 nothing_plain Range = tt
 nothing_plain Record = tt
 
-same_number : (c : ℕ) → (c == c) ≡ true
-same_number c = elim (eqb_tells c c) [ inl h ↦ h.0 | inr h ↦ absurd (h.1 refl) ]
-
 module _ (form : Form) (e : ℕ) (tail : List ℕ) (end : ends (class form e) ≡ true) where
   stands_there : (nothing : List Piece) → ArePlain form nothing → stands form nothing (spelled nothing ++ e ∷ tail) ≡ true
   stands_there [] h = end
-  stands_there (plain c ∷ nothing) h = ap (λ b. b && stands form nothing (spelled nothing ++ e ∷ tail)) (same_number c) ∙ stands_there nothing h.1
+  stands_there (plain c ∷ nothing) h = ap (λ b. b && stands form nothing (spelled nothing ++ e ∷ tail)) (eq-eqb c c refl) ∙ stands_there nothing h.1
   stands_there (escaped c ∷ nothing) h = absurd h
   stands_there (quoted items ∷ nothing) h = absurd h
 

@@ -1,5 +1,5 @@
 -- A spelling is a list of pieces that mean the value.
-use Rattle.std.proofs.Common.{◌≡◌, ◌≢◌, ℕ, Bool, true, false, cond, ◌||◌, ◌==◌, List, [], ◌∷◌, ◌++◌, length, Option, Some, None, map, ap, subst, ◌∙◌, sym, refl, inl, inr, ◌⊎◌}
+use Rattle.std.proofs.Common.{◌≡◌, ◌≢◌, ℕ, Bool, true, false, cond, ◌||◌, ◌==◌, List, [], ◌∷◌, ◌++◌, length, Option, Some, None, map, ap, subst, ◌∙◌, sym, refl, inl, inr, ◌⊎◌, arith}
 use Rattle.std.specs.Str.{IsUtf8, chars, encode_utf8_all}
 use Rattle.std.proofs.lemmas.Str.{encodes-chars, chars-encodes}
 use Rattle.std.specs.List.{flat_map, AllByRecursion}
@@ -12,7 +12,8 @@ use Rattle.pgv_text.specs.declared.scanner.TextForm.TheVariants.{Array, Range, R
 use Rattle.pgv_text.specs.Forms.{form_of}
 use Rattle.pgv_text.proofs.Nothing.{ArePlain, nothing_plain}
 use Rattle.pgv_text.proofs.Nests.{as_many}
-use Rattle.pgv_text.proofs.Left.{opens_low, closes_low, low_scalar}
+use lib.Utf8.{low_scalar}
+use Rattle.pgv_text.proofs.Left.{opens_low, closes_low}
 use Rattle.pgv_text.specs.Spellings.{IsOptionalText, escaped_character, doubled_character, quoted_by, MayBeBare, IsSpelled, AreEnough, by_commas, nest_text}
 use Rattle.pgv_text.proofs.Characters.{AreScalars, scalars_are, all_append, all_left, parts_scalars, values_are_texts, characters_of}
 
@@ -185,8 +186,8 @@ enough some (part ∷ parts) values s e h = λ n. cc
 enough two parts values s e h = sym e ∙ h
 
 bracket_scalar : (t : TextForm) (c : ℕ) → ((form_of t).opens c ≡ true) ⊎ ((form_of t).closes c ≡ true) → IsScalar c
-bracket_scalar t c (inl h) = low_scalar c (opens_low t c h)
-bracket_scalar t c (inr h) = low_scalar c (closes_low t c h)
+bracket_scalar t c (inl h) = low_scalar c (omega (arith, opens_low t c h))
+bracket_scalar t c (inr h) = low_scalar c (omega (arith, closes_low t c h))
 
 -- However the values are spelled, the text is of them.
 pub reads_back : (t : TextForm) (o k : ℕ) (values : List (Option (List ℕ))) (spellings : List (List ℕ)) → (form_of t).opens o ≡ true → (form_of t).closes k ≡ true → AreEnough (form_of t).count values → AllByRecursion IsOptionalText values → Pairwise (IsSpelled (form_of t)) values spellings →

@@ -4,6 +4,8 @@
 ghost use Rattle.std.specs.Prelude.{◌≡◌, ◌==◌, ◌++◌, ◌∷◌, ℕ, List, Option, None, true, cond};
 ghost use Rattle.std.specs.Option.{MatchOption};
 ghost use Rattle.pgv_text.specs.Forms.{form_of};
+ghost use Rattle.pgv_text.specs.declared.scanner.Class.TheVariants.{Other};
+ghost use Rattle.pgv_text.specs.declared.scanner.TextForm.{TextForm};
 ghost use Rattle.pgv_text.specs.Scan.{cell, class, grown, read, read_by, stands, stops};
 
 /// The form of a text.
@@ -140,11 +142,17 @@ fn class_of(form: TextForm, byte: u8) -> Class
         b'"' => Class::Quote,
         b'\\' => Class::Backslash,
         b',' => Class::Comma,
-        b'-'..=b'Z' | b'^'..=b'z' => Class::Other,
         _ if opens(form, byte) => Class::Open,
         _ if closes(form, byte) => Class::Close,
         _ => Class::Other,
     }
+}
+
+/// Whether a byte is one of the usual ones, letters, digits and no ASCII, that mean nothing in any form.
+fn is_never_special(byte: u8) -> bool
+    ensures { result ≡ true → (form : TextForm) → class (form_of form) byte ≡ Other }
+{
+    matches!(byte, b'-'..=b'Z' | b'^'..=b'z' | 128..)
 }
 
 /// Whether the part that is null or absent stands here, and ends.
@@ -177,17 +185,24 @@ pub fn next_stop(form: TextForm, place: Place, text: &str) -> Option<Stop<'_>>
     let bytes = text.as_bytes();
     let mut place = place;
     for index in 0..bytes.len() {
-        let class = class_of(form, bytes[index]);
-        if class == Class::Other && (place == Place::Outside || place == Place::Quoted) {
-            continue;
+        let byte = bytes[index];
+        if is_never_special(byte) {
+            match place {
+                Place::Start | Place::Outside => {
+                    place = Place::Outside;
+                    continue;
+                }
+                Place::Quoted => continue,
+                _ => {}
+            }
         }
-        let cell = cell_of(form, place, class);
+        let cell = cell_of(form, place, class_of(form, byte));
         match cell {
             Cell::Keep(next) => place = next,
             _ => {
                 return Some(Stop {
                     run: &text[..index],
-                    byte: bytes[index],
+                    byte,
                     cell,
                     rest: &text[index + 1..],
                 });
