@@ -4,7 +4,7 @@ use Rattle.std.specs.List.{AllZip}
 use Rattle.std.specs.declared.vec.Vec.{Vec}
 use Rattle.std.specs.declared.alloc.Global.{Global}
 use Rattle.pgv_types.specs.Ty.{Ty}
-use Rattle.pgv_buf.specs.Shown.{cases_of}
+use Rattle.pgv_buf.specs.CasesView.{cases_of}
 use Rattle.pgv_buf.specs.TokensView.{kept_of}
 use Rattle.pgv_buf.specs.Layout.{Kept}
 use Rattle.pgv_buf.specs.declared.fill.Slot.{Slot}

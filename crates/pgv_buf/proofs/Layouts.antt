@@ -5,7 +5,7 @@ use Rattle.std.proofs.lemmas.List.{take_at, drop_at}
 use Rattle.pgv_types.specs.Ty.{Ty}
 use Rattle.pgv_buf.specs.Tokens.{Token, byte, hole, slot, tokens_width, Cell, fixed, hole_cell, slot_cell, plain, shown, width, hole_types_of, hole_count, slot_count}
 use Rattle.pgv_buf.specs.Blank.{plain-append}
-use Rattle.pgv_buf.specs.Parse.{Proper, Proper-append, Proper-front, shown-append, length-shown, length-hole_types_of}
+use Rattle.pgv_buf.specs.Proper.{Proper, Proper-append, Proper-front, shown-append, length-shown, length-hole_types_of}
 use Rattle.pgv_buf.specs.Layout.{is_hole, is_slot, token_width, if_so, places, last_from, types_of, Kept, slots_of, Layout, layout_of, first_at, parse, tokens_of, Represents, Valid}
 
 -- ---- places

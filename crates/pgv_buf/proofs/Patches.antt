@@ -6,7 +6,7 @@ use Rattle.pgv_types.specs.Relations.{softly}
 use Rattle.pgv_types.specs.declared.oid.Oid.{Oid}
 use Rattle.pgv_buf.specs.Tokens.{Token, byte, hole, slot, bytes, tokens_width, Cell, fixed, hole_cell, slot_cell, fixed_bytes, plain, be4, shown, cell_shown, width, hole_count, CasesFit, chosen}
 use Rattle.pgv_buf.specs.Blank.{plain-append}
-use Rattle.pgv_buf.specs.Parse.{Proper, Proper-front, Proper-back, Proper-append, first_type, shown-append, length-shown, width-append}
+use Rattle.pgv_buf.specs.Proper.{Proper, Proper-front, Proper-back, Proper-append, first_type, shown-append, length-shown, width-append}
 use Rattle.pgv_buf.specs.Fill.{fill_holes, rest_numbers, fill_slots, rest_types}
 use Rattle.pgv_buf.specs.Layout.{is_hole, is_slot, token_width, if_so, places, rest_of, slots_of, Layout, layout_of, Represents}
 use Rattle.pgv_buf.specs.Patches.{put, first_string, written, Within, numbers, choices}

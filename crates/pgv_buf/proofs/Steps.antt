@@ -5,7 +5,7 @@ use Rattle.pgv_buf.specs.declared.mark.Mark.{Mark}
 use Rattle.pgv_buf.specs.Tokens.{byte, bytes, Token, Cell, fixed_bytes, plain, shown, new_hole, new_slot, CasesFit}
 use Rattle.pgv_buf.specs.Blank.{plain-blank, blank-bytes}
 use Rattle.pgv_buf.specs.Marks.{mark_of}
-use Rattle.pgv_buf.specs.Parse.{Proper}
+use Rattle.pgv_buf.specs.Proper.{Proper}
 use Rattle.pgv_buf.specs.Layout.{is_hole, is_slot, places, last_from, types_of, Kept, slots_of, Layout, Represents}
 use Rattle.pgv_buf.proofs.Layouts.{joined, cut, cut_layout, same_layout, width-plain, last_before, wide, with_more, length-holes, length-slot_places}
 

@@ -4,7 +4,7 @@ use Rattle.std.proofs.Common.{ap}
 use Rattle.pgv_types.specs.Ty.{Ty}
 use Rattle.pgv_types.specs.declared.oid.Oid.{Oid}
 use Rattle.pgv_buf.specs.Tokens.{slot_count, Cell, fixed, hole_cell, slot_cell, be4, chosen}
-use Rattle.pgv_buf.specs.Parse.{first_type}
+use Rattle.pgv_buf.specs.Proper.{first_type}
 
 abbrev pub first_number : List Oid → ℕ
 first_number [] = 0

@@ -3,7 +3,7 @@ use Rattle.std.specs.Prelude.{◌≡◌, ℕ, ◌+◌, ◌==◌, Bool, true, fal
 use Rattle.std.proofs.Common.{suc, zero}
 use Rattle.pgv_types.specs.Ty.{Ty}
 use Rattle.pgv_buf.specs.Tokens.{Token, byte, hole, slot, Cell, fixed, hole_cell, slot_cell, plain, shown}
-use Rattle.pgv_buf.specs.Parse.{Proper, first_type}
+use Rattle.pgv_buf.specs.Proper.{Proper, first_type}
 
 -- holes and slots are pieces: of known places and widths, and written over
 abbrev pub is_hole : Token → Bool

@@ -3,7 +3,7 @@ use Rattle.std.specs.Prelude.{ℕ, ◌+◌, ◌≤◌, List, [], ◌∷◌, ◌+
 use Rattle.pgv_types.specs.Ty.{Ty}
 use Rattle.pgv_types.specs.declared.oid.Oid.{Oid}
 use Rattle.pgv_buf.specs.Tokens.{be4, chosen}
-use Rattle.pgv_buf.specs.Parse.{first_type}
+use Rattle.pgv_buf.specs.Proper.{first_type}
 use Rattle.pgv_buf.specs.Fill.{rest_types}
 use Rattle.pgv_buf.specs.Layout.{Kept, rest_of}
 

@@ -3,7 +3,7 @@ use Rattle.std.specs.Prelude.{List, map}
 use Rattle.pgv_buf.specs.declared.tokens.Tokens.TheInside.{Inside}
 use Rattle.pgv_buf.specs.declared.fill.Slot.{Slot}
 use Rattle.pgv_buf.specs.Tokens.{Cell}
-use Rattle.pgv_buf.specs.Shown.{cases_of}
+use Rattle.pgv_buf.specs.CasesView.{cases_of}
 use Rattle.pgv_buf.specs.Layout.{Kept, Layout, tokens_of, Valid}
 
 abbrev pub kept_of : Slot → Kept

@@ -2,10 +2,10 @@
 
 ghost use Rattle.std.specs.Prelude.{◌≡◌, ℕ, ◌++◌, List, [], ◌∷◌, length, OnOk, OnErr, sum};
 ghost use Rattle.pgv_buf.specs.Tokens.{CasesFit, slot_count, byte, hole, slot, bytes, blank, Cell, fixed_bytes, hole_count, shown, width, be4, hole_types_of};
-ghost use Rattle.pgv_buf.specs.Parse.{Proper};
+ghost use Rattle.pgv_buf.specs.Proper.{Proper};
 ghost use Rattle.pgv_buf.specs.Marks.{mark_of};
 ghost use Rattle.pgv_buf.specs.Fill.{fill_holes, fill_slots, slot_types};
-ghost use Rattle.pgv_buf.specs.Shown.{cases_of};
+ghost use Rattle.pgv_buf.specs.CasesView.{cases_of};
 
 use crate::fill::{Slot, put_number, write_oids, write_slots};
 use crate::mark::Mark;

@@ -85,8 +85,11 @@ fn an_empty_list_of_moods_comes_back(rt: HostRuntime) -> Result<(), CodecError> 
     let moods: Vec<Mood> = read_first(alloc, &arguments, moods_type(alloc)?)?;
     assert!(rt; moods.is_empty());
     // The type `text` has no elements, and no built-in type has the OID that was written.
-    let under_text: Result<Vec<Mood>, CodecError> =
-        read_first(alloc, &arguments, PgTypeInfo(PgType::Text));
+    let under_text: Result<Vec<Mood>, CodecError> = read_first(
+        alloc,
+        &arguments,
+        PgTypeInfo(PgType::Text),
+    );
     assert!(rt; matches!(under_text, Err(CodecError::ElementType(Oid(16500)))));
     Ok(())
 }
@@ -119,8 +122,11 @@ fn a_list_of_persons_comes_back(rt: HostRuntime) -> Result<(), CodecError> {
     }
     // The OID of `text` in the first hole: the element is read under `text`, which is no record.
     let arguments = filled(alloc, persons, &[Oid(25), Oid(16500)])?;
-    let others: Result<Vec<Person>, CodecError> =
-        read_first(alloc, &arguments, persons_type(alloc)?);
+    let others: Result<Vec<Person>, CodecError> = read_first(
+        alloc,
+        &arguments,
+        persons_type(alloc)?,
+    );
     assert!(rt; matches!(others, Err(CodecError::NotARecord)));
     Ok(())
 }

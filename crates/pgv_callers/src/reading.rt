@@ -242,10 +242,14 @@ fn first_refusals(rt: HostRuntime) -> Result<(), AllocError> {
         "Err(MismatchedTypes)"
     );
     // A third field under a composite type of two, with bytes of its own.
-    let third = b"\0\0\0\x03\0\0\0\x17\0\0\0\x04\0\0\0\x01\0\0\0\x19\0\0\0\x01a\0\0\0\x17\0\0\0\x04\0\0\0\x02";
+    let third =
+        b"\0\0\0\x03\0\0\0\x17\0\0\0\x04\0\0\0\x01\0\0\0\x19\0\0\0\x01a\0\0\0\x17\0\0\0\x04\0\0\0\x02";
     assert_eq!(rt;
-        binary::<(i32, String, i32)>(alloc, pair(alloc, PgType::Int4, PgType::Text)?, third)?
-            .as_str(),
+        binary::<(i32, String, i32)>(
+            alloc,
+            pair(alloc, PgType::Int4, PgType::Text)?,
+            third
+        )?.as_str(),
         "Err(NoField(2))"
     );
     // An array of a count past its bytes, read as arrays of 64.

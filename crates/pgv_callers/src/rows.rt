@@ -21,7 +21,7 @@ const MOODS_16600: &str = "0000001a 00000001 00000000 000040d8 00000001 00000001
 /// The frame of `MOODS` that was filled with 16601.
 const MOODS_16601: &str = "0000001a 00000001 00000000 000040d9 00000001 00000001 00000002 6f6b";
 
-/// Compares what a buffer shows with texts of hex digits, one behind the other. Their spaces say nothing.
+/// Compares what a buffer shows with texts of hex digits, one after another. Their spaces say nothing.
 fn check(
     rt: &impl Abort,
     alloc: Global,
@@ -39,7 +39,7 @@ fn check(
     Ok(())
 }
 
-/// Compares the names of types, each with a space behind it.
+/// Compares the names of types, each with a space after it.
 fn check_names(
     rt: &impl Abort,
     alloc: Global,

@@ -218,7 +218,7 @@ impl ReadBack for EmptyObject {
     ghost reads_back = { object_back };
 }
 
-/// One byte, of a type that is known by its name alone. Zero is refused with C38(38), behind a byte, a hole and a slot.
+/// One byte, of a type that is known by its name alone. Zero is refused with C38(38), after a byte, a hole and a slot.
 #[derive(Drop)]
 pub struct Size {
     /// What the cases of its slot are allocated by.
@@ -290,7 +290,7 @@ impl Encode for Size {
     }
 }
 
-/// Nothing that could be written: refused with C38(1) behind a byte.
+/// Nothing that could be written: refused with C38(1) after a byte.
 #[derive(Drop)]
 pub struct Refusing;
 
@@ -437,7 +437,7 @@ impl Encode for MoodText {
     }
 }
 
-/// A number as `i32` is, but 3 is refused with C38(1) behind a byte.
+/// A number as `i32` is, but 3 is refused with C38(1) after a byte.
 #[derive(Drop)]
 pub struct ButThree {
     /// The number that is written.

@@ -3,7 +3,7 @@ use Rattle.std.proofs.Common.{◌≡◌, ℕ, ◌+◌, ◌≤◌, ◌<◌, List,
 use Rattle.std.proofs.lemmas.Bool.Decides.{nat_tests}
 use Rattle.pgv_buf.specs.Tokens.{Token, Cell, bytes, be4, blank, width, tokens_width}
 use Rattle.pgv_buf.specs.Blank.{width-blank}
-use Rattle.pgv_buf.specs.Parse.{width-append}
+use Rattle.pgv_buf.specs.Proper.{width-append}
 use Rattle.pgv_codec.specs.Image.{Image, null_image, image_of, frame}
 use Rattle.pgv_codec.specs.Outcome.{Encoded}
 use Rattle.pgv_codec.specs.declared.buffer.IsNull.{IsNull}

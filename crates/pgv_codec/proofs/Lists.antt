@@ -10,7 +10,7 @@ use Rattle.std.proofs.lemmas.Bool.Decides.{nat_tests}
 use Rattle.pgv_codec.specs.Outcome.{AppendedAll, Refused}
 use Rattle.pgv_value.specs.declared.error.CodecError.{CodecError}
 
--- tokens behind tokens
+-- tokens after tokens
 pub both : (was mid now : List Cell) (a b : List Token) → mid ≡ was ++ blank a → now ≡ mid ++ blank b → now ≡ was ++ blank (a ++ b)
 both was mid now a b e f = f ∙ (ap (λ r. r ++ blank b) e ∙ (append_assoc was (blank a) (blank b) ∙ ap (λ r. was ++ r) (sym (blank-append a b))))
 
@@ -32,11 +32,11 @@ pub array_there :
     (t : Ty) (n : ℕ) (fs : Option (List Token)) (hs ts : List Token) → n ≤ 2147483647 → header t n ≡ Some hs → fs ≡ Some ts → array_of_frames t n fs ≡ Some (image_of (hs ++ ts))
 array_there t n fs hs ts l h e = rw (e, h) (grind (arith, nat_tests))
 
--- one list behind the other, each where it is there
+-- one list after the other, each where it is there
 pub appended_both : (f g : Option (List Token)) (was mid now : List Cell) → AppendedAll f was mid → AppendedAll g mid now → AppendedAll (join f g) was now
 appended_both f g was mid now a b = (a.0 ++ b.0, rw (a.1, b.1) refl, both was mid now a.0 b.0 a.2 b.2)
 
--- a type, and behind it a frame
+-- a type, and after it a frame
 pub field_written : (t : Ty) (f : Option (List Token)) (was mid now : List Cell) → AppendedAll (typed t) was mid → AppendedAll f mid now → AppendedAll (field_of t f) was now
 field_written t f was mid now a b = (a.0 ++ b.0, rw (b.1, a.1) refl, both was mid now a.0 b.0 a.2 b.2)
 

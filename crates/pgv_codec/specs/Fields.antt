@@ -8,7 +8,7 @@ use Rattle.pgv_codec.specs.Outcome.{Encoded}
 use Rattle.pgv_codec.specs.Record.{Writing, begun, so_far, AddsField}
 use Rattle.pgv_codec.specs.declared.buffer.IsNull.TheVariants.{No}
 
--- these fields have been written behind what was there
+-- these fields have been written after what was there
 pub record HasFields (was : List Cell) (fs : List (Option (List Token))) (w : Writing) : Type 0 where
   pub before_is : w.before ≡ was
   pub count_is : w.count ≡ length fs

@@ -1,10 +1,10 @@
--- The tokens in front of a mark, and those behind it.
+-- The tokens in front of a mark, and those after it.
 use Rattle.std.specs.Prelude.{◌≡◌, ℕ, ◌+◌, ◌-◌, ◌<◌, ◌==◌, false, cond, List, [], ◌∷◌, ◌++◌, length, refl}
 use Rattle.std.proofs.Common.{arith, ap}
 use Rattle.std.proofs.lemmas.Bool.Decides.{nat_tests}
 use Rattle.pgv_buf.specs.Tokens.{Cell, fixed, hole_cell, slot_cell, width, hole_count, slot_count}
 
--- the tokens at the front that are so many bytes, holes and slots, and those behind
+-- the tokens at the front that are n bytes, holes and slots, and those after them
 abbrev pub front_of : ℕ → ℕ → ℕ → List Cell → List Cell
 front_of w h s [] = []
 front_of w h s (fixed x ∷ ts) = cond (w + h + s == 0) [] (fixed x ∷ front_of (w - 1) h s ts)

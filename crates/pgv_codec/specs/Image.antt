@@ -22,7 +22,7 @@ frame_of (Some (image_of ts)) = cond (nat_le (tokens_width ts) limit) (Some (byt
 abbrev pub frame : ℕ → Option Image → Option (List Token)
 frame hint i = cond (nat_le hint limit) (frame_of i) None
 
--- one list behind the other, where both are there
+-- one list after the other, where both are there
 abbrev pub join : Option (List Token) → Option (List Token) → Option (List Token)
 join None b = None
 join (Some a) None = None
@@ -67,7 +67,7 @@ array_of_frames t n (Some fs) = cond (nat_le n limit) (array_behind (header t n)
 abbrev pub array_image : {X : Type 0} → (X → ℕ) → (X → Option Image) → (X → Option Ty) → Ty → List X → Option Image
 array_image hint image produced info xs = array_of_frames (element_type produced info xs) (length xs) (frames hint image xs)
 
--- an array of so many elements; a list of another number is none
+-- an array of n elements; a list of another number is none
 abbrev pub sized_image : {X : Type 0} → ℕ → (X → ℕ) → (X → Option Image) → (X → Option Ty) → Ty → List X → Option Image
 sized_image n hint image produced info xs = cond (nat_eq (length xs) n) (array_image hint image produced info xs) None
 
@@ -93,11 +93,11 @@ field_of t (Some f) = join (typed t) (Some f)
 abbrev pub field : {X : Type 0} → (X → ℕ) → (X → Option Image) → (X → Option Ty) → Ty → X → Option (List Token)
 field hint image produced info x = field_of (or_else (produced x) info) (frame (hint x) (image x))
 
--- a field behind so many others: there may be 4294967295
+-- a field after n others: there may be 4294967295
 abbrev pub field_at : ℕ → Option (List Token) → Option (List Token)
 field_at n f = cond (nat_eq n 4294967295) None f
 
--- fields one behind the other
+-- fields one after another
 abbrev pub joined : ℕ → Option (List Token) → List (Option (List Token)) → Option (List Token)
 joined n done [] = done
 joined n done (f ∷ fs) = joined (n + 1) (join done (field_at n f)) fs

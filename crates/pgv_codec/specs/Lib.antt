@@ -3,14 +3,14 @@ pub mod Writing
 pub mod Scalars
 pub mod Outcome
 pub mod Record
-pub mod Written
+pub mod WrittenView
 pub mod Fronts
 pub mod Fields
 pub mod Nullable
 pub mod Nothing
-pub mod Left
+pub mod FieldsLeftView
 pub mod Saying
-pub mod Row
+pub mod TypeRow
 pub mod Back
 pub mod BackParts
 pub mod BackNests

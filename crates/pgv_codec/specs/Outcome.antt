@@ -7,7 +7,7 @@ use Rattle.pgv_codec.specs.declared.buffer.IsNull.TheVariants.{Yes, No}
 use Rattle.pgv_value.specs.declared.error.CodecError.{CodecError}
 use Rattle.pgv_value.specs.declared.error.CodecError.TheVariants.{Memory}
 
--- exactly the image is behind what was there
+-- exactly the image is after what was there
 abbrev pub Encoded : IsNull → Option Image → List Cell → List Cell → Type 0
 Encoded Yes i was now = (i ≡ Some null_image) × (now ≡ was)
 Encoded No i was now = (ts : List Token) × (i ≡ Some (image_of ts)) × (now ≡ was ++ blank ts)
@@ -20,6 +20,6 @@ Refused e i = (i ≡ None) ⊎ (e ≡ Memory)
 abbrev pub Appended : List Cell → List Cell → Type 0
 Appended was now = (ts : List Cell) × (now ≡ was ++ ts)
 
--- exactly these tokens are behind what was there, not yet filled
+-- exactly these tokens are after what was there, not yet filled
 abbrev pub AppendedAll : Option (List Token) → List Cell → List Cell → Type 0
 AppendedAll f was now = (ts : List Token) × (f ≡ Some ts) × (now ≡ was ++ blank ts)

@@ -34,7 +34,7 @@ abbrev pub array_written : {M : Type 0} → Ty → (Ty → M → Saying) → Ty 
 array_written element written =
     plainly (array_image (λ m. (written element m).hint) (λ m. (written element m).image) (λ m. Some (written element m).value_type) element)
 
--- an array of so many elements
+-- an array of n elements
 abbrev pub sized_written : {M : Type 0} → ℕ → Ty → (Ty → M → Saying) → Ty → List M → Saying
 sized_written n element written =
     plainly (sized_image n (λ m. (written element m).hint) (λ m. (written element m).image) (λ m. Some (written element m).value_type) element)

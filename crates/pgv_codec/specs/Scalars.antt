@@ -9,7 +9,7 @@ use Rattle.pgv_types.specs.Relations.{softly}
 use Rattle.pgv_buf.specs.Tokens.{byte, bytes}
 use Rattle.pgv_codec.specs.Image.{Image, image_of}
 
--- ---- numbers, each of so many bits; a number that has no room there has no image
+-- ---- numbers, each of n bits; a number that has no room there has no image
 
 abbrev pub has_room : Width → ℤ → Bool
 has_room w (pos n) = nat_lt n (2 ^ hbits w)

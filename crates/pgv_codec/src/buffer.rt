@@ -2,9 +2,9 @@
 
 ghost use Rattle.std.specs.Prelude.{◌≡◌, ◌<◌, ◌++◌, ℕ, List, [], ◌∷◌, length, OnOk, OnErr, IfOk, IfErr, Err, sum};
 ghost use Rattle.pgv_buf.specs.Tokens.{byte, hole, slot, bytes, Cell, blank, fixed_bytes, shown, width, be4, hole_types_of, hole_count, slot_count, CasesFit};
-ghost use Rattle.pgv_buf.specs.Shown.{cases_of};
+ghost use Rattle.pgv_buf.specs.CasesView.{cases_of};
 ghost use Rattle.pgv_buf.specs.Marks.{mark_of};
-ghost use Rattle.pgv_buf.specs.Parse.{Proper};
+ghost use Rattle.pgv_buf.specs.Proper.{Proper};
 ghost use Rattle.pgv_buf.specs.Fill.{fill_holes, fill_slots, slot_types};
 ghost use Rattle.pgv_value.specs.declared.error.CodecError.TheVariants.{Memory, ValueSize};
 ghost use Rattle.pgv_codec.specs.Image.{frame, typed};
@@ -173,7 +173,7 @@ impl Clone for PgArgumentBuffer {
 }
 
 impl PgArgumentBuffer {
-    /// Makes room for so many bytes more. Nothing is appended, also where it is refused (C1).
+    /// Makes room for `additional` more bytes. Nothing is appended, also where it is refused (C1).
     pub fn reserve(&mut self, additional: usize) -> Result<(), CodecError>
         ensures same { self.new ≡ self.old }
         ensures err { IfErr result (λ e. e ≡ Memory) }

@@ -28,7 +28,7 @@ frames_are {M} read (suc n) bytes ms h e =
     let ms_are : b.0 ∷ c.0 ≡ ms = cc in
     subst (λ (ns : List M). (length ns ≡ suc n) × BeginWithFrames read bytes ns) ms_are (ap suc tail.0, (a.0.0, a.0.1, frame, b.1, tail.1))
 
--- what is found behind the number of dimensions
+-- what is found after the number of dimensions
 record Found (t : Ty) (bytes : List ℕ) (h : Head) : Type 0 where
   flags : List ℕ
   oid : ℕ

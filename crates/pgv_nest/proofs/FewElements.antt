@@ -16,7 +16,7 @@ unfolding front
 front_takes bytes part rest f = grind (arith, common_steps)
 
 module _ {M : Type 0} (read : Part → Option M) where
-  -- so many frames have few elements for their bytes
+  -- n frames have few elements for their bytes
   abbrev Few : ℕ → Type 0
   Few n = (bytes : List ℕ) (ms : List M) → frames read n bytes ≡ Some ms → 4 * length ms ≤ length bytes
 

@@ -1,4 +1,4 @@
--- Steps one behind the other, and the numbers of four bytes that they read.
+-- Steps one after another, and the numbers of four bytes that they read.
 use Rattle.std.proofs.Common.{◌≡◌, ℕ, zero, suc, ◌<◌, ◌^◌, arith, Bool, true, false, List, [], ◌∷◌, ◌++◌, length, get_or, Option, Some, None, refl, sym, ◌∙◌, ap, subst}
 use Rattle.std.specs.Prelude.{if◌then◌else◌}
 use Rattle.std.specs.Int.{w32, to_be_bytes, from_be_bytes}
@@ -60,7 +60,7 @@ number_is bytes rest n h e =
     let four_is : to_be_bytes w32 n ≡ four = be_bytes_4 four n refl (four_below k.0 k.1 k.2 k.3 below.0 below.1.0 below.1.1.0 below.1.1.1.0) (sym k.5) in
     (subst (λ m. m < 2 ^ 32) k.5 (four_fit k.0 k.1 k.2 k.3 below.0 below.1.0 below.1.1.0 below.1.1.1.0), k.4 ∙ ap (λ (r : List ℕ). r ++ rest) (sym four_is))
 
--- ---- what stands behind is bytes too
+-- ---- what comes after is bytes too
 
 pub bytes_behind : (xs ys : List ℕ) → AreBytes (xs ++ ys) → AreBytes ys
 bytes_behind [] ys h = h

@@ -21,7 +21,7 @@ pub record Head : Type 0 where
   pub count : ℕ
   pub frames : List ℕ
 
--- behind the number of dimensions, which is one: flags, which say nothing here, OID, count, lower bound
+-- after the number of dimensions, which is one: flags, which say nothing here, OID, count, lower bound
 unfoldable pub one_dimension : Ty → List ℕ → Option Head
 one_dimension t bytes =
     number bytes >>= λ flags.
@@ -39,12 +39,12 @@ head t bytes =
     if nat_eq dimensions.0 0 then Some None else
     if nat_eq dimensions.0 1 then (one_dimension t dimensions.1 >>= λ h. Some (Some h)) else None
 
--- so many frames, each read; anything may stand behind them
+-- n frames, each read; anything may come after them
 unfoldable pub frames : {M : Type 0} → (Part → Option M) → ℕ → List ℕ → Option (List M)
 frames read zero bytes = Some []
 frames read (suc n) bytes = front bytes >>= λ p. read p.0 >>= λ m. frames read n p.1 >>= λ ms. Some (m ∷ ms)
 
--- the elements behind a head
+-- the elements after a head
 abbrev pub elements : {M : Type 0} → (Ty → Part → Option M) → Option Head → Option (List M)
 elements read None = Some []
 elements read (Some h) = frames (read h.element) h.count h.frames

@@ -13,12 +13,12 @@ use Rattle.pgv_nest.specs.Records.{field_at, field_type, field_in, binary_fields
 
 -- ---- arrays
 
--- The bytes begin with a frame of each of these values, one behind the other. Anything may stand behind them.
+-- The bytes begin with a frame of each of these values, one after another. Anything may come after them.
 abbrev pub BeginWithFrames : {M : Type 0} → (Part → Option M) → List ℕ → List M → Type 0
 BeginWithFrames read bytes [] = ⊤
 BeginWithFrames read bytes (m ∷ ms) = (part : Part) × (rest : List ℕ) × IsFrame bytes part rest × (read part ≡ Some m) × BeginWithFrames read rest ms
 
--- An array of no dimensions has no elements. Behind the 0 nothing is looked at.
+-- An array of no dimensions has no elements. After the 0 nothing is looked at.
 abbrev pub IsWithoutDimensions : {M : Type 0} → List ℕ → List M → Type 0
 IsWithoutDimensions bytes ms = (behind : List ℕ) × (bytes ≡ to_be_bytes w32 0 ++ behind) × (ms ≡ [])
 
@@ -53,7 +53,7 @@ pub data HasFieldType (place oid : ℕ) (found : Ty) : Ty → Type 0 where
       HasFieldType place oid found (custom own name (composite fields))
   of_domain : (own : ℕ) (name : List ℕ) (base : Ty) → HasFieldType place oid found base → HasFieldType place oid found (custom own name (domain base))
 
--- Fields one behind the other: under a type, from a place on, these bytes have this meaning, and this stands behind.
+-- Fields one after another: under a type, from a place on, these bytes have this meaning, and this comes after.
 abbrev pub Stretch : Type 0 → Type 1
 Stretch M = Ty → ℕ → List ℕ → M → List ℕ → Type 0
 
@@ -75,7 +75,7 @@ infixr 12 ◌and◌
 abbrev pub ◌and◌ : {A B : Type 0} → Stretch A → Stretch B → Stretch (A × B)
 (one and further) t place bytes m rest = (between : List ℕ) × one t place bytes m.0 between × further t (suc place) between m.1 rest
 
--- A record: four bytes for the number of fields, which say nothing here, and the fields. Anything may stand behind them.
+-- A record: four bytes for the number of fields, which say nothing here, and the fields. Anything may come after them.
 abbrev pub IsRecord : {M : Type 0} → Stretch M → Ty → List ℕ → M → Type 0
 IsRecord fields t bytes m = (count : List ℕ) × (behind : List ℕ) × (rest : List ℕ) × (bytes ≡ count ++ behind) × (length count ≡ 4) × fields t 0 behind m rest
 

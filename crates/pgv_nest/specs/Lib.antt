@@ -1,6 +1,6 @@
 pub mod Steps
 pub mod Arrays
-pub mod Heads
+pub mod HeadsView
 pub mod Records
 pub mod Grammar
 pub mod Found

@@ -57,11 +57,11 @@ abbrev mutual
 
 -- ---- one field
 
--- the type of the next field, and what stands behind its OID
+-- the type of the next field, and what comes after its OID
 unfoldable pub field_head : Ty → ℕ → List ℕ → Option (Ty × List ℕ)
 field_head t place bytes = number bytes >>= λ oid. field_type t place oid.0 >>= λ u. Some (u, oid.1)
 
--- the next field in binary, and the bytes behind it
+-- the next field in binary, and the bytes after it
 abbrev pub field_in : {M : Type 0} → (Ty → Bool) → Reading M → Ty → ℕ → List ℕ → Option (M × List ℕ)
 field_in accepts reading t place bytes =
     field_head t place bytes >>= λ h.
@@ -75,13 +75,13 @@ pub data Left : Type 0 where
   binary_fields : Ty → ℕ → List ℕ → Left
   text_fields : List Part → Left
 
--- the next field, and what is left behind it
+-- the next field, and what is left after it
 abbrev pub next : {M : Type 0} → (Ty → Bool) → Reading M → Left → Option (M × Left)
 next accepts reading (binary_fields t place bytes) = option_map (λ x. (x.0, binary_fields t (suc place) x.1)) (field_in accepts reading t place bytes)
 next accepts reading (text_fields []) = None
 next accepts reading (text_fields (part ∷ parts)) = reading (by_oid 0) Text part >>= λ m. Some (m, text_fields parts)
 
--- what is left where no field was read: in binary all behind the number of fields, in text all values of a record text
+-- what is left where no field was read: in binary all after the number of fields, in text all values of a record text
 abbrev pub fields_of : Ty → PgValueFormat → Option (List ℕ) → Option Left
 fields_of t f None = None
 fields_of t Text (Some bytes) = if is_utf8 bytes then option_map (λ parts. text_fields parts) (record_values bytes) else None

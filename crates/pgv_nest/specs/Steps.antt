@@ -1,13 +1,13 @@
--- Reading one part behind the other.
+-- Reading one part after the other.
 use Rattle.std.specs.Prelude.{ℕ, nat_lt, List, length, take, drop, Option, Some, None, if◌then◌else◌}
 use Rattle.std.specs.Int.{w32, from_be_bytes}
 
--- one step behind the other, where each has a value
+-- one step after the other, where each has a value
 infixl 10 ◌>>=◌
 abbrev pub ◌>>=◌ : {A B : Type 0} → Option A → (A → Option B) → Option B
 None >>= f = None
 (Some x) >>= f = f x
 
--- the number of 32 bits in front, the highest byte first, and what stands behind it
+-- the number of 32 bits in front, the highest byte first, and what comes after it
 unfoldable pub number : List ℕ → Option (ℕ × List ℕ)
 number bytes = if nat_lt (length bytes) 4 then None else Some (from_be_bytes w32 (take 4 bytes), drop 4 bytes)

@@ -21,7 +21,7 @@ pub record IsArrayInText {M : Type 0} (read : Part → Option M) (bytes : List �
   pub whole : IsArrayText (chars bytes) elements
   pub each : Pairwise (λ part m. read part ≡ Some m) elements ms
 
--- an array of so many elements
+-- an array of n elements
 abbrev pub IsSizedInText : {M : Type 0} → ℕ → (Part → Option M) → List ℕ → List M → Type 0
 IsSizedInText n read bytes ms = IsArrayInText read bytes ms × (length ms ≡ n)
 

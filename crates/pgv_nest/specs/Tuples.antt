@@ -4,7 +4,7 @@ use Rattle.pgv_value.specs.Reading.{Reading}
 use Rattle.pgv_nest.specs.Records.{Left, fields_of}
 use Rattle.pgv_nest.specs.Steps.{◌>>=◌}
 
--- one step behind the other, and what both read
+-- one step after the other, and what both read
 infixr 12 ◌then◌
 abbrev pub ◌then◌ : {A B : Type 0} → (Left → Option (A × Left)) → (Left → Option (B × Left)) → Left → Option ((A × B) × Left)
 (first then second) s = first s >>= λ x. second x.1 >>= λ y. Some ((x.0, y.0), y.1)

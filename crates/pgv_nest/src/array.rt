@@ -3,7 +3,7 @@
 ghost use Rattle.std.specs.Prelude.{◌≡◌, ◌≤◌, length, IfOk, IfSome, option_map};
 ghost use Rattle.pgv_value.specs.Reading.{Answers};
 ghost use Rattle.pgv_nest.specs.Arrays.{element_type, head, one_dimension};
-ghost use Rattle.pgv_nest.specs.Heads.{head_shown};
+ghost use Rattle.pgv_nest.specs.HeadsView.{head_shown};
 
 use crate::number::u32_in_front;
 use pgv_types::{Oid, PgTypeInfo, PgTypeRef};

@@ -38,6 +38,6 @@ begun_lines : (begun : List ℕ) (c : ℕ) (cs : List ℕ) → IsBegun (begun ++
 begun_lines begun c [] = more_is begun c [] ∙ ap (λ (t : List ℕ). t ∷ []) (sym (append-nil (begun ++ c ∷ [])))
 begun_lines begun c (d ∷ ds) = begun_at (begun ++ c ∷ []) d ds (d == 10) refl (begun_lines (begun ++ c ∷ []) d ds)
 
--- the first line of an input, and the lines behind it
+-- the first line of an input, and the lines after it
 pub first_line : (c : ℕ) (cs : List ℕ) → lines_of (c ∷ cs) ≡ before 10 (take_through 10 (c ∷ cs)) ∷ lines_of (drop_through 10 (c ∷ cs))
 first_line c cs = begun_at [] c cs (c == 10) refl (begun_lines [] c cs)

@@ -53,7 +53,7 @@ pub before_has_none : (mark : ℕ) (line : List ℕ) → AllByRecursion (λ d. d
 before_has_none mark [] = tt
 before_has_none mark (c ∷ cs) = before_at mark c cs (c == mark) refl (before_has_none mark cs)
 
--- and nothing stands behind one in what has none
+-- and nothing comes after one in what has none
 pub none_behind : (mark : ℕ) (word : List ℕ) → AllByRecursion (λ d. d ≢ mark) word → behind mark word ≡ None
 none_behind mark [] h = refl
 none_behind mark (c ∷ cs) h = let other : (c == mark) ≡ false = ne_eqb c mark h.0 in rw other (none_behind mark cs h.1)

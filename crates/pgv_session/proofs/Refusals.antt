@@ -1,4 +1,4 @@
--- A refusal that is no want of memory.
+-- A refusal that is not out of memory.
 use Rattle.std.proofs.Common.{◌≡◌, ◌≢◌, ◌==◌, length, [], ◌∷◌, true, false, arith, ◌⊎◌, inl, inr, ◌∙◌, sym, ap, subst, List, ℕ, refl}
 use Rattle.std.specs.Prelude.{Option, Some, None, option_map, Result, Ok, Err, IfOk, MatchOption, string_bytes}
 use Rattle.std.specs.declared.string.String.{String}

@@ -7,7 +7,7 @@ use Rattle.pgv_session.specs.Lines.{before}
 use Rattle.pgv_session.specs.Session.{State, Answers, IsSession, lines_of}
 use Rattle.pgv_session.proofs.Feeds.{first_line}
 
--- What was written so far, and behind it what the rest of the input is answered, is a session over all of it.
+-- What was written so far, and after it what the rest of the input is answered, is a session over all of it.
 abbrev pub IsSoFar : Option (List ℕ) → Option (List ℕ) → Option (List ℕ) → Option (List ℕ) → State → Type 0
 IsSoFar None left old new now = ⊤
 IsSoFar (Some xs) None old new now = ⊥
@@ -28,7 +28,7 @@ appended (Some os) None v xs ys p q = absurd p
 appended (Some os) (Some ws) None xs ys p q = absurd q
 appended (Some os) (Some ws) (Some vs) xs ys p q = q ∙ (λ i. p i ++ ys) ∙ append_assoc os xs ys
 
--- one more line, which the lines behind it follow
+-- one more line, which the lines after it follow
 with_line : (was now : State) (y : ℕ) (ys line text rest : List ℕ) → line ≡ take_through 10 (y ∷ ys) → Answers (before 10 line) was text now →
     IsSession now (lines_of (drop_through 10 (y ∷ ys))) rest → IsSession was (lines_of (y ∷ ys)) (text ++ 10 ∷ rest)
 with_line was now y ys line text rest e a s =

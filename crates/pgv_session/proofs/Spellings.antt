@@ -5,7 +5,7 @@ use Rattle.std.specs.declared.alloc.AllocError.{AllocError}
 use Rattle.std.proofs.lemmas.Option.{same_Some}
 use Rattle.pgv_types.specs.declared.oid.Oid.{Oid}
 use Rattle.pgv_session.specs.declared.line.Request.{Request as Parsed}
-use Rattle.pgv_session.specs.Requests.{request_seen}
+use Rattle.pgv_session.specs.RequestsView.{request_seen}
 use Rattle.pgv_session.specs.Lines.{first_word, behind_word, words, oids_named, given_bytes, added, read_of, alone, add_line, null_line, resolve_line, read_line, request}
 use Rattle.pgv_session.specs.Spelled.{Request, asks, to_add, to_add_null, to_read, asks_holes, resolves, asks_wire, IsName, SpellsOids, SpellsPart, Spells, Asks}
 use Rattle.pgv_session.proofs.Marks.{joined, whole, split_joined, word_or, before_has_none, none_behind}

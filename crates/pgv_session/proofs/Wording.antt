@@ -16,7 +16,7 @@ split_at : (c : ℕ) (cs : List ℕ) (b : Bool) → (c == 32) ≡ b → words cs
 split_at c cs true e h = rw e refl
 split_at c cs false e h = rw e (ap (at_first c) h)
 
--- the first word, and those behind it
+-- the first word, and those after it
 pub words_split : (text : List ℕ) → words text ≡ before 32 text ∷ words_behind (behind 32 text)
 words_split [] = refl
 words_split (c ∷ cs) = split_at c cs (c == 32) refl (words_split cs)

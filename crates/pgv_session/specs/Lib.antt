@@ -1,7 +1,7 @@
 pub mod Spelled
 pub mod Lines
 pub mod Laws
-pub mod Requests
+pub mod RequestsView
 pub mod Session
 pub mod Types
 pub mod Faults

@@ -1,4 +1,4 @@
--- What a line asks for, computed: its words end at single spaces, and a text is all that stands behind its space. That a
+-- What a line asks for, computed: its words end at single spaces, and a text is all that stands after its space. That a
 -- line spells what is computed, and that each spelled line is found, is a law (Laws).
 use Rattle.std.specs.Prelude.{ℕ, ◌==◌, nat_lt, Bool, false, codes, bytes_eq, List, [], ◌∷◌, Option, Some, None, Result, Ok, Err, option_map, if◌then◌else◌}
 use Rattle.hex.specs.Hex.{decode_of}
@@ -8,7 +8,7 @@ use Rattle.pgv_text.specs.Number.{unsigned_value}
 use Rattle.pgv_value.specs.Utf8.{is_utf8}
 use Rattle.pgv_session.specs.Spelled.{Request, asks, to_add, to_add_null, to_read, asks_holes, resolves, asks_wire}
 
--- what stands before the first byte of a kind, and behind it where there is one
+-- what stands before the first byte of a kind, and after it where there is one
 abbrev pub before : ℕ → List ℕ → List ℕ
 before mark [] = []
 before mark (c ∷ cs) = if c == mark then [] else c ∷ before mark cs
@@ -17,7 +17,7 @@ abbrev pub behind : ℕ → List ℕ → Option (List ℕ)
 behind mark [] = None
 behind mark (c ∷ cs) = if c == mark then Some cs else behind mark cs
 
--- the first word, which ends at a space or with the line, and what stands behind the space
+-- the first word, which ends at a space or with the line, and what comes after the space
 abbrev pub first_word : List ℕ → List ℕ
 first_word line = before 32 line
 
@@ -75,7 +75,7 @@ abbrev pub read_of : List ℕ → Option (List ℕ) → Option Request
 read_of name None = None
 read_of name (Some text) = option_map (λ part. asks name (to_read part)) (given_bytes text)
 
--- what stands behind the first word, by that word
+-- what comes after the first word, by that word
 abbrev pub alone : Request → Option (List ℕ) → Option Request
 alone r None = Some r
 alone r (Some text) = None

@@ -89,7 +89,7 @@ lines_from begun (c ∷ cs) = if c == 10 then begun ∷ lines_from [] cs else li
 abbrev pub lines_of : List ℕ → List (List ℕ)
 lines_of input = lines_from [] input
 
--- The same by spellings: full lines, each with its line feed (10), and behind them perhaps one without.
+-- The same by spellings: full lines, each with its line feed (10), and after them perhaps one without.
 abbrev pub ended : List (List ℕ) → List ℕ
 ended [] = []
 ended (line ∷ lines) = line ++ 10 ∷ ended lines

@@ -4,7 +4,7 @@ ghost use Rattle.std.specs.Prelude.{◌≡◌, Option, option_map, bytes_eq, IfO
 ghost use Rattle.std.specs.Option.{option_copied};
 ghost use Rattle.pgv_text.specs.Number.{unsigned_value};
 ghost use Rattle.pgv_session.specs.Lines.{before, behind, first_word, behind_word, words, starts_with_plus, oid_of, oid_named, oids_named, request, given_bytes as bytes_given, alone as alone_by, add_line as added_by, null_line as null_by, resolve_line as resolve_by, read_line as read_by};
-ghost use Rattle.pgv_session.specs.Requests.{request_seen};
+ghost use Rattle.pgv_session.specs.RequestsView.{request_seen};
 ghost use Rattle.pgv_session.specs.Spelled.{Asks};
 
 use hex::FromHexError;
@@ -36,7 +36,7 @@ pub enum Request<'a> {
     Wire,
 }
 
-/// What stands before the first byte of a kind, and behind it, where there is one.
+/// What stands before the first byte of a kind, and after it, where there is one.
 pub fn split_at_byte(line: &[u8], mark: u8) -> (&[u8], Option<&[u8]>)
     ensures before { result.0.now ≡ before mark line.now }
     ensures behind { option_copied result.1 ≡ behind mark line.now }
@@ -49,7 +49,7 @@ pub fn split_at_byte(line: &[u8], mark: u8) -> (&[u8], Option<&[u8]>)
     (line, None)
 }
 
-/// A line's first word, and what stands behind the space that ends it, where one does.
+/// A line's first word, and what comes after the space that ends it, where one does.
 fn split_word(line: &[u8]) -> (&[u8], Option<&[u8]>)
     ensures word { result.0.now ≡ first_word line.now }
     ensures behind { option_copied result.1 ≡ behind_word line.now }

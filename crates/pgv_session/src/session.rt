@@ -5,7 +5,7 @@ ghost use Rattle.hex.specs.Hex.{encode_lower};
 ghost use Rattle.pgv_types.specs.Facts.{display_of};
 ghost use Rattle.pgv_buf.specs.Tokens.{shown, hole_count};
 ghost use Rattle.pgv_wire.specs.Arguments.{all_tokens};
-ghost use Rattle.pgv_session.specs.Requests.{request_seen};
+ghost use Rattle.pgv_session.specs.RequestsView.{request_seen};
 ghost use Rattle.pgv_session.specs.Session.{Answers, RespondsTo, Resolves, names_shown};
 
 use crate::line::{Request, parse};
@@ -14,7 +14,7 @@ use pgv_types::{Oid, PgTypeInfo};
 use pgv_wire::PgArguments;
 use std::alloc::{AllocError, Global};
 
-/// Answers a line. Only want of memory is an error; what the arguments are then is not said.
+/// Answers a line. Only out of memory is an error; what the arguments are then is not said.
 pub fn answer(alloc: Global, arguments: &mut PgArguments, line: &[u8]) -> Result<String, AllocError>
     ensures { IfOk result (λ text. Answers line.now arguments.old (string_bytes text) arguments.new) }
 {

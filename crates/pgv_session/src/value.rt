@@ -8,7 +8,7 @@ ghost use Rattle.pgv_value.specs.Codes.{code_of};
 ghost use Rattle.pgv_value.specs.declared.error.CodecError.TheVariants.{Memory};
 ghost use Rattle.pgv_value.specs.declared.value.PgValueFormat.TheVariants.{Text as InText, Binary as InBinary};
 ghost use Rattle.pgv_codec.specs.Saying.{said};
-ghost use Rattle.pgv_session.specs.Requests.{ask_seen};
+ghost use Rattle.pgv_session.specs.RequestsView.{ask_seen};
 ghost use Rattle.pgv_session.specs.Session.{RespondsBy, Adds, Reads, IsRefusal, refused, placeholder as placeholder_of};
 ghost use Rattle.pgv_session.specs.Types.{framed_as, framed_by, row, row_named, types};
 
@@ -130,7 +130,7 @@ fn frame_text<T: Encode + Type>(alloc: Global, value: &T) -> Result<String, Allo
     }
 }
 
-/// `refused Cn`. Want of memory (C1) is none of a session's refusals.
+/// `refused Cn`. Out of memory (C1) is none of a session's refusals.
 pub fn refusal(alloc: Global, error: &CodecError) -> Result<String, AllocError>
     ensures refused { IfOk result (λ text. IsRefusal (string_bytes text)) }
     ensures told { IfOk result (λ _. error.now ≢ Memory) }

@@ -9,6 +9,6 @@ pub mod Scan
 pub mod Parsed
 pub mod Values
 pub mod View
-pub mod Left
+pub mod PartsView
 pub mod Spellings
 pub mod Laws

@@ -60,7 +60,7 @@ pub struct Parts<'a> {
 }
 
 impl<'a> Parts<'a> {
-    ghost use Rattle.pgv_text.specs.Left.{nest};
+    ghost use Rattle.pgv_text.specs.PartsView.{nest};
 
     /// The parts of a text; `None` where it isn't in the form.
     pub fn new(form: TextForm, text: &'a str) -> Option<Self>

@@ -1,4 +1,4 @@
--- Names with brackets behind them, or none.
+-- Names with brackets after them, or none.
 use Rattle.std.proofs.Common.{◌≡◌, ℕ, Bool, true, false, List, [], ◌∷◌, ◌++◌, ap, ◌∙◌, sym, refl, arith, codes}
 use Rattle.std.specs.Prelude.{Decides}
 use Rattle.std.specs.Str.{chars, bytes_eq, IsUtf8}
@@ -30,7 +30,7 @@ pub bytes_eq_sym : (a b : List ℕ) → bytes_eq a b ≡ bytes_eq b a
 bytes_eq_sym a b =
     same_from_decides (bytes_eq a b) (bytes_eq b a) (bytes_eq-Decides a b) (Decides-like (bytes_eq b a) (λ (q : b ≡ a). sym q) (λ (q : a ≡ b). sym q) (bytes_eq-Decides b a))
 
--- brackets behind a text don't change whether it begins with U&
+-- brackets after a text don't change whether it begins with U&
 none_alone : (brackets : Bool) (rest : List ℕ) → suffix_of brackets ≡ 85 ∷ 38 ∷ rest → ⊥
 none_alone true rest e = let q : 91 ≡ 85 = ap first_of e in absurd (omega (arith, q))
 none_alone false rest e = let q : 0 ≡ 85 = ap first_of e in absurd (omega (arith, q))

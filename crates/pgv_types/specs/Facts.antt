@@ -60,7 +60,7 @@ element_in (array t) = Some t
 element_in (enumeration ls) = None
 element_in (range t) = None
 
--- what stands behind the _ of a declared name
+-- what comes after the _ of a declared name
 abbrev pub name_element : List ℕ → Option (List ℕ)
 name_element [] = None
 name_element (c ∷ cs) = cond (c == 95) (Some cs) None

@@ -36,7 +36,7 @@ impl IdentifierChar {
     }
 }
 
-/// What stands behind the text of a name.
+/// What comes after the text of a name.
 fn suffix(brackets: bool) -> &'static str
     ensures { result.now ≡ suffix_of brackets }
 {
@@ -53,7 +53,7 @@ struct NameLetters<'a> {
 impl<'a> NameLetters<'a> {
     ghost use Rattle.pgv_types.specs.Left.{name_letters_left};
 
-    /// The characters of a text, with `[]` behind it or nothing.
+    /// The characters of a text, with `[]` after it or nothing.
     #[tactic(auto, using(crate::proofs::Same::letters_append))]
     fn new(text: &'a str, brackets: bool) -> Self
         ensures { name_letters_left result ≡ chars (text.now ++ suffix_of brackets) }
@@ -85,7 +85,7 @@ impl Iterator for NameLetters<'_> {
 /// The significant characters of a name, from left to right, that are still to come.
 ///
 /// Two quotes next to each other are one quote character. A single quote is a switch, which isn't
-/// significant: what stands behind an odd number of switches is sensitive.
+/// significant: what comes after an odd number of switches is sensitive.
 #[derive(Drop)]
 pub struct IdentifierChars<'a> {
     letters: NameLetters<'a>,
@@ -96,7 +96,7 @@ pub struct IdentifierChars<'a> {
 impl<'a> IdentifierChars<'a> {
     ghost use Rattle.pgv_types.specs.Left.{left};
 
-    /// The significant characters of a text, with `[]` behind it or nothing.
+    /// The significant characters of a text, with `[]` after it or nothing.
     fn new(text: &'a str, brackets: bool) -> Self
         ensures { left result ≡ significant (text.now ++ suffix_of brackets) }
     {
@@ -163,7 +163,7 @@ fn begins_unicode(name: &str) -> bool
     matches!(name.as_bytes(), [b'U', b'&', ..])
 }
 
-/// The name of a type: a text, and `[]` behind it or nothing. It is printed as it is, and never padded.
+/// The name of a type: a text, and `[]` after it or nothing. It is printed as it is, and never padded.
 #[derive(Clone, Copy)]
 pub struct PgTypeName<'a> {
     text: &'a str,
@@ -171,7 +171,7 @@ pub struct PgTypeName<'a> {
 }
 
 impl<'a> PgTypeName<'a> {
-    /// A text, with `[]` behind it or nothing.
+    /// A text, with `[]` after it or nothing.
     pub fn new(text: &'a str, brackets: bool) -> Self
         ensures whole { whole result ≡ text.now ++ suffix_of brackets }
         ensures text { name_text result ≡ text.now }
@@ -285,7 +285,7 @@ impl Display for PgTypeName<'_> {
     }
 }
 
-/// Whether a text is another with `[]` behind it.
+/// Whether a text is another with `[]` after it.
 fn is_with_brackets(text: &str, front: &str) -> bool
     ensures { result ≡ bytes_eq text.now (front.now ++ codes "[]") }
 {

@@ -151,7 +151,7 @@ pub enum PgType {
 }
 
 impl PgType {
-    /// The element of an array: a built-in array's or a custom one's, the name behind the `_` of a
+    /// The element of an array: a built-in array's or a custom one's, the name after the `_` of a
     /// declared name, or the name that an array was declared by. It takes no memory.
     pub fn array_element(&self) -> Option<PgTypeRef<'_>>
         ensures { option_map ref_type result ≡ element_of (type_of self.now) }
@@ -217,7 +217,7 @@ impl PgType {
         PgTypeName::new(self.display_text(), self.shows_brackets())
     }
 
-    /// Whether `[]` stands behind the name that is shown.
+    /// Whether `[]` stands after the name that is shown.
     fn shows_brackets(&self) -> bool
         ensures { result ≡ shows_brackets (type_of self.now) }
     {
@@ -246,7 +246,7 @@ impl PgType {
     }
 }
 
-/// What stands behind the `_` of a declared name.
+/// What comes after the `_` of a declared name.
 fn element_name(name: &'static str) -> Option<&'static str>
     ensures { option_map (λ n. n.now) result ≡ name_element name.now }
 {
@@ -450,7 +450,7 @@ impl PgTypeInfo {
         self.0.array_element()
     }
 
-    /// The name that is shown: in upper case for a built-in type, with `[]` behind an array.
+    /// The name that is shown: in upper case for a built-in type, with `[]` after an array.
     pub fn name(&self) -> PgTypeName<'_>
         ensures { whole result ≡ display_of self.now }
     {

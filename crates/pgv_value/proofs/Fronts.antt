@@ -47,7 +47,7 @@ AreBytes-take zero xs h = tt
 AreBytes-take (suc n) [] h = tt
 AreBytes-take (suc n) (x ∷ xs) h = (h.0, AreBytes-take n xs h.1)
 
--- of a length and what stands behind it
+-- of a length and what comes after it
 frame_of : (bytes head behind : List ℕ) (n : ℕ) (part : Part) (rest : List ℕ) → bytes ≡ head ++ behind → to_be_bytes w32 n ≡ head → (x y z : Bool) → nat_eq n 4294967295 ≡ x → nat_lt 2147483647 n ≡ y → nat_lt (length behind) n ≡ z →
     cond {A = Option (Part × List ℕ)} x (Some (None, behind)) (cond y None (cond z None (Some (Some (take n behind), drop n behind)))) ≡ Some (part, rest) → IsFrame bytes part rest
 frame_of bytes head behind n part rest whole head_is true y z null large short e =

@@ -1,7 +1,7 @@
 pub mod Reading
 pub mod Codes
-pub mod Given
-pub mod Row
+pub mod ValueView
+pub mod RowView
 pub mod Utf8
 pub mod Frame
 pub mod Numbers

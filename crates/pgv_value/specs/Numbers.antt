@@ -27,7 +27,7 @@ abbrev pub whole_number : List ℕ → Option ℤ
 whole_number bytes =
     if is_wrong_length bytes then None else Some (twos_complement (length bytes) (big_number (length bytes) bytes))
 
--- four bytes without a sign, the highest first, and anything behind them
+-- four bytes without a sign, the highest first, and anything after them
 abbrev pub four_bytes : List ℕ → Option ℕ
 four_bytes bytes = if nat_lt (length bytes) 4 then None else Some (from_be_bytes w32 (take 4 bytes))
 

@@ -9,7 +9,7 @@ use Rattle.pgv_value.specs.declared.value.PgValueFormat.{PgValueFormat}
 abbrev pub Reading : Type 0 → Type 0
 Reading M = Ty → PgValueFormat → Option (List ℕ) → Option M
 
--- an error other than want of memory comes only where a fact holds
+-- an error other than out of memory comes only where a fact holds
 abbrev pub Refuses : CodecError → Type 0 → Type 0
 Refuses Memory p = ⊤
 Refuses _ p = p

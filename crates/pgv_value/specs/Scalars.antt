@@ -19,7 +19,7 @@ scalar binary text t f None = None
 scalar binary text t Binary (Some bytes) = binary bytes
 scalar binary text t Text (Some bytes) = if is_utf8 bytes then text bytes else None
 
--- the first byte, which is zero or not; anything behind it
+-- the first byte, which is zero or not; anything after it
 abbrev pub first_is_set : List ℕ → Option Bool
 first_is_set [] = None
 first_is_set (byte ∷ behind) = Some (not (byte == 0))

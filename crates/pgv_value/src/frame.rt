@@ -11,7 +11,7 @@ const NULL_LENGTH: u32 = 0xffff_ffff;
 /// The largest length of a part.
 const MAX_LENGTH: u32 = 0x7fff_ffff;
 
-/// The part of the frame at the front, and what stands behind it.
+/// The part of the frame at the front, and what comes after it.
 #[tactic(auto, unfolding(crate::specs::Frame::front))]
 pub(crate) fn front_of(bytes: &[u8]) -> Result<(Option<&[u8]>, &[u8]), CodecError>
     ensures found { IfOk result (λ p. front bytes.now ≡ Some (option_copied p.0, p.1.now)) }

@@ -3,7 +3,7 @@
 ghost use Rattle.std.specs.Prelude.{◌≡◌, ◌<◌, ◌≤◌, slice_range, length, Some, None, IfOk, OnOk, OnErr, IfErr, IsErrOf, IsTrue, is_none};
 ghost use Rattle.std.specs.Option.{option_copied};
 ghost use Rattle.pgv_value.specs.Frame.{front, frame_fault};
-ghost use Rattle.pgv_value.specs.Given.{Given};
+ghost use Rattle.pgv_value.specs.ValueView.{Given};
 ghost use Rattle.pgv_value.specs.Utf8.{is_utf8, RefusesText};
 ghost use Rattle.pgv_value.specs.declared.error.CodecError.TheVariants.{UnexpectedNull, Memory};
 
@@ -33,7 +33,7 @@ pub struct PgValue {
 }
 
 impl Model for PgValue {
-    ghost use Rattle.pgv_value.specs.Given.{Given, given_code};
+    ghost use Rattle.pgv_value.specs.ValueView.{Given, given_code};
 
     ghost Value = { Given };
 
@@ -106,7 +106,7 @@ pub struct PgValueRef<'r> {
 
 impl<'r> Model for PgValueRef<'r> {
     ghost use Rattle.std.specs.Option.{option_copied};
-    ghost use Rattle.pgv_value.specs.Given.{Given, given_code};
+    ghost use Rattle.pgv_value.specs.ValueView.{Given, given_code};
 
     ghost Value = { Given };
 
@@ -114,7 +114,7 @@ impl<'r> Model for PgValueRef<'r> {
 
     ghost view = { λ v. record { bytes = option_copied v.value; type_info = v.type_info; format = v.format } };
 
-    ghost use Rattle.pgv_value.specs.Row.{IsOfRow};
+    ghost use Rattle.pgv_value.specs.RowView.{IsOfRow};
 
     ghost invariant = { λ v. IsOfRow v.row v.value };
 }
@@ -157,7 +157,7 @@ impl<'r> PgValueRef<'r> {
         }
     }
 
-    /// Reads the frame at the front of a slice, hands out its part and moves the slice on behind it (PostgreSQL,
+    /// Reads the frame at the front of a slice, hands out its part and moves the slice on after it (PostgreSQL,
     /// "Message Formats", DataRow: a signed length of four bytes, the highest first, and that many bytes; -1 is
     /// null). A slice that ends too early is refused with C15 and any other negative length with C16; the slice then
     /// stays where it was.
@@ -166,7 +166,7 @@ impl<'r> PgValueRef<'r> {
         format: PgValueFormat,
         type_info: PgTypeInfo,
     ) -> Result<Self, CodecError>
-        // What is answered is the part of the frame in front, and the slice goes on behind it.
+        // What is answered is the part of the frame in front, and the slice goes on after it.
         ensures found { IfOk result (λ v. front bytes.old.now ≡ Some (v.bytes, bytes.new.now)) }
         ensures kind { IfOk result (λ v. v.type_info ≡ type_info) }
         ensures format { IfOk result (λ v. v.format ≡ format) }

@@ -8,10 +8,10 @@ use Rattle.pgv_buf.specs.Tokens.{blank, plain, Cell, fixed, hole_cell, slot_cell
 use Rattle.pgv_buf.specs.Blank.{holes-plain}
 use Rattle.pgv_buf.specs.Marks.{same_mark, mark_of, between_marks, IsBefore}
 use Rattle.pgv_buf.specs.Fill.{slot_count-filled, fill_holes, first_number, rest_numbers, fill_slots, slot_types, rest_types}
-use Rattle.pgv_buf.specs.Parse.{width-append, shown-append, first_type}
+use Rattle.pgv_buf.specs.Proper.{width-append, shown-append, first_type}
 use Rattle.pgv_wire.specs.Arguments.{Argument, Framed, all_tokens, types_in, counts_in, framed, early, filled_arguments, filled_frame}
 use Rattle.pgv_codec.specs.Writing.{write}
-use Rattle.pgv_wire.specs.Kept.{Stands, arguments_of}
+use Rattle.pgv_wire.specs.KeptView.{Stands, arguments_of}
 use Rattle.pgv_wire.specs.History.{told}
 use Rattle.pgv_wire.proofs.Framed.{OfImage, images_more, images_filled, left_more, left_filled}
 use Rattle.pgv_wire.proofs.Split.{split_back}

@@ -6,7 +6,7 @@ use Rattle.pgv_types.specs.declared.oid.Oid.{Oid}
 use Rattle.pgv_buf.specs.Tokens.{width, tokens_width, Token, byte, hole, slot, tokens_holes, Cell, fixed, hole_cell, slot_cell, be4, blank, plain, hole_count, slot_count, chosen}
 use Rattle.pgv_buf.specs.Blank.{plain-append, plain-blank, holes-plain}
 use Rattle.pgv_buf.specs.Fill.{first_number, rest_numbers, fill_holes, fill_slots, rest_types}
-use Rattle.pgv_buf.specs.Parse.{first_type}
+use Rattle.pgv_buf.specs.Proper.{first_type}
 use Rattle.pgv_wire.specs.Arguments.{Argument, Framed, framed, all_tokens, filled_frame, filled_arguments}
 use Rattle.pgv_wire.specs.History.{blanks, Told, with_added, with_filled, left_by, joined_frames, LeftBySome}
 use Rattle.pgv_codec.specs.Image.{Image, frame_of, frame}
@@ -111,7 +111,7 @@ length-framed : (args : List Argument) → length (framed args) ≡ length args
 length-framed [] = refl
 length-framed (a ∷ args) = ap suc (length-framed args)
 
--- one more behind the others
+-- one more after the others
 pub left_more : (args : List Argument) (f : Framed) → LeftBySome args → LeftBySome (args ++ (f.0, blank f.1) ∷ [])
 left_more args f l = (
   with_added l.0 f,
@@ -149,7 +149,7 @@ image_within false i f e = absurd cc
 pub of_image : (hint : ℕ) (i : Option Image) (f : List Token) → frame hint i ≡ Some f → OfImage f
 of_image hint i f e = image_within _ i f e
 
--- one more behind the others
+-- one more after the others
 are-more : (is : List Image) (fs : List Framed) (i : Image) (f : Framed) → AreFrames is fs → frame_of (Some i) ≡ Some f.1 → AreFrames (is ++ i ∷ []) (fs ++ f ∷ [])
 are-more [] [] i f h e = (e, tt)
 are-more [] (g ∷ fs) i f h e = absurd h

@@ -3,7 +3,7 @@ use Rattle.std.proofs.Common.{◌≡◌, ℕ, List, [], ◌∷◌, ◌++◌, tak
 use Rattle.pgv_types.specs.Ty.{Ty}
 use Rattle.pgv_types.specs.declared.oid.Oid.{Oid}
 use Rattle.pgv_buf.specs.Tokens.{Cell, bytes, tokens_width, fixed, hole_cell, slot_cell, blank, plain, shown, width, hole_types_of, hole_count}
-use Rattle.pgv_buf.specs.Parse.{shown-append, first_type}
+use Rattle.pgv_buf.specs.Proper.{shown-append, first_type}
 use Rattle.pgv_buf.specs.Fill.{rest_types}
 use Rattle.pgv_wire.specs.Arguments.{Argument, Framed, framed, all_tokens, types_in, early, filled_arguments}
 use Rattle.pgv_wire.specs.History.{LeftBySome, WrittenAtOnce, left_by, with_added, with_filled, Call, adds, fills, is_refused, blanks, after, Told, told_by, told, bytes_by, added_in, joined_frames, framed_types, holes_in, lengths_in, ArePlain, joined_bytes}

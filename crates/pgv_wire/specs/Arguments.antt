@@ -5,7 +5,7 @@ use Rattle.pgv_types.specs.Ty.{Ty}
 use Rattle.pgv_types.specs.declared.oid.Oid.{Oid}
 use Rattle.pgv_buf.specs.Tokens.{Token, tokens_holes, Cell, blank, plain, hole_count, slot_count}
 use Rattle.pgv_buf.specs.Fill.{fill_holes, fill_slots, rest_types}
-use Rattle.pgv_buf.specs.Parse.{first_type}
+use Rattle.pgv_buf.specs.Proper.{first_type}
 use Rattle.pgv_codec.specs.Writing.{write}
 
 abbrev pub Argument : Type 0

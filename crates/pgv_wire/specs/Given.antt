@@ -5,7 +5,7 @@ use Rattle.std.specs.List.{slice_get}
 use Rattle.pgv_types.specs.Ty.{Ty}
 use Rattle.pgv_types.specs.declared.oid.Oid.{Oid}
 use Rattle.pgv_buf.specs.Fill.{rest_types}
-use Rattle.pgv_buf.specs.Parse.{Proper, first_type}
+use Rattle.pgv_buf.specs.Proper.{Proper, first_type}
 use Rattle.pgv_buf.specs.Tokens.{tokens_holes, shown}
 use Rattle.pgv_value.specs.Frame.{Part}
 use Rattle.pgv_value.specs.Reading.{Reading}

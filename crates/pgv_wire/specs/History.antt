@@ -60,7 +60,7 @@ added_in (adds f ∷ calls) = f ∷ added_in calls
 added_in (fills ps os ∷ calls) = added_in calls
 added_in (is_refused ∷ calls) = added_in calls
 
--- their tokens, one behind the other
+-- their tokens, one after another
 abbrev pub joined_frames : List Framed → List Token
 joined_frames [] = []
 joined_frames (f ∷ fs) = f.1 ++ joined_frames fs
@@ -78,7 +78,7 @@ pub record LeftBy (args : List Argument) (h : Told) : Type 0 where
 abbrev pub LeftBySome : List Argument → Type 0
 LeftBySome args = (h : Told) × LeftBy args h
 
--- there are types and OIDs with which the bytes are the first so many frames, written at once, as many as these have
+-- there are types and OIDs with which the bytes are the first n frames, written at once, as many as these have
 -- arguments and holes, and then the others blank; there are no other frames
 abbrev pub WrittenAtOnce : List Argument → Type 0
 WrittenAtOnce args =

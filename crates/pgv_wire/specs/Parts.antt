@@ -1,10 +1,10 @@
--- Frames that are read one behind the other (PostgreSQL: "Message Formats", Bind: each parameter value is a length
+-- Frames that are read one after another (PostgreSQL: "Message Formats", Bind: each parameter value is a length
 -- of four bytes, the highest first, and that many bytes; the length -1 is null).
 use Rattle.std.specs.Prelude.{◌≡◌, ℕ, List, [], ◌∷◌, length, take, drop, Option, Some, None, ⊤}
 use Rattle.pgv_types.specs.Ty.{Ty}
 use Rattle.pgv_types.specs.declared.oid.Oid.{Oid}
 use Rattle.pgv_buf.specs.Fill.{rest_types}
-use Rattle.pgv_buf.specs.Parse.{first_type}
+use Rattle.pgv_buf.specs.Proper.{first_type}
 use Rattle.pgv_buf.specs.Tokens.{Cell, shown, tokens_holes}
 use Rattle.pgv_value.specs.Frame.{Part, front}
 use Rattle.pgv_codec.specs.Image.{Image, null_image, image_of, frame_of}
@@ -27,7 +27,7 @@ AreFrames (i ∷ is) (f ∷ fs) = (frame_of (Some i) ≡ Some f.1) × AreFrames 
 abbrev pub OfImages : List Argument → Type 0
 OfImages args = (is : List Image) × AreFrames is (framed args)
 
--- the part of a frame: null, or what it shows behind its length
+-- the part of a frame: null, or what it shows after its length
 abbrev pub part_in : Image → List Cell → Part
 part_in null_image ts = None
 part_in (image_of us) ts = Some (drop 4 (shown ts))
@@ -42,7 +42,7 @@ abbrev pub written_parts : List Image → List Ty → List Oid → List Part
 written_parts [] ps os = []
 written_parts (i ∷ is) ps os = written_part i (Some (first_type ps)) (take (image_holes i) os) ∷ written_parts is (rest_types ps) (drop (image_holes i) os)
 
--- frames that are read one behind the other, a part for each and nothing behind: null where the image is null, and
--- else what the argument shows behind its length
+-- frames that are read one after another, a part for each and nothing after: null where the image is null, and
+-- else what the argument shows after its length
 abbrev pub AllRead : List Argument → Type 0
 AllRead args = (is : List Image) × AreFrames is (framed args) × ReadAs (shown (all_tokens args)) (parts_in is args) [] × (length (parts_in is args) ≡ length args)

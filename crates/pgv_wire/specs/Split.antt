@@ -1,16 +1,16 @@
--- Frames one behind the other, told apart by the lengths that they begin with.
+-- Frames one after another, told apart by the lengths that they begin with.
 use Rattle.std.specs.Prelude.{ℕ, ◌+◌, ◌-◌, nat_le, nat_eq, cond, List, [], ◌∷◌, take}
 use Rattle.std.specs.Int.{w32, from_be_bytes}
 use Rattle.pgv_types.specs.Ty.{Ty}
 use Rattle.pgv_buf.specs.Tokens.{Cell, cell_width, shown}
 use Rattle.pgv_wire.specs.Arguments.{Argument}
 
--- the cells in front that are so many bytes, and then those without bytes
+-- the cells in front that are n bytes, and then those without bytes
 abbrev pub as_wide : ℕ → List Cell → List Cell
 as_wide w [] = []
 as_wide w (t ∷ ts) = cond (nat_le (cell_width t) w) (t ∷ as_wide (w - cell_width t) ts) []
 
--- what stands behind these
+-- what comes after these
 abbrev pub behind_wide : ℕ → List Cell → List Cell
 behind_wide w [] = []
 behind_wide w (t ∷ ts) = cond (nat_le (cell_width t) w) (behind_wide (w - cell_width t) ts) (t ∷ ts)
@@ -23,7 +23,7 @@ bytes_by_length n = cond (nat_eq n 4294967295) 4 (4 + n)
 abbrev pub frame_width : List Cell → ℕ
 frame_width ts = bytes_by_length (from_be_bytes w32 (shown (take 4 ts)))
 
--- so many frames, each with its type
+-- n frames, each with its type
 abbrev pub split : List Ty → List Cell → List Argument
 split [] ts = []
 split (t ∷ hs) ts = (t, as_wide (frame_width ts) ts) ∷ split hs (behind_wide (frame_width ts) ts)

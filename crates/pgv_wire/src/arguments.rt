@@ -39,7 +39,7 @@ impl Model for PgArguments {
 
     ghost coded = { coded_list (coded× ty_code cells_code) };
 
-    ghost use Rattle.pgv_wire.specs.Kept.{seen, IsKept};
+    ghost use Rattle.pgv_wire.specs.KeptView.{seen, IsKept};
 
     ghost view = { seen };
 
@@ -58,7 +58,7 @@ impl PgArguments {
         }
     }
 
-    /// Makes room for so many arguments more, and so many bytes. Nothing is added, also where it is refused (C1).
+    /// Makes room for `additional` more arguments and `size` more bytes. Nothing is added, also where it is refused (C1).
     pub fn reserve(&mut self, additional: usize, size: usize) -> Result<(), CodecError>
         ensures same { self.new ≡ self.old }
         ensures err { IfErr result (λ e. e ≡ Memory) }
@@ -83,7 +83,7 @@ impl PgArguments {
         self.types.as_slice()
     }
 
-    /// The frames of the arguments, one behind the other. Each is the frame of an image. There are types and OIDs, as
+    /// The frames of the arguments, one after another. Each is the frame of an image. There are types and OIDs, as
     /// many as arguments and holes, with which the bytes are the first of these frames, written at once, and then the
     /// others with zeros for holes and defaults for slots. That they are the last filling's is what
     /// [`apply_patches`](PgArguments::apply_patches) and [`laws::history`](crate::laws::history) say;
@@ -96,7 +96,7 @@ impl PgArguments {
         &self.buffer
     }
 
-    /// Adds a value, and remembers what it produces or else its type's info. It is accepted, want of memory (C1)
+    /// Adds a value, and remembers what it produces or else its type's info. It is accepted, out of memory (C1)
     /// aside, exactly where the value has a frame; a refused one leaves all as it was. C2 where the size hint or the
     /// image is above 2147483647.
     pub fn add_by_ref<T: Encode + Type>(&mut self, value: &T) -> Result<(), CodecError>

@@ -4,7 +4,7 @@
 ghost use Rattle.std.specs.Prelude.{◌≡◌, ◌<◌, ◌^◌, ℕ, Bool, List, [], ◌∷◌, length, Option, Some, None};
 ghost use Rattle.pgv_types.specs.Ty.{Ty};
 ghost use Rattle.pgv_types.specs.declared.oid.Oid.{Oid};
-ghost use Rattle.pgv_buf.specs.Parse.{Proper};
+ghost use Rattle.pgv_buf.specs.Proper.{Proper};
 ghost use Rattle.pgv_buf.specs.Tokens.{Token, Cell, shown, width, tokens_width, hole_types_of};
 ghost use Rattle.pgv_value.specs.Frame.{Part};
 ghost use Rattle.pgv_value.specs.Reading.{Reading};
@@ -18,17 +18,17 @@ ghost use Rattle.pgv_codec.specs.Plain.{ArrayIsPlain, FieldIsPlain};
 ghost use Rattle.pgv_wire.specs.Parts.{ReadAs, AreFrames, AllRead, parts_in, written_parts};
 ghost use Rattle.pgv_codec.specs.Saying.{said};
 
+use crate::arguments::PgArguments;
+use pgv_codec::ReadBack;
 pub use pgv_codec::laws::{
-    field_reads_back, nests_fit, oids_fit, plain_types_fit, read_back, record_fields_follow, record_is_its_accepted_fields, rows,
-    texts, tuple_is_its_fields, tuple_reads_back, written_as_read,
+    field_reads_back, nests_fit, oids_fit, plain_types_fit, read_back, record_fields_follow,
+    record_is_its_accepted_fields, rows, texts, tuple_is_its_fields, tuple_reads_back,
+    written_as_read,
 };
 pub use pgv_nest::laws::{
     array_is_its_elements, few_elements, field_is_its_value, field_type_is_found, one_array,
     one_field, record_begins, record_text_begins, text_field_is_its_value,
 };
-
-use crate::arguments::PgArguments;
-use pgv_codec::ReadBack;
 
 /// Whatever was added, refused and filled, in any order: the bytes are those that the arguments at the last
 /// filling are written as with what it was given, and then the others with zeros and defaults.
@@ -121,4 +121,3 @@ pub fn parts_after()
 pub fn argument_reads_back<T: ReadBack>()
     ensures { ArgumentReadsBack T.hint T.image T.reading (λ v. T.meaning (T.kept v)) T.fits }
 {}
-

@@ -92,7 +92,7 @@ fn arrays_and_holes(rt: HostRuntime) -> Result<(), Fail> {
     Ok(())
 }
 
-/// What stands before the next space of a row, and behind it.
+/// What stands before the next space of a row, and after it.
 fn column(row: &str) -> (&str, &str) {
     match row.split_once(' ') {
         Some(parts) => parts,

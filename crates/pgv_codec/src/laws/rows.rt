@@ -12,7 +12,7 @@ ghost use Rattle.pgv_value.specs.Scalars.{bool_reading, char_reading, int_readin
 ghost use Rattle.pgv_nest.specs.Arrays.{array, array_of_length};
 ghost use Rattle.pgv_codec.specs.Image.{array_image, sized_image, option_image, option_hint, option_produced};
 ghost use Rattle.pgv_codec.specs.Nullable.{nullable};
-ghost use Rattle.pgv_codec.specs.Row.{IsBuiltIn, IsWrittenAs};
+ghost use Rattle.pgv_codec.specs.TypeRow.{IsBuiltIn, IsWrittenAs};
 ghost use Rattle.pgv_codec.specs.Scalars.{bool_image, signed_image, unsigned_image, text_image, uuid_image, is_text, is_text_array, is_void_or_record};
 
 use crate::traits::{Codec, Decode, Encode, PgHasArrayType, Type};

@@ -1,7 +1,7 @@
 //! Arrays of one dimension (PostgreSQL, "Arrays").
 
 ghost use Rattle.std.specs.Prelude.{◌≡◌, ◌++◌, IfOk, IfErr, OnOk, OnErr, ◌*◌, ◌≤◌, length, map, Some, None, IfSome, IsErrOf};
-ghost use Rattle.pgv_text.specs.Left.{nest};
+ghost use Rattle.pgv_text.specs.PartsView.{nest};
 ghost use Rattle.pgv_buf.specs.Tokens.{blank};
 ghost use Rattle.pgv_value.specs.Reading.{Answers};
 ghost use Rattle.pgv_value.specs.declared.error.CodecError.TheVariants.{Memory, UnexpectedNull};

@@ -1,12 +1,12 @@
 //! Records: composite types, field by field.
 
 ghost use Rattle.std.specs.Prelude.{IfErr, OnOk, OnErr, ◌≡◌, ◌≢◌, ◌+◌, ◌<◌, length, None, IfOk, IsErrOf};
-ghost use Rattle.pgv_text.specs.Left.{nest};
+ghost use Rattle.pgv_text.specs.PartsView.{nest};
 ghost use Rattle.pgv_text.specs.Values.{record_values};
 ghost use Rattle.pgv_value.specs.Reading.{Answers};
 ghost use Rattle.pgv_value.specs.declared.error.CodecError.TheVariants.{UnexpectedNull};
 ghost use Rattle.pgv_codec.specs.Image.{field};
-ghost use Rattle.pgv_codec.specs.Left.{left_of, IsInPlace};
+ghost use Rattle.pgv_codec.specs.FieldsLeftView.{left_of, IsInPlace};
 ghost use Rattle.pgv_codec.specs.Outcome.{Refused, Appended, AppendedAll};
 ghost use Rattle.pgv_codec.specs.Record.{IsOpen};
 ghost use Rattle.pgv_nest.specs.Records.{field_in, fields_of, next, Takes};
@@ -40,9 +40,9 @@ impl<'a> PgRecordEncoder<'a> {
     ghost use Rattle.pgv_codec.specs.Image.{field, field_at};
     ghost use Rattle.pgv_codec.specs.Outcome.{Refused};
     ghost use Rattle.pgv_codec.specs.Record.{begun, so_far, AddsField};
-    ghost use Rattle.pgv_codec.specs.Written.{written};
+    ghost use Rattle.pgv_codec.specs.WrittenView.{written};
 
-    /// Begins a record behind what the buffer has. C1 leaves the buffer as it was.
+    /// Begins a record after what the buffer has. C1 leaves the buffer as it was.
     pub fn new(out: &'a mut PgArgumentBuffer) -> Result<PgRecordEncoder<'a>, CodecError>
         ensures same_reference { IfOk result (λ e. e.out.ghost_name ≡ out.entry.ghost_name) }
         ensures begun { IfOk result (λ e. written e ≡ begun out.old) }
@@ -59,7 +59,7 @@ impl<'a> PgRecordEncoder<'a> {
         })
     }
 
-    /// Writes a field: its type and its frame. A refused one is taken back; C12 behind 4294967295 fields.
+    /// Writes a field: its type and its frame. A refused one is taken back; C12 after 4294967295 fields.
     pub fn encode<T: Encode + Type + Drop>(&mut self, value: T) -> Result<(), CodecError>
         ensures same_reference { self.new.out.ghost_name ≡ self.old.out.ghost_name }
         ensures ok { OnOk result (AddsField (field_at (written self.old).count (field T.hint T.image T.produced T.info value)) (written self.old) (written self.new)) }
@@ -104,7 +104,7 @@ fn encode_field<T: Encode + Type>(out: &mut PgArgumentBuffer, value: &T) -> Resu
     Ok(())
 }
 
-/// The fields of a record that are left, read one behind the other (PostgreSQL, "Composite Types").
+/// The fields of a record that are left, read one after another (PostgreSQL, "Composite Types").
 #[derive(Drop)]
 pub struct PgRecordDecoder<'r> {
     alloc: Global,
@@ -118,7 +118,7 @@ impl<'r> Model for PgRecordDecoder<'r> {
 
     ghost coded = { left_code };
 
-    ghost use Rattle.pgv_codec.specs.Left.{left_of, IsInPlace};
+    ghost use Rattle.pgv_codec.specs.FieldsLeftView.{left_of, IsInPlace};
 
     ghost view = { λ d. left_of d.left };
 
@@ -224,7 +224,7 @@ fn text_fields_of(alloc: Global, text: &str) -> Result<TextFields<'_>, CodecErro
     }
 }
 
-/// The next field in binary, and the bytes behind it.
+/// The next field in binary, and the bytes after it.
 fn read_field<'r, T: Type + Decode>(
     alloc: Global,
     type_info: &PgTypeInfo,

@@ -10,7 +10,7 @@ use crate::value::{PgValueFormat, PgValueRef};
 use pgv_text::unsigned_number_of;
 use pgv_types::Oid;
 
-/// Reads an `oid`: in binary the first four bytes, the highest first, whatever stands behind them, and in text
+/// Reads an `oid`: in binary the first four bytes, the highest first, whatever comes after them, and in text
 /// perhaps `+` and one or more digits. Fewer bytes are refused with C15, another text with C29, and a number above
 /// 4294967295 with C30.
 pub fn read_oid(value: &PgValueRef<'_>) -> Result<Oid, CodecError>

@@ -22,7 +22,7 @@ fn uuid_of(text: &str) -> Result<Uuid, CodecError>
 }
 
 /// Reads a `uuid`: in binary its sixteen bytes, and in text its 32 hex digits of either case, also hyphenated, in
-/// braces or behind `urn:uuid:`. Another number of bytes is refused with C17, and another text with C29.
+/// braces or after `urn:uuid:`. Another number of bytes is refused with C17, and another text with C29.
 pub fn read_uuid(value: &PgValueRef<'_>) -> Result<Uuid, CodecError>
     ensures exact { AnswersExactly (λ id. id) (uuid_reading value.now.type_info value.now.format value.now.bytes) result }
     ensures refused { IfErr result (λ e. e ≡ uuid_refusal value.now.format value.now.bytes) }

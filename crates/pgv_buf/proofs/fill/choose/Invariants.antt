@@ -1,6 +1,6 @@
 use Rattle.std.proofs.Common.{◌≡◌, drop}
 use Rattle.pgv_buf.specs.Tokens.{chosen}
-use Rattle.pgv_buf.specs.Shown.{cases_of}
+use Rattle.pgv_buf.specs.CasesView.{cases_of}
 use Rattle.pgv_buf.proofs.fill.choose.Given as goal
 
 abbrev pub invariant-loop-case : goal.invariant-loop-case

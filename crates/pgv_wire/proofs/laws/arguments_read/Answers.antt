@@ -1,5 +1,5 @@
 use Rattle.std.proofs.Common.{List, subst}
-use Rattle.pgv_buf.specs.Parse.{Proper}
+use Rattle.pgv_buf.specs.Proper.{Proper}
 use Rattle.pgv_buf.specs.Tokens.{Cell}
 use Rattle.pgv_wire.proofs.PartsRead.{all_read}
 use Rattle.pgv_wire.proofs.laws.arguments_read.Goals as goal

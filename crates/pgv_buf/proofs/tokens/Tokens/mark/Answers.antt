@@ -1,7 +1,7 @@
 use Rattle.std.proofs.Common.{◌≡◌, length, ◌∙◌, ap, arith, map}
 use Rattle.std.proofs.lemmas.List.{length-map}
 use Rattle.pgv_buf.specs.Tokens.{hole_count, slot_count}
-use Rattle.pgv_buf.specs.Parse.{length-hole_types_of}
+use Rattle.pgv_buf.specs.Proper.{length-hole_types_of}
 use Rattle.pgv_buf.specs.Marks.{same_mark}
 use Rattle.pgv_buf.specs.TokensView.{kept_of}
 use Rattle.pgv_buf.specs.Layout.{Layout}

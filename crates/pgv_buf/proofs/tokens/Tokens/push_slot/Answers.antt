@@ -3,7 +3,7 @@ use Rattle.std.proofs.lemmas.List.{map-append}
 use Rattle.pgv_types.specs.Ty.{Ty}
 use Rattle.pgv_buf.specs.declared.fill.Slot.{Slot}
 use Rattle.pgv_buf.specs.Tokens.{new_slot}
-use Rattle.pgv_buf.specs.Shown.{cases_of}
+use Rattle.pgv_buf.specs.CasesView.{cases_of}
 use Rattle.pgv_buf.specs.TokensView.{kept_of}
 use Rattle.pgv_buf.specs.Layout.{Kept, Represents}
 use Rattle.pgv_buf.proofs.Layouts.{held, valid, tokens_are}

@@ -1,7 +1,7 @@
 use Rattle.std.proofs.Common.{◌≡◌, cond, map, refl, sym, ap, ◌∙◌, Some, None, Option, ℕ, List, ◌++◌, ◌∷◌, []}
 use Rattle.std.proofs.lemmas.List.{map_push}
 use Rattle.std.proofs.lemmas.Result.{err_from_is_err_and}
-use Rattle.pgv_text.specs.Left.{nest}
+use Rattle.pgv_text.specs.PartsView.{nest}
 use Rattle.pgv_value.specs.Frame.{Part}
 use Rattle.pgv_value.specs.Reading.{Refuses}
 use Rattle.pgv_value.specs.declared.value.PgValueFormat.TheVariants.{Text}

@@ -4,7 +4,7 @@ use Rattle.pgv_codec.specs.Image.{typed, join}
 use Rattle.pgv_codec.proofs.Lists.{both, appended_both}
 use Rattle.pgv_codec.proofs.types.array.write_header.Goals as goal
 
--- one append behind the other
+-- one append after the other
 pub returns-clause-ok : goal.returns-clause-ok
 returns-clause-ok c =
     let was = c.args.out.now in

@@ -1,5 +1,5 @@
 use Rattle.std.proofs.Common.{◌≡◌, ◌++◌, length, map}
-use Rattle.pgv_text.specs.Left.{nest}
+use Rattle.pgv_text.specs.PartsView.{nest}
 use Rattle.pgv_text.specs.Values.{part_bytes}
 use Rattle.pgv_text.proofs.parts.Parts.list.Given as goal
 

@@ -1,6 +1,6 @@
 use Rattle.std.proofs.Common.{◌∙◌}
 use Rattle.std.specs.Str.{chars}
-use Rattle.pgv_text.specs.Left.{nest}
+use Rattle.pgv_text.specs.PartsView.{nest}
 use Rattle.pgv_text.proofs.Answered.{nest_found, nest_none}
 use Rattle.pgv_text.proofs.Bytes.{nest_bytes}
 use Rattle.pgv_text.proofs.parts.Parts.new.Goals as goal

@@ -10,7 +10,7 @@ use Rattle.pgv_wire.proofs.arguments.PgArguments.add_by_ref.Goals as goal
 before : (a b : Mark) (was now ts : List Cell) → a ≡ mark_of was → b ≡ mark_of now → now ≡ was ++ ts → IsBefore a b
 before a b was now ts e f g = rw (e, f, g) (is_before was ts)
 
--- the slots behind a mark
+-- the slots after a mark
 slots_are : (a b m : Mark) (n : ℕ) (was now ts : List Cell) → a ≡ mark_of was → b ≡ mark_of now → now ≡ was ++ ts → m ≡ between_marks a b → n ≡ m.slots → n ≡ slot_count ts
 slots_are a b m n was now ts e f g h k =
     let same : m ≡ mark_of ts = h ∙ rw (e, f, g) (between was ts) in

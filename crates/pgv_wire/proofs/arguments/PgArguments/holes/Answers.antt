@@ -1,5 +1,5 @@
 use Rattle.std.proofs.Common.{◌∙◌, ap, length}
-use Rattle.pgv_buf.specs.Parse.{length-hole_types_of}
+use Rattle.pgv_buf.specs.Proper.{length-hole_types_of}
 use Rattle.pgv_wire.specs.Arguments.{all_tokens}
 use Rattle.pgv_wire.proofs.arguments.PgArguments.holes.Goals as goal
 

@@ -1,6 +1,6 @@
 -- What is left of a record, without where it lies in memory.
 use Rattle.std.specs.Prelude.{◌+◌, ◌<◌, ◌^◌, length, ⊤}
-use Rattle.pgv_text.specs.Left.{nest}
+use Rattle.pgv_text.specs.PartsView.{nest}
 use Rattle.pgv_codec.specs.declared.types.record.FieldsLeft.{FieldsLeft}
 use Rattle.pgv_codec.specs.declared.types.record.FieldsLeft.TheVariants.{Binary, Text}
 use Rattle.pgv_nest.specs.Records.{Left, binary_fields, text_fields}

@@ -1,4 +1,4 @@
--- How arguments are kept: their frames one behind the other, their types, and how many slots each has. Each is the frame
+-- How arguments are kept: their frames one after another, their types, and how many slots each has. Each is the frame
 -- of an image, and shows what some types and OIDs write, or is not filled yet.
 use Rattle.std.specs.Prelude.{◌≡◌, ℕ, List}
 use Rattle.pgv_types.specs.Ty.{Ty}
