@@ -208,17 +208,18 @@ fn vectors_of_arrays(rt: HostRuntime) -> Result<(), Fail> {
     Ok(())
 }
 
-/// A reader that fails at a call.
+/// A reader that fails at a call, with an error of this kind.
 #[derive(Drop)]
 struct FailingReader<'a> {
     bytes: &'a [u8],
     calls: u32,
+    kind: ErrorKind,
 }
 
 impl FailingReader<'_> {
     fn step(&mut self) -> io::Result<()> {
         if self.calls == 0 {
-            return Err(Error::from(ErrorKind::Other));
+            return Err(Error::from(self.kind));
         }
         self.calls -= 1;
         Ok(())
@@ -288,6 +289,7 @@ fn faults_are_told(rt: HostRuntime) -> Result<(), Fail> {
         let mut reader = FailingReader {
             bytes: lines,
             calls,
+            kind: ErrorKind::Other,
         };
         let mut written: Vec<u8> = Vec::new(rt.alloc());
         let done = run(rt.alloc(), &mut reader, &mut written);
@@ -311,6 +313,13 @@ fn faults_are_told(rt: HostRuntime) -> Result<(), Fail> {
         );
         assert!(rt; answers.starts_with(writer.written.as_slice()));
     }
+    let mut reader = FailingReader {
+        bytes: lines,
+        calls: 1,
+        kind: ErrorKind::OutOfMemory,
+    };
+    let mut written: Vec<u8> = Vec::new(rt.alloc());
+    assert_eq!(rt; run(rt.alloc(), &mut reader, &mut written), Err(RunFault::Memory));
     assert_eq!(rt; fault_text(&RunFault::Read), "pgvalue: read failed");
     assert_eq!(rt; fault_text(&RunFault::Write), "pgvalue: write failed");
     assert_eq!(rt; fault_text(&RunFault::Memory), "pgvalue: out of memory");
