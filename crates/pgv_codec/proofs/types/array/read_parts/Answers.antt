@@ -1,4 +1,4 @@
-use Rattle.std.proofs.Common.{◌≡◌, cond, map, refl, sym, ap, ◌∙◌, Some, None, Option, ℕ, List, ◌++◌, ◌∷◌, []}
+use Rattle.std.proofs.Common.{◌≡◌, cond, map, sym, ap, ◌∙◌, Some, None, ℕ, List, ◌++◌, ◌∷◌, []}
 use Rattle.std.proofs.lemmas.List.{map_push}
 use Rattle.std.proofs.lemmas.Result.{err_from_is_err_and}
 use Rattle.pgv_text.specs.PartsView.{nest}
