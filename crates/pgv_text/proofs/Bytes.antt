@@ -4,12 +4,12 @@ use Rattle.std.specs.Option.{option_map, option_and_then}
 use Rattle.std.specs.Prelude.{encode_utf8}
 use Rattle.std.specs.Str.{encode_utf8_all, chars, IsUtf8}
 use Rattle.std.specs.List.{AllByRecursion}
-use Rattle.std.proofs.lemmas.Bool.{cases_lt}
+use Rattle.std.proofs.lemmas.Bool.{cases_lt, false_from_ne_true}
 use Rattle.std.proofs.lemmas.Str.{encode_ascii, encodes-chars, length-encode, len_utf8_bounds}
 use Rattle.std.proofs.lemmas.List.{length-append}
 use lib.Dec.{ltb}
 use Rattle.pgv_text.specs.declared.scanner.TextForm.{TextForm}
-use Rattle.pgv_text.specs.declared.scanner.TextForm.TheVariants.{Array, Range, Record}
+use Rattle.pgv_text.specs.declared.scanner.TextForm.TheVariants.{Array}
 use Rattle.pgv_text.specs.declared.scanner.Class.{Class}
 use Rattle.pgv_text.specs.declared.scanner.Class.TheVariants.{Quote, Backslash, Comma, Open, Close, Other}
 use Rattle.pgv_text.specs.declared.scanner.Place.{Place}
@@ -18,7 +18,7 @@ use Rattle.pgv_text.specs.Pieces.{Nest, Item, inner, inner_escaped, doubled, Pie
 use Rattle.pgv_text.specs.Forms.{form_of}
 use Rattle.pgv_text.specs.Scan.{Rest, class, cell, read, read_by, kept, grown, next, at_end, outside_cell, quoted_cell, after_quote_cell, after_text, value_here, ends, counted, stands, closes_here, nest_between, values_from, nest_read}
 use Rattle.pgv_text.specs.Parsed.{Found, with_piece, with_item, item_first, with_part, closed, parse_outside, parse_quoted, parse_after_quote, parse, nest_of}
-use Rattle.pgv_text.proofs.Classes.{says}
+use Rattle.pgv_text.proofs.Classes.{says, opens_low, closes_low}
 use Rattle.pgv_text.proofs.Stops.{not_equal, high_class, other_cell, onward, grown_none, grown_twice}
 
 high_from : (c : ℕ) (a b d : Bool) → 128 ≤ c → ltb c 128 ≡ a → (x : ℕ) × (hs : List ℕ) × (cond a (c ∷ []) (cond b ((192 + c / 64) ∷ (128 + c % 64) ∷ []) (cond d ((224 + c / 4096) ∷ (128 + c / 64 % 64) ∷ (128 + c % 64) ∷ []) ((240 + c / 262144) ∷ (128 + c / 4096 % 64) ∷ (128 + c / 64 % 64) ∷ (128 + c % 64) ∷ []))) ≡ x ∷ hs) × (128 ≤ x) × AllByRecursion (λ y. 128 ≤ y) hs
@@ -40,12 +40,8 @@ high_read : (t : TextForm) (p : Place) (h : ℕ) (bs : List ℕ) → 128 ≤ h �
 high_read t p h bs e = ap (read_by (form_of t) h bs (λ q. read (form_of t) q bs)) (ap (cell (form_of t) p) (high_class t h e) ∙ other_cell (form_of t) p)
 
 onward_again : (p : Place) → onward (onward p) ≡ onward p
-onward_again Start = refl
-onward_again Outside = refl
 onward_again Quoted = refl
-onward_again AfterQuote = refl
-onward_again AfterBackslash = refl
-onward_again QuotedBackslash = refl
+onward_again _ = refl
 
 run_read : (t : TextForm) (p : Place) (hs bs : List ℕ) → AllByRecursion (λ x. 128 ≤ x) hs → onward p ≡ p → read (form_of t) p (hs ++ bs) ≡ grown hs (read (form_of t) p bs)
 run_read t p [] bs h o = sym (grown_none (read (form_of t) p bs))
@@ -73,10 +69,8 @@ adds_piece : (piece : Piece) (c : ℕ) → meaning piece ≡ c ∷ [] → (r : F
 adds_piece piece c e r = ap (λ m. record { text = encode_utf8_all (m ++ text_of r.first); values = r.values; closing = r.closing }) (sym e)
 
 item_text : (item : Item) (pieces : List Piece) → text_of (item_first item pieces) ≡ item_meaning item ∷ text_of pieces
-item_text item [] = refl
-item_text item (plain c ∷ pieces) = refl
-item_text item (escaped c ∷ pieces) = refl
 item_text item (quoted items ∷ pieces) = refl
+item_text item _ = refl
 
 adds_item : (item : Item) (c : ℕ) → item_meaning item ≡ c → (r : Found) → after_text (encode_utf8 c) (summary r) ≡ summary (with_item item r)
 adds_item item c e r = ap (λ m. record { text = encode_utf8_all m; values = r.values; closing = r.closing }) (ap (λ c. c ∷ text_of r.first) (sym e) ∙ sym (item_text item r.first))
@@ -98,8 +92,6 @@ module _ (t : TextForm) (c : ℕ) (cs : List ℕ) (all : (q : Place) → read (f
 
   -- a character that isn't ASCII
   high : class (form_of t) c ≡ Other → (p : Place) → grown (encode_utf8 c) (read (form_of t) (onward p) (encode_utf8_all cs)) ≡ option_map summary (parse (form_of t) p (c ∷ cs))
-  high k Start = piece_read (plain c) refl ∙ ap (λ k. option_map summary (parse_outside (form_of t) c cs (λ q. parse (form_of t) q cs) k)) (sym k)
-  high k Outside = piece_read (plain c) refl ∙ ap (λ k. option_map summary (parse_outside (form_of t) c cs (λ q. parse (form_of t) q cs) k)) (sym k)
   high k Quoted = item_read (inner c) refl ∙ ap (λ k. option_map summary (parse_quoted c (λ q. parse (form_of t) q cs) k)) (sym k)
   high k AfterQuote =
       piece_read (plain c) refl ∙ quote_adds_nothing (option_map (with_piece (plain c)) (parse (form_of t) Outside cs))
@@ -107,6 +99,7 @@ module _ (t : TextForm) (c : ℕ) (cs : List ℕ) (all : (q : Place) → read (f
       ∙ ap (λ k. option_map summary (parse_after_quote (form_of t) c cs (λ q. parse (form_of t) q cs) (form_of t).doubles k)) (sym k)
   high k AfterBackslash = piece_read (escaped c) refl
   high k QuotedBackslash = item_read (inner_escaped c) refl
+  high k _ = piece_read (plain c) refl ∙ ap (λ k. option_map summary (parse_outside (form_of t) c cs (λ q. parse (form_of t) q cs) k)) (sym k)
 
   -- an ASCII character
   module _ (bytes : encode_utf8 c ≡ c ∷ []) (same : (text : List ℕ) → value_here (form_of t) (encode_utf8_all cs) text ≡ value_here (form_of t) cs text) where
@@ -137,43 +130,30 @@ module _ (t : TextForm) (c : ℕ) (cs : List ℕ) (all : (q : Place) → read (f
     quoted_low : (k : Class) → read_by (form_of t) c (encode_utf8_all cs) (λ q. read (form_of t) q (encode_utf8_all cs)) (quoted_cell k) ≡ option_map summary (parse_quoted c (λ q. parse (form_of t) q cs) k)
     quoted_low Quote = all AfterQuote
     quoted_low Backslash = all QuotedBackslash
-    quoted_low Comma = item_low (inner c) refl
-    quoted_low Open = item_low (inner c) refl
-    quoted_low Close = item_low (inner c) refl
-    quoted_low Other = item_low (inner c) refl
+    quoted_low _ = item_low (inner c) refl
 
     after_low : (b : Bool) (k : Class) → class (form_of t) c ≡ k → read_by (form_of t) c (encode_utf8_all cs) (λ q. read (form_of t) q (encode_utf8_all cs)) (after_quote_cell b k) ≡ option_map summary (parse_after_quote (form_of t) c cs (λ q. parse (form_of t) q cs) b k)
     after_low true Quote h = item_low doubled (sym (says (form_of t) c Quote h))
-    after_low true Backslash h = outside_low Backslash ∙ quote_adds_nothing (parse_outside (form_of t) c cs (λ q. parse (form_of t) q cs) Backslash)
-    after_low true Comma h = outside_low Comma ∙ quote_adds_nothing (parse_outside (form_of t) c cs (λ q. parse (form_of t) q cs) Comma)
-    after_low true Open h = refl
-    after_low true Close h = outside_low Close ∙ quote_adds_nothing (parse_outside (form_of t) c cs (λ q. parse (form_of t) q cs) Close)
-    after_low true Other h = outside_low Other ∙ quote_adds_nothing (parse_outside (form_of t) c cs (λ q. parse (form_of t) q cs) Other)
-    after_low false k h = outside_low k ∙ quote_adds_nothing (parse_outside (form_of t) c cs (λ q. parse (form_of t) q cs) k)
+    after_low _ k h = outside_low k ∙ quote_adds_nothing (parse_outside (form_of t) c cs (λ q. parse (form_of t) q cs) k)
 
     low : (p : Place) → read (form_of t) p (c ∷ encode_utf8_all cs) ≡ option_map summary (parse (form_of t) p (c ∷ cs))
-    low Start = outside_low (class (form_of t) c)
-    low Outside = outside_low (class (form_of t) c)
     low Quoted = quoted_low (class (form_of t) c)
     low AfterQuote = after_low (form_of t).doubles (class (form_of t) c) refl
     low AfterBackslash = piece_low (escaped c) refl
     low QuotedBackslash = item_low (inner_escaped c) refl
+    low _ = outside_low (class (form_of t) c)
 
 open_high : (t : TextForm) (x : ℕ) → 128 ≤ x → (form_of t).closes x ≡ false
-open_high Array x h = not_equal x 125 (omega arith) h
-open_high Range x h = rw (not_equal x 41 (omega arith) h, not_equal x 93 (omega arith) h) refl
-open_high Record x h = not_equal x 41 (omega arith) h
+open_high t x h = false_from_ne_true ((form_of t).closes x) (λ e. omega (arith, closes_low t x e, h))
 
 abbrev AreLow : List Piece → Type 0
 AreLow [] = Unit {0}
 AreLow (plain d ∷ pieces) = (d < 128) × AreLow pieces
-AreLow (escaped d ∷ pieces) = ⊥
-AreLow (quoted items ∷ pieces) = ⊥
+AreLow _ = ⊥
 
 nothing_low : (t : TextForm) → AreLow (form_of t).nothing
 nothing_low Array = (omega arith, (omega arith, (omega arith, (omega arith, tt))))
-nothing_low Range = tt
-nothing_low Record = tt
+nothing_low _ = tt
 
 stands_same : (t : TextForm) (nothing : List Piece) → AreLow nothing → (cs : List ℕ) → stands (form_of t) nothing (encode_utf8_all cs) ≡ stands (form_of t) nothing cs
 stands_same t [] h [] = refl
@@ -190,8 +170,7 @@ stands_same t (plain d ∷ pieces) h (c ∷ cs) =
           ap (λ b. stands (form_of t) (plain d ∷ pieces) (b ++ encode_utf8_all cs)) e.2 ∙ ap (λ b. b && stands (form_of t) pieces (e.1 ++ encode_utf8_all cs)) (not_equal e.0 d h.0 e.3)
           ∙ sym (ap (λ b. b && stands (form_of t) pieces cs) (not_equal c d h.0 k))
     ]
-stands_same t (escaped d ∷ pieces) h cs = absurd h
-stands_same t (quoted items ∷ pieces) h cs = absurd h
+stands_same t _ h cs = absurd h
 
 value_same : (t : TextForm) (cs text : List ℕ) → value_here (form_of t) (encode_utf8_all cs) text ≡ value_here (form_of t) cs text
 value_same t cs text = ap (λ b. cond b None (Some text)) (stands_same t (form_of t).nothing (nothing_low t) cs)
@@ -222,9 +201,7 @@ from_summary t o cs x (Some r) e =
     ∙ ap (λ v. nest_between (form_of t) o cs (v ∷ r.values) r.closing) (value_same t cs (encode_utf8_all (text_of r.first)))
 
 high_opens : (t : TextForm) (x : ℕ) → 128 ≤ x → (form_of t).opens x ≡ false
-high_opens Array x h = not_equal x 123 (omega arith) h
-high_opens Range x h = rw (not_equal x 40 (omega arith) h, not_equal x 91 (omega arith) h) refl
-high_opens Record x h = not_equal x 40 (omega arith) h
+high_opens t x h = false_from_ne_true ((form_of t).opens x) (λ e. omega (arith, opens_low t x e, h))
 
 not_opened : (o : Option Nest) (b : Bool) → b ≡ false → cond b o None ≡ None
 not_opened o b h = ap (λ b. cond b o None) h

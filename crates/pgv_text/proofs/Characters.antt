@@ -66,12 +66,11 @@ parts_scalars (part ∷ parts) h =
 -- the values of parts are texts, where a value is what its part means
 pub values_are_texts : (Is : List Piece → Option (List ℕ) → Type 0) → ((pieces : List Piece) (text : List ℕ) → Is pieces (Some text) → text ≡ encode_utf8_all (text_of pieces)) → (parts : List (List Piece)) (values : List (Option (List ℕ))) → AllByRecursion (λ p. AreScalars (spelled p)) parts → Pairwise Is parts values → AllByRecursion IsOptionalText values
 values_are_texts Is means [] [] h p = tt
-values_are_texts Is means [] (value ∷ values) h p = absurd p
-values_are_texts Is means (part ∷ parts) [] h p = absurd p
 values_are_texts Is means (part ∷ parts) (None ∷ values) h p = (tt, values_are_texts Is means parts values h.1 p.1)
 values_are_texts Is means (part ∷ parts) (Some text ∷ values) h p =
     let utf8 : IsUtf8 text = (text_of part, (scalars_are (text_of part) (text_scalars part h.0), sym (means part text p.0))) in
     (utf8, values_are_texts Is means parts values h.1 p.1)
+values_are_texts Is means _ _ h p = absurd p
 
 pub characters_of : (text : List ℕ) → IsUtf8 text → AreScalars (chars text)
 characters_of text u = are_scalars (chars text) (scalars-chars text u)

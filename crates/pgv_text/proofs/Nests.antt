@@ -20,9 +20,8 @@ use Rattle.pgv_text.proofs.Spelled.{parts_read}
 
 pub as_many : {X Y : Type 0} (R : X → Y → Type 0) (xs : List X) (ys : List Y) → Pairwise R xs ys → length ys ≡ length xs
 as_many R [] [] h = refl
-as_many R [] (y ∷ ys) h = absurd h
-as_many R (x ∷ xs) [] h = absurd h
 as_many R (x ∷ xs) (y ∷ ys) h = ap suc (as_many R xs ys h.1)
+as_many R _ _ h = absurd h
 
 closed_end : (c : ℕ) (cs : List ℕ) (r : Found) → closed c cs ≡ Some r → c ∷ cs ≡ r.closing ∷ []
 closed_end c [] r h = ap (λ r. r.closing ∷ []) (same_Some (record { first = []; more = []; values = []; closing = c }) r h)

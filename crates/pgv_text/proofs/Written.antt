@@ -6,14 +6,14 @@ use Rattle.std.specs.List.{flat_map, AllByRecursion}
 use Rattle.std.specs.Char.{IsScalar, to_ascii_lowercase}
 use Rattle.std.proofs.lemmas.Bool.{eqb-true, false≢true}
 use Rattle.std.proofs.lemmas.List.{append-nil}
-use Rattle.pgv_text.specs.Pieces.{Form, Item, inner, inner_escaped, doubled, Piece, plain, quoted, item_spelling, item_meaning, IsItem, IsPiece, QuotedApart, ArePieces, may_be_plain, spelled, text_of, joined, Pairwise, IsPart, escaped, Count, any, some, two, AreCounted, Nest, IsNestText}
+use Rattle.pgv_text.specs.Pieces.{Form, Item, inner, inner_escaped, doubled, Piece, plain, quoted, item_spelling, item_meaning, IsItem, IsPiece, QuotedApart, ArePieces, may_be_plain, spelled, text_of, joined, Pairwise, IsPart, Count, any, some, two, AreCounted, Nest, IsNestText}
 use Rattle.pgv_text.specs.declared.scanner.TextForm.{TextForm}
-use Rattle.pgv_text.specs.declared.scanner.TextForm.TheVariants.{Array, Range, Record}
+use Rattle.pgv_text.specs.declared.scanner.TextForm.TheVariants.{Array}
 use Rattle.pgv_text.specs.Forms.{form_of}
 use Rattle.pgv_text.proofs.Nothing.{ArePlain, nothing_plain}
 use Rattle.pgv_text.proofs.Nests.{as_many}
 use lib.Utf8.{low_scalar}
-use Rattle.pgv_text.proofs.Left.{opens_low, closes_low}
+use Rattle.pgv_text.proofs.Classes.{opens_low, closes_low}
 use Rattle.pgv_text.specs.Spellings.{IsOptionalText, escaped_character, doubled_character, quoted_by, MayBeBare, IsSpelled, AreEnough, by_commas, nest_text}
 use Rattle.pgv_text.proofs.Characters.{AreScalars, scalars_are, all_append, all_left, parts_scalars, values_are_texts, characters_of}
 
@@ -52,9 +52,8 @@ items_of form spell of (c ∷ cs) =
     }
 
 neither : (c : ℕ) (a b : Bool) → (c == 34) ≡ a → (c == 92) ≡ b → a || b ≡ false → (c ≢ 34) × (c ≢ 92)
-neither c true b e f h = absurd (false≢true (sym h))
-neither c false true e f h = absurd (false≢true (sym h))
 neither c false false e f h = (λ is. false≢true (sym e ∙ ap (λ x. x == 34) is), λ is. false≢true (sym f ∙ ap (λ x. x == 92) is))
+neither c _ _ e f h = absurd (false≢true (sym h))
 
 escaped_from : (form : Form) (c : ℕ) (b : Bool) → (c == 34) || (c == 92) ≡ b → ItemOf form (λ c. cond b (92 ∷ c ∷ []) (c ∷ [])) c
 escaped_from form c true e = record { item = inner_escaped c; is = tt; same = refl; means = refl; scalars = λ h. (refl, (h, tt)) }
@@ -94,18 +93,15 @@ plain_means (c ∷ cs) = ap (λ t. c ∷ t) (plain_means cs)
 plain_list : (form : Form) (pieces : List Piece) → ArePlain form pieces → AllByRecursion (IsPiece form) pieces × QuotedApart pieces
 plain_list form [] h = (tt, tt)
 plain_list form (plain c ∷ pieces) h = let r = plain_list form pieces h.1 in ((h.0, r.0), r.1)
-plain_list form (escaped c ∷ pieces) h = absurd h
-plain_list form (quoted items ∷ pieces) h = absurd h
+plain_list form _ h = absurd h
 
 nothing_some : (t : TextForm) → (form_of t).count ≡ any → (form_of t).nothing ≢ []
 nothing_some Array e n = cc
-nothing_some Range e n = cc
-nothing_some Record e n = cc
+nothing_some _ e n = cc
 
 nothing_scalars : (t : TextForm) → AreScalars (spelled (form_of t).nothing)
 nothing_scalars Array = (refl, (refl, (refl, (refl, tt))))
-nothing_scalars Range = tt
-nothing_scalars Record = tt
+nothing_scalars _ = tt
 
 -- a value's spelling as pieces of that value
 record SpeltValue (form : Form) (value : Option (List ℕ)) (spelling : List ℕ) : Type 0 where
@@ -159,8 +155,6 @@ record SpeltValues (form : Form) (values : List (Option (List ℕ))) (spellings 
 
 values_spelt : (t : TextForm) (values : List (Option (List ℕ))) (spellings : List (List ℕ)) → AllByRecursion IsOptionalText values → Pairwise (IsSpelled (form_of t)) values spellings → SpeltValues (form_of t) values spellings
 values_spelt t [] [] u h = record { parts = []; each = tt; more = refl; same = refl; are = tt; some = λ m e. cc; more_scalars = tt; scalars = tt }
-values_spelt t [] (spelling ∷ spellings) u h = absurd h
-values_spelt t (value ∷ values) [] u h = absurd h
 values_spelt t (value ∷ values) (spelling ∷ spellings) u h =
     let v = value_spelt t value spelling u.0 h.0 in
     let vs = values_spelt t values spellings u.1 h.1 in
@@ -177,6 +171,7 @@ values_spelt t (value ∷ values) (spelling ∷ spellings) u h =
       more_scalars = (refl, all);
       scalars = all;
     }
+values_spelt t _ _ u h = absurd h
 
 enough : (k : Count) (parts : List (List Piece)) (values : List (Option (List ℕ))) → (k ≡ any → parts ≢ [] ∷ []) → length values ≡ length parts → AreEnough k values → AreCounted k parts
 enough any parts values s e h = s refl
