@@ -1,5 +1,5 @@
 -- What the scanner makes of the bytes of a text is what is computed of its characters.
-use Rattle.std.proofs.Common.{◌≡◌, ◌<◌, ◌≤◌, ◌+◌, ◌%◌, ◌/◌, ℕ, Bool, true, false, cond, ◌&&◌, ◌==◌, List, [], ◌∷◌, ◌++◌, length, Option, Some, None, ap, ◌∙◌, sym, refl, inl, inr, arith}
+use Rattle.std.proofs.Common.{◌≡◌, ◌≤◌, ◌+◌, ◌%◌, ◌/◌, ℕ, Bool, true, false, cond, ◌&&◌, ◌==◌, List, [], ◌∷◌, ◌++◌, length, Option, Some, None, ap, ◌∙◌, sym, refl, inl, inr, arith}
 use Rattle.std.specs.Option.{option_map, option_and_then}
 use Rattle.std.specs.Prelude.{encode_utf8}
 use Rattle.std.specs.Str.{encode_utf8_all, chars, IsUtf8}
@@ -9,16 +9,16 @@ use Rattle.std.proofs.lemmas.Str.{encode_ascii, encodes-chars, length-encode, le
 use Rattle.std.proofs.lemmas.List.{length-append}
 use lib.Dec.{ltb}
 use Rattle.pgv_text.specs.declared.scanner.TextForm.{TextForm}
-use Rattle.pgv_text.specs.declared.scanner.TextForm.TheVariants.{Array}
 use Rattle.pgv_text.specs.declared.scanner.Class.{Class}
 use Rattle.pgv_text.specs.declared.scanner.Class.TheVariants.{Quote, Backslash, Comma, Open, Close, Other}
 use Rattle.pgv_text.specs.declared.scanner.Place.{Place}
 use Rattle.pgv_text.specs.declared.scanner.Place.TheVariants.{Start, Outside, Quoted, AfterQuote, AfterBackslash, QuotedBackslash}
-use Rattle.pgv_text.specs.Pieces.{Nest, Item, inner, inner_escaped, doubled, Piece, plain, escaped, quoted, item_meaning, meaning, text_of}
+use Rattle.pgv_text.specs.Pieces.{Item, inner, inner_escaped, doubled, Piece, plain, escaped, quoted, item_meaning, meaning, text_of}
 use Rattle.pgv_text.specs.Forms.{form_of}
 use Rattle.pgv_text.specs.Scan.{Rest, class, cell, read, read_by, kept, grown, next, at_end, outside_cell, quoted_cell, after_quote_cell, after_text, value_here, ends, counted, stands, closes_here, nest_between, values_from, nest_read}
 use Rattle.pgv_text.specs.Parsed.{Found, with_piece, with_item, item_first, with_part, closed, parse_outside, parse_quoted, parse_after_quote, parse, nest_of}
 use Rattle.pgv_text.proofs.Classes.{says, opens_low, closes_low}
+use Rattle.pgv_text.proofs.Nothing.{ArePlain, nothing_plain}
 use Rattle.pgv_text.proofs.Stops.{not_equal, high_class, other_cell, onward, grown_none, grown_twice}
 
 high_from : (c : ℕ) (a b d : Bool) → 128 ≤ c → ltb c 128 ≡ a → (x : ℕ) × (hs : List ℕ) × (cond a (c ∷ []) (cond b ((192 + c / 64) ∷ (128 + c % 64) ∷ []) (cond d ((224 + c / 4096) ∷ (128 + c / 64 % 64) ∷ (128 + c % 64) ∷ []) ((240 + c / 262144) ∷ (128 + c / 4096 % 64) ∷ (128 + c / 64 % 64) ∷ (128 + c % 64) ∷ []))) ≡ x ∷ hs) × (128 ≤ x) × AllByRecursion (λ y. 128 ≤ y) hs
@@ -146,16 +146,7 @@ module _ (t : TextForm) (c : ℕ) (cs : List ℕ) (all : (q : Place) → read (f
 open_high : (t : TextForm) (x : ℕ) → 128 ≤ x → (form_of t).closes x ≡ false
 open_high t x h = false_from_ne_true ((form_of t).closes x) (λ e. omega (arith, closes_low t x e, h))
 
-abbrev AreLow : List Piece → Type 0
-AreLow [] = Unit {0}
-AreLow (plain d ∷ pieces) = (d < 128) × AreLow pieces
-AreLow _ = ⊥
-
-nothing_low : (t : TextForm) → AreLow (form_of t).nothing
-nothing_low Array = (omega arith, (omega arith, (omega arith, (omega arith, tt))))
-nothing_low _ = tt
-
-stands_same : (t : TextForm) (nothing : List Piece) → AreLow nothing → (cs : List ℕ) → stands (form_of t) nothing (encode_utf8_all cs) ≡ stands (form_of t) nothing cs
+stands_same : (t : TextForm) (nothing : List Piece) → ArePlain (form_of t) nothing → (cs : List ℕ) → stands (form_of t) nothing (encode_utf8_all cs) ≡ stands (form_of t) nothing cs
 stands_same t [] h [] = refl
 stands_same t [] h (c ∷ cs) =
     elim (cases_lt c 128) [
@@ -165,15 +156,15 @@ stands_same t [] h (c ∷ cs) =
 stands_same t (plain d ∷ pieces) h [] = refl
 stands_same t (plain d ∷ pieces) h (c ∷ cs) =
     elim (cases_lt c 128) [
-      | inl k ↦ ap (λ b. stands (form_of t) (plain d ∷ pieces) (b ++ encode_utf8_all cs)) (encode_ascii c k) ∙ ap (λ b. (c == d) && b) (stands_same t pieces h.1 cs)
+      | inl k ↦ ap (λ b. stands (form_of t) (plain d ∷ pieces) (b ++ encode_utf8_all cs)) (encode_ascii c k) ∙ ap (λ b. (c == d) && b) (stands_same t pieces h.2 cs)
       | inr k ↦ let e = high_bytes c k in
-          ap (λ b. stands (form_of t) (plain d ∷ pieces) (b ++ encode_utf8_all cs)) e.2 ∙ ap (λ b. b && stands (form_of t) pieces (e.1 ++ encode_utf8_all cs)) (not_equal e.0 d h.0 e.3)
-          ∙ sym (ap (λ b. b && stands (form_of t) pieces cs) (not_equal c d h.0 k))
+          ap (λ b. stands (form_of t) (plain d ∷ pieces) (b ++ encode_utf8_all cs)) e.2 ∙ ap (λ b. b && stands (form_of t) pieces (e.1 ++ encode_utf8_all cs)) (not_equal e.0 d h.1 e.3)
+          ∙ sym (ap (λ b. b && stands (form_of t) pieces cs) (not_equal c d h.1 k))
     ]
 stands_same t _ h cs = absurd h
 
 value_same : (t : TextForm) (cs text : List ℕ) → value_here (form_of t) (encode_utf8_all cs) text ≡ value_here (form_of t) cs text
-value_same t cs text = ap (λ b. cond b None (Some text)) (stands_same t (form_of t).nothing (nothing_low t) cs)
+value_same t cs text = ap (λ b. cond b None (Some text)) (stands_same t (form_of t).nothing (nothing_plain t) cs)
 
 closes_same : (t : TextForm) (cs : List ℕ) → closes_here (form_of t) (encode_utf8_all cs) ≡ closes_here (form_of t) cs
 closes_same t [] = refl
@@ -203,16 +194,13 @@ from_summary t o cs x (Some r) e =
 high_opens : (t : TextForm) (x : ℕ) → 128 ≤ x → (form_of t).opens x ≡ false
 high_opens t x h = false_from_ne_true ((form_of t).opens x) (λ e. omega (arith, opens_low t x e, h))
 
-not_opened : (o : Option Nest) (b : Bool) → b ≡ false → cond b o None ≡ None
-not_opened o b h = ap (λ b. cond b o None) h
-
 nest_encoded : (t : TextForm) (cs : List ℕ) → nest_read (form_of t) (encode_utf8_all cs) ≡ nest_of (form_of t) cs
 nest_encoded t [] = refl
 nest_encoded t (o ∷ cs) =
     elim (cases_lt o 128) [
       | inl k ↦ ap (λ b. nest_read (form_of t) (b ++ encode_utf8_all cs)) (encode_ascii o k)
           ∙ ap (λ x. cond ((form_of t).opens o) x None) (from_summary t o cs (read (form_of t) Start (encode_utf8_all cs)) (parse (form_of t) Start cs) (bytes_read t cs Start))
-      | inr k ↦ let e = high_bytes o k in ap (λ b. nest_read (form_of t) (b ++ encode_utf8_all cs)) e.2 ∙ not_opened _ _ (high_opens t e.0 e.3) ∙ sym (not_opened _ _ (high_opens t o k))
+      | inr k ↦ let e = high_bytes o k in ap (λ b. nest_read (form_of t) (b ++ encode_utf8_all cs)) e.2 ∙ rw (high_opens t e.0 e.3, high_opens t o k) refl
     ]
 
 -- What the scanner makes of the bytes of a text is computed of its characters.

@@ -24,13 +24,9 @@ pub all_append : (xs ys : List ℕ) → AreScalars xs → AreScalars ys → AreS
 all_append [] ys a b = b
 all_append (x ∷ xs) ys a b = (a.0, all_append xs ys a.1 b)
 
-pub all_left : (xs ys : List ℕ) → AreScalars (xs ++ ys) → AreScalars xs
-all_left [] ys h = tt
-all_left (x ∷ xs) ys h = (h.0, all_left xs ys h.1)
-
-pub all_right : (xs ys : List ℕ) → AreScalars (xs ++ ys) → AreScalars ys
-all_right [] ys h = h
-all_right (x ∷ xs) ys h = all_right xs ys h.1
+pub all_parts : (xs ys : List ℕ) → AreScalars (xs ++ ys) → AreScalars xs × AreScalars ys
+all_parts [] ys h = (tt, h)
+all_parts (x ∷ xs) ys h = let p = all_parts xs ys h.1 in ((h.0, p.0), p.1)
 
 -- what is spelled in characters means characters
 item_scalar : (item : Item) → AreScalars (item_spelling item) → IsScalar (item_meaning item)
@@ -41,27 +37,26 @@ item_scalar doubled h = h.0
 items_scalars : (items : List Item) → AreScalars (flat_map item_spelling items) → AreScalars (map item_meaning items)
 items_scalars [] h = tt
 items_scalars (item ∷ items) h =
-    (item_scalar item (all_left (item_spelling item) (flat_map item_spelling items) h), items_scalars items (all_right (item_spelling item) (flat_map item_spelling items) h))
+    let p = all_parts (item_spelling item) (flat_map item_spelling items) h in
+    (item_scalar item p.0, items_scalars items p.1)
 
 text_scalars : (pieces : List Piece) → AreScalars (spelled pieces) → AreScalars (text_of pieces)
 text_scalars [] h = tt
 text_scalars (plain c ∷ pieces) h = (h.0, text_scalars pieces h.1)
 text_scalars (escaped c ∷ pieces) h = (h.1.0, text_scalars pieces h.1.1)
 text_scalars (quoted items ∷ pieces) h =
-    let inside : AreScalars (flat_map item_spelling items ++ 34 ∷ []) = all_left (flat_map item_spelling items ++ 34 ∷ []) (spelled pieces) h.1 in
-    all_append (map item_meaning items) (text_of pieces)
-    (items_scalars items (all_left (flat_map item_spelling items) (34 ∷ []) inside))
-    (text_scalars pieces (all_right (flat_map item_spelling items ++ 34 ∷ []) (spelled pieces) h.1))
+    let p = all_parts (flat_map item_spelling items ++ 34 ∷ []) (spelled pieces) h.1 in
+    all_append (map item_meaning items) (text_of pieces) (items_scalars items (all_parts (flat_map item_spelling items) (34 ∷ []) p.0).0) (text_scalars pieces p.1)
 
 more_scalars : (parts : List (List Piece)) → AreScalars (flat_map (λ p. 44 ∷ spelled p) parts) → AllByRecursion (λ p. AreScalars (spelled p)) parts
 more_scalars [] h = tt
 more_scalars (part ∷ parts) h =
-    (all_left (spelled part) (flat_map (λ p. 44 ∷ spelled p) parts) h.1, more_scalars parts (all_right (spelled part) (flat_map (λ p. 44 ∷ spelled p) parts) h.1))
+    let p = all_parts (spelled part) (flat_map (λ p. 44 ∷ spelled p) parts) h.1 in
+    (p.0, more_scalars parts p.1)
 
 pub parts_scalars : (parts : List (List Piece)) → AreScalars (joined parts) → AllByRecursion (λ p. AreScalars (spelled p)) parts
 parts_scalars [] h = tt
-parts_scalars (part ∷ parts) h =
-    (all_left (spelled part) (flat_map (λ p. 44 ∷ spelled p) parts) h, more_scalars parts (all_right (spelled part) (flat_map (λ p. 44 ∷ spelled p) parts) h))
+parts_scalars (part ∷ parts) h = more_scalars (part ∷ parts) (refl, h)
 
 -- the values of parts are texts, where a value is what its part means
 pub values_are_texts : (Is : List Piece → Option (List ℕ) → Type 0) → ((pieces : List Piece) (text : List ℕ) → Is pieces (Some text) → text ≡ encode_utf8_all (text_of pieces)) → (parts : List (List Piece)) (values : List (Option (List ℕ))) → AllByRecursion (λ p. AreScalars (spelled p)) parts → Pairwise Is parts values → AllByRecursion IsOptionalText values

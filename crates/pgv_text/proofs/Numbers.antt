@@ -1,24 +1,19 @@
 -- A number's text in the words of `parse`, and its computed number.
-use Rattle.std.proofs.Common.{◌≡◌, ◌≢◌, ℕ, ◌+◌, ◌<◌, ℤ, Bool, true, false, ◌==◌, List, [], ◌∷◌, ◌++◌, map, length, ap, ◌∙◌, sym, refl, arith}
+use Rattle.std.proofs.Common.{◌≡◌, ◌≢◌, ℕ, ◌+◌, ◌<◌, ℤ, Bool, true, false, ◌==◌, List, [], ◌∷◌, ◌++◌, map, length, ap, ◌∙◌, sym, refl, arith, get_or, not, cond, ◌&&◌, nat_lt, Some, None, Ok, Err, Result, subst, ◌↔◌, ◌^◌, IsTrue, if◌then◌else◌}
 use Rattle.std.specs.Prelude.{pos, neg_ℤ}
-use Rattle.std.specs.List.{AllByRecursion}
+use Rattle.std.specs.List.{AllByRecursion, list_all}
 use Rattle.std.specs.Char.{digit_value}
 use Rattle.std.specs.Int.Digits.{number_from_digits}
-use Rattle.std.specs.Str.Parse.{AllDigits, IsNumeral, digits_value, without_leading_sign, signed_digits_value}
+use Rattle.std.specs.Str.Parse.{AllDigits, IsNumeral, digits_value, without_leading_sign, signed_digits_value, without_leading_plus}
 use Rattle.std.proofs.lemmas.Str.{digit_value_digit}
 use mir.Val.{SFits, of_z, to_z}
 use mir.Syntax.{w64}
 use Rattle.std.proofs.lemmas.Int.{to_z-of_z}
 use Rattle.std.specs.Int.{IsInRange}
-use Rattle.std.proofs.Common.{get_or}
 use Rattle.std.proofs.lemmas.Str.Parse.{digit_from_value, tells_by_index, numerals_by_value}
 use Rattle.std.proofs.lemmas.Int.Digits.{digits_value_is, all_below_base_from_digits}
 use Rattle.std.proofs.lemmas.List.{length-map}
-use Rattle.std.proofs.lemmas.Bool.{and_parts, eqb-true, ne_eqb, ltb-true, lt-ltb}
-use Rattle.std.proofs.Common.{not, cond, ◌&&◌, nat_lt, Some, None, Ok, Err, Result, subst, ◌↔◌, ◌^◌, IsTrue, if◌then◌else◌}
-use Rattle.std.specs.Str.Parse.{without_leading_plus}
-use Rattle.std.specs.List.{list_all}
-use Rattle.std.proofs.lemmas.Bool.{false≢true}
+use Rattle.std.proofs.lemmas.Bool.{and_parts, eqb-true, ne_eqb, ltb-true, lt-ltb, false≢true}
 use Rattle.pgv_text.specs.declared.number.NumberFault.{NumberFault}
 use Rattle.pgv_text.specs.declared.number.NumberFault.TheVariants.{Syntax, OutOfRange}
 use Rattle.pgv_text.specs.Number.{Sign, none, plus, minus, sign_text, signed, IsNumber, plus_text, IsUnsignedNumber, is_numeral, number_value, unsigned_value, IsRead, IsComputed, IsUnsignedRead, IsUnsignedComputed}

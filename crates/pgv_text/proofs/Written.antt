@@ -15,15 +15,15 @@ use Rattle.pgv_text.proofs.Nests.{as_many}
 use lib.Utf8.{low_scalar}
 use Rattle.pgv_text.proofs.Classes.{opens_low, closes_low}
 use Rattle.pgv_text.specs.Spellings.{IsOptionalText, escaped_character, doubled_character, quoted_by, MayBeBare, IsSpelled, AreEnough, by_commas, nest_text}
-use Rattle.pgv_text.proofs.Characters.{AreScalars, scalars_are, all_append, all_left, parts_scalars, values_are_texts, characters_of}
+use Rattle.pgv_text.proofs.Characters.{AreScalars, scalars_are, all_append, all_parts, parts_scalars, values_are_texts, characters_of}
 
 -- one character between quotes
-pub record ItemOf (form : Form) (spell : ℕ → List ℕ) (c : ℕ) : Type 0 where
+pub record ItemOf (form : Form) (spelling : List ℕ) (c : ℕ) : Type 0 where
   pub item : Item
   pub is : IsItem form item
-  pub same : item_spelling item ≡ spell c
+  pub same : item_spelling item ≡ spelling
   pub means : item_meaning item ≡ c
-  pub scalars : IsScalar c → AreScalars (spell c)
+  pub scalars : IsScalar c → AreScalars spelling
 
 record ItemsOf (form : Form) (spell : ℕ → List ℕ) (cs : List ℕ) : Type 0 where
   pub items : List Item
@@ -32,13 +32,7 @@ record ItemsOf (form : Form) (spell : ℕ → List ℕ) (cs : List ℕ) : Type 0
   pub means : map item_meaning items ≡ cs
   pub scalars : AreScalars cs → AreScalars (flat_map spell cs)
 
-append_same : (a b x y : List ℕ) → a ≡ b → x ≡ y → a ++ x ≡ b ++ y
-append_same a b x y e f = ap (λ t. t ++ x) e ∙ ap (λ t. b ++ t) f
-
-cons_same : (a b : ℕ) (x y : List ℕ) → a ≡ b → x ≡ y → a ∷ x ≡ b ∷ y
-cons_same a b x y e f = ap (λ t. t ∷ x) e ∙ ap (λ t. b ∷ t) f
-
-items_of : (form : Form) (spell : ℕ → List ℕ) → ((c : ℕ) → ItemOf form spell c) → (cs : List ℕ) → ItemsOf form spell cs
+items_of : (form : Form) (spell : ℕ → List ℕ) → ((c : ℕ) → ItemOf form (spell c) c) → (cs : List ℕ) → ItemsOf form spell cs
 items_of form spell of [] = record { items = []; are = tt; same = refl; means = refl; scalars = λ h. tt }
 items_of form spell of (c ∷ cs) =
     let i = of c in
@@ -46,8 +40,8 @@ items_of form spell of (c ∷ cs) =
     record {
       items = i.item ∷ more.items;
       are = (i.is, more.are);
-      same = append_same (item_spelling i.item) (spell c) (flat_map item_spelling more.items) (flat_map spell cs) i.same more.same;
-      means = cons_same (item_meaning i.item) c (map item_meaning more.items) cs i.means more.means;
+      same = rw (i.same, more.same) refl;
+      means = rw (i.means, more.means) refl;
       scalars = λ h. all_append (spell c) (flat_map spell cs) (i.scalars h.0) (more.scalars h.1);
     }
 
@@ -55,14 +49,11 @@ neither : (c : ℕ) (a b : Bool) → (c == 34) ≡ a → (c == 92) ≡ b → a |
 neither c false false e f h = (λ is. false≢true (sym e ∙ ap (λ x. x == 34) is), λ is. false≢true (sym f ∙ ap (λ x. x == 92) is))
 neither c _ _ e f h = absurd (false≢true (sym h))
 
-escaped_from : (form : Form) (c : ℕ) (b : Bool) → (c == 34) || (c == 92) ≡ b → ItemOf form (λ c. cond b (92 ∷ c ∷ []) (c ∷ [])) c
+escaped_from : (form : Form) (c : ℕ) (b : Bool) → (c == 34) || (c == 92) ≡ b → ItemOf form (cond b (92 ∷ c ∷ []) (c ∷ [])) c
 escaped_from form c true e = record { item = inner_escaped c; is = tt; same = refl; means = refl; scalars = λ h. (refl, (h, tt)) }
 escaped_from form c false e = record { item = inner c; is = neither c (c == 34) (c == 92) refl refl e; same = refl; means = refl; scalars = λ h. (h, tt) }
 
-pub escaped_item : (form : Form) (c : ℕ) → ItemOf form escaped_character c
-escaped_item form c = let i = escaped_from form c ((c == 34) || (c == 92)) refl in record { item = i.item; is = i.is; same = i.same; means = i.means; scalars = i.scalars }
-
-doubled_from : (form : Form) → form.doubles ≡ true → (c : ℕ) (a b : Bool) → (c == 34) ≡ a → (c == 92) ≡ b → ItemOf form (λ c. cond (a || b) (c ∷ c ∷ []) (c ∷ [])) c
+doubled_from : (form : Form) → form.doubles ≡ true → (c : ℕ) (a b : Bool) → (c == 34) ≡ a → (c == 92) ≡ b → ItemOf form (cond (a || b) (c ∷ c ∷ []) (c ∷ [])) c
 doubled_from form d c true b e f =
     let is : c ≡ 34 = eqb-true c 34 e in
     record { item = doubled; is = d; same = ap (λ x. x ∷ x ∷ []) (sym is); means = sym is; scalars = λ h. (h, (h, tt)) }
@@ -70,9 +61,6 @@ doubled_from form d c false true e f =
     let is : c ≡ 92 = eqb-true c 92 f in
     record { item = inner_escaped c; is = tt; same = ap (λ x. x ∷ c ∷ []) (sym is); means = refl; scalars = λ h. (h, (h, tt)) }
 doubled_from form d c false false e f = record { item = inner c; is = neither c false false e f refl; same = refl; means = refl; scalars = λ h. (h, tt) }
-
-pub doubled_item : (form : Form) → form.doubles ≡ true → (c : ℕ) → ItemOf form doubled_character c
-doubled_item form d c = let i = doubled_from form d c (c == 34) (c == 92) refl refl in record { item = i.item; is = i.is; same = i.same; means = i.means; scalars = i.scalars }
 
 plain_are : (form : Form) (cs : List ℕ) → AllByRecursion (λ c. may_be_plain form c ≡ true) cs → AllByRecursion (IsPiece form) (map plain cs)
 plain_are form [] h = tt
@@ -92,7 +80,7 @@ plain_means (c ∷ cs) = ap (λ t. c ∷ t) (plain_means cs)
 
 plain_list : (form : Form) (pieces : List Piece) → ArePlain form pieces → AllByRecursion (IsPiece form) pieces × QuotedApart pieces
 plain_list form [] h = (tt, tt)
-plain_list form (plain c ∷ pieces) h = let r = plain_list form pieces h.1 in ((h.0, r.0), r.1)
+plain_list form (plain c ∷ pieces) h = let r = plain_list form pieces h.2 in ((h.0, r.0), r.1)
 plain_list form _ h = absurd h
 
 nothing_some : (t : TextForm) → (form_of t).count ≡ any → (form_of t).nothing ≢ []
@@ -112,7 +100,7 @@ record SpeltValue (form : Form) (value : Option (List ℕ)) (spelling : List ℕ
   pub some : form.count ≡ any → pieces ≢ []
   pub scalars : AreScalars spelling
 
-quoted_spelt : (t : TextForm) (spell : ℕ → List ℕ) → ((c : ℕ) → ItemOf (form_of t) spell c) → (text spelling : List ℕ) → IsUtf8 text → spelling ≡ quoted_by spell (chars text) → SpeltValue (form_of t) (Some text) spelling
+quoted_spelt : (t : TextForm) (spell : ℕ → List ℕ) → ((c : ℕ) → ItemOf (form_of t) (spell c) c) → (text spelling : List ℕ) → IsUtf8 text → spelling ≡ quoted_by spell (chars text) → SpeltValue (form_of t) (Some text) spelling
 quoted_spelt t spell of text spelling u e =
     let i = items_of (form_of t) spell of (chars text) in
     let whole : AreScalars (quoted_by spell (chars text)) = (refl, all_append (flat_map spell (chars text)) (34 ∷ []) (i.scalars (characters_of text u)) (refl, tt)) in
@@ -139,8 +127,8 @@ value_spelt : (t : TextForm) (value : Option (List ℕ)) (spelling : List ℕ) �
 value_spelt t None spelling u h =
     let p = plain_list (form_of t) (form_of t).nothing (nothing_plain t) in
     record { pieces = (form_of t).nothing; are = record { each = p.0; apart = λ d. p.1 }; same = sym h; is = refl; some = nothing_some t; scalars = subst AreScalars (sym h) (nothing_scalars t) }
-value_spelt t (Some text) spelling u (inl e) = quoted_spelt t escaped_character (escaped_item (form_of t)) text spelling u e
-value_spelt t (Some text) spelling u (inr (inl h)) = quoted_spelt t doubled_character (doubled_item (form_of t) h.0) text spelling u h.1
+value_spelt t (Some text) spelling u (inl e) = quoted_spelt t escaped_character (λ c. escaped_from (form_of t) c ((c == 34) || (c == 92)) refl) text spelling u e
+value_spelt t (Some text) spelling u (inr (inl h)) = quoted_spelt t doubled_character (λ c. doubled_from (form_of t) h.0 c (c == 34) (c == 92) refl refl) text spelling u h.1
 value_spelt t (Some text) spelling u (inr (inr h)) = bare_spelt t text spelling u h.0 h.1
 
 record SpeltValues (form : Form) (values : List (Option (List ℕ))) (spellings : List (List ℕ)) : Type 0 where
@@ -158,8 +146,7 @@ values_spelt t [] [] u h = record { parts = []; each = tt; more = refl; same = r
 values_spelt t (value ∷ values) (spelling ∷ spellings) u h =
     let v = value_spelt t value spelling u.0 h.0 in
     let vs = values_spelt t values spellings u.1 h.1 in
-    let whole : spelled v.pieces ++ flat_map (λ p. 44 ∷ spelled p) vs.parts ≡ spelling ++ flat_map (λ s. 44 ∷ s) spellings =
-    append_same (spelled v.pieces) spelling (flat_map (λ p. 44 ∷ spelled p) vs.parts) (flat_map (λ s. 44 ∷ s) spellings) v.same vs.more in
+    let whole : spelled v.pieces ++ flat_map (λ p. 44 ∷ spelled p) vs.parts ≡ spelling ++ flat_map (λ s. 44 ∷ s) spellings = rw (v.same, vs.more) refl in
     let all : AreScalars (spelling ++ flat_map (λ s. 44 ∷ s) spellings) = all_append spelling (flat_map (λ s. 44 ∷ s) spellings) v.scalars vs.more_scalars in
     record {
       parts = v.pieces ∷ vs.parts;
@@ -231,4 +218,4 @@ part_means form pieces text h = h.1
 pub values_texts : (t : TextForm) (text : List ℕ) (nest : Nest) → IsUtf8 text → IsNestText (form_of t) (chars text) nest → AllByRecursion IsOptionalText nest.values
 values_texts t text nest u n =
     let all : AreScalars (n.opening ∷ joined n.parts ++ n.closing ∷ []) = subst AreScalars n.whole (characters_of text u) in
-    values_are_texts (IsPart (form_of t)) (part_means (form_of t)) n.parts nest.values (parts_scalars n.parts (all_left (joined n.parts) (n.closing ∷ []) all.1)) n.values
+    values_are_texts (IsPart (form_of t)) (part_means (form_of t)) n.parts nest.values (parts_scalars n.parts (all_parts (joined n.parts) (n.closing ∷ []) all.1).0) n.values
