@@ -1,5 +1,5 @@
 -- A number's text in the words of `parse`, and its computed number.
-use Rattle.std.proofs.Common.{◌≡◌, ◌≢◌, ℕ, ◌+◌, ◌<◌, ℤ, Bool, true, false, ◌==◌, List, [], ◌∷◌, ◌++◌, map, length, ap, ◌∙◌, sym, refl, arith, get_or, not, cond, ◌&&◌, nat_lt, Some, None, Ok, Err, Result, subst, ◌↔◌, ◌^◌, IsTrue, if◌then◌else◌}
+use Rattle.std.proofs.Common.{◌≡◌, ℕ, ◌+◌, ◌<◌, ℤ, Bool, true, false, ◌==◌, List, [], ◌∷◌, ◌++◌, map, length, ap, ◌∙◌, sym, refl, arith, get_or, not, cond, ◌&&◌, nat_lt, Some, None, Ok, Err, Result, subst, ◌↔◌, ◌^◌, IsTrue, if◌then◌else◌}
 use Rattle.std.specs.Prelude.{pos, neg_ℤ}
 use Rattle.std.specs.List.{AllByRecursion, list_all}
 use Rattle.std.specs.Char.{digit_value}
@@ -46,27 +46,17 @@ numeral bs digits h some e = rw e (
 )
 
 -- a text that begins with a digit has no sign
-no_sign : (b : ℕ) (bs : List ℕ) → b ≢ 45 → b ≢ 43 → without_leading_sign (b ∷ bs) ≡ b ∷ bs
-no_sign b bs m p = simp (ne_eqb b 45 m, ne_eqb b 43 p)
-
-no_sign_value : (b : ℕ) (bs : List ℕ) → b ≢ 45 → b ≢ 43 → signed_digits_value 10 (b ∷ bs) ≡ pos (digits_value 10 (b ∷ bs))
-no_sign_value b bs m p = simp (ne_eqb b 45 m, ne_eqb b 43 p)
-
-first_digit : (d : ℕ) → d < 10 → (48 + d ≢ 45) × (48 + d ≢ 43)
-first_digit d h = (λ e. omega arith, λ e. omega arith)
-
-numeral_plain : (text : List ℕ) (digits : List ℕ) → AllByRecursion (λ d. d < 10) digits → 0 < length digits → text ≡ map (λ d. 48 + d) digits → (without_leading_sign text ≡ text) × (signed_digits_value 10 text ≡ pos (digits_value 10 text))
-numeral_plain text [] h some e = absurd (omega arith)
-numeral_plain text (d ∷ digits) h some e =
-    let f = first_digit d h.0 in
-    let bs : List ℕ = map (λ d. 48 + d) digits in (
-      ap without_leading_sign e ∙ no_sign (48 + d) bs f.0 f.1 ∙ sym e,
-      ap (signed_digits_value 10) e ∙ no_sign_value (48 + d) bs f.0 f.1 ∙ ap (λ t. pos (digits_value 10 t)) (sym e),
-    )
+numeral_plain : (text : List ℕ) (digits : List ℕ) → 0 < length digits → text ≡ map (λ d. 48 + d) digits →
+    (without_leading_sign text ≡ text) × (signed_digits_value 10 text ≡ pos (digits_value 10 text)) × (without_leading_plus text ≡ text)
+numeral_plain text [] some e = absurd (omega arith)
+numeral_plain text (d ∷ digits) some e =
+    let m = ne_eqb (48 + d) 45 (λ e. omega arith) in
+    let p = ne_eqb (48 + d) 43 (λ e. omega arith) in
+    rw e (simp (m, p), simp (m, p), simp p)
 
 from_sign : (text : List ℕ) (n : ℤ) (sign : Sign) (digits : List ℕ) → AllByRecursion (λ d. d < 10) digits → 0 < length digits → text ≡ sign_text sign ++ map (λ d. 48 + d) digits → n ≡ signed sign (number_from_digits 10 digits) → IsNumeral 10 (without_leading_sign text) × (n ≡ signed_digits_value 10 text)
 from_sign text n none digits h some e v =
-    let p = numeral_plain text digits h some e in
+    let p = numeral_plain text digits some e in
     let q = numeral text digits h some e in
     (rw (p.0) q.0, v ∙ ap pos (sym q.1) ∙ sym p.1)
 from_sign text n plus digits h some e v =
@@ -107,9 +97,6 @@ one_number text m n a b = (numeral_from text m a).1 ∙ sym (numeral_from text n
 
 pub by_index : (ds : List ℕ) → ((i : ℕ) → i < length ds → IsInRange 48 57 (get_or ds i 0)) → AllDigits 10 ds
 by_index ds h = (numerals_by_value (λ ds. (i : ℕ) → i < length ds → IsInRange 48 57 (get_or ds i 0)) tells_by_index).to ds h
-
-pub to_index : (ds : List ℕ) → AllDigits 10 ds → (i : ℕ) → i < length ds → IsInRange 48 57 (get_or ds i 0)
-to_index ds h = (numerals_by_value (λ ds. (i : ℕ) → i < length ds → IsInRange 48 57 (get_or ds i 0)) tells_by_index).from ds h
 
 -- the test of a numeral
 all_digits : (ds : List ℕ) → list_all (λ c. nat_lt (digit_value c) 10) ds ≡ true → AllDigits 10 ds
@@ -168,17 +155,9 @@ read_ok text n h =
     rw e (number_from text h.0.0, h.0.1)
 
 -- the same of a text that may begin with a plus only
-no_plus : (b : ℕ) (bs : List ℕ) → b ≢ 43 → without_leading_plus (b ∷ bs) ≡ b ∷ bs
-no_plus b bs p = simp (ne_eqb b 43 p)
-
-digits_plain : (text : List ℕ) (digits : List ℕ) → AllByRecursion (λ d. d < 10) digits → 0 < length digits → text ≡ map (λ d. 48 + d) digits → without_leading_plus text ≡ text
-digits_plain text [] h some e = absurd (omega arith)
-digits_plain text (d ∷ digits) h some e =
-    ap without_leading_plus e ∙ no_plus (48 + d) (map (λ d. 48 + d) digits) (first_digit d h.0).1 ∙ sym e
-
 from_plus : (text : List ℕ) (n : ℕ) (with_plus : Bool) (digits : List ℕ) → AllByRecursion (λ d. d < 10) digits → 0 < length digits → text ≡ plus_text with_plus ++ map (λ d. 48 + d) digits → n ≡ number_from_digits 10 digits → IsNumeral 10 (without_leading_plus text) × (n ≡ digits_value 10 (without_leading_plus text))
 from_plus text n false digits h some e v =
-    let p = digits_plain text digits h some e in
+    let p = (numeral_plain text digits some e).2 in
     let q = numeral text digits h some e in
     (rw p q.0, v ∙ sym q.1 ∙ ap (digits_value 10) (sym p))
 from_plus text n true digits h some e v =
