@@ -11,11 +11,13 @@ use lib.Dec.{ltb}
 use Rattle.pgv_text.specs.declared.scanner.TextForm.{TextForm}
 use Rattle.pgv_text.specs.declared.scanner.Class.{Class}
 use Rattle.pgv_text.specs.declared.scanner.Class.TheVariants.{Quote, Backslash, Comma, Open, Close, Other}
+use Rattle.pgv_text.specs.declared.scanner.Cell.{Cell}
+use Rattle.pgv_text.specs.declared.scanner.Cell.TheVariants.{Keep}
 use Rattle.pgv_text.specs.declared.scanner.Place.{Place}
 use Rattle.pgv_text.specs.declared.scanner.Place.TheVariants.{Start, Outside, Quoted, AfterQuote, AfterBackslash, QuotedBackslash}
-use Rattle.pgv_text.specs.Pieces.{Item, inner, inner_escaped, doubled, Piece, plain, escaped, quoted, item_meaning, meaning, text_of}
+use Rattle.pgv_text.specs.Pieces.{Form, Item, inner, inner_escaped, doubled, Piece, plain, escaped, quoted, item_meaning, meaning, text_of}
 use Rattle.pgv_text.specs.Forms.{form_of}
-use Rattle.pgv_text.specs.Scan.{Rest, class, cell, read, read_by, kept, grown, next, at_end, outside_cell, quoted_cell, after_quote_cell, after_text, value_here, ends, counted, stands, closes_here, nest_between, values_from, nest_read}
+use Rattle.pgv_text.specs.Scan.{Rest, class, cell, read, read_by, grown, next, at_end, outside_cell, quoted_cell, after_quote_cell, after_text, value_here, ends, counted, stands, closes_here, nest_between, values_from, nest_read}
 use Rattle.pgv_text.specs.Parsed.{Found, with_piece, with_item, item_first, with_part, closed, parse_outside, parse_quoted, parse_after_quote, parse, nest_of}
 use Rattle.pgv_text.proofs.Classes.{says, opens_low, closes_low}
 use Rattle.pgv_text.proofs.Nothing.{ArePlain, nothing_plain}
@@ -79,73 +81,6 @@ quote_adds_nothing : (o : Option Found) → option_map summary o ≡ option_map 
 quote_adds_nothing None = refl
 quote_adds_nothing (Some r) = refl
 
-module _ (t : TextForm) (c : ℕ) (cs : List ℕ) (all : (q : Place) → read (form_of t) q (encode_utf8_all cs) ≡ option_map summary (parse (form_of t) q cs)) where
-  piece_read : (piece : Piece) → meaning piece ≡ c ∷ [] → grown (encode_utf8 c) (read (form_of t) Outside (encode_utf8_all cs)) ≡ option_map summary (option_map (with_piece piece) (parse (form_of t) Outside cs))
-  piece_read piece e = mapped (after_text (encode_utf8 c)) (with_piece piece) (read (form_of t) Outside (encode_utf8_all cs)) (parse (form_of t) Outside cs) (adds_piece piece c e) (all Outside)
-
-  item_read : (item : Item) → item_meaning item ≡ c → grown (encode_utf8 c) (read (form_of t) Quoted (encode_utf8_all cs)) ≡ option_map summary (option_map (with_item item) (parse (form_of t) Quoted cs))
-  item_read item e = mapped (after_text (encode_utf8 c)) (with_item item) (read (form_of t) Quoted (encode_utf8_all cs)) (parse (form_of t) Quoted cs) (adds_item item c e) (all Quoted)
-
-  other_after : (b : Bool) → option_map (with_piece (quoted [])) (option_map (with_piece (plain c)) (parse (form_of t) Outside cs)) ≡ parse_after_quote (form_of t) c cs (λ q. parse (form_of t) q cs) b Other
-  other_after true = refl
-  other_after false = refl
-
-  -- a character that isn't ASCII
-  high : class (form_of t) c ≡ Other → (p : Place) → grown (encode_utf8 c) (read (form_of t) (onward p) (encode_utf8_all cs)) ≡ option_map summary (parse (form_of t) p (c ∷ cs))
-  high k Quoted = item_read (inner c) refl ∙ ap (λ k. option_map summary (parse_quoted c (λ q. parse (form_of t) q cs) k)) (sym k)
-  high k AfterQuote =
-      piece_read (plain c) refl ∙ quote_adds_nothing (option_map (with_piece (plain c)) (parse (form_of t) Outside cs))
-      ∙ ap (option_map summary) (other_after (form_of t).doubles)
-      ∙ ap (λ k. option_map summary (parse_after_quote (form_of t) c cs (λ q. parse (form_of t) q cs) (form_of t).doubles k)) (sym k)
-  high k AfterBackslash = piece_read (escaped c) refl
-  high k QuotedBackslash = item_read (inner_escaped c) refl
-  high k _ = piece_read (plain c) refl ∙ ap (λ k. option_map summary (parse_outside (form_of t) c cs (λ q. parse (form_of t) q cs) k)) (sym k)
-
-  -- an ASCII character
-  module _ (bytes : encode_utf8 c ≡ c ∷ []) (same : (text : List ℕ) → value_here (form_of t) (encode_utf8_all cs) text ≡ value_here (form_of t) cs text) where
-    piece_low : (piece : Piece) → meaning piece ≡ c ∷ [] → option_map (kept c) (read (form_of t) Outside (encode_utf8_all cs)) ≡ option_map summary (option_map (with_piece piece) (parse (form_of t) Outside cs))
-    piece_low piece e = ap (λ b. grown b (read (form_of t) Outside (encode_utf8_all cs))) (sym bytes) ∙ piece_read piece e
-
-    item_low : (item : Item) → item_meaning item ≡ c → option_map (kept c) (read (form_of t) Quoted (encode_utf8_all cs)) ≡ option_map summary (option_map (with_item item) (parse (form_of t) Quoted cs))
-    item_low item e = ap (λ b. grown b (read (form_of t) Quoted (encode_utf8_all cs))) (sym bytes) ∙ item_read item e
-
-    not_ended : (bs : List ℕ) → ¬ (length bs ≡ 0) → at_end c bs ≡ None
-    not_ended [] n = absurd (n refl)
-    not_ended (b ∷ bs) n = refl
-
-    ended_low : (ds : List ℕ) → at_end c (encode_utf8_all ds) ≡ option_map summary (closed c ds)
-    ended_low [] = refl
-    ended_low (d ∷ ds) = not_ended (encode_utf8 d ++ encode_utf8_all ds) (first_byte d (encode_utf8_all ds))
-
-    outside_low : (k : Class) → read_by (form_of t) c (encode_utf8_all cs) (λ q. read (form_of t) q (encode_utf8_all cs)) (outside_cell k) ≡ option_map summary (parse_outside (form_of t) c cs (λ q. parse (form_of t) q cs) k)
-    outside_low Quote = all Quoted
-    outside_low Backslash = all AfterBackslash
-    outside_low Comma =
-        mapped (next (form_of t) (encode_utf8_all cs)) (with_part (form_of t) cs) (read (form_of t) Start (encode_utf8_all cs)) (parse (form_of t) Start cs)
-        (λ r. ap (λ v. record { text = []; values = v ∷ r.values; closing = r.closing }) (same (encode_utf8_all (text_of r.first)))) (all Start)
-    outside_low Open = refl
-    outside_low Close = ended_low cs
-    outside_low Other = piece_low (plain c) refl
-
-    quoted_low : (k : Class) → read_by (form_of t) c (encode_utf8_all cs) (λ q. read (form_of t) q (encode_utf8_all cs)) (quoted_cell k) ≡ option_map summary (parse_quoted c (λ q. parse (form_of t) q cs) k)
-    quoted_low Quote = all AfterQuote
-    quoted_low Backslash = all QuotedBackslash
-    quoted_low _ = item_low (inner c) refl
-
-    after_low : (b : Bool) (k : Class) → class (form_of t) c ≡ k → read_by (form_of t) c (encode_utf8_all cs) (λ q. read (form_of t) q (encode_utf8_all cs)) (after_quote_cell b k) ≡ option_map summary (parse_after_quote (form_of t) c cs (λ q. parse (form_of t) q cs) b k)
-    after_low true Quote h = item_low doubled (sym (says (form_of t) c Quote h))
-    after_low _ k h = outside_low k ∙ quote_adds_nothing (parse_outside (form_of t) c cs (λ q. parse (form_of t) q cs) k)
-
-    low : (p : Place) → read (form_of t) p (c ∷ encode_utf8_all cs) ≡ option_map summary (parse (form_of t) p (c ∷ cs))
-    low Quoted = quoted_low (class (form_of t) c)
-    low AfterQuote = after_low (form_of t).doubles (class (form_of t) c) refl
-    low AfterBackslash = piece_low (escaped c) refl
-    low QuotedBackslash = item_low (inner_escaped c) refl
-    low _ = outside_low (class (form_of t) c)
-
-open_high : (t : TextForm) (x : ℕ) → 128 ≤ x → (form_of t).closes x ≡ false
-open_high t x h = false_from_ne_true ((form_of t).closes x) (λ e. omega (arith, closes_low t x e, h))
-
 stands_same : (t : TextForm) (nothing : List Piece) → ArePlain (form_of t) nothing → (cs : List ℕ) → stands (form_of t) nothing (encode_utf8_all cs) ≡ stands (form_of t) nothing cs
 stands_same t [] h [] = refl
 stands_same t [] h (c ∷ cs) =
@@ -166,6 +101,59 @@ stands_same t _ h cs = absurd h
 value_same : (t : TextForm) (cs text : List ℕ) → value_here (form_of t) (encode_utf8_all cs) text ≡ value_here (form_of t) cs text
 value_same t cs text = ap (λ b. cond b None (Some text)) (stands_same t (form_of t).nothing (nothing_plain t) cs)
 
+-- the bytes of a character, by the cell of its class
+abbrev read_character : Form → ℕ → List ℕ → (Place → Option Rest) → Cell → Option Rest
+read_character form c bs go (Keep p) = grown (encode_utf8 c) (go p)
+read_character form c bs go k = read_by form c bs go k
+
+ascii_read : (form : Form) (c : ℕ) (bs : List ℕ) (go : Place → Option Rest) (k : Cell) → encode_utf8 c ≡ c ∷ [] → read_by form c bs go k ≡ read_character form c bs go k
+ascii_read form c bs go (Keep p) e = ap (λ b. grown b (go p)) (sym e)
+ascii_read form c bs go _ e = refl
+
+module _ (t : TextForm) (c : ℕ) (cs : List ℕ) (all : (q : Place) → read (form_of t) q (encode_utf8_all cs) ≡ option_map summary (parse (form_of t) q cs)) where
+  piece_read : (piece : Piece) → meaning piece ≡ c ∷ [] → grown (encode_utf8 c) (read (form_of t) Outside (encode_utf8_all cs)) ≡ option_map summary (option_map (with_piece piece) (parse (form_of t) Outside cs))
+  piece_read piece e = mapped (after_text (encode_utf8 c)) (with_piece piece) (read (form_of t) Outside (encode_utf8_all cs)) (parse (form_of t) Outside cs) (adds_piece piece c e) (all Outside)
+
+  item_read : (item : Item) → item_meaning item ≡ c → grown (encode_utf8 c) (read (form_of t) Quoted (encode_utf8_all cs)) ≡ option_map summary (option_map (with_item item) (parse (form_of t) Quoted cs))
+  item_read item e = mapped (after_text (encode_utf8 c)) (with_item item) (read (form_of t) Quoted (encode_utf8_all cs)) (parse (form_of t) Quoted cs) (adds_item item c e) (all Quoted)
+
+  not_ended : (bs : List ℕ) → ¬ (length bs ≡ 0) → at_end c bs ≡ None
+  not_ended [] n = absurd (n refl)
+  not_ended (b ∷ bs) n = refl
+
+  ended_read : (ds : List ℕ) → at_end c (encode_utf8_all ds) ≡ option_map summary (closed c ds)
+  ended_read [] = refl
+  ended_read (d ∷ ds) = not_ended (encode_utf8 d ++ encode_utf8_all ds) (first_byte d (encode_utf8_all ds))
+
+  outside_read : (k : Class) → read_character (form_of t) c (encode_utf8_all cs) (λ q. read (form_of t) q (encode_utf8_all cs)) (outside_cell k) ≡ option_map summary (parse_outside (form_of t) c cs (λ q. parse (form_of t) q cs) k)
+  outside_read Quote = all Quoted
+  outside_read Backslash = all AfterBackslash
+  outside_read Comma =
+      mapped (next (form_of t) (encode_utf8_all cs)) (with_part (form_of t) cs) (read (form_of t) Start (encode_utf8_all cs)) (parse (form_of t) Start cs)
+      (λ r. ap (λ v. record { text = []; values = v ∷ r.values; closing = r.closing }) (value_same t cs (encode_utf8_all (text_of r.first)))) (all Start)
+  outside_read Open = refl
+  outside_read Close = ended_read cs
+  outside_read Other = piece_read (plain c) refl
+
+  quoted_read : (k : Class) → read_character (form_of t) c (encode_utf8_all cs) (λ q. read (form_of t) q (encode_utf8_all cs)) (quoted_cell k) ≡ option_map summary (parse_quoted c (λ q. parse (form_of t) q cs) k)
+  quoted_read Quote = all AfterQuote
+  quoted_read Backslash = all QuotedBackslash
+  quoted_read _ = item_read (inner c) refl
+
+  after_read : (b : Bool) (k : Class) → class (form_of t) c ≡ k → read_character (form_of t) c (encode_utf8_all cs) (λ q. read (form_of t) q (encode_utf8_all cs)) (after_quote_cell b k) ≡ option_map summary (parse_after_quote (form_of t) c cs (λ q. parse (form_of t) q cs) b k)
+  after_read true Quote h = item_read doubled (sym (says (form_of t) c Quote h))
+  after_read _ k h = outside_read k ∙ quote_adds_nothing (parse_outside (form_of t) c cs (λ q. parse (form_of t) q cs) k)
+
+  at_place : (p : Place) → read_character (form_of t) c (encode_utf8_all cs) (λ q. read (form_of t) q (encode_utf8_all cs)) (cell (form_of t) p (class (form_of t) c)) ≡ option_map summary (parse (form_of t) p (c ∷ cs))
+  at_place Quoted = quoted_read (class (form_of t) c)
+  at_place AfterQuote = after_read (form_of t).doubles (class (form_of t) c) refl
+  at_place AfterBackslash = piece_read (escaped c) refl
+  at_place QuotedBackslash = item_read (inner_escaped c) refl
+  at_place _ = outside_read (class (form_of t) c)
+
+open_high : (t : TextForm) (x : ℕ) → 128 ≤ x → (form_of t).closes x ≡ false
+open_high t x h = false_from_ne_true ((form_of t).closes x) (λ e. omega (arith, closes_low t x e, h))
+
 closes_same : (t : TextForm) (cs : List ℕ) → closes_here (form_of t) (encode_utf8_all cs) ≡ closes_here (form_of t) cs
 closes_same t [] = refl
 closes_same t (c ∷ cs) =
@@ -178,8 +166,10 @@ bytes_read : (t : TextForm) (cs : List ℕ) (p : Place) → read (form_of t) p (
 bytes_read t [] p = refl
 bytes_read t (c ∷ cs) p =
     elim (cases_lt c 128) [
-      | inl k ↦ ap (λ b. read (form_of t) p (b ++ encode_utf8_all cs)) (encode_ascii c k) ∙ low t c cs (bytes_read t cs) (encode_ascii c k) (value_same t cs) p
-      | inr k ↦ character_read t p c (encode_utf8_all cs) k ∙ high t c cs (bytes_read t cs) (high_class t c k) p
+      | inl k ↦ ap (λ b. read (form_of t) p (b ++ encode_utf8_all cs)) (encode_ascii c k)
+          ∙ ascii_read (form_of t) c (encode_utf8_all cs) (λ q. read (form_of t) q (encode_utf8_all cs)) (cell (form_of t) p (class (form_of t) c)) (encode_ascii c k) ∙ at_place t c cs (bytes_read t cs) p
+      | inr k ↦ character_read t p c (encode_utf8_all cs) k
+          ∙ sym (ap (read_character (form_of t) c (encode_utf8_all cs) (λ q. read (form_of t) q (encode_utf8_all cs))) (ap (cell (form_of t) p) (high_class t c k) ∙ other_cell (form_of t) p)) ∙ at_place t c cs (bytes_read t cs) p
     ]
 
 from_summary : (t : TextForm) (o : ℕ) (cs : List ℕ) (x : Option Rest) (f : Option Found) → x ≡ option_map summary f →
