@@ -21,6 +21,7 @@ use Rattle.pgv_text.specs.Scan.{Rest, class, cell, read, read_by, grown, next, a
 use Rattle.pgv_text.specs.Parsed.{Found, with_piece, with_item, item_first, with_part, closed, parse_outside, parse_quoted, parse_after_quote, parse, nest_of}
 use Rattle.pgv_text.proofs.Classes.{says, opens_low, closes_low}
 use Rattle.pgv_text.proofs.Nothing.{ArePlain, nothing_plain}
+use Rattle.pgv_text.proofs.Nests.{nest_within, found_nest}
 use Rattle.pgv_text.proofs.Stops.{not_equal, high_class, other_cell, onward, grown_none, grown_twice}
 
 high_from : (c : ℕ) (a b d : Bool) → 128 ≤ c → ltb c 128 ≡ a → (x : ℕ) × (hs : List ℕ) × (cond a (c ∷ []) (cond b ((192 + c / 64) ∷ (128 + c % 64) ∷ []) (cond d ((224 + c / 4096) ∷ (128 + c / 64 % 64) ∷ (128 + c % 64) ∷ []) ((240 + c / 262144) ∷ (128 + c / 4096 % 64) ∷ (128 + c / 64 % 64) ∷ (128 + c % 64) ∷ []))) ≡ x ∷ hs) × (128 ≤ x) × AllByRecursion (λ y. 128 ≤ y) hs
@@ -174,11 +175,11 @@ bytes_read t (c ∷ cs) p =
 
 from_summary : (t : TextForm) (o : ℕ) (cs : List ℕ) (x : Option Rest) (f : Option Found) → x ≡ option_map summary f →
     option_and_then (λ r. nest_between (form_of t) o (encode_utf8_all cs) (values_from (form_of t) (encode_utf8_all cs) r) r.closing) x
-    ≡ option_and_then (λ r. nest_between (form_of t) o cs (value_here (form_of t) cs (encode_utf8_all (text_of r.first)) ∷ r.values) r.closing) f
+    ≡ option_and_then (found_nest (form_of t) o cs) f
 from_summary t o cs x None e = ap (option_and_then (λ r. nest_between (form_of t) o (encode_utf8_all cs) (values_from (form_of t) (encode_utf8_all cs) r) r.closing)) e
 from_summary t o cs x (Some r) e =
     ap (option_and_then (λ r. nest_between (form_of t) o (encode_utf8_all cs) (values_from (form_of t) (encode_utf8_all cs) r) r.closing)) e
-    ∙ ap (λ b. option_map (λ values. record { values = values; lower = o == 91; upper = r.closing == 93 }) (counted (form_of t).count b (value_here (form_of t) (encode_utf8_all cs) (encode_utf8_all (text_of r.first)) ∷ r.values))) (closes_same t cs)
+    ∙ ap (λ b. option_map (nest_within o r.closing) (counted (form_of t).count b (value_here (form_of t) (encode_utf8_all cs) (encode_utf8_all (text_of r.first)) ∷ r.values))) (closes_same t cs)
     ∙ ap (λ v. nest_between (form_of t) o cs (v ∷ r.values) r.closing) (value_same t cs (encode_utf8_all (text_of r.first)))
 
 high_opens : (t : TextForm) (x : ℕ) → 128 ≤ x → (form_of t).opens x ≡ false

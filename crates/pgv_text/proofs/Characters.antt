@@ -2,11 +2,11 @@
 use Rattle.std.proofs.Common.{◌≡◌, ℕ, true, ◌&&◌, List, [], ◌∷◌, ◌++◌, Option, Some, None, map, ap, ◌∙◌, sym, refl}
 use Rattle.std.specs.List.{flat_map, AllByRecursion}
 use Rattle.std.specs.Char.{IsScalar}
-use Rattle.std.specs.Str.{IsUtf8, chars, encode_utf8_all}
+use Rattle.std.specs.Str.{IsUtf8, chars}
 use Rattle.std.proofs.Math.Utf8.{scalar, scalars}
 use Rattle.std.proofs.lemmas.Bool.{and_parts}
 use Rattle.std.proofs.lemmas.Str.{scalars-chars}
-use Rattle.pgv_text.specs.Pieces.{Item, inner, inner_escaped, doubled, Piece, plain, escaped, quoted, item_spelling, item_meaning, spelled, text_of, joined, Pairwise}
+use Rattle.pgv_text.specs.Pieces.{Item, inner, inner_escaped, doubled, Piece, plain, escaped, quoted, item_spelling, item_meaning, spelled, text_of, joined, Pairwise, Form, IsPart}
 use Rattle.pgv_text.specs.Spellings.{IsOptionalText}
 
 abbrev pub AreScalars : List ℕ → Type 0
@@ -58,14 +58,14 @@ pub parts_scalars : (parts : List (List Piece)) → AreScalars (joined parts) �
 parts_scalars [] h = tt
 parts_scalars (part ∷ parts) h = more_scalars (part ∷ parts) (refl, h)
 
--- the values of parts are texts, where a value is what its part means
-pub values_are_texts : (Is : List Piece → Option (List ℕ) → Type 0) → ((pieces : List Piece) (text : List ℕ) → Is pieces (Some text) → text ≡ encode_utf8_all (text_of pieces)) → (parts : List (List Piece)) (values : List (Option (List ℕ))) → AllByRecursion (λ p. AreScalars (spelled p)) parts → Pairwise Is parts values → AllByRecursion IsOptionalText values
-values_are_texts Is means [] [] h p = tt
-values_are_texts Is means (part ∷ parts) (None ∷ values) h p = (tt, values_are_texts Is means parts values h.1 p.1)
-values_are_texts Is means (part ∷ parts) (Some text ∷ values) h p =
-    let utf8 : IsUtf8 text = (text_of part, (scalars_are (text_of part) (text_scalars part h.0), sym (means part text p.0))) in
-    (utf8, values_are_texts Is means parts values h.1 p.1)
-values_are_texts Is means _ _ h p = absurd p
+-- the values of parts are texts
+pub values_are_texts : (form : Form) (parts : List (List Piece)) (values : List (Option (List ℕ))) → AllByRecursion (λ p. AreScalars (spelled p)) parts → Pairwise (IsPart form) parts values → AllByRecursion IsOptionalText values
+values_are_texts form [] [] h p = tt
+values_are_texts form (part ∷ parts) (None ∷ values) h p = (tt, values_are_texts form parts values h.1 p.1)
+values_are_texts form (part ∷ parts) (Some text ∷ values) h p =
+    let utf8 : IsUtf8 text = (text_of part, (scalars_are (text_of part) (text_scalars part h.0), sym p.0.1)) in
+    (utf8, values_are_texts form parts values h.1 p.1)
+values_are_texts form _ _ h p = absurd p
 
 pub characters_of : (text : List ℕ) → IsUtf8 text → AreScalars (chars text)
 characters_of text u = are_scalars (chars text) (scalars-chars text u)

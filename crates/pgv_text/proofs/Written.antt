@@ -11,7 +11,7 @@ use Rattle.pgv_text.specs.declared.scanner.TextForm.{TextForm}
 use Rattle.pgv_text.specs.declared.scanner.TextForm.TheVariants.{Array}
 use Rattle.pgv_text.specs.Forms.{form_of}
 use Rattle.pgv_text.proofs.Nothing.{ArePlain, nothing_plain}
-use Rattle.pgv_text.proofs.Nests.{as_many}
+use Rattle.pgv_text.proofs.Nests.{as_many, nest_within}
 use lib.Utf8.{low_scalar}
 use Rattle.pgv_text.proofs.Classes.{opens_low, closes_low}
 use Rattle.pgv_text.specs.Spellings.{IsOptionalText, escaped_character, doubled_character, quoted_by, MayBeBare, IsSpelled, AreEnough, by_commas, nest_text}
@@ -173,13 +173,13 @@ bracket_scalar t c (inr h) = low_scalar c (omega (arith, closes_low t c h))
 
 -- However the values are spelled, the text is of them.
 pub reads_back : (t : TextForm) (o k : ℕ) (values : List (Option (List ℕ))) (spellings : List (List ℕ)) → (form_of t).opens o ≡ true → (form_of t).closes k ≡ true → AreEnough (form_of t).count values → AllByRecursion IsOptionalText values → Pairwise (IsSpelled (form_of t)) values spellings →
-    IsUtf8 (nest_text o k spellings) × IsNestText (form_of t) (chars (nest_text o k spellings)) (record { values = values; lower = o == 91; upper = k == 93 })
+    IsUtf8 (nest_text o k spellings) × IsNestText (form_of t) (chars (nest_text o k spellings)) (nest_within o k values)
 reads_back t o k values spellings w x n u h =
     let s = values_spelt t values spellings u h in
     let cs : List ℕ = o ∷ by_commas spellings ++ k ∷ [] in
     let all : AreScalars cs = (bracket_scalar t o (inl w), all_append (by_commas spellings) (k ∷ []) s.scalars (bracket_scalar t k (inr x), tt)) in
     let back : chars (encode_utf8_all cs) ≡ cs = chars-encodes cs (scalars_are cs all) in
-    let is : IsNestText (form_of t) cs (record { values = values; lower = o == 91; upper = k == 93 }) = record {
+    let is : IsNestText (form_of t) cs (nest_within o k values) = record {
       opening = o;
       closing = k;
       parts = s.parts;
@@ -192,7 +192,7 @@ reads_back t o k values spellings w x n u h =
       lower = refl;
       upper = refl;
     } in
-    ((cs, (scalars_are cs all, refl)), subst (λ x. IsNestText (form_of t) x (record { values = values; lower = o == 91; upper = k == 93 })) (sym back) is)
+    ((cs, (scalars_are cs all, refl)), subst (λ x. IsNestText (form_of t) x (nest_within o k values)) (sym back) is)
 
 spelling_of : Form → Option (List ℕ) → List ℕ
 spelling_of form None = spelled form.nothing
@@ -206,16 +206,13 @@ all_spelled t (Some text ∷ values) = (inl refl, all_spelled t values)
 
 -- Every list of optional texts has a text.
 pub has_text : (t : TextForm) (o k : ℕ) (values : List (Option (List ℕ))) → (form_of t).opens o ≡ true → (form_of t).closes k ≡ true → AreEnough (form_of t).count values → AllByRecursion IsOptionalText values →
-    (text : List ℕ) × IsUtf8 text × IsNestText (form_of t) (chars text) (record { values = values; lower = o == 91; upper = k == 93 })
+    (text : List ℕ) × IsUtf8 text × IsNestText (form_of t) (chars text) (nest_within o k values)
 has_text t o k values w x n u =
     let b = reads_back t o k values (map (spelling_of (form_of t)) values) w x n u (all_spelled t values) in
     (nest_text o k (map (spelling_of (form_of t)) values), b.0, b.1)
-
-part_means : (form : Form) (pieces : List Piece) (text : List ℕ) → IsPart form pieces (Some text) → text ≡ encode_utf8_all (text_of pieces)
-part_means form pieces text h = h.1
 
 -- The values of a text in UTF-8 are UTF-8.
 pub values_texts : (t : TextForm) (text : List ℕ) (nest : Nest) → IsUtf8 text → IsNestText (form_of t) (chars text) nest → AllByRecursion IsOptionalText nest.values
 values_texts t text nest u n =
     let all : AreScalars (n.opening ∷ joined n.parts ++ n.closing ∷ []) = subst AreScalars n.whole (characters_of text u) in
-    values_are_texts (IsPart (form_of t)) (part_means (form_of t)) n.parts nest.values (parts_scalars n.parts (all_parts (joined n.parts) (n.closing ∷ []) all.1).0) n.values
+    values_are_texts (form_of t) n.parts nest.values (parts_scalars n.parts (all_parts (joined n.parts) (n.closing ∷ []) all.1).0) n.values
