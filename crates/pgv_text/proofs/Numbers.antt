@@ -116,11 +116,8 @@ numeral_tested (d ∷ ds) h =
     let all : list_all (λ c. nat_lt (digit_value c) 10) (d ∷ ds) ≡ true = (and_parts (not (length (d ∷ ds) == 0)) (list_all (λ c. nat_lt (digit_value c) 10) (d ∷ ds)) h).1 in
     (some, all_digits (d ∷ ds) all)
 
-not_none : (n : ℕ) → 0 < n → not (n == 0) ≡ true
-not_none n h = ap not (ne_eqb n 0 (λ e. omega arith))
-
 pub tested_numeral : (ds : List ℕ) → IsNumeral 10 ds → is_numeral ds ≡ true
-tested_numeral ds h = ap (λ b. b && list_all (λ c. nat_lt (digit_value c) 10) ds) (not_none (length ds) h.0) ∙ digits_all ds h.1
+tested_numeral ds h = rw (ne_eqb (length ds) 0 (λ e. omega (arith, h.0, e)), digits_all ds h.1) refl
 
 -- what a chosen value is
 chosen : {X : Type 0} (b : Bool) (x n : X) → cond b (Some x) None ≡ Some n → (b ≡ true) × (x ≡ n)
@@ -130,8 +127,7 @@ chosen false x n e = absurd (cc)
 pub value_number : (text : List ℕ) (n : ℤ) → number_value text ≡ Some n → IsNumber text n
 value_number text n e =
     let c = chosen (is_numeral (without_leading_sign text)) (signed_digits_value 10 text) n e in
-    let P : ℤ → Type 0 = λ v. IsNumber text v in
-    subst P c.1 (number_from text (numeral_tested (without_leading_sign text) c.0))
+    subst (IsNumber text) c.1 (number_from text (numeral_tested (without_leading_sign text) c.0))
 
 pub number_value_of : (text : List ℕ) (n : ℤ) → IsNumber text n → number_value text ≡ Some n
 number_value_of text n h =
@@ -193,8 +189,7 @@ one_unsigned text m n a b = (unsigned_numeral_from text m a).1 ∙ sym (unsigned
 pub value_unsigned : (text : List ℕ) (n : ℕ) → unsigned_value text ≡ Some n → IsUnsignedNumber text n
 value_unsigned text n e =
     let c = chosen (is_numeral (without_leading_plus text)) (digits_value 10 (without_leading_plus text)) n e in
-    let P : ℕ → Type 0 = λ v. IsUnsignedNumber text v in
-    subst P c.1 (unsigned_from text (numeral_tested (without_leading_plus text) c.0))
+    subst (IsUnsignedNumber text) c.1 (unsigned_from text (numeral_tested (without_leading_plus text) c.0))
 
 pub unsigned_value_of : (text : List ℕ) (n : ℕ) → IsUnsignedNumber text n → unsigned_value text ≡ Some n
 unsigned_value_of text n h =
