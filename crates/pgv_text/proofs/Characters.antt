@@ -2,11 +2,11 @@
 use Rattle.std.proofs.Common.{◌≡◌, ℕ, true, ◌&&◌, List, [], ◌∷◌, ◌++◌, Option, Some, None, map, ap, ◌∙◌, sym, refl}
 use Rattle.std.specs.List.{flat_map, AllByRecursion}
 use Rattle.std.specs.Char.{IsScalar}
-use Rattle.std.specs.Str.{IsUtf8, chars, encode_utf8_all}
+use Rattle.std.specs.Str.{IsUtf8, chars}
 use Rattle.std.proofs.Math.Utf8.{scalar, scalars}
 use Rattle.std.proofs.lemmas.Bool.{and_parts}
 use Rattle.std.proofs.lemmas.Str.{scalars-chars}
-use Rattle.pgv_text.specs.Pieces.{Item, inner, inner_escaped, doubled, Piece, plain, escaped, quoted, item_spelling, item_meaning, spelled, text_of, joined, Pairwise}
+use Rattle.pgv_text.specs.Pieces.{Item, inner, inner_escaped, doubled, Piece, plain, escaped, quoted, item_spelling, item_meaning, spelled, text_of, joined, Pairwise, Form, IsPart}
 use Rattle.pgv_text.specs.Spellings.{IsOptionalText}
 
 abbrev pub AreScalars : List ℕ → Type 0
@@ -24,13 +24,9 @@ pub all_append : (xs ys : List ℕ) → AreScalars xs → AreScalars ys → AreS
 all_append [] ys a b = b
 all_append (x ∷ xs) ys a b = (a.0, all_append xs ys a.1 b)
 
-pub all_left : (xs ys : List ℕ) → AreScalars (xs ++ ys) → AreScalars xs
-all_left [] ys h = tt
-all_left (x ∷ xs) ys h = (h.0, all_left xs ys h.1)
-
-pub all_right : (xs ys : List ℕ) → AreScalars (xs ++ ys) → AreScalars ys
-all_right [] ys h = h
-all_right (x ∷ xs) ys h = all_right xs ys h.1
+pub all_parts : (xs ys : List ℕ) → AreScalars (xs ++ ys) → AreScalars xs × AreScalars ys
+all_parts [] ys h = (tt, h)
+all_parts (x ∷ xs) ys h = let p = all_parts xs ys h.1 in ((h.0, p.0), p.1)
 
 -- what is spelled in characters means characters
 item_scalar : (item : Item) → AreScalars (item_spelling item) → IsScalar (item_meaning item)
@@ -41,37 +37,35 @@ item_scalar doubled h = h.0
 items_scalars : (items : List Item) → AreScalars (flat_map item_spelling items) → AreScalars (map item_meaning items)
 items_scalars [] h = tt
 items_scalars (item ∷ items) h =
-    (item_scalar item (all_left (item_spelling item) (flat_map item_spelling items) h), items_scalars items (all_right (item_spelling item) (flat_map item_spelling items) h))
+    let p = all_parts (item_spelling item) (flat_map item_spelling items) h in
+    (item_scalar item p.0, items_scalars items p.1)
 
 text_scalars : (pieces : List Piece) → AreScalars (spelled pieces) → AreScalars (text_of pieces)
 text_scalars [] h = tt
 text_scalars (plain c ∷ pieces) h = (h.0, text_scalars pieces h.1)
 text_scalars (escaped c ∷ pieces) h = (h.1.0, text_scalars pieces h.1.1)
 text_scalars (quoted items ∷ pieces) h =
-    let inside : AreScalars (flat_map item_spelling items ++ 34 ∷ []) = all_left (flat_map item_spelling items ++ 34 ∷ []) (spelled pieces) h.1 in
-    all_append (map item_meaning items) (text_of pieces)
-    (items_scalars items (all_left (flat_map item_spelling items) (34 ∷ []) inside))
-    (text_scalars pieces (all_right (flat_map item_spelling items ++ 34 ∷ []) (spelled pieces) h.1))
+    let p = all_parts (flat_map item_spelling items ++ 34 ∷ []) (spelled pieces) h.1 in
+    all_append (map item_meaning items) (text_of pieces) (items_scalars items (all_parts (flat_map item_spelling items) (34 ∷ []) p.0).0) (text_scalars pieces p.1)
 
 more_scalars : (parts : List (List Piece)) → AreScalars (flat_map (λ p. 44 ∷ spelled p) parts) → AllByRecursion (λ p. AreScalars (spelled p)) parts
 more_scalars [] h = tt
 more_scalars (part ∷ parts) h =
-    (all_left (spelled part) (flat_map (λ p. 44 ∷ spelled p) parts) h.1, more_scalars parts (all_right (spelled part) (flat_map (λ p. 44 ∷ spelled p) parts) h.1))
+    let p = all_parts (spelled part) (flat_map (λ p. 44 ∷ spelled p) parts) h.1 in
+    (p.0, more_scalars parts p.1)
 
 pub parts_scalars : (parts : List (List Piece)) → AreScalars (joined parts) → AllByRecursion (λ p. AreScalars (spelled p)) parts
 parts_scalars [] h = tt
-parts_scalars (part ∷ parts) h =
-    (all_left (spelled part) (flat_map (λ p. 44 ∷ spelled p) parts) h, more_scalars parts (all_right (spelled part) (flat_map (λ p. 44 ∷ spelled p) parts) h))
+parts_scalars (part ∷ parts) h = more_scalars (part ∷ parts) (refl, h)
 
--- the values of parts are texts, where a value is what its part means
-pub values_are_texts : (Is : List Piece → Option (List ℕ) → Type 0) → ((pieces : List Piece) (text : List ℕ) → Is pieces (Some text) → text ≡ encode_utf8_all (text_of pieces)) → (parts : List (List Piece)) (values : List (Option (List ℕ))) → AllByRecursion (λ p. AreScalars (spelled p)) parts → Pairwise Is parts values → AllByRecursion IsOptionalText values
-values_are_texts Is means [] [] h p = tt
-values_are_texts Is means [] (value ∷ values) h p = absurd p
-values_are_texts Is means (part ∷ parts) [] h p = absurd p
-values_are_texts Is means (part ∷ parts) (None ∷ values) h p = (tt, values_are_texts Is means parts values h.1 p.1)
-values_are_texts Is means (part ∷ parts) (Some text ∷ values) h p =
-    let utf8 : IsUtf8 text = (text_of part, (scalars_are (text_of part) (text_scalars part h.0), sym (means part text p.0))) in
-    (utf8, values_are_texts Is means parts values h.1 p.1)
+-- the values of parts are texts
+pub values_are_texts : (form : Form) (parts : List (List Piece)) (values : List (Option (List ℕ))) → AllByRecursion (λ p. AreScalars (spelled p)) parts → Pairwise (IsPart form) parts values → AllByRecursion IsOptionalText values
+values_are_texts form [] [] h p = tt
+values_are_texts form (part ∷ parts) (None ∷ values) h p = (tt, values_are_texts form parts values h.1 p.1)
+values_are_texts form (part ∷ parts) (Some text ∷ values) h p =
+    let utf8 : IsUtf8 text = (text_of part, (scalars_are (text_of part) (text_scalars part h.0), sym p.0.1)) in
+    (utf8, values_are_texts form parts values h.1 p.1)
+values_are_texts form _ _ h p = absurd p
 
 pub characters_of : (text : List ℕ) → IsUtf8 text → AreScalars (chars text)
 characters_of text u = are_scalars (chars text) (scalars-chars text u)

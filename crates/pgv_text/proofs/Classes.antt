@@ -1,5 +1,5 @@
 -- What the class of a character says about it.
-use Rattle.std.proofs.Common.{◌≡◌, ℕ, Bool, true, false, not, cond, ◌==◌, ◌||◌, ap, subst, sym, refl}
+use Rattle.std.proofs.Common.{◌≡◌, ◌<◌, ℕ, Bool, true, false, not, cond, ◌==◌, ◌||◌, ap, subst, sym, refl, arith}
 use Rattle.std.proofs.lemmas.Bool.{eqb-true, false≢true}
 use Rattle.pgv_text.specs.declared.scanner.TextForm.{TextForm}
 use Rattle.pgv_text.specs.declared.scanner.TextForm.TheVariants.{Array, Range, Record}
@@ -32,12 +32,8 @@ pub says : (form : Form) (c : ℕ) (k : Class) → class form c ≡ k → Says f
 says form c k e = subst (Says form c) e (says_from form c (c == 34) (c == 92) (c == 44) (form.opens c) (form.closes c) refl refl refl refl refl)
 
 other_from : (a b x o l : Bool) → not (a || b || x || o || l) ≡ true → choice a b x o l ≡ Other
-other_from true b x o l h = absurd (false≢true h)
-other_from false true x o l h = absurd (false≢true h)
-other_from false false true o l h = absurd (false≢true h)
-other_from false false false true l h = absurd (false≢true h)
-other_from false false false false true h = absurd (false≢true h)
 other_from false false false false false h = refl
+other_from _ _ _ _ _ h = absurd (false≢true h)
 
 pub class_plain : (form : Form) (c : ℕ) → may_be_plain form c ≡ true → class form c ≡ Other
 class_plain form c h = other_from (c == 34) (c == 92) (c == 44) (form.opens c) (form.closes c) h
@@ -51,3 +47,18 @@ pub class_closing : (form : TextForm) (c : ℕ) → (form_of form).closes c ≡ 
 class_closing Array c h = ap (class (form_of Array)) (eqb-true c 125 h)
 class_closing Range c h = either c 41 93 (c == 41) (c == 93) refl refl h (λ c. class (form_of Range) c ≡ Close) refl refl
 class_closing Record c h = ap (class (form_of Record)) (eqb-true c 41 h)
+
+low : (c d : ℕ) → d < 128 → (c == d) ≡ true → c < 128
+low c d h e = let same : c ≡ d = eqb-true c d e in omega arith
+
+-- the opening brackets are ASCII
+pub opens_low : (form : TextForm) (c : ℕ) → (form_of form).opens c ≡ true → c < 128
+opens_low Array c h = low c 123 (omega arith) h
+opens_low Range c h = either c 40 91 (c == 40) (c == 91) refl refl h (λ c. c < 128) (omega arith) (omega arith)
+opens_low Record c h = low c 40 (omega arith) h
+
+-- and so are the closing ones
+pub closes_low : (form : TextForm) (c : ℕ) → (form_of form).closes c ≡ true → c < 128
+closes_low Array c h = low c 125 (omega arith) h
+closes_low Range c h = either c 41 93 (c == 41) (c == 93) refl refl h (λ c. c < 128) (omega arith) (omega arith)
+closes_low Record c h = low c 41 (omega arith) h

@@ -3,6 +3,8 @@ use Rattle.std.proofs.Common.{◌≡◌, ◌↔◌, ℕ, Bool, true, false, ◌=
 use Rattle.std.specs.Option.{option_map}
 use Rattle.std.proofs.lemmas.Bool.{eqb-true}
 use Rattle.pgv_text.specs.declared.scanner.TextForm.TheVariants.{Array, Record}
+use Rattle.pgv_text.specs.declared.scanner.TextForm.{TextForm}
+use Rattle.pgv_text.specs.Forms.{form_of}
 use Rattle.pgv_text.specs.Pieces.{Form, Nest, IsNestText}
 use Rattle.pgv_text.specs.Arrays.{array_form, IsArrayText}
 use Rattle.pgv_text.specs.Records.{record_form, IsRecordText}
@@ -15,27 +17,23 @@ plain_nest form text nest o k n =
     subst (λ (b : Bool × Bool). IsNestText form text (record { values = nest.values; lower = b.0; upper = b.1 }))
     (ap (λ (b : Bool). (b, nest.upper)) (n.lower ∙ o n.opening n.opens) ∙ ap (λ (b : Bool). (false, b)) (n.upper ∙ k n.closing n.closes)) n
 
-pub array_plain : (text : List ℕ) (nest : Nest) → IsNestText array_form text nest → IsArrayText text nest.values
-array_plain text nest n = plain_nest array_form text nest (λ c h. ap (λ c. c == 91) (eqb-true c 123 h)) (λ c h. ap (λ c. c == 93) (eqb-true c 125 h)) n
-
-pub record_plain : (text : List ℕ) (nest : Nest) → IsNestText record_form text nest → IsRecordText text nest.values
-record_plain text nest n = plain_nest record_form text nest (λ c h. ap (λ c. c == 91) (eqb-true c 40 h)) (λ c h. ap (λ c. c == 93) (eqb-true c 41 h)) n
-
 values_in : (o : Option Nest) (values : List (Option (List ℕ))) → option_map (λ nest. nest.values) o ≡ Some values → (nest : Nest) × (o ≡ Some nest) × (nest.values ≡ values)
 values_in None values h = cc
 values_in (Some nest) values h = (nest, refl, cc)
 
-pub array_is : (text : List ℕ) (values : List (Option (List ℕ))) → (option_map (λ nest. nest.values) (nest_of array_form text) ≡ Some values) ↔ IsArrayText text values
-array_is text values = (
-  λ h. let v = values_in (nest_of array_form text) values h in subst (IsArrayText text) v.2 (array_plain text v.0 (nest_sound Array text v.0 v.1)),
-  λ n. ap (option_map (λ nest. nest.values)) (nest_complete Array text (record { values = values; lower = false; upper = false }) n),
+list_is : (t : TextForm) (text : List ℕ) (values : List (Option (List ℕ))) → ((c : ℕ) → (form_of t).opens c ≡ true → (c == 91) ≡ false) → ((c : ℕ) → (form_of t).closes c ≡ true → (c == 93) ≡ false) →
+    (option_map (λ nest. nest.values) (nest_of (form_of t) text) ≡ Some values) ↔ IsNestText (form_of t) text (record { values = values; lower = false; upper = false })
+list_is t text values o k = (
+  λ h. let v = values_in (nest_of (form_of t) text) values h in
+      subst (λ values. IsNestText (form_of t) text (record { values = values; lower = false; upper = false })) v.2 (plain_nest (form_of t) text v.0 o k (nest_sound t text v.0 v.1)),
+  λ n. ap (option_map (λ nest. nest.values)) (nest_complete t text (record { values = values; lower = false; upper = false }) n),
 )
 
+pub array_is : (text : List ℕ) (values : List (Option (List ℕ))) → (option_map (λ nest. nest.values) (nest_of array_form text) ≡ Some values) ↔ IsArrayText text values
+array_is text values = list_is Array text values (λ c h. ap (λ c. c == 91) (eqb-true c 123 h)) (λ c h. ap (λ c. c == 93) (eqb-true c 125 h))
+
 pub record_is : (text : List ℕ) (values : List (Option (List ℕ))) → (option_map (λ nest. nest.values) (nest_of record_form text) ≡ Some values) ↔ IsRecordText text values
-record_is text values = (
-  λ h. let v = values_in (nest_of record_form text) values h in subst (IsRecordText text) v.2 (record_plain text v.0 (nest_sound Record text v.0 v.1)),
-  λ n. ap (option_map (λ nest. nest.values)) (nest_complete Record text (record { values = values; lower = false; upper = false }) n),
-)
+record_is text values = list_is Record text values (λ c h. ap (λ c. c == 91) (eqb-true c 40 h)) (λ c h. ap (λ c. c == 93) (eqb-true c 41 h))
 
 -- a range has two bounds
 pub two_bounds : (text : List ℕ) (nest : Nest) → IsNestText range_form text nest → length nest.values ≡ 2

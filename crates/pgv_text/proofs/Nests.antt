@@ -9,7 +9,7 @@ use Rattle.pgv_text.specs.declared.scanner.TextForm.{TextForm}
 use Rattle.pgv_text.specs.declared.scanner.Class.{Class}
 use Rattle.pgv_text.specs.declared.scanner.Class.TheVariants.{Quote, Backslash, Comma, Close, Other}
 use Rattle.pgv_text.specs.declared.scanner.Place.TheVariants.{Start}
-use Rattle.pgv_text.specs.Pieces.{Piece, plain, escaped, quoted, Count, any, some, two, AreCounted, ArePieces, Pairwise, IsPart, Nest, IsNestText, spelled, text_of, joined}
+use Rattle.pgv_text.specs.Pieces.{Form, Piece, plain, escaped, quoted, Count, any, some, two, AreCounted, ArePieces, Pairwise, IsPart, Nest, IsNestText, spelled, text_of, joined}
 use Rattle.pgv_text.specs.Forms.{form_of}
 use Rattle.pgv_text.specs.Scan.{class, value_here, closes_here, counted, nest_between}
 use Rattle.pgv_text.specs.Parsed.{Found, closed, parse_outside, parse, nest_of}
@@ -20,17 +20,23 @@ use Rattle.pgv_text.proofs.Spelled.{parts_read}
 
 pub as_many : {X Y : Type 0} (R : X → Y → Type 0) (xs : List X) (ys : List Y) → Pairwise R xs ys → length ys ≡ length xs
 as_many R [] [] h = refl
-as_many R [] (y ∷ ys) h = absurd h
-as_many R (x ∷ xs) [] h = absurd h
 as_many R (x ∷ xs) (y ∷ ys) h = ap suc (as_many R xs ys h.1)
+as_many R _ _ h = absurd h
 
 closed_end : (c : ℕ) (cs : List ℕ) (r : Found) → closed c cs ≡ Some r → c ∷ cs ≡ r.closing ∷ []
 closed_end c [] r h = ap (λ r. r.closing ∷ []) (same_Some (record { first = []; more = []; values = []; closing = c }) r h)
 closed_end c (d ∷ cs) r h = cc
 
+-- between these brackets
+abbrev pub nest_within : ℕ → ℕ → List (Option (List ℕ)) → Nest
+nest_within opening closing values = record { values = values; lower = opening == 91; upper = closing == 93 }
+
+abbrev pub found_nest : Form → ℕ → List ℕ → Found → Option Nest
+found_nest form o cs r = nest_between form o cs (value_here form cs (encode_utf8_all (text_of r.first)) ∷ r.values) r.closing
+
 module _ (t : TextForm) where
   built : (o closing : ℕ) (cs : List ℕ) (parts : List (List Piece)) (values : List (Option (List ℕ))) → (form_of t).opens o ≡ true → class (form_of t) closing ≡ Close → AllByRecursion (ArePieces (form_of t)) parts → AreCounted (form_of t).count parts →
-      cs ≡ joined parts ++ closing ∷ [] → Pairwise (IsPart (form_of t)) parts values → IsNestText (form_of t) (o ∷ cs) (record { values = values; lower = o == 91; upper = closing == 93 })
+      cs ≡ joined parts ++ closing ∷ [] → Pairwise (IsPart (form_of t)) parts values → IsNestText (form_of t) (o ∷ cs) (nest_within o closing values)
   built o closing cs parts values w k each n e v = record {
     opening = o;
     closing = closing;
@@ -56,13 +62,13 @@ module _ (t : TextForm) where
         subst (λ x. IsPart (form_of t) r.first (value_here (form_of t) x (encode_utf8_all (text_of r.first)))) (sym (v.whole ∙ ap (λ x. spelled r.first ++ x) end.2)) (value_is t r.first end.0 end.1 end.3 v.first.each)
 
     all_built : (r : Found) (value : Option (List ℕ)) (nest : Nest) → Valid (form_of t) [] false cs r → IsPart (form_of t) r.first value → AreCounted (form_of t).count (r.first ∷ r.more) →
-        Some (record { values = value ∷ r.values; lower = o == 91; upper = r.closing == 93 }) ≡ Some nest → IsNestText (form_of t) (o ∷ cs) nest
+        Some (nest_within o r.closing (value ∷ r.values)) ≡ Some nest → IsNestText (form_of t) (o ∷ cs) nest
     all_built r value nest v is n h =
         let whole : cs ≡ joined (r.first ∷ r.more) ++ r.closing ∷ [] = v.whole ∙ sym (append_assoc (spelled r.first) (flat_map (λ p. 44 ∷ spelled p) r.more) (r.closing ∷ [])) in
         subst (IsNestText (form_of t) (o ∷ cs)) (same_Some _ nest h) (built o r.closing cs (r.first ∷ r.more) (value ∷ r.values) w v.closes (v.first, v.more) n whole (is, v.values))
 
     two_built : (b : Bool) (r : Found) (value : Option (List ℕ)) (nest : Nest) → (length (value ∷ r.values) == 2) ≡ b → Valid (form_of t) [] false cs r → IsPart (form_of t) r.first value → (form_of t).count ≡ two →
-        option_map (λ values. record { values = values; lower = o == 91; upper = r.closing == 93 }) (cond b (Some (value ∷ r.values)) None) ≡ Some nest → IsNestText (form_of t) (o ∷ cs) nest
+        option_map (nest_within o r.closing) (cond b (Some (value ∷ r.values)) None) ≡ Some nest → IsNestText (form_of t) (o ∷ cs) nest
     two_built true r value nest e v is k h =
         let n : length (r.first ∷ r.more) ≡ 2 = sym (ap suc (as_many (IsPart (form_of t)) r.more r.values v.values)) ∙ eqb-true (length (value ∷ r.values)) 2 e in
         all_built r value nest v is (subst (λ c. AreCounted c (r.first ∷ r.more)) (sym k) n) h
@@ -76,7 +82,7 @@ module _ (t : TextForm) where
         false≢true (sym h ∙ ap (closes_here (form_of t)) whole ∙ says (form_of t) closing Close k)
 
     from_counted : (k : Count) (b : Bool) (r : Found) (value : Option (List ℕ)) (nest : Nest) → (form_of t).count ≡ k → closes_here (form_of t) cs ≡ b → parse (form_of t) Start cs ≡ Some r → Valid (form_of t) [] false cs r → IsPart (form_of t) r.first value →
-        option_map (λ values. record { values = values; lower = o == 91; upper = r.closing == 93 }) (counted k b (value ∷ r.values)) ≡ Some nest → IsNestText (form_of t) (o ∷ cs) nest
+        option_map (nest_within o r.closing) (counted k b (value ∷ r.values)) ≡ Some nest → IsNestText (form_of t) (o ∷ cs) nest
     from_counted any true r value nest c e p v is h =
         let none : AreCounted (form_of t).count [] = subst (λ c. AreCounted c []) (sym c) (λ e. cc) in
         subst (IsNestText (form_of t) (o ∷ cs)) (same_Some _ nest h) (built o r.closing cs [] [] w v.closes tt none (closed_at_once cs r e p) tt)
@@ -85,12 +91,12 @@ module _ (t : TextForm) where
     from_counted two b r value nest c e p v is h = two_built (length (value ∷ r.values) == 2) r value nest refl v is c h
 
     from_parse : (f : Option Found) (nest : Nest) → parse (form_of t) Start cs ≡ f → IfSome f (Valid (form_of t) [] false cs) →
-        option_and_then (λ r. nest_between (form_of t) o cs (value_here (form_of t) cs (encode_utf8_all (text_of r.first)) ∷ r.values) r.closing) f ≡ Some nest → IsNestText (form_of t) (o ∷ cs) nest
+        option_and_then (found_nest (form_of t) o cs) f ≡ Some nest → IsNestText (form_of t) (o ∷ cs) nest
     from_parse None nest p v h = cc
     from_parse (Some r) nest p v h = from_counted (form_of t).count (closes_here (form_of t) cs) r (value_here (form_of t) cs (encode_utf8_all (text_of r.first))) nest refl refl p v (value_first r v) h
 
   opened : (o : ℕ) (cs : List ℕ) (b : Bool) (nest : Nest) → (form_of t).opens o ≡ b →
-      cond b (option_and_then (λ r. nest_between (form_of t) o cs (value_here (form_of t) cs (encode_utf8_all (text_of r.first)) ∷ r.values) r.closing) (parse (form_of t) Start cs)) None ≡ Some nest → IsNestText (form_of t) (o ∷ cs) nest
+      cond b (option_and_then (found_nest (form_of t) o cs) (parse (form_of t) Start cs)) None ≡ Some nest → IsNestText (form_of t) (o ∷ cs) nest
   opened o cs true nest w h = from_parse o cs w (parse (form_of t) Start cs) nest refl (sound t cs Start) h
   opened o cs false nest w h = cc
 
@@ -121,26 +127,22 @@ module _ (t : TextForm) where
   no_parts two h = cc
 
   nest_read_from : (o closing : ℕ) (parts : List (List Piece)) (values : List (Option (List ℕ))) → (form_of t).opens o ≡ true → (form_of t).closes closing ≡ true → AllByRecursion (ArePieces (form_of t)) parts → AreCounted (form_of t).count parts → Pairwise (IsPart (form_of t)) parts values →
-      nest_of (form_of t) (o ∷ joined parts ++ closing ∷ []) ≡ Some (record { values = values; lower = o == 91; upper = closing == 93 })
+      nest_of (form_of t) (o ∷ joined parts ++ closing ∷ []) ≡ Some (nest_within o closing values)
   nest_read_from o closing [] [] w k hs n vs =
-      let between : Found → Option Nest = λ r. nest_between (form_of t) o (closing ∷ []) (value_here (form_of t) (closing ∷ []) (encode_utf8_all (text_of r.first)) ∷ r.values) r.closing in
-      let mk : List (Option (List ℕ)) → Nest = λ values. record { values = values; lower = o == 91; upper = closing == 93 } in
       let value : Option (List ℕ) = value_here (form_of t) (closing ∷ []) [] in
-      ap (λ b. cond b (option_and_then between (parse (form_of t) Start (closing ∷ []))) None) w
-      ∙ ap (λ c. option_and_then between (parse_outside (form_of t) closing [] (λ q. parse (form_of t) q []) c)) (class_closing t closing k)
-      ∙ ap (λ c. option_map mk (counted c (closes_here (form_of t) (closing ∷ [])) (value ∷ []))) (no_parts (form_of t).count n)
-      ∙ ap (λ b. option_map mk (counted any b (value ∷ []))) k
-  nest_read_from o closing [] (value ∷ values) w k hs n vs = absurd vs
-  nest_read_from o closing (part ∷ parts) [] w k hs n vs = absurd vs
+      ap (λ b. cond b (option_and_then (found_nest (form_of t) o (closing ∷ [])) (parse (form_of t) Start (closing ∷ []))) None) w
+      ∙ ap (λ c. option_and_then (found_nest (form_of t) o (closing ∷ [])) (parse_outside (form_of t) closing [] (λ q. parse (form_of t) q []) c)) (class_closing t closing k)
+      ∙ ap (λ c. option_map (nest_within o closing) (counted c (closes_here (form_of t) (closing ∷ [])) (value ∷ []))) (no_parts (form_of t).count n)
+      ∙ ap (λ b. option_map (nest_within o closing) (counted any b (value ∷ []))) k
   nest_read_from o closing (part ∷ parts) (value ∷ values) w k hs n vs =
       let cs : List ℕ = spelled part ++ after_part parts closing in
-      let between : Found → Option Nest = λ r. nest_between (form_of t) o cs (value_here (form_of t) cs (encode_utf8_all (text_of r.first)) ∷ r.values) r.closing in
       let p = parts_read t part parts value values closing (class_closing t closing k) hs.0 hs.1 vs.0 vs.1 in
       ap (λ x. nest_of (form_of t) (o ∷ x)) (append_assoc (spelled part) (flat_map (λ p. 44 ∷ spelled p) parts) (closing ∷ []))
-      ∙ ap (λ b. cond b (option_and_then between (parse (form_of t) Start cs)) None) w
-      ∙ ap (option_and_then between) p.0
+      ∙ ap (λ b. cond b (option_and_then (found_nest (form_of t) o cs) (parse (form_of t) Start cs)) None) w
+      ∙ ap (option_and_then (found_nest (form_of t) o cs)) p.0
       ∙ ap (λ v. nest_between (form_of t) o cs (v ∷ values) closing) p.1
-      ∙ ap (option_map (λ values. record { values = values; lower = o == 91; upper = closing == 93 })) (count_met (form_of t).count part parts (value ∷ values) closing hs.0 n (as_many (IsPart (form_of t)) (part ∷ parts) (value ∷ values) vs))
+      ∙ ap (option_map (nest_within o closing)) (count_met (form_of t).count part parts (value ∷ values) closing hs.0 n (as_many (IsPart (form_of t)) (part ∷ parts) (value ∷ values) vs))
+  nest_read_from o closing _ _ w k hs n vs = absurd vs
 
   -- A text of a form is read as what it is of.
   pub nest_complete : (text : List ℕ) (nest : Nest) → IsNestText (form_of t) text nest → nest_of (form_of t) text ≡ Some nest

@@ -1,32 +1,30 @@
 -- Where the part that is null or absent stands.
-use Rattle.std.proofs.Common.{◌≡◌, ℕ, Bool, true, false, cond, ◌&&◌, ◌==◌, List, [], ◌∷◌, ◌++◌, Option, Some, None, ap, subst, ◌∙◌, sym, refl}
+use Rattle.std.proofs.Common.{◌≡◌, ◌<◌, ℕ, Bool, true, false, cond, ◌&&◌, ◌==◌, List, [], ◌∷◌, ◌++◌, Option, Some, None, ap, subst, ◌∙◌, sym, refl, arith}
 use Rattle.std.specs.List.{AllByRecursion}
 use Rattle.std.specs.Str.{encode_utf8_all}
 use Rattle.std.proofs.lemmas.Bool.{and_parts, eq-eqb, eqb-true, false≢true}
 use Rattle.pgv_text.specs.declared.scanner.TextForm.{TextForm}
-use Rattle.pgv_text.specs.declared.scanner.TextForm.TheVariants.{Array, Range, Record}
+use Rattle.pgv_text.specs.declared.scanner.TextForm.TheVariants.{Array}
 use Rattle.pgv_text.specs.Pieces.{Form, Piece, plain, escaped, quoted, IsPiece, IsPart, may_be_plain, spelled, text_of}
 use Rattle.pgv_text.specs.Forms.{form_of}
 use Rattle.pgv_text.specs.Scan.{class, ends, stands, value_here}
 use Rattle.pgv_text.proofs.Classes.{class_plain}
 
+-- plain pieces of ASCII
 abbrev pub ArePlain : Form → List Piece → Type 0
 ArePlain form [] = Unit {0}
-ArePlain form (plain c ∷ pieces) = (may_be_plain form c ≡ true) × ArePlain form pieces
-ArePlain form (escaped c ∷ pieces) = ⊥
-ArePlain form (quoted items ∷ pieces) = ⊥
+ArePlain form (plain c ∷ pieces) = (may_be_plain form c ≡ true) × (c < 128) × ArePlain form pieces
+ArePlain form _ = ⊥
 
 pub nothing_plain : (form : TextForm) → ArePlain (form_of form) (form_of form).nothing
-nothing_plain Array = (refl, (refl, (refl, (refl, tt))))
-nothing_plain Range = tt
-nothing_plain Record = tt
+nothing_plain Array = (refl, omega arith, (refl, omega arith, (refl, omega arith, (refl, omega arith, tt))))
+nothing_plain _ = tt
 
 module _ (form : Form) (e : ℕ) (tail : List ℕ) (end : ends (class form e) ≡ true) where
   stands_there : (nothing : List Piece) → ArePlain form nothing → stands form nothing (spelled nothing ++ e ∷ tail) ≡ true
   stands_there [] h = end
-  stands_there (plain c ∷ nothing) h = ap (λ b. b && stands form nothing (spelled nothing ++ e ∷ tail)) (eq-eqb c c refl) ∙ stands_there nothing h.1
-  stands_there (escaped c ∷ nothing) h = absurd h
-  stands_there (quoted items ∷ nothing) h = absurd h
+  stands_there (plain c ∷ nothing) h = ap (λ b. b && stands form nothing (spelled nothing ++ e ∷ tail)) (eq-eqb c c refl) ∙ stands_there nothing h.2
+  stands_there _ h = absurd h
 
   -- a plain character ends nothing
   goes_on : (c : ℕ) → may_be_plain form c ≡ true → ends (class form c) ≡ true → ⊥
@@ -38,17 +36,15 @@ module _ (form : Form) (e : ℕ) (tail : List ℕ) (end : ends (class form e) �
   only_there : (nothing pieces : List Piece) → ArePlain form nothing → AllByRecursion (IsPiece form) pieces → stands form nothing (spelled pieces ++ e ∷ tail) ≡ true → pieces ≡ nothing
   only_there [] [] n h s = refl
   only_there [] (plain c ∷ pieces) n h s = absurd (goes_on c h.0 s)
-  only_there [] (escaped c ∷ pieces) n h s = absurd (false≢true s)
-  only_there [] (quoted items ∷ pieces) n h s = absurd (false≢true s)
+  only_there [] _ n h s = absurd (false≢true s)
   only_there (plain d ∷ nothing) [] n h s =
       absurd (goes_on d n.0 (subst (λ c. ends (class form c) ≡ true) (eqb-true e d (and_parts (e == d) (stands form nothing tail) s).0) end))
   only_there (plain d ∷ nothing) (plain c ∷ pieces) n h s =
       let a = and_parts (c == d) (stands form nothing (spelled pieces ++ e ∷ tail)) s in
-      ap (λ c. plain c ∷ pieces) (eqb-true c d a.0) ∙ ap (λ p. plain d ∷ p) (only_there nothing pieces n.1 h.1 a.1)
+      ap (λ c. plain c ∷ pieces) (eqb-true c d a.0) ∙ ap (λ p. plain d ∷ p) (only_there nothing pieces n.2 h.1 a.1)
   only_there (plain d ∷ nothing) (escaped c ∷ pieces) n h s = absurd (not_plain 92 d (stands form nothing (c ∷ spelled pieces ++ e ∷ tail)) n.0 refl s)
   only_there (plain d ∷ nothing) (quoted items ∷ pieces) n h s = absurd (not_plain 34 d _ n.0 refl s)
-  only_there (escaped d ∷ nothing) pieces n h s = absurd n
-  only_there (quoted items ∷ nothing) pieces n h s = absurd n
+  only_there _ pieces n h s = absurd n
 
 chosen : (form : Form) (pieces : List Piece) (b : Bool) → (b ≡ true → pieces ≡ form.nothing) → (pieces ≡ form.nothing → b ≡ true) → IsPart form pieces (cond b None (Some (encode_utf8_all (text_of pieces))))
 chosen form pieces true if_so if_not = if_so refl

@@ -1,24 +1,19 @@
 -- A number's text in the words of `parse`, and its computed number.
-use Rattle.std.proofs.Common.{◌≡◌, ◌≢◌, ℕ, ◌+◌, ◌<◌, ℤ, Bool, true, false, ◌==◌, List, [], ◌∷◌, ◌++◌, map, length, ap, ◌∙◌, sym, refl, arith}
+use Rattle.std.proofs.Common.{◌≡◌, ℕ, ◌+◌, ◌<◌, ℤ, Bool, true, false, ◌==◌, List, [], ◌∷◌, ◌++◌, map, length, ap, ◌∙◌, sym, refl, arith, get_or, not, cond, ◌&&◌, nat_lt, Some, None, Ok, Err, Result, subst, ◌↔◌, ◌^◌, IsTrue, if◌then◌else◌}
 use Rattle.std.specs.Prelude.{pos, neg_ℤ}
-use Rattle.std.specs.List.{AllByRecursion}
+use Rattle.std.specs.List.{AllByRecursion, list_all}
 use Rattle.std.specs.Char.{digit_value}
 use Rattle.std.specs.Int.Digits.{number_from_digits}
-use Rattle.std.specs.Str.Parse.{AllDigits, IsNumeral, digits_value, without_leading_sign, signed_digits_value}
+use Rattle.std.specs.Str.Parse.{AllDigits, IsNumeral, digits_value, without_leading_sign, signed_digits_value, without_leading_plus}
 use Rattle.std.proofs.lemmas.Str.{digit_value_digit}
 use mir.Val.{SFits, of_z, to_z}
 use mir.Syntax.{w64}
 use Rattle.std.proofs.lemmas.Int.{to_z-of_z}
 use Rattle.std.specs.Int.{IsInRange}
-use Rattle.std.proofs.Common.{get_or}
 use Rattle.std.proofs.lemmas.Str.Parse.{digit_from_value, tells_by_index, numerals_by_value}
 use Rattle.std.proofs.lemmas.Int.Digits.{digits_value_is, all_below_base_from_digits}
 use Rattle.std.proofs.lemmas.List.{length-map}
-use Rattle.std.proofs.lemmas.Bool.{and_parts, eqb-true, ne_eqb, ltb-true, lt-ltb}
-use Rattle.std.proofs.Common.{not, cond, ◌&&◌, nat_lt, Some, None, Ok, Err, Result, subst, ◌↔◌, ◌^◌, IsTrue, if◌then◌else◌}
-use Rattle.std.specs.Str.Parse.{without_leading_plus}
-use Rattle.std.specs.List.{list_all}
-use Rattle.std.proofs.lemmas.Bool.{false≢true}
+use Rattle.std.proofs.lemmas.Bool.{and_parts, eqb-true, ne_eqb, ltb-true, lt-ltb, false≢true}
 use Rattle.pgv_text.specs.declared.number.NumberFault.{NumberFault}
 use Rattle.pgv_text.specs.declared.number.NumberFault.TheVariants.{Syntax, OutOfRange}
 use Rattle.pgv_text.specs.Number.{Sign, none, plus, minus, sign_text, signed, IsNumber, plus_text, IsUnsignedNumber, is_numeral, number_value, unsigned_value, IsRead, IsComputed, IsUnsignedRead, IsUnsignedComputed}
@@ -51,27 +46,17 @@ numeral bs digits h some e = rw e (
 )
 
 -- a text that begins with a digit has no sign
-no_sign : (b : ℕ) (bs : List ℕ) → b ≢ 45 → b ≢ 43 → without_leading_sign (b ∷ bs) ≡ b ∷ bs
-no_sign b bs m p = simp (ne_eqb b 45 m, ne_eqb b 43 p)
-
-no_sign_value : (b : ℕ) (bs : List ℕ) → b ≢ 45 → b ≢ 43 → signed_digits_value 10 (b ∷ bs) ≡ pos (digits_value 10 (b ∷ bs))
-no_sign_value b bs m p = simp (ne_eqb b 45 m, ne_eqb b 43 p)
-
-first_digit : (d : ℕ) → d < 10 → (48 + d ≢ 45) × (48 + d ≢ 43)
-first_digit d h = (λ e. omega arith, λ e. omega arith)
-
-numeral_plain : (text : List ℕ) (digits : List ℕ) → AllByRecursion (λ d. d < 10) digits → 0 < length digits → text ≡ map (λ d. 48 + d) digits → (without_leading_sign text ≡ text) × (signed_digits_value 10 text ≡ pos (digits_value 10 text))
-numeral_plain text [] h some e = absurd (omega arith)
-numeral_plain text (d ∷ digits) h some e =
-    let f = first_digit d h.0 in
-    let bs : List ℕ = map (λ d. 48 + d) digits in (
-      ap without_leading_sign e ∙ no_sign (48 + d) bs f.0 f.1 ∙ sym e,
-      ap (signed_digits_value 10) e ∙ no_sign_value (48 + d) bs f.0 f.1 ∙ ap (λ t. pos (digits_value 10 t)) (sym e),
-    )
+numeral_plain : (text : List ℕ) (digits : List ℕ) → 0 < length digits → text ≡ map (λ d. 48 + d) digits →
+    (without_leading_sign text ≡ text) × (signed_digits_value 10 text ≡ pos (digits_value 10 text)) × (without_leading_plus text ≡ text)
+numeral_plain text [] some e = absurd (omega arith)
+numeral_plain text (d ∷ digits) some e =
+    let m = ne_eqb (48 + d) 45 (λ e. omega arith) in
+    let p = ne_eqb (48 + d) 43 (λ e. omega arith) in
+    rw e (simp (m, p), simp (m, p), simp p)
 
 from_sign : (text : List ℕ) (n : ℤ) (sign : Sign) (digits : List ℕ) → AllByRecursion (λ d. d < 10) digits → 0 < length digits → text ≡ sign_text sign ++ map (λ d. 48 + d) digits → n ≡ signed sign (number_from_digits 10 digits) → IsNumeral 10 (without_leading_sign text) × (n ≡ signed_digits_value 10 text)
 from_sign text n none digits h some e v =
-    let p = numeral_plain text digits h some e in
+    let p = numeral_plain text digits some e in
     let q = numeral text digits h some e in
     (rw (p.0) q.0, v ∙ ap pos (sym q.1) ∙ sym p.1)
 from_sign text n plus digits h some e v =
@@ -113,9 +98,6 @@ one_number text m n a b = (numeral_from text m a).1 ∙ sym (numeral_from text n
 pub by_index : (ds : List ℕ) → ((i : ℕ) → i < length ds → IsInRange 48 57 (get_or ds i 0)) → AllDigits 10 ds
 by_index ds h = (numerals_by_value (λ ds. (i : ℕ) → i < length ds → IsInRange 48 57 (get_or ds i 0)) tells_by_index).to ds h
 
-pub to_index : (ds : List ℕ) → AllDigits 10 ds → (i : ℕ) → i < length ds → IsInRange 48 57 (get_or ds i 0)
-to_index ds h = (numerals_by_value (λ ds. (i : ℕ) → i < length ds → IsInRange 48 57 (get_or ds i 0)) tells_by_index).from ds h
-
 -- the test of a numeral
 all_digits : (ds : List ℕ) → list_all (λ c. nat_lt (digit_value c) 10) ds ≡ true → AllDigits 10 ds
 all_digits [] h = tt
@@ -134,11 +116,8 @@ numeral_tested (d ∷ ds) h =
     let all : list_all (λ c. nat_lt (digit_value c) 10) (d ∷ ds) ≡ true = (and_parts (not (length (d ∷ ds) == 0)) (list_all (λ c. nat_lt (digit_value c) 10) (d ∷ ds)) h).1 in
     (some, all_digits (d ∷ ds) all)
 
-not_none : (n : ℕ) → 0 < n → not (n == 0) ≡ true
-not_none n h = ap not (ne_eqb n 0 (λ e. omega arith))
-
 pub tested_numeral : (ds : List ℕ) → IsNumeral 10 ds → is_numeral ds ≡ true
-tested_numeral ds h = ap (λ b. b && list_all (λ c. nat_lt (digit_value c) 10) ds) (not_none (length ds) h.0) ∙ digits_all ds h.1
+tested_numeral ds h = rw (ne_eqb (length ds) 0 (λ e. omega (arith, h.0, e)), digits_all ds h.1) refl
 
 -- what a chosen value is
 chosen : {X : Type 0} (b : Bool) (x n : X) → cond b (Some x) None ≡ Some n → (b ≡ true) × (x ≡ n)
@@ -148,8 +127,7 @@ chosen false x n e = absurd (cc)
 pub value_number : (text : List ℕ) (n : ℤ) → number_value text ≡ Some n → IsNumber text n
 value_number text n e =
     let c = chosen (is_numeral (without_leading_sign text)) (signed_digits_value 10 text) n e in
-    let P : ℤ → Type 0 = λ v. IsNumber text v in
-    subst P c.1 (number_from text (numeral_tested (without_leading_sign text) c.0))
+    subst (IsNumber text) c.1 (number_from text (numeral_tested (without_leading_sign text) c.0))
 
 pub number_value_of : (text : List ℕ) (n : ℤ) → IsNumber text n → number_value text ≡ Some n
 number_value_of text n h =
@@ -173,17 +151,9 @@ read_ok text n h =
     rw e (number_from text h.0.0, h.0.1)
 
 -- the same of a text that may begin with a plus only
-no_plus : (b : ℕ) (bs : List ℕ) → b ≢ 43 → without_leading_plus (b ∷ bs) ≡ b ∷ bs
-no_plus b bs p = simp (ne_eqb b 43 p)
-
-digits_plain : (text : List ℕ) (digits : List ℕ) → AllByRecursion (λ d. d < 10) digits → 0 < length digits → text ≡ map (λ d. 48 + d) digits → without_leading_plus text ≡ text
-digits_plain text [] h some e = absurd (omega arith)
-digits_plain text (d ∷ digits) h some e =
-    ap without_leading_plus e ∙ no_plus (48 + d) (map (λ d. 48 + d) digits) (first_digit d h.0).1 ∙ sym e
-
 from_plus : (text : List ℕ) (n : ℕ) (with_plus : Bool) (digits : List ℕ) → AllByRecursion (λ d. d < 10) digits → 0 < length digits → text ≡ plus_text with_plus ++ map (λ d. 48 + d) digits → n ≡ number_from_digits 10 digits → IsNumeral 10 (without_leading_plus text) × (n ≡ digits_value 10 (without_leading_plus text))
 from_plus text n false digits h some e v =
-    let p = digits_plain text digits h some e in
+    let p = (numeral_plain text digits some e).2 in
     let q = numeral text digits h some e in
     (rw p q.0, v ∙ sym q.1 ∙ ap (digits_value 10) (sym p))
 from_plus text n true digits h some e v =
@@ -219,8 +189,7 @@ one_unsigned text m n a b = (unsigned_numeral_from text m a).1 ∙ sym (unsigned
 pub value_unsigned : (text : List ℕ) (n : ℕ) → unsigned_value text ≡ Some n → IsUnsignedNumber text n
 value_unsigned text n e =
     let c = chosen (is_numeral (without_leading_plus text)) (digits_value 10 (without_leading_plus text)) n e in
-    let P : ℕ → Type 0 = λ v. IsUnsignedNumber text v in
-    subst P c.1 (unsigned_from text (numeral_tested (without_leading_plus text) c.0))
+    subst (IsUnsignedNumber text) c.1 (unsigned_from text (numeral_tested (without_leading_plus text) c.0))
 
 pub unsigned_value_of : (text : List ℕ) (n : ℕ) → IsUnsignedNumber text n → unsigned_value text ≡ Some n
 unsigned_value_of text n h =

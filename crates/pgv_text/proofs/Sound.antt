@@ -30,20 +30,17 @@ pub record Valid (form : Form) (before : List ℕ) (within : Bool) (cs : List �
 
 -- what of a piece has been passed over
 abbrev pub before : Place → List ℕ
-before Start = []
-before Outside = []
 before Quoted = 34 ∷ []
 before AfterQuote = 34 ∷ 34 ∷ []
 before AfterBackslash = 92 ∷ []
 before QuotedBackslash = 34 ∷ 92 ∷ []
+before _ = []
 
 abbrev pub in_quotes : Place → Bool
 in_quotes Start = false
 in_quotes Outside = false
-in_quotes Quoted = true
-in_quotes AfterQuote = true
 in_quotes AfterBackslash = false
-in_quotes QuotedBackslash = true
+in_quotes _ = true
 
 abbrev pub Reads : Form → Place → List ℕ → Type 0
 Reads form place cs = IfSome (parse form place cs) (Valid form (before place) (in_quotes place) cs)
@@ -62,10 +59,8 @@ part_end form [] closing k = (closing, [], refl, ap ends k)
 part_end form (part ∷ more) closing k = (44, (spelled part ++ flat_map (λ p. 44 ∷ spelled p) more) ++ closing ∷ [], refl, refl)
 
 not_quoted : (pieces : List Piece) (c : ℕ) (cs tail : List ℕ) → c ∷ cs ≡ spelled pieces ++ tail → c ≢ 34 → NotQuotedFirst pieces
-not_quoted [] c cs tail e n = tt
-not_quoted (plain d ∷ pieces) c cs tail e n = tt
-not_quoted (escaped d ∷ pieces) c cs tail e n = tt
 not_quoted (quoted items ∷ pieces) c cs tail e n = let same : c ≡ 34 = cc in absurd (n same)
+not_quoted _ c cs tail e n = tt
 
 module _ (t : TextForm) where
   again : (b d : List ℕ) (p q : Bool) (cs ds : List ℕ) (r : Found) → (q ≡ true → p ≡ true) → d ++ ds ≡ b ++ cs → Valid (form_of t) b p cs r → Valid (form_of t) d q ds r
@@ -120,9 +115,6 @@ module _ (t : TextForm) where
   closed_valid c (d ∷ cs) k = tt
 
   module _ (c : ℕ) (cs : List ℕ) (all : (q : Place) → Reads (form_of t) q cs) where
-    go : Place → Option Found
-    go q = parse (form_of t) q cs
-
     outside_valid : (k : Class) → class (form_of t) c ≡ k → IfSome (parse_outside (form_of t) c cs (λ q. parse (form_of t) q cs) k) (Valid (form_of t) [] false (c ∷ cs))
     outside_valid Quote k = if_weaker _ _ (parse (form_of t) Quoted cs) (λ r. again (34 ∷ []) [] true false cs (c ∷ cs) r (λ h. refl) (ap (λ x. x ∷ cs) (says (form_of t) c Quote k))) (all Quoted)
     outside_valid Backslash k = if_weaker _ _ (parse (form_of t) AfterBackslash cs) (λ r. again (92 ∷ []) [] false false cs (c ∷ cs) r (λ h. h) (ap (λ x. x ∷ cs) (says (form_of t) c Backslash k))) (all AfterBackslash)
@@ -142,10 +134,7 @@ module _ (t : TextForm) where
     quoted_valid : (k : Class) → class (form_of t) c ≡ k → IfSome (parse_quoted c (λ q. parse (form_of t) q cs) k) (Valid (form_of t) (34 ∷ []) true (c ∷ cs))
     quoted_valid Quote k = if_weaker _ _ (parse (form_of t) AfterQuote cs) (λ r. again (34 ∷ 34 ∷ []) (34 ∷ []) true true cs (c ∷ cs) r (λ h. h) (ap (λ x. 34 ∷ x ∷ cs) (says (form_of t) c Quote k))) (all AfterQuote)
     quoted_valid Backslash k = if_weaker _ _ (parse (form_of t) QuotedBackslash cs) (λ r. again (34 ∷ 92 ∷ []) (34 ∷ []) true true cs (c ∷ cs) r (λ h. h) (ap (λ x. 34 ∷ x ∷ cs) (says (form_of t) c Backslash k))) (all QuotedBackslash)
-    quoted_valid Comma k = inner_valid Comma k (λ e. cc) (λ e. cc)
-    quoted_valid Open k = inner_valid Open k (λ e. cc) (λ e. cc)
-    quoted_valid Close k = inner_valid Close k (λ e. cc) (λ e. cc)
-    quoted_valid Other k = inner_valid Other k (λ e. cc) (λ e. cc)
+    quoted_valid k h = inner_valid k h (λ e. cc) (λ e. cc)
 
     -- after a quote that closes
     after_quote : (k : Class) → class (form_of t) c ≡ k → ((form_of t).doubles ≡ true → c ≢ 34) → IfSome (option_map (with_piece (quoted [])) (parse_outside (form_of t) c cs (λ q. parse (form_of t) q cs) k)) (Valid (form_of t) (34 ∷ 34 ∷ []) true (c ∷ cs))
@@ -155,22 +144,17 @@ module _ (t : TextForm) where
     after_valid : (b : Bool) → (form_of t).doubles ≡ b → (k : Class) → class (form_of t) c ≡ k → IfSome (parse_after_quote (form_of t) c cs (λ q. parse (form_of t) q cs) b k) (Valid (form_of t) (34 ∷ 34 ∷ []) true (c ∷ cs))
     after_valid true d Quote k = if_mapped _ _ (with_item doubled) (parse (form_of t) Quoted cs)
         (λ r. item_valid doubled (34 ∷ 34 ∷ []) (c ∷ cs) cs r d (ap (λ x. 34 ∷ 34 ∷ x ∷ cs) (says (form_of t) c Quote k))) (all Quoted)
-    after_valid true d Backslash k = after_quote Backslash k (λ d. not_class Backslash Quote 34 k refl (λ e. cc))
-    after_valid true d Comma k = after_quote Comma k (λ d. not_class Comma Quote 34 k refl (λ e. cc))
-    after_valid true d Open k = tt
-    after_valid true d Close k = after_quote Close k (λ d. not_class Close Quote 34 k refl (λ e. cc))
-    after_valid true d Other k = after_quote Other k (λ d. not_class Other Quote 34 k refl (λ e. cc))
+    after_valid true d k h = after_quote k h (λ d. not_class k Quote 34 h refl (λ e. cc))
     after_valid false d k h = after_quote k h (λ e. absurd (false≢true (sym d ∙ e)))
 
     place_valid : (place : Place) → Reads (form_of t) place (c ∷ cs)
-    place_valid Start = outside_valid (class (form_of t) c) refl
-    place_valid Outside = outside_valid (class (form_of t) c) refl
     place_valid Quoted = quoted_valid (class (form_of t) c) refl
     place_valid AfterQuote = after_valid (form_of t).doubles refl (class (form_of t) c) refl
     place_valid AfterBackslash = if_mapped _ _ (with_piece (escaped c)) (parse (form_of t) Outside cs)
         (λ r. piece_valid (escaped c) (92 ∷ []) false (c ∷ cs) cs r tt (λ d a. a) refl (λ h. absurd (false≢true h))) (all Outside)
     place_valid QuotedBackslash = if_mapped _ _ (with_item (inner_escaped c)) (parse (form_of t) Quoted cs)
         (λ r. item_valid (inner_escaped c) (34 ∷ 92 ∷ []) (c ∷ cs) cs r tt refl) (all Quoted)
+    place_valid _ = outside_valid (class (form_of t) c) refl
 
   pub sound : (cs : List ℕ) (place : Place) → Reads (form_of t) place cs
   sound [] place = tt

@@ -5,7 +5,7 @@ use Rattle.std.specs.Str.{encode_utf8_all}
 use Rattle.std.specs.List.{flat_map, AllByRecursion}
 use Rattle.pgv_text.specs.declared.scanner.TextForm.{TextForm}
 use Rattle.pgv_text.specs.declared.scanner.Class.{Class}
-use Rattle.pgv_text.specs.declared.scanner.Class.TheVariants.{Quote, Backslash, Comma, Open, Close, Other}
+use Rattle.pgv_text.specs.declared.scanner.Class.TheVariants.{Quote, Backslash, Close, Other}
 use Rattle.pgv_text.specs.declared.scanner.Place.TheVariants.{Start, Outside, Quoted, AfterQuote}
 use Rattle.pgv_text.specs.Pieces.{Item, inner, inner_escaped, doubled, Piece, plain, escaped, quoted, item_spelling, IsItem, IsPiece, NotQuotedFirst, QuotedApart, ArePieces, Pairwise, IsPart, spelled, text_of}
 use Rattle.pgv_text.specs.Forms.{form_of}
@@ -23,10 +23,7 @@ module _ (t : TextForm) (more : List (List Piece)) (values : List (Option (List 
   inner_from : (c : ℕ) (rest : List ℕ) (k : Class) → k ≢ Quote → k ≢ Backslash → parse_quoted c (λ q. parse (form_of t) q rest) k ≡ option_map (with_item (inner c)) (parse (form_of t) Quoted rest)
   inner_from c rest Quote n m = absurd (n refl)
   inner_from c rest Backslash n m = absurd (m refl)
-  inner_from c rest Comma n m = refl
-  inner_from c rest Open n m = refl
-  inner_from c rest Close n m = refl
-  inner_from c rest Other n m = refl
+  inner_from c rest _ n m = refl
 
   item_read : (item : Item) → IsItem (form_of t) item → (rest : List ℕ) → parse (form_of t) Quoted (item_spelling item ++ rest) ≡ option_map (with_item item) (parse (form_of t) Quoted rest)
   item_read (inner c) h rest = inner_from c rest (class (form_of t) c) (λ e. h.0 (says (form_of t) c Quote e)) (λ e. h.1 (says (form_of t) c Backslash e))
@@ -44,12 +41,7 @@ module _ (t : TextForm) (more : List (List Piece)) (values : List (Option (List 
   after_other : (c : ℕ) (cs : List ℕ) (b : Bool) (k : Class) → (b ≡ true → k ≢ Quote) →
       parse_after_quote (form_of t) c cs (λ q. parse (form_of t) q cs) b k ≡ option_map (with_piece (quoted [])) (parse_outside (form_of t) c cs (λ q. parse (form_of t) q cs) k)
   after_other c cs true Quote n = absurd (n refl refl)
-  after_other c cs true Backslash n = refl
-  after_other c cs true Comma n = refl
-  after_other c cs true Open n = refl
-  after_other c cs true Close n = refl
-  after_other c cs true Other n = refl
-  after_other c cs false k n = refl
+  after_other c cs _ k n = refl
 
   after_class : (c : ℕ) (cs : List ℕ) (k : Class) → class (form_of t) c ≡ k → ((form_of t).doubles ≡ true → k ≢ Quote) → parse (form_of t) AfterQuote (c ∷ cs) ≡ option_map (with_piece (quoted [])) (parse (form_of t) Outside (c ∷ cs))
   after_class c cs k h n = after_other c cs (form_of t).doubles (class (form_of t) c) (λ d e. n d (sym h ∙ e))
@@ -97,8 +89,6 @@ module _ (t : TextForm) where
   parts_read part [] value [] closing k h hs v vs =
       let ended : parse (form_of t) Outside (closing ∷ []) ≡ Some (record { first = []; more = []; values = []; closing = closing }) = ap (parse_outside (form_of t) closing [] (λ q. parse (form_of t) q [])) k in
       (start_outside (spelled part ++ closing ∷ []) ∙ pieces_read t [] [] closing closing [] (ap ends k) ended part h.each h.apart, value_found part h [] closing k value v)
-  parts_read part [] value (other ∷ values) closing k h hs v vs = absurd vs
-  parts_read part (next ∷ parts) value [] closing k h hs v vs = absurd vs
   parts_read part (next ∷ parts) value (other ∷ values) closing k h hs v vs =
       let rest = spelled next ++ after_part parts closing in
       let more = parts_read next parts other values closing k hs.0 hs.1 vs.0 vs.1 in
@@ -108,3 +98,4 @@ module _ (t : TextForm) where
         ap (λ x. parse (form_of t) Start (spelled part ++ x)) regrouped ∙ start_outside (spelled part ++ 44 ∷ rest) ∙ pieces_read t (next ∷ parts) (other ∷ values) closing 44 rest refl ended part h.each h.apart,
         value_found part h (next ∷ parts) closing k value v,
       )
+  parts_read part _ value _ closing k h hs v vs = absurd vs

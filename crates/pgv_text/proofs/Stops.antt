@@ -6,7 +6,7 @@ use Rattle.pgv_text.specs.declared.scanner.TextForm.{TextForm}
 use Rattle.pgv_text.specs.declared.scanner.TextForm.TheVariants.{Array, Range, Record}
 use Rattle.pgv_text.specs.declared.scanner.Class.TheVariants.{Other}
 use Rattle.pgv_text.specs.declared.scanner.Place.{Place}
-use Rattle.pgv_text.specs.declared.scanner.Place.TheVariants.{Start, Outside, Quoted, AfterQuote, AfterBackslash, QuotedBackslash}
+use Rattle.pgv_text.specs.declared.scanner.Place.TheVariants.{Outside, Quoted, AfterQuote, QuotedBackslash}
 use Rattle.pgv_text.specs.declared.scanner.Cell.{Cell}
 use Rattle.pgv_text.specs.declared.scanner.Cell.TheVariants.{Keep}
 use Rattle.pgv_text.specs.Pieces.{Form}
@@ -32,24 +32,17 @@ high_class Record b h = rw (not_equal b 34 (omega arith) h, not_equal b 92 (omeg
 
 -- the place after a character that isn't ASCII
 abbrev pub onward : Place → Place
-onward Start = Outside
-onward Outside = Outside
 onward Quoted = Quoted
-onward AfterQuote = Outside
-onward AfterBackslash = Outside
 onward QuotedBackslash = Quoted
+onward _ = Outside
 
 after_other : (d : Bool) → after_quote_cell d Other ≡ Keep Outside
 after_other true = refl
 after_other false = refl
 
 pub other_cell : (form : Form) (p : Place) → cell form p Other ≡ Keep (onward p)
-other_cell form Start = refl
-other_cell form Outside = refl
-other_cell form Quoted = refl
 other_cell form AfterQuote = after_other form.doubles
-other_cell form AfterBackslash = refl
-other_cell form QuotedBackslash = refl
+other_cell form _ = refl
 
 -- a byte that isn't kept is ASCII
 pub stop_is_ascii : (form : TextForm) (p : Place) (b : ℕ) (k : Cell) → k ≡ cell (form_of form) p (class (form_of form) b) → ((q : Place) → k ≡ Keep q → ⊥) → b < 128

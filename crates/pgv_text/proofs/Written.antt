@@ -6,24 +6,24 @@ use Rattle.std.specs.List.{flat_map, AllByRecursion}
 use Rattle.std.specs.Char.{IsScalar, to_ascii_lowercase}
 use Rattle.std.proofs.lemmas.Bool.{eqb-true, false≢true}
 use Rattle.std.proofs.lemmas.List.{append-nil}
-use Rattle.pgv_text.specs.Pieces.{Form, Item, inner, inner_escaped, doubled, Piece, plain, quoted, item_spelling, item_meaning, IsItem, IsPiece, QuotedApart, ArePieces, may_be_plain, spelled, text_of, joined, Pairwise, IsPart, escaped, Count, any, some, two, AreCounted, Nest, IsNestText}
+use Rattle.pgv_text.specs.Pieces.{Form, Item, inner, inner_escaped, doubled, Piece, plain, quoted, item_spelling, item_meaning, IsItem, IsPiece, QuotedApart, ArePieces, may_be_plain, spelled, text_of, joined, Pairwise, IsPart, Count, any, some, two, AreCounted, Nest, IsNestText}
 use Rattle.pgv_text.specs.declared.scanner.TextForm.{TextForm}
-use Rattle.pgv_text.specs.declared.scanner.TextForm.TheVariants.{Array, Range, Record}
+use Rattle.pgv_text.specs.declared.scanner.TextForm.TheVariants.{Array}
 use Rattle.pgv_text.specs.Forms.{form_of}
 use Rattle.pgv_text.proofs.Nothing.{ArePlain, nothing_plain}
-use Rattle.pgv_text.proofs.Nests.{as_many}
+use Rattle.pgv_text.proofs.Nests.{as_many, nest_within}
 use lib.Utf8.{low_scalar}
-use Rattle.pgv_text.proofs.Left.{opens_low, closes_low}
+use Rattle.pgv_text.proofs.Classes.{opens_low, closes_low}
 use Rattle.pgv_text.specs.Spellings.{IsOptionalText, escaped_character, doubled_character, quoted_by, MayBeBare, IsSpelled, AreEnough, by_commas, nest_text}
-use Rattle.pgv_text.proofs.Characters.{AreScalars, scalars_are, all_append, all_left, parts_scalars, values_are_texts, characters_of}
+use Rattle.pgv_text.proofs.Characters.{AreScalars, scalars_are, all_append, all_parts, parts_scalars, values_are_texts, characters_of}
 
 -- one character between quotes
-pub record ItemOf (form : Form) (spell : ℕ → List ℕ) (c : ℕ) : Type 0 where
+pub record ItemOf (form : Form) (spelling : List ℕ) (c : ℕ) : Type 0 where
   pub item : Item
   pub is : IsItem form item
-  pub same : item_spelling item ≡ spell c
+  pub same : item_spelling item ≡ spelling
   pub means : item_meaning item ≡ c
-  pub scalars : IsScalar c → AreScalars (spell c)
+  pub scalars : IsScalar c → AreScalars spelling
 
 record ItemsOf (form : Form) (spell : ℕ → List ℕ) (cs : List ℕ) : Type 0 where
   pub items : List Item
@@ -32,13 +32,7 @@ record ItemsOf (form : Form) (spell : ℕ → List ℕ) (cs : List ℕ) : Type 0
   pub means : map item_meaning items ≡ cs
   pub scalars : AreScalars cs → AreScalars (flat_map spell cs)
 
-append_same : (a b x y : List ℕ) → a ≡ b → x ≡ y → a ++ x ≡ b ++ y
-append_same a b x y e f = ap (λ t. t ++ x) e ∙ ap (λ t. b ++ t) f
-
-cons_same : (a b : ℕ) (x y : List ℕ) → a ≡ b → x ≡ y → a ∷ x ≡ b ∷ y
-cons_same a b x y e f = ap (λ t. t ∷ x) e ∙ ap (λ t. b ∷ t) f
-
-items_of : (form : Form) (spell : ℕ → List ℕ) → ((c : ℕ) → ItemOf form spell c) → (cs : List ℕ) → ItemsOf form spell cs
+items_of : (form : Form) (spell : ℕ → List ℕ) → ((c : ℕ) → ItemOf form (spell c) c) → (cs : List ℕ) → ItemsOf form spell cs
 items_of form spell of [] = record { items = []; are = tt; same = refl; means = refl; scalars = λ h. tt }
 items_of form spell of (c ∷ cs) =
     let i = of c in
@@ -46,24 +40,20 @@ items_of form spell of (c ∷ cs) =
     record {
       items = i.item ∷ more.items;
       are = (i.is, more.are);
-      same = append_same (item_spelling i.item) (spell c) (flat_map item_spelling more.items) (flat_map spell cs) i.same more.same;
-      means = cons_same (item_meaning i.item) c (map item_meaning more.items) cs i.means more.means;
+      same = rw (i.same, more.same) refl;
+      means = rw (i.means, more.means) refl;
       scalars = λ h. all_append (spell c) (flat_map spell cs) (i.scalars h.0) (more.scalars h.1);
     }
 
 neither : (c : ℕ) (a b : Bool) → (c == 34) ≡ a → (c == 92) ≡ b → a || b ≡ false → (c ≢ 34) × (c ≢ 92)
-neither c true b e f h = absurd (false≢true (sym h))
-neither c false true e f h = absurd (false≢true (sym h))
 neither c false false e f h = (λ is. false≢true (sym e ∙ ap (λ x. x == 34) is), λ is. false≢true (sym f ∙ ap (λ x. x == 92) is))
+neither c _ _ e f h = absurd (false≢true (sym h))
 
-escaped_from : (form : Form) (c : ℕ) (b : Bool) → (c == 34) || (c == 92) ≡ b → ItemOf form (λ c. cond b (92 ∷ c ∷ []) (c ∷ [])) c
+escaped_from : (form : Form) (c : ℕ) (b : Bool) → (c == 34) || (c == 92) ≡ b → ItemOf form (cond b (92 ∷ c ∷ []) (c ∷ [])) c
 escaped_from form c true e = record { item = inner_escaped c; is = tt; same = refl; means = refl; scalars = λ h. (refl, (h, tt)) }
 escaped_from form c false e = record { item = inner c; is = neither c (c == 34) (c == 92) refl refl e; same = refl; means = refl; scalars = λ h. (h, tt) }
 
-pub escaped_item : (form : Form) (c : ℕ) → ItemOf form escaped_character c
-escaped_item form c = let i = escaped_from form c ((c == 34) || (c == 92)) refl in record { item = i.item; is = i.is; same = i.same; means = i.means; scalars = i.scalars }
-
-doubled_from : (form : Form) → form.doubles ≡ true → (c : ℕ) (a b : Bool) → (c == 34) ≡ a → (c == 92) ≡ b → ItemOf form (λ c. cond (a || b) (c ∷ c ∷ []) (c ∷ [])) c
+doubled_from : (form : Form) → form.doubles ≡ true → (c : ℕ) (a b : Bool) → (c == 34) ≡ a → (c == 92) ≡ b → ItemOf form (cond (a || b) (c ∷ c ∷ []) (c ∷ [])) c
 doubled_from form d c true b e f =
     let is : c ≡ 34 = eqb-true c 34 e in
     record { item = doubled; is = d; same = ap (λ x. x ∷ x ∷ []) (sym is); means = sym is; scalars = λ h. (h, (h, tt)) }
@@ -71,9 +61,6 @@ doubled_from form d c false true e f =
     let is : c ≡ 92 = eqb-true c 92 f in
     record { item = inner_escaped c; is = tt; same = ap (λ x. x ∷ c ∷ []) (sym is); means = refl; scalars = λ h. (h, (h, tt)) }
 doubled_from form d c false false e f = record { item = inner c; is = neither c false false e f refl; same = refl; means = refl; scalars = λ h. (h, tt) }
-
-pub doubled_item : (form : Form) → form.doubles ≡ true → (c : ℕ) → ItemOf form doubled_character c
-doubled_item form d c = let i = doubled_from form d c (c == 34) (c == 92) refl refl in record { item = i.item; is = i.is; same = i.same; means = i.means; scalars = i.scalars }
 
 plain_are : (form : Form) (cs : List ℕ) → AllByRecursion (λ c. may_be_plain form c ≡ true) cs → AllByRecursion (IsPiece form) (map plain cs)
 plain_are form [] h = tt
@@ -93,19 +80,16 @@ plain_means (c ∷ cs) = ap (λ t. c ∷ t) (plain_means cs)
 
 plain_list : (form : Form) (pieces : List Piece) → ArePlain form pieces → AllByRecursion (IsPiece form) pieces × QuotedApart pieces
 plain_list form [] h = (tt, tt)
-plain_list form (plain c ∷ pieces) h = let r = plain_list form pieces h.1 in ((h.0, r.0), r.1)
-plain_list form (escaped c ∷ pieces) h = absurd h
-plain_list form (quoted items ∷ pieces) h = absurd h
+plain_list form (plain c ∷ pieces) h = let r = plain_list form pieces h.2 in ((h.0, r.0), r.1)
+plain_list form _ h = absurd h
 
 nothing_some : (t : TextForm) → (form_of t).count ≡ any → (form_of t).nothing ≢ []
 nothing_some Array e n = cc
-nothing_some Range e n = cc
-nothing_some Record e n = cc
+nothing_some _ e n = cc
 
 nothing_scalars : (t : TextForm) → AreScalars (spelled (form_of t).nothing)
 nothing_scalars Array = (refl, (refl, (refl, (refl, tt))))
-nothing_scalars Range = tt
-nothing_scalars Record = tt
+nothing_scalars _ = tt
 
 -- a value's spelling as pieces of that value
 record SpeltValue (form : Form) (value : Option (List ℕ)) (spelling : List ℕ) : Type 0 where
@@ -116,7 +100,7 @@ record SpeltValue (form : Form) (value : Option (List ℕ)) (spelling : List ℕ
   pub some : form.count ≡ any → pieces ≢ []
   pub scalars : AreScalars spelling
 
-quoted_spelt : (t : TextForm) (spell : ℕ → List ℕ) → ((c : ℕ) → ItemOf (form_of t) spell c) → (text spelling : List ℕ) → IsUtf8 text → spelling ≡ quoted_by spell (chars text) → SpeltValue (form_of t) (Some text) spelling
+quoted_spelt : (t : TextForm) (spell : ℕ → List ℕ) → ((c : ℕ) → ItemOf (form_of t) (spell c) c) → (text spelling : List ℕ) → IsUtf8 text → spelling ≡ quoted_by spell (chars text) → SpeltValue (form_of t) (Some text) spelling
 quoted_spelt t spell of text spelling u e =
     let i = items_of (form_of t) spell of (chars text) in
     let whole : AreScalars (quoted_by spell (chars text)) = (refl, all_append (flat_map spell (chars text)) (34 ∷ []) (i.scalars (characters_of text u)) (refl, tt)) in
@@ -143,8 +127,8 @@ value_spelt : (t : TextForm) (value : Option (List ℕ)) (spelling : List ℕ) �
 value_spelt t None spelling u h =
     let p = plain_list (form_of t) (form_of t).nothing (nothing_plain t) in
     record { pieces = (form_of t).nothing; are = record { each = p.0; apart = λ d. p.1 }; same = sym h; is = refl; some = nothing_some t; scalars = subst AreScalars (sym h) (nothing_scalars t) }
-value_spelt t (Some text) spelling u (inl e) = quoted_spelt t escaped_character (escaped_item (form_of t)) text spelling u e
-value_spelt t (Some text) spelling u (inr (inl h)) = quoted_spelt t doubled_character (doubled_item (form_of t) h.0) text spelling u h.1
+value_spelt t (Some text) spelling u (inl e) = quoted_spelt t escaped_character (λ c. escaped_from (form_of t) c ((c == 34) || (c == 92)) refl) text spelling u e
+value_spelt t (Some text) spelling u (inr (inl h)) = quoted_spelt t doubled_character (λ c. doubled_from (form_of t) h.0 c (c == 34) (c == 92) refl refl) text spelling u h.1
 value_spelt t (Some text) spelling u (inr (inr h)) = bare_spelt t text spelling u h.0 h.1
 
 record SpeltValues (form : Form) (values : List (Option (List ℕ))) (spellings : List (List ℕ)) : Type 0 where
@@ -159,13 +143,10 @@ record SpeltValues (form : Form) (values : List (Option (List ℕ))) (spellings 
 
 values_spelt : (t : TextForm) (values : List (Option (List ℕ))) (spellings : List (List ℕ)) → AllByRecursion IsOptionalText values → Pairwise (IsSpelled (form_of t)) values spellings → SpeltValues (form_of t) values spellings
 values_spelt t [] [] u h = record { parts = []; each = tt; more = refl; same = refl; are = tt; some = λ m e. cc; more_scalars = tt; scalars = tt }
-values_spelt t [] (spelling ∷ spellings) u h = absurd h
-values_spelt t (value ∷ values) [] u h = absurd h
 values_spelt t (value ∷ values) (spelling ∷ spellings) u h =
     let v = value_spelt t value spelling u.0 h.0 in
     let vs = values_spelt t values spellings u.1 h.1 in
-    let whole : spelled v.pieces ++ flat_map (λ p. 44 ∷ spelled p) vs.parts ≡ spelling ++ flat_map (λ s. 44 ∷ s) spellings =
-    append_same (spelled v.pieces) spelling (flat_map (λ p. 44 ∷ spelled p) vs.parts) (flat_map (λ s. 44 ∷ s) spellings) v.same vs.more in
+    let whole : spelled v.pieces ++ flat_map (λ p. 44 ∷ spelled p) vs.parts ≡ spelling ++ flat_map (λ s. 44 ∷ s) spellings = rw (v.same, vs.more) refl in
     let all : AreScalars (spelling ++ flat_map (λ s. 44 ∷ s) spellings) = all_append spelling (flat_map (λ s. 44 ∷ s) spellings) v.scalars vs.more_scalars in
     record {
       parts = v.pieces ∷ vs.parts;
@@ -177,6 +158,7 @@ values_spelt t (value ∷ values) (spelling ∷ spellings) u h =
       more_scalars = (refl, all);
       scalars = all;
     }
+values_spelt t _ _ u h = absurd h
 
 enough : (k : Count) (parts : List (List Piece)) (values : List (Option (List ℕ))) → (k ≡ any → parts ≢ [] ∷ []) → length values ≡ length parts → AreEnough k values → AreCounted k parts
 enough any parts values s e h = s refl
@@ -191,13 +173,13 @@ bracket_scalar t c (inr h) = low_scalar c (omega (arith, closes_low t c h))
 
 -- However the values are spelled, the text is of them.
 pub reads_back : (t : TextForm) (o k : ℕ) (values : List (Option (List ℕ))) (spellings : List (List ℕ)) → (form_of t).opens o ≡ true → (form_of t).closes k ≡ true → AreEnough (form_of t).count values → AllByRecursion IsOptionalText values → Pairwise (IsSpelled (form_of t)) values spellings →
-    IsUtf8 (nest_text o k spellings) × IsNestText (form_of t) (chars (nest_text o k spellings)) (record { values = values; lower = o == 91; upper = k == 93 })
+    IsUtf8 (nest_text o k spellings) × IsNestText (form_of t) (chars (nest_text o k spellings)) (nest_within o k values)
 reads_back t o k values spellings w x n u h =
     let s = values_spelt t values spellings u h in
     let cs : List ℕ = o ∷ by_commas spellings ++ k ∷ [] in
     let all : AreScalars cs = (bracket_scalar t o (inl w), all_append (by_commas spellings) (k ∷ []) s.scalars (bracket_scalar t k (inr x), tt)) in
     let back : chars (encode_utf8_all cs) ≡ cs = chars-encodes cs (scalars_are cs all) in
-    let is : IsNestText (form_of t) cs (record { values = values; lower = o == 91; upper = k == 93 }) = record {
+    let is : IsNestText (form_of t) cs (nest_within o k values) = record {
       opening = o;
       closing = k;
       parts = s.parts;
@@ -210,7 +192,7 @@ reads_back t o k values spellings w x n u h =
       lower = refl;
       upper = refl;
     } in
-    ((cs, (scalars_are cs all, refl)), subst (λ x. IsNestText (form_of t) x (record { values = values; lower = o == 91; upper = k == 93 })) (sym back) is)
+    ((cs, (scalars_are cs all, refl)), subst (λ x. IsNestText (form_of t) x (nest_within o k values)) (sym back) is)
 
 spelling_of : Form → Option (List ℕ) → List ℕ
 spelling_of form None = spelled form.nothing
@@ -224,16 +206,13 @@ all_spelled t (Some text ∷ values) = (inl refl, all_spelled t values)
 
 -- Every list of optional texts has a text.
 pub has_text : (t : TextForm) (o k : ℕ) (values : List (Option (List ℕ))) → (form_of t).opens o ≡ true → (form_of t).closes k ≡ true → AreEnough (form_of t).count values → AllByRecursion IsOptionalText values →
-    (text : List ℕ) × IsUtf8 text × IsNestText (form_of t) (chars text) (record { values = values; lower = o == 91; upper = k == 93 })
+    (text : List ℕ) × IsUtf8 text × IsNestText (form_of t) (chars text) (nest_within o k values)
 has_text t o k values w x n u =
     let b = reads_back t o k values (map (spelling_of (form_of t)) values) w x n u (all_spelled t values) in
     (nest_text o k (map (spelling_of (form_of t)) values), b.0, b.1)
-
-part_means : (form : Form) (pieces : List Piece) (text : List ℕ) → IsPart form pieces (Some text) → text ≡ encode_utf8_all (text_of pieces)
-part_means form pieces text h = h.1
 
 -- The values of a text in UTF-8 are UTF-8.
 pub values_texts : (t : TextForm) (text : List ℕ) (nest : Nest) → IsUtf8 text → IsNestText (form_of t) (chars text) nest → AllByRecursion IsOptionalText nest.values
 values_texts t text nest u n =
     let all : AreScalars (n.opening ∷ joined n.parts ++ n.closing ∷ []) = subst AreScalars n.whole (characters_of text u) in
-    values_are_texts (IsPart (form_of t)) (part_means (form_of t)) n.parts nest.values (parts_scalars n.parts (all_left (joined n.parts) (n.closing ∷ []) all.1)) n.values
+    values_are_texts (form_of t) n.parts nest.values (parts_scalars n.parts (all_parts (joined n.parts) (n.closing ∷ []) all.1).0) n.values
