@@ -136,7 +136,10 @@ fn a_present_null_comes_back_as_none(rt: HostRuntime) -> Result<(), CodecError> 
     let alloc = rt.alloc();
     let present: Option<Option<i32>> = Some(None);
     let arguments = filled(alloc, present, &[])?;
-    assert_eq!(rt; arguments.buffer().as_slice(), b"\xff\xff\xff\xff".as_slice());
+    assert_eq!(rt;
+        arguments.buffer().as_slice(),
+        b"\xff\xff\xff\xff".as_slice()
+    );
     let read: Option<Option<i32>> = read_first(alloc, &arguments, PgTypeInfo(PgType::Int4))?;
     assert!(rt; read.is_none());
     Ok(())

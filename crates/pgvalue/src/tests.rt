@@ -319,7 +319,10 @@ fn faults_are_told(rt: HostRuntime) -> Result<(), Fail> {
         kind: ErrorKind::OutOfMemory,
     };
     let mut written: Vec<u8> = Vec::new(rt.alloc());
-    assert_eq!(rt; run(rt.alloc(), &mut reader, &mut written), Err(RunFault::Memory));
+    assert_eq!(rt;
+        run(rt.alloc(), &mut reader, &mut written),
+        Err(RunFault::Memory)
+    );
     assert_eq!(rt; fault_text(&RunFault::Read), "pgvalue: read failed");
     assert_eq!(rt; fault_text(&RunFault::Write), "pgvalue: write failed");
     assert_eq!(rt; fault_text(&RunFault::Memory), "pgvalue: out of memory");
