@@ -5,4 +5,3 @@ pub mod FrameLoop
 pub mod PartLoop
 pub mod PlainFits
 pub mod Refusing
-pub mod Tuples

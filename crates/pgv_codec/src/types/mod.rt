@@ -2,6 +2,7 @@
 
 pub mod array;
 pub mod bool;
+mod field_list;
 pub mod int;
 pub mod oid;
 pub mod option;

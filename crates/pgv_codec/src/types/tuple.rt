@@ -4,7 +4,7 @@
 ghost use Rattle.std.specs.Prelude.{◌≡◌};
 ghost use Rattle.pgv_types.specs.Ty.{builtin};
 
-use super::record::PgRecordDecoder;
+use super::field_list::first_fields;
 use crate::traits::{Decode, PgHasArrayType, Type};
 use pgv_types::{PgType, PgTypeInfo};
 use pgv_value::{CodecError, PgValueRef};
@@ -39,8 +39,7 @@ impl<A: Type + Decode> Decode for (A,) {
     ghost written = { unwritten };
 
     fn decode(alloc: Global, value: PgValueRef<'_>) -> Result<(A,), CodecError> {
-        let mut fields = PgRecordDecoder::new(alloc, value)?;
-        Ok((fields.try_decode::<A>()?,))
+        first_fields(alloc, value)
     }
 }
 
@@ -93,9 +92,7 @@ impl<A: Type + Decode, B: Type + Decode> Decode for (A, B) {
     ghost written = { unwritten };
 
     fn decode(alloc: Global, value: PgValueRef<'_>) -> Result<(A, B), CodecError> {
-        let mut fields = PgRecordDecoder::new(alloc, value)?;
-        let a = fields.try_decode::<A>()?;
-        let b = fields.try_decode::<B>()?;
+        let (a, (b,)) = first_fields::<(A, (B,))>(alloc, value)?;
         Ok((a, b))
     }
 }
@@ -149,10 +146,7 @@ impl<A: Type + Decode, B: Type + Decode, C: Type + Decode> Decode for (A, B, C) 
     ghost written = { unwritten };
 
     fn decode(alloc: Global, value: PgValueRef<'_>) -> Result<(A, B, C), CodecError> {
-        let mut fields = PgRecordDecoder::new(alloc, value)?;
-        let a = fields.try_decode::<A>()?;
-        let b = fields.try_decode::<B>()?;
-        let c = fields.try_decode::<C>()?;
+        let (a, (b, (c,))) = first_fields::<(A, (B, (C,)))>(alloc, value)?;
         Ok((a, b, c))
     }
 }
@@ -207,11 +201,7 @@ impl<A: Type + Decode, B: Type + Decode, C: Type + Decode, D: Type + Decode> Dec
     ghost written = { unwritten };
 
     fn decode(alloc: Global, value: PgValueRef<'_>) -> Result<(A, B, C, D), CodecError> {
-        let mut fields = PgRecordDecoder::new(alloc, value)?;
-        let a = fields.try_decode::<A>()?;
-        let b = fields.try_decode::<B>()?;
-        let c = fields.try_decode::<C>()?;
-        let d = fields.try_decode::<D>()?;
+        let (a, (b, (c, (d,)))) = first_fields::<(A, (B, (C, (D,))))>(alloc, value)?;
         Ok((a, b, c, d))
     }
 }
@@ -271,12 +261,7 @@ impl<
     ghost written = { unwritten };
 
     fn decode(alloc: Global, value: PgValueRef<'_>) -> Result<(A, B, C, D, E), CodecError> {
-        let mut fields = PgRecordDecoder::new(alloc, value)?;
-        let a = fields.try_decode::<A>()?;
-        let b = fields.try_decode::<B>()?;
-        let c = fields.try_decode::<C>()?;
-        let d = fields.try_decode::<D>()?;
-        let e = fields.try_decode::<E>()?;
+        let (a, (b, (c, (d, (e,))))) = first_fields::<(A, (B, (C, (D, (E,)))))>(alloc, value)?;
         Ok((a, b, c, d, e))
     }
 }
@@ -337,13 +322,9 @@ impl<
     ghost written = { unwritten };
 
     fn decode(alloc: Global, value: PgValueRef<'_>) -> Result<(A, B, C, D, E, F), CodecError> {
-        let mut fields = PgRecordDecoder::new(alloc, value)?;
-        let a = fields.try_decode::<A>()?;
-        let b = fields.try_decode::<B>()?;
-        let c = fields.try_decode::<C>()?;
-        let d = fields.try_decode::<D>()?;
-        let e = fields.try_decode::<E>()?;
-        let f = fields.try_decode::<F>()?;
+        let (a, (b, (c, (d, (e, (f,)))))) = first_fields::<(A, (B, (C, (D, (E, (F,))))))>(
+            alloc, value,
+        )?;
         Ok((a, b, c, d, e, f))
     }
 }
@@ -405,14 +386,9 @@ impl<
     ghost written = { unwritten };
 
     fn decode(alloc: Global, value: PgValueRef<'_>) -> Result<(A, B, C, D, E, F, G), CodecError> {
-        let mut fields = PgRecordDecoder::new(alloc, value)?;
-        let a = fields.try_decode::<A>()?;
-        let b = fields.try_decode::<B>()?;
-        let c = fields.try_decode::<C>()?;
-        let d = fields.try_decode::<D>()?;
-        let e = fields.try_decode::<E>()?;
-        let f = fields.try_decode::<F>()?;
-        let g = fields.try_decode::<G>()?;
+        let (a, (b, (c, (d, (e, (f, (g,))))))) = first_fields::<(A, (B, (C, (D, (E, (F, (G,)))))))>(
+            alloc, value,
+        )?;
         Ok((a, b, c, d, e, f, g))
     }
 }
@@ -478,15 +454,9 @@ impl<
         alloc: Global,
         value: PgValueRef<'_>,
     ) -> Result<(A, B, C, D, E, F, G, H), CodecError> {
-        let mut fields = PgRecordDecoder::new(alloc, value)?;
-        let a = fields.try_decode::<A>()?;
-        let b = fields.try_decode::<B>()?;
-        let c = fields.try_decode::<C>()?;
-        let d = fields.try_decode::<D>()?;
-        let e = fields.try_decode::<E>()?;
-        let f = fields.try_decode::<F>()?;
-        let g = fields.try_decode::<G>()?;
-        let h = fields.try_decode::<H>()?;
+        let (a, (b, (c, (d, (e, (f, (g, (h,)))))))) = first_fields::<
+            (A, (B, (C, (D, (E, (F, (G, (H,)))))))),
+        >(alloc, value)?;
         Ok((a, b, c, d, e, f, g, h))
     }
 }
@@ -553,16 +523,9 @@ impl<
         alloc: Global,
         value: PgValueRef<'_>,
     ) -> Result<(A, B, C, D, E, F, G, H, I), CodecError> {
-        let mut fields = PgRecordDecoder::new(alloc, value)?;
-        let a = fields.try_decode::<A>()?;
-        let b = fields.try_decode::<B>()?;
-        let c = fields.try_decode::<C>()?;
-        let d = fields.try_decode::<D>()?;
-        let e = fields.try_decode::<E>()?;
-        let f = fields.try_decode::<F>()?;
-        let g = fields.try_decode::<G>()?;
-        let h = fields.try_decode::<H>()?;
-        let i = fields.try_decode::<I>()?;
+        let (a, (b, (c, (d, (e, (f, (g, (h, (i,))))))))) = first_fields::<
+            (A, (B, (C, (D, (E, (F, (G, (H, (I,))))))))),
+        >(alloc, value)?;
         Ok((a, b, c, d, e, f, g, h, i))
     }
 }
