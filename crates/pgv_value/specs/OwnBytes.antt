@@ -1,6 +1,8 @@
 -- A whole number is read from its own bytes (PostgreSQL: "Numeric Types", 8.1.1).
-use Rattle.std.specs.Prelude.{◌≡◌, ℕ, suc, ◌+◌, ◌-◌, ◌<◌, ◌^◌, nat_lt, true, false, if◌then◌else◌, ℤ, pos, negsuc, ◌-ℤ◌, Some, refl}
-use Rattle.std.specs.Int.{w8, w16, w32, w64, cast_unsigned, to_be_bytes}
+use mir.Val.{bits, hbits}
+use mir.ValLaws.{of_z_fits}
+use Rattle.std.specs.Prelude.{◌≡◌, ℕ, suc, ◌+◌, ◌<◌, ◌^◌, nat_lt, true, false, if◌then◌else◌, ℤ, pos, negsuc, ◌-ℤ◌, FitsSigned, Some, refl}
+use Rattle.std.specs.Int.{Width, w8, w16, w32, w64, cast_unsigned, to_be_bytes}
 use Rattle.std.proofs.Common.{ap, arith}
 use Rattle.std.proofs.lemmas.Bool.{ltb-true, lt-ltb, le-ltb}
 use Rattle.std.proofs.lemmas.Int.{ints}
@@ -8,51 +10,29 @@ use Rattle.std.proofs.lemmas.Nat.{from_be_bytes-to_be_bytes_2, from_be_bytes-to_
 use Rattle.byteorder.specs.Endian.{big_number}
 use Rattle.pgv_value.specs.Numbers.{fits_signed, whole_number}
 
-as_pos : (m n k c : ℕ) → m ≡ n → n < k → (if nat_lt m k then pos m else pos m -ℤ pos c) ≡ pos n
-as_pos m n k c e lt = rw (e, lt-ltb n k lt) refl
+is_signed : (w : Width) (v : ℤ) → fits_signed w v ≡ true → FitsSigned w v
+is_signed w (pos n) h = record { sfits = ltb-true n (2 ^ hbits w) h }
+is_signed w (negsuc n) h = record { sfits = ltb-true n (2 ^ hbits w) h }
 
-as_neg : (m n k c : ℕ) → m ≡ c - suc n → n < k → c ≡ k + k → (if nat_lt m k then pos m else pos m -ℤ pos c) ≡ negsuc n
-as_neg m n k c e lt double =
-    let large : nat_lt m k ≡ false = le-ltb m k (omega (arith, e, double, lt)) in
-    rw large (omega (arith, ints, e, double, lt))
-
-two_bytes : (x : ℕ) → x < 2 ^ 16 → big_number 2 (to_be_bytes w16 x) ≡ x
-two_bytes x lt = let same = from_be_bytes-to_be_bytes_2 x lt in omega (arith, same)
-
-four_bytes : (x : ℕ) → x < 2 ^ 32 → big_number 4 (to_be_bytes w32 x) ≡ x
-four_bytes x lt = let same = from_be_bytes-to_be_bytes_4 x lt in omega (arith, same)
-
-eight_bytes : (x : ℕ) → x < 2 ^ 64 → big_number 8 (to_be_bytes w64 x) ≡ x
-eight_bytes x lt = let same = from_be_bytes-to_be_bytes_8 x lt in omega (arith, same)
+-- Bytes that say the number without its sign say it with its sign.
+signed_again : (w : Width) (v : ℤ) (said : ℕ) → 2 ^ bits w ≡ 2 ^ hbits w + 2 ^ hbits w → fits_signed w v ≡ true →
+    (cast_unsigned w v < 2 ^ bits w → said ≡ cast_unsigned w v) → (if nat_lt said (2 ^ hbits w) then pos said else pos said -ℤ pos (2 ^ bits w)) ≡ v
+signed_again w (pos n) said double h same =
+    let lt : n < 2 ^ hbits w = ltb-true n (2 ^ hbits w) h in
+    rw (same (of_z_fits w (pos n) (is_signed w (pos n) h)).fits, lt-ltb n (2 ^ hbits w) lt) refl
+signed_again w (negsuc n) said double h same =
+    let lt : n < 2 ^ hbits w = ltb-true n (2 ^ hbits w) h in
+    let is = same (of_z_fits w (negsuc n) (is_signed w (negsuc n) h)).fits in
+    rw (le-ltb said (2 ^ hbits w) (omega (arith, is, double, lt))) (omega (arith, ints, is, double, lt))
 
 pub own_byte : (v : ℤ) → fits_signed w8 v ≡ true → whole_number (to_be_bytes w8 (cast_unsigned w8 v)) ≡ Some v
-own_byte (pos n) h =
-    let lt : n < 2 ^ 7 = ltb-true n (2 ^ 7) h in
-    ap (λ (z : ℤ). Some z) (as_pos (big_number 1 (to_be_bytes w8 n)) n (2 ^ 7) (2 ^ 8) (omega arith) lt)
-own_byte (negsuc n) h =
-    let lt : n < 2 ^ 7 = ltb-true n (2 ^ 7) h in
-    ap (λ (z : ℤ). Some z) (as_neg (big_number 1 (to_be_bytes w8 (2 ^ 8 - suc n))) n (2 ^ 7) (2 ^ 8) (omega arith) lt (omega arith))
+own_byte v h = ap (λ (z : ℤ). Some z) (signed_again w8 v (big_number 1 (to_be_bytes w8 (cast_unsigned w8 v))) (omega arith) h (λ lt. omega arith))
 
 pub own_two_bytes : (v : ℤ) → fits_signed w16 v ≡ true → whole_number (to_be_bytes w16 (cast_unsigned w16 v)) ≡ Some v
-own_two_bytes (pos n) h =
-    let lt : n < 2 ^ 15 = ltb-true n (2 ^ 15) h in
-    ap (λ (z : ℤ). Some z) (as_pos (big_number 2 (to_be_bytes w16 n)) n (2 ^ 15) (2 ^ 16) (two_bytes n (omega arith)) lt)
-own_two_bytes (negsuc n) h =
-    let lt : n < 2 ^ 15 = ltb-true n (2 ^ 15) h in
-    ap (λ (z : ℤ). Some z) (as_neg (big_number 2 (to_be_bytes w16 (2 ^ 16 - suc n))) n (2 ^ 15) (2 ^ 16) (two_bytes (2 ^ 16 - suc n) (omega arith)) lt (omega arith))
+own_two_bytes v h = ap (λ (z : ℤ). Some z) (signed_again w16 v (big_number 2 (to_be_bytes w16 (cast_unsigned w16 v))) (omega arith) h (λ lt. let same = from_be_bytes-to_be_bytes_2 (cast_unsigned w16 v) lt in omega (arith, same)))
 
 pub own_four_bytes : (v : ℤ) → fits_signed w32 v ≡ true → whole_number (to_be_bytes w32 (cast_unsigned w32 v)) ≡ Some v
-own_four_bytes (pos n) h =
-    let lt : n < 2 ^ 31 = ltb-true n (2 ^ 31) h in
-    ap (λ (z : ℤ). Some z) (as_pos (big_number 4 (to_be_bytes w32 n)) n (2 ^ 31) (2 ^ 32) (four_bytes n (omega arith)) lt)
-own_four_bytes (negsuc n) h =
-    let lt : n < 2 ^ 31 = ltb-true n (2 ^ 31) h in
-    ap (λ (z : ℤ). Some z) (as_neg (big_number 4 (to_be_bytes w32 (2 ^ 32 - suc n))) n (2 ^ 31) (2 ^ 32) (four_bytes (2 ^ 32 - suc n) (omega arith)) lt (omega arith))
+own_four_bytes v h = ap (λ (z : ℤ). Some z) (signed_again w32 v (big_number 4 (to_be_bytes w32 (cast_unsigned w32 v))) (omega arith) h (λ lt. let same = from_be_bytes-to_be_bytes_4 (cast_unsigned w32 v) lt in omega (arith, same)))
 
 pub own_eight_bytes : (v : ℤ) → fits_signed w64 v ≡ true → whole_number (to_be_bytes w64 (cast_unsigned w64 v)) ≡ Some v
-own_eight_bytes (pos n) h =
-    let lt : n < 2 ^ 63 = ltb-true n (2 ^ 63) h in
-    ap (λ (z : ℤ). Some z) (as_pos (big_number 8 (to_be_bytes w64 n)) n (2 ^ 63) (2 ^ 64) (eight_bytes n (omega arith)) lt)
-own_eight_bytes (negsuc n) h =
-    let lt : n < 2 ^ 63 = ltb-true n (2 ^ 63) h in
-    ap (λ (z : ℤ). Some z) (as_neg (big_number 8 (to_be_bytes w64 (2 ^ 64 - suc n))) n (2 ^ 63) (2 ^ 64) (eight_bytes (2 ^ 64 - suc n) (omega arith)) lt (omega arith))
+own_eight_bytes v h = ap (λ (z : ℤ). Some z) (signed_again w64 v (big_number 8 (to_be_bytes w64 (cast_unsigned w64 v))) (omega arith) h (λ lt. let same = from_be_bytes-to_be_bytes_8 (cast_unsigned w64 v) lt in omega (arith, same)))

@@ -1,13 +1,14 @@
 //! Why a value was refused.
 
 ghost use Rattle.std.specs.Prelude.{◌≡◌};
-ghost use Rattle.pgv_value.specs.declared.error.CodecError.TheVariants.{Memory};
+ghost use Rattle.pgv_value.specs.declared.error.CodecError.TheVariants.{Memory, OutOfRange};
 ghost use Rattle.pgv_value.specs.Codes.{code_of};
 ghost use Rattle.pgv_value.specs.Numbers.{refusal_of};
 
 use pgv_text::NumberFault;
 use pgv_types::Oid;
 use std::alloc::{AllocError, AllocFailed};
+use std::num::TryFromIntError;
 use thiserror::Error;
 
 /// Why a value could not be written or read. The number of each refusal, which [`CodecError::code`] gives, is
@@ -183,6 +184,14 @@ impl<T: Drop> From<AllocFailed<T>> for CodecError {
 
     fn from(_error: AllocFailed<T>) -> CodecError {
         CodecError::Memory
+    }
+}
+
+impl From<TryFromIntError> for CodecError {
+    ghost from_gives = { λ _ e. e ≡ OutOfRange };
+
+    fn from(_error: TryFromIntError) -> CodecError {
+        CodecError::OutOfRange
     }
 }
 

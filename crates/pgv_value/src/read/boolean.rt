@@ -21,9 +21,6 @@ pub fn read_bool(value: &PgValueRef<'_>) -> Result<bool, CodecError>
             [first, ..] => Ok(*first != 0),
             [] => Err(CodecError::Short),
         },
-        PgValueFormat::Text => match bool_of(value.as_str()?) {
-            Some(truth) => Ok(truth),
-            None => Err(CodecError::Syntax),
-        },
+        PgValueFormat::Text => bool_of(value.as_str()?).ok_or(CodecError::Syntax),
     }
 }

@@ -50,14 +50,8 @@ pub fn read_i8(value: &PgValueRef<'_>) -> Result<i8, CodecError>
     ensures null { value.now.bytes ≡ None → IsErrOf result UnexpectedNull }
 {
     match value.format() {
-        PgValueFormat::Binary => match i8::try_from(whole_number_of(value.as_bytes()?)?) {
-            Ok(number) => Ok(number),
-            Err(_) => Err(CodecError::OutOfRange),
-        },
-        PgValueFormat::Text => match char_of(value.as_str()?) {
-            Some(number) => Ok(number),
-            None => Err(CodecError::Syntax),
-        },
+        PgValueFormat::Binary => Ok(i8::try_from(whole_number_of(value.as_bytes()?)?)?),
+        PgValueFormat::Text => char_of(value.as_str()?).ok_or(CodecError::Syntax),
     }
 }
 
@@ -68,10 +62,7 @@ pub fn read_i16(value: &PgValueRef<'_>) -> Result<i16, CodecError>
     ensures refused { IfErr result (λ e. e ≡ int_refusal value.now.format value.now.bytes) }
     ensures null { value.now.bytes ≡ None → IsErrOf result UnexpectedNull }
 {
-    match i16::try_from(integer(value)?) {
-        Ok(number) => Ok(number),
-        Err(_) => Err(CodecError::OutOfRange),
-    }
+    Ok(i16::try_from(integer(value)?)?)
 }
 
 /// Reads an `int4`, as [`read_i16`] reads an `int2`; a number outside 32 bits is refused with C30.
@@ -80,10 +71,7 @@ pub fn read_i32(value: &PgValueRef<'_>) -> Result<i32, CodecError>
     ensures refused { IfErr result (λ e. e ≡ int_refusal value.now.format value.now.bytes) }
     ensures null { value.now.bytes ≡ None → IsErrOf result UnexpectedNull }
 {
-    match i32::try_from(integer(value)?) {
-        Ok(number) => Ok(number),
-        Err(_) => Err(CodecError::OutOfRange),
-    }
+    Ok(i32::try_from(integer(value)?)?)
 }
 
 /// Reads an `int8`, as [`read_i16`] reads an `int2`; a number outside 64 bits is refused with C30.

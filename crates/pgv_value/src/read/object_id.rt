@@ -23,9 +23,6 @@ pub fn read_oid(value: &PgValueRef<'_>) -> Result<Oid, CodecError>
             [a, b, c, d, ..] => Ok(Oid(u32::from_be_bytes([*a, *b, *c, *d]))),
             _ => Err(CodecError::Short),
         },
-        PgValueFormat::Text => match u32::try_from(unsigned_number_of(value.as_str()?)?) {
-            Ok(number) => Ok(Oid(number)),
-            Err(_) => Err(CodecError::OutOfRange),
-        },
+        PgValueFormat::Text => Ok(Oid(u32::try_from(unsigned_number_of(value.as_str()?)?)?)),
     }
 }
