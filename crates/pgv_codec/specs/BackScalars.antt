@@ -12,7 +12,7 @@ use Rattle.pgv_types.specs.Ty.{Ty}
 use Rattle.pgv_types.specs.declared.oid.Oid.{Oid}
 use Rattle.pgv_buf.specs.Tokens.{bytes, be4}
 use Rattle.pgv_value.specs.Frame.{Part}
-use Rattle.pgv_value.specs.Numbers.{whole_number}
+use Rattle.pgv_value.specs.Numbers.{fits_signed, whole_number}
 use Rattle.pgv_value.specs.OwnBytes.{own_byte, own_two_bytes, own_four_bytes, own_eight_bytes}
 use Rattle.pgv_value.specs.Scalars.{bool_reading, int_reading, char_reading, oid_reading, uuid_reading, text_reading}
 use Rattle.pgv_value.specs.declared.value.PgValueFormat.TheVariants.{Binary}
@@ -20,7 +20,7 @@ use Rattle.pgv_codec.specs.Back.{ReadsBack, always}
 use Rattle.pgv_codec.specs.BackParts.{guarded, write-bytes}
 use Rattle.pgv_codec.specs.Image.{Image, image_of}
 use Rattle.pgv_codec.specs.Writing.{written_part}
-use Rattle.pgv_codec.specs.Scalars.{has_room, signed_image, unsigned_image, bool_image, text_image, uuid_image}
+use Rattle.pgv_codec.specs.Scalars.{signed_image, unsigned_image, bool_image, text_image, uuid_image}
 
 -- plain bytes are written as they are
 part_is : (xs : List ℕ) (i : Image) (p : Option Ty) (os : List Oid) → (let o : Option Image = Some (image_of (bytes xs)) in o) ≡ Some i → written_part i p os ≡ Some xs
@@ -33,7 +33,7 @@ bool_back false i t p os e whole small fit = rw (← same_Some _ i e) refl
 -- ---- numbers
 
 -- a number that is read from its own bytes, where it is in the range of its width
-own_number : (w : Width) (v : ℤ) (b : Bool) → has_room w v ≡ b → (has_room w v ≡ true → whole_number (to_be_bytes w (cast_unsigned w v)) ≡ Some v) →
+own_number : (w : Width) (v : ℤ) (b : Bool) → fits_signed w v ≡ b → (fits_signed w v ≡ true → whole_number (to_be_bytes w (cast_unsigned w v)) ≡ Some v) →
     (i : Image) (t : Ty) (p : Option Ty) (os : List Oid) → cond b (Some (image_of (bytes (to_be_bytes w (cast_unsigned w v))))) None ≡ Some i → int_reading w t Binary (written_part i p os) ≡ Some v
 own_number w v false room own i t p os e = absurd cc
 own_number w v true room own i t p os e = rw (part_is (to_be_bytes w (cast_unsigned w v)) i p os e, own room, room) refl

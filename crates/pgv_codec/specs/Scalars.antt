@@ -1,23 +1,20 @@
 -- What scalars are written as (PostgreSQL: "Data Types"; the binary forms of "Formats and Format Codes"), and under
 -- which types texts are read.
-use Rattle.std.specs.Prelude.{ℕ, ◌^◌, Bool, false, ◌||◌, nat_lt, nat_eq, ℤ, pos, negsuc, codes, List, [], ◌∷◌, length, Option, Some, None, if◌then◌else◌}
+use Rattle.std.specs.Prelude.{ℕ, ◌^◌, Bool, false, ◌||◌, nat_lt, nat_eq, ℤ, codes, List, [], ◌∷◌, length, Option, Some, None, if◌then◌else◌}
 use Rattle.std.specs.Int.{Width, cast_unsigned, to_be_bytes}
-use mir.Val.{bits, hbits}
+use mir.Val.{bits}
 use Rattle.pgv_types.specs.Ty.{Ty, Kind, builtin, named, simple, domain, composite, array, pseudo, enumeration, range}
 use Rattle.pgv_types.specs.Facts.{kind_at}
 use Rattle.pgv_types.specs.Relations.{softly}
 use Rattle.pgv_buf.specs.Tokens.{byte, bytes}
+use Rattle.pgv_value.specs.Numbers.{fits_signed}
 use Rattle.pgv_codec.specs.Image.{Image, image_of}
 
 -- ---- numbers, each of n bits; a number that has no room there has no image
 
-abbrev pub has_room : Width → ℤ → Bool
-has_room w (pos n) = nat_lt n (2 ^ hbits w)
-has_room w (negsuc n) = nat_lt n (2 ^ hbits w)
-
 -- in two's complement, the highest byte first
 abbrev pub signed_image : Width → ℤ → Option Image
-signed_image w v = if has_room w v then Some (image_of (bytes (to_be_bytes w (cast_unsigned w v)))) else None
+signed_image w v = if fits_signed w v then Some (image_of (bytes (to_be_bytes w (cast_unsigned w v)))) else None
 
 abbrev pub unsigned_image : Width → ℕ → Option Image
 unsigned_image w n = if nat_lt n (2 ^ bits w) then Some (image_of (bytes (to_be_bytes w n))) else None

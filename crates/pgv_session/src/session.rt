@@ -11,7 +11,7 @@ ghost use Rattle.pgv_session.specs.Session.{Answers, RespondsTo, Resolves, names
 use crate::line::{Request, parse};
 use crate::value::{refusal, respond_by};
 use pgv_types::{Oid, PgTypeInfo};
-use pgv_wire::PgArguments;
+use pgv_wire::{CodecError, PgArguments};
 use std::alloc::{AllocError, Global};
 
 /// Answers a line. Only out of memory is an error; what the arguments are then is not said.
@@ -41,10 +41,13 @@ fn respond_to(
     }
 }
 
-/// Fills the holes. Each argument's parameter type is its own.
+/// Fills the holes. Each argument's parameter type is its own. The number of OIDs is tested before the types are copied.
 fn resolve(alloc: Global, arguments: &mut PgArguments, oids: &[Oid]) -> Result<String, AllocError>
     ensures { IfOk result (λ answer. Resolves (length oids.now == hole_count (all_tokens arguments.old)) oids.now arguments.old (string_bytes answer) arguments.new) }
 {
+    if oids.len() != arguments.hole_types().len() {
+        return refusal(alloc, &CodecError::HoleCount);
+    }
     let types = arguments.types().to_vec(alloc)?;
     match arguments.apply_patches(types.as_slice(), oids) {
         Ok(()) => String::from_str(alloc, "ok"),
