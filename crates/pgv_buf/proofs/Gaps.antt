@@ -1,24 +1,21 @@
 -- Gaps and the places that they lead to.
 use Rattle.std.proofs.Common.{◌≡◌, ℕ, ◌+◌, ◌-◌, ◌<◌, ◌≤◌, get_or, suc, zero, List, [], ◌∷◌, ◌++◌, length, take, drop, sum, refl, sym, ◌∙◌, ap, arith}
-use Rattle.std.proofs.lemmas.Grind.{common_steps}
+use Rattle.std.proofs.lemmas.List.Sums.{sum_by-cons}
 use Rattle.std.proofs.lemmas.List.{take-append-drop, drop-drop, drop_more}
 use Rattle.pgv_buf.specs.Layout.{last_from}
 use Rattle.pgv_buf.specs.Gaps.{places_after}
 
-sum_first : (g : ℕ) (gs : List ℕ) → sum (g ∷ gs) ≡ g + sum gs
-sum_first g gs = grind (arith, common_steps)
-
 pub sum_here : (gs : List ℕ) (i : ℕ) → i < length gs → sum (drop i gs) ≡ get_or gs i 0 + sum (drop (i + 1) gs)
-sum_here gs i l = ap sum (drop_more gs i 0 l) ∙ sum_first (get_or gs i 0) (drop (i + 1) gs)
+sum_here gs i l = ap sum (drop_more gs i 0 l) ∙ sum_by-cons (λ n. n) (get_or gs i 0) (drop (i + 1) gs)
 
 pub last_after : (q : ℕ) (gs : List ℕ) → last_from q (places_after q gs) ≡ q + sum gs
 last_after q [] = omega arith
-last_after q (g ∷ gs) = omega (arith, last_after (q + g) gs, sum_first g gs)
+last_after q (g ∷ gs) = omega (arith, last_after (q + g) gs, sum_by-cons (λ n. n) g gs)
 
 pub after-append : (q : ℕ) (gs hs : List ℕ) → places_after q (gs ++ hs) ≡ places_after q gs ++ places_after (q + sum gs) hs
 after-append q [] hs = let e : q ≡ q + sum [] = omega arith in ap (λ n. places_after n hs) e
 after-append q (g ∷ gs) hs =
-    let e : (q + g) + sum gs ≡ q + sum (g ∷ gs) = omega (arith, sum_first g gs) in
+    let e : (q + g) + sum gs ≡ q + sum (g ∷ gs) = omega (arith, sum_by-cons (λ n. n) g gs) in
     ap (λ r. (q + g) ∷ r) (after-append (q + g) gs hs ∙ ap (λ n. places_after (q + g) gs ++ places_after n hs) e)
 
 pub after-take : (q n : ℕ) (gs : List ℕ) → places_after q (take n gs) ≡ take n (places_after q gs)
@@ -33,7 +30,7 @@ length-after q (g ∷ gs) = omega (arith, length-after (q + g) gs)
 pub sum-split : (n : ℕ) (gs : List ℕ) → sum (take n gs) + sum (drop n gs) ≡ sum gs
 sum-split zero gs = omega arith
 sum-split (suc n) [] = omega arith
-sum-split (suc n) (g ∷ gs) = omega (arith, sum-split n gs, sum_first g (take n gs), sum_first g gs)
+sum-split (suc n) (g ∷ gs) = omega (arith, sum-split n gs, sum_by-cons (λ n. n) g (take n gs), sum_by-cons (λ n. n) g gs)
 
 -- the next gaps, and then the others
 pub after-split :

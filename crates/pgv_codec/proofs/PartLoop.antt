@@ -13,17 +13,17 @@ parts_split show xs i x lt is =
 
 module _ {M : Type 0} (read : Part → Option M) where
   -- a loop over parts: it goes on, it is done, a part isn't read
-  pub part_read : (ms : List M) (here : List Part) (part : Part) (behind : List Part) (m : M) (total : Option (List M)) → here ≡ part ∷ behind →
-      read part ≡ Some m → with_front ms (each read here) ≡ total → with_front (ms ++ m ∷ []) (each read behind) ≡ total
+  pub part_read : (ms : List M) (here : List Part) (part : Part) (rest_after : List Part) (m : M) (total : Option (List M)) → here ≡ part ∷ rest_after →
+      read part ≡ Some m → with_front ms (each read here) ≡ total → with_front (ms ++ m ∷ []) (each read rest_after) ≡ total
   unfolding each
-  part_read ms here part behind m total split r so_far =
-      let one : with_front ms (each read here) ≡ with_front (ms ++ m ∷ []) (each read behind) = rw (split, r) (regroup ms m (each read behind)) in
+  part_read ms here part rest_after m total split r so_far =
+      let one : with_front ms (each read here) ≡ with_front (ms ++ m ∷ []) (each read rest_after) = rw (split, r) (regroup ms m (each read rest_after)) in
       sym one ∙ so_far
 
-  pub part_unread : (ms : List M) (here : List Part) (part : Part) (behind : List Part) (total : Option (List M)) → here ≡ part ∷ behind →
+  pub part_unread : (ms : List M) (here : List Part) (part : Part) (rest_after : List Part) (total : Option (List M)) → here ≡ part ∷ rest_after →
       with_front ms (each read here) ≡ total → read part ≡ None → total ≡ None
   unfolding each
-  part_unread ms here part behind total split so_far r =
+  part_unread ms here part rest_after total split so_far r =
       let one : with_front ms (each read here) ≡ None = rw (split, r) refl in
       sym so_far ∙ one
 

@@ -5,7 +5,7 @@ use Rattle.pgv_buf.specs.declared.Mark.{Mark}
 use Rattle.pgv_buf.specs.Tokens.{Token, Cell, bytes, be4, blank, fixed_bytes, width, hole_count, slot_count}
 use Rattle.pgv_buf.specs.Blank.{blank-append, plain-blank}
 use Rattle.pgv_buf.specs.Marks.{mark_of}
-use Rattle.pgv_codec.specs.Fronts.{front_is, behind_is}
+use Rattle.pgv_codec.specs.Fronts.{front_is, rest_after_is}
 use Rattle.pgv_codec.specs.Image.{field_at}
 use Rattle.pgv_codec.specs.Record.{Writing, writing_at, IsOpen}
 
@@ -13,7 +13,7 @@ use Rattle.pgv_codec.specs.Record.{Writing, writing_at, IsOpen}
 pub writing_is : (m : Mark) (n : ℕ) (now was : List Cell) (fs : List Token) → m ≡ mark_of was → now ≡ was ++ blank (bytes (be4 n) ++ fs) → writing_at m n now ≡ record { before = was; count = n; fields = fs }
 unfolding writing_at
 writing_is m n now was fs e f =
-    rw (e, f, front_is was (blank (bytes (be4 n) ++ fs)) (width was) (hole_count was) (slot_count was) refl refl refl, behind_is was (blank (bytes (be4 n) ++ fs)) (width was) (hole_count was) (slot_count was) refl refl refl, plain-blank fs) refl
+    rw (e, f, front_is was (blank (bytes (be4 n) ++ fs)) (width was) (hole_count was) (slot_count was) refl refl refl, rest_after_is was (blank (bytes (be4 n) ++ fs)) (width was) (hole_count was) (slot_count was) refl refl refl, plain-blank fs) refl
 
 pub open_by : (m : Mark) (n : ℕ) (now was : List Cell) (fs : List Token) → m ≡ mark_of was → now ≡ was ++ blank (bytes (be4 n) ++ fs) → IsOpen m n now
 open_by m n now was fs e f = rw (writing_is m n now was fs e f) (e, f)

@@ -18,7 +18,7 @@ use Rattle.pgv_codec.specs.Back.{AreOids, SlotsFit, ImageFits, ReadsBack, is_nul
 use Rattle.pgv_codec.specs.BackParts.{guarded, joined_parts, type_written, SlotsFit-back, AreOids-after, frames_back}
 use Rattle.pgv_nest.specs.Found.{array_there}
 use Rattle.pgv_nest.specs.Grammar.{IsArray}
-use Rattle.pgv_codec.specs.Image.{Image, null_image, image_of, limit, frames, join, typed, header, array_behind, array_of_frames, array_image, sized_image, option_image, element_type as written_type}
+use Rattle.pgv_codec.specs.Image.{Image, null_image, image_of, limit, frames, join, typed, header, array_after, array_of_frames, array_image, sized_image, option_image, element_type as written_type}
 use Rattle.pgv_codec.specs.Nullable.{nullable}
 use Rattle.pgv_codec.specs.Writing.{written_part}
 
@@ -43,10 +43,10 @@ array_parts : (w : Ty) (n : ℕ) (o : Option (List Token)) (i : Image) → array
     × (image_of ((((bytes (be4 1) ++ bytes (be4 0)) ++ ys) ++ (bytes (be4 n) ++ bytes (be4 1))) ++ fs) ≡ i)
 array_parts w n None i e = absurd cc
 array_parts w n (Some fs) i e =
-    let g = guarded (nat_le n limit) (array_behind (header w n) fs) i e in
+    let g = guarded (nat_le n limit) (array_after (header w n) fs) i e in
     headed (header w n) refl g
   where
-    headed : (h : Option (List Token)) → header w n ≡ h → (nat_le n limit ≡ true) × (array_behind h fs ≡ Some i) →
+    headed : (h : Option (List Token)) → header w n ≡ h → (nat_le n limit ≡ true) × (array_after h fs ≡ Some i) →
         (ys : List Token) × (gs : List Token) × (typed w ≡ Some ys) × ((let o : Option (List Token) = Some fs in o) ≡ Some gs) × (nat_le n limit ≡ true)
         × (image_of ((((bytes (be4 1) ++ bytes (be4 0)) ++ ys) ++ (bytes (be4 n) ++ bytes (be4 1))) ++ gs) ≡ i)
     headed None h_is g = absurd cc

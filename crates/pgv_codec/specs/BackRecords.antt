@@ -95,7 +95,7 @@ module _ {A M : Type 0} (info : Ty) (produced : A → Option Ty) (hint : A → �
         oid = written_oid (oid_of w) os;
         own = fit.0;
         part = one.0;
-        behind = write p left (a.1 ++ after);
+        rest_after = write p left (a.1 ++ after);
         whole = ap (λ (r : List Token). write p os (r ++ after)) (sym a.4) ∙ (ap (λ (r : List Token). write p os r) (append_assoc a.0 a.1 after) ∙ type_is.1);
         framed = subst (λ (r : List Oid). IsFrame (write p left (a.1 ++ after)) one.0 (write p r after)) taken one.1;
         oid_fits = type_is.0;

@@ -11,11 +11,11 @@ front_of w h s (fixed x ∷ ts) = cond (w + h + s == 0) [] (fixed x ∷ front_of
 front_of w h s (hole_cell t b ∷ ts) = cond (w + h + s == 0) [] (hole_cell t b ∷ front_of (w - 4) (h - 1) s ts)
 front_of w h s (slot_cell d cs b ∷ ts) = cond (w + h + s == 0) [] (slot_cell d cs b ∷ front_of (w - length d) h (s - 1) ts)
 
-abbrev pub behind : ℕ → ℕ → ℕ → List Cell → List Cell
-behind w h s [] = []
-behind w h s (fixed x ∷ ts) = cond (w + h + s == 0) (fixed x ∷ ts) (behind (w - 1) h s ts)
-behind w h s (hole_cell t b ∷ ts) = cond (w + h + s == 0) (hole_cell t b ∷ ts) (behind (w - 4) (h - 1) s ts)
-behind w h s (slot_cell d cs b ∷ ts) = cond (w + h + s == 0) (slot_cell d cs b ∷ ts) (behind (w - length d) h (s - 1) ts)
+abbrev pub rest_after : ℕ → ℕ → ℕ → List Cell → List Cell
+rest_after w h s [] = []
+rest_after w h s (fixed x ∷ ts) = cond (w + h + s == 0) (fixed x ∷ ts) (rest_after (w - 1) h s ts)
+rest_after w h s (hole_cell t b ∷ ts) = cond (w + h + s == 0) (hole_cell t b ∷ ts) (rest_after (w - 4) (h - 1) s ts)
+rest_after w h s (slot_cell d cs b ∷ ts) = cond (w + h + s == 0) (slot_cell d cs b ∷ ts) (rest_after (w - length d) h (s - 1) ts)
 
 pub nothing_in_front : (ts : List Cell) → front_of 0 0 0 ts ≡ []
 nothing_in_front [] = refl
@@ -23,11 +23,11 @@ nothing_in_front (fixed x ∷ ts) = refl
 nothing_in_front (hole_cell t b ∷ ts) = refl
 nothing_in_front (slot_cell d cs b ∷ ts) = refl
 
-pub all_behind : (ts : List Cell) → behind 0 0 0 ts ≡ ts
-all_behind [] = refl
-all_behind (fixed x ∷ ts) = refl
-all_behind (hole_cell t b ∷ ts) = refl
-all_behind (slot_cell d cs b ∷ ts) = refl
+pub all_after : (ts : List Cell) → rest_after 0 0 0 ts ≡ ts
+all_after [] = refl
+all_after (fixed x ∷ ts) = refl
+all_after (hole_cell t b ∷ ts) = refl
+all_after (slot_cell d cs b ∷ ts) = refl
 
 not_nothing : (w h s : ℕ) → 0 < w + h + s → (w + h + s == 0) ≡ false
 not_nothing w h s l = grind (arith, nat_tests)
@@ -41,11 +41,11 @@ front_is (hole_cell t b ∷ a) c w h s e f g =
 front_is (slot_cell d cs b ∷ a) c w h s e f g =
     rw (not_nothing w h s (omega arith)) (ap (λ r. slot_cell d cs b ∷ r) (front_is a c (w - length d) h (s - 1) (omega arith) f (omega arith)))
 
-pub behind_is : (a c : List Cell) (w h s : ℕ) → w ≡ width a → h ≡ hole_count a → s ≡ slot_count a → behind w h s (a ++ c) ≡ c
-behind_is [] c w h s e f g = rw (e, f, g) (all_behind c)
-behind_is (fixed x ∷ a) c w h s e f g =
-    rw (not_nothing w h s (omega arith)) (behind_is a c (w - 1) h s (omega arith) f g)
-behind_is (hole_cell t b ∷ a) c w h s e f g =
-    rw (not_nothing w h s (omega arith)) (behind_is a c (w - 4) (h - 1) s (omega arith) (omega arith) g)
-behind_is (slot_cell d cs b ∷ a) c w h s e f g =
-    rw (not_nothing w h s (omega arith)) (behind_is a c (w - length d) h (s - 1) (omega arith) f (omega arith))
+pub rest_after_is : (a c : List Cell) (w h s : ℕ) → w ≡ width a → h ≡ hole_count a → s ≡ slot_count a → rest_after w h s (a ++ c) ≡ c
+rest_after_is [] c w h s e f g = rw (e, f, g) (all_after c)
+rest_after_is (fixed x ∷ a) c w h s e f g =
+    rw (not_nothing w h s (omega arith)) (rest_after_is a c (w - 1) h s (omega arith) f g)
+rest_after_is (hole_cell t b ∷ a) c w h s e f g =
+    rw (not_nothing w h s (omega arith)) (rest_after_is a c (w - 4) (h - 1) s (omega arith) (omega arith) g)
+rest_after_is (slot_cell d cs b ∷ a) c w h s e f g =
+    rw (not_nothing w h s (omega arith)) (rest_after_is a c (w - length d) h (s - 1) (omega arith) f (omega arith))

@@ -56,13 +56,13 @@ module _ {X : Type 0} (produced : X → Option Ty) (info : Ty) where
 abbrev pub header : Ty → ℕ → Option (List Token)
 header t n = join (join (Some (bytes (be4 1) ++ bytes (be4 0))) (typed t)) (Some (bytes (be4 n) ++ bytes (be4 1)))
 
-abbrev pub array_behind : Option (List Token) → List Token → Option Image
-array_behind None fs = None
-array_behind (Some h) fs = Some (image_of (h ++ fs))
+abbrev pub array_after : Option (List Token) → List Token → Option Image
+array_after None fs = None
+array_after (Some h) fs = Some (image_of (h ++ fs))
 
 abbrev pub array_of_frames : Ty → ℕ → Option (List Token) → Option Image
 array_of_frames t n None = None
-array_of_frames t n (Some fs) = cond (nat_le n limit) (array_behind (header t n) fs) None
+array_of_frames t n (Some fs) = cond (nat_le n limit) (array_after (header t n) fs) None
 
 abbrev pub array_image : {X : Type 0} → (X → ℕ) → (X → Option Image) → (X → Option Ty) → Ty → List X → Option Image
 array_image hint image produced info xs = array_of_frames (element_type produced info xs) (length xs) (frames hint image xs)

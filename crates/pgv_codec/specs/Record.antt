@@ -3,7 +3,7 @@ use Rattle.std.specs.Prelude.{◌≡◌, ℕ, ◌+◌, List, [], ◌++◌, drop,
 use Rattle.pgv_buf.specs.declared.Mark.{Mark}
 use Rattle.pgv_buf.specs.Tokens.{Token, Cell, bytes, be4, blank, plain}
 use Rattle.pgv_buf.specs.Marks.{mark_of}
-use Rattle.pgv_codec.specs.Fronts.{front_of, behind}
+use Rattle.pgv_codec.specs.Fronts.{front_of, rest_after}
 
 -- what stood before it, how many fields it has, and these
 pub record Writing : Type 0 where
@@ -12,7 +12,7 @@ pub record Writing : Type 0 where
   pub fields : List Token
 
 unfoldable pub writing_at : Mark → ℕ → List Cell → Writing
-writing_at m n ts = record { before = front_of m.bytes m.holes m.slots ts; count = n; fields = drop 4 (plain (behind m.bytes m.holes m.slots ts)) }
+writing_at m n ts = record { before = front_of m.bytes m.holes m.slots ts; count = n; fields = drop 4 (plain (rest_after m.bytes m.holes m.slots ts)) }
 
 abbrev pub begun : List Cell → Writing
 begun was = record { before = was; count = 0; fields = [] }

@@ -62,13 +62,13 @@ number_is bytes rest n h e =
 
 -- ---- what comes after is bytes too
 
-pub bytes_behind : (xs ys : List ℕ) → AreBytes (xs ++ ys) → AreBytes ys
-bytes_behind [] ys h = h
-bytes_behind (x ∷ xs) ys h = bytes_behind xs ys h.1
+pub bytes_after : (xs ys : List ℕ) → AreBytes (xs ++ ys) → AreBytes ys
+bytes_after [] ys h = h
+bytes_after (x ∷ xs) ys h = bytes_after xs ys h.1
 
-pub behind_four : (n : ℕ) (bytes rest : List ℕ) → bytes ≡ to_be_bytes w32 n ++ rest → AreBytes bytes → AreBytes rest
-behind_four n bytes rest e h = bytes_behind (to_be_bytes w32 n) rest (subst AreBytes e h)
+pub after_four : (n : ℕ) (bytes rest : List ℕ) → bytes ≡ to_be_bytes w32 n ++ rest → AreBytes bytes → AreBytes rest
+after_four n bytes rest e h = bytes_after (to_be_bytes w32 n) rest (subst AreBytes e h)
 
-pub behind_frame : (bytes : List ℕ) (part : Part) (rest : List ℕ) → IsFrame bytes part rest → AreBytes bytes → AreBytes rest
-behind_frame bytes None rest e h = bytes_behind (255 ∷ 255 ∷ 255 ∷ 255 ∷ []) rest (subst AreBytes e h)
-behind_frame bytes (Some part) rest e h = bytes_behind part rest (bytes_behind (to_be_bytes w32 (length part)) (part ++ rest) (subst AreBytes e.1 h))
+pub after_frame : (bytes : List ℕ) (part : Part) (rest : List ℕ) → IsFrame bytes part rest → AreBytes bytes → AreBytes rest
+after_frame bytes None rest e h = bytes_after (255 ∷ 255 ∷ 255 ∷ 255 ∷ []) rest (subst AreBytes e h)
+after_frame bytes (Some part) rest e h = bytes_after part rest (bytes_after (to_be_bytes w32 (length part)) (part ++ rest) (subst AreBytes e.1 h))

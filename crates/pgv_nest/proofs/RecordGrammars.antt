@@ -16,7 +16,7 @@ use Rattle.pgv_nest.specs.Grammar.{HasFieldType, of_record, of_custom_record, of
 use Rattle.pgv_nest.specs.Records.{is_oid, field_at, if_oid, field_type, field_type_in, field_head, field_in, Left, binary_fields, next, fields_of}
 use Rattle.pgv_nest.specs.Steps.{number}
 use Rattle.pgv_nest.specs.Tuples.{record_of, ◌then◌}
-use Rattle.pgv_nest.proofs.Numbers.{step_taken, test_held, pair_is, number_splits, number_is, bytes_behind, behind_four, behind_frame}
+use Rattle.pgv_nest.proofs.Numbers.{step_taken, test_held, pair_is, number_splits, number_is, bytes_after, after_four, after_frame}
 
 -- ---- the types of fields
 
@@ -73,18 +73,18 @@ module _ {M : Type 0} (accepts : Ty → Bool) (reading : Reading M) (t : Ty) (pl
       let own = step_taken (field_type t place oid.0.0) _ h.0 oid.2 in
       let h_is = same_Some {A = Ty × List ℕ} (own.0, oid.0.1) h.0 own.2 in
       let own_is : own.0 ≡ h.0.0 = ap (λ (x : Ty × List ℕ). x.0) h_is in
-      let behind_is : oid.0.1 ≡ h.0.1 = ap (λ (x : Ty × List ℕ). x.1) h_is in
+      let rest_after_is : oid.0.1 ≡ h.0.1 = ap (λ (x : Ty × List ℕ). x.1) h_is in
       let accepted = test_held (accepts h.0.0) _ (m, rest) h.2 in
       let part = step_taken (front h.0.1) _ (m, rest) accepted.1 in
       let read = step_taken (reading h.0.0 Binary part.0.0) _ (m, rest) part.2 in
       let k = pair_is read.0 m part.0.1 rest read.2 in
-      let whole : bytes ≡ to_be_bytes w32 oid.0.0 ++ h.0.1 = o.1 ∙ ap (λ (r : List ℕ). to_be_bytes w32 oid.0.0 ++ r) behind_is in
-      let frame : IsFrame h.0.1 part.0.0 part.0.1 = (front_exactly h.0.1 part.0.0 part.0.1 (behind_four oid.0.0 bytes h.0.1 whole b)).0 part.1 in
+      let whole : bytes ≡ to_be_bytes w32 oid.0.0 ++ h.0.1 = o.1 ∙ ap (λ (r : List ℕ). to_be_bytes w32 oid.0.0 ++ r) rest_after_is in
+      let frame : IsFrame h.0.1 part.0.0 part.0.1 = (front_exactly h.0.1 part.0.0 part.0.1 (after_four oid.0.0 bytes h.0.1 whole b)).0 part.1 in
       record {
         oid = oid.0.0;
         own = h.0.0;
         part = part.0.0;
-        behind = h.0.1;
+        rest_after = h.0.1;
         whole = whole;
         framed = subst (λ (r : List ℕ). IsFrame h.0.1 part.0.0 r) k.1 frame;
         oid_fits = o.0;
@@ -99,8 +99,8 @@ module _ {M : Type 0} (accepts : Ty → Bool) (reading : Reading M) (t : Ty) (pl
   pub one_field : (bytes : List ℕ) (m n : M) (rest others : List ℕ) → IsField accepts reading t place bytes m rest → IsField accepts reading t place bytes n others → (m ≡ n) × (rest ≡ others)
   one_field bytes m n rest others f g = pair_is m n rest others (sym (field_there accepts reading t place bytes m rest f) ∙ field_there accepts reading t place bytes n others g)
 
-  behind_field : (bytes : List ℕ) (m : M) (rest : List ℕ) → IsField accepts reading t place bytes m rest → AreBytes bytes → AreBytes rest
-  behind_field bytes m rest f b = behind_frame f.behind f.part rest f.framed (behind_four f.oid bytes f.behind f.whole b)
+  after_field : (bytes : List ℕ) (m : M) (rest : List ℕ) → IsField accepts reading t place bytes m rest → AreBytes bytes → AreBytes rest
+  after_field bytes m rest f b = after_frame f.rest_after f.part rest f.framed (after_four f.oid bytes f.rest_after f.whole b)
 
   -- one step
   next_is : (bytes : List ℕ) (m : M) (left : Left) → AreBytes bytes → next accepts reading (binary_fields t place bytes) ≡ Some (m, left) →
@@ -128,8 +128,8 @@ pub record_begins : (t : Ty) (bytes rest : List ℕ) → (fields_of t Binary (So
 record_begins t bytes rest = (
   λ e.
       let c = step_taken (number bytes) (λ (x : ℕ × List ℕ). let o : Option Left = Some (binary_fields t 0 x.1) in o) (binary_fields t 0 rest) e in
-      let behind_is = place_is t c.0.1 rest c.2 in
-      four_in_front bytes rest c.0.0 (c.1 ∙ ap (λ (r : List ℕ). let o : Option (ℕ × List ℕ) = Some (c.0.0, r) in o) behind_is),
+      let rest_after_is = place_is t c.0.1 rest c.2 in
+      four_in_front bytes rest c.0.0 (c.1 ∙ ap (λ (r : List ℕ). let o : Option (ℕ × List ℕ) = Some (c.0.0, r) in o) rest_after_is),
   λ h. rw (h.1, number_of_four h.0 rest h.2) refl,
 )
 
@@ -157,11 +157,11 @@ further_found {A} {B} accepts reading steps fields found t place bytes m b = (
       let both_are = pair_is {A = A × B} {B = Left} (one.0.0, further.0.0) m further.0.1 h.0 further.2 in
       let k = next_is accepts reading t place bytes one.0.0 one.0.1 b one.1 in
       let after : steps (binary_fields t (suc place) k.0) ≡ Some (further.0.0, further.0.1) = ap steps (sym k.1) ∙ further.1 in
-      let rest = (found t (suc place) k.0 further.0.0 (behind_field accepts reading t place bytes one.0.0 k.0 k.2 b)).0 (further.0.1, after) in
+      let rest = (found t (suc place) k.0 further.0.0 (after_field accepts reading t place bytes one.0.0 k.0 k.2 b)).0 (further.0.1, after) in
       subst (λ (x : A × B). (rest : List ℕ) × (IsField accepts reading and fields) t place bytes x rest) both_are.0 (rest.0, (k.0, k.2, rest.1)),
   λ h.
       let one = next_there accepts reading t place bytes m.0 h.1.0 h.1.1 in
-      let further = (found t (suc place) h.1.0 m.1 (behind_field accepts reading t place bytes m.0 h.1.0 h.1.1 b)).1 (h.0, h.1.2) in
+      let further = (found t (suc place) h.1.0 m.1 (after_field accepts reading t place bytes m.0 h.1.0 h.1.1 b)).1 (h.0, h.1.2) in
       (further.0, rw (one, further.1) refl),
 )
 
@@ -175,9 +175,9 @@ record_found {M} steps fields found t bytes m b = (
       let start_is = same_Some (binary_fields t 0 c.0.1) start.0 c.2 in
       let count = four_in_front bytes c.0.1 c.0.0 c.1 in
       let first : steps (binary_fields t 0 c.0.1) ≡ Some (x.0.0, x.0.1) = ap steps start_is ∙ x.1 in
-      let rest = (found t 0 c.0.1 x.0.0 (bytes_behind count.0 c.0.1 (subst AreBytes count.1 b))).0 (x.0.1, first) in
+      let rest = (found t 0 c.0.1 x.0.0 (bytes_after count.0 c.0.1 (subst AreBytes count.1 b))).0 (x.0.1, first) in
       (count.0, c.0.1, rest.0, count.1, count.2, subst (λ (y : M). fields t 0 c.0.1 y rest.0) m_is rest.1),
   λ h.
-      let steps_taken = (found t 0 h.1 m (bytes_behind h.0 h.1 (subst AreBytes h.3 b))).1 (h.2, h.5) in
+      let steps_taken = (found t 0 h.1 m (bytes_after h.0 h.1 (subst AreBytes h.3 b))).1 (h.2, h.5) in
       rw (h.3, number_of_four h.0 h.1 h.4, steps_taken.1) refl,
 )

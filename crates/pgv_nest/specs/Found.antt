@@ -44,8 +44,8 @@ pub array_there : {M : Type 0} (read : Ty → Part → Option M) (t : Ty) (bytes
 unfolding head
 array_there read t bytes ms (inl h) = rw (h.1, h.2, number_there 0 h.0 (omega arith)) refl
 array_there read t bytes ms (inr h) =
-    let behind : List ℕ = h.flags ++ (to_be_bytes w32 h.oid ++ (to_be_bytes w32 (length ms) ++ (to_be_bytes w32 1 ++ h.frames))) in
-    rw (h.whole, number_there 1 behind (omega arith), one_dimension_there t h.flags h.frames h.oid (length ms) h.element h.four_flags h.oid_fits h.count_fits h.typed)
+    let rest_after : List ℕ = h.flags ++ (to_be_bytes w32 h.oid ++ (to_be_bytes w32 (length ms) ++ (to_be_bytes w32 1 ++ h.frames))) in
+    rw (h.whole, number_there 1 rest_after (omega arith), one_dimension_there t h.flags h.frames h.oid (length ms) h.element h.four_flags h.oid_fits h.count_fits h.typed)
     (frames_there (read h.element) h.frames ms h.framed)
 
 -- ---- the fields of records
@@ -60,7 +60,7 @@ module _ {M : Type 0} (accepts : Ty → Bool) (reading : Reading M) (t : Ty) (pl
   pub field_there : (bytes : List ℕ) (m : M) (rest : List ℕ) → IsField accepts reading t place bytes m rest → field_in accepts reading t place bytes ≡ Some (m, rest)
   unfolding field_head
   field_there bytes m rest f =
-      rw (f.whole, number_there f.oid f.behind f.oid_fits, field_type_there place f.oid f.own t f.typed, f.accepted, frame_in_front f.behind f.part rest f.framed, f.read) refl
+      rw (f.whole, number_there f.oid f.rest_after f.oid_fits, field_type_there place f.oid f.own t f.typed, f.accepted, frame_in_front f.rest_after f.part rest f.framed, f.read) refl
 
   pub next_there : (bytes : List ℕ) (m : M) (rest : List ℕ) → IsField accepts reading t place bytes m rest → next accepts reading (binary_fields t place bytes) ≡ Some (m, binary_fields t (suc place) rest)
   next_there bytes m rest f = rw (field_there bytes m rest f) refl

@@ -20,7 +20,7 @@ BeginWithFrames read bytes (m ∷ ms) = (part : Part) × (rest : List ℕ) × Is
 
 -- An array of no dimensions has no elements. After the 0 nothing is looked at.
 abbrev pub IsWithoutDimensions : {M : Type 0} → List ℕ → List M → Type 0
-IsWithoutDimensions bytes ms = (behind : List ℕ) × (bytes ≡ to_be_bytes w32 0 ++ behind) × (ms ≡ [])
+IsWithoutDimensions bytes ms = (rest_after : List ℕ) × (bytes ≡ to_be_bytes w32 0 ++ rest_after) × (ms ≡ [])
 
 -- An array of one dimension: flags, the OID of the elements' type, how many there are, the lower bound 1, and a frame
 -- for each.
@@ -62,9 +62,9 @@ pub record IsField {M : Type 0} (accepts : Ty → Bool) (reading : Reading M) (t
   pub oid : ℕ
   pub own : Ty
   pub part : Part
-  pub behind : List ℕ
-  pub whole : bytes ≡ to_be_bytes w32 oid ++ behind
-  pub framed : IsFrame behind part rest
+  pub rest_after : List ℕ
+  pub whole : bytes ≡ to_be_bytes w32 oid ++ rest_after
+  pub framed : IsFrame rest_after part rest
   pub oid_fits : oid < 2 ^ 32
   pub typed : HasFieldType place oid own t
   pub accepted : accepts own ≡ true
@@ -77,7 +77,7 @@ abbrev pub ◌and◌ : {A B : Type 0} → Stretch A → Stretch B → Stretch (A
 
 -- A record: four bytes for the number of fields, which say nothing here, and the fields. Anything may come after them.
 abbrev pub IsRecord : {M : Type 0} → Stretch M → Ty → List ℕ → M → Type 0
-IsRecord fields t bytes m = (count : List ℕ) × (behind : List ℕ) × (rest : List ℕ) × (bytes ≡ count ++ behind) × (length count ≡ 4) × fields t 0 behind m rest
+IsRecord fields t bytes m = (count : List ℕ) × (rest_after : List ℕ) × (rest : List ℕ) × (bytes ≡ count ++ rest_after) × (length count ≡ 4) × fields t 0 rest_after m rest
 
 -- ---- what is computed is what the bytes are
 

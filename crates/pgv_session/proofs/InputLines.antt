@@ -14,18 +14,18 @@ one_more (d ∷ begun) c h n = (h.0, one_more begun c h.1 n)
 lines_by :
     (begun : List ℕ) (c : ℕ) (cs : List ℕ) (b : Bool) → (c == 10) ≡ b → HasNoLineFeed begun → AreLines cs (lines_from [] cs) →
     (HasNoLineFeed (begun ++ c ∷ []) → AreLines ((begun ++ c ∷ []) ++ cs) (lines_from (begun ++ c ∷ []) cs)) → AreLines (begun ++ c ∷ cs) (lines_from begun (c ∷ cs))
-lines_by begun c cs true e h behind further = record {
-  full = begun ∷ behind.full;
-  last = behind.last;
-  each = (h, behind.each);
-  unended = behind.unended;
+lines_by begun c cs true e h rest_after further = record {
+  full = begun ∷ rest_after.full;
+  last = rest_after.last;
+  each = (h, rest_after.each);
+  unended = rest_after.unended;
   whole =
-      ap (λ (xs : List ℕ). begun ++ c ∷ xs) behind.whole
-      ∙ (ap (λ (d : ℕ). begun ++ d ∷ (ended behind.full ++ behind.last)) (eqb-true c 10 e)
-      ∙ sym (append_assoc begun (10 ∷ ended behind.full) behind.last));
-  lines_are = rw e (ap (λ (ls : List (List ℕ)). begun ∷ ls) behind.lines_are);
+      ap (λ (xs : List ℕ). begun ++ c ∷ xs) rest_after.whole
+      ∙ (ap (λ (d : ℕ). begun ++ d ∷ (ended rest_after.full ++ rest_after.last)) (eqb-true c 10 e)
+      ∙ sym (append_assoc begun (10 ∷ ended rest_after.full) rest_after.last));
+  lines_are = rw e (ap (λ (ls : List (List ℕ)). begun ∷ ls) rest_after.lines_are);
 }
-lines_by begun c cs false e h behind further =
+lines_by begun c cs false e h rest_after further =
     let r = further (one_more begun c h (eqb-false c 10 e)) in
     record {
       full = r.full;

@@ -12,16 +12,16 @@ use Rattle.pgv_types.specs.declared.oid.Oid.{Oid}
 use Rattle.pgv_text.specs.Number.{unsigned_value, IsUnsignedNumber, plus_text}
 use Rattle.pgv_text.proofs.Numbers.{value_unsigned, unsigned_value_of}
 use Rattle.pgv_value.specs.Utf8.{is_utf8}
-use Rattle.pgv_session.specs.Lines.{before, behind, words, starts_with_plus, with_first, oid_of, oid_named, oids_named}
+use Rattle.pgv_session.specs.Lines.{before, rest_after, words, starts_with_plus, with_first, oid_of, oid_named, oids_named}
 use Rattle.pgv_session.specs.Spelled.{IsOid, SpellsOids}
 use Rattle.pgv_session.proofs.Marks.{joined, whole, split_joined}
-use Rattle.pgv_session.proofs.Wording.{words_behind, words_split}
+use Rattle.pgv_session.proofs.Wording.{words_after, words_split}
 
 digits_ascii : (digits : List ℕ) → AllByRecursion (λ d. d < 10) digits → IsAscii (map (λ d. 48 + d) digits)
 digits_ascii [] h = IsAscii-nil
 digits_ascii (d ∷ digits) h = IsAscii-cons (48 + d) (map (λ d. 48 + d) digits) (omega (arith, h.0)) (digits_ascii digits h.1)
 
-digits_no_space : (digits : List ℕ) → AllByRecursion (λ d. d < 10) digits → behind 32 (map (λ d. 48 + d) digits) ≡ None
+digits_no_space : (digits : List ℕ) → AllByRecursion (λ d. d < 10) digits → rest_after 32 (map (λ d. 48 + d) digits) ≡ None
 digits_no_space [] h = refl
 digits_no_space (d ∷ digits) h = let other : (48 + d == 32) ≡ false = ne_eqb (48 + d) 32 (λ e. omega arith) in rw other (digits_no_space digits h.1)
 
@@ -32,8 +32,8 @@ digits_no_plus (d ∷ digits) h = ne_eqb (48 + d) 43 (λ e. omega arith)
 ascii_is_utf8 : (text : List ℕ) → IsAscii text → is_utf8 text ≡ true
 ascii_is_utf8 text h = eq-eqb (utf8_valid_len text) (length text) (utf8_valid_len-IsUtf8 text (IsUtf8-from_ascii text h))
 
-oid_no_space : (word : List ℕ) (oid : Oid) → IsOid word oid → behind 32 word ≡ None
-oid_no_space word oid h = ap (behind 32) h.whole ∙ digits_no_space h.digits h.each
+oid_no_space : (word : List ℕ) (oid : Oid) → IsOid word oid → rest_after 32 word ≡ None
+oid_no_space word oid h = ap (rest_after 32) h.whole ∙ digits_no_space h.digits h.each
 
 as_unsigned : (word : List ℕ) (oid : Oid) → IsOid word oid → IsUnsignedNumber word oid.0
 as_unsigned word oid h = record { plus = false; digits = h.digits; some = h.some; each = h.each; whole = h.whole; value = h.value }
@@ -91,18 +91,18 @@ with_first_some None xs h = cc
 with_first_some (Some x) None h = cc
 with_first_some (Some x) (Some xs) h = cc
 
-split_named : (text : List ℕ) (oids : Option (List Oid)) → oids_named (words text) ≡ oids → with_first (oid_named (before 32 text)) (oids_named (words_behind (behind 32 text))) ≡ oids
+split_named : (text : List ℕ) (oids : Option (List Oid)) → oids_named (words text) ≡ oids → with_first (oid_named (before 32 text)) (oids_named (words_after (rest_after 32 text))) ≡ oids
 split_named text oids h = ap oids_named (sym (words_split text)) ∙ h
 
-oids_behind : (oid : Oid) (oids : List Oid) (text : List ℕ) (rest : Option (List ℕ)) → text ≡ joined 32 (before 32 text) rest → IsOid (before 32 text) oid →
-    ((left : List ℕ) → oids_named (words left) ≡ Some oids → SpellsOids oids (32 ∷ left)) → oids_named (words_behind rest) ≡ Some oids → SpellsOids (oid ∷ oids) (32 ∷ text)
-oids_behind oid oids text None all first more h =
+oids_then : (oid : Oid) (oids : List Oid) (text : List ℕ) (rest : Option (List ℕ)) → text ≡ joined 32 (before 32 text) rest → IsOid (before 32 text) oid →
+    ((left : List ℕ) → oids_named (words left) ≡ Some oids → SpellsOids oids (32 ∷ left)) → oids_named (words_after rest) ≡ Some oids → SpellsOids (oid ∷ oids) (32 ∷ text)
+oids_then oid oids text None all first more h =
     let none : [] ≡ oids = same_Some {A = List Oid} [] oids h in
     (before 32 text, [], first, subst (λ (os : List Oid). SpellsOids os []) none refl, ap (λ (t : List ℕ). 32 ∷ t) (all ∙ sym (append-nil (before 32 text))))
-oids_behind oid oids text (Some left) all first more h = (before 32 text, 32 ∷ left, first, more left h, ap (λ (t : List ℕ). 32 ∷ t) all)
+oids_then oid oids text (Some left) all first more h = (before 32 text, 32 ∷ left, first, more left h, ap (λ (t : List ℕ). 32 ∷ t) all)
 
 pub oids_are : (oids : List Oid) (text : List ℕ) → oids_named (words text) ≡ Some oids → SpellsOids oids (32 ∷ text)
-oids_are [] text h = absurd (with_first_some (oid_named (before 32 text)) (oids_named (words_behind (behind 32 text))) (split_named text (Some []) h))
+oids_are [] text h = absurd (with_first_some (oid_named (before 32 text)) (oids_named (words_after (rest_after 32 text))) (split_named text (Some []) h))
 oids_are (oid ∷ oids) text h =
-    let parts = with_first_is (oid_named (before 32 text)) (oids_named (words_behind (behind 32 text))) oid oids (split_named text (Some (oid ∷ oids)) h) in
-    oids_behind oid oids text (behind 32 text) (whole 32 text) (oid_is (before 32 text) oid parts.0) (oids_are oids) parts.1
+    let parts = with_first_is (oid_named (before 32 text)) (oids_named (words_after (rest_after 32 text))) oid oids (split_named text (Some (oid ∷ oids)) h) in
+    oids_then oid oids text (rest_after 32 text) (whole 32 text) (oid_is (before 32 text) oid parts.0) (oids_are oids) parts.1

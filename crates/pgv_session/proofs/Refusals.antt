@@ -12,7 +12,7 @@ use Rattle.pgv_buf.specs.Tokens.{Token}
 use Rattle.pgv_value.specs.Codes.{code_of}
 use Rattle.pgv_value.specs.declared.error.CodecError.{CodecError}
 use Rattle.pgv_value.specs.declared.error.CodecError.TheVariants.{Memory, HoleCount, UnexpectedNull}
-use Rattle.pgv_wire.specs.Arguments.{Framed, types_in}
+use Rattle.pgv_wire.specs.Arguments.{Framed}
 use Rattle.pgv_codec.specs.Outcome.{Refused}
 use Rattle.pgv_session.specs.Session.{State, Adds, Reads, Resolves, refused, IsRefusal}
 
@@ -66,8 +66,3 @@ pub not_resolved : {V : Type 0} (n m : ℕ) (oids : List Oid) (was now : State) 
     IfOk r (λ text. IsTold e text) → IfOk r (λ text. Resolves (n == m) oids was (string_bytes text) now)
 not_resolved n m oids was now e (Err x) h c same told = tt
 not_resolved n m oids was now e (Ok text) h c same told = subst (λ b. Resolves b oids was (string_bytes text) now) (sym (differ n m (λ q. false≢true (h q)))) (told_as e HoleCount text (ap (error_or e) (c (λ q. false≢true (h q)))) told, same)
-
--- each argument has a type
-pub length-types_in : (args : State) → length (types_in args) ≡ length args
-length-types_in [] = refl
-length-types_in (a ∷ args) = omega (arith, length-types_in args)

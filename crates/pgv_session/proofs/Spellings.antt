@@ -6,9 +6,9 @@ use Rattle.std.proofs.lemmas.Option.{same_Some}
 use Rattle.pgv_types.specs.declared.oid.Oid.{Oid}
 use Rattle.pgv_session.specs.declared.line.Request.{Request as Parsed}
 use Rattle.pgv_session.specs.RequestsView.{request_seen}
-use Rattle.pgv_session.specs.Lines.{first_word, behind_word, words, oids_named, given_bytes, added, read_of, alone, add_line, null_line, resolve_line, read_line, request}
+use Rattle.pgv_session.specs.Lines.{first_word, after_word, words, oids_named, given_bytes, added, read_of, alone, add_line, null_line, resolve_line, read_line, request}
 use Rattle.pgv_session.specs.Spelled.{Request, asks, to_add, to_add_null, to_read, asks_holes, resolves, asks_wire, IsName, SpellsOids, SpellsPart, Spells, Asks}
-use Rattle.pgv_session.proofs.Marks.{joined, whole, split_joined, word_or, before_has_none, none_behind}
+use Rattle.pgv_session.proofs.Marks.{joined, whole, split_joined, word_or, before_has_none, none_after}
 use Rattle.pgv_session.proofs.OidWords.{oids_are, oids_found}
 use Rattle.pgv_session.proofs.HexTexts.{part_is, part_given}
 
@@ -26,12 +26,12 @@ added_spelled line text r (Some body) l split h =
 
 add_spelled : (line : List ℕ) (r : Request) (rest : Option (List ℕ)) → line ≡ joined 32 (codes "add") rest → add_line rest ≡ Some r → Spells r line
 add_spelled line r None l h = absurd cc
-add_spelled line r (Some text) l h = added_spelled line text r (behind_word text) l (whole 32 text) h
+add_spelled line r (Some text) l h = added_spelled line text r (after_word text) l (whole 32 text) h
 
 null_spelled : (line : List ℕ) (r : Request) (rest : Option (List ℕ)) → line ≡ joined 32 (codes "null") rest → null_line rest ≡ Some r → Spells r line
 null_spelled line r None l h = absurd cc
 null_spelled line r (Some text) l h =
-    let is = alone_spelled text (first_word text) (asks (first_word text) to_add_null) r (behind_word text) (whole 32 text) h in
+    let is = alone_spelled text (first_word text) (asks (first_word text) to_add_null) r (after_word text) (whole 32 text) h in
     subst (λ (asked : Request). Spells asked line) is.1 (before_has_none 32 text, l ∙ ap (λ (xs : List ℕ). codes "null " ++ xs) is.0)
 
 resolve_of : (line text : List ℕ) (r : Request) (oids : Option (List Oid)) → line ≡ codes "resolve " ++ text → oids_named (words text) ≡ oids → option_map (λ oids. resolves oids) oids ≡ Some r → Spells r line
@@ -54,12 +54,12 @@ read_spelled_by line text r (Some body) l split h =
 
 read_spelled : (line : List ℕ) (r : Request) (rest : Option (List ℕ)) → line ≡ joined 32 (codes "read") rest → read_line rest ≡ Some r → Spells r line
 read_spelled line r None l h = absurd cc
-read_spelled line r (Some text) l h = read_spelled_by line text r (behind_word text) l (whole 32 text) h
+read_spelled line r (Some text) l h = read_spelled_by line text r (after_word text) l (whole 32 text) h
 
 spelled : (line : List ℕ) (r : Request) → request line ≡ Some r → Spells r line
 spelled line r h =
     let verb = first_word line in
-    let rest = behind_word line in
+    let rest = after_word line in
     let put : (name : List ℕ) → verb ≡ name → line ≡ joined 32 name rest = λ name e. whole 32 line ∙ ap (λ (word : List ℕ). joined 32 word rest) e in
     word_or verb (codes "add") (add_line rest) _ r (λ e s. add_spelled line r rest (put _ e) s)
     (word_or verb (codes "null") (null_line rest) _ r (λ e s. null_spelled line r rest (put _ e) s)
@@ -73,13 +73,13 @@ spelled line r h =
 -- ---- what is spelled is found
 
 add_found : (name text : List ℕ) → IsName name → add_line (Some (name ++ 32 ∷ text)) ≡ Some (asks name (to_add text))
-add_found name text n = let parts = split_joined 32 name (Some text) (none_behind 32 name n) in rw (parts.0, parts.1) refl
+add_found name text n = let parts = split_joined 32 name (Some text) (none_after 32 name n) in rw (parts.0, parts.1) refl
 
 null_found : (name : List ℕ) → IsName name → null_line (Some name) ≡ Some (asks name to_add_null)
-null_found name n = let parts = split_joined 32 name None (none_behind 32 name n) in rw (parts.0, parts.1) refl
+null_found name n = let parts = split_joined 32 name None (none_after 32 name n) in rw (parts.0, parts.1) refl
 
 read_found : (name text : List ℕ) (part : Option (List ℕ)) → IsName name → SpellsPart part text → read_line (Some (name ++ 32 ∷ text)) ≡ Some (asks name (to_read part))
-read_found name text part n s = let parts = split_joined 32 name (Some text) (none_behind 32 name n) in rw (parts.0, parts.1, part_given text part s) refl
+read_found name text part n s = let parts = split_joined 32 name (Some text) (none_after 32 name n) in rw (parts.0, parts.1, part_given text part s) refl
 
 resolve_found : (oids : List Oid) (text : List ℕ) → SpellsOids oids text → request (codes "resolve" ++ text) ≡ Some (resolves oids)
 resolve_found [] text s = ap (λ (xs : List ℕ). request (codes "resolve" ++ xs)) s

@@ -13,16 +13,16 @@ abbrev pub before : ℕ → List ℕ → List ℕ
 before mark [] = []
 before mark (c ∷ cs) = if c == mark then [] else c ∷ before mark cs
 
-abbrev pub behind : ℕ → List ℕ → Option (List ℕ)
-behind mark [] = None
-behind mark (c ∷ cs) = if c == mark then Some cs else behind mark cs
+abbrev pub rest_after : ℕ → List ℕ → Option (List ℕ)
+rest_after mark [] = None
+rest_after mark (c ∷ cs) = if c == mark then Some cs else rest_after mark cs
 
 -- the first word, which ends at a space or with the line, and what comes after the space
 abbrev pub first_word : List ℕ → List ℕ
 first_word line = before 32 line
 
-abbrev pub behind_word : List ℕ → Option (List ℕ)
-behind_word line = behind 32 line
+abbrev pub after_word : List ℕ → Option (List ℕ)
+after_word line = rest_after 32 line
 
 -- one more character at the front of the first word
 abbrev pub at_first : ℕ → List (List ℕ) → List (List ℕ)
@@ -82,11 +82,11 @@ alone r (Some text) = None
 
 abbrev pub add_line : Option (List ℕ) → Option Request
 add_line None = None
-add_line (Some text) = added (first_word text) (behind_word text)
+add_line (Some text) = added (first_word text) (after_word text)
 
 abbrev pub null_line : Option (List ℕ) → Option Request
 null_line None = None
-null_line (Some text) = alone (asks (first_word text) to_add_null) (behind_word text)
+null_line (Some text) = alone (asks (first_word text) to_add_null) (after_word text)
 
 abbrev pub resolve_line : Option (List ℕ) → Option Request
 resolve_line None = Some (resolves [])
@@ -94,7 +94,7 @@ resolve_line (Some text) = option_map (λ oids. resolves oids) (oids_named (word
 
 abbrev pub read_line : Option (List ℕ) → Option Request
 read_line None = None
-read_line (Some text) = read_of (first_word text) (behind_word text)
+read_line (Some text) = read_of (first_word text) (after_word text)
 
 abbrev pub request_by : List ℕ → Option (List ℕ) → Option Request
 request_by verb rest =
@@ -107,4 +107,4 @@ request_by verb rest =
 
 -- what a line asks for, if anything
 abbrev pub request : List ℕ → Option Request
-request line = request_by (first_word line) (behind_word line)
+request line = request_by (first_word line) (after_word line)

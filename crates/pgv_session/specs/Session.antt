@@ -34,14 +34,14 @@ Adds None was answer now = IsRefusal answer × (now ≡ was)
 Adds (Some f) was answer now = (answer ≡ placeholder now) × (now ≡ was ++ (f.0, blank f.1) ∷ [])
 
 -- the display names, with one space before each
-abbrev pub names_behind : List Ty → List ℕ
-names_behind [] = []
-names_behind (t ∷ ts) = 32 ∷ (display_of t ++ names_behind ts)
+abbrev pub names_after : List Ty → List ℕ
+names_after [] = []
+names_after (t ∷ ts) = 32 ∷ (display_of t ++ names_after ts)
 
 -- the display names with one space between them, or `none`
 abbrev pub names_shown : List Ty → List ℕ
 names_shown [] = codes "none"
-names_shown (t ∷ ts) = display_of t ++ names_behind ts
+names_shown (t ∷ ts) = display_of t ++ names_after ts
 
 -- each argument's parameter type is its own
 abbrev pub Resolves : Bool → List Oid → State → List ℕ → State → Type 0

@@ -3,7 +3,7 @@
 ghost use Rattle.std.specs.Prelude.{◌≡◌, Option, option_map, bytes_eq, IfOk};
 ghost use Rattle.std.specs.Option.{option_copied};
 ghost use Rattle.pgv_text.specs.Number.{unsigned_value};
-ghost use Rattle.pgv_session.specs.Lines.{before, behind, first_word, behind_word, words, starts_with_plus, oid_of, oid_named, oids_named, request, given_bytes as bytes_given, alone as alone_by, add_line as added_by, null_line as null_by, resolve_line as resolve_by, read_line as read_by};
+ghost use Rattle.pgv_session.specs.Lines.{before, rest_after, first_word, after_word, words, starts_with_plus, oid_of, oid_named, oids_named, request, given_bytes as bytes_given, alone as alone_by, add_line as added_by, null_line as null_by, resolve_line as resolve_by, read_line as read_by};
 ghost use Rattle.pgv_session.specs.RequestsView.{request_seen};
 ghost use Rattle.pgv_session.specs.Spelled.{Asks};
 
@@ -39,7 +39,7 @@ pub enum Request<'a> {
 /// What stands before the first byte of a kind, and after it, where there is one.
 pub fn split_at_byte(line: &[u8], mark: u8) -> (&[u8], Option<&[u8]>)
     ensures before { result.0.now ≡ before mark line.now }
-    ensures behind { option_copied result.1 ≡ behind mark line.now }
+    ensures rest { option_copied result.1 ≡ rest_after mark line.now }
 {
     for (place, byte) in line.iter().enumerate() {
         if *byte == mark {
@@ -52,7 +52,7 @@ pub fn split_at_byte(line: &[u8], mark: u8) -> (&[u8], Option<&[u8]>)
 /// A line's first word, and what comes after the space that ends it, where one does.
 fn split_word(line: &[u8]) -> (&[u8], Option<&[u8]>)
     ensures word { result.0.now ≡ first_word line.now }
-    ensures behind { option_copied result.1 ≡ behind_word line.now }
+    ensures rest { option_copied result.1 ≡ after_word line.now }
 {
     split_at_byte(line, b' ')
 }
@@ -106,12 +106,12 @@ fn oids(alloc: Global, text: &[u8]) -> Result<Option<Vec<Oid>>, AllocError>
     let mut oids = Vec::new(alloc);
     let mut left = Some(text);
     while let Some(text) = left {
-        let (word, behind) = split_word(text);
+        let (word, rest) = split_word(text);
         let Some(oid) = oid(word) else {
             return Ok(None);
         };
         oids.push(oid)?;
-        left = behind;
+        left = rest;
     }
     Ok(Some(oids))
 }
@@ -135,73 +135,73 @@ pub fn parse<'a>(alloc: Global, line: &'a [u8]) -> Result<Option<Request<'a>>, A
     ensures computed { IfOk result (λ found. option_map request_seen found ≡ request line.now) }
     ensures meaning { IfOk result (λ found. Asks line.now (option_map request_seen found)) }
 {
-    let (verb, behind) = split_word(line);
+    let (verb, rest) = split_word(line);
     if is(verb, "add") {
-        return Ok(add_line(behind));
+        return Ok(add_line(rest));
     }
     if is(verb, "null") {
-        return Ok(null_line(behind));
+        return Ok(null_line(rest));
     }
     if is(verb, "holes") {
-        return Ok(alone(Request::Holes, behind));
+        return Ok(alone(Request::Holes, rest));
     }
     if is(verb, "resolve") {
-        return resolve_line(alloc, behind);
+        return resolve_line(alloc, rest);
     }
     if is(verb, "wire") {
-        return Ok(alone(Request::Wire, behind));
+        return Ok(alone(Request::Wire, rest));
     }
     if is(verb, "read") {
-        return read_line(alloc, behind);
+        return read_line(alloc, rest);
     }
     Ok(None)
 }
 
-fn alone<'a>(request: Request<'a>, behind: Option<&[u8]>) -> Option<Request<'a>>
-    ensures { option_map request_seen result ≡ alone_by (request_seen request.entry) (option_copied behind.entry) }
+fn alone<'a>(request: Request<'a>, rest: Option<&[u8]>) -> Option<Request<'a>>
+    ensures { option_map request_seen result ≡ alone_by (request_seen request.entry) (option_copied rest.entry) }
 {
-    match behind {
+    match rest {
         None => Some(request),
         Some(_) => None,
     }
 }
 
-fn add_line<'a>(behind: Option<&'a [u8]>) -> Option<Request<'a>>
-    ensures { option_map request_seen result ≡ added_by (option_copied behind.entry) }
+fn add_line<'a>(rest: Option<&'a [u8]>) -> Option<Request<'a>>
+    ensures { option_map request_seen result ≡ added_by (option_copied rest.entry) }
 {
-    let (name, text) = split_word(behind?);
+    let (name, text) = split_word(rest?);
     Some(Request::Of(name, Ask::Add(text?)))
 }
 
-fn null_line<'a>(behind: Option<&'a [u8]>) -> Option<Request<'a>>
-    ensures { option_map request_seen result ≡ null_by (option_copied behind.entry) }
+fn null_line<'a>(rest: Option<&'a [u8]>) -> Option<Request<'a>>
+    ensures { option_map request_seen result ≡ null_by (option_copied rest.entry) }
 {
-    let (name, behind) = split_word(behind?);
-    alone(Request::Of(name, Ask::Null), behind)
+    let (name, rest) = split_word(rest?);
+    alone(Request::Of(name, Ask::Null), rest)
 }
 
 fn resolve_line<'a>(
     alloc: Global,
-    behind: Option<&'a [u8]>,
+    rest: Option<&'a [u8]>,
 ) -> Result<Option<Request<'a>>, AllocError>
-    ensures { IfOk result (λ found. option_map request_seen found ≡ resolve_by (option_copied behind.entry)) }
+    ensures { IfOk result (λ found. option_map request_seen found ≡ resolve_by (option_copied rest.entry)) }
 {
-    let Some(behind) = behind else {
+    let Some(rest) = rest else {
         return Ok(Some(Request::Resolve(Vec::new(alloc))));
     };
-    match oids(alloc, behind)? {
+    match oids(alloc, rest)? {
         Some(oids) => Ok(Some(Request::Resolve(oids))),
         None => Ok(None),
     }
 }
 
-fn read_line<'a>(alloc: Global, behind: Option<&'a [u8]>) -> Result<Option<Request<'a>>, AllocError>
-    ensures { IfOk result (λ found. option_map request_seen found ≡ read_by (option_copied behind.entry)) }
+fn read_line<'a>(alloc: Global, rest: Option<&'a [u8]>) -> Result<Option<Request<'a>>, AllocError>
+    ensures { IfOk result (λ found. option_map request_seen found ≡ read_by (option_copied rest.entry)) }
 {
-    let Some(behind) = behind else {
+    let Some(rest) = rest else {
         return Ok(None);
     };
-    let (name, text) = split_word(behind);
+    let (name, text) = split_word(rest);
     let Some(text) = text else {
         return Ok(None);
     };

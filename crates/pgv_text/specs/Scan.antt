@@ -65,8 +65,8 @@ closes_here form (c ∷ cs) = form.closes c
 abbrev pub counted : Count → Bool → List (Option (List ℕ)) → Option (List (Option (List ℕ)))
 counted any true values = Some []
 counted any false values = Some values
-counted some at_once values = Some values
-counted two at_once values = cond (length values == 2) (Some values) None
+counted some written_early values = Some values
+counted two written_early values = cond (length values == 2) (Some values) None
 
 -- after an opening bracket, with these values and this closing one
 abbrev pub nest_between : Form → ℕ → List ℕ → List (Option (List ℕ)) → ℕ → Option Nest

@@ -7,7 +7,7 @@ use Rattle.pgv_types.specs.Ty.{builtin}
 use Rattle.pgv_types.specs.Table.{Entry, entries, entry_of, find}
 use Rattle.pgv_types.specs.Suffix.{suffix_of}
 use Rattle.pgv_types.specs.Facts.{element_oid, entry_element, entry_name, entry_display, name_of, display_of, is_a_type}
-use Rattle.pgv_types.proofs.Elements.{element_flat, FlatAt}
+use Rattle.pgv_types.proofs.Elements.{element_flat, none_some, FlatAt}
 
 abbrev is_named : List ℕ → List ℕ → Option ℕ → Bool
 is_named name display None = true
@@ -43,13 +43,6 @@ found_named o [] h = tt
 found_named o (e ∷ es) h =
     let k = and_parts (is_named e.name e.display e.element) (are_named es) h in
     named_choice (e.oid == o) e (find o es) (named_from e.name e.display e.element k.0) (found_named o es k.1)
-
-abbrev is_there : Option ℕ → Bool
-is_there None = false
-is_there (Some o) = true
-
-none_some : {x : ℕ} → None ≡ Some x → ⊥
-none_some e = false≢true (ap is_there e)
 
 named_when : (m : Option Entry) (x : ℕ) → NamedAt m → entry_element m ≡ Some x → (entry_name m ≡ codes "_" ++ entry_name (entry_of x)) × (entry_display m ≡ entry_display (entry_of x))
 named_when None x h q = absurd (none_some q)

@@ -35,13 +35,13 @@ none_alone : (brackets : Bool) (rest : List ℕ) → suffix_of brackets ≡ 85 �
 none_alone true rest e = let q : 91 ≡ 85 = ap first_of e in absurd (omega (arith, q))
 none_alone false rest e = let q : 0 ≡ 85 = ap first_of e in absurd (omega (arith, q))
 
-none_behind : (c : ℕ) (brackets : Bool) (rest : List ℕ) → c ∷ suffix_of brackets ≡ 85 ∷ 38 ∷ rest → ⊥
-none_behind c true rest e = let q : 91 ≡ 38 = ap second_of e in absurd (omega (arith, q))
-none_behind c false rest e = let q : 0 ≡ 38 = ap second_of e in absurd (omega (arith, q))
+none_after : (c : ℕ) (brackets : Bool) (rest : List ℕ) → c ∷ suffix_of brackets ≡ 85 ∷ 38 ∷ rest → ⊥
+none_after c true rest e = let q : 91 ≡ 38 = ap second_of e in absurd (omega (arith, q))
+none_after c false rest e = let q : 0 ≡ 38 = ap second_of e in absurd (omega (arith, q))
 
 whole_begins : (text : List ℕ) (brackets : Bool) → BeginsUnicode (text ++ suffix_of brackets) → BeginsUnicode text
 whole_begins [] brackets h = absurd (none_alone brackets h.0 h.1)
-whole_begins (c ∷ []) brackets h = absurd (none_behind c brackets h.0 h.1)
+whole_begins (c ∷ []) brackets h = absurd (none_after c brackets h.0 h.1)
 whole_begins (c ∷ d ∷ cs) brackets h =
     let e : c ≡ 85 = ap first_of h.1 in
     let f : d ≡ 38 = ap second_of h.1 in
@@ -51,7 +51,7 @@ pub begins_whole : (r : Bool) (text : List ℕ) (brackets : Bool) → Decides r 
 begins_whole r text brackets d =
     Decides-like r (λ (h : BeginsUnicode text). (h.0 ++ suffix_of brackets, ap (λ l. l ++ suffix_of brackets) h.1)) (λ (h : BeginsUnicode (text ++ suffix_of brackets)). whole_begins text brackets h) d
 
-pub same_behind : (a b s : List ℕ) → bytes_eq a b ≡ bytes_eq (a ++ s) (b ++ s)
-same_behind a b s =
+pub same_after : (a b s : List ℕ) → bytes_eq a b ≡ bytes_eq (a ++ s) (b ++ s)
+same_after a b s =
     same_from_decides (bytes_eq a b) (bytes_eq (a ++ s) (b ++ s)) (bytes_eq-Decides a b)
     (Decides-like (bytes_eq (a ++ s) (b ++ s)) (λ (q : a ++ s ≡ b ++ s). append_cancel_right a b s q) (λ (q : a ≡ b). ap (λ l. l ++ s) q) (bytes_eq-Decides (a ++ s) (b ++ s)))

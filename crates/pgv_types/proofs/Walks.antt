@@ -3,7 +3,7 @@ use Rattle.std.proofs.Common.{◌≡◌, ◌≢◌, ◌⊎◌, inl, inr, ℕ, �
 use Rattle.std.specs.List.{flat_map}
 use Rattle.std.proofs.lemmas.Bool.{ne_eqb, eq-eqb}
 use Rattle.std.proofs.lemmas.Bool.Decides.{eqb_tells}
-use Rattle.pgv_types.specs.Names.{Token, letter, quote, switch, token_spelling, switches, AreTokens, Significant, chars_behind, AreSignificant, walk}
+use Rattle.pgv_types.specs.Names.{Token, letter, quote, switch, token_spelling, switches, AreTokens, Significant, chars_after, AreSignificant, walk}
 
 -- an odd number of switches
 abbrev pub odd : List Token → Bool
@@ -35,7 +35,7 @@ chars_of sensitive (switch ∷ tokens) = chars_of (not sensitive) tokens
 odd_push : (front : List Token) (token : Token) → odd (front ++ token ∷ []) ≡ ((switches front + switches (token ∷ [])) % 2 == 1)
 odd_push front token = ap (λ n. n % 2 == 1) (switches_push front token)
 
-pub counted : (tokens front : List Token) → chars_behind front tokens ≡ chars_of (odd front) tokens
+pub counted : (tokens front : List Token) → chars_after front tokens ≡ chars_of (odd front) tokens
 counted [] front = refl
 counted (letter c ∷ tokens) front =
     ap (λ cs. record { char = c; sensitive = odd front } ∷ cs) (counted tokens (front ++ letter c ∷ []) ∙ ap (λ b. chars_of b tokens) (odd_push front (letter c) ∙ simp add-zero))

@@ -231,7 +231,7 @@ impl<'a> PgTypeName<'a> {
     }
 
     /// Whether two names are the same text.
-    #[tactic(auto, using(crate::proofs::Same::same_behind, crate::proofs::Same::bytes_eq_sym))]
+    #[tactic(auto, using(crate::proofs::Same::same_after, crate::proofs::Same::bytes_eq_sym))]
     fn is_same(&self, other: &PgTypeName<'_>) -> bool
         ensures { result ≡ bytes_eq (whole self.now) (whole other.now) }
     {

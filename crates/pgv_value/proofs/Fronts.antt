@@ -18,10 +18,10 @@ front_of_null rest =
     let long : nat_lt (length (to_be_bytes w32 4294967295 ++ rest)) 4 ≡ false = le-ltb _ _ (omega arith) in
     rw long refl
 
-front_by : (bytes behind : List ℕ) (n : ℕ) → nat_lt (length bytes) 4 ≡ false → front_length bytes ≡ n → drop 4 bytes ≡ behind →
-    front bytes ≡ cond {A = Option (Part × List ℕ)} (nat_eq n 4294967295) (Some (None, behind)) (cond (nat_lt 2147483647 n) None (cond (nat_lt (length behind) n) None (Some (Some (take n behind), drop n behind))))
+front_by : (bytes rest_after : List ℕ) (n : ℕ) → nat_lt (length bytes) 4 ≡ false → front_length bytes ≡ n → drop 4 bytes ≡ rest_after →
+    front bytes ≡ cond {A = Option (Part × List ℕ)} (nat_eq n 4294967295) (Some (None, rest_after)) (cond (nat_lt 2147483647 n) None (cond (nat_lt (length rest_after) n) None (Some (Some (take n rest_after), drop n rest_after))))
 unfolding front
-front_by bytes behind n long n_is behind_is = rw (long, n_is, behind_is) refl
+front_by bytes rest_after n long n_is rest_after_is = rw (long, n_is, rest_after_is) refl
 
 front_of_part : (part rest : List ℕ) (n : ℕ) → length part ≡ n → n < 2 ^ 31 → front (to_be_bytes w32 n ++ (part ++ rest)) ≡ Some (Some part, rest)
 front_of_part part rest n len lt =
@@ -48,21 +48,21 @@ AreBytes-take (suc n) [] h = tt
 AreBytes-take (suc n) (x ∷ xs) h = (h.0, AreBytes-take n xs h.1)
 
 -- of a length and what comes after it
-frame_of : (bytes head behind : List ℕ) (n : ℕ) (part : Part) (rest : List ℕ) → bytes ≡ head ++ behind → to_be_bytes w32 n ≡ head → (x y z : Bool) → nat_eq n 4294967295 ≡ x → nat_lt 2147483647 n ≡ y → nat_lt (length behind) n ≡ z →
-    cond {A = Option (Part × List ℕ)} x (Some (None, behind)) (cond y None (cond z None (Some (Some (take n behind), drop n behind)))) ≡ Some (part, rest) → IsFrame bytes part rest
-frame_of bytes head behind n part rest whole head_is true y z null large short e =
+frame_of : (bytes head rest_after : List ℕ) (n : ℕ) (part : Part) (rest : List ℕ) → bytes ≡ head ++ rest_after → to_be_bytes w32 n ≡ head → (x y z : Bool) → nat_eq n 4294967295 ≡ x → nat_lt 2147483647 n ≡ y → nat_lt (length rest_after) n ≡ z →
+    cond {A = Option (Part × List ℕ)} x (Some (None, rest_after)) (cond y None (cond z None (Some (Some (take n rest_after), drop n rest_after)))) ≡ Some (part, rest) → IsFrame bytes part rest
+frame_of bytes head rest_after n part rest whole head_is true y z null large short e =
     let n_is : n ≡ 4294967295 = eqb-true n 4294967295 null in
     let head_null : head ≡ 255 ∷ 255 ∷ 255 ∷ 255 ∷ [] = sym head_is ∙ ap (to_be_bytes w32) n_is in
-    subst (λ (p : Part × List ℕ). IsFrame bytes p.0 p.1) (same_Some {A = Part × List ℕ} (None, behind) (part, rest) e) (whole ∙ ap (λ (xs : List ℕ). xs ++ behind) head_null)
-frame_of bytes head behind n part rest whole head_is false true z null large short e = absurd cc
-frame_of bytes head behind n part rest whole head_is false false true null large short e = absurd cc
-frame_of bytes head behind n part rest whole head_is false false false null large short e =
+    subst (λ (p : Part × List ℕ). IsFrame bytes p.0 p.1) (same_Some {A = Part × List ℕ} (None, rest_after) (part, rest) e) (whole ∙ ap (λ (xs : List ℕ). xs ++ rest_after) head_null)
+frame_of bytes head rest_after n part rest whole head_is false true z null large short e = absurd cc
+frame_of bytes head rest_after n part rest whole head_is false false true null large short e = absurd cc
+frame_of bytes head rest_after n part rest whole head_is false false false null large short e =
     let small : n ≤ 2147483647 = ltb-false 2147483647 n large in
-    let enough : n ≤ length behind = ltb-false (length behind) n short in
-    let len : length (take n behind) ≡ n = length-take-le n behind enough in
-    let parts : bytes ≡ to_be_bytes w32 (length (take n behind)) ++ (take n behind ++ drop n behind) =
-    whole ∙ ap (λ (xs : List ℕ). xs ++ behind) (sym head_is ∙ ap (to_be_bytes w32) (sym len)) ∙ ap (λ (xs : List ℕ). to_be_bytes w32 (length (take n behind)) ++ xs) (sym (take-append-drop n behind)) in
-    subst (λ (p : Part × List ℕ). IsFrame bytes p.0 p.1) (same_Some {A = Part × List ℕ} (Some (take n behind), drop n behind) (part, rest) e) (omega (arith, len), parts)
+    let enough : n ≤ length rest_after = ltb-false (length rest_after) n short in
+    let len : length (take n rest_after) ≡ n = length-take-le n rest_after enough in
+    let parts : bytes ≡ to_be_bytes w32 (length (take n rest_after)) ++ (take n rest_after ++ drop n rest_after) =
+    whole ∙ ap (λ (xs : List ℕ). xs ++ rest_after) (sym head_is ∙ ap (to_be_bytes w32) (sym len)) ∙ ap (λ (xs : List ℕ). to_be_bytes w32 (length (take n rest_after)) ++ xs) (sym (take-append-drop n rest_after)) in
+    subst (λ (p : Part × List ℕ). IsFrame bytes p.0 p.1) (same_Some {A = Part × List ℕ} (Some (take n rest_after), drop n rest_after) (part, rest) e) (omega (arith, len), parts)
 
 front_needs_four : (bytes : List ℕ) (part : Part) (rest : List ℕ) → nat_lt (length bytes) 4 ≡ true → front bytes ≡ Some (part, rest) → ⊥
 unfolding front
@@ -91,20 +91,20 @@ front_of_cut : (bytes : List ℕ) (n : ℕ) → nat_lt (length bytes) 4 ≡ fals
 unfolding front
 front_of_cut bytes n enough n_is not_null small cut = (rw (enough, n_is, not_null, small, cut) refl, rw (enough, n_is, small) refl)
 
-cut_off : (bytes behind : List ℕ) (part : Part) (few : Bool) → nat_lt (length bytes) 4 ≡ few → 0 < length behind → IsFrame (bytes ++ behind) part [] → (front bytes ≡ None) × (frame_fault bytes ≡ Short)
-cut_off bytes behind part true few more h = front_of_few bytes few
-cut_off bytes behind None false enough more h =
+cut_off : (bytes rest_after : List ℕ) (part : Part) (few : Bool) → nat_lt (length bytes) 4 ≡ few → 0 < length rest_after → IsFrame (bytes ++ rest_after) part [] → (front bytes ≡ None) × (frame_fault bytes ≡ Short)
+cut_off bytes rest_after part true few more h = front_of_few bytes few
+cut_off bytes rest_after None false enough more h =
     let long : 4 ≤ length bytes = ltb-false (length bytes) 4 enough in
     let len = ap length h in
-    absurd (omega (arith, length-append bytes behind))
-cut_off bytes behind (Some part) false enough more h =
+    absurd (omega (arith, length-append bytes rest_after))
+cut_off bytes rest_after (Some part) false enough more h =
     let long : 4 ≤ length bytes = ltb-false (length bytes) 4 enough in
     let small : length part < 2 ^ 31 = h.0 in
-    let len : length (bytes ++ behind) ≡ length (to_be_bytes w32 (length part) ++ (part ++ [])) = ap length h.1 in
-    let four : take 4 bytes ≡ to_be_bytes w32 (length part) = sym (take-append-le 4 bytes behind long) ∙ ap (λ (xs : List ℕ). take 4 xs) h.1 in
+    let len : length (bytes ++ rest_after) ≡ length (to_be_bytes w32 (length part) ++ (part ++ [])) = ap length h.1 in
+    let four : take 4 bytes ≡ to_be_bytes w32 (length part) = sym (take-append-le 4 bytes rest_after long) ∙ ap (λ (xs : List ℕ). take 4 xs) h.1 in
     let n_is : front_length bytes ≡ length part = ap (from_be_bytes w32) four ∙ from_be_bytes-to_be_bytes_4 (length part) (omega arith) in
     front_of_cut bytes (length part) enough n_is (ne_eqb (length part) 4294967295 (λ e. omega arith)) (le-ltb _ _ (omega arith))
-    (lt-ltb _ _ (omega (arith, length-append bytes behind, length-append part [], length-drop 4 bytes)))
+    (lt-ltb _ _ (omega (arith, length-append bytes rest_after, length-append part [], length-drop 4 bytes)))
 
-pub cut_is_short : (bytes behind : List ℕ) (part : Part) → 0 < length behind → IsFrame (bytes ++ behind) part [] → (front bytes ≡ None) × (frame_fault bytes ≡ Short)
-cut_is_short bytes behind part more h = cut_off bytes behind part _ refl more h
+pub cut_is_short : (bytes rest_after : List ℕ) (part : Part) → 0 < length rest_after → IsFrame (bytes ++ rest_after) part [] → (front bytes ≡ None) × (frame_fault bytes ≡ Short)
+cut_is_short bytes rest_after part more h = cut_off bytes rest_after part _ refl more h

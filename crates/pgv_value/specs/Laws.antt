@@ -14,4 +14,4 @@ FrontIsFrame = (bytes : List ℕ) (part : Part) (rest : List ℕ) → AreBytes b
 
 -- nothing is found in front of a frame that is cut off, and the fault is that the bytes end too early
 abbrev pub CutFrameIsShort : Type 0
-CutFrameIsShort = (bytes behind : List ℕ) (part : Part) → 0 < length behind → IsFrame (bytes ++ behind) part [] → (front bytes ≡ None) × (frame_fault bytes ≡ Short)
+CutFrameIsShort = (bytes rest_after : List ℕ) (part : Part) → 0 < length rest_after → IsFrame (bytes ++ rest_after) part [] → (front bytes ≡ None) × (frame_fault bytes ≡ Short)

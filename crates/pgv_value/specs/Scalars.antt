@@ -22,7 +22,7 @@ scalar binary text t Text (Some bytes) = if is_utf8 bytes then text bytes else N
 -- the first byte, which is zero or not; anything after it
 abbrev pub first_is_set : List ℕ → Option Bool
 first_is_set [] = None
-first_is_set (byte ∷ behind) = Some (not (byte == 0))
+first_is_set (byte ∷ rest_after) = Some (not (byte == 0))
 
 -- sixteen bytes
 abbrev pub sixteen : List ℕ → Option (List ℕ)

@@ -1,6 +1,8 @@
 -- Lists of arguments: one more, and all filled.
 use Rattle.std.proofs.Common.{◌≡◌, ℕ, ◌+◌, suc, zero, List, [], ◌∷◌, ◌++◌, length, take, drop, refl, sym, ◌∙◌, ap, subst, arith, append_assoc, append-nil, replicate, sum, Some}
-use Rattle.std.proofs.lemmas.Grind.{common_steps}
+use Rattle.std.proofs.lemmas.Grind.{flat_map-append}
+use Rattle.std.proofs.lemmas.List.{map-append}
+use Rattle.std.proofs.lemmas.List.Sums.{sum_by-cons}
 use Rattle.std.proofs.Math.Numerals.{one-add}
 use Rattle.pgv_types.specs.Ty.{Ty}
 use Rattle.pgv_types.specs.declared.oid.Oid.{Oid}
@@ -12,12 +14,12 @@ use Rattle.pgv_buf.specs.Proper.{width-append, shown-append, first_type}
 use Rattle.pgv_wire.specs.Arguments.{Argument, Framed, all_tokens, types_in, counts_in, framed, early, filled_arguments, filled_frame}
 use Rattle.pgv_codec.specs.Writing.{write}
 use Rattle.pgv_wire.specs.KeptView.{Stands, arguments_of}
-use Rattle.pgv_wire.specs.History.{told}
+use Rattle.pgv_wire.specs.History.{last_filling}
 use Rattle.pgv_wire.proofs.Framed.{OfImage, images_more, images_filled, left_more, left_filled}
 use Rattle.pgv_wire.proofs.Split.{split_back}
 
 pub nothing_stands : Stands [] [] [] []
-nothing_stands = record { types_are = refl; counts_are = refl; tokens_are = refl; images_are = ([], tt); left_are = (told [], record { arguments_are = refl; as_many_types = refl; as_many_oids = refl }) }
+nothing_stands = record { types_are = refl; counts_are = refl; tokens_are = refl; images_are = ([], tt); left_are = (last_filling [], record { arguments_are = refl; as_many_types = refl; as_many_oids = refl }) }
 
 pub arguments_are : {args : List Argument} {hs : List Ty} {ns : List ℕ} {ts : List Cell} → Stands args hs ns ts → arguments_of hs ts ≡ args
 unfolding arguments_of
@@ -47,26 +49,14 @@ is_before a c = (omega (arith, width-append a c), omega (arith, hole_count-appen
 pub between : (a c : List Cell) → between_marks (mark_of a) (mark_of (a ++ c)) ≡ mark_of c
 between a c = same_mark (omega (arith, width-append a c)) (omega (arith, hole_count-append a c)) (omega (arith, slot_count-append a c))
 
-types_in-push : (args : List Argument) (t : Ty) (f : List Cell) → types_in (args ++ (t, f) ∷ []) ≡ types_in args ++ t ∷ []
-types_in-push [] t f = refl
-types_in-push (a ∷ args) t f = ap (λ r. a.0 ∷ r) (types_in-push args t f)
-
-all_tokens-push : (args : List Argument) (t : Ty) (f : List Cell) → all_tokens (args ++ (t, f) ∷ []) ≡ all_tokens args ++ f
-all_tokens-push [] t f = append-nil f
-all_tokens-push (a ∷ args) t f = ap (λ r. a.1 ++ r) (all_tokens-push args t f) ∙ sym (append_assoc a.1 (all_tokens args) f)
-
-counts_in-push : (args : List Argument) (t : Ty) (f : List Cell) → counts_in (args ++ (t, f) ∷ []) ≡ counts_in args ++ slot_count f ∷ []
-counts_in-push [] t f = refl
-counts_in-push (a ∷ args) t f = ap (λ r. slot_count a.1 ∷ r) (counts_in-push args t f)
-
 pub one_more :
     {args : List Argument} {hs : List Ty} {ns : List ℕ} {ts : List Cell} → Stands args hs ns ts → (f : Framed) → OfImage f.1 →
     (hs' : List Ty) (ns' : List ℕ) (ts' : List Cell) → hs' ≡ hs ++ f.0 ∷ [] → ns' ≡ ns ++ slot_count (blank f.1) ∷ [] → ts' ≡ ts ++ blank f.1 →
     Stands (args ++ (f.0, blank f.1) ∷ []) hs' ns' ts'
 one_more {args} s f i hs' ns' ts' d k g = record {
-  types_are = d ∙ (ap (λ r. r ++ f.0 ∷ []) s.types_are ∙ sym (types_in-push args f.0 (blank f.1)));
-  counts_are = k ∙ (ap (λ r. r ++ slot_count (blank f.1) ∷ []) s.counts_are ∙ sym (counts_in-push args f.0 (blank f.1)));
-  tokens_are = g ∙ (ap (λ r. r ++ blank f.1) s.tokens_are ∙ sym (all_tokens-push args f.0 (blank f.1)));
+  types_are = d ∙ (ap (λ r. r ++ f.0 ∷ []) s.types_are ∙ sym (map-append (λ (a : Argument). a.0) args ((f.0, blank f.1) ∷ [])));
+  counts_are = k ∙ (ap (λ r. r ++ slot_count (blank f.1) ∷ []) s.counts_are ∙ sym (map-append (λ (a : Argument). slot_count a.1) args ((f.0, blank f.1) ∷ [])));
+  tokens_are = g ∙ (ap (λ r. r ++ blank f.1) s.tokens_are ∙ sym (flat_map-append (λ (a : Argument). a.1) args ((f.0, blank f.1) ∷ []) ∙ ap (λ r. all_tokens args ++ r) (append-nil (blank f.1))));
   images_are = images_more args f s.images_are i;
   left_are = left_more args f s.left_are;
 }
@@ -80,9 +70,6 @@ no_more (suc n) = refl
 none_left : (n : ℕ) → drop n (let xs : List Oid = [] in xs) ≡ []
 none_left zero = refl
 none_left (suc n) = refl
-
-sum_first : (n : ℕ) (ns : List ℕ) → sum (n ∷ ns) ≡ n + sum ns
-sum_first n ns = grind (arith, common_steps)
 
 pub fill_holes-append :
     (os : List Oid) (a c : List Cell) → fill_holes os (a ++ c) ≡ fill_holes (take (hole_count a) os) a ++ fill_holes (drop (hole_count a) os) c
@@ -176,14 +163,6 @@ late_is_early (a ∷ args) ps os =
     ∙ (ap (λ x. x ++ shown (all_tokens (filled_arguments args (rest_types ps) r))) (shown-frame (slot_count a.1) p o a.1 refl) ∙ ap (λ x. write (Some p) o (plain a.1) ++ x) (late_is_early args (rest_types ps) r)
     ∙ sym (ap (λ n. write (Some p) (take n os) (plain a.1) ++ early (framed args) (rest_types ps) (drop n os)) (holes-plain a.1)))
 
-pub length-types_in : (args : List Argument) → length (types_in args) ≡ length args
-length-types_in [] = refl
-length-types_in (a ∷ args) = ap suc (length-types_in args)
-
-pub length-counts_in : (args : List Argument) → length (counts_in args) ≡ length args
-length-counts_in [] = refl
-length-counts_in (a ∷ args) = ap suc (length-counts_in args)
-
 pub sum-counts_in : (args : List Argument) → sum (counts_in args) ≡ slot_count (all_tokens args)
 sum-counts_in [] = refl
-sum-counts_in (a ∷ args) = sum_first (slot_count a.1) (counts_in args) ∙ (ap (λ n. slot_count a.1 + n) (sum-counts_in args) ∙ sym (slot_count-append a.1 (all_tokens args)))
+sum-counts_in (a ∷ args) = sum_by-cons (λ n. n) (slot_count a.1) (counts_in args) ∙ (ap (λ n. slot_count a.1 + n) (sum-counts_in args) ∙ sym (slot_count-append a.1 (all_tokens args)))

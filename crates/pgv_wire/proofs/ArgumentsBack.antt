@@ -16,7 +16,7 @@ use Rattle.pgv_codec.specs.Writing.{write}
 use Rattle.pgv_codec.specs.Back.{AreOids, SlotsFit, ImageFits, ReadsBack}
 use Rattle.pgv_codec.specs.BackParts.{guarded, SlotsFit-back, AreOids-take, AreOids-drop}
 use Rattle.pgv_wire.specs.Given.{Given, zeros, given_by, given_none, given_in, parts_given, ArgumentReadsBack}
-use Rattle.pgv_wire.specs.History.{Call, told, after, added_in, blanks}
+use Rattle.pgv_wire.specs.History.{Call, last_filling, after, added_in, blanks}
 use Rattle.pgv_codec.specs.Image.{Image, null_image, image_of, limit, frame_of}
 use Rattle.pgv_wire.specs.Parts.{AreFrames, ReadAs, part_in, parts_in}
 use Rattle.pgv_codec.specs.Writing.{written_part}
@@ -61,12 +61,12 @@ parts_left (f ∷ fs) since (i ∷ is) ps os h =
     ∙ (ap (λ (n : ℕ). written_part i (Some (first_type ps)) (take n os) ∷ rest n) many
     ∙ ap (λ (r : List Part). written_part i (Some (first_type ps)) (take (tokens_holes f.1) os) ∷ r) (parts_left fs since is (rest_types ps) (drop (tokens_holes f.1) os) h.1))
 
-pub parts_told : (calls : List Call) (is : List Image) → AreFrames is (added_in calls) → parts_in is (after [] calls) ≡ parts_given is (given_in (told calls))
+pub parts_told : (calls : List Call) (is : List Image) → AreFrames is (added_in calls) → parts_in is (after [] calls) ≡ parts_given is (given_in (last_filling calls))
 parts_told calls is h =
     let left = left_told calls in
-    let fs_are : added_in calls ≡ (told calls).filled ++ (told calls).since = sym (only_added calls) ∙ framed-left (after [] calls) (told calls) left in
+    let fs_are : added_in calls ≡ (last_filling calls).filled ++ (last_filling calls).since = sym (only_added calls) ∙ framed-left (after [] calls) (last_filling calls) left in
     ap (λ (args : List Argument). parts_in is args) left
-    ∙ parts_left (told calls).filled (told calls).since is (told calls).types (told calls).oids (subst (λ (fs : List Framed). AreFrames is fs) fs_are h)
+    ∙ parts_left (last_filling calls).filled (last_filling calls).since is (last_filling calls).types (last_filling calls).oids (subst (λ (fs : List Framed). AreFrames is fs) fs_are h)
 
 -- ---- one argument
 
@@ -129,11 +129,11 @@ module _ {A M : Type 0} (hint : A → ℕ) (image : A → Option Image) (reading
           let j_there = image_at is (added_in calls) place a j frames there frame_is in
           let a_there : slice_get (framed (after [] calls)) place ≡ Some a = ap (λ (fs : List Framed). slice_get fs place) (only_added calls) ∙ there in
           let whole = image_fits j a.1 frame_is (slots_fit_at (after [] calls) place a proper a_there) in
-          let own = oids_fit (told calls).filled (told calls).since (told calls).types (told calls).oids place g small given in
+          let own = oids_fit (last_filling calls).filled (last_filling calls).since (last_filling calls).types (last_filling calls).oids place g small given in
           let framed_too = subst (λ (fs : List Framed). AreFrames is fs) (sym (only_added calls)) frames in (
             parts_in is (after [] calls),
             written_part j g.parameter g.oids,
             frames_read (after [] calls) is framed_too proper,
-            ap (λ (ps : List Part). slice_get ps place) (parts_told calls is frames) ∙ part_at is (given_in (told calls)) place j g j_there given,
+            ap (λ (ps : List Part). slice_get ps place) (parts_told calls is frames) ∙ part_at is (given_in (last_filling calls)) place j g j_there given,
             law v j t g.parameter g.oids o_is whole own fit,
           )

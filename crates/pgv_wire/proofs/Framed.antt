@@ -1,6 +1,7 @@
 -- What additions and fillings keep of arguments: their frames without what these show, that each is the frame of an
 -- image, and that each shows what some types and OIDs write, or is not filled yet.
 use Rattle.std.proofs.Common.{◌≡◌, ℕ, ◌+◌, suc, Bool, true, false, cond, List, [], ◌∷◌, ◌++◌, length, drop, take, replicate, Option, Some, None, refl, sym, ◌∙◌, ap, subst, append_assoc, append-nil}
+use Rattle.std.proofs.lemmas.List.{length-map, map-append}
 use Rattle.pgv_types.specs.Ty.{Ty}
 use Rattle.pgv_types.specs.declared.oid.Oid.{Oid}
 use Rattle.pgv_buf.specs.Tokens.{width, tokens_width, Token, byte, hole, slot, tokens_holes, Cell, fixed, hole_cell, slot_cell, be4, blank, plain, hole_count, slot_count, chosen}
@@ -8,7 +9,7 @@ use Rattle.pgv_buf.specs.Blank.{plain-append, plain-blank, holes-plain}
 use Rattle.pgv_buf.specs.Fill.{first_number, rest_numbers, fill_holes, fill_slots, rest_types}
 use Rattle.pgv_buf.specs.Proper.{first_type}
 use Rattle.pgv_wire.specs.Arguments.{Argument, Framed, framed, all_tokens, filled_frame, filled_arguments}
-use Rattle.pgv_wire.specs.History.{blanks, Told, with_added, with_filled, left_by, joined_frames, LeftBySome}
+use Rattle.pgv_wire.specs.History.{blanks, LastFilling, with_added, with_filled, left_by, joined_frames, LeftBySome}
 use Rattle.pgv_codec.specs.Image.{Image, frame_of, frame}
 use Rattle.pgv_wire.specs.Parts.{AreFrames, OfImages}
 
@@ -33,14 +34,6 @@ framed-filled (a ∷ args) ps os =
 pub framed-blanks : (fs : List Framed) → framed (blanks fs) ≡ fs
 framed-blanks [] = refl
 framed-blanks (f ∷ fs) = ap (λ (t : List Token). (f.0, t) ∷ framed (blanks fs)) (plain-blank f.1) ∙ ap (λ (r : List Framed). (f.0, f.1) ∷ r) (framed-blanks fs)
-
-pub framed-append : (a c : List Argument) → framed (a ++ c) ≡ framed a ++ framed c
-framed-append [] c = refl
-framed-append (x ∷ a) c = ap (λ (r : List Framed). (x.0, plain x.1) ∷ r) (framed-append a c)
-
-pub blanks-append : (a c : List Framed) → blanks (a ++ c) ≡ blanks a ++ blanks c
-blanks-append [] c = refl
-blanks-append (x ∷ a) c = ap (λ (r : List Argument). (x.0, blank x.1) ∷ r) (blanks-append a c)
 
 -- a filling sees nothing of what was shown
 
@@ -78,7 +71,7 @@ arguments-same (a ∷ args) ps os =
 
 framed-stands : (a s : List Framed) (ps : List Ty) (os : List Oid) → framed (filled_arguments (blanks a) ps os ++ blanks s) ≡ a ++ s
 framed-stands a s ps os =
-    framed-append (filled_arguments (blanks a) ps os) (blanks s)
+    map-append (λ (x : Argument). (x.0, plain x.1)) (filled_arguments (blanks a) ps os) (blanks s)
     ∙ (ap (λ r. r ++ framed (blanks s)) (framed-filled (blanks a) ps os ∙ framed-blanks a) ∙ ap (λ r. a ++ r) (framed-blanks s))
 
 pub joined-plain : (args : List Argument) → plain (all_tokens args) ≡ joined_frames (framed args)
@@ -93,23 +86,19 @@ width-plain (slot_cell d cs s ∷ a) = ap (λ n. length d + n) (width-plain a)
 
 -- ---- what a filling and later additions leave
 
-pub left-added : (args : List Argument) (h : Told) (f : Framed) → args ≡ left_by h → args ++ (f.0, blank f.1) ∷ [] ≡ left_by (with_added h f)
+pub left-added : (args : List Argument) (h : LastFilling) (f : Framed) → args ≡ left_by h → args ++ (f.0, blank f.1) ∷ [] ≡ left_by (with_added h f)
 left-added args h f e =
     let a : List Argument = filled_arguments (blanks h.filled) h.types h.oids in
-    ap (λ (r : List Argument). r ++ (f.0, blank f.1) ∷ []) e ∙ (append_assoc a (blanks h.since) ((f.0, blank f.1) ∷ []) ∙ ap (λ r. a ++ r) (sym (blanks-append h.since (f ∷ []))))
+    ap (λ (r : List Argument). r ++ (f.0, blank f.1) ∷ []) e ∙ (append_assoc a (blanks h.since) ((f.0, blank f.1) ∷ []) ∙ ap (λ r. a ++ r) (sym (map-append (λ (x : Framed). (x.0, blank x.1)) h.since (f ∷ []))))
 
-pub left-filled : (args : List Argument) (h : Told) (ps : List Ty) (os : List Oid) → args ≡ left_by h → filled_arguments args ps os ≡ left_by (with_filled h ps os)
+pub left-filled : (args : List Argument) (h : LastFilling) (ps : List Ty) (os : List Oid) → args ≡ left_by h → filled_arguments args ps os ≡ left_by (with_filled h ps os)
 left-filled args h ps os e =
     arguments-same args ps os
     ∙ (ap (λ r. filled_arguments (blanks (framed r)) ps os) e
     ∙ (ap (λ f. filled_arguments (blanks f) ps os) (framed-stands h.filled h.since h.types h.oids) ∙ sym (append-nil (filled_arguments (blanks (h.filled ++ h.since)) ps os))))
 
-pub framed-left : (args : List Argument) (h : Told) → args ≡ left_by h → framed args ≡ h.filled ++ h.since
+pub framed-left : (args : List Argument) (h : LastFilling) → args ≡ left_by h → framed args ≡ h.filled ++ h.since
 framed-left args h e = ap framed e ∙ framed-stands h.filled h.since h.types h.oids
-
-length-framed : (args : List Argument) → length (framed args) ≡ length args
-length-framed [] = refl
-length-framed (a ∷ args) = ap suc (length-framed args)
 
 -- one more after the others
 pub left_more : (args : List Argument) (f : Framed) → LeftBySome args → LeftBySome (args ++ (f.0, blank f.1) ∷ [])
@@ -129,7 +118,7 @@ left_filled args ps os n m l =
       with_filled l.0 ps os,
       record {
         arguments_are = left-filled args l.0 ps os l.1.arguments_are;
-        as_many_types = n ∙ (sym (length-framed args) ∙ ap length fs);
+        as_many_types = n ∙ (sym (length-map args (λ (x : Argument). (x.0, plain x.1))) ∙ ap length fs);
         as_many_oids = m ∙ (sym (holes-plain (all_tokens args)) ∙ ap tokens_holes (joined-plain args ∙ ap joined_frames fs));
       },
     )
@@ -159,7 +148,7 @@ are-more (j ∷ is) (g ∷ fs) i f h e = (h.0, are-more is fs i f h.1 e)
 pub images_more : (args : List Argument) (f : Framed) → OfImages args → OfImage f.1 → OfImages (args ++ (f.0, blank f.1) ∷ [])
 images_more args f h k = (
   h.0 ++ k.0 ∷ [],
-  subst (λ (fs : List Framed). AreFrames (h.0 ++ k.0 ∷ []) fs) (sym (framed-append args ((f.0, blank f.1) ∷ []) ∙ ap (λ (r : List Framed). framed args ++ r) (framed-blanks (f ∷ []))))
+  subst (λ (fs : List Framed). AreFrames (h.0 ++ k.0 ∷ []) fs) (sym (map-append (λ (x : Argument). (x.0, plain x.1)) args ((f.0, blank f.1) ∷ []) ∙ ap (λ (r : List Framed). framed args ++ r) (framed-blanks (f ∷ []))))
       (are-more h.0 (framed args) k.0 f h.1 k.1),
 )
 

@@ -1,14 +1,16 @@
 -- What any list of calls leaves.
 use Rattle.std.proofs.Common.{◌≡◌, ℕ, List, [], ◌∷◌, ◌++◌, take, drop, refl, sym, ◌∙◌, ap, subst, append_assoc, append-nil}
+use Rattle.std.proofs.lemmas.Grind.{flat_map-append}
+use Rattle.std.proofs.lemmas.List.{map-append}
 use Rattle.pgv_types.specs.Ty.{Ty}
 use Rattle.pgv_types.specs.declared.oid.Oid.{Oid}
 use Rattle.pgv_buf.specs.Tokens.{Cell, bytes, tokens_width, fixed, hole_cell, slot_cell, blank, plain, shown, width, hole_types_of, hole_count}
 use Rattle.pgv_buf.specs.Proper.{shown-append, first_type}
 use Rattle.pgv_buf.specs.Fill.{rest_types}
 use Rattle.pgv_wire.specs.Arguments.{Argument, Framed, framed, all_tokens, types_in, early, filled_arguments}
-use Rattle.pgv_wire.specs.History.{LeftBySome, WrittenAtOnce, left_by, with_added, with_filled, Call, adds, fills, is_refused, blanks, after, Told, told_by, told, bytes_by, added_in, joined_frames, framed_types, holes_in, lengths_in, ArePlain, joined_bytes}
+use Rattle.pgv_wire.specs.History.{LeftBySome, WrittenEarly, left_by, with_added, with_filled, Call, adds, fills, is_refused, blanks, after, LastFilling, last_filling_by, last_filling, bytes_by, added_in, joined_frames, framed_types, holes_in, lengths_in, ArePlain, joined_bytes}
 use Rattle.pgv_wire.proofs.ArgumentLists.{late_is_early, width-frame}
-use Rattle.pgv_wire.proofs.Framed.{width-plain, framed-filled, framed-blanks, framed-append, arguments-same, joined-plain, left-added, left-filled, framed-left}
+use Rattle.pgv_wire.proofs.Framed.{width-plain, framed-filled, framed-blanks, arguments-same, joined-plain, left-added, left-filled, framed-left}
 
 -- a second filling answers as if it were the only one
 pub filled_over : (args : List Argument) (ps ps' : List Ty) (os os' : List Oid) → filled_arguments (filled_arguments args ps os) ps' os' ≡ filled_arguments args ps' os'
@@ -16,30 +18,26 @@ filled_over args ps ps' os os' =
     arguments-same (filled_arguments args ps os) ps' os'
     ∙ (ap (λ f. filled_arguments (blanks f) ps' os') (framed-filled args ps os) ∙ sym (arguments-same args ps' os'))
 
-all_tokens-append : (a c : List Argument) → all_tokens (a ++ c) ≡ all_tokens a ++ all_tokens c
-all_tokens-append [] c = refl
-all_tokens-append (x ∷ a) c = ap (λ r. x.1 ++ r) (all_tokens-append a c) ∙ sym (append_assoc x.1 (all_tokens a) (all_tokens c))
-
-stands-shown : (h : Told) → shown (all_tokens (left_by h)) ≡ bytes_by h
+stands-shown : (h : LastFilling) → shown (all_tokens (left_by h)) ≡ bytes_by h
 stands-shown h =
     let a = filled_arguments (blanks h.filled) h.types h.oids in
-    ap shown (all_tokens-append a (blanks h.since))
+    ap shown (flat_map-append (λ (x : Argument). x.1) a (blanks h.since))
     ∙ (shown-append (all_tokens a) (all_tokens (blanks h.since))
     ∙ ap (λ r. r ++ shown (all_tokens (blanks h.since))) (late_is_early (blanks h.filled) h.types h.oids ∙ ap (λ f. early f h.types h.oids) (framed-blanks h.filled)))
 
-after-left : (calls : List Call) (args : List Argument) (h : Told) → args ≡ left_by h → after args calls ≡ left_by (told_by h calls)
+after-left : (calls : List Call) (args : List Argument) (h : LastFilling) → args ≡ left_by h → after args calls ≡ left_by (last_filling_by h calls)
 after-left [] args h e = e
 after-left (adds f ∷ calls) args h e = after-left calls (args ++ (f.0, blank f.1) ∷ []) (with_added h f) (left-added args h f e)
 after-left (fills ps os ∷ calls) args h e = after-left calls (filled_arguments args ps os) (with_filled h ps os) (left-filled args h ps os e)
 after-left (is_refused ∷ calls) args h e = after-left calls args h e
 
 -- the arguments after any list of calls
-pub left_told : (calls : List Call) → after [] calls ≡ left_by (told calls)
+pub left_told : (calls : List Call) → after [] calls ≡ left_by (last_filling calls)
 left_told calls = after-left calls [] (record { filled = []; types = []; oids = []; since = [] }) refl
 
--- what a filling and later additions have left shows what is written at once
-pub at_once : (args : List Argument) → LeftBySome args → WrittenAtOnce args
-at_once args l = (
+-- what a filling and later additions have left shows what is written early
+pub written_early : (args : List Argument) → LeftBySome args → WrittenEarly args
+written_early args l = (
   l.0,
   framed-left args l.0 l.1.arguments_are,
   l.1.as_many_types,
@@ -47,8 +45,8 @@ at_once args l = (
   ap (λ a. shown (all_tokens a)) l.1.arguments_are ∙ stands-shown l.0,
 )
 
-pub history_told : (calls : List Call) → shown (all_tokens (after [] calls)) ≡ bytes_by (told calls)
-history_told calls = ap (λ a. shown (all_tokens a)) (left_told calls) ∙ stands-shown (told calls)
+pub history_told : (calls : List Call) → shown (all_tokens (after [] calls)) ≡ bytes_by (last_filling calls)
+history_told calls = ap (λ a. shown (all_tokens a)) (left_told calls) ∙ stands-shown (last_filling calls)
 
 -- ---- what doesn't depend on what is filled in
 
@@ -56,7 +54,7 @@ after-framed : (calls : List Call) (args : List Argument) → framed (after args
 after-framed [] args = sym (append-nil (framed args))
 after-framed (adds f ∷ calls) args =
     after-framed calls (args ++ (f.0, blank f.1) ∷ [])
-    ∙ (ap (λ (r : List Framed). r ++ added_in calls) (framed-append args ((f.0, blank f.1) ∷ []) ∙ ap (λ (r : List Framed). framed args ++ r) (framed-blanks (f ∷ [])))
+    ∙ (ap (λ (r : List Framed). r ++ added_in calls) (map-append (λ (x : Argument). (x.0, plain x.1)) args ((f.0, blank f.1) ∷ []) ∙ ap (λ (r : List Framed). framed args ++ r) (framed-blanks (f ∷ [])))
     ∙ append_assoc (framed args) (f ∷ []) (added_in calls))
 after-framed (fills ps os ∷ calls) args =
     after-framed calls (filled_arguments args ps os) ∙ ap (λ (r : List Framed). r ++ added_in calls) (framed-filled args ps os)

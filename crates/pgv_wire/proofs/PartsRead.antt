@@ -17,7 +17,7 @@ use Rattle.pgv_codec.specs.Writing.{written_part, image_holes}
 use Rattle.pgv_wire.proofs.ArgumentLists.{shown-frame}
 use Rattle.pgv_wire.proofs.Framed.{width-plain}
 use Rattle.pgv_wire.proofs.Histories.{shown_plain}
-use Rattle.pgv_wire.proofs.Split.{behind_bytes, cut}
+use Rattle.pgv_wire.proofs.Split.{after_bytes, cut}
 
 -- one frame is found in front
 frame_found : (i : Image) (c : List Cell) (rest : List ℕ) → frame_of (Some i) ≡ Some (plain c) → Proper c → front (shown c ++ rest) ≡ Some (part_in i c, rest)
@@ -26,7 +26,7 @@ frame_found null_image c rest e p =
     frame_in_front (shown c ++ rest) None rest (ap (λ (r : List ℕ). r ++ rest) (shown_plain c (255 ∷ 255 ∷ 255 ∷ 255 ∷ []) tokens))
 frame_found (image_of ts) c rest e p =
     let k = cut ts (plain c) _ refl e in
-    let b = behind_bytes (be4 (tokens_width ts)) ts c k.1 in
+    let b = after_bytes (be4 (tokens_width ts)) ts c k.1 in
     let q : Proper b.cells = subst (λ (r : List Cell). Proper r) b.whole p in
     let len : length (shown b.cells) ≡ tokens_width ts = length-shown b.cells q ∙ (width-plain b.cells ∙ ap tokens_width b.tokens) in
     let bytes_are : shown c ≡ be4 (tokens_width ts) ++ shown b.cells = ap shown b.whole in

@@ -7,7 +7,7 @@ use Rattle.pgv_buf.specs.Tokens.{Token, bytes, be4, tokens_width, Cell, fixed, h
 use Rattle.pgv_wire.specs.Arguments.{Argument, framed, all_tokens, types_in}
 use Rattle.pgv_codec.specs.Image.{Image, null_image, image_of, frame_of}
 use Rattle.pgv_wire.specs.Parts.{AreFrames}
-use Rattle.pgv_wire.specs.Split.{as_wide, behind_wide, bytes_by_length, frame_width, split}
+use Rattle.pgv_wire.specs.Split.{as_wide, after_wide, bytes_by_length, frame_width, split}
 use Rattle.pgv_wire.proofs.Framed.{width-plain}
 
 -- ---- how a frame begins
@@ -18,20 +18,20 @@ pub record Behind (xs : List ℕ) (ts : List Token) (c : List Cell) : Type 0 whe
   pub whole : c ≡ fixed_bytes xs ++ cells
   pub tokens : plain cells ≡ ts
 
-pub behind_bytes : (xs : List ℕ) (ts : List Token) (c : List Cell) → plain c ≡ bytes xs ++ ts → Behind xs ts c
-behind_bytes [] ts c e = record { cells = c; whole = refl; tokens = e }
-behind_bytes (x ∷ xs) ts [] e = absurd cc
-behind_bytes (x ∷ xs) ts (fixed y ∷ c) e =
+pub after_bytes : (xs : List ℕ) (ts : List Token) (c : List Cell) → plain c ≡ bytes xs ++ ts → Behind xs ts c
+after_bytes [] ts c e = record { cells = c; whole = refl; tokens = e }
+after_bytes (x ∷ xs) ts [] e = absurd cc
+after_bytes (x ∷ xs) ts (fixed y ∷ c) e =
     let head : y ≡ x = cc in
     let tail : plain c ≡ bytes xs ++ ts = cc in
-    let b = behind_bytes xs ts c tail in
+    let b = after_bytes xs ts c tail in
     record {
       cells = b.cells;
       whole = ap (λ n. fixed n ∷ c) head ∙ ap (λ (r : List Cell). fixed x ∷ r) b.whole;
       tokens = b.tokens;
     }
-behind_bytes (x ∷ xs) ts (hole_cell t s ∷ c) e = absurd cc
-behind_bytes (x ∷ xs) ts (slot_cell d cs s ∷ c) e = absurd cc
+after_bytes (x ∷ xs) ts (hole_cell t s ∷ c) e = absurd cc
+after_bytes (x ∷ xs) ts (slot_cell d cs s ∷ c) e = absurd cc
 
 -- the image's width is small enough, and its frame is its width and its tokens
 pub cut : (ts us : List Token) (b : Bool) → nat_le (tokens_width ts) 2147483647 ≡ b → cond b (Some (bytes (be4 (tokens_width ts)) ++ ts)) None ≡ Some us → (tokens_width ts ≤ 2147483647) × (us ≡ bytes (be4 (tokens_width ts)) ++ ts)
@@ -52,11 +52,11 @@ nothing_there c e = width-plain c ∙ ap tokens_width e
 headed : (i : Image) (c : List Cell) → frame_of (Some i) ≡ Some (plain c) → Headed c
 headed null_image c e =
     let tokens : plain c ≡ bytes (be4 4294967295) ++ [] = cc in
-    let b = behind_bytes (be4 4294967295) [] c tokens in
+    let b = after_bytes (be4 4294967295) [] c tokens in
     record { number = 4294967295; cells = b.cells; whole = b.whole; fits = omega arith; wide = ap (λ n. 4 + n) (sym (nothing_there b.cells b.tokens)) }
 headed (image_of ts) c e =
     let k = cut ts (plain c) _ refl e in
-    let b = behind_bytes (be4 (tokens_width ts)) ts c k.1 in
+    let b = after_bytes (be4 (tokens_width ts)) ts c k.1 in
     let other : nat_eq (tokens_width ts) 4294967295 ≡ false = ne_eqb (tokens_width ts) 4294967295 (λ same. omega (arith, k.0, same)) in
     let as_many : width b.cells ≡ tokens_width ts = width-plain b.cells ∙ ap tokens_width b.tokens in
     record {
@@ -100,7 +100,7 @@ first_is (t ∷ a) c w e b =
     let there : nat_le (cell_width t) w ≡ true = le-leb _ _ (omega (arith, e)) in
     rw there (ap (λ (r : List Cell). t ∷ r) (first_is a c (w - cell_width t) (omega (arith, e)) b))
 
-others_are : (a c : List Cell) (w : ℕ) → w ≡ width a → Begins c → behind_wide w (a ++ c) ≡ c
+others_are : (a c : List Cell) (w : ℕ) → w ≡ width a → Begins c → after_wide w (a ++ c) ≡ c
 others_are [] [] w e b = refl
 others_are [] (fixed x ∷ c) w e b = rw e refl
 others_are [] (hole_cell t s ∷ c) w e b = absurd b

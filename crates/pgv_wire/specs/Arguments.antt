@@ -1,6 +1,7 @@
 -- A list of arguments, each a type and the cells of its frame, and what it is written as with parameter types and
 -- OIDs (PostgreSQL: "Message Formats", Bind; "Extended Query").
-use Rattle.std.specs.Prelude.{◌≡◌, ℕ, List, [], ◌∷◌, ◌++◌, take, drop, replicate, Option, Some, None}
+use Rattle.std.specs.Prelude.{◌≡◌, ℕ, List, [], ◌∷◌, ◌++◌, map, take, drop, replicate, Option, Some, None}
+use Rattle.std.specs.List.{flat_map}
 use Rattle.pgv_types.specs.Ty.{Ty}
 use Rattle.pgv_types.specs.declared.oid.Oid.{Oid}
 use Rattle.pgv_buf.specs.Tokens.{Token, tokens_holes, Cell, blank, plain, hole_count, slot_count}
@@ -12,26 +13,22 @@ abbrev pub Argument : Type 0
 Argument = Ty × List Cell
 
 abbrev pub all_tokens : List Argument → List Cell
-all_tokens [] = []
-all_tokens (a ∷ args) = a.1 ++ all_tokens args
+all_tokens = flat_map (λ a. a.1)
 
 abbrev pub types_in : List Argument → List Ty
-types_in [] = []
-types_in (a ∷ args) = a.0 ∷ types_in args
+types_in = map (λ a. a.0)
 
 abbrev pub counts_in : List Argument → List ℕ
-counts_in [] = []
-counts_in (a ∷ args) = slot_count a.1 ∷ counts_in args
+counts_in = map (λ a. slot_count a.1)
 
--- ---- written directly
+-- ---- written early
 
 -- a type and the tokens of a frame
 abbrev pub Framed : Type 0
 Framed = Ty × List Token
 
 abbrev pub framed : List Argument → List Framed
-framed [] = []
-framed (a ∷ args) = (a.0, plain a.1) ∷ framed args
+framed = map (λ a. (a.0, plain a.1))
 
 -- each frame with its own parameter type and its share of the OIDs
 abbrev pub early : List Framed → List Ty → List Oid → List ℕ

@@ -1,6 +1,6 @@
 -- What each argument was given last: the type of its parameter and its share of the OIDs, or no type and zeros, where no
 -- filling came since it was added.
-use Rattle.std.specs.Prelude.{◌≡◌, ℕ, List, [], ◌∷◌, ◌++◌, take, drop, replicate, Option, Some, None}
+use Rattle.std.specs.Prelude.{◌≡◌, ℕ, List, [], ◌∷◌, ◌++◌, map, take, drop, replicate, Option, Some, None}
 use Rattle.std.specs.List.{slice_get}
 use Rattle.pgv_types.specs.Ty.{Ty}
 use Rattle.pgv_types.specs.declared.oid.Oid.{Oid}
@@ -12,7 +12,7 @@ use Rattle.pgv_value.specs.Reading.{Reading}
 use Rattle.pgv_value.specs.declared.value.PgValueFormat.TheVariants.{Binary}
 use Rattle.pgv_wire.specs.Arguments.{Framed, all_tokens}
 use Rattle.pgv_codec.specs.Back.{AreOids}
-use Rattle.pgv_wire.specs.History.{Call, Told, told, after, added_in}
+use Rattle.pgv_wire.specs.History.{Call, LastFilling, last_filling, after, added_in}
 use Rattle.pgv_codec.specs.Image.{Image, frame}
 use Rattle.pgv_wire.specs.Parts.{AreFrames, ReadAs}
 use Rattle.pgv_codec.specs.Writing.{written_part}
@@ -32,10 +32,9 @@ given_by (f ∷ fs) ps os =
 
 -- those that were added since
 abbrev pub given_none : List Framed → List Given
-given_none [] = []
-given_none (f ∷ fs) = record { parameter = None; oids = zeros (tokens_holes f.1) } ∷ given_none fs
+given_none = map (λ f. record { parameter = None; oids = zeros (tokens_holes f.1) })
 
-abbrev pub given_in : Told → List Given
+abbrev pub given_in : LastFilling → List Given
 given_in h = given_by h.filled h.types h.oids ++ given_none h.since
 
 -- the parts of images, each written with what its argument was given
@@ -50,6 +49,6 @@ parts_given (i ∷ is) (g ∷ gs) = written_part i g.parameter g.oids ∷ parts_
 abbrev pub ArgumentReadsBack : {A M : Type 0} → (A → ℕ) → (A → Option Image) → Reading M → (A → M) → (A → Ty → List Oid → Type 0) → Type 0
 ArgumentReadsBack {A} hint image reading kept fits =
     (calls : List Call) (is : List Image) (place : ℕ) (a : Framed) (g : Given) (v : A) (t : Ty) →
-    AreFrames is (added_in calls) → Proper (all_tokens (after [] calls)) → AreOids (told calls).oids →
-    slice_get (added_in calls) place ≡ Some a → frame (hint v) (image v) ≡ Some a.1 → slice_get (given_in (told calls)) place ≡ Some g → fits v t g.oids →
+    AreFrames is (added_in calls) → Proper (all_tokens (after [] calls)) → AreOids (last_filling calls).oids →
+    slice_get (added_in calls) place ≡ Some a → frame (hint v) (image v) ≡ Some a.1 → slice_get (given_in (last_filling calls)) place ≡ Some g → fits v t g.oids →
     (parts : List Part) × (part : Part) × ReadAs (shown (all_tokens (after [] calls))) parts [] × (slice_get parts place ≡ Some part) × (reading t Binary part ≡ Some (kept v))

@@ -1,5 +1,6 @@
 -- Any list of calls on arguments, and what they leave.
-use Rattle.std.specs.Prelude.{◌≡◌, ℕ, List, [], ◌∷◌, ◌++◌, length, ⊤}
+use Rattle.std.specs.Prelude.{◌≡◌, ℕ, List, [], ◌∷◌, ◌++◌, map, length, ⊤}
+use Rattle.std.specs.List.{flat_map}
 use Rattle.pgv_types.specs.Ty.{Ty}
 use Rattle.pgv_types.specs.declared.oid.Oid.{Oid}
 use Rattle.pgv_buf.specs.Tokens.{Token, byte, hole, slot, bytes, blank, shown, width, tokens_holes}
@@ -13,8 +14,7 @@ pub data Call : Type 0 where
 
 -- arguments that are not filled yet
 abbrev pub blanks : List Framed → List Argument
-blanks [] = []
-blanks (f ∷ fs) = (f.0, blank f.1) ∷ blanks fs
+blanks = map (λ f. (f.0, blank f.1))
 
 -- as the calls' contracts have it
 abbrev pub after : List Argument → List Call → List Argument
@@ -24,33 +24,33 @@ after args (fills ps os ∷ calls) = after (filled_arguments args ps os) calls
 after args (is_refused ∷ calls) = after args calls
 
 -- the arguments at the last filling, what it was given, and those added since
-pub record Told : Type 0 where
+pub record LastFilling : Type 0 where
   pub filled : List Framed
   pub types : List Ty
   pub oids : List Oid
   pub since : List Framed
 
-abbrev pub with_added : Told → Framed → Told
+abbrev pub with_added : LastFilling → Framed → LastFilling
 with_added h f = record { filled = h.filled; types = h.types; oids = h.oids; since = h.since ++ f ∷ [] }
 
-abbrev pub with_filled : Told → List Ty → List Oid → Told
+abbrev pub with_filled : LastFilling → List Ty → List Oid → LastFilling
 with_filled h ps os = record { filled = h.filled ++ h.since; types = ps; oids = os; since = [] }
 
-abbrev pub told_by : Told → List Call → Told
-told_by h [] = h
-told_by h (adds f ∷ calls) = told_by (with_added h f) calls
-told_by h (fills ps os ∷ calls) = told_by (with_filled h ps os) calls
-told_by h (is_refused ∷ calls) = told_by h calls
+abbrev pub last_filling_by : LastFilling → List Call → LastFilling
+last_filling_by h [] = h
+last_filling_by h (adds f ∷ calls) = last_filling_by (with_added h f) calls
+last_filling_by h (fills ps os ∷ calls) = last_filling_by (with_filled h ps os) calls
+last_filling_by h (is_refused ∷ calls) = last_filling_by h calls
 
-abbrev pub told : List Call → Told
-told calls = told_by (record { filled = []; types = []; oids = []; since = [] }) calls
+abbrev pub last_filling : List Call → LastFilling
+last_filling calls = last_filling_by (record { filled = []; types = []; oids = []; since = [] }) calls
 
 -- the bytes: those at the last filling written early, the others blank
-abbrev pub bytes_by : Told → List ℕ
+abbrev pub bytes_by : LastFilling → List ℕ
 bytes_by h = early h.filled h.types h.oids ++ shown (all_tokens (blanks h.since))
 
 -- the arguments: those at the last filling as it left them, and the others blank
-abbrev pub left_by : Told → List Argument
+abbrev pub left_by : LastFilling → List Argument
 left_by h = filled_arguments (blanks h.filled) h.types h.oids ++ blanks h.since
 
 -- the accepted additions, in order, whatever was filled or refused between
@@ -62,27 +62,25 @@ added_in (is_refused ∷ calls) = added_in calls
 
 -- their tokens, one after another
 abbrev pub joined_frames : List Framed → List Token
-joined_frames [] = []
-joined_frames (f ∷ fs) = f.1 ++ joined_frames fs
+joined_frames = flat_map (λ f. f.1)
 
 abbrev pub framed_types : List Framed → List Ty
-framed_types [] = []
-framed_types (f ∷ fs) = f.0 ∷ framed_types fs
+framed_types = map (λ f. f.0)
 
 -- arguments that a filling with as many types and OIDs as arguments and holes, and additions since, have left
-pub record LeftBy (args : List Argument) (h : Told) : Type 0 where
+pub record LeftBy (args : List Argument) (h : LastFilling) : Type 0 where
   pub arguments_are : args ≡ left_by h
   pub as_many_types : length h.types ≡ length h.filled
   pub as_many_oids : length h.oids ≡ tokens_holes (joined_frames h.filled)
 
 abbrev pub LeftBySome : List Argument → Type 0
-LeftBySome args = (h : Told) × LeftBy args h
+LeftBySome args = (h : LastFilling) × LeftBy args h
 
--- there are types and OIDs with which the bytes are the first n frames, written at once, as many as these have
+-- there are types and OIDs with which the bytes are the first n frames, written early, as many as these have
 -- arguments and holes, and then the others blank; there are no other frames
-abbrev pub WrittenAtOnce : List Argument → Type 0
-WrittenAtOnce args =
-    (h : Told) × (framed args ≡ h.filled ++ h.since) × (length h.types ≡ length h.filled) × (length h.oids ≡ tokens_holes (joined_frames h.filled)) × (shown (all_tokens args) ≡ bytes_by h)
+abbrev pub WrittenEarly : List Argument → Type 0
+WrittenEarly args =
+    (h : LastFilling) × (framed args ≡ h.filled ++ h.since) × (length h.types ≡ length h.filled) × (length h.oids ≡ tokens_holes (joined_frames h.filled)) × (shown (all_tokens args) ≡ bytes_by h)
 
 -- the types that holes name, in order
 abbrev pub holes_in : List Token → List Ty
@@ -93,8 +91,7 @@ holes_in (slot d cs ∷ ts) = holes_in ts
 
 -- the lengths of arguments
 abbrev pub lengths_in : List Argument → List ℕ
-lengths_in [] = []
-lengths_in (a ∷ args) = width a.1 ∷ lengths_in args
+lengths_in = map (λ a. width a.1)
 
 -- frames without holes and slots, which are these bytes
 abbrev pub ArePlain : List Framed → List (List ℕ) → Type 0
@@ -104,5 +101,4 @@ ArePlain (f ∷ fs) [] = ⊥
 ArePlain (f ∷ fs) (xs ∷ xss) = (f.1 ≡ bytes xs) × ArePlain fs xss
 
 abbrev pub joined_bytes : List (List ℕ) → List ℕ
-joined_bytes [] = []
-joined_bytes (xs ∷ xss) = xs ++ joined_bytes xss
+joined_bytes = flat_map (λ xs. xs)

@@ -14,7 +14,7 @@ use Rattle.pgv_wire.specs.Arguments.{Argument, Framed, framed, all_tokens}
 -- one frame after the other is found in front, with these parts, and then this is left
 abbrev pub ReadAs : List ℕ → List Part → List ℕ → Type 0
 ReadAs bs [] rest = bs ≡ rest
-ReadAs bs (p ∷ ps) rest = (behind : List ℕ) × (front bs ≡ Some (p, behind)) × ReadAs behind ps rest
+ReadAs bs (p ∷ ps) rest = (rest_after : List ℕ) × (front bs ≡ Some (p, rest_after)) × ReadAs rest_after ps rest
 
 -- frames of these images
 abbrev pub AreFrames : List Image → List Framed → Type 0

@@ -11,9 +11,9 @@ as_wide w [] = []
 as_wide w (t ∷ ts) = cond (nat_le (cell_width t) w) (t ∷ as_wide (w - cell_width t) ts) []
 
 -- what comes after these
-abbrev pub behind_wide : ℕ → List Cell → List Cell
-behind_wide w [] = []
-behind_wide w (t ∷ ts) = cond (nat_le (cell_width t) w) (behind_wide (w - cell_width t) ts) (t ∷ ts)
+abbrev pub after_wide : ℕ → List Cell → List Cell
+after_wide w [] = []
+after_wide w (t ∷ ts) = cond (nat_le (cell_width t) w) (after_wide (w - cell_width t) ts) (t ∷ ts)
 
 -- a frame's bytes: four for its length, and as many as this says; the length -1 is null's
 abbrev pub bytes_by_length : ℕ → ℕ
@@ -26,4 +26,4 @@ frame_width ts = bytes_by_length (from_be_bytes w32 (shown (take 4 ts)))
 -- n frames, each with its type
 abbrev pub split : List Ty → List Cell → List Argument
 split [] ts = []
-split (t ∷ hs) ts = (t, as_wide (frame_width ts) ts) ∷ split hs (behind_wide (frame_width ts) ts)
+split (t ∷ hs) ts = (t, as_wide (frame_width ts) ts) ∷ split hs (after_wide (frame_width ts) ts)

@@ -5,7 +5,7 @@ ghost use Rattle.pgv_buf.specs.Tokens.{shown, hole_count, hole_types_of};
 ghost use Rattle.pgv_value.specs.declared.error.CodecError.TheVariants.{Memory, ParameterCount, HoleCount};
 ghost use Rattle.pgv_wire.specs.Arguments.{types_in, all_tokens, Added, filled_arguments, framed, early};
 ghost use Rattle.pgv_wire.specs.Each.{AreOutcomes, accepted};
-ghost use Rattle.pgv_wire.specs.History.{WrittenAtOnce};
+ghost use Rattle.pgv_wire.specs.History.{WrittenEarly};
 ghost use Rattle.pgv_codec.specs.Image.{frame, or_else};
 ghost use Rattle.pgv_codec.specs.Outcome.{Refused};
 ghost use Rattle.pgv_wire.specs.Parts.{OfImages};
@@ -84,14 +84,14 @@ impl PgArguments {
     }
 
     /// The frames of the arguments, one after another. Each is the frame of an image. There are types and OIDs, as
-    /// many as arguments and holes, with which the bytes are the first of these frames, written at once, and then the
+    /// many as arguments and holes, with which the bytes are the first of these frames, written early, and then the
     /// others with zeros for holes and defaults for slots. That they are the last filling's is what
     /// [`apply_patches`](PgArguments::apply_patches) and [`laws::history`](crate::laws::history) say;
     /// [`laws::arguments_read`](crate::laws::arguments_read) says what reading the frames gives.
     pub fn buffer(&self) -> &PgArgumentBuffer
         ensures frames { result.now ≡ all_tokens self.now }
         ensures images { OfImages self.now }
-        ensures written { WrittenAtOnce self.now }
+        ensures written { WrittenEarly self.now }
     {
         &self.buffer
     }
@@ -177,7 +177,7 @@ impl PgArguments {
     /// the first case whose type is softly equal to it, else with the default. As many types as arguments are
     /// wanted (C10), and as many OIDs as holes (C11); a refusal changes nothing, and with the right numbers there is
     /// none. It takes no memory and may be called again, also with additions between: each call fills all anew, and
-    /// the bytes are those that the frames are written as with these types and OIDs at once.
+    /// the bytes are the frames written early with these types and OIDs.
     pub fn apply_patches(&mut self, types: &[PgTypeInfo], oids: &[Oid]) -> Result<(), CodecError>
         ensures ok { length types.now ≡ length self.old → length oids.now ≡ hole_count (all_tokens self.old) → IsOk result }
         ensures parameters { length types.now ≢ length self.old → IsErrOf result ParameterCount }

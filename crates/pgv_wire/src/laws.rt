@@ -12,7 +12,7 @@ ghost use Rattle.pgv_wire.specs.Arguments.{Argument, Framed, all_tokens, types_i
 ghost use Rattle.pgv_codec.specs.Back.{AreOids, ReadsBack, FieldFits, FieldsFit, FieldReadsBack, RecordFieldsFollow, RecordReadsBack};
 ghost use Rattle.pgv_wire.specs.Given.{ArgumentReadsBack, given_in, parts_given};
 ghost use Rattle.pgv_nest.specs.Grammar.{ArrayIsItsElements, OneArray, FieldTypeIsFound, FieldIsItsValue, OneField, RecordBegins, RecordIsItsFields, IsField, ◌and◌};
-ghost use Rattle.pgv_wire.specs.History.{Call, after, told, bytes_by, added_in, joined_frames, framed_types, holes_in, lengths_in, ArePlain, joined_bytes};
+ghost use Rattle.pgv_wire.specs.History.{Call, after, last_filling, bytes_by, added_in, joined_frames, framed_types, holes_in, lengths_in, ArePlain, joined_bytes};
 ghost use Rattle.pgv_codec.specs.Image.{Image, field, frame_of};
 ghost use Rattle.pgv_codec.specs.Plain.{ArrayIsPlain, FieldIsPlain};
 ghost use Rattle.pgv_wire.specs.Parts.{ReadAs, AreFrames, AllRead, parts_in, written_parts};
@@ -34,7 +34,7 @@ pub use pgv_nest::laws::{
 /// filling are written as with what it was given, and then the others with zeros and defaults.
 #[tactic(auto, using(crate::proofs::Histories::history_told))]
 pub fn history()
-    ensures { (calls : List Call) → shown (all_tokens (after [] calls)) ≡ bytes_by (told calls) }
+    ensures { (calls : List Call) → shown (all_tokens (after [] calls)) ≡ bytes_by (last_filling calls) }
 {}
 
 /// A second filling answers as if it were the only one.
@@ -107,7 +107,7 @@ pub fn parts_written()
 /// at the last filling its parameter's type and the OIDs of its own holes, or neither, where zeros and defaults stand.
 #[tactic(auto, using(crate::proofs::ArgumentsBack::parts_told))]
 pub fn parts_after()
-    ensures { (calls : List Call) (is : List Image) → AreFrames is (added_in calls) → parts_in is (after [] calls) ≡ parts_given is (given_in (told calls)) }
+    ensures { (calls : List Call) (is : List Image) → AreFrames is (added_in calls) → parts_in is (after [] calls) ≡ parts_given is (given_in (last_filling calls)) }
 {}
 
 /// The main sentence's last part. Whatever was added, refused and filled, in any order: the buffer's bytes are read frame by

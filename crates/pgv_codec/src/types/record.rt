@@ -40,13 +40,13 @@ impl<'a> PgRecordEncoder<'a> {
     ghost use Rattle.pgv_codec.specs.Image.{field, field_at};
     ghost use Rattle.pgv_codec.specs.Outcome.{Refused};
     ghost use Rattle.pgv_codec.specs.Record.{begun, so_far, AddsField};
-    ghost use Rattle.pgv_codec.specs.WrittenView.{written};
+    ghost use Rattle.pgv_codec.specs.WrittenView.{buffer, written};
 
     /// Begins a record after what the buffer has. C1 leaves the buffer as it was.
     pub fn new(out: &'a mut PgArgumentBuffer) -> Result<PgRecordEncoder<'a>, CodecError>
         ensures same_reference { IfOk result (λ e. e.out.ghost_name ≡ out.entry.ghost_name) }
         ensures begun { IfOk result (λ e. written e ≡ begun out.old) }
-        ensures so_far { IfOk result (λ e. e.out.now ≡ so_far (written e)) }
+        ensures so_far { IfOk result (λ e. buffer e ≡ so_far (written e)) }
         ensures err { IfErr result (λ e. e ≡ Memory) }
         ensures* refused { sem 𝓛 (RestsIfErr the_row out.entry (λ e. e.out.ghost_name) result (λ n. n ≡ out.old)) }
     {
@@ -65,7 +65,7 @@ impl<'a> PgRecordEncoder<'a> {
         ensures ok { OnOk result (AddsField (field_at (written self.old).count (field T.hint T.image T.produced T.info value)) (written self.old) (written self.new)) }
         ensures err { IfErr result (λ e. Refused e (field_at (written self.old).count (field T.hint T.image T.produced T.info value))) }
         ensures unchanged { OnErr result (written self.new ≡ written self.old) }
-        ensures so_far { self.new.out.now ≡ so_far (written self.new) }
+        ensures so_far { buffer self.new ≡ so_far (written self.new) }
     {
         if self.count == 4294967295 {
             return Err(CodecError::FieldCount);
