@@ -13,6 +13,3 @@ pub use nest::{array_elements, range_parts, record_fields};
 pub use number::{NumberFault, bool_of, char_of, number_of, unsigned_number_of};
 pub use parts::Parts;
 pub use scanner::TextForm;
-
-#[cfg(test)]
-mod tests;

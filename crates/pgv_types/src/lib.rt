@@ -11,8 +11,6 @@ mod name;
 mod oid;
 mod relation;
 mod static_text;
-#[cfg(test)]
-mod tests;
 mod type_info;
 
 pub use custom::{PgArrayOf, PgCustomType};

@@ -10,6 +10,3 @@ pub mod value;
 pub use error::CodecError;
 pub use read::{read_bool, read_i8, read_i16, read_i32, read_i64, read_oid, read_uuid};
 pub use value::{PgValue, PgValueFormat, PgValueRef};
-
-#[cfg(test)]
-mod tests;

@@ -90,6 +90,7 @@ fn write_frames<T: Encode>(values: &[T], out: &mut PgArgumentBuffer) -> Result<(
     Ok(())
 }
 
+/// The array type of `T`, read under those of `T`.
 impl<T: PgHasArrayType> Type for Vec<T> {
     ghost info = { T.array_info };
 
@@ -104,6 +105,9 @@ impl<T: PgHasArrayType> Type for Vec<T> {
     }
 }
 
+/// Written as an array of one dimension, as [`encode_array`] does: the number of dimensions, 1; flags, 0; the OID of the elements' type;
+/// their number; the lower bound, 1; and the frame of each. One `7` of `int4` is
+/// `00000001 00000000 00000017 00000001 00000001 00000004 00000007`.
 impl<T: Encode + Type> Encode for Vec<T> {
     ghost use Rattle.pgv_codec.specs.Image.{array_image};
 
@@ -122,6 +126,7 @@ impl<T: Encode + Type> Encode for Vec<T> {
     }
 }
 
+/// The array type of `T`, read under those of `T`.
 impl<T: PgHasArrayType, const N: usize> Type for [T; N] {
     ghost info = { T.array_info };
 
@@ -136,6 +141,7 @@ impl<T: PgHasArrayType, const N: usize> Type for [T; N] {
     }
 }
 
+/// Written as the list of its elements is.
 impl<T: Encode + Type, const N: usize> Encode for [T; N] {
     ghost use Rattle.pgv_codec.specs.Image.{sized_image};
 
@@ -239,7 +245,7 @@ fn read_array<T: Decode>(
     }
 }
 
-/// So many frames. Room is asked for as many elements as the bytes can hold at most, whatever the count says.
+/// As many frames as the head says. Room is asked for as many elements as the bytes can hold at most, whatever the count says.
 fn read_frames<T: Decode>(
     alloc: Global,
     element: &PgTypeInfo,

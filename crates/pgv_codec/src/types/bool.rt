@@ -13,6 +13,7 @@ use pgv_types::{PgType, PgTypeInfo};
 use pgv_value::{CodecError, PgValueRef, read_bool};
 use std::alloc::{AllocError, Global};
 
+/// A `bool` (OID 16), read under `bool` and domains over it.
 impl Type for bool {
     ghost info = { builtin 16 };
 
@@ -27,6 +28,7 @@ impl Type for bool {
     }
 }
 
+/// An array of them is a `bool[]` (OID 1000).
 impl PgHasArrayType for bool {
     ghost array_info = { builtin 1000 };
 
@@ -41,6 +43,7 @@ impl PgHasArrayType for bool {
     }
 }
 
+/// Written as one byte: `true` as `01`, `false` as `00`.
 impl Encode for bool {
     ghost image = { bool_image };
 
@@ -58,7 +61,7 @@ impl Encode for bool {
     }
 }
 
-/// A truth value (PostgreSQL, "Boolean Type"), as [`read_bool`] reads it.
+/// A truth value (PostgreSQL, "Boolean Type"), as [`read_bool`] reads it: `01` and `t` are `true`.
 impl Decode for bool {
     ghost Meaning = { Bool };
 

@@ -15,6 +15,7 @@ use pgv_types::{PgType, PgTypeInfo};
 use pgv_value::{CodecError, PgValueRef, read_i8, read_i16, read_i32, read_i64};
 use std::alloc::{AllocError, Global};
 
+/// `"char"` (OID 18), read under `"char"` and domains over it.
 impl Type for i8 {
     ghost info = { builtin 18 };
 
@@ -29,6 +30,7 @@ impl Type for i8 {
     }
 }
 
+/// An array of them is `"char"[]` (OID 1002).
 impl PgHasArrayType for i8 {
     ghost array_info = { builtin 1002 };
 
@@ -43,6 +45,7 @@ impl PgHasArrayType for i8 {
     }
 }
 
+/// Written as one byte in two's complement: -1 as `ff`.
 impl Encode for i8 {
     ghost image = { signed_image w8 };
 
@@ -61,7 +64,7 @@ impl Encode for i8 {
     }
 }
 
-/// A `"char"` as a number (PostgreSQL, "Character Types"), as [`read_i8`] reads it.
+/// A `"char"` as a number (PostgreSQL, "Character Types"), as [`read_i8`] reads it: `61` and `a` are 97.
 impl Decode for i8 {
     ghost Meaning = { ℤ };
 
@@ -95,6 +98,7 @@ impl Codec for i8 {
     ghost agrees = { λ _. refl };
 }
 
+/// `int2` (OID 21), read under `int2` and domains over it.
 impl Type for i16 {
     ghost info = { builtin 21 };
 
@@ -109,6 +113,7 @@ impl Type for i16 {
     }
 }
 
+/// An array of them is `int2[]` (OID 1005).
 impl PgHasArrayType for i16 {
     ghost array_info = { builtin 1005 };
 
@@ -123,6 +128,7 @@ impl PgHasArrayType for i16 {
     }
 }
 
+/// Written as two bytes in two's complement, the highest first: 7 as `0007`.
 impl Encode for i16 {
     ghost image = { signed_image w16 };
 
@@ -141,7 +147,7 @@ impl Encode for i16 {
     }
 }
 
-/// An `int2` (PostgreSQL, "Integer Types"), as [`read_i16`] reads it.
+/// An `int2` (PostgreSQL, "Integer Types"), as [`read_i16`] reads it: `0007` and `7` are 7.
 impl Decode for i16 {
     ghost Meaning = { ℤ };
 
@@ -175,6 +181,7 @@ impl Codec for i16 {
     ghost agrees = { λ _. refl };
 }
 
+/// `int4` (OID 23), read under `int4` and domains over it.
 impl Type for i32 {
     ghost info = { builtin 23 };
 
@@ -189,6 +196,7 @@ impl Type for i32 {
     }
 }
 
+/// An array of them is `int4[]` (OID 1007).
 impl PgHasArrayType for i32 {
     ghost array_info = { builtin 1007 };
 
@@ -203,6 +211,7 @@ impl PgHasArrayType for i32 {
     }
 }
 
+/// Written as four bytes in two's complement, the highest first: 7 as `00000007`.
 impl Encode for i32 {
     ghost image = { signed_image w32 };
 
@@ -221,7 +230,7 @@ impl Encode for i32 {
     }
 }
 
-/// An `int4` (PostgreSQL, "Integer Types"), as [`read_i32`] reads it.
+/// An `int4` (PostgreSQL, "Integer Types"), as [`read_i32`] reads it: `00000007` and `7` are 7.
 impl Decode for i32 {
     ghost Meaning = { ℤ };
 
@@ -255,6 +264,7 @@ impl Codec for i32 {
     ghost agrees = { λ _. refl };
 }
 
+/// `int8` (OID 20), read under `int8` and domains over it.
 impl Type for i64 {
     ghost info = { builtin 20 };
 
@@ -269,6 +279,7 @@ impl Type for i64 {
     }
 }
 
+/// An array of them is `int8[]` (OID 1016).
 impl PgHasArrayType for i64 {
     ghost array_info = { builtin 1016 };
 
@@ -283,6 +294,7 @@ impl PgHasArrayType for i64 {
     }
 }
 
+/// Written as eight bytes in two's complement, the highest first: 7 as `0000000000000007`.
 impl Encode for i64 {
     ghost image = { signed_image w64 };
 
@@ -301,7 +313,7 @@ impl Encode for i64 {
     }
 }
 
-/// An `int8` (PostgreSQL, "Integer Types"), as [`read_i64`] reads it.
+/// An `int8` (PostgreSQL, "Integer Types"), as [`read_i64`] reads it: `0000000000000007` and `7` are 7.
 impl Decode for i64 {
     ghost Meaning = { ℤ };
 

@@ -14,6 +14,7 @@ use pgv_types::{Oid, PgType, PgTypeInfo};
 use pgv_value::{CodecError, PgValueRef, read_oid};
 use std::alloc::{AllocError, Global};
 
+/// `oid` (OID 26), read under `oid` and domains over it.
 impl Type for Oid {
     ghost info = { builtin 26 };
 
@@ -28,6 +29,7 @@ impl Type for Oid {
     }
 }
 
+/// An array of them is `oid[]` (OID 1028).
 impl PgHasArrayType for Oid {
     ghost array_info = { builtin 1028 };
 
@@ -42,6 +44,7 @@ impl PgHasArrayType for Oid {
     }
 }
 
+/// Written as four bytes, the highest first: that of `text` as `00000019`.
 impl Encode for Oid {
     ghost image = { λ o. unsigned_image w32 o.0 };
 
@@ -60,7 +63,7 @@ impl Encode for Oid {
     }
 }
 
-/// An object identifier (PostgreSQL, "Object Identifier Types"), as [`read_oid`] reads it.
+/// An object identifier (PostgreSQL, "Object Identifier Types"), as [`read_oid`] reads it: `00000019` and `25` are the OID of `text`.
 impl Decode for Oid {
     ghost Meaning = { ℕ };
 

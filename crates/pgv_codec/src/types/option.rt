@@ -6,6 +6,7 @@ use pgv_types::PgTypeInfo;
 use pgv_value::{CodecError, PgValueRef};
 use std::alloc::{AllocError, Global};
 
+/// The type of `T`, read under the types of `T`.
 impl<T: Type> Type for Option<T> {
     ghost info = { T.info };
 
@@ -20,6 +21,7 @@ impl<T: Type> Type for Option<T> {
     }
 }
 
+/// An array of them is one of `T`: null is a value of every type.
 impl<T: PgHasArrayType> PgHasArrayType for Option<T> {
     ghost array_info = { T.array_info };
 
@@ -34,6 +36,7 @@ impl<T: PgHasArrayType> PgHasArrayType for Option<T> {
     }
 }
 
+/// `None` is written as null, the length `ffffffff` without bytes after it, and `Some` as its value.
 impl<T: Encode + Type> Encode for Option<T> {
     ghost use Rattle.pgv_codec.specs.Image.{option_image, option_hint, option_produced};
 

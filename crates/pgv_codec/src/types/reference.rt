@@ -6,6 +6,7 @@ use pgv_types::PgTypeInfo;
 use pgv_value::CodecError;
 use std::alloc::AllocError;
 
+/// The type of what it refers to.
 impl<T: Type> Type for &T {
     ghost info = { T.info };
 
@@ -20,6 +21,7 @@ impl<T: Type> Type for &T {
     }
 }
 
+/// The arrays of what it refers to.
 impl<T: PgHasArrayType> PgHasArrayType for &T {
     ghost array_info = { T.array_info };
 
@@ -34,6 +36,7 @@ impl<T: PgHasArrayType> PgHasArrayType for &T {
     }
 }
 
+/// Written as what it refers to.
 impl<T: Encode> Encode for &T {
     ghost image = { λ r. T.image r.now };
 

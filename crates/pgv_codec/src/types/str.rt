@@ -42,6 +42,7 @@ fn is_text_array(type_info: &PgTypeInfo) -> bool
     }
 }
 
+/// `text` (OID 25), read under `text`, `name`, `bpchar`, `varchar`, `unknown`, `citext` and domains over one of them.
 impl Type for String {
     ghost use Rattle.pgv_types.specs.Ty.{builtin};
     ghost use Rattle.pgv_codec.specs.Scalars.{is_text};
@@ -59,6 +60,7 @@ impl Type for String {
     }
 }
 
+/// An array of them is `text[]` (OID 1009), read under each array of a type under which a text is read.
 impl PgHasArrayType for String {
     ghost use Rattle.pgv_types.specs.Ty.{builtin};
     ghost use Rattle.pgv_codec.specs.Scalars.{is_text_array};
@@ -76,6 +78,7 @@ impl PgHasArrayType for String {
     }
 }
 
+/// Written as its bytes: `hi` as `6869`.
 impl Encode for String {
     ghost use Rattle.std.specs.Prelude.{string_bytes};
     ghost use Rattle.pgv_codec.specs.Scalars.{text_image};
@@ -95,7 +98,7 @@ impl Encode for String {
     }
 }
 
-/// A text (PostgreSQL, "Character Types"), the same in either format: bytes that are UTF-8, else C14. Null is refused
+/// A text (PostgreSQL, "Character Types"), the same in either format: bytes that are UTF-8, else C14: `6869` is `hi`. Null is refused
 /// with C13.
 impl Decode for String {
     ghost use Rattle.std.specs.Prelude.{ℕ, List, Some};

@@ -14,6 +14,7 @@ use pgv_value::{CodecError, PgValueRef, read_uuid};
 use std::alloc::{AllocError, Global};
 use uuid::Uuid;
 
+/// `uuid` (OID 2950), read under `uuid` and domains over it.
 impl Type for Uuid {
     ghost info = { builtin 2950 };
 
@@ -28,6 +29,7 @@ impl Type for Uuid {
     }
 }
 
+/// An array of them is `uuid[]` (OID 2951).
 impl PgHasArrayType for Uuid {
     ghost array_info = { builtin 2951 };
 
@@ -42,6 +44,7 @@ impl PgHasArrayType for Uuid {
     }
 }
 
+/// Written as its sixteen bytes.
 impl Encode for Uuid {
     ghost image = { uuid_image };
 
@@ -59,7 +62,8 @@ impl Encode for Uuid {
     }
 }
 
-/// A UUID (PostgreSQL, "UUID Type"), as [`read_uuid`] reads it.
+/// A UUID (PostgreSQL, "UUID Type"), as [`read_uuid`] reads it: its sixteen bytes, or
+/// `550e8400-e29b-41d4-a716-446655440000` and the other spellings.
 impl Decode for Uuid {
     ghost Meaning = { List ℕ };
 

@@ -5,6 +5,7 @@ use pgv_types::{PgType, PgTypeInfo};
 use pgv_value::{CodecError, PgValueRef};
 use std::alloc::Global;
 
+/// `void` (OID 2278), read under `void` and `record`. It is never written.
 impl Type for () {
     ghost use Rattle.pgv_types.specs.Ty.{builtin};
     ghost use Rattle.pgv_codec.specs.Scalars.{is_void_or_record};

@@ -1,6 +1,6 @@
 use Rattle.std.proofs.Common.{◌≡◌, true, false, Option, Some, None, refl}
 use Rattle.std.proofs.lemmas.Bool.{false≢true}
-use Rattle.pgv_value.proofs.read.unique_id.uuid_of.Goals as goal
+use Rattle.pgv_value.proofs.read.uuids.uuid_of.Goals as goal
 
 -- what is nothing that is there is not there
 none_there : {A : Type 0} (o : Option A) → ((x : A) × (o ≡ Some x) → false ≡ true) → o ≡ None

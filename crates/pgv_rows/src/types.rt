@@ -1,5 +1,5 @@
 //! Rows of names and of types, and each call that takes memory.
-use super::*;
+use pgv_types::*;
 use std::alloc::{AllocError, Global};
 use std::hash::{DefaultHasher, Hasher};
 use std::rc::{Rc, RcSlice, RcStr};

@@ -1,6 +1,6 @@
-use super::*;
 use bytes::Bytes;
 use pgv_types::{Oid, PgType, PgTypeInfo};
+use pgv_value::*;
 use std::hash::{DefaultHasher, Hasher};
 use uuid::Uuid;
 

@@ -1,4 +1,4 @@
-use super::*;
+use pgv_text::*;
 use std::alloc::{AllocError, Global};
 use std::test::Fail;
 

@@ -43,7 +43,7 @@ fn integer(value: &PgValueRef<'_>) -> Result<i64, CodecError>
 /// Reads a `"char"` as a signed number: in binary one to eight bytes of two's complement, in text nothing for 0, `\`
 /// for 92, `\` and three octal digits up to 377 for their byte, and else the first byte, where a text that begins
 /// with `\` otherwise is refused with C29. Another number of bytes is refused with C17, and a number that is outside
-/// 8 bits with C30.
+/// 8 bits with C30. `ff` and `\\377` are -1.
 pub fn read_i8(value: &PgValueRef<'_>) -> Result<i8, CodecError>
     ensures exact { AnswersExactly (λ number. number) (char_reading value.now.type_info value.now.format value.now.bytes) result }
     ensures refused { IfErr result (λ e. e ≡ char_refusal value.now.format value.now.bytes) }
@@ -56,7 +56,8 @@ pub fn read_i8(value: &PgValueRef<'_>) -> Result<i8, CodecError>
 }
 
 /// Reads an `int2`: in binary one to eight bytes of two's complement, in text perhaps `+` or `-` and one or more
-/// digits. Another number of bytes is refused with C17, another text with C29, and a number outside 16 bits with C30.
+/// digits. Another number of bytes is refused with C17, another text with C29, and a number outside 16 bits with C30. `0007`,
+/// `07` and `+7` are 7.
 pub fn read_i16(value: &PgValueRef<'_>) -> Result<i16, CodecError>
     ensures exact { AnswersExactly (λ number. number) (int_reading w16 value.now.type_info value.now.format value.now.bytes) result }
     ensures refused { IfErr result (λ e. e ≡ int_refusal value.now.format value.now.bytes) }
@@ -65,7 +66,7 @@ pub fn read_i16(value: &PgValueRef<'_>) -> Result<i16, CodecError>
     Ok(i16::try_from(integer(value)?)?)
 }
 
-/// Reads an `int4`, as [`read_i16`] reads an `int2`; a number outside 32 bits is refused with C30.
+/// Reads an `int4`, as [`read_i16`] reads an `int2`; a number outside 32 bits is refused with C30. `00000007` is 7.
 pub fn read_i32(value: &PgValueRef<'_>) -> Result<i32, CodecError>
     ensures exact { AnswersExactly (λ number. number) (int_reading w32 value.now.type_info value.now.format value.now.bytes) result }
     ensures refused { IfErr result (λ e. e ≡ int_refusal value.now.format value.now.bytes) }
@@ -74,7 +75,7 @@ pub fn read_i32(value: &PgValueRef<'_>) -> Result<i32, CodecError>
     Ok(i32::try_from(integer(value)?)?)
 }
 
-/// Reads an `int8`, as [`read_i16`] reads an `int2`; a number outside 64 bits is refused with C30.
+/// Reads an `int8`, as [`read_i16`] reads an `int2`; a number outside 64 bits is refused with C30. `fffffffffffffff9` is -7.
 pub fn read_i64(value: &PgValueRef<'_>) -> Result<i64, CodecError>
     ensures exact { AnswersExactly (λ number. number) (int_reading w64 value.now.type_info value.now.format value.now.bytes) result }
     ensures refused { IfErr result (λ e. e ≡ int_refusal value.now.format value.now.bytes) }
