@@ -4,7 +4,7 @@ use Rattle.std.proofs.lemmas.List.{take_more, drop_more, take-append-drop}
 use Rattle.pgv_types.specs.Facts.{oid_of}
 use Rattle.pgv_buf.specs.Tokens.{Token, Cell, hole, bytes, be4, blank}
 use Rattle.pgv_buf.specs.Blank.{blank-append}
-use Rattle.pgv_codec.specs.Image.{Image, frame, frames, join, image_of, typed, header, array_of_frames, field_of}
+use Rattle.pgv_codec.specs.Image.{Image, frame, written_frames, join, image_of, typed, header, array_of_frames, field_of}
 use Rattle.pgv_types.specs.Ty.{Ty}
 use Rattle.std.proofs.lemmas.Bool.Decides.{nat_tests}
 use Rattle.pgv_codec.specs.Outcome.{AppendedAll, Refused}
@@ -48,15 +48,15 @@ pub typed_unknown : (t : Ty) → None ≡ oid_of t → typed t ≡ Some (hole t 
 typed_unknown t e = rw (← e) refl
 
 module _ {X : Type 0} (hint : X → ℕ) (image : X → Option Image) where
-  pub frames-append : (xs ys : List X) → frames hint image (xs ++ ys) ≡ join (frames hint image xs) (frames hint image ys)
-  frames-append [] ys = sym (join_nothing (frames hint image ys))
+  pub frames-append : (xs ys : List X) → written_frames hint image (xs ++ ys) ≡ join (written_frames hint image xs) (written_frames hint image ys)
+  frames-append [] ys = sym (join_nothing (written_frames hint image ys))
   frames-append (x ∷ xs) ys =
-      ap (λ r. join (frame (hint x) (image x)) r) (frames-append xs ys) ∙ sym (join_assoc (frame (hint x) (image x)) (frames hint image xs) (frames hint image ys))
+      ap (λ r. join (frame (hint x) (image x)) r) (frames-append xs ys) ∙ sym (join_assoc (frame (hint x) (image x)) (written_frames hint image xs) (written_frames hint image ys))
 
   pub frames_more :
       (xs : List X) (i : ℕ) (x : X) (start now next : List Cell) → i < length xs → x ≡ get_or xs i x →
-      AppendedAll (frames hint image (take i xs)) start now → AppendedAll (frame (hint x) (image x)) now next →
-      AppendedAll (frames hint image (take (i + 1) xs)) start next
+      AppendedAll (written_frames hint image (take i xs)) start now → AppendedAll (frame (hint x) (image x)) now next →
+      AppendedAll (written_frames hint image (take (i + 1) xs)) start next
   frames_more xs i x start now next l e a b = (
     a.0 ++ b.0,
     rw (take_more xs i x l, ← e) (frames-append (take i xs) (x ∷ []) ∙ rw (a.1, b.1, append-nil)),
@@ -64,14 +64,14 @@ module _ {X : Type 0} (hint : X → ℕ) (image : X → Option Image) where
   )
 
   pub frames_none :
-      (xs : List X) (i : ℕ) (x : X) → i < length xs → x ≡ get_or xs i x → frame (hint x) (image x) ≡ None → frames hint image xs ≡ None
+      (xs : List X) (i : ℕ) (x : X) → i < length xs → x ≡ get_or xs i x → frame (hint x) (image x) ≡ None → written_frames hint image xs ≡ None
   frames_none xs i x l e n =
       let split : xs ≡ take i xs ++ (x ∷ drop (i + 1) xs) = sym (take-append-drop i xs) ∙ ap (λ r. take i xs ++ r) (drop_more xs i x l ∙ ap (λ y. y ∷ drop (i + 1) xs) (sym e)) in
-      ap (λ ys. frames hint image ys) split ∙ (frames-append (take i xs) (x ∷ drop (i + 1) xs) ∙ (ap (λ f. join (frames hint image (take i xs)) (join f (frames hint image (drop (i + 1) xs)))) n ∙ join-none (frames hint image (take i xs))))
+      ap (λ ys. written_frames hint image ys) split ∙ (frames-append (take i xs) (x ∷ drop (i + 1) xs) ∙ (ap (λ f. join (written_frames hint image (take i xs)) (join f (written_frames hint image (drop (i + 1) xs)))) n ∙ join-none (written_frames hint image (take i xs))))
 
   pub frames_refused :
       (xs : List X) (i : ℕ) (x : X) (error : CodecError) → i < length xs → x ≡ get_or xs i x →
-      Refused error (frame (hint x) (image x)) → Refused error (frames hint image xs)
+      Refused error (frame (hint x) (image x)) → Refused error (written_frames hint image xs)
   frames_refused xs i x error l e (inl n) = inl (frames_none xs i x l e n)
   frames_refused xs i x error l e (inr m) = inr m
 

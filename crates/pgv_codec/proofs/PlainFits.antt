@@ -7,7 +7,7 @@ use Rattle.pgv_types.specs.declared.oid.Oid.{Oid}
 use Rattle.pgv_nest.specs.Arrays.{element_type}
 use Rattle.pgv_codec.specs.Back.{ArrayFits, FieldFits, written_oid}
 use Rattle.pgv_nest.specs.Grammar.{HasFieldType, of_record, of_composite, of_domain}
-use Rattle.pgv_codec.specs.Image.{Image, or_else, element_type as written_type}
+use Rattle.pgv_codec.specs.Image.{Image, or_else, written_element_type as written_type}
 use Rattle.pgv_codec.specs.Plain.{ArrayIsPlain, HasField, in_composite, in_domain, in_record, FieldIsPlain}
 
 element_is : (t u : Ty) (oid : ℕ) (o : Option Ty) → built_in oid ≡ o → element_of t ≡ Some u → ((other : Ty) → built_in oid ≡ Some other → other ≡ u) → element_type t oid ≡ Some u

@@ -6,7 +6,7 @@ use Rattle.pgv_buf.specs.Tokens.{Token, Cell, bytes, be4, blank, fixed_bytes, wi
 use Rattle.pgv_buf.specs.Blank.{blank-append, plain-blank}
 use Rattle.pgv_buf.specs.Marks.{mark_of}
 use Rattle.pgv_codec.specs.Fronts.{front_is, rest_after_is}
-use Rattle.pgv_codec.specs.Image.{field_at}
+use Rattle.pgv_codec.specs.Image.{counted_field}
 use Rattle.pgv_codec.specs.Record.{Writing, writing_at, IsOpen}
 
 -- what is being written, where the buffer is known
@@ -30,8 +30,8 @@ parts m n was now ts o e =
 pub counted : (n : ℕ) (before next : List Cell) (fs : List Token) → next ≡ before ++ fixed_bytes (be4 n) ++ blank fs → next ≡ before ++ blank (bytes (be4 n) ++ fs)
 counted n before next fs e = e ∙ append_assoc before (fixed_bytes (be4 n)) (blank fs)
 
-pub field_there : (n : ℕ) (f : Option (List Token)) (ts : List Token) → n ≢ 4294967295 → f ≡ Some ts → field_at n f ≡ Some ts
+pub field_there : (n : ℕ) (f : Option (List Token)) (ts : List Token) → n ≢ 4294967295 → f ≡ Some ts → counted_field n f ≡ Some ts
 field_there n f ts l e = rw (e, ne_eqb n 4294967295 l) refl
 
-pub field_too_many : (n : ℕ) (f : Option (List Token)) → n ≡ 4294967295 → field_at n f ≡ None
+pub field_too_many : (n : ℕ) (f : Option (List Token)) → n ≡ 4294967295 → counted_field n f ≡ None
 field_too_many n f e = rw e refl

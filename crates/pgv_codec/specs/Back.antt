@@ -11,7 +11,7 @@ use Rattle.pgv_value.specs.declared.value.PgValueFormat.TheVariants.{Binary}
 use Rattle.pgv_codec.specs.Writing.{write}
 use Rattle.pgv_nest.specs.Arrays.{element_type}
 use Rattle.pgv_nest.specs.Grammar.{HasFieldType}
-use Rattle.pgv_codec.specs.Image.{Image, null_image, image_of, or_else, join, field, record_image, element_type as written_type}
+use Rattle.pgv_codec.specs.Image.{Image, null_image, image_of, or_else, join, field, record_image, written_element_type as written_type}
 use Rattle.pgv_codec.specs.Writing.{image_holes, written_part}
 use Rattle.pgv_nest.specs.Records.{Left, binary_fields, next, fields_of}
 

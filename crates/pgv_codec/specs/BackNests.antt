@@ -18,7 +18,7 @@ use Rattle.pgv_codec.specs.Back.{AreOids, SlotsFit, ImageFits, ReadsBack, is_nul
 use Rattle.pgv_codec.specs.BackParts.{guarded, joined_parts, type_written, SlotsFit-back, AreOids-after, frames_back}
 use Rattle.pgv_nest.specs.Found.{array_there}
 use Rattle.pgv_nest.specs.Grammar.{IsArray}
-use Rattle.pgv_codec.specs.Image.{Image, null_image, image_of, limit, frames, join, typed, header, array_after, array_of_frames, array_image, sized_image, option_image, element_type as written_type}
+use Rattle.pgv_codec.specs.Image.{Image, null_image, image_of, limit, written_frames, join, typed, header, array_after, array_of_frames, array_image, sized_image, option_image, written_element_type as written_type}
 use Rattle.pgv_codec.specs.Nullable.{nullable}
 use Rattle.pgv_codec.specs.Writing.{written_part}
 
@@ -61,7 +61,7 @@ array_parts w n (Some fs) i e =
 
 module _ {A M : Type 0} (info : Ty) (produced : A → Option Ty) (hint : A → ℕ) (image : A → Option Image) (reading : Reading M) (kept : A → M) (fits : A → Ty → List Oid → Type 0) (law : ReadsBack image reading kept fits) where
   -- what is written of elements is an array of what they keep
-  is_array : (xs : List A) (fs ys : List Token) (t : Ty) (p : Option Ty) (os : List Oid) → typed (written_type produced info xs) ≡ Some ys → frames hint image xs ≡ Some fs → nat_le (length xs) limit ≡ true →
+  is_array : (xs : List A) (fs ys : List Token) (t : Ty) (p : Option Ty) (os : List Oid) → typed (written_type produced info xs) ≡ Some ys → written_frames hint image xs ≡ Some fs → nat_le (length xs) limit ≡ true →
       SlotsFit fs → AreOids os → ArrayFits info produced image fits xs t os →
       IsArray (λ u. reading u Binary) t (write p os ((((bytes (be4 1) ++ bytes (be4 0)) ++ ys) ++ (bytes (be4 (length xs)) ++ bytes (be4 1))) ++ fs)) (map kept xs)
   is_array xs fs ys t p os e f few whole small fit =
@@ -91,7 +91,7 @@ module _ {A M : Type 0} (info : Ty) (produced : A → Option Ty) (hint : A → �
   pub array_back : (xs : List A) (i : Image) (t : Ty) (p : Option Ty) (os : List Oid) → array_image hint image produced info xs ≡ Some i → ImageFits i → AreOids os → ArrayFits info produced image fits xs t os →
       array info reading t Binary (written_part i p os) ≡ Some (map kept xs)
   array_back xs i t p os e whole small fit =
-      let a = array_parts (written_type produced info xs) (length xs) (frames hint image xs) i e in
+      let a = array_parts (written_type produced info xs) (length xs) (written_frames hint image xs) i e in
       let fs_fit : SlotsFit a.1 = SlotsFit-back ((((bytes (be4 1) ++ bytes (be4 0)) ++ a.0) ++ (bytes (be4 (length xs)) ++ bytes (be4 1)))) a.1 (subst ImageFits (sym a.5) whole) in
       rw (← a.5) (array_there (λ u. reading u Binary) t _ (map kept xs) (is_array xs a.1 a.0 t p os a.2 a.3 a.4 fs_fit small fit))
 

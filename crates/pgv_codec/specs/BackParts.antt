@@ -17,7 +17,7 @@ use Rattle.pgv_value.specs.declared.value.PgValueFormat.TheVariants.{Binary}
 use Rattle.pgv_codec.specs.Writing.{write, chosen_for}
 use Rattle.pgv_codec.specs.Back.{AreOids, SlotsFit, ReadsBack, FitEach, holes_of, written_oid, oids_after}
 use Rattle.pgv_nest.specs.Grammar.{BeginWithFrames}
-use Rattle.pgv_codec.specs.Image.{Image, null_image, image_of, limit, frame, frame_of, frames, join, typed_oid}
+use Rattle.pgv_codec.specs.Image.{Image, null_image, image_of, limit, frame, frame_of, written_frames, join, typed_oid}
 
 -- ---- writing
 
@@ -170,11 +170,11 @@ module _ {A M : Type 0} (image : A → Option Image) (reading : Reading M) (kept
       )
 
   -- the frames of values, one after another
-  pub frames_back : (hint : A → ℕ) (xs : List A) (fs : List Token) (u : Ty) (p : Option Ty) (os : List Oid) → frames hint image xs ≡ Some fs → SlotsFit fs → AreOids os → FitEach image fits u xs os →
+  pub frames_back : (hint : A → ℕ) (xs : List A) (fs : List Token) (u : Ty) (p : Option Ty) (os : List Oid) → written_frames hint image xs ≡ Some fs → SlotsFit fs → AreOids os → FitEach image fits u xs os →
       BeginWithFrames (reading u Binary) (write p os fs) (map kept xs)
   frames_back hint [] fs u p os e whole small fit = tt
   frames_back hint (x ∷ xs) fs u p os e whole small fit =
-      let a = joined_parts (frame (hint x) (image x)) (frames hint image xs) fs e in
+      let a = joined_parts (frame (hint x) (image x)) (written_frames hint image xs) fs e in
       let g = guarded (nat_le (hint x) limit) (frame_of (image x)) a.0 a.2 in
       let both : SlotsFit (a.0 ++ a.1) = subst SlotsFit (sym a.4) whole in
       let one = frame_back x (image x) a.0 a.1 u p os refl g.1 (SlotsFit-front a.0 a.1 both) small fit.0 in

@@ -15,7 +15,7 @@ use Rattle.pgv_codec.specs.BackParts.{guarded, joined_parts, type_written, oids_
 use Rattle.pgv_nest.specs.Found.{number_of_four, next_there}
 use Rattle.pgv_nest.specs.Grammar.{IsField}
 use Rattle.pgv_value.specs.Frame.{IsFrame}
-use Rattle.pgv_codec.specs.Image.{Image, null_image, image_of, limit, frame, frame_of, join, typed, or_else, field, field_of, field_at, joined, record_of_fields, record_image}
+use Rattle.pgv_codec.specs.Image.{Image, null_image, image_of, limit, frame, frame_of, join, typed, or_else, field, field_of, counted_field, joined_fields, record_of_fields, record_image}
 use Rattle.pgv_codec.specs.Writing.{written_part}
 use Rattle.pgv_nest.specs.Records.{Left, binary_fields, next, fields_of}
 use Rattle.pgv_nest.specs.Tuples.{record_of, ◌then◌}
@@ -23,32 +23,32 @@ use Rattle.pgv_nest.specs.Tuples.{record_of, ◌then◌}
 -- ---- the tokens of a record
 
 -- what is joined to nothing is nothing
-none_joined : (n : ℕ) (fs : List (Option (List Token))) → joined n None fs ≡ None
+none_joined : (n : ℕ) (fs : List (Option (List Token))) → joined_fields n None fs ≡ None
 none_joined n [] = refl
 none_joined n (f ∷ fs) = none_joined (n + 1) fs
 
-joined_in_order : (n : ℕ) (done : List Token) (fs : List (Option (List Token))) (ts : List Token) → joined n (Some done) fs ≡ Some ts → (gs : List Token) × (in_order fs ≡ Some gs) × (done ++ gs ≡ ts)
+joined_in_order : (n : ℕ) (done : List Token) (fs : List (Option (List Token))) (ts : List Token) → joined_fields n (Some done) fs ≡ Some ts → (gs : List Token) × (in_order fs ≡ Some gs) × (done ++ gs ≡ ts)
 joined_in_order n done [] ts e = ([], refl, append-nil done ∙ same_Some done ts e)
 joined_in_order n done (f ∷ fs) ts e = by_test (nat_eq n 4294967295) refl f refl (λ g more. joined_in_order (n + 1) (done ++ g) fs ts more)
   where
     by_test : (b : Bool) → nat_eq n 4294967295 ≡ b → (o : Option (List Token)) → f ≡ o →
-        ((g : List Token) → joined (n + 1) (Some (done ++ g)) fs ≡ Some ts → (gs : List Token) × (in_order fs ≡ Some gs) × ((done ++ g) ++ gs ≡ ts)) →
+        ((g : List Token) → joined_fields (n + 1) (Some (done ++ g)) fs ≡ Some ts → (gs : List Token) × (in_order fs ≡ Some gs) × ((done ++ g) ++ gs ≡ ts)) →
         (gs : List Token) × (in_order (f ∷ fs) ≡ Some gs) × (done ++ gs ≡ ts)
     by_test true b_is o o_is further =
-        let none : joined (n + 1) (join (Some done) (field_at n f)) fs ≡ None = rw b_is (none_joined (n + 1) fs) in
+        let none : joined_fields (n + 1) (join (Some done) (counted_field n f)) fs ≡ None = rw b_is (none_joined (n + 1) fs) in
         absurd cc
     by_test false b_is None o_is further =
-        let none : joined (n + 1) (join (Some done) (field_at n f)) fs ≡ None = rw (b_is, o_is) (none_joined (n + 1) fs) in
+        let none : joined_fields (n + 1) (join (Some done) (counted_field n f)) fs ≡ None = rw (b_is, o_is) (none_joined (n + 1) fs) in
         absurd cc
     by_test false b_is (Some g) o_is further =
-        let same : joined (n + 1) (join (Some done) (field_at n f)) fs ≡ joined (n + 1) (Some (done ++ g)) fs = rw (b_is, o_is) refl in
+        let same : joined_fields (n + 1) (join (Some done) (counted_field n f)) fs ≡ joined_fields (n + 1) (Some (done ++ g)) fs = rw (b_is, o_is) refl in
         let k = further g (sym same ∙ e) in
         (g ++ k.0, ap (λ (r : Option (List Token)). join r (in_order fs)) o_is ∙ ap (λ (r : Option (List Token)). join (Some g) r) k.1, sym (append_assoc done g k.0) ∙ k.2)
 
 record_parts : (fs : List (Option (List Token))) (i : Image) → record_image fs ≡ Some i → (gs : List Token) × (in_order fs ≡ Some gs) × (image_of (bytes (be4 (length fs)) ++ gs) ≡ i)
-record_parts fs i e = by_joined (joined 0 (Some []) fs) refl e
+record_parts fs i e = by_joined (joined_fields 0 (Some []) fs) refl e
   where
-    by_joined : (o : Option (List Token)) → joined 0 (Some []) fs ≡ o → record_of_fields (length fs) o ≡ Some i → (gs : List Token) × (in_order fs ≡ Some gs) × (image_of (bytes (be4 (length fs)) ++ gs) ≡ i)
+    by_joined : (o : Option (List Token)) → joined_fields 0 (Some []) fs ≡ o → record_of_fields (length fs) o ≡ Some i → (gs : List Token) × (in_order fs ≡ Some gs) × (image_of (bytes (be4 (length fs)) ++ gs) ≡ i)
     by_joined None o_is h = absurd cc
     by_joined (Some ts) o_is h =
         let k = joined_in_order 0 [] fs ts o_is in

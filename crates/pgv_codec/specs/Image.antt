@@ -43,14 +43,14 @@ or_else None u = u
 -- ---- lists, over what their elements state
 
 module _ {X : Type 0} (hint : X → ℕ) (image : X → Option Image) where
-  abbrev pub frames : List X → Option (List Token)
-  frames [] = Some []
-  frames (x ∷ xs) = join (frame (hint x) (image x)) (frames xs)
+  abbrev pub written_frames : List X → Option (List Token)
+  written_frames [] = Some []
+  written_frames (x ∷ xs) = join (frame (hint x) (image x)) (written_frames xs)
 
 module _ {X : Type 0} (produced : X → Option Ty) (info : Ty) where
-  abbrev pub element_type : List X → Ty
-  element_type [] = info
-  element_type (x ∷ xs) = or_else (produced x) info
+  abbrev pub written_element_type : List X → Ty
+  written_element_type [] = info
+  written_element_type (x ∷ xs) = or_else (produced x) info
 
 -- one dimension, no flags, the type of the elements, how many there are, and the lower bound
 abbrev pub header : Ty → ℕ → Option (List Token)
@@ -65,7 +65,7 @@ array_of_frames t n None = None
 array_of_frames t n (Some fs) = cond (nat_le n limit) (array_after (header t n) fs) None
 
 abbrev pub array_image : {X : Type 0} → (X → ℕ) → (X → Option Image) → (X → Option Ty) → Ty → List X → Option Image
-array_image hint image produced info xs = array_of_frames (element_type produced info xs) (length xs) (frames hint image xs)
+array_image hint image produced info xs = array_of_frames (written_element_type produced info xs) (length xs) (written_frames hint image xs)
 
 -- an array of n elements; a list of another number is none
 abbrev pub sized_image : {X : Type 0} → ℕ → (X → ℕ) → (X → Option Image) → (X → Option Ty) → Ty → List X → Option Image
@@ -94,17 +94,17 @@ abbrev pub field : {X : Type 0} → (X → ℕ) → (X → Option Image) → (X 
 field hint image produced info x = field_of (or_else (produced x) info) (frame (hint x) (image x))
 
 -- a field after n others: there may be 4294967295
-abbrev pub field_at : ℕ → Option (List Token) → Option (List Token)
-field_at n f = cond (nat_eq n 4294967295) None f
+abbrev pub counted_field : ℕ → Option (List Token) → Option (List Token)
+counted_field n f = cond (nat_eq n 4294967295) None f
 
 -- fields one after another
-abbrev pub joined : ℕ → Option (List Token) → List (Option (List Token)) → Option (List Token)
-joined n done [] = done
-joined n done (f ∷ fs) = joined (n + 1) (join done (field_at n f)) fs
+abbrev pub joined_fields : ℕ → Option (List Token) → List (Option (List Token)) → Option (List Token)
+joined_fields n done [] = done
+joined_fields n done (f ∷ fs) = joined_fields (n + 1) (join done (counted_field n f)) fs
 
 abbrev pub record_of_fields : ℕ → Option (List Token) → Option Image
 record_of_fields n None = None
 record_of_fields n (Some fs) = Some (image_of (bytes (be4 n) ++ fs))
 
 abbrev pub record_image : List (Option (List Token)) → Option Image
-record_image fs = record_of_fields (length fs) (joined 0 (Some []) fs)
+record_image fs = record_of_fields (length fs) (joined_fields 0 (Some []) fs)

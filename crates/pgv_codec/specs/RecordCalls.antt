@@ -4,7 +4,7 @@ use Rattle.std.proofs.Common.{sym, subst, append_assoc}
 use Rattle.std.proofs.lemmas.List.{append-nil}
 use Rattle.pgv_buf.specs.Tokens.{Token, Cell}
 use Rattle.pgv_codec.specs.Fields.{HasFields, no_fields, more_fields, all_fields}
-use Rattle.pgv_codec.specs.Image.{field_at, record_image}
+use Rattle.pgv_codec.specs.Image.{counted_field, record_image}
 use Rattle.pgv_codec.specs.Outcome.{Encoded}
 use Rattle.pgv_codec.specs.Record.{Writing, begun, so_far, AddsField}
 use Rattle.pgv_codec.specs.declared.buffer.IsNull.TheVariants.{No}
@@ -16,7 +16,7 @@ pub data FieldCall : Type 0 where
 
 -- what a call leaves, as the encoder's contract has it
 abbrev pub Leaves : Writing → FieldCall → Writing → Type 0
-Leaves was (adds_field f) now = AddsField (field_at was.count f) was now
+Leaves was (adds_field f) now = AddsField (counted_field was.count f) was now
 Leaves was field_is_refused now = now ≡ was
 
 abbrev pub LeaveAll : Writing → List FieldCall → Writing → Type 0

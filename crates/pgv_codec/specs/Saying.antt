@@ -4,7 +4,7 @@ use Rattle.std.specs.Prelude.{◌≡◌, ℕ, List, [], ◌∷◌, map, Option, 
 use Rattle.std.proofs.Common.{ap}
 use Rattle.std.proofs.lemmas.List.{length-map}
 use Rattle.pgv_types.specs.Ty.{Ty}
-use Rattle.pgv_codec.specs.Image.{Image, null_image, frame, frames, join, or_else, element_type, array_image, sized_image, field, field_of, record_image}
+use Rattle.pgv_codec.specs.Image.{Image, null_image, frame, written_frames, join, or_else, written_element_type, array_image, sized_image, field, field_of, record_image}
 use Rattle.pgv_buf.specs.Tokens.{Token}
 
 pub record Saying : Type 0 where
@@ -46,11 +46,11 @@ field_written info written m = field_of (written info m).value_type (frame (writ
 -- An array is written as its elements' meanings are, where its elements are.
 module _ {X M : Type 0} (hint : X → ℕ) (image : X → Option Image) (produced : X → Option Ty) (info : Ty) (meaning : X → M) (written : Ty → M → Saying)
     (agrees : (x : X) → said hint image produced info x ≡ written info (meaning x)) where
-  frames_agree : (xs : List X) → frames hint image xs ≡ frames (λ m. (written info m).hint) (λ m. (written info m).image) (map meaning xs)
+  frames_agree : (xs : List X) → written_frames hint image xs ≡ written_frames (λ m. (written info m).hint) (λ m. (written info m).image) (map meaning xs)
   frames_agree [] = refl
-  frames_agree (x ∷ xs) = rw (frames_agree xs) (ap (λ (s : Saying). join (frame s.hint s.image) (frames (λ m. (written info m).hint) (λ m. (written info m).image) (map meaning xs))) (agrees x))
+  frames_agree (x ∷ xs) = rw (frames_agree xs) (ap (λ (s : Saying). join (frame s.hint s.image) (written_frames (λ m. (written info m).hint) (λ m. (written info m).image) (map meaning xs))) (agrees x))
 
-  type_agrees : (xs : List X) → element_type produced info xs ≡ element_type (λ m. Some (written info m).value_type) info (map meaning xs)
+  type_agrees : (xs : List X) → written_element_type produced info xs ≡ written_element_type (λ m. Some (written info m).value_type) info (map meaning xs)
   type_agrees [] = refl
   type_agrees (x ∷ xs) = ap (λ (s : Saying). s.value_type) (agrees x)
 

@@ -17,6 +17,12 @@ use pgv_value::CodecError;
 use std::alloc::{AllocError, Global};
 use std::marker::Model;
 
+/// The largest length of a value, and the largest number of elements.
+pub(crate) const LENGTH_LIMIT: usize = 2147483647;
+
+/// The length that stands for null: -1.
+const NULL_LENGTH: u32 = 4294967295;
+
 /// Whether an encoder was given null.
 #[derive(Clone, Copy, Debug, PartialEq, Eq)]
 pub enum IsNull {
@@ -139,7 +145,7 @@ impl PgArgumentBuffer {
         ensures hint { 2147483647 < T.hint value.now → (result ≡ Err (ValueSize (T.hint value.now))) × (self.new ≡ self.old) }
     {
         let hint = value.size_hint();
-        if hint > 2147483647 {
+        if hint > LENGTH_LIMIT {
             return Err(CodecError::ValueSize(hint));
         }
         let mark = self.tokens.mark();
@@ -147,12 +153,12 @@ impl PgArgumentBuffer {
         let start = self.len();
         match value.encode_by_ref(self)? {
             IsNull::Yes => {
-                self.tokens.put_u32(mark, 4294967295);
+                self.tokens.put_u32(mark, NULL_LENGTH);
                 Ok(())
             }
             IsNull::No => {
                 let size = self.len() - start;
-                if size > 2147483647 {
+                if size > LENGTH_LIMIT {
                     return Err(CodecError::ValueSize(size));
                 }
                 self.tokens.put_u32(mark, size as u32);

@@ -8,7 +8,6 @@ use Rattle.pgv_types.specs.Ty.{Ty}
 use Rattle.pgv_types.specs.declared.oid.Oid.{Oid}
 use Rattle.pgv_buf.specs.Tokens.{blank, plain, Cell, fixed, hole_cell, slot_cell, be4, shown, width, hole_count, slot_count, chosen}
 use Rattle.pgv_buf.specs.Blank.{holes-plain}
-use Rattle.pgv_buf.specs.Marks.{same_mark, mark_of, between_marks, IsBefore}
 use Rattle.pgv_buf.specs.Fill.{slot_count-filled, fill_holes, first_number, rest_numbers, fill_slots, slot_types, rest_types}
 use Rattle.pgv_buf.specs.Proper.{width-append, shown-append, first_type}
 use Rattle.pgv_wire.specs.Arguments.{Argument, Framed, all_tokens, types_in, counts_in, framed, early, filled_arguments, filled_frame}
@@ -42,12 +41,6 @@ slot_count-append [] c = omega arith
 slot_count-append (fixed x ∷ a) c = slot_count-append a c
 slot_count-append (hole_cell t s ∷ a) c = slot_count-append a c
 slot_count-append (slot_cell d cs s ∷ a) c = omega (arith, slot_count-append a c)
-
-pub is_before : (a c : List Cell) → IsBefore (mark_of a) (mark_of (a ++ c))
-is_before a c = (omega (arith, width-append a c), omega (arith, hole_count-append a c), omega (arith, slot_count-append a c))
-
-pub between : (a c : List Cell) → between_marks (mark_of a) (mark_of (a ++ c)) ≡ mark_of c
-between a c = same_mark (omega (arith, width-append a c)) (omega (arith, hole_count-append a c)) (omega (arith, slot_count-append a c))
 
 pub one_more :
     {args : List Argument} {hs : List Ty} {ns : List ℕ} {ts : List Cell} → Stands args hs ns ts → (f : Framed) → OfImage f.1 →

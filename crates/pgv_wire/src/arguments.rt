@@ -112,9 +112,9 @@ impl PgArguments {
             self.buffer.back(mark);
             return Err(error);
         }
-        let size = self.buffer.mark().since(mark);
+        let slots = self.buffer.mark().slots() - mark.slots();
         self.types.push(argument_type)?;
-        self.counts.push(size.slots())?;
+        self.counts.push(slots)?;
         Ok(())
     }
 

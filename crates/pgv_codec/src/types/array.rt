@@ -7,11 +7,11 @@ ghost use Rattle.pgv_value.specs.Reading.{Answers};
 ghost use Rattle.pgv_value.specs.declared.error.CodecError.TheVariants.{Memory, UnexpectedNull};
 ghost use Rattle.pgv_value.specs.declared.value.PgValueFormat.TheVariants.{Binary, Text};
 ghost use Rattle.pgv_nest.specs.Arrays.{array, array_in_text, array_of, each, frames};
-ghost use Rattle.pgv_codec.specs.Image.{array_image, or_else, header, frames as written_frames, element_type as written_element_type};
+ghost use Rattle.pgv_codec.specs.Image.{array_image, or_else, header, written_frames, written_element_type};
 ghost use Rattle.pgv_codec.specs.Outcome.{Encoded, Refused, Appended, AppendedAll};
 
 use super::part::read_part;
-use crate::buffer::{IsNull, PgArgumentBuffer};
+use crate::buffer::{IsNull, LENGTH_LIMIT, PgArgumentBuffer};
 use crate::traits::{Codec, Decode, Encode, PgHasArrayType, ReadBack, Type};
 use pgv_nest::array_head_of;
 use pgv_text::{Parts, TextForm};
@@ -30,7 +30,7 @@ pub fn encode_array<T: Encode + Type>(
     ensures appended { OnErr result (Appended out.old out.new) }
 {
     let count = values.len();
-    if count > 2147483647 {
+    if count > LENGTH_LIMIT {
         return Err(CodecError::ArrayLength(count));
     }
     let element = type_of_elements(values)?;

@@ -37,7 +37,7 @@ impl<'a> PgRecordEncoder<'a> {
     ghost use Rattle.std.specs.Borrow.{sem, RestsIfErr};
     ghost use Rattle.pgv_value.specs.declared.error.CodecError.TheVariants.{Memory};
     ghost use Rattle.pgv_codec.specs.contracts.buffer.PgArgumentBuffer.{the_row};
-    ghost use Rattle.pgv_codec.specs.Image.{field, field_at};
+    ghost use Rattle.pgv_codec.specs.Image.{field, counted_field};
     ghost use Rattle.pgv_codec.specs.Outcome.{Refused};
     ghost use Rattle.pgv_codec.specs.Record.{begun, so_far, AddsField};
     ghost use Rattle.pgv_codec.specs.WrittenView.{buffer, written};
@@ -62,12 +62,12 @@ impl<'a> PgRecordEncoder<'a> {
     /// Writes a field: its type and its frame. A refused one is taken back; C12 after 4294967295 fields.
     pub fn encode<T: Encode + Type + Drop>(&mut self, value: T) -> Result<(), CodecError>
         ensures same_reference { self.new.out.ghost_name ≡ self.old.out.ghost_name }
-        ensures ok { OnOk result (AddsField (field_at (written self.old).count (field T.hint T.image T.produced T.info value)) (written self.old) (written self.new)) }
-        ensures err { IfErr result (λ e. Refused e (field_at (written self.old).count (field T.hint T.image T.produced T.info value))) }
+        ensures ok { OnOk result (AddsField (counted_field (written self.old).count (field T.hint T.image T.produced T.info value)) (written self.old) (written self.new)) }
+        ensures err { IfErr result (λ e. Refused e (counted_field (written self.old).count (field T.hint T.image T.produced T.info value))) }
         ensures unchanged { OnErr result (written self.new ≡ written self.old) }
         ensures so_far { buffer self.new ≡ so_far (written self.new) }
     {
-        if self.count == 4294967295 {
+        if self.count == u32::MAX {
             return Err(CodecError::FieldCount);
         }
         let mark = self.out.mark();

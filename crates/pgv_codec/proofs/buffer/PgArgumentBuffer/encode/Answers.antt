@@ -14,10 +14,10 @@ overflow_sub-size g c =
     let h = encoded_image c.push_u32.new.self c.encode_by_ref.new.out c.in-No.is c.in_ok-encode_by_ref.ensures.ok in
     omega (arith, c.len.ensures, c.len-start.ensures, grown c.push_u32.new.self c.encode_by_ref.new.out h.0 h.2)
 
-pub returns-then-size-gt2147483647-clause-err : goal.returns-then-size-gt2147483647-clause-err
-returns-then-size-gt2147483647-clause-err g c =
+pub returns-then-size-gt-LENGTH_LIMIT-clause-err : goal.returns-then-size-gt-LENGTH_LIMIT-clause-err
+returns-then-size-gt-LENGTH_LIMIT-clause-err g c =
     let h = encoded_image c.push_u32.new.self c.encode_by_ref.new.out c.in-No.is c.in_ok-encode_by_ref.ensures.ok in
-    inl (long_frame (g.T.Encode.hint c.args.value.now) (g.T.Encode.image c.args.value.now) h.0 h.1 (omega (arith, c.len.ensures, c.len-start.ensures, grown c.push_u32.new.self c.encode_by_ref.new.out h.0 h.2, c.if-size-gt2147483647.true)))
+    inl (long_frame (g.T.Encode.hint c.args.value.now) (g.T.Encode.image c.args.value.now) h.0 h.1 (omega (arith, c.len.ensures, c.len-start.ensures, grown c.push_u32.new.self c.encode_by_ref.new.out h.0 h.2, c.if-size-gt-LENGTH_LIMIT.true)))
 
 pub put_u32-requires-in-No : goal.put_u32-requires-in-No
 put_u32-requires-in-No g c =
@@ -28,17 +28,17 @@ pub returns-in-Yes-clause-ok : goal.returns-in-Yes-clause-ok
 returns-in-Yes-clause-ok g c =
     let h = encoded_null c.push_u32.new.self c.encode_by_ref.new.out c.in-Yes.is c.in_ok-encode_by_ref.ensures.ok in (
       bytes (be4 4294967295),
-      null_frame (g.T.Encode.hint c.args.value.now) (g.T.Encode.image c.args.value.now) (omega (arith, c.size_hint-hint.ensures, c.if-hint-gt2147483647.false)) h.0,
+      null_frame (g.T.Encode.hint c.args.value.now) (g.T.Encode.image c.args.value.now) (omega (arith, c.size_hint-hint.ensures, c.if-hint-gt-LENGTH_LIMIT.false)) h.0,
       c.put_u32.ensures c.args.self.now (be4 0) [] (c.self-2.view_is ∙ (h.1 ∙ (c.in_ok-push_u32.ensures.ok ∙ sym (append-nil (c.args.self.now ++ fixed_bytes (be4 0)))))) refl (c.mark-mark.ensures ∙ ap mark_of c.self.view_is)
           ∙ append-nil (c.args.self.now ++ fixed_bytes (be4 4294967295)),
     )
 
-pub returns-else-size-gt2147483647-clause-ok : goal.returns-else-size-gt2147483647-clause-ok
-returns-else-size-gt2147483647-clause-ok g c =
+pub returns-else-size-gt-LENGTH_LIMIT-clause-ok : goal.returns-else-size-gt-LENGTH_LIMIT-clause-ok
+returns-else-size-gt-LENGTH_LIMIT-clause-ok g c =
     let h = encoded_image c.push_u32.new.self c.encode_by_ref.new.out c.in-No.is c.in_ok-encode_by_ref.ensures.ok in
     let s : c.len.result - c.len-start.result ≡ tokens_width h.0 = omega (arith, c.len.ensures, c.len-start.ensures, grown c.push_u32.new.self c.encode_by_ref.new.out h.0 h.2) in
     let e = c.put_u32-in-No.ensures c.args.self.now (be4 0) (blank h.0) (c.self-2.view_is ∙ (h.2 ∙ ap (λ r. r ++ blank h.0) c.in_ok-push_u32.ensures.ok)) refl (c.mark-mark.ensures ∙ ap mark_of c.self.view_is) in (
       bytes (be4 (tokens_width h.0)) ++ h.0,
-      image_frame (g.T.Encode.hint c.args.value.now) (g.T.Encode.image c.args.value.now) h.0 (omega (arith, c.size_hint-hint.ensures, c.if-hint-gt2147483647.false)) h.1 (omega (arith, s, c.if-size-gt2147483647.false)),
+      image_frame (g.T.Encode.hint c.args.value.now) (g.T.Encode.image c.args.value.now) h.0 (omega (arith, c.size_hint-hint.ensures, c.if-hint-gt-LENGTH_LIMIT.false)) h.1 (omega (arith, s, c.if-size-gt-LENGTH_LIMIT.false)),
       e ∙ (ap (λ n. c.args.self.now ++ fixed_bytes (be4 n) ++ blank h.0) s ∙ append_assoc c.args.self.now (fixed_bytes (be4 (tokens_width h.0))) (blank h.0)),
     )
