@@ -3,7 +3,7 @@ use Rattle.std.proofs.Common.{◌≡◌, ℕ, suc, ◌+◌, ◌-◌, ◌<◌, �
 use Rattle.std.proofs.lemmas.List.{append-nil}
 use Rattle.pgv_value.specs.Frame.{Part, front}
 use Rattle.pgv_nest.specs.Arrays.{frames}
-use Rattle.pgv_nest.specs.Steps.{◌>>=◌}
+use Rattle.pgv_value.specs.Steps.{◌>>=◌}
 
 module _ {M : Type 0} where
   -- what was read before, and what is still read

@@ -14,6 +14,7 @@ use Rattle.pgv_buf.specs.Tokens.{bytes, be4}
 use Rattle.pgv_value.specs.Frame.{Part}
 use Rattle.pgv_value.specs.Numbers.{fits_signed, whole_number}
 use Rattle.pgv_value.specs.OwnBytes.{own_byte, own_two_bytes, own_four_bytes, own_eight_bytes}
+use Rattle.pgv_value.specs.Steps.{number}
 use Rattle.pgv_value.specs.Scalars.{bool_reading, int_reading, char_reading, oid_reading, uuid_reading, text_reading}
 use Rattle.pgv_value.specs.declared.value.PgValueFormat.TheVariants.{Binary}
 use Rattle.pgv_codec.specs.Back.{ReadsBack, always}
@@ -55,6 +56,7 @@ pub char_back : ReadsBack (signed_image w8) char_reading (λ v. v) always
 char_back v i t p os e whole small fit = char_is_int t (written_part i p os) ∙ own_number w8 v _ refl (own_byte v) i t p os e
 
 pub oid_back : ReadsBack {A = Oid} (λ o. unsigned_image w32 o.0) oid_reading (λ o. o.0) always
+unfolding number
 oid_back o i t p os e whole small fit =
     let g = guarded (nat_lt o.0 (2 ^ 32)) (Some (image_of (bytes (be4 o.0)))) i e in
     rw (part_is (be4 o.0) i p os g.1) (ap (λ (n : ℕ). Some n) (from_be_bytes-to_be_bytes_4 o.0 (ltb-true o.0 (2 ^ 32) g.0)))

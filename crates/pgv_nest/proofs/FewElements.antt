@@ -8,7 +8,7 @@ use Rattle.pgv_types.specs.Ty.{Ty}
 use Rattle.pgv_nest.specs.Arrays.{frames}
 use Rattle.pgv_nest.specs.Found.{frames_there}
 use Rattle.pgv_nest.specs.Grammar.{IsArray, FewElements}
-use Rattle.pgv_nest.specs.Steps.{◌>>=◌}
+use Rattle.pgv_value.specs.Steps.{◌>>=◌}
 
 -- a frame takes four bytes or more
 pub front_takes : (bytes : List ℕ) (part : Part) (rest : List ℕ) → front bytes ≡ Some (part, rest) → 4 + length rest ≤ length bytes

@@ -7,7 +7,7 @@ use Rattle.std.proofs.lemmas.Option.{same_Some}
 use Rattle.pgv_value.specs.Frame.{Part, IsFrame}
 use Rattle.pgv_value.specs.Laws.{AreBytes}
 use Rattle.pgv_nest.specs.Found.{number_of_four}
-use Rattle.pgv_nest.specs.Steps.{◌>>=◌, number}
+use Rattle.pgv_value.specs.Steps.{◌>>=◌, number}
 
 -- ---- steps and tests
 

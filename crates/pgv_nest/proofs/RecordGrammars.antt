@@ -14,7 +14,7 @@ use Rattle.pgv_value.proofs.Fronts.{front_exactly}
 use Rattle.pgv_nest.specs.Found.{number_of_four, field_type_there, field_there, next_there}
 use Rattle.pgv_nest.specs.Grammar.{HasFieldType, of_record, of_custom_record, of_composite, of_domain, Stretch, IsField, ◌and◌, RecordIsItsFields}
 use Rattle.pgv_nest.specs.Records.{is_oid, field_at, if_oid, field_type, field_type_in, field_head, field_in, Left, binary_fields, next, fields_of}
-use Rattle.pgv_nest.specs.Steps.{number}
+use Rattle.pgv_value.specs.Steps.{number}
 use Rattle.pgv_nest.specs.Tuples.{record_of, ◌then◌}
 use Rattle.pgv_nest.proofs.Numbers.{step_taken, test_held, pair_is, number_splits, number_is, bytes_after, after_four, after_frame}
 

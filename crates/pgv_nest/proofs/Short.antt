@@ -1,6 +1,6 @@
 -- Bytes that are too few.
 use Rattle.std.proofs.Common.{◌≡◌, ℕ, List, length, None, refl}
-use Rattle.pgv_nest.specs.Steps.{number}
+use Rattle.pgv_value.specs.Steps.{number}
 
 pub no_number : (bytes : List ℕ) → length bytes ≡ 0 → number bytes ≡ None
 unfolding number

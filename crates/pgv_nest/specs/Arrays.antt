@@ -9,7 +9,7 @@ use Rattle.pgv_value.specs.Frame.{Part, front}
 use Rattle.pgv_value.specs.Reading.{Reading}
 use Rattle.pgv_value.specs.Utf8.{is_utf8}
 use Rattle.pgv_value.specs.declared.value.PgValueFormat.TheVariants.{Text, Binary}
-use Rattle.pgv_nest.specs.Steps.{◌>>=◌, number}
+use Rattle.pgv_value.specs.Steps.{◌>>=◌, number}
 
 -- the type of the elements: the built-in type of the OID that stands there, else the element of the array's type
 abbrev pub element_type : Ty → ℕ → Option Ty

@@ -12,7 +12,7 @@ use Rattle.pgv_value.proofs.Fronts.{frame_in_front}
 use Rattle.pgv_nest.specs.Arrays.{element_type, one_dimension, head, frames, array_of}
 use Rattle.pgv_nest.specs.Grammar.{BeginWithFrames, IsArray, HasFieldType, of_record, of_custom_record, of_composite, of_domain, IsField}
 use Rattle.pgv_nest.specs.Records.{field_type, field_head, field_in, binary_fields, next}
-use Rattle.pgv_nest.specs.Steps.{number}
+use Rattle.pgv_value.specs.Steps.{number}
 
 -- ---- numbers
 

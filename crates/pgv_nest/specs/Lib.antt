@@ -1,4 +1,3 @@
-pub mod Steps
 pub mod Arrays
 pub mod HeadsView
 pub mod Records

@@ -11,7 +11,7 @@ use Rattle.pgv_value.specs.Utf8.{is_utf8}
 use Rattle.pgv_value.specs.declared.error.CodecError.{CodecError}
 use Rattle.pgv_value.specs.declared.value.PgValueFormat.{PgValueFormat}
 use Rattle.pgv_value.specs.declared.value.PgValueFormat.TheVariants.{Text, Binary}
-use Rattle.pgv_nest.specs.Steps.{◌>>=◌, number}
+use Rattle.pgv_value.specs.Steps.{◌>>=◌, number}
 
 -- ---- the types of fields
 

@@ -2,7 +2,7 @@
 use Rattle.std.specs.Prelude.{Option, Some}
 use Rattle.pgv_value.specs.Reading.{Reading}
 use Rattle.pgv_nest.specs.Records.{Left, fields_of}
-use Rattle.pgv_nest.specs.Steps.{◌>>=◌}
+use Rattle.pgv_value.specs.Steps.{◌>>=◌}
 
 -- one step after the other, and what both read
 infixr 12 ◌then◌

@@ -5,9 +5,8 @@ ghost use Rattle.pgv_value.specs.Reading.{Answers};
 ghost use Rattle.pgv_nest.specs.Arrays.{element_type, head, one_dimension};
 ghost use Rattle.pgv_nest.specs.HeadsView.{head_shown};
 
-use crate::number::u32_in_front;
 use pgv_types::{Oid, PgTypeInfo, PgTypeRef};
-use pgv_value::CodecError;
+use pgv_value::{CodecError, u32_in_front};
 
 /// The largest number of elements.
 const MAX_COUNT: u32 = 0x7fff_ffff;

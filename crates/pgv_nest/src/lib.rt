@@ -1,14 +1,12 @@
-//! What is read of arrays and records in binary without knowing what their parts are: a number in front, the head of an array, and
-//! the type of a record's field. The crate of codecs reads the parts.
+//! What is read of arrays and records in binary without knowing what their parts are: the head of an array, and the type of a
+//! record's field. The crate of codecs reads the parts.
 //!
 //! The module [`laws`] ties these readers to what the bytes of a whole array or record are.
 #![tactic(auto)]
 
 pub mod array;
 pub mod laws;
-pub mod number;
 pub mod record;
 
 pub use array::{ArrayHead, array_head_of};
-pub use number::u32_in_front;
 pub use record::field_head_of;

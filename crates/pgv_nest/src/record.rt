@@ -5,9 +5,8 @@ ghost use Rattle.pgv_types.specs.Facts.{oid_of};
 ghost use Rattle.pgv_value.specs.Reading.{Answers};
 ghost use Rattle.pgv_nest.specs.Records.{by_own_oid, field_head, field_type, if_oid, is_oid};
 
-use crate::number::u32_in_front;
 use pgv_types::{Oid, PgType, PgTypeInfo, PgTypeKindRef};
-use pgv_value::CodecError;
+use pgv_value::{CodecError, u32_in_front};
 use std::rc::RcStr;
 
 /// The OID of the type `record`.

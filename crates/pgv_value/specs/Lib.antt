@@ -4,6 +4,7 @@ pub mod ValueView
 pub mod RowView
 pub mod Utf8
 pub mod Frame
+pub mod Steps
 pub mod Numbers
 pub mod Scalars
 pub mod Laws

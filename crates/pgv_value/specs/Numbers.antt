@@ -1,7 +1,7 @@
 -- Whole numbers (PostgreSQL: "Numeric Types", 8.1.1; "Object Identifier Types", 8.19).
 use mir.Val.{hbits}
-use Rattle.std.specs.Prelude.{ℕ, ◌^◌, nat_lt, Bool, ◌||◌, if◌then◌else◌, ℤ, pos, negsuc, List, length, take, Option, Some, None}
-use Rattle.std.specs.Int.{Width, w32, from_be_bytes}
+use Rattle.std.specs.Prelude.{ℕ, ◌^◌, nat_lt, Bool, ◌||◌, if◌then◌else◌, ℤ, pos, negsuc, List, length, Option, Some, None}
+use Rattle.std.specs.Int.{Width}
 use Rattle.byteorder.specs.Endian.{big_number, twos_complement}
 use Rattle.pgv_text.specs.declared.number.NumberFault.{NumberFault}
 use Rattle.pgv_text.specs.declared.number.NumberFault.TheVariants.{Syntax, OutOfRange}
@@ -26,10 +26,6 @@ is_wrong_length bytes = nat_lt (length bytes) 1 || nat_lt 8 (length bytes)
 abbrev pub whole_number : List ℕ → Option ℤ
 whole_number bytes =
     if is_wrong_length bytes then None else Some (twos_complement (length bytes) (big_number (length bytes) bytes))
-
--- four bytes without a sign, the highest first, and anything after them
-abbrev pub four_bytes : List ℕ → Option ℕ
-four_bytes bytes = if nat_lt (length bytes) 4 then None else Some (from_be_bytes w32 (take 4 bytes))
 
 -- the number, if 32 bits without a sign have it
 abbrev pub in_range_unsigned : Option ℕ → Option ℕ

@@ -1,13 +1,14 @@
 -- What the plain types read, in binary and in text (PostgreSQL: "Boolean Type", 8.6; "Numeric Types", 8.1.1;
 -- "Character Types", 8.3; "Object Identifier Types", 8.19; "UUID Type", 8.12).
-use Rattle.std.specs.Prelude.{ℕ, Bool, not, ◌==◌, if◌then◌else◌, ℤ, List, [], ◌∷◌, length, Option, Some, None}
+use Rattle.std.specs.Prelude.{ℕ, Bool, not, ◌==◌, if◌then◌else◌, ℤ, List, [], ◌∷◌, length, Option, Some, None, option_map}
 use Rattle.std.specs.Int.{Width, w8}
 use Rattle.uuid.specs.Text.{parsed}
 use Rattle.pgv_text.specs.Number.{number_value, unsigned_value}
 use Rattle.pgv_text.specs.Scalars.{bool_value, char_value}
 use Rattle.pgv_value.specs.Reading.{Reading}
+use Rattle.pgv_value.specs.Steps.{number}
 use Rattle.pgv_value.specs.Utf8.{is_utf8}
-use Rattle.pgv_value.specs.Numbers.{in_range, in_range_unsigned, whole_number, four_bytes, whole_refusal, number_refusal}
+use Rattle.pgv_value.specs.Numbers.{in_range, in_range_unsigned, whole_number, whole_refusal, number_refusal}
 use Rattle.pgv_value.specs.declared.error.CodecError.{CodecError}
 use Rattle.pgv_value.specs.declared.error.CodecError.TheVariants.{UnexpectedNull, Utf8, Short, WrongLength, Syntax}
 use Rattle.pgv_value.specs.declared.value.PgValueFormat.{PgValueFormat}
@@ -42,7 +43,7 @@ char_reading = scalar (λ bytes. in_range w8 (whole_number bytes)) char_value
 
 -- oid
 abbrev pub oid_reading : Reading ℕ
-oid_reading = scalar four_bytes (λ text. in_range_unsigned (unsigned_value text))
+oid_reading = scalar (λ bytes. option_map (λ n. n.0) (number bytes)) (λ text. in_range_unsigned (unsigned_value text))
 
 -- uuid
 abbrev pub uuid_reading : Reading (List ℕ)

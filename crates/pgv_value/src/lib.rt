@@ -4,9 +4,11 @@
 pub mod error;
 mod frame;
 pub mod laws;
+mod number;
 pub mod read;
 pub mod value;
 
 pub use error::CodecError;
+pub use number::u32_in_front;
 pub use read::{read_bool, read_i8, read_i16, read_i32, read_i64, read_oid, read_uuid};
 pub use value::{PgValue, PgValueFormat, PgValueRef};

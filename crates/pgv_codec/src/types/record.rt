@@ -16,10 +16,10 @@ use crate::buffer::PgArgumentBuffer;
 use crate::traits::{Decode, Encode, Type};
 use crate::types::array::type_of_value;
 use pgv_buf::Mark;
-use pgv_nest::{field_head_of, u32_in_front};
+use pgv_nest::field_head_of;
 use pgv_text::{Parts, TextForm};
 use pgv_types::{Oid, PgTypeInfo};
-use pgv_value::{CodecError, PgValueFormat, PgValueRef};
+use pgv_value::{CodecError, PgValueFormat, PgValueRef, u32_in_front};
 use std::alloc::Global;
 use std::marker::Model;
 

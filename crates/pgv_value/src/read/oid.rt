@@ -6,6 +6,7 @@ ghost use Rattle.pgv_value.specs.Scalars.{oid_reading, oid_refusal};
 ghost use Rattle.pgv_value.specs.declared.error.CodecError.TheVariants.{UnexpectedNull};
 
 use crate::error::CodecError;
+use crate::number::u32_in_front;
 use crate::value::{PgValueFormat, PgValueRef};
 use pgv_text::unsigned_number_of;
 use pgv_types::Oid;
@@ -19,10 +20,10 @@ pub fn read_oid(value: &PgValueRef<'_>) -> Result<Oid, CodecError>
     ensures null { value.now.bytes ≡ None → IsErrOf result UnexpectedNull }
 {
     match value.format() {
-        PgValueFormat::Binary => match value.as_bytes()? {
-            [a, b, c, d, ..] => Ok(Oid(u32::from_be_bytes([*a, *b, *c, *d]))),
-            _ => Err(CodecError::Short),
-        },
+        PgValueFormat::Binary => {
+            let (number, _rest) = u32_in_front(value.as_bytes()?)?;
+            Ok(Oid(number))
+        }
         PgValueFormat::Text => Ok(Oid(u32::try_from(unsigned_number_of(value.as_str()?)?)?)),
     }
 }

@@ -3,9 +3,9 @@
 ghost use Rattle.std.specs.Prelude.{◌≡◌, ◌+◌, length, IfOk, IfErr};
 ghost use Rattle.pgv_value.specs.Reading.{AnswersExactly};
 ghost use Rattle.pgv_value.specs.declared.error.CodecError.TheVariants.{Short};
-ghost use Rattle.pgv_nest.specs.Steps.{number};
+ghost use Rattle.pgv_value.specs.Steps.{number};
 
-use pgv_value::CodecError;
+use crate::error::CodecError;
 
 /// The number of 32 bits in front, the highest byte first, and the rest: of `00000007ff` it is 7, and the rest is `ff`. Fewer
 /// than four bytes are refused with C15.
