@@ -22,10 +22,10 @@ order_in : (m n : ℕ) → pos m ≤ℤ pos n → m ≤ n
 order_in m n h = omega (arith, ints)
 
 -- the four tests of a day, whatever its month's last day is
-tested : (m d last : ℕ) → (nat_le 1 m && nat_le m 12 && nat_le 1 d && nat_le d last) ≡ true → (1 ≤ m) × (m ≤ 12) × (1 ≤ d) × (d ≤ last)
+pub tested : (m d last : ℕ) → (nat_le 1 m && nat_le m 12 && nat_le 1 d && nat_le d last) ≡ true → (1 ≤ m) × (m ≤ 12) × (1 ≤ d) × (d ≤ last)
 tested m d last h = (grind (arith, nat_tests), grind (arith, nat_tests), grind (arith, nat_tests), grind (arith, nat_tests))
 
-there : (m d last : ℕ) → 1 ≤ m → m ≤ 12 → 1 ≤ d → d ≤ last → (nat_le 1 m && nat_le m 12 && nat_le 1 d && nat_le d last) ≡ true
+pub there : (m d last : ℕ) → 1 ≤ m → m ≤ 12 → 1 ≤ d → d ≤ last → (nat_le 1 m && nat_le m 12 && nat_le 1 d && nat_le d last) ≡ true
 there m d last a b e f = grind (arith, nat_tests)
 
 pub day_tested : (y m d : ℕ) → is_day y m d ≡ true → y < 10000 → IsDate (pos y) (pos m) (pos d)
@@ -39,7 +39,7 @@ day_there y m d h =
     let last = days_in_month (pos y) m in
     there m d last (order_in 1 m h.1.0) (order_in m 12 h.1.1) (order_in 1 d h.2.0) (order_in d last h.2.1)
 
-some_there : {X : Type 0} (b : Bool) (x : X) → b ≡ true → Some x ≡ cond b (Some x) None
+pub some_there : {X : Type 0} (b : Bool) (x : X) → b ≡ true → Some x ≡ cond b (Some x) None
 some_there b x h = rw h
 
 none_there : {X : Type 0} (b : Bool) (x : X) → (b ≡ true → ⊥) → None ≡ cond b (Some x) None

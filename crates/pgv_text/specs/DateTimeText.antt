@@ -56,7 +56,7 @@ IsOffsetText text offset =
 
 -- What may follow a date-time, and says nothing: an offset with `+`.
 abbrev pub IsIgnored : List ℕ → Type 0
-IsIgnored text = (text ≡ []) ⊎ ((rest : List ℕ) × (offset : Offset) × (text ≡ 43 ∷ rest) × IsOffsetText text offset)
+IsIgnored text = (text ≡ []) ⊎ ((rest : List ℕ) × (seconds : ℕ) × (text ≡ 43 ∷ rest) × IsHoursText rest seconds)
 
 -- A date, a space and a time, which is never `24:00:00`.
 abbrev pub IsCivilText : List ℕ → DateTime → Type 0

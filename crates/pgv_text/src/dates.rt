@@ -97,55 +97,105 @@ fn civil_front(text: &[u8]) -> Option<(DateTime, &[u8])>
     Some((civil_of(date, time), text))
 }
 
-/// The date of a text: `YYYY-MM-DD`, a day that exists.
-pub fn date(text: &str) -> Option<Date>
-    ensures computed { option_map epoch_day result ≡ spec.date_value text.now }
+/// The date that the whole text is.
+fn whole_date(text: &[u8]) -> Option<Date>
+    ensures { option_map epoch_day result ≡ spec.date_value text.now }
 {
-    match date_front(text.as_bytes()) {
+    match date_front(text) {
         Some((date, [])) => Some(date),
         _ => None,
     }
 }
 
-/// The time of a text: `HH:MM:SS`, perhaps with `.` and one to six digits, or exactly `24:00:00`, which is midnight.
-pub fn time(text: &str) -> Option<Time>
-    ensures computed { option_map time_nanos result ≡ spec.time_value text.now }
+/// The time that the whole text is.
+fn whole_time(text: &[u8]) -> Option<Time>
+    ensures { option_map time_nanos result ≡ spec.time_value text.now }
 {
-    match time_front(text.as_bytes()) {
+    match time_front(text) {
         Some((time, [])) => Some(time),
         _ => None,
     }
 }
 
-/// The date-time of a text: a date, a space and a time, which is never `24:00:00`. An offset that begins with `+` may
-/// follow, and is ignored.
-pub fn date_time(text: &str) -> Option<DateTime>
-    ensures computed { option_map civil_nanos result ≡ spec.date_time_value text.now }
+/// The date-time that the whole text is.
+fn whole_date_time(text: &[u8]) -> Option<DateTime>
+    ensures { option_map civil_nanos result ≡ spec.date_time_value text.now }
 {
-    match civil_front(text.as_bytes()) {
+    match civil_front(text) {
         Some((civil, rest)) if is_ignored(rest) => Some(civil),
         _ => None,
     }
 }
 
-/// The instant of a text: a date, a space, a time, which is never `24:00:00`, and the offset of the clock that shows them.
-pub fn instant(text: &str) -> Option<Timestamp>
-    ensures computed { option_map (λ at. at.nanosecond) result ≡ spec.instant_value text.now }
+/// The instant that the whole text is.
+fn whole_instant(text: &[u8]) -> Option<Timestamp>
+    ensures { option_map (λ at. at.nanosecond) result ≡ spec.instant_value text.now }
 {
-    let Some((civil, rest)) = civil_front(text.as_bytes()) else {
+    let Some((civil, rest)) = civil_front(text) else {
         return None;
     };
     let offset = offset_of(rest)?;
     offset.to_timestamp(civil).ok()
 }
 
-/// The time of a text and its offset: the one and then the other.
-pub fn time_tz(text: &str) -> Option<(Time, Offset)>
-    ensures computed { option_map spec.zoned_numbers result ≡ spec.time_tz_value text.now }
+/// The time and the offset that the whole text is.
+fn whole_time_tz(text: &[u8]) -> Option<(Time, Offset)>
+    ensures { option_map spec.zoned_numbers result ≡ spec.time_tz_value text.now }
 {
-    let Some((time, rest)) = time_front(text.as_bytes()) else {
+    let Some((time, rest)) = time_front(text) else {
         return None;
     };
     let offset = offset_of(rest)?;
     Some((time, offset))
+}
+
+/// The date of a text: `YYYY-MM-DD`, a day that exists.
+pub fn date(text: &str) -> Option<Date>
+    // The date that the text is, or that it is none.
+    ensures reads { IsValueOf IsDateText text.now result }
+    // The same by the computed day number.
+    ensures computed { option_map epoch_day result ≡ spec.date_value text.now }
+{
+    whole_date(text.as_bytes())
+}
+
+/// The time of a text: `HH:MM:SS`, perhaps with `.` and one to six digits, or exactly `24:00:00`, which is midnight.
+pub fn time(text: &str) -> Option<Time>
+    // The time that the text is, or that it is none.
+    ensures reads { IsValueOf IsTimeText text.now result }
+    // The same by the computed nanoseconds.
+    ensures computed { option_map time_nanos result ≡ spec.time_value text.now }
+{
+    whole_time(text.as_bytes())
+}
+
+/// The date-time of a text: a date, a space and a time, which is never `24:00:00`. An offset that begins with `+` may
+/// follow, and is ignored.
+pub fn date_time(text: &str) -> Option<DateTime>
+    // The date-time that the text is, or that it is none.
+    ensures reads { IsValueOf IsDateTimeText text.now result }
+    // The same by the computed nanoseconds.
+    ensures computed { option_map civil_nanos result ≡ spec.date_time_value text.now }
+{
+    whole_date_time(text.as_bytes())
+}
+
+/// The instant of a text: a date, a space, a time, which is never `24:00:00`, and the offset of the clock that shows them.
+pub fn instant(text: &str) -> Option<Timestamp>
+    // The instant that the text is, or that it is none.
+    ensures reads { IsValueOf IsInstantText text.now result }
+    // The same by the computed nanoseconds.
+    ensures computed { option_map (λ at. at.nanosecond) result ≡ spec.instant_value text.now }
+{
+    whole_instant(text.as_bytes())
+}
+
+/// The time of a text and its offset: the one and then the other.
+pub fn time_tz(text: &str) -> Option<(Time, Offset)>
+    // The time and the offset that the text is, or that it is none.
+    ensures reads { IsValueOf IsTimeTzText text.now result }
+    // The same by the computed numbers.
+    ensures computed { option_map spec.zoned_numbers result ≡ spec.time_tz_value text.now }
+{
+    whole_time_tz(text.as_bytes())
 }

@@ -134,7 +134,17 @@ impl IpNetwork {
     /// The network of a text: an address, and perhaps `/` and a decimal number of bits without leading zeros; without
     /// it all bits of the address.
     pub fn from_str(text: &str) -> Option<IpNetwork>
+        // The network that the text is, or that it is none.
+        ensures reads { IsValueOf IsNetworkText text.now result }
+        // The same by the computed address and number.
         ensures computed { option_map network_of result ≡ network_value text.now }
+    {
+        IpNetwork::of_text(text)
+    }
+
+    /// The network that the text is.
+    fn of_text(text: &str) -> Option<IpNetwork>
+        ensures { option_map network_of result ≡ network_value text.now }
     {
         match text.split_once('/') {
             None => address_of(text).map(|ip| IpNetwork::from(ip)),
