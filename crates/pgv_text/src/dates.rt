@@ -134,8 +134,7 @@ fn whole_instant(text: &[u8]) -> Option<Timestamp>
     let Some((civil, rest)) = civil_front(text) else {
         return None;
     };
-    let offset = offset_of(rest)?;
-    offset.to_timestamp(civil).ok()
+    offset_of(rest)?.to_timestamp(civil).ok()
 }
 
 /// The time and the offset that the whole text is.
