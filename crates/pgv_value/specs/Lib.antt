@@ -6,5 +6,7 @@ pub mod Utf8
 pub mod Frame
 pub mod Numbers
 pub mod Scalars
+pub mod DateTimeBinary
+pub mod NetworkBinary
 pub mod Laws
 pub mod OwnBytes

@@ -2,11 +2,15 @@
 //! value's format; null is refused with C13, and a text that is not UTF-8 with C14. No reader takes memory.
 
 mod boolean;
+mod date_time;
 mod integer;
+mod network;
 mod object_id;
 mod unique_id;
 
 pub use boolean::read_bool;
+pub use date_time::{read_date, read_date_time, read_instant, read_time};
 pub use integer::{read_i8, read_i16, read_i32, read_i64};
+pub use network::{read_ip_address, read_ip_network};
 pub use object_id::read_oid;
 pub use unique_id::read_uuid;
