@@ -1,5 +1,8 @@
+use jiff::Timestamp;
+use jiff::civil::{Date, DateTime, Time};
 use pgv_text::*;
 use std::alloc::{AllocError, Global};
+use std::net::{IpAddr, Ipv4Addr, Ipv6Addr};
 use std::test::Fail;
 
 /// The parts of a text, each in brackets.
@@ -165,5 +168,110 @@ fn numbers(rt: HostRuntime) -> Result<(), Fail> {
     assert_eq!(rt; bool_of("t"), Some(true));
     assert_eq!(rt; bool_of("f"), Some(false));
     assert_eq!(rt; bool_of("true"), None);
+    Ok(())
+}
+
+#[test]
+fn dates_and_times(rt: HostRuntime) -> Result<(), Fail> {
+    assert_eq!(rt; date("2024-02-29"), Date::new(2024, 2, 29).ok());
+    assert_eq!(rt; date("0000-01-01"), Date::new(0, 1, 1).ok());
+    for text in [
+        "2023-02-29",
+        "2024-2-29",
+        "2024-02-29 ",
+        "+2024-02-29",
+        "2024-13-01",
+        "",
+    ] {
+        assert!(rt; date(text).is_none());
+    }
+    assert_eq!(rt; time("24:00:00"), Some(Time::midnight()));
+    assert_eq!(rt; time("23:59:59.5"), Time::new(23, 59, 59, 500_000_000).ok());
+    assert_eq!(rt; time("00:00:00.000001"), Time::new(0, 0, 0, 1000).ok());
+    for text in [
+        "24:00:00.0",
+        "23:59:60",
+        "23:60:00",
+        "12:30:00.",
+        "12:30:00.1234567",
+        "12:30",
+        "1:00:00",
+    ] {
+        assert!(rt; time(text).is_none());
+    }
+    Ok(())
+}
+
+#[test]
+fn instants(rt: HostRuntime) -> Result<(), Fail> {
+    let start = DateTime::new(2000, 1, 1, 0, 0, 0, 0).ok();
+    assert_eq!(rt; date_time("2000-01-01 00:00:00"), start);
+    assert_eq!(rt; date_time("2000-01-01 00:00:00+05"), start);
+    for text in [
+        "2000-01-01 00:00:00-05",
+        "2000-01-01T00:00:00",
+        "2000-01-01 24:00:00",
+        "2000-01-01 00:00:00+24",
+    ] {
+        assert!(rt; date_time(text).is_none());
+    }
+    // Half an hour after 2000 began in UTC.
+    assert_eq!(rt;
+        instant("2000-01-01 00:00:00-00:30"),
+        Timestamp::from_second(946_686_600).ok()
+    );
+    for text in [
+        "2000-01-01 00:00:00",
+        "2000-01-01 00:00:00+5",
+        "9999-12-31 23:59:59+00",
+        "2000-01-01 00:00:00+00:60",
+    ] {
+        assert!(rt; instant(text).is_none());
+    }
+    match time_tz("12:30:00+02") {
+        Some((time, offset)) => {
+            assert_eq!(rt; Some(time), Time::new(12, 30, 0, 0).ok());
+            assert_eq!(rt; offset.seconds(), 7200);
+        }
+        None => assert!(rt; false),
+    }
+    assert!(rt; time_tz("12:30:00").is_none());
+    assert!(rt; time_tz("24:00:00-00:00:01").is_some());
+    Ok(())
+}
+
+#[test]
+fn networks(rt: HostRuntime) -> Result<(), Fail> {
+    let ten = IpAddr::from([10, 0, 0, 1]);
+    assert_eq!(rt; IpNetwork::from_str("10.0.0.1"), Some(IpNetwork::from(ten)));
+    assert_eq!(rt; IpNetwork::from_str("10.0.0.1/24"), IpNetwork::new(ten, 24));
+    assert_eq!(rt; IpNetwork::from_str("10.0.0.1/0"), IpNetwork::new(ten, 0));
+    assert!(rt; IpNetwork::new(ten, 33).is_none());
+    match IpNetwork::from_str("::1/128") {
+        Some(network) => {
+            assert!(rt; network.is_ipv6());
+            assert!(rt; !network.is_ipv4());
+            assert_eq!(rt; network.prefix(), 128);
+            assert_eq!(rt; network.ip(), IpAddr::V6(Ipv6Addr::LOCALHOST));
+        }
+        None => assert!(rt; false),
+    }
+    for text in [
+        "10.0.0.01",
+        "::1/129",
+        "1:2:3:4:5:6:7:8::",
+        "10.0.0.1/33",
+        "10.0.0.1/024",
+        "10.0.0.1/",
+        "10.0.0.1/+8",
+        "/8",
+    ] {
+        assert!(rt; IpNetwork::from_str(text).is_none());
+    }
+    assert_eq!(rt;
+        Ipv4Network::new(Ipv4Addr::new(10, 0, 0, 1), 32).map(|network| network.prefix()),
+        Some(32)
+    );
+    assert!(rt; Ipv6Network::new(Ipv6Addr::LOCALHOST, 129).is_none());
     Ok(())
 }

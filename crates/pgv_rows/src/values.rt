@@ -1,7 +1,11 @@
 use bytes::Bytes;
+use jiff::Timestamp;
+use jiff::civil::{Date, DateTime, Time};
+use pgv_text::IpNetwork;
 use pgv_types::{Oid, PgType, PgTypeInfo};
 use pgv_value::*;
 use std::hash::{DefaultHasher, Hasher};
+use std::net::{IpAddr, Ipv6Addr};
 use uuid::Uuid;
 
 fn binary(bytes: &[u8]) -> PgValueRef<'_> {
@@ -141,4 +145,67 @@ fn equal_ids(rt: HostRuntime) {
     let mut second = DefaultHasher::new();
     laws::equal_ids_hash_alike(&id, &id, &mut first, &mut second);
     assert_eq!(rt; first.finish(), second.finish());
+}
+
+#[test]
+fn dates_and_times(rt: HostRuntime) {
+    let rows: [(&[u8], Result<Date, u8>); 6] = [
+        (&[0, 0x2c, 0x95, 0xd3], Ok(Date::MAX)),
+        (&[0, 0x2c, 0x95, 0xd4], Err(30)),
+        (&[0x7f, 0xff, 0xff, 0xff], Err(30)),
+        (&[0, 0x80, 0, 0, 0, 0, 0, 0], Err(30)),
+        (&[], Err(17)),
+        (&[0; 9], Err(17)),
+    ];
+    for (bytes, wanted) in &rows {
+        assert!(rt; answer(read_date(&binary(bytes))) == *wanted);
+    }
+    assert!(rt; answer(read_date(&text("2024-02-29"))).ok() == Date::new(2024, 2, 29).ok());
+    assert!(rt; answer(read_date(&text("2023-02-29"))) == Err(29));
+    assert!(rt;
+        answer(read_time(&binary(&[0xff; 8]))).ok() == Time::new(23, 59, 59, 999_999_000).ok()
+    );
+    assert!(rt; answer(read_time(&text("24:00:00"))) == Ok(Time::midnight()));
+    assert!(rt; answer(read_time(&text("23:59:60"))) == Err(29));
+    assert!(rt; answer(read_time(&null())) == Err(13));
+}
+
+#[test]
+fn instants(rt: HostRuntime) {
+    let start = DateTime::new(2000, 1, 1, 0, 0, 0, 0).ok();
+    assert!(rt; answer(read_date_time(&binary(&[0; 8]))).ok() == start);
+    assert!(rt; answer(read_date_time(&text("2000-01-01 00:00:00+05"))).ok() == start);
+    assert!(rt;
+        answer(read_date_time(&binary(&[0x7f, 0xff, 0xff, 0xff, 0xff, 0xff, 0xff, 0xff])))
+            == Err(30)
+    );
+    let later = Timestamp::from_second(946_686_600).ok();
+    assert!(rt; answer(read_instant(&binary(&[0x6b, 0x49, 0xd2, 0]))).ok() == later);
+    assert!(rt; answer(read_instant(&text("2000-01-01 00:00:00-00:30"))).ok() == later);
+    assert!(rt; answer(read_instant(&text("2000-01-01 00:00:00"))) == Err(29));
+    assert!(rt; answer(read_instant(&binary(&[0x80, 0, 0, 0, 0, 0, 0, 0]))) == Err(30));
+}
+
+#[test]
+fn networks(rt: HostRuntime) {
+    let ten = IpAddr::from([10, 0, 0, 1]);
+    let rows: [(&[u8], Result<IpNetwork, u8>); 6] = [
+        (&[2, 32, 9, 4, 10, 0, 0, 1], Ok(IpNetwork::from(ten))),
+        (&[2, 33, 0, 4, 10, 0, 0, 1], Err(32)),
+        (&[4, 32, 0, 4, 10, 0, 0, 1], Err(31)),
+        (&[2, 32, 0, 4, 10, 0, 0], Err(17)),
+        (&[2, 32, 0, 16, 10, 0, 0, 1], Err(17)),
+        (&[3, 32, 0, 4, 10, 0, 0, 1], Err(17)),
+    ];
+    for (bytes, wanted) in &rows {
+        assert!(rt; answer(read_ip_network(&binary(bytes))) == *wanted);
+    }
+    let mut six = [0; 20];
+    (six[0], six[1], six[3], six[19]) = (3, 128, 16, 1);
+    assert!(rt; answer(read_ip_address(&binary(&six))) == Ok(IpAddr::V6(Ipv6Addr::LOCALHOST)));
+    assert!(rt; answer(read_ip_address(&binary(&[2, 24, 0, 4, 10, 0, 0, 1]))) == Err(33));
+    assert!(rt; answer(read_ip_address(&text("10.0.0.1/24"))) == Err(33));
+    assert!(rt; answer(read_ip_address(&text("10.0.0.1"))) == Ok(ten));
+    assert!(rt; answer(read_ip_network(&text("10.0.0.01"))) == Err(29));
+    assert!(rt; answer(read_ip_network(&null())) == Err(13));
 }

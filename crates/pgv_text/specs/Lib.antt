@@ -11,4 +11,8 @@ pub mod Values
 pub mod View
 pub mod PartsView
 pub mod Spellings
+pub mod FieldText
+pub mod DateTimeText
+pub mod AddressText
+pub mod NetworkText
 pub mod Laws

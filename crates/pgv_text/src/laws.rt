@@ -1,6 +1,9 @@
 //! Laws of the definitions: what holds of every text, with nothing to run.
 
+ghost use Rattle.pgv_text.specs.AddressText.{AddressIsItsValue};
+ghost use Rattle.pgv_text.specs.DateTimeText.{DateIsItsValue, DateTimeIsItsValue, InstantIsItsValue, OneDate, OneDateTime, OneInstant, OneTime, OneTimeTz, TimeIsItsValue, TimeTzIsItsValue};
 ghost use Rattle.pgv_text.specs.Laws.{ArrayIsItsValues, EveryListHasAText, NestIsComputed, OneNest, RecordIsItsValues, SpelledReadsBack, ValuesAreTexts};
+ghost use Rattle.pgv_text.specs.NetworkText.{NetworkIsItsValue, OneNetwork};
 ghost use Rattle.pgv_text.specs.Number.{NumberIsItsValue, OneNumber, OneUnsignedNumber, UnsignedIsItsValue};
 
 /// A text is a number exactly where one is computed of it, and it is that one.
@@ -57,4 +60,69 @@ pub fn spelled_reads_back()
 /// two a range text with any bracket at each end.
 pub fn every_list_has_a_text()
     ensures { EveryListHasAText }
+{}
+
+/// A text is a date exactly where that date's day number is computed of it.
+pub fn date_is_its_value()
+    ensures { DateIsItsValue }
+{}
+
+/// A text is a time exactly where its nanoseconds are computed of it.
+pub fn time_is_its_value()
+    ensures { TimeIsItsValue }
+{}
+
+/// A text is a date-time exactly where its nanoseconds are computed of it.
+pub fn date_time_is_its_value()
+    ensures { DateTimeIsItsValue }
+{}
+
+/// A text is an instant exactly where its nanoseconds are computed of it.
+pub fn instant_is_its_value()
+    ensures { InstantIsItsValue }
+{}
+
+/// A text is a time with its offset exactly where their numbers are computed of it.
+pub fn time_tz_is_its_value()
+    ensures { TimeTzIsItsValue }
+{}
+
+/// A text is a network exactly where that network's address and prefix are computed of it.
+pub fn network_is_its_value()
+    ensures { NetworkIsItsValue }
+{}
+
+/// No text is two dates.
+pub fn one_date()
+    ensures { OneDate }
+{}
+
+/// No text is two times.
+pub fn one_time()
+    ensures { OneTime }
+{}
+
+/// No text is two date-times.
+pub fn one_date_time()
+    ensures { OneDateTime }
+{}
+
+/// No text is two instants.
+pub fn one_instant()
+    ensures { OneInstant }
+{}
+
+/// No text is two times with offsets.
+pub fn one_time_tz()
+    ensures { OneTimeTz }
+{}
+
+/// No text is two networks.
+pub fn one_network()
+    ensures { OneNetwork }
+{}
+
+/// A text writes an address exactly where that address is computed of it.
+pub fn address_is_its_value()
+    ensures { AddressIsItsValue }
 {}

@@ -3,13 +3,19 @@
 //! answers a value exactly where the text is in its grammar.
 #![tactic(auto)]
 
+pub mod dates;
+mod field;
 pub mod laws;
 pub mod nest;
+pub mod network;
 pub mod number;
+mod offset;
 pub mod parts;
 pub mod scanner;
 
+pub use dates::{date, date_time, instant, time, time_tz};
 pub use nest::{array_elements, range_parts, record_fields};
+pub use network::{IpNetwork, Ipv4Network, Ipv6Network};
 pub use number::{NumberFault, bool_of, char_of, number_of, unsigned_number_of};
 pub use parts::Parts;
 pub use scanner::TextForm;

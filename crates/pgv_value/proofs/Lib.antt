@@ -1,3 +1,4 @@
 mod Text
 mod Narrower
 pub mod Fronts
+pub mod NetworkBytes

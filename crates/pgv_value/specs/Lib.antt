@@ -7,5 +7,7 @@ pub mod Frame
 pub mod Steps
 pub mod Numbers
 pub mod Scalars
+pub mod DateTimeBinary
+pub mod NetworkBinary
 pub mod Laws
 pub mod OwnBytes

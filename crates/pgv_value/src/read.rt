@@ -2,11 +2,15 @@
 //! value's format; null is refused with C13, and a text that is not UTF-8 with C14. No reader takes memory.
 
 mod bool;
+mod date_time;
 mod int;
+mod network;
 mod oid;
 mod uuids;
 
 pub use bool::read_bool;
+pub use date_time::{read_date, read_date_time, read_instant, read_time};
 pub use int::{read_i8, read_i16, read_i32, read_i64};
+pub use network::{read_ip_address, read_ip_network};
 pub use oid::read_oid;
 pub use uuids::read_uuid;

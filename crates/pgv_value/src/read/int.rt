@@ -13,7 +13,7 @@ use byteorder::{BigEndian, ByteOrder};
 use pgv_text::{char_of, number_of};
 
 /// The number in one to eight bytes of two's complement, the highest first. Another length is refused with C17.
-fn whole_number_of(bytes: &[u8]) -> Result<i64, CodecError>
+pub(crate) fn whole_number_of(bytes: &[u8]) -> Result<i64, CodecError>
     ensures exact { AnswersExactly (λ number. number) (whole_number bytes.now) result }
     ensures refused { IfErr result (λ e. e ≡ whole_refusal bytes.now) }
 {

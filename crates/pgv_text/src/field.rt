@@ -1,0 +1,84 @@
+//! What the texts of dates, times and offsets are made of: fields of digits, separators, and the fraction of a second.
+//! Each function reads the front of a text, and gives the text after it.
+
+ghost use Rattle.std.specs.Prelude.{◌≡◌, ◌<◌, ◌≤◌, ◌*◌, IfSome};
+ghost use Rattle.std.specs.Option.{option_copied};
+ghost use Rattle.pgv_text.specs.FieldText as spec;
+
+/// The text after this byte.
+pub(crate) fn after(text: &[u8], byte: u8) -> Option<&[u8]>
+    ensures { option_copied result ≡ spec.after byte text.now }
+{
+    match text {
+        [first, rest @ ..] if *first == byte => Some(rest),
+        _ => None,
+    }
+}
+
+/// The number of two digits.
+pub(crate) fn two(text: &[u8]) -> Option<(u8, &[u8])>
+    ensures value { spec.in_front (λ n. n) result ≡ spec.two text.now }
+    ensures bound { IfSome result (λ found. found.0 < 100) }
+{
+    match text {
+        [high @ b'0'..=b'9', low @ b'0'..=b'9', rest @ ..] => {
+            Some(((high - b'0') * 10 + (low - b'0'), rest))
+        }
+        _ => None,
+    }
+}
+
+/// The number of two digits, if it is below the limit.
+pub(crate) fn two_below(text: &[u8], limit: u8) -> Option<(u8, &[u8])>
+    ensures value { spec.in_front (λ n. n) result ≡ spec.two_below limit text.now }
+    ensures bound { IfSome result (λ found. found.0 < limit) }
+{
+    let (number, rest) = two(text)?;
+    if number < limit {
+        Some((number, rest))
+    } else {
+        None
+    }
+}
+
+/// The number of four digits.
+pub(crate) fn four(text: &[u8]) -> Option<(u16, &[u8])>
+    ensures value { spec.in_front (λ n. n) result ≡ spec.four text.now }
+    ensures bound { IfSome result (λ found. found.0 < 10_000) }
+{
+    let (high, text) = two(text)?;
+    let (low, text) = two(text)?;
+    Some((high as u16 * 100 + low as u16, text))
+}
+
+/// What the digits at the front are worth, the first of them this unit and each other a tenth of the one before it, down
+/// to 1.
+fn worth(text: &[u8], unit: u32) -> (u32, &[u8])
+    requires { unit ≤ 100_000 }
+    ensures value { (result.0, result.1.now) ≡ spec.worth unit text.now }
+    ensures none { unit ≡ 0 → result.0 ≡ 0 }
+    ensures bound { 0 < unit → result.0 < 10 * unit }
+{
+    match text {
+        [digit @ b'0'..=b'9', rest @ ..] if unit > 0 => {
+            let (less, rest) = worth(rest, unit / 10);
+            ((digit - b'0') as u32 * unit + less, rest)
+        }
+        _ => (0, text),
+    }
+}
+
+/// The nanoseconds of a fraction of a second, of one to six digits, or 0 where the text does not begin with `.`.
+pub(crate) fn fraction(text: &[u8]) -> Option<(u32, &[u8])>
+    ensures value { spec.in_front (λ n. n) result ≡ spec.fraction text.now }
+    ensures bound { IfSome result (λ found. found.0 < 1_000_000_000) }
+{
+    match text {
+        [b'.', b'0'..=b'9', ..] => {
+            let (micros, rest) = worth(&text[1..], 100_000);
+            Some((micros * 1000, rest))
+        }
+        [b'.', ..] => None,
+        _ => Some((0, text)),
+    }
+}

@@ -1,0 +1,52 @@
+-- What dates, times, date-times and instants read (PostgreSQL: "Date/Time Types", 8.5). A date is seen as its day number from
+-- 1970-01-01, a time as its nanoseconds, and a date-time and an instant as their nanoseconds from 1970.
+use mir.Syntax.{w32}
+use Rattle.std.specs.Prelude.{ℕ, ◌*◌, ◌&&◌, if◌then◌else◌, ℤ, pos, neg_ℤ, ◌+ℤ◌, ◌*ℤ◌, int_le, unsigned_abs, List, Option, Some, None}
+use Rattle.std.specs.Option.{option_map, option_and_then}
+use Rattle.std.specs.Int.{int_rem_euclid}
+use Rattle.pgv_text.specs.DateTimeText.{date_value, time_value, date_time_value, instant_value, instant_nanos}
+use Rattle.pgv_value.specs.Numbers.{in_range, whole_number, whole_refusal}
+use Rattle.pgv_value.specs.Reading.{Reading}
+use Rattle.pgv_value.specs.Scalars.{scalar, refusal}
+use Rattle.pgv_value.specs.declared.error.CodecError.{CodecError}
+use Rattle.pgv_value.specs.declared.error.CodecError.TheVariants.{Syntax}
+use Rattle.pgv_value.specs.declared.value.PgValueFormat.{PgValueFormat}
+
+-- The day number that many days after 2000-01-01, which is day 10957, where there is such a date.
+abbrev pub day_after : ℤ → Option ℤ
+day_after days =
+    if int_le (neg_ℤ (pos 4_371_587)) (days +ℤ pos 10_957) && int_le (days +ℤ pos 10_957) (pos 2_932_896) then Some (days +ℤ pos 10_957)
+    else None
+
+-- The nanoseconds of the time that many microseconds after midnight, round the clock.
+abbrev pub time_after : ℤ → ℕ
+time_after micros = unsigned_abs (int_rem_euclid micros (pos 86_400_000_000)) * 1000
+
+-- The nanoseconds from 1970 that many microseconds after 2000-01-01 00:00.
+abbrev pub nanos_after : ℤ → ℤ
+nanos_after micros = micros *ℤ pos 1000 +ℤ pos 946_684_800_000_000_000
+
+-- The number, if a date-time has it.
+abbrev pub civil_at : ℤ → Option ℤ
+civil_at nanos =
+    if int_le (neg_ℤ (pos 377_705_116_800_000_000_000)) nanos && int_le nanos (pos 253_402_300_799_999_999_999) then Some nanos else None
+
+-- date: whole days from 2000-01-01
+abbrev pub date_reading : Reading ℤ
+date_reading = scalar (λ bytes. option_and_then day_after (in_range w32 (whole_number bytes))) date_value
+
+-- time: microseconds of the day
+abbrev pub time_reading : Reading ℕ
+time_reading = scalar (λ bytes. option_map time_after (whole_number bytes)) time_value
+
+-- timestamp: microseconds from 2000-01-01 00:00
+abbrev pub date_time_reading : Reading ℤ
+date_time_reading = scalar (λ bytes. option_and_then (λ micros. civil_at (nanos_after micros)) (whole_number bytes)) date_time_value
+
+-- timestamptz: microseconds from 2000-01-01 00:00 UTC
+abbrev pub instant_reading : Reading ℤ
+instant_reading = scalar (λ bytes. option_and_then (λ micros. instant_nanos (nanos_after micros)) (whole_number bytes)) instant_value
+
+-- Why each of them is refused: C17 or C30 in binary, and C29 in text.
+abbrev pub date_time_refusal : PgValueFormat → Option (List ℕ) → CodecError
+date_time_refusal = refusal whole_refusal (λ _. Syntax)

@@ -1,0 +1,130 @@
+//! Dates, times of day, date-times and instants.
+
+ghost use Rattle.std.specs.Prelude.{◌≡◌, None, IfErr, IsErrOf};
+ghost use Rattle.std.specs.Option.{option_map};
+ghost use Rattle.jiff.specs.Words.{civil_nanos, epoch_day, time_nanos};
+ghost use Rattle.pgv_text.specs.DateTimeText.{instant_nanos};
+ghost use Rattle.pgv_value.specs.DateTimeBinary.{civil_at, date_reading, date_time_reading, date_time_refusal, day_after, instant_reading, nanos_after, time_after, time_reading};
+ghost use Rattle.pgv_value.specs.Reading.{AnswersExactly};
+ghost use Rattle.pgv_value.specs.declared.error.CodecError.TheVariants.{OutOfRange, UnexpectedNull};
+
+use super::int::whole_number_of;
+use crate::error::CodecError;
+use crate::value::{PgValueFormat, PgValueRef};
+use jiff::Timestamp;
+use jiff::civil::{Date, DateTime, Time};
+use pgv_text::{date, date_time, instant, time};
+
+/// The day number of 2000-01-01.
+const FIRST_DAY: i64 = 10_957;
+
+/// The nanoseconds of 2000-01-01 00:00.
+const FIRST_NANOSECOND: i128 = 946_684_800_000_000_000;
+
+/// The microseconds of a day.
+const DAY: i64 = 86_400_000_000;
+
+/// The date that many days after 2000-01-01.
+fn date_after(days: i32) -> Option<Date>
+    ensures { option_map epoch_day result ≡ day_after days }
+{
+    match jiff_core::civil::Date::from_unix_epoch_day(days as i64 + FIRST_DAY) {
+        Ok(plain) => Some(Date::from_plain(plain)),
+        Err(_) => None,
+    }
+}
+
+/// The time that many microseconds after midnight, round the clock.
+fn time_at(micros: i64) -> Time
+    ensures { time_nanos result ≡ time_after micros }
+{
+    let micros = micros.rem_euclid(DAY) as u64;
+    Time::from_plain(jiff_core::civil::Time::from_nanosecond(micros * 1000))
+}
+
+/// The nanoseconds from 1970 that many microseconds after 2000-01-01 00:00.
+fn nanos_of(micros: i64) -> i128
+    ensures { result ≡ nanos_after micros }
+{
+    micros as i128 * 1000 + FIRST_NANOSECOND
+}
+
+/// The date-time that many microseconds after 2000-01-01 00:00.
+fn date_time_after(micros: i64) -> Option<DateTime>
+    ensures { option_map civil_nanos result ≡ civil_at (nanos_after micros) }
+{
+    match jiff_core::civil::DateTime::from_nanosecond(nanos_of(micros)) {
+        Ok(plain) => Some(DateTime::from_plain(plain)),
+        Err(_) => None,
+    }
+}
+
+/// The instant that many microseconds after 2000-01-01 00:00 UTC.
+fn instant_after(micros: i64) -> Option<Timestamp>
+    ensures { option_map (λ at. at.nanosecond) result ≡ instant_nanos (nanos_after micros) }
+{
+    Timestamp::from_nanosecond(nanos_of(micros)).ok()
+}
+
+/// Reads a `date`: in binary the days from 2000-01-01, in one to eight bytes of two's complement, and in text
+/// `YYYY-MM-DD`. Another number of bytes is refused with C17, a day outside the years -9999 to 9999 with C30, and
+/// another text with C29.
+pub fn read_date(value: &PgValueRef<'_>) -> Result<Date, CodecError>
+    ensures exact { AnswersExactly epoch_day (date_reading value.now.type_info value.now.format value.now.bytes) result }
+    ensures refused { IfErr result (λ e. e ≡ date_time_refusal value.now.format value.now.bytes) }
+    ensures null { value.now.bytes ≡ None → IsErrOf result UnexpectedNull }
+{
+    match value.format() {
+        PgValueFormat::Binary => match i32::try_from(whole_number_of(value.as_bytes()?)?) {
+            Ok(days) => date_after(days).ok_or(CodecError::OutOfRange),
+            Err(_) => Err(CodecError::OutOfRange),
+        },
+        PgValueFormat::Text => date(value.as_str()?).ok_or(CodecError::Syntax),
+    }
+}
+
+/// Reads a `time`: in binary the microseconds of the day, in one to eight bytes of two's complement and round the clock,
+/// and in text `HH:MM:SS`, perhaps with a fraction of up to six digits, or `24:00:00` for midnight. Another number of bytes
+/// is refused with C17, and another text with C29.
+pub fn read_time(value: &PgValueRef<'_>) -> Result<Time, CodecError>
+    ensures exact { AnswersExactly time_nanos (time_reading value.now.type_info value.now.format value.now.bytes) result }
+    ensures refused { IfErr result (λ e. e ≡ date_time_refusal value.now.format value.now.bytes) }
+    ensures null { value.now.bytes ≡ None → IsErrOf result UnexpectedNull }
+{
+    match value.format() {
+        PgValueFormat::Binary => Ok(time_at(whole_number_of(value.as_bytes()?)?)),
+        PgValueFormat::Text => time(value.as_str()?).ok_or(CodecError::Syntax),
+    }
+}
+
+/// Reads a `timestamp`: in binary the microseconds from 2000-01-01 00:00, in one to eight bytes of two's complement, and
+/// in text a date, a space, a time, and perhaps an offset with `+`, which is ignored. Another number of bytes is refused
+/// with C17, a date-time outside the years -9999 to 9999 with C30, and another text with C29.
+pub fn read_date_time(value: &PgValueRef<'_>) -> Result<DateTime, CodecError>
+    ensures exact { AnswersExactly civil_nanos (date_time_reading value.now.type_info value.now.format value.now.bytes) result }
+    ensures refused { IfErr result (λ e. e ≡ date_time_refusal value.now.format value.now.bytes) }
+    ensures null { value.now.bytes ≡ None → IsErrOf result UnexpectedNull }
+{
+    match value.format() {
+        PgValueFormat::Binary => {
+            date_time_after(whole_number_of(value.as_bytes()?)?).ok_or(CodecError::OutOfRange)
+        }
+        PgValueFormat::Text => date_time(value.as_str()?).ok_or(CodecError::Syntax),
+    }
+}
+
+/// Reads a `timestamptz`: in binary the microseconds from 2000-01-01 00:00 UTC, in one to eight bytes of two's complement,
+/// and in text a date, a space, a time and an offset. Another number of bytes is refused with C17, an instant outside
+/// those of `jiff` with C30 in binary, and another text with C29.
+pub fn read_instant(value: &PgValueRef<'_>) -> Result<Timestamp, CodecError>
+    ensures exact { AnswersExactly (λ at. at.nanosecond) (instant_reading value.now.type_info value.now.format value.now.bytes) result }
+    ensures refused { IfErr result (λ e. e ≡ date_time_refusal value.now.format value.now.bytes) }
+    ensures null { value.now.bytes ≡ None → IsErrOf result UnexpectedNull }
+{
+    match value.format() {
+        PgValueFormat::Binary => {
+            instant_after(whole_number_of(value.as_bytes()?)?).ok_or(CodecError::OutOfRange)
+        }
+        PgValueFormat::Text => instant(value.as_str()?).ok_or(CodecError::Syntax),
+    }
+}

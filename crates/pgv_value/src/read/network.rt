@@ -1,0 +1,111 @@
+//! Networks and addresses.
+
+ghost use Rattle.std.specs.Prelude.{◌≡◌, None, IfErr, IsErrOf};
+ghost use Rattle.pgv_text.specs.NetworkText.{network_of, network_value};
+ghost use Rattle.pgv_text.specs.NetworkText as spec;
+ghost use Rattle.pgv_value.specs.NetworkBinary.{address_binary, address_reading, address_refusal, address_refused, full_address, network_binary, network_reading, network_refusal, network_refused};
+ghost use Rattle.pgv_value.specs.Reading.{AnswersExactly};
+ghost use Rattle.pgv_value.specs.declared.error.CodecError.TheVariants.{InetPrefix, LossyAddress, Syntax, UnexpectedNull};
+
+use crate::error::CodecError;
+use crate::value::{PgValueFormat, PgValueRef};
+use pgv_text::IpNetwork;
+use std::net::{IpAddr, Ipv4Addr, Ipv6Addr};
+
+/// The address of a family, the number of its octets as it is written, and the octets.
+fn address_of(family: u8, count: u8, octets: &[u8]) -> Option<IpAddr>
+    ensures { result ≡ address_binary family count octets.now }
+{
+    match (family, count) {
+        (2, 4) => match <[u8; 4]>::try_from(octets) {
+            Ok(octets) => Some(IpAddr::V4(Ipv4Addr::from_octets(octets))),
+            Err(_) => None,
+        },
+        (3, 16) => match <[u8; 16]>::try_from(octets) {
+            Ok(octets) => Some(IpAddr::V6(Ipv6Addr::from_octets(octets))),
+            Err(_) => None,
+        },
+        _ => None,
+    }
+}
+
+/// Why bytes of that number have no address.
+fn address_fault(family: u8, len: usize) -> CodecError
+    ensures { result ≡ address_refused family len }
+{
+    match family {
+        2 | 3 => CodecError::WrongLength(len),
+        _ if len < 8 => CodecError::WrongLength(len),
+        _ => CodecError::InetFamily(family),
+    }
+}
+
+/// The network of an address and a prefix. A prefix above the number of the address's bits is refused with C32.
+fn network_with(address: IpAddr, prefix: u8) -> Result<IpNetwork, CodecError>
+    ensures exact { AnswersExactly network_of (spec.network_with address prefix) result }
+    ensures refused { IfErr result (λ e. e ≡ InetPrefix prefix) }
+{
+    IpNetwork::new(address, prefix).ok_or(CodecError::InetPrefix(prefix))
+}
+
+/// The network of bytes. Fewer than eight bytes, or others than the family has, are refused with C17, a family other than
+/// 2 and 3 with C31, and a prefix above the number of the address's bits with C32.
+fn network_of_bytes(bytes: &[u8]) -> Result<IpNetwork, CodecError>
+    ensures exact { AnswersExactly network_of (network_binary bytes.now) result }
+    ensures refused { IfErr result (λ e. e ≡ network_refused bytes.now) }
+{
+    let [family, prefix, _, count, octets @ ..] = bytes else {
+        return Err(CodecError::WrongLength(bytes.len()));
+    };
+    let Some(address) = address_of(*family, *count, octets) else {
+        return Err(address_fault(*family, bytes.len()));
+    };
+    network_with(address, *prefix)
+}
+
+/// The network of a text. Another text is refused with C29.
+fn network_of_text(text: &str) -> Result<IpNetwork, CodecError>
+    ensures exact { AnswersExactly network_of (network_value text.now) result }
+    ensures refused { IfErr result (λ e. e ≡ Syntax) }
+{
+    IpNetwork::from_str(text).ok_or(CodecError::Syntax)
+}
+
+/// The address of a network whose prefix is full. Another prefix is refused with C33.
+fn address_alone(network: IpNetwork) -> Result<IpAddr, CodecError>
+    ensures exact { AnswersExactly (λ address. address) (full_address (network_of network)) result }
+    ensures refused { IfErr result (λ e. e ≡ LossyAddress) }
+{
+    match network {
+        IpNetwork::V4(network) if network.prefix() == 32 => Ok(IpAddr::V4(network.ip())),
+        IpNetwork::V6(network) if network.prefix() == 128 => Ok(IpAddr::V6(network.ip())),
+        _ => Err(CodecError::LossyAddress),
+    }
+}
+
+/// Reads an `inet` or a `cidr`: in binary the family, the prefix, a byte that is ignored, the number of octets and the
+/// octets, and in text an address, and perhaps `/` and the prefix. Refused are a wrong length with C17, another family with
+/// C31, a prefix that is too long with C32, and another text with C29.
+pub fn read_ip_network(value: &PgValueRef<'_>) -> Result<IpNetwork, CodecError>
+    ensures exact { AnswersExactly network_of (network_reading value.now.type_info value.now.format value.now.bytes) result }
+    ensures refused { IfErr result (λ e. e ≡ network_refusal value.now.format value.now.bytes) }
+    ensures null { value.now.bytes ≡ None → IsErrOf result UnexpectedNull }
+{
+    match value.format() {
+        PgValueFormat::Binary => network_of_bytes(value.as_bytes()?),
+        PgValueFormat::Text => network_of_text(value.as_str()?),
+    }
+}
+
+/// Reads an `inet` or a `cidr` as an address, as [`read_ip_network`] reads them; a prefix that is not full is refused with
+/// C33.
+pub fn read_ip_address(value: &PgValueRef<'_>) -> Result<IpAddr, CodecError>
+    ensures exact { AnswersExactly (λ address. address) (address_reading value.now.type_info value.now.format value.now.bytes) result }
+    ensures refused { IfErr result (λ e. e ≡ address_refusal value.now.format value.now.bytes) }
+    ensures null { value.now.bytes ≡ None → IsErrOf result UnexpectedNull }
+{
+    match value.format() {
+        PgValueFormat::Binary => address_alone(network_of_bytes(value.as_bytes()?)?),
+        PgValueFormat::Text => address_alone(network_of_text(value.as_str()?)?),
+    }
+}
