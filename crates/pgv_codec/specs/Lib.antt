@@ -18,3 +18,5 @@ pub mod BackScalars
 pub mod BackRecords
 pub mod Plain
 pub mod RecordCalls
+pub mod WithHint
+pub mod DateTimeBinary

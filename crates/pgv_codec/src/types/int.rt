@@ -5,8 +5,9 @@ ghost use Rattle.pgv_types.specs.Relations.{softly};
 ghost use Rattle.pgv_types.specs.Ty.{builtin};
 ghost use Rattle.std.specs.Int.{w8, w16, w32, w64};
 ghost use Rattle.pgv_codec.specs.Scalars.{signed_image};
-ghost use Rattle.std.specs.Prelude.{ℤ, Some, false, refl};
+ghost use Rattle.std.specs.Prelude.{ℤ, Some, false, refl, IfOk, IfErr, OnErr};
 ghost use Rattle.pgv_value.specs.Scalars.{char_reading, char_refusal, int_reading, int_refusal};
+ghost use Rattle.pgv_codec.specs.Outcome.{Encoded, Refused, Appended};
 ghost use Rattle.pgv_codec.specs.Saying.{plainly};
 
 use crate::buffer::{IsNull, PgArgumentBuffer};
@@ -14,6 +15,28 @@ use crate::traits::{Codec, Decode, Encode, PgHasArrayType, ReadBack, Type};
 use pgv_types::{PgType, PgTypeInfo};
 use pgv_value::{CodecError, PgValueRef, read_i8, read_i16, read_i32, read_i64};
 use std::alloc::{AllocError, Global};
+
+/// Appends a number in four bytes, the highest first.
+pub(crate) fn write_i32(number: i32, out: &mut PgArgumentBuffer) -> Result<IsNull, CodecError>
+    ensures ok { IfOk result (λ n. Encoded n (signed_image w32 number) out.old out.new) }
+    ensures err { IfErr result (λ e. Refused e (signed_image w32 number)) }
+    ensures appended { OnErr result (Appended out.old out.new) }
+{
+    let number = number.to_be_bytes();
+    out.extend_from_slice(&number)?;
+    Ok(IsNull::No)
+}
+
+/// Appends a number in eight bytes, the highest first.
+pub(crate) fn write_i64(number: i64, out: &mut PgArgumentBuffer) -> Result<IsNull, CodecError>
+    ensures ok { IfOk result (λ n. Encoded n (signed_image w64 number) out.old out.new) }
+    ensures err { IfErr result (λ e. Refused e (signed_image w64 number)) }
+    ensures appended { OnErr result (Appended out.old out.new) }
+{
+    let number = number.to_be_bytes();
+    out.extend_from_slice(&number)?;
+    Ok(IsNull::No)
+}
 
 /// `"char"` (OID 18), read under `"char"` and domains over it.
 impl Type for i8 {
@@ -216,9 +239,7 @@ impl Encode for i32 {
     ghost image = { signed_image w32 };
 
     fn encode_by_ref(&self, out: &mut PgArgumentBuffer) -> Result<IsNull, CodecError> {
-        let number = self.to_be_bytes();
-        out.extend_from_slice(&number)?;
-        Ok(IsNull::No)
+        write_i32(*self, out)
     }
 
     fn size_hint(&self) -> usize {
@@ -299,9 +320,7 @@ impl Encode for i64 {
     ghost image = { signed_image w64 };
 
     fn encode_by_ref(&self, out: &mut PgArgumentBuffer) -> Result<IsNull, CodecError> {
-        let number = self.to_be_bytes();
-        out.extend_from_slice(&number)?;
-        Ok(IsNull::No)
+        write_i64(*self, out)
     }
 
     fn size_hint(&self) -> usize {

@@ -2,6 +2,8 @@
 
 pub mod array;
 pub mod bool;
+pub mod date;
+pub mod datetime;
 mod field_list;
 pub mod int;
 pub mod oid;
@@ -10,6 +12,8 @@ mod part;
 pub mod record;
 pub mod reference;
 pub mod str;
+pub mod time;
+pub mod timestamp;
 pub mod tuple;
 pub mod uuids;
 pub mod void;

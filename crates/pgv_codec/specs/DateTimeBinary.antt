@@ -1,0 +1,25 @@
+-- What dates, times, date-times and instants are written as (PostgreSQL: "Date/Time Types", 8.5): whole numbers, the highest byte
+-- first. A date is seen as its day number from 1970-01-01, a time as its nanoseconds, and a date-time and an instant as their
+-- nanoseconds from 1970.
+use Rattle.std.specs.Prelude.{ℕ, ◌/◌, ℤ, pos, ◌-ℤ◌, int_div, Option}
+use Rattle.std.specs.Int.{w32, w64}
+use Rattle.pgv_codec.specs.Image.{Image}
+use Rattle.pgv_codec.specs.Scalars.{signed_image}
+
+-- a day, as days from 2000-01-01, which is day 10957
+abbrev pub days_of : ℤ → ℤ
+days_of day = day -ℤ pos 10_957
+
+abbrev pub date_image : ℤ → Option Image
+date_image day = signed_image w32 (days_of day)
+
+-- a time, as microseconds of the day, the rest cut off
+abbrev pub time_image : ℕ → Option Image
+time_image nanos = signed_image w64 (pos (nanos / 1000))
+
+-- a moment, as microseconds from 2000-01-01 00:00, the difference cut towards zero
+abbrev pub micros_of : ℤ → ℤ
+micros_of nanos = int_div (nanos -ℤ pos 946_684_800_000_000_000) (pos 1000)
+
+abbrev pub moment_image : ℤ → Option Image
+moment_image nanos = signed_image w64 (micros_of nanos)
