@@ -20,3 +20,5 @@ pub mod Plain
 pub mod RecordCalls
 pub mod WithHint
 pub mod DateTimeBinary
+pub mod DateTimeKept
+pub mod DateTimeBack

@@ -10,7 +10,7 @@ ghost use Rattle.pgv_codec.specs.WithHint.{with_hint};
 
 use super::int::write_i32;
 use crate::buffer::{IsNull, PgArgumentBuffer};
-use crate::traits::{Codec, Decode, Encode, PgHasArrayType, Type};
+use crate::traits::{Codec, Decode, Encode, PgHasArrayType, ReadBack, Type};
 use jiff::civil::Date;
 use pgv_types::{PgType, PgTypeInfo};
 use pgv_value::{CodecError, PgValueRef, read_date};
@@ -89,6 +89,18 @@ impl Decode for Date {
     fn decode(_alloc: Global, value: PgValueRef<'_>) -> Result<Date, CodecError> {
         read_date(&value)
     }
+}
+
+/// A date comes back as it is.
+impl ReadBack for Date {
+    ghost use Rattle.pgv_codec.specs.Back.{always};
+    ghost use Rattle.pgv_codec.specs.DateTimeBack.{date_back};
+
+    ghost kept = { λ v. v };
+
+    ghost fits = { always };
+
+    ghost reads_back = { date_back };
 }
 
 impl Codec for Date {

@@ -10,7 +10,7 @@ ghost use Rattle.pgv_codec.specs.WithHint.{with_hint};
 
 use super::int::write_i64;
 use crate::buffer::{IsNull, PgArgumentBuffer};
-use crate::traits::{Codec, Decode, Encode, PgHasArrayType, Type};
+use crate::traits::{Codec, Decode, Encode, PgHasArrayType, ReadBack, Type};
 use jiff::civil::Time;
 use pgv_types::{PgType, PgTypeInfo};
 use pgv_value::{CodecError, PgValueRef, read_time};
@@ -89,6 +89,19 @@ impl Decode for Time {
     fn decode(_alloc: Global, value: PgValueRef<'_>) -> Result<Time, CodecError> {
         read_time(&value)
     }
+}
+
+/// A time comes back in whole microseconds; what is less is cut off.
+impl ReadBack for Time {
+    ghost use Rattle.pgv_codec.specs.Back.{always};
+    ghost use Rattle.pgv_codec.specs.DateTimeBack.{time_back};
+    ghost use Rattle.pgv_codec.specs.DateTimeKept.{time_kept};
+
+    ghost kept = { time_kept };
+
+    ghost fits = { always };
+
+    ghost reads_back = { time_back };
 }
 
 impl Codec for Time {

@@ -9,7 +9,7 @@ ghost use Rattle.pgv_codec.specs.WithHint.{with_hint};
 
 use super::int::write_i64;
 use crate::buffer::{IsNull, PgArgumentBuffer};
-use crate::traits::{Codec, Decode, Encode, PgHasArrayType, Type};
+use crate::traits::{Codec, Decode, Encode, PgHasArrayType, ReadBack, Type};
 use jiff::Timestamp;
 use pgv_types::{PgType, PgTypeInfo};
 use pgv_value::{CodecError, PgValueRef, read_instant};
@@ -88,6 +88,19 @@ impl Decode for Timestamp {
     fn decode(_alloc: Global, value: PgValueRef<'_>) -> Result<Timestamp, CodecError> {
         read_instant(&value)
     }
+}
+
+/// An instant comes back in whole microseconds, cut towards 2000-01-01 00:00 UTC.
+impl ReadBack for Timestamp {
+    ghost use Rattle.pgv_codec.specs.Back.{always};
+    ghost use Rattle.pgv_codec.specs.DateTimeBack.{instant_back};
+    ghost use Rattle.pgv_codec.specs.DateTimeKept.{instant_kept};
+
+    ghost kept = { instant_kept };
+
+    ghost fits = { always };
+
+    ghost reads_back = { instant_back };
 }
 
 impl Codec for Timestamp {

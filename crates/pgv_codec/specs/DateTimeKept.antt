@@ -1,0 +1,71 @@
+-- What comes back of a time, a date-time and an instant: whole microseconds. A time is cut towards midnight, and a moment towards
+-- 2000-01-01 00:00, so one before 2000 may come back as the next day's midnight.
+use Rattle.std.specs.Prelude.{◌≡◌, ℕ, ◌+◌, ◌*◌, ◌/◌, ◌%◌, ◌<◌, ◌≤◌, nat_lt, int_lt, Bool, true, false, ℤ, pos, negsuc, neg_ℤ, int_div, ◌+ℤ◌, ◌-ℤ◌, ◌*ℤ◌, ◌≤ℤ◌, ◌<ℤ◌, refl}
+use Rattle.std.specs.Int.{IsInRange}
+use Rattle.std.proofs.Common.{arith}
+use Rattle.std.proofs.lemmas.Bool.{ltb-true}
+use Rattle.std.proofs.lemmas.Int.{ints}
+use Rattle.jiff_core.specs.declared.civil.date.Date.{Date}
+use Rattle.jiff_core.specs.declared.civil.datetime.DateTime.{DateTime}
+use Rattle.jiff_core.specs.declared.civil.time.Time.{Time}
+use Rattle.jiff_core.specs.declared.timestamp.Timestamp.{Timestamp}
+use Rattle.jiff_core.specs.Calendar.{IsYear, days_in_month}
+use Rattle.jiff_core.specs.Time.{time_nanos}
+use Rattle.jiff_core.specs.Timestamp.{IsTimestampNanos}
+use Rattle.jiff_core.proofs.CalendarLemmas.{days_in_month_bounds}
+use Rattle.jiff_core.proofs.DateTimeLemmas.{time_nanos_bound}
+use Rattle.pgv_value.specs.DateTimeBinary.{nanos_after}
+use Rattle.pgv_codec.specs.DateTimeBinary.{micros_of}
+
+-- ---- a time of so many nanoseconds
+
+pub hour_fits : (n : ℕ) → n < 86_400_000_000_000 → n / 3_600_000_000_000 < 24
+hour_fits n lt = omega arith
+
+pub minute_fits : (n : ℕ) → n / 60_000_000_000 % 60 < 60
+minute_fits n = omega arith
+
+pub second_fits : (n : ℕ) → n / 1_000_000_000 % 60 < 60
+second_fits n = omega arith
+
+pub fraction_fits : (n : ℕ) → n % 1_000_000_000 < 1_000_000_000
+fraction_fits n = omega arith
+
+abbrev pub time_of : (n : ℕ) → n < 86_400_000_000_000 → Time
+time_of n lt = record {
+  hour = n / 3_600_000_000_000;
+  minute = n / 60_000_000_000 % 60;
+  second = n / 1_000_000_000 % 60;
+  subsec_nanosecond = n % 1_000_000_000;
+  hour_in = hour_fits n lt;
+  minute_in = minute_fits n;
+  second_in = second_fits n;
+  subsec_in = fraction_fits n;
+}
+
+-- whole microseconds of a number of nanoseconds
+abbrev pub cut : ℕ → ℕ
+cut n = n / 1000 * 1000
+
+pub cut_fits : (n : ℕ) → n < 86_400_000_000_000 → cut n < 86_400_000_000_000
+cut_fits n lt = omega arith
+
+abbrev pub time_kept : Time → Time
+time_kept t = time_of (cut (time_nanos t)) (cut_fits (time_nanos t) (time_nanos_bound t))
+
+-- ---- an instant
+
+-- a difference that is cut towards zero stays between two numbers around it
+cut_between : (low high x : ℤ) → low ≤ℤ pos 0 → pos 0 ≤ℤ high → low ≤ℤ x → x ≤ℤ high → (low ≤ℤ (int_div x (pos 1000) *ℤ pos 1000)) × ((int_div x (pos 1000) *ℤ pos 1000) ≤ℤ high)
+cut_between low high (pos n) a b l h = (omega (arith, ints, a), omega (arith, ints, h))
+cut_between low high (negsuc n) a b l h = (omega (arith, ints, l), omega (arith, ints, b))
+
+pub instant_fits : (n : ℤ) → IsTimestampNanos n → IsTimestampNanos (nanos_after (micros_of n))
+instant_fits n h =
+    let low : ℤ = neg_ℤ (pos 378_651_708_001_000_000_000) in
+    let high : ℤ = pos 252_455_522_400_999_999_999 in
+    let c = cut_between low high (n -ℤ pos 946_684_800_000_000_000) (omega (arith, ints)) (omega (arith, ints)) (omega (arith, ints, h.0)) (omega (arith, ints, h.1)) in
+    (omega (arith, ints, c.0), omega (arith, ints, c.1))
+
+abbrev pub instant_kept : Timestamp → Timestamp
+instant_kept at = record { nanosecond = nanos_after (micros_of at.nanosecond); in_range = instant_fits at.nanosecond at.in_range }
