@@ -4,17 +4,19 @@ use Rattle.std.specs.Int.{Width, w32, w64, cast_unsigned, to_be_bytes}
 use Rattle.std.proofs.Common.{ap, sym, ◌∙◌, arith}
 use Rattle.std.proofs.lemmas.Int.{ints}
 use Rattle.jiff_core.specs.declared.civil.date.Date.{Date}
+use Rattle.jiff_core.specs.declared.civil.datetime.DateTime.{DateTime}
 use Rattle.jiff_core.specs.declared.civil.time.Time.{Time}
 use Rattle.jiff_core.specs.declared.timestamp.Timestamp.{Timestamp}
 use Rattle.jiff_core.specs.Date.{epoch_day}
+use Rattle.jiff_core.specs.DateTime.{civil_nanos}
 use Rattle.jiff_core.specs.Time.{time_nanos}
 use Rattle.jiff_core.proofs.DateLemmas.{epoch_day_range}
-use Rattle.jiff_core.proofs.DateTimeLemmas.{time_nanos_bound}
+use Rattle.jiff_core.proofs.DateTimeLemmas.{civil_nanos_range, time_nanos_bound}
 use Rattle.pgv_types.specs.Ty.{Ty}
 use Rattle.pgv_types.specs.declared.oid.Oid.{Oid}
 use Rattle.pgv_buf.specs.Tokens.{bytes}
 use Rattle.pgv_text.specs.DateTimeText.{instant_nanos}
-use Rattle.pgv_value.specs.DateTimeBinary.{day_after, time_after, nanos_after, date_reading, time_reading, instant_reading}
+use Rattle.pgv_value.specs.DateTimeBinary.{day_after, time_after, nanos_after, civil_at, date_reading, time_reading, date_time_reading, instant_reading}
 use Rattle.pgv_value.specs.Numbers.{fits_signed, whole_number}
 use Rattle.pgv_value.specs.OwnBytes.{own_four_bytes, own_eight_bytes}
 use Rattle.pgv_value.specs.declared.value.PgValueFormat.TheVariants.{Binary}
@@ -22,7 +24,8 @@ use Rattle.pgv_codec.specs.Back.{ReadsBack, always}
 use Rattle.pgv_codec.specs.BackParts.{guarded}
 use Rattle.pgv_codec.specs.BackScalars.{part_is}
 use Rattle.pgv_codec.specs.DateTimeBinary.{days_of, date_image, time_image, micros_of, moment_image}
-use Rattle.pgv_codec.specs.DateTimeKept.{time_kept, time_of, cut, cut_fits, instant_kept}
+use Rattle.pgv_codec.specs.DateTimeAgain.{date_time_again}
+use Rattle.pgv_codec.specs.DateTimeKept.{time_kept, date_time_kept, instant_kept}
 use Rattle.pgv_codec.specs.Image.{Image, image_of}
 use Rattle.pgv_codec.specs.Scalars.{signed_image}
 use Rattle.pgv_codec.specs.Writing.{written_part}
@@ -73,3 +76,13 @@ pub instant_back : ReadsBack {A = Timestamp} (λ at. moment_image at.nanosecond)
 instant_back at i t p os e whole small fit =
     let n = number_part w64 (micros_of at.nanosecond) i p os (own_eight_bytes (micros_of at.nanosecond)) e in
     rw (n.part, n.said) (instant_again at)
+
+moment_again : (at : DateTime) → civil_at (nanos_after (micros_of (civil_nanos at))) ≡ Some (civil_nanos (date_time_kept at))
+moment_again at =
+    let r = civil_nanos_range (date_time_kept at) in
+    between _ _ (nanos_after (micros_of (civil_nanos at))) (civil_nanos (date_time_kept at)) (λ n. n) (date_time_again at) r.0 r.1
+
+pub date_time_back : ReadsBack {A = DateTime} (λ at. moment_image (civil_nanos at)) date_time_reading (λ at. civil_nanos (date_time_kept at)) always
+date_time_back at i t p os e whole small fit =
+    let n = number_part w64 (micros_of (civil_nanos at)) i p os (own_eight_bytes (micros_of (civil_nanos at))) e in
+    rw (n.part, n.said) (moment_again at)

@@ -69,3 +69,54 @@ instant_fits n h =
 
 abbrev pub instant_kept : Timestamp → Timestamp
 instant_kept at = record { nanosecond = nanos_after (micros_of at.nanosecond); in_range = instant_fits at.nanosecond at.in_range }
+
+-- ---- a date-time
+
+pub day_more : (d : Date) → nat_lt d.day (days_in_month d.year d.month) ≡ true → IsInRange 1 (days_in_month d.year d.month) (d.day + 1)
+day_more d e = let lt = ltb-true d.day (days_in_month d.year d.month) e in (omega arith, omega (arith, lt))
+
+pub month_more : (d : Date) → nat_lt d.month 12 ≡ true → IsInRange 1 12 (d.month + 1)
+month_more d e = let lt = ltb-true d.month 12 e in (omega arith, omega (arith, lt))
+
+pub first_day : (y : ℤ) (m : ℕ) → IsInRange 1 (days_in_month y m) 1
+first_day y m = let b = days_in_month_bounds y m in (omega arith, omega (arith, b.1))
+
+pub first_month : IsInRange 1 12 1
+first_month = (omega arith, omega arith)
+
+pub year_more : (y : ℤ) → IsYear y → y <ℤ pos 2000 → IsYear (y +ℤ pos 1)
+year_more y h lt = (omega (arith, ints, h.0), omega (arith, ints, lt))
+
+abbrev pub by_month : (d : Date) → d.year <ℤ pos 2000 → (b : Bool) → nat_lt d.month 12 ≡ b → Date
+by_month d early true e = record { year = d.year; month = d.month + 1; day = 1; year_in = d.year_in; month_in = month_more d e; day_in = first_day d.year (d.month + 1) }
+by_month d early false e = record { year = d.year +ℤ pos 1; month = 1; day = 1; year_in = year_more d.year d.year_in early; month_in = first_month; day_in = first_day (d.year +ℤ pos 1) 1 }
+
+abbrev pub by_day : (d : Date) → d.year <ℤ pos 2000 → (b : Bool) → nat_lt d.day (days_in_month d.year d.month) ≡ b → Date
+by_day d early true e = record { year = d.year; month = d.month; day = d.day + 1; year_in = d.year_in; month_in = d.month_in; day_in = day_more d e }
+by_day d early false e = by_month d early _ refl
+
+-- the next day of a date before 2000
+abbrev pub next_day : (d : Date) → d.year <ℤ pos 2000 → Date
+next_day d early = by_day d early _ refl
+
+-- the whole microseconds that a number of nanoseconds begins
+abbrev pub cut_up : ℕ → ℕ
+cut_up n = cut (n + 999)
+
+pub midnight_fits : 0 < 86_400_000_000_000
+midnight_fits = omega arith
+
+pub is_early : (y : ℤ) → int_lt y (pos 2000) ≡ true → y <ℤ pos 2000
+is_early y e = grind (arith, ints)
+
+-- before 2000 the time is cut up, which may end its day
+abbrev pub before_2000 : (at : DateTime) → at.date.year <ℤ pos 2000 → (b : Bool) → nat_lt (cut_up (time_nanos at.time)) 86_400_000_000_000 ≡ b → DateTime
+before_2000 at early true e = record { date = at.date; time = time_of (cut_up (time_nanos at.time)) (ltb-true (cut_up (time_nanos at.time)) 86_400_000_000_000 e) }
+before_2000 at early false e = record { date = next_day at.date early; time = time_of 0 midnight_fits }
+
+abbrev pub by_year : (at : DateTime) (b : Bool) → int_lt at.date.year (pos 2000) ≡ b → DateTime
+by_year at true e = before_2000 at (is_early at.date.year e) _ refl
+by_year at false e = record { date = at.date; time = time_kept at.time }
+
+abbrev pub date_time_kept : DateTime → DateTime
+date_time_kept at = by_year at _ refl

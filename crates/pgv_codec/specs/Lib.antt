@@ -22,3 +22,4 @@ pub mod WithHint
 pub mod DateTimeBinary
 pub mod DateTimeKept
 pub mod DateTimeBack
+pub mod DateTimeAgain

@@ -10,7 +10,7 @@ ghost use Rattle.pgv_codec.specs.WithHint.{with_hint};
 
 use super::int::write_i64;
 use crate::buffer::{IsNull, PgArgumentBuffer};
-use crate::traits::{Codec, Decode, Encode, PgHasArrayType, Type};
+use crate::traits::{Codec, Decode, Encode, PgHasArrayType, ReadBack, Type};
 use jiff::civil::DateTime;
 use pgv_types::{PgType, PgTypeInfo};
 use pgv_value::{CodecError, PgValueRef, read_date_time};
@@ -89,6 +89,20 @@ impl Decode for DateTime {
     fn decode(_alloc: Global, value: PgValueRef<'_>) -> Result<DateTime, CodecError> {
         read_date_time(&value)
     }
+}
+
+/// A date-time comes back in whole microseconds, cut towards 2000-01-01 00:00: one before 2000 may come back as the midnight
+/// after it.
+impl ReadBack for DateTime {
+    ghost use Rattle.pgv_codec.specs.Back.{always};
+    ghost use Rattle.pgv_codec.specs.DateTimeBack.{date_time_back};
+    ghost use Rattle.pgv_codec.specs.DateTimeKept.{date_time_kept};
+
+    ghost kept = { date_time_kept };
+
+    ghost fits = { always };
+
+    ghost reads_back = { date_time_back };
 }
 
 impl Codec for DateTime {
