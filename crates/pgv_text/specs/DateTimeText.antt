@@ -16,7 +16,7 @@ use Rattle.pgv_text.specs.FieldText.{two_digits, four_digits, IsFractionIfAny, F
 
 -- ---- what the texts are; 45 is `-`, 58 is `:`, 43 is `+` and 32 is a space
 
--- A date: `YYYY-MM-DD`.
+-- A date: `YYYY-MM-DD`. The year of a date is at most 9999.
 abbrev pub IsDateText : List ℕ → Date → Type 0
 IsDateText text date =
     (year : ℕ) × (date.year ≡ pos year) × (text ≡ four_digits year ++ 45 ∷ two_digits date.month ++ 45 ∷ two_digits date.day)

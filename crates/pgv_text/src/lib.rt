@@ -1,4 +1,4 @@
-//! Readers of the texts that PostgreSQL writes for values: whole numbers, the type "char", truth values,
+//! Readers of the texts that PostgreSQL writes for values: whole numbers, the type "char", truth values, dates, times, networks,
 //! and the lists of optional texts in arrays, ranges and records. They know no types and no wire format, and each
 //! answers a value exactly where the text is in its grammar.
 #![tactic(auto)]
