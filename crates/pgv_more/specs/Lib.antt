@@ -1,0 +1,3 @@
+pub mod Bits
+pub mod Packing
+pub mod SameBits

@@ -1,0 +1,6 @@
+//! Value types of the project's own: lists of bits and MAC addresses, with what they are written as and read of.
+#![tactic(auto)]
+
+pub mod bit_vec;
+
+pub use bit_vec::BitVec;
