@@ -1,3 +1,9 @@
 pub mod Bits
 pub mod Packing
 pub mod SameBits
+pub mod BitsBinary
+pub mod BitsText
+pub mod BitsCodec
+pub mod MacAddressText
+pub mod MacAddressCodec
+pub mod WithHint

@@ -1,7 +1,11 @@
 //! Lists of bits (PostgreSQL, "Bit String Types"), kept as bytes, eight bits to a byte, the first of them the highest.
 
-ghost use Rattle.std.specs.Prelude.{◌≡◌, ◌↔◌, ◌++◌, ◌+◌, ◌*◌, ◌<◌, ◌≤◌, ◌==◌, ℕ, Bool, List, [], ◌∷◌, length, take, slice_get, IfOk, OnOk, OnErr, IsSome, option_to_list};
+ghost use Rattle.std.specs.Prelude.{◌≡◌, ◌↔◌, ◌++◌, ◌+◌, ◌*◌, ◌<◌, ◌≤◌, ◌==◌, ℕ, Bool, List, [], ◌∷◌, length, take, map, slice_get, if◌then◌else◌, Some, None, option_map, IfOk, OnOk, OnErr, IsSome, option_to_list};
 ghost use Rattle.pgv_more.specs.Bits.{bits_of, byte_count, low_bits, number_of, packed};
+ghost use Rattle.std.specs.List.{list_all};
+ghost use Rattle.pgv_more.specs.BitsText.{bits_in_text, is_digit, is_one};
+
+mod codec;
 
 use std::alloc::{AllocError, Global};
 use std::marker::Model;
@@ -59,6 +63,29 @@ impl BitVec {
             bytes: Vec::from_slice(alloc, bytes)?,
             count,
         })
+    }
+
+    /// The first bits of these bytes, so many, as many as a server sends bytes for.
+    pub(crate) fn from_packed(alloc: Global, bytes: &[u8], count: usize) -> Result<BitVec, AllocError>
+        requires { length bytes.now ≡ byte_count count }
+        ensures { IfOk result (λ b. b ≡ take count (bits_of bytes.now)) }
+    {
+        let mut bytes = Vec::from_slice(alloc, bytes)?;
+        cut(&mut bytes, count);
+        Ok(BitVec { bytes, count })
+    }
+
+    /// The bits of digits `0` and `1`, where there are only these.
+    pub(crate) fn from_digits(alloc: Global, digits: &[u8]) -> Result<Option<BitVec>, AllocError>
+        ensures { IfOk result (λ b. b ≡ bits_in_text digits.now) }
+    {
+        match bytes_of_digits(alloc, digits)? {
+            Some(bytes) => Ok(Some(BitVec {
+                bytes,
+                count: digits.len(),
+            })),
+            None => Ok(None),
+        }
     }
 
     /// The bits in bytes, eight to a byte, the first of them the highest; what is after the last bit is zero. `101` is `a0`.
@@ -184,6 +211,39 @@ fn bytes_of_bits(alloc: Global, bits: &[bool]) -> Result<Vec<u8>, AllocError>
         rest = after;
     }
     Ok(bytes)
+}
+
+/// The byte of at most eight digits `0` and `1`.
+fn byte_of_digits(digits: &[u8]) -> Option<u8>
+    requires { length digits.now ≤ 8 }
+    ensures { result ≡ (if list_all is_digit digits.now then Some (number_of 8 (map is_one digits.now)) else None) }
+{
+    let mut byte = 0;
+    for place in 0..digits.len() {
+        let digit = digits[place];
+        if digit != b'0' && digit != b'1' {
+            return None;
+        }
+        byte = with_bit(byte, place, digit == b'1');
+    }
+    Some(byte)
+}
+
+/// The bytes of digits `0` and `1`, where there are only these.
+fn bytes_of_digits(alloc: Global, digits: &[u8]) -> Result<Option<Vec<u8>>, AllocError>
+    ensures { IfOk result (λ v. option_map (λ bytes. bytes.items) v ≡ option_map packed (bits_in_text digits.now)) }
+{
+    let mut bytes = Vec::with_capacity(alloc, digits.len().div_ceil(8))?;
+    let mut rest = digits;
+    while !rest.is_empty() {
+        let (first, after) = rest.split_at(rest.len().min(8));
+        let Some(byte) = byte_of_digits(first) else {
+            return Ok(None);
+        };
+        bytes.push(byte)?;
+        rest = after;
+    }
+    Ok(Some(bytes))
 }
 
 /// Appends a bit to the bytes of so many bits. Refused, it leaves them.

@@ -2,5 +2,7 @@
 #![tactic(auto)]
 
 pub mod bit_vec;
+pub mod mac_address;
 
 pub use bit_vec::BitVec;
+pub use mac_address::MacAddress;
