@@ -23,7 +23,7 @@ use Rattle.pgv_codec.specs.Writing.{written_part}
 use Rattle.pgv_codec.specs.Scalars.{has_room, signed_image, unsigned_image, bool_image, text_image, uuid_image}
 
 -- plain bytes are written as they are
-part_is : (xs : List ℕ) (i : Image) (p : Option Ty) (os : List Oid) → (let o : Option Image = Some (image_of (bytes xs)) in o) ≡ Some i → written_part i p os ≡ Some xs
+pub part_is : (xs : List ℕ) (i : Image) (p : Option Ty) (os : List Oid) → (let o : Option Image = Some (image_of (bytes xs)) in o) ≡ Some i → written_part i p os ≡ Some xs
 part_is xs i p os e = rw (← same_Some (image_of (bytes xs)) i e) (ap (λ (ys : List ℕ). let q : Part = Some ys in q) (write-bytes p os xs))
 
 pub bool_back : ReadsBack bool_image bool_reading (λ v. v) always

@@ -1,11 +1,11 @@
 -- One byte of bits.
-use Rattle.std.proofs.Common.{◌≡◌, ℕ, suc, zero, ◌+◌, ◌-◌, ◌*◌, ◌/◌, ◌%◌, ◌^◌, ◌<◌, ◌≤◌, Bool, true, false, List, [], ◌∷◌, ◌++◌, length, get_or, take, drop, refl, sym, ap, ◌∙◌, eqb, arith, append_assoc}
+use Rattle.std.proofs.Common.{◌≡◌, ℕ, suc, zero, ◌+◌, ◌-◌, ◌*◌, ◌/◌, ◌%◌, ◌^◌, ◌<◌, ◌≤◌, Bool, true, false, List, [], ◌∷◌, ◌++◌, length, get_or, take, refl, sym, ap, ◌∙◌, arith}
 use Rattle.std.specs.Int.{bit_at}
 use lib.Bits.{bit_and, bit_or}
-use Rattle.std.specs.Prelude.{◌==◌, min}
+use Rattle.std.specs.Prelude.{◌==◌}
 use Rattle.std.proofs.lemmas.Nat.{pow-add, shl-shr, or_shifted, pow_below}
 use Rattle.std.proofs.lemmas.Nat.Bits.{ones_shl, and_high_mask}
-use Rattle.std.proofs.lemmas.List.{get_or_append_left, get_or_at, get_or-append-add, take-append-drop}
+use Rattle.std.proofs.lemmas.List.{get_or_append_left, get_or-append-add}
 use Rattle.std.proofs.Math.Pow.{shr_mod}
 use Rattle.pgv_more.specs.Bits.{low_bits, bits_of, number_of}
 use Rattle.pgv_more.specs.Packing.{length-low_bits, number_of-push, number_of-short, first_number}

@@ -1,5 +1,5 @@
 -- Bits as they are kept: bytes, and the number of bits.
-use Rattle.std.proofs.Common.{◌≡◌, ℕ, suc, zero, ◌+◌, ◌-◌, ◌*◌, ◌/◌, ◌%◌, ◌^◌, ◌<◌, ◌≤◌, Bool, true, false, List, [], ◌∷◌, ◌++◌, length, get_or, take, drop, refl, sym, ap, ◌∙◌, eqb, subst, arith, append_assoc}
+use Rattle.std.proofs.Common.{◌≡◌, ℕ, suc, zero, ◌+◌, ◌-◌, ◌*◌, ◌/◌, ◌%◌, ◌^◌, ◌<◌, ◌≤◌, Bool, false, List, [], ◌∷◌, ◌++◌, length, get_or, take, drop, refl, sym, ap, ◌∙◌, eqb, subst, arith}
 use Rattle.std.proofs.lemmas.List.{length-take-le, take_all, take_min, drop_min, take-append-drop, take_at, take_more, drop_more, get_or-take, get_or_read, length-append, length-drop, length_push, take-append-le, drop-append-le, drop_at, set_at, get_or_at, append-nil}
 use Rattle.std.proofs.Math.Seq.{take-append-add}
 use Rattle.std.proofs.Math.ListN.{set}
@@ -89,7 +89,7 @@ cut_is : (front after : List ℕ) (byte c m : ℕ) → length front ≡ m → Ar
 cut_is front after byte c m e small l some =
     let long : length (bits_of front) ≡ 8 * m = length-bits_of front ∙ ap (λ (n : ℕ). 8 * n) e in
     let front_bits : take (8 * m + c) (bits_of (front ++ byte ∷ after)) ≡ bits_of front ++ take c (low_bits 8 byte) =
-        ap (take (8 * m + c)) (bits_of-append front (byte ∷ after)) ∙ ap (λ (n : ℕ). take (n + c) (bits_of front ++ bits_of (byte ∷ after))) (sym long) ∙ take-append-add (bits_of front) (bits_of (byte ∷ after)) c ∙ ap (λ (bs : List Bool). bits_of front ++ bs) (first_of byte after c l) in
+    ap (take (8 * m + c)) (bits_of-append front (byte ∷ after)) ∙ ap (λ (n : ℕ). take (n + c) (bits_of front ++ bits_of (byte ∷ after))) (sym long) ∙ take-append-add (bits_of front) (bits_of (byte ∷ after)) c ∙ ap (λ (bs : List Bool). bits_of front ++ bs) (first_of byte after c l) in
     let size : length (take c (low_bits 8 byte)) ≡ c = length-take-le c (low_bits 8 byte) (omega (arith, length-low_bits 8 byte)) in
     let count : byte_count (length (bits_of front ++ take c (low_bits 8 byte))) ≡ m + 1 = omega (arith, length-append (bits_of front) (take c (low_bits 8 byte))) in
     let whole : bytes_of m (bits_of front) ≡ front = ap (λ (n : ℕ). bytes_of n (bits_of front)) (sym e) ∙ ap (bytes_of (length front)) (sym (append-nil (bits_of front))) ∙ bytes_of-bits_of front [] small in
@@ -135,7 +135,7 @@ cut_part bytes n byte d cut l small some is e =
     let now : set (take (div_ceil n 8) bytes) (n / 8) cut ≡ take (n / 8) bytes ++ cut ∷ [] = ap (λ (bs : List ℕ). set bs (n / 8) cut) front ∙ set_at (take (n / 8) bytes) byte [] cut (n / 8) long in
     let all = cut_is (take (n / 8) bytes) (drop (n / 8 + 1) bytes) byte (n % 8) (n / 8) long (small_front (take (n / 8) bytes) (cut ∷ []) (subst AreByteNumbers now small)) (omega arith) some in
     now ∙ ap (λ (b : ℕ). take (n / 8) bytes ++ b ∷ []) e ∙
-      sym (ap (λ (k : ℕ). packed (take k (bits_of bytes))) parted ∙ ap (λ (bs : List ℕ). packed (take (8 * (n / 8) + n % 8) (bits_of bs))) (sym parts) ∙ all)
+    sym (ap (λ (k : ℕ). packed (take k (bits_of bytes))) parted ∙ ap (λ (bs : List ℕ). packed (take (8 * (n / 8) + n % 8) (bits_of bs))) (sym parts) ∙ all)
 
 pub no_bytes : packed [] ≡ []
 unfolding bytes_of
@@ -174,7 +174,7 @@ bit_read bytes n i byte bits room l e is =
     let long : length bits ≡ n = ap length (sym e) ∙ kept_count bytes n room in
     let there : get_or (bits_of bytes) (8 * (i / 8) + i % 8) false ≡ eqb (bit_at (get_or bytes (i / 8) 0) (7 - i % 8)) 1 = bit_there bytes (i / 8) (i % 8) false (omega arith) (omega arith) in
     let found : get_or bits i false ≡ eqb (bit_at (get_or bytes (i / 8) 0) (7 - i % 8)) 1 =
-        ap (λ (bs : List Bool). get_or bs i false) (sym e) ∙ get_or-take n (bits_of bytes) i false l ∙ ap (λ (j : ℕ). get_or (bits_of bytes) j false) (sym whole) ∙ there in
+    ap (λ (bs : List Bool). get_or bs i false) (sym e) ∙ get_or-take n (bits_of bytes) i false l ∙ ap (λ (j : ℕ). get_or (bits_of bytes) j false) (sym whole) ∙ there in
     let same : byte ≡ get_or bytes (i / 8) 0 = get_or_read bytes (i / 8) byte (omega arith) is 0 in
     let read : bit_and (byte / 2 ^ (7 - i % 8)) 1 ≡ bit_at (get_or bytes (i / 8) 0) (7 - i % 8) = shr_and_one byte (7 - i % 8) ∙ ap (λ (x : ℕ). bit_at x (7 - i % 8)) same in
     ap (λ (x : ℕ). Some (eqb x 1)) read ∙ ap (λ (b : Bool). Some b) (sym found) ∙ sym (slice_get-get_or bits i false (omega arith))
@@ -183,7 +183,7 @@ pub part_left : (left bytes : List ℕ) (n byte d cut : ℕ) → left ≡ take (
     byte ≡ get_or left (n / 8) d → cut ≡ number_of 8 (take (n % 8) (low_bits 8 byte)) → set left (n / 8) cut ≡ packed (take n (bits_of bytes))
 part_left left bytes n byte d cut e l small some is same =
     subst (λ (xs : List ℕ). AreByteNumbers (set xs (n / 8) cut) → byte ≡ get_or xs (n / 8) d → set xs (n / 8) cut ≡ packed (take n (bits_of bytes))) (sym e)
-      (λ s i. cut_part bytes n byte d cut l s some i same) small is
+    (λ s i. cut_part bytes n byte d cut l s some i same) small is
 
 pub whole_left : (left bytes : List ℕ) (n : ℕ) → left ≡ take (div_ceil n 8) bytes → n ≤ 8 * length bytes → AreByteNumbers left → n % 8 ≡ 0 → left ≡ packed (take n (bits_of bytes))
 whole_left left bytes n e l small none = e ∙ cut_whole bytes n l (subst AreByteNumbers e small) none

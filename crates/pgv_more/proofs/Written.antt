@@ -1,5 +1,5 @@
 -- What lists of bits are written as.
-use Rattle.std.proofs.Common.{◌≡◌, ◌≤◌, ℕ, ◌++◌, true, List, [], ◌∷◌, Some, sym, ap, ◌∙◌, refl, arith, length, append_assoc}
+use Rattle.std.proofs.Common.{◌≡◌, ◌≤◌, ℕ, ◌++◌, true, List, [], ◌∷◌, Some, sym, ap, ◌∙◌, refl, length, append_assoc}
 use Rattle.std.proofs.lemmas.Bool.{le-leb}
 use Rattle.std.specs.Prelude.{Bool, nat_le}
 use Rattle.pgv_buf.specs.Tokens.{Token, Cell, byte, bytes, be4, blank}
@@ -19,5 +19,5 @@ written_bits was between now number body bits few n b first second =
     let test : nat_le (length bits) 2147483647 ≡ true = le-leb (length bits) 2147483647 few in
     let form = be4 (length bits) ++ packed bits in
     let parts : blank (bytes number) ++ blank (bytes body) ≡ blank (bytes form) =
-        sym (blank-append (bytes number) (bytes body)) ∙ ap blank (sym (bytes-append number body)) ∙ ap (λ (xs : List ℕ). blank (bytes (xs ++ body))) n ∙ ap (λ (xs : List ℕ). blank (bytes (be4 (length bits) ++ xs))) b in
+    sym (blank-append (bytes number) (bytes body)) ∙ ap blank (sym (bytes-append number body)) ∙ ap (λ (xs : List ℕ). blank (bytes (xs ++ body))) n ∙ ap (λ (xs : List ℕ). blank (bytes (be4 (length bits) ++ xs))) b in
     (bytes form, rw test refl, second ∙ ap (λ (xs : List Cell). xs ++ blank (bytes body)) first ∙ append_assoc was (blank (bytes number)) (blank (bytes body)) ∙ ap (λ (xs : List Cell). was ++ xs) parts)

@@ -1,5 +1,5 @@
 -- What lists of bits are (PostgreSQL: "Bit String Types"): their types, and what is read in either format.
-use Rattle.std.specs.Prelude.{◌≡◌, ℕ, ◌+◌, ◌<◌, ◌^◌, nat_le, nat_lt, Bool, List, [], ◌∷◌, ◌++◌, length, take, drop, Option, Some, None, refl}
+use Rattle.std.specs.Prelude.{ℕ, Bool, List, [], ◌∷◌, Option}
 use Rattle.pgv_types.specs.Ty.{Ty, builtin}
 use Rattle.pgv_codec.specs.Scalars.{softly_one_of}
 use Rattle.pgv_value.specs.Reading.{Reading}

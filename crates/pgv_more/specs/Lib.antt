@@ -7,3 +7,6 @@ pub mod BitsCodec
 pub mod MacAddressText
 pub mod MacAddressCodec
 pub mod WithHint
+pub mod BitsBack
+pub mod MacAddressBack
+pub mod Laws

@@ -1,10 +1,10 @@
 -- What is packed is had back (PostgreSQL: "Bit String Types").
-use Rattle.std.specs.Prelude.{◌≡◌, ℕ, zero, suc, ◌+◌, ◌-◌, ◌*◌, ◌/◌, ◌%◌, ◌^◌, ◌<◌, ◌≤◌, ◌==◌, Bool, false, true, cond, List, [], ◌∷◌, ◌++◌, length, take, drop, refl, if◌then◌else◌}
+use Rattle.std.specs.Prelude.{◌≡◌, ℕ, zero, suc, ◌+◌, ◌*◌, ◌/◌, ◌%◌, ◌^◌, ◌<◌, ◌≤◌, ◌==◌, Bool, false, true, List, [], ◌∷◌, ◌++◌, length, take, drop, refl, if◌then◌else◌}
 use Rattle.std.specs.Int.{bit_at}
 use Rattle.std.proofs.Common.{sym, ap, ◌∙◌, arith, append_assoc, get_or}
 use Rattle.std.proofs.lemmas.Nat.{mod-pow-add, pow_pos, pow-add, div-mul-add, shr-shr}
 use Rattle.std.proofs.lemmas.Nat.Bits.{bit_at_cat_low, bit_at-lt, bit_at-zero}
-use Rattle.std.proofs.lemmas.List.{length-append, length-drop, take-append-le, drop-append-le, drop_at, drop-drop, append-nil}
+use Rattle.std.proofs.lemmas.List.{length-append, length-drop, drop-append-le, drop_at, drop-drop, append-nil}
 use Rattle.std.proofs.Math.Seq.{drop-nil}
 use Rattle.std.proofs.Math.Nat.{add-mul}
 use Rattle.pgv_more.specs.Bits.{low_bits, bits_of, number_of, byte_count, bytes_of, packed}
@@ -58,7 +58,7 @@ top_bit : (b : Bool) (n r : ℕ) → r < 2 ^ n → (bit_at (one_if b * 2 ^ n + r
 top_bit b n r l = rw (div-mul-add (one_if b) (2 ^ n) r l) (tested b)
 
 -- a list of bits, cut or filled with zeros to n bits
-fill : ℕ → List Bool → List Bool
+unfoldable pub fill : ℕ → List Bool → List Bool
 fill zero bits = []
 fill (suc n) [] = false ∷ fill n []
 fill (suc n) (bit ∷ bits) = bit ∷ fill n bits
@@ -150,7 +150,7 @@ take-fill n [] l = refl
 take-fill zero (bit ∷ bits) l = absurd (omega arith)
 take-fill (suc n) (bit ∷ bits) l = ap (λ (bs : List Bool). bit ∷ bs) (take-fill n bits (omega arith))
 
-bits_of-bytes_of : (n : ℕ) (bits : List Bool) → bits_of (bytes_of n bits) ≡ fill (8 * n) bits
+pub bits_of-bytes_of : (n : ℕ) (bits : List Bool) → bits_of (bytes_of n bits) ≡ fill (8 * n) bits
 unfolding bits_of bytes_of fill
 bits_of-bytes_of zero bits = refl
 bits_of-bytes_of (suc n) bits =

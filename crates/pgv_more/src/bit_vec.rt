@@ -66,7 +66,11 @@ impl BitVec {
     }
 
     /// The first bits of these bytes, so many, as many as a server sends bytes for.
-    pub(crate) fn from_packed(alloc: Global, bytes: &[u8], count: usize) -> Result<BitVec, AllocError>
+    pub(crate) fn from_packed(
+        alloc: Global,
+        bytes: &[u8],
+        count: usize,
+    ) -> Result<BitVec, AllocError>
         requires { length bytes.now ≡ byte_count count }
         ensures { IfOk result (λ b. b ≡ take count (bits_of bytes.now)) }
     {

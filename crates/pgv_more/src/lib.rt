@@ -2,6 +2,7 @@
 #![tactic(auto)]
 
 pub mod bit_vec;
+pub mod laws;
 pub mod mac_address;
 
 pub use bit_vec::BitVec;

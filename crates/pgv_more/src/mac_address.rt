@@ -56,9 +56,7 @@ impl MacAddress {
         let (fourth, rest) = pair_after(separator, rest)?;
         let (fifth, rest) = pair_after(separator, rest)?;
         let sixth = last_pair_after(separator, rest)?;
-        Some(MacAddress::new([
-            first, second, third, fourth, fifth, sixth,
-        ]))
+        Some(MacAddress::new([first, second, third, fourth, fifth, sixth]))
     }
 }
 

@@ -128,3 +128,15 @@ impl Decode for BitVec {
 impl Codec for BitVec {
     ghost agrees = { λ _. refl };
 }
+
+/// Bits come back as they were written.
+impl ReadBack for BitVec {
+    ghost use Rattle.pgv_codec.specs.Back.{always};
+    ghost use Rattle.pgv_more.specs.BitsBack.{bits_back};
+
+    ghost kept = { λ v. v };
+
+    ghost fits = { always };
+
+    ghost reads_back = { bits_back };
+}

@@ -92,3 +92,15 @@ impl Decode for MacAddress {
 impl Codec for MacAddress {
     ghost agrees = { λ _. refl };
 }
+
+/// An address comes back as it was written.
+impl ReadBack for MacAddress {
+    ghost use Rattle.pgv_codec.specs.Back.{always};
+    ghost use Rattle.pgv_more.specs.MacAddressBack.{mac_back};
+
+    ghost kept = { λ v. v };
+
+    ghost fits = { always };
+
+    ghost reads_back = { mac_back };
+}

@@ -1,4 +1,4 @@
-use Rattle.std.proofs.Common.{◌≡◌, ◌+◌, ◌*◌, ◌/◌, ◌%◌, ◌-◌, ◌<◌, ℕ, List, Bool, ◌++◌, ◌∷◌, [], length, get_or, drop, set, sym, ◌∙◌, ap, arith, refl}
+use Rattle.std.proofs.Common.{◌≡◌, ◌*◌, ◌/◌, ℕ, List, ◌++◌, ◌∷◌, [], get_or, drop, set, sym, ◌∙◌, ap, arith, refl}
 use Rattle.std.proofs.lemmas.List.{length-drop}
 use Rattle.pgv_more.specs.Bits.{number_of, packed}
 use Rattle.pgv_more.specs.Packing.{number_of-nil}
@@ -9,7 +9,7 @@ pub returns-in_ok-push-clause-ok : goal.returns-in_ok-push-clause-ok
 returns-in_ok-push-clause-ok c bits e f =
     let byte : c.with_bit.result ≡ number_of 8 (c.args.bit ∷ []) = c.with_bit.ensures [] refl (sym (number_of-nil 8)) in
     c.in_ok-push.ensures.items ∙ ap (λ (xs : List ℕ). xs ++ c.with_bit.result ∷ []) f ∙ ap (λ (n : ℕ). packed bits ++ n ∷ []) byte
-      ∙ sym (pushed_new (c.args.count / 8) bits c.args.bit (omega (arith, e)))
+    ∙ sym (pushed_new (c.args.count / 8) bits c.args.bit (omega (arith, e)))
 
 pub returns-else-place-eq0-clause-ok : goal.returns-else-place-eq0-clause-ok
 returns-else-place-eq0-clause-ok c bits e f =

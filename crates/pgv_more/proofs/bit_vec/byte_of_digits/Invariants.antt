@@ -9,5 +9,5 @@ abbrev pub invariant-loop-place : goal.invariant-loop-place
 invariant-loop-place l =
     record {
       byte : l.byte ≡ number_of 8 (map is_one (take l.place l.digits));
-      digits : list_all is_digit (take l.place l.digits) ≡ true
+      digits : list_all is_digit (take l.place l.digits) ≡ true;
     }

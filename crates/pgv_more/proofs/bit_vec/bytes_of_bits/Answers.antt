@@ -11,10 +11,10 @@ loop-rest-preserved c =
     let parts = packs_part c.loop-rest.rest.now c.min.result some c.min.ensures in
     let byte : c.byte_of_bits.result ≡ number_of 8 (take c.min.result c.loop-rest.rest.now) = c.byte_of_bits.ensures ∙ ap (number_of 8) c.split_at.ensures.front in
     let next : c.byte_of_bits.result ∷ packed c.split_at.result.1.now ≡ packed c.loop-rest.rest.now =
-        ap (λ (b : ℕ). b ∷ packed c.split_at.result.1.now) byte ∙ ap (λ (bs : List Bool). number_of 8 (take c.min.result c.loop-rest.rest.now) ∷ packed bs) c.split_at.ensures.back ∙ sym parts in
+    ap (λ (b : ℕ). b ∷ packed c.split_at.result.1.now) byte ∙ ap (λ (bs : List Bool). number_of 8 (take c.min.result c.loop-rest.rest.now) ∷ packed bs) c.split_at.ensures.back ∙ sym parts in
     ap (λ (xs : List ℕ). xs ++ packed c.split_at.result.1.now) c.in_ok-push.ensures.items
-      ∙ append_assoc c.loop-rest.bytes.items (c.byte_of_bits.result ∷ []) (packed c.split_at.result.1.now)
-      ∙ ap (λ (xs : List ℕ). c.loop-rest.bytes.items ++ xs) next ∙ c.loop-rest.invariant
+    ∙ append_assoc c.loop-rest.bytes.items (c.byte_of_bits.result ∷ []) (packed c.split_at.result.1.now)
+    ∙ ap (λ (xs : List ℕ). c.loop-rest.bytes.items ++ xs) next ∙ c.loop-rest.invariant
 
 pub returns : goal.returns
 returns c =

@@ -1,4 +1,4 @@
-use Rattle.std.proofs.Common.{◌≡◌, ◌<◌, ℕ, List, sym, ◌∙◌, ap, arith, ◌++◌, ◌∷◌, [], length, take, drop, true, append_assoc}
+use Rattle.std.proofs.Common.{◌≡◌, ◌<◌, ℕ, List, sym, ◌∙◌, ap, arith, ◌++◌, ◌∷◌, [], length, take, true, append_assoc}
 use Rattle.std.specs.Prelude.{map}
 use Rattle.std.specs.List.{list_all}
 use Rattle.std.proofs.lemmas.List.{append-nil, nil_from_length}
@@ -19,13 +19,13 @@ loop-rest-preserved c =
     let digits : list_all is_digit (take mid rest) ≡ true = ap (list_all is_digit) (sym c.split_at.ensures.front) ∙ found.0 in
     let byte : c.in-Some.byte ≡ number_of 8 (map is_one (take mid rest)) = found.1 ∙ ap (λ (ds : List ℕ). number_of 8 (map is_one ds)) c.split_at.ensures.front in
     let next : c.in-Some.byte ∷ packed (map is_one after) ≡ packed (map is_one rest) =
-        ap (λ (b : ℕ). b ∷ packed (map is_one after)) byte ∙ ap (λ (ds : List ℕ). number_of 8 (map is_one (take mid rest)) ∷ packed (map is_one ds)) c.split_at.ensures.back
-          ∙ sym (digits_part rest mid some c.min.ensures) in
+    ap (λ (b : ℕ). b ∷ packed (map is_one after)) byte ∙ ap (λ (ds : List ℕ). number_of 8 (map is_one (take mid rest)) ∷ packed (map is_one ds)) c.split_at.ensures.back
+    ∙ sym (digits_part rest mid some c.min.ensures) in
     record {
       bytes = ap (λ (xs : List ℕ). xs ++ packed (map is_one after)) c.in_ok-push.ensures.items
-        ∙ append_assoc c.loop-rest.bytes.items (c.in-Some.byte ∷ []) (packed (map is_one after))
-        ∙ ap (λ (xs : List ℕ). c.loop-rest.bytes.items ++ xs) next ∙ c.loop-rest.invariant.bytes;
-      digits = ap (list_all is_digit) c.split_at.ensures.back ∙ digits_after rest mid digits ∙ c.loop-rest.invariant.digits
+          ∙ append_assoc c.loop-rest.bytes.items (c.in-Some.byte ∷ []) (packed (map is_one after))
+          ∙ ap (λ (xs : List ℕ). c.loop-rest.bytes.items ++ xs) next ∙ c.loop-rest.invariant.bytes;
+      digits = ap (list_all is_digit) c.split_at.ensures.back ∙ digits_after rest mid digits ∙ c.loop-rest.invariant.digits;
     }
 
 pub returns : goal.returns

@@ -9,7 +9,7 @@ abbrev pub invariant-loop-rest : goal.invariant-loop-rest
 invariant-loop-rest l =
     record {
       bytes : l.bytes.items ++ packed (map is_one l.rest) ≡ packed (map is_one l.digits);
-      digits : list_all is_digit l.rest ≡ list_all is_digit l.digits
+      digits : list_all is_digit l.rest ≡ list_all is_digit l.digits;
     }
 
 abbrev pub decreases-loop-rest : goal.decreases-loop-rest

@@ -1,5 +1,3 @@
-use Rattle.std.proofs.Common.{ap, ◌∙◌, sym, List, Bool, ◌++◌, ◌∷◌, []}
-use Rattle.pgv_more.specs.Bits.{number_of}
 use Rattle.pgv_more.proofs.Bytes.{bit_set, bit_unset}
 use Rattle.pgv_more.proofs.bit_vec.with_bit.Goals as goal
 

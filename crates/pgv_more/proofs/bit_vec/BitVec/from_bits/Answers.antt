@@ -1,4 +1,4 @@
-use Rattle.std.proofs.Common.{sym, ◌∙◌, ap, length, rules}
+use Rattle.std.proofs.Common.{◌∙◌, ap, rules}
 use Rattle.pgv_more.specs.Bits.{packed}
 use Rattle.pgv_more.proofs.Kept.{closes, shows}
 use Rattle.pgv_more.proofs.bit_vec.BitVec.from_bits.Goals as goal

@@ -1,4 +1,4 @@
-use Rattle.std.proofs.Common.{◌≡◌, sym, ◌∙◌, ap, arith, subst, length}
+use Rattle.std.proofs.Common.{sym, ◌∙◌, ap, arith, subst, length}
 use Rattle.pgv_more.specs.Bits.{bits_of}
 use Rattle.pgv_more.specs.Packing.{AreByteNumbers, length-bits_of}
 use Rattle.pgv_more.proofs.Kept.{closes, shows, whole_bytes}

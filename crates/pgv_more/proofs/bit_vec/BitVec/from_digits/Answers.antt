@@ -1,6 +1,5 @@
-use Rattle.std.proofs.Common.{sym, ◌∙◌, ap, length, ℕ, List, Option, Some, Vec, Global}
+use Rattle.std.proofs.Common.{sym, ◌∙◌, ap, length, Some}
 use Rattle.std.specs.Prelude.{map}
-use Rattle.std.specs.Option.{option_map}
 use Rattle.std.proofs.lemmas.List.{length-map}
 use Rattle.pgv_more.specs.BitsText.{is_one}
 use Rattle.pgv_more.proofs.Digits.{bytes_there}

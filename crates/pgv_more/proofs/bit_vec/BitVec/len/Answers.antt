@@ -1,4 +1,4 @@
-use Rattle.std.proofs.Common.{sym, ap, length}
+use Rattle.std.proofs.Common.{sym}
 use Rattle.pgv_more.proofs.Kept.{kept_count}
 use Rattle.pgv_more.proofs.bit_vec.BitVec.len.Goals as goal
 

@@ -1,8 +1,8 @@
-use Rattle.std.proofs.Common.{◌≡◌, ◌+◌, List, Bool, sym, ◌∙◌, ap, arith, ◌++◌, ◌∷◌, [], take, length}
+use Rattle.std.proofs.Common.{◌≡◌, ◌+◌, List, Bool, sym, ◌∙◌, ap, arith, ◌++◌, take, length}
 use Rattle.std.proofs.lemmas.List.{take-take}
 use Rattle.std.specs.Prelude.{option_to_list}
 use Rattle.pgv_more.specs.Bits.{bits_of}
-use Rattle.pgv_more.proofs.Kept.{kept_bytes, kept_count, closes, shows, popped, some_last}
+use Rattle.pgv_more.proofs.Kept.{kept_count, closes, shows, popped, some_last}
 use Rattle.pgv_more.proofs.bit_vec.BitVec.pop.Goals as goal
 
 pub invariant_of-self : goal.invariant_of-self

@@ -1,4 +1,4 @@
-use Rattle.std.proofs.Common.{◌≡◌, ◌∙◌, sym, ap, List, Bool, take, length}
+use Rattle.std.proofs.Common.{◌≡◌, ◌∙◌, sym, ap, take, length}
 use Rattle.pgv_more.specs.Bits.{bits_of, packed}
 use Rattle.pgv_more.proofs.Kept.{kept_count, same_by_bytes, other_by_count}
 use Rattle.pgv_more.proofs.bit_vec.BitVecPartialEq.eq.Goals as goal
@@ -14,5 +14,5 @@ returns-then-self-other c =
 pub returns-else-self-other : goal.returns-else-self-other
 returns-else-self-other c =
     other_by_count c.self.inside.count c.other.inside.count c.args.self.now c.args.other.now
-      (ap length (sym c.self.view_is) ∙ kept_count c.self.inside.bytes.items c.self.inside.count c.self.invariant.0)
-      (ap length (sym c.other.view_is) ∙ kept_count c.other.inside.bytes.items c.other.inside.count c.other.invariant.0) c.if-self-other.false
+    (ap length (sym c.self.view_is) ∙ kept_count c.self.inside.bytes.items c.self.inside.count c.self.invariant.0)
+    (ap length (sym c.other.view_is) ∙ kept_count c.other.inside.bytes.items c.other.inside.count c.other.invariant.0) c.if-self-other.false
