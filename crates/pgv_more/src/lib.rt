@@ -7,3 +7,6 @@ pub mod mac_address;
 
 pub use bit_vec::BitVec;
 pub use mac_address::MacAddress;
+
+#[cfg(test)]
+mod tests;
