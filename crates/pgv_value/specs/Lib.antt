@@ -8,3 +8,4 @@ pub mod Numbers
 pub mod Scalars
 pub mod Laws
 pub mod OwnBytes
+pub mod Interval

@@ -3,12 +3,16 @@
 
 pub mod error;
 mod frame;
+pub mod interval;
 pub mod laws;
 pub mod read;
 pub mod value;
 
 pub use error::CodecError;
-pub use read::{read_bool, read_i8, read_i16, read_i32, read_i64, read_oid, read_uuid};
+pub use interval::PgInterval;
+pub use read::{
+    read_bool, read_i8, read_i16, read_i32, read_i64, read_interval, read_oid, read_uuid,
+};
 pub use value::{PgValue, PgValueFormat, PgValueRef};
 
 #[cfg(test)]

@@ -3,10 +3,12 @@
 
 mod boolean;
 mod integer;
+mod interval;
 mod object_id;
 mod unique_id;
 
 pub use boolean::read_bool;
 pub use integer::{read_i8, read_i16, read_i32, read_i64};
+pub use interval::read_interval;
 pub use object_id::read_oid;
 pub use unique_id::read_uuid;
