@@ -18,3 +18,7 @@ pub mod BackScalars
 pub mod BackRecords
 pub mod Plain
 pub mod RecordCalls
+pub mod WithHint
+pub mod Intervals
+pub mod IntervalsBack
+pub mod PlainBytes

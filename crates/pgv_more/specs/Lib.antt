@@ -6,7 +6,6 @@ pub mod BitsText
 pub mod BitsCodec
 pub mod MacAddressText
 pub mod MacAddressCodec
-pub mod WithHint
 pub mod BitsBack
 pub mod MacAddressBack
 pub mod Laws

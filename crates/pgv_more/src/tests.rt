@@ -5,11 +5,13 @@ mod server;
 use crate::{BitVec, MacAddress};
 use pgv_codec::{Decode, Encode, PgArgumentBuffer, PgHasArrayType, Type};
 use pgv_types::{PgType, PgTypeInfo};
-use pgv_value::{CodecError, PgValueFormat, PgValueRef};
-use server::VALUES;
+use jiff::SignedDuration;
+use pgv_value::{CodecError, PgInterval, PgValueFormat, PgValueRef};
+use server::{INTERVALS, VALUES};
 use std::alloc::{AllocError, Global};
 use std::process::Abort;
 use std::test::Fail;
+use std::time::Duration;
 
 /// What is written of the value that is read, in hex.
 fn again<T: Type + Decode + Encode>(
@@ -142,5 +144,30 @@ fn arrays_of_bits(rt: HostRuntime) -> Result<(), Fail> {
         MacAddress::new([8, 0, 43, 1, 2, 3]).bytes(),
         [8, 0, 43, 1, 2, 3]
     );
+    Ok(())
+}
+
+/// What is written of a value, in hex.
+fn written<T: Encode>(alloc: Global, value: &T) -> Result<String, CodecError> {
+    let mut out = PgArgumentBuffer::new(alloc);
+    let _ = value.encode_by_ref(&mut out)?;
+    Ok(hex::encode(alloc, out.as_slice())?)
+}
+
+#[test]
+fn intervals_and_durations(rt: HostRuntime) -> Result<(), Fail> {
+    let alloc = rt.alloc();
+    let hour = "00000000d693a4000000000000000000";
+    read::<PgInterval>(&rt, alloc, hour, Ok(hour))?;
+    read_text::<PgInterval>(&rt, alloc, "1", Err(18));
+    for line in INTERVALS.lines() {
+        read::<PgInterval>(&rt, alloc, line, Ok(line))?;
+    }
+    compare(&rt, written(alloc, &Duration::from_secs(3600)), Ok(hour));
+    compare(&rt, written(alloc, &SignedDuration::from_secs(3600)), Ok(hour));
+    compare(&rt, written(alloc, &Duration::from_nanos(27000001)), Err(4));
+    compare(&rt, written(alloc, &Duration::from_secs(20000000000000)), Err(5));
+    compare(&rt, written(alloc, &SignedDuration::from_nanos(-27000001)), Err(4));
+    compare(&rt, written(alloc, &SignedDuration::from_secs(10000000000000)), Err(5));
     Ok(())
 }

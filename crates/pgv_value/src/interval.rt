@@ -52,11 +52,11 @@ impl TryFrom<SignedDuration> for PgInterval {
     ghost try_from_gives = { λ duration result. result ≡ interval_of (signed_nanos duration) };
 
     fn try_from(duration: SignedDuration) -> Result<PgInterval, CodecError> {
-        let nanoseconds = duration.as_nanos();
-        if nanoseconds % 1000 != 0 {
+        let signed_nanoseconds = duration.as_nanos();
+        if signed_nanoseconds % 1000 != 0 {
             return Err(CodecError::IntervalPrecision);
         }
-        match i64::try_from(nanoseconds / 1000) {
+        match i64::try_from(signed_nanoseconds / 1000) {
             Ok(microseconds) => Ok(of_microseconds(microseconds)),
             Err(_) => Err(CodecError::IntervalOverflow),
         }

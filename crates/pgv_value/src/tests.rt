@@ -1,7 +1,9 @@
 use super::*;
 use bytes::Bytes;
+use jiff::SignedDuration;
 use pgv_types::{Oid, PgType, PgTypeInfo};
 use std::hash::{DefaultHasher, Hasher};
+use std::time::Duration;
 use uuid::Uuid;
 
 fn binary(bytes: &[u8]) -> PgValueRef<'_> {
@@ -141,4 +143,40 @@ fn equal_ids(rt: HostRuntime) {
     let mut second = DefaultHasher::new();
     laws::equal_ids_hash_alike(&id, &id, &mut first, &mut second);
     assert_eq!(rt; first.finish(), second.finish());
+}
+
+#[test]
+fn durations(rt: HostRuntime) {
+    let of = |duration: SignedDuration| answer(PgInterval::try_from(duration));
+    let micros = PgInterval {
+        microseconds: -27000,
+        ..PgInterval::default()
+    };
+    assert!(rt; of(SignedDuration::from_micros(-27000)) == Ok(micros));
+    assert!(rt; of(SignedDuration::from_nanos(-27000001)) == Err(4));
+    assert!(rt; of(SignedDuration::from_secs(10000000000000)) == Err(5));
+    let unsigned = |duration: Duration| answer(PgInterval::try_from(duration));
+    assert!(rt; unsigned(Duration::from_nanos(27000001)) == Err(4));
+    assert!(rt; unsigned(Duration::from_secs(20000000000000)) == Err(5));
+    assert!(rt; unsigned(Duration::from_nanos(0)) == Ok(PgInterval::default()));
+}
+
+#[test]
+fn intervals(rt: HostRuntime) {
+    let hour = [
+        0, 0, 0, 0, 0xd6, 0x93, 0xa4, 0, 0, 0, 0, 2, 0xff, 0xff, 0xff, 0xff, 9,
+    ];
+    let wanted = PgInterval {
+        months: -1,
+        days: 2,
+        microseconds: 3600000000,
+    };
+    assert!(rt; answer(read_interval(&binary(&hour))) == Ok(wanted));
+    assert!(rt; answer(read_interval(&binary(&hour[..15]))) == Err(15));
+    assert!(rt; answer(read_interval(&text("1"))) == Err(18));
+    assert!(rt; answer(read_interval(&null())) == Err(13));
+    let mut one = DefaultHasher::new();
+    let mut other = DefaultHasher::new();
+    laws::equal_intervals_hash_alike(&wanted, &wanted, &mut one, &mut other);
+    assert_eq!(rt; one.finish(), other.finish());
 }

@@ -3,6 +3,7 @@
 pub mod array;
 pub mod bool;
 pub mod int;
+pub mod interval;
 pub mod oid;
 pub mod option;
 mod part;

@@ -7,7 +7,7 @@ ghost use Rattle.pgv_value.specs.declared.error.CodecError.TheVariants.{Syntax};
 ghost use Rattle.pgv_more.specs.BitsBinary.{bits_image, bits_hint, bits_in_binary, bits_binary_refusal};
 ghost use Rattle.pgv_more.specs.BitsText.{bits_in_text};
 ghost use Rattle.pgv_more.specs.BitsCodec.{is_bits, is_bits_array, bits_reading, bits_refusal};
-ghost use Rattle.pgv_more.specs.WithHint.{with_hint};
+ghost use Rattle.pgv_codec.specs.WithHint.{with_hint};
 
 use super::BitVec;
 use pgv_codec::{Codec, Decode, Encode, IsNull, PgArgumentBuffer, PgHasArrayType, ReadBack, Type};

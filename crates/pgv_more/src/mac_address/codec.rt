@@ -4,7 +4,7 @@ ghost use Rattle.std.specs.Prelude.{◌≡◌, ℕ, List, false, IfErr, None, Is
 ghost use Rattle.pgv_types.specs.Ty.{builtin};
 ghost use Rattle.pgv_types.specs.Relations.{softly};
 ghost use Rattle.pgv_more.specs.MacAddressCodec.{mac_image, mac_reading, mac_refusal};
-ghost use Rattle.pgv_more.specs.WithHint.{with_hint};
+ghost use Rattle.pgv_codec.specs.WithHint.{with_hint};
 
 use super::MacAddress;
 use pgv_codec::{Codec, Decode, Encode, IsNull, PgArgumentBuffer, PgHasArrayType, ReadBack, Type};
