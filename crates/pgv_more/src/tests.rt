@@ -3,9 +3,9 @@
 mod server;
 
 use crate::{BitVec, MacAddress};
+use jiff::SignedDuration;
 use pgv_codec::{Decode, Encode, PgArgumentBuffer, PgHasArrayType, Type};
 use pgv_types::{PgType, PgTypeInfo};
-use jiff::SignedDuration;
 use pgv_value::{CodecError, PgInterval, PgValueFormat, PgValueRef};
 use server::{INTERVALS, VALUES};
 use std::alloc::{AllocError, Global};
@@ -164,10 +164,26 @@ fn intervals_and_durations(rt: HostRuntime) -> Result<(), Fail> {
         read::<PgInterval>(&rt, alloc, line, Ok(line))?;
     }
     compare(&rt, written(alloc, &Duration::from_secs(3600)), Ok(hour));
-    compare(&rt, written(alloc, &SignedDuration::from_secs(3600)), Ok(hour));
+    compare(
+        &rt,
+        written(alloc, &SignedDuration::from_secs(3600)),
+        Ok(hour),
+    );
     compare(&rt, written(alloc, &Duration::from_nanos(27000001)), Err(4));
-    compare(&rt, written(alloc, &Duration::from_secs(20000000000000)), Err(5));
-    compare(&rt, written(alloc, &SignedDuration::from_nanos(-27000001)), Err(4));
-    compare(&rt, written(alloc, &SignedDuration::from_secs(10000000000000)), Err(5));
+    compare(
+        &rt,
+        written(alloc, &Duration::from_secs(20000000000000)),
+        Err(5),
+    );
+    compare(
+        &rt,
+        written(alloc, &SignedDuration::from_nanos(-27000001)),
+        Err(4),
+    );
+    compare(
+        &rt,
+        written(alloc, &SignedDuration::from_secs(10000000000000)),
+        Err(5),
+    );
     Ok(())
 }
