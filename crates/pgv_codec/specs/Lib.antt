@@ -23,3 +23,6 @@ pub mod DateTimeBinary
 pub mod DateTimeKept
 pub mod DateTimeBack
 pub mod DateTimeAgain
+pub mod Intervals
+pub mod IntervalsBack
+pub mod PlainBytes

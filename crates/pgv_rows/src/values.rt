@@ -1,11 +1,12 @@
 use bytes::Bytes;
-use jiff::Timestamp;
 use jiff::civil::{Date, DateTime, Time};
+use jiff::{SignedDuration, Timestamp};
 use pgv_text::IpNetwork;
 use pgv_types::{Oid, PgType, PgTypeInfo};
 use pgv_value::*;
 use std::hash::{DefaultHasher, Hasher};
 use std::net::{IpAddr, Ipv6Addr};
+use std::time::Duration;
 use uuid::Uuid;
 
 fn binary(bytes: &[u8]) -> PgValueRef<'_> {
@@ -208,4 +209,40 @@ fn networks(rt: HostRuntime) {
     assert!(rt; answer(read_ip_address(&text("10.0.0.1"))) == Ok(ten));
     assert!(rt; answer(read_ip_network(&text("10.0.0.01"))) == Err(29));
     assert!(rt; answer(read_ip_network(&null())) == Err(13));
+}
+
+#[test]
+fn durations(rt: HostRuntime) {
+    let of = |duration: SignedDuration| answer(PgInterval::try_from(duration));
+    let micros = PgInterval {
+        microseconds: -27000,
+        ..PgInterval::default()
+    };
+    assert!(rt; of(SignedDuration::from_micros(-27000)) == Ok(micros));
+    assert!(rt; of(SignedDuration::from_nanos(-27000001)) == Err(4));
+    assert!(rt; of(SignedDuration::from_secs(10000000000000)) == Err(5));
+    let unsigned = |duration: Duration| answer(PgInterval::try_from(duration));
+    assert!(rt; unsigned(Duration::from_nanos(27000001)) == Err(4));
+    assert!(rt; unsigned(Duration::from_secs(20000000000000)) == Err(5));
+    assert!(rt; unsigned(Duration::from_nanos(0)) == Ok(PgInterval::default()));
+}
+
+#[test]
+fn intervals(rt: HostRuntime) {
+    let hour = [
+        0, 0, 0, 0, 0xd6, 0x93, 0xa4, 0, 0, 0, 0, 2, 0xff, 0xff, 0xff, 0xff, 9,
+    ];
+    let wanted = PgInterval {
+        months: -1,
+        days: 2,
+        microseconds: 3600000000,
+    };
+    assert!(rt; answer(read_interval(&binary(&hour))) == Ok(wanted));
+    assert!(rt; answer(read_interval(&binary(&hour[..15]))) == Err(15));
+    assert!(rt; answer(read_interval(&text("1"))) == Err(18));
+    assert!(rt; answer(read_interval(&null())) == Err(13));
+    let mut one = DefaultHasher::new();
+    let mut other = DefaultHasher::new();
+    laws::equal_intervals_hash_alike(&wanted, &wanted, &mut one, &mut other);
+    assert_eq!(rt; one.finish(), other.finish());
 }

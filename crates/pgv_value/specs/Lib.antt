@@ -11,3 +11,4 @@ pub mod DateTimeBinary
 pub mod NetworkBinary
 pub mod Laws
 pub mod OwnBytes
+pub mod Interval

@@ -10,19 +10,22 @@ use Rattle.std.proofs.lemmas.Nat.{from_be_bytes-to_be_bytes_2, from_be_bytes-to_
 use Rattle.byteorder.specs.Endian.{big_number}
 use Rattle.pgv_value.specs.Numbers.{fits_signed, whole_number}
 
-is_signed : (w : Width) (v : ℤ) → fits_signed w v ≡ true → FitsSigned w v
+pub is_signed : (w : Width) (v : ℤ) → fits_signed w v ≡ true → FitsSigned w v
 is_signed w (pos n) h = record { sfits = ltb-true n (2 ^ hbits w) h }
 is_signed w (negsuc n) h = record { sfits = ltb-true n (2 ^ hbits w) h }
+
+pub unsigned_fits : (w : Width) (v : ℤ) → fits_signed w v ≡ true → cast_unsigned w v < 2 ^ bits w
+unsigned_fits w v h = (of_z_fits w v (is_signed w v h)).fits
 
 -- Bytes that say the number without its sign say it with its sign.
 signed_again : (w : Width) (v : ℤ) (said : ℕ) → 2 ^ bits w ≡ 2 ^ hbits w + 2 ^ hbits w → fits_signed w v ≡ true →
     (cast_unsigned w v < 2 ^ bits w → said ≡ cast_unsigned w v) → (if nat_lt said (2 ^ hbits w) then pos said else pos said -ℤ pos (2 ^ bits w)) ≡ v
 signed_again w (pos n) said double h same =
     let lt : n < 2 ^ hbits w = ltb-true n (2 ^ hbits w) h in
-    rw (same (of_z_fits w (pos n) (is_signed w (pos n) h)).fits, lt-ltb n (2 ^ hbits w) lt) refl
+    rw (same (unsigned_fits w (pos n) h), lt-ltb n (2 ^ hbits w) lt) refl
 signed_again w (negsuc n) said double h same =
     let lt : n < 2 ^ hbits w = ltb-true n (2 ^ hbits w) h in
-    let is = same (of_z_fits w (negsuc n) (is_signed w (negsuc n) h)).fits in
+    let is = same (unsigned_fits w (negsuc n) h) in
     rw (le-ltb said (2 ^ hbits w) (omega (arith, is, double, lt))) (omega (arith, ints, is, double, lt))
 
 pub own_byte : (v : ℤ) → fits_signed w8 v ≡ true → whole_number (to_be_bytes w8 (cast_unsigned w8 v)) ≡ Some v

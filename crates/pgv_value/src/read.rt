@@ -4,6 +4,7 @@
 mod bool;
 mod date_time;
 mod int;
+mod interval;
 mod network;
 mod oid;
 mod uuids;
@@ -11,6 +12,7 @@ mod uuids;
 pub use bool::read_bool;
 pub use date_time::{read_date, read_date_time, read_instant, read_time};
 pub use int::{read_i8, read_i16, read_i32, read_i64};
+pub use interval::read_interval;
 pub use network::{read_ip_address, read_ip_network};
 pub use oid::read_oid;
 pub use uuids::read_uuid;

@@ -6,6 +6,7 @@ pub mod date;
 pub mod datetime;
 mod field_list;
 pub mod int;
+pub mod interval;
 pub mod oid;
 pub mod option;
 mod part;

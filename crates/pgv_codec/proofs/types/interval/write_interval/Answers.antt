@@ -1,0 +1,36 @@
+use mir.Val.{SFits, hbits}
+use Rattle.std.proofs.Common.{◌≡◌, ◌∙◌, ◌++◌, ◌^◌, true, ℕ, ℤ, pos, negsuc, List, Some, rules, refl, ap}
+use Rattle.std.specs.Int.{Width, w32, w64, cast_signed, cast_unsigned, to_be_bytes}
+use Rattle.std.proofs.lemmas.Int.{to_z-of_z}
+use Rattle.std.proofs.lemmas.Bool.{lt-ltb}
+use Rattle.pgv_buf.specs.Tokens.{bytes}
+use Rattle.pgv_value.specs.declared.interval.PgInterval.{PgInterval}
+use Rattle.pgv_codec.specs.Image.{image_of}
+use Rattle.pgv_codec.specs.Intervals.{interval_image}
+use Rattle.pgv_codec.specs.PlainBytes.{appended_parts}
+use Rattle.pgv_codec.specs.Scalars.{has_room}
+use Rattle.pgv_codec.proofs.types.interval.write_interval.Goals as goal
+
+room : (w : Width) (v : ℤ) → SFits w v → has_room w v ≡ true
+room w (pos n) f = lt-ltb n (2 ^ hbits w) f.sfits
+room w (negsuc n) f = lt-ltb n (2 ^ hbits w) f.sfits
+
+image_is : (i : PgInterval) (a b d : List ℕ) → SFits w64 i.microseconds → SFits w32 i.days → SFits w32 i.months →
+    a ≡ to_be_bytes w64 (cast_unsigned w64 (cast_signed w64 (cast_unsigned w64 i.microseconds))) → b ≡ to_be_bytes w32 (cast_unsigned w32 (cast_signed w32 (cast_unsigned w32 i.days))) →
+    d ≡ to_be_bytes w32 (cast_unsigned w32 (cast_signed w32 (cast_unsigned w32 i.months))) →
+    interval_image i ≡ Some (image_of (bytes (a ++ (b ++ d))))
+image_is i a b d f g h e k l =
+    let first = e ∙ ap (λ (z : ℤ). to_be_bytes w64 (cast_unsigned w64 z)) (to_z-of_z w64 i.microseconds f) in
+    let second = k ∙ ap (λ (z : ℤ). to_be_bytes w32 (cast_unsigned w32 z)) (to_z-of_z w32 i.days g) in
+    let third = l ∙ ap (λ (z : ℤ). to_be_bytes w32 (cast_unsigned w32 z)) (to_z-of_z w32 i.months h) in
+    rw (room w64 i.microseconds f, room w32 i.days g, room w32 i.months h, first, second, third) refl
+
+pub returns-clause-ok : goal.returns-clause-ok
+returns-clause-ok c =
+    let i = c.args.interval in
+    let a = c.to_be_bytes-microseconds.result in
+    let b = c.to_be_bytes-days.result in
+    let d = c.to_be_bytes-months.result in
+    let two = appended_parts c.extend_from_slice.new.self c.extend_from_slice-2.new.self c.extend_from_slice-3.new.self b d c.in_ok-extend_from_slice-2.ensures.ok c.in_ok-extend_from_slice-3.ensures.ok in
+    let all = appended_parts c.args.out.now c.extend_from_slice.new.self c.extend_from_slice-3.new.self a (b ++ d) c.in_ok-extend_from_slice.ensures.ok two in
+    (bytes (a ++ (b ++ d)), image_is i a b d (search rules) (search rules) (search rules) c.to_be_bytes-microseconds.ensures c.to_be_bytes-days.ensures c.to_be_bytes-months.ensures, all)

@@ -1,0 +1,46 @@
+-- What is written of an interval is read back as it.
+use Rattle.std.specs.Prelude.{◌≡◌, ℕ, Bool, true, false, ◌&&◌, cond, ℤ, List, ◌++◌, length, Option, Some, None, refl}
+use Rattle.std.specs.Int.{Width, w32, w64, cast_unsigned, cast_signed, from_be_bytes, to_be_bytes}
+use Rattle.std.proofs.Common.{ap, ◌∙◌}
+use Rattle.std.proofs.lemmas.Int.{to_z-of_z}
+use Rattle.std.proofs.lemmas.Nat.{from_be_bytes-to_be_bytes_4, from_be_bytes-to_be_bytes_8}
+use Rattle.pgv_types.specs.Ty.{Ty}
+use Rattle.pgv_types.specs.declared.oid.Oid.{Oid}
+use Rattle.pgv_buf.specs.Tokens.{bytes}
+use Rattle.pgv_value.specs.Frame.{Part}
+use Rattle.pgv_value.specs.Interval.{interval_in_binary, interval_reading}
+use Rattle.pgv_value.specs.declared.interval.PgInterval.{PgInterval}
+use Rattle.pgv_value.specs.declared.value.PgValueFormat.TheVariants.{Binary}
+use Rattle.pgv_codec.specs.Back.{ReadsBack, always}
+use Rattle.pgv_codec.specs.BackParts.{guarded}
+use Rattle.pgv_codec.specs.BackScalars.{part_is}
+use Rattle.pgv_codec.specs.Image.{Image, image_of}
+use Rattle.pgv_codec.specs.Intervals.{interval_image}
+use Rattle.pgv_value.specs.Numbers.{fits_signed}
+use Rattle.pgv_value.specs.OwnBytes.{is_signed, unsigned_fits}
+
+-- a number is read of its own bytes
+eight_again : (v : ℤ) → fits_signed w64 v ≡ true → cast_signed w64 (from_be_bytes w64 (to_be_bytes w64 (cast_unsigned w64 v))) ≡ v
+eight_again v h = ap (cast_signed w64) (from_be_bytes-to_be_bytes_8 (cast_unsigned w64 v) (unsigned_fits w64 v h)) ∙ to_z-of_z w64 v (is_signed w64 v h)
+
+four_again : (v : ℤ) → fits_signed w32 v ≡ true → cast_signed w32 (from_be_bytes w32 (to_be_bytes w32 (cast_unsigned w32 v))) ≡ v
+four_again v h = ap (cast_signed w32) (from_be_bytes-to_be_bytes_4 (cast_unsigned w32 v) (unsigned_fits w32 v h)) ∙ to_z-of_z w32 v (is_signed w32 v h)
+
+parts : (a b : Bool) → (a && b) ≡ true → (a ≡ true) × (b ≡ true)
+parts true b e = (refl, e)
+parts false b e = absurd (cc)
+
+form : PgInterval → List ℕ
+form i = to_be_bytes w64 (cast_unsigned w64 i.microseconds) ++ (to_be_bytes w32 (cast_unsigned w32 i.days) ++ to_be_bytes w32 (cast_unsigned w32 i.months))
+
+interval_again : (i : PgInterval) → fits_signed w64 i.microseconds ≡ true → fits_signed w32 i.days ≡ true → fits_signed w32 i.months ≡ true → interval_in_binary (form i) ≡ Some i
+unfolding form
+interval_again i a b c = rw (eight_again i.microseconds a, four_again i.days b, four_again i.months c) refl
+
+pub interval_back : ReadsBack interval_image interval_reading (λ i. i) always
+unfolding form
+interval_back v i t p os e whole small fit =
+    let g = guarded (fits_signed w64 v.microseconds && (fits_signed w32 v.days && fits_signed w32 v.months)) (Some (image_of (bytes (form v)))) i e in
+    let h = parts (fits_signed w64 v.microseconds) (fits_signed w32 v.days && fits_signed w32 v.months) g.0 in
+    let k = parts (fits_signed w32 v.days) (fits_signed w32 v.months) h.1 in
+    ap (λ (part : Part). interval_reading t Binary part) (part_is (form v) i p os g.1) ∙ interval_again v h.0 k.0 k.1

@@ -1,0 +1,44 @@
+//! What intervals and durations are, as [`rows`](super::rows) has it of other types.
+
+ghost use Rattle.std.specs.Prelude.{◌≡◌, pos, None};
+ghost use Rattle.std.specs.Duration.{as_nanos};
+ghost use Rattle.jiff.specs.Words.{signed_nanos};
+ghost use Rattle.pgv_value.specs.Interval.{interval_reading};
+ghost use Rattle.pgv_codec.specs.Intervals.{interval_image, duration_image};
+ghost use Rattle.pgv_codec.specs.TypeRow.{IsBuiltIn};
+
+use crate::traits::{Decode, Encode, PgHasArrayType, Type};
+use jiff::SignedDuration;
+use pgv_value::PgInterval;
+use std::time::Duration;
+
+/// A `PgInterval` is an interval (OID 1186): microseconds, days and months, as `00000000d693a4000000000000000000` for an hour.
+/// Its arrays are `interval[]` (1187).
+pub fn pg_interval_is_an_interval()
+    ensures types { IsBuiltIn 1186 ⟦<PgInterval as Type>⟧.info ⟦<PgInterval as Type>⟧.accepts }
+    ensures arrays { IsBuiltIn 1187 ⟦<PgInterval as PgHasArrayType>⟧.array_info ⟦<PgInterval as PgHasArrayType>⟧.accepts_array }
+    ensures written { ⟦<PgInterval as Encode>⟧.image ≡ interval_image }
+    ensures hint { ⟦<PgInterval as Encode>⟧.hint ≡ (λ _. 16) }
+    ensures produced { ⟦<PgInterval as Encode>⟧.produced ≡ (λ _. None) }
+    ensures means { ⟦<PgInterval as Decode>⟧.meaning ≡ (λ v. v) }
+    ensures read { ⟦<PgInterval as Decode>⟧.reading ≡ interval_reading }
+{}
+
+/// A `Duration` is an interval, and is written as that of its microseconds, where it is whole microseconds and 64 bits have
+/// their number.
+pub fn duration_is_an_interval()
+    ensures types { IsBuiltIn 1186 ⟦<Duration as Type>⟧.info ⟦<Duration as Type>⟧.accepts }
+    ensures arrays { IsBuiltIn 1187 ⟦<Duration as PgHasArrayType>⟧.array_info ⟦<Duration as PgHasArrayType>⟧.accepts_array }
+    ensures written { ⟦<Duration as Encode>⟧.image ≡ (λ v. duration_image (pos (as_nanos v))) }
+    ensures hint { ⟦<Duration as Encode>⟧.hint ≡ (λ _. 16) }
+    ensures produced { ⟦<Duration as Encode>⟧.produced ≡ (λ _. None) }
+{}
+
+/// A `SignedDuration` is an interval, and is written as a `Duration` is.
+pub fn signed_duration_is_an_interval()
+    ensures types { IsBuiltIn 1186 ⟦<SignedDuration as Type>⟧.info ⟦<SignedDuration as Type>⟧.accepts }
+    ensures arrays { IsBuiltIn 1187 ⟦<SignedDuration as PgHasArrayType>⟧.array_info ⟦<SignedDuration as PgHasArrayType>⟧.accepts_array }
+    ensures written { ⟦<SignedDuration as Encode>⟧.image ≡ (λ v. duration_image (signed_nanos v)) }
+    ensures hint { ⟦<SignedDuration as Encode>⟧.hint ≡ (λ _. 16) }
+    ensures produced { ⟦<SignedDuration as Encode>⟧.produced ≡ (λ _. None) }
+{}

@@ -1,0 +1,10 @@
+use Rattle.std.proofs.Common.{◌∙◌, ap, rules}
+use Rattle.pgv_more.specs.Bits.{packed}
+use Rattle.pgv_more.proofs.Kept.{closes, shows}
+use Rattle.pgv_more.proofs.bit_vec.BitVec.from_bits.Goals as goal
+
+pub invariant_of-result : goal.invariant_of-result
+invariant_of-result c = closes _ _ c.args.bits.items (c.in_ok-bytes_of_bits.ensures ∙ ap packed c.as_slice.ensures.value) (search rules)
+
+pub returns : goal.returns
+returns c = shows _ _ c.args.bits.items (c.in_ok-bytes_of_bits.ensures ∙ ap packed c.as_slice.ensures.value) (search rules)

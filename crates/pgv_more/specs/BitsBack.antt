@@ -1,0 +1,41 @@
+-- What is written of bits is read back as them.
+use Rattle.std.specs.Prelude.{◌≡◌, ℕ, ◌*◌, ◌<◌, ◌≤◌, ◌^◌, ◌==◌, nat_le, nat_lt, Bool, true, false, List, ◌++◌, length, drop, Some, refl}
+use Rattle.std.specs.Int.{w32, to_be_bytes}
+use Rattle.std.proofs.Common.{sym, ap, ◌∙◌, arith}
+use Rattle.std.proofs.lemmas.Bool.{leb-true, le-ltb, eq-eqb}
+use Rattle.std.proofs.lemmas.List.{length-append, length-drop, take-append-drop, take_at}
+use Rattle.std.proofs.lemmas.Nat.{from_be_bytes-to_be_bytes_4}
+use Rattle.pgv_buf.specs.Tokens.{bytes, be4}
+use Rattle.pgv_codec.specs.Back.{ReadsBack, always}
+use Rattle.pgv_codec.specs.BackParts.{guarded}
+use Rattle.pgv_codec.specs.BackScalars.{part_is}
+use Rattle.pgv_codec.specs.Image.{image_of}
+use Rattle.pgv_value.specs.Frame.{Part}
+use Rattle.pgv_value.specs.declared.value.PgValueFormat.TheVariants.{Binary}
+use Rattle.pgv_more.specs.Bits.{bits_of, byte_count, packed}
+use Rattle.pgv_more.specs.BitsBinary.{bits_image, bits_in_binary, bit_count}
+use Rattle.pgv_more.specs.BitsCodec.{bits_reading}
+use Rattle.pgv_more.specs.Packing.{length-bits_of, length-bytes_of, packed_again}
+
+-- the bits of a number and of bytes that begin with them
+pub binary_there : (bits padding : List Bool) (body : List ℕ) → length bits < 2 ^ 31 → length padding < 8 → bits_of body ≡ bits ++ padding → bits_in_binary (to_be_bytes w32 (length bits) ++ body) ≡ Some bits
+binary_there bits padding body few rest e =
+    let form = to_be_bytes w32 (length bits) ++ body in
+    let long : nat_lt (length form) 4 ≡ false = le-ltb (length form) 4 (omega (arith, length-append (to_be_bytes w32 (length bits)) body)) in
+    let count : bit_count form ≡ length bits = from_be_bytes-to_be_bytes_4 (length bits) (omega arith) in
+    let positive : nat_lt 2147483647 (length bits) ≡ false = le-ltb 2147483647 (length bits) (omega arith) in
+    let size : (length body == byte_count (length bits)) ≡ true = eq-eqb (length body) (byte_count (length bits)) (omega (arith, length-bits_of body, ap length e, length-append bits padding)) in
+    rw (long, count, positive, size, e) (ap (λ (bs : List Bool). Some bs) (take_at bits padding (length bits) refl))
+
+binary_again : (bits : List Bool) → length bits ≤ 2147483647 → bits_in_binary (be4 (length bits) ++ packed bits) ≡ Some bits
+binary_again bits few =
+    let n = length bits in
+    let all = bits_of (packed bits) in
+    let room : length all ≡ 8 * byte_count n = length-bits_of (packed bits) ∙ ap (λ (m : ℕ). 8 * m) (length-bytes_of (byte_count n) bits) in
+    let parts : all ≡ bits ++ drop n all = sym (take-append-drop n all) ∙ ap (λ (bs : List Bool). bs ++ drop n all) (packed_again bits) in
+    binary_there bits (drop n all) (packed bits) (omega arith) (omega (arith, room, length-drop n all)) parts
+
+pub bits_back : ReadsBack bits_image bits_reading (λ bits. bits) always
+bits_back bits i t p os e whole small fit =
+    let g = guarded (nat_le (length bits) 2147483647) (Some (image_of (bytes (be4 (length bits) ++ packed bits)))) i e in
+    ap (λ (part : Part). bits_reading t Binary part) (part_is (be4 (length bits) ++ packed bits) i p os g.1) ∙ binary_again bits (leb-true (length bits) 2147483647 g.0)

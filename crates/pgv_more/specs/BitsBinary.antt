@@ -1,0 +1,49 @@
+-- The binary form of lists of bits (PostgreSQL: "Bit String Types"): the number of bits, signed, in four bytes, the highest
+-- first, and then the bits in bytes.
+use Rattle.std.specs.Prelude.{◌≡◌, ◌↔◌, ℕ, ◌+◌, ◌<◌, ◌^◌, ◌==◌, min, nat_le, nat_lt, Bool, List, ◌++◌, length, take, drop, Option, Some, None, if◌then◌else◌}
+use Rattle.std.specs.Int.{w32, from_be_bytes, to_be_bytes, cast_signed}
+use Rattle.pgv_buf.specs.Tokens.{bytes, be4}
+use Rattle.pgv_codec.specs.Image.{Image, image_of}
+use Rattle.pgv_value.specs.Laws.{AreBytes}
+use Rattle.pgv_value.specs.declared.error.CodecError.{CodecError}
+use Rattle.pgv_value.specs.declared.error.CodecError.TheVariants.{Short, NegativeLength, WrongLength}
+use Rattle.pgv_more.specs.Bits.{bits_of, byte_count, packed}
+
+-- the bytes are the form of these bits, whatever fills the last byte after them
+abbrev pub IsBits : List ℕ → List Bool → Type 0
+IsBits form bits =
+    (body : List ℕ) × (padding : List Bool) × (length bits < 2 ^ 31) × (form ≡ to_be_bytes w32 (length bits) ++ body) × (length padding < 8) × (bits_of body ≡ bits ++ padding)
+
+-- what is written: zeros fill the last byte; more than 2147483647 bits have no image
+abbrev pub bits_image : List Bool → Option Image
+bits_image bits = if nat_le (length bits) 2147483647 then Some (image_of (bytes (be4 (length bits) ++ packed bits))) else None
+
+-- four bytes and one for each bit, as many as a number of 64 bits can say
+abbrev pub bits_hint : List Bool → ℕ
+bits_hint bits = min (length bits + 4) 18446744073709551615
+
+-- the number in front
+abbrev pub bit_count : List ℕ → ℕ
+bit_count form = from_be_bytes w32 (take 4 form)
+
+-- the bits that are read
+abbrev pub bits_in_binary : List ℕ → Option (List Bool)
+bits_in_binary form =
+    if nat_lt (length form) 4 then None else
+    if nat_lt 2147483647 (bit_count form) then None else
+    if length (drop 4 form) == byte_count (bit_count form) then Some (take (bit_count form) (bits_of (drop 4 form))) else None
+
+-- why none are: too few bytes for the number, a negative number, or another number of bytes after it
+abbrev pub bits_binary_refusal : List ℕ → CodecError
+bits_binary_refusal form =
+    if nat_lt (length form) 4 then Short else
+    if nat_lt 2147483647 (bit_count form) then NegativeLength (cast_signed w32 (bit_count form)) else
+    WrongLength (length form)
+
+-- bytes are the form of bits exactly where these are read of them
+abbrev pub BitsAreRead : Type 0
+BitsAreRead = (form : List ℕ) (bits : List Bool) → AreBytes form → (bits_in_binary form ≡ Some bits) ↔ IsBits form bits
+
+-- and of no others
+abbrev pub OneListOfBits : Type 0
+OneListOfBits = (form : List ℕ) (first second : List Bool) → AreBytes form → IsBits form first → IsBits form second → first ≡ second

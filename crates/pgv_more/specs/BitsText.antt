@@ -1,0 +1,25 @@
+-- The text of lists of bits (PostgreSQL: "Bit String Types"): a digit `0` or `1` for each.
+use Rattle.std.specs.Prelude.{◌≡◌, ◌↔◌, ℕ, ◌==◌, ◌||◌, Bool, List, map, Option, Some, None, if◌then◌else◌}
+use Rattle.std.specs.List.{list_all}
+
+-- `0` is 48 and `1` is 49
+abbrev pub digit_of : Bool → ℕ
+digit_of bit = if bit then 49 else 48
+
+-- the text has the digits of these bits
+abbrev pub IsBitsText : List ℕ → List Bool → Type 0
+IsBitsText text bits = text ≡ map digit_of bits
+
+abbrev pub is_digit : ℕ → Bool
+is_digit c = c == 48 || c == 49
+
+abbrev pub is_one : ℕ → Bool
+is_one c = c == 49
+
+-- the bits that are read
+abbrev pub bits_in_text : List ℕ → Option (List Bool)
+bits_in_text text = if list_all is_digit text then Some (map is_one text) else None
+
+-- a text has the digits of bits exactly where these are read of it
+abbrev pub BitsAreReadOfText : Type 0
+BitsAreReadOfText = (text : List ℕ) (bits : List Bool) → (bits_in_text text ≡ Some bits) ↔ IsBitsText text bits

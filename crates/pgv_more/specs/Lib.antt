@@ -1,0 +1,11 @@
+pub mod Bits
+pub mod Packing
+pub mod SameBits
+pub mod BitsBinary
+pub mod BitsText
+pub mod BitsCodec
+pub mod MacAddressText
+pub mod MacAddressCodec
+pub mod BitsBack
+pub mod MacAddressBack
+pub mod Laws

@@ -1,0 +1,13 @@
+-- What is written of a MAC address is read back as it.
+use Rattle.std.specs.Prelude.{nat_eq, length, Some, refl}
+use Rattle.pgv_buf.specs.Tokens.{bytes}
+use Rattle.pgv_codec.specs.Back.{ReadsBack, always}
+use Rattle.pgv_codec.specs.BackParts.{guarded}
+use Rattle.pgv_codec.specs.BackScalars.{part_is}
+use Rattle.pgv_codec.specs.Image.{image_of}
+use Rattle.pgv_more.specs.MacAddressCodec.{mac_image, mac_reading}
+
+pub mac_back : ReadsBack mac_image mac_reading (λ address. address) always
+mac_back address i t p os e whole small fit =
+    let g = guarded (nat_eq (length address) 6) (Some (image_of (bytes address))) i e in
+    rw (part_is address i p os g.1, g.0) refl

@@ -1,0 +1,278 @@
+//! Lists of bits (PostgreSQL, "Bit String Types"), kept as bytes, eight bits to a byte, the first of them the highest.
+
+ghost use Rattle.std.specs.Prelude.{◌≡◌, ◌↔◌, ◌++◌, ◌+◌, ◌*◌, ◌<◌, ◌≤◌, ◌==◌, ℕ, Bool, List, [], ◌∷◌, length, take, map, slice_get, if◌then◌else◌, Some, None, option_map, IfOk, OnOk, OnErr, IsSome, option_to_list};
+ghost use Rattle.pgv_more.specs.Bits.{bits_of, byte_count, low_bits, number_of, packed};
+ghost use Rattle.std.specs.List.{list_all};
+ghost use Rattle.pgv_more.specs.BitsText.{bits_in_text, is_digit, is_one};
+
+mod codec;
+
+use std::alloc::{AllocError, Global};
+use std::marker::Model;
+
+/// A list of bits, such as `101`.
+///
+/// A contract sees it as a list of truth values, the first bit first. It is kept as bytes; in the last of them what is
+/// after the last bit is zero.
+#[derive(Debug, Drop)]
+pub struct BitVec {
+    bytes: Vec<u8>,
+    count: usize,
+}
+
+impl Model for BitVec {
+    ghost use Rattle.std.specs.Prelude.{◌≡◌, ◌*◌, ◌≤◌, Bool, List, length, take};
+    ghost use Rattle.pgv_more.specs.Bits.{bits_of, packed};
+
+    ghost Value = { List Bool };
+
+    ghost view = { λ b. take b.count (bits_of b.bytes.items) };
+
+    ghost invariant = { λ b. (b.count ≤ 8 * length b.bytes.items) × (b.bytes.items ≡ packed (take b.count (bits_of b.bytes.items))) };
+}
+
+impl BitVec {
+    /// No bits. It takes no memory yet.
+    pub fn new(alloc: Global) -> BitVec
+        ensures { result ≡ [] }
+    {
+        BitVec {
+            bytes: Vec::new(alloc),
+            count: 0,
+        }
+    }
+
+    /// These bits, the first of them first.
+    pub fn from_bits(alloc: Global, bits: Vec<bool>) -> Result<BitVec, AllocError>
+        ensures { IfOk result (λ b. b ≡ bits.items) }
+    {
+        Ok(BitVec {
+            bytes: bytes_of_bits(alloc, bits.as_slice())?,
+            count: bits.len(),
+        })
+    }
+
+    /// All bits of these bytes, as `11111111 10000000` of `ff80`.
+    pub fn from_bytes(alloc: Global, bytes: &[u8]) -> Result<BitVec, AllocError>
+        ensures { IfOk result (λ b. b ≡ bits_of bytes.now) }
+    {
+        let Some(count) = bytes.len().checked_mul(8) else {
+            return Err(AllocError);
+        };
+        Ok(BitVec {
+            bytes: Vec::from_slice(alloc, bytes)?,
+            count,
+        })
+    }
+
+    /// The first bits of these bytes, so many, as many as a server sends bytes for.
+    pub(crate) fn from_packed(
+        alloc: Global,
+        bytes: &[u8],
+        count: usize,
+    ) -> Result<BitVec, AllocError>
+        requires { length bytes.now ≡ byte_count count }
+        ensures { IfOk result (λ b. b ≡ take count (bits_of bytes.now)) }
+    {
+        let mut bytes = Vec::from_slice(alloc, bytes)?;
+        cut(&mut bytes, count);
+        Ok(BitVec { bytes, count })
+    }
+
+    /// The bits of digits `0` and `1`, where there are only these.
+    pub(crate) fn from_digits(alloc: Global, digits: &[u8]) -> Result<Option<BitVec>, AllocError>
+        ensures { IfOk result (λ b. b ≡ bits_in_text digits.now) }
+    {
+        match bytes_of_digits(alloc, digits)? {
+            Some(bytes) => Ok(Some(BitVec {
+                bytes,
+                count: digits.len(),
+            })),
+            None => Ok(None),
+        }
+    }
+
+    /// The bits in bytes, eight to a byte, the first of them the highest; what is after the last bit is zero. `101` is `a0`.
+    pub fn to_bytes(&self) -> Result<Vec<u8>, AllocError>
+        ensures { IfOk result (λ v. v.items ≡ packed self.now) }
+    {
+        self.bytes.clone()
+    }
+
+    /// The bytes of [`to_bytes`](BitVec::to_bytes), as they are kept.
+    pub(crate) fn as_bytes(&self) -> &[u8]
+        ensures { result.now ≡ packed self.now }
+    {
+        self.bytes.as_slice()
+    }
+
+    /// How many bits there are.
+    pub fn len(&self) -> usize
+        ensures { result ≡ length self.now }
+    {
+        self.count
+    }
+
+    /// Whether there is no bit.
+    pub fn is_empty(&self) -> bool
+        ensures { result ≡ (length self.now == 0) }
+    {
+        self.count == 0
+    }
+
+    /// The bit at this place, from 0 on, where there is one.
+    pub fn get(&self, index: usize) -> Option<bool>
+        ensures { result ≡ slice_get self.now index }
+    {
+        if index >= self.count {
+            return None;
+        }
+        Some(self.bytes[index / 8] >> (7 - index % 8) & 1 == 1)
+    }
+
+    /// Appends a bit. A refused one leaves the bits as they were.
+    pub fn push(&mut self, bit: bool) -> Result<(), AllocError>
+        ensures ok { OnOk result (self.new ≡ self.old ++ bit ∷ []) }
+        ensures err { OnErr result (self.new ≡ self.old) }
+    {
+        let Some(more) = self.count.checked_add(1) else {
+            return Err(AllocError);
+        };
+        append_bit(&mut self.bytes, self.count, bit)?;
+        self.count = more;
+        Ok(())
+    }
+
+    /// Takes the last bit off, where there is one.
+    pub fn pop(&mut self) -> Option<bool>
+        ensures bits { self.old ≡ self.new ++ option_to_list result }
+        ensures variant { IsSome result ↔ (0 < length self.old) }
+    {
+        let last = self.count.checked_sub(1)?;
+        let bit = self.get(last);
+        cut(&mut self.bytes, last);
+        self.count = last;
+        bit
+    }
+}
+
+/// Lists of bits are equal where they have the same bits.
+impl PartialEq for BitVec {
+    ghost use Rattle.pgv_more.specs.SameBits.{same_bits, same_bits_per};
+
+    ghost eq = { same_bits };
+
+    ghost laws = { same_bits_per };
+
+    fn eq(&self, other: &BitVec) -> bool {
+        self.count == other.count && self.bytes == other.bytes
+    }
+}
+
+impl Eq for BitVec {
+    ghost use Rattle.pgv_more.specs.SameBits.{same_bits_equiv};
+
+    ghost laws = { same_bits_equiv };
+}
+
+/// The byte with one more bit, at this place from the front.
+fn with_bit(byte: u8, place: usize, bit: bool) -> u8
+    requires { place < 8 }
+    ensures { (bits : List Bool) → length bits ≡ place → byte ≡ number_of 8 bits → result ≡ number_of 8 (bits ++ bit ∷ []) }
+{
+    if bit { byte | 0x80 >> place } else { byte }
+}
+
+/// The first bits of a byte, so many; the others are zero.
+fn first_of_byte(byte: u8, many: usize) -> u8
+    requires { (0 < many) × (many ≤ 8) }
+    ensures { result ≡ number_of 8 (take many (low_bits 8 byte)) }
+{
+    byte & 0xff << (8 - many)
+}
+
+/// The byte of at most eight bits.
+fn byte_of_bits(bits: &[bool]) -> u8
+    requires { length bits.now ≤ 8 }
+    ensures { result ≡ number_of 8 bits.now }
+{
+    let mut byte = 0;
+    for place in 0..bits.len() {
+        byte = with_bit(byte, place, bits[place]);
+    }
+    byte
+}
+
+/// The bytes of bits.
+fn bytes_of_bits(alloc: Global, bits: &[bool]) -> Result<Vec<u8>, AllocError>
+    ensures { IfOk result (λ v. v.items ≡ packed bits.now) }
+{
+    let mut bytes = Vec::with_capacity(alloc, bits.len().div_ceil(8))?;
+    let mut rest = bits;
+    while !rest.is_empty() {
+        let (first, after) = rest.split_at(rest.len().min(8));
+        bytes.push(byte_of_bits(first))?;
+        rest = after;
+    }
+    Ok(bytes)
+}
+
+/// The byte of at most eight digits `0` and `1`.
+fn byte_of_digits(digits: &[u8]) -> Option<u8>
+    requires { length digits.now ≤ 8 }
+    ensures { result ≡ (if list_all is_digit digits.now then Some (number_of 8 (map is_one digits.now)) else None) }
+{
+    let mut byte = 0;
+    for place in 0..digits.len() {
+        let digit = digits[place];
+        if digit != b'0' && digit != b'1' {
+            return None;
+        }
+        byte = with_bit(byte, place, digit == b'1');
+    }
+    Some(byte)
+}
+
+/// The bytes of digits `0` and `1`, where there are only these.
+fn bytes_of_digits(alloc: Global, digits: &[u8]) -> Result<Option<Vec<u8>>, AllocError>
+    ensures { IfOk result (λ v. option_map (λ bytes. bytes.items) v ≡ option_map packed (bits_in_text digits.now)) }
+{
+    let mut bytes = Vec::with_capacity(alloc, digits.len().div_ceil(8))?;
+    let mut rest = digits;
+    while !rest.is_empty() {
+        let (first, after) = rest.split_at(rest.len().min(8));
+        let Some(byte) = byte_of_digits(first) else {
+            return Ok(None);
+        };
+        bytes.push(byte)?;
+        rest = after;
+    }
+    Ok(Some(bytes))
+}
+
+/// Appends a bit to the bytes of so many bits. Refused, it leaves them.
+fn append_bit(bytes: &mut Vec<u8>, count: usize, bit: bool) -> Result<(), AllocError>
+    requires { length bytes.old.items ≡ byte_count count }
+    ensures ok { OnOk result ((bits : List Bool) → count ≡ length bits → bytes.old.items ≡ packed bits → bytes.new.items ≡ packed (bits ++ bit ∷ [])) }
+    ensures err { OnErr result (bytes.new.items ≡ bytes.old.items) }
+{
+    let place = count % 8;
+    if place == 0 {
+        bytes.push(with_bit(0, 0, bit))?;
+    } else {
+        bytes[count / 8] = with_bit(bytes[count / 8], place, bit);
+    }
+    Ok(())
+}
+
+/// Cuts bytes to their first bits, so many, with zeros after them in the last byte.
+pub(crate) fn cut(bytes: &mut Vec<u8>, count: usize)
+    requires { count ≤ 8 * length bytes.old.items }
+    ensures { bytes.new.items ≡ packed (take count (bits_of bytes.old.items)) }
+{
+    bytes.truncate(count.div_ceil(8));
+    let place = count % 8;
+    if place > 0 {
+        bytes[count / 8] = first_of_byte(bytes[count / 8], place);
+    }
+}

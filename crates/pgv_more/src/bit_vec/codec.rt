@@ -1,0 +1,142 @@
+//! Lists of bits, written and read (PostgreSQL, "Bit String Types").
+
+ghost use Rattle.std.specs.Prelude.{◌≡◌, Bool, List, IfErr, None, IsErrOf, Some, refl};
+ghost use Rattle.pgv_types.specs.Ty.{builtin};
+ghost use Rattle.pgv_value.specs.Reading.{Answers, Refuses};
+ghost use Rattle.pgv_value.specs.declared.error.CodecError.TheVariants.{Syntax};
+ghost use Rattle.pgv_more.specs.BitsBinary.{bits_image, bits_hint, bits_in_binary, bits_binary_refusal};
+ghost use Rattle.pgv_more.specs.BitsText.{bits_in_text};
+ghost use Rattle.pgv_more.specs.BitsCodec.{is_bits, is_bits_array, bits_reading, bits_refusal};
+ghost use Rattle.pgv_codec.specs.WithHint.{with_hint};
+
+use super::BitVec;
+use pgv_codec::{Codec, Decode, Encode, IsNull, PgArgumentBuffer, PgHasArrayType, ReadBack, Type};
+use pgv_types::{PgType, PgTypeInfo};
+use pgv_value::{CodecError, PgValueFormat, PgValueRef};
+use std::alloc::{AllocError, Global};
+
+impl Type for BitVec {
+    ghost info = { builtin 1562 };
+
+    ghost accepts = { is_bits };
+
+    fn type_info() -> PgTypeInfo {
+        PgTypeInfo(PgType::Varbit)
+    }
+
+    fn compatible(type_info: &PgTypeInfo) -> bool {
+        type_info.type_compatible(&PgTypeInfo(PgType::Bit))
+            || type_info.type_compatible(&PgTypeInfo(PgType::Varbit))
+    }
+}
+
+impl PgHasArrayType for BitVec {
+    ghost array_info = { builtin 1563 };
+
+    ghost accepts_array = { is_bits_array };
+
+    fn array_type_info() -> PgTypeInfo {
+        PgTypeInfo(PgType::VarbitArray)
+    }
+
+    fn array_compatible(type_info: &PgTypeInfo) -> bool {
+        type_info.type_compatible(&PgTypeInfo(PgType::BitArray))
+            || type_info.type_compatible(&PgTypeInfo(PgType::VarbitArray))
+    }
+}
+
+/// Bits are written as their number, in four bytes, and then in bytes, the first bit highest, with zeros after the last: `101`
+/// is `00000003a0`. More than 2147483647 are refused with C2.
+impl Encode for BitVec {
+    ghost image = { bits_image };
+
+    ghost hint = { bits_hint };
+
+    fn encode_by_ref(&self, out: &mut PgArgumentBuffer) -> Result<IsNull, CodecError> {
+        let count = self.len();
+        if count > 2147483647 {
+            return Err(CodecError::ValueSize(count));
+        }
+        let number = (count as u32).to_be_bytes();
+        out.extend_from_slice(&number)?;
+        out.extend_from_slice(self.as_bytes())?;
+        Ok(IsNull::No)
+    }
+
+    fn size_hint(&self) -> usize {
+        self.len().saturating_add(4)
+    }
+
+    fn produces(&self) -> Result<Option<PgTypeInfo>, AllocError> {
+        Ok(None)
+    }
+}
+
+/// The bits of a number and of bytes after it.
+fn read_binary(alloc: Global, form: &[u8]) -> Result<BitVec, CodecError>
+    ensures exact { Answers (λ bits. bits) (bits_in_binary form.now) result }
+    ensures refused { IfErr result (λ e. Refuses e (e ≡ bits_binary_refusal form.now)) }
+{
+    if form.len() < 4 {
+        return Err(CodecError::Short);
+    }
+    let (front, body) = form.split_at(4);
+    let count = u32::from_be_bytes([front[0], front[1], front[2], front[3]]);
+    if count > 2147483647 {
+        return Err(CodecError::NegativeLength(count.cast_signed()));
+    }
+    let count = count as usize;
+    if body.len() != count.div_ceil(8) {
+        return Err(CodecError::WrongLength(form.len()));
+    }
+    Ok(BitVec::from_packed(alloc, body, count)?)
+}
+
+/// The bits of digits `0` and `1`. Another text is refused with C29.
+fn read_text(alloc: Global, text: &str) -> Result<BitVec, CodecError>
+    ensures exact { Answers (λ bits. bits) (bits_in_text text.now) result }
+    ensures refused { IfErr result (λ e. Refuses e (e ≡ Syntax)) }
+{
+    match BitVec::from_digits(alloc, text.as_bytes())? {
+        Some(bits) => Ok(bits),
+        None => Err(CodecError::Syntax),
+    }
+}
+
+/// Bits are read in binary as they are written, whatever fills the last byte after them: fewer than four bytes are refused with
+/// C15, a negative number with C16, and another number of bytes than the bits need with C17. A text is digits `0` and `1`,
+/// perhaps none, else C29. Null is refused with C13.
+impl Decode for BitVec {
+    ghost Meaning = { List Bool };
+
+    ghost meaning = { λ bits. bits };
+
+    ghost reading = { bits_reading };
+
+    ghost written = { with_hint bits_hint bits_image };
+
+    ghost refusal = { Some bits_refusal };
+
+    fn decode(alloc: Global, value: PgValueRef<'_>) -> Result<BitVec, CodecError> {
+        match value.format() {
+            PgValueFormat::Binary => read_binary(alloc, value.as_bytes()?),
+            PgValueFormat::Text => read_text(alloc, value.as_str()?),
+        }
+    }
+}
+
+impl Codec for BitVec {
+    ghost agrees = { λ _. refl };
+}
+
+/// Bits come back as they were written.
+impl ReadBack for BitVec {
+    ghost use Rattle.pgv_codec.specs.Back.{always};
+    ghost use Rattle.pgv_more.specs.BitsBack.{bits_back};
+
+    ghost kept = { λ v. v };
+
+    ghost fits = { always };
+
+    ghost reads_back = { bits_back };
+}

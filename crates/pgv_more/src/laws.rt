@@ -1,0 +1,69 @@
+//! What is proved of these types and of the definitions that say what they are. Each law is the contract of a function that does
+//! nothing.
+
+ghost use Rattle.std.specs.Prelude.{◌≡◌, ◌↔◌, ℕ, Bool, List, None};
+ghost use Rattle.pgv_types.specs.Ty.{Ty, builtin};
+ghost use Rattle.pgv_codec.specs.TypeRow.{IsBuiltIn};
+ghost use Rattle.pgv_more.specs.BitsBinary.{bits_image, bits_hint, BitsAreRead, OneListOfBits};
+ghost use Rattle.pgv_more.specs.BitsText.{BitsAreReadOfText};
+ghost use Rattle.pgv_more.specs.BitsCodec.{is_bits, is_bits_array, bits_reading};
+ghost use Rattle.pgv_more.specs.Laws.{PackedIsOne};
+ghost use Rattle.pgv_more.specs.MacAddressCodec.{mac_image, mac_reading};
+ghost use Rattle.pgv_more.specs.MacAddressText.{MacAddressIsRead, OneMacAddress};
+
+use pgv_codec::{Decode, Encode, PgHasArrayType, Type};
+
+/// A `BitVec` is a varbit (OID 1562), the number of bits and then its bytes, as `00000003a0` for `101`. It is read under bit
+/// and varbit. Its arrays are `varbit[]` (1563), read under arrays of these.
+pub fn bit_vec_is_a_varbit()
+    ensures types { ⟦<crate::BitVec as Type>⟧.info ≡ builtin 1562 }
+    ensures accepts { (t : Ty) → ⟦<crate::BitVec as Type>⟧.accepts t ≡ is_bits t }
+    ensures arrays { ⟦<crate::BitVec as PgHasArrayType>⟧.array_info ≡ builtin 1563 }
+    ensures accepts_arrays { (t : Ty) → ⟦<crate::BitVec as PgHasArrayType>⟧.accepts_array t ≡ is_bits_array t }
+    ensures written { (v : List Bool) → ⟦<crate::BitVec as Encode>⟧.image v ≡ bits_image v }
+    ensures hint { (v : List Bool) → ⟦<crate::BitVec as Encode>⟧.hint v ≡ bits_hint v }
+    ensures produced { (v : List Bool) → ⟦<crate::BitVec as Encode>⟧.produced v ≡ None }
+    ensures means { ⟦<crate::BitVec as Decode>⟧.meaning ≡ (λ v. v) }
+    ensures read { ⟦<crate::BitVec as Decode>⟧.reading ≡ bits_reading }
+{}
+
+/// A `MacAddress` is a macaddr (OID 829), its six bytes, as `08002b010203`. Its arrays are `macaddr[]` (1040).
+pub fn mac_address_is_a_macaddr()
+    ensures types { IsBuiltIn 829 ⟦<crate::MacAddress as Type>⟧.info ⟦<crate::MacAddress as Type>⟧.accepts }
+    ensures arrays { IsBuiltIn 1040 ⟦<crate::MacAddress as PgHasArrayType>⟧.array_info ⟦<crate::MacAddress as PgHasArrayType>⟧.accepts_array }
+    ensures written { (v : List ℕ) → ⟦<crate::MacAddress as Encode>⟧.image v ≡ mac_image v }
+    ensures hint { (v : List ℕ) → ⟦<crate::MacAddress as Encode>⟧.hint v ≡ 6 }
+    ensures produced { (v : List ℕ) → ⟦<crate::MacAddress as Encode>⟧.produced v ≡ None }
+    ensures means { ⟦<crate::MacAddress as Decode>⟧.meaning ≡ (λ v. v) }
+    ensures read { ⟦<crate::MacAddress as Decode>⟧.reading ≡ mac_reading }
+{}
+
+/// Bits are packed into exactly the bytes whose bits they are, with less than eight zeros after them.
+pub fn packed_is_one()
+    ensures { PackedIsOne }
+{}
+
+/// Bytes are the form of bits exactly where these are read of them, whatever fills the last byte.
+pub fn bits_are_read()
+    ensures { BitsAreRead }
+{}
+
+/// No bytes are the form of two lists of bits.
+pub fn one_list_of_bits()
+    ensures { OneListOfBits }
+{}
+
+/// A text has the digits of bits exactly where these are read of it.
+pub fn bits_are_read_of_text()
+    ensures { BitsAreReadOfText }
+{}
+
+/// A text is a MAC address exactly where its bytes are read of it.
+pub fn mac_address_is_read()
+    ensures { MacAddressIsRead }
+{}
+
+/// No text is two MAC addresses.
+pub fn one_mac_address()
+    ensures { OneMacAddress }
+{}

@@ -1,0 +1,106 @@
+//! MAC addresses, written and read (PostgreSQL, "Network Address Types", macaddr).
+
+ghost use Rattle.std.specs.Prelude.{◌≡◌, ℕ, List, false, IfErr, None, IsErrOf, Some, refl};
+ghost use Rattle.pgv_types.specs.Ty.{builtin};
+ghost use Rattle.pgv_types.specs.Relations.{softly};
+ghost use Rattle.pgv_more.specs.MacAddressCodec.{mac_image, mac_reading, mac_refusal};
+ghost use Rattle.pgv_codec.specs.WithHint.{with_hint};
+
+use super::MacAddress;
+use pgv_codec::{Codec, Decode, Encode, IsNull, PgArgumentBuffer, PgHasArrayType, ReadBack, Type};
+use pgv_types::{PgType, PgTypeInfo};
+use pgv_value::{CodecError, PgValueFormat, PgValueRef};
+use std::alloc::{AllocError, Global};
+
+impl Type for MacAddress {
+    ghost info = { builtin 829 };
+
+    ghost accepts = { λ t. softly t (builtin 829) };
+
+    fn type_info() -> PgTypeInfo {
+        PgTypeInfo(PgType::Macaddr)
+    }
+
+    fn compatible(type_info: &PgTypeInfo) -> bool {
+        type_info.type_compatible(&Self::type_info())
+    }
+}
+
+impl PgHasArrayType for MacAddress {
+    ghost array_info = { builtin 1040 };
+
+    ghost accepts_array = { λ t. softly t (builtin 1040) };
+
+    fn array_type_info() -> PgTypeInfo {
+        PgTypeInfo(PgType::MacaddrArray)
+    }
+
+    fn array_compatible(type_info: &PgTypeInfo) -> bool {
+        type_info.type_compatible(&Self::array_type_info())
+    }
+}
+
+/// An address is written as its six bytes.
+impl Encode for MacAddress {
+    ghost image = { mac_image };
+
+    ghost hint = { λ _. 6 };
+
+    fn encode_by_ref(&self, out: &mut PgArgumentBuffer) -> Result<IsNull, CodecError> {
+        out.extend_from_slice(&self.bytes())?;
+        Ok(IsNull::No)
+    }
+
+    fn size_hint(&self) -> usize {
+        6
+    }
+
+    fn produces(&self) -> Result<Option<PgTypeInfo>, AllocError> {
+        Ok(None)
+    }
+}
+
+/// An address is read in binary of its six bytes, where another number of bytes is refused with C17, and in text as
+/// [`from_str`](MacAddress::from_str) reads it, else C29. Null is refused with C13.
+impl Decode for MacAddress {
+    ghost Meaning = { List ℕ };
+
+    ghost meaning = { λ address. address };
+
+    ghost reading = { mac_reading };
+
+    ghost written = { with_hint (λ _. 6) mac_image };
+
+    ghost takes_memory = { false };
+
+    ghost refusal = { Some mac_refusal };
+
+    fn decode(_alloc: Global, value: PgValueRef<'_>) -> Result<MacAddress, CodecError> {
+        match value.format() {
+            PgValueFormat::Binary => match value.as_bytes()? {
+                [a, b, c, d, e, f] => Ok(MacAddress::new([*a, *b, *c, *d, *e, *f])),
+                bytes => Err(CodecError::WrongLength(bytes.len())),
+            },
+            PgValueFormat::Text => match MacAddress::from_str(value.as_str()?) {
+                Some(address) => Ok(address),
+                None => Err(CodecError::Syntax),
+            },
+        }
+    }
+}
+
+impl Codec for MacAddress {
+    ghost agrees = { λ _. refl };
+}
+
+/// An address comes back as it was written.
+impl ReadBack for MacAddress {
+    ghost use Rattle.pgv_codec.specs.Back.{always};
+    ghost use Rattle.pgv_more.specs.MacAddressBack.{mac_back};
+
+    ghost kept = { λ v. v };
+
+    ghost fits = { always };
+
+    ghost reads_back = { mac_back };
+}

@@ -1,0 +1,189 @@
+//! What a server wrote, read in both formats and written again, and lists of bits step by step.
+
+mod server;
+
+use crate::{BitVec, MacAddress};
+use jiff::SignedDuration;
+use pgv_codec::{Decode, Encode, PgArgumentBuffer, PgHasArrayType, Type};
+use pgv_types::{PgType, PgTypeInfo};
+use pgv_value::{CodecError, PgInterval, PgValueFormat, PgValueRef};
+use server::{INTERVALS, VALUES};
+use std::alloc::{AllocError, Global};
+use std::process::Abort;
+use std::test::Fail;
+use std::time::Duration;
+
+/// What is written of the value that is read, in hex.
+fn again<T: Type + Decode + Encode>(
+    alloc: Global,
+    given: Option<&[u8]>,
+    format: PgValueFormat,
+) -> Result<String, CodecError> {
+    let value = T::decode(alloc, PgValueRef::new(given, T::type_info(), format))?;
+    let mut out = PgArgumentBuffer::new(alloc);
+    let _ = value.encode_by_ref(&mut out)?;
+    Ok(hex::encode(alloc, out.as_slice())?)
+}
+
+/// The same of bytes in hex and of a text; the number of the refusal where there is one.
+fn read<T: Type + Decode + Encode>(
+    rt: &impl Abort,
+    alloc: Global,
+    form: &str,
+    wanted: Result<&str, u8>,
+) -> Result<(), Fail> {
+    let bytes = hex::decode(alloc, form.as_bytes())?;
+    compare(
+        rt,
+        again::<T>(alloc, Some(bytes.as_slice()), PgValueFormat::Binary),
+        wanted,
+    );
+    Ok(())
+}
+
+/// Compares what was written, or the number of the refusal.
+fn compare(rt: &impl Abort, shown: Result<String, CodecError>, wanted: Result<&str, u8>) {
+    match (shown, wanted) {
+        (Ok(shown), Ok(wanted)) => assert_eq!(rt; shown.as_str(), wanted),
+        (Err(error), Err(number)) => assert_eq!(rt; error.code(), number),
+        (Ok(shown), Err(_)) => assert_eq!(rt; shown.as_str(), "a refusal"),
+        (Err(error), Ok(_)) => assert_eq!(rt; error.code(), 0),
+    }
+}
+
+/// Reads a text.
+fn read_text<T: Type + Decode + Encode>(
+    rt: &impl Abort,
+    alloc: Global,
+    text: &str,
+    wanted: Result<&str, u8>,
+) {
+    compare(
+        rt,
+        again::<T>(alloc, Some(text.as_bytes()), PgValueFormat::Text),
+        wanted,
+    );
+}
+
+/// One line of the server's values, at the Rust type for its type.
+fn check_line(rt: &impl Abort, alloc: Global, line: &str) -> Result<(), Fail> {
+    let (name, rest) = line.split_once(' ').ok_or("no text")?;
+    let (text, form) = rest.split_once(' ').ok_or("no binary form")?;
+    if name == "macaddr" {
+        read_text::<MacAddress>(rt, alloc, text, Ok(form));
+        read::<MacAddress>(rt, alloc, form, Ok(form))
+    } else {
+        read_text::<BitVec>(rt, alloc, text, Ok(form));
+        read::<BitVec>(rt, alloc, form, Ok(form))
+    }
+}
+
+#[test]
+fn what_a_server_wrote(rt: HostRuntime) -> Result<(), Fail> {
+    let alloc = rt.alloc();
+    for line in VALUES.lines() {
+        check_line(&rt, alloc, line)?;
+    }
+    Ok(())
+}
+
+#[test]
+fn what_is_refused(rt: HostRuntime) -> Result<(), Fail> {
+    let alloc = rt.alloc();
+    read::<BitVec>(&rt, alloc, "00000003bf", Ok("00000003a0"))?;
+    read::<BitVec>(&rt, alloc, "00000009ff", Err(17))?;
+    read::<BitVec>(&rt, alloc, "000000", Err(15))?;
+    read::<BitVec>(&rt, alloc, "ffffffff", Err(16))?;
+    read_text::<BitVec>(&rt, alloc, "", Ok("00000000"));
+    read_text::<BitVec>(&rt, alloc, "102", Err(29));
+    read::<MacAddress>(&rt, alloc, "08002b0102", Err(17))?;
+    read_text::<MacAddress>(&rt, alloc, "08-00-2B-01-02-03", Ok("08002b010203"));
+    read_text::<MacAddress>(&rt, alloc, "08-00-2b:01-02-03", Err(29));
+    read_text::<MacAddress>(&rt, alloc, "08:00:2b:01:02:03:", Err(29));
+    compare(
+        &rt,
+        again::<BitVec>(alloc, None, PgValueFormat::Text),
+        Err(13),
+    );
+    compare(
+        &rt,
+        again::<MacAddress>(alloc, None, PgValueFormat::Binary),
+        Err(13),
+    );
+    Ok(())
+}
+
+#[test]
+fn bits_step_by_step(rt: HostRuntime) -> Result<(), AllocError> {
+    let alloc = rt.alloc();
+    let mut bits = BitVec::new(alloc);
+    assert!(rt; bits.is_empty());
+    assert_eq!(rt; bits.pop(), None);
+    for place in 0..9 {
+        bits.push(place % 2 == 0)?;
+    }
+    assert_eq!(rt; bits.len(), 9);
+    assert_eq!(rt; bits.get(8), Some(true));
+    assert_eq!(rt; bits.get(9), None);
+    assert_eq!(rt; bits.to_bytes()?.as_slice(), [0xaa, 0x80].as_slice());
+    assert_eq!(rt; bits.pop(), Some(true));
+    assert!(rt; bits == BitVec::from_bytes(alloc, &[0xaa])?);
+    assert!(rt; bits != BitVec::from_bits(alloc, [true, false].to_vec(alloc)?)?);
+    Ok(())
+}
+
+#[test]
+fn arrays_of_bits(rt: HostRuntime) -> Result<(), Fail> {
+    let alloc = rt.alloc();
+    let array = "00000001000000000000061a00000001000000010000000500000008af";
+    read::<Vec<BitVec>>(&rt, alloc, array, Ok(array))?;
+    assert!(rt; BitVec::array_compatible(&PgTypeInfo(PgType::BitArray)));
+    assert!(rt; BitVec::compatible(&PgTypeInfo(PgType::Bit)));
+    assert!(rt; !MacAddress::compatible(&PgTypeInfo(PgType::Bit)));
+    assert_eq!(rt;
+        MacAddress::new([8, 0, 43, 1, 2, 3]).bytes(),
+        [8, 0, 43, 1, 2, 3]
+    );
+    Ok(())
+}
+
+/// What is written of a value, in hex.
+fn written<T: Encode>(alloc: Global, value: &T) -> Result<String, CodecError> {
+    let mut out = PgArgumentBuffer::new(alloc);
+    let _ = value.encode_by_ref(&mut out)?;
+    Ok(hex::encode(alloc, out.as_slice())?)
+}
+
+#[test]
+fn intervals_and_durations(rt: HostRuntime) -> Result<(), Fail> {
+    let alloc = rt.alloc();
+    let hour = "00000000d693a4000000000000000000";
+    read::<PgInterval>(&rt, alloc, hour, Ok(hour))?;
+    read_text::<PgInterval>(&rt, alloc, "1", Err(18));
+    for line in INTERVALS.lines() {
+        read::<PgInterval>(&rt, alloc, line, Ok(line))?;
+    }
+    compare(&rt, written(alloc, &Duration::from_secs(3600)), Ok(hour));
+    compare(
+        &rt,
+        written(alloc, &SignedDuration::from_secs(3600)),
+        Ok(hour),
+    );
+    compare(&rt, written(alloc, &Duration::from_nanos(27000001)), Err(4));
+    compare(
+        &rt,
+        written(alloc, &Duration::from_secs(20000000000000)),
+        Err(5),
+    );
+    compare(
+        &rt,
+        written(alloc, &SignedDuration::from_nanos(-27000001)),
+        Err(4),
+    );
+    compare(
+        &rt,
+        written(alloc, &SignedDuration::from_secs(10000000000000)),
+        Err(5),
+    );
+    Ok(())
+}

@@ -1,0 +1,58 @@
+//! Intervals.
+
+ghost use Rattle.std.specs.Prelude.{◌≡◌, ◌≤◌, length, None, IfErr, IsErrOf};
+ghost use Rattle.pgv_value.specs.Reading.{AnswersExactly};
+ghost use Rattle.pgv_value.specs.Interval.{eight_bytes, signed_four_bytes, interval_in_binary, interval_reading, interval_refusal};
+ghost use Rattle.pgv_value.specs.declared.error.CodecError.TheVariants.{Short, UnexpectedNull};
+
+use crate::error::CodecError;
+use crate::interval::PgInterval;
+use crate::value::{PgValueFormat, PgValueRef};
+use byteorder::{BigEndian, ByteOrder};
+
+/// The signed number of the eight bytes at the front, the highest first.
+fn number_of_eight(bytes: &[u8]) -> i64
+    requires { 8 ≤ length bytes.now }
+    ensures { result ≡ eight_bytes bytes.now }
+{
+    BigEndian::read_i64(bytes)
+}
+
+/// The signed number of the four bytes at the front, the highest first.
+fn number_of_four(bytes: &[u8]) -> i32
+    requires { 4 ≤ length bytes.now }
+    ensures { result ≡ signed_four_bytes bytes.now }
+{
+    BigEndian::read_i32(bytes)
+}
+
+/// The interval of sixteen bytes, whatever comes after them.
+fn interval_of_bytes(bytes: &[u8]) -> Result<PgInterval, CodecError>
+    ensures exact { AnswersExactly (λ interval. interval) (interval_in_binary bytes.now) result }
+    ensures refused { IfErr result (λ e. e ≡ Short) }
+{
+    if bytes.len() < 16 {
+        return Err(CodecError::Short);
+    }
+    let (microseconds, rest) = bytes.split_at(8);
+    let (days, months) = rest.split_at(4);
+    Ok(PgInterval {
+        months: number_of_four(months),
+        days: number_of_four(days),
+        microseconds: number_of_eight(microseconds),
+    })
+}
+
+/// Reads an `interval`, in binary alone: the microseconds in eight bytes, the days in four and the months in four, each signed,
+/// the highest byte first, whatever comes after them. Fewer bytes are refused with C15, and a text with C18.
+pub fn read_interval(value: &PgValueRef<'_>) -> Result<PgInterval, CodecError>
+    ensures exact { AnswersExactly (λ interval. interval) (interval_reading value.now.type_info value.now.format value.now.bytes) result }
+    ensures refused { IfErr result (λ e. e ≡ interval_refusal value.now.format value.now.bytes) }
+    ensures null { value.now.bytes ≡ None → IsErrOf result UnexpectedNull }
+{
+    let bytes = value.as_bytes()?;
+    match value.format() {
+        PgValueFormat::Binary => interval_of_bytes(bytes),
+        PgValueFormat::Text => Err(CodecError::TextUnsupported),
+    }
+}
