@@ -5,13 +5,13 @@ use Rattle.std.proofs.lemmas.Int.{to_z-of_z}
 use Rattle.std.proofs.lemmas.Bool.{lt-ltb}
 use Rattle.pgv_buf.specs.Tokens.{bytes}
 use Rattle.pgv_value.specs.declared.interval.PgInterval.{PgInterval}
+use Rattle.pgv_value.specs.Numbers.{fits_signed}
 use Rattle.pgv_codec.specs.Image.{image_of}
 use Rattle.pgv_codec.specs.Intervals.{interval_image}
 use Rattle.pgv_codec.specs.PlainBytes.{appended_parts}
-use Rattle.pgv_codec.specs.Scalars.{has_room}
 use Rattle.pgv_codec.proofs.types.interval.write_interval.Goals as goal
 
-room : (w : Width) (v : ℤ) → SFits w v → has_room w v ≡ true
+room : (w : Width) (v : ℤ) → SFits w v → fits_signed w v ≡ true
 room w (pos n) f = lt-ltb n (2 ^ hbits w) f.sfits
 room w (negsuc n) f = lt-ltb n (2 ^ hbits w) f.sfits
 
