@@ -20,6 +20,6 @@ abbrev pub image_where_there : Result PgInterval CodecError → Option Image
 image_where_there (Ok i) = interval_image i
 image_where_there (Err e) = None
 
--- a duration of so many nanoseconds, as the interval of its microseconds
+-- a duration of this number of nanoseconds, as the interval of its microseconds
 abbrev pub duration_image : ℤ → Option Image
 duration_image nanos = image_where_there (interval_of nanos)

@@ -46,7 +46,7 @@ first_of : (byte : ℕ) (after : List ℕ) (c : ℕ) → c ≤ 8 → take c (bit
 unfolding bits_of
 first_of byte after c l = take-append-le c (low_bits 8 byte) (bits_of after) (omega (arith, length-low_bits 8 byte))
 
--- so many bits fill their bytes, and then comes one byte of the others
+-- bits that fill m bytes, and one byte of those after them
 in_front : (m : ℕ) (bits more : List Bool) → 8 * m ≤ length bits → bytes_of (m + 1) (bits ++ more) ≡ bytes_of m bits ++ number_of 8 (drop (8 * m) (bits ++ more)) ∷ []
 in_front m bits more l =
     rw (bytes_of-split m 1 (bits ++ more), bytes_of-append m bits more l, one_byte (drop (8 * m) (bits ++ more))) refl

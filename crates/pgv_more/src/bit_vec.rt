@@ -65,7 +65,7 @@ impl BitVec {
         })
     }
 
-    /// The first bits of these bytes, so many, as many as a server sends bytes for.
+    /// The first `count` bits of bytes, which are as many as these bits need.
     pub(crate) fn from_packed(
         alloc: Global,
         bytes: &[u8],
@@ -183,7 +183,7 @@ fn with_bit(byte: u8, place: usize, bit: bool) -> u8
     if bit { byte | 0x80 >> place } else { byte }
 }
 
-/// The first bits of a byte, so many; the others are zero.
+/// The first `many` bits of a byte, with zeros after them.
 fn first_of_byte(byte: u8, many: usize) -> u8
     requires { (0 < many) × (many ≤ 8) }
     ensures { result ≡ number_of 8 (take many (low_bits 8 byte)) }
@@ -250,7 +250,7 @@ fn bytes_of_digits(alloc: Global, digits: &[u8]) -> Result<Option<Vec<u8>>, Allo
     Ok(Some(bytes))
 }
 
-/// Appends a bit to the bytes of so many bits. Refused, it leaves them.
+/// Appends a bit to the bytes of `count` bits. Refused, it leaves them.
 fn append_bit(bytes: &mut Vec<u8>, count: usize, bit: bool) -> Result<(), AllocError>
     requires { length bytes.old.items ≡ byte_count count }
     ensures ok { OnOk result ((bits : List Bool) → count ≡ length bits → bytes.old.items ≡ packed bits → bytes.new.items ≡ packed (bits ++ bit ∷ [])) }
@@ -265,7 +265,7 @@ fn append_bit(bytes: &mut Vec<u8>, count: usize, bit: bool) -> Result<(), AllocE
     Ok(())
 }
 
-/// Cuts bytes to their first bits, so many, with zeros after them in the last byte.
+/// Cuts bytes to their first `count` bits, with zeros after them in the last byte.
 pub(crate) fn cut(bytes: &mut Vec<u8>, count: usize)
     requires { count ≤ 8 * length bytes.old.items }
     ensures { bytes.new.items ≡ packed (take count (bits_of bytes.old.items)) }

@@ -15,7 +15,7 @@ use Rattle.pgv_value.specs.declared.value.PgValueFormat.TheVariants.{Text, Binar
 
 -- ---- of durations
 
--- so many microseconds, no days and no months
+-- these microseconds, no days and no months
 abbrev pub of_microseconds : ℤ → PgInterval
 of_microseconds m = record { months = pos 0; days = pos 0; microseconds = m }
 
@@ -26,7 +26,7 @@ interval_of nanos =
     (if fits_signed w64 (int_div nanos (pos 1000)) then Ok (of_microseconds (int_div nanos (pos 1000))) else Err IntervalOverflow)
     else Err IntervalPrecision
 
--- the interval has so many nanoseconds
+-- the interval has this number of nanoseconds
 abbrev pub IsOfNanoseconds : ℤ → PgInterval → Type 0
 IsOfNanoseconds nanos i = (i.months ≡ pos 0) × (i.days ≡ pos 0) × (i.microseconds *ℤ pos 1000 ≡ nanos) × SFits w64 i.microseconds
 

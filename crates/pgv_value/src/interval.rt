@@ -63,7 +63,7 @@ impl TryFrom<SignedDuration> for PgInterval {
     }
 }
 
-/// So many microseconds.
+/// The interval of these microseconds.
 fn of_microseconds(microseconds: i64) -> PgInterval
     ensures months { result.months ≡ pos 0 }
     ensures days { result.days ≡ pos 0 }
