@@ -4,13 +4,21 @@ use Rattle.std.specs.Int.{w8, w16, w32, w64}
 use Rattle.pgv_types.specs.Ty.{Ty, builtin}
 use Rattle.pgv_value.specs.Reading.{Reading}
 use Rattle.pgv_value.specs.Scalars.{bool_reading, int_reading, char_reading, oid_reading, text_reading, uuid_reading}
+use Rattle.pgv_value.specs.DateTimeBinary.{date_reading, time_reading, date_time_reading, instant_reading}
+use Rattle.pgv_value.specs.Interval.{interval_reading}
 use Rattle.pgv_value.specs.declared.value.PgValueFormat.{PgValueFormat}
 use Rattle.pgv_wire.specs.Arguments.{Framed}
 use Rattle.pgv_nest.specs.Arrays.{array}
 use Rattle.pgv_codec.specs.Image.{frame}
+use Rattle.pgv_codec.specs.DateTimeBinary.{date_image, time_image, moment_image}
+use Rattle.pgv_codec.specs.Intervals.{interval_image}
 use Rattle.pgv_codec.specs.Nullable.{nullable}
 use Rattle.pgv_codec.specs.Saying.{Saying, plainly, option_written, array_written}
 use Rattle.pgv_codec.specs.Scalars.{bool_image, signed_image, unsigned_image, text_image, uuid_image}
+use Rattle.pgv_codec.specs.WithHint.{with_hint}
+use Rattle.pgv_more.specs.BitsBinary.{bits_image, bits_hint}
+use Rattle.pgv_more.specs.BitsCodec.{bits_reading}
+use Rattle.pgv_more.specs.MacAddressCodec.{mac_image, mac_reading}
 
 -- what is added of a value: its type and its frame, where it has one
 abbrev pub framed_as : Saying → Option Framed
@@ -44,8 +52,16 @@ types =
     (codes "oid", row (builtin 26) oid_reading (plainly (unsigned_image w32))) ∷
     (codes "text", row (builtin 25) text_reading (plainly text_image)) ∷
     (codes "uuid", row (builtin 2950) uuid_reading (plainly uuid_image)) ∷
+    (codes "date", row (builtin 1082) date_reading (with_hint (λ _. 4) date_image)) ∷
+    (codes "time", row (builtin 1083) time_reading (with_hint (λ _. 8) time_image)) ∷
+    (codes "timestamp", row (builtin 1114) date_time_reading (with_hint (λ _. 8) moment_image)) ∷
+    (codes "timestamptz", row (builtin 1184) instant_reading (with_hint (λ _. 8) moment_image)) ∷
+    (codes "interval", row (builtin 1186) interval_reading (with_hint (λ _. 16) interval_image)) ∷
+    (codes "varbit", row (builtin 1562) bits_reading (with_hint bits_hint bits_image)) ∷
+    (codes "macaddr", row (builtin 829) mac_reading (with_hint (λ _. 6) mac_image)) ∷
     (codes "int4[]", list_row (builtin 1007) (builtin 23) (int_reading w32) (plainly (signed_image w32))) ∷
     (codes "text[]", list_row (builtin 1009) (builtin 25) text_reading (plainly text_image)) ∷
+    (codes "date[]", list_row (builtin 1182) (builtin 1082) date_reading (with_hint (λ _. 4) date_image)) ∷
     []
 
 -- the row of a name, where it has one

@@ -13,9 +13,13 @@ ghost use Rattle.pgv_session.specs.Session.{RespondsBy, Adds, Reads, IsRefusal, 
 ghost use Rattle.pgv_session.specs.Types.{framed_as, framed_by, row, row_named, types};
 
 use crate::line::{Ask, is};
+use jiff::Timestamp;
+use jiff::civil::{Date, DateTime, Time};
+use pgv_more::{BitVec, MacAddress};
 use pgv_types::Oid;
 use pgv_wire::{
-    Codec, CodecError, Encode, PgArgumentBuffer, PgArguments, PgValueFormat, PgValueRef, Type,
+    Codec, CodecError, Encode, PgArgumentBuffer, PgArguments, PgInterval, PgValueFormat,
+    PgValueRef, Type,
 };
 use std::alloc::{AllocError, Global};
 use uuid::Uuid;
@@ -38,8 +42,16 @@ pub fn respond_by(
         _ if is(name, "oid") => respond_as::<Oid>(alloc, arguments, ask),
         _ if is(name, "text") => respond_as::<String>(alloc, arguments, ask),
         _ if is(name, "uuid") => respond_as::<Uuid>(alloc, arguments, ask),
+        _ if is(name, "date") => respond_as::<Date>(alloc, arguments, ask),
+        _ if is(name, "time") => respond_as::<Time>(alloc, arguments, ask),
+        _ if is(name, "timestamp") => respond_as::<DateTime>(alloc, arguments, ask),
+        _ if is(name, "timestamptz") => respond_as::<Timestamp>(alloc, arguments, ask),
+        _ if is(name, "interval") => respond_as::<PgInterval>(alloc, arguments, ask),
+        _ if is(name, "varbit") => respond_as::<BitVec>(alloc, arguments, ask),
+        _ if is(name, "macaddr") => respond_as::<MacAddress>(alloc, arguments, ask),
         _ if is(name, "int4[]") => respond_as::<Vec<Option<i32>>>(alloc, arguments, ask),
         _ if is(name, "text[]") => respond_as::<Vec<Option<String>>>(alloc, arguments, ask),
+        _ if is(name, "date[]") => respond_as::<Vec<Option<Date>>>(alloc, arguments, ask),
         _ => String::from_str(alloc, "refused line"),
     }
 }
