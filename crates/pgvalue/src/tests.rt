@@ -1,6 +1,6 @@
 //! Sessions with the answers that they must have, and readers and writers that fail.
 
-use crate::vectors::{ARRAYS, SCALARS};
+use crate::vectors::{ARRAYS, SCALARS, TIMES};
 use pgv_session::{RunFault, fault_text, run};
 use std::alloc::{AllocError, Global};
 use std::io::{self, BufRead, Error, ErrorKind, Read, Write};
@@ -58,6 +58,36 @@ fn plain_values(rt: HostRuntime) -> Result<(), Fail> {
         ("add oid -1", "refused C29"),
         ("null uuid", "$3"),
         ("wire", "00000001ff00000004ffffffffffffffff"),
+    ];
+    assert!(rt; answered(rt.alloc(), &session)?);
+    Ok(())
+}
+
+#[test]
+fn dates_and_times(rt: HostRuntime) -> Result<(), Fail> {
+    let session = [
+        ("add date 2024-02-29", "$1"),
+        ("add time 24:00:00", "$2"),
+        ("add timestamptz 2000-01-01 00:00:00-00:30", "$3"),
+        ("add timestamp 2000-01-01 00:00:00+05", "$4"),
+        (
+            "wire",
+            "0000000400002279000000080000000000000000000000080000000\
+06b49d200000000080000000000000000",
+        ),
+        ("add date 2023-02-29", "refused C29"),
+        ("add time 24:00:00.0", "refused C29"),
+        ("add time 23:59:60", "refused C29"),
+        ("add timestamptz 2000-01-01 00:00:00", "refused C29"),
+        ("read date 002c95d3", "00000004002c95d3"),
+        ("read date 002c95d4", "refused C30"),
+        ("read date 7fffffff", "refused C30"),
+        ("read time ffffffffffffffff", "00000008000000141dd75fff"),
+        ("add interval 1", "refused C18"),
+        ("read interval null", "refused C13"),
+        ("add macaddr 08-00-2b:01-02-03", "refused C29"),
+        ("add varbit 101", "$5"),
+        ("read varbit 00000003ff", "0000000500000003e0"),
     ];
     assert!(rt; answered(rt.alloc(), &session)?);
     Ok(())
@@ -130,7 +160,9 @@ fn push_text(
     rows.added
         .push_str(format!(in alloc; "add {name} {text}\n")?.as_str())?;
     if written.starts_with('C') {
-        return rows.places.push_str("refused C29\n");
+        return rows
+            .places
+            .push_str(format!(in alloc; "refused {written}\n")?.as_str());
     }
     rows.count = rows.count.wrapping_add(1);
     let count = rows.count;
@@ -158,6 +190,26 @@ fn push_binary(
     rows.shown.push('\n')
 }
 
+/// What a row's binary form is written as, or the refusal of it.
+fn as_binary<'a>(hex: &'a str, written: &'a str) -> &'a str {
+    if written == "=" || written.starts_with('!') {
+        hex
+    } else {
+        written
+    }
+}
+
+/// What a row's text is written as, or the refusal of it.
+fn as_text<'a>(hex: &'a str, written: &'a str) -> &'a str {
+    match written {
+        "=" => hex,
+        "!C18" => "C18",
+        "!C29" => "C29",
+        _ if written.starts_with('C') => "C29",
+        _ => written,
+    }
+}
+
 /// Whether the session that some rows make has its answers.
 fn rows_answered(alloc: Global, lines: &str) -> Result<bool, AllocError> {
     let mut rows = Rows {
@@ -177,10 +229,9 @@ fn rows_answered(alloc: Global, lines: &str) -> Result<bool, AllocError> {
         let (written, text) = column(rest);
         // A row without a text has no third space.
         let has_text = written.len() < rest.len();
-        let written = if written == "=" { hex } else { written };
-        push_binary(alloc, &mut rows, name, hex, written)?;
+        push_binary(alloc, &mut rows, name, hex, as_binary(hex, written))?;
         if has_text {
-            push_text(alloc, &mut rows, name, written, text)?;
+            push_text(alloc, &mut rows, name, as_text(hex, written), text)?;
         }
     }
     let Rows {
@@ -205,6 +256,12 @@ fn vectors_of_scalars(rt: HostRuntime) -> Result<(), Fail> {
 #[test]
 fn vectors_of_arrays(rt: HostRuntime) -> Result<(), Fail> {
     assert!(rt; rows_answered(rt.alloc(), ARRAYS)?);
+    Ok(())
+}
+
+#[test]
+fn vectors_of_times(rt: HostRuntime) -> Result<(), Fail> {
+    assert!(rt; rows_answered(rt.alloc(), TIMES)?);
     Ok(())
 }
 
