@@ -12,6 +12,7 @@ ghost use Rattle.pgv_codec.specs.Plain.{ArrayIsPlain, FieldIsPlain};
 ghost use Rattle.pgv_codec.specs.RecordCalls.{RecordIsItsAccepted};
 ghost use Rattle.pgv_codec.specs.Saying.{said};
 
+pub mod dates;
 pub mod intervals;
 pub mod rows;
 pub mod texts;

@@ -1,0 +1,55 @@
+//! What dates, times, date-times and instants are, as [`rows`](super::rows) has it of other types. All count from 2000-01-01.
+
+ghost use Rattle.std.specs.Prelude.{◌≡◌, None};
+ghost use Rattle.jiff.specs.Words.{civil_nanos, epoch_day, time_nanos};
+ghost use Rattle.pgv_value.specs.DateTimeBinary.{date_reading, date_time_reading, instant_reading, time_reading};
+ghost use Rattle.pgv_codec.specs.DateTimeBinary.{date_image, moment_image, time_image};
+ghost use Rattle.pgv_codec.specs.TypeRow.{IsBuiltIn};
+
+use crate::traits::{Decode, Encode, PgHasArrayType, Type};
+use jiff::Timestamp;
+use jiff::civil::{Date, DateTime, Time};
+
+/// A `Date` is a date (OID 1082), its days in four bytes, as `00002279` for 2024-02-29. Its arrays are `date[]` (1182).
+pub fn date_is_a_date()
+    ensures types { IsBuiltIn 1082 ⟦<Date as Type>⟧.info ⟦<Date as Type>⟧.accepts }
+    ensures arrays { IsBuiltIn 1182 ⟦<Date as PgHasArrayType>⟧.array_info ⟦<Date as PgHasArrayType>⟧.accepts_array }
+    ensures written { ⟦<Date as Encode>⟧.image ≡ (λ v. date_image (epoch_day v)) }
+    ensures hint { ⟦<Date as Encode>⟧.hint ≡ (λ _. 4) }
+    ensures produced { ⟦<Date as Encode>⟧.produced ≡ (λ _. None) }
+    ensures means { ⟦<Date as Decode>⟧.meaning ≡ (λ v. epoch_day v) }
+    ensures read { ⟦<Date as Decode>⟧.reading ≡ date_reading }
+{}
+
+/// A `Time` is a time (OID 1083), its microseconds in eight bytes, as `0000000a7a358200` for 12:30. Its arrays are `time[]` (1183).
+pub fn time_is_a_time()
+    ensures types { IsBuiltIn 1083 ⟦<Time as Type>⟧.info ⟦<Time as Type>⟧.accepts }
+    ensures arrays { IsBuiltIn 1183 ⟦<Time as PgHasArrayType>⟧.array_info ⟦<Time as PgHasArrayType>⟧.accepts_array }
+    ensures written { ⟦<Time as Encode>⟧.image ≡ (λ v. time_image (time_nanos v)) }
+    ensures hint { ⟦<Time as Encode>⟧.hint ≡ (λ _. 8) }
+    ensures produced { ⟦<Time as Encode>⟧.produced ≡ (λ _. None) }
+    ensures means { ⟦<Time as Decode>⟧.meaning ≡ (λ v. time_nanos v) }
+    ensures read { ⟦<Time as Decode>⟧.reading ≡ time_reading }
+{}
+
+/// A `DateTime` is a timestamp (OID 1114), its microseconds in eight bytes. Its arrays are `timestamp[]` (1115).
+pub fn date_time_is_a_timestamp()
+    ensures types { IsBuiltIn 1114 ⟦<DateTime as Type>⟧.info ⟦<DateTime as Type>⟧.accepts }
+    ensures arrays { IsBuiltIn 1115 ⟦<DateTime as PgHasArrayType>⟧.array_info ⟦<DateTime as PgHasArrayType>⟧.accepts_array }
+    ensures written { ⟦<DateTime as Encode>⟧.image ≡ (λ v. moment_image (civil_nanos v)) }
+    ensures hint { ⟦<DateTime as Encode>⟧.hint ≡ (λ _. 8) }
+    ensures produced { ⟦<DateTime as Encode>⟧.produced ≡ (λ _. None) }
+    ensures means { ⟦<DateTime as Decode>⟧.meaning ≡ (λ v. civil_nanos v) }
+    ensures read { ⟦<DateTime as Decode>⟧.reading ≡ date_time_reading }
+{}
+
+/// A `Timestamp` is a timestamptz (OID 1184), its microseconds in eight bytes. Its arrays are `timestamptz[]` (1185).
+pub fn timestamp_is_a_timestamptz()
+    ensures types { IsBuiltIn 1184 ⟦<Timestamp as Type>⟧.info ⟦<Timestamp as Type>⟧.accepts }
+    ensures arrays { IsBuiltIn 1185 ⟦<Timestamp as PgHasArrayType>⟧.array_info ⟦<Timestamp as PgHasArrayType>⟧.accepts_array }
+    ensures written { ⟦<Timestamp as Encode>⟧.image ≡ (λ v. moment_image v.nanosecond) }
+    ensures hint { ⟦<Timestamp as Encode>⟧.hint ≡ (λ _. 8) }
+    ensures produced { ⟦<Timestamp as Encode>⟧.produced ≡ (λ _. None) }
+    ensures means { ⟦<Timestamp as Decode>⟧.meaning ≡ (λ v. v.nanosecond) }
+    ensures read { ⟦<Timestamp as Decode>⟧.reading ≡ instant_reading }
+{}
