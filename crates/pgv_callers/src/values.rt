@@ -72,7 +72,7 @@ impl PgHasArrayType for Mood {
 
 impl Encode for Mood {
     ghost use Rattle.std.specs.Prelude.{string_bytes};
-    ghost use Rattle.pgv_codec.specs.Scalars.{text_image};
+    ghost use Rattle.pgv_codec.specs.ScalarBinary.{text_image};
 
     ghost image = { λ mood. text_image (string_bytes mood.label) };
 
@@ -92,9 +92,9 @@ impl Encode for Mood {
 /// A mood is read as a text.
 impl Decode for Mood {
     ghost use Rattle.std.specs.Prelude.{ℕ, List, string_bytes};
-    ghost use Rattle.pgv_value.specs.Scalars.{text_reading};
+    ghost use Rattle.pgv_value.specs.ScalarGrammar.{text_reading};
     ghost use Rattle.pgv_codec.specs.Saying.{plainly};
-    ghost use Rattle.pgv_codec.specs.Scalars.{text_image};
+    ghost use Rattle.pgv_codec.specs.ScalarBinary.{text_image};
 
     ghost Meaning = { List ℕ };
 
@@ -267,7 +267,7 @@ impl Encode for Size {
     ghost use Rattle.std.specs.Prelude.{cond, pos, None};
     ghost use Rattle.std.specs.Ordering.{int_eq};
     ghost use Rattle.std.specs.Int.{w8};
-    ghost use Rattle.pgv_codec.specs.Scalars.{signed_image};
+    ghost use Rattle.pgv_codec.specs.ScalarBinary.{signed_image};
 
     ghost image = { λ size. cond (int_eq size.number (pos 0)) None (signed_image w8 size.number) };
 
@@ -418,7 +418,7 @@ impl PgHasArrayType for MoodText {
 impl Encode for MoodText {
     ghost use Rattle.std.specs.Prelude.{Some, codes, string_bytes};
     ghost use Rattle.pgv_types.specs.Ty.{named};
-    ghost use Rattle.pgv_codec.specs.Scalars.{text_image};
+    ghost use Rattle.pgv_codec.specs.ScalarBinary.{text_image};
 
     ghost image = { λ text. text_image (string_bytes text.mood.label) };
 
@@ -465,7 +465,7 @@ impl Encode for ButThree {
     ghost use Rattle.std.specs.Prelude.{cond, pos, None};
     ghost use Rattle.std.specs.Ordering.{int_eq};
     ghost use Rattle.std.specs.Int.{w32};
-    ghost use Rattle.pgv_codec.specs.Scalars.{signed_image};
+    ghost use Rattle.pgv_codec.specs.ScalarBinary.{signed_image};
 
     ghost image = { λ v. cond (int_eq v.number (pos 3)) None (signed_image w32 v.number) };
 

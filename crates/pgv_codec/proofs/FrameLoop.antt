@@ -1,8 +1,8 @@
 -- Frames that are read one after the other.
 use Rattle.std.proofs.Common.{◌≡◌, ℕ, suc, ◌+◌, ◌-◌, ◌<◌, ◌≤◌, List, [], ◌∷◌, ◌++◌, Option, Some, None, refl, sym, ap, ◌∙◌, append_assoc, arith}
 use Rattle.std.proofs.lemmas.List.{append-nil}
-use Rattle.pgv_value.specs.Frame.{Part, front}
-use Rattle.pgv_nest.specs.Arrays.{frames}
+use Rattle.pgv_value.specs.FrameBinary.{Part, front}
+use Rattle.pgv_nest.specs.ArrayGrammar.{frames}
 use Rattle.pgv_value.specs.Steps.{◌>>=◌}
 
 module _ {M : Type 0} where

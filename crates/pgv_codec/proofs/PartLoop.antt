@@ -1,8 +1,8 @@
 -- Parts that are read one after the other.
 use Rattle.std.proofs.Common.{◌≡◌, ℕ, ◌+◌, ◌<◌, List, [], ◌∷◌, ◌++◌, Option, Some, None, length, get_or, drop, map, refl, sym, ap, ◌∙◌, drop-cons, add-one}
 use Rattle.std.proofs.lemmas.List.{append-nil}
-use Rattle.pgv_value.specs.Frame.{Part}
-use Rattle.pgv_nest.specs.Arrays.{each}
+use Rattle.pgv_value.specs.FrameBinary.{Part}
+use Rattle.pgv_nest.specs.ArrayGrammar.{each}
 use Rattle.pgv_codec.proofs.FrameLoop.{with_front, regroup}
 
 -- the parts from a place on begin with the one at that place

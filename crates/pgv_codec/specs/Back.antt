@@ -9,11 +9,11 @@ use Rattle.pgv_buf.specs.Tokens.{Token, byte, hole, slot, bytes, be4, tokens_hol
 use Rattle.pgv_value.specs.Reading.{Reading}
 use Rattle.pgv_value.specs.declared.value.PgValueFormat.TheVariants.{Binary}
 use Rattle.pgv_codec.specs.Writing.{write}
-use Rattle.pgv_nest.specs.Arrays.{element_type}
-use Rattle.pgv_nest.specs.Grammar.{HasFieldType}
+use Rattle.pgv_nest.specs.ArrayGrammar.{element_type}
+use Rattle.pgv_nest.specs.NestBinary.{HasFieldType}
 use Rattle.pgv_codec.specs.Image.{Image, null_image, image_of, or_else, join, field, record_image, written_element_type as written_type}
 use Rattle.pgv_codec.specs.Writing.{image_holes, written_part}
-use Rattle.pgv_nest.specs.Records.{Left, binary_fields, next, fields_of}
+use Rattle.pgv_nest.specs.RecordGrammar.{Left, binary_fields, next, fields_of}
 
 -- OIDs are numbers of 32 bits
 abbrev pub AreOids : List Oid → Type 0

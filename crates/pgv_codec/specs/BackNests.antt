@@ -13,11 +13,11 @@ use Rattle.pgv_buf.specs.Tokens.{Token, bytes, be4}
 use Rattle.pgv_value.specs.Reading.{Reading}
 use Rattle.pgv_value.specs.declared.value.PgValueFormat.TheVariants.{Binary}
 use Rattle.pgv_codec.specs.Writing.{write}
-use Rattle.pgv_nest.specs.Arrays.{array, array_of_length}
+use Rattle.pgv_nest.specs.ArrayGrammar.{array, array_of_length}
 use Rattle.pgv_codec.specs.Back.{AreOids, SlotsFit, ImageFits, ReadsBack, is_null, option_kept, option_fits, written_oid, oids_after, ArrayFits}
 use Rattle.pgv_codec.specs.BackParts.{guarded, joined_parts, type_written, SlotsFit-back, AreOids-after, frames_back}
 use Rattle.pgv_nest.specs.Found.{array_there}
-use Rattle.pgv_nest.specs.Grammar.{IsArray}
+use Rattle.pgv_nest.specs.NestBinary.{IsArray}
 use Rattle.pgv_codec.specs.Image.{Image, null_image, image_of, limit, written_frames, join, typed, header, array_after, array_of_frames, array_image, sized_image, option_image, written_element_type as written_type}
 use Rattle.pgv_codec.specs.Nullable.{nullable}
 use Rattle.pgv_codec.specs.Writing.{written_part}

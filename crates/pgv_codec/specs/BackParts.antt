@@ -11,12 +11,12 @@ use Rattle.pgv_types.specs.Relations.{softly}
 use Rattle.pgv_types.specs.declared.oid.Oid.{Oid}
 use Rattle.pgv_buf.specs.Fill.{first_number, rest_numbers}
 use Rattle.pgv_buf.specs.Tokens.{Token, byte, hole, slot, bytes, be4, tokens_width, tokens_holes, CasesFit, chosen}
-use Rattle.pgv_value.specs.Frame.{Part, IsFrame}
+use Rattle.pgv_value.specs.FrameBinary.{Part, IsFrame}
 use Rattle.pgv_value.specs.Reading.{Reading}
 use Rattle.pgv_value.specs.declared.value.PgValueFormat.TheVariants.{Binary}
 use Rattle.pgv_codec.specs.Writing.{write, chosen_for}
 use Rattle.pgv_codec.specs.Back.{AreOids, SlotsFit, ReadsBack, FitEach, holes_of, written_oid, oids_after}
-use Rattle.pgv_nest.specs.Grammar.{BeginWithFrames}
+use Rattle.pgv_nest.specs.NestBinary.{BeginWithFrames}
 use Rattle.pgv_codec.specs.Image.{Image, null_image, image_of, limit, frame, frame_of, written_frames, join, typed_oid}
 
 -- ---- writing

@@ -13,12 +13,12 @@ use Rattle.pgv_codec.specs.Writing.{write}
 use Rattle.pgv_codec.specs.Back.{AreOids, SlotsFit, ImageFits, ReadsBack, holes_of, written_oid, oids_after, field_holes, FieldFits, Followed, in_order, FieldReadsBack, FieldsBack, RecordReadsBack, RecordFieldsFollow}
 use Rattle.pgv_codec.specs.BackParts.{guarded, joined_parts, type_written, oids_left, tokens_holes-append, SlotsFit-front, SlotsFit-back, AreOids-drop, AreOids-after, frame_back}
 use Rattle.pgv_nest.specs.Found.{number_of_four, next_there}
-use Rattle.pgv_nest.specs.Grammar.{IsField}
-use Rattle.pgv_value.specs.Frame.{IsFrame}
+use Rattle.pgv_nest.specs.NestBinary.{IsField}
+use Rattle.pgv_value.specs.FrameBinary.{IsFrame}
 use Rattle.pgv_codec.specs.Image.{Image, null_image, image_of, limit, frame, frame_of, join, typed, or_else, field, field_of, counted_field, joined_fields, record_of_fields, record_image}
 use Rattle.pgv_codec.specs.Writing.{written_part}
-use Rattle.pgv_nest.specs.Records.{Left, binary_fields, next, fields_of}
-use Rattle.pgv_nest.specs.Tuples.{record_of, ◌then◌}
+use Rattle.pgv_nest.specs.RecordGrammar.{Left, binary_fields, next, fields_of}
+use Rattle.pgv_nest.specs.TupleGrammar.{record_of, ◌then◌}
 
 -- ---- the tokens of a record
 

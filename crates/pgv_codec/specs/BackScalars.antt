@@ -11,17 +11,17 @@ use Rattle.std.proofs.lemmas.Str.{IsUtf8-had, utf8_valid_len-IsUtf8}
 use Rattle.pgv_types.specs.Ty.{Ty}
 use Rattle.pgv_types.specs.declared.oid.Oid.{Oid}
 use Rattle.pgv_buf.specs.Tokens.{bytes, be4}
-use Rattle.pgv_value.specs.Frame.{Part}
-use Rattle.pgv_value.specs.Numbers.{fits_signed, whole_number}
+use Rattle.pgv_value.specs.FrameBinary.{Part}
+use Rattle.pgv_value.specs.NumberBinary.{fits_signed, whole_number}
 use Rattle.pgv_value.specs.OwnBytes.{own_byte, own_two_bytes, own_four_bytes, own_eight_bytes}
 use Rattle.pgv_value.specs.Steps.{number}
-use Rattle.pgv_value.specs.Scalars.{bool_reading, int_reading, char_reading, oid_reading, uuid_reading, text_reading}
+use Rattle.pgv_value.specs.ScalarGrammar.{bool_reading, int_reading, char_reading, oid_reading, uuid_reading, text_reading}
 use Rattle.pgv_value.specs.declared.value.PgValueFormat.TheVariants.{Binary}
 use Rattle.pgv_codec.specs.Back.{ReadsBack, always}
 use Rattle.pgv_codec.specs.BackParts.{guarded, write-bytes}
 use Rattle.pgv_codec.specs.Image.{Image, image_of}
 use Rattle.pgv_codec.specs.Writing.{written_part}
-use Rattle.pgv_codec.specs.Scalars.{signed_image, unsigned_image, bool_image, text_image, uuid_image}
+use Rattle.pgv_codec.specs.ScalarBinary.{signed_image, unsigned_image, bool_image, text_image, uuid_image}
 
 -- plain bytes are written as they are
 pub part_is : (xs : List ℕ) (i : Image) (p : Option Ty) (os : List Oid) → (let o : Option Image = Some (image_of (bytes xs)) in o) ≡ Some i → written_part i p os ≡ Some xs

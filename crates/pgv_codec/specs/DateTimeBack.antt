@@ -17,7 +17,7 @@ use Rattle.pgv_types.specs.declared.oid.Oid.{Oid}
 use Rattle.pgv_buf.specs.Tokens.{bytes}
 use Rattle.pgv_text.specs.DateTimeText.{instant_nanos}
 use Rattle.pgv_value.specs.DateTimeBinary.{day_after, time_after, nanos_after, civil_at, date_reading, time_reading, date_time_reading, instant_reading}
-use Rattle.pgv_value.specs.Numbers.{fits_signed, whole_number}
+use Rattle.pgv_value.specs.NumberBinary.{fits_signed, whole_number}
 use Rattle.pgv_value.specs.OwnBytes.{own_four_bytes, own_eight_bytes}
 use Rattle.pgv_value.specs.declared.value.PgValueFormat.TheVariants.{Binary}
 use Rattle.pgv_codec.specs.Back.{ReadsBack, always}
@@ -27,7 +27,7 @@ use Rattle.pgv_codec.specs.DateTimeBinary.{days_of, date_image, time_image, micr
 use Rattle.pgv_codec.specs.DateTimeAgain.{date_time_again}
 use Rattle.pgv_codec.specs.DateTimeKept.{time_kept, date_time_kept, instant_kept}
 use Rattle.pgv_codec.specs.Image.{Image, image_of}
-use Rattle.pgv_codec.specs.Scalars.{signed_image}
+use Rattle.pgv_codec.specs.ScalarBinary.{signed_image}
 use Rattle.pgv_codec.specs.Writing.{written_part}
 
 -- a number that was written in the bytes of its width is the part, and is read of it

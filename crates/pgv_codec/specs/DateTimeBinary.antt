@@ -4,7 +4,7 @@
 use Rattle.std.specs.Prelude.{ℕ, ◌/◌, ℤ, pos, ◌-ℤ◌, int_div, Option}
 use Rattle.std.specs.Int.{w32, w64}
 use Rattle.pgv_codec.specs.Image.{Image}
-use Rattle.pgv_codec.specs.Scalars.{signed_image}
+use Rattle.pgv_codec.specs.ScalarBinary.{signed_image}
 
 -- a day, as days from 2000-01-01, which is day 10957
 abbrev pub days_of : ℤ → ℤ

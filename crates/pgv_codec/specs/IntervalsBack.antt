@@ -7,7 +7,7 @@ use Rattle.std.proofs.lemmas.Nat.{from_be_bytes-to_be_bytes_4, from_be_bytes-to_
 use Rattle.pgv_types.specs.Ty.{Ty}
 use Rattle.pgv_types.specs.declared.oid.Oid.{Oid}
 use Rattle.pgv_buf.specs.Tokens.{bytes}
-use Rattle.pgv_value.specs.Frame.{Part}
+use Rattle.pgv_value.specs.FrameBinary.{Part}
 use Rattle.pgv_value.specs.Interval.{interval_in_binary, interval_reading}
 use Rattle.pgv_value.specs.declared.interval.PgInterval.{PgInterval}
 use Rattle.pgv_value.specs.declared.value.PgValueFormat.TheVariants.{Binary}
@@ -16,7 +16,7 @@ use Rattle.pgv_codec.specs.BackParts.{guarded}
 use Rattle.pgv_codec.specs.BackScalars.{part_is}
 use Rattle.pgv_codec.specs.Image.{Image, image_of}
 use Rattle.pgv_codec.specs.Intervals.{interval_image}
-use Rattle.pgv_value.specs.Numbers.{fits_signed}
+use Rattle.pgv_value.specs.NumberBinary.{fits_signed}
 use Rattle.pgv_value.specs.OwnBytes.{is_signed, unsigned_fits}
 
 -- a number is read of its own bytes

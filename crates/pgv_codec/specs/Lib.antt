@@ -1,6 +1,6 @@
 pub mod Image
 pub mod Writing
-pub mod Scalars
+pub mod ScalarBinary
 pub mod Outcome
 pub mod Record
 pub mod WrittenView

@@ -5,7 +5,7 @@ use Rattle.pgv_types.specs.Ty.{Ty}
 use Rattle.pgv_types.specs.declared.oid.Oid.{Oid}
 use Rattle.pgv_buf.specs.Fill.{first_number, rest_numbers}
 use Rattle.pgv_buf.specs.Tokens.{Token, byte, hole, slot, be4, chosen, tokens_holes}
-use Rattle.pgv_value.specs.Frame.{Part}
+use Rattle.pgv_value.specs.FrameBinary.{Part}
 use Rattle.pgv_codec.specs.Image.{Image, null_image, image_of}
 
 -- what a slot shows for a parameter type, and without one: its default

@@ -10,7 +10,7 @@ use Rattle.pgv_codec.specs.Back.{ReadsBack, always}
 use Rattle.pgv_codec.specs.BackParts.{guarded}
 use Rattle.pgv_codec.specs.BackScalars.{part_is}
 use Rattle.pgv_codec.specs.Image.{image_of}
-use Rattle.pgv_value.specs.Frame.{Part}
+use Rattle.pgv_value.specs.FrameBinary.{Part}
 use Rattle.pgv_value.specs.declared.value.PgValueFormat.TheVariants.{Binary}
 use Rattle.pgv_more.specs.Bits.{bits_of, byte_count, packed}
 use Rattle.pgv_more.specs.BitsBinary.{bits_image, bits_in_binary, bit_count}

@@ -1,9 +1,9 @@
 -- What lists of bits are (PostgreSQL: "Bit String Types"): their types, and what is read in either format.
 use Rattle.std.specs.Prelude.{ℕ, Bool, List, [], ◌∷◌, Option}
 use Rattle.pgv_types.specs.Ty.{Ty, builtin}
-use Rattle.pgv_codec.specs.Scalars.{softly_one_of}
+use Rattle.pgv_codec.specs.ScalarBinary.{softly_one_of}
 use Rattle.pgv_value.specs.Reading.{Reading}
-use Rattle.pgv_value.specs.Scalars.{scalar, refusal}
+use Rattle.pgv_value.specs.ScalarGrammar.{scalar, refusal}
 use Rattle.pgv_value.specs.declared.error.CodecError.{CodecError}
 use Rattle.pgv_value.specs.declared.error.CodecError.TheVariants.{Syntax}
 use Rattle.pgv_value.specs.declared.value.PgValueFormat.{PgValueFormat}

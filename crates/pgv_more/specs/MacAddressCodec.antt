@@ -3,7 +3,7 @@ use Rattle.std.specs.Prelude.{ℕ, ◌==◌, nat_eq, List, length, Option, Some,
 use Rattle.pgv_buf.specs.Tokens.{bytes}
 use Rattle.pgv_codec.specs.Image.{Image, image_of}
 use Rattle.pgv_value.specs.Reading.{Reading}
-use Rattle.pgv_value.specs.Scalars.{scalar, refusal}
+use Rattle.pgv_value.specs.ScalarGrammar.{scalar, refusal}
 use Rattle.pgv_value.specs.declared.error.CodecError.{CodecError}
 use Rattle.pgv_value.specs.declared.error.CodecError.TheVariants.{WrongLength, Syntax}
 use Rattle.pgv_value.specs.declared.value.PgValueFormat.{PgValueFormat}

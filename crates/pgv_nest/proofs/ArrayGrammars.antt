@@ -5,12 +5,12 @@ use Rattle.std.specs.Prelude.{◌↔◌, if◌then◌else◌}
 use Rattle.std.proofs.lemmas.Bool.{ltb-false, eqb-true}
 use Rattle.std.proofs.lemmas.Option.{same_Some}
 use Rattle.pgv_types.specs.Ty.{Ty}
-use Rattle.pgv_value.specs.Frame.{Part, IsFrame, front}
+use Rattle.pgv_value.specs.FrameBinary.{Part, IsFrame, front}
 use Rattle.pgv_value.specs.Laws.{AreBytes}
 use Rattle.pgv_value.proofs.Fronts.{front_exactly}
-use Rattle.pgv_nest.specs.Arrays.{element_type, Head, one_dimension, head, frames, elements, array_of}
+use Rattle.pgv_nest.specs.ArrayGrammar.{element_type, Head, one_dimension, head, frames, elements, array_of}
 use Rattle.pgv_nest.specs.Found.{array_there}
-use Rattle.pgv_nest.specs.Grammar.{BeginWithFrames, IsArray}
+use Rattle.pgv_nest.specs.NestBinary.{BeginWithFrames, IsArray}
 use Rattle.pgv_value.specs.Steps.{◌>>=◌, number}
 use Rattle.pgv_nest.proofs.Numbers.{step_taken, test_failed, test_held, number_splits, number_is, bytes_after, after_four, after_frame}
 

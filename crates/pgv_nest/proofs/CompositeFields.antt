@@ -5,7 +5,7 @@ use Rattle.std.specs.declared.rc.RcStr.{RcStr}
 use Rattle.std.specs.declared.alloc.Global.{Global}
 use Rattle.pgv_types.specs.Ty.{Ty, Kind, composite}
 use Rattle.pgv_types.specs.Shown.{fields_of}
-use Rattle.pgv_nest.specs.Records.{field_at, field_type_in, if_oid}
+use Rattle.pgv_nest.specs.RecordGrammar.{field_at, field_type_in, if_oid}
 
 pub field_at-list : (fields : List (RcStr Global × Ty)) (place : ℕ) → field_at (fields_of fields) place ≡ option_map (λ (x : RcStr Global × Ty). x.1) (slice_get fields place)
 field_at-list [] zero = refl

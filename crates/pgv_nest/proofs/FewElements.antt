@@ -3,11 +3,11 @@ use Rattle.std.proofs.Common.{◌≡◌, ℕ, zero, suc, ◌+◌, ◌*◌, ◌�
 use Rattle.std.proofs.lemmas.List.{length-append}
 use Rattle.std.specs.Int.{w32, to_be_bytes}
 use Rattle.std.proofs.lemmas.Grind.{common_steps}
-use Rattle.pgv_value.specs.Frame.{Part, front}
+use Rattle.pgv_value.specs.FrameBinary.{Part, front}
 use Rattle.pgv_types.specs.Ty.{Ty}
-use Rattle.pgv_nest.specs.Arrays.{frames}
+use Rattle.pgv_nest.specs.ArrayGrammar.{frames}
 use Rattle.pgv_nest.specs.Found.{frames_there}
-use Rattle.pgv_nest.specs.Grammar.{IsArray, FewElements}
+use Rattle.pgv_nest.specs.NestBinary.{IsArray, FewElements}
 use Rattle.pgv_value.specs.Steps.{◌>>=◌}
 
 -- a frame takes four bytes or more

@@ -4,7 +4,7 @@ use Rattle.std.specs.Prelude.{if◌then◌else◌}
 use Rattle.std.specs.Int.{w32, to_be_bytes, from_be_bytes}
 use Rattle.std.proofs.lemmas.Nat.{be_bytes_4}
 use Rattle.std.proofs.lemmas.Option.{same_Some}
-use Rattle.pgv_value.specs.Frame.{Part, IsFrame}
+use Rattle.pgv_value.specs.FrameBinary.{Part, IsFrame}
 use Rattle.pgv_value.specs.Laws.{AreBytes}
 use Rattle.pgv_nest.specs.Found.{number_of_four}
 use Rattle.pgv_value.specs.Steps.{◌>>=◌, number}

@@ -6,16 +6,16 @@ use Rattle.std.proofs.lemmas.Bool.{eqb-true}
 use Rattle.std.proofs.lemmas.Option.{same_Some}
 use Rattle.pgv_types.specs.Ty.{Ty, builtin, custom, named, by_oid, array_of, Kind, simple, pseudo, domain, composite, array, enumeration, range}
 use Rattle.pgv_types.specs.Facts.{built_in, oid_of}
-use Rattle.pgv_value.specs.Frame.{IsFrame, front}
+use Rattle.pgv_value.specs.FrameBinary.{IsFrame, front}
 use Rattle.pgv_value.specs.Laws.{AreBytes}
 use Rattle.pgv_value.specs.Reading.{Reading}
 use Rattle.pgv_value.specs.declared.value.PgValueFormat.TheVariants.{Binary}
 use Rattle.pgv_value.proofs.Fronts.{front_exactly}
 use Rattle.pgv_nest.specs.Found.{number_of_four, field_type_there, field_there, next_there}
-use Rattle.pgv_nest.specs.Grammar.{HasFieldType, of_record, of_custom_record, of_composite, of_domain, Stretch, IsField, ◌and◌, RecordIsItsFields}
-use Rattle.pgv_nest.specs.Records.{is_oid, field_at, if_oid, field_type, field_type_in, field_head, field_in, Left, binary_fields, next, fields_of}
+use Rattle.pgv_nest.specs.NestBinary.{HasFieldType, of_record, of_custom_record, of_composite, of_domain, Stretch, IsField, ◌and◌, RecordIsItsFields}
+use Rattle.pgv_nest.specs.RecordGrammar.{is_oid, field_at, if_oid, field_type, field_type_in, field_head, field_in, Left, binary_fields, next, fields_of}
 use Rattle.pgv_value.specs.Steps.{number}
-use Rattle.pgv_nest.specs.Tuples.{record_of, ◌then◌}
+use Rattle.pgv_nest.specs.TupleGrammar.{record_of, ◌then◌}
 use Rattle.pgv_nest.proofs.Numbers.{step_taken, test_held, pair_is, number_splits, number_is, bytes_after, after_four, after_frame}
 
 -- ---- the types of fields

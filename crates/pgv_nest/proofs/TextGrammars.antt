@@ -5,16 +5,16 @@ use Rattle.std.proofs.lemmas.Bool.{eq-eqb, eqb-true}
 use Rattle.std.proofs.lemmas.Option.{same_Some}
 use Rattle.pgv_types.specs.Ty.{Ty, by_oid}
 use Rattle.pgv_text.specs.Laws.{ArrayIsItsValues, RecordIsItsValues}
-use Rattle.pgv_text.specs.Pieces.{Pairwise}
+use Rattle.pgv_text.specs.NestText.{Pairwise}
 use Rattle.pgv_text.specs.Values.{array_values, record_values}
-use Rattle.pgv_value.specs.Frame.{Part}
+use Rattle.pgv_value.specs.FrameBinary.{Part}
 use Rattle.pgv_value.specs.Reading.{Reading}
 use Rattle.pgv_value.specs.Utf8.{is_utf8}
 use Rattle.pgv_value.specs.declared.value.PgValueFormat.TheVariants.{Text}
-use Rattle.pgv_nest.specs.Arrays.{array, array_of_length, array_in_text, each, of_length}
-use Rattle.pgv_nest.specs.Records.{Left, text_fields, next, fields_of}
-use Rattle.pgv_nest.specs.TextGrammar.{IsArrayInText, IsSizedInText, TextStretch, IsTextField, ◌before◌, IsRecordInText, TextIs, RecordTextBegins, TextFieldIsItsValue}
-use Rattle.pgv_nest.specs.Tuples.{record_of, ◌then◌}
+use Rattle.pgv_nest.specs.ArrayGrammar.{array, array_of_length, array_in_text, each, of_length}
+use Rattle.pgv_nest.specs.RecordGrammar.{Left, text_fields, next, fields_of}
+use Rattle.pgv_nest.specs.NestText.{IsArrayInText, IsSizedInText, TextStretch, IsTextField, ◌before◌, IsRecordInText, TextIs, RecordTextBegins, TextFieldIsItsValue}
+use Rattle.pgv_nest.specs.TupleGrammar.{record_of, ◌then◌}
 use Rattle.pgv_nest.proofs.Numbers.{step_taken, test_held, pair_is}
 
 -- ---- arrays

@@ -6,12 +6,12 @@ use Rattle.std.proofs.lemmas.Bool.{le-ltb, eq-eqb}
 use Rattle.std.proofs.lemmas.List.{take_at, drop_at, length-append}
 use Rattle.std.proofs.lemmas.Nat.{from_be_bytes-to_be_bytes_4}
 use Rattle.pgv_types.specs.Ty.{Ty}
-use Rattle.pgv_value.specs.Frame.{Part}
+use Rattle.pgv_value.specs.FrameBinary.{Part}
 use Rattle.pgv_value.specs.Reading.{Reading}
 use Rattle.pgv_value.proofs.Fronts.{frame_in_front}
-use Rattle.pgv_nest.specs.Arrays.{element_type, one_dimension, head, frames, array_of}
-use Rattle.pgv_nest.specs.Grammar.{BeginWithFrames, IsArray, HasFieldType, of_record, of_custom_record, of_composite, of_domain, IsField}
-use Rattle.pgv_nest.specs.Records.{field_type, field_head, field_in, binary_fields, next}
+use Rattle.pgv_nest.specs.ArrayGrammar.{element_type, one_dimension, head, frames, array_of}
+use Rattle.pgv_nest.specs.NestBinary.{BeginWithFrames, IsArray, HasFieldType, of_record, of_custom_record, of_composite, of_domain, IsField}
+use Rattle.pgv_nest.specs.RecordGrammar.{field_type, field_head, field_in, binary_fields, next}
 use Rattle.pgv_value.specs.Steps.{number}
 
 -- ---- numbers

@@ -1,7 +1,7 @@
-pub mod Arrays
+pub mod ArrayGrammar
 pub mod HeadsView
-pub mod Records
-pub mod Grammar
+pub mod RecordGrammar
+pub mod NestBinary
 pub mod Found
-pub mod Tuples
-pub mod TextGrammar
+pub mod TupleGrammar
+pub mod NestText

@@ -2,7 +2,7 @@
 
 ghost use Rattle.std.specs.Prelude.{◌≡◌, ◌≤◌, length, IfOk, IfSome, option_map};
 ghost use Rattle.pgv_value.specs.Reading.{Answers};
-ghost use Rattle.pgv_nest.specs.Arrays.{element_type, head, one_dimension};
+ghost use Rattle.pgv_nest.specs.ArrayGrammar.{element_type, head, one_dimension};
 ghost use Rattle.pgv_nest.specs.HeadsView.{head_shown};
 
 use pgv_types::{Oid, PgTypeInfo, PgTypeRef};
@@ -25,7 +25,7 @@ pub struct ArrayHead<'a> {
 /// The head of an array, or none where it has no dimensions and so no elements. Bytes that end too early are refused with
 /// C15, a negative number of elements with C16, more dimensions than one with C19, a lower bound other than 1 with C20, and elements of
 /// a type that neither the OID nor the array's type gives with C21.
-#[tactic(auto, unfolding(crate::specs::Arrays::head))]
+#[tactic(auto, unfolding(crate::specs::ArrayGrammar::head))]
 pub fn array_head_of<'a>(
     type_info: &PgTypeInfo,
     bytes: &'a [u8],
@@ -42,7 +42,7 @@ pub fn array_head_of<'a>(
 }
 
 // The head after the number of dimensions, where that is one.
-#[tactic(auto, unfolding(crate::specs::Arrays::one_dimension))]
+#[tactic(auto, unfolding(crate::specs::ArrayGrammar::one_dimension))]
 fn one_dimension_of<'a>(
     type_info: &PgTypeInfo,
     bytes: &'a [u8],

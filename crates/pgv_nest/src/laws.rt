@@ -2,10 +2,10 @@
 
 ghost use Rattle.std.specs.Prelude.{Bool, Option};
 ghost use Rattle.pgv_types.specs.Ty.{Ty};
-ghost use Rattle.pgv_value.specs.Frame.{Part};
+ghost use Rattle.pgv_value.specs.FrameBinary.{Part};
 ghost use Rattle.pgv_value.specs.Reading.{Reading};
-ghost use Rattle.pgv_nest.specs.TextGrammar.{RecordTextBegins, TextFieldIsItsValue};
-ghost use Rattle.pgv_nest.specs.Grammar.{ArrayIsItsElements, FewElements, OneArray, FieldTypeIsFound, FieldIsItsValue, OneField, RecordBegins};
+ghost use Rattle.pgv_nest.specs.NestText.{RecordTextBegins, TextFieldIsItsValue};
+ghost use Rattle.pgv_nest.specs.NestBinary.{ArrayIsItsElements, FewElements, OneArray, FieldTypeIsFound, FieldIsItsValue, OneField, RecordBegins};
 
 use pgv_text::laws::record_is_its_values;
 

@@ -3,7 +3,7 @@
 ghost use Rattle.std.specs.Prelude.{◌≡◌, ◌+◌, length, slice_get, Some, None, IfOk, option_map};
 ghost use Rattle.pgv_types.specs.Facts.{oid_of};
 ghost use Rattle.pgv_value.specs.Reading.{Answers};
-ghost use Rattle.pgv_nest.specs.Records.{by_own_oid, field_head, field_type, if_oid, is_oid};
+ghost use Rattle.pgv_nest.specs.RecordGrammar.{by_own_oid, field_head, field_type, if_oid, is_oid};
 
 use pgv_types::{Oid, PgType, PgTypeInfo, PgTypeKindRef};
 use pgv_value::{CodecError, u32_in_front};
@@ -15,7 +15,7 @@ const RECORD: Oid = Oid(2249);
 /// The type of the next field of a record, the one at `place`, and the bytes after its OID. Where no byte is left, or a composite
 /// type has no field at this place, it is refused with C25, bytes that end too early with C15, another OID than the composite's field
 /// has with C26, an OID that is no built-in type's under `record` with C28, and a type that is no record with C24.
-#[tactic(auto, unfolding(crate::specs::Records::field_head))]
+#[tactic(auto, unfolding(crate::specs::RecordGrammar::field_head))]
 pub fn field_head_of<'r>(
     type_info: &PgTypeInfo,
     place: usize,

@@ -9,7 +9,7 @@ use Rattle.std.proofs.lemmas.Str.{IsUtf8-from_ascii, utf8_valid_len-IsUtf8}
 use Rattle.std.proofs.lemmas.Str.Ascii.{IsAscii-nil, IsAscii-cons}
 use Rattle.std.proofs.lemmas.Option.{same_Some}
 use Rattle.pgv_types.specs.declared.oid.Oid.{Oid}
-use Rattle.pgv_text.specs.Number.{unsigned_value, IsUnsignedNumber, plus_text}
+use Rattle.pgv_text.specs.NumberText.{unsigned_value, IsUnsignedNumber, plus_text}
 use Rattle.pgv_text.proofs.Numbers.{value_unsigned, unsigned_value_of}
 use Rattle.pgv_value.specs.Utf8.{is_utf8}
 use Rattle.pgv_session.specs.Lines.{before, rest_after, words, starts_with_plus, with_first, oid_of, oid_named, oids_named}

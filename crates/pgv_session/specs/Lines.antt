@@ -4,7 +4,7 @@ use Rattle.std.specs.Prelude.{ℕ, ◌==◌, nat_lt, Bool, false, codes, bytes_e
 use Rattle.hex.specs.Hex.{decode_of}
 use Rattle.hex.specs.declared.error.FromHexError.{FromHexError}
 use Rattle.pgv_types.specs.declared.oid.Oid.{Oid}
-use Rattle.pgv_text.specs.Number.{unsigned_value}
+use Rattle.pgv_text.specs.NumberText.{unsigned_value}
 use Rattle.pgv_value.specs.Utf8.{is_utf8}
 use Rattle.pgv_session.specs.Spelled.{Request, asks, to_add, to_add_null, to_read, asks_holes, resolves, asks_wire}
 

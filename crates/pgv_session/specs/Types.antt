@@ -3,18 +3,18 @@ use Rattle.std.specs.Prelude.{ℕ, codes, bytes_eq, List, [], ◌∷◌, Option,
 use Rattle.std.specs.Int.{w8, w16, w32, w64}
 use Rattle.pgv_types.specs.Ty.{Ty, builtin}
 use Rattle.pgv_value.specs.Reading.{Reading}
-use Rattle.pgv_value.specs.Scalars.{bool_reading, int_reading, char_reading, oid_reading, text_reading, uuid_reading}
+use Rattle.pgv_value.specs.ScalarGrammar.{bool_reading, int_reading, char_reading, oid_reading, text_reading, uuid_reading}
 use Rattle.pgv_value.specs.DateTimeBinary.{date_reading, time_reading, date_time_reading, instant_reading}
 use Rattle.pgv_value.specs.Interval.{interval_reading}
 use Rattle.pgv_value.specs.declared.value.PgValueFormat.{PgValueFormat}
 use Rattle.pgv_wire.specs.Arguments.{Framed}
-use Rattle.pgv_nest.specs.Arrays.{array}
+use Rattle.pgv_nest.specs.ArrayGrammar.{array}
 use Rattle.pgv_codec.specs.Image.{frame}
 use Rattle.pgv_codec.specs.DateTimeBinary.{date_image, time_image, moment_image}
 use Rattle.pgv_codec.specs.Intervals.{interval_image}
 use Rattle.pgv_codec.specs.Nullable.{nullable}
 use Rattle.pgv_codec.specs.Saying.{Saying, plainly, option_written, array_written}
-use Rattle.pgv_codec.specs.Scalars.{bool_image, signed_image, unsigned_image, text_image, uuid_image}
+use Rattle.pgv_codec.specs.ScalarBinary.{bool_image, signed_image, unsigned_image, text_image, uuid_image}
 use Rattle.pgv_codec.specs.WithHint.{with_hint}
 use Rattle.pgv_more.specs.BitsBinary.{bits_image, bits_hint}
 use Rattle.pgv_more.specs.BitsCodec.{bits_reading}

@@ -2,7 +2,7 @@
 
 ghost use Rattle.std.specs.Prelude.{◌≡◌, Option, option_map, bytes_eq, IfOk};
 ghost use Rattle.std.specs.Option.{option_copied};
-ghost use Rattle.pgv_text.specs.Number.{unsigned_value};
+ghost use Rattle.pgv_text.specs.NumberText.{unsigned_value};
 ghost use Rattle.pgv_session.specs.Lines.{before, rest_after, first_word, after_word, words, starts_with_plus, oid_of, oid_named, oids_named, request, given_bytes as bytes_given, alone as alone_by, add_line as added_by, null_line as null_by, resolve_line as resolve_by, read_line as read_by};
 ghost use Rattle.pgv_session.specs.RequestsView.{request_seen};
 ghost use Rattle.pgv_session.specs.Spelled.{Asks};

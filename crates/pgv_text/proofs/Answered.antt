@@ -2,7 +2,7 @@
 use Rattle.std.proofs.Common.{◌≡◌, ◌↔◌, ℕ, List, Option, Some, None, IfSome, IfNone, sym, ◌∙◌}
 use Rattle.std.specs.Option.{option_map}
 use Rattle.pgv_text.specs.declared.scanner.TextForm.{TextForm}
-use Rattle.pgv_text.specs.Pieces.{Nest, IsNestText}
+use Rattle.pgv_text.specs.NestText.{Nest, IsNestText}
 use Rattle.pgv_text.specs.Forms.{form_of}
 use Rattle.pgv_text.specs.Parsed.{nest_of}
 use Rattle.pgv_text.proofs.Nests.{nest_sound, nest_complete}

@@ -15,7 +15,7 @@ use Rattle.pgv_text.specs.declared.scanner.Cell.{Cell}
 use Rattle.pgv_text.specs.declared.scanner.Cell.TheVariants.{Keep}
 use Rattle.pgv_text.specs.declared.scanner.Place.{Place}
 use Rattle.pgv_text.specs.declared.scanner.Place.TheVariants.{Start, Outside, Quoted, AfterQuote, AfterBackslash, QuotedBackslash}
-use Rattle.pgv_text.specs.Pieces.{Form, Item, inner, inner_escaped, doubled, Piece, plain, escaped, quoted, item_meaning, meaning, text_of}
+use Rattle.pgv_text.specs.NestText.{Form, Item, inner, inner_escaped, doubled, Piece, plain, escaped, quoted, item_meaning, meaning, text_of}
 use Rattle.pgv_text.specs.Forms.{form_of}
 use Rattle.pgv_text.specs.Scan.{Rest, class, cell, read, read_by, grown, next, at_end, outside_cell, quoted_cell, after_quote_cell, after_text, value_here, ends, counted, stands, closes_here, nest_between, values_from, nest_read}
 use Rattle.pgv_text.specs.Parsed.{Found, with_piece, with_item, item_first, with_part, closed, parse_outside, parse_quoted, parse_after_quote, parse, nest_of}

@@ -5,7 +5,7 @@ use Rattle.pgv_text.specs.declared.scanner.TextForm.{TextForm}
 use Rattle.pgv_text.specs.declared.scanner.TextForm.TheVariants.{Array, Range, Record}
 use Rattle.pgv_text.specs.declared.scanner.Class.{Class}
 use Rattle.pgv_text.specs.declared.scanner.Class.TheVariants.{Quote, Backslash, Comma, Open, Close, Other}
-use Rattle.pgv_text.specs.Pieces.{Form, may_be_plain}
+use Rattle.pgv_text.specs.NestText.{Form, may_be_plain}
 use Rattle.pgv_text.specs.Forms.{form_of}
 use Rattle.pgv_text.specs.Scan.{class}
 

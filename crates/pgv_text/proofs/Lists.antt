@@ -5,10 +5,10 @@ use Rattle.std.proofs.lemmas.Bool.{eqb-true}
 use Rattle.pgv_text.specs.declared.scanner.TextForm.TheVariants.{Array, Record}
 use Rattle.pgv_text.specs.declared.scanner.TextForm.{TextForm}
 use Rattle.pgv_text.specs.Forms.{form_of}
-use Rattle.pgv_text.specs.Pieces.{Form, Nest, IsNestText}
-use Rattle.pgv_text.specs.Arrays.{array_form, IsArrayText}
-use Rattle.pgv_text.specs.Records.{record_form, IsRecordText}
-use Rattle.pgv_text.specs.Ranges.{range_form}
+use Rattle.pgv_text.specs.NestText.{Form, Nest, IsNestText}
+use Rattle.pgv_text.specs.ArrayText.{array_form, IsArrayText}
+use Rattle.pgv_text.specs.RecordText.{record_form, IsRecordText}
+use Rattle.pgv_text.specs.RangeText.{range_form}
 use Rattle.pgv_text.specs.Parsed.{nest_of}
 use Rattle.pgv_text.proofs.Nests.{nest_sound, nest_complete, as_many}
 

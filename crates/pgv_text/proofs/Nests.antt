@@ -9,7 +9,7 @@ use Rattle.pgv_text.specs.declared.scanner.TextForm.{TextForm}
 use Rattle.pgv_text.specs.declared.scanner.Class.{Class}
 use Rattle.pgv_text.specs.declared.scanner.Class.TheVariants.{Quote, Backslash, Comma, Close, Other}
 use Rattle.pgv_text.specs.declared.scanner.Place.TheVariants.{Start}
-use Rattle.pgv_text.specs.Pieces.{Form, Piece, plain, escaped, quoted, Count, any, some, two, AreCounted, ArePieces, Pairwise, IsPart, Nest, IsNestText, spelled, text_of, joined}
+use Rattle.pgv_text.specs.NestText.{Form, Piece, plain, escaped, quoted, Count, any, some, two, AreCounted, ArePieces, Pairwise, IsPart, Nest, IsNestText, spelled, text_of, joined}
 use Rattle.pgv_text.specs.Forms.{form_of}
 use Rattle.pgv_text.specs.Scan.{class, value_here, closes_here, counted, nest_between}
 use Rattle.pgv_text.specs.Parsed.{Found, closed, parse_outside, parse, nest_of}

@@ -16,7 +16,7 @@ use Rattle.std.proofs.lemmas.List.{length-map}
 use Rattle.std.proofs.lemmas.Bool.{and_parts, eqb-true, ne_eqb, ltb-true, lt-ltb, false≢true}
 use Rattle.pgv_text.specs.declared.number.NumberFault.{NumberFault}
 use Rattle.pgv_text.specs.declared.number.NumberFault.TheVariants.{Syntax, OutOfRange}
-use Rattle.pgv_text.specs.Number.{Sign, none, plus, minus, sign_text, signed, IsNumber, plus_text, IsUnsignedNumber, is_numeral, number_value, unsigned_value, IsRead, IsComputed, IsUnsignedRead, IsUnsignedComputed}
+use Rattle.pgv_text.specs.NumberText.{Sign, none, plus, minus, sign_text, signed, IsNumber, plus_text, IsUnsignedNumber, is_numeral, number_value, unsigned_value, IsRead, IsComputed, IsUnsignedRead, IsUnsignedComputed}
 
 value_digit : (d : ℕ) → d < 10 → digit_value (48 + d) ≡ d
 value_digit d h =

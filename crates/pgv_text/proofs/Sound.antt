@@ -9,7 +9,7 @@ use Rattle.pgv_text.specs.declared.scanner.Class.{Class}
 use Rattle.pgv_text.specs.declared.scanner.Class.TheVariants.{Quote, Backslash, Comma, Open, Close, Other}
 use Rattle.pgv_text.specs.declared.scanner.Place.{Place}
 use Rattle.pgv_text.specs.declared.scanner.Place.TheVariants.{Start, Outside, Quoted, AfterQuote, AfterBackslash, QuotedBackslash}
-use Rattle.pgv_text.specs.Pieces.{Form, Item, inner, inner_escaped, doubled, Piece, plain, escaped, quoted, item_spelling, IsItem, IsPiece, NotQuotedFirst, QuotedApart, ArePieces, Pairwise, IsPart, spelling, spelled, text_of}
+use Rattle.pgv_text.specs.NestText.{Form, Item, inner, inner_escaped, doubled, Piece, plain, escaped, quoted, item_spelling, IsItem, IsPiece, NotQuotedFirst, QuotedApart, ArePieces, Pairwise, IsPart, spelling, spelled, text_of}
 use Rattle.pgv_text.specs.Forms.{form_of}
 use Rattle.pgv_text.specs.Scan.{class, ends, value_here}
 use Rattle.pgv_text.specs.Parsed.{Found, with_piece, with_item, with_part, closed, parse_outside, parse_quoted, parse_after_quote, parse}

@@ -6,7 +6,7 @@ use Rattle.std.specs.List.{flat_map, AllByRecursion}
 use Rattle.std.specs.Char.{IsScalar, to_ascii_lowercase}
 use Rattle.std.proofs.lemmas.Bool.{eqb-true, false≢true}
 use Rattle.std.proofs.lemmas.List.{append-nil}
-use Rattle.pgv_text.specs.Pieces.{Form, Item, inner, inner_escaped, doubled, Piece, plain, quoted, item_spelling, item_meaning, IsItem, IsPiece, QuotedApart, ArePieces, may_be_plain, spelled, text_of, joined, Pairwise, IsPart, Count, any, some, two, AreCounted, Nest, IsNestText}
+use Rattle.pgv_text.specs.NestText.{Form, Item, inner, inner_escaped, doubled, Piece, plain, quoted, item_spelling, item_meaning, IsItem, IsPiece, QuotedApart, ArePieces, may_be_plain, spelled, text_of, joined, Pairwise, IsPart, Count, any, some, two, AreCounted, Nest, IsNestText}
 use Rattle.pgv_text.specs.declared.scanner.TextForm.{TextForm}
 use Rattle.pgv_text.specs.declared.scanner.TextForm.TheVariants.{Array}
 use Rattle.pgv_text.specs.Forms.{form_of}

@@ -5,9 +5,9 @@ use Rattle.std.specs.Str.{chars, IsUtf8}
 use Rattle.pgv_text.specs.Spellings.{IsOptionalText, IsSpelled, AreEnough, nest_text}
 use Rattle.pgv_text.specs.declared.scanner.TextForm.{TextForm}
 use Rattle.pgv_text.specs.Forms.{form_of}
-use Rattle.pgv_text.specs.Arrays.{IsArrayText}
-use Rattle.pgv_text.specs.Records.{IsRecordText}
-use Rattle.pgv_text.specs.Pieces.{Pairwise, Nest, IsNestText}
+use Rattle.pgv_text.specs.ArrayText.{IsArrayText}
+use Rattle.pgv_text.specs.RecordText.{IsRecordText}
+use Rattle.pgv_text.specs.NestText.{Pairwise, Nest, IsNestText}
 use Rattle.pgv_text.specs.Parsed.{nest_of}
 use Rattle.pgv_text.specs.Values.{array_values, record_values}
 

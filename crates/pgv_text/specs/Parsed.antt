@@ -6,7 +6,7 @@ use Rattle.pgv_text.specs.declared.scanner.Class.{Class}
 use Rattle.pgv_text.specs.declared.scanner.Class.TheVariants.{Quote, Backslash, Comma, Open, Close, Other}
 use Rattle.pgv_text.specs.declared.scanner.Place.{Place}
 use Rattle.pgv_text.specs.declared.scanner.Place.TheVariants.{Start, Outside, Quoted, AfterQuote, AfterBackslash, QuotedBackslash}
-use Rattle.pgv_text.specs.Pieces.{Form, Item, inner, inner_escaped, doubled, Piece, plain, escaped, quoted, text_of, Nest}
+use Rattle.pgv_text.specs.NestText.{Form, Item, inner, inner_escaped, doubled, Piece, plain, escaped, quoted, text_of, Nest}
 use Rattle.pgv_text.specs.Scan.{class, value_here, nest_between}
 
 -- The rest of a part in pieces, an open quoted one first, the parts after it with their values, and the bracket.

@@ -2,9 +2,9 @@
 use Rattle.std.specs.Prelude.{ℕ, Bool, List, [], ◌∷◌, Option, String, Vec, map, string_bytes}
 use Rattle.std.specs.Option.{option_map}
 use Rattle.std.specs.Str.{chars}
-use Rattle.pgv_text.specs.Arrays.{array_form}
-use Rattle.pgv_text.specs.Records.{record_form}
-use Rattle.pgv_text.specs.Pieces.{Nest}
+use Rattle.pgv_text.specs.ArrayText.{array_form}
+use Rattle.pgv_text.specs.RecordText.{record_form}
+use Rattle.pgv_text.specs.NestText.{Nest}
 use Rattle.pgv_text.specs.Parsed.{nest_of}
 
 -- The elements of an array text, and the fields of a record text; the laws say that these are exactly the

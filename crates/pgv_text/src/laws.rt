@@ -4,7 +4,7 @@ ghost use Rattle.pgv_text.specs.AddressText.{AddressIsItsValue};
 ghost use Rattle.pgv_text.specs.DateTimeText.{DateIsItsValue, DateTimeIsItsValue, InstantIsItsValue, OneDate, OneDateTime, OneInstant, OneTime, OneTimeTz, TimeIsItsValue, TimeTzIsItsValue};
 ghost use Rattle.pgv_text.specs.Laws.{ArrayIsItsValues, EveryListHasAText, NestIsComputed, OneNest, RecordIsItsValues, SpelledReadsBack, ValuesAreTexts};
 ghost use Rattle.pgv_text.specs.NetworkText.{NetworkIsItsValue, OneNetwork};
-ghost use Rattle.pgv_text.specs.Number.{NumberIsItsValue, OneNumber, OneUnsignedNumber, UnsignedIsItsValue};
+ghost use Rattle.pgv_text.specs.NumberText.{NumberIsItsValue, OneNumber, OneUnsignedNumber, UnsignedIsItsValue};
 
 /// A text is a number exactly where one is computed of it, and it is that one.
 pub fn number_is_its_value()

@@ -4,10 +4,10 @@ ghost use Rattle.std.specs.Prelude.{◌≡◌, ◌∷◌, [], ℕ, Bool, List, O
 ghost use Rattle.std.specs.Option.{option_map};
 ghost use Rattle.std.specs.Str.{chars};
 ghost use Rattle.pgv_text.specs.Values.{array_values, part_bytes, range_of, record_values, values_of};
-ghost use Rattle.pgv_text.specs.Arrays.{IsArrayText};
+ghost use Rattle.pgv_text.specs.ArrayText.{IsArrayText};
 ghost use Rattle.pgv_text.specs.Parsed.{nest_of};
-ghost use Rattle.pgv_text.specs.Ranges.{IsRangeText, range_form};
-ghost use Rattle.pgv_text.specs.Records.{IsRecordText};
+ghost use Rattle.pgv_text.specs.RangeText.{IsRangeText, range_form};
+ghost use Rattle.pgv_text.specs.RecordText.{IsRecordText};
 
 use super::parts::Parts;
 use super::scanner::TextForm;

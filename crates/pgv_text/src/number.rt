@@ -3,8 +3,8 @@
 ghost use Rattle.std.specs.Prelude.{◌≡◌, ◌↔◌, IsTrue, EachIndex, slice_index, if◌then◌else◌};
 ghost use Rattle.std.specs.Int.{IsInRange};
 ghost use Rattle.std.specs.Str.Parse.{IsNumeral, without_leading_plus, without_leading_sign};
-ghost use Rattle.pgv_text.specs.Number.{IsComputed, IsRead, IsUnsignedComputed, IsUnsignedRead};
-ghost use Rattle.pgv_text.specs.Scalars.{bool_value, char_value, octal_byte};
+ghost use Rattle.pgv_text.specs.NumberText.{IsComputed, IsRead, IsUnsignedComputed, IsUnsignedRead};
+ghost use Rattle.pgv_text.specs.ScalarText.{bool_value, char_value, octal_byte};
 
 /// Why a text is no number of its type.
 #[derive(Debug, Clone, Copy, PartialEq, Eq, Drop)]

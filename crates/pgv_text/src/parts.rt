@@ -5,10 +5,10 @@ ghost use Rattle.std.specs.Option.{MatchOption, option_map};
 ghost use Rattle.std.specs.Str.{chars};
 ghost use Rattle.pgv_text.specs.Forms.{form_of};
 ghost use Rattle.pgv_text.specs.Scan.{nest_read, numbered, read};
-ghost use Rattle.pgv_text.specs.Pieces.{Nest, IsNestText};
+ghost use Rattle.pgv_text.specs.NestText.{Nest, IsNestText};
 ghost use Rattle.pgv_text.specs.Parsed.{nest_of};
 ghost use Rattle.pgv_text.specs.Values.{part_bytes, values_of};
-ghost use Rattle.pgv_text.specs.View.{values_left};
+ghost use Rattle.pgv_text.specs.PartsLeftView.{values_left};
 ghost use Rattle.pgv_text.specs.declared.scanner.Place.TheVariants.{Start};
 
 use super::scanner::{Cell, Place, TextForm, closes, is_nothing, next_stop, opens};

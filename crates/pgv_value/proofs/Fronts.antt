@@ -6,7 +6,7 @@ use Rattle.std.proofs.lemmas.Nat.{be_bytes_4, from_be_bytes-to_be_bytes_4}
 use Rattle.std.proofs.lemmas.Bool.{le-ltb, lt-ltb, ne_eqb, eqb-true, ltb-false}
 use Rattle.std.proofs.lemmas.List.{take-append-drop, length-take-le, length-append, length-drop, take_at, drop_at, take-append-le}
 use Rattle.std.proofs.lemmas.Option.{same_Some}
-use Rattle.pgv_value.specs.Frame.{Part, IsFrame, front, front_length, frame_fault}
+use Rattle.pgv_value.specs.FrameBinary.{Part, IsFrame, front, front_length, frame_fault}
 use Rattle.pgv_value.specs.Laws.{AreBytes}
 use Rattle.pgv_value.specs.declared.error.CodecError.TheVariants.{Short}
 

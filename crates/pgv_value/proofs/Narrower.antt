@@ -6,10 +6,10 @@ use Rattle.std.proofs.lemmas.Bool.{false≢true}
 use Rattle.std.proofs.lemmas.Bool.Decides.{nat_tests}
 use Rattle.pgv_types.specs.Ty.{Ty}
 use Rattle.pgv_value.specs.Reading.{AnswersExactly}
-use Rattle.pgv_value.specs.Numbers.{in_range, whole_number}
-use Rattle.pgv_value.specs.Scalars.{int_reading}
+use Rattle.pgv_value.specs.NumberBinary.{in_range, whole_number}
+use Rattle.pgv_value.specs.ScalarGrammar.{int_reading}
 use Rattle.pgv_value.specs.Utf8.{is_utf8}
-use Rattle.pgv_text.specs.Number.{number_value}
+use Rattle.pgv_text.specs.NumberText.{number_value}
 use Rattle.pgv_value.specs.declared.error.CodecError.{CodecError}
 use Rattle.pgv_value.specs.declared.value.PgValueFormat.{PgValueFormat}
 use Rattle.pgv_value.specs.declared.value.PgValueFormat.TheVariants.{Text, Binary}

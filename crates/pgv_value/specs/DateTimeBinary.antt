@@ -5,9 +5,9 @@ use Rattle.std.specs.Prelude.{ℕ, ◌*◌, ◌&&◌, if◌then◌else◌, ℤ, 
 use Rattle.std.specs.Option.{option_map, option_and_then}
 use Rattle.std.specs.Int.{int_rem_euclid}
 use Rattle.pgv_text.specs.DateTimeText.{date_value, time_value, date_time_value, instant_value, instant_nanos}
-use Rattle.pgv_value.specs.Numbers.{in_range, whole_number, whole_refusal}
+use Rattle.pgv_value.specs.NumberBinary.{in_range, whole_number, whole_refusal}
 use Rattle.pgv_value.specs.Reading.{Reading}
-use Rattle.pgv_value.specs.Scalars.{scalar, refusal}
+use Rattle.pgv_value.specs.ScalarGrammar.{scalar, refusal}
 use Rattle.pgv_value.specs.declared.error.CodecError.{CodecError}
 use Rattle.pgv_value.specs.declared.error.CodecError.TheVariants.{Syntax}
 use Rattle.pgv_value.specs.declared.value.PgValueFormat.{PgValueFormat}

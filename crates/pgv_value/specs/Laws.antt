@@ -1,7 +1,7 @@
 -- The laws of frames (PostgreSQL: "Message Formats", DataRow).
 use Rattle.std.specs.Prelude.{◌≡◌, ◌↔◌, ℕ, ◌<◌, List, [], ◌++◌, length, Some, None}
 use Rattle.std.specs.List.{AllByRecursion}
-use Rattle.pgv_value.specs.Frame.{Part, IsFrame, front, frame_fault}
+use Rattle.pgv_value.specs.FrameBinary.{Part, IsFrame, front, frame_fault}
 use Rattle.pgv_value.specs.declared.error.CodecError.TheVariants.{Short}
 
 -- each is a number of eight bits

@@ -3,10 +3,10 @@ pub mod Codes
 pub mod ValueView
 pub mod RowView
 pub mod Utf8
-pub mod Frame
+pub mod FrameBinary
 pub mod Steps
-pub mod Numbers
-pub mod Scalars
+pub mod NumberBinary
+pub mod ScalarGrammar
 pub mod DateTimeBinary
 pub mod NetworkBinary
 pub mod Laws

@@ -7,7 +7,7 @@ use Rattle.std.specs.declared.net.ip_addr.IpAddr.TheVariants.{V4, V6}
 use Rattle.pgv_text.specs.AddressText.{full_prefix}
 use Rattle.pgv_text.specs.NetworkText.{Network, network_with, network_value}
 use Rattle.pgv_value.specs.Reading.{Reading}
-use Rattle.pgv_value.specs.Scalars.{scalar, refusal}
+use Rattle.pgv_value.specs.ScalarGrammar.{scalar, refusal}
 use Rattle.pgv_value.specs.declared.error.CodecError.{CodecError}
 use Rattle.pgv_value.specs.declared.error.CodecError.TheVariants.{WrongLength, Syntax, InetFamily, InetPrefix, LossyAddress}
 use Rattle.pgv_value.specs.declared.value.PgValueFormat.{PgValueFormat}

@@ -3,7 +3,7 @@
 ghost use Rattle.std.specs.Prelude.{◌≡◌};
 ghost use Rattle.pgv_value.specs.declared.error.CodecError.TheVariants.{Memory, OutOfRange};
 ghost use Rattle.pgv_value.specs.Codes.{code_of};
-ghost use Rattle.pgv_value.specs.Numbers.{refusal_of};
+ghost use Rattle.pgv_value.specs.NumberBinary.{refusal_of};
 
 use pgv_text::NumberFault;
 use pgv_types::Oid;

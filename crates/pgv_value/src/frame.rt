@@ -2,7 +2,7 @@
 
 ghost use Rattle.std.specs.Prelude.{◌≡◌, ◌<◌, length, Some, None, IfOk, OnErr, IfErr};
 ghost use Rattle.std.specs.Option.{option_copied};
-ghost use Rattle.pgv_value.specs.Frame.{front, frame_fault};
+ghost use Rattle.pgv_value.specs.FrameBinary.{front, frame_fault};
 
 use crate::error::CodecError;
 
@@ -12,7 +12,7 @@ const NULL_LENGTH: u32 = 0xffff_ffff;
 const MAX_LENGTH: u32 = 0x7fff_ffff;
 
 /// The part of the frame at the front, and what comes after it.
-#[tactic(auto, unfolding(crate::specs::Frame::front))]
+#[tactic(auto, unfolding(crate::specs::FrameBinary::front))]
 pub(crate) fn front_of(bytes: &[u8]) -> Result<(Option<&[u8]>, &[u8]), CodecError>
     ensures found { IfOk result (λ p. front bytes.now ≡ Some (option_copied p.0, p.1.now)) }
     ensures shorter { IfOk result (λ p. length p.1.now < length bytes.now) }

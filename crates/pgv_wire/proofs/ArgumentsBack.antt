@@ -8,7 +8,7 @@ use Rattle.pgv_buf.specs.Blank.{plain-blank, holes-plain}
 use Rattle.pgv_buf.specs.Fill.{rest_types}
 use Rattle.pgv_buf.specs.Proper.{Proper, Proper-front, Proper-back, first_type}
 use Rattle.pgv_buf.specs.Tokens.{Token, byte, hole, slot, bytes, be4, tokens_width, tokens_holes, Cell, fixed, hole_cell, slot_cell, blank, plain, shown, hole_count}
-use Rattle.pgv_value.specs.Frame.{Part}
+use Rattle.pgv_value.specs.FrameBinary.{Part}
 use Rattle.pgv_value.specs.Reading.{Reading}
 use Rattle.pgv_value.specs.declared.value.PgValueFormat.TheVariants.{Binary}
 use Rattle.pgv_wire.specs.Arguments.{Argument, Framed, framed, all_tokens, filled_arguments}

@@ -7,7 +7,7 @@ use Rattle.pgv_buf.specs.Fill.{rest_types}
 use Rattle.pgv_buf.specs.Blank.{holes-plain}
 use Rattle.pgv_buf.specs.Proper.{Proper, Proper-front, Proper-back, first_type, shown-append, length-shown}
 use Rattle.pgv_buf.specs.Tokens.{Token, bytes, be4, tokens_width, tokens_holes, Cell, plain, shown, hole_count, slot_count}
-use Rattle.pgv_value.specs.Frame.{Part, front}
+use Rattle.pgv_value.specs.FrameBinary.{Part, front}
 use Rattle.pgv_value.proofs.Fronts.{frame_in_front}
 use Rattle.pgv_wire.specs.Arguments.{Argument, Framed, framed, all_tokens, filled_frame, filled_arguments}
 use Rattle.pgv_codec.specs.Writing.{write}

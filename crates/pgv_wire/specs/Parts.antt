@@ -6,7 +6,7 @@ use Rattle.pgv_types.specs.declared.oid.Oid.{Oid}
 use Rattle.pgv_buf.specs.Fill.{rest_types}
 use Rattle.pgv_buf.specs.Proper.{first_type}
 use Rattle.pgv_buf.specs.Tokens.{Cell, shown, tokens_holes}
-use Rattle.pgv_value.specs.Frame.{Part, front}
+use Rattle.pgv_value.specs.FrameBinary.{Part, front}
 use Rattle.pgv_codec.specs.Image.{Image, null_image, image_of, frame_of}
 use Rattle.pgv_codec.specs.Writing.{written_part, image_holes}
 use Rattle.pgv_wire.specs.Arguments.{Argument, Framed, framed, all_tokens}

@@ -8,12 +8,12 @@ ghost use Rattle.std.specs.Prelude.{◌≡◌, Bool, Option, option_map, string_
 ghost use Rattle.std.specs.Int.{w8, w16, w32, w64};
 ghost use Rattle.pgv_types.specs.Ty.{Ty, builtin};
 ghost use Rattle.pgv_types.specs.declared.oid.Oid.{Oid};
-ghost use Rattle.pgv_value.specs.Scalars.{bool_reading, char_reading, int_reading, oid_reading, text_reading, uuid_reading};
-ghost use Rattle.pgv_nest.specs.Arrays.{array, array_of_length};
+ghost use Rattle.pgv_value.specs.ScalarGrammar.{bool_reading, char_reading, int_reading, oid_reading, text_reading, uuid_reading};
+ghost use Rattle.pgv_nest.specs.ArrayGrammar.{array, array_of_length};
 ghost use Rattle.pgv_codec.specs.Image.{array_image, sized_image, option_image, option_hint, option_produced};
 ghost use Rattle.pgv_codec.specs.Nullable.{nullable};
 ghost use Rattle.pgv_codec.specs.TypeRow.{IsBuiltIn, IsWrittenAs};
-ghost use Rattle.pgv_codec.specs.Scalars.{bool_image, signed_image, unsigned_image, text_image, uuid_image, is_text, is_text_array, is_void_or_record};
+ghost use Rattle.pgv_codec.specs.ScalarBinary.{bool_image, signed_image, unsigned_image, text_image, uuid_image, is_text, is_text_array, is_void_or_record};
 
 use crate::traits::{Codec, Decode, Encode, PgHasArrayType, Type};
 

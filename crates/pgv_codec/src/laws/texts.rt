@@ -1,6 +1,6 @@
 //! Laws of what lists, arrays and tuples in text are: each is the contract of a function that does nothing.
 
-ghost use Rattle.pgv_nest.specs.TextGrammar.{IsArrayInText, IsRecordInText, IsSizedInText, IsTextField, TextIs, ◌before◌};
+ghost use Rattle.pgv_nest.specs.NestText.{IsArrayInText, IsRecordInText, IsSizedInText, IsTextField, TextIs, ◌before◌};
 ghost use Rattle.pgv_value.specs.declared.value.PgValueFormat.TheVariants.{Text};
 
 use crate::traits::{Decode, Type};

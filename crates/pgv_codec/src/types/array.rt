@@ -6,7 +6,7 @@ ghost use Rattle.pgv_buf.specs.Tokens.{blank};
 ghost use Rattle.pgv_value.specs.Reading.{Answers};
 ghost use Rattle.pgv_value.specs.declared.error.CodecError.TheVariants.{Memory, UnexpectedNull};
 ghost use Rattle.pgv_value.specs.declared.value.PgValueFormat.TheVariants.{Binary, Text};
-ghost use Rattle.pgv_nest.specs.Arrays.{array, array_in_text, array_of, each, frames};
+ghost use Rattle.pgv_nest.specs.ArrayGrammar.{array, array_in_text, array_of, each, frames};
 ghost use Rattle.pgv_codec.specs.Image.{array_image, or_else, header, written_frames, written_element_type};
 ghost use Rattle.pgv_codec.specs.Outcome.{Encoded, Refused, Appended, AppendedAll};
 
@@ -170,7 +170,7 @@ impl<T: Encode + Type, const N: usize> Encode for [T; N] {
 /// 1 with C20, elements of an unknown type with C21, and what an element is refused with.
 impl<T: Decode + Type> Decode for Vec<T> {
     ghost use Rattle.std.specs.Prelude.{List, map};
-    ghost use Rattle.pgv_nest.specs.Arrays.{array};
+    ghost use Rattle.pgv_nest.specs.ArrayGrammar.{array};
     ghost use Rattle.pgv_codec.specs.Saying.{array_written};
 
     ghost Meaning = { List T.Meaning };
@@ -197,7 +197,7 @@ impl<T: Decode + Type> Decode for Vec<T> {
 /// An array of `N` elements, read as a list; another number of elements is refused with C22.
 impl<T: Decode + Type, const N: usize> Decode for [T; N] {
     ghost use Rattle.std.specs.Prelude.{List, map};
-    ghost use Rattle.pgv_nest.specs.Arrays.{array_of_length};
+    ghost use Rattle.pgv_nest.specs.ArrayGrammar.{array_of_length};
     ghost use Rattle.pgv_codec.specs.Saying.{sized_written};
 
     ghost Meaning = { List T.Meaning };

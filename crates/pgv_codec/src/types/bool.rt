@@ -2,9 +2,9 @@
 
 ghost use Rattle.pgv_types.specs.Relations.{softly};
 ghost use Rattle.pgv_types.specs.Ty.{builtin};
-ghost use Rattle.pgv_codec.specs.Scalars.{bool_image};
+ghost use Rattle.pgv_codec.specs.ScalarBinary.{bool_image};
 ghost use Rattle.std.specs.Prelude.{Bool, false, refl, Some};
-ghost use Rattle.pgv_value.specs.Scalars.{bool_reading, bool_refusal};
+ghost use Rattle.pgv_value.specs.ScalarGrammar.{bool_reading, bool_refusal};
 ghost use Rattle.pgv_codec.specs.Saying.{plainly};
 
 use crate::buffer::{IsNull, PgArgumentBuffer};

@@ -3,8 +3,8 @@
 ghost use Rattle.std.specs.Prelude.{◌≡◌, Option, IfOk, IfErr, None, IsErrOf};
 ghost use Rattle.pgv_value.specs.Reading.{Answers, Refuses};
 ghost use Rattle.pgv_value.specs.declared.error.CodecError.TheVariants.{UnexpectedNull};
-ghost use Rattle.pgv_nest.specs.Records.{Left};
-ghost use Rattle.pgv_nest.specs.Tuples.{record_of};
+ghost use Rattle.pgv_nest.specs.RecordGrammar.{Left};
+ghost use Rattle.pgv_nest.specs.TupleGrammar.{record_of};
 
 use super::record::PgRecordDecoder;
 use crate::traits::{Decode, Type};
@@ -31,7 +31,7 @@ pub trait FieldList: Sized + Drop {
 
 /// The last field.
 impl<A: Type + Decode> FieldList for (A,) {
-    ghost use Rattle.pgv_nest.specs.Records.{next};
+    ghost use Rattle.pgv_nest.specs.RecordGrammar.{next};
 
     ghost Meaning = { A.Meaning };
 
@@ -46,8 +46,8 @@ impl<A: Type + Decode> FieldList for (A,) {
 
 /// A field and the rest.
 impl<A: Type + Decode, Rest: FieldList> FieldList for (A, Rest) {
-    ghost use Rattle.pgv_nest.specs.Records.{next};
-    ghost use Rattle.pgv_nest.specs.Tuples.{◌then◌};
+    ghost use Rattle.pgv_nest.specs.RecordGrammar.{next};
+    ghost use Rattle.pgv_nest.specs.TupleGrammar.{◌then◌};
 
     ghost Meaning = { A.Meaning × Rest.Meaning };
 

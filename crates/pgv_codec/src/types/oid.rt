@@ -3,9 +3,9 @@
 ghost use Rattle.pgv_types.specs.Relations.{softly};
 ghost use Rattle.pgv_types.specs.Ty.{builtin};
 ghost use Rattle.std.specs.Int.{w32};
-ghost use Rattle.pgv_codec.specs.Scalars.{unsigned_image};
+ghost use Rattle.pgv_codec.specs.ScalarBinary.{unsigned_image};
 ghost use Rattle.std.specs.Prelude.{ℕ, false, refl, Some};
-ghost use Rattle.pgv_value.specs.Scalars.{oid_reading, oid_refusal};
+ghost use Rattle.pgv_value.specs.ScalarGrammar.{oid_reading, oid_refusal};
 ghost use Rattle.pgv_codec.specs.Saying.{plainly};
 
 use crate::buffer::{IsNull, PgArgumentBuffer};

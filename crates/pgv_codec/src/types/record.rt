@@ -9,7 +9,7 @@ ghost use Rattle.pgv_codec.specs.Image.{field};
 ghost use Rattle.pgv_codec.specs.FieldsLeftView.{left_of, IsInPlace};
 ghost use Rattle.pgv_codec.specs.Outcome.{Refused, Appended, AppendedAll};
 ghost use Rattle.pgv_codec.specs.Record.{IsOpen};
-ghost use Rattle.pgv_nest.specs.Records.{field_in, fields_of, next, Takes};
+ghost use Rattle.pgv_nest.specs.RecordGrammar.{field_in, fields_of, next, Takes};
 
 use super::part::read_part;
 use crate::buffer::PgArgumentBuffer;
@@ -112,7 +112,7 @@ pub struct PgRecordDecoder<'r> {
 }
 
 impl<'r> Model for PgRecordDecoder<'r> {
-    ghost use Rattle.pgv_nest.specs.Records.{Left, left_code};
+    ghost use Rattle.pgv_nest.specs.RecordGrammar.{Left, left_code};
 
     ghost Value = { Left };
 

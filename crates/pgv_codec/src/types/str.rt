@@ -2,7 +2,7 @@
 
 ghost use Rattle.std.specs.Prelude.{◌≡◌, IfOk, IfErr, OnErr};
 ghost use Rattle.pgv_codec.specs.Outcome.{Encoded, Refused, Appended};
-ghost use Rattle.pgv_codec.specs.Scalars.{text_image, is_text as is_text_type, is_text_array as is_text_array_type};
+ghost use Rattle.pgv_codec.specs.ScalarBinary.{text_image, is_text as is_text_type, is_text_array as is_text_array_type};
 
 use crate::buffer::{IsNull, PgArgumentBuffer};
 use crate::traits::{Codec, Decode, Encode, PgHasArrayType, ReadBack, Type};
@@ -45,7 +45,7 @@ fn is_text_array(type_info: &PgTypeInfo) -> bool
 /// `text` (OID 25), read under `text`, `name`, `bpchar`, `varchar`, `unknown`, `citext` and domains over one of them.
 impl Type for String {
     ghost use Rattle.pgv_types.specs.Ty.{builtin};
-    ghost use Rattle.pgv_codec.specs.Scalars.{is_text};
+    ghost use Rattle.pgv_codec.specs.ScalarBinary.{is_text};
 
     ghost info = { builtin 25 };
 
@@ -63,7 +63,7 @@ impl Type for String {
 /// An array of them is `text[]` (OID 1009), read under each array of a type under which a text is read.
 impl PgHasArrayType for String {
     ghost use Rattle.pgv_types.specs.Ty.{builtin};
-    ghost use Rattle.pgv_codec.specs.Scalars.{is_text_array};
+    ghost use Rattle.pgv_codec.specs.ScalarBinary.{is_text_array};
 
     ghost array_info = { builtin 1009 };
 
@@ -81,7 +81,7 @@ impl PgHasArrayType for String {
 /// Written as its bytes: `hi` as `6869`.
 impl Encode for String {
     ghost use Rattle.std.specs.Prelude.{string_bytes};
-    ghost use Rattle.pgv_codec.specs.Scalars.{text_image};
+    ghost use Rattle.pgv_codec.specs.ScalarBinary.{text_image};
 
     ghost image = { λ s. text_image (string_bytes s) };
 
@@ -104,9 +104,9 @@ impl Decode for String {
     ghost use Rattle.std.specs.Prelude.{ℕ, List, Some};
     ghost use Rattle.pgv_value.specs.Utf8.{text_refusal};
     ghost use Rattle.std.specs.String.{string_bytes};
-    ghost use Rattle.pgv_value.specs.Scalars.{text_reading};
+    ghost use Rattle.pgv_value.specs.ScalarGrammar.{text_reading};
     ghost use Rattle.pgv_codec.specs.Saying.{plainly};
-    ghost use Rattle.pgv_codec.specs.Scalars.{text_image};
+    ghost use Rattle.pgv_codec.specs.ScalarBinary.{text_image};
 
     ghost Meaning = { List ℕ };
 

@@ -26,8 +26,8 @@ fn records() -> PgTypeInfo
 
 /// The first field of a record. Further fields are ignored.
 impl<A: Type + Decode> Decode for (A,) {
-    ghost use Rattle.pgv_nest.specs.Records.{next};
-    ghost use Rattle.pgv_nest.specs.Tuples.{record_of};
+    ghost use Rattle.pgv_nest.specs.RecordGrammar.{next};
+    ghost use Rattle.pgv_nest.specs.TupleGrammar.{record_of};
     ghost use Rattle.pgv_codec.specs.Saying.{unwritten};
 
     ghost Meaning = { A.Meaning };
@@ -79,8 +79,8 @@ impl<A> PgHasArrayType for (A,) {
 
 /// The first two fields of a record. Further fields are ignored.
 impl<A: Type + Decode, B: Type + Decode> Decode for (A, B) {
-    ghost use Rattle.pgv_nest.specs.Records.{next};
-    ghost use Rattle.pgv_nest.specs.Tuples.{record_of, ◌then◌};
+    ghost use Rattle.pgv_nest.specs.RecordGrammar.{next};
+    ghost use Rattle.pgv_nest.specs.TupleGrammar.{record_of, ◌then◌};
     ghost use Rattle.pgv_codec.specs.Saying.{unwritten};
 
     ghost Meaning = { A.Meaning × B.Meaning };
@@ -133,8 +133,8 @@ impl<A, B> PgHasArrayType for (A, B) {
 
 /// The first three fields of a record. Further fields are ignored.
 impl<A: Type + Decode, B: Type + Decode, C: Type + Decode> Decode for (A, B, C) {
-    ghost use Rattle.pgv_nest.specs.Records.{next};
-    ghost use Rattle.pgv_nest.specs.Tuples.{record_of, ◌then◌};
+    ghost use Rattle.pgv_nest.specs.RecordGrammar.{next};
+    ghost use Rattle.pgv_nest.specs.TupleGrammar.{record_of, ◌then◌};
     ghost use Rattle.pgv_codec.specs.Saying.{unwritten};
 
     ghost Meaning = { A.Meaning × (B.Meaning × C.Meaning) };
@@ -188,8 +188,8 @@ impl<A, B, C> PgHasArrayType for (A, B, C) {
 /// The first four fields of a record. Further fields are ignored.
 impl<A: Type + Decode, B: Type + Decode, C: Type + Decode, D: Type + Decode> Decode
     for (A, B, C, D) {
-    ghost use Rattle.pgv_nest.specs.Records.{next};
-    ghost use Rattle.pgv_nest.specs.Tuples.{record_of, ◌then◌};
+    ghost use Rattle.pgv_nest.specs.RecordGrammar.{next};
+    ghost use Rattle.pgv_nest.specs.TupleGrammar.{record_of, ◌then◌};
     ghost use Rattle.pgv_codec.specs.Saying.{unwritten};
 
     ghost Meaning = { A.Meaning × (B.Meaning × (C.Meaning × D.Meaning)) };
@@ -248,8 +248,8 @@ impl<
     D: Type + Decode,
     E: Type + Decode,
 > Decode for (A, B, C, D, E) {
-    ghost use Rattle.pgv_nest.specs.Records.{next};
-    ghost use Rattle.pgv_nest.specs.Tuples.{record_of, ◌then◌};
+    ghost use Rattle.pgv_nest.specs.RecordGrammar.{next};
+    ghost use Rattle.pgv_nest.specs.TupleGrammar.{record_of, ◌then◌};
     ghost use Rattle.pgv_codec.specs.Saying.{unwritten};
 
     ghost Meaning = { A.Meaning × (B.Meaning × (C.Meaning × (D.Meaning × E.Meaning))) };
@@ -309,8 +309,8 @@ impl<
     E: Type + Decode,
     F: Type + Decode,
 > Decode for (A, B, C, D, E, F) {
-    ghost use Rattle.pgv_nest.specs.Records.{next};
-    ghost use Rattle.pgv_nest.specs.Tuples.{record_of, ◌then◌};
+    ghost use Rattle.pgv_nest.specs.RecordGrammar.{next};
+    ghost use Rattle.pgv_nest.specs.TupleGrammar.{record_of, ◌then◌};
     ghost use Rattle.pgv_codec.specs.Saying.{unwritten};
 
     ghost Meaning = { A.Meaning × (B.Meaning × (C.Meaning × (D.Meaning × (E.Meaning × F.Meaning)))) };
@@ -373,8 +373,8 @@ impl<
     F: Type + Decode,
     G: Type + Decode,
 > Decode for (A, B, C, D, E, F, G) {
-    ghost use Rattle.pgv_nest.specs.Records.{next};
-    ghost use Rattle.pgv_nest.specs.Tuples.{record_of, ◌then◌};
+    ghost use Rattle.pgv_nest.specs.RecordGrammar.{next};
+    ghost use Rattle.pgv_nest.specs.TupleGrammar.{record_of, ◌then◌};
     ghost use Rattle.pgv_codec.specs.Saying.{unwritten};
 
     ghost Meaning = { A.Meaning × (B.Meaning × (C.Meaning × (D.Meaning × (E.Meaning × (F.Meaning × G.Meaning))))) };
@@ -438,8 +438,8 @@ impl<
     G: Type + Decode,
     H: Type + Decode,
 > Decode for (A, B, C, D, E, F, G, H) {
-    ghost use Rattle.pgv_nest.specs.Records.{next};
-    ghost use Rattle.pgv_nest.specs.Tuples.{record_of, ◌then◌};
+    ghost use Rattle.pgv_nest.specs.RecordGrammar.{next};
+    ghost use Rattle.pgv_nest.specs.TupleGrammar.{record_of, ◌then◌};
     ghost use Rattle.pgv_codec.specs.Saying.{unwritten};
 
     ghost Meaning = { A.Meaning × (B.Meaning × (C.Meaning × (D.Meaning × (E.Meaning × (F.Meaning × (G.Meaning × H.Meaning)))))) };
@@ -507,8 +507,8 @@ impl<
     H: Type + Decode,
     I: Type + Decode,
 > Decode for (A, B, C, D, E, F, G, H, I) {
-    ghost use Rattle.pgv_nest.specs.Records.{next};
-    ghost use Rattle.pgv_nest.specs.Tuples.{record_of, ◌then◌};
+    ghost use Rattle.pgv_nest.specs.RecordGrammar.{next};
+    ghost use Rattle.pgv_nest.specs.TupleGrammar.{record_of, ◌then◌};
     ghost use Rattle.pgv_codec.specs.Saying.{unwritten};
 
     ghost Meaning = { A.Meaning × (B.Meaning × (C.Meaning × (D.Meaning × (E.Meaning × (F.Meaning × (G.Meaning × (H.Meaning × I.Meaning))))))) };

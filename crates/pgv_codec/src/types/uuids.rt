@@ -2,9 +2,9 @@
 
 ghost use Rattle.pgv_types.specs.Relations.{softly};
 ghost use Rattle.pgv_types.specs.Ty.{builtin};
-ghost use Rattle.pgv_codec.specs.Scalars.{uuid_image};
+ghost use Rattle.pgv_codec.specs.ScalarBinary.{uuid_image};
 ghost use Rattle.std.specs.Prelude.{ℕ, List, false, refl, Some};
-ghost use Rattle.pgv_value.specs.Scalars.{uuid_reading, uuid_refusal};
+ghost use Rattle.pgv_value.specs.ScalarGrammar.{uuid_reading, uuid_refusal};
 ghost use Rattle.pgv_codec.specs.Saying.{plainly};
 
 use crate::buffer::{IsNull, PgArgumentBuffer};

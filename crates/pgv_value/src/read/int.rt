@@ -3,8 +3,8 @@
 ghost use Rattle.std.specs.Prelude.{◌≡◌, None, IfErr, IsErrOf};
 ghost use Rattle.std.specs.Int.{w16, w32, w64};
 ghost use Rattle.pgv_value.specs.Reading.{AnswersExactly};
-ghost use Rattle.pgv_value.specs.Numbers.{whole_number, whole_refusal};
-ghost use Rattle.pgv_value.specs.Scalars.{char_reading, char_refusal, int_reading, int_refusal};
+ghost use Rattle.pgv_value.specs.NumberBinary.{whole_number, whole_refusal};
+ghost use Rattle.pgv_value.specs.ScalarGrammar.{char_reading, char_refusal, int_reading, int_refusal};
 ghost use Rattle.pgv_value.specs.declared.error.CodecError.TheVariants.{UnexpectedNull};
 
 use crate::error::CodecError;

@@ -2,7 +2,7 @@
 
 ghost use Rattle.std.specs.Prelude.{◌≡◌, None, IfErr, IsErrOf};
 ghost use Rattle.pgv_value.specs.Reading.{AnswersExactly};
-ghost use Rattle.pgv_value.specs.Scalars.{oid_reading, oid_refusal};
+ghost use Rattle.pgv_value.specs.ScalarGrammar.{oid_reading, oid_refusal};
 ghost use Rattle.pgv_value.specs.declared.error.CodecError.TheVariants.{UnexpectedNull};
 
 use crate::error::CodecError;

@@ -2,7 +2,7 @@
 
 ghost use Rattle.std.specs.Prelude.{◌≡◌, None, IfErr, IsErrOf};
 ghost use Rattle.pgv_value.specs.Reading.{AnswersExactly};
-ghost use Rattle.pgv_value.specs.Scalars.{uuid_reading, uuid_refusal};
+ghost use Rattle.pgv_value.specs.ScalarGrammar.{uuid_reading, uuid_refusal};
 ghost use Rattle.pgv_value.specs.declared.error.CodecError.TheVariants.{Syntax, UnexpectedNull};
 ghost use Rattle.uuid.specs.Text.{parsed};
 

@@ -1,6 +1,6 @@
 use Rattle.std.proofs.Common.{◌≡◌, length, refl, arith}
 use Rattle.std.proofs.lemmas.Grind.{common_steps}
-use Rattle.pgv_nest.specs.Records.{field_head}
+use Rattle.pgv_nest.specs.RecordGrammar.{field_head}
 use Rattle.pgv_nest.proofs.Short.{no_number}
 use Rattle.pgv_nest.proofs.record.field_head_of.Goals as goal
 

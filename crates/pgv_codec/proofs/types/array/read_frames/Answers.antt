@@ -2,7 +2,7 @@ use Rattle.std.proofs.Common.{◌≡◌, map, Some, None, ◌∙◌, ◌++◌, �
 use Rattle.std.proofs.lemmas.List.{map_push, length-map}
 use Rattle.std.proofs.lemmas.Result.{err_from_is_err_and}
 use Rattle.pgv_value.specs.declared.value.PgValueFormat.TheVariants.{Binary}
-use Rattle.pgv_nest.specs.Arrays.{frames}
+use Rattle.pgv_nest.specs.ArrayGrammar.{frames}
 use Rattle.pgv_value.specs.Reading.{Refuses}
 use Rattle.pgv_codec.proofs.Refusing.{Refuses-weaker, Refuses-from}
 use Rattle.pgv_nest.proofs.FewElements.{few_frames}

@@ -1,6 +1,6 @@
 use Rattle.std.proofs.Common.{◌≡◌, ◌-◌, map}
 use Rattle.pgv_value.specs.declared.value.PgValueFormat.TheVariants.{Binary}
-use Rattle.pgv_nest.specs.Arrays.{frames}
+use Rattle.pgv_nest.specs.ArrayGrammar.{frames}
 use Rattle.pgv_codec.proofs.FrameLoop.{with_front}
 use Rattle.pgv_codec.proofs.types.array.read_frames.Given as goal
 

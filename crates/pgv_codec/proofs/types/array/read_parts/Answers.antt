@@ -2,10 +2,10 @@ use Rattle.std.proofs.Common.{◌≡◌, cond, map, sym, ap, ◌∙◌, Some, No
 use Rattle.std.proofs.lemmas.List.{map_push}
 use Rattle.std.proofs.lemmas.Result.{err_from_is_err_and}
 use Rattle.pgv_text.specs.PartsView.{nest}
-use Rattle.pgv_value.specs.Frame.{Part}
+use Rattle.pgv_value.specs.FrameBinary.{Part}
 use Rattle.pgv_value.specs.Reading.{Refuses}
 use Rattle.pgv_value.specs.declared.value.PgValueFormat.TheVariants.{Text}
-use Rattle.pgv_nest.specs.Arrays.{each}
+use Rattle.pgv_nest.specs.ArrayGrammar.{each}
 use Rattle.pgv_codec.proofs.PartLoop.{part_read, part_unread, parts_done}
 use Rattle.pgv_codec.proofs.Refusing.{Refuses-weaker}
 use Rattle.pgv_codec.proofs.types.array.read_parts.Goals as goal

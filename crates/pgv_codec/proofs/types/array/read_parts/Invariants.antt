@@ -1,7 +1,7 @@
 use Rattle.std.proofs.Common.{◌≡◌, map, length}
 use Rattle.pgv_text.specs.PartsView.{nest}
 use Rattle.pgv_value.specs.declared.value.PgValueFormat.TheVariants.{Text}
-use Rattle.pgv_nest.specs.Arrays.{each}
+use Rattle.pgv_nest.specs.ArrayGrammar.{each}
 use Rattle.pgv_codec.proofs.FrameLoop.{with_front}
 use Rattle.pgv_codec.proofs.types.array.read_parts.Given as goal
 

@@ -5,7 +5,7 @@ use Rattle.std.proofs.lemmas.Int.{to_z-of_z}
 use Rattle.std.proofs.lemmas.Bool.{lt-ltb}
 use Rattle.pgv_buf.specs.Tokens.{bytes}
 use Rattle.pgv_value.specs.declared.interval.PgInterval.{PgInterval}
-use Rattle.pgv_value.specs.Numbers.{fits_signed}
+use Rattle.pgv_value.specs.NumberBinary.{fits_signed}
 use Rattle.pgv_codec.specs.Image.{image_of}
 use Rattle.pgv_codec.specs.Intervals.{interval_image}
 use Rattle.pgv_codec.specs.PlainBytes.{appended_parts}

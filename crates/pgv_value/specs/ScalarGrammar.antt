@@ -3,12 +3,12 @@
 use Rattle.std.specs.Prelude.{ℕ, Bool, not, ◌==◌, if◌then◌else◌, ℤ, List, [], ◌∷◌, length, Option, Some, None, option_map}
 use Rattle.std.specs.Int.{Width, w8}
 use Rattle.uuid.specs.Text.{parsed}
-use Rattle.pgv_text.specs.Number.{number_value, unsigned_value}
-use Rattle.pgv_text.specs.Scalars.{bool_value, char_value}
+use Rattle.pgv_text.specs.NumberText.{number_value, unsigned_value}
+use Rattle.pgv_text.specs.ScalarText.{bool_value, char_value}
 use Rattle.pgv_value.specs.Reading.{Reading}
 use Rattle.pgv_value.specs.Steps.{number}
 use Rattle.pgv_value.specs.Utf8.{is_utf8}
-use Rattle.pgv_value.specs.Numbers.{in_range, in_range_unsigned, whole_number, whole_refusal, number_refusal}
+use Rattle.pgv_value.specs.NumberBinary.{in_range, in_range_unsigned, whole_number, whole_refusal, number_refusal}
 use Rattle.pgv_value.specs.declared.error.CodecError.{CodecError}
 use Rattle.pgv_value.specs.declared.error.CodecError.TheVariants.{UnexpectedNull, Utf8, Short, WrongLength, Syntax}
 use Rattle.pgv_value.specs.declared.value.PgValueFormat.{PgValueFormat}

@@ -1,6 +1,6 @@
 -- The text of an array of one dimension (PostgreSQL: "Array Input and Output Syntax", 8.15.6).
 use Rattle.std.specs.Prelude.{ℕ, false, ◌==◌, List, [], ◌∷◌, Option}
-use Rattle.pgv_text.specs.Pieces.{Piece, plain, Form, any, IsNestText}
+use Rattle.pgv_text.specs.NestText.{Piece, plain, Form, any, IsNestText}
 
 -- The four plain pieces NULL.
 abbrev pub null_pieces : List Piece

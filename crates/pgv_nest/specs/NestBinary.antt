@@ -4,12 +4,12 @@ use Rattle.std.specs.Prelude.{◌≡◌, ◌↔◌, ◌⊎◌, ℕ, suc, ◌<◌
 use Rattle.std.specs.Int.{w32, to_be_bytes}
 use Rattle.pgv_types.specs.Ty.{Ty, builtin, custom, simple, domain, composite, Fields}
 use Rattle.pgv_types.specs.Facts.{built_in, oid_of}
-use Rattle.pgv_value.specs.Frame.{Part, IsFrame}
+use Rattle.pgv_value.specs.FrameBinary.{Part, IsFrame}
 use Rattle.pgv_value.specs.Laws.{AreBytes}
 use Rattle.pgv_value.specs.Reading.{Reading}
 use Rattle.pgv_value.specs.declared.value.PgValueFormat.TheVariants.{Binary}
-use Rattle.pgv_nest.specs.Arrays.{element_type, array_of}
-use Rattle.pgv_nest.specs.Records.{field_at, field_type, field_in, binary_fields, fields_of}
+use Rattle.pgv_nest.specs.ArrayGrammar.{element_type, array_of}
+use Rattle.pgv_nest.specs.RecordGrammar.{field_at, field_type, field_in, binary_fields, fields_of}
 
 -- ---- arrays
 

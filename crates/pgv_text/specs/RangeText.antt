@@ -1,6 +1,6 @@
 -- The text of a range (PostgreSQL: "Range Types", 8.17.5).
 use Rattle.std.specs.Prelude.{ℕ, Bool, true, ◌==◌, ◌||◌, List, [], ◌∷◌, Option}
-use Rattle.pgv_text.specs.Pieces.{Form, two, IsNestText}
+use Rattle.pgv_text.specs.NestText.{Form, two, IsNestText}
 
 -- `[` or `(`, and `]` or `)`; a part without pieces is unbounded.
 abbrev pub range_form : Form

@@ -1,7 +1,7 @@
 -- Tuples: the first fields of a record (PostgreSQL: "Composite Types", 8.16). Further fields are ignored.
 use Rattle.std.specs.Prelude.{Option, Some}
 use Rattle.pgv_value.specs.Reading.{Reading}
-use Rattle.pgv_nest.specs.Records.{Left, fields_of}
+use Rattle.pgv_nest.specs.RecordGrammar.{Left, fields_of}
 use Rattle.pgv_value.specs.Steps.{◌>>=◌}
 
 -- one step after the other, and what both read

@@ -1,6 +1,6 @@
 -- The text of a record (PostgreSQL: "Composite Type Input and Output Syntax", 8.16.6).
 use Rattle.std.specs.Prelude.{ℕ, true, false, ◌==◌, List, [], Option}
-use Rattle.pgv_text.specs.Pieces.{Form, some, IsNestText}
+use Rattle.pgv_text.specs.NestText.{Form, some, IsNestText}
 
 -- `(` and `)`; a field without pieces is null.
 abbrev pub record_form : Form

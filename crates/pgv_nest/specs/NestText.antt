@@ -3,14 +3,14 @@
 use Rattle.std.specs.Prelude.{◌≡◌, ◌↔◌, ℕ, Bool, true, List, ◌∷◌, length, Option, Some}
 use Rattle.std.specs.Str.{chars}
 use Rattle.pgv_types.specs.Ty.{Ty, by_oid}
-use Rattle.pgv_text.specs.Arrays.{IsArrayText}
-use Rattle.pgv_text.specs.Pieces.{Pairwise}
-use Rattle.pgv_text.specs.Records.{IsRecordText}
-use Rattle.pgv_value.specs.Frame.{Part}
+use Rattle.pgv_text.specs.ArrayText.{IsArrayText}
+use Rattle.pgv_text.specs.NestText.{Pairwise}
+use Rattle.pgv_text.specs.RecordText.{IsRecordText}
+use Rattle.pgv_value.specs.FrameBinary.{Part}
 use Rattle.pgv_value.specs.Reading.{Reading}
 use Rattle.pgv_value.specs.Utf8.{is_utf8}
 use Rattle.pgv_value.specs.declared.value.PgValueFormat.TheVariants.{Text}
-use Rattle.pgv_nest.specs.Records.{Left, text_fields, next, fields_of}
+use Rattle.pgv_nest.specs.RecordGrammar.{Left, text_fields, next, fields_of}
 
 -- ---- arrays
 
