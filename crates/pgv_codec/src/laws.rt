@@ -13,6 +13,7 @@ ghost use Rattle.pgv_codec.specs.RecordCalls.{RecordIsItsAccepted};
 ghost use Rattle.pgv_codec.specs.Saying.{said};
 
 pub mod intervals;
+pub mod networks;
 pub mod rows;
 pub mod texts;
 
