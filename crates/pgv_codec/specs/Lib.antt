@@ -26,3 +26,5 @@ pub mod DateTimeAgain
 pub mod Intervals
 pub mod IntervalsBack
 pub mod PlainBytes
+pub mod NetworkBinary
+pub mod NetworkBack

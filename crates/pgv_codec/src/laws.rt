@@ -14,6 +14,7 @@ ghost use Rattle.pgv_codec.specs.Saying.{said};
 
 pub mod dates;
 pub mod intervals;
+pub mod networks;
 pub mod rows;
 pub mod texts;
 

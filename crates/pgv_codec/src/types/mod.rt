@@ -7,6 +7,8 @@ pub mod datetime;
 mod field_list;
 pub mod int;
 pub mod interval;
+pub mod ipaddr;
+pub mod ipnetwork;
 pub mod oid;
 pub mod option;
 mod part;

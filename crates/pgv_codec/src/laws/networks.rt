@@ -1,0 +1,39 @@
+//! What networks and addresses are, as [`rows`](super::rows) has it of other types.
+
+ghost use Rattle.std.specs.Prelude.{◌≡◌, None};
+ghost use Rattle.pgv_types.specs.Ty.{Ty, builtin};
+ghost use Rattle.pgv_text.specs.NetworkText.{network_of};
+ghost use Rattle.pgv_value.specs.NetworkBinary.{address_reading, network_reading};
+ghost use Rattle.pgv_codec.specs.NetworkBinary.{address_hint, address_image, is_network, is_network_array, network_hint, network_image};
+
+use crate::traits::{Decode, Encode, PgHasArrayType, Type};
+use pgv_text::IpNetwork;
+use std::net::IpAddr;
+
+/// An `IpNetwork` is an inet (OID 869), as `020800040a000000` for `10.0.0.0/8`. It is read under cidr and inet. Its arrays are
+/// `inet[]` (1041), read under the arrays of both.
+pub fn network_is_an_inet()
+    ensures types { ⟦<IpNetwork as Type>⟧.info ≡ builtin 869 }
+    ensures accepts { (t : Ty) → ⟦<IpNetwork as Type>⟧.accepts t ≡ is_network t }
+    ensures arrays { ⟦<IpNetwork as PgHasArrayType>⟧.array_info ≡ builtin 1041 }
+    ensures accepts_arrays { (t : Ty) → ⟦<IpNetwork as PgHasArrayType>⟧.accepts_array t ≡ is_network_array t }
+    ensures written { ⟦<IpNetwork as Encode>⟧.image ≡ (λ v. network_image (network_of v)) }
+    ensures hint { ⟦<IpNetwork as Encode>⟧.hint ≡ (λ v. network_hint (network_of v)) }
+    ensures produced { ⟦<IpNetwork as Encode>⟧.produced ≡ (λ _. None) }
+    ensures means { ⟦<IpNetwork as Decode>⟧.meaning ≡ network_of }
+    ensures read { ⟦<IpNetwork as Decode>⟧.reading ≡ network_reading }
+{}
+
+/// An `IpAddr` is an inet of all its bits, as `022000040a000001` for `10.0.0.1`. It is read under cidr and inet. Its arrays
+/// are `inet[]`, read under the arrays of both.
+pub fn address_is_an_inet()
+    ensures types { ⟦<IpAddr as Type>⟧.info ≡ builtin 869 }
+    ensures accepts { (t : Ty) → ⟦<IpAddr as Type>⟧.accepts t ≡ is_network t }
+    ensures arrays { ⟦<IpAddr as PgHasArrayType>⟧.array_info ≡ builtin 1041 }
+    ensures accepts_arrays { (t : Ty) → ⟦<IpAddr as PgHasArrayType>⟧.accepts_array t ≡ is_network_array t }
+    ensures written { ⟦<IpAddr as Encode>⟧.image ≡ address_image }
+    ensures hint { ⟦<IpAddr as Encode>⟧.hint ≡ address_hint }
+    ensures produced { ⟦<IpAddr as Encode>⟧.produced ≡ (λ _. None) }
+    ensures means { ⟦<IpAddr as Decode>⟧.meaning ≡ (λ v. v) }
+    ensures read { ⟦<IpAddr as Decode>⟧.reading ≡ address_reading }
+{}

@@ -1,0 +1,112 @@
+//! Addresses (PostgreSQL, "Network Address Types", inet): networks of one address.
+
+ghost use Rattle.std.specs.Prelude.{◌≡◌, Some, false, refl};
+ghost use Rattle.std.specs.declared.net.ip_addr.IpAddr.{IpAddr as Address};
+ghost use Rattle.pgv_types.specs.Ty.{builtin};
+ghost use Rattle.pgv_text.specs.AddressText as text;
+ghost use Rattle.pgv_value.specs.NetworkBinary.{address_reading, address_refusal};
+ghost use Rattle.pgv_codec.specs.NetworkBinary.{address_hint, address_image};
+ghost use Rattle.pgv_codec.specs.NetworkBinary as spec;
+ghost use Rattle.pgv_codec.specs.WithHint.{with_hint};
+
+use super::ipnetwork::{is_network, is_network_array, write_network, written_size};
+use crate::buffer::{IsNull, PgArgumentBuffer};
+use crate::traits::{Codec, Decode, Encode, PgHasArrayType, ReadBack, Type};
+use pgv_types::{PgType, PgTypeInfo};
+use pgv_value::{CodecError, PgValueRef, read_ip_address};
+use std::alloc::{AllocError, Global};
+use std::net::IpAddr;
+
+// The number of all bits of an address.
+fn full_prefix(address: IpAddr) -> u8
+    ensures { result ≡ text.full_prefix address }
+{
+    match address {
+        IpAddr::V4(_) => 32,
+        IpAddr::V6(_) => 128,
+    }
+}
+
+/// `inet` (OID 869), read under `cidr`, `inet` and domains over one of them.
+impl Type for IpAddr {
+    ghost info = { builtin 869 };
+
+    ghost accepts = { spec.is_network };
+
+    fn type_info() -> PgTypeInfo {
+        PgTypeInfo(PgType::Inet)
+    }
+
+    fn compatible(type_info: &PgTypeInfo) -> bool {
+        is_network(type_info)
+    }
+}
+
+/// An array of them is `inet[]` (OID 1041), read under `cidr[]` and `inet[]`.
+impl PgHasArrayType for IpAddr {
+    ghost array_info = { builtin 1041 };
+
+    ghost accepts_array = { spec.is_network_array };
+
+    fn array_type_info() -> PgTypeInfo {
+        PgTypeInfo(PgType::InetArray)
+    }
+
+    fn array_compatible(type_info: &PgTypeInfo) -> bool {
+        is_network_array(type_info)
+    }
+}
+
+/// Written as the network of all its bits: `10.0.0.1` as `022000040a000001`.
+impl Encode for IpAddr {
+    ghost image = { address_image };
+
+    ghost hint = { address_hint };
+
+    fn encode_by_ref(&self, out: &mut PgArgumentBuffer) -> Result<IsNull, CodecError> {
+        write_network(*self, full_prefix(*self), out)
+    }
+
+    fn size_hint(&self) -> usize {
+        written_size(*self)
+    }
+
+    fn produces(&self) -> Result<Option<PgTypeInfo>, AllocError> {
+        Ok(None)
+    }
+}
+
+/// An `inet` or a `cidr` of one address, as [`read_ip_address`] reads it: `022000040a000001` and `10.0.0.1` are the same address.
+impl Decode for IpAddr {
+    ghost Meaning = { Address };
+
+    ghost meaning = { λ address. address };
+
+    ghost reading = { address_reading };
+
+    ghost written = { with_hint address_hint address_image };
+
+    ghost takes_memory = { false };
+
+    ghost refusal = { Some address_refusal };
+
+    fn decode(_alloc: Global, value: PgValueRef<'_>) -> Result<IpAddr, CodecError> {
+        read_ip_address(&value)
+    }
+}
+
+/// An address comes back as it is.
+impl ReadBack for IpAddr {
+    ghost use Rattle.pgv_codec.specs.Back.{always};
+    ghost use Rattle.pgv_codec.specs.NetworkBack.{address_back};
+
+    ghost kept = { λ v. v };
+
+    ghost fits = { always };
+
+    ghost reads_back = { address_back };
+}
+
+impl Codec for IpAddr {
+    ghost agrees = { λ _. refl };
+}
