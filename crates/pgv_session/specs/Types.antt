@@ -6,12 +6,14 @@ use Rattle.pgv_value.specs.Reading.{Reading}
 use Rattle.pgv_value.specs.ScalarGrammar.{bool_reading, int_reading, char_reading, oid_reading, text_reading, uuid_reading}
 use Rattle.pgv_value.specs.DateTimeBinary.{date_reading, time_reading, date_time_reading, instant_reading}
 use Rattle.pgv_value.specs.Interval.{interval_reading}
+use Rattle.pgv_value.specs.NetworkBinary.{network_reading}
 use Rattle.pgv_value.specs.declared.value.PgValueFormat.{PgValueFormat}
 use Rattle.pgv_wire.specs.Arguments.{Framed}
 use Rattle.pgv_nest.specs.ArrayGrammar.{array}
 use Rattle.pgv_codec.specs.Image.{frame}
 use Rattle.pgv_codec.specs.DateTimeBinary.{date_image, time_image, moment_image}
 use Rattle.pgv_codec.specs.Intervals.{interval_image}
+use Rattle.pgv_codec.specs.NetworkBinary.{network_image, network_hint}
 use Rattle.pgv_codec.specs.Nullable.{nullable}
 use Rattle.pgv_codec.specs.Saying.{Saying, plainly, option_written, array_written}
 use Rattle.pgv_codec.specs.ScalarBinary.{bool_image, signed_image, unsigned_image, text_image, uuid_image}
@@ -58,6 +60,7 @@ types =
     (codes "timestamptz", row (builtin 1184) instant_reading (with_hint (λ _. 8) moment_image)) ∷
     (codes "interval", row (builtin 1186) interval_reading (with_hint (λ _. 16) interval_image)) ∷
     (codes "varbit", row (builtin 1562) bits_reading (with_hint bits_hint bits_image)) ∷
+    (codes "inet", row (builtin 869) network_reading (with_hint network_hint network_image)) ∷
     (codes "macaddr", row (builtin 829) mac_reading (with_hint (λ _. 6) mac_image)) ∷
     (codes "int4[]", list_row (builtin 1007) (builtin 23) (int_reading w32) (plainly (signed_image w32))) ∷
     (codes "text[]", list_row (builtin 1009) (builtin 25) text_reading (plainly text_image)) ∷

@@ -16,6 +16,7 @@ use crate::line::{Ask, is};
 use jiff::Timestamp;
 use jiff::civil::{Date, DateTime, Time};
 use pgv_more::{BitVec, MacAddress};
+use pgv_text::IpNetwork;
 use pgv_types::Oid;
 use pgv_wire::{
     Codec, CodecError, Encode, PgArgumentBuffer, PgArguments, PgInterval, PgValueFormat,
@@ -48,6 +49,7 @@ pub fn respond_by(
         _ if is(name, "timestamptz") => respond_as::<Timestamp>(alloc, arguments, ask),
         _ if is(name, "interval") => respond_as::<PgInterval>(alloc, arguments, ask),
         _ if is(name, "varbit") => respond_as::<BitVec>(alloc, arguments, ask),
+        _ if is(name, "inet") => respond_as::<IpNetwork>(alloc, arguments, ask),
         _ if is(name, "macaddr") => respond_as::<MacAddress>(alloc, arguments, ask),
         _ if is(name, "int4[]") => respond_as::<Vec<Option<i32>>>(alloc, arguments, ask),
         _ if is(name, "text[]") => respond_as::<Vec<Option<String>>>(alloc, arguments, ask),
