@@ -1,6 +1,6 @@
 //! Sessions with the answers that they must have, and readers and writers that fail.
 
-use crate::vectors::{ARRAYS, SCALARS, TIMES};
+use crate::vectors::{ARRAYS, NETWORKS, SCALARS, TIMES};
 use pgv_session::{RunFault, fault_text, run};
 use std::alloc::{AllocError, Global};
 use std::io::{self, BufRead, Error, ErrorKind, Read, Write};
@@ -64,7 +64,7 @@ fn plain_values(rt: HostRuntime) -> Result<(), Fail> {
 }
 
 #[test]
-fn dates_and_times(rt: HostRuntime) -> Result<(), Fail> {
+fn dates_times_networks_and_bits(rt: HostRuntime) -> Result<(), Fail> {
     let session = [
         ("add date 2024-02-29", "$1"),
         ("add time 24:00:00", "$2"),
@@ -85,6 +85,11 @@ fn dates_and_times(rt: HostRuntime) -> Result<(), Fail> {
         ("read time ffffffffffffffff", "00000008000000141dd75fff"),
         ("add interval 1", "refused C18"),
         ("read interval null", "refused C13"),
+        ("add inet 10.0.0.01", "refused C29"),
+        ("add inet ::1/129", "refused C29"),
+        ("add inet 1:2:3:4:5:6:7:8::", "refused C29"),
+        ("read inet 022100040a000001", "refused C32"),
+        ("read inet 042000040a000001", "refused C31"),
         ("add macaddr 08-00-2b:01-02-03", "refused C29"),
         ("add varbit 101", "$5"),
         ("read varbit 00000003ff", "0000000500000003e0"),
@@ -262,6 +267,12 @@ fn vectors_of_arrays(rt: HostRuntime) -> Result<(), Fail> {
 #[test]
 fn vectors_of_times(rt: HostRuntime) -> Result<(), Fail> {
     assert!(rt; rows_answered(rt.alloc(), TIMES)?);
+    Ok(())
+}
+
+#[test]
+fn vectors_of_networks(rt: HostRuntime) -> Result<(), Fail> {
+    assert!(rt; rows_answered(rt.alloc(), NETWORKS)?);
     Ok(())
 }
 
