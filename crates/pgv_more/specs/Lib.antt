@@ -6,6 +6,7 @@ pub mod BitsText
 pub mod BitsCodec
 pub mod MacAddressText
 pub mod MacAddressCodec
+pub mod TimeTzCodec
 pub mod BitsBack
 pub mod MacAddressBack
 pub mod Laws
