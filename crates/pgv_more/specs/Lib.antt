@@ -9,4 +9,5 @@ pub mod MacAddressCodec
 pub mod TimeTzCodec
 pub mod BitsBack
 pub mod MacAddressBack
+pub mod TimeTzBack
 pub mod Laws

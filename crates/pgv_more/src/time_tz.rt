@@ -16,7 +16,7 @@ ghost use Rattle.pgv_more.specs.TimeTzCodec.{time_tz_numbers, time_tz_image, tim
 use byteorder::{BigEndian, ByteOrder};
 use jiff::civil::Time;
 use jiff::tz::Offset;
-use pgv_codec::{Codec, Decode, Encode, IsNull, PgArgumentBuffer, PgHasArrayType, Type};
+use pgv_codec::{Codec, Decode, Encode, IsNull, PgArgumentBuffer, PgHasArrayType, ReadBack, Type};
 use pgv_text::time_tz;
 use pgv_types::{PgType, PgTypeInfo};
 use pgv_value::{CodecError, PgValueFormat, PgValueRef};
@@ -212,4 +212,16 @@ impl Decode for PgTimeTz {
 
 impl Codec for PgTimeTz {
     ghost agrees = { λ _. refl };
+}
+
+/// The time comes back in whole microseconds, where what is less is cut off, and the offset as it is.
+impl ReadBack for PgTimeTz {
+    ghost use Rattle.pgv_codec.specs.Back.{always};
+    ghost use Rattle.pgv_more.specs.TimeTzBack.{time_tz_back, time_tz_kept};
+
+    ghost kept = { time_tz_kept };
+
+    ghost fits = { always };
+
+    ghost reads_back = { time_tz_back };
 }
