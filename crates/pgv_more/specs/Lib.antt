@@ -6,6 +6,8 @@ pub mod BitsText
 pub mod BitsCodec
 pub mod MacAddressText
 pub mod MacAddressCodec
+pub mod TimeTzCodec
 pub mod BitsBack
 pub mod MacAddressBack
+pub mod TimeTzBack
 pub mod Laws

@@ -10,8 +10,10 @@ ghost use Rattle.pgv_more.specs.BitsCodec.{is_bits, is_bits_array, bits_reading}
 ghost use Rattle.pgv_more.specs.Laws.{PackedIsOne};
 ghost use Rattle.pgv_more.specs.MacAddressCodec.{mac_image, mac_reading};
 ghost use Rattle.pgv_more.specs.MacAddressText.{MacAddressIsRead, OneMacAddress};
+ghost use Rattle.pgv_more.specs.TimeTzCodec.{time_tz_numbers, time_tz_image, time_tz_reading};
+ghost use Rattle.pgv_codec.specs.DateTimeKept.{time_kept};
 
-use pgv_codec::{Decode, Encode, PgHasArrayType, Type};
+use pgv_codec::{Decode, Encode, PgHasArrayType, ReadBack, Type};
 
 /// A `BitVec` is a varbit (OID 1562), the number of bits and then its bytes, as `00000003a0` for `101`. It is read under bit
 /// and varbit. Its arrays are `varbit[]` (1563), read under arrays of these.
@@ -36,6 +38,19 @@ pub fn mac_address_is_a_macaddr()
     ensures produced { (v : List ℕ) → ⟦<crate::MacAddress as Encode>⟧.produced v ≡ None }
     ensures means { ⟦<crate::MacAddress as Decode>⟧.meaning ≡ (λ v. v) }
     ensures read { ⟦<crate::MacAddress as Decode>⟧.reading ≡ mac_reading }
+{}
+
+/// A `PgTimeTz` is a timetz (OID 1266), the microseconds of the day and the seconds west of UTC, as `0000000a7a358200ffffe3e0` for
+/// 12:30 two hours east. Its arrays are `timetz[]` (1270).
+pub fn time_tz_is_a_timetz()
+    ensures types { IsBuiltIn 1266 ⟦<crate::PgTimeTz as Type>⟧.info ⟦<crate::PgTimeTz as Type>⟧.accepts }
+    ensures arrays { IsBuiltIn 1270 ⟦<crate::PgTimeTz as PgHasArrayType>⟧.array_info ⟦<crate::PgTimeTz as PgHasArrayType>⟧.accepts_array }
+    ensures written { ⟦<crate::PgTimeTz as Encode>⟧.image ≡ (λ v. time_tz_image (time_tz_numbers v)) }
+    ensures hint { ⟦<crate::PgTimeTz as Encode>⟧.hint ≡ (λ _. 12) }
+    ensures produced { ⟦<crate::PgTimeTz as Encode>⟧.produced ≡ (λ _. None) }
+    ensures means { ⟦<crate::PgTimeTz as Decode>⟧.meaning ≡ time_tz_numbers }
+    ensures read { ⟦<crate::PgTimeTz as Decode>⟧.reading ≡ time_tz_reading }
+    ensures kept { ⟦<crate::PgTimeTz as ReadBack>⟧.kept ≡ (λ v. record { time = time_kept v.time; offset = v.offset }) }
 {}
 
 /// Bits are packed into exactly the bytes whose bits they are, with less than eight zeros after them.

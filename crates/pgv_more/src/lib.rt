@@ -1,12 +1,15 @@
-//! Value types of the project's own: lists of bits and MAC addresses, with what they are written as and read of.
+//! Value types of the project's own: lists of bits, MAC addresses, and times of day with an offset, with what they are written as and
+//! read of.
 #![tactic(auto)]
 
 pub mod bit_vec;
 pub mod laws;
 pub mod mac_address;
+pub mod time_tz;
 
 pub use bit_vec::BitVec;
 pub use mac_address::MacAddress;
+pub use time_tz::PgTimeTz;
 
 #[cfg(test)]
 mod tests;

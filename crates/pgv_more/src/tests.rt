@@ -2,8 +2,10 @@
 
 mod server;
 
-use crate::{BitVec, MacAddress};
+use crate::{BitVec, MacAddress, PgTimeTz};
 use jiff::SignedDuration;
+use jiff::civil::Time;
+use jiff::tz::Offset;
 use pgv_codec::{Decode, Encode, PgArgumentBuffer, PgHasArrayType, Type};
 use pgv_types::{PgType, PgTypeInfo};
 use pgv_value::{CodecError, PgInterval, PgValueFormat, PgValueRef};
@@ -69,12 +71,19 @@ fn read_text<T: Type + Decode + Encode>(
 fn check_line(rt: &impl Abort, alloc: Global, line: &str) -> Result<(), Fail> {
     let (name, rest) = line.split_once(' ').ok_or("no text")?;
     let (text, form) = rest.split_once(' ').ok_or("no binary form")?;
-    if name == "macaddr" {
-        read_text::<MacAddress>(rt, alloc, text, Ok(form));
-        read::<MacAddress>(rt, alloc, form, Ok(form))
-    } else {
-        read_text::<BitVec>(rt, alloc, text, Ok(form));
-        read::<BitVec>(rt, alloc, form, Ok(form))
+    match name {
+        "macaddr" => {
+            read_text::<MacAddress>(rt, alloc, text, Ok(form));
+            read::<MacAddress>(rt, alloc, form, Ok(form))
+        }
+        "timetz" => {
+            read_text::<PgTimeTz>(rt, alloc, text, Ok(form));
+            read::<PgTimeTz>(rt, alloc, form, Ok(form))
+        }
+        _ => {
+            read_text::<BitVec>(rt, alloc, text, Ok(form));
+            read::<BitVec>(rt, alloc, form, Ok(form))
+        }
     }
 }
 
@@ -185,5 +194,35 @@ fn intervals_and_durations(rt: HostRuntime) -> Result<(), Fail> {
         written(alloc, &SignedDuration::from_secs(10000000000000)),
         Err(5),
     );
+    Ok(())
+}
+
+#[test]
+fn times_with_an_offset(rt: HostRuntime) -> Result<(), Fail> {
+    let alloc = rt.alloc();
+    let form = "0000000a7a358200ffffe3e0";
+    read_text::<PgTimeTz>(&rt, alloc, "12:30:00+02", Ok(form));
+    read::<PgTimeTz>(&rt, alloc, "0000000a7a358200ffffe3e0ff", Ok(form))?;
+    read::<PgTimeTz>(&rt, alloc, "0000000a7a358200ffffe3", Err(15))?;
+    read::<PgTimeTz>(
+        &rt,
+        alloc,
+        "ffffffffffffffff00000000",
+        Ok("000000141dd75fff00000000"),
+    )?;
+    read::<PgTimeTz>(&rt, alloc, "000000000000000000015180", Err(6))?;
+    read::<PgTimeTz>(&rt, alloc, "0000000000000000fffeae80", Err(6))?;
+    read::<PgTimeTz>(&rt, alloc, "000000000000000080000000", Err(6))?;
+    read_text::<PgTimeTz>(&rt, alloc, "12:30:00", Err(29));
+    compare(
+        &rt,
+        again::<PgTimeTz>(alloc, None, PgValueFormat::Binary),
+        Err(13),
+    );
+    let far = PgTimeTz {
+        time: Time::midnight(),
+        offset: Offset::MAX,
+    };
+    compare(&rt, written(alloc, &far), Err(6));
     Ok(())
 }

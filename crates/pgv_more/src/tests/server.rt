@@ -1,4 +1,4 @@
-//! Bits, MAC addresses and intervals that a PostgreSQL 15.20 server wrote (C locale, UTF8).
+//! Bits, MAC addresses, times of day with an offset, and intervals that a PostgreSQL 15.20 server wrote (C locale, UTF8).
 
 /// A value in each line, with spaces between: its type, its text, and its binary form in hex.
 pub const VALUES: &str = "varbit 0 0000000100
@@ -86,7 +86,22 @@ macaddr ff:38:95:ac:14:0a ff3895ac140a
 macaddr 47:ff:97:9a:52:88 47ff979a5288
 macaddr 5a:7c:f7:7f:38:c9 5a7cf77f38c9
 macaddr f1:50:62:f1:a4:fa f15062f1a4fa
-macaddr 47:27:4d:f3:bf:6f 47274df3bf6f";
+macaddr 47:27:4d:f3:bf:6f 47274df3bf6f
+timetz 00:00:00-08 000000000000000000007080
+timetz 00:00:00+05:30 0000000000000000ffffb2a8
+timetz 00:00:00+00:00:01 0000000000000000ffffffff
+timetz 00:00:00+01:02:03 0000000000000000fffff175
+timetz 12:30:00+02 0000000a7a358200ffffe3e0
+timetz 12:30:00-03:30 0000000a7a35820000003138
+timetz 12:30:00-01:02:03 0000000a7a35820000000e8b
+timetz 12:24:36.140963-06:15 0000000a66e7cfa3000057e4
+timetz 08:24:33-07:35:24 000000070c69524000006abc
+timetz 01:30:35.36748+15:05:23 0000000143f92038ffff2bcd
+timetz 16:18:57.875119-15:25:32 0000000dad0cd8af0000d8ec
+timetz 01:11:18.363626+01:31:48 00000000ff02a5eaffffea7c
+timetz 06:41:50.13948+04:06:51 000000059d138858ffffc625
+timetz 05:53:53.831-15:52:16 00000004f1a28c580000df30
+timetz 19:53:00.274996-13:45 00000010aa8451340000c15c";
 
 /// An interval in each line, in its binary form in hex.
 pub const INTERVALS: &str = "00000000000f42400000000000000000

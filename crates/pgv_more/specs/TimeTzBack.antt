@@ -1,0 +1,95 @@
+-- What is written of a time of day with an offset is read back, in whole microseconds; its offset comes back as it is.
+use Rattle.std.specs.Prelude.{◌≡◌, ℕ, zero, suc, ◌/◌, nat_lt, Bool, true, false, if◌then◌else◌, ℤ, pos, negsuc, neg_ℤ, unsigned_abs, List, Option, Some, None, refl}
+use Rattle.std.specs.Option.{option_and_then}
+use Rattle.std.specs.Int.{w32, w64, cast_signed, cast_unsigned, from_be_bytes, to_be_bytes}
+use Rattle.std.proofs.Common.{ap, ◌∙◌, arith}
+use Rattle.std.proofs.lemmas.Bool.{ltb-true, lt-ltb}
+use Rattle.std.proofs.lemmas.Int.{ints, to_z-of_z}
+use Rattle.std.proofs.lemmas.Nat.{from_be_bytes-to_be_bytes_4, from_be_bytes-to_be_bytes_8}
+use Rattle.jiff_core.specs.declared.civil.time.Time.{Time}
+use Rattle.jiff_core.specs.Time.{time_nanos}
+use Rattle.jiff_core.proofs.DateTimeLemmas.{time_nanos_bound}
+use Rattle.pgv_types.specs.Ty.{Ty}
+use Rattle.pgv_types.specs.declared.oid.Oid.{Oid}
+use Rattle.pgv_buf.specs.Tokens.{bytes}
+use Rattle.pgv_value.specs.DateTimeBinary.{time_after}
+use Rattle.pgv_value.specs.Frame.{Part}
+use Rattle.pgv_value.specs.Numbers.{fits_signed}
+use Rattle.pgv_value.specs.OwnBytes.{is_signed, unsigned_fits}
+use Rattle.pgv_value.specs.declared.value.PgValueFormat.TheVariants.{Binary}
+use Rattle.pgv_codec.specs.Back.{ReadsBack, always}
+use Rattle.pgv_codec.specs.BackParts.{guarded}
+use Rattle.pgv_codec.specs.BackScalars.{part_is}
+use Rattle.pgv_codec.specs.DateTimeKept.{time_kept}
+use Rattle.pgv_codec.specs.Image.{Image, image_of}
+use Rattle.pgv_codec.specs.Writing.{written_part}
+use Rattle.pgv_more.specs.TimeTzCodec.{time_tz_numbers, time_tz_image, time_tz_reading, image_of_numbers, bytes_of_numbers, other_way, two_numbers, time_tz_of, time_tz_in_binary}
+use Rattle.pgv_more.specs.declared.time_tz.PgTimeTz.{PgTimeTz}
+
+-- the time is cut to microseconds, and the offset is kept
+abbrev pub time_tz_kept : PgTimeTz → PgTimeTz
+time_tz_kept v = record { time = time_kept v.time; offset = v.offset }
+
+-- ---- an offset turned twice
+
+turned_small : (s : ℤ) → nat_lt (unsigned_abs s) 86_400 ≡ true → nat_lt (unsigned_abs (neg_ℤ s)) 86_400 ≡ true
+turned_small (pos zero) h = h
+turned_small (pos (suc n)) h = h
+turned_small (negsuc n) h = h
+
+turned_again : (s : ℤ) → neg_ℤ (neg_ℤ s) ≡ s
+turned_again (pos zero) = refl
+turned_again (pos (suc n)) = refl
+turned_again (negsuc n) = refl
+
+-- an offset has room in 32 bits
+offset_room : (s : ℤ) → nat_lt (unsigned_abs s) 86_400 ≡ true → fits_signed w32 s ≡ true
+offset_room (pos n) h = let lt = ltb-true n 86_400 h in lt-ltb n 2_147_483_648 (omega (arith, lt))
+offset_room (negsuc n) h = let lt = ltb-true (suc n) 86_400 h in lt-ltb n 2_147_483_648 (omega (arith, lt))
+
+-- ---- the two numbers are read of their bytes
+
+eight_again : (v : ℤ) → fits_signed w64 v ≡ true → cast_signed w64 (from_be_bytes w64 (to_be_bytes w64 (cast_unsigned w64 v))) ≡ v
+eight_again v h = ap (cast_signed w64) (from_be_bytes-to_be_bytes_8 (cast_unsigned w64 v) (unsigned_fits w64 v h)) ∙ to_z-of_z w64 v (is_signed w64 v h)
+
+four_again : (v : ℤ) → fits_signed w32 v ≡ true → cast_signed w32 (from_be_bytes w32 (to_be_bytes w32 (cast_unsigned w32 v))) ≡ v
+four_again v h = ap (cast_signed w32) (from_be_bytes-to_be_bytes_4 (cast_unsigned w32 v) (unsigned_fits w32 v h)) ∙ to_z-of_z w32 v (is_signed w32 v h)
+
+numbers_again : (micros west : ℤ) → fits_signed w64 micros ≡ true → fits_signed w32 west ≡ true → two_numbers (bytes_of_numbers micros west) ≡ Some (micros, west)
+numbers_again micros west a b = rw (eight_again micros a, four_again west b) refl
+
+-- ---- what was written
+
+-- an image has an offset that was turned, and its numbers have room
+record IsWritten (micros seconds : ℤ) (i : Image) (p : Option Ty) (os : List Oid) : Type 0 where
+  part : written_part i p os ≡ Some (bytes_of_numbers micros (neg_ℤ seconds))
+  room : fits_signed w64 micros ≡ true
+  small : nat_lt (unsigned_abs seconds) 86_400 ≡ true
+
+turned : (micros west : ℤ) (b : Bool) (i : Image) → image_of_numbers micros (if b then Some west else None) ≡ Some i → (b ≡ true) × (image_of_numbers micros (Some west) ≡ Some i)
+turned micros west true i e = (refl, e)
+turned micros west false i e = absurd cc
+
+written : (micros seconds : ℤ) (i : Image) (p : Option Ty) (os : List Oid) → image_of_numbers micros (other_way seconds) ≡ Some i → IsWritten micros seconds i p os
+written micros seconds i p os e =
+    let t = turned micros (neg_ℤ seconds) (nat_lt (unsigned_abs seconds) 86_400) i e in
+    let g = guarded (fits_signed w64 micros) (Some (image_of (bytes (bytes_of_numbers micros (neg_ℤ seconds))))) i t.1 in
+    record { part = part_is (bytes_of_numbers micros (neg_ℤ seconds)) i p os g.1; room = g.0; small = t.0 }
+
+-- ---- read back
+
+time_again : (t : Time) → time_after (pos (time_nanos t / 1000)) ≡ time_nanos (time_kept t)
+time_again t = let lt = time_nanos_bound t in omega (arith, lt)
+
+again : (v : PgTimeTz) → fits_signed w64 (pos (time_nanos v.time / 1000)) ≡ true → nat_lt (unsigned_abs v.offset.seconds) 86_400 ≡ true →
+    time_tz_in_binary (bytes_of_numbers (pos (time_nanos v.time / 1000)) (neg_ℤ v.offset.seconds)) ≡ Some (time_tz_numbers (time_tz_kept v))
+again v room small =
+    let west = neg_ℤ v.offset.seconds in
+    let less = turned_small v.offset.seconds small in
+    ap (option_and_then time_tz_of) (numbers_again (pos (time_nanos v.time / 1000)) west room (offset_room west less))
+    ∙ rw (less, turned_again v.offset.seconds, time_again v.time) refl
+
+pub time_tz_back : ReadsBack {A = PgTimeTz} (λ v. time_tz_image (time_tz_numbers v)) time_tz_reading (λ v. time_tz_numbers (time_tz_kept v)) always
+time_tz_back v i t p os e whole small fit =
+    let w = written (pos (time_nanos v.time / 1000)) v.offset.seconds i p os e in
+    ap (λ (part : Part). time_tz_reading t Binary part) w.part ∙ again v w.room w.small

@@ -1,0 +1,65 @@
+-- What times of day with an offset are written as and read of (PostgreSQL: "Date/Time Types", timetz): the microseconds of the
+-- day in eight bytes, and the seconds west of UTC in four, each signed, the highest byte first. Such a time is seen as its
+-- nanoseconds of the day and its seconds east of UTC.
+use Rattle.std.specs.Prelude.{ℕ, ◌/◌, nat_lt, if◌then◌else◌, ℤ, pos, neg_ℤ, unsigned_abs, List, ◌++◌, length, drop, Option, Some, None}
+use Rattle.std.specs.Option.{option_map, option_and_then}
+use Rattle.std.specs.Int.{w32, w64, cast_unsigned, to_be_bytes}
+use Rattle.pgv_text.specs.DateTimeText.{time_tz_value, zoned_numbers}
+use Rattle.pgv_buf.specs.Tokens.{bytes}
+use Rattle.pgv_codec.specs.Image.{Image, image_of}
+use Rattle.pgv_value.specs.DateTimeBinary.{time_after}
+use Rattle.pgv_value.specs.Interval.{eight_bytes, signed_four_bytes}
+use Rattle.pgv_value.specs.Numbers.{fits_signed}
+use Rattle.pgv_value.specs.Reading.{Reading}
+use Rattle.pgv_value.specs.Scalars.{scalar, refusal}
+use Rattle.pgv_value.specs.declared.error.CodecError.{CodecError}
+use Rattle.pgv_value.specs.declared.error.CodecError.TheVariants.{Short, Syntax, OffsetRange}
+use Rattle.pgv_value.specs.declared.value.PgValueFormat.{PgValueFormat}
+use Rattle.pgv_more.specs.declared.time_tz.PgTimeTz.{PgTimeTz}
+
+-- the nanoseconds of the day, and the seconds east of UTC
+abbrev pub time_tz_numbers : PgTimeTz → ℕ × ℤ
+time_tz_numbers v = zoned_numbers (v.time, v.offset)
+
+-- an offset the other way round, from seconds east to seconds west and back, where it is less than a day in size
+abbrev pub other_way : ℤ → Option ℤ
+other_way seconds = if nat_lt (unsigned_abs seconds) 86_400 then Some (neg_ℤ seconds) else None
+
+-- ---- written
+
+-- microseconds of the day and seconds west
+abbrev pub bytes_of_numbers : ℤ → ℤ → List ℕ
+bytes_of_numbers micros west = to_be_bytes w64 (cast_unsigned w64 micros) ++ to_be_bytes w32 (cast_unsigned w32 west)
+
+abbrev pub image_of_numbers : ℤ → Option ℤ → Option Image
+image_of_numbers micros None = None
+image_of_numbers micros (Some west) = if fits_signed w64 micros then Some (image_of (bytes (bytes_of_numbers micros west))) else None
+
+-- what is less than a microsecond is cut off
+abbrev pub time_tz_image : ℕ × ℤ → Option Image
+time_tz_image zoned = image_of_numbers (pos (zoned.0 / 1000)) (other_way zoned.1)
+
+-- ---- read
+
+-- the two numbers of the first twelve bytes, and anything after them
+abbrev pub two_numbers : List ℕ → Option (ℤ × ℤ)
+two_numbers form = if nat_lt (length form) 12 then None else Some (eight_bytes form, signed_four_bytes (drop 8 form))
+
+abbrev pub time_tz_of : ℤ × ℤ → Option (ℕ × ℤ)
+time_tz_of numbers = option_map (λ east. (time_after numbers.0, east)) (other_way numbers.1)
+
+abbrev pub time_tz_in_binary : List ℕ → Option (ℕ × ℤ)
+time_tz_in_binary form = option_and_then time_tz_of (two_numbers form)
+
+abbrev pub time_tz_reading : Reading (ℕ × ℤ)
+time_tz_reading = scalar time_tz_in_binary time_tz_value
+
+-- ---- refused
+
+-- fewer than twelve bytes are C15, and else the offset is C6
+abbrev pub offset_refusal : Option (ℤ × ℤ) → CodecError
+offset_refusal None = Short
+offset_refusal (Some numbers) = OffsetRange numbers.1
+
+abbrev pub time_tz_refusal : PgValueFormat → Option (List ℕ) → CodecError
+time_tz_refusal = refusal (λ form. offset_refusal (two_numbers form)) (λ _. Syntax)

@@ -1,0 +1,227 @@
+//! Times of day with an offset from UTC (PostgreSQL, "Date/Time Types", timetz).
+
+ghost use Rattle.std.specs.Prelude.{◌≡◌, ◌≤◌, ◌/◌, ℕ, ℤ, pos, length, false, Some, IfErr, IfOk, OnErr, refl};
+ghost use Rattle.std.specs.Option.{option_map};
+ghost use Rattle.jiff.specs.Words.{time_nanos};
+ghost use Rattle.pgv_codec.specs.Outcome.{Appended, Encoded};
+ghost use Rattle.pgv_codec.specs.WithHint.{with_hint};
+ghost use Rattle.pgv_types.specs.Relations.{softly};
+ghost use Rattle.pgv_types.specs.Ty.{builtin};
+ghost use Rattle.pgv_value.specs.DateTimeBinary.{time_after};
+ghost use Rattle.pgv_value.specs.Interval.{eight_bytes, signed_four_bytes};
+ghost use Rattle.pgv_value.specs.Reading.{AnswersExactly};
+ghost use Rattle.pgv_value.specs.declared.error.CodecError.TheVariants.{Memory};
+ghost use Rattle.pgv_more.specs.TimeTzCodec.{time_tz_numbers, time_tz_image, time_tz_in_binary, time_tz_reading, time_tz_refusal, two_numbers, offset_refusal, other_way, image_of_numbers};
+
+use byteorder::{BigEndian, ByteOrder};
+use jiff::civil::Time;
+use jiff::tz::Offset;
+use pgv_codec::{Codec, Decode, Encode, IsNull, PgArgumentBuffer, PgHasArrayType, ReadBack, Type};
+use pgv_text::time_tz;
+use pgv_types::{PgType, PgTypeInfo};
+use pgv_value::{CodecError, PgValueFormat, PgValueRef};
+use std::alloc::{AllocError, Global};
+
+/// The microseconds of a day.
+const DAY: i64 = 86_400_000_000;
+
+/// The seconds of a day.
+const DAY_SECONDS: u32 = 86_400;
+
+/// A time of day, and how far its clock is ahead of UTC.
+#[derive(Clone, Copy, Debug, PartialEq, Eq)]
+pub struct PgTimeTz {
+    /// What the clock shows.
+    pub time: Time,
+    /// How far it is ahead of UTC.
+    pub offset: Offset,
+}
+
+/// The microseconds of the day; what is less is cut off.
+fn micros_of_day(time: Time) -> i64
+    ensures { result ≡ pos (time_nanos time / 1000) }
+{
+    (time.to_plain().to_nanosecond() / 1000) as i64
+}
+
+/// The time that many microseconds after midnight, round the clock.
+fn time_at(micros: i64) -> Time
+    ensures { time_nanos result ≡ time_after micros }
+{
+    let micros = micros.rem_euclid(DAY) as u64;
+    Time::from_plain(jiff_core::civil::Time::from_nanosecond(micros * 1000))
+}
+
+/// The offset of seconds west of UTC, where they are less than a day.
+fn offset_west(west: i32) -> Option<Offset>
+    ensures { option_map (λ offset. offset.seconds) result ≡ other_way west }
+{
+    if west.unsigned_abs() >= DAY_SECONDS {
+        return None;
+    }
+    Offset::from_seconds(-west).ok()
+}
+
+/// The seconds west of UTC of an offset, where they are less than a day.
+fn seconds_west(offset: Offset) -> Option<i32>
+    ensures { result ≡ other_way offset.seconds }
+{
+    let east = offset.seconds();
+    if east.unsigned_abs() >= DAY_SECONDS {
+        return None;
+    }
+    Some(-east)
+}
+
+/// The signed number of the eight bytes at the front, the highest first.
+fn number_of_eight(form: &[u8]) -> i64
+    requires { 8 ≤ length form.now }
+    ensures { result ≡ eight_bytes form.now }
+{
+    BigEndian::read_i64(form)
+}
+
+/// The signed number of the four bytes at the front, the highest first.
+fn number_of_four(form: &[u8]) -> i32
+    requires { 4 ≤ length form.now }
+    ensures { result ≡ signed_four_bytes form.now }
+{
+    BigEndian::read_i32(form)
+}
+
+/// The two numbers of the first twelve bytes, whatever comes after them.
+fn numbers_of(form: &[u8]) -> Option<(i64, i32)>
+    ensures { result ≡ two_numbers form.now }
+{
+    if form.len() < 12 {
+        return None;
+    }
+    let (micros, west) = form.split_at(8);
+    Some((number_of_eight(micros), number_of_four(west)))
+}
+
+/// The time and the offset of bytes.
+fn of_bytes(form: &[u8]) -> Result<PgTimeTz, CodecError>
+    ensures exact { AnswersExactly time_tz_numbers (time_tz_in_binary form.now) result }
+    ensures refused { IfErr result (λ e. e ≡ offset_refusal (two_numbers form.now)) }
+{
+    let Some((micros, west)) = numbers_of(form) else {
+        return Err(CodecError::Short);
+    };
+    match offset_west(west) {
+        Some(offset) => Ok(PgTimeTz {
+            time: time_at(micros),
+            offset,
+        }),
+        None => Err(CodecError::OffsetRange(west)),
+    }
+}
+
+/// Appends the microseconds of the day and the seconds west of UTC.
+fn write_numbers(micros: i64, west: i32, out: &mut PgArgumentBuffer) -> Result<IsNull, CodecError>
+    ensures ok { IfOk result (λ n. Encoded n (image_of_numbers micros (Some west)) out.old out.new) }
+    ensures err { IfErr result (λ e. e ≡ Memory) }
+    ensures appended { OnErr result (Appended out.old out.new) }
+{
+    let micros = micros.to_be_bytes();
+    let west = west.to_be_bytes();
+    out.extend_from_slice(&micros)?;
+    out.extend_from_slice(&west)?;
+    Ok(IsNull::No)
+}
+
+/// `timetz` (OID 1266), read under `timetz` and domains over it.
+impl Type for PgTimeTz {
+    ghost info = { builtin 1266 };
+
+    ghost accepts = { λ t. softly t (builtin 1266) };
+
+    fn type_info() -> PgTypeInfo {
+        PgTypeInfo(PgType::Timetz)
+    }
+
+    fn compatible(type_info: &PgTypeInfo) -> bool {
+        type_info.type_compatible(&Self::type_info())
+    }
+}
+
+/// An array of them is `timetz[]` (OID 1270).
+impl PgHasArrayType for PgTimeTz {
+    ghost array_info = { builtin 1270 };
+
+    ghost accepts_array = { λ t. softly t (builtin 1270) };
+
+    fn array_type_info() -> PgTypeInfo {
+        PgTypeInfo(PgType::TimetzArray)
+    }
+
+    fn array_compatible(type_info: &PgTypeInfo) -> bool {
+        type_info.type_compatible(&Self::array_type_info())
+    }
+}
+
+/// Written as twelve bytes, the microseconds of the day and the seconds west of UTC: 12:30 two hours east as
+/// `0000000a7a358200ffffe3e0`. An offset of a day or more in size is refused with C6.
+impl Encode for PgTimeTz {
+    ghost image = { λ v. time_tz_image (time_tz_numbers v) };
+
+    ghost hint = { λ _. 12 };
+
+    fn encode_by_ref(&self, out: &mut PgArgumentBuffer) -> Result<IsNull, CodecError> {
+        match seconds_west(self.offset) {
+            Some(west) => write_numbers(micros_of_day(self.time), west, out),
+            None => Err(CodecError::OffsetRange(self.offset.seconds())),
+        }
+    }
+
+    fn size_hint(&self) -> usize {
+        12
+    }
+
+    fn produces(&self) -> Result<Option<PgTypeInfo>, AllocError> {
+        Ok(None)
+    }
+}
+
+/// Read in binary of the first twelve bytes, where fewer are refused with C15: the time round the clock, and an offset of less than
+/// a day, else C6 with the seconds that the bytes have. A text is a time and an offset, as [`time_tz`] reads it, else C29. Null is
+/// refused with C13.
+impl Decode for PgTimeTz {
+    ghost Meaning = { ℕ × ℤ };
+
+    ghost meaning = { time_tz_numbers };
+
+    ghost reading = { time_tz_reading };
+
+    ghost written = { with_hint (λ _. 12) time_tz_image };
+
+    ghost takes_memory = { false };
+
+    ghost refusal = { Some time_tz_refusal };
+
+    fn decode(_alloc: Global, value: PgValueRef<'_>) -> Result<PgTimeTz, CodecError> {
+        match value.format() {
+            PgValueFormat::Binary => of_bytes(value.as_bytes()?),
+            PgValueFormat::Text => match time_tz(value.as_str()?) {
+                Some((time, offset)) => Ok(PgTimeTz { time, offset }),
+                None => Err(CodecError::Syntax),
+            },
+        }
+    }
+}
+
+impl Codec for PgTimeTz {
+    ghost agrees = { λ _. refl };
+}
+
+/// The time comes back in whole microseconds, where what is less is cut off, and the offset as it is.
+impl ReadBack for PgTimeTz {
+    ghost use Rattle.pgv_codec.specs.Back.{always};
+    ghost use Rattle.pgv_more.specs.TimeTzBack.{time_tz_back, time_tz_kept};
+
+    ghost kept = { time_tz_kept };
+
+    ghost fits = { always };
+
+    ghost reads_back = { time_tz_back };
+}
