@@ -2,8 +2,6 @@
 use Rattle.std.specs.Prelude.{◌≡◌, ℕ, Bool, true, false, ◌&&◌, cond, ℤ, List, ◌++◌, length, Option, Some, None, refl}
 use Rattle.std.specs.Int.{Width, w32, w64, cast_unsigned, cast_signed, from_be_bytes, to_be_bytes}
 use Rattle.std.proofs.Common.{ap, ◌∙◌}
-use Rattle.std.proofs.lemmas.Int.{to_z-of_z}
-use Rattle.std.proofs.lemmas.Nat.{from_be_bytes-to_be_bytes_4, from_be_bytes-to_be_bytes_8}
 use Rattle.pgv_types.specs.Ty.{Ty}
 use Rattle.pgv_types.specs.declared.oid.Oid.{Oid}
 use Rattle.pgv_buf.specs.Tokens.{bytes}
@@ -17,14 +15,7 @@ use Rattle.pgv_codec.specs.BackScalars.{part_is}
 use Rattle.pgv_codec.specs.Image.{Image, image_of}
 use Rattle.pgv_codec.specs.Intervals.{interval_image}
 use Rattle.pgv_value.specs.NumberBinary.{fits_signed}
-use Rattle.pgv_value.specs.OwnBytes.{is_signed, unsigned_fits}
-
--- a number is read of its own bytes
-eight_again : (v : ℤ) → fits_signed w64 v ≡ true → cast_signed w64 (from_be_bytes w64 (to_be_bytes w64 (cast_unsigned w64 v))) ≡ v
-eight_again v h = ap (cast_signed w64) (from_be_bytes-to_be_bytes_8 (cast_unsigned w64 v) (unsigned_fits w64 v h)) ∙ to_z-of_z w64 v (is_signed w64 v h)
-
-four_again : (v : ℤ) → fits_signed w32 v ≡ true → cast_signed w32 (from_be_bytes w32 (to_be_bytes w32 (cast_unsigned w32 v))) ≡ v
-four_again v h = ap (cast_signed w32) (from_be_bytes-to_be_bytes_4 (cast_unsigned w32 v) (unsigned_fits w32 v h)) ∙ to_z-of_z w32 v (is_signed w32 v h)
+use Rattle.pgv_value.specs.OwnBytes.{eight_again, four_again}
 
 parts : (a b : Bool) → (a && b) ≡ true → (a ≡ true) × (b ≡ true)
 parts true b e = (refl, e)

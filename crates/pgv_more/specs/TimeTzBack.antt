@@ -4,8 +4,7 @@ use Rattle.std.specs.Option.{option_and_then}
 use Rattle.std.specs.Int.{w32, w64, cast_signed, cast_unsigned, from_be_bytes, to_be_bytes}
 use Rattle.std.proofs.Common.{ap, ◌∙◌, arith}
 use Rattle.std.proofs.lemmas.Bool.{ltb-true, lt-ltb}
-use Rattle.std.proofs.lemmas.Int.{ints, to_z-of_z}
-use Rattle.std.proofs.lemmas.Nat.{from_be_bytes-to_be_bytes_4, from_be_bytes-to_be_bytes_8}
+use Rattle.std.proofs.lemmas.Int.{ints}
 use Rattle.jiff_core.specs.declared.civil.time.Time.{Time}
 use Rattle.jiff_core.specs.Time.{time_nanos}
 use Rattle.jiff_core.proofs.DateTimeLemmas.{time_nanos_bound}
@@ -13,9 +12,9 @@ use Rattle.pgv_types.specs.Ty.{Ty}
 use Rattle.pgv_types.specs.declared.oid.Oid.{Oid}
 use Rattle.pgv_buf.specs.Tokens.{bytes}
 use Rattle.pgv_value.specs.DateTimeBinary.{time_after}
-use Rattle.pgv_value.specs.Frame.{Part}
-use Rattle.pgv_value.specs.Numbers.{fits_signed}
-use Rattle.pgv_value.specs.OwnBytes.{is_signed, unsigned_fits}
+use Rattle.pgv_value.specs.FrameBinary.{Part}
+use Rattle.pgv_value.specs.NumberBinary.{fits_signed}
+use Rattle.pgv_value.specs.OwnBytes.{eight_again, four_again}
 use Rattle.pgv_value.specs.declared.value.PgValueFormat.TheVariants.{Binary}
 use Rattle.pgv_codec.specs.Back.{ReadsBack, always}
 use Rattle.pgv_codec.specs.BackParts.{guarded}
@@ -48,12 +47,6 @@ offset_room (pos n) h = let lt = ltb-true n 86_400 h in lt-ltb n 2_147_483_648 (
 offset_room (negsuc n) h = let lt = ltb-true (suc n) 86_400 h in lt-ltb n 2_147_483_648 (omega (arith, lt))
 
 -- ---- the two numbers are read of their bytes
-
-eight_again : (v : ℤ) → fits_signed w64 v ≡ true → cast_signed w64 (from_be_bytes w64 (to_be_bytes w64 (cast_unsigned w64 v))) ≡ v
-eight_again v h = ap (cast_signed w64) (from_be_bytes-to_be_bytes_8 (cast_unsigned w64 v) (unsigned_fits w64 v h)) ∙ to_z-of_z w64 v (is_signed w64 v h)
-
-four_again : (v : ℤ) → fits_signed w32 v ≡ true → cast_signed w32 (from_be_bytes w32 (to_be_bytes w32 (cast_unsigned w32 v))) ≡ v
-four_again v h = ap (cast_signed w32) (from_be_bytes-to_be_bytes_4 (cast_unsigned w32 v) (unsigned_fits w32 v h)) ∙ to_z-of_z w32 v (is_signed w32 v h)
 
 numbers_again : (micros west : ℤ) → fits_signed w64 micros ≡ true → fits_signed w32 west ≡ true → two_numbers (bytes_of_numbers micros west) ≡ Some (micros, west)
 numbers_again micros west a b = rw (eight_again micros a, four_again west b) refl

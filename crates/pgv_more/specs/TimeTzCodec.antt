@@ -9,9 +9,9 @@ use Rattle.pgv_buf.specs.Tokens.{bytes}
 use Rattle.pgv_codec.specs.Image.{Image, image_of}
 use Rattle.pgv_value.specs.DateTimeBinary.{time_after}
 use Rattle.pgv_value.specs.Interval.{eight_bytes, signed_four_bytes}
-use Rattle.pgv_value.specs.Numbers.{fits_signed}
+use Rattle.pgv_value.specs.NumberBinary.{fits_signed}
 use Rattle.pgv_value.specs.Reading.{Reading}
-use Rattle.pgv_value.specs.Scalars.{scalar, refusal}
+use Rattle.pgv_value.specs.ScalarGrammar.{scalar, refusal}
 use Rattle.pgv_value.specs.declared.error.CodecError.{CodecError}
 use Rattle.pgv_value.specs.declared.error.CodecError.TheVariants.{Short, Syntax, OffsetRange}
 use Rattle.pgv_value.specs.declared.value.PgValueFormat.{PgValueFormat}

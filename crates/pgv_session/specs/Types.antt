@@ -21,6 +21,7 @@ use Rattle.pgv_codec.specs.WithHint.{with_hint}
 use Rattle.pgv_more.specs.BitsBinary.{bits_image, bits_hint}
 use Rattle.pgv_more.specs.BitsCodec.{bits_reading}
 use Rattle.pgv_more.specs.MacAddressCodec.{mac_image, mac_reading}
+use Rattle.pgv_more.specs.TimeTzCodec.{time_tz_image, time_tz_reading}
 
 -- what is added of a value: its type and its frame, where it has one
 abbrev pub framed_as : Saying → Option Framed
@@ -58,6 +59,7 @@ types =
     (codes "time", row (builtin 1083) time_reading (with_hint (λ _. 8) time_image)) ∷
     (codes "timestamp", row (builtin 1114) date_time_reading (with_hint (λ _. 8) moment_image)) ∷
     (codes "timestamptz", row (builtin 1184) instant_reading (with_hint (λ _. 8) moment_image)) ∷
+    (codes "timetz", row (builtin 1266) time_tz_reading (with_hint (λ _. 12) time_tz_image)) ∷
     (codes "interval", row (builtin 1186) interval_reading (with_hint (λ _. 16) interval_image)) ∷
     (codes "varbit", row (builtin 1562) bits_reading (with_hint bits_hint bits_image)) ∷
     (codes "inet", row (builtin 869) network_reading (with_hint network_hint network_image)) ∷

@@ -15,7 +15,7 @@ ghost use Rattle.pgv_session.specs.Types.{framed_as, framed_by, row, row_named, 
 use crate::line::{Ask, is};
 use jiff::Timestamp;
 use jiff::civil::{Date, DateTime, Time};
-use pgv_more::{BitVec, MacAddress};
+use pgv_more::{BitVec, MacAddress, PgTimeTz};
 use pgv_text::IpNetwork;
 use pgv_types::Oid;
 use pgv_wire::{
@@ -47,6 +47,7 @@ pub fn respond_by(
         _ if is(name, "time") => respond_as::<Time>(alloc, arguments, ask),
         _ if is(name, "timestamp") => respond_as::<DateTime>(alloc, arguments, ask),
         _ if is(name, "timestamptz") => respond_as::<Timestamp>(alloc, arguments, ask),
+        _ if is(name, "timetz") => respond_as::<PgTimeTz>(alloc, arguments, ask),
         _ if is(name, "interval") => respond_as::<PgInterval>(alloc, arguments, ask),
         _ if is(name, "varbit") => respond_as::<BitVec>(alloc, arguments, ask),
         _ if is(name, "inet") => respond_as::<IpNetwork>(alloc, arguments, ask),

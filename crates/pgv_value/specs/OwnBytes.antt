@@ -2,10 +2,10 @@
 use mir.Val.{bits, hbits}
 use mir.ValLaws.{of_z_fits}
 use Rattle.std.specs.Prelude.{◌≡◌, ℕ, suc, ◌+◌, ◌<◌, ◌^◌, nat_lt, true, false, if◌then◌else◌, ℤ, pos, negsuc, ◌-ℤ◌, FitsSigned, Some, refl}
-use Rattle.std.specs.Int.{Width, w8, w16, w32, w64, cast_unsigned, to_be_bytes}
-use Rattle.std.proofs.Common.{ap, arith}
+use Rattle.std.specs.Int.{Width, w8, w16, w32, w64, cast_signed, cast_unsigned, from_be_bytes, to_be_bytes}
+use Rattle.std.proofs.Common.{ap, ◌∙◌, arith}
 use Rattle.std.proofs.lemmas.Bool.{ltb-true, lt-ltb, le-ltb}
-use Rattle.std.proofs.lemmas.Int.{ints}
+use Rattle.std.proofs.lemmas.Int.{ints, to_z-of_z}
 use Rattle.std.proofs.lemmas.Nat.{from_be_bytes-to_be_bytes_2, from_be_bytes-to_be_bytes_4, from_be_bytes-to_be_bytes_8}
 use Rattle.byteorder.specs.Endian.{big_number}
 use Rattle.pgv_value.specs.NumberBinary.{fits_signed, whole_number}
@@ -39,3 +39,10 @@ own_four_bytes v h = ap (λ (z : ℤ). Some z) (signed_again w32 v (big_number 4
 
 pub own_eight_bytes : (v : ℤ) → fits_signed w64 v ≡ true → whole_number (to_be_bytes w64 (cast_unsigned w64 v)) ≡ Some v
 own_eight_bytes v h = ap (λ (z : ℤ). Some z) (signed_again w64 v (big_number 8 (to_be_bytes w64 (cast_unsigned w64 v))) (omega arith) h (λ lt. let same = from_be_bytes-to_be_bytes_8 (cast_unsigned w64 v) lt in omega (arith, same)))
+
+-- A signed number is that of its own bytes.
+pub eight_again : (v : ℤ) → fits_signed w64 v ≡ true → cast_signed w64 (from_be_bytes w64 (to_be_bytes w64 (cast_unsigned w64 v))) ≡ v
+eight_again v h = ap (cast_signed w64) (from_be_bytes-to_be_bytes_8 (cast_unsigned w64 v) (unsigned_fits w64 v h)) ∙ to_z-of_z w64 v (is_signed w64 v h)
+
+pub four_again : (v : ℤ) → fits_signed w32 v ≡ true → cast_signed w32 (from_be_bytes w32 (to_be_bytes w32 (cast_unsigned w32 v))) ≡ v
+four_again v h = ap (cast_signed w32) (from_be_bytes-to_be_bytes_4 (cast_unsigned w32 v) (unsigned_fits w32 v h)) ∙ to_z-of_z w32 v (is_signed w32 v h)

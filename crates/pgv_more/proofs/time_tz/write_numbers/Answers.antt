@@ -4,7 +4,7 @@ use Rattle.std.specs.Int.{Width, w32, w64, cast_signed, cast_unsigned, to_be_byt
 use Rattle.std.proofs.lemmas.Bool.{lt-ltb}
 use Rattle.std.proofs.lemmas.Int.{to_z-of_z}
 use Rattle.pgv_buf.specs.Tokens.{bytes}
-use Rattle.pgv_value.specs.Numbers.{fits_signed}
+use Rattle.pgv_value.specs.NumberBinary.{fits_signed}
 use Rattle.pgv_codec.specs.Image.{image_of}
 use Rattle.pgv_codec.specs.PlainBytes.{appended_parts}
 use Rattle.pgv_more.specs.TimeTzCodec.{image_of_numbers}
