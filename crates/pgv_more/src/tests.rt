@@ -3,14 +3,16 @@
 mod server;
 
 use crate::{BitVec, MacAddress, PgTimeTz};
-use jiff::SignedDuration;
-use jiff::civil::Time;
+use jiff::civil::{Date, DateTime, Time};
 use jiff::tz::Offset;
+use jiff::{SignedDuration, Timestamp};
 use pgv_codec::{Decode, Encode, PgArgumentBuffer, PgHasArrayType, Type};
+use pgv_text::IpNetwork;
 use pgv_types::{PgType, PgTypeInfo};
 use pgv_value::{CodecError, PgInterval, PgValueFormat, PgValueRef};
 use server::{INTERVALS, VALUES};
 use std::alloc::{AllocError, Global};
+use std::net::IpAddr;
 use std::process::Abort;
 use std::test::Fail;
 use std::time::Duration;
@@ -224,5 +226,53 @@ fn times_with_an_offset(rt: HostRuntime) -> Result<(), Fail> {
         offset: Offset::MAX,
     };
     compare(&rt, written(alloc, &far), Err(6));
+    Ok(())
+}
+
+#[test]
+fn times_of_2000(rt: HostRuntime) -> Result<(), Fail> {
+    let alloc = rt.alloc();
+    let mut out = PgArgumentBuffer::new(alloc);
+    let date = Date::new(1999, 12, 31).map_err(|_| "no date")?;
+    let at = DateTime::new(1999, 12, 31, 23, 59, 59, 999_999_500).map_err(|_| "no date-time")?;
+    let _ = date.encode_by_ref(&mut out).map_err(|_| "refused")?;
+    let _ = at.encode_by_ref(&mut out).map_err(|_| "refused")?;
+    assert_eq!(rt;
+        out.as_slice(),
+        [255, 255, 255, 255, 0, 0, 0, 0, 0, 0, 0, 0].as_slice()
+    );
+    let kept = DateTime::decode(
+        alloc,
+        PgValueRef::new(
+            Some(&out.as_slice()[4..]),
+            DateTime::type_info(),
+            PgValueFormat::Binary,
+        ),
+    );
+    assert!(rt; kept.ok() == DateTime::new(2000, 1, 1, 0, 0, 0, 0).ok());
+    read::<Date>(&rt, alloc, "ffffffff", Ok("ffffffff"))?;
+    read::<Time>(&rt, alloc, "000000141dd76000", Ok("0000000000000000"))?;
+    read_text::<Timestamp>(&rt, alloc, "2000-01-01 02:00:01+02", Ok("00000000000f4240"));
+    Ok(())
+}
+
+#[test]
+fn networks_and_addresses(rt: HostRuntime) -> Result<(), Fail> {
+    let alloc = rt.alloc();
+    read_text::<IpNetwork>(&rt, alloc, "192.168.0.0/24", Ok("02180004c0a80000"));
+    read_text::<IpAddr>(&rt, alloc, "192.168.0.0/24", Err(33));
+    read::<IpAddr>(&rt, alloc, "02180004c0a80000", Err(33))?;
+    read_text::<IpAddr>(
+        &rt,
+        alloc,
+        "::1",
+        Ok("0380001000000000000000000000000000000001"),
+    );
+    read::<IpNetwork>(
+        &rt,
+        alloc,
+        "0380001000000000000000000000000000000001",
+        Ok("0380001000000000000000000000000000000001"),
+    )?;
     Ok(())
 }

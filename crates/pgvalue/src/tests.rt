@@ -75,6 +75,7 @@ fn dates_times_networks_and_bits(rt: HostRuntime) -> Result<(), Fail> {
             "0000000400002279000000080000000000000000000000080000000\
 06b49d200000000080000000000000000",
         ),
+        ("add timetz 12:30:00+02", "$5"),
         ("add date 2023-02-29", "refused C29"),
         ("add time 24:00:00.0", "refused C29"),
         ("add time 23:59:60", "refused C29"),
@@ -91,7 +92,12 @@ fn dates_times_networks_and_bits(rt: HostRuntime) -> Result<(), Fail> {
         ("read inet 022100040a000001", "refused C32"),
         ("read inet 042000040a000001", "refused C31"),
         ("add macaddr 08-00-2b:01-02-03", "refused C29"),
-        ("add varbit 101", "$5"),
+        (
+            "read timetz 0000000a7a358200ffffe3e0",
+            "0000000c0000000a7a358200ffffe3e0",
+        ),
+        ("read timetz 000000000000000000015180", "refused C6"),
+        ("add varbit 101", "$6"),
         ("read varbit 00000003ff", "0000000500000003e0"),
     ];
     assert!(rt; answered(rt.alloc(), &session)?);
