@@ -7,6 +7,7 @@ ghost use Rattle.pgv_codec.specs.Outcome.{Appended, Encoded};
 ghost use Rattle.pgv_codec.specs.WithHint.{with_hint};
 ghost use Rattle.pgv_types.specs.Relations.{softly};
 ghost use Rattle.pgv_types.specs.Ty.{builtin};
+ghost use Rattle.pgv_text.specs.DateTimeText.{time_tz_value};
 ghost use Rattle.pgv_value.specs.DateTimeBinary.{time_after};
 ghost use Rattle.pgv_value.specs.Interval.{eight_bytes, signed_four_bytes};
 ghost use Rattle.pgv_value.specs.Reading.{AnswersExactly};
@@ -117,6 +118,14 @@ fn of_bytes(form: &[u8]) -> Result<PgTimeTz, CodecError>
     }
 }
 
+/// The time and the offset of a text.
+fn of_text(text: &str) -> Option<PgTimeTz>
+    ensures { option_map time_tz_numbers result ≡ time_tz_value text.now }
+{
+    let (time, offset) = time_tz(text)?;
+    Some(PgTimeTz { time, offset })
+}
+
 /// Appends the microseconds of the day and the seconds west of UTC.
 fn write_numbers(micros: i64, west: i32, out: &mut PgArgumentBuffer) -> Result<IsNull, CodecError>
     ensures ok { IfOk result (λ n. Encoded n (image_of_numbers micros (Some west)) out.old out.new) }
@@ -202,10 +211,7 @@ impl Decode for PgTimeTz {
     fn decode(_alloc: Global, value: PgValueRef<'_>) -> Result<PgTimeTz, CodecError> {
         match value.format() {
             PgValueFormat::Binary => of_bytes(value.as_bytes()?),
-            PgValueFormat::Text => match time_tz(value.as_str()?) {
-                Some((time, offset)) => Ok(PgTimeTz { time, offset }),
-                None => Err(CodecError::Syntax),
-            },
+            PgValueFormat::Text => of_text(value.as_str()?).ok_or(CodecError::Syntax),
         }
     }
 }
