@@ -59,7 +59,7 @@ date_back d i t p os e whole small fit =
     let n = number_part w32 (days_of (epoch_day d)) i p os (own_four_bytes (days_of (epoch_day d))) e in
     rw (n.part, n.said, n.room) (day_again d)
 
-time_again : (t : Time) → time_after (pos (time_nanos t / 1000)) ≡ time_nanos (time_kept t)
+pub time_again : (t : Time) → time_after (pos (time_nanos t / 1000)) ≡ time_nanos (time_kept t)
 time_again t = let lt = time_nanos_bound t in omega (arith, lt)
 
 pub time_back : ReadsBack {A = Time} (λ v. time_image (time_nanos v)) time_reading (λ v. time_nanos (time_kept v)) always

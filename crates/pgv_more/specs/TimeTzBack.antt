@@ -19,6 +19,7 @@ use Rattle.pgv_value.specs.declared.value.PgValueFormat.TheVariants.{Binary}
 use Rattle.pgv_codec.specs.Back.{ReadsBack, always}
 use Rattle.pgv_codec.specs.BackParts.{guarded}
 use Rattle.pgv_codec.specs.BackScalars.{part_is}
+use Rattle.pgv_codec.specs.DateTimeBack.{time_again}
 use Rattle.pgv_codec.specs.DateTimeKept.{time_kept}
 use Rattle.pgv_codec.specs.Image.{Image, image_of}
 use Rattle.pgv_codec.specs.Writing.{written_part}
@@ -70,9 +71,6 @@ written micros seconds i p os e =
     record { part = part_is (bytes_of_numbers micros (neg_ℤ seconds)) i p os g.1; room = g.0; small = t.0 }
 
 -- ---- read back
-
-time_again : (t : Time) → time_after (pos (time_nanos t / 1000)) ≡ time_nanos (time_kept t)
-time_again t = let lt = time_nanos_bound t in omega (arith, lt)
 
 again : (v : PgTimeTz) → fits_signed w64 (pos (time_nanos v.time / 1000)) ≡ true → nat_lt (unsigned_abs v.offset.seconds) 86_400 ≡ true →
     time_tz_in_binary (bytes_of_numbers (pos (time_nanos v.time / 1000)) (neg_ℤ v.offset.seconds)) ≡ Some (time_tz_numbers (time_tz_kept v))

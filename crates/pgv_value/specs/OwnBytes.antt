@@ -14,6 +14,10 @@ pub is_signed : (w : Width) (v : ℤ) → fits_signed w v ≡ true → FitsSigne
 is_signed w (pos n) h = record { sfits = ltb-true n (2 ^ hbits w) h }
 is_signed w (negsuc n) h = record { sfits = ltb-true n (2 ^ hbits w) h }
 
+pub signed_fits : (w : Width) (v : ℤ) → FitsSigned w v → fits_signed w v ≡ true
+signed_fits w (pos n) f = lt-ltb n (2 ^ hbits w) f.sfits
+signed_fits w (negsuc n) f = lt-ltb n (2 ^ hbits w) f.sfits
+
 pub unsigned_fits : (w : Width) (v : ℤ) → fits_signed w v ≡ true → cast_unsigned w v < 2 ^ bits w
 unsigned_fits w v h = (of_z_fits w v (is_signed w v h)).fits
 

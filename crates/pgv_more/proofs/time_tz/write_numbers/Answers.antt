@@ -1,18 +1,13 @@
-use mir.Val.{SFits, hbits}
+use mir.Val.{SFits}
 use Rattle.std.proofs.Common.{◌≡◌, ◌∙◌, ◌++◌, ◌^◌, true, ℕ, ℤ, pos, negsuc, List, Some, rules, refl, ap}
-use Rattle.std.specs.Int.{Width, w32, w64, cast_signed, cast_unsigned, to_be_bytes}
-use Rattle.std.proofs.lemmas.Bool.{lt-ltb}
+use Rattle.std.specs.Int.{w32, w64, cast_signed, cast_unsigned, to_be_bytes}
 use Rattle.std.proofs.lemmas.Int.{to_z-of_z}
 use Rattle.pgv_buf.specs.Tokens.{bytes}
-use Rattle.pgv_value.specs.NumberBinary.{fits_signed}
+use Rattle.pgv_value.specs.OwnBytes.{signed_fits}
 use Rattle.pgv_codec.specs.Image.{image_of}
 use Rattle.pgv_codec.specs.PlainBytes.{appended_parts}
 use Rattle.pgv_more.specs.TimeTzCodec.{image_of_numbers}
 use Rattle.pgv_more.proofs.time_tz.write_numbers.Goals as goal
-
-room : (w : Width) (v : ℤ) → SFits w v → fits_signed w v ≡ true
-room w (pos n) f = lt-ltb n (2 ^ hbits w) f.sfits
-room w (negsuc n) f = lt-ltb n (2 ^ hbits w) f.sfits
 
 image_is : (micros west : ℤ) (a b : List ℕ) → SFits w64 micros → SFits w32 west →
     a ≡ to_be_bytes w64 (cast_unsigned w64 (cast_signed w64 (cast_unsigned w64 micros))) → b ≡ to_be_bytes w32 (cast_unsigned w32 (cast_signed w32 (cast_unsigned w32 west))) →
@@ -20,7 +15,7 @@ image_is : (micros west : ℤ) (a b : List ℕ) → SFits w64 micros → SFits w
 image_is micros west a b f g e k =
     let first = e ∙ ap (λ (z : ℤ). to_be_bytes w64 (cast_unsigned w64 z)) (to_z-of_z w64 micros f) in
     let second = k ∙ ap (λ (z : ℤ). to_be_bytes w32 (cast_unsigned w32 z)) (to_z-of_z w32 west g) in
-    rw (room w64 micros f, first, second) refl
+    rw (signed_fits w64 micros f, first, second) refl
 
 pub returns-clause-ok : goal.returns-clause-ok
 returns-clause-ok c =

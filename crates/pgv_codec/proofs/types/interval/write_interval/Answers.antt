@@ -1,19 +1,14 @@
-use mir.Val.{SFits, hbits}
+use mir.Val.{SFits}
 use Rattle.std.proofs.Common.{◌≡◌, ◌∙◌, ◌++◌, ◌^◌, true, ℕ, ℤ, pos, negsuc, List, Some, rules, refl, ap}
-use Rattle.std.specs.Int.{Width, w32, w64, cast_signed, cast_unsigned, to_be_bytes}
+use Rattle.std.specs.Int.{w32, w64, cast_signed, cast_unsigned, to_be_bytes}
 use Rattle.std.proofs.lemmas.Int.{to_z-of_z}
-use Rattle.std.proofs.lemmas.Bool.{lt-ltb}
 use Rattle.pgv_buf.specs.Tokens.{bytes}
 use Rattle.pgv_value.specs.declared.interval.PgInterval.{PgInterval}
-use Rattle.pgv_value.specs.NumberBinary.{fits_signed}
+use Rattle.pgv_value.specs.OwnBytes.{signed_fits}
 use Rattle.pgv_codec.specs.Image.{image_of}
 use Rattle.pgv_codec.specs.Intervals.{interval_image}
 use Rattle.pgv_codec.specs.PlainBytes.{appended_parts}
 use Rattle.pgv_codec.proofs.types.interval.write_interval.Goals as goal
-
-room : (w : Width) (v : ℤ) → SFits w v → fits_signed w v ≡ true
-room w (pos n) f = lt-ltb n (2 ^ hbits w) f.sfits
-room w (negsuc n) f = lt-ltb n (2 ^ hbits w) f.sfits
 
 image_is : (i : PgInterval) (a b d : List ℕ) → SFits w64 i.microseconds → SFits w32 i.days → SFits w32 i.months →
     a ≡ to_be_bytes w64 (cast_unsigned w64 (cast_signed w64 (cast_unsigned w64 i.microseconds))) → b ≡ to_be_bytes w32 (cast_unsigned w32 (cast_signed w32 (cast_unsigned w32 i.days))) →
@@ -23,7 +18,7 @@ image_is i a b d f g h e k l =
     let first = e ∙ ap (λ (z : ℤ). to_be_bytes w64 (cast_unsigned w64 z)) (to_z-of_z w64 i.microseconds f) in
     let second = k ∙ ap (λ (z : ℤ). to_be_bytes w32 (cast_unsigned w32 z)) (to_z-of_z w32 i.days g) in
     let third = l ∙ ap (λ (z : ℤ). to_be_bytes w32 (cast_unsigned w32 z)) (to_z-of_z w32 i.months h) in
-    rw (room w64 i.microseconds f, room w32 i.days g, room w32 i.months h, first, second, third) refl
+    rw (signed_fits w64 i.microseconds f, signed_fits w32 i.days g, signed_fits w32 i.months h, first, second, third) refl
 
 pub returns-clause-ok : goal.returns-clause-ok
 returns-clause-ok c =
