@@ -17,7 +17,7 @@ use Rattle.jiff_core.proofs.DateTimeLemmas.{time_nanos_bound}
 use Rattle.pgv_value.specs.DateTimeBinary.{nanos_after}
 use Rattle.pgv_codec.specs.DateTimeBinary.{micros_of}
 
--- ---- a time of so many nanoseconds
+-- ---- a time of a number of nanoseconds
 
 pub hour_fits : (n : ℕ) → n < 86_400_000_000_000 → n / 3_600_000_000_000 < 24
 hour_fits n lt = omega arith

@@ -188,7 +188,7 @@ impl PgArgumentBuffer {
         Ok(())
     }
 
-    // A number as four bytes.
+    /// A number as four bytes.
     pub(crate) fn push_u32(&mut self, value: u32) -> Result<(), CodecError>
         ensures ok { OnOk result (self.new ≡ self.old ++ blank (bytes (be4 value))) }
         ensures number { value < 4294967296 }
@@ -198,7 +198,7 @@ impl PgArgumentBuffer {
         self.extend_from_slice(&number)
     }
 
-    // A type, as an element's or a field's is written.
+    /// A type, as an element's or a field's is written.
     pub(crate) fn push_type(&mut self, written: PgTypeInfo) -> Result<(), CodecError>
         ensures ok { OnOk result (AppendedAll (typed written) self.old self.new) }
         ensures err { IfErr result (λ e. (e ≡ Memory) × (self.new ≡ self.old)) }
@@ -224,7 +224,7 @@ impl PgArgumentBuffer {
         self.tokens.back(mark);
     }
 
-    // A number in place of four bytes.
+    /// A number in place of four bytes.
     pub(crate) fn put_u32(&mut self, mark: Mark, value: u32)
         requires { (front : List Cell) × (xs : List ℕ) × (rest : List Cell) × (self.old ≡ front ++ fixed_bytes xs ++ rest) × (length xs ≡ 4) × (mark ≡ mark_of front) }
         ensures { (front : List Cell) (xs : List ℕ) (rest : List Cell) → self.old ≡ front ++ fixed_bytes xs ++ rest → length xs ≡ 4 → mark ≡ mark_of front → self.new ≡ front ++ fixed_bytes (be4 value) ++ rest }

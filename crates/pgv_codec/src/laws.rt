@@ -56,7 +56,7 @@ pub fn read_back<T: ReadBack>()
     ensures { ReadsBack T.image T.reading (λ v. T.meaning (T.kept v)) T.fits }
 {}
 
-// An OID is a number of 32 bits.
+/// An OID is a number of 32 bits.
 fn oid_fits(oid: pgv_types::Oid)
     ensures { oid.0 < 2 ^ 32 }
 {

@@ -41,7 +41,7 @@ pub fn array_head_of<'a>(
     }
 }
 
-// The head after the number of dimensions, where that is one.
+/// The head after the number of dimensions, where that is one.
 #[tactic(auto, unfolding(crate::specs::ArrayGrammar::one_dimension))]
 fn one_dimension_of<'a>(
     type_info: &PgTypeInfo,
@@ -68,7 +68,7 @@ fn one_dimension_of<'a>(
     })
 }
 
-// The type of the elements: the built-in type of the OID, else the element of the array's type.
+/// The type of the elements: the built-in type of the OID, else the element of the array's type.
 fn element_type_of(type_info: &PgTypeInfo, oid: Oid) -> Result<PgTypeInfo, CodecError>
     ensures { Answers (λ t. t) (element_type type_info.now oid.0) result }
 {

@@ -31,7 +31,7 @@ pub fn field_head_of<'r>(
     Ok((field_type_of(type_info, place, Oid(oid))?, rest))
 }
 
-// The type of the field at a place that has this OID.
+/// The type of the field at a place that has this OID.
 fn field_type_of(type_info: &PgTypeInfo, place: usize, oid: Oid) -> Result<PgTypeInfo, CodecError>
     ensures { Answers (λ t. t) (field_type type_info.now place oid.0) result }
 {
@@ -47,7 +47,7 @@ fn field_type_of(type_info: &PgTypeInfo, place: usize, oid: Oid) -> Result<PgTyp
     }
 }
 
-// The type of a field of a record whose type says nothing of its fields.
+/// The type of a field of a record whose type says nothing of its fields.
 fn by_own_oid_of(own: Oid, oid: Oid) -> Result<PgTypeInfo, CodecError>
     ensures { Answers (λ t. t) (by_own_oid own.0 oid.0) result }
 {
@@ -60,7 +60,7 @@ fn by_own_oid_of(own: Oid, oid: Oid) -> Result<PgTypeInfo, CodecError>
     }
 }
 
-// The type of the field at a place of a composite type, if it has this OID.
+/// The type of the field at a place of a composite type, if it has this OID.
 fn composite_field(
     fields: &[(RcStr, PgTypeInfo)],
     place: usize,
@@ -77,7 +77,7 @@ fn composite_field(
     Ok(type_info.clone()?)
 }
 
-// Whether a type is known to have this OID.
+/// Whether a type is known to have this OID.
 fn has_oid(type_info: &PgTypeInfo, oid: Oid) -> bool
     ensures { result ≡ is_oid (oid_of type_info.now) oid.0 }
 {

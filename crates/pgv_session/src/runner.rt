@@ -52,7 +52,7 @@ pub fn run<R: BufRead, W: Write>(
     }
 }
 
-// The answers of all lines, which a writer may still hold.
+/// The answers of all lines, which a writer may still hold.
 fn answer_lines<R: BufRead, W: Write>(
     alloc: Global,
     reader: &mut R,

@@ -1,4 +1,4 @@
--- From what is computed of a text to what a reader promises.
+-- From what is computed of a text to the clauses of a reader.
 use Rattle.std.proofs.Common.{◌≡◌, ◌↔◌, ℕ, List, Option, Some, None, IfSome, IfNone, sym, ◌∙◌}
 use Rattle.std.specs.Option.{option_map}
 use Rattle.pgv_text.specs.declared.scanner.TextForm.{TextForm}

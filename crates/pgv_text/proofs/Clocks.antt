@@ -185,9 +185,9 @@ unfolding midnight
 time_at text rest nanos None e f =
     let (front, time, split, is, same) = clock_is text rest nanos f in
     (front, time, split, inl is, same)
-time_at text rest nanos (Some behind) e f =
+time_at text rest nanos (Some left) e f =
     let (nanos_is, rest_is) = same_parts _ _ _ _ f in
-    (codes "24:00:00", midnight, midnight_is text behind e ∙ ap (λ t. codes "24:00:00" ++ t) rest_is, inr (refl, refl), nanos_is)
+    (codes "24:00:00", midnight, midnight_is text left e ∙ ap (λ t. codes "24:00:00" ++ t) rest_is, inr (refl, refl), nanos_is)
 
 pub time_is : (text rest : List ℕ) (nanos : ℕ) → time_front text ≡ found nanos rest → HasTime text rest nanos
 time_is text rest nanos e = time_at text rest nanos (after_midnight text) refl e

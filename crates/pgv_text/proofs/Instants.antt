@@ -40,15 +40,15 @@ HasCivil text rest nanos = (front : List ℕ) × (at : DateTime) × (text ≡ fr
 civil_is : (text rest : List ℕ) (nanos : ℤ) → civil_front text ≡ found nanos rest → HasCivil text rest nanos
 civil_is text rest nanos e =
     and_then_some _ (date_front text) _ e λ day read_day e₁.
-    and_then_some _ (after 32 day.1) _ e₁ λ behind space e₂.
-    and_then_some _ (clock_front behind) _ e₂ λ clock read_clock e₃.
+    and_then_some _ (after 32 day.1) _ e₁ λ left space e₂.
+    and_then_some _ (clock_front left) _ e₂ λ clock read_clock e₃.
     let (nanos_is, rest_is) = same_parts _ _ _ _ e₃ in
     let (date_text, date, date_split, is_date, date_same) = date_is text day.1 day.0 read_day in
-    let (clock_text, time, clock_split, is_clock, time_same) = clock_is behind clock.1 clock.0 read_clock in
+    let (clock_text, time, clock_split, is_clock, time_same) = clock_is left clock.1 clock.0 read_clock in
     let at : DateTime = record { date = date; time = time } in
     let value : civil_nanos at ≡ nanos_at day.0 clock.0 = civil_nanos-parts at ∙ ap (λ d. nanos_at d (time_nanos time)) date_same ∙ ap (λ n. nanos_at day.0 n) time_same in
     let split : text ≡ (date_text ++ 32 ∷ clock_text) ++ rest =
-    date_split ∙ ap (λ t. date_text ++ t) (after_is 32 day.1 behind space ∙ ap (λ t. 32 ∷ t) (clock_split ∙ ap (λ t. clock_text ++ t) rest_is)) ∙ sym (append_assoc date_text (32 ∷ clock_text) rest) in
+    date_split ∙ ap (λ t. date_text ++ t) (after_is 32 day.1 left space ∙ ap (λ t. 32 ∷ t) (clock_split ∙ ap (λ t. clock_text ++ t) rest_is)) ∙ sym (append_assoc date_text (32 ∷ clock_text) rest) in
     (date_text ++ 32 ∷ clock_text, at, split, (date_text, clock_text, refl, is_date, is_clock), value ∙ nanos_is)
 
 -- ---- date-times

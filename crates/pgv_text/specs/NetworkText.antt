@@ -37,7 +37,7 @@ IsNetworkText text network =
 
 -- ---- the same, computed
 
--- The address and the prefix, if the address has so many bits.
+-- The address and the prefix, if the address has as many bits.
 abbrev pub network_with : IpAddr → ℕ → Option Network
 network_with address prefix = if nat_le prefix (full_prefix address) then Some (record { address = address; prefix = prefix }) else None
 

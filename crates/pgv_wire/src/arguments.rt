@@ -166,7 +166,7 @@ impl PgArguments {
         self.buffer.hole_types()
     }
 
-    // How many holes there are.
+    /// How many holes there are.
     fn holes(&self) -> usize
         ensures { result ≡ hole_count (all_tokens self.now) }
     {

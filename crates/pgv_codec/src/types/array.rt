@@ -40,7 +40,7 @@ pub fn encode_array<T: Encode + Type>(
     Ok(IsNull::No)
 }
 
-// The type of the elements, as an array writes it.
+/// The type of the elements, as an array writes it.
 fn type_of_elements<T: Encode + Type>(values: &[T]) -> Result<PgTypeInfo, AllocError>
     ensures { IfOk result (λ t. t ≡ written_element_type T.produced T.info values.now) }
 {
@@ -60,7 +60,7 @@ pub fn type_of_value<T: Encode + Type>(value: &T) -> Result<PgTypeInfo, AllocErr
     }
 }
 
-// What stands before the elements.
+/// What stands before the elements.
 fn write_header(
     out: &mut PgArgumentBuffer,
     element: PgTypeInfo,
@@ -78,7 +78,7 @@ fn write_header(
     Ok(())
 }
 
-// A frame for each element.
+/// A frame for each element.
 fn write_frames<T: Encode>(values: &[T], out: &mut PgArgumentBuffer) -> Result<(), CodecError>
     ensures ok { OnOk result (AppendedAll (written_frames T.hint T.image values.now) out.old out.new) }
     ensures err { IfErr result (λ e. Refused e (written_frames T.hint T.image values.now)) }

@@ -12,7 +12,7 @@ use pgv_value::{CodecError, PgInterval, PgValueRef, read_interval};
 use std::alloc::{AllocError, Global};
 use std::time::Duration;
 
-// Appends an interval.
+/// Appends an interval.
 fn write_interval(interval: PgInterval, out: &mut PgArgumentBuffer) -> Result<IsNull, CodecError>
     ensures ok { IfOk result (λ n. Encoded n (interval_image interval) out.old out.new) }
     ensures err { IfErr result (λ e. Refused e (interval_image interval)) }
@@ -27,6 +27,7 @@ fn write_interval(interval: PgInterval, out: &mut PgArgumentBuffer) -> Result<Is
     Ok(IsNull::No)
 }
 
+/// `interval` (OID 1186), read under `interval` and domains over it.
 impl Type for PgInterval {
     ghost use Rattle.pgv_types.specs.Relations.{softly};
     ghost use Rattle.pgv_types.specs.Ty.{builtin};
@@ -44,6 +45,7 @@ impl Type for PgInterval {
     }
 }
 
+/// An array of them is `interval[]` (OID 1187).
 impl PgHasArrayType for PgInterval {
     ghost use Rattle.pgv_types.specs.Relations.{softly};
     ghost use Rattle.pgv_types.specs.Ty.{builtin};
@@ -61,7 +63,8 @@ impl PgHasArrayType for PgInterval {
     }
 }
 
-/// An interval is written as its microseconds, days and months.
+/// Written as its microseconds in eight bytes, its days in four and its months in four: an hour as
+/// `00000000d693a4000000000000000000`.
 impl Encode for PgInterval {
     ghost use Rattle.pgv_codec.specs.Intervals.{interval_image};
 
@@ -82,7 +85,7 @@ impl Encode for PgInterval {
     }
 }
 
-/// An interval, as [`read_interval`] reads it.
+/// An `interval`, as [`read_interval`] reads it: `00000000d693a4000000000000000000` is an hour. It has no text (C18).
 impl Decode for PgInterval {
     ghost use Rattle.std.specs.Prelude.{false, Some};
     ghost use Rattle.pgv_value.specs.Interval.{interval_reading, interval_refusal};
@@ -107,6 +110,7 @@ impl Decode for PgInterval {
     }
 }
 
+/// An interval comes back as it is.
 impl ReadBack for PgInterval {
     ghost use Rattle.pgv_codec.specs.Back.{always};
     ghost use Rattle.pgv_codec.specs.IntervalsBack.{interval_back};
@@ -124,6 +128,7 @@ impl Codec for PgInterval {
     ghost agrees = { λ _. refl };
 }
 
+/// `interval` (OID 1186), as [`PgInterval`] is. It is only written.
 impl Type for Duration {
     ghost use Rattle.pgv_types.specs.Relations.{softly};
     ghost use Rattle.pgv_types.specs.Ty.{builtin};
@@ -141,6 +146,7 @@ impl Type for Duration {
     }
 }
 
+/// An array of them is `interval[]` (OID 1187).
 impl PgHasArrayType for Duration {
     ghost use Rattle.pgv_types.specs.Relations.{softly};
     ghost use Rattle.pgv_types.specs.Ty.{builtin};
@@ -183,6 +189,7 @@ impl Encode for Duration {
     }
 }
 
+/// `interval` (OID 1186), as [`PgInterval`] is. It is only written.
 impl Type for SignedDuration {
     ghost use Rattle.pgv_types.specs.Relations.{softly};
     ghost use Rattle.pgv_types.specs.Ty.{builtin};
@@ -200,6 +207,7 @@ impl Type for SignedDuration {
     }
 }
 
+/// An array of them is `interval[]` (OID 1187).
 impl PgHasArrayType for SignedDuration {
     ghost use Rattle.pgv_types.specs.Relations.{softly};
     ghost use Rattle.pgv_types.specs.Ty.{builtin};

@@ -17,7 +17,7 @@ use pgv_value::{CodecError, PgValueRef, read_ip_address};
 use std::alloc::{AllocError, Global};
 use std::net::IpAddr;
 
-// The number of all bits of an address.
+/// The number of all bits of an address.
 fn full_prefix(address: IpAddr) -> u8
     ensures { result ≡ text.full_prefix address }
 {

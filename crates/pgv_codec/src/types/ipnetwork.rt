@@ -20,7 +20,7 @@ use pgv_value::{CodecError, PgValueRef, read_ip_network};
 use std::alloc::{AllocError, Global};
 use std::net::IpAddr;
 
-// Whether values of this type are read as networks and addresses.
+/// Whether values of this type are read as networks and addresses.
 pub(crate) fn is_network(type_info: &PgTypeInfo) -> bool
     ensures { result ≡ spec.is_network type_info.now }
 {
@@ -28,7 +28,7 @@ pub(crate) fn is_network(type_info: &PgTypeInfo) -> bool
         || type_info.type_compatible(&PgTypeInfo(PgType::Inet))
 }
 
-// Whether it is an array of such a type.
+/// Whether it is an array of such a type.
 pub(crate) fn is_network_array(type_info: &PgTypeInfo) -> bool
     ensures { result ≡ spec.is_network_array type_info.now }
 {
@@ -36,7 +36,7 @@ pub(crate) fn is_network_array(type_info: &PgTypeInfo) -> bool
         || type_info.type_compatible(&PgTypeInfo(PgType::InetArray))
 }
 
-// How many bytes an address is written as.
+/// How many bytes an address is written as.
 pub(crate) fn written_size(address: IpAddr) -> usize
     ensures { result ≡ address_hint address }
 {
@@ -46,7 +46,7 @@ pub(crate) fn written_size(address: IpAddr) -> usize
     }
 }
 
-// Appends four bytes and the octets after them.
+/// Appends four bytes and the octets after them.
 fn write_octets(
     front: &[u8; 4],
     octets: &[u8],
@@ -61,7 +61,7 @@ fn write_octets(
     Ok(IsNull::No)
 }
 
-// Appends an address and the number of bits that name its network.
+/// Appends an address and the number of bits that name its network.
 pub(crate) fn write_network(
     address: IpAddr,
     prefix: u8,

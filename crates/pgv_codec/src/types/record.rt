@@ -92,7 +92,7 @@ impl<'a> PgRecordEncoder<'a> {
     }
 }
 
-// One field: its type, and its frame.
+/// One field: its type, and its frame.
 fn encode_field<T: Encode + Type>(out: &mut PgArgumentBuffer, value: &T) -> Result<(), CodecError>
     ensures ok { OnOk result (AppendedAll (field T.hint T.image T.produced T.info value.now) out.old out.new) }
     ensures err { IfErr result (λ e. Refused e (field T.hint T.image T.produced T.info value.now)) }

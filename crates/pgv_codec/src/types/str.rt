@@ -20,7 +20,7 @@ pub fn encode_text(text: &str, out: &mut PgArgumentBuffer) -> Result<IsNull, Cod
     Ok(IsNull::No)
 }
 
-// Whether values of this type are read as texts.
+/// Whether values of this type are read as texts.
 fn is_text(type_info: &PgTypeInfo) -> bool
     ensures { result ≡ is_text_type type_info.now }
 {
@@ -32,7 +32,7 @@ fn is_text(type_info: &PgTypeInfo) -> bool
         || type_info.type_compatible(&PgTypeInfo::with_name("citext"))
 }
 
-// Whether it is an array of such a type.
+/// Whether it is an array of such a type.
 fn is_text_array(type_info: &PgTypeInfo) -> bool
     ensures { result ≡ is_text_array_type type_info.now }
 {
