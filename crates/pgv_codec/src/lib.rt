@@ -54,3 +54,4 @@ pub use traits::{Codec, Decode, Encode, PgHasArrayType, ReadBack, Type};
 pub use types::array::{encode_array, type_of_value};
 pub use types::record::{PgRecordDecoder, PgRecordEncoder};
 pub use types::str::encode_text;
+pub use types::time::micros_of_day;

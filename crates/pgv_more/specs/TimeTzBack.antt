@@ -1,17 +1,13 @@
 -- What is written of a time of day with an offset is read back, in whole microseconds; its offset comes back as it is.
-use Rattle.std.specs.Prelude.{◌≡◌, ℕ, zero, suc, ◌/◌, nat_lt, Bool, true, false, if◌then◌else◌, ℤ, pos, negsuc, neg_ℤ, unsigned_abs, List, Option, Some, None, refl}
+use Rattle.std.specs.Prelude.{◌≡◌, zero, suc, ◌/◌, nat_lt, Bool, true, false, if◌then◌else◌, ℤ, pos, negsuc, neg_ℤ, unsigned_abs, List, Option, Some, None, refl}
 use Rattle.std.specs.Option.{option_and_then}
-use Rattle.std.specs.Int.{w32, w64, cast_signed, cast_unsigned, from_be_bytes, to_be_bytes}
+use Rattle.std.specs.Int.{w32, w64}
 use Rattle.std.proofs.Common.{ap, ◌∙◌, arith}
 use Rattle.std.proofs.lemmas.Bool.{ltb-true, lt-ltb}
-use Rattle.std.proofs.lemmas.Int.{ints}
-use Rattle.jiff_core.specs.declared.civil.time.Time.{Time}
 use Rattle.jiff_core.specs.Time.{time_nanos}
-use Rattle.jiff_core.proofs.DateTimeLemmas.{time_nanos_bound}
 use Rattle.pgv_types.specs.Ty.{Ty}
 use Rattle.pgv_types.specs.declared.oid.Oid.{Oid}
 use Rattle.pgv_buf.specs.Tokens.{bytes}
-use Rattle.pgv_value.specs.DateTimeBinary.{time_after}
 use Rattle.pgv_value.specs.FrameBinary.{Part}
 use Rattle.pgv_value.specs.NumberBinary.{fits_signed}
 use Rattle.pgv_value.specs.OwnBytes.{eight_again, four_again}

@@ -14,17 +14,15 @@ ghost use Rattle.pgv_value.specs.Reading.{AnswersExactly};
 ghost use Rattle.pgv_value.specs.declared.error.CodecError.TheVariants.{Memory};
 ghost use Rattle.pgv_more.specs.TimeTzCodec.{time_tz_numbers, time_tz_image, time_tz_in_binary, time_tz_reading, time_tz_refusal, two_numbers, offset_refusal, other_way, image_of_numbers};
 
-use byteorder::{BigEndian, ByteOrder};
 use jiff::civil::Time;
 use jiff::tz::Offset;
-use pgv_codec::{Codec, Decode, Encode, IsNull, PgArgumentBuffer, PgHasArrayType, ReadBack, Type};
+use pgv_codec::{
+    Codec, Decode, Encode, IsNull, PgArgumentBuffer, PgHasArrayType, ReadBack, Type, micros_of_day,
+};
 use pgv_text::time_tz;
 use pgv_types::{PgType, PgTypeInfo};
-use pgv_value::{CodecError, PgValueFormat, PgValueRef};
+use pgv_value::{CodecError, PgValueFormat, PgValueRef, number_of_eight, number_of_four, time_at};
 use std::alloc::{AllocError, Global};
-
-/// The microseconds of a day.
-const DAY: i64 = 86_400_000_000;
 
 /// The seconds of a day.
 const DAY_SECONDS: u32 = 86_400;
@@ -36,21 +34,6 @@ pub struct PgTimeTz {
     pub time: Time,
     /// How far it is ahead of UTC.
     pub offset: Offset,
-}
-
-/// The microseconds of the day; what is less is cut off.
-fn micros_of_day(time: Time) -> i64
-    ensures { result ≡ pos (time_nanos time / 1000) }
-{
-    (time.to_plain().to_nanosecond() / 1000) as i64
-}
-
-/// The time that many microseconds after midnight, round the clock.
-fn time_at(micros: i64) -> Time
-    ensures { time_nanos result ≡ time_after micros }
-{
-    let micros = micros.rem_euclid(DAY) as u64;
-    Time::from_plain(jiff_core::civil::Time::from_nanosecond(micros * 1000))
 }
 
 /// The offset of seconds west of UTC, where they are less than a day.
@@ -72,22 +55,6 @@ fn seconds_west(offset: Offset) -> Option<i32>
         return None;
     }
     Some(-east)
-}
-
-/// The signed number of the eight bytes at the front, the highest first.
-fn number_of_eight(form: &[u8]) -> i64
-    requires { 8 ≤ length form.now }
-    ensures { result ≡ eight_bytes form.now }
-{
-    BigEndian::read_i64(form)
-}
-
-/// The signed number of the four bytes at the front, the highest first.
-fn number_of_four(form: &[u8]) -> i32
-    requires { 4 ≤ length form.now }
-    ensures { result ≡ signed_four_bytes form.now }
-{
-    BigEndian::read_i32(form)
 }
 
 /// The two numbers of the first twelve bytes, whatever comes after them.

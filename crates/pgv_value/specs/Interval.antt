@@ -7,11 +7,11 @@ use Rattle.std.specs.Int.RustNames.{int_div, int_rem}
 use Rattle.std.specs.Ordering.{int_eq}
 use Rattle.pgv_value.specs.NumberBinary.{fits_signed}
 use Rattle.pgv_value.specs.Reading.{Reading}
+use Rattle.pgv_value.specs.ScalarGrammar.{binary_alone, refusal_alone}
 use Rattle.pgv_value.specs.declared.interval.PgInterval.{PgInterval}
 use Rattle.pgv_value.specs.declared.error.CodecError.{CodecError}
-use Rattle.pgv_value.specs.declared.error.CodecError.TheVariants.{IntervalPrecision, IntervalOverflow, UnexpectedNull, Short, TextUnsupported}
+use Rattle.pgv_value.specs.declared.error.CodecError.TheVariants.{IntervalPrecision, IntervalOverflow, Short}
 use Rattle.pgv_value.specs.declared.value.PgValueFormat.{PgValueFormat}
-use Rattle.pgv_value.specs.declared.value.PgValueFormat.TheVariants.{Text, Binary}
 
 -- ---- of durations
 
@@ -50,12 +50,8 @@ interval_in_binary bytes =
 
 -- intervals are not read of text
 abbrev pub interval_reading : Reading PgInterval
-interval_reading t f None = None
-interval_reading t Text (Some bytes) = None
-interval_reading t Binary (Some bytes) = interval_in_binary bytes
+interval_reading = binary_alone interval_in_binary
 
--- why none is read: null is C13, a text C18, and fewer than sixteen bytes C15
+-- why none is read: fewer than sixteen bytes are C15
 abbrev pub interval_refusal : PgValueFormat → Option (List ℕ) → CodecError
-interval_refusal f None = UnexpectedNull
-interval_refusal Text (Some bytes) = TextUnsupported
-interval_refusal Binary (Some bytes) = Short
+interval_refusal = refusal_alone (λ _. Short)

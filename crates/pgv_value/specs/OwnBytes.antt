@@ -50,3 +50,6 @@ eight_again v h = ap (cast_signed w64) (from_be_bytes-to_be_bytes_8 (cast_unsign
 
 pub four_again : (v : ℤ) → fits_signed w32 v ≡ true → cast_signed w32 (from_be_bytes w32 (to_be_bytes w32 (cast_unsigned w32 v))) ≡ v
 four_again v h = ap (cast_signed w32) (from_be_bytes-to_be_bytes_4 (cast_unsigned w32 v) (unsigned_fits w32 v h)) ∙ to_z-of_z w32 v (is_signed w32 v h)
+
+pub two_again : (v : ℤ) → fits_signed w16 v ≡ true → cast_signed w16 (from_be_bytes w16 (to_be_bytes w16 (cast_unsigned w16 v))) ≡ v
+two_again v h = ap (cast_signed w16) (from_be_bytes-to_be_bytes_2 (cast_unsigned w16 v) (unsigned_fits w16 v h)) ∙ to_z-of_z w16 v (is_signed w16 v h)

@@ -10,7 +10,7 @@ use Rattle.pgv_value.specs.Steps.{number}
 use Rattle.pgv_value.specs.Utf8.{is_utf8}
 use Rattle.pgv_value.specs.NumberBinary.{in_range, in_range_unsigned, whole_number, whole_refusal, number_refusal}
 use Rattle.pgv_value.specs.declared.error.CodecError.{CodecError}
-use Rattle.pgv_value.specs.declared.error.CodecError.TheVariants.{UnexpectedNull, Utf8, Short, WrongLength, Syntax}
+use Rattle.pgv_value.specs.declared.error.CodecError.TheVariants.{UnexpectedNull, Utf8, Short, WrongLength, TextUnsupported, Syntax}
 use Rattle.pgv_value.specs.declared.value.PgValueFormat.{PgValueFormat}
 use Rattle.pgv_value.specs.declared.value.PgValueFormat.TheVariants.{Text, Binary}
 
@@ -19,6 +19,12 @@ abbrev pub scalar : {M : Type 0} → (List ℕ → Option M) → (List ℕ → O
 scalar binary text t f None = None
 scalar binary text t Binary (Some bytes) = binary bytes
 scalar binary text t Text (Some bytes) = if is_utf8 bytes then text bytes else None
+
+-- Null is not read, nor is any text; bytes are read in binary alone.
+abbrev pub binary_alone : {M : Type 0} → (List ℕ → Option M) → Reading M
+binary_alone binary t f None = None
+binary_alone binary t Text (Some bytes) = None
+binary_alone binary t Binary (Some bytes) = binary bytes
 
 -- the first byte, which is zero or not; anything after it
 abbrev pub first_is_set : List ℕ → Option Bool
@@ -61,6 +67,12 @@ abbrev pub refusal : (List ℕ → CodecError) → (List ℕ → CodecError) →
 refusal binary text f None = UnexpectedNull
 refusal binary text Binary (Some bytes) = binary bytes
 refusal binary text Text (Some bytes) = if is_utf8 bytes then text bytes else Utf8
+
+-- null is C13, and any text C18
+abbrev pub refusal_alone : (List ℕ → CodecError) → PgValueFormat → Option (List ℕ) → CodecError
+refusal_alone binary f None = UnexpectedNull
+refusal_alone binary Text (Some bytes) = TextUnsupported
+refusal_alone binary Binary (Some bytes) = binary bytes
 
 abbrev pub bool_refusal : PgValueFormat → Option (List ℕ) → CodecError
 bool_refusal = refusal (λ _. Short) (λ _. Syntax)

@@ -1,11 +1,13 @@
-//! Numbers of 32 bits in front of bytes.
+//! Numbers in front of bytes.
 
-ghost use Rattle.std.specs.Prelude.{◌≡◌, ◌+◌, length, IfOk, IfErr};
+ghost use Rattle.std.specs.Prelude.{◌≡◌, ◌≤◌, ◌+◌, length, IfOk, IfErr};
+ghost use Rattle.pgv_value.specs.Interval.{eight_bytes, signed_four_bytes};
 ghost use Rattle.pgv_value.specs.Reading.{AnswersExactly};
 ghost use Rattle.pgv_value.specs.declared.error.CodecError.TheVariants.{Short};
 ghost use Rattle.pgv_value.specs.Steps.{number};
 
 use crate::error::CodecError;
+use byteorder::{BigEndian, ByteOrder};
 
 /// The number of 32 bits in front, the highest byte first, and the rest: of `00000007ff` it is 7, and the rest is `ff`. Fewer
 /// than four bytes are refused with C15.
@@ -23,4 +25,20 @@ pub fn u32_in_front(bytes: &[u8]) -> Result<(u32, &[u8]), CodecError>
         u32::from_be_bytes([front[0], front[1], front[2], front[3]]),
         rest,
     ))
+}
+
+/// The signed number of the eight bytes in front, the highest first, whatever comes after them. There have to be eight.
+pub fn number_of_eight(bytes: &[u8]) -> i64
+    requires { 8 ≤ length bytes.now }
+    ensures { result ≡ eight_bytes bytes.now }
+{
+    BigEndian::read_i64(bytes)
+}
+
+/// The signed number of the four bytes in front, the highest first, whatever comes after them. There have to be four.
+pub fn number_of_four(bytes: &[u8]) -> i32
+    requires { 4 ≤ length bytes.now }
+    ensures { result ≡ signed_four_bytes bytes.now }
+{
+    BigEndian::read_i32(bytes)
 }

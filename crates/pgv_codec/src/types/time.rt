@@ -17,7 +17,7 @@ use pgv_value::{CodecError, PgValueRef, read_time};
 use std::alloc::{AllocError, Global};
 
 /// The microseconds of the day; what is less is cut off.
-fn micros_of_day(time: Time) -> i64
+pub fn micros_of_day(time: Time) -> i64
     ensures { result ≡ pos (time_nanos time / 1000) }
 {
     (time.to_plain().to_nanosecond() / 1000) as i64

@@ -34,8 +34,8 @@ fn date_after(days: i32) -> Option<Date>
     }
 }
 
-/// The time that many microseconds after midnight, round the clock.
-fn time_at(micros: i64) -> Time
+/// The time that many microseconds after midnight, round the clock: of 86400000001 it is one microsecond after midnight.
+pub fn time_at(micros: i64) -> Time
     ensures { time_nanos result ≡ time_after micros }
 {
     let micros = micros.rem_euclid(DAY) as u64;

@@ -1,30 +1,14 @@
 //! Intervals.
 
-ghost use Rattle.std.specs.Prelude.{◌≡◌, ◌≤◌, length, None, IfErr, IsErrOf};
+ghost use Rattle.std.specs.Prelude.{◌≡◌, None, IfErr, IsErrOf};
 ghost use Rattle.pgv_value.specs.Reading.{AnswersExactly};
-ghost use Rattle.pgv_value.specs.Interval.{eight_bytes, signed_four_bytes, interval_in_binary, interval_reading, interval_refusal};
+ghost use Rattle.pgv_value.specs.Interval.{interval_in_binary, interval_reading, interval_refusal};
 ghost use Rattle.pgv_value.specs.declared.error.CodecError.TheVariants.{Short, UnexpectedNull};
 
 use crate::error::CodecError;
 use crate::interval::PgInterval;
+use crate::number::{number_of_eight, number_of_four};
 use crate::value::{PgValueFormat, PgValueRef};
-use byteorder::{BigEndian, ByteOrder};
-
-/// The signed number of the eight bytes at the front, the highest first.
-fn number_of_eight(bytes: &[u8]) -> i64
-    requires { 8 ≤ length bytes.now }
-    ensures { result ≡ eight_bytes bytes.now }
-{
-    BigEndian::read_i64(bytes)
-}
-
-/// The signed number of the four bytes at the front, the highest first.
-fn number_of_four(bytes: &[u8]) -> i32
-    requires { 4 ≤ length bytes.now }
-    ensures { result ≡ signed_four_bytes bytes.now }
-{
-    BigEndian::read_i32(bytes)
-}
 
 /// The interval of sixteen bytes, whatever comes after them.
 fn interval_of_bytes(bytes: &[u8]) -> Result<PgInterval, CodecError>

@@ -1,0 +1,30 @@
+-- What amounts of money are read of (PostgreSQL: "Monetary Types", 8.2): a signed number of eight bytes, the highest first.
+-- An amount is seen as that number.
+use Rattle.std.specs.Prelude.{◌≡◌, ◌↔◌, ℕ, ◌++◌, nat_lt, if◌then◌else◌, ℤ, FitsSigned, List, length, Option, Some, None}
+use Rattle.std.specs.Int.{w64, cast_unsigned, to_be_bytes}
+use Rattle.pgv_value.specs.Interval.{eight_bytes}
+use Rattle.pgv_value.specs.Laws.{AreBytes}
+use Rattle.pgv_value.specs.Reading.{Reading}
+use Rattle.pgv_value.specs.ScalarGrammar.{binary_alone, refusal_alone}
+use Rattle.pgv_value.specs.declared.error.CodecError.{CodecError}
+use Rattle.pgv_value.specs.declared.error.CodecError.TheVariants.{Short}
+use Rattle.pgv_value.specs.declared.value.PgValueFormat.{PgValueFormat}
+
+-- the bytes begin with the form of this amount, and anything comes after it
+abbrev pub IsMoney : List ℕ → ℤ → Type 0
+IsMoney bytes amount = (rest : List ℕ) × (bytes ≡ to_be_bytes w64 (cast_unsigned w64 amount) ++ rest) × FitsSigned w64 amount
+
+-- the amount that is read
+abbrev pub money_in_binary : List ℕ → Option ℤ
+money_in_binary bytes = if nat_lt (length bytes) 8 then None else Some (eight_bytes bytes)
+
+abbrev pub money_reading : Reading ℤ
+money_reading = binary_alone money_in_binary
+
+-- fewer than eight bytes are C15
+abbrev pub money_refusal : PgValueFormat → Option (List ℕ) → CodecError
+money_refusal = refusal_alone (λ _. Short)
+
+-- bytes are an amount exactly where it is read of them
+abbrev pub MoneyIsRead : Type 0
+MoneyIsRead = (bytes : List ℕ) (amount : ℤ) → AreBytes bytes → (money_in_binary bytes ≡ Some amount) ↔ IsMoney bytes amount

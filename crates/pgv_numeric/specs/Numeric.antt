@@ -1,0 +1,112 @@
+-- Numbers as PostgreSQL keeps them ("Numeric Types", 8.1.2; the binary form is that of its source, numeric_send): digits of four
+-- decimal places each, where the weight of the first is a power of 10000, and the scale is how many decimal places are shown.
+use Rattle.std.specs.Prelude.{ℕ, zero, suc, nat_lt, nat_le, ◌+◌, ◌*◌, Bool, true, false, ◌&&◌, ◌==◌, ◌||◌, if◌then◌else◌, ℤ, pos, int_le, List, [], ◌∷◌, ◌++◌, length, take, drop, Option, Some, None, ◌≡◌}
+use Rattle.std.specs.Int.{w16, cast_signed, cast_unsigned, from_be_bytes, to_be_bytes}
+use Rattle.std.specs.List.{flat_map, list_all}
+use Rattle.pgv_buf.specs.Tokens.{bytes}
+use Rattle.pgv_codec.specs.Image.{Image, image_of}
+use Rattle.pgv_value.specs.NumberBinary.{fits_signed}
+use Rattle.pgv_value.specs.Reading.{Reading}
+use Rattle.pgv_value.specs.ScalarGrammar.{binary_alone, refusal_alone}
+use Rattle.pgv_value.specs.Steps.{◌>>=◌}
+use Rattle.pgv_value.specs.declared.error.CodecError.{CodecError}
+use Rattle.pgv_value.specs.declared.error.CodecError.TheVariants.{Short, NumericSign}
+use Rattle.pgv_value.specs.declared.value.PgValueFormat.{PgValueFormat}
+use Rattle.pgv_numeric.specs.declared.numeric.PgNumericSign.{PgNumericSign}
+use Rattle.pgv_numeric.specs.declared.numeric.PgNumericSign.TheVariants.{Positive, Negative}
+use Rattle.pgv_numeric.specs.declared.numeric.PgNumeric.{PgNumeric}
+use Rattle.pgv_numeric.specs.declared.numeric.PgNumeric.TheVariants.{NotANumber, Number}
+
+-- what a value says: no number, or a sign, digits, the weight of the first and a scale
+pub data Numeric : Type 0 where
+  not_a_number : Numeric
+  number : PgNumericSign → List ℤ → ℤ → ℤ → Numeric
+
+abbrev pub numeric_of : PgNumeric → Numeric
+numeric_of NotANumber = not_a_number
+numeric_of (Number sign digits weight scale) = number sign digits.items weight scale
+
+-- ---- words of two bytes, the highest first
+
+-- a signed number
+abbrev pub word : ℤ → List ℕ
+word n = to_be_bytes w16 (cast_unsigned w16 n)
+
+-- the numbers in front, without a sign and with one
+abbrev pub unsigned_word : List ℕ → ℕ
+unsigned_word form = from_be_bytes w16 (take 2 form)
+
+abbrev pub signed_word : List ℕ → ℤ
+signed_word form = cast_signed w16 (unsigned_word form)
+
+-- how a sign is written; 0xc000 stands for no number
+abbrev pub sign_word : PgNumericSign → ℕ
+sign_word Positive = 0
+sign_word Negative = 16384
+
+abbrev pub no_number : ℕ
+no_number = 49152
+
+-- ---- written
+
+-- the number of digits, the weight, the sign, the scale, and the digits
+abbrev pub head_form : ℕ → ℤ → ℕ → ℤ → List ℕ
+head_form count weight sign scale = to_be_bytes w16 count ++ (word weight ++ (to_be_bytes w16 sign ++ word scale))
+
+abbrev pub number_form : PgNumericSign → List ℤ → ℤ → ℤ → List ℕ
+number_form sign digits weight scale = head_form (length digits) weight (sign_word sign) scale ++ flat_map word digits
+
+-- a digit of four decimal places
+abbrev pub is_digit : ℤ → Bool
+is_digit d = int_le (pos 0) d && int_le d (pos 9999)
+
+abbrev pub has_form : List ℤ → ℤ → ℤ → Bool
+has_form digits weight scale = nat_le (length digits) 32767 && (list_all is_digit digits && (fits_signed w16 weight && fits_signed w16 scale))
+
+-- no image where there are more than 32767 digits, or one that isn't from 0 to 9999
+abbrev pub numeric_image : Numeric → Option Image
+numeric_image not_a_number = Some (image_of (bytes (0 ∷ 0 ∷ 0 ∷ 0 ∷ 192 ∷ 0 ∷ 0 ∷ 0 ∷ [])))
+numeric_image (number sign digits weight scale) = if has_form digits weight scale then Some (image_of (bytes (number_form sign digits weight scale))) else None
+
+-- ---- read
+
+-- n digits, of any value
+abbrev pub digits : ℕ → List ℕ → List ℤ
+digits zero form = []
+digits (suc n) form = signed_word form ∷ digits n (drop 2 form)
+
+abbrev pub digits_after : ℕ → List ℕ → Option (List ℤ)
+digits_after n form = if nat_lt (length form) (2 * n) then None else Some (digits n form)
+
+abbrev pub sign_of : ℕ → Option PgNumericSign
+sign_of said = if said == 0 then Some Positive else if said == 16384 then Some Negative else None
+
+-- the sign that stands after the number of digits and the weight
+abbrev pub said_sign : List ℕ → ℕ
+said_sign form = unsigned_word (drop 4 form)
+
+abbrev pub signed_number : List ℕ → PgNumericSign → Option Numeric
+signed_number form sign = digits_after (unsigned_word form) (drop 8 form) >>= λ ds. Some (number sign ds (signed_word (drop 2 form)) (signed_word (drop 6 form)))
+
+-- anything may come after it; where there is no number, the other words say nothing
+abbrev pub numeric_in_binary : List ℕ → Option Numeric
+numeric_in_binary form =
+    if nat_lt (length form) 8 then None else
+    if said_sign form == no_number then Some not_a_number else
+    (sign_of (said_sign form) >>= signed_number form)
+
+abbrev pub numeric_reading : Reading Numeric
+numeric_reading = binary_alone numeric_in_binary
+
+-- ---- refused
+
+-- another sign is C34, and bytes that end too early are C15
+abbrev pub sign_refusal : ℕ → Option PgNumericSign → CodecError
+sign_refusal said None = NumericSign said
+sign_refusal said (Some sign) = Short
+
+abbrev pub numeric_binary_refusal : List ℕ → CodecError
+numeric_binary_refusal form = if nat_lt (length form) 8 then Short else sign_refusal (said_sign form) (sign_of (said_sign form))
+
+abbrev pub numeric_refusal : PgValueFormat → Option (List ℕ) → CodecError
+numeric_refusal = refusal_alone numeric_binary_refusal

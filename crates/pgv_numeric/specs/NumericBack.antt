@@ -1,0 +1,98 @@
+-- What is written of a number is read back as it.
+use Rattle.std.specs.Prelude.{◌≡◌, ℕ, zero, suc, ◌+◌, ◌*◌, ◌<◌, ◌^◌, nat_lt, nat_le, int_le, Bool, true, false, ◌&&◌, cond, ℤ, pos, negsuc, List, [], ◌∷◌, ◌++◌, length, drop, Option, Some, None, refl}
+use Rattle.std.specs.Int.{w16, cast_signed, cast_unsigned, from_be_bytes, to_be_bytes}
+use Rattle.std.specs.List.{flat_map, list_all}
+use Rattle.std.proofs.Common.{ap, sym, ◌∙◌, arith, append-nil}
+use Rattle.std.proofs.lemmas.Bool.{le-ltb, lt-ltb}
+use Rattle.std.proofs.lemmas.Bool.Decides.{nat_tests}
+use Rattle.std.proofs.lemmas.List.{length-append}
+use Rattle.std.proofs.lemmas.Nat.{from_be_bytes-to_be_bytes_2}
+use Rattle.pgv_types.specs.Ty.{Ty}
+use Rattle.pgv_types.specs.declared.oid.Oid.{Oid}
+use Rattle.pgv_buf.specs.Tokens.{bytes}
+use Rattle.pgv_value.specs.FrameBinary.{Part}
+use Rattle.pgv_value.specs.NumberBinary.{fits_signed}
+use Rattle.pgv_value.specs.OwnBytes.{two_again}
+use Rattle.pgv_value.specs.declared.value.PgValueFormat.TheVariants.{Binary}
+use Rattle.pgv_codec.specs.Back.{ReadsBack, always}
+use Rattle.pgv_codec.specs.BackParts.{guarded}
+use Rattle.pgv_codec.specs.BackScalars.{part_is}
+use Rattle.pgv_codec.specs.Image.{image_of}
+use Rattle.pgv_numeric.specs.Numeric.{Numeric, not_a_number, number, numeric_of, word, sign_word, head_form, number_form, is_digit, has_form, numeric_image, digits, digits_after, sign_of, said_sign, no_number, signed_number, numeric_in_binary, numeric_reading}
+use Rattle.pgv_numeric.specs.declared.numeric.PgNumericSign.{PgNumericSign}
+use Rattle.pgv_numeric.specs.declared.numeric.PgNumericSign.TheVariants.{Positive, Negative}
+use Rattle.pgv_numeric.specs.declared.numeric.PgNumeric.{PgNumeric}
+use Rattle.pgv_numeric.specs.declared.numeric.PgNumeric.TheVariants.{NotANumber, Number}
+
+pub both : (a b : Bool) → (a && b) ≡ true → (a ≡ true) × (b ≡ true)
+both true b e = (refl, e)
+both false b e = absurd (cc)
+
+-- ---- words
+
+pub length-words : (ds : List ℤ) → length (flat_map word ds) ≡ 2 * length ds
+length-words [] = refl
+length-words (d ∷ ds) = let h = length-words ds in omega (arith, h, length-append (word d) (flat_map word ds))
+
+pub words_again : (ds : List ℤ) (rest : List ℕ) → list_all (fits_signed w16) ds ≡ true → digits (length ds) (flat_map word ds ++ rest) ≡ ds
+words_again [] rest e = refl
+words_again (d ∷ ds) rest e =
+    let b = both (fits_signed w16 d) (list_all (fits_signed w16) ds) e in
+    rw (two_again d b.0, words_again ds rest b.1) refl
+
+digits_there : (ds : List ℤ) (rest : List ℕ) → list_all (fits_signed w16) ds ≡ true → digits_after (length ds) (flat_map word ds ++ rest) ≡ Some ds
+digits_there ds rest e =
+    let long : nat_lt (length (flat_map word ds ++ rest)) (2 * length ds) ≡ false = le-ltb _ _ (omega (arith, length-words ds, length-append (flat_map word ds) rest)) in
+    rw (long, words_again ds rest e) refl
+
+-- ---- a number is read of its form, whatever comes after it
+
+opened : (form : List ℕ) (sign : PgNumericSign) → nat_lt (length form) 8 ≡ false → said_sign form ≡ sign_word sign → numeric_in_binary form ≡ signed_number form sign
+opened form Positive long said = rw (long, said) refl
+opened form Negative long said = rw (long, said) refl
+
+numbered : (form : List ℕ) (sign : PgNumericSign) (n : ℕ) (ds : List ℤ) (weight scale : ℤ) → unsigned_word form ≡ n → digits_after n (drop 8 form) ≡ Some ds →
+    signed_word (drop 2 form) ≡ weight → signed_word (drop 6 form) ≡ scale → signed_number form sign ≡ Some (number sign ds weight scale)
+numbered form sign n ds weight scale count after first second = rw (count, after, first, second) refl
+
+said_again : (sign : PgNumericSign) → from_be_bytes w16 (to_be_bytes w16 (sign_word sign)) ≡ sign_word sign
+said_again Positive = refl
+said_again Negative = refl
+
+pub number_there : (rest : List ℕ) (sign : PgNumericSign) (ds : List ℤ) (weight scale : ℤ) → length ds < 2 ^ 16 → list_all (fits_signed w16) ds ≡ true → fits_signed w16 weight ≡ true →
+    fits_signed w16 scale ≡ true → numeric_in_binary (number_form sign ds weight scale ++ rest) ≡ Some (number sign ds weight scale)
+number_there rest sign ds weight scale few fit weight_fits scale_fits =
+    let after = flat_map word ds ++ rest in
+    let form = number_form sign ds weight scale ++ rest in
+    let long : nat_lt (8 + length after) 8 ≡ false = le-ltb (8 + length after) 8 (omega arith) in
+    opened form sign long (said_again sign)
+    ∙ numbered form sign (length ds) ds weight scale (from_be_bytes-to_be_bytes_2 (length ds) few) (digits_there ds rest fit) (two_again weight weight_fits) (two_again scale scale_fits)
+
+-- ---- what was written
+
+digit_fits : (d : ℤ) → is_digit d ≡ true → fits_signed w16 d ≡ true
+digit_fits (pos n) e = grind (arith, nat_tests)
+digit_fits (negsuc n) e = absurd (cc)
+
+digits_fit : (ds : List ℤ) → list_all is_digit ds ≡ true → list_all (fits_signed w16) ds ≡ true
+digits_fit [] e = refl
+digits_fit (d ∷ ds) e =
+    let b = both (is_digit d) (list_all is_digit ds) e in
+    rw (digit_fits d b.0, digits_fit ds b.1) refl
+
+few_digits : (n : ℕ) → nat_le n 32767 ≡ true → n < 2 ^ 16
+few_digits n e = grind (arith, nat_tests)
+
+pub numeric_back : ReadsBack {A = PgNumeric} (λ n. numeric_image (numeric_of n)) numeric_reading numeric_of always
+numeric_back NotANumber i t p os e whole small fit =
+    ap (λ (part : Part). numeric_reading t Binary part) (part_is (0 ∷ 0 ∷ 0 ∷ 0 ∷ 192 ∷ 0 ∷ 0 ∷ 0 ∷ []) i p os e)
+numeric_back (Number sign v weight scale) i t p os e whole small fit =
+    let ds = v.items in
+    let form = number_form sign ds weight scale in
+    let g = guarded (has_form ds weight scale) (Some (image_of (bytes form))) i e in
+    let few = both (nat_le (length ds) 32767) (list_all is_digit ds && (fits_signed w16 weight && fits_signed w16 scale)) g.0 in
+    let fit = both (list_all is_digit ds) (fits_signed w16 weight && fits_signed w16 scale) few.1 in
+    let words = both (fits_signed w16 weight) (fits_signed w16 scale) fit.1 in
+    ap (λ (part : Part). numeric_reading t Binary part) (part_is form i p os g.1)
+    ∙ ap numeric_in_binary (sym (append-nil {l = form}))
+    ∙ number_there [] sign ds weight scale (few_digits (length ds) few.0) (digits_fit ds fit.0) words.0 words.1

@@ -1,0 +1,55 @@
+//! What is proved of these types and of the definitions that say what they are. Each law is the contract of a function that does
+//! nothing.
+
+ghost use Rattle.std.specs.Prelude.{◌≡◌, None};
+ghost use Rattle.std.specs.Int.{w64};
+ghost use Rattle.pgv_codec.specs.TypeRow.{IsBuiltIn, IsWrittenAs};
+ghost use Rattle.pgv_codec.specs.ScalarBinary.{signed_image};
+ghost use Rattle.pgv_numeric.specs.Laws.{NumericIsRead, OneNumeric, OneMoney, NumericsAreEqual};
+ghost use Rattle.pgv_numeric.specs.MoneyCodec.{money_reading, MoneyIsRead};
+ghost use Rattle.pgv_numeric.specs.Numeric.{numeric_image, numeric_of, numeric_reading};
+
+use pgv_codec::{Decode, Encode, PgHasArrayType, Type};
+
+/// A `PgMoney` is a money (OID 790), eight bytes in two's complement. Its arrays are `money[]` (791).
+pub fn money_is_a_money()
+    ensures types { IsBuiltIn 790 ⟦<crate::PgMoney as Type>⟧.info ⟦<crate::PgMoney as Type>⟧.accepts }
+    ensures arrays { IsBuiltIn 791 ⟦<crate::PgMoney as PgHasArrayType>⟧.array_info ⟦<crate::PgMoney as PgHasArrayType>⟧.accepts_array }
+    ensures written { IsWrittenAs (λ amount. signed_image w64 amount.0) ⟦<crate::PgMoney as Encode>⟧.hint ⟦<crate::PgMoney as Encode>⟧.image ⟦<crate::PgMoney as Encode>⟧.produced }
+    ensures means { ⟦<crate::PgMoney as Decode>⟧.meaning ≡ (λ amount. amount.0) }
+    ensures read { ⟦<crate::PgMoney as Decode>⟧.reading ≡ money_reading }
+{}
+
+/// A `PgNumeric` is a numeric (OID 1700), words of two bytes. Its arrays are `numeric[]` (1231).
+pub fn numeric_is_a_numeric()
+    ensures types { IsBuiltIn 1700 ⟦<crate::PgNumeric as Type>⟧.info ⟦<crate::PgNumeric as Type>⟧.accepts }
+    ensures arrays { IsBuiltIn 1231 ⟦<crate::PgNumeric as PgHasArrayType>⟧.array_info ⟦<crate::PgNumeric as PgHasArrayType>⟧.accepts_array }
+    ensures written { IsWrittenAs (λ n. numeric_image (numeric_of n)) ⟦<crate::PgNumeric as Encode>⟧.hint ⟦<crate::PgNumeric as Encode>⟧.image ⟦<crate::PgNumeric as Encode>⟧.produced }
+    ensures means { ⟦<crate::PgNumeric as Decode>⟧.meaning ≡ numeric_of }
+    ensures read { ⟦<crate::PgNumeric as Decode>⟧.reading ≡ numeric_reading }
+{}
+
+/// Bytes begin with the form of an amount exactly where it is read of them.
+pub fn money_is_read()
+    ensures { MoneyIsRead }
+{}
+
+/// No bytes begin with the forms of two amounts.
+pub fn one_money()
+    ensures { OneMoney }
+{}
+
+/// Bytes begin with the form of a number exactly where it is read of them.
+pub fn numeric_is_read()
+    ensures { NumericIsRead }
+{}
+
+/// No bytes begin with the forms of two numbers.
+pub fn one_numeric()
+    ensures { OneNumeric }
+{}
+
+/// Numbers are equal exactly where they have the same sign, digits, weight and scale, and no numbers are equal.
+pub fn equal_numerics()
+    ensures { NumericsAreEqual ⟦<crate::PgNumeric as PartialEq>⟧.eq }
+{}

@@ -1,0 +1,102 @@
+//! Amounts of money, written and read (PostgreSQL, "Monetary Types", money).
+
+ghost use Rattle.std.specs.Prelude.{ℤ, false, Some, refl};
+ghost use Rattle.std.specs.Int.{w64};
+ghost use Rattle.pgv_types.specs.Ty.{builtin};
+ghost use Rattle.pgv_types.specs.Relations.{softly};
+ghost use Rattle.pgv_codec.specs.ScalarBinary.{signed_image};
+ghost use Rattle.pgv_codec.specs.Saying.{plainly};
+ghost use Rattle.pgv_numeric.specs.MoneyCodec.{money_reading, money_refusal};
+
+use super::{PgMoney, of_bytes};
+use pgv_codec::{Codec, Decode, Encode, IsNull, PgArgumentBuffer, PgHasArrayType, ReadBack, Type};
+use pgv_types::{PgType, PgTypeInfo};
+use pgv_value::{CodecError, PgValueFormat, PgValueRef};
+use std::alloc::{AllocError, Global};
+
+/// `money` (OID 790), read under `money` and domains over it.
+impl Type for PgMoney {
+    ghost info = { builtin 790 };
+
+    ghost accepts = { λ t. softly t (builtin 790) };
+
+    fn type_info() -> PgTypeInfo {
+        PgTypeInfo(PgType::Money)
+    }
+
+    fn compatible(type_info: &PgTypeInfo) -> bool {
+        type_info.type_compatible(&Self::type_info())
+    }
+}
+
+/// An array of them is `money[]` (OID 791).
+impl PgHasArrayType for PgMoney {
+    ghost array_info = { builtin 791 };
+
+    ghost accepts_array = { λ t. softly t (builtin 791) };
+
+    fn array_type_info() -> PgTypeInfo {
+        PgTypeInfo(PgType::MoneyArray)
+    }
+
+    fn array_compatible(type_info: &PgTypeInfo) -> bool {
+        type_info.type_compatible(&Self::array_type_info())
+    }
+}
+
+/// Written as eight bytes in two's complement, the highest first: 123.45 as `0000000000003039`.
+impl Encode for PgMoney {
+    ghost image = { λ amount. signed_image w64 amount.0 };
+
+    fn encode_by_ref(&self, out: &mut PgArgumentBuffer) -> Result<IsNull, CodecError> {
+        self.0.encode_by_ref(out)
+    }
+
+    fn size_hint(&self) -> usize {
+        0
+    }
+
+    fn produces(&self) -> Result<Option<PgTypeInfo>, AllocError> {
+        Ok(None)
+    }
+}
+
+/// Read of the first eight bytes, whatever comes after them; fewer are refused with C15, a text with C18, and null with C13.
+/// (The text depends on the settings of the server, `lc_monetary`.)
+impl Decode for PgMoney {
+    ghost Meaning = { ℤ };
+
+    ghost meaning = { λ amount. amount.0 };
+
+    ghost reading = { money_reading };
+
+    ghost written = { plainly (signed_image w64) };
+
+    ghost takes_memory = { false };
+
+    ghost refusal = { Some money_refusal };
+
+    fn decode(_alloc: Global, value: PgValueRef<'_>) -> Result<PgMoney, CodecError> {
+        let bytes = value.as_bytes()?;
+        match value.format() {
+            PgValueFormat::Binary => of_bytes(bytes),
+            PgValueFormat::Text => Err(CodecError::TextUnsupported),
+        }
+    }
+}
+
+impl Codec for PgMoney {
+    ghost agrees = { λ _. refl };
+}
+
+/// An amount comes back as it is.
+impl ReadBack for PgMoney {
+    ghost use Rattle.pgv_codec.specs.Back.{always};
+    ghost use Rattle.pgv_numeric.specs.MoneyBack.{money_back};
+
+    ghost kept = { λ amount. amount };
+
+    ghost fits = { always };
+
+    ghost reads_back = { money_back };
+}

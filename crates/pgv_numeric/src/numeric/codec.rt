@@ -1,0 +1,255 @@
+//! Numbers with any number of digits, written and read (PostgreSQL, "Numeric Types", numeric).
+
+ghost use Rattle.std.specs.Prelude.{◌≡◌, ◌≤◌, ◌*◌, ◌&&◌, IfOk, IfErr, OnOk, OnErr, length, if◌then◌else◌, Some, None, refl};
+ghost use Rattle.std.specs.List.{flat_map, list_all};
+ghost use Rattle.pgv_types.specs.Ty.{builtin};
+ghost use Rattle.pgv_types.specs.Relations.{softly};
+ghost use Rattle.pgv_buf.specs.Tokens.{bytes};
+ghost use Rattle.pgv_value.specs.Reading.{Answers, AnswersExactly, Refuses};
+ghost use Rattle.pgv_value.specs.declared.error.CodecError.TheVariants.{Memory, Short};
+ghost use Rattle.pgv_codec.specs.Outcome.{Encoded, Refused, Appended, AppendedAll};
+ghost use Rattle.pgv_codec.specs.Saying.{plainly};
+ghost use Rattle.pgv_numeric.specs.Numeric.{Numeric, number, numeric_of, numeric_image, numeric_in_binary, numeric_binary_refusal, numeric_reading, numeric_refusal, digits_after, head_form, is_digit, sign_of as sign_of_word, sign_word as sign_as_word, word};
+
+use super::{PgNumeric, PgNumericSign};
+use byteorder::{BigEndian, ByteOrder};
+use pgv_codec::{Codec, Decode, Encode, IsNull, PgArgumentBuffer, PgHasArrayType, ReadBack, Type};
+use pgv_types::{PgType, PgTypeInfo};
+use pgv_value::{CodecError, PgValueFormat, PgValueRef};
+use std::alloc::{AllocError, Global};
+
+/// How many digits may be written.
+const DIGIT_LIMIT: usize = 32_767;
+
+/// The sign of a number that is not below zero.
+const POSITIVE: u16 = 0;
+
+/// The sign of a number below zero.
+const NEGATIVE: u16 = 0x4000;
+
+/// What stands for the sign where there is no number.
+const NOT_A_NUMBER: u16 = 0xc000;
+
+/// `numeric` (OID 1700), read under `numeric` and domains over it.
+impl Type for PgNumeric {
+    ghost info = { builtin 1700 };
+
+    ghost accepts = { λ t. softly t (builtin 1700) };
+
+    fn type_info() -> PgTypeInfo {
+        PgTypeInfo(PgType::Numeric)
+    }
+
+    fn compatible(type_info: &PgTypeInfo) -> bool {
+        type_info.type_compatible(&Self::type_info())
+    }
+}
+
+/// An array of them is `numeric[]` (OID 1231).
+impl PgHasArrayType for PgNumeric {
+    ghost array_info = { builtin 1231 };
+
+    ghost accepts_array = { λ t. softly t (builtin 1231) };
+
+    fn array_type_info() -> PgTypeInfo {
+        PgTypeInfo(PgType::NumericArray)
+    }
+
+    fn array_compatible(type_info: &PgTypeInfo) -> bool {
+        type_info.type_compatible(&Self::array_type_info())
+    }
+}
+
+/// Appends a word of two bytes.
+fn write_word(number: i16, out: &mut PgArgumentBuffer) -> Result<(), CodecError>
+    ensures ok { OnOk result (AppendedAll (Some (bytes (word number))) out.old out.new) }
+    ensures err { IfErr result (λ e. e ≡ Memory) }
+    ensures appended { OnErr result (Appended out.old out.new) }
+{
+    let form = number.to_be_bytes();
+    out.extend_from_slice(&form)?;
+    Ok(())
+}
+
+/// Appends the digits, a word each. One outside 0 to 9999 is refused with C8.
+fn write_digits(digits: &[i16], out: &mut PgArgumentBuffer) -> Result<(), CodecError>
+    ensures ok { OnOk result (AppendedAll (if list_all is_digit digits.now then Some (bytes (flat_map word digits.now)) else None) out.old out.new) }
+    ensures err { IfErr result (λ e. Refused e (if list_all is_digit digits.now then Some (bytes (flat_map word digits.now)) else None)) }
+    ensures appended { OnErr result (Appended out.old out.new) }
+{
+    for digit in digits {
+        if !PgNumeric::is_valid_digit(*digit) {
+            return Err(CodecError::NumericDigit(*digit));
+        }
+        write_word(*digit, out)?;
+    }
+    Ok(())
+}
+
+/// The words in front of the digits.
+fn head_of(count: u16, weight: i16, sign: u16, scale: i16) -> [u8; 8]
+    ensures { result ≡ head_form count weight sign scale }
+{
+    let mut head = [0u8; 8];
+    BigEndian::write_u16(&mut head[0..], count);
+    BigEndian::write_i16(&mut head[2..], weight);
+    BigEndian::write_u16(&mut head[4..], sign);
+    BigEndian::write_i16(&mut head[6..], scale);
+    head
+}
+
+/// Appends a number. More than 32767 digits are refused with C7.
+fn write_number(
+    sign: PgNumericSign,
+    digits: &[i16],
+    weight: i16,
+    scale: i16,
+    out: &mut PgArgumentBuffer,
+) -> Result<IsNull, CodecError>
+    ensures ok { IfOk result (λ n. Encoded n (numeric_image (number sign digits.now weight scale)) out.old out.new) }
+    ensures err { IfErr result (λ e. Refused e (numeric_image (number sign digits.now weight scale))) }
+    ensures appended { OnErr result (Appended out.old out.new) }
+{
+    let count = digits.len();
+    if count > DIGIT_LIMIT {
+        return Err(CodecError::NumericDigits(count));
+    }
+    let head = head_of(count as u16, weight, sign_word(sign), scale);
+    out.reserve(8 + 2 * count)?;
+    out.extend_from_slice(&head)?;
+    write_digits(digits, out)?;
+    Ok(IsNull::No)
+}
+
+/// How a sign is written.
+fn sign_word(sign: PgNumericSign) -> u16
+    ensures { result ≡ sign_as_word sign }
+{
+    match sign {
+        PgNumericSign::Positive => POSITIVE,
+        PgNumericSign::Negative => NEGATIVE,
+    }
+}
+
+/// Written as words of two bytes: the number of digits, the weight, the sign, the scale, and the digits: 123.45 as
+/// `0002 0000 0000 0002 007b 1194`, and `NaN` as `0000 0000 c000 0000`. More than 32767 digits are refused with C7, and a digit outside
+/// 0 to 9999 with C8.
+impl Encode for PgNumeric {
+    ghost image = { λ n. numeric_image (numeric_of n) };
+
+    fn encode_by_ref(&self, out: &mut PgArgumentBuffer) -> Result<IsNull, CodecError> {
+        match self {
+            PgNumeric::NotANumber => {
+                out.extend_from_slice(&head_of(0, 0, NOT_A_NUMBER, 0))?;
+                Ok(IsNull::No)
+            }
+            PgNumeric::Number {
+                sign,
+                digits,
+                weight,
+                scale,
+            } => write_number(*sign, digits.as_slice(), *weight, *scale, out),
+        }
+    }
+
+    fn size_hint(&self) -> usize {
+        0
+    }
+
+    fn produces(&self) -> Result<Option<PgTypeInfo>, AllocError> {
+        Ok(None)
+    }
+}
+
+/// So many digits, of any value, whatever comes after them.
+fn read_digits(alloc: Global, count: u16, form: &[u8]) -> Result<Vec<i16>, CodecError>
+    ensures exact { Answers (λ v. v.items) (digits_after count form.now) result }
+    ensures refused { IfErr result (λ e. Refuses e (e ≡ Short)) }
+{
+    let count = count as usize;
+    if form.len() < 2 * count {
+        return Err(CodecError::Short);
+    }
+    let mut digits = Vec::with_capacity(alloc, count)?;
+    let mut rest = form;
+    for _ in 0..count {
+        let (front, after) = rest.split_at(2);
+        digits.push(BigEndian::read_i16(front))?;
+        rest = after;
+    }
+    Ok(digits)
+}
+
+/// The sign of a word.
+fn sign_of(word: u16) -> Option<PgNumericSign>
+    ensures { result ≡ sign_of_word word }
+{
+    match word {
+        POSITIVE => Some(PgNumericSign::Positive),
+        NEGATIVE => Some(PgNumericSign::Negative),
+        _ => None,
+    }
+}
+
+/// The number of bytes.
+fn of_bytes(alloc: Global, form: &[u8]) -> Result<PgNumeric, CodecError>
+    ensures exact { Answers numeric_of (numeric_in_binary form.now) result }
+    ensures refused { IfErr result (λ e. Refuses e (e ≡ numeric_binary_refusal form.now)) }
+{
+    if form.len() < 8 {
+        return Err(CodecError::Short);
+    }
+    let (head, rest) = form.split_at(8);
+    let word = BigEndian::read_u16(&head[4..]);
+    if word == NOT_A_NUMBER {
+        return Ok(PgNumeric::NotANumber);
+    }
+    let Some(sign) = sign_of(word) else {
+        return Err(CodecError::NumericSign(word));
+    };
+    Ok(PgNumeric::Number {
+        sign,
+        digits: read_digits(alloc, BigEndian::read_u16(head), rest)?,
+        weight: BigEndian::read_i16(&head[2..]),
+        scale: BigEndian::read_i16(&head[6..]),
+    })
+}
+
+/// Read of words as they are written, with digits of any value, and whatever comes after them. The sign `c000` is `NaN`, whatever the
+/// other words are; another sign is refused with C34, and bytes that end too early with C15. A text is refused with C18, and null with
+/// C13.
+impl Decode for PgNumeric {
+    ghost Meaning = { Numeric };
+
+    ghost meaning = { numeric_of };
+
+    ghost reading = { numeric_reading };
+
+    ghost written = { plainly numeric_image };
+
+    ghost refusal = { Some numeric_refusal };
+
+    fn decode(alloc: Global, value: PgValueRef<'_>) -> Result<PgNumeric, CodecError> {
+        let bytes = value.as_bytes()?;
+        match value.format() {
+            PgValueFormat::Binary => of_bytes(alloc, bytes),
+            PgValueFormat::Text => Err(CodecError::TextUnsupported),
+        }
+    }
+}
+
+impl Codec for PgNumeric {
+    ghost agrees = { λ _. refl };
+}
+
+/// A number comes back as it is.
+impl ReadBack for PgNumeric {
+    ghost use Rattle.pgv_codec.specs.Back.{always};
+    ghost use Rattle.pgv_numeric.specs.NumericBack.{numeric_back};
+
+    ghost kept = { λ n. n };
+
+    ghost fits = { always };
+
+    ghost reads_back = { numeric_back };
+}
