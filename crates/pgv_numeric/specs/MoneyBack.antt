@@ -1,5 +1,5 @@
 -- What is written of an amount of money is read back as it.
-use Rattle.std.specs.Prelude.{◌≡◌, ℕ, ℤ, List, Option, Some, refl}
+use Rattle.std.specs.Prelude.{◌≡◌, ℕ, true, ℤ, List, Option, Some, None, refl}
 use Rattle.std.specs.Int.{w64, cast_unsigned, to_be_bytes}
 use Rattle.std.proofs.Common.{ap, ◌∙◌}
 use Rattle.pgv_types.specs.Ty.{Ty}

@@ -3,7 +3,7 @@
 use Rattle.std.specs.Prelude.{ℕ, zero, suc, nat_lt, nat_le, ◌+◌, ◌*◌, Bool, true, false, ◌&&◌, ◌==◌, ◌||◌, if◌then◌else◌, ℤ, pos, int_le, List, [], ◌∷◌, ◌++◌, length, take, drop, Option, Some, None, ◌≡◌}
 use Rattle.std.specs.Int.{w16, cast_signed, cast_unsigned, from_be_bytes, to_be_bytes}
 use Rattle.std.specs.List.{flat_map, list_all}
-use Rattle.pgv_buf.specs.Tokens.{bytes}
+use Rattle.pgv_buf.specs.Tokens.{Token, bytes}
 use Rattle.pgv_codec.specs.Image.{Image, image_of}
 use Rattle.pgv_value.specs.NumberBinary.{fits_signed}
 use Rattle.pgv_value.specs.Reading.{Reading}
@@ -59,6 +59,13 @@ number_form sign digits weight scale = head_form (length digits) weight (sign_wo
 -- a digit of four decimal places
 abbrev pub is_digit : ℤ → Bool
 is_digit d = int_le (pos 0) d && int_le d (pos 9999)
+
+-- a digit, and digits one after another; none where one isn't from 0 to 9999
+abbrev pub digit_written : ℤ → Option (List Token)
+digit_written d = if is_digit d then Some (bytes (word d)) else None
+
+abbrev pub digits_written : List ℤ → Option (List Token)
+digits_written ds = if list_all is_digit ds then Some (bytes (flat_map word ds)) else None
 
 abbrev pub has_form : List ℤ → ℤ → ℤ → Bool
 has_form digits weight scale = nat_le (length digits) 32767 && (list_all is_digit digits && (fits_signed w16 weight && fits_signed w16 scale))

@@ -2,7 +2,7 @@
 use Rattle.std.specs.Prelude.{◌≡◌, ℕ, zero, suc, ◌+◌, ◌*◌, ◌<◌, ◌^◌, nat_lt, nat_le, int_le, Bool, true, false, ◌&&◌, cond, ℤ, pos, negsuc, List, [], ◌∷◌, ◌++◌, length, drop, Option, Some, None, refl}
 use Rattle.std.specs.Int.{w16, cast_signed, cast_unsigned, from_be_bytes, to_be_bytes}
 use Rattle.std.specs.List.{flat_map, list_all}
-use Rattle.std.proofs.Common.{ap, sym, ◌∙◌, arith, append-nil}
+use Rattle.std.proofs.Common.{ap, sym, ◌∙◌, arith}
 use Rattle.std.proofs.lemmas.Bool.{le-ltb, lt-ltb}
 use Rattle.std.proofs.lemmas.Bool.Decides.{nat_tests}
 use Rattle.std.proofs.lemmas.List.{length-append}
@@ -18,7 +18,7 @@ use Rattle.pgv_codec.specs.Back.{ReadsBack, always}
 use Rattle.pgv_codec.specs.BackParts.{guarded}
 use Rattle.pgv_codec.specs.BackScalars.{part_is}
 use Rattle.pgv_codec.specs.Image.{image_of}
-use Rattle.pgv_numeric.specs.Numeric.{Numeric, not_a_number, number, numeric_of, word, sign_word, head_form, number_form, is_digit, has_form, numeric_image, digits, digits_after, sign_of, said_sign, no_number, signed_number, numeric_in_binary, numeric_reading}
+use Rattle.pgv_numeric.specs.Numeric.{Numeric, not_a_number, number, numeric_of, word, sign_word, head_form, number_form, is_digit, has_form, numeric_image, digits, digits_after, sign_of, said_sign, signed_word, unsigned_word, no_number, signed_number, numeric_in_binary, numeric_reading}
 use Rattle.pgv_numeric.specs.declared.numeric.PgNumericSign.{PgNumericSign}
 use Rattle.pgv_numeric.specs.declared.numeric.PgNumericSign.TheVariants.{Positive, Negative}
 use Rattle.pgv_numeric.specs.declared.numeric.PgNumeric.{PgNumeric}
@@ -62,9 +62,8 @@ said_again Negative = refl
 pub number_there : (rest : List ℕ) (sign : PgNumericSign) (ds : List ℤ) (weight scale : ℤ) → length ds < 2 ^ 16 → list_all (fits_signed w16) ds ≡ true → fits_signed w16 weight ≡ true →
     fits_signed w16 scale ≡ true → numeric_in_binary (number_form sign ds weight scale ++ rest) ≡ Some (number sign ds weight scale)
 number_there rest sign ds weight scale few fit weight_fits scale_fits =
-    let after = flat_map word ds ++ rest in
     let form = number_form sign ds weight scale ++ rest in
-    let long : nat_lt (8 + length after) 8 ≡ false = le-ltb (8 + length after) 8 (omega arith) in
+    let long : nat_lt (length form) 8 ≡ false = le-ltb _ 8 (omega arith) in
     opened form sign long (said_again sign)
     ∙ numbered form sign (length ds) ds weight scale (from_be_bytes-to_be_bytes_2 (length ds) few) (digits_there ds rest fit) (two_again weight weight_fits) (two_again scale scale_fits)
 
@@ -83,6 +82,10 @@ digits_fit (d ∷ ds) e =
 few_digits : (n : ℕ) → nat_le n 32767 ≡ true → n < 2 ^ 16
 few_digits n e = grind (arith, nat_tests)
 
+nothing_after : (xs : List ℕ) → xs ++ [] ≡ xs
+nothing_after [] = refl
+nothing_after (x ∷ xs) = ap (λ (ys : List ℕ). x ∷ ys) (nothing_after xs)
+
 pub numeric_back : ReadsBack {A = PgNumeric} (λ n. numeric_image (numeric_of n)) numeric_reading numeric_of always
 numeric_back NotANumber i t p os e whole small fit =
     ap (λ (part : Part). numeric_reading t Binary part) (part_is (0 ∷ 0 ∷ 0 ∷ 0 ∷ 192 ∷ 0 ∷ 0 ∷ 0 ∷ []) i p os e)
@@ -94,5 +97,5 @@ numeric_back (Number sign v weight scale) i t p os e whole small fit =
     let fit = both (list_all is_digit ds) (fits_signed w16 weight && fits_signed w16 scale) few.1 in
     let words = both (fits_signed w16 weight) (fits_signed w16 scale) fit.1 in
     ap (λ (part : Part). numeric_reading t Binary part) (part_is form i p os g.1)
-    ∙ ap numeric_in_binary (sym (append-nil {l = form}))
+    ∙ ap numeric_in_binary (sym (nothing_after form))
     ∙ number_there [] sign ds weight scale (few_digits (length ds) few.0) (digits_fit ds fit.0) words.0 words.1

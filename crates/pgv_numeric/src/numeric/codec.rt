@@ -1,15 +1,13 @@
 //! Numbers with any number of digits, written and read (PostgreSQL, "Numeric Types", numeric).
 
-ghost use Rattle.std.specs.Prelude.{◌≡◌, ◌≤◌, ◌*◌, ◌&&◌, IfOk, IfErr, OnOk, OnErr, length, if◌then◌else◌, Some, None, refl};
-ghost use Rattle.std.specs.List.{flat_map, list_all};
+ghost use Rattle.std.specs.Prelude.{◌≡◌, ◌+◌, ◌≤◌, length, drop, IfOk, IfErr, OnOk, OnErr, Some, refl};
 ghost use Rattle.pgv_types.specs.Ty.{builtin};
 ghost use Rattle.pgv_types.specs.Relations.{softly};
-ghost use Rattle.pgv_buf.specs.Tokens.{bytes};
-ghost use Rattle.pgv_value.specs.Reading.{Answers, AnswersExactly, Refuses};
+ghost use Rattle.pgv_value.specs.Reading.{Answers, Refuses};
 ghost use Rattle.pgv_value.specs.declared.error.CodecError.TheVariants.{Memory, Short};
 ghost use Rattle.pgv_codec.specs.Outcome.{Encoded, Refused, Appended, AppendedAll};
 ghost use Rattle.pgv_codec.specs.Saying.{plainly};
-ghost use Rattle.pgv_numeric.specs.Numeric.{Numeric, number, numeric_of, numeric_image, numeric_in_binary, numeric_binary_refusal, numeric_reading, numeric_refusal, digits_after, head_form, is_digit, sign_of as sign_of_word, sign_word as sign_as_word, word};
+ghost use Rattle.pgv_numeric.specs.Numeric.{Numeric, number, numeric_of, numeric_image, numeric_in_binary, numeric_binary_refusal, numeric_reading, numeric_refusal, digit_written, digits_after, digits_written, head_form, sign_of as sign_of_word, sign_word as sign_as_word, signed_word, unsigned_word};
 
 use super::{PgNumeric, PgNumericSign};
 use byteorder::{BigEndian, ByteOrder};
@@ -60,28 +58,28 @@ impl PgHasArrayType for PgNumeric {
     }
 }
 
-/// Appends a word of two bytes.
-fn write_word(number: i16, out: &mut PgArgumentBuffer) -> Result<(), CodecError>
-    ensures ok { OnOk result (AppendedAll (Some (bytes (word number))) out.old out.new) }
-    ensures err { IfErr result (λ e. e ≡ Memory) }
+/// Appends a digit, as a word of two bytes. One outside 0 to 9999 is refused with C8.
+fn write_digit(digit: &i16, out: &mut PgArgumentBuffer) -> Result<(), CodecError>
+    ensures ok { OnOk result (AppendedAll (digit_written digit.now) out.old out.new) }
+    ensures err { IfErr result (λ e. Refused e (digit_written digit.now)) }
     ensures appended { OnErr result (Appended out.old out.new) }
 {
-    let form = number.to_be_bytes();
+    if !PgNumeric::is_valid_digit(*digit) {
+        return Err(CodecError::NumericDigit(*digit));
+    }
+    let form = digit.to_be_bytes();
     out.extend_from_slice(&form)?;
     Ok(())
 }
 
 /// Appends the digits, a word each. One outside 0 to 9999 is refused with C8.
 fn write_digits(digits: &[i16], out: &mut PgArgumentBuffer) -> Result<(), CodecError>
-    ensures ok { OnOk result (AppendedAll (if list_all is_digit digits.now then Some (bytes (flat_map word digits.now)) else None) out.old out.new) }
-    ensures err { IfErr result (λ e. Refused e (if list_all is_digit digits.now then Some (bytes (flat_map word digits.now)) else None)) }
+    ensures ok { OnOk result (AppendedAll (digits_written digits.now) out.old out.new) }
+    ensures err { IfErr result (λ e. Refused e (digits_written digits.now)) }
     ensures appended { OnErr result (Appended out.old out.new) }
 {
     for digit in digits {
-        if !PgNumeric::is_valid_digit(*digit) {
-            return Err(CodecError::NumericDigit(*digit));
-        }
-        write_word(*digit, out)?;
+        write_digit(digit, out)?;
     }
     Ok(())
 }
@@ -161,6 +159,22 @@ impl Encode for PgNumeric {
     }
 }
 
+/// The number without a sign of the two bytes at a place.
+fn unsigned_at(form: &[u8], place: usize) -> u16
+    requires { place + 2 ≤ length form.now }
+    ensures { result ≡ unsigned_word (drop place form.now) }
+{
+    BigEndian::read_u16(&form[place..])
+}
+
+/// The signed number of the two bytes at a place.
+fn signed_at(form: &[u8], place: usize) -> i16
+    requires { place + 2 ≤ length form.now }
+    ensures { result ≡ signed_word (drop place form.now) }
+{
+    BigEndian::read_i16(&form[place..])
+}
+
 /// So many digits, of any value, whatever comes after them.
 fn read_digits(alloc: Global, count: u16, form: &[u8]) -> Result<Vec<i16>, CodecError>
     ensures exact { Answers (λ v. v.items) (digits_after count form.now) result }
@@ -171,11 +185,8 @@ fn read_digits(alloc: Global, count: u16, form: &[u8]) -> Result<Vec<i16>, Codec
         return Err(CodecError::Short);
     }
     let mut digits = Vec::with_capacity(alloc, count)?;
-    let mut rest = form;
-    for _ in 0..count {
-        let (front, after) = rest.split_at(2);
-        digits.push(BigEndian::read_i16(front))?;
-        rest = after;
+    for place in 0..count {
+        digits.push(signed_at(form, 2 * place))?;
     }
     Ok(digits)
 }
@@ -199,8 +210,8 @@ fn of_bytes(alloc: Global, form: &[u8]) -> Result<PgNumeric, CodecError>
     if form.len() < 8 {
         return Err(CodecError::Short);
     }
-    let (head, rest) = form.split_at(8);
-    let word = BigEndian::read_u16(&head[4..]);
+    let (_, rest) = form.split_at(8);
+    let word = unsigned_at(form, 4);
     if word == NOT_A_NUMBER {
         return Ok(PgNumeric::NotANumber);
     }
@@ -209,9 +220,9 @@ fn of_bytes(alloc: Global, form: &[u8]) -> Result<PgNumeric, CodecError>
     };
     Ok(PgNumeric::Number {
         sign,
-        digits: read_digits(alloc, BigEndian::read_u16(head), rest)?,
-        weight: BigEndian::read_i16(&head[2..]),
-        scale: BigEndian::read_i16(&head[6..]),
+        digits: read_digits(alloc, unsigned_at(form, 0), rest)?,
+        weight: signed_at(form, 2),
+        scale: signed_at(form, 6),
     })
 }
 

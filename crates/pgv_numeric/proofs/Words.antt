@@ -1,0 +1,49 @@
+-- Signed numbers and the bytes that they are read of.
+use mir.Val.{Fits, SFits}
+use Rattle.std.proofs.Common.{◌≡◌, ℕ, zero, suc, ◌+◌, ◌*◌, ◌<◌, ◌≤◌, ◌^◌, ltb, Bool, true, false, cond, List, [], ◌∷◌, ◌++◌, length, get_or, take, drop, Option, Some, None, refl, sym, ap, ◌∙◌, subst, arith}
+use Rattle.std.proofs.Math.Facts.{sfits_to_z}
+use Rattle.std.proofs.lemmas.Int.{of_z-to_z}
+use Rattle.std.proofs.lemmas.Nat.{be_bytes_2, be_bytes_8}
+use Rattle.std.specs.Prelude.{ℤ, FitsSigned}
+use Rattle.std.specs.Int.{w16, w64, cast_signed, cast_unsigned, from_be_bytes, to_be_bytes}
+use Rattle.pgv_value.specs.Laws.{AreBytes}
+use Rattle.pgv_value.specs.NumberBinary.{fits_signed}
+use Rattle.pgv_value.specs.OwnBytes.{signed_fits}
+
+below : (bytes : List ℕ) → AreBytes bytes → (i : ℕ) → get_or bytes i 0 < 256
+below [] small i = omega arith
+below (x ∷ bytes) small zero = small.0
+below (x ∷ bytes) small (suc i) = below bytes small.1 i
+
+-- ---- two bytes
+
+two_below : (a b : ℕ) → a < 256 → b < 256 → from_be_bytes w16 (a ∷ b ∷ []) < 2 ^ 16
+two_below a b p q = omega arith
+
+pub unsigned_two : (a b : ℕ) → a < 256 → b < 256 → (from_be_bytes w16 (a ∷ b ∷ []) < 2 ^ 16) × (to_be_bytes w16 (from_be_bytes w16 (a ∷ b ∷ [])) ≡ a ∷ b ∷ [])
+unsigned_two a b p q = (two_below a b p q, be_bytes_2 (a ∷ b ∷ []) (from_be_bytes w16 (a ∷ b ∷ [])) refl (below (a ∷ b ∷ []) (p, (q, tt))) refl)
+
+pub signed_two : (a b : ℕ) → a < 256 → b < 256 → let n = cast_signed w16 (from_be_bytes w16 (a ∷ b ∷ [])) in
+    (fits_signed w16 n ≡ true) × (to_be_bytes w16 (cast_unsigned w16 n) ≡ a ∷ b ∷ [])
+signed_two a b p q =
+    let said = from_be_bytes w16 (a ∷ b ∷ []) in
+    let u = unsigned_two a b p q in (
+      signed_fits w16 (cast_signed w16 said) (sfits_to_z (record { fits = u.0 })),
+      ap (to_be_bytes w16) (of_z-to_z w16 said u.0) ∙ u.1,
+    )
+
+-- ---- eight bytes
+
+eight_below : (a b c d e f g h : ℕ) → a < 256 → b < 256 → c < 256 → d < 256 → e < 256 → f < 256 → g < 256 → h < 256 →
+    from_be_bytes w64 (a ∷ b ∷ c ∷ d ∷ e ∷ f ∷ g ∷ h ∷ []) < 2 ^ 64
+eight_below a b c d e f g h pa pb pc pd pe pf pg ph = omega arith
+
+pub signed_eight : (a b c d e f g h : ℕ) → AreBytes (a ∷ b ∷ c ∷ d ∷ e ∷ f ∷ g ∷ h ∷ []) → let n = cast_signed w64 (from_be_bytes w64 (a ∷ b ∷ c ∷ d ∷ e ∷ f ∷ g ∷ h ∷ [])) in
+    FitsSigned w64 n × (to_be_bytes w64 (cast_unsigned w64 n) ≡ a ∷ b ∷ c ∷ d ∷ e ∷ f ∷ g ∷ h ∷ [])
+signed_eight a b c d e f g h small =
+    let form = a ∷ b ∷ c ∷ d ∷ e ∷ f ∷ g ∷ h ∷ [] in
+    let said = from_be_bytes w64 form in
+    let fits = eight_below a b c d e f g h small.0 small.1.0 small.1.1.0 small.1.1.1.0 small.1.1.1.1.0 small.1.1.1.1.1.0 small.1.1.1.1.1.1.0 small.1.1.1.1.1.1.1.0 in (
+      sfits_to_z (record { fits = fits }),
+      ap (to_be_bytes w64) (of_z-to_z w64 said fits) ∙ be_bytes_8 form said refl (below form small) refl,
+    )

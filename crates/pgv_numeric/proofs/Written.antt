@@ -1,0 +1,58 @@
+-- Digits that are written one after another.
+use Rattle.std.proofs.Common.{◌≡◌, ℕ, ◌+◌, ◌<◌, Bool, true, false, ltb, cond, List, [], ◌∷◌, ◌++◌, length, get_or, take, drop, Option, Some, None, refl, sym, ap, ◌∙◌, append_assoc, arith}
+use Rattle.std.proofs.lemmas.Bool.Decides.{nat_tests}
+use Rattle.std.proofs.lemmas.List.{take_more, append-nil}
+use Rattle.std.proofs.lemmas.List.Folds.{list_all-append}
+use Rattle.std.specs.Prelude.{ℤ, ◌&&◌, ◌≤◌, nat_le}
+use Rattle.std.specs.Int.{w16}
+use Rattle.std.specs.List.{flat_map, list_all}
+use Rattle.pgv_buf.specs.Tokens.{Token, Cell, byte, bytes, blank}
+use Rattle.pgv_buf.specs.Blank.{blank-append}
+use Rattle.pgv_codec.specs.Outcome.{AppendedAll}
+use Rattle.pgv_codec.specs.Image.{image_of}
+use Rattle.pgv_codec.specs.PlainBytes.{appended_parts}
+use Rattle.pgv_value.specs.NumberBinary.{fits_signed}
+use Rattle.pgv_numeric.specs.Numeric.{number, word, sign_word, head_form, number_form, is_digit, digit_written, digits_written, has_form, numeric_image}
+use Rattle.pgv_numeric.specs.declared.numeric.PgNumericSign.{PgNumericSign}
+
+-- what is there where a test holds
+guarded : {A : Type 0} (b : Bool) (x y : A) → cond b (Some x) None ≡ Some y → (b ≡ true) × (x ≡ y)
+guarded true x y e = (refl, ap (λ (o : Option _). elim o [ None ↦ x | Some z ↦ z ]) e)
+guarded false x y e = absurd (cc)
+
+words-more : (xs : List ℤ) (x : ℤ) → flat_map word (xs ++ x ∷ []) ≡ flat_map word xs ++ word x
+words-more [] x = append-nil (word x)
+words-more (y ∷ xs) x = ap (λ (r : List ℕ). word y ++ r) (words-more xs x) ∙ sym (append_assoc (word y) (flat_map word xs) (word x))
+
+pub digits_more :
+    (xs : List ℤ) (i : ℕ) (x d : ℤ) (start now next : List Cell) → i < length xs → x ≡ get_or xs i d →
+    AppendedAll (digits_written (take i xs)) start now → AppendedAll (digit_written x) now next → AppendedAll (digits_written (take (i + 1) xs)) start next
+digits_more xs i x d start now next lt e a b =
+    let first = guarded (list_all is_digit (take i xs)) (bytes (flat_map word (take i xs))) a.0 a.1 in
+    let second = guarded (is_digit x) (bytes (word x)) b.0 b.1 in
+    let whole : take (i + 1) xs ≡ take i xs ++ x ∷ [] = take_more xs i d lt ∙ ap (λ (y : ℤ). take i xs ++ y ∷ []) (sym e) in
+    let all : list_all is_digit (take i xs ++ x ∷ []) ≡ true = list_all-append is_digit (take i xs) (x ∷ []) ∙ rw (first.0, second.0) refl in
+    let cells = appended_parts start now next (flat_map word (take i xs)) (word x) (a.2 ∙ ap (λ (ts : List Token). start ++ blank ts) (sym first.1)) (b.2 ∙ ap (λ (ts : List Token). now ++ blank ts) (sym second.1)) in (
+      bytes (flat_map word (take i xs) ++ word x),
+      ap digits_written whole ∙ rw all (ap (λ (ws : List ℕ). Some (bytes ws)) (words-more (take i xs) x)),
+      cells,
+    )
+
+few : (n : ℕ) → n ≤ 32767 → nat_le n 32767 ≡ true
+few n le = grind (arith, nat_tests)
+
+image_there : (b : Bool) (form : List ℕ) → b ≡ true → cond b (Some (image_of (bytes form))) None ≡ Some (image_of (bytes form))
+image_there b form e = rw e refl
+
+-- the words in front, and then the digits
+pub number_appended :
+    (sign : PgNumericSign) (ds : List ℤ) (weight scale : ℤ) (start mid now : List Cell) → length ds ≤ 32767 → fits_signed w16 weight ≡ true → fits_signed w16 scale ≡ true →
+    mid ≡ start ++ blank (bytes (head_form (length ds) weight (sign_word sign) scale)) → AppendedAll (digits_written ds) mid now →
+    (ts : List Token) × (numeric_image (number sign ds weight scale) ≡ Some (image_of ts)) × (now ≡ start ++ blank ts)
+number_appended sign ds weight scale start mid now le weight_fits scale_fits first second =
+    let all = guarded (list_all is_digit ds) (bytes (flat_map word ds)) second.0 second.1 in
+    let form : has_form ds weight scale ≡ true = rw (few (length ds) le, all.0, weight_fits, scale_fits) refl in (
+      bytes (number_form sign ds weight scale),
+      image_there (has_form ds weight scale) (number_form sign ds weight scale) form,
+      appended_parts start mid now (head_form (length ds) weight (sign_word sign) scale) (flat_map word ds) first (second.2 ∙ ap (λ (ts : List Token). mid ++ blank ts) (sym all.1)),
+    )
