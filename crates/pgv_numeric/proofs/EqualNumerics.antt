@@ -1,5 +1,5 @@
 -- Numbers are equal where their parts are.
-use Rattle.std.proofs.Common.{◌≡◌, ◌↔◌, Bool, true, false, List, refl, ap}
+use Rattle.std.proofs.Common.{◌≡◌, ◌↔◌, Bool, true, List, refl, ap}
 use Rattle.std.proofs.lemmas.Bool.Decides.{Decides-int_eq}
 use Rattle.std.proofs.lemmas.Slice.Eq.{slice_eq-Decides}
 use Rattle.std.specs.Prelude.{ℤ, ◌&&◌}
@@ -30,6 +30,7 @@ sign_of other (number sign ds weight scale) = sign
 pub equal_parts :
     (s t : PgNumericSign) (same : Bool) (xs ys : List ℤ) (w v c d : ℤ) → ((same ≡ true) ↔ (s ≡ t)) →
     ((same && (pointwise int_eq xs ys && (int_eq w v && int_eq c d))) ≡ true) ↔ (number s xs w c ≡ number t ys v d)
+unfolding sign_of digits_of weight_of scale_of
 equal_parts s t same xs ys w v c d decides = (
   λ e. let a = both same (pointwise int_eq xs ys && (int_eq w v && int_eq c d)) e in
       let b = both (pointwise int_eq xs ys) (int_eq w v && int_eq c d) a.1 in

@@ -2,13 +2,12 @@
 use Rattle.std.proofs.Common.{◌≡◌, ℕ, List, [], ◌∷◌, ◌++◌, length, Option, Some, refl, sym, ap, ◌∙◌, subst, arith}
 use Rattle.std.proofs.lemmas.Bool.{le-ltb}
 use Rattle.std.proofs.lemmas.Option.{same_Some}
-use Rattle.std.specs.Prelude.{ℤ, FitsSigned, nat_lt, false, ◌+◌}
+use Rattle.std.specs.Prelude.{ℤ, FitsSigned, nat_lt, false}
 use Rattle.std.specs.Int.{w64, cast_signed, cast_unsigned, from_be_bytes, to_be_bytes}
 use Rattle.pgv_value.specs.Interval.{eight_bytes}
 use Rattle.pgv_value.specs.Laws.{AreBytes}
 use Rattle.pgv_value.specs.OwnBytes.{eight_again, signed_fits}
 use Rattle.pgv_numeric.proofs.Words.{signed_eight}
-use Rattle.pgv_numeric.specs.Laws.{OneMoney}
 use Rattle.pgv_numeric.specs.MoneyCodec.{IsMoney, MoneyIsRead, money_in_binary}
 
 -- eight bytes or more are an amount

@@ -1,17 +1,17 @@
 -- The laws of numbers.
-use Rattle.std.proofs.Common.{◌≡◌, ◌↔◌, ℕ, zero, suc, ◌+◌, ◌*◌, ◌<◌, ◌≤◌, ◌^◌, ltb, eqb, Bool, true, false, cond, List, [], ◌∷◌, ◌++◌, length, drop, Option, Some, None, refl, sym, ap, ◌∙◌, subst, arith, append_assoc, ◌⊎◌, inl, inr}
-use Rattle.std.proofs.lemmas.Bool.{le-ltb, eqb-true, eq-eqb}
+use Rattle.std.proofs.Common.{◌≡◌, ℕ, zero, suc, ◌*◌, ◌<◌, ◌≤◌, ◌^◌, Bool, true, false, cond, List, [], ◌∷◌, ◌++◌, length, drop, Option, Some, None, refl, sym, ap, ◌∙◌, subst, arith, append_assoc, ◌⊎◌, inl, inr}
+use Rattle.std.proofs.lemmas.Bool.{le-ltb, eqb-true}
 use Rattle.std.proofs.lemmas.Bool.Decides.{nat_tests}
 use Rattle.std.proofs.lemmas.Option.{same_Some}
-use Rattle.std.specs.Prelude.{ℤ, nat_lt, if◌then◌else◌, ◌==◌}
-use Rattle.std.specs.Int.{w16, cast_signed, cast_unsigned, from_be_bytes, to_be_bytes}
+use Rattle.std.specs.Prelude.{ℤ, nat_lt, ◌==◌}
+use Rattle.std.specs.Int.{w16, to_be_bytes}
 use Rattle.std.specs.List.{flat_map, list_all}
 use Rattle.pgv_value.specs.Laws.{AreBytes}
 use Rattle.pgv_value.specs.NumberBinary.{fits_signed}
 use Rattle.pgv_value.specs.Steps.{◌>>=◌}
 use Rattle.pgv_numeric.proofs.Words.{unsigned_two, signed_two}
-use Rattle.pgv_numeric.specs.Laws.{IsNoNumber, IsNumber, IsNumeric, NumericIsRead, OneNumeric}
-use Rattle.pgv_numeric.specs.Numeric.{Numeric, not_a_number, number, word, sign_word, number_form, no_number, digits, digits_after, sign_of, said_sign, signed_word, unsigned_word, signed_number, numeric_in_binary}
+use Rattle.pgv_numeric.specs.Laws.{IsNumeric, NumericIsRead, OneNumeric}
+use Rattle.pgv_numeric.specs.Numeric.{Numeric, not_a_number, number, word, sign_word, number_form, no_number, digits, sign_of, said_sign, signed_word, unsigned_word, signed_number, numeric_in_binary}
 use Rattle.pgv_numeric.specs.NumericBack.{number_there}
 use Rattle.pgv_numeric.specs.declared.numeric.PgNumericSign.{PgNumericSign}
 use Rattle.pgv_numeric.specs.declared.numeric.PgNumericSign.TheVariants.{Positive, Negative}
@@ -38,16 +38,16 @@ digits_are (suc n) (a ∷ b ∷ form) small long =
 sign_is : (said : ℕ) (sign : PgNumericSign) → sign_of said ≡ Some sign → said ≡ sign_word sign
 sign_is said Positive e = is_zero (said == 0) (said == 16384) refl e
   where
-  is_zero : (a b : Bool) → (said == 0) ≡ a → cond a (Some Positive) (cond b (Some Negative) None) ≡ Some Positive → said ≡ 0
-  is_zero true b test e = eqb-true said 0 test
-  is_zero false true test e = absurd (cc)
-  is_zero false false test e = absurd (cc)
+    is_zero : (a b : Bool) → (said == 0) ≡ a → cond a (Some Positive) (cond b (Some Negative) None) ≡ Some Positive → said ≡ 0
+    is_zero true b test e = eqb-true said 0 test
+    is_zero false true test e = absurd (cc)
+    is_zero false false test e = absurd (cc)
 sign_is said Negative e = is_negative (said == 0) (said == 16384) refl e
   where
-  is_negative : (a b : Bool) → (said == 16384) ≡ b → cond a (Some Positive) (cond b (Some Negative) None) ≡ Some Negative → said ≡ 16384
-  is_negative true b test e = absurd (cc)
-  is_negative false true test e = eqb-true said 16384 test
-  is_negative false false test e = absurd (cc)
+    is_negative : (a b : Bool) → (said == 16384) ≡ b → cond a (Some Positive) (cond b (Some Negative) None) ≡ Some Negative → said ≡ 16384
+    is_negative true b test e = absurd (cc)
+    is_negative false true test e = eqb-true said 16384 test
+    is_negative false false test e = absurd (cc)
 
 -- no number is read, or one after its sign
 abbrev Apart : List ℕ → Numeric → Type 0
@@ -94,25 +94,27 @@ is_number a b c d e f g h rest sign n small said read =
       scale_fits = scale.0;
     })
   where
-  joined : {p q r s p' q' r' s' : List ℕ} (tail : List ℕ) → p ≡ p' → q ≡ q' → r ≡ r' → s ≡ s' → (p ++ (q ++ (r ++ s))) ++ tail ≡ (p' ++ (q' ++ (r' ++ s'))) ++ tail
-  joined tail e f g h = rw (e, f, g, h) refl
+    joined : {p q r s p' q' r' s' : List ℕ} (tail : List ℕ) → p ≡ p' → q ≡ q' → r ≡ r' → s ≡ s' → (p ++ (q ++ (r ++ s))) ++ tail ≡ (p' ++ (q' ++ (r' ++ s'))) ++ tail
+    joined tail e f g h = rw (e, f, g, h) refl
 
 is_numeric : (form : List ℕ) (n : Numeric) → AreBytes form → numeric_in_binary form ≡ Some n → IsNumeric form n
 is_numeric (a ∷ b ∷ c ∷ d ∷ e ∷ f ∷ g ∷ h ∷ rest) n small read = by (apart form n long read)
   where
-  form : List ℕ
-  form = a ∷ b ∷ c ∷ d ∷ e ∷ f ∷ g ∷ h ∷ rest
-  long : nat_lt (length form) 8 ≡ false
-  long = le-ltb _ 8 (omega arith)
-  by : Apart form n → IsNumeric form n
-  by (inl k) = subst (IsNumeric form) (sym k.1) (record {
-    front = a ∷ b ∷ c ∷ d ∷ [];
-    rest = g ∷ h ∷ rest;
-    whole = ap (λ (xs : List ℕ). a ∷ b ∷ c ∷ d ∷ (xs ++ g ∷ h ∷ rest)) (sym ((unsigned_two e f small.1.1.1.1.0 small.1.1.1.1.1.0).1) ∙ ap (to_be_bytes w16) k.0);
-    two_words = refl;
-    one_more = omega arith;
-  })
-  by (inr k) = is_number a b c d e f g h rest k.0 n small k.1 k.2
+    form : List ℕ
+    form = a ∷ b ∷ c ∷ d ∷ e ∷ f ∷ g ∷ h ∷ rest
+
+    long : nat_lt (length form) 8 ≡ false
+    long = le-ltb _ 8 (omega arith)
+
+    by : Apart form n → IsNumeric form n
+    by (inl k) = subst (IsNumeric form) (sym k.1) (record {
+      front = a ∷ b ∷ c ∷ d ∷ [];
+      rest = g ∷ h ∷ rest;
+      whole = ap (λ (xs : List ℕ). a ∷ b ∷ c ∷ d ∷ (xs ++ g ∷ h ∷ rest)) (sym ((unsigned_two e f small.1.1.1.1.0 small.1.1.1.1.1.0).1) ∙ ap (to_be_bytes w16) k.0);
+      two_words = refl;
+      one_more = omega arith;
+    })
+    by (inr k) = is_number a b c d e f g h rest k.0 n small k.1 k.2
 is_numeric (a ∷ b ∷ c ∷ d ∷ e ∷ f ∷ g ∷ []) n small read = absurd (cc)
 is_numeric (a ∷ b ∷ c ∷ d ∷ e ∷ f ∷ []) n small read = absurd (cc)
 is_numeric (a ∷ b ∷ c ∷ d ∷ e ∷ []) n small read = absurd (cc)

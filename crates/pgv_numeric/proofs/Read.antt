@@ -1,8 +1,8 @@
 -- Digits that are read one after another, and numbers that are read of their parts.
-use Rattle.std.proofs.Common.{◌≡◌, ℕ, zero, suc, ◌+◌, ◌*◌, ◌-◌, ◌<◌, ◌≤◌, List, [], ◌∷◌, ◌++◌, length, take, drop, Bool, true, false, ltb, eqb, Option, Some, None, refl, sym, ap, ◌∙◌, append_assoc, arith}
+use Rattle.std.proofs.Common.{◌≡◌, ℕ, zero, suc, ◌+◌, ◌*◌, List, [], ◌∷◌, ◌++◌, length, drop, false, Some, refl, sym, ap, ◌∙◌, arith}
 use Rattle.std.proofs.lemmas.List.{drop-drop}
 use Rattle.std.specs.Prelude.{ℤ, nat_lt, ◌==◌}
-use Rattle.pgv_numeric.specs.Numeric.{Numeric, number, digits, digits_after, sign_of, said_sign, no_number, signed_word, unsigned_word, numeric_in_binary}
+use Rattle.pgv_numeric.specs.Numeric.{number, digits, digits_after, sign_of, said_sign, no_number, signed_word, unsigned_word, numeric_in_binary}
 use Rattle.pgv_numeric.specs.declared.numeric.PgNumericSign.{PgNumericSign}
 
 pub digits_more : (i : ℕ) (form : List ℕ) → digits (i + 1) form ≡ digits i form ++ signed_word (drop (2 * i) form) ∷ []

@@ -1,13 +1,12 @@
 -- Digits that are written one after another.
-use Rattle.std.proofs.Common.{◌≡◌, ℕ, ◌+◌, ◌<◌, Bool, true, false, ltb, cond, List, [], ◌∷◌, ◌++◌, length, get_or, take, drop, Option, Some, None, refl, sym, ap, ◌∙◌, append_assoc, arith}
+use Rattle.std.proofs.Common.{◌≡◌, ℕ, ◌+◌, ◌<◌, Bool, true, false, cond, List, [], ◌∷◌, ◌++◌, length, get_or, take, Option, Some, None, refl, sym, ap, ◌∙◌, append_assoc, arith}
 use Rattle.std.proofs.lemmas.Bool.Decides.{nat_tests}
 use Rattle.std.proofs.lemmas.List.{take_more, append-nil}
 use Rattle.std.proofs.lemmas.List.Folds.{list_all-append}
-use Rattle.std.specs.Prelude.{ℤ, ◌&&◌, ◌≤◌, nat_le}
+use Rattle.std.specs.Prelude.{ℤ, ◌≤◌, nat_le}
 use Rattle.std.specs.Int.{w16}
 use Rattle.std.specs.List.{flat_map, list_all}
-use Rattle.pgv_buf.specs.Tokens.{Token, Cell, byte, bytes, blank}
-use Rattle.pgv_buf.specs.Blank.{blank-append}
+use Rattle.pgv_buf.specs.Tokens.{Token, Cell, bytes, blank}
 use Rattle.pgv_codec.specs.Outcome.{AppendedAll}
 use Rattle.pgv_codec.specs.Image.{image_of}
 use Rattle.pgv_codec.specs.PlainBytes.{appended_parts}

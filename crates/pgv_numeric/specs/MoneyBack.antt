@@ -1,9 +1,7 @@
 -- What is written of an amount of money is read back as it.
-use Rattle.std.specs.Prelude.{◌≡◌, ℕ, true, ℤ, List, Option, Some, None, refl}
+use Rattle.std.specs.Prelude.{◌≡◌, true, ℤ, Some}
 use Rattle.std.specs.Int.{w64, cast_unsigned, to_be_bytes}
 use Rattle.std.proofs.Common.{ap, ◌∙◌}
-use Rattle.pgv_types.specs.Ty.{Ty}
-use Rattle.pgv_types.specs.declared.oid.Oid.{Oid}
 use Rattle.pgv_buf.specs.Tokens.{bytes}
 use Rattle.pgv_value.specs.FrameBinary.{Part}
 use Rattle.pgv_value.specs.NumberBinary.{fits_signed}

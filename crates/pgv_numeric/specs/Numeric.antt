@@ -1,6 +1,6 @@
 -- Numbers as PostgreSQL keeps them ("Numeric Types", 8.1.2; the binary form is that of its source, numeric_send): digits of four
 -- decimal places each, where the weight of the first is a power of 10000, and the scale is how many decimal places are shown.
-use Rattle.std.specs.Prelude.{ℕ, zero, suc, nat_lt, nat_le, ◌+◌, ◌*◌, Bool, true, false, ◌&&◌, ◌==◌, ◌||◌, if◌then◌else◌, ℤ, pos, int_le, List, [], ◌∷◌, ◌++◌, length, take, drop, Option, Some, None, ◌≡◌}
+use Rattle.std.specs.Prelude.{ℕ, zero, suc, nat_lt, nat_le, ◌*◌, Bool, ◌&&◌, ◌==◌, if◌then◌else◌, ℤ, pos, int_le, List, [], ◌∷◌, ◌++◌, length, take, drop, Option, Some, None}
 use Rattle.std.specs.Int.{w16, cast_signed, cast_unsigned, from_be_bytes, to_be_bytes}
 use Rattle.std.specs.List.{flat_map, list_all}
 use Rattle.pgv_buf.specs.Tokens.{Token, bytes}

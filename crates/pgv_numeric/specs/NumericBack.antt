@@ -1,14 +1,12 @@
 -- What is written of a number is read back as it.
-use Rattle.std.specs.Prelude.{◌≡◌, ℕ, zero, suc, ◌+◌, ◌*◌, ◌<◌, ◌^◌, nat_lt, nat_le, int_le, Bool, true, false, ◌&&◌, cond, ℤ, pos, negsuc, List, [], ◌∷◌, ◌++◌, length, drop, Option, Some, None, refl}
-use Rattle.std.specs.Int.{w16, cast_signed, cast_unsigned, from_be_bytes, to_be_bytes}
+use Rattle.std.specs.Prelude.{◌≡◌, ℕ, ◌*◌, ◌<◌, ◌^◌, nat_lt, nat_le, Bool, true, false, ◌&&◌, ℤ, pos, negsuc, List, [], ◌∷◌, ◌++◌, length, drop, Some, refl}
+use Rattle.std.specs.Int.{w16, from_be_bytes, to_be_bytes}
 use Rattle.std.specs.List.{flat_map, list_all}
 use Rattle.std.proofs.Common.{ap, sym, ◌∙◌, arith}
-use Rattle.std.proofs.lemmas.Bool.{le-ltb, lt-ltb}
+use Rattle.std.proofs.lemmas.Bool.{le-ltb}
 use Rattle.std.proofs.lemmas.Bool.Decides.{nat_tests}
 use Rattle.std.proofs.lemmas.List.{length-append}
 use Rattle.std.proofs.lemmas.Nat.{from_be_bytes-to_be_bytes_2}
-use Rattle.pgv_types.specs.Ty.{Ty}
-use Rattle.pgv_types.specs.declared.oid.Oid.{Oid}
 use Rattle.pgv_buf.specs.Tokens.{bytes}
 use Rattle.pgv_value.specs.FrameBinary.{Part}
 use Rattle.pgv_value.specs.NumberBinary.{fits_signed}
@@ -18,7 +16,7 @@ use Rattle.pgv_codec.specs.Back.{ReadsBack, always}
 use Rattle.pgv_codec.specs.BackParts.{guarded}
 use Rattle.pgv_codec.specs.BackScalars.{part_is}
 use Rattle.pgv_codec.specs.Image.{image_of}
-use Rattle.pgv_numeric.specs.Numeric.{Numeric, not_a_number, number, numeric_of, word, sign_word, head_form, number_form, is_digit, has_form, numeric_image, digits, digits_after, sign_of, said_sign, signed_word, unsigned_word, no_number, signed_number, numeric_in_binary, numeric_reading}
+use Rattle.pgv_numeric.specs.Numeric.{number, numeric_of, word, sign_word, number_form, is_digit, has_form, numeric_image, digits, digits_after, said_sign, signed_word, unsigned_word, signed_number, numeric_in_binary, numeric_reading}
 use Rattle.pgv_numeric.specs.declared.numeric.PgNumericSign.{PgNumericSign}
 use Rattle.pgv_numeric.specs.declared.numeric.PgNumericSign.TheVariants.{Positive, Negative}
 use Rattle.pgv_numeric.specs.declared.numeric.PgNumeric.{PgNumeric}

@@ -7,3 +7,6 @@ pub mod numeric;
 
 pub use money::PgMoney;
 pub use numeric::{PgNumeric, PgNumericSign};
+
+#[cfg(test)]
+mod tests;

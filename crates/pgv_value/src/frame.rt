@@ -11,9 +11,10 @@ const NULL_LENGTH: u32 = 0xffff_ffff;
 /// The largest length of a part.
 const MAX_LENGTH: u32 = 0x7fff_ffff;
 
-/// The part of the frame at the front, and what comes after it.
+/// The part of the frame in front, null or bytes, and the rest: of `0000000161ff` it is `61`, and the rest is `ff`. Bytes that end
+/// too early are refused with C15, and a negative length but -1, which is null, with C16.
 #[tactic(auto, unfolding(crate::specs::FrameBinary::front))]
-pub(crate) fn front_of(bytes: &[u8]) -> Result<(Option<&[u8]>, &[u8]), CodecError>
+pub fn part_in_front(bytes: &[u8]) -> Result<(Option<&[u8]>, &[u8]), CodecError>
     ensures found { IfOk result (λ p. front bytes.now ≡ Some (option_copied p.0, p.1.now)) }
     ensures shorter { IfOk result (λ p. length p.1.now < length bytes.now) }
     ensures none { OnErr result (front bytes.now ≡ None) }

@@ -10,6 +10,7 @@ pub mod read;
 pub mod value;
 
 pub use error::CodecError;
+pub use frame::part_in_front;
 pub use interval::PgInterval;
 pub use number::{number_of_eight, number_of_four, u32_in_front};
 pub use read::{

@@ -8,7 +8,7 @@ ghost use Rattle.pgv_value.specs.Utf8.{is_utf8, RefusesText};
 ghost use Rattle.pgv_value.specs.declared.error.CodecError.TheVariants.{UnexpectedNull, Memory};
 
 use crate::error::CodecError;
-use crate::frame::front_of;
+use crate::frame::part_in_front;
 use bytes::Bytes;
 use pgv_types::PgTypeInfo;
 use std::alloc::{AllocError, Global};
@@ -177,7 +177,7 @@ impl<'r> PgValueRef<'r> {
         ensures unmoved { OnErr result (bytes.new.now ≡ bytes.old.now) }
     {
         let all: &'r [u8] = *bytes;
-        let (part, rest) = front_of(all)?;
+        let (part, rest) = part_in_front(all)?;
         *bytes = rest;
         Ok(PgValueRef::new(part, type_info, format))
     }

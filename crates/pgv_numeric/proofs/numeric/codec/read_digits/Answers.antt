@@ -1,9 +1,8 @@
 use mir.Val.{SFits}
-use Rattle.std.proofs.Common.{rules, ◌≡◌, ◌*◌, drop, ◌∙◌}
+use Rattle.std.proofs.Common.{rules, ◌∙◌}
 use Rattle.std.proofs.lemmas.Int.{to_z-of_z}
 use Rattle.std.specs.Int.{w16, cast_signed, cast_unsigned}
 use Rattle.pgv_numeric.proofs.Read.{digit_read}
-use Rattle.pgv_numeric.specs.Numeric.{signed_word}
 use Rattle.pgv_numeric.proofs.numeric.codec.read_digits.Goals as goal
 
 pub loop-place-preserved : goal.loop-place-preserved
