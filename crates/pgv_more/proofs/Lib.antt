@@ -3,5 +3,7 @@ pub mod Kept
 pub mod Digits
 pub mod Pairs
 pub mod Written
+pub mod ByteaDigits
 pub mod LawsOfBits
 pub mod LawsOfMacs
+pub mod LawsOfBytea

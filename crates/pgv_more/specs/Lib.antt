@@ -7,7 +7,9 @@ pub mod BitsCodec
 pub mod MacAddressText
 pub mod MacAddressCodec
 pub mod TimeTzCodec
+pub mod ByteaText
 pub mod BitsBack
 pub mod MacAddressBack
 pub mod TimeTzBack
+pub mod ByteaBack
 pub mod Laws

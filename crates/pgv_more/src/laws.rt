@@ -1,9 +1,11 @@
 //! What is proved of these types and of the definitions that say what they are. Each law is the contract of a function that does
 //! nothing.
 
-ghost use Rattle.std.specs.Prelude.{◌≡◌, ◌↔◌, ℕ, Bool, List, None};
-ghost use Rattle.pgv_types.specs.Ty.{Ty, builtin};
-ghost use Rattle.pgv_codec.specs.TypeRow.{IsBuiltIn};
+ghost use Rattle.std.specs.Prelude.{◌≡◌, ◌↔◌, ℕ, Bool, List, None, codes, string_bytes};
+ghost use Rattle.pgv_types.specs.Ty.{Ty, builtin, named};
+ghost use Rattle.pgv_codec.specs.ScalarBinary.{text_image};
+ghost use Rattle.pgv_codec.specs.TypeRow.{IsBuiltIn, IsWrittenAs};
+ghost use Rattle.pgv_more.specs.ByteaText.{bytea_reading, sized_image, sized_reading, ByteaTextIsRead, OneByteaText};
 ghost use Rattle.pgv_more.specs.BitsBinary.{bits_image, bits_hint, BitsAreRead, OneListOfBits};
 ghost use Rattle.pgv_more.specs.BitsText.{BitsAreReadOfText};
 ghost use Rattle.pgv_more.specs.BitsCodec.{is_bits, is_bits_array, bits_reading};
@@ -81,4 +83,43 @@ pub fn mac_address_is_read()
 /// No text is two MAC addresses.
 pub fn one_mac_address()
     ensures { OneMacAddress }
+{}
+
+/// A `PgBytea` is a bytea (OID 17), its bytes. Its arrays are `bytea[]` (1001).
+pub fn bytea_is_a_bytea()
+    ensures types { IsBuiltIn 17 ⟦<crate::PgBytea as Type>⟧.info ⟦<crate::PgBytea as Type>⟧.accepts }
+    ensures arrays { IsBuiltIn 1001 ⟦<crate::PgBytea as PgHasArrayType>⟧.array_info ⟦<crate::PgBytea as PgHasArrayType>⟧.accepts_array }
+    ensures written { IsWrittenAs (λ b. text_image b.0.items) ⟦<crate::PgBytea as Encode>⟧.hint ⟦<crate::PgBytea as Encode>⟧.image ⟦<crate::PgBytea as Encode>⟧.produced }
+    ensures means { ⟦<crate::PgBytea as Decode>⟧.meaning ≡ (λ b. b.0.items) }
+    ensures read { ⟦<crate::PgBytea as Decode>⟧.reading ≡ bytea_reading }
+{}
+
+/// A `PgByteaArray` of `N` bytes is a bytea (OID 17) of so many.
+pub fn bytea_array_is_a_bytea<const N: usize>()
+    ensures types { IsBuiltIn 17 ⟦<crate::PgByteaArray<N> as Type>⟧.info ⟦<crate::PgByteaArray<N> as Type>⟧.accepts }
+    ensures arrays { IsBuiltIn 1001 ⟦<crate::PgByteaArray<N> as PgHasArrayType>⟧.array_info ⟦<crate::PgByteaArray<N> as PgHasArrayType>⟧.accepts_array }
+    ensures written { IsWrittenAs (λ b. sized_image N b.0) ⟦<crate::PgByteaArray<N> as Encode>⟧.hint ⟦<crate::PgByteaArray<N> as Encode>⟧.image ⟦<crate::PgByteaArray<N> as Encode>⟧.produced }
+    ensures means { ⟦<crate::PgByteaArray<N> as Decode>⟧.meaning ≡ (λ b. b.0) }
+    ensures read { ⟦<crate::PgByteaArray<N> as Decode>⟧.reading ≡ sized_reading N }
+{}
+
+/// A `PgCiText` is a citext, by its name, its bytes; it is read as a `String` is.
+pub fn ci_text_is_a_citext()
+    ensures types { ⟦<crate::PgCiText as Type>⟧.info ≡ named (codes "citext") }
+    ensures accepts { ⟦<crate::PgCiText as Type>⟧.accepts ≡ ⟦<String as Type>⟧.accepts }
+    ensures arrays { ⟦<crate::PgCiText as PgHasArrayType>⟧.array_info ≡ named (codes "_citext") }
+    ensures accepts_arrays { ⟦<crate::PgCiText as PgHasArrayType>⟧.accepts_array ≡ ⟦<String as PgHasArrayType>⟧.accepts_array }
+    ensures written { IsWrittenAs (λ text. text_image (string_bytes text.0)) ⟦<crate::PgCiText as Encode>⟧.hint ⟦<crate::PgCiText as Encode>⟧.image ⟦<crate::PgCiText as Encode>⟧.produced }
+    ensures means { ⟦<crate::PgCiText as Decode>⟧.meaning ≡ (λ text. string_bytes text.0) }
+    ensures read { ⟦<crate::PgCiText as Decode>⟧.reading ≡ ⟦<String as Decode>⟧.reading }
+{}
+
+/// A text is `\x` and two hex digits for each byte exactly where these bytes are read of it.
+pub fn bytea_text_is_read()
+    ensures { ByteaTextIsRead }
+{}
+
+/// No text is that of two strings of bytes.
+pub fn one_bytea_text()
+    ensures { OneByteaText }
 {}

@@ -1,0 +1,73 @@
+-- Strings of bytes (PostgreSQL: "Binary Data Types", 8.4). A text is `\x` and two hex digits for each byte, the high one first.
+use Rattle.std.specs.Prelude.{◌≡◌, ◌↔◌, ℕ, ◌==◌, ◌&&◌, nat_eq, Bool, List, [], ◌∷◌, length, Option, Some, None, Result, Ok, Err, if◌then◌else◌}
+use Rattle.std.specs.Option.{option_and_then}
+use Rattle.std.specs.List.{list_all}
+use Rattle.hex.specs.Hex.{decode_of, is_hex_digit}
+use Rattle.hex.specs.declared.error.FromHexError.{FromHexError}
+use Rattle.pgv_buf.specs.Tokens.{bytes}
+use Rattle.pgv_codec.specs.Image.{Image, image_of}
+use Rattle.pgv_value.specs.Reading.{Reading}
+use Rattle.pgv_value.specs.declared.error.CodecError.{CodecError}
+use Rattle.pgv_value.specs.declared.error.CodecError.TheVariants.{UnexpectedNull, Syntax}
+use Rattle.pgv_value.specs.declared.value.PgValueFormat.{PgValueFormat}
+use Rattle.pgv_value.specs.declared.value.PgValueFormat.TheVariants.{Text, Binary}
+use Rattle.pgv_more.specs.MacAddressText.{IsPair}
+
+-- ---- which texts these are
+
+-- two digits for each byte
+abbrev pub ArePairs : List ℕ → List ℕ → Type 0
+ArePairs [] text = text ≡ []
+ArePairs (byte ∷ more) text = (high : ℕ) × (low : ℕ) × (rest : List ℕ) × (text ≡ high ∷ low ∷ rest) × IsPair high low byte × ArePairs more rest
+
+-- 92 is `\` and 120 is `x`
+abbrev pub IsByteaText : List ℕ → List ℕ → Type 0
+IsByteaText text value = (digits : List ℕ) × (text ≡ 92 ∷ 120 ∷ digits) × ArePairs value digits
+
+-- ---- what is read
+
+-- the digits after `\x`
+abbrev pub digits_after : List ℕ → Option (List ℕ)
+digits_after [] = None
+digits_after (a ∷ []) = None
+digits_after (a ∷ b ∷ digits) = if a == 92 && b == 120 then Some digits else None
+
+abbrev pub where_ok : {E A : Type 0} → Result A E → Option A
+where_ok (Ok a) = Some a
+where_ok (Err e) = None
+
+abbrev pub bytea_in_text : List ℕ → Option (List ℕ)
+bytea_in_text text = option_and_then (λ digits. where_ok (decode_of digits)) (digits_after text)
+
+-- in binary the bytes as they are; a text isn't tested for UTF-8
+abbrev pub bytea_reading : Reading (List ℕ)
+bytea_reading t f None = None
+bytea_reading t Text (Some text) = bytea_in_text text
+bytea_reading t Binary (Some value) = Some value
+
+abbrev pub bytea_refusal : PgValueFormat → Option (List ℕ) → CodecError
+bytea_refusal f None = UnexpectedNull
+bytea_refusal f (Some text) = Syntax
+
+-- ---- strings of n bytes
+
+abbrev pub of_length : ℕ → Option (List ℕ) → Option (List ℕ)
+of_length n None = None
+of_length n (Some value) = if nat_eq (length value) n then Some value else None
+
+abbrev pub sized_reading : ℕ → Reading (List ℕ)
+sized_reading n t f part = of_length n (bytea_reading t f part)
+
+-- a list of another length is none of their values
+abbrev pub sized_image : ℕ → List ℕ → Option Image
+sized_image n value = if nat_eq (length value) n then Some (image_of (bytes value)) else None
+
+-- each is a hex digit, of either case
+abbrev pub all_digits : List ℕ → Bool
+all_digits digits = list_all is_hex_digit digits
+
+abbrev pub ByteaTextIsRead : Type 0
+ByteaTextIsRead = (text value : List ℕ) → (bytea_in_text text ≡ Some value) ↔ IsByteaText text value
+
+abbrev pub OneByteaText : Type 0
+OneByteaText = (text first second : List ℕ) → IsByteaText text first → IsByteaText text second → first ≡ second

@@ -1,0 +1,44 @@
+//! Strings of bytes (PostgreSQL, "Binary Data Types", bytea).
+
+ghost use Rattle.std.specs.Prelude.{◌≡◌, IfErr};
+ghost use Rattle.pgv_value.specs.Reading.{Answers, Refuses};
+ghost use Rattle.pgv_value.specs.declared.error.CodecError.TheVariants.{Syntax};
+ghost use Rattle.pgv_more.specs.ByteaText.{bytea_in_text, digits_after};
+ghost use Rattle.std.specs.Option.{option_copied};
+
+mod array;
+mod codec;
+
+pub use array::PgByteaArray;
+use hex::FromHexError;
+use pgv_value::CodecError;
+use std::alloc::Global;
+
+/// A string of bytes, such as an image or a hash.
+#[derive(Debug, Drop, PartialEq)]
+pub struct PgBytea(pub Vec<u8>);
+
+/// The digits of a text `\x00ff`.
+fn digits_of(text: &[u8]) -> Option<&[u8]>
+    ensures { option_copied result ≡ digits_after text.now }
+{
+    match text {
+        [b'\\', b'x', digits @ ..] => Some(digits),
+        _ => None,
+    }
+}
+
+/// The bytes of a text `\x00ff`.
+fn of_text(alloc: Global, text: &[u8]) -> Result<PgBytea, CodecError>
+    ensures exact { Answers (λ b. b.0.items) (bytea_in_text text.now) result }
+    ensures refused { IfErr result (λ e. Refuses e (e ≡ Syntax)) }
+{
+    let Some(digits) = digits_of(text) else {
+        return Err(CodecError::Syntax);
+    };
+    match hex::decode(alloc, digits) {
+        Ok(bytes) => Ok(PgBytea(bytes)),
+        Err(FromHexError::OutOfMemory) => Err(CodecError::Memory),
+        Err(_) => Err(CodecError::Syntax),
+    }
+}

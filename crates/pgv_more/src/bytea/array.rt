@@ -1,0 +1,138 @@
+//! Strings of a number of bytes that is known (PostgreSQL, "Binary Data Types", bytea).
+
+ghost use Rattle.std.specs.Prelude.{◌≡◌, ℕ, List, Some, false, refl};
+ghost use Rattle.pgv_types.specs.Ty.{builtin};
+ghost use Rattle.pgv_types.specs.Relations.{softly};
+ghost use Rattle.pgv_codec.specs.Saying.{plainly};
+ghost use Rattle.pgv_value.specs.Reading.{AnswersExactly};
+ghost use Rattle.pgv_more.specs.ByteaText.{all_digits, bytea_in_text, of_length, sized_image, sized_reading};
+
+use super::digits_of;
+use hex::{FromHex, FromHexError};
+use pgv_codec::{Codec, Decode, Encode, IsNull, PgArgumentBuffer, PgHasArrayType, ReadBack, Type};
+use pgv_types::{PgType, PgTypeInfo};
+use pgv_value::{CodecError, PgValueFormat, PgValueRef};
+use std::alloc::{AllocError, Global};
+
+/// A string of `N` bytes, such as a hash.
+#[derive(Clone, Copy, Debug, PartialEq)]
+pub struct PgByteaArray<const N: usize>(pub [u8; N]);
+
+/// Whether each is a hex digit, of either case.
+fn are_digits(digits: &[u8]) -> bool
+    ensures { result ≡ all_digits digits.now }
+{
+    digits.iter().all(|digit| digit.is_ascii_hexdigit())
+}
+
+/// The bytes of a text `\x00ff`, of `N` bytes.
+fn of_text<const N: usize>(text: &[u8]) -> Result<PgByteaArray<N>, CodecError>
+    ensures exact { AnswersExactly (λ b. b.0) (of_length N (bytea_in_text text.now)) result }
+{
+    let Some(digits) = digits_of(text) else {
+        return Err(CodecError::Syntax);
+    };
+    match <[u8; N] as FromHex>::from_hex(digits) {
+        Ok(bytes) => Ok(PgByteaArray(bytes)),
+        Err(FromHexError::InvalidStringLength) if are_digits(digits) => {
+            Err(CodecError::WrongLength(digits.len() / 2))
+        }
+        Err(_) => Err(CodecError::Syntax),
+    }
+}
+
+/// The bytes, where there are `N`.
+fn of_bytes<const N: usize>(bytes: &[u8]) -> Result<PgByteaArray<N>, CodecError>
+    ensures exact { AnswersExactly (λ b. b.0) (of_length N (Some bytes.now)) result }
+{
+    match <[u8; N]>::try_from(bytes) {
+        Ok(bytes) => Ok(PgByteaArray(bytes)),
+        Err(_) => Err(CodecError::WrongLength(bytes.len())),
+    }
+}
+
+/// `bytea` (OID 17), read under `bytea` and domains over it.
+impl<const N: usize> Type for PgByteaArray<N> {
+    ghost info = { builtin 17 };
+
+    ghost accepts = { λ t. softly t (builtin 17) };
+
+    fn type_info() -> PgTypeInfo {
+        PgTypeInfo(PgType::Bytea)
+    }
+
+    fn compatible(type_info: &PgTypeInfo) -> bool {
+        type_info.type_compatible(&Self::type_info())
+    }
+}
+
+/// An array of them is `bytea[]` (OID 1001).
+impl<const N: usize> PgHasArrayType for PgByteaArray<N> {
+    ghost array_info = { builtin 1001 };
+
+    ghost accepts_array = { λ t. softly t (builtin 1001) };
+
+    fn array_type_info() -> PgTypeInfo {
+        PgTypeInfo(PgType::ByteaArray)
+    }
+
+    fn array_compatible(type_info: &PgTypeInfo) -> bool {
+        type_info.type_compatible(&Self::array_type_info())
+    }
+}
+
+/// Written as the bytes.
+impl<const N: usize> Encode for PgByteaArray<N> {
+    ghost image = { λ b. sized_image N b.0 };
+
+    fn encode_by_ref(&self, out: &mut PgArgumentBuffer) -> Result<IsNull, CodecError> {
+        out.extend_from_slice(&self.0)?;
+        Ok(IsNull::No)
+    }
+
+    fn size_hint(&self) -> usize {
+        0
+    }
+
+    fn produces(&self) -> Result<Option<PgTypeInfo>, AllocError> {
+        Ok(None)
+    }
+}
+
+/// Read as [`PgBytea`](super::PgBytea) is, of `N` bytes: another number of bytes, or of pairs of digits, is refused with C17. It takes no
+/// memory.
+impl<const N: usize> Decode for PgByteaArray<N> {
+    ghost Meaning = { List ℕ };
+
+    ghost meaning = { λ b. b.0 };
+
+    ghost reading = { sized_reading N };
+
+    ghost written = { plainly (sized_image N) };
+
+    ghost takes_memory = { false };
+
+    fn decode(_alloc: Global, value: PgValueRef<'_>) -> Result<PgByteaArray<N>, CodecError> {
+        let bytes = value.as_bytes()?;
+        match value.format() {
+            PgValueFormat::Binary => of_bytes(bytes),
+            PgValueFormat::Text => of_text(bytes),
+        }
+    }
+}
+
+impl<const N: usize> Codec for PgByteaArray<N> {
+    ghost agrees = { λ _. refl };
+}
+
+/// Bytes come back as they were written.
+impl<const N: usize> ReadBack for PgByteaArray<N> {
+    ghost use Rattle.pgv_codec.specs.Back.{always};
+    ghost use Rattle.pgv_more.specs.ByteaBack.{sized_back};
+
+    ghost kept = { λ b. b };
+
+    ghost fits = { always };
+
+    ghost reads_back = { sized_back N };
+}

@@ -1,0 +1,96 @@
+//! Text whose case doesn't matter, written and read (PostgreSQL, appendix F, citext).
+
+ghost use Rattle.std.specs.Prelude.{ℕ, List, Some, refl, codes, string_bytes};
+ghost use Rattle.pgv_types.specs.Ty.{named};
+ghost use Rattle.pgv_value.specs.ScalarGrammar.{text_reading};
+ghost use Rattle.pgv_value.specs.Utf8.{text_refusal};
+ghost use Rattle.pgv_codec.specs.Saying.{plainly};
+ghost use Rattle.pgv_codec.specs.ScalarBinary.{is_text, is_text_array, text_image};
+
+use super::PgCiText;
+use pgv_codec::{
+    Codec, Decode, Encode, IsNull, PgArgumentBuffer, PgHasArrayType, ReadBack, Type, encode_text,
+};
+use pgv_types::PgTypeInfo;
+use pgv_value::{CodecError, PgValueRef};
+use std::alloc::{AllocError, Global};
+
+/// `citext`, of which only the name is known, read under each type under which a `String` is.
+impl Type for PgCiText {
+    ghost info = { named (codes "citext") };
+
+    ghost accepts = { is_text };
+
+    fn type_info() -> PgTypeInfo {
+        PgTypeInfo::with_name("citext")
+    }
+
+    fn compatible(type_info: &PgTypeInfo) -> bool {
+        <String as Type>::compatible(type_info)
+    }
+}
+
+/// An array of them is `_citext`, read under each array of a type under which a `String` is read.
+impl PgHasArrayType for PgCiText {
+    ghost array_info = { named (codes "_citext") };
+
+    ghost accepts_array = { is_text_array };
+
+    fn array_type_info() -> PgTypeInfo {
+        PgTypeInfo::with_name("_citext")
+    }
+
+    fn array_compatible(type_info: &PgTypeInfo) -> bool {
+        <String as PgHasArrayType>::array_compatible(type_info)
+    }
+}
+
+/// Written as its bytes.
+impl Encode for PgCiText {
+    ghost image = { λ text. text_image (string_bytes text.0) };
+
+    fn encode_by_ref(&self, out: &mut PgArgumentBuffer) -> Result<IsNull, CodecError> {
+        encode_text(self.as_str(), out)
+    }
+
+    fn size_hint(&self) -> usize {
+        0
+    }
+
+    fn produces(&self) -> Result<Option<PgTypeInfo>, AllocError> {
+        Ok(None)
+    }
+}
+
+/// Read as a `String` is: in either format any bytes that are UTF-8, else C14. Null is refused with C13.
+impl Decode for PgCiText {
+    ghost Meaning = { List ℕ };
+
+    ghost meaning = { λ text. string_bytes text.0 };
+
+    ghost reading = { text_reading };
+
+    ghost written = { plainly text_image };
+
+    ghost refusal = { Some text_refusal };
+
+    fn decode(alloc: Global, value: PgValueRef<'_>) -> Result<PgCiText, CodecError> {
+        Ok(PgCiText(String::decode(alloc, value)?))
+    }
+}
+
+impl Codec for PgCiText {
+    ghost agrees = { λ _. refl };
+}
+
+/// A text comes back as it was written.
+impl ReadBack for PgCiText {
+    ghost use Rattle.pgv_codec.specs.Back.{always};
+    ghost use Rattle.pgv_codec.specs.BackScalars.{text_back};
+
+    ghost kept = { λ text. text };
+
+    ghost fits = { always };
+
+    ghost reads_back = { λ text. text_back text.0 };
+}
