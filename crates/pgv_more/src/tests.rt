@@ -2,7 +2,7 @@
 
 mod server;
 
-use crate::{BitVec, MacAddress, PgTimeTz};
+use crate::{BitVec, MacAddress, PgBytea, PgByteaArray, PgCiText, PgTimeTz};
 use jiff::civil::{Date, DateTime, Time};
 use jiff::tz::Offset;
 use jiff::{SignedDuration, Timestamp};
@@ -274,5 +274,39 @@ fn networks_and_addresses(rt: HostRuntime) -> Result<(), Fail> {
         "0380001000000000000000000000000000000001",
         Ok("0380001000000000000000000000000000000001"),
     )?;
+    Ok(())
+}
+
+#[test]
+fn strings_of_bytes(rt: HostRuntime) -> Result<(), Fail> {
+    let alloc = rt.alloc();
+    read_text::<PgBytea>(&rt, alloc, "\\x00Ff", Ok("00ff"));
+    read_text::<PgBytea>(&rt, alloc, "\\x", Ok(""));
+    read_text::<PgBytea>(&rt, alloc, "00", Err(29));
+    read_text::<PgBytea>(&rt, alloc, "\\x0", Err(29));
+    read_text::<PgBytea>(&rt, alloc, "\\X00", Err(29));
+    read::<PgBytea>(&rt, alloc, "00ff", Ok("00ff"))?;
+    read_text::<PgByteaArray<2>>(&rt, alloc, "\\x00FF", Ok("00ff"));
+    read_text::<PgByteaArray<2>>(&rt, alloc, "\\x00", Err(17));
+    read_text::<PgByteaArray<2>>(&rt, alloc, "\\x000", Err(29));
+    read_text::<PgByteaArray<2>>(&rt, alloc, "\\x0g", Err(29));
+    read_text::<PgByteaArray<2>>(&rt, alloc, "0000", Err(29));
+    read::<PgByteaArray<2>>(&rt, alloc, "00ff", Ok("00ff"))?;
+    read::<PgByteaArray<2>>(&rt, alloc, "00ff00", Err(17))?;
+    assert!(rt; PgByteaArray([1, 2]) == PgByteaArray([1, 2]));
+    Ok(())
+}
+
+#[test]
+fn text_without_case(rt: HostRuntime) -> Result<(), Fail> {
+    let alloc = rt.alloc();
+    read_text::<PgCiText>(&rt, alloc, "Ab", Ok("4162"));
+    read::<PgCiText>(&rt, alloc, "4162", Ok("4162"))?;
+    read::<PgCiText>(&rt, alloc, "ff", Err(14))?;
+    let text = PgCiText::from_str(alloc, "Ab")?;
+    assert!(rt; text.clone()? == text);
+    assert!(rt; PgCiText::new(alloc) != text);
+    assert_eq!(rt; format!(in alloc; "{text}")?.as_str(), "Ab");
+    assert_eq!(rt; String::from(PgCiText::from(text.0)).as_str(), "Ab");
     Ok(())
 }
