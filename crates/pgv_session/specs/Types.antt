@@ -1,7 +1,7 @@
 -- The TYPEs of the lines: for each its name, and what is read and written under it.
 use Rattle.std.specs.Prelude.{ℕ, codes, bytes_eq, List, [], ◌∷◌, Option, Some, None, option_map, if◌then◌else◌}
 use Rattle.std.specs.Int.{w8, w16, w32, w64}
-use Rattle.pgv_types.specs.Ty.{Ty, builtin}
+use Rattle.pgv_types.specs.Ty.{Ty, builtin, named}
 use Rattle.pgv_value.specs.Reading.{Reading}
 use Rattle.pgv_value.specs.ScalarGrammar.{bool_reading, int_reading, char_reading, oid_reading, text_reading, uuid_reading}
 use Rattle.pgv_value.specs.DateTimeBinary.{date_reading, time_reading, date_time_reading, instant_reading}
@@ -20,8 +20,11 @@ use Rattle.pgv_codec.specs.ScalarBinary.{bool_image, signed_image, unsigned_imag
 use Rattle.pgv_codec.specs.WithHint.{with_hint}
 use Rattle.pgv_more.specs.BitsBinary.{bits_image, bits_hint}
 use Rattle.pgv_more.specs.BitsCodec.{bits_reading}
+use Rattle.pgv_more.specs.ByteaText.{bytea_reading}
 use Rattle.pgv_more.specs.MacAddressCodec.{mac_image, mac_reading}
 use Rattle.pgv_more.specs.TimeTzCodec.{time_tz_image, time_tz_reading}
+use Rattle.pgv_numeric.specs.MoneyCodec.{money_reading}
+use Rattle.pgv_numeric.specs.Numeric.{numeric_image, numeric_reading}
 
 -- what is added of a value: its type and its frame, where it has one
 abbrev pub framed_as : Saying → Option Framed
@@ -64,6 +67,10 @@ types =
     (codes "varbit", row (builtin 1562) bits_reading (with_hint bits_hint bits_image)) ∷
     (codes "inet", row (builtin 869) network_reading (with_hint network_hint network_image)) ∷
     (codes "macaddr", row (builtin 829) mac_reading (with_hint (λ _. 6) mac_image)) ∷
+    (codes "bytea", row (builtin 17) bytea_reading (plainly text_image)) ∷
+    (codes "citext", row (named (codes "citext")) text_reading (plainly text_image)) ∷
+    (codes "money", row (builtin 790) money_reading (plainly (signed_image w64))) ∷
+    (codes "numeric", row (builtin 1700) numeric_reading (plainly numeric_image)) ∷
     (codes "int4[]", list_row (builtin 1007) (builtin 23) (int_reading w32) (plainly (signed_image w32))) ∷
     (codes "text[]", list_row (builtin 1009) (builtin 25) text_reading (plainly text_image)) ∷
     (codes "date[]", list_row (builtin 1182) (builtin 1082) date_reading (with_hint (λ _. 4) date_image)) ∷

@@ -15,7 +15,8 @@ ghost use Rattle.pgv_session.specs.Types.{framed_as, framed_by, row, row_named, 
 use crate::line::{Ask, is};
 use jiff::Timestamp;
 use jiff::civil::{Date, DateTime, Time};
-use pgv_more::{BitVec, MacAddress, PgTimeTz};
+use pgv_more::{BitVec, MacAddress, PgBytea, PgCiText, PgTimeTz};
+use pgv_numeric::{PgMoney, PgNumeric};
 use pgv_text::IpNetwork;
 use pgv_types::Oid;
 use pgv_wire::{
@@ -52,6 +53,10 @@ pub fn respond_by(
         _ if is(name, "varbit") => respond_as::<BitVec>(alloc, arguments, ask),
         _ if is(name, "inet") => respond_as::<IpNetwork>(alloc, arguments, ask),
         _ if is(name, "macaddr") => respond_as::<MacAddress>(alloc, arguments, ask),
+        _ if is(name, "bytea") => respond_as::<PgBytea>(alloc, arguments, ask),
+        _ if is(name, "citext") => respond_as::<PgCiText>(alloc, arguments, ask),
+        _ if is(name, "money") => respond_as::<PgMoney>(alloc, arguments, ask),
+        _ if is(name, "numeric") => respond_as::<PgNumeric>(alloc, arguments, ask),
         _ if is(name, "int4[]") => respond_as::<Vec<Option<i32>>>(alloc, arguments, ask),
         _ if is(name, "text[]") => respond_as::<Vec<Option<String>>>(alloc, arguments, ask),
         _ if is(name, "date[]") => respond_as::<Vec<Option<Date>>>(alloc, arguments, ask),

@@ -1,6 +1,6 @@
 //! Sessions with the answers that they must have, and readers and writers that fail.
 
-use crate::vectors::{ARRAYS, NETWORKS, SCALARS, TIMES};
+use crate::vectors::{ARRAYS, NETWORKS, NUMBERS, SCALARS, STRINGS, TIMES};
 use pgv_session::{RunFault, fault_text, run};
 use std::alloc::{AllocError, Global};
 use std::io::{self, BufRead, Error, ErrorKind, Read, Write};
@@ -105,6 +105,25 @@ fn dates_times_networks_and_bits(rt: HostRuntime) -> Result<(), Fail> {
 }
 
 #[test]
+fn bytes_money_and_digits(rt: HostRuntime) -> Result<(), Fail> {
+    let session = [
+        ("add bytea \\x00Ff", "$1"),
+        ("wire", "0000000200ff"),
+        ("add bytea 00", "refused C29"),
+        ("add citext Ab", "$2"),
+        ("read money 000000000000303900", "000000080000000000003039"),
+        ("read numeric 00010000000000002710", "refused C8"),
+        ("read numeric 0000000080000000", "refused C34"),
+        ("add money 1", "refused C18"),
+        ("add numeric 1", "refused C18"),
+        ("read money null", "refused C13"),
+        ("null numeric", "$3"),
+    ];
+    assert!(rt; answered(rt.alloc(), &session)?);
+    Ok(())
+}
+
+#[test]
 fn arrays_and_holes(rt: HostRuntime) -> Result<(), Fail> {
     let session = [
         ("holes", "none"),
@@ -127,7 +146,7 @@ fn arrays_and_holes(rt: HostRuntime) -> Result<(), Fail> {
         ("", "refused line"),
         ("wire now", "refused line"),
         ("read int4 0", "refused line"),
-        ("null money", "refused line"),
+        ("null float8", "refused line"),
     ];
     assert!(rt; answered(rt.alloc(), &session)?);
     Ok(())
@@ -201,23 +220,29 @@ fn push_binary(
     rows.shown.push('\n')
 }
 
+/// What the binary form and the text of a row give, as its column says it.
+fn both_sides(written: &str) -> (&str, Option<&str>) {
+    match written.split_once('!') {
+        Some((binary, text)) => (binary, Some(text)),
+        None => (written, None),
+    }
+}
+
 /// What a row's binary form is written as, or the refusal of it.
 fn as_binary<'a>(hex: &'a str, written: &'a str) -> &'a str {
-    if written == "=" || written.starts_with('!') {
-        hex
-    } else {
-        written
+    match both_sides(written).0 {
+        "" | "=" => hex,
+        other => other,
     }
 }
 
 /// What a row's text is written as, or the refusal of it.
 fn as_text<'a>(hex: &'a str, written: &'a str) -> &'a str {
-    match written {
-        "=" => hex,
-        "!C18" => "C18",
-        "!C29" => "C29",
-        _ if written.starts_with('C') => "C29",
-        _ => written,
+    match both_sides(written) {
+        (_, Some("=")) | ("=", None) => hex,
+        (_, Some(other)) => other,
+        (binary, None) if binary.starts_with('C') => "C29",
+        (binary, None) => binary,
     }
 }
 
@@ -279,6 +304,18 @@ fn vectors_of_times(rt: HostRuntime) -> Result<(), Fail> {
 #[test]
 fn vectors_of_networks(rt: HostRuntime) -> Result<(), Fail> {
     assert!(rt; rows_answered(rt.alloc(), NETWORKS)?);
+    Ok(())
+}
+
+#[test]
+fn vectors_of_strings(rt: HostRuntime) -> Result<(), Fail> {
+    assert!(rt; rows_answered(rt.alloc(), STRINGS)?);
+    Ok(())
+}
+
+#[test]
+fn vectors_of_numbers(rt: HostRuntime) -> Result<(), Fail> {
+    assert!(rt; rows_answered(rt.alloc(), NUMBERS)?);
     Ok(())
 }
 
