@@ -1,0 +1,1 @@
+//! Laws of ranges. Each is the contract of a function that does nothing.

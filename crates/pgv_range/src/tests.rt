@@ -1,0 +1,1 @@
+//! Ranges, written and read.
