@@ -234,3 +234,24 @@ fn side_of<T>(included: bool, value: T) -> Bound<T>
         Bound::Excluded(value)
     }
 }
+
+/// A range comes back under a type of kind range, where each bound's value comes back under the type that it is a range over.
+impl<T: ReadBack + Type> ReadBack for PgRange<T> {
+    ghost use Rattle.pgv_range.specs.RangeBack.{range_back};
+    ghost use Rattle.pgv_range.specs.RangeFits.{RangeFits, range_kept};
+
+    ghost kept = { range_kept T.kept };
+
+    ghost fits = { λ r t os. RangeFits T.image T.fits r.start r.end t os };
+
+    ghost reads_back = { range_back T.info T.hint T.image T.reading T.meaning T.kept T.fits T.reads_back };
+}
+
+impl<T: Codec> Codec for PgRange<T>
+where
+    PgRange<T>: Type,
+{
+    ghost use Rattle.pgv_range.specs.RangeSaying.{range_agrees};
+
+    ghost agrees = { λ r. range_agrees T.hint T.image T.produced T.info T.meaning T.written T.agrees Self.info r.start r.end };
+}
