@@ -1,19 +1,17 @@
 -- What is computed of a range in text is what its characters are.
 use Rattle.std.proofs.Common.{arith, ◌≡◌, ℕ, Bool, true, false, List, [], ◌∷◌, length, Option, Some, None, refl, sym, ◌∙◌, ap, subst}
-use Rattle.std.specs.Prelude.{◌↔◌}
 use Rattle.std.specs.Str.{chars}
 use Rattle.std.specs.declared.ops.Bound.{Bound}
 use Rattle.std.specs.declared.ops.Bound.TheVariants.{Included, Excluded, Unbounded}
 use Rattle.std.proofs.lemmas.Option.{same_Some}
 use Rattle.pgv_types.specs.Ty.{Ty}
 use Rattle.pgv_text.specs.Laws.{NestIsComputed}
-use Rattle.pgv_text.specs.NestText.{Nest, IsNestText, IsPart, Pairwise, Form, Piece}
+use Rattle.pgv_text.specs.NestText.{Nest, IsNestText, IsPart, Pairwise, Piece}
 use Rattle.pgv_text.specs.Parsed.{nest_of}
 use Rattle.pgv_text.specs.RangeText.{range_form}
 use Rattle.pgv_text.specs.declared.scanner.TextForm.TheVariants.{Range}
 use Rattle.pgv_value.specs.FrameBinary.{Part}
 use Rattle.pgv_value.specs.Reading.{Reading}
-use Rattle.pgv_value.specs.Steps.{◌>>=◌}
 use Rattle.pgv_value.specs.Utf8.{is_utf8}
 use Rattle.pgv_value.specs.declared.value.PgValueFormat.TheVariants.{Text}
 use Rattle.pgv_nest.specs.NestText.{TextIs}

@@ -1,6 +1,6 @@
 -- Ranges read back: the law of ranges over the law of their bounds.
 use Rattle.std.specs.Prelude.{◌≡◌, ℕ, List, [], ◌∷◌, ◌++◌, take, drop, nat_le, Option, Some, None, refl}
-use Rattle.std.proofs.Common.{sym, ap, ◌∙◌, subst, append-nil}
+use Rattle.std.proofs.Common.{sym, ◌∙◌, subst, append-nil}
 use Rattle.std.proofs.lemmas.Option.{same_Some}
 use Rattle.std.specs.Range.Bound.{bound_map}
 use Rattle.std.specs.declared.ops.Bound.{Bound}
@@ -15,11 +15,11 @@ use Rattle.pgv_codec.specs.Back.{AreOids, SlotsFit, ImageFits, ReadsBack, holes_
 use Rattle.pgv_codec.specs.BackParts.{guarded, joined_parts, SlotsFit-front, SlotsFit-back, AreOids-drop, frame_back}
 use Rattle.pgv_codec.specs.Image.{Image, image_of, limit, frame_of, join}
 use Rattle.pgv_codec.specs.Writing.{write, written_part}
-use Rattle.pgv_range.specs.RangeOf.{RangeOf, bounds, range_meaning}
+use Rattle.pgv_range.specs.RangeOf.{bounds, range_meaning}
 use Rattle.pgv_range.specs.FlagByte.{flags_of, form_of}
 use Rattle.pgv_range.specs.RangeImage.{bound_frame, flagged, range_image}
-use Rattle.pgv_range.specs.RangeGrammar.{value_in_front, bound_in, range, range_element}
-use Rattle.pgv_range.specs.RangeFits.{bound_holes, BoundFits, BoundsFit, RangeFits, range_kept}
+use Rattle.pgv_range.specs.RangeGrammar.{value_in_front, bound_in, range}
+use Rattle.pgv_range.specs.RangeFits.{bound_holes, BoundFits, RangeFits, range_kept}
 use Rattle.pgv_range.specs.declared.flags.Side.{Side}
 use Rattle.pgv_range.specs.declared.flags.Side.TheVariants.{Infinite, Inclusive, Exclusive}
 use Rattle.pgv_range.specs.declared.flags.RangeForm.TheVariants.{Sides}

@@ -33,8 +33,8 @@ IsBound read flags infinite included (Included m) bytes rest = IsClear flags inf
 IsBound read flags infinite included (Excluded m) bytes rest = IsClear flags infinite × IsClear flags included × BeginsWith read m bytes rest
 
 -- An empty range: the flag 1, and anything. It is read as one without bounds.
-abbrev pub IsEmptied : {M : Type 0} → List ℕ → RangeOf M → Type 0
-IsEmptied bytes m = (flags : ℕ) × (rest : List ℕ) × (bytes ≡ flags ∷ rest) × IsSet flags 1 × (m ≡ bounds Unbounded Unbounded)
+abbrev pub IsEmptyRange : {M : Type 0} → List ℕ → RangeOf M → Type 0
+IsEmptyRange bytes m = (flags : ℕ) × (rest : List ℕ) × (bytes ≡ flags ∷ rest) × IsSet flags 1 × (m ≡ bounds Unbounded Unbounded)
 
 -- A range of these bounds: the flag byte, the lower bound, the upper one, and anything after them.
 pub record IsOfBounds {M : Type 0} (read : Part → Option M) (bytes : List ℕ) (lower upper : Bound M) : Type 0 where
@@ -52,7 +52,7 @@ IsBounded read bytes (bounds lower upper) = IsOfBounds read bytes lower upper
 
 -- the bytes are this range, under a type
 abbrev pub IsRange : {M : Type 0} → (Ty → Part → Option M) → Ty → List ℕ → RangeOf M → Type 0
-IsRange read t bytes m = (u : Ty) × IsRangeOver t u × (IsEmptied bytes m ⊎ IsBounded (read u) bytes m)
+IsRange read t bytes m = (u : Ty) × IsRangeOver t u × (IsEmptyRange bytes m ⊎ IsBounded (read u) bytes m)
 
 -- ---- what is computed is what the bytes are
 

@@ -1,6 +1,6 @@
 -- What is read of ranges, computed (PostgreSQL: "Range Types", 8.17; the binary form is that of its source, range_recv). The
 -- relations that it computes stand in `RangeBinary` and `RangeInText`.
-use Rattle.std.specs.Prelude.{ℕ, Bool, true, false, cond, List, [], ◌∷◌, Option, Some, None, if◌then◌else◌}
+use Rattle.std.specs.Prelude.{ℕ, Bool, true, false, List, [], ◌∷◌, Option, Some, None, if◌then◌else◌}
 use Rattle.std.specs.Str.{chars}
 use Rattle.std.specs.declared.ops.Bound.{Bound}
 use Rattle.std.specs.declared.ops.Bound.TheVariants.{Included, Excluded, Unbounded}

@@ -1,5 +1,5 @@
 -- Ranges in text, as what their characters are and not as how they are read (PostgreSQL: "Range Input/Output", 8.17.5).
-use Rattle.std.specs.Prelude.{◌≡◌, ◌↔◌, ℕ, Bool, true, false, List, Option, Some, None}
+use Rattle.std.specs.Prelude.{◌≡◌, ℕ, Bool, true, false, List, Option, Some, None}
 use Rattle.std.specs.Str.{chars}
 use Rattle.std.specs.declared.ops.Bound.{Bound}
 use Rattle.std.specs.declared.ops.Bound.TheVariants.{Included, Excluded, Unbounded}

@@ -1,5 +1,5 @@
 -- What a range prints, and when two are equal.
-use Rattle.std.specs.Prelude.{ℕ, Bool, true, false, ◌&&◌, List, Option, Some, codes}
+use Rattle.std.specs.Prelude.{ℕ, Bool, true, false, List, Option, Some, codes}
 use Rattle.std.specs.Fmt.{option_append}
 use Rattle.std.specs.declared.ops.Bound.{Bound}
 use Rattle.std.specs.declared.ops.Bound.TheVariants.{Included, Excluded, Unbounded}

@@ -164,6 +164,8 @@ fn worked_ranges(rt: HostRuntime) -> Result<(), Fail> {
         assert!(rt; range == PgRange::from((range.start, range.end)));
     }
     let range = PgRange::from(1..10);
+    let copy = range;
+    assert!(rt; range == copy);
     assert!(rt; matches!(range.start_bound(), Bound::Included(&1)));
     assert!(rt; matches!(range.end_bound(), Bound::Excluded(&10)));
     assert!(rt; range != PgRange::from(1..=10));
