@@ -1,0 +1,3 @@
+mod Steps
+pub mod BinaryGrammars
+pub mod TextGrammars

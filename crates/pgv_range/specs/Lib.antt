@@ -1,0 +1,11 @@
+pub mod RangeOf
+pub mod FlagByte
+pub mod RangeImage
+pub mod RangeGrammar
+pub mod RangeBinary
+pub mod RangeInText
+pub mod RangeSaying
+pub mod RangeFits
+pub mod RangeBack
+pub mod RangeShown
+pub mod RangeRow

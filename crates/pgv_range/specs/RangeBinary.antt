@@ -1,0 +1,63 @@
+-- Ranges in binary, as what the bytes are and not as how they are read (PostgreSQL: "Range Types", 8.17; the form is that of
+-- its source, range_send): a flag byte, a frame for each bound that there is, and anything after them.
+use Rattle.std.specs.Prelude.{◌≡◌, ◌↔◌, ◌⊎◌, ℕ, true, false, List, ◌∷◌, Option, Some}
+use Rattle.std.specs.declared.ops.Bound.{Bound}
+use Rattle.std.specs.declared.ops.Bound.TheVariants.{Included, Excluded, Unbounded}
+use Rattle.pgv_types.specs.Ty.{Ty, range as range_over}
+use Rattle.pgv_types.specs.Facts.{kind_at}
+use Rattle.pgv_value.specs.FrameBinary.{Part, IsFrame}
+use Rattle.pgv_value.specs.Laws.{AreBytes}
+use Rattle.pgv_range.specs.RangeOf.{RangeOf, bounds}
+use Rattle.pgv_range.specs.FlagByte.{has}
+use Rattle.pgv_range.specs.RangeGrammar.{range_in_binary}
+
+-- the type is a range over this one
+abbrev pub IsRangeOver : Ty → Ty → Type 0
+IsRangeOver t u = kind_at t ≡ Some (range_over u)
+
+abbrev pub IsSet : ℕ → ℕ → Type 0
+IsSet flags flag = has flags flag ≡ true
+
+abbrev pub IsClear : ℕ → ℕ → Type 0
+IsClear flags flag = has flags flag ≡ false
+
+-- The bytes begin with a frame of this value, and this comes after it.
+abbrev pub BeginsWith : {M : Type 0} → (Part → Option M) → M → List ℕ → List ℕ → Type 0
+BeginsWith read m bytes rest = (part : Part) × IsFrame bytes part rest × (read part ≡ Some m)
+
+-- The bytes begin with this bound, of which these two flags speak. Where there is none, they begin with nothing; a bound that
+-- is there has a frame.
+abbrev pub IsBound : {M : Type 0} → (Part → Option M) → (flags infinite included : ℕ) → Bound M → List ℕ → List ℕ → Type 0
+IsBound read flags infinite included Unbounded bytes rest = IsSet flags infinite × (bytes ≡ rest)
+IsBound read flags infinite included (Included m) bytes rest = IsClear flags infinite × IsSet flags included × BeginsWith read m bytes rest
+IsBound read flags infinite included (Excluded m) bytes rest = IsClear flags infinite × IsClear flags included × BeginsWith read m bytes rest
+
+-- An empty range: the flag 1, and anything. It is read as one without bounds.
+abbrev pub IsEmptyRange : {M : Type 0} → List ℕ → RangeOf M → Type 0
+IsEmptyRange bytes m = (flags : ℕ) × (rest : List ℕ) × (bytes ≡ flags ∷ rest) × IsSet flags 1 × (m ≡ bounds Unbounded Unbounded)
+
+-- A range of these bounds: the flag byte, the lower bound, the upper one, and anything after them.
+pub record IsOfBounds {M : Type 0} (read : Part → Option M) (bytes : List ℕ) (lower upper : Bound M) : Type 0 where
+  pub flags : ℕ
+  pub frames : List ℕ
+  pub between : List ℕ
+  pub rest : List ℕ
+  pub whole : bytes ≡ flags ∷ frames
+  pub not_empty : IsClear flags 1
+  pub below : IsBound read flags 8 2 lower frames between
+  pub above : IsBound read flags 16 4 upper between rest
+
+abbrev pub IsBounded : {M : Type 0} → (Part → Option M) → List ℕ → RangeOf M → Type 0
+IsBounded read bytes (bounds lower upper) = IsOfBounds read bytes lower upper
+
+-- the bytes are this range, under a type
+abbrev pub IsRange : {M : Type 0} → (Ty → Part → Option M) → Ty → List ℕ → RangeOf M → Type 0
+IsRange read t bytes m = (u : Ty) × IsRangeOver t u × (IsEmptyRange bytes m ⊎ IsBounded (read u) bytes m)
+
+-- ---- what is computed is what the bytes are
+
+abbrev pub RangeIsItsBounds : {M : Type 0} → (Ty → Part → Option M) → Type 0
+RangeIsItsBounds {M} read = (t : Ty) (bytes : List ℕ) (m : RangeOf M) → AreBytes bytes → (range_in_binary read t bytes ≡ Some m) ↔ IsRange read t bytes m
+
+abbrev pub OneRange : {M : Type 0} → (Ty → Part → Option M) → Type 0
+OneRange {M} read = (t : Ty) (bytes : List ℕ) (m other : RangeOf M) → IsRange read t bytes m → IsRange read t bytes other → m ≡ other

@@ -1,0 +1,11 @@
+-- What a range says (PostgreSQL: "Range Types", 8.17): two bounds, each of which is included, excluded or missing.
+use Rattle.std.specs.Range.Bound.{bound_map}
+use Rattle.std.specs.declared.ops.Bound.{Bound}
+use Rattle.pgv_range.specs.declared.range.PgRange.{PgRange}
+
+pub data RangeOf (M : Type 0) : Type 0 where
+  bounds : Bound M → Bound M → RangeOf M
+
+-- what a range says, by what its bounds' values say
+abbrev pub range_meaning : {T M : Type 0} → (T → M) → PgRange T → RangeOf M
+range_meaning meaning r = bounds (bound_map meaning r.start) (bound_map meaning r.end)

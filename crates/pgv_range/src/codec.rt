@@ -1,0 +1,257 @@
+//! What ranges are written as and read of, whatever their bounds are (PostgreSQL, "Range Types"; the binary form is that of its source,
+//! range_send).
+
+ghost use Rattle.std.specs.Prelude.{◌≡◌, IfOk, IfErr, OnOk, OnErr, Some, None, IsErrOf};
+ghost use Rattle.std.specs.Option.{option_map};
+ghost use Rattle.std.specs.Range.Bound.{bound_map};
+ghost use Rattle.pgv_types.specs.Parts.{ref_type};
+ghost use Rattle.pgv_text.specs.PartsView.{nest};
+ghost use Rattle.pgv_value.specs.Reading.{Answers, Refuses};
+ghost use Rattle.pgv_value.specs.declared.error.CodecError.TheVariants.{NotARange};
+ghost use Rattle.pgv_value.specs.declared.value.PgValueFormat.TheVariants.{Binary, Text};
+ghost use Rattle.pgv_codec.specs.Outcome.{Appended, AppendedAll, Refused};
+ghost use Rattle.pgv_range.specs.RangeGrammar.{bound_in, bound_in_text, bounds_in, bounds_in_text, next_bound, range_element, range_in_binary, range_in_text, side_in_text, value_in_front};
+ghost use Rattle.pgv_range.specs.RangeImage.{bound_frame};
+ghost use Rattle.pgv_range.specs.RangeOf.{range_meaning};
+
+use crate::flags::{RangeFlags, RangeForm, Side};
+use crate::range::PgRange;
+use crate::types::element_of;
+use bitflags::Flags;
+use pgv_codec::{Codec, Decode, Encode, IsNull, PgArgumentBuffer, ReadBack, Type};
+use pgv_text::{Parts, TextForm};
+use pgv_types::{PgTypeInfo, PgTypeRef};
+use pgv_value::{CodecError, PgValueFormat, PgValueRef};
+use std::alloc::{AllocError, Global};
+use std::ops::Bound;
+
+/// Written as a flag byte (02 and 04: the lower and the upper bound is included; 08 and 10: there is none) and the frame of each
+/// bound that there is, the lower first. From 1 to 10 without 10, of `int4`, is `02 00000004 00000001 00000004 0000000a`.
+impl<T: Encode> Encode for PgRange<T> {
+    ghost use Rattle.pgv_range.specs.RangeImage.{range_image};
+
+    ghost image = { λ r. range_image T.hint T.image r.start r.end };
+
+    fn encode_by_ref(&self, out: &mut PgArgumentBuffer) -> Result<IsNull, CodecError> {
+        let flags = RangeFlags::of(&self.start, &self.end);
+        out.push(flags.bits())?;
+        encode_bound(&self.start, out)?;
+        encode_bound(&self.end, out)?;
+        Ok(IsNull::No)
+    }
+
+    fn size_hint(&self) -> usize {
+        0
+    }
+
+    fn produces(&self) -> Result<Option<PgTypeInfo>, AllocError> {
+        Ok(None)
+    }
+}
+
+/// The frame of a bound, and nothing where there is none.
+fn encode_bound<T: Encode>(bound: &Bound<T>, out: &mut PgArgumentBuffer) -> Result<(), CodecError>
+    ensures ok { OnOk result (AppendedAll (bound_frame T.hint T.image bound.now) out.old out.new) }
+    ensures err { IfErr result (λ e. Refused e (bound_frame T.hint T.image bound.now)) }
+    ensures appended { OnErr result (Appended out.old out.new) }
+{
+    match bound {
+        Bound::Included(value) => out.encode(value),
+        Bound::Excluded(value) => out.encode(value),
+        Bound::Unbounded => Ok(()),
+    }
+}
+
+/// A range of values that `T` reads (PostgreSQL, "Range Types").
+///
+/// In binary a flag byte and the frames of the bounds, read under the type that the value's type is a range over; bits of the flag
+/// byte that have no meaning and bytes after the bounds are ignored. An empty range is read as one without bounds.
+///
+/// In text the bounds are read under `T`'s own type; the text `empty` is refused.
+///
+/// Null is refused with C13, a text that is not UTF-8 with C14 and one outside the grammar with C29, a type that isn't a range in
+/// binary with C23, bytes that end too early with C15, and what a bound is refused with.
+impl<T: Decode + Type> Decode for PgRange<T> {
+    ghost use Rattle.pgv_range.specs.RangeGrammar.{range};
+    ghost use Rattle.pgv_range.specs.RangeOf.{RangeOf};
+    ghost use Rattle.pgv_range.specs.RangeSaying.{range_written};
+
+    ghost Meaning = { RangeOf T.Meaning };
+
+    ghost meaning = { range_meaning T.meaning };
+
+    ghost reading = { range T.info T.reading };
+
+    ghost written = { range_written T.info T.written };
+
+    fn decode(alloc: Global, value: PgValueRef<'_>) -> Result<PgRange<T>, CodecError> {
+        match value.format() {
+            PgValueFormat::Text => read_text(alloc, value.as_str()?),
+            PgValueFormat::Binary => read_binary(alloc, value.type_info(), value.as_bytes()?),
+        }
+    }
+}
+
+/// A range in binary.
+fn read_binary<T: Decode>(
+    alloc: Global,
+    type_info: &PgTypeInfo,
+    bytes: &[u8],
+) -> Result<PgRange<T>, CodecError>
+    ensures { Answers (range_meaning T.meaning) (range_in_binary (λ u. T.reading u Binary) type_info.now bytes.now) result }
+{
+    let element = element_of_range(type_info)?;
+    let Some((flags, frames)) = bytes.split_first() else {
+        return Err(CodecError::Short);
+    };
+    match RangeFlags::from_bits_retain(*flags).form() {
+        RangeForm::Empty => Ok(PgRange {
+            start: Bound::Unbounded,
+            end: Bound::Unbounded,
+        }),
+        RangeForm::Sides(below, above) => {
+            read_bounds(alloc, element.as_ref(), below, above, frames)
+        }
+    }
+}
+
+/// What a type is a range over; one that isn't a range is refused with C23.
+fn element_of_range(type_info: &PgTypeInfo) -> Result<PgTypeRef<'_>, CodecError>
+    ensures found { IfOk result (λ element. range_element type_info.now ≡ Some (ref_type element)) }
+    ensures refused { IfErr result (λ e. (range_element type_info.now ≡ None) × (e ≡ NotARange)) }
+{
+    match element_of(type_info) {
+        Some(element) => Ok(element),
+        None => Err(CodecError::NotARange),
+    }
+}
+
+/// The lower bound and the upper one.
+fn read_bounds<T: Decode>(
+    alloc: Global,
+    element: &PgTypeInfo,
+    below: Side,
+    above: Side,
+    bytes: &[u8],
+) -> Result<PgRange<T>, CodecError>
+    ensures { Answers (range_meaning T.meaning) (bounds_in (T.reading element.now Binary) below above bytes.now) result }
+{
+    let mut rest = bytes;
+    let start = read_bound(alloc, element, below, &mut rest)?;
+    let end = read_bound(alloc, element, above, &mut rest)?;
+    Ok(PgRange { start, end })
+}
+
+/// A bound, by what the flags say of it. The slice goes on after its frame.
+fn read_bound<'a, T: Decode>(
+    alloc: Global,
+    element: &PgTypeInfo,
+    side: Side,
+    bytes: &mut &'a [u8],
+) -> Result<Bound<T>, CodecError>
+    ensures ok { IfOk result (λ b. bound_in (T.reading element.now Binary) side bytes.old.now ≡ Some (bound_map T.meaning b, bytes.new.now)) }
+    ensures err { IfErr result (λ e. Refuses e (bound_in (T.reading element.now Binary) side bytes.old.now ≡ None)) }
+{
+    match side {
+        Side::Infinite => Ok(Bound::Unbounded),
+        Side::Inclusive => Ok(Bound::Included(read_value(alloc, element, bytes)?)),
+        Side::Exclusive => Ok(Bound::Excluded(read_value(alloc, element, bytes)?)),
+    }
+}
+
+/// The value of the frame in front.
+fn read_value<'a, T: Decode>(
+    alloc: Global,
+    element: &PgTypeInfo,
+    bytes: &mut &'a [u8],
+) -> Result<T, CodecError>
+    ensures ok { IfOk result (λ v. value_in_front (T.reading element.now Binary) bytes.old.now ≡ Some (T.meaning v, bytes.new.now)) }
+    ensures err { IfErr result (λ e. Refuses e (value_in_front (T.reading element.now Binary) bytes.old.now ≡ None)) }
+{
+    let part = PgValueRef::get(bytes, PgValueFormat::Binary, element.clone()?)?;
+    T::decode(alloc, part)
+}
+
+/// A range in text.
+fn read_text<T: Decode + Type>(alloc: Global, text: &str) -> Result<PgRange<T>, CodecError>
+    ensures { Answers (range_meaning T.meaning) (range_in_text (T.reading T.info Text) text.now) result }
+{
+    match Parts::new(TextForm::Range, text) {
+        None => Err(CodecError::Syntax),
+        Some(parts) => read_parts(alloc, parts),
+    }
+}
+
+/// The two parts of a range, each read from one text under the own type of `T`.
+fn read_parts<T: Decode + Type>(alloc: Global, parts: Parts<'_>) -> Result<PgRange<T>, CodecError>
+    ensures { Answers (range_meaning T.meaning) (bounds_in_text (T.reading T.info Text) (nest parts.entry)) result }
+{
+    let (lower_included, upper_included) = parts.includes();
+    let mut parts = parts;
+    let mut text = String::new(alloc);
+    let start = next_bound_of(alloc, &mut parts, lower_included, &mut text)?;
+    let end = next_bound_of(alloc, &mut parts, upper_included, &mut text)?;
+    Ok(PgRange { start, end })
+}
+
+/// The bound of the next part, which is put into a text.
+fn next_bound_of<T: Decode + Type>(
+    alloc: Global,
+    parts: &mut Parts<'_>,
+    included: bool,
+    text: &mut String,
+) -> Result<Bound<T>, CodecError>
+    ensures ok { IfOk result (λ b. next_bound (T.reading T.info Text) included (nest parts.old).values ≡ Some (bound_map T.meaning b, (nest parts.new).values)) }
+    ensures err { IfErr result (λ e. Refuses e (next_bound (T.reading T.info Text) included (nest parts.old).values ≡ None)) }
+{
+    match parts.next_into(text)? {
+        None => Err(CodecError::Syntax),
+        Some(false) => Ok(Bound::Unbounded),
+        Some(true) => bound_of_text(alloc, included, text.as_str()),
+    }
+}
+
+/// The bound of a text that is present, at a bracket that includes or doesn't.
+fn bound_of_text<T: Decode + Type>(
+    alloc: Global,
+    included: bool,
+    text: &str,
+) -> Result<Bound<T>, CodecError>
+    ensures { Answers (bound_map T.meaning) (bound_in_text (T.reading T.info Text) included (Some text.now)) result }
+{
+    let part = PgValueRef::new(Some(text.as_bytes()), T::type_info(), PgValueFormat::Text);
+    let value = T::decode(alloc, part)?;
+    Ok(side_of(included, value))
+}
+
+/// A bound that is included or isn't.
+fn side_of<T>(included: bool, value: T) -> Bound<T>
+    ensures { result ≡ side_in_text included value }
+{
+    if included {
+        Bound::Included(value)
+    } else {
+        Bound::Excluded(value)
+    }
+}
+
+/// A range comes back under a type of kind range, where each bound's value comes back under the type that it is a range over.
+impl<T: ReadBack + Type> ReadBack for PgRange<T> {
+    ghost use Rattle.pgv_range.specs.RangeBack.{range_back};
+    ghost use Rattle.pgv_range.specs.RangeFits.{RangeFits, range_kept};
+
+    ghost kept = { range_kept T.kept };
+
+    ghost fits = { λ r t os. RangeFits T.image T.fits r.start r.end t os };
+
+    ghost reads_back = { range_back T.info T.hint T.image T.reading T.meaning T.kept T.fits T.reads_back };
+}
+
+impl<T: Codec> Codec for PgRange<T>
+where
+    PgRange<T>: Type,
+{
+    ghost use Rattle.pgv_range.specs.RangeSaying.{range_agrees};
+
+    ghost agrees = { λ r. range_agrees T.hint T.image T.produced T.info T.meaning T.written T.agrees Self.info r.start r.end };
+}

@@ -1,0 +1,153 @@
+//! Laws of ranges: what they are in binary and in text, what is read back of them, and what each type of this crate is. Each is the
+//! contract of a function that does nothing.
+
+ghost use Rattle.std.specs.Prelude.{◌≡◌, ◌↔◌, ◌&&◌, ◌∷◌, [], ℕ, List, Some, None};
+ghost use Rattle.std.specs.Range.{range_inclusive_start, range_inclusive_end};
+ghost use Rattle.std.specs.declared.ops.Bound.TheVariants.{Included, Excluded, Unbounded};
+ghost use Rattle.pgv_types.specs.Ty.{Ty};
+ghost use Rattle.pgv_types.specs.declared.oid.Oid.{Oid};
+ghost use Rattle.pgv_value.specs.Laws.{AreBytes};
+ghost use Rattle.pgv_value.specs.declared.value.PgValueFormat.TheVariants.{Binary, Text};
+ghost use Rattle.pgv_nest.specs.NestText.{TextIs};
+ghost use Rattle.pgv_codec.specs.Back.{ReadsBack, FieldReadsBack};
+ghost use Rattle.pgv_codec.specs.TypeRow.{IsBuiltIn, IsWrittenAs};
+ghost use Rattle.pgv_range.specs.RangeBinary.{IsRange, IsRangeOver, OneRange};
+ghost use Rattle.pgv_range.specs.RangeFits.{BoundsFit, range_kept};
+ghost use Rattle.pgv_range.specs.RangeGrammar.{range};
+ghost use Rattle.pgv_range.specs.RangeImage.{range_image};
+ghost use Rattle.pgv_range.specs.RangeInText.{IsRangeInText, OneRangeInText};
+ghost use Rattle.pgv_range.specs.RangeOf.{RangeOf, range_meaning};
+ghost use Rattle.pgv_range.specs.RangeRow.{ComesBackUnderRanges, IsBuiltInRange};
+ghost use Rattle.pgv_range.specs.RangeShown.{bound_eq, range_text};
+
+use crate::range::PgRange;
+use jiff::Timestamp;
+use jiff::civil::{Date, DateTime};
+use pgv_codec::laws::{field_reads_back, read_back};
+use pgv_codec::{Decode, Encode, PgHasArrayType, ReadBack, Type};
+use pgv_text::laws::nest_is_computed;
+use std::fmt;
+use std::ops::{Bound, Range, RangeFrom, RangeInclusive, RangeTo, RangeToInclusive};
+
+/// The range that is decoded from bytes in binary is the one that they are: a flag byte, a frame for each bound that there is, and
+/// anything after them, under a type of kind range (PostgreSQL, "Range Types"; range_send).
+pub fn range_is_its_bounds<T: Type + Decode>()
+    ensures { (t : Ty) (bytes : List ℕ) (m : RangeOf T.Meaning) → AreBytes bytes → (⟦<PgRange<T> as Decode>⟧.reading t Binary (Some bytes) ≡ Some m) ↔ IsRange (λ u. T.reading u Binary) t bytes m }
+{}
+
+/// No bytes are two ranges.
+pub fn one_range<T: Decode>()
+    ensures { OneRange (λ u. T.reading u Binary) }
+{}
+
+/// The range that is decoded from a text is the one that the text is, each bound read under its own type (PostgreSQL, "Range
+/// Input/Output").
+pub fn range_text_is_its_bounds<T: Type + Decode>()
+    ensures { TextIs ⟦<PgRange<T> as Decode>⟧.reading (IsRangeInText (T.reading T.info Text)) }
+{
+    nest_is_computed();
+}
+
+/// No text is two ranges.
+pub fn one_range_in_text<T: Type + Decode>()
+    ensures { OneRangeInText (T.reading T.info Text) }
+{
+    nest_is_computed();
+}
+
+/// Null is no range.
+pub fn null_is_no_range<T: Type + Decode>()
+    ensures binary { (t : Ty) → ⟦<PgRange<T> as Decode>⟧.reading t Binary None ≡ None }
+    ensures text { (t : Ty) → ⟦<PgRange<T> as Decode>⟧.reading t Text None ≡ None }
+{}
+
+/// What a range is written as, what it says, and what it keeps, whatever its bounds are: a flag byte and the frames of the bounds; what
+/// the bounds' values say; what they keep, included and excluded as they were.
+pub fn ranges_are_their_bounds<T: ReadBack + Type>()
+    ensures written { IsWrittenAs (λ r. range_image T.hint T.image r.start r.end) ⟦<PgRange<T> as Encode>⟧.hint ⟦<PgRange<T> as Encode>⟧.image ⟦<PgRange<T> as Encode>⟧.produced }
+    ensures means { ⟦<PgRange<T> as Decode>⟧.meaning ≡ range_meaning T.meaning }
+    ensures read { ⟦<PgRange<T> as Decode>⟧.reading ≡ range T.info T.reading }
+    ensures kept { ⟦<PgRange<T> as ReadBack>⟧.kept ≡ range_kept T.kept }
+{}
+
+/// A range comes back under a type of kind range, where the value of each bound comes back under the type that it is a range over, with
+/// the OIDs of its own holes, those of the lower bound first; and so where every value comes back under it.
+pub fn ranges_fit<T: ReadBack + Type>()
+    ensures bounds { (r : _) (t u : Ty) (oids : List Oid) → IsRangeOver t u → BoundsFit T.image T.fits u r.start r.end oids → ⟦<PgRange<T> as ReadBack>⟧.fits r t oids }
+    ensures always { (r : _) (t u : Ty) (oids : List Oid) → IsRangeOver t u → ((v : T) (own : List Oid) → T.fits v u own) → ⟦<PgRange<T> as ReadBack>⟧.fits r t oids }
+{}
+
+/// Each range over a type of this project comes back under every type of kind range.
+pub fn own_ranges_fit()
+    ensures int4 { ComesBackUnderRanges ⟦<PgRange<i32> as ReadBack>⟧.fits }
+    ensures int8 { ComesBackUnderRanges ⟦<PgRange<i64> as ReadBack>⟧.fits }
+    ensures date { ComesBackUnderRanges ⟦<PgRange<Date> as ReadBack>⟧.fits }
+    ensures date_time { ComesBackUnderRanges ⟦<PgRange<DateTime> as ReadBack>⟧.fits }
+    ensures timestamp { ComesBackUnderRanges ⟦<PgRange<Timestamp> as ReadBack>⟧.fits }
+{}
+
+/// What was written of a range is read back; and so are an array of ranges, a range of arrays, and a range in a record.
+pub fn ranges_read_back<T: ReadBack + Type + PgHasArrayType>()
+where
+    PgRange<T>: Type + PgHasArrayType,
+    ensures range { ReadsBack ⟦<PgRange<T> as Encode>⟧.image ⟦<PgRange<T> as Decode>⟧.reading (λ v. ⟦<PgRange<T> as Decode>⟧.meaning (⟦<PgRange<T> as ReadBack>⟧.kept v)) ⟦<PgRange<T> as ReadBack>⟧.fits }
+    ensures ranges { ReadsBack ⟦<Vec<PgRange<T>> as Encode>⟧.image ⟦<Vec<PgRange<T>> as Decode>⟧.reading (λ v. ⟦<Vec<PgRange<T>> as Decode>⟧.meaning (⟦<Vec<PgRange<T>> as ReadBack>⟧.kept v)) ⟦<Vec<PgRange<T>> as ReadBack>⟧.fits }
+    ensures of_lists { ReadsBack ⟦<PgRange<Vec<T>> as Encode>⟧.image ⟦<PgRange<Vec<T>> as Decode>⟧.reading (λ v. ⟦<PgRange<Vec<T>> as Decode>⟧.meaning (⟦<PgRange<Vec<T>> as ReadBack>⟧.kept v)) ⟦<PgRange<Vec<T>> as ReadBack>⟧.fits }
+    ensures field { FieldReadsBack ⟦<PgRange<T> as Type>⟧.info ⟦<PgRange<T> as Encode>⟧.produced ⟦<PgRange<T> as Encode>⟧.hint ⟦<PgRange<T> as Encode>⟧.image ⟦<PgRange<T> as Type>⟧.accepts ⟦<PgRange<T> as Decode>⟧.reading (λ v. ⟦<PgRange<T> as Decode>⟧.meaning (⟦<PgRange<T> as ReadBack>⟧.kept v)) ⟦<PgRange<T> as ReadBack>⟧.fits }
+{
+    read_back::<PgRange<T>>();
+    read_back::<Vec<PgRange<T>>>();
+    read_back::<PgRange<Vec<T>>>();
+    field_reads_back::<PgRange<T>>();
+}
+
+/// What the conversions give: the bounds that the ranges of Rust have.
+pub fn conversions<T: Copy>()
+    ensures array { (from : _) (r : _) → ⟦<PgRange<T> as From<[Bound<T>; 2]>>⟧.from_gives from r ↔ (from ≡ r.start ∷ r.end ∷ []) }
+    ensures pair { (from : _) (r : _) → ⟦<PgRange<T> as From<(Bound<T>, Bound<T>)>>⟧.from_gives from r ↔ ((r.start ≡ from.0) × (r.end ≡ from.1)) }
+    ensures range { (from : _) (r : _) → ⟦<PgRange<T> as From<Range<T>>>⟧.from_gives from r ↔ ((r.start ≡ Included from.start) × (r.end ≡ Excluded from.end)) }
+    ensures range_from { (from : _) (r : _) → ⟦<PgRange<T> as From<RangeFrom<T>>>⟧.from_gives from r ↔ ((r.start ≡ Included from.start) × (r.end ≡ Unbounded)) }
+    ensures inclusive { (from : _) (r : _) → ⟦<PgRange<T> as From<RangeInclusive<T>>>⟧.from_gives from r ↔ ((r.start ≡ Included (range_inclusive_start from)) × (r.end ≡ Included (range_inclusive_end from))) }
+    ensures range_to { (from : _) (r : _) → ⟦<PgRange<T> as From<RangeTo<T>>>⟧.from_gives from r ↔ ((r.start ≡ Unbounded) × (r.end ≡ Excluded from.end)) }
+    ensures to_inclusive { (from : _) (r : _) → ⟦<PgRange<T> as From<RangeToInclusive<T>>>⟧.from_gives from r ↔ ((r.start ≡ Unbounded) × (r.end ≡ Included from.end)) }
+{}
+
+/// What a range prints: brackets, and the texts of its bounds' values, where these are promised.
+pub fn printed<T: fmt::Display>()
+    ensures { (r : _) → ⟦<PgRange<T> as fmt::Display>⟧.output r ≡ range_text T.output r.start r.end }
+{}
+
+/// Two ranges are equal where their bounds are of one form and equal.
+pub fn equal_by_bounds<T: PartialEq>()
+    ensures { (a : _) (b : _) → ⟦<PgRange<T> as PartialEq>⟧.eq a b ≡ (bound_eq T.eq a.start b.start && bound_eq T.eq a.end b.end) }
+{}
+
+/// A `PgRange<i32>` is an int4range (OID 3904). Its arrays are `int4range[]` (3905).
+pub fn i32_range_is_an_int4range()
+    ensures types { IsBuiltInRange 3904 23 ⟦<i32 as Type>⟧.accepts ⟦<PgRange<i32> as Type>⟧.info ⟦<PgRange<i32> as Type>⟧.accepts }
+    ensures arrays { IsBuiltIn 3905 ⟦<PgRange<i32> as PgHasArrayType>⟧.array_info ⟦<PgRange<i32> as PgHasArrayType>⟧.accepts_array }
+{}
+
+/// A `PgRange<i64>` is an int8range (OID 3926). Its arrays are `int8range[]` (3927).
+pub fn i64_range_is_an_int8range()
+    ensures types { IsBuiltInRange 3926 20 ⟦<i64 as Type>⟧.accepts ⟦<PgRange<i64> as Type>⟧.info ⟦<PgRange<i64> as Type>⟧.accepts }
+    ensures arrays { IsBuiltIn 3927 ⟦<PgRange<i64> as PgHasArrayType>⟧.array_info ⟦<PgRange<i64> as PgHasArrayType>⟧.accepts_array }
+{}
+
+/// A `PgRange<Date>` is a daterange (OID 3912). Its arrays are `daterange[]` (3913).
+pub fn date_range_is_a_daterange()
+    ensures types { IsBuiltInRange 3912 1082 ⟦<Date as Type>⟧.accepts ⟦<PgRange<Date> as Type>⟧.info ⟦<PgRange<Date> as Type>⟧.accepts }
+    ensures arrays { IsBuiltIn 3913 ⟦<PgRange<Date> as PgHasArrayType>⟧.array_info ⟦<PgRange<Date> as PgHasArrayType>⟧.accepts_array }
+{}
+
+/// A `PgRange<DateTime>` is a tsrange (OID 3908). Its arrays are `tsrange[]` (3909).
+pub fn date_time_range_is_a_tsrange()
+    ensures types { IsBuiltInRange 3908 1114 ⟦<DateTime as Type>⟧.accepts ⟦<PgRange<DateTime> as Type>⟧.info ⟦<PgRange<DateTime> as Type>⟧.accepts }
+    ensures arrays { IsBuiltIn 3909 ⟦<PgRange<DateTime> as PgHasArrayType>⟧.array_info ⟦<PgRange<DateTime> as PgHasArrayType>⟧.accepts_array }
+{}
+
+/// A `PgRange<Timestamp>` is a tstzrange (OID 3910). Its arrays are `tstzrange[]` (3911).
+pub fn timestamp_range_is_a_tstzrange()
+    ensures types { IsBuiltInRange 3910 1184 ⟦<Timestamp as Type>⟧.accepts ⟦<PgRange<Timestamp> as Type>⟧.info ⟦<PgRange<Timestamp> as Type>⟧.accepts }
+    ensures arrays { IsBuiltIn 3911 ⟦<PgRange<Timestamp> as PgHasArrayType>⟧.array_info ⟦<PgRange<Timestamp> as PgHasArrayType>⟧.accepts_array }
+{}

@@ -1,0 +1,15 @@
+//! Ranges: two bounds of a type, each included, excluded or missing, with what they are written as and read of. Every type that
+//! can be written or read can be the type of the bounds.
+#![tactic(auto)]
+
+mod codec;
+mod flags;
+pub mod laws;
+pub mod range;
+mod types;
+
+pub use range::PgRange;
+pub use types::range_compatible;
+
+#[cfg(test)]
+mod tests;
