@@ -25,6 +25,8 @@ use Rattle.pgv_more.specs.MacAddressCodec.{mac_image, mac_reading}
 use Rattle.pgv_more.specs.TimeTzCodec.{time_tz_image, time_tz_reading}
 use Rattle.pgv_numeric.specs.MoneyCodec.{money_reading}
 use Rattle.pgv_numeric.specs.Numeric.{numeric_image, numeric_reading}
+use Rattle.pgv_range.specs.RangeGrammar.{range}
+use Rattle.pgv_range.specs.RangeSaying.{range_written}
 
 -- what is added of a value: its type and its frame, where it has one
 abbrev pub framed_as : Saying → Option Framed
@@ -71,6 +73,9 @@ types =
     (codes "citext", row (named (codes "citext")) text_reading (plainly text_image)) ∷
     (codes "money", row (builtin 790) money_reading (plainly (signed_image w64))) ∷
     (codes "numeric", row (builtin 1700) numeric_reading (plainly numeric_image)) ∷
+    (codes "int4range", row (builtin 3904) (range (builtin 23) (int_reading w32)) (range_written (builtin 23) (plainly (signed_image w32)))) ∷
+    (codes "int8range", row (builtin 3926) (range (builtin 20) (int_reading w64)) (range_written (builtin 20) (plainly (signed_image w64)))) ∷
+    (codes "daterange", row (builtin 3912) (range (builtin 1082) date_reading) (range_written (builtin 1082) (with_hint (λ _. 4) date_image))) ∷
     (codes "int4[]", list_row (builtin 1007) (builtin 23) (int_reading w32) (plainly (signed_image w32))) ∷
     (codes "text[]", list_row (builtin 1009) (builtin 25) text_reading (plainly text_image)) ∷
     (codes "date[]", list_row (builtin 1182) (builtin 1082) date_reading (with_hint (λ _. 4) date_image)) ∷

@@ -17,6 +17,7 @@ use jiff::Timestamp;
 use jiff::civil::{Date, DateTime, Time};
 use pgv_more::{BitVec, MacAddress, PgBytea, PgCiText, PgTimeTz};
 use pgv_numeric::{PgMoney, PgNumeric};
+use pgv_range::PgRange;
 use pgv_text::IpNetwork;
 use pgv_types::Oid;
 use pgv_wire::{
@@ -57,6 +58,9 @@ pub fn respond_by(
         _ if is(name, "citext") => respond_as::<PgCiText>(alloc, arguments, ask),
         _ if is(name, "money") => respond_as::<PgMoney>(alloc, arguments, ask),
         _ if is(name, "numeric") => respond_as::<PgNumeric>(alloc, arguments, ask),
+        _ if is(name, "int4range") => respond_as::<PgRange<i32>>(alloc, arguments, ask),
+        _ if is(name, "int8range") => respond_as::<PgRange<i64>>(alloc, arguments, ask),
+        _ if is(name, "daterange") => respond_as::<PgRange<Date>>(alloc, arguments, ask),
         _ if is(name, "int4[]") => respond_as::<Vec<Option<i32>>>(alloc, arguments, ask),
         _ if is(name, "text[]") => respond_as::<Vec<Option<String>>>(alloc, arguments, ask),
         _ if is(name, "date[]") => respond_as::<Vec<Option<Date>>>(alloc, arguments, ask),

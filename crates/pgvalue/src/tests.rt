@@ -1,6 +1,6 @@
 //! Sessions with the answers that they must have, and readers and writers that fail.
 
-use crate::vectors::{ARRAYS, NETWORKS, NUMBERS, SCALARS, STRINGS, TIMES};
+use crate::vectors::{ARRAYS, NETWORKS, NUMBERS, RANGES, SCALARS, STRINGS, TIMES};
 use pgv_session::{RunFault, fault_text, run};
 use std::alloc::{AllocError, Global};
 use std::io::{self, BufRead, Error, ErrorKind, Read, Write};
@@ -105,7 +105,7 @@ fn dates_times_networks_and_bits(rt: HostRuntime) -> Result<(), Fail> {
 }
 
 #[test]
-fn bytes_money_and_digits(rt: HostRuntime) -> Result<(), Fail> {
+fn bytes_money_digits_and_ranges(rt: HostRuntime) -> Result<(), Fail> {
     let session = [
         ("add bytea \\x00Ff", "$1"),
         ("wire", "0000000200ff"),
@@ -116,6 +116,12 @@ fn bytes_money_and_digits(rt: HostRuntime) -> Result<(), Fail> {
         ("read numeric 0000000080000000", "refused C34"),
         ("add money 1", "refused C18"),
         ("add numeric 1", "refused C18"),
+        ("read int4range 01", "0000000118"),
+        ("read int4range 1e", "0000000118"),
+        (
+            "read int4range e20000000400000001000000040000000a",
+            "00000011020000000400000001000000040000000a",
+        ),
         ("read money null", "refused C13"),
         ("null numeric", "$3"),
     ];
@@ -316,6 +322,12 @@ fn vectors_of_strings(rt: HostRuntime) -> Result<(), Fail> {
 #[test]
 fn vectors_of_numbers(rt: HostRuntime) -> Result<(), Fail> {
     assert!(rt; rows_answered(rt.alloc(), NUMBERS)?);
+    Ok(())
+}
+
+#[test]
+fn vectors_of_ranges(rt: HostRuntime) -> Result<(), Fail> {
+    assert!(rt; rows_answered(rt.alloc(), RANGES)?);
     Ok(())
 }
 
