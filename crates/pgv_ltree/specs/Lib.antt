@@ -1,0 +1,4 @@
+pub mod Labels
+pub mod Each
+pub mod Trees
+pub mod SameLabels
