@@ -2,3 +2,4 @@ pub mod Labels
 pub mod Each
 pub mod Trees
 pub mod SameLabels
+pub mod Taken

@@ -1,12 +1,13 @@
 //! Trees of labels (PostgreSQL, "ltree", Definitions).
 
 ghost use Rattle.std.specs.Prelude.{◌≡◌, ◌⊎◌, ◌↔◌, ◌<◌, ◌++◌, ◌∷◌, [], List, ℕ, length, map, IfOk, IfErr, OnOk, OnErr, IsSome, Ok, Err, Some, string_bytes};
-ghost use Rattle.std.specs.Iterator.{Drains, IsFinite, YieldsThen};
+ghost use Rattle.std.specs.Iterator.{Drains, IsFinite};
 ghost use Rattle.std.specs.Option.{option_to_list};
 ghost use Rattle.std.specs.Vec.Iter.{into_iter_items};
 ghost use Rattle.pgv_value.specs.declared.tree_error.PgLTreeParseError.TheVariants.{Memory};
 ghost use Rattle.pgv_ltree.specs.Each.{read_each};
 ghost use Rattle.pgv_ltree.specs.Labels.{label_read};
+ghost use Rattle.pgv_ltree.specs.Taken.{GivesText, GivesTexts};
 ghost use Rattle.pgv_ltree.specs.Trees.{printed_tree, tree_read};
 
 use crate::label::PgLTreeLabel;
@@ -55,9 +56,9 @@ impl PgLTree {
     ) -> Result<PgLTree, PgLTreeParseError>
         requires { (it : I.IntoIter) → I.into_iter_gives labels it → I.IntoIter.can_next it × IsFinite (I.IntoIter.remaining it) }
         // Every text was taken, and is the label at its place.
-        ensures ok { IfOk result (λ tree. (it : I.IntoIter) × (texts : List I.IntoIter.Item) × I.into_iter_gives labels it × Drains I.IntoIter.next_gives it texts × (read_each label_read (map string_bytes texts) ≡ Ok tree)) }
-        // The last text that was taken is no label.
-        ensures err { IfErr result (λ e. (e ≡ Memory) ⊎ ((it : I.IntoIter) × (texts : List I.IntoIter.Item) × (last : I.IntoIter.Item) × (after : I.IntoIter) × I.into_iter_gives labels it × YieldsThen I.IntoIter.next_gives it texts (Some last) after × (label_read (string_bytes last) ≡ Err e))) }
+        ensures ok { IfOk result (λ tree. (it : I.IntoIter) × (texts : List (List ℕ)) × I.into_iter_gives labels it × GivesTexts I.IntoIter.next_gives it texts × (read_each label_read texts ≡ Ok tree)) }
+        // A text that was taken is no label.
+        ensures err { IfErr result (λ e. (e ≡ Memory) ⊎ ((it : I.IntoIter) × (text : List ℕ) × I.into_iter_gives labels it × GivesText I.IntoIter.next_gives it text × (label_read text ≡ Err e))) }
     {
         let mut tree = PgLTree::new(alloc);
         for label in labels {

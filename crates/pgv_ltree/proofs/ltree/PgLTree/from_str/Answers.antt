@@ -17,7 +17,7 @@ returns-in_err-from_str-clause-err c =
     let t = YieldsList-turn chain c.loop-label.yielded _ c.loop-label.yielded_by _ _ c.in-Some.label c.in-Some.is c.next.ensures.steps in
     let so_far = YieldsList-so_far chain c.loop-label.yielded _ c.loop-label.yielded_by in
     let p = err_from_is_err_and c.from_residual.result c.from_residual.ensures.1 in
-    rw (p.1, p.2) (each-refused label_read Memory (parts c.args.text.now) _ c.loop-label.labels.items (length c.loop-label.yielded) c.in-Some.label.now c.in_err-from_str.field-0 so_far t.0 t.1 c.loop-label.invariant.2 c.in_err-from_str.ensures.err)
+    rw (p.1, p.2) (each-refused label_read Memory (parts c.args.text.now) _ c.loop-label.labels.items (length c.loop-label.yielded) c.in-Some.label.now c.in_err-from_str.field-0.0 so_far t.0 t.1 c.loop-label.invariant.2 c.in_err-from_str.ensures.err)
 
 pub loop-label-preserved : goal.loop-label-preserved
 loop-label-preserved c =
