@@ -4,14 +4,14 @@ use Rattle.std.specs.Prelude.{Result, Ok, Err}
 use Rattle.pgv_ltree.specs.Each.{and_others, read_each}
 
 -- what is read first of texts that are read
-record First {M E : Type 0} (r : Result M E) (others : Result (List M) E) (ms : List M) : Type 0 where
-  value : M
-  more : List M
-  is : r ≡ Ok value
-  are : others ≡ Ok more
-  whole : ms ≡ value ∷ more
+pub record First {M E : Type 0} (r : Result M E) (others : Result (List M) E) (ms : List M) : Type 0 where
+  pub value : M
+  pub more : List M
+  pub is : r ≡ Ok value
+  pub are : others ≡ Ok more
+  pub whole : ms ≡ value ∷ more
 
-first_of : {M E : Type 0} (r : Result M E) (others : Result (List M) E) (ms : List M) → and_others r others ≡ Ok ms → First r others ms
+pub first_of : {M E : Type 0} (r : Result M E) (others : Result (List M) E) (ms : List M) → and_others r others ≡ Ok ms → First r others ms
 first_of (Err e) others ms h = absurd cc
 first_of (Ok m) (Err e) ms h = absurd cc
 first_of (Ok m) (Ok more) ms h = record { value = m; more = more; is = refl; are = refl; whole = cc }

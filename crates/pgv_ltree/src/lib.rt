@@ -2,6 +2,7 @@
 #![tactic(auto)]
 
 pub mod label;
+pub mod laws;
 pub mod ltree;
 
 pub use label::PgLTreeLabel;

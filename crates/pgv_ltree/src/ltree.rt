@@ -4,11 +4,13 @@ ghost use Rattle.std.specs.Prelude.{◌≡◌, ◌⊎◌, ◌↔◌, ◌<◌, �
 ghost use Rattle.std.specs.Iterator.{Drains, IsFinite};
 ghost use Rattle.std.specs.Option.{option_to_list};
 ghost use Rattle.std.specs.Vec.Iter.{into_iter_items};
-ghost use Rattle.pgv_value.specs.declared.tree_error.PgLTreeParseError.TheVariants.{Memory};
+ghost use Rattle.pgv_value.specs.declared.tree_error.PgLTreeParseError.TheVariants.{InvalidLtreeLabel, Memory};
 ghost use Rattle.pgv_ltree.specs.Each.{read_each};
 ghost use Rattle.pgv_ltree.specs.Labels.{label_read};
 ghost use Rattle.pgv_ltree.specs.Taken.{GivesText, GivesTexts};
 ghost use Rattle.pgv_ltree.specs.Trees.{printed_tree, tree_read};
+
+mod codec;
 
 use crate::label::PgLTreeLabel;
 use pgv_value::PgLTreeParseError;
@@ -86,6 +88,7 @@ impl PgLTree {
     pub fn from_str(alloc: Global, text: &str) -> Result<PgLTree, PgLTreeParseError>
         ensures ok { IfOk result (λ tree. tree_read text.now ≡ Ok tree) }
         ensures err { IfErr result (λ e. (tree_read text.now ≡ Err e) ⊎ (e ≡ Memory)) }
+        ensures refused { IfErr result (λ e. (e ≡ InvalidLtreeLabel) ⊎ (e ≡ Memory)) }
     {
         let mut labels = Vec::new(alloc);
         for label in text.split('.') {
