@@ -1,0 +1,9 @@
+pub mod Queries
+pub mod QueryCode
+pub mod QueryText
+pub mod QueryRead
+pub mod QueryPrinted
+pub mod SameQueries
+pub mod LevelView
+pub mod SameLevels
+pub mod Flags
