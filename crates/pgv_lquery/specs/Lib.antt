@@ -7,3 +7,4 @@ pub mod SameQueries
 pub mod LevelView
 pub mod SameLevels
 pub mod Flags
+pub mod Taken

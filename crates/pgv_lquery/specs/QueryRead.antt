@@ -84,10 +84,15 @@ abbrev pub inner_read : Option (List ℕ) → Result Level PgLQueryParseError
 inner_read None = Err UnexpectedCharacter
 inner_read (Some inner) = counts_read inner (cut 44 inner)
 
+-- what is between braces, where the text begins and ends with them
+abbrev pub braced : List ℕ → Option (List ℕ)
+braced [] = None
+braced (c ∷ text) = if c == 123 then before_last 125 text else None
+
 -- what is after the star
 abbrev pub star_read : List ℕ → Result Level PgLQueryParseError
 star_read [] = Ok (star None None)
-star_read (c ∷ text) = if c == 123 then inner_read (before_last 125 text) else Err UnexpectedCharacter
+star_read (c ∷ text) = inner_read (braced (c ∷ text))
 
 -- ---- levels and queries
 

@@ -1,6 +1,6 @@
 -- The texts of queries (PostgreSQL: "ltree", lquery). 42 is `*`, 33 `!`, 46 `.`, 44 `,`, 64 `@`, 37 `%`, 123 and 125 are braces, and 124
 -- is the bar between variants.
-use Rattle.std.specs.Prelude.{◌≡◌, ◌≢◌, ◌⊎◌, ℕ, ◌+◌, ◌<◌, ◌==◌, ◌||◌, Bool, true, false, ⊥, codes, List, [], ◌∷◌, ◌++◌, length, map, Option, Some, None}
+use Rattle.std.specs.Prelude.{◌≡◌, ◌≢◌, ◌⊎◌, ℕ, ◌+◌, ◌<◌, ◌==◌, ◌||◌, Bool, true, false, codes, List, [], ◌∷◌, ◌++◌, length, map, Option, Some, None}
 use Rattle.std.specs.Int.Digits.{number_from_digits}
 use Rattle.std.specs.List.{AllByRecursion, AllZip, join_with_byte, list_all, list_any}
 use Rattle.pgv_ltree.specs.Labels.{is_label}

@@ -3,7 +3,8 @@ use Rattle.std.specs.Cmp.{IsPartialEquivalence, IsEquivalence, bool_eq_equiv, pa
 use Rattle.std.specs.Prelude.{ℕ, nat_eq, ◌==◌, ◌&&◌, Bool, List, [], Option, None, refl}
 use Rattle.std.specs.Bool.{beq}
 use Rattle.std.specs.Ordering.{on}
-use Rattle.std.specs.Cmp.Lexicographic.{pointwise, lists_equiv, option_eq, options_equiv}
+use Rattle.std.specs.Cmp.Lexicographic.{pointwise, lists_equiv, options_equiv}
+use Rattle.std.specs.Option.{option_eq}
 use Rattle.std.proofs.lemmas.Cmp.{and_equiv, nat_eq_equiv}
 use Rattle.pgv_ltree.specs.SameLabels.{same_label, same_label_equiv}
 use Rattle.pgv_lquery.specs.Queries.{Variant, Level, star, one_of, none_of}

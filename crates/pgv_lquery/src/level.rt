@@ -1,12 +1,11 @@
 //! The levels of a query (PostgreSQL, "ltree", lquery).
 
-ghost use Rattle.std.specs.Prelude.{◌≡◌, ◌⊎◌, [], IfOk, IfErr, MatchOption, Ok, Err, None, Some, option_map};
+ghost use Rattle.std.specs.Prelude.{◌≡◌, ◌⊎◌, IfOk, IfErr, Ok, Err, Some, option_map};
 ghost use Rattle.std.specs.Fmt.{DisplaysOnOk};
 ghost use Rattle.pgv_value.specs.declared.tree_error.PgLQueryParseError.TheVariants.{Memory};
 ghost use Rattle.pgv_lquery.specs.LevelView.{level_of};
-ghost use Rattle.pgv_lquery.specs.Queries.{star};
 ghost use Rattle.pgv_lquery.specs.QueryPrinted.{printed_level, printed_star, printed_variants};
-ghost use Rattle.pgv_lquery.specs.QueryRead.{before_last, between_read, bound_read, count_read, cut, inner_read, level_read, read_as, star_read, variants_read};
+ghost use Rattle.pgv_lquery.specs.QueryRead.{between_read, bound_read, braced, count_read, inner_read, level_read, star_read, variants_read};
 
 use crate::variant::PgLQueryVariant;
 use pgv_value::PgLQueryParseError;
@@ -52,7 +51,7 @@ fn between(least: &str, most: &str) -> Result<PgLQueryLevel, PgLQueryParseError>
     ensures ok { IfOk result (λ l. between_read least.now most.now ≡ Ok (level_of l)) }
     ensures err { IfErr result (λ e. between_read least.now most.now ≡ Err e) }
 {
-    if most.contains(',') || (least.is_empty() && most.is_empty()) {
+    if most.as_bytes().contains(&b',') || (least.is_empty() && most.is_empty()) {
         return Err(PgLQueryParseError::UnexpectedCharacter);
     }
     let least = bound_of(least)?;
@@ -74,6 +73,13 @@ fn counts_of(inner: &str) -> Result<PgLQueryLevel, PgLQueryParseError>
     }
 }
 
+/// What is between braces.
+fn inside(text: &str) -> Option<&str>
+    ensures { option_map (λ inner. inner.now) result ≡ braced text.now }
+{
+    text.strip_prefix('{')?.strip_suffix('}')
+}
+
 /// The star of what comes after it.
 fn star_of(text: &str) -> Result<PgLQueryLevel, PgLQueryParseError>
     ensures ok { IfOk result (λ l. star_read text.now ≡ Ok (level_of l)) }
@@ -82,13 +88,10 @@ fn star_of(text: &str) -> Result<PgLQueryLevel, PgLQueryParseError>
     if text.is_empty() {
         return Ok(PgLQueryLevel::Star(None, None));
     }
-    let Some(inner) = text.strip_prefix('{') else {
-        return Err(PgLQueryParseError::UnexpectedCharacter);
-    };
-    let Some(inner) = inner.strip_suffix('}') else {
-        return Err(PgLQueryParseError::UnexpectedCharacter);
-    };
-    counts_of(inner)
+    match inside(text) {
+        Some(inner) => counts_of(inner),
+        None => Err(PgLQueryParseError::UnexpectedCharacter),
+    }
 }
 
 /// The variants of a text.

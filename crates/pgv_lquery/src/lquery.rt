@@ -9,6 +9,7 @@ ghost use Rattle.pgv_ltree.specs.Each.{read_each};
 ghost use Rattle.pgv_lquery.specs.LevelView.{level_of};
 ghost use Rattle.pgv_lquery.specs.QueryPrinted.{printed_query};
 ghost use Rattle.pgv_lquery.specs.QueryRead.{level_read, query_read};
+ghost use Rattle.pgv_lquery.specs.Taken.{GivesText, GivesTexts};
 
 use crate::level::PgLQueryLevel;
 use pgv_value::PgLQueryParseError;
@@ -61,6 +62,10 @@ impl PgLQuery {
         levels: I,
     ) -> Result<PgLQuery, PgLQueryParseError>
         requires { (it : I.IntoIter) → I.into_iter_gives levels it → I.IntoIter.can_next it × IsFinite (I.IntoIter.remaining it) }
+        // Every text was taken, and is the level at its place.
+        ensures ok { IfOk result (λ query. (it : I.IntoIter) × (texts : List (List ℕ)) × I.into_iter_gives levels it × GivesTexts I.IntoIter.next_gives it texts × (read_each level_read texts ≡ Ok query)) }
+        // A text that was taken is no level.
+        ensures err { IfErr result (λ e. (e ≡ Memory) ⊎ ((it : I.IntoIter) × (text : List ℕ) × I.into_iter_gives levels it × GivesText I.IntoIter.next_gives it text × (level_read text ≡ Err e))) }
     {
         let mut query = PgLQuery::new(alloc);
         for level in levels {

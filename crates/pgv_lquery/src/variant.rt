@@ -1,6 +1,6 @@
 //! The variants of a level (PostgreSQL, "ltree", lquery).
 
-ghost use Rattle.std.specs.Prelude.{◌≡◌, ◌⊎◌, IfOk, IfErr, Ok, Err, Some, take, drop, true};
+ghost use Rattle.std.specs.Prelude.{◌≡◌, ◌+◌, ◌⊎◌, IfOk, IfErr, Ok, Err, Some, take, drop, true};
 ghost use Rattle.std.specs.List.{list_all};
 ghost use Rattle.pgv_value.specs.declared.tree_error.PgLQueryParseError.TheVariants.{Memory};
 ghost use Rattle.pgv_ltree.specs.Labels.{is_label};
@@ -58,10 +58,12 @@ fn are_marks(bytes: &[u8]) -> bool
 fn label_length(bytes: &[u8]) -> usize
     ensures { result ≡ label_length_of bytes.now }
 {
-    match bytes.iter().position(|byte| is_mark(*byte)) {
-        Some(place) => place,
-        None => bytes.len(),
+    for place in 0..bytes.len() {
+        if is_mark(bytes[place]) {
+            return place;
+        }
     }
+    bytes.len()
 }
 
 /// The label and the modifiers of a text.
