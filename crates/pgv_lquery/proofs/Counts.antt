@@ -4,6 +4,7 @@ use Rattle.std.specs.Prelude.{◌&&◌, nat_lt, Result, Ok, Err}
 use Rattle.std.specs.Str.{all_ascii_digits}
 use Rattle.std.specs.Str.Parse.{ParsesUnsigned, digits_value}
 use Rattle.std.proofs.lemmas.Bool.{lt-ltb, ltb-true}
+use Rattle.std.proofs.lemmas.Result.{OkIff-at_ok}
 use Rattle.std.proofs.lemmas.Str.Parse.{IsNumeralModel, numerals_by_value, parse_plain, tells_all_ascii_digits}
 use Rattle.pgv_ltree.specs.Joins.{both_true, from_both}
 use Rattle.pgv_value.specs.declared.tree_error.PgLQueryParseError.TheVariants.{ParseIntError}
@@ -12,9 +13,9 @@ use Rattle.pgv_lquery.specs.QueryRead.{count_read, is_count_text}
 pub own : IsNumeralModel (λ ds. all_ascii_digits ds ≡ true) (digits_value 10)
 own = numerals_by_value _ tells_all_ascii_digits
 
-pub count_is : (E : Type 0) (text : List ℕ) (n : ℕ) → ParsesUnsigned {E = E} 16 10 text (Ok n) → get_or text 0 0 ≢ 43 → Ok n ≡ count_read text
-count_is E text n h plain =
-    let p = parse_plain own {E = E} 16 text (Ok n) h plain in
+pub count_is : {E : Type 0} (text : List ℕ) (n : ℕ) (r : Result ℕ E) → r ≡ Ok n → ParsesUnsigned 16 10 text r → get_or text 0 0 ≢ 43 → Ok n ≡ count_read text
+count_is text n r is h plain =
+    let p = OkIff-at_ok r _ _ n (parse_plain own 16 text r h plain) is in
     let test : is_count_text text ≡ true =
     from_both (all_ascii_digits text && nat_lt 0 (length text)) (nat_lt (digits_value 10 text) 65536)
     (from_both (all_ascii_digits text) (nat_lt 0 (length text)) p.0.0 (lt-ltb 0 (length text) p.0.1)) (lt-ltb (digits_value 10 text) 65536 p.0.2) in

@@ -5,3 +5,4 @@ pub mod Clones
 pub mod Printed
 pub mod Levels
 pub mod Variants
+pub mod Written

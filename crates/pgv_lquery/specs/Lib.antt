@@ -8,3 +8,4 @@ pub mod LevelView
 pub mod SameLevels
 pub mod Flags
 pub mod Taken
+pub mod QueryCodec

@@ -1,5 +1,6 @@
 -- The texts that an iterator lends.
-use Rattle.std.specs.Prelude.{◌≡◌, ℕ, List, map, Option, Some, Bor}
+use Rattle.std.specs.Prelude.{◌≡◌, ℕ, List, map, Option, Some}
+use Rattle.std.specs.Borrow.{Bor}
 use Rattle.std.specs.Iterator.{Drains, YieldsThen}
 
 -- all of them, one after another

@@ -7,6 +7,8 @@ ghost use Rattle.pgv_lquery.specs.LevelView.{level_of};
 ghost use Rattle.pgv_lquery.specs.QueryPrinted.{printed_level, printed_star, printed_variants};
 ghost use Rattle.pgv_lquery.specs.QueryRead.{between_read, bound_read, braced, count_read, inner_read, level_read, star_read, variants_read};
 
+mod codec;
+
 use crate::variant::PgLQueryVariant;
 use pgv_value::PgLQueryParseError;
 use std::alloc::{AllocError, Global};

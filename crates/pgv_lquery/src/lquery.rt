@@ -11,6 +11,8 @@ ghost use Rattle.pgv_lquery.specs.QueryPrinted.{printed_query};
 ghost use Rattle.pgv_lquery.specs.QueryRead.{level_read, query_read};
 ghost use Rattle.pgv_lquery.specs.Taken.{GivesText, GivesTexts};
 
+mod codec;
+
 use crate::level::PgLQueryLevel;
 use pgv_value::PgLQueryParseError;
 use std::alloc::{AllocError, Global};

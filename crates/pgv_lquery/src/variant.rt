@@ -10,6 +10,8 @@ ghost use Rattle.pgv_lquery.specs.QueryPrinted.{printed_variant};
 ghost use Rattle.pgv_lquery.specs.QueryRead.{label_length as label_length_of, variant_read};
 ghost use Rattle.pgv_lquery.specs.QueryText.{is_mark as is_mark_of};
 
+mod codec;
+
 use crate::flag::{PgLQueryVariantFlag, sign};
 use bitflags::Flags;
 use pgv_ltree::PgLTreeLabel;

@@ -8,7 +8,7 @@ pub returns-in-Ok : goal.returns-in-Ok
 returns-in-Ok c =
     let begins = starts_char 43 c.args.text.now false c.if-starts_with.ensures.cases (lit< tt) (lit< tt) in
     let plain : get_or c.args.text.now 0 0 ≢ 43 = λ e. false≢true (begins.1 e) in
-    count_is _ c.args.text.now c.in-Ok.count c.in-Ok.ensures.value.0 plain
+    count_is c.args.text.now c.in-Ok.count c.parse.result c.in-Ok.is c.parse.ensures.value.0 plain
 
 pub returns-in-Err : goal.returns-in-Err
 returns-in-Err c =
