@@ -5,13 +5,11 @@ use Rattle.std.specs.Str.{all_ascii_digits}
 use Rattle.std.specs.Str.Parse.{ParsesUnsigned, digits_value}
 use Rattle.std.proofs.lemmas.Bool.{lt-ltb, ltb-true}
 use Rattle.std.proofs.lemmas.Result.{OkIff-at_ok}
-use Rattle.std.proofs.lemmas.Str.Parse.{IsNumeralModel, numerals_by_value, parse_plain, tells_all_ascii_digits}
+use Rattle.std.proofs.lemmas.Str.Parse.{parse_plain}
 use Rattle.pgv_ltree.specs.Joins.{both_true, from_both}
 use Rattle.pgv_value.specs.declared.tree_error.PgLQueryParseError.TheVariants.{ParseIntError}
+use Rattle.pgv_lquery.specs.CountAgain.{own}
 use Rattle.pgv_lquery.specs.QueryRead.{count_read, is_count_text}
-
-pub own : IsNumeralModel (λ ds. all_ascii_digits ds ≡ true) (digits_value 10)
-own = numerals_by_value _ tells_all_ascii_digits
 
 pub count_is : {E : Type 0} (text : List ℕ) (n : ℕ) (r : Result ℕ E) → r ≡ Ok n → ParsesUnsigned 16 10 text r → get_or text 0 0 ≢ 43 → Ok n ≡ count_read text
 count_is text n r is h plain =

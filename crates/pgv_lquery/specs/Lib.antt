@@ -9,3 +9,8 @@ pub mod SameLevels
 pub mod Flags
 pub mod Taken
 pub mod QueryCodec
+pub mod Lacking
+pub mod CountAgain
+pub mod LevelAgain
+pub mod PrintedAscii
+pub mod QueryBack

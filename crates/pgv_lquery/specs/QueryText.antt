@@ -1,8 +1,9 @@
 -- The texts of queries (PostgreSQL: "ltree", lquery). 42 is `*`, 33 `!`, 46 `.`, 44 `,`, 64 `@`, 37 `%`, 123 and 125 are braces, and 124
 -- is the bar between variants.
-use Rattle.std.specs.Prelude.{◌≡◌, ◌≢◌, ◌⊎◌, ℕ, ◌+◌, ◌<◌, ◌==◌, ◌||◌, Bool, true, false, codes, List, [], ◌∷◌, ◌++◌, length, map, Option, Some, None}
-use Rattle.std.specs.Int.Digits.{number_from_digits}
-use Rattle.std.specs.List.{AllByRecursion, AllZip, join_with_byte, list_all, list_any}
+use Rattle.std.specs.Prelude.{◌≡◌, ◌≢◌, ◌⊎◌, ℕ, ◌<◌, ◌==◌, ◌||◌, Bool, true, false, codes, List, [], ◌∷◌, ◌++◌, length, Option, Some, None}
+use Rattle.std.specs.List.{AllZip, join_with_byte, list_all, list_any}
+use Rattle.std.specs.Str.{all_ascii_digits}
+use Rattle.std.specs.Str.Parse.{digits_value}
 use Rattle.pgv_ltree.specs.Labels.{is_label}
 use Rattle.pgv_lquery.specs.Queries.{Variant, Level, star, one_of, none_of}
 
@@ -34,13 +35,11 @@ pub record AreVariantsText (text : List ℕ) (vs : List Variant) : Type 0 where
 
 -- ---- stars
 
--- The text is a number of levels: one or more digits, of a number below 65536; 48 is `0`.
+-- The text is a number of levels: one or more digits, of a number below 65536.
 pub record IsCountText (text : List ℕ) (n : ℕ) : Type 0 where
-  pub digits : List ℕ
-  pub some : 0 < length digits
-  pub each : AllByRecursion (λ d. d < 10) digits
-  pub whole : text ≡ map (λ d. 48 + d) digits
-  pub value : n ≡ number_from_digits 10 digits
+  pub some : 0 < length text
+  pub digits : all_ascii_digits text ≡ true
+  pub value : n ≡ digits_value 10 text
   pub small : n < 65536
 
 -- a number of levels, where there is one

@@ -150,3 +150,15 @@ impl Decode for PgLQuery {
 impl Codec for PgLQuery {
     ghost agrees = { λ _. refl };
 }
+
+/// A query comes back as it was written, where it has a level, each level that is no star has a variant, and no `NonStar` begins with an
+/// empty label. Others print what is read as something else, or not at all.
+impl ReadBack for PgLQuery {
+    ghost use Rattle.pgv_lquery.specs.QueryBack.{query_back, query_fits};
+
+    ghost kept = { λ query. query };
+
+    ghost fits = { query_fits };
+
+    ghost reads_back = { query_back };
+}
