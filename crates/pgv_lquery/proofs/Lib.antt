@@ -6,3 +6,7 @@ pub mod Printed
 pub mod Levels
 pub mod Variants
 pub mod Written
+pub mod EachText
+pub mod LawsOfVariants
+pub mod LawsOfLevels
+pub mod LawsOfQueries

@@ -14,3 +14,4 @@ pub mod CountAgain
 pub mod LevelAgain
 pub mod PrintedAscii
 pub mod QueryBack
+pub mod Laws

@@ -49,7 +49,7 @@ begins_so : (c : ℕ) (label marks : List ℕ) (parts : List (List ℕ)) → is_
 begins_so c label marks [] e = (λ n. absurd cc, is_false (c == 42) (other_char is_label_char 42 refl c e))
 begins_so c label marks (next ∷ parts) e = (λ n. absurd cc, is_false (c == 42) (other_char is_label_char 42 refl c e))
 
-begins_plainly : (label : List ℕ) (a b c : Bool) (vs : List Variant) → is_label label ≡ true → not (is_nil label) ≡ true → BeginsPlainly (join_with_byte 124 ((label ++ printed_marks a b c) ∷ map printed_variant vs))
+pub begins_plainly : (label : List ℕ) (a b c : Bool) (vs : List Variant) → is_label label ≡ true → not (is_nil label) ≡ true → BeginsPlainly (join_with_byte 124 ((label ++ printed_marks a b c) ∷ map printed_variant vs))
 begins_plainly [] a b c vs e some = absurd (false≢true some)
 begins_plainly (d ∷ label) a b c vs e some = begins_so d label (printed_marks a b c) (map printed_variant vs) (both_true (is_label_char d) (list_all is_label_char label) (label_chars (d ∷ label) e)).0
 

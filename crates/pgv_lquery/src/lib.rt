@@ -3,6 +3,7 @@
 #![tactic(auto)]
 
 pub mod flag;
+pub mod laws;
 pub mod level;
 pub mod lquery;
 pub mod variant;
