@@ -43,8 +43,9 @@ before_last_is d (c ∷ next ∷ text) front e = more_case (before_last d (next 
 
 cut_case : (x : Bool) (o : Option (List ℕ × List ℕ)) (d c : ℕ) (text a b : List ℕ) → (c == d) ≡ x → ((front after : List ℕ) → o ≡ Some (front, after) → text ≡ front ++ d ∷ after) → cond {A = Option (List ℕ × List ℕ)} x (Some ([], text)) (option_map (λ (p : List ℕ × List ℕ). (c ∷ p.0, p.1)) o) ≡ Some (a, b) → c ∷ text ≡ a ++ d ∷ b
 cut_case true o d c text a b e h r =
-    let n : a ≡ [] = cc in
-    let m : b ≡ text = cc in
+    let q : (let pair : List ℕ × List ℕ = (a, b) in pair) ≡ ([], text) = sym (same_Some (let pair : List ℕ × List ℕ = ([], text) in pair) (a, b) r) in
+    let n : a ≡ [] = ap (λ (pair : List ℕ × List ℕ). pair.0) q in
+    let m : b ≡ text = ap (λ (pair : List ℕ × List ℕ). pair.1) q in
     rw (n, m, eqb-true c d e) refl
 cut_case false None d c text a b e h r = absurd cc
 cut_case false (Some p) d c text a b e h r =
