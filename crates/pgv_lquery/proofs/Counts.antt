@@ -27,7 +27,7 @@ pub no_count : {E : Type 0} (text : List ℕ) (e : E) → ParsesUnsigned 16 10 t
 no_count text e h plain =
     let p = parse_plain own 16 text (Err e) h plain in
     let test : is_count_text text ≡ false = untrue (is_count_text text) (λ t.
-        let a = both_true (all_ascii_digits text && nat_lt 0 (length text)) (nat_lt (digits_value 10 text) 65536) t in
-        let b = both_true (all_ascii_digits text) (nat_lt 0 (length text)) a.0 in
-        p (b.0, ltb-true 0 (length text) b.1, ltb-true (digits_value 10 text) 65536 a.1)) in
+    let a = both_true (all_ascii_digits text && nat_lt 0 (length text)) (nat_lt (digits_value 10 text) 65536) t in
+    let b = both_true (all_ascii_digits text) (nat_lt 0 (length text)) a.0 in
+    p (b.0, ltb-true 0 (length text) b.1, ltb-true (digits_value 10 text) 65536 a.1)) in
     rw test refl

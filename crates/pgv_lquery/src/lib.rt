@@ -13,3 +13,6 @@ pub use level::PgLQueryLevel;
 pub use lquery::PgLQuery;
 pub use pgv_value::{PgLQueryParseError, PgLTreeParseError};
 pub use variant::PgLQueryVariant;
+
+#[cfg(test)]
+mod tests;

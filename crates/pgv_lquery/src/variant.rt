@@ -95,9 +95,7 @@ impl PgLQueryVariant {
         let (label, marks) = split_marks(text);
         let marks = marks.as_bytes();
         if !are_marks(marks) {
-            return Err(PgLQueryParseError::LTreeParrseError(
-                PgLTreeParseError::InvalidLtreeLabel,
-            ));
+            return Err(PgLQueryParseError::LTreeParrseError(PgLTreeParseError::InvalidLtreeLabel));
         }
         Ok(PgLQueryVariant {
             label: PgLTreeLabel::from_str(alloc, label)?,

@@ -13,8 +13,13 @@ pub returns-in_err-from_str-clause-err : goal.returns-in_err-from_str-clause-err
 returns-in_err-from_str-clause-err g c =
     let p = err_from_is_err_and c.from_residual.result c.from_residual.ensures.1 in
     rw (p.1, p.2) (passed_on c.in_err-from_str.ensures.err
-      (λ r. (c.into_iter-level-iterator.result, c.in-Some.level.now, c.into_iter-level-iterator.ensures.into_iter_gives,
-          (c.loop-level.yielded, c.in-Some.level, c.next.new.self, (c.loop-level.level-iterator, c.loop-level.yielded_by, c.in-Some.ensures.steps), refl), r)))
+    (λ r. (
+      c.into_iter-level-iterator.result,
+      c.in-Some.level.now,
+      c.into_iter-level-iterator.ensures.into_iter_gives,
+      (c.loop-level.yielded, c.in-Some.level, c.next.new.self, (c.loop-level.level-iterator, c.loop-level.yielded_by, c.in-Some.ensures.steps), refl),
+      r,
+    )))
 
 pub loop-level-preserved : goal.loop-level-preserved
 loop-level-preserved g c =

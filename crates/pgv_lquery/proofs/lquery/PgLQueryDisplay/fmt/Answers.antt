@@ -9,5 +9,5 @@ pub loop-level-preserved : goal.loop-level-preserved
 loop-level-preserved g c =
     let more = one_more_seen 46 printed_level level_of _ _ c.loop-level.level-index c.level-item.result c.loop-level-test.true c.level-item.is in
     λ plain. let so_far = c.loop-level.invariant plain in
-        let dot = c.in_ok-write_str.ensures.writes so_far.plain refl in
-        put_three _ _ _ _ _ _ _ _ _ so_far dot (c.in_ok-write-2.ensures.writes dot.plain refl) (sym more)
+    let dot = c.in_ok-write_str.ensures.writes so_far.plain refl in
+    put_three _ _ _ _ _ _ _ _ _ so_far dot (c.in_ok-write-2.ensures.writes dot.plain refl) (sym more)

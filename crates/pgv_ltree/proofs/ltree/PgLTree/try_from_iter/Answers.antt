@@ -10,8 +10,13 @@ use Rattle.pgv_ltree.proofs.ltree.PgLTree.try_from_iter.Goals as goal
 pub returns-in_err-new-clause-err : goal.returns-in_err-new-clause-err
 returns-in_err-new-clause-err g c =
     let p = err_from_is_err_and c.from_residual.result c.from_residual.ensures.1 in
-    rw (p.1, p.2) (inr (c.into_iter-label-iterator.result, string_bytes c.in-Some.label, c.into_iter-label-iterator.ensures.into_iter_gives,
-      (c.loop-label.yielded, c.in-Some.label, c.next.new.self, (c.loop-label.label-iterator, c.loop-label.yielded_by, c.in-Some.ensures.steps), refl), sym c.in_err-new.ensures))
+    rw (p.1, p.2) (inr (
+      c.into_iter-label-iterator.result,
+      string_bytes c.in-Some.label,
+      c.into_iter-label-iterator.ensures.into_iter_gives,
+      (c.loop-label.yielded, c.in-Some.label, c.next.new.self, (c.loop-label.label-iterator, c.loop-label.yielded_by, c.in-Some.ensures.steps), refl),
+      sym c.in_err-new.ensures,
+    ))
 
 pub loop-label-preserved : goal.loop-label-preserved
 loop-label-preserved g c =
