@@ -126,7 +126,7 @@ impl From<Vec<PgLTreeLabel>> for PgLTree {
     ghost from_gives = { λ labels tree. tree ≡ labels.items };
 
     fn from(labels: Vec<PgLTreeLabel>) -> PgLTree {
-        PgLTree { labels }
+        PgLTree::from_labels(labels)
     }
 }
 
