@@ -136,11 +136,18 @@ fn numbers_of_levels(rt: HostRuntime) -> Result<(), PgLQueryParseError> {
         assert!(rt; matches!(refused, Err(PgLQueryParseError::ParseIntError)));
     }
     let query = PgLQuery::from_str(alloc, "*{,3}.a%")?;
-    assert!(rt; matches!(query.as_slice()[0], PgLQueryLevel::Star(None, Some(3))));
-    if let PgLQueryLevel::NonStar(variants) = &query.as_slice()[1] {
-        assert_eq!(rt; variants[0].label().as_str(), "a");
-        assert!(rt; variants[0].modifiers() == PgLQueryVariantFlag::SUBLEXEME);
-        assert_eq!(rt; variants[0].modifiers().bits(), 4);
+    assert!(rt;
+        matches!(
+            query.as_slice().first(),
+            Some(PgLQueryLevel::Star(None, Some(3)))
+        )
+    );
+    if let Some(PgLQueryLevel::NonStar(variants)) = query.as_slice().last() {
+        for variant in variants {
+            assert_eq!(rt; variant.label().as_str(), "a");
+            assert!(rt; variant.modifiers() == PgLQueryVariantFlag::SUBLEXEME);
+            assert_eq!(rt; variant.modifiers().bits(), 4);
+        }
     }
     Ok(())
 }
@@ -208,7 +215,9 @@ fn a_list_of_trees_comes_back(rt: HostRuntime) -> Result<(), CodecError> {
     let arguments = filled(&rt, alloc, trees, wanted)?;
     let trees = read_trees(alloc, &arguments)?;
     assert_eq!(rt; trees.len(), 1);
-    assert!(rt; trees[0] == tree(alloc, "a.b")?);
+    for read in &trees {
+        assert!(rt; *read == tree(alloc, "a.b")?);
+    }
     let wanted = "000000140000000100000000000040740000000000000001";
     let arguments = filled(&rt, alloc, Vec::new(alloc), wanted)?;
     let trees = read_trees(alloc, &arguments)?;
@@ -219,8 +228,10 @@ fn a_list_of_trees_comes_back(rt: HostRuntime) -> Result<(), CodecError> {
     let wanted = "0000001900000001000000000000407400000001000000010000000101";
     let arguments = filled(&rt, alloc, trees, wanted)?;
     let trees = read_trees(alloc, &arguments)?;
-    assert_eq!(rt; trees[0].as_slice().len(), 1);
-    assert_eq!(rt; trees[0].as_slice()[0].as_str(), "");
+    for kept in &trees {
+        assert!(rt; *kept == tree(alloc, "")?);
+        assert_eq!(rt; kept.as_slice().len(), 1);
+    }
     assert!(rt; PgLTree::array_compatible(&Vec::<PgLTree>::type_info()));
     assert!(rt; !PgLQuery::compatible(&PgLTree::type_info()));
     Ok(())
