@@ -1,7 +1,8 @@
 -- Texts that are cut at a character.
-use Rattle.std.proofs.Common.{◌≡◌, ◌≢◌, ap, sym, ◌∙◌, ℕ, zero, suc, ◌<◌, Bool, true, false, eqb, List, [], ◌∷◌, ◌++◌, length, get_or, refl, arith, Some, None, Bor}
+use Rattle.std.proofs.Common.{◌≡◌, ◌≢◌, ap, sym, ◌∙◌, ℕ, suc, ◌<◌, List, [], ◌∷◌, ◌++◌, length, get_or, refl, arith, Some, None, Bor}
 use Rattle.std.specs.Prelude.{MatchOption, Option, option_map}
-use Rattle.std.proofs.lemmas.Bool.{eq-eqb, eqb-true, ne_eqb, false≢true}
+use Rattle.std.proofs.lemmas.Bool.{eq-eqb, ne_eqb}
+use Rattle.pgv_lquery.specs.Lacking.{before_last_at}
 use Rattle.pgv_lquery.specs.QueryRead.{before_last, braced, cut}
 
 pub cut_none : (d : ℕ) (text : List ℕ) → ((i : ℕ) → i < length text → get_or text i 0 ≢ d) → cut d text ≡ None
@@ -11,11 +12,6 @@ cut_none d (c ∷ text) h = rw (ne_eqb c d (h 0 (omega arith)), cut_none d text 
 pub cut_at : (d : ℕ) (front after : List ℕ) → ((i : ℕ) → i < length front → get_or front i 0 ≢ d) → cut d (front ++ d ∷ after) ≡ Some (front, after)
 cut_at d [] after h = rw (eq-eqb d d refl) refl
 cut_at d (c ∷ front) after h = rw (ne_eqb c d (h 0 (omega arith)), cut_at d front after (λ i l. h (suc i) (omega arith))) refl
-
-pub before_last_at : (d : ℕ) (front : List ℕ) → before_last d (front ++ d ∷ []) ≡ Some front
-before_last_at d [] = rw (eq-eqb d d refl) refl
-before_last_at d (c ∷ []) = rw (eq-eqb d d refl) refl
-before_last_at d (c ∷ next ∷ front) = ap (option_map (λ (text : List ℕ). c ∷ text)) (before_last_at d (next ∷ front))
 
 pub before_last_none : (d : ℕ) (text : List ℕ) → ((front : List ℕ) → text ≢ front ++ d ∷ []) → before_last d text ≡ None
 before_last_none d [] h = refl

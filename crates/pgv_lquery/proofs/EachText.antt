@@ -1,11 +1,11 @@
 -- Texts and what is read of them, one by one.
-use Rattle.std.proofs.Common.{◌≡◌, ◌≢◌, ◌∙◌, ap, sym, refl, ℕ, Bool, true, List, [], ◌∷◌, length, arith}
-use Rattle.std.specs.Prelude.{◌==◌, Result, Ok, Err}
+use Rattle.std.proofs.Common.{◌≡◌, ◌≢◌, ◌∙◌, ap, refl, ℕ, Bool, true, List, [], ◌∷◌, length, arith}
+use Rattle.std.specs.Prelude.{◌==◌, Result, Ok}
 use Rattle.std.specs.List.{AllZip, list_all, slice_split}
 use Rattle.std.proofs.lemmas.List.Splits.{length-slice_split}
-use Rattle.pgv_ltree.specs.Each.{and_others, read_each}
-use Rattle.pgv_ltree.specs.Joins.{from_both, lacks}
-use Rattle.pgv_ltree.proofs.EachRead.{First, first_of}
+use Rattle.pgv_ltree.specs.Each.{read_each}
+use Rattle.pgv_ltree.specs.Joins.{from_both}
+use Rattle.pgv_ltree.proofs.EachRead.{first_of}
 
 pub each_is : {M E : Type 0} (read : List ℕ → Result M E) (P : List ℕ → M → Type 0) → ((text : List ℕ) (m : M) → read text ≡ Ok m → P text m) → (texts : List (List ℕ)) (ms : List M) → read_each read texts ≡ Ok ms → AllZip P texts ms
 each_is read P h [] [] e = tt

@@ -1,20 +1,20 @@
 -- The laws of levels.
-use Rattle.std.proofs.Common.{◌≡◌, ◌≢◌, ◌⊎◌, inl, inr, ◌∙◌, ap, sym, subst, refl, ℕ, ◌+◌, ◌<◌, Bool, true, false, cond, eqb, List, [], ◌∷◌, ◌++◌, length, Some, None, append_assoc, arith}
-use Rattle.std.specs.Prelude.{Option, option_map, ◌==◌, ◌&&◌, ◌||◌, not, nat_lt, codes, Result, Ok, Err}
+use Rattle.std.proofs.Common.{◌≡◌, ◌≢◌, inl, inr, ◌∙◌, ap, sym, subst, refl, ℕ, ◌+◌, Bool, true, false, cond, List, [], ◌∷◌, ◌++◌, length, Some, None, append_assoc, arith}
+use Rattle.std.specs.Prelude.{Option, option_map, ◌==◌, ◌&&◌, ◌||◌, nat_lt, Result, Ok, Err}
 use Rattle.std.specs.Str.{all_ascii_digits}
 use Rattle.std.specs.Str.Parse.{digits_value}
-use Rattle.std.proofs.lemmas.Bool.{eqb-true, false≢true, lt-ltb, ltb-true}
+use Rattle.std.proofs.lemmas.Bool.{eqb-true, false≢true, ltb-true}
 use Rattle.std.proofs.lemmas.Option.{same_Some}
 use Rattle.pgv_value.specs.declared.tree_error.PgLQueryParseError.{PgLQueryParseError}
 use Rattle.pgv_value.specs.declared.tree_error.PgLQueryParseError.TheVariants.{ParseIntError, UnexpectedCharacter}
-use Rattle.pgv_ltree.specs.Joins.{both_true, from_both, lacks}
+use Rattle.pgv_ltree.specs.Joins.{both_true, lacks}
 use Rattle.pgv_lquery.specs.CountAgain.{bound_there, count_there, digits_lack}
 use Rattle.pgv_lquery.specs.Lacking.{before_last_at, lacks-append}
 use Rattle.pgv_lquery.specs.Laws.{LevelIsRead, OneLevel}
 use Rattle.pgv_lquery.specs.LevelAgain.{bounds_there, exact_there, one_there}
-use Rattle.pgv_lquery.specs.Queries.{Variant, Level, star, one_of, none_of}
-use Rattle.pgv_lquery.specs.QueryRead.{before_last, between_read, bound_read, braced, count_read, counts_read, cut, inner_read, is_count_text, is_nil, level_read, read_as, star_of, star_read, variants_read}
-use Rattle.pgv_lquery.specs.QueryText.{AreVariantsText, IsBoundText, IsCountText, IsLevelText, has_mark}
+use Rattle.pgv_lquery.specs.Queries.{Level, star, one_of, none_of}
+use Rattle.pgv_lquery.specs.QueryRead.{before_last, bound_read, count_read, counts_read, cut, inner_read, is_count_text, is_nil, level_read, read_as, star_of, star_read, variants_read}
+use Rattle.pgv_lquery.specs.QueryText.{IsBoundText, IsCountText, IsLevelText, has_mark}
 use Rattle.pgv_lquery.proofs.LawsOfVariants.{are_read, are_text, variants_lack}
 
 -- ---- what a reading was

@@ -1,6 +1,6 @@
 -- The laws of queries.
-use Rattle.std.proofs.Common.{◌≡◌, ◌≢◌, ◌∙◌, inl, inr, ap, sym, subst, refl, ℕ, ◌<◌, Bool, true, false, List, [], ◌∷◌, ◌++◌, Some, None, map}
-use Rattle.std.specs.Prelude.{Option, ◌==◌, ◌&&◌, ◌||◌, not, nat_lt, Result, Ok, Err}
+use Rattle.std.proofs.Common.{◌≡◌, ◌≢◌, ◌∙◌, inl, inr, ap, sym, subst, refl, ℕ, Bool, true, false, List, [], ◌∷◌, ◌++◌, Some, None, map}
+use Rattle.std.specs.Prelude.{Option, ◌==◌, ◌&&◌, ◌||◌, not, Result, Ok}
 use Rattle.std.specs.List.{AllZip, join_with_byte, list_all, slice_split}
 use Rattle.std.proofs.lemmas.Bool.{false≢true, lt-ltb}
 use Rattle.std.proofs.lemmas.List.Splits.{join_with_byte-slice_split}
@@ -10,9 +10,9 @@ use Rattle.pgv_lquery.specs.Laws.{OneQuery, PrintedQueryIsRead, QueryIsRead, Rea
 use Rattle.pgv_lquery.specs.LevelAgain.{BeginsPlainly, EachNeeds, NeedsFirst, query_again, query_there}
 use Rattle.pgv_lquery.specs.Queries.{Variant, Level, star, one_of, none_of, is_count, is_level, is_variant}
 use Rattle.pgv_lquery.specs.QueryBack.{begins_plainly, printed_again}
-use Rattle.pgv_lquery.specs.QueryPrinted.{printed_marks, printed_query, printed_variant, printed_variants}
+use Rattle.pgv_lquery.specs.QueryPrinted.{printed_marks, printed_query, printed_variant}
 use Rattle.pgv_lquery.specs.QueryRead.{is_nil, level_read, query_read}
-use Rattle.pgv_lquery.specs.QueryText.{AreVariantsText, IsBoundText, IsLevelText, IsQueryText, IsVariantText, has_mark, is_mark}
+use Rattle.pgv_lquery.specs.QueryText.{IsBoundText, IsLevelText, IsQueryText, IsVariantText, has_mark, is_mark}
 use Rattle.pgv_lquery.proofs.EachText.{each_is, each_reads, each_text, each_value, no_nil}
 use Rattle.pgv_lquery.proofs.LawsOfLevels.{level_lacks, level_reads, level_text}
 

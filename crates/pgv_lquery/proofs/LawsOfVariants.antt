@@ -1,8 +1,7 @@
 -- The laws of variants.
-use Rattle.std.proofs.Common.{◌≡◌, ◌≢◌, ◌∙◌, ap, sym, subst, refl, ℕ, Bool, true, false, cond, List, [], ◌∷◌, ◌++◌, length, take, drop}
-use Rattle.std.specs.Prelude.{◌==◌, ◌&&◌, ◌||◌, not, Result, Ok, Err}
+use Rattle.std.proofs.Common.{◌≡◌, ◌≢◌, ◌∙◌, ap, sym, subst, refl, ℕ, Bool, true, false, cond, List, [], ◌∷◌, ◌++◌, take, drop}
+use Rattle.std.specs.Prelude.{◌==◌, ◌&&◌, not, Result, Ok, Err}
 use Rattle.std.specs.List.{AllZip, join_with_byte, list_all, slice_split}
-use Rattle.std.proofs.lemmas.Bool.{false≢true}
 use Rattle.std.proofs.lemmas.List.{take-append-drop}
 use Rattle.std.proofs.lemmas.List.Splits.{join_with_byte-slice_split}
 use Rattle.pgv_value.specs.declared.tree_error.PgLQueryParseError.{PgLQueryParseError}
@@ -12,8 +11,8 @@ use Rattle.pgv_ltree.specs.Labels.{is_label, is_label_char}
 use Rattle.pgv_lquery.specs.Laws.{OneVariant, VariantIsRead}
 use Rattle.pgv_lquery.specs.Lacking.{lacks-joined}
 use Rattle.pgv_lquery.specs.LevelAgain.{variant_lacks, variant_there}
-use Rattle.pgv_lquery.specs.Queries.{Variant, is_variant}
-use Rattle.pgv_lquery.specs.QueryRead.{label_length, marked, variant_of, variant_read, variants_read}
+use Rattle.pgv_lquery.specs.Queries.{Variant}
+use Rattle.pgv_lquery.specs.QueryRead.{label_length, marked, variant_read, variants_read}
 use Rattle.pgv_lquery.specs.QueryText.{AreVariantsText, IsVariantText, is_mark}
 use Rattle.pgv_lquery.proofs.EachText.{each_is, each_reads, each_text, no_nil}
 

@@ -1,12 +1,12 @@
 -- Numbers of levels are read of their printed digits.
-use Rattle.std.specs.Prelude.{◌≡◌, ℕ, zero, suc, ◌<◌, ◌^◌, nat_lt, not, ◌&&◌, ◌==◌, Bool, true, false, List, [], ◌∷◌, length, Option, Some, None, Ok, refl}
+use Rattle.std.specs.Prelude.{◌≡◌, ℕ, ◌<◌, ◌^◌, nat_lt, not, ◌&&◌, ◌==◌, true, false, List, [], ◌∷◌, length, Some, Ok, refl}
 use Rattle.std.specs.Char.{is_ascii_digit}
 use Rattle.std.specs.Fmt.{decimal}
 use Rattle.std.specs.List.{list_all}
 use Rattle.std.specs.Str.{all_ascii_digits}
 use Rattle.std.specs.Str.Parse.{digits_value}
-use Rattle.std.proofs.Common.{arith, ap, sym, ◌∙◌}
-use Rattle.std.proofs.lemmas.Bool.{lt-ltb, ltb-true}
+use Rattle.std.proofs.Common.{arith, sym}
+use Rattle.std.proofs.lemmas.Bool.{lt-ltb}
 use Rattle.std.proofs.lemmas.Fmt.{decimal_nonempty, digits_decimal, digits_value-decimal}
 use Rattle.std.proofs.lemmas.Str.Parse.{IsNumeralModel, numerals_by_value, tells_all_ascii_digits}
 use Rattle.pgv_ltree.specs.Joins.{both_true, from_both, lacks, other_char, wider}

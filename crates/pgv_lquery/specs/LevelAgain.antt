@@ -1,23 +1,23 @@
 -- Variants, levels and queries are read of their texts.
-use Rattle.std.specs.Prelude.{◌≡◌, ◌≢◌, ℕ, zero, suc, ◌+◌, ◌<◌, nat_lt, not, ◌&&◌, ◌||◌, ◌==◌, Bool, true, false, cond, codes, List, [], ◌∷◌, ◌++◌, length, map, take, drop, Option, Some, None, Result, Ok, Err, ⊤, refl}
+use Rattle.std.specs.Prelude.{◌≡◌, ◌≢◌, ℕ, ◌+◌, ◌<◌, nat_lt, not, ◌==◌, Bool, true, false, cond, codes, List, [], ◌∷◌, ◌++◌, length, map, Option, Some, None, Result, Ok, ⊤, refl}
 use Rattle.std.specs.Char.{is_ascii_digit}
 use Rattle.std.specs.Fmt.{decimal}
-use Rattle.std.specs.List.{join_with_byte, list_all, slice_split}
+use Rattle.std.specs.List.{join_with_byte, list_all}
 use Rattle.std.specs.Str.{all_ascii_digits}
 use Rattle.std.proofs.Common.{arith, ap, sym, ◌∙◌, append_assoc}
-use Rattle.std.proofs.lemmas.Bool.{eq-eqb, eqb-true, false≢true, ltb-true}
+use Rattle.std.proofs.lemmas.Bool.{eqb-true, ltb-true}
 use Rattle.std.proofs.lemmas.List.{take_at, drop_at}
 use Rattle.pgv_value.specs.declared.tree_error.PgLQueryParseError.{PgLQueryParseError}
 use Rattle.pgv_ltree.specs.Each.{read_each}
 use Rattle.pgv_ltree.specs.Joins.{both_true, from_both, lacks, other_char, split_again, wider}
 use Rattle.pgv_ltree.specs.Labels.{is_label, is_label_char}
 use Rattle.pgv_ltree.specs.PrintedAgain.{label_chars}
-use Rattle.pgv_lquery.specs.CountAgain.{bound_there, count_again, count_there, decimal_digits, decimal_some, digits_lack, not_nil}
+use Rattle.pgv_lquery.specs.CountAgain.{bound_there, count_again, decimal_digits, decimal_some, digits_lack}
 use Rattle.pgv_lquery.specs.Lacking.{before_last_at, cut_between, cut_lacks, is_false, lacks-append, lacks-joined, no_mark}
-use Rattle.pgv_lquery.specs.Queries.{Variant, Level, star, one_of, none_of, is_count, is_level, is_variant}
+use Rattle.pgv_lquery.specs.Queries.{Variant, Level, star, one_of, none_of, is_level, is_variant}
 use Rattle.pgv_lquery.specs.QueryPrinted.{printed_level, printed_marks, printed_query, printed_star, printed_variant, printed_variants}
-use Rattle.pgv_lquery.specs.QueryRead.{between_read, bound_read, count_read, counts_read, inner_read, label_length, level_read, marked, query_read, read_as, star_read, variant_read, variants_read}
-use Rattle.pgv_lquery.specs.QueryText.{begins_with_star, has_mark, is_mark}
+use Rattle.pgv_lquery.specs.QueryRead.{bound_read, count_read, inner_read, label_length, level_read, marked, query_read, variant_read, variants_read}
+use Rattle.pgv_lquery.specs.QueryText.{begins_with_star, is_mark}
 
 -- ---- variants
 

@@ -1,5 +1,5 @@
 -- Queries of label trees as values (PostgreSQL: "ltree", lquery): a list of levels.
-use Rattle.std.specs.Prelude.{ℕ, zero, suc, ◌^◌, ◌&&◌, nat_lt, Bool, true, false, List, Option, Some, None, refl}
+use Rattle.std.specs.Prelude.{ℕ, ◌&&◌, nat_lt, Bool, true, List, Option, Some, None}
 use Rattle.std.specs.List.{list_all}
 use Rattle.pgv_ltree.specs.Labels.{is_label}
 

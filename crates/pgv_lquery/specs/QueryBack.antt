@@ -1,8 +1,7 @@
 -- What is written of a query is read back as it, where it has a level, each level that is no star has a variant, and no level of one of
 -- some variants begins with an empty label.
-use Rattle.std.specs.Prelude.{◌≡◌, ◌≢◌, ℕ, not, ◌&&◌, ◌||◌, ◌==◌, Bool, true, false, List, [], ◌∷◌, ◌++◌, map, Option, Some, Ok, ⊤, refl}
+use Rattle.std.specs.Prelude.{◌≡◌, ℕ, not, ◌&&◌, ◌==◌, Bool, true, false, List, [], ◌∷◌, ◌++◌, map, Some, Ok, refl}
 use Rattle.std.specs.List.{join_with_byte, list_all}
-use Rattle.std.specs.Option.{option_and_then}
 use Rattle.std.specs.Result.{result_ok}
 use Rattle.std.proofs.Common.{ap, ◌∙◌}
 use Rattle.std.proofs.lemmas.Bool.{false≢true}
@@ -15,19 +14,17 @@ use Rattle.pgv_codec.specs.Back.{ReadsBack}
 use Rattle.pgv_codec.specs.BackParts.{guarded}
 use Rattle.pgv_codec.specs.BackScalars.{part_is}
 use Rattle.pgv_codec.specs.Image.{image_of}
-use Rattle.pgv_ltree.specs.Ascii.{are_ascii, ascii_append, ascii_is_utf8, ascii_joined, is_ascii}
-use Rattle.pgv_ltree.specs.Joins.{both_true, from_both, other_char, wider}
+use Rattle.pgv_ltree.specs.Ascii.{ascii_is_utf8}
+use Rattle.pgv_ltree.specs.Joins.{both_true, other_char}
 use Rattle.pgv_ltree.specs.Labels.{is_label, is_label_char}
 use Rattle.pgv_ltree.specs.PrintedAgain.{label_chars}
-use Rattle.pgv_ltree.specs.TreesBack.{label_is_ascii}
 use Rattle.pgv_lquery.specs.Lacking.{is_false}
 use Rattle.pgv_lquery.specs.LevelAgain.{BeginsPlainly, EachNeeds, NeedsFirst, query_again}
 use Rattle.pgv_lquery.specs.PrintedAscii.{query_ascii}
 use Rattle.pgv_lquery.specs.Queries.{Variant, Level, star, one_of, none_of, is_level, is_query, is_variant}
-use Rattle.pgv_lquery.specs.QueryCodec.{query_image, query_in_binary, query_in_text, query_reading}
-use Rattle.pgv_lquery.specs.QueryPrinted.{printed_marks, printed_query, printed_variant, printed_variants}
+use Rattle.pgv_lquery.specs.QueryCodec.{query_image, query_in_binary, query_reading}
+use Rattle.pgv_lquery.specs.QueryPrinted.{printed_marks, printed_query, printed_variant}
 use Rattle.pgv_lquery.specs.QueryRead.{is_nil, query_read}
-use Rattle.pgv_lquery.specs.QueryText.{begins_with_star}
 
 -- whether a level comes back
 abbrev pub level_comes_back : Level → Bool

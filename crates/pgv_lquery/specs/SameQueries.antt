@@ -1,8 +1,7 @@
 -- Equality of variants, levels and queries.
 use Rattle.std.specs.Cmp.{IsPartialEquivalence, IsEquivalence, bool_eq_equiv, partial_equiv_from_equiv, on_equiv}
-use Rattle.std.specs.Prelude.{ℕ, nat_eq, ◌==◌, ◌&&◌, Bool, List, [], Option, None, refl}
+use Rattle.std.specs.Prelude.{ℕ, nat_eq, ◌&&◌, Bool, List, [], Option, None}
 use Rattle.std.specs.Bool.{beq}
-use Rattle.std.specs.Ordering.{on}
 use Rattle.std.specs.Cmp.Lexicographic.{pointwise, lists_equiv, options_equiv}
 use Rattle.std.specs.Option.{option_eq}
 use Rattle.std.proofs.lemmas.Cmp.{and_equiv, nat_eq_equiv}

@@ -2,10 +2,12 @@
 //! does nothing.
 
 ghost use Rattle.std.specs.Prelude.{◌≡◌, ℕ, List, None};
+ghost use Rattle.std.specs.Iterator.{AlwaysYields};
 ghost use Rattle.pgv_types.specs.Ty.{Ty};
 ghost use Rattle.pgv_types.specs.Relations.{softly};
 ghost use Rattle.pgv_types.specs.declared.oid.Oid.{Oid};
 ghost use Rattle.pgv_lquery.specs.Laws.{LevelIsRead, OneLevel, OneQuery, OneVariant, PrintedQueryIsRead, QueryIsRead, ReadQueryIsReadAgain, VariantIsRead};
+ghost use Rattle.pgv_lquery.specs.LevelView.{level_of};
 ghost use Rattle.pgv_lquery.specs.Queries.{Level};
 ghost use Rattle.pgv_lquery.specs.QueryBack.{query_fits};
 ghost use Rattle.pgv_lquery.specs.QueryCodec.{lquery, lquery_array, query_image, query_reading};
@@ -67,4 +69,9 @@ pub fn printed_query_is_read()
 /// A query that is read of a text, in which no `NonStar` begins with an empty label that carries `*`, is read of its printed text.
 pub fn read_query_is_read_again()
     ensures { ReadQueryIsReadAgain }
+{}
+
+/// The iterator of a query gives its levels in order, and ends then.
+pub fn query_gives_its_levels()
+    ensures { (query : List Level) (levels : _) → ⟦<crate::PgLQuery as IntoIterator>⟧.into_iter_gives query levels → AlwaysYields ⟦<std::vec::IntoIter<crate::PgLQueryLevel> as Iterator>⟧.next_gives level_of levels query }
 {}

@@ -3,7 +3,7 @@
 ghost use Rattle.std.specs.Prelude.{◌≡◌, ◌⊎◌, ◌↔◌, ◌<◌, ◌++◌, ◌∷◌, [], List, ℕ, length, map, IfOk, IfErr, OnOk, OnErr, IsSome, Ok, Err, Some, option_map};
 ghost use Rattle.std.specs.Iterator.{Drains, IsFinite};
 ghost use Rattle.std.specs.Option.{option_to_list};
-ghost use Rattle.std.specs.Vec.Iter.{into_iter_items};
+ghost use Rattle.std.specs.Vec.Iter.{into_iter_items, into_iter_len};
 ghost use Rattle.pgv_value.specs.declared.tree_error.PgLQueryParseError.TheVariants.{Memory};
 ghost use Rattle.pgv_ltree.specs.Each.{read_each};
 ghost use Rattle.pgv_lquery.specs.LevelView.{level_of};
@@ -134,7 +134,7 @@ impl IntoIterator for PgLQuery {
 
     type IntoIter = std::vec::IntoIter<PgLQueryLevel>;
 
-    ghost into_iter_gives = { λ query levels. map level_of (into_iter_items levels) ≡ query };
+    ghost into_iter_gives = { λ query levels. (map level_of (into_iter_items levels) ≡ query) × (into_iter_len levels ≡ length query) };
 
     fn into_iter(self) -> std::vec::IntoIter<PgLQueryLevel> {
         self.levels.into_iter()

@@ -206,33 +206,54 @@ fn read_trees(alloc: Global, arguments: &PgArguments) -> Result<Vec<PgLTree>, Co
     Vec::<PgLTree>::decode(alloc, value)
 }
 
+/// Trees that are written so, and come back as many as they were, each as the tree of this text.
+fn come_back(
+    rt: &impl Abort,
+    alloc: Global,
+    trees: Vec<PgLTree>,
+    wanted: &str,
+    text: &str,
+) -> Result<(), CodecError> {
+    let count = trees.len();
+    let kept = tree(alloc, text)?;
+    let arguments = filled(rt, alloc, trees, wanted)?;
+    let read = read_trees(alloc, &arguments)?;
+    assert_eq!(rt; read.len(), count);
+    for tree in &read {
+        assert!(rt; *tree == kept);
+    }
+    Ok(())
+}
+
 #[test]
 fn a_list_of_trees_comes_back(rt: HostRuntime) -> Result<(), CodecError> {
     let alloc = rt.alloc();
     let mut trees = Vec::new(alloc);
     trees.push(tree(alloc, "a.b")?)?;
     let wanted = "0000001c00000001000000000000407400000001000000010000000401612e62";
-    let arguments = filled(&rt, alloc, trees, wanted)?;
-    let trees = read_trees(alloc, &arguments)?;
-    assert_eq!(rt; trees.len(), 1);
-    for read in &trees {
-        assert!(rt; *read == tree(alloc, "a.b")?);
-    }
+    come_back(&rt, alloc, trees, wanted, "a.b")
+}
+
+#[test]
+fn an_empty_list_comes_back(rt: HostRuntime) -> Result<(), CodecError> {
+    let alloc = rt.alloc();
     let wanted = "000000140000000100000000000040740000000000000001";
-    let arguments = filled(&rt, alloc, Vec::new(alloc), wanted)?;
-    let trees = read_trees(alloc, &arguments)?;
-    assert!(rt; trees.is_empty());
-    // A tree without labels comes back as one empty label.
+    come_back(&rt, alloc, Vec::new(alloc), wanted, "")
+}
+
+#[test]
+fn a_tree_without_labels_comes_back_as_one_empty_label(rt: HostRuntime) -> Result<(), CodecError> {
+    let alloc = rt.alloc();
     let mut trees = Vec::new(alloc);
     trees.push(PgLTree::new(alloc))?;
     let wanted = "0000001900000001000000000000407400000001000000010000000101";
-    let arguments = filled(&rt, alloc, trees, wanted)?;
-    let trees = read_trees(alloc, &arguments)?;
-    for kept in &trees {
-        assert!(rt; *kept == tree(alloc, "")?);
-        assert_eq!(rt; kept.as_slice().len(), 1);
-    }
+    come_back(&rt, alloc, trees, wanted, "")
+}
+
+#[test]
+fn types_of_trees_and_queries(rt: HostRuntime) -> Result<(), AllocError> {
     assert!(rt; PgLTree::array_compatible(&Vec::<PgLTree>::type_info()));
+    assert!(rt; PgLQuery::array_compatible(&Vec::<PgLQuery>::type_info()));
     assert!(rt; !PgLQuery::compatible(&PgLTree::type_info()));
     Ok(())
 }

@@ -11,7 +11,7 @@ use Rattle.pgv_ltree.specs.Labels.{is_label, label_read}
 use Rattle.pgv_ltree.specs.Laws.{OneTree, PrintedTreeIsRead, TreeIsRead}
 use Rattle.pgv_ltree.specs.PrintedAgain.{tree_again}
 use Rattle.pgv_ltree.specs.Trees.{IsTreeText, parts, printed_tree, tree_read}
-use Rattle.pgv_ltree.proofs.EachRead.{First, first_of}
+use Rattle.pgv_ltree.proofs.EachRead.{first_of}
 
 label_is : (b : Bool) (text label : List ℕ) → (let r : Result (List ℕ) PgLTreeParseError = cond b (Ok text) (Err InvalidLtreeLabel) in r) ≡ Ok label → (b ≡ true) × (label ≡ text)
 label_is true text label e = (refl, cc)

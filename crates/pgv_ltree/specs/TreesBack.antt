@@ -1,11 +1,8 @@
 -- What is written of a tree is read back as it; a tree without labels comes back as one empty label.
-use Rattle.std.specs.Prelude.{◌≡◌, ℕ, true, List, [], ◌∷◌, Option, Some, refl}
+use Rattle.std.specs.Prelude.{◌≡◌, ℕ, true, List, [], ◌∷◌, Some, refl}
 use Rattle.std.specs.List.{list_all}
-use Rattle.std.specs.Option.{option_and_then}
 use Rattle.std.specs.Result.{result_ok}
 use Rattle.std.proofs.Common.{ap, ◌∙◌}
-use Rattle.pgv_types.specs.Ty.{Ty}
-use Rattle.pgv_types.specs.declared.oid.Oid.{Oid}
 use Rattle.pgv_buf.specs.Tokens.{bytes}
 use Rattle.pgv_value.specs.FrameBinary.{Part}
 use Rattle.pgv_value.specs.declared.value.PgValueFormat.TheVariants.{Binary}
@@ -18,7 +15,7 @@ use Rattle.pgv_ltree.specs.Joins.{wider}
 use Rattle.pgv_ltree.specs.Labels.{is_label, is_label_char}
 use Rattle.pgv_ltree.specs.LabelChars.{char_is_ascii}
 use Rattle.pgv_ltree.specs.PrintedAgain.{label_chars, tree_again}
-use Rattle.pgv_ltree.specs.Trees.{printed_tree, tree_read}
+use Rattle.pgv_ltree.specs.Trees.{printed_tree}
 use Rattle.pgv_ltree.specs.TreesCodec.{tree_image, tree_in_binary, tree_in_text, tree_reading}
 
 -- the labels that come back

@@ -2,6 +2,7 @@
 //! nothing.
 
 ghost use Rattle.std.specs.Prelude.{◌≡◌, ℕ, List, None};
+ghost use Rattle.std.specs.Iterator.{AlwaysYields};
 ghost use Rattle.pgv_types.specs.Ty.{Ty};
 ghost use Rattle.pgv_types.specs.Relations.{softly};
 ghost use Rattle.pgv_types.specs.declared.oid.Oid.{Oid};
@@ -40,4 +41,9 @@ pub fn one_tree()
 /// A tree is read of its printed text exactly where it has a label.
 pub fn printed_tree_is_read()
     ensures { PrintedTreeIsRead }
+{}
+
+/// The iterator of a tree gives its labels in order, and ends then.
+pub fn tree_gives_its_labels()
+    ensures { (tree : List (List ℕ)) (labels : _) → ⟦<crate::PgLTree as IntoIterator>⟧.into_iter_gives tree labels → AlwaysYields ⟦<std::vec::IntoIter<crate::PgLTreeLabel> as Iterator>⟧.next_gives (λ label. label) labels tree }
 {}

@@ -3,7 +3,7 @@
 ghost use Rattle.std.specs.Prelude.{◌≡◌, ◌⊎◌, ◌↔◌, ◌<◌, ◌++◌, ◌∷◌, [], List, ℕ, length, map, IfOk, IfErr, OnOk, OnErr, IsSome, Ok, Err, Some, string_bytes};
 ghost use Rattle.std.specs.Iterator.{Drains, IsFinite};
 ghost use Rattle.std.specs.Option.{option_to_list};
-ghost use Rattle.std.specs.Vec.Iter.{into_iter_items};
+ghost use Rattle.std.specs.Vec.Iter.{into_iter_items, into_iter_len};
 ghost use Rattle.pgv_value.specs.declared.tree_error.PgLTreeParseError.TheVariants.{InvalidLtreeLabel, Memory};
 ghost use Rattle.pgv_ltree.specs.Each.{read_each};
 ghost use Rattle.pgv_ltree.specs.Labels.{label_read};
@@ -136,7 +136,7 @@ impl IntoIterator for PgLTree {
 
     type IntoIter = std::vec::IntoIter<PgLTreeLabel>;
 
-    ghost into_iter_gives = { λ tree labels. into_iter_items labels ≡ tree };
+    ghost into_iter_gives = { λ tree labels. (into_iter_items labels ≡ tree) × (into_iter_len labels ≡ length tree) };
 
     fn into_iter(self) -> std::vec::IntoIter<PgLTreeLabel> {
         self.labels.into_iter()

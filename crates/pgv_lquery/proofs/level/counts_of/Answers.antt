@@ -1,8 +1,8 @@
-use Rattle.std.proofs.Common.{◌≡◌, ◌∙◌, ap, sym, refl, lit<, None, Some}
+use Rattle.std.proofs.Common.{◌≡◌, ◌∙◌, ap, refl, lit<, None, Some}
 use Rattle.std.proofs.lemmas.Str.Pattern.{split_parts}
 use Rattle.std.proofs.lemmas.Result.{err_from_is_err_and}
 use Rattle.pgv_lquery.proofs.Cuts.{cut_at, cut_none}
-use Rattle.pgv_lquery.specs.QueryRead.{counts_read, cut}
+use Rattle.pgv_lquery.specs.QueryRead.{cut}
 use Rattle.pgv_lquery.proofs.level.counts_of.Goals as goal
 
 pub returns-in_err-count-in-None-clause-err : goal.returns-in_err-count-in-None-clause-err

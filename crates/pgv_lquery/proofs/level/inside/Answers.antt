@@ -1,4 +1,4 @@
-use Rattle.std.proofs.Common.{◌≡◌, ◌∙◌, ap, sym, lit<, None, Some, refl}
+use Rattle.std.proofs.Common.{sym, lit<, None, Some}
 use Rattle.std.proofs.lemmas.Str.Pattern.{strip_prefix_char, strip_suffix_char}
 use Rattle.pgv_lquery.proofs.Cuts.{inside_braces, not_braced}
 use Rattle.pgv_lquery.proofs.level.inside.Goals as goal

@@ -1,8 +1,7 @@
 use Rattle.std.proofs.Common.{◌∷◌, get_or, take, map, None}
 use Rattle.std.specs.Fmt.{HasWritten, IsPlainFormatter}
-use Rattle.std.specs.List.{join_with_byte}
 use Rattle.pgv_lquery.specs.LevelView.{level_of}
-use Rattle.pgv_lquery.specs.QueryPrinted.{printed_query, printed_level}
+use Rattle.pgv_lquery.specs.QueryPrinted.{printed_query}
 use Rattle.pgv_lquery.specs.Queries.{star}
 use Rattle.pgv_lquery.proofs.lquery.PgLQueryDisplay.fmt.Given as goal
 

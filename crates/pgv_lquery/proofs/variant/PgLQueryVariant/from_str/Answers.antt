@@ -1,6 +1,6 @@
-use Rattle.std.proofs.Common.{◌≡◌, ◌∙◌, ap, sym, true}
+use Rattle.std.proofs.Common.{◌≡◌, ◌∙◌, sym, true}
 use Rattle.std.specs.List.{list_all}
-use Rattle.pgv_lquery.specs.QueryText.{has_mark, is_mark}
+use Rattle.pgv_lquery.specs.QueryText.{is_mark}
 use Rattle.pgv_lquery.proofs.Variants.{variant_there}
 use Rattle.pgv_lquery.proofs.variant.PgLQueryVariant.from_str.Goals as goal
 
