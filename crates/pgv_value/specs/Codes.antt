@@ -1,7 +1,7 @@
 -- The public numbers of the refusals.
 use Rattle.std.specs.Prelude.{ℕ}
 use Rattle.pgv_value.specs.declared.error.CodecError.{CodecError}
-use Rattle.pgv_value.specs.declared.error.CodecError.TheVariants.{Memory, ValueSize, ArrayLength, IntervalPrecision, IntervalOverflow, OffsetRange, NumericDigits, NumericDigit, HstoreLength, ParameterCount, HoleCount, FieldCount, UnexpectedNull, Utf8, Short, NegativeLength, WrongLength, TextUnsupported, Dimensions, LowerBound, ElementType, ElementCount, NotARange, NotARecord, NoField, FieldOid, MismatchedTypes, FieldTypeUnknown, Syntax, OutOfRange, InetFamily, InetPrefix, LossyAddress, NumericSign, HstoreNullKey, Caller}
+use Rattle.pgv_value.specs.declared.error.CodecError.TheVariants.{Memory, ValueSize, ArrayLength, IntervalPrecision, IntervalOverflow, OffsetRange, NumericDigits, NumericDigit, HstoreLength, ParameterCount, HoleCount, FieldCount, UnexpectedNull, Utf8, Short, NegativeLength, WrongLength, TextUnsupported, Dimensions, LowerBound, ElementType, ElementCount, NotARange, NotARecord, NoField, FieldOid, MismatchedTypes, FieldTypeUnknown, Syntax, OutOfRange, InetFamily, InetPrefix, LossyAddress, NumericSign, HstoreNullKey, LTree, LQuery, Caller}
 
 -- n of Cn
 abbrev pub code_of : CodecError → ℕ
@@ -40,4 +40,6 @@ code_of (InetPrefix _) = 32
 code_of LossyAddress = 33
 code_of (NumericSign _) = 34
 code_of HstoreNullKey = 35
+code_of (LTree _) = 36
+code_of (LQuery _) = 37
 code_of (Caller _) = 38

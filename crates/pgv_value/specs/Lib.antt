@@ -12,3 +12,4 @@ pub mod NetworkBinary
 pub mod Laws
 pub mod OwnBytes
 pub mod Interval
+pub mod TreeErrors

@@ -4,7 +4,9 @@ ghost use Rattle.std.specs.Prelude.{◌≡◌};
 ghost use Rattle.pgv_value.specs.declared.error.CodecError.TheVariants.{Memory, OutOfRange};
 ghost use Rattle.pgv_value.specs.Codes.{code_of};
 ghost use Rattle.pgv_value.specs.NumberBinary.{refusal_of};
+ghost use Rattle.pgv_value.specs.TreeErrors.{tree_refused, query_refused};
 
+use crate::tree_error::{PgLQueryParseError, PgLTreeParseError};
 use pgv_text::NumberFault;
 use pgv_types::Oid;
 use std::alloc::{AllocError, AllocFailed};
@@ -120,6 +122,12 @@ pub enum CodecError {
     /// C35: an hstore key is null.
     #[error("an hstore key is null")]
     HstoreNullKey,
+    /// C36: a label tree that is none.
+    #[error("not a label tree: {0}")]
+    LTree(PgLTreeParseError),
+    /// C37: a query of label trees that is none.
+    #[error("not a query of label trees: {0}")]
+    LQuery(PgLQueryParseError),
     /// C38: refused by a caller's own codec.
     #[error("refused by the caller: {0}")]
     Caller(u32),
@@ -166,6 +174,8 @@ impl CodecError {
             CodecError::LossyAddress => 33,
             CodecError::NumericSign(_) => 34,
             CodecError::HstoreNullKey => 35,
+            CodecError::LTree(_) => 36,
+            CodecError::LQuery(_) => 37,
             CodecError::Caller(_) => 38,
         }
     }
@@ -202,6 +212,28 @@ impl From<NumberFault> for CodecError {
         match fault {
             NumberFault::Syntax => CodecError::Syntax,
             NumberFault::OutOfRange => CodecError::OutOfRange,
+        }
+    }
+}
+
+impl From<PgLTreeParseError> for CodecError {
+    ghost from_gives = { λ e c. c ≡ tree_refused e };
+
+    fn from(error: PgLTreeParseError) -> CodecError {
+        match error {
+            PgLTreeParseError::Memory => CodecError::Memory,
+            other => CodecError::LTree(other),
+        }
+    }
+}
+
+impl From<PgLQueryParseError> for CodecError {
+    ghost from_gives = { λ e c. c ≡ query_refused e };
+
+    fn from(error: PgLQueryParseError) -> CodecError {
+        match error {
+            PgLQueryParseError::Memory => CodecError::Memory,
+            other => CodecError::LQuery(other),
         }
     }
 }

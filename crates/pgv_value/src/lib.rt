@@ -7,6 +7,7 @@ pub mod interval;
 pub mod laws;
 mod number;
 pub mod read;
+pub mod tree_error;
 pub mod value;
 
 pub use error::CodecError;
@@ -17,4 +18,5 @@ pub use read::{
     read_bool, read_date, read_date_time, read_i8, read_i16, read_i32, read_i64, read_instant,
     read_interval, read_ip_address, read_ip_network, read_oid, read_time, read_uuid, time_at,
 };
+pub use tree_error::{PgLQueryParseError, PgLTreeParseError};
 pub use value::{PgValue, PgValueFormat, PgValueRef};

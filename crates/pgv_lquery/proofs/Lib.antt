@@ -1,0 +1,12 @@
+pub mod Counts
+pub mod Cuts
+pub mod Marks
+pub mod Clones
+pub mod Printed
+pub mod Levels
+pub mod Variants
+pub mod Written
+pub mod EachText
+pub mod LawsOfVariants
+pub mod LawsOfLevels
+pub mod LawsOfQueries

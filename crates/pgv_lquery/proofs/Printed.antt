@@ -1,0 +1,39 @@
+-- One more part of a list that is printed with a byte between its parts.
+use Rattle.std.proofs.Common.{◌≡◌, ◌∙◌, ◌+◌, ◌<◌, ap, sym, ℕ, List, [], ◌∷◌, ◌++◌, length, get_or, take, map, true, refl, append_assoc}
+use Rattle.std.specs.List.{join_with_byte, list_all}
+use Rattle.std.proofs.lemmas.List.{map_push, take_more}
+use Rattle.std.specs.Prelude.{Bool}
+use Rattle.std.proofs.lemmas.List.Folds.{list_all-append}
+use Rattle.pgv_buf.specs.Tokens.{Cell, blank, byte, bytes}
+use Rattle.pgv_codec.specs.PlainBytes.{appended_parts}
+use Rattle.pgv_ltree.specs.Joins.{from_both}
+use Rattle.pgv_ltree.proofs.Joined.{join-push}
+
+pub one_more : {X : Type 0} (d : ℕ) (print : X → List ℕ) (first : List ℕ) (xs : List X) (i : ℕ) (x : X) → i < length xs → x ≡ get_or xs i x →
+    join_with_byte d (first ∷ map print (take (i + 1) xs)) ≡ join_with_byte d (first ∷ map print (take i xs)) ++ d ∷ print x
+one_more d print first xs i x l e =
+    ap (λ ys. join_with_byte d (first ∷ map print ys)) (take_more xs i x l ∙ ap (λ y. take i xs ++ y ∷ []) (sym e))
+    ∙ ap (λ ys. join_with_byte d (first ∷ ys)) (map_push print (take i xs) x) ∙ join-push d first (map print (take i xs)) (print x)
+
+-- the same of parts that are seen as something else
+pub one_more_seen : {X Y : Type 0} (d : ℕ) (print : Y → List ℕ) (see : X → Y) (first : List ℕ) (xs : List X) (i : ℕ) (x : X) → i < length xs → x ≡ get_or xs i x →
+    join_with_byte d (first ∷ map print (map see (take (i + 1) xs))) ≡ join_with_byte d (first ∷ map print (map see (take i xs))) ++ d ∷ print (see x)
+one_more_seen d print see first xs i x l e =
+    ap (λ ys. join_with_byte d (first ∷ map print (map see ys))) (take_more xs i x l ∙ ap (λ y. take i xs ++ y ∷ []) (sym e))
+    ∙ ap (λ ys. join_with_byte d (first ∷ map print ys)) (map_push see (take i xs) x)
+    ∙ ap (λ ys. join_with_byte d (first ∷ ys)) (map_push print (map see (take i xs)) (see x)) ∙ join-push d first (map print (map see (take i xs))) (print (see x))
+
+-- what is seen of one more part passes a test that the others pass
+pub more_seen_pass : {X Y : Type 0} (p : Y → Bool) (see : X → Y) (xs : List X) (i : ℕ) (first : Y) (x : X) → i < length xs → x ≡ get_or xs i x → list_all p (first ∷ map see (take i xs)) ≡ true → p (see x) ≡ true →
+    list_all p (first ∷ map see (take (i + 1) xs)) ≡ true
+more_seen_pass p see xs i first x l e h k =
+    ap (λ ys. list_all p (first ∷ map see ys)) (take_more xs i x l ∙ ap (λ y. take i xs ++ y ∷ []) (sym e))
+    ∙ ap (λ ys. list_all p (first ∷ ys)) (map_push see (take i xs) x)
+    ∙ list_all-append p (first ∷ map see (take i xs)) (see x ∷ []) ∙ from_both (list_all p (first ∷ map see (take i xs))) (list_all p (see x ∷ [])) h (from_both (p (see x)) true k refl)
+
+-- one more part, appended after a byte
+pub more_appended : (d : ℕ) (was now pushed next : List Cell) (so_far part whole : List ℕ) → whole ≡ so_far ++ d ∷ part → now ≡ was ++ blank (bytes so_far) → pushed ≡ now ++ blank (byte d ∷ []) → next ≡ pushed ++ blank (bytes part) →
+    next ≡ was ++ blank (bytes whole)
+more_appended d was now pushed next so_far part whole e a b c =
+    let dotted = appended_parts was now pushed so_far (d ∷ []) a b in
+    appended_parts was pushed next (so_far ++ d ∷ []) part dotted c ∙ ap (λ ys. was ++ blank (bytes ys)) (append_assoc so_far (d ∷ []) part ∙ sym e)

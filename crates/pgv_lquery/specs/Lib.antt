@@ -1,0 +1,17 @@
+pub mod Queries
+pub mod QueryCode
+pub mod QueryText
+pub mod QueryRead
+pub mod QueryPrinted
+pub mod SameQueries
+pub mod LevelView
+pub mod SameLevels
+pub mod Flags
+pub mod Taken
+pub mod QueryCodec
+pub mod Lacking
+pub mod CountAgain
+pub mod LevelAgain
+pub mod PrintedAscii
+pub mod QueryBack
+pub mod Laws

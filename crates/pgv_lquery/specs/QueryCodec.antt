@@ -1,0 +1,60 @@
+-- What queries are written as and read of (PostgreSQL: "ltree"; lquery_send, lquery_recv): the version 1 in one byte, and then the text.
+-- In text they are read of their text alone.
+use Rattle.std.specs.Prelude.{ℕ, ◌==◌, codes, if◌then◌else◌, List, [], ◌∷◌, Option, Some, None, Result, Ok, Err}
+use Rattle.std.specs.Option.{option_and_then}
+use Rattle.std.specs.Result.{result_ok}
+use Rattle.pgv_types.specs.Ty.{Ty, named}
+use Rattle.pgv_buf.specs.Tokens.{bytes}
+use Rattle.pgv_codec.specs.Image.{Image, image_of}
+use Rattle.pgv_value.specs.Reading.{Reading}
+use Rattle.pgv_value.specs.ScalarGrammar.{scalar, refusal}
+use Rattle.pgv_value.specs.declared.error.CodecError.{CodecError}
+use Rattle.pgv_value.specs.declared.error.CodecError.TheVariants.{Short, Utf8, LQuery}
+use Rattle.pgv_value.specs.declared.tree_error.PgLQueryParseError.{PgLQueryParseError}
+use Rattle.pgv_value.specs.declared.tree_error.PgLQueryParseError.TheVariants.{EmptyString, InvalidLqueryVersion}
+use Rattle.pgv_value.specs.declared.value.PgValueFormat.{PgValueFormat}
+use Rattle.pgv_ltree.specs.TreesCodec.{versioned}
+use Rattle.pgv_lquery.specs.Queries.{Level, is_query}
+use Rattle.pgv_lquery.specs.QueryPrinted.{printed_query}
+use Rattle.pgv_lquery.specs.QueryRead.{query_read}
+
+-- the type and its arrays, of which only the names are known
+abbrev pub lquery : Ty
+lquery = named (codes "lquery")
+
+abbrev pub lquery_array : Ty
+lquery_array = named (codes "_lquery")
+
+-- what is written; levels that can't be have no image
+abbrev pub query_image : List Level → Option Image
+query_image levels = if is_query levels then Some (image_of (bytes (1 ∷ printed_query levels))) else None
+
+-- what is read, in text and in binary
+abbrev pub query_in_text : List ℕ → Option (List Level)
+query_in_text text = result_ok (query_read text)
+
+abbrev pub query_in_binary : List ℕ → Option (List Level)
+query_in_binary form = option_and_then query_in_text (versioned form)
+
+abbrev pub query_reading : Reading (List Level)
+query_reading = scalar query_in_binary query_in_text
+
+-- why a text is refused; of one that is read this says nothing
+abbrev pub query_fault : Result (List Level) PgLQueryParseError → CodecError
+query_fault (Ok levels) = LQuery EmptyString
+query_fault (Err e) = LQuery e
+
+-- why there is no text: no bytes at all are C15, another version is C37, and other bytes than UTF-8 are C14
+abbrev pub query_version_fault : List ℕ → CodecError
+query_version_fault [] = Short
+query_version_fault (version ∷ text) = if version == 1 then Utf8 else LQuery InvalidLqueryVersion
+
+abbrev pub fault_after_version : List ℕ → Option (List ℕ) → CodecError
+fault_after_version form None = query_version_fault form
+fault_after_version form (Some text) = query_fault (query_read text)
+
+abbrev pub query_binary_refusal : List ℕ → CodecError
+query_binary_refusal form = fault_after_version form (versioned form)
+
+abbrev pub query_refusal : PgValueFormat → Option (List ℕ) → CodecError
+query_refusal = refusal query_binary_refusal (λ text. query_fault (query_read text))

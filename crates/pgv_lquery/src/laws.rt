@@ -1,0 +1,77 @@
+//! What is proved of queries of label trees and of the definitions that say what they are. Each law is the contract of a function that
+//! does nothing.
+
+ghost use Rattle.std.specs.Prelude.{◌≡◌, ℕ, List, None};
+ghost use Rattle.std.specs.Iterator.{AlwaysYields};
+ghost use Rattle.pgv_types.specs.Ty.{Ty};
+ghost use Rattle.pgv_types.specs.Relations.{softly};
+ghost use Rattle.pgv_types.specs.declared.oid.Oid.{Oid};
+ghost use Rattle.pgv_lquery.specs.Laws.{LevelIsRead, OneLevel, OneQuery, OneVariant, PrintedQueryIsRead, QueryIsRead, ReadQueryIsReadAgain, VariantIsRead};
+ghost use Rattle.pgv_lquery.specs.LevelView.{level_of};
+ghost use Rattle.pgv_lquery.specs.Queries.{Level};
+ghost use Rattle.pgv_lquery.specs.QueryBack.{query_fits};
+ghost use Rattle.pgv_lquery.specs.QueryCodec.{lquery, lquery_array, query_image, query_reading};
+
+use pgv_codec::{Decode, Encode, PgHasArrayType, ReadBack, Type};
+
+/// A `PgLQuery` is an `lquery`, by its name: the version 1 and its text, as `01612a40` for `a*@`. Its arrays are `_lquery`, by their
+/// name. It comes back where it has a level, each level that is no star has a variant, and no `NonStar` begins with an empty label.
+pub fn lquery_is_an_lquery()
+    ensures types { ⟦<crate::PgLQuery as Type>⟧.info ≡ lquery }
+    ensures accepts { (t : Ty) → ⟦<crate::PgLQuery as Type>⟧.accepts t ≡ softly t lquery }
+    ensures arrays { ⟦<crate::PgLQuery as PgHasArrayType>⟧.array_info ≡ lquery_array }
+    ensures accepts_arrays { (t : Ty) → ⟦<crate::PgLQuery as PgHasArrayType>⟧.accepts_array t ≡ softly t lquery_array }
+    ensures written { (v : List Level) → ⟦<crate::PgLQuery as Encode>⟧.image v ≡ query_image v }
+    ensures hint { (v : List Level) → ⟦<crate::PgLQuery as Encode>⟧.hint v ≡ 0 }
+    ensures produced { (v : List Level) → ⟦<crate::PgLQuery as Encode>⟧.produced v ≡ None }
+    ensures means { ⟦<crate::PgLQuery as Decode>⟧.meaning ≡ (λ v. v) }
+    ensures read { ⟦<crate::PgLQuery as Decode>⟧.reading ≡ query_reading }
+    ensures kept { ⟦<crate::PgLQuery as ReadBack>⟧.kept ≡ (λ v. v) }
+    ensures fits { (v : List Level) (t : Ty) (os : List Oid) → query_fits v t os → ⟦<crate::PgLQuery as ReadBack>⟧.fits v t os }
+{}
+
+/// A variant is read of a text exactly where it is the text's.
+pub fn variant_is_read()
+    ensures { VariantIsRead }
+{}
+
+/// No text is two variants.
+pub fn one_variant()
+    ensures { OneVariant }
+{}
+
+/// A level is read of a text exactly where it is the text's.
+pub fn level_is_read()
+    ensures { LevelIsRead }
+{}
+
+/// No text is two levels.
+pub fn one_level()
+    ensures { OneLevel }
+{}
+
+/// A query is read of a text exactly where it is the text's.
+pub fn query_is_read()
+    ensures { QueryIsRead }
+{}
+
+/// No text is two queries.
+pub fn one_query()
+    ensures { OneQuery }
+{}
+
+/// A query that has a level, in which each level that is no star has a variant and no `NonStar` begins with an empty label, is read of its
+/// printed text.
+pub fn printed_query_is_read()
+    ensures { PrintedQueryIsRead }
+{}
+
+/// A query that is read of a text, in which no `NonStar` begins with an empty label that carries `*`, is read of its printed text.
+pub fn read_query_is_read_again()
+    ensures { ReadQueryIsReadAgain }
+{}
+
+/// The iterator of a query gives its levels in order, and ends then.
+pub fn query_gives_its_levels()
+    ensures { (query : List Level) (levels : _) → ⟦<crate::PgLQuery as IntoIterator>⟧.into_iter_gives query levels → AlwaysYields ⟦<std::vec::IntoIter<crate::PgLQueryLevel> as Iterator>⟧.next_gives level_of levels query }
+{}

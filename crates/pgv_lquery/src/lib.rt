@@ -1,0 +1,18 @@
+//! Queries of label trees (PostgreSQL, "ltree", lquery): levels, the variants of a level and their texts, and what queries are
+//! written as and read of.
+#![tactic(auto)]
+
+pub mod flag;
+pub mod laws;
+pub mod level;
+pub mod lquery;
+pub mod variant;
+
+pub use flag::PgLQueryVariantFlag;
+pub use level::PgLQueryLevel;
+pub use lquery::PgLQuery;
+pub use pgv_value::{PgLQueryParseError, PgLTreeParseError};
+pub use variant::PgLQueryVariant;
+
+#[cfg(test)]
+mod tests;

@@ -1,0 +1,187 @@
+//! Queries of label trees (PostgreSQL, "ltree", lquery).
+
+ghost use Rattle.std.specs.Prelude.{◌≡◌, ◌⊎◌, ◌↔◌, ◌<◌, ◌++◌, ◌∷◌, [], List, ℕ, length, map, IfOk, IfErr, OnOk, OnErr, IsSome, Ok, Err, Some, option_map};
+ghost use Rattle.std.specs.Iterator.{Drains, IsFinite};
+ghost use Rattle.std.specs.Option.{option_to_list};
+ghost use Rattle.std.specs.Vec.Iter.{into_iter_items, into_iter_len};
+ghost use Rattle.pgv_value.specs.declared.tree_error.PgLQueryParseError.TheVariants.{Memory};
+ghost use Rattle.pgv_ltree.specs.Each.{read_each};
+ghost use Rattle.pgv_lquery.specs.LevelView.{level_of};
+ghost use Rattle.pgv_lquery.specs.QueryPrinted.{printed_query};
+ghost use Rattle.pgv_lquery.specs.QueryRead.{level_read, query_read};
+ghost use Rattle.pgv_lquery.specs.Taken.{GivesText, GivesTexts};
+
+mod codec;
+
+use crate::level::PgLQueryLevel;
+use pgv_value::PgLQueryParseError;
+use std::alloc::{AllocError, Global};
+use std::fmt;
+use std::marker::Model;
+
+/// A query of label trees, level after level, such as `Top.*{0,2}.sport*@.!football|tennis`.
+///
+/// A contract sees it as the list of its levels. A query of a server has one level or more; one that is made here may have none.
+#[derive(Debug, Drop)]
+pub struct PgLQuery {
+    levels: Vec<PgLQueryLevel>,
+}
+
+impl Model for PgLQuery {
+    ghost use Rattle.std.specs.Prelude.{List, map};
+    ghost use Rattle.std.specs.Coded.{coded_list};
+    ghost use Rattle.pgv_lquery.specs.LevelView.{level_of};
+    ghost use Rattle.pgv_lquery.specs.Queries.{Level};
+    ghost use Rattle.pgv_lquery.specs.QueryCode.{level_code};
+
+    ghost Value = { List Level };
+
+    ghost coded = { coded_list level_code };
+
+    ghost view = { λ query. map level_of query.levels.items };
+}
+
+impl PgLQuery {
+    /// A query without levels. It takes no memory yet.
+    pub fn new(alloc: Global) -> PgLQuery
+        ensures { result ≡ [] }
+    {
+        PgLQuery {
+            levels: Vec::new(alloc),
+        }
+    }
+
+    /// The query of these levels.
+    pub fn from(levels: Vec<PgLQueryLevel>) -> PgLQuery
+        ensures { result ≡ map level_of levels.items }
+    {
+        PgLQuery { levels }
+    }
+
+    /// The query of the levels of these texts, up to the first that is none, which refuses them all.
+    pub fn try_from_iter<'a, I: IntoIterator<Item = &'a str>>(
+        alloc: Global,
+        levels: I,
+    ) -> Result<PgLQuery, PgLQueryParseError>
+        requires { (it : I.IntoIter) → I.into_iter_gives levels it → I.IntoIter.can_next it × IsFinite (I.IntoIter.remaining it) }
+        // Every text was taken, and is the level at its place.
+        ensures ok { IfOk result (λ query. (it : I.IntoIter) × (texts : List (List ℕ)) × I.into_iter_gives levels it × GivesTexts I.IntoIter.next_gives it texts × (read_each level_read texts ≡ Ok query)) }
+        // A text that was taken is no level.
+        ensures err { IfErr result (λ e. (e ≡ Memory) ⊎ ((it : I.IntoIter) × (text : List ℕ) × I.into_iter_gives levels it × GivesText I.IntoIter.next_gives it text × (level_read text ≡ Err e))) }
+    {
+        let mut query = PgLQuery::new(alloc);
+        for level in levels {
+            query.push(PgLQueryLevel::from_str(alloc, level)?)?;
+        }
+        Ok(query)
+    }
+
+    /// The query of these levels, one after another.
+    pub fn try_collect<I: IntoIterator<Item = PgLQueryLevel>>(
+        alloc: Global,
+        levels: I,
+    ) -> Result<PgLQuery, AllocError>
+        requires { (it : I.IntoIter) → I.into_iter_gives levels it → I.IntoIter.can_next it × IsFinite (I.IntoIter.remaining it) }
+        ensures { IfOk result (λ query. (it : I.IntoIter) × (taken : List PgLQueryLevel) × I.into_iter_gives levels it × Drains I.IntoIter.next_gives it taken × (query ≡ map level_of taken)) }
+    {
+        let mut query = PgLQuery::new(alloc);
+        for level in levels {
+            query.push(level)?;
+        }
+        Ok(query)
+    }
+
+    /// The query of a text: levels joined by `.`. It is refused as its first level that is none is.
+    pub fn from_str(alloc: Global, text: &str) -> Result<PgLQuery, PgLQueryParseError>
+        ensures ok { IfOk result (λ query. query_read text.now ≡ Ok query) }
+        ensures err { IfErr result (λ e. (query_read text.now ≡ Err e) ⊎ (e ≡ Memory)) }
+    {
+        let mut levels = Vec::new(alloc);
+        for level in text.split('.') {
+            levels.push(PgLQueryLevel::from_str(alloc, level)?)?;
+        }
+        Ok(PgLQuery { levels })
+    }
+
+    /// Appends a level. A refused one leaves the query as it was.
+    pub fn push(&mut self, level: PgLQueryLevel) -> Result<(), AllocError>
+        ensures ok { OnOk result (self.new ≡ self.old ++ level_of level ∷ []) }
+        ensures err { OnErr result (self.new ≡ self.old) }
+    {
+        self.levels.push(level)?;
+        Ok(())
+    }
+
+    /// Takes the last level off, where there is one.
+    pub fn pop(&mut self) -> Option<PgLQueryLevel>
+        ensures levels { self.old ≡ self.new ++ option_to_list (option_map level_of result) }
+        ensures variant { IsSome result ↔ (0 < length self.old) }
+    {
+        self.levels.pop()
+    }
+
+    /// The levels, in order.
+    pub fn as_slice(&self) -> &[PgLQueryLevel]
+        ensures { map level_of result.now ≡ self.now }
+    {
+        self.levels.as_slice()
+    }
+}
+
+/// Gives the levels one after another.
+impl IntoIterator for PgLQuery {
+    type Item = PgLQueryLevel;
+
+    type IntoIter = std::vec::IntoIter<PgLQueryLevel>;
+
+    ghost into_iter_gives = { λ query levels. (map level_of (into_iter_items levels) ≡ query) × (into_iter_len levels ≡ length query) };
+
+    fn into_iter(self) -> std::vec::IntoIter<PgLQueryLevel> {
+        self.levels.into_iter()
+    }
+}
+
+/// Queries are equal where they have the same levels.
+impl PartialEq for PgLQuery {
+    ghost use Rattle.pgv_lquery.specs.SameQueries.{same_query, same_query_per};
+
+    ghost eq = { same_query };
+
+    ghost laws = { same_query_per };
+
+    fn eq(&self, other: &PgLQuery) -> bool {
+        self.levels == other.levels
+    }
+}
+
+impl Eq for PgLQuery {
+    ghost use Rattle.pgv_lquery.specs.SameQueries.{same_query_equiv};
+
+    ghost laws = { same_query_equiv };
+}
+
+impl Clone for PgLQuery {
+    ghost is_clone = { λ query copy. copy ≡ query };
+
+    fn clone(&self) -> Result<PgLQuery, AllocError> {
+        Ok(PgLQuery {
+            levels: self.levels.clone()?,
+        })
+    }
+}
+
+/// Printed as its levels, joined by `.`; a query without levels prints nothing.
+impl fmt::Display for PgLQuery {
+    ghost output = { λ query. Some (printed_query query) };
+
+    fn fmt<W: fmt::Write>(&self, f: &mut fmt::Formatter<W>) -> fmt::Result {
+        if let [first, rest @ ..] = self.as_slice() {
+            f.write(first)?;
+            for level in rest {
+                f.write_str(".")?;
+                f.write(level)?;
+            }
+        }
+        Ok(())
+    }
+}

@@ -1,0 +1,45 @@
+-- Texts that are read one after another.
+use Rattle.std.proofs.Common.{◌≡◌, ◌⊎◌, inl, inr, ◌∙◌, ap, ℕ, zero, suc, ◌<◌, List, [], ◌∷◌, ◌++◌, length, get_or, take, drop, sym, refl, arith}
+use Rattle.std.specs.Prelude.{Result, Ok, Err}
+use Rattle.pgv_ltree.specs.Each.{and_others, read_each}
+
+-- what is read first of texts that are read
+pub record First {M E : Type 0} (r : Result M E) (others : Result (List M) E) (ms : List M) : Type 0 where
+  pub value : M
+  pub more : List M
+  pub is : r ≡ Ok value
+  pub are : others ≡ Ok more
+  pub whole : ms ≡ value ∷ more
+
+pub first_of : {M E : Type 0} (r : Result M E) (others : Result (List M) E) (ms : List M) → and_others r others ≡ Ok ms → First r others ms
+first_of (Err e) others ms h = absurd cc
+first_of (Ok m) (Err e) ms h = absurd cc
+first_of (Ok m) (Ok more) ms h = record { value = m; more = more; is = refl; are = refl; whole = cc }
+
+module _ {X M E : Type 0} (read : X → Result M E) where
+  -- one more text
+  pub each-push : (xs : List X) (ms : List M) (x : X) (m : M) → read_each read xs ≡ Ok ms → read x ≡ Ok m → read_each read (xs ++ x ∷ []) ≡ Ok (ms ++ m ∷ [])
+  each-push [] ms x m e f = let n : ms ≡ [] = cc in rw (f, n) refl
+  each-push (y ∷ xs) ms x m e f =
+      let g = first_of (read y) (read_each read xs) ms e in
+      rw (g.is, each-push xs g.more x m g.are f) (ap (λ (zs : List M). let r : Result (List M) E = Ok (zs ++ m ∷ []) in r) (sym g.whole))
+
+  -- the first that is refused
+  each-fault : (xs : List X) (ms : List M) (x : X) (e : E) (rest : List X) → read_each read xs ≡ Ok ms → read x ≡ Err e → read_each read (xs ++ x ∷ rest) ≡ Err e
+  each-fault [] ms x e rest h f = rw f refl
+  each-fault (y ∷ xs) ms x e rest h f =
+      let g = first_of (read y) (read_each read xs) ms h in
+      rw (g.is, each-fault xs g.more x e rest g.are f) refl
+
+-- a list at one of its elements
+at_element : {X : Type 0} (all : List X) (n : ℕ) (x : X) → n < length all → x ≡ get_or all n x → all ≡ take n all ++ x ∷ drop (suc n) all
+at_element [] n x l e = absurd (omega arith)
+at_element (y ∷ all) zero x l e = ap (λ z. z ∷ all) (sym e)
+at_element (y ∷ all) (suc n) x l e = ap (λ zs. y ∷ zs) (at_element all n x (omega arith) e)
+
+-- What the text at a place is refused with refuses them all, where those before it are read; out of memory stays.
+pub each-refused : {X M E : Type 0} (read : X → Result M E) (memory : E) (all done : List X) (ms : List M) (n : ℕ) (x : X) (e : E) →
+    done ≡ take n all → n < length all → x ≡ get_or all n x → read_each read done ≡ Ok ms → (read x ≡ Err e) ⊎ (e ≡ memory) → (read_each read all ≡ Err e) ⊎ (e ≡ memory)
+each-refused read memory all done ms n x e d l at h (inr m) = inr m
+each-refused read memory all done ms n x e d l at h (inl f) =
+    inl (ap (read_each read) (at_element all n x l at) ∙ each-fault read (take n all) ms x e (drop (suc n) all) (ap (read_each read) (sym d) ∙ h) f)

@@ -1,0 +1,5 @@
+pub mod Joined
+pub mod EachRead
+pub mod Written
+pub mod LawsOfTrees
+pub mod Text

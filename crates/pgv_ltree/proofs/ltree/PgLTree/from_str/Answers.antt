@@ -1,0 +1,30 @@
+use Rattle.std.proofs.Common.{◌∙◌, List, ℕ, ap, map, length, lit<, Bor, refl}
+use Rattle.std.proofs.lemmas.Result.{err_from_is_err_and}
+use Rattle.std.proofs.lemmas.Iterator.Consumers.{YieldsList-turn, YieldsList-so_far, YieldsList-end}
+use Rattle.std.proofs.lemmas.Iterator.Splits.{YieldsList-from_str_split}
+use Rattle.std.proofs.lemmas.List.{map_push}
+use Rattle.pgv_value.specs.declared.tree_error.PgLTreeParseError.TheVariants.{Memory}
+use Rattle.pgv_ltree.specs.Each.{read_each}
+use Rattle.pgv_ltree.specs.Labels.{label_read}
+use Rattle.pgv_ltree.specs.Trees.{parts}
+use Rattle.pgv_ltree.proofs.EachRead.{each-push, each-refused}
+use Rattle.pgv_ltree.proofs.ltree.PgLTree.from_str.Goals as goal
+
+pub returns-in_err-from_str-clause-err : goal.returns-in_err-from_str-clause-err
+returns-in_err-from_str-clause-err c =
+    let chain = YieldsList-from_str_split 46 c.args.text.now (lit< tt) (cc) (cc) (cc) in
+    let t = YieldsList-turn chain c.loop-label.yielded _ c.loop-label.yielded_by _ _ c.in-Some.label c.in-Some.is c.next.ensures.steps in
+    let so_far = YieldsList-so_far chain c.loop-label.yielded _ c.loop-label.yielded_by in
+    let p = err_from_is_err_and c.from_residual.result c.from_residual.ensures.1 in
+    rw (p.1, p.2) (each-refused label_read Memory (parts c.args.text.now) _ c.loop-label.labels.items (length c.loop-label.yielded) c.in-Some.label.now c.in_err-from_str.field-0.0 so_far t.0 t.1 c.loop-label.invariant.2 c.in_err-from_str.ensures.err)
+
+pub loop-label-preserved : goal.loop-label-preserved
+loop-label-preserved c =
+    let more = each-push label_read (map (λ (x : Bor (List ℕ)). x.now) c.loop-label.yielded) c.loop-label.labels.items c.in-Some.label.now c.in_ok-from_str.field-0 c.loop-label.invariant.2 c.in_ok-from_str.ensures.ok in
+    (tt, tt, ap (read_each label_read) (map_push (λ (x : Bor (List ℕ)). x.now) c.loop-label.yielded c.in-Some.label) ∙ more ∙ rw c.in_ok-push.ensures.items refl)
+
+pub returns-clause-ok : goal.returns-clause-ok
+returns-clause-ok c =
+    let chain = YieldsList-from_str_split 46 c.args.text.now (lit< tt) (cc) (cc) (cc) in
+    let all = YieldsList-end chain c.loop-label.yielded _ c.loop-label.yielded_by _ _ c.in-None.is c.next.ensures.steps in
+    rw (← all.0) c.loop-label.invariant.2

@@ -1,0 +1,12 @@
+-- Texts that are read one after another: the first that is refused refuses them all.
+use Rattle.std.specs.Prelude.{List, [], ◌∷◌, Result, Ok, Err}
+
+-- what is read first, and then the others
+abbrev pub and_others : {M E : Type 0} → Result M E → Result (List M) E → Result (List M) E
+and_others (Err e) others = Err e
+and_others (Ok m) (Err e) = Err e
+and_others (Ok m) (Ok ms) = Ok (m ∷ ms)
+
+abbrev pub read_each : {X M E : Type 0} → (X → Result M E) → List X → Result (List M) E
+read_each read [] = Ok []
+read_each read (x ∷ xs) = and_others (read x) (read_each read xs)

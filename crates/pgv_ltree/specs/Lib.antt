@@ -1,0 +1,12 @@
+pub mod Labels
+pub mod Each
+pub mod Trees
+pub mod SameLabels
+pub mod Taken
+pub mod Joins
+pub mod PrintedAgain
+pub mod Ascii
+pub mod LabelChars
+pub mod TreesCodec
+pub mod TreesBack
+pub mod Laws

@@ -1,0 +1,49 @@
+//! What is proved of label trees and of the definitions that say what they are. Each law is the contract of a function that does
+//! nothing.
+
+ghost use Rattle.std.specs.Prelude.{◌≡◌, ℕ, List, None};
+ghost use Rattle.std.specs.Iterator.{AlwaysYields};
+ghost use Rattle.pgv_types.specs.Ty.{Ty};
+ghost use Rattle.pgv_types.specs.Relations.{softly};
+ghost use Rattle.pgv_types.specs.declared.oid.Oid.{Oid};
+ghost use Rattle.pgv_ltree.specs.Laws.{OneTree, PrintedTreeIsRead, TreeIsRead};
+ghost use Rattle.pgv_ltree.specs.TreesBack.{tree_kept};
+ghost use Rattle.pgv_ltree.specs.TreesCodec.{ltree, ltree_array, tree_image, tree_reading};
+
+use pgv_codec::{Decode, Encode, PgHasArrayType, ReadBack, Type};
+
+/// A `PgLTree` is an `ltree`, by its name: the version 1 and its text, as `01612e62` for `a.b`. Its arrays are `_ltree`, by their
+/// name. A tree without labels comes back as one empty label.
+pub fn ltree_is_an_ltree()
+    ensures types { ⟦<crate::PgLTree as Type>⟧.info ≡ ltree }
+    ensures accepts { (t : Ty) → ⟦<crate::PgLTree as Type>⟧.accepts t ≡ softly t ltree }
+    ensures arrays { ⟦<crate::PgLTree as PgHasArrayType>⟧.array_info ≡ ltree_array }
+    ensures accepts_arrays { (t : Ty) → ⟦<crate::PgLTree as PgHasArrayType>⟧.accepts_array t ≡ softly t ltree_array }
+    ensures written { (v : List (List ℕ)) → ⟦<crate::PgLTree as Encode>⟧.image v ≡ tree_image v }
+    ensures hint { (v : List (List ℕ)) → ⟦<crate::PgLTree as Encode>⟧.hint v ≡ 0 }
+    ensures produced { (v : List (List ℕ)) → ⟦<crate::PgLTree as Encode>⟧.produced v ≡ None }
+    ensures means { ⟦<crate::PgLTree as Decode>⟧.meaning ≡ (λ v. v) }
+    ensures read { ⟦<crate::PgLTree as Decode>⟧.reading ≡ tree_reading }
+    ensures kept { ⟦<crate::PgLTree as ReadBack>⟧.kept ≡ tree_kept }
+    ensures fits { (v : List (List ℕ)) (t : Ty) (os : List Oid) → ⟦<crate::PgLTree as ReadBack>⟧.fits v t os }
+{}
+
+/// Labels are read of a text exactly where it is the text of their tree.
+pub fn tree_is_read()
+    ensures { TreeIsRead }
+{}
+
+/// No text is two trees.
+pub fn one_tree()
+    ensures { OneTree }
+{}
+
+/// A tree is read of its printed text exactly where it has a label.
+pub fn printed_tree_is_read()
+    ensures { PrintedTreeIsRead }
+{}
+
+/// The iterator of a tree gives its labels in order, and ends then.
+pub fn tree_gives_its_labels()
+    ensures { (tree : List (List ℕ)) (labels : _) → ⟦<crate::PgLTree as IntoIterator>⟧.into_iter_gives tree labels → AlwaysYields ⟦<std::vec::IntoIter<crate::PgLTreeLabel> as Iterator>⟧.next_gives (λ label. label) labels tree }
+{}

@@ -1,0 +1,10 @@
+//! Label trees (PostgreSQL, "ltree"): labels, trees of labels and their texts, and what trees are written as and read of.
+#![tactic(auto)]
+
+pub mod label;
+pub mod laws;
+pub mod ltree;
+
+pub use label::PgLTreeLabel;
+pub use ltree::PgLTree;
+pub use pgv_value::PgLTreeParseError;

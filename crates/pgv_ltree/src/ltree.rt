@@ -1,0 +1,189 @@
+//! Trees of labels (PostgreSQL, "ltree", Definitions).
+
+ghost use Rattle.std.specs.Prelude.{◌≡◌, ◌⊎◌, ◌↔◌, ◌<◌, ◌++◌, ◌∷◌, [], List, ℕ, length, map, IfOk, IfErr, OnOk, OnErr, IsSome, Ok, Err, Some, string_bytes};
+ghost use Rattle.std.specs.Iterator.{Drains, IsFinite};
+ghost use Rattle.std.specs.Option.{option_to_list};
+ghost use Rattle.std.specs.Vec.Iter.{into_iter_items, into_iter_len};
+ghost use Rattle.pgv_value.specs.declared.tree_error.PgLTreeParseError.TheVariants.{InvalidLtreeLabel, Memory};
+ghost use Rattle.pgv_ltree.specs.Each.{read_each};
+ghost use Rattle.pgv_ltree.specs.Labels.{label_read};
+ghost use Rattle.pgv_ltree.specs.Taken.{GivesText, GivesTexts};
+ghost use Rattle.pgv_ltree.specs.Trees.{printed_tree, tree_read};
+
+mod codec;
+
+use crate::label::PgLTreeLabel;
+use pgv_value::PgLTreeParseError;
+use std::alloc::{AllocError, Global};
+use std::fmt;
+use std::marker::Model;
+
+/// A tree of labels, from the root down, such as `Top.Science.Astronomy`.
+///
+/// A contract sees it as the list of its labels. A tree of a server has one label or more; one that is made here may have none.
+#[derive(Debug, Drop)]
+pub struct PgLTree {
+    labels: Vec<PgLTreeLabel>,
+}
+
+impl Model for PgLTree {
+    ghost use Rattle.std.specs.Prelude.{ℕ, List};
+
+    ghost Value = { List (List ℕ) };
+
+    ghost view = { λ tree. tree.labels.items };
+}
+
+impl PgLTree {
+    /// A tree without labels. It takes no memory yet.
+    pub fn new(alloc: Global) -> PgLTree
+        ensures { result ≡ [] }
+    {
+        PgLTree {
+            labels: Vec::new(alloc),
+        }
+    }
+
+    /// The tree of these labels.
+    pub fn from_labels(labels: Vec<PgLTreeLabel>) -> PgLTree
+        ensures { result ≡ labels.items }
+    {
+        PgLTree { labels }
+    }
+
+    /// The tree of the labels of these texts, up to the first that is none, which refuses them all.
+    pub fn try_from_iter<I: IntoIterator<Item = String>>(
+        alloc: Global,
+        labels: I,
+    ) -> Result<PgLTree, PgLTreeParseError>
+        requires { (it : I.IntoIter) → I.into_iter_gives labels it → I.IntoIter.can_next it × IsFinite (I.IntoIter.remaining it) }
+        // Every text was taken, and is the label at its place.
+        ensures ok { IfOk result (λ tree. (it : I.IntoIter) × (texts : List (List ℕ)) × I.into_iter_gives labels it × GivesTexts I.IntoIter.next_gives it texts × (read_each label_read texts ≡ Ok tree)) }
+        // A text that was taken is no label.
+        ensures err { IfErr result (λ e. (e ≡ Memory) ⊎ ((it : I.IntoIter) × (text : List ℕ) × I.into_iter_gives labels it × GivesText I.IntoIter.next_gives it text × (label_read text ≡ Err e))) }
+    {
+        let mut tree = PgLTree::new(alloc);
+        for label in labels {
+            tree.push(PgLTreeLabel::new(label)?)?;
+        }
+        Ok(tree)
+    }
+
+    /// The tree of these labels, one after another.
+    pub fn try_collect<I: IntoIterator<Item = PgLTreeLabel>>(
+        alloc: Global,
+        labels: I,
+    ) -> Result<PgLTree, AllocError>
+        requires { (it : I.IntoIter) → I.into_iter_gives labels it → I.IntoIter.can_next it × IsFinite (I.IntoIter.remaining it) }
+        ensures { IfOk result (λ tree. (it : I.IntoIter) × I.into_iter_gives labels it × Drains I.IntoIter.next_gives it tree) }
+    {
+        let mut tree = PgLTree::new(alloc);
+        for label in labels {
+            tree.push(label)?;
+        }
+        Ok(tree)
+    }
+
+    /// The tree of a text: labels joined by `.`. The empty text is one empty label. Another text is refused with InvalidLtreeLabel.
+    pub fn from_str(alloc: Global, text: &str) -> Result<PgLTree, PgLTreeParseError>
+        ensures ok { IfOk result (λ tree. tree_read text.now ≡ Ok tree) }
+        ensures err { IfErr result (λ e. (tree_read text.now ≡ Err e) ⊎ (e ≡ Memory)) }
+        ensures refused { IfErr result (λ e. (e ≡ InvalidLtreeLabel) ⊎ (e ≡ Memory)) }
+    {
+        let mut labels = Vec::new(alloc);
+        for label in text.split('.') {
+            labels.push(PgLTreeLabel::from_str(alloc, label)?)?;
+        }
+        Ok(PgLTree { labels })
+    }
+
+    /// Appends a label. A refused one leaves the tree as it was.
+    pub fn push(&mut self, label: PgLTreeLabel) -> Result<(), AllocError>
+        ensures ok { OnOk result (self.new ≡ self.old ++ label ∷ []) }
+        ensures err { OnErr result (self.new ≡ self.old) }
+    {
+        self.labels.push(label)?;
+        Ok(())
+    }
+
+    /// Takes the last label off, where there is one.
+    pub fn pop(&mut self) -> Option<PgLTreeLabel>
+        ensures labels { self.old ≡ self.new ++ option_to_list result }
+        ensures variant { IsSome result ↔ (0 < length self.old) }
+    {
+        self.labels.pop()
+    }
+
+    /// The labels, from the root down.
+    pub fn as_slice(&self) -> &[PgLTreeLabel]
+        ensures { result.now ≡ self.now }
+    {
+        self.labels.as_slice()
+    }
+}
+
+impl From<Vec<PgLTreeLabel>> for PgLTree {
+    ghost from_gives = { λ labels tree. tree ≡ labels.items };
+
+    fn from(labels: Vec<PgLTreeLabel>) -> PgLTree {
+        PgLTree::from_labels(labels)
+    }
+}
+
+/// Gives the labels one after another, from the root down.
+impl IntoIterator for PgLTree {
+    type Item = PgLTreeLabel;
+
+    type IntoIter = std::vec::IntoIter<PgLTreeLabel>;
+
+    ghost into_iter_gives = { λ tree labels. (into_iter_items labels ≡ tree) × (into_iter_len labels ≡ length tree) };
+
+    fn into_iter(self) -> std::vec::IntoIter<PgLTreeLabel> {
+        self.labels.into_iter()
+    }
+}
+
+/// Trees are equal where they have the same labels.
+impl PartialEq for PgLTree {
+    ghost use Rattle.pgv_ltree.specs.SameLabels.{same_tree, same_tree_per};
+
+    ghost eq = { same_tree };
+
+    ghost laws = { same_tree_per };
+
+    fn eq(&self, other: &PgLTree) -> bool {
+        self.labels == other.labels
+    }
+}
+
+impl Eq for PgLTree {
+    ghost use Rattle.pgv_ltree.specs.SameLabels.{same_tree_equiv};
+
+    ghost laws = { same_tree_equiv };
+}
+
+impl Clone for PgLTree {
+    ghost is_clone = { λ tree copy. copy ≡ tree };
+
+    fn clone(&self) -> Result<PgLTree, AllocError> {
+        Ok(PgLTree {
+            labels: self.labels.clone()?,
+        })
+    }
+}
+
+/// Printed as its labels, joined by `.`; a tree without labels prints nothing.
+impl fmt::Display for PgLTree {
+    ghost output = { λ tree. Some (printed_tree tree) };
+
+    fn fmt<W: fmt::Write>(&self, f: &mut fmt::Formatter<W>) -> fmt::Result {
+        if let [first, rest @ ..] = self.as_slice() {
+            f.write_str(first.as_str())?;
+            for label in rest {
+                f.write_str(".")?;
+                f.write_str(label.as_str())?;
+            }
+        }
+        Ok(())
+    }
+}

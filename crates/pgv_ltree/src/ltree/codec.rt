@@ -1,0 +1,163 @@
+//! Trees of labels, written and read (PostgreSQL, "ltree").
+
+ghost use Rattle.std.specs.Prelude.{◌≡◌, ◌++◌, ℕ, List, true, IfOk, IfErr, OnOk, OnErr, None, Some, refl};
+ghost use Rattle.std.specs.List.{list_all};
+ghost use Rattle.pgv_types.specs.Relations.{softly};
+ghost use Rattle.pgv_buf.specs.Tokens.{blank, bytes};
+ghost use Rattle.pgv_value.specs.Reading.{Answers, Refuses};
+ghost use Rattle.pgv_value.specs.declared.error.CodecError.TheVariants.{Memory, LTree};
+ghost use Rattle.pgv_value.specs.declared.tree_error.PgLTreeParseError.TheVariants.{InvalidLtreeLabel};
+ghost use Rattle.pgv_codec.specs.Outcome.{Appended};
+ghost use Rattle.pgv_codec.specs.Saying.{plainly};
+ghost use Rattle.pgv_ltree.specs.Labels.{is_label};
+ghost use Rattle.pgv_ltree.specs.Trees.{printed_tree};
+ghost use Rattle.pgv_ltree.specs.TreesCodec.{ltree, ltree_array, tree_image, tree_in_binary, tree_in_text, tree_reading, tree_binary_refusal, tree_refusal, versioned, version_fault};
+
+use super::PgLTree;
+use crate::label::PgLTreeLabel;
+use pgv_codec::{Codec, Decode, Encode, IsNull, PgArgumentBuffer, PgHasArrayType, ReadBack, Type};
+use pgv_types::PgTypeInfo;
+use pgv_value::{CodecError, PgLTreeParseError, PgValueFormat, PgValueRef};
+use std::alloc::{AllocError, Global};
+
+/// The version that the binary form begins with.
+const VERSION: u8 = 1;
+
+/// `ltree`, of which only the name is known until its OID is handed in. Read under it and domains over it.
+impl Type for PgLTree {
+    ghost info = { ltree };
+
+    ghost accepts = { λ t. softly t ltree };
+
+    fn type_info() -> PgTypeInfo {
+        PgTypeInfo::with_name("ltree")
+    }
+
+    fn compatible(type_info: &PgTypeInfo) -> bool {
+        type_info.type_compatible(&Self::type_info())
+    }
+}
+
+/// An array of them is `_ltree`, by its name too.
+impl PgHasArrayType for PgLTree {
+    ghost array_info = { ltree_array };
+
+    ghost accepts_array = { λ t. softly t ltree_array };
+
+    fn array_type_info() -> PgTypeInfo {
+        PgTypeInfo::with_name("_ltree")
+    }
+
+    fn array_compatible(type_info: &PgTypeInfo) -> bool {
+        type_info.type_compatible(&Self::array_type_info())
+    }
+}
+
+/// Appends labels, joined by `.`.
+fn write_labels(labels: &[PgLTreeLabel], out: &mut PgArgumentBuffer) -> Result<(), CodecError>
+    ensures labels { OnOk result (list_all is_label labels.now ≡ true) }
+    ensures ok { OnOk result (out.new ≡ out.old ++ blank (bytes (printed_tree labels.now))) }
+    ensures err { IfErr result (λ e. e ≡ Memory) }
+    ensures appended { OnErr result (Appended out.old out.new) }
+{
+    let [first, rest @ ..] = labels else {
+        return Ok(());
+    };
+    out.extend_from_slice(first.as_str().as_bytes())?;
+    for label in rest {
+        out.push(b'.')?;
+        out.extend_from_slice(label.as_str().as_bytes())?;
+    }
+    Ok(())
+}
+
+/// Written as the byte 01 and the text, label after label: `a.b` is `01612e62`.
+impl Encode for PgLTree {
+    ghost image = { tree_image };
+
+    fn encode_by_ref(&self, out: &mut PgArgumentBuffer) -> Result<IsNull, CodecError> {
+        out.push(VERSION)?;
+        write_labels(self.as_slice(), out)?;
+        Ok(IsNull::No)
+    }
+
+    fn size_hint(&self) -> usize {
+        0
+    }
+
+    fn produces(&self) -> Result<Option<PgTypeInfo>, AllocError> {
+        Ok(None)
+    }
+}
+
+/// The tree of a text. Another text is refused with C36.
+fn read_text(alloc: Global, text: &str) -> Result<PgLTree, CodecError>
+    ensures exact { Answers (λ tree. tree) (tree_in_text text.now) result }
+    ensures refused { IfErr result (λ e. Refuses e (e ≡ LTree InvalidLtreeLabel)) }
+{
+    Ok(PgLTree::from_str(alloc, text)?)
+}
+
+/// The text after the version.
+#[tactic(auto, using(crate::proofs::Text::whole_text))]
+fn text_of(form: &[u8]) -> Result<&str, CodecError>
+    ensures found { IfOk result (λ text. versioned form.now ≡ Some text.now) }
+    ensures none { IfErr result (λ e. (versioned form.now ≡ None) × (e ≡ version_fault form.now)) }
+{
+    let Some((version, text)) = form.split_first() else {
+        return Err(CodecError::Short);
+    };
+    if *version != VERSION {
+        return Err(CodecError::LTree(PgLTreeParseError::InvalidLtreeVersion));
+    }
+    match str::from_utf8(text) {
+        Ok(text) => Ok(text),
+        Err(_) => Err(CodecError::Utf8),
+    }
+}
+
+/// The tree of a version and a text.
+fn read_binary(alloc: Global, form: &[u8]) -> Result<PgLTree, CodecError>
+    ensures exact { Answers (λ tree. tree) (tree_in_binary form.now) result }
+    ensures refused { IfErr result (λ e. Refuses e (e ≡ tree_binary_refusal form.now)) }
+{
+    let text = text_of(form)?;
+    read_text(alloc, text)
+}
+
+/// Read in binary of the byte 01 and a text: no bytes are refused with C15, another first byte with C36, what isn't UTF-8 with C14,
+/// and a text that is no tree's with C36. In text the bytes are the tree's text. Null is refused with C13.
+impl Decode for PgLTree {
+    ghost Meaning = { List (List ℕ) };
+
+    ghost meaning = { λ tree. tree };
+
+    ghost reading = { tree_reading };
+
+    ghost written = { plainly tree_image };
+
+    ghost refusal = { Some tree_refusal };
+
+    fn decode(alloc: Global, value: PgValueRef<'_>) -> Result<PgLTree, CodecError> {
+        match value.format() {
+            PgValueFormat::Binary => read_binary(alloc, value.as_bytes()?),
+            PgValueFormat::Text => read_text(alloc, value.as_str()?),
+        }
+    }
+}
+
+impl Codec for PgLTree {
+    ghost agrees = { λ _. refl };
+}
+
+/// A tree comes back as it was written, and one without labels as one empty label.
+impl ReadBack for PgLTree {
+    ghost use Rattle.pgv_codec.specs.Back.{always};
+    ghost use Rattle.pgv_ltree.specs.TreesBack.{tree_back, tree_kept};
+
+    ghost kept = { tree_kept };
+
+    ghost fits = { always };
+
+    ghost reads_back = { tree_back };
+}
