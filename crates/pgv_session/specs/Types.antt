@@ -18,6 +18,8 @@ use Rattle.pgv_codec.specs.Nullable.{nullable}
 use Rattle.pgv_codec.specs.Saying.{Saying, plainly, option_written, array_written}
 use Rattle.pgv_codec.specs.ScalarBinary.{bool_image, signed_image, unsigned_image, text_image, uuid_image}
 use Rattle.pgv_codec.specs.WithHint.{with_hint}
+use Rattle.pgv_ltree.specs.TreesCodec.{ltree, ltree_array, tree_image, tree_reading}
+use Rattle.pgv_lquery.specs.QueryCodec.{lquery, query_image, query_reading}
 use Rattle.pgv_more.specs.BitsBinary.{bits_image, bits_hint}
 use Rattle.pgv_more.specs.BitsCodec.{bits_reading}
 use Rattle.pgv_more.specs.ByteaText.{bytea_reading}
@@ -76,9 +78,12 @@ types =
     (codes "int4range", row (builtin 3904) (range (builtin 23) (int_reading w32)) (range_written (builtin 23) (plainly (signed_image w32)))) ∷
     (codes "int8range", row (builtin 3926) (range (builtin 20) (int_reading w64)) (range_written (builtin 20) (plainly (signed_image w64)))) ∷
     (codes "daterange", row (builtin 3912) (range (builtin 1082) date_reading) (range_written (builtin 1082) (with_hint (λ _. 4) date_image))) ∷
+    (codes "ltree", row ltree tree_reading (plainly tree_image)) ∷
+    (codes "lquery", row lquery query_reading (plainly query_image)) ∷
     (codes "int4[]", list_row (builtin 1007) (builtin 23) (int_reading w32) (plainly (signed_image w32))) ∷
     (codes "text[]", list_row (builtin 1009) (builtin 25) text_reading (plainly text_image)) ∷
     (codes "date[]", list_row (builtin 1182) (builtin 1082) date_reading (with_hint (λ _. 4) date_image)) ∷
+    (codes "ltree[]", list_row ltree_array ltree tree_reading (plainly tree_image)) ∷
     []
 
 -- the row of a name, where it has one

@@ -15,6 +15,8 @@ ghost use Rattle.pgv_session.specs.Types.{framed_as, framed_by, row, row_named, 
 use crate::line::{Ask, is};
 use jiff::Timestamp;
 use jiff::civil::{Date, DateTime, Time};
+use pgv_lquery::PgLQuery;
+use pgv_ltree::PgLTree;
 use pgv_more::{BitVec, MacAddress, PgBytea, PgCiText, PgTimeTz};
 use pgv_numeric::{PgMoney, PgNumeric};
 use pgv_range::PgRange;
@@ -61,9 +63,12 @@ pub fn respond_by(
         _ if is(name, "int4range") => respond_as::<PgRange<i32>>(alloc, arguments, ask),
         _ if is(name, "int8range") => respond_as::<PgRange<i64>>(alloc, arguments, ask),
         _ if is(name, "daterange") => respond_as::<PgRange<Date>>(alloc, arguments, ask),
+        _ if is(name, "ltree") => respond_as::<PgLTree>(alloc, arguments, ask),
+        _ if is(name, "lquery") => respond_as::<PgLQuery>(alloc, arguments, ask),
         _ if is(name, "int4[]") => respond_as::<Vec<Option<i32>>>(alloc, arguments, ask),
         _ if is(name, "text[]") => respond_as::<Vec<Option<String>>>(alloc, arguments, ask),
         _ if is(name, "date[]") => respond_as::<Vec<Option<Date>>>(alloc, arguments, ask),
+        _ if is(name, "ltree[]") => respond_as::<Vec<Option<PgLTree>>>(alloc, arguments, ask),
         _ => String::from_str(alloc, "refused line"),
     }
 }

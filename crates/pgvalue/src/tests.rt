@@ -1,6 +1,6 @@
 //! Sessions with the answers that they must have, and readers and writers that fail.
 
-use crate::vectors::{ARRAYS, NETWORKS, NUMBERS, RANGES, SCALARS, STRINGS, TIMES};
+use crate::vectors::{ARRAYS, LABELS, NETWORKS, NUMBERS, RANGES, SCALARS, STRINGS, TIMES};
 use pgv_session::{RunFault, fault_text, run};
 use std::alloc::{AllocError, Global};
 use std::io::{self, BufRead, Error, ErrorKind, Read, Write};
@@ -124,6 +124,30 @@ fn bytes_money_digits_and_ranges(rt: HostRuntime) -> Result<(), Fail> {
         ),
         ("read money null", "refused C13"),
         ("null numeric", "$3"),
+    ];
+    assert!(rt; answered(rt.alloc(), &session)?);
+    Ok(())
+}
+
+#[test]
+fn label_trees_and_queries(rt: HostRuntime) -> Result<(), Fail> {
+    let session = [
+        ("add lquery a@*", "$1"),
+        ("add lquery a|b*.!c@%.*{1,3}", "$2"),
+        ("add ltree ", "$3"),
+        ("add ltree a..b", "$4"),
+        (
+            "wire",
+            "0000000401612a400000001101617c622a2e216340252e2a7b312c337d00000001010000000501612e2e62",
+        ),
+        ("read lquery 02", "refused C37"),
+        ("read ltree ", "refused C15"),
+        ("read ltree null", "refused C13"),
+        ("add ltree a-b", "refused C36"),
+        ("add lquery *{3,1}", "$5"),
+        ("add lquery *{65536}", "refused C37"),
+        ("add lquery a..b", "refused C37"),
+        ("null ltree", "$6"),
     ];
     assert!(rt; answered(rt.alloc(), &session)?);
     Ok(())
@@ -328,6 +352,12 @@ fn vectors_of_numbers(rt: HostRuntime) -> Result<(), Fail> {
 #[test]
 fn vectors_of_ranges(rt: HostRuntime) -> Result<(), Fail> {
     assert!(rt; rows_answered(rt.alloc(), RANGES)?);
+    Ok(())
+}
+
+#[test]
+fn vectors_of_labels(rt: HostRuntime) -> Result<(), Fail> {
+    assert!(rt; rows_answered(rt.alloc(), LABELS)?);
     Ok(())
 }
 
