@@ -91,7 +91,8 @@ fn write_pair(
     ensures appended { OnErr result (Appended out.old out.new) }
 {
     write_text(key, out)?;
-    write_value(value, out)
+    write_value(value, out)?;
+    Ok(())
 }
 
 /// Appends the pairs, in the order of the keys.
@@ -135,6 +136,7 @@ impl Encode for PgHstore {
 }
 
 /// A text of bytes, where they are UTF-8, else C14.
+#[tactic(auto, using(crate::proofs::Texts::whole_text))]
 fn text_of(alloc: Global, form: &[u8]) -> Result<String, CodecError>
     ensures { Answers (λ text. string_bytes text) (if is_utf8 form.now then Some form.now else None) result }
 {
