@@ -1,2 +1,3 @@
 pub mod Texts
 pub mod Written
+pub mod Read
