@@ -1,7 +1,6 @@
-use Rattle.std.proofs.Common.{rules, ◌≡◌, [], IfOk, ℕ, ◌+◌, ◌-◌, ◌*◌, ◌<◌, ◌≤◌, length, ◌/◌, ◌%◌, Bool, true, false, nat_eq, nat_lt, List, ◌∷◌, ◌++◌, slice_index_or, slice_set, bit_and, bit_or, Fits, w8, w32, w64, Bor, MutBor}
-use Rattle.pgv_hstore.specs.Hstore.{pairs_of}
+use Rattle.std.proofs.Common.{Some, None, refl, ap, List, ℕ}
+use Rattle.pgv_hstore.proofs.Clones.{same_pairs}
 use Rattle.pgv_hstore.proofs.hstore.PgHstoreClone.clone.Goals as goal
 
--- src/hstore.rt:30:5
 pub returns : goal.returns
-returns c = ?
+returns c = record { cases = same_pairs _ _ (λ a b h. h) (λ a b h. elim a as (λ x. _) [ None ↦ ? | Some x ↦ ? ]) c.args.self.now.0.entries c.in_ok-clone.field-0.entries c.in_ok-clone.ensures.cases }
