@@ -2,3 +2,5 @@ pub mod Texts
 pub mod Written
 pub mod Read
 pub mod Clones
+pub mod EqualHstores
+pub mod LawsOfHstores
