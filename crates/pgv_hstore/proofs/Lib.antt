@@ -3,4 +3,5 @@ pub mod Written
 pub mod Read
 pub mod Clones
 pub mod EqualHstores
+pub mod Numbers
 pub mod LawsOfHstores

@@ -1,16 +1,23 @@
 -- Texts, pairs and maps that are written part after part.
-use Rattle.std.proofs.Common.{◌≡◌, ℕ, ◌+◌, ◌<◌, ◌≤◌, Bool, true, false, ltb, cond, List, [], ◌∷◌, ◌++◌, length, Option, Some, None, refl, sym, ap, ◌∙◌, append_assoc, arith, inl, inr}
+use Rattle.std.proofs.Common.{◌≡◌, ℕ, suc, ◌+◌, ◌<◌, ◌≤◌, Bool, true, false, ltb, cond, List, [], ◌∷◌, ◌++◌, length, map, subst, Option, Some, None, refl, sym, ap, ◌∙◌, append_assoc, arith, inl, inr}
 use Rattle.std.proofs.lemmas.Bool.Decides.{nat_tests}
 use Rattle.std.proofs.lemmas.List.{append-nil}
 use Rattle.std.proofs.lemmas.List.Folds.{list_all-append}
-use Rattle.std.specs.Prelude.{nat_le, ◌&&◌}
-use Rattle.std.specs.List.{flat_map, list_all}
+use Rattle.std.specs.Prelude.{nat_le, ◌&&◌, string_bytes}
+use Rattle.std.specs.FinMap.{is_sorted}
+use Rattle.std.specs.FinMap.Entries.{below_all}
+use Rattle.std.specs.List.{AllByRecursion, flat_map, list_all}
+use Rattle.std.specs.List.Sorted.{IsStrictlySortedBy}
+use Rattle.std.specs.String.{string_cmp}
+use Rattle.std.specs.declared.cmp.Ordering.TheVariants.{Less}
+use Rattle.std.specs.declared.string.String.{String}
 use Rattle.pgv_buf.specs.Tokens.{Token, Cell, bytes, be4, blank}
 use Rattle.pgv_value.specs.FrameBinary.{Part}
 use Rattle.pgv_value.specs.declared.error.CodecError.{CodecError}
 use Rattle.pgv_codec.specs.Outcome.{AppendedAll, Refused}
+use Rattle.pgv_codec.specs.Image.{image_of}
 use Rattle.pgv_codec.specs.PlainBytes.{appended_parts}
-use Rattle.pgv_hstore.specs.Hstore.{Pair, part_form, pair_form, part_fits, pair_fits, part_written, pair_written, pairs_written}
+use Rattle.pgv_hstore.specs.Hstore.{Pair, pair_of, order, part_form, pair_form, hstore_form, part_fits, pair_fits, part_written, pair_written, pairs_written, hstore_image}
 
 -- what is there where a test holds
 guarded : {A : Type 0} (b : Bool) (x y : A) → cond b (Some x) None ≡ Some y → (b ≡ true) × (x ≡ y)
@@ -76,3 +83,30 @@ pair_refused all so_far left more p error e f (inr memory) = inr memory
 pub all_pairs : (all so_far left : List Pair) (start now : List Cell) → all ≡ so_far ++ left → left ≡ [] → AppendedAll (pairs_written so_far) start now → AppendedAll (pairs_written all) start now
 all_pairs all so_far left start now e f written =
     (written.0, ap pairs_written (e ∙ ap (λ (ps : List Pair). so_far ++ ps) f ∙ append-nil so_far) ∙ written.1, written.2)
+
+-- ---- a whole map
+
+below_pairs : {Z : Type 0} (k : String Z) (es : List (String Z × Option (String Z))) → AllByRecursion (λ y. string_cmp k y ≡ Less) (map (λ e. e.0) es) → below_all order (string_bytes k) (map pair_of es) ≡ true
+below_pairs k [] h = refl
+below_pairs k (e ∷ es) h = rw (h.0, below_pairs k es h.1) refl
+
+sorted_pairs : {Z : Type 0} (es : List (String Z × Option (String Z))) → IsStrictlySortedBy string_cmp (map (λ e. e.0) es) → is_sorted order (map pair_of es) ≡ true
+unfolding IsStrictlySortedBy
+sorted_pairs [] h = refl
+sorted_pairs (e ∷ es) h = rw (below_pairs e.0 es h.0, sorted_pairs es h.1) refl
+
+same_length : {Z : Type 0} (es : List (String Z × Option (String Z))) → length (map pair_of es) ≡ length es
+same_length [] = refl
+same_length (e ∷ es) = ap suc (same_length es)
+
+-- the number of pairs, and the pairs
+pub map_appended : {Z : Type 0} (es : List (String Z × Option (String Z))) (start mid now : List Cell) → IsStrictlySortedBy string_cmp (map (λ e. e.0) es) → length es ≤ 2147483647 →
+    mid ≡ start ++ blank (bytes (be4 (length es))) → AppendedAll (pairs_written (map pair_of es)) mid now → (ts : List Token) × (hstore_image (map pair_of es) ≡ Some (image_of ts)) × (now ≡ start ++ blank ts)
+map_appended es start mid now ordered le first written =
+    let ps = map pair_of es in
+    let count = same_length es in
+    let g = guarded (list_all pair_fits ps) (bytes (flat_map pair_form ps)) written.0 written.1 in (
+      bytes (hstore_form ps),
+      rw (sorted_pairs es ordered, few (length ps) (subst (λ (n : ℕ). n ≤ 2147483647) (sym count) le), g.0) refl,
+      appended_parts start mid now (be4 (length ps)) (flat_map pair_form ps) (first ∙ ap (λ (n : ℕ). start ++ blank (bytes (be4 n))) (sym count)) (written.2 ∙ ap (λ (ts : List Token). mid ++ blank ts) (sym g.1)),
+    )
