@@ -122,6 +122,9 @@ found key ps = found_all key [] ps ∙ itself (last_value key ps)
 is_map : (ps : List Pair) → IsMapOf ps (put_all [] ps)
 is_map ps = record { sorted = holds (is_sorted order (put_all [] ps)) (sorted_all [] ps tt); values = λ key. found key ps }
 
+pub map_made : (ps made : List Pair) → made ≡ put_all [] ps → IsMapOf ps made
+map_made ps made e = subst (IsMapOf ps) (sym e) (is_map ps)
+
 one_map : (stood ps : List Pair) → IsMapOf stood ps → put_all [] stood ≡ ps
 one_map stood ps h =
     same_entries order nat_list_cmp_total (slice_cmp-IsAntisymmetric nat_cmp-IsAntisymmetric) (put_all [] stood) ps (sorted_all [] stood tt) (so (is_sorted order ps) h.sorted)

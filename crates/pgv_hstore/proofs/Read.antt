@@ -75,3 +75,17 @@ pub is_done : (into : List Pair) (count i : ℕ) (form : List ℕ) (whole : Opti
 is_done into count i form whole le so_far =
     let k : count - i ≡ 0 = omega arith in
     sym so_far ∙ ap (λ (n : ℕ). put_read into n form) k ∙ none_left into form
+
+-- ---- pairs that an iterator gives are put in turn
+
+put_all_more : (into ps : List Pair) (p : Pair) → put_all into (ps ++ p ∷ []) ≡ put order p.0 p.1 (put_all into ps)
+put_all_more into [] p = refl
+put_all_more into (q ∷ ps) p = put_all_more (put order q.0 q.1 into) ps p
+
+map_more : {A : Type 0} (f : A → Pair) (xs : List A) (x : A) → map f (xs ++ x ∷ []) ≡ map f xs ++ f x ∷ []
+map_more f [] x = refl
+map_more f (y ∷ xs) x = ap (λ (ps : List Pair). f y ∷ ps) (map_more f xs x)
+
+pub one_more : {A : Type 0} (f : A → Pair) (xs : List A) (x : A) (before now : List Pair) → before ≡ put_all [] (map f xs) → now ≡ put order (f x).0 (f x).1 before → now ≡ put_all [] (map f (xs ++ x ∷ []))
+one_more f xs x before now so_far e =
+    e ∙ ap (put order (f x).0 (f x).1) so_far ∙ sym (put_all_more [] (map f xs) (f x)) ∙ ap (put_all []) (sym (map_more f xs x))

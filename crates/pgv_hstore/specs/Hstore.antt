@@ -24,6 +24,10 @@ Pair = List ℕ × Part
 abbrev pub pair_of : {Z : Type 0} → String Z × Option (String Z) → Pair
 pair_of e = (string_bytes e.0, option_map string_bytes e.1)
 
+-- the bytes of a key and of a value that isn't null
+abbrev pub text_pair_of : {Z : Type 0} → String Z × String Z → Pair
+text_pair_of e = (string_bytes e.0, Some (string_bytes e.1))
+
 abbrev pub pairs_of : PgHstore → List Pair
 pairs_of h = map pair_of h.0.entries
 

@@ -1,7 +1,9 @@
 //! Maps of texts (PostgreSQL, appendix F, hstore).
 
-ghost use Rattle.std.specs.Prelude.{◌≡◌, [], IfOk};
-ghost use Rattle.pgv_hstore.specs.Hstore.{pairs_of};
+ghost use Rattle.std.specs.Prelude.{◌≡◌, [], IfOk, List, Some, map, string_bytes};
+ghost use Rattle.std.specs.Iterator.{Drains, IsFiniteIterable};
+ghost use Rattle.pgv_hstore.specs.Hstore.{pair_of, pairs_of, text_pair_of};
+ghost use Rattle.pgv_hstore.specs.Laws.{IsMapOf};
 
 mod codec;
 
@@ -20,6 +22,36 @@ impl PgHstore {
         ensures { pairs_of result ≡ [] }
     {
         PgHstore(BTreeMap::new(alloc))
+    }
+
+    /// The map of pairs, whose values may be null. Where one key comes again, the later pair wins. The iterator ends.
+    pub fn try_from_iter<I: IntoIterator<Item = (String, Option<String>)>>(
+        alloc: Global,
+        pairs: I,
+    ) -> Result<PgHstore, AllocError>
+        requires { IsFiniteIterable I.into_iter_gives I.IntoIter.can_next I.IntoIter.remaining pairs }
+        ensures { IfOk result (λ h. (it : I.IntoIter) × (xs : List _) × I.into_iter_gives pairs it × Drains I.IntoIter.next_gives it xs × IsMapOf (map pair_of xs) (pairs_of h)) }
+    {
+        let mut map = BTreeMap::new(alloc);
+        for (key, value) in pairs {
+            map.insert(key, value)?;
+        }
+        Ok(PgHstore(map))
+    }
+
+    /// The map of pairs, none of whose values is null. Where one key comes again, the later pair wins. The iterator ends.
+    pub fn try_from_pairs<I: IntoIterator<Item = (String, String)>>(
+        alloc: Global,
+        pairs: I,
+    ) -> Result<PgHstore, AllocError>
+        requires { IsFiniteIterable I.into_iter_gives I.IntoIter.can_next I.IntoIter.remaining pairs }
+        ensures { IfOk result (λ h. (it : I.IntoIter) × (xs : List _) × I.into_iter_gives pairs it × Drains I.IntoIter.next_gives it xs × IsMapOf (map text_pair_of xs) (pairs_of h)) }
+    {
+        let mut map = BTreeMap::new(alloc);
+        for (key, value) in pairs {
+            map.insert(key, Some(value))?;
+        }
+        Ok(PgHstore(map))
     }
 }
 

@@ -5,3 +5,6 @@ pub mod hstore;
 pub mod laws;
 
 pub use hstore::PgHstore;
+
+#[cfg(test)]
+mod tests;
