@@ -2,6 +2,7 @@
 -- each the frame of its key and that of its value, which may be null. A map is seen as its pairs in the order of the keys' bytes.
 use Rattle.std.specs.Prelude.{ℕ, zero, suc, nat_le, nat_lt, ◌&&◌, Bool, true, List, [], ◌∷◌, ◌++◌, length, map, Option, Some, None, option_map, if◌then◌else◌, string_bytes}
 use Rattle.std.specs.declared.cmp.Ordering.{Ordering}
+use Rattle.std.specs.declared.alloc.Global.{Global}
 use Rattle.std.specs.declared.string.String.{String}
 use Rattle.std.specs.Cmp.Lexicographic.{slice_cmp}
 use Rattle.std.specs.FinMap.{is_sorted, put}
@@ -19,6 +20,10 @@ use Rattle.pgv_hstore.specs.declared.hstore.PgHstore.{PgHstore}
 -- a key, and a value or null
 abbrev pub Pair : Type 0
 Pair = List ℕ × Part
+
+-- an entry of a map
+abbrev pub Entry : Type 0
+Entry = String Global × Option (String Global)
 
 -- the bytes of an entry
 abbrev pub pair_of : {Z : Type 0} → String Z × Option (String Z) → Pair

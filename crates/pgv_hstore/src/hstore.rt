@@ -64,13 +64,18 @@ impl Clone for PgHstore {
     }
 }
 
-/// The pairs in the order of the keys.
+/// The pairs in the order of the keys, each once, and from the back in the other order.
 impl IntoIterator for PgHstore {
+    ghost use Rattle.std.specs.BTreeMap.{IsOrdered};
+    ghost use Rattle.std.specs.Map.Iter.{GivesInOrder, GivesInReverse};
+    ghost use Rattle.std.specs.String.{string_cmp};
+    ghost use Rattle.pgv_hstore.specs.Hstore.{Entry};
+
     type Item = (String, Option<String>);
 
     type IntoIter = btree_map::IntoIter<String, Option<String>>;
 
-    ghost into_iter_gives = { λ h it. it ≡ h.0.entries };
+    ghost into_iter_gives = { λ h it. (it ≡ h.0.entries) × GivesInOrder Entry × GivesInReverse Entry × IsOrdered string_cmp h.0 };
 
     fn into_iter(self) -> btree_map::IntoIter<String, Option<String>> {
         self.0.into_iter()
