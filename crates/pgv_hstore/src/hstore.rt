@@ -1,7 +1,9 @@
 //! Maps of texts (PostgreSQL, appendix F, hstore).
 
-ghost use Rattle.std.specs.Prelude.{◌≡◌, [], IfOk, List, Some, map, string_bytes};
+ghost use Rattle.std.specs.Prelude.{◌≡◌, [], IfOk, OnOk, List, map};
+ghost use Rattle.std.specs.BTreeMap.{insert_entry};
 ghost use Rattle.std.specs.Iterator.{Drains, IsFiniteIterable};
+ghost use Rattle.std.specs.String.{string_cmp};
 ghost use Rattle.pgv_hstore.specs.Hstore.{pair_of, pairs_of, text_pair_of};
 ghost use Rattle.pgv_hstore.specs.Laws.{IsMapOf};
 
@@ -34,7 +36,7 @@ impl PgHstore {
     {
         let mut map = BTreeMap::new(alloc);
         for (key, value) in pairs {
-            map.insert(key, value)?;
+            put_pair(&mut map, key, value)?;
         }
         Ok(PgHstore(map))
     }
@@ -49,10 +51,22 @@ impl PgHstore {
     {
         let mut map = BTreeMap::new(alloc);
         for (key, value) in pairs {
-            map.insert(key, Some(value))?;
+            put_pair(&mut map, key, Some(value))?;
         }
         Ok(PgHstore(map))
     }
+}
+
+/// Puts a pair at its place in the order of the keys. A key that is there takes the new value.
+fn put_pair(
+    map: &mut BTreeMap<String, Option<String>>,
+    key: String,
+    value: Option<String>,
+) -> Result<(), AllocError>
+    ensures { OnOk result (map.new.entries ≡ insert_entry string_cmp map.old.entries key value) }
+{
+    map.insert(key, value)?;
+    Ok(())
 }
 
 /// A map of the same pairs.
@@ -68,7 +82,6 @@ impl Clone for PgHstore {
 impl IntoIterator for PgHstore {
     ghost use Rattle.std.specs.BTreeMap.{IsOrdered};
     ghost use Rattle.std.specs.Map.Iter.{GivesInOrder, GivesInReverse};
-    ghost use Rattle.std.specs.String.{string_cmp};
     ghost use Rattle.pgv_hstore.specs.Hstore.{Entry};
 
     type Item = (String, Option<String>);

@@ -9,7 +9,7 @@ ghost use Rattle.pgv_codec.specs.Saying.{plainly};
 ghost use Rattle.pgv_hstore.specs.Hstore.{Pair, pair_of, pairs_of, hstore_image, hstore_in_binary, hstore_reading, key_front, value_front, part_written, pair_written, pairs_written, put_read};
 ghost use Rattle.pgv_value.specs.Utf8.{is_utf8};
 
-use super::PgHstore;
+use super::{PgHstore, put_pair};
 use pgv_codec::{Codec, Decode, Encode, IsNull, PgArgumentBuffer, PgHasArrayType, ReadBack, Type};
 use pgv_types::PgTypeInfo;
 use pgv_value::{CodecError, PgValueFormat, PgValueRef, part_in_front, u32_in_front};
@@ -175,7 +175,7 @@ fn read_pairs(alloc: Global, count: u32, form: &[u8]) -> Result<PgHstore, CodecE
     for _ in 0..count {
         let (key, after) = key_in_front(alloc, rest)?;
         let (value, after) = value_in_front(alloc, after)?;
-        map.insert(key, value)?;
+        put_pair(&mut map, key, value)?;
         rest = after;
     }
     Ok(PgHstore(map))

@@ -7,18 +7,8 @@ use Rattle.pgv_hstore.proofs.hstore.PgHstore.try_from_pairs.Goals as goal
 
 pub loop-key-preserved : goal.loop-key-preserved
 loop-key-preserved g c =
-    one_more text_pair_of c.loop-key.yielded (c.in-Some.key, c.in-Some.value) (map pair_of c.loop-key.map.entries) (map pair_of c.insert.new.self.entries) c.loop-key.invariant
-    (ap (map pair_of) c.in_ok-insert.ensures.entries ∙ inserted c.loop-key.map.entries c.in-Some.key (Some c.in-Some.value))
-
-pub loop-key-preserved-in_ok-insert : goal.loop-key-preserved-in_ok-insert
-loop-key-preserved-in_ok-insert g c =
-    one_more text_pair_of c.loop-key.yielded (c.in-Some.key, c.in-Some.value) (map pair_of c.loop-key.map.entries) (map pair_of c.insert.new.self.entries) c.loop-key.invariant
-    (ap (map pair_of) c.in_ok-insert.ensures.entries ∙ inserted c.loop-key.map.entries c.in-Some.key (Some c.in-Some.value))
-
-pub loop-key-preserved-in_ok-insert-2 : goal.loop-key-preserved-in_ok-insert-2
-loop-key-preserved-in_ok-insert-2 g c =
-    one_more text_pair_of c.loop-key.yielded (c.in-Some.key, c.in-Some.value) (map pair_of c.loop-key.map.entries) (map pair_of c.insert.new.self.entries) c.loop-key.invariant
-    (ap (map pair_of) c.in_ok-insert.ensures.entries ∙ inserted c.loop-key.map.entries c.in-Some.key (Some c.in-Some.value))
+    one_more text_pair_of c.loop-key.yielded (c.in-Some.key, c.in-Some.value) (map pair_of c.loop-key.map.entries) (map pair_of c.put_pair.new.map.entries) c.loop-key.invariant
+    (ap (map pair_of) c.in_ok-put_pair.ensures ∙ inserted c.loop-key.map.entries c.in-Some.key (Some c.in-Some.value))
 
 pub returns : goal.returns
 returns g c =

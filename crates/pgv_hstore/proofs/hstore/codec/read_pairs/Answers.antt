@@ -22,9 +22,9 @@ returns-in_err-value c =
 
 pub loop-preserved : goal.loop-preserved
 loop-preserved c =
-    goes_on (map pair_of c.loop.map.entries) (map pair_of c.insert.new.self.entries) c.args.count c.loop.counter c.loop.rest.now c.in_ok-key.after.now c.in_ok-value.after.now (string_bytes c.in_ok-key.key)
+    goes_on (map pair_of c.loop.map.entries) (map pair_of c.put_pair.new.map.entries) c.args.count c.loop.counter c.loop.rest.now c.in_ok-key.after.now c.in_ok-value.after.now (string_bytes c.in_ok-key.key)
     (option_map string_bytes c.in_ok-value.value) (put_read [] c.args.count c.args.form.now) c.loop-test.true c.in_ok-key.ensures c.in_ok-value.ensures
-    (ap (map pair_of) c.in_ok-insert.ensures.entries ∙ inserted c.loop.map.entries c.in_ok-key.key c.in_ok-value.value) c.loop.invariant
+    (ap (map pair_of) c.in_ok-put_pair.ensures ∙ inserted c.loop.map.entries c.in_ok-key.key c.in_ok-value.value) c.loop.invariant
 
 pub returns : goal.returns
 returns c = is_done (map pair_of c.loop.map.entries) c.args.count c.loop.counter c.loop.rest.now (put_read [] c.args.count c.args.form.now) c.loop-test.false c.loop.invariant
