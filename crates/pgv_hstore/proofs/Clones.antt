@@ -1,9 +1,9 @@
 -- A map whose texts are clones has the same pairs.
-use Rattle.std.proofs.Common.{◌≡◌, ℕ, List, [], ◌∷◌, map, Option, Some, None, refl, ap, ◌∙◌}
+use Rattle.std.proofs.Common.{◌≡◌, ℕ, List, [], ◌∷◌, map, Option, Some, None, refl, ap}
 use Rattle.std.specs.Prelude.{option_map, string_bytes}
 use Rattle.std.specs.List.{AllZip}
 use Rattle.std.specs.declared.string.String.{String}
-use Rattle.pgv_hstore.specs.Hstore.{Pair, pair_of}
+use Rattle.pgv_hstore.specs.Hstore.{pair_of}
 
 pub same_pairs : {Z : Type 0} (R : String Z → String Z → Type 0) (S : Option (String Z) → Option (String Z) → Type 0) → ((a b : String Z) → R a b → string_bytes b ≡ string_bytes a) → ((a b : Option (String Z)) → S a b → option_map string_bytes b ≡ option_map string_bytes a) →
     (es fs : List (String Z × Option (String Z))) → AllZip (λ p q. R p.0 q.0 × S p.1 q.1) es fs → map pair_of fs ≡ map pair_of es

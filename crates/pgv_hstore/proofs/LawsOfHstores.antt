@@ -12,7 +12,7 @@ use Rattle.pgv_buf.specs.Tokens.{be4}
 use Rattle.pgv_value.proofs.Fronts.{front_exactly}
 use Rattle.pgv_value.specs.FrameBinary.{Part, IsFrame, front}
 use Rattle.pgv_value.specs.Laws.{AreBytes}
-use Rattle.pgv_value.specs.Steps.{◌>>=◌, number}
+use Rattle.pgv_value.specs.Steps.{number}
 use Rattle.pgv_value.specs.Utf8.{is_utf8}
 use Rattle.pgv_hstore.proofs.Numbers.{step_taken, test_failed, test_held, pair_is, number_is, bytes_after, after_four}
 use Rattle.pgv_codec.specs.Image.{limit}
@@ -36,26 +36,26 @@ key_is form key rest small e =
     let a = step_taken (front form) as_key (key, rest) e in
     by a.0.0 a.0.1 ((front_exactly form a.0.0 a.0.1 small).0 a.1) a.2
   where
-  by : (part : Part) (after : List ℕ) → IsFrame form part after → as_key (part, after) ≡ Some (key, rest) → KeyIs form key rest
-  by None after frame e = absurd cc
-  by (Some part) after frame e =
-      let t = test_held (is_utf8 part) (Some (part, after)) (key, rest) e in
-      let k = pair_is part key after rest t.1 in
-      subst (λ (r : List ℕ). KeyIs form key r) k.1 (subst (λ (p : List ℕ). KeyIs form p after) k.0 (text_is form part after t.0 frame))
+    by : (part : Part) (after : List ℕ) → IsFrame form part after → as_key (part, after) ≡ Some (key, rest) → KeyIs form key rest
+    by None after frame e = absurd cc
+    by (Some part) after frame e =
+        let t = test_held (is_utf8 part) (Some (part, after)) (key, rest) e in
+        let k = pair_is part key after rest t.1 in
+        subst (λ (r : List ℕ). KeyIs form key r) k.1 (subst (λ (p : List ℕ). KeyIs form p after) k.0 (text_is form part after t.0 frame))
 
 value_is : (form : List ℕ) (value : Part) (rest : List ℕ) → AreBytes form → value_front form ≡ Some (value, rest) → ValueIs form value rest
 value_is form value rest small e =
     let a = step_taken (front form) as_value (value, rest) e in
     by a.0.0 a.0.1 ((front_exactly form a.0.0 a.0.1 small).0 a.1) a.2
   where
-  by : (part : Part) (after : List ℕ) → IsFrame form part after → as_value (part, after) ≡ Some (value, rest) → ValueIs form value rest
-  by None after frame e =
-      let k = pair_is {A = Part} None value after rest e in
-      subst (λ (r : List ℕ). ValueIs form value r) k.1 (subst (λ (p : Part). ValueIs form p after) k.0 (tt, frame))
-  by (Some part) after frame e =
-      let t = test_held {A = Part × List ℕ} (is_utf8 part) (Some (Some part, after)) (value, rest) e in
-      let k = pair_is {A = Part} (Some part) value after rest t.1 in
-      subst (λ (r : List ℕ). ValueIs form value r) k.1 (subst (λ (p : Part). ValueIs form p after) k.0 (text_is form part after t.0 frame))
+    by : (part : Part) (after : List ℕ) → IsFrame form part after → as_value (part, after) ≡ Some (value, rest) → ValueIs form value rest
+    by None after frame e =
+        let k = pair_is {A = Part} None value after rest e in
+        subst (λ (r : List ℕ). ValueIs form value r) k.1 (subst (λ (p : Part). ValueIs form p after) k.0 (tt, frame))
+    by (Some part) after frame e =
+        let t = test_held {A = Part × List ℕ} (is_utf8 part) (Some (Some part, after)) (value, rest) e in
+        let k = pair_is {A = Part} (Some part) value after rest t.1 in
+        subst (λ (r : List ℕ). ValueIs form value r) k.1 (subst (λ (p : Part). ValueIs form p after) k.0 (text_is form part after t.0 frame))
 
 one_pair_is : (form : List ℕ) (p : Pair) (rest : List ℕ) → AreBytes form → pair_front form ≡ Some (p, rest) → IsPair p × (form ≡ pair_form p ++ rest)
 unfolding pair_front
@@ -104,20 +104,20 @@ found_all : (key : List ℕ) (into ps : List Pair) → find order key (put_all i
 found_all key into [] = refl
 found_all key into (p ∷ ps) = found_all key (put order p.0 p.1 into) ps ∙ by (last_value key ps)
   where
-  put_here : (b : Bool) → cond b (Some p.1) (find order key into) ≡ or_else (cond b (Some p.1) None) (find order key into)
-  put_here true = refl
-  put_here false = refl
+    put_here : (b : Bool) → cond b (Some p.1) (find order key into) ≡ or_else (cond b (Some p.1) None) (find order key into)
+    put_here true = refl
+    put_here false = refl
 
-  by : (o : Option Part) → or_else o (find order key (put order p.0 p.1 into)) ≡ or_else (or_else o (find order key (p ∷ []))) (find order key into)
-  by None = find-put order nat_list_cmp_total key p.0 p.1 into ∙ put_here (eq_by_cmp order key p.0)
-  by (Some value) = refl
+    by : (o : Option Part) → or_else o (find order key (put order p.0 p.1 into)) ≡ or_else (or_else o (find order key (p ∷ []))) (find order key into)
+    by None = find-put order nat_list_cmp_total key p.0 p.1 into ∙ put_here (eq_by_cmp order key p.0)
+    by (Some value) = refl
 
 found : (key : List ℕ) (ps : List Pair) → find order key (put_all [] ps) ≡ last_value key ps
 found key ps = found_all key [] ps ∙ itself (last_value key ps)
   where
-  itself : (o : Option Part) → or_else o None ≡ o
-  itself None = refl
-  itself (Some value) = refl
+    itself : (o : Option Part) → or_else o None ≡ o
+    itself None = refl
+    itself (Some value) = refl
 
 is_map : (ps : List Pair) → IsMapOf ps (put_all [] ps)
 is_map ps = record { sorted = holds (is_sorted order (put_all [] ps)) (sorted_all [] ps tt); values = λ key. found key ps }

@@ -20,12 +20,12 @@ pub inserted : {Z : Type 0} (es : List (String Z × Option (String Z))) (k : Str
 inserted [] k v = refl
 inserted {Z} (e ∷ es) k v = by (string_cmp k e.0) (inserted es k v)
   where
-  by : (r : Ordering) → map pair_of (insert_entry string_cmp es k v) ≡ put order (string_bytes k) (option_map string_bytes v) (map pair_of es) →
-      map pair_of (match_ordering r ((k, v) ∷ e ∷ es) ((e.0, v) ∷ es) (e ∷ insert_entry string_cmp es k v))
-      ≡ by_order r (pair_of (k, v) ∷ pair_of e ∷ map pair_of es) (pair_of (e.0, v) ∷ map pair_of es) (pair_of e ∷ put order (string_bytes k) (option_map string_bytes v) (map pair_of es))
-  by Less more = refl
-  by Equal more = refl
-  by Greater more = ap (λ (ps : List Pair). pair_of e ∷ ps) more
+    by : (r : Ordering) → map pair_of (insert_entry string_cmp es k v) ≡ put order (string_bytes k) (option_map string_bytes v) (map pair_of es) →
+        map pair_of (match_ordering r ((k, v) ∷ e ∷ es) ((e.0, v) ∷ es) (e ∷ insert_entry string_cmp es k v))
+        ≡ by_order r (pair_of (k, v) ∷ pair_of e ∷ map pair_of es) (pair_of (e.0, v) ∷ map pair_of es) (pair_of e ∷ put order (string_bytes k) (option_map string_bytes v) (map pair_of es))
+    by Less more = refl
+    by Equal more = refl
+    by Greater more = ap (λ (ps : List Pair). pair_of e ∷ ps) more
 
 -- ---- steps
 

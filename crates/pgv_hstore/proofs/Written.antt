@@ -1,5 +1,5 @@
 -- Texts, pairs and maps that are written part after part.
-use Rattle.std.proofs.Common.{◌≡◌, ℕ, suc, ◌+◌, ◌<◌, ◌≤◌, Bool, true, false, ltb, cond, List, [], ◌∷◌, ◌++◌, length, map, subst, Option, Some, None, refl, sym, ap, ◌∙◌, append_assoc, arith, inl, inr}
+use Rattle.std.proofs.Common.{◌≡◌, ℕ, suc, ◌≤◌, Bool, true, false, cond, List, [], ◌∷◌, ◌++◌, length, map, subst, Option, Some, None, refl, sym, ap, ◌∙◌, append_assoc, arith, inl, inr}
 use Rattle.std.proofs.lemmas.Bool.Decides.{nat_tests}
 use Rattle.std.proofs.lemmas.List.{append-nil}
 use Rattle.std.proofs.lemmas.List.Folds.{list_all-append}
@@ -12,7 +12,6 @@ use Rattle.std.specs.String.{string_cmp}
 use Rattle.std.specs.declared.cmp.Ordering.TheVariants.{Less}
 use Rattle.std.specs.declared.string.String.{String}
 use Rattle.pgv_buf.specs.Tokens.{Token, Cell, bytes, be4, blank}
-use Rattle.pgv_value.specs.FrameBinary.{Part}
 use Rattle.pgv_value.specs.declared.error.CodecError.{CodecError}
 use Rattle.pgv_codec.specs.Outcome.{AppendedAll, Refused}
 use Rattle.pgv_codec.specs.Image.{image_of}
@@ -62,13 +61,13 @@ pairs_more ps p start mid now x y =
 pub none_where : (ps : List Pair) (p : Pair) (qs : List Pair) → pair_written p ≡ None → pairs_written (ps ++ p ∷ qs) ≡ None
 none_where ps p qs none = rw (list_all-append pair_fits ps (p ∷ qs)) (by (pair_fits p) refl none)
   where
-  by : (b : Bool) → pair_fits p ≡ b → cond b (Some (bytes (pair_form p))) None ≡ None → cond (list_all pair_fits ps && (pair_fits p && list_all pair_fits qs)) (Some (bytes (flat_map pair_form (ps ++ p ∷ qs)))) None ≡ None
-  by true is e = absurd (cc)
-  by false is e = rw is (ends (list_all pair_fits ps))
-    where
-    ends : (a : Bool) → cond (a && false) (Some (bytes (flat_map pair_form (ps ++ p ∷ qs)))) None ≡ None
-    ends true = refl
-    ends false = refl
+    by : (b : Bool) → pair_fits p ≡ b → cond b (Some (bytes (pair_form p))) None ≡ None → cond (list_all pair_fits ps && (pair_fits p && list_all pair_fits qs)) (Some (bytes (flat_map pair_form (ps ++ p ∷ qs)))) None ≡ None
+    by true is e = absurd (cc)
+    by false is e = rw is (ends (list_all pair_fits ps))
+      where
+        ends : (a : Bool) → cond (a && false) (Some (bytes (flat_map pair_form (ps ++ p ∷ qs)))) None ≡ None
+        ends true = refl
+        ends false = refl
 
 -- ---- pairs of a map, one after another
 

@@ -1,35 +1,29 @@
 -- What is written of a map is read back as it.
-use Rattle.std.specs.Prelude.{◌≡◌, ℕ, zero, suc, ◌+◌, ◌<◌, ◌≤◌, ◌^◌, nat_le, nat_lt, Bool, true, false, ◌&&◌, List, [], ◌∷◌, ◌++◌, length, map, Option, Some, None, option_map, refl, string_bytes, T}
+use Rattle.std.specs.Prelude.{◌≡◌, ℕ, ◌<◌, ◌^◌, nat_le, nat_lt, Bool, true, false, ◌&&◌, List, [], ◌∷◌, ◌++◌, length, map, Option, Some, None, option_map, refl, string_bytes}
 use Rattle.std.specs.declared.cmp.Ordering.{Ordering}
 use Rattle.std.specs.declared.cmp.Ordering.TheVariants.{Less, Equal, Greater}
 use Rattle.std.specs.declared.string.String.{String}
-use Rattle.std.specs.Cmp.Lexicographic.{slice_cmp, nat_list_cmp_total}
+use Rattle.std.specs.Cmp.Lexicographic.{nat_list_cmp_total}
 use Rattle.std.specs.FinMap.{is_sorted, put}
 use Rattle.std.specs.FinMap.Entries.{below_all}
 use Rattle.std.specs.Ordering.{is_lt, ordering_reverse}
-use Rattle.std.specs.Int.{w32, to_be_bytes}
 use Rattle.std.specs.List.{flat_map, list_all}
-use Rattle.std.proofs.Common.{ap, sym, ◌∙◌, subst, arith, append_assoc}
+use Rattle.std.proofs.Common.{ap, sym, ◌∙◌, arith, append_assoc}
 use Rattle.std.proofs.lemmas.Bool.{le-ltb, eq-eqb}
 use Rattle.std.proofs.lemmas.Bool.Decides.{nat_tests}
 use Rattle.std.proofs.lemmas.List.{append-nil}
 use Rattle.std.proofs.lemmas.Str.{IsUtf8-had, utf8_valid_len-IsUtf8}
-use Rattle.std.specs.Str.{IsUtf8}
-use Rattle.pgv_types.specs.Ty.{Ty}
-use Rattle.pgv_types.specs.declared.oid.Oid.{Oid}
 use Rattle.pgv_buf.specs.Tokens.{bytes, be4}
 use Rattle.pgv_value.proofs.Fronts.{frame_in_front}
-use Rattle.pgv_value.specs.FrameBinary.{Part, IsFrame, front}
-use Rattle.pgv_value.specs.Steps.{◌>>=◌, number}
+use Rattle.pgv_value.specs.FrameBinary.{Part, front}
 use Rattle.pgv_value.specs.Utf8.{is_utf8}
 use Rattle.pgv_value.specs.declared.value.PgValueFormat.TheVariants.{Binary}
 use Rattle.pgv_nest.specs.Found.{number_there}
 use Rattle.pgv_codec.specs.Back.{ReadsBack, always}
 use Rattle.pgv_codec.specs.BackParts.{guarded}
 use Rattle.pgv_codec.specs.BackScalars.{part_is}
-use Rattle.pgv_codec.specs.Image.{Image, image_of, limit}
-use Rattle.pgv_codec.specs.Writing.{written_part}
-use Rattle.pgv_hstore.specs.Hstore.{Pair, pair_of, pairs_of, order, part_form, pair_form, hstore_form, part_fits, pair_fits, hstore_image, as_key, as_value, key_front, value_front, pair_front, pairs, put_all, put_read, hstore_in_binary, hstore_reading}
+use Rattle.pgv_codec.specs.Image.{image_of, limit}
+use Rattle.pgv_hstore.specs.Hstore.{Pair, pair_of, pairs_of, order, part_form, pair_form, hstore_form, part_fits, pair_fits, hstore_image, key_front, value_front, pair_front, pairs, put_all, hstore_in_binary, hstore_reading}
 use Rattle.pgv_hstore.specs.declared.hstore.PgHstore.{PgHstore}
 
 pub both : (a b : Bool) → (a && b) ≡ true → (a ≡ true) × (b ≡ true)

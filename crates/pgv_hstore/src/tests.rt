@@ -8,7 +8,8 @@ use std::alloc::Global;
 use std::test::Fail;
 
 /// age is null, name is John and surname is Doe.
-const JOHN: &str = "0000000300000003616765ffffffff000000046e616d65000000044a6f686e000000077375726e616d6500000003446f65";
+const JOHN: &str =
+    "0000000300000003616765ffffffff000000046e616d65000000044a6f686e000000077375726e616d6500000003446f65";
 
 /// What a map is written as, in hex.
 fn written(alloc: Global, hstore: &PgHstore) -> Result<String, CodecError> {
@@ -72,7 +73,10 @@ fn written_and_read(rt: HostRuntime) -> Result<(), Fail> {
     assert_eq!(rt; written(alloc, &PgHstore::new(alloc))?.as_str(), "00000000");
     assert!(rt; read(alloc, "00000000", PgValueFormat::Binary)? == PgHstore::new(alloc));
     // Bytes after the pairs.
-    assert_eq!(rt; again(alloc, "0000000100000001610000000000")?.as_str(), "00000001000000016100000000");
+    assert_eq!(rt;
+        again(alloc, "0000000100000001610000000000")?.as_str(),
+        "00000001000000016100000000"
+    );
     // A repeated key.
     assert_eq!(rt;
         again(alloc, "00000002000000016100000001620000000161ffffffff")?.as_str(),

@@ -1,4 +1,4 @@
-use Rattle.std.proofs.Common.{◌∙◌, ap, Some}
+use Rattle.std.proofs.Common.{◌∙◌, ap}
 use Rattle.std.specs.Prelude.{map}
 use Rattle.pgv_hstore.proofs.LawsOfHstores.{map_made}
 use Rattle.pgv_hstore.proofs.Read.{inserted, one_more}

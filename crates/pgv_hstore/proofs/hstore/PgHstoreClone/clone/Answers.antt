@@ -1,4 +1,3 @@
-use Rattle.std.proofs.Common.{Some, None, refl, ap, List, ℕ}
 use Rattle.pgv_hstore.proofs.Clones.{same_pairs, same_values}
 use Rattle.pgv_hstore.proofs.hstore.PgHstoreClone.clone.Goals as goal
 

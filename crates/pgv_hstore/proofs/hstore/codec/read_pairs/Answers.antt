@@ -1,4 +1,4 @@
-use Rattle.std.proofs.Common.{◌≡◌, ◌∙◌, ap, map, List, [], Some}
+use Rattle.std.proofs.Common.{◌∙◌, ap, map, []}
 use Rattle.std.proofs.lemmas.Result.{err_from_is_err_and}
 use Rattle.std.specs.Prelude.{option_map, string_bytes}
 use Rattle.pgv_codec.proofs.Refusing.{Refuses-weaker}
@@ -17,8 +17,8 @@ returns-in_err-value c =
     let k = err_from_is_err_and c.from_residual-in_err-value.result c.from_residual-in_err-value.ensures.1 in
     rw (k.1, k.2)
     (Refuses-weaker c.in_err-value.field-0.0
-        (ends_at_value (map pair_of c.loop.map.entries) c.args.count c.loop.counter c.loop.rest.now c.in_ok-key.after.now (string_bytes c.in_ok-key.key) (put_read [] c.args.count c.args.form.now) c.loop-test.true c.loop.invariant c.in_ok-key.ensures)
-        c.in_err-value.ensures)
+    (ends_at_value (map pair_of c.loop.map.entries) c.args.count c.loop.counter c.loop.rest.now c.in_ok-key.after.now (string_bytes c.in_ok-key.key) (put_read [] c.args.count c.args.form.now) c.loop-test.true c.loop.invariant c.in_ok-key.ensures)
+    c.in_err-value.ensures)
 
 pub loop-preserved : goal.loop-preserved
 loop-preserved c =

@@ -1,6 +1,6 @@
-use Rattle.std.proofs.Common.{◌≡◌, ◌-◌, List, []}
+use Rattle.std.proofs.Common.{◌≡◌, ◌-◌, []}
 use Rattle.std.specs.Prelude.{map}
-use Rattle.pgv_hstore.specs.Hstore.{Pair, pair_of, put_read}
+use Rattle.pgv_hstore.specs.Hstore.{pair_of, put_read}
 use Rattle.pgv_hstore.proofs.hstore.codec.read_pairs.Given as goal
 
 -- what is in the map, and the pairs that are still to be put into it

@@ -1,4 +1,4 @@
-use Rattle.std.proofs.Common.{◌≡◌, ◌∷◌, ◌++◌, [], ap, ◌∙◌, List, refl, rules}
+use Rattle.std.proofs.Common.{◌∷◌, ◌++◌, [], ap}
 use Rattle.std.specs.Prelude.{map}
 use Rattle.std.proofs.lemmas.Result.{err_from_is_err_and}
 use Rattle.pgv_hstore.proofs.Written.{all_pairs, next_pair, pair_refused, pairs_more}
