@@ -1,0 +1,7 @@
+pub mod Texts
+pub mod Written
+pub mod Read
+pub mod Clones
+pub mod EqualHstores
+pub mod Numbers
+pub mod LawsOfHstores

@@ -1,0 +1,138 @@
+-- What is written of a map is read back as it.
+use Rattle.std.specs.Prelude.{◌≡◌, ℕ, ◌<◌, ◌^◌, nat_le, nat_lt, Bool, true, false, ◌&&◌, List, [], ◌∷◌, ◌++◌, length, map, Option, Some, None, option_map, refl, string_bytes}
+use Rattle.std.specs.declared.cmp.Ordering.{Ordering}
+use Rattle.std.specs.declared.cmp.Ordering.TheVariants.{Less, Equal, Greater}
+use Rattle.std.specs.declared.string.String.{String}
+use Rattle.std.specs.Cmp.Lexicographic.{nat_list_cmp_total}
+use Rattle.std.specs.FinMap.{is_sorted, put}
+use Rattle.std.specs.FinMap.Entries.{below_all}
+use Rattle.std.specs.Ordering.{is_lt, ordering_reverse}
+use Rattle.std.specs.List.{flat_map, list_all}
+use Rattle.std.proofs.Common.{ap, sym, ◌∙◌, arith, append_assoc}
+use Rattle.std.proofs.lemmas.Bool.{le-ltb, eq-eqb}
+use Rattle.std.proofs.lemmas.Bool.Decides.{nat_tests}
+use Rattle.std.proofs.lemmas.List.{append-nil}
+use Rattle.std.proofs.lemmas.Str.{IsUtf8-had, utf8_valid_len-IsUtf8}
+use Rattle.pgv_buf.specs.Tokens.{bytes, be4}
+use Rattle.pgv_value.proofs.Fronts.{frame_in_front}
+use Rattle.pgv_value.specs.FrameBinary.{Part, front}
+use Rattle.pgv_value.specs.Utf8.{is_utf8}
+use Rattle.pgv_value.specs.declared.value.PgValueFormat.TheVariants.{Binary}
+use Rattle.pgv_nest.specs.Found.{number_there}
+use Rattle.pgv_codec.specs.Back.{ReadsBack, always}
+use Rattle.pgv_codec.specs.BackParts.{guarded}
+use Rattle.pgv_codec.specs.BackScalars.{part_is}
+use Rattle.pgv_codec.specs.Image.{image_of, limit}
+use Rattle.pgv_hstore.specs.Hstore.{Pair, pair_of, pairs_of, order, part_form, pair_form, hstore_form, part_fits, pair_fits, hstore_image, key_front, value_front, pair_front, pairs, put_all, hstore_in_binary, hstore_reading}
+use Rattle.pgv_hstore.specs.declared.hstore.PgHstore.{PgHstore}
+
+pub both : (a b : Bool) → (a && b) ≡ true → (a ≡ true) × (b ≡ true)
+both true b e = (refl, e)
+both false b e = absurd (cc)
+
+-- ---- a pair is read of its form, whatever comes after it
+
+-- a part that is UTF-8 and has room in a frame
+pub record IsText (part : List ℕ) : Type 0 where
+  pub utf8 : is_utf8 part ≡ true
+  pub room : length part < 2 ^ 31
+
+abbrev pub IsValue : Part → Type 0
+IsValue None = Unit {0}
+IsValue (Some part) = IsText part
+
+abbrev pub IsPair : Pair → Type 0
+IsPair p = IsText p.0 × IsValue p.1
+
+abbrev pub ArePairs : List Pair → Type 0
+ArePairs [] = Unit {0}
+ArePairs (p ∷ ps) = IsPair p × ArePairs ps
+
+framed : (part : List ℕ) (rest : List ℕ) → IsText part → front (part_form (Some part) ++ rest) ≡ Some (Some part, rest)
+framed part rest is = frame_in_front (part_form (Some part) ++ rest) (Some part) rest (is.room, append_assoc (be4 (length part)) part rest)
+
+pub key_there : (key rest : List ℕ) → IsText key → key_front (part_form (Some key) ++ rest) ≡ Some (key, rest)
+key_there key rest is = rw (framed key rest is, is.utf8) refl
+
+pub value_there : (value : Part) (rest : List ℕ) → IsValue value → value_front (part_form value ++ rest) ≡ Some (value, rest)
+value_there None rest is = rw (frame_in_front (part_form None ++ rest) None rest refl) refl
+value_there (Some value) rest is = rw (framed value rest is, is.utf8) refl
+
+pub pair_there : (p : Pair) (rest : List ℕ) → IsPair p → pair_front (pair_form p ++ rest) ≡ Some (p, rest)
+unfolding pair_front
+pair_there p rest is =
+    let form : pair_form p ++ rest ≡ part_form (Some p.0) ++ (part_form p.1 ++ rest) = append_assoc (part_form (Some p.0)) (part_form p.1) rest in
+    rw (form, key_there p.0 (part_form p.1 ++ rest) is.0, value_there p.1 rest is.1) refl
+
+pub pairs_there : (ps : List Pair) (rest : List ℕ) → ArePairs ps → pairs (length ps) (flat_map pair_form ps ++ rest) ≡ Some ps
+unfolding pairs
+pairs_there [] rest is = refl
+pairs_there (p ∷ ps) rest is =
+    let form : flat_map pair_form (p ∷ ps) ++ rest ≡ pair_form p ++ (flat_map pair_form ps ++ rest) = append_assoc (pair_form p) (flat_map pair_form ps) rest in
+    rw (form, pair_there p (flat_map pair_form ps ++ rest) is.0, pairs_there ps rest is.1) refl
+
+-- what stands after its number is put into a map
+pub hstore_there : (ps : List Pair) (rest : List ℕ) → length ps < 2 ^ 31 → ArePairs ps → hstore_in_binary (be4 (length ps) ++ (flat_map pair_form ps ++ rest)) ≡ Some (put_all [] ps)
+hstore_there ps rest few are =
+    let small : nat_lt limit (length ps) ≡ false = le-ltb _ _ (omega (arith, few)) in
+    rw (number_there (length ps) (flat_map pair_form ps ++ rest) (omega (arith, few)), small, pairs_there ps rest are) refl
+
+-- ---- pairs in order are put where they stand
+
+is_less : (r : Ordering) → is_lt r ≡ true → r ≡ Less
+is_less Less e = refl
+is_less Equal e = absurd (cc)
+is_less Greater e = absurd (cc)
+
+below_at : (x key : List ℕ) (value : Part) (qs ps : List Pair) → below_all order x (qs ++ (key, value) ∷ ps) ≡ true → is_lt (order x key) ≡ true
+below_at x key value [] ps e = (both (is_lt (order x key)) (below_all order x ps) e).0
+below_at x key value (q ∷ qs) ps e = below_at x key value qs ps (both (is_lt (order x q.0)) (below_all order x (qs ++ (key, value) ∷ ps)) e).1
+
+put_last : (key : List ℕ) (value : Part) (qs ps : List Pair) → is_sorted order (qs ++ (key, value) ∷ ps) ≡ true → put order key value qs ≡ qs ++ (key, value) ∷ []
+put_last key value [] ps e = refl
+put_last key value (q ∷ qs) ps e =
+    let b = both (below_all order q.0 (qs ++ (key, value) ∷ ps)) (is_sorted order (qs ++ (key, value) ∷ ps)) e in
+    let less : order q.0 key ≡ Less = is_less (order q.0 key) (below_at q.0 key value qs ps b.0) in
+    let greater : order key q.0 ≡ Greater = nat_list_cmp_total.antisymm key q.0 ∙ ap ordering_reverse less in
+    rw (greater, put_last key value qs ps b.1) refl
+
+put_after : (qs ps : List Pair) → is_sorted order (qs ++ ps) ≡ true → put_all qs ps ≡ qs ++ ps
+put_after qs [] e = sym (append-nil qs)
+put_after qs (p ∷ ps) e =
+    let last = put_last p.0 p.1 qs ps e in
+    let whole : (qs ++ p ∷ []) ++ ps ≡ qs ++ p ∷ ps = append_assoc qs (p ∷ []) ps in
+    ap (λ (rs : List Pair). put_all rs ps) last ∙ put_after (qs ++ p ∷ []) ps (ap (is_sorted order) whole ∙ e) ∙ whole
+
+-- ---- what was written
+
+is_text : {Z : Type 0} (s : String Z) → part_fits (Some (string_bytes s)) ≡ true → IsText (string_bytes s)
+is_text s fits = record {
+  utf8 = eq-eqb _ _ (utf8_valid_len-IsUtf8 (string_bytes s) (IsUtf8-had (string_bytes s) s.ok));
+  room = grind (arith, nat_tests);
+}
+
+is_value : {Z : Type 0} (o : Option (String Z)) → part_fits (option_map string_bytes o) ≡ true → IsValue (option_map string_bytes o)
+is_value None fits = tt
+is_value (Some s) fits = is_text s fits
+
+are_pairs : {Z : Type 0} (es : List (String Z × Option (String Z))) → list_all pair_fits (map pair_of es) ≡ true → ArePairs (map pair_of es)
+are_pairs [] fits = tt
+are_pairs (e ∷ es) fits =
+    let b = both (pair_fits (pair_of e)) (list_all pair_fits (map pair_of es)) fits in
+    let k = both (part_fits (Some (string_bytes e.0))) (part_fits (option_map string_bytes e.1)) b.0 in
+    ((is_text e.0 k.0, is_value e.1 k.1), are_pairs es b.1)
+
+few_pairs : (n : ℕ) → nat_le n limit ≡ true → n < 2 ^ 31
+few_pairs n e = grind (arith, nat_tests)
+
+pub hstore_back : ReadsBack {A = PgHstore} (λ h. hstore_image (pairs_of h)) hstore_reading pairs_of always
+hstore_back h i t p os e whole small fit =
+    let ps = pairs_of h in
+    let form = hstore_form ps in
+    let g = guarded (is_sorted order ps && (nat_le (length ps) limit && list_all pair_fits ps)) (Some (image_of (bytes form))) i e in
+    let sorted = both (is_sorted order ps) (nat_le (length ps) limit && list_all pair_fits ps) g.0 in
+    let lengths = both (nat_le (length ps) limit) (list_all pair_fits ps) sorted.1 in
+    let read = hstore_there ps [] (few_pairs (length ps) lengths.0) (are_pairs h.0.entries lengths.1) in
+    ap (λ (part : Part). hstore_reading t Binary part) (part_is form i p os g.1)
+    ∙ ap (λ (rest : List ℕ). hstore_in_binary (be4 (length ps) ++ rest)) (sym (append-nil (flat_map pair_form ps))) ∙ read
+    ∙ ap (λ (qs : List Pair). Some qs) (put_after [] ps sorted.0)

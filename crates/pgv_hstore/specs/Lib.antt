@@ -1,0 +1,3 @@
+pub mod Hstore
+pub mod HstoreBack
+pub mod Laws

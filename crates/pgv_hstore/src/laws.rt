@@ -1,0 +1,36 @@
+//! What is proved of maps and of the definitions that say what they are. Each law is the contract of a function that does nothing.
+
+ghost use Rattle.std.specs.Prelude.{◌≡◌, codes};
+ghost use Rattle.pgv_types.specs.Ty.{array_of, named, Ty};
+ghost use Rattle.pgv_types.specs.Relations.{softly};
+ghost use Rattle.pgv_codec.specs.TypeRow.{IsWrittenAs};
+ghost use Rattle.pgv_hstore.specs.Hstore.{hstore_image, hstore_reading, pairs_of};
+ghost use Rattle.pgv_hstore.specs.Laws.{HstoreIsRead, HstoresAreEqual, OneHstore};
+
+use pgv_codec::{Decode, Encode, PgHasArrayType, Type};
+
+/// A `PgHstore` is an hstore, by its name, its pairs in the order of the keys. Its arrays are arrays of the type of this name.
+pub fn hstore_is_an_hstore()
+    ensures types { ⟦<crate::PgHstore as Type>⟧.info ≡ named (codes "hstore") }
+    ensures accepts { (t : Ty) → ⟦<crate::PgHstore as Type>⟧.accepts t ≡ softly t (named (codes "hstore")) }
+    ensures arrays { ⟦<crate::PgHstore as PgHasArrayType>⟧.array_info ≡ array_of (codes "hstore") }
+    ensures accepts_arrays { (t : Ty) → ⟦<crate::PgHstore as PgHasArrayType>⟧.accepts_array t ≡ softly t (array_of (codes "hstore")) }
+    ensures written { IsWrittenAs (λ h. hstore_image (pairs_of h)) ⟦<crate::PgHstore as Encode>⟧.hint ⟦<crate::PgHstore as Encode>⟧.image ⟦<crate::PgHstore as Encode>⟧.produced }
+    ensures means { ⟦<crate::PgHstore as Decode>⟧.meaning ≡ pairs_of }
+    ensures read { ⟦<crate::PgHstore as Decode>⟧.reading ≡ hstore_reading }
+{}
+
+/// Bytes are the form of a map exactly where it is read of them.
+pub fn hstore_is_read()
+    ensures { HstoreIsRead }
+{}
+
+/// No bytes are the forms of two maps.
+pub fn one_hstore()
+    ensures { OneHstore }
+{}
+
+/// Maps are equal exactly where they have the same pairs, and so they are written alike.
+pub fn equal_hstores()
+    ensures { HstoresAreEqual ⟦<crate::PgHstore as PartialEq>⟧.eq }
+{}
