@@ -20,6 +20,7 @@ use Rattle.pgv_codec.specs.ScalarBinary.{bool_image, signed_image, unsigned_imag
 use Rattle.pgv_codec.specs.WithHint.{with_hint}
 use Rattle.pgv_ltree.specs.TreesCodec.{ltree, ltree_array, tree_image, tree_reading}
 use Rattle.pgv_lquery.specs.QueryCodec.{lquery, query_image, query_reading}
+use Rattle.pgv_hstore.specs.Hstore.{hstore_image, hstore_reading}
 use Rattle.pgv_more.specs.BitsBinary.{bits_image, bits_hint}
 use Rattle.pgv_more.specs.BitsCodec.{bits_reading}
 use Rattle.pgv_more.specs.ByteaText.{bytea_reading}
@@ -75,6 +76,7 @@ types =
     (codes "citext", row (named (codes "citext")) text_reading (plainly text_image)) ∷
     (codes "money", row (builtin 790) money_reading (plainly (signed_image w64))) ∷
     (codes "numeric", row (builtin 1700) numeric_reading (plainly numeric_image)) ∷
+    (codes "hstore", row (named (codes "hstore")) hstore_reading (plainly hstore_image)) ∷
     (codes "int4range", row (builtin 3904) (range (builtin 23) (int_reading w32)) (range_written (builtin 23) (plainly (signed_image w32)))) ∷
     (codes "int8range", row (builtin 3926) (range (builtin 20) (int_reading w64)) (range_written (builtin 20) (plainly (signed_image w64)))) ∷
     (codes "daterange", row (builtin 3912) (range (builtin 1082) date_reading) (range_written (builtin 1082) (with_hint (λ _. 4) date_image))) ∷

@@ -17,6 +17,7 @@ use jiff::Timestamp;
 use jiff::civil::{Date, DateTime, Time};
 use pgv_lquery::PgLQuery;
 use pgv_ltree::PgLTree;
+use pgv_hstore::PgHstore;
 use pgv_more::{BitVec, MacAddress, PgBytea, PgCiText, PgTimeTz};
 use pgv_numeric::{PgMoney, PgNumeric};
 use pgv_range::PgRange;
@@ -60,6 +61,7 @@ pub fn respond_by(
         _ if is(name, "citext") => respond_as::<PgCiText>(alloc, arguments, ask),
         _ if is(name, "money") => respond_as::<PgMoney>(alloc, arguments, ask),
         _ if is(name, "numeric") => respond_as::<PgNumeric>(alloc, arguments, ask),
+        _ if is(name, "hstore") => respond_as::<PgHstore>(alloc, arguments, ask),
         _ if is(name, "int4range") => respond_as::<PgRange<i32>>(alloc, arguments, ask),
         _ if is(name, "int8range") => respond_as::<PgRange<i64>>(alloc, arguments, ask),
         _ if is(name, "daterange") => respond_as::<PgRange<Date>>(alloc, arguments, ask),

@@ -1,6 +1,6 @@
 //! Sessions with the answers that they must have, and readers and writers that fail.
 
-use crate::vectors::{ARRAYS, LABELS, NETWORKS, NUMBERS, RANGES, SCALARS, STRINGS, TIMES};
+use crate::vectors::{ARRAYS, LABELS, MAPS, NETWORKS, NUMBERS, RANGES, SCALARS, STRINGS, TIMES};
 use pgv_session::{RunFault, fault_text, run};
 use std::alloc::{AllocError, Global};
 use std::io::{self, BufRead, Error, ErrorKind, Read, Write};
@@ -105,7 +105,7 @@ fn dates_times_networks_and_bits(rt: HostRuntime) -> Result<(), Fail> {
 }
 
 #[test]
-fn bytes_money_digits_and_ranges(rt: HostRuntime) -> Result<(), Fail> {
+fn bytes_money_digits_maps_and_ranges(rt: HostRuntime) -> Result<(), Fail> {
     let session = [
         ("add bytea \\x00Ff", "$1"),
         ("wire", "0000000200ff"),
@@ -116,6 +116,12 @@ fn bytes_money_digits_and_ranges(rt: HostRuntime) -> Result<(), Fail> {
         ("read numeric 0000000080000000", "refused C34"),
         ("add money 1", "refused C18"),
         ("add numeric 1", "refused C18"),
+        (
+            "read hstore 00000002000000016100000001620000000161ffffffff",
+            "0000000d000000010000000161ffffffff",
+        ),
+        ("read hstore 00000001ffffffff", "refused C35"),
+        ("add hstore a=>b", "refused C18"),
         ("read int4range 01", "0000000118"),
         ("read int4range 1e", "0000000118"),
         (
@@ -358,6 +364,12 @@ fn vectors_of_ranges(rt: HostRuntime) -> Result<(), Fail> {
 #[test]
 fn vectors_of_labels(rt: HostRuntime) -> Result<(), Fail> {
     assert!(rt; rows_answered(rt.alloc(), LABELS)?);
+    Ok(())
+}
+
+#[test]
+fn vectors_of_maps(rt: HostRuntime) -> Result<(), Fail> {
+    assert!(rt; rows_answered(rt.alloc(), MAPS)?);
     Ok(())
 }
 

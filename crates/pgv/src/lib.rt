@@ -1,0 +1,59 @@
+//! PostgreSQL's value codec, as `sqlx-postgres` has it, proved: one crate to depend on. It holds no code; each name is handed on from
+//! the crate that has it.
+//!
+//! - At the top what a binder and a reader of rows need: [`PgArguments`], [`PgValueRef`], types and the traits.
+//! - [`types`]: the Rust types of values, beside those of std, `jiff` and `uuid`.
+//! - [`text`]: readers of whole texts.
+//! - [`laws`]: what is proved of all of it, each law the contract of a function that does nothing.
+#![tactic(auto)]
+
+pub use pgv_codec::{
+    Codec, Decode, Encode, IsNull, PgArgumentBuffer, PgHasArrayType, PgRecordDecoder,
+    PgRecordEncoder, ReadBack, Type, encode_array, encode_text,
+};
+pub use pgv_types::{Oid, PgType, PgTypeInfo, PgTypeKind, PgTypeKindRef, PgTypeName, PgTypeRef};
+pub use pgv_value::{CodecError, PgValue, PgValueFormat, PgValueRef};
+pub use pgv_wire::PgArguments;
+
+/// The Rust types of values.
+pub mod types {
+    pub use pgv_hstore::PgHstore;
+    pub use pgv_lquery::{PgLQuery, PgLQueryLevel, PgLQueryVariant, PgLQueryVariantFlag};
+    pub use pgv_ltree::{PgLTree, PgLTreeLabel};
+    pub use pgv_more::{BitVec, MacAddress, PgBytea, PgByteaArray, PgCiText, PgTimeTz};
+    pub use pgv_numeric::{PgMoney, PgNumeric, PgNumericSign};
+    pub use pgv_range::PgRange;
+    pub use pgv_text::{IpNetwork, Ipv4Network, Ipv6Network};
+    pub use pgv_types::Oid;
+    pub use pgv_value::{PgInterval, PgLQueryParseError, PgLTreeParseError};
+}
+
+/// Readers of whole texts.
+pub mod text {
+    pub use pgv_text::{
+        NumberFault, Parts, TextForm, array_elements, bool_of, char_of, date, date_time, instant,
+        number_of, range_parts, record_fields, time, time_tz, unsigned_number_of,
+    };
+}
+
+/// What is proved, by crate.
+pub mod laws {
+    pub use pgv_codec::laws as codec;
+    pub use pgv_hstore::laws as hstore;
+    pub use pgv_lquery::laws as lquery;
+    pub use pgv_ltree::laws as ltree;
+    pub use pgv_more::laws as more;
+    pub use pgv_numeric::laws as numeric;
+    pub use pgv_range::laws as range;
+    pub use pgv_text::laws as text;
+    pub use pgv_types::laws as types;
+    pub use pgv_value::laws as value;
+    pub use pgv_wire::laws as wire;
+}
+
+pub use pgv_session::{RunFault, fault_text, run};
+pub use pgv_types::{identifier_chars, name_eq};
+pub use pgv_value::{
+    read_bool, read_date, read_date_time, read_i8, read_i16, read_i32, read_i64, read_instant,
+    read_interval, read_ip_address, read_ip_network, read_oid, read_time, read_uuid,
+};
