@@ -19,7 +19,7 @@ pub use pgv_codec::{
     PgRecordEncoder, ReadBack, Type, buffer, encode_array, encode_text, traits, types,
 };
 pub use pgv_value::{
-    CodecError, PgInterval, PgLQueryParseError, PgLTreeParseError, PgValue, PgValueFormat, PgValueRef, read_bool, read_date,
-    read_date_time, read_i8, read_i16, read_i32, read_i64, read_instant, read_interval,
-    read_ip_address, read_ip_network, read_oid, read_time, read_uuid,
+    CodecError, PgInterval, PgLQueryParseError, PgLTreeParseError, PgValue, PgValueFormat,
+    PgValueRef, read_bool, read_date, read_date_time, read_i8, read_i16, read_i32, read_i64,
+    read_instant, read_interval, read_ip_address, read_ip_network, read_oid, read_time, read_uuid,
 };
