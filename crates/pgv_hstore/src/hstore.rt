@@ -74,7 +74,8 @@ impl Clone for PgHstore {
     ghost is_clone = { λ h copy. pairs_of copy ≡ pairs_of h };
 
     fn clone(&self) -> Result<PgHstore, AllocError> {
-        Ok(PgHstore(self.0.clone()?))
+        let copy = self.0.clone()?;
+        Ok(PgHstore(copy))
     }
 }
 
