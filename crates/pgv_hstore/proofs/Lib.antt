@@ -3,5 +3,4 @@ pub mod Written
 pub mod Read
 pub mod Clones
 pub mod EqualHstores
-pub mod Numbers
 pub mod LawsOfHstores

@@ -1,7 +1,7 @@
 pub mod Domains
 pub mod CompositeFields
 pub mod Short
-mod Numbers
+pub mod Numbers
 mod ArrayGrammars
 pub mod RecordGrammars
 pub mod FewElements

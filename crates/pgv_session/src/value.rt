@@ -15,9 +15,9 @@ ghost use Rattle.pgv_session.specs.Types.{framed_as, framed_by, row, row_named, 
 use crate::line::{Ask, is};
 use jiff::Timestamp;
 use jiff::civil::{Date, DateTime, Time};
+use pgv_hstore::PgHstore;
 use pgv_lquery::PgLQuery;
 use pgv_ltree::PgLTree;
-use pgv_hstore::PgHstore;
 use pgv_more::{BitVec, MacAddress, PgBytea, PgCiText, PgTimeTz};
 use pgv_numeric::{PgMoney, PgNumeric};
 use pgv_range::PgRange;
