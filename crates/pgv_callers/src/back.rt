@@ -1,7 +1,8 @@
 //! What is read back of what was written, once the OIDs are known.
 
-use crate::composites::Person;
+use crate::composites::Page;
 use crate::values::{EmptyObject, Mood};
+use pgv_ltree::PgLTree;
 use pgv_types::{Oid, PgType, PgTypeInfo, PgTypeKind};
 use pgv_wire::{CodecError, Decode, Encode, PgArguments, PgValueFormat, PgValueRef, Type};
 use std::alloc::{AllocError, Global};
@@ -18,27 +19,31 @@ fn moods_type(alloc: Global) -> Result<PgTypeInfo, AllocError> {
     PgTypeInfo::custom(alloc, Oid(16501), "_mood", PgTypeKind::Array(mood))
 }
 
-/// The composite type of a person, whose second field is a mood of type 16500.
-fn person_type(alloc: Global) -> Result<PgTypeInfo, AllocError> {
+/// The composite type of a page, whose second field is an `ltree` of type 16500.
+fn page_type(alloc: Global) -> Result<PgTypeInfo, AllocError> {
+    let ltree = PgTypeInfo::custom(alloc, Oid(16500), "ltree", PgTypeKind::Simple)?;
     let mut fields = Vec::new(alloc);
     fields.push((RcStr::from_str(alloc, "id")?, PgTypeInfo(PgType::Int4)))?;
-    fields.push((
-        RcStr::from_str(alloc, "mood")?,
-        mood_type(alloc, Oid(16500))?,
-    ))?;
-    PgTypeInfo::custom(alloc, Oid(16700), "person", PgTypeKind::Composite(fields))
+    fields.push((RcStr::from_str(alloc, "path")?, ltree))?;
+    PgTypeInfo::custom(alloc, Oid(16700), "page", PgTypeKind::Composite(fields))
 }
 
-/// The arrays of persons.
-fn persons_type(alloc: Global) -> Result<PgTypeInfo, AllocError> {
-    let person = person_type(alloc)?;
-    PgTypeInfo::custom(alloc, Oid(16701), "_person", PgTypeKind::Array(person))
+/// The arrays of pages.
+fn pages_type(alloc: Global) -> Result<PgTypeInfo, AllocError> {
+    let page = page_type(alloc)?;
+    PgTypeInfo::custom(alloc, Oid(16701), "_page", PgTypeKind::Array(page))
 }
 
-/// A person of the number 1 who is in the mood `ok`.
-fn person(alloc: Global) -> Result<Person, CodecError> {
-    let mood = Mood::ok(alloc)?;
-    Ok(Person { id: 1, mood })
+/// The page of the number 1 at `a.b`.
+fn page(alloc: Global) -> Result<Page, CodecError> {
+    let path = PgLTree::from_str(alloc, "a.b")?;
+    Ok(Page { id: 1, path })
+}
+
+/// Whether it is that page.
+fn is_that(alloc: Global, page: &Page) -> Result<bool, AllocError> {
+    let path = &page.path;
+    Ok(page.id == 1 && format!(in alloc; "{path}")?.as_str() == "a.b")
 }
 
 /// One argument, whose holes are filled with these OIDs.
@@ -95,38 +100,32 @@ fn an_empty_list_of_moods_comes_back(rt: HostRuntime) -> Result<(), CodecError> 
 }
 
 #[test]
-fn a_person_comes_back(rt: HostRuntime) -> Result<(), CodecError> {
+fn a_page_comes_back(rt: HostRuntime) -> Result<(), CodecError> {
     let alloc = rt.alloc();
-    let arguments = filled(alloc, person(alloc)?, &[Oid(16500)])?;
-    let same: Person = read_first(alloc, &arguments, person_type(alloc)?)?;
-    assert_eq!(rt; same.id, 1);
-    assert_eq!(rt; same.mood.label.as_str(), "ok");
+    let arguments = filled(alloc, page(alloc)?, &[Oid(16500)])?;
+    let same: Page = read_first(alloc, &arguments, page_type(alloc)?)?;
+    assert!(rt; is_that(alloc, &same)?);
     // With another OID in the hole the second field is not the composite's.
     let arguments = filled(alloc, same, &[Oid(16501)])?;
-    let other: Result<Person, CodecError> = read_first(alloc, &arguments, person_type(alloc)?);
+    let other: Result<Page, CodecError> = read_first(alloc, &arguments, page_type(alloc)?);
     assert!(rt; matches!(other, Err(CodecError::FieldOid)));
     Ok(())
 }
 
 #[test]
-fn a_list_of_persons_comes_back(rt: HostRuntime) -> Result<(), CodecError> {
+fn a_list_of_pages_comes_back(rt: HostRuntime) -> Result<(), CodecError> {
     let alloc = rt.alloc();
-    let mut persons = Vec::new(alloc);
-    persons.push(person(alloc)?)?;
-    let arguments = filled(alloc, persons, &[Oid(16700), Oid(16500)])?;
-    let persons: Vec<Person> = read_first(alloc, &arguments, persons_type(alloc)?)?;
-    assert_eq!(rt; persons.len(), 1);
-    for same in &persons {
-        assert_eq!(rt; same.id, 1);
-        assert_eq!(rt; same.mood.label.as_str(), "ok");
+    let mut pages = Vec::new(alloc);
+    pages.push(page(alloc)?)?;
+    let arguments = filled(alloc, pages, &[Oid(16700), Oid(16500)])?;
+    let pages: Vec<Page> = read_first(alloc, &arguments, pages_type(alloc)?)?;
+    assert_eq!(rt; pages.len(), 1);
+    for same in &pages {
+        assert!(rt; is_that(alloc, same)?);
     }
     // The OID of `text` in the first hole: the element is read under `text`, which is no record.
-    let arguments = filled(alloc, persons, &[Oid(25), Oid(16500)])?;
-    let others: Result<Vec<Person>, CodecError> = read_first(
-        alloc,
-        &arguments,
-        persons_type(alloc)?,
-    );
+    let arguments = filled(alloc, pages, &[Oid(25), Oid(16500)])?;
+    let others: Result<Vec<Page>, CodecError> = read_first(alloc, &arguments, pages_type(alloc)?);
     assert!(rt; matches!(others, Err(CodecError::NotARecord)));
     Ok(())
 }

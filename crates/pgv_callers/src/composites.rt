@@ -11,6 +11,7 @@ ghost use Rattle.pgv_codec.specs.Image.{field};
 ghost use Rattle.pgv_codec.specs.Plain.{FieldIsPlain};
 
 use crate::values::Mood;
+use pgv_ltree::PgLTree;
 use pgv_types::{PgType, PgTypeInfo};
 use pgv_wire::{
     Codec, CodecError, Decode, Encode, IsNull, PgArgumentBuffer, PgHasArrayType, PgRecordEncoder,
@@ -18,26 +19,26 @@ use pgv_wire::{
 };
 use std::alloc::{AllocError, Global};
 
-/// A number and a mood.
+/// A page of a site: a number, and the labels of its place in the tree.
 #[derive(Drop)]
-pub struct Person {
+pub struct Page {
     /// The first field, an `int4`.
     pub id: i32,
     /// The second field, of a type without an OID.
-    pub mood: Mood,
+    pub path: PgLTree,
 }
 
-impl Type for Person {
+impl Type for Page {
     ghost use Rattle.std.specs.Prelude.{codes};
     ghost use Rattle.pgv_types.specs.Ty.{named};
     ghost use Rattle.pgv_types.specs.Relations.{softly};
 
-    ghost info = { named (codes "person") };
+    ghost info = { named (codes "page") };
 
-    ghost accepts = { λ t. softly t (named (codes "person")) };
+    ghost accepts = { λ t. softly t (named (codes "page")) };
 
     fn type_info() -> PgTypeInfo {
-        PgTypeInfo::with_name("person")
+        PgTypeInfo::with_name("page")
     }
 
     fn compatible(type_info: &PgTypeInfo) -> bool {
@@ -45,17 +46,17 @@ impl Type for Person {
     }
 }
 
-impl PgHasArrayType for Person {
+impl PgHasArrayType for Page {
     ghost use Rattle.std.specs.Prelude.{codes};
     ghost use Rattle.pgv_types.specs.Ty.{array_of};
     ghost use Rattle.pgv_types.specs.Relations.{softly};
 
-    ghost array_info = { array_of (codes "person") };
+    ghost array_info = { array_of (codes "page") };
 
-    ghost accepts_array = { λ t. softly t (array_of (codes "person")) };
+    ghost accepts_array = { λ t. softly t (array_of (codes "page")) };
 
     fn array_type_info() -> PgTypeInfo {
-        PgTypeInfo::array_of("person")
+        PgTypeInfo::array_of("page")
     }
 
     fn array_compatible(type_info: &PgTypeInfo) -> bool {
@@ -63,19 +64,19 @@ impl PgHasArrayType for Person {
     }
 }
 
-impl Encode for Person {
+impl Encode for Page {
     ghost use Rattle.std.specs.Prelude.{[], ◌∷◌};
     ghost use Rattle.pgv_codec.specs.Image.{field, record_image};
 
     ghost image = { λ v. record_image (
         field ⟦<i32 as Encode>⟧.hint ⟦<i32 as Encode>⟧.image ⟦<i32 as Encode>⟧.produced ⟦<i32 as Type>⟧.info v.id
-        ∷ field ⟦<Mood as Encode>⟧.hint ⟦<Mood as Encode>⟧.image ⟦<Mood as Encode>⟧.produced ⟦<Mood as Type>⟧.info v.mood
+        ∷ field ⟦<PgLTree as Encode>⟧.hint ⟦<PgLTree as Encode>⟧.image ⟦<PgLTree as Encode>⟧.produced ⟦<PgLTree as Type>⟧.info v.path
         ∷ []) };
 
     fn encode_by_ref(&self, out: &mut PgArgumentBuffer) -> Result<IsNull, CodecError> {
         let mut record = PgRecordEncoder::new(out)?;
         record.encode(&self.id)?;
-        record.encode(&self.mood)?;
+        record.encode(&self.path)?;
         record.finish();
         Ok(IsNull::No)
     }
@@ -89,34 +90,35 @@ impl Encode for Person {
     }
 }
 
-/// A person is read as a record of two fields, under each type that names a field for each.
-impl Decode for Person {
-    ghost Meaning = { ⟦<(i32, Mood) as Decode>⟧.Meaning };
+/// A page is read as a record of two fields, under each type that names a field for each.
+impl Decode for Page {
+    ghost Meaning = { ⟦<(i32, PgLTree) as Decode>⟧.Meaning };
 
-    ghost meaning = { λ v. ⟦<(i32, Mood) as Decode>⟧.meaning (v.id, v.mood) };
+    ghost meaning = { λ v. ⟦<(i32, PgLTree) as Decode>⟧.meaning (v.id, v.path) };
 
-    ghost reading = { ⟦<(i32, Mood) as Decode>⟧.reading };
+    ghost reading = { ⟦<(i32, PgLTree) as Decode>⟧.reading };
 
-    ghost written = { ⟦<(i32, Mood) as Decode>⟧.written };
+    ghost written = { ⟦<(i32, PgLTree) as Decode>⟧.written };
 
-    fn decode(alloc: Global, value: PgValueRef<'_>) -> Result<Person, CodecError> {
-        let (id, mood) = <(i32, Mood) as Decode>::decode(alloc, value)?;
-        Ok(Person { id, mood })
+    fn decode(alloc: Global, value: PgValueRef<'_>) -> Result<Page, CodecError> {
+        let (id, path) = <(i32, PgLTree) as Decode>::decode(alloc, value)?;
+        Ok(Page { id, path })
     }
 }
 
-/// A person comes back where each field does.
-impl ReadBack for Person {
+/// A page comes back where each field does: a path without labels as one empty label.
+impl ReadBack for Page {
     ghost use Rattle.std.specs.Prelude.{[]};
     ghost use Rattle.pgv_codec.specs.Back.{FieldFits, FieldsFit};
     ghost use Rattle.pgv_codec.specs.BackRecords.{last_back, further_back, record_back};
-    ghost use Rattle.pgv_codec.specs.BackScalars.{int4_back, text_back};
+    ghost use Rattle.pgv_codec.specs.BackScalars.{int4_back};
+    ghost use Rattle.pgv_ltree.specs.TreesBack.{tree_back, tree_kept};
 
-    ghost kept = { λ v. v };
+    ghost kept = { λ v. record { id = v.id; path = tree_kept v.path } };
 
-    ghost fits = { λ v t oids. FieldsFit ⟦<i32 as Type>⟧.info ⟦<i32 as Encode>⟧.produced ⟦<i32 as Encode>⟧.hint ⟦<i32 as Encode>⟧.image ⟦<i32 as Type>⟧.accepts ⟦<i32 as ReadBack>⟧.fits v.id (FieldFits ⟦<Mood as Type>⟧.info ⟦<Mood as Encode>⟧.produced ⟦<Mood as Encode>⟧.image ⟦<Mood as Type>⟧.accepts ⟦<Mood as ReadBack>⟧.fits v.mood) t 0 oids };
+    ghost fits = { λ v t oids. FieldsFit ⟦<i32 as Type>⟧.info ⟦<i32 as Encode>⟧.produced ⟦<i32 as Encode>⟧.hint ⟦<i32 as Encode>⟧.image ⟦<i32 as Type>⟧.accepts ⟦<i32 as ReadBack>⟧.fits v.id (FieldFits ⟦<PgLTree as Type>⟧.info ⟦<PgLTree as Encode>⟧.produced ⟦<PgLTree as Encode>⟧.image ⟦<PgLTree as Type>⟧.accepts ⟦<PgLTree as ReadBack>⟧.fits v.path) t 0 oids };
 
-    ghost reads_back = { λ v. record_back (further_back ⟦<i32 as Type>⟧.info ⟦<i32 as Encode>⟧.produced ⟦<i32 as Encode>⟧.hint ⟦<i32 as Encode>⟧.image ⟦<i32 as Type>⟧.accepts ⟦<i32 as Decode>⟧.reading ⟦<i32 as Decode>⟧.meaning ⟦<i32 as ReadBack>⟧.fits int4_back v.id (last_back ⟦<Mood as Type>⟧.info ⟦<Mood as Encode>⟧.produced ⟦<Mood as Encode>⟧.hint ⟦<Mood as Encode>⟧.image ⟦<Mood as Type>⟧.accepts ⟦<Mood as Decode>⟧.reading ⟦<Mood as Decode>⟧.meaning ⟦<Mood as ReadBack>⟧.fits (λ mood. text_back mood.label) v.mood [])) };
+    ghost reads_back = { λ v. record_back (further_back ⟦<i32 as Type>⟧.info ⟦<i32 as Encode>⟧.produced ⟦<i32 as Encode>⟧.hint ⟦<i32 as Encode>⟧.image ⟦<i32 as Type>⟧.accepts ⟦<i32 as Decode>⟧.reading ⟦<i32 as Decode>⟧.meaning ⟦<i32 as ReadBack>⟧.fits int4_back v.id (last_back ⟦<PgLTree as Type>⟧.info ⟦<PgLTree as Encode>⟧.produced ⟦<PgLTree as Encode>⟧.hint ⟦<PgLTree as Encode>⟧.image ⟦<PgLTree as Type>⟧.accepts ⟦<PgLTree as Decode>⟧.reading tree_kept ⟦<PgLTree as ReadBack>⟧.fits tree_back v.path [])) };
 }
 
 /// A number and moods: the type of the elements has no OID, and neither has that of their array.

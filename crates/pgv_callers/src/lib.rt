@@ -16,5 +16,5 @@ pub mod values;
 #[cfg(test)]
 mod writing;
 
-pub use composites::{Household, Pair, Person};
+pub use composites::{Household, Page, Pair};
 pub use values::{ButThree, EmptyObject, Huge, Mood, MoodText, Refusing, Size};

@@ -3,8 +3,9 @@
 mod records;
 mod server;
 
-use crate::composites::{Household, Person};
+use crate::composites::{Household, Page};
 use crate::values::{ButThree, EmptyObject, Huge, Mood, MoodText, Refusing, Size};
+use pgv_ltree::PgLTree;
 use pgv_types::{Oid, PgType, PgTypeInfo};
 use pgv_wire::{
     CodecError, Decode, PgArgumentBuffer, PgArguments, PgRecordEncoder, PgValueFormat, PgValueRef,
@@ -14,6 +15,9 @@ use std::process::Abort;
 
 /// The frame of the moods `ok`, with its hole.
 const MOODS: &str = "0000001a 00000001 00000000 00000000 00000001 00000001 00000002 6f6b";
+
+/// The frame of the trees `a.b`, with its hole.
+const TREES: &str = "0000001c 00000001 00000000 00000000 00000001 00000001 00000004 01612e62";
 
 /// The frame of `MOODS` that was filled with 16600.
 const MOODS_16600: &str = "0000001a 00000001 00000000 000040d8 00000001 00000001 00000002 6f6b";
@@ -165,14 +169,16 @@ fn refused_between_others(rt: HostRuntime) -> Result<(), CodecError> {
     arguments.add(1)?;
     let refused = arguments.add([Size { alloc, number: 7 }, Size { alloc, number: 0 }]);
     assert!(rt; matches!(refused, Err(CodecError::Caller(38))));
-    arguments.add(moods(alloc)?)?;
-    check_names(&rt, alloc, arguments.hole_types(), "mood ")?;
+    let mut trees = Vec::new(alloc);
+    trees.push(PgLTree::from_str(alloc, "a.b")?)?;
+    arguments.add(trees)?;
+    check_names(&rt, alloc, arguments.hole_types(), "ltree ")?;
     assert_eq!(rt; arguments.len(), 2);
     check(
         &rt,
         alloc,
         arguments.buffer(),
-        &["00000004 00000001", MOODS],
+        &["00000004 00000001", TREES],
     )
 }
 
@@ -230,23 +236,23 @@ fn values_that_produce_another_type(rt: HostRuntime) -> Result<(), CodecError> {
 fn records_of_callers(rt: HostRuntime) -> Result<(), CodecError> {
     let alloc = rt.alloc();
     let mut arguments = PgArguments::new(alloc);
-    arguments.add(Person {
+    arguments.add(Page {
         id: 1,
-        mood: Mood::ok(alloc)?,
+        path: PgLTree::from_str(alloc, "a.b")?,
     })?;
     check(
         &rt,
         alloc,
         arguments.buffer(),
-        &["0000001a 00000002 00000017 00000004 00000001 00000000 00000002 6f6b"],
+        &["0000001c 00000002 00000017 00000004 00000001 00000000 00000004 01612e62"],
     )?;
-    let person = [PgTypeInfo::with_name("person")];
-    arguments.apply_patches(&person, &[Oid(16600)])?;
+    let page = [PgTypeInfo::with_name("page")];
+    arguments.apply_patches(&page, &[Oid(16500)])?;
     check(
         &rt,
         alloc,
         arguments.buffer(),
-        &["0000001a 00000002 00000017 00000004 00000001 000040d8 00000002 6f6b"],
+        &["0000001c 00000002 00000017 00000004 00000001 00004074 00000004 01612e62"],
     )?;
     let mut arguments = PgArguments::new(alloc);
     arguments.add(Household {

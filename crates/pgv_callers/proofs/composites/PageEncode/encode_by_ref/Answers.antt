@@ -1,6 +1,6 @@
 use Rattle.std.proofs.Common.{rules}
 use Rattle.pgv_codec.specs.Fields.{no_fields, more_fields, all_fields}
-use Rattle.pgv_callers.proofs.composites.PersonEncode.encode_by_ref.Goals as goal
+use Rattle.pgv_callers.proofs.composites.PageEncode.encode_by_ref.Goals as goal
 
 pub returns-clause-ok : goal.returns-clause-ok
 returns-clause-ok c =
