@@ -5,6 +5,3 @@ pub mod hstore;
 pub mod laws;
 
 pub use hstore::PgHstore;
-
-#[cfg(test)]
-mod tests;

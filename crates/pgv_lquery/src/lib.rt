@@ -13,6 +13,3 @@ pub use level::PgLQueryLevel;
 pub use lquery::PgLQuery;
 pub use pgv_value::{PgLQueryParseError, PgLTreeParseError};
 pub use variant::PgLQueryVariant;
-
-#[cfg(test)]
-mod tests;

@@ -14,6 +14,3 @@ pub use bytea::{PgBytea, PgByteaArray};
 pub use citext::PgCiText;
 pub use mac_address::MacAddress;
 pub use time_tz::PgTimeTz;
-
-#[cfg(test)]
-mod tests;

@@ -7,6 +7,3 @@ pub mod numeric;
 
 pub use money::PgMoney;
 pub use numeric::{PgNumeric, PgNumericSign};
-
-#[cfg(test)]
-mod tests;

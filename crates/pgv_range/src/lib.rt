@@ -10,6 +10,3 @@ mod types;
 
 pub use range::PgRange;
 pub use types::range_compatible;
-
-#[cfg(test)]
-mod tests;

@@ -1,6 +1,8 @@
 //! Sessions with the answers that they must have, and readers and writers that fail.
 
-use crate::vectors::{ARRAYS, LABELS, MAPS, NETWORKS, NUMBERS, RANGES, SCALARS, STRINGS, TIMES};
+use crate::vectors::{
+    ARRAYS, BITS, LABELS, MAPS, NETWORKS, NUMBERS, RANGES, SCALARS, STRINGS, TIMES,
+};
 use pgv_session::{RunFault, fault_text, run};
 use std::alloc::{AllocError, Global};
 use std::io::{self, BufRead, Error, ErrorKind, Read, Write};
@@ -340,6 +342,7 @@ fn vectors_of_times(rt: HostRuntime) -> Result<(), Fail> {
 #[test]
 fn vectors_of_networks(rt: HostRuntime) -> Result<(), Fail> {
     assert!(rt; rows_answered(rt.alloc(), NETWORKS)?);
+    assert!(rt; rows_answered(rt.alloc(), BITS)?);
     Ok(())
 }
 

@@ -1,7 +1,8 @@
 //! Maps of texts, as a caller uses them.
 
-use crate::PgHstore;
-use pgv_codec::{Decode, Encode, PgArgumentBuffer, PgHasArrayType, Type};
+use crate::common::written;
+use pgv_codec::{Decode, Encode, PgHasArrayType, Type};
+use pgv_hstore::PgHstore;
 use pgv_types::PgTypeInfo;
 use pgv_value::{CodecError, PgValueFormat, PgValueRef};
 use std::alloc::Global;
@@ -10,13 +11,6 @@ use std::test::Fail;
 /// age is null, name is John and surname is Doe.
 const JOHN: &str =
     "0000000300000003616765ffffffff000000046e616d65000000044a6f686e000000077375726e616d6500000003446f65";
-
-/// What a map is written as, in hex.
-fn written(alloc: Global, hstore: &PgHstore) -> Result<String, CodecError> {
-    let mut out = PgArgumentBuffer::new(alloc);
-    let _ = hstore.encode_by_ref(&mut out)?;
-    Ok(hex::encode(alloc, out.as_slice())?)
-}
 
 /// The map of bytes.
 fn read(alloc: Global, form: &str, format: PgValueFormat) -> Result<PgHstore, CodecError> {

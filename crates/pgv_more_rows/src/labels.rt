@@ -1,86 +1,16 @@
-//! What a server wrote, read in both formats and written again; the texts of queries; and each call that takes memory.
+//! Label trees and queries: their texts, what is refused, trees that come back, and each call that takes memory.
 
-mod server;
-
-use crate::{
-    PgLQuery, PgLQueryLevel, PgLQueryParseError, PgLQueryVariant, PgLQueryVariantFlag,
-    PgLTreeParseError,
-};
+use crate::common::{again, compare, read, read_text, refuses_null};
 use bitflags::Flags;
+use pgv_codec::{Decode, PgHasArrayType, Type};
+use pgv_lquery::{PgLQuery, PgLQueryLevel, PgLQueryVariant, PgLQueryVariantFlag};
 use pgv_ltree::{PgLTree, PgLTreeLabel};
 use pgv_types::{Oid, PgTypeInfo, PgTypeKind};
-use pgv_wire::{
-    CodecError, Decode, Encode, PgArgumentBuffer, PgArguments, PgHasArrayType, PgValueFormat,
-    PgValueRef, Type,
-};
-use server::VALUES;
+use pgv_value::{CodecError, PgLQueryParseError, PgLTreeParseError, PgValueFormat, PgValueRef};
+use pgv_wire::PgArguments;
 use std::alloc::{AllocError, Global};
 use std::process::Abort;
 use std::test::Fail;
-
-/// What is written of the value that is read, in hex.
-fn again<T: Type + Decode + Encode>(
-    alloc: Global,
-    given: Option<&[u8]>,
-    format: PgValueFormat,
-) -> Result<String, CodecError> {
-    let value = T::decode(alloc, PgValueRef::new(given, T::type_info(), format))?;
-    let mut out = PgArgumentBuffer::new(alloc);
-    let _ = value.encode_by_ref(&mut out)?;
-    Ok(hex::encode(alloc, out.as_slice())?)
-}
-
-/// The same, or the number of the refusal, as `C37`.
-fn shown<T: Type + Decode + Encode>(
-    alloc: Global,
-    given: Option<&[u8]>,
-    format: PgValueFormat,
-) -> Result<String, AllocError> {
-    match again::<T>(alloc, given, format) {
-        Ok(text) => Ok(text),
-        Err(error) => {
-            let code = error.code();
-            format!(in alloc; "C{code}")
-        }
-    }
-}
-
-/// Reads bytes in hex and a text, and compares what is written of each.
-fn read<T: Type + Decode + Encode>(
-    rt: &impl Abort,
-    alloc: Global,
-    form: &str,
-    text: &str,
-    wanted: &str,
-) -> Result<(), Fail> {
-    let bytes = hex::decode(alloc, form.as_bytes())?;
-    let binary = shown::<T>(alloc, Some(bytes.as_slice()), PgValueFormat::Binary)?;
-    assert_eq!(rt; binary.as_str(), wanted);
-    let of_text = shown::<T>(alloc, Some(text.as_bytes()), PgValueFormat::Text)?;
-    assert_eq!(rt; of_text.as_str(), wanted);
-    Ok(())
-}
-
-/// One line of the server's values, at the Rust type for its type.
-fn check_line(rt: &impl Abort, alloc: Global, line: &str) -> Result<(), Fail> {
-    let (name, rest) = line.split_once(' ').ok_or("no binary form")?;
-    let (form, rest) = rest.split_once(' ').ok_or("nothing written")?;
-    let (wanted, text) = rest.split_once(' ').ok_or("no text")?;
-    match name {
-        "ltree" => read::<PgLTree>(rt, alloc, form, text, wanted),
-        "lquery" => read::<PgLQuery>(rt, alloc, form, text, wanted),
-        _ => read::<Vec<Option<PgLTree>>>(rt, alloc, form, text, wanted),
-    }
-}
-
-#[test]
-fn what_a_server_wrote(rt: HostRuntime) -> Result<(), Fail> {
-    let alloc = rt.alloc();
-    for line in VALUES.lines() {
-        check_line(&rt, alloc, line)?;
-    }
-    Ok(())
-}
 
 /// What is printed of the query of a text, or the text of the refusal.
 fn printed(alloc: Global, text: &str) -> Result<String, AllocError> {
@@ -155,18 +85,12 @@ fn numbers_of_levels(rt: HostRuntime) -> Result<(), PgLQueryParseError> {
 #[test]
 fn what_is_refused(rt: HostRuntime) -> Result<(), Fail> {
     let alloc = rt.alloc();
-    let second = shown::<PgLQuery>(alloc, Some(&[2]), PgValueFormat::Binary)?;
-    assert_eq!(rt; second.as_str(), "C37");
-    let second = shown::<PgLTree>(alloc, Some(&[2]), PgValueFormat::Binary)?;
-    assert_eq!(rt; second.as_str(), "C36");
-    let nothing = shown::<PgLTree>(alloc, Some(&[]), PgValueFormat::Binary)?;
-    assert_eq!(rt; nothing.as_str(), "C15");
-    let hyphen = shown::<PgLTree>(alloc, Some(b"a-b"), PgValueFormat::Text)?;
-    assert_eq!(rt; hyphen.as_str(), "C36");
-    let no_text = shown::<PgLTree>(alloc, Some(&[1, 255]), PgValueFormat::Binary)?;
-    assert_eq!(rt; no_text.as_str(), "C14");
-    let null = shown::<PgLQuery>(alloc, None, PgValueFormat::Text)?;
-    assert_eq!(rt; null.as_str(), "C13");
+    read::<PgLQuery>(&rt, alloc, "02", Err(37))?;
+    read::<PgLTree>(&rt, alloc, "02", Err(36))?;
+    read::<PgLTree>(&rt, alloc, "", Err(15))?;
+    read_text::<PgLTree>(&rt, alloc, "a-b", Err(36));
+    read::<PgLTree>(&rt, alloc, "01ff", Err(14))?;
+    refuses_null::<PgLQuery>(&rt, alloc);
     let mut label = String::new(alloc);
     for _ in 0..256 {
         label.push_str("a")?;

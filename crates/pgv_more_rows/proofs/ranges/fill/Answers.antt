@@ -1,6 +1,6 @@
 use Rattle.std.proofs.Common.{length, ap, arith}
 use Rattle.pgv_buf.specs.Proper.{length-hole_types_of}
-use Rattle.pgv_range.proofs.tests.fill.Goals as goal
+use Rattle.pgv_more_rows.proofs.ranges.fill.Goals as goal
 
 pub fill-requires-clause-holes : goal.fill-requires-clause-holes
 fill-requires-clause-holes c =

@@ -1,7 +1,7 @@
 //! Values of a caller's own, whose types are known by their names alone, and types that a server told of.
 
-use crate::PgRange;
 use pgv_codec::{Decode, Encode, IsNull, PgArgumentBuffer, PgHasArrayType, Type};
+use pgv_range::PgRange;
 use pgv_types::{Oid, PgType, PgTypeInfo, PgTypeKind};
 use pgv_value::{CodecError, PgValueRef};
 use std::alloc::{AllocError, Global};
@@ -102,7 +102,15 @@ impl Decode for Grade {
     }
 }
 
-impl Type for PgRange<Vec<Grade>> {
+/// A range of lists of grades: a type of its own, since an array wants its elements' types and `PgRange` has them for those of
+/// PostgreSQL's own ranges alone.
+#[derive(Drop)]
+pub struct GradeRange {
+    /// The range.
+    pub range: PgRange<Vec<Grade>>,
+}
+
+impl Type for GradeRange {
     ghost use Rattle.std.specs.Prelude.{codes};
     ghost use Rattle.pgv_types.specs.Ty.{named};
     ghost use Rattle.pgv_types.specs.Relations.{softly};
@@ -117,6 +125,40 @@ impl Type for PgRange<Vec<Grade>> {
 
     fn compatible(type_info: &PgTypeInfo) -> bool {
         type_info.type_compatible(&Self::type_info())
+    }
+}
+
+impl Encode for GradeRange {
+    ghost image = { λ v. ⟦<PgRange<Vec<Grade>> as Encode>⟧.image v.range };
+
+    fn encode_by_ref(&self, out: &mut PgArgumentBuffer) -> Result<IsNull, CodecError> {
+        self.range.encode_by_ref(out)
+    }
+
+    fn size_hint(&self) -> usize {
+        0
+    }
+
+    fn produces(&self) -> Result<Option<PgTypeInfo>, AllocError> {
+        Ok(None)
+    }
+}
+
+impl Decode for GradeRange {
+    ghost use Rattle.pgv_codec.specs.Saying.{unwritten};
+
+    ghost Meaning = { ⟦<PgRange<Vec<Grade>> as Decode>⟧.Meaning };
+
+    ghost meaning = { λ v. ⟦<PgRange<Vec<Grade>> as Decode>⟧.meaning v.range };
+
+    ghost reading = { ⟦<PgRange<Vec<Grade>> as Decode>⟧.reading };
+
+    ghost written = { unwritten };
+
+    fn decode(alloc: Global, value: PgValueRef<'_>) -> Result<GradeRange, CodecError> {
+        Ok(GradeRange {
+            range: PgRange::decode(alloc, value)?,
+        })
     }
 }
 

@@ -1,17 +1,11 @@
 //! Amounts and numbers, as a caller uses them.
 
-use crate::{PgMoney, PgNumeric, PgNumericSign};
-use pgv_codec::{Decode, Encode, PgArgumentBuffer, Type};
+use crate::common::written;
+use pgv_codec::{Decode, Type};
+use pgv_numeric::{PgMoney, PgNumeric, PgNumericSign};
 use pgv_value::{CodecError, PgValueFormat, PgValueRef};
 use std::alloc::Global;
 use std::test::Fail;
-
-/// What a value is written as, in hex.
-fn written<T: Encode>(alloc: Global, value: &T) -> Result<String, CodecError> {
-    let mut out = PgArgumentBuffer::new(alloc);
-    let _ = value.encode_by_ref(&mut out)?;
-    Ok(hex::encode(alloc, out.as_slice())?)
-}
 
 /// The value of bytes.
 fn read<T: Type + Decode>(
