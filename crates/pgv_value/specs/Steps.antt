@@ -3,10 +3,7 @@ use Rattle.std.specs.Prelude.{ℕ, nat_lt, List, length, take, drop, Option, Som
 use Rattle.std.specs.Int.{w32, from_be_bytes}
 
 -- one step after the other, where each has a value
-infixl 10 ◌>>=◌
-abbrev pub ◌>>=◌ : {A B : Type 0} → Option A → (A → Option B) → Option B
-None >>= f = None
-(Some x) >>= f = f x
+pub use Rattle.pgv_text.specs.FieldText.{◌>>=◌}
 
 -- the number of 32 bits in front, the highest byte first, and what comes after it
 unfoldable pub number : List ℕ → Option (ℕ × List ℕ)
