@@ -1,23 +1,18 @@
 -- Laws of `blank` and `plain`.
 use Rattle.std.specs.Prelude.{◌≡◌, ℕ, ◌+◌, List, [], ◌∷◌, ◌++◌, length, refl}
 use Rattle.std.proofs.Common.{ap}
-use Rattle.pgv_buf.specs.Tokens.{Token, byte, hole, slot, bytes, tokens_width, tokens_holes, Cell, fixed, hole_cell, slot_cell, fixed_bytes, width, hole_count, blank, plain}
+use Rattle.std.proofs.lemmas.List.{map-append}
+use Rattle.pgv_buf.specs.Tokens.{Token, byte, hole, slot, bytes, tokens_width, tokens_holes, Cell, fixed, hole_cell, slot_cell, fixed_bytes, width, hole_count, blank, blank_cell, plain, token_of}
 
 pub blank-append : (a c : List Token) → blank (a ++ c) ≡ blank a ++ blank c
-blank-append [] c = refl
-blank-append (byte x ∷ a) c = ap (λ r. fixed x ∷ r) (blank-append a c)
-blank-append (hole t ∷ a) c = ap (λ r. hole_cell t (0 ∷ 0 ∷ 0 ∷ 0 ∷ []) ∷ r) (blank-append a c)
-blank-append (slot d cs ∷ a) c = ap (λ r. slot_cell d cs d ∷ r) (blank-append a c)
+blank-append = map-append blank_cell
 
 pub blank-bytes : (xs : List ℕ) → blank (bytes xs) ≡ fixed_bytes xs
 blank-bytes [] = refl
 blank-bytes (x ∷ xs) = ap (λ r. fixed x ∷ r) (blank-bytes xs)
 
 pub plain-append : (a c : List Cell) → plain (a ++ c) ≡ plain a ++ plain c
-plain-append [] c = refl
-plain-append (fixed x ∷ a) c = ap (λ r. byte x ∷ r) (plain-append a c)
-plain-append (hole_cell t s ∷ a) c = ap (λ r. hole t ∷ r) (plain-append a c)
-plain-append (slot_cell d cs s ∷ a) c = ap (λ r. slot d cs ∷ r) (plain-append a c)
+plain-append = map-append token_of
 
 pub plain-blank : (a : List Token) → plain (blank a) ≡ a
 plain-blank [] = refl

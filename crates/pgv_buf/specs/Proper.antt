@@ -1,6 +1,7 @@
 -- Which cells a buffer has, and the laws of joining cells.
 use Rattle.std.specs.Prelude.{◌≡◌, ◌+◌, List, [], ◌∷◌, ◌++◌, length, refl}
-use Rattle.std.proofs.Common.{arith, sym, ◌∙◌, ap, length-append, append_assoc}
+use Rattle.std.proofs.Common.{arith, length-append}
+use Rattle.std.proofs.lemmas.Grind.{flat_map-append}
 use Rattle.pgv_types.specs.Ty.{Ty, by_oid}
 use Rattle.pgv_buf.specs.Tokens.{CasesFit, Cell, fixed, hole_cell, slot_cell, shown, width, cell_shown, hole_types_of, hole_count}
 
@@ -16,8 +17,7 @@ first_type [] = by_oid 0
 first_type (t ∷ ts) = t
 
 pub shown-append : (a c : List Cell) → shown (a ++ c) ≡ shown a ++ shown c
-shown-append [] c = refl
-shown-append (t ∷ a) c = ap (λ r. cell_shown t ++ r) (shown-append a c) ∙ sym (append_assoc (cell_shown t) (shown a) (shown c))
+shown-append = flat_map-append cell_shown
 
 pub width-append : (a c : List Cell) → width (a ++ c) ≡ width a + width c
 width-append [] c = omega arith

@@ -1,5 +1,5 @@
 -- Tokens, which values are written as, and cells, which a buffer is: tokens, each with the bytes that it shows.
-use Rattle.std.specs.Prelude.{cond, ◌≡◌, ℕ, ◌+◌, List, [], ◌∷◌, ◌++◌, length, ◌⊎◌, refl}
+use Rattle.std.specs.Prelude.{cond, ◌≡◌, ℕ, ◌+◌, List, [], ◌∷◌, length, map, flat_map, ◌⊎◌, refl}
 use Rattle.std.specs.Int.{to_be_bytes, w32}
 use Rattle.std.proofs.Common.{inl, inr}
 use Rattle.std.specs.Coded.{Coded, code_by, coded×, coded⊎, coded_ℕ, coded_list}
@@ -13,8 +13,7 @@ pub data Token : Type 0 where
 
 -- plain bytes, as tokens
 abbrev pub bytes : List ℕ → List Token
-bytes [] = []
-bytes (x ∷ xs) = byte x ∷ bytes xs
+bytes = map byte
 
 -- the width of tokens, and how many holes are among them
 abbrev pub tokens_width : List Token → ℕ
@@ -36,19 +35,23 @@ pub data Cell : Type 0 where
   hole_cell : Ty → List ℕ → Cell
   slot_cell : List ℕ → List (Ty × List ℕ) → List ℕ → Cell
 
--- tokens as they are first written: a hole is four zeros, a slot its default
-abbrev pub blank : List Token → List Cell
-blank [] = []
-blank (byte x ∷ ts) = fixed x ∷ blank ts
-blank (hole t ∷ ts) = hole_cell t (0 ∷ 0 ∷ 0 ∷ 0 ∷ []) ∷ blank ts
-blank (slot d cs ∷ ts) = slot_cell d cs d ∷ blank ts
+-- a token as it is first written: a hole is four zeros, a slot its default
+abbrev pub blank_cell : Token → Cell
+blank_cell (byte x) = fixed x
+blank_cell (hole t) = hole_cell t (0 ∷ 0 ∷ 0 ∷ 0 ∷ [])
+blank_cell (slot d cs) = slot_cell d cs d
 
--- cells without what they show
+abbrev pub blank : List Token → List Cell
+blank = map blank_cell
+
+-- a cell without what it shows
+abbrev pub token_of : Cell → Token
+token_of (fixed x) = byte x
+token_of (hole_cell t s) = hole t
+token_of (slot_cell d cs s) = slot d cs
+
 abbrev pub plain : List Cell → List Token
-plain [] = []
-plain (fixed x ∷ ts) = byte x ∷ plain ts
-plain (hole_cell t s ∷ ts) = hole t ∷ plain ts
-plain (slot_cell d cs s ∷ ts) = slot d cs ∷ plain ts
+plain = map token_of
 
 -- ---- how the logic stores a cell
 
@@ -93,8 +96,7 @@ cell_width (hole_cell t s) = 4
 cell_width (slot_cell d cs s) = length d
 
 abbrev pub shown : List Cell → List ℕ
-shown [] = []
-shown (t ∷ ts) = cell_shown t ++ shown ts
+shown = flat_map cell_shown
 
 abbrev pub width : List Cell → ℕ
 width [] = 0
@@ -102,8 +104,7 @@ width (t ∷ ts) = cell_width t + width ts
 
 -- plain bytes, as cells
 abbrev pub fixed_bytes : List ℕ → List Cell
-fixed_bytes [] = []
-fixed_bytes (x ∷ xs) = fixed x ∷ fixed_bytes xs
+fixed_bytes = map fixed
 
 -- a number as four bytes, the highest first
 abbrev pub be4 : ℕ → List ℕ
