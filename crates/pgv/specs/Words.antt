@@ -35,6 +35,7 @@ pub use Rattle.pgv_codec.specs.BackScalars.{part_is, int2_back, int4_back, int8_
 pub use Rattle.pgv_codec.specs.BackRecords.{further_back, last_back, record_back}
 pub use Rattle.pgv_codec.specs.Plain.{FieldIsPlain}
 pub use Rattle.pgv_codec.specs.Writing.{written_part}
+pub use Rattle.pgv_ltree.specs.Ascii.{are_ascii, ascii_is_utf8}
 pub use Rattle.pgv_ltree.specs.TreesBack.{tree_back, tree_kept}
 
 -- for the answer of a composite's encoder, one more_fields a field

@@ -1,7 +1,6 @@
 -- Shares in percent: numbers of int4 from 0 to 100.
-use Rattle.std.specs.Prelude.{◌≡◌, Bool, ◌&&◌, true, cond, ℤ, pos, Option, Some, None}
+use Rattle.std.specs.Prelude.{◌≡◌, Bool, ◌&&◌, true, cond, ℤ, pos, int_le, Option, Some, None, refl}
 use Rattle.std.specs.Int.{w32}
-use Rattle.std.specs.Ordering.{int_le}
 use Rattle.pgv.specs.Words.{Image, Reading, ReadsBack, always, guarded, signed_image, int_reading, int4_back}
 use Rattle.pgv_examples.specs.declared.percent.Percent.{Percent}
 

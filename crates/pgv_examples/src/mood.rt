@@ -1,7 +1,7 @@
 //! An enum by its labels, of a type that is known by its name: `create type mood as enum ('sad', 'ok', 'happy')`.
 
 ghost use Rattle.std.specs.Prelude.{◌≡◌, IfOk, IfErr};
-ghost use Rattle.pgv_examples.specs.Moods.{label_of, mood_of, NoMood};
+ghost use Rattle.pgv_examples.specs.Moods.{label_of, mood_of};
 
 use pgv::{
     CodecError, Decode, Encode, IsNull, PgArgumentBuffer, PgHasArrayType, PgTypeInfo, PgValueRef,
@@ -101,8 +101,10 @@ impl Encode for Mood {
 
 /// Read by its label, which is the same in both formats. Another text is refused with C38(5), and null with C13.
 impl Decode for Mood {
+    ghost use Rattle.std.specs.Prelude.{false};
     ghost use Rattle.pgv.specs.Words.{plainly, text_image};
     ghost use Rattle.pgv_examples.specs.Moods.{mood_reading};
+    ghost use Rattle.pgv_examples.specs.declared.mood.Mood.{Mood};
 
     ghost Meaning = { Mood };
 

@@ -1,6 +1,6 @@
 //! A codec that refuses: a number from 0 to 100, and no other, is written and read.
 
-ghost use Rattle.std.specs.Prelude.{◌≡◌, false, IsOk, IsErrOf};
+ghost use Rattle.std.specs.Prelude.{◌≡◌, true, false, IsOk, IsErrOf};
 ghost use Rattle.pgv_examples.specs.Percents.{is_percent};
 
 use pgv::{

@@ -1,6 +1,6 @@
 //! Reads a row column by column: values, values that may be null, and one that is kept after the row is gone.
 
-ghost use Rattle.std.specs.Prelude.{◌≡◌, List, [], ◌∷◌, Some, option_map, string_bytes, IfOk};
+ghost use Rattle.std.specs.Prelude.{◌≡◌, ℕ, List, Some, IfOk};
 ghost use Rattle.std.specs.Int.{w32};
 ghost use Rattle.pgv.specs.Words.{Part, Binary, front, int_reading, builtin};
 
