@@ -6,29 +6,55 @@ use pgv::{
 };
 use std::alloc::{AllocError, Global};
 use std::fmt::Debug;
+use std::process::Abort;
 use std::rc::RcStr;
 use uuid::Uuid;
 
-/// What is read of bytes in binary, or why nothing is.
-fn binary<T: Decode + Debug>(
+/// Compares what is read of a value, or why nothing is.
+fn compare<T: Decode + Debug>(
+    rt: &impl Abort,
+    alloc: Global,
+    value: PgValueRef<'_>,
+    wanted: &str,
+) -> Result<(), AllocError> {
+    let read = T::decode(alloc, value);
+    let shown = format!(in alloc; "{read:?}")?;
+    assert_eq!(rt; shown.as_str(), wanted);
+    Ok(())
+}
+
+/// Compares what is read of bytes in binary, or why nothing is.
+fn expect<T: Decode + Debug>(
+    rt: &impl Abort,
     alloc: Global,
     type_info: PgTypeInfo,
     bytes: &[u8],
-) -> Result<String, AllocError> {
+    wanted: &str,
+) -> Result<(), AllocError> {
     let value = PgValueRef::new(Some(bytes), type_info, PgValueFormat::Binary);
-    let read = T::decode(alloc, value);
-    format!(in alloc; "{read:?}")
+    compare::<T>(rt, alloc, value, wanted)
 }
 
-/// What is read of a text, or why nothing is.
-fn text<T: Decode + Debug>(
+/// Compares what is read of a text, or why nothing is.
+fn expect_text<T: Decode + Debug>(
+    rt: &impl Abort,
     alloc: Global,
     type_info: PgTypeInfo,
     text: &str,
-) -> Result<String, AllocError> {
+    wanted: &str,
+) -> Result<(), AllocError> {
     let value = PgValueRef::new(Some(text.as_bytes()), type_info, PgValueFormat::Text);
-    let read = T::decode(alloc, value);
-    format!(in alloc; "{read:?}")
+    compare::<T>(rt, alloc, value, wanted)
+}
+
+/// The type `int4`.
+fn int4() -> PgTypeInfo {
+    PgTypeInfo(PgType::Int4)
+}
+
+/// The type `record`.
+fn record() -> PgTypeInfo {
+    PgTypeInfo(PgType::Record)
 }
 
 /// A composite type of two fields.
@@ -45,31 +71,15 @@ const ONE_AND_A: &[u8] = b"\0\0\0\x02\0\0\0\x17\0\0\0\x04\0\0\0\x01\0\0\0\x19\0\
 #[test]
 fn scalars(rt: HostRuntime) -> Result<(), CodecError> {
     let alloc = rt.alloc();
-    let int4 = || PgTypeInfo(PgType::Int4);
-    assert_eq!(rt;
-        binary::<bool>(alloc, int4(), b"\x01")?.as_str(),
-        "Ok(true)"
-    );
-    assert_eq!(rt; binary::<i8>(alloc, int4(), b"\xff")?.as_str(), "Ok(-1)");
-    assert_eq!(rt; binary::<i16>(alloc, int4(), b"\xff")?.as_str(), "Ok(-1)");
-    assert_eq!(rt;
-        binary::<i32>(alloc, int4(), b"\0\0\0\x07")?.as_str(),
-        "Ok(7)"
-    );
-    assert_eq!(rt; binary::<i64>(alloc, int4(), b"\0\x07")?.as_str(), "Ok(7)");
-    assert_eq!(rt;
-        binary::<Oid>(alloc, int4(), b"\0\0\0\x19\0")?.as_str(),
-        "Ok(Oid(25))"
-    );
-    assert_eq!(rt; binary::<()>(alloc, int4(), b"\0\x07")?.as_str(), "Ok(())");
-    assert_eq!(rt;
-        binary::<String>(alloc, int4(), b"a")?.as_str(),
-        "Ok(\"a\")"
-    );
-    assert_eq!(rt;
-        binary::<String>(alloc, int4(), b"\xff")?.as_str(),
-        "Err(Utf8)"
-    );
+    expect::<bool>(&rt, alloc, int4(), b"\x01", "Ok(true)")?;
+    expect::<i8>(&rt, alloc, int4(), b"\xff", "Ok(-1)")?;
+    expect::<i16>(&rt, alloc, int4(), b"\xff", "Ok(-1)")?;
+    expect::<i32>(&rt, alloc, int4(), b"\0\0\0\x07", "Ok(7)")?;
+    expect::<i64>(&rt, alloc, int4(), b"\0\x07", "Ok(7)")?;
+    expect::<Oid>(&rt, alloc, int4(), b"\0\0\0\x19\0", "Ok(Oid(25))")?;
+    expect::<()>(&rt, alloc, int4(), b"\0\x07", "Ok(())")?;
+    expect::<String>(&rt, alloc, int4(), b"a", "Ok(\"a\")")?;
+    expect::<String>(&rt, alloc, int4(), b"\xff", "Err(Utf8)")?;
     let id = Uuid::decode(
         alloc,
         PgValueRef::new(Some([9; 16].as_slice()), int4(), PgValueFormat::Binary),
@@ -134,10 +144,7 @@ fn arrays_in_binary(rt: HostRuntime) -> Result<(), AllocError> {
         ),
     ];
     for (bytes, wanted) in rows {
-        assert_eq!(rt;
-            binary::<Vec<Option<i32>>>(alloc, PgTypeInfo(PgType::Int4Array), bytes)?.as_str(),
-            wanted
-        );
+        expect::<Vec<Option<i32>>>(&rt, alloc, PgTypeInfo(PgType::Int4Array), bytes, wanted)?;
     }
     Ok(())
 }
@@ -147,29 +154,38 @@ fn arrays_of_other_types_in_binary(rt: HostRuntime) -> Result<(), AllocError> {
     let alloc = rt.alloc();
     let three =
         b"\0\0\0\x01\0\0\0\0\0\0\0\x17\0\0\0\x03\0\0\0\x01\0\0\0\x04\0\0\0\x01\0\0\0\x04\0\0\0\x02\0\0\0\x04\0\0\0\x03";
-    assert_eq!(rt;
-        binary::<[i32; 2]>(alloc, PgTypeInfo(PgType::Int4Array), three)?.as_str(),
-        "Err(ElementCount(3))"
-    );
-    assert_eq!(rt;
-        binary::<[i32; 3]>(alloc, PgTypeInfo(PgType::Int4Array), three)?.as_str(),
-        "Ok([1, 2, 3])"
-    );
+    expect::<[i32; 2]>(
+        &rt,
+        alloc,
+        PgTypeInfo(PgType::Int4Array),
+        three,
+        "Err(ElementCount(3))",
+    )?;
+    expect::<[i32; 3]>(
+        &rt,
+        alloc,
+        PgTypeInfo(PgType::Int4Array),
+        three,
+        "Ok([1, 2, 3])",
+    )?;
     let moods = b"\0\0\0\x01\0\0\0\0\0\0\x40\xd8\0\0\0\0\0\0\0\x01";
-    assert_eq!(rt;
-        binary::<Vec<String>>(alloc, PgTypeInfo(PgType::Text), moods)?.as_str(),
-        "Err(ElementType(Oid(16600)))"
-    );
-    assert_eq!(rt;
-        binary::<Vec<String>>(alloc, PgTypeInfo::array_of("mood"), moods)?.as_str(),
-        "Ok([])"
-    );
+    expect::<Vec<String>>(
+        &rt,
+        alloc,
+        PgTypeInfo(PgType::Text),
+        moods,
+        "Err(ElementType(Oid(16600)))",
+    )?;
+    expect::<Vec<String>>(&rt, alloc, PgTypeInfo::array_of("mood"), moods, "Ok([])")?;
     let records =
         b"\0\0\0\x01\0\0\0\0\0\0\x08\xc9\0\0\0\x01\0\0\0\x01\0\0\0\x10\0\0\0\x01\0\0\0\x17\0\0\0\x04\0\0\0\x07";
-    assert_eq!(rt;
-        binary::<Vec<(i32,)>>(alloc, PgTypeInfo(PgType::RecordArray), records)?.as_str(),
-        "Ok([(7,)])"
-    );
+    expect::<Vec<(i32,)>>(
+        &rt,
+        alloc,
+        PgTypeInfo(PgType::RecordArray),
+        records,
+        "Ok([(7,)])",
+    )?;
     Ok(())
 }
 
@@ -184,51 +200,45 @@ fn arrays_in_text(rt: HostRuntime) -> Result<(), AllocError> {
         ("{{1},{2}}", "Err(Syntax)"),
     ];
     for (array, wanted) in rows {
-        assert_eq!(rt;
-            text::<Vec<Option<String>>>(alloc, PgTypeInfo(PgType::TextArray), array)?.as_str(),
-            wanted
-        );
-    }
-    assert_eq!(rt;
-        text::<Vec<i32>>(alloc, PgTypeInfo(PgType::Int4Array), "{1,x}")?.as_str(),
-        "Err(Syntax)"
-    );
-    assert_eq!(rt;
-        text::<[i32; 2]>(alloc, PgTypeInfo(PgType::Int4Array), "{1,2}")?.as_str(),
-        "Ok([1, 2])"
-    );
-    assert_eq!(rt;
-        text::<Vec<(i32, String)>>(
+        expect_text::<Vec<Option<String>>>(
+            &rt,
             alloc,
-            PgTypeInfo(PgType::RecordArray),
-            "{\"(1,a)\",\"(2,\\\"x y\\\")\"}"
-        )?
-        .as_str(),
-        "Ok([(1, \"a\"), (2, \"x y\")])"
-    );
+            PgTypeInfo(PgType::TextArray),
+            array,
+            wanted,
+        )?;
+    }
+    expect_text::<Vec<i32>>(
+        &rt,
+        alloc,
+        PgTypeInfo(PgType::Int4Array),
+        "{1,x}",
+        "Err(Syntax)",
+    )?;
+    expect_text::<[i32; 2]>(
+        &rt,
+        alloc,
+        PgTypeInfo(PgType::Int4Array),
+        "{1,2}",
+        "Ok([1, 2])",
+    )?;
+    expect_text::<Vec<(i32, String)>>(
+        &rt,
+        alloc,
+        PgTypeInfo(PgType::RecordArray),
+        "{\"(1,a)\",\"(2,\\\"x y\\\")\"}",
+        "Ok([(1, \"a\"), (2, \"x y\")])",
+    )?;
     Ok(())
 }
 
 #[test]
 fn records_in_binary(rt: HostRuntime) -> Result<(), AllocError> {
     let alloc = rt.alloc();
-    let record = || PgTypeInfo(PgType::Record);
-    assert_eq!(rt;
-        binary::<(i32, String)>(alloc, record(), ONE_AND_A)?.as_str(),
-        "Ok((1, \"a\"))"
-    );
-    assert_eq!(rt;
-        binary::<(i32,)>(alloc, record(), ONE_AND_A)?.as_str(),
-        "Ok((1,))"
-    );
-    assert_eq!(rt;
-        binary::<(i64, String)>(alloc, record(), ONE_AND_A)?.as_str(),
-        "Err(MismatchedTypes)"
-    );
-    assert_eq!(rt;
-        binary::<(i32, String, i32)>(alloc, record(), ONE_AND_A)?.as_str(),
-        "Err(NoField(2))"
-    );
+    expect::<(i32, String)>(&rt, alloc, record(), ONE_AND_A, "Ok((1, \"a\"))")?;
+    expect::<(i32,)>(&rt, alloc, record(), ONE_AND_A, "Ok((1,))")?;
+    expect::<(i64, String)>(&rt, alloc, record(), ONE_AND_A, "Err(MismatchedTypes)")?;
+    expect::<(i32, String, i32)>(&rt, alloc, record(), ONE_AND_A, "Err(NoField(2))")?;
     Ok(())
 }
 
@@ -236,30 +246,28 @@ fn records_in_binary(rt: HostRuntime) -> Result<(), AllocError> {
 #[test]
 fn first_refusals(rt: HostRuntime) -> Result<(), AllocError> {
     let alloc = rt.alloc();
-    let record = || PgTypeInfo(PgType::Record);
     // A field of another type, whose frame is cut short.
     let cut = b"\0\0\0\x01\0\0\0\x17\0\0\0\x04\0";
-    assert_eq!(rt;
-        binary::<(String,)>(alloc, record(), cut)?.as_str(),
-        "Err(MismatchedTypes)"
-    );
+    expect::<(String,)>(&rt, alloc, record(), cut, "Err(MismatchedTypes)")?;
     // A third field under a composite type of two, with bytes of its own.
     let third =
         b"\0\0\0\x03\0\0\0\x17\0\0\0\x04\0\0\0\x01\0\0\0\x19\0\0\0\x01a\0\0\0\x17\0\0\0\x04\0\0\0\x02";
-    assert_eq!(rt;
-        binary::<(i32, String, i32)>(
-            alloc,
-            pair(alloc, PgType::Int4, PgType::Text)?,
-            third
-        )?.as_str(),
-        "Err(NoField(2))"
-    );
+    expect::<(i32, String, i32)>(
+        &rt,
+        alloc,
+        pair(alloc, PgType::Int4, PgType::Text)?,
+        third,
+        "Err(NoField(2))",
+    )?;
     // An array of a count past its bytes, read as arrays of 64.
     let short = b"\0\0\0\x01\0\0\0\0\0\0\0\x19\x7f\xff\xff\xff\0\0\0\x01";
-    assert_eq!(rt;
-        binary::<Vec<[Option<String>; 64]>>(alloc, PgTypeInfo(PgType::TextArray), short)?.as_str(),
-        "Err(Short)"
-    );
+    expect::<Vec<[Option<String>; 64]>>(
+        &rt,
+        alloc,
+        PgTypeInfo(PgType::TextArray),
+        short,
+        "Err(Short)",
+    )?;
     let bytes = PgValueRef::new(Some(b"(\xff)"), record(), PgValueFormat::Text);
     assert!(rt; matches!(<(String,)>::decode(alloc, bytes), Err(CodecError::Utf8)));
     Ok(())
@@ -268,99 +276,84 @@ fn first_refusals(rt: HostRuntime) -> Result<(), AllocError> {
 #[test]
 fn records_of_known_types_in_binary(rt: HostRuntime) -> Result<(), AllocError> {
     let alloc = rt.alloc();
-    let record = || PgTypeInfo(PgType::Record);
     let unknown = b"\0\0\0\x02\0\0\xf0\0\0\0\0\x04\0\0\0\x01\0\0\0\x19\0\0\0\x01a";
-    assert_eq!(rt;
-        binary::<(i32, String)>(alloc, record(), unknown)?.as_str(),
-        "Err(FieldTypeUnknown(Oid(61440)))"
-    );
-    assert_eq!(rt;
-        binary::<(i32, String)>(alloc, PgTypeInfo(PgType::Int4), ONE_AND_A)?.as_str(),
-        "Err(NotARecord)"
-    );
-    assert_eq!(rt;
-        binary::<(i32, String)>(alloc, PgTypeInfo::with_name("pair"), ONE_AND_A)?.as_str(),
-        "Err(NotARecord)"
-    );
+    expect::<(i32, String)>(
+        &rt,
+        alloc,
+        record(),
+        unknown,
+        "Err(FieldTypeUnknown(Oid(61440)))",
+    )?;
+    expect::<(i32, String)>(
+        &rt,
+        alloc,
+        PgTypeInfo(PgType::Int4),
+        ONE_AND_A,
+        "Err(NotARecord)",
+    )?;
+    expect::<(i32, String)>(
+        &rt,
+        alloc,
+        PgTypeInfo::with_name("pair"),
+        ONE_AND_A,
+        "Err(NotARecord)",
+    )?;
     let good = pair(alloc, PgType::Int4, PgType::Text)?;
-    assert_eq!(rt;
-        binary::<(i32, String)>(alloc, good.clone()?, ONE_AND_A)?.as_str(),
-        "Ok((1, \"a\"))"
-    );
-    assert_eq!(rt;
-        binary::<(i32, String, i32)>(alloc, good.clone()?, ONE_AND_A)?.as_str(),
-        "Err(NoField(2))"
-    );
+    expect::<(i32, String)>(&rt, alloc, good.clone()?, ONE_AND_A, "Ok((1, \"a\"))")?;
+    expect::<(i32, String, i32)>(&rt, alloc, good.clone()?, ONE_AND_A, "Err(NoField(2))")?;
     let other = pair(alloc, PgType::Text, PgType::Text)?;
-    assert_eq!(rt;
-        binary::<(i32, String)>(alloc, other, ONE_AND_A)?.as_str(),
-        "Err(FieldOid)"
-    );
+    expect::<(i32, String)>(&rt, alloc, other, ONE_AND_A, "Err(FieldOid)")?;
     let inner = PgTypeInfo::custom(alloc, Oid(16701), "inner", PgTypeKind::Domain(good))?;
     let outer = PgTypeInfo::custom(alloc, Oid(16702), "outer", PgTypeKind::Domain(inner))?;
-    assert_eq!(rt;
-        binary::<(i32, String)>(alloc, outer, ONE_AND_A)?.as_str(),
-        "Ok((1, \"a\"))"
-    );
+    expect::<(i32, String)>(&rt, alloc, outer, ONE_AND_A, "Ok((1, \"a\"))")?;
     Ok(())
 }
 
 #[test]
 fn records_in_text(rt: HostRuntime) -> Result<(), AllocError> {
     let alloc = rt.alloc();
-    let record = || PgTypeInfo(PgType::Record);
-    assert_eq!(rt;
-        text::<(i32, Option<i32>)>(alloc, record(), "(1,)")?.as_str(),
-        "Ok((1, None))"
-    );
-    assert_eq!(rt;
-        text::<(Option<i32>,)>(alloc, record(), "()")?.as_str(),
-        "Ok((None,))"
-    );
-    assert_eq!(rt;
-        text::<(String,)>(alloc, record(), "(\"\"\")")?.as_str(),
-        "Err(Syntax)"
-    );
-    assert_eq!(rt;
-        text::<(i32, i32)>(alloc, record(), "(1)")?.as_str(),
-        "Err(NoField(1))"
-    );
+    expect_text::<(i32, Option<i32>)>(&rt, alloc, record(), "(1,)", "Ok((1, None))")?;
+    expect_text::<(Option<i32>,)>(&rt, alloc, record(), "()", "Ok((None,))")?;
+    expect_text::<(String,)>(&rt, alloc, record(), "(\"\"\")", "Err(Syntax)")?;
+    expect_text::<(i32, i32)>(&rt, alloc, record(), "(1)", "Err(NoField(1))")?;
     Ok(())
 }
 
 #[test]
 fn tuples_of_the_first_fields(rt: HostRuntime) -> Result<(), AllocError> {
     let alloc = rt.alloc();
-    let record = || PgTypeInfo(PgType::Record);
     let nine = "(1,2,3,4,5,6,7,8,9)";
-    assert_eq!(rt;
-        text::<(i32, i32, i32)>(alloc, record(), nine)?.as_str(),
-        "Ok((1, 2, 3))"
-    );
-    assert_eq!(rt;
-        text::<(i32, i32, i32, i32)>(alloc, record(), nine)?.as_str(),
-        "Ok((1, 2, 3, 4))"
-    );
-    assert_eq!(rt;
-        text::<(i32, i32, i32, i32, i32)>(alloc, record(), nine)?.as_str(),
-        "Ok((1, 2, 3, 4, 5))"
-    );
-    assert_eq!(rt;
-        text::<(i32, i32, i32, i32, i32, i32)>(alloc, record(), nine)?.as_str(),
-        "Ok((1, 2, 3, 4, 5, 6))"
-    );
-    assert_eq!(rt;
-        text::<(i32, i32, i32, i32, i32, i32, i32)>(alloc, record(), nine)?.as_str(),
-        "Ok((1, 2, 3, 4, 5, 6, 7))"
-    );
-    assert_eq!(rt;
-        text::<(i32, i32, i32, i32, i32, i32, i32, i32)>(alloc, record(), nine)?.as_str(),
-        "Ok((1, 2, 3, 4, 5, 6, 7, 8))"
-    );
-    assert_eq!(rt;
-        text::<(i32, i32, i32, i32, i32, i32, i32, i32, i32)>(alloc, record(), nine)?.as_str(),
-        "Ok((1, 2, 3, 4, 5, 6, 7, 8, 9))"
-    );
+    expect_text::<(i32, i32, i32)>(&rt, alloc, record(), nine, "Ok((1, 2, 3))")?;
+    expect_text::<(i32, i32, i32, i32)>(&rt, alloc, record(), nine, "Ok((1, 2, 3, 4))")?;
+    expect_text::<(i32, i32, i32, i32, i32)>(&rt, alloc, record(), nine, "Ok((1, 2, 3, 4, 5))")?;
+    expect_text::<(i32, i32, i32, i32, i32, i32)>(
+        &rt,
+        alloc,
+        record(),
+        nine,
+        "Ok((1, 2, 3, 4, 5, 6))",
+    )?;
+    expect_text::<(i32, i32, i32, i32, i32, i32, i32)>(
+        &rt,
+        alloc,
+        record(),
+        nine,
+        "Ok((1, 2, 3, 4, 5, 6, 7))",
+    )?;
+    expect_text::<(i32, i32, i32, i32, i32, i32, i32, i32)>(
+        &rt,
+        alloc,
+        record(),
+        nine,
+        "Ok((1, 2, 3, 4, 5, 6, 7, 8))",
+    )?;
+    expect_text::<(i32, i32, i32, i32, i32, i32, i32, i32, i32)>(
+        &rt,
+        alloc,
+        record(),
+        nine,
+        "Ok((1, 2, 3, 4, 5, 6, 7, 8, 9))",
+    )?;
     Ok(())
 }
 
@@ -389,10 +382,7 @@ fn parts_of_texts(rt: HostRuntime) -> Result<(), CodecError> {
         ("{99999999999,{}", "Err(Syntax)"),
         ("{99999999999}", "Err(OutOfRange)"),
     ] {
-        assert_eq!(rt;
-            text::<Vec<i32>>(alloc, PgTypeInfo(PgType::Int4Array), array)?.as_str(),
-            wanted
-        );
+        expect_text::<Vec<i32>>(&rt, alloc, PgTypeInfo(PgType::Int4Array), array, wanted)?;
     }
     let value = PgValueRef::new(
         Some(b"(x,\"2\")"),

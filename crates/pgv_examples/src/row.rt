@@ -28,13 +28,14 @@ pub struct Person {
     pub name: Option<String>,
 }
 
-/// A row of an `int4` and a `text` that may be null.
+/// A row of an `int4` and a `text` that may be null; more columns may follow.
 pub fn read_person(alloc: Global, row: &[u8]) -> Result<Person, CodecError>
-    ensures id { IfOk result (λ person. (part : Part) × (rest : List ℕ) × (front row.now ≡ Some (part, rest)) × (int_reading w32 (builtin 23) Binary part ≡ Some person.id)) }
+    ensures first { IfOk result (λ person. (id : Part) × (rest : List ℕ) × (front row.now ≡ Some (id, rest)) × (int_reading w32 (builtin 23) Binary id ≡ Some person.id)) }
+    ensures second { IfOk result (λ person. (id : Part) × (rest : List ℕ) × (name : Part) × (more : List ℕ) × (front row.now ≡ Some (id, rest)) × (front rest ≡ Some (name, more)) × (⟦<Option<String> as Decode>⟧.reading (builtin 25) Binary name ≡ Some (⟦<Option<String> as Decode>⟧.meaning person.name))) }
 {
     let mut rest = row;
-    let id = column(alloc, &mut rest, PgTypeInfo(PgType::Int4))?;
-    let name = column(alloc, &mut rest, PgTypeInfo(PgType::Text))?;
+    let id: i32 = column(alloc, &mut rest, PgTypeInfo(PgType::Int4))?;
+    let name: Option<String> = column(alloc, &mut rest, PgTypeInfo(PgType::Text))?;
     Ok(Person { id, name })
 }
 

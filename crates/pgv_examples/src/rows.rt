@@ -71,10 +71,12 @@ fn moods(alloc: Global) -> Result<Vec<Mood>, CodecError> {
     Ok(moods)
 }
 
-#[test]
-fn frames_of_arguments(rt: HostRuntime) -> Result<(), CodecError> {
-    let alloc = rt.alloc();
-    let mut arguments = PgArguments::new(alloc);
+/// The calls of the test below.
+fn try_frames_of_arguments(
+    rt: &impl Abort,
+    alloc: Global,
+    arguments: &mut PgArguments,
+) -> Result<(), CodecError> {
     arguments.add([1, 2].to_vec(alloc)?)?;
     arguments.add(Vec::<i32>::new(alloc))?;
     let mut texts = Vec::new(alloc);
@@ -83,7 +85,7 @@ fn frames_of_arguments(rt: HostRuntime) -> Result<(), CodecError> {
     arguments.add(texts)?;
     arguments.add(Some(None::<i32>))?;
     check(
-        &rt,
+        rt,
         alloc,
         arguments.buffer(),
         &[
@@ -100,9 +102,17 @@ fn frames_of_arguments(rt: HostRuntime) -> Result<(), CodecError> {
 }
 
 #[test]
-fn refused_values_leave_the_arguments(rt: HostRuntime) -> Result<(), CodecError> {
-    let alloc = rt.alloc();
-    let mut arguments = PgArguments::new(alloc);
+fn frames_of_arguments(rt: HostRuntime) -> Result<(), CodecError> {
+    let mut arguments = PgArguments::new(rt.alloc());
+    try_frames_of_arguments(&rt, rt.alloc(), &mut arguments)
+}
+
+/// The calls of the test below.
+fn try_refused_values_leave_the_arguments(
+    rt: &impl Abort,
+    alloc: Global,
+    arguments: &mut PgArguments,
+) -> Result<(), CodecError> {
     arguments.add(7)?;
     let refused = arguments.add(Refusing);
     assert!(rt; matches!(refused, Err(CodecError::Caller(1))));
@@ -110,8 +120,8 @@ fn refused_values_leave_the_arguments(rt: HostRuntime) -> Result<(), CodecError>
     assert!(rt; matches!(huge, Err(CodecError::ValueSize(2147483648))));
     arguments.reserve(3, 100)?;
     let copy = arguments.clone()?;
-    for same in [&arguments, &copy] {
-        check(&rt, alloc, same.buffer(), &["00000004 00000007"])?;
+    for same in [&*arguments, &copy] {
+        check(rt, alloc, same.buffer(), &["00000004 00000007"])?;
         assert_eq!(rt; same.len(), 1);
         assert_eq!(rt; same.types().len(), 1);
         let mut text = String::new(alloc);
@@ -122,9 +132,17 @@ fn refused_values_leave_the_arguments(rt: HostRuntime) -> Result<(), CodecError>
 }
 
 #[test]
-fn some_of_each_are_refused(rt: HostRuntime) -> Result<(), CodecError> {
-    let alloc = rt.alloc();
-    let mut arguments = PgArguments::new(alloc);
+fn refused_values_leave_the_arguments(rt: HostRuntime) -> Result<(), CodecError> {
+    let mut arguments = PgArguments::new(rt.alloc());
+    try_refused_values_leave_the_arguments(&rt, rt.alloc(), &mut arguments)
+}
+
+/// The calls of the test below.
+fn try_some_of_each_are_refused(
+    rt: &impl Abort,
+    alloc: Global,
+    arguments: &mut PgArguments,
+) -> Result<(), CodecError> {
     let values = [
         ButThree { number: 2 },
         ButThree { number: 3 },
@@ -136,7 +154,7 @@ fn some_of_each_are_refused(rt: HostRuntime) -> Result<(), CodecError> {
     assert!(rt; matches!(&outcomes[1], Err(CodecError::Caller(1))));
     assert!(rt; outcomes[2].is_ok());
     check(
-        &rt,
+        rt,
         alloc,
         arguments.buffer(),
         &["00000004 00000002 00000004 00000004"],
@@ -144,64 +162,83 @@ fn some_of_each_are_refused(rt: HostRuntime) -> Result<(), CodecError> {
 }
 
 #[test]
-fn holes_of_arguments(rt: HostRuntime) -> Result<(), CodecError> {
-    let alloc = rt.alloc();
-    let mut arguments = PgArguments::new(alloc);
+fn some_of_each_are_refused(rt: HostRuntime) -> Result<(), CodecError> {
+    let mut arguments = PgArguments::new(rt.alloc());
+    try_some_of_each_are_refused(&rt, rt.alloc(), &mut arguments)
+}
+
+/// The calls of the test below.
+fn try_holes_of_arguments(
+    rt: &impl Abort,
+    alloc: Global,
+    arguments: &mut PgArguments,
+) -> Result<(), CodecError> {
     let types = [PgTypeInfo::array_of("mood"), PgTypeInfo::array_of("mood")];
     arguments.add(moods(alloc)?)?;
-    check(&rt, alloc, arguments.buffer(), &[MOODS])?;
+    check(rt, alloc, arguments.buffer(), &[MOODS])?;
     arguments.apply_patches(&types[..1], &[Oid(16600)])?;
-    check(&rt, alloc, arguments.buffer(), &[MOODS_16600])?;
+    check(rt, alloc, arguments.buffer(), &[MOODS_16600])?;
     arguments.add(moods(alloc)?)?;
-    check(&rt, alloc, arguments.buffer(), &[MOODS_16600, MOODS])?;
+    check(rt, alloc, arguments.buffer(), &[MOODS_16600, MOODS])?;
     arguments.apply_patches(&types, &[Oid(16600), Oid(16601)])?;
-    check(&rt, alloc, arguments.buffer(), &[MOODS_16600, MOODS_16601])?;
+    check(rt, alloc, arguments.buffer(), &[MOODS_16600, MOODS_16601])?;
     let one_oid = arguments.apply_patches(&types, &[Oid(16700)]);
     assert!(rt; matches!(one_oid, Err(CodecError::HoleCount)));
     let one_type = arguments.apply_patches(&types[..1], &[Oid(16700), Oid(16701)]);
     assert!(rt; matches!(one_type, Err(CodecError::ParameterCount)));
-    check(&rt, alloc, arguments.buffer(), &[MOODS_16600, MOODS_16601])?;
-    check_names(&rt, alloc, arguments.hole_types(), "mood mood ")?;
-    check_names(&rt, alloc, arguments.types(), "mood[] mood[] ")
+    check(rt, alloc, arguments.buffer(), &[MOODS_16600, MOODS_16601])?;
+    check_names(rt, alloc, arguments.hole_types(), "mood mood ")?;
+    check_names(rt, alloc, arguments.types(), "mood[] mood[] ")
 }
 
 #[test]
-fn refused_between_others(rt: HostRuntime) -> Result<(), CodecError> {
-    let alloc = rt.alloc();
-    let mut arguments = PgArguments::new(alloc);
+fn holes_of_arguments(rt: HostRuntime) -> Result<(), CodecError> {
+    let mut arguments = PgArguments::new(rt.alloc());
+    try_holes_of_arguments(&rt, rt.alloc(), &mut arguments)
+}
+
+/// The calls of the test below.
+fn try_refused_between_others(
+    rt: &impl Abort,
+    alloc: Global,
+    arguments: &mut PgArguments,
+) -> Result<(), CodecError> {
     arguments.add(1)?;
     let refused = arguments.add([Size { alloc, number: 7 }, Size { alloc, number: 0 }]);
     assert!(rt; matches!(refused, Err(CodecError::Caller(38))));
     let mut trees = Vec::new(alloc);
     trees.push(PgLTree::from_str(alloc, "a.b")?)?;
     arguments.add(trees)?;
-    check_names(&rt, alloc, arguments.hole_types(), "ltree ")?;
+    check_names(rt, alloc, arguments.hole_types(), "ltree ")?;
     assert_eq!(rt; arguments.len(), 2);
-    check(
-        &rt,
-        alloc,
-        arguments.buffer(),
-        &["00000004 00000001", TREES],
-    )
+    check(rt, alloc, arguments.buffer(), &["00000004 00000001", TREES])
 }
 
 #[test]
-fn slots_of_arguments(rt: HostRuntime) -> Result<(), CodecError> {
-    let alloc = rt.alloc();
-    let mut arguments = PgArguments::new(alloc);
+fn refused_between_others(rt: HostRuntime) -> Result<(), CodecError> {
+    let mut arguments = PgArguments::new(rt.alloc());
+    try_refused_between_others(&rt, rt.alloc(), &mut arguments)
+}
+
+/// The calls of the test below.
+fn try_slots_of_arguments(
+    rt: &impl Abort,
+    alloc: Global,
+    arguments: &mut PgArguments,
+) -> Result<(), CodecError> {
     let refused = arguments.add(Size { alloc, number: 0 });
     assert!(rt; matches!(refused, Err(CodecError::Caller(38))));
     arguments.add(EmptyObject { alloc })?;
-    check(&rt, alloc, arguments.buffer(), &["00000003 20 7b7d"])?;
+    check(rt, alloc, arguments.buffer(), &["00000003 20 7b7d"])?;
     arguments.apply_patches(&[PgTypeInfo(PgType::Jsonb)], &[])?;
-    check(&rt, alloc, arguments.buffer(), &["00000003 01 7b7d"])?;
+    check(rt, alloc, arguments.buffer(), &["00000003 01 7b7d"])?;
     arguments.apply_patches(&[PgTypeInfo(PgType::Json)], &[])?;
-    check(&rt, alloc, arguments.buffer(), &["00000003 20 7b7d"])?;
+    check(rt, alloc, arguments.buffer(), &["00000003 20 7b7d"])?;
     arguments.add(EmptyObject { alloc })?;
     let types = [PgTypeInfo(PgType::Json), PgTypeInfo(PgType::Jsonb)];
     arguments.apply_patches(&types, &[])?;
     check(
-        &rt,
+        rt,
         alloc,
         arguments.buffer(),
         &["00000003 20 7b7d", "00000003 01 7b7d"],
@@ -209,18 +246,26 @@ fn slots_of_arguments(rt: HostRuntime) -> Result<(), CodecError> {
 }
 
 #[test]
-fn values_that_produce_another_type(rt: HostRuntime) -> Result<(), CodecError> {
-    let alloc = rt.alloc();
-    let mut arguments = PgArguments::new(alloc);
+fn slots_of_arguments(rt: HostRuntime) -> Result<(), CodecError> {
+    let mut arguments = PgArguments::new(rt.alloc());
+    try_slots_of_arguments(&rt, rt.alloc(), &mut arguments)
+}
+
+/// The calls of the test below.
+fn try_values_that_produce_another_type(
+    rt: &impl Abort,
+    alloc: Global,
+    arguments: &mut PgArguments,
+) -> Result<(), CodecError> {
     arguments.add(MoodText { mood: Mood::Fine })?;
-    check_names(&rt, alloc, arguments.types(), "mood ")?;
+    check_names(rt, alloc, arguments.types(), "mood ")?;
     let mut one = Vec::new(alloc);
     one.push(MoodText { mood: Mood::Fine })?;
     arguments.add(one)?;
-    check_names(&rt, alloc, arguments.hole_types(), "mood ")?;
+    check_names(rt, alloc, arguments.hole_types(), "mood ")?;
     arguments.add(Vec::<MoodText>::new(alloc))?;
     check(
-        &rt,
+        rt,
         alloc,
         arguments.buffer(),
         &[
@@ -232,15 +277,23 @@ fn values_that_produce_another_type(rt: HostRuntime) -> Result<(), CodecError> {
 }
 
 #[test]
-fn records_of_callers(rt: HostRuntime) -> Result<(), CodecError> {
-    let alloc = rt.alloc();
-    let mut arguments = PgArguments::new(alloc);
+fn values_that_produce_another_type(rt: HostRuntime) -> Result<(), CodecError> {
+    let mut arguments = PgArguments::new(rt.alloc());
+    try_values_that_produce_another_type(&rt, rt.alloc(), &mut arguments)
+}
+
+/// The calls of the test below.
+fn try_records_of_callers(
+    rt: &impl Abort,
+    alloc: Global,
+    arguments: &mut PgArguments,
+) -> Result<(), CodecError> {
     arguments.add(Page {
         id: 1,
         path: PgLTree::from_str(alloc, "a.b")?,
     })?;
     check(
-        &rt,
+        rt,
         alloc,
         arguments.buffer(),
         &["0000001c 00000002 00000017 00000004 00000001 00000000 00000004 01612e62"],
@@ -248,21 +301,35 @@ fn records_of_callers(rt: HostRuntime) -> Result<(), CodecError> {
     let page = [PgTypeInfo::with_name("page")];
     arguments.apply_patches(&page, &[Oid(16500)])?;
     check(
-        &rt,
+        rt,
         alloc,
         arguments.buffer(),
         &["0000001c 00000002 00000017 00000004 00000001 00004074 00000004 01612e62"],
     )?;
-    let mut arguments = PgArguments::new(alloc);
+    Ok(())
+}
+
+#[test]
+fn records_of_callers(rt: HostRuntime) -> Result<(), CodecError> {
+    let mut arguments = PgArguments::new(rt.alloc());
+    try_records_of_callers(&rt, rt.alloc(), &mut arguments)
+}
+
+/// The calls of the test below.
+fn try_records_with_lists(
+    rt: &impl Abort,
+    alloc: Global,
+    arguments: &mut PgArguments,
+) -> Result<(), CodecError> {
     arguments.add(Household {
         number: 1,
         moods: moods(alloc)?,
     })?;
-    check_names(&rt, alloc, arguments.hole_types(), "mood[] mood ")?;
+    check_names(rt, alloc, arguments.hole_types(), "mood[] mood ")?;
     let household = [PgTypeInfo::with_name("household")];
     arguments.apply_patches(&household, &[Oid(16601), Oid(16600)])?;
     check(
-        &rt,
+        rt,
         alloc,
         arguments.buffer(),
         &[
@@ -270,6 +337,12 @@ fn records_of_callers(rt: HostRuntime) -> Result<(), CodecError> {
             MOODS_16600,
         ],
     )
+}
+
+#[test]
+fn records_with_lists(rt: HostRuntime) -> Result<(), CodecError> {
+    let mut arguments = PgArguments::new(rt.alloc());
+    try_records_with_lists(&rt, rt.alloc(), &mut arguments)
 }
 
 #[test]
@@ -306,10 +379,12 @@ fn a_huge_hint_is_refused_first(rt: HostRuntime) -> Result<(), CodecError> {
     Ok(())
 }
 
-#[test]
-fn frames_are_read_in_turn(rt: HostRuntime) -> Result<(), CodecError> {
-    let alloc = rt.alloc();
-    let mut arguments = PgArguments::new(alloc);
+/// The calls of the test below.
+fn try_frames_are_read_in_turn(
+    rt: &impl Abort,
+    alloc: Global,
+    arguments: &mut PgArguments,
+) -> Result<(), CodecError> {
     arguments.add(7)?;
     arguments.add(None::<i32>)?;
     let _refused = arguments.add(Refusing);
@@ -328,4 +403,10 @@ fn frames_are_read_in_turn(rt: HostRuntime) -> Result<(), CodecError> {
     }
     assert!(rt; rest.is_empty());
     Ok(())
+}
+
+#[test]
+fn frames_are_read_in_turn(rt: HostRuntime) -> Result<(), CodecError> {
+    let mut arguments = PgArguments::new(rt.alloc());
+    try_frames_are_read_in_turn(&rt, rt.alloc(), &mut arguments)
 }

@@ -6,18 +6,23 @@ use pgv::{
     CodecError, Oid, PgArgumentBuffer, PgArguments, PgType, PgTypeInfo, Type, encode_array,
     encode_text,
 };
+use std::alloc::Global;
+use std::process::Abort;
 use uuid::Uuid;
 
-#[test]
-fn arrays_of_a_length(rt: HostRuntime) -> Result<(), CodecError> {
-    let mut out = PgArgumentBuffer::new(rt.alloc());
+/// The calls of the test below.
+fn try_arrays_of_a_length(
+    rt: &impl Abort,
+    alloc: Global,
+    out: &mut PgArgumentBuffer,
+) -> Result<(), CodecError> {
     out.encode(&[1, 2])?;
     assert_eq!(rt;
         out.as_slice(),
         b"\0\0\0\x24\0\0\0\x01\0\0\0\0\0\0\0\x17\0\0\0\x02\0\0\0\x01\0\0\0\x04\0\0\0\x01\0\0\0\x04\0\0\0\x02".as_slice()
     );
     out.clear();
-    out.encode(&[Some(String::new(rt.alloc())), None])?;
+    out.encode(&[Some(String::new(alloc)), None])?;
     assert_eq!(rt;
         out.as_slice(),
         b"\0\0\0\x1c\0\0\0\x01\0\0\0\0\0\0\0\x19\0\0\0\x02\0\0\0\x01\0\0\0\0\xff\xff\xff\xff".as_slice()
@@ -26,8 +31,17 @@ fn arrays_of_a_length(rt: HostRuntime) -> Result<(), CodecError> {
 }
 
 #[test]
-fn other_scalars(rt: HostRuntime) -> Result<(), CodecError> {
+fn arrays_of_a_length(rt: HostRuntime) -> Result<(), CodecError> {
     let mut out = PgArgumentBuffer::new(rt.alloc());
+    try_arrays_of_a_length(&rt, rt.alloc(), &mut out)
+}
+
+/// The calls of the test below.
+fn try_other_scalars(
+    rt: &impl Abort,
+    alloc: Global,
+    out: &mut PgArgumentBuffer,
+) -> Result<(), CodecError> {
     out.encode(&true)?;
     out.encode(&-1i8)?;
     out.encode(&258i16)?;
@@ -49,9 +63,17 @@ fn other_scalars(rt: HostRuntime) -> Result<(), CodecError> {
 }
 
 #[test]
-fn pairs_and_their_copies(rt: HostRuntime) -> Result<(), CodecError> {
-    let alloc = rt.alloc();
-    let mut arguments = PgArguments::new(alloc);
+fn other_scalars(rt: HostRuntime) -> Result<(), CodecError> {
+    let mut out = PgArgumentBuffer::new(rt.alloc());
+    try_other_scalars(&rt, rt.alloc(), &mut out)
+}
+
+/// The calls of the test below.
+fn try_pairs_and_their_copies(
+    rt: &impl Abort,
+    alloc: Global,
+    arguments: &mut PgArguments,
+) -> Result<(), CodecError> {
     arguments.add(Pair {
         first: 1,
         second: Mood::Fine,
@@ -62,7 +84,7 @@ fn pairs_and_their_copies(rt: HostRuntime) -> Result<(), CodecError> {
     );
     arguments.apply_patches(&[PgTypeInfo(PgType::Record)], &[Oid(16600)])?;
     let copy = arguments.clone()?;
-    for same in [&arguments, &copy] {
+    for same in [&*arguments, &copy] {
         assert_eq!(rt;
             same.buffer().as_slice(),
             b"\0\0\0\x1a\0\0\0\x02\0\0\0\x17\0\0\0\x04\0\0\0\x01\0\0\x40\xd8\0\0\0\x02ok".as_slice()
@@ -72,13 +94,22 @@ fn pairs_and_their_copies(rt: HostRuntime) -> Result<(), CodecError> {
 }
 
 #[test]
-fn parts_for_callers(rt: HostRuntime) -> Result<(), CodecError> {
-    let mut out = PgArgumentBuffer::new(rt.alloc());
-    encode_text("a", &mut out)?;
-    encode_array(&[false], &mut out)?;
-    let mut version = Vec::new(rt.alloc());
+fn pairs_and_their_copies(rt: HostRuntime) -> Result<(), CodecError> {
+    let mut arguments = PgArguments::new(rt.alloc());
+    try_pairs_and_their_copies(&rt, rt.alloc(), &mut arguments)
+}
+
+/// The calls of the test below.
+fn try_parts_for_callers(
+    rt: &impl Abort,
+    alloc: Global,
+    out: &mut PgArgumentBuffer,
+) -> Result<(), CodecError> {
+    encode_text("a", out)?;
+    encode_array(&[false], out)?;
+    let mut version = Vec::new(alloc);
     version.push(1)?;
-    let mut cases = Vec::new(rt.alloc());
+    let mut cases = Vec::new(alloc);
     cases.push((PgTypeInfo(PgType::Jsonb), version))?;
     out.push_slot(b" ", cases)?;
     out.extend_from_slice(b"{}")?;
@@ -88,4 +119,10 @@ fn parts_for_callers(rt: HostRuntime) -> Result<(), CodecError> {
     );
     assert_eq!(rt; out.len(), 29);
     Ok(())
+}
+
+#[test]
+fn parts_for_callers(rt: HostRuntime) -> Result<(), CodecError> {
+    let mut out = PgArgumentBuffer::new(rt.alloc());
+    try_parts_for_callers(&rt, rt.alloc(), &mut out)
 }
