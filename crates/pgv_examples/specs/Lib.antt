@@ -1,0 +1,3 @@
+pub mod Moods
+pub mod Objects
+pub mod Percents

@@ -1,0 +1,78 @@
+//! Arrays, and arrays with nulls in them, written and read.
+
+ghost use Rattle.std.specs.Prelude.{◌≡◌, ◌+◌, ◌++◌, [], ◌∷◌, length, Some, IfOk, OnOk, OnErr};
+ghost use Rattle.pgv.specs.Words.{Answers, builtin, types_in};
+
+use pgv::{CodecError, Decode, PgArguments, PgValueRef};
+use std::alloc::Global;
+
+/// Adds two lists of `int4`. In the second a score may be null.
+pub fn add_lists(
+    arguments: &mut PgArguments,
+    places: Vec<i32>,
+    scores: Vec<Option<i32>>,
+) -> Result<(), CodecError>
+    ensures { OnOk result (types_in arguments.new ≡ types_in arguments.old ++ builtin 1007 ∷ builtin 1007 ∷ []) }
+{
+    arguments.add(places)?;
+    arguments.add(scores)?;
+    Ok(())
+}
+
+/// The scores of a column, each a number or null. A null in place of the list is refused with C13.
+pub fn scores(alloc: Global, column: PgValueRef<'_>) -> Result<Vec<Option<i32>>, CodecError>
+    ensures { Answers (λ v. ⟦<Vec<Option<i32>> as Decode>⟧.meaning v) (⟦<Vec<Option<i32>> as Decode>⟧.reading column.entry.type_info column.entry.format column.entry.bytes) result }
+{
+    Vec::decode(alloc, column)
+}
+
+#[cfg(test)]
+mod tests {
+    use crate::arrays::{add_lists, scores};
+    use pgv::{CodecError, Decode, PgArguments, PgType, PgTypeInfo, PgValueFormat, PgValueRef};
+
+    /// `{1,2}` as the server writes it.
+    const ONE_TWO: &[u8] =
+        b"\0\0\0\x01\0\0\0\0\0\0\0\x17\0\0\0\x02\0\0\0\x01\0\0\0\x04\0\0\0\x01\0\0\0\x04\0\0\0\x02";
+
+    /// `{7,NULL}` as the server writes it: with the flag 1, since there is a null. We write the flag 0.
+    const SEVEN_NULL: &[u8] =
+        b"\0\0\0\x01\0\0\0\x01\0\0\0\x17\0\0\0\x02\0\0\0\x01\0\0\0\x04\0\0\0\x07\xff\xff\xff\xff";
+
+    /// These arrays as columns.
+    fn array(bytes: &[u8]) -> PgValueRef<'_> {
+        PgValueRef::new(
+            Some(bytes),
+            PgTypeInfo(PgType::Int4Array),
+            PgValueFormat::Binary,
+        )
+    }
+
+    #[test]
+    fn lists_are_written(rt: HostRuntime) -> Result<(), CodecError> {
+        let alloc = rt.alloc();
+        let mut arguments = PgArguments::new(alloc);
+        let places = [1, 2].to_vec(alloc)?;
+        let scores = [Some(7), None].to_vec(alloc)?;
+        add_lists(&mut arguments, places, scores)?;
+        let shown = hex::encode(alloc, arguments.buffer().as_slice())?;
+        assert_eq!(rt;
+            shown.as_str(),
+            "0000002400000001000000000000001700000002000000010000000400000001000000040000000200000020000000010000000000000017000000020000000100000004\
+             00000007ffffffff"
+        );
+        Ok(())
+    }
+
+    #[test]
+    fn lists_are_read(rt: HostRuntime) -> Result<(), CodecError> {
+        let alloc = rt.alloc();
+        let places = Vec::<i32>::decode(alloc, array(ONE_TWO))?;
+        assert_eq!(rt; places.as_slice(), [1, 2].as_slice());
+        let with_null = scores(alloc, array(SEVEN_NULL))?;
+        assert_eq!(rt; with_null.as_slice(), [Some(7), None].as_slice());
+        let refused = Vec::<i32>::decode(alloc, array(SEVEN_NULL));
+        assert!(rt; matches!(refused, Err(CodecError::UnexpectedNull)));
+        Ok(())
+    }
+}

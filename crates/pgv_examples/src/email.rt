@@ -1,0 +1,125 @@
+//! A domain: `create domain email as text`, known by its name and read as the text that it is over.
+
+use pgv::{
+    CodecError, Decode, Encode, IsNull, PgArgumentBuffer, PgHasArrayType, PgType, PgTypeInfo,
+    PgValueRef, ReadBack, Type, encode_text,
+};
+use std::alloc::{AllocError, Global};
+
+/// An address for letters, of the domain `email` over `text`.
+#[derive(Drop)]
+pub struct Email {
+    /// The address.
+    pub address: String,
+}
+
+/// Sent as an `email`; read under `email`, and under `text`, which is what the server says a column of a domain has.
+impl Type for Email {
+    ghost use Rattle.std.specs.Prelude.{codes, ◌||◌};
+    ghost use Rattle.pgv.specs.Words.{builtin, named, softly};
+
+    ghost info = { named (codes "email") };
+
+    ghost accepts = { λ t. softly t (named (codes "email")) || softly t (builtin 25) };
+
+    fn type_info() -> PgTypeInfo {
+        PgTypeInfo::with_name("email")
+    }
+
+    fn compatible(type_info: &PgTypeInfo) -> bool {
+        type_info.type_compatible(&Self::type_info())
+            || type_info.type_compatible(&PgTypeInfo(PgType::Text))
+    }
+}
+
+impl PgHasArrayType for Email {
+    ghost use Rattle.std.specs.Prelude.{codes};
+    ghost use Rattle.pgv.specs.Words.{array_of, softly};
+
+    ghost array_info = { array_of (codes "email") };
+
+    ghost accepts_array = { λ t. softly t (array_of (codes "email")) };
+
+    fn array_type_info() -> PgTypeInfo {
+        PgTypeInfo::array_of("email")
+    }
+
+    fn array_compatible(type_info: &PgTypeInfo) -> bool {
+        type_info.type_compatible(&Self::array_type_info())
+    }
+}
+
+/// Written as its text.
+impl Encode for Email {
+    ghost use Rattle.std.specs.Prelude.{string_bytes};
+    ghost use Rattle.pgv.specs.Words.{text_image};
+
+    ghost image = { λ email. text_image (string_bytes email.address) };
+
+    fn encode_by_ref(&self, out: &mut PgArgumentBuffer) -> Result<IsNull, CodecError> {
+        encode_text(self.address.as_str(), out)
+    }
+
+    fn size_hint(&self) -> usize {
+        0
+    }
+
+    fn produces(&self) -> Result<Option<PgTypeInfo>, AllocError> {
+        Ok(None)
+    }
+}
+
+/// Read as its text.
+impl Decode for Email {
+    ghost use Rattle.std.specs.Prelude.{ℕ, List, string_bytes};
+    ghost use Rattle.pgv.specs.Words.{plainly, text_image, text_reading};
+
+    ghost Meaning = { List ℕ };
+
+    ghost meaning = { λ email. string_bytes email.address };
+
+    ghost reading = { text_reading };
+
+    ghost written = { plainly text_image };
+
+    fn decode(alloc: Global, value: PgValueRef<'_>) -> Result<Email, CodecError> {
+        Ok(Email {
+            address: String::decode(alloc, value)?,
+        })
+    }
+}
+
+/// An address comes back as its text does.
+impl ReadBack for Email {
+    ghost use Rattle.pgv.specs.Words.{always, text_back};
+
+    ghost kept = { λ email. email };
+
+    ghost fits = { always };
+
+    ghost reads_back = { λ email. text_back email.address };
+}
+
+#[cfg(test)]
+mod tests {
+    use crate::email::Email;
+    use pgv::{
+        CodecError, Decode, Oid, PgType, PgTypeInfo, PgTypeKind, PgValueFormat, PgValueRef, Type,
+    };
+
+    #[test]
+    fn a_domain_is_read(rt: HostRuntime) -> Result<(), CodecError> {
+        let alloc = rt.alloc();
+        let text = PgTypeInfo(PgType::Text);
+        let domain = PgTypeInfo::custom(alloc, Oid(16800), "email", PgTypeKind::Domain(text))?;
+        assert!(rt; Email::compatible(&domain));
+        assert!(rt; Email::compatible(&PgTypeInfo(PgType::Text)));
+        assert!(rt; !Email::compatible(&PgTypeInfo(PgType::Int4)));
+        // A `String` is read under every domain over `text`.
+        assert!(rt; String::compatible(&domain));
+        let value = PgValueRef::new(Some(b"a@b.c"), domain, PgValueFormat::Binary);
+        let email = Email::decode(alloc, value)?;
+        assert_eq!(rt; email.address.as_str(), "a@b.c");
+        Ok(())
+    }
+}

@@ -1,0 +1,125 @@
+//! A type with a slot: what is written depends on the type of the parameter.
+//!
+//! The values of `jsonb` begin with a version, and those of `json` don't. Which one a parameter is, the server says once the statement
+//! is known; a slot holds the bytes for each case, and `apply_patches` fills it.
+
+ghost use Rattle.std.specs.Prelude.{◌≡◌, ◌++◌, [], ◌∷◌, OnOk, IfErr};
+ghost use Rattle.pgv.specs.Words.{builtin, blank, slot};
+
+use pgv::{
+    CodecError, Decode, Encode, IsNull, PgArgumentBuffer, PgType, PgTypeInfo, PgValueRef, ReadBack,
+    Type,
+};
+use std::alloc::{AllocError, Global};
+
+/// Appends a slot: a version where the parameter is `jsonb`, and else a space. A refusal leaves the buffer.
+pub(crate) fn push_version(alloc: Global, out: &mut PgArgumentBuffer) -> Result<(), CodecError>
+    ensures ok { OnOk result (out.new ≡ out.old ++ blank (slot (32 ∷ []) ((builtin 3802, 1 ∷ []) ∷ []) ∷ [])) }
+    ensures err { IfErr result (λ e. (e ≡ CodecError.Memory) × (out.new ≡ out.old)) }
+{
+    let mut version = Vec::new(alloc);
+    version.push(1)?;
+    let mut cases = Vec::new(alloc);
+    cases.push((PgTypeInfo(PgType::Jsonb), version))?;
+    out.push_slot(b" ", cases)
+}
+
+/// An empty object, of `json` or of `jsonb`.
+#[derive(Drop)]
+pub struct EmptyObject {
+    /// What the cases of its slot are allocated by.
+    pub alloc: Global,
+}
+
+impl Type for EmptyObject {
+    ghost use Rattle.pgv.specs.Words.{builtin, softly};
+
+    ghost info = { builtin 114 };
+
+    ghost accepts = { λ t. softly t (builtin 114) };
+
+    fn type_info() -> PgTypeInfo {
+        PgTypeInfo(PgType::Json)
+    }
+
+    fn compatible(type_info: &PgTypeInfo) -> bool {
+        type_info.type_compatible(&Self::type_info())
+    }
+}
+
+impl Encode for EmptyObject {
+    ghost use Rattle.std.specs.Prelude.{Some, [], ◌∷◌};
+    ghost use Rattle.pgv.specs.Words.{builtin, byte, slot, image_of};
+
+    ghost image = { λ _. Some (image_of (slot (32 ∷ []) ((builtin 3802, 1 ∷ []) ∷ []) ∷ byte 123 ∷ byte 125 ∷ [])) };
+
+    fn encode_by_ref(&self, out: &mut PgArgumentBuffer) -> Result<IsNull, CodecError> {
+        push_version(self.alloc, out)?;
+        out.extend_from_slice(b"{}")?;
+        Ok(IsNull::No)
+    }
+
+    fn size_hint(&self) -> usize {
+        0
+    }
+
+    fn produces(&self) -> Result<Option<PgTypeInfo>, AllocError> {
+        Ok(None)
+    }
+}
+
+/// An empty object, whatever byte stands in front of its braces, in either format. Other bytes are refused with C29, and null
+/// with C13.
+impl Decode for EmptyObject {
+    ghost use Rattle.std.specs.Prelude.{⊤};
+    ghost use Rattle.pgv_examples.specs.Objects.{object_reading};
+    ghost use Rattle.pgv.specs.Words.{unwritten};
+
+    ghost Meaning = { ⊤ };
+
+    ghost meaning = { λ _. tt };
+
+    ghost reading = { object_reading };
+
+    ghost written = { unwritten };
+
+    fn decode(alloc: Global, value: PgValueRef<'_>) -> Result<EmptyObject, CodecError> {
+        let bytes = value.as_bytes()?;
+        if bytes.len() == 3 && bytes[1] == b'{' && bytes[2] == b'}' {
+            return Ok(EmptyObject { alloc });
+        }
+        Err(CodecError::Syntax)
+    }
+}
+
+/// An empty object comes back, whichever case its slot shows.
+impl ReadBack for EmptyObject {
+    ghost use Rattle.pgv.specs.Words.{always};
+    ghost use Rattle.pgv_examples.specs.Objects.{object_back};
+
+    ghost kept = { λ object. object };
+
+    ghost fits = { always };
+
+    ghost reads_back = { object_back };
+}
+
+#[cfg(test)]
+mod tests {
+    use crate::empty_object::EmptyObject;
+    use pgv::{CodecError, PgArguments, PgType, PgTypeInfo};
+
+    #[test]
+    fn a_slot_is_filled(rt: HostRuntime) -> Result<(), CodecError> {
+        let alloc = rt.alloc();
+        let mut arguments = PgArguments::new(alloc);
+        arguments.add(EmptyObject { alloc })?;
+        assert_eq!(rt; arguments.buffer().as_slice(), b"\0\0\0\x03 {}".as_slice());
+        arguments.apply_patches(&[PgTypeInfo(PgType::Jsonb)], &[])?;
+        assert_eq!(rt;
+            arguments.buffer().as_slice(),
+            b"\0\0\0\x03\x01{}".as_slice()
+        );
+        Ok(())
+    }
+}

@@ -1,0 +1,38 @@
+//! Examples for who binds values, reads rows or brings types of their own: each a file, short and proved, with its tests below it.
+//!
+//! 1. [`bind`] adds the values of a statement, fills their holes, and gives the bytes that are sent.
+//! 2. [`row`] reads a row column by column, nulls too, and keeps a value after the row is gone.
+//! 3. [`arrays`] writes and reads arrays, also with nulls in them.
+//! 4. [`user_id`] is a newtype over a number.
+//! 5. [`mood`] is an enum by its labels, of a type that is known by its name.
+//! 6. [`email`] is a domain.
+//! 7. [`page`] is a composite type of fixed fields, [`pair`] one of any fields, and [`household`] one with an array in it.
+//! 8. [`empty_object`] has a slot: its bytes depend on the parameter's type.
+//! 9. [`percent`] is a codec that refuses.
+//! 10. [`read_back`] says that what was sent comes back, and proves it by the laws.
+//!
+//! All of them name the crate `pgv` alone, in code and in contracts; `docs/proving.md` has a line on each word of
+//! `Rattle.pgv.specs.Words`. [`unusual`] has types for the tests of this crate, which are the worked rows of the codec.
+#![tactic(auto)]
+
+pub mod arrays;
+#[cfg(test)]
+mod back;
+pub mod bind;
+pub mod email;
+pub mod empty_object;
+pub mod household;
+pub mod mood;
+pub mod page;
+pub mod pair;
+pub mod percent;
+pub mod read_back;
+#[cfg(test)]
+mod reading;
+pub mod row;
+#[cfg(test)]
+mod rows;
+pub mod unusual;
+pub mod user_id;
+#[cfg(test)]
+mod writing;

@@ -1,0 +1,104 @@
+//! A composite of any two types: it is written, read and read back where its fields are, whatever they are.
+//!
+//! The answer of `encode_by_ref` is `proofs/pair/PairEncode/encode_by_ref/Answers.antt`.
+
+ghost use Rattle.std.specs.Prelude.{List};
+ghost use Rattle.pgv.specs.Words.{Ty, Oid, Followed, field, FieldIsPlain};
+
+use pgv::{
+    Codec, CodecError, Decode, Encode, IsNull, PgArgumentBuffer, PgRecordEncoder, PgType,
+    PgTypeInfo, PgValueRef, ReadBack, Type,
+};
+use std::alloc::{AllocError, Global};
+
+/// A record of two fields of any types.
+#[derive(Drop)]
+pub struct Pair<A, B> {
+    /// The first field.
+    pub first: A,
+    /// The second field.
+    pub second: B,
+}
+
+impl<A, B> Type for Pair<A, B> {
+    ghost use Rattle.pgv.specs.Words.{builtin, softly};
+
+    ghost info = { builtin 2249 };
+
+    ghost accepts = { λ t. softly t (builtin 2249) };
+
+    fn type_info() -> PgTypeInfo {
+        PgTypeInfo(PgType::Record)
+    }
+
+    fn compatible(type_info: &PgTypeInfo) -> bool {
+        type_info.type_compatible(&Self::type_info())
+    }
+}
+
+impl<A: Encode + Type, B: Encode + Type> Encode for Pair<A, B> {
+    ghost use Rattle.std.specs.Prelude.{[], ◌∷◌};
+    ghost use Rattle.pgv.specs.Words.{field, record_image};
+
+    ghost image = { λ v. record_image (field A.hint A.image A.produced A.info v.first ∷ field B.hint B.image B.produced B.info v.second ∷ []) };
+
+    fn encode_by_ref(&self, out: &mut PgArgumentBuffer) -> Result<IsNull, CodecError> {
+        let mut record = PgRecordEncoder::new(out)?;
+        record.encode(&self.first)?;
+        record.encode(&self.second)?;
+        record.finish();
+        Ok(IsNull::No)
+    }
+
+    fn size_hint(&self) -> usize {
+        0
+    }
+
+    fn produces(&self) -> Result<Option<PgTypeInfo>, AllocError> {
+        Ok(None)
+    }
+}
+
+impl<A: Type + Decode, B: Type + Decode> Decode for Pair<A, B> {
+    ghost use Rattle.std.specs.Prelude.{[], ◌∷◌};
+    ghost use Rattle.pgv.specs.Words.{record_image, plainly, field_written};
+
+    ghost Meaning = { ⟦<(A, B) as Decode>⟧.Meaning };
+
+    ghost meaning = { λ v. ⟦<(A, B) as Decode>⟧.meaning (v.first, v.second) };
+
+    ghost reading = { ⟦<(A, B) as Decode>⟧.reading };
+
+    ghost written = { plainly (λ m. record_image (field_written A.info A.written m.0 ∷ field_written B.info B.written m.1 ∷ [])) };
+
+    fn decode(alloc: Global, value: PgValueRef<'_>) -> Result<Pair<A, B>, CodecError> {
+        let (first, second) = <(A, B) as Decode>::decode(alloc, value)?;
+        Ok(Pair { first, second })
+    }
+}
+
+/// A pair comes back where each field does.
+impl<A: ReadBack + Type, B: ReadBack + Type> ReadBack for Pair<A, B> {
+    ghost use Rattle.std.specs.Prelude.{[]};
+    ghost use Rattle.pgv.specs.Words.{FieldFits, FieldsFit, last_back, further_back, record_back};
+
+    ghost kept = { λ v. record { first = A.kept v.first; second = B.kept v.second } };
+
+    ghost fits = { λ v t oids. FieldsFit A.info A.produced A.hint A.image A.accepts A.fits v.first (FieldFits B.info B.produced B.image B.accepts B.fits v.second) t 0 oids };
+
+    ghost reads_back = { λ v. record_back (further_back A.info A.produced A.hint A.image A.accepts A.reading (λ x. A.meaning (A.kept x)) A.fits A.reads_back v.first (last_back B.info B.produced B.hint B.image B.accepts B.reading (λ x. B.meaning (B.kept x)) B.fits B.reads_back v.second [])) };
+}
+
+/// A pair comes back under a composite type, a domain of one or `record`, where the OID of the type at each place was written,
+/// that type is accepted, and the field comes back under it.
+pub fn pair_fits<A: ReadBack + Type, B: ReadBack + Type>()
+    ensures { (v : _) (t : Ty) (oids : List Oid) → Followed (FieldIsPlain A.info A.produced A.image A.accepts A.fits v.first) (field A.hint A.image A.produced A.info v.first) (FieldIsPlain B.info B.produced B.image B.accepts B.fits v.second) t 0 oids → ⟦<Pair<A, B> as ReadBack>⟧.fits v t oids }
+{}
+
+impl<A: Codec, B: Codec> Codec for Pair<A, B> {
+    ghost use Rattle.pgv.specs.Words.{builtin, field_agrees, same_none, same_fields, record_agrees};
+
+    ghost agrees = { λ v. record_agrees (builtin 2249) v
+        (same_fields (field_agrees A.hint A.image A.produced A.info A.meaning A.written A.agrees v.first)
+        (same_fields (field_agrees B.hint B.image B.produced B.info B.meaning B.written B.agrees v.second) same_none)) };
+}

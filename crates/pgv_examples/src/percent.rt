@@ -1,0 +1,133 @@
+//! A codec that refuses: a number from 0 to 100, and no other, is written and read.
+
+ghost use Rattle.std.specs.Prelude.{◌≡◌, true, false, IsOk, IsErrOf};
+ghost use Rattle.pgv_examples.specs.Percents.{is_percent};
+
+use pgv::{
+    CodecError, Decode, Encode, IsNull, PgArgumentBuffer, PgTypeInfo, PgValueRef, ReadBack, Type,
+};
+use std::alloc::{AllocError, Global};
+
+/// A share in percent, an `int4`.
+#[derive(Clone, Copy, Debug, PartialEq, Eq)]
+pub struct Percent {
+    /// The number, from 0 to 100. Another can be made, but is neither written nor read.
+    pub number: i32,
+}
+
+impl Percent {
+    /// Nothing where the number is from 0 to 100, and else C38(9).
+    fn check(self) -> Result<(), CodecError>
+        ensures ok { is_percent self.number ≡ true → IsOk result }
+        ensures err { is_percent self.number ≡ false → IsErrOf result (CodecError.Caller 9) }
+    {
+        if 0 <= self.number && self.number <= 100 {
+            return Ok(());
+        }
+        Err(CodecError::Caller(9))
+    }
+}
+
+impl Type for Percent {
+    ghost info = { ⟦<i32 as Type>⟧.info };
+
+    ghost accepts = { ⟦<i32 as Type>⟧.accepts };
+
+    fn type_info() -> PgTypeInfo {
+        i32::type_info()
+    }
+
+    fn compatible(type_info: &PgTypeInfo) -> bool {
+        i32::compatible(type_info)
+    }
+}
+
+/// Written as its number. Another number than 0 to 100 is refused with C38(9), and whoever called the encoder goes back.
+impl Encode for Percent {
+    ghost use Rattle.pgv_examples.specs.Percents.{percent_image};
+
+    ghost image = { λ percent. percent_image percent.number };
+
+    fn encode_by_ref(&self, out: &mut PgArgumentBuffer) -> Result<IsNull, CodecError> {
+        self.check()?;
+        self.number.encode_by_ref(out)
+    }
+
+    fn size_hint(&self) -> usize {
+        0
+    }
+
+    fn produces(&self) -> Result<Option<PgTypeInfo>, AllocError> {
+        Ok(None)
+    }
+}
+
+/// Read as a number; another than 0 to 100 is refused with C38(9).
+impl Decode for Percent {
+    ghost use Rattle.std.specs.Prelude.{ℤ};
+    ghost use Rattle.pgv.specs.Words.{plainly};
+    ghost use Rattle.pgv_examples.specs.Percents.{percent_image, percent_reading};
+
+    ghost Meaning = { ℤ };
+
+    ghost meaning = { λ percent. percent.number };
+
+    ghost reading = { percent_reading };
+
+    ghost written = { plainly percent_image };
+
+    fn decode(alloc: Global, value: PgValueRef<'_>) -> Result<Percent, CodecError> {
+        let percent = Percent {
+            number: i32::decode(alloc, value)?,
+        };
+        percent.check()?;
+        Ok(percent)
+    }
+}
+
+/// What is written is in the range, and so it is read back.
+impl ReadBack for Percent {
+    ghost use Rattle.pgv.specs.Words.{always};
+    ghost use Rattle.pgv_examples.specs.Percents.{percent_back};
+
+    ghost kept = { λ percent. percent };
+
+    ghost fits = { always };
+
+    ghost reads_back = { percent_back };
+}
+
+#[cfg(test)]
+mod tests {
+    use crate::percent::Percent;
+    use pgv::{CodecError, Decode, PgArguments, PgType, PgTypeInfo, PgValueFormat, PgValueRef};
+    use std::alloc::Global;
+
+    /// What is read of an `int4` of four bytes.
+    fn read(alloc: Global, bytes: &[u8]) -> Result<Percent, CodecError> {
+        let int4 = PgTypeInfo(PgType::Int4);
+        Percent::decode(
+            alloc,
+            PgValueRef::new(Some(bytes), int4, PgValueFormat::Binary),
+        )
+    }
+
+    #[test]
+    fn others_are_refused(rt: HostRuntime) -> Result<(), CodecError> {
+        let alloc = rt.alloc();
+        let mut arguments = PgArguments::new(alloc);
+        arguments.add(Percent { number: 100 })?;
+        for number in [-1, 101] {
+            let refused = arguments.add(Percent { number });
+            assert!(rt; matches!(refused, Err(CodecError::Caller(9))));
+        }
+        assert_eq!(rt;
+            arguments.buffer().as_slice(),
+            b"\0\0\0\x04\0\0\0\x64".as_slice()
+        );
+        assert_eq!(rt; read(alloc, b"\0\0\0\x64")?.number, 100);
+        assert!(rt; matches!(read(alloc, b"\0\0\0\x65"), Err(CodecError::Caller(9))));
+        assert!(rt; matches!(read(alloc, b"\xff\xff\xff\xff"), Err(CodecError::Caller(9))));
+        Ok(())
+    }
+}

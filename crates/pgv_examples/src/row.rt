@@ -1,0 +1,81 @@
+//! Reads a row column by column: values, values that may be null, and one that is kept after the row is gone.
+
+ghost use Rattle.std.specs.Prelude.{◌≡◌, ℕ, List, Some, IfOk};
+ghost use Rattle.std.specs.Int.{w32};
+ghost use Rattle.pgv.specs.Words.{Part, Binary, front, int_reading, builtin};
+
+use pgv::{CodecError, Decode, PgType, PgTypeInfo, PgValue, PgValueFormat, PgValueRef};
+use std::alloc::Global;
+
+/// The next column of a row in binary. Where it is refused as no frame stands there (C15, C16) the row stays; else the row goes on.
+pub fn column<'r, T: Decode>(
+    alloc: Global,
+    row: &mut &'r [u8],
+    type_info: PgTypeInfo,
+) -> Result<T, CodecError>
+    ensures { IfOk result (λ v. (part : Part) × (front row.old.now ≡ Some (part, row.new.now)) × (T.reading type_info Binary part ≡ Some (T.meaning v))) }
+{
+    let value = PgValueRef::get(row, PgValueFormat::Binary, type_info)?;
+    T::decode(alloc, value)
+}
+
+/// What is read of a row.
+#[derive(Drop)]
+pub struct Person {
+    /// The first column, an `int4`.
+    pub id: i32,
+    /// The second column, a `text` that may be null.
+    pub name: Option<String>,
+}
+
+/// A row of an `int4` and a `text` that may be null; more columns may follow.
+pub fn read_person(alloc: Global, row: &[u8]) -> Result<Person, CodecError>
+    ensures first { IfOk result (λ person. (id : Part) × (rest : List ℕ) × (front row.now ≡ Some (id, rest)) × (int_reading w32 (builtin 23) Binary id ≡ Some person.id)) }
+    ensures second { IfOk result (λ person. (id : Part) × (rest : List ℕ) × (name : Part) × (more : List ℕ) × (front row.now ≡ Some (id, rest)) × (front rest ≡ Some (name, more)) × (⟦<Option<String> as Decode>⟧.reading (builtin 25) Binary name ≡ Some (⟦<Option<String> as Decode>⟧.meaning person.name))) }
+{
+    let mut rest = row;
+    let id: i32 = column(alloc, &mut rest, PgTypeInfo(PgType::Int4))?;
+    let name: Option<String> = column(alloc, &mut rest, PgTypeInfo(PgType::Text))?;
+    Ok(Person { id, name })
+}
+
+/// The next column of a row, kept as it is after the row is gone.
+pub fn keep(alloc: Global, row: &mut &[u8], type_info: PgTypeInfo) -> Result<PgValue, CodecError>
+    ensures { IfOk result (λ value. front row.old.now ≡ Some (value.bytes, row.new.now)) }
+{
+    let value = PgValueRef::get(row, PgValueFormat::Binary, type_info)?;
+    value.to_owned(alloc)
+}
+
+#[cfg(test)]
+mod tests {
+    use crate::row::{column, keep, read_person};
+    use pgv::{CodecError, Decode, PgType, PgTypeInfo};
+
+    /// The number 7 and the text `seven`.
+    const SEVEN: &[u8] = b"\0\0\0\x04\0\0\0\x07\0\0\0\x05seven";
+
+    #[test]
+    fn rows_of_persons(rt: HostRuntime) -> Result<(), CodecError> {
+        let seven = read_person(rt.alloc(), SEVEN)?;
+        assert_eq!(rt; seven.id, 7);
+        let named = seven.name.is_some_and(|name| name.as_str() == "seven");
+        assert!(rt; named);
+        let unnamed = read_person(rt.alloc(), b"\0\0\0\x04\0\0\0\x07\xff\xff\xff\xff")?;
+        assert!(rt; unnamed.name.is_none());
+        let null = read_person(rt.alloc(), b"\xff\xff\xff\xff\0\0\0\x05seven");
+        assert!(rt; matches!(null, Err(CodecError::UnexpectedNull)));
+        Ok(())
+    }
+
+    #[test]
+    fn a_column_is_kept(rt: HostRuntime) -> Result<(), CodecError> {
+        let mut rest = SEVEN;
+        let value = keep(rt.alloc(), &mut rest, PgTypeInfo(PgType::Int4))?;
+        let name: String = column(rt.alloc(), &mut rest, PgTypeInfo(PgType::Text))?;
+        assert_eq!(rt; name.as_str(), "seven");
+        assert!(rt; rest.is_empty());
+        assert_eq!(rt; i32::decode(rt.alloc(), value.as_ref()?)?, 7);
+        Ok(())
+    }
+}

@@ -1,0 +1,107 @@
+//! A newtype over a number: each impl is that of `i32`.
+
+use pgv::{
+    CodecError, Decode, Encode, IsNull, PgArgumentBuffer, PgHasArrayType, PgTypeInfo, PgValueRef,
+    ReadBack, Type,
+};
+use std::alloc::{AllocError, Global};
+
+/// The number of a user, an `int4`.
+#[derive(Clone, Copy, Debug, PartialEq, Eq)]
+pub struct UserId(pub i32);
+
+impl Type for UserId {
+    ghost info = { ⟦<i32 as Type>⟧.info };
+
+    ghost accepts = { ⟦<i32 as Type>⟧.accepts };
+
+    fn type_info() -> PgTypeInfo {
+        i32::type_info()
+    }
+
+    fn compatible(type_info: &PgTypeInfo) -> bool {
+        i32::compatible(type_info)
+    }
+}
+
+impl PgHasArrayType for UserId {
+    ghost array_info = { ⟦<i32 as PgHasArrayType>⟧.array_info };
+
+    ghost accepts_array = { ⟦<i32 as PgHasArrayType>⟧.accepts_array };
+
+    fn array_type_info() -> PgTypeInfo {
+        i32::array_type_info()
+    }
+
+    fn array_compatible(type_info: &PgTypeInfo) -> bool {
+        i32::array_compatible(type_info)
+    }
+}
+
+/// Written as its number.
+impl Encode for UserId {
+    ghost image = { λ id. ⟦<i32 as Encode>⟧.image id.0 };
+
+    fn encode_by_ref(&self, out: &mut PgArgumentBuffer) -> Result<IsNull, CodecError> {
+        self.0.encode_by_ref(out)
+    }
+
+    fn size_hint(&self) -> usize {
+        0
+    }
+
+    fn produces(&self) -> Result<Option<PgTypeInfo>, AllocError> {
+        Ok(None)
+    }
+}
+
+/// Read as its number.
+impl Decode for UserId {
+    ghost Meaning = { ⟦<i32 as Decode>⟧.Meaning };
+
+    ghost meaning = { λ id. ⟦<i32 as Decode>⟧.meaning id.0 };
+
+    ghost reading = { ⟦<i32 as Decode>⟧.reading };
+
+    ghost written = { ⟦<i32 as Decode>⟧.written };
+
+    fn decode(alloc: Global, value: PgValueRef<'_>) -> Result<UserId, CodecError> {
+        Ok(UserId(i32::decode(alloc, value)?))
+    }
+}
+
+/// What is written of a number of a user is read as the same, under every type.
+impl ReadBack for UserId {
+    ghost use Rattle.pgv.specs.Words.{always, int4_back};
+
+    ghost kept = { λ id. id };
+
+    ghost fits = { always };
+
+    ghost reads_back = { λ id. int4_back id.0 };
+}
+
+#[cfg(test)]
+mod tests {
+    use crate::user_id::UserId;
+    use pgv::{CodecError, Decode, PgArguments, PgTypeInfo, PgValueFormat, PgValueRef, Type};
+
+    #[test]
+    fn a_user_is_bound_and_read(rt: HostRuntime) -> Result<(), CodecError> {
+        let alloc = rt.alloc();
+        let mut arguments = PgArguments::new(alloc);
+        arguments.add(UserId(7))?;
+        arguments.add([UserId(8)])?;
+        let mut rest = arguments.buffer().as_slice();
+        assert_eq!(rt;
+            rest,
+            b"\0\0\0\x04\0\0\0\x07\0\0\0\x1c\0\0\0\x01\0\0\0\0\0\0\0\x17\0\0\0\x01\0\0\0\x01\0\0\0\x04\0\0\0\x08".as_slice()
+        );
+        let int4 = UserId::type_info();
+        assert!(rt; UserId::compatible(&int4));
+        assert!(rt; !UserId::compatible(&PgTypeInfo::with_name("mood")));
+        let value = PgValueRef::get(&mut rest, PgValueFormat::Binary, int4)?;
+        assert_eq!(rt; UserId::decode(alloc, value)?, UserId(7));
+        Ok(())
+    }
+}
