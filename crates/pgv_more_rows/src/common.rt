@@ -82,10 +82,6 @@ pub fn read_text<T: Decode + Encode>(
 /// Null is refused in both formats with C13.
 pub fn refuses_null<T: Type + Decode + Encode>(rt: &impl Abort, alloc: Global) {
     for format in [PgValueFormat::Text, PgValueFormat::Binary] {
-        compare(
-            rt,
-            again::<T>(alloc, None, format, T::type_info()),
-            Err(13),
-        );
+        compare(rt, again::<T>(alloc, None, format, T::type_info()), Err(13));
     }
 }

@@ -139,12 +139,7 @@ fn in_binary(rt: HostRuntime) -> Result<(), Fail> {
     read_under::<PgRange<i32>>(&rt, alloc, by_name, ONE_TO_TEN, Err(23))?;
     read_under::<PgRange<i32>>(&rt, alloc, PgTypeInfo(PgType::Int4), ONE_TO_TEN, Err(23))?;
     refuses_null::<PgRange<i32>>(&rt, alloc);
-    let null = again::<PgRange<i32>>(
-        alloc,
-        None,
-        PgValueFormat::Binary,
-        PgTypeInfo(PgType::Int4),
-    );
+    let null = again::<PgRange<i32>>(alloc, None, PgValueFormat::Binary, PgTypeInfo(PgType::Int4));
     compare(&rt, null, Err(13));
     assert!(rt; PgRange::<i32>::compatible(&PgTypeInfo(PgType::Int4Range)));
     assert!(rt; !PgRange::<i32>::compatible(&PgTypeInfo(PgType::Int8Range)));
