@@ -4,8 +4,8 @@
 //!
 //! # A composite type of one's own
 //!
-//! A caller's record writes its fields by a [`PgRecordEncoder`]; each goes by reference. The crate `pgv_callers` has such
-//! records, and other types of callers, with their proofs.
+//! A caller's record writes its fields by a [`PgRecordEncoder`]; each goes by reference. The crate `pgv_examples` has such
+//! records, and other types of users, with their proofs.
 //!
 //! ```text
 //! impl Encode for Person {

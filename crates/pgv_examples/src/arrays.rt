@@ -30,6 +30,7 @@ pub fn scores(alloc: Global, column: PgValueRef<'_>) -> Result<Vec<Option<i32>>,
 mod tests {
     use crate::arrays::{add_lists, scores};
     use pgv::{CodecError, Decode, PgArguments, PgType, PgTypeInfo, PgValueFormat, PgValueRef};
+    use std::alloc::Global;
 
     /// `{1,2}` as the server writes it.
     const ONE_TWO: &[u8] =
@@ -48,13 +49,19 @@ mod tests {
         )
     }
 
-    #[test]
-    fn lists_are_written(rt: HostRuntime) -> Result<(), CodecError> {
-        let alloc = rt.alloc();
+    /// Two lists, added.
+    fn lists(alloc: Global) -> Result<PgArguments, CodecError> {
         let mut arguments = PgArguments::new(alloc);
         let places = [1, 2].to_vec(alloc)?;
         let scores = [Some(7), None].to_vec(alloc)?;
         add_lists(&mut arguments, places, scores)?;
+        Ok(arguments)
+    }
+
+    #[test]
+    fn lists_are_written(rt: HostRuntime) -> Result<(), CodecError> {
+        let alloc = rt.alloc();
+        let arguments = lists(alloc)?;
         let shown = hex::encode(alloc, arguments.buffer().as_slice())?;
         assert_eq!(rt;
             shown.as_str(),

@@ -72,32 +72,34 @@ fn read_first<T: Decode>(
     T::decode(alloc, value)
 }
 
+/// The value that is read of one that was added and filled.
+fn again<T: Encode + Type + Decode>(
+    alloc: Global,
+    value: T,
+    oids: &[Oid],
+    type_info: PgTypeInfo,
+) -> Result<T, CodecError> {
+    let arguments = filled(alloc, value, oids)?;
+    read_first(alloc, &arguments, type_info)
+}
+
 #[test]
 fn a_list_of_moods_comes_back(rt: HostRuntime) -> Result<(), CodecError> {
     let alloc = rt.alloc();
-    let mut moods = Vec::new(alloc);
-    moods.push(Mood::Fine)?;
-    let arguments = filled(alloc, moods, &[Oid(16500)])?;
-    let moods: Vec<Mood> = read_first(alloc, &arguments, moods_type(alloc)?)?;
-    assert_eq!(rt; moods.len(), 1);
-    for mood in &moods {
-        assert_eq!(rt; mood.label(), "ok");
-    }
+    let moods = [Mood::Fine].to_vec(alloc)?;
+    let same = again(alloc, moods, &[Oid(16500)], moods_type(alloc)?)?;
+    assert_eq!(rt; same.as_slice(), [Mood::Fine].as_slice());
     Ok(())
 }
 
 #[test]
 fn an_empty_list_of_moods_comes_back(rt: HostRuntime) -> Result<(), CodecError> {
     let alloc = rt.alloc();
-    let arguments = filled(alloc, Vec::<Mood>::new(alloc), &[Oid(16500)])?;
-    let moods: Vec<Mood> = read_first(alloc, &arguments, moods_type(alloc)?)?;
-    assert!(rt; moods.is_empty());
+    let none = Vec::<Mood>::new(alloc);
+    let same = again(alloc, none, &[Oid(16500)], moods_type(alloc)?)?;
+    assert!(rt; same.is_empty());
     // The type `text` has no elements, and no built-in type has the OID that was written.
-    let under_text: Result<Vec<Mood>, CodecError> = read_first(
-        alloc,
-        &arguments,
-        PgTypeInfo(PgType::Text),
-    );
+    let under_text = again(alloc, same, &[Oid(16500)], PgTypeInfo(PgType::Text));
     assert!(rt; matches!(under_text, Err(CodecError::ElementType(Oid(16500)))));
     Ok(())
 }
@@ -105,30 +107,45 @@ fn an_empty_list_of_moods_comes_back(rt: HostRuntime) -> Result<(), CodecError> 
 #[test]
 fn a_page_comes_back(rt: HostRuntime) -> Result<(), CodecError> {
     let alloc = rt.alloc();
-    let arguments = filled(alloc, page(alloc)?, &[Oid(16500)])?;
-    let same: Page = read_first(alloc, &arguments, page_type(alloc)?)?;
+    let same = again(alloc, page(alloc)?, &[Oid(16500)], page_type(alloc)?)?;
     assert!(rt; is_that(alloc, &same)?);
-    // With another OID in the hole the second field is not the composite's.
-    let arguments = filled(alloc, same, &[Oid(16501)])?;
-    let other: Result<Page, CodecError> = read_first(alloc, &arguments, page_type(alloc)?);
+    Ok(())
+}
+
+/// With another OID in the hole the second field is not the composite's.
+#[test]
+fn a_page_with_another_field(rt: HostRuntime) -> Result<(), CodecError> {
+    let alloc = rt.alloc();
+    let other = again(alloc, page(alloc)?, &[Oid(16501)], page_type(alloc)?);
     assert!(rt; matches!(other, Err(CodecError::FieldOid)));
     Ok(())
+}
+
+/// One page.
+fn pages(alloc: Global) -> Result<Vec<Page>, CodecError> {
+    let mut pages = Vec::new(alloc);
+    pages.push(page(alloc)?)?;
+    Ok(pages)
 }
 
 #[test]
 fn a_list_of_pages_comes_back(rt: HostRuntime) -> Result<(), CodecError> {
     let alloc = rt.alloc();
-    let mut pages = Vec::new(alloc);
-    pages.push(page(alloc)?)?;
-    let arguments = filled(alloc, pages, &[Oid(16700), Oid(16500)])?;
-    let pages: Vec<Page> = read_first(alloc, &arguments, pages_type(alloc)?)?;
-    assert_eq!(rt; pages.len(), 1);
-    for same in &pages {
-        assert!(rt; is_that(alloc, same)?);
+    let oids = [Oid(16700), Oid(16500)];
+    let same = again(alloc, pages(alloc)?, &oids, pages_type(alloc)?)?;
+    assert_eq!(rt; same.len(), 1);
+    for page in &same {
+        assert!(rt; is_that(alloc, page)?);
     }
-    // The OID of `text` in the first hole: the element is read under `text`, which is no record.
-    let arguments = filled(alloc, pages, &[Oid(25), Oid(16500)])?;
-    let others: Result<Vec<Page>, CodecError> = read_first(alloc, &arguments, pages_type(alloc)?);
+    Ok(())
+}
+
+/// The OID of `text` in the first hole: the element is read under `text`, which is no record.
+#[test]
+fn a_list_of_texts_is_no_list_of_pages(rt: HostRuntime) -> Result<(), CodecError> {
+    let alloc = rt.alloc();
+    let oids = [Oid(25), Oid(16500)];
+    let others = again(alloc, pages(alloc)?, &oids, pages_type(alloc)?);
     assert!(rt; matches!(others, Err(CodecError::NotARecord)));
     Ok(())
 }

@@ -72,23 +72,44 @@ pub fn parameters_of_bind(alloc: Global, arguments: &PgArguments) -> Result<Vec<
 mod tests {
     use crate::bind::{arguments_of_search, fill, parameters_of_bind};
     use crate::mood::Mood;
-    use pgv::{CodecError, Oid, PgType, PgTypeInfo, PgTypeKind};
+    use pgv::{CodecError, Oid, PgArguments, PgType, PgTypeInfo, PgTypeKind};
+    use std::alloc::Global;
 
-    #[test]
-    fn a_search_is_bound(rt: HostRuntime) -> Result<(), CodecError> {
-        let alloc = rt.alloc();
+    /// The arguments of a search for one mood.
+    fn search(alloc: Global) -> Result<PgArguments, CodecError> {
         let moods = [Mood::Fine].to_vec(alloc)?;
         let name = String::from_str(alloc, "seven")?;
-        let mut arguments = arguments_of_search(alloc, 7, name, moods)?;
-        let mood = PgTypeInfo::custom(alloc, Oid(16600), "mood", PgTypeKind::Simple)?;
+        arguments_of_search(alloc, 7, name, moods)
+    }
+
+    /// Fills the arguments of a search with what a server told.
+    fn fill_search(
+        alloc: Global,
+        arguments: &mut PgArguments,
+        known: &[PgTypeInfo],
+    ) -> Result<(), CodecError> {
         let parameters = [
             PgTypeInfo(PgType::Int4),
             PgTypeInfo(PgType::Text),
             PgTypeInfo::array_of("mood"),
         ];
-        let unknown = fill(alloc, &mut arguments, &parameters, &[]);
+        fill(alloc, arguments, &parameters, known)
+    }
+
+    #[test]
+    fn a_type_has_to_be_known(rt: HostRuntime) -> Result<(), CodecError> {
+        let mut arguments = search(rt.alloc())?;
+        let unknown = fill_search(rt.alloc(), &mut arguments, &[]);
         assert!(rt; matches!(unknown, Err(CodecError::Caller(1))));
-        fill(alloc, &mut arguments, &parameters, &[mood])?;
+        Ok(())
+    }
+
+    #[test]
+    fn a_search_is_bound(rt: HostRuntime) -> Result<(), CodecError> {
+        let alloc = rt.alloc();
+        let mut arguments = search(alloc)?;
+        let mood = PgTypeInfo::custom(alloc, Oid(16600), "mood", PgTypeKind::Simple)?;
+        fill_search(alloc, &mut arguments, &[mood])?;
         let message = parameters_of_bind(alloc, &arguments)?;
         let shown = hex::encode(alloc, message.as_slice())?;
         assert_eq!(rt;

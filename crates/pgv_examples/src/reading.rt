@@ -357,6 +357,31 @@ fn tuples_of_the_first_fields(rt: HostRuntime) -> Result<(), AllocError> {
     Ok(())
 }
 
+/// The next field is no number, and is refused as often as it is read as one.
+fn refused_twice(rt: &impl Abort, fields: &mut PgRecordDecoder<'_>) {
+    for _ in 0..2 {
+        let refused = fields.try_decode::<i32>();
+        assert!(rt; matches!(refused, Err(CodecError::Syntax)));
+    }
+}
+
+/// The next field is this text.
+fn check_next(
+    rt: &impl Abort,
+    fields: &mut PgRecordDecoder<'_>,
+    wanted: &str,
+) -> Result<(), CodecError> {
+    let text = fields.try_decode::<String>()?;
+    assert_eq!(rt; text.as_str(), wanted);
+    Ok(())
+}
+
+/// There is no third field.
+fn check_end(rt: &impl Abort, fields: &mut PgRecordDecoder<'_>) {
+    let refused = fields.try_decode::<i32>();
+    assert!(rt; matches!(refused, Err(CodecError::NoField(2))));
+}
+
 #[test]
 fn fields_one_by_one(rt: HostRuntime) -> Result<(), CodecError> {
     let alloc = rt.alloc();
@@ -369,8 +394,8 @@ fn fields_one_by_one(rt: HostRuntime) -> Result<(), CodecError> {
     // A field that is refused is read again.
     assert!(rt; matches!(fields.try_decode::<i64>(), Err(CodecError::MismatchedTypes)));
     assert_eq!(rt; fields.try_decode::<i32>()?, 1);
-    assert_eq!(rt; fields.try_decode::<String>()?.as_str(), "a");
-    assert!(rt; matches!(fields.try_decode::<i32>(), Err(CodecError::NoField(2))));
+    check_next(&rt, &mut fields, "a")?;
+    check_end(&rt, &mut fields);
     Ok(())
 }
 
@@ -390,11 +415,9 @@ fn parts_of_texts(rt: HostRuntime) -> Result<(), CodecError> {
         PgValueFormat::Text,
     );
     let mut fields = PgRecordDecoder::new(alloc, value)?;
-    // A field that is refused is read again.
-    assert!(rt; matches!(fields.try_decode::<i32>(), Err(CodecError::Syntax)));
-    assert!(rt; matches!(fields.try_decode::<i32>(), Err(CodecError::Syntax)));
-    assert_eq!(rt; fields.try_decode::<String>()?.as_str(), "x");
+    refused_twice(&rt, &mut fields);
+    check_next(&rt, &mut fields, "x")?;
     assert_eq!(rt; fields.try_decode::<i32>()?, 2);
-    assert!(rt; matches!(fields.try_decode::<i32>(), Err(CodecError::NoField(2))));
+    check_end(&rt, &mut fields);
     Ok(())
 }

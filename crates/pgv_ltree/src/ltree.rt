@@ -45,6 +45,7 @@ impl PgLTree {
     }
 
     /// The tree of these labels.
+    /// The labels `a` and `b` are the tree `a.b`.
     pub fn from_labels(labels: Vec<PgLTreeLabel>) -> PgLTree
         ensures { result ≡ labels.items }
     {

@@ -43,6 +43,7 @@ impl BitVec {
     }
 
     /// These bits, the first of them first.
+    /// `[true, false, true]` is `101`.
     pub fn from_bits(alloc: Global, bits: Vec<bool>) -> Result<BitVec, AllocError>
         ensures { IfOk result (λ b. b ≡ bits.items) }
     {
@@ -121,6 +122,7 @@ impl BitVec {
     }
 
     /// The bit at this place, from 0 on, where there is one.
+    /// Of `101` the bit at 1 is false, and at 3 there is none.
     pub fn get(&self, index: usize) -> Option<bool>
         ensures { result ≡ slice_get self.now index }
     {

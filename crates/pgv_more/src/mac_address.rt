@@ -25,6 +25,7 @@ impl Model for MacAddress {
 
 impl MacAddress {
     /// The address of six bytes, the first of them first.
+    /// `[8, 0, 43, 1, 2, 3]` is `08:00:2b:01:02:03`.
     pub fn new(bytes: [u8; 6]) -> MacAddress
         ensures { result ≡ bytes }
     {

@@ -20,6 +20,7 @@ pub struct PgMoney(pub i64);
 
 impl PgMoney {
     /// The sum, where it is a number of 64 bits.
+    /// Of the greatest amount and one more there is none.
     pub fn checked_add(self, rhs: PgMoney) -> Option<PgMoney>
         ensures found { IsSome result ↔ FitsSigned w64 (self.0 +ℤ rhs.0) }
         ensures value { IfSome result (λ sum. sum.0 ≡ self.0 +ℤ rhs.0) }

@@ -16,6 +16,7 @@ pub struct Ipv4Network {
 
 impl Ipv4Network {
     /// The network of an address and a prefix, which is at most 32.
+    /// `192.168.0.0` and 24 are `192.168.0.0/24`; with 33 there is none.
     pub fn new(ip: Ipv4Addr, prefix: u8) -> Option<Ipv4Network>
         ensures found { IsSome result ↔ (prefix ≤ 32) }
         ensures value { IfSome result (λ network. (network.ip ≡ ip) × (network.prefix ≡ prefix)) }

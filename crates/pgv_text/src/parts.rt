@@ -147,6 +147,7 @@ impl<'a> Parts<'a> {
     }
 
     /// The next part, in a text of its own.
+    /// Of the array `{a,NULL}` they are `a` and null, and then there is none.
     pub fn next_part(&mut self, alloc: Global) -> Result<Option<Option<String>>, AllocError>
         ensures next { IfOk result (λ found. MatchOption found (((nest self.old).values ≡ []) × (self.new ≡ self.old)) (λ part. (nest self.old).values ≡ part_bytes part ∷ (nest self.new).values)) }
         ensures lower { (nest self.new).lower ≡ (nest self.old).lower }

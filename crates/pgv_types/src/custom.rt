@@ -18,6 +18,7 @@ pub struct PgCustomType {
 
 impl PgCustomType {
     /// The type's own OID, of a domain too.
+    /// Of the type that `custom(alloc, Oid(16600), "mood", ..)` made it is 16600.
     pub fn oid(&self) -> Oid
         ensures { result.0 ≡ custom_oid self.now }
     {

@@ -394,6 +394,7 @@ impl PgTypeInfo {
     }
 
     /// An array that is declared by its element's name. It takes no memory.
+    /// `array_of("mood")` is named `mood[]`.
     pub fn array_of(elem_name: &'static str) -> PgTypeInfo
         ensures { result ≡ array_of elem_name.now }
     {

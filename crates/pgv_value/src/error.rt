@@ -135,6 +135,7 @@ pub enum CodecError {
 
 impl CodecError {
     /// The public number of a refusal: n of Cn.
+    /// `CodecError::UnexpectedNull` is 13.
     pub fn code(&self) -> u8
         ensures { result ≡ code_of self.now }
     {

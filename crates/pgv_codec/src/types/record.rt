@@ -43,6 +43,7 @@ impl<'a> PgRecordEncoder<'a> {
     ghost use Rattle.pgv_codec.specs.WrittenView.{buffer, written};
 
     /// Begins a record after what the buffer has. C1 leaves the buffer as it was.
+    /// The number of fields comes first: `00000000` as long as there is none.
     pub fn new(out: &'a mut PgArgumentBuffer) -> Result<PgRecordEncoder<'a>, CodecError>
         ensures same_reference { IfOk result (λ e. e.out.ghost_name ≡ out.entry.ghost_name) }
         ensures begun { IfOk result (λ e. written e ≡ begun out.old) }

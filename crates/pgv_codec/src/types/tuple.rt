@@ -24,7 +24,7 @@ fn records() -> PgTypeInfo
     PgTypeInfo(PgType::RecordArray)
 }
 
-/// The first field of a record. Further fields are ignored.
+/// The first field of a record. Further fields are ignored. `00000001 00000017 00000004 00000007` is `(7,)`, and so is the text `(7)`.
 impl<A: Type + Decode> Decode for (A,) {
     ghost use Rattle.pgv_nest.specs.RecordGrammar.{next};
     ghost use Rattle.pgv_nest.specs.TupleGrammar.{record_of};
@@ -77,7 +77,8 @@ impl<A> PgHasArrayType for (A,) {
     }
 }
 
-/// The first two fields of a record. Further fields are ignored.
+/// The first two fields of a record. Further fields are ignored. `00000002 00000017 00000004 00000001 00000019 00000001 61` is `(1, "a")`,
+/// and so is the text `(1,a)`.
 impl<A: Type + Decode, B: Type + Decode> Decode for (A, B) {
     ghost use Rattle.pgv_nest.specs.RecordGrammar.{next};
     ghost use Rattle.pgv_nest.specs.TupleGrammar.{record_of, ◌then◌};

@@ -45,6 +45,7 @@ impl PgHasArrayType for Uuid {
 }
 
 /// Written as its sixteen bytes.
+/// `00000000-0000-0000-0000-000000000007` is fifteen bytes `00` and `07`.
 impl Encode for Uuid {
     ghost image = { uuid_image };
 

@@ -82,6 +82,7 @@ impl<const N: usize> PgHasArrayType for PgByteaArray<N> {
 }
 
 /// Written as the bytes.
+/// `[1, 255]` is `01ff`.
 impl<const N: usize> Encode for PgByteaArray<N> {
     ghost image = { λ b. sized_image N b.0 };
 

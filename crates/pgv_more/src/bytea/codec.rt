@@ -44,6 +44,7 @@ impl PgHasArrayType for PgBytea {
 }
 
 /// Written as the bytes.
+/// The bytes 1 and 255 are `01ff`.
 impl Encode for PgBytea {
     ghost image = { λ b. plain_image b.0.items };
 

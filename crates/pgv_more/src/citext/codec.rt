@@ -46,6 +46,7 @@ impl PgHasArrayType for PgCiText {
 }
 
 /// Written as its bytes.
+/// `Ab` is `4162`.
 impl Encode for PgCiText {
     ghost image = { λ text. text_image (string_bytes text.0) };
 

@@ -41,6 +41,7 @@ impl PgHasArrayType for MacAddress {
 }
 
 /// An address is written as its six bytes.
+/// `08:00:2b:01:02:03` is `08002b010203`.
 impl Encode for MacAddress {
     ghost image = { mac_image };
 
