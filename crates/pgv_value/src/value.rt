@@ -231,6 +231,7 @@ impl<'r> PgValueRef<'r> {
 
     /// The bytes as text, in either format, which lives as long as the row. Null is refused with C13, and bytes
     /// that are not UTF-8 with C14.
+    #[inline(always)]
     #[tactic(auto, using(crate::proofs::Text::whole_text))]
     pub fn as_str(&self) -> Result<&'r str, CodecError>
         ensures found { IfOk result (λ s. self.now.bytes ≡ Some s.now) }
