@@ -31,6 +31,7 @@ impl Clone for Slot {
 }
 
 /// Writes bytes over those at a place.
+#[inline(always)]
 fn put_bytes(bytes: &mut Vec<u8>, place: usize, written: &[u8])
     requires { place + length written.now ≤ length bytes.old.items }
     ensures { bytes.new.items ≡ put place written.now bytes.old.items }
@@ -41,6 +42,7 @@ fn put_bytes(bytes: &mut Vec<u8>, place: usize, written: &[u8])
 }
 
 /// Writes a number as four bytes, the highest first.
+#[inline(always)]
 pub(crate) fn put_number(bytes: &mut Vec<u8>, place: usize, value: u32)
     requires { place + 4 ≤ length bytes.old.items }
     ensures { bytes.new.items ≡ put place (be4 value) bytes.old.items }

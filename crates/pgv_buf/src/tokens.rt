@@ -59,6 +59,7 @@ impl Tokens {
     }
 
     /// How many bytes are shown.
+    #[inline(always)]
     pub fn len(&self) -> usize
         ensures { result ≡ width self.now }
     {
@@ -89,6 +90,7 @@ impl Tokens {
     }
 
     /// Appends a byte.
+    #[inline(always)]
     pub fn push(&mut self, value: u8) -> Result<(), AllocError>
         ensures ok { OnOk result (self.new ≡ self.old ++ blank (byte value ∷ [])) }
         ensures err { OnErr result (self.new ≡ self.old) }
@@ -98,6 +100,7 @@ impl Tokens {
     }
 
     /// Appends bytes.
+    #[inline(always)]
     pub fn extend_from_slice(&mut self, values: &[u8]) -> Result<(), AllocError>
         ensures ok { OnOk result (self.new ≡ self.old ++ blank (bytes values.now)) }
         ensures err { OnErr result (self.new ≡ self.old) }
@@ -171,6 +174,7 @@ impl Clone for Tokens {
 
 impl Tokens {
     /// How far the list has come.
+    #[inline(always)]
     pub fn mark(&self) -> Mark
         ensures { result ≡ mark_of self.now }
     {
@@ -194,6 +198,7 @@ impl Tokens {
     }
 
     /// Puts a number, the highest byte first, in place of the four bytes after a mark.
+    #[inline(always)]
     pub fn put_u32(&mut self, mark: Mark, value: u32)
         requires { (front : List Cell) × (xs : List ℕ) × (rest : List Cell) × (self.old ≡ front ++ fixed_bytes xs ++ rest) × (length xs ≡ 4) × (mark ≡ mark_of front) }
         ensures { (front : List Cell) (xs : List ℕ) (rest : List Cell) → self.old ≡ front ++ fixed_bytes xs ++ rest → length xs ≡ 4 → mark ≡ mark_of front → self.new ≡ front ++ fixed_bytes (be4 value) ++ rest }

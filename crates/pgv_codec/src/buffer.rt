@@ -64,6 +64,7 @@ impl PgArgumentBuffer {
     }
 
     /// How many bytes there are; a hole is four.
+    #[inline(always)]
     pub fn len(&self) -> usize
         ensures { result ≡ width self.now }
     {
@@ -87,6 +88,7 @@ impl PgArgumentBuffer {
     }
 
     /// Appends a byte. C1 leaves the buffer as it was.
+    #[inline(always)]
     pub fn push(&mut self, value: u8) -> Result<(), CodecError>
         ensures ok { OnOk result (self.new ≡ self.old ++ blank (byte value ∷ [])) }
         ensures err { IfErr result (λ e. (e ≡ Memory) × (self.new ≡ self.old)) }
@@ -96,6 +98,7 @@ impl PgArgumentBuffer {
     }
 
     /// Appends bytes. C1 leaves the buffer as it was.
+    #[inline(always)]
     pub fn extend_from_slice(&mut self, values: &[u8]) -> Result<(), CodecError>
         ensures ok { OnOk result (self.new ≡ self.old ++ blank (bytes values.now)) }
         ensures err { IfErr result (λ e. (e ≡ Memory) × (self.new ≡ self.old)) }
@@ -138,6 +141,7 @@ impl PgArgumentBuffer {
     /// Appends one frame: a length of four bytes, and that many bytes of the value; the length -1 for null, as `0000000400000007`
     /// for 7 and `ffffffff` for None. A size hint above 2147483647 is refused with C2 before anything is written; a value that is refused
     /// later may have appended something.
+    #[inline(always)]
     pub fn encode<T: Encode>(&mut self, value: &T) -> Result<(), CodecError>
         ensures ok { OnOk result (AppendedAll (frame (T.hint value.now) (T.image value.now)) self.old self.new) }
         ensures err { IfErr result (λ e. Refused e (frame (T.hint value.now) (T.image value.now))) }
@@ -189,6 +193,7 @@ impl PgArgumentBuffer {
     }
 
     /// A number as four bytes.
+    #[inline(always)]
     pub(crate) fn push_u32(&mut self, value: u32) -> Result<(), CodecError>
         ensures ok { OnOk result (self.new ≡ self.old ++ blank (bytes (be4 value))) }
         ensures number { value < 4294967296 }
@@ -199,6 +204,7 @@ impl PgArgumentBuffer {
     }
 
     /// A type, as an element's or a field's is written.
+    #[inline(always)]
     pub(crate) fn push_type(&mut self, written: PgTypeInfo) -> Result<(), CodecError>
         ensures ok { OnOk result (AppendedAll (typed written) self.old self.new) }
         ensures err { IfErr result (λ e. (e ≡ Memory) × (self.new ≡ self.old)) }
@@ -210,6 +216,7 @@ impl PgArgumentBuffer {
     }
 
     /// How many bytes, holes and slots there are: a place that [`back`](PgArgumentBuffer::back) goes back to.
+    #[inline(always)]
     pub fn mark(&self) -> Mark
         ensures { result ≡ mark_of self.now }
     {
@@ -225,6 +232,7 @@ impl PgArgumentBuffer {
     }
 
     /// A number in place of four bytes.
+    #[inline(always)]
     pub(crate) fn put_u32(&mut self, mark: Mark, value: u32)
         requires { (front : List Cell) × (xs : List ℕ) × (rest : List Cell) × (self.old ≡ front ++ fixed_bytes xs ++ rest) × (length xs ≡ 4) × (mark ≡ mark_of front) }
         ensures { (front : List Cell) (xs : List ℕ) (rest : List Cell) → self.old ≡ front ++ fixed_bytes xs ++ rest → length xs ≡ 4 → mark ≡ mark_of front → self.new ≡ front ++ fixed_bytes (be4 value) ++ rest }

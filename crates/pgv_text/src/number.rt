@@ -58,6 +58,7 @@ fn fault_of(is_number: bool) -> NumberFault
 
 /// The number of a text: perhaps `+` or `-`, and one or more digits, as PostgreSQL writes `int2`,
 /// `int4` and `int8`. A refusal says whether the text is no number, or one outside 64 bits.
+#[inline(always)]
 pub fn number_of(text: &str) -> Result<i64, NumberFault>
     // The number that the text is, and why it is none that fits.
     ensures reads { IsRead text.now result }

@@ -110,6 +110,7 @@ impl<'a> Parts<'a> {
 
     /// Puts the next part into a text, and says whether it is present: one that is null or absent
     /// leaves the text empty. `None` after the last part.
+    #[inline(always)]
     pub fn next_into(&mut self, text: &mut String) -> Result<Option<bool>, AllocError>
         ensures next { IfOk result (λ found. MatchOption found
             (((nest self.old).values ≡ []) × (self.new ≡ self.old) × (string_bytes text.new ≡ []))

@@ -107,6 +107,7 @@ static CELLS: [[[Cell; 6]; 6]; 3] = [
 const _: () = prove!(CELLS.len() == 3 && CELLS[0].len() == 6 && CELLS[0][0].len() == 6);
 
 /// What a byte of this class does at this place.
+#[inline(always)]
 fn cell_of(form: TextForm, place: Place, class: Class) -> Cell
     ensures { result ≡ cell (form_of form) place class }
 {
@@ -114,6 +115,7 @@ fn cell_of(form: TextForm, place: Place, class: Class) -> Cell
 }
 
 /// Whether a byte is an opening bracket of the form.
+#[inline(always)]
 pub fn opens(form: TextForm, byte: u8) -> bool
     ensures { result ≡ (form_of form).opens byte }
 {
@@ -125,6 +127,7 @@ pub fn opens(form: TextForm, byte: u8) -> bool
 }
 
 /// Whether a byte is a closing bracket of the form.
+#[inline(always)]
 pub fn closes(form: TextForm, byte: u8) -> bool
     ensures { result ≡ (form_of form).closes byte }
 {
@@ -135,6 +138,7 @@ pub fn closes(form: TextForm, byte: u8) -> bool
     }
 }
 
+#[inline(always)]
 fn class_of(form: TextForm, byte: u8) -> Class
     ensures { result ≡ class (form_of form) byte }
 {
@@ -149,6 +153,7 @@ fn class_of(form: TextForm, byte: u8) -> Class
 }
 
 /// Whether a byte is one of the usual ones, letters, digits and no ASCII, that mean nothing in any form.
+#[inline(always)]
 fn is_never_special(byte: u8) -> bool
     ensures { result ≡ true → (form : TextForm) → class (form_of form) byte ≡ Other }
 {
@@ -156,6 +161,7 @@ fn is_never_special(byte: u8) -> bool
 }
 
 /// Whether the part that is null or absent stands here, and ends.
+#[inline(always)]
 pub fn is_nothing(form: TextForm, text: &str) -> bool
     ensures { result ≡ stands (form_of form) (form_of form).nothing text.now }
 {
@@ -177,6 +183,7 @@ pub struct Stop<'a> {
 }
 
 /// The next byte that isn't kept; `None` where there is none, and so no text of the form.
+#[inline(always)]
 pub fn next_stop(form: TextForm, place: Place, text: &str) -> Option<Stop<'_>>
     ensures whole { MatchOption result (read (form_of form) place text.now ≡ None) (λ s. text.now ≡ s.run.now ++ s.byte ∷ s.rest.now) }
     ensures read { MatchOption result (read (form_of form) place text.now ≡ None) (λ s. read (form_of form) place text.now ≡ grown s.run.now (read_by (form_of form) s.byte s.rest.now (λ q. read (form_of form) q s.rest.now) s.cell)) }

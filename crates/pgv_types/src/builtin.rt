@@ -9,6 +9,7 @@ use crate::{Oid, PgType};
 impl PgType {
     /// The OID: a built-in type's, a custom type's own, or the declared one. `None` where only a name
     /// is known.
+    #[inline(always)]
     pub fn oid(&self) -> Option<Oid>
         ensures { option_map (λ o. o.0) result ≡ oid_of (type_of self.now) }
     {

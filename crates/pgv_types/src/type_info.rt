@@ -265,6 +265,7 @@ impl Clone for PgType {
 
     ghost is_infallible = { λ t. IsNotCustom (type_of t) };
 
+    #[inline(always)]
     fn clone(&self) -> Result<PgType, AllocError> {
         let copy = match self {
             PgType::Bool => PgType::Bool,
@@ -379,6 +380,7 @@ impl Clone for PgTypeInfo {
 
     ghost is_infallible = { IsNotCustom };
 
+    #[inline(always)]
     fn clone(&self) -> Result<PgTypeInfo, AllocError> {
         Ok(PgTypeInfo(self.0.clone()?))
     }
@@ -431,6 +433,7 @@ impl PgTypeInfo {
     }
 
     /// The OID. `None` where only a name is known.
+    #[inline(always)]
     pub fn oid(&self) -> Option<Oid>
         ensures { option_map (λ o. o.0) result ≡ oid_of self.now }
     {

@@ -13,6 +13,7 @@ const MAX_LENGTH: u32 = 0x7fff_ffff;
 
 /// The part of the frame in front, null or bytes, and the rest: of `0000000161ff` it is `61`, and the rest is `ff`. Bytes that end
 /// too early are refused with C15, and a negative length but -1, which is null, with C16.
+#[inline(always)]
 #[tactic(auto, unfolding(crate::specs::FrameBinary::front))]
 pub fn part_in_front(bytes: &[u8]) -> Result<(Option<&[u8]>, &[u8]), CodecError>
     ensures found { IfOk result (λ p. front bytes.now ≡ Some (option_copied p.0, p.1.now)) }

@@ -56,6 +56,7 @@ impl PgValue {
     }
 
     /// The type that the value was given with.
+    #[inline(always)]
     pub fn type_info(&self) -> &PgTypeInfo
         ensures { result.now ≡ self.now.type_info }
     {
@@ -63,6 +64,7 @@ impl PgValue {
     }
 
     /// Whether the value is null.
+    #[inline(always)]
     pub fn is_null(&self) -> bool
         ensures { result ≡ is_none self.now.bytes }
     {
@@ -121,6 +123,7 @@ impl<'r> Model for PgValueRef<'r> {
 
 impl<'r> PgValueRef<'r> {
     /// A value of these bytes, or null.
+    #[inline(always)]
     pub fn new(value: Option<&'r [u8]>, type_info: PgTypeInfo, format: PgValueFormat) -> Self
         ensures { result ≡ record { bytes = option_copied value.entry; type_info = type_info; format = format } }
     {
@@ -161,6 +164,7 @@ impl<'r> PgValueRef<'r> {
     /// "Message Formats", DataRow: a signed length of four bytes, the highest first, and that many bytes; -1 is
     /// null). A slice that ends too early is refused with C15 and any other negative length with C16; the slice then
     /// stays where it was.
+    #[inline(always)]
     pub fn get(
         bytes: &mut &'r [u8],
         format: PgValueFormat,
@@ -183,6 +187,7 @@ impl<'r> PgValueRef<'r> {
     }
 
     /// The format that the value is written in.
+    #[inline(always)]
     pub fn format(&self) -> PgValueFormat
         ensures { result ≡ self.now.format }
     {
@@ -190,6 +195,7 @@ impl<'r> PgValueRef<'r> {
     }
 
     /// The type that the value was given with.
+    #[inline(always)]
     pub fn type_info(&self) -> &PgTypeInfo
         ensures { result.now ≡ self.now.type_info }
     {
@@ -204,6 +210,7 @@ impl<'r> PgValueRef<'r> {
     }
 
     /// Whether the value is null.
+    #[inline(always)]
     pub fn is_null(&self) -> bool
         ensures { result ≡ is_none self.now.bytes }
     {
@@ -211,6 +218,7 @@ impl<'r> PgValueRef<'r> {
     }
 
     /// The bytes, in either format, which live as long as the row. Null is refused with C13.
+    #[inline(always)]
     pub fn as_bytes(&self) -> Result<&'r [u8], CodecError>
         ensures found { IfOk result (λ b. self.now.bytes ≡ Some b.now) }
         ensures null { IfErr result (λ e. (e ≡ UnexpectedNull) × (self.now.bytes ≡ None)) }
@@ -223,6 +231,7 @@ impl<'r> PgValueRef<'r> {
 
     /// The bytes as text, in either format, which lives as long as the row. Null is refused with C13, and bytes
     /// that are not UTF-8 with C14.
+    #[inline(always)]
     #[tactic(auto, using(crate::proofs::Text::whole_text))]
     pub fn as_str(&self) -> Result<&'r str, CodecError>
         ensures found { IfOk result (λ s. self.now.bytes ≡ Some s.now) }

@@ -99,6 +99,7 @@ impl PgArguments {
     /// Adds a value, and remembers what it produces or else its type's info. It is accepted, out of memory (C1)
     /// aside, exactly where the value has a frame; a refused one leaves all as it was. C2 where the size hint or the
     /// image is above 2147483647.
+    #[inline(always)]
     pub fn add_by_ref<T: Encode + Type>(&mut self, value: &T) -> Result<(), CodecError>
         ensures ok { OnOk result (Added (frame (T.hint value.now) (T.image value.now)) (or_else (T.produced value.now) T.info) self.old self.new) }
         ensures err { IfErr result (λ e. Refused e (frame (T.hint value.now) (T.image value.now))) }

@@ -41,6 +41,7 @@ pub fn encode_array<T: Encode + Type>(
 }
 
 /// The type of the elements, as an array writes it.
+#[inline(always)]
 fn type_of_elements<T: Encode + Type>(values: &[T]) -> Result<PgTypeInfo, AllocError>
     ensures { IfOk result (λ t. t ≡ written_element_type T.produced T.info values.now) }
 {
@@ -51,6 +52,7 @@ fn type_of_elements<T: Encode + Type>(values: &[T]) -> Result<PgTypeInfo, AllocE
 }
 
 /// The type that a value has: what it produces, or else its Rust type's own.
+#[inline(always)]
 pub fn type_of_value<T: Encode + Type>(value: &T) -> Result<PgTypeInfo, AllocError>
     ensures { IfOk result (λ t. t ≡ or_else (T.produced value.now) T.info) }
 {
@@ -79,6 +81,7 @@ fn write_header(
 }
 
 /// A frame for each element.
+#[inline(always)]
 fn write_frames<T: Encode>(values: &[T], out: &mut PgArgumentBuffer) -> Result<(), CodecError>
     ensures ok { OnOk result (AppendedAll (written_frames T.hint T.image values.now) out.old out.new) }
     ensures err { IfErr result (λ e. Refused e (written_frames T.hint T.image values.now)) }

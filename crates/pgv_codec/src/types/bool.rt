@@ -19,6 +19,7 @@ impl Type for bool {
 
     ghost accepts = { λ t. softly t (builtin 16) };
 
+    #[inline(always)]
     fn type_info() -> PgTypeInfo {
         PgTypeInfo(PgType::Bool)
     }
@@ -47,15 +48,18 @@ impl PgHasArrayType for bool {
 impl Encode for bool {
     ghost image = { bool_image };
 
+    #[inline(always)]
     fn encode_by_ref(&self, out: &mut PgArgumentBuffer) -> Result<IsNull, CodecError> {
         out.push(u8::from(*self))?;
         Ok(IsNull::No)
     }
 
+    #[inline(always)]
     fn size_hint(&self) -> usize {
         0
     }
 
+    #[inline(always)]
     fn produces(&self) -> Result<Option<PgTypeInfo>, AllocError> {
         Ok(None)
     }
@@ -75,6 +79,7 @@ impl Decode for bool {
 
     ghost refusal = { Some bool_refusal };
 
+    #[inline(always)]
     fn decode(_alloc: Global, value: PgValueRef<'_>) -> Result<bool, CodecError> {
         read_bool(&value)
     }

@@ -29,6 +29,7 @@ impl Type for Date {
 
     ghost accepts = { λ t. softly t (builtin 1082) };
 
+    #[inline(always)]
     fn type_info() -> PgTypeInfo {
         PgTypeInfo(PgType::Date)
     }
@@ -59,14 +60,17 @@ impl Encode for Date {
 
     ghost hint = { λ _. 4 };
 
+    #[inline(always)]
     fn encode_by_ref(&self, out: &mut PgArgumentBuffer) -> Result<IsNull, CodecError> {
         write_i32(days_from_2000(*self), out)
     }
 
+    #[inline(always)]
     fn size_hint(&self) -> usize {
         4
     }
 
+    #[inline(always)]
     fn produces(&self) -> Result<Option<PgTypeInfo>, AllocError> {
         Ok(None)
     }

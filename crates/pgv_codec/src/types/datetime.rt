@@ -29,6 +29,7 @@ impl Type for DateTime {
 
     ghost accepts = { λ t. softly t (builtin 1114) };
 
+    #[inline(always)]
     fn type_info() -> PgTypeInfo {
         PgTypeInfo(PgType::Timestamp)
     }
@@ -59,14 +60,17 @@ impl Encode for DateTime {
 
     ghost hint = { λ _. 8 };
 
+    #[inline(always)]
     fn encode_by_ref(&self, out: &mut PgArgumentBuffer) -> Result<IsNull, CodecError> {
         write_i64(micros_from_2000(*self), out)
     }
 
+    #[inline(always)]
     fn size_hint(&self) -> usize {
         8
     }
 
+    #[inline(always)]
     fn produces(&self) -> Result<Option<PgTypeInfo>, AllocError> {
         Ok(None)
     }

@@ -17,6 +17,7 @@ use pgv_value::{CodecError, PgValueRef, read_i8, read_i16, read_i32, read_i64};
 use std::alloc::{AllocError, Global};
 
 /// Appends a number in four bytes, the highest first.
+#[inline(always)]
 pub(crate) fn write_i32(number: i32, out: &mut PgArgumentBuffer) -> Result<IsNull, CodecError>
     ensures ok { IfOk result (λ n. Encoded n (signed_image w32 number) out.old out.new) }
     ensures err { IfErr result (λ e. Refused e (signed_image w32 number)) }
@@ -28,6 +29,7 @@ pub(crate) fn write_i32(number: i32, out: &mut PgArgumentBuffer) -> Result<IsNul
 }
 
 /// Appends a number in eight bytes, the highest first.
+#[inline(always)]
 pub(crate) fn write_i64(number: i64, out: &mut PgArgumentBuffer) -> Result<IsNull, CodecError>
     ensures ok { IfOk result (λ n. Encoded n (signed_image w64 number) out.old out.new) }
     ensures err { IfErr result (λ e. Refused e (signed_image w64 number)) }
@@ -44,6 +46,7 @@ impl Type for i8 {
 
     ghost accepts = { λ t. softly t (builtin 18) };
 
+    #[inline(always)]
     fn type_info() -> PgTypeInfo {
         PgTypeInfo(PgType::Char)
     }
@@ -72,16 +75,19 @@ impl PgHasArrayType for i8 {
 impl Encode for i8 {
     ghost image = { signed_image w8 };
 
+    #[inline(always)]
     fn encode_by_ref(&self, out: &mut PgArgumentBuffer) -> Result<IsNull, CodecError> {
         let number = self.to_be_bytes();
         out.extend_from_slice(&number)?;
         Ok(IsNull::No)
     }
 
+    #[inline(always)]
     fn size_hint(&self) -> usize {
         0
     }
 
+    #[inline(always)]
     fn produces(&self) -> Result<Option<PgTypeInfo>, AllocError> {
         Ok(None)
     }
@@ -101,6 +107,7 @@ impl Decode for i8 {
 
     ghost refusal = { Some char_refusal };
 
+    #[inline(always)]
     fn decode(_alloc: Global, value: PgValueRef<'_>) -> Result<i8, CodecError> {
         read_i8(&value)
     }
@@ -127,6 +134,7 @@ impl Type for i16 {
 
     ghost accepts = { λ t. softly t (builtin 21) };
 
+    #[inline(always)]
     fn type_info() -> PgTypeInfo {
         PgTypeInfo(PgType::Int2)
     }
@@ -155,16 +163,19 @@ impl PgHasArrayType for i16 {
 impl Encode for i16 {
     ghost image = { signed_image w16 };
 
+    #[inline(always)]
     fn encode_by_ref(&self, out: &mut PgArgumentBuffer) -> Result<IsNull, CodecError> {
         let number = self.to_be_bytes();
         out.extend_from_slice(&number)?;
         Ok(IsNull::No)
     }
 
+    #[inline(always)]
     fn size_hint(&self) -> usize {
         0
     }
 
+    #[inline(always)]
     fn produces(&self) -> Result<Option<PgTypeInfo>, AllocError> {
         Ok(None)
     }
@@ -184,6 +195,7 @@ impl Decode for i16 {
 
     ghost refusal = { Some int_refusal };
 
+    #[inline(always)]
     fn decode(_alloc: Global, value: PgValueRef<'_>) -> Result<i16, CodecError> {
         read_i16(&value)
     }
@@ -210,6 +222,7 @@ impl Type for i32 {
 
     ghost accepts = { λ t. softly t (builtin 23) };
 
+    #[inline(always)]
     fn type_info() -> PgTypeInfo {
         PgTypeInfo(PgType::Int4)
     }
@@ -238,14 +251,17 @@ impl PgHasArrayType for i32 {
 impl Encode for i32 {
     ghost image = { signed_image w32 };
 
+    #[inline(always)]
     fn encode_by_ref(&self, out: &mut PgArgumentBuffer) -> Result<IsNull, CodecError> {
         write_i32(*self, out)
     }
 
+    #[inline(always)]
     fn size_hint(&self) -> usize {
         0
     }
 
+    #[inline(always)]
     fn produces(&self) -> Result<Option<PgTypeInfo>, AllocError> {
         Ok(None)
     }
@@ -265,6 +281,7 @@ impl Decode for i32 {
 
     ghost refusal = { Some int_refusal };
 
+    #[inline(always)]
     fn decode(_alloc: Global, value: PgValueRef<'_>) -> Result<i32, CodecError> {
         read_i32(&value)
     }
@@ -291,6 +308,7 @@ impl Type for i64 {
 
     ghost accepts = { λ t. softly t (builtin 20) };
 
+    #[inline(always)]
     fn type_info() -> PgTypeInfo {
         PgTypeInfo(PgType::Int8)
     }
@@ -319,14 +337,17 @@ impl PgHasArrayType for i64 {
 impl Encode for i64 {
     ghost image = { signed_image w64 };
 
+    #[inline(always)]
     fn encode_by_ref(&self, out: &mut PgArgumentBuffer) -> Result<IsNull, CodecError> {
         write_i64(*self, out)
     }
 
+    #[inline(always)]
     fn size_hint(&self) -> usize {
         0
     }
 
+    #[inline(always)]
     fn produces(&self) -> Result<Option<PgTypeInfo>, AllocError> {
         Ok(None)
     }
@@ -346,6 +367,7 @@ impl Decode for i64 {
 
     ghost refusal = { Some int_refusal };
 
+    #[inline(always)]
     fn decode(_alloc: Global, value: PgValueRef<'_>) -> Result<i64, CodecError> {
         read_i64(&value)
     }

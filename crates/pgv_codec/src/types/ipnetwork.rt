@@ -37,6 +37,7 @@ pub(crate) fn is_network_array(type_info: &PgTypeInfo) -> bool
 }
 
 /// How many bytes an address is written as.
+#[inline(always)]
 pub(crate) fn written_size(address: IpAddr) -> usize
     ensures { result ≡ address_hint address }
 {
@@ -47,6 +48,7 @@ pub(crate) fn written_size(address: IpAddr) -> usize
 }
 
 /// Appends four bytes and the octets after them.
+#[inline(always)]
 fn write_octets(
     front: &[u8; 4],
     octets: &[u8],
@@ -62,6 +64,7 @@ fn write_octets(
 }
 
 /// Appends an address and the number of bits that name its network.
+#[inline(always)]
 pub(crate) fn write_network(
     address: IpAddr,
     prefix: u8,

@@ -20,6 +20,7 @@ impl Type for Oid {
 
     ghost accepts = { λ t. softly t (builtin 26) };
 
+    #[inline(always)]
     fn type_info() -> PgTypeInfo {
         PgTypeInfo(PgType::Oid)
     }
@@ -48,16 +49,19 @@ impl PgHasArrayType for Oid {
 impl Encode for Oid {
     ghost image = { λ o. unsigned_image w32 o.0 };
 
+    #[inline(always)]
     fn encode_by_ref(&self, out: &mut PgArgumentBuffer) -> Result<IsNull, CodecError> {
         let number = self.0.to_be_bytes();
         out.extend_from_slice(&number)?;
         Ok(IsNull::No)
     }
 
+    #[inline(always)]
     fn size_hint(&self) -> usize {
         0
     }
 
+    #[inline(always)]
     fn produces(&self) -> Result<Option<PgTypeInfo>, AllocError> {
         Ok(None)
     }
@@ -77,6 +81,7 @@ impl Decode for Oid {
 
     ghost refusal = { Some oid_refusal };
 
+    #[inline(always)]
     fn decode(_alloc: Global, value: PgValueRef<'_>) -> Result<Oid, CodecError> {
         read_oid(&value)
     }

@@ -12,6 +12,7 @@ impl<T: Type> Type for Option<T> {
 
     ghost accepts = { T.accepts };
 
+    #[inline(always)]
     fn type_info() -> PgTypeInfo {
         T::type_info()
     }
@@ -46,6 +47,7 @@ impl<T: Encode + Type> Encode for Option<T> {
 
     ghost produced = { option_produced T.produced T.info };
 
+    #[inline(always)]
     fn encode_by_ref(&self, out: &mut PgArgumentBuffer) -> Result<IsNull, CodecError> {
         match self {
             None => Ok(IsNull::Yes),
@@ -53,6 +55,7 @@ impl<T: Encode + Type> Encode for Option<T> {
         }
     }
 
+    #[inline(always)]
     fn size_hint(&self) -> usize {
         match self {
             None => 0,
@@ -60,6 +63,7 @@ impl<T: Encode + Type> Encode for Option<T> {
         }
     }
 
+    #[inline(always)]
     fn produces(&self) -> Result<Option<PgTypeInfo>, AllocError> {
         match self {
             None => Ok(Some(T::type_info())),
@@ -84,6 +88,7 @@ impl<T: Decode> Decode for Option<T> {
 
     ghost takes_memory = { T.takes_memory };
 
+    #[inline(always)]
     fn decode(alloc: Global, value: PgValueRef<'_>) -> Result<Option<T>, CodecError> {
         if value.is_null() {
             return Ok(None);

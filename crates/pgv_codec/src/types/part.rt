@@ -10,6 +10,7 @@ use pgv_value::{CodecError, PgValueFormat, PgValueRef};
 use std::alloc::Global;
 
 /// A part in text, or null where it isn't present, read under a type.
+#[inline(always)]
 pub(crate) fn read_part<T: Decode>(
     alloc: Global,
     type_info: PgTypeInfo,

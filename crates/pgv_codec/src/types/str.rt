@@ -11,6 +11,7 @@ use pgv_value::{CodecError, PgValueRef};
 use std::alloc::{AllocError, Global};
 
 /// Appends a text, for a caller's own encoder, as the encoder of `String` does. C1 leaves the buffer as it was.
+#[inline(always)]
 pub fn encode_text(text: &str, out: &mut PgArgumentBuffer) -> Result<IsNull, CodecError>
     ensures ok { IfOk result (λ n. Encoded n (text_image text.now) out.old out.new) }
     ensures err { IfErr result (λ e. Refused e (text_image text.now)) }
@@ -51,6 +52,7 @@ impl Type for String {
 
     ghost accepts = { is_text };
 
+    #[inline(always)]
     fn type_info() -> PgTypeInfo {
         PgTypeInfo(PgType::Text)
     }
@@ -85,14 +87,17 @@ impl Encode for String {
 
     ghost image = { λ s. text_image (string_bytes s) };
 
+    #[inline(always)]
     fn encode_by_ref(&self, out: &mut PgArgumentBuffer) -> Result<IsNull, CodecError> {
         encode_text(self.as_str(), out)
     }
 
+    #[inline(always)]
     fn size_hint(&self) -> usize {
         0
     }
 
+    #[inline(always)]
     fn produces(&self) -> Result<Option<PgTypeInfo>, AllocError> {
         Ok(None)
     }
@@ -118,6 +123,7 @@ impl Decode for String {
 
     ghost refusal = { Some text_refusal };
 
+    #[inline(always)]
     fn decode(alloc: Global, value: PgValueRef<'_>) -> Result<String, CodecError> {
         Ok(String::from_str(alloc, value.as_str()?)?)
     }

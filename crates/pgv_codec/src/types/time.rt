@@ -29,6 +29,7 @@ impl Type for Time {
 
     ghost accepts = { λ t. softly t (builtin 1083) };
 
+    #[inline(always)]
     fn type_info() -> PgTypeInfo {
         PgTypeInfo(PgType::Time)
     }
@@ -59,14 +60,17 @@ impl Encode for Time {
 
     ghost hint = { λ _. 8 };
 
+    #[inline(always)]
     fn encode_by_ref(&self, out: &mut PgArgumentBuffer) -> Result<IsNull, CodecError> {
         write_i64(micros_of_day(*self), out)
     }
 
+    #[inline(always)]
     fn size_hint(&self) -> usize {
         8
     }
 
+    #[inline(always)]
     fn produces(&self) -> Result<Option<PgTypeInfo>, AllocError> {
         Ok(None)
     }

@@ -28,6 +28,7 @@ impl Type for Timestamp {
 
     ghost accepts = { λ t. softly t (builtin 1184) };
 
+    #[inline(always)]
     fn type_info() -> PgTypeInfo {
         PgTypeInfo(PgType::Timestamptz)
     }
@@ -58,14 +59,17 @@ impl Encode for Timestamp {
 
     ghost hint = { λ _. 8 };
 
+    #[inline(always)]
     fn encode_by_ref(&self, out: &mut PgArgumentBuffer) -> Result<IsNull, CodecError> {
         write_i64(micros_from_2000(*self), out)
     }
 
+    #[inline(always)]
     fn size_hint(&self) -> usize {
         8
     }
 
+    #[inline(always)]
     fn produces(&self) -> Result<Option<PgTypeInfo>, AllocError> {
         Ok(None)
     }

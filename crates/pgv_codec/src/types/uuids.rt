@@ -20,6 +20,7 @@ impl Type for Uuid {
 
     ghost accepts = { λ t. softly t (builtin 2950) };
 
+    #[inline(always)]
     fn type_info() -> PgTypeInfo {
         PgTypeInfo(PgType::Uuid)
     }
@@ -49,15 +50,18 @@ impl PgHasArrayType for Uuid {
 impl Encode for Uuid {
     ghost image = { uuid_image };
 
+    #[inline(always)]
     fn encode_by_ref(&self, out: &mut PgArgumentBuffer) -> Result<IsNull, CodecError> {
         out.extend_from_slice(self.as_bytes())?;
         Ok(IsNull::No)
     }
 
+    #[inline(always)]
     fn size_hint(&self) -> usize {
         0
     }
 
+    #[inline(always)]
     fn produces(&self) -> Result<Option<PgTypeInfo>, AllocError> {
         Ok(None)
     }
@@ -78,6 +82,7 @@ impl Decode for Uuid {
 
     ghost refusal = { Some uuid_refusal };
 
+    #[inline(always)]
     fn decode(_alloc: Global, value: PgValueRef<'_>) -> Result<Uuid, CodecError> {
         read_uuid(&value)
     }

@@ -53,6 +53,7 @@ impl PgHasArrayType for PgHstore {
 }
 
 /// Appends a key, or a value that isn't null: its length and its bytes. A longer one is refused with C9.
+#[inline(always)]
 fn write_text(text: &String, out: &mut PgArgumentBuffer) -> Result<(), CodecError>
     ensures ok { OnOk result (AppendedAll (part_written (Some (string_bytes text.now))) out.old out.new) }
     ensures err { IfErr result (λ e. Refused e (part_written (Some (string_bytes text.now)))) }
@@ -69,6 +70,7 @@ fn write_text(text: &String, out: &mut PgArgumentBuffer) -> Result<(), CodecErro
 }
 
 /// Appends a value, or null.
+#[inline(always)]
 fn write_value(value: &Option<String>, out: &mut PgArgumentBuffer) -> Result<(), CodecError>
     ensures ok { OnOk result (AppendedAll (part_written (option_map string_bytes value.now)) out.old out.new) }
     ensures err { IfErr result (λ e. Refused e (part_written (option_map string_bytes value.now))) }
@@ -81,6 +83,7 @@ fn write_value(value: &Option<String>, out: &mut PgArgumentBuffer) -> Result<(),
 }
 
 /// Appends a key and its value.
+#[inline(always)]
 fn write_pair(
     key: &String,
     value: &Option<String>,

@@ -13,6 +13,7 @@ use byteorder::{BigEndian, ByteOrder};
 use pgv_text::{char_of, number_of};
 
 /// The number in one to eight bytes of two's complement, the highest first. Another length is refused with C17.
+#[inline(always)]
 pub(crate) fn whole_number_of(bytes: &[u8]) -> Result<i64, CodecError>
     ensures exact { AnswersExactly (λ number. number) (whole_number bytes.now) result }
     ensures refused { IfErr result (λ e. e ≡ whole_refusal bytes.now) }
@@ -29,6 +30,7 @@ pub(crate) fn whole_number_of(bytes: &[u8]) -> Result<i64, CodecError>
 }
 
 /// The number in either format, if 64 bits have it.
+#[inline(always)]
 fn integer(value: &PgValueRef<'_>) -> Result<i64, CodecError>
     ensures exact { AnswersExactly (λ number. number) (int_reading w64 value.now.type_info value.now.format value.now.bytes) result }
     ensures refused { IfErr result (λ e. e ≡ int_refusal value.now.format value.now.bytes) }
@@ -44,6 +46,7 @@ fn integer(value: &PgValueRef<'_>) -> Result<i64, CodecError>
 /// for 92, `\` and three octal digits up to 377 for their byte, and else the first byte, where a text that begins
 /// with `\` otherwise is refused with C29. Another number of bytes is refused with C17, and a number that is outside
 /// 8 bits with C30. `ff` and `\\377` are -1.
+#[inline(always)]
 pub fn read_i8(value: &PgValueRef<'_>) -> Result<i8, CodecError>
     ensures exact { AnswersExactly (λ number. number) (char_reading value.now.type_info value.now.format value.now.bytes) result }
     ensures refused { IfErr result (λ e. e ≡ char_refusal value.now.format value.now.bytes) }
@@ -58,6 +61,7 @@ pub fn read_i8(value: &PgValueRef<'_>) -> Result<i8, CodecError>
 /// Reads an `int2`: in binary one to eight bytes of two's complement, in text perhaps `+` or `-` and one or more
 /// digits. Another number of bytes is refused with C17, another text with C29, and a number outside 16 bits with C30. `0007`,
 /// `07` and `+7` are 7.
+#[inline(always)]
 pub fn read_i16(value: &PgValueRef<'_>) -> Result<i16, CodecError>
     ensures exact { AnswersExactly (λ number. number) (int_reading w16 value.now.type_info value.now.format value.now.bytes) result }
     ensures refused { IfErr result (λ e. e ≡ int_refusal value.now.format value.now.bytes) }
@@ -67,6 +71,7 @@ pub fn read_i16(value: &PgValueRef<'_>) -> Result<i16, CodecError>
 }
 
 /// Reads an `int4`, as [`read_i16`] reads an `int2`; a number outside 32 bits is refused with C30. `00000007` is 7.
+#[inline(always)]
 pub fn read_i32(value: &PgValueRef<'_>) -> Result<i32, CodecError>
     ensures exact { AnswersExactly (λ number. number) (int_reading w32 value.now.type_info value.now.format value.now.bytes) result }
     ensures refused { IfErr result (λ e. e ≡ int_refusal value.now.format value.now.bytes) }
@@ -76,6 +81,7 @@ pub fn read_i32(value: &PgValueRef<'_>) -> Result<i32, CodecError>
 }
 
 /// Reads an `int8`, as [`read_i16`] reads an `int2`; a number outside 64 bits is refused with C30. `fffffffffffffff9` is -7.
+#[inline(always)]
 pub fn read_i64(value: &PgValueRef<'_>) -> Result<i64, CodecError>
     ensures exact { AnswersExactly (λ number. number) (int_reading w64 value.now.type_info value.now.format value.now.bytes) result }
     ensures refused { IfErr result (λ e. e ≡ int_refusal value.now.format value.now.bytes) }

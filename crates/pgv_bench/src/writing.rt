@@ -1,0 +1,223 @@
+//! Values that are written.
+
+use crate::triple::Triple;
+use crate::values::{EmptyObject, Mood};
+use pgv_types::{Oid, PgType, PgTypeInfo};
+use pgv_wire::{CodecError, Encode, PgArgumentBuffer, PgArguments, Type};
+use std::alloc::Global;
+use uuid::Uuid;
+
+fn add_once<T: Encode + Type>(alloc: Global, values: &[T]) -> Result<usize, CodecError> {
+    let mut arguments = PgArguments::new(alloc);
+    for value in values {
+        arguments.add_by_ref(value)?;
+    }
+    Ok(arguments.buffer().len())
+}
+
+fn encode_once<T: Encode>(alloc: Global, values: &[T]) -> Result<usize, CodecError> {
+    let mut buffer = PgArgumentBuffer::new(alloc);
+    for value in values {
+        buffer.encode(value)?;
+    }
+    Ok(buffer.len())
+}
+
+/// Writes all values, so many times: by `add` where `how` is 0, else by `encode`.
+pub fn write_all<T: Encode + Type>(
+    alloc: Global,
+    values: &[T],
+    rounds: u32,
+    how: u32,
+) -> Result<usize, CodecError> {
+    let mut sum = 0usize;
+    for _ in 0..rounds {
+        let len = if how == 0 {
+            add_once(alloc, values)?
+        } else {
+            encode_once(alloc, values)?
+        };
+        sum = sum.wrapping_add(len);
+    }
+    Ok(sum)
+}
+
+pub fn write_bools(
+    alloc: Global,
+    values: &[i32],
+    rounds: u32,
+    how: u32,
+) -> Result<usize, CodecError> {
+    let mut made = Vec::new(alloc);
+    for value in values {
+        made.push(*value > 0)?;
+    }
+    write_all(alloc, made.as_slice(), rounds, how)
+}
+
+pub fn write_ids(alloc: Global, bytes: &[u8], rounds: u32, how: u32) -> Result<usize, CodecError> {
+    let mut made = Vec::new(alloc);
+    for part in bytes.chunks(16) {
+        if let Ok(id) = Uuid::from_slice(part) {
+            made.push(id)?;
+        }
+    }
+    write_all(alloc, made.as_slice(), rounds, how)
+}
+
+/// The texts of these lengths, one behind the other.
+fn texts_of(alloc: Global, blob: &[u8], lens: &[u32]) -> Result<Vec<String>, CodecError> {
+    let mut made = Vec::new(alloc);
+    let mut rest = blob;
+    for len in lens {
+        let (front, behind) = rest.split_at((*len as usize).min(rest.len()));
+        rest = behind;
+        let text = match str::from_utf8(front) {
+            Ok(text) => text,
+            Err(_) => "",
+        };
+        made.push(String::from_str(alloc, text)?)?;
+    }
+    Ok(made)
+}
+
+pub fn write_texts(
+    alloc: Global,
+    blob: &[u8],
+    lens: &[u32],
+    rounds: u32,
+    how: u32,
+) -> Result<usize, CodecError> {
+    let made = texts_of(alloc, blob, lens)?;
+    write_all(alloc, made.as_slice(), rounds, how)
+}
+
+pub fn write_lists(
+    alloc: Global,
+    values: &[i32],
+    per: usize,
+    rounds: u32,
+    how: u32,
+) -> Result<usize, CodecError> {
+    let mut made = Vec::new(alloc);
+    for part in values.chunks(per.max(1)) {
+        made.push(part.to_vec(alloc)?)?;
+    }
+    write_all(alloc, made.as_slice(), rounds, how)
+}
+
+fn options_of(alloc: Global, part: &[i32]) -> Result<Vec<Option<i32>>, CodecError> {
+    let mut list = Vec::new(alloc);
+    for value in part {
+        let option = if *value % 4 == 3 { None } else { Some(*value) };
+        list.push(option)?;
+    }
+    Ok(list)
+}
+
+pub fn write_options(
+    alloc: Global,
+    values: &[i32],
+    per: usize,
+    rounds: u32,
+    how: u32,
+) -> Result<usize, CodecError> {
+    let mut made = Vec::new(alloc);
+    for part in values.chunks(per.max(1)) {
+        made.push(options_of(alloc, part)?)?;
+    }
+    write_all(alloc, made.as_slice(), rounds, how)
+}
+
+pub fn write_text_lists(
+    alloc: Global,
+    blob: &[u8],
+    lens: &[u32],
+    per: usize,
+    rounds: u32,
+    how: u32,
+) -> Result<usize, CodecError> {
+    let mut made = Vec::new(alloc);
+    let mut rest = blob;
+    for part in lens.chunks(per.max(1)) {
+        made.push(texts_of(alloc, rest, part)?)?;
+        for len in part {
+            rest = rest.split_at((*len as usize).min(rest.len())).1;
+        }
+    }
+    write_all(alloc, made.as_slice(), rounds, how)
+}
+
+pub fn write_records(
+    alloc: Global,
+    blob: &[u8],
+    lens: &[u32],
+    rounds: u32,
+    how: u32,
+) -> Result<usize, CodecError> {
+    let mut made = Vec::new(alloc);
+    for name in texts_of(alloc, blob, lens)? {
+        let id = 7 + (name.len() % 1000) as i32;
+        made.push(Triple { id, name, on: true })?;
+    }
+    write_all(alloc, made.as_slice(), rounds, how)
+}
+
+fn statement(alloc: Global, name: &String) -> Result<usize, CodecError> {
+    let mut arguments = PgArguments::new(alloc);
+    arguments.add(7i32)?;
+    arguments.add_by_ref(name)?;
+    arguments.add(true)?;
+    arguments.add(9i64)?;
+    Ok(arguments.buffer().len())
+}
+
+pub fn statements(
+    alloc: Global,
+    blob: &[u8],
+    lens: &[u32],
+    rounds: u32,
+) -> Result<usize, CodecError> {
+    let names = texts_of(alloc, blob, lens)?;
+    let mut sum = 0usize;
+    for _ in 0..rounds {
+        for name in &names {
+            sum = sum.wrapping_add(statement(alloc, name)?);
+        }
+    }
+    Ok(sum)
+}
+
+fn own_types(alloc: Global, arguments: &PgArguments) -> Result<Vec<PgTypeInfo>, CodecError> {
+    Ok(arguments.types().to_vec(alloc)?)
+}
+
+pub fn patches(alloc: Global, n: u32, rounds: u32) -> Result<usize, CodecError> {
+    let mut arguments = PgArguments::new(alloc);
+    let mut moods = Vec::new(alloc);
+    moods.push(Mood::ok(alloc)?)?;
+    let mut oids = Vec::new(alloc);
+    for _ in 0..n {
+        arguments.add_by_ref(&moods)?;
+        oids.push(Oid(16500))?;
+    }
+    let types = own_types(alloc, &arguments)?;
+    for _ in 0..rounds {
+        arguments.apply_patches(types.as_slice(), oids.as_slice())?;
+    }
+    Ok(arguments.buffer().len())
+}
+
+pub fn slots(alloc: Global, n: u32, rounds: u32) -> Result<usize, CodecError> {
+    let mut arguments = PgArguments::new(alloc);
+    let mut types = Vec::new(alloc);
+    let object = EmptyObject { alloc };
+    for _ in 0..n {
+        arguments.add_by_ref(&object)?;
+        types.push(PgTypeInfo(PgType::Jsonb))?;
+    }
+    for _ in 0..rounds {
+        arguments.apply_patches(types.as_slice(), &[])?;
+    }
+    Ok(arguments.buffer().len())
+}
