@@ -5,16 +5,13 @@ pub use Rattle.pgv_types.specs.Ty.{Ty, builtin, named, array_of}
 pub use Rattle.pgv_types.specs.Facts.{oid_of}
 pub use Rattle.pgv_types.specs.Relations.{softly, exactly}
 pub use Rattle.pgv_types.specs.declared.oid.Oid.{Oid}
-
 -- what values are written as: tokens, images and frames
 pub use Rattle.pgv_buf.specs.Tokens.{Token, byte, hole, slot, bytes, be4}
 pub use Rattle.pgv_codec.specs.Image.{Image, null_image, image_of, frame, array_image, field, record_image}
 pub use Rattle.pgv_codec.specs.ScalarBinary.{signed_image, unsigned_image, bool_image, text_image, uuid_image}
-
 -- what is in a buffer, and what a call did to it
 pub use Rattle.pgv_buf.specs.Tokens.{Cell, blank, shown, hole_types_of, hole_count}
 pub use Rattle.pgv_codec.specs.Outcome.{Encoded, Refused, Appended}
-
 -- what null or bytes mean
 pub use Rattle.pgv_value.specs.FrameBinary.{Part, front}
 pub use Rattle.pgv_value.specs.Reading.{Reading, Answers}
@@ -22,12 +19,10 @@ pub use Rattle.pgv_value.specs.declared.value.PgValueFormat.{PgValueFormat}
 pub use Rattle.pgv_value.specs.declared.value.PgValueFormat.TheVariants.{Binary, Text}
 pub use Rattle.pgv_value.specs.ScalarGrammar.{scalar, binary_alone, bool_reading, int_reading, oid_reading, uuid_reading, text_reading}
 pub use Rattle.pgv_codec.specs.Saying.{plainly, unwritten, field_written}
-
 -- arguments of a statement, and a row of frames
 pub use Rattle.pgv_wire.specs.Arguments.{Argument, Framed, all_tokens, types_in, framed, early, filled_arguments}
 pub use Rattle.pgv_wire.specs.Parts.{ReadAs}
 pub use Rattle.pgv_wire.specs.Given.{ArgumentReadsBack}
-
 -- what comes back of what was written
 pub use Rattle.pgv_codec.specs.Back.{ReadsBack, always, FieldFits, FieldsFit, Followed}
 pub use Rattle.pgv_codec.specs.BackParts.{guarded}
@@ -37,12 +32,9 @@ pub use Rattle.pgv_codec.specs.Plain.{FieldIsPlain}
 pub use Rattle.pgv_codec.specs.Writing.{written_part}
 pub use Rattle.pgv_ltree.specs.Ascii.{are_ascii, ascii_is_utf8}
 pub use Rattle.pgv_ltree.specs.TreesBack.{tree_back, tree_kept}
-
 -- for the answer of a composite's encoder, one more_fields a field
 pub use Rattle.pgv_codec.specs.Fields.{no_fields, more_fields, all_fields}
-
 -- for a composite's Codec
 pub use Rattle.pgv_codec.specs.Saying.{field_agrees, same_none, same_fields, record_agrees}
-
 -- a field that is plain fits
 pub use Rattle.pgv_codec.proofs.PlainFits.{field_fits}

@@ -1,7 +1,6 @@
 -- Reading one part after the other.
 use Rattle.std.specs.Prelude.{ℕ, nat_lt, List, length, take, drop, Option, Some, None, if◌then◌else◌}
 use Rattle.std.specs.Int.{w32, from_be_bytes}
-
 -- one step after the other, where each has a value
 pub use Rattle.pgv_text.specs.FieldText.{◌>>=◌}
 
