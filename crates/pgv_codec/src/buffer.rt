@@ -118,6 +118,7 @@ impl PgArgumentBuffer {
 
     /// Appends a slot: bytes that depend on the type of the parameter that they are part of. A filling shows the
     /// first case whose type is softly equal to it, else the default. C1 leaves the buffer as it was.
+    /// A space with a case `01` for `jsonb` shows `20` until it is filled.
     pub fn push_slot(
         &mut self,
         standard: &[u8],

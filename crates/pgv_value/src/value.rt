@@ -164,6 +164,8 @@ impl<'r> PgValueRef<'r> {
     /// "Message Formats", DataRow: a signed length of four bytes, the highest first, and that many bytes; -1 is
     /// null). A slice that ends too early is refused with C15 and any other negative length with C16; the slice then
     /// stays where it was.
+    ///
+    /// Of `00000004 00000007 ff` the part is `00000007`, and `ff` is left; `ffffffff` is null.
     #[inline(always)]
     pub fn get(
         bytes: &mut &'r [u8],

@@ -70,6 +70,7 @@ impl PgArguments {
     }
 
     /// How many arguments there are.
+    /// After `add(7)` to empty arguments it is 1.
     pub fn len(&self) -> usize
         ensures { result ≡ length self.now }
     {
@@ -77,6 +78,7 @@ impl PgArguments {
     }
 
     /// The type of each argument: what its value produced, or else its Rust type's.
+    /// After `add(7)` they are `int4` alone.
     pub fn types(&self) -> &[PgTypeInfo]
         ensures { result.now ≡ types_in self.now }
     {
@@ -99,6 +101,7 @@ impl PgArguments {
     /// Adds a value, and remembers what it produces or else its type's info. It is accepted, out of memory (C1)
     /// aside, exactly where the value has a frame; a refused one leaves all as it was. C2 where the size hint or the
     /// image is above 2147483647.
+    /// 7 added to empty arguments is `00000004 00000007`, and the value stays yours.
     #[inline(always)]
     pub fn add_by_ref<T: Encode + Type>(&mut self, value: &T) -> Result<(), CodecError>
         ensures ok { OnOk result (Added (frame (T.hint value.now) (T.image value.now)) (or_else (T.produced value.now) T.info) self.old self.new) }
@@ -120,6 +123,7 @@ impl PgArguments {
     }
 
     /// Adds a value, as [`add_by_ref`](PgArguments::add_by_ref) does.
+    /// 7 is `00000004 00000007`, and `None::<i32>` is `ffffffff`.
     pub fn add<T: Encode + Type + Drop>(&mut self, value: T) -> Result<(), CodecError>
         ensures ok { OnOk result (Added (frame (T.hint value) (T.image value)) (or_else (T.produced value) T.info) self.old self.new) }
         ensures err { IfErr result (λ e. Refused e (frame (T.hint value) (T.image value))) }
@@ -130,6 +134,7 @@ impl PgArguments {
 
     /// Adds each value in order, and answers an outcome for each. The list of outcomes is reserved first: where that
     /// is refused (C1), nothing was added.
+    /// Of 2, a value that refuses and 4, the outcomes are Ok, an error and Ok, and the bytes `00000004 00000002 00000004 00000004`.
     pub fn add_each<T: Encode + Type>(
         &mut self,
         alloc: Global,
@@ -150,6 +155,7 @@ impl PgArguments {
 
     /// Appends the placeholder of the last argument, `$` and [`len`](PgArguments::len) in decimal. C1 leaves the
     /// text as it was.
+    /// With one argument it is `$1`.
     pub fn format_placeholder(&self, out: &mut String) -> Result<(), CodecError>
         ensures ok { OnOk result (string_bytes out.new ≡ string_bytes out.old ++ 36 ∷ decimal (length self.now)) }
         ensures err { IfErr result (λ e. (e ≡ Memory) × (string_bytes out.new ≡ string_bytes out.old)) }
@@ -161,6 +167,7 @@ impl PgArguments {
     }
 
     /// The types whose OIDs are missing, in the order of their holes.
+    /// After a list of values of the type `mood`, known by its name, they are `mood` alone.
     pub fn hole_types(&self) -> &[PgTypeInfo]
         ensures { result.now ≡ hole_types_of (all_tokens self.now) }
     {
@@ -179,6 +186,9 @@ impl PgArguments {
     /// wanted (C10), and as many OIDs as holes (C11); a refusal changes nothing, and with the right numbers there is
     /// none. It takes no memory and may be called again, also with additions between: each call fills all anew, and
     /// the bytes are the frames written early with these types and OIDs.
+    ///
+    /// The list `{ok}` of that type is `0000001a 00000001 00000000 00000000 00000001 00000001 00000002 6f6b`; with the OID 16600 the four bytes
+    /// of its third number are `000040d8`, and after a second call with 16601 `000040d9`.
     pub fn apply_patches(&mut self, types: &[PgTypeInfo], oids: &[Oid]) -> Result<(), CodecError>
         ensures ok { length types.now ≡ length self.old → length oids.now ≡ hole_count (all_tokens self.old) → IsOk result }
         ensures parameters { length types.now ≢ length self.old → IsErrOf result ParameterCount }

@@ -171,6 +171,7 @@ impl<T: Encode + Type, const N: usize> Encode for [T; N] {
 /// Null is refused with C13, a text that is not UTF-8 with C14 and one outside the grammar with C29, bytes that end too
 /// early with C15, a negative number of elements or length with C16, other dimensions with C19, a lower bound other than
 /// 1 with C20, elements of an unknown type with C21, and what an element is refused with.
+/// `00000001 00000000 00000017 00000001 00000001 00000004 00000007` and `{7}` are a list of one 7.
 impl<T: Decode + Type> Decode for Vec<T> {
     ghost use Rattle.std.specs.Prelude.{List, map};
     ghost use Rattle.pgv_nest.specs.ArrayGrammar.{array};

@@ -69,6 +69,7 @@ fn instant_after(micros: i64) -> Option<Timestamp>
 /// Reads a `date`: in binary the days from 2000-01-01, in one to eight bytes of two's complement, and in text
 /// `YYYY-MM-DD`. Another number of bytes is refused with C17, a day outside the years -9999 to 9999 with C30, and
 /// another text with C29.
+/// `00000001` and `2000-01-02` are the same day.
 pub fn read_date(value: &PgValueRef<'_>) -> Result<Date, CodecError>
     ensures exact { AnswersExactly epoch_day (date_reading value.now.type_info value.now.format value.now.bytes) result }
     ensures refused { IfErr result (λ e. e ≡ date_time_refusal value.now.format value.now.bytes) }
@@ -86,6 +87,7 @@ pub fn read_date(value: &PgValueRef<'_>) -> Result<Date, CodecError>
 /// Reads a `time`: in binary the microseconds of the day, in one to eight bytes of two's complement and round the clock,
 /// and in text `HH:MM:SS`, perhaps with a fraction of up to six digits, or `24:00:00` for midnight. Another number of bytes
 /// is refused with C17, and another text with C29.
+/// `00000000000f4240` and `00:00:01` are the first second.
 pub fn read_time(value: &PgValueRef<'_>) -> Result<Time, CodecError>
     ensures exact { AnswersExactly time_nanos (time_reading value.now.type_info value.now.format value.now.bytes) result }
     ensures refused { IfErr result (λ e. e ≡ date_time_refusal value.now.format value.now.bytes) }
@@ -100,6 +102,7 @@ pub fn read_time(value: &PgValueRef<'_>) -> Result<Time, CodecError>
 /// Reads a `timestamp`: in binary the microseconds from 2000-01-01 00:00, in one to eight bytes of two's complement, and
 /// in text a date, a space, a time, and perhaps an offset with `+`, which is ignored. Another number of bytes is refused
 /// with C17, a date-time outside the years -9999 to 9999 with C30, and another text with C29.
+/// `00000000000f4240` and `2000-01-01 00:00:01` are the same.
 pub fn read_date_time(value: &PgValueRef<'_>) -> Result<DateTime, CodecError>
     ensures exact { AnswersExactly civil_nanos (date_time_reading value.now.type_info value.now.format value.now.bytes) result }
     ensures refused { IfErr result (λ e. e ≡ date_time_refusal value.now.format value.now.bytes) }
@@ -116,6 +119,7 @@ pub fn read_date_time(value: &PgValueRef<'_>) -> Result<DateTime, CodecError>
 /// Reads a `timestamptz`: in binary the microseconds from 2000-01-01 00:00 UTC, in one to eight bytes of two's complement,
 /// and in text a date, a space, a time and an offset. Another number of bytes is refused with C17, an instant outside
 /// those of `jiff` with C30 in binary, and another text with C29.
+/// `00000000000f4240` and `2000-01-01 02:00:01+02` are the same instant.
 pub fn read_instant(value: &PgValueRef<'_>) -> Result<Timestamp, CodecError>
     ensures exact { AnswersExactly (λ at. at.nanosecond) (instant_reading value.now.type_info value.now.format value.now.bytes) result }
     ensures refused { IfErr result (λ e. e ≡ date_time_refusal value.now.format value.now.bytes) }

@@ -86,6 +86,7 @@ fn address_alone(network: IpNetwork) -> Result<IpAddr, CodecError>
 /// Reads an `inet` or a `cidr`: in binary the family, the prefix, a byte that is ignored, the number of octets and the
 /// octets, and in text an address, and perhaps `/` and the prefix. Refused are a wrong length with C17, another family with
 /// C31, a prefix that is too long with C32, and another text with C29.
+/// `02180004c0a80000` and `192.168.0.0/24` are the same network.
 pub fn read_ip_network(value: &PgValueRef<'_>) -> Result<IpNetwork, CodecError>
     ensures exact { AnswersExactly network_of (network_reading value.now.type_info value.now.format value.now.bytes) result }
     ensures refused { IfErr result (λ e. e ≡ network_refusal value.now.format value.now.bytes) }
@@ -99,6 +100,7 @@ pub fn read_ip_network(value: &PgValueRef<'_>) -> Result<IpNetwork, CodecError>
 
 /// Reads an `inet` or a `cidr` as an address, as [`read_ip_network`] reads them; a prefix that is not full is refused with
 /// C33.
+/// `02200004c0a80001` and `192.168.0.1` are the same address.
 pub fn read_ip_address(value: &PgValueRef<'_>) -> Result<IpAddr, CodecError>
     ensures exact { AnswersExactly (λ address. address) (address_reading value.now.type_info value.now.format value.now.bytes) result }
     ensures refused { IfErr result (λ e. e ≡ address_refusal value.now.format value.now.bytes) }
