@@ -51,10 +51,10 @@ mod tests {
         let parameters = [PgTypeInfo(PgType::Int4), moods_type(alloc)?];
         arguments.apply_patches(&parameters, &[Oid(16600)])?;
         let mut rest = arguments.buffer().as_slice();
-        let [int4, array] = parameters;
+        let int4 = PgTypeInfo(PgType::Int4);
         let user = PgValueRef::get(&mut rest, PgValueFormat::Binary, int4)?;
         assert_eq!(rt; UserId::decode(alloc, user)?, UserId(7));
-        let list = PgValueRef::get(&mut rest, PgValueFormat::Binary, array)?;
+        let list = PgValueRef::get(&mut rest, PgValueFormat::Binary, moods_type(alloc)?)?;
         let same = Vec::<Option<Mood>>::decode(alloc, list)?;
         assert_eq!(rt; same.as_slice(), moods.as_slice());
         Ok(())
