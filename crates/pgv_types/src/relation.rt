@@ -9,6 +9,7 @@ use crate::{Oid, PgType, PgTypeInfo, PgTypeKind};
 
 impl PgType {
     /// The OID, or that of the type under a domain.
+    #[inline(always)]
     pub(crate) fn base_oid(&self) -> Option<Oid>
         ensures { option_map (λ o. o.0) result ≡ base_oid (type_of self.now) }
     {
@@ -24,6 +25,7 @@ impl PgType {
 
 impl PgTypeInfo {
     /// Whether the base OIDs are equal, where both are known.
+    #[inline(always)]
     fn same_base(&self, other: &PgTypeInfo) -> Option<bool>
         ensures { result ≡ common_base (base_oid self.now) (base_oid other.now) }
     {
@@ -77,10 +79,14 @@ impl PgTypeInfo {
     /// By the first rule that applies: two base OIDs, a domain's being that of the type under it,
     /// are equal or not; yes where either type is declared by its OID; two elements, softly; else
     /// whether the catalogue names agree. It takes no memory.
+    #[inline(always)]
     pub fn type_compatible(&self, other: &PgTypeInfo) -> bool
         ensures { result ≡ softly self.now other.now }
     {
-        self.is_related(other, true)
+        match self.same_base(other) {
+            Some(same) => same,
+            None => self.is_related(other, true),
+        }
     }
 
     /// Whether the two are one type, as far as is known: the exact relation.
