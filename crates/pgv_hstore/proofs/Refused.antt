@@ -1,5 +1,5 @@
 -- Why pairs that are read one after another are refused.
-use Rattle.std.proofs.Common.{◌≡◌, ℕ, suc, ◌+◌, ◌-◌, ◌<◌, List, Option, Some, None, refl, sym, ap, ◌∙◌, arith}
+use Rattle.std.proofs.Common.{◌≡◌, ℕ, suc, ◌+◌, ◌-◌, ◌<◌, List, Some, None, refl, sym, ap, ◌∙◌, arith}
 use Rattle.pgv_value.specs.FrameBinary.{Part}
 use Rattle.pgv_value.specs.Reading.{Refuses}
 use Rattle.pgv_value.specs.declared.error.CodecError.{CodecError}
