@@ -43,7 +43,7 @@ refused_at_value e count i form between key whole lt so_far f g why =
     let k : count - i ≡ suc (count - (i + 1)) = omega arith in
     both_facts e
     (λ (none : value_front between ≡ None) (said : e ≡ value_refusal between).
-        said ∙ sym (at_value (count - (i + 1)) form between key f none) ∙ ap (λ (n : ℕ). pairs_refusal n form) (sym k) ∙ so_far)
+    said ∙ sym (at_value (count - (i + 1)) form between key f none) ∙ ap (λ (n : ℕ). pairs_refusal n form) (sym k) ∙ so_far)
     g why
 
 pub refused_later : (count i : ℕ) (form between after : List ℕ) (key : List ℕ) (value : Part) (whole : CodecError) → i < count → key_front form ≡ Some (key, between) →

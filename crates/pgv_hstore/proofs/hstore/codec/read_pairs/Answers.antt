@@ -15,7 +15,7 @@ returns-in_err-key c =
     rw (k.1, k.2)
     (record {
       exact = Refuses-weaker e (ends_at_key (map pair_of c.loop.map.entries) c.args.count c.loop.counter c.loop.rest.now (put_read [] c.args.count c.args.form.now) c.loop-test.true c.loop.invariant.0) c.in_err-key.ensures.exact;
-      refused = refused_at_key e c.args.count c.loop.counter c.loop.rest.now (pairs_refusal c.args.count c.args.form.now) c.loop-test.true c.loop.invariant.1 c.in_err-key.ensures.exact c.in_err-key.ensures.refused
+      refused = refused_at_key e c.args.count c.loop.counter c.loop.rest.now (pairs_refusal c.args.count c.args.form.now) c.loop-test.true c.loop.invariant.1 c.in_err-key.ensures.exact c.in_err-key.ensures.refused;
     })
 
 pub returns-in_err-value : goal.returns-in_err-value
@@ -30,16 +30,16 @@ returns-in_err-value c =
           c.in_err-value.ensures.exact;
       refused =
           refused_at_value e c.args.count c.loop.counter c.loop.rest.now c.in_ok-key.after.now (string_bytes c.in_ok-key.key) (pairs_refusal c.args.count c.args.form.now) c.loop-test.true c.loop.invariant.1 c.in_ok-key.ensures.exact c.in_err-value.ensures.exact
-          c.in_err-value.ensures.refused
+          c.in_err-value.ensures.refused;
     })
 
 pub loop-preserved : goal.loop-preserved
 loop-preserved c = (
   goes_on (map pair_of c.loop.map.entries) (map pair_of c.put_pair.new.map.entries) c.args.count c.loop.counter c.loop.rest.now c.in_ok-key.after.now c.in_ok-value.after.now (string_bytes c.in_ok-key.key)
-  (option_map string_bytes c.in_ok-value.value) (put_read [] c.args.count c.args.form.now) c.loop-test.true c.in_ok-key.ensures.exact c.in_ok-value.ensures.exact
-  (ap (map pair_of) c.in_ok-put_pair.ensures ∙ inserted c.loop.map.entries c.in_ok-key.key c.in_ok-value.value) c.loop.invariant.0,
+      (option_map string_bytes c.in_ok-value.value) (put_read [] c.args.count c.args.form.now) c.loop-test.true c.in_ok-key.ensures.exact c.in_ok-value.ensures.exact
+      (ap (map pair_of) c.in_ok-put_pair.ensures ∙ inserted c.loop.map.entries c.in_ok-key.key c.in_ok-value.value) c.loop.invariant.0,
   refused_later c.args.count c.loop.counter c.loop.rest.now c.in_ok-key.after.now c.in_ok-value.after.now (string_bytes c.in_ok-key.key) (option_map string_bytes c.in_ok-value.value)
-  (pairs_refusal c.args.count c.args.form.now) c.loop-test.true c.in_ok-key.ensures.exact c.in_ok-value.ensures.exact c.loop.invariant.1,
+      (pairs_refusal c.args.count c.args.form.now) c.loop-test.true c.in_ok-key.ensures.exact c.in_ok-value.ensures.exact c.loop.invariant.1,
 )
 
 pub returns-clause-exact : goal.returns-clause-exact

@@ -6,12 +6,12 @@ pub returns-in-Err : goal.returns-in-Err
 returns-in-Err g c =
     record {
       exact = text_refused c.args.text.now c.in-Some.digits.now g.row.N c.in-Err.field-0 c.in-Some.ensures (sym c.from_hex.ensures ∙ c.in-Err.is);
-      refused = refused_for_length c.args.text.now c.in-Some.digits.now c.in-Some.ensures (sym c.are_pairs.ensures ∙ c.if-are_pairs.true)
+      refused = refused_for_length c.args.text.now c.in-Some.digits.now c.in-Some.ensures (sym c.are_pairs.ensures ∙ c.if-are_pairs.true);
     }
 
 pub returns-in-Err-2 : goal.returns-in-Err-2
 returns-in-Err-2 g c =
     record {
       exact = text_refused c.args.text.now c.in-Some.digits.now g.row.N c.in-Err-2.field-0 c.in-Some.ensures (sym c.from_hex.ensures ∙ c.in-Err-2.is);
-      refused = refused_for_digits c.args.text.now c.in-Some.digits.now c.in-Some.ensures (sym c.are_pairs.ensures ∙ c.if-are_pairs.false)
+      refused = refused_for_digits c.args.text.now c.in-Some.digits.now c.in-Some.ensures (sym c.are_pairs.ensures ∙ c.if-are_pairs.false);
     }
