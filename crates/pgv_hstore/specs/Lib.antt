@@ -1,3 +1,4 @@
 pub mod Hstore
+pub mod HstoreRefusal
 pub mod HstoreBack
 pub mod Laws

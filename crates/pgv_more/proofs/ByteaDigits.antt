@@ -1,11 +1,13 @@
 -- The digits of strings of bytes.
-use Rattle.std.proofs.Common.{◌≡◌, ◌↔◌, ℕ, zero, suc, ◌+◌, ◌*◌, ◌<◌, ◌≤◌, eqb, Bool, true, false, cond, List, [], ◌∷◌, length, Option, Some, None, Result, Ok, Err, refl, sym, ap, ◌∙◌, arith}
-use Rattle.std.proofs.lemmas.Bool.{eqb-true}
+use Rattle.std.proofs.Common.{◌≡◌, ℕ, ◌*◌, ◌/◌, ◌%◌, ◌==◌, ◌&&◌, Bool, true, false, List, length, Some, None, Result, Ok, Err, refl, sym, ◌∙◌, arith}
+use Rattle.std.proofs.lemmas.Bool.{and_parts, eqb-true}
+use Rattle.std.proofs.lemmas.List.Sums.{AllPass-from_list_all, list_all-from_AllPass}
 use Rattle.std.specs.Prelude.{nat_eq}
-use Rattle.hex.specs.Hex.{decode_of, decode_sized}
+use Rattle.hex.specs.Hex.{decode_of, decode_sized, is_hex_digit}
 use Rattle.hex.specs.declared.error.FromHexError.{FromHexError}
-use Rattle.hex.proofs.HexLemmas.{decode_of-ok, decode_sized-twice}
-use Rattle.pgv_more.specs.ByteaText.{bytea_in_text, digits_after, of_length, where_ok}
+use Rattle.hex.proofs.HexLemmas.{decode_of-digits, decode_of-ok, decode_sized-twice}
+use Rattle.pgv_value.specs.declared.error.CodecError.TheVariants.{Syntax, WrongLength}
+use Rattle.pgv_more.specs.ByteaText.{all_digits, bytea_in_text, digits_after, length_refusal, of_length, where_ok}
 
 -- where digits are refused for n bytes, they aren't those of n bytes
 not_sized : (digits : List ℕ) (n : ℕ) (e : FromHexError) (r : Result (List ℕ) FromHexError) → decode_of digits ≡ r → decode_sized digits n ≡ Err e → of_length n (where_ok r) ≡ None
@@ -21,3 +23,32 @@ not_sized digits n e (Ok value) is refused = by (nat_eq (length value) n) refl
 
 pub text_refused : (text digits : List ℕ) (n : ℕ) (e : FromHexError) → Some digits ≡ digits_after text → decode_sized digits n ≡ Err e → of_length n (bytea_in_text text) ≡ None
 text_refused text digits n e after refused = rw (← after) (not_sized digits n e (decode_of digits) refl refused)
+
+-- ---- which refusal it is
+
+-- pairs of digits stand for half as many bytes
+two_each : (digits value : List ℕ) → decode_of digits ≡ Ok value → WrongLength (length digits / 2) ≡ length_refusal (where_ok (decode_of digits))
+two_each digits value is =
+    let half : length digits / 2 ≡ length value = omega (arith, (decode_of-ok digits value is).2) in
+    rw (is, half) refl
+
+of_pairs : (digits : List ℕ) → (length digits % 2 == 0 && all_digits digits) ≡ true → WrongLength (length digits / 2) ≡ length_refusal (where_ok (decode_of digits))
+of_pairs digits pairs =
+    let parts = and_parts (length digits % 2 == 0) (all_digits digits) pairs in
+    let value = decode_of-digits digits (eqb-true (length digits % 2) 0 parts.0) (AllPass-from_list_all is_hex_digit digits parts.1) in
+    two_each digits value.0 value.1
+
+-- all others stand for none
+of_others : (digits : List ℕ) → (length digits % 2 == 0 && all_digits digits) ≡ false → (r : Result (List ℕ) FromHexError) → decode_of digits ≡ r → Syntax ≡ length_refusal (where_ok r)
+of_others digits others (Err f) is = refl
+of_others digits others (Ok value) is =
+    let good = decode_of-ok digits value is in
+    let all : all_digits digits ≡ true = list_all-from_AllPass is_hex_digit digits good.1 in
+    let pairs : (length digits % 2 == 0 && all_digits digits) ≡ true = rw (good.0, all) refl in
+    absurd (cc)
+
+pub refused_for_length : (text digits : List ℕ) → Some digits ≡ digits_after text → (length digits % 2 == 0 && all_digits digits) ≡ true → WrongLength (length digits / 2) ≡ length_refusal (bytea_in_text text)
+refused_for_length text digits after pairs = rw (← after) (of_pairs digits pairs)
+
+pub refused_for_digits : (text digits : List ℕ) → Some digits ≡ digits_after text → (length digits % 2 == 0 && all_digits digits) ≡ false → Syntax ≡ length_refusal (bytea_in_text text)
+refused_for_digits text digits after others = rw (← after) (of_others digits others (decode_of digits) refl)

@@ -3,12 +3,11 @@ use Rattle.std.specs.Prelude.{◌≡◌, ◌↔◌, ℕ, ◌==◌, ◌&&◌, nat
 use Rattle.std.specs.Option.{option_and_then}
 use Rattle.std.specs.List.{list_all}
 use Rattle.hex.specs.Hex.{decode_of, is_hex_digit}
-use Rattle.hex.specs.declared.error.FromHexError.{FromHexError}
 use Rattle.pgv_buf.specs.Tokens.{bytes}
 use Rattle.pgv_codec.specs.Image.{Image, image_of}
 use Rattle.pgv_value.specs.Reading.{Reading}
 use Rattle.pgv_value.specs.declared.error.CodecError.{CodecError}
-use Rattle.pgv_value.specs.declared.error.CodecError.TheVariants.{UnexpectedNull, Syntax}
+use Rattle.pgv_value.specs.declared.error.CodecError.TheVariants.{UnexpectedNull, Syntax, WrongLength}
 use Rattle.pgv_value.specs.declared.value.PgValueFormat.{PgValueFormat}
 use Rattle.pgv_value.specs.declared.value.PgValueFormat.TheVariants.{Text, Binary}
 use Rattle.pgv_more.specs.MacAddressText.{IsPair}
@@ -57,6 +56,16 @@ of_length n (Some value) = if nat_eq (length value) n then Some value else None
 
 abbrev pub sized_reading : ℕ → Reading (List ℕ)
 sized_reading n t f part = of_length n (bytea_reading t f part)
+
+-- a text that stands for no bytes is C29, and bytes of another length are C17
+abbrev pub length_refusal : Option (List ℕ) → CodecError
+length_refusal None = Syntax
+length_refusal (Some value) = WrongLength (length value)
+
+abbrev pub sized_refusal : PgValueFormat → Option (List ℕ) → CodecError
+sized_refusal f None = UnexpectedNull
+sized_refusal Text (Some text) = length_refusal (bytea_in_text text)
+sized_refusal Binary (Some value) = WrongLength (length value)
 
 -- a list of another length is none of their values
 abbrev pub sized_image : ℕ → List ℕ → Option Image

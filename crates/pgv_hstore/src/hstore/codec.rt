@@ -3,10 +3,12 @@
 ghost use Rattle.std.specs.Prelude.{◌≡◌, List, IfOk, IfErr, OnOk, OnErr, Some, refl, string_bytes, option_map, [], codes, map, if◌then◌else◌};
 ghost use Rattle.pgv_types.specs.Ty.{array_of, named};
 ghost use Rattle.pgv_types.specs.Relations.{softly};
-ghost use Rattle.pgv_value.specs.Reading.{Answers};
+ghost use Rattle.pgv_value.specs.Reading.{Answers, Refuses};
+ghost use Rattle.pgv_value.specs.declared.error.CodecError.TheVariants.{Utf8};
 ghost use Rattle.pgv_codec.specs.Outcome.{Encoded, Refused, Appended, AppendedAll};
 ghost use Rattle.pgv_codec.specs.Saying.{plainly};
 ghost use Rattle.pgv_hstore.specs.Hstore.{Pair, pair_of, pairs_of, hstore_image, hstore_in_binary, hstore_reading, key_front, value_front, part_written, pair_written, pairs_written, put_read};
+ghost use Rattle.pgv_hstore.specs.HstoreRefusal.{hstore_binary_refusal, hstore_refusal, key_refusal, pairs_refusal, value_refusal};
 ghost use Rattle.pgv_value.specs.Utf8.{is_utf8};
 
 use super::{PgHstore, put_pair};
@@ -141,7 +143,8 @@ impl Encode for PgHstore {
 /// A text of bytes, where they are UTF-8, else C14.
 #[tactic(auto, using(crate::proofs::Texts::whole_text))]
 fn text_of(alloc: Global, form: &[u8]) -> Result<String, CodecError>
-    ensures { Answers (λ text. string_bytes text) (if is_utf8 form.now then Some form.now else None) result }
+    ensures exact { Answers (λ text. string_bytes text) (if is_utf8 form.now then Some form.now else None) result }
+    ensures refused { IfErr result (λ e. Refuses e (e ≡ Utf8)) }
 {
     match str::from_utf8(form) {
         Ok(text) => Ok(String::from_str(alloc, text)?),
@@ -151,7 +154,8 @@ fn text_of(alloc: Global, form: &[u8]) -> Result<String, CodecError>
 
 /// The key in front, and the rest. Null is refused with C35.
 fn key_in_front(alloc: Global, form: &[u8]) -> Result<(String, &[u8]), CodecError>
-    ensures { Answers (λ p. (string_bytes p.0, p.1.now)) (key_front form.now) result }
+    ensures exact { Answers (λ p. (string_bytes p.0, p.1.now)) (key_front form.now) result }
+    ensures refused { IfErr result (λ e. Refuses e (e ≡ key_refusal form.now)) }
 {
     match part_in_front(form)? {
         (Some(part), rest) => Ok((text_of(alloc, part)?, rest)),
@@ -161,7 +165,8 @@ fn key_in_front(alloc: Global, form: &[u8]) -> Result<(String, &[u8]), CodecErro
 
 /// The value in front, and the rest.
 fn value_in_front(alloc: Global, form: &[u8]) -> Result<(Option<String>, &[u8]), CodecError>
-    ensures { Answers (λ p. (option_map string_bytes p.0, p.1.now)) (value_front form.now) result }
+    ensures exact { Answers (λ p. (option_map string_bytes p.0, p.1.now)) (value_front form.now) result }
+    ensures refused { IfErr result (λ e. Refuses e (e ≡ value_refusal form.now)) }
 {
     match part_in_front(form)? {
         (Some(part), rest) => Ok((Some(text_of(alloc, part)?), rest)),
@@ -171,7 +176,8 @@ fn value_in_front(alloc: Global, form: &[u8]) -> Result<(Option<String>, &[u8]),
 
 /// So many pairs, each put into the map. Room is taken pair by pair, whatever the number says.
 fn read_pairs(alloc: Global, count: u32, form: &[u8]) -> Result<PgHstore, CodecError>
-    ensures { Answers pairs_of (put_read [] count form.now) result }
+    ensures exact { Answers pairs_of (put_read [] count form.now) result }
+    ensures refused { IfErr result (λ e. Refuses e (e ≡ pairs_refusal count form.now)) }
 {
     let mut map = BTreeMap::new(alloc);
     let mut rest = form;
@@ -186,7 +192,8 @@ fn read_pairs(alloc: Global, count: u32, form: &[u8]) -> Result<PgHstore, CodecE
 
 /// The map of bytes.
 fn of_bytes(alloc: Global, form: &[u8]) -> Result<PgHstore, CodecError>
-    ensures { Answers pairs_of (hstore_in_binary form.now) result }
+    ensures exact { Answers pairs_of (hstore_in_binary form.now) result }
+    ensures refused { IfErr result (λ e. Refuses e (e ≡ hstore_binary_refusal form.now)) }
 {
     let (count, rest) = u32_in_front(form)?;
     if count as usize > LENGTH_LIMIT {
@@ -207,6 +214,8 @@ impl Decode for PgHstore {
     ghost reading = { hstore_reading };
 
     ghost written = { plainly hstore_image };
+
+    ghost refusal = { Some hstore_refusal };
 
     fn decode(alloc: Global, value: PgValueRef<'_>) -> Result<PgHstore, CodecError> {
         let bytes = value.as_bytes()?;

@@ -1,14 +1,15 @@
 //! Strings of a number of bytes that is known (PostgreSQL, "Binary Data Types", bytea).
 
-ghost use Rattle.std.specs.Prelude.{◌≡◌, ℕ, List, Some, false, refl};
+ghost use Rattle.std.specs.Prelude.{◌≡◌, ℕ, ◌%◌, ◌==◌, ◌&&◌, List, Some, IfErr, false, length, refl};
 ghost use Rattle.pgv_types.specs.Ty.{builtin};
 ghost use Rattle.pgv_types.specs.Relations.{softly};
 ghost use Rattle.pgv_codec.specs.Saying.{plainly};
 ghost use Rattle.pgv_value.specs.Reading.{AnswersExactly};
-ghost use Rattle.pgv_more.specs.ByteaText.{all_digits, bytea_in_text, of_length, sized_image, sized_reading};
+ghost use Rattle.pgv_value.specs.declared.error.CodecError.TheVariants.{WrongLength};
+ghost use Rattle.pgv_more.specs.ByteaText.{all_digits, bytea_in_text, length_refusal, of_length, sized_image, sized_reading, sized_refusal};
 
 use super::digits_of;
-use hex::{FromHex, FromHexError};
+use hex::FromHex;
 use pgv_codec::{Codec, Decode, Encode, IsNull, PgArgumentBuffer, PgHasArrayType, ReadBack, Type};
 use pgv_types::{PgType, PgTypeInfo};
 use pgv_value::{CodecError, PgValueFormat, PgValueRef};
@@ -25,18 +26,24 @@ fn are_digits(digits: &[u8]) -> bool
     digits.iter().all(|digit| digit.is_ascii_hexdigit())
 }
 
+/// Whether they are pairs of hex digits.
+fn are_pairs(digits: &[u8]) -> bool
+    ensures { result ≡ (length digits.now % 2 == 0 && all_digits digits.now) }
+{
+    digits.len() % 2 == 0 && are_digits(digits)
+}
+
 /// The bytes of a text `\x00ff`, of `N` bytes.
 fn of_text<const N: usize>(text: &[u8]) -> Result<PgByteaArray<N>, CodecError>
     ensures exact { AnswersExactly (λ b. b.0) (of_length N (bytea_in_text text.now)) result }
+    ensures refused { IfErr result (λ e. e ≡ length_refusal (bytea_in_text text.now)) }
 {
     let Some(digits) = digits_of(text) else {
         return Err(CodecError::Syntax);
     };
     match <[u8; N] as FromHex>::from_hex(digits) {
         Ok(bytes) => Ok(PgByteaArray(bytes)),
-        Err(FromHexError::InvalidStringLength) if are_digits(digits) => {
-            Err(CodecError::WrongLength(digits.len() / 2))
-        }
+        Err(_) if are_pairs(digits) => Err(CodecError::WrongLength(digits.len() / 2)),
         Err(_) => Err(CodecError::Syntax),
     }
 }
@@ -44,6 +51,7 @@ fn of_text<const N: usize>(text: &[u8]) -> Result<PgByteaArray<N>, CodecError>
 /// The bytes, where there are `N`.
 fn of_bytes<const N: usize>(bytes: &[u8]) -> Result<PgByteaArray<N>, CodecError>
     ensures exact { AnswersExactly (λ b. b.0) (of_length N (Some bytes.now)) result }
+    ensures refused { IfErr result (λ e. e ≡ WrongLength (length bytes.now)) }
 {
     match <[u8; N]>::try_from(bytes) {
         Ok(bytes) => Ok(PgByteaArray(bytes)),
@@ -100,8 +108,8 @@ impl<const N: usize> Encode for PgByteaArray<N> {
     }
 }
 
-/// Read as [`PgBytea`](super::PgBytea) is, of `N` bytes: another number of bytes, or of pairs of digits, is refused with C17. It takes no
-/// memory.
+/// Read as [`PgBytea`](super::PgBytea) is, of `N` bytes: another number of bytes, or of pairs of digits, is refused with C17, and another
+/// text with C29. Null is refused with C13. It takes no memory.
 impl<const N: usize> Decode for PgByteaArray<N> {
     ghost Meaning = { List ℕ };
 
@@ -112,6 +120,8 @@ impl<const N: usize> Decode for PgByteaArray<N> {
     ghost written = { plainly (sized_image N) };
 
     ghost takes_memory = { false };
+
+    ghost refusal = { Some sized_refusal };
 
     fn decode(_alloc: Global, value: PgValueRef<'_>) -> Result<PgByteaArray<N>, CodecError> {
         let bytes = value.as_bytes()?;
