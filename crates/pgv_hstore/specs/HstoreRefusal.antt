@@ -1,4 +1,5 @@
--- Why bytes are refused as a map of texts: in the order of reading the first number, key or value that isn't there says why.
+-- Why bytes are refused as a map of texts (PostgreSQL: appendix F, hstore). They are read in order, and the first number, key or
+-- value that can't be read gives the reason.
 use Rattle.std.specs.Prelude.{ℕ, zero, suc, nat_lt, if◌then◌else◌, List, Option, Some, None}
 use Rattle.std.specs.Int.{w32, cast_signed}
 use Rattle.pgv_codec.specs.Image.{limit}
@@ -10,34 +11,34 @@ use Rattle.pgv_value.specs.declared.error.CodecError.TheVariants.{Utf8, Short, H
 use Rattle.pgv_value.specs.declared.value.PgValueFormat.{PgValueFormat}
 use Rattle.pgv_hstore.specs.Hstore.{key_front, value_front}
 
--- what no step gives is refused for that step, and all else for what comes after it
-abbrev pub refused_or : {A : Type 0} → CodecError → Option A → (A → CodecError) → CodecError
-refused_or why None after = why
-refused_or why (Some there) after = after there
+-- the reason that is given where nothing was read, else the reason of what comes after
+abbrev pub refusal_or : {A : Type 0} → CodecError → Option A → (A → CodecError) → CodecError
+refusal_or reason None after = reason
+refusal_or reason (Some read) after = after read
 
--- a key that is there as a frame is null (C35) or isn't UTF-8 (C14)
+-- a frame that is no key: null is C35, and bytes that aren't UTF-8 are C14
 abbrev pub key_refusal_of : Part × List ℕ → CodecError
 key_refusal_of (None, rest) = HstoreNullKey
 key_refusal_of (Some key, rest) = Utf8
 
--- why no key stands in front
+-- why no key stands in front: there is no frame, or it is no key
 abbrev pub key_refusal : List ℕ → CodecError
-key_refusal form = refused_or (frame_fault form) (front form) key_refusal_of
+key_refusal form = refusal_or (frame_fault form) (front form) key_refusal_of
 
--- why no value stands in front: null is one
+-- why no value stands in front: there is no frame, or it isn't UTF-8 (C14); null is a value
 abbrev pub value_refusal : List ℕ → CodecError
-value_refusal form = refused_or (frame_fault form) (front form) (λ _. Utf8)
+value_refusal form = refusal_or (frame_fault form) (front form) (λ _. Utf8)
 
--- why n pairs don't stand there: by the first of them that doesn't (no pairs always stand there)
+-- why n pairs can't be read: the first key or value that can't be read says it (zero pairs are never refused)
 unfoldable pub pairs_refusal : ℕ → List ℕ → CodecError
 pairs_refusal zero form = Short
 pairs_refusal (suc n) form =
-    refused_or (key_refusal form) (key_front form) (λ key. refused_or (value_refusal key.1) (value_front key.1) (λ value. pairs_refusal n value.1))
+    refusal_or (key_refusal form) (key_front form) (λ key. refusal_or (value_refusal key.1) (value_front key.1) (λ value. pairs_refusal n value.1))
 
 -- fewer than four bytes are C15, and a negative number of pairs is C9
 abbrev pub hstore_binary_refusal : List ℕ → CodecError
 hstore_binary_refusal form =
-    refused_or Short (number form) (λ count. if nat_lt limit count.0 then HstoreLength (cast_signed w32 count.0) else pairs_refusal count.0 count.1)
+    refusal_or Short (number form) (λ count. if nat_lt limit count.0 then HstoreLength (cast_signed w32 count.0) else pairs_refusal count.0 count.1)
 
 abbrev pub hstore_refusal : PgValueFormat → Option (List ℕ) → CodecError
 hstore_refusal = refusal_alone hstore_binary_refusal
