@@ -35,6 +35,7 @@ impl PgTypeInfo {
     }
 
     /// Whether it was declared by its OID.
+    #[inline(always)]
     fn is_by_oid(&self) -> bool
         ensures { result ≡ is_by_oid self.now }
     {
@@ -42,6 +43,7 @@ impl PgTypeInfo {
     }
 
     /// Whether the soft relation asks no more, since one of the two is declared by its OID.
+    #[inline(always)]
     fn is_open(&self, other: &PgTypeInfo, soft: bool) -> bool
         ensures { result ≡ (soft && (is_by_oid self.now || is_by_oid other.now)) }
     {
@@ -83,10 +85,13 @@ impl PgTypeInfo {
     pub fn type_compatible(&self, other: &PgTypeInfo) -> bool
         ensures { result ≡ softly self.now other.now }
     {
-        match self.same_base(other) {
-            Some(same) => same,
-            None => self.is_related(other, true),
+        if let Some(same) = self.same_base(other) {
+            return same;
         }
+        if self.is_open(other, true) {
+            return true;
+        }
+        self.is_related(other, true)
     }
 
     /// Whether the two are one type, as far as is known: the exact relation.

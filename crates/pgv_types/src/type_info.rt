@@ -239,6 +239,7 @@ impl PgType {
     }
 
     /// Whether it was declared by its OID.
+    #[inline(always)]
     pub(crate) fn is_by_oid(&self) -> bool
         ensures { result ≡ is_by_oid (type_of self.now) }
     {

@@ -1,6 +1,10 @@
 use Rattle.std.proofs.Common.{true, sym, ◌∙◌}
-use Rattle.pgv_types.proofs.Related.{by_bases}
+use Rattle.pgv_types.proofs.Related.{by_bases, when_open}
 use Rattle.pgv_types.proofs.type_info.PgTypeInfo.type_compatible.Goals as goal
 
 pub returns-in-Some : goal.returns-in-Some
 returns-in-Some c = by_bases true c.args.self.now c.args.other.now c.in-Some.same (sym c.same_base.ensures ∙ c.in-Some.is)
+
+pub returns-then-is_open : goal.returns-then-is_open
+returns-then-is_open c =
+    when_open true c.args.self.now c.args.other.now (sym c.same_base.ensures ∙ c.in_default.is) (sym c.is_open.ensures ∙ c.if-is_open.true)
