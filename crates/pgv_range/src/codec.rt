@@ -178,21 +178,17 @@ fn read_text<T: Decode + Type>(alloc: Global, text: &str) -> Result<PgRange<T>, 
 {
     match Parts::new(TextForm::Range, text) {
         None => Err(CodecError::Syntax),
-        Some(parts) => read_parts(alloc, parts, text.len()),
+        Some(parts) => read_parts(alloc, parts),
     }
 }
 
-/// The two parts of a range, each read from one text under the own type of `T`. Room for a part is taken once.
-fn read_parts<T: Decode + Type>(
-    alloc: Global,
-    parts: Parts<'_>,
-    room: usize,
-) -> Result<PgRange<T>, CodecError>
+/// The two parts of a range, each read from one text under the own type of `T`.
+fn read_parts<T: Decode + Type>(alloc: Global, parts: Parts<'_>) -> Result<PgRange<T>, CodecError>
     ensures { Answers (range_meaning T.meaning) (bounds_in_text (T.reading T.info Text) (nest parts.entry)) result }
 {
     let (lower_included, upper_included) = parts.includes();
     let mut parts = parts;
-    let mut text = String::with_capacity(alloc, room)?;
+    let mut text = String::new(alloc);
     let start = next_bound_of(alloc, &mut parts, lower_included, &mut text)?;
     let end = next_bound_of(alloc, &mut parts, upper_included, &mut text)?;
     Ok(PgRange { start, end })
