@@ -62,6 +62,7 @@ impl MacAddress {
 }
 
 /// The byte of two hex digits of either case.
+#[inline(always)]
 fn byte_of(high: u8, low: u8) -> Option<u8>
     ensures { result ≡ pair_value high low }
 {
@@ -71,6 +72,7 @@ fn byte_of(high: u8, low: u8) -> Option<u8>
 }
 
 /// The byte of the pair after a separator in front, and what comes after the pair.
+#[inline(always)]
 fn pair_after(separator: u8, text: &[u8]) -> Option<(u8, &[u8])>
     ensures { option_map (λ p. (p.0, p.1.now)) result ≡ next_pair separator text.now }
 {
@@ -81,6 +83,7 @@ fn pair_after(separator: u8, text: &[u8]) -> Option<(u8, &[u8])>
 }
 
 /// The byte of the pair after a separator, where nothing comes after the pair.
+#[inline(always)]
 #[tactic(auto, using(crate::proofs::Pairs::not_at_end))]
 fn last_pair_after(separator: u8, text: &[u8]) -> Option<u8>
     ensures { option_map (λ byte. byte ∷ []) result ≡ pairs_after separator 1 text.now }

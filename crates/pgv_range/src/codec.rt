@@ -50,6 +50,7 @@ impl<T: Encode> Encode for PgRange<T> {
 }
 
 /// The frame of a bound, and nothing where there is none.
+#[inline(always)]
 fn encode_bound<T: Encode>(bound: &Bound<T>, out: &mut PgArgumentBuffer) -> Result<(), CodecError>
     ensures ok { OnOk result (AppendedAll (bound_frame T.hint T.image bound.now) out.old out.new) }
     ensures err { IfErr result (λ e. Refused e (bound_frame T.hint T.image bound.now)) }

@@ -66,6 +66,7 @@ pub(crate) enum RangeForm {
 
 impl RangeFlags {
     /// The flags of a range of these bounds.
+    #[inline(always)]
     pub(crate) fn of<T>(start: &Bound<T>, end: &Bound<T>) -> RangeFlags
         ensures { result.0 ≡ flags_of start.now end.now }
     {
@@ -75,6 +76,7 @@ impl RangeFlags {
     }
 
     /// The flags of a lower bound.
+    #[inline(always)]
     fn of_lower<T>(bound: &Bound<T>) -> RangeFlags
         ensures { result.0 ≡ lower_flag bound.now }
     {
@@ -86,6 +88,7 @@ impl RangeFlags {
     }
 
     /// The flags of an upper bound.
+    #[inline(always)]
     fn of_upper<T>(bound: &Bound<T>) -> RangeFlags
         ensures { result.0 ≡ upper_flag bound.now }
     {

@@ -1,10 +1,11 @@
 //! One scanner for the texts of nests: a bracket, parts separated by commas, a bracket. A table of cells
 //! says what a byte does at a place, by its class; all bytes that mean something are ASCII.
 
-ghost use Rattle.std.specs.Prelude.{◌≡◌, ◌==◌, ◌++◌, ◌∷◌, ℕ, List, Option, None, true, cond};
+ghost use Rattle.std.specs.Prelude.{◌≡◌, ◌==◌, ◌++◌, ◌∷◌, ◌≤◌, ℕ, List, Option, None, true, cond, drop, take, length};
 ghost use Rattle.std.specs.Option.{MatchOption};
 ghost use Rattle.pgv_text.specs.Forms.{form_of};
 ghost use Rattle.pgv_text.specs.declared.scanner.Class.TheVariants.{Other};
+ghost use Rattle.pgv_text.specs.declared.scanner.Place.TheVariants.{Outside, Quoted};
 ghost use Rattle.pgv_text.specs.declared.scanner.TextForm.{TextForm};
 ghost use Rattle.pgv_text.specs.Scan.{cell, class, grown, read, read_by, stands, stops};
 
@@ -160,6 +161,20 @@ fn is_never_special(byte: u8) -> bool
     matches!(byte, b'-'..=b'Z' | b'^'..=b'z' | 128..)
 }
 
+/// How many usual bytes stand in front. Outside and inside quotes they belong to the part's text.
+#[inline(always)]
+fn usual_in_front(bytes: &[u8]) -> usize
+    ensures within { result ≤ length bytes.now }
+    ensures outside { (form : TextForm) → read (form_of form) Outside bytes.now ≡ grown (take result bytes.now) (read (form_of form) Outside (drop result bytes.now)) }
+    ensures quoted { (form : TextForm) → read (form_of form) Quoted bytes.now ≡ grown (take result bytes.now) (read (form_of form) Quoted (drop result bytes.now)) }
+{
+    let mut count = 0;
+    while count < bytes.len() && is_never_special(bytes[count]) {
+        count += 1;
+    }
+    count
+}
+
 /// Whether the part that is null or absent stands here, and ends.
 #[inline(always)]
 pub fn is_nothing(form: TextForm, text: &str) -> bool
@@ -191,21 +206,29 @@ pub fn next_stop(form: TextForm, place: Place, text: &str) -> Option<Stop<'_>>
 {
     let bytes = text.as_bytes();
     let mut place = place;
-    for index in 0..bytes.len() {
+    let mut index = 0;
+    while index < bytes.len() {
         let byte = bytes[index];
         if is_never_special(byte) {
             match place {
                 Place::Start | Place::Outside => {
                     place = Place::Outside;
+                    index += 1 + usual_in_front(&bytes[index + 1..]);
                     continue;
                 }
-                Place::Quoted => continue,
+                Place::Quoted => {
+                    index += 1 + usual_in_front(&bytes[index + 1..]);
+                    continue;
+                }
                 _ => {}
             }
         }
         let cell = cell_of(form, place, class_of(form, byte));
         match cell {
-            Cell::Keep(next) => place = next,
+            Cell::Keep(next) => {
+                place = next;
+                index += 1;
+            }
             _ => {
                 return Some(Stop {
                     run: &text[..index],

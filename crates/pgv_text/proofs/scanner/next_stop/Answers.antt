@@ -1,6 +1,9 @@
-use Rattle.std.proofs.Common.{◌<◌, arith}
+use Rattle.std.proofs.Common.{◌<◌, ◌+◌, ◌-◌, ◌∙◌, drop, inl, inr, length, refl, sym, arith}
 use Rattle.std.specs.List.{slice_index}
+use Rattle.std.proofs.lemmas.List.{length-drop, take_all}
 use Rattle.std.proofs.lemmas.Str.{IsCharBoundary-after_ascii}
+use Rattle.pgv_text.specs.declared.scanner.Place.TheVariants.{Outside, Quoted}
+use Rattle.pgv_text.proofs.Runs.{usual_run}
 use Rattle.pgv_text.proofs.Stops.{stop_is_ascii}
 use Rattle.pgv_text.proofs.scanner.next_stop.Goals as goal
 
@@ -16,3 +19,29 @@ range-requires c =
       start_boundary = λ h. absurd (omega (arith, h));
       end_boundary = (omega (arith, c.loop-index-test.true, c.as_bytes-bytes.ensures), λ l k. absurd (omega (arith, low, k)));
     }
+
+-- a usual byte and those after it, outside quotes and inside them
+pub loop-index-preserved-in-Start : goal.loop-index-preserved-in-Start
+loop-index-preserved-in-Start c =
+    let value = c.as_bytes-bytes.ensures.value in
+    let whole = take_all (length c.as_bytes-bytes.result.now - (c.loop-index.index + 1)) (drop (c.loop-index.index + 1) c.as_bytes-bytes.result.now) (omega (arith, length-drop (c.loop-index.index + 1) c.as_bytes-bytes.result.now)) in (
+      omega (arith, c.usual_in_front.ensures.within, c.loop-index-test.true),
+      c.loop-index.invariant.1
+          ∙ usual_run c.args.form c.loop-index.place Outside c.usual_in_front.result (elim c.in-Start.is [ inl e ↦ rw e refl | inr e ↦ rw e refl ]) c.args.text.now c.loop-index.index
+          (omega (arith, c.loop-index-test.true, c.as_bytes-bytes.ensures))
+          (rw (sym value) (c.is_never_special.ensures c.if-is_never_special.true c.args.form))
+          (λ rest e. rw (e, sym value, sym whole) (c.usual_in_front.ensures.outside c.args.form)),
+    )
+
+pub loop-index-preserved-in-Quoted : goal.loop-index-preserved-in-Quoted
+loop-index-preserved-in-Quoted c =
+    let value = c.as_bytes-bytes.ensures.value in
+    let whole = take_all (length c.as_bytes-bytes.result.now - (c.loop-index.index + 1)) (drop (c.loop-index.index + 1) c.as_bytes-bytes.result.now) (omega (arith, length-drop (c.loop-index.index + 1) c.as_bytes-bytes.result.now)) in (
+      omega (arith, c.usual_in_front-in-Quoted.ensures.within, c.loop-index-test.true),
+      rw c.in-Quoted.is
+          (c.loop-index.invariant.1
+          ∙ usual_run c.args.form c.loop-index.place Quoted c.usual_in_front-in-Quoted.result (rw c.in-Quoted.is refl) c.args.text.now c.loop-index.index
+          (omega (arith, c.loop-index-test.true, c.as_bytes-bytes.ensures))
+          (rw (sym value) (c.is_never_special.ensures c.if-is_never_special.true c.args.form))
+          (λ rest e. rw (e, sym value, sym whole) (c.usual_in_front-in-Quoted.ensures.quoted c.args.form))),
+    )

@@ -1,0 +1,41 @@
+-- A usual byte of a text, and those that stand after it, in one step.
+use Rattle.std.proofs.Common.{◌≡◌, ◌<◌, ℕ, zero, suc, ◌+◌, List, [], ◌∷◌, length, take, drop, Option, Some, None, ap, sym, ◌∙◌, refl, arith}
+use Rattle.std.specs.List.{slice_index}
+use Rattle.std.specs.Option.{option_map}
+use Rattle.pgv_text.specs.declared.scanner.TextForm.{TextForm}
+use Rattle.pgv_text.specs.declared.scanner.Class.TheVariants.{Other}
+use Rattle.pgv_text.specs.declared.scanner.Place.{Place}
+use Rattle.pgv_text.specs.declared.scanner.Cell.TheVariants.{Keep}
+use Rattle.pgv_text.specs.declared.scanner.Cell.{Cell}
+use Rattle.pgv_text.specs.Forms.{form_of}
+use Rattle.pgv_text.specs.Scan.{Rest, class, cell, grown, kept, read, read_by}
+use Rattle.pgv_text.proofs.Stops.{grown_none}
+
+grown_more : (b : ℕ) (bs : List ℕ) (r : Option Rest) → option_map (kept b) (grown bs r) ≡ grown (b ∷ bs) r
+grown_more b bs None = refl
+grown_more b bs (Some r) = refl
+
+module _ (form : TextForm) (p q : Place) (n : ℕ) (keeps : cell (form_of form) p Other ≡ Keep q) where
+  -- what is read after so many bytes
+  abbrev read_after : List ℕ → ℕ → Option Rest
+  read_after text m = grown (take m text) (read (form_of form) q (drop m text))
+
+  -- a usual byte, and the n that stand after it
+  pub usual_run : (text : List ℕ) (i : ℕ) → i < length text → class (form_of form) (slice_index text i) ≡ Other →
+      ((rest : List ℕ) → rest ≡ drop (i + 1) text → read (form_of form) q rest ≡ read_after rest n) →
+      grown (take i text) (read (form_of form) p (drop i text)) ≡ read_after text (i + (1 + n))
+  usual_run [] i lt other run = absurd (omega (arith, lt))
+  usual_run (b ∷ bs) zero lt other run =
+      let all : suc n ≡ 0 + (1 + n) = omega arith in
+      grown_none (read (form_of form) p (b ∷ bs))
+      ∙ ap (λ (k : Cell). read_by (form_of form) b bs (λ r. read (form_of form) r bs) k) (ap (cell (form_of form) p) other ∙ keeps)
+      ∙ ap (option_map (kept b)) (run bs refl)
+      ∙ grown_more b (take n bs) (read (form_of form) q (drop n bs))
+      ∙ ap (read_after (b ∷ bs)) all
+  usual_run (b ∷ bs) (suc i) lt other run =
+      let one : suc (i + 1) ≡ suc i + 1 = omega arith in
+      let all : suc (i + (1 + n)) ≡ suc i + (1 + n) = omega arith in
+      sym (grown_more b (take i bs) (read (form_of form) p (drop i bs)))
+      ∙ ap (option_map (kept b)) (usual_run bs i (omega (arith, lt)) other (λ rest e. run rest (e ∙ ap (λ (m : ℕ). drop m (b ∷ bs)) one)))
+      ∙ grown_more b (take (i + (1 + n)) bs) (read (form_of form) q (drop (i + (1 + n)) bs))
+      ∙ ap (read_after (b ∷ bs)) all
