@@ -1,3 +1,4 @@
+pub mod Fours
 pub mod Frames
 pub mod Lists
 pub mod Records

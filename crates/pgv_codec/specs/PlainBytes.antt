@@ -4,7 +4,7 @@ use Rattle.std.proofs.Common.{sym, ap, ◌∙◌, append_assoc}
 use Rattle.pgv_buf.specs.Tokens.{Token, Cell, byte, bytes, blank}
 use Rattle.pgv_buf.specs.Blank.{blank-append}
 
-bytes-append : (front after : List ℕ) → bytes (front ++ after) ≡ bytes front ++ bytes after
+pub bytes-append : (front after : List ℕ) → bytes (front ++ after) ≡ bytes front ++ bytes after
 bytes-append [] after = refl
 bytes-append (x ∷ front) after = ap (λ (ts : List Token). byte x ∷ ts) (bytes-append front after)
 

@@ -57,8 +57,7 @@ fn encode_bound<T: Encode>(bound: &Bound<T>, out: &mut PgArgumentBuffer) -> Resu
     ensures appended { OnErr result (Appended out.old out.new) }
 {
     match bound {
-        Bound::Included(value) => out.encode(value),
-        Bound::Excluded(value) => out.encode(value),
+        Bound::Included(value) | Bound::Excluded(value) => out.encode(value),
         Bound::Unbounded => Ok(()),
     }
 }

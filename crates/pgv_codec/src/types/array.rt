@@ -62,7 +62,7 @@ pub fn type_of_value<T: Encode + Type>(value: &T) -> Result<PgTypeInfo, AllocErr
     }
 }
 
-/// What stands before the elements.
+/// What stands before the elements: one dimension and no flags, their type, their number and the lower bound 1.
 fn write_header(
     out: &mut PgArgumentBuffer,
     element: PgTypeInfo,
@@ -72,11 +72,10 @@ fn write_header(
     ensures err { IfErr result (λ e. e ≡ Memory) }
     ensures appended { OnErr result (Appended out.old out.new) }
 {
-    out.push_u32(1)?;
-    out.push_u32(0)?;
+    let [a, b, c, d] = count.to_be_bytes();
+    out.extend_from_slice(&[0, 0, 0, 1, 0, 0, 0, 0])?;
     out.push_type(element)?;
-    out.push_u32(count)?;
-    out.push_u32(1)?;
+    out.extend_from_slice(&[a, b, c, d, 0, 0, 0, 1])?;
     Ok(())
 }
 

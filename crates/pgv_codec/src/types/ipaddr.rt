@@ -63,14 +63,17 @@ impl Encode for IpAddr {
 
     ghost hint = { address_hint };
 
+    #[inline(always)]
     fn encode_by_ref(&self, out: &mut PgArgumentBuffer) -> Result<IsNull, CodecError> {
         write_network(*self, full_prefix(*self), out)
     }
 
+    #[inline(always)]
     fn size_hint(&self) -> usize {
         written_size(*self)
     }
 
+    #[inline(always)]
     fn produces(&self) -> Result<Option<PgTypeInfo>, AllocError> {
         Ok(None)
     }

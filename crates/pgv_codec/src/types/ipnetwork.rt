@@ -75,7 +75,11 @@ pub(crate) fn write_network(
     ensures appended { OnErr result (Appended out.old out.new) }
 {
     match address {
-        IpAddr::V4(ip) => write_octets(&[2, prefix, 0, 4], &ip.octets(), out),
+        IpAddr::V4(ip) => {
+            let [a, b, c, d] = ip.octets();
+            out.extend_from_slice(&[2, prefix, 0, 4, a, b, c, d])?;
+            Ok(IsNull::No)
+        }
         IpAddr::V6(ip) => write_octets(&[3, prefix, 0, 16], &ip.octets(), out),
     }
 }
@@ -116,14 +120,17 @@ impl Encode for IpNetwork {
 
     ghost hint = { λ v. network_hint (network_of v) };
 
+    #[inline(always)]
     fn encode_by_ref(&self, out: &mut PgArgumentBuffer) -> Result<IsNull, CodecError> {
         write_network(self.ip(), self.prefix(), out)
     }
 
+    #[inline(always)]
     fn size_hint(&self) -> usize {
         written_size(self.ip())
     }
 
+    #[inline(always)]
     fn produces(&self) -> Result<Option<PgTypeInfo>, AllocError> {
         Ok(None)
     }

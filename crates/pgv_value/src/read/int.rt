@@ -3,7 +3,7 @@
 ghost use Rattle.std.specs.Prelude.{◌≡◌, None, IfErr, IsErrOf};
 ghost use Rattle.std.specs.Int.{w16, w32, w64};
 ghost use Rattle.pgv_value.specs.Reading.{AnswersExactly};
-ghost use Rattle.pgv_value.specs.NumberBinary.{whole_number, whole_refusal};
+ghost use Rattle.pgv_value.specs.NumberBinary.{in_range, whole_number, whole_refusal};
 ghost use Rattle.pgv_value.specs.ScalarGrammar.{char_reading, char_refusal, int_reading, int_refusal};
 ghost use Rattle.pgv_value.specs.declared.error.CodecError.TheVariants.{UnexpectedNull};
 
@@ -22,11 +22,23 @@ pub(crate) fn whole_number_of(bytes: &[u8]) -> Result<i64, CodecError>
         return Err(CodecError::WrongLength(bytes.len()));
     }
     Ok(match bytes.len() {
-        2 => BigEndian::read_int(bytes, 2),
-        4 => BigEndian::read_int(bytes, 4),
-        8 => BigEndian::read_int(bytes, 8),
+        2 => i64::from(BigEndian::read_i16(bytes)),
+        4 => i64::from(BigEndian::read_i32(bytes)),
+        8 => BigEndian::read_i64(bytes),
         len => BigEndian::read_int(bytes, len),
     })
+}
+
+/// The number in one to eight bytes, if 32 bits have it: of four bytes, as nearly all are, in one read.
+#[inline(always)]
+fn number_of_32(bytes: &[u8]) -> Result<i32, CodecError>
+    ensures exact { AnswersExactly (λ number. number) (in_range w32 (whole_number bytes.now)) result }
+    ensures refused { IfErr result (λ e. e ≡ whole_refusal bytes.now) }
+{
+    if bytes.len() == 4 {
+        return Ok(BigEndian::read_i32(bytes));
+    }
+    Ok(i32::try_from(whole_number_of(bytes)?)?)
 }
 
 /// The number in either format, if 64 bits have it.
@@ -77,7 +89,10 @@ pub fn read_i32(value: &PgValueRef<'_>) -> Result<i32, CodecError>
     ensures refused { IfErr result (λ e. e ≡ int_refusal value.now.format value.now.bytes) }
     ensures null { value.now.bytes ≡ None → IsErrOf result UnexpectedNull }
 {
-    Ok(i32::try_from(integer(value)?)?)
+    match value.format() {
+        PgValueFormat::Binary => number_of_32(value.as_bytes()?),
+        PgValueFormat::Text => Ok(i32::try_from(number_of(value.as_str()?)?)?),
+    }
 }
 
 /// Reads an `int8`, as [`read_i16`] reads an `int2`; a number outside 64 bits is refused with C30. `fffffffffffffff9` is -7.

@@ -1,17 +1,24 @@
-use Rattle.std.proofs.Common.{refl, Some, ◌++◌}
-use Rattle.pgv_buf.specs.Tokens.{bytes, be4}
+use Rattle.std.specs.Prelude.{◌≡◌, ℕ, List, [], ◌∷◌, ◌++◌, refl, length, Some}
+use Rattle.std.proofs.Common.{sym, ap, ◌∙◌}
+use Rattle.pgv_buf.specs.Tokens.{bytes, be4, blank}
 use Rattle.pgv_codec.specs.Image.{typed, join}
-use Rattle.pgv_codec.proofs.Lists.{both, appended_both}
+use Rattle.pgv_codec.specs.PlainBytes.{bytes-append}
+use Rattle.pgv_codec.proofs.Fours.{four}
+use Rattle.pgv_codec.proofs.Lists.{appended_both}
 use Rattle.pgv_codec.proofs.types.array.write_header.Goals as goal
 
 -- one append after the other
 pub returns-clause-ok : goal.returns-clause-ok
 returns-clause-ok c =
     let was = c.args.out.now in
+    let after-flags = c.extend_from_slice.new.self in
     let after-type = c.push_type.new.self in
+    let now = c.extend_from_slice-2.new.self in
     let before = bytes (be4 1) ++ bytes (be4 0) in
     let rest_after = bytes (be4 c.args.count) ++ bytes (be4 1) in
-    let flags = both was c.push_u32.new.self c.push_u32-2.new.self (bytes (be4 1)) (bytes (be4 0)) c.in_ok-push_u32.ensures.ok c.in_ok-push_u32-2.ensures.ok in
-    let bounds = both after-type c.push_u32-3.new.self c.push_u32-4.new.self (bytes (be4 c.args.count)) (bytes (be4 1)) c.in_ok-push_u32-3.ensures.ok c.in_ok-push_u32-4.ensures.ok in
-    let element = appended_both (Some before) (typed c.args.element) was c.push_u32-2.new.self after-type (before, refl, flags) c.in_ok-push_type.ensures.ok in
-    appended_both (join (Some before) (typed c.args.element)) (Some rest_after) was after-type c.push_u32-4.new.self element (rest_after, refl, bounds)
+    let flags : after-flags ≡ was ++ blank before = c.in_ok-extend_from_slice.ensures.ok in
+    let long : length c.to_be_bytes.result ≡ 4 = search rules in
+    let last = c.in_ok-extend_from_slice-2.ensures.ok ∙ ap (λ (xs : List ℕ). after-type ++ blank (bytes (xs ++ be4 1))) (sym (four c.to_be_bytes.result long)) in
+    let bounds : now ≡ after-type ++ blank rest_after = last ∙ ap (λ (xs : List ℕ). after-type ++ blank (bytes (xs ++ be4 1))) c.to_be_bytes.ensures ∙ ap (λ xs. after-type ++ blank xs) (bytes-append (be4 c.args.count) (be4 1)) in
+    let element = appended_both (Some before) (typed c.args.element) was after-flags after-type (before, refl, flags) c.in_ok-push_type.ensures.ok in
+    appended_both (join (Some before) (typed c.args.element)) (Some rest_after) was after-type now element (rest_after, refl, bounds)
