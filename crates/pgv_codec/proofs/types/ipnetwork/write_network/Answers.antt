@@ -1,5 +1,5 @@
 use Rattle.std.specs.Prelude.{◌≡◌, ℕ, List, [], ◌∷◌, ◌++◌, refl, length}
-use Rattle.std.proofs.Common.{sym, ap, ◌∙◌}
+use Rattle.std.proofs.Common.{sym, ap, ◌∙◌, rules}
 use Rattle.pgv_buf.specs.Tokens.{bytes, blank}
 use Rattle.pgv_codec.proofs.Fours.{four}
 use Rattle.pgv_codec.proofs.types.ipnetwork.write_network.Goals as goal
