@@ -18,7 +18,7 @@ pub mod networks;
 pub mod rows;
 pub mod texts;
 
-use crate::traits::{Codec, Decode, ReadBack, Type};
+use crate::traits::{Codec, Decode, Plain, ReadBack, Type};
 
 /// The tuple that is decoded from bytes in binary is the one that they are a record of, whatever its fields are.
 pub fn tuple_is_its_fields<
@@ -108,7 +108,12 @@ pub fn tuple_reads_back<
     ensures nine { (a : A) (b : B) (c : C) (d : D) (e : E) (f : F) (g : G) (h : H) (i : I) (further : List (Option (List Token))) → RecordReadsBack ⟦<(A, B, C, D, E, F, G, H, I) as Decode>⟧.reading (field A.hint A.image A.produced A.info a ∷ field B.hint B.image B.produced B.info b ∷ field C.hint C.image C.produced C.info c ∷ field D.hint D.image D.produced D.info d ∷ field E.hint E.image E.produced E.info e ∷ field F.hint F.image F.produced F.info f ∷ field G.hint G.image G.produced G.info g ∷ field H.hint H.image H.produced H.info h ∷ field I.hint I.image I.produced I.info i ∷ further) (A.meaning (A.kept a), (B.meaning (B.kept b), (C.meaning (C.kept c), (D.meaning (D.kept d), (E.meaning (E.kept e), (F.meaning (F.kept f), (G.meaning (G.kept g), (H.meaning (H.kept h), I.meaning (I.kept i))))))))) (FieldsFit A.info A.produced A.hint A.image A.accepts A.fits a (FieldsFit B.info B.produced B.hint B.image B.accepts B.fits b (FieldsFit C.info C.produced C.hint C.image C.accepts C.fits c (FieldsFit D.info D.produced D.hint D.image D.accepts D.fits d (FieldsFit E.info E.produced E.hint E.image E.accepts E.fits e (FieldsFit F.info F.produced F.hint F.image F.accepts F.fits f (FieldsFit G.info G.produced G.hint G.image G.accepts G.fits g (FieldsFit H.info H.produced H.hint H.image H.accepts H.fits h (FieldFits I.info I.produced I.image I.accepts I.fits i))))))))) }
 {}
 
-/// A plain value comes back under every type.
+/// A plain value comes back under every type: no type chooses under which.
+pub fn plain_values_fit<T: Plain>()
+    ensures { (v : T) (t : Ty) (oids : List Oid) → ⟦<T as ReadBack>⟧.fits v t oids }
+{}
+
+/// These types are plain.
 pub fn plain_types_fit()
     ensures bool { (v : _) (t : Ty) (oids : List Oid) → ⟦<bool as ReadBack>⟧.fits v t oids }
     ensures i8 { (v : _) (t : Ty) (oids : List Oid) → ⟦<i8 as ReadBack>⟧.fits v t oids }
@@ -118,6 +123,13 @@ pub fn plain_types_fit()
     ensures oid { (v : _) (t : Ty) (oids : List Oid) → ⟦<pgv_types::Oid as ReadBack>⟧.fits v t oids }
     ensures string { (v : _) (t : Ty) (oids : List Oid) → ⟦<String as ReadBack>⟧.fits v t oids }
     ensures uuid { (v : _) (t : Ty) (oids : List Oid) → ⟦<uuid::Uuid as ReadBack>⟧.fits v t oids }
+    ensures date { (v : _) (t : Ty) (oids : List Oid) → ⟦<jiff::civil::Date as ReadBack>⟧.fits v t oids }
+    ensures time { (v : _) (t : Ty) (oids : List Oid) → ⟦<jiff::civil::Time as ReadBack>⟧.fits v t oids }
+    ensures date_time { (v : _) (t : Ty) (oids : List Oid) → ⟦<jiff::civil::DateTime as ReadBack>⟧.fits v t oids }
+    ensures timestamp { (v : _) (t : Ty) (oids : List Oid) → ⟦<jiff::Timestamp as ReadBack>⟧.fits v t oids }
+    ensures interval { (v : _) (t : Ty) (oids : List Oid) → ⟦<pgv_value::PgInterval as ReadBack>⟧.fits v t oids }
+    ensures network { (v : _) (t : Ty) (oids : List Oid) → ⟦<pgv_text::IpNetwork as ReadBack>⟧.fits v t oids }
+    ensures address { (v : _) (t : Ty) (oids : List Oid) → ⟦<std::net::IpAddr as ReadBack>⟧.fits v t oids }
 {}
 
 /// None comes back under every type, and Some where its value does. A list or an array comes back under an array whose

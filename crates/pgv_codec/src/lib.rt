@@ -50,7 +50,7 @@ pub mod traits;
 pub mod types;
 
 pub use buffer::{IsNull, PgArgumentBuffer};
-pub use traits::{Codec, Decode, Encode, PgHasArrayType, ReadBack, Type};
+pub use traits::{Codec, Decode, Encode, PgHasArrayType, Plain, ReadBack, Type};
 pub use types::array::{encode_array, type_of_value};
 pub use types::record::{PgRecordDecoder, PgRecordEncoder};
 pub use types::str::encode_text;

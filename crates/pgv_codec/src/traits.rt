@@ -1,13 +1,14 @@
 //! What can be written and read, and of which type it is.
 
 ghost use Rattle.std.specs.Prelude.{◌≡◌, ℕ, Bool, true, false, List, Option, None, IfOk, IfErr, IfSome, OnErr, IsErrOf};
+ghost use Rattle.pgv_types.specs.Relations.{softly};
 ghost use Rattle.pgv_types.specs.Ty.{Ty};
 ghost use Rattle.pgv_value.specs.Reading.{Answers, AnswersExactly, Refuses};
 ghost use Rattle.pgv_value.specs.declared.error.CodecError.{CodecError};
 ghost use Rattle.pgv_value.specs.declared.error.CodecError.TheVariants.{UnexpectedNull};
 ghost use Rattle.pgv_value.specs.declared.value.PgValueFormat.{PgValueFormat as Format};
 ghost use Rattle.pgv_types.specs.declared.oid.Oid.{Oid};
-ghost use Rattle.pgv_codec.specs.Back.{ReadsBack};
+ghost use Rattle.pgv_codec.specs.Back.{ReadsBack, always};
 ghost use Rattle.pgv_codec.specs.Image.{Image};
 ghost use Rattle.pgv_codec.specs.Outcome.{Encoded, Refused, Appended};
 ghost use Rattle.pgv_codec.specs.Saying.{Saying, said};
@@ -16,6 +17,7 @@ use crate::buffer::{IsNull, PgArgumentBuffer};
 use pgv_types::PgTypeInfo;
 use pgv_value::{CodecError, PgValueRef};
 use std::alloc::{AllocError, Global};
+use std::marker::PhantomData;
 
 /// A Rust type that stands for a type of PostgreSQL.
 pub trait Type {
@@ -131,4 +133,171 @@ pub trait ReadBack: Encode + Decode {
 pub trait Codec: Type + Encode + Decode {
     /// What an encoder says of a value is what is written of its meaning.
     ghost agrees: { (v : Self) → said Self.hint Self.image Self.produced Self.info v ≡ Self.written Self.info (Self.meaning v) };
+}
+
+/// A value that is not made of others, as a number, a text or a date: it is read under whatever type it is given, and what
+/// was written comes back under every type. From this one impl it has [`Decode`], [`ReadBack`] and [`Codec`].
+pub trait Plain: Type + Encode + Sized + Drop {
+    /// What a value says, without where it lies in memory.
+    ghost Meaning: { Type 0 };
+
+    /// What a value says.
+    ghost meaning: { Self → Meaning };
+
+    /// What null or bytes mean under a type and in a format, where they mean anything.
+    ghost reading: { Ty → Format → Option (List ℕ) → Option Meaning };
+
+    /// What is written of a meaning under a type.
+    ghost written: { Ty → Meaning → Saying };
+
+    /// Whether reading takes memory. Where it takes none, it is never refused as out of memory.
+    ghost takes_memory: { Bool } = { false };
+
+    /// Which refusal is answered, out of memory aside, by the format and the bytes, where the type states it.
+    ghost refusal: { Option (Format → Option (List ℕ) → CodecError) } = { None };
+
+    /// The value as it comes back: where it says nothing else, as it is.
+    ghost kept: { Self → Self } = { λ v. v };
+
+    /// The value that is read: what [`Decode::decode`] answers.
+    fn read(alloc: Global, value: PgValueRef<'_>) -> Result<Self, CodecError>
+        ensures exact { Answers meaning (reading value.entry.type_info value.entry.format value.entry.bytes) result }
+        ensures exactly { takes_memory ≡ false → AnswersExactly meaning (reading value.entry.type_info value.entry.format value.entry.bytes) result }
+        ensures refused { IfSome refusal (λ why. IfErr result (λ e. Refuses e (e ≡ why value.entry.format value.entry.bytes))) }
+        ensures null { value.entry.bytes ≡ None → reading value.entry.type_info value.entry.format None ≡ None → IsErrOf result UnexpectedNull };
+
+    /// What is written of a value is read in binary as what it keeps, under every type.
+    ghost reads_back: { ReadsBack Self.image reading (λ v. meaning (kept v)) always };
+
+    /// What an encoder says of a value is what is written of its meaning.
+    ghost agrees: { (v : Self) → said Self.hint Self.image Self.produced Self.info v ≡ written Self.info (meaning v) };
+}
+
+impl<T: Plain> Decode for T {
+    ghost Meaning = { T.Meaning };
+
+    ghost meaning = { T.meaning };
+
+    ghost reading = { T.reading };
+
+    ghost written = { T.written };
+
+    ghost takes_memory = { T.takes_memory };
+
+    ghost refusal = { T.refusal };
+
+    #[inline(always)]
+    fn decode(alloc: Global, value: PgValueRef<'_>) -> Result<T, CodecError> {
+        T::read(alloc, value)
+    }
+}
+
+/// It comes back under every type.
+impl<T: Plain> ReadBack for T {
+    ghost kept = { T.kept };
+
+    ghost fits = { always };
+
+    ghost reads_back = { T.reads_back };
+}
+
+impl<T: Plain> Codec for T {
+    ghost agrees = { T.agrees };
+}
+
+/// Tells the types of this crate that are [`Alone`] from references, which are written as what they refer to.
+pub struct Of<T>(PhantomData<T>);
+
+/// That `T` has its codec by [`Scalar`], of an `Of<T>`. No crate above this one can say so of its own types: there it writes the
+/// impls of [`Type`], [`PgHasArrayType`] and [`Encode`].
+pub trait Alone {}
+
+/// A value of one built-in type, written with one size hint and never as of another type. From this one impl it has [`Type`],
+/// [`PgHasArrayType`] and [`Encode`].
+pub trait Scalar {
+    /// The type that its values have; they are read under it and domains over it.
+    ghost INFO: { Ty };
+
+    /// The type of their arrays, which are read under it and domains over it.
+    ghost ARRAY_INFO: { Ty };
+
+    /// A number of bytes that a value says to need.
+    ghost SIZE: { ℕ };
+
+    /// What a value is written as.
+    ghost form: { Self → Option Image };
+
+    /// The type that its values have.
+    const INFO: PgTypeInfo;
+
+    /// The type of their arrays.
+    const ARRAY_INFO: PgTypeInfo;
+
+    /// A number of bytes that a value says to need.
+    const SIZE: usize;
+
+    /// Appends the value's image: what [`Encode::encode_by_ref`] does.
+    fn write(&self, out: &mut PgArgumentBuffer) -> Result<IsNull, CodecError>
+        ensures ok { IfOk result (λ n. Encoded n (form self.now) out.old out.new) }
+        ensures err { IfErr result (λ e. Refused e (form self.now)) }
+        ensures appended { OnErr result (Appended out.old out.new) };
+}
+
+impl<T: Scalar> Type for T
+where
+    Of<T>: Alone,
+{
+    ghost info = { T.INFO };
+
+    ghost accepts = { λ t. softly t T.INFO };
+
+    #[inline(always)]
+    fn type_info() -> PgTypeInfo {
+        T::INFO
+    }
+
+    fn compatible(type_info: &PgTypeInfo) -> bool {
+        type_info.type_compatible(&T::INFO)
+    }
+}
+
+impl<T: Scalar> PgHasArrayType for T
+where
+    Of<T>: Alone,
+{
+    ghost array_info = { T.ARRAY_INFO };
+
+    ghost accepts_array = { λ t. softly t T.ARRAY_INFO };
+
+    fn array_type_info() -> PgTypeInfo {
+        T::ARRAY_INFO
+    }
+
+    fn array_compatible(type_info: &PgTypeInfo) -> bool {
+        type_info.type_compatible(&T::ARRAY_INFO)
+    }
+}
+
+impl<T: Scalar> Encode for T
+where
+    Of<T>: Alone,
+{
+    ghost image = { T.form };
+
+    ghost hint = { λ _. T.SIZE };
+
+    #[inline(always)]
+    fn encode_by_ref(&self, out: &mut PgArgumentBuffer) -> Result<IsNull, CodecError> {
+        self.write(out)
+    }
+
+    #[inline(always)]
+    fn size_hint(&self) -> usize {
+        T::SIZE
+    }
+
+    #[inline(always)]
+    fn produces(&self) -> Result<Option<PgTypeInfo>, AllocError> {
+        Ok(None)
+    }
 }

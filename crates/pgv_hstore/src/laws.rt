@@ -1,13 +1,14 @@
 //! What is proved of maps and of the definitions that say what they are. Each law is the contract of a function that does nothing.
 
-ghost use Rattle.std.specs.Prelude.{◌≡◌, codes};
+ghost use Rattle.std.specs.Prelude.{◌≡◌, codes, List};
 ghost use Rattle.pgv_types.specs.Ty.{array_of, named, Ty};
 ghost use Rattle.pgv_types.specs.Relations.{softly};
 ghost use Rattle.pgv_codec.specs.TypeRow.{IsWrittenAs};
 ghost use Rattle.pgv_hstore.specs.Hstore.{hstore_image, hstore_reading, pairs_of};
 ghost use Rattle.pgv_hstore.specs.Laws.{HstoreIsRead, HstoresAreEqual, OneHstore};
+ghost use Rattle.pgv_types.specs.declared.oid.Oid.{Oid};
 
-use pgv_codec::{Decode, Encode, PgHasArrayType, Type};
+use pgv_codec::{Decode, Encode, PgHasArrayType, ReadBack, Type};
 
 /// A `PgHstore` is an hstore, by its name, its pairs in the order of the keys. Its arrays are arrays of the type of this name.
 pub fn hstore_is_an_hstore()
@@ -33,4 +34,9 @@ pub fn one_hstore()
 /// Maps are equal exactly where they have the same pairs, and so they are written alike.
 pub fn equal_hstores()
     ensures { HstoresAreEqual ⟦<crate::PgHstore as PartialEq>⟧.eq }
+{}
+
+/// A map comes back under every type.
+pub fn plain_hstores_fit()
+    ensures { (v : _) (t : Ty) (oids : List Oid) → ⟦<crate::PgHstore as ReadBack>⟧.fits v t oids }
 {}

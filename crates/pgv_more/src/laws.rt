@@ -14,6 +14,7 @@ ghost use Rattle.pgv_more.specs.MacAddressCodec.{mac_image, mac_reading};
 ghost use Rattle.pgv_more.specs.MacAddressText.{MacAddressIsRead, OneMacAddress};
 ghost use Rattle.pgv_more.specs.TimeTzCodec.{time_tz_numbers, time_tz_image, time_tz_reading};
 ghost use Rattle.pgv_codec.specs.DateTimeKept.{time_kept};
+ghost use Rattle.pgv_types.specs.declared.oid.Oid.{Oid};
 
 use pgv_codec::{Decode, Encode, PgHasArrayType, ReadBack, Type};
 
@@ -122,4 +123,14 @@ pub fn bytea_text_is_read()
 /// No text is that of two strings of bytes.
 pub fn one_bytea_text()
     ensures { OneByteaText }
+{}
+
+/// A value of these types comes back under every type.
+pub fn plain_types_fit<const N: usize>()
+    ensures bits { (v : _) (t : Ty) (oids : List Oid) → ⟦<crate::BitVec as ReadBack>⟧.fits v t oids }
+    ensures mac_address { (v : _) (t : Ty) (oids : List Oid) → ⟦<crate::MacAddress as ReadBack>⟧.fits v t oids }
+    ensures time_tz { (v : _) (t : Ty) (oids : List Oid) → ⟦<crate::PgTimeTz as ReadBack>⟧.fits v t oids }
+    ensures bytea { (v : _) (t : Ty) (oids : List Oid) → ⟦<crate::PgBytea as ReadBack>⟧.fits v t oids }
+    ensures bytea_array { (v : _) (t : Ty) (oids : List Oid) → ⟦<crate::PgByteaArray<N> as ReadBack>⟧.fits v t oids }
+    ensures citext { (v : _) (t : Ty) (oids : List Oid) → ⟦<crate::PgCiText as ReadBack>⟧.fits v t oids }
 {}

@@ -1,6 +1,6 @@
 //! Times of day with an offset from UTC (PostgreSQL, "Date/Time Types", timetz).
 
-ghost use Rattle.std.specs.Prelude.{◌≡◌, ◌≤◌, ◌/◌, ℕ, ℤ, pos, length, false, Some, IfErr, IfOk, OnErr, refl};
+ghost use Rattle.std.specs.Prelude.{◌≡◌, ◌≤◌, ◌/◌, ℕ, ℤ, pos, length, Some, IfErr, IfOk, OnErr, refl};
 ghost use Rattle.std.specs.Option.{option_map};
 ghost use Rattle.jiff.specs.Words.{time_nanos};
 ghost use Rattle.pgv_codec.specs.Outcome.{Appended, Encoded};
@@ -16,9 +16,7 @@ ghost use Rattle.pgv_more.specs.TimeTzCodec.{time_tz_numbers, time_tz_image, tim
 
 use jiff::civil::Time;
 use jiff::tz::Offset;
-use pgv_codec::{
-    Codec, Decode, Encode, IsNull, PgArgumentBuffer, PgHasArrayType, ReadBack, Type, micros_of_day,
-};
+use pgv_codec::{Encode, IsNull, PgArgumentBuffer, PgHasArrayType, Plain, Type, micros_of_day};
 use pgv_text::time_tz;
 use pgv_types::{PgType, PgTypeInfo};
 use pgv_value::{CodecError, PgValueFormat, PgValueRef, number_of_eight, number_of_four, time_at};
@@ -162,7 +160,10 @@ impl Encode for PgTimeTz {
 /// Read in binary of the first twelve bytes, where fewer are refused with C15: the time round the clock, and an offset of less than
 /// a day, else C6 with the seconds that the bytes have. A text is a time and an offset, as [`time_tz`] reads it, else C29. Null is
 /// refused with C13.
-impl Decode for PgTimeTz {
+/// The time comes back in whole microseconds, where what is less is cut off, and the offset as it is.
+impl Plain for PgTimeTz {
+    ghost use Rattle.pgv_more.specs.TimeTzBack.{time_tz_back, time_tz_kept};
+
     ghost Meaning = { ℕ × ℤ };
 
     ghost meaning = { time_tz_numbers };
@@ -171,30 +172,18 @@ impl Decode for PgTimeTz {
 
     ghost written = { with_hint (λ _. 12) time_tz_image };
 
-    ghost takes_memory = { false };
-
     ghost refusal = { Some time_tz_refusal };
 
-    fn decode(_alloc: Global, value: PgValueRef<'_>) -> Result<PgTimeTz, CodecError> {
+    ghost kept = { time_tz_kept };
+
+    fn read(_alloc: Global, value: PgValueRef<'_>) -> Result<PgTimeTz, CodecError> {
         match value.format() {
             PgValueFormat::Binary => of_bytes(value.as_bytes()?),
             PgValueFormat::Text => of_text(value.as_str()?).ok_or(CodecError::Syntax),
         }
     }
-}
-
-impl Codec for PgTimeTz {
-    ghost agrees = { λ _. refl };
-}
-
-/// The time comes back in whole microseconds, where what is less is cut off, and the offset as it is.
-impl ReadBack for PgTimeTz {
-    ghost use Rattle.pgv_codec.specs.Back.{always};
-    ghost use Rattle.pgv_more.specs.TimeTzBack.{time_tz_back, time_tz_kept};
-
-    ghost kept = { time_tz_kept };
-
-    ghost fits = { always };
 
     ghost reads_back = { time_tz_back };
+
+    ghost agrees = { λ _. refl };
 }

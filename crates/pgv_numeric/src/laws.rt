@@ -1,15 +1,17 @@
 //! What is proved of these types and of the definitions that say what they are. Each law is the contract of a function that does
 //! nothing.
 
-ghost use Rattle.std.specs.Prelude.{◌≡◌, None};
+ghost use Rattle.std.specs.Prelude.{◌≡◌, None, List};
 ghost use Rattle.std.specs.Int.{w64};
 ghost use Rattle.pgv_codec.specs.TypeRow.{IsBuiltIn, IsWrittenAs};
 ghost use Rattle.pgv_codec.specs.ScalarBinary.{signed_image};
 ghost use Rattle.pgv_numeric.specs.Laws.{NumericIsRead, OneNumeric, OneMoney, NumericsAreEqual};
 ghost use Rattle.pgv_numeric.specs.MoneyCodec.{money_reading, MoneyIsRead};
 ghost use Rattle.pgv_numeric.specs.Numeric.{numeric_image, numeric_of, numeric_reading};
+ghost use Rattle.pgv_types.specs.declared.oid.Oid.{Oid};
+ghost use Rattle.pgv_types.specs.Ty.{Ty};
 
-use pgv_codec::{Decode, Encode, PgHasArrayType, Type};
+use pgv_codec::{Decode, Encode, PgHasArrayType, ReadBack, Type};
 
 /// A `PgMoney` is a money (OID 790), eight bytes in two's complement. Its arrays are `money[]` (791).
 pub fn money_is_a_money()
@@ -52,4 +54,10 @@ pub fn one_numeric()
 /// Numbers are equal exactly where they have the same sign, digits, weight and scale, and no numbers are equal.
 pub fn equal_numerics()
     ensures { NumericsAreEqual ⟦<crate::PgNumeric as PartialEq>⟧.eq }
+{}
+
+/// A value of these types comes back under every type.
+pub fn plain_types_fit()
+    ensures money { (v : _) (t : Ty) (oids : List Oid) → ⟦<crate::PgMoney as ReadBack>⟧.fits v t oids }
+    ensures numeric { (v : _) (t : Ty) (oids : List Oid) → ⟦<crate::PgNumeric as ReadBack>⟧.fits v t oids }
 {}

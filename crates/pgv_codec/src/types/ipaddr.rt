@@ -1,6 +1,6 @@
 //! Addresses (PostgreSQL, "Network Address Types", inet): networks of one address.
 
-ghost use Rattle.std.specs.Prelude.{◌≡◌, Some, false, refl};
+ghost use Rattle.std.specs.Prelude.{◌≡◌, Some, refl};
 ghost use Rattle.std.specs.declared.net.ip_addr.IpAddr.{IpAddr as Address};
 ghost use Rattle.pgv_types.specs.Ty.{builtin};
 ghost use Rattle.pgv_text.specs.AddressText as text;
@@ -11,7 +11,7 @@ ghost use Rattle.pgv_codec.specs.WithHint.{with_hint};
 
 use super::ipnetwork::{is_network, is_network_array, write_network, written_size};
 use crate::buffer::{IsNull, PgArgumentBuffer};
-use crate::traits::{Codec, Decode, Encode, PgHasArrayType, ReadBack, Type};
+use crate::traits::{Encode, PgHasArrayType, Plain, Type};
 use pgv_types::{PgType, PgTypeInfo};
 use pgv_value::{CodecError, PgValueRef, read_ip_address};
 use std::alloc::{AllocError, Global};
@@ -80,7 +80,10 @@ impl Encode for IpAddr {
 }
 
 /// An `inet` or a `cidr` of one address, as [`read_ip_address`] reads it: `022000040a000001` and `10.0.0.1` are the same address.
-impl Decode for IpAddr {
+/// An address comes back as it is.
+impl Plain for IpAddr {
+    ghost use Rattle.pgv_codec.specs.NetworkBack.{address_back};
+
     ghost Meaning = { Address };
 
     ghost meaning = { λ address. address };
@@ -89,27 +92,13 @@ impl Decode for IpAddr {
 
     ghost written = { with_hint address_hint address_image };
 
-    ghost takes_memory = { false };
-
     ghost refusal = { Some address_refusal };
 
-    fn decode(_alloc: Global, value: PgValueRef<'_>) -> Result<IpAddr, CodecError> {
+    fn read(_alloc: Global, value: PgValueRef<'_>) -> Result<IpAddr, CodecError> {
         read_ip_address(&value)
     }
-}
-
-/// An address comes back as it is.
-impl ReadBack for IpAddr {
-    ghost use Rattle.pgv_codec.specs.Back.{always};
-    ghost use Rattle.pgv_codec.specs.NetworkBack.{address_back};
-
-    ghost kept = { λ v. v };
-
-    ghost fits = { always };
 
     ghost reads_back = { address_back };
-}
 
-impl Codec for IpAddr {
     ghost agrees = { λ _. refl };
 }

@@ -1,6 +1,6 @@
 //! Networks (PostgreSQL, "Network Address Types", inet and cidr).
 
-ghost use Rattle.std.specs.Prelude.{◌≡◌, ◌++◌, Some, false, refl, IfOk, IfErr, OnErr};
+ghost use Rattle.std.specs.Prelude.{◌≡◌, ◌++◌, Some, refl, IfOk, IfErr, OnErr};
 ghost use Rattle.pgv_types.specs.Ty.{builtin};
 ghost use Rattle.pgv_buf.specs.Tokens.{bytes};
 ghost use Rattle.pgv_text.specs.NetworkText.{Network, network_of};
@@ -13,7 +13,7 @@ ghost use Rattle.pgv_codec.specs.Outcome.{Encoded, Refused, Appended};
 ghost use Rattle.pgv_codec.specs.WithHint.{with_hint};
 
 use crate::buffer::{IsNull, PgArgumentBuffer};
-use crate::traits::{Codec, Decode, Encode, PgHasArrayType, ReadBack, Type};
+use crate::traits::{Encode, PgHasArrayType, Plain, Type};
 use pgv_text::IpNetwork;
 use pgv_types::{PgType, PgTypeInfo};
 use pgv_value::{CodecError, PgValueRef, read_ip_network};
@@ -137,7 +137,10 @@ impl Encode for IpNetwork {
 }
 
 /// An `inet` or a `cidr`, as [`read_ip_network`] reads it: `020800040a000000` and `10.0.0.0/8` are the same network.
-impl Decode for IpNetwork {
+/// A network comes back as it is.
+impl Plain for IpNetwork {
+    ghost use Rattle.pgv_codec.specs.NetworkBack.{network_back};
+
     ghost Meaning = { Network };
 
     ghost meaning = { network_of };
@@ -146,27 +149,13 @@ impl Decode for IpNetwork {
 
     ghost written = { with_hint network_hint network_image };
 
-    ghost takes_memory = { false };
-
     ghost refusal = { Some network_refusal };
 
-    fn decode(_alloc: Global, value: PgValueRef<'_>) -> Result<IpNetwork, CodecError> {
+    fn read(_alloc: Global, value: PgValueRef<'_>) -> Result<IpNetwork, CodecError> {
         read_ip_network(&value)
     }
-}
-
-/// A network comes back as it is.
-impl ReadBack for IpNetwork {
-    ghost use Rattle.pgv_codec.specs.Back.{always};
-    ghost use Rattle.pgv_codec.specs.NetworkBack.{network_back};
-
-    ghost kept = { λ v. v };
-
-    ghost fits = { always };
 
     ghost reads_back = { network_back };
-}
 
-impl Codec for IpNetwork {
     ghost agrees = { λ _. refl };
 }

@@ -5,7 +5,7 @@ ghost use Rattle.pgv_codec.specs.Outcome.{Encoded, Refused, Appended};
 ghost use Rattle.pgv_codec.specs.ScalarBinary.{text_image, is_text as is_text_type, is_text_array as is_text_array_type};
 
 use crate::buffer::{IsNull, PgArgumentBuffer};
-use crate::traits::{Codec, Decode, Encode, PgHasArrayType, ReadBack, Type};
+use crate::traits::{Encode, PgHasArrayType, Plain, Type};
 use pgv_types::{PgType, PgTypeInfo, PgTypeKindRef};
 use pgv_value::{CodecError, PgValueRef};
 use std::alloc::{AllocError, Global};
@@ -105,13 +105,14 @@ impl Encode for String {
 
 /// A text (PostgreSQL, "Character Types"), the same in either format: bytes that are UTF-8, else C14: `6869` is `hi`. Null is refused
 /// with C13.
-impl Decode for String {
-    ghost use Rattle.std.specs.Prelude.{ℕ, List, Some};
+impl Plain for String {
+    ghost use Rattle.std.specs.Prelude.{ℕ, List, Some, true, refl};
     ghost use Rattle.pgv_value.specs.Utf8.{text_refusal};
     ghost use Rattle.std.specs.String.{string_bytes};
     ghost use Rattle.pgv_value.specs.ScalarGrammar.{text_reading};
     ghost use Rattle.pgv_codec.specs.Saying.{plainly};
     ghost use Rattle.pgv_codec.specs.ScalarBinary.{text_image};
+    ghost use Rattle.pgv_codec.specs.BackScalars.{text_back};
 
     ghost Meaning = { List ℕ };
 
@@ -121,27 +122,16 @@ impl Decode for String {
 
     ghost written = { plainly text_image };
 
+    ghost takes_memory = { true };
+
     ghost refusal = { Some text_refusal };
 
     #[inline(always)]
-    fn decode(alloc: Global, value: PgValueRef<'_>) -> Result<String, CodecError> {
+    fn read(alloc: Global, value: PgValueRef<'_>) -> Result<String, CodecError> {
         Ok(String::from_str(alloc, value.as_str()?)?)
     }
-}
-
-impl ReadBack for String {
-    ghost use Rattle.pgv_codec.specs.Back.{always};
-    ghost use Rattle.pgv_codec.specs.BackScalars.{text_back};
-
-    ghost kept = { λ v. v };
-
-    ghost fits = { always };
 
     ghost reads_back = { text_back };
-}
-
-impl Codec for String {
-    ghost use Rattle.std.specs.Prelude.{refl};
 
     ghost agrees = { λ _. refl };
 }

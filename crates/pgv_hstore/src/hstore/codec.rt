@@ -12,7 +12,7 @@ ghost use Rattle.pgv_hstore.specs.HstoreRefusal.{hstore_binary_refusal, hstore_r
 ghost use Rattle.pgv_value.specs.Utf8.{is_utf8};
 
 use super::{PgHstore, put_pair};
-use pgv_codec::{Codec, Decode, Encode, IsNull, PgArgumentBuffer, PgHasArrayType, ReadBack, Type};
+use pgv_codec::{Encode, IsNull, PgArgumentBuffer, PgHasArrayType, Plain, Type};
 use pgv_types::PgTypeInfo;
 use pgv_value::{CodecError, PgValueFormat, PgValueRef, part_in_front, u32_in_front};
 use std::alloc::{AllocError, Global};
@@ -206,7 +206,11 @@ fn of_bytes(alloc: Global, form: &[u8]) -> Result<PgHstore, CodecError>
 /// four bytes, or pairs that end too early, are refused with C15, a negative number of pairs with C9, a negative length but the -1 of
 /// a null value with C16, a null key with C35, and a key or value that isn't UTF-8 with C14. A text is refused with C18, and null with
 /// C13.
-impl Decode for PgHstore {
+/// A map comes back as it was written.
+impl Plain for PgHstore {
+    ghost use Rattle.std.specs.Prelude.{true};
+    ghost use Rattle.pgv_hstore.specs.HstoreBack.{hstore_back};
+
     ghost Meaning = { List Pair };
 
     ghost meaning = { pairs_of };
@@ -215,29 +219,19 @@ impl Decode for PgHstore {
 
     ghost written = { plainly hstore_image };
 
+    ghost takes_memory = { true };
+
     ghost refusal = { Some hstore_refusal };
 
-    fn decode(alloc: Global, value: PgValueRef<'_>) -> Result<PgHstore, CodecError> {
+    fn read(alloc: Global, value: PgValueRef<'_>) -> Result<PgHstore, CodecError> {
         let bytes = value.as_bytes()?;
         match value.format() {
             PgValueFormat::Binary => of_bytes(alloc, bytes),
             PgValueFormat::Text => Err(CodecError::TextUnsupported),
         }
     }
-}
-
-impl Codec for PgHstore {
-    ghost agrees = { λ _. refl };
-}
-
-/// A map comes back as it was written.
-impl ReadBack for PgHstore {
-    ghost use Rattle.pgv_codec.specs.Back.{always};
-    ghost use Rattle.pgv_hstore.specs.HstoreBack.{hstore_back};
-
-    ghost kept = { λ h. h };
-
-    ghost fits = { always };
 
     ghost reads_back = { hstore_back };
+
+    ghost agrees = { λ _. refl };
 }

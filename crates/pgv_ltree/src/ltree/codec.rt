@@ -15,7 +15,7 @@ ghost use Rattle.pgv_ltree.specs.TreesCodec.{ltree, ltree_array, tree_image, tre
 
 use super::PgLTree;
 use crate::label::PgLTreeLabel;
-use pgv_codec::{Codec, Decode, Encode, IsNull, PgArgumentBuffer, PgHasArrayType, ReadBack, Type};
+use pgv_codec::{Encode, IsNull, PgArgumentBuffer, PgHasArrayType, Plain, Type};
 use pgv_types::PgTypeInfo;
 use pgv_value::{CodecError, PgLTreeParseError, PgValueFormat, PgValueRef};
 use std::alloc::{AllocError, Global};
@@ -127,7 +127,11 @@ fn read_binary(alloc: Global, form: &[u8]) -> Result<PgLTree, CodecError>
 
 /// Read in binary of the byte 01 and a text: no bytes are refused with C15, another first byte with C36, what isn't UTF-8 with C14,
 /// and a text that is no tree's with C36. In text the bytes are the tree's text. Null is refused with C13.
-impl Decode for PgLTree {
+/// A tree comes back as it was written, and one without labels as one empty label.
+impl Plain for PgLTree {
+    ghost use Rattle.std.specs.Prelude.{true};
+    ghost use Rattle.pgv_ltree.specs.TreesBack.{tree_back, tree_kept};
+
     ghost Meaning = { List (List ℕ) };
 
     ghost meaning = { λ tree. tree };
@@ -136,28 +140,20 @@ impl Decode for PgLTree {
 
     ghost written = { plainly tree_image };
 
+    ghost takes_memory = { true };
+
     ghost refusal = { Some tree_refusal };
 
-    fn decode(alloc: Global, value: PgValueRef<'_>) -> Result<PgLTree, CodecError> {
+    ghost kept = { tree_kept };
+
+    fn read(alloc: Global, value: PgValueRef<'_>) -> Result<PgLTree, CodecError> {
         match value.format() {
             PgValueFormat::Binary => read_binary(alloc, value.as_bytes()?),
             PgValueFormat::Text => read_text(alloc, value.as_str()?),
         }
     }
-}
-
-impl Codec for PgLTree {
-    ghost agrees = { λ _. refl };
-}
-
-/// A tree comes back as it was written, and one without labels as one empty label.
-impl ReadBack for PgLTree {
-    ghost use Rattle.pgv_codec.specs.Back.{always};
-    ghost use Rattle.pgv_ltree.specs.TreesBack.{tree_back, tree_kept};
-
-    ghost kept = { tree_kept };
-
-    ghost fits = { always };
 
     ghost reads_back = { tree_back };
+
+    ghost agrees = { λ _. refl };
 }

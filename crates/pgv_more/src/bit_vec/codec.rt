@@ -10,7 +10,7 @@ ghost use Rattle.pgv_more.specs.BitsCodec.{is_bits, is_bits_array, bits_reading,
 ghost use Rattle.pgv_codec.specs.WithHint.{with_hint};
 
 use super::BitVec;
-use pgv_codec::{Codec, Decode, Encode, IsNull, PgArgumentBuffer, PgHasArrayType, ReadBack, Type};
+use pgv_codec::{Encode, IsNull, PgArgumentBuffer, PgHasArrayType, Plain, Type};
 use pgv_types::{PgType, PgTypeInfo};
 use pgv_value::{CodecError, PgValueFormat, PgValueRef};
 use std::alloc::{AllocError, Global};
@@ -106,7 +106,11 @@ fn read_text(alloc: Global, text: &str) -> Result<BitVec, CodecError>
 /// Bits are read in binary as they are written, whatever fills the last byte after them: fewer than four bytes are refused with
 /// C15, a negative number with C16, and another number of bytes than the bits need with C17. A text is digits `0` and `1`,
 /// perhaps none, else C29. Null is refused with C13.
-impl Decode for BitVec {
+/// Bits come back as they were written.
+impl Plain for BitVec {
+    ghost use Rattle.std.specs.Prelude.{true};
+    ghost use Rattle.pgv_more.specs.BitsBack.{bits_back};
+
     ghost Meaning = { List Bool };
 
     ghost meaning = { λ bits. bits };
@@ -115,28 +119,18 @@ impl Decode for BitVec {
 
     ghost written = { with_hint bits_hint bits_image };
 
+    ghost takes_memory = { true };
+
     ghost refusal = { Some bits_refusal };
 
-    fn decode(alloc: Global, value: PgValueRef<'_>) -> Result<BitVec, CodecError> {
+    fn read(alloc: Global, value: PgValueRef<'_>) -> Result<BitVec, CodecError> {
         match value.format() {
             PgValueFormat::Binary => read_binary(alloc, value.as_bytes()?),
             PgValueFormat::Text => read_text(alloc, value.as_str()?),
         }
     }
-}
-
-impl Codec for BitVec {
-    ghost agrees = { λ _. refl };
-}
-
-/// Bits come back as they were written.
-impl ReadBack for BitVec {
-    ghost use Rattle.pgv_codec.specs.Back.{always};
-    ghost use Rattle.pgv_more.specs.BitsBack.{bits_back};
-
-    ghost kept = { λ v. v };
-
-    ghost fits = { always };
 
     ghost reads_back = { bits_back };
+
+    ghost agrees = { λ _. refl };
 }

@@ -1,6 +1,6 @@
 //! Strings of a number of bytes that is known (PostgreSQL, "Binary Data Types", bytea).
 
-ghost use Rattle.std.specs.Prelude.{◌≡◌, ℕ, ◌%◌, ◌==◌, ◌&&◌, List, Some, IfErr, false, length, refl};
+ghost use Rattle.std.specs.Prelude.{◌≡◌, ℕ, ◌%◌, ◌==◌, ◌&&◌, List, Some, IfErr, length, refl};
 ghost use Rattle.pgv_types.specs.Ty.{builtin};
 ghost use Rattle.pgv_types.specs.Relations.{softly};
 ghost use Rattle.pgv_codec.specs.Saying.{plainly};
@@ -10,7 +10,7 @@ ghost use Rattle.pgv_more.specs.ByteaText.{all_digits, bytea_in_text, length_ref
 
 use super::digits_of;
 use hex::FromHex;
-use pgv_codec::{Codec, Decode, Encode, IsNull, PgArgumentBuffer, PgHasArrayType, ReadBack, Type};
+use pgv_codec::{Encode, IsNull, PgArgumentBuffer, PgHasArrayType, Plain, Type};
 use pgv_types::{PgType, PgTypeInfo};
 use pgv_value::{CodecError, PgValueFormat, PgValueRef};
 use std::alloc::{AllocError, Global};
@@ -110,7 +110,10 @@ impl<const N: usize> Encode for PgByteaArray<N> {
 
 /// Read as [`PgBytea`](super::PgBytea) is, of `N` bytes: another number of bytes, or of pairs of digits, is refused with C17, and another
 /// text with C29. Null is refused with C13. It takes no memory.
-impl<const N: usize> Decode for PgByteaArray<N> {
+/// Bytes come back as they were written.
+impl<const N: usize> Plain for PgByteaArray<N> {
+    ghost use Rattle.pgv_more.specs.ByteaBack.{sized_back};
+
     ghost Meaning = { List ℕ };
 
     ghost meaning = { λ b. b.0 };
@@ -119,31 +122,17 @@ impl<const N: usize> Decode for PgByteaArray<N> {
 
     ghost written = { plainly (sized_image N) };
 
-    ghost takes_memory = { false };
-
     ghost refusal = { Some sized_refusal };
 
-    fn decode(_alloc: Global, value: PgValueRef<'_>) -> Result<PgByteaArray<N>, CodecError> {
+    fn read(_alloc: Global, value: PgValueRef<'_>) -> Result<PgByteaArray<N>, CodecError> {
         let bytes = value.as_bytes()?;
         match value.format() {
             PgValueFormat::Binary => of_bytes(bytes),
             PgValueFormat::Text => of_text(bytes),
         }
     }
-}
-
-impl<const N: usize> Codec for PgByteaArray<N> {
-    ghost agrees = { λ _. refl };
-}
-
-/// Bytes come back as they were written.
-impl<const N: usize> ReadBack for PgByteaArray<N> {
-    ghost use Rattle.pgv_codec.specs.Back.{always};
-    ghost use Rattle.pgv_more.specs.ByteaBack.{sized_back};
-
-    ghost kept = { λ b. b };
-
-    ghost fits = { always };
 
     ghost reads_back = { sized_back N };
+
+    ghost agrees = { λ _. refl };
 }

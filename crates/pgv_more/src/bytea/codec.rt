@@ -8,7 +8,7 @@ ghost use Rattle.pgv_codec.specs.ScalarBinary.{text_image as plain_image};
 ghost use Rattle.pgv_more.specs.ByteaText.{bytea_reading, bytea_refusal};
 
 use super::{PgBytea, of_text};
-use pgv_codec::{Codec, Decode, Encode, IsNull, PgArgumentBuffer, PgHasArrayType, ReadBack, Type};
+use pgv_codec::{Encode, IsNull, PgArgumentBuffer, PgHasArrayType, Plain, Type};
 use pgv_types::{PgType, PgTypeInfo};
 use pgv_value::{CodecError, PgValueFormat, PgValueRef};
 use std::alloc::{AllocError, Global};
@@ -64,7 +64,11 @@ impl Encode for PgBytea {
 
 /// In binary the bytes, and in text `\x` and two hex digits of either case for each, as `\x00ff`; another text is refused with C29,
 /// one that isn't UTF-8 too. Null is refused with C13. (A server that writes the older escape format is not read.)
-impl Decode for PgBytea {
+/// Bytes come back as they were written.
+impl Plain for PgBytea {
+    ghost use Rattle.std.specs.Prelude.{true};
+    ghost use Rattle.pgv_more.specs.ByteaBack.{bytea_back};
+
     ghost Meaning = { List ℕ };
 
     ghost meaning = { λ b. b.0.items };
@@ -73,29 +77,19 @@ impl Decode for PgBytea {
 
     ghost written = { plainly plain_image };
 
+    ghost takes_memory = { true };
+
     ghost refusal = { Some bytea_refusal };
 
-    fn decode(alloc: Global, value: PgValueRef<'_>) -> Result<PgBytea, CodecError> {
+    fn read(alloc: Global, value: PgValueRef<'_>) -> Result<PgBytea, CodecError> {
         let bytes = value.as_bytes()?;
         match value.format() {
             PgValueFormat::Binary => Ok(PgBytea(Vec::from_slice(alloc, bytes)?)),
             PgValueFormat::Text => of_text(alloc, bytes),
         }
     }
-}
-
-impl Codec for PgBytea {
-    ghost agrees = { λ _. refl };
-}
-
-/// Bytes come back as they were written.
-impl ReadBack for PgBytea {
-    ghost use Rattle.pgv_codec.specs.Back.{always};
-    ghost use Rattle.pgv_more.specs.ByteaBack.{bytea_back};
-
-    ghost kept = { λ b. b };
-
-    ghost fits = { always };
 
     ghost reads_back = { bytea_back };
+
+    ghost agrees = { λ _. refl };
 }

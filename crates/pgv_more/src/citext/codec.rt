@@ -9,7 +9,7 @@ ghost use Rattle.pgv_codec.specs.ScalarBinary.{is_text, is_text_array, text_imag
 
 use super::PgCiText;
 use pgv_codec::{
-    Codec, Decode, Encode, IsNull, PgArgumentBuffer, PgHasArrayType, ReadBack, Type, encode_text,
+    Decode, Encode, IsNull, PgArgumentBuffer, PgHasArrayType, Plain, Type, encode_text,
 };
 use pgv_types::PgTypeInfo;
 use pgv_value::{CodecError, PgValueRef};
@@ -64,7 +64,11 @@ impl Encode for PgCiText {
 }
 
 /// Read as a `String` is: in either format any bytes that are UTF-8, else C14. Null is refused with C13.
-impl Decode for PgCiText {
+/// A text comes back as it was written.
+impl Plain for PgCiText {
+    ghost use Rattle.std.specs.Prelude.{true};
+    ghost use Rattle.pgv_codec.specs.BackScalars.{text_back};
+
     ghost Meaning = { List ℕ };
 
     ghost meaning = { λ text. string_bytes text.0 };
@@ -73,25 +77,15 @@ impl Decode for PgCiText {
 
     ghost written = { plainly text_image };
 
+    ghost takes_memory = { true };
+
     ghost refusal = { Some text_refusal };
 
-    fn decode(alloc: Global, value: PgValueRef<'_>) -> Result<PgCiText, CodecError> {
+    fn read(alloc: Global, value: PgValueRef<'_>) -> Result<PgCiText, CodecError> {
         Ok(PgCiText(String::decode(alloc, value)?))
     }
-}
-
-impl Codec for PgCiText {
-    ghost agrees = { λ _. refl };
-}
-
-/// A text comes back as it was written.
-impl ReadBack for PgCiText {
-    ghost use Rattle.pgv_codec.specs.Back.{always};
-    ghost use Rattle.pgv_codec.specs.BackScalars.{text_back};
-
-    ghost kept = { λ text. text };
-
-    ghost fits = { always };
 
     ghost reads_back = { λ text. text_back text.0 };
+
+    ghost agrees = { λ _. refl };
 }

@@ -1,13 +1,13 @@
 //! MAC addresses, written and read (PostgreSQL, "Network Address Types", macaddr).
 
-ghost use Rattle.std.specs.Prelude.{◌≡◌, ℕ, List, false, IfErr, None, IsErrOf, Some, refl};
+ghost use Rattle.std.specs.Prelude.{◌≡◌, ℕ, List, IfErr, None, IsErrOf, Some, refl};
 ghost use Rattle.pgv_types.specs.Ty.{builtin};
 ghost use Rattle.pgv_types.specs.Relations.{softly};
 ghost use Rattle.pgv_more.specs.MacAddressCodec.{mac_image, mac_reading, mac_refusal};
 ghost use Rattle.pgv_codec.specs.WithHint.{with_hint};
 
 use super::MacAddress;
-use pgv_codec::{Codec, Decode, Encode, IsNull, PgArgumentBuffer, PgHasArrayType, ReadBack, Type};
+use pgv_codec::{Encode, IsNull, PgArgumentBuffer, PgHasArrayType, Plain, Type};
 use pgv_types::{PgType, PgTypeInfo};
 use pgv_value::{CodecError, PgValueFormat, PgValueRef};
 use std::alloc::{AllocError, Global};
@@ -63,7 +63,10 @@ impl Encode for MacAddress {
 
 /// An address is read in binary of its six bytes, where another number of bytes is refused with C17, and in text as
 /// [`from_str`](MacAddress::from_str) reads it, else C29. Null is refused with C13.
-impl Decode for MacAddress {
+/// An address comes back as it was written.
+impl Plain for MacAddress {
+    ghost use Rattle.pgv_more.specs.MacAddressBack.{mac_back};
+
     ghost Meaning = { List ℕ };
 
     ghost meaning = { λ address. address };
@@ -72,11 +75,9 @@ impl Decode for MacAddress {
 
     ghost written = { with_hint (λ _. 6) mac_image };
 
-    ghost takes_memory = { false };
-
     ghost refusal = { Some mac_refusal };
 
-    fn decode(_alloc: Global, value: PgValueRef<'_>) -> Result<MacAddress, CodecError> {
+    fn read(_alloc: Global, value: PgValueRef<'_>) -> Result<MacAddress, CodecError> {
         match value.format() {
             PgValueFormat::Binary => match value.as_bytes()? {
                 [a, b, c, d, e, f] => Ok(MacAddress::new([*a, *b, *c, *d, *e, *f])),
@@ -88,20 +89,8 @@ impl Decode for MacAddress {
             },
         }
     }
-}
-
-impl Codec for MacAddress {
-    ghost agrees = { λ _. refl };
-}
-
-/// An address comes back as it was written.
-impl ReadBack for MacAddress {
-    ghost use Rattle.pgv_codec.specs.Back.{always};
-    ghost use Rattle.pgv_more.specs.MacAddressBack.{mac_back};
-
-    ghost kept = { λ v. v };
-
-    ghost fits = { always };
 
     ghost reads_back = { mac_back };
+
+    ghost agrees = { λ _. refl };
 }

@@ -1,6 +1,6 @@
 //! Amounts of money, written and read (PostgreSQL, "Monetary Types", money).
 
-ghost use Rattle.std.specs.Prelude.{ℤ, false, Some, refl};
+ghost use Rattle.std.specs.Prelude.{ℤ, Some, refl};
 ghost use Rattle.std.specs.Int.{w64};
 ghost use Rattle.pgv_types.specs.Ty.{builtin};
 ghost use Rattle.pgv_types.specs.Relations.{softly};
@@ -9,7 +9,7 @@ ghost use Rattle.pgv_codec.specs.Saying.{plainly};
 ghost use Rattle.pgv_numeric.specs.MoneyCodec.{money_reading, money_refusal};
 
 use super::{PgMoney, of_bytes};
-use pgv_codec::{Codec, Decode, Encode, IsNull, PgArgumentBuffer, PgHasArrayType, ReadBack, Type};
+use pgv_codec::{Encode, IsNull, PgArgumentBuffer, PgHasArrayType, Plain, Type};
 use pgv_types::{PgType, PgTypeInfo};
 use pgv_value::{CodecError, PgValueFormat, PgValueRef};
 use std::alloc::{AllocError, Global};
@@ -63,7 +63,10 @@ impl Encode for PgMoney {
 
 /// Read of the first eight bytes, whatever comes after them; fewer are refused with C15, a text with C18, and null with C13.
 /// (The text depends on the settings of the server, `lc_monetary`.)
-impl Decode for PgMoney {
+/// An amount comes back as it is.
+impl Plain for PgMoney {
+    ghost use Rattle.pgv_numeric.specs.MoneyBack.{money_back};
+
     ghost Meaning = { ℤ };
 
     ghost meaning = { λ amount. amount.0 };
@@ -72,31 +75,17 @@ impl Decode for PgMoney {
 
     ghost written = { plainly (signed_image w64) };
 
-    ghost takes_memory = { false };
-
     ghost refusal = { Some money_refusal };
 
-    fn decode(_alloc: Global, value: PgValueRef<'_>) -> Result<PgMoney, CodecError> {
+    fn read(_alloc: Global, value: PgValueRef<'_>) -> Result<PgMoney, CodecError> {
         let bytes = value.as_bytes()?;
         match value.format() {
             PgValueFormat::Binary => of_bytes(bytes),
             PgValueFormat::Text => Err(CodecError::TextUnsupported),
         }
     }
-}
-
-impl Codec for PgMoney {
-    ghost agrees = { λ _. refl };
-}
-
-/// An amount comes back as it is.
-impl ReadBack for PgMoney {
-    ghost use Rattle.pgv_codec.specs.Back.{always};
-    ghost use Rattle.pgv_numeric.specs.MoneyBack.{money_back};
-
-    ghost kept = { λ amount. amount };
-
-    ghost fits = { always };
 
     ghost reads_back = { money_back };
+
+    ghost agrees = { λ _. refl };
 }

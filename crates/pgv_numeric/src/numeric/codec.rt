@@ -11,7 +11,7 @@ ghost use Rattle.pgv_numeric.specs.Numeric.{Numeric, number, numeric_of, numeric
 
 use super::{PgNumeric, PgNumericSign};
 use byteorder::{BigEndian, ByteOrder};
-use pgv_codec::{Codec, Decode, Encode, IsNull, PgArgumentBuffer, PgHasArrayType, ReadBack, Type};
+use pgv_codec::{Encode, IsNull, PgArgumentBuffer, PgHasArrayType, Plain, Type};
 use pgv_types::{PgType, PgTypeInfo};
 use pgv_value::{CodecError, PgValueFormat, PgValueRef};
 use std::alloc::{AllocError, Global};
@@ -229,7 +229,11 @@ fn of_bytes(alloc: Global, form: &[u8]) -> Result<PgNumeric, CodecError>
 /// Read of words as they are written, with digits of any value, and whatever comes after them. The sign `c000` is `NaN`, whatever the
 /// other words are; another sign is refused with C34, and bytes that end too early with C15. A text is refused with C18, and null with
 /// C13.
-impl Decode for PgNumeric {
+/// A number comes back as it is.
+impl Plain for PgNumeric {
+    ghost use Rattle.std.specs.Prelude.{true};
+    ghost use Rattle.pgv_numeric.specs.NumericBack.{numeric_back};
+
     ghost Meaning = { Numeric };
 
     ghost meaning = { numeric_of };
@@ -238,29 +242,19 @@ impl Decode for PgNumeric {
 
     ghost written = { plainly numeric_image };
 
+    ghost takes_memory = { true };
+
     ghost refusal = { Some numeric_refusal };
 
-    fn decode(alloc: Global, value: PgValueRef<'_>) -> Result<PgNumeric, CodecError> {
+    fn read(alloc: Global, value: PgValueRef<'_>) -> Result<PgNumeric, CodecError> {
         let bytes = value.as_bytes()?;
         match value.format() {
             PgValueFormat::Binary => of_bytes(alloc, bytes),
             PgValueFormat::Text => Err(CodecError::TextUnsupported),
         }
     }
-}
-
-impl Codec for PgNumeric {
-    ghost agrees = { λ _. refl };
-}
-
-/// A number comes back as it is.
-impl ReadBack for PgNumeric {
-    ghost use Rattle.pgv_codec.specs.Back.{always};
-    ghost use Rattle.pgv_numeric.specs.NumericBack.{numeric_back};
-
-    ghost kept = { λ n. n };
-
-    ghost fits = { always };
 
     ghost reads_back = { numeric_back };
+
+    ghost agrees = { λ _. refl };
 }
