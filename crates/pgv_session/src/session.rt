@@ -11,7 +11,8 @@ ghost use Rattle.pgv_session.specs.Session.{Answers, RespondsTo, Resolves, names
 use crate::line::{Request, parse};
 use crate::value::{refusal, respond_by};
 use pgv_types::{Oid, PgTypeInfo};
-use pgv_wire::{CodecError, PgArguments};
+use pgv_value::CodecError;
+use pgv_wire::PgArguments;
 use std::alloc::{AllocError, Global};
 
 /// Answers a line. Only out of memory is an error; what the arguments are then is not said.

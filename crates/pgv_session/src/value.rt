@@ -15,6 +15,7 @@ ghost use Rattle.pgv_session.specs.Types.{framed_as, framed_by, row, row_named, 
 use crate::line::{Ask, is};
 use jiff::Timestamp;
 use jiff::civil::{Date, DateTime, Time};
+use pgv_codec::{Codec, Encode, PgArgumentBuffer, Type};
 use pgv_hstore::PgHstore;
 use pgv_lquery::PgLQuery;
 use pgv_ltree::PgLTree;
@@ -23,10 +24,8 @@ use pgv_numeric::{PgMoney, PgNumeric};
 use pgv_range::PgRange;
 use pgv_text::IpNetwork;
 use pgv_types::Oid;
-use pgv_wire::{
-    Codec, CodecError, Encode, PgArgumentBuffer, PgArguments, PgInterval, PgValueFormat,
-    PgValueRef, Type,
-};
+use pgv_value::{CodecError, PgInterval, PgValueFormat, PgValueRef};
+use pgv_wire::PgArguments;
 use std::alloc::{AllocError, Global};
 use uuid::Uuid;
 

@@ -1,34 +1,20 @@
 //! Laws of what buffers and arguments hold, and of what is read back of them: each is the contract of a function that does
-//! nothing. Those of codecs, and of arrays and records in binary, are handed on.
+//! nothing. Those of codecs stand in `pgv_codec`, those of arrays and records in binary in `pgv_nest`.
 
-ghost use Rattle.std.specs.Prelude.{◌≡◌, ◌<◌, ◌^◌, ℕ, Bool, List, [], ◌∷◌, length, Option, Some, None};
+ghost use Rattle.std.specs.Prelude.{◌≡◌, ◌<◌, ℕ, List, [], length, Some};
 ghost use Rattle.pgv_types.specs.Ty.{Ty};
 ghost use Rattle.pgv_types.specs.declared.oid.Oid.{Oid};
 ghost use Rattle.pgv_buf.specs.Proper.{Proper};
 ghost use Rattle.pgv_buf.specs.Tokens.{Token, Cell, shown, width, tokens_width, hole_types_of};
-ghost use Rattle.pgv_value.specs.FrameBinary.{Part};
-ghost use Rattle.pgv_value.specs.Reading.{Reading};
 ghost use Rattle.pgv_wire.specs.Arguments.{Argument, Framed, all_tokens, types_in, framed, filled_arguments};
-ghost use Rattle.pgv_codec.specs.Back.{AreOids, ReadsBack, FieldFits, FieldsFit, FieldReadsBack, RecordFieldsFollow, RecordReadsBack};
 ghost use Rattle.pgv_wire.specs.Given.{ArgumentReadsBack, given_in, parts_given};
-ghost use Rattle.pgv_nest.specs.NestBinary.{ArrayIsItsElements, OneArray, FieldTypeIsFound, FieldIsItsValue, OneField, RecordBegins, RecordIsItsFields, IsField, ◌and◌};
+ghost use Rattle.pgv_nest.specs.NestBinary.{◌and◌};
 ghost use Rattle.pgv_wire.specs.History.{Call, after, last_filling, bytes_by, added_in, joined_frames, framed_types, holes_in, lengths_in, ArePlain, joined_bytes};
-ghost use Rattle.pgv_codec.specs.Image.{Image, field, frame_of};
-ghost use Rattle.pgv_codec.specs.Plain.{ArrayIsPlain, FieldIsPlain};
+ghost use Rattle.pgv_codec.specs.Image.{Image, frame_of};
 ghost use Rattle.pgv_wire.specs.Parts.{ReadAs, AreFrames, AllRead, parts_in, written_parts};
-ghost use Rattle.pgv_codec.specs.Saying.{said};
 
 use crate::arguments::PgArguments;
 use pgv_codec::ReadBack;
-pub use pgv_codec::laws::{
-    field_reads_back, nests_fit, oids_fit, plain_types_fit, read_back, record_fields_follow,
-    record_is_its_accepted_fields, rows, texts, tuple_is_its_fields, tuple_reads_back,
-    written_as_read,
-};
-pub use pgv_nest::laws::{
-    array_is_its_elements, few_elements, field_is_its_value, field_type_is_found, one_array,
-    one_field, record_begins, record_text_begins, text_field_is_its_value,
-};
 
 /// Whatever was added, refused and filled, in any order: the bytes are those that the arguments at the last
 /// filling are written as with what it was given, and then the others with zeros and defaults.
