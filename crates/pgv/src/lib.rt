@@ -43,6 +43,7 @@ pub mod laws {
     pub use pgv_lquery::laws as lquery;
     pub use pgv_ltree::laws as ltree;
     pub use pgv_more::laws as more;
+    pub use pgv_nest::laws as nest;
     pub use pgv_numeric::laws as numeric;
     pub use pgv_range::laws as range;
     pub use pgv_text::laws as text;

@@ -12,12 +12,10 @@
 //! 10. [`read_back`] says that what was sent comes back, and proves it by the laws.
 //!
 //! All of them name the crate `pgv` alone, in code and in contracts; `docs/proving.md` has a line on each word of
-//! `Rattle.pgv.specs.Words`. [`unusual`] has types for the tests of this crate, which are the worked rows of the codec.
+//! `Rattle.pgv.specs.Words`.
 #![tactic(auto)]
 
 pub mod arrays;
-#[cfg(test)]
-mod back;
 pub mod bind;
 pub mod email;
 pub mod empty_object;
@@ -27,12 +25,5 @@ pub mod page;
 pub mod pair;
 pub mod percent;
 pub mod read_back;
-#[cfg(test)]
-mod reading;
 pub mod row;
-#[cfg(test)]
-mod rows;
-pub mod unusual;
 pub mod user_id;
-#[cfg(test)]
-mod writing;

@@ -1,18 +1,29 @@
-//! Unusual types, which the tests are tried with: one that refuses after a byte, a hole and a slot, one that is never written, one with
-//! a hint that no frame has room for, one whose values have another type than it says, and one that refuses a single number.
+//! Types of a caller's own for the tests: one that refuses after a byte, a hole and a slot, a range over lists of it, one with a hint that
+//! no frame has room for, one whose values have another type than it says, and one that refuses a single number.
 
-use crate::empty_object::push_version;
-use crate::mood::Mood;
-use pgv::{CodecError, Encode, IsNull, PgArgumentBuffer, PgHasArrayType, PgType, PgTypeInfo, Type};
+use pgv::types::PgRange;
+use pgv::{
+    CodecError, Decode, Encode, IsNull, PgArgumentBuffer, PgHasArrayType, PgType, PgTypeInfo,
+    PgValueRef, Type,
+};
+use pgv_examples::empty_object::push_version;
+use pgv_examples::mood::Mood;
 use std::alloc::{AllocError, Global};
 
-/// One byte, of a type that is known by its name alone. Zero is refused with C38(38), after a byte, a hole and a slot.
+/// A number of a type that is known by its name alone. Zero is refused with C38(38), after a byte, a hole and a slot.
 #[derive(Drop)]
 pub struct Size {
     /// What the cases of its slot are allocated by.
     pub alloc: Global,
-    /// The byte that is written.
-    pub number: i8,
+    /// The number that is written.
+    pub number: i32,
+}
+
+/// A list of one size.
+pub fn sizes(alloc: Global, number: i32) -> Result<Vec<Size>, CodecError> {
+    let mut sizes = Vec::new(alloc);
+    sizes.push(Size { alloc, number })?;
+    Ok(sizes)
 }
 
 impl Type for Size {
@@ -52,10 +63,10 @@ impl PgHasArrayType for Size {
 impl Encode for Size {
     ghost use Rattle.std.specs.Prelude.{cond, pos, None};
     ghost use Rattle.std.specs.Ordering.{int_eq};
-    ghost use Rattle.std.specs.Int.{w8};
+    ghost use Rattle.std.specs.Int.{w32};
     ghost use Rattle.pgv.specs.Words.{signed_image};
 
-    ghost image = { λ size. cond (int_eq size.number (pos 0)) None (signed_image w8 size.number) };
+    ghost image = { λ size. cond (int_eq size.number (pos 0)) None (signed_image w32 size.number) };
 
     fn encode_by_ref(&self, out: &mut PgArgumentBuffer) -> Result<IsNull, CodecError> {
         if self.number == 0 {
@@ -76,19 +87,54 @@ impl Encode for Size {
     }
 }
 
-/// Nothing that could be written: refused with C38(1) after a byte.
+impl Decode for Size {
+    ghost use Rattle.std.specs.Prelude.{ℤ};
+    ghost use Rattle.std.specs.Int.{w32};
+    ghost use Rattle.pgv.specs.Words.{int_reading, unwritten};
+
+    ghost Meaning = { ℤ };
+
+    ghost meaning = { λ size. size.number };
+
+    ghost reading = { int_reading w32 };
+
+    ghost written = { unwritten };
+
+    fn decode(alloc: Global, value: PgValueRef<'_>) -> Result<Size, CodecError> {
+        Ok(Size {
+            alloc,
+            number: i32::decode(alloc, value)?,
+        })
+    }
+}
+
+/// A range of lists of sizes: a type of its own, since an array wants its elements' types and `PgRange` has them for those of
+/// PostgreSQL's own ranges alone.
 #[derive(Drop)]
-pub struct Refusing;
+pub struct SizeRange {
+    /// The range.
+    pub range: PgRange<Vec<Size>>,
+}
 
-impl Type for Refusing {
-    ghost use Rattle.pgv.specs.Words.{builtin, softly};
+/// A list of the range from a list of the size 1 to one of the size 2.
+pub fn size_ranges(alloc: Global) -> Result<Vec<SizeRange>, CodecError> {
+    let mut ranges = Vec::new(alloc);
+    ranges.push(SizeRange {
+        range: PgRange::from(sizes(alloc, 1)?..=sizes(alloc, 2)?),
+    })?;
+    Ok(ranges)
+}
 
-    ghost info = { builtin 25 };
+impl Type for SizeRange {
+    ghost use Rattle.std.specs.Prelude.{codes};
+    ghost use Rattle.pgv.specs.Words.{named, softly};
 
-    ghost accepts = { λ t. softly t (builtin 25) };
+    ghost info = { named (codes "sizerange") };
+
+    ghost accepts = { λ t. softly t (named (codes "sizerange")) };
 
     fn type_info() -> PgTypeInfo {
-        PgTypeInfo(PgType::Text)
+        PgTypeInfo::with_name("sizerange")
     }
 
     fn compatible(type_info: &PgTypeInfo) -> bool {
@@ -96,14 +142,28 @@ impl Type for Refusing {
     }
 }
 
-impl Encode for Refusing {
-    ghost use Rattle.std.specs.Prelude.{None};
+impl PgHasArrayType for SizeRange {
+    ghost use Rattle.std.specs.Prelude.{codes};
+    ghost use Rattle.pgv.specs.Words.{array_of, softly};
 
-    ghost image = { λ _. None };
+    ghost array_info = { array_of (codes "sizerange") };
+
+    ghost accepts_array = { λ t. softly t (array_of (codes "sizerange")) };
+
+    fn array_type_info() -> PgTypeInfo {
+        PgTypeInfo::array_of("sizerange")
+    }
+
+    fn array_compatible(type_info: &PgTypeInfo) -> bool {
+        type_info.type_compatible(&Self::array_type_info())
+    }
+}
+
+impl Encode for SizeRange {
+    ghost image = { λ v. ⟦<PgRange<Vec<Size>> as Encode>⟧.image v.range };
 
     fn encode_by_ref(&self, out: &mut PgArgumentBuffer) -> Result<IsNull, CodecError> {
-        out.push(255)?;
-        Err(CodecError::Caller(1))
+        self.range.encode_by_ref(out)
     }
 
     fn size_hint(&self) -> usize {
@@ -115,6 +175,23 @@ impl Encode for Refusing {
     }
 }
 
+impl Decode for SizeRange {
+    ghost use Rattle.pgv.specs.Words.{unwritten};
+
+    ghost Meaning = { ⟦<PgRange<Vec<Size>> as Decode>⟧.Meaning };
+
+    ghost meaning = { λ v. ⟦<PgRange<Vec<Size>> as Decode>⟧.meaning v.range };
+
+    ghost reading = { ⟦<PgRange<Vec<Size>> as Decode>⟧.reading };
+
+    ghost written = { unwritten };
+
+    fn decode(alloc: Global, value: PgValueRef<'_>) -> Result<SizeRange, CodecError> {
+        Ok(SizeRange {
+            range: PgRange::decode(alloc, value)?,
+        })
+    }
+}
 /// One byte that says to need more than a frame has room for.
 #[derive(Drop)]
 pub struct Huge;
@@ -218,7 +295,7 @@ impl Encode for MoodText {
     }
 }
 
-/// A number as `i32` is, but 3 is refused with C38(1) after a byte.
+/// A number as `i32` is, but 3 is refused with C38(1) after the byte ff.
 #[derive(Drop)]
 pub struct ButThree {
     /// The number that is written.
@@ -251,7 +328,7 @@ impl Encode for ButThree {
 
     fn encode_by_ref(&self, out: &mut PgArgumentBuffer) -> Result<IsNull, CodecError> {
         if self.number == 3 {
-            out.push(0)?;
+            out.push(255)?;
             return Err(CodecError::Caller(1));
         }
         self.number.encode_by_ref(out)

@@ -1,4 +1,4 @@
-//! Ranges that a PostgreSQL 15.20 server wrote (C locale, UTF8), of types that the program `pgvalue` has no name for.
+//! Ranges that a PostgreSQL 15.20 server wrote (C locale, UTF8), of types that the program has no name for.
 
 /// A value in each line, with spaces between: its type, its binary form in hex, what is written of its text and of its binary form, and
 /// its text. `=` is the binary form itself, and `C29` a refusal by its number.
