@@ -3,7 +3,8 @@
 use crate::reading::{read_all, values_of};
 use crate::seen::Seen;
 use crate::writing::write_all;
-use pgv_wire::{CodecError, Decode, Encode, Type};
+use pgv_codec::{Decode, Encode, Type};
+use pgv_value::CodecError;
 use std::alloc::Global;
 
 /// Writes or reads the values of frames `rounds` times. `how` is 0 to add them to arguments and 1 to encode them, of frames in

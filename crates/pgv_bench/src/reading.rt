@@ -1,7 +1,8 @@
 //! Frames that are read.
 
 use crate::seen::Seen;
-use pgv_wire::{CodecError, Decode, PgValueFormat, PgValueRef, Type};
+use pgv_codec::{Decode, Type};
+use pgv_value::{CodecError, PgValueFormat, PgValueRef};
 use std::alloc::Global;
 
 fn read_once<T: Decode + Type + Seen>(

@@ -1,7 +1,8 @@
 //! A composite type of three fields.
 
+use pgv_codec::{Encode, IsNull, PgArgumentBuffer, PgRecordEncoder, Type};
 use pgv_types::PgTypeInfo;
-use pgv_wire::{CodecError, Encode, IsNull, PgArgumentBuffer, PgRecordEncoder, Type};
+use pgv_value::CodecError;
 use std::alloc::AllocError;
 
 /// A number, a text and a truth value.

@@ -5,8 +5,9 @@ ghost use Rattle.pgv_types.specs.Ty.{builtin};
 ghost use Rattle.pgv_buf.specs.Tokens.{blank, slot};
 ghost use Rattle.pgv_value.specs.declared.error.CodecError.TheVariants.{Memory};
 
+use pgv_codec::{Encode, IsNull, PgArgumentBuffer, PgHasArrayType, Type, encode_text};
 use pgv_types::{PgType, PgTypeInfo};
-use pgv_wire::{CodecError, Encode, IsNull, PgArgumentBuffer, PgHasArrayType, Type, encode_text};
+use pgv_value::CodecError;
 use std::alloc::{AllocError, Global};
 
 /// A label of a type that is known by its name alone.

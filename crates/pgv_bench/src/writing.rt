@@ -2,8 +2,10 @@
 
 use crate::triple::Triple;
 use crate::values::{EmptyObject, Mood};
+use pgv_codec::{Encode, PgArgumentBuffer, Type};
 use pgv_types::{Oid, PgType, PgTypeInfo};
-use pgv_wire::{CodecError, Encode, PgArgumentBuffer, PgArguments, Type};
+use pgv_value::CodecError;
+use pgv_wire::PgArguments;
 use std::alloc::Global;
 use uuid::Uuid;
 

@@ -51,31 +51,35 @@ pub fn keep(alloc: Global, row: &mut &[u8], type_info: PgTypeInfo) -> Result<PgV
 mod tests {
     use crate::row::{column, keep, read_person};
     use pgv::{CodecError, Decode, PgType, PgTypeInfo};
+    use std::alloc::Global;
 
     /// The number 7 and the text `seven`.
     const SEVEN: &[u8] = b"\0\0\0\x04\0\0\0\x07\0\0\0\x05seven";
 
-    #[test]
-    fn rows_of_persons(rt: HostRuntime) -> Result<(), CodecError> {
-        let seven = read_person(rt.alloc(), SEVEN)?;
-        assert_eq!(rt; seven.id, 7);
-        let named = seven.name.is_some_and(|name| name.as_str() == "seven");
-        assert!(rt; named);
-        let unnamed = read_person(rt.alloc(), b"\0\0\0\x04\0\0\0\x07\xff\xff\xff\xff")?;
-        assert!(rt; unnamed.name.is_none());
-        let null = read_person(rt.alloc(), b"\xff\xff\xff\xff\0\0\0\x05seven");
-        assert!(rt; matches!(null, Err(CodecError::UnexpectedNull)));
-        Ok(())
+    /// A person of these bytes.
+    fn person(alloc: Global, row: &[u8]) -> Result<String, CodecError> {
+        let person = read_person(alloc, row)?;
+        Ok(format!(in alloc; "{} {:?}", person.id, person.name)?)
+    }
+
+    /// The number of a row that is kept, and the text after it.
+    fn kept(alloc: Global) -> Result<String, CodecError> {
+        let mut rest = SEVEN;
+        let value = keep(alloc, &mut rest, PgTypeInfo(PgType::Int4))?;
+        let name: String = column(alloc, &mut rest, PgTypeInfo(PgType::Text))?;
+        let number = i32::decode(alloc, value.as_ref()?)?;
+        Ok(format!(in alloc; "{number} {name} {}", rest.len())?)
     }
 
     #[test]
-    fn a_column_is_kept(rt: HostRuntime) -> Result<(), CodecError> {
-        let mut rest = SEVEN;
-        let value = keep(rt.alloc(), &mut rest, PgTypeInfo(PgType::Int4))?;
-        let name: String = column(rt.alloc(), &mut rest, PgTypeInfo(PgType::Text))?;
-        assert_eq!(rt; name.as_str(), "seven");
-        assert!(rt; rest.is_empty());
-        assert_eq!(rt; i32::decode(rt.alloc(), value.as_ref()?)?, 7);
+    fn rows_of_persons(rt: HostRuntime) -> Result<(), CodecError> {
+        let alloc = rt.alloc();
+        let seven = person(alloc, SEVEN)?;
+        let unnamed = person(alloc, b"\0\0\0\x04\0\0\0\x07\xff\xff\xff\xff")?;
+        let found = format!(in alloc; "{seven}, {unnamed}, {}", kept(alloc)?)?;
+        assert_eq!(rt; found.as_str(), "7 Some(\"seven\"), 7 None, 7 seven 0");
+        let null = person(alloc, b"\xff\xff\xff\xff\0\0\0\x05seven");
+        assert!(rt; matches!(null, Err(CodecError::UnexpectedNull)));
         Ok(())
     }
 }

@@ -246,11 +246,7 @@ fn texts(alloc: Global) -> Result<Vec<Option<String>>, AllocError> {
 }
 
 /// Adds the value of this name, of std's types.
-fn add_plain(
-    alloc: Global,
-    arguments: &mut PgArguments,
-    name: &str,
-) -> Result<(), CodecError> {
+fn add_plain(alloc: Global, arguments: &mut PgArguments, name: &str) -> Result<(), CodecError> {
     match name {
         "1" => arguments.add(1),
         "7" => arguments.add(7),
@@ -436,8 +432,24 @@ fn answers(alloc: Global, session: &str) -> Result<String, Fail> {
 fn sessions(rt: HostRuntime) -> Result<(), Fail> {
     let alloc = rt.alloc();
     let sessions = [
-        FRAMES, REFUSED, EACH, HOLES, BETWEEN, SLOTS, PRODUCED, PAGES, LISTS_OF_PAGES, RECORDS,
-        MOODS, NO_MOODS, TREES, NO_TREES, EMPTY_TREE, NONE, RANGES, IN_TURN,
+        FRAMES,
+        REFUSED,
+        EACH,
+        HOLES,
+        BETWEEN,
+        SLOTS,
+        PRODUCED,
+        PAGES,
+        LISTS_OF_PAGES,
+        RECORDS,
+        MOODS,
+        NO_MOODS,
+        TREES,
+        NO_TREES,
+        EMPTY_TREE,
+        NONE,
+        RANGES,
+        IN_TURN,
     ];
     for session in sessions {
         let mut wanted = joined(alloc, session)?;

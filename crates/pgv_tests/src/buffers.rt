@@ -17,10 +17,7 @@ fn push_buffer(alloc: Global, out: &mut String, buffer: &PgArgumentBuffer) -> Re
     push_line(out, hex::encode(alloc, buffer.as_slice())?.as_str())?;
     let len = buffer.len();
     let holes = names(alloc, buffer.hole_types())?;
-    Ok(push_line(
-        out,
-        format!(in alloc; "{len} [{holes}]")?.as_str(),
-    )?)
+    Ok(push_line(out, format!(in alloc; "{len} [{holes}]")?.as_str())?)
 }
 
 /// Encodes a value, and adds the answer.

@@ -7,9 +7,7 @@ use crate::shown::{again, debug};
 use jiff::Timestamp;
 use jiff::civil::DateTime;
 use pgv::types::{BitVec, MacAddress, PgByteaArray, PgLTree, PgRange, PgTimeTz};
-use pgv::{
-    Oid, PgHasArrayType, PgType, PgTypeInfo, PgTypeKind, PgValueFormat, PgValueRef, Type,
-};
+use pgv::{Oid, PgHasArrayType, PgType, PgTypeInfo, PgTypeKind, PgValueFormat, PgValueRef, Type};
 use pgv_examples::empty_object::EmptyObject;
 use pgv_examples::mood::Mood;
 use pgv_examples::page::Page;
@@ -33,12 +31,7 @@ fn composite(
 }
 
 /// A type that a server told of, with its OID.
-fn told(
-    alloc: Global,
-    oid: u32,
-    name: &str,
-    kind: PgTypeKind,
-) -> Result<PgTypeInfo, AllocError> {
+fn told(alloc: Global, oid: u32, name: &str, kind: PgTypeKind) -> Result<PgTypeInfo, AllocError> {
     PgTypeInfo::custom(alloc, Oid(oid), name, kind)
 }
 
@@ -277,10 +270,7 @@ fn wanted<'a>(column: &'a str, form: &'a str) -> &'a str {
 }
 
 /// What is written of a server's value, of its text and of its binary form, and what is wanted.
-fn served<'a>(
-    alloc: Global,
-    row: &'a str,
-) -> Result<(String, &'a str, String, &'a str), Fail> {
+fn served<'a>(alloc: Global, row: &'a str) -> Result<(String, &'a str, String, &'a str), Fail> {
     let (type_name, rest) = row.split_once(' ').ok_or("no type")?;
     let (form, rest) = rest.split_once(' ').ok_or("no binary form")?;
     let (of_text, rest) = rest.split_once(' ').ok_or("no first column")?;
@@ -300,7 +290,10 @@ fn served<'a>(
 fn values_of_a_server(rt: HostRuntime) -> Result<(), Fail> {
     for row in VALUES.lines() {
         let (text, of_text, binary, of_bytes) = served(rt.alloc(), row)?;
-        assert!(rt; text.as_str() == of_text && binary.as_str() == of_bytes, "{row}");
+        assert!(rt;
+            text.as_str() == of_text && binary.as_str() == of_bytes,
+            "{row}"
+        );
     }
     Ok(())
 }

@@ -115,7 +115,11 @@ fn faults_are_told(rt: HostRuntime) -> Result<(), Fail> {
         assert!(rt; begun && (done == Ok(()) || done == Err(RunFault::Read)));
     }
     for calls in 0..6u32 {
-        let wanted = if calls < 3 { Err(RunFault::Write) } else { Ok(()) };
+        let wanted = if calls < 3 {
+            Err(RunFault::Write)
+        } else {
+            Ok(())
+        };
         assert!(rt; write_failing(alloc, calls) == (wanted, true));
     }
     let memory = read_failing(alloc, 1, ErrorKind::OutOfMemory);

@@ -63,7 +63,10 @@ fn trees(alloc: Global) -> Result<String, PgLTreeParseError> {
 #[test]
 fn trees_are_made(rt: HostRuntime) -> Result<(), PgLTreeParseError> {
     let found = trees(rt.alloc())?;
-    assert_eq!(rt; found.as_str(), "Top.Science\nyes\nScience\nTop.x\nno\nyes\n");
+    assert_eq!(rt;
+        found.as_str(),
+        "Top.Science\nyes\nScience\nTop.x\nno\nyes\n"
+    );
     Ok(())
 }
 
@@ -219,7 +222,10 @@ fn bits(alloc: Global) -> Result<String, AllocError> {
     }
     push_written(alloc, &mut out, &bits)?;
     push_whether(&mut out, bits.get(8) == Some(true) && bits.get(9).is_none())?;
-    push_line(&mut out, hex::encode(alloc, bits.to_bytes()?.as_slice())?.as_str())?;
+    push_line(
+        &mut out,
+        hex::encode(alloc, bits.to_bytes()?.as_slice())?.as_str(),
+    )?;
     push_whether(&mut out, bits.pop() == Some(true) && bits.len() == 8)?;
     push_whether(&mut out, bits == BitVec::from_bytes(alloc, &[0xaa])?)?;
     let two = BitVec::from_bits(alloc, [true, false].to_vec(alloc)?)?;
@@ -230,7 +236,10 @@ fn bits(alloc: Global) -> Result<String, AllocError> {
 #[test]
 fn bits_are_made(rt: HostRuntime) -> Result<(), AllocError> {
     let found = bits(rt.alloc())?;
-    assert_eq!(rt; found.as_str(), "yes\n00000009aa80\nyes\naa80\nyes\nyes\nno\n");
+    assert_eq!(rt;
+        found.as_str(),
+        "yes\n00000009aa80\nyes\naa80\nyes\nyes\nno\n"
+    );
     Ok(())
 }
 
@@ -270,9 +279,18 @@ fn numbers(alloc: Global) -> Result<String, AllocError> {
     push_whether(&mut out, sum == PgMoney(-5) && PgMoney::from(-5i8) == sum)?;
     push_whether(&mut out, PgMoney(1) - PgMoney(2) == PgMoney(-1))?;
     push_whether(&mut out, PgMoney(1) + PgMoney(2) == PgMoney(3))?;
-    push_whether(&mut out, PgMoney(i64::MAX).checked_add(PgMoney(1)).is_none())?;
-    push_whether(&mut out, PgMoney(i64::MIN).checked_sub(PgMoney(1)).is_none())?;
-    push_whether(&mut out, PgMoney(7).checked_sub(PgMoney(9)) == Some(PgMoney(-2)))?;
+    push_whether(
+        &mut out,
+        PgMoney(i64::MAX).checked_add(PgMoney(1)).is_none(),
+    )?;
+    push_whether(
+        &mut out,
+        PgMoney(i64::MIN).checked_sub(PgMoney(1)).is_none(),
+    )?;
+    push_whether(
+        &mut out,
+        PgMoney(7).checked_sub(PgMoney(9)) == Some(PgMoney(-2)),
+    )?;
     push_written(alloc, &mut out, &PgMoney(12_345))?;
     push_written(alloc, &mut out, &PgNumeric::zero(alloc))?;
     push_written(alloc, &mut out, &PgNumeric::NotANumber)?;
@@ -370,7 +388,10 @@ fn durations(alloc: Global) -> Result<String, AllocError> {
     let interval = PgInterval::try_from(Duration::from_secs(20000000000000));
     push_line(&mut out, outcome(alloc, interval)?.as_str())?;
     let nothing = PgInterval::try_from(Duration::from_nanos(0));
-    push_whether(&mut out, nothing.is_ok_and(|it| it == PgInterval::default()))?;
+    push_whether(
+        &mut out,
+        nothing.is_ok_and(|it| it == PgInterval::default()),
+    )?;
     Ok(out)
 }
 
@@ -437,7 +458,10 @@ fn types_that_are_compatible(rt: HostRuntime) {
         (fits::<MacAddress>(&PgTypeInfo(PgType::Bit)), false),
         (fits::<PgRange<i32>>(&PgTypeInfo(PgType::Int4Range)), true),
         (fits::<PgRange<i32>>(&PgTypeInfo(PgType::Int8Range)), false),
-        (fits::<PgRange<i32>>(&PgTypeInfo::with_name("int4range")), false),
+        (
+            fits::<PgRange<i32>>(&PgTypeInfo::with_name("int4range")),
+            false,
+        ),
     ];
     for (found, wanted) in rows {
         assert_eq!(rt; found, wanted);

@@ -70,11 +70,7 @@ fn record<'a>(
     format: PgValueFormat,
 ) -> Result<PgValueRef<'a>, Fail> {
     let type_name = if name == "pair" { "(int4,text)" } else { name };
-    Ok(PgValueRef::new(
-        Some(bytes),
-        type_of(alloc, type_name)?,
-        format,
-    ))
+    Ok(PgValueRef::new(Some(bytes), type_of(alloc, type_name)?, format))
 }
 
 /// Whether one line is read so.

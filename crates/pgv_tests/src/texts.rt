@@ -57,10 +57,7 @@ const ARRAYS: [(&str, &str); 15] = [
     ("{,}", "[] [] "),
     ("{ a}", "[ a] "),
     ("{a}}", "refused"),
-    (
-        "{\"(1,a)\",\"(2,\\\"x y\\\")\"}",
-        "[(1,a)] [(2,\"x y\")] ",
-    ),
+    ("{\"(1,a)\",\"(2,\\\"x y\\\")\"}", "[(1,a)] [(2,\"x y\")] "),
     ("", "refused"),
     ("{\"é\"}", "[é] "),
 ];
@@ -122,7 +119,14 @@ fn push_parts(
         let present = parts.next_into(text)? == Some(true);
         push_line(out, if present { text.as_str() } else { "null" })?;
     }
-    push_line(out, if parts.next_into(text)?.is_none() { "end" } else { "more" })
+    push_line(
+        out,
+        if parts.next_into(text)?.is_none() {
+            "end"
+        } else {
+            "more"
+        },
+    )
 }
 
 /// The parts of an array, read twice.

@@ -1,8 +1,6 @@
 //! Names and types: which agree, what is printed of them, and copies.
 
-use pgv::{
-    Oid, PgType, PgTypeInfo, PgTypeKind, PgTypeKindRef, identifier_chars, name_eq,
-};
+use pgv::{Oid, PgType, PgTypeInfo, PgTypeKind, PgTypeKindRef, identifier_chars, name_eq};
 use std::alloc::{AllocError, Global};
 use std::rc::{RcSlice, RcStr};
 use std::test::Fail;

@@ -56,7 +56,12 @@ fn in_front(alloc: Global, bytes: &mut &[u8]) -> Result<String, Fail> {
 #[test]
 fn frames_in_front(rt: HostRuntime) -> Result<(), Fail> {
     let mut rest = b"\0\0\0\x02\x08\x09\xff\xff\xff\xff\xff\xff\xff\xfe".as_slice();
-    for wanted in ["0809 8", "null 4", "NegativeLength(-2) 4", "NegativeLength(-2) 4"] {
+    for wanted in [
+        "0809 8",
+        "null 4",
+        "NegativeLength(-2) 4",
+        "NegativeLength(-2) 4",
+    ] {
         let found = in_front(rt.alloc(), &mut rest)?;
         assert_eq!(rt; found.as_str(), wanted);
     }
