@@ -1,0 +1,2 @@
+pub mod CopyBinary
+pub mod CopyView
