@@ -7,6 +7,7 @@ ghost use Rattle.pgv_copy.specs.CopyBinary.{header, after_signature as signature
 
 use pgv_types::PgTypeInfo;
 use pgv_value::{CodecError, PgValueFormat, PgValueRef, i16_in_front, u32_in_front};
+use std::alloc::Global;
 use std::marker::Model;
 
 /// What a stream begins with.
@@ -63,6 +64,7 @@ impl<'r> PgCopyReader<'r> {
     /// Where the bytes end before the stream does it is C15, a negative number of fields but the -1 of the end C16, another
     /// number than that of the columns C12, and a negative length of a field but the -1 of null C16. A refused call leaves the
     /// reader as it was. The list is all that takes memory (C1), from the allocator of the types.
+    #[tactic(auto, unfolding(crate::specs::CopyBinary::step))]
     pub fn next_row(&mut self) -> Result<Option<Vec<PgValueRef<'r>>>, CodecError>
         ensures answered { IfOk result (λ found. step self.old ≡ Ok (option_map (λ row. row.items) found, self.new)) }
         ensures refused { IfErr result (λ e. Refuses e (step self.old ≡ Err e)) }
@@ -75,7 +77,7 @@ impl<'r> PgCopyReader<'r> {
             self.left = None;
             return Ok(None);
         };
-        let row = read_fields(&self.types, &mut rest)?;
+        let row = read_fields(*self.types.allocator(), self.types.as_slice(), &mut rest)?;
         self.left = Some(rest);
         Ok(Some(row))
     }
@@ -152,13 +154,14 @@ fn after_count(bytes: &[u8], width: usize) -> Result<Option<&[u8]>, CodecError>
 
 /// A field of each type. The bytes are moved on after those that were read.
 fn read_fields<'r>(
-    types: &Vec<PgTypeInfo>,
+    alloc: Global,
+    types: &[PgTypeInfo],
     bytes: &mut &'r [u8],
 ) -> Result<Vec<PgValueRef<'r>>, CodecError>
-    ensures found { IfOk result (λ row. fields types.now.items bytes.old.now ≡ Ok (row.items, bytes.new.now)) }
-    ensures refused { IfErr result (λ e. Refuses e (fields types.now.items bytes.old.now ≡ Err e)) }
+    ensures found { IfOk result (λ row. fields types.now bytes.old.now ≡ Ok (row.items, bytes.new.now)) }
+    ensures refused { IfErr result (λ e. Refuses e (fields types.now bytes.old.now ≡ Err e)) }
 {
-    let mut row = Vec::with_capacity(*types.allocator(), types.len())?;
+    let mut row = Vec::with_capacity(alloc, types.len())?;
     for type_info in types {
         row.push(PgValueRef::get(bytes, PgValueFormat::Binary, type_info.clone()?)?)?;
     }
