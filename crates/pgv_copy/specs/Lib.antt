@@ -1,2 +1,3 @@
-pub mod CopyBinary
 pub mod CopyView
+pub mod CopyBinary
+pub mod CopyStream

@@ -4,6 +4,7 @@
 //! bytes. The module [`laws`] says what streams are, and ties the reader to it.
 #![tactic(auto)]
 
+pub mod laws;
 pub mod reader;
 
 pub use reader::PgCopyReader;
