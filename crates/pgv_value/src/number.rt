@@ -4,7 +4,7 @@ ghost use Rattle.std.specs.Prelude.{◌≡◌, ◌≤◌, ◌+◌, length, IfOk,
 ghost use Rattle.pgv_value.specs.Interval.{eight_bytes, signed_four_bytes};
 ghost use Rattle.pgv_value.specs.Reading.{AnswersExactly};
 ghost use Rattle.pgv_value.specs.declared.error.CodecError.TheVariants.{Short};
-ghost use Rattle.pgv_value.specs.Steps.{number};
+ghost use Rattle.pgv_value.specs.Steps.{number, signed_two};
 
 use crate::error::CodecError;
 use byteorder::{BigEndian, ByteOrder};
@@ -25,6 +25,21 @@ pub fn u32_in_front(bytes: &[u8]) -> Result<(u32, &[u8]), CodecError>
         u32::from_be_bytes([front[0], front[1], front[2], front[3]]),
         rest,
     ))
+}
+
+/// The signed number of 16 bits in front, the highest byte first, and the rest: of `ffff00` it is -1, and the rest is `00`. Fewer
+/// than two bytes are refused with C15.
+#[tactic(auto, unfolding(crate::specs::Steps::signed_two))]
+pub fn i16_in_front(bytes: &[u8]) -> Result<(i16, &[u8]), CodecError>
+    ensures exact { AnswersExactly (λ x. (x.0, x.1.now)) (signed_two bytes.now) result }
+    ensures short { IfErr result (λ e. e ≡ Short) }
+    ensures shorter { IfOk result (λ x. length x.1.now + 2 ≡ length bytes.now) }
+{
+    if bytes.len() < 2 {
+        return Err(CodecError::Short);
+    }
+    let (front, rest) = bytes.split_at(2);
+    Ok((i16::from_be_bytes([front[0], front[1]]), rest))
 }
 
 /// The signed number of the eight bytes in front, the highest first, whatever comes after them. There have to be eight.

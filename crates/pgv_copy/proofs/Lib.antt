@@ -1,0 +1,4 @@
+mod FieldLoop
+mod Headers
+mod Rows
+mod Cuts

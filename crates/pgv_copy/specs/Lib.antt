@@ -1,0 +1,3 @@
+pub mod CopyView
+pub mod CopyBinary
+pub mod CopyStream

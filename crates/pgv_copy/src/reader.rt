@@ -1,0 +1,169 @@
+//! A reader of rows.
+
+ghost use Rattle.std.specs.Prelude.{◌≡◌, length, Some, None, Ok, Err, IfOk, IfErr, OnErr, option_map};
+ghost use Rattle.std.specs.Option.{option_copied};
+ghost use Rattle.pgv_value.specs.Reading.{Refuses};
+ghost use Rattle.pgv_copy.specs.CopyBinary.{header, after_signature as signature_passed, after_flags as flags_passed, after_extension as extension_passed, after_count as count_passed, fields, before, step};
+
+use pgv_types::PgTypeInfo;
+use pgv_value::{CodecError, PgValueFormat, PgValueRef, i16_in_front, u32_in_front};
+use std::alloc::Global;
+use std::marker::Model;
+
+/// What a stream begins with.
+const SIGNATURE: [u8; 11] = *b"PGCOPY\n\xff\r\n\0";
+/// The largest number of which the flags that a reader has to know, bits 16 to 31, are clear.
+const MAX_FLAGS: u32 = 0xffff;
+/// The largest length of the header's extension.
+const MAX_LENGTH: u32 = 0x7fff_ffff;
+/// The number of fields that means that no row follows.
+const TRAILER: i16 = -1;
+
+/// The rows of a COPY stream in binary (PostgreSQL, "COPY", "Binary Format"): what `COPY .. TO STDOUT (FORMAT binary)` sends.
+///
+/// The stream is a header, then for each row the number of its fields and a frame for each, and at the end the number -1. Of
+/// `5047434f50590aff0d0a00 00000000 00000000`, the header, `0002 00000004 00000001 ffffffff`, a row, and `ffff`, with the types
+/// int4 and text, the one row is `00000001` and null.
+#[derive(Drop)]
+pub struct PgCopyReader<'r> {
+    types: Vec<PgTypeInfo>,
+    left: Option<&'r [u8]>,
+}
+
+impl<'r> Model for PgCopyReader<'r> {
+    ghost use Rattle.std.specs.Option.{option_copied};
+    ghost use Rattle.pgv_copy.specs.CopyView.{Copying, copying_code};
+
+    ghost Value = { Copying };
+
+    ghost coded = { copying_code };
+
+    ghost view = { λ r. record { types = r.types.items; left = option_copied r.left } };
+}
+
+impl<'r> PgCopyReader<'r> {
+    /// A reader of the rows of a stream whose columns have these types. The header is read: its flags 0 to 15 and its extension
+    /// are passed over.
+    ///
+    /// A wrong signature, also one that is cut off, and a set flag of 16 to 31 (16 means that rows have OIDs) are refused with C29,
+    /// bytes that end within a header with C15, and a negative length of the extension with C16.
+    pub fn new(bytes: &'r [u8], types: Vec<PgTypeInfo>) -> Result<Self, CodecError>
+        ensures found { IfOk result (λ r. (rest : _) × (header bytes.now ≡ Ok rest) × (r ≡ before types.items rest)) }
+        ensures refused { IfErr result (λ e. header bytes.now ≡ Err e) }
+    {
+        let left = after_extension(after_flags(after_signature(bytes)?)?)?;
+        Ok(PgCopyReader {
+            types,
+            left: Some(left),
+        })
+    }
+
+    /// The next row, a value in binary format for each column, or none at the end of the stream and ever after; bytes after the
+    /// end are ignored. The values live as long as the bytes of the stream.
+    ///
+    /// Where the bytes end before the stream does it is C15, a negative number of fields but the -1 of the end C16, another
+    /// number than that of the columns C12, and a negative length of a field but the -1 of null C16. A refused call leaves the
+    /// reader as it was. The list is all that takes memory (C1), from the allocator of the types.
+    #[tactic(auto, unfolding(crate::specs::CopyBinary::step))]
+    pub fn next_row(&mut self) -> Result<Option<Vec<PgValueRef<'r>>>, CodecError>
+        ensures answered { IfOk result (λ found. step self.old ≡ Ok (option_map (λ row. row.items) found, self.new)) }
+        ensures refused { IfErr result (λ e. Refuses e (step self.old ≡ Err e)) }
+        ensures unmoved { OnErr result (self.new ≡ self.old) }
+    {
+        let Some(bytes) = self.left else {
+            return Ok(None);
+        };
+        let Some(mut rest) = after_count(bytes, self.types.len())? else {
+            self.left = None;
+            return Ok(None);
+        };
+        let row = read_fields(*self.types.allocator(), self.types.as_slice(), &mut rest)?;
+        self.left = Some(rest);
+        Ok(Some(row))
+    }
+}
+
+/// What comes after the signature.
+#[tactic(auto, unfolding(crate::specs::CopyBinary::after_signature))]
+fn after_signature(bytes: &[u8]) -> Result<&[u8], CodecError>
+    ensures found { IfOk result (λ rest. signature_passed bytes.now ≡ Ok rest.now) }
+    ensures refused { IfErr result (λ e. signature_passed bytes.now ≡ Err e) }
+{
+    if bytes.len() < SIGNATURE.len() {
+        return Err(if bytes == &SIGNATURE[..bytes.len()] {
+            CodecError::Short
+        } else {
+            CodecError::Syntax
+        });
+    }
+    let (front, rest) = bytes.split_at(SIGNATURE.len());
+    if front != SIGNATURE.as_slice() {
+        return Err(CodecError::Syntax);
+    }
+    Ok(rest)
+}
+
+/// What comes after the flags.
+#[tactic(auto, unfolding(crate::specs::CopyBinary::after_flags))]
+fn after_flags(bytes: &[u8]) -> Result<&[u8], CodecError>
+    ensures found { IfOk result (λ rest. flags_passed bytes.now ≡ Ok rest.now) }
+    ensures refused { IfErr result (λ e. flags_passed bytes.now ≡ Err e) }
+{
+    let (flags, rest) = u32_in_front(bytes)?;
+    if flags > MAX_FLAGS {
+        return Err(CodecError::Syntax);
+    }
+    Ok(rest)
+}
+
+/// What comes after the extension, which is passed over.
+#[tactic(auto, unfolding(crate::specs::CopyBinary::after_extension))]
+fn after_extension(bytes: &[u8]) -> Result<&[u8], CodecError>
+    ensures found { IfOk result (λ rest. extension_passed bytes.now ≡ Ok rest.now) }
+    ensures refused { IfErr result (λ e. extension_passed bytes.now ≡ Err e) }
+{
+    let (length, rest) = u32_in_front(bytes)?;
+    if length > MAX_LENGTH {
+        return Err(CodecError::NegativeLength(length.cast_signed()));
+    }
+    let length = length as usize;
+    if rest.len() < length {
+        return Err(CodecError::Short);
+    }
+    Ok(&rest[length..])
+}
+
+/// What comes after the number of a row's fields, or none at the trailer.
+#[tactic(auto, unfolding(crate::specs::CopyBinary::after_count))]
+fn after_count(bytes: &[u8], width: usize) -> Result<Option<&[u8]>, CodecError>
+    ensures found { IfOk result (λ rest. count_passed width bytes.now ≡ Ok (option_copied rest)) }
+    ensures refused { IfErr result (λ e. count_passed width bytes.now ≡ Err e) }
+{
+    let (count, rest) = i16_in_front(bytes)?;
+    if count == TRAILER {
+        return Ok(None);
+    }
+    if count < 0 {
+        return Err(CodecError::NegativeLength(i32::from(count)));
+    }
+    if count as usize != width {
+        return Err(CodecError::FieldCount);
+    }
+    Ok(Some(rest))
+}
+
+/// A field of each type. The bytes are moved on after those that were read.
+fn read_fields<'r>(
+    alloc: Global,
+    types: &[PgTypeInfo],
+    bytes: &mut &'r [u8],
+) -> Result<Vec<PgValueRef<'r>>, CodecError>
+    ensures found { IfOk result (λ row. fields types.now bytes.old.now ≡ Ok (row.items, bytes.new.now)) }
+    ensures refused { IfErr result (λ e. Refuses e (fields types.now bytes.old.now ≡ Err e)) }
+{
+    let mut row = Vec::with_capacity(alloc, types.len())?;
+    for type_info in types {
+        row.push(PgValueRef::get(bytes, PgValueFormat::Binary, type_info.clone()?)?)?;
+    }
+    Ok(row)
+}
