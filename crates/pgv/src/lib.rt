@@ -9,7 +9,7 @@
 
 pub use pgv_codec::{
     Codec, Decode, Encode, IsNull, PgArgumentBuffer, PgHasArrayType, PgRecordDecoder,
-    PgRecordEncoder, ReadBack, Type, encode_array, encode_text,
+    PgRecordEncoder, Plain, ReadBack, Type, encode_array, encode_text,
 };
 pub use pgv_types::{Oid, PgType, PgTypeInfo, PgTypeKind, PgTypeKindRef, PgTypeName, PgTypeRef};
 pub use pgv_value::{CodecError, PgValue, PgValueFormat, PgValueRef};

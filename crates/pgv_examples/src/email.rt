@@ -2,7 +2,7 @@
 
 use pgv::{
     CodecError, Decode, Encode, IsNull, PgArgumentBuffer, PgHasArrayType, PgType, PgTypeInfo,
-    PgValueRef, ReadBack, Type, encode_text,
+    PgValueRef, Plain, Type, encode_text,
 };
 use std::alloc::{AllocError, Global};
 
@@ -69,10 +69,10 @@ impl Encode for Email {
     }
 }
 
-/// Read as its text.
-impl Decode for Email {
-    ghost use Rattle.std.specs.Prelude.{ℕ, List, string_bytes};
-    ghost use Rattle.pgv.specs.Words.{plainly, text_image, text_reading};
+/// Read as its text, and comes back as its text does.
+impl Plain for Email {
+    ghost use Rattle.std.specs.Prelude.{ℕ, List, string_bytes, true, refl};
+    ghost use Rattle.pgv.specs.Words.{plainly, text_back, text_image, text_reading};
 
     ghost Meaning = { List ℕ };
 
@@ -82,22 +82,17 @@ impl Decode for Email {
 
     ghost written = { plainly text_image };
 
-    fn decode(alloc: Global, value: PgValueRef<'_>) -> Result<Email, CodecError> {
+    ghost takes_memory = { true };
+
+    fn read(alloc: Global, value: PgValueRef<'_>) -> Result<Email, CodecError> {
         Ok(Email {
             address: String::decode(alloc, value)?,
         })
     }
-}
-
-/// An address comes back as its text does.
-impl ReadBack for Email {
-    ghost use Rattle.pgv.specs.Words.{always, text_back};
-
-    ghost kept = { λ email. email };
-
-    ghost fits = { always };
 
     ghost reads_back = { λ email. text_back email.address };
+
+    ghost agrees = { λ _. refl };
 }
 
 #[cfg(test)]

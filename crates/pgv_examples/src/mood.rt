@@ -4,8 +4,8 @@ ghost use Rattle.std.specs.Prelude.{◌≡◌, IfOk, IfErr};
 ghost use Rattle.pgv_examples.specs.Moods.{label_of, mood_of};
 
 use pgv::{
-    CodecError, Decode, Encode, IsNull, PgArgumentBuffer, PgHasArrayType, PgTypeInfo, PgValueRef,
-    ReadBack, Type, encode_text,
+    CodecError, Encode, IsNull, PgArgumentBuffer, PgHasArrayType, PgTypeInfo, PgValueRef, Plain,
+    Type, encode_text,
 };
 use std::alloc::{AllocError, Global};
 
@@ -99,11 +99,11 @@ impl Encode for Mood {
     }
 }
 
-/// Read by its label, which is the same in both formats. Another text is refused with C38(5), and null with C13.
-impl Decode for Mood {
-    ghost use Rattle.std.specs.Prelude.{false};
+/// Read by its label, which is the same in both formats. Another text is refused with C38(5), and null with C13. Each mood comes back.
+impl Plain for Mood {
+    ghost use Rattle.std.specs.Prelude.{refl};
     ghost use Rattle.pgv.specs.Words.{plainly, text_image};
-    ghost use Rattle.pgv_examples.specs.Moods.{mood_reading};
+    ghost use Rattle.pgv_examples.specs.Moods.{mood_back, mood_reading};
     ghost use Rattle.pgv_examples.specs.declared.mood.Mood.{Mood};
 
     ghost Meaning = { Mood };
@@ -114,23 +114,13 @@ impl Decode for Mood {
 
     ghost written = { plainly (λ mood. text_image (label_of mood)) };
 
-    ghost takes_memory = { false };
-
-    fn decode(_alloc: Global, value: PgValueRef<'_>) -> Result<Mood, CodecError> {
+    fn read(_alloc: Global, value: PgValueRef<'_>) -> Result<Mood, CodecError> {
         Mood::from_label(value.as_str()?)
     }
-}
-
-/// Each mood comes back.
-impl ReadBack for Mood {
-    ghost use Rattle.pgv.specs.Words.{always};
-    ghost use Rattle.pgv_examples.specs.Moods.{mood_back};
-
-    ghost kept = { λ mood. mood };
-
-    ghost fits = { always };
 
     ghost reads_back = { mood_back };
+
+    ghost agrees = { λ _. refl };
 }
 
 #[cfg(test)]

@@ -4,7 +4,7 @@ ghost use Rattle.std.specs.Prelude.{◌≡◌, true, false, IsOk, IsErrOf};
 ghost use Rattle.pgv_examples.specs.Percents.{is_percent};
 
 use pgv::{
-    CodecError, Decode, Encode, IsNull, PgArgumentBuffer, PgTypeInfo, PgValueRef, ReadBack, Type,
+    CodecError, Decode, Encode, IsNull, PgArgumentBuffer, PgTypeInfo, PgValueRef, Plain, Type,
 };
 use std::alloc::{AllocError, Global};
 
@@ -62,11 +62,11 @@ impl Encode for Percent {
     }
 }
 
-/// Read as a number; another than 0 to 100 is refused with C38(9).
-impl Decode for Percent {
-    ghost use Rattle.std.specs.Prelude.{ℤ};
+/// Read as a number; another than 0 to 100 is refused with C38(9). What is written is in the range, and so it is read back.
+impl Plain for Percent {
+    ghost use Rattle.std.specs.Prelude.{ℤ, refl};
     ghost use Rattle.pgv.specs.Words.{plainly};
-    ghost use Rattle.pgv_examples.specs.Percents.{percent_image, percent_reading};
+    ghost use Rattle.pgv_examples.specs.Percents.{percent_back, percent_image, percent_reading};
 
     ghost Meaning = { ℤ };
 
@@ -76,25 +76,17 @@ impl Decode for Percent {
 
     ghost written = { plainly percent_image };
 
-    fn decode(alloc: Global, value: PgValueRef<'_>) -> Result<Percent, CodecError> {
+    fn read(alloc: Global, value: PgValueRef<'_>) -> Result<Percent, CodecError> {
         let percent = Percent {
             number: i32::decode(alloc, value)?,
         };
         percent.check()?;
         Ok(percent)
     }
-}
-
-/// What is written is in the range, and so it is read back.
-impl ReadBack for Percent {
-    ghost use Rattle.pgv.specs.Words.{always};
-    ghost use Rattle.pgv_examples.specs.Percents.{percent_back};
-
-    ghost kept = { λ percent. percent };
-
-    ghost fits = { always };
 
     ghost reads_back = { percent_back };
+
+    ghost agrees = { λ _. refl };
 }
 
 #[cfg(test)]

@@ -2,7 +2,7 @@
 
 use pgv::{
     CodecError, Decode, Encode, IsNull, PgArgumentBuffer, PgHasArrayType, PgTypeInfo, PgValueRef,
-    ReadBack, Type,
+    Plain, Type,
 };
 use std::alloc::{AllocError, Global};
 
@@ -55,8 +55,11 @@ impl Encode for UserId {
     }
 }
 
-/// Read as its number.
-impl Decode for UserId {
+/// Read as its number, and what is written of it comes back under every type.
+impl Plain for UserId {
+    ghost use Rattle.std.specs.Prelude.{refl};
+    ghost use Rattle.pgv.specs.Words.{int4_back};
+
     ghost Meaning = { ⟦<i32 as Decode>⟧.Meaning };
 
     ghost meaning = { λ id. ⟦<i32 as Decode>⟧.meaning id.0 };
@@ -65,20 +68,13 @@ impl Decode for UserId {
 
     ghost written = { ⟦<i32 as Decode>⟧.written };
 
-    fn decode(alloc: Global, value: PgValueRef<'_>) -> Result<UserId, CodecError> {
+    fn read(alloc: Global, value: PgValueRef<'_>) -> Result<UserId, CodecError> {
         Ok(UserId(i32::decode(alloc, value)?))
     }
-}
-
-/// What is written of a number of a user is read as the same, under every type.
-impl ReadBack for UserId {
-    ghost use Rattle.pgv.specs.Words.{always, int4_back};
-
-    ghost kept = { λ id. id };
-
-    ghost fits = { always };
 
     ghost reads_back = { λ id. int4_back id.0 };
+
+    ghost agrees = { λ _. refl };
 }
 
 #[cfg(test)]
