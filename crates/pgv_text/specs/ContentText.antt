@@ -1,5 +1,5 @@
 -- What a text is of: the parts of a nest, or the empty range (PostgreSQL: "Range Types", 8.17.5).
-use Rattle.std.specs.Prelude.{◌≡◌, ℕ, Bool, true, false, List, [], Option, Some, codes, if◌then◌else◌}
+use Rattle.std.specs.Prelude.{◌≡◌, ℕ, Bool, false, List, [], Option, Some, codes, if◌then◌else◌}
 use Rattle.std.specs.Option.{option_map}
 use Rattle.std.specs.Str.{str_eq_ignore_ascii_case, str_to_ascii_lowercase}
 use Rattle.pgv_text.specs.declared.scanner.TextForm.{TextForm}
