@@ -5,7 +5,7 @@ use Rattle.std.specs.declared.ops.Bound.{Bound}
 use Rattle.std.specs.declared.ops.Bound.TheVariants.{Included, Excluded, Unbounded}
 use Rattle.std.proofs.lemmas.Option.{same_Some}
 use Rattle.pgv_types.specs.Ty.{Ty}
-use Rattle.pgv_text.specs.ContentText.{RangeContent, empty as empty_text, parts, IsRangeOf, range_content}
+use Rattle.pgv_text.specs.ContentText.{RangeContent, empty as empty_text, parts as parts_text, IsRangeOf, range_content}
 use Rattle.pgv_text.specs.Laws.{RangeIsComputed}
 use Rattle.pgv_text.specs.NestText.{Nest, IsNestText, IsPart, Pairwise, Piece}
 use Rattle.pgv_text.specs.RangeText.{range_form}
@@ -93,7 +93,7 @@ module _ (law : RangeIsComputed) {M : Type 0} (read : Part → Option M) where
   -- of what a range text is of
   of_content : (bytes : List ℕ) (m : RangeOf M) (content : RangeContent) → is_utf8 bytes ≡ true → IsRangeOf (chars bytes) content → content_in_text read content ≡ Some m → IsRangeInText read bytes m
   of_content bytes m empty_text u whole e = subst (λ (r : RangeOf M). IsRangeInText read bytes r) (same_Some {A = RangeOf M} empty m e) (u, whole)
-  of_content bytes m (parts nest) u whole e =
+  of_content bytes m (parts_text nest) u whole e =
       let two = two_values (IsPart range_form) whole.parts nest.values whole.counted whole.values in
       of_parts bytes m nest two.0 two.1 u whole two.2 e
 
@@ -106,7 +106,7 @@ module _ (law : RangeIsComputed) {M : Type 0} (read : Part → Option M) where
   text_there bytes empty h = rw ((law (chars bytes) empty_text).1 h.1) refl
   text_there bytes (bounds below above) h =
       let nest : Nest = record { values = h.lower ∷ h.upper ∷ []; lower = h.lower_included; upper = h.upper_included } in
-      let found : range_content (chars bytes) ≡ Some (parts nest) = (law (chars bytes) (parts nest)).1 h.whole in
+      let found : range_content (chars bytes) ≡ Some (parts_text nest) = (law (chars bytes) (parts_text nest)).1 h.whole in
       rw (found, next_there read h.lower_included h.lower (h.upper ∷ []) below h.start, next_there read h.upper_included h.upper [] above h.end) refl
 
   pub one_range_text : OneRangeInText read

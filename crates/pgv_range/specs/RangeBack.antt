@@ -90,8 +90,7 @@ empty_back : {M : Type 0} (info : Ty) (reading : Reading M) (i : Image) (t : Ty)
     range info reading t Binary (written_part i p os) ≡ Some empty
 empty_back info reading i t p os e u over =
     let a = image_parts 1 (Some []) i e in
-    let none : [] ≡ a.0 = same_Some {A = List Token} [] a.0 a.1 in
-    rw (← a.2, ← none, over) refl
+    rw (← a.2, over) refl
 
 -- ---- ranges
 

@@ -6,7 +6,7 @@ use Rattle.std.specs.declared.ops.Bound.{Bound}
 use Rattle.std.specs.declared.ops.Bound.TheVariants.{Included, Excluded, Unbounded}
 use Rattle.pgv_types.specs.Ty.{Ty, Kind, simple, domain, composite, array, pseudo, enumeration, range as range_over}
 use Rattle.pgv_types.specs.Facts.{kind_at}
-use Rattle.pgv_text.specs.ContentText.{RangeContent, empty as empty_text, parts, range_content}
+use Rattle.pgv_text.specs.ContentText.{RangeContent, empty as empty_text, parts as parts_text, range_content}
 use Rattle.pgv_text.specs.NestText.{Nest}
 use Rattle.pgv_value.specs.FrameBinary.{Part, front}
 use Rattle.pgv_value.specs.Reading.{Reading}
@@ -97,7 +97,7 @@ bounds_in_text read nest =
 -- the empty range, or the bounds between the brackets
 abbrev pub content_in_text : {M : Type 0} → (Part → Option M) → RangeContent → Option (RangeOf M)
 content_in_text read empty_text = Some empty
-content_in_text read (parts nest) = bounds_in_text read nest
+content_in_text read (parts_text nest) = bounds_in_text read nest
 
 abbrev pub range_in_text : {M : Type 0} → (Part → Option M) → List ℕ → Option (RangeOf M)
 range_in_text read text = range_content (chars text) >>= content_in_text read

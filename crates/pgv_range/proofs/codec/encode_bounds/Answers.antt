@@ -12,5 +12,5 @@ returns-clause-ok g c =
     let lower = c.args.start.now in
     let upper = c.args.end.now in
     let frames = appended_both (bound_frame g.T.Encode.hint g.T.Encode.image lower) (bound_frame g.T.Encode.hint g.T.Encode.image upper) c.push.new.self c.encode_bound.new.out c.encode_bound-2.new.out c.in_ok-encode_bound.ensures.ok c.in_ok-encode_bound-2.ensures.ok in
-    let flags : c.push.new.self ≡ was ++ blank (byte (flags_of lower upper) ∷ []) = c.in_ok-push.ensures.ok ∙ ap (λ (n : ℕ). was ++ blank (byte n ∷ [])) (c.bits.ensures tt ∙ c.of-flags.ensures) in
+    let flags : c.push.new.self ≡ was ++ blank (byte (flags_of lower upper) ∷ []) = c.in_ok-push.ensures.ok ∙ ap (λ (n : ℕ). was ++ blank (byte n ∷ [])) (c.bits.ensures tt ∙ c.of.ensures) in
     (byte (flags_of lower upper) ∷ frames.0, rw frames.1 refl, both was c.push.new.self c.encode_bound-2.new.out (byte (flags_of lower upper) ∷ []) frames.0 flags frames.2)
