@@ -1,17 +1,17 @@
--- Labels (PostgreSQL: "ltree", Definitions).
+-- Labels, as PostgreSQL has them from version 16 on ("ltree", Definitions).
 use Rattle.std.specs.Prelude.{ℕ, nat_le, Bool, ◌&&◌, ◌||◌, ◌==◌, List, length, Result, Ok, Err, if◌then◌else◌}
 use Rattle.std.specs.Char.{is_ascii_alphanumeric}
 use Rattle.std.specs.List.{list_all}
 use Rattle.pgv_value.specs.declared.tree_error.PgLTreeParseError.{PgLTreeParseError}
 use Rattle.pgv_value.specs.declared.tree_error.PgLTreeParseError.TheVariants.{InvalidLtreeLabel}
 
--- the characters of labels: ASCII letters, digits and `_`
+-- the characters of labels: ASCII letters, digits, `_` and `-`
 abbrev pub is_label_char : ℕ → Bool
-is_label_char c = is_ascii_alphanumeric c || c == 95
+is_label_char c = is_ascii_alphanumeric c || c == 95 || c == 45
 
--- the longest label
+-- the longest label, in characters
 abbrev pub label_limit : ℕ
-label_limit = 256
+label_limit = 1000
 
 -- a text that is a label; the empty text is one
 abbrev pub is_label : List ℕ → Bool

@@ -10,14 +10,14 @@ use std::alloc::{AllocError, Global};
 use std::fmt;
 use std::marker::Model;
 
-/// The longest label, in bytes.
-const LABEL_LIMIT: usize = 256;
+/// The longest label, in bytes; its characters are ASCII, so that is in characters too.
+const LABEL_LIMIT: usize = 1000;
 
 /// Whether labels have this character.
 fn is_label_char(byte: u8) -> bool
     ensures { result ≡ is_label_char_of byte }
 {
-    byte.is_ascii_alphanumeric() || byte == b'_'
+    byte.is_ascii_alphanumeric() || byte == b'_' || byte == b'-'
 }
 
 /// Whether there are only characters of labels.
@@ -34,7 +34,7 @@ fn is_label(text: &str) -> bool
     text.len() <= LABEL_LIMIT && are_label_chars(text.as_bytes())
 }
 
-/// A label: at most 256 of the characters `A` to `Z`, `a` to `z`, `0` to `9` and `_`, perhaps none.
+/// A label: at most 1000 of the characters `A` to `Z`, `a` to `z`, `0` to `9`, `_` and `-`, perhaps none.
 ///
 /// A contract sees it as its bytes.
 #[derive(Debug, Drop)]

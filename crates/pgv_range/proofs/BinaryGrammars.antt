@@ -1,6 +1,5 @@
 -- What is computed of a range in binary is what its bytes are.
-use Rattle.std.proofs.Common.{◌≡◌, ℕ, Bool, true, false, cond, List, [], ◌∷◌, Option, Some, None, refl, sym, ◌∙◌, ap, subst, inl, inr}
-use Rattle.std.specs.Prelude.{◌⊎◌}
+use Rattle.std.proofs.Common.{◌≡◌, ℕ, Bool, true, false, cond, List, [], ◌∷◌, Option, Some, None, refl, sym, ◌∙◌, ap, subst}
 use Rattle.std.specs.declared.ops.Bound.{Bound}
 use Rattle.std.specs.declared.ops.Bound.TheVariants.{Included, Excluded, Unbounded}
 use Rattle.std.proofs.lemmas.Option.{same_Some}
@@ -9,9 +8,9 @@ use Rattle.pgv_types.specs.Facts.{kind_at}
 use Rattle.pgv_value.specs.FrameBinary.{Part, IsFrame, front}
 use Rattle.pgv_value.specs.Laws.{AreBytes}
 use Rattle.pgv_value.proofs.Fronts.{front_exactly, frame_in_front}
-use Rattle.pgv_range.specs.RangeOf.{RangeOf, bounds}
+use Rattle.pgv_range.specs.RangeOf.{RangeOf, empty, bounds}
 use Rattle.pgv_range.specs.FlagByte.{has, side_by, side_of}
-use Rattle.pgv_range.specs.RangeBinary.{IsClear, BeginsWith, IsBound, IsEmptyRange, IsBounded, IsRange, RangeIsItsBounds, OneRange}
+use Rattle.pgv_range.specs.RangeBinary.{IsClear, BeginsWith, IsBound, IsRangeBytes, IsRange, RangeIsItsBounds, OneRange}
 use Rattle.pgv_range.specs.RangeGrammar.{element_in_kind, value_in_front, bound_in, bounds_in, range_by, range_bytes, range_in_binary}
 use Rattle.pgv_range.specs.declared.flags.RangeForm.TheVariants.{Empty, Sides}
 use Rattle.pgv_range.proofs.Steps.{step_taken, pair_is, after_frame}
@@ -66,27 +65,27 @@ module _ {M : Type 0} (read : Part → Option M) where
 
   -- ---- the bounds after a flag byte
 
-  bounds_are : (flags : ℕ) (frames : List ℕ) (m : RangeOf M) → AreBytes frames → IsClear flags 1 → bounds_in read (side_of flags 8 2) (side_of flags 16 4) frames ≡ Some m → IsBounded read (flags ∷ frames) m
+  bounds_are : (flags : ℕ) (frames : List ℕ) (m : RangeOf M) → AreBytes frames → IsClear flags 1 → bounds_in read (side_of flags 8 2) (side_of flags 16 4) frames ≡ Some m → IsRangeBytes read (flags ∷ frames) m
   bounds_are flags frames m a clear e =
       let below = step_taken (bound_in read (side_of flags 8 2) frames) _ m e in
       let above = step_taken (bound_in read (side_of flags 16 4) below.0.1) _ m below.2 in
       let lower = bound_is flags 8 2 _ _ frames below.0.0 below.0.1 refl refl a below.1 in
       let upper = bound_is flags 16 4 _ _ below.0.1 above.0.0 above.0.1 refl refl lower.1 above.1 in
-      subst (λ (r : RangeOf M). IsBounded read (flags ∷ frames) r) (same_Some (bounds below.0.0 above.0.0) m above.2)
+      subst (λ (r : RangeOf M). IsRangeBytes read (flags ∷ frames) r) (same_Some (bounds below.0.0 above.0.0) m above.2)
       (record { flags = flags; frames = frames; between = below.0.1; rest = above.0.1; whole = refl; not_empty = clear; below = lower.0; above = upper.0 })
 
   by_form : (flags : ℕ) (frames : List ℕ) (m : RangeOf M) (x : Bool) → has flags 1 ≡ x → AreBytes frames → range_by read (cond x Empty (Sides (side_of flags 8 2) (side_of flags 16 4))) frames ≡ Some m →
-      IsEmptyRange (flags ∷ frames) m ⊎ IsBounded read (flags ∷ frames) m
-  by_form flags frames m true set a e = inl (flags, frames, refl, set, sym (same_Some (bounds Unbounded Unbounded) m e))
-  by_form flags frames m false clear a e = inr (bounds_are flags frames m a clear e)
+      IsRangeBytes read (flags ∷ frames) m
+  by_form flags frames m true set a e = subst (λ (r : RangeOf M). IsRangeBytes read (flags ∷ frames) r) (same_Some {A = RangeOf M} empty m e) (flags, frames, refl, set)
+  by_form flags frames m false clear a e = bounds_are flags frames m a clear e
 
-  bytes_are : (bytes : List ℕ) (m : RangeOf M) → AreBytes bytes → range_bytes read bytes ≡ Some m → IsEmptyRange bytes m ⊎ IsBounded read bytes m
+  bytes_are : (bytes : List ℕ) (m : RangeOf M) → AreBytes bytes → range_bytes read bytes ≡ Some m → IsRangeBytes read bytes m
   bytes_are [] m a e = absurd cc
   bytes_are (flags ∷ frames) m a e = by_form flags frames m _ refl a.1 e
 
-  bytes_there : (bytes : List ℕ) (m : RangeOf M) → IsEmptyRange bytes m ⊎ IsBounded read bytes m → range_bytes read bytes ≡ Some m
-  bytes_there bytes m (inl h) = rw (h.2, h.3, h.4) refl
-  bytes_there bytes (bounds lower upper) (inr h) =
+  bytes_there : (bytes : List ℕ) (m : RangeOf M) → IsRangeBytes read bytes m → range_bytes read bytes ≡ Some m
+  bytes_there bytes empty h = rw (h.2, h.3) refl
+  bytes_there bytes (bounds lower upper) h =
       rw (h.whole, h.not_empty, bound_there h.flags 8 2 h.frames lower h.between h.below, bound_there h.flags 16 4 h.between upper h.rest h.above) refl
 
 -- ---- under a type

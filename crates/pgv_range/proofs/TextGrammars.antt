@@ -5,19 +5,18 @@ use Rattle.std.specs.declared.ops.Bound.{Bound}
 use Rattle.std.specs.declared.ops.Bound.TheVariants.{Included, Excluded, Unbounded}
 use Rattle.std.proofs.lemmas.Option.{same_Some}
 use Rattle.pgv_types.specs.Ty.{Ty}
-use Rattle.pgv_text.specs.Laws.{NestIsComputed}
+use Rattle.pgv_text.specs.ContentText.{RangeContent, empty as empty_text, parts as parts_text, IsRangeOf, range_content}
+use Rattle.pgv_text.specs.Laws.{RangeIsComputed}
 use Rattle.pgv_text.specs.NestText.{Nest, IsNestText, IsPart, Pairwise, Piece}
-use Rattle.pgv_text.specs.Parsed.{nest_of}
 use Rattle.pgv_text.specs.RangeText.{range_form}
-use Rattle.pgv_text.specs.declared.scanner.TextForm.TheVariants.{Range}
 use Rattle.pgv_value.specs.FrameBinary.{Part}
 use Rattle.pgv_value.specs.Reading.{Reading}
 use Rattle.pgv_value.specs.Utf8.{is_utf8}
 use Rattle.pgv_value.specs.declared.value.PgValueFormat.TheVariants.{Text}
 use Rattle.pgv_nest.specs.NestText.{TextIs}
-use Rattle.pgv_range.specs.RangeOf.{RangeOf, bounds}
+use Rattle.pgv_range.specs.RangeOf.{RangeOf, empty, bounds}
 use Rattle.pgv_range.specs.RangeInText.{IsValue, IsTextBound, IsRangeInText, OneRangeInText}
-use Rattle.pgv_range.specs.RangeGrammar.{side_in_text, bound_in_text, next_bound, bounds_in_text, range_in_text, range}
+use Rattle.pgv_range.specs.RangeGrammar.{side_in_text, bound_in_text, next_bound, bounds_in_text, content_in_text, range_in_text, range}
 use Rattle.pgv_range.proofs.Steps.{step_taken, test_held, pair_is}
 
 -- two parts have two values
@@ -61,9 +60,15 @@ module _ {M : Type 0} (read : Part → Option M) where
   next_there : (included : Bool) (part : Part) (parts : List Part) (b : Bound M) → IsTextBound read included part b → next_bound read included (part ∷ parts) ≡ Some (b, parts)
   next_there included part parts b h = rw (bound_there included part b h) refl
 
+-- ---- a range text is UTF-8
+
+is_text : {M : Type 0} (read : Part → Option M) (bytes : List ℕ) (m : RangeOf M) → IsRangeInText read bytes m → is_utf8 bytes ≡ true
+is_text read bytes empty h = h.0
+is_text read bytes (bounds below above) h = h.utf8
+
 -- ---- both bounds
 
-module _ (law : NestIsComputed) {M : Type 0} (read : Part → Option M) where
+module _ (law : RangeIsComputed) {M : Type 0} (read : Part → Option M) where
   -- of the parts of a range text
   of_parts : (bytes : List ℕ) (m : RangeOf M) (nest : Nest) (lower upper : Part) → is_utf8 bytes ≡ true → IsNestText range_form (chars bytes) nest → nest.values ≡ lower ∷ upper ∷ [] → bounds_in_text read nest ≡ Some m → IsRangeInText read bytes m
   of_parts bytes m nest lower upper u whole two e =
@@ -81,31 +86,38 @@ module _ (law : NestIsComputed) {M : Type 0} (read : Part → Option M) where
         upper_included = nest.upper;
         utf8 = u;
         whole = subst (λ (vs : List Part). IsNestText range_form (chars bytes) (record { values = vs; lower = nest.lower; upper = nest.upper })) two whole;
-        parts = (below.0, above.0);
+        start = below.0;
+        end = above.0;
       })
+
+  -- of what a range text is of
+  of_content : (bytes : List ℕ) (m : RangeOf M) (content : RangeContent) → is_utf8 bytes ≡ true → IsRangeOf (chars bytes) content → content_in_text read content ≡ Some m → IsRangeInText read bytes m
+  of_content bytes m empty_text u whole e = subst (λ (r : RangeOf M). IsRangeInText read bytes r) (same_Some {A = RangeOf M} empty m e) (u, whole)
+  of_content bytes m (parts_text nest) u whole e =
+      let two = two_values (IsPart range_form) whole.parts nest.values whole.counted whole.values in
+      of_parts bytes m nest two.0 two.1 u whole two.2 e
 
   text_is : (bytes : List ℕ) (m : RangeOf M) → is_utf8 bytes ≡ true → range_in_text read bytes ≡ Some m → IsRangeInText read bytes m
   text_is bytes m u e =
-      let n = step_taken (nest_of range_form (chars bytes)) _ m e in
-      let whole : IsNestText range_form (chars bytes) n.0 = (law Range (chars bytes) n.0).0 n.1 in
-      let two = two_values (IsPart range_form) whole.parts n.0.values whole.counted whole.values in
-      of_parts bytes m n.0 two.0 two.1 u whole two.2 n.2
+      let n = step_taken (range_content (chars bytes)) _ m e in
+      of_content bytes m n.0 u ((law (chars bytes) n.0).0 n.1) n.2
 
   text_there : (bytes : List ℕ) (m : RangeOf M) → IsRangeInText read bytes m → range_in_text read bytes ≡ Some m
+  text_there bytes empty h = rw ((law (chars bytes) empty_text).1 h.1) refl
   text_there bytes (bounds below above) h =
       let nest : Nest = record { values = h.lower ∷ h.upper ∷ []; lower = h.lower_included; upper = h.upper_included } in
-      let found : nest_of range_form (chars bytes) ≡ Some nest = (law Range (chars bytes) nest).1 h.whole in
-      rw (found, next_there read h.lower_included h.lower (h.upper ∷ []) below h.parts.0, next_there read h.upper_included h.upper [] above h.parts.1) refl
+      let found : range_content (chars bytes) ≡ Some (parts_text nest) = (law (chars bytes) (parts_text nest)).1 h.whole in
+      rw (found, next_there read h.lower_included h.lower (h.upper ∷ []) below h.start, next_there read h.upper_included h.upper [] above h.end) refl
 
   pub one_range_text : OneRangeInText read
   one_range_text bytes m other h k = same_Some m other (sym (text_there bytes m h) ∙ text_there bytes other k)
 
 -- whatever the type of the value
-module _ (law : NestIsComputed) {M : Type 0} (info : Ty) (reading : Reading M) where
+module _ (law : RangeIsComputed) {M : Type 0} (info : Ty) (reading : Reading M) where
   pub range_text : TextIs (range info reading) (IsRangeInText (reading info Text))
   range_text t bytes m = (
     λ e.
         let u = test_held (is_utf8 bytes) (range_in_text (reading info Text) bytes) m e in
         text_is law (reading info Text) bytes m u.0 u.1,
-    λ h. rw (h.utf8, text_there law (reading info Text) bytes m h) refl,
+    λ h. rw (is_text (reading info Text) bytes m h, text_there law (reading info Text) bytes m h) refl,
   )

@@ -1,4 +1,5 @@
 pub mod RangeOf
+pub mod RangeView
 pub mod FlagByte
 pub mod RangeImage
 pub mod RangeGrammar

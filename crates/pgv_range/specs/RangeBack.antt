@@ -15,15 +15,17 @@ use Rattle.pgv_codec.specs.Back.{AreOids, SlotsFit, ImageFits, ReadsBack, holes_
 use Rattle.pgv_codec.specs.BackParts.{guarded, joined_parts, SlotsFit-front, SlotsFit-back, AreOids-drop, frame_back}
 use Rattle.pgv_codec.specs.Image.{Image, image_of, limit, frame_of, join}
 use Rattle.pgv_codec.specs.Writing.{write, written_part}
-use Rattle.pgv_range.specs.RangeOf.{bounds, range_meaning}
+use Rattle.pgv_range.specs.RangeOf.{RangeOf, empty, bounds, range_meaning}
 use Rattle.pgv_range.specs.FlagByte.{flags_of, form_of}
-use Rattle.pgv_range.specs.RangeImage.{bound_frame, flagged, range_image}
+use Rattle.pgv_range.specs.RangeImage.{bound_frame, bounds_image, flagged, range_image}
 use Rattle.pgv_range.specs.RangeGrammar.{value_in_front, bound_in, range}
+use Rattle.pgv_range.specs.RangeBinary.{IsRangeOver}
 use Rattle.pgv_range.specs.RangeFits.{bound_holes, BoundFits, RangeFits, range_kept}
 use Rattle.pgv_range.specs.declared.flags.Side.{Side}
 use Rattle.pgv_range.specs.declared.flags.Side.TheVariants.{Infinite, Inclusive, Exclusive}
 use Rattle.pgv_range.specs.declared.flags.RangeForm.TheVariants.{Sides}
 use Rattle.pgv_range.specs.declared.range.PgRange.{PgRange}
+use Rattle.pgv_range.specs.declared.range.PgRange.TheVariants.{Empty, Bounds}
 
 -- ---- the flag byte says what the bounds are
 
@@ -69,7 +71,7 @@ module _ {A M : Type 0} (hint : A → ℕ) (image : A → Option Image) (reading
       rw (← none) refl
 
   -- both bounds, after their flag byte
-  pub bounds_back : (info : Ty) (lower upper : Bound A) (i : Image) (t : Ty) (p : Option Ty) (os : List Oid) → range_image hint image lower upper ≡ Some i → ImageFits i → AreOids os → RangeFits image fits lower upper t os →
+  pub bounds_back : (info : Ty) (lower upper : Bound A) (i : Image) (t : Ty) (p : Option Ty) (os : List Oid) → bounds_image hint image lower upper ≡ Some i → ImageFits i → AreOids os → RangeFits image fits (Bounds lower upper) t os →
       range info reading t Binary (written_part i p os) ≡ Some (bounds (bound_map kept lower) (bound_map kept upper))
   bounds_back info lower upper i t p os e whole small fit =
       let a = image_parts (flags_of lower upper) (join (bound_frame hint image lower) (bound_frame hint image upper)) i e in
@@ -82,6 +84,14 @@ module _ {A M : Type 0} (hint : A → ℕ) (image : A → Option Image) (reading
       = subst (λ (ts : List Token). bound_in (reading fit.0 Binary) (side_of_bound upper) (write p rest ts) ≡ Some (bound_map kept upper, [])) (append-nil b.1) above in
       rw (← a.2, ← b.4, fit.1, flags_back lower upper, below, above_alone) refl
 
+-- ---- the empty range
+
+empty_back : {M : Type 0} (info : Ty) (reading : Reading M) (i : Image) (t : Ty) (p : Option Ty) (os : List Oid) → flagged 1 (Some []) ≡ Some i → (u : Ty) → IsRangeOver t u →
+    range info reading t Binary (written_part i p os) ≡ Some empty
+empty_back info reading i t p os e u over =
+    let a = image_parts 1 (Some []) i e in
+    rw (← a.2, over) refl
+
 -- ---- ranges
 
 bound_both : {X Y W : Type 0} (f : Y → W) (g : X → Y) (b : Bound X) → bound_map (λ x. f (g x)) b ≡ bound_map f (bound_map g b)
@@ -91,7 +101,8 @@ bound_both f g Unbounded = refl
 
 module _ {A M : Type 0} (info : Ty) (hint : A → ℕ) (image : A → Option Image) (reading : Reading M) (meaning : A → M) (kept : A → A) (fits : A → Ty → List Oid → Type 0)
     (law : ReadsBack image reading (λ v. meaning (kept v)) fits) where
-  pub range_back : ReadsBack {A = PgRange A} (λ r. range_image hint image r.start r.end) (range info reading) (λ r. range_meaning meaning (range_kept kept r)) (λ r t os. RangeFits image fits r.start r.end t os)
-  range_back r i t p os e whole small fit =
-      bounds_back hint image reading (λ x. meaning (kept x)) fits law info r.start r.end i t p os e whole small fit
-      ∙ rw (bound_both meaning kept r.start, bound_both meaning kept r.end) refl
+  pub range_back : ReadsBack {A = PgRange A} (range_image hint image) (range info reading) (λ r. range_meaning meaning (range_kept kept r)) (RangeFits image fits)
+  range_back Empty i t p os e whole small fit = empty_back info reading i t p os e fit.0 fit.1
+  range_back (Bounds lower upper) i t p os e whole small fit =
+      bounds_back hint image reading (λ x. meaning (kept x)) fits law info lower upper i t p os e whole small fit
+      ∙ rw (bound_both meaning kept lower, bound_both meaning kept upper) refl

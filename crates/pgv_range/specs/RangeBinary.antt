@@ -1,13 +1,14 @@
 -- Ranges in binary, as what the bytes are and not as how they are read (PostgreSQL: "Range Types", 8.17; the form is that of
--- its source, range_send): a flag byte, a frame for each bound that there is, and anything after them.
-use Rattle.std.specs.Prelude.{◌≡◌, ◌↔◌, ◌⊎◌, ℕ, true, false, List, ◌∷◌, Option, Some}
+-- its source, range_send): a flag byte, a frame for each bound that there is, and anything after them; or a flag byte that says that
+-- the range is empty, and anything.
+use Rattle.std.specs.Prelude.{◌≡◌, ◌↔◌, ℕ, true, false, List, ◌∷◌, Option, Some}
 use Rattle.std.specs.declared.ops.Bound.{Bound}
 use Rattle.std.specs.declared.ops.Bound.TheVariants.{Included, Excluded, Unbounded}
 use Rattle.pgv_types.specs.Ty.{Ty, range as range_over}
 use Rattle.pgv_types.specs.Facts.{kind_at}
 use Rattle.pgv_value.specs.FrameBinary.{Part, IsFrame}
 use Rattle.pgv_value.specs.Laws.{AreBytes}
-use Rattle.pgv_range.specs.RangeOf.{RangeOf, bounds}
+use Rattle.pgv_range.specs.RangeOf.{RangeOf, empty, bounds}
 use Rattle.pgv_range.specs.FlagByte.{has}
 use Rattle.pgv_range.specs.RangeGrammar.{range_in_binary}
 
@@ -32,9 +33,9 @@ IsBound read flags infinite included Unbounded bytes rest = IsSet flags infinite
 IsBound read flags infinite included (Included m) bytes rest = IsClear flags infinite × IsSet flags included × BeginsWith read m bytes rest
 IsBound read flags infinite included (Excluded m) bytes rest = IsClear flags infinite × IsClear flags included × BeginsWith read m bytes rest
 
--- An empty range: the flag 1, and anything. It is read as one without bounds.
-abbrev pub IsEmptyRange : {M : Type 0} → List ℕ → RangeOf M → Type 0
-IsEmptyRange bytes m = (flags : ℕ) × (rest : List ℕ) × (bytes ≡ flags ∷ rest) × IsSet flags 1 × (m ≡ bounds Unbounded Unbounded)
+-- The empty range: a flag byte with 1, whatever other flags it has, and anything.
+abbrev pub IsEmptyRange : List ℕ → Type 0
+IsEmptyRange bytes = (flags : ℕ) × (rest : List ℕ) × (bytes ≡ flags ∷ rest) × IsSet flags 1
 
 -- A range of these bounds: the flag byte, the lower bound, the upper one, and anything after them.
 pub record IsOfBounds {M : Type 0} (read : Part → Option M) (bytes : List ℕ) (lower upper : Bound M) : Type 0 where
@@ -47,12 +48,14 @@ pub record IsOfBounds {M : Type 0} (read : Part → Option M) (bytes : List ℕ)
   pub below : IsBound read flags 8 2 lower frames between
   pub above : IsBound read flags 16 4 upper between rest
 
-abbrev pub IsBounded : {M : Type 0} → (Part → Option M) → List ℕ → RangeOf M → Type 0
-IsBounded read bytes (bounds lower upper) = IsOfBounds read bytes lower upper
+-- The bytes are this range, of whose bounds the values are read so.
+abbrev pub IsRangeBytes : {M : Type 0} → (Part → Option M) → List ℕ → RangeOf M → Type 0
+IsRangeBytes read bytes empty = IsEmptyRange bytes
+IsRangeBytes read bytes (bounds lower upper) = IsOfBounds read bytes lower upper
 
 -- the bytes are this range, under a type
 abbrev pub IsRange : {M : Type 0} → (Ty → Part → Option M) → Ty → List ℕ → RangeOf M → Type 0
-IsRange read t bytes m = (u : Ty) × IsRangeOver t u × (IsEmptyRange bytes m ⊎ IsBounded (read u) bytes m)
+IsRange read t bytes m = (u : Ty) × IsRangeOver t u × IsRangeBytes (read u) bytes m
 
 -- ---- what is computed is what the bytes are
 

@@ -1,4 +1,5 @@
--- Where a range comes back: under a type of kind range, where each bound's value fits what it is a range over.
+-- Where a range comes back: under a type of kind range, where each bound's value fits what it is a range over. The empty range
+-- comes back under every type of kind range.
 use Rattle.std.specs.Prelude.{ℕ, List, take, drop, Option, ⊤}
 use Rattle.std.specs.Range.Bound.{bound_map}
 use Rattle.std.specs.declared.ops.Bound.{Bound}
@@ -9,10 +10,12 @@ use Rattle.pgv_codec.specs.Back.{holes_of}
 use Rattle.pgv_codec.specs.Image.{Image}
 use Rattle.pgv_range.specs.RangeBinary.{IsRangeOver}
 use Rattle.pgv_range.specs.declared.range.PgRange.{PgRange}
+use Rattle.pgv_range.specs.declared.range.PgRange.TheVariants.{Empty, Bounds}
 
 -- bound by bound
 abbrev pub range_kept : {T : Type 0} → (T → T) → PgRange T → PgRange T
-range_kept kept r = record { start = bound_map kept r.start; end = bound_map kept r.end }
+range_kept kept Empty = Empty
+range_kept kept (Bounds lower upper) = Bounds (bound_map kept lower) (bound_map kept upper)
 
 -- how many OIDs a bound takes
 abbrev pub bound_holes : {X : Type 0} → (X → Option Image) → Bound X → ℕ
@@ -31,5 +34,6 @@ BoundsFit image fits u lower upper os =
     let after = drop (bound_holes image lower) os in
     BoundFits fits u lower (take (bound_holes image lower) os) × BoundFits fits u upper (take (bound_holes image upper) after)
 
-abbrev pub RangeFits : {X : Type 0} → (X → Option Image) → (X → Ty → List Oid → Type 0) → Bound X → Bound X → Ty → List Oid → Type 0
-RangeFits image fits lower upper t os = (u : Ty) × IsRangeOver t u × BoundsFit image fits u lower upper os
+abbrev pub RangeFits : {X : Type 0} → (X → Option Image) → (X → Ty → List Oid → Type 0) → PgRange X → Ty → List Oid → Type 0
+RangeFits image fits Empty t os = (u : Ty) × IsRangeOver t u
+RangeFits image fits (Bounds lower upper) t os = (u : Ty) × IsRangeOver t u × BoundsFit image fits u lower upper os

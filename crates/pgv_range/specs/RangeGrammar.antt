@@ -6,15 +6,14 @@ use Rattle.std.specs.declared.ops.Bound.{Bound}
 use Rattle.std.specs.declared.ops.Bound.TheVariants.{Included, Excluded, Unbounded}
 use Rattle.pgv_types.specs.Ty.{Ty, Kind, simple, domain, composite, array, pseudo, enumeration, range as range_over}
 use Rattle.pgv_types.specs.Facts.{kind_at}
+use Rattle.pgv_text.specs.ContentText.{RangeContent, empty as empty_text, parts as parts_text, range_content}
 use Rattle.pgv_text.specs.NestText.{Nest}
-use Rattle.pgv_text.specs.Parsed.{nest_of}
-use Rattle.pgv_text.specs.RangeText.{range_form}
 use Rattle.pgv_value.specs.FrameBinary.{Part, front}
 use Rattle.pgv_value.specs.Reading.{Reading}
 use Rattle.pgv_value.specs.Steps.{◌>>=◌}
 use Rattle.pgv_value.specs.Utf8.{is_utf8}
 use Rattle.pgv_value.specs.declared.value.PgValueFormat.TheVariants.{Text, Binary}
-use Rattle.pgv_range.specs.RangeOf.{RangeOf, bounds}
+use Rattle.pgv_range.specs.RangeOf.{RangeOf, empty, bounds}
 use Rattle.pgv_range.specs.FlagByte.{form_of}
 use Rattle.pgv_range.specs.declared.flags.Side.{Side}
 use Rattle.pgv_range.specs.declared.flags.Side.TheVariants.{Infinite, Inclusive, Exclusive}
@@ -62,9 +61,9 @@ abbrev pub bounds_in : {M : Type 0} → (Part → Option M) → Side → Side �
 bounds_in read below above bytes =
     bound_in read below bytes >>= λ lower. bound_in read above lower.1 >>= λ upper. Some (bounds lower.0 upper.0)
 
--- an empty range has no bounds, and nothing more is looked at
+-- of an empty range nothing more is looked at
 abbrev pub range_by : {M : Type 0} → (Part → Option M) → RangeForm → List ℕ → Option (RangeOf M)
-range_by read Empty bytes = Some (bounds Unbounded Unbounded)
+range_by read Empty bytes = Some empty
 range_by read (Sides below above) bytes = bounds_in read below above bytes
 
 abbrev pub range_bytes : {M : Type 0} → (Part → Option M) → List ℕ → Option (RangeOf M)
@@ -95,8 +94,13 @@ abbrev pub bounds_in_text : {M : Type 0} → (Part → Option M) → Nest → Op
 bounds_in_text read nest =
     next_bound read nest.lower nest.values >>= λ lower. next_bound read nest.upper lower.1 >>= λ upper. Some (bounds lower.0 upper.0)
 
+-- the empty range, or the bounds between the brackets
+abbrev pub content_in_text : {M : Type 0} → (Part → Option M) → RangeContent → Option (RangeOf M)
+content_in_text read empty_text = Some empty
+content_in_text read (parts_text nest) = bounds_in_text read nest
+
 abbrev pub range_in_text : {M : Type 0} → (Part → Option M) → List ℕ → Option (RangeOf M)
-range_in_text read text = nest_of range_form (chars text) >>= bounds_in_text read
+range_in_text read text = range_content (chars text) >>= content_in_text read
 
 -- ---- a range of values that are read so; in text each is read under the values' own type, `info`
 

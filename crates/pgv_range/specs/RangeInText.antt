@@ -3,10 +3,11 @@ use Rattle.std.specs.Prelude.{◌≡◌, ℕ, Bool, true, false, List, Option, S
 use Rattle.std.specs.Str.{chars}
 use Rattle.std.specs.declared.ops.Bound.{Bound}
 use Rattle.std.specs.declared.ops.Bound.TheVariants.{Included, Excluded, Unbounded}
+use Rattle.pgv_text.specs.ContentText.{IsEmptyText}
 use Rattle.pgv_text.specs.RangeText.{IsRangeText}
 use Rattle.pgv_value.specs.FrameBinary.{Part}
 use Rattle.pgv_value.specs.Utf8.{is_utf8}
-use Rattle.pgv_range.specs.RangeOf.{RangeOf, bounds}
+use Rattle.pgv_range.specs.RangeOf.{RangeOf, empty, bounds}
 
 -- The text has this meaning.
 abbrev pub IsValue : {M : Type 0} → (Part → Option M) → Part → M → Type 0
@@ -18,19 +19,21 @@ IsTextBound read included part Unbounded = part ≡ None
 IsTextBound read included part (Included m) = (included ≡ true) × IsValue read part m
 IsTextBound read included part (Excluded m) = (included ≡ false) × IsValue read part m
 
-abbrev pub AreTextBounds : {M : Type 0} → (Part → Option M) → (lower upper : Part) → (lower_included upper_included : Bool) → RangeOf M → Type 0
-AreTextBounds read lower upper lower_included upper_included (bounds below above) =
-    IsTextBound read lower_included lower below × IsTextBound read upper_included upper above
-
--- The bytes are UTF-8, their characters a range text, and its parts are these bounds.
-pub record IsRangeInText {M : Type 0} (read : Part → Option M) (bytes : List ℕ) (m : RangeOf M) : Type 0 where
+-- The bytes are UTF-8, their characters the text of a range of two parts, and these are the bounds.
+pub record AreBoundsInText {M : Type 0} (read : Part → Option M) (bytes : List ℕ) (below above : Bound M) : Type 0 where
   pub lower : Part
   pub upper : Part
   pub lower_included : Bool
   pub upper_included : Bool
   pub utf8 : is_utf8 bytes ≡ true
   pub whole : IsRangeText (chars bytes) lower upper lower_included upper_included
-  pub parts : AreTextBounds read lower upper lower_included upper_included m
+  pub start : IsTextBound read lower_included lower below
+  pub end : IsTextBound read upper_included upper above
+
+-- The bytes are UTF-8, and their characters this range: the text of the empty one, or one of these bounds.
+abbrev pub IsRangeInText : {M : Type 0} → (Part → Option M) → List ℕ → RangeOf M → Type 0
+IsRangeInText read bytes empty = (is_utf8 bytes ≡ true) × IsEmptyText (chars bytes)
+IsRangeInText read bytes (bounds below above) = AreBoundsInText read bytes below above
 
 -- no text is two ranges
 abbrev pub OneRangeInText : {M : Type 0} → (Part → Option M) → Type 0

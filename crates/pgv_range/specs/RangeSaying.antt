@@ -7,12 +7,15 @@ use Rattle.std.specs.declared.ops.Bound.TheVariants.{Included, Excluded, Unbound
 use Rattle.pgv_types.specs.Ty.{Ty}
 use Rattle.pgv_codec.specs.Image.{Image, frame}
 use Rattle.pgv_codec.specs.Saying.{Saying, said, plainly}
-use Rattle.pgv_range.specs.RangeOf.{RangeOf, bounds}
+use Rattle.pgv_range.specs.RangeOf.{RangeOf, empty, bounds, range_meaning}
 use Rattle.pgv_range.specs.FlagByte.{lower_flag, upper_flag}
-use Rattle.pgv_range.specs.RangeImage.{bound_frame, range_image}
+use Rattle.pgv_range.specs.RangeImage.{bound_frame, bounds_image, empty_image, range_image}
+use Rattle.pgv_range.specs.declared.range.PgRange.{PgRange}
+use Rattle.pgv_range.specs.declared.range.PgRange.TheVariants.{Empty, Bounds}
 
 abbrev pub meaning_image : {M : Type 0} → (M → ℕ) → (M → Option Image) → RangeOf M → Option Image
-meaning_image hint image (bounds lower upper) = range_image hint image lower upper
+meaning_image hint image empty = empty_image
+meaning_image hint image (bounds lower upper) = bounds_image hint image lower upper
 
 -- a range over values of this type
 abbrev pub range_written : {M : Type 0} → Ty → (Ty → M → Saying) → Ty → RangeOf M → Saying
@@ -36,6 +39,6 @@ module _ {X M : Type 0} (hint : X → ℕ) (image : X → Option Image) (produce
   upper_agrees (Excluded x) = refl
   upper_agrees Unbounded = refl
 
-  pub range_agrees : (range : Ty) (lower upper : Bound X) →
-      plainly (λ (v : Bound X × Bound X). range_image hint image v.0 v.1) range (lower, upper) ≡ range_written info written range (bounds (bound_map meaning lower) (bound_map meaning upper))
-  range_agrees range lower upper = rw (frame_agrees lower, frame_agrees upper, lower_agrees lower, upper_agrees upper) refl
+  pub range_agrees : (range : Ty) (r : PgRange X) → plainly (range_image hint image) range r ≡ range_written info written range (range_meaning meaning r)
+  range_agrees range Empty = refl
+  range_agrees range (Bounds lower upper) = rw (frame_agrees lower, frame_agrees upper, lower_agrees lower, upper_agrees upper) refl

@@ -9,9 +9,9 @@ ghost use Rattle.pgv_text.specs.PartsView.{nest};
 ghost use Rattle.pgv_value.specs.Reading.{Answers, Refuses};
 ghost use Rattle.pgv_value.specs.declared.error.CodecError.TheVariants.{NotARange};
 ghost use Rattle.pgv_value.specs.declared.value.PgValueFormat.TheVariants.{Binary, Text};
-ghost use Rattle.pgv_codec.specs.Outcome.{Appended, AppendedAll, Refused};
+ghost use Rattle.pgv_codec.specs.Outcome.{Appended, AppendedAll, Encoded, Refused};
 ghost use Rattle.pgv_range.specs.RangeGrammar.{bound_in, bound_in_text, bounds_in, bounds_in_text, next_bound, range_element, range_in_binary, range_in_text, side_in_text, value_in_front};
-ghost use Rattle.pgv_range.specs.RangeImage.{bound_frame};
+ghost use Rattle.pgv_range.specs.RangeImage.{bound_frame, bounds_image, empty_image};
 ghost use Rattle.pgv_range.specs.RangeOf.{range_meaning};
 
 use crate::flags::{RangeFlags, RangeForm, Side};
@@ -26,18 +26,18 @@ use std::alloc::{AllocError, Global};
 use std::ops::Bound;
 
 /// Written as a flag byte (02 and 04: the lower and the upper bound is included; 08 and 10: there is none) and the frame of each
-/// bound that there is, the lower first. From 1 to 10 without 10, of `int4`, is `02 00000004 00000001 00000004 0000000a`.
+/// bound that there is, the lower first. From 1 to 10 without 10, of `int4`, is `02 00000004 00000001 00000004 0000000a`. The empty
+/// range is the flag byte 01 alone.
 impl<T: Encode> Encode for PgRange<T> {
     ghost use Rattle.pgv_range.specs.RangeImage.{range_image};
 
-    ghost image = { λ r. range_image T.hint T.image r.start r.end };
+    ghost image = { range_image T.hint T.image };
 
     fn encode_by_ref(&self, out: &mut PgArgumentBuffer) -> Result<IsNull, CodecError> {
-        let flags = RangeFlags::of(&self.start, &self.end);
-        out.push(flags.bits())?;
-        encode_bound(&self.start, out)?;
-        encode_bound(&self.end, out)?;
-        Ok(IsNull::No)
+        match self {
+            PgRange::Empty => encode_empty(out),
+            PgRange::Bounds { start, end } => encode_bounds(start, end, out),
+        }
     }
 
     fn size_hint(&self) -> usize {
@@ -47,6 +47,34 @@ impl<T: Encode> Encode for PgRange<T> {
     fn produces(&self) -> Result<Option<PgTypeInfo>, AllocError> {
         Ok(None)
     }
+}
+
+/// The flag byte of an empty range.
+#[inline(always)]
+fn encode_empty(out: &mut PgArgumentBuffer) -> Result<IsNull, CodecError>
+    ensures ok { IfOk result (λ n. Encoded n empty_image out.old out.new) }
+    ensures err { IfErr result (λ e. Refused e empty_image) }
+    ensures appended { OnErr result (Appended out.old out.new) }
+{
+    out.push(RangeFlags::EMPTY.bits())?;
+    Ok(IsNull::No)
+}
+
+/// The flag byte of these bounds, and their frames.
+#[inline(always)]
+fn encode_bounds<T: Encode>(
+    start: &Bound<T>,
+    end: &Bound<T>,
+    out: &mut PgArgumentBuffer,
+) -> Result<IsNull, CodecError>
+    ensures ok { IfOk result (λ n. Encoded n (bounds_image T.hint T.image start.now end.now) out.old out.new) }
+    ensures err { IfErr result (λ e. Refused e (bounds_image T.hint T.image start.now end.now)) }
+    ensures appended { OnErr result (Appended out.old out.new) }
+{
+    out.push(RangeFlags::of(start, end).bits())?;
+    encode_bound(start, out)?;
+    encode_bound(end, out)?;
+    Ok(IsNull::No)
 }
 
 /// The frame of a bound, and nothing where there is none.
@@ -65,9 +93,10 @@ fn encode_bound<T: Encode>(bound: &Bound<T>, out: &mut PgArgumentBuffer) -> Resu
 /// A range of values that `T` reads (PostgreSQL, "Range Types").
 ///
 /// In binary a flag byte and the frames of the bounds, read under the type that the value's type is a range over; bits of the flag
-/// byte that have no meaning and bytes after the bounds are ignored. An empty range is read as one without bounds.
+/// byte that have no meaning and bytes after the bounds are ignored. A flag byte with 01 is the empty range, whatever other flags and
+/// bytes there are.
 ///
-/// In text the bounds are read under `T`'s own type; the text `empty` is refused.
+/// In text the bounds are read under `T`'s own type; `empty`, in upper or lower case and without white space, is the empty range.
 ///
 /// Null is refused with C13, a text that is not UTF-8 with C14 and one outside the grammar with C29, a type that isn't a range in
 /// binary with C23, bytes that end too early with C15, and what a bound is refused with.
@@ -105,10 +134,7 @@ fn read_binary<T: Decode>(
         return Err(CodecError::Short);
     };
     match RangeFlags::from_bits_retain(*flags).form() {
-        RangeForm::Empty => Ok(PgRange {
-            start: Bound::Unbounded,
-            end: Bound::Unbounded,
-        }),
+        RangeForm::Empty => Ok(PgRange::Empty),
         RangeForm::Sides(below, above) => {
             read_bounds(alloc, element.as_ref(), below, above, frames)
         }
@@ -139,7 +165,7 @@ fn read_bounds<T: Decode>(
     let mut rest = bytes;
     let start = read_bound(alloc, element, below, &mut rest)?;
     let end = read_bound(alloc, element, above, &mut rest)?;
-    Ok(PgRange { start, end })
+    Ok(PgRange::Bounds { start, end })
 }
 
 /// A bound, by what the flags say of it. The slice goes on after its frame.
@@ -178,6 +204,7 @@ fn read_text<T: Decode + Type>(alloc: Global, text: &str) -> Result<PgRange<T>, 
 {
     match Parts::new(TextForm::Range, text) {
         None => Err(CodecError::Syntax),
+        Some(parts) if parts.is_empty_range() => Ok(PgRange::Empty),
         Some(parts) => read_parts(alloc, parts),
     }
 }
@@ -191,7 +218,7 @@ fn read_parts<T: Decode + Type>(alloc: Global, parts: Parts<'_>) -> Result<PgRan
     let mut text = String::new(alloc);
     let start = next_bound_of(alloc, &mut parts, lower_included, &mut text)?;
     let end = next_bound_of(alloc, &mut parts, upper_included, &mut text)?;
-    Ok(PgRange { start, end })
+    Ok(PgRange::Bounds { start, end })
 }
 
 /// The bound of the next part, which is put into a text.
@@ -235,14 +262,15 @@ fn side_of<T>(included: bool, value: T) -> Bound<T>
     }
 }
 
-/// A range comes back under a type of kind range, where each bound's value comes back under the type that it is a range over.
+/// A range comes back under a type of kind range, where each bound's value comes back under the type that it is a range over; the
+/// empty one under every type of kind range.
 impl<T: ReadBack + Type> ReadBack for PgRange<T> {
     ghost use Rattle.pgv_range.specs.RangeBack.{range_back};
     ghost use Rattle.pgv_range.specs.RangeFits.{RangeFits, range_kept};
 
     ghost kept = { range_kept T.kept };
 
-    ghost fits = { λ r t os. RangeFits T.image T.fits r.start r.end t os };
+    ghost fits = { RangeFits T.image T.fits };
 
     ghost reads_back = { range_back T.info T.hint T.image T.reading T.meaning T.kept T.fits T.reads_back };
 }
@@ -253,5 +281,5 @@ where
 {
     ghost use Rattle.pgv_range.specs.RangeSaying.{range_agrees};
 
-    ghost agrees = { λ r. range_agrees T.hint T.image T.produced T.info T.meaning T.written T.agrees Self.info r.start r.end };
+    ghost agrees = { range_agrees T.hint T.image T.produced T.info T.meaning T.written T.agrees Self.info };
 }

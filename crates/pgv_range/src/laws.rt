@@ -1,7 +1,7 @@
 //! Laws of ranges: what they are in binary and in text, what is read back of them, and what each type of this crate is. Each is the
 //! contract of a function that does nothing.
 
-ghost use Rattle.std.specs.Prelude.{◌≡◌, ◌↔◌, ◌&&◌, ◌∷◌, [], ℕ, List, Some, None};
+ghost use Rattle.std.specs.Prelude.{◌≡◌, ◌↔◌, ℕ, List, Some, None};
 ghost use Rattle.std.specs.Range.{range_inclusive_start, range_inclusive_end};
 ghost use Rattle.std.specs.declared.ops.Bound.TheVariants.{Included, Excluded, Unbounded};
 ghost use Rattle.pgv_types.specs.Ty.{Ty};
@@ -18,19 +18,21 @@ ghost use Rattle.pgv_range.specs.RangeImage.{range_image};
 ghost use Rattle.pgv_range.specs.RangeInText.{IsRangeInText, OneRangeInText};
 ghost use Rattle.pgv_range.specs.RangeOf.{RangeOf, range_meaning};
 ghost use Rattle.pgv_range.specs.RangeRow.{ComesBackUnderRanges, IsBuiltInRange};
-ghost use Rattle.pgv_range.specs.RangeShown.{bound_eq, range_text};
+ghost use Rattle.pgv_range.specs.RangeShown.{range_eq, range_text};
+ghost use Rattle.pgv_range.specs.RangeView.{IsOfBounds};
+ghost use Rattle.pgv_range.specs.declared.range.PgRange.TheVariants.{Bounds, Empty};
 
 use crate::range::PgRange;
 use jiff::Timestamp;
 use jiff::civil::{Date, DateTime};
 use pgv_codec::laws::{field_reads_back, read_back};
 use pgv_codec::{Decode, Encode, PgHasArrayType, ReadBack, Type};
-use pgv_text::laws::nest_is_computed;
+use pgv_text::laws::range_is_computed;
 use std::fmt;
 use std::ops::{Bound, Range, RangeFrom, RangeInclusive, RangeTo, RangeToInclusive};
 
-/// The range that is decoded from bytes in binary is the one that they are: a flag byte, a frame for each bound that there is, and
-/// anything after them, under a type of kind range (PostgreSQL, "Range Types"; range_send).
+/// The range that is decoded from bytes in binary is the one that they are, under a type of kind range: a flag byte, a frame for each
+/// bound that there is, and anything after them; or a flag byte with 01, and anything (PostgreSQL, "Range Types"; range_send).
 pub fn range_is_its_bounds<T: Type + Decode>()
     ensures { (t : Ty) (bytes : List ℕ) (m : RangeOf T.Meaning) → AreBytes bytes → (⟦<PgRange<T> as Decode>⟧.reading t Binary (Some bytes) ≡ Some m) ↔ IsRange (λ u. T.reading u Binary) t bytes m }
 {}
@@ -40,19 +42,19 @@ pub fn one_range<T: Decode>()
     ensures { OneRange (λ u. T.reading u Binary) }
 {}
 
-/// The range that is decoded from a text is the one that the text is, each bound read under its own type (PostgreSQL, "Range
-/// Input/Output").
+/// The range that is decoded from a text is the one that the text is: the empty one, or one of two bounds, each read under its own
+/// type (PostgreSQL, "Range Input/Output").
 pub fn range_text_is_its_bounds<T: Type + Decode>()
     ensures { TextIs ⟦<PgRange<T> as Decode>⟧.reading (IsRangeInText (T.reading T.info Text)) }
 {
-    nest_is_computed();
+    range_is_computed();
 }
 
 /// No text is two ranges.
 pub fn one_range_in_text<T: Type + Decode>()
     ensures { OneRangeInText (T.reading T.info Text) }
 {
-    nest_is_computed();
+    range_is_computed();
 }
 
 /// Null is no range.
@@ -62,18 +64,20 @@ pub fn null_is_no_range<T: Type + Decode>()
 {}
 
 /// What a range is written as, what it says, and what it keeps, whatever its bounds are: a flag byte and the frames of the bounds; what
-/// the bounds' values say; what they keep, included and excluded as they were.
+/// the bounds' values say; what they keep, included and excluded as they were. The empty range is a flag byte, and kept.
 pub fn ranges_are_their_bounds<T: ReadBack + Type>()
-    ensures written { IsWrittenAs (λ r. range_image T.hint T.image r.start r.end) ⟦<PgRange<T> as Encode>⟧.hint ⟦<PgRange<T> as Encode>⟧.image ⟦<PgRange<T> as Encode>⟧.produced }
+    ensures written { IsWrittenAs (range_image T.hint T.image) ⟦<PgRange<T> as Encode>⟧.hint ⟦<PgRange<T> as Encode>⟧.image ⟦<PgRange<T> as Encode>⟧.produced }
     ensures means { ⟦<PgRange<T> as Decode>⟧.meaning ≡ range_meaning T.meaning }
     ensures read { ⟦<PgRange<T> as Decode>⟧.reading ≡ range T.info T.reading }
     ensures kept { ⟦<PgRange<T> as ReadBack>⟧.kept ≡ range_kept T.kept }
 {}
 
 /// A range comes back under a type of kind range, where the value of each bound comes back under the type that it is a range over, with
-/// the OIDs of its own holes, those of the lower bound first; and so where every value comes back under it.
+/// the OIDs of its own holes, those of the lower bound first; and so where every value comes back under it. The empty range comes back
+/// under every type of kind range.
 pub fn ranges_fit<T: ReadBack + Type>()
-    ensures bounds { (r : _) (t u : Ty) (oids : List Oid) → IsRangeOver t u → BoundsFit T.image T.fits u r.start r.end oids → ⟦<PgRange<T> as ReadBack>⟧.fits r t oids }
+    ensures empty { (t u : Ty) (oids : List Oid) → IsRangeOver t u → ⟦<PgRange<T> as ReadBack>⟧.fits Empty t oids }
+    ensures bounds { (lower upper : _) (t u : Ty) (oids : List Oid) → IsRangeOver t u → BoundsFit T.image T.fits u lower upper oids → ⟦<PgRange<T> as ReadBack>⟧.fits (Bounds lower upper) t oids }
     ensures always { (r : _) (t u : Ty) (oids : List Oid) → IsRangeOver t u → ((v : T) (own : List Oid) → T.fits v u own) → ⟦<PgRange<T> as ReadBack>⟧.fits r t oids }
 {}
 
@@ -101,25 +105,25 @@ where
     field_reads_back::<PgRange<T>>();
 }
 
-/// What the conversions give: the bounds that the ranges of Rust have.
+/// What the conversions give: the bounds that the ranges of Rust have, and never the empty range.
 pub fn conversions<T: Copy>()
-    ensures array { (from : _) (r : _) → ⟦<PgRange<T> as From<[Bound<T>; 2]>>⟧.from_gives from r ↔ (from ≡ r.start ∷ r.end ∷ []) }
-    ensures pair { (from : _) (r : _) → ⟦<PgRange<T> as From<(Bound<T>, Bound<T>)>>⟧.from_gives from r ↔ ((r.start ≡ from.0) × (r.end ≡ from.1)) }
-    ensures range { (from : _) (r : _) → ⟦<PgRange<T> as From<Range<T>>>⟧.from_gives from r ↔ ((r.start ≡ Included from.start) × (r.end ≡ Excluded from.end)) }
-    ensures range_from { (from : _) (r : _) → ⟦<PgRange<T> as From<RangeFrom<T>>>⟧.from_gives from r ↔ ((r.start ≡ Included from.start) × (r.end ≡ Unbounded)) }
-    ensures inclusive { (from : _) (r : _) → ⟦<PgRange<T> as From<RangeInclusive<T>>>⟧.from_gives from r ↔ ((r.start ≡ Included (range_inclusive_start from)) × (r.end ≡ Included (range_inclusive_end from))) }
-    ensures range_to { (from : _) (r : _) → ⟦<PgRange<T> as From<RangeTo<T>>>⟧.from_gives from r ↔ ((r.start ≡ Unbounded) × (r.end ≡ Excluded from.end)) }
-    ensures to_inclusive { (from : _) (r : _) → ⟦<PgRange<T> as From<RangeToInclusive<T>>>⟧.from_gives from r ↔ ((r.start ≡ Unbounded) × (r.end ≡ Included from.end)) }
+    ensures array { (from : _) (r : _) → ⟦<PgRange<T> as From<[Bound<T>; 2]>>⟧.from_gives from r ↔ IsOfBounds from r }
+    ensures pair { (from : _) (r : _) → ⟦<PgRange<T> as From<(Bound<T>, Bound<T>)>>⟧.from_gives from r ↔ (r ≡ Bounds from.0 from.1) }
+    ensures range { (from : _) (r : _) → ⟦<PgRange<T> as From<Range<T>>>⟧.from_gives from r ↔ (r ≡ Bounds (Included from.start) (Excluded from.end)) }
+    ensures range_from { (from : _) (r : _) → ⟦<PgRange<T> as From<RangeFrom<T>>>⟧.from_gives from r ↔ (r ≡ Bounds (Included from.start) Unbounded) }
+    ensures inclusive { (from : _) (r : _) → ⟦<PgRange<T> as From<RangeInclusive<T>>>⟧.from_gives from r ↔ (r ≡ Bounds (Included (range_inclusive_start from)) (Included (range_inclusive_end from))) }
+    ensures range_to { (from : _) (r : _) → ⟦<PgRange<T> as From<RangeTo<T>>>⟧.from_gives from r ↔ (r ≡ Bounds Unbounded (Excluded from.end)) }
+    ensures to_inclusive { (from : _) (r : _) → ⟦<PgRange<T> as From<RangeToInclusive<T>>>⟧.from_gives from r ↔ (r ≡ Bounds Unbounded (Included from.end)) }
 {}
 
-/// What a range prints: brackets, and the texts of its bounds' values, where these are promised.
+/// What a range prints: `empty`, or brackets and the texts of its bounds' values, where these are promised.
 pub fn printed<T: fmt::Display>()
-    ensures { (r : _) → ⟦<PgRange<T> as fmt::Display>⟧.output r ≡ range_text T.output r.start r.end }
+    ensures { ⟦<PgRange<T> as fmt::Display>⟧.output ≡ range_text T.output }
 {}
 
-/// Two ranges are equal where their bounds are of one form and equal.
+/// Two ranges are equal where both are empty, or their bounds are of one form and equal.
 pub fn equal_by_bounds<T: PartialEq>()
-    ensures { (a : _) (b : _) → ⟦<PgRange<T> as PartialEq>⟧.eq a b ≡ (bound_eq T.eq a.start b.start && bound_eq T.eq a.end b.end) }
+    ensures { (a : _) (b : _) → ⟦<PgRange<T> as PartialEq>⟧.eq a b ≡ range_eq T.eq a b }
 {}
 
 /// A `PgRange<i32>` is an int4range (OID 3904). Its arrays are `int4range[]` (3905).

@@ -1,45 +1,89 @@
 //! A range by its bounds.
 
-ghost use Rattle.std.specs.Prelude.{◌≡◌};
+ghost use Rattle.std.specs.Prelude.{◌≡◌, Some, false};
+ghost use Rattle.std.specs.Option.{option_map};
 ghost use Rattle.std.specs.Range.Bound.{bound_map};
+ghost use Rattle.pgv_range.specs.declared.range.PgRange.TheVariants.{Bounds, Empty};
 
 use std::fmt;
 use std::ops::{Bound, Range, RangeFrom, RangeInclusive, RangeTo, RangeToInclusive};
 
-/// A range of PostgreSQL ("Range Types"): a lower and an upper bound. Nothing is asked of them, so the lower one may be above the
-/// upper one. An empty range that a server sends is read as one without bounds.
+/// A range of PostgreSQL ("Range Types"): no value at all, or all from a lower to an upper bound. Nothing is asked of the bounds, so
+/// the lower one may be above the upper one, and `10..10` is a range of bounds, although a server reads no value in it.
 #[derive(Clone, Copy, PartialEq, Eq, Debug)]
-pub struct PgRange<T> {
-    /// The lower bound.
-    pub start: Bound<T>,
-    /// The upper bound.
-    pub end: Bound<T>,
+pub enum PgRange<T> {
+    /// The empty range, which has no bounds.
+    Empty,
+    /// From a bound to a bound.
+    Bounds {
+        /// The lower bound.
+        start: Bound<T>,
+        /// The upper bound.
+        end: Bound<T>,
+    },
 }
 
 impl<T> PgRange<T> {
-    /// The lower bound, with its value lent.
-    pub fn start_bound(&self) -> Bound<&T>
-        ensures { bound_map (λ x. x.now) result ≡ self.now.start }
+    ghost use Rattle.pgv_range.specs.RangeView.{bounds_of, is_empty as is_empty_range, lower_of, upper_of};
+
+    /// The empty range.
+    pub fn empty() -> PgRange<T>
+        ensures { result ≡ Empty }
     {
-        self.start.as_ref()
+        PgRange::Empty
     }
 
-    /// The upper bound, with its value lent.
-    pub fn end_bound(&self) -> Bound<&T>
-        ensures { bound_map (λ x. x.now) result ≡ self.now.end }
+    /// Whether the range is the empty one. One of bounds is not, whatever lies between them.
+    pub fn is_empty(&self) -> bool
+        ensures { result ≡ is_empty_range self.now }
     {
-        self.end.as_ref()
+        match self {
+            PgRange::Empty => true,
+            PgRange::Bounds { .. } => false,
+        }
+    }
+
+    /// The lower bound and the upper one, with their values lent; `None` for the empty range.
+    pub fn bounds(&self) -> Option<(Bound<&T>, Bound<&T>)>
+        ensures { option_map (λ b. (bound_map (λ x. x.now) b.0, bound_map (λ x. x.now) b.1)) result ≡ bounds_of self.now }
+    {
+        match self {
+            PgRange::Empty => None,
+            PgRange::Bounds { start, end } => Some((start.as_ref(), end.as_ref())),
+        }
+    }
+
+    /// The lower bound, with its value lent. The empty range has none: `is_empty` is the test.
+    pub fn start_bound(&self) -> Bound<&T>
+        requires { is_empty_range self.now ≡ false }
+        ensures { lower_of self.now ≡ Some (bound_map (λ x. x.now) result) }
+    {
+        match self {
+            PgRange::Empty => unreachable!(),
+            PgRange::Bounds { start, .. } => start.as_ref(),
+        }
+    }
+
+    /// The upper bound, with its value lent. The empty range has none: `is_empty` is the test.
+    pub fn end_bound(&self) -> Bound<&T>
+        requires { is_empty_range self.now ≡ false }
+        ensures { upper_of self.now ≡ Some (bound_map (λ x. x.now) result) }
+    {
+        match self {
+            PgRange::Empty => unreachable!(),
+            PgRange::Bounds { end, .. } => end.as_ref(),
+        }
     }
 }
 
 /// The lower bound and the upper one.
 impl<T: Copy> From<[Bound<T>; 2]> for PgRange<T> {
-    ghost use Rattle.std.specs.Prelude.{◌∷◌, []};
+    ghost use Rattle.pgv_range.specs.RangeView.{IsOfBounds};
 
-    ghost from_gives = { λ bounds r. bounds ≡ r.start ∷ r.end ∷ [] };
+    ghost from_gives = { IsOfBounds };
 
     fn from(bounds: [Bound<T>; 2]) -> PgRange<T> {
-        PgRange {
+        PgRange::Bounds {
             start: bounds[0],
             end: bounds[1],
         }
@@ -48,11 +92,11 @@ impl<T: Copy> From<[Bound<T>; 2]> for PgRange<T> {
 
 /// The lower bound and the upper one.
 impl<T> From<(Bound<T>, Bound<T>)> for PgRange<T> {
-    ghost from_gives = { λ bounds r. (r.start ≡ bounds.0) × (r.end ≡ bounds.1) };
+    ghost from_gives = { λ bounds r. r ≡ Bounds bounds.0 bounds.1 };
 
     fn from(bounds: (Bound<T>, Bound<T>)) -> PgRange<T> {
         let (start, end) = bounds;
-        PgRange { start, end }
+        PgRange::Bounds { start, end }
     }
 }
 
@@ -60,10 +104,10 @@ impl<T> From<(Bound<T>, Bound<T>)> for PgRange<T> {
 impl<T> From<Range<T>> for PgRange<T> {
     ghost use Rattle.std.specs.declared.ops.Bound.TheVariants.{Included, Excluded};
 
-    ghost from_gives = { λ range r. (r.start ≡ Included range.start) × (r.end ≡ Excluded range.end) };
+    ghost from_gives = { λ range r. r ≡ Bounds (Included range.start) (Excluded range.end) };
 
     fn from(range: Range<T>) -> PgRange<T> {
-        PgRange {
+        PgRange::Bounds {
             start: Bound::Included(range.start),
             end: Bound::Excluded(range.end),
         }
@@ -74,10 +118,10 @@ impl<T> From<Range<T>> for PgRange<T> {
 impl<T> From<RangeFrom<T>> for PgRange<T> {
     ghost use Rattle.std.specs.declared.ops.Bound.TheVariants.{Included, Unbounded};
 
-    ghost from_gives = { λ range r. (r.start ≡ Included range.start) × (r.end ≡ Unbounded) };
+    ghost from_gives = { λ range r. r ≡ Bounds (Included range.start) Unbounded };
 
     fn from(range: RangeFrom<T>) -> PgRange<T> {
-        PgRange {
+        PgRange::Bounds {
             start: Bound::Included(range.start),
             end: Bound::Unbounded,
         }
@@ -89,11 +133,11 @@ impl<T> From<RangeInclusive<T>> for PgRange<T> {
     ghost use Rattle.std.specs.Range.{range_inclusive_start, range_inclusive_end};
     ghost use Rattle.std.specs.declared.ops.Bound.TheVariants.{Included};
 
-    ghost from_gives = { λ range r. (r.start ≡ Included (range_inclusive_start range)) × (r.end ≡ Included (range_inclusive_end range)) };
+    ghost from_gives = { λ range r. r ≡ Bounds (Included (range_inclusive_start range)) (Included (range_inclusive_end range)) };
 
     fn from(range: RangeInclusive<T>) -> PgRange<T> {
         let (start, end) = range.into_inner();
-        PgRange {
+        PgRange::Bounds {
             start: Bound::Included(start),
             end: Bound::Included(end),
         }
@@ -104,10 +148,10 @@ impl<T> From<RangeInclusive<T>> for PgRange<T> {
 impl<T> From<RangeTo<T>> for PgRange<T> {
     ghost use Rattle.std.specs.declared.ops.Bound.TheVariants.{Excluded, Unbounded};
 
-    ghost from_gives = { λ range r. (r.start ≡ Unbounded) × (r.end ≡ Excluded range.end) };
+    ghost from_gives = { λ range r. r ≡ Bounds Unbounded (Excluded range.end) };
 
     fn from(range: RangeTo<T>) -> PgRange<T> {
-        PgRange {
+        PgRange::Bounds {
             start: Bound::Unbounded,
             end: Bound::Excluded(range.end),
         }
@@ -118,34 +162,39 @@ impl<T> From<RangeTo<T>> for PgRange<T> {
 impl<T> From<RangeToInclusive<T>> for PgRange<T> {
     ghost use Rattle.std.specs.declared.ops.Bound.TheVariants.{Included, Unbounded};
 
-    ghost from_gives = { λ range r. (r.start ≡ Unbounded) × (r.end ≡ Included range.end) };
+    ghost from_gives = { λ range r. r ≡ Bounds Unbounded (Included range.end) };
 
     fn from(range: RangeToInclusive<T>) -> PgRange<T> {
-        PgRange {
+        PgRange::Bounds {
             start: Bound::Unbounded,
             end: Bound::Included(range.end),
         }
     }
 }
 
-/// `(` or `[`, the lower bound, `,`, the upper bound, `)` or `]`: square where the bound is included. A bound that is missing prints
-/// nothing, and a round bracket. `1..10` prints `[1,10)`. Values are printed as they are, without quotes.
+/// `empty`; or `(` or `[`, the lower bound, `,`, the upper bound, `)` or `]`: square where the bound is included. A bound that is missing
+/// prints nothing, and a round bracket. `1..10` prints `[1,10)`. Values are printed as they are, without quotes.
 impl<T: fmt::Display> fmt::Display for PgRange<T> {
     ghost use Rattle.pgv_range.specs.RangeShown.{range_text};
 
-    ghost output = { λ r. range_text T.output r.start r.end };
+    ghost output = { range_text T.output };
 
     fn fmt<W: fmt::Write>(&self, f: &mut fmt::Formatter<W>) -> fmt::Result {
-        match &self.start {
-            Bound::Unbounded => f.write_str("(")?,
-            Bound::Excluded(value) => write!(f, "({value}")?,
-            Bound::Included(value) => write!(f, "[{value}")?,
-        }
-        f.write_str(",")?;
-        match &self.end {
-            Bound::Unbounded => f.write_str(")"),
-            Bound::Excluded(value) => write!(f, "{value})"),
-            Bound::Included(value) => write!(f, "{value}]"),
+        match self {
+            PgRange::Empty => f.write_str("empty"),
+            PgRange::Bounds { start, end } => {
+                match start {
+                    Bound::Unbounded => f.write_str("(")?,
+                    Bound::Excluded(value) => write!(f, "({value}")?,
+                    Bound::Included(value) => write!(f, "[{value}")?,
+                }
+                f.write_str(",")?;
+                match end {
+                    Bound::Unbounded => f.write_str(")"),
+                    Bound::Excluded(value) => write!(f, "{value})"),
+                    Bound::Included(value) => write!(f, "{value}]"),
+                }
+            }
         }
     }
 }

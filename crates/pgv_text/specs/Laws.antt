@@ -7,6 +7,7 @@ use Rattle.pgv_text.specs.declared.scanner.TextForm.{TextForm}
 use Rattle.pgv_text.specs.Forms.{form_of}
 use Rattle.pgv_text.specs.ArrayText.{IsArrayText}
 use Rattle.pgv_text.specs.RecordText.{IsRecordText}
+use Rattle.pgv_text.specs.ContentText.{IsRangeOf, RangeContent, range_content}
 use Rattle.pgv_text.specs.NestText.{Pairwise, Nest, IsNestText}
 use Rattle.pgv_text.specs.Parsed.{nest_of}
 use Rattle.pgv_text.specs.Values.{array_values, record_values}
@@ -41,3 +42,10 @@ EveryListHasAText = (form : TextForm) (opening closing : ℕ) (values : List (Op
 -- The values of a text are texts themselves.
 abbrev pub ValuesAreTexts : Type 0
 ValuesAreTexts = (form : TextForm) (text : List ℕ) (nest : Nest) → IsUtf8 text → IsNestText (form_of form) (chars text) nest → AllByRecursion IsOptionalText nest.values
+
+-- What is computed of a range text is what it is of, and so it is of one only: of the empty range, or of one reading of two bounds.
+abbrev pub RangeIsComputed : Type 0
+RangeIsComputed = (text : List ℕ) (content : RangeContent) → (range_content text ≡ Some content) ↔ IsRangeOf text content
+
+abbrev pub OneRange : Type 0
+OneRange = (text : List ℕ) (content other : RangeContent) → IsRangeOf text content → IsRangeOf text other → content ≡ other

@@ -7,9 +7,11 @@ pub mod RecordText
 pub mod Forms
 pub mod Scan
 pub mod Parsed
+pub mod ContentText
 pub mod Values
 pub mod PartsLeftView
 pub mod PartsView
+pub mod RangeTextView
 pub mod Spellings
 pub mod FieldText
 pub mod DateTimeText

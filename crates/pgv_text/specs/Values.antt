@@ -1,10 +1,9 @@
 -- The values of a text of bytes, computed.
-use Rattle.std.specs.Prelude.{ℕ, Bool, List, [], ◌∷◌, Option, String, Vec, map, string_bytes}
+use Rattle.std.specs.Prelude.{ℕ, List, Option, String, Vec, map, string_bytes}
 use Rattle.std.specs.Option.{option_map}
 use Rattle.std.specs.Str.{chars}
 use Rattle.pgv_text.specs.ArrayText.{array_form}
 use Rattle.pgv_text.specs.RecordText.{record_form}
-use Rattle.pgv_text.specs.NestText.{Nest}
 use Rattle.pgv_text.specs.Parsed.{nest_of}
 
 -- The elements of an array text, and the fields of a record text; the laws say that these are exactly the
@@ -22,7 +21,3 @@ part_bytes part = option_map string_bytes part
 -- The optional texts of a list, as bytes.
 abbrev pub values_of : {Y Z : Type 0} → Vec (Option (String Z)) Y → List (Option (List ℕ))
 values_of v = map part_bytes v.items
-
--- The bounds of a range, and whether they are included.
-abbrev pub range_of : {Y Z : Type 0} → Option (String Y) × Option (String Z) × Bool × Bool → Nest
-range_of p = record { values = part_bytes p.0 ∷ part_bytes p.1 ∷ []; lower = p.2; upper = p.3 }

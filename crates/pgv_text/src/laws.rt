@@ -2,7 +2,7 @@
 
 ghost use Rattle.pgv_text.specs.AddressText.{AddressIsItsValue};
 ghost use Rattle.pgv_text.specs.DateTimeText.{DateIsItsValue, DateTimeIsItsValue, InstantIsItsValue, OneDate, OneDateTime, OneInstant, OneTime, OneTimeTz, TimeIsItsValue, TimeTzIsItsValue};
-ghost use Rattle.pgv_text.specs.Laws.{ArrayIsItsValues, EveryListHasAText, NestIsComputed, OneNest, RecordIsItsValues, SpelledReadsBack, ValuesAreTexts};
+ghost use Rattle.pgv_text.specs.Laws.{ArrayIsItsValues, EveryListHasAText, NestIsComputed, OneNest, OneRange, RangeIsComputed, RecordIsItsValues, SpelledReadsBack, ValuesAreTexts};
 ghost use Rattle.pgv_text.specs.NetworkText.{NetworkIsItsValue, OneNetwork};
 ghost use Rattle.pgv_text.specs.NumberText.{NumberIsItsValue, OneNumber, OneUnsignedNumber, UnsignedIsItsValue};
 
@@ -34,6 +34,16 @@ pub fn nest_is_computed()
 /// No text of any form is of two lists.
 pub fn one_nest()
     ensures { OneNest }
+{}
+
+/// What is computed of a range text is what it is of: the empty range, or its bounds.
+pub fn range_is_computed()
+    ensures { RangeIsComputed }
+{}
+
+/// No text is of two ranges: none of bounds is that of the empty range.
+pub fn one_range()
+    ensures { OneRange }
 {}
 
 /// The computed elements of a text are those that it is an array text of.

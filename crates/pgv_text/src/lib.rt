@@ -14,7 +14,7 @@ pub mod parts;
 pub mod scanner;
 
 pub use dates::{date, date_time, instant, time, time_tz};
-pub use nest::{array_elements, range_parts, record_fields};
+pub use nest::{RangeText, array_elements, range_parts, record_fields};
 pub use network::{IpNetwork, Ipv4Network, Ipv6Network};
 pub use number::{NumberFault, bool_of, char_of, number_of, unsigned_number_of};
 pub use parts::Parts;

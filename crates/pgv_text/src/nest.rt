@@ -1,13 +1,14 @@
 //! The texts of arrays, of ranges and of records, as lists.
 
-ghost use Rattle.std.specs.Prelude.{◌≡◌, ◌∷◌, [], ℕ, Bool, List, Option, Some, IfOk, IfSome, IfNone, map};
+ghost use Rattle.std.specs.Prelude.{◌≡◌, ℕ, List, Option, Some, IfOk, IfSome, IfNone, length, map};
 ghost use Rattle.std.specs.Option.{option_map};
 ghost use Rattle.std.specs.Str.{chars};
-ghost use Rattle.pgv_text.specs.Values.{array_values, part_bytes, range_of, record_values, values_of};
 ghost use Rattle.pgv_text.specs.ArrayText.{IsArrayText};
-ghost use Rattle.pgv_text.specs.Parsed.{nest_of};
-ghost use Rattle.pgv_text.specs.RangeText.{IsRangeText, range_form};
+ghost use Rattle.pgv_text.specs.ContentText.{IsRangeOf, RangeContent, parts as parts_of, range_content};
+ghost use Rattle.pgv_text.specs.PartsView.{nest};
+ghost use Rattle.pgv_text.specs.RangeTextView.{range_of};
 ghost use Rattle.pgv_text.specs.RecordText.{IsRecordText};
+ghost use Rattle.pgv_text.specs.Values.{array_values, part_bytes, record_values, values_of};
 
 use super::parts::Parts;
 use super::scanner::TextForm;
@@ -43,28 +44,60 @@ pub fn record_fields(alloc: Global, text: &str) -> Result<Option<Vec<Option<Stri
     }
 }
 
-/// The bounds of a range text, as `["a b",)`, and whether its brackets include them; `None` where the text is none.
+/// What a range text is of.
+#[derive(Drop)]
+pub enum RangeText {
+    /// No value at all: the text is `empty`, in upper or lower case.
+    Empty,
+    /// Two bounds between brackets.
+    Parts {
+        /// The lower bound, where there is one.
+        lower: Option<String>,
+        /// The upper bound, where there is one.
+        upper: Option<String>,
+        /// Whether the opening bracket is a square one, which includes the lower bound.
+        lower_included: bool,
+        /// Whether the closing bracket is a square one, which includes the upper bound.
+        upper_included: bool,
+    },
+}
+
+/// The bounds of a range text, as `["a b",)`, and whether its brackets include them, or that the range is empty; `None` where the
+/// text is none.
 #[tactic(auto, using(crate::proofs::Lists::two_bounds))]
-pub fn range_parts(
-    alloc: Global,
-    text: &str,
-) -> Result<Option<(Option<String>, Option<String>, bool, bool)>, AllocError>
-    // What is read is a range text of these bounds.
-    ensures found { IfOk result (λ found. IfSome found (λ p. IsRangeText (chars text.now) (part_bytes p.0) (part_bytes p.1) p.2 p.3)) }
+pub fn range_parts(alloc: Global, text: &str) -> Result<Option<RangeText>, AllocError>
+    // What is read is what the range text is of.
+    ensures found { IfOk result (λ found. IfSome found (λ r. IsRangeOf (chars text.now) (range_of r))) }
     // Where nothing is read, the text is none.
-    ensures none { IfOk result (λ found. IfNone found ((lower upper : Option (List ℕ)) (lower_included upper_included : Bool) → IsRangeText (chars text.now) lower upper lower_included upper_included → ⊥)) }
+    ensures none { IfOk result (λ found. IfNone found ((other : RangeContent) → IsRangeOf (chars text.now) other → ⊥)) }
     // The same, computed.
-    ensures computed { IfOk result (λ found. option_map range_of found ≡ nest_of range_form (chars text.now)) }
+    ensures computed { IfOk result (λ found. option_map range_of found ≡ range_content (chars text.now)) }
 {
-    let Some(mut parts) = Parts::new(TextForm::Range, text) else {
+    let Some(parts) = Parts::new(TextForm::Range, text) else {
         return Ok(None);
     };
+    if parts.is_empty_range() {
+        return Ok(Some(RangeText::Empty));
+    }
+    bounds_of(alloc, parts)
+}
+
+/// The two bounds of these parts; `None` where there are fewer.
+fn bounds_of(alloc: Global, parts: Parts<'_>) -> Result<Option<RangeText>, AllocError>
+    ensures two { IfOk result (λ found. length (nest parts.entry).values ≡ 2 → option_map range_of found ≡ Some (parts_of (nest parts.entry))) }
+{
     let (lower_included, upper_included) = parts.includes();
+    let mut parts = parts;
     let Some(lower) = parts.next_part(alloc)? else {
         return Ok(None);
     };
     let Some(upper) = parts.next_part(alloc)? else {
         return Ok(None);
     };
-    Ok(Some((lower, upper, lower_included, upper_included)))
+    Ok(Some(RangeText::Parts {
+        lower,
+        upper,
+        lower_included,
+        upper_included,
+    }))
 }

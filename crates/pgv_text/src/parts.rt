@@ -3,6 +3,7 @@
 ghost use Rattle.std.specs.Prelude.{◌≡◌, ◌+◌, ◌∷◌, [], ℕ, List, Option, Some, None, IfOk, IfSome, IfNone, OnErr, cond, string_bytes, false, true, length};
 ghost use Rattle.std.specs.Option.{MatchOption, option_map};
 ghost use Rattle.std.specs.Str.{chars};
+ghost use Rattle.pgv_text.specs.ContentText.{Content, IsTextOf, content_of, is_empty_in, no_parts};
 ghost use Rattle.pgv_text.specs.Forms.{form_of};
 ghost use Rattle.pgv_text.specs.Scan.{nest_read, numbered, read};
 ghost use Rattle.pgv_text.specs.NestText.{Nest, IsNestText};
@@ -13,6 +14,16 @@ ghost use Rattle.pgv_text.specs.declared.scanner.Place.TheVariants.{Start};
 
 use super::scanner::{Cell, Place, TextForm, closes, is_nothing, next_stop, opens};
 use std::alloc::{AllocError, Global};
+
+/// Whether a text is that of the empty range, in the form of ranges.
+fn is_empty_range(form: TextForm, text: &str) -> bool
+    ensures { result ≡ is_empty_in form text.now }
+{
+    match form {
+        TextForm::Range => text.eq_ignore_ascii_case("empty"),
+        _ => false,
+    }
+}
 
 /// The opening bracket, and what is after it; `None` where there is none.
 fn after_opening(form: TextForm, text: &str) -> Option<(u8, &str)>
@@ -56,27 +67,50 @@ pub struct Parts<'a> {
     count: usize,
     /// These parts and the closing bracket; empty after the last part.
     rest: &'a str,
+    /// Whether the text is that of the empty range.
+    of_empty: bool,
     ghost counted: { count ≡ length (values_left form rest.now) },
 }
 
 impl<'a> Parts<'a> {
-    ghost use Rattle.pgv_text.specs.PartsView.{nest};
+    ghost use Rattle.pgv_text.specs.PartsView.{content, is_of_empty, nest};
 
-    /// The parts of a text; `None` where it isn't in the form.
+    /// The parts of a text; `None` where it isn't in the form. The empty range has none.
     pub fn new(form: TextForm, text: &'a str) -> Option<Self>
-        // The parts to come and the brackets are what the text is of.
-        ensures found { IfSome result (λ p. IsNestText (form_of form) (chars text.now) (nest p)) }
+        // The parts to come and the brackets, or the empty range, are what the text is of.
+        ensures found { IfSome result (λ p. IsTextOf form (chars text.now) (content form p)) }
         // Where there are none, the text is not in the form.
-        ensures none { IfNone result ((other : Nest) → IsNestText (form_of form) (chars text.now) other → ⊥) }
+        ensures none { IfNone result ((other : Content form) → IsTextOf form (chars text.now) other → ⊥) }
         // The same, computed.
-        ensures computed { option_map nest result ≡ nest_of (form_of form) (chars text.now) }
+        ensures computed { option_map (content form) result ≡ content_of form (chars text.now) }
+        // The empty range has no parts, and its brackets include nothing.
+        ensures nothing { IfSome result (λ p. is_of_empty p ≡ true → nest p ≡ no_parts) }
     {
+        if is_empty_range(form, text) {
+            return Some(Parts::of_empty_range());
+        }
         Parts::begun(form, text)
     }
 
-    /// The same, said of the bytes.
+    /// No parts, of the empty range.
+    fn of_empty_range() -> Self
+        ensures empty { is_of_empty result ≡ true }
+        ensures nothing { nest result ≡ no_parts }
+    {
+        Parts {
+            form: TextForm::Range,
+            lower_included: false,
+            upper_included: false,
+            count: 0,
+            rest: "",
+            of_empty: true,
+        }
+    }
+
+    /// The parts of a text between brackets, said of its bytes.
     fn begun(form: TextForm, text: &'a str) -> Option<Self>
-        ensures { option_map nest result ≡ nest_read (form_of form) text.now }
+        ensures exact { option_map nest result ≡ nest_read (form_of form) text.now }
+        ensures bounded { IfSome result (λ p. is_of_empty p ≡ false) }
     {
         let (opening, rest) = after_opening(form, text)?;
         let (count, closing) = part_count(form, rest)?;
@@ -91,7 +125,15 @@ impl<'a> Parts<'a> {
             upper_included: closing == b']',
             count,
             rest,
+            of_empty: false,
         })
+    }
+
+    /// Whether the text is that of the empty range, before and after its parts were taken.
+    pub fn is_empty_range(&self) -> bool
+        ensures { result ≡ is_of_empty self.now }
+    {
+        self.of_empty
     }
 
     /// Whether the lower and the upper bracket include the bound: no but for ranges with square ones.
@@ -118,6 +160,7 @@ impl<'a> Parts<'a> {
         ensures err { OnErr result ((self.new ≡ self.old) × (string_bytes text.new ≡ [])) }
         ensures lower { (nest self.new).lower ≡ (nest self.old).lower }
         ensures upper { (nest self.new).upper ≡ (nest self.old).upper }
+        ensures empty { is_of_empty self.new ≡ is_of_empty self.old }
     {
         text.clear();
         if self.count == 0 {
@@ -153,6 +196,7 @@ impl<'a> Parts<'a> {
         ensures next { IfOk result (λ found. MatchOption found (((nest self.old).values ≡ []) × (self.new ≡ self.old)) (λ part. (nest self.old).values ≡ part_bytes part ∷ (nest self.new).values)) }
         ensures lower { (nest self.new).lower ≡ (nest self.old).lower }
         ensures upper { (nest self.new).upper ≡ (nest self.old).upper }
+        ensures empty { is_of_empty self.new ≡ is_of_empty self.old }
     {
         let mut text = String::new(alloc);
         match self.next_into(&mut text)? {

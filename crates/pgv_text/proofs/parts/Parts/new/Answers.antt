@@ -1,15 +1,33 @@
-use Rattle.std.proofs.Common.{◌∙◌}
+use Rattle.std.proofs.Common.{◌≡◌, ◌∙◌, Some, false, true, sym}
 use Rattle.std.specs.Str.{chars}
-use Rattle.pgv_text.specs.PartsView.{nest}
-use Rattle.pgv_text.proofs.Answered.{nest_found, nest_none}
+use Rattle.pgv_text.specs.ContentText.{is_empty_in}
+use Rattle.pgv_text.specs.PartsView.{content}
 use Rattle.pgv_text.proofs.Bytes.{nest_bytes}
+use Rattle.pgv_text.proofs.Contents.{content_found, content_none, empty_bytes, empty_computed, nest_computed}
 use Rattle.pgv_text.proofs.parts.Parts.new.Goals as goal
 
+-- the empty range
+pub returns-then-is_empty_range-clause-computed : goal.returns-then-is_empty_range-clause-computed
+returns-then-is_empty_range-clause-computed c =
+    let form = c.args.form in
+    let text = c.args.text.now in
+    let is : is_empty_in form (chars text) ≡ true = empty_bytes form text c.utf8.text ∙ sym c.is_empty_range.ensures ∙ c.if-is_empty_range.true in
+    empty_computed form (chars text) c.of_empty_range.result is c.of_empty_range.ensures.empty
+
+pub returns-then-is_empty_range-clause-found : goal.returns-then-is_empty_range-clause-found
+returns-then-is_empty_range-clause-found c =
+    content_found c.args.form (chars c.args.text.now) (content c.args.form) (Some c.of_empty_range.result) (returns-then-is_empty_range-clause-computed c)
+
+-- the parts of a nest
+pub returns-clause-computed : goal.returns-clause-computed
+returns-clause-computed c =
+    let form = c.args.form in
+    let text = c.args.text.now in
+    let is : is_empty_in form (chars text) ≡ false = empty_bytes form text c.utf8.text ∙ sym c.is_empty_range.ensures ∙ c.if-is_empty_range.false in
+    nest_computed form (chars text) c.begun.result is c.begun.ensures.bounded (c.begun.ensures.exact ∙ nest_bytes form text c.utf8.text)
+
 pub returns-clause-found : goal.returns-clause-found
-returns-clause-found c = nest_found c.args.form (chars c.args.text.now) nest c.begun.result (c.begun.ensures ∙ nest_bytes c.args.form c.args.text.now c.utf8.text)
+returns-clause-found c = content_found c.args.form (chars c.args.text.now) (content c.args.form) c.begun.result (returns-clause-computed c)
 
 pub returns-clause-none : goal.returns-clause-none
-returns-clause-none c = nest_none c.args.form (chars c.args.text.now) nest c.begun.result (c.begun.ensures ∙ nest_bytes c.args.form c.args.text.now c.utf8.text)
-
-pub returns-clause-computed : goal.returns-clause-computed
-returns-clause-computed c = c.begun.ensures ∙ nest_bytes c.args.form c.args.text.now c.utf8.text
+returns-clause-none c = content_none c.args.form (chars c.args.text.now) (content c.args.form) c.begun.result (returns-clause-computed c)
