@@ -162,10 +162,13 @@ impl Seen for PgNumeric {
 
 impl Seen for PgRange<i32> {
     fn seen(&self) -> usize {
-        match self.start {
-            Bound::Included(start) => start.seen(),
-            Bound::Excluded(start) => start.seen(),
-            Bound::Unbounded => 0,
+        match self {
+            PgRange::Empty => 0,
+            PgRange::Bounds { start, .. } => match start {
+                Bound::Included(start) => start.seen(),
+                Bound::Excluded(start) => start.seen(),
+                Bound::Unbounded => 0,
+            },
         }
     }
 }

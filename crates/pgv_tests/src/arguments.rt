@@ -3,7 +3,8 @@
 use crate::decoded::{shown, type_of};
 use crate::own::{ButThree, Huge, MoodText, Size, size_ranges};
 use crate::shown::{joined, names, outcome, push_line};
-use pgv::types::PgLTree;
+use jiff::civil::{Date, date};
+use pgv::types::{PgLTree, PgRange};
 use pgv::{CodecError, Oid, PgArguments, PgTypeInfo, PgValueFormat, PgValueRef};
 use pgv_examples::empty_object::EmptyObject;
 use pgv_examples::household::Household;
@@ -184,6 +185,22 @@ first Vec<SizeRange> | sizerange[] => 00000001 00000000 00000000 00000001 000000
 0000001c 00000001 00000000 00000000 00000001 00000001 00000004 00000001 \
 0000001c 00000001 00000000 00000000 00000001 00000001 00000004 00000002";
 
+/// An empty range beside one with bounds.
+const EMPTY_RANGES: &str = "\
+add empty range => ok
+add range 1 to 10 => ok
+bytes => 00000001 01 00000011 02 00000004 00000001 00000004 0000000a
+first PgRange<i32> | int4range => 01";
+
+/// A record of a list of ranges of dates, one of them empty, and a tree, which is read back.
+const STAYS: &str = "\
+add stay => ok
+fill stay / 16500 => ok
+bytes => 0000004a 00000002 00000f49 0000002e 00000001 00000000 00000f48 00000002 00000001 \
+00000001 01 00000011 02 00000004 00000000 00000004 00000001 00004074 00000004 01612e62
+first (Vec<PgRange<Date>>, PgLTree) | stay => 00000002 00000f49 0000002e 00000001 00000000 00000f48 00000002 00000001 \
+00000001 01 00000011 02 00000004 00000000 00000004 00000001 00000000 00000004 01612e62";
+
 /// All frames are read in turn: those of accepted values, and no rest.
 const IN_TURN: &str = "\
 add 7 => ok
@@ -224,6 +241,14 @@ fn empty_trees(alloc: Global) -> Result<Vec<PgLTree>, AllocError> {
     Ok(trees)
 }
 
+/// No day, and the first day of 2000.
+fn days(alloc: Global) -> Result<Vec<PgRange<Date>>, AllocError> {
+    let mut days = Vec::new(alloc);
+    days.push(PgRange::empty())?;
+    days.push(PgRange::from(date(2000, 1, 1)..date(2000, 1, 2)))?;
+    Ok(days)
+}
+
 /// The page of the number 1 at `a.b`.
 fn page(alloc: Global) -> Result<Page, CodecError> {
     let path = PgLTree::from_str(alloc, "a.b")?;
@@ -250,6 +275,8 @@ fn add_plain(alloc: Global, arguments: &mut PgArguments, name: &str) -> Result<(
     match name {
         "1" => arguments.add(1),
         "7" => arguments.add(7),
+        "empty range" => arguments.add(PgRange::<i32>::empty()),
+        "range 1 to 10" => arguments.add(PgRange::from(1..10)),
         "none" => arguments.add(None::<i32>),
         "some none" => arguments.add(Some(None::<i32>)),
         "no text" => arguments.add(String::new(alloc)),
@@ -281,6 +308,10 @@ fn add_with_holes(
         "pair" => arguments.add(Pair {
             first: 1,
             second: Mood::Fine,
+        }),
+        "stay" => arguments.add(Pair {
+            first: days(alloc)?,
+            second: PgLTree::from_str(alloc, "a.b")?,
         }),
         "household" => arguments.add(Household {
             number: 1,

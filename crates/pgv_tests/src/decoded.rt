@@ -5,12 +5,13 @@ use crate::readings::READINGS;
 use crate::server::VALUES;
 use crate::shown::{again, debug};
 use jiff::Timestamp;
-use jiff::civil::DateTime;
+use jiff::civil::{Date, DateTime};
 use pgv::types::{BitVec, MacAddress, PgByteaArray, PgLTree, PgRange, PgTimeTz};
 use pgv::{Oid, PgHasArrayType, PgType, PgTypeInfo, PgTypeKind, PgValueFormat, PgValueRef, Type};
 use pgv_examples::empty_object::EmptyObject;
 use pgv_examples::mood::Mood;
 use pgv_examples::page::Page;
+use pgv_examples::pair::Pair;
 use std::alloc::{AllocError, Global};
 use std::net::IpAddr;
 use std::rc::RcStr;
@@ -70,6 +71,10 @@ fn custom(alloc: Global, name: &str) -> Result<PgTypeInfo, AllocError> {
             told(alloc, 16702, "outer", PgTypeKind::Domain(inner))
         }
         "page" => page(alloc),
+        "stay" => {
+            let ltree = told(alloc, 16500, "ltree", PgTypeKind::Simple)?;
+            composite(alloc, "stay", PgTypeInfo(PgType::DateRangeArray), ltree)
+        }
         "page[]" => told(alloc, 16701, "_page", PgTypeKind::Array(page(alloc)?)),
         "mood[]" | "ltree[]" => arrays_of(alloc, name),
         "sizerange[]" => size_ranges(alloc),
@@ -183,6 +188,9 @@ fn records(alloc: Global, name: &str, value: PgValueRef<'_>) -> Result<String, A
         "(i32, Option<i32>)" => debug::<(i32, Option<i32>)>(alloc, value),
         "(i32, String)" => debug::<(i32, String)>(alloc, value),
         "(i64, String)" => debug::<(i64, String)>(alloc, value),
+        "(Vec<PgRange<Date>>, PgLTree)" => {
+            again::<Pair<Vec<PgRange<Date>>, PgLTree>>(alloc, value)
+        }
         "(i32, String, i32)" => debug::<(i32, String, i32)>(alloc, value),
         _ => numbers(alloc, name, value),
     }

@@ -324,11 +324,15 @@ fn numbers_are_made(rt: HostRuntime) -> Result<(), AllocError> {
     Ok(())
 }
 
-/// A range: what is written and printed of it, and that it is the range of its bounds.
+/// A range: what is printed and written of it, its bounds, and whether it is empty.
 fn push_range(alloc: Global, out: &mut String, range: PgRange<i32>) -> Result<(), AllocError> {
     push_shown(alloc, out, &range)?;
     push_written(alloc, out, &range)?;
-    push_whether(out, range == PgRange::from((range.start, range.end)))
+    if range.is_empty() {
+        return push_line(out, format!(in alloc; "{:?}", range.bounds())?.as_str());
+    }
+    let (start, end) = (range.start_bound(), range.end_bound());
+    push_whether(out, range.bounds() == Some((start, end)))
 }
 
 /// Each way to make a range.
@@ -349,10 +353,11 @@ fn ranges(alloc: Global) -> Result<String, AllocError> {
         &mut out,
         PgRange::from((Bound::Unbounded, Bound::Unbounded)),
     )?;
-    let range = PgRange::from(1..10);
-    push_whether(&mut out, range == PgRange::from(1..=10))?;
-    push_whether(&mut out, matches!(range.start_bound(), Bound::Included(&1)))?;
-    push_whether(&mut out, matches!(range.end_bound(), Bound::Excluded(&10)))?;
+    push_range(alloc, &mut out, PgRange::from(10..10))?;
+    push_range(alloc, &mut out, PgRange::empty())?;
+    push_whether(&mut out, PgRange::from(1..10) == PgRange::from(1..=10))?;
+    push_whether(&mut out, PgRange::from(10..10) == PgRange::Empty)?;
+    push_whether(&mut out, PgRange::<i32>::empty() == PgRange::Empty)?;
     Ok(out)
 }
 
@@ -368,7 +373,9 @@ fn ranges_are_made(rt: HostRuntime) -> Result<(), AllocError> {
 (,5]\n0c0000000400000005\nyes\n\
 (1,)\n100000000400000001\nyes\n\
 (,)\n18\nyes\n\
-no\nyes\nyes\n"
+[10,10)\n02000000040000000a000000040000000a\nyes\n\
+empty\n01\nNone\n\
+no\nno\nyes\n"
     );
     Ok(())
 }

@@ -100,7 +100,13 @@ PgRange<String> | textrange | t [\"\",) => 1200000000
 PgRange<String> | textrange | t (,) => 18
 PgRange<String> | textrange | t [,] => 18
 PgRange<String> | textrange | t [\"a\"\"b\",) => 1200000003612262
-PgRange<String> | textrange | t empty => C29
+PgRange<String> | textrange | t empty => 01
+PgRange<String> | textrange | t \"empty\" => C29
+Vec<Option<PgRange<i32>>> | int4range[] | t {empty,\"[1,2)\"} => 000000010000000000000f40000000020000000100000001010000001102000000040000000100000004\
+00000002
+Vec<Option<PgRange<i32>>> | int4range[] | b 000000010000000000000f40000000020000000100000001010000001102000000040000000100000004\
+00000002 => 000000010000000000000f40000000020000000100000001010000001102000000040000000100000004\
+00000002
 PgRange<String> | textrange | t (a,b => C29
 PgRange<String> | textrange | t [1] => C29
 PgRange<String> | textrange | t [1,2,3] => C29

@@ -1,7 +1,7 @@
 //! Readers of whole texts that take memory, and the parts of a text one by one.
 
 use crate::shown::push_line;
-use pgv::text::{Parts, TextForm, array_elements, range_parts, record_fields};
+use pgv::text::{Parts, RangeText, TextForm, array_elements, range_parts, record_fields};
 use std::alloc::{AllocError, Global};
 use std::test::Fail;
 
@@ -30,17 +30,27 @@ fn parts(alloc: Global, found: Option<Vec<Option<String>>>) -> Result<String, Al
     Ok(text)
 }
 
-/// The bounds of a range, and whether each bracket includes its bound.
+/// The bounds of a range, and whether each bracket includes its bound; or `empty`.
 fn bounds(alloc: Global, text: &str) -> Result<String, AllocError> {
-    let Some((lower, upper, lower_included, upper_included)) = range_parts(alloc, text)? else {
-        return String::from_str(alloc, "refused");
-    };
-    let mut out = String::new(alloc);
-    push_part(&mut out, lower.as_ref().map(|part| part.as_str()))?;
-    push_part(&mut out, upper.as_ref().map(|part| part.as_str()))?;
-    out.push_str(if lower_included { "in " } else { "out " })?;
-    out.push_str(if upper_included { "in" } else { "out" })?;
-    Ok(out)
+    match range_parts(alloc, text)? {
+        None => String::from_str(alloc, "refused"),
+        Some(RangeText::Empty) => String::from_str(alloc, "empty"),
+        Some(
+            RangeText::Parts {
+                lower,
+                upper,
+                lower_included,
+                upper_included,
+            },
+        ) => {
+            let mut out = String::new(alloc);
+            push_part(&mut out, lower.as_ref().map(|part| part.as_str()))?;
+            push_part(&mut out, upper.as_ref().map(|part| part.as_str()))?;
+            out.push_str(if lower_included { "in " } else { "out " })?;
+            out.push_str(if upper_included { "in" } else { "out" })?;
+            Ok(out)
+        }
+    }
 }
 
 /// Texts of arrays, and their elements.
@@ -75,14 +85,20 @@ const RECORDS: [(&str, &str); 8] = [
 ];
 
 /// Texts of ranges, and their bounds.
-const RANGES: [(&str, &str); 13] = [
+const RANGES: [(&str, &str); 19] = [
     ("[\"a\",\"b\"]", "[a] [b] in in"),
     ("[,b]", "null [b] in in"),
     ("[\"\",)", "[] null in out"),
     ("(,)", "null null out out"),
     ("(1,2]", "[1] [2] out in"),
     ("[\"a\"\"b\",)", "[a\"b] null in out"),
-    ("empty", "refused"),
+    ("empty", "empty"),
+    ("eMpTY", "empty"),
+    (" empty", "refused"),
+    ("empty ", "refused"),
+    ("\"empty\"", "refused"),
+    ("emptyy", "refused"),
+    ("(empty)", "refused"),
     ("(a,b", "refused"),
     ("[1]", "refused"),
     ("[1,2,3]", "refused"),
@@ -127,6 +143,33 @@ fn push_parts(
             "more"
         },
     )
+}
+
+/// Whether a text is the empty range, with the number of its parts and what its brackets include, or `none`.
+fn empty_parts(alloc: Global, form: TextForm, text: &str) -> Result<String, AllocError> {
+    match Parts::new(form, text) {
+        Some(parts) => format!(in alloc;
+            "{} {} {:?}",
+            parts.is_empty_range(),
+            parts.len(),
+            parts.includes()
+        ),
+        None => String::from_str(alloc, "none"),
+    }
+}
+
+#[test]
+fn parts_of_empty_ranges(rt: HostRuntime) -> Result<(), Fail> {
+    for (form, text, wanted) in [
+        (TextForm::Range, "EMPTY", "true 0 (false, false)"),
+        (TextForm::Range, "[,2)", "false 2 (true, false)"),
+        (TextForm::Array, "empty", "none"),
+        (TextForm::Record, "empty", "none"),
+    ] {
+        let found = empty_parts(rt.alloc(), form, text)?;
+        assert_eq!(rt; found.as_str(), wanted, "{text}");
+    }
+    Ok(())
 }
 
 /// The parts of an array, read twice.
