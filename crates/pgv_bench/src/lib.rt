@@ -3,6 +3,7 @@
 //! answers the number of the refusal. `docs/performance.md` has what was measured by them.
 #![tactic(auto)]
 
+mod copying;
 mod framed;
 mod reading;
 mod seen;
@@ -11,6 +12,7 @@ mod types;
 mod values;
 mod writing;
 
+use copying::copies;
 use framed::work;
 use jiff::Timestamp;
 use jiff::civil::{Date, DateTime, Time};
@@ -379,4 +381,10 @@ pub extern "C" fn pgv_bench_ltree(alloc: Global, bytes: &[u8], rounds: u32, how:
 #[unsafe(no_mangle)]
 pub extern "C" fn pgv_bench_lquery(alloc: Global, bytes: &[u8], rounds: u32, how: u32) -> usize {
     sum_of(work::<PgLQuery>(alloc, bytes, rounds, how))
+}
+
+/// Reads the rows of a COPY stream of an `int4`, a `text` and an `int8` where `how` is 0, and else the same fields as frames.
+#[unsafe(no_mangle)]
+pub extern "C" fn pgv_bench_copy(alloc: Global, bytes: &[u8], rounds: u32, how: u32) -> usize {
+    sum_of(copies(alloc, bytes, rounds, how))
 }

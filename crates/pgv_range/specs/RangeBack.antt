@@ -15,7 +15,7 @@ use Rattle.pgv_codec.specs.Back.{AreOids, SlotsFit, ImageFits, ReadsBack, holes_
 use Rattle.pgv_codec.specs.BackParts.{guarded, joined_parts, SlotsFit-front, SlotsFit-back, AreOids-drop, frame_back}
 use Rattle.pgv_codec.specs.Image.{Image, image_of, limit, frame_of, join}
 use Rattle.pgv_codec.specs.Writing.{write, written_part}
-use Rattle.pgv_range.specs.RangeOf.{RangeOf, empty, bounds, range_meaning}
+use Rattle.pgv_range.specs.RangeOf.{empty, bounds, range_meaning}
 use Rattle.pgv_range.specs.FlagByte.{flags_of, form_of}
 use Rattle.pgv_range.specs.RangeImage.{bound_frame, bounds_image, flagged, range_image}
 use Rattle.pgv_range.specs.RangeGrammar.{value_in_front, bound_in, range}

@@ -1,0 +1,82 @@
+//! The stream of a COPY of an `int4`, a `text` and an `int8`, and the same fields as one frame after another.
+
+use crate::seen::Seen;
+use pgv_codec::{Decode, Type};
+use pgv_copy::PgCopyReader;
+use pgv_types::{PgType, PgTypeInfo};
+use pgv_value::{CodecError, PgValueFormat, PgValueRef};
+use std::alloc::Global;
+
+/// The types of the columns.
+fn columns(alloc: Global) -> Result<Vec<PgTypeInfo>, CodecError> {
+    let mut types = Vec::new(alloc);
+    for built_in in [PgType::Int4, PgType::Text, PgType::Int8] {
+        types.push(PgTypeInfo(built_in))?;
+    }
+    Ok(types)
+}
+
+/// What is seen of a field.
+fn field<T: Decode + Seen>(alloc: Global, value: PgValueRef<'_>) -> Result<usize, CodecError> {
+    Ok(T::decode(alloc, value)?.seen())
+}
+
+/// What is seen of the fields of a row.
+fn row_seen(alloc: Global, row: Vec<PgValueRef<'_>>) -> Result<usize, CodecError> {
+    let mut sum = 0usize;
+    for (place, value) in row.into_iter().enumerate() {
+        let seen = match place {
+            0 => field::<i32>(alloc, value)?,
+            1 => field::<String>(alloc, value)?,
+            _ => field::<i64>(alloc, value)?,
+        };
+        sum = sum.wrapping_add(seen);
+    }
+    Ok(sum)
+}
+
+fn stream_once(alloc: Global, stream: &[u8]) -> Result<usize, CodecError> {
+    let mut reader = PgCopyReader::new(stream, columns(alloc)?)?;
+    let mut sum = 0usize;
+    for _ in 0..stream.len() {
+        let Some(row) = reader.next_row()? else {
+            return Ok(sum);
+        };
+        sum = sum.wrapping_add(row_seen(alloc, row)?);
+    }
+    Ok(sum)
+}
+
+/// What is seen of the frame in front.
+fn frame<T: Decode + Type + Seen>(alloc: Global, rest: &mut &[u8]) -> Result<usize, CodecError> {
+    let value = PgValueRef::get(rest, PgValueFormat::Binary, T::type_info())?;
+    field::<T>(alloc, value)
+}
+
+fn frames_once(alloc: Global, frames: &[u8]) -> Result<usize, CodecError> {
+    let mut sum = 0usize;
+    let mut rest = frames;
+    for _ in 0..frames.len() {
+        if rest.is_empty() {
+            return Ok(sum);
+        }
+        sum = sum.wrapping_add(frame::<i32>(alloc, &mut rest)?);
+        sum = sum.wrapping_add(frame::<String>(alloc, &mut rest)?);
+        sum = sum.wrapping_add(frame::<i64>(alloc, &mut rest)?);
+    }
+    Ok(sum)
+}
+
+/// Reads all rows `rounds` times: of a stream where `how` is 0, and else of frames.
+pub fn copies(alloc: Global, bytes: &[u8], rounds: u32, how: u32) -> Result<usize, CodecError> {
+    let mut sum = 0usize;
+    for _ in 0..rounds {
+        let once = if how == 0 {
+            stream_once(alloc, bytes)?
+        } else {
+            frames_once(alloc, bytes)?
+        };
+        sum = sum.wrapping_add(once);
+    }
+    Ok(sum)
+}
