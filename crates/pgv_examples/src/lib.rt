@@ -10,6 +10,7 @@
 //! 8. [`empty_object`] has a slot: its bytes depend on the parameter's type.
 //! 9. [`percent`] is a codec that refuses.
 //! 10. [`read_back`] says that what was sent comes back, and proves it by the laws.
+//! 11. [`copied`] reads the stream of a COPY in binary, row by row.
 //!
 //! All of them name the crate `pgv` alone, in code and in contracts; `docs/proving.md` has a line on each word of
 //! `Rattle.pgv.specs.Words`. [`unusual`] has types for the tests of this crate, which are the worked rows of the codec.
@@ -19,6 +20,7 @@ pub mod arrays;
 #[cfg(test)]
 mod back;
 pub mod bind;
+pub mod copied;
 pub mod email;
 pub mod empty_object;
 pub mod household;
