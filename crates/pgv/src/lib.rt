@@ -11,6 +11,7 @@ pub use pgv_codec::{
     Codec, Decode, Encode, IsNull, PgArgumentBuffer, PgHasArrayType, PgRecordDecoder,
     PgRecordEncoder, Plain, ReadBack, Type, encode_array, encode_text,
 };
+pub use pgv_copy::PgCopyReader;
 pub use pgv_types::{Oid, PgType, PgTypeInfo, PgTypeKind, PgTypeKindRef, PgTypeName, PgTypeRef};
 pub use pgv_value::{CodecError, PgValue, PgValueFormat, PgValueRef};
 pub use pgv_wire::PgArguments;
@@ -39,6 +40,7 @@ pub mod text {
 /// What is proved, by crate.
 pub mod laws {
     pub use pgv_codec::laws as codec;
+    pub use pgv_copy::laws as copy;
     pub use pgv_hstore::laws as hstore;
     pub use pgv_lquery::laws as lquery;
     pub use pgv_ltree::laws as ltree;

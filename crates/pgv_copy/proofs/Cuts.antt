@@ -14,7 +14,7 @@ use Rattle.pgv_value.specs.declared.error.CodecError.TheVariants.{Short}
 use Rattle.pgv_value.specs.declared.value.PgValueFormat.TheVariants.{Binary}
 use Rattle.pgv_value.proofs.Fronts.{frame_in_front, cut_is_short}
 use Rattle.pgv_copy.specs.CopyBinary.{Read, ◌>>◌, Step, signature, after_signature, after_flags, after_extension, after_count, header, fields, before, step}
-use Rattle.pgv_copy.specs.CopyStream.{IsHeader, field_bytes, row_bytes, trailer, IsField, IsRow, IsCopy, Answer, called, answers, values, row_answers, StopsAtTheCut, CutCopyIsShort}
+use Rattle.pgv_copy.specs.CopyStream.{IsHeader, field_bytes, row_bytes, trailer, IsField, IsRow, IsCopy, Answer, called, answers, values, row_answers, StopsAtTheCut, CutCopyIsShort, CutHeaderIsShort}
 use Rattle.pgv_copy.specs.CopyView.{Copying}
 use Rattle.pgv_copy.proofs.FieldLoop.{Row, with_first, field_there, field_missing}
 use Rattle.pgv_copy.proofs.Headers.{number_there, signature_there, flags_there, extension_there, header_there, count_there}
@@ -214,6 +214,9 @@ header_cut head bytes m h e more =
         ]
     | inr a ↦ short_in_signature bytes (signature_cut bytes a.0 a.1 a.2)
     ]
+
+pub cut_header_is_short : CutHeaderIsShort
+cut_header_is_short bytes more h some = header_cut (bytes ++ more) bytes more h refl some
 
 pub cut_copy_is_short : CutCopyIsShort
 cut_copy_is_short types bytes more rows h some =

@@ -79,6 +79,14 @@ before types bytes = record { types = types; left = Some bytes }
 abbrev pub ended : List Ty → Copying
 ended types = record { types = types; left = None }
 
+-- how many bytes are still to be read
+abbrev pub length_left : Option (List ℕ) → ℕ
+length_left None = 0
+length_left (Some bytes) = length bytes
+
+abbrev pub bytes_left : Copying → ℕ
+bytes_left reader = length_left reader.left
+
 -- what a call answers, and the reader after it
 abbrev pub Step : Type 0
 Step = Read (Option (List Given) × Copying)

@@ -107,6 +107,10 @@ pub record StopsAtTheCut (types : List Ty) (bytes : List ℕ) (rows : List (List
   pub whole : rest ≡ flat_map row_bytes (take count rows) ++ begun
   pub stops : (n : ℕ) → answers (count + n) (before types rest) ≡ row_answers types (take count rows) ++ replicate n (Err Short)
 
+-- A header that is cut off is refused because the bytes end too early.
+abbrev pub CutHeaderIsShort : Type 0
+CutHeaderIsShort = (bytes more : List ℕ) → IsHeader (bytes ++ more) → 0 < length more → header bytes ≡ Err Short
+
 abbrev pub CutCopyIsShort : Type 0
 CutCopyIsShort =
     (types : List Ty) (bytes more : List ℕ) (rows : List (List Part)) → IsCopy (length types) (bytes ++ more) rows [] → 0 < length more →

@@ -1,9 +1,9 @@
 //! A reader of rows.
 
-ghost use Rattle.std.specs.Prelude.{◌≡◌, length, Some, None, Ok, Err, IfOk, IfErr, OnErr, option_map};
+ghost use Rattle.std.specs.Prelude.{◌≡◌, ◌<◌, ◌≤◌, length, Some, None, Ok, Err, IfOk, IfErr, OnOk, OnErr, IfSome, OnSome, option_map};
 ghost use Rattle.std.specs.Option.{option_copied};
 ghost use Rattle.pgv_value.specs.Reading.{Refuses};
-ghost use Rattle.pgv_copy.specs.CopyBinary.{header, after_signature as signature_passed, after_flags as flags_passed, after_extension as extension_passed, after_count as count_passed, fields, before, step};
+ghost use Rattle.pgv_copy.specs.CopyBinary.{header, after_signature as signature_passed, after_flags as flags_passed, after_extension as extension_passed, after_count as count_passed, fields, before, step, bytes_left};
 
 use pgv_types::PgTypeInfo;
 use pgv_value::{CodecError, PgValueFormat, PgValueRef, i16_in_front, u32_in_front};
@@ -69,6 +69,8 @@ impl<'r> PgCopyReader<'r> {
         ensures answered { IfOk result (λ found. step self.old ≡ Ok (option_map (λ row. row.items) found, self.new)) }
         ensures refused { IfErr result (λ e. Refuses e (step self.old ≡ Err e)) }
         ensures unmoved { OnErr result (self.new ≡ self.old) }
+        // Each row takes bytes, so a loop over the rows ends.
+        ensures shorter { IfOk result (λ found. OnSome found (bytes_left self.new < bytes_left self.old)) }
     {
         let Some(bytes) = self.left else {
             return Ok(None);
@@ -138,6 +140,7 @@ fn after_extension(bytes: &[u8]) -> Result<&[u8], CodecError>
 fn after_count(bytes: &[u8], width: usize) -> Result<Option<&[u8]>, CodecError>
     ensures found { IfOk result (λ rest. count_passed width bytes.now ≡ Ok (option_copied rest)) }
     ensures refused { IfErr result (λ e. count_passed width bytes.now ≡ Err e) }
+    ensures shorter { IfOk result (λ found. IfSome found (λ rest. length rest.now < length bytes.now)) }
 {
     let (count, rest) = i16_in_front(bytes)?;
     if count == TRAILER {
@@ -160,6 +163,7 @@ fn read_fields<'r>(
 ) -> Result<Vec<PgValueRef<'r>>, CodecError>
     ensures found { IfOk result (λ row. fields types.now bytes.old.now ≡ Ok (row.items, bytes.new.now)) }
     ensures refused { IfErr result (λ e. Refuses e (fields types.now bytes.old.now ≡ Err e)) }
+    ensures within { OnOk result (length bytes.new.now ≤ length bytes.old.now) }
 {
     let mut row = Vec::with_capacity(alloc, types.len())?;
     for type_info in types {

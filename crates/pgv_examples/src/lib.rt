@@ -10,6 +10,7 @@
 //! 8. [`empty_object`] has a slot: its bytes depend on the parameter's type.
 //! 9. [`percent`] is a codec that refuses.
 //! 10. [`read_back`] says that what was sent comes back, and proves it by the laws.
+//! 11. [`copied`] reads the stream of a COPY in binary, row by row.
 //!
 //! All of them name the crate `pgv` alone, in code and in contracts; `docs/proving.md` has a line on each word of
 //! `Rattle.pgv.specs.Words`.
@@ -17,6 +18,7 @@
 
 pub mod arrays;
 pub mod bind;
+pub mod copied;
 pub mod email;
 pub mod empty_object;
 pub mod household;
