@@ -1,6 +1,6 @@
 -- What is read of bytes is what they are.
-use Rattle.std.proofs.Common.{◌≡◌, ℕ, zero, suc, ◌+◌, ◌-◌, ◌<◌, ◌≤◌, ◌^◌, Bool, true, false, cond, nat_lt, List, [], ◌∷◌, ◌++◌, length, get_or, take, drop, map, Option, Some, None, Result, Ok, Err, refl, sym, ap, ◌∙◌, subst, append_assoc, arith}
-use Rattle.std.specs.Prelude.{flat_map, ok_or, bytes_eq, if◌then◌else◌, ℤ, pos, negsuc, int_lt}
+use Rattle.std.proofs.Common.{◌≡◌, ℕ, zero, suc, ◌+◌, ◌-◌, ◌<◌, ◌≤◌, ◌^◌, Bool, true, false, cond, nat_lt, List, [], ◌∷◌, ◌++◌, length, get_or, take, drop, map, Option, Some, None, Ok, Err, refl, sym, ap, ◌∙◌, subst, append_assoc, arith}
+use Rattle.std.specs.Prelude.{flat_map, ok_or, bytes_eq, ℤ, pos, negsuc, int_lt}
 use Rattle.std.specs.Ordering.{int_eq}
 use Rattle.std.specs.List.{AllByRecursion}
 use Rattle.std.specs.Int.{w16, w32, to_be_bytes, from_be_bytes, cast_signed}
@@ -9,20 +9,18 @@ use Rattle.std.proofs.lemmas.Bool.{ltb-false, ltb-true}
 use Rattle.std.proofs.lemmas.Slice.Eq.{bytes_eq-Decides}
 use Rattle.std.proofs.lemmas.Nat.{be_bytes_2, be_bytes_4}
 use Rattle.std.proofs.lemmas.List.{take-append-drop, length-take-le}
-use Rattle.std.proofs.lemmas.Int.{ints}
 use Rattle.pgv_types.specs.Ty.{Ty}
 use Rattle.pgv_value.specs.FrameBinary.{Part, IsFrame, front, frame_fault}
 use Rattle.pgv_value.specs.Laws.{AreBytes}
 use Rattle.pgv_value.specs.Steps.{number, signed_two}
 use Rattle.pgv_value.specs.ValueView.{Given}
 use Rattle.pgv_value.specs.declared.error.CodecError.{CodecError}
-use Rattle.pgv_value.specs.declared.error.CodecError.TheVariants.{Short, NegativeLength, FieldCount, Syntax}
+use Rattle.pgv_value.specs.declared.error.CodecError.TheVariants.{Short, NegativeLength, FieldCount}
 use Rattle.pgv_value.specs.declared.value.PgValueFormat.TheVariants.{Binary}
 use Rattle.pgv_value.proofs.Fronts.{front_exactly}
 use Rattle.pgv_copy.specs.CopyBinary.{Read, ◌>>◌, Step, signature, after_signature, after_flags, after_extension, after_count, header, field, fields, before, ended, row_or_end, step}
-use Rattle.pgv_copy.specs.CopyStream.{IsHeader, field_bytes, row_bytes, trailer, IsField, IsRow, IsCopy, Answer, called, call, answers, values, RowsAreOfACopy}
+use Rattle.pgv_copy.specs.CopyStream.{IsHeader, field_bytes, row_bytes, trailer, IsField, IsRow, Answer, called, call, answers, values, RowsAreOfACopy}
 use Rattle.pgv_copy.specs.CopyView.{Copying}
-use Rattle.pgv_copy.proofs.FieldLoop.{Row}
 
 -- ---- steps and tests
 
@@ -136,9 +134,11 @@ extension_is bytes rest h e =
     let le : a.0.0 ≤ length a.0.1 = ltb-false (length a.0.1) a.0.0 enough.0 in
     let len : length (take a.0.0 a.0.1) ≡ a.0.0 = length-take-le a.0.0 a.0.1 le in
     let whole = number_is bytes a.0.1 a.0.0 h (there (number bytes) Short a.0 a.1) in
-    let split : a.0.1 ≡ take a.0.0 a.0.1 ++ rest = sym (take-append-drop a.0.0 a.0.1) ∙ ap (λ (xs : List ℕ). take a.0.0 a.0.1 ++ xs) (ok_is {A = List ℕ} (drop a.0.0 a.0.1) rest enough.1) in
-    (take a.0.0 a.0.1, omega (arith, len),
-    whole ∙ ap (λ (xs : List ℕ). to_be_bytes w32 a.0.0 ++ xs) split ∙ ap (λ (n : ℕ). to_be_bytes w32 n ++ (take a.0.0 a.0.1 ++ rest)) (sym len))
+    let split : a.0.1 ≡ take a.0.0 a.0.1 ++ rest = sym (take-append-drop a.0.0 a.0.1) ∙ ap (λ (xs : List ℕ). take a.0.0 a.0.1 ++ xs) (ok_is {A = List ℕ} (drop a.0.0 a.0.1) rest enough.1) in (
+      take a.0.0 a.0.1,
+      omega (arith, len),
+      whole ∙ ap (λ (xs : List ℕ). to_be_bytes w32 a.0.0 ++ xs) split ∙ ap (λ (n : ℕ). to_be_bytes w32 n ++ (take a.0.0 a.0.1 ++ rest)) (sym len),
+    )
 
 pub header_is : (bytes rest : List ℕ) → AreBytes bytes → header bytes ≡ Ok rest → (head : List ℕ) × IsHeader head × (bytes ≡ head ++ rest)
 header_is bytes rest h e =
@@ -149,9 +149,11 @@ header_is bytes rest h e =
     let flags = flags_are b.0 c.0 h1 b.2 in
     let h2 : AreBytes c.0 = bytes_from (to_be_bytes w32 flags.0) c.0 (subst AreBytes flags.2 h1) in
     let extension = extension_is c.0 rest h2 c.2 in
-    let head : List ℕ = signature ++ (to_be_bytes w32 flags.0 ++ (to_be_bytes w32 (length extension.0) ++ extension.0)) in
-    (head, record { flags = flags.0; extension = extension.0; whole = refl; none_critical = flags.1; length_fits = extension.1 },
-    first ∙ ap (λ (xs : List ℕ). signature ++ xs) flags.2 ∙ ap (λ (xs : List ℕ). signature ++ (to_be_bytes w32 flags.0 ++ xs)) extension.2)
+    let head : List ℕ = signature ++ (to_be_bytes w32 flags.0 ++ (to_be_bytes w32 (length extension.0) ++ extension.0)) in (
+      head,
+      record { flags = flags.0; extension = extension.0; whole = refl; none_critical = flags.1; length_fits = extension.1 },
+      first ∙ ap (λ (xs : List ℕ). signature ++ xs) flags.2 ∙ ap (λ (xs : List ℕ). signature ++ (to_be_bytes w32 flags.0 ++ xs)) extension.2,
+    )
 
 -- ---- rows
 
@@ -247,7 +249,7 @@ fields_are (t ∷ types) bytes rest row h e =
       each = (frame.0, more.each);
       row_is = sym (ap (λ (q : List Given × List ℕ). q.0) p) ∙ ap (λ (q : Given × List ℕ). q.0 ∷ b.0.0) (sym first) ∙ ap (λ (vs : List Given). record { bytes = part; type_info = t; format = Binary } ∷ vs) more.row_is;
       whole = frame.1 ∙ ap (λ (xs : List ℕ). field_bytes part ++ xs) (left ∙ more.whole ∙ ap (λ (xs : List ℕ). flat_map field_bytes more.parts ++ xs) rest_is)
-        ∙ sym (append_assoc (field_bytes part) (flat_map field_bytes more.parts) rest);
+          ∙ sym (append_assoc (field_bytes part) (flat_map field_bytes more.parts) rest);
     }
 
 -- ---- calls
@@ -281,7 +283,7 @@ row_step_from types bytes row next (Some rest) h c e =
       row_is = sym row_is ∙ f.row_is;
       next_is = sym (ap (λ (q : Option (List Given) × Copying). q.1) p);
       whole = count.1 ∙ ap (λ (n : ℕ). to_be_bytes w16 n ++ rest) (sym wide) ∙ ap (λ (xs : List ℕ). to_be_bytes w16 (length f.parts) ++ xs) f.whole
-        ∙ sym (append_assoc (to_be_bytes w16 (length f.parts)) (flat_map field_bytes f.parts) a.0.1);
+          ∙ sym (append_assoc (to_be_bytes w16 (length f.parts)) (flat_map field_bytes f.parts) a.0.1);
       left = bytes_from (flat_map field_bytes f.parts) a.0.1 (subst AreBytes f.whole h1);
     }
 
