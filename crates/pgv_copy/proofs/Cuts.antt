@@ -1,24 +1,24 @@
 -- Streams that are cut off.
-use Rattle.std.proofs.Common.{◌≡◌, ◌⊎◌, ℕ, zero, suc, ◌+◌, ◌<◌, ◌≤◌, ◌^◌, Bool, true, false, nat_lt, nat_eq, List, [], ◌∷◌, ◌++◌, length, take, drop, map, replicate, Option, Some, None, Ok, Err, refl, sym, ap, ◌∙◌, subst, inl, inr, append_assoc, append-nil, lit<, arith}
-use Rattle.std.specs.Prelude.{flat_map, ok_or, bytes_eq}
+use Rattle.std.proofs.Common.{◌≡◌, ◌⊎◌, ℕ, zero, suc, ◌+◌, ◌<◌, ◌≤◌, ◌^◌, true, false, nat_lt, nat_eq, List, [], ◌∷◌, ◌++◌, length, take, replicate, Some, None, Ok, Err, refl, sym, ap, ◌∙◌, subst, inl, inr, append_assoc, append-nil, arith}
+use Rattle.std.specs.Prelude.{flat_map, bytes_eq}
 use Rattle.std.specs.List.{AllByRecursion}
 use Rattle.std.specs.Int.{w16, w32, to_be_bytes}
 use Rattle.std.proofs.lemmas.Bool.{le-ltb, lt-ltb, eq-eqb}
 use Rattle.std.proofs.lemmas.List.{length-append, take_at}
 use Rattle.pgv_types.specs.Ty.{Ty}
-use Rattle.pgv_value.specs.FrameBinary.{Part, IsFrame, front, frame_fault}
+use Rattle.pgv_value.specs.FrameBinary.{Part, IsFrame, front}
 use Rattle.pgv_value.specs.Steps.{number, signed_two}
 use Rattle.pgv_value.specs.ValueView.{Given}
 use Rattle.pgv_value.specs.declared.error.CodecError.{CodecError}
 use Rattle.pgv_value.specs.declared.error.CodecError.TheVariants.{Short}
 use Rattle.pgv_value.specs.declared.value.PgValueFormat.TheVariants.{Binary}
 use Rattle.pgv_value.proofs.Fronts.{frame_in_front, cut_is_short}
-use Rattle.pgv_copy.specs.CopyBinary.{Read, ◌>>◌, Step, signature, after_signature, after_flags, after_extension, after_count, header, fields, before, step}
-use Rattle.pgv_copy.specs.CopyStream.{IsHeader, field_bytes, row_bytes, trailer, IsField, IsRow, IsCopy, Answer, called, answers, values, row_answers, StopsAtTheCut, CutCopyIsShort, CutHeaderIsShort}
+use Rattle.pgv_copy.specs.CopyBinary.{Step, signature, after_signature, after_flags, after_extension, after_count, header, fields, before, step}
+use Rattle.pgv_copy.specs.CopyStream.{IsHeader, field_bytes, row_bytes, trailer, IsField, IsRow, Answer, called, answers, row_answers, StopsAtTheCut, CutCopyIsShort, CutHeaderIsShort}
 use Rattle.pgv_copy.specs.CopyView.{Copying}
 use Rattle.pgv_copy.proofs.FieldLoop.{Row, with_first, field_there, field_missing}
-use Rattle.pgv_copy.proofs.Headers.{number_there, signature_there, flags_there, extension_there, header_there, count_there}
-use Rattle.pgv_copy.proofs.Rows.{framed, row_there, rows_there}
+use Rattle.pgv_copy.proofs.Headers.{number_there, signature_there, flags_there, header_there, count_there}
+use Rattle.pgv_copy.proofs.Rows.{framed, rows_there}
 
 -- ---- where two lists are one, one of the beginnings ends first
 
@@ -38,8 +38,8 @@ ends_first (x ∷ xs) ys [] b e = inl (x ∷ xs, refl, e)
 ends_first (x ∷ xs) ys (c ∷ a) b e =
     let h = same_head x c (xs ++ ys) (a ++ b) e in
     elim (ends_first xs ys a b h.1) as (λ _. EndsLater (x ∷ xs) ys (c ∷ a) b ⊎ EndsEarlier (x ∷ xs) ys (c ∷ a) b) [
-      inl l ↦ inl (l.0, ap (λ (t : List ℕ). x ∷ t) l.1 ∙ ap (λ (d : ℕ). d ∷ (a ++ l.0)) h.0, l.2)
-    | inr r ↦ inr (r.0, ap (λ (t : List ℕ). c ∷ t) r.1 ∙ ap (λ (d : ℕ). d ∷ (xs ++ r.0)) (sym h.0), r.2, r.3)
+      | inl l ↦ inl (l.0, ap (λ (t : List ℕ). x ∷ t) l.1 ∙ ap (λ (d : ℕ). d ∷ (a ++ l.0)) h.0, l.2)
+      | inr r ↦ inr (r.0, ap (λ (t : List ℕ). c ∷ t) r.1 ∙ ap (λ (d : ℕ). d ∷ (xs ++ r.0)) (sym h.0), r.2, r.3)
     ]
 
 -- ---- numbers that are cut off
@@ -114,11 +114,11 @@ fields_cut (t ∷ types) [] bytes m len each e more = absurd (omega (arith, len)
 fields_cut (t ∷ types) (part ∷ row) bytes m len each e more =
     let same : length row ≡ length types = omega (arith, len) in
     elim (ends_first bytes m (field_bytes part) (flat_map field_bytes row) (sym e)) as (λ _. fields (t ∷ types) bytes ≡ Err Short) [
-      inl l ↦
-        let v : Given = record { bytes = part; type_info = t; format = Binary } in
-        let found : front (field_bytes part ++ l.0) ≡ Some (part, l.0) = frame_in_front (field_bytes part ++ l.0) part l.0 (framed part l.0 each.0) in
-        ap (fields (t ∷ types)) l.1 ∙ field_there t types (field_bytes part ++ l.0) v l.0 found refl refl ∙ ap (with_first v) (fields_cut types row l.0 m same each.1 (sym l.2) more)
-    | inr r ↦ field_cut t types part bytes r.0 each.0 r.1 r.2
+      | inl l ↦
+          let v : Given = record { bytes = part; type_info = t; format = Binary } in
+          let found : front (field_bytes part ++ l.0) ≡ Some (part, l.0) = frame_in_front (field_bytes part ++ l.0) part l.0 (framed part l.0 each.0) in
+          ap (fields (t ∷ types)) l.1 ∙ field_there t types (field_bytes part ++ l.0) v l.0 found refl refl ∙ ap (with_first v) (fields_cut types row l.0 m same each.1 (sym l.2) more)
+      | inr r ↦ field_cut t types part bytes r.0 each.0 r.1 r.2
     ]
 
 step_short : (types : List Ty) (bytes : List ℕ) → after_count (length types) bytes ≡ Err Short → step (before types bytes) ≡ Err Short
@@ -133,11 +133,11 @@ row_cut : (types : List Ty) (row : List Part) (bytes m : List ℕ) → IsRow (le
 row_cut types row bytes m h e more =
     let size = to_be_bytes w16 (length row) in
     elim (ends_first bytes m size (flat_map field_bytes row) (sym e)) as (λ _. step (before types bytes) ≡ Err Short) [
-      inl l ↦
-        let counted : after_count (length types) bytes ≡ Ok (Some l.0) =
-        ap (after_count (length types)) l.1 ∙ ap (λ (n : ℕ). after_count (length types) (to_be_bytes w16 n ++ l.0)) h.wide ∙ count_there (length types) l.0 h.width_fits in
-        step_cut types bytes l.0 counted (fields_cut types row l.0 m h.wide h.each (sym l.2) more)
-    | inr r ↦ step_short types bytes (count_cut (length types) bytes (two_short (length row) bytes r.0 r.1 r.2))
+      | inl l ↦
+          let counted : after_count (length types) bytes ≡ Ok (Some l.0) =
+          ap (after_count (length types)) l.1 ∙ ap (λ (n : ℕ). after_count (length types) (to_be_bytes w16 n ++ l.0)) h.wide ∙ count_there (length types) l.0 h.width_fits in
+          step_cut types bytes l.0 counted (fields_cut types row l.0 m h.wide h.each (sym l.2) more)
+      | inr r ↦ step_short types bytes (count_cut (length types) bytes (two_short (length row) bytes r.0 r.1 r.2))
     ]
 
 trailer_cut : (types : List Ty) (bytes m : List ℕ) → trailer ≡ bytes ++ m → 0 < length m → step (before types bytes) ≡ Err Short
@@ -173,8 +173,8 @@ rows_cut : (types : List Ty) (rows : List (List Part)) (bytes m : List ℕ) → 
 rows_cut types [] bytes m each e more = record { count = 0; begun = bytes; within = omega arith; whole = refl; few = refl; each = tt; short = trailer_cut types bytes m e more }
 rows_cut types (row ∷ rows) bytes m each e more =
     elim (ends_first bytes m (row_bytes row) (flat_map row_bytes rows ++ trailer) (sym e ∙ append_assoc (row_bytes row) (flat_map row_bytes rows) trailer)) as (λ _. Cut types bytes (row ∷ rows)) [
-      inl l ↦ one_row_more types bytes l.0 row rows each.0 l.1 (rows_cut types rows l.0 m each.1 (sym l.2) more)
-    | inr r ↦ record { count = 0; begun = bytes; within = omega arith; whole = refl; few = refl; each = tt; short = row_cut types row bytes r.0 each.0 r.1 r.2 }
+      | inl l ↦ one_row_more types bytes l.0 row rows each.0 l.1 (rows_cut types rows l.0 m each.1 (sym l.2) more)
+      | inr r ↦ record { count = 0; begun = bytes; within = omega arith; whole = refl; few = refl; each = tt; short = row_cut types row bytes r.0 each.0 r.1 r.2 }
     ]
 
 stops : (types : List Ty) (rows : List (List Part)) (bytes : List ℕ) (c : Cut types bytes rows) (n : ℕ) → answers (c.count + n) (before types bytes) ≡ row_answers types (take c.count rows) ++ replicate n (Err Short)
@@ -198,21 +198,21 @@ header_cut head bytes m h e more =
     let flags = to_be_bytes w32 h.flags in
     let size = to_be_bytes w32 (length h.extension) in
     elim (ends_first bytes m signature (flags ++ (size ++ h.extension)) (sym e ∙ h.whole)) as (λ _. header bytes ≡ Err Short) [
-      inl a ↦
-        let passed : after_signature bytes ≡ Ok a.0 = ap after_signature a.1 ∙ signature_there a.0 in
-        elim (ends_first a.0 m flags (size ++ h.extension) a.2) as (λ _. header bytes ≡ Err Short) [
-          inl b ↦
-            let flagged : after_flags a.0 ≡ Ok b.0 = ap after_flags b.1 ∙ flags_there h.flags b.0 h.none_critical in
-            elim (ends_first b.0 m size h.extension b.2) as (λ _. header bytes ≡ Err Short) [
-              inl c ↦
-                let len = ap length c.2 in
-                let cut : length c.0 < length h.extension = omega (arith, len, more, length-append c.0 m) in
-                short_in_extension bytes a.0 b.0 passed flagged (ap after_extension c.1 ∙ extension_cut (length h.extension) c.0 cut h.length_fits)
-            | inr c ↦ short_in_extension bytes a.0 b.0 passed flagged (size_cut (length h.extension) b.0 c.0 c.1 c.2)
-            ]
-        | inr b ↦ short_in_flags bytes a.0 passed (flags_cut h.flags a.0 b.0 b.1 b.2)
-        ]
-    | inr a ↦ short_in_signature bytes (signature_cut bytes a.0 a.1 a.2)
+      | inl a ↦
+          let passed : after_signature bytes ≡ Ok a.0 = ap after_signature a.1 ∙ signature_there a.0 in
+          elim (ends_first a.0 m flags (size ++ h.extension) a.2) as (λ _. header bytes ≡ Err Short) [
+            | inl b ↦
+                let flagged : after_flags a.0 ≡ Ok b.0 = ap after_flags b.1 ∙ flags_there h.flags b.0 h.none_critical in
+                elim (ends_first b.0 m size h.extension b.2) as (λ _. header bytes ≡ Err Short) [
+                  | inl c ↦
+                      let len = ap length c.2 in
+                      let cut : length c.0 < length h.extension = omega (arith, len, more, length-append c.0 m) in
+                      short_in_extension bytes a.0 b.0 passed flagged (ap after_extension c.1 ∙ extension_cut (length h.extension) c.0 cut h.length_fits)
+                  | inr c ↦ short_in_extension bytes a.0 b.0 passed flagged (size_cut (length h.extension) b.0 c.0 c.1 c.2)
+                ]
+            | inr b ↦ short_in_flags bytes a.0 passed (flags_cut h.flags a.0 b.0 b.1 b.2)
+          ]
+      | inr a ↦ short_in_signature bytes (signature_cut bytes a.0 a.1 a.2)
     ]
 
 pub cut_header_is_short : CutHeaderIsShort
@@ -223,16 +223,16 @@ cut_copy_is_short types bytes more rows h some =
     let tail = flat_map row_bytes rows ++ (trailer ++ []) in
     let tail_is : tail ≡ flat_map row_bytes rows ++ trailer = refl in
     elim (ends_first bytes more h.head tail h.whole) as (λ _. (header bytes ≡ Err Short) ⊎ StopsAtTheCut types bytes rows) [
-      inl l ↦
-        let c = rows_cut types rows l.0 more h.each (sym (l.2 ∙ tail_is)) some in
-        inr (record {
-          rest = l.0;
-          count = c.count;
-          begun = c.begun;
-          begins = ap header l.1 ∙ header_there h.head l.0 h.begins;
-          within = c.within;
-          whole = c.whole;
-          stops = stops types rows l.0 c;
-        })
-    | inr r ↦ inl (header_cut h.head bytes r.0 h.begins r.1 r.2)
+      | inl l ↦
+          let c = rows_cut types rows l.0 more h.each (sym (l.2 ∙ tail_is)) some in
+          inr (record {
+            rest = l.0;
+            count = c.count;
+            begun = c.begun;
+            begins = ap header l.1 ∙ header_there h.head l.0 h.begins;
+            within = c.within;
+            whole = c.whole;
+            stops = stops types rows l.0 c;
+          })
+      | inr r ↦ inl (header_cut h.head bytes r.0 h.begins r.1 r.2)
     ]

@@ -1,13 +1,13 @@
 -- What stands in front of a stream is found there.
-use Rattle.std.proofs.Common.{◌≡◌, ℕ, zero, suc, ◌<◌, ◌≤◌, ◌^◌, Bool, true, false, nat_lt, nat_eq, List, [], ◌∷◌, ◌++◌, length, take, drop, Option, Some, None, Ok, Err, refl, sym, ap, ◌∙◌, subst, append_assoc, lit<, arith}
-use Rattle.std.specs.Prelude.{ok_or, pos, negsuc, bytes_eq, int_lt}
+use Rattle.std.proofs.Common.{◌≡◌, ℕ, ◌<◌, ◌^◌, true, false, nat_lt, List, ◌∷◌, ◌++◌, length, Some, None, Ok, refl, sym, subst, lit<, arith}
+use Rattle.std.specs.Prelude.{pos}
 use Rattle.std.specs.Ordering.{int_eq}
-use Rattle.std.specs.Int.{w16, w32, to_be_bytes, from_be_bytes, cast_signed}
-use Rattle.std.proofs.lemmas.Bool.{le-ltb, lt-ltb, eq-eqb}
+use Rattle.std.specs.Int.{w16, w32, to_be_bytes, cast_signed}
+use Rattle.std.proofs.lemmas.Bool.{le-ltb, lt-ltb}
 use Rattle.std.proofs.lemmas.Nat.{from_be_bytes-to_be_bytes_2, from_be_bytes-to_be_bytes_4}
-use Rattle.std.proofs.lemmas.List.{take_at, drop_at, length-append}
+use Rattle.std.proofs.lemmas.List.{drop_at, length-append}
 use Rattle.pgv_value.specs.Steps.{number, signed_two}
-use Rattle.pgv_copy.specs.CopyBinary.{Read, ◌>>◌, signature, after_signature, after_flags, after_extension, after_count, header}
+use Rattle.pgv_copy.specs.CopyBinary.{signature, after_signature, after_flags, after_extension, after_count, header}
 use Rattle.pgv_copy.specs.CopyStream.{IsHeader}
 
 pub number_there : (n : ℕ) (rest : List ℕ) → n < 2 ^ 32 → number (to_be_bytes w32 n ++ rest) ≡ Some (n, rest)

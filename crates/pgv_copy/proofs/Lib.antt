@@ -2,3 +2,4 @@ mod FieldLoop
 mod Headers
 mod Rows
 mod Cuts
+mod Streams

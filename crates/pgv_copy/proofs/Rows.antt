@@ -1,6 +1,6 @@
 -- Rows that stand in a stream are found there.
-use Rattle.std.proofs.Common.{◌≡◌, ℕ, zero, suc, ◌+◌, ◌<◌, ◌≤◌, ◌^◌, List, [], ◌∷◌, ◌++◌, length, map, replicate, Option, Some, None, Ok, Err, refl, sym, ap, ◌∙◌, subst, append_assoc, arith}
-use Rattle.std.specs.Prelude.{flat_map, ok_or}
+use Rattle.std.proofs.Common.{◌≡◌, ℕ, zero, suc, ◌+◌, List, [], ◌∷◌, ◌++◌, length, replicate, Option, Some, None, Ok, refl, sym, ap, ◌∙◌, subst, append_assoc, arith}
+use Rattle.std.specs.Prelude.{flat_map}
 use Rattle.std.specs.List.{AllByRecursion}
 use Rattle.std.specs.Int.{w16, w32, to_be_bytes}
 use Rattle.pgv_types.specs.Ty.{Ty}
@@ -8,10 +8,10 @@ use Rattle.pgv_value.specs.FrameBinary.{Part, IsFrame, front}
 use Rattle.pgv_value.specs.ValueView.{Given}
 use Rattle.pgv_value.specs.declared.value.PgValueFormat.TheVariants.{Binary}
 use Rattle.pgv_value.proofs.Fronts.{frame_in_front}
-use Rattle.pgv_copy.specs.CopyBinary.{Read, ◌>>◌, Step, header, after_count, fields, before, ended, row_or_end, step}
-use Rattle.pgv_copy.specs.CopyStream.{IsHeader, field_bytes, row_bytes, trailer, IsField, IsRow, IsCopy, Answer, called, call, answers, values, row_answers, CopyIsItsRows}
+use Rattle.pgv_copy.specs.CopyBinary.{Step, header, after_count, fields, before, ended, step}
+use Rattle.pgv_copy.specs.CopyStream.{field_bytes, row_bytes, trailer, IsField, IsRow, Answer, called, answers, values, row_answers, CopyIsItsRows}
 use Rattle.pgv_copy.specs.CopyView.{Copying}
-use Rattle.pgv_copy.proofs.FieldLoop.{Row, with_first, field_there}
+use Rattle.pgv_copy.proofs.FieldLoop.{with_first, field_there}
 use Rattle.pgv_copy.proofs.Headers.{header_there, count_there, end_there}
 
 -- ---- a row
@@ -90,6 +90,8 @@ rows_there types (row ∷ rows) rest n each =
 
 pub copy_is_its_rows : CopyIsItsRows
 copy_is_its_rows types bytes rows follows h =
-    let rest = flat_map row_bytes rows ++ (trailer ++ follows) in
-    (rest, subst (λ (xs : List ℕ). header xs ≡ Ok rest) (sym h.whole) (header_there h.head rest h.begins),
-    λ n. rows_there types rows (trailer ++ follows) n h.each ∙ ap (λ (xs : List Answer). row_answers types rows ++ xs) (none_from_trailer types follows n))
+    let rest = flat_map row_bytes rows ++ (trailer ++ follows) in (
+      rest,
+      subst (λ (xs : List ℕ). header xs ≡ Ok rest) (sym h.whole) (header_there h.head rest h.begins),
+      λ n. rows_there types rows (trailer ++ follows) n h.each ∙ ap (λ (xs : List Answer). row_answers types rows ++ xs) (none_from_trailer types follows n),
+    )
