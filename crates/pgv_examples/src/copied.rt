@@ -64,7 +64,10 @@ mod tests {
             return Err(CodecError::FieldCount);
         };
         assert_eq!(rt; bolt.id, 1);
-        let name = bolt.name.as_ref().is_some_and(|name| name.as_str() == "bolt");
+        let name = bolt
+            .name
+            .as_ref()
+            .is_some_and(|name| name.as_str() == "bolt");
         assert!(rt; name);
         assert_eq!(rt; bolt.sizes.as_slice(), [3, 4].as_slice());
         assert_eq!(rt; other.id, 2);
