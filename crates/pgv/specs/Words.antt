@@ -19,6 +19,8 @@ pub use Rattle.pgv_value.specs.declared.value.PgValueFormat.{PgValueFormat}
 pub use Rattle.pgv_value.specs.declared.value.PgValueFormat.TheVariants.{Binary, Text}
 pub use Rattle.pgv_value.specs.ScalarGrammar.{scalar, binary_alone, bool_reading, int_reading, oid_reading, uuid_reading, text_reading}
 pub use Rattle.pgv_codec.specs.Saying.{plainly, unwritten, field_written}
+-- a reader of COPY in binary: what its next call answers, and how many bytes are left, which falls with each row
+pub use Rattle.pgv_copy.specs.CopyBinary.{step, bytes_left}
 -- arguments of a statement, and a row of frames
 pub use Rattle.pgv_wire.specs.Arguments.{Argument, Framed, all_tokens, types_in, framed, early, filled_arguments}
 pub use Rattle.pgv_wire.specs.Parts.{ReadAs}

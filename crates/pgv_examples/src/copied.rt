@@ -3,6 +3,7 @@
 
 use pgv::{CodecError, Decode, PgCopyReader, PgType, PgTypeInfo, PgValueRef};
 use std::alloc::{AllocError, Global};
+use std::vec::IntoIter;
 
 /// A row of the table.
 #[derive(Drop)]
@@ -36,14 +37,19 @@ pub fn read_items(alloc: Global, bytes: &[u8]) -> Result<Vec<Item>, CodecError> 
 
 /// The values of a row, which are three.
 pub fn read_item(alloc: Global, row: Vec<PgValueRef<'_>>) -> Result<Item, CodecError> {
-    let Ok([id, name, sizes]) = <[PgValueRef<'_>; 3]>::try_from(row) else {
-        return Err(CodecError::FieldCount);
-    };
-    Ok(Item {
-        id: i32::decode(alloc, id)?,
-        name: Option::decode(alloc, name)?,
-        sizes: Vec::decode(alloc, sizes)?,
-    })
+    let mut values = row.into_iter();
+    let id = i32::decode(alloc, next_of(&mut values)?)?;
+    let name = Option::decode(alloc, next_of(&mut values)?)?;
+    let sizes = Vec::decode(alloc, next_of(&mut values)?)?;
+    Ok(Item { id, name, sizes })
+}
+
+/// The value of the next column.
+fn next_of<'r>(values: &mut IntoIter<PgValueRef<'r>>) -> Result<PgValueRef<'r>, CodecError> {
+    match values.next() {
+        Some(value) => Ok(value),
+        None => Err(CodecError::FieldCount),
+    }
 }
 
 #[cfg(test)]
