@@ -4,6 +4,7 @@
 //! statement's parameters takes it as it is. The module [`laws`] says what lines and inputs are.
 #![tactic(auto)]
 
+mod copied;
 pub mod laws;
 mod line;
 mod runner;
