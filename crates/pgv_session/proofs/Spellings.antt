@@ -27,19 +27,7 @@ added_spelled line text r (Some body) l split h =
     subst (λ (asked : Request). Spells asked line) (same_Some (asks (first_word text) (to_add body)) r h)
     (before_has_none 32 text, l ∙ ap (λ (xs : List ℕ). codes "add " ++ xs) split)
 
-add_copied_spelled : (line text : List ℕ) (r : Request) (decoded : Result (List ℕ) FromHexError) (body : Option (List ℕ)) → line ≡ codes "copy " ++ text → text ≡ joined 32 (first_word text) body →
-    decode_of (first_word text) ≡ decoded → copied (hex_bytes decoded) body ≡ Some r → Spells r line
-copied_spelled line text r (Err e) body l split d h = absurd cc
-copied_spelled line text r (Ok bytes) None l split d h = absurd cc
-copied_spelled line text r (Ok bytes) (Some names) l split d h =
-    subst (λ (asked : Request). Spells asked line) (same_Some (copies bytes (words names)) r h)
-    (first_word text, names, hex_is (first_word text) bytes d, names_are (words names) names refl, l ∙ ap (λ (xs : List ℕ). codes "copy " ++ xs) split)
-
-copy_spelled : (line : List ℕ) (r : Request) (rest : Option (List ℕ)) → line ≡ joined 32 (codes "copy") rest → copy_line rest ≡ Some r → Spells r line
-copy_spelled line r None l h = absurd cc
-copy_spelled line r (Some text) l h = copied_spelled line text r (decode_of (first_word text)) (after_word text) l (whole 32 text) refl h
-
-spelled : (line : List ℕ) (r : Request) (rest : Option (List ℕ)) → line ≡ joined 32 (codes "add") rest → add_line rest ≡ Some r → Spells r line
+add_spelled : (line : List ℕ) (r : Request) (rest : Option (List ℕ)) → line ≡ joined 32 (codes "add") rest → add_line rest ≡ Some r → Spells r line
 add_spelled line r None l h = absurd cc
 add_spelled line r (Some text) l h = added_spelled line text r (after_word text) l (whole 32 text) h
 
@@ -70,6 +58,18 @@ read_spelled_by line text r (Some body) l split h =
 read_spelled : (line : List ℕ) (r : Request) (rest : Option (List ℕ)) → line ≡ joined 32 (codes "read") rest → read_line rest ≡ Some r → Spells r line
 read_spelled line r None l h = absurd cc
 read_spelled line r (Some text) l h = read_spelled_by line text r (after_word text) l (whole 32 text) h
+
+copied_spelled : (line text : List ℕ) (r : Request) (decoded : Result (List ℕ) FromHexError) (body : Option (List ℕ)) → line ≡ codes "copy " ++ text → text ≡ joined 32 (first_word text) body →
+    decode_of (first_word text) ≡ decoded → copied (hex_bytes decoded) body ≡ Some r → Spells r line
+copied_spelled line text r (Err e) body l split d h = absurd cc
+copied_spelled line text r (Ok bytes) None l split d h = absurd cc
+copied_spelled line text r (Ok bytes) (Some names) l split d h =
+    subst (λ (asked : Request). Spells asked line) (same_Some (copies bytes (words names)) r h)
+    (first_word text, names, hex_is (first_word text) bytes d, names_are (words names) names refl, l ∙ ap (λ (xs : List ℕ). codes "copy " ++ xs) split)
+
+copy_spelled : (line : List ℕ) (r : Request) (rest : Option (List ℕ)) → line ≡ joined 32 (codes "copy") rest → copy_line rest ≡ Some r → Spells r line
+copy_spelled line r None l h = absurd cc
+copy_spelled line r (Some text) l h = copied_spelled line text r (decode_of (first_word text)) (after_word text) l (whole 32 text) refl h
 
 spelled : (line : List ℕ) (r : Request) → request line ≡ Some r → Spells r line
 spelled line r h =

@@ -44,7 +44,7 @@ pub enum Told {
 impl Told {
     /// The text of either.
     pub fn into_text(self) -> String
-        ensures { string_bytes result ≡ told_text self.entry }
+        ensures { string_bytes result ≡ told_text self }
     {
         match self {
             Told::Said(text) | Told::Refused(text) => text,
