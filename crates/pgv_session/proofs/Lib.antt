@@ -3,6 +3,7 @@ pub mod Wording
 pub mod Marks
 pub mod OidWords
 pub mod HexTexts
+mod NameTexts
 pub mod Spellings
 pub mod InputLines
 pub mod Feeds
