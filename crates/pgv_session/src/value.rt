@@ -1,6 +1,6 @@
 //! What is asked of a value of a TYPE.
 
-ghost use Rattle.std.specs.Prelude.{◌≡◌, ◌≢◌, Some, None, IfOk, MatchOption, option_map, is_some, string_bytes};
+ghost use Rattle.std.specs.Prelude.{◌≡◌, ◌≢◌, Some, None, IfOk, MatchOption, option_map, is_some, false, string_bytes};
 ghost use Rattle.std.specs.Option.{option_copied};
 ghost use Rattle.hex.specs.Hex.{encode_lower};
 ghost use Rattle.pgv_buf.specs.Tokens.{shown, blank};
@@ -211,7 +211,7 @@ fn read<T: Codec>(alloc: Global, part: Option<&[u8]>) -> Result<Told, AllocError
         PgValueRef::new(part, T::type_info(), PgValueFormat::Binary),
     ) {
         Ok(value) => frame_text(alloc, &value),
-        Err(error) => Ok(Told::Refused(refusal(alloc, &error)?)),
+        Err(error) => told_refusal(alloc, &error),
     }
 }
 
@@ -223,7 +223,7 @@ fn frame_text<T: Encode + Type>(alloc: Global, value: &T) -> Result<Told, AllocE
     let mut buffer = PgArgumentBuffer::new(alloc);
     match buffer.encode(value) {
         Ok(()) => Ok(Told::Said(hex::encode(alloc, buffer.as_slice())?)),
-        Err(error) => Ok(Told::Refused(refusal(alloc, &error)?)),
+        Err(error) => told_refusal(alloc, &error),
     }
 }
 
@@ -238,4 +238,14 @@ pub fn refusal(alloc: Global, error: &CodecError) -> Result<String, AllocError>
     }
     let number = error.code();
     format!(in alloc; "refused C{number}")
+}
+
+/// The same, as what is told of a value.
+fn told_refusal(alloc: Global, error: &CodecError) -> Result<Told, AllocError>
+    ensures refused { IfOk result (λ told. IsRefusal (told_text told)) }
+    ensures told { IfOk result (λ _. error.now ≢ Memory) }
+    ensures number { IfOk result (λ told. told_text told ≡ refused (code_of error.now)) }
+    ensures none { IfOk result (λ told. is_said told ≡ false) }
+{
+    Ok(Told::Refused(refusal(alloc, error)?))
 }
