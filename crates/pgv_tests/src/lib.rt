@@ -6,7 +6,7 @@
 //! - [`arguments`], [`buffers`]: what is in arguments and buffers after calls, with values of a caller's own types (`own`).
 //! - [`made`]: values that are made, taken apart, copied and printed.
 //! - [`texts`], [`types`], [`values`], [`tokens`]: the calls of the lower crates.
-//! - [`records`]: records of a server. [`faults`]: readers and writers that fail.
+//! - [`records`]: records of a server. [`streams`]: streams of COPY. [`faults`]: readers and writers that fail.
 #![tactic(auto)]
 
 #[cfg(test)]
@@ -29,6 +29,8 @@ mod records;
 mod server;
 #[cfg(test)]
 mod shown;
+#[cfg(test)]
+mod streams;
 #[cfg(test)]
 mod texts;
 #[cfg(test)]
