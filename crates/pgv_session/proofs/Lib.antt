@@ -4,6 +4,7 @@ pub mod Marks
 pub mod OidWords
 pub mod HexTexts
 mod NameTexts
+pub mod CopySteps
 pub mod Spellings
 pub mod InputLines
 pub mod Feeds

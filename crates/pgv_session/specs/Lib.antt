@@ -6,3 +6,4 @@ pub mod Session
 pub mod Types
 pub mod Faults
 pub mod ToldView
+pub mod CopiedView

@@ -1,9 +1,10 @@
 //! The rows of a COPY stream, as the program answers them.
 
-ghost use Rattle.std.specs.Prelude.{◌≡◌, ◌++◌, [], ◌∷◌, Some, None, IfOk, codes, length, map, option_map, string_bytes, zip};
+ghost use Rattle.std.specs.Prelude.{◌≡◌, ◌++◌, Some, IfOk, OnOk, codes, map, string_bytes};
 ghost use Rattle.pgv_copy.specs.CopyBinary.{header};
+ghost use Rattle.pgv_session.specs.CopiedView.{TypesFrom, ShowsField, FieldsFrom, ShowsRow, CopiesIn};
 ghost use Rattle.pgv_session.specs.Lines.{words};
-ghost use Rattle.pgv_session.specs.Session.{Copies, CopiesFrom, rows_named, row_shown, field_shown, IsRefusal};
+ghost use Rattle.pgv_session.specs.Session.{Copies, all_with, more_after, rows_named, rows_told};
 ghost use Rattle.pgv_session.specs.Types.{row_named, types};
 
 use crate::line::{Ask, split_word};
@@ -14,21 +15,16 @@ use pgv_value::PgValueRef;
 use pgv_wire::PgArguments;
 use std::alloc::{AllocError, Global};
 
-/// The rows of a stream whose columns have the TYPEs of these names, or the first refusal alone. The arguments stay as they were.
-pub fn copied(
-    alloc: Global,
-    arguments: &mut PgArguments,
-    bytes: &[u8],
-    names: &[u8],
-) -> Result<String, AllocError>
-    ensures answer { IfOk result (λ text. Copies (rows_named (words names.now)) bytes.now (string_bytes text)) }
-    ensures same { IfOk result (λ _. arguments.new ≡ arguments.old) }
+/// The rows of a stream whose columns have the TYPEs of these names, or the first refusal alone.
+pub fn copied(alloc: Global, bytes: &[u8], names: &[u8]) -> Result<String, AllocError>
+    ensures { IfOk result (λ text. Copies (rows_named (words names.now)) bytes.now (string_bytes text)) }
 {
     let names = names_in(alloc, names)?;
-    match types_of(alloc, names.as_slice())? {
-        Some(types) => rows(alloc, arguments, bytes, names.as_slice(), types),
-        None => String::from_str(alloc, "refused line"),
+    let mut types = Vec::new(alloc);
+    if !push_types(names.as_slice(), &mut types)? {
+        return String::from_str(alloc, "refused line");
     }
+    rows(alloc, bytes, names.as_slice(), types)
 }
 
 /// The words of a text.
@@ -45,83 +41,115 @@ fn names_in<'a>(alloc: Global, text: &'a [u8]) -> Result<Vec<&'a [u8]>, AllocErr
     Ok(names)
 }
 
-/// The types of the TYPEs of these names, if each has one.
-fn types_of(alloc: Global, names: &[&[u8]]) -> Result<Option<Vec<PgTypeInfo>>, AllocError>
-    ensures { IfOk result (λ found. option_map (λ types. types.items) found ≡ option_map (map (λ row. row.info)) (rows_named (map (λ name. name.now) names.now))) }
+/// Appends the types of the TYPEs of these names; whether each has one.
+fn push_types(names: &[&[u8]], types: &mut Vec<PgTypeInfo>) -> Result<bool, AllocError>
+    ensures { IfOk result (λ known. TypesFrom (rows_named (map (λ name. name.now) names.now)) known types.old.items types.new.items) }
 {
-    let mut types = Vec::with_capacity(alloc, names.len())?;
-    for name in names {
-        let Some(type_info) = type_named(*name) else {
-            return Ok(None);
-        };
-        types.push(type_info)?;
+    match names {
+        [] => Ok(true),
+        [name, names @ ..] => {
+            let Some(type_info) = type_named(*name) else {
+                return Ok(false);
+            };
+            types.push(type_info)?;
+            push_types(names, types)
+        }
     }
-    Ok(Some(types))
 }
 
+/// The rows of a stream of columns of these types, or the first refusal alone.
 fn rows(
     alloc: Global,
-    arguments: &mut PgArguments,
     bytes: &[u8],
     names: &[&[u8]],
     types: Vec<PgTypeInfo>,
-) -> Result<String, AllocError> {
+) -> Result<String, AllocError>
+    ensures { IfOk result (λ answer. CopiesIn (rows_named (map (λ name. name.now) names.now)) types.items (header bytes.now) (string_bytes answer)) }
+{
     let mut reader = match PgCopyReader::new(bytes, types) {
         Ok(reader) => reader,
         Err(error) => return refusal(alloc, &error),
     };
-    let mut text = String::new(alloc);
-    let mut between = "";
-    loop {
+    let mut texts = Vec::new(alloc);
+    for _ in 0..u64::MAX {
         let row = match reader.next_row() {
             Ok(Some(row)) => row,
-            Ok(None) => break,
+            Ok(None) => return all_rows(alloc, texts.as_slice()),
             Err(error) => return refusal(alloc, &error),
         };
-        text.push_str(between)?;
-        between = " / ";
-        if let Some(refused) = push_row(alloc, arguments, &mut text, names, row.as_slice())? {
-            return Ok(refused);
+        match row_text(alloc, names, row.as_slice())? {
+            Told::Said(text) => texts.push(text)?,
+            Told::Refused(text) => return Ok(text),
         }
     }
-    if between.is_empty() {
-        return String::from_str(alloc, "none");
-    }
-    Ok(text)
+    Err(AllocError)
 }
 
-/// Appends the fields of a row with one space between each two, or gives the refusal of the first that is not read.
-fn push_row(
+/// The texts of all rows, or `none`.
+fn all_rows(alloc: Global, texts: &[String]) -> Result<String, AllocError>
+    ensures { IfOk result (λ answer. string_bytes answer ≡ rows_told (map (λ text. string_bytes text) texts.now)) }
+{
+    if texts.is_empty() {
+        return String::from_str(alloc, "none");
+    }
+    joined(alloc, texts, " / ")
+}
+
+/// The fields of a row, or the refusal of the first that is not read.
+fn row_text(alloc: Global, names: &[&[u8]], row: &[PgValueRef<'_>]) -> Result<Told, AllocError>
+    ensures { IfOk result (ShowsRow (rows_named (map (λ name. name.now) names.now)) row.now) }
+{
+    let mut texts = Vec::new(alloc);
+    match push_fields(alloc, names, row, &mut texts)? {
+        None => Ok(Told::Said(joined(alloc, texts.as_slice(), " ")?)),
+        Some(text) => Ok(Told::Refused(text)),
+    }
+}
+
+/// Appends the texts of fields; or gives the refusal of the first that is not read.
+fn push_fields(
     alloc: Global,
-    arguments: &mut PgArguments,
-    text: &mut String,
     names: &[&[u8]],
     row: &[PgValueRef<'_>],
-) -> Result<Option<String>, AllocError> {
-    for (place, value) in row.iter().enumerate() {
-        let Some(name) = names.get(place) else {
-            return Ok(None);
-        };
-        if place > 0 {
-            text.push(' ')?;
-        }
-        match field(alloc, arguments, *name, value)? {
-            Told::Said(field) => text.push_str(field.as_str())?,
-            Told::Refused(refused) => return Ok(Some(refused)),
-        }
+    texts: &mut Vec<String>,
+) -> Result<Option<String>, AllocError>
+    ensures { IfOk result (λ refused. FieldsFrom (rows_named (map (λ name. name.now) names.now)) row.now refused (map (λ text. string_bytes text) texts.old.items) (map (λ text. string_bytes text) texts.new.items)) }
+{
+    let [name, names @ ..] = names else {
+        return Ok(None);
+    };
+    let [value, row @ ..] = row else {
+        return Ok(None);
+    };
+    match field(alloc, *name, value)? {
+        Told::Said(text) => texts.push(text)?,
+        Told::Refused(text) => return Ok(Some(text)),
     }
-    Ok(None)
+    push_fields(alloc, names, row, texts)
 }
 
 /// A field: null as `null`, and bytes as `read` shows them.
-fn field(
-    alloc: Global,
-    arguments: &mut PgArguments,
-    name: &[u8],
-    value: &PgValueRef<'_>,
-) -> Result<Told, AllocError> {
+fn field(alloc: Global, name: &[u8], value: &PgValueRef<'_>) -> Result<Told, AllocError>
+    ensures { IfOk result (ShowsField (row_named types name.now) value.now.bytes) }
+{
     match value.as_bytes() {
-        Ok(bytes) => respond_by(alloc, arguments, name, Ask::Show(bytes)),
+        Ok(bytes) => respond_by(alloc, &mut PgArguments::new(alloc), name, Ask::Show(bytes)),
         Err(_) => Ok(Told::Said(String::from_str(alloc, "null")?)),
     }
+}
+
+/// Texts with this between each two.
+fn joined(alloc: Global, texts: &[String], between: &str) -> Result<String, AllocError>
+    ensures { IfOk result (λ text. string_bytes text ≡ all_with between.now (map (λ text. string_bytes text) texts.now)) }
+{
+    let mut joined = String::new(alloc);
+    let Some((first, rest)) = texts.split_first() else {
+        return Ok(joined);
+    };
+    joined.push_str(first.as_str())?;
+    for text in rest {
+        joined.push_str(between)?;
+        joined.push_str(text.as_str())?;
+    }
+    Ok(joined)
 }

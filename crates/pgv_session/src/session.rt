@@ -39,7 +39,7 @@ fn respond_to(
         Request::Of(name, ask) => Ok(respond_by(alloc, arguments, name, ask)?.into_text()),
         Request::Holes => names(alloc, arguments.hole_types()),
         Request::Resolve(oids) => resolve(alloc, arguments, oids.as_slice()),
-        Request::Copy(bytes, names) => copied(alloc, arguments, bytes.as_slice(), names),
+        Request::Copy(bytes, names) => copied(alloc, bytes.as_slice(), names),
         Request::Wire => hex::encode(alloc, arguments.buffer().as_slice()),
     }
 }
