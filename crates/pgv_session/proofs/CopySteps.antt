@@ -21,7 +21,7 @@ use Rattle.pgv_session.specs.Lines.{before as before_mark, rest_after, words, wi
 use Rattle.pgv_session.specs.Session.{State, RespondsBy, field_shown, fields_shown, row_shown, all_with, rows_named, rows_told, Yields, EndsWith, CopiesFrom, Copies, Reads, refused, IsRefusal}
 use Rattle.pgv_session.specs.Spelled.{to_read}
 use Rattle.pgv_session.specs.ToldView.{told_text, TellsOf}
-use Rattle.pgv_session.specs.Types.{Row}
+use Rattle.pgv_session.specs.Types.{Row, types, row_named}
 use Rattle.pgv_session.specs.declared.value.Told.{Told}
 use Rattle.pgv_session.specs.declared.value.Told.TheVariants.{Said, Refused}
 use Rattle.pgv_session.proofs.Wording.{words_after, words_split}
@@ -51,10 +51,18 @@ pub types_none : (a : Option Row) (w : Option (List Row)) (was now : List Ty) �
 types_none None w was now e = tt
 types_none (Some row) w was now e = absurd cc
 
+pub types_step : (ns : List (List ℕ)) (n : List ℕ) (ns' : List (List ℕ)) (t : Ty) (was mid now : List Ty) (r : Result Bool AllocError) → ns ≡ n ∷ ns' → Some t ≡ option_map (λ row. row.info) (row_named types n) → mid ≡ was ++ t ∷ [] →
+    IfOk r (λ known. TypesFrom (rows_named ns') known mid now) → IfOk r (λ known. TypesFrom (rows_named ns) known was now)
+types_step ns n ns' t was mid now (Err x) e f m h = tt
+types_step ns n ns' t was mid now (Ok known) e f m h = subst (λ (l : List (List ℕ)). TypesFrom (rows_named l) known was now) (sym e) (types_more (row_named types n) (rows_named ns') t known was mid now f m h)
+
+pub types_stop : (ns : List (List ℕ)) (n : List ℕ) (ns' : List (List ℕ)) (was now : List Ty) → ns ≡ n ∷ ns' → None ≡ option_map (λ row. row.info) (row_named types n) → TypesFrom (rows_named ns) false was now
+types_stop ns n ns' was now e f = subst (λ (l : List (List ℕ)). TypesFrom (rows_named l) false was now) (sym e) (types_none (row_named types n) (rows_named ns') was now f)
+
 -- ---- fields
 
 read_said : (f : Option Framed) (bytes : List ℕ) (text : Text) → Reads f (Some bytes) (string_bytes text) → IsSome f → option_map (λ g. encode_lower (shown (blank g.1))) f ≡ Some (string_bytes text)
-read_said None bytes text h s = absurd s
+read_said None bytes text h s = absurd cc
 read_said (Some g) bytes text h s = ap (λ (t : List ℕ). Some t) (sym h)
 
 read_refused : (f : Option Framed) (bytes answer : List ℕ) → Reads f (Some bytes) answer → f ≡ None → (option_map (λ g. encode_lower (shown (blank g.1))) f ≡ None) × IsRefusal answer
@@ -84,7 +92,20 @@ fields_refused None w v row text was now f = tt
 fields_refused (Some r) None v row text was now f = tt
 fields_refused (Some r) (Some columns) v row text was now f = (rw f.0 refl, f.1)
 
-zip_nothing : (columns : List Row) → zip columns {B = Given} [] ≡ []
+pub fields_step : (ns : List (List ℕ)) (n : List ℕ) (ns' : List (List ℕ)) (vs : List Given) (v : Given) (vs' : List Given) (text : Text) (was mid now : List (List ℕ)) (r : Result (Option Text) AllocError) → ns ≡ n ∷ ns' → vs ≡ v ∷ vs' →
+    ShowsField (row_named types n) v.bytes (Said text) → mid ≡ was ++ string_bytes text ∷ [] → IfOk r (λ refused. FieldsFrom (rows_named ns') vs' refused mid now) → IfOk r (λ refused. FieldsFrom (rows_named ns) vs refused was now)
+fields_step ns n ns' vs v vs' text was mid now (Err x) e f s m h = tt
+fields_step ns n ns' vs v vs' text was mid now (Ok refused) e f s m h =
+    subst (λ (l : List (List ℕ)). FieldsFrom (rows_named l) vs refused was now) (sym e)
+    (subst (λ (l : List Given). FieldsFrom (rows_named (n ∷ ns')) l refused was now) (sym f) (fields_more (row_named types n) (rows_named ns') v vs' text refused was mid now s m h))
+
+pub fields_stop : (ns : List (List ℕ)) (n : List ℕ) (ns' : List (List ℕ)) (vs : List Given) (v : Given) (vs' : List Given) (text : Text) (was now : List (List ℕ)) → ns ≡ n ∷ ns' → vs ≡ v ∷ vs' →
+    ShowsField (row_named types n) v.bytes (Refused text) → FieldsFrom (rows_named ns) vs (Some text) was now
+fields_stop ns n ns' vs v vs' text was now e f s =
+    subst (λ (l : List (List ℕ)). FieldsFrom (rows_named l) vs (Some text) was now) (sym e)
+    (subst (λ (l : List Given). FieldsFrom (rows_named (n ∷ ns')) l (Some text) was now) (sym f) (fields_refused (row_named types n) (rows_named ns') v vs' text was now s))
+
+zip_nothing : (columns : List Row) → ◌≡◌ {A = List (Row × Given)} (zip columns []) []
 zip_nothing [] = refl
 zip_nothing (c ∷ cs) = refl
 

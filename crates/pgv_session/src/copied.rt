@@ -45,16 +45,14 @@ fn names_in<'a>(alloc: Global, text: &'a [u8]) -> Result<Vec<&'a [u8]>, AllocErr
 fn push_types(names: &[&[u8]], types: &mut Vec<PgTypeInfo>) -> Result<bool, AllocError>
     ensures { IfOk result (λ known. TypesFrom (rows_named (map (λ name. name.now) names.now)) known types.old.items types.new.items) }
 {
-    match names {
-        [] => Ok(true),
-        [name, names @ ..] => {
-            let Some(type_info) = type_named(*name) else {
-                return Ok(false);
-            };
-            types.push(type_info)?;
-            push_types(names, types)
-        }
-    }
+    let Some((name, names)) = names.split_first() else {
+        return Ok(true);
+    };
+    let Some(type_info) = type_named(*name) else {
+        return Ok(false);
+    };
+    types.push(type_info)?;
+    push_types(names, types)
 }
 
 /// The rows of a stream of columns of these types, or the first refusal alone.
@@ -115,10 +113,10 @@ fn push_fields(
 ) -> Result<Option<String>, AllocError>
     ensures { IfOk result (λ refused. FieldsFrom (rows_named (map (λ name. name.now) names.now)) row.now refused (map (λ text. string_bytes text) texts.old.items) (map (λ text. string_bytes text) texts.new.items)) }
 {
-    let [name, names @ ..] = names else {
+    let Some((name, names)) = names.split_first() else {
         return Ok(None);
     };
-    let [value, row @ ..] = row else {
+    let Some((value, row)) = row.split_first() else {
         return Ok(None);
     };
     match field(alloc, *name, value)? {
