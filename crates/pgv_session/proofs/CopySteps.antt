@@ -1,5 +1,5 @@
 -- The steps of the line `copy`.
-use Rattle.std.proofs.Common.{◌≡◌, ◌≢◌, ◌++◌, ◌∙◌, sym, ap, subst, ℕ, List, [], ◌∷◌, refl, Option, Some, None, append_assoc, append-nil}
+use Rattle.std.proofs.Common.{◌≡◌, ◌≢◌, ◌++◌, ◌∙◌, sym, ap, subst, ℕ, List, [], ◌∷◌, refl, Option, Some, None, append_assoc, append-nil, length, arith}
 use Rattle.std.specs.Prelude.{codes, option_map, map, zip, string_bytes, Bool, true, false, Result, Ok, Err, IfOk, IsSome, ⊤}
 use Rattle.std.specs.declared.alloc.AllocError.{AllocError}
 use Rattle.hex.specs.Hex.{encode_lower}
@@ -112,6 +112,10 @@ zip_nothing (c ∷ cs) = refl
 pub no_fields : (w : Option (List Row)) (was : List (List ℕ)) → FieldsFrom w [] None was was
 no_fields None was = tt
 no_fields (Some columns) was = ([], ap fields_shown (zip_nothing columns), sym (append-nil was))
+
+pub no_more_fields : (w : Option (List Row)) (vs : List Given) (was : List (List ℕ)) → length vs ≡ 0 → FieldsFrom w vs None was was
+no_more_fields w [] was e = no_fields w was
+no_more_fields w (v ∷ vs) was e = absurd (omega (arith, e))
 
 pub row_said : (w : Option (List Row)) (row : List Given) (texts : List (List ℕ)) (text : Text) → FieldsFrom w row None [] texts → string_bytes text ≡ all_with (codes " ") texts → ShowsRow w row (Said text)
 row_said None row texts text h t = tt
