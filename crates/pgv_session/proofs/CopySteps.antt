@@ -1,6 +1,6 @@
 -- The steps of the line `copy`.
 use Rattle.std.proofs.Common.{◌≡◌, ◌≢◌, ◌++◌, ◌∙◌, sym, ap, subst, ℕ, List, [], ◌∷◌, refl, Option, Some, None, append_assoc, append-nil, length, arith}
-use Rattle.std.specs.Prelude.{codes, option_map, map, zip, string_bytes, Bool, true, false, Result, Ok, Err, IfOk, IsSome, ⊤}
+use Rattle.std.specs.Prelude.{codes, option_map, zip, string_bytes, Bool, true, false, Result, Ok, Err, IfOk, IsSome}
 use Rattle.std.specs.declared.alloc.AllocError.{AllocError}
 use Rattle.hex.specs.Hex.{encode_lower}
 use Rattle.pgv_buf.specs.Tokens.{shown, blank}
@@ -18,7 +18,7 @@ use Rattle.pgv_copy.specs.CopyBinary.{Read, Step, header, before, step}
 use Rattle.pgv_copy.specs.CopyView.{Copying}
 use Rattle.pgv_session.specs.CopiedView.{infos, TypesFrom, ShowsField, FieldsFrom, ShowsRow, CopiesIn, YieldsIn}
 use Rattle.pgv_session.specs.Lines.{before as before_mark, rest_after, words, with_first}
-use Rattle.pgv_session.specs.Session.{State, RespondsBy, field_shown, fields_shown, row_shown, all_with, rows_named, rows_told, Yields, EndsWith, CopiesFrom, Copies, Reads, refused, IsRefusal}
+use Rattle.pgv_session.specs.Session.{State, RespondsBy, fields_shown, row_shown, all_with, rows_named, rows_told, Yields, EndsWith, CopiesFrom, Copies, Reads, refused, IsRefusal}
 use Rattle.pgv_session.specs.Spelled.{to_read}
 use Rattle.pgv_session.specs.ToldView.{told_text, TellsOf}
 use Rattle.pgv_session.specs.Types.{Row, types, row_named}

@@ -1,6 +1,6 @@
 -- A refusal that is not out of memory.
-use Rattle.std.proofs.Common.{◌≡◌, ◌≢◌, ◌==◌, length, [], ◌∷◌, true, false, arith, ◌⊎◌, inl, inr, ◌∙◌, sym, ap, subst, List, ℕ, refl}
-use Rattle.std.specs.Prelude.{Option, Some, None, option_map, Result, Ok, Err, IfOk, MatchOption, string_bytes}
+use Rattle.std.proofs.Common.{◌≡◌, ◌≢◌, ◌==◌, true, false, arith, inl, inr, ◌∙◌, sym, ap, subst, List, ℕ}
+use Rattle.std.specs.Prelude.{Option, None, option_map, Result, Ok, Err, IfOk, string_bytes}
 use Rattle.std.specs.declared.string.String.{String}
 use Rattle.std.specs.declared.alloc.AllocError.{AllocError}
 use Rattle.std.specs.declared.alloc.Global.{Global}
@@ -11,10 +11,10 @@ use Rattle.pgv_types.specs.declared.oid.Oid.{Oid}
 use Rattle.pgv_buf.specs.Tokens.{Token}
 use Rattle.pgv_value.specs.Codes.{code_of}
 use Rattle.pgv_value.specs.declared.error.CodecError.{CodecError}
-use Rattle.pgv_value.specs.declared.error.CodecError.TheVariants.{Memory, HoleCount, UnexpectedNull}
+use Rattle.pgv_value.specs.declared.error.CodecError.TheVariants.{Memory, HoleCount}
 use Rattle.pgv_wire.specs.Arguments.{Framed}
 use Rattle.pgv_codec.specs.Outcome.{Refused}
-use Rattle.pgv_session.specs.Session.{State, Adds, Reads, Resolves, refused, IsRefusal}
+use Rattle.pgv_session.specs.Session.{State, Adds, Resolves, refused, IsRefusal}
 
 abbrev pub Text : Type 0
 Text = String Global

@@ -1,5 +1,5 @@
 -- What contracts see of the steps of the line `copy`.
-use Rattle.std.specs.Prelude.{◌≡◌, ℕ, Bool, true, false, List, [], ◌∷◌, ◌++◌, map, zip, Option, Some, None, string_bytes, ⊤}
+use Rattle.std.specs.Prelude.{◌≡◌, ℕ, Bool, true, false, List, ◌++◌, map, zip, Option, Some, None, string_bytes, ⊤}
 use Rattle.std.specs.declared.string.String.{String}
 use Rattle.std.specs.declared.alloc.Global.{Global}
 use Rattle.pgv_types.specs.Ty.{Ty}

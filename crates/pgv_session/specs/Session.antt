@@ -1,5 +1,5 @@
 -- A session of the program: what each line does to the arguments, and what it answers.
-use Rattle.std.specs.Prelude.{◌≡◌, ◌≢◌, ℕ, ◌≤◌, ◌==◌, Bool, true, false, codes, decimal, List, [], ◌∷◌, ◌++◌, map, length, Option, Some, None, option_map, Result, Ok, Err, zip, if◌then◌else◌}
+use Rattle.std.specs.Prelude.{◌≡◌, ◌≢◌, ℕ, ◌≤◌, ◌==◌, Bool, true, false, codes, decimal, List, [], ◌∷◌, ◌++◌, map, length, Option, Some, None, option_map, Ok, Err, zip, if◌then◌else◌}
 use Rattle.std.specs.List.{AllByRecursion}
 use Rattle.hex.specs.Hex.{encode_lower}
 use Rattle.pgv_types.specs.Ty.{Ty}
@@ -8,7 +8,6 @@ use Rattle.pgv_types.specs.declared.oid.Oid.{Oid}
 use Rattle.pgv_buf.specs.Tokens.{bytes, be4, blank, shown, hole_count, hole_types_of}
 use Rattle.pgv_value.specs.Codes.{code_of}
 use Rattle.pgv_value.specs.ValueView.{Given}
-use Rattle.pgv_value.specs.declared.error.CodecError.{CodecError}
 use Rattle.pgv_copy.specs.CopyBinary.{Read, Step, header, before, step}
 use Rattle.pgv_copy.specs.CopyView.{Copying}
 use Rattle.pgv_value.specs.declared.value.PgValueFormat.TheVariants.{Text as InText, Binary as InBinary}

@@ -1,7 +1,7 @@
 -- What is told of a value: a text, or why it is refused.
 use Rattle.std.specs.Prelude.{◌≡◌, ℕ, Bool, true, false, List, Option, Some, None, IsSome, string_bytes, ⊤}
 use Rattle.pgv_value.specs.declared.value.PgValueFormat.TheVariants.{Binary}
-use Rattle.pgv_session.specs.Spelled.{Ask, to_add, to_add_null, to_read}
+use Rattle.pgv_session.specs.Spelled.{Ask, to_read}
 use Rattle.pgv_session.specs.Types.{Row}
 use Rattle.pgv_session.specs.declared.value.Told.{Told}
 use Rattle.pgv_session.specs.declared.value.Told.TheVariants.{Said, Refused}

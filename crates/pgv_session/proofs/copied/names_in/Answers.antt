@@ -12,4 +12,4 @@ loop-left-smaller c = less_left c.in-Some.text.now (option_copied c.loop-left.le
 pub loop-left-preserved : goal.loop-left-preserved
 loop-left-preserved c =
     name_more (map (λ name. name.now) c.loop-left.names.items) (map (λ name. name.now) c.push.new.self.items) c.split_word.result.0.now c.in-Some.text.now c.args.text.now (option_copied c.split_word.result.1)
-        (ap (map (λ name. name.now)) c.in_ok-push.ensures.items ∙ map-append (λ name. name.now) _ _) c.split_word.ensures.rest c.split_word.ensures.word (search rules)
+    (ap (map (λ name. name.now)) c.in_ok-push.ensures.items ∙ map-append (λ name. name.now) _ _) c.split_word.ensures.rest c.split_word.ensures.word (search rules)
