@@ -8,7 +8,7 @@ use Rattle.hex.specs.declared.error.FromHexError.{FromHexError}
 use Rattle.hex.proofs.Pairs.{cons_byte, decode_pairs-ok_pair}
 use Rattle.hex.proofs.HexLemmas.{decode_of-ok, decode_of-even}
 use Rattle.pgv_session.specs.Lines.{hex_bytes, given_bytes}
-use Rattle.pgv_session.specs.Spelled.{IsHexDigit, SpellsBytes, SpellsPart}
+use Rattle.pgv_session.specs.Spelled.{IsHexDigit, IsName, SpellsBytes, SpellsPart}
 use Rattle.pgv_session.proofs.Marks.{word_or}
 
 digit_value_is : (c v : ℕ) → hex_digit_value c ≡ Some v → IsHexDigit c v
@@ -83,6 +83,22 @@ null_is_none [] s = cc
 null_is_none (byte ∷ bytes) s =
     let first : s.0 ≡ 110 = cc (s.9) in
     no_digit s.2 (subst (λ (c : ℕ). IsHexDigit c s.2) first s.5)
+
+pub hex_is : (text bytes : List ℕ) → decode_of text ≡ Ok bytes → SpellsBytes bytes text
+hex_is text bytes e = pairs_are 0 text bytes (sym (decode_of-even text (decode_of-ok text bytes e).0) ∙ e)
+
+pub hex_given : (text bytes : List ℕ) → SpellsBytes bytes text → decode_of text ≡ Ok bytes
+hex_given text bytes s =
+    let even : length text % 2 ≡ 0 = omega (arith, two_a_byte bytes text s) in
+    decode_of-even text even ∙ pairs_read 0 bytes text s
+
+no_space : (c v : ℕ) → IsHexDigit c v → c ≡ 32 → ⊥
+no_space c v h e = omega (arith, h, e)
+
+-- hex has no space
+pub hex_is_name : (bytes text : List ℕ) → SpellsBytes bytes text → IsName text
+hex_is_name [] text s = subst IsName (sym s) tt
+hex_is_name (byte ∷ bytes) text s = subst IsName (sym s.9) (no_space s.0 s.2 s.5, (no_space s.1 s.3 s.6, hex_is_name bytes s.4 s.8))
 
 decoded_part : (text : List ℕ) (part : Option (List ℕ)) (decoded : Result (List ℕ) FromHexError) → decode_of text ≡ decoded → option_map (λ bytes. Some bytes) (hex_bytes decoded) ≡ Some part → SpellsPart part text
 decoded_part text part (Ok bytes) e h =

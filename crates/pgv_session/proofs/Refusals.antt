@@ -1,6 +1,6 @@
 -- A refusal that is not out of memory.
-use Rattle.std.proofs.Common.{◌≡◌, ◌≢◌, ◌==◌, length, [], ◌∷◌, true, false, arith, ◌⊎◌, inl, inr, ◌∙◌, sym, ap, subst, List, ℕ, refl}
-use Rattle.std.specs.Prelude.{Option, Some, None, option_map, Result, Ok, Err, IfOk, MatchOption, string_bytes}
+use Rattle.std.proofs.Common.{◌≡◌, ◌≢◌, ◌==◌, true, false, arith, inl, inr, ◌∙◌, sym, ap, subst, List, ℕ}
+use Rattle.std.specs.Prelude.{Option, None, option_map, Result, Ok, Err, IfOk, string_bytes}
 use Rattle.std.specs.declared.string.String.{String}
 use Rattle.std.specs.declared.alloc.AllocError.{AllocError}
 use Rattle.std.specs.declared.alloc.Global.{Global}
@@ -11,10 +11,10 @@ use Rattle.pgv_types.specs.declared.oid.Oid.{Oid}
 use Rattle.pgv_buf.specs.Tokens.{Token}
 use Rattle.pgv_value.specs.Codes.{code_of}
 use Rattle.pgv_value.specs.declared.error.CodecError.{CodecError}
-use Rattle.pgv_value.specs.declared.error.CodecError.TheVariants.{Memory, HoleCount, UnexpectedNull}
+use Rattle.pgv_value.specs.declared.error.CodecError.TheVariants.{Memory, HoleCount}
 use Rattle.pgv_wire.specs.Arguments.{Framed}
 use Rattle.pgv_codec.specs.Outcome.{Refused}
-use Rattle.pgv_session.specs.Session.{State, Adds, Reads, Resolves, refused, IsRefusal}
+use Rattle.pgv_session.specs.Session.{State, Adds, Resolves, refused, IsRefusal}
 
 abbrev pub Text : Type 0
 Text = String Global
@@ -32,13 +32,6 @@ pub not_added : (t : Ty) (f : Option (List Token)) (e : CodecError) (was now : S
 not_added t f e was now (Ok text) r same refusal n = subst (λ g. Adds g was (string_bytes text) now) (framed_none t f e r n) (refusal, same)
 not_added t f e was now (Err x) r same refusal n = tt
 
--- what is refused has no frame to be shown
-pub not_shown : (P : Framed → Text → Type 0) (t : Ty) (f : Option (List Token)) (e : CodecError) (r : Result Text AllocError) → Refused e f →
-    IfOk r (λ text. IsRefusal (string_bytes text)) → IfOk r (λ text. e ≢ Memory) →
-    IfOk r (λ text. MatchOption (framed_with t f) (IsRefusal (string_bytes text)) (λ g. P g text))
-not_shown P t f e (Ok text) r refusal n = subst (λ g. MatchOption g (IsRefusal (string_bytes text)) (λ g. P g text)) (framed_none t f e r n) refusal
-not_shown P t f e (Err x) r refusal n = tt
-
 -- `refused Cn`, of an error
 abbrev pub IsTold : CodecError → Text → Type 0
 IsTold e text = string_bytes text ≡ refused (code_of e)
@@ -49,14 +42,6 @@ told_as e f text same told = told ∙ ap (λ (g : CodecError). refused (code_of 
 abbrev error_or : {V : Type 0} → CodecError → Result V CodecError → CodecError
 error_or d (Ok v) = d
 error_or d (Err e) = e
-
--- what is refused is not read
-pub not_read : {V : Type 0} (f : Option Framed) (part : Option (List ℕ)) (e : CodecError) (r : Result Text AllocError) → (e ≡ Memory) ⊎ (f ≡ None) → (part ≡ None → ◌≡◌ {A = Result V CodecError} (Err e) (Err UnexpectedNull)) →
-    IfOk r (λ text. IsRefusal (string_bytes text)) → IfOk r (λ text. e ≢ Memory) → IfOk r (λ text. IsTold e text) → IfOk r (λ text. Reads f part (string_bytes text))
-not_read f part e (Err x) h null refusal n told = tt
-not_read f part e (Ok text) (inl memory) null refusal n told = absurd (n memory)
-not_read f None e (Ok text) (inr none) null refusal n told = subst (λ g. Reads g None (string_bytes text)) (sym none) (told_as e UnexpectedNull text (ap (error_or e) (null refl)) told)
-not_read f (Some bytes) e (Ok text) (inr none) null refusal n told = subst (λ g. Reads g (Some bytes) (string_bytes text)) (sym none) refusal
 
 differ : (n m : ℕ) → (n ≡ m → ⊥) → (n == m) ≡ false
 differ n m h = grind (arith, nat_tests)

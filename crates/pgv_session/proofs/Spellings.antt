@@ -3,14 +3,17 @@ use Rattle.std.proofs.Common.{◌≡◌, ◌++◌, ◌∙◌, sym, ap, subst, �
 use Rattle.std.specs.Prelude.{◌↔◌, codes, option_map, IfOk}
 use Rattle.std.specs.declared.alloc.AllocError.{AllocError}
 use Rattle.std.proofs.lemmas.Option.{same_Some}
+use Rattle.hex.specs.Hex.{decode_of}
+use Rattle.hex.specs.declared.error.FromHexError.{FromHexError}
 use Rattle.pgv_types.specs.declared.oid.Oid.{Oid}
 use Rattle.pgv_session.specs.declared.line.Request.{Request as Parsed}
 use Rattle.pgv_session.specs.RequestsView.{request_seen}
-use Rattle.pgv_session.specs.Lines.{first_word, after_word, words, oids_named, given_bytes, added, read_of, alone, add_line, null_line, resolve_line, read_line, request}
-use Rattle.pgv_session.specs.Spelled.{Request, asks, to_add, to_add_null, to_read, asks_holes, resolves, asks_wire, IsName, SpellsOids, SpellsPart, Spells, Asks}
+use Rattle.pgv_session.specs.Lines.{first_word, after_word, words, oids_named, given_bytes, added, read_of, alone, add_line, null_line, resolve_line, read_line, copied, copy_line, hex_bytes, request}
+use Rattle.pgv_session.specs.Spelled.{Request, asks, to_add, to_add_null, to_read, asks_holes, resolves, asks_wire, copies, IsName, SpellsBytes, SpellsNames, SpellsOids, SpellsPart, Spells, Asks}
 use Rattle.pgv_session.proofs.Marks.{joined, whole, split_joined, word_or, before_has_none, none_after}
 use Rattle.pgv_session.proofs.OidWords.{oids_are, oids_found}
-use Rattle.pgv_session.proofs.HexTexts.{part_is, part_given}
+use Rattle.pgv_session.proofs.HexTexts.{part_is, part_given, hex_is, hex_given, hex_is_name}
+use Rattle.pgv_session.proofs.NameTexts.{names_are, names_found}
 
 -- ---- what is found is spelled
 
@@ -56,6 +59,18 @@ read_spelled : (line : List ℕ) (r : Request) (rest : Option (List ℕ)) → li
 read_spelled line r None l h = absurd cc
 read_spelled line r (Some text) l h = read_spelled_by line text r (after_word text) l (whole 32 text) h
 
+copied_spelled : (line text : List ℕ) (r : Request) (decoded : Result (List ℕ) FromHexError) (body : Option (List ℕ)) → line ≡ codes "copy " ++ text → text ≡ joined 32 (first_word text) body →
+    decode_of (first_word text) ≡ decoded → copied (hex_bytes decoded) body ≡ Some r → Spells r line
+copied_spelled line text r (Err e) body l split d h = absurd cc
+copied_spelled line text r (Ok bytes) None l split d h = absurd cc
+copied_spelled line text r (Ok bytes) (Some names) l split d h =
+    subst (λ (asked : Request). Spells asked line) (same_Some (copies bytes (words names)) r h)
+    (first_word text, names, hex_is (first_word text) bytes d, names_are (words names) names refl, l ∙ ap (λ (xs : List ℕ). codes "copy " ++ xs) split)
+
+copy_spelled : (line : List ℕ) (r : Request) (rest : Option (List ℕ)) → line ≡ joined 32 (codes "copy") rest → copy_line rest ≡ Some r → Spells r line
+copy_spelled line r None l h = absurd cc
+copy_spelled line r (Some text) l h = copied_spelled line text r (decode_of (first_word text)) (after_word text) l (whole 32 text) refl h
+
 spelled : (line : List ℕ) (r : Request) → request line ≡ Some r → Spells r line
 spelled line r h =
     let verb = first_word line in
@@ -68,7 +83,8 @@ spelled line r h =
     (word_or verb (codes "resolve") (resolve_line rest) _ r (λ e s. resolve_spelled line r rest (put _ e) s)
     (word_or verb (codes "wire") (alone asks_wire rest) _ r
     (λ e s. let is = alone_spelled line (codes "wire") asks_wire r rest (put _ e) s in subst (λ (asked : Request). Spells asked line) is.1 is.0)
-    (word_or verb (codes "read") (read_line rest) None r (λ e s. read_spelled line r rest (put _ e) s) (λ s. absurd cc)))))) h
+    (word_or verb (codes "read") (read_line rest) _ r (λ e s. read_spelled line r rest (put _ e) s)
+    (word_or verb (codes "copy") (copy_line rest) None r (λ e s. copy_spelled line r rest (put _ e) s) (λ s. absurd cc))))))) h
 
 -- ---- what is spelled is found
 
@@ -81,6 +97,11 @@ null_found name n = let parts = split_joined 32 name None (none_after 32 name n)
 read_found : (name text : List ℕ) (part : Option (List ℕ)) → IsName name → SpellsPart part text → read_line (Some (name ++ 32 ∷ text)) ≡ Some (asks name (to_read part))
 read_found name text part n s = let parts = split_joined 32 name (Some text) (none_after 32 name n) in rw (parts.0, parts.1, part_given text part s) refl
 
+copy_found : (bytes : List ℕ) (names : List (List ℕ)) (text rest : List ℕ) → SpellsBytes bytes text → SpellsNames names rest → copy_line (Some (text ++ 32 ∷ rest)) ≡ Some (copies bytes names)
+copy_found bytes names text rest s n =
+    let parts = split_joined 32 text (Some rest) (none_after 32 text (hex_is_name bytes text s)) in
+    rw (parts.0, parts.1, hex_given text bytes s, names_found names rest n) refl
+
 resolve_found : (oids : List Oid) (text : List ℕ) → SpellsOids oids text → request (codes "resolve" ++ text) ≡ Some (resolves oids)
 resolve_found [] text s = ap (λ (xs : List ℕ). request (codes "resolve" ++ xs)) s
 resolve_found (oid ∷ oids) text s = ap (λ (xs : List ℕ). request (codes "resolve" ++ xs)) s.4 ∙ ap (option_map (λ os. resolves os)) (oids_found s.0 oid oids s.1 s.2 s.3)
@@ -91,6 +112,7 @@ found (asks name to_add_null) line s = ap request s.1 ∙ null_found name s.0
 found asks_holes line s = ap request s
 found (resolves oids) line s = ap request s.2 ∙ resolve_found oids s.0 s.1
 found asks_wire line s = ap request s
+found (copies bytes names) line s = ap request s.4 ∙ copy_found bytes names s.0 s.1 s.2 s.3
 found (asks name (to_read part)) line s = ap request s.3 ∙ read_found name s.0 part s.1 s.2
 
 -- ---- exactly

@@ -6,7 +6,7 @@ use Rattle.hex.specs.declared.error.FromHexError.{FromHexError}
 use Rattle.pgv_types.specs.declared.oid.Oid.{Oid}
 use Rattle.pgv_text.specs.NumberText.{unsigned_value}
 use Rattle.pgv_value.specs.Utf8.{is_utf8}
-use Rattle.pgv_session.specs.Spelled.{Request, asks, to_add, to_add_null, to_read, asks_holes, resolves, asks_wire}
+use Rattle.pgv_session.specs.Spelled.{Request, asks, to_add, to_add_null, to_read, asks_holes, resolves, asks_wire, copies}
 
 -- what stands before the first byte of a kind, and after it where there is one
 abbrev pub before : ℕ → List ℕ → List ℕ
@@ -75,6 +75,11 @@ abbrev pub read_of : List ℕ → Option (List ℕ) → Option Request
 read_of name None = None
 read_of name (Some text) = option_map (λ part. asks name (to_read part)) (given_bytes text)
 
+abbrev pub copied : Option (List ℕ) → Option (List ℕ) → Option Request
+copied (Some bytes) (Some text) = Some (copies bytes (words text))
+copied (Some bytes) None = None
+copied None text = None
+
 -- what comes after the first word, by that word
 abbrev pub alone : Request → Option (List ℕ) → Option Request
 alone r None = Some r
@@ -96,6 +101,10 @@ abbrev pub read_line : Option (List ℕ) → Option Request
 read_line None = None
 read_line (Some text) = read_of (first_word text) (after_word text)
 
+abbrev pub copy_line : Option (List ℕ) → Option Request
+copy_line None = None
+copy_line (Some text) = copied (hex_bytes (decode_of (first_word text))) (after_word text)
+
 abbrev pub request_by : List ℕ → Option (List ℕ) → Option Request
 request_by verb rest =
     if bytes_eq verb (codes "add") then add_line rest else
@@ -103,7 +112,8 @@ request_by verb rest =
     if bytes_eq verb (codes "holes") then alone asks_holes rest else
     if bytes_eq verb (codes "resolve") then resolve_line rest else
     if bytes_eq verb (codes "wire") then alone asks_wire rest else
-    if bytes_eq verb (codes "read") then read_line rest else None
+    if bytes_eq verb (codes "read") then read_line rest else
+    if bytes_eq verb (codes "copy") then copy_line rest else None
 
 -- what a line asks for, if anything
 abbrev pub request : List ℕ → Option Request

@@ -1,14 +1,19 @@
 -- A session of the program: what each line does to the arguments, and what it answers.
-use Rattle.std.specs.Prelude.{◌≡◌, ◌≢◌, ℕ, ◌≤◌, ◌==◌, Bool, true, false, codes, decimal, List, [], ◌∷◌, ◌++◌, length, Option, Some, None, if◌then◌else◌}
+use Rattle.std.specs.Prelude.{◌≡◌, ◌≢◌, ℕ, ◌≤◌, ◌==◌, Bool, true, false, codes, decimal, List, [], ◌∷◌, ◌++◌, map, length, Option, Some, None, option_map, Ok, Err, zip, if◌then◌else◌}
 use Rattle.std.specs.List.{AllByRecursion}
 use Rattle.hex.specs.Hex.{encode_lower}
 use Rattle.pgv_types.specs.Ty.{Ty}
 use Rattle.pgv_types.specs.Facts.{display_of}
 use Rattle.pgv_types.specs.declared.oid.Oid.{Oid}
 use Rattle.pgv_buf.specs.Tokens.{bytes, be4, blank, shown, hole_count, hole_types_of}
+use Rattle.pgv_value.specs.Codes.{code_of}
+use Rattle.pgv_value.specs.ValueView.{Given}
+use Rattle.pgv_copy.specs.CopyBinary.{Read, Step, header, before, step}
+use Rattle.pgv_copy.specs.CopyView.{Copying}
 use Rattle.pgv_value.specs.declared.value.PgValueFormat.TheVariants.{Text as InText, Binary as InBinary}
 use Rattle.pgv_wire.specs.Arguments.{Argument, Framed, all_tokens, types_in, filled_arguments}
-use Rattle.pgv_session.specs.Spelled.{Ask, to_add, to_add_null, to_read, Request, asks, asks_holes, resolves, asks_wire, Asks}
+use Rattle.pgv_session.specs.Spelled.{Ask, to_add, to_add_null, to_read, Request, asks, asks_holes, resolves, asks_wire, copies, Asks}
+use Rattle.pgv_session.specs.Lines.{with_first}
 use Rattle.pgv_session.specs.Types.{Row, types, row_named}
 
 -- ---- answers
@@ -61,10 +66,65 @@ RespondsBy (Some row) (to_add text) was answer now = Adds (row.value InText (Som
 RespondsBy (Some row) to_add_null was answer now = Adds (Some (row.info, bytes (be4 4294967295))) was answer now
 RespondsBy (Some row) (to_read part) was answer now = Reads (row.value InBinary part) part answer × (now ≡ was)
 
+-- ---- streams of COPY
+
+-- the rows of the TYPEs, where each name has one
+abbrev pub rows_named : List (List ℕ) → Option (List Row)
+rows_named [] = Some []
+rows_named (name ∷ names) = with_first (row_named types name) (rows_named names)
+
+-- a field: null as `null`, and bytes as `read` shows them, where they are read
+abbrev pub field_shown : Row → Option (List ℕ) → Option (List ℕ)
+field_shown row None = Some (codes "null")
+field_shown row (Some bytes) = option_map (λ f. encode_lower (shown (blank f.1))) (row.value InBinary (Some bytes))
+
+-- fields, where each is read
+abbrev pub fields_shown : List (Row × Given) → Option (List (List ℕ))
+fields_shown [] = Some []
+fields_shown (f ∷ fs) = with_first (field_shown f.0 f.1.bytes) (fields_shown fs)
+
+-- texts with this between each two
+abbrev pub more_after : List ℕ → List (List ℕ) → List ℕ
+more_after between [] = []
+more_after between (text ∷ texts) = between ++ (text ++ more_after between texts)
+
+abbrev pub all_with : List ℕ → List (List ℕ) → List ℕ
+all_with between [] = []
+all_with between (text ∷ texts) = text ++ more_after between texts
+
+abbrev pub row_shown : List Row → List Given → Option (List ℕ)
+row_shown columns row = option_map (all_with (codes " ")) (fields_shown (zip columns row))
+
+abbrev pub rows_told : List (List ℕ) → List ℕ
+rows_told [] = codes "none"
+rows_told (text ∷ texts) = all_with (codes " / ") (text ∷ texts)
+
+-- these rows are answered one after another, and shown as these texts; then the reader is this one
+abbrev pub Yields : List Row → Copying → List (List ℕ) → Copying → Type 0
+Yields columns reader [] last = last ≡ reader
+Yields columns reader (text ∷ texts) last =
+    (row : List Given) × (next : Copying) × (step reader ≡ Ok (Some row, next)) × (row_shown columns row ≡ Some text) × Yields columns next texts last
+
+-- what is answered after these rows: all of them at the end, and else the first refusal alone
+abbrev pub EndsWith : List Row → List (List ℕ) → Step → List ℕ → Type 0
+EndsWith columns texts (Err e) answer = answer ≡ refused (code_of e)
+EndsWith columns texts (Ok (None, next)) answer = answer ≡ rows_told texts
+EndsWith columns texts (Ok (Some row, next)) answer = (row_shown columns row ≡ None) × IsRefusal answer
+
+abbrev pub CopiesFrom : List Row → Read (List ℕ) → List ℕ → Type 0
+CopiesFrom columns (Err e) answer = answer ≡ refused (code_of e)
+CopiesFrom columns (Ok rest) answer =
+    (texts : List (List ℕ)) × (last : Copying) × Yields columns (before (map (λ c. c.info) columns) rest) texts last × EndsWith columns texts (step last) answer
+
+abbrev pub Copies : Option (List Row) → List ℕ → List ℕ → Type 0
+Copies None bytes answer = answer ≡ codes "refused line"
+Copies (Some columns) bytes answer = CopiesFrom columns (header bytes) answer
+
 abbrev pub Responds : Request → State → List ℕ → State → Type 0
 Responds (asks name ask) was answer now = RespondsBy (row_named types name) ask was answer now
 Responds asks_holes was answer now = (answer ≡ names_shown (hole_types_of (all_tokens was))) × (now ≡ was)
 Responds (resolves oids) was answer now = Resolves (length oids == hole_count (all_tokens was)) oids was answer now
+Responds (copies bytes names) was answer now = Copies (rows_named names) bytes answer × (now ≡ was)
 Responds asks_wire was answer now = (answer ≡ encode_lower (shown (all_tokens was))) × (now ≡ was)
 
 abbrev pub RespondsTo : Option Request → State → List ℕ → State → Type 0

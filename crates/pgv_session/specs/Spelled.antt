@@ -1,5 +1,5 @@
 -- The lines of the program, by their spellings: `add TYPE TEXT`, `null TYPE`, `holes`, `resolve OID ..`, `wire`,
--- `read TYPE HEX`. A line is a list of bytes.
+-- `read TYPE HEX`, `copy HEX TYPE ..`. A line is a list of bytes.
 use Rattle.std.specs.Prelude.{◌≡◌, ◌≢◌, ◌⊎◌, ◌≤◌, ◌<◌, ◌+◌, ◌*◌, ℕ, codes, List, [], ◌∷◌, ◌++◌, map, length, Option, Some, None}
 use Rattle.std.specs.List.{AllByRecursion}
 use Rattle.std.specs.Int.Digits.{number_from_digits}
@@ -18,6 +18,7 @@ pub data Request : Type 0 where
   asks_holes : Request
   resolves : List Oid → Request
   asks_wire : Request
+  copies : List ℕ → List (List ℕ) → Request
 
 -- ---- how it is spelled
 
@@ -50,6 +51,12 @@ SpellsBytes (byte ∷ bytes) text =
     (first second high low : ℕ) × (rest : List ℕ) × IsHexDigit first high × IsHexDigit second low × (byte ≡ 16 * high + low)
     × SpellsBytes bytes rest × (text ≡ first ∷ second ∷ rest)
 
+-- the names in turn, with one space between each two
+abbrev pub SpellsNames : List (List ℕ) → List ℕ → Type 0
+SpellsNames [] text = ⊥
+SpellsNames (name ∷ []) text = IsName name × (text ≡ name)
+SpellsNames (name ∷ next ∷ names) text = (rest : List ℕ) × IsName name × SpellsNames (next ∷ names) rest × (text ≡ name ++ 32 ∷ rest)
+
 -- the bytes of a value, or that it is null
 abbrev pub SpellsPart : Option (List ℕ) → List ℕ → Type 0
 SpellsPart None text = text ≡ codes "null"
@@ -63,6 +70,7 @@ Spells (asks name (to_read part)) line = (text : List ℕ) × IsName name × Spe
 Spells asks_holes line = line ≡ codes "holes"
 Spells (resolves oids) line = (text : List ℕ) × SpellsOids oids text × (line ≡ codes "resolve" ++ text)
 Spells asks_wire line = line ≡ codes "wire"
+Spells (copies bytes names) line = (text rest : List ℕ) × SpellsBytes bytes text × SpellsNames names rest × (line ≡ codes "copy " ++ (text ++ 32 ∷ rest))
 
 -- what a line asks for: the request that it spells, or nothing where it spells none
 abbrev pub Asks : List ℕ → Option Request → Type 0

@@ -5,6 +5,7 @@
 //! inputs are.
 #![tactic(auto)]
 
+mod copied;
 pub mod laws;
 mod line;
 mod runner;

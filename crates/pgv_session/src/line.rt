@@ -2,8 +2,9 @@
 
 ghost use Rattle.std.specs.Prelude.{◌≡◌, Option, option_map, bytes_eq, IfOk};
 ghost use Rattle.std.specs.Option.{option_copied};
+ghost use Rattle.hex.specs.Hex.{decode_of};
 ghost use Rattle.pgv_text.specs.NumberText.{unsigned_value};
-ghost use Rattle.pgv_session.specs.Lines.{before, rest_after, first_word, after_word, words, starts_with_plus, oid_of, oid_named, oids_named, request, given_bytes as bytes_given, alone as alone_by, add_line as added_by, null_line as null_by, resolve_line as resolve_by, read_line as read_by};
+ghost use Rattle.pgv_session.specs.Lines.{before, rest_after, first_word, after_word, words, starts_with_plus, oid_of, oid_named, oids_named, request, given_bytes as bytes_given, alone as alone_by, add_line as added_by, null_line as null_by, resolve_line as resolve_by, read_line as read_by, copy_line as copy_by, hex_bytes as hex_given};
 ghost use Rattle.pgv_session.specs.RequestsView.{request_seen};
 ghost use Rattle.pgv_session.specs.Spelled.{Asks};
 
@@ -21,6 +22,8 @@ pub enum Ask<'a> {
     Null,
     /// `read TYPE HEX`: the bytes, or null, are read under the type and written again.
     Read(Option<Vec<u8>>),
+    /// A field of a COPY stream that is not null: as [`Ask::Read`].
+    Show(&'a [u8]),
 }
 
 /// What a line asks for.
@@ -34,6 +37,8 @@ pub enum Request<'a> {
     Resolve(Vec<Oid>),
     /// `wire`: the bytes of the buffer.
     Wire,
+    /// `copy HEX TYPE ..`: the rows of a COPY stream; the names of the TYPEs are still one text.
+    Copy(Vec<u8>, &'a [u8]),
 }
 
 /// What stands before the first byte of a kind, and after it, where there is one.
@@ -50,7 +55,7 @@ pub fn split_at_byte(line: &[u8], mark: u8) -> (&[u8], Option<&[u8]>)
 }
 
 /// A line's first word, and what comes after the space that ends it, where one does.
-fn split_word(line: &[u8]) -> (&[u8], Option<&[u8]>)
+pub fn split_word(line: &[u8]) -> (&[u8], Option<&[u8]>)
     ensures word { result.0.now ≡ first_word line.now }
     ensures rest { option_copied result.1 ≡ after_word line.now }
 {
@@ -116,6 +121,17 @@ fn oids(alloc: Global, text: &[u8]) -> Result<Option<Vec<Oid>>, AllocError>
     Ok(Some(oids))
 }
 
+/// Hex digits.
+fn hex_bytes(alloc: Global, text: &[u8]) -> Result<Option<Vec<u8>>, AllocError>
+    ensures { IfOk result (λ found. option_map (λ v. v.items) found ≡ hex_given (decode_of text.now)) }
+{
+    match hex::decode(alloc, text) {
+        Ok(bytes) => Ok(Some(bytes)),
+        Err(FromHexError::OutOfMemory) => Err(AllocError),
+        Err(_) => Ok(None),
+    }
+}
+
 /// `null`, or hex digits.
 fn given_bytes(alloc: Global, text: &[u8]) -> Result<Option<Option<Vec<u8>>>, AllocError>
     ensures { IfOk result (λ found. option_map (option_map (λ v. v.items)) found ≡ bytes_given text.now) }
@@ -123,10 +139,9 @@ fn given_bytes(alloc: Global, text: &[u8]) -> Result<Option<Option<Vec<u8>>>, Al
     if is(text, "null") {
         return Ok(Some(None));
     }
-    match hex::decode(alloc, text) {
-        Ok(bytes) => Ok(Some(Some(bytes))),
-        Err(FromHexError::OutOfMemory) => Err(AllocError),
-        Err(_) => Ok(None),
+    match hex_bytes(alloc, text)? {
+        Some(bytes) => Ok(Some(Some(bytes))),
+        None => Ok(None),
     }
 }
 
@@ -153,6 +168,9 @@ pub fn parse<'a>(alloc: Global, line: &'a [u8]) -> Result<Option<Request<'a>>, A
     }
     if is(verb, "read") {
         return read_line(alloc, rest);
+    }
+    if is(verb, "copy") {
+        return copy_line(alloc, rest);
     }
     Ok(None)
 }
@@ -207,6 +225,22 @@ fn read_line<'a>(alloc: Global, rest: Option<&'a [u8]>) -> Result<Option<Request
     };
     match given_bytes(alloc, text)? {
         Some(bytes) => Ok(Some(Request::Of(name, Ask::Read(bytes)))),
+        None => Ok(None),
+    }
+}
+
+fn copy_line<'a>(alloc: Global, rest: Option<&'a [u8]>) -> Result<Option<Request<'a>>, AllocError>
+    ensures { IfOk result (λ found. option_map request_seen found ≡ copy_by (option_copied rest.entry)) }
+{
+    let Some(rest) = rest else {
+        return Ok(None);
+    };
+    let (digits, names) = split_word(rest);
+    let Some(bytes) = hex_bytes(alloc, digits)? else {
+        return Ok(None);
+    };
+    match names {
+        Some(names) => Ok(Some(Request::Copy(bytes, names))),
         None => Ok(None),
     }
 }

@@ -8,6 +8,7 @@ ghost use Rattle.pgv_wire.specs.Arguments.{all_tokens};
 ghost use Rattle.pgv_session.specs.RequestsView.{request_seen};
 ghost use Rattle.pgv_session.specs.Session.{Answers, RespondsTo, Resolves, names_shown};
 
+use crate::copied::copied;
 use crate::line::{Request, parse};
 use crate::value::{refusal, respond_by};
 use pgv_types::{Oid, PgTypeInfo};
@@ -35,9 +36,10 @@ fn respond_to(
         return String::from_str(alloc, "refused line");
     };
     match request {
-        Request::Of(name, ask) => respond_by(alloc, arguments, name, ask),
+        Request::Of(name, ask) => Ok(respond_by(alloc, arguments, name, ask)?.into_text()),
         Request::Holes => names(alloc, arguments.hole_types()),
         Request::Resolve(oids) => resolve(alloc, arguments, oids.as_slice()),
+        Request::Copy(bytes, names) => copied(alloc, bytes.as_slice(), names),
         Request::Wire => hex::encode(alloc, arguments.buffer().as_slice()),
     }
 }

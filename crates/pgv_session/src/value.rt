@@ -1,6 +1,6 @@
 //! What is asked of a value of a TYPE.
 
-ghost use Rattle.std.specs.Prelude.{◌≡◌, ◌≢◌, Some, None, IfOk, MatchOption, string_bytes};
+ghost use Rattle.std.specs.Prelude.{◌≡◌, ◌≢◌, Some, None, IfOk, MatchOption, option_map, is_some, false, string_bytes};
 ghost use Rattle.std.specs.Option.{option_copied};
 ghost use Rattle.hex.specs.Hex.{encode_lower};
 ghost use Rattle.pgv_buf.specs.Tokens.{shown, blank};
@@ -10,6 +10,8 @@ ghost use Rattle.pgv_value.specs.declared.value.PgValueFormat.TheVariants.{Text 
 ghost use Rattle.pgv_codec.specs.Saying.{said};
 ghost use Rattle.pgv_session.specs.RequestsView.{ask_seen};
 ghost use Rattle.pgv_session.specs.Session.{RespondsBy, Adds, Reads, IsRefusal, refused, placeholder as placeholder_of};
+ghost use Rattle.pgv_session.specs.Spelled.{to_read};
+ghost use Rattle.pgv_session.specs.ToldView.{told_text, is_said, TellsOf};
 ghost use Rattle.pgv_session.specs.Types.{framed_as, framed_by, row, row_named, types};
 
 use crate::line::{Ask, is};
@@ -23,11 +25,71 @@ use pgv_more::{BitVec, MacAddress, PgBytea, PgCiText, PgTimeTz};
 use pgv_numeric::{PgMoney, PgNumeric};
 use pgv_range::PgRange;
 use pgv_text::IpNetwork;
-use pgv_types::Oid;
+use pgv_types::{Oid, PgTypeInfo};
 use pgv_value::{CodecError, PgInterval, PgValueFormat, PgValueRef};
 use pgv_wire::PgArguments;
 use std::alloc::{AllocError, Global};
 use uuid::Uuid;
+
+/// What is told of a value.
+#[derive(Drop)]
+pub enum Told {
+    /// What was asked for.
+    Said(String),
+    /// Why there is none.
+    Refused(String),
+}
+
+impl Told {
+    /// The text of either.
+    pub fn into_text(self) -> String
+        ensures { string_bytes result ≡ told_text self }
+    {
+        match self {
+            Told::Said(text) | Told::Refused(text) => text,
+        }
+    }
+}
+
+/// The type that a TYPE of this name has, if there is one.
+pub fn type_named(name: &[u8]) -> Option<PgTypeInfo>
+    ensures { result ≡ option_map (λ row. row.info) (row_named types name.now) }
+{
+    match name {
+        _ if is(name, "bool") => Some(bool::type_info()),
+        _ if is(name, "char") => Some(i8::type_info()),
+        _ if is(name, "int2") => Some(i16::type_info()),
+        _ if is(name, "int4") => Some(i32::type_info()),
+        _ if is(name, "int8") => Some(i64::type_info()),
+        _ if is(name, "oid") => Some(Oid::type_info()),
+        _ if is(name, "text") => Some(String::type_info()),
+        _ if is(name, "uuid") => Some(Uuid::type_info()),
+        _ if is(name, "date") => Some(Date::type_info()),
+        _ if is(name, "time") => Some(Time::type_info()),
+        _ if is(name, "timestamp") => Some(DateTime::type_info()),
+        _ if is(name, "timestamptz") => Some(Timestamp::type_info()),
+        _ if is(name, "timetz") => Some(PgTimeTz::type_info()),
+        _ if is(name, "interval") => Some(PgInterval::type_info()),
+        _ if is(name, "varbit") => Some(BitVec::type_info()),
+        _ if is(name, "inet") => Some(IpNetwork::type_info()),
+        _ if is(name, "macaddr") => Some(MacAddress::type_info()),
+        _ if is(name, "bytea") => Some(PgBytea::type_info()),
+        _ if is(name, "citext") => Some(PgCiText::type_info()),
+        _ if is(name, "money") => Some(PgMoney::type_info()),
+        _ if is(name, "numeric") => Some(PgNumeric::type_info()),
+        _ if is(name, "hstore") => Some(PgHstore::type_info()),
+        _ if is(name, "int4range") => Some(<PgRange<i32>>::type_info()),
+        _ if is(name, "int8range") => Some(<PgRange<i64>>::type_info()),
+        _ if is(name, "daterange") => Some(<PgRange<Date>>::type_info()),
+        _ if is(name, "ltree") => Some(PgLTree::type_info()),
+        _ if is(name, "lquery") => Some(PgLQuery::type_info()),
+        _ if is(name, "int4[]") => Some(<Vec<Option<i32>>>::type_info()),
+        _ if is(name, "text[]") => Some(<Vec<Option<String>>>::type_info()),
+        _ if is(name, "date[]") => Some(<Vec<Option<Date>>>::type_info()),
+        _ if is(name, "ltree[]") => Some(<Vec<Option<PgLTree>>>::type_info()),
+        _ => None,
+    }
+}
 
 /// Answers what is asked of a value of the TYPE of this name, if there is one.
 pub fn respond_by(
@@ -35,8 +97,9 @@ pub fn respond_by(
     arguments: &mut PgArguments,
     name: &[u8],
     ask: Ask,
-) -> Result<String, AllocError>
-    ensures { IfOk result (λ text. RespondsBy (row_named types name.now) (ask_seen ask.entry) arguments.old (string_bytes text) arguments.new) }
+) -> Result<Told, AllocError>
+    ensures answer { IfOk result (λ told. RespondsBy (row_named types name.now) (ask_seen ask.entry) arguments.old (told_text told) arguments.new) }
+    ensures exact { IfOk result (TellsOf (row_named types name.now) (ask_seen ask.entry)) }
 {
     match name {
         _ if is(name, "bool") => respond_as::<bool>(alloc, arguments, ask),
@@ -70,7 +133,7 @@ pub fn respond_by(
         _ if is(name, "text[]") => respond_as::<Vec<Option<String>>>(alloc, arguments, ask),
         _ if is(name, "date[]") => respond_as::<Vec<Option<Date>>>(alloc, arguments, ask),
         _ if is(name, "ltree[]") => respond_as::<Vec<Option<PgLTree>>>(alloc, arguments, ask),
-        _ => String::from_str(alloc, "refused line"),
+        _ => Ok(Told::Refused(String::from_str(alloc, "refused line")?)),
     }
 }
 
@@ -79,13 +142,15 @@ fn respond_as<T: Codec>(
     alloc: Global,
     arguments: &mut PgArguments,
     ask: Ask,
-) -> Result<String, AllocError>
+) -> Result<Told, AllocError>
     requires { T.reading T.info InBinary None ≡ None }
-    ensures { IfOk result (λ text. RespondsBy (Some (row T.info T.reading T.written)) (ask_seen ask.entry) arguments.old (string_bytes text) arguments.new) }
+    ensures answer { IfOk result (λ told. RespondsBy (Some (row T.info T.reading T.written)) (ask_seen ask.entry) arguments.old (told_text told) arguments.new) }
+    ensures exact { IfOk result (TellsOf (Some (row T.info T.reading T.written)) (ask_seen ask.entry)) }
 {
     match ask {
-        Ask::Add(text) => add::<T>(alloc, arguments, text),
-        Ask::Null => add_value(alloc, arguments, &None::<T>),
+        Ask::Add(text) => Ok(Told::Said(add::<T>(alloc, arguments, text)?)),
+        Ask::Null => Ok(Told::Said(add_value(alloc, arguments, &None::<T>)?)),
+        Ask::Show(bytes) => read::<T>(alloc, Some(bytes)),
         Ask::Read(part) => match &part {
             Some(bytes) => read::<T>(alloc, Some(bytes.as_slice())),
             None => read::<T>(alloc, None),
@@ -136,27 +201,29 @@ fn placeholder(alloc: Global, arguments: &PgArguments) -> Result<String, AllocEr
 }
 
 /// The frame that the value of null or bytes writes, in hex.
-fn read<T: Codec>(alloc: Global, part: Option<&[u8]>) -> Result<String, AllocError>
+fn read<T: Codec>(alloc: Global, part: Option<&[u8]>) -> Result<Told, AllocError>
     requires { T.reading T.info InBinary None ≡ None }
-    ensures { IfOk result (λ answer. Reads (framed_by T.info T.written (T.reading T.info InBinary (option_copied part.entry))) (option_copied part.entry) (string_bytes answer)) }
+    ensures answer { IfOk result (λ told. Reads (framed_by T.info T.written (T.reading T.info InBinary (option_copied part.entry))) (option_copied part.entry) (told_text told)) }
+    ensures exact { IfOk result (TellsOf (Some (row T.info T.reading T.written)) (to_read (option_copied part.entry))) }
 {
     match T::decode(
         alloc,
         PgValueRef::new(part, T::type_info(), PgValueFormat::Binary),
     ) {
         Ok(value) => frame_text(alloc, &value),
-        Err(error) => refusal(alloc, &error),
+        Err(error) => told_refusal(alloc, &error),
     }
 }
 
 /// The frame that a value writes, in hex, or why it is refused.
-fn frame_text<T: Encode + Type>(alloc: Global, value: &T) -> Result<String, AllocError>
-    ensures { IfOk result (λ answer. MatchOption (framed_as (said T.hint T.image T.produced T.info value.now)) (IsRefusal (string_bytes answer)) (λ f. string_bytes answer ≡ encode_lower (shown (blank f.1)))) }
+fn frame_text<T: Encode + Type>(alloc: Global, value: &T) -> Result<Told, AllocError>
+    ensures answer { IfOk result (λ told. MatchOption (framed_as (said T.hint T.image T.produced T.info value.now)) (IsRefusal (told_text told)) (λ f. told_text told ≡ encode_lower (shown (blank f.1)))) }
+    ensures exact { IfOk result (λ told. is_said told ≡ is_some (framed_as (said T.hint T.image T.produced T.info value.now))) }
 {
     let mut buffer = PgArgumentBuffer::new(alloc);
     match buffer.encode(value) {
-        Ok(()) => hex::encode(alloc, buffer.as_slice()),
-        Err(error) => refusal(alloc, &error),
+        Ok(()) => Ok(Told::Said(hex::encode(alloc, buffer.as_slice())?)),
+        Err(error) => told_refusal(alloc, &error),
     }
 }
 
@@ -171,4 +238,14 @@ pub fn refusal(alloc: Global, error: &CodecError) -> Result<String, AllocError>
     }
     let number = error.code();
     format!(in alloc; "refused C{number}")
+}
+
+/// The same, as what is told of a value.
+fn told_refusal(alloc: Global, error: &CodecError) -> Result<Told, AllocError>
+    ensures refused { IfOk result (λ told. IsRefusal (told_text told)) }
+    ensures told { IfOk result (λ _. error.now ≢ Memory) }
+    ensures number { IfOk result (λ told. told_text told ≡ refused (code_of error.now)) }
+    ensures none { IfOk result (λ told. is_said told ≡ false) }
+{
+    Ok(Told::Refused(refusal(alloc, error)?))
 }

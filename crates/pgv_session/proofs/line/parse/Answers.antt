@@ -21,5 +21,8 @@ returns-then-is-5-clause-meaning c = meant c.args.line.now (Ok c.alone-then-is-5
 pub returns-then-is-6-clause-meaning : goal.returns-then-is-6-clause-meaning
 returns-then-is-6-clause-meaning c = meant c.args.line.now c.read_line.result (search rules)
 
+pub returns-then-is-7-clause-meaning : goal.returns-then-is-7-clause-meaning
+returns-then-is-7-clause-meaning c = meant c.args.line.now c.copy_line.result (search rules)
+
 pub returns-clause-meaning : goal.returns-clause-meaning
 returns-clause-meaning c = meant c.args.line.now (Ok None) (search rules)
