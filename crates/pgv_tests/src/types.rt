@@ -179,7 +179,8 @@ fn copies(rt: HostRuntime) -> Result<(), Fail> {
         assert_eq!(rt; found.as_str(), "mood 16500 true");
     }
     let int4range = PgTypeInfo(PgType::Int4Range);
-    let found = match int4range.kind() {
+    let kind = int4range.kind();
+    let found = match &kind {
         Some(PgTypeKindRef::Range(of)) => of.as_ref().type_eq(&PgTypeInfo(PgType::Int4)),
         _ => false,
     };
