@@ -88,9 +88,15 @@ fn refused_range(
     push_buffer(alloc, out, buffer)?;
     let mark = buffer.mark();
     let refused = PgRange::from(sizes(alloc, 1)?..sizes(alloc, 0)?);
-    push_encoded(alloc, out, buffer, &refused)?;
-    push_line(out, names(alloc, buffer.hole_types())?.as_str())?;
-    buffer.back(mark);
+    match buffer.encode(&refused) {
+        Ok(()) => push_line(out, "accepted")?,
+        Err(error) => {
+            let held = names(alloc, buffer.hole_types());
+            buffer.back(mark);
+            push_line(out, outcome(alloc, Err(error))?.as_str())?;
+            push_line(out, held?.as_str())?;
+        }
+    }
     push_buffer(alloc, out, buffer)
 }
 
