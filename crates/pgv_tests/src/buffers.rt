@@ -1,7 +1,7 @@
 //! What buffers hold after calls, as transcripts.
 
 use crate::own::{Huge, Size, sizes};
-use crate::shown::{names, outcome, push_line};
+use crate::shown::{names, outcome, push_line, refused};
 use pgv::types::PgRange;
 use pgv::{
     CodecError, Encode, Oid, PgArgumentBuffer, PgRecordEncoder, PgType, PgTypeInfo, encode_array,
@@ -87,13 +87,13 @@ fn refused_range(
     buffer.encode(&sizes(alloc, 7)?)?;
     push_buffer(alloc, out, buffer)?;
     let mark = buffer.mark();
-    let refused = PgRange::from(sizes(alloc, 1)?..sizes(alloc, 0)?);
-    match buffer.encode(&refused) {
+    let range = PgRange::from(sizes(alloc, 1)?..sizes(alloc, 0)?);
+    match buffer.encode(&range) {
         Ok(()) => push_line(out, "accepted")?,
         Err(error) => {
             let held = names(alloc, buffer.hole_types());
             buffer.back(mark);
-            push_line(out, outcome(alloc, Err(error))?.as_str())?;
+            push_line(out, refused(alloc, &error)?.as_str())?;
             push_line(out, held?.as_str())?;
         }
     }

@@ -78,7 +78,6 @@ fn taken_off(alloc: Global, out: &mut String) -> Result<(), AllocError> {
     push_tokens(alloc, out, &tokens)?;
     append_trees(&mut tokens)?;
     append_trees(&mut tokens)?;
-    tokens.fill(&[], &[], &[Oid(16500), Oid(16501)]);
     push_tokens(alloc, out, &tokens)
 }
 
@@ -94,8 +93,8 @@ fn tokens(rt: HostRuntime) -> Result<(), Fail> {
 207b\n0 1\n017b\n0 1\n207b\n0 1\n207b\n0 3\n207b\n0 2\n\n0 0\n\
 0000000400000001\n0 0\n\
 0000000400000001\
-0000001c0000000100000000000040740000000100000001000000040161\
-2e620000001c00000001000000000000407500000001000000010000000401612e62\n2 0\n"
+0000001c0000000100000000000000000000000100000001000000040161\
+2e620000001c00000001000000000000000000000001000000010000000401612e62\n2 0\n"
     );
     Ok(())
 }
