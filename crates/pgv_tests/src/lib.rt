@@ -10,15 +10,11 @@
 #![tactic(auto)]
 
 #[cfg(test)]
-mod arguments;
-#[cfg(test)]
 mod buffers;
 #[cfg(test)]
 mod decoded;
 #[cfg(test)]
 mod faults;
-#[cfg(test)]
-mod made;
 #[cfg(test)]
 mod own;
 #[cfg(test)]
