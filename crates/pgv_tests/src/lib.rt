@@ -3,14 +3,9 @@
 //! stands in the stored run of `pgvalue_server` instead, where a row costs no proof.
 //!
 //! - [`decoded`]: what is read at concrete types; its rows are in `readings` and `server`.
-//! - [`arguments`], [`buffers`]: what is in arguments and buffers after calls, with values of a caller's own types (`own`).
-//! - [`made`]: values that are made, taken apart, copied and printed.
-//! - [`texts`], [`types`], [`values`], [`tokens`]: the calls of the lower crates.
 //! - [`records`]: records of a server. [`faults`]: readers and writers that fail.
 #![tactic(auto)]
 
-#[cfg(test)]
-mod buffers;
 #[cfg(test)]
 mod decoded;
 #[cfg(test)]
@@ -25,11 +20,3 @@ mod records;
 mod server;
 #[cfg(test)]
 mod shown;
-#[cfg(test)]
-mod texts;
-#[cfg(test)]
-mod tokens;
-#[cfg(test)]
-mod types;
-#[cfg(test)]
-mod values;
