@@ -3,15 +3,22 @@
 //! stands in the stored run of `pgvalue_server` instead, where a row costs no proof.
 //!
 //! - [`decoded`]: what is read at concrete types; its rows are in `readings` and `server`.
+//! - [`arguments`], [`buffers`]: what is in arguments and buffers after calls, with values of a caller's own types.
+//! - [`made`]: values that are made, taken apart, copied and printed.
+//! - [`texts`], [`types`], [`values`], [`tokens`]: the calls of the lower crates.
 //! - [`records`]: records of a server. [`faults`]: readers and writers that fail.
 #![tactic(auto)]
 
+#[cfg(test)]
+mod arguments;
+#[cfg(test)]
+mod buffers;
 #[cfg(test)]
 mod decoded;
 #[cfg(test)]
 mod faults;
 #[cfg(test)]
-mod own;
+mod made;
 #[cfg(test)]
 mod readings;
 #[cfg(test)]
@@ -20,3 +27,11 @@ mod records;
 mod server;
 #[cfg(test)]
 mod shown;
+#[cfg(test)]
+mod texts;
+#[cfg(test)]
+mod tokens;
+#[cfg(test)]
+mod types;
+#[cfg(test)]
+mod values;

@@ -2,10 +2,10 @@
 
 mod server;
 
-use crate::decoded::type_of;
 use pgv::{
     CodecError, Decode, Encode, PgArgumentBuffer, PgRecordDecoder, PgValueFormat, PgValueRef, Type,
 };
+use pgv_by_name::type_of;
 use pgv_examples::pair::Pair;
 use server::RECORDS;
 use std::alloc::Global;

@@ -1,5 +1,5 @@
 //! Types of a caller's own for the tests: one that refuses after a byte, a hole and a slot, a range over lists of it, one with a hint that
-//! no frame has room for, one whose values have another type than it says, and one that refuses a single number.
+//! no frame has room for, and one whose values have another type than it says.
 
 use pgv::types::PgRange;
 use pgv::{
@@ -192,6 +192,7 @@ impl Decode for SizeRange {
         })
     }
 }
+
 /// One byte that says to need more than a frame has room for.
 #[derive(Drop)]
 pub struct Huge;
@@ -292,53 +293,5 @@ impl Encode for MoodText {
 
     fn produces(&self) -> Result<Option<PgTypeInfo>, AllocError> {
         Ok(Some(Mood::type_info()))
-    }
-}
-
-/// A number as `i32` is, but 3 is refused with C38(1) after the byte ff.
-#[derive(Drop)]
-pub struct ButThree {
-    /// The number that is written.
-    pub number: i32,
-}
-
-impl Type for ButThree {
-    ghost use Rattle.pgv.specs.Words.{builtin, softly};
-
-    ghost info = { builtin 23 };
-
-    ghost accepts = { λ t. softly t (builtin 23) };
-
-    fn type_info() -> PgTypeInfo {
-        PgTypeInfo(PgType::Int4)
-    }
-
-    fn compatible(type_info: &PgTypeInfo) -> bool {
-        type_info.type_compatible(&Self::type_info())
-    }
-}
-
-impl Encode for ButThree {
-    ghost use Rattle.std.specs.Prelude.{cond, pos, None};
-    ghost use Rattle.std.specs.Ordering.{int_eq};
-    ghost use Rattle.std.specs.Int.{w32};
-    ghost use Rattle.pgv.specs.Words.{signed_image};
-
-    ghost image = { λ v. cond (int_eq v.number (pos 3)) None (signed_image w32 v.number) };
-
-    fn encode_by_ref(&self, out: &mut PgArgumentBuffer) -> Result<IsNull, CodecError> {
-        if self.number == 3 {
-            out.push(255)?;
-            return Err(CodecError::Caller(1));
-        }
-        self.number.encode_by_ref(out)
-    }
-
-    fn size_hint(&self) -> usize {
-        0
-    }
-
-    fn produces(&self) -> Result<Option<PgTypeInfo>, AllocError> {
-        Ok(None)
     }
 }

@@ -1,0 +1,9 @@
+//! What tests and benches share: types by the names that their rows have for them, and types of a caller's own that no example has.
+//! It promises nothing but to be safe.
+#![tactic(auto)]
+
+mod own;
+mod types;
+
+pub use own::{Huge, MoodText, Size, SizeRange, size_ranges, sizes};
+pub use types::type_of;

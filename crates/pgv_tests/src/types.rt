@@ -1,0 +1,210 @@
+//! Names and types: which agree, what is printed of them, and copies.
+
+use pgv::{Oid, PgType, PgTypeInfo, PgTypeKind, identifier_chars, name_eq};
+use std::alloc::{AllocError, Global};
+use std::rc::{RcSlice, RcStr};
+use std::test::Fail;
+
+/// Two names, and whether they agree, which is the same both ways.
+const NAMES: &str = "\
+foo \"Foo\" false
+foo.foo foo.\"foo\" true
+foob foo false
+u&x U&x false
+foo foo true
+foo Foo true
+foo FOO true
+foo \"foo\" true
+foo foo.foo false
+foo.foo foo.foo true
+foo.foo foo.Foo true
+foo.foo foo.FOO true
+foo.foo Foo.foo true
+foo.foo Foo.Foo true
+foo.foo FOO.FOO true
+foo.foo foo false
+foo.foo foo.\"Foo\" false
+foo.foo foo.\"FOO\" false
+\"\"a \"\"A true";
+
+#[test]
+fn names(rt: HostRuntime) -> Result<(), Fail> {
+    for line in NAMES.lines() {
+        let (first, rest) = line.split_once(' ').ok_or("no second name")?;
+        let (second, agree) = rest.split_once(' ').ok_or("no answer")?;
+        assert_eq!(rt; name_eq(first, second), agree == "true", "{line}");
+        assert_eq!(rt; name_eq(second, first), agree == "true", "{line}");
+    }
+    Ok(())
+}
+
+#[test]
+fn chars_of_names(rt: HostRuntime) {
+    let mut found = identifier_chars("a\"B\"\"");
+    for (ch, sensitive) in [('a', false), ('B', true), ('"', true)] {
+        let next = found.next();
+        assert!(rt; next.is_some_and(|it| it.ch == ch && it.case_sensitive == sensitive));
+    }
+    assert!(rt; found.next().is_none());
+}
+
+/// A domain over an `int4`.
+fn domain(alloc: Global) -> Result<PgTypeInfo, AllocError> {
+    let int4 = PgTypeKind::Domain(PgTypeInfo(PgType::Int4));
+    PgTypeInfo::custom(alloc, Oid(16400), "id", int4)
+}
+
+/// A type that a server told of, by its name here.
+fn told(alloc: Global, name: &str) -> Result<PgTypeInfo, AllocError> {
+    match name {
+        "foo 16500" => PgTypeInfo::custom(alloc, Oid(16500), "foo", PgTypeKind::Simple),
+        "foo 16501" => PgTypeInfo::custom(alloc, Oid(16501), "foo", PgTypeKind::Simple),
+        "domain" => domain(alloc),
+        "domain of domain" => {
+            let domain = PgTypeKind::Domain(domain(alloc)?);
+            PgTypeInfo::custom(alloc, Oid(16401), "outer", domain)
+        }
+        _ => {
+            let element = PgTypeKind::Array(PgTypeInfo::with_oid(Oid(1)));
+            PgTypeInfo::custom(alloc, Oid(16501), "_y", element)
+        }
+    }
+}
+
+/// A type by its name here.
+fn named(alloc: Global, name: &str) -> Result<PgTypeInfo, AllocError> {
+    match name {
+        "int4" => Ok(PgTypeInfo(PgType::Int4)),
+        "oid 1" => Ok(PgTypeInfo::with_oid(Oid(1))),
+        "definitely_not_real" => Ok(PgTypeInfo::with_name("definitely_not_real")),
+        "?" => Ok(PgTypeInfo::with_name("?")),
+        "foo" => Ok(PgTypeInfo::with_name("foo")),
+        "_foo" => Ok(PgTypeInfo::with_name("_foo")),
+        "foo[]" => Ok(PgTypeInfo::array_of("foo")),
+        "x[]" => Ok(PgTypeInfo::array_of("x")),
+        _ => told(alloc, name),
+    }
+}
+
+/// Two types, whether they are compatible, and whether they are the same exactly.
+const PAIRS: &str = "\
+oid 1, definitely_not_real: compatible
+oid 1, ?: compatible, equal
+foo[], _foo: compatible, equal
+domain, int4: compatible, equal
+domain of domain, int4: neither
+array of oid 1, x[]: compatible
+foo, foo 16500: compatible, equal
+foo, foo 16501: compatible, equal
+foo 16500, foo 16501: neither";
+
+/// Whether two types are compatible, and whether they are the same exactly.
+fn relation(one: &PgTypeInfo, other: &PgTypeInfo) -> &'static str {
+    match (one.type_compatible(other), one.type_eq(other)) {
+        (true, true) => "compatible, equal",
+        (true, false) => "compatible",
+        (false, true) => "equal",
+        (false, false) => "neither",
+    }
+}
+
+#[test]
+fn pairs(rt: HostRuntime) -> Result<(), Fail> {
+    for line in PAIRS.lines() {
+        let (types, wanted) = line.split_once(": ").ok_or("no answer")?;
+        let (first, second) = types.split_once(", ").ok_or("no second type")?;
+        let one = named(rt.alloc(), first)?;
+        let other = named(rt.alloc(), second)?;
+        assert_eq!(rt; relation(&one, &other), wanted, "{types}");
+    }
+    Ok(())
+}
+
+/// What is printed of a type with padding, which counts characters.
+fn padded(alloc: Global, info: &PgTypeInfo) -> Result<String, AllocError> {
+    format!(in alloc; "{info:>8}|{info:<6}|{info:*^7}|{info:.3}|{info:>5.3}|{info:2}")
+}
+
+/// What is printed of types. A name alone is never padded.
+fn printed(alloc: Global) -> Result<String, AllocError> {
+    let int4 = PgTypeInfo(PgType::Int4);
+    let array = PgTypeInfo(PgType::CharArray);
+    format!(in alloc;
+        "{array}|{array:9}|{array:.7}|{:8}|{}|{:>4}",
+        int4.name(),
+        PgTypeInfo::array_of("hstore"),
+        PgTypeInfo::with_name("é")
+    )
+}
+
+#[test]
+fn printed_types(rt: HostRuntime) -> Result<(), Fail> {
+    let found = padded(rt.alloc(), &PgTypeInfo(PgType::Int4))?;
+    assert_eq!(rt; found.as_str(), "    INT4|INT4  |*INT4**|INT|  INT|INT4");
+    let found = printed(rt.alloc())?;
+    assert_eq!(rt;
+        found.as_str(),
+        "\"CHAR\"[]|\"CHAR\"[] |\"CHAR\"[|INT4|hstore[]|   é"
+    );
+    Ok(())
+}
+
+/// One field, `x` of the type `int4`.
+fn fields(alloc: Global) -> Result<PgTypeKind, AllocError> {
+    let mut fields = Vec::new(alloc);
+    fields.push((RcStr::from_str(alloc, "x")?, PgTypeInfo(PgType::Int4)))?;
+    Ok(PgTypeKind::Composite(fields))
+}
+
+/// One label, `sad`.
+fn labels(alloc: Global) -> Result<PgTypeKind, AllocError> {
+    let mut labels = Vec::new(alloc);
+    labels.push(RcStr::from_str(alloc, "sad")?)?;
+    Ok(PgTypeKind::Enum(RcSlice::from_vec(labels)?))
+}
+
+/// A kind of each form.
+fn kind(alloc: Global, name: &str) -> Result<PgTypeKind, AllocError> {
+    match name {
+        "simple" => Ok(PgTypeKind::Simple),
+        "pseudo" => Ok(PgTypeKind::Pseudo),
+        "domain" => Ok(PgTypeKind::Domain(PgTypeInfo(PgType::Int4))),
+        "composite" => fields(alloc),
+        "array" => Ok(PgTypeKind::Array(PgTypeInfo::with_name("y"))),
+        "enum" => labels(alloc),
+        _ => Ok(PgTypeKind::Range(PgTypeInfo::array_of("z"))),
+    }
+}
+
+/// Whether a custom type of a copy of this kind and its own copy are the same type.
+fn copied(alloc: Global, kind: &PgTypeKind) -> Result<bool, AllocError> {
+    let custom = PgTypeInfo::custom(alloc, Oid(16500), "mood", kind.clone()?)?;
+    let copy = custom.clone()?;
+    Ok(copy.type_eq(&custom))
+}
+
+/// Whether the type behind a custom type's pointer is equal to a copy of it.
+fn copied_inside(alloc: Global) -> Result<bool, AllocError> {
+    let custom = domain(alloc)?;
+    let PgType::Custom(inner) = &custom.0 else {
+        return Ok(false);
+    };
+    let copy = pgv_types::PgCustomType::clone(inner)?;
+    Ok(copy == **inner)
+}
+
+#[test]
+fn copies(rt: HostRuntime) -> Result<(), Fail> {
+    for name in [
+        "simple", "pseudo", "domain", "composite", "array", "enum", "range",
+    ] {
+        let kind = kind(rt.alloc(), name)?;
+        assert!(rt; copied(rt.alloc(), &kind)?, "{name}");
+    }
+    assert!(rt; copied_inside(rt.alloc())?);
+    if let PgType::DeclareArrayOf(of) = &PgTypeInfo::array_of("z").0 {
+        let copy = of.clone()?;
+        assert_eq!(rt; copy.elem_name(), "z");
+    }
+    Ok(())
+}
