@@ -85,6 +85,8 @@ pub fn type_of(alloc: Global, name: &str) -> Result<PgTypeInfo, AllocError> {
         "text[]" => Ok(PgTypeInfo(PgType::TextArray)),
         "json" => Ok(PgTypeInfo(PgType::Json)),
         "jsonb" => Ok(PgTypeInfo(PgType::Jsonb)),
+        "int8" => Ok(PgTypeInfo(PgType::Int8)),
+        "uuid[]" => Ok(PgTypeInfo(PgType::UuidArray)),
         "varbit[]" => Ok(PgTypeInfo(PgType::VarbitArray)),
         "record" => Ok(PgTypeInfo(PgType::Record)),
         "record[]" => Ok(PgTypeInfo(PgType::RecordArray)),

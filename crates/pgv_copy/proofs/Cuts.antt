@@ -98,7 +98,7 @@ extension_cut n bytes cut lt =
 
 -- ---- rows
 
-no_bytes : (xs ys : List ℕ) → xs ++ ys ≡ [] → 0 < length ys → ⊥
+pub no_bytes : (xs ys : List ℕ) → xs ++ ys ≡ [] → 0 < length ys → ⊥
 no_bytes xs ys e more = let len = ap length e in omega (arith, len, length-append xs ys)
 
 field_cut : (t : Ty) (types : List Ty) (part : Part) (bytes m : List ℕ) → IsField part → field_bytes part ≡ bytes ++ m → 0 < length m → fields (t ∷ types) bytes ≡ Err Short

@@ -3,3 +3,4 @@ mod Headers
 mod Rows
 mod Cuts
 mod Streams
+mod CutFrames

@@ -1,3 +1,4 @@
 pub mod CopyView
 pub mod CopyBinary
 pub mod CopyStream
+pub mod CutFrames

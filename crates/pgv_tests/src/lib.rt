@@ -6,7 +6,7 @@
 //! - [`arguments`], [`buffers`]: what is in arguments and buffers after calls, with values of a caller's own types.
 //! - [`made`]: values that are made, taken apart, copied and printed.
 //! - [`texts`], [`types`], [`values`], [`tokens`]: the calls of the lower crates.
-//! - [`records`]: records of a server. [`faults`]: readers and writers that fail.
+//! - [`records`]: records of a server. [`deep`]: types and values that are nested deep. [`faults`]: readers and writers that fail.
 #![tactic(auto)]
 
 #[cfg(test)]
@@ -15,6 +15,8 @@ mod arguments;
 mod buffers;
 #[cfg(test)]
 mod decoded;
+#[cfg(test)]
+mod deep;
 #[cfg(test)]
 mod faults;
 #[cfg(test)]

@@ -1,0 +1,82 @@
+//! What comes of bytes that are read at a Rust type.
+
+use crate::tally::Outcome;
+use pgv::{CodecError, Decode, Encode, Oid, PgArguments, PgTypeInfo, PgValueFormat, PgValueRef, Type};
+use std::alloc::{AllocError, Global};
+
+/// The OID that the types of rows have for a type that is known by name.
+fn oid_of(info: &PgTypeInfo) -> Oid {
+    match info.name().text() {
+        "page" | "pair" => Oid(16700),
+        "sizerange" => Oid(16800),
+        _ => Oid(16500),
+    }
+}
+
+/// The OIDs of the types of holes, in order.
+fn oids(alloc: Global, holes: &[PgTypeInfo]) -> Result<Vec<Oid>, AllocError> {
+    let mut oids = Vec::new(alloc);
+    for hole in holes {
+        oids.push(oid_of(hole))?;
+    }
+    Ok(oids)
+}
+
+/// The frame of a value as a parameter of this type.
+fn frame<T: Encode + Type>(
+    alloc: Global,
+    value: &T,
+    info: &PgTypeInfo,
+) -> Result<Vec<u8>, CodecError> {
+    let mut arguments = PgArguments::new(alloc);
+    arguments.add_by_ref(value)?;
+    let oids = oids(alloc, arguments.hole_types())?;
+    arguments.apply_patches(&[info.clone()?], oids.as_slice())?;
+    Ok(arguments.buffer().as_slice().to_vec(alloc)?)
+}
+
+/// The frame of the value in a frame.
+fn frame_again<T: Decode + Encode + Type>(
+    alloc: Global,
+    frame_bytes: &[u8],
+    info: &PgTypeInfo,
+) -> Result<Vec<u8>, CodecError> {
+    let mut rest = frame_bytes;
+    let value = PgValueRef::get(&mut rest, PgValueFormat::Binary, info.clone()?)?;
+    let value = T::decode(alloc, value)?;
+    frame(alloc, &value, info)
+}
+
+/// What comes of a value that is only read.
+pub fn read_only<T: Decode>(alloc: Global, value: PgValueRef<'_>) -> Outcome {
+    match T::decode(alloc, value) {
+        Ok(_) => Outcome::Read,
+        Err(error) => Outcome::Refused(error.code()),
+    }
+}
+
+/// The frame of a value that is read.
+fn frame_of<T: Decode + Encode + Type>(
+    alloc: Global,
+    value: PgValueRef<'_>,
+    info: &PgTypeInfo,
+) -> Result<Vec<u8>, CodecError> {
+    let value = T::decode(alloc, value)?;
+    frame(alloc, &value, info)
+}
+
+/// What comes of a value that is read, written and read again.
+pub fn read_again<T: Decode + Encode + Type>(
+    alloc: Global,
+    value: PgValueRef<'_>,
+    info: &PgTypeInfo,
+) -> Outcome {
+    match frame_of::<T>(alloc, value, info) {
+        Ok(frame) => {
+            let again = frame_again::<T>(alloc, frame.as_slice(), info);
+            let same = again.is_ok_and(|again| again.as_slice() == frame.as_slice());
+            if same { Outcome::Read } else { Outcome::Differs }
+        }
+        Err(error) => Outcome::Refused(error.code()),
+    }
+}
