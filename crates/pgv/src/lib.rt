@@ -7,12 +7,17 @@
 //! - [`laws`]: what is proved of all of it, each law the contract of a function that does nothing.
 #![tactic(auto)]
 
+pub use pgv_buf::{Mark, Tokens};
 pub use pgv_codec::{
     Codec, Decode, Encode, IsNull, PgArgumentBuffer, PgHasArrayType, PgRecordDecoder,
-    PgRecordEncoder, Plain, ReadBack, Type, encode_array, encode_text,
+    PgRecordEncoder, Plain, ReadBack, Type, encode_array, encode_text, type_of_value,
 };
 pub use pgv_copy::PgCopyReader;
-pub use pgv_types::{Oid, PgType, PgTypeInfo, PgTypeKind, PgTypeKindRef, PgTypeName, PgTypeRef};
+pub use pgv_range::range_compatible;
+pub use pgv_types::{
+    IdentifierChar, IdentifierChars, Oid, PgArrayOf, PgCustomType, PgType, PgTypeInfo, PgTypeKind,
+    PgTypeKindRef, PgTypeName, PgTypeRef, StaticText,
+};
 pub use pgv_value::{CodecError, PgValue, PgValueFormat, PgValueRef};
 pub use pgv_wire::PgArguments;
 
@@ -48,6 +53,7 @@ pub mod laws {
     pub use pgv_nest::laws as nest;
     pub use pgv_numeric::laws as numeric;
     pub use pgv_range::laws as range;
+    pub use pgv_session::laws as session;
     pub use pgv_text::laws as text;
     pub use pgv_types::laws as types;
     pub use pgv_value::laws as value;
