@@ -32,7 +32,7 @@ one_frame_more bytes m part row h e c = record {
   within = let lt = c.within in omega arith;
   whole = e ∙ ap (λ (xs : List ℕ). field_bytes part ++ xs) c.whole ∙ sym (append_assoc (field_bytes part) (flat_map field_bytes (take c.count row)) c.begun);
   stops = λ n. let next : suc c.count + n ≡ suc (c.count + n) = omega arith in
-    ap (λ (k : ℕ). all_got k bytes) next ∙ ap (all_got (suc (c.count + n))) e ∙ ap (λ (g : Got). g.0 ∷ all_got (c.count + n) g.1) (got_there part m h) ∙ ap (λ (xs : List (Read Part)). Ok part ∷ xs) (c.stops n);
+      ap (λ (k : ℕ). all_got k bytes) next ∙ ap (all_got (suc (c.count + n))) e ∙ ap (λ (g : Got). g.0 ∷ all_got (c.count + n) g.1) (got_there part m h) ∙ ap (λ (xs : List (Read Part)). Ok part ∷ xs) (c.stops n);
 }
 
 none_more : (n : ℕ) → 0 + n ≡ n

@@ -43,12 +43,7 @@ fn tuples(alloc: Global, name: &str, value: PgValueRef<'_>) -> Option<Outcome> {
 }
 
 /// A list or a range of the name, or none.
-fn lists(
-    alloc: Global,
-    name: &str,
-    value: PgValueRef<'_>,
-    info: &PgTypeInfo,
-) -> Option<Outcome> {
+fn lists(alloc: Global, name: &str, value: PgValueRef<'_>, info: &PgTypeInfo) -> Option<Outcome> {
     match name {
         "[i32; 2]" => Some(read_again::<[i32; 2]>(alloc, value, info)),
         "Vec<Uuid>" => Some(read_again::<Vec<Uuid>>(alloc, value, info)),
@@ -66,12 +61,7 @@ fn lists(
 }
 
 /// A value of a type of the examples, or of the name otherwise.
-fn outcome(
-    alloc: Global,
-    name: &str,
-    value: PgValueRef<'_>,
-    info: &PgTypeInfo,
-) -> Option<Outcome> {
+fn outcome(alloc: Global, name: &str, value: PgValueRef<'_>, info: &PgTypeInfo) -> Option<Outcome> {
     match name {
         "Option<i32>" => Some(read_again::<Option<i32>>(alloc, value, info)),
         "IpAddr" => Some(read_again::<IpAddr>(alloc, value, info)),
@@ -119,5 +109,11 @@ pub fn call(alloc: Global, row: &str, tally: &mut Tally) -> Result<(), Fault> {
     let digits = part.strip_prefix("b ").ok_or(Fault::Row)?;
     let bytes = hex::decode(alloc, digits.as_bytes()).or(Err(Fault::Row))?;
     let mutants = mutants(alloc, bytes.as_slice())?;
-    count(alloc, names, mutants.as_slice(), PgValueFormat::Binary, tally)
+    count(
+        alloc,
+        names,
+        mutants.as_slice(),
+        PgValueFormat::Binary,
+        tally,
+    )
 }

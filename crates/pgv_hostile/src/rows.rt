@@ -1,9 +1,8 @@
 //! The rows of an input, and what came of them.
 
-use crate::calls;
 use crate::fault::Fault;
-use crate::sessions;
 use crate::tally::Tally;
+use crate::{calls, sessions};
 use std::alloc::{AllocError, Global};
 use std::io::BufRead;
 

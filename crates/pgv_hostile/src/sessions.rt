@@ -60,7 +60,11 @@ impl Frames {
         let mut found = answers.lines();
         for frame in self.frames.lines() {
             let same = found.next().is_some_and(|answer| answer == frame);
-            tally.count(if same { Outcome::Read } else { Outcome::Differs });
+            tally.count(if same {
+                Outcome::Read
+            } else {
+                Outcome::Differs
+            });
         }
         Ok(())
     }
@@ -83,12 +87,7 @@ fn sort_answers(
 }
 
 /// The mutants of bytes that are read under a TYPE.
-pub fn read(
-    alloc: Global,
-    type_name: &[u8],
-    bytes: &[u8],
-    tally: &mut Tally,
-) -> Result<(), Fault> {
+pub fn read(alloc: Global, type_name: &[u8], bytes: &[u8], tally: &mut Tally) -> Result<(), Fault> {
     let mut lines = Vec::new(alloc);
     for mutant in mutants(alloc, bytes)? {
         let digits = hex::encode(alloc, mutant.as_slice())?;

@@ -59,7 +59,9 @@ impl Tally {
     /// A line of these numbers, after a name.
     pub fn push_line(&self, alloc: Global, name: &str, out: &mut String) -> Result<(), AllocError> {
         let (tried, read, differs) = (self.tried(), self.read, self.differs);
-        out.push_str(format!(in alloc; "{name}: {tried} tried, {read} read, {differs} differ")?.as_str())?;
+        out.push_str(format!(in alloc;
+            "{name}: {tried} tried, {read} read, {differs} differ"
+        )?.as_str())?;
         for (number, count) in self.refused.iter().enumerate() {
             if *count > 0 {
                 out.push_str(format!(in alloc; ", C{number} {count}")?.as_str())?;

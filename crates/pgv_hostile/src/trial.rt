@@ -1,7 +1,9 @@
 //! What comes of bytes that are read at a Rust type.
 
 use crate::tally::Outcome;
-use pgv::{CodecError, Decode, Encode, Oid, PgArguments, PgTypeInfo, PgValueFormat, PgValueRef, Type};
+use pgv::{
+    CodecError, Decode, Encode, Oid, PgArguments, PgTypeInfo, PgValueFormat, PgValueRef, Type,
+};
 use std::alloc::{AllocError, Global};
 
 /// The OID that the types of rows have for a type that is known by name.
@@ -75,7 +77,11 @@ pub fn read_again<T: Decode + Encode + Type>(
         Ok(frame) => {
             let again = frame_again::<T>(alloc, frame.as_slice(), info);
             let same = again.is_ok_and(|again| again.as_slice() == frame.as_slice());
-            if same { Outcome::Read } else { Outcome::Differs }
+            if same {
+                Outcome::Read
+            } else {
+                Outcome::Differs
+            }
         }
         Err(error) => Outcome::Refused(error.code()),
     }

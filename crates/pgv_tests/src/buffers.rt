@@ -102,11 +102,7 @@ fn encode_range(alloc: Global, buffer: &mut PgArgumentBuffer) -> Result<(), Code
 }
 
 /// A call that writes what a caller's own encoder writes.
-fn write_piece(
-    alloc: Global,
-    buffer: &mut PgArgumentBuffer,
-    call: &str,
-) -> Result<(), CodecError> {
+fn write_piece(alloc: Global, buffer: &mut PgArgumentBuffer, call: &str) -> Result<(), CodecError> {
     match call {
         "text a" => match encode_text("a", buffer) {
             Ok(_) => Ok(()),

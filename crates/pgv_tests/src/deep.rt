@@ -28,14 +28,23 @@ fn record_under_a_thousand_domains(rt: HostRuntime) -> Result<(), Fail> {
 }
 
 type One = Vec<(i32, Vec<i32>)>;
+
 type Two = Vec<(i32, One)>;
+
 type Three = Vec<(i32, Two)>;
+
 type Four = Vec<(i32, Three)>;
+
 type Five = Vec<(i32, Four)>;
+
 type Six = Vec<(i32, Five)>;
+
 type Seven = Vec<(i32, Six)>;
+
 type Eight = Vec<(i32, Seven)>;
+
 type Nine = Vec<(i32, Eight)>;
+
 type Ten = Vec<(i32, Nine)>;
 
 /// Appends a length and these bytes.
@@ -70,6 +79,9 @@ fn lists_in_records_twenty_deep(rt: HostRuntime) -> Result<(), Fail> {
     let records = PgTypeInfo(PgType::RecordArray);
     let value = PgValueRef::new(Some(bytes.as_slice()), records, PgValueFormat::Binary);
     let found = debug::<Ten>(rt.alloc(), value)?;
-    assert_eq!(rt; found.as_str(), "[(7, [(7, [(7, [(7, [(7, [(7, [(7, [(7, [(7, [(7, [])])])])])])])])])]");
+    assert_eq!(rt;
+        found.as_str(),
+        "[(7, [(7, [(7, [(7, [(7, [(7, [(7, [(7, [(7, [(7, [])])])])])])])])])]"
+    );
     Ok(())
 }

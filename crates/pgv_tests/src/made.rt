@@ -70,7 +70,10 @@ fn trees(rt: HostRuntime) -> Result<(), Fail> {
     let made = trees_of_labels(rt.alloc(), &mut lines);
     let text = lines.text()?;
     assert!(rt; changed.is_ok() && made.is_ok());
-    assert_eq!(rt; text.as_str(), "Top.Science\nyes\nScience\nTop.x\nyes\nTop\n");
+    assert_eq!(rt;
+        text.as_str(),
+        "Top.Science\nyes\nScience\nTop.x\nyes\nTop\n"
+    );
     Ok(())
 }
 
@@ -130,7 +133,10 @@ fn queries(rt: HostRuntime) -> Result<(), Fail> {
     let printed = printed_parts(rt.alloc(), &mut lines);
     let text = lines.text()?;
     assert!(rt; changed.is_ok() && printed.is_ok());
-    assert_eq!(rt; text.as_str(), "Top.*.!a|b*\nyes\n!a|b*\nTop.*.!b*\n.\nx\n*%\nyes\n");
+    assert_eq!(rt;
+        text.as_str(),
+        "Top.*.!a|b*\nyes\n!a|b*\nTop.*.!b*\n.\nx\n*%\nyes\n"
+    );
     Ok(())
 }
 
@@ -253,7 +259,10 @@ fn bits(rt: HostRuntime) -> Result<(), Fail> {
     let mut lines = Lines::new(rt.alloc());
     changed_bits(rt.alloc(), &mut lines)?;
     let text = lines.text()?;
-    assert_eq!(rt; text.as_str(), "00000009aa80\nyes\naa80\nyes\nyes\n0000000280\n");
+    assert_eq!(rt;
+        text.as_str(),
+        "00000009aa80\nyes\naa80\nyes\nyes\n0000000280\n"
+    );
     Ok(())
 }
 
@@ -284,7 +293,10 @@ fn strings_of_bytes(rt: HostRuntime) -> Result<(), Fail> {
     texts_without_case(rt.alloc(), &mut lines)?;
     strings(rt.alloc(), &mut lines)?;
     let text = lines.text()?;
-    assert_eq!(rt; text.as_str(), "yes\nAb\nAb\nno\n0102\n00ff\n08002b010203\nyes\n");
+    assert_eq!(rt;
+        text.as_str(),
+        "yes\nAb\nAb\nno\n0102\n00ff\n08002b010203\nyes\n"
+    );
     Ok(())
 }
 
@@ -411,9 +423,21 @@ fn intervals(rt: HostRuntime) -> Result<(), Fail> {
     let mut lines = Lines::new(alloc);
     durations(&mut lines);
     signed_durations(&mut lines);
-    push_interval(alloc, &mut lines, PgInterval::try_from(SignedDuration::from_nanos(-27000001)));
-    push_interval(alloc, &mut lines, PgInterval::try_from(Duration::from_secs(20000000000000)));
-    push_interval(alloc, &mut lines, PgInterval::try_from(Duration::from_nanos(0)));
+    push_interval(
+        alloc,
+        &mut lines,
+        PgInterval::try_from(SignedDuration::from_nanos(-27000001)),
+    );
+    push_interval(
+        alloc,
+        &mut lines,
+        PgInterval::try_from(Duration::from_secs(20000000000000)),
+    );
+    push_interval(
+        alloc,
+        &mut lines,
+        PgInterval::try_from(Duration::from_nanos(0)),
+    );
     let text = lines.text()?;
     assert_eq!(rt;
         text.as_str(),
@@ -445,6 +469,9 @@ fn times_as_written(rt: HostRuntime) -> Result<(), Fail> {
     let mut lines = Lines::new(rt.alloc());
     times(rt.alloc(), &mut lines)?;
     let text = lines.text()?;
-    assert_eq!(rt; text.as_str(), "ffffffff\n0000000000000000\nC6\n2000-01-01T00:00:00\n");
+    assert_eq!(rt;
+        text.as_str(),
+        "ffffffff\n0000000000000000\nC6\n2000-01-01T00:00:00\n"
+    );
     Ok(())
 }

@@ -196,7 +196,13 @@ fn copied_inside(alloc: Global) -> Result<bool, AllocError> {
 #[test]
 fn copies(rt: HostRuntime) -> Result<(), Fail> {
     for name in [
-        "simple", "pseudo", "domain", "composite", "array", "enum", "range",
+        "simple",
+        "pseudo",
+        "domain",
+        "composite",
+        "array",
+        "enum",
+        "range",
     ] {
         let kind = kind(rt.alloc(), name)?;
         assert!(rt; copied(rt.alloc(), &kind)?, "{name}");
