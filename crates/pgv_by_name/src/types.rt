@@ -5,7 +5,7 @@ use jiff::civil::DateTime;
 use pgv::types::PgRange;
 use pgv::{Oid, PgHasArrayType, PgType, PgTypeInfo, PgTypeKind, Type};
 use std::alloc::{AllocError, Global};
-use std::rc::RcStr;
+use std::rc::{RcSlice, RcStr};
 
 /// A composite type of these fields, in order.
 fn composite(
@@ -66,6 +66,10 @@ fn custom(alloc: Global, name: &str) -> Result<PgTypeInfo, AllocError> {
         }
         "page[]" => told(alloc, 16701, "_page", PgTypeKind::Array(page(alloc)?)),
         "mood[]" | "ltree[]" => arrays_of(alloc, name),
+        "enum" => {
+            let labels = RcSlice::from_vec(Vec::new(alloc))?;
+            told(alloc, 16500, "mood", PgTypeKind::Enum(labels))
+        }
         "sizerange[]" => size_ranges(alloc),
         "textrange" => {
             let text = PgTypeInfo(PgType::Text);

@@ -28,8 +28,11 @@ fn record_under_a_thousand_domains(rt: HostRuntime) -> Result<(), Fail> {
 }
 
 type One = Vec<(i32, Vec<i32>)>;
+
 type Two = Vec<(i32, One)>;
+
 type Three = Vec<(i32, Two)>;
+
 type Four = Vec<(i32, Three)>;
 
 /// Appends a length and these bytes.

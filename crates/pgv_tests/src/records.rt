@@ -3,7 +3,8 @@
 mod server;
 
 use pgv::{
-    CodecError, Decode, Encode, PgArgumentBuffer, PgRecordDecoder, PgValueFormat, PgValueRef, Type,
+    CodecError, Decode, Encode, PgArgumentBuffer, PgRecordDecoder, PgType, PgTypeInfo,
+    PgValueFormat, PgValueRef, Type,
 };
 use pgv_by_name::type_of;
 use pgv_examples::pair::Pair;
@@ -89,6 +90,18 @@ fn line_agrees(alloc: Global, line: &str) -> Result<bool, Fail> {
 fn records_of_a_server(rt: HostRuntime) -> Result<(), Fail> {
     for line in RECORDS.lines() {
         assert!(rt; line_agrees(rt.alloc(), line)?, "{line}");
+    }
+    Ok(())
+}
+
+#[test]
+fn no_field_as_often_as_it_is_asked(rt: HostRuntime) -> Result<(), Fail> {
+    let record = PgTypeInfo(PgType::Record);
+    let value = PgValueRef::new(Some(&[255; 4]), record, PgValueFormat::Binary);
+    let mut fields = PgRecordDecoder::new(rt.alloc(), value)?;
+    for _ in 0..3 {
+        let field = fields.try_decode::<i32>();
+        assert!(rt; matches!(field, Err(CodecError::NoField(0))));
     }
     Ok(())
 }
