@@ -14,47 +14,30 @@ fn push_tokens(alloc: Global, lines: &mut Lines, tokens: &Tokens) {
     lines.push(format!(in alloc; "{holes} {slots}"));
 }
 
-/// Two holes among bytes.
-fn two_holes(alloc: Global) -> Result<Tokens, AllocError> {
+/// Two holes among bytes, which are filled.
+fn holes(alloc: Global, lines: &mut Lines) -> Result<(), AllocError> {
     let mut tokens = Tokens::new(alloc);
     tokens.reserve(10)?;
     tokens.push(7)?;
     tokens.push_hole(PgTypeInfo::with_name("mood"))?;
     tokens.extend_from_slice(b"ok")?;
     tokens.push_hole(PgTypeInfo::with_name("size"))?;
-    Ok(tokens)
-}
-
-/// These holes, filled twice.
-fn holes(alloc: Global, lines: &mut Lines) -> Result<(), AllocError> {
-    let mut tokens = two_holes(alloc)?;
     push_tokens(alloc, lines, &tokens);
     tokens.fill(&[], &[], &[Oid(16600), Oid(16601)]);
-    push_tokens(alloc, lines, &tokens);
-    tokens.fill(&[], &[], &[Oid(1), Oid(2)]);
     push_tokens(alloc, lines, &tokens);
     Ok(())
 }
 
-/// The slot of a version: a space, or 1 where the parameter is `jsonb`; and a brace.
-fn version(alloc: Global) -> Result<Tokens, AllocError> {
+/// The slot of a version, a space, or 1 where the parameter is `jsonb`, which is filled; and a copy that stays.
+fn slots(alloc: Global, lines: &mut Lines) -> Result<(), AllocError> {
     let mut version = Vec::new(alloc);
     version.push(1)?;
     let mut cases = Vec::new(alloc);
     cases.push((PgTypeInfo::with_oid(Oid(3802)), version))?;
     let mut tokens = Tokens::new(alloc);
     tokens.push_slot(b" ", cases)?;
-    tokens.push(b'{')?;
-    Ok(tokens)
-}
-
-/// This slot by its argument's type, and a copy that stays.
-fn slots(alloc: Global, lines: &mut Lines) -> Result<(), AllocError> {
-    let mut tokens = version(alloc)?;
-    push_tokens(alloc, lines, &tokens);
-    tokens.fill(&[PgTypeInfo::with_oid(Oid(3802))], &[1], &[]);
     let copy = tokens.clone()?;
-    tokens.fill(&[PgTypeInfo::with_oid(Oid(114))], &[1], &[]);
+    tokens.fill(&[PgTypeInfo::with_oid(Oid(3802))], &[1], &[]);
     push_tokens(alloc, lines, &copy);
     push_tokens(alloc, lines, &tokens);
     Ok(())
@@ -106,8 +89,7 @@ fn tokens(rt: HostRuntime) -> Result<(), Fail> {
     let text = lines.text()?;
     assert_eq!(rt;
         text.as_str(),
-        "07000000006f6b00000000\n2 0\n07000040d86f6b000040d9\n2 0\n07000000016f6b00000002\n2 0\n\
-207b\n0 1\n017b\n0 1\n207b\n0 1\n\n0 2\n\n0 1\n\n0 0\n\
+        "07000000006f6b00000000\n2 0\n07000040d86f6b000040d9\n2 0\n20\n0 1\n01\n0 1\n\n0 2\n\n0 1\n\n0 0\n\
 0000000400000001\n0 0\n\
 0000000400000001\
 0000001c0000000100000000000000000000000100000001000000040161\
