@@ -5,7 +5,7 @@
 //! - [`decoded`]: what is read at concrete types; its rows are in `readings` and `server`.
 //! - [`arguments`], [`buffers`]: what is in arguments and buffers after calls, with values of a caller's own types.
 //! - [`made`]: values that are made, taken apart, copied and printed.
-//! - [`texts`], [`types`], [`values`], [`tokens`]: the calls of the lower crates.
+//! - [`texts`], [`types`], [`values`]: the calls of the lower crates.
 //! - [`records`]: records of a server. [`deep`]: types and values that are nested deep. [`faults`]: readers and writers that fail.
 #![tactic(auto)]
 
@@ -31,8 +31,6 @@ mod server;
 mod shown;
 #[cfg(test)]
 mod texts;
-#[cfg(test)]
-mod tokens;
 #[cfg(test)]
 mod types;
 #[cfg(test)]
