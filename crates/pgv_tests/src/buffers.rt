@@ -3,10 +3,10 @@
 use crate::shown::{joined, names, outcome};
 use pgv::types::PgRange;
 use pgv::{
-    CodecError, Oid, PgArgumentBuffer, PgRecordEncoder, PgType, PgTypeInfo, encode_array,
-    encode_text,
+    CodecError, Oid, PgArgumentBuffer, PgRecordEncoder, PgTypeInfo, encode_array, encode_text,
 };
 use pgv_by_name::{Huge, Size, sizes};
+use pgv_examples::empty_object::push_version;
 use pgv_examples::mood::Mood;
 use std::alloc::Global;
 use std::test::Fail;
@@ -60,15 +60,6 @@ holes => size";
 fn encode_texts(alloc: Global, buffer: &mut PgArgumentBuffer) -> Result<(), CodecError> {
     let texts = [Some(String::new(alloc)), None];
     buffer.encode(&texts)
-}
-
-/// The slot of a version: a space, or 1 where the parameter is `jsonb`.
-fn push_version(alloc: Global, buffer: &mut PgArgumentBuffer) -> Result<(), CodecError> {
-    let mut version = Vec::new(alloc);
-    version.push(1)?;
-    let mut cases = Vec::new(alloc);
-    cases.push((PgTypeInfo(PgType::Jsonb), version))?;
-    buffer.push_slot(b" ", cases)
 }
 
 /// Two braces, the first of them as a slice of bytes.
