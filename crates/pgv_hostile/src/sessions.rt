@@ -54,6 +54,12 @@ impl Frames {
         push_reading(&mut self.lines, type_name, part)
     }
 
+    /// Whether each is answered by itself.
+    fn stay(&self, alloc: Global) -> Result<bool, Fault> {
+        let answers = answers(alloc, self.lines.as_slice())?;
+        Ok(answers == self.frames)
+    }
+
     /// Reads them all. Each has to be answered by itself.
     fn count(&self, alloc: Global, tally: &mut Tally) -> Result<(), Fault> {
         let answers = answers(alloc, self.lines.as_slice())?;
@@ -133,6 +139,41 @@ fn push_copy(lines: &mut Vec<u8>, digits: &str, types: &[u8]) -> Result<(), Allo
     Ok(lines.push(b'\n')?)
 }
 
+/// The frames of a row's fields, which are of these TYPEs.
+fn push_fields(frames: &mut Frames, row: &str, types: &[u8]) -> Result<(), AllocError> {
+    let mut names = types.split(|byte| *byte == b' ');
+    for field in row.split(' ') {
+        let name = names.next().unwrap_or(b"?");
+        if field != "null" {
+            frames.push(name, field)?;
+        }
+    }
+    Ok(())
+}
+
+/// Whether each field of the rows of an answer is read as itself.
+fn fields_stay(alloc: Global, answer: &str, types: &[u8]) -> Result<bool, Fault> {
+    let mut frames = Frames::new(alloc);
+    if answer != "none" {
+        for row in answer.split(" / ") {
+            push_fields(&mut frames, row, types)?;
+        }
+    }
+    frames.stay(alloc)
+}
+
+/// What comes of a stream: the refusal, or rows whose fields are read as themselves.
+fn stream(alloc: Global, answer: &str, types: &[u8]) -> Result<Outcome, Fault> {
+    if let Some(number) = refusal(answer) {
+        return Ok(Outcome::Refused(number));
+    }
+    if fields_stay(alloc, answer, types)? {
+        Ok(Outcome::Read)
+    } else {
+        Ok(Outcome::Differs)
+    }
+}
+
 /// The mutants of a stream of COPY with rows of these TYPEs.
 pub fn copy(alloc: Global, bytes: &[u8], types: &[u8], tally: &mut Tally) -> Result<(), Fault> {
     let mut lines = Vec::new(alloc);
@@ -142,7 +183,7 @@ pub fn copy(alloc: Global, bytes: &[u8], types: &[u8], tally: &mut Tally) -> Res
     }
     let answers = answers(alloc, lines.as_slice())?;
     for answer in answers.lines() {
-        tally.count(refusal(answer).map_or(Outcome::Read, Outcome::Refused));
+        tally.count(stream(alloc, answer, types)?);
     }
     Ok(())
 }

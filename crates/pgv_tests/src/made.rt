@@ -182,6 +182,19 @@ fn texts_of_queries(rt: HostRuntime) -> Result<(), Fail> {
     Ok(())
 }
 
+#[test]
+fn texts_of_version_errors(rt: HostRuntime) -> Result<(), Fail> {
+    let mut lines = Lines::new(rt.alloc());
+    lines.shown(&PgLTreeParseError::InvalidLtreeVersion);
+    lines.shown(&PgLQueryParseError::InvalidLqueryVersion);
+    let text = lines.text()?;
+    assert_eq!(rt;
+        text.as_str(),
+        "ltree version not supported\nlquery version not supported\n"
+    );
+    Ok(())
+}
+
 /// Pairs of texts; a key that stands twice has the value of the last.
 fn pairs(alloc: Global) -> Result<Vec<(String, Option<String>)>, AllocError> {
     let mut pairs = Vec::new(alloc);
@@ -372,6 +385,9 @@ fn push_ranges(lines: &mut Lines) {
     push_range(lines, PgRange::from((Bound::Unbounded, Bound::Unbounded)));
     push_range(lines, PgRange::from(10..10));
     push_range(lines, PgRange::empty());
+    lines.holds(PgRange::from(1..10) == PgRange::from(1..=10));
+    lines.holds(PgRange::from(10..10) == PgRange::Empty);
+    lines.holds(PgRange::<i32>::empty() == PgRange::Empty);
 }
 
 #[test]
@@ -389,7 +405,8 @@ fn ranges(rt: HostRuntime) -> Result<(), Fail> {
 (1,)\n100000000400000001\nyes\n\
 (,)\n18\nyes\n\
 [10,10)\n02000000040000000a000000040000000a\nyes\n\
-empty\n01\nno\n"
+empty\n01\nno\n\
+no\nno\nyes\n"
     );
     Ok(())
 }

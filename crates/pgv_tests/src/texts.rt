@@ -122,6 +122,29 @@ fn texts_of_nests(rt: HostRuntime) -> Result<(), Fail> {
     Ok(())
 }
 
+/// Whether the text of a range is that of the empty one, how many parts it has, and whether its brackets include them.
+fn about_range(alloc: Global, text: &str) -> Result<String, AllocError> {
+    match Parts::new(TextForm::Range, text) {
+        Some(parts) => {
+            let (lower, upper) = parts.includes();
+            let (empty, count) = (parts.is_empty_range(), parts.len());
+            format!(in alloc; "{empty} {count} {lower} {upper}")
+        }
+        None => String::from_str(alloc, "none"),
+    }
+}
+
+#[test]
+fn parts_of_empty_ranges(rt: HostRuntime) -> Result<(), Fail> {
+    let found = about_range(rt.alloc(), "EMPTY")?;
+    assert_eq!(rt; found.as_str(), "true 0 false false");
+    let found = about_range(rt.alloc(), "[,2)")?;
+    assert_eq!(rt; found.as_str(), "false 2 true false");
+    assert!(rt; Parts::new(TextForm::Array, "empty").is_none());
+    assert!(rt; Parts::new(TextForm::Record, "empty").is_none());
+    Ok(())
+}
+
 /// The parts that are still to come, each in a text that is used again.
 fn push_parts(
     out: &mut String,

@@ -1,6 +1,8 @@
 //! Names and types: which agree, what is printed of them, and copies.
 
-use pgv::{Oid, PgType, PgTypeInfo, PgTypeKind, identifier_chars, name_eq};
+use crate::shown::Lines;
+use pgv::types::{BitVec, MacAddress, PgHstore, PgLQuery, PgLTree, PgRange};
+use pgv::{Oid, PgType, PgTypeInfo, PgTypeKind, Type, identifier_chars, name_eq};
 use std::alloc::{AllocError, Global};
 use std::rc::{RcSlice, RcStr};
 use std::test::Fail;
@@ -146,6 +148,101 @@ fn printed_types(rt: HostRuntime) -> Result<(), Fail> {
         found.as_str(),
         "\"CHAR\"[]|\"CHAR\"[] |\"CHAR\"[|INT4|hstore[]|   é"
     );
+    Ok(())
+}
+
+/// Rust types, types of columns, and whether values of the one are read under the other.
+const COMPATIBLE: &str = "\
+String, citext: yes
+Option<i32>, int4: yes
+Vec<i32>, int8[]: no
+[String; 2], varchar[]: yes
+(), record: yes
+PgHstore, hstore: yes
+PgHstore, citext: no
+Vec<PgHstore>, hstore[]: yes
+PgLQuery, ltree: no
+Vec<PgLTree>, ltree[]: yes
+BitVec, bit: yes
+Vec<BitVec>, bit[]: yes
+MacAddress, bit: no
+PgRange<i32>, int4range: yes
+PgRange<i32>, int8range: no
+PgRange<i32>, named int4range: no";
+
+/// The type of a column, by its name here.
+fn column(name: &'static str) -> PgTypeInfo {
+    match name {
+        "int4" => PgTypeInfo(PgType::Int4),
+        "int8[]" => PgTypeInfo(PgType::Int8Array),
+        "varchar[]" => PgTypeInfo(PgType::VarcharArray),
+        "record" => PgTypeInfo(PgType::Record),
+        "bit" => PgTypeInfo(PgType::Bit),
+        "bit[]" => PgTypeInfo(PgType::BitArray),
+        "int4range" => PgTypeInfo(PgType::Int4Range),
+        "int8range" => PgTypeInfo(PgType::Int8Range),
+        "named int4range" => PgTypeInfo::with_name("int4range"),
+        "hstore[]" => PgTypeInfo::array_of("hstore"),
+        "ltree[]" => PgTypeInfo::array_of("ltree"),
+        _ => PgTypeInfo::with_name(name),
+    }
+}
+
+/// Whether values of the Rust type of a name are read under a type.
+fn compatible(name: &str, info: &PgTypeInfo) -> bool {
+    match name {
+        "String" => String::compatible(info),
+        "Option<i32>" => Option::<i32>::compatible(info),
+        "Vec<i32>" => Vec::<i32>::compatible(info),
+        "[String; 2]" => <[String; 2]>::compatible(info),
+        "()" => <()>::compatible(info),
+        "PgHstore" => PgHstore::compatible(info),
+        "Vec<PgHstore>" => Vec::<PgHstore>::compatible(info),
+        "PgLQuery" => PgLQuery::compatible(info),
+        "Vec<PgLTree>" => Vec::<PgLTree>::compatible(info),
+        "BitVec" => BitVec::compatible(info),
+        "Vec<BitVec>" => Vec::<BitVec>::compatible(info),
+        "MacAddress" => MacAddress::compatible(info),
+        _ => PgRange::<i32>::compatible(info),
+    }
+}
+
+#[test]
+fn types_that_are_compatible(rt: HostRuntime) -> Result<(), Fail> {
+    for line in COMPATIBLE.lines() {
+        let (types, wanted) = line.split_once(": ").ok_or("no answer")?;
+        let (rust, info) = types.split_once(", ").ok_or("no type")?;
+        let found = compatible(rust, &column(info));
+        assert_eq!(rt; found, wanted == "yes", "{types}");
+    }
+    Ok(())
+}
+
+/// The catalogue name of the type of an OID and what is printed of it, or `none`.
+fn push_type(alloc: Global, lines: &mut Lines, oid: u32) {
+    lines.push(match PgTypeInfo::try_from_oid(Oid(oid)) {
+        Some(info) => format!(in alloc; "{} {info}", info.0.name()),
+        None => String::from_str(alloc, "none"),
+    })
+}
+
+/// The name of the type of an array's elements, or `none`.
+fn push_element(alloc: Global, lines: &mut Lines, info: &PgTypeInfo) {
+    lines.push(match info.array_element() {
+        Some(element) => format!(in alloc; "{}", element.as_ref().name()),
+        None => String::from_str(alloc, "none"),
+    })
+}
+
+#[test]
+fn types_of_oids_and_of_elements(rt: HostRuntime) -> Result<(), Fail> {
+    let mut lines = Lines::new(rt.alloc());
+    push_type(rt.alloc(), &mut lines, 1007);
+    push_type(rt.alloc(), &mut lines, 24);
+    push_element(rt.alloc(), &mut lines, &PgTypeInfo::with_name("_foo"));
+    push_element(rt.alloc(), &mut lines, &PgTypeInfo::with_name("\"_foo\""));
+    let text = lines.text()?;
+    assert_eq!(rt; text.as_str(), "_int4 INT4[]\nnone\nfoo\nnone\n");
     Ok(())
 }
 
