@@ -3,19 +3,26 @@
 use pgv::{RunFault, fault_text, run};
 use std::alloc::Global;
 use std::io::{self, BufRead, Error, ErrorKind, Read, Write};
-use std::test::Fail;
 
-/// A reader that fails at a call, with an error of this kind.
-#[derive(Drop)]
-struct FailingReader<'a> {
-    bytes: &'a [u8],
+/// Calls that succeed, as many as are left, and then one that fails.
+struct Countdown {
     calls: u32,
+    met: bool,
     kind: ErrorKind,
 }
 
-impl FailingReader<'_> {
+impl Countdown {
+    fn new(calls: u32, kind: ErrorKind) -> Countdown {
+        Countdown {
+            calls,
+            met: false,
+            kind,
+        }
+    }
+
     fn step(&mut self) -> io::Result<()> {
         if self.calls == 0 {
+            self.met = true;
             return Err(Error::from(self.kind));
         }
         self.calls -= 1;
@@ -23,9 +30,15 @@ impl FailingReader<'_> {
     }
 }
 
+/// A reader that fails at a call.
+struct FailingReader<'a> {
+    bytes: &'a [u8],
+    left: Countdown,
+}
+
 impl Read for FailingReader<'_> {
     fn read(&mut self, buf: &mut [u8]) -> io::Result<usize> {
-        self.step()?;
+        self.left.step()?;
         let Some((first, rest)) = self.bytes.split_first() else {
             return Ok(0);
         };
@@ -40,7 +53,7 @@ impl Read for FailingReader<'_> {
 
 impl BufRead for FailingReader<'_> {
     fn fill_buf(&mut self) -> io::Result<&[u8]> {
-        self.step()?;
+        self.left.step()?;
         let shown = if self.bytes.len() < 3 {
             self.bytes.len()
         } else {
@@ -56,25 +69,25 @@ impl BufRead for FailingReader<'_> {
     }
 }
 
-/// A writer that fails at a call.
-#[derive(Drop)]
+/// A writer that fails at a call, `flush` among them, and compares what is written with the answers.
 struct FailingWriter {
-    written: Vec<u8>,
-    calls: u32,
+    answers: &'static [u8],
+    same: bool,
+    left: Countdown,
 }
 
 impl Write for FailingWriter {
     fn write(&mut self, buf: &[u8]) -> io::Result<usize> {
-        if self.calls == 0 {
-            return Err(Error::from(ErrorKind::Other));
+        self.left.step()?;
+        match self.answers.strip_prefix(buf) {
+            Some(answers) => self.answers = answers,
+            None => self.same = false,
         }
-        self.calls -= 1;
-        self.written.extend_from_slice(buf)?;
         Ok(buf.len())
     }
 
     fn flush(&mut self) -> io::Result<()> {
-        Ok(())
+        self.left.step()
     }
 }
 
@@ -84,46 +97,76 @@ const LINES: &[u8] = b"add int4 7\nwire\nwhat";
 /// The answers of these lines.
 const ANSWERS: &[u8] = b"$1\n0000000400000007\nrefused line\n";
 
-/// What `run` answers where its reader fails at a call, and whether what was written is a beginning of the answers.
-fn read_failing(alloc: Global, calls: u32, kind: ErrorKind) -> (Result<(), RunFault>, bool) {
-    let mut reader = FailingReader {
+/// A reader of the lines that fails after these calls.
+fn reader(calls: u32, kind: ErrorKind) -> FailingReader<'static> {
+    FailingReader {
         bytes: LINES,
-        calls,
-        kind,
-    };
-    let mut written: Vec<u8> = Vec::new(alloc);
-    let done = run(alloc, &mut reader, &mut written);
-    (done, ANSWERS.starts_with(written.as_slice()))
+        left: Countdown::new(calls, kind),
+    }
 }
 
-/// The same where its writer fails at a call.
-fn write_failing(alloc: Global, calls: u32) -> (Result<(), RunFault>, bool) {
-    let mut writer = FailingWriter {
-        written: Vec::new(alloc),
-        calls,
-    };
-    let mut reader = LINES;
+/// A writer of the answers that fails after these calls.
+fn writer(calls: u32) -> FailingWriter {
+    FailingWriter {
+        answers: ANSWERS,
+        same: true,
+        left: Countdown::new(calls, ErrorKind::Other),
+    }
+}
+
+/// What `run` has to answer where a failure is met, and where none is.
+fn wanted(met: bool, fault: RunFault) -> Result<(), RunFault> {
+    if met { Err(fault) } else { Ok(()) }
+}
+
+/// Whether `run` answers the fault exactly where its reader fails, after a beginning of the answers; and whether it does.
+fn read_failing(alloc: Global, calls: u32, kind: ErrorKind, fault: RunFault) -> (bool, bool) {
+    let mut reader = reader(calls, kind);
+    let mut writer = writer(u32::MAX);
     let done = run(alloc, &mut reader, &mut writer);
-    (done, ANSWERS.starts_with(writer.written.as_slice()))
+    let met = reader.left.met;
+    let whole = met || writer.answers.is_empty();
+    (done == wanted(met, fault) && writer.same && whole, met)
+}
+
+/// The same where its writer fails.
+fn write_failing(alloc: Global, calls: u32) -> (bool, bool) {
+    let mut reader = reader(u32::MAX, ErrorKind::Other);
+    let mut writer = writer(calls);
+    let done = run(alloc, &mut reader, &mut writer);
+    let met = writer.left.met;
+    (done == wanted(met, RunFault::Write) && writer.same, met)
 }
 
 #[test]
-fn faults_are_told(rt: HostRuntime) -> Result<(), Fail> {
-    let alloc = rt.alloc();
-    for calls in 0..40u32 {
-        let (done, begun) = read_failing(alloc, calls, ErrorKind::Other);
-        assert!(rt; begun && (done == Ok(()) || done == Err(RunFault::Read)));
+fn failing_readers(rt: HostRuntime) {
+    for calls in 0..100u32 {
+        let (told, met) = read_failing(rt.alloc(), calls, ErrorKind::Other, RunFault::Read);
+        assert!(rt; told, "{calls}");
+        if !met {
+            return;
+        }
     }
-    for calls in 0..6u32 {
-        let wanted = if calls < 3 {
-            Err(RunFault::Write)
-        } else {
-            Ok(())
-        };
-        assert!(rt; write_failing(alloc, calls) == (wanted, true));
+    assert!(rt; false);
+}
+
+#[test]
+fn failing_writers(rt: HostRuntime) {
+    for calls in 0..100u32 {
+        let (told, met) = write_failing(rt.alloc(), calls);
+        assert!(rt; told, "{calls}");
+        if !met {
+            return;
+        }
     }
-    let memory = read_failing(alloc, 1, ErrorKind::OutOfMemory);
-    assert!(rt; memory == (Err(RunFault::Memory), true));
+    assert!(rt; false);
+}
+
+#[test]
+fn faults_are_told(rt: HostRuntime) {
+    let kind = ErrorKind::OutOfMemory;
+    let (told, met) = read_failing(rt.alloc(), 1, kind, RunFault::Memory);
+    assert!(rt; told && met);
     for (fault, text) in [
         (RunFault::Read, "pgvalue: read failed"),
         (RunFault::Write, "pgvalue: write failed"),
@@ -131,5 +174,4 @@ fn faults_are_told(rt: HostRuntime) -> Result<(), Fail> {
     ] {
         assert_eq!(rt; fault_text(&fault), text);
     }
-    Ok(())
 }

@@ -1,6 +1,6 @@
 //! Answers as texts, which rows are compared with.
 
-use pgv::{CodecError, Decode, Encode, PgArgumentBuffer, PgTypeInfo, PgValueRef};
+use pgv::{CodecError, Decode, Encode, PgArgumentBuffer, PgValueRef};
 use std::alloc::{AllocError, Global};
 use std::fmt::{Debug, Display};
 
@@ -10,33 +10,11 @@ pub fn refused(alloc: Global, error: &CodecError) -> Result<String, AllocError> 
     format!(in alloc; "C{number}")
 }
 
-/// `ok`, or the refusal.
-pub fn outcome<T: Drop>(
-    alloc: Global,
-    answer: Result<T, CodecError>,
-) -> Result<String, AllocError> {
-    match answer {
-        Ok(_) => String::from_str(alloc, "ok"),
-        Err(error) => refused(alloc, &error),
-    }
-}
-
 /// What is written of a value, in hex, or the refusal.
 pub fn written<T: Encode>(alloc: Global, value: &T) -> Result<String, AllocError> {
     let mut out = PgArgumentBuffer::new(alloc);
     match value.encode_by_ref(&mut out) {
         Ok(_) => hex::encode(alloc, out.as_slice()),
-        Err(error) => refused(alloc, &error),
-    }
-}
-
-/// What is written of the value that is read, or the refusal.
-pub fn again<T: Decode + Encode>(
-    alloc: Global,
-    value: PgValueRef<'_>,
-) -> Result<String, AllocError> {
-    match T::decode(alloc, value) {
-        Ok(value) => written(alloc, &value),
         Err(error) => refused(alloc, &error),
     }
 }
@@ -53,29 +31,6 @@ pub fn debug<T: Decode + Debug>(
             format!(in alloc; "C{number} {error:?}")
         }
     }
-}
-
-/// The names of types, with a space between.
-pub fn names(alloc: Global, types: &[PgTypeInfo]) -> Result<String, AllocError> {
-    let mut text = String::new(alloc);
-    for info in types {
-        if !text.is_empty() {
-            text.push(' ')?;
-        }
-        let name = info.name();
-        text.push_str(name.text())?;
-        text.push_str(name.suffix())?;
-    }
-    Ok(text)
-}
-
-/// A text without its spaces: hex is grouped for reading.
-pub fn joined(alloc: Global, text: &str) -> Result<String, AllocError> {
-    let mut joined = String::new(alloc);
-    for group in text.split(' ') {
-        joined.push_str(group)?;
-    }
-    Ok(joined)
 }
 
 /// A text and a line feed, after what is there.

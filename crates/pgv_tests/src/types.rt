@@ -4,7 +4,6 @@ use crate::shown::Lines;
 use pgv::types::{BitVec, MacAddress, PgHstore, PgLQuery, PgLTree, PgRange};
 use pgv::{Oid, PgType, PgTypeInfo, PgTypeKind, Type, identifier_chars, name_eq};
 use std::alloc::{AllocError, Global};
-use std::rc::{RcSlice, RcStr};
 use std::test::Fail;
 
 /// Two names, and whether they agree, which is the same both ways.
@@ -243,71 +242,5 @@ fn types_of_oids_and_of_elements(rt: HostRuntime) -> Result<(), Fail> {
     push_element(rt.alloc(), &mut lines, &PgTypeInfo::with_name("\"_foo\""));
     let text = lines.text()?;
     assert_eq!(rt; text.as_str(), "_int4 INT4[]\nnone\nfoo\nnone\n");
-    Ok(())
-}
-
-/// One field, `x` of the type `int4`.
-fn fields(alloc: Global) -> Result<PgTypeKind, AllocError> {
-    let mut fields = Vec::new(alloc);
-    fields.push((RcStr::from_str(alloc, "x")?, PgTypeInfo(PgType::Int4)))?;
-    Ok(PgTypeKind::Composite(fields))
-}
-
-/// One label, `sad`.
-fn labels(alloc: Global) -> Result<PgTypeKind, AllocError> {
-    let mut labels = Vec::new(alloc);
-    labels.push(RcStr::from_str(alloc, "sad")?)?;
-    Ok(PgTypeKind::Enum(RcSlice::from_vec(labels)?))
-}
-
-/// A kind of each form.
-fn kind(alloc: Global, name: &str) -> Result<PgTypeKind, AllocError> {
-    match name {
-        "simple" => Ok(PgTypeKind::Simple),
-        "pseudo" => Ok(PgTypeKind::Pseudo),
-        "domain" => Ok(PgTypeKind::Domain(PgTypeInfo(PgType::Int4))),
-        "composite" => fields(alloc),
-        "array" => Ok(PgTypeKind::Array(PgTypeInfo::with_name("y"))),
-        "enum" => labels(alloc),
-        _ => Ok(PgTypeKind::Range(PgTypeInfo::array_of("z"))),
-    }
-}
-
-/// Whether a custom type of a copy of this kind and its own copy are the same type.
-fn copied(alloc: Global, kind: &PgTypeKind) -> Result<bool, AllocError> {
-    let custom = PgTypeInfo::custom(alloc, Oid(16500), "mood", kind.clone()?)?;
-    let copy = custom.clone()?;
-    Ok(copy.type_eq(&custom))
-}
-
-/// Whether the type behind a custom type's pointer is equal to a copy of it.
-fn copied_inside(alloc: Global) -> Result<bool, AllocError> {
-    let custom = domain(alloc)?;
-    let PgType::Custom(inner) = &custom.0 else {
-        return Ok(false);
-    };
-    let copy = pgv_types::PgCustomType::clone(inner)?;
-    Ok(copy == **inner)
-}
-
-#[test]
-fn copies(rt: HostRuntime) -> Result<(), Fail> {
-    for name in [
-        "simple",
-        "pseudo",
-        "domain",
-        "composite",
-        "array",
-        "enum",
-        "range",
-    ] {
-        let kind = kind(rt.alloc(), name)?;
-        assert!(rt; copied(rt.alloc(), &kind)?, "{name}");
-    }
-    assert!(rt; copied_inside(rt.alloc())?);
-    if let PgType::DeclareArrayOf(of) = &PgTypeInfo::array_of("z").0 {
-        let copy = of.clone()?;
-        assert_eq!(rt; copy.elem_name(), "z");
-    }
     Ok(())
 }

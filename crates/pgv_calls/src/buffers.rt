@@ -1,6 +1,8 @@
-//! Sessions of calls on a buffer, with the pieces that callers' own encoders write.
+//! Rows of calls on a buffer, with the pieces that callers' own encoders write.
 
-use crate::shown::{joined, names, outcome};
+use crate::again::{Again, refused, same};
+use crate::arguments::names;
+use crate::called::Called;
 use pgv::types::PgRange;
 use pgv::{
     CodecError, Oid, PgArgumentBuffer, PgRecordEncoder, PgTypeInfo, encode_array, encode_text,
@@ -9,52 +11,7 @@ use pgv_by_name::{Huge, Size, sizes};
 use pgv_examples::empty_object::push_version;
 use pgv_examples::mood::Mood;
 use std::alloc::Global;
-use std::test::Fail;
 use uuid::Uuid;
-
-/// Sessions of calls: each line a call and its answer. A line with `#` begins a new one.
-const SESSIONS: &str = "\
-# Frames of arrays of a length.
-[1, 2] => ok
-'' and null => ok
-bytes => 00000024 00000001 00000000 00000017 00000002 00000001 00000004 00000001 00000004 00000002 \
-0000001c 00000001 00000000 00000019 00000002 00000001 00000000 ffffffff
-# Frames of scalars.
-true => ok
--1 of i8 => ok
-258 of i16 => ok
--2 of i64 => ok
-16600 of Oid => ok
-uuid => ok
-none => ok
-bytes => 00000001 01 00000001 ff 00000002 0102 00000008 fffffffffffffffe \
-00000004 000040d8 00000010 09090909090909090909090909090909 ffffffff
-len => 60
-# What callers' own encoders write with. A buffer that is cleared is as a new one.
-text a => ok
-array of false => ok
-version => ok
-braces => ok
-hole => ok
-copy => ok
-bytes => 61 00000001 00000000 00000010 00000001 00000001 00000001 00 20 7b7d 00000000
-holes => mood
-clear => ok
-bytes =>
-holes =>
-# A record of two fields. A third is refused between them and the end.
-record => C38
-bytes => 00000002 00000017 00000004 00000001 00000000 00000002 6f6b
-holes => mood
-# A hint that no frame has room for.
-huge => C2
-bytes =>
-# A range whose upper bound is refused has only appended: going back leaves the holes that were there before.
-sizes 7 => ok
-holes => size
-range to 0 => C38
-bytes => 0000001c 00000001 00000000 00000000 00000001 00000001 00000004 00000007
-holes => size";
 
 /// An array of two texts, an empty one and null.
 fn encode_texts(alloc: Global, buffer: &mut PgArgumentBuffer) -> Result<(), CodecError> {
@@ -130,38 +87,46 @@ fn write(alloc: Global, buffer: &mut PgArgumentBuffer, call: &str) -> Result<(),
     }
 }
 
-/// The answer of a call.
-fn answer(alloc: Global, buffer: &mut PgArgumentBuffer, call: &str) -> Result<String, Fail> {
+/// What is asked of a buffer.
+fn asked(alloc: Global, buffer: &PgArgumentBuffer, call: &str) -> Result<String, CodecError> {
     match call {
         "bytes" => Ok(hex::encode(alloc, buffer.as_slice())?),
         "holes" => Ok(names(alloc, buffer.hole_types())?),
-        "len" => Ok(format!(in alloc; "{}", buffer.len())?),
-        "copy" => {
-            *buffer = buffer.clone()?;
-            Ok(String::from_str(alloc, "ok")?)
-        }
-        "clear" => {
-            buffer.clear();
-            Ok(String::from_str(alloc, "ok")?)
-        }
-        _ => Ok(outcome(alloc, write(alloc, buffer, call))?),
+        _ => Ok(format!(in alloc; "{}", buffer.len())?),
     }
 }
 
-#[test]
-fn buffers(rt: HostRuntime) -> Result<(), Fail> {
-    let alloc = rt.alloc();
-    let mut buffer = PgArgumentBuffer::new(alloc);
-    for line in SESSIONS.lines() {
-        if line.starts_with('#') {
-            buffer = PgArgumentBuffer::new(alloc);
-            continue;
+/// Whether a call that writes is answered so. A refused one may have appended; where memory was refused, the buffer is put back.
+fn written(
+    alloc: Global,
+    buffer: &mut PgArgumentBuffer,
+    call: &str,
+    wanted: &str,
+) -> Result<bool, Again> {
+    let before = buffer.clone()?;
+    match write(alloc, buffer, call) {
+        Ok(()) => Ok(wanted == "ok"),
+        Err(CodecError::Memory) if buffer.as_slice().starts_with(before.as_slice()) => {
+            *buffer = before;
+            Err(Again)
         }
-        let (call, wanted) = line.split_once(" =>").ok_or("no answer")?;
-        let found = answer(alloc, &mut buffer, call)?;
-        let wanted = joined(alloc, wanted)?;
-        let found = joined(alloc, found.as_str())?;
-        assert_eq!(rt; found.as_str(), wanted.as_str(), "{call}");
+        Err(error) => refused(&error, wanted),
     }
-    Ok(())
+}
+
+impl Called for PgArgumentBuffer {
+    fn holds(&mut self, alloc: Global, call: &str, wanted: &str) -> Result<bool, Again> {
+        match call {
+            "bytes" | "holes" | "len" => same(asked(alloc, self, call), wanted),
+            "copy" => {
+                *self = self.clone()?;
+                Ok(wanted == "ok")
+            }
+            "clear" => {
+                self.clear();
+                Ok(wanted == "ok")
+            }
+            _ => written(alloc, self, call, wanted),
+        }
+    }
 }

@@ -1,24 +1,67 @@
-//! What is read at concrete types: of the rows of [`READINGS`], and of what a server wrote of types that the program has no name for.
+//! Rows that are read at a Rust type: `RUST | TYPE | PART => ANSWER`. PART is `b` and hex, `t` and a text, `x` and a text in hex, `null`,
+//! or `null text`. ANSWER is the value as `Debug` shows it, or what it is written as where its Rust type has no `Debug`, or the number of
+//! the refusal.
 
-use crate::readings::READINGS;
-use crate::server::VALUES;
-use crate::shown::{again, debug};
+use crate::again::Again;
+use crate::called::Called;
 use jiff::Timestamp;
 use jiff::civil::{Date, DateTime};
 use pgv::types::{BitVec, MacAddress, PgByteaArray, PgLTree, PgRange, PgTimeTz};
-use pgv::{Oid, PgTypeInfo, PgValueFormat, PgValueRef};
+use pgv::{
+    CodecError, Decode, Encode, Oid, PgArgumentBuffer, PgTypeInfo, PgValueFormat, PgValueRef,
+};
 use pgv_by_name::{SizeRange, type_of};
+use pgv_examples::email::Email;
 use pgv_examples::empty_object::EmptyObject;
 use pgv_examples::mood::Mood;
 use pgv_examples::page::Page;
 use pgv_examples::pair::Pair;
-use std::alloc::{AllocError, Global};
+use pgv_examples::percent::Percent;
+use pgv_examples::user_id::UserId;
+use std::alloc::Global;
+use std::fmt::Debug;
 use std::net::IpAddr;
-use std::test::Fail;
 use uuid::Uuid;
 
+/// The number of a refusal, as in `C15`.
+fn number(alloc: Global, error: &CodecError) -> Result<String, Again> {
+    match error.code() {
+        1 => Err(Again),
+        number => Ok(format!(in alloc; "C{number}")?),
+    }
+}
+
+/// What is written of a value, in hex, or the number of the refusal.
+pub fn written<T: Encode>(alloc: Global, value: &T) -> Result<String, Again> {
+    let mut out = PgArgumentBuffer::new(alloc);
+    match value.encode_by_ref(&mut out) {
+        Ok(_) => Ok(hex::encode(alloc, out.as_slice())?),
+        Err(error) => number(alloc, &error),
+    }
+}
+
+/// What is written of the value that is read, or the number of the refusal.
+fn again<T: Decode + Encode>(alloc: Global, value: PgValueRef<'_>) -> Result<String, Again> {
+    match T::decode(alloc, value) {
+        Ok(value) => written(alloc, &value),
+        Err(error) => number(alloc, &error),
+    }
+}
+
+/// The value that is read as `Debug` shows it, or the refusal by its number and as `Debug` shows it.
+fn debug<T: Decode + Debug>(alloc: Global, value: PgValueRef<'_>) -> Result<String, Again> {
+    match T::decode(alloc, value) {
+        Ok(value) => Ok(format!(in alloc; "{value:?}")?),
+        Err(CodecError::Memory) => Err(Again),
+        Err(error) => {
+            let number = error.code();
+            Ok(format!(in alloc; "C{number} {error:?}")?)
+        }
+    }
+}
+
 /// What is read of a value at the Rust type of this name.
-pub fn shown(alloc: Global, name: &str, value: PgValueRef<'_>) -> Result<String, AllocError> {
+pub fn shown(alloc: Global, name: &str, value: PgValueRef<'_>) -> Result<String, Again> {
     if name.starts_with("Vec") {
         return lists(alloc, name, value);
     }
@@ -31,7 +74,7 @@ pub fn shown(alloc: Global, name: &str, value: PgValueRef<'_>) -> Result<String,
     scalars(alloc, name, value)
 }
 
-fn scalars(alloc: Global, name: &str, value: PgValueRef<'_>) -> Result<String, AllocError> {
+fn scalars(alloc: Global, name: &str, value: PgValueRef<'_>) -> Result<String, Again> {
     match name {
         "bool" => debug::<bool>(alloc, value),
         "i8" => debug::<i8>(alloc, value),
@@ -49,13 +92,24 @@ fn scalars(alloc: Global, name: &str, value: PgValueRef<'_>) -> Result<String, A
         "Option<Option<i32>>" => debug::<Option<Option<i32>>>(alloc, value),
         "[i32; 2]" => debug::<[i32; 2]>(alloc, value),
         "[i32; 3]" => debug::<[i32; 3]>(alloc, value),
-        "EmptyObject" => again::<EmptyObject>(alloc, value),
-        "Page" => again::<Page>(alloc, value),
-        _ => String::from_str(alloc, "no type of this name"),
+        _ => own(alloc, name, value),
     }
 }
 
-fn lists(alloc: Global, name: &str, value: PgValueRef<'_>) -> Result<String, AllocError> {
+/// Types of a caller's own.
+fn own(alloc: Global, name: &str, value: PgValueRef<'_>) -> Result<String, Again> {
+    match name {
+        "EmptyObject" => again::<EmptyObject>(alloc, value),
+        "Email" => again::<Email>(alloc, value),
+        "Mood" => again::<Mood>(alloc, value),
+        "Page" => again::<Page>(alloc, value),
+        "Percent" => again::<Percent>(alloc, value),
+        "UserId" => again::<UserId>(alloc, value),
+        _ => Ok(String::from_str(alloc, "no type of this name")?),
+    }
+}
+
+fn lists(alloc: Global, name: &str, value: PgValueRef<'_>) -> Result<String, Again> {
     match name {
         "Vec<i32>" => debug::<Vec<i32>>(alloc, value),
         "Vec<Option<i32>>" => debug::<Vec<Option<i32>>>(alloc, value),
@@ -70,22 +124,22 @@ fn lists(alloc: Global, name: &str, value: PgValueRef<'_>) -> Result<String, All
         "Vec<PgLTree>" => again::<Vec<PgLTree>>(alloc, value),
         "Vec<Page>" => again::<Vec<Page>>(alloc, value),
         "Vec<SizeRange>" => again::<Vec<SizeRange>>(alloc, value),
-        _ => String::from_str(alloc, "no list of this name"),
+        _ => Ok(String::from_str(alloc, "no list of this name")?),
     }
 }
 
-fn ranges(alloc: Global, name: &str, value: PgValueRef<'_>) -> Result<String, AllocError> {
+fn ranges(alloc: Global, name: &str, value: PgValueRef<'_>) -> Result<String, Again> {
     match name {
         "PgRange<i32>" => again::<PgRange<i32>>(alloc, value),
         "PgRange<Option<i32>>" => again::<PgRange<Option<i32>>>(alloc, value),
         "PgRange<String>" => again::<PgRange<String>>(alloc, value),
         "PgRange<DateTime>" => again::<PgRange<DateTime>>(alloc, value),
         "PgRange<Timestamp>" => again::<PgRange<Timestamp>>(alloc, value),
-        _ => String::from_str(alloc, "no range of this name"),
+        _ => Ok(String::from_str(alloc, "no range of this name")?),
     }
 }
 
-fn records(alloc: Global, name: &str, value: PgValueRef<'_>) -> Result<String, AllocError> {
+fn records(alloc: Global, name: &str, value: PgValueRef<'_>) -> Result<String, Again> {
     match name {
         "()" => debug::<()>(alloc, value),
         "(i32,)" => debug::<(i32,)>(alloc, value),
@@ -104,7 +158,7 @@ fn records(alloc: Global, name: &str, value: PgValueRef<'_>) -> Result<String, A
 }
 
 /// Tuples of as many numbers as the name says.
-fn numbers(alloc: Global, name: &str, value: PgValueRef<'_>) -> Result<String, AllocError> {
+fn numbers(alloc: Global, name: &str, value: PgValueRef<'_>) -> Result<String, Again> {
     match name {
         "(i32 3)" => debug::<(i32, i32, i32)>(alloc, value),
         "(i32 4)" => debug::<(i32, i32, i32, i32)>(alloc, value),
@@ -113,7 +167,7 @@ fn numbers(alloc: Global, name: &str, value: PgValueRef<'_>) -> Result<String, A
         "(i32 7)" => debug::<(i32, i32, i32, i32, i32, i32, i32)>(alloc, value),
         "(i32 8)" => debug::<(i32, i32, i32, i32, i32, i32, i32, i32)>(alloc, value),
         "(i32 9)" => debug::<(i32, i32, i32, i32, i32, i32, i32, i32, i32)>(alloc, value),
-        _ => String::from_str(alloc, "no tuple of this name"),
+        _ => Ok(String::from_str(alloc, "no tuple of this name")?),
     }
 }
 
@@ -124,20 +178,20 @@ fn shown_of(
     type_info: PgTypeInfo,
     bytes: Option<&[u8]>,
     format: PgValueFormat,
-) -> Result<String, AllocError> {
+) -> Result<String, Again> {
     shown(alloc, name, PgValueRef::new(bytes, type_info, format))
 }
 
-/// What is read of a part of a row: `b` and hex, `t` and a text, `x` and a text in hex, `null`, or `null text`.
+/// What is read of a part of a row.
 fn shown_part(
     alloc: Global,
     name: &str,
     type_info: PgTypeInfo,
     part: &str,
-) -> Result<String, Fail> {
+) -> Result<String, Again> {
     if let Some(text) = part.strip_prefix("t ") {
         let bytes = Some(text.as_bytes());
-        return Ok(shown_of(alloc, name, type_info, bytes, PgValueFormat::Text)?);
+        return shown_of(alloc, name, type_info, bytes, PgValueFormat::Text);
     }
     let (format, digits) = match part {
         "null" => (PgValueFormat::Binary, None),
@@ -146,69 +200,26 @@ fn shown_part(
         _ => (PgValueFormat::Binary, part.strip_prefix("b ")),
     };
     let Some(digits) = digits else {
-        return Ok(shown_of(alloc, name, type_info, None, format)?);
+        return shown_of(alloc, name, type_info, None, format);
     };
-    let bytes = hex::decode(alloc, digits.as_bytes())?;
-    Ok(shown_of(alloc, name, type_info, Some(bytes.as_slice()), format)?)
+    let bytes = bytes_of(alloc, digits)?;
+    shown_of(alloc, name, type_info, Some(bytes.as_slice()), format)
 }
 
-/// What is read by a row `RUST | TYPE | PART`.
-fn shown_row(alloc: Global, row: &str) -> Result<String, Fail> {
-    let (name, rest) = row.split_once(" | ").ok_or("no type")?;
-    let (type_name, part) = rest.split_once(" | ").ok_or("no part")?;
-    shown_part(alloc, name, type_of(alloc, type_name)?, part)
+/// The bytes of hex digits.
+pub fn bytes_of(alloc: Global, digits: &str) -> Result<Vec<u8>, Again> {
+    hex::decode(alloc, digits.as_bytes()).or(Err(Again))
 }
 
-#[test]
-fn readings(rt: HostRuntime) -> Result<(), Fail> {
-    for row in READINGS.lines() {
-        let (row, wanted) = row.split_once(" => ").ok_or("no answer")?;
-        let found = shown_row(rt.alloc(), row)?;
-        assert_eq!(rt; found.as_str(), wanted, "{row}");
+/// What rows of this kind call.
+#[derive(Drop)]
+pub struct Readings;
+
+impl Called for Readings {
+    fn holds(&mut self, alloc: Global, call: &str, wanted: &str) -> Result<bool, Again> {
+        let (name, rest) = call.split_once(" | ").unwrap_or((call, ""));
+        let (type_name, part) = rest.split_once(" | ").unwrap_or((rest, ""));
+        let found = shown_part(alloc, name, type_of(alloc, type_name)?, part)?;
+        Ok(found.as_str() == wanted)
     }
-    Ok(())
-}
-
-/// The Rust type for a type of the server's values.
-fn rust_name(type_name: &str) -> &'static str {
-    match type_name {
-        "tsrange" => "PgRange<DateTime>",
-        "tstzrange" => "PgRange<Timestamp>",
-        "int4range[]" => "Vec<Option<PgRange<i32>>>",
-        _ => "PgRange<String>",
-    }
-}
-
-/// What a column of the server's values wants: the binary form itself, or what it says.
-fn wanted<'a>(column: &'a str, form: &'a str) -> &'a str {
-    if column == "=" { form } else { column }
-}
-
-/// What is written of a server's value, of its text and of its binary form, and what is wanted.
-fn served<'a>(alloc: Global, row: &'a str) -> Result<(String, &'a str, String, &'a str), Fail> {
-    let (type_name, rest) = row.split_once(' ').ok_or("no type")?;
-    let (form, rest) = rest.split_once(' ').ok_or("no binary form")?;
-    let (of_text, rest) = rest.split_once(' ').ok_or("no first column")?;
-    let (of_bytes, text) = rest.split_once(' ').ok_or("no second column")?;
-    let name = rust_name(type_name);
-    let bytes = hex::decode(alloc, form.as_bytes())?;
-    let bytes = Some(bytes.as_slice());
-    let info = type_of(alloc, type_name)?;
-    let binary = shown_of(alloc, name, info, bytes, PgValueFormat::Binary)?;
-    let text = Some(text.as_bytes());
-    let info = type_of(alloc, type_name)?;
-    let text = shown_of(alloc, name, info, text, PgValueFormat::Text)?;
-    Ok((text, wanted(of_text, form), binary, wanted(of_bytes, form)))
-}
-
-#[test]
-fn values_of_a_server(rt: HostRuntime) -> Result<(), Fail> {
-    for row in VALUES.lines() {
-        let (text, of_text, binary, of_bytes) = served(rt.alloc(), row)?;
-        assert!(rt;
-            text.as_str() == of_text && binary.as_str() == of_bytes,
-            "{row}"
-        );
-    }
-    Ok(())
 }

@@ -1,0 +1,388 @@
+//! Rows of calls on the arguments of a statement.
+
+use crate::again::{Again, same, told};
+use crate::called::Called;
+use crate::own::{Bounds, Listed, Stop};
+use crate::readings::shown;
+use jiff::civil::{Date, date};
+use pgv::types::{PgLTree, PgRange};
+use pgv::{CodecError, Oid, PgArguments, PgTypeInfo, PgValueFormat, PgValueRef};
+use pgv_by_name::{Huge, MoodText, Size, size_ranges, type_of};
+use pgv_examples::empty_object::EmptyObject;
+use pgv_examples::household::Household;
+use pgv_examples::mood::Mood;
+use pgv_examples::page::Page;
+use pgv_examples::pair::Pair;
+use std::alloc::{AllocError, Global};
+
+/// One mood, `ok`.
+fn moods(alloc: Global) -> Result<Vec<Mood>, AllocError> {
+    let mut moods = Vec::new(alloc);
+    moods.push(Mood::Fine)?;
+    Ok(moods)
+}
+
+/// One mood as a text, or none.
+fn mood_texts(alloc: Global, some: bool) -> Result<Vec<MoodText>, AllocError> {
+    let mut texts = Vec::new(alloc);
+    if some {
+        texts.push(MoodText { mood: Mood::Fine })?;
+    }
+    Ok(texts)
+}
+
+/// The tree `a.b` in a list.
+fn trees(alloc: Global) -> Result<Vec<PgLTree>, CodecError> {
+    let mut trees = Vec::new(alloc);
+    trees.push(PgLTree::from_str(alloc, "a.b")?)?;
+    Ok(trees)
+}
+
+/// A tree without labels in a list.
+fn empty_trees(alloc: Global) -> Result<Vec<PgLTree>, AllocError> {
+    let mut trees = Vec::new(alloc);
+    trees.push(PgLTree::new(alloc))?;
+    Ok(trees)
+}
+
+/// No day, and the first day of 2000.
+fn days() -> [PgRange<Date>; 2] {
+    [
+        PgRange::empty(),
+        PgRange::from(date(2000, 1, 1)..date(2000, 1, 2)),
+    ]
+}
+
+/// The page of the number 1 at `a.b`.
+fn page(alloc: Global) -> Result<Page, CodecError> {
+    let path = PgLTree::from_str(alloc, "a.b")?;
+    Ok(Page { id: 1, path })
+}
+
+/// That page in a list.
+fn pages(alloc: Global) -> Result<Vec<Page>, CodecError> {
+    let mut pages = Vec::new(alloc);
+    pages.push(page(alloc)?)?;
+    Ok(pages)
+}
+
+/// An empty text and null.
+fn texts(alloc: Global) -> Result<Vec<Option<String>>, AllocError> {
+    let mut texts = Vec::new(alloc);
+    texts.push(Some(String::new(alloc)))?;
+    texts.push(None)?;
+    Ok(texts)
+}
+
+/// Adds the value of this name, of std's types.
+fn add_plain(alloc: Global, arguments: &mut PgArguments, name: &str) -> Result<(), CodecError> {
+    match name {
+        "1" => arguments.add(1),
+        "7" => arguments.add(7),
+        "empty range" => arguments.add(PgRange::<i32>::empty()),
+        "range 1 to 10" => arguments.add(PgRange::from(1..10)),
+        "none" => arguments.add(None::<i32>),
+        "some none" => arguments.add(Some(None::<i32>)),
+        "no text" => arguments.add(String::new(alloc)),
+        "list 1 2" => arguments.add([1, 2].to_vec(alloc)?),
+        "no numbers" => arguments.add(Vec::<i32>::new(alloc)),
+        "texts '' and null" => arguments.add(texts(alloc)?),
+        _ => Err(CodecError::Caller(0)),
+    }
+}
+
+/// Adds the value of this name, of types that have holes.
+fn add_with_holes(
+    alloc: Global,
+    arguments: &mut PgArguments,
+    name: &str,
+) -> Result<(), CodecError> {
+    match name {
+        "moods" => arguments.add(moods(alloc)?),
+        "no moods" => arguments.add(Vec::<Mood>::new(alloc)),
+        "mood texts" => arguments.add(mood_texts(alloc, true)?),
+        "no mood texts" => arguments.add(mood_texts(alloc, false)?),
+        "trees" => arguments.add(trees(alloc)?),
+        "no trees" => arguments.add(Vec::<PgLTree>::new(alloc)),
+        "empty trees" => arguments.add(empty_trees(alloc)?),
+        "page" => arguments.add(page(alloc)?),
+        "pages" => arguments.add(pages(alloc)?),
+        "ranges" => arguments.add(size_ranges(alloc)?),
+        "sizes 7 0" => arguments.add([Size { alloc, number: 7 }, Size { alloc, number: 0 }]),
+        "pair" => arguments.add(Pair {
+            first: 1,
+            second: Mood::Fine,
+        }),
+        "stay" => arguments.add(Pair {
+            first: days(),
+            second: PgLTree::from_str(alloc, "a.b")?,
+        }),
+        "household" => arguments.add(Household {
+            number: 1,
+            moods: moods(alloc)?,
+        }),
+        _ => add_plain(alloc, arguments, name),
+    }
+}
+
+/// Adds the value of this name.
+fn add(alloc: Global, arguments: &mut PgArguments, name: &str) -> Result<(), CodecError> {
+    match name {
+        "mood" => arguments.add(Mood::Fine),
+        "mood text" => arguments.add(MoodText { mood: Mood::Fine }),
+        "object" => arguments.add(EmptyObject { alloc }),
+        "size 0" => arguments.add(Size { alloc, number: 0 }),
+        "huge" => arguments.add(Huge),
+        "size 3 by reference" => arguments.add_by_ref(&Size { alloc, number: 3 }),
+        "size 0 by reference" => arguments.add_by_ref(&Size { alloc, number: 0 }),
+        _ => add_with_holes(alloc, arguments, name),
+    }
+}
+
+/// A record of an object and a value behind it.
+fn behind<T>(alloc: Global, second: T) -> Pair<EmptyObject, T> {
+    Pair {
+        first: EmptyObject { alloc },
+        second,
+    }
+}
+
+/// Adds a range of a value that is refused: itself at the depth 1, in a record at 2, in a list in that at 3, in a record of that at 4.
+fn add_stop(alloc: Global, arguments: &mut PgArguments, depth: u32) -> Result<(), CodecError> {
+    let stop = Stop { alloc, depth };
+    match depth {
+        1 => arguments.add(Bounds {
+            range: PgRange::from(stop..),
+        }),
+        2 => arguments.add(Bounds {
+            range: PgRange::from(behind(alloc, stop)..),
+        }),
+        3 => {
+            let mut stops = Vec::new(alloc);
+            stops.push(stop)?;
+            arguments.add(Bounds {
+                range: PgRange::from(behind(alloc, stops)..),
+            })
+        }
+        _ => {
+            let mut listed = Vec::new(alloc);
+            listed.push(Listed {
+                pair: behind(alloc, stop),
+            })?;
+            arguments.add(Bounds {
+                range: PgRange::from(behind(alloc, listed)..),
+            })
+        }
+    }
+}
+
+/// How many arguments, bytes and holes there are.
+fn numbers(arguments: &PgArguments) -> (usize, usize, usize) {
+    (
+        arguments.len(),
+        arguments.buffer().len(),
+        arguments.hole_types().len(),
+    )
+}
+
+/// Whether an addition is answered so.
+fn added(
+    alloc: Global,
+    arguments: &mut PgArguments,
+    name: &str,
+    wanted: &str,
+) -> Result<bool, Again> {
+    let before = numbers(arguments);
+    let answer = add(alloc, arguments, name);
+    told(answer, numbers(arguments) == before, wanted)
+}
+
+/// Whether a value is refused with C38 of its depth.
+fn stopped(alloc: Global, arguments: &mut PgArguments, depth: &str) -> Result<bool, Again> {
+    let depth = depth.parse::<u32>().unwrap_or(0);
+    let before = numbers(arguments);
+    let answer = add_stop(alloc, arguments, depth);
+    let unmoved = numbers(arguments) == before;
+    match answer {
+        Err(CodecError::Caller(found)) => Ok(unmoved && found == depth),
+        Err(CodecError::Memory) if unmoved => Err(Again),
+        _ => Ok(false),
+    }
+}
+
+/// Whether of the sizes 2, 0 and 4 the second alone is refused. Where memory was refused within the list, none is there any more.
+fn added_each(alloc: Global, arguments: &mut PgArguments) -> Result<bool, Again> {
+    let sizes = [
+        Size { alloc, number: 2 },
+        Size { alloc, number: 0 },
+        Size { alloc, number: 4 },
+    ];
+    let Ok(answers) = arguments.add_each(alloc, &sizes) else {
+        return Err(Again);
+    };
+    let mut accepted = 0usize;
+    let mut codes = [0u8; 3];
+    for (place, answer) in answers.into_iter().enumerate() {
+        match (answer, codes.get_mut(place)) {
+            (Err(error), Some(code)) => *code = error.code(),
+            _ => accepted = accepted.saturating_add(1),
+        }
+    }
+    if codes.contains(&1) && arguments.len() == accepted {
+        *arguments = PgArguments::new(alloc);
+        return Err(Again);
+    }
+    Ok(matches!(codes, [0, 38, 0]))
+}
+
+/// The types of these names.
+fn types_of(alloc: Global, names: &str) -> Result<Vec<PgTypeInfo>, AllocError> {
+    let mut types = Vec::new(alloc);
+    for name in names.split(',') {
+        types.push(type_of(alloc, name.trim_ascii())?)?;
+    }
+    Ok(types)
+}
+
+/// These OIDs.
+fn oids_of(alloc: Global, numbers: &str) -> Result<Vec<Oid>, AllocError> {
+    let mut oids = Vec::new(alloc);
+    for number in numbers.split_ascii_whitespace() {
+        oids.push(Oid(number.parse::<u32>().unwrap_or(0)))?;
+    }
+    Ok(oids)
+}
+
+/// Whether a filling with types and OIDs, as in `json, jsonb / 16500 16501`, is answered so. It takes no memory.
+fn filled(
+    alloc: Global,
+    arguments: &mut PgArguments,
+    given: &str,
+    wanted: &str,
+) -> Result<bool, Again> {
+    let (names, numbers) = given.split_once(" /").unwrap_or((given, ""));
+    let types = types_of(alloc, names)?;
+    let oids = oids_of(alloc, numbers)?;
+    let answer = arguments.apply_patches(types.as_slice(), oids.as_slice());
+    told(answer, true, wanted)
+}
+
+/// Whether the first argument is read so, as in `Page | page`.
+fn first(
+    alloc: Global,
+    arguments: &PgArguments,
+    reading: &str,
+    wanted: &str,
+) -> Result<bool, Again> {
+    let (name, type_name) = reading.split_once(" | ").unwrap_or((reading, ""));
+    let mut bytes = arguments.buffer().as_slice();
+    let info = type_of(alloc, type_name)?;
+    match PgValueRef::get(&mut bytes, PgValueFormat::Binary, info) {
+        Ok(value) => Ok(shown(alloc, name, value)?.as_str() == wanted),
+        Err(_) => Ok(false),
+    }
+}
+
+/// The part of the frame in front, in hex, or `null`.
+fn part(alloc: Global, rest: &mut &[u8]) -> Result<String, CodecError> {
+    let text = PgTypeInfo::with_oid(Oid(25));
+    let value = PgValueRef::get(rest, PgValueFormat::Binary, text)?;
+    if value.is_null() {
+        return Ok(String::from_str(alloc, "null")?);
+    }
+    Ok(hex::encode(alloc, value.as_bytes()?)?)
+}
+
+/// All parts, read in turn, with a space between.
+fn frames(alloc: Global, arguments: &PgArguments) -> Result<String, CodecError> {
+    let mut rest = arguments.buffer().as_slice();
+    let mut text = String::new(alloc);
+    for place in 0..arguments.len() {
+        if place > 0 {
+            text.push(' ')?;
+        }
+        text.push_str(part(alloc, &mut rest)?.as_str())?;
+    }
+    if !rest.is_empty() {
+        text.push_str(" and a rest")?;
+    }
+    Ok(text)
+}
+
+/// The placeholder of the last argument. Out of memory it leaves the text as it was.
+fn placeholder(alloc: Global, arguments: &PgArguments) -> Result<String, CodecError> {
+    let mut text = String::from_str(alloc, "select ")?;
+    let mut answer = arguments.format_placeholder(&mut text);
+    if answer.is_err() && text.as_str() == "select " {
+        answer = arguments.format_placeholder(&mut text);
+    }
+    answer?;
+    Ok(text)
+}
+
+/// The names of types, with a space between.
+pub fn names(alloc: Global, types: &[PgTypeInfo]) -> Result<String, AllocError> {
+    let mut text = String::new(alloc);
+    for info in types {
+        if !text.is_empty() {
+            text.push(' ')?;
+        }
+        let name = info.name();
+        text.push_str(name.text())?;
+        text.push_str(name.suffix())?;
+    }
+    Ok(text)
+}
+
+/// What is asked of arguments.
+fn asked(alloc: Global, arguments: &PgArguments, call: &str) -> Result<String, CodecError> {
+    match call {
+        "bytes" => Ok(hex::encode(alloc, arguments.buffer().as_slice())?),
+        "holes" => Ok(names(alloc, arguments.hole_types())?),
+        "types" => Ok(names(alloc, arguments.types())?),
+        "len" => Ok(format!(in alloc; "{}", arguments.len())?),
+        "placeholder" => placeholder(alloc, arguments),
+        "frames" => frames(alloc, arguments),
+        _ => Err(CodecError::Caller(0)),
+    }
+}
+
+/// Whether a call that makes room or a copy, or one that asks, is answered so.
+fn changed_or_asked(
+    alloc: Global,
+    arguments: &mut PgArguments,
+    call: &str,
+    wanted: &str,
+) -> Result<bool, Again> {
+    match call {
+        "reserve" => {
+            let before = numbers(arguments);
+            let answer = arguments.reserve(3, 100);
+            told(answer, numbers(arguments) == before, wanted)
+        }
+        "copy" => {
+            *arguments = arguments.clone()?;
+            Ok(wanted == "ok")
+        }
+        "each size 2 0 4" => added_each(alloc, arguments),
+        _ => same(asked(alloc, arguments, call), wanted),
+    }
+}
+
+impl Called for PgArguments {
+    fn holds(&mut self, alloc: Global, call: &str, wanted: &str) -> Result<bool, Again> {
+        if let Some(name) = call.strip_prefix("add ") {
+            return added(alloc, self, name, wanted);
+        }
+        if let Some(given) = call.strip_prefix("fill ") {
+            return filled(alloc, self, given, wanted);
+        }
+        if let Some(reading) = call.strip_prefix("first ") {
+            return first(alloc, self, reading, wanted);
+        }
+        if let Some(depth) = call.strip_prefix("stop ") {
+            return stopped(alloc, self, depth);
+        }
+        changed_or_asked(alloc, self, call, wanted)
+    }
+}

@@ -1,0 +1,82 @@
+//! Rows of calls on a query of label trees.
+
+use crate::again::{Again, same, told};
+use crate::called::Called;
+use pgv::CodecError;
+use pgv::types::{PgLQuery, PgLQueryLevel, PgLQueryVariant};
+use std::alloc::{AllocError, Global};
+
+/// The query of these levels.
+fn query_of(alloc: Global, levels: &str) -> Result<PgLQuery, CodecError> {
+    Ok(PgLQuery::try_from_iter(alloc, levels.split_ascii_whitespace())?)
+}
+
+/// The query of copies of a copy's levels.
+fn again(alloc: Global, query: &PgLQuery) -> Result<PgLQuery, AllocError> {
+    let mut levels = Vec::new(alloc);
+    for level in query.clone()? {
+        levels.push(level.clone()?)?;
+    }
+    PgLQuery::try_collect(alloc, levels)
+}
+
+/// Appends the level of this text.
+fn push(alloc: Global, query: &mut PgLQuery, level: &str) -> Result<(), CodecError> {
+    let level = PgLQueryLevel::from_str(alloc, level)?;
+    Ok(query.push(level)?)
+}
+
+/// Appends the level that isn't one of the copy of a variant.
+fn push_not(alloc: Global, query: &mut PgLQuery, variant: &str) -> Result<(), CodecError> {
+    let variant = PgLQueryVariant::from_str(alloc, variant)?;
+    let mut variants = Vec::new(alloc);
+    variants.push(variant.clone()?)?;
+    Ok(query.push(PgLQueryLevel::NotNonStar(variants))?)
+}
+
+/// The text of the last level, which is taken off a copy, or `none`.
+fn last(alloc: Global, query: &PgLQuery) -> Result<String, CodecError> {
+    match query.clone()?.pop() {
+        Some(level) => Ok(format!(in alloc; "{level}")?),
+        None => Ok(String::from_str(alloc, "none")?),
+    }
+}
+
+/// What is printed of a query.
+fn shown(alloc: Global, query: &PgLQuery) -> Result<String, CodecError> {
+    Ok(format!(in alloc; "{query}")?)
+}
+
+/// Whether a level is appended so.
+fn pushed(alloc: Global, query: &mut PgLQuery, level: &str, wanted: &str) -> Result<bool, Again> {
+    let before = query.as_slice().len();
+    let answer = match level.strip_prefix("not ") {
+        Some(variant) => push_not(alloc, query, variant),
+        None => push(alloc, query, level),
+    };
+    told(answer, query.as_slice().len() == before, wanted)
+}
+
+impl Called for PgLQuery {
+    fn holds(&mut self, alloc: Global, call: &str, wanted: &str) -> Result<bool, Again> {
+        if let Some(level) = call.strip_prefix("push ") {
+            return pushed(alloc, self, level, wanted);
+        }
+        if let Some(levels) = call.strip_prefix("of ") {
+            let answer = match query_of(alloc, levels) {
+                Ok(query) => {
+                    *self = query;
+                    Ok(())
+                }
+                Err(error) => Err(error),
+            };
+            return told(answer, true, wanted);
+        }
+        match call {
+            "pop" => Ok(self.pop().is_some() == (wanted == "some")),
+            "again" => Ok((again(alloc, self)? == *self) == (wanted == "same")),
+            "last" => same(last(alloc, self), wanted),
+            _ => same(shown(alloc, self), wanted),
+        }
+    }
+}

@@ -1,0 +1,160 @@
+//! Rows of calls that take no memory: what they need is made by the row `make`, which stands first.
+
+use crate::again::Again;
+use crate::called::Called;
+use jiff::SignedDuration;
+use jiff::civil::{Date, Time};
+use pgv::text::{Parts, TextForm};
+use pgv::types::{MacAddress, PgByteaArray, PgInterval, PgLTree, PgMoney, PgTimeTz};
+use pgv::{
+    CodecError, Decode, Oid, PgArguments, PgType, PgTypeInfo, PgValueFormat, PgValueRef, Type,
+    name_eq, read_bool, read_i16, read_i32, read_i64, read_interval, read_oid, read_uuid,
+};
+use pgv_examples::empty_object::EmptyObject;
+use std::alloc::Global;
+use std::time::Duration;
+
+/// A value in binary under a type.
+fn binary(bytes: &[u8], built_in: PgType) -> PgValueRef<'_> {
+    PgValueRef::new(Some(bytes), PgTypeInfo(built_in), PgValueFormat::Binary)
+}
+
+/// A value in text under a type.
+fn text(text: &str, built_in: PgType) -> PgValueRef<'_> {
+    PgValueRef::new(
+        Some(text.as_bytes()),
+        PgTypeInfo(built_in),
+        PgValueFormat::Text,
+    )
+}
+
+/// Types that are made, looked up and compared.
+fn types() -> bool {
+    let array = PgTypeInfo::array_of("mood");
+    let named = PgTypeInfo::with_name("_mood");
+    let int4 = PgTypeInfo::try_from_oid(Oid(23));
+    int4.is_some_and(|found| found.oid() == Some(Oid(23)))
+        && array.type_compatible(&named)
+        && array.type_eq(&named)
+        && array.array_element().is_some()
+        && PgTypeInfo(PgType::Int4Array).kind().is_some()
+        && named.name().text() == "_mood"
+        && name_eq("foo", "FOO")
+        && PgTypeInfo::with_oid(Oid(1)).oid() == Some(Oid(1))
+}
+
+/// Frames that are read from the front, and values that are lent.
+fn values() -> bool {
+    let mut rest = b"\0\0\0\x01a\xff\xff\xff\xff".as_slice();
+    let info = PgTypeInfo(PgType::Text);
+    let first = PgValueRef::get(&mut rest, PgValueFormat::Text, info);
+    let info = PgTypeInfo(PgType::Text);
+    let second = PgValueRef::get(&mut rest, PgValueFormat::Text, info);
+    first.is_ok_and(|value| value.as_str().is_ok_and(|text| text == "a"))
+        && second.is_ok_and(|value| value.is_null())
+        && binary(b"ab", PgType::Bytea)
+            .as_bytes()
+            .is_ok_and(|bytes| bytes == b"ab".as_slice())
+}
+
+/// Plain readers.
+fn readers() -> bool {
+    read_bool(&text("t", PgType::Bool)).is_ok_and(|found| found)
+        && read_i16(&binary(b"\0\x07", PgType::Int2)).is_ok_and(|found| found == 7)
+        && read_i32(&text("-7", PgType::Int4)).is_ok_and(|found| found == -7)
+        && read_i64(&binary(&[0; 8], PgType::Int8)).is_ok_and(|found| found == 0)
+        && read_oid(&text("7", PgType::Oid)).is_ok_and(|found| found == Oid(7))
+        && read_uuid(&binary(&[9; 16], PgType::Uuid)).is_ok()
+        && read_interval(&binary(&[0; 16], PgType::Interval)).is_ok()
+}
+
+/// Decoders that take no memory.
+fn decoders(alloc: Global) -> bool {
+    i32::decode(alloc, binary(b"\0\0\0\x07", PgType::Int4)).is_ok_and(|found| found == 7)
+        && Date::decode(alloc, text("2000-01-01", PgType::Date)).is_ok()
+        && Time::decode(alloc, binary(&[0; 8], PgType::Time)).is_ok()
+        && PgTimeTz::decode(alloc, text("00:00:00+01", PgType::Timetz)).is_ok()
+        && PgMoney::decode(alloc, binary(&[0; 8], PgType::Money)).is_ok_and(|sum| sum.0 == 0)
+        && PgByteaArray::<2>::decode(alloc, binary(b"ab", PgType::Bytea)).is_ok()
+        && MacAddress::decode(alloc, text("08:00:2b:01:02:03", PgType::Macaddr)).is_ok()
+        && <()>::decode(alloc, binary(b"", PgType::Void)).is_ok()
+}
+
+/// Sums of money, durations, and the parts of a text.
+fn sums() -> bool {
+    let interval = PgInterval::try_from(Duration::from_secs(1));
+    let signed = PgInterval::try_from(SignedDuration::from_secs(-1));
+    (PgMoney(1) + PgMoney(2)).0 == 3
+        && PgMoney(1).checked_sub(PgMoney(2)).is_some()
+        && interval.is_ok_and(|found| found.microseconds == 1_000_000)
+        && signed.is_ok_and(|found| found.microseconds == -1_000_000)
+        && Parts::new(TextForm::Array, "{a,b}").is_some_and(|parts| parts.len() == 2)
+}
+
+/// A tree that is filled and emptied again.
+fn make_tree(alloc: Global) -> Result<PgLTree, CodecError> {
+    Ok(PgLTree::from_str(alloc, "a.b")?)
+}
+
+/// What rows of this kind call: arguments and a tree.
+#[derive(Drop)]
+pub struct Still {
+    arguments: PgArguments,
+    tree: PgLTree,
+}
+
+impl Still {
+    /// Nothing yet.
+    pub fn new(alloc: Global) -> Still {
+        Still {
+            arguments: PgArguments::new(alloc),
+            tree: PgLTree::new(alloc),
+        }
+    }
+
+    /// Makes a tree, and arguments with a hole and a slot.
+    fn make(&mut self, alloc: Global) -> Result<(), CodecError> {
+        self.tree = make_tree(alloc)?;
+        self.arguments = PgArguments::new(alloc);
+        self.arguments.add(PgLTree::new(alloc))?;
+        self.arguments.add(None::<PgLTree>)?;
+        self.arguments.add([make_tree(alloc)?])?;
+        self.arguments.add(EmptyObject { alloc })
+    }
+
+    /// Fills the arguments.
+    fn fill(&mut self) -> bool {
+        let types = [
+            PgLTree::type_info(),
+            PgLTree::type_info(),
+            PgTypeInfo::array_of("ltree"),
+            PgTypeInfo(PgType::Jsonb),
+        ];
+        self.arguments.apply_patches(&types, &[Oid(16500)]).is_ok()
+            && self.arguments.apply_patches(&types, &[]).is_err()
+    }
+
+    /// Takes the labels off.
+    fn empty(&mut self) -> bool {
+        self.tree.pop().is_some() && self.tree.pop().is_some() && self.tree.pop().is_none()
+    }
+}
+
+impl Called for Still {
+    fn holds(&mut self, alloc: Global, call: &str, _wanted: &str) -> Result<bool, Again> {
+        match call {
+            "make" => match self.make(alloc) {
+                Ok(()) => Ok(true),
+                Err(_) => Err(Again),
+            },
+            "types" => Ok(types()),
+            "values" => Ok(values()),
+            "readers" => Ok(readers()),
+            "decoders" => Ok(decoders(alloc)),
+            "sums" => Ok(sums()),
+            "fill" => Ok(self.fill()),
+            "pop" => Ok(self.empty()),
+            _ => Ok(false),
+        }
+    }
+}

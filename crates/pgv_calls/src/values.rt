@@ -1,0 +1,189 @@
+//! Rows of calls that make, copy or write a value.
+
+use crate::again::{Again, same};
+use crate::called::Called;
+use crate::readings::{bytes_of, written};
+use bytes::Bytes;
+use jiff::SignedDuration;
+use pgv::types::{PgBytea, PgByteaArray, PgNumeric, PgNumericSign, PgRange};
+use pgv::{
+    CodecError, Oid, PgCopyReader, PgCustomType, PgType, PgTypeInfo, PgTypeKind, PgValue,
+    PgValueFormat, PgValueRef,
+};
+use pgv_by_name::sizes;
+use std::alloc::{AllocError, Global};
+use std::rc::{RcSlice, RcStr};
+use std::time::Duration;
+
+/// The bytes 2 to 6 of a row that is gone when they are answered.
+fn of_row(alloc: Global) -> Result<PgValue, CodecError> {
+    let row = Bytes::copy_from_slice(alloc, &[0, 1, 2, 3, 4, 5, 6, 7])?;
+    let bytea = PgTypeInfo(PgType::Bytea);
+    let value = PgValueRef::from_row(&row, 2, 6, bytea, PgValueFormat::Binary);
+    let copy = value.clone()?;
+    copy.to_owned(alloc)
+}
+
+/// A text without a row.
+fn of_text(alloc: Global) -> Result<PgValue, CodecError> {
+    let text = PgTypeInfo(PgType::Text);
+    PgValueRef::new(Some("π".as_bytes()), text, PgValueFormat::Text).to_owned(alloc)
+}
+
+/// A copy's bytes in hex, with the name of its type and whether it is a text.
+fn owned(alloc: Global, value: &PgValue) -> Result<String, CodecError> {
+    let copy = value.clone()?;
+    let lent = copy.as_ref()?;
+    let bytes = hex::encode(alloc, lent.as_bytes()?)?;
+    let is_text = lent.format() == PgValueFormat::Text;
+    Ok(format!(in alloc; "{} {bytes} {is_text}", copy.type_info())?)
+}
+
+/// One field, `x` of the type `int4`.
+fn fields(alloc: Global) -> Result<PgTypeKind, AllocError> {
+    let mut fields = Vec::new(alloc);
+    fields.push((RcStr::from_str(alloc, "x")?, PgTypeInfo(PgType::Int4)))?;
+    Ok(PgTypeKind::Composite(fields))
+}
+
+/// One label, `sad`.
+fn labels(alloc: Global) -> Result<PgTypeKind, AllocError> {
+    let mut labels = Vec::new(alloc);
+    labels.push(RcStr::from_str(alloc, "sad")?)?;
+    Ok(PgTypeKind::Enum(RcSlice::from_vec(labels)?))
+}
+
+/// A kind of each form.
+fn kind(alloc: Global, name: &str) -> Result<PgTypeKind, AllocError> {
+    match name {
+        "simple" => Ok(PgTypeKind::Simple),
+        "pseudo" => Ok(PgTypeKind::Pseudo),
+        "domain" => Ok(PgTypeKind::Domain(PgTypeInfo(PgType::Int4))),
+        "composite" => fields(alloc),
+        "array" => Ok(PgTypeKind::Array(PgTypeInfo::with_name("y"))),
+        "enum" => labels(alloc),
+        _ => Ok(PgTypeKind::Range(PgTypeInfo::array_of("z"))),
+    }
+}
+
+/// The name of the copy of a custom type of a copy of this kind, where it is the same type.
+fn copied(alloc: Global, name: &str) -> Result<String, AllocError> {
+    let kind = kind(alloc, name)?;
+    let custom = PgTypeInfo::custom(alloc, Oid(16500), "mood", kind.clone()?)?;
+    let copy = custom.clone()?;
+    if copy.type_eq(&custom) {
+        format!(in alloc; "{copy}")
+    } else {
+        String::from_str(alloc, "another")
+    }
+}
+
+/// The name of a copy of a custom type itself.
+fn copied_custom(alloc: Global) -> Result<String, AllocError> {
+    let custom = PgTypeInfo::custom(alloc, Oid(16500), "mood", PgTypeKind::Simple)?;
+    match &custom.0 {
+        PgType::Custom(inner) => {
+            let copy = PgCustomType::clone(inner)?;
+            String::from_str(alloc, copy.name())
+        }
+        _ => String::from_str(alloc, "no custom type"),
+    }
+}
+
+/// The types of the columns of a stream.
+fn columns(alloc: Global) -> Result<Vec<PgTypeInfo>, AllocError> {
+    let mut types = Vec::new(alloc);
+    types.push(PgTypeInfo(PgType::Int4))?;
+    types.push(PgTypeInfo(PgType::Text))?;
+    Ok(types)
+}
+
+/// The next row of a stream. Out of memory it leaves the reader as it was, so it is read once more.
+fn next_row<'r>(reader: &mut PgCopyReader<'r>) -> Result<Option<Vec<PgValueRef<'r>>>, CodecError> {
+    match reader.next_row() {
+        Err(CodecError::Memory) => reader.next_row(),
+        answer => answer,
+    }
+}
+
+/// How many rows there are in a stream of an `int4` and a text.
+fn rows(alloc: Global, digits: &str) -> Result<String, CodecError> {
+    let Ok(bytes) = bytes_of(alloc, digits) else {
+        return Err(CodecError::Memory);
+    };
+    let mut reader = PgCopyReader::new(bytes.as_slice(), columns(alloc)?)?;
+    let mut rows = 0u32;
+    for _ in 0..bytes.len() {
+        if next_row(&mut reader)?.is_none() {
+            break;
+        }
+        rows = rows.saturating_add(1);
+    }
+    Ok(format!(in alloc; "{rows}")?)
+}
+
+/// The number 123.45, by its digits.
+fn number(alloc: Global) -> Result<PgNumeric, AllocError> {
+    Ok(PgNumeric::Number {
+        sign: PgNumericSign::Positive,
+        digits: [123i16, 4500].to_vec(alloc)?,
+        weight: 0,
+        scale: 2,
+    })
+}
+
+/// What is written of a value that is made of others, in hex.
+fn written_list(alloc: Global, name: &str) -> Result<String, Again> {
+    match name {
+        "[i32; 2]" => written(alloc, &[1, 2]),
+        "reference" => written(alloc, &&7i32),
+        "some" => written(alloc, &Some(7i32)),
+        "list of a range" => {
+            let mut ranges = Vec::new(alloc);
+            ranges.push(PgRange::from(1..10)).or(Err(Again))?;
+            written(alloc, &ranges)
+        }
+        "range of a list" => match sizes(alloc, 7) {
+            Ok(sizes) => written(alloc, &PgRange::from(sizes..)),
+            Err(_) => Err(Again),
+        },
+        _ => Ok(String::from_str(alloc, "no such value")?),
+    }
+}
+
+/// What is written of a value, in hex.
+fn written_value(alloc: Global, name: &str) -> Result<String, Again> {
+    match name {
+        "duration" => written(alloc, &Duration::from_secs(3600)),
+        "signed duration" => written(alloc, &SignedDuration::from_secs(3600)),
+        "numeric" => written(alloc, &number(alloc)?),
+        "zero" => written(alloc, &PgNumeric::zero(alloc)),
+        "bytea" => written(alloc, &PgBytea([0u8, 255].to_vec(alloc)?)),
+        "bytea of two" => written(alloc, &PgByteaArray([1, 2])),
+        _ => written_list(alloc, name),
+    }
+}
+
+/// What rows of this kind call.
+#[derive(Drop)]
+pub struct Values;
+
+impl Called for Values {
+    fn holds(&mut self, alloc: Global, call: &str, wanted: &str) -> Result<bool, Again> {
+        let (form, name) = call.split_once(' ').unwrap_or((call, ""));
+        match form {
+            "written" => Ok(written_value(alloc, name)?.as_str() == wanted),
+            "kind" => Ok(copied(alloc, name)?.as_str() == wanted),
+            "custom" => Ok(copied_custom(alloc)?.as_str() == wanted),
+            "rows" => same(rows(alloc, name), wanted),
+            "row" => match of_row(alloc) {
+                Ok(value) => same(owned(alloc, &value), wanted),
+                Err(error) => same(Err(error), wanted),
+            },
+            _ => match of_text(alloc) {
+                Ok(value) => same(owned(alloc, &value), wanted),
+                Err(error) => same(Err(error), wanted),
+            },
+        }
+    }
+}
