@@ -80,6 +80,13 @@ fn decoders(alloc: Global) -> bool {
         && <()>::decode(alloc, binary(b"", PgType::Void)).is_ok()
 }
 
+/// An array that promises more elements than there are bytes: no room is made for them.
+fn short_array(alloc: Global) -> bool {
+    let bytes = b"\0\0\0\x01\0\0\0\0\0\0\0\x17\x7f\xff\xff\xff\0\0\0\x01".as_slice();
+    let found = Vec::<i32>::decode(alloc, binary(bytes, PgType::Int4Array));
+    matches!(found, Err(CodecError::Short))
+}
+
 /// Sums of money, durations, and the parts of a text.
 fn sums() -> bool {
     let interval = PgInterval::try_from(Duration::from_secs(1));
@@ -151,6 +158,7 @@ impl Called for Still {
             "values" => Ok(values()),
             "readers" => Ok(readers()),
             "decoders" => Ok(decoders(alloc)),
+            "short array" => Ok(short_array(alloc)),
             "sums" => Ok(sums()),
             "fill" => Ok(self.fill()),
             "pop" => Ok(self.empty()),

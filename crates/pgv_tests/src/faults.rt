@@ -5,6 +5,7 @@ use std::alloc::Global;
 use std::io::{self, BufRead, Error, ErrorKind, Read, Write};
 
 /// Calls that succeed, as many as are left, and then one that fails.
+#[derive(Drop)]
 struct Countdown {
     calls: u32,
     met: bool,
@@ -31,6 +32,7 @@ impl Countdown {
 }
 
 /// A reader that fails at a call.
+#[derive(Drop)]
 struct FailingReader<'a> {
     bytes: &'a [u8],
     left: Countdown,
@@ -70,6 +72,7 @@ impl BufRead for FailingReader<'_> {
 }
 
 /// A writer that fails at a call, `flush` among them, and compares what is written with the answers.
+#[derive(Drop)]
 struct FailingWriter {
     answers: &'static [u8],
     same: bool,
