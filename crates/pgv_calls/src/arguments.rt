@@ -6,7 +6,7 @@ use crate::own::{Bounds, Listed, Stop};
 use crate::readings::shown;
 use jiff::civil::{Date, date};
 use pgv::types::{PgLTree, PgRange};
-use pgv::{CodecError, Oid, PgArguments, PgTypeInfo, PgValueFormat, PgValueRef};
+use pgv::{CodecError, Encode, Oid, PgArguments, PgTypeInfo, PgValueFormat, PgValueRef};
 use pgv_by_name::{Huge, MoodText, Size, size_ranges, type_of};
 use pgv_examples::empty_object::EmptyObject;
 use pgv_examples::household::Household;
@@ -147,31 +147,34 @@ fn behind<T>(alloc: Global, second: T) -> Pair<EmptyObject, T> {
     }
 }
 
+/// One value in a list.
+fn list_of<T: Drop>(alloc: Global, value: T) -> Result<Vec<T>, CodecError> {
+    let mut list = Vec::new(alloc);
+    match list.push(value) {
+        Ok(()) => Ok(list),
+        Err(_) => Err(CodecError::Memory),
+    }
+}
+
+/// Adds a range that begins with a value.
+fn add_range<T: Encode + Drop>(arguments: &mut PgArguments, start: T) -> Result<(), CodecError> {
+    arguments.add(Bounds {
+        range: PgRange::from(start..),
+    })
+}
+
 /// Adds a range of a value that is refused: itself at the depth 1, in a record at 2, in a list in that at 3, in a record of that at 4.
 fn add_stop(alloc: Global, arguments: &mut PgArguments, depth: u32) -> Result<(), CodecError> {
     let stop = Stop { alloc, depth };
     match depth {
-        1 => arguments.add(Bounds {
-            range: PgRange::from(stop..),
-        }),
-        2 => arguments.add(Bounds {
-            range: PgRange::from(behind(alloc, stop)..),
-        }),
-        3 => {
-            let mut stops = Vec::new(alloc);
-            stops.push(stop)?;
-            arguments.add(Bounds {
-                range: PgRange::from(behind(alloc, stops)..),
-            })
-        }
+        1 => add_range(arguments, stop),
+        2 => add_range(arguments, behind(alloc, stop)),
+        3 => add_range(arguments, behind(alloc, list_of(alloc, stop)?)),
         _ => {
-            let mut listed = Vec::new(alloc);
-            listed.push(Listed {
+            let listed = Listed {
                 pair: behind(alloc, stop),
-            })?;
-            arguments.add(Bounds {
-                range: PgRange::from(behind(alloc, listed)..),
-            })
+            };
+            add_range(arguments, behind(alloc, list_of(alloc, listed)?))
         }
     }
 }
@@ -235,11 +238,16 @@ fn added_each(alloc: Global, arguments: &mut PgArguments) -> Result<bool, Again>
     Ok(matches!(codes, [0, 38, 0]))
 }
 
+fn push_type(alloc: Global, types: &mut Vec<PgTypeInfo>, name: &str) -> Result<(), AllocError> {
+    let info = type_of(alloc, name.trim_ascii())?;
+    Ok(types.push(info)?)
+}
+
 /// The types of these names.
 fn types_of(alloc: Global, names: &str) -> Result<Vec<PgTypeInfo>, AllocError> {
     let mut types = Vec::new(alloc);
     for name in names.split(',') {
-        types.push(type_of(alloc, name.trim_ascii())?)?;
+        push_type(alloc, &mut types, name)?;
     }
     Ok(types)
 }
@@ -309,29 +317,38 @@ fn frames(alloc: Global, arguments: &PgArguments) -> Result<String, CodecError> 
     Ok(text)
 }
 
-/// The placeholder of the last argument. Out of memory it leaves the text as it was.
-fn placeholder(alloc: Global, arguments: &PgArguments) -> Result<String, CodecError> {
-    let mut text = String::from_str(alloc, "select ")?;
-    let mut answer = arguments.format_placeholder(&mut text);
-    if answer.is_err() && text.as_str() == "select " {
-        answer = arguments.format_placeholder(&mut text);
+/// Appends the placeholder of the last argument. Out of memory it leaves the text as it was, so it is appended once more.
+fn push_placeholder(arguments: &PgArguments, query: &mut String) -> Result<(), CodecError> {
+    match arguments.format_placeholder(query) {
+        Err(_) if query.as_str() == "select " => arguments.format_placeholder(query),
+        answer => answer,
     }
-    answer?;
-    Ok(text)
+}
+
+/// The start of a query with the placeholder of the last argument.
+fn placeholder(alloc: Global, arguments: &PgArguments) -> Result<String, CodecError> {
+    let mut query = String::from_str(alloc, "select ")?;
+    push_placeholder(arguments, &mut query)?;
+    Ok(query)
+}
+
+/// Appends the name of a type, with a space in front but for the first.
+fn push_name(names: &mut String, info: &PgTypeInfo) -> Result<(), AllocError> {
+    if !names.is_empty() {
+        names.push(' ')?;
+    }
+    let name = info.name();
+    names.push_str(name.text())?;
+    names.push_str(name.suffix())
 }
 
 /// The names of types, with a space between.
 pub fn names(alloc: Global, types: &[PgTypeInfo]) -> Result<String, AllocError> {
-    let mut text = String::new(alloc);
+    let mut names = String::new(alloc);
     for info in types {
-        if !text.is_empty() {
-            text.push(' ')?;
-        }
-        let name = info.name();
-        text.push_str(name.text())?;
-        text.push_str(name.suffix())?;
+        push_name(&mut names, info)?;
     }
-    Ok(text)
+    Ok(names)
 }
 
 /// What is asked of arguments.

@@ -30,13 +30,18 @@ fn of_text(alloc: Global) -> Result<PgValue, CodecError> {
     PgValueRef::new(Some("π".as_bytes()), text, PgValueFormat::Text).to_owned(alloc)
 }
 
-/// A copy's bytes in hex, with the name of its type and whether it is a text.
+/// The bytes of a value in hex, and whether it is a text.
+fn lent(alloc: Global, value: &PgValueRef<'_>) -> Result<String, CodecError> {
+    let bytes = hex::encode(alloc, value.as_bytes()?)?;
+    let is_text = value.format() == PgValueFormat::Text;
+    Ok(format!(in alloc; "{bytes} {is_text}")?)
+}
+
+/// The name of the type of a copy, its bytes in hex, and whether it is a text.
 fn owned(alloc: Global, value: &PgValue) -> Result<String, CodecError> {
     let copy = value.clone()?;
-    let lent = copy.as_ref()?;
-    let bytes = hex::encode(alloc, lent.as_bytes()?)?;
-    let is_text = lent.format() == PgValueFormat::Text;
-    Ok(format!(in alloc; "{} {bytes} {is_text}", copy.type_info())?)
+    let lent = lent(alloc, &copy.as_ref()?)?;
+    Ok(format!(in alloc; "{} {lent}", copy.type_info())?)
 }
 
 /// One field, `x` of the type `int4`.
