@@ -3,7 +3,7 @@
 //! stands in the stored run of `pgvalue_server` instead, and rows of calls in that of `pgv_calls`, where a row costs no proof.
 //!
 //! - [`made`]: values that are made, printed and written. [`types`], [`values`]: types and names, and frames in front of bytes.
-//! - [`records`]: records of a server. [`deep`]: types and values that are nested deep. [`faults`]: readers and writers that fail.
+//! - [`readme`]: the code of the README. [`records`]: records of a server. [`deep`]: types and values that are nested deep. [`faults`]: readers and writers that fail.
 #![tactic(auto)]
 
 #[cfg(test)]
@@ -12,6 +12,8 @@ mod deep;
 mod faults;
 #[cfg(test)]
 mod made;
+#[cfg(test)]
+mod readme;
 #[cfg(test)]
 mod records;
 #[cfg(test)]
