@@ -179,13 +179,12 @@ fn add_stop(alloc: Global, arguments: &mut PgArguments, depth: u32) -> Result<()
     }
 }
 
-/// How many arguments, bytes and holes there are.
-fn numbers(arguments: &PgArguments) -> (usize, usize, usize) {
-    (
-        arguments.len(),
-        arguments.buffer().len(),
-        arguments.hole_types().len(),
-    )
+/// Whether arguments are as they were: as many, with the same bytes, types and holes.
+fn unmoved(now: &PgArguments, before: &PgArguments) -> bool {
+    now.len() == before.len()
+        && now.buffer().as_slice() == before.buffer().as_slice()
+        && now.types().len() == before.types().len()
+        && now.hole_types().len() == before.hole_types().len()
 }
 
 /// Whether an addition is answered so.
@@ -195,17 +194,17 @@ fn added(
     name: &str,
     wanted: &str,
 ) -> Result<bool, Again> {
-    let before = numbers(arguments);
+    let before = arguments.clone()?;
     let answer = add(alloc, arguments, name);
-    told(answer, numbers(arguments) == before, wanted)
+    told(answer, unmoved(arguments, &before), wanted)
 }
 
 /// Whether a value is refused with C38 of its depth.
 fn stopped(alloc: Global, arguments: &mut PgArguments, depth: &str) -> Result<bool, Again> {
     let depth = depth.parse::<u32>().unwrap_or(0);
-    let before = numbers(arguments);
+    let before = arguments.clone()?;
     let answer = add_stop(alloc, arguments, depth);
-    let unmoved = numbers(arguments) == before;
+    let unmoved = unmoved(arguments, &before);
     match answer {
         Err(CodecError::Caller(found)) => Ok(unmoved && found == depth),
         Err(CodecError::Memory) if unmoved => Err(Again),
@@ -373,9 +372,9 @@ fn changed_or_asked(
 ) -> Result<bool, Again> {
     match call {
         "reserve" => {
-            let before = numbers(arguments);
+            let before = arguments.clone()?;
             let answer = arguments.reserve(3, 100);
-            told(answer, numbers(arguments) == before, wanted)
+            told(answer, unmoved(arguments, &before), wanted)
         }
         "copy" => {
             *arguments = arguments.clone()?;

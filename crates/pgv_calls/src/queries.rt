@@ -49,12 +49,12 @@ fn shown(alloc: Global, query: &PgLQuery) -> Result<String, CodecError> {
 
 /// Whether a level is appended so.
 fn pushed(alloc: Global, query: &mut PgLQuery, level: &str, wanted: &str) -> Result<bool, Again> {
-    let before = query.as_slice().len();
+    let before = query.clone()?;
     let answer = match level.strip_prefix("not ") {
         Some(variant) => push_not(alloc, query, variant),
         None => push(alloc, query, level),
     };
-    told(answer, query.as_slice().len() == before, wanted)
+    told(answer, *query == before, wanted)
 }
 
 impl Called for PgLQuery {

@@ -51,9 +51,9 @@ fn shown(alloc: Global, tree: &PgLTree) -> Result<String, CodecError> {
 impl Called for PgLTree {
     fn holds(&mut self, alloc: Global, call: &str, wanted: &str) -> Result<bool, Again> {
         if let Some(label) = call.strip_prefix("push ") {
-            let before = self.as_slice().len();
+            let before = self.clone()?;
             let answer = push(alloc, self, label);
-            return told(answer, self.as_slice().len() == before, wanted);
+            return told(answer, *self == before, wanted);
         }
         if let Some(labels) = call.strip_prefix("of ") {
             let answer = match tree_of(alloc, labels) {
