@@ -2,17 +2,22 @@
 
 use crate::again::Again;
 use crate::called::Called;
-use jiff::SignedDuration;
-use jiff::civil::{Date, Time};
-use pgv::text::{Parts, TextForm};
-use pgv::types::{MacAddress, PgByteaArray, PgInterval, PgLTree, PgMoney, PgTimeTz};
+use bytes::Bytes;
+use jiff::civil::{Date, DateTime, Time};
+use jiff::{SignedDuration, Timestamp};
+use pgv::text::{Parts, TextForm, date, date_time, instant, time, time_tz};
+use pgv::types::{IpNetwork, MacAddress, PgByteaArray, PgInterval, PgLTree, PgMoney, PgTimeTz};
 use pgv::{
-    CodecError, Decode, Oid, PgArguments, PgType, PgTypeInfo, PgValueFormat, PgValueRef, Type,
-    name_eq, read_bool, read_i16, read_i32, read_i64, read_interval, read_oid, read_uuid,
+    CodecError, Decode, Oid, PgArgumentBuffer, PgArguments, PgType, PgTypeInfo, PgValueFormat,
+    PgValueRef, Type, name_eq, read_bool, read_date, read_date_time, read_i8, read_i16, read_i32,
+    read_i64, read_instant, read_interval, read_ip_address, read_ip_network, read_oid, read_time,
+    read_uuid,
 };
 use pgv_examples::empty_object::EmptyObject;
 use std::alloc::Global;
+use std::net::IpAddr;
 use std::time::Duration;
+use uuid::Uuid;
 
 /// A value in binary under a type.
 fn binary(bytes: &[u8], built_in: PgType) -> PgValueRef<'_> {
@@ -68,6 +73,49 @@ fn readers() -> bool {
         && read_interval(&binary(&[0; 16], PgType::Interval)).is_ok()
 }
 
+/// Plain readers of times and addresses.
+fn more_readers() -> bool {
+    read_i8(&binary(b"\x07", PgType::Char)).is_ok_and(|found| found == 7)
+        && read_date(&text("2000-01-01", PgType::Date)).is_ok()
+        && read_time(&binary(&[0; 8], PgType::Time)).is_ok()
+        && read_date_time(&text("2000-01-01 00:00:00", PgType::Timestamp)).is_ok()
+        && read_instant(&binary(&[0; 8], PgType::Timestamptz)).is_ok()
+        && read_ip_network(&text("10.0.0.0/8", PgType::Inet)).is_ok()
+        && read_ip_address(&text("10.0.0.1", PgType::Inet)).is_ok()
+}
+
+/// Whole texts that are read.
+fn texts() -> bool {
+    date("2000-01-01").is_some()
+        && time("24:00:00").is_some()
+        && date_time("2000-01-01 00:00:00").is_some()
+        && instant("2000-01-01 00:00:00+00").is_some()
+        && time_tz("00:00:00+01").is_some()
+        && IpNetwork::from_str("10.0.0.0/8").is_some_and(|found| found.prefix() == 8)
+        && IpNetwork::from_str("10.0.0.0/33").is_none()
+}
+
+/// Decoders of numbers that take no memory.
+fn numbers(alloc: Global) -> bool {
+    bool::decode(alloc, text("t", PgType::Bool)).is_ok_and(|found| found)
+        && i8::decode(alloc, text("\\101", PgType::Char)).is_ok_and(|found| found == 65)
+        && i16::decode(alloc, text("-7", PgType::Int2)).is_ok_and(|found| found == -7)
+        && i64::decode(alloc, text("7", PgType::Int8)).is_ok_and(|found| found == 7)
+        && Oid::decode(alloc, binary(&[0; 4], PgType::Oid)).is_ok_and(|found| found == Oid(0))
+        && Uuid::decode(alloc, binary(&[9; 16], PgType::Uuid)).is_ok()
+        && PgInterval::decode(alloc, binary(&[0; 16], PgType::Interval)).is_ok()
+}
+
+/// Decoders of moments and addresses that take no memory.
+fn moments(alloc: Global) -> bool {
+    DateTime::decode(alloc, binary(&[0; 8], PgType::Timestamp)).is_ok()
+        && Timestamp::decode(alloc, binary(&[0; 8], PgType::Timestamptz)).is_ok()
+        && IpNetwork::decode(alloc, text("10.0.0.0/8", PgType::Inet)).is_ok()
+        && IpAddr::decode(alloc, text("::1", PgType::Inet)).is_ok()
+        && PgTimeTz::decode(alloc, binary(&[0; 12], PgType::Timetz)).is_ok()
+        && MacAddress::decode(alloc, binary(&[0; 6], PgType::Macaddr)).is_ok()
+}
+
 /// Decoders that take no memory.
 fn decoders(alloc: Global) -> bool {
     i32::decode(alloc, binary(b"\0\0\0\x07", PgType::Int4)).is_ok_and(|found| found == 7)
@@ -108,6 +156,8 @@ fn make_tree(alloc: Global) -> Result<PgLTree, CodecError> {
 pub struct Still {
     arguments: PgArguments,
     tree: PgLTree,
+    buffer: PgArgumentBuffer,
+    row: Option<Bytes>,
 }
 
 impl Still {
@@ -116,12 +166,17 @@ impl Still {
         Still {
             arguments: PgArguments::new(alloc),
             tree: PgLTree::new(alloc),
+            buffer: PgArgumentBuffer::new(alloc),
+            row: None,
         }
     }
 
     /// Makes a tree, and arguments with a hole and a slot.
     fn make(&mut self, alloc: Global) -> Result<(), CodecError> {
         self.tree = make_tree(alloc)?;
+        self.row = Some(Bytes::copy_from_slice(alloc, b"row")?);
+        self.buffer = PgArgumentBuffer::new(alloc);
+        self.buffer.push(1)?;
         self.arguments = PgArguments::new(alloc);
         self.arguments.add(PgLTree::new(alloc))?;
         self.arguments.add(None::<PgLTree>)?;
@@ -141,6 +196,28 @@ impl Still {
             && self.arguments.apply_patches(&types, &[]).is_err()
     }
 
+    /// Goes back to the end of the buffer, where it is, and clears it.
+    fn clear(&mut self) -> bool {
+        let mark = self.buffer.mark();
+        self.buffer.back(mark);
+        let whole = self.buffer.len() == 1;
+        self.buffer.clear();
+        whole && self.buffer.len() == 0
+    }
+
+    /// Lends the first two bytes of the row.
+    fn lend(&self) -> bool {
+        let Some(row) = &self.row else {
+            return false;
+        };
+        if row.as_slice().len() < 2 {
+            return false;
+        }
+        let info = PgTypeInfo(PgType::Bytea);
+        let part = PgValueRef::from_row(row, 0, 2, info, PgValueFormat::Binary);
+        part.as_bytes().is_ok_and(|bytes| bytes == b"ro".as_slice())
+    }
+
     /// Takes the labels off.
     fn empty(&mut self) -> bool {
         self.tree.pop().is_some() && self.tree.pop().is_some() && self.tree.pop().is_none()
@@ -157,10 +234,16 @@ impl Called for Still {
             "types" => Ok(types()),
             "values" => Ok(values()),
             "readers" => Ok(readers()),
+            "more readers" => Ok(more_readers()),
+            "texts" => Ok(texts()),
+            "numbers" => Ok(numbers(alloc)),
+            "moments" => Ok(moments(alloc)),
             "decoders" => Ok(decoders(alloc)),
             "short array" => Ok(short_array(alloc)),
             "sums" => Ok(sums()),
             "fill" => Ok(self.fill()),
+            "clear" => Ok(self.clear()),
+            "lend" => Ok(self.lend()),
             "pop" => Ok(self.empty()),
             _ => Ok(false),
         }
