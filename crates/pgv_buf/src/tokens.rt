@@ -1,6 +1,6 @@
 //! A list of tokens, kept as one run of bytes.
 
-ghost use Rattle.std.specs.Prelude.{◌≡◌, ℕ, ◌++◌, List, [], ◌∷◌, length, OnOk, OnErr, sum};
+ghost use Rattle.std.specs.Prelude.{◌≡◌, ◌==◌, ℕ, ◌++◌, List, [], ◌∷◌, length, OnOk, OnErr, sum};
 ghost use Rattle.pgv_buf.specs.Tokens.{CasesFit, slot_count, byte, hole, slot, bytes, blank, Cell, fixed_bytes, hole_count, shown, width, be4, hole_types_of};
 ghost use Rattle.pgv_buf.specs.Proper.{Proper};
 ghost use Rattle.pgv_buf.specs.Marks.{mark_of};
@@ -64,6 +64,13 @@ impl Tokens {
         ensures { result ≡ width self.now }
     {
         self.bytes.len()
+    }
+
+    /// Whether no byte is shown.
+    pub fn is_empty(&self) -> bool
+        ensures { result ≡ (width self.now == 0) }
+    {
+        self.len() == 0
     }
 
     /// The bytes that are shown: four for a hole, and for a slot as many as its default and each of its cases has.

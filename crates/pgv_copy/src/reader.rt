@@ -64,6 +64,7 @@ impl<'r> PgCopyReader<'r> {
     /// Where the bytes end before the stream does it is C15, a negative number of fields but the -1 of the end C16, another
     /// number than that of the columns C12, and a negative length of a field but the -1 of null C16. A refused call leaves the
     /// reader as it was. The list is all that takes memory (C1), from the allocator of the types.
+    #[inline(always)]
     #[tactic(auto, unfolding(crate::specs::CopyBinary::step))]
     pub fn next_row(&mut self) -> Result<Option<Vec<PgValueRef<'r>>>, CodecError>
         ensures answered { IfOk result (λ found. step self.old ≡ Ok (option_map (λ row. row.items) found, self.new)) }
@@ -136,6 +137,7 @@ fn after_extension(bytes: &[u8]) -> Result<&[u8], CodecError>
 }
 
 /// What comes after the number of a row's fields, or none at the trailer.
+#[inline(always)]
 #[tactic(auto, unfolding(crate::specs::CopyBinary::after_count))]
 fn after_count(bytes: &[u8], width: usize) -> Result<Option<&[u8]>, CodecError>
     ensures found { IfOk result (λ rest. count_passed width bytes.now ≡ Ok (option_copied rest)) }
@@ -156,6 +158,7 @@ fn after_count(bytes: &[u8], width: usize) -> Result<Option<&[u8]>, CodecError>
 }
 
 /// A field of each type. The bytes are moved on after those that were read.
+#[inline(always)]
 fn read_fields<'r>(
     alloc: Global,
     types: &[PgTypeInfo],

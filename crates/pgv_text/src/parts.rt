@@ -1,6 +1,6 @@
 //! The parts of a text, one by one.
 
-ghost use Rattle.std.specs.Prelude.{◌≡◌, ◌+◌, ◌∷◌, [], ℕ, List, Option, Some, None, IfOk, IfSome, IfNone, OnErr, cond, string_bytes, false, true, length};
+ghost use Rattle.std.specs.Prelude.{◌≡◌, ◌==◌, ◌+◌, ◌∷◌, [], ℕ, List, Option, Some, None, IfOk, IfSome, IfNone, OnErr, cond, string_bytes, false, true, length};
 ghost use Rattle.std.specs.Option.{MatchOption, option_map};
 ghost use Rattle.std.specs.Str.{chars};
 ghost use Rattle.pgv_text.specs.ContentText.{Content, IsTextOf, content_of, is_empty_in, no_parts};
@@ -148,6 +148,13 @@ impl<'a> Parts<'a> {
         ensures { result ≡ length (nest self.now).values }
     {
         self.count
+    }
+
+    /// Whether no part is still to come.
+    pub fn is_empty(&self) -> bool
+        ensures { result ≡ (length (nest self.now).values == 0) }
+    {
+        self.count == 0
     }
 
     /// Puts the next part into a text, and says whether it is present: one that is null or absent

@@ -151,6 +151,7 @@ impl Plain for IpNetwork {
 
     ghost refusal = { Some network_refusal };
 
+    #[inline(always)]
     fn read(_alloc: Global, value: PgValueRef<'_>) -> Result<IpNetwork, CodecError> {
         read_ip_network(&value)
     }

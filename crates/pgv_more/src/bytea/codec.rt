@@ -81,6 +81,7 @@ impl Plain for PgBytea {
 
     ghost refusal = { Some bytea_refusal };
 
+    #[inline(always)]
     fn read(alloc: Global, value: PgValueRef<'_>) -> Result<PgBytea, CodecError> {
         let bytes = value.as_bytes()?;
         match value.format() {

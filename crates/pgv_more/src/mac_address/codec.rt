@@ -77,6 +77,7 @@ impl Plain for MacAddress {
 
     ghost refusal = { Some mac_refusal };
 
+    #[inline(always)]
     fn read(_alloc: Global, value: PgValueRef<'_>) -> Result<MacAddress, CodecError> {
         match value.format() {
             PgValueFormat::Binary => match value.as_bytes()? {

@@ -87,6 +87,7 @@ fn address_alone(network: IpNetwork) -> Result<IpAddr, CodecError>
 /// octets, and in text an address, and perhaps `/` and the prefix. Refused are a wrong length with C17, another family with
 /// C31, a prefix that is too long with C32, and another text with C29.
 /// `02180004c0a80000` and `192.168.0.0/24` are the same network.
+#[inline(always)]
 pub fn read_ip_network(value: &PgValueRef<'_>) -> Result<IpNetwork, CodecError>
     ensures exact { AnswersExactly network_of (network_reading value.now.type_info value.now.format value.now.bytes) result }
     ensures refused { IfErr result (λ e. e ≡ network_refusal value.now.format value.now.bytes) }
