@@ -6,7 +6,7 @@ use crate::own::{Bounds, Listed, Stop};
 use crate::readings::shown;
 use jiff::civil::{Date, date};
 use pgv::types::{PgLTree, PgRange};
-use pgv::{CodecError, Encode, Oid, PgArguments, PgTypeInfo, PgValueFormat, PgValueRef};
+use pgv::{CodecError, Encode, Oid, PgArguments, PgType, PgTypeInfo, PgValueFormat, PgValueRef};
 use pgv_by_name::{Huge, MoodText, Size, size_ranges, type_of};
 use pgv_examples::empty_object::EmptyObject;
 use pgv_examples::household::Household;
@@ -179,12 +179,58 @@ fn add_stop(alloc: Global, arguments: &mut PgArguments, depth: u32) -> Result<()
     }
 }
 
-/// Whether arguments are as they were: as many, with the same bytes, types and holes.
-fn unmoved(now: &PgArguments, before: &PgArguments) -> bool {
-    now.len() == before.len()
-        && now.buffer().as_slice() == before.buffer().as_slice()
-        && now.types().len() == before.types().len()
-        && now.hole_types().len() == before.hole_types().len()
+/// A parameter of `jsonb` for each argument.
+fn all_jsonb(alloc: Global, arguments: &PgArguments) -> Result<Vec<PgTypeInfo>, AllocError> {
+    let mut types = Vec::new(alloc);
+    for _ in arguments.types() {
+        types.push(PgTypeInfo(PgType::Jsonb))?;
+    }
+    Ok(types)
+}
+
+/// The OID 0 for each hole.
+fn zeros(alloc: Global, arguments: &PgArguments) -> Result<Vec<Oid>, AllocError> {
+    let mut oids = Vec::new(alloc);
+    for _ in arguments.hole_types() {
+        oids.push(Oid(0))?;
+    }
+    Ok(oids)
+}
+
+/// A copy whose bytes tell where its slots are: they are filled for parameters of `jsonb`.
+fn with_slots_filled(alloc: Global, arguments: &PgArguments) -> Result<PgArguments, AllocError> {
+    let mut copy = arguments.clone()?;
+    let types = all_jsonb(alloc, arguments)?;
+    let oids = zeros(alloc, arguments)?;
+    match copy.apply_patches(types.as_slice(), oids.as_slice()) {
+        Ok(()) => Ok(copy),
+        Err(_) => Err(AllocError),
+    }
+}
+
+/// Whether arguments are as they were: with the same bytes, types, holes and slots.
+fn unmoved(alloc: Global, now: &PgArguments, before: &PgArguments) -> Result<bool, AllocError> {
+    let now_filled = with_slots_filled(alloc, now)?;
+    let before_filled = with_slots_filled(alloc, before)?;
+    Ok(
+        now.buffer().as_slice() == before.buffer().as_slice()
+            && now_filled.buffer().as_slice() == before_filled.buffer().as_slice()
+            && names(alloc, now.types())?.as_str() == names(alloc, before.types())?.as_str()
+            && names(alloc, now.hole_types())?.as_str()
+                == names(alloc, before.hole_types())?.as_str(),
+    )
+}
+
+/// Whether a call on arguments, which a refusal has to leave as they were, answers what is wanted.
+fn told_of(
+    alloc: Global,
+    answer: Result<(), CodecError>,
+    now: &PgArguments,
+    before: &PgArguments,
+    wanted: &str,
+) -> Result<bool, Again> {
+    let unmoved = answer.is_ok() || unmoved(alloc, now, before)?;
+    told(answer, unmoved, wanted)
 }
 
 /// Whether an addition is answered so.
@@ -196,7 +242,7 @@ fn added(
 ) -> Result<bool, Again> {
     let before = arguments.clone()?;
     let answer = add(alloc, arguments, name);
-    told(answer, unmoved(arguments, &before), wanted)
+    told_of(alloc, answer, arguments, &before, wanted)
 }
 
 /// Whether a value is refused with C38 of its depth.
@@ -204,7 +250,7 @@ fn stopped(alloc: Global, arguments: &mut PgArguments, depth: &str) -> Result<bo
     let depth = depth.parse::<u32>().unwrap_or(0);
     let before = arguments.clone()?;
     let answer = add_stop(alloc, arguments, depth);
-    let unmoved = unmoved(arguments, &before);
+    let unmoved = unmoved(alloc, arguments, &before)?;
     match answer {
         Err(CodecError::Caller(found)) => Ok(unmoved && found == depth),
         Err(CodecError::Memory) if unmoved => Err(Again),
@@ -374,7 +420,7 @@ fn changed_or_asked(
         "reserve" => {
             let before = arguments.clone()?;
             let answer = arguments.reserve(3, 100);
-            told(answer, unmoved(arguments, &before), wanted)
+            told_of(alloc, answer, arguments, &before, wanted)
         }
         "copy" => {
             *arguments = arguments.clone()?;

@@ -26,12 +26,20 @@ fn bytes(alloc: Global, bits: &BitVec) -> Result<String, AllocError> {
     hex::encode(alloc, bits.to_bytes()?.as_slice())
 }
 
+/// Whether a bit is appended so.
+fn pushed(bits: &mut BitVec, bit: bool, wanted: &str) -> Result<bool, Again> {
+    let count = bits.len();
+    let before = bits.to_bytes()?;
+    let answer = push(bits, bit);
+    let unmoved = answer.is_ok()
+        || bits.len() == count && bits.to_bytes()?.as_slice() == before.as_slice();
+    told(answer, unmoved, wanted)
+}
+
 impl Called for BitVec {
     fn holds(&mut self, alloc: Global, call: &str, wanted: &str) -> Result<bool, Again> {
         if let Some(bit) = call.strip_prefix("push ") {
-            let before = self.len();
-            let answer = push(self, bit == "1");
-            return told(answer, self.len() == before, wanted);
+            return pushed(self, bit == "1", wanted);
         }
         if let Some(digits) = call.strip_prefix("of bytes ") {
             *self = BitVec::from_bytes(alloc, bytes_of(alloc, digits)?.as_slice())?;

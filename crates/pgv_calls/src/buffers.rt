@@ -19,12 +19,6 @@ fn encode_texts(alloc: Global, buffer: &mut PgArgumentBuffer) -> Result<(), Code
     buffer.encode(&texts)
 }
 
-/// Two braces, the first of them as a slice of bytes.
-fn push_braces(buffer: &mut PgArgumentBuffer) -> Result<(), CodecError> {
-    buffer.extend_from_slice(b"{")?;
-    buffer.push(b'}')
-}
-
 /// A record of two fields, and the answer for a third.
 fn encode_record(alloc: Global, buffer: &mut PgArgumentBuffer) -> Result<(), CodecError> {
     let mut record = PgRecordEncoder::new(buffer)?;
@@ -61,7 +55,8 @@ fn write_piece(alloc: Global, buffer: &mut PgArgumentBuffer, call: &str) -> Resu
             Err(error) => Err(error),
         },
         "version" => push_version(alloc, buffer),
-        "braces" => push_braces(buffer),
+        "slice {" => buffer.extend_from_slice(b"{"),
+        "byte }" => buffer.push(b'}'),
         "hole" => buffer.push_hole(PgTypeInfo::with_name("mood")),
         "record" => encode_record(alloc, buffer),
         "range to 0" => encode_range(alloc, buffer),
@@ -96,7 +91,19 @@ fn asked(alloc: Global, buffer: &PgArgumentBuffer, call: &str) -> Result<String,
     }
 }
 
-/// Whether a call that writes is answered so. A refused one may have appended; where memory was refused, the buffer is put back.
+/// Whether a call that was refused memory has left in a buffer what was there. An encoder may have appended; a call that appends one
+/// thing has not.
+fn is_kept(now: &PgArgumentBuffer, before: &PgArgumentBuffer, call: &str) -> bool {
+    match call {
+        "slice {" | "byte }" | "hole" => {
+            now.as_slice() == before.as_slice()
+                && now.hole_types().len() == before.hole_types().len()
+        }
+        _ => now.as_slice().starts_with(before.as_slice()),
+    }
+}
+
+/// Whether a call that writes is answered so. Where memory was refused, the buffer is put back.
 fn written(
     alloc: Global,
     buffer: &mut PgArgumentBuffer,
@@ -106,7 +113,7 @@ fn written(
     let before = buffer.clone()?;
     match write(alloc, buffer, call) {
         Ok(()) => Ok(wanted == "ok"),
-        Err(CodecError::Memory) if buffer.as_slice().starts_with(before.as_slice()) => {
+        Err(CodecError::Memory) if is_kept(buffer, &before, call) => {
             *buffer = before;
             Err(Again)
         }

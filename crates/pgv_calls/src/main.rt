@@ -5,7 +5,7 @@
 //! is refused, whichever it is, this program prints the same: `tools/refuse_memory` runs it with each of its requests refused in turn.
 //!
 //! Blocks are separated by lines `====`. The first line of a block says what its rows are; each row is `CALL => ANSWER`, but for `run`, whose
-//! block is the lines of a session, a line `=>`, and the answers.
+//! block is the lines of a session, a line `=>`, and the answers, and `run in hex`, where both stand in hex.
 #![tactic(auto)]
 
 mod again;
@@ -64,7 +64,8 @@ fn first_differing(alloc: Global, block: &str) -> Option<&str> {
         "map" => differing(alloc, PgHstore::new(alloc), rows),
         "bits" => differing(alloc, BitVec::new(alloc), rows),
         "still" => differing(alloc, Still::new(alloc), rows),
-        "run" => sessions::differing(alloc, rows),
+        "run" => sessions::differing(alloc, rows, false),
+        "run in hex" => sessions::differing(alloc, rows, true),
         _ => Some(kind),
     }
 }

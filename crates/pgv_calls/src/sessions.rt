@@ -1,5 +1,7 @@
 //! Lines of the program `pgvalue`, run as one session.
 
+use crate::again::Again;
+use crate::readings::bytes_of;
 use pgv::{RunFault, run};
 use std::alloc::Global;
 use std::io::{self, Write};
@@ -25,28 +27,49 @@ impl Write for Compared<'_> {
     }
 }
 
-/// Whether the lines are answered so; none where memory was refused, after a beginning of the answers.
-fn answered(alloc: Global, lines: &str, wanted: &str) -> Option<bool> {
+/// Whether the lines are answered so. Where memory was refused, a beginning of the answers was written.
+fn answered(alloc: Global, lines: &[u8], wanted: &[u8]) -> Result<bool, Again> {
     let mut writer = Compared {
-        left: wanted.as_bytes(),
+        left: wanted,
         same: true,
     };
-    let mut reader = lines.as_bytes();
+    let mut reader = lines;
     match run(alloc, &mut reader, &mut writer) {
-        Ok(()) => Some(writer.same && writer.left.is_empty()),
-        Err(RunFault::Memory) if writer.same => None,
-        Err(_) => Some(false),
+        Ok(()) => Ok(writer.same && writer.left.is_empty()),
+        Err(RunFault::Memory) if writer.same => Err(Again),
+        Err(_) => Ok(false),
+    }
+}
+
+/// Whether the lines are answered so, where both stand in hex.
+fn answered_in_hex(alloc: Global, lines: &str, wanted: &str) -> Result<bool, Again> {
+    let lines = bytes_of(alloc, lines.trim_ascii_end())?;
+    let wanted = bytes_of(alloc, wanted.trim_ascii_end())?;
+    answered(alloc, lines.as_slice(), wanted.as_slice())
+}
+
+/// Whether the lines of a session are answered so. After want of memory they are run once more.
+fn held(alloc: Global, lines: &str, wanted: &str, in_hex: bool) -> bool {
+    if in_hex {
+        return match answered_in_hex(alloc, lines, wanted) {
+            Ok(held) => held,
+            Err(Again) => answered_in_hex(alloc, lines, wanted) == Ok(true),
+        };
+    }
+    match answered(alloc, lines.as_bytes(), wanted.as_bytes()) {
+        Ok(held) => held,
+        Err(Again) => answered(alloc, lines.as_bytes(), wanted.as_bytes()) == Ok(true),
     }
 }
 
 /// The lines of a session that isn't answered as it has to be.
-pub fn differing<'a>(alloc: Global, session: &'a str) -> Option<&'a str> {
+pub fn differing(alloc: Global, session: &str, in_hex: bool) -> Option<&str> {
     let Some((lines, wanted)) = session.split_once("=>\n") else {
         return Some(session);
     };
-    let held = match answered(alloc, lines, wanted) {
-        Some(held) => held,
-        None => answered(alloc, lines, wanted) == Some(true),
-    };
-    if held { None } else { Some(lines) }
+    if held(alloc, lines, wanted, in_hex) {
+        None
+    } else {
+        Some(lines)
+    }
 }

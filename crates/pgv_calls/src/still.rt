@@ -6,16 +6,19 @@ use bytes::Bytes;
 use jiff::civil::{Date, DateTime, Time};
 use jiff::{SignedDuration, Timestamp};
 use pgv::text::{Parts, TextForm, date, date_time, instant, time, time_tz};
-use pgv::types::{IpNetwork, MacAddress, PgByteaArray, PgInterval, PgLTree, PgMoney, PgTimeTz};
+use pgv::types::{
+    IpNetwork, Ipv4Network, Ipv6Network, MacAddress, PgByteaArray, PgInterval, PgLTree, PgMoney,
+    PgTimeTz,
+};
 use pgv::{
-    CodecError, Decode, Oid, PgArgumentBuffer, PgArguments, PgType, PgTypeInfo, PgValueFormat,
-    PgValueRef, Type, name_eq, read_bool, read_date, read_date_time, read_i8, read_i16, read_i32,
-    read_i64, read_instant, read_interval, read_ip_address, read_ip_network, read_oid, read_time,
-    read_uuid,
+    CodecError, Decode, Oid, PgArgumentBuffer, PgArguments, PgRecordEncoder, PgType, PgTypeInfo,
+    PgValueFormat, PgValueRef, Type, name_eq, read_bool, read_date, read_date_time, read_i8,
+    read_i16, read_i32, read_i64, read_instant, read_interval, read_ip_address, read_ip_network,
+    read_oid, read_time, read_uuid,
 };
 use pgv_examples::empty_object::EmptyObject;
 use std::alloc::Global;
-use std::net::IpAddr;
+use std::net::{IpAddr, Ipv4Addr, Ipv6Addr};
 use std::time::Duration;
 use uuid::Uuid;
 
@@ -143,7 +146,25 @@ fn sums() -> bool {
         && PgMoney(1).checked_sub(PgMoney(2)).is_some()
         && interval.is_ok_and(|found| found.microseconds == 1_000_000)
         && signed.is_ok_and(|found| found.microseconds == -1_000_000)
-        && Parts::new(TextForm::Array, "{a,b}").is_some_and(|parts| parts.len() == 2)
+        && Parts::new(TextForm::Array, "{a,b}").is_some_and(|parts| parts.len() == 2
+            && !parts.is_empty())
+}
+
+/// Networks of an address and a prefix.
+fn networks() -> bool {
+    let local = Ipv6Addr::from_octets([0; 16]);
+    Ipv4Network::new(Ipv4Addr::from_octets([10, 0, 0, 0]), 8).is_some_and(|found| found.prefix()
+        == 8)
+        && Ipv6Network::new(local, 129).is_none()
+        && IpNetwork::new(IpAddr::V6(local), 128).is_some_and(|found| found.prefix() == 128)
+}
+
+/// A record of one field.
+fn write_record(buffer: &mut PgArgumentBuffer) -> Result<(), CodecError> {
+    let mut record = PgRecordEncoder::new(buffer)?;
+    record.encode(7)?;
+    record.finish();
+    Ok(())
 }
 
 /// A tree that is filled and emptied again.
@@ -176,6 +197,7 @@ impl Still {
         self.tree = make_tree(alloc)?;
         self.row = Some(Bytes::copy_from_slice(alloc, b"row")?);
         self.buffer = PgArgumentBuffer::new(alloc);
+        self.buffer.reserve(64)?;
         self.buffer.push(1)?;
         self.arguments = PgArguments::new(alloc);
         self.arguments.add(PgLTree::new(alloc))?;
@@ -192,7 +214,8 @@ impl Still {
             PgTypeInfo::array_of("ltree"),
             PgTypeInfo(PgType::Jsonb),
         ];
-        self.arguments.apply_patches(&types, &[Oid(16500)]).is_ok()
+        !self.arguments.is_empty()
+            && self.arguments.apply_patches(&types, &[Oid(16500)]).is_ok()
             && self.arguments.apply_patches(&types, &[]).is_err()
     }
 
@@ -202,7 +225,12 @@ impl Still {
         self.buffer.back(mark);
         let whole = self.buffer.len() == 1;
         self.buffer.clear();
-        whole && self.buffer.len() == 0
+        whole && self.buffer.is_empty()
+    }
+
+    /// Writes a record where there is room for it.
+    fn write(&mut self) -> bool {
+        write_record(&mut self.buffer).is_ok() && self.buffer.len() == 16
     }
 
     /// Lends the first two bytes of the row.
@@ -241,8 +269,10 @@ impl Called for Still {
             "decoders" => Ok(decoders(alloc)),
             "short array" => Ok(short_array(alloc)),
             "sums" => Ok(sums()),
+            "networks" => Ok(networks()),
             "fill" => Ok(self.fill()),
             "clear" => Ok(self.clear()),
+            "record" => Ok(self.write()),
             "lend" => Ok(self.lend()),
             "pop" => Ok(self.empty()),
             _ => Ok(false),
