@@ -1,5 +1,14 @@
--- What was written is read back: the law that a type states of its values, and where optional values, arrays and the
--- fields of records fit a type.
+-- What was written is read back: the law that a type states of its values, and where optional values, arrays and the fields of
+-- records fit a type.
+-- A type states what a value keeps (`kept`), and under which types and with which OIDs it comes back (`fits`). For every value
+-- with an image, every parameter's type or none, every type and all OIDs that fit, what is written is read in binary under that
+-- type as what the value keeps (`ReadsBack`). OIDs are numbers of 32 bits (`AreOids`), and each case of a slot is as long as
+-- its default (`SlotsFit`), as `push_slot` asks.
+-- What fits. A plain value fits every type. None does, and Some where its value does; Some of a value that is written as null
+-- is kept as None. An array fits where the type of its elements exists, by the OID that was written and by the array's type,
+-- and each element fits it (`ArrayFits`). A field of a record fits where the type at its place exists, by the OID that was
+-- written, the reader accepts it and the value fits it (`FieldFits`). Each part takes the OIDs of its own holes, in order
+-- (`FitEach`, `FieldsFit`).
 use Rattle.std.specs.Prelude.{◌≡◌, ℕ, suc, ◌<◌, ◌^◌, Bool, true, false, cond, List, [], ◌∷◌, ◌++◌, length, take, drop, Option, Some, None, ⊤}
 use Rattle.pgv_types.specs.Ty.{Ty}
 use Rattle.pgv_types.specs.Facts.{oid_of}

@@ -1,4 +1,4 @@
--- Values that may be null (PostgreSQL: "Message Formats", DataRow).
+-- Values that may be null (PostgreSQL: "Message Formats", DataRow). Null is read by `Option` (as None) and by `()` alone.
 use Rattle.std.specs.Prelude.{Option, Some, None, option_map}
 use Rattle.pgv_value.specs.Reading.{Reading}
 

@@ -1,5 +1,9 @@
 -- A plain condition under which values fit a type: the type is resolved and of the value's shape at each place, and each OID
 -- that is written is that of the type at its place.
+-- An array fits a type that has elements of some type whose own OID was written, if each element fits that; `own` says that no
+-- other type has this OID as a built-in. A field fits a composite type, or a domain of one, that has a field at its place whose
+-- OID was written and whose type the reader accepts, if the value fits that. Under `record` a built-in stands for the field.
+-- Law: `nests_fit`.
 use Rattle.std.specs.Prelude.{◌≡◌, ℕ, Bool, true, List, take, Option, Some}
 use Rattle.pgv_types.specs.Ty.{Ty, builtin, custom, domain, composite, Fields}
 use Rattle.pgv_types.specs.Facts.{built_in, oid_of, element_of}

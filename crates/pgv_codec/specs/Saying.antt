@@ -1,5 +1,7 @@
--- What an encoder says of a value: how many bytes it may need, what it is written as, and its type. The lemmas are what
--- the laws of arrays and of callers' records need.
+-- What an encoder says of a value: how many bytes it may need (a size hint), what it is written as (an image), and its type.
+-- The lemmas are what the laws of arrays and of callers' records need.
+-- A decoder states what is said of a meaning (`written`). In a `Codec` the two agree, so what is written depends on what a
+-- value says alone.
 use Rattle.std.specs.Prelude.{◌≡◌, ℕ, List, [], ◌∷◌, map, Option, Some, None, refl}
 use Rattle.std.proofs.Common.{ap}
 use Rattle.std.proofs.lemmas.List.{length-map}

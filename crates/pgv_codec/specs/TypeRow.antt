@@ -1,5 +1,7 @@
--- What one type is, in the words of the table of types: the type that its values have, the types under which they are
--- read, and what they are written as. The laws of `laws::rows` give each type's row by these.
+-- What one type is, in the words of the table of types: the type that its values have, the types under which they are read, and
+-- what they are written as. The laws of `laws::rows` give each type's row by these: the PostgreSQL type of its values and of
+-- their arrays, the types under which both are read (`IsBuiltIn`: those that are softly equal to it), its image, with size hint
+-- 0 and no other type (`IsWrittenAs`), and what it reads.
 use Rattle.std.specs.Prelude.{◌≡◌, ℕ, Bool, Option, None}
 use Rattle.pgv_types.specs.Ty.{Ty, builtin}
 use Rattle.pgv_types.specs.Relations.{softly}

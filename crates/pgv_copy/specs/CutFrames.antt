@@ -1,4 +1,7 @@
 -- Frames one after another, as `get` reads them (PostgreSQL: "Message Formats", DataRow), and where they are cut off.
+-- `got` is what a call of `get` answers of a slice, and the slice after it. `all_got` is the answers of calls one after
+-- another. Of frames that are cut off anywhere, the parts of those that are whole are answered, and from then on each call is
+-- C15 (`StopsAtTheFrame`).
 use Rattle.std.specs.Prelude.{◌≡◌, ℕ, zero, suc, ◌+◌, ◌<◌, List, [], ◌∷◌, ◌++◌, map, flat_map, length, take, replicate, Option, Some, None, Ok, Err}
 use Rattle.std.specs.List.{AllByRecursion}
 use Rattle.pgv_value.specs.FrameBinary.{Part, front, frame_fault}

@@ -1,5 +1,7 @@
--- Why bytes are refused as a map of texts (PostgreSQL: appendix F, hstore). They are read in order, and the first number, key or
--- value that can't be read gives the reason.
+-- Why bytes are refused as a map of texts (PostgreSQL: appendix F, hstore). They are read in order, and the first number, key
+-- or value that can't be read gives the reason.
+-- Fewer than four bytes are C15, and a negative number of pairs C9. Else the first key or value that doesn't stand there says
+-- why: its frame ends too early (C15) or has a negative length (C16), a key is null (C35), or a text isn't UTF-8 (C14).
 use Rattle.std.specs.Prelude.{ℕ, zero, suc, nat_lt, if◌then◌else◌, List, Option, Some, None}
 use Rattle.std.specs.Int.{w32, cast_signed}
 use Rattle.pgv_codec.specs.Image.{limit}

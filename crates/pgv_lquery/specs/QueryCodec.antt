@@ -1,5 +1,6 @@
--- What queries are written as and read of (PostgreSQL: "ltree"; lquery_send, lquery_recv): the version 1 in one byte, and then the text.
--- In text they are read of their text alone.
+-- What queries are written as and read of (PostgreSQL: appendix F, "ltree"; lquery_send, lquery_recv): the version 1 in one
+-- byte, and then the printed text. In text they are read of their text alone. In binary the text is UTF-8. There is no image
+-- where a label in the query is none.
 use Rattle.std.specs.Prelude.{ℕ, ◌==◌, codes, if◌then◌else◌, List, [], ◌∷◌, Option, Some, None, Result, Ok, Err}
 use Rattle.std.specs.Option.{option_and_then}
 use Rattle.std.specs.Result.{result_ok}

@@ -1,4 +1,4 @@
--- What is written of a tree is read back as it; a tree without labels comes back as one empty label.
+-- What is written of a tree is read back as it; a tree without labels comes back as one empty label (`tree_kept`).
 use Rattle.std.specs.Prelude.{◌≡◌, ℕ, true, List, [], ◌∷◌, Some, refl}
 use Rattle.std.specs.List.{list_all}
 use Rattle.std.specs.Result.{result_ok}

@@ -1,5 +1,6 @@
--- What trees of labels are written as and read of (PostgreSQL: "ltree"; ltree_send, ltree_recv): the version 1 in one byte, and then
--- the text. In text they are read of their text alone.
+-- What trees of labels are written as and read of (PostgreSQL: appendix F, "ltree"; ltree_send, ltree_recv): the version 1 in
+-- one byte, and then the printed text. In text they are read of their text alone. In binary the text is UTF-8. There is no
+-- image where a label in the tree is none.
 use Rattle.std.specs.Prelude.{ℕ, ◌==◌, codes, if◌then◌else◌, List, [], ◌∷◌, Option, Some, None, is_some}
 use Rattle.std.specs.List.{list_all}
 use Rattle.std.specs.Option.{option_and_then}

@@ -1,5 +1,8 @@
--- The binary form of lists of bits (PostgreSQL: "Bit String Types"): the number of bits, signed, in four bytes, the highest
--- first, and then the bits in bytes.
+-- The binary form of lists of bits (PostgreSQL: "Bit String Types", 8.10): the number of bits, signed, in four bytes, the
+-- highest first, and then the bits in bytes. A list of more than 2147483647 bits isn't written. The size hint is 4 and the
+-- number of bits.
+-- Read (`IsBits`): a number that is not negative, and as many bytes as it needs, whatever fills the last. Laws: what is
+-- computed is exactly this.
 use Rattle.std.specs.Prelude.{◌≡◌, ◌↔◌, ℕ, ◌+◌, ◌<◌, ◌^◌, ◌==◌, min, nat_le, nat_lt, Bool, List, ◌++◌, length, take, drop, Option, Some, None, if◌then◌else◌}
 use Rattle.std.specs.Int.{w32, from_be_bytes, to_be_bytes, cast_signed}
 use Rattle.pgv_buf.specs.Tokens.{bytes, be4}

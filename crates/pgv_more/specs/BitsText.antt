@@ -1,4 +1,4 @@
--- The text of lists of bits (PostgreSQL: "Bit String Types"): a digit `0` or `1` for each.
+-- The text of lists of bits (PostgreSQL: "Bit String Types", 8.10): a digit `0` or `1` for each (`IsBitsText`).
 use Rattle.std.specs.Prelude.{◌≡◌, ◌↔◌, ℕ, ◌==◌, ◌||◌, Bool, List, map, Option, Some, None, if◌then◌else◌}
 use Rattle.std.specs.List.{list_all}
 

@@ -1,4 +1,5 @@
--- What is written of a time of day with an offset is read back, in whole microseconds; its offset comes back as it is.
+-- What is written of a time of day with an offset is read back, in whole microseconds; its offset comes back as it is
+-- (`time_tz_kept`).
 use Rattle.std.specs.Prelude.{◌≡◌, zero, suc, ◌/◌, nat_lt, Bool, true, false, if◌then◌else◌, ℤ, pos, negsuc, neg_ℤ, unsigned_abs, List, Option, Some, None, refl}
 use Rattle.std.specs.Option.{option_and_then}
 use Rattle.std.specs.Int.{w32, w64}

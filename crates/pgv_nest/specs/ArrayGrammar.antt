@@ -1,6 +1,10 @@
--- Arrays (PostgreSQL: "Arrays", 8.15; the binary form is that of its source, array_send): the number of dimensions,
--- flags, the OID of the elements' type, and for the one dimension that is read the number of elements and the lower
--- bound; then a frame for each element. In text the values of an array text.
+-- Arrays (PostgreSQL: "Arrays", 8.15; the binary form is that of its source, array_send): the number of dimensions, flags, the
+-- OID of the elements' type, and for the one dimension that is read the number of elements and the lower bound; then a frame
+-- for each element. In text the values of an array text.
+-- In binary no dimensions and anything after it is no elements. Else it is one dimension, four bytes, an OID, a count that is
+-- not negative, lower bound 1, that many frames, and anything after. The element's type is the built-in of the OID, else the
+-- element of the value's type; it must exist, also for no elements. The decoders' contracts name the function `array_of`, which
+-- computes it.
 use Rattle.std.specs.Prelude.{ℕ, zero, suc, nat_lt, nat_eq, List, [], ◌∷◌, length, Option, Some, None, if◌then◌else◌}
 use Rattle.pgv_types.specs.Ty.{Ty}
 use Rattle.pgv_types.specs.Facts.{built_in, element_of}

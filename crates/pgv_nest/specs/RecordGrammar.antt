@@ -1,5 +1,8 @@
--- Records (PostgreSQL: "Composite Types", 8.16; the binary form is that of its source, record_send): the number of
--- fields, and for each field the OID of its type and its frame. In text the values of a record text.
+-- Records (PostgreSQL: "Composite Types", 8.16; the binary form is that of its source, record_send): the number of fields, and
+-- for each field the OID of its type and its frame. In text the values of a record text.
+-- In binary: any four bytes, then for each field that is read an OID and a frame. Under `record` the field's type is the
+-- built-in of its OID. Under a composite it is the field at that place, whose `oid` must be that one. A domain is followed to
+-- its base. The Rust type must be compatible with the field's type.
 use Rattle.std.specs.Prelude.{◌≡◌, ℕ, zero, suc, nat_eq, Bool, false, List, [], ◌∷◌, Option, Some, None, Result, Ok, Err, option_map, if◌then◌else◌, refl}
 use Rattle.std.specs.Coded.{Coded, code_by, coded×, coded_ℕ, coded_list, coded_option}
 use Rattle.pgv_types.specs.Ty.{Ty, ty_code, builtin, custom, named, by_oid, array_of, Kind, simple, pseudo, domain, composite, array, enumeration, range, Fields, no_fields, field}

@@ -1,5 +1,6 @@
--- What amounts of money are read of (PostgreSQL: "Monetary Types", 8.2): a signed number of eight bytes, the highest first.
--- An amount is seen as that number.
+-- What amounts of money are written as and read of (PostgreSQL: "Monetary Types", 8.2): a signed number of the smallest unit of
+-- the currency, in eight bytes, the highest first. An amount is seen as that number. The first eight bytes are read, in binary
+-- alone (`IsMoney`).
 use Rattle.std.specs.Prelude.{◌≡◌, ◌↔◌, ℕ, ◌++◌, nat_lt, if◌then◌else◌, ℤ, FitsSigned, List, length, Option, Some, None}
 use Rattle.std.specs.Int.{w64, cast_unsigned, to_be_bytes}
 use Rattle.pgv_value.specs.Interval.{eight_bytes}

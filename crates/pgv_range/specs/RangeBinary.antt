@@ -1,6 +1,8 @@
 -- Ranges in binary, as what the bytes are and not as how they are read (PostgreSQL: "Range Types", 8.17; the form is that of
--- its source, range_send): a flag byte, a frame for each bound that there is, and anything after them; or a flag byte that says that
--- the range is empty, and anything.
+-- its source, range_send), under a type of kind range.
+-- A range (`IsRange`) is a flag byte, a frame for each bound of which the flags don't say that there is none, read under the
+-- type that it is a range over, and anything after them. A flag byte with 1 is the empty range, whatever other flags it has and
+-- whatever comes after it (`IsEmptyRange`). Law: `range_is_its_bounds`.
 use Rattle.std.specs.Prelude.{◌≡◌, ◌↔◌, ℕ, true, false, List, ◌∷◌, Option, Some}
 use Rattle.std.specs.declared.ops.Bound.{Bound}
 use Rattle.std.specs.declared.ops.Bound.TheVariants.{Included, Excluded, Unbounded}

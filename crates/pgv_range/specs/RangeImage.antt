@@ -1,5 +1,5 @@
--- What a range is written as (PostgreSQL's source, range_send): the flag byte, and a frame for each bound that there is. The flag
--- byte 1 alone is the empty range.
+-- What a range is written as (PostgreSQL: "Range Types", 8.17; its source, range_send): the flag byte, and a frame for each
+-- bound that there is, the lower first. The flag byte 1 alone is the empty range. There is no image where a bound has no frame.
 use Rattle.std.specs.Prelude.{ℕ, List, [], ◌∷◌, Option, Some, None}
 use Rattle.std.specs.declared.ops.Bound.{Bound}
 use Rattle.std.specs.declared.ops.Bound.TheVariants.{Included, Excluded, Unbounded}

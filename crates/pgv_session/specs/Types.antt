@@ -1,4 +1,5 @@
--- The TYPEs of the lines: for each its name, and what is read and written under it.
+-- The TYPEs of the lines, one table of the names that there are: for each its type, what is read under it and what is written.
+-- A name that is not in the table is answered as a line that asks for nothing.
 use Rattle.std.specs.Prelude.{ℕ, codes, bytes_eq, List, [], ◌∷◌, Option, Some, None, option_map, if◌then◌else◌}
 use Rattle.std.specs.Int.{w8, w16, w32, w64}
 use Rattle.pgv_types.specs.Ty.{Ty, builtin, named}

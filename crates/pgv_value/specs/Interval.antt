@@ -1,4 +1,4 @@
--- Intervals (PostgreSQL: "Date/Time Types", interval), and what is read of them.
+-- Intervals (PostgreSQL: "Date/Time Types", 8.5.4, interval), and what is read of them: the first sixteen bytes, and no text.
 use mir.Val.{SFits}
 use lib.IntN.{◌*ℤ◌}
 use Rattle.std.specs.Prelude.{◌≡◌, ◌↔◌, ℕ, nat_lt, ℤ, pos, List, length, take, drop, Option, Some, None, Result, Ok, Err, if◌then◌else◌}

@@ -1,5 +1,7 @@
--- What the plain types read, in binary and in text (PostgreSQL: "Boolean Type", 8.6; "Numeric Types", 8.1.1;
--- "Character Types", 8.3; "Object Identifier Types", 8.19; "UUID Type", 8.12).
+-- What the plain types read, in binary and in text (PostgreSQL: "Boolean Type", 8.6; "Numeric Types", 8.1.1; "Character Types",
+-- 8.3; "Object Identifier Types", 8.19; "UUID Type", 8.12).
+-- In binary: integers are one to eight bytes, sign extended, within the type. A bool: the first byte isn't 0. An OID: the first
+-- four bytes. A uuid: sixteen bytes. A text: UTF-8.
 use Rattle.std.specs.Prelude.{ℕ, Bool, not, ◌==◌, if◌then◌else◌, ℤ, List, [], ◌∷◌, length, Option, Some, None, option_map}
 use Rattle.std.specs.Int.{Width, w8}
 use Rattle.uuid.specs.Text.{parsed}

@@ -1,5 +1,8 @@
--- What each argument was given last: the type of its parameter and its share of the OIDs, or no type and zeros, where no
--- filling came since it was added.
+-- What each argument was given last (`Given`): at the last filling, the type of its parameter and its share of the OIDs; or no
+-- type and zeros, where no filling came since it was added.
+-- Laws: the parts of all arguments are written with these, after any list of calls (`parts_after`). The buffer is read frame by
+-- frame, and each part by its own type as what its value keeps, where the value fits (`argument_reads_back`,
+-- `ArgumentReadsBack`).
 use Rattle.std.specs.Prelude.{◌≡◌, ℕ, List, [], ◌∷◌, ◌++◌, map, take, drop, replicate, Option, Some, None}
 use Rattle.std.specs.List.{slice_get}
 use Rattle.pgv_types.specs.Ty.{Ty}
