@@ -1,40 +1,63 @@
--- The words that contracts over this codec are made of, all under one path. docs/proving.md has a line on each.
+-- The words that contracts over this codec are made of, all under one path, each with what it is.
 
--- types, as contracts see them: finite trees
+-- Types, as contracts see them: finite trees. `builtin 23` is a type by its OID, `named (codes "mood")` by its name, and
+-- `array_of (codes "mood")` an array by its element's name.
 pub use Rattle.pgv_types.specs.Ty.{Ty, builtin, named, array_of}
+-- `softly t u` is what `type_compatible` answers, `exactly t u` what `type_eq` does.
 pub use Rattle.pgv_types.specs.Relations.{softly, exactly}
 pub use Rattle.pgv_types.specs.declared.oid.Oid.{Oid}
--- what values are written as: tokens, images and frames
+-- Tokens, which values are written as: `byte 97`, `hole t`, `slot default cases`; `bytes` of a list, `be4` of a number.
 pub use Rattle.pgv_buf.specs.Tokens.{Token, byte, hole, slot, bytes, be4}
+-- `image_of tokens` and `null_image` are images; a value has `Some` of one, or `None` where it can't be written. `frame hint image`
+-- is the length and the image, where there is one. `field hint image produced info x` is a field of a record, and
+-- `record_image fields` the image of all.
 pub use Rattle.pgv_codec.specs.Image.{Image, null_image, image_of, frame, field, record_image}
+-- The images of numbers of a width (`signed_image w32`), of truth values, texts and UUIDs.
 pub use Rattle.pgv_codec.specs.ScalarBinary.{signed_image, unsigned_image, bool_image, text_image, uuid_image}
--- what is in a buffer, and what a call did to it
+-- `blank tokens` are tokens in a buffer that is not filled yet: what a call that appends has put after `out.old`. `shown cells` are
+-- the bytes that a buffer shows.
 pub use Rattle.pgv_buf.specs.Tokens.{blank, shown}
--- what null or bytes mean
+-- `Part` is what a frame holds: `None` for null, or `Some` bytes. `front bytes` is the frame in front: `Some (part, rest)`, or `None`.
 pub use Rattle.pgv_value.specs.FrameBinary.{Part, front}
+-- `Reading M` is a grammar: for a type, a format and a part, `Some` meaning or `None`. `Answers meaning read result` is what a decoder
+-- answers: a value of exactly this meaning; refused, but for memory, only where there is none.
 pub use Rattle.pgv_value.specs.Reading.{Reading, Answers}
 pub use Rattle.pgv_value.specs.declared.value.PgValueFormat.{PgValueFormat}
 pub use Rattle.pgv_value.specs.declared.value.PgValueFormat.TheVariants.{Binary, Text}
+-- The readings of plain types (`int_reading w32`); `scalar` and `binary_alone` make one of a grammar for each format, or for binary.
 pub use Rattle.pgv_value.specs.ScalarGrammar.{scalar, binary_alone, bool_reading, int_reading, oid_reading, uuid_reading, text_reading}
+-- For `written` of `Decode`: `plainly image` is what is written of a meaning, `unwritten` says nothing, and
+-- `field_written info written m` is the same for a field.
 pub use Rattle.pgv_codec.specs.Saying.{plainly, unwritten, field_written}
--- a reader of COPY in binary: what its next call answers, and how many bytes are left, which falls with each row
+-- `step reader` is what the next `next_row` of a `PgCopyReader` answers: `Ok (Some row, after)`, `Ok (None, after)` at the end, or
+-- `Err` why it is refused. `bytes_left reader` falls with each row.
 pub use Rattle.pgv_copy.specs.CopyBinary.{step, bytes_left}
--- arguments of a statement, and a row of frames
+-- Of arguments: their buffer, their types, and type and frame of each. `early (framed a) types oids` are the bytes of these frames,
+-- written with types and OIDs from the start.
 pub use Rattle.pgv_wire.specs.Arguments.{all_tokens, types_in, framed, early}
+-- `ReadAs bytes parts rest`: frames one after another, with a rest.
 pub use Rattle.pgv_wire.specs.Parts.{ReadAs}
+-- `ArgumentReadsBack hint image reading kept fits`: an argument is read back, whatever else was added and filled.
 pub use Rattle.pgv_wire.specs.Given.{ArgumentReadsBack}
--- what comes back of what was written
+-- `ReadsBack image reading kept fits` is the law of `ReadBack`; `always` for `fits` is every type. `FieldFits` says where the last
+-- field of a composite fits, `FieldsFit` where one and those after it do; `Followed` and `FieldIsPlain` say so in plain words.
 pub use Rattle.pgv_codec.specs.Back.{ReadsBack, always, FieldFits, FieldsFit, Followed}
+-- Steps of such a proof: a value that has an image has passed the test before it (`guarded`), and bytes are written as they are
+-- (`part_is`). Then the law for `i32` and for `String`.
 pub use Rattle.pgv_codec.specs.BackParts.{guarded}
 pub use Rattle.pgv_codec.specs.BackScalars.{part_is, int4_back, text_back}
+-- The three steps for a composite.
 pub use Rattle.pgv_codec.specs.BackRecords.{further_back, last_back, record_back}
 pub use Rattle.pgv_codec.specs.Plain.{FieldIsPlain}
+-- `written_part i p oids` is the part that an image is written as.
 pub use Rattle.pgv_codec.specs.Writing.{written_part}
+-- A text of ASCII alone is UTF-8.
 pub use Rattle.pgv_ltree.specs.Ascii.{are_ascii, ascii_is_utf8}
+-- The law for `PgLTree`, and what comes back of a tree.
 pub use Rattle.pgv_ltree.specs.TreesBack.{tree_back, tree_kept}
--- for the answer of a composite's encoder, one more_fields a field
+-- For the answer of a composite's encoder, one `more_fields` for each field.
 pub use Rattle.pgv_codec.specs.Fields.{no_fields, more_fields, all_fields}
--- for a composite's Codec
+-- For a composite's `Codec`.
 pub use Rattle.pgv_codec.specs.Saying.{field_agrees, same_none, same_fields, record_agrees}
--- a field that is plain fits
+-- A field that is plain fits.
 pub use Rattle.pgv_codec.proofs.PlainFits.{field_fits}
