@@ -13,6 +13,7 @@ use pgv_examples::household::Household;
 use pgv_examples::mood::Mood;
 use pgv_examples::page::Page;
 use pgv_examples::pair::Pair;
+use pgv_examples::percent::Percent;
 use std::alloc::{AllocError, Global};
 
 /// One mood, `ok`.
@@ -131,6 +132,7 @@ fn add(alloc: Global, arguments: &mut PgArguments, name: &str) -> Result<(), Cod
         "mood" => arguments.add(Mood::Fine),
         "mood text" => arguments.add(MoodText { mood: Mood::Fine }),
         "object" => arguments.add(EmptyObject { alloc }),
+        "percent 101" => arguments.add(Percent { number: 101 }),
         "size 0" => arguments.add(Size { alloc, number: 0 }),
         "huge" => arguments.add(Huge),
         "size 3 by reference" => arguments.add_by_ref(&Size { alloc, number: 3 }),

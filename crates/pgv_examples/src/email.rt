@@ -94,27 +94,3 @@ impl Plain for Email {
 
     ghost agrees = { λ _. refl };
 }
-
-#[cfg(test)]
-mod tests {
-    use crate::email::Email;
-    use pgv::{
-        CodecError, Decode, Oid, PgType, PgTypeInfo, PgTypeKind, PgValueFormat, PgValueRef, Type,
-    };
-
-    #[test]
-    fn a_domain_is_read(rt: HostRuntime) -> Result<(), CodecError> {
-        let alloc = rt.alloc();
-        let text = PgTypeInfo(PgType::Text);
-        let domain = PgTypeInfo::custom(alloc, Oid(16800), "email", PgTypeKind::Domain(text))?;
-        assert!(rt; Email::compatible(&domain));
-        assert!(rt; Email::compatible(&PgTypeInfo(PgType::Text)));
-        assert!(rt; !Email::compatible(&PgTypeInfo(PgType::Int4)));
-        // A `String` is read under every domain over `text`.
-        assert!(rt; String::compatible(&domain));
-        let value = PgValueRef::new(Some(b"a@b.c"), domain, PgValueFormat::Binary);
-        let email = Email::decode(alloc, value)?;
-        assert_eq!(rt; email.address.as_str(), "a@b.c");
-        Ok(())
-    }
-}

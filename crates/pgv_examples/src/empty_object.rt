@@ -103,23 +103,3 @@ impl ReadBack for EmptyObject {
 
     ghost reads_back = { object_back };
 }
-
-#[cfg(test)]
-mod tests {
-    use crate::empty_object::EmptyObject;
-    use pgv::{CodecError, PgArguments, PgType, PgTypeInfo};
-
-    #[test]
-    fn a_slot_is_filled(rt: HostRuntime) -> Result<(), CodecError> {
-        let alloc = rt.alloc();
-        let mut arguments = PgArguments::new(alloc);
-        arguments.add(EmptyObject { alloc })?;
-        assert_eq!(rt; arguments.buffer().as_slice(), b"\0\0\0\x03 {}".as_slice());
-        arguments.apply_patches(&[PgTypeInfo(PgType::Jsonb)], &[])?;
-        assert_eq!(rt;
-            arguments.buffer().as_slice(),
-            b"\0\0\0\x03\x01{}".as_slice()
-        );
-        Ok(())
-    }
-}

@@ -1,4 +1,5 @@
-//! Examples for who binds values, reads rows or brings types of their own: each a file, short and proved, with its tests below it.
+//! Examples for who binds values, reads rows or brings types of their own: each a file, short and proved.
+//! `pgv_tests` has a short test of each that does something by itself, and `pgv_calls` rows of the types.
 //!
 //! 1. [`bind`] adds the values of a statement, fills their holes, and gives the bytes that are sent.
 //! 2. [`row`] reads a row column by column, nulls too, and keeps a value after the row is gone.

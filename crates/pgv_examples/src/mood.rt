@@ -122,34 +122,3 @@ impl Plain for Mood {
 
     ghost agrees = { λ _. refl };
 }
-
-#[cfg(test)]
-mod tests {
-    use crate::mood::Mood;
-    use pgv::{CodecError, Decode, Oid, PgTypeInfo, PgTypeKind, PgValueFormat, PgValueRef, Type};
-    use std::alloc::{AllocError, Global};
-    use std::rc::{RcSlice, RcStr};
-
-    /// The enum as a server tells of it.
-    fn mood_type(alloc: Global) -> Result<PgTypeInfo, AllocError> {
-        let mut labels = Vec::new(alloc);
-        for label in ["sad", "ok", "happy"] {
-            labels.push(RcStr::from_str(alloc, label)?)?;
-        }
-        let labels = RcSlice::from_vec(labels)?;
-        PgTypeInfo::custom(alloc, Oid(16600), "mood", PgTypeKind::Enum(labels))
-    }
-
-    #[test]
-    fn moods_are_read_by_label(rt: HostRuntime) -> Result<(), CodecError> {
-        let alloc = rt.alloc();
-        assert!(rt; Mood::compatible(&mood_type(alloc)?));
-        for format in [PgValueFormat::Binary, PgValueFormat::Text] {
-            let happy = PgValueRef::new(Some(b"happy"), mood_type(alloc)?, format);
-            assert_eq!(rt; Mood::decode(alloc, happy)?, Mood::Happy);
-            let other = PgValueRef::new(Some(b"Happy"), mood_type(alloc)?, format);
-            assert!(rt; matches!(Mood::decode(alloc, other), Err(CodecError::Caller(5))));
-        }
-        Ok(())
-    }
-}

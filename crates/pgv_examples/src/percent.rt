@@ -88,38 +88,3 @@ impl Plain for Percent {
 
     ghost agrees = { λ _. refl };
 }
-
-#[cfg(test)]
-mod tests {
-    use crate::percent::Percent;
-    use pgv::{CodecError, Decode, PgArguments, PgType, PgTypeInfo, PgValueFormat, PgValueRef};
-    use std::alloc::Global;
-
-    /// What is read of an `int4` of four bytes.
-    fn read(alloc: Global, bytes: &[u8]) -> Result<Percent, CodecError> {
-        let int4 = PgTypeInfo(PgType::Int4);
-        Percent::decode(
-            alloc,
-            PgValueRef::new(Some(bytes), int4, PgValueFormat::Binary),
-        )
-    }
-
-    #[test]
-    fn others_are_refused(rt: HostRuntime) -> Result<(), CodecError> {
-        let alloc = rt.alloc();
-        let mut arguments = PgArguments::new(alloc);
-        arguments.add(Percent { number: 100 })?;
-        for number in [-1, 101] {
-            let refused = arguments.add(Percent { number });
-            assert!(rt; matches!(refused, Err(CodecError::Caller(9))));
-        }
-        assert_eq!(rt;
-            arguments.buffer().as_slice(),
-            b"\0\0\0\x04\0\0\0\x64".as_slice()
-        );
-        assert_eq!(rt; read(alloc, b"\0\0\0\x64")?.number, 100);
-        assert!(rt; matches!(read(alloc, b"\0\0\0\x65"), Err(CodecError::Caller(9))));
-        assert!(rt; matches!(read(alloc, b"\xff\xff\xff\xff"), Err(CodecError::Caller(9))));
-        Ok(())
-    }
-}

@@ -76,28 +76,3 @@ impl Plain for UserId {
 
     ghost agrees = { λ _. refl };
 }
-
-#[cfg(test)]
-mod tests {
-    use crate::user_id::UserId;
-    use pgv::{CodecError, Decode, PgArguments, PgTypeInfo, PgValueFormat, PgValueRef, Type};
-
-    #[test]
-    fn a_user_is_bound_and_read(rt: HostRuntime) -> Result<(), CodecError> {
-        let alloc = rt.alloc();
-        let mut arguments = PgArguments::new(alloc);
-        arguments.add(UserId(7))?;
-        arguments.add([UserId(8)])?;
-        let mut rest = arguments.buffer().as_slice();
-        assert_eq!(rt;
-            rest,
-            b"\0\0\0\x04\0\0\0\x07\0\0\0\x1c\0\0\0\x01\0\0\0\0\0\0\0\x17\0\0\0\x01\0\0\0\x01\0\0\0\x04\0\0\0\x08".as_slice()
-        );
-        let int4 = UserId::type_info();
-        assert!(rt; UserId::compatible(&int4));
-        assert!(rt; !UserId::compatible(&PgTypeInfo::with_name("mood")));
-        let value = PgValueRef::get(&mut rest, PgValueFormat::Binary, int4)?;
-        assert_eq!(rt; UserId::decode(alloc, value)?, UserId(7));
-        Ok(())
-    }
-}

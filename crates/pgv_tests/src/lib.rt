@@ -3,11 +3,13 @@
 //! stands in the stored run of `pgvalue_server` instead, and rows of calls in that of `pgv_calls`, where a row costs no proof.
 //!
 //! - [`made`]: values that are made, printed and written. [`types`], [`values`]: types and names, and frames in front of bytes.
-//! - [`readme`]: the code of the README. [`records`]: records of a server. [`deep`]: types and values that are nested deep. [`faults`]: readers and writers that fail.
+//! - [`readme`], [`examples`]: the code of the README, and that of `pgv_examples`. [`records`]: records of a server. [`deep`]: types and values that are nested deep. [`faults`]: readers and writers that fail.
 #![tactic(auto)]
 
 #[cfg(test)]
 mod deep;
+#[cfg(test)]
+mod examples;
 #[cfg(test)]
 mod faults;
 #[cfg(test)]

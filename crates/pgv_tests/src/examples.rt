@@ -1,0 +1,170 @@
+//! What the examples bind, read and keep, a short test each. They stand here since a crate with tests is proved once more for them. The
+//! examples' types are tested by the rows of `pgv_calls` too.
+
+use hex::encode;
+use pgv::{
+    CodecError, Decode, Oid, PgArguments, PgCopyReader, PgType, PgTypeInfo, PgTypeKind,
+    PgValueFormat, PgValueRef,
+};
+use pgv_examples::arrays::{add_lists, scores};
+use pgv_examples::bind::{arguments_of_search, fill, parameters_of_bind};
+use pgv_examples::copied::{columns, read_item, read_items};
+use pgv_examples::mood::Mood;
+use pgv_examples::row::{column, keep, read_person};
+use pgv_examples::user_id::UserId;
+use std::alloc::{AllocError, Global};
+
+/// `{7,NULL}` as the server writes it: with the flag 1, since there is a null. We write the flag 0.
+const SEVEN_NULL: &[u8] =
+    b"\0\0\0\x01\0\0\0\x01\0\0\0\x17\0\0\0\x02\0\0\0\x01\0\0\0\x04\0\0\0\x07\xff\xff\xff\xff";
+
+/// The scores of that column, and places, added.
+fn added(alloc: Global) -> Result<String, CodecError> {
+    let int4s = PgTypeInfo(PgType::Int4Array);
+    let column = PgValueRef::new(Some(SEVEN_NULL), int4s, PgValueFormat::Binary);
+    let mut arguments = PgArguments::new(alloc);
+    let places = [1, 2].to_vec(alloc)?;
+    add_lists(&mut arguments, places, scores(alloc, column)?)?;
+    Ok(encode(alloc, arguments.buffer().as_slice())?)
+}
+
+#[test]
+fn lists_are_read_and_written(rt: HostRuntime) -> Result<(), CodecError> {
+    let found = added(rt.alloc())?;
+    assert_eq!(rt;
+        found.as_str(),
+        "0000002400000001000000000000001700000002000000010000000400000001000000040000000200000020000000010000000000000017000000020000000100000004\
+         00000007ffffffff"
+    );
+    Ok(())
+}
+
+/// Fills the arguments of a search with what a server told.
+fn fill_search(
+    alloc: Global,
+    arguments: &mut PgArguments,
+    known: &[PgTypeInfo],
+) -> Result<(), CodecError> {
+    let parameters = [
+        PgTypeInfo(PgType::Int4),
+        PgTypeInfo(PgType::Text),
+        PgTypeInfo::array_of("mood"),
+    ];
+    fill(alloc, arguments, &parameters, known)
+}
+
+/// The parameters of a search for one mood. Until the type of a hole is known, nothing is filled.
+fn bound(alloc: Global) -> Result<String, CodecError> {
+    let moods = [Mood::Fine].to_vec(alloc)?;
+    let name = String::from_str(alloc, "seven")?;
+    let mut arguments = arguments_of_search(alloc, 7, name, moods)?;
+    if fill_search(alloc, &mut arguments, &[]).is_ok() {
+        return Ok(String::from_str(alloc, "filled without a type")?);
+    }
+    let mood = PgTypeInfo::custom(alloc, Oid(16600), "mood", PgTypeKind::Simple)?;
+    fill_search(alloc, &mut arguments, &[mood])?;
+    let message = parameters_of_bind(alloc, &arguments)?;
+    Ok(encode(alloc, message.as_slice())?)
+}
+
+#[test]
+fn a_search_is_bound(rt: HostRuntime) -> Result<(), CodecError> {
+    let shown = bound(rt.alloc())?;
+    assert_eq!(rt;
+        shown.as_str(),
+        "0003000000040000000700000005736576656e0000001a0000000100000000000040d80000000100000001000000026f6b"
+    );
+    Ok(())
+}
+
+/// `(1, 'bolt', '{3,4}')` and `(2, null, '{}')`.
+const STREAM: &[u8] = b"PGCOPY\n\xff\r\n\0\0\0\0\0\0\0\0\0\
+    \0\x03\0\0\0\x04\0\0\0\x01\0\0\0\x04bolt\0\0\0\x24\0\0\0\x01\0\0\0\0\0\0\0\x17\0\0\0\x02\0\0\0\x01\0\0\0\x04\0\0\0\x03\0\0\0\x04\0\0\0\x04\
+    \0\x03\0\0\0\x04\0\0\0\x02\xff\xff\xff\xff\0\0\0\x0c\0\0\0\0\0\0\0\0\0\0\0\x17\
+    \xff\xff";
+
+/// The rows of a stream, each on a line.
+fn copied(alloc: Global) -> Result<String, CodecError> {
+    let mut text = String::new(alloc);
+    for item in read_items(alloc, STREAM)? {
+        let line = format!(in alloc; "{} {:?} {:?}\n", item.id, item.name, item.sizes)?;
+        text.push_str(line.as_str())?;
+    }
+    Ok(text)
+}
+
+/// The number of the first row, read once the stream, which is cut here, has ended.
+fn kept_of_cut(alloc: Global) -> Result<Option<i32>, CodecError> {
+    let mut reader = PgCopyReader::new(&STREAM[..STREAM.len() - 1], columns(alloc)?)?;
+    let first = reader.next_row()?;
+    while let Ok(Some(_)) = reader.next_row() {}
+    match first {
+        Some(row) => Ok(Some(read_item(alloc, row)?.id)),
+        None => Ok(None),
+    }
+}
+
+#[test]
+fn a_stream_is_copied(rt: HostRuntime) -> Result<(), CodecError> {
+    let rows = copied(rt.alloc())?;
+    assert_eq!(rt; rows.as_str(), "1 Some(\"bolt\") [3, 4]\n2 None []\n");
+    assert_eq!(rt; kept_of_cut(rt.alloc())?, Some(1));
+    Ok(())
+}
+
+/// The arrays of moods, as a server tells of them.
+fn moods_type(alloc: Global) -> Result<PgTypeInfo, AllocError> {
+    let mood = PgTypeInfo::custom(alloc, Oid(16600), "mood", PgTypeKind::Simple)?;
+    PgTypeInfo::custom(alloc, Oid(16601), "_mood", PgTypeKind::Array(mood))
+}
+
+/// A user and moods, added, filled and read back.
+fn read_back(alloc: Global) -> Result<(UserId, Vec<Option<Mood>>), CodecError> {
+    let mut arguments = PgArguments::new(alloc);
+    arguments.add(UserId(7))?;
+    arguments.add([Some(Mood::Fine), None].to_vec(alloc)?)?;
+    let parameters = [PgTypeInfo(PgType::Int4), moods_type(alloc)?];
+    arguments.apply_patches(&parameters, &[Oid(16600)])?;
+    let mut rest = arguments.buffer().as_slice();
+    let user = column(alloc, &mut rest, PgTypeInfo(PgType::Int4))?;
+    Ok((user, column(alloc, &mut rest, moods_type(alloc)?)?))
+}
+
+#[test]
+fn a_user_and_moods_come_back(rt: HostRuntime) -> Result<(), CodecError> {
+    let (user, moods) = read_back(rt.alloc())?;
+    assert_eq!(rt; user, UserId(7));
+    assert_eq!(rt; moods.as_slice(), [Some(Mood::Fine), None].as_slice());
+    Ok(())
+}
+
+/// The number 7 and the text `seven`.
+const SEVEN: &[u8] = b"\0\0\0\x04\0\0\0\x07\0\0\0\x05seven";
+
+/// A person of these bytes.
+fn person(alloc: Global, row: &[u8]) -> Result<String, CodecError> {
+    let person = read_person(alloc, row)?;
+    Ok(format!(in alloc; "{} {:?}", person.id, person.name)?)
+}
+
+/// The number of a row that is kept, and the text after it.
+fn kept(alloc: Global) -> Result<String, CodecError> {
+    let mut rest = SEVEN;
+    let value = keep(alloc, &mut rest, PgTypeInfo(PgType::Int4))?;
+    let name: String = column(alloc, &mut rest, PgTypeInfo(PgType::Text))?;
+    let number = i32::decode(alloc, value.as_ref()?)?;
+    Ok(format!(in alloc; "{number} {name} {}", rest.len())?)
+}
+
+#[test]
+fn rows_of_persons(rt: HostRuntime) -> Result<(), CodecError> {
+    let seven = person(rt.alloc(), SEVEN)?;
+    assert_eq!(rt; seven.as_str(), "7 Some(\"seven\")");
+    let unnamed = person(rt.alloc(), b"\0\0\0\x04\0\0\0\x07\xff\xff\xff\xff")?;
+    assert_eq!(rt; unnamed.as_str(), "7 None");
+    let kept = kept(rt.alloc())?;
+    assert_eq!(rt; kept.as_str(), "7 seven 0");
+    let null = person(rt.alloc(), b"\xff\xff\xff\xff\0\0\0\x05seven");
+    assert!(rt; matches!(null, Err(CodecError::UnexpectedNull)));
+    Ok(())
+}
