@@ -13,12 +13,12 @@ array_at : (k : RowKind) (m : Option ℕ) (x : Ty) → option_map builtin m ≡ 
 array_at k None x e = absurd (none-some x e)
 array_at k (Some o) x e = ap (λ m. array (type_or x m)) (sym e)
 
-pub kind_of_array : (t x : Ty) → element_built_in t ≡ Some x → array x ≡ kind_when_built_in t
-kind_of_array (builtin o) x e = array_at (entry_kind (entry_of o)) (element_oid o) x e
-kind_of_array (custom o n k) x e = absurd (none-some x e)
-kind_of_array (named n) x e = absurd (none-some x e)
-kind_of_array (by_oid o) x e = absurd (none-some x e)
-kind_of_array (array_of n) x e = absurd (none-some x e)
+pub kind_of_array : (t x : Ty) → Some x ≡ element_built_in t → array x ≡ kind_when_built_in t
+kind_of_array (builtin o) x e = array_at (entry_kind (entry_of o)) (element_oid o) x (sym e)
+kind_of_array (custom o n k) x e = absurd (none-some x (sym e))
+kind_of_array (named n) x e = absurd (none-some x (sym e))
+kind_of_array (by_oid o) x e = absurd (none-some x (sym e))
+kind_of_array (array_of n) x e = absurd (none-some x (sym e))
 
 -- ---- ranges
 

@@ -1,6 +1,5 @@
 -- The relations are reflexive and symmetric, and not transitive.
-use Rattle.std.proofs.Common.{◌≡◌, ℕ, ◌<◌, ◌==◌, ◌&&◌, ◌||◌, Bool, true, false, cond, Option, Some, None, List, [], codes, ap, ◌∙◌, sym, refl, arith, option_map}
-use Rattle.std.proofs.lemmas.Bool.{false≢true}
+use Rattle.std.proofs.Common.{◌≡◌, ℕ, ◌<◌, ◌==◌, ◌&&◌, ◌||◌, Bool, true, false, cond, Option, Some, None, List, codes, ap, ◌∙◌, sym, refl, arith, option_map}
 use Rattle.std.proofs.lemmas.Cmp.{nat_eq_equiv}
 use Rattle.pgv_types.specs.Agree.{agree}
 use Rattle.pgv_types.proofs.Tells.{agree-refl, agree-sym}

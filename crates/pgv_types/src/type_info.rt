@@ -187,20 +187,25 @@ impl PgType {
     }
 
     /// The kind of a built-in type.
-    #[tactic(auto, using(crate::proofs::KindParts::kind_of_array, crate::proofs::KindParts::kind_of_range, crate::proofs::KindParts::kind_of_pseudo, crate::proofs::KindParts::kind_of_simple))]
     fn built_in_kind(&self) -> PgTypeKindRef<'_>
         ensures { kind_lent result ≡ kind_when_built_in (type_of self.now) }
     {
-        if let Some(element) = self.built_in_element() {
-            return PgTypeKindRef::Array(PgTypeRef::Owned(PgTypeInfo(element)));
+        match self.built_in_element() {
+            Some(element) => PgTypeKindRef::Array(PgTypeRef::Owned(PgTypeInfo(element))),
+            None => self.row_kind(),
         }
-        if let Some(element) = self.built_in_range() {
-            return PgTypeKindRef::Range(PgTypeRef::Owned(PgTypeInfo(element)));
+    }
+
+    /// The kind of a built-in type that is no array.
+    #[tactic(auto, using(crate::proofs::KindParts::kind_of_range, crate::proofs::KindParts::kind_of_pseudo, crate::proofs::KindParts::kind_of_simple))]
+    fn row_kind(&self) -> PgTypeKindRef<'_>
+        ensures { element_built_in (type_of self.now) ≡ None → kind_lent result ≡ kind_when_built_in (type_of self.now) }
+    {
+        match self.built_in_range() {
+            Some(element) => PgTypeKindRef::Range(PgTypeRef::Owned(PgTypeInfo(element))),
+            None if self.is_pseudo() => PgTypeKindRef::Pseudo,
+            None => PgTypeKindRef::Simple,
         }
-        if self.is_pseudo() {
-            return PgTypeKindRef::Pseudo;
-        }
-        PgTypeKindRef::Simple
     }
 
     /// The catalogue name: a custom type's or a declared one's own, and `?` where only an OID is known.
