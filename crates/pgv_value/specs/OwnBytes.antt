@@ -1,7 +1,7 @@
 -- A whole number is read from its own bytes (PostgreSQL: "Numeric Types", 8.1.1).
 use mir.Val.{bits, hbits}
 use mir.ValLaws.{of_z_fits}
-use Rattle.std.specs.Prelude.{◌≡◌, ℕ, suc, ◌+◌, ◌<◌, ◌^◌, nat_lt, true, false, if◌then◌else◌, ℤ, pos, negsuc, ◌-ℤ◌, FitsSigned, Some, refl}
+use Rattle.std.specs.Prelude.{◌≡◌, ℕ, ◌+◌, ◌<◌, ◌^◌, nat_lt, true, if◌then◌else◌, ℤ, pos, negsuc, ◌-ℤ◌, FitsSigned, Some, refl}
 use Rattle.std.specs.Int.{Width, w8, w16, w32, w64, cast_signed, cast_unsigned, from_be_bytes, to_be_bytes}
 use Rattle.std.proofs.Common.{ap, ◌∙◌, arith}
 use Rattle.std.proofs.lemmas.Bool.{ltb-true, lt-ltb, le-ltb}

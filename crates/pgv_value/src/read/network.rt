@@ -1,6 +1,6 @@
 //! Networks and addresses.
 
-ghost use Rattle.std.specs.Prelude.{◌≡◌, None, IfErr, IsErrOf};
+ghost use Rattle.std.specs.Prelude.{◌≡◌, ℕ, ◌∷◌, None, IfErr, IsErrOf};
 ghost use Rattle.pgv_text.specs.NetworkText.{network_of, network_value};
 ghost use Rattle.pgv_text.specs.NetworkText as spec;
 ghost use Rattle.pgv_value.specs.NetworkBinary.{address_binary, address_reading, address_refusal, address_refused, full_address, network_binary, network_reading, network_refusal, network_refused};
@@ -48,19 +48,29 @@ fn network_with(address: IpAddr, prefix: u8) -> Result<IpNetwork, CodecError>
     IpNetwork::new(address, prefix).ok_or(CodecError::InetPrefix(prefix))
 }
 
+/// The network of a family, a prefix, the number of the octets as it is written, and the octets.
+fn network_of_octets(family: u8, prefix: u8, count: u8, octets: &[u8]) -> Result<IpNetwork, CodecError>
+    ensures exact { (ignored : ℕ) → AnswersExactly network_of (network_binary (family ∷ prefix ∷ ignored ∷ count ∷ octets.now)) result }
+    ensures refused { (ignored : ℕ) → IfErr result (λ e. e ≡ network_refused (family ∷ prefix ∷ ignored ∷ count ∷ octets.now)) }
+{
+    let Some(address) = address_of(family, count, octets) else {
+        return Err(address_fault(family, 4 + octets.len()));
+    };
+    network_with(address, prefix)
+}
+
 /// The network of bytes. Fewer than eight bytes, or others than the family has, are refused with C17, a family other than
 /// 2 and 3 with C31, and a prefix above the number of the address's bits with C32.
 fn network_of_bytes(bytes: &[u8]) -> Result<IpNetwork, CodecError>
     ensures exact { AnswersExactly network_of (network_binary bytes.now) result }
     ensures refused { IfErr result (λ e. e ≡ network_refused bytes.now) }
 {
-    let [family, prefix, _, count, octets @ ..] = bytes else {
-        return Err(CodecError::WrongLength(bytes.len()));
-    };
-    let Some(address) = address_of(*family, *count, octets) else {
-        return Err(address_fault(*family, bytes.len()));
-    };
-    network_with(address, *prefix)
+    match bytes {
+        [family, prefix, _, count, octets @ ..] => {
+            network_of_octets(*family, *prefix, *count, octets)
+        }
+        _ => Err(CodecError::WrongLength(bytes.len())),
+    }
 }
 
 /// The network of a text. Another text is refused with C29.

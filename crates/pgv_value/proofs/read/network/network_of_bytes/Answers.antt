@@ -1,10 +1,14 @@
-use Rattle.std.proofs.Common.{sym, ◌∙◌, subst}
+use Rattle.std.proofs.Common.{◌≡◌, get_or, IfErr, subst}
 use Rattle.pgv_text.specs.NetworkText.{network_of}
+use Rattle.pgv_value.specs.NetworkBinary.{network_binary, network_refused}
 use Rattle.pgv_value.specs.Reading.{AnswersExactly}
-use Rattle.pgv_value.proofs.NetworkBytes.{network_bytes}
+use Rattle.pgv_value.proofs.NetworkBytes.{four_and_octets}
 use Rattle.pgv_value.proofs.read.network.network_of_bytes.Goals as goal
 
-pub returns-clause-exact : goal.returns-clause-exact
-returns-clause-exact c =
-    let is = network_bytes c.args.bytes.now c.in-Some.address c.in-len4-up.len_at_least (sym c.address_of.ensures ∙ c.in-Some.is) in
-    subst (λ read. AnswersExactly network_of read c.network_with.result) (sym is) c.network_with.ensures.exact
+pub returns-in-len4-up-clause-exact : goal.returns-in-len4-up-clause-exact
+returns-in-len4-up-clause-exact c =
+    subst (λ bytes. AnswersExactly network_of (network_binary bytes) c.network_of_octets.result) (four_and_octets c.args.bytes.now c.in-len4-up.len_at_least) (c.network_of_octets.ensures.exact (get_or c.args.bytes.now 2 0))
+
+pub returns-in-len4-up-clause-refused : goal.returns-in-len4-up-clause-refused
+returns-in-len4-up-clause-refused c =
+    subst (λ bytes. IfErr c.network_of_octets.result (λ e. e ≡ network_refused bytes)) (four_and_octets c.args.bytes.now c.in-len4-up.len_at_least) (c.network_of_octets.ensures.refused (get_or c.args.bytes.now 2 0))
