@@ -197,10 +197,11 @@ impl<'a> Parts<'a> {
         Ok(None)
     }
 
-    /// The next part, in a text of its own.
+    /// The next part, in a text of its own. Out of memory it leaves the parts as they were.
     /// Of the array `{a,NULL}` they are `a` and null, and then there is none.
     pub fn next_part(&mut self, alloc: Global) -> Result<Option<Option<String>>, AllocError>
         ensures next { IfOk result (λ found. MatchOption found (((nest self.old).values ≡ []) × (self.new ≡ self.old)) (λ part. (nest self.old).values ≡ part_bytes part ∷ (nest self.new).values)) }
+        ensures err { OnErr result (self.new ≡ self.old) }
         ensures lower { (nest self.new).lower ≡ (nest self.old).lower }
         ensures upper { (nest self.new).upper ≡ (nest self.old).upper }
         ensures empty { is_of_empty self.new ≡ is_of_empty self.old }

@@ -49,7 +49,12 @@ fn network_with(address: IpAddr, prefix: u8) -> Result<IpNetwork, CodecError>
 }
 
 /// The network of a family, a prefix, the number of the octets as it is written, and the octets.
-fn network_of_octets(family: u8, prefix: u8, count: u8, octets: &[u8]) -> Result<IpNetwork, CodecError>
+fn network_of_octets(
+    family: u8,
+    prefix: u8,
+    count: u8,
+    octets: &[u8],
+) -> Result<IpNetwork, CodecError>
     ensures exact { (ignored : ℕ) → AnswersExactly network_of (network_binary (family ∷ prefix ∷ ignored ∷ count ∷ octets.now)) result }
     ensures refused { (ignored : ℕ) → IfErr result (λ e. e ≡ network_refused (family ∷ prefix ∷ ignored ∷ count ∷ octets.now)) }
 {
