@@ -93,11 +93,14 @@ fn copied(alloc: Global) -> Result<String, CodecError> {
     Ok(text)
 }
 
-/// The number of the first row, read once the stream, which is cut here, has ended.
+/// The number of the first row, read once the third is refused, since the stream is cut off there.
 fn kept_of_cut(alloc: Global) -> Result<Option<i32>, CodecError> {
     let mut reader = PgCopyReader::new(&STREAM[..STREAM.len() - 1], columns(alloc)?)?;
     let first = reader.next_row()?;
-    while let Ok(Some(_)) = reader.next_row() {}
+    reader.next_row()?;
+    if reader.next_row().is_ok() {
+        return Ok(None);
+    }
     match first {
         Some(row) => Ok(Some(read_item(alloc, row)?.id)),
         None => Ok(None),
