@@ -9,6 +9,7 @@ use Rattle.pgv_value.specs.Interval.{interval_of}
 use Rattle.pgv_value.specs.NumberBinary.{fits_signed}
 use Rattle.pgv_value.specs.declared.interval.PgInterval.{PgInterval}
 use Rattle.pgv_value.specs.declared.error.CodecError.{CodecError}
+use Rattle.pgv_value.specs.declared.error.CodecError.TheVariants.{IntervalOverflow}
 use Rattle.pgv_codec.specs.Image.{Image, image_of}
 
 -- an interval whose numbers have room
@@ -25,3 +26,11 @@ image_where_there (Err e) = None
 -- a duration of this number of nanoseconds, as the interval of its microseconds
 abbrev pub duration_image : ℤ → Option Image
 duration_image nanos = image_where_there (interval_of nanos)
+
+-- which refusal is answered of a duration without an image
+abbrev pub refused_in : Result PgInterval CodecError → CodecError
+refused_in (Ok i) = IntervalOverflow
+refused_in (Err e) = e
+
+abbrev pub duration_refused : ℤ → CodecError
+duration_refused nanos = refused_in (interval_of nanos)

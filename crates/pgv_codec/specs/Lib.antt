@@ -28,3 +28,4 @@ pub mod IntervalsBack
 pub mod PlainBytes
 pub mod NetworkBinary
 pub mod NetworkBack
+pub mod Refusing

@@ -4,6 +4,7 @@ ghost use Rattle.std.specs.Prelude.{◌≡◌, ℕ, Bool, true, false, List, Opt
 ghost use Rattle.pgv_types.specs.Relations.{softly};
 ghost use Rattle.pgv_types.specs.Ty.{Ty};
 ghost use Rattle.pgv_value.specs.Reading.{Answers, AnswersExactly, Refuses};
+ghost use Rattle.pgv_codec.specs.Refusing.{RefusedAs};
 ghost use Rattle.pgv_value.specs.declared.error.CodecError.{CodecError};
 ghost use Rattle.pgv_value.specs.declared.error.CodecError.TheVariants.{UnexpectedNull};
 ghost use Rattle.pgv_value.specs.declared.value.PgValueFormat.{PgValueFormat as Format};
@@ -67,10 +68,14 @@ pub trait Encode {
     /// The type of this value, where it isn't the one that its Rust type has.
     ghost produced: { Self → Option Ty } = { λ _. None };
 
+    /// Which refusal is answered where a value has no image, where the type states it; out of memory aside.
+    ghost unwritable: { Option (Self → CodecError) } = { None };
+
     /// Appends the value's image. `Yes` says that it is null, and then nothing was appended.
     fn encode_by_ref(&self, out: &mut PgArgumentBuffer) -> Result<IsNull, CodecError>
         ensures ok { IfOk result (λ n. Encoded n (image self.now) out.old out.new) }
         ensures err { IfErr result (λ e. Refused e (image self.now)) }
+        ensures refused { IfSome unwritable (λ why. IfErr result (λ e. Refuses e (e ≡ why self.now))) }
         ensures appended { OnErr result (Appended out.old out.new) };
 
     /// A number of bytes that the value says to need; 0 where it doesn't say.
@@ -110,7 +115,7 @@ pub trait Decode: Sized + Drop {
     fn decode(alloc: Global, value: PgValueRef<'_>) -> Result<Self, CodecError>
         ensures exact { Answers meaning (reading value.entry.type_info value.entry.format value.entry.bytes) result }
         ensures exactly { takes_memory ≡ false → AnswersExactly meaning (reading value.entry.type_info value.entry.format value.entry.bytes) result }
-        ensures refused { IfSome refusal (λ why. IfErr result (λ e. Refuses e (e ≡ why value.entry.format value.entry.bytes))) }
+        ensures refused { IfSome refusal (λ why. IfErr result (λ e. RefusedAs takes_memory e (why value.entry.format value.entry.bytes))) }
         ensures null { value.entry.bytes ≡ None → reading value.entry.type_info value.entry.format None ≡ None → IsErrOf result UnexpectedNull };
 }
 
@@ -163,7 +168,7 @@ pub trait Plain: Type + Encode + Sized + Drop {
     fn read(alloc: Global, value: PgValueRef<'_>) -> Result<Self, CodecError>
         ensures exact { Answers meaning (reading value.entry.type_info value.entry.format value.entry.bytes) result }
         ensures exactly { takes_memory ≡ false → AnswersExactly meaning (reading value.entry.type_info value.entry.format value.entry.bytes) result }
-        ensures refused { IfSome refusal (λ why. IfErr result (λ e. Refuses e (e ≡ why value.entry.format value.entry.bytes))) }
+        ensures refused { IfSome refusal (λ why. IfErr result (λ e. RefusedAs takes_memory e (why value.entry.format value.entry.bytes))) }
         ensures null { value.entry.bytes ≡ None → reading value.entry.type_info value.entry.format None ≡ None → IsErrOf result UnexpectedNull };
 
     /// What is written of a value is read in binary as what it keeps, under every type.
@@ -227,6 +232,9 @@ pub trait Scalar {
     /// What a value is written as.
     ghost form: { Self → Option Image };
 
+    /// Which refusal is answered where a value has no image, where the type states it; out of memory aside.
+    ghost formless: { Option (Self → CodecError) } = { None };
+
     /// The type that its values have.
     const INFO: PgTypeInfo;
 
@@ -240,6 +248,7 @@ pub trait Scalar {
     fn write(&self, out: &mut PgArgumentBuffer) -> Result<IsNull, CodecError>
         ensures ok { IfOk result (λ n. Encoded n (form self.now) out.old out.new) }
         ensures err { IfErr result (λ e. Refused e (form self.now)) }
+        ensures refused { IfSome formless (λ why. IfErr result (λ e. Refuses e (e ≡ why self.now))) }
         ensures appended { OnErr result (Appended out.old out.new) };
 }
 
@@ -285,6 +294,8 @@ where
     ghost image = { T.form };
 
     ghost hint = { λ _. T.SIZE };
+
+    ghost unwritable = { T.formless };
 
     #[inline(always)]
     fn encode_by_ref(&self, out: &mut PgArgumentBuffer) -> Result<IsNull, CodecError> {

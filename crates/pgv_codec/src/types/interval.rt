@@ -3,7 +3,8 @@
 ghost use Rattle.pgv_types.specs.Ty.{builtin};
 ghost use Rattle.std.specs.Prelude.{◌≡◌, IfOk, IfErr, OnErr};
 ghost use Rattle.pgv_codec.specs.Intervals.{interval_image};
-ghost use Rattle.pgv_codec.specs.Outcome.{Encoded, Refused, Appended};
+ghost use Rattle.pgv_codec.specs.Outcome.{Encoded, Appended};
+ghost use Rattle.pgv_value.specs.declared.error.CodecError.TheVariants.{Memory};
 
 use crate::buffer::{IsNull, PgArgumentBuffer};
 use crate::traits::{Alone, Of, Plain, Scalar};
@@ -16,7 +17,7 @@ use std::time::Duration;
 /// Appends an interval.
 fn write_interval(interval: PgInterval, out: &mut PgArgumentBuffer) -> Result<IsNull, CodecError>
     ensures ok { IfOk result (λ n. Encoded n (interval_image interval) out.old out.new) }
-    ensures err { IfErr result (λ e. Refused e (interval_image interval)) }
+    ensures err { IfErr result (λ e. e ≡ Memory) }
     ensures appended { OnErr result (Appended out.old out.new) }
 {
     let microseconds = interval.microseconds.to_be_bytes();
@@ -92,9 +93,9 @@ impl Alone for Of<Duration> {}
 /// A duration is written as the interval of its microseconds, with no days and no months. One that isn't whole microseconds is
 /// refused with C4, and another whose number of microseconds 64 bits don't have with C5.
 impl Scalar for Duration {
-    ghost use Rattle.std.specs.Prelude.{pos};
+    ghost use Rattle.std.specs.Prelude.{pos, Some};
     ghost use Rattle.std.specs.Duration.{as_nanos};
-    ghost use Rattle.pgv_codec.specs.Intervals.{duration_image};
+    ghost use Rattle.pgv_codec.specs.Intervals.{duration_image, duration_refused};
 
     ghost INFO = { builtin 1186 };
 
@@ -103,6 +104,8 @@ impl Scalar for Duration {
     ghost SIZE = { 16 };
 
     ghost form = { λ duration. duration_image (pos (as_nanos duration)) };
+
+    ghost formless = { Some (λ duration. duration_refused (pos (as_nanos duration))) };
 
     const INFO: PgTypeInfo = PgTypeInfo(PgType::Interval);
 
@@ -122,8 +125,9 @@ impl Alone for Of<SignedDuration> {}
 /// An array of them is `interval[]` (OID 1187).
 /// A duration with a sign, written as one without.
 impl Scalar for SignedDuration {
+    ghost use Rattle.std.specs.Prelude.{Some};
     ghost use Rattle.jiff.specs.Words.{signed_nanos};
-    ghost use Rattle.pgv_codec.specs.Intervals.{duration_image};
+    ghost use Rattle.pgv_codec.specs.Intervals.{duration_image, duration_refused};
 
     ghost INFO = { builtin 1186 };
 
@@ -132,6 +136,8 @@ impl Scalar for SignedDuration {
     ghost SIZE = { 16 };
 
     ghost form = { λ duration. duration_image (signed_nanos duration) };
+
+    ghost formless = { Some (λ duration. duration_refused (signed_nanos duration)) };
 
     const INFO: PgTypeInfo = PgTypeInfo(PgType::Interval);
 

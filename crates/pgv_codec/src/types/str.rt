@@ -1,7 +1,8 @@
 //! Texts (PostgreSQL, "Character Types"): their bytes in UTF-8.
 
 ghost use Rattle.std.specs.Prelude.{◌≡◌, IfOk, IfErr, OnErr};
-ghost use Rattle.pgv_codec.specs.Outcome.{Encoded, Refused, Appended};
+ghost use Rattle.pgv_codec.specs.Outcome.{Encoded};
+ghost use Rattle.pgv_value.specs.declared.error.CodecError.TheVariants.{Memory};
 ghost use Rattle.pgv_codec.specs.ScalarBinary.{text_image, is_text as is_text_type, is_text_array as is_text_array_type};
 
 use crate::buffer::{IsNull, PgArgumentBuffer};
@@ -14,8 +15,8 @@ use std::alloc::{AllocError, Global};
 #[inline(always)]
 pub fn encode_text(text: &str, out: &mut PgArgumentBuffer) -> Result<IsNull, CodecError>
     ensures ok { IfOk result (λ n. Encoded n (text_image text.now) out.old out.new) }
-    ensures err { IfErr result (λ e. Refused e (text_image text.now)) }
-    ensures appended { OnErr result (Appended out.old out.new) }
+    ensures err { OnErr result (out.new ≡ out.old) }
+    ensures refused { IfErr result (λ e. e ≡ Memory) }
 {
     out.extend_from_slice(text.as_bytes())?;
     Ok(IsNull::No)
