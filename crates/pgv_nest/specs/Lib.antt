@@ -5,3 +5,4 @@ pub mod NestBinary
 pub mod Found
 pub mod TupleGrammar
 pub mod NestText
+pub mod NestRefusals

@@ -1,9 +1,11 @@
 //! The heads of arrays in binary (PostgreSQL, "Arrays"; array_send).
 
-ghost use Rattle.std.specs.Prelude.{◌≡◌, ◌≤◌, length, IfOk, IfSome, option_map};
-ghost use Rattle.pgv_value.specs.Reading.{Answers};
+ghost use Rattle.std.specs.Prelude.{◌≡◌, ◌≤◌, false, length, IfOk, IfErr, IfSome, option_map};
+ghost use Rattle.pgv_value.specs.Reading.{Answers, AnswersExactly, Refuses};
+ghost use Rattle.pgv_value.specs.declared.error.CodecError.TheVariants.{ElementType};
 ghost use Rattle.pgv_nest.specs.ArrayGrammar.{element_type, head, one_dimension};
 ghost use Rattle.pgv_nest.specs.HeadsView.{head_shown};
+ghost use Rattle.pgv_nest.specs.NestRefusals.{head_refusal, is_one_dimension, one_dimension_refusal};
 
 use pgv_types::{Oid, PgTypeInfo, PgTypeRef};
 use pgv_value::{CodecError, u32_in_front};
@@ -31,6 +33,9 @@ pub fn array_head_of<'a>(
     bytes: &'a [u8],
 ) -> Result<Option<ArrayHead<'a>>, CodecError>
     ensures exact { Answers (option_map head_shown) (head type_info.now bytes.now) result }
+    ensures exactly { is_one_dimension bytes.now ≡ false → AnswersExactly (option_map head_shown) (head type_info.now bytes.now) result }
+    ensures refused { IfErr result (λ e. Refuses e (e ≡ head_refusal type_info.now bytes.now)) }
+    ensures refused_exactly { is_one_dimension bytes.now ≡ false → IfErr result (λ e. e ≡ head_refusal type_info.now bytes.now) }
     ensures within { IfOk result (λ found. IfSome found (λ h. length h.frames.now ≤ length bytes.now)) }
 {
     let (dimensions, rest) = u32_in_front(bytes)?;
@@ -48,6 +53,7 @@ fn one_dimension_of<'a>(
     bytes: &'a [u8],
 ) -> Result<ArrayHead<'a>, CodecError>
     ensures exact { Answers head_shown (one_dimension type_info.now bytes.now) result }
+    ensures refused { IfErr result (λ e. Refuses e (e ≡ one_dimension_refusal type_info.now bytes.now)) }
     ensures within { IfOk result (λ h. length h.frames.now ≤ length bytes.now) }
 {
     let (_flags, rest) = u32_in_front(bytes)?;
@@ -70,7 +76,8 @@ fn one_dimension_of<'a>(
 
 /// The type of the elements: the built-in type of the OID, else the element of the array's type.
 fn element_type_of(type_info: &PgTypeInfo, oid: Oid) -> Result<PgTypeInfo, CodecError>
-    ensures { Answers (λ t. t) (element_type type_info.now oid.0) result }
+    ensures exact { Answers (λ t. t) (element_type type_info.now oid.0) result }
+    ensures refused { IfErr result (λ e. Refuses e (e ≡ ElementType oid)) }
 {
     if let Some(element) = PgTypeInfo::try_from_oid(oid) {
         return Ok(element);

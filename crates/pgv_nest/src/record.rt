@@ -1,8 +1,9 @@
 //! The fields of records in binary, up to their frames (PostgreSQL, "Composite Types"; record_send).
 
-ghost use Rattle.std.specs.Prelude.{◌≡◌, ◌+◌, length, slice_get, Some, None, IfOk, option_map};
+ghost use Rattle.std.specs.Prelude.{◌≡◌, ◌+◌, length, slice_get, Some, None, IfOk, IfErr, option_map};
 ghost use Rattle.pgv_types.specs.Facts.{oid_of};
-ghost use Rattle.pgv_value.specs.Reading.{Answers};
+ghost use Rattle.pgv_value.specs.Reading.{Answers, Refuses};
+ghost use Rattle.pgv_nest.specs.NestRefusals.{by_own_oid_refusal, composite_refusal, field_head_refusal, field_type_refusal};
 ghost use Rattle.pgv_nest.specs.RecordGrammar.{by_own_oid, field_head, field_type, if_oid, is_oid};
 
 use pgv_types::{Oid, PgType, PgTypeInfo, PgTypeKindRef};
@@ -22,6 +23,7 @@ pub fn field_head_of<'r>(
     bytes: &'r [u8],
 ) -> Result<(PgTypeInfo, &'r [u8]), CodecError>
     ensures exact { Answers (λ h. (h.0, h.1.now)) (field_head type_info.now place bytes.now) result }
+    ensures refused { IfErr result (λ e. Refuses e (e ≡ field_head_refusal type_info.now place bytes.now)) }
     ensures shorter { IfOk result (λ h. length h.1.now + 4 ≡ length bytes.now) }
 {
     if bytes.is_empty() {
@@ -33,7 +35,8 @@ pub fn field_head_of<'r>(
 
 /// The type of the field at a place that has this OID.
 fn field_type_of(type_info: &PgTypeInfo, place: usize, oid: Oid) -> Result<PgTypeInfo, CodecError>
-    ensures { Answers (λ t. t) (field_type type_info.now place oid.0) result }
+    ensures exact { Answers (λ t. t) (field_type type_info.now place oid.0) result }
+    ensures refused { IfErr result (λ e. Refuses e (e ≡ field_type_refusal type_info.now place oid.0)) }
 {
     match &type_info.0 {
         PgType::Record => by_own_oid_of(RECORD, oid),
@@ -49,7 +52,8 @@ fn field_type_of(type_info: &PgTypeInfo, place: usize, oid: Oid) -> Result<PgTyp
 
 /// The type of a field of a record whose type says nothing of its fields.
 fn by_own_oid_of(own: Oid, oid: Oid) -> Result<PgTypeInfo, CodecError>
-    ensures { Answers (λ t. t) (by_own_oid own.0 oid.0) result }
+    ensures exact { Answers (λ t. t) (by_own_oid own.0 oid.0) result }
+    ensures refused { IfErr result (λ e. Refuses e (e ≡ by_own_oid_refusal own.0 oid.0)) }
 {
     if own != RECORD {
         return Err(CodecError::NotARecord);
@@ -66,7 +70,8 @@ fn composite_field(
     place: usize,
     oid: Oid,
 ) -> Result<PgTypeInfo, CodecError>
-    ensures { Answers (λ t. t) (if_oid (option_map (λ field. field.1) (slice_get fields.now place)) oid.0) result }
+    ensures exact { Answers (λ t. t) (if_oid (option_map (λ field. field.1) (slice_get fields.now place)) oid.0) result }
+    ensures refused { IfErr result (λ e. Refuses e (e ≡ composite_refusal place (option_map (λ field. field.1) (slice_get fields.now place)))) }
 {
     let Some((_name, type_info)) = fields.get(place) else {
         return Err(CodecError::NoField(place));
