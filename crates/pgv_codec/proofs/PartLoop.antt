@@ -2,7 +2,9 @@
 use Rattle.std.proofs.Common.{◌≡◌, ℕ, ◌+◌, ◌<◌, List, [], ◌∷◌, ◌++◌, Option, Some, None, length, get_or, drop, map, refl, sym, ap, ◌∙◌, drop-cons, add-one}
 use Rattle.std.proofs.lemmas.List.{append-nil}
 use Rattle.pgv_value.specs.FrameBinary.{Part}
+use Rattle.pgv_value.specs.declared.error.CodecError.{CodecError}
 use Rattle.pgv_nest.specs.ArrayGrammar.{each}
+use Rattle.pgv_nest.specs.NestRefusals.{each_refusal}
 use Rattle.pgv_codec.proofs.FrameLoop.{with_front, regroup}
 
 -- the parts from a place on begin with the one at that place
@@ -31,4 +33,20 @@ module _ {M : Type 0} (read : Part → Option M) where
   unfolding each
   parts_done ms here total none so_far =
       let one : with_front ms (each read here) ≡ Some ms = rw none (ap (λ (xs : List M). Some xs) (append-nil ms)) in
+      sym so_far ∙ one
+
+module _ {M : Type 0} (read : Part → Option M) (why : Part → Option CodecError) where
+  -- why the parts are refused: one was read, one isn't read
+  pub part_refused_later : (here : List Part) (part : Part) (rest_after : List Part) (m : M) (total : Option CodecError) → here ≡ part ∷ rest_after → read part ≡ Some m →
+      each_refusal read why here ≡ total → each_refusal read why rest_after ≡ total
+  unfolding each_refusal
+  part_refused_later here part rest_after m total split r so_far =
+      let one : each_refusal read why here ≡ each_refusal read why rest_after = rw (split, r) refl in
+      sym one ∙ so_far
+
+  pub part_refused : (here : List Part) (part : Part) (rest_after : List Part) (total : Option CodecError) → here ≡ part ∷ rest_after →
+      each_refusal read why here ≡ total → read part ≡ None → total ≡ why part
+  unfolding each_refusal
+  part_refused here part rest_after total split so_far r =
+      let one : each_refusal read why here ≡ why part = rw (split, r) refl in
       sym so_far ∙ one

@@ -1,7 +1,14 @@
--- Errors that come only where a fact holds.
+-- Errors that come only where a fact holds, and the refusals of what is written.
+use Rattle.std.proofs.Common.{◌≡◌, ◌≢◌, ℕ, ◌+◌, ◌≤◌, ◌<◌, Bool, true, false, cond, nat_eq, List, [], ◌∷◌, length, get_or, take, Option, Some, None, Result, Ok, Err, refl, arith, inl, inr}
+use Rattle.std.proofs.lemmas.Bool.{ne_eqb}
+use Rattle.std.proofs.lemmas.Bool.Decides.{nat_tests}
+use Rattle.pgv_buf.specs.Tokens.{Token, Cell, tokens_width}
 use Rattle.pgv_value.specs.declared.error.CodecError.{CodecError}
-use Rattle.pgv_value.specs.declared.error.CodecError.TheVariants.{Memory}
+use Rattle.pgv_value.specs.declared.error.CodecError.TheVariants.{Memory, ValueSize, FieldCount}
 use Rattle.pgv_value.specs.Reading.{Refuses}
+use Rattle.pgv_codec.specs.Image.{Image, image_of, frame, written_frames, join}
+use Rattle.pgv_codec.specs.Outcome.{AppendedAll, Refused}
+use Rattle.pgv_codec.specs.Refusing.{RefusedBy, RefusedFor, frame_refused, frames_refused}
 
 pub Refuses-weaker : (e : CodecError) {P Q : Type 0} → (P → Q) → Refuses e P → Refuses e Q
 Refuses-weaker Memory f h = tt
@@ -10,3 +17,73 @@ Refuses-weaker _ f h = f h
 pub Refuses-from : (e : CodecError) {P : Type 0} → P → Refuses e P
 Refuses-from Memory h = tt
 Refuses-from _ h = h
+
+-- ---- what is stated
+
+pub none_refused : {V : Type 0} (why : Option CodecError) (v : V) → RefusedFor why (Ok v)
+none_refused None v = tt
+none_refused (Some stated) v = tt
+
+pub out_of_memory : (why : Option CodecError) (e : CodecError) → e ≡ Memory → RefusedBy why e
+out_of_memory None e m = tt
+out_of_memory (Some stated) e m = rw m tt
+
+pub stated_by : (why : Option CodecError) (stated e : CodecError) → why ≡ Some stated → e ≡ stated → RefusedBy why e
+stated_by why stated e w is = rw w (Refuses-from e is)
+
+-- what is stated of a part is stated of the whole, where the part wasn't read
+pub stated_of_part : (total why : Option CodecError) (e : CodecError) {P : Type 0} → (P → total ≡ why) → Refuses e P → RefusedBy why e → RefusedBy total e
+stated_of_part total why Memory f p r = out_of_memory total Memory refl
+stated_of_part total why _ f p r = rw (f p) r
+
+pub not_both : {A : Type 0} (b : Bool) → b ≡ true → b ≡ false → A
+not_both true is isnt = absurd (cc)
+not_both false is isnt = absurd (cc)
+
+-- ---- a frame
+
+pub hint_refused : (h : ℕ) (i : Option Image) (why : Option CodecError) → 2147483647 < h → frame_refused h i why ≡ Some (ValueSize h)
+hint_refused h i why l = grind (arith, nat_tests)
+
+pub unwritten_refused : (h : ℕ) (i : Option Image) (why : Option CodecError) → h ≤ 2147483647 → i ≡ None → frame_refused h i why ≡ why
+unwritten_refused h i why l n = rw n (grind (arith, nat_tests))
+
+pub long_refused : (h : ℕ) (i : Option Image) (why : Option CodecError) (ts : List Token) → h ≤ 2147483647 → i ≡ Some (image_of ts) → frame_refused h i why ≡ Some (ValueSize (tokens_width ts))
+long_refused h i why ts l is = rw is (grind (arith, nat_tests))
+
+-- an encoder refused it
+pub frame_unwritten : (h : ℕ) (i : Option Image) (why : Option CodecError) (e : CodecError) → h ≤ 2147483647 → Refused e i → RefusedBy why e → RefusedBy (frame_refused h i why) e
+frame_unwritten h i why e l (inl n) r = rw (unwritten_refused h i why l n) r
+frame_unwritten h i why e l (inr m) r = out_of_memory (frame_refused h i why) e m
+
+-- ---- a field
+
+pub fields_full : (n : ℕ) (why : Option CodecError) → n ≡ 4294967295 → RefusedBy (cond (nat_eq n 4294967295) (Some FieldCount) why) FieldCount
+fields_full n why e = rw e refl
+
+pub field_unwritten : (n : ℕ) (why : Option CodecError) (e : CodecError) → n ≢ 4294967295 → RefusedBy why e → RefusedBy (cond (nat_eq n 4294967295) (Some FieldCount) why) e
+field_unwritten n why e l r = rw (ne_eqb n 4294967295 l) r
+
+-- ---- frames
+
+module _ {X : Type 0} (hint : X → ℕ) (image : X → Option Image) (unwritable : X → Option CodecError) where
+  -- those in front are there
+  frames_from : (xs : List X) (i : ℕ) (x : X) (ts : List Token) → i < length xs → x ≡ get_or xs i x → written_frames hint image (take i xs) ≡ Some ts → frame (hint x) (image x) ≡ None →
+      frames_refused hint image unwritable xs ≡ frame_refused (hint x) (image x) (unwritable x)
+  frames_from [] i x ts l is there none = absurd (omega (arith, l))
+  frames_from (y ∷ xs) ℕ.zero x ts l is there none = rw (← is, none) refl
+  frames_from (y ∷ xs) (ℕ.suc i) x ts l is there none =
+      behind (frame (hint y) (image y)) (written_frames hint image (take i xs)) refl refl there (λ (b : List Token) (d : written_frames hint image (take i xs) ≡ Some b). frames_from xs i x b (omega (arith, l)) is d none)
+    where
+      behind : (f g : Option (List Token)) → frame (hint y) (image y) ≡ f → written_frames hint image (take i xs) ≡ g → join f g ≡ Some ts →
+          ((b : List Token) → written_frames hint image (take i xs) ≡ Some b → frames_refused hint image unwritable xs ≡ frame_refused (hint x) (image x) (unwritable x)) →
+          frames_refused hint image unwritable (y ∷ xs) ≡ frame_refused (hint x) (image x) (unwritable x)
+      behind None g e d h later = absurd (cc)
+      behind (Some a) None e d h later = absurd (cc)
+      behind (Some a) (Some b) e d h later = rw e (later b d)
+
+  pub frames_unwritten : (xs : List X) (i : ℕ) (x : X) (e : CodecError) (start now : List Cell) → i < length xs → x ≡ get_or xs i x →
+      AppendedAll (written_frames hint image (take i xs)) start now → Refused e (frame (hint x) (image x)) →
+      RefusedBy (frame_refused (hint x) (image x) (unwritable x)) e → RefusedBy (frames_refused hint image unwritable xs) e
+  frames_unwritten xs i x e start now l is there (inl none) r = rw (frames_from xs i x there.0 l is there.1 none) r
+  frames_unwritten xs i x e start now l is there (inr m) r = out_of_memory (frames_refused hint image unwritable xs) e m

@@ -5,6 +5,7 @@ use Rattle.std.proofs.lemmas.Bool.{ltb-true, ltb-false}
 use Rattle.std.proofs.lemmas.Int.{ints}
 use Rattle.jiff_core.specs.declared.civil.date.Date.{Date}
 use Rattle.jiff_core.specs.declared.civil.datetime.DateTime.{DateTime}
+use Rattle.jiff_core.specs.declared.civil.time.Time.{Time}
 use Rattle.jiff_core.specs.Calendar.{days_in_month, days_from_civil, IsYear}
 use Rattle.jiff_core.specs.Date.{epoch_day}
 use Rattle.jiff_core.specs.DateTime.{civil_nanos}
@@ -149,3 +150,6 @@ kept_by at false e =
 
 pub date_time_again : (at : DateTime) → nanos_after (micros_of (civil_nanos at)) ≡ civil_nanos (date_time_kept at)
 date_time_again at = kept_by at _ refl
+
+pub time_kept_cut : (t : Time) → time_nanos (time_kept t) ≡ time_nanos t / 1000 * 1000
+time_kept_cut t = time_nanos-time_of (cut (time_nanos t)) (cut_fits (time_nanos t) (time_nanos_bound t))

@@ -1,8 +1,72 @@
--- Which refusal is answered: where no memory is taken exactly the one that is stated, and else that one or out of memory.
-use Rattle.std.specs.Prelude.{◌≡◌, Bool, true, false}
+-- Which refusal is answered, out of memory aside. What a type states of itself it states as one refusal or none (`None`: it says
+-- nothing).
+-- Written: a frame whose size hint is above 2147483647 is C2 before anything else, a value without an image is what it says
+-- itself, and an image above 2147483647 bytes is C2. A list of more than 2147483647 elements is C3, and another is what its first
+-- element without a frame is refused with. A field after 4294967295 others is C12.
+use Rattle.std.specs.Prelude.{◌≡◌, ℕ, Bool, false, nat_eq, nat_le, List, [], ◌∷◌, length, Option, Some, None, IfSome, IfErr, Result, cond}
+use Rattle.pgv_types.specs.Ty.{Ty}
+use Rattle.pgv_buf.specs.Tokens.{Token, tokens_width}
 use Rattle.pgv_value.specs.Reading.{Refuses}
 use Rattle.pgv_value.specs.declared.error.CodecError.{CodecError}
+use Rattle.pgv_value.specs.declared.error.CodecError.TheVariants.{ValueSize, ArrayLength, FieldCount}
+use Rattle.pgv_value.specs.declared.value.PgValueFormat.{PgValueFormat}
+use Rattle.pgv_nest.specs.NestRefusals.{Refusal}
+use Rattle.pgv_codec.specs.Image.{Image, null_image, image_of, frame, limit}
 
-abbrev pub RefusedAs : Bool → CodecError → CodecError → Type 0
-RefusedAs true e why = Refuses e (e ≡ why)
-RefusedAs false e why = e ≡ why
+-- an error is the refusal that is stated, or out of memory
+abbrev pub RefusedBy : Option CodecError → CodecError → Type 0
+RefusedBy why e = IfSome why (λ stated. Refuses e (e ≡ stated))
+
+abbrev pub RefusedFor : {V : Type 0} → Option CodecError → Result V CodecError → Type 0
+RefusedFor why result = IfSome why (λ stated. IfErr result (λ e. Refuses e (e ≡ stated)))
+
+-- the same where no memory is asked for
+abbrev pub RefusedExactly : {V : Type 0} → Option CodecError → Result V CodecError → Type 0
+RefusedExactly why result = IfSome why (λ stated. IfErr result (λ e. e ≡ stated))
+
+-- ---- written
+
+-- after the size hint
+abbrev pub image_refused : Option Image → Option CodecError → Option CodecError
+image_refused None why = why
+image_refused (Some null_image) why = None
+image_refused (Some (image_of ts)) why = Some (ValueSize (tokens_width ts))
+
+abbrev pub frame_refused : ℕ → Option Image → Option CodecError → Option CodecError
+frame_refused hint i why = cond (nat_le hint limit) (image_refused i why) (Some (ValueSize hint))
+
+-- of a frame and those after it
+abbrev pub first_refused : Option (List Token) → Option CodecError → Option CodecError → Option CodecError
+first_refused None why later = why
+first_refused (Some f) why later = later
+
+module _ {X : Type 0} (hint : X → ℕ) (image : X → Option Image) (unwritable : X → Option CodecError) where
+  abbrev pub frames_refused : List X → Option CodecError
+  frames_refused [] = None
+  frames_refused (x ∷ xs) = first_refused (frame (hint x) (image x)) (frame_refused (hint x) (image x) (unwritable x)) (frames_refused xs)
+
+  abbrev pub array_refused : List X → Option CodecError
+  array_refused xs = cond (nat_le (length xs) limit) (frames_refused xs) (Some (ArrayLength (length xs)))
+
+  -- a field after n others
+  abbrev pub field_refused : ℕ → X → Option CodecError
+  field_refused n x = cond (nat_eq n 4294967295) (Some FieldCount) (frame_refused (hint x) (image x) (unwritable x))
+
+abbrev pub option_unwritable : {X : Type 0} → (X → Option CodecError) → Option X → Option CodecError
+option_unwritable unwritable None = None
+option_unwritable unwritable (Some x) = unwritable x
+
+-- ---- read
+
+-- null is never refused, and anything else as the type says
+abbrev pub nullable_refusal : Refusal → Refusal
+nullable_refusal refusal t f None = None
+nullable_refusal refusal t f (Some bytes) = refusal t f (Some bytes)
+
+-- whether memory may be asked for under a type and in a format, of null or bytes
+abbrev pub Taking : Type 0
+Taking = Ty → PgValueFormat → Option (List ℕ) → Bool
+
+abbrev pub nullable_takes : Taking → Taking
+nullable_takes takes t f None = false
+nullable_takes takes t f (Some bytes) = takes t f (Some bytes)

@@ -1,6 +1,6 @@
 //! The buffer that encoders append to.
 
-ghost use Rattle.std.specs.Prelude.{◌≡◌, ◌==◌, ◌<◌, ◌≤◌, None, IfSome, ◌++◌, ℕ, List, [], ◌∷◌, length, OnOk, OnErr, IfOk, IfErr, Err, sum};
+ghost use Rattle.std.specs.Prelude.{◌≡◌, ◌==◌, ◌<◌, ◌++◌, ℕ, List, [], ◌∷◌, length, OnOk, OnErr, IfOk, IfErr, Err, sum};
 ghost use Rattle.pgv_buf.specs.Tokens.{byte, hole, slot, bytes, Cell, blank, fixed_bytes, shown, width, be4, hole_types_of, hole_count, slot_count, CasesFit};
 ghost use Rattle.pgv_buf.specs.CasesView.{cases_of};
 ghost use Rattle.pgv_buf.specs.Marks.{mark_of};
@@ -8,7 +8,7 @@ ghost use Rattle.pgv_buf.specs.Proper.{Proper};
 ghost use Rattle.pgv_buf.specs.Fill.{fill_holes, fill_slots, slot_types};
 ghost use Rattle.pgv_value.specs.declared.error.CodecError.TheVariants.{Memory, ValueSize};
 ghost use Rattle.pgv_codec.specs.Image.{frame, typed};
-ghost use Rattle.pgv_value.specs.Reading.{Refuses};
+ghost use Rattle.pgv_codec.specs.Refusing.{RefusedFor, frame_refused};
 ghost use Rattle.pgv_codec.specs.Outcome.{Refused, Appended, AppendedAll};
 
 use crate::traits::Encode;
@@ -155,7 +155,7 @@ impl PgArgumentBuffer {
         ensures ok { OnOk result (AppendedAll (frame (T.hint value.now) (T.image value.now)) self.old self.new) }
         ensures err { IfErr result (λ e. Refused e (frame (T.hint value.now) (T.image value.now))) }
         ensures appended { OnErr result (Appended self.old self.new) }
-        ensures refused { T.image value.now ≡ None → T.hint value.now ≤ 2147483647 → IfSome T.unwritable (λ why. IfErr result (λ e. Refuses e (e ≡ why value.now))) }
+        ensures refused { RefusedFor (frame_refused (T.hint value.now) (T.image value.now) (T.unwritable value.now)) result }
         ensures hint { 2147483647 < T.hint value.now → (result ≡ Err (ValueSize (T.hint value.now))) × (self.new ≡ self.old) }
     {
         let hint = value.size_hint();

@@ -1,10 +1,10 @@
 //! What can be written and read, and of which type it is.
 
-ghost use Rattle.std.specs.Prelude.{◌≡◌, ℕ, Bool, true, false, List, Option, None, IfOk, IfErr, IfSome, OnErr, IsErrOf};
+ghost use Rattle.std.specs.Prelude.{◌≡◌, ℕ, Bool, true, false, List, Option, Some, None, IfOk, IfErr, OnErr, IsErrOf};
 ghost use Rattle.pgv_types.specs.Relations.{softly};
 ghost use Rattle.pgv_types.specs.Ty.{Ty};
-ghost use Rattle.pgv_value.specs.Reading.{Answers, AnswersExactly, Refuses};
-ghost use Rattle.pgv_codec.specs.Refusing.{RefusedAs};
+ghost use Rattle.pgv_value.specs.Reading.{Answers, AnswersExactly};
+ghost use Rattle.pgv_codec.specs.Refusing.{RefusedExactly, RefusedFor};
 ghost use Rattle.pgv_value.specs.declared.error.CodecError.{CodecError};
 ghost use Rattle.pgv_value.specs.declared.error.CodecError.TheVariants.{UnexpectedNull};
 ghost use Rattle.pgv_value.specs.declared.value.PgValueFormat.{PgValueFormat as Format};
@@ -68,14 +68,14 @@ pub trait Encode {
     /// The type of this value, where it isn't the one that its Rust type has.
     ghost produced: { Self → Option Ty } = { λ _. None };
 
-    /// Which refusal is answered where a value has no image, where the type states it; out of memory aside.
-    ghost unwritable: { Option (Self → CodecError) } = { None };
+    /// Which refusal is answered where a value has no image, out of memory aside: none where the type doesn't state it.
+    ghost unwritable: { Self → Option CodecError } = { λ _. None };
 
     /// Appends the value's image. `Yes` says that it is null, and then nothing was appended.
     fn encode_by_ref(&self, out: &mut PgArgumentBuffer) -> Result<IsNull, CodecError>
         ensures ok { IfOk result (λ n. Encoded n (image self.now) out.old out.new) }
         ensures err { IfErr result (λ e. Refused e (image self.now)) }
-        ensures refused { IfSome unwritable (λ why. IfErr result (λ e. Refuses e (e ≡ why self.now))) }
+        ensures refused { RefusedFor (unwritable self.now) result }
         ensures appended { OnErr result (Appended out.old out.new) };
 
     /// A number of bytes that the value says to need; 0 where it doesn't say.
@@ -104,18 +104,20 @@ pub trait Decode: Sized + Drop {
     /// What is written of a meaning under a type, where values are written too (see [`Codec`]), and else no image.
     ghost written: { Ty → Meaning → Saying };
 
-    /// Whether reading takes memory. Where it takes none, it is never refused as out of memory.
-    ghost takes_memory: { Bool } = { true };
+    /// Whether reading may ask for memory, by type, format and bytes. Where it doesn't, it is never refused as out of memory: what
+    /// is seen before the first request is answered as itself.
+    ghost takes_memory: { Ty → Format → Option (List ℕ) → Bool } = { λ _ _ _. true };
 
-    /// Which refusal is answered, out of memory aside, by the format and the bytes, where the type states it. A plain type that was
-    /// given bytes never answers that it was given null (C13); a nest may pass on what a part of it is refused with.
-    ghost refusal: { Option (Format → Option (List ℕ) → CodecError) } = { None };
+    /// Which refusal is answered, out of memory aside, by type, format and bytes: none where the type doesn't state it. A plain type
+    /// that was given bytes never answers that it was given null (C13); a nest passes on what a part of it is refused with.
+    ghost refusal: { Ty → Format → Option (List ℕ) → Option CodecError } = { λ _ _ _. None };
 
     /// The value that is read. Null is refused with C13, exactly where the type doesn't read null.
     fn decode(alloc: Global, value: PgValueRef<'_>) -> Result<Self, CodecError>
         ensures exact { Answers meaning (reading value.entry.type_info value.entry.format value.entry.bytes) result }
-        ensures exactly { takes_memory ≡ false → AnswersExactly meaning (reading value.entry.type_info value.entry.format value.entry.bytes) result }
-        ensures refused { IfSome refusal (λ why. IfErr result (λ e. RefusedAs takes_memory e (why value.entry.format value.entry.bytes))) }
+        ensures exactly { takes_memory value.entry.type_info value.entry.format value.entry.bytes ≡ false → AnswersExactly meaning (reading value.entry.type_info value.entry.format value.entry.bytes) result }
+        ensures refused { RefusedFor (refusal value.entry.type_info value.entry.format value.entry.bytes) result }
+        ensures refused_exactly { takes_memory value.entry.type_info value.entry.format value.entry.bytes ≡ false → RefusedExactly (refusal value.entry.type_info value.entry.format value.entry.bytes) result }
         ensures null { value.entry.bytes ≡ None → reading value.entry.type_info value.entry.format None ≡ None → IsErrOf result UnexpectedNull };
 }
 
@@ -155,11 +157,11 @@ pub trait Plain: Type + Encode + Sized + Drop {
     /// What is written of a meaning under a type.
     ghost written: { Ty → Meaning → Saying };
 
-    /// Whether reading takes memory. Where it takes none, it is never refused as out of memory.
-    ghost takes_memory: { Bool } = { false };
+    /// Whether reading may ask for memory, by type, format and bytes. Where it doesn't, it is never refused as out of memory.
+    ghost takes_memory: { Ty → Format → Option (List ℕ) → Bool } = { λ _ _ _. false };
 
-    /// Which refusal is answered, out of memory aside, by the format and the bytes, where the type states it.
-    ghost refusal: { Option (Format → Option (List ℕ) → CodecError) } = { None };
+    /// Which refusal is answered, out of memory aside, by the format and the bytes.
+    ghost refusal: { Format → Option (List ℕ) → CodecError };
 
     /// The value as it comes back: where it says nothing else, as it is.
     ghost kept: { Self → Self } = { λ v. v };
@@ -167,8 +169,9 @@ pub trait Plain: Type + Encode + Sized + Drop {
     /// The value that is read: what [`Decode::decode`] answers.
     fn read(alloc: Global, value: PgValueRef<'_>) -> Result<Self, CodecError>
         ensures exact { Answers meaning (reading value.entry.type_info value.entry.format value.entry.bytes) result }
-        ensures exactly { takes_memory ≡ false → AnswersExactly meaning (reading value.entry.type_info value.entry.format value.entry.bytes) result }
-        ensures refused { IfSome refusal (λ why. IfErr result (λ e. RefusedAs takes_memory e (why value.entry.format value.entry.bytes))) }
+        ensures exactly { takes_memory value.entry.type_info value.entry.format value.entry.bytes ≡ false → AnswersExactly meaning (reading value.entry.type_info value.entry.format value.entry.bytes) result }
+        ensures refused { RefusedFor (Some (refusal value.entry.format value.entry.bytes)) result }
+        ensures refused_exactly { takes_memory value.entry.type_info value.entry.format value.entry.bytes ≡ false → RefusedExactly (Some (refusal value.entry.format value.entry.bytes)) result }
         ensures null { value.entry.bytes ≡ None → reading value.entry.type_info value.entry.format None ≡ None → IsErrOf result UnexpectedNull };
 
     /// What is written of a value is read in binary as what it keeps, under every type.
@@ -189,7 +192,7 @@ impl<T: Plain> Decode for T {
 
     ghost takes_memory = { T.takes_memory };
 
-    ghost refusal = { T.refusal };
+    ghost refusal = { λ _ format bytes. Some (T.refusal format bytes) };
 
     #[inline(always)]
     fn decode(alloc: Global, value: PgValueRef<'_>) -> Result<T, CodecError> {
@@ -232,8 +235,8 @@ pub trait Scalar {
     /// What a value is written as.
     ghost form: { Self → Option Image };
 
-    /// Which refusal is answered where a value has no image, where the type states it; out of memory aside.
-    ghost formless: { Option (Self → CodecError) } = { None };
+    /// Which refusal is answered where a value has no image, out of memory aside: none where the type doesn't state it.
+    ghost formless: { Self → Option CodecError } = { λ _. None };
 
     /// The type that its values have.
     const INFO: PgTypeInfo;
@@ -248,7 +251,7 @@ pub trait Scalar {
     fn write(&self, out: &mut PgArgumentBuffer) -> Result<IsNull, CodecError>
         ensures ok { IfOk result (λ n. Encoded n (form self.now) out.old out.new) }
         ensures err { IfErr result (λ e. Refused e (form self.now)) }
-        ensures refused { IfSome formless (λ why. IfErr result (λ e. Refuses e (e ≡ why self.now))) }
+        ensures refused { RefusedFor (formless self.now) result }
         ensures appended { OnErr result (Appended out.old out.new) };
 }
 

@@ -1,12 +1,12 @@
 //! What dates, times, date-times and instants are, as [`rows`](super::rows) has it of other types. All count from 2000-01-01.
 
-ghost use Rattle.std.specs.Prelude.{◌≡◌, None};
+ghost use Rattle.std.specs.Prelude.{◌≡◌, ◌*◌, ◌/◌, None};
 ghost use Rattle.jiff.specs.Words.{civil_nanos, epoch_day, time_nanos};
-ghost use Rattle.pgv_value.specs.DateTimeBinary.{date_reading, date_time_reading, instant_reading, time_reading};
-ghost use Rattle.pgv_codec.specs.DateTimeBinary.{date_image, moment_image, time_image};
-ghost use Rattle.pgv_codec.specs.TypeRow.{IsBuiltIn};
+ghost use Rattle.pgv_value.specs.DateTimeBinary.{date_reading, date_time_reading, date_time_refusal, instant_reading, nanos_after, time_reading};
+ghost use Rattle.pgv_codec.specs.DateTimeBinary.{date_image, micros_of, moment_image, time_image};
+ghost use Rattle.pgv_codec.specs.TypeRow.{IsBuiltIn, IsRefusedAs, TakesNone};
 
-use crate::traits::{Decode, Encode, PgHasArrayType, Type};
+use crate::traits::{Decode, Encode, PgHasArrayType, ReadBack, Type};
 use jiff::Timestamp;
 use jiff::civil::{Date, DateTime, Time};
 
@@ -19,9 +19,12 @@ pub fn date_is_a_date()
     ensures produced { ⟦<Date as Encode>⟧.produced ≡ (λ _. None) }
     ensures means { ⟦<Date as Decode>⟧.meaning ≡ (λ v. epoch_day v) }
     ensures read { ⟦<Date as Decode>⟧.reading ≡ date_reading }
+    ensures refused { IsRefusedAs date_time_refusal ⟦<Date as Decode>⟧.refusal × TakesNone ⟦<Date as Decode>⟧.takes_memory }
 {}
 
 /// A `Time` is a time (OID 1083), its microseconds in eight bytes, as `0000000a7a358200` for 12:30. Its arrays are `time[]` (1183).
+/// It comes back in whole microseconds.
+#[tactic(auto, using(crate::specs::DateTimeAgain::time_kept_cut))]
 pub fn time_is_a_time()
     ensures types { IsBuiltIn 1083 ⟦<Time as Type>⟧.info ⟦<Time as Type>⟧.accepts }
     ensures arrays { IsBuiltIn 1183 ⟦<Time as PgHasArrayType>⟧.array_info ⟦<Time as PgHasArrayType>⟧.accepts_array }
@@ -30,9 +33,13 @@ pub fn time_is_a_time()
     ensures produced { ⟦<Time as Encode>⟧.produced ≡ (λ _. None) }
     ensures means { ⟦<Time as Decode>⟧.meaning ≡ (λ v. time_nanos v) }
     ensures read { ⟦<Time as Decode>⟧.reading ≡ time_reading }
+    ensures refused { IsRefusedAs date_time_refusal ⟦<Time as Decode>⟧.refusal × TakesNone ⟦<Time as Decode>⟧.takes_memory }
+    ensures kept { (v : Time) → time_nanos (⟦<Time as ReadBack>⟧.kept v) ≡ time_nanos v / 1000 * 1000 }
 {}
 
-/// A `DateTime` is a timestamp (OID 1114), its microseconds in eight bytes. Its arrays are `timestamp[]` (1115).
+/// A `DateTime` is a timestamp (OID 1114), its microseconds in eight bytes. Its arrays are `timestamp[]` (1115). It comes back as the
+/// moment of its microseconds.
+#[tactic(auto, using(crate::specs::DateTimeAgain::date_time_again))]
 pub fn date_time_is_a_timestamp()
     ensures types { IsBuiltIn 1114 ⟦<DateTime as Type>⟧.info ⟦<DateTime as Type>⟧.accepts }
     ensures arrays { IsBuiltIn 1115 ⟦<DateTime as PgHasArrayType>⟧.array_info ⟦<DateTime as PgHasArrayType>⟧.accepts_array }
@@ -41,9 +48,12 @@ pub fn date_time_is_a_timestamp()
     ensures produced { ⟦<DateTime as Encode>⟧.produced ≡ (λ _. None) }
     ensures means { ⟦<DateTime as Decode>⟧.meaning ≡ (λ v. civil_nanos v) }
     ensures read { ⟦<DateTime as Decode>⟧.reading ≡ date_time_reading }
+    ensures refused { IsRefusedAs date_time_refusal ⟦<DateTime as Decode>⟧.refusal × TakesNone ⟦<DateTime as Decode>⟧.takes_memory }
+    ensures kept { (v : DateTime) → nanos_after (micros_of (civil_nanos v)) ≡ civil_nanos (⟦<DateTime as ReadBack>⟧.kept v) }
 {}
 
-/// A `Timestamp` is a timestamptz (OID 1184), its microseconds in eight bytes. Its arrays are `timestamptz[]` (1185).
+/// A `Timestamp` is a timestamptz (OID 1184), its microseconds in eight bytes. Its arrays are `timestamptz[]` (1185). It comes back as
+/// the moment of its microseconds.
 pub fn timestamp_is_a_timestamptz()
     ensures types { IsBuiltIn 1184 ⟦<Timestamp as Type>⟧.info ⟦<Timestamp as Type>⟧.accepts }
     ensures arrays { IsBuiltIn 1185 ⟦<Timestamp as PgHasArrayType>⟧.array_info ⟦<Timestamp as PgHasArrayType>⟧.accepts_array }
@@ -52,4 +62,6 @@ pub fn timestamp_is_a_timestamptz()
     ensures produced { ⟦<Timestamp as Encode>⟧.produced ≡ (λ _. None) }
     ensures means { ⟦<Timestamp as Decode>⟧.meaning ≡ (λ v. v.nanosecond) }
     ensures read { ⟦<Timestamp as Decode>⟧.reading ≡ instant_reading }
+    ensures refused { IsRefusedAs date_time_refusal ⟦<Timestamp as Decode>⟧.refusal × TakesNone ⟦<Timestamp as Decode>⟧.takes_memory }
+    ensures kept { (v : Timestamp) → (⟦<Timestamp as ReadBack>⟧.kept v).nanosecond ≡ nanos_after (micros_of v.nanosecond) }
 {}

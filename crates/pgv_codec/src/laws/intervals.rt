@@ -1,11 +1,11 @@
 //! What intervals and durations are, as [`rows`](super::rows) has it of other types.
 
-ghost use Rattle.std.specs.Prelude.{◌≡◌, pos, None};
+ghost use Rattle.std.specs.Prelude.{◌≡◌, pos, Some, None};
 ghost use Rattle.std.specs.Duration.{as_nanos};
 ghost use Rattle.jiff.specs.Words.{signed_nanos};
-ghost use Rattle.pgv_value.specs.Interval.{interval_reading};
-ghost use Rattle.pgv_codec.specs.Intervals.{interval_image, duration_image};
-ghost use Rattle.pgv_codec.specs.TypeRow.{IsBuiltIn};
+ghost use Rattle.pgv_value.specs.Interval.{interval_reading, interval_refusal};
+ghost use Rattle.pgv_codec.specs.Intervals.{interval_image, duration_image, duration_refused};
+ghost use Rattle.pgv_codec.specs.TypeRow.{IsBuiltIn, IsRefusedAs, TakesNone};
 
 use crate::traits::{Decode, Encode, PgHasArrayType, Type};
 use jiff::SignedDuration;
@@ -22,16 +22,18 @@ pub fn pg_interval_is_an_interval()
     ensures produced { ⟦<PgInterval as Encode>⟧.produced ≡ (λ _. None) }
     ensures means { ⟦<PgInterval as Decode>⟧.meaning ≡ (λ v. v) }
     ensures read { ⟦<PgInterval as Decode>⟧.reading ≡ interval_reading }
+    ensures refused { IsRefusedAs interval_refusal ⟦<PgInterval as Decode>⟧.refusal × TakesNone ⟦<PgInterval as Decode>⟧.takes_memory }
 {}
 
 /// A `Duration` is an interval, and is written as that of its microseconds, where it is whole microseconds and 64 bits have
-/// their number.
+/// their number; else it is refused with C4 or C5.
 pub fn duration_is_an_interval()
     ensures types { IsBuiltIn 1186 ⟦<Duration as Type>⟧.info ⟦<Duration as Type>⟧.accepts }
     ensures arrays { IsBuiltIn 1187 ⟦<Duration as PgHasArrayType>⟧.array_info ⟦<Duration as PgHasArrayType>⟧.accepts_array }
     ensures written { ⟦<Duration as Encode>⟧.image ≡ (λ v. duration_image (pos (as_nanos v))) }
     ensures hint { ⟦<Duration as Encode>⟧.hint ≡ (λ _. 16) }
     ensures produced { ⟦<Duration as Encode>⟧.produced ≡ (λ _. None) }
+    ensures unwritten { ⟦<Duration as Encode>⟧.unwritable ≡ (λ v. Some (duration_refused (pos (as_nanos v)))) }
 {}
 
 /// A `SignedDuration` is an interval, and is written as a `Duration` is.
@@ -41,4 +43,5 @@ pub fn signed_duration_is_an_interval()
     ensures written { ⟦<SignedDuration as Encode>⟧.image ≡ (λ v. duration_image (signed_nanos v)) }
     ensures hint { ⟦<SignedDuration as Encode>⟧.hint ≡ (λ _. 16) }
     ensures produced { ⟦<SignedDuration as Encode>⟧.produced ≡ (λ _. None) }
+    ensures unwritten { ⟦<SignedDuration as Encode>⟧.unwritable ≡ (λ v. Some (duration_refused (signed_nanos v))) }
 {}

@@ -4,18 +4,22 @@
 //! Each is the contract of a function that does nothing. A codec that reads nothing, or writes nothing, meets its trait's
 //! contract; it does not meet its row.
 
-ghost use Rattle.std.specs.Prelude.{◌≡◌, Bool, Option, option_map, string_bytes, map};
+ghost use Rattle.std.specs.Prelude.{◌≡◌, ℕ, List, Option, Some, is_some, option_map, string_bytes, map};
 ghost use Rattle.std.specs.Int.{w8, w16, w32, w64};
 ghost use Rattle.pgv_types.specs.Ty.{Ty, builtin};
 ghost use Rattle.pgv_types.specs.declared.oid.Oid.{Oid};
-ghost use Rattle.pgv_value.specs.ScalarGrammar.{bool_reading, char_reading, int_reading, oid_reading, text_reading, uuid_reading};
+ghost use Rattle.pgv_value.specs.ScalarGrammar.{bool_reading, bool_refusal, char_reading, char_refusal, int_reading, int_refusal, oid_reading, oid_refusal, text_reading, uuid_reading, uuid_refusal};
+ghost use Rattle.pgv_value.specs.Utf8.{text_refusal};
+ghost use Rattle.pgv_value.specs.declared.value.PgValueFormat.{PgValueFormat};
 ghost use Rattle.pgv_nest.specs.ArrayGrammar.{array, array_of_length};
 ghost use Rattle.pgv_codec.specs.Image.{array_image, sized_image, option_image, option_hint, option_produced};
 ghost use Rattle.pgv_codec.specs.Nullable.{nullable};
-ghost use Rattle.pgv_codec.specs.TypeRow.{IsBuiltIn, IsWrittenAs};
+ghost use Rattle.pgv_nest.specs.NestRefusals.{array_of_length_refusal, array_refusal, array_takes, field_then, next_refusal, record_refusal, record_takes};
+ghost use Rattle.pgv_codec.specs.Refusing.{array_refused, nullable_refusal, nullable_takes, option_unwritable};
+ghost use Rattle.pgv_codec.specs.TypeRow.{IsBuiltIn, IsRefusedAs, IsWrittenAs, TakesNone};
 ghost use Rattle.pgv_codec.specs.ScalarBinary.{bool_image, signed_image, unsigned_image, text_image, uuid_image, is_text, is_text_array, is_void_or_record};
 
-use crate::traits::{Codec, Decode, Encode, PgHasArrayType, Type};
+use crate::traits::{Decode, Encode, PgHasArrayType, Type};
 
 /// A `bool` is a boolean (OID 16), written as the byte 00 or 01, as `01` for true. Its arrays are `bool[]` (1000).
 pub fn bool_is_a_boolean()
@@ -24,6 +28,7 @@ pub fn bool_is_a_boolean()
     ensures written { IsWrittenAs bool_image ⟦<bool as Encode>⟧.hint ⟦<bool as Encode>⟧.image ⟦<bool as Encode>⟧.produced }
     ensures means { ⟦<bool as Decode>⟧.meaning ≡ (λ v. v) }
     ensures read { ⟦<bool as Decode>⟧.reading ≡ bool_reading }
+    ensures refused { IsRefusedAs bool_refusal ⟦<bool as Decode>⟧.refusal × TakesNone ⟦<bool as Decode>⟧.takes_memory }
 {}
 
 /// An `i8` is a `"char"` (OID 18), one byte in two's complement, as `ff` for -1. Its arrays are `"char"[]` (1002).
@@ -33,6 +38,7 @@ pub fn i8_is_a_char()
     ensures written { IsWrittenAs (signed_image w8) ⟦<i8 as Encode>⟧.hint ⟦<i8 as Encode>⟧.image ⟦<i8 as Encode>⟧.produced }
     ensures means { ⟦<i8 as Decode>⟧.meaning ≡ (λ v. v) }
     ensures read { ⟦<i8 as Decode>⟧.reading ≡ char_reading }
+    ensures refused { IsRefusedAs char_refusal ⟦<i8 as Decode>⟧.refusal × TakesNone ⟦<i8 as Decode>⟧.takes_memory }
 {}
 
 /// An `i16` is an int2 (OID 21), two bytes, as `0007` for 7. Its arrays are `int2[]` (1005).
@@ -42,6 +48,7 @@ pub fn i16_is_an_int2()
     ensures written { IsWrittenAs (signed_image w16) ⟦<i16 as Encode>⟧.hint ⟦<i16 as Encode>⟧.image ⟦<i16 as Encode>⟧.produced }
     ensures means { ⟦<i16 as Decode>⟧.meaning ≡ (λ v. v) }
     ensures read { ⟦<i16 as Decode>⟧.reading ≡ int_reading w16 }
+    ensures refused { IsRefusedAs int_refusal ⟦<i16 as Decode>⟧.refusal × TakesNone ⟦<i16 as Decode>⟧.takes_memory }
 {}
 
 /// An `i32` is an int4 (OID 23), four bytes, as `00000007` for 7. Its arrays are `int4[]` (1007).
@@ -51,6 +58,7 @@ pub fn i32_is_an_int4()
     ensures written { IsWrittenAs (signed_image w32) ⟦<i32 as Encode>⟧.hint ⟦<i32 as Encode>⟧.image ⟦<i32 as Encode>⟧.produced }
     ensures means { ⟦<i32 as Decode>⟧.meaning ≡ (λ v. v) }
     ensures read { ⟦<i32 as Decode>⟧.reading ≡ int_reading w32 }
+    ensures refused { IsRefusedAs int_refusal ⟦<i32 as Decode>⟧.refusal × TakesNone ⟦<i32 as Decode>⟧.takes_memory }
 {}
 
 /// An `i64` is an int8 (OID 20), eight bytes, as `0000000000000007` for 7. Its arrays are `int8[]` (1016).
@@ -60,6 +68,7 @@ pub fn i64_is_an_int8()
     ensures written { IsWrittenAs (signed_image w64) ⟦<i64 as Encode>⟧.hint ⟦<i64 as Encode>⟧.image ⟦<i64 as Encode>⟧.produced }
     ensures means { ⟦<i64 as Decode>⟧.meaning ≡ (λ v. v) }
     ensures read { ⟦<i64 as Decode>⟧.reading ≡ int_reading w64 }
+    ensures refused { IsRefusedAs int_refusal ⟦<i64 as Decode>⟧.refusal × TakesNone ⟦<i64 as Decode>⟧.takes_memory }
 {}
 
 /// An `Oid` is an oid (OID 26), four bytes, as `00000019` for that of text. Its arrays are `oid[]` (1028).
@@ -69,6 +78,7 @@ pub fn oid_is_an_oid()
     ensures written { IsWrittenAs (λ o. unsigned_image w32 o.0) ⟦<pgv_types::Oid as Encode>⟧.hint ⟦<pgv_types::Oid as Encode>⟧.image ⟦<pgv_types::Oid as Encode>⟧.produced }
     ensures means { ⟦<pgv_types::Oid as Decode>⟧.meaning ≡ (λ o. o.0) }
     ensures read { ⟦<pgv_types::Oid as Decode>⟧.reading ≡ oid_reading }
+    ensures refused { IsRefusedAs oid_refusal ⟦<pgv_types::Oid as Decode>⟧.refusal × TakesNone ⟦<pgv_types::Oid as Decode>⟧.takes_memory }
 {}
 
 /// A `Uuid` is a uuid (OID 2950), its sixteen bytes. Its arrays are `uuid[]` (2951).
@@ -78,6 +88,7 @@ pub fn uuid_is_a_uuid()
     ensures written { IsWrittenAs uuid_image ⟦<uuid::Uuid as Encode>⟧.hint ⟦<uuid::Uuid as Encode>⟧.image ⟦<uuid::Uuid as Encode>⟧.produced }
     ensures means { ⟦<uuid::Uuid as Decode>⟧.meaning ≡ (λ v. v) }
     ensures read { ⟦<uuid::Uuid as Decode>⟧.reading ≡ uuid_reading }
+    ensures refused { IsRefusedAs uuid_refusal ⟦<uuid::Uuid as Decode>⟧.refusal × TakesNone ⟦<uuid::Uuid as Decode>⟧.takes_memory }
 {}
 
 /// A `String` is a text (OID 25), its bytes in UTF-8, as `6869` for `hi`. It is read under text, name, bpchar, varchar,
@@ -90,16 +101,20 @@ pub fn string_is_a_text()
     ensures written { IsWrittenAs (λ s. text_image (string_bytes s)) ⟦<String as Encode>⟧.hint ⟦<String as Encode>⟧.image ⟦<String as Encode>⟧.produced }
     ensures means { ⟦<String as Decode>⟧.meaning ≡ (λ s. string_bytes s) }
     ensures read { ⟦<String as Decode>⟧.reading ≡ text_reading }
+    ensures refused { IsRefusedAs text_refusal ⟦<String as Decode>⟧.refusal }
+    ensures takes_memory { ⟦<String as Decode>⟧.takes_memory ≡ (λ t f bytes. is_some (text_reading t f bytes)) }
 {}
 
-/// `()` is a void (OID 2278), read under void and record. It is never written.
+/// `()` is a void (OID 2278), read under void and record, of whatever is there, null too. It is never written.
 pub fn unit_is_a_void()
     ensures types { ⟦<() as Type>⟧.info ≡ builtin 2278 }
     ensures accepts { (t : Ty) → ⟦<() as Type>⟧.accepts t ≡ is_void_or_record t }
+    ensures read { (t : Ty) (f : PgValueFormat) (bytes : Option (List ℕ)) → ⟦<() as Decode>⟧.reading t f bytes ≡ Some tt }
+    ensures takes_memory { TakesNone ⟦<() as Decode>⟧.takes_memory }
 {}
 
 /// An `Option<T>` has the types of `T`. None is null, Some is written as its value, and null is read as None.
-pub fn option_may_be_null<T: Codec + PgHasArrayType>()
+pub fn option_may_be_null<T: Type + Encode + Decode + PgHasArrayType>()
     ensures types { ⟦<Option<T> as Type>⟧.info ≡ T.info }
     ensures accepts { ⟦<Option<T> as Type>⟧.accepts ≡ T.accepts }
     ensures arrays { ⟦<Option<T> as PgHasArrayType>⟧.array_info ≡ T.array_info }
@@ -109,24 +124,30 @@ pub fn option_may_be_null<T: Codec + PgHasArrayType>()
     ensures produced { ⟦<Option<T> as Encode>⟧.produced ≡ option_produced T.produced T.info }
     ensures means { ⟦<Option<T> as Decode>⟧.meaning ≡ option_map T.meaning }
     ensures read { ⟦<Option<T> as Decode>⟧.reading ≡ nullable T.reading }
+    ensures unwritten { ⟦<Option<T> as Encode>⟧.unwritable ≡ option_unwritable T.unwritable }
+    ensures refused { (⟦<Option<T> as Decode>⟧.refusal ≡ nullable_refusal T.refusal) × (⟦<Option<T> as Decode>⟧.takes_memory ≡ nullable_takes T.takes_memory) }
 {}
 
 /// A `Vec<T>` has the type of `T`'s arrays, and is written and read as an array of one dimension.
-pub fn list_is_an_array<T: Codec + PgHasArrayType>()
+pub fn list_is_an_array<T: Type + Encode + Decode + PgHasArrayType>()
     ensures types { ⟦<Vec<T> as Type>⟧.info ≡ T.array_info }
     ensures accepts { ⟦<Vec<T> as Type>⟧.accepts ≡ T.accepts_array }
     ensures written { IsWrittenAs (λ v. array_image T.hint T.image T.produced T.info v.items) ⟦<Vec<T> as Encode>⟧.hint ⟦<Vec<T> as Encode>⟧.image ⟦<Vec<T> as Encode>⟧.produced }
     ensures means { ⟦<Vec<T> as Decode>⟧.meaning ≡ (λ v. map T.meaning v.items) }
     ensures read { ⟦<Vec<T> as Decode>⟧.reading ≡ array T.info T.reading }
+    ensures unwritten { ⟦<Vec<T> as Encode>⟧.unwritable ≡ (λ v. array_refused T.hint T.image T.unwritable v.items) }
+    ensures refused { (⟦<Vec<T> as Decode>⟧.refusal ≡ array_refusal T.info T.reading T.refusal) × (⟦<Vec<T> as Decode>⟧.takes_memory ≡ array_takes) }
 {}
 
 /// A `[T; N]` has the type of `T`'s arrays, and is written and read as an array of `N` elements.
-pub fn sized_array_is_an_array<T: Codec + PgHasArrayType, const N: usize>()
+pub fn sized_array_is_an_array<T: Type + Encode + Decode + PgHasArrayType, const N: usize>()
     ensures types { ⟦<[T; N] as Type>⟧.info ≡ T.array_info }
     ensures accepts { ⟦<[T; N] as Type>⟧.accepts ≡ T.accepts_array }
     ensures written { IsWrittenAs (sized_image N T.hint T.image T.produced T.info) ⟦<[T; N] as Encode>⟧.hint ⟦<[T; N] as Encode>⟧.image ⟦<[T; N] as Encode>⟧.produced }
     ensures means { ⟦<[T; N] as Decode>⟧.meaning ≡ map T.meaning }
     ensures read { ⟦<[T; N] as Decode>⟧.reading ≡ array_of_length N T.info T.reading }
+    ensures unwritten { ⟦<[T; N] as Encode>⟧.unwritable ≡ array_refused T.hint T.image T.unwritable }
+    ensures refused { (⟦<[T; N] as Decode>⟧.refusal ≡ array_of_length_refusal T.info T.reading T.refusal) × (⟦<[T; N] as Decode>⟧.takes_memory ≡ array_takes) }
 {}
 
 /// A tuple is a record (OID 2249), and its arrays are `record[]` (2287). What it reads is
@@ -141,4 +162,28 @@ pub fn tuple_is_a_record<A, B, C, D, E, F, G, H, I>()
     ensures seven { IsBuiltIn 2249 ⟦<(A, B, C, D, E, F, G) as Type>⟧.info ⟦<(A, B, C, D, E, F, G) as Type>⟧.accepts × IsBuiltIn 2287 ⟦<(A, B, C, D, E, F, G) as PgHasArrayType>⟧.array_info ⟦<(A, B, C, D, E, F, G) as PgHasArrayType>⟧.accepts_array }
     ensures eight { IsBuiltIn 2249 ⟦<(A, B, C, D, E, F, G, H) as Type>⟧.info ⟦<(A, B, C, D, E, F, G, H) as Type>⟧.accepts × IsBuiltIn 2287 ⟦<(A, B, C, D, E, F, G, H) as PgHasArrayType>⟧.array_info ⟦<(A, B, C, D, E, F, G, H) as PgHasArrayType>⟧.accepts_array }
     ensures nine { IsBuiltIn 2249 ⟦<(A, B, C, D, E, F, G, H, I) as Type>⟧.info ⟦<(A, B, C, D, E, F, G, H, I) as Type>⟧.accepts × IsBuiltIn 2287 ⟦<(A, B, C, D, E, F, G, H, I) as PgHasArrayType>⟧.array_info ⟦<(A, B, C, D, E, F, G, H, I) as PgHasArrayType>⟧.accepts_array }
+{}
+
+/// A tuple is refused with what refuses the record, and else with what its first field that isn't read is refused with. Memory is asked
+/// for only where there is a record.
+pub fn tuple_is_refused_as_its_fields<
+    A: Type + Decode,
+    B: Type + Decode,
+    C: Type + Decode,
+    D: Type + Decode,
+    E: Type + Decode,
+    F: Type + Decode,
+    G: Type + Decode,
+    H: Type + Decode,
+    I: Type + Decode,
+>()
+    ensures one { (⟦<(A,) as Decode>⟧.refusal ≡ record_refusal (next_refusal A.accepts A.refusal)) × (⟦<(A,) as Decode>⟧.takes_memory ≡ record_takes) }
+    ensures two { (⟦<(A, B) as Decode>⟧.refusal ≡ record_refusal (field_then A.accepts A.reading A.refusal (next_refusal B.accepts B.refusal))) × (⟦<(A, B) as Decode>⟧.takes_memory ≡ record_takes) }
+    ensures three { (⟦<(A, B, C) as Decode>⟧.refusal ≡ record_refusal (field_then A.accepts A.reading A.refusal (field_then B.accepts B.reading B.refusal (next_refusal C.accepts C.refusal)))) × (⟦<(A, B, C) as Decode>⟧.takes_memory ≡ record_takes) }
+    ensures four { (⟦<(A, B, C, D) as Decode>⟧.refusal ≡ record_refusal (field_then A.accepts A.reading A.refusal (field_then B.accepts B.reading B.refusal (field_then C.accepts C.reading C.refusal (next_refusal D.accepts D.refusal))))) × (⟦<(A, B, C, D) as Decode>⟧.takes_memory ≡ record_takes) }
+    ensures five { (⟦<(A, B, C, D, E) as Decode>⟧.refusal ≡ record_refusal (field_then A.accepts A.reading A.refusal (field_then B.accepts B.reading B.refusal (field_then C.accepts C.reading C.refusal (field_then D.accepts D.reading D.refusal (next_refusal E.accepts E.refusal)))))) × (⟦<(A, B, C, D, E) as Decode>⟧.takes_memory ≡ record_takes) }
+    ensures six { (⟦<(A, B, C, D, E, F) as Decode>⟧.refusal ≡ record_refusal (field_then A.accepts A.reading A.refusal (field_then B.accepts B.reading B.refusal (field_then C.accepts C.reading C.refusal (field_then D.accepts D.reading D.refusal (field_then E.accepts E.reading E.refusal (next_refusal F.accepts F.refusal))))))) × (⟦<(A, B, C, D, E, F) as Decode>⟧.takes_memory ≡ record_takes) }
+    ensures seven { (⟦<(A, B, C, D, E, F, G) as Decode>⟧.refusal ≡ record_refusal (field_then A.accepts A.reading A.refusal (field_then B.accepts B.reading B.refusal (field_then C.accepts C.reading C.refusal (field_then D.accepts D.reading D.refusal (field_then E.accepts E.reading E.refusal (field_then F.accepts F.reading F.refusal (next_refusal G.accepts G.refusal)))))))) × (⟦<(A, B, C, D, E, F, G) as Decode>⟧.takes_memory ≡ record_takes) }
+    ensures eight { (⟦<(A, B, C, D, E, F, G, H) as Decode>⟧.refusal ≡ record_refusal (field_then A.accepts A.reading A.refusal (field_then B.accepts B.reading B.refusal (field_then C.accepts C.reading C.refusal (field_then D.accepts D.reading D.refusal (field_then E.accepts E.reading E.refusal (field_then F.accepts F.reading F.refusal (field_then G.accepts G.reading G.refusal (next_refusal H.accepts H.refusal))))))))) × (⟦<(A, B, C, D, E, F, G, H) as Decode>⟧.takes_memory ≡ record_takes) }
+    ensures nine { (⟦<(A, B, C, D, E, F, G, H, I) as Decode>⟧.refusal ≡ record_refusal (field_then A.accepts A.reading A.refusal (field_then B.accepts B.reading B.refusal (field_then C.accepts C.reading C.refusal (field_then D.accepts D.reading D.refusal (field_then E.accepts E.reading E.refusal (field_then F.accepts F.reading F.refusal (field_then G.accepts G.reading G.refusal (field_then H.accepts H.reading H.refusal (next_refusal I.accepts I.refusal)))))))))) × (⟦<(A, B, C, D, E, F, G, H, I) as Decode>⟧.takes_memory ≡ record_takes) }
 {}

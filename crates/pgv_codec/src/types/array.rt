@@ -1,14 +1,17 @@
 //! Arrays of one dimension (PostgreSQL, "Arrays").
 
-ghost use Rattle.std.specs.Prelude.{◌≡◌, ◌++◌, IfOk, IfErr, OnOk, OnErr, ◌*◌, ◌≤◌, length, map, Some, None, IfSome, IsErrOf};
+ghost use Rattle.std.specs.Prelude.{◌≡◌, ◌++◌, IfOk, IfErr, OnOk, OnErr, ◌*◌, ◌≤◌, false, length, map, Some, None, IfSome, is_some, IsErrOf};
 ghost use Rattle.pgv_text.specs.PartsView.{nest};
+ghost use Rattle.pgv_text.specs.Values.{array_values};
 ghost use Rattle.pgv_buf.specs.Tokens.{blank};
-ghost use Rattle.pgv_value.specs.Reading.{Answers};
+ghost use Rattle.pgv_value.specs.Reading.{Answers, AnswersExactly};
 ghost use Rattle.pgv_value.specs.declared.error.CodecError.TheVariants.{Memory, UnexpectedNull};
 ghost use Rattle.pgv_value.specs.declared.value.PgValueFormat.TheVariants.{Binary, Text};
 ghost use Rattle.pgv_nest.specs.ArrayGrammar.{array, array_in_text, array_of, each, frames};
 ghost use Rattle.pgv_codec.specs.Image.{array_image, or_else, header, written_frames, written_element_type};
 ghost use Rattle.pgv_codec.specs.Outcome.{Encoded, Refused, Appended, AppendedAll};
+ghost use Rattle.pgv_codec.specs.Refusing.{RefusedExactly, RefusedFor, array_refused, frames_refused};
+ghost use Rattle.pgv_nest.specs.NestRefusals.{array_bytes_refusal, array_refusal, array_takes, array_text_refusal, each_refusal, frames_refusal as frames_read_refusal, is_one_dimension};
 
 use super::part::read_part;
 use crate::buffer::{IsNull, LENGTH_LIMIT, PgArgumentBuffer};
@@ -27,6 +30,7 @@ pub fn encode_array<T: Encode + Type>(
 ) -> Result<IsNull, CodecError>
     ensures ok { IfOk result (λ n. Encoded n (array_image T.hint T.image T.produced T.info values.now) out.old out.new) }
     ensures err { IfErr result (λ e. Refused e (array_image T.hint T.image T.produced T.info values.now)) }
+    ensures refused { RefusedFor (array_refused T.hint T.image T.unwritable values.now) result }
     ensures appended { OnErr result (Appended out.old out.new) }
 {
     let count = values.len();
@@ -84,6 +88,7 @@ fn write_header(
 fn write_frames<T: Encode>(values: &[T], out: &mut PgArgumentBuffer) -> Result<(), CodecError>
     ensures ok { OnOk result (AppendedAll (written_frames T.hint T.image values.now) out.old out.new) }
     ensures err { IfErr result (λ e. Refused e (written_frames T.hint T.image values.now)) }
+    ensures refused { RefusedFor (frames_refused T.hint T.image T.unwritable values.now) result }
     ensures appended { OnErr result (Appended out.old out.new) }
 {
     for value in values {
@@ -112,8 +117,11 @@ impl<T: PgHasArrayType> Type for Vec<T> {
 /// `00000001 00000000 00000017 00000001 00000001 00000004 00000007`.
 impl<T: Encode + Type> Encode for Vec<T> {
     ghost use Rattle.pgv_codec.specs.Image.{array_image};
+    ghost use Rattle.pgv_codec.specs.Refusing.{array_refused};
 
     ghost image = { λ v. array_image T.hint T.image T.produced T.info v.items };
+
+    ghost unwritable = { λ v. array_refused T.hint T.image T.unwritable v.items };
 
     fn encode_by_ref(&self, out: &mut PgArgumentBuffer) -> Result<IsNull, CodecError> {
         encode_array(self.as_slice(), out)
@@ -146,8 +154,11 @@ impl<T: PgHasArrayType, const N: usize> Type for [T; N] {
 /// Written as the list of its elements is.
 impl<T: Encode + Type, const N: usize> Encode for [T; N] {
     ghost use Rattle.pgv_codec.specs.Image.{sized_image};
+    ghost use Rattle.pgv_codec.specs.Refusing.{array_refused};
 
     ghost image = { sized_image N T.hint T.image T.produced T.info };
+
+    ghost unwritable = { array_refused T.hint T.image T.unwritable };
 
     fn encode_by_ref(&self, out: &mut PgArgumentBuffer) -> Result<IsNull, CodecError> {
         encode_array(self.as_slice(), out)
@@ -174,6 +185,7 @@ impl<T: Encode + Type, const N: usize> Encode for [T; N] {
 impl<T: Decode + Type> Decode for Vec<T> {
     ghost use Rattle.std.specs.Prelude.{List, map};
     ghost use Rattle.pgv_nest.specs.ArrayGrammar.{array};
+    ghost use Rattle.pgv_nest.specs.NestRefusals.{array_refusal, array_takes};
     ghost use Rattle.pgv_codec.specs.Saying.{array_written};
 
     ghost Meaning = { List T.Meaning };
@@ -184,8 +196,15 @@ impl<T: Decode + Type> Decode for Vec<T> {
 
     ghost written = { array_written T.info T.written };
 
+    ghost takes_memory = { array_takes };
+
+    ghost refusal = { array_refusal T.info T.reading T.refusal };
+
     fn decode(alloc: Global, value: PgValueRef<'_>) -> Result<Vec<T>, CodecError>
         ensures exact { Answers (λ v. map T.meaning v.items) (array T.info T.reading value.entry.type_info value.entry.format value.entry.bytes) result }
+        ensures exactly { array_takes value.entry.type_info value.entry.format value.entry.bytes ≡ false → AnswersExactly (λ v. map T.meaning v.items) (array T.info T.reading value.entry.type_info value.entry.format value.entry.bytes) result }
+        ensures refused { RefusedFor (array_refusal T.info T.reading T.refusal value.entry.type_info value.entry.format value.entry.bytes) result }
+        ensures refused_exactly { array_takes value.entry.type_info value.entry.format value.entry.bytes ≡ false → RefusedExactly (array_refusal T.info T.reading T.refusal value.entry.type_info value.entry.format value.entry.bytes) result }
         ensures null { value.entry.bytes ≡ None → IsErrOf result UnexpectedNull }
         // In binary each element takes four bytes or more.
         ensures few { value.entry.format ≡ Binary → IfOk result (λ v. IfSome value.entry.bytes (λ bytes. 4 * length v.items ≤ length bytes)) }
@@ -201,6 +220,7 @@ impl<T: Decode + Type> Decode for Vec<T> {
 impl<T: Decode + Type, const N: usize> Decode for [T; N] {
     ghost use Rattle.std.specs.Prelude.{List, map};
     ghost use Rattle.pgv_nest.specs.ArrayGrammar.{array_of_length};
+    ghost use Rattle.pgv_nest.specs.NestRefusals.{array_of_length_refusal, array_takes};
     ghost use Rattle.pgv_codec.specs.Saying.{sized_written};
 
     ghost Meaning = { List T.Meaning };
@@ -210,6 +230,10 @@ impl<T: Decode + Type, const N: usize> Decode for [T; N] {
     ghost reading = { array_of_length N T.info T.reading };
 
     ghost written = { sized_written N T.info T.written };
+
+    ghost takes_memory = { array_takes };
+
+    ghost refusal = { array_of_length_refusal T.info T.reading T.refusal };
 
     fn decode(alloc: Global, value: PgValueRef<'_>) -> Result<[T; N], CodecError> {
         let items = Vec::<T>::decode(alloc, value)?;
@@ -240,6 +264,9 @@ fn read_array<T: Decode>(
     bytes: &[u8],
 ) -> Result<Vec<T>, CodecError>
     ensures exact { Answers (λ v. map T.meaning v.items) (array_of (λ u. T.reading u Binary) type_info.now bytes.now) result }
+    ensures exactly { is_one_dimension bytes.now ≡ false → AnswersExactly (λ v. map T.meaning v.items) (array_of (λ u. T.reading u Binary) type_info.now bytes.now) result }
+    ensures refused { RefusedFor (array_bytes_refusal (λ u. T.reading u Binary) (λ u. T.refusal u Binary) type_info.now bytes.now) result }
+    ensures refused_exactly { is_one_dimension bytes.now ≡ false → RefusedExactly (array_bytes_refusal (λ u. T.reading u Binary) (λ u. T.refusal u Binary) type_info.now bytes.now) result }
     ensures few { IfOk result (λ v. 4 * length v.items ≤ length bytes.now) }
 {
     match array_head_of(type_info, bytes)? {
@@ -256,6 +283,7 @@ fn read_frames<T: Decode>(
     bytes: &[u8],
 ) -> Result<Vec<T>, CodecError>
     ensures exact { Answers (λ v. map T.meaning v.items) (frames (T.reading element.now Binary) count bytes.now) result }
+    ensures refused { RefusedFor (frames_read_refusal (T.reading element.now Binary) (T.refusal element.now Binary) count bytes.now) result }
     ensures few { IfOk result (λ v. 4 * length v.items ≤ length bytes.now) }
 {
     let room = (count as usize).min(bytes.len() / 4);
@@ -270,7 +298,10 @@ fn read_frames<T: Decode>(
 
 /// An array in text.
 fn read_text<T: Decode + Type>(alloc: Global, text: &str) -> Result<Vec<T>, CodecError>
-    ensures { Answers (λ v. map T.meaning v.items) (array_in_text (T.reading T.info Text) text.now) result }
+    ensures exact { Answers (λ v. map T.meaning v.items) (array_in_text (T.reading T.info Text) text.now) result }
+    ensures exactly { is_some (array_values text.now) ≡ false → AnswersExactly (λ v. map T.meaning v.items) (array_in_text (T.reading T.info Text) text.now) result }
+    ensures refused { RefusedFor (array_text_refusal (T.reading T.info Text) (T.refusal T.info Text) text.now) result }
+    ensures refused_exactly { is_some (array_values text.now) ≡ false → RefusedExactly (array_text_refusal (T.reading T.info Text) (T.refusal T.info Text) text.now) result }
 {
     match Parts::new(TextForm::Array, text) {
         None => Err(CodecError::Syntax),
@@ -280,7 +311,8 @@ fn read_text<T: Decode + Type>(alloc: Global, text: &str) -> Result<Vec<T>, Code
 
 /// Parts, each read from one text under the own type of `T`.
 fn read_parts<T: Decode + Type>(alloc: Global, parts: Parts<'_>) -> Result<Vec<T>, CodecError>
-    ensures { Answers (λ v. map T.meaning v.items) (each (T.reading T.info Text) (nest parts.entry).values) result }
+    ensures exact { Answers (λ v. map T.meaning v.items) (each (T.reading T.info Text) (nest parts.entry).values) result }
+    ensures refused { RefusedFor (each_refusal (T.reading T.info Text) (T.refusal T.info Text) (nest parts.entry).values) result }
 {
     let mut parts = parts;
     let mut items = Vec::with_capacity(alloc, parts.len())?;

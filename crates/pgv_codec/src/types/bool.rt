@@ -51,7 +51,7 @@ impl Plain for bool {
 
     ghost written = { plainly bool_image };
 
-    ghost refusal = { Some bool_refusal };
+    ghost refusal = { bool_refusal };
 
     #[inline(always)]
     fn read(_alloc: Global, value: PgValueRef<'_>) -> Result<bool, CodecError> {

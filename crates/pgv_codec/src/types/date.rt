@@ -61,7 +61,7 @@ impl Plain for Date {
 
     ghost written = { with_hint (λ _. 4) date_image };
 
-    ghost refusal = { Some date_time_refusal };
+    ghost refusal = { date_time_refusal };
 
     fn read(_alloc: Global, value: PgValueRef<'_>) -> Result<Date, CodecError> {
         read_date(&value)

@@ -63,7 +63,7 @@ impl Plain for DateTime {
 
     ghost written = { with_hint (λ _. 8) moment_image };
 
-    ghost refusal = { Some date_time_refusal };
+    ghost refusal = { date_time_refusal };
 
     ghost kept = { date_time_kept };
 

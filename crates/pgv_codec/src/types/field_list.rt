@@ -1,10 +1,13 @@
 //! The fields of a record, read one after another into a list of values of any types.
 
-ghost use Rattle.std.specs.Prelude.{◌≡◌, Option, IfOk, IfErr, None, IsErrOf};
-ghost use Rattle.pgv_value.specs.Reading.{Answers, Refuses};
+ghost use Rattle.std.specs.Prelude.{◌≡◌, Option, IfOk, IfErr, None, IsErrOf, false};
+ghost use Rattle.pgv_value.specs.Reading.{Answers, AnswersExactly, Refuses};
+ghost use Rattle.pgv_value.specs.declared.error.CodecError.{CodecError as Error};
 ghost use Rattle.pgv_value.specs.declared.error.CodecError.TheVariants.{UnexpectedNull};
 ghost use Rattle.pgv_nest.specs.RecordGrammar.{Left};
 ghost use Rattle.pgv_nest.specs.TupleGrammar.{record_of};
+ghost use Rattle.pgv_nest.specs.NestRefusals.{record_refusal, record_takes};
+ghost use Rattle.pgv_codec.specs.Refusing.{RefusedExactly, RefusedFor};
 
 use super::record::PgRecordDecoder;
 use crate::traits::{Decode, Type};
@@ -23,14 +26,19 @@ pub trait FieldList: Sized + Drop {
     /// The fields that are read, and what is left after them.
     ghost step: { Left → Option (Meaning × Left) };
 
+    /// Which refusal is answered, out of memory aside: none where a field doesn't state it.
+    ghost why: { Left → Option Error };
+
     /// Reads the next fields. What a refusal leaves of the decoder is left open.
     fn read(fields: &mut PgRecordDecoder<'_>) -> Result<Self, CodecError>
         ensures ok { IfOk result (λ list. step fields.old ≡ Some (meaning list, fields.new)) }
-        ensures err { IfErr result (λ e. Refuses e (step fields.old ≡ None)) };
+        ensures err { IfErr result (λ e. Refuses e (step fields.old ≡ None)) }
+        ensures refused { RefusedFor (why fields.old) result };
 }
 
 /// The last field.
 impl<A: Type + Decode> FieldList for (A,) {
+    ghost use Rattle.pgv_nest.specs.NestRefusals.{next_refusal};
     ghost use Rattle.pgv_nest.specs.RecordGrammar.{next};
 
     ghost Meaning = { A.Meaning };
@@ -39,6 +47,8 @@ impl<A: Type + Decode> FieldList for (A,) {
 
     ghost step = { next A.accepts A.reading };
 
+    ghost why = { next_refusal A.accepts A.refusal };
+
     fn read(fields: &mut PgRecordDecoder<'_>) -> Result<(A,), CodecError> {
         Ok((fields.try_decode::<A>()?,))
     }
@@ -46,6 +56,7 @@ impl<A: Type + Decode> FieldList for (A,) {
 
 /// A field and the rest.
 impl<A: Type + Decode, Rest: FieldList> FieldList for (A, Rest) {
+    ghost use Rattle.pgv_nest.specs.NestRefusals.{field_then};
     ghost use Rattle.pgv_nest.specs.RecordGrammar.{next};
     ghost use Rattle.pgv_nest.specs.TupleGrammar.{◌then◌};
 
@@ -54,6 +65,8 @@ impl<A: Type + Decode, Rest: FieldList> FieldList for (A, Rest) {
     ghost meaning = { λ list. (A.meaning list.0, Rest.meaning list.1) };
 
     ghost step = { next A.accepts A.reading then Rest.step };
+
+    ghost why = { field_then A.accepts A.reading A.refusal Rest.why };
 
     fn read(fields: &mut PgRecordDecoder<'_>) -> Result<(A, Rest), CodecError> {
         let first = fields.try_decode::<A>()?;
@@ -68,6 +81,9 @@ pub fn first_fields<List: FieldList>(
     value: PgValueRef<'_>,
 ) -> Result<List, CodecError>
     ensures exact { Answers List.meaning (record_of List.step value.entry.type_info value.entry.format value.entry.bytes) result }
+    ensures exactly { record_takes value.entry.type_info value.entry.format value.entry.bytes ≡ false → AnswersExactly List.meaning (record_of List.step value.entry.type_info value.entry.format value.entry.bytes) result }
+    ensures refused { RefusedFor (record_refusal List.why value.entry.type_info value.entry.format value.entry.bytes) result }
+    ensures refused_exactly { record_takes value.entry.type_info value.entry.format value.entry.bytes ≡ false → RefusedExactly (record_refusal List.why value.entry.type_info value.entry.format value.entry.bytes) result }
     ensures null { value.entry.bytes ≡ None → IsErrOf result UnexpectedNull }
 {
     let mut fields = PgRecordDecoder::new(alloc, value)?;

@@ -79,7 +79,7 @@ impl Plain for i8 {
 
     ghost written = { plainly (signed_image w8) };
 
-    ghost refusal = { Some char_refusal };
+    ghost refusal = { char_refusal };
 
     #[inline(always)]
     fn read(_alloc: Global, value: PgValueRef<'_>) -> Result<i8, CodecError> {
@@ -131,7 +131,7 @@ impl Plain for i16 {
 
     ghost written = { plainly (signed_image w16) };
 
-    ghost refusal = { Some int_refusal };
+    ghost refusal = { int_refusal };
 
     #[inline(always)]
     fn read(_alloc: Global, value: PgValueRef<'_>) -> Result<i16, CodecError> {
@@ -181,7 +181,7 @@ impl Plain for i32 {
 
     ghost written = { plainly (signed_image w32) };
 
-    ghost refusal = { Some int_refusal };
+    ghost refusal = { int_refusal };
 
     #[inline(always)]
     fn read(_alloc: Global, value: PgValueRef<'_>) -> Result<i32, CodecError> {
@@ -231,7 +231,7 @@ impl Plain for i64 {
 
     ghost written = { plainly (signed_image w64) };
 
-    ghost refusal = { Some int_refusal };
+    ghost refusal = { int_refusal };
 
     #[inline(always)]
     fn read(_alloc: Global, value: PgValueRef<'_>) -> Result<i64, CodecError> {

@@ -75,7 +75,7 @@ impl Plain for PgInterval {
 
     ghost written = { with_hint (λ _. 16) interval_image };
 
-    ghost refusal = { Some interval_refusal };
+    ghost refusal = { interval_refusal };
 
     fn read(_alloc: Global, value: PgValueRef<'_>) -> Result<PgInterval, CodecError> {
         read_interval(&value)
@@ -105,7 +105,7 @@ impl Scalar for Duration {
 
     ghost form = { λ duration. duration_image (pos (as_nanos duration)) };
 
-    ghost formless = { Some (λ duration. duration_refused (pos (as_nanos duration))) };
+    ghost formless = { λ duration. Some (duration_refused (pos (as_nanos duration))) };
 
     const INFO: PgTypeInfo = PgTypeInfo(PgType::Interval);
 
@@ -137,7 +137,7 @@ impl Scalar for SignedDuration {
 
     ghost form = { λ duration. duration_image (signed_nanos duration) };
 
-    ghost formless = { Some (λ duration. duration_refused (signed_nanos duration)) };
+    ghost formless = { λ duration. Some (duration_refused (signed_nanos duration)) };
 
     const INFO: PgTypeInfo = PgTypeInfo(PgType::Interval);
 

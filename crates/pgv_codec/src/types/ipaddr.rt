@@ -92,7 +92,7 @@ impl Plain for IpAddr {
 
     ghost written = { with_hint address_hint address_image };
 
-    ghost refusal = { Some address_refusal };
+    ghost refusal = { address_refusal };
 
     fn read(_alloc: Global, value: PgValueRef<'_>) -> Result<IpAddr, CodecError> {
         read_ip_address(&value)

@@ -149,7 +149,7 @@ impl Plain for IpNetwork {
 
     ghost written = { with_hint network_hint network_image };
 
-    ghost refusal = { Some network_refusal };
+    ghost refusal = { network_refusal };
 
     #[inline(always)]
     fn read(_alloc: Global, value: PgValueRef<'_>) -> Result<IpNetwork, CodecError> {

@@ -53,7 +53,7 @@ impl Plain for Oid {
 
     ghost written = { plainly (unsigned_image w32) };
 
-    ghost refusal = { Some oid_refusal };
+    ghost refusal = { oid_refusal };
 
     #[inline(always)]
     fn read(_alloc: Global, value: PgValueRef<'_>) -> Result<Oid, CodecError> {

@@ -40,12 +40,15 @@ impl<T: PgHasArrayType> PgHasArrayType for Option<T> {
 /// `None` is written as null, the length `ffffffff` without bytes after it, and `Some` as its value.
 impl<T: Encode + Type> Encode for Option<T> {
     ghost use Rattle.pgv_codec.specs.Image.{option_image, option_hint, option_produced};
+    ghost use Rattle.pgv_codec.specs.Refusing.{option_unwritable};
 
     ghost image = { option_image T.image };
 
     ghost hint = { option_hint T.hint };
 
     ghost produced = { option_produced T.produced T.info };
+
+    ghost unwritable = { option_unwritable T.unwritable };
 
     #[inline(always)]
     fn encode_by_ref(&self, out: &mut PgArgumentBuffer) -> Result<IsNull, CodecError> {
@@ -76,6 +79,7 @@ impl<T: Encode + Type> Encode for Option<T> {
 impl<T: Decode> Decode for Option<T> {
     ghost use Rattle.std.specs.Prelude.{Option, option_map};
     ghost use Rattle.pgv_codec.specs.Nullable.{nullable};
+    ghost use Rattle.pgv_codec.specs.Refusing.{nullable_refusal, nullable_takes};
     ghost use Rattle.pgv_codec.specs.Saying.{option_written};
 
     ghost Meaning = { Option T.Meaning };
@@ -86,7 +90,9 @@ impl<T: Decode> Decode for Option<T> {
 
     ghost written = { option_written T.written };
 
-    ghost takes_memory = { T.takes_memory };
+    ghost takes_memory = { nullable_takes T.takes_memory };
+
+    ghost refusal = { nullable_refusal T.refusal };
 
     #[inline(always)]
     fn decode(alloc: Global, value: PgValueRef<'_>) -> Result<Option<T>, CodecError> {

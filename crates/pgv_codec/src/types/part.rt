@@ -3,6 +3,7 @@
 ghost use Rattle.std.specs.Prelude.{cond, Some, None};
 ghost use Rattle.pgv_value.specs.Reading.{Answers};
 ghost use Rattle.pgv_value.specs.declared.value.PgValueFormat.TheVariants.{Text};
+ghost use Rattle.pgv_codec.specs.Refusing.{RefusedFor};
 
 use crate::traits::Decode;
 use pgv_types::PgTypeInfo;
@@ -17,7 +18,8 @@ pub(crate) fn read_part<T: Decode>(
     present: bool,
     text: &str,
 ) -> Result<T, CodecError>
-    ensures { Answers T.meaning (T.reading type_info Text (cond present (Some text.now) None)) result }
+    ensures exact { Answers T.meaning (T.reading type_info Text (cond present (Some text.now) None)) result }
+    ensures refused { RefusedFor (T.refusal type_info Text (cond present (Some text.now) None)) result }
 {
     let bytes = if present { Some(text.as_bytes()) } else { None };
     T::decode(

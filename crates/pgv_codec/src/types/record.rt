@@ -3,12 +3,14 @@
 ghost use Rattle.std.specs.Prelude.{IfErr, OnOk, OnErr, ◌≡◌, ◌≢◌, ◌+◌, ◌<◌, length, None, IfOk, IsErrOf};
 ghost use Rattle.pgv_text.specs.PartsView.{nest};
 ghost use Rattle.pgv_text.specs.Values.{record_values};
-ghost use Rattle.pgv_value.specs.Reading.{Answers};
-ghost use Rattle.pgv_value.specs.declared.error.CodecError.TheVariants.{UnexpectedNull};
+ghost use Rattle.pgv_value.specs.Reading.{Answers, AnswersExactly};
+ghost use Rattle.pgv_value.specs.declared.error.CodecError.TheVariants.{UnexpectedNull, Syntax};
 ghost use Rattle.pgv_codec.specs.Image.{field};
 ghost use Rattle.pgv_codec.specs.FieldsLeftView.{left_of, IsInPlace};
 ghost use Rattle.pgv_codec.specs.Outcome.{Refused, Appended, AppendedAll};
 ghost use Rattle.pgv_codec.specs.Record.{IsOpen};
+ghost use Rattle.pgv_codec.specs.Refusing.{RefusedFor, frame_refused};
+ghost use Rattle.pgv_nest.specs.NestRefusals.{field_refusal, fields_refusal, next_refusal};
 ghost use Rattle.pgv_nest.specs.RecordGrammar.{field_in, fields_of, next, Takes};
 
 use super::part::read_part;
@@ -40,6 +42,7 @@ impl<'a> PgRecordEncoder<'a> {
     ghost use Rattle.pgv_codec.specs.Image.{field, counted_field};
     ghost use Rattle.pgv_codec.specs.Outcome.{Refused};
     ghost use Rattle.pgv_codec.specs.Record.{begun, so_far, AddsField};
+    ghost use Rattle.pgv_codec.specs.Refusing.{RefusedFor, field_refused};
     ghost use Rattle.pgv_codec.specs.WrittenView.{buffer, written};
 
     /// Begins a record after what the buffer has. C1 leaves the buffer as it was.
@@ -65,6 +68,7 @@ impl<'a> PgRecordEncoder<'a> {
         ensures same_reference { self.new.out.ghost_name ≡ self.old.out.ghost_name }
         ensures ok { OnOk result (AddsField (counted_field (written self.old).count (field T.hint T.image T.produced T.info value)) (written self.old) (written self.new)) }
         ensures err { IfErr result (λ e. Refused e (counted_field (written self.old).count (field T.hint T.image T.produced T.info value))) }
+        ensures refused { RefusedFor (field_refused T.hint T.image T.unwritable (written self.old).count value) result }
         ensures unchanged { OnErr result (written self.new ≡ written self.old) }
         ensures so_far { buffer self.new ≡ so_far (written self.new) }
     {
@@ -97,6 +101,7 @@ impl<'a> PgRecordEncoder<'a> {
 fn encode_field<T: Encode + Type>(out: &mut PgArgumentBuffer, value: &T) -> Result<(), CodecError>
     ensures ok { OnOk result (AppendedAll (field T.hint T.image T.produced T.info value.now) out.old out.new) }
     ensures err { IfErr result (λ e. Refused e (field T.hint T.image T.produced T.info value.now)) }
+    ensures refused { RefusedFor (frame_refused (T.hint value.now) (T.image value.now) (T.unwritable value.now)) result }
     ensures appended { OnErr result (Appended out.old out.new) }
 {
     let field_type = type_of_value(value)?;
@@ -153,7 +158,8 @@ impl<'r> PgRecordDecoder<'r> {
     /// The fields of a record. In binary the number of fields is passed over (C15 where it isn't there); a text is
     /// read whole (C14 where it is not UTF-8, C29 where it is no record text). Null is refused with C13, and nothing else is.
     pub fn new(alloc: Global, value: PgValueRef<'r>) -> Result<Self, CodecError>
-        ensures exact { Answers (λ d. d) (fields_of value.entry.type_info value.entry.format value.entry.bytes) result }
+        ensures exact { AnswersExactly (λ d. d) (fields_of value.entry.type_info value.entry.format value.entry.bytes) result }
+        ensures refused { IfErr result (λ e. e ≡ fields_refusal value.entry.type_info value.entry.format value.entry.bytes) }
         ensures null { value.entry.bytes ≡ None → IsErrOf result UnexpectedNull }
         ensures present { value.entry.bytes ≢ None → IfErr result (λ e. e ≢ UnexpectedNull) }
     {
@@ -178,7 +184,8 @@ impl<'r> PgRecordDecoder<'r> {
     /// built-in type's under `record` C28, a type that is no record C24, and a field's type that isn't compatible
     /// with `T` C27. In text a field is read without a type, and without a field left it is C25.
     pub fn try_decode<T: Type + Decode>(&mut self) -> Result<T, CodecError>
-        ensures { Takes T.meaning self.old self.new (next T.accepts T.reading self.old) result }
+        ensures exact { Takes T.meaning self.old self.new (next T.accepts T.reading self.old) result }
+        ensures refused { RefusedFor (next_refusal T.accepts T.refusal self.old) result }
     {
         match &mut self.left {
             FieldsLeft::Binary(fields) => {
@@ -212,8 +219,8 @@ impl<'r> PgRecordDecoder<'r> {
 
 /// The fields of a record text.
 fn text_fields_of(alloc: Global, text: &str) -> Result<TextFields<'_>, CodecError>
-    ensures exact { Answers (λ fields. (nest fields.parts).values) (record_values text.now) result }
-    ensures present { IfErr result (λ e. e ≢ UnexpectedNull) }
+    ensures exact { AnswersExactly (λ fields. (nest fields.parts).values) (record_values text.now) result }
+    ensures refused { IfErr result (λ e. e ≡ Syntax) }
 {
     match Parts::new(TextForm::Record, text) {
         None => Err(CodecError::Syntax),
@@ -233,6 +240,7 @@ fn read_field<'r, T: Type + Decode>(
     bytes: &'r [u8],
 ) -> Result<(T, &'r [u8]), CodecError>
     ensures exact { Answers (λ x. (T.meaning x.0, x.1.now)) (field_in T.accepts T.reading type_info.now place bytes.now) result }
+    ensures refused { RefusedFor (field_refusal T.accepts T.refusal type_info.now place bytes.now) result }
     ensures shorter { IfOk result (λ x. length x.1.now < length bytes.now) }
 {
     let (type_info, mut rest) = field_head_of(type_info, place, bytes)?;

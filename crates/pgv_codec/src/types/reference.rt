@@ -44,6 +44,8 @@ impl<T: Encode> Encode for &T {
 
     ghost produced = { λ r. T.produced r.now };
 
+    ghost unwritable = { λ r. T.unwritable r.now };
+
     fn encode_by_ref(&self, out: &mut PgArgumentBuffer) -> Result<IsNull, CodecError> {
         (**self).encode_by_ref(out)
     }

@@ -107,7 +107,7 @@ impl Encode for String {
 /// A text (PostgreSQL, "Character Types"), the same in either format: bytes that are UTF-8, else C14: `6869` is `hi`. Null is refused
 /// with C13.
 impl Plain for String {
-    ghost use Rattle.std.specs.Prelude.{ℕ, List, Some, true, refl};
+    ghost use Rattle.std.specs.Prelude.{ℕ, List, is_some, refl};
     ghost use Rattle.pgv_value.specs.Utf8.{text_refusal};
     ghost use Rattle.std.specs.String.{string_bytes};
     ghost use Rattle.pgv_value.specs.ScalarGrammar.{text_reading};
@@ -123,9 +123,9 @@ impl Plain for String {
 
     ghost written = { plainly text_image };
 
-    ghost takes_memory = { true };
+    ghost takes_memory = { λ t format bytes. is_some (text_reading t format bytes) };
 
-    ghost refusal = { Some text_refusal };
+    ghost refusal = { text_refusal };
 
     #[inline(always)]
     fn read(alloc: Global, value: PgValueRef<'_>) -> Result<String, CodecError> {

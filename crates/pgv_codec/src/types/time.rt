@@ -62,7 +62,7 @@ impl Plain for Time {
 
     ghost written = { with_hint (λ _. 8) time_image };
 
-    ghost refusal = { Some date_time_refusal };
+    ghost refusal = { date_time_refusal };
 
     ghost kept = { time_kept };
 

@@ -61,7 +61,7 @@ impl Plain for Timestamp {
 
     ghost written = { with_hint (λ _. 8) moment_image };
 
-    ghost refusal = { Some date_time_refusal };
+    ghost refusal = { date_time_refusal };
 
     ghost kept = { instant_kept };
 

@@ -26,6 +26,7 @@ fn records() -> PgTypeInfo
 
 /// The first field of a record. Further fields are ignored. `00000001 00000017 00000004 00000007` is `(7,)`, and so is the text `(7)`.
 impl<A: Type + Decode> Decode for (A,) {
+    ghost use Rattle.pgv_nest.specs.NestRefusals.{next_refusal, record_refusal, record_takes};
     ghost use Rattle.pgv_nest.specs.RecordGrammar.{next};
     ghost use Rattle.pgv_nest.specs.TupleGrammar.{record_of};
     ghost use Rattle.pgv_codec.specs.Saying.{unwritten};
@@ -37,6 +38,10 @@ impl<A: Type + Decode> Decode for (A,) {
     ghost reading = { record_of (next A.accepts A.reading) };
 
     ghost written = { unwritten };
+
+    ghost takes_memory = { record_takes };
+
+    ghost refusal = { record_refusal (next_refusal A.accepts A.refusal) };
 
     fn decode(alloc: Global, value: PgValueRef<'_>) -> Result<(A,), CodecError> {
         first_fields(alloc, value)
@@ -80,6 +85,7 @@ impl<A> PgHasArrayType for (A,) {
 /// The first two fields of a record. Further fields are ignored. `00000002 00000017 00000004 00000001 00000019 00000001 61` is `(1, "a")`,
 /// and so is the text `(1,a)`.
 impl<A: Type + Decode, B: Type + Decode> Decode for (A, B) {
+    ghost use Rattle.pgv_nest.specs.NestRefusals.{field_then, next_refusal, record_refusal, record_takes};
     ghost use Rattle.pgv_nest.specs.RecordGrammar.{next};
     ghost use Rattle.pgv_nest.specs.TupleGrammar.{record_of, ◌then◌};
     ghost use Rattle.pgv_codec.specs.Saying.{unwritten};
@@ -91,6 +97,10 @@ impl<A: Type + Decode, B: Type + Decode> Decode for (A, B) {
     ghost reading = { record_of (next A.accepts A.reading then next B.accepts B.reading) };
 
     ghost written = { unwritten };
+
+    ghost takes_memory = { record_takes };
+
+    ghost refusal = { record_refusal (field_then A.accepts A.reading A.refusal (next_refusal B.accepts B.refusal)) };
 
     fn decode(alloc: Global, value: PgValueRef<'_>) -> Result<(A, B), CodecError> {
         let (a, (b,)) = first_fields::<(A, (B,))>(alloc, value)?;
@@ -134,6 +144,7 @@ impl<A, B> PgHasArrayType for (A, B) {
 
 /// The first three fields of a record. Further fields are ignored.
 impl<A: Type + Decode, B: Type + Decode, C: Type + Decode> Decode for (A, B, C) {
+    ghost use Rattle.pgv_nest.specs.NestRefusals.{field_then, next_refusal, record_refusal, record_takes};
     ghost use Rattle.pgv_nest.specs.RecordGrammar.{next};
     ghost use Rattle.pgv_nest.specs.TupleGrammar.{record_of, ◌then◌};
     ghost use Rattle.pgv_codec.specs.Saying.{unwritten};
@@ -145,6 +156,10 @@ impl<A: Type + Decode, B: Type + Decode, C: Type + Decode> Decode for (A, B, C) 
     ghost reading = { record_of (next A.accepts A.reading then next B.accepts B.reading then next C.accepts C.reading) };
 
     ghost written = { unwritten };
+
+    ghost takes_memory = { record_takes };
+
+    ghost refusal = { record_refusal (field_then A.accepts A.reading A.refusal (field_then B.accepts B.reading B.refusal (next_refusal C.accepts C.refusal))) };
 
     fn decode(alloc: Global, value: PgValueRef<'_>) -> Result<(A, B, C), CodecError> {
         let (a, (b, (c,))) = first_fields::<(A, (B, (C,)))>(alloc, value)?;
@@ -189,6 +204,7 @@ impl<A, B, C> PgHasArrayType for (A, B, C) {
 /// The first four fields of a record. Further fields are ignored.
 impl<A: Type + Decode, B: Type + Decode, C: Type + Decode, D: Type + Decode> Decode
     for (A, B, C, D) {
+    ghost use Rattle.pgv_nest.specs.NestRefusals.{field_then, next_refusal, record_refusal, record_takes};
     ghost use Rattle.pgv_nest.specs.RecordGrammar.{next};
     ghost use Rattle.pgv_nest.specs.TupleGrammar.{record_of, ◌then◌};
     ghost use Rattle.pgv_codec.specs.Saying.{unwritten};
@@ -200,6 +216,10 @@ impl<A: Type + Decode, B: Type + Decode, C: Type + Decode, D: Type + Decode> Dec
     ghost reading = { record_of (next A.accepts A.reading then next B.accepts B.reading then next C.accepts C.reading then next D.accepts D.reading) };
 
     ghost written = { unwritten };
+
+    ghost takes_memory = { record_takes };
+
+    ghost refusal = { record_refusal (field_then A.accepts A.reading A.refusal (field_then B.accepts B.reading B.refusal (field_then C.accepts C.reading C.refusal (next_refusal D.accepts D.refusal)))) };
 
     fn decode(alloc: Global, value: PgValueRef<'_>) -> Result<(A, B, C, D), CodecError> {
         let (a, (b, (c, (d,)))) = first_fields::<(A, (B, (C, (D,))))>(alloc, value)?;
@@ -249,6 +269,7 @@ impl<
     D: Type + Decode,
     E: Type + Decode,
 > Decode for (A, B, C, D, E) {
+    ghost use Rattle.pgv_nest.specs.NestRefusals.{field_then, next_refusal, record_refusal, record_takes};
     ghost use Rattle.pgv_nest.specs.RecordGrammar.{next};
     ghost use Rattle.pgv_nest.specs.TupleGrammar.{record_of, ◌then◌};
     ghost use Rattle.pgv_codec.specs.Saying.{unwritten};
@@ -260,6 +281,10 @@ impl<
     ghost reading = { record_of (next A.accepts A.reading then next B.accepts B.reading then next C.accepts C.reading then next D.accepts D.reading then next E.accepts E.reading) };
 
     ghost written = { unwritten };
+
+    ghost takes_memory = { record_takes };
+
+    ghost refusal = { record_refusal (field_then A.accepts A.reading A.refusal (field_then B.accepts B.reading B.refusal (field_then C.accepts C.reading C.refusal (field_then D.accepts D.reading D.refusal (next_refusal E.accepts E.refusal))))) };
 
     fn decode(alloc: Global, value: PgValueRef<'_>) -> Result<(A, B, C, D, E), CodecError> {
         let (a, (b, (c, (d, (e,))))) = first_fields::<(A, (B, (C, (D, (E,)))))>(alloc, value)?;
@@ -310,6 +335,7 @@ impl<
     E: Type + Decode,
     F: Type + Decode,
 > Decode for (A, B, C, D, E, F) {
+    ghost use Rattle.pgv_nest.specs.NestRefusals.{field_then, next_refusal, record_refusal, record_takes};
     ghost use Rattle.pgv_nest.specs.RecordGrammar.{next};
     ghost use Rattle.pgv_nest.specs.TupleGrammar.{record_of, ◌then◌};
     ghost use Rattle.pgv_codec.specs.Saying.{unwritten};
@@ -321,6 +347,10 @@ impl<
     ghost reading = { record_of (next A.accepts A.reading then next B.accepts B.reading then next C.accepts C.reading then next D.accepts D.reading then next E.accepts E.reading then next F.accepts F.reading) };
 
     ghost written = { unwritten };
+
+    ghost takes_memory = { record_takes };
+
+    ghost refusal = { record_refusal (field_then A.accepts A.reading A.refusal (field_then B.accepts B.reading B.refusal (field_then C.accepts C.reading C.refusal (field_then D.accepts D.reading D.refusal (field_then E.accepts E.reading E.refusal (next_refusal F.accepts F.refusal)))))) };
 
     fn decode(alloc: Global, value: PgValueRef<'_>) -> Result<(A, B, C, D, E, F), CodecError> {
         let (a, (b, (c, (d, (e, (f,)))))) = first_fields::<(A, (B, (C, (D, (E, (F,))))))>(
@@ -374,6 +404,7 @@ impl<
     F: Type + Decode,
     G: Type + Decode,
 > Decode for (A, B, C, D, E, F, G) {
+    ghost use Rattle.pgv_nest.specs.NestRefusals.{field_then, next_refusal, record_refusal, record_takes};
     ghost use Rattle.pgv_nest.specs.RecordGrammar.{next};
     ghost use Rattle.pgv_nest.specs.TupleGrammar.{record_of, ◌then◌};
     ghost use Rattle.pgv_codec.specs.Saying.{unwritten};
@@ -385,6 +416,10 @@ impl<
     ghost reading = { record_of (next A.accepts A.reading then next B.accepts B.reading then next C.accepts C.reading then next D.accepts D.reading then next E.accepts E.reading then next F.accepts F.reading then next G.accepts G.reading) };
 
     ghost written = { unwritten };
+
+    ghost takes_memory = { record_takes };
+
+    ghost refusal = { record_refusal (field_then A.accepts A.reading A.refusal (field_then B.accepts B.reading B.refusal (field_then C.accepts C.reading C.refusal (field_then D.accepts D.reading D.refusal (field_then E.accepts E.reading E.refusal (field_then F.accepts F.reading F.refusal (next_refusal G.accepts G.refusal))))))) };
 
     fn decode(alloc: Global, value: PgValueRef<'_>) -> Result<(A, B, C, D, E, F, G), CodecError> {
         let (a, (b, (c, (d, (e, (f, (g,))))))) = first_fields::<(A, (B, (C, (D, (E, (F, (G,)))))))>(
@@ -439,6 +474,7 @@ impl<
     G: Type + Decode,
     H: Type + Decode,
 > Decode for (A, B, C, D, E, F, G, H) {
+    ghost use Rattle.pgv_nest.specs.NestRefusals.{field_then, next_refusal, record_refusal, record_takes};
     ghost use Rattle.pgv_nest.specs.RecordGrammar.{next};
     ghost use Rattle.pgv_nest.specs.TupleGrammar.{record_of, ◌then◌};
     ghost use Rattle.pgv_codec.specs.Saying.{unwritten};
@@ -450,6 +486,10 @@ impl<
     ghost reading = { record_of (next A.accepts A.reading then next B.accepts B.reading then next C.accepts C.reading then next D.accepts D.reading then next E.accepts E.reading then next F.accepts F.reading then next G.accepts G.reading then next H.accepts H.reading) };
 
     ghost written = { unwritten };
+
+    ghost takes_memory = { record_takes };
+
+    ghost refusal = { record_refusal (field_then A.accepts A.reading A.refusal (field_then B.accepts B.reading B.refusal (field_then C.accepts C.reading C.refusal (field_then D.accepts D.reading D.refusal (field_then E.accepts E.reading E.refusal (field_then F.accepts F.reading F.refusal (field_then G.accepts G.reading G.refusal (next_refusal H.accepts H.refusal)))))))) };
 
     fn decode(
         alloc: Global,
@@ -508,6 +548,7 @@ impl<
     H: Type + Decode,
     I: Type + Decode,
 > Decode for (A, B, C, D, E, F, G, H, I) {
+    ghost use Rattle.pgv_nest.specs.NestRefusals.{field_then, next_refusal, record_refusal, record_takes};
     ghost use Rattle.pgv_nest.specs.RecordGrammar.{next};
     ghost use Rattle.pgv_nest.specs.TupleGrammar.{record_of, ◌then◌};
     ghost use Rattle.pgv_codec.specs.Saying.{unwritten};
@@ -519,6 +560,10 @@ impl<
     ghost reading = { record_of (next A.accepts A.reading then next B.accepts B.reading then next C.accepts C.reading then next D.accepts D.reading then next E.accepts E.reading then next F.accepts F.reading then next G.accepts G.reading then next H.accepts H.reading then next I.accepts I.reading) };
 
     ghost written = { unwritten };
+
+    ghost takes_memory = { record_takes };
+
+    ghost refusal = { record_refusal (field_then A.accepts A.reading A.refusal (field_then B.accepts B.reading B.refusal (field_then C.accepts C.reading C.refusal (field_then D.accepts D.reading D.refusal (field_then E.accepts E.reading E.refusal (field_then F.accepts F.reading F.refusal (field_then G.accepts G.reading G.refusal (field_then H.accepts H.reading H.refusal (next_refusal I.accepts I.refusal))))))))) };
 
     fn decode(
         alloc: Global,

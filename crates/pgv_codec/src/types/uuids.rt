@@ -54,7 +54,7 @@ impl Plain for Uuid {
 
     ghost written = { plainly uuid_image };
 
-    ghost refusal = { Some uuid_refusal };
+    ghost refusal = { uuid_refusal };
 
     #[inline(always)]
     fn read(_alloc: Global, value: PgValueRef<'_>) -> Result<Uuid, CodecError> {

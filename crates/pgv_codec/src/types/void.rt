@@ -38,7 +38,7 @@ impl Decode for () {
 
     ghost written = { unwritten };
 
-    ghost takes_memory = { false };
+    ghost takes_memory = { λ _ _ _. false };
 
     fn decode(_alloc: Global, value: PgValueRef<'_>) -> Result<(), CodecError> {
         Ok(())

@@ -2,6 +2,9 @@ use Rattle.std.proofs.Common.{◌≡◌, ◌-◌, ◌++◌, [], refl, sym, ◌�
 use Rattle.pgv_buf.specs.Tokens.{bytes, be4, blank, fixed_bytes, tokens_width}
 use Rattle.pgv_buf.specs.Marks.{mark_of}
 use Rattle.pgv_codec.proofs.Frames.{null_frame, image_frame, long_frame, encoded_null, encoded_image, grown}
+use Rattle.pgv_codec.proofs.Refusing.{long_refused, stated_by}
+use Rattle.pgv_codec.specs.Refusing.{frame_refused}
+use Rattle.pgv_value.specs.declared.error.CodecError.TheVariants.{ValueSize}
 use Rattle.pgv_codec.proofs.buffer.PgArgumentBuffer.encode.Goals as goal
 
 pub put_u32-requires : goal.put_u32-requires
@@ -42,3 +45,11 @@ returns-else-size-gt-LENGTH_LIMIT-clause-ok g c =
       image_frame (g.T.Encode.hint c.args.value.now) (g.T.Encode.image c.args.value.now) h.0 (omega (arith, c.size_hint-hint.ensures, c.if-hint-gt-LENGTH_LIMIT.false)) h.1 (omega (arith, s, c.if-size-gt-LENGTH_LIMIT.false)),
       e ∙ (ap (λ n. c.args.self.now ++ fixed_bytes (be4 n) ++ blank h.0) s ∙ append_assoc c.args.self.now (fixed_bytes (be4 (tokens_width h.0))) (blank h.0)),
     )
+
+pub returns-then-size-gt-LENGTH_LIMIT-clause-refused : goal.returns-then-size-gt-LENGTH_LIMIT-clause-refused
+returns-then-size-gt-LENGTH_LIMIT-clause-refused g c =
+    let h = encoded_image c.push_u32.new.self c.encode_by_ref.new.out c.in-No.is c.in_ok-encode_by_ref.ensures.ok in
+    let s : c.len.result - c.len-start.result ≡ tokens_width h.0 = omega (arith, c.len.ensures, c.len-start.ensures, grown c.push_u32.new.self c.encode_by_ref.new.out h.0 h.2) in
+    stated_by (frame_refused (g.T.Encode.hint c.args.value.now) (g.T.Encode.image c.args.value.now) (g.T.Encode.unwritable c.args.value.now)) (ValueSize (tokens_width h.0)) (ValueSize (c.len.result - c.len-start.result))
+    (long_refused (g.T.Encode.hint c.args.value.now) (g.T.Encode.image c.args.value.now) (g.T.Encode.unwritable c.args.value.now) h.0 (omega (arith, c.size_hint-hint.ensures, c.if-hint-gt-LENGTH_LIMIT.false)) h.1)
+    (ap ValueSize s)

@@ -3,6 +3,8 @@ use Rattle.pgv_buf.specs.Tokens.{be4, blank}
 use Rattle.pgv_codec.specs.Record.{writing_at}
 use Rattle.pgv_codec.specs.Image.{field}
 use Rattle.pgv_codec.proofs.Records.{parts, counted, open_by, writing_is, field_there, field_too_many}
+use Rattle.pgv_codec.specs.Refusing.{frame_refused}
+use Rattle.pgv_codec.proofs.Refusing.{field_unwritten, fields_full}
 use Rattle.pgv_codec.proofs.types.record.PgRecordEncoder.encode.Goals as goal
 
 pub returns-then-self-clause-err : goal.returns-then-self-clause-err
@@ -37,3 +39,13 @@ returns-clause-ok g c =
       writing_is s.mark (s.count + 1) c.put_u32.new.self w.before (w.fields ++ a.0) s.«open».0
           (counted (s.count + 1) w.before c.put_u32.new.self (w.fields ++ a.0) (c.put_u32.ensures w.before (be4 s.count) (blank (w.fields ++ a.0)) (parts s.mark s.count s.out.now c.encode_field.new.out a.0 s.«open» a.2) refl s.«open».0)),
     )
+
+pub returns-then-self-clause-refused : goal.returns-then-self-clause-refused
+unfolding writing_at
+returns-then-self-clause-refused g c =
+    fields_full c.args.self.now.count (frame_refused (g.T.Encode.hint c.args.value) (g.T.Encode.image c.args.value) (g.T.Encode.unwritable c.args.value)) c.if-self.true
+
+pub returns-in-Err-clause-refused : goal.returns-in-Err-clause-refused
+unfolding writing_at
+returns-in-Err-clause-refused g c =
+    field_unwritten c.args.self.now.count (frame_refused (g.T.Encode.hint c.args.value) (g.T.Encode.image c.args.value) (g.T.Encode.unwritable c.args.value)) c.in-Err.error c.if-self.false c.in-Err.ensures.refused
