@@ -13,10 +13,13 @@ use Rattle.std.specs.declared.cmp.Ordering.TheVariants.{Less}
 use Rattle.std.specs.declared.string.String.{String}
 use Rattle.pgv_buf.specs.Tokens.{Token, Cell, bytes, be4, blank}
 use Rattle.pgv_value.specs.declared.error.CodecError.{CodecError}
+use Rattle.pgv_codec.proofs.Refusing.{out_of_memory}
 use Rattle.pgv_codec.specs.Outcome.{AppendedAll, Refused}
+use Rattle.pgv_codec.specs.Refusing.{RefusedBy}
 use Rattle.pgv_codec.specs.Image.{image_of}
 use Rattle.pgv_codec.specs.PlainBytes.{appended_parts}
-use Rattle.pgv_hstore.specs.Hstore.{Pair, pair_of, order, part_form, pair_form, hstore_form, part_fits, pair_fits, part_written, pair_written, pairs_written, hstore_image}
+use Rattle.pgv_hstore.specs.Hstore.{Pair, pair_of, order, part_form, pair_form, hstore_form, part_fits, pair_fits, part_written, pair_refused, pair_written, pairs_refused, pairs_written, hstore_image}
+use Rattle.pgv_hstore.specs.HstoreBack.{both}
 
 -- what is there where a test holds
 guarded : {A : Type 0} (b : Bool) (x y : A) → cond b (Some x) None ≡ Some y → (b ≡ true) × (x ≡ y)
@@ -75,9 +78,9 @@ none_where ps p qs none = rw (list_all-append pair_fits ps (p ∷ qs)) (by (pair
 pub next_pair : (all so_far : List Pair) (left more : List Pair) (p : Pair) → all ≡ so_far ++ left → left ≡ p ∷ more → all ≡ (so_far ++ p ∷ []) ++ more
 next_pair all so_far left more p e f = e ∙ ap (λ (ps : List Pair). so_far ++ ps) f ∙ sym (append_assoc so_far (p ∷ []) more)
 
-pub pair_refused : (all so_far left more : List Pair) (p : Pair) (error : CodecError) → all ≡ so_far ++ left → left ≡ p ∷ more → Refused error (pair_written p) → Refused error (pairs_written all)
-pair_refused all so_far left more p error e f (inl none) = inl (ap pairs_written (e ∙ ap (λ (ps : List Pair). so_far ++ ps) f) ∙ none_where so_far p more none)
-pair_refused all so_far left more p error e f (inr memory) = inr memory
+pub pair_unwritten : (all so_far left more : List Pair) (p : Pair) (error : CodecError) → all ≡ so_far ++ left → left ≡ p ∷ more → Refused error (pair_written p) → Refused error (pairs_written all)
+pair_unwritten all so_far left more p error e f (inl none) = inl (ap pairs_written (e ∙ ap (λ (ps : List Pair). so_far ++ ps) f) ∙ none_where so_far p more none)
+pair_unwritten all so_far left more p error e f (inr memory) = inr memory
 
 pub all_pairs : (all so_far left : List Pair) (start now : List Cell) → all ≡ so_far ++ left → left ≡ [] → AppendedAll (pairs_written so_far) start now → AppendedAll (pairs_written all) start now
 all_pairs all so_far left start now e f written =
@@ -109,3 +112,23 @@ map_appended es start mid now ordered le first written =
       rw (sorted_pairs es ordered, few (length ps) (subst (λ (n : ℕ). n ≤ 2147483647) (sym count) le), g.0) refl,
       appended_parts start mid now (be4 (length ps)) (flat_map pair_form ps) (first ∙ ap (λ (n : ℕ). start ++ blank (bytes (be4 n))) (sym count)) (written.2 ∙ ap (λ (ts : List Token). mid ++ blank ts) (sym g.1)),
     )
+
+-- ---- which of them is too long
+
+-- the first pair that can't be written refuses them all
+refused_from : (so_far : List Pair) (p : Pair) (more : List Pair) → list_all pair_fits so_far ≡ true → pair_written p ≡ None → pairs_refused (so_far ++ p ∷ more) ≡ pair_refused p
+refused_from [] p more fits none = by (pair_fits p) refl none
+  where
+    by : (b : Bool) → pair_fits p ≡ b → cond b (Some (bytes (pair_form p))) None ≡ None → cond (pair_fits p) (pairs_refused more) (pair_refused p) ≡ pair_refused p
+    by true is e = absurd (cc)
+    by false is e = rw is refl
+refused_from (q ∷ so_far) p more fits none =
+    let all = both (pair_fits q) (list_all pair_fits so_far) fits in
+    rw all.0 (refused_from so_far p more all.1 none)
+
+pub pairs_unwritten : (all so_far left more : List Pair) (p : Pair) (e : CodecError) (start now : List Cell) → all ≡ so_far ++ left → left ≡ p ∷ more →
+    AppendedAll (pairs_written so_far) start now → Refused e (pair_written p) → RefusedBy (pair_refused p) e → RefusedBy (pairs_refused all) e
+pairs_unwritten all so_far left more p e start now is are there (inl none) r =
+    let fits = guarded (list_all pair_fits so_far) (bytes (flat_map pair_form so_far)) there.0 there.1 in
+    rw (is, are, refused_from so_far p more fits.0 none) r
+pairs_unwritten all so_far left more p e start now is are there (inr m) r = out_of_memory (pairs_refused all) e m

@@ -10,6 +10,7 @@ use Rattle.std.specs.declared.cmp.Ordering.{Ordering}
 use Rattle.std.specs.declared.alloc.Global.{Global}
 use Rattle.std.specs.declared.string.String.{String}
 use Rattle.std.specs.Cmp.Lexicographic.{slice_cmp}
+use Rattle.std.specs.Int.{w64, cast_signed}
 use Rattle.std.specs.FinMap.{is_sorted, put}
 use Rattle.std.specs.List.{flat_map, list_all}
 use Rattle.std.specs.Ordering.{nat_cmp}
@@ -20,6 +21,8 @@ use Rattle.pgv_value.specs.Reading.{Reading}
 use Rattle.pgv_value.specs.ScalarGrammar.{binary_alone}
 use Rattle.pgv_value.specs.Steps.{◌>>=◌, number}
 use Rattle.pgv_value.specs.Utf8.{is_utf8}
+use Rattle.pgv_value.specs.declared.error.CodecError.{CodecError}
+use Rattle.pgv_value.specs.declared.error.CodecError.TheVariants.{HstoreLength}
 use Rattle.pgv_hstore.specs.declared.hstore.PgHstore.{PgHstore}
 
 -- a key, and a value or null
@@ -79,6 +82,24 @@ pairs_written ps = if list_all pair_fits ps then Some (bytes (flat_map pair_form
 -- pairs in the order of their keys, where all lengths have room; a list of another order is no map
 abbrev pub hstore_image : List Pair → Option Image
 hstore_image ps = if is_sorted order ps && (nat_le (length ps) limit && list_all pair_fits ps) then Some (image_of (bytes (hstore_form ps))) else None
+
+-- which of them is too long (C9): the first key or value, or the map
+abbrev pub too_long : List ℕ → CodecError
+too_long part = HstoreLength (cast_signed w64 (length part))
+
+abbrev pub value_refused : Part → Option CodecError
+value_refused None = None
+value_refused (Some part) = if nat_le (length part) limit then None else Some (too_long part)
+
+abbrev pub pair_refused : Pair → Option CodecError
+pair_refused p = if nat_le (length p.0) limit then value_refused p.1 else Some (too_long p.0)
+
+abbrev pub pairs_refused : List Pair → Option CodecError
+pairs_refused [] = None
+pairs_refused (p ∷ ps) = if pair_fits p then pairs_refused ps else pair_refused p
+
+abbrev pub hstore_refused : List Pair → Option CodecError
+hstore_refused ps = if nat_le (length ps) limit then pairs_refused ps else Some (HstoreLength (cast_signed w64 (length ps)))
 
 -- ---- read
 

@@ -2,7 +2,7 @@
 -- or value that can't be read gives the reason.
 -- Fewer than four bytes are C15, and a negative number of pairs C9. Else the first key or value that doesn't stand there says
 -- why: its frame ends too early (C15) or has a negative length (C16), a key is null (C35), or a text isn't UTF-8 (C14).
-use Rattle.std.specs.Prelude.{ℕ, zero, suc, nat_lt, if◌then◌else◌, List, Option, Some, None}
+use Rattle.std.specs.Prelude.{ℕ, zero, suc, nat_lt, Bool, false, if◌then◌else◌, List, Option, Some, None, is_some}
 use Rattle.std.specs.Int.{w32, cast_signed}
 use Rattle.pgv_codec.specs.Image.{limit}
 use Rattle.pgv_value.specs.FrameBinary.{Part, front, frame_fault}
@@ -11,12 +11,10 @@ use Rattle.pgv_value.specs.Steps.{number}
 use Rattle.pgv_value.specs.declared.error.CodecError.{CodecError}
 use Rattle.pgv_value.specs.declared.error.CodecError.TheVariants.{Utf8, Short, HstoreLength, HstoreNullKey}
 use Rattle.pgv_value.specs.declared.value.PgValueFormat.{PgValueFormat}
+use Rattle.pgv_value.specs.declared.value.PgValueFormat.TheVariants.{Text, Binary}
+use Rattle.pgv_types.specs.Ty.{Ty}
+use Rattle.pgv_nest.specs.NestRefusals.{refusal_or}
 use Rattle.pgv_hstore.specs.Hstore.{key_front, value_front}
-
--- the reason that is given where nothing was read, else the reason of what comes after
-abbrev pub refusal_or : {A : Type 0} → CodecError → Option A → (A → CodecError) → CodecError
-refusal_or reason None after = reason
-refusal_or reason (Some read) after = after read
 
 -- a frame that is no key: null is C35, and bytes that aren't UTF-8 are C14
 abbrev pub key_refusal_of : Part × List ℕ → CodecError
@@ -44,3 +42,16 @@ hstore_binary_refusal form =
 
 abbrev pub hstore_refusal : PgValueFormat → Option (List ℕ) → CodecError
 hstore_refusal = refusal_alone hstore_binary_refusal
+
+-- Where memory is asked for: after the first key was there.
+abbrev pub pairs_take : ℕ → List ℕ → Bool
+pairs_take zero form = false
+pairs_take (suc n) form = is_some (key_front form)
+
+abbrev pub hstore_binary_takes : List ℕ → Bool
+hstore_binary_takes form = refusal_or false (number form) (λ count. if nat_lt limit count.0 then false else pairs_take count.0 count.1)
+
+abbrev pub hstore_takes : Ty → PgValueFormat → Option (List ℕ) → Bool
+hstore_takes t f None = false
+hstore_takes t Text (Some bytes) = false
+hstore_takes t Binary (Some bytes) = hstore_binary_takes bytes

@@ -15,7 +15,7 @@ use std::collections::{BTreeMap, btree_map};
 /// A map from keys to values that may be null.
 ///
 /// Contracts see it as its pairs in the order of the keys' bytes, each text as its bytes.
-#[derive(Drop, PartialEq, Eq)]
+#[derive(Debug, Drop, PartialEq, Eq)]
 pub struct PgHstore(pub BTreeMap<String, Option<String>>);
 
 impl PgHstore {

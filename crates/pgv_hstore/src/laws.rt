@@ -3,12 +3,15 @@
 ghost use Rattle.std.specs.Prelude.{◌≡◌, codes, List};
 ghost use Rattle.pgv_types.specs.Ty.{array_of, named, Ty};
 ghost use Rattle.pgv_types.specs.Relations.{softly};
-ghost use Rattle.pgv_codec.specs.TypeRow.{IsWrittenAs};
-ghost use Rattle.pgv_hstore.specs.Hstore.{hstore_image, hstore_reading, pairs_of};
+ghost use Rattle.std.specs.Iterator.{AlwaysYields};
+ghost use Rattle.pgv_codec.specs.TypeRow.{IsRefusedAs, IsWrittenAs};
+ghost use Rattle.pgv_hstore.specs.Hstore.{hstore_image, hstore_reading, hstore_refused, pairs_of};
+ghost use Rattle.pgv_hstore.specs.HstoreRefusal.{hstore_refusal, hstore_takes};
 ghost use Rattle.pgv_hstore.specs.Laws.{HstoreIsRead, HstoresAreEqual, OneHstore};
 ghost use Rattle.pgv_types.specs.declared.oid.Oid.{Oid};
 
 use pgv_codec::{Decode, Encode, PgHasArrayType, ReadBack, Type};
+use std::collections::btree_map;
 
 /// A `PgHstore` is an hstore, by its name, its pairs in the order of the keys. Its arrays are arrays of the type of this name.
 pub fn hstore_is_an_hstore()
@@ -19,6 +22,9 @@ pub fn hstore_is_an_hstore()
     ensures written { IsWrittenAs (λ h. hstore_image (pairs_of h)) ⟦<crate::PgHstore as Encode>⟧.hint ⟦<crate::PgHstore as Encode>⟧.image ⟦<crate::PgHstore as Encode>⟧.produced }
     ensures means { ⟦<crate::PgHstore as Decode>⟧.meaning ≡ pairs_of }
     ensures read { ⟦<crate::PgHstore as Decode>⟧.reading ≡ hstore_reading }
+    ensures unwritten { ⟦<crate::PgHstore as Encode>⟧.unwritable ≡ (λ h. hstore_refused (pairs_of h)) }
+    ensures refused { IsRefusedAs hstore_refusal ⟦<crate::PgHstore as Decode>⟧.refusal }
+    ensures takes_memory { ⟦<crate::PgHstore as Decode>⟧.takes_memory ≡ hstore_takes }
 {}
 
 /// Bytes are the form of a map exactly where it is read of them.
@@ -33,7 +39,13 @@ pub fn one_hstore()
 
 /// Maps are equal exactly where they have the same pairs, and so they are written alike.
 pub fn equal_hstores()
-    ensures { HstoresAreEqual ⟦<crate::PgHstore as PartialEq>⟧.eq }
+    ensures equal { HstoresAreEqual ⟦<crate::PgHstore as PartialEq>⟧.eq }
+    ensures written_alike { (a b : _) → pairs_of a ≡ pairs_of b → ⟦<crate::PgHstore as Encode>⟧.image a ≡ ⟦<crate::PgHstore as Encode>⟧.image b }
+{}
+
+/// The iterator of a map gives its pairs in the order of the keys, and ends then.
+pub fn hstore_gives_its_pairs()
+    ensures { (h : _) (pairs : _) → ⟦<crate::PgHstore as IntoIterator>⟧.into_iter_gives h pairs → AlwaysYields ⟦<btree_map::IntoIter<String, Option<String>> as Iterator>⟧.next_gives (λ pair. pair) pairs h.0.entries }
 {}
 
 /// A map comes back under every type.

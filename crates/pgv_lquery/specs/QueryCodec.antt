@@ -1,7 +1,7 @@
 -- What queries are written as and read of (PostgreSQL: appendix F, "ltree"; lquery_send, lquery_recv): the version 1 in one
 -- byte, and then the printed text. In text they are read of their text alone. In binary the text is UTF-8. There is no image
 -- where a label in the query is none.
-use Rattle.std.specs.Prelude.{ℕ, ◌==◌, codes, if◌then◌else◌, List, [], ◌∷◌, Option, Some, None, Result, Ok, Err}
+use Rattle.std.specs.Prelude.{ℕ, Bool, false, ◌==◌, codes, if◌then◌else◌, List, [], ◌∷◌, Option, Some, None, is_some, Result, Ok, Err}
 use Rattle.std.specs.Option.{option_and_then}
 use Rattle.std.specs.Result.{result_ok}
 use Rattle.pgv_types.specs.Ty.{Ty, named}
@@ -14,6 +14,8 @@ use Rattle.pgv_value.specs.declared.error.CodecError.TheVariants.{Short, Utf8, L
 use Rattle.pgv_value.specs.declared.tree_error.PgLQueryParseError.{PgLQueryParseError}
 use Rattle.pgv_value.specs.declared.tree_error.PgLQueryParseError.TheVariants.{EmptyString, InvalidLqueryVersion}
 use Rattle.pgv_value.specs.declared.value.PgValueFormat.{PgValueFormat}
+use Rattle.pgv_value.specs.declared.value.PgValueFormat.TheVariants.{Text, Binary}
+use Rattle.pgv_value.specs.Utf8.{is_utf8}
 use Rattle.pgv_ltree.specs.TreesCodec.{versioned}
 use Rattle.pgv_lquery.specs.Queries.{Level, is_query}
 use Rattle.pgv_lquery.specs.QueryPrinted.{printed_query}
@@ -59,3 +61,9 @@ query_binary_refusal form = fault_after_version form (versioned form)
 
 abbrev pub query_refusal : PgValueFormat → Option (List ℕ) → CodecError
 query_refusal = refusal query_binary_refusal (λ text. query_fault (query_read text))
+
+-- Where memory is asked for: of a text.
+abbrev pub query_takes : Ty → PgValueFormat → Option (List ℕ) → Bool
+query_takes t f None = false
+query_takes t Text (Some text) = is_utf8 text
+query_takes t Binary (Some form) = is_some (versioned form)

@@ -6,11 +6,12 @@ ghost use Rattle.std.specs.Iterator.{AlwaysYields};
 ghost use Rattle.pgv_types.specs.Ty.{Ty};
 ghost use Rattle.pgv_types.specs.Relations.{softly};
 ghost use Rattle.pgv_types.specs.declared.oid.Oid.{Oid};
+ghost use Rattle.pgv_codec.specs.TypeRow.{IsRefusedAs};
 ghost use Rattle.pgv_lquery.specs.Laws.{LevelIsRead, OneLevel, OneQuery, OneVariant, PrintedQueryIsRead, QueryIsRead, ReadQueryIsReadAgain, VariantIsRead};
 ghost use Rattle.pgv_lquery.specs.LevelView.{level_of};
 ghost use Rattle.pgv_lquery.specs.Queries.{Level};
 ghost use Rattle.pgv_lquery.specs.QueryBack.{query_fits};
-ghost use Rattle.pgv_lquery.specs.QueryCodec.{lquery, lquery_array, query_image, query_reading};
+ghost use Rattle.pgv_lquery.specs.QueryCodec.{lquery, lquery_array, query_image, query_reading, query_refusal, query_takes};
 
 use pgv_codec::{Decode, Encode, PgHasArrayType, ReadBack, Type};
 
@@ -26,6 +27,8 @@ pub fn lquery_is_an_lquery()
     ensures produced { (v : List Level) → ⟦<crate::PgLQuery as Encode>⟧.produced v ≡ None }
     ensures means { ⟦<crate::PgLQuery as Decode>⟧.meaning ≡ (λ v. v) }
     ensures read { ⟦<crate::PgLQuery as Decode>⟧.reading ≡ query_reading }
+    ensures refused { IsRefusedAs query_refusal ⟦<crate::PgLQuery as Decode>⟧.refusal }
+    ensures takes_memory { ⟦<crate::PgLQuery as Decode>⟧.takes_memory ≡ query_takes }
     ensures kept { ⟦<crate::PgLQuery as ReadBack>⟧.kept ≡ (λ v. v) }
     ensures fits { (v : List Level) (t : Ty) (os : List Oid) → query_fits v t os → ⟦<crate::PgLQuery as ReadBack>⟧.fits v t os }
 {}

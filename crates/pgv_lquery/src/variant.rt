@@ -87,10 +87,11 @@ fn flags_of(any_end: bool, in_case: bool, sublexeme: bool) -> PgLQueryVariantFla
 
 impl PgLQueryVariant {
     /// The variant of a text: a label and, at its end, `*`, `@` and `%` in any order and number. Another text is refused with
-    /// LTreeParrseError.
+    /// LTreeParrseError, before memory is asked for.
     pub fn from_str(alloc: Global, text: &str) -> Result<PgLQueryVariant, PgLQueryParseError>
         ensures ok { IfOk result (λ v. variant_read text.now ≡ Ok v) }
         ensures err { IfErr result (λ e. (variant_read text.now ≡ Err e) ⊎ (e ≡ Memory)) }
+        ensures refused_exactly { (why : _) → variant_read text.now ≡ Err why → IfErr result (λ e. e ≡ why) }
     {
         let (label, marks) = split_marks(text);
         let marks = marks.as_bytes();

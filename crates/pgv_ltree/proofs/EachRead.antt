@@ -1,6 +1,10 @@
 -- Texts that are read one after another.
 use Rattle.std.proofs.Common.{◌≡◌, ◌⊎◌, inl, inr, ◌∙◌, ap, ℕ, zero, suc, ◌<◌, List, [], ◌∷◌, ◌++◌, length, get_or, take, drop, sym, refl, arith}
-use Rattle.std.specs.Prelude.{Result, Ok, Err}
+use Rattle.std.specs.Prelude.{Bool, true, false, if◌then◌else◌, Result, Ok, Err}
+use Rattle.pgv_value.specs.declared.tree_error.PgLTreeParseError.{PgLTreeParseError}
+use Rattle.pgv_value.specs.declared.tree_error.PgLTreeParseError.TheVariants.{InvalidLtreeLabel}
+use Rattle.pgv_ltree.specs.Labels.{is_label, label_read}
+use Rattle.pgv_ltree.specs.Trees.{first_is_label}
 use Rattle.pgv_ltree.specs.Each.{and_others, read_each}
 
 -- what is read first of texts that are read
@@ -43,3 +47,26 @@ pub each-refused : {X M E : Type 0} (read : X → Result M E) (memory : E) (all 
 each-refused read memory all done ms n x e d l at h (inr m) = inr m
 each-refused read memory all done ms n x e d l at h (inl f) =
     inl (ap (read_each read) (at_element all n x l at) ∙ each-fault read (take n all) ms x e (drop (suc n) all) (ap (read_each read) (sym d) ∙ h) f)
+
+-- a text that is no label isn't read
+pub unread_label : {A : Type 0} (text m : List ℕ) → is_label text ≡ false → label_read text ≡ Ok m → A
+unread_label text m isnt e = by (rw isnt at e)
+  where
+    by : {A : Type 0} → (let r : Result (List ℕ) PgLTreeParseError = Err InvalidLtreeLabel in r) ≡ Ok m → A
+    by f = absurd (cc)
+
+-- Where the first text is no label, none was read: the text that is read now is the first.
+pub first_now : (all done : List (List ℕ)) (ms : List (List ℕ)) (n : ℕ) (x : List ℕ) → done ≡ take n all → n < length all → x ≡ get_or all n x →
+    read_each label_read done ≡ Ok ms → first_is_label all ≡ false → is_label x ≡ false
+first_now [] done ms n x d l at h isnt = absurd (omega arith)
+first_now (y ∷ all) done ms zero x d l at h isnt = rw at isnt
+first_now (y ∷ all) done ms (suc n) x d l at h isnt =
+    let g = first_of (label_read y) (read_each label_read (take n all)) ms (ap (read_each label_read) (sym d) ∙ h) in
+    unread_label y g.value isnt g.is
+
+pub read_is_label : (text m : List ℕ) → label_read text ≡ Ok m → is_label text ≡ true
+read_is_label text m e = by (is_label text) refl
+  where
+    by : (b : Bool) → is_label text ≡ b → is_label text ≡ true
+    by true is = is
+    by false is = unread_label text m is e

@@ -1,7 +1,7 @@
 -- What trees of labels are written as and read of (PostgreSQL: appendix F, "ltree"; ltree_send, ltree_recv): the version 1 in
 -- one byte, and then the printed text. In text they are read of their text alone. In binary the text is UTF-8. There is no
 -- image where a label in the tree is none.
-use Rattle.std.specs.Prelude.{ℕ, ◌==◌, codes, if◌then◌else◌, List, [], ◌∷◌, Option, Some, None, is_some}
+use Rattle.std.specs.Prelude.{ℕ, Bool, false, ◌&&◌, ◌==◌, codes, if◌then◌else◌, List, [], ◌∷◌, Option, Some, None, is_some}
 use Rattle.std.specs.List.{list_all}
 use Rattle.std.specs.Option.{option_and_then}
 use Rattle.std.specs.Result.{result_ok}
@@ -15,8 +15,9 @@ use Rattle.pgv_value.specs.declared.error.CodecError.{CodecError}
 use Rattle.pgv_value.specs.declared.error.CodecError.TheVariants.{Short, Utf8, LTree}
 use Rattle.pgv_value.specs.declared.tree_error.PgLTreeParseError.TheVariants.{InvalidLtreeLabel, InvalidLtreeVersion}
 use Rattle.pgv_value.specs.declared.value.PgValueFormat.{PgValueFormat}
+use Rattle.pgv_value.specs.declared.value.PgValueFormat.TheVariants.{Text, Binary}
 use Rattle.pgv_ltree.specs.Labels.{is_label}
-use Rattle.pgv_ltree.specs.Trees.{printed_tree, tree_read}
+use Rattle.pgv_ltree.specs.Trees.{begins_with_label, printed_tree, tree_read}
 
 -- the type and its arrays, of which only the names are known
 abbrev pub ltree : Ty
@@ -55,3 +56,13 @@ tree_binary_refusal form = if is_some (versioned form) then LTree InvalidLtreeLa
 
 abbrev pub tree_refusal : PgValueFormat → Option (List ℕ) → CodecError
 tree_refusal = refusal tree_binary_refusal (λ _. LTree InvalidLtreeLabel)
+
+-- Where memory is asked for: of a text whose first label is one.
+abbrev pub text_takes : Option (List ℕ) → Bool
+text_takes None = false
+text_takes (Some text) = begins_with_label text
+
+abbrev pub tree_takes : Ty → PgValueFormat → Option (List ℕ) → Bool
+tree_takes t f None = false
+tree_takes t Text (Some text) = is_utf8 text && begins_with_label text
+tree_takes t Binary (Some form) = text_takes (versioned form)

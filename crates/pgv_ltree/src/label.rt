@@ -1,6 +1,6 @@
 //! Labels (PostgreSQL, "ltree", Definitions).
 
-ghost use Rattle.std.specs.Prelude.{◌≡◌, ◌⊎◌, ◌↔◌, IsTrue, IfOk, IfErr, Ok, Err, Some, true, string_bytes};
+ghost use Rattle.std.specs.Prelude.{◌≡◌, ◌⊎◌, ◌↔◌, IsTrue, IfOk, IfErr, Ok, Err, Some, true, false, string_bytes};
 ghost use Rattle.std.specs.List.{list_all};
 ghost use Rattle.pgv_value.specs.declared.tree_error.PgLTreeParseError.TheVariants.{InvalidLtreeLabel, Memory};
 ghost use Rattle.pgv_ltree.specs.Labels.{is_label_char as is_label_char_of, is_label as is_label_of, label_read};
@@ -69,6 +69,7 @@ impl PgLTreeLabel {
         ensures ok { IfOk result (λ label. label_read text.now ≡ Ok label) }
         ensures err { IfErr result (λ e. (label_read text.now ≡ Err e) ⊎ (e ≡ Memory)) }
         ensures refused { IfErr result (λ e. (e ≡ InvalidLtreeLabel) ⊎ (e ≡ Memory)) }
+        ensures refused_exactly { is_label_of text.now ≡ false → IfErr result (λ e. e ≡ InvalidLtreeLabel) }
     {
         if !is_label(text) {
             return Err(PgLTreeParseError::InvalidLtreeLabel);

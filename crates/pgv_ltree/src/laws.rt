@@ -1,14 +1,17 @@
 //! What is proved of label trees and of the definitions that say what they are. Each law is the contract of a function that does
 //! nothing.
 
-ghost use Rattle.std.specs.Prelude.{◌≡◌, ℕ, List, None};
+ghost use Rattle.std.specs.Prelude.{◌≡◌, ◌↔◌, ℕ, List, true, None};
+ghost use Rattle.std.specs.List.{list_all};
 ghost use Rattle.std.specs.Iterator.{AlwaysYields};
 ghost use Rattle.pgv_types.specs.Ty.{Ty};
 ghost use Rattle.pgv_types.specs.Relations.{softly};
 ghost use Rattle.pgv_types.specs.declared.oid.Oid.{Oid};
+ghost use Rattle.pgv_codec.specs.TypeRow.{IsRefusedAs};
+ghost use Rattle.pgv_ltree.specs.Labels.{is_label};
 ghost use Rattle.pgv_ltree.specs.Laws.{OneTree, PrintedTreeIsRead, TreeIsRead};
 ghost use Rattle.pgv_ltree.specs.TreesBack.{tree_kept};
-ghost use Rattle.pgv_ltree.specs.TreesCodec.{ltree, ltree_array, tree_image, tree_reading};
+ghost use Rattle.pgv_ltree.specs.TreesCodec.{ltree, ltree_array, tree_image, tree_reading, tree_refusal, tree_takes};
 
 use pgv_codec::{Decode, Encode, PgHasArrayType, ReadBack, Type};
 
@@ -24,6 +27,8 @@ pub fn ltree_is_an_ltree()
     ensures produced { (v : List (List ℕ)) → ⟦<crate::PgLTree as Encode>⟧.produced v ≡ None }
     ensures means { ⟦<crate::PgLTree as Decode>⟧.meaning ≡ (λ v. v) }
     ensures read { ⟦<crate::PgLTree as Decode>⟧.reading ≡ tree_reading }
+    ensures refused { IsRefusedAs tree_refusal ⟦<crate::PgLTree as Decode>⟧.refusal }
+    ensures takes_memory { ⟦<crate::PgLTree as Decode>⟧.takes_memory ≡ tree_takes }
     ensures kept { ⟦<crate::PgLTree as ReadBack>⟧.kept ≡ tree_kept }
     ensures fits { (v : List (List ℕ)) (t : Ty) (os : List Oid) → ⟦<crate::PgLTree as ReadBack>⟧.fits v t os }
 {}
@@ -41,6 +46,20 @@ pub fn one_tree()
 /// A tree is read of its printed text exactly where it has a label.
 pub fn printed_tree_is_read()
     ensures { PrintedTreeIsRead }
+{}
+
+/// The labels of a tree are labels.
+pub fn labels_are_labels(tree: &crate::PgLTree)
+    ensures { list_all is_label tree.now ≡ true }
+{
+    for label in tree.as_slice() {
+        let _text = label.as_str();
+    }
+}
+
+/// Trees are equal exactly where they have the same labels.
+pub fn equal_trees()
+    ensures { (a b : List (List ℕ)) → (⟦<crate::PgLTree as PartialEq>⟧.eq a b ≡ true) ↔ (a ≡ b) }
 {}
 
 /// The iterator of a tree gives its labels in order, and ends then.

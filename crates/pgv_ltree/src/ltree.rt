@@ -1,14 +1,14 @@
 //! Trees of labels (PostgreSQL, "ltree", Definitions).
 
-ghost use Rattle.std.specs.Prelude.{◌≡◌, ◌⊎◌, ◌↔◌, ◌<◌, ◌++◌, ◌∷◌, [], List, ℕ, length, map, IfOk, IfErr, OnOk, OnErr, IsSome, Ok, Err, Some, string_bytes};
+ghost use Rattle.std.specs.Prelude.{◌≡◌, ◌⊎◌, ◌↔◌, ◌<◌, ◌++◌, ◌∷◌, [], List, ℕ, length, map, IfOk, IfErr, OnOk, OnErr, IsSome, Ok, Err, Some, true, false, string_bytes};
 ghost use Rattle.std.specs.Iterator.{Drains, IsFinite};
 ghost use Rattle.std.specs.Option.{option_to_list};
 ghost use Rattle.std.specs.Vec.Iter.{into_iter_items, into_iter_len};
 ghost use Rattle.pgv_value.specs.declared.tree_error.PgLTreeParseError.TheVariants.{InvalidLtreeLabel, Memory};
 ghost use Rattle.pgv_ltree.specs.Each.{read_each};
-ghost use Rattle.pgv_ltree.specs.Labels.{label_read};
+ghost use Rattle.pgv_ltree.specs.Labels.{is_label, label_read};
 ghost use Rattle.pgv_ltree.specs.Taken.{GivesText, GivesTexts};
-ghost use Rattle.pgv_ltree.specs.Trees.{printed_tree, tree_read};
+ghost use Rattle.pgv_ltree.specs.Trees.{begins_with_label, printed_tree, tree_read};
 
 mod codec;
 
@@ -60,8 +60,8 @@ impl PgLTree {
         requires { (it : I.IntoIter) → I.into_iter_gives labels it → I.IntoIter.can_next it × IsFinite (I.IntoIter.remaining it) }
         // Every text was taken, and is the label at its place.
         ensures ok { IfOk result (λ tree. (it : I.IntoIter) × (texts : List (List ℕ)) × I.into_iter_gives labels it × GivesTexts I.IntoIter.next_gives it texts × (read_each label_read texts ≡ Ok tree)) }
-        // A text that was taken is no label.
-        ensures err { IfErr result (λ e. (e ≡ Memory) ⊎ ((it : I.IntoIter) × (text : List ℕ) × I.into_iter_gives labels it × GivesText I.IntoIter.next_gives it text × (label_read text ≡ Err e))) }
+        // The text that was taken last is no label; or it is one, and there was no memory for it.
+        ensures err { IfErr result (λ e. (it : I.IntoIter) × (text : List ℕ) × I.into_iter_gives labels it × GivesText I.IntoIter.next_gives it text × ((label_read text ≡ Err e) ⊎ ((e ≡ Memory) × (is_label text ≡ true)))) }
     {
         let mut tree = PgLTree::new(alloc);
         for label in labels {
@@ -85,11 +85,13 @@ impl PgLTree {
         Ok(tree)
     }
 
-    /// The tree of a text: labels joined by `.`. The empty text is one empty label. Another text is refused with InvalidLtreeLabel.
+    /// The tree of a text: labels joined by `.`. The empty text is one empty label. Another text is refused with InvalidLtreeLabel,
+    /// and where its first label is none before memory is asked for.
     pub fn from_str(alloc: Global, text: &str) -> Result<PgLTree, PgLTreeParseError>
         ensures ok { IfOk result (λ tree. tree_read text.now ≡ Ok tree) }
         ensures err { IfErr result (λ e. (tree_read text.now ≡ Err e) ⊎ (e ≡ Memory)) }
         ensures refused { IfErr result (λ e. (e ≡ InvalidLtreeLabel) ⊎ (e ≡ Memory)) }
+        ensures refused_exactly { begins_with_label text.now ≡ false → IfErr result (λ e. e ≡ InvalidLtreeLabel) }
     {
         let mut labels = Vec::new(alloc);
         for label in text.split('.') {
@@ -123,6 +125,7 @@ impl PgLTree {
     }
 }
 
+/// The labels `a` and `b` are the tree `a.b`.
 impl From<Vec<PgLTreeLabel>> for PgLTree {
     ghost from_gives = { λ labels tree. tree ≡ labels.items };
 

@@ -9,7 +9,7 @@ use Rattle.pgv_buf.specs.Tokens.{bytes, be4}
 use Rattle.pgv_codec.specs.Image.{Image, image_of}
 use Rattle.pgv_value.specs.Laws.{AreBytes}
 use Rattle.pgv_value.specs.declared.error.CodecError.{CodecError}
-use Rattle.pgv_value.specs.declared.error.CodecError.TheVariants.{Short, NegativeLength, WrongLength}
+use Rattle.pgv_value.specs.declared.error.CodecError.TheVariants.{ValueSize, Short, NegativeLength, WrongLength}
 use Rattle.pgv_more.specs.Bits.{bits_of, byte_count, packed}
 
 -- the bytes are the form of these bits, whatever fills the last byte after them
@@ -20,6 +20,10 @@ IsBits form bits =
 -- what is written: zeros fill the last byte; more than 2147483647 bits have no image
 abbrev pub bits_image : List Bool → Option Image
 bits_image bits = if nat_le (length bits) 2147483647 then Some (image_of (bytes (be4 (length bits) ++ packed bits))) else None
+
+-- they are C2, with their number
+abbrev pub bits_refused : List Bool → Option CodecError
+bits_refused bits = Some (ValueSize (length bits))
 
 -- four bytes and one for each bit, as many as a number of 64 bits can say
 abbrev pub bits_hint : List Bool → ℕ

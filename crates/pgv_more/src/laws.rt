@@ -1,18 +1,19 @@
 //! What is proved of these types and of the definitions that say what they are. Each law is the contract of a function that does
 //! nothing.
 
-ghost use Rattle.std.specs.Prelude.{◌≡◌, ◌↔◌, ℕ, Bool, List, None, codes, string_bytes};
+ghost use Rattle.std.specs.Prelude.{◌≡◌, ◌↔◌, ℕ, Bool, List, Some, None, codes, string_bytes};
 ghost use Rattle.pgv_types.specs.Ty.{Ty, builtin, named};
 ghost use Rattle.pgv_codec.specs.ScalarBinary.{text_image};
-ghost use Rattle.pgv_codec.specs.TypeRow.{IsBuiltIn, IsWrittenAs};
-ghost use Rattle.pgv_more.specs.ByteaText.{bytea_reading, sized_image, sized_reading, ByteaTextIsRead, OneByteaText};
-ghost use Rattle.pgv_more.specs.BitsBinary.{bits_image, bits_hint, BitsAreRead, OneListOfBits};
+ghost use Rattle.pgv_codec.specs.TypeRow.{IsBuiltIn, IsRefusedAs, IsWrittenAs, TakesNone};
+ghost use Rattle.pgv_value.specs.declared.error.CodecError.TheVariants.{OffsetRange};
+ghost use Rattle.pgv_more.specs.ByteaText.{bytea_reading, bytea_refusal, bytea_takes, sized_image, sized_reading, sized_refusal, ByteaTextIsRead, OneByteaText};
+ghost use Rattle.pgv_more.specs.BitsBinary.{bits_image, bits_hint, bits_refused, BitsAreRead, OneListOfBits};
 ghost use Rattle.pgv_more.specs.BitsText.{BitsAreReadOfText};
-ghost use Rattle.pgv_more.specs.BitsCodec.{is_bits, is_bits_array, bits_reading};
+ghost use Rattle.pgv_more.specs.BitsCodec.{is_bits, is_bits_array, bits_reading, bits_refusal, bits_take};
 ghost use Rattle.pgv_more.specs.Laws.{PackedIsOne};
-ghost use Rattle.pgv_more.specs.MacAddressCodec.{mac_image, mac_reading};
+ghost use Rattle.pgv_more.specs.MacAddressCodec.{mac_image, mac_reading, mac_refusal};
 ghost use Rattle.pgv_more.specs.MacAddressText.{MacAddressIsRead, OneMacAddress};
-ghost use Rattle.pgv_more.specs.TimeTzCodec.{time_tz_numbers, time_tz_image, time_tz_reading};
+ghost use Rattle.pgv_more.specs.TimeTzCodec.{time_tz_numbers, time_tz_image, time_tz_reading, time_tz_refusal};
 ghost use Rattle.pgv_codec.specs.DateTimeKept.{time_kept};
 ghost use Rattle.pgv_types.specs.declared.oid.Oid.{Oid};
 
@@ -30,6 +31,9 @@ pub fn bit_vec_is_a_varbit()
     ensures produced { (v : List Bool) → ⟦<crate::BitVec as Encode>⟧.produced v ≡ None }
     ensures means { ⟦<crate::BitVec as Decode>⟧.meaning ≡ (λ v. v) }
     ensures read { ⟦<crate::BitVec as Decode>⟧.reading ≡ bits_reading }
+    ensures unwritten { (v : List Bool) → ⟦<crate::BitVec as Encode>⟧.unwritable v ≡ bits_refused v }
+    ensures refused { IsRefusedAs bits_refusal ⟦<crate::BitVec as Decode>⟧.refusal }
+    ensures takes_memory { ⟦<crate::BitVec as Decode>⟧.takes_memory ≡ bits_take }
 {}
 
 /// A `MacAddress` is a macaddr (OID 829), its six bytes, as `08002b010203`. Its arrays are `macaddr[]` (1040).
@@ -41,6 +45,7 @@ pub fn mac_address_is_a_macaddr()
     ensures produced { (v : List ℕ) → ⟦<crate::MacAddress as Encode>⟧.produced v ≡ None }
     ensures means { ⟦<crate::MacAddress as Decode>⟧.meaning ≡ (λ v. v) }
     ensures read { ⟦<crate::MacAddress as Decode>⟧.reading ≡ mac_reading }
+    ensures refused { IsRefusedAs mac_refusal ⟦<crate::MacAddress as Decode>⟧.refusal × TakesNone ⟦<crate::MacAddress as Decode>⟧.takes_memory }
 {}
 
 /// A `PgTimeTz` is a timetz (OID 1266), the microseconds of the day and the seconds west of UTC, as `0000000a7a358200ffffe3e0` for
@@ -53,6 +58,8 @@ pub fn time_tz_is_a_timetz()
     ensures produced { ⟦<crate::PgTimeTz as Encode>⟧.produced ≡ (λ _. None) }
     ensures means { ⟦<crate::PgTimeTz as Decode>⟧.meaning ≡ time_tz_numbers }
     ensures read { ⟦<crate::PgTimeTz as Decode>⟧.reading ≡ time_tz_reading }
+    ensures unwritten { ⟦<crate::PgTimeTz as Encode>⟧.unwritable ≡ (λ v. Some (OffsetRange v.offset.seconds)) }
+    ensures refused { IsRefusedAs time_tz_refusal ⟦<crate::PgTimeTz as Decode>⟧.refusal × TakesNone ⟦<crate::PgTimeTz as Decode>⟧.takes_memory }
     ensures kept { ⟦<crate::PgTimeTz as ReadBack>⟧.kept ≡ (λ v. record { time = time_kept v.time; offset = v.offset }) }
 {}
 
@@ -93,6 +100,8 @@ pub fn bytea_is_a_bytea()
     ensures written { IsWrittenAs (λ b. text_image b.0.items) ⟦<crate::PgBytea as Encode>⟧.hint ⟦<crate::PgBytea as Encode>⟧.image ⟦<crate::PgBytea as Encode>⟧.produced }
     ensures means { ⟦<crate::PgBytea as Decode>⟧.meaning ≡ (λ b. b.0.items) }
     ensures read { ⟦<crate::PgBytea as Decode>⟧.reading ≡ bytea_reading }
+    ensures refused { IsRefusedAs bytea_refusal ⟦<crate::PgBytea as Decode>⟧.refusal }
+    ensures takes_memory { ⟦<crate::PgBytea as Decode>⟧.takes_memory ≡ bytea_takes }
 {}
 
 /// A `PgByteaArray` of `N` bytes is a bytea (OID 17) of so many.
@@ -102,6 +111,7 @@ pub fn bytea_array_is_a_bytea<const N: usize>()
     ensures written { IsWrittenAs (λ b. sized_image N b.0) ⟦<crate::PgByteaArray<N> as Encode>⟧.hint ⟦<crate::PgByteaArray<N> as Encode>⟧.image ⟦<crate::PgByteaArray<N> as Encode>⟧.produced }
     ensures means { ⟦<crate::PgByteaArray<N> as Decode>⟧.meaning ≡ (λ b. b.0) }
     ensures read { ⟦<crate::PgByteaArray<N> as Decode>⟧.reading ≡ sized_reading N }
+    ensures refused { IsRefusedAs sized_refusal ⟦<crate::PgByteaArray<N> as Decode>⟧.refusal × TakesNone ⟦<crate::PgByteaArray<N> as Decode>⟧.takes_memory }
 {}
 
 /// A `PgCiText` is a citext, by its name, its bytes; it is read as a `String` is.
@@ -113,6 +123,7 @@ pub fn ci_text_is_a_citext()
     ensures written { IsWrittenAs (λ text. text_image (string_bytes text.0)) ⟦<crate::PgCiText as Encode>⟧.hint ⟦<crate::PgCiText as Encode>⟧.image ⟦<crate::PgCiText as Encode>⟧.produced }
     ensures means { ⟦<crate::PgCiText as Decode>⟧.meaning ≡ (λ text. string_bytes text.0) }
     ensures read { ⟦<crate::PgCiText as Decode>⟧.reading ≡ ⟦<String as Decode>⟧.reading }
+    ensures refused { (⟦<crate::PgCiText as Decode>⟧.refusal ≡ ⟦<String as Decode>⟧.refusal) × (⟦<crate::PgCiText as Decode>⟧.takes_memory ≡ ⟦<String as Decode>⟧.takes_memory) }
 {}
 
 /// A text is `\x` and two hex digits for each byte exactly where these bytes are read of it.

@@ -1,7 +1,8 @@
 //! MAC addresses (PostgreSQL, "Network Address Types", macaddr): six bytes.
 
 ghost use Rattle.std.specs.Prelude.{◌≡◌, [], ◌∷◌, option_map};
-ghost use Rattle.pgv_more.specs.MacAddressText.{mac_value, next_pair, pair_value, pairs_after};
+ghost use Rattle.pgv_text.specs.DateTimeText.{IsValueOf};
+ghost use Rattle.pgv_more.specs.MacAddressText.{IsMacAddress, mac_value, next_pair, pair_value, pairs_after};
 
 mod codec;
 
@@ -41,24 +42,36 @@ impl MacAddress {
 
     /// The address of a text: six pairs of hex digits of either case, with `:` between each two pairs or with `-`, as
     /// `08:00:2b:01:02:03` and `08-00-2B-01-02-03`. `08-00-2b:01-02-03` is none.
+    #[inline(always)]
     pub fn from_str(text: &str) -> Option<MacAddress>
-        ensures { result ≡ mac_value text.now }
+        // The address that the text is, or that it is none.
+        ensures reads { IsValueOf IsMacAddress text.now result }
+        // The same by the computed bytes.
+        ensures computed { result ≡ mac_value text.now }
     {
-        let [high, low, rest @ ..] = text.as_bytes() else {
-            return None;
-        };
-        let separator = *rest.first()?;
-        if separator != b':' && separator != b'-' {
-            return None;
-        }
-        let first = byte_of(*high, *low)?;
-        let (second, rest) = pair_after(separator, rest)?;
-        let (third, rest) = pair_after(separator, rest)?;
-        let (fourth, rest) = pair_after(separator, rest)?;
-        let (fifth, rest) = pair_after(separator, rest)?;
-        let sixth = last_pair_after(separator, rest)?;
-        Some(MacAddress::new([first, second, third, fourth, fifth, sixth]))
+        address_of(text.as_bytes())
     }
+}
+
+/// The address of a text.
+#[inline(always)]
+fn address_of(text: &[u8]) -> Option<MacAddress>
+    ensures { result ≡ mac_value text.now }
+{
+    let [high, low, rest @ ..] = text else {
+        return None;
+    };
+    let separator = *rest.first()?;
+    if separator != b':' && separator != b'-' {
+        return None;
+    }
+    let first = byte_of(*high, *low)?;
+    let (second, rest) = pair_after(separator, rest)?;
+    let (third, rest) = pair_after(separator, rest)?;
+    let (fourth, rest) = pair_after(separator, rest)?;
+    let (fifth, rest) = pair_after(separator, rest)?;
+    let sixth = last_pair_after(separator, rest)?;
+    Some(MacAddress::new([first, second, third, fourth, fifth, sixth]))
 }
 
 /// The byte of two hex digits of either case.

@@ -11,7 +11,7 @@ ghost use Rattle.pgv_text.specs.DateTimeText.{time_tz_value};
 ghost use Rattle.pgv_value.specs.DateTimeBinary.{time_after};
 ghost use Rattle.pgv_value.specs.Interval.{eight_bytes, signed_four_bytes};
 ghost use Rattle.pgv_value.specs.Reading.{AnswersExactly};
-ghost use Rattle.pgv_value.specs.declared.error.CodecError.TheVariants.{Memory};
+ghost use Rattle.pgv_value.specs.declared.error.CodecError.TheVariants.{Memory, OffsetRange};
 ghost use Rattle.pgv_more.specs.TimeTzCodec.{time_tz_numbers, time_tz_image, time_tz_in_binary, time_tz_reading, time_tz_refusal, two_numbers, offset_refusal, other_way, image_of_numbers};
 
 use jiff::civil::Time;
@@ -141,6 +141,8 @@ impl Encode for PgTimeTz {
 
     ghost hint = { λ _. 12 };
 
+    ghost unwritable = { λ v. Some (OffsetRange v.offset.seconds) };
+
     fn encode_by_ref(&self, out: &mut PgArgumentBuffer) -> Result<IsNull, CodecError> {
         match seconds_west(self.offset) {
             Some(west) => write_numbers(micros_of_day(self.time), west, out),
@@ -159,7 +161,7 @@ impl Encode for PgTimeTz {
 
 /// Read in binary of the first twelve bytes, where fewer are refused with C15: the time round the clock, and an offset of less than
 /// a day, else C6 with the seconds that the bytes have. A text is a time and an offset, as [`time_tz`] reads it, else C29. Null is
-/// refused with C13.
+/// refused with C13. `0000000a7a358200ffffe3e0` and the text `12:30:00+02` are 12:30 two hours east.
 /// The time comes back in whole microseconds, where what is less is cut off, and the offset as it is.
 impl Plain for PgTimeTz {
     ghost use Rattle.pgv_more.specs.TimeTzBack.{time_tz_back, time_tz_kept};
@@ -172,7 +174,7 @@ impl Plain for PgTimeTz {
 
     ghost written = { with_hint (λ _. 12) time_tz_image };
 
-    ghost refusal = { Some time_tz_refusal };
+    ghost refusal = { time_tz_refusal };
 
     ghost kept = { time_tz_kept };
 

@@ -1,5 +1,5 @@
 -- Digits that are written one after another.
-use Rattle.std.proofs.Common.{◌≡◌, ℕ, ◌+◌, ◌<◌, Bool, true, false, cond, List, [], ◌∷◌, ◌++◌, length, get_or, take, Option, Some, None, refl, sym, ap, ◌∙◌, append_assoc, arith}
+use Rattle.std.proofs.Common.{◌≡◌, ℕ, zero, suc, ◌+◌, ◌<◌, Bool, true, false, cond, List, [], ◌∷◌, ◌++◌, length, get_or, take, Option, Some, None, refl, sym, ap, ◌∙◌, append_assoc, arith}
 use Rattle.std.proofs.lemmas.Bool.Decides.{nat_tests}
 use Rattle.std.proofs.lemmas.List.{take_more, append-nil}
 use Rattle.std.proofs.lemmas.List.Folds.{list_all-append}
@@ -7,11 +7,17 @@ use Rattle.std.specs.Prelude.{ℤ, ◌≤◌, nat_le}
 use Rattle.std.specs.Int.{w16}
 use Rattle.std.specs.List.{flat_map, list_all}
 use Rattle.pgv_buf.specs.Tokens.{Token, Cell, bytes, blank}
+use Rattle.pgv_value.specs.Reading.{Refuses}
+use Rattle.pgv_value.specs.declared.error.CodecError.{CodecError}
+use Rattle.pgv_value.specs.declared.error.CodecError.TheVariants.{NumericDigit}
+use Rattle.pgv_codec.proofs.Refusing.{Refuses-weaker, stated_of_part}
 use Rattle.pgv_codec.specs.Outcome.{AppendedAll}
+use Rattle.pgv_codec.specs.Refusing.{RefusedBy}
 use Rattle.pgv_codec.specs.Image.{image_of}
 use Rattle.pgv_codec.specs.PlainBytes.{appended_parts}
 use Rattle.pgv_value.specs.NumberBinary.{fits_signed}
-use Rattle.pgv_numeric.specs.Numeric.{number, word, sign_word, head_form, number_form, is_digit, digit_written, digits_written, has_form, numeric_image}
+use Rattle.pgv_numeric.specs.Numeric.{number, word, sign_word, head_form, number_form, is_digit, digit_written, digits_refused, digits_written, has_form, numeric_image}
+use Rattle.pgv_numeric.specs.NumericBack.{both}
 use Rattle.pgv_numeric.specs.declared.numeric.PgNumericSign.{PgNumericSign}
 
 -- what is there where a test holds
@@ -55,3 +61,18 @@ number_appended sign ds weight scale start mid now le weight_fits scale_fits fir
       image_there (has_form ds weight scale) (number_form sign ds weight scale) form,
       appended_parts start mid now (head_form (length ds) weight (sign_word sign) scale) (flat_map word ds) first (second.2 ∙ ap (λ (ts : List Token). mid ++ blank ts) (sym all.1)),
     )
+
+-- ---- the first digit that can't be written refuses them all
+
+digits_from : (ds : List ℤ) (i : ℕ) (z : ℤ) → i < length ds → list_all is_digit (take i ds) ≡ true → is_digit (get_or ds i z) ≡ false → digits_refused ds ≡ Some (NumericDigit (get_or ds i z))
+digits_from [] i z l all isnt = absurd (omega (arith, l))
+digits_from (d ∷ ds) zero z l all isnt = rw isnt refl
+digits_from (d ∷ ds) (suc i) z l all isnt =
+    let parts = both (is_digit d) (list_all is_digit (take i ds)) all in
+    rw parts.0 (digits_from ds i z (omega (arith, l)) parts.1 isnt)
+
+pub digits_unwritten : (ds : List ℤ) (i : ℕ) (z : ℤ) (e : CodecError) (start now : List Cell) → i < length ds → AppendedAll (digits_written (take i ds)) start now →
+    Refuses e ((is_digit (get_or ds i z) ≡ false) × (e ≡ NumericDigit (get_or ds i z))) → RefusedBy (digits_refused ds) e
+digits_unwritten ds i z e start now l so_far why =
+    let all = guarded (list_all is_digit (take i ds)) (bytes (flat_map word (take i ds))) so_far.0 so_far.1 in
+    stated_of_part (digits_refused ds) (Some (NumericDigit (get_or ds i z))) e (digits_from ds i z l all.0) (Refuses-weaker e (λ p. p.0) why) (Refuses-weaker e (λ p. p.1) why)

@@ -14,7 +14,7 @@ use Rattle.pgv_value.specs.Reading.{Reading}
 use Rattle.pgv_value.specs.ScalarGrammar.{binary_alone, refusal_alone}
 use Rattle.pgv_value.specs.Steps.{◌>>=◌}
 use Rattle.pgv_value.specs.declared.error.CodecError.{CodecError}
-use Rattle.pgv_value.specs.declared.error.CodecError.TheVariants.{Short, NumericSign}
+use Rattle.pgv_value.specs.declared.error.CodecError.TheVariants.{NumericDigits, NumericDigit, Short, NumericSign}
 use Rattle.pgv_value.specs.declared.value.PgValueFormat.{PgValueFormat}
 use Rattle.pgv_numeric.specs.declared.numeric.PgNumericSign.{PgNumericSign}
 use Rattle.pgv_numeric.specs.declared.numeric.PgNumericSign.TheVariants.{Positive, Negative}
@@ -78,6 +78,16 @@ has_form digits weight scale = nat_le (length digits) 32767 && (list_all is_digi
 abbrev pub numeric_image : Numeric → Option Image
 numeric_image not_a_number = Some (image_of (bytes (0 ∷ 0 ∷ 0 ∷ 0 ∷ 192 ∷ 0 ∷ 0 ∷ 0 ∷ [])))
 numeric_image (number sign digits weight scale) = if has_form digits weight scale then Some (image_of (bytes (number_form sign digits weight scale))) else None
+
+-- the first digit that isn't from 0 to 9999 is C8
+abbrev pub digits_refused : List ℤ → Option CodecError
+digits_refused [] = None
+digits_refused (d ∷ ds) = if is_digit d then digits_refused ds else Some (NumericDigit d)
+
+-- more than 32767 digits are C7
+abbrev pub numeric_refused : Numeric → Option CodecError
+numeric_refused not_a_number = None
+numeric_refused (number sign digits weight scale) = if nat_le (length digits) 32767 then digits_refused digits else Some (NumericDigits (length digits))
 
 -- ---- read
 

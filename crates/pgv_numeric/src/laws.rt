@@ -1,13 +1,13 @@
 //! What is proved of these types and of the definitions that say what they are. Each law is the contract of a function that does
 //! nothing.
 
-ghost use Rattle.std.specs.Prelude.{◌≡◌, None, List};
+ghost use Rattle.std.specs.Prelude.{◌≡◌, List, is_some};
 ghost use Rattle.std.specs.Int.{w64};
-ghost use Rattle.pgv_codec.specs.TypeRow.{IsBuiltIn, IsWrittenAs};
+ghost use Rattle.pgv_codec.specs.TypeRow.{IsBuiltIn, IsRefusedAs, IsWrittenAs, TakesNone};
 ghost use Rattle.pgv_codec.specs.ScalarBinary.{signed_image};
 ghost use Rattle.pgv_numeric.specs.Laws.{NumericIsRead, OneNumeric, OneMoney, NumericsAreEqual};
-ghost use Rattle.pgv_numeric.specs.MoneyCodec.{money_reading, MoneyIsRead};
-ghost use Rattle.pgv_numeric.specs.Numeric.{numeric_image, numeric_of, numeric_reading};
+ghost use Rattle.pgv_numeric.specs.MoneyCodec.{money_reading, money_refusal, MoneyIsRead};
+ghost use Rattle.pgv_numeric.specs.Numeric.{numeric_image, numeric_of, numeric_reading, numeric_refusal, numeric_refused};
 ghost use Rattle.pgv_types.specs.declared.oid.Oid.{Oid};
 ghost use Rattle.pgv_types.specs.Ty.{Ty};
 
@@ -20,6 +20,7 @@ pub fn money_is_a_money()
     ensures written { IsWrittenAs (λ amount. signed_image w64 amount.0) ⟦<crate::PgMoney as Encode>⟧.hint ⟦<crate::PgMoney as Encode>⟧.image ⟦<crate::PgMoney as Encode>⟧.produced }
     ensures means { ⟦<crate::PgMoney as Decode>⟧.meaning ≡ (λ amount. amount.0) }
     ensures read { ⟦<crate::PgMoney as Decode>⟧.reading ≡ money_reading }
+    ensures refused { IsRefusedAs money_refusal ⟦<crate::PgMoney as Decode>⟧.refusal × TakesNone ⟦<crate::PgMoney as Decode>⟧.takes_memory }
 {}
 
 /// A `PgNumeric` is a numeric (OID 1700), words of two bytes. Its arrays are `numeric[]` (1231).
@@ -29,6 +30,9 @@ pub fn numeric_is_a_numeric()
     ensures written { IsWrittenAs (λ n. numeric_image (numeric_of n)) ⟦<crate::PgNumeric as Encode>⟧.hint ⟦<crate::PgNumeric as Encode>⟧.image ⟦<crate::PgNumeric as Encode>⟧.produced }
     ensures means { ⟦<crate::PgNumeric as Decode>⟧.meaning ≡ numeric_of }
     ensures read { ⟦<crate::PgNumeric as Decode>⟧.reading ≡ numeric_reading }
+    ensures unwritten { ⟦<crate::PgNumeric as Encode>⟧.unwritable ≡ (λ n. numeric_refused (numeric_of n)) }
+    ensures refused { IsRefusedAs numeric_refusal ⟦<crate::PgNumeric as Decode>⟧.refusal }
+    ensures takes_memory { ⟦<crate::PgNumeric as Decode>⟧.takes_memory ≡ (λ t f bytes. is_some (numeric_reading t f bytes)) }
 {}
 
 /// Bytes begin with the form of an amount exactly where it is read of them.

@@ -1,18 +1,22 @@
 //! What ranges are written as and read of, whatever their bounds are (PostgreSQL, "Range Types"; the binary form is that of its source,
 //! range_send).
 
-ghost use Rattle.std.specs.Prelude.{◌≡◌, IfOk, IfErr, OnOk, OnErr, Some, None, IsErrOf};
+ghost use Rattle.std.specs.Prelude.{◌≡◌, IfOk, IfErr, OnOk, OnErr, Some, None, IsErrOf, false, is_some};
+ghost use Rattle.std.specs.Str.{chars};
 ghost use Rattle.std.specs.Option.{option_map};
 ghost use Rattle.std.specs.Range.Bound.{bound_map};
 ghost use Rattle.pgv_types.specs.Parts.{ref_type};
 ghost use Rattle.pgv_text.specs.PartsView.{nest};
-ghost use Rattle.pgv_value.specs.Reading.{Answers, Refuses};
+ghost use Rattle.pgv_text.specs.ContentText.{range_content};
+ghost use Rattle.pgv_value.specs.Reading.{Answers, AnswersExactly, Refuses};
 ghost use Rattle.pgv_value.specs.declared.error.CodecError.TheVariants.{NotARange};
 ghost use Rattle.pgv_value.specs.declared.value.PgValueFormat.TheVariants.{Binary, Text};
 ghost use Rattle.pgv_codec.specs.Outcome.{Appended, AppendedAll, Encoded, Refused};
 ghost use Rattle.pgv_range.specs.RangeGrammar.{bound_in, bound_in_text, bounds_in, bounds_in_text, next_bound, range_element, range_in_binary, range_in_text, side_in_text, value_in_front};
 ghost use Rattle.pgv_range.specs.RangeImage.{bound_frame, bounds_image, empty_image};
+ghost use Rattle.pgv_codec.specs.Refusing.{RefusedExactly, RefusedFor};
 ghost use Rattle.pgv_range.specs.RangeOf.{range_meaning};
+ghost use Rattle.pgv_range.specs.RangeRefusals.{bound_refusal, bound_refused, bounds_refusal, bounds_refused, bounds_text_refusal, next_bound_refusal, range_binary_refusal, range_text_refusal, value_refusal};
 
 use crate::flags::{RangeFlags, RangeForm, Side};
 use crate::range::PgRange;
@@ -30,8 +34,11 @@ use std::ops::Bound;
 /// range is the flag byte 01 alone.
 impl<T: Encode> Encode for PgRange<T> {
     ghost use Rattle.pgv_range.specs.RangeImage.{range_image};
+    ghost use Rattle.pgv_range.specs.RangeRefusals.{range_refused};
 
     ghost image = { range_image T.hint T.image };
+
+    ghost unwritable = { range_refused T.hint T.image T.unwritable };
 
     fn encode_by_ref(&self, out: &mut PgArgumentBuffer) -> Result<IsNull, CodecError> {
         match self {
@@ -69,6 +76,7 @@ fn encode_bounds<T: Encode>(
 ) -> Result<IsNull, CodecError>
     ensures ok { IfOk result (λ n. Encoded n (bounds_image T.hint T.image start.now end.now) out.old out.new) }
     ensures err { IfErr result (λ e. Refused e (bounds_image T.hint T.image start.now end.now)) }
+    ensures refused { RefusedFor (bounds_refused T.hint T.image T.unwritable start.now end.now) result }
     ensures appended { OnErr result (Appended out.old out.new) }
 {
     out.push(RangeFlags::of(start, end).bits())?;
@@ -82,6 +90,7 @@ fn encode_bounds<T: Encode>(
 fn encode_bound<T: Encode>(bound: &Bound<T>, out: &mut PgArgumentBuffer) -> Result<(), CodecError>
     ensures ok { OnOk result (AppendedAll (bound_frame T.hint T.image bound.now) out.old out.new) }
     ensures err { IfErr result (λ e. Refused e (bound_frame T.hint T.image bound.now)) }
+    ensures refused { RefusedFor (bound_refused T.hint T.image T.unwritable bound.now) result }
     ensures appended { OnErr result (Appended out.old out.new) }
 {
     match bound {
@@ -103,6 +112,7 @@ fn encode_bound<T: Encode>(bound: &Bound<T>, out: &mut PgArgumentBuffer) -> Resu
 impl<T: Decode + Type> Decode for PgRange<T> {
     ghost use Rattle.pgv_range.specs.RangeGrammar.{range};
     ghost use Rattle.pgv_range.specs.RangeOf.{RangeOf};
+    ghost use Rattle.pgv_range.specs.RangeRefusals.{range_refusal, range_takes};
     ghost use Rattle.pgv_range.specs.RangeSaying.{range_written};
 
     ghost Meaning = { RangeOf T.Meaning };
@@ -112,6 +122,10 @@ impl<T: Decode + Type> Decode for PgRange<T> {
     ghost reading = { range T.info T.reading };
 
     ghost written = { range_written T.info T.written };
+
+    ghost takes_memory = { range_takes };
+
+    ghost refusal = { range_refusal T.info T.reading T.refusal };
 
     fn decode(alloc: Global, value: PgValueRef<'_>) -> Result<PgRange<T>, CodecError> {
         match value.format() {
@@ -127,7 +141,10 @@ fn read_binary<T: Decode>(
     type_info: &PgTypeInfo,
     bytes: &[u8],
 ) -> Result<PgRange<T>, CodecError>
-    ensures { Answers (range_meaning T.meaning) (range_in_binary (λ u. T.reading u Binary) type_info.now bytes.now) result }
+    ensures exact { Answers (range_meaning T.meaning) (range_in_binary (λ u. T.reading u Binary) type_info.now bytes.now) result }
+    ensures exactly { is_some (range_element type_info.now) ≡ false → AnswersExactly (range_meaning T.meaning) (range_in_binary (λ u. T.reading u Binary) type_info.now bytes.now) result }
+    ensures refused { RefusedFor (range_binary_refusal (λ u. T.reading u Binary) (λ u. T.refusal u Binary) type_info.now bytes.now) result }
+    ensures refused_exactly { is_some (range_element type_info.now) ≡ false → RefusedExactly (range_binary_refusal (λ u. T.reading u Binary) (λ u. T.refusal u Binary) type_info.now bytes.now) result }
 {
     let element = element_of_range(type_info)?;
     let Some((flags, frames)) = bytes.split_first() else {
@@ -160,7 +177,8 @@ fn read_bounds<T: Decode>(
     above: Side,
     bytes: &[u8],
 ) -> Result<PgRange<T>, CodecError>
-    ensures { Answers (range_meaning T.meaning) (bounds_in (T.reading element.now Binary) below above bytes.now) result }
+    ensures exact { Answers (range_meaning T.meaning) (bounds_in (T.reading element.now Binary) below above bytes.now) result }
+    ensures refused { RefusedFor (bounds_refusal (T.reading element.now Binary) (T.refusal element.now Binary) below above bytes.now) result }
 {
     let mut rest = bytes;
     let start = read_bound(alloc, element, below, &mut rest)?;
@@ -177,6 +195,7 @@ fn read_bound<'a, T: Decode>(
 ) -> Result<Bound<T>, CodecError>
     ensures ok { IfOk result (λ b. bound_in (T.reading element.now Binary) side bytes.old.now ≡ Some (bound_map T.meaning b, bytes.new.now)) }
     ensures err { IfErr result (λ e. Refuses e (bound_in (T.reading element.now Binary) side bytes.old.now ≡ None)) }
+    ensures refused { RefusedFor (bound_refusal (T.reading element.now Binary) (T.refusal element.now Binary) side bytes.old.now) result }
 {
     match side {
         Side::Infinite => Ok(Bound::Unbounded),
@@ -193,6 +212,7 @@ fn read_value<'a, T: Decode>(
 ) -> Result<T, CodecError>
     ensures ok { IfOk result (λ v. value_in_front (T.reading element.now Binary) bytes.old.now ≡ Some (T.meaning v, bytes.new.now)) }
     ensures err { IfErr result (λ e. Refuses e (value_in_front (T.reading element.now Binary) bytes.old.now ≡ None)) }
+    ensures refused { RefusedFor (value_refusal (T.reading element.now Binary) (T.refusal element.now Binary) bytes.old.now) result }
 {
     let part = PgValueRef::get(bytes, PgValueFormat::Binary, element.clone()?)?;
     T::decode(alloc, part)
@@ -200,7 +220,10 @@ fn read_value<'a, T: Decode>(
 
 /// A range in text.
 fn read_text<T: Decode + Type>(alloc: Global, text: &str) -> Result<PgRange<T>, CodecError>
-    ensures { Answers (range_meaning T.meaning) (range_in_text (T.reading T.info Text) text.now) result }
+    ensures exact { Answers (range_meaning T.meaning) (range_in_text (T.reading T.info Text) text.now) result }
+    ensures exactly { is_some (range_content (chars text.now)) ≡ false → AnswersExactly (range_meaning T.meaning) (range_in_text (T.reading T.info Text) text.now) result }
+    ensures refused { RefusedFor (range_text_refusal (T.reading T.info Text) (T.refusal T.info Text) text.now) result }
+    ensures refused_exactly { is_some (range_content (chars text.now)) ≡ false → RefusedExactly (range_text_refusal (T.reading T.info Text) (T.refusal T.info Text) text.now) result }
 {
     match Parts::new(TextForm::Range, text) {
         None => Err(CodecError::Syntax),
@@ -211,7 +234,8 @@ fn read_text<T: Decode + Type>(alloc: Global, text: &str) -> Result<PgRange<T>, 
 
 /// The two parts of a range, each read from one text under the own type of `T`.
 fn read_parts<T: Decode + Type>(alloc: Global, parts: Parts<'_>) -> Result<PgRange<T>, CodecError>
-    ensures { Answers (range_meaning T.meaning) (bounds_in_text (T.reading T.info Text) (nest parts.entry)) result }
+    ensures exact { Answers (range_meaning T.meaning) (bounds_in_text (T.reading T.info Text) (nest parts.entry)) result }
+    ensures refused { RefusedFor (bounds_text_refusal (T.reading T.info Text) (T.refusal T.info Text) (nest parts.entry)) result }
 {
     let (lower_included, upper_included) = parts.includes();
     let mut parts = parts;
@@ -230,6 +254,7 @@ fn next_bound_of<T: Decode + Type>(
 ) -> Result<Bound<T>, CodecError>
     ensures ok { IfOk result (λ b. next_bound (T.reading T.info Text) included (nest parts.old).values ≡ Some (bound_map T.meaning b, (nest parts.new).values)) }
     ensures err { IfErr result (λ e. Refuses e (next_bound (T.reading T.info Text) included (nest parts.old).values ≡ None)) }
+    ensures refused { RefusedFor (next_bound_refusal (T.reading T.info Text) (T.refusal T.info Text) (nest parts.old).values) result }
 {
     match parts.next_into(text)? {
         None => Err(CodecError::Syntax),
@@ -244,7 +269,8 @@ fn bound_of_text<T: Decode + Type>(
     included: bool,
     text: &str,
 ) -> Result<Bound<T>, CodecError>
-    ensures { Answers (bound_map T.meaning) (bound_in_text (T.reading T.info Text) included (Some text.now)) result }
+    ensures exact { Answers (bound_map T.meaning) (bound_in_text (T.reading T.info Text) included (Some text.now)) result }
+    ensures refused { RefusedFor (T.refusal T.info Text (Some text.now)) result }
 {
     let part = PgValueRef::new(Some(text.as_bytes()), T::type_info(), PgValueFormat::Text);
     let value = T::decode(alloc, part)?;

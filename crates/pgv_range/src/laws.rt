@@ -17,6 +17,7 @@ ghost use Rattle.pgv_range.specs.RangeGrammar.{range};
 ghost use Rattle.pgv_range.specs.RangeImage.{range_image};
 ghost use Rattle.pgv_range.specs.RangeInText.{IsRangeInText, OneRangeInText};
 ghost use Rattle.pgv_range.specs.RangeOf.{RangeOf, range_meaning};
+ghost use Rattle.pgv_range.specs.RangeRefusals.{range_refusal, range_refused, range_takes};
 ghost use Rattle.pgv_range.specs.RangeRow.{ComesBackUnderRanges, IsBuiltInRange};
 ghost use Rattle.pgv_range.specs.RangeShown.{range_eq, range_text};
 ghost use Rattle.pgv_range.specs.RangeView.{IsOfBounds};
@@ -69,6 +70,8 @@ pub fn ranges_are_their_bounds<T: ReadBack + Type>()
     ensures written { IsWrittenAs (range_image T.hint T.image) ⟦<PgRange<T> as Encode>⟧.hint ⟦<PgRange<T> as Encode>⟧.image ⟦<PgRange<T> as Encode>⟧.produced }
     ensures means { ⟦<PgRange<T> as Decode>⟧.meaning ≡ range_meaning T.meaning }
     ensures read { ⟦<PgRange<T> as Decode>⟧.reading ≡ range T.info T.reading }
+    ensures unwritten { ⟦<PgRange<T> as Encode>⟧.unwritable ≡ range_refused T.hint T.image T.unwritable }
+    ensures refused { (⟦<PgRange<T> as Decode>⟧.refusal ≡ range_refusal T.info T.reading T.refusal) × (⟦<PgRange<T> as Decode>⟧.takes_memory ≡ range_takes) }
     ensures kept { ⟦<PgRange<T> as ReadBack>⟧.kept ≡ range_kept T.kept }
 {}
 
@@ -106,14 +109,18 @@ where
 }
 
 /// What the conversions give: the bounds that the ranges of Rust have, and never the empty range.
-pub fn conversions<T: Copy>()
-    ensures array { (from : _) (r : _) → ⟦<PgRange<T> as From<[Bound<T>; 2]>>⟧.from_gives from r ↔ IsOfBounds from r }
+pub fn conversions<T>()
     ensures pair { (from : _) (r : _) → ⟦<PgRange<T> as From<(Bound<T>, Bound<T>)>>⟧.from_gives from r ↔ (r ≡ Bounds from.0 from.1) }
     ensures range { (from : _) (r : _) → ⟦<PgRange<T> as From<Range<T>>>⟧.from_gives from r ↔ (r ≡ Bounds (Included from.start) (Excluded from.end)) }
     ensures range_from { (from : _) (r : _) → ⟦<PgRange<T> as From<RangeFrom<T>>>⟧.from_gives from r ↔ (r ≡ Bounds (Included from.start) Unbounded) }
     ensures inclusive { (from : _) (r : _) → ⟦<PgRange<T> as From<RangeInclusive<T>>>⟧.from_gives from r ↔ (r ≡ Bounds (Included (range_inclusive_start from)) (Included (range_inclusive_end from))) }
     ensures range_to { (from : _) (r : _) → ⟦<PgRange<T> as From<RangeTo<T>>>⟧.from_gives from r ↔ (r ≡ Bounds Unbounded (Excluded from.end)) }
     ensures to_inclusive { (from : _) (r : _) → ⟦<PgRange<T> as From<RangeToInclusive<T>>>⟧.from_gives from r ↔ (r ≡ Bounds Unbounded (Included from.end)) }
+{}
+
+/// What the conversion of an array of two bounds gives: these bounds.
+pub fn conversion_of_array<T: Copy>()
+    ensures { (from : _) (r : _) → ⟦<PgRange<T> as From<[Bound<T>; 2]>>⟧.from_gives from r ↔ IsOfBounds from r }
 {}
 
 /// What a range prints: `empty`, or brackets and the texts of its bounds' values, where these are promised.

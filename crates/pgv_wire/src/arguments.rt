@@ -8,6 +8,7 @@ ghost use Rattle.pgv_wire.specs.Each.{AreOutcomes, accepted};
 ghost use Rattle.pgv_wire.specs.History.{WrittenEarly};
 ghost use Rattle.pgv_codec.specs.Image.{frame, or_else};
 ghost use Rattle.pgv_codec.specs.Outcome.{Refused};
+ghost use Rattle.pgv_codec.specs.Refusing.{RefusedFor, frame_refused};
 ghost use Rattle.pgv_wire.specs.Parts.{OfImages};
 
 use pgv_codec::{Encode, PgArgumentBuffer, Type, type_of_value};
@@ -107,12 +108,13 @@ impl PgArguments {
 
     /// Adds a value, and remembers what it produces or else its type's info. It is accepted, out of memory (C1)
     /// aside, exactly where the value has a frame; a refused one leaves all as it was. C2 where the size hint or the
-    /// image is above 2147483647.
+    /// image is above 2147483647, and else what the value's own encoder says.
     /// 7 added to empty arguments is `00000004 00000007`, and the value stays yours.
     #[inline(always)]
     pub fn add_by_ref<T: Encode + Type>(&mut self, value: &T) -> Result<(), CodecError>
         ensures ok { OnOk result (Added (frame (T.hint value.now) (T.image value.now)) (or_else (T.produced value.now) T.info) self.old self.new) }
         ensures err { IfErr result (λ e. Refused e (frame (T.hint value.now) (T.image value.now))) }
+        ensures refused { RefusedFor (frame_refused (T.hint value.now) (T.image value.now) (T.unwritable value.now)) result }
         ensures unchanged { OnErr result (self.new ≡ self.old) }
     {
         self.types.reserve(1)?;
@@ -134,6 +136,7 @@ impl PgArguments {
     pub fn add<T: Encode + Type + Drop>(&mut self, value: T) -> Result<(), CodecError>
         ensures ok { OnOk result (Added (frame (T.hint value) (T.image value)) (or_else (T.produced value) T.info) self.old self.new) }
         ensures err { IfErr result (λ e. Refused e (frame (T.hint value) (T.image value))) }
+        ensures refused { RefusedFor (frame_refused (T.hint value) (T.image value) (T.unwritable value)) result }
         ensures unchanged { OnErr result (self.new ≡ self.old) }
     {
         self.add_by_ref(&value)

@@ -7,6 +7,7 @@ ghost use Rattle.pgv_value.specs.DateTimeBinary.{date_reading, date_time_refusal
 ghost use Rattle.pgv_codec.specs.DateTimeBinary.{days_of, date_image};
 ghost use Rattle.pgv_codec.specs.WithHint.{with_hint};
 
+use super::FIRST_DAY;
 use super::int::write_i32;
 use crate::buffer::{IsNull, PgArgumentBuffer};
 use crate::traits::{Alone, Of, Plain, Scalar};
@@ -19,7 +20,7 @@ use std::alloc::Global;
 fn days_from_2000(date: Date) -> i32
     ensures { result ≡ days_of (epoch_day date) }
 {
-    date.to_plain().to_unix_epoch_day() - 10_957
+    date.to_plain().to_unix_epoch_day() - FIRST_DAY
 }
 
 impl Alone for Of<Date> {}

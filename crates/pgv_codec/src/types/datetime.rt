@@ -7,6 +7,7 @@ ghost use Rattle.pgv_value.specs.DateTimeBinary.{date_time_reading, date_time_re
 ghost use Rattle.pgv_codec.specs.DateTimeBinary.{micros_of, moment_image};
 ghost use Rattle.pgv_codec.specs.WithHint.{with_hint};
 
+use super::FIRST_NANOSECOND;
 use super::int::write_i64;
 use crate::buffer::{IsNull, PgArgumentBuffer};
 use crate::traits::{Alone, Of, Plain, Scalar};
@@ -19,7 +20,7 @@ use std::alloc::Global;
 fn micros_from_2000(at: DateTime) -> i64
     ensures { result ≡ micros_of (civil_nanos at) }
 {
-    ((at.to_plain().to_nanosecond() - 946_684_800_000_000_000) / 1000) as i64
+    ((at.to_plain().to_nanosecond() - FIRST_NANOSECOND) / 1000) as i64
 }
 
 impl Alone for Of<DateTime> {}

@@ -12,6 +12,7 @@ ghost use Rattle.pgv_codec.specs.WithHint.{with_hint};
 use super::ipnetwork::{is_network, is_network_array, write_network, written_size};
 use crate::buffer::{IsNull, PgArgumentBuffer};
 use crate::traits::{Encode, PgHasArrayType, Plain, Type};
+use pgv_text::IpNetwork;
 use pgv_types::{PgType, PgTypeInfo};
 use pgv_value::{CodecError, PgValueRef, read_ip_address};
 use std::alloc::{AllocError, Global};
@@ -21,10 +22,7 @@ use std::net::IpAddr;
 fn full_prefix(address: IpAddr) -> u8
     ensures { result ≡ text.full_prefix address }
 {
-    match address {
-        IpAddr::V4(_) => 32,
-        IpAddr::V6(_) => 128,
-    }
+    IpNetwork::from(address).prefix()
 }
 
 /// `inet` (OID 869), read under `cidr`, `inet` and domains over one of them.

@@ -6,6 +6,7 @@ ghost use Rattle.pgv_value.specs.DateTimeBinary.{instant_reading, date_time_refu
 ghost use Rattle.pgv_codec.specs.DateTimeBinary.{micros_of, moment_image};
 ghost use Rattle.pgv_codec.specs.WithHint.{with_hint};
 
+use super::FIRST_NANOSECOND;
 use super::int::write_i64;
 use crate::buffer::{IsNull, PgArgumentBuffer};
 use crate::traits::{Alone, Of, Plain, Scalar};
@@ -18,7 +19,7 @@ use std::alloc::Global;
 fn micros_from_2000(at: Timestamp) -> i64
     ensures { result ≡ micros_of at.nanosecond }
 {
-    ((at.as_nanosecond() - 946_684_800_000_000_000) / 1000) as i64
+    ((at.as_nanosecond() - FIRST_NANOSECOND) / 1000) as i64
 }
 
 impl Alone for Of<Timestamp> {}

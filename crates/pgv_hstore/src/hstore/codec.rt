@@ -1,14 +1,15 @@
 //! Maps of texts, written and read (PostgreSQL, appendix F, hstore).
 
-ghost use Rattle.std.specs.Prelude.{◌≡◌, List, IfOk, IfErr, OnOk, OnErr, Some, refl, string_bytes, option_map, [], codes, map, if◌then◌else◌};
+ghost use Rattle.std.specs.Prelude.{◌≡◌, List, IfOk, IfErr, OnOk, OnErr, Some, false, is_some, refl, string_bytes, option_map, [], codes, map, if◌then◌else◌};
 ghost use Rattle.pgv_types.specs.Ty.{array_of, named};
 ghost use Rattle.pgv_types.specs.Relations.{softly};
-ghost use Rattle.pgv_value.specs.Reading.{Answers, Refuses};
+ghost use Rattle.pgv_value.specs.Reading.{Answers, AnswersExactly, Refuses};
 ghost use Rattle.pgv_value.specs.declared.error.CodecError.TheVariants.{Utf8};
 ghost use Rattle.pgv_codec.specs.Outcome.{Encoded, Refused, Appended, AppendedAll};
+ghost use Rattle.pgv_codec.specs.Refusing.{RefusedFor};
 ghost use Rattle.pgv_codec.specs.Saying.{plainly};
-ghost use Rattle.pgv_hstore.specs.Hstore.{Pair, pair_of, pairs_of, hstore_image, hstore_in_binary, hstore_reading, key_front, value_front, part_written, pair_written, pairs_written, put_read};
-ghost use Rattle.pgv_hstore.specs.HstoreRefusal.{hstore_binary_refusal, hstore_refusal, key_refusal, pairs_refusal, value_refusal};
+ghost use Rattle.pgv_hstore.specs.Hstore.{Pair, pair_of, pairs_of, hstore_image, hstore_in_binary, hstore_reading, key_front, value_front, hstore_refused, pair_refused, pairs_refused, part_written, pair_written, pairs_written, put_read, value_refused};
+ghost use Rattle.pgv_hstore.specs.HstoreRefusal.{hstore_binary_refusal, hstore_binary_takes, hstore_refusal, hstore_takes, key_refusal, pairs_refusal, pairs_take, value_refusal};
 ghost use Rattle.pgv_value.specs.Utf8.{is_utf8};
 
 use super::{PgHstore, put_pair};
@@ -59,6 +60,7 @@ impl PgHasArrayType for PgHstore {
 fn write_text(text: &String, out: &mut PgArgumentBuffer) -> Result<(), CodecError>
     ensures ok { OnOk result (AppendedAll (part_written (Some (string_bytes text.now))) out.old out.new) }
     ensures err { IfErr result (λ e. Refused e (part_written (Some (string_bytes text.now)))) }
+    ensures refused { RefusedFor (value_refused (Some (string_bytes text.now))) result }
     ensures appended { OnErr result (Appended out.old out.new) }
 {
     let count = text.len();
@@ -76,6 +78,7 @@ fn write_text(text: &String, out: &mut PgArgumentBuffer) -> Result<(), CodecErro
 fn write_value(value: &Option<String>, out: &mut PgArgumentBuffer) -> Result<(), CodecError>
     ensures ok { OnOk result (AppendedAll (part_written (option_map string_bytes value.now)) out.old out.new) }
     ensures err { IfErr result (λ e. Refused e (part_written (option_map string_bytes value.now))) }
+    ensures refused { RefusedFor (value_refused (option_map string_bytes value.now)) result }
     ensures appended { OnErr result (Appended out.old out.new) }
 {
     match value {
@@ -93,6 +96,7 @@ fn write_pair(
 ) -> Result<(), CodecError>
     ensures ok { OnOk result (AppendedAll (pair_written (pair_of (key.now, value.now))) out.old out.new) }
     ensures err { IfErr result (λ e. Refused e (pair_written (pair_of (key.now, value.now)))) }
+    ensures refused { RefusedFor (pair_refused (pair_of (key.now, value.now))) result }
     ensures appended { OnErr result (Appended out.old out.new) }
 {
     write_text(key, out)?;
@@ -107,6 +111,7 @@ fn write_pairs(
 ) -> Result<(), CodecError>
     ensures ok { OnOk result (AppendedAll (pairs_written (map pair_of hstore.now.entries)) out.old out.new) }
     ensures err { IfErr result (λ e. Refused e (pairs_written (map pair_of hstore.now.entries))) }
+    ensures refused { RefusedFor (pairs_refused (map pair_of hstore.now.entries)) result }
     ensures appended { OnErr result (Appended out.old out.new) }
 {
     for (key, value) in hstore {
@@ -119,6 +124,8 @@ fn write_pairs(
 /// null: `a => null` as `00000001 00000001 61 ffffffff`. More than 2147483647 pairs, or bytes of a key or value, are refused with C9.
 impl Encode for PgHstore {
     ghost image = { λ h. hstore_image (pairs_of h) };
+
+    ghost unwritable = { λ h. hstore_refused (pairs_of h) };
 
     fn encode_by_ref(&self, out: &mut PgArgumentBuffer) -> Result<IsNull, CodecError> {
         let count = self.0.len();
@@ -145,6 +152,7 @@ impl Encode for PgHstore {
 fn text_of(alloc: Global, form: &[u8]) -> Result<String, CodecError>
     ensures exact { Answers (λ text. string_bytes text) (if is_utf8 form.now then Some form.now else None) result }
     ensures refused { IfErr result (λ e. Refuses e (e ≡ Utf8)) }
+    ensures refused_exactly { is_utf8 form.now ≡ false → IfErr result (λ e. e ≡ Utf8) }
 {
     match str::from_utf8(form) {
         Ok(text) => Ok(String::from_str(alloc, text)?),
@@ -156,6 +164,7 @@ fn text_of(alloc: Global, form: &[u8]) -> Result<String, CodecError>
 fn key_in_front(alloc: Global, form: &[u8]) -> Result<(String, &[u8]), CodecError>
     ensures exact { Answers (λ p. (string_bytes p.0, p.1.now)) (key_front form.now) result }
     ensures refused { IfErr result (λ e. Refuses e (e ≡ key_refusal form.now)) }
+    ensures refused_exactly { is_some (key_front form.now) ≡ false → IfErr result (λ e. e ≡ key_refusal form.now) }
 {
     match part_in_front(form)? {
         (Some(part), rest) => Ok((text_of(alloc, part)?, rest)),
@@ -177,7 +186,9 @@ fn value_in_front(alloc: Global, form: &[u8]) -> Result<(Option<String>, &[u8]),
 /// So many pairs, each put into the map. Room is taken pair by pair, whatever the number says.
 fn read_pairs(alloc: Global, count: u32, form: &[u8]) -> Result<PgHstore, CodecError>
     ensures exact { Answers pairs_of (put_read [] count form.now) result }
+    ensures exactly { pairs_take count form.now ≡ false → AnswersExactly pairs_of (put_read [] count form.now) result }
     ensures refused { IfErr result (λ e. Refuses e (e ≡ pairs_refusal count form.now)) }
+    ensures refused_exactly { pairs_take count form.now ≡ false → IfErr result (λ e. e ≡ pairs_refusal count form.now) }
 {
     let mut map = BTreeMap::new(alloc);
     let mut rest = form;
@@ -193,7 +204,9 @@ fn read_pairs(alloc: Global, count: u32, form: &[u8]) -> Result<PgHstore, CodecE
 /// The map of bytes.
 fn of_bytes(alloc: Global, form: &[u8]) -> Result<PgHstore, CodecError>
     ensures exact { Answers pairs_of (hstore_in_binary form.now) result }
+    ensures exactly { hstore_binary_takes form.now ≡ false → AnswersExactly pairs_of (hstore_in_binary form.now) result }
     ensures refused { IfErr result (λ e. Refuses e (e ≡ hstore_binary_refusal form.now)) }
+    ensures refused_exactly { hstore_binary_takes form.now ≡ false → IfErr result (λ e. e ≡ hstore_binary_refusal form.now) }
 {
     let (count, rest) = u32_in_front(form)?;
     if count as usize > LENGTH_LIMIT {
@@ -208,7 +221,6 @@ fn of_bytes(alloc: Global, form: &[u8]) -> Result<PgHstore, CodecError>
 /// C13.
 /// A map comes back as it was written.
 impl Plain for PgHstore {
-    ghost use Rattle.std.specs.Prelude.{true};
     ghost use Rattle.pgv_hstore.specs.HstoreBack.{hstore_back};
 
     ghost Meaning = { List Pair };
@@ -219,9 +231,9 @@ impl Plain for PgHstore {
 
     ghost written = { plainly hstore_image };
 
-    ghost takes_memory = { true };
+    ghost takes_memory = { hstore_takes };
 
-    ghost refusal = { Some hstore_refusal };
+    ghost refusal = { hstore_refusal };
 
     fn read(alloc: Global, value: PgValueRef<'_>) -> Result<PgHstore, CodecError> {
         let bytes = value.as_bytes()?;

@@ -1,16 +1,16 @@
 //! Queries of label trees, written and read (PostgreSQL, "ltree", lquery).
 
-ghost use Rattle.std.specs.Prelude.{◌≡◌, ◌++◌, ℕ, List, map, true, IfOk, IfErr, OnOk, OnErr, None, Some, refl};
+ghost use Rattle.std.specs.Prelude.{◌≡◌, ◌++◌, ℕ, List, map, true, false, IfOk, IfErr, OnOk, OnErr, None, Some, is_some, refl};
 ghost use Rattle.pgv_types.specs.Relations.{softly};
 ghost use Rattle.pgv_buf.specs.Tokens.{blank, bytes};
-ghost use Rattle.pgv_value.specs.Reading.{Answers, Refuses};
+ghost use Rattle.pgv_value.specs.Reading.{Answers, AnswersExactly, Refuses};
 ghost use Rattle.pgv_value.specs.declared.error.CodecError.TheVariants.{Memory};
 ghost use Rattle.pgv_codec.specs.Outcome.{Appended};
 ghost use Rattle.pgv_codec.specs.Saying.{plainly};
 ghost use Rattle.pgv_ltree.specs.TreesCodec.{versioned};
 ghost use Rattle.pgv_lquery.specs.LevelView.{level_of};
 ghost use Rattle.pgv_lquery.specs.Queries.{Level, is_query};
-ghost use Rattle.pgv_lquery.specs.QueryCodec.{lquery, lquery_array, query_binary_refusal, query_fault, query_image, query_in_binary, query_in_text, query_reading, query_refusal, query_version_fault};
+ghost use Rattle.pgv_lquery.specs.QueryCodec.{lquery, lquery_array, query_binary_refusal, query_fault, query_image, query_in_binary, query_in_text, query_reading, query_refusal, query_takes, query_version_fault};
 ghost use Rattle.pgv_lquery.specs.QueryPrinted.{printed_query};
 ghost use Rattle.pgv_lquery.specs.QueryRead.{query_read};
 
@@ -120,7 +120,9 @@ fn text_of(form: &[u8]) -> Result<&str, CodecError>
 /// The query of a version and a text.
 fn read_binary(alloc: Global, form: &[u8]) -> Result<PgLQuery, CodecError>
     ensures exact { Answers (λ query. query) (query_in_binary form.now) result }
+    ensures exactly { is_some (versioned form.now) ≡ false → AnswersExactly (λ query. query) (query_in_binary form.now) result }
     ensures refused { IfErr result (λ e. Refuses e (e ≡ query_binary_refusal form.now)) }
+    ensures refused_exactly { is_some (versioned form.now) ≡ false → IfErr result (λ e. e ≡ query_binary_refusal form.now) }
 {
     let text = text_of(form)?;
     read_text(alloc, text)
@@ -137,7 +139,9 @@ impl Decode for PgLQuery {
 
     ghost written = { plainly query_image };
 
-    ghost refusal = { Some query_refusal };
+    ghost takes_memory = { query_takes };
+
+    ghost refusal = { λ _ format bytes. Some (query_refusal format bytes) };
 
     fn decode(alloc: Global, value: PgValueRef<'_>) -> Result<PgLQuery, CodecError> {
         match value.format() {

@@ -1,17 +1,17 @@
 //! Trees of labels, written and read (PostgreSQL, "ltree").
 
-ghost use Rattle.std.specs.Prelude.{◌≡◌, ◌++◌, ℕ, List, true, IfOk, IfErr, OnOk, OnErr, None, Some, refl};
+ghost use Rattle.std.specs.Prelude.{◌≡◌, ◌++◌, ℕ, List, true, false, IfOk, IfErr, OnOk, OnErr, None, Some, refl};
 ghost use Rattle.std.specs.List.{list_all};
 ghost use Rattle.pgv_types.specs.Relations.{softly};
 ghost use Rattle.pgv_buf.specs.Tokens.{blank, bytes};
-ghost use Rattle.pgv_value.specs.Reading.{Answers, Refuses};
+ghost use Rattle.pgv_value.specs.Reading.{Answers, AnswersExactly, Refuses};
 ghost use Rattle.pgv_value.specs.declared.error.CodecError.TheVariants.{Memory, LTree};
 ghost use Rattle.pgv_value.specs.declared.tree_error.PgLTreeParseError.TheVariants.{InvalidLtreeLabel};
 ghost use Rattle.pgv_codec.specs.Outcome.{Appended};
 ghost use Rattle.pgv_codec.specs.Saying.{plainly};
 ghost use Rattle.pgv_ltree.specs.Labels.{is_label};
-ghost use Rattle.pgv_ltree.specs.Trees.{printed_tree};
-ghost use Rattle.pgv_ltree.specs.TreesCodec.{ltree, ltree_array, tree_image, tree_in_binary, tree_in_text, tree_reading, tree_binary_refusal, tree_refusal, versioned, version_fault};
+ghost use Rattle.pgv_ltree.specs.Trees.{begins_with_label, printed_tree};
+ghost use Rattle.pgv_ltree.specs.TreesCodec.{ltree, ltree_array, tree_image, tree_in_binary, tree_in_text, tree_reading, tree_binary_refusal, tree_refusal, tree_takes, text_takes, versioned, version_fault};
 
 use super::PgLTree;
 use crate::label::PgLTreeLabel;
@@ -93,7 +93,9 @@ impl Encode for PgLTree {
 /// The tree of a text. Another text is refused with C36.
 fn read_text(alloc: Global, text: &str) -> Result<PgLTree, CodecError>
     ensures exact { Answers (λ tree. tree) (tree_in_text text.now) result }
+    ensures exactly { begins_with_label text.now ≡ false → AnswersExactly (λ tree. tree) (tree_in_text text.now) result }
     ensures refused { IfErr result (λ e. Refuses e (e ≡ LTree InvalidLtreeLabel)) }
+    ensures refused_exactly { begins_with_label text.now ≡ false → IfErr result (λ e. e ≡ LTree InvalidLtreeLabel) }
 {
     Ok(PgLTree::from_str(alloc, text)?)
 }
@@ -119,7 +121,9 @@ fn text_of(form: &[u8]) -> Result<&str, CodecError>
 /// The tree of a version and a text.
 fn read_binary(alloc: Global, form: &[u8]) -> Result<PgLTree, CodecError>
     ensures exact { Answers (λ tree. tree) (tree_in_binary form.now) result }
+    ensures exactly { text_takes (versioned form.now) ≡ false → AnswersExactly (λ tree. tree) (tree_in_binary form.now) result }
     ensures refused { IfErr result (λ e. Refuses e (e ≡ tree_binary_refusal form.now)) }
+    ensures refused_exactly { text_takes (versioned form.now) ≡ false → IfErr result (λ e. e ≡ tree_binary_refusal form.now) }
 {
     let text = text_of(form)?;
     read_text(alloc, text)
@@ -129,7 +133,6 @@ fn read_binary(alloc: Global, form: &[u8]) -> Result<PgLTree, CodecError>
 /// and a text that is no tree's with C36. In text the bytes are the tree's text. Null is refused with C13.
 /// A tree comes back as it was written, and one without labels as one empty label.
 impl Plain for PgLTree {
-    ghost use Rattle.std.specs.Prelude.{true};
     ghost use Rattle.pgv_ltree.specs.TreesBack.{tree_back, tree_kept};
 
     ghost Meaning = { List (List ℕ) };
@@ -140,9 +143,9 @@ impl Plain for PgLTree {
 
     ghost written = { plainly tree_image };
 
-    ghost takes_memory = { true };
+    ghost takes_memory = { tree_takes };
 
-    ghost refusal = { Some tree_refusal };
+    ghost refusal = { tree_refusal };
 
     ghost kept = { tree_kept };
 

@@ -1,12 +1,12 @@
 //! Lists of bits, written and read (PostgreSQL, "Bit String Types").
 
-ghost use Rattle.std.specs.Prelude.{◌≡◌, Bool, List, IfErr, None, IsErrOf, Some, refl};
+ghost use Rattle.std.specs.Prelude.{◌≡◌, Bool, List, IfErr, false, is_some, refl};
 ghost use Rattle.pgv_types.specs.Ty.{builtin};
 ghost use Rattle.pgv_value.specs.Reading.{Answers, Refuses};
 ghost use Rattle.pgv_value.specs.declared.error.CodecError.TheVariants.{Syntax};
-ghost use Rattle.pgv_more.specs.BitsBinary.{bits_image, bits_hint, bits_in_binary, bits_binary_refusal};
+ghost use Rattle.pgv_more.specs.BitsBinary.{bits_image, bits_hint, bits_in_binary, bits_binary_refusal, bits_refused};
 ghost use Rattle.pgv_more.specs.BitsText.{bits_in_text};
-ghost use Rattle.pgv_more.specs.BitsCodec.{is_bits, is_bits_array, bits_reading, bits_refusal};
+ghost use Rattle.pgv_more.specs.BitsCodec.{is_bits, is_bits_array, bits_reading, bits_refusal, bits_take};
 ghost use Rattle.pgv_codec.specs.WithHint.{with_hint};
 
 use super::BitVec;
@@ -15,6 +15,7 @@ use pgv_types::{PgType, PgTypeInfo};
 use pgv_value::{CodecError, PgValueFormat, PgValueRef};
 use std::alloc::{AllocError, Global};
 
+/// `varbit` (OID 1562), read under `bit`, `varbit` and domains over one of them.
 impl Type for BitVec {
     ghost info = { builtin 1562 };
 
@@ -30,6 +31,7 @@ impl Type for BitVec {
     }
 }
 
+/// An array of them is `varbit[]` (OID 1563), read under arrays of `bit` and of `varbit`.
 impl PgHasArrayType for BitVec {
     ghost array_info = { builtin 1563 };
 
@@ -51,6 +53,8 @@ impl Encode for BitVec {
     ghost image = { bits_image };
 
     ghost hint = { bits_hint };
+
+    ghost unwritable = { bits_refused };
 
     fn encode_by_ref(&self, out: &mut PgArgumentBuffer) -> Result<IsNull, CodecError> {
         let count = self.len();
@@ -76,6 +80,7 @@ impl Encode for BitVec {
 fn read_binary(alloc: Global, form: &[u8]) -> Result<BitVec, CodecError>
     ensures exact { Answers (λ bits. bits) (bits_in_binary form.now) result }
     ensures refused { IfErr result (λ e. Refuses e (e ≡ bits_binary_refusal form.now)) }
+    ensures refused_exactly { is_some (bits_in_binary form.now) ≡ false → IfErr result (λ e. e ≡ bits_binary_refusal form.now) }
 {
     if form.len() < 4 {
         return Err(CodecError::Short);
@@ -105,10 +110,9 @@ fn read_text(alloc: Global, text: &str) -> Result<BitVec, CodecError>
 
 /// Bits are read in binary as they are written, whatever fills the last byte after them: fewer than four bytes are refused with
 /// C15, a negative number with C16, and another number of bytes than the bits need with C17. A text is digits `0` and `1`,
-/// perhaps none, else C29. Null is refused with C13.
+/// perhaps none, else C29. Null is refused with C13. `00000003a0` and the text `101` are `101`.
 /// Bits come back as they were written.
 impl Plain for BitVec {
-    ghost use Rattle.std.specs.Prelude.{true};
     ghost use Rattle.pgv_more.specs.BitsBack.{bits_back};
 
     ghost Meaning = { List Bool };
@@ -119,9 +123,9 @@ impl Plain for BitVec {
 
     ghost written = { with_hint bits_hint bits_image };
 
-    ghost takes_memory = { true };
+    ghost takes_memory = { bits_take };
 
-    ghost refusal = { Some bits_refusal };
+    ghost refusal = { bits_refusal };
 
     fn read(alloc: Global, value: PgValueRef<'_>) -> Result<BitVec, CodecError> {
         match value.format() {

@@ -122,7 +122,7 @@ impl<const N: usize> Plain for PgByteaArray<N> {
 
     ghost written = { plainly (sized_image N) };
 
-    ghost refusal = { Some sized_refusal };
+    ghost refusal = { sized_refusal };
 
     fn read(_alloc: Global, value: PgValueRef<'_>) -> Result<PgByteaArray<N>, CodecError> {
         let bytes = value.as_bytes()?;

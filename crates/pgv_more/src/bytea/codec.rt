@@ -1,11 +1,11 @@
 //! Strings of bytes, written and read (PostgreSQL, "Binary Data Types", bytea).
 
-ghost use Rattle.std.specs.Prelude.{ℕ, List, Some, refl};
+ghost use Rattle.std.specs.Prelude.{ℕ, List, refl};
 ghost use Rattle.pgv_types.specs.Ty.{builtin};
 ghost use Rattle.pgv_types.specs.Relations.{softly};
 ghost use Rattle.pgv_codec.specs.Saying.{plainly};
 ghost use Rattle.pgv_codec.specs.ScalarBinary.{text_image as plain_image};
-ghost use Rattle.pgv_more.specs.ByteaText.{bytea_reading, bytea_refusal};
+ghost use Rattle.pgv_more.specs.ByteaText.{bytea_reading, bytea_refusal, bytea_takes};
 
 use super::{PgBytea, of_text};
 use pgv_codec::{Encode, IsNull, PgArgumentBuffer, PgHasArrayType, Plain, Type};
@@ -66,7 +66,6 @@ impl Encode for PgBytea {
 /// one that isn't UTF-8 too. Null is refused with C13. (A server that writes the older escape format is not read.)
 /// Bytes come back as they were written.
 impl Plain for PgBytea {
-    ghost use Rattle.std.specs.Prelude.{true};
     ghost use Rattle.pgv_more.specs.ByteaBack.{bytea_back};
 
     ghost Meaning = { List ℕ };
@@ -77,9 +76,9 @@ impl Plain for PgBytea {
 
     ghost written = { plainly plain_image };
 
-    ghost takes_memory = { true };
+    ghost takes_memory = { bytea_takes };
 
-    ghost refusal = { Some bytea_refusal };
+    ghost refusal = { bytea_refusal };
 
     #[inline(always)]
     fn read(alloc: Global, value: PgValueRef<'_>) -> Result<PgBytea, CodecError> {

@@ -12,6 +12,7 @@ use pgv_types::{PgType, PgTypeInfo};
 use pgv_value::{CodecError, PgValueFormat, PgValueRef};
 use std::alloc::{AllocError, Global};
 
+/// `macaddr` (OID 829), read under `macaddr` and domains over it.
 impl Type for MacAddress {
     ghost info = { builtin 829 };
 
@@ -26,6 +27,7 @@ impl Type for MacAddress {
     }
 }
 
+/// An array of them is `macaddr[]` (OID 1040).
 impl PgHasArrayType for MacAddress {
     ghost array_info = { builtin 1040 };
 
@@ -62,7 +64,7 @@ impl Encode for MacAddress {
 }
 
 /// An address is read in binary of its six bytes, where another number of bytes is refused with C17, and in text as
-/// [`from_str`](MacAddress::from_str) reads it, else C29. Null is refused with C13.
+/// [`from_str`](MacAddress::from_str) reads it, else C29. Null is refused with C13. `08002b010203` and the text `08:00:2b:01:02:03` are one address.
 /// An address comes back as it was written.
 impl Plain for MacAddress {
     ghost use Rattle.pgv_more.specs.MacAddressBack.{mac_back};
@@ -75,7 +77,7 @@ impl Plain for MacAddress {
 
     ghost written = { with_hint (λ _. 6) mac_image };
 
-    ghost refusal = { Some mac_refusal };
+    ghost refusal = { mac_refusal };
 
     #[inline(always)]
     fn read(_alloc: Global, value: PgValueRef<'_>) -> Result<MacAddress, CodecError> {

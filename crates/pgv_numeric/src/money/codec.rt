@@ -75,7 +75,7 @@ impl Plain for PgMoney {
 
     ghost written = { plainly (signed_image w64) };
 
-    ghost refusal = { Some money_refusal };
+    ghost refusal = { money_refusal };
 
     fn read(_alloc: Global, value: PgValueRef<'_>) -> Result<PgMoney, CodecError> {
         let bytes = value.as_bytes()?;

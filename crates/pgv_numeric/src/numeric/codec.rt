@@ -1,13 +1,14 @@
 //! Numbers with any number of digits, written and read (PostgreSQL, "Numeric Types", numeric).
 
-ghost use Rattle.std.specs.Prelude.{◌≡◌, ◌+◌, ◌≤◌, length, drop, IfOk, IfErr, OnOk, OnErr, Some, refl};
+ghost use Rattle.std.specs.Prelude.{◌≡◌, ◌+◌, ◌≤◌, false, length, drop, IfOk, IfErr, OnOk, OnErr, is_some, refl};
 ghost use Rattle.pgv_types.specs.Ty.{builtin};
 ghost use Rattle.pgv_types.specs.Relations.{softly};
 ghost use Rattle.pgv_value.specs.Reading.{Answers, Refuses};
-ghost use Rattle.pgv_value.specs.declared.error.CodecError.TheVariants.{Memory, Short};
+ghost use Rattle.pgv_value.specs.declared.error.CodecError.TheVariants.{NumericDigit, Short};
 ghost use Rattle.pgv_codec.specs.Outcome.{Encoded, Refused, Appended, AppendedAll};
+ghost use Rattle.pgv_codec.specs.Refusing.{RefusedFor};
 ghost use Rattle.pgv_codec.specs.Saying.{plainly};
-ghost use Rattle.pgv_numeric.specs.Numeric.{Numeric, number, numeric_of, numeric_image, numeric_in_binary, numeric_binary_refusal, numeric_reading, numeric_refusal, digit_written, digits_after, digits_written, head_form, sign_of as sign_of_word, sign_word as sign_as_word, signed_word, unsigned_word};
+ghost use Rattle.pgv_numeric.specs.Numeric.{Numeric, number, numeric_of, numeric_image, numeric_in_binary, numeric_binary_refusal, numeric_reading, numeric_refusal, digit_written, digits_after, digits_refused, digits_written, head_form, is_digit, numeric_refused, sign_of as sign_of_word, sign_word as sign_as_word, signed_word, unsigned_word};
 
 use super::{PgNumeric, PgNumericSign};
 use byteorder::{BigEndian, ByteOrder};
@@ -62,6 +63,7 @@ impl PgHasArrayType for PgNumeric {
 fn write_digit(digit: &i16, out: &mut PgArgumentBuffer) -> Result<(), CodecError>
     ensures ok { OnOk result (AppendedAll (digit_written digit.now) out.old out.new) }
     ensures err { IfErr result (λ e. Refused e (digit_written digit.now)) }
+    ensures refused { IfErr result (λ e. Refuses e ((is_digit digit.now ≡ false) × (e ≡ NumericDigit digit.now))) }
     ensures appended { OnErr result (Appended out.old out.new) }
 {
     if !PgNumeric::is_valid_digit(*digit) {
@@ -76,6 +78,7 @@ fn write_digit(digit: &i16, out: &mut PgArgumentBuffer) -> Result<(), CodecError
 fn write_digits(digits: &[i16], out: &mut PgArgumentBuffer) -> Result<(), CodecError>
     ensures ok { OnOk result (AppendedAll (digits_written digits.now) out.old out.new) }
     ensures err { IfErr result (λ e. Refused e (digits_written digits.now)) }
+    ensures refused { RefusedFor (digits_refused digits.now) result }
     ensures appended { OnErr result (Appended out.old out.new) }
 {
     for digit in digits {
@@ -106,6 +109,7 @@ fn write_number(
 ) -> Result<IsNull, CodecError>
     ensures ok { IfOk result (λ n. Encoded n (numeric_image (number sign digits.now weight scale)) out.old out.new) }
     ensures err { IfErr result (λ e. Refused e (numeric_image (number sign digits.now weight scale))) }
+    ensures refused { RefusedFor (numeric_refused (number sign digits.now weight scale)) result }
     ensures appended { OnErr result (Appended out.old out.new) }
 {
     let count = digits.len();
@@ -134,6 +138,8 @@ fn sign_word(sign: PgNumericSign) -> u16
 /// 0 to 9999 with C8.
 impl Encode for PgNumeric {
     ghost image = { λ n. numeric_image (numeric_of n) };
+
+    ghost unwritable = { λ n. numeric_refused (numeric_of n) };
 
     fn encode_by_ref(&self, out: &mut PgArgumentBuffer) -> Result<IsNull, CodecError> {
         match self {
@@ -179,6 +185,7 @@ fn signed_at(form: &[u8], place: usize) -> i16
 fn read_digits(alloc: Global, count: u16, form: &[u8]) -> Result<Vec<i16>, CodecError>
     ensures exact { Answers (λ v. v.items) (digits_after count form.now) result }
     ensures refused { IfErr result (λ e. Refuses e (e ≡ Short)) }
+    ensures refused_exactly { is_some (digits_after count form.now) ≡ false → IfErr result (λ e. e ≡ Short) }
 {
     let count = count as usize;
     if form.len() < 2 * count {
@@ -206,6 +213,7 @@ fn sign_of(word: u16) -> Option<PgNumericSign>
 fn of_bytes(alloc: Global, form: &[u8]) -> Result<PgNumeric, CodecError>
     ensures exact { Answers numeric_of (numeric_in_binary form.now) result }
     ensures refused { IfErr result (λ e. Refuses e (e ≡ numeric_binary_refusal form.now)) }
+    ensures refused_exactly { is_some (numeric_in_binary form.now) ≡ false → IfErr result (λ e. e ≡ numeric_binary_refusal form.now) }
 {
     if form.len() < 8 {
         return Err(CodecError::Short);
@@ -231,7 +239,6 @@ fn of_bytes(alloc: Global, form: &[u8]) -> Result<PgNumeric, CodecError>
 /// C13.
 /// A number comes back as it is.
 impl Plain for PgNumeric {
-    ghost use Rattle.std.specs.Prelude.{true};
     ghost use Rattle.pgv_numeric.specs.NumericBack.{numeric_back};
 
     ghost Meaning = { Numeric };
@@ -242,9 +249,9 @@ impl Plain for PgNumeric {
 
     ghost written = { plainly numeric_image };
 
-    ghost takes_memory = { true };
+    ghost takes_memory = { λ t format bytes. is_some (numeric_reading t format bytes) };
 
-    ghost refusal = { Some numeric_refusal };
+    ghost refusal = { numeric_refusal };
 
     fn read(alloc: Global, value: PgValueRef<'_>) -> Result<PgNumeric, CodecError> {
         let bytes = value.as_bytes()?;

@@ -7,7 +7,7 @@ use Rattle.pgv_value.specs.declared.tree_error.PgLTreeParseError.TheVariants.{Me
 use Rattle.pgv_ltree.specs.Each.{read_each}
 use Rattle.pgv_ltree.specs.Labels.{label_read}
 use Rattle.pgv_ltree.specs.Trees.{parts}
-use Rattle.pgv_ltree.proofs.EachRead.{each-push, each-refused}
+use Rattle.pgv_ltree.proofs.EachRead.{each-push, each-refused, first_now, unread_label}
 use Rattle.pgv_ltree.proofs.ltree.PgLTree.from_str.Goals as goal
 
 pub returns-in_err-from_str-clause-err : goal.returns-in_err-from_str-clause-err
@@ -28,3 +28,20 @@ returns-clause-ok c =
     let chain = YieldsList-from_str_split 46 c.args.text.now (lit< tt) (cc) (cc) (cc) in
     let all = YieldsList-end chain c.loop-label.yielded _ c.loop-label.yielded_by _ _ c.in-None.is c.next.ensures.steps in
     rw (← all.0) c.loop-label.invariant.2
+
+pub returns-in_err-from_str-clause-refused_exactly : goal.returns-in_err-from_str-clause-refused_exactly
+returns-in_err-from_str-clause-refused_exactly c isnt =
+    let chain = YieldsList-from_str_split 46 c.args.text.now (lit< tt) (cc) (cc) (cc) in
+    let t = YieldsList-turn chain c.loop-label.yielded _ c.loop-label.yielded_by _ _ c.in-Some.label c.in-Some.is c.next.ensures.steps in
+    let so_far = YieldsList-so_far chain c.loop-label.yielded _ c.loop-label.yielded_by in
+    let none = first_now (parts c.args.text.now) _ c.loop-label.labels.items (length c.loop-label.yielded) c.in-Some.label.now so_far t.0 t.1 c.loop-label.invariant.2 isnt in
+    let p = err_from_is_err_and c.from_residual.result c.from_residual.ensures.1 in
+    rw (p.1, p.2) (c.in_err-from_str.ensures.refused_exactly none)
+
+pub returns-in_err-push-clause-refused_exactly : goal.returns-in_err-push-clause-refused_exactly
+returns-in_err-push-clause-refused_exactly c isnt =
+    let chain = YieldsList-from_str_split 46 c.args.text.now (lit< tt) (cc) (cc) (cc) in
+    let t = YieldsList-turn chain c.loop-label.yielded _ c.loop-label.yielded_by _ _ c.in-Some.label c.in-Some.is c.next.ensures.steps in
+    let so_far = YieldsList-so_far chain c.loop-label.yielded _ c.loop-label.yielded_by in
+    let none = first_now (parts c.args.text.now) _ c.loop-label.labels.items (length c.loop-label.yielded) c.in-Some.label.now so_far t.0 t.1 c.loop-label.invariant.2 isnt in
+    unread_label c.in-Some.label.now c.in_ok-from_str.field-0 none c.in_ok-from_str.ensures.ok

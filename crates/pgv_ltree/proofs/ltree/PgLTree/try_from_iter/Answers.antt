@@ -1,21 +1,32 @@
-use Rattle.std.proofs.Common.{◌∙◌, ap, inr, map, sym, refl, string_bytes}
+use Rattle.std.proofs.Common.{◌∙◌, ap, inl, inr, map, sym, refl, string_bytes}
 use Rattle.std.proofs.lemmas.List.{map_push}
 use Rattle.std.proofs.lemmas.Result.{err_from_is_err_and}
 use Rattle.pgv_ltree.specs.Each.{read_each}
 use Rattle.pgv_ltree.specs.Labels.{label_read}
-use Rattle.pgv_ltree.proofs.EachRead.{each-push}
+use Rattle.pgv_ltree.proofs.EachRead.{each-push, read_is_label}
 use Rattle.pgv_ltree.proofs.ltree.PgLTree.try_from_iter.Goals as goal
 
 pub returns-in_err-new-clause-err : goal.returns-in_err-new-clause-err
 returns-in_err-new-clause-err g c =
     let p = err_from_is_err_and c.from_residual.result c.from_residual.ensures.1 in
-    rw (p.1, p.2) (inr (
+    rw (p.1, p.2) (
       c.into_iter-label-iterator.result,
       string_bytes c.in-Some.label,
       c.into_iter-label-iterator.ensures.into_iter_gives,
       (c.loop-label.yielded, c.in-Some.label, c.next.new.self, (c.loop-label.label-iterator, c.loop-label.yielded_by, c.in-Some.ensures.steps), refl),
-      sym c.in_err-new.ensures,
-    ))
+      inl (sym c.in_err-new.ensures),
+    )
+
+pub returns-in_err-push-clause-err : goal.returns-in_err-push-clause-err
+returns-in_err-push-clause-err g c =
+    let p = err_from_is_err_and c.from_residual-in_err-push.result c.from_residual-in_err-push.ensures.1 in
+    rw (p.1, p.2) (
+      c.into_iter-label-iterator.result,
+      string_bytes c.in-Some.label,
+      c.into_iter-label-iterator.ensures.into_iter_gives,
+      (c.loop-label.yielded, c.in-Some.label, c.next.new.self, (c.loop-label.label-iterator, c.loop-label.yielded_by, c.in-Some.ensures.steps), refl),
+      inr (refl, read_is_label (string_bytes c.in-Some.label) c.in_ok-new.field-0 (sym c.in_ok-new.ensures)),
+    )
 
 pub loop-label-preserved : goal.loop-label-preserved
 loop-label-preserved g c =
