@@ -26,6 +26,14 @@ pub use Rattle.pgv_value.specs.declared.value.PgValueFormat.{PgValueFormat}
 pub use Rattle.pgv_value.specs.declared.value.PgValueFormat.TheVariants.{Binary, Text}
 -- The readings of plain types (`int_reading w32`); `scalar` and `binary_alone` make one of a grammar for each format, or for binary.
 pub use Rattle.pgv_value.specs.ScalarGrammar.{scalar, binary_alone, bool_reading, int_reading, oid_reading, uuid_reading, text_reading}
+-- For `refusal`: why numbers of a width are refused, and texts; `text_refusal_or why` of what is read of a text, the same in both
+-- formats: null is C13, what isn't UTF-8 C14, and another text `why`. `refusal_or why read after` is `why` where nothing was read,
+-- and else what comes after it.
+pub use Rattle.pgv_value.specs.ScalarGrammar.{int_refusal}
+pub use Rattle.pgv_value.specs.Utf8.{text_refusal}
+pub use Rattle.pgv_codec.specs.Refusing.{text_refusal_or}
+pub use Rattle.pgv_nest.specs.NestRefusals.{refusal_or}
+pub use Rattle.pgv_value.specs.declared.error.CodecError.{CodecError}
 -- For `written` of `Decode`: `plainly image` is what is written of a meaning, `unwritten` says nothing, and
 -- `field_written info written m` is the same for a field.
 pub use Rattle.pgv_codec.specs.Saying.{plainly, unwritten, field_written}
@@ -33,8 +41,11 @@ pub use Rattle.pgv_codec.specs.Saying.{plainly, unwritten, field_written}
 -- `Err` why it is refused. `bytes_left reader` falls with each row.
 pub use Rattle.pgv_copy.specs.CopyBinary.{step, bytes_left}
 -- Of arguments: their buffer, their types, and type and frame of each. `early (framed a) types oids` are the bytes of these frames,
--- written with types and OIDs from the start.
-pub use Rattle.pgv_wire.specs.Arguments.{all_tokens, types_in, framed, early}
+-- written with types and OIDs from the start. `Added frame type old new`: what an accepted `add` has put after what was there.
+pub use Rattle.pgv_wire.specs.Arguments.{Added, Argument, all_tokens, types_in, framed, early}
+-- `hole_types_of cells` are the types whose OIDs are missing, and `oid_of type` is the OID that a type has.
+pub use Rattle.pgv_buf.specs.Tokens.{hole_types_of}
+pub use Rattle.pgv_types.specs.Facts.{oid_of}
 -- `ReadAs bytes parts rest`: frames one after another, with a rest.
 pub use Rattle.pgv_wire.specs.Parts.{ReadAs}
 -- `ArgumentReadsBack hint image reading kept fits`: an argument is read back, whatever else was added and filled.

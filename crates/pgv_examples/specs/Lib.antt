@@ -1,3 +1,4 @@
 pub mod Moods
 pub mod Objects
 pub mod Percents
+pub mod Known

@@ -1,7 +1,8 @@
 -- Shares in percent: numbers of int4 from 0 to 100.
 use Rattle.std.specs.Prelude.{◌≡◌, Bool, ◌&&◌, true, cond, ℤ, pos, int_le, Option, Some, None, refl}
 use Rattle.std.specs.Int.{w32}
-use Rattle.pgv.specs.Words.{Image, Reading, ReadsBack, always, guarded, signed_image, int_reading, int4_back}
+use Rattle.pgv.specs.Words.{CodecError, Image, Part, PgValueFormat, Reading, ReadsBack, always, builtin, guarded, signed_image, int_reading, int_refusal, int4_back, refusal_or}
+use Rattle.pgv_value.specs.declared.error.CodecError.TheVariants.{Caller}
 use Rattle.pgv_examples.specs.declared.percent.Percent.{Percent}
 
 abbrev pub is_percent : ℤ → Bool
@@ -18,6 +19,10 @@ percent_image n = cond (is_percent n) (signed_image w32 n) None
 
 abbrev pub percent_reading : Reading ℤ
 percent_reading t f part = percent_of (int_reading w32 t f part)
+
+-- what isn't an int4 is refused as one, and another number with C38(9)
+abbrev pub percent_refusal : PgValueFormat → Part → CodecError
+percent_refusal f part = refusal_or (int_refusal f part) (int_reading w32 (builtin 23) f part) (λ n. Caller 9)
 
 pub percent_back : ReadsBack {A = Percent} (λ p. percent_image p.number) percent_reading (λ p. p.number) always
 percent_back v i t p oids e whole small fit =

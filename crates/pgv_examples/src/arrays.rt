@@ -1,9 +1,9 @@
 //! Arrays, and arrays with nulls in them, written and read.
 
 ghost use Rattle.std.specs.Prelude.{◌≡◌, ◌+◌, ◌++◌, [], ◌∷◌, length, Some, IfOk, OnOk, OnErr};
-ghost use Rattle.pgv.specs.Words.{Answers, builtin, types_in};
+ghost use Rattle.pgv.specs.Words.{Added, Answers, Argument, builtin, frame};
 
-use pgv::{CodecError, Decode, PgArguments, PgValueRef};
+use pgv::{CodecError, Decode, Encode, PgArguments, PgValueRef};
 use std::alloc::Global;
 
 /// Adds two lists of `int4`. In the second a score may be null.
@@ -12,7 +12,7 @@ pub fn add_lists(
     places: Vec<i32>,
     scores: Vec<Option<i32>>,
 ) -> Result<(), CodecError>
-    ensures { OnOk result (types_in arguments.new ≡ types_in arguments.old ++ builtin 1007 ∷ builtin 1007 ∷ []) }
+    ensures { OnOk result ((one : List Argument) × Added (frame 0 (⟦<Vec<i32> as Encode>⟧.image places)) (builtin 1007) arguments.old one × Added (frame 0 (⟦<Vec<Option<i32>> as Encode>⟧.image scores)) (builtin 1007) one arguments.new) }
 {
     arguments.add(places)?;
     arguments.add(scores)?;

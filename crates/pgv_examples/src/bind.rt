@@ -2,13 +2,14 @@
 
 ghost use Rattle.std.specs.Prelude.{◌≡◌, ◌++◌, List, [], ◌∷◌, length, IfOk, IfErr, OnOk, OnErr, codes};
 ghost use Rattle.std.specs.Int.{w16, to_be_bytes};
-ghost use Rattle.pgv.specs.Words.{Oid, builtin, array_of, shown, all_tokens, types_in, framed, early};
+ghost use Rattle.pgv.specs.Words.{Added, Argument, Oid, builtin, array_of, frame, hole_types_of, shown, all_tokens, framed, early};
+ghost use Rattle.pgv_examples.specs.Known.{AreKnownOids, IsKnownOid};
 
 use crate::mood::Mood;
-use pgv::{CodecError, Oid, PgArguments, PgTypeInfo};
+use pgv::{CodecError, Encode, Oid, PgArguments, PgTypeInfo};
 use std::alloc::Global;
 
-/// The arguments of `select .. where id = $1 and name = $2 and mood = any($3)`. Their types are `int4`, `text` and `mood[]`; of the
+/// The arguments of `select .. where id = $1 and name = $2 and mood = any($3)`: the three frames. Their types are `int4`, `text` and `mood[]`; of the
 /// last only the name is known here, so there is a hole where its element's OID is to stand.
 pub fn arguments_of_search(
     alloc: Global,
@@ -16,7 +17,7 @@ pub fn arguments_of_search(
     name: String,
     moods: Vec<Mood>,
 ) -> Result<PgArguments, CodecError>
-    ensures { IfOk result (λ arguments. types_in arguments ≡ builtin 23 ∷ builtin 25 ∷ array_of (codes "mood") ∷ []) }
+    ensures { IfOk result (λ arguments. (one : List Argument) × (two : List Argument) × Added (frame 0 (⟦<i32 as Encode>⟧.image id)) (builtin 23) [] one × Added (frame 0 (⟦<String as Encode>⟧.image name)) (builtin 25) one two × Added (frame 0 (⟦<Vec<Mood> as Encode>⟧.image moods)) (array_of (codes "mood")) two arguments) }
 {
     let mut arguments = PgArguments::new(alloc);
     arguments.add(id)?;
@@ -33,21 +34,39 @@ pub fn fill(
     parameters: &[PgTypeInfo],
     known: &[PgTypeInfo],
 ) -> Result<(), CodecError>
-    ensures written { OnOk result ((oids : List Oid) × (shown (all_tokens arguments.new) ≡ early (framed arguments.old) parameters.now oids)) }
+    // Each OID is that of a known type which its hole's is softly equal to.
+    ensures written { OnOk result ((oids : List Oid) × AreKnownOids known.now (hole_types_of (all_tokens arguments.old)) oids × (shown (all_tokens arguments.new) ≡ early (framed arguments.old) parameters.now oids)) }
     ensures unchanged { OnErr result (arguments.new ≡ arguments.old) }
 {
-    let mut oids = Vec::new(alloc);
-    for hole in arguments.hole_types() {
-        oids.push(oid_among(known, hole)?)?;
-    }
+    let oids = oids_among(alloc, known, arguments.hole_types())?;
     arguments.apply_patches(parameters, oids.as_slice())
 }
 
+/// The OID of the type of each name. C38(1) where no type has one of them.
+fn oids_among(
+    alloc: Global,
+    known: &[PgTypeInfo],
+    holes: &[PgTypeInfo],
+) -> Result<Vec<Oid>, CodecError>
+    ensures { IfOk result (λ oids. AreKnownOids known.now holes.now oids.items) }
+{
+    let mut oids = Vec::new(alloc);
+    for hole in holes {
+        oids.push(oid_among(known, hole)?)?;
+    }
+    Ok(oids)
+}
+
 /// The OID of the type of this name. C38(1) where no type has it.
-fn oid_among(known: &[PgTypeInfo], wanted: &PgTypeInfo) -> Result<Oid, CodecError> {
+fn oid_among(known: &[PgTypeInfo], wanted: &PgTypeInfo) -> Result<Oid, CodecError>
+    ensures { IfOk result (λ oid. IsKnownOid known.now wanted.now oid) }
+{
     for type_info in known {
         if type_info.type_compatible(wanted) {
-            return type_info.oid().ok_or(CodecError::Caller(1));
+            let Some(oid) = type_info.oid() else {
+                return Err(CodecError::Caller(1));
+            };
+            return Ok(oid);
         }
     }
     Err(CodecError::Caller(1))

@@ -44,9 +44,12 @@ impl Type for Percent {
 
 /// Written as its number. Another number than 0 to 100 is refused with C38(9), and whoever called the encoder goes back.
 impl Encode for Percent {
+    ghost use Rattle.std.specs.Prelude.{Some};
     ghost use Rattle.pgv_examples.specs.Percents.{percent_image};
 
     ghost image = { λ percent. percent_image percent.number };
+
+    ghost unwritable = { λ _. Some (CodecError.Caller 9) };
 
     fn encode_by_ref(&self, out: &mut PgArgumentBuffer) -> Result<IsNull, CodecError> {
         self.check()?;
@@ -66,7 +69,7 @@ impl Encode for Percent {
 impl Plain for Percent {
     ghost use Rattle.std.specs.Prelude.{ℤ, refl};
     ghost use Rattle.pgv.specs.Words.{plainly};
-    ghost use Rattle.pgv_examples.specs.Percents.{percent_back, percent_image, percent_reading};
+    ghost use Rattle.pgv_examples.specs.Percents.{percent_back, percent_image, percent_reading, percent_refusal};
 
     ghost Meaning = { ℤ };
 
@@ -75,6 +78,8 @@ impl Plain for Percent {
     ghost reading = { percent_reading };
 
     ghost written = { plainly percent_image };
+
+    ghost refusal = { percent_refusal };
 
     fn read(alloc: Global, value: PgValueRef<'_>) -> Result<Percent, CodecError> {
         let percent = Percent {

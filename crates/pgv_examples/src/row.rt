@@ -1,6 +1,6 @@
 //! Reads a row column by column: values, values that may be null, and one that is kept after the row is gone.
 
-ghost use Rattle.std.specs.Prelude.{◌≡◌, ℕ, List, Some, IfOk};
+ghost use Rattle.std.specs.Prelude.{◌≡◌, ℕ, List, Some, None, IfOk};
 ghost use Rattle.std.specs.Int.{w32};
 ghost use Rattle.pgv.specs.Words.{Part, Binary, front, int_reading, builtin};
 
@@ -13,7 +13,8 @@ pub fn column<'r, T: Decode>(
     row: &mut &'r [u8],
     type_info: PgTypeInfo,
 ) -> Result<T, CodecError>
-    ensures { IfOk result (λ v. (part : Part) × (front row.old.now ≡ Some (part, row.new.now)) × (T.reading type_info Binary part ≡ Some (T.meaning v))) }
+    ensures ok { IfOk result (λ v. (part : Part) × (front row.old.now ≡ Some (part, row.new.now)) × (T.reading type_info Binary part ≡ Some (T.meaning v))) }
+    ensures stays { front row.old.now ≡ None → row.new.now ≡ row.old.now }
 {
     let value = PgValueRef::get(row, PgValueFormat::Binary, type_info)?;
     T::decode(alloc, value)
@@ -41,7 +42,8 @@ pub fn read_person(alloc: Global, row: &[u8]) -> Result<Person, CodecError>
 
 /// The next column of a row, kept as it is after the row is gone.
 pub fn keep(alloc: Global, row: &mut &[u8], type_info: PgTypeInfo) -> Result<PgValue, CodecError>
-    ensures { IfOk result (λ value. front row.old.now ≡ Some (value.bytes, row.new.now)) }
+    ensures bytes { IfOk result (λ value. front row.old.now ≡ Some (value.bytes, row.new.now)) }
+    ensures kind { IfOk result (λ value. (value.type_info ≡ type_info) × (value.format ≡ Binary)) }
 {
     let value = PgValueRef::get(row, PgValueFormat::Binary, type_info)?;
     value.to_owned(alloc)

@@ -58,7 +58,7 @@ impl Encode for UserId {
 /// Read as its number, and what is written of it comes back under every type.
 impl Plain for UserId {
     ghost use Rattle.std.specs.Prelude.{refl};
-    ghost use Rattle.pgv.specs.Words.{int4_back};
+    ghost use Rattle.pgv.specs.Words.{int4_back, int_refusal};
 
     ghost Meaning = { ⟦<i32 as Decode>⟧.Meaning };
 
@@ -67,6 +67,8 @@ impl Plain for UserId {
     ghost reading = { ⟦<i32 as Decode>⟧.reading };
 
     ghost written = { ⟦<i32 as Decode>⟧.written };
+
+    ghost refusal = { int_refusal };
 
     fn read(alloc: Global, value: PgValueRef<'_>) -> Result<UserId, CodecError> {
         Ok(UserId(i32::decode(alloc, value)?))

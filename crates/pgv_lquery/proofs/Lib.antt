@@ -10,3 +10,4 @@ pub mod EachText
 pub mod LawsOfVariants
 pub mod LawsOfLevels
 pub mod LawsOfQueries
+pub mod EqualQueries

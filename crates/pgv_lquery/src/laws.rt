@@ -1,7 +1,8 @@
 //! What is proved of queries of label trees and of the definitions that say what they are. Each law is the contract of a function that
 //! does nothing.
 
-ghost use Rattle.std.specs.Prelude.{◌≡◌, ℕ, List, None};
+ghost use Rattle.std.specs.Prelude.{◌≡◌, ◌↔◌, ◌&&◌, ℕ, List, true, None};
+ghost use Rattle.std.specs.List.{list_all};
 ghost use Rattle.std.specs.Iterator.{AlwaysYields};
 ghost use Rattle.pgv_types.specs.Ty.{Ty};
 ghost use Rattle.pgv_types.specs.Relations.{softly};
@@ -9,7 +10,7 @@ ghost use Rattle.pgv_types.specs.declared.oid.Oid.{Oid};
 ghost use Rattle.pgv_codec.specs.TypeRow.{IsRefusedAs};
 ghost use Rattle.pgv_lquery.specs.Laws.{LevelIsRead, OneLevel, OneQuery, OneVariant, PrintedQueryIsRead, QueryIsRead, ReadQueryIsReadAgain, VariantIsRead};
 ghost use Rattle.pgv_lquery.specs.LevelView.{level_of};
-ghost use Rattle.pgv_lquery.specs.Queries.{Level};
+ghost use Rattle.pgv_lquery.specs.Queries.{Level, is_count, is_level, is_query, is_variant};
 ghost use Rattle.pgv_lquery.specs.QueryBack.{query_fits};
 ghost use Rattle.pgv_lquery.specs.QueryCodec.{lquery, lquery_array, query_image, query_reading, query_refusal, query_takes};
 
@@ -73,6 +74,49 @@ pub fn printed_query_is_read()
 pub fn read_query_is_read_again()
     ensures { ReadQueryIsReadAgain }
 {}
+
+/// Queries are equal exactly where they have the same levels.
+pub fn equal_queries()
+    ensures { (a b : List Level) → (⟦<crate::PgLQuery as PartialEq>⟧.eq a b ≡ true) ↔ (a ≡ b) }
+{}
+
+/// The levels of a query are levels: their labels are labels, and their numbers have sixteen bits.
+pub fn levels_are_levels(query: &crate::PgLQuery)
+    ensures { is_query query.now ≡ true }
+{
+    let levels = query.as_slice();
+    for level in levels {
+        level_is_a_level(level);
+    }
+}
+
+/// A level is one.
+fn level_is_a_level(level: &crate::PgLQueryLevel)
+    ensures { is_level (level_of level.now) ≡ true }
+{
+    match level {
+        crate::PgLQueryLevel::Star(low, high) => counts_are_counts(*low, *high),
+        crate::PgLQueryLevel::NonStar(variants) => variants_are_variants(variants.as_slice()),
+        crate::PgLQueryLevel::NotNonStar(variants) => variants_are_variants(variants.as_slice()),
+    }
+}
+
+/// Numbers of a star have sixteen bits.
+fn counts_are_counts(low: Option<u16>, high: Option<u16>)
+    ensures { (is_count low && is_count high) ≡ true }
+{
+    let _low = low.unwrap_or(0);
+    let _high = high.unwrap_or(0);
+}
+
+/// The labels of variants are labels.
+fn variants_are_variants(variants: &[crate::PgLQueryVariant])
+    ensures { list_all is_variant variants.now ≡ true }
+{
+    for variant in variants {
+        let _label = variant.label();
+    }
+}
 
 /// The iterator of a query gives its levels in order, and ends then.
 pub fn query_gives_its_levels()

@@ -52,7 +52,8 @@ pub fn printed_tree_is_read()
 pub fn labels_are_labels(tree: &crate::PgLTree)
     ensures { list_all is_label tree.now ≡ true }
 {
-    for label in tree.as_slice() {
+    let labels = tree.as_slice();
+    for label in labels {
         let _text = label.as_str();
     }
 }

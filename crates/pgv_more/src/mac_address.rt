@@ -49,16 +49,16 @@ impl MacAddress {
         // The same by the computed bytes.
         ensures computed { result ≡ mac_value text.now }
     {
-        address_of(text.as_bytes())
+        address_of(text)
     }
 }
 
 /// The address of a text.
 #[inline(always)]
-fn address_of(text: &[u8]) -> Option<MacAddress>
+fn address_of(text: &str) -> Option<MacAddress>
     ensures { result ≡ mac_value text.now }
 {
-    let [high, low, rest @ ..] = text else {
+    let [high, low, rest @ ..] = text.as_bytes() else {
         return None;
     };
     let separator = *rest.first()?;

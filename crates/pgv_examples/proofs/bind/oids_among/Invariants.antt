@@ -1,0 +1,7 @@
+use Rattle.std.proofs.Common.{take}
+use Rattle.pgv_examples.specs.Known.{AreKnownOids}
+use Rattle.pgv_examples.proofs.bind.oids_among.Given as goal
+
+-- those so far
+abbrev pub invariant-loop-hole : goal.invariant-loop-hole
+invariant-loop-hole l = AreKnownOids l.known (take l.hole-index l.holes) l.oids.items
