@@ -24,7 +24,7 @@ own_bool : (a : Bool) → beq a a ≡ true
 own_bool true = refl
 own_bool false = refl
 
-variant_by : List ℕ → Bool → Bool → Bool → Variant
+abbrev variant_by : List ℕ → Bool → Bool → Bool → Variant
 variant_by label any_end in_case sublexeme = record { label = label; any_end = any_end; in_case = in_case; sublexeme = sublexeme }
 
 same_parts : (l m : List ℕ) (a b c d e f : Bool) → l ≡ m → a ≡ b → c ≡ d → e ≡ f → variant_by l a c e ≡ variant_by m b d f
