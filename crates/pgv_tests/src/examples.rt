@@ -61,8 +61,9 @@ fn bound(alloc: Global) -> Result<String, CodecError> {
     if fill_search(alloc, &mut arguments, &[]).is_ok() {
         return Ok(String::from_str(alloc, "filled without a type")?);
     }
+    let email = PgTypeInfo::custom(alloc, Oid(16602), "email", PgTypeKind::Simple)?;
     let mood = PgTypeInfo::custom(alloc, Oid(16600), "mood", PgTypeKind::Simple)?;
-    fill_search(alloc, &mut arguments, &[mood])?;
+    fill_search(alloc, &mut arguments, &[email, mood])?;
     let message = parameters_of_bind(alloc, &arguments)?;
     Ok(encode(alloc, message.as_slice())?)
 }

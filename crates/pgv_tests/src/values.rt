@@ -1,6 +1,7 @@
 //! Values in rows.
 
-use pgv::{CodecError, PgType, PgTypeInfo, PgValueFormat, PgValueRef};
+use pgv::types::BitVec;
+use pgv::{CodecError, PgArgumentBuffer, PgType, PgTypeInfo, PgValueFormat, PgValueRef};
 use std::alloc::Global;
 use std::test::Fail;
 
@@ -26,5 +27,17 @@ fn frames_in_front(rt: HostRuntime) -> Result<(), Fail> {
         let found = in_front(rt.alloc(), &mut rest)?;
         assert_eq!(rt; found.as_str(), wanted);
     }
+    Ok(())
+}
+
+#[test]
+fn seventy_thousand_bits(rt: HostRuntime) -> Result<(), CodecError> {
+    let mut bits = BitVec::new(rt.alloc());
+    for place in 0..70_000 {
+        bits.push(place % 2 == 0)?;
+    }
+    let mut buffer = PgArgumentBuffer::new(rt.alloc());
+    buffer.encode(&bits)?;
+    assert_eq!(rt; (bits.len(), buffer.len()), (70_000, 8_758));
     Ok(())
 }

@@ -15,5 +15,5 @@ loop-value-preserved g c =
 pub returns-in_err-encode-clause-refused : goal.returns-in_err-encode-clause-refused
 returns-in_err-encode-clause-refused g c =
     let r = frames_unwritten g.T.Encode.hint g.T.Encode.image g.T.Encode.unwritable c.args.values.now c.loop-value.value-index c.value-item.result c.in_err-encode.field-0.0 c.args.out.now c.loop-value.out c.loop-value-test.true c.value-item.is
-        c.loop-value.invariant c.in_err-encode.ensures.err c.in_err-encode.ensures.refused in
+    c.loop-value.invariant c.in_err-encode.ensures.err c.in_err-encode.ensures.refused in
     let p = err_from_is_err_and c.from_residual.result c.from_residual.ensures.1 in rw (p.1, p.2) r
