@@ -1,8 +1,7 @@
 -- Shares in percent: numbers of int4 from 0 to 100.
-use Rattle.std.specs.Prelude.{◌≡◌, Bool, ◌&&◌, true, cond, ℤ, pos, int_le, Option, Some, None, refl}
+use Rattle.std.specs.Prelude.{Bool, ◌&&◌, cond, ℤ, pos, int_le, Option, Some, None, refl}
 use Rattle.std.specs.Int.{w32}
-use Rattle.pgv.specs.Words.{CodecError, Image, Part, PgValueFormat, Reading, ReadsBack, always, builtin, guarded, signed_image, int_reading, int_refusal, int4_back, refusal_or}
-use Rattle.pgv_value.specs.declared.error.CodecError.TheVariants.{Caller}
+use Rattle.pgv.specs.Words.{Caller, CodecError, Image, Part, PgValueFormat, Reading, ReadsBack, always, builtin, guarded, signed_image, int_reading, int_refusal, int4_back, refusal_or}
 use Rattle.pgv_examples.specs.declared.percent.Percent.{Percent}
 
 abbrev pub is_percent : ℤ → Bool

@@ -1,6 +1,6 @@
 //! Arrays, and arrays with nulls in them, written and read.
 
-ghost use Rattle.std.specs.Prelude.{◌≡◌, ◌+◌, ◌++◌, [], ◌∷◌, length, Some, IfOk, OnOk, OnErr};
+ghost use Rattle.std.specs.Prelude.{List, OnOk};
 ghost use Rattle.pgv.specs.Words.{Added, Answers, Argument, builtin, frame};
 
 use pgv::{CodecError, Decode, Encode, PgArguments, PgValueRef};

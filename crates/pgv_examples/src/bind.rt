@@ -1,6 +1,6 @@
 //! Binds the values of a statement: adds them, fills their holes, and gives the bytes that are sent.
 
-ghost use Rattle.std.specs.Prelude.{◌≡◌, ◌++◌, List, [], ◌∷◌, length, IfOk, IfErr, OnOk, OnErr, codes};
+ghost use Rattle.std.specs.Prelude.{◌≡◌, ◌++◌, List, [], length, IfOk, OnOk, OnErr, codes};
 ghost use Rattle.std.specs.Int.{w16, to_be_bytes};
 ghost use Rattle.pgv.specs.Words.{Added, Argument, Oid, builtin, array_of, frame, hole_types_of, shown, all_tokens, framed, early};
 ghost use Rattle.pgv_examples.specs.Known.{AreKnownOids, IsKnownOid};

@@ -45,11 +45,12 @@ impl Type for Percent {
 /// Written as its number. Another number than 0 to 100 is refused with C38(9), and whoever called the encoder goes back.
 impl Encode for Percent {
     ghost use Rattle.std.specs.Prelude.{Some};
+    ghost use Rattle.pgv.specs.Words.{Caller};
     ghost use Rattle.pgv_examples.specs.Percents.{percent_image};
 
     ghost image = { λ percent. percent_image percent.number };
 
-    ghost unwritable = { λ _. Some (CodecError.Caller 9) };
+    ghost unwritable = { λ _. Some (Caller 9) };
 
     fn encode_by_ref(&self, out: &mut PgArgumentBuffer) -> Result<IsNull, CodecError> {
         self.check()?;

@@ -7,7 +7,8 @@ ghost use Rattle.pgv_lquery.specs.QueryPrinted.{mark, printed_marks};
 use bitflags::{Flag, Flags, bitflag_items};
 use std::fmt;
 
-/// A set of modifiers: `*`, only the beginning of a label is wanted; `@`, case is ignored; `%`, a word of a label is wanted.
+/// A set of modifiers: `ANY_END`, written `*`, only the beginning of a label is wanted; `IN_CASE`, `@`, case is ignored; `SUBLEXEME`, `%`,
+/// a word of a label is wanted. `a*@` has the first two.
 #[derive(Clone, Copy, Debug, PartialEq, Eq, Hash)]
 pub struct PgLQueryVariantFlag(u16);
 

@@ -1,7 +1,7 @@
 //! What is proved of queries of label trees and of the definitions that say what they are. Each law is the contract of a function that
 //! does nothing.
 
-ghost use Rattle.std.specs.Prelude.{◌≡◌, ◌↔◌, ◌&&◌, ℕ, List, true, None};
+ghost use Rattle.std.specs.Prelude.{◌≡◌, ◌↔◌, ◌&&◌, List, true, None};
 ghost use Rattle.std.specs.List.{list_all};
 ghost use Rattle.std.specs.Iterator.{AlwaysYields};
 ghost use Rattle.pgv_types.specs.Ty.{Ty};

@@ -3,7 +3,6 @@
 ghost use Rattle.std.specs.Prelude.{◌≡◌, ◌+◌, ◌⊎◌, IfOk, IfErr, Ok, Err, Some, take, drop, true};
 ghost use Rattle.std.specs.List.{list_all};
 ghost use Rattle.pgv_value.specs.declared.tree_error.PgLQueryParseError.TheVariants.{Memory};
-ghost use Rattle.pgv_ltree.specs.Labels.{is_label};
 ghost use Rattle.pgv_lquery.specs.Flags.{bit, modifier_bits};
 ghost use Rattle.pgv_lquery.specs.Queries.{is_variant};
 ghost use Rattle.pgv_lquery.specs.QueryPrinted.{printed_variant};

@@ -1,15 +1,12 @@
 //! Times of day with an offset from UTC (PostgreSQL, "Date/Time Types", timetz).
 
-ghost use Rattle.std.specs.Prelude.{◌≡◌, ◌≤◌, ◌/◌, ℕ, ℤ, pos, length, Some, IfErr, IfOk, OnErr, refl};
+ghost use Rattle.std.specs.Prelude.{◌≡◌, ℕ, ℤ, Some, IfErr, IfOk, OnErr, refl};
 ghost use Rattle.std.specs.Option.{option_map};
-ghost use Rattle.jiff.specs.Words.{time_nanos};
 ghost use Rattle.pgv_codec.specs.Outcome.{Appended, Encoded};
 ghost use Rattle.pgv_codec.specs.WithHint.{with_hint};
 ghost use Rattle.pgv_types.specs.Relations.{softly};
 ghost use Rattle.pgv_types.specs.Ty.{builtin};
 ghost use Rattle.pgv_text.specs.DateTimeText.{time_tz_value};
-ghost use Rattle.pgv_value.specs.DateTimeBinary.{time_after};
-ghost use Rattle.pgv_value.specs.Interval.{eight_bytes, signed_four_bytes};
 ghost use Rattle.pgv_value.specs.Reading.{AnswersExactly};
 ghost use Rattle.pgv_value.specs.declared.error.CodecError.TheVariants.{Memory, OffsetRange};
 ghost use Rattle.pgv_more.specs.TimeTzCodec.{time_tz_numbers, time_tz_image, time_tz_in_binary, time_tz_reading, time_tz_refusal, two_numbers, offset_refusal, other_way, image_of_numbers};

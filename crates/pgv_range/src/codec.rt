@@ -1,9 +1,8 @@
 //! What ranges are written as and read of, whatever their bounds are (PostgreSQL, "Range Types"; the binary form is that of its source,
 //! range_send).
 
-ghost use Rattle.std.specs.Prelude.{◌≡◌, IfOk, IfErr, OnOk, OnErr, Some, None, IsErrOf, false, is_some};
+ghost use Rattle.std.specs.Prelude.{◌≡◌, IfOk, IfErr, OnOk, OnErr, Some, None, false, is_some};
 ghost use Rattle.std.specs.Str.{chars};
-ghost use Rattle.std.specs.Option.{option_map};
 ghost use Rattle.std.specs.Range.Bound.{bound_map};
 ghost use Rattle.pgv_types.specs.Parts.{ref_type};
 ghost use Rattle.pgv_text.specs.PartsView.{nest};
@@ -105,7 +104,8 @@ fn encode_bound<T: Encode>(bound: &Bound<T>, out: &mut PgArgumentBuffer) -> Resu
 /// byte that have no meaning and bytes after the bounds are ignored. A flag byte with 01 is the empty range, whatever other flags and
 /// bytes there are.
 ///
-/// In text the bounds are read under `T`'s own type; `empty`, in upper or lower case and without white space, is the empty range.
+/// In text the bounds are read under `T`'s own type, as `[1,10)` from 1 to 10 without 10; `empty`, in upper or lower case and without
+/// white space, is the empty range.
 ///
 /// Null is refused with C13, a text that is not UTF-8 with C14 and one outside the grammar with C29, a type that isn't a range in
 /// binary with C23, bytes that end too early with C15, and what a bound is refused with.

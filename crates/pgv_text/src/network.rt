@@ -80,7 +80,9 @@ impl Ipv6Network {
 /// An address of either version and how many of its bits name the network.
 #[derive(Clone, Copy, PartialEq, Eq, Debug)]
 pub enum IpNetwork {
+    /// One of version 4, as `10.0.0.0/8`.
     V4(Ipv4Network),
+    /// One of version 6, as `2001:db8::/32`.
     V6(Ipv6Network),
 }
 

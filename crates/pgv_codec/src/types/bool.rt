@@ -2,7 +2,7 @@
 
 ghost use Rattle.pgv_types.specs.Ty.{builtin};
 ghost use Rattle.pgv_codec.specs.ScalarBinary.{bool_image};
-ghost use Rattle.std.specs.Prelude.{Bool, refl, Some};
+ghost use Rattle.std.specs.Prelude.{Bool, refl};
 ghost use Rattle.pgv_value.specs.ScalarGrammar.{bool_reading, bool_refusal};
 ghost use Rattle.pgv_codec.specs.Saying.{plainly};
 

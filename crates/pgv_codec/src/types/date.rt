@@ -1,7 +1,7 @@
 //! Dates (PostgreSQL, "Date/Time Types", date).
 
 ghost use Rattle.pgv_types.specs.Ty.{builtin};
-ghost use Rattle.std.specs.Prelude.{◌≡◌, ℤ, Some, refl};
+ghost use Rattle.std.specs.Prelude.{◌≡◌, ℤ, refl};
 ghost use Rattle.jiff.specs.Words.{epoch_day};
 ghost use Rattle.pgv_value.specs.DateTimeBinary.{date_reading, date_time_refusal};
 ghost use Rattle.pgv_codec.specs.DateTimeBinary.{days_of, date_image};

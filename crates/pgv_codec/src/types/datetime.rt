@@ -1,7 +1,7 @@
 //! Date-times without a time zone (PostgreSQL, "Date/Time Types", timestamp).
 
 ghost use Rattle.pgv_types.specs.Ty.{builtin};
-ghost use Rattle.std.specs.Prelude.{◌≡◌, ℤ, Some, refl};
+ghost use Rattle.std.specs.Prelude.{◌≡◌, ℤ, refl};
 ghost use Rattle.jiff.specs.Words.{civil_nanos};
 ghost use Rattle.pgv_value.specs.DateTimeBinary.{date_time_reading, date_time_refusal};
 ghost use Rattle.pgv_codec.specs.DateTimeBinary.{micros_of, moment_image};

@@ -4,7 +4,7 @@
 ghost use Rattle.pgv_types.specs.Ty.{builtin};
 ghost use Rattle.std.specs.Int.{w8, w16, w32, w64};
 ghost use Rattle.pgv_codec.specs.ScalarBinary.{signed_image};
-ghost use Rattle.std.specs.Prelude.{ℤ, Some, refl, IfOk, IfErr, OnErr};
+ghost use Rattle.std.specs.Prelude.{ℤ, refl, IfOk, IfErr, OnErr};
 ghost use Rattle.pgv_value.specs.ScalarGrammar.{char_reading, char_refusal, int_reading, int_refusal};
 ghost use Rattle.pgv_codec.specs.Outcome.{Encoded, Refused, Appended};
 ghost use Rattle.pgv_codec.specs.Saying.{plainly};

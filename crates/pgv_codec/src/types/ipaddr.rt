@@ -1,6 +1,6 @@
 //! Addresses (PostgreSQL, "Network Address Types", inet): networks of one address.
 
-ghost use Rattle.std.specs.Prelude.{◌≡◌, Some, refl};
+ghost use Rattle.std.specs.Prelude.{◌≡◌, refl};
 ghost use Rattle.std.specs.declared.net.ip_addr.IpAddr.{IpAddr as Address};
 ghost use Rattle.pgv_types.specs.Ty.{builtin};
 ghost use Rattle.pgv_text.specs.AddressText as text;

@@ -3,7 +3,7 @@
 ghost use Rattle.pgv_types.specs.Ty.{builtin};
 ghost use Rattle.std.specs.Int.{w32};
 ghost use Rattle.pgv_codec.specs.ScalarBinary.{unsigned_image};
-ghost use Rattle.std.specs.Prelude.{ℕ, refl, Some};
+ghost use Rattle.std.specs.Prelude.{ℕ, refl};
 ghost use Rattle.pgv_value.specs.ScalarGrammar.{oid_reading, oid_refusal};
 ghost use Rattle.pgv_codec.specs.Saying.{plainly};
 

@@ -1,7 +1,7 @@
 //! Times of day (PostgreSQL, "Date/Time Types", time).
 
 ghost use Rattle.pgv_types.specs.Ty.{builtin};
-ghost use Rattle.std.specs.Prelude.{◌≡◌, ◌/◌, pos, ℕ, Some, refl};
+ghost use Rattle.std.specs.Prelude.{◌≡◌, ◌/◌, pos, ℕ, refl};
 ghost use Rattle.jiff.specs.Words.{time_nanos};
 ghost use Rattle.pgv_value.specs.DateTimeBinary.{time_reading, date_time_refusal};
 ghost use Rattle.pgv_codec.specs.DateTimeBinary.{time_image};

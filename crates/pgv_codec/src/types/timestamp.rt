@@ -1,7 +1,7 @@
 //! Instants (PostgreSQL, "Date/Time Types", timestamptz).
 
 ghost use Rattle.pgv_types.specs.Ty.{builtin};
-ghost use Rattle.std.specs.Prelude.{◌≡◌, ℤ, Some, refl};
+ghost use Rattle.std.specs.Prelude.{◌≡◌, ℤ, refl};
 ghost use Rattle.pgv_value.specs.DateTimeBinary.{instant_reading, date_time_refusal};
 ghost use Rattle.pgv_codec.specs.DateTimeBinary.{micros_of, moment_image};
 ghost use Rattle.pgv_codec.specs.WithHint.{with_hint};

@@ -2,7 +2,7 @@
 
 ghost use Rattle.pgv_types.specs.Ty.{builtin};
 ghost use Rattle.pgv_codec.specs.ScalarBinary.{uuid_image};
-ghost use Rattle.std.specs.Prelude.{ℕ, List, refl, Some};
+ghost use Rattle.std.specs.Prelude.{ℕ, List, refl};
 ghost use Rattle.pgv_value.specs.ScalarGrammar.{uuid_reading, uuid_refusal};
 ghost use Rattle.pgv_codec.specs.Saying.{plainly};
 

@@ -1,11 +1,11 @@
 //! Maps of texts, written and read (PostgreSQL, appendix F, hstore).
 
-ghost use Rattle.std.specs.Prelude.{◌≡◌, List, IfOk, IfErr, OnOk, OnErr, Some, false, is_some, refl, string_bytes, option_map, [], codes, map, if◌then◌else◌};
+ghost use Rattle.std.specs.Prelude.{◌≡◌, List, IfErr, OnOk, OnErr, Some, false, is_some, refl, string_bytes, option_map, [], codes, map, if◌then◌else◌};
 ghost use Rattle.pgv_types.specs.Ty.{array_of, named};
 ghost use Rattle.pgv_types.specs.Relations.{softly};
 ghost use Rattle.pgv_value.specs.Reading.{Answers, AnswersExactly, Refuses};
 ghost use Rattle.pgv_value.specs.declared.error.CodecError.TheVariants.{Utf8};
-ghost use Rattle.pgv_codec.specs.Outcome.{Encoded, Refused, Appended, AppendedAll};
+ghost use Rattle.pgv_codec.specs.Outcome.{Refused, Appended, AppendedAll};
 ghost use Rattle.pgv_codec.specs.Refusing.{RefusedFor};
 ghost use Rattle.pgv_codec.specs.Saying.{plainly};
 ghost use Rattle.pgv_hstore.specs.Hstore.{Pair, pair_of, pairs_of, hstore_image, hstore_in_binary, hstore_reading, key_front, value_front, hstore_refused, pair_refused, pairs_refused, part_written, pair_written, pairs_written, put_read, value_refused};

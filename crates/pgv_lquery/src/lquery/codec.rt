@@ -1,6 +1,6 @@
 //! Queries of label trees, written and read (PostgreSQL, "ltree", lquery).
 
-ghost use Rattle.std.specs.Prelude.{◌≡◌, ◌++◌, ℕ, List, map, true, false, IfOk, IfErr, OnOk, OnErr, None, Some, is_some, refl};
+ghost use Rattle.std.specs.Prelude.{◌≡◌, ◌++◌, List, map, true, false, IfOk, IfErr, OnOk, OnErr, None, Some, is_some, refl};
 ghost use Rattle.pgv_types.specs.Relations.{softly};
 ghost use Rattle.pgv_buf.specs.Tokens.{blank, bytes};
 ghost use Rattle.pgv_value.specs.Reading.{Answers, AnswersExactly, Refuses};

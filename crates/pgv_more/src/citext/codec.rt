@@ -1,6 +1,6 @@
 //! Text whose case doesn't matter, written and read (PostgreSQL, appendix F, citext).
 
-ghost use Rattle.std.specs.Prelude.{ℕ, List, Some, refl, codes, string_bytes};
+ghost use Rattle.std.specs.Prelude.{ℕ, List, refl, codes, string_bytes};
 ghost use Rattle.pgv_types.specs.Ty.{named};
 ghost use Rattle.pgv_value.specs.ScalarGrammar.{text_reading};
 ghost use Rattle.pgv_value.specs.Utf8.{text_refusal};

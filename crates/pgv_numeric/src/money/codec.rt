@@ -1,6 +1,6 @@
 //! Amounts of money, written and read (PostgreSQL, "Monetary Types", money).
 
-ghost use Rattle.std.specs.Prelude.{ℤ, Some, refl};
+ghost use Rattle.std.specs.Prelude.{ℤ, refl};
 ghost use Rattle.std.specs.Int.{w64};
 ghost use Rattle.pgv_types.specs.Ty.{builtin};
 ghost use Rattle.pgv_types.specs.Relations.{softly};

@@ -1,9 +1,8 @@
-use Rattle.std.proofs.Common.{◌≡◌, None, Bool, List, ap}
+use Rattle.std.proofs.Common.{Bool, ap}
 use Rattle.std.proofs.lemmas.Result.{err_from_is_err_and}
 use Rattle.pgv_text.specs.PartsView.{nest}
 use Rattle.pgv_value.specs.declared.value.PgValueFormat.TheVariants.{Text}
 use Rattle.pgv_codec.proofs.Refusing.{stated_of_part}
-use Rattle.pgv_range.specs.RangeGrammar.{next_bound}
 use Rattle.pgv_range.specs.RangeRefusals.{bounds_text_refusal, next_bound_refusal}
 use Rattle.pgv_range.proofs.Steps.{start_refused}
 use Rattle.pgv_range.proofs.codec.read_parts.Goals as goal

@@ -1,4 +1,3 @@
-use Rattle.std.proofs.Common.{◌≡◌, true}
 use Rattle.pgv_nest.specs.NestRefusals.{is_one_dimension}
 use Rattle.pgv_nest.specs.HeadsView.{head_shown}
 use Rattle.pgv_codec.proofs.FrameLoop.{one_is_said}
