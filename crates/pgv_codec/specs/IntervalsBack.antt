@@ -1,5 +1,5 @@
 -- What is written of an interval is read back as it.
-use Rattle.std.specs.Prelude.{◌≡◌, ℕ, Bool, true, false, ◌&&◌, cond, ℤ, List, ◌++◌, length, Option, Some, None, refl}
+use Rattle.std.specs.Prelude.{◌≡◌, ℕ, true, ◌&&◌, cond, ℤ, List, ◌++◌, length, Option, Some, None, refl}
 use Rattle.std.specs.Int.{Width, w32, w64, cast_unsigned, cast_signed, from_be_bytes, to_be_bytes}
 use Rattle.std.proofs.Common.{ap, ◌∙◌}
 use Rattle.pgv_types.specs.Ty.{Ty}
@@ -9,6 +9,7 @@ use Rattle.pgv_value.specs.FrameBinary.{Part}
 use Rattle.pgv_value.specs.Interval.{interval_in_binary, interval_reading}
 use Rattle.pgv_value.specs.declared.interval.PgInterval.{PgInterval}
 use Rattle.pgv_value.specs.declared.value.PgValueFormat.TheVariants.{Binary}
+use Rattle.pgv_codec.specs.Bools.{both_true}
 use Rattle.pgv_codec.specs.Back.{ReadsBack, always}
 use Rattle.pgv_codec.specs.BackParts.{guarded}
 use Rattle.pgv_codec.specs.BackScalars.{part_is}
@@ -16,10 +17,6 @@ use Rattle.pgv_codec.specs.Image.{Image, image_of}
 use Rattle.pgv_codec.specs.Intervals.{interval_image}
 use Rattle.pgv_value.specs.NumberBinary.{fits_signed}
 use Rattle.pgv_value.specs.OwnBytes.{eight_again, four_again}
-
-parts : (a b : Bool) → (a && b) ≡ true → (a ≡ true) × (b ≡ true)
-parts true b e = (refl, e)
-parts false b e = absurd (cc)
 
 form : PgInterval → List ℕ
 form i = to_be_bytes w64 (cast_unsigned w64 i.microseconds) ++ (to_be_bytes w32 (cast_unsigned w32 i.days) ++ to_be_bytes w32 (cast_unsigned w32 i.months))
@@ -32,6 +29,6 @@ pub interval_back : ReadsBack interval_image interval_reading (λ i. i) always
 unfolding form
 interval_back v i t p os e whole small fit =
     let g = guarded (fits_signed w64 v.microseconds && (fits_signed w32 v.days && fits_signed w32 v.months)) (Some (image_of (bytes (form v)))) i e in
-    let h = parts (fits_signed w64 v.microseconds) (fits_signed w32 v.days && fits_signed w32 v.months) g.0 in
-    let k = parts (fits_signed w32 v.days) (fits_signed w32 v.months) h.1 in
+    let h = both_true (fits_signed w64 v.microseconds) (fits_signed w32 v.days && fits_signed w32 v.months) g.0 in
+    let k = both_true (fits_signed w32 v.days) (fits_signed w32 v.months) h.1 in
     ap (λ (part : Part). interval_reading t Binary part) (part_is (form v) i p os g.1) ∙ interval_again v h.0 k.0 k.1

@@ -1,3 +1,4 @@
+pub mod Bools
 pub mod Image
 pub mod Writing
 pub mod ScalarBinary

@@ -5,6 +5,7 @@ ghost use Rattle.std.specs.Prelude.{◌≡◌, ◌<◌, ◌^◌, ℕ, List, ◌�
 ghost use Rattle.pgv_types.specs.Ty.{Ty};
 ghost use Rattle.pgv_types.specs.declared.oid.Oid.{Oid};
 ghost use Rattle.pgv_buf.specs.Tokens.{Token};
+ghost use Rattle.pgv_nest.specs.NestRefusals.{field_then, next_refusal, record_refusal, record_takes};
 ghost use Rattle.pgv_nest.specs.NestBinary.{RecordIsItsFields, IsField, ◌and◌};
 ghost use Rattle.pgv_codec.specs.Back.{AreOids, ReadsBack, FieldFits, FieldsFit, FieldReadsBack, RecordFieldsFollow, RecordReadsBack};
 ghost use Rattle.pgv_codec.specs.Image.{field};
@@ -20,7 +21,9 @@ pub mod texts;
 
 use crate::traits::{Codec, Decode, Plain, ReadBack, Type};
 
-/// The tuple that is decoded from bytes in binary is the one that they are a record of, whatever its fields are.
+/// The tuple that is decoded from bytes in binary is the one that they are a record of, whatever its fields are. It is refused with
+/// what refuses the record, and else with what its first field that isn't read is refused with. Memory is asked for only where there
+/// is a record.
 pub fn tuple_is_its_fields<
     A: Type + Decode,
     B: Type + Decode,
@@ -33,14 +36,23 @@ pub fn tuple_is_its_fields<
     I: Type + Decode,
 >()
     ensures one { RecordIsItsFields ⟦<(A,) as Decode>⟧.reading (IsField A.accepts A.reading) }
+    ensures one_refused { (⟦<(A,) as Decode>⟧.refusal ≡ record_refusal (next_refusal A.accepts A.refusal)) × (⟦<(A,) as Decode>⟧.takes_memory ≡ record_takes) }
     ensures two { RecordIsItsFields ⟦<(A, B) as Decode>⟧.reading (IsField A.accepts A.reading and IsField B.accepts B.reading) }
+    ensures two_refused { (⟦<(A, B) as Decode>⟧.refusal ≡ record_refusal (field_then A.accepts A.reading A.refusal (next_refusal B.accepts B.refusal))) × (⟦<(A, B) as Decode>⟧.takes_memory ≡ record_takes) }
     ensures three { RecordIsItsFields ⟦<(A, B, C) as Decode>⟧.reading (IsField A.accepts A.reading and IsField B.accepts B.reading and IsField C.accepts C.reading) }
+    ensures three_refused { (⟦<(A, B, C) as Decode>⟧.refusal ≡ record_refusal (field_then A.accepts A.reading A.refusal (field_then B.accepts B.reading B.refusal (next_refusal C.accepts C.refusal)))) × (⟦<(A, B, C) as Decode>⟧.takes_memory ≡ record_takes) }
     ensures four { RecordIsItsFields ⟦<(A, B, C, D) as Decode>⟧.reading (IsField A.accepts A.reading and IsField B.accepts B.reading and IsField C.accepts C.reading and IsField D.accepts D.reading) }
+    ensures four_refused { (⟦<(A, B, C, D) as Decode>⟧.refusal ≡ record_refusal (field_then A.accepts A.reading A.refusal (field_then B.accepts B.reading B.refusal (field_then C.accepts C.reading C.refusal (next_refusal D.accepts D.refusal))))) × (⟦<(A, B, C, D) as Decode>⟧.takes_memory ≡ record_takes) }
     ensures five { RecordIsItsFields ⟦<(A, B, C, D, E) as Decode>⟧.reading (IsField A.accepts A.reading and IsField B.accepts B.reading and IsField C.accepts C.reading and IsField D.accepts D.reading and IsField E.accepts E.reading) }
+    ensures five_refused { (⟦<(A, B, C, D, E) as Decode>⟧.refusal ≡ record_refusal (field_then A.accepts A.reading A.refusal (field_then B.accepts B.reading B.refusal (field_then C.accepts C.reading C.refusal (field_then D.accepts D.reading D.refusal (next_refusal E.accepts E.refusal)))))) × (⟦<(A, B, C, D, E) as Decode>⟧.takes_memory ≡ record_takes) }
     ensures six { RecordIsItsFields ⟦<(A, B, C, D, E, F) as Decode>⟧.reading (IsField A.accepts A.reading and IsField B.accepts B.reading and IsField C.accepts C.reading and IsField D.accepts D.reading and IsField E.accepts E.reading and IsField F.accepts F.reading) }
+    ensures six_refused { (⟦<(A, B, C, D, E, F) as Decode>⟧.refusal ≡ record_refusal (field_then A.accepts A.reading A.refusal (field_then B.accepts B.reading B.refusal (field_then C.accepts C.reading C.refusal (field_then D.accepts D.reading D.refusal (field_then E.accepts E.reading E.refusal (next_refusal F.accepts F.refusal))))))) × (⟦<(A, B, C, D, E, F) as Decode>⟧.takes_memory ≡ record_takes) }
     ensures seven { RecordIsItsFields ⟦<(A, B, C, D, E, F, G) as Decode>⟧.reading (IsField A.accepts A.reading and IsField B.accepts B.reading and IsField C.accepts C.reading and IsField D.accepts D.reading and IsField E.accepts E.reading and IsField F.accepts F.reading and IsField G.accepts G.reading) }
+    ensures seven_refused { (⟦<(A, B, C, D, E, F, G) as Decode>⟧.refusal ≡ record_refusal (field_then A.accepts A.reading A.refusal (field_then B.accepts B.reading B.refusal (field_then C.accepts C.reading C.refusal (field_then D.accepts D.reading D.refusal (field_then E.accepts E.reading E.refusal (field_then F.accepts F.reading F.refusal (next_refusal G.accepts G.refusal)))))))) × (⟦<(A, B, C, D, E, F, G) as Decode>⟧.takes_memory ≡ record_takes) }
     ensures eight { RecordIsItsFields ⟦<(A, B, C, D, E, F, G, H) as Decode>⟧.reading (IsField A.accepts A.reading and IsField B.accepts B.reading and IsField C.accepts C.reading and IsField D.accepts D.reading and IsField E.accepts E.reading and IsField F.accepts F.reading and IsField G.accepts G.reading and IsField H.accepts H.reading) }
+    ensures eight_refused { (⟦<(A, B, C, D, E, F, G, H) as Decode>⟧.refusal ≡ record_refusal (field_then A.accepts A.reading A.refusal (field_then B.accepts B.reading B.refusal (field_then C.accepts C.reading C.refusal (field_then D.accepts D.reading D.refusal (field_then E.accepts E.reading E.refusal (field_then F.accepts F.reading F.refusal (field_then G.accepts G.reading G.refusal (next_refusal H.accepts H.refusal))))))))) × (⟦<(A, B, C, D, E, F, G, H) as Decode>⟧.takes_memory ≡ record_takes) }
     ensures nine { RecordIsItsFields ⟦<(A, B, C, D, E, F, G, H, I) as Decode>⟧.reading (IsField A.accepts A.reading and IsField B.accepts B.reading and IsField C.accepts C.reading and IsField D.accepts D.reading and IsField E.accepts E.reading and IsField F.accepts F.reading and IsField G.accepts G.reading and IsField H.accepts H.reading and IsField I.accepts I.reading) }
+    ensures nine_refused { (⟦<(A, B, C, D, E, F, G, H, I) as Decode>⟧.refusal ≡ record_refusal (field_then A.accepts A.reading A.refusal (field_then B.accepts B.reading B.refusal (field_then C.accepts C.reading C.refusal (field_then D.accepts D.reading D.refusal (field_then E.accepts E.reading E.refusal (field_then F.accepts F.reading F.refusal (field_then G.accepts G.reading G.refusal (field_then H.accepts H.reading H.refusal (next_refusal I.accepts I.refusal)))))))))) × (⟦<(A, B, C, D, E, F, G, H, I) as Decode>⟧.takes_memory ≡ record_takes) }
 {}
 
 /// Whatever a record encoder accepted and refused, in any order, and then was given `finish`: the buffer is what stood before

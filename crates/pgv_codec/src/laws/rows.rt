@@ -14,7 +14,7 @@ ghost use Rattle.pgv_value.specs.declared.value.PgValueFormat.{PgValueFormat};
 ghost use Rattle.pgv_nest.specs.ArrayGrammar.{array, array_of_length};
 ghost use Rattle.pgv_codec.specs.Image.{array_image, sized_image, option_image, option_hint, option_produced};
 ghost use Rattle.pgv_codec.specs.Nullable.{nullable};
-ghost use Rattle.pgv_nest.specs.NestRefusals.{array_of_length_refusal, array_refusal, array_takes, field_then, next_refusal, record_refusal, record_takes};
+ghost use Rattle.pgv_nest.specs.NestRefusals.{array_of_length_refusal, array_refusal, array_takes};
 ghost use Rattle.pgv_codec.specs.Refusing.{array_refused, nullable_refusal, nullable_takes, option_unwritable};
 ghost use Rattle.pgv_codec.specs.TypeRow.{IsBuiltIn, IsRefusedAs, IsWrittenAs, TakesNone};
 ghost use Rattle.pgv_codec.specs.ScalarBinary.{bool_image, signed_image, unsigned_image, text_image, uuid_image, is_text, is_text_array, is_void_or_record};
@@ -162,28 +162,4 @@ pub fn tuple_is_a_record<A, B, C, D, E, F, G, H, I>()
     ensures seven { IsBuiltIn 2249 ⟦<(A, B, C, D, E, F, G) as Type>⟧.info ⟦<(A, B, C, D, E, F, G) as Type>⟧.accepts × IsBuiltIn 2287 ⟦<(A, B, C, D, E, F, G) as PgHasArrayType>⟧.array_info ⟦<(A, B, C, D, E, F, G) as PgHasArrayType>⟧.accepts_array }
     ensures eight { IsBuiltIn 2249 ⟦<(A, B, C, D, E, F, G, H) as Type>⟧.info ⟦<(A, B, C, D, E, F, G, H) as Type>⟧.accepts × IsBuiltIn 2287 ⟦<(A, B, C, D, E, F, G, H) as PgHasArrayType>⟧.array_info ⟦<(A, B, C, D, E, F, G, H) as PgHasArrayType>⟧.accepts_array }
     ensures nine { IsBuiltIn 2249 ⟦<(A, B, C, D, E, F, G, H, I) as Type>⟧.info ⟦<(A, B, C, D, E, F, G, H, I) as Type>⟧.accepts × IsBuiltIn 2287 ⟦<(A, B, C, D, E, F, G, H, I) as PgHasArrayType>⟧.array_info ⟦<(A, B, C, D, E, F, G, H, I) as PgHasArrayType>⟧.accepts_array }
-{}
-
-/// A tuple is refused with what refuses the record, and else with what its first field that isn't read is refused with. Memory is asked
-/// for only where there is a record.
-pub fn tuple_is_refused_as_its_fields<
-    A: Type + Decode,
-    B: Type + Decode,
-    C: Type + Decode,
-    D: Type + Decode,
-    E: Type + Decode,
-    F: Type + Decode,
-    G: Type + Decode,
-    H: Type + Decode,
-    I: Type + Decode,
->()
-    ensures one { (⟦<(A,) as Decode>⟧.refusal ≡ record_refusal (next_refusal A.accepts A.refusal)) × (⟦<(A,) as Decode>⟧.takes_memory ≡ record_takes) }
-    ensures two { (⟦<(A, B) as Decode>⟧.refusal ≡ record_refusal (field_then A.accepts A.reading A.refusal (next_refusal B.accepts B.refusal))) × (⟦<(A, B) as Decode>⟧.takes_memory ≡ record_takes) }
-    ensures three { (⟦<(A, B, C) as Decode>⟧.refusal ≡ record_refusal (field_then A.accepts A.reading A.refusal (field_then B.accepts B.reading B.refusal (next_refusal C.accepts C.refusal)))) × (⟦<(A, B, C) as Decode>⟧.takes_memory ≡ record_takes) }
-    ensures four { (⟦<(A, B, C, D) as Decode>⟧.refusal ≡ record_refusal (field_then A.accepts A.reading A.refusal (field_then B.accepts B.reading B.refusal (field_then C.accepts C.reading C.refusal (next_refusal D.accepts D.refusal))))) × (⟦<(A, B, C, D) as Decode>⟧.takes_memory ≡ record_takes) }
-    ensures five { (⟦<(A, B, C, D, E) as Decode>⟧.refusal ≡ record_refusal (field_then A.accepts A.reading A.refusal (field_then B.accepts B.reading B.refusal (field_then C.accepts C.reading C.refusal (field_then D.accepts D.reading D.refusal (next_refusal E.accepts E.refusal)))))) × (⟦<(A, B, C, D, E) as Decode>⟧.takes_memory ≡ record_takes) }
-    ensures six { (⟦<(A, B, C, D, E, F) as Decode>⟧.refusal ≡ record_refusal (field_then A.accepts A.reading A.refusal (field_then B.accepts B.reading B.refusal (field_then C.accepts C.reading C.refusal (field_then D.accepts D.reading D.refusal (field_then E.accepts E.reading E.refusal (next_refusal F.accepts F.refusal))))))) × (⟦<(A, B, C, D, E, F) as Decode>⟧.takes_memory ≡ record_takes) }
-    ensures seven { (⟦<(A, B, C, D, E, F, G) as Decode>⟧.refusal ≡ record_refusal (field_then A.accepts A.reading A.refusal (field_then B.accepts B.reading B.refusal (field_then C.accepts C.reading C.refusal (field_then D.accepts D.reading D.refusal (field_then E.accepts E.reading E.refusal (field_then F.accepts F.reading F.refusal (next_refusal G.accepts G.refusal)))))))) × (⟦<(A, B, C, D, E, F, G) as Decode>⟧.takes_memory ≡ record_takes) }
-    ensures eight { (⟦<(A, B, C, D, E, F, G, H) as Decode>⟧.refusal ≡ record_refusal (field_then A.accepts A.reading A.refusal (field_then B.accepts B.reading B.refusal (field_then C.accepts C.reading C.refusal (field_then D.accepts D.reading D.refusal (field_then E.accepts E.reading E.refusal (field_then F.accepts F.reading F.refusal (field_then G.accepts G.reading G.refusal (next_refusal H.accepts H.refusal))))))))) × (⟦<(A, B, C, D, E, F, G, H) as Decode>⟧.takes_memory ≡ record_takes) }
-    ensures nine { (⟦<(A, B, C, D, E, F, G, H, I) as Decode>⟧.refusal ≡ record_refusal (field_then A.accepts A.reading A.refusal (field_then B.accepts B.reading B.refusal (field_then C.accepts C.reading C.refusal (field_then D.accepts D.reading D.refusal (field_then E.accepts E.reading E.refusal (field_then F.accepts F.reading F.refusal (field_then G.accepts G.reading G.refusal (field_then H.accepts H.reading H.refusal (next_refusal I.accepts I.refusal)))))))))) × (⟦<(A, B, C, D, E, F, G, H, I) as Decode>⟧.takes_memory ≡ record_takes) }
 {}

@@ -1,16 +1,20 @@
 //! Arrays of one dimension (PostgreSQL, "Arrays").
 
-ghost use Rattle.std.specs.Prelude.{◌≡◌, IfOk, IfErr, OnOk, OnErr, ◌*◌, ◌≤◌, false, length, map, Some, None, IfSome, is_some, IsErrOf};
+ghost use Rattle.std.specs.Prelude.{◌≡◌, IfOk, IfErr, OnOk, OnErr, ◌*◌, ◌≤◌, false, length, map, Some, None, IfSome, is_some, IsErrOf, List};
+ghost use Rattle.std.specs.Vec.{with_items};
 ghost use Rattle.pgv_text.specs.PartsView.{nest};
 ghost use Rattle.pgv_text.specs.Values.{array_values};
 ghost use Rattle.pgv_value.specs.Reading.{Answers, AnswersExactly};
 ghost use Rattle.pgv_value.specs.declared.error.CodecError.TheVariants.{Memory, UnexpectedNull};
 ghost use Rattle.pgv_value.specs.declared.value.PgValueFormat.TheVariants.{Binary, Text};
-ghost use Rattle.pgv_nest.specs.ArrayGrammar.{array, array_in_text, array_of, each, frames};
-ghost use Rattle.pgv_codec.specs.Image.{array_image, or_else, header, written_frames, written_element_type};
+ghost use Rattle.pgv_nest.specs.ArrayGrammar.{array, array_in_text, array_of, each, frames, array_of_length};
+ghost use Rattle.pgv_nest.specs.NestRefusals.{array_bytes_refusal, array_refusal, array_takes, array_text_refusal, each_refusal, frames_refusal as frames_read_refusal, is_one_dimension, array_of_length_refusal};
+ghost use Rattle.pgv_codec.specs.Image.{array_image, or_else, header, written_frames, written_element_type, sized_image};
 ghost use Rattle.pgv_codec.specs.Outcome.{Encoded, Refused, Appended, AppendedAll};
 ghost use Rattle.pgv_codec.specs.Refusing.{RefusedExactly, RefusedFor, array_refused, frames_refused};
-ghost use Rattle.pgv_nest.specs.NestRefusals.{array_bytes_refusal, array_refusal, array_takes, array_text_refusal, each_refusal, frames_refusal as frames_read_refusal, is_one_dimension};
+ghost use Rattle.pgv_codec.specs.Saying.{array_written, sized_written, array_agrees, sized_agrees};
+ghost use Rattle.pgv_codec.specs.Back.{ArrayFits};
+ghost use Rattle.pgv_codec.specs.BackNests.{vec_back, sized_back};
 
 use super::part::read_part;
 use crate::buffer::{IsNull, LENGTH_LIMIT, PgArgumentBuffer};
@@ -115,9 +119,6 @@ impl<T: PgHasArrayType> Type for Vec<T> {
 /// their number; the lower bound, 1; and the frame of each. One `7` of `int4` is
 /// `00000001 00000000 00000017 00000001 00000001 00000004 00000007`.
 impl<T: Encode + Type> Encode for Vec<T> {
-    ghost use Rattle.pgv_codec.specs.Image.{array_image};
-    ghost use Rattle.pgv_codec.specs.Refusing.{array_refused};
-
     ghost image = { λ v. array_image T.hint T.image T.produced T.info v.items };
 
     ghost unwritable = { λ v. array_refused T.hint T.image T.unwritable v.items };
@@ -152,9 +153,6 @@ impl<T: PgHasArrayType, const N: usize> Type for [T; N] {
 
 /// Written as the list of its elements is.
 impl<T: Encode + Type, const N: usize> Encode for [T; N] {
-    ghost use Rattle.pgv_codec.specs.Image.{sized_image};
-    ghost use Rattle.pgv_codec.specs.Refusing.{array_refused};
-
     ghost image = { sized_image N T.hint T.image T.produced T.info };
 
     ghost unwritable = { array_refused T.hint T.image T.unwritable };
@@ -182,11 +180,6 @@ impl<T: Encode + Type, const N: usize> Encode for [T; N] {
 /// 1 with C20, elements of an unknown type with C21, and what an element is refused with.
 /// `00000001 00000000 00000017 00000001 00000001 00000004 00000007` and `{7}` are a list of one 7.
 impl<T: Decode + Type> Decode for Vec<T> {
-    ghost use Rattle.std.specs.Prelude.{List, map};
-    ghost use Rattle.pgv_nest.specs.ArrayGrammar.{array};
-    ghost use Rattle.pgv_nest.specs.NestRefusals.{array_refusal, array_takes};
-    ghost use Rattle.pgv_codec.specs.Saying.{array_written};
-
     ghost Meaning = { List T.Meaning };
 
     ghost meaning = { λ v. map T.meaning v.items };
@@ -217,11 +210,6 @@ impl<T: Decode + Type> Decode for Vec<T> {
 
 /// An array of `N` elements, read as a list; another number of elements is refused with C22.
 impl<T: Decode + Type, const N: usize> Decode for [T; N] {
-    ghost use Rattle.std.specs.Prelude.{List, map};
-    ghost use Rattle.pgv_nest.specs.ArrayGrammar.{array_of_length};
-    ghost use Rattle.pgv_nest.specs.NestRefusals.{array_of_length_refusal, array_takes};
-    ghost use Rattle.pgv_codec.specs.Saying.{sized_written};
-
     ghost Meaning = { List T.Meaning };
 
     ghost meaning = { map T.meaning };
@@ -245,14 +233,10 @@ impl<T: Decode + Type, const N: usize> Decode for [T; N] {
 }
 
 impl<T: Codec + PgHasArrayType> Codec for Vec<T> {
-    ghost use Rattle.pgv_codec.specs.Saying.{array_agrees};
-
     ghost agrees = { λ v. array_agrees T.hint T.image T.produced T.info T.meaning T.written T.agrees T.array_info v.items };
 }
 
 impl<T: Codec + PgHasArrayType, const N: usize> Codec for [T; N] {
-    ghost use Rattle.pgv_codec.specs.Saying.{sized_agrees};
-
     ghost agrees = { λ v. sized_agrees T.hint T.image T.produced T.info T.meaning T.written T.agrees N T.array_info v };
 }
 
@@ -324,11 +308,6 @@ fn read_parts<T: Decode + Type>(alloc: Global, parts: Parts<'_>) -> Result<Vec<T
 
 /// A list comes back where each element does, under the type that is found by the OID that was written.
 impl<T: ReadBack + Type> ReadBack for Vec<T> {
-    ghost use Rattle.std.specs.Prelude.{map};
-    ghost use Rattle.std.specs.Vec.{with_items};
-    ghost use Rattle.pgv_codec.specs.Back.{ArrayFits};
-    ghost use Rattle.pgv_codec.specs.BackNests.{vec_back};
-
     ghost kept = { λ v. with_items v (map T.kept v.items) };
 
     ghost fits = { λ v t os. ArrayFits T.info T.produced T.image T.fits v.items t os };
@@ -338,10 +317,6 @@ impl<T: ReadBack + Type> ReadBack for Vec<T> {
 
 /// An array comes back as a list of its elements does.
 impl<T: ReadBack + Type, const N: usize> ReadBack for [T; N] {
-    ghost use Rattle.std.specs.Prelude.{map};
-    ghost use Rattle.pgv_codec.specs.Back.{ArrayFits};
-    ghost use Rattle.pgv_codec.specs.BackNests.{sized_back};
-
     ghost kept = { map T.kept };
 
     ghost fits = { ArrayFits T.info T.produced T.image T.fits };

@@ -7,13 +7,12 @@ ghost use Rattle.pgv_value.specs.DateTimeBinary.{date_reading, date_time_refusal
 ghost use Rattle.pgv_codec.specs.DateTimeBinary.{days_of, date_image};
 ghost use Rattle.pgv_codec.specs.WithHint.{with_hint};
 
-use super::FIRST_DAY;
 use super::int::write_i32;
 use crate::buffer::{IsNull, PgArgumentBuffer};
 use crate::traits::{Alone, Of, Plain, Scalar};
 use jiff::civil::Date;
 use pgv_types::{PgType, PgTypeInfo};
-use pgv_value::{CodecError, PgValueRef, read_date};
+use pgv_value::{CodecError, FIRST_DAY, PgValueRef, read_date};
 use std::alloc::Global;
 
 /// The days from 2000-01-01.

@@ -7,13 +7,12 @@ ghost use Rattle.pgv_value.specs.DateTimeBinary.{date_time_reading, date_time_re
 ghost use Rattle.pgv_codec.specs.DateTimeBinary.{micros_of, moment_image};
 ghost use Rattle.pgv_codec.specs.WithHint.{with_hint};
 
-use super::FIRST_NANOSECOND;
 use super::int::write_i64;
 use crate::buffer::{IsNull, PgArgumentBuffer};
 use crate::traits::{Alone, Of, Plain, Scalar};
 use jiff::civil::DateTime;
 use pgv_types::{PgType, PgTypeInfo};
-use pgv_value::{CodecError, PgValueRef, read_date_time};
+use pgv_value::{CodecError, FIRST_NANOSECOND, PgValueRef, read_date_time};
 use std::alloc::Global;
 
 /// The microseconds from 2000-01-01 00:00; what is less is cut off, towards that moment.

@@ -1,10 +1,16 @@
 //! Intervals (PostgreSQL, "Date/Time Types", interval), and durations, which are written as intervals.
 
+ghost use Rattle.std.specs.Prelude.{◌≡◌, IfOk, IfErr, OnErr, Some, refl, pos};
+ghost use Rattle.std.specs.Duration.{as_nanos};
+ghost use Rattle.jiff.specs.Words.{signed_nanos};
 ghost use Rattle.pgv_types.specs.Ty.{builtin};
-ghost use Rattle.std.specs.Prelude.{◌≡◌, IfOk, IfErr, OnErr};
-ghost use Rattle.pgv_codec.specs.Intervals.{interval_image};
-ghost use Rattle.pgv_codec.specs.Outcome.{Encoded, Appended};
 ghost use Rattle.pgv_value.specs.declared.error.CodecError.TheVariants.{Memory};
+ghost use Rattle.pgv_value.specs.Interval.{interval_reading, interval_refusal};
+ghost use Rattle.pgv_value.specs.declared.interval.PgInterval.{PgInterval as Interval};
+ghost use Rattle.pgv_codec.specs.Intervals.{interval_image, duration_image, duration_refused};
+ghost use Rattle.pgv_codec.specs.Outcome.{Encoded, Appended};
+ghost use Rattle.pgv_codec.specs.WithHint.{with_hint};
+ghost use Rattle.pgv_codec.specs.IntervalsBack.{interval_back};
 
 use crate::buffer::{IsNull, PgArgumentBuffer};
 use crate::traits::{Alone, Of, Plain, Scalar};
@@ -36,8 +42,6 @@ impl Alone for Of<PgInterval> {}
 /// Written as its microseconds in eight bytes, its days in four and its months in four: an hour as
 /// `00000000d693a4000000000000000000`.
 impl Scalar for PgInterval {
-    ghost use Rattle.pgv_codec.specs.Intervals.{interval_image};
-
     ghost INFO = { builtin 1186 };
 
     ghost ARRAY_INFO = { builtin 1187 };
@@ -60,13 +64,6 @@ impl Scalar for PgInterval {
 /// An `interval`, as [`read_interval`] reads it: `00000000d693a4000000000000000000` is an hour. It has no text (C18).
 /// An interval comes back as it is.
 impl Plain for PgInterval {
-    ghost use Rattle.std.specs.Prelude.{Some, refl};
-    ghost use Rattle.pgv_value.specs.Interval.{interval_reading, interval_refusal};
-    ghost use Rattle.pgv_value.specs.declared.interval.PgInterval.{PgInterval as Interval};
-    ghost use Rattle.pgv_codec.specs.Intervals.{interval_image};
-    ghost use Rattle.pgv_codec.specs.WithHint.{with_hint};
-    ghost use Rattle.pgv_codec.specs.IntervalsBack.{interval_back};
-
     ghost Meaning = { Interval };
 
     ghost meaning = { λ interval. interval };
@@ -93,10 +90,6 @@ impl Alone for Of<Duration> {}
 /// A duration is written as the interval of its microseconds, with no days and no months. One that isn't whole microseconds is
 /// refused with C4, and another whose number of microseconds 64 bits don't have with C5.
 impl Scalar for Duration {
-    ghost use Rattle.std.specs.Prelude.{pos, Some};
-    ghost use Rattle.std.specs.Duration.{as_nanos};
-    ghost use Rattle.pgv_codec.specs.Intervals.{duration_image, duration_refused};
-
     ghost INFO = { builtin 1186 };
 
     ghost ARRAY_INFO = { builtin 1187 };
@@ -125,10 +118,6 @@ impl Alone for Of<SignedDuration> {}
 /// An array of them is `interval[]` (OID 1187).
 /// A duration with a sign, written as one without.
 impl Scalar for SignedDuration {
-    ghost use Rattle.std.specs.Prelude.{Some};
-    ghost use Rattle.jiff.specs.Words.{signed_nanos};
-    ghost use Rattle.pgv_codec.specs.Intervals.{duration_image, duration_refused};
-
     ghost INFO = { builtin 1186 };
 
     ghost ARRAY_INFO = { builtin 1187 };

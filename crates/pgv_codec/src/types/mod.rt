@@ -20,9 +20,3 @@ pub mod timestamp;
 pub mod tuple;
 pub mod uuids;
 pub mod void;
-
-/// The days from 1970-01-01 to 2000-01-01, from which dates are counted.
-const FIRST_DAY: i32 = 10_957;
-
-/// The nanoseconds from 1970-01-01 00:00 UTC to 2000-01-01 00:00 UTC, from which date-times and instants are counted.
-const FIRST_NANOSECOND: i128 = 946_684_800_000_000_000;

@@ -1,5 +1,13 @@
 //! Values that may be null.
 
+ghost use Rattle.std.specs.Prelude.{Option, option_map, Some, None, refl};
+ghost use Rattle.pgv_codec.specs.Image.{option_image, option_hint, option_produced};
+ghost use Rattle.pgv_codec.specs.Refusing.{option_unwritable, nullable_refusal, nullable_takes};
+ghost use Rattle.pgv_codec.specs.Nullable.{nullable};
+ghost use Rattle.pgv_codec.specs.Saying.{option_written};
+ghost use Rattle.pgv_codec.specs.Back.{option_kept, option_fits};
+ghost use Rattle.pgv_codec.specs.BackNests.{option_back};
+
 use crate::buffer::{IsNull, PgArgumentBuffer};
 use crate::traits::{Codec, Decode, Encode, PgHasArrayType, ReadBack, Type};
 use pgv_types::PgTypeInfo;
@@ -39,9 +47,6 @@ impl<T: PgHasArrayType> PgHasArrayType for Option<T> {
 
 /// `None` is written as null, the length `ffffffff` without bytes after it, and `Some` as its value.
 impl<T: Encode + Type> Encode for Option<T> {
-    ghost use Rattle.pgv_codec.specs.Image.{option_image, option_hint, option_produced};
-    ghost use Rattle.pgv_codec.specs.Refusing.{option_unwritable};
-
     ghost image = { option_image T.image };
 
     ghost hint = { option_hint T.hint };
@@ -77,11 +82,6 @@ impl<T: Encode + Type> Encode for Option<T> {
 
 /// Null is read as `None`, and anything else as `Some` of what the type reads.
 impl<T: Decode> Decode for Option<T> {
-    ghost use Rattle.std.specs.Prelude.{Option, option_map};
-    ghost use Rattle.pgv_codec.specs.Nullable.{nullable};
-    ghost use Rattle.pgv_codec.specs.Refusing.{nullable_refusal, nullable_takes};
-    ghost use Rattle.pgv_codec.specs.Saying.{option_written};
-
     ghost Meaning = { Option T.Meaning };
 
     ghost meaning = { option_map T.meaning };
@@ -105,9 +105,6 @@ impl<T: Decode> Decode for Option<T> {
 
 /// `None` comes back, and so does `Some` where its value does; but a value that is written as null comes back as `None`.
 impl<T: ReadBack + Type> ReadBack for Option<T> {
-    ghost use Rattle.pgv_codec.specs.Back.{option_kept, option_fits};
-    ghost use Rattle.pgv_codec.specs.BackNests.{option_back};
-
     ghost kept = { option_kept T.image T.kept };
 
     ghost fits = { option_fits T.fits };
@@ -116,7 +113,5 @@ impl<T: ReadBack + Type> ReadBack for Option<T> {
 }
 
 impl<T: Codec> Codec for Option<T> {
-    ghost use Rattle.std.specs.Prelude.{Some, None, refl};
-
     ghost agrees = { elim [ None ↦ refl | Some v ↦ T.agrees v ] };
 }

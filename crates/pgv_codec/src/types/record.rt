@@ -1,17 +1,19 @@
 //! Records: composite types, field by field.
 
 ghost use Rattle.std.specs.Prelude.{IfErr, OnOk, OnErr, ◌≡◌, ◌≢◌, ◌+◌, ◌<◌, length, None, IfOk, IsErrOf};
+ghost use Rattle.std.specs.Borrow.{sem, RestsIfErr};
 ghost use Rattle.pgv_text.specs.PartsView.{nest};
 ghost use Rattle.pgv_text.specs.Values.{record_values};
 ghost use Rattle.pgv_value.specs.Reading.{Answers, AnswersExactly};
-ghost use Rattle.pgv_value.specs.declared.error.CodecError.TheVariants.{UnexpectedNull, Syntax};
-ghost use Rattle.pgv_codec.specs.Image.{field};
+ghost use Rattle.pgv_value.specs.declared.error.CodecError.TheVariants.{UnexpectedNull, Syntax, Memory};
+ghost use Rattle.pgv_nest.specs.NestRefusals.{field_refusal, fields_refusal, next_refusal};
+ghost use Rattle.pgv_nest.specs.RecordGrammar.{field_in, fields_of, next, Takes, Left, left_code};
+ghost use Rattle.pgv_codec.specs.Image.{field, counted_field};
 ghost use Rattle.pgv_codec.specs.FieldsLeftView.{left_of, IsInPlace};
 ghost use Rattle.pgv_codec.specs.Outcome.{Refused, Appended, AppendedAll};
-ghost use Rattle.pgv_codec.specs.Record.{IsOpen};
-ghost use Rattle.pgv_codec.specs.Refusing.{RefusedFor, frame_refused};
-ghost use Rattle.pgv_nest.specs.NestRefusals.{field_refusal, fields_refusal, next_refusal};
-ghost use Rattle.pgv_nest.specs.RecordGrammar.{field_in, fields_of, next, Takes};
+ghost use Rattle.pgv_codec.specs.Record.{IsOpen, begun, so_far, AddsField};
+ghost use Rattle.pgv_codec.specs.Refusing.{RefusedFor, frame_refused, field_refused};
+ghost use Rattle.pgv_codec.specs.contracts.buffer.PgArgumentBuffer.{the_row};
 
 use super::part::read_part;
 use crate::buffer::PgArgumentBuffer;
@@ -35,14 +37,6 @@ pub struct PgRecordEncoder<'a> {
 }
 
 impl<'a> PgRecordEncoder<'a> {
-    ghost use Rattle.std.specs.Prelude.{◌≡◌, OnOk, OnErr, IfOk, IfErr};
-    ghost use Rattle.std.specs.Borrow.{sem, RestsIfErr};
-    ghost use Rattle.pgv_value.specs.declared.error.CodecError.TheVariants.{Memory};
-    ghost use Rattle.pgv_codec.specs.contracts.buffer.PgArgumentBuffer.{the_row};
-    ghost use Rattle.pgv_codec.specs.Image.{field, counted_field};
-    ghost use Rattle.pgv_codec.specs.Outcome.{Refused};
-    ghost use Rattle.pgv_codec.specs.Record.{begun, so_far, AddsField};
-    ghost use Rattle.pgv_codec.specs.Refusing.{RefusedFor, field_refused};
     ghost use Rattle.pgv_codec.specs.WrittenView.{buffer, written};
 
     /// Begins a record after what the buffer has. C1 leaves the buffer as it was.
@@ -118,13 +112,9 @@ pub struct PgRecordDecoder<'r> {
 }
 
 impl<'r> Model for PgRecordDecoder<'r> {
-    ghost use Rattle.pgv_nest.specs.RecordGrammar.{Left, left_code};
-
     ghost Value = { Left };
 
     ghost coded = { left_code };
-
-    ghost use Rattle.pgv_codec.specs.FieldsLeftView.{left_of, IsInPlace};
 
     ghost view = { λ d. left_of d.left };
 

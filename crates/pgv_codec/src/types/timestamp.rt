@@ -6,13 +6,12 @@ ghost use Rattle.pgv_value.specs.DateTimeBinary.{instant_reading, date_time_refu
 ghost use Rattle.pgv_codec.specs.DateTimeBinary.{micros_of, moment_image};
 ghost use Rattle.pgv_codec.specs.WithHint.{with_hint};
 
-use super::FIRST_NANOSECOND;
 use super::int::write_i64;
 use crate::buffer::{IsNull, PgArgumentBuffer};
 use crate::traits::{Alone, Of, Plain, Scalar};
 use jiff::Timestamp;
 use pgv_types::{PgType, PgTypeInfo};
-use pgv_value::{CodecError, PgValueRef, read_instant};
+use pgv_value::{CodecError, FIRST_NANOSECOND, PgValueRef, read_instant};
 use std::alloc::Global;
 
 /// The microseconds from 2000-01-01 00:00 UTC; what is less is cut off, towards that moment.

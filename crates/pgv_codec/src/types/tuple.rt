@@ -3,6 +3,11 @@
 
 ghost use Rattle.std.specs.Prelude.{◌≡◌};
 ghost use Rattle.pgv_types.specs.Ty.{builtin};
+ghost use Rattle.pgv_types.specs.Relations.{softly};
+ghost use Rattle.pgv_nest.specs.NestRefusals.{next_refusal, record_refusal, record_takes, field_then};
+ghost use Rattle.pgv_nest.specs.RecordGrammar.{next};
+ghost use Rattle.pgv_nest.specs.TupleGrammar.{record_of, ◌then◌};
+ghost use Rattle.pgv_codec.specs.Saying.{unwritten};
 
 use super::field_list::first_fields;
 use crate::traits::{Decode, PgHasArrayType, Type};
@@ -26,11 +31,6 @@ fn records() -> PgTypeInfo
 
 /// The first field of a record. Further fields are ignored. `00000001 00000017 00000004 00000007` is `(7,)`, and so is the text `(7)`.
 impl<A: Type + Decode> Decode for (A,) {
-    ghost use Rattle.pgv_nest.specs.NestRefusals.{next_refusal, record_refusal, record_takes};
-    ghost use Rattle.pgv_nest.specs.RecordGrammar.{next};
-    ghost use Rattle.pgv_nest.specs.TupleGrammar.{record_of};
-    ghost use Rattle.pgv_codec.specs.Saying.{unwritten};
-
     ghost Meaning = { A.Meaning };
 
     ghost meaning = { λ v. A.meaning v.0 };
@@ -49,9 +49,6 @@ impl<A: Type + Decode> Decode for (A,) {
 }
 
 impl<A> Type for (A,) {
-    ghost use Rattle.pgv_types.specs.Relations.{softly};
-    ghost use Rattle.pgv_types.specs.Ty.{builtin};
-
     ghost info = { builtin 2249 };
 
     ghost accepts = { λ t. softly t (builtin 2249) };
@@ -66,9 +63,6 @@ impl<A> Type for (A,) {
 }
 
 impl<A> PgHasArrayType for (A,) {
-    ghost use Rattle.pgv_types.specs.Relations.{softly};
-    ghost use Rattle.pgv_types.specs.Ty.{builtin};
-
     ghost array_info = { builtin 2287 };
 
     ghost accepts_array = { λ t. softly t (builtin 2287) };
@@ -85,11 +79,6 @@ impl<A> PgHasArrayType for (A,) {
 /// The first two fields of a record. Further fields are ignored. `00000002 00000017 00000004 00000001 00000019 00000001 61` is `(1, "a")`,
 /// and so is the text `(1,a)`.
 impl<A: Type + Decode, B: Type + Decode> Decode for (A, B) {
-    ghost use Rattle.pgv_nest.specs.NestRefusals.{field_then, next_refusal, record_refusal, record_takes};
-    ghost use Rattle.pgv_nest.specs.RecordGrammar.{next};
-    ghost use Rattle.pgv_nest.specs.TupleGrammar.{record_of, ◌then◌};
-    ghost use Rattle.pgv_codec.specs.Saying.{unwritten};
-
     ghost Meaning = { A.Meaning × B.Meaning };
 
     ghost meaning = { λ v. (A.meaning v.0, B.meaning v.1) };
@@ -109,9 +98,6 @@ impl<A: Type + Decode, B: Type + Decode> Decode for (A, B) {
 }
 
 impl<A, B> Type for (A, B) {
-    ghost use Rattle.pgv_types.specs.Relations.{softly};
-    ghost use Rattle.pgv_types.specs.Ty.{builtin};
-
     ghost info = { builtin 2249 };
 
     ghost accepts = { λ t. softly t (builtin 2249) };
@@ -126,9 +112,6 @@ impl<A, B> Type for (A, B) {
 }
 
 impl<A, B> PgHasArrayType for (A, B) {
-    ghost use Rattle.pgv_types.specs.Relations.{softly};
-    ghost use Rattle.pgv_types.specs.Ty.{builtin};
-
     ghost array_info = { builtin 2287 };
 
     ghost accepts_array = { λ t. softly t (builtin 2287) };
@@ -144,11 +127,6 @@ impl<A, B> PgHasArrayType for (A, B) {
 
 /// The first three fields of a record. Further fields are ignored.
 impl<A: Type + Decode, B: Type + Decode, C: Type + Decode> Decode for (A, B, C) {
-    ghost use Rattle.pgv_nest.specs.NestRefusals.{field_then, next_refusal, record_refusal, record_takes};
-    ghost use Rattle.pgv_nest.specs.RecordGrammar.{next};
-    ghost use Rattle.pgv_nest.specs.TupleGrammar.{record_of, ◌then◌};
-    ghost use Rattle.pgv_codec.specs.Saying.{unwritten};
-
     ghost Meaning = { A.Meaning × (B.Meaning × C.Meaning) };
 
     ghost meaning = { λ v. (A.meaning v.0, (B.meaning v.1, C.meaning v.2)) };
@@ -168,9 +146,6 @@ impl<A: Type + Decode, B: Type + Decode, C: Type + Decode> Decode for (A, B, C) 
 }
 
 impl<A, B, C> Type for (A, B, C) {
-    ghost use Rattle.pgv_types.specs.Relations.{softly};
-    ghost use Rattle.pgv_types.specs.Ty.{builtin};
-
     ghost info = { builtin 2249 };
 
     ghost accepts = { λ t. softly t (builtin 2249) };
@@ -185,9 +160,6 @@ impl<A, B, C> Type for (A, B, C) {
 }
 
 impl<A, B, C> PgHasArrayType for (A, B, C) {
-    ghost use Rattle.pgv_types.specs.Relations.{softly};
-    ghost use Rattle.pgv_types.specs.Ty.{builtin};
-
     ghost array_info = { builtin 2287 };
 
     ghost accepts_array = { λ t. softly t (builtin 2287) };
@@ -204,11 +176,6 @@ impl<A, B, C> PgHasArrayType for (A, B, C) {
 /// The first four fields of a record. Further fields are ignored.
 impl<A: Type + Decode, B: Type + Decode, C: Type + Decode, D: Type + Decode> Decode
     for (A, B, C, D) {
-    ghost use Rattle.pgv_nest.specs.NestRefusals.{field_then, next_refusal, record_refusal, record_takes};
-    ghost use Rattle.pgv_nest.specs.RecordGrammar.{next};
-    ghost use Rattle.pgv_nest.specs.TupleGrammar.{record_of, ◌then◌};
-    ghost use Rattle.pgv_codec.specs.Saying.{unwritten};
-
     ghost Meaning = { A.Meaning × (B.Meaning × (C.Meaning × D.Meaning)) };
 
     ghost meaning = { λ v. (A.meaning v.0, (B.meaning v.1, (C.meaning v.2, D.meaning v.3))) };
@@ -228,9 +195,6 @@ impl<A: Type + Decode, B: Type + Decode, C: Type + Decode, D: Type + Decode> Dec
 }
 
 impl<A, B, C, D> Type for (A, B, C, D) {
-    ghost use Rattle.pgv_types.specs.Relations.{softly};
-    ghost use Rattle.pgv_types.specs.Ty.{builtin};
-
     ghost info = { builtin 2249 };
 
     ghost accepts = { λ t. softly t (builtin 2249) };
@@ -245,9 +209,6 @@ impl<A, B, C, D> Type for (A, B, C, D) {
 }
 
 impl<A, B, C, D> PgHasArrayType for (A, B, C, D) {
-    ghost use Rattle.pgv_types.specs.Relations.{softly};
-    ghost use Rattle.pgv_types.specs.Ty.{builtin};
-
     ghost array_info = { builtin 2287 };
 
     ghost accepts_array = { λ t. softly t (builtin 2287) };
@@ -269,11 +230,6 @@ impl<
     D: Type + Decode,
     E: Type + Decode,
 > Decode for (A, B, C, D, E) {
-    ghost use Rattle.pgv_nest.specs.NestRefusals.{field_then, next_refusal, record_refusal, record_takes};
-    ghost use Rattle.pgv_nest.specs.RecordGrammar.{next};
-    ghost use Rattle.pgv_nest.specs.TupleGrammar.{record_of, ◌then◌};
-    ghost use Rattle.pgv_codec.specs.Saying.{unwritten};
-
     ghost Meaning = { A.Meaning × (B.Meaning × (C.Meaning × (D.Meaning × E.Meaning))) };
 
     ghost meaning = { λ v. (A.meaning v.0, (B.meaning v.1, (C.meaning v.2, (D.meaning v.3, E.meaning v.4)))) };
@@ -293,9 +249,6 @@ impl<
 }
 
 impl<A, B, C, D, E> Type for (A, B, C, D, E) {
-    ghost use Rattle.pgv_types.specs.Relations.{softly};
-    ghost use Rattle.pgv_types.specs.Ty.{builtin};
-
     ghost info = { builtin 2249 };
 
     ghost accepts = { λ t. softly t (builtin 2249) };
@@ -310,9 +263,6 @@ impl<A, B, C, D, E> Type for (A, B, C, D, E) {
 }
 
 impl<A, B, C, D, E> PgHasArrayType for (A, B, C, D, E) {
-    ghost use Rattle.pgv_types.specs.Relations.{softly};
-    ghost use Rattle.pgv_types.specs.Ty.{builtin};
-
     ghost array_info = { builtin 2287 };
 
     ghost accepts_array = { λ t. softly t (builtin 2287) };
@@ -335,11 +285,6 @@ impl<
     E: Type + Decode,
     F: Type + Decode,
 > Decode for (A, B, C, D, E, F) {
-    ghost use Rattle.pgv_nest.specs.NestRefusals.{field_then, next_refusal, record_refusal, record_takes};
-    ghost use Rattle.pgv_nest.specs.RecordGrammar.{next};
-    ghost use Rattle.pgv_nest.specs.TupleGrammar.{record_of, ◌then◌};
-    ghost use Rattle.pgv_codec.specs.Saying.{unwritten};
-
     ghost Meaning = { A.Meaning × (B.Meaning × (C.Meaning × (D.Meaning × (E.Meaning × F.Meaning)))) };
 
     ghost meaning = { λ v. (A.meaning v.0, (B.meaning v.1, (C.meaning v.2, (D.meaning v.3, (E.meaning v.4, F.meaning v.5))))) };
@@ -361,9 +306,6 @@ impl<
 }
 
 impl<A, B, C, D, E, F> Type for (A, B, C, D, E, F) {
-    ghost use Rattle.pgv_types.specs.Relations.{softly};
-    ghost use Rattle.pgv_types.specs.Ty.{builtin};
-
     ghost info = { builtin 2249 };
 
     ghost accepts = { λ t. softly t (builtin 2249) };
@@ -378,9 +320,6 @@ impl<A, B, C, D, E, F> Type for (A, B, C, D, E, F) {
 }
 
 impl<A, B, C, D, E, F> PgHasArrayType for (A, B, C, D, E, F) {
-    ghost use Rattle.pgv_types.specs.Relations.{softly};
-    ghost use Rattle.pgv_types.specs.Ty.{builtin};
-
     ghost array_info = { builtin 2287 };
 
     ghost accepts_array = { λ t. softly t (builtin 2287) };
@@ -404,11 +343,6 @@ impl<
     F: Type + Decode,
     G: Type + Decode,
 > Decode for (A, B, C, D, E, F, G) {
-    ghost use Rattle.pgv_nest.specs.NestRefusals.{field_then, next_refusal, record_refusal, record_takes};
-    ghost use Rattle.pgv_nest.specs.RecordGrammar.{next};
-    ghost use Rattle.pgv_nest.specs.TupleGrammar.{record_of, ◌then◌};
-    ghost use Rattle.pgv_codec.specs.Saying.{unwritten};
-
     ghost Meaning = { A.Meaning × (B.Meaning × (C.Meaning × (D.Meaning × (E.Meaning × (F.Meaning × G.Meaning))))) };
 
     ghost meaning = { λ v. (A.meaning v.0, (B.meaning v.1, (C.meaning v.2, (D.meaning v.3, (E.meaning v.4, (F.meaning v.5, G.meaning v.6)))))) };
@@ -430,9 +364,6 @@ impl<
 }
 
 impl<A, B, C, D, E, F, G> Type for (A, B, C, D, E, F, G) {
-    ghost use Rattle.pgv_types.specs.Relations.{softly};
-    ghost use Rattle.pgv_types.specs.Ty.{builtin};
-
     ghost info = { builtin 2249 };
 
     ghost accepts = { λ t. softly t (builtin 2249) };
@@ -447,9 +378,6 @@ impl<A, B, C, D, E, F, G> Type for (A, B, C, D, E, F, G) {
 }
 
 impl<A, B, C, D, E, F, G> PgHasArrayType for (A, B, C, D, E, F, G) {
-    ghost use Rattle.pgv_types.specs.Relations.{softly};
-    ghost use Rattle.pgv_types.specs.Ty.{builtin};
-
     ghost array_info = { builtin 2287 };
 
     ghost accepts_array = { λ t. softly t (builtin 2287) };
@@ -474,11 +402,6 @@ impl<
     G: Type + Decode,
     H: Type + Decode,
 > Decode for (A, B, C, D, E, F, G, H) {
-    ghost use Rattle.pgv_nest.specs.NestRefusals.{field_then, next_refusal, record_refusal, record_takes};
-    ghost use Rattle.pgv_nest.specs.RecordGrammar.{next};
-    ghost use Rattle.pgv_nest.specs.TupleGrammar.{record_of, ◌then◌};
-    ghost use Rattle.pgv_codec.specs.Saying.{unwritten};
-
     ghost Meaning = { A.Meaning × (B.Meaning × (C.Meaning × (D.Meaning × (E.Meaning × (F.Meaning × (G.Meaning × H.Meaning)))))) };
 
     ghost meaning = { λ v. (A.meaning v.0, (B.meaning v.1, (C.meaning v.2, (D.meaning v.3, (E.meaning v.4, (F.meaning v.5, (G.meaning v.6, H.meaning v.7))))))) };
@@ -503,9 +426,6 @@ impl<
 }
 
 impl<A, B, C, D, E, F, G, H> Type for (A, B, C, D, E, F, G, H) {
-    ghost use Rattle.pgv_types.specs.Relations.{softly};
-    ghost use Rattle.pgv_types.specs.Ty.{builtin};
-
     ghost info = { builtin 2249 };
 
     ghost accepts = { λ t. softly t (builtin 2249) };
@@ -520,9 +440,6 @@ impl<A, B, C, D, E, F, G, H> Type for (A, B, C, D, E, F, G, H) {
 }
 
 impl<A, B, C, D, E, F, G, H> PgHasArrayType for (A, B, C, D, E, F, G, H) {
-    ghost use Rattle.pgv_types.specs.Relations.{softly};
-    ghost use Rattle.pgv_types.specs.Ty.{builtin};
-
     ghost array_info = { builtin 2287 };
 
     ghost accepts_array = { λ t. softly t (builtin 2287) };
@@ -548,11 +465,6 @@ impl<
     H: Type + Decode,
     I: Type + Decode,
 > Decode for (A, B, C, D, E, F, G, H, I) {
-    ghost use Rattle.pgv_nest.specs.NestRefusals.{field_then, next_refusal, record_refusal, record_takes};
-    ghost use Rattle.pgv_nest.specs.RecordGrammar.{next};
-    ghost use Rattle.pgv_nest.specs.TupleGrammar.{record_of, ◌then◌};
-    ghost use Rattle.pgv_codec.specs.Saying.{unwritten};
-
     ghost Meaning = { A.Meaning × (B.Meaning × (C.Meaning × (D.Meaning × (E.Meaning × (F.Meaning × (G.Meaning × (H.Meaning × I.Meaning))))))) };
 
     ghost meaning = { λ v. (A.meaning v.0, (B.meaning v.1, (C.meaning v.2, (D.meaning v.3, (E.meaning v.4, (F.meaning v.5, (G.meaning v.6, (H.meaning v.7, I.meaning v.8)))))))) };
@@ -577,9 +489,6 @@ impl<
 }
 
 impl<A, B, C, D, E, F, G, H, I> Type for (A, B, C, D, E, F, G, H, I) {
-    ghost use Rattle.pgv_types.specs.Relations.{softly};
-    ghost use Rattle.pgv_types.specs.Ty.{builtin};
-
     ghost info = { builtin 2249 };
 
     ghost accepts = { λ t. softly t (builtin 2249) };
@@ -594,9 +503,6 @@ impl<A, B, C, D, E, F, G, H, I> Type for (A, B, C, D, E, F, G, H, I) {
 }
 
 impl<A, B, C, D, E, F, G, H, I> PgHasArrayType for (A, B, C, D, E, F, G, H, I) {
-    ghost use Rattle.pgv_types.specs.Relations.{softly};
-    ghost use Rattle.pgv_types.specs.Ty.{builtin};
-
     ghost array_info = { builtin 2287 };
 
     ghost accepts_array = { λ t. softly t (builtin 2287) };

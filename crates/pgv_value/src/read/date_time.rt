@@ -15,11 +15,11 @@ use jiff::Timestamp;
 use jiff::civil::{Date, DateTime, Time};
 use pgv_text::{date, date_time, instant, time};
 
-/// The day number of 2000-01-01.
-const FIRST_DAY: i64 = 10_957;
+/// The days from 1970-01-01 to 2000-01-01, from which dates are counted.
+pub const FIRST_DAY: i32 = 10_957;
 
-/// The nanoseconds of 2000-01-01 00:00.
-const FIRST_NANOSECOND: i128 = 946_684_800_000_000_000;
+/// The nanoseconds from 1970-01-01 00:00 UTC to 2000-01-01 00:00 UTC, from which date-times and instants are counted.
+pub const FIRST_NANOSECOND: i128 = 946_684_800_000_000_000;
 
 /// The microseconds of a day.
 const DAY: i64 = 86_400_000_000;
@@ -28,7 +28,7 @@ const DAY: i64 = 86_400_000_000;
 fn date_after(days: i32) -> Option<Date>
     ensures { option_map epoch_day result ≡ day_after days }
 {
-    match jiff_core::civil::Date::from_unix_epoch_day(days as i64 + FIRST_DAY) {
+    match jiff_core::civil::Date::from_unix_epoch_day(days as i64 + FIRST_DAY as i64) {
         Ok(plain) => Some(Date::from_plain(plain)),
         Err(_) => None,
     }
