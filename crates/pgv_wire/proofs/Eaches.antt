@@ -5,19 +5,24 @@ use Rattle.pgv_types.specs.Ty.{Ty}
 use Rattle.pgv_buf.specs.Tokens.{Token}
 use Rattle.pgv_wire.specs.Arguments.{Argument, Added}
 use Rattle.pgv_codec.specs.Outcome.{Refused}
-use Rattle.pgv_wire.specs.Each.{Outcome, IsOutcome, AreOutcomes, argument_by, added_by, accepted}
+use Rattle.pgv_wire.specs.Each.{Outcome, EachOutcome, IsOutcome, AreOutcomes, argument_by, added_by, accepted}
 
 pub not_err : {A E : Type 0} (r : Result A E) (e : E) → IsOk r → r ≡ Err e → ⊥
 not_err (Ok x) e k h = absurd cc
 not_err (Err x) e k h = absurd cc
 
-module _ {X : Type 0} (framed_as : X → Option (List Token)) (typed_as : X → Ty) where
-  outcomes-more : (xs : List X) (rs : List Outcome) (x : X) (r : Outcome) → AreOutcomes framed_as typed_as xs rs → IsOutcome framed_as typed_as x r → AreOutcomes framed_as typed_as (xs ++ x ∷ []) (rs ++ r ∷ [])
+module _ {X : Type 0} (said : X → Outcome → Type 0) where
+  outcomes-more : (xs : List X) (rs : List Outcome) (x : X) (r : Outcome) → EachOutcome said xs rs → said x r → EachOutcome said (xs ++ x ∷ []) (rs ++ r ∷ [])
   outcomes-more [] [] x r h k = (k, tt)
   outcomes-more [] (s ∷ rs) x r h k = absurd h
   outcomes-more (y ∷ xs) [] x r h k = absurd h
   outcomes-more (y ∷ xs) (s ∷ rs) x r h k = (h.0, outcomes-more xs rs x r h.1 k)
 
+  pub next_said :
+      (xs : List X) (i : ℕ) (x : X) (rs rs' : List Outcome) (r : Outcome) → i < length xs → x ≡ get_or xs i x → EachOutcome said (take i xs) rs → said x r → rs' ≡ rs ++ r ∷ [] → EachOutcome said (take (i + 1) xs) rs'
+  next_said xs i x rs rs' r l e h k o = rw (o, take_more xs i x l, ← e) (outcomes-more (take i xs) rs x r h k)
+
+module _ {X : Type 0} (framed_as : X → Option (List Token)) (typed_as : X → Ty) where
   accepted-more : (xs : List X) (rs : List Outcome) (x : X) (r : Outcome) → AreOutcomes framed_as typed_as xs rs →
       accepted framed_as typed_as (xs ++ x ∷ []) (rs ++ r ∷ []) ≡ accepted framed_as typed_as xs rs ++ added_by framed_as typed_as x r
   accepted-more [] [] x r h = append-nil (added_by framed_as typed_as x r)
@@ -35,7 +40,7 @@ module _ {X : Type 0} (framed_as : X → Option (List Token)) (typed_as : X → 
       SoFar (take i xs) rs start now → IsOutcome framed_as typed_as x r → next ≡ now ++ added_by framed_as typed_as x r → rs' ≡ rs ++ r ∷ [] → SoFar (take (i + 1) xs) rs' start next
   more xs i x rs rs' r start now next l e h k n o =
       rw (o, take_more xs i x l, ← e) (
-        outcomes-more (take i xs) rs x r h.0 k,
+        outcomes-more (IsOutcome framed_as typed_as) (take i xs) rs x r h.0 k,
         n ∙ (ap (λ a. a ++ added_by framed_as typed_as x r) h.1 ∙ (append_assoc start (accepted framed_as typed_as (take i xs) rs) (added_by framed_as typed_as x r)
             ∙ ap (λ a. start ++ a) (sym (accepted-more (take i xs) rs x r h.0)))),
       )

@@ -4,10 +4,23 @@ use Rattle.pgv_types.specs.Ty.{Ty}
 use Rattle.pgv_buf.specs.Tokens.{Token, blank}
 use Rattle.pgv_wire.specs.Arguments.{Argument}
 use Rattle.pgv_codec.specs.Outcome.{Refused}
+use Rattle.pgv_codec.specs.Refusing.{RefusedFor}
 use Rattle.pgv_value.specs.declared.error.CodecError.{CodecError}
 
 abbrev pub Outcome : Type 0
 Outcome = Result (Unit {0}) CodecError
+
+-- one outcome for each value, in order, with what is said of the two
+module _ {X : Type 0} (said : X → Outcome → Type 0) where
+  abbrev pub EachOutcome : List X → List Outcome → Type 0
+  EachOutcome [] [] = ⊤
+  EachOutcome [] (r ∷ rs) = ⊥
+  EachOutcome (x ∷ xs) [] = ⊥
+  EachOutcome (x ∷ xs) (r ∷ rs) = said x r × EachOutcome xs rs
+
+-- a value that is refused is refused with what is stated of it
+abbrev pub EachRefusedFor : {X : Type 0} → (X → Option CodecError) → List X → List Outcome → Type 0
+EachRefusedFor why = EachOutcome (λ x r. RefusedFor (why x) r)
 
 module _ {X : Type 0} (framed_as : X → Option (List Token)) (typed_as : X → Ty) where
   -- the outcome of one value
@@ -15,12 +28,8 @@ module _ {X : Type 0} (framed_as : X → Option (List Token)) (typed_as : X → 
   IsOutcome x (Ok u) = (ts : List Token) × (framed_as x ≡ Some ts)
   IsOutcome x (Err e) = Refused e (framed_as x)
 
-  -- one outcome for each value
   abbrev pub AreOutcomes : List X → List Outcome → Type 0
-  AreOutcomes [] [] = ⊤
-  AreOutcomes [] (r ∷ rs) = ⊥
-  AreOutcomes (x ∷ xs) [] = ⊥
-  AreOutcomes (x ∷ xs) (r ∷ rs) = IsOutcome x r × AreOutcomes xs rs
+  AreOutcomes = EachOutcome IsOutcome
 
   abbrev pub argument_by : Ty → Option (List Token) → List Argument
   argument_by t None = []

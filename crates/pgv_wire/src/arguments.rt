@@ -4,7 +4,7 @@ ghost use Rattle.std.specs.Prelude.{◌≡◌, ◌≢◌, ◌==◌, ◌+◌, ◌
 ghost use Rattle.pgv_buf.specs.Tokens.{shown, hole_count, hole_types_of};
 ghost use Rattle.pgv_value.specs.declared.error.CodecError.TheVariants.{Memory, ParameterCount, HoleCount};
 ghost use Rattle.pgv_wire.specs.Arguments.{types_in, all_tokens, Added, filled_arguments, framed, early};
-ghost use Rattle.pgv_wire.specs.Each.{AreOutcomes, accepted};
+ghost use Rattle.pgv_wire.specs.Each.{AreOutcomes, EachRefusedFor, accepted};
 ghost use Rattle.pgv_wire.specs.History.{WrittenEarly};
 ghost use Rattle.pgv_codec.specs.Image.{frame, or_else};
 ghost use Rattle.pgv_codec.specs.Outcome.{Refused};
@@ -151,6 +151,7 @@ impl PgArguments {
         values: &[T],
     ) -> Result<Vec<Result<(), CodecError>>, CodecError>
         ensures outcomes { IfOk result (λ rs. AreOutcomes (λ x. frame (T.hint x) (T.image x)) (λ x. or_else (T.produced x) T.info) values.now rs.items) }
+        ensures refused { IfOk result (λ rs. EachRefusedFor (λ x. frame_refused (T.hint x) (T.image x) (T.unwritable x)) values.now rs.items) }
         ensures added { IfOk result (λ rs. self.new ≡ self.old ++ accepted (λ x. frame (T.hint x) (T.image x)) (λ x. or_else (T.produced x) T.info) values.now rs.items) }
         ensures err { IfErr result (λ e. e ≡ Memory) }
         ensures unchanged { OnErr result (self.new ≡ self.old) }
