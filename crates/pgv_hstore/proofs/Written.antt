@@ -13,13 +13,13 @@ use Rattle.std.specs.declared.cmp.Ordering.TheVariants.{Less}
 use Rattle.std.specs.declared.string.String.{String}
 use Rattle.pgv_buf.specs.Tokens.{Token, Cell, bytes, be4, blank}
 use Rattle.pgv_value.specs.declared.error.CodecError.{CodecError}
+use Rattle.pgv_codec.specs.Bools.{both_true}
 use Rattle.pgv_codec.proofs.Refusing.{out_of_memory}
 use Rattle.pgv_codec.specs.Outcome.{AppendedAll, Refused}
 use Rattle.pgv_codec.specs.Refusing.{RefusedBy}
-use Rattle.pgv_codec.specs.Image.{image_of}
+use Rattle.pgv_codec.specs.Image.{image_of, limit}
 use Rattle.pgv_codec.specs.PlainBytes.{appended_parts}
 use Rattle.pgv_hstore.specs.Hstore.{Pair, pair_of, order, part_form, pair_form, hstore_form, part_fits, pair_fits, part_written, pair_refused, pair_written, pairs_refused, pairs_written, hstore_image}
-use Rattle.pgv_hstore.specs.HstoreBack.{both}
 
 -- what is there where a test holds
 guarded : {A : Type 0} (b : Bool) (x y : A) → cond b (Some x) None ≡ Some y → (b ≡ true) × (x ≡ y)
@@ -40,13 +40,10 @@ joined a b c first second start mid now both x y =
       appended_parts start mid now first second (x.2 ∙ ap (λ (ts : List Token). start ++ blank ts) (sym p.1)) (y.2 ∙ ap (λ (ts : List Token). mid ++ blank ts) (sym q.1)),
     )
 
-few : (n : ℕ) → n ≤ 2147483647 → nat_le n 2147483647 ≡ true
-few n le = grind (arith, nat_tests)
-
-pub text_appended : (part : List ℕ) (start mid now : List Cell) → length part ≤ 2147483647 → mid ≡ start ++ blank (bytes (be4 (length part))) → now ≡ mid ++ blank (bytes part) →
+pub text_appended : (part : List ℕ) (start mid now : List Cell) → nat_le (length part) limit ≡ true → mid ≡ start ++ blank (bytes (be4 (length part))) → now ≡ mid ++ blank (bytes part) →
     (ts : List Token) × (part_written (Some part) ≡ Some ts) × (now ≡ start ++ blank ts)
 text_appended part start mid now le first second =
-    (bytes (part_form (Some part)), there (part_fits (Some part)) (part_form (Some part)) (few (length part) le), appended_parts start mid now (be4 (length part)) part first second)
+    (bytes (part_form (Some part)), there (part_fits (Some part)) (part_form (Some part)) le, appended_parts start mid now (be4 (length part)) part first second)
 
 pub pair_appended : (p : Pair) (start mid now : List Cell) → AppendedAll (part_written (Some p.0)) start mid → AppendedAll (part_written p.1) mid now → AppendedAll (pair_written p) start now
 pair_appended p start mid now = joined (part_fits (Some p.0)) (part_fits p.1) (pair_fits p) (part_form (Some p.0)) (part_form p.1) start mid now (λ a b. rw (a, b) refl)
@@ -102,14 +99,14 @@ same_length [] = refl
 same_length (e ∷ es) = ap suc (same_length es)
 
 -- the number of pairs, and the pairs
-pub map_appended : {Z : Type 0} (es : List (String Z × Option (String Z))) (start mid now : List Cell) → IsStrictlySortedBy string_cmp (map (λ e. e.0) es) → length es ≤ 2147483647 →
+pub map_appended : {Z : Type 0} (es : List (String Z × Option (String Z))) (start mid now : List Cell) → IsStrictlySortedBy string_cmp (map (λ e. e.0) es) → nat_le (length es) limit ≡ true →
     mid ≡ start ++ blank (bytes (be4 (length es))) → AppendedAll (pairs_written (map pair_of es)) mid now → (ts : List Token) × (hstore_image (map pair_of es) ≡ Some (image_of ts)) × (now ≡ start ++ blank ts)
 map_appended es start mid now ordered le first written =
     let ps = map pair_of es in
     let count = same_length es in
     let g = guarded (list_all pair_fits ps) (bytes (flat_map pair_form ps)) written.0 written.1 in (
       bytes (hstore_form ps),
-      rw (sorted_pairs es ordered, few (length ps) (subst (λ (n : ℕ). n ≤ 2147483647) (sym count) le), g.0) refl,
+      rw (sorted_pairs es ordered, ap (λ (n : ℕ). nat_le n limit) count ∙ le, g.0) refl,
       appended_parts start mid now (be4 (length ps)) (flat_map pair_form ps) (first ∙ ap (λ (n : ℕ). start ++ blank (bytes (be4 n))) (sym count)) (written.2 ∙ ap (λ (ts : List Token). mid ++ blank ts) (sym g.1)),
     )
 
@@ -123,7 +120,7 @@ refused_from [] p more fits none = by (pair_fits p) refl none
     by true is e = absurd (cc)
     by false is e = rw is refl
 refused_from (q ∷ so_far) p more fits none =
-    let all = both (pair_fits q) (list_all pair_fits so_far) fits in
+    let all = both_true (pair_fits q) (list_all pair_fits so_far) fits in
     rw all.0 (refused_from so_far p more all.1 none)
 
 pub pairs_unwritten : (all so_far left more : List Pair) (p : Pair) (e : CodecError) (start now : List Cell) → all ≡ so_far ++ left → left ≡ p ∷ more →

@@ -1,5 +1,5 @@
 -- What is written of a map is read back as it.
-use Rattle.std.specs.Prelude.{◌≡◌, ℕ, ◌<◌, ◌^◌, nat_le, nat_lt, Bool, true, false, ◌&&◌, List, [], ◌∷◌, ◌++◌, length, map, Option, Some, None, option_map, refl, string_bytes}
+use Rattle.std.specs.Prelude.{◌≡◌, ℕ, ◌<◌, ◌^◌, nat_le, nat_lt, true, false, ◌&&◌, List, [], ◌∷◌, ◌++◌, length, map, Option, Some, None, option_map, refl, string_bytes}
 use Rattle.std.specs.declared.cmp.Ordering.{Ordering}
 use Rattle.std.specs.declared.cmp.Ordering.TheVariants.{Less, Equal, Greater}
 use Rattle.std.specs.declared.string.String.{String}
@@ -19,16 +19,13 @@ use Rattle.pgv_value.specs.FrameBinary.{Part, front}
 use Rattle.pgv_value.specs.Utf8.{is_utf8}
 use Rattle.pgv_value.specs.declared.value.PgValueFormat.TheVariants.{Binary}
 use Rattle.pgv_nest.specs.Found.{number_there}
+use Rattle.pgv_codec.specs.Bools.{both_true}
 use Rattle.pgv_codec.specs.Back.{ReadsBack, always}
 use Rattle.pgv_codec.specs.BackParts.{guarded}
 use Rattle.pgv_codec.specs.BackScalars.{part_is}
 use Rattle.pgv_codec.specs.Image.{image_of, limit}
 use Rattle.pgv_hstore.specs.Hstore.{Pair, pair_of, pairs_of, order, part_form, pair_form, hstore_form, part_fits, pair_fits, hstore_image, key_front, value_front, pair_front, pairs, put_all, hstore_in_binary, hstore_reading}
 use Rattle.pgv_hstore.specs.declared.hstore.PgHstore.{PgHstore}
-
-pub both : (a b : Bool) → (a && b) ≡ true → (a ≡ true) × (b ≡ true)
-both true b e = (refl, e)
-both false b e = absurd (cc)
 
 -- ---- a pair is read of its form, whatever comes after it
 
@@ -85,13 +82,13 @@ is_less Equal e = absurd (cc)
 is_less Greater e = absurd (cc)
 
 below_at : (x key : List ℕ) (value : Part) (qs ps : List Pair) → below_all order x (qs ++ (key, value) ∷ ps) ≡ true → is_lt (order x key) ≡ true
-below_at x key value [] ps e = (both (is_lt (order x key)) (below_all order x ps) e).0
-below_at x key value (q ∷ qs) ps e = below_at x key value qs ps (both (is_lt (order x q.0)) (below_all order x (qs ++ (key, value) ∷ ps)) e).1
+below_at x key value [] ps e = (both_true (is_lt (order x key)) (below_all order x ps) e).0
+below_at x key value (q ∷ qs) ps e = below_at x key value qs ps (both_true (is_lt (order x q.0)) (below_all order x (qs ++ (key, value) ∷ ps)) e).1
 
 put_last : (key : List ℕ) (value : Part) (qs ps : List Pair) → is_sorted order (qs ++ (key, value) ∷ ps) ≡ true → put order key value qs ≡ qs ++ (key, value) ∷ []
 put_last key value [] ps e = refl
 put_last key value (q ∷ qs) ps e =
-    let b = both (below_all order q.0 (qs ++ (key, value) ∷ ps)) (is_sorted order (qs ++ (key, value) ∷ ps)) e in
+    let b = both_true (below_all order q.0 (qs ++ (key, value) ∷ ps)) (is_sorted order (qs ++ (key, value) ∷ ps)) e in
     let less : order q.0 key ≡ Less = is_less (order q.0 key) (below_at q.0 key value qs ps b.0) in
     let greater : order key q.0 ≡ Greater = nat_list_cmp_total.antisymm key q.0 ∙ ap ordering_reverse less in
     rw (greater, put_last key value qs ps b.1) refl
@@ -118,8 +115,8 @@ is_value (Some s) fits = is_text s fits
 are_pairs : {Z : Type 0} (es : List (String Z × Option (String Z))) → list_all pair_fits (map pair_of es) ≡ true → ArePairs (map pair_of es)
 are_pairs [] fits = tt
 are_pairs (e ∷ es) fits =
-    let b = both (pair_fits (pair_of e)) (list_all pair_fits (map pair_of es)) fits in
-    let k = both (part_fits (Some (string_bytes e.0))) (part_fits (option_map string_bytes e.1)) b.0 in
+    let b = both_true (pair_fits (pair_of e)) (list_all pair_fits (map pair_of es)) fits in
+    let k = both_true (part_fits (Some (string_bytes e.0))) (part_fits (option_map string_bytes e.1)) b.0 in
     ((is_text e.0 k.0, is_value e.1 k.1), are_pairs es b.1)
 
 few_pairs : (n : ℕ) → nat_le n limit ≡ true → n < 2 ^ 31
@@ -130,8 +127,8 @@ hstore_back h i t p os e whole small fit =
     let ps = pairs_of h in
     let form = hstore_form ps in
     let g = guarded (is_sorted order ps && (nat_le (length ps) limit && list_all pair_fits ps)) (Some (image_of (bytes form))) i e in
-    let sorted = both (is_sorted order ps) (nat_le (length ps) limit && list_all pair_fits ps) g.0 in
-    let lengths = both (nat_le (length ps) limit) (list_all pair_fits ps) sorted.1 in
+    let sorted = both_true (is_sorted order ps) (nat_le (length ps) limit && list_all pair_fits ps) g.0 in
+    let lengths = both_true (nat_le (length ps) limit) (list_all pair_fits ps) sorted.1 in
     let read = hstore_there ps [] (few_pairs (length ps) lengths.0) (are_pairs h.0.entries lengths.1) in
     ap (λ (part : Part). hstore_reading t Binary part) (part_is form i p os g.1)
     ∙ ap (λ (rest : List ℕ). hstore_in_binary (be4 (length ps) ++ rest)) (sym (append-nil (flat_map pair_form ps))) ∙ read

@@ -1,6 +1,6 @@
 -- Bits as they are kept: bytes, and the number of bits.
 use Rattle.std.proofs.Common.{◌≡◌, ℕ, suc, zero, ◌+◌, ◌-◌, ◌*◌, ◌/◌, ◌%◌, ◌^◌, ◌<◌, ◌≤◌, Bool, false, List, [], ◌∷◌, ◌++◌, length, get_or, take, drop, refl, sym, ap, ◌∙◌, eqb, subst, arith}
-use Rattle.std.proofs.lemmas.List.{length-take-le, take_all, take_min, drop_min, take-append-drop, take_at, take_more, drop_more, get_or-take, get_or_read, length-append, length-drop, length_push, take-append-le, drop-append-le, drop_at, set_at, get_or_at, append-nil}
+use Rattle.std.proofs.lemmas.List.{length-take-le, take_all, take_min, drop_min, take-append-drop, take_at, take_more, drop_more, get_or-take, get_or_read, length-append, length-drop, length_push, take-append-le, drop-append-le, drop_at, set_at, get_or_at, append-nil, take-map, drop-map, length-map}
 use Rattle.std.proofs.Math.Seq.{take-append-add}
 use Rattle.std.proofs.Math.ListN.{set}
 use lib.Bits.{bit_and}
@@ -13,7 +13,7 @@ use Rattle.pgv_more.specs.SameBits.{same_bits}
 use Rattle.std.specs.Int.{div_ceil, bit_at}
 use Rattle.std.proofs.lemmas.Nat.Bits.{shr_and_one}
 use Rattle.pgv_more.proofs.Bytes.{bit_there}
-use Rattle.std.specs.Prelude.{min, Option, Some, slice_get, option_to_list, IsSome}
+use Rattle.std.specs.Prelude.{map, min, Option, Some, slice_get, option_to_list, IsSome}
 use Rattle.std.proofs.lemmas.Option.{slice_get-get_or}
 use Rattle.pgv_more.specs.Bits.{low_bits, bits_of, number_of, byte_count, bytes_of, packed}
 use Rattle.pgv_more.specs.Packing.{length-bits_of, length-bytes_of, packed_again, bytes_of-append, bytes_of-split, bytes_of-bits_of, number_of-take, AreByteNumbers, length-low_bits, bits_of-append}
@@ -154,6 +154,11 @@ packs_part rest mid l e =
     let front : take mid rest ≡ take 8 rest = ap (λ (n : ℕ). take n rest) (sym same) ∙ take_min 8 rest in
     let after : drop mid rest ≡ drop 8 rest = ap (λ (n : ℕ). drop n rest) (sym same) ∙ drop_min 8 rest in
     rw (front, after, number_of-take 8 rest) (packs_next rest l)
+
+pub packs_mapped : {A : Type 0} (set : A → Bool) (rest : List A) (mid : ℕ) → 0 < length rest → mid ≡ min (length rest) 8 →
+    packed (map set rest) ≡ number_of 8 (map set (take mid rest)) ∷ packed (map set (drop mid rest))
+packs_mapped set rest mid l e =
+    rw (packs_part (map set rest) mid (omega (arith, length-map rest set)) (omega (arith, length-map rest set)), take-map set mid rest, drop-map set mid rest) refl
 
 -- the last bit, taken off
 pub popped : (bits : List Bool) (last : ℕ) (o : Option Bool) → length bits ≡ last + 1 → o ≡ slice_get bits last → bits ≡ take last bits ++ option_to_list o

@@ -1,6 +1,6 @@
 -- The laws of bits.
 use Rattle.std.proofs.Common.{◌≡◌, ℕ, zero, suc, ◌+◌, ◌-◌, ◌*◌, ◌≤◌, eqb, ltb, Bool, true, false, cond, List, [], ◌∷◌, ◌++◌, length, take, drop, refl, sym, ap, ◌∙◌, arith, Some, None}
-use Rattle.std.specs.Prelude.{map, ◌&&◌, replicate}
+use Rattle.std.specs.Prelude.{map, replicate}
 use Rattle.std.specs.Int.{w32, to_be_bytes}
 use Rattle.std.specs.List.{list_all}
 use Rattle.std.proofs.lemmas.Bool.{eqb-true}
@@ -9,6 +9,7 @@ use Rattle.std.proofs.lemmas.List.{length-append, length-drop, length-take-le, l
 use Rattle.std.proofs.lemmas.Nat.{be_bytes_4}
 use Rattle.std.proofs.lemmas.Option.{same_Some}
 use Rattle.pgv_value.specs.Laws.{AreBytes}
+use Rattle.pgv_codec.specs.Bools.{both_true}
 use Rattle.pgv_more.specs.Bits.{bits_of, byte_count, bytes_of, packed}
 use Rattle.pgv_more.specs.BitsBinary.{IsBits, BitsAreRead, OneListOfBits, bits_in_binary, bit_count}
 use Rattle.pgv_more.specs.BitsText.{BitsAreReadOfText, digit_of, is_digit, is_one}
@@ -98,17 +99,13 @@ one_list_of_bits form first second small a b = same_Some first second (sym ((bit
 
 -- ---- texts
 
-parts : (a b : Bool) → (a && b) ≡ true → (a ≡ true) × (b ≡ true)
-parts true b e = (refl, e)
-parts false b e = absurd (cc)
-
 digit_is : (c : ℕ) → is_digit c ≡ true → digit_of (is_one c) ≡ c
 digit_is c e = grind (arith, nat_tests)
 
 digits_are : (text : List ℕ) → list_all is_digit text ≡ true → text ≡ map digit_of (map is_one text)
 digits_are [] e = refl
 digits_are (c ∷ text) e =
-    let both = parts (is_digit c) (list_all is_digit text) e in
+    let both = both_true (is_digit c) (list_all is_digit text) e in
     ap (λ (d : ℕ). d ∷ text) (sym (digit_is c both.0)) ∙ ap (λ (ds : List ℕ). digit_of (is_one c) ∷ ds) (digits_are text both.1)
 
 are_digits : (bits : List Bool) → (list_all is_digit (map digit_of bits) ≡ true) × (map is_one (map digit_of bits) ≡ bits)

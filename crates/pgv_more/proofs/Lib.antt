@@ -1,6 +1,5 @@
 pub mod Bytes
 pub mod Kept
-pub mod Digits
 pub mod Pairs
 pub mod Written
 pub mod ByteaDigits

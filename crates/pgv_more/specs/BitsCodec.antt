@@ -1,14 +1,12 @@
 -- What lists of bits are (PostgreSQL: "Bit String Types"): their types, and what is read in either format.
-use Rattle.std.specs.Prelude.{ℕ, Bool, false, List, [], ◌∷◌, Option, Some, None, is_some}
+use Rattle.std.specs.Prelude.{ℕ, Bool, List, [], ◌∷◌, Option}
 use Rattle.pgv_types.specs.Ty.{Ty, builtin}
 use Rattle.pgv_codec.specs.ScalarBinary.{softly_one_of}
 use Rattle.pgv_value.specs.Reading.{Reading}
 use Rattle.pgv_value.specs.ScalarGrammar.{scalar, refusal}
 use Rattle.pgv_value.specs.declared.error.CodecError.{CodecError}
 use Rattle.pgv_value.specs.declared.error.CodecError.TheVariants.{Syntax}
-use Rattle.pgv_value.specs.Utf8.{is_utf8}
 use Rattle.pgv_value.specs.declared.value.PgValueFormat.{PgValueFormat}
-use Rattle.pgv_value.specs.declared.value.PgValueFormat.TheVariants.{Text, Binary}
 use Rattle.pgv_more.specs.BitsBinary.{bits_in_binary, bits_binary_refusal}
 use Rattle.pgv_more.specs.BitsText.{bits_in_text}
 
@@ -25,9 +23,3 @@ bits_reading = scalar bits_in_binary bits_in_text
 
 abbrev pub bits_refusal : PgValueFormat → Option (List ℕ) → CodecError
 bits_refusal = refusal bits_binary_refusal (λ _. Syntax)
-
--- Where memory is asked for: in binary only of bits, and in text of any that is UTF-8.
-abbrev pub bits_take : Ty → PgValueFormat → Option (List ℕ) → Bool
-bits_take t f None = false
-bits_take t Text (Some text) = is_utf8 text
-bits_take t Binary (Some form) = is_some (bits_in_binary form)

@@ -1,6 +1,6 @@
 //! Lists of bits (PostgreSQL, "Bit String Types"), kept as bytes, eight bits to a byte, the first of them the highest.
 
-ghost use Rattle.std.specs.Prelude.{◌≡◌, ◌↔◌, ◌++◌, ◌+◌, ◌*◌, ◌<◌, ◌≤◌, ◌==◌, ℕ, Bool, List, [], ◌∷◌, length, take, map, slice_get, if◌then◌else◌, Some, None, option_map, IfOk, OnOk, OnErr, IsSome, option_to_list};
+ghost use Rattle.std.specs.Prelude.{◌≡◌, ◌↔◌, ◌++◌, ◌+◌, ◌*◌, ◌<◌, ◌≤◌, ◌==◌, ℕ, Bool, false, List, [], ◌∷◌, length, take, map, slice_get, is_some, IfOk, OnOk, OnErr, IsOk, IsSome, option_to_list};
 ghost use Rattle.pgv_more.specs.Bits.{bits_of, byte_count, low_bits, number_of, packed};
 ghost use Rattle.std.specs.List.{list_all};
 ghost use Rattle.pgv_more.specs.BitsText.{bits_in_text, is_digit, is_one};
@@ -48,7 +48,7 @@ impl BitVec {
         ensures { IfOk result (λ b. b ≡ bits.items) }
     {
         Ok(BitVec {
-            bytes: bytes_of_bits(alloc, bits.as_slice())?,
+            bytes: bytes_of(alloc, bits.as_slice())?,
             count: bits.len(),
         })
     }
@@ -80,17 +80,18 @@ impl BitVec {
         Ok(BitVec { bytes, count })
     }
 
-    /// The bits of digits `0` and `1`, where there are only these.
+    /// The bits of digits `0` and `1`, where there are only these, which is seen before memory is asked for.
     pub(crate) fn from_digits(alloc: Global, digits: &[u8]) -> Result<Option<BitVec>, AllocError>
-        ensures { IfOk result (λ b. b ≡ bits_in_text digits.now) }
+        ensures bits { IfOk result (λ b. b ≡ bits_in_text digits.now) }
+        ensures digits { is_some (bits_in_text digits.now) ≡ false → IsOk result }
     {
-        match bytes_of_digits(alloc, digits)? {
-            Some(bytes) => Ok(Some(BitVec {
-                bytes,
-                count: digits.len(),
-            })),
-            None => Ok(None),
+        if !are_digits(digits) {
+            return Ok(None);
         }
+        Ok(Some(BitVec {
+            bytes: bytes_of(alloc, digits)?,
+            count: digits.len(),
+        }))
     }
 
     /// The bits in bytes, eight to a byte, the first of them the highest; what is after the last bit is zero. `101` is `a0`.
@@ -193,63 +194,63 @@ fn first_of_byte(byte: u8, many: usize) -> u8
     byte & 0xff << (8 - many)
 }
 
+/// What stands for a bit: a truth value, or a digit, which is set where it is `1`.
+trait Bit: Copy {
+    /// Whether the bit is set.
+    ghost set: { Self → Bool };
+
+    /// Whether the bit is set.
+    fn is_set(self) -> bool
+        ensures { result ≡ set self };
+}
+
+impl Bit for bool {
+    ghost set = { λ bit. bit };
+
+    fn is_set(self) -> bool {
+        self
+    }
+}
+
+impl Bit for u8 {
+    ghost set = { is_one };
+
+    fn is_set(self) -> bool {
+        self == b'1'
+    }
+}
+
 /// The byte of at most eight bits.
-fn byte_of_bits(bits: &[bool]) -> u8
+fn byte_of<B: Bit>(bits: &[B]) -> u8
     requires { length bits.now ≤ 8 }
-    ensures { result ≡ number_of 8 bits.now }
+    ensures { result ≡ number_of 8 (map B.set bits.now) }
 {
     let mut byte = 0;
     for place in 0..bits.len() {
-        byte = with_bit(byte, place, bits[place]);
+        byte = with_bit(byte, place, bits[place].is_set());
     }
     byte
 }
 
 /// The bytes of bits.
-fn bytes_of_bits(alloc: Global, bits: &[bool]) -> Result<Vec<u8>, AllocError>
-    ensures { IfOk result (λ v. v.items ≡ packed bits.now) }
+fn bytes_of<B: Bit>(alloc: Global, bits: &[B]) -> Result<Vec<u8>, AllocError>
+    ensures { IfOk result (λ v. v.items ≡ packed (map B.set bits.now)) }
 {
     let mut bytes = Vec::with_capacity(alloc, bits.len().div_ceil(8))?;
     let mut rest = bits;
     while !rest.is_empty() {
         let (first, after) = rest.split_at(rest.len().min(8));
-        bytes.push(byte_of_bits(first))?;
+        bytes.push(byte_of(first))?;
         rest = after;
     }
     Ok(bytes)
 }
 
-/// The byte of at most eight digits `0` and `1`.
-fn byte_of_digits(digits: &[u8]) -> Option<u8>
-    requires { length digits.now ≤ 8 }
-    ensures { result ≡ (if list_all is_digit digits.now then Some (number_of 8 (map is_one digits.now)) else None) }
+/// Whether there are only digits `0` and `1`.
+fn are_digits(text: &[u8]) -> bool
+    ensures { result ≡ list_all is_digit text.now }
 {
-    let mut byte = 0;
-    for place in 0..digits.len() {
-        let digit = digits[place];
-        if digit != b'0' && digit != b'1' {
-            return None;
-        }
-        byte = with_bit(byte, place, digit == b'1');
-    }
-    Some(byte)
-}
-
-/// The bytes of digits `0` and `1`, where there are only these.
-fn bytes_of_digits(alloc: Global, digits: &[u8]) -> Result<Option<Vec<u8>>, AllocError>
-    ensures { IfOk result (λ v. option_map (λ bytes. bytes.items) v ≡ option_map packed (bits_in_text digits.now)) }
-{
-    let mut bytes = Vec::with_capacity(alloc, digits.len().div_ceil(8))?;
-    let mut rest = digits;
-    while !rest.is_empty() {
-        let (first, after) = rest.split_at(rest.len().min(8));
-        let Some(byte) = byte_of_digits(first) else {
-            return Ok(None);
-        };
-        bytes.push(byte)?;
-        rest = after;
-    }
-    Ok(Some(bytes))
+    text.iter().all(|digit| *digit == b'0' || *digit == b'1')
 }
 
 /// Appends a bit to the bytes of `count` bits. Refused, it leaves them.

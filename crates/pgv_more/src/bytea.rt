@@ -1,9 +1,9 @@
 //! Strings of bytes (PostgreSQL, "Binary Data Types", bytea).
 
-ghost use Rattle.std.specs.Prelude.{◌≡◌, IfErr, false, is_some};
+ghost use Rattle.std.specs.Prelude.{◌≡◌, IfErr, false};
 ghost use Rattle.pgv_value.specs.Reading.{Answers, AnswersExactly, Refuses};
 ghost use Rattle.pgv_value.specs.declared.error.CodecError.TheVariants.{Syntax};
-ghost use Rattle.pgv_more.specs.ByteaText.{bytea_in_text, digits_after};
+ghost use Rattle.pgv_more.specs.ByteaText.{are_even, bytea_in_text, digits_after};
 ghost use Rattle.std.specs.Option.{option_copied};
 
 mod array;
@@ -31,9 +31,9 @@ fn digits_of(text: &[u8]) -> Option<&[u8]>
 /// The bytes of a text `\x00ff`.
 fn of_text(alloc: Global, text: &[u8]) -> Result<PgBytea, CodecError>
     ensures exact { Answers (λ b. b.0.items) (bytea_in_text text.now) result }
-    ensures exactly { is_some (digits_after text.now) ≡ false → AnswersExactly (λ b. b.0.items) (bytea_in_text text.now) result }
+    ensures exactly { are_even (digits_after text.now) ≡ false → AnswersExactly (λ b. b.0.items) (bytea_in_text text.now) result }
     ensures refused { IfErr result (λ e. Refuses e (e ≡ Syntax)) }
-    ensures refused_exactly { is_some (digits_after text.now) ≡ false → IfErr result (λ e. e ≡ Syntax) }
+    ensures refused_exactly { are_even (digits_after text.now) ≡ false → IfErr result (λ e. e ≡ Syntax) }
 {
     let Some(digits) = digits_of(text) else {
         return Err(CodecError::Syntax);

@@ -1,7 +1,7 @@
 //! What is proved of these types and of the definitions that say what they are. Each law is the contract of a function that does
 //! nothing.
 
-ghost use Rattle.std.specs.Prelude.{◌≡◌, ℕ, Bool, List, Some, None, codes, string_bytes};
+ghost use Rattle.std.specs.Prelude.{◌≡◌, ℕ, Bool, List, Some, None, is_some, codes, string_bytes};
 ghost use Rattle.pgv_types.specs.Ty.{Ty, builtin, named};
 ghost use Rattle.pgv_codec.specs.ScalarBinary.{text_image};
 ghost use Rattle.pgv_codec.specs.TypeRow.{IsBuiltIn, IsRefusedAs, IsWrittenAs, TakesNone};
@@ -9,7 +9,7 @@ ghost use Rattle.pgv_value.specs.declared.error.CodecError.TheVariants.{OffsetRa
 ghost use Rattle.pgv_more.specs.ByteaText.{bytea_reading, bytea_refusal, bytea_takes, sized_image, sized_reading, sized_refusal, ByteaTextIsRead, OneByteaText};
 ghost use Rattle.pgv_more.specs.BitsBinary.{bits_image, bits_hint, bits_refused, BitsAreRead, OneListOfBits};
 ghost use Rattle.pgv_more.specs.BitsText.{BitsAreReadOfText};
-ghost use Rattle.pgv_more.specs.BitsCodec.{is_bits, is_bits_array, bits_reading, bits_refusal, bits_take};
+ghost use Rattle.pgv_more.specs.BitsCodec.{is_bits, is_bits_array, bits_reading, bits_refusal};
 ghost use Rattle.pgv_more.specs.Laws.{PackedIsOne};
 ghost use Rattle.pgv_more.specs.MacAddressCodec.{mac_image, mac_reading, mac_refusal};
 ghost use Rattle.pgv_more.specs.MacAddressText.{MacAddressIsRead, OneMacAddress};
@@ -33,7 +33,7 @@ pub fn bit_vec_is_a_varbit()
     ensures read { ⟦<crate::BitVec as Decode>⟧.reading ≡ bits_reading }
     ensures unwritten { (v : List Bool) → ⟦<crate::BitVec as Encode>⟧.unwritable v ≡ bits_refused v }
     ensures refused { IsRefusedAs bits_refusal ⟦<crate::BitVec as Decode>⟧.refusal }
-    ensures takes_memory { ⟦<crate::BitVec as Decode>⟧.takes_memory ≡ bits_take }
+    ensures takes_memory { ⟦<crate::BitVec as Decode>⟧.takes_memory ≡ (λ t f bytes. is_some (bits_reading t f bytes)) }
 {}
 
 /// A `MacAddress` is a macaddr (OID 829), its six bytes, as `08002b010203`. Its arrays are `macaddr[]` (1040).

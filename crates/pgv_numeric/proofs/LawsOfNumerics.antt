@@ -9,7 +9,7 @@ use Rattle.std.specs.List.{flat_map, list_all}
 use Rattle.pgv_value.specs.Laws.{AreBytes}
 use Rattle.pgv_value.specs.NumberBinary.{fits_signed}
 use Rattle.pgv_value.specs.Steps.{◌>>=◌}
-use Rattle.pgv_numeric.proofs.Words.{unsigned_two, signed_two}
+use Rattle.pgv_numeric.proofs.Words.{by_eight, unsigned_two, signed_two}
 use Rattle.pgv_numeric.specs.Laws.{IsNumeric, NumericIsRead, OneNumeric}
 use Rattle.pgv_numeric.specs.Numeric.{Numeric, not_a_number, number, word, sign_word, number_form, no_number, digits, sign_of, said_sign, signed_word, unsigned_word, signed_number, numeric_in_binary}
 use Rattle.pgv_numeric.specs.NumericBack.{number_there}
@@ -97,8 +97,15 @@ is_number a b c d e f g h rest sign n small said read =
     joined : {p q r s p' q' r' s' : List ℕ} (tail : List ℕ) → p ≡ p' → q ≡ q' → r ≡ r' → s ≡ s' → (p ++ (q ++ (r ++ s))) ++ tail ≡ (p' ++ (q' ++ (r' ++ s'))) ++ tail
     joined tail e f g h = rw (e, f, g, h) refl
 
-is_numeric : (form : List ℕ) (n : Numeric) → AreBytes form → numeric_in_binary form ≡ Some n → IsNumeric form n
-is_numeric (a ∷ b ∷ c ∷ d ∷ e ∷ f ∷ g ∷ h ∷ rest) n small read = by (apart form n long read)
+too_short : (form : List ℕ) → nat_lt (length form) 8 ≡ true → (n : Numeric) → AreBytes form → numeric_in_binary form ≡ Some n → IsNumeric form n
+too_short form short n small read =
+    let none : numeric_in_binary form ≡ None = rw short refl in
+    let wrong : (let o : Option Numeric = None in o) ≡ Some n = sym none ∙ read in
+    absurd (cc)
+
+of_words : (a b c d e f g h : ℕ) (rest : List ℕ) (n : Numeric) → AreBytes (a ∷ b ∷ c ∷ d ∷ e ∷ f ∷ g ∷ h ∷ rest) → numeric_in_binary (a ∷ b ∷ c ∷ d ∷ e ∷ f ∷ g ∷ h ∷ rest) ≡ Some n →
+    IsNumeric (a ∷ b ∷ c ∷ d ∷ e ∷ f ∷ g ∷ h ∷ rest) n
+of_words a b c d e f g h rest n small read = by (apart form n long read)
   where
     form : List ℕ
     form = a ∷ b ∷ c ∷ d ∷ e ∷ f ∷ g ∷ h ∷ rest
@@ -115,14 +122,9 @@ is_numeric (a ∷ b ∷ c ∷ d ∷ e ∷ f ∷ g ∷ h ∷ rest) n small read =
       one_more = omega arith;
     })
     by (inr k) = is_number a b c d e f g h rest k.0 n small k.1 k.2
-is_numeric (a ∷ b ∷ c ∷ d ∷ e ∷ f ∷ g ∷ []) n small read = absurd (cc)
-is_numeric (a ∷ b ∷ c ∷ d ∷ e ∷ f ∷ []) n small read = absurd (cc)
-is_numeric (a ∷ b ∷ c ∷ d ∷ e ∷ []) n small read = absurd (cc)
-is_numeric (a ∷ b ∷ c ∷ d ∷ []) n small read = absurd (cc)
-is_numeric (a ∷ b ∷ c ∷ []) n small read = absurd (cc)
-is_numeric (a ∷ b ∷ []) n small read = absurd (cc)
-is_numeric (a ∷ []) n small read = absurd (cc)
-is_numeric [] n small read = absurd (cc)
+
+is_numeric : (form : List ℕ) (n : Numeric) → AreBytes form → numeric_in_binary form ≡ Some n → IsNumeric form n
+is_numeric = by_eight (λ form. (n : Numeric) → AreBytes form → numeric_in_binary form ≡ Some n → IsNumeric form n) too_short of_words
 
 nothing : (form : List ℕ) → nat_lt (length form) 8 ≡ false → said_sign form ≡ no_number → numeric_in_binary form ≡ Some not_a_number
 nothing form long said = rw (long, said) refl

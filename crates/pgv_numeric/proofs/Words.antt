@@ -1,9 +1,9 @@
 -- Signed numbers and the bytes that they are read of.
-use Rattle.std.proofs.Common.{◌≡◌, ℕ, zero, suc, ◌<◌, ◌^◌, true, List, [], ◌∷◌, get_or, refl, ap, ◌∙◌, arith}
+use Rattle.std.proofs.Common.{◌≡◌, ℕ, zero, suc, ◌<◌, ◌^◌, true, List, [], ◌∷◌, length, get_or, refl, ap, ◌∙◌, arith}
 use Rattle.std.proofs.Math.Facts.{sfits_to_z}
 use Rattle.std.proofs.lemmas.Int.{of_z-to_z}
 use Rattle.std.proofs.lemmas.Nat.{be_bytes_2, be_bytes_8}
-use Rattle.std.specs.Prelude.{FitsSigned}
+use Rattle.std.specs.Prelude.{FitsSigned, nat_lt}
 use Rattle.std.specs.Int.{w16, w64, cast_signed, cast_unsigned, from_be_bytes, to_be_bytes}
 use Rattle.pgv_value.specs.Laws.{AreBytes}
 use Rattle.pgv_value.specs.NumberBinary.{fits_signed}
@@ -46,3 +46,15 @@ signed_eight a b c d e f g h small =
       sfits_to_z (record { fits = fits }),
       ap (to_be_bytes w64) (of_z-to_z w64 said fits) ∙ be_bytes_8 form said refl (below form small) refl,
     )
+
+-- what holds of lists of fewer than eight bytes, and of eight bytes with any after them, holds of every list
+pub by_eight : (P : List ℕ → Type 0) → ((bytes : List ℕ) → nat_lt (length bytes) 8 ≡ true → P bytes) → ((a b c d e f g h : ℕ) (rest : List ℕ) → P (a ∷ b ∷ c ∷ d ∷ e ∷ f ∷ g ∷ h ∷ rest)) → (bytes : List ℕ) → P bytes
+by_eight P short long (a ∷ b ∷ c ∷ d ∷ e ∷ f ∷ g ∷ h ∷ rest) = long a b c d e f g h rest
+by_eight P short long (a ∷ b ∷ c ∷ d ∷ e ∷ f ∷ g ∷ []) = short (a ∷ b ∷ c ∷ d ∷ e ∷ f ∷ g ∷ []) refl
+by_eight P short long (a ∷ b ∷ c ∷ d ∷ e ∷ f ∷ []) = short (a ∷ b ∷ c ∷ d ∷ e ∷ f ∷ []) refl
+by_eight P short long (a ∷ b ∷ c ∷ d ∷ e ∷ []) = short (a ∷ b ∷ c ∷ d ∷ e ∷ []) refl
+by_eight P short long (a ∷ b ∷ c ∷ d ∷ []) = short (a ∷ b ∷ c ∷ d ∷ []) refl
+by_eight P short long (a ∷ b ∷ c ∷ []) = short (a ∷ b ∷ c ∷ []) refl
+by_eight P short long (a ∷ b ∷ []) = short (a ∷ b ∷ []) refl
+by_eight P short long (a ∷ []) = short (a ∷ []) refl
+by_eight P short long [] = short [] refl

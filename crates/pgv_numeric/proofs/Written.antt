@@ -10,6 +10,7 @@ use Rattle.pgv_buf.specs.Tokens.{Token, Cell, bytes, blank}
 use Rattle.pgv_value.specs.Reading.{Refuses}
 use Rattle.pgv_value.specs.declared.error.CodecError.{CodecError}
 use Rattle.pgv_value.specs.declared.error.CodecError.TheVariants.{NumericDigit}
+use Rattle.pgv_codec.specs.Bools.{both_true}
 use Rattle.pgv_codec.proofs.Refusing.{Refuses-weaker, stated_of_part}
 use Rattle.pgv_codec.specs.Outcome.{AppendedAll}
 use Rattle.pgv_codec.specs.Refusing.{RefusedBy}
@@ -17,7 +18,6 @@ use Rattle.pgv_codec.specs.Image.{image_of}
 use Rattle.pgv_codec.specs.PlainBytes.{appended_parts}
 use Rattle.pgv_value.specs.NumberBinary.{fits_signed}
 use Rattle.pgv_numeric.specs.Numeric.{number, word, sign_word, head_form, number_form, is_digit, digit_written, digits_refused, digits_written, has_form, numeric_image}
-use Rattle.pgv_numeric.specs.NumericBack.{both}
 use Rattle.pgv_numeric.specs.declared.numeric.PgNumericSign.{PgNumericSign}
 
 -- what is there where a test holds
@@ -68,7 +68,7 @@ digits_from : (ds : List ℤ) (i : ℕ) (z : ℤ) → i < length ds → list_all
 digits_from [] i z l all isnt = absurd (omega (arith, l))
 digits_from (d ∷ ds) zero z l all isnt = rw isnt refl
 digits_from (d ∷ ds) (suc i) z l all isnt =
-    let parts = both (is_digit d) (list_all is_digit (take i ds)) all in
+    let parts = both_true (is_digit d) (list_all is_digit (take i ds)) all in
     rw parts.0 (digits_from ds i z (omega (arith, l)) parts.1 isnt)
 
 pub digits_unwritten : (ds : List ℤ) (i : ℕ) (z : ℤ) (e : CodecError) (start now : List Cell) → i < length ds → AppendedAll (digits_written (take i ds)) start now →

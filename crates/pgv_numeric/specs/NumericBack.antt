@@ -1,5 +1,5 @@
 -- What is written of a number is read back as it.
-use Rattle.std.specs.Prelude.{◌≡◌, ℕ, ◌*◌, ◌<◌, ◌^◌, nat_lt, nat_le, Bool, true, false, ◌&&◌, ℤ, pos, negsuc, List, [], ◌∷◌, ◌++◌, length, drop, Some, refl}
+use Rattle.std.specs.Prelude.{◌≡◌, ℕ, ◌*◌, ◌<◌, ◌^◌, nat_lt, nat_le, true, false, ◌&&◌, ℤ, pos, negsuc, List, [], ◌∷◌, ◌++◌, length, drop, Some, refl}
 use Rattle.std.specs.Int.{w16, from_be_bytes, to_be_bytes}
 use Rattle.std.specs.List.{flat_map, list_all}
 use Rattle.std.proofs.Common.{ap, sym, ◌∙◌, arith}
@@ -12,6 +12,7 @@ use Rattle.pgv_value.specs.FrameBinary.{Part}
 use Rattle.pgv_value.specs.NumberBinary.{fits_signed}
 use Rattle.pgv_value.specs.OwnBytes.{two_again}
 use Rattle.pgv_value.specs.declared.value.PgValueFormat.TheVariants.{Binary}
+use Rattle.pgv_codec.specs.Bools.{both_true}
 use Rattle.pgv_codec.specs.Back.{ReadsBack, always}
 use Rattle.pgv_codec.specs.BackParts.{guarded}
 use Rattle.pgv_codec.specs.BackScalars.{part_is}
@@ -22,10 +23,6 @@ use Rattle.pgv_numeric.specs.declared.numeric.PgNumericSign.TheVariants.{Positiv
 use Rattle.pgv_numeric.specs.declared.numeric.PgNumeric.{PgNumeric}
 use Rattle.pgv_numeric.specs.declared.numeric.PgNumeric.TheVariants.{NotANumber, Number}
 
-pub both : (a b : Bool) → (a && b) ≡ true → (a ≡ true) × (b ≡ true)
-both true b e = (refl, e)
-both false b e = absurd (cc)
-
 -- ---- words
 
 pub length-words : (ds : List ℤ) → length (flat_map word ds) ≡ 2 * length ds
@@ -35,7 +32,7 @@ length-words (d ∷ ds) = let h = length-words ds in omega (arith, h, length-app
 pub words_again : (ds : List ℤ) (rest : List ℕ) → list_all (fits_signed w16) ds ≡ true → digits (length ds) (flat_map word ds ++ rest) ≡ ds
 words_again [] rest e = refl
 words_again (d ∷ ds) rest e =
-    let b = both (fits_signed w16 d) (list_all (fits_signed w16) ds) e in
+    let b = both_true (fits_signed w16 d) (list_all (fits_signed w16) ds) e in
     rw (two_again d b.0, words_again ds rest b.1) refl
 
 digits_there : (ds : List ℤ) (rest : List ℕ) → list_all (fits_signed w16) ds ≡ true → digits_after (length ds) (flat_map word ds ++ rest) ≡ Some ds
@@ -74,7 +71,7 @@ digit_fits (negsuc n) e = absurd (cc)
 digits_fit : (ds : List ℤ) → list_all is_digit ds ≡ true → list_all (fits_signed w16) ds ≡ true
 digits_fit [] e = refl
 digits_fit (d ∷ ds) e =
-    let b = both (is_digit d) (list_all is_digit ds) e in
+    let b = both_true (is_digit d) (list_all is_digit ds) e in
     rw (digit_fits d b.0, digits_fit ds b.1) refl
 
 few_digits : (n : ℕ) → nat_le n 32767 ≡ true → n < 2 ^ 16
@@ -91,9 +88,9 @@ numeric_back (Number sign v weight scale) i t p os e whole small fit =
     let ds = v.items in
     let form = number_form sign ds weight scale in
     let g = guarded (has_form ds weight scale) (Some (image_of (bytes form))) i e in
-    let few = both (nat_le (length ds) 32767) (list_all is_digit ds && (fits_signed w16 weight && fits_signed w16 scale)) g.0 in
-    let fit = both (list_all is_digit ds) (fits_signed w16 weight && fits_signed w16 scale) few.1 in
-    let words = both (fits_signed w16 weight) (fits_signed w16 scale) fit.1 in
+    let few = both_true (nat_le (length ds) 32767) (list_all is_digit ds && (fits_signed w16 weight && fits_signed w16 scale)) g.0 in
+    let fit = both_true (list_all is_digit ds) (fits_signed w16 weight && fits_signed w16 scale) few.1 in
+    let words = both_true (fits_signed w16 weight) (fits_signed w16 scale) fit.1 in
     ap (λ (part : Part). numeric_reading t Binary part) (part_is form i p os g.1)
     ∙ ap numeric_in_binary (sym (nothing_after form))
     ∙ number_there [] sign ds weight scale (few_digits (length ds) few.0) (digits_fit ds fit.0) words.0 words.1

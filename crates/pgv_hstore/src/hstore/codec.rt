@@ -1,10 +1,13 @@
 //! Maps of texts, written and read (PostgreSQL, appendix F, hstore).
 
-ghost use Rattle.std.specs.Prelude.{◌≡◌, List, IfErr, OnOk, OnErr, Some, false, is_some, refl, string_bytes, option_map, [], codes, map, if◌then◌else◌};
+ghost use Rattle.std.specs.Prelude.{◌≡◌, nat_le, true, List, IfOk, IfErr, OnOk, OnErr, Some, false, is_some, refl, string_bytes, option_map, [], codes, map, if◌then◌else◌};
+ghost use Rattle.std.specs.Int.{w64, cast_signed};
 ghost use Rattle.pgv_types.specs.Ty.{array_of, named};
 ghost use Rattle.pgv_types.specs.Relations.{softly};
+ghost use Rattle.pgv_buf.specs.Tokens.{be4};
 ghost use Rattle.pgv_value.specs.Reading.{Answers, AnswersExactly, Refuses};
-ghost use Rattle.pgv_value.specs.declared.error.CodecError.TheVariants.{Utf8};
+ghost use Rattle.pgv_value.specs.declared.error.CodecError.TheVariants.{HstoreLength, Utf8};
+ghost use Rattle.pgv_codec.specs.Image.{limit};
 ghost use Rattle.pgv_codec.specs.Outcome.{Refused, Appended, AppendedAll};
 ghost use Rattle.pgv_codec.specs.Refusing.{RefusedFor};
 ghost use Rattle.pgv_codec.specs.Saying.{plainly};
@@ -55,6 +58,18 @@ impl PgHasArrayType for PgHstore {
     }
 }
 
+/// A number of pairs, or a length, in four bytes. More than 2147483647 are refused with C9.
+#[inline(always)]
+fn number_of(count: usize) -> Result<[u8; 4], CodecError>
+    ensures ok { IfOk result (λ number. (nat_le count limit ≡ true) × (number ≡ be4 count)) }
+    ensures err { IfErr result (λ e. (nat_le count limit ≡ false) × (e ≡ HstoreLength (cast_signed w64 count))) }
+{
+    if count > LENGTH_LIMIT {
+        return Err(CodecError::HstoreLength((count as u64).cast_signed()));
+    }
+    Ok((count as u32).to_be_bytes())
+}
+
 /// Appends a key, or a value that isn't null: its length and its bytes. A longer one is refused with C9.
 #[inline(always)]
 fn write_text(text: &String, out: &mut PgArgumentBuffer) -> Result<(), CodecError>
@@ -63,13 +78,10 @@ fn write_text(text: &String, out: &mut PgArgumentBuffer) -> Result<(), CodecErro
     ensures refused { RefusedFor (value_refused (Some (string_bytes text.now))) result }
     ensures appended { OnErr result (Appended out.old out.new) }
 {
-    let count = text.len();
-    if count > LENGTH_LIMIT {
-        return Err(CodecError::HstoreLength(count as i64));
-    }
-    let number = (count as u32).to_be_bytes();
+    let text = text.as_bytes();
+    let number = number_of(text.len())?;
     out.extend_from_slice(&number)?;
-    out.extend_from_slice(text.as_bytes())?;
+    out.extend_from_slice(text)?;
     Ok(())
 }
 
@@ -128,11 +140,7 @@ impl Encode for PgHstore {
     ghost unwritable = { λ h. hstore_refused (pairs_of h) };
 
     fn encode_by_ref(&self, out: &mut PgArgumentBuffer) -> Result<IsNull, CodecError> {
-        let count = self.0.len();
-        if count > LENGTH_LIMIT {
-            return Err(CodecError::HstoreLength(count as i64));
-        }
-        let number = (count as u32).to_be_bytes();
+        let number = number_of(self.0.len())?;
         out.extend_from_slice(&number)?;
         write_pairs(&self.0, out)?;
         Ok(IsNull::No)

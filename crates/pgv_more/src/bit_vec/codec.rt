@@ -6,13 +6,13 @@ ghost use Rattle.pgv_value.specs.Reading.{Answers, Refuses};
 ghost use Rattle.pgv_value.specs.declared.error.CodecError.TheVariants.{Syntax};
 ghost use Rattle.pgv_more.specs.BitsBinary.{bits_image, bits_hint, bits_in_binary, bits_binary_refusal, bits_refused};
 ghost use Rattle.pgv_more.specs.BitsText.{bits_in_text};
-ghost use Rattle.pgv_more.specs.BitsCodec.{is_bits, is_bits_array, bits_reading, bits_refusal, bits_take};
+ghost use Rattle.pgv_more.specs.BitsCodec.{is_bits, is_bits_array, bits_reading, bits_refusal};
 ghost use Rattle.pgv_codec.specs.WithHint.{with_hint};
 
 use super::BitVec;
 use pgv_codec::{Encode, IsNull, PgArgumentBuffer, PgHasArrayType, Plain, Type};
 use pgv_types::{PgType, PgTypeInfo};
-use pgv_value::{CodecError, PgValueFormat, PgValueRef};
+use pgv_value::{CodecError, PgValueFormat, PgValueRef, u32_in_front};
 use std::alloc::{AllocError, Global};
 
 /// `varbit` (OID 1562), read under `bit`, `varbit` and domains over one of them.
@@ -58,11 +58,10 @@ impl Encode for BitVec {
 
     fn encode_by_ref(&self, out: &mut PgArgumentBuffer) -> Result<IsNull, CodecError> {
         let count = self.len();
-        if count > 2147483647 {
+        let Ok(number) = i32::try_from(count) else {
             return Err(CodecError::ValueSize(count));
-        }
-        let number = (count as u32).to_be_bytes();
-        out.extend_from_slice(&number)?;
+        };
+        out.extend_from_slice(&number.to_be_bytes())?;
         out.extend_from_slice(self.as_bytes())?;
         Ok(IsNull::No)
     }
@@ -77,16 +76,13 @@ impl Encode for BitVec {
 }
 
 /// The bits of a number and of bytes after it.
+#[tactic(auto, unfolding(pgv_value::specs::Steps::number))]
 fn read_binary(alloc: Global, form: &[u8]) -> Result<BitVec, CodecError>
     ensures exact { Answers (λ bits. bits) (bits_in_binary form.now) result }
     ensures refused { IfErr result (λ e. Refuses e (e ≡ bits_binary_refusal form.now)) }
     ensures refused_exactly { is_some (bits_in_binary form.now) ≡ false → IfErr result (λ e. e ≡ bits_binary_refusal form.now) }
 {
-    if form.len() < 4 {
-        return Err(CodecError::Short);
-    }
-    let (front, body) = form.split_at(4);
-    let count = u32::from_be_bytes([front[0], front[1], front[2], front[3]]);
+    let (count, body) = u32_in_front(form)?;
     if count > 2147483647 {
         return Err(CodecError::NegativeLength(count.cast_signed()));
     }
@@ -101,6 +97,7 @@ fn read_binary(alloc: Global, form: &[u8]) -> Result<BitVec, CodecError>
 fn read_text(alloc: Global, text: &str) -> Result<BitVec, CodecError>
     ensures exact { Answers (λ bits. bits) (bits_in_text text.now) result }
     ensures refused { IfErr result (λ e. Refuses e (e ≡ Syntax)) }
+    ensures refused_exactly { is_some (bits_in_text text.now) ≡ false → IfErr result (λ e. e ≡ Syntax) }
 {
     match BitVec::from_digits(alloc, text.as_bytes())? {
         Some(bits) => Ok(bits),
@@ -123,7 +120,7 @@ impl Plain for BitVec {
 
     ghost written = { with_hint bits_hint bits_image };
 
-    ghost takes_memory = { bits_take };
+    ghost takes_memory = { λ t format bytes. is_some (bits_reading t format bytes) };
 
     ghost refusal = { bits_refusal };
 

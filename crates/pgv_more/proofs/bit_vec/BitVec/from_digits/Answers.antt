@@ -1,17 +1,16 @@
-use Rattle.std.proofs.Common.{sym, ◌∙◌, ap, length, Some}
+use Rattle.std.proofs.Common.{◌≡◌, sym, refl, ◌∙◌, ap, length, Some, true}
 use Rattle.std.specs.Prelude.{map}
+use Rattle.std.specs.List.{list_all}
 use Rattle.std.proofs.lemmas.List.{length-map}
-use Rattle.pgv_more.specs.BitsText.{is_one}
-use Rattle.pgv_more.proofs.Digits.{bytes_there}
+use Rattle.pgv_more.specs.BitsText.{bits_in_text, is_digit, is_one}
 use Rattle.pgv_more.proofs.Kept.{closes, shows}
 use Rattle.pgv_more.proofs.bit_vec.BitVec.from_digits.Goals as goal
 
 pub invariant_of-result : goal.invariant_of-result
-invariant_of-result c =
-    let found = bytes_there c.args.digits.now c.in-Some.bytes.items (rw c.in-Some.is at c.in_ok-bytes.ensures) in
-    closes c.in-Some.bytes.items (length c.args.digits.now) (map is_one c.args.digits.now) found.1 (sym (length-map c.args.digits.now is_one))
+invariant_of-result c = closes _ _ (map is_one c.args.digits.now) c.in_ok-bytes_of.ensures (sym (length-map c.args.digits.now is_one))
 
-pub returns-in-Some : goal.returns-in-Some
-returns-in-Some c =
-    let found = bytes_there c.args.digits.now c.in-Some.bytes.items (rw c.in-Some.is at c.in_ok-bytes.ensures) in
-    ap (λ bits. Some bits) (shows c.in-Some.bytes.items (length c.args.digits.now) (map is_one c.args.digits.now) found.1 (sym (length-map c.args.digits.now is_one))) ∙ sym found.0
+pub returns-clause-bits : goal.returns-clause-bits
+returns-clause-bits c =
+    let all : list_all is_digit c.args.digits.now ≡ true = sym c.are_digits.ensures ∙ c.if-not-are_digits.false in
+    let there : bits_in_text c.args.digits.now ≡ Some (map is_one c.args.digits.now) = rw all refl in
+    ap (λ bits. Some bits) (shows _ _ (map is_one c.args.digits.now) c.in_ok-bytes_of.ensures (sym (length-map c.args.digits.now is_one))) ∙ sym there

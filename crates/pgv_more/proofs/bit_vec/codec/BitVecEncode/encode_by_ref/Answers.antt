@@ -1,9 +1,13 @@
-use Rattle.std.proofs.Common.{◌∙◌, ap, arith}
+use Rattle.std.proofs.Common.{◌≡◌, ◌≤◌, ◌∙◌, ap, length, pos, rules, arith}
+use Rattle.std.proofs.lemmas.Int.{ints}
 use Rattle.pgv_buf.specs.Tokens.{be4}
 use Rattle.pgv_more.proofs.Written.{written_bits}
 use Rattle.pgv_more.proofs.bit_vec.codec.BitVecEncode.encode_by_ref.Goals as goal
 
 pub returns-clause-ok : goal.returns-clause-ok
 returns-clause-ok c =
-    written_bits c.args.out.now c.extend_from_slice.new.self c.extend_from_slice-2.new.self c.to_be_bytes-number.result c.as_bytes.result.now c.args.self.now (omega (arith, c.len-count.ensures))
-    (c.to_be_bytes-number.ensures ∙ ap be4 c.len-count.ensures) c.as_bytes.ensures c.in_ok-extend_from_slice.ensures.ok c.in_ok-extend_from_slice-2.ensures.ok
+    let few : length c.args.self.now ≤ 2147483647 = grind (arith, ints, c.try_from.ensures, c.in-Ok.is, c.len-count.ensures) in
+    let number : c.in-Ok.number ≡ pos (length c.args.self.now) = search rules in
+    let form : c.to_be_bytes.result ≡ be4 (length c.args.self.now) = search rules in
+    written_bits c.args.out.now c.extend_from_slice.new.self c.extend_from_slice-2.new.self c.to_be_bytes.result c.as_bytes.result.now c.args.self.now few
+    form c.as_bytes.ensures c.in_ok-extend_from_slice.ensures.ok c.in_ok-extend_from_slice-2.ensures.ok
