@@ -6,7 +6,8 @@ use Rattle.std.specs.Str.Parse.{ParsesUnsigned, digits_value}
 use Rattle.std.proofs.lemmas.Bool.{lt-ltb, ltb-true}
 use Rattle.std.proofs.lemmas.Result.{OkIff-at_ok}
 use Rattle.std.proofs.lemmas.Str.Parse.{parse_plain}
-use Rattle.pgv_ltree.specs.Joins.{both_true, from_both}
+use Rattle.pgv_codec.specs.Bools.{both_true}
+use Rattle.pgv_ltree.specs.Joins.{from_both}
 use Rattle.pgv_value.specs.declared.tree_error.PgLQueryParseError.TheVariants.{ParseIntError}
 use Rattle.pgv_lquery.specs.CountAgain.{own}
 use Rattle.pgv_lquery.specs.QueryRead.{count_read, is_count_text}

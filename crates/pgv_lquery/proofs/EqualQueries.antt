@@ -6,13 +6,10 @@ use Rattle.std.specs.Bool.{beq}
 use Rattle.std.specs.Cmp.Lexicographic.{bytes_decides, pointwise, pointwise_decides}
 use Rattle.std.specs.Option.{option_eq}
 use Rattle.std.proofs.lemmas.Bool.{eqb-true, eq-eqb}
+use Rattle.pgv_codec.specs.Bools.{both_true}
 use Rattle.pgv_ltree.specs.SameLabels.{same_label}
 use Rattle.pgv_lquery.specs.Queries.{Variant, Level, star, one_of, none_of}
-use Rattle.pgv_lquery.specs.SameQueries.{same_variant, same_level}
-
-both : (a b : Bool) → (a && b) ≡ true → (a ≡ true) × (b ≡ true)
-both true b e = (refl, e)
-both false b e = absurd (cc)
+use Rattle.pgv_lquery.specs.SameQueries.{same_variant, same_level, least, most, variants}
 
 same_bool : (a b : Bool) → beq a b ≡ true → a ≡ b
 same_bool true true e = refl
@@ -33,9 +30,9 @@ same_parts l m a b c d e f p q r s = rw (p, q, r, s) refl
 variant_decides : (v w : Variant) → (same_variant v w ≡ true → v ≡ w) × (v ≡ w → same_variant v w ≡ true)
 variant_decides v w = (
   λ e.
-      let l = both (same_label v.label w.label) (beq v.any_end w.any_end && (beq v.in_case w.in_case && beq v.sublexeme w.sublexeme)) e in
-      let a = both (beq v.any_end w.any_end) (beq v.in_case w.in_case && beq v.sublexeme w.sublexeme) l.1 in
-      let i = both (beq v.in_case w.in_case) (beq v.sublexeme w.sublexeme) a.1 in
+      let l = both_true (same_label v.label w.label) (beq v.any_end w.any_end && (beq v.in_case w.in_case && beq v.sublexeme w.sublexeme)) e in
+      let a = both_true (beq v.any_end w.any_end) (beq v.in_case w.in_case && beq v.sublexeme w.sublexeme) l.1 in
+      let i = both_true (beq v.in_case w.in_case) (beq v.sublexeme w.sublexeme) a.1 in
       same_parts v.label w.label v.any_end w.any_end v.in_case w.in_case v.sublexeme w.sublexeme ((bytes_decides v.label w.label).0 l.0) (same_bool v.any_end w.any_end a.0) (same_bool v.in_case w.in_case i.0)
       (same_bool v.sublexeme w.sublexeme i.1),
   λ e. rw (← e, (bytes_decides v.label v.label).1 refl, own_bool v.any_end, own_bool v.in_case, own_bool v.sublexeme) refl,
@@ -50,39 +47,19 @@ count_decides (Some m) (Some n) = (λ e. ap (λ (k : ℕ). let o : Option ℕ = 
 level_decides : (l m : Level) → (same_level l m ≡ true → l ≡ m) × (l ≡ m → same_level l m ≡ true)
 level_decides (star a b) (star c d) = (
   λ e.
-      let p = both (option_eq nat_eq a c) (option_eq nat_eq b d && true) e in
-      let q = both (option_eq nat_eq b d) true p.1 in
+      let p = both_true (option_eq nat_eq a c) (option_eq nat_eq b d && true) e in
+      let q = both_true (option_eq nat_eq b d) true p.1 in
       rw ((count_decides a c).0 p.0, (count_decides b d).0 q.0) refl,
-  λ e. rw ((count_decides a c).1 (ap low_of e), (count_decides b d).1 (ap high_of e)) refl,
+  λ e. rw ((count_decides a c).1 (ap least e), (count_decides b d).1 (ap most e)) refl,
 )
-  where
-    low_of : Level → Option ℕ
-    low_of (star low high) = low
-    low_of (one_of vs) = None
-    low_of (none_of vs) = None
-
-    high_of : Level → Option ℕ
-    high_of (star low high) = high
-    high_of (one_of vs) = None
-    high_of (none_of vs) = None
 level_decides (star a b) (one_of vs) = (λ e. absurd (cc), λ e. absurd (cc))
 level_decides (star a b) (none_of vs) = (λ e. absurd (cc), λ e. absurd (cc))
 level_decides (one_of vs) (star c d) = (λ e. absurd (cc), λ e. absurd (cc))
-level_decides (one_of vs) (one_of ws) = (λ e. ap one_of ((pointwise_decides variant_decides vs ws).0 e), λ e. (pointwise_decides variant_decides vs ws).1 (ap variants_of e))
-  where
-    variants_of : Level → List Variant
-    variants_of (star low high) = vs
-    variants_of (one_of us) = us
-    variants_of (none_of us) = us
+level_decides (one_of vs) (one_of ws) = (λ e. ap one_of ((pointwise_decides variant_decides vs ws).0 e), λ e. (pointwise_decides variant_decides vs ws).1 (ap variants e))
 level_decides (one_of vs) (none_of ws) = (λ e. absurd (cc), λ e. absurd (cc))
 level_decides (none_of vs) (star c d) = (λ e. absurd (cc), λ e. absurd (cc))
 level_decides (none_of vs) (one_of ws) = (λ e. absurd (cc), λ e. absurd (cc))
-level_decides (none_of vs) (none_of ws) = (λ e. ap none_of ((pointwise_decides variant_decides vs ws).0 e), λ e. (pointwise_decides variant_decides vs ws).1 (ap variants_of e))
-  where
-    variants_of : Level → List Variant
-    variants_of (star low high) = vs
-    variants_of (one_of us) = us
-    variants_of (none_of us) = us
+level_decides (none_of vs) (none_of ws) = (λ e. ap none_of ((pointwise_decides variant_decides vs ws).0 e), λ e. (pointwise_decides variant_decides vs ws).1 (ap variants e))
 
 pub queries_decide : (a b : List Level) → (pointwise same_level a b ≡ true → a ≡ b) × (a ≡ b → pointwise same_level a b ≡ true)
 queries_decide = pointwise_decides level_decides

@@ -7,7 +7,8 @@ use Rattle.std.proofs.lemmas.Bool.{eqb-true, false≢true, ltb-true}
 use Rattle.std.proofs.lemmas.Option.{same_Some}
 use Rattle.pgv_value.specs.declared.tree_error.PgLQueryParseError.{PgLQueryParseError}
 use Rattle.pgv_value.specs.declared.tree_error.PgLQueryParseError.TheVariants.{ParseIntError, UnexpectedCharacter}
-use Rattle.pgv_ltree.specs.Joins.{both_true, lacks}
+use Rattle.pgv_codec.specs.Bools.{both_true}
+use Rattle.pgv_ltree.specs.Joins.{lacks}
 use Rattle.pgv_lquery.specs.CountAgain.{bound_there, count_there, digits_lack}
 use Rattle.pgv_lquery.specs.Lacking.{before_last_at, lacks-append}
 use Rattle.pgv_lquery.specs.Laws.{LevelIsRead, OneLevel}

@@ -5,7 +5,8 @@ use Rattle.std.specs.List.{AllZip, join_with_byte, list_all, slice_split}
 use Rattle.std.proofs.lemmas.Bool.{false≢true, lt-ltb}
 use Rattle.std.proofs.lemmas.List.Splits.{join_with_byte-slice_split}
 use Rattle.pgv_value.specs.declared.tree_error.PgLQueryParseError.{PgLQueryParseError}
-use Rattle.pgv_ltree.specs.Joins.{both_true, from_both, lacks}
+use Rattle.pgv_codec.specs.Bools.{both_true}
+use Rattle.pgv_ltree.specs.Joins.{from_both, lacks}
 use Rattle.pgv_lquery.specs.Laws.{OneQuery, PrintedQueryIsRead, QueryIsRead, ReadQueryIsReadAgain, begins_with_no_star}
 use Rattle.pgv_lquery.specs.LevelAgain.{BeginsPlainly, EachNeeds, NeedsFirst, query_again, query_there}
 use Rattle.pgv_lquery.specs.Queries.{Variant, Level, star, one_of, none_of, is_count, is_level, is_variant}

@@ -1,10 +1,10 @@
 -- Levels that are neither stars nor begin with `!`.
-use Rattle.std.proofs.Common.{◌≡◌, ◌≢◌, ◌⊎◌, inl, inr, ◌∙◌, ap, ℕ, Bool, false, List, [], ◌∷◌, length, refl}
+use Rattle.std.proofs.Common.{◌≡◌, ◌≢◌, ◌⊎◌, inl, inr, ◌∙◌, ap, ℕ, Bool, false, List, [], ◌∷◌, length, refl, sym}
 use Rattle.std.specs.Prelude.{◌==◌, Ok, Err}
 use Rattle.std.proofs.lemmas.Bool.{ne_eqb}
 use Rattle.pgv_value.specs.declared.tree_error.PgLQueryParseError.{PgLQueryParseError}
 use Rattle.pgv_value.specs.declared.tree_error.PgLQueryParseError.TheVariants.{Memory}
-use Rattle.pgv_lquery.specs.QueryRead.{level_read, read_as, variants_read}
+use Rattle.pgv_lquery.specs.QueryRead.{begins_level, begins_with_variant, level_read, read_as, variants_read}
 use Rattle.pgv_lquery.specs.Queries.{Variant, one_of}
 
 other_level : (text : List ℕ) (empty : Bool) → empty ≡ (length text == 0) → empty ≡ false → ((rest : List ℕ) → text ≢ 42 ∷ rest) → ((rest : List ℕ) → text ≢ 33 ∷ rest) → level_read text ≡ read_as (λ vs. one_of vs) (variants_read text)
@@ -20,7 +20,12 @@ pub other_refused : (text : List ℕ) (empty : Bool) (e : PgLQueryParseError) �
 other_refused text empty e n f h k (inl r) = inl (other_level text empty n f h k ∙ rw r refl)
 other_refused text empty e n f h k (inr m) = inr m
 
--- a refusal is passed on where something follows of it; out of memory stays
-pub passed_on : {e : PgLQueryParseError} {P Q : Type 0} → P ⊎ (e ≡ Memory) → (P → Q) → (e ≡ Memory) ⊎ Q
-passed_on (inl r) f = inr (f r)
-passed_on (inr m) f = inl m
+-- and where its first variant is none, which is seen before memory is asked for
+pub other_begun : (text : List ℕ) (empty : Bool) → empty ≡ (length text == 0) → empty ≡ false → ((rest : List ℕ) → text ≢ 42 ∷ rest) → ((rest : List ℕ) → text ≢ 33 ∷ rest) →
+    begins_level text ≡ begins_with_variant text
+other_begun [] empty n f h k = absurd cc
+other_begun (c ∷ text) empty n f h k = rw (ne_eqb c 42 (λ e. h text (ap (λ x. x ∷ text) e)), ne_eqb c 33 (λ e. k text (ap (λ x. x ∷ text) e))) refl
+
+pub other_refused_exactly : (text : List ℕ) (empty : Bool) (e : PgLQueryParseError) → empty ≡ (length text == 0) → empty ≡ false → ((rest : List ℕ) → text ≢ 42 ∷ rest) → ((rest : List ℕ) → text ≢ 33 ∷ rest) →
+    begins_level text ≡ false → (begins_with_variant text ≡ false → variants_read text ≡ Err e) → level_read text ≡ Err e
+other_refused_exactly text empty e n f h k isnt r = other_level text empty n f h k ∙ rw (r (sym (other_begun text empty n f h k) ∙ isnt)) refl

@@ -3,6 +3,7 @@ pub mod Cuts
 pub mod Marks
 pub mod Clones
 pub mod Printed
+pub mod Begun
 pub mod Levels
 pub mod Variants
 pub mod Written

@@ -1,12 +1,13 @@
 -- One more part of a list that is printed with a byte between its parts.
-use Rattle.std.proofs.Common.{◌≡◌, ◌∙◌, ◌+◌, ◌<◌, ap, sym, ℕ, List, [], ◌∷◌, ◌++◌, length, get_or, take, map, true, refl, append_assoc}
+use Rattle.std.proofs.Common.{◌≡◌, ◌∙◌, ◌+◌, ◌<◌, ap, sym, ℕ, List, [], ◌∷◌, ◌++◌, length, get_or, take, map, true, refl}
 use Rattle.std.specs.List.{join_with_byte, list_all}
 use Rattle.std.proofs.lemmas.List.{map_push, take_more}
-use Rattle.std.specs.Prelude.{Bool}
+use Rattle.std.specs.Prelude.{◌==◌, Bool, false, codes}
 use Rattle.std.proofs.lemmas.List.Folds.{list_all-append}
-use Rattle.pgv_buf.specs.Tokens.{Cell, blank, byte, bytes}
-use Rattle.pgv_codec.specs.PlainBytes.{appended_parts}
+use Rattle.std.proofs.lemmas.Bool.{false≢true}
 use Rattle.pgv_ltree.specs.Joins.{from_both}
+use Rattle.pgv_lquery.specs.Queries.{Variant, none_of}
+use Rattle.pgv_lquery.specs.QueryPrinted.{printed_level, printed_variants}
 use Rattle.pgv_ltree.proofs.Joined.{join-push}
 
 pub one_more : {X : Type 0} (d : ℕ) (print : X → List ℕ) (first : List ℕ) (xs : List X) (i : ℕ) (x : X) → i < length xs → x ≡ get_or xs i x →
@@ -31,9 +32,7 @@ more_seen_pass p see xs i first x l e h k =
     ∙ ap (λ ys. list_all p (first ∷ ys)) (map_push see (take i xs) x)
     ∙ list_all-append p (first ∷ map see (take i xs)) (see x ∷ []) ∙ from_both (list_all p (first ∷ map see (take i xs))) (list_all p (see x ∷ [])) h (from_both (p (see x)) true k refl)
 
--- one more part, appended after a byte
-pub more_appended : (d : ℕ) (was now pushed next : List Cell) (so_far part whole : List ℕ) → whole ≡ so_far ++ d ∷ part → now ≡ was ++ blank (bytes so_far) → pushed ≡ now ++ blank (byte d ∷ []) → next ≡ pushed ++ blank (bytes part) →
-    next ≡ was ++ blank (bytes whole)
-more_appended d was now pushed next so_far part whole e a b c =
-    let dotted = appended_parts was now pushed so_far (d ∷ []) a b in
-    appended_parts was pushed next (so_far ++ d ∷ []) part dotted c ∙ ap (λ ys. was ++ blank (bytes ys)) (append_assoc so_far (d ∷ []) part ∙ sym e)
+-- there is a variant after `!`
+pub printed_not : (vs : List Variant) → (length vs == 0) ≡ false → printed_level (none_of vs) ≡ codes "!" ++ printed_variants vs
+printed_not [] e = absurd (false≢true (sym e))
+printed_not (v ∷ vs) e = refl

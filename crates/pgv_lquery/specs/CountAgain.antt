@@ -9,7 +9,8 @@ use Rattle.std.proofs.Common.{arith, sym}
 use Rattle.std.proofs.lemmas.Bool.{lt-ltb}
 use Rattle.std.proofs.lemmas.Fmt.{decimal_nonempty, digits_decimal, digits_value-decimal}
 use Rattle.std.proofs.lemmas.Str.Parse.{IsNumeralModel, numerals_by_value, tells_all_ascii_digits}
-use Rattle.pgv_ltree.specs.Joins.{both_true, from_both, lacks, other_char, wider}
+use Rattle.pgv_codec.specs.Bools.{both_true}
+use Rattle.pgv_ltree.specs.Joins.{from_both, lacks, other_char, wider}
 use Rattle.pgv_lquery.specs.QueryRead.{bound_read, count_read, is_count_text, is_nil}
 
 pub own : IsNumeralModel (λ ds. all_ascii_digits ds ≡ true) (digits_value 10)

@@ -4,7 +4,8 @@ use Rattle.std.specs.List.{join_with_byte, list_all}
 use Rattle.std.proofs.Common.{ap, ◌∙◌}
 use Rattle.std.proofs.lemmas.Bool.{eq-eqb, false≢true}
 use Rattle.std.proofs.lemmas.List.Folds.{list_all-append}
-use Rattle.pgv_ltree.specs.Joins.{both_true, from_both, lacks}
+use Rattle.pgv_codec.specs.Bools.{both_true}
+use Rattle.pgv_ltree.specs.Joins.{from_both, lacks}
 use Rattle.pgv_lquery.specs.QueryRead.{before_last, cut}
 use Rattle.pgv_lquery.specs.QueryText.{has_mark}
 

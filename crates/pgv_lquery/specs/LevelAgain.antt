@@ -8,8 +8,9 @@ use Rattle.std.proofs.Common.{arith, ap, sym, ◌∙◌, append_assoc}
 use Rattle.std.proofs.lemmas.Bool.{eqb-true, ltb-true}
 use Rattle.std.proofs.lemmas.List.{take_at, drop_at}
 use Rattle.pgv_value.specs.declared.tree_error.PgLQueryParseError.{PgLQueryParseError}
+use Rattle.pgv_codec.specs.Bools.{both_true}
 use Rattle.pgv_ltree.specs.Each.{read_each}
-use Rattle.pgv_ltree.specs.Joins.{both_true, from_both, lacks, other_char, split_again, wider}
+use Rattle.pgv_ltree.specs.Joins.{from_both, lacks, other_char, split_again, wider}
 use Rattle.pgv_ltree.specs.Labels.{is_label, is_label_char}
 use Rattle.pgv_ltree.specs.PrintedAgain.{label_chars}
 use Rattle.pgv_lquery.specs.CountAgain.{bound_there, count_again, decimal_digits, decimal_some, digits_lack}

@@ -6,8 +6,9 @@ use Rattle.std.specs.List.{list_all}
 use Rattle.std.proofs.Common.{arith}
 use Rattle.std.proofs.lemmas.Bool.{ltb-true}
 use Rattle.std.proofs.lemmas.Bool.Decides.{nat_tests}
+use Rattle.pgv_codec.specs.Bools.{both_true}
 use Rattle.pgv_ltree.specs.Ascii.{are_ascii, ascii_append, ascii_joined, is_ascii}
-use Rattle.pgv_ltree.specs.Joins.{both_true, from_both, wider}
+use Rattle.pgv_ltree.specs.Joins.{from_both, wider}
 use Rattle.pgv_ltree.specs.TreesBack.{label_is_ascii}
 use Rattle.pgv_lquery.specs.CountAgain.{decimal_digits, each_digit}
 use Rattle.pgv_lquery.specs.Queries.{Variant, Level, star, one_of, none_of, is_level, is_query, is_variant}

@@ -10,12 +10,13 @@ use Rattle.pgv_types.specs.declared.oid.Oid.{Oid}
 use Rattle.pgv_buf.specs.Tokens.{bytes}
 use Rattle.pgv_value.specs.FrameBinary.{Part}
 use Rattle.pgv_value.specs.declared.value.PgValueFormat.TheVariants.{Binary}
+use Rattle.pgv_codec.specs.Bools.{both_true}
 use Rattle.pgv_codec.specs.Back.{ReadsBack}
 use Rattle.pgv_codec.specs.BackParts.{guarded}
 use Rattle.pgv_codec.specs.BackScalars.{part_is}
 use Rattle.pgv_codec.specs.Image.{image_of}
 use Rattle.pgv_ltree.specs.Ascii.{ascii_is_utf8}
-use Rattle.pgv_ltree.specs.Joins.{both_true, other_char}
+use Rattle.pgv_ltree.specs.Joins.{other_char}
 use Rattle.pgv_ltree.specs.Labels.{is_label, is_label_char}
 use Rattle.pgv_ltree.specs.PrintedAgain.{label_chars}
 use Rattle.pgv_lquery.specs.Lacking.{is_false}

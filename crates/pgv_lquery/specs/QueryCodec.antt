@@ -1,7 +1,7 @@
 -- What queries are written as and read of (PostgreSQL: appendix F, "ltree"; lquery_send, lquery_recv): the version 1 in one
 -- byte, and then the printed text. In text they are read of their text alone. In binary the text is UTF-8. There is no image
 -- where a label in the query is none.
-use Rattle.std.specs.Prelude.{ℕ, Bool, false, ◌==◌, codes, if◌then◌else◌, List, [], ◌∷◌, Option, Some, None, is_some, Result, Ok, Err}
+use Rattle.std.specs.Prelude.{ℕ, Bool, false, ◌&&◌, codes, if◌then◌else◌, List, ◌∷◌, Option, Some, None, Result, Ok, Err}
 use Rattle.std.specs.Option.{option_and_then}
 use Rattle.std.specs.Result.{result_ok}
 use Rattle.pgv_types.specs.Ty.{Ty, named}
@@ -10,16 +10,16 @@ use Rattle.pgv_codec.specs.Image.{Image, image_of}
 use Rattle.pgv_value.specs.Reading.{Reading}
 use Rattle.pgv_value.specs.ScalarGrammar.{scalar, refusal}
 use Rattle.pgv_value.specs.declared.error.CodecError.{CodecError}
-use Rattle.pgv_value.specs.declared.error.CodecError.TheVariants.{Short, Utf8, LQuery}
+use Rattle.pgv_value.specs.declared.error.CodecError.TheVariants.{LQuery}
 use Rattle.pgv_value.specs.declared.tree_error.PgLQueryParseError.{PgLQueryParseError}
 use Rattle.pgv_value.specs.declared.tree_error.PgLQueryParseError.TheVariants.{EmptyString, InvalidLqueryVersion}
 use Rattle.pgv_value.specs.declared.value.PgValueFormat.{PgValueFormat}
 use Rattle.pgv_value.specs.declared.value.PgValueFormat.TheVariants.{Text, Binary}
 use Rattle.pgv_value.specs.Utf8.{is_utf8}
-use Rattle.pgv_ltree.specs.TreesCodec.{versioned}
+use Rattle.pgv_ltree.specs.TreesCodec.{version_fault, versioned}
 use Rattle.pgv_lquery.specs.Queries.{Level, is_query}
 use Rattle.pgv_lquery.specs.QueryPrinted.{printed_query}
-use Rattle.pgv_lquery.specs.QueryRead.{query_read}
+use Rattle.pgv_lquery.specs.QueryRead.{begins_with_level, query_read}
 
 -- the type and its arrays, of which only the names are known
 abbrev pub lquery : Ty
@@ -47,13 +47,9 @@ abbrev pub query_fault : Result (List Level) PgLQueryParseError → CodecError
 query_fault (Ok levels) = LQuery EmptyString
 query_fault (Err e) = LQuery e
 
--- why there is no text: no bytes at all are C15, another version is C37, and other bytes than UTF-8 are C14
-abbrev pub query_version_fault : List ℕ → CodecError
-query_version_fault [] = Short
-query_version_fault (version ∷ text) = if version == 1 then Utf8 else LQuery InvalidLqueryVersion
-
+-- where there is no text, another version is C37
 abbrev pub fault_after_version : List ℕ → Option (List ℕ) → CodecError
-fault_after_version form None = query_version_fault form
+fault_after_version form None = version_fault (LQuery InvalidLqueryVersion) form
 fault_after_version form (Some text) = query_fault (query_read text)
 
 abbrev pub query_binary_refusal : List ℕ → CodecError
@@ -62,8 +58,12 @@ query_binary_refusal form = fault_after_version form (versioned form)
 abbrev pub query_refusal : PgValueFormat → Option (List ℕ) → CodecError
 query_refusal = refusal query_binary_refusal (λ text. query_fault (query_read text))
 
--- Where memory is asked for: of a text.
+-- Where memory is asked for: of a text that begins with a level, as far as its first variant says.
+abbrev pub text_takes : Option (List ℕ) → Bool
+text_takes None = false
+text_takes (Some text) = begins_with_level text
+
 abbrev pub query_takes : Ty → PgValueFormat → Option (List ℕ) → Bool
 query_takes t f None = false
-query_takes t Text (Some text) = is_utf8 text
-query_takes t Binary (Some form) = is_some (versioned form)
+query_takes t Text (Some text) = is_utf8 text && begins_with_level text
+query_takes t Binary (Some form) = text_takes (versioned form)

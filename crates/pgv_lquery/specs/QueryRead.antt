@@ -1,12 +1,12 @@
 -- What is read of the texts of queries, or why nothing is.
-use Rattle.std.specs.Prelude.{ℕ, nat_lt, ◌==◌, ◌&&◌, ◌||◌, Bool, true, false, if◌then◌else◌, List, [], ◌∷◌, length, take, drop, Option, Some, None, option_map, Result, Ok, Err}
+use Rattle.std.specs.Prelude.{ℕ, nat_lt, ◌==◌, ◌&&◌, ◌||◌, Bool, true, false, if◌then◌else◌, List, [], ◌∷◌, length, take, drop, Option, Some, None, option_map, Result, Ok, Err, is_ok}
 use Rattle.std.specs.List.{list_all, position_or_len, slice_split}
 use Rattle.std.specs.Str.{all_ascii_digits}
 use Rattle.std.specs.Str.Parse.{digits_value}
 use Rattle.pgv_value.specs.declared.tree_error.PgLTreeParseError.TheVariants.{InvalidLtreeLabel}
 use Rattle.pgv_value.specs.declared.tree_error.PgLQueryParseError.{PgLQueryParseError}
 use Rattle.pgv_value.specs.declared.tree_error.PgLQueryParseError.TheVariants.{EmptyString, UnexpectedCharacter, ParseIntError, LTreeParrseError}
-use Rattle.pgv_ltree.specs.Each.{read_each}
+use Rattle.pgv_ltree.specs.Each.{first_is, read_each}
 use Rattle.pgv_ltree.specs.Labels.{is_label}
 use Rattle.pgv_lquery.specs.Queries.{Variant, Level, star, one_of, none_of}
 use Rattle.pgv_lquery.specs.QueryText.{has_mark, is_mark}
@@ -34,6 +34,13 @@ variant_read text = variant_of (take (label_length text) text) (drop (label_leng
 
 abbrev pub variants_read : List ℕ → Result (List Variant) PgLQueryParseError
 variants_read text = read_each variant_read (slice_split (λ c. c == 124) text)
+
+abbrev pub is_variant_text : List ℕ → Bool
+is_variant_text text = is_ok (variant_read text)
+
+-- whether the first part is a variant
+abbrev pub begins_with_variant : List ℕ → Bool
+begins_with_variant text = first_is is_variant_text (slice_split (λ c. c == 124) text)
 
 -- ---- stars
 
@@ -105,3 +112,15 @@ level_read (c ∷ text) =
 
 abbrev pub query_read : List ℕ → Result (List Level) PgLQueryParseError
 query_read text = read_each level_read (slice_split (λ c. c == 46) text)
+
+-- whether the text is a star, or begins with a variant: what is seen of a level before memory is asked for
+abbrev pub begins_level : List ℕ → Bool
+begins_level [] = false
+begins_level (c ∷ text) =
+    if c == 42 then is_ok (star_read text) else
+    if c == 33 then begins_with_variant text else
+    begins_with_variant (c ∷ text)
+
+-- and whether the first part does
+abbrev pub begins_with_level : List ℕ → Bool
+begins_with_level text = first_is begins_level (slice_split (λ c. c == 46) text)

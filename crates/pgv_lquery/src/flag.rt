@@ -1,10 +1,11 @@
 //! The modifiers of a variant (PostgreSQL, "ltree", lquery).
 
-ghost use Rattle.std.specs.Prelude.{⊤, ◌≡◌, ◌++◌, ◌∷◌, [], Some, codes};
+ghost use Rattle.std.specs.Prelude.{⊤, ◌≡◌, ◌++◌, ◌∷◌, [], IfErr, OnOk, OnErr, Some, codes};
 ghost use Rattle.pgv_lquery.specs.Flags.{has_bit};
 ghost use Rattle.pgv_lquery.specs.QueryPrinted.{mark, printed_marks};
 
 use bitflags::{Flag, Flags, bitflag_items};
+use pgv_ltree::Sink;
 use std::fmt;
 
 /// A set of modifiers: `ANY_END`, written `*`, only the beginning of a label is wanted; `IN_CASE`, `@`, case is ignored; `SUBLEXEME`, `%`,
@@ -43,10 +44,26 @@ impl Flags for PgLQueryVariantFlag {
 }
 
 /// A modifier's sign where it is set.
-pub(crate) fn sign(set: bool, text: &'static str) -> &'static str
+fn sign(set: bool, text: &'static str) -> &'static str
     ensures { result.now ≡ mark set text.now }
 {
     if set { text } else { "" }
+}
+
+/// Prints the modifiers that are set, in the order `*`, `@`, `%`.
+pub(crate) fn print_marks<S: Sink>(
+    any_end: bool,
+    in_case: bool,
+    sublexeme: bool,
+    out: &mut S,
+) -> Result<(), S::Error>
+    ensures ok { OnOk result (S.took out.old (printed_marks any_end in_case sublexeme) out.new) }
+    ensures err { IfErr result S.refuses }
+    ensures left { OnErr result (S.left out.old out.new) }
+{
+    out.put(sign(any_end, "*"))?;
+    out.put(sign(in_case, "@"))?;
+    out.put(sign(sublexeme, "%"))
 }
 
 /// Printed as the signs of those that are set, in the order `*`, `@`, `%`.
@@ -54,8 +71,11 @@ impl fmt::Display for PgLQueryVariantFlag {
     ghost output = { λ flags. Some (printed_marks (has_bit flags.0 1) (has_bit flags.0 2) (has_bit flags.0 4)) };
 
     fn fmt<W: fmt::Write>(&self, f: &mut fmt::Formatter<W>) -> fmt::Result {
-        f.write_str(sign(self.contains(PgLQueryVariantFlag::ANY_END), "*"))?;
-        f.write_str(sign(self.contains(PgLQueryVariantFlag::IN_CASE), "@"))?;
-        f.write_str(sign(self.contains(PgLQueryVariantFlag::SUBLEXEME), "%"))
+        print_marks(
+            self.contains(PgLQueryVariantFlag::ANY_END),
+            self.contains(PgLQueryVariantFlag::IN_CASE),
+            self.contains(PgLQueryVariantFlag::SUBLEXEME),
+            f,
+        )
     }
 }

@@ -1,13 +1,12 @@
 //! The levels of a query (PostgreSQL, "ltree", lquery).
 
-ghost use Rattle.std.specs.Prelude.{◌≡◌, ◌⊎◌, IfOk, IfErr, Ok, Err, Some, option_map};
-ghost use Rattle.std.specs.Fmt.{DisplaysOnOk};
+ghost use Rattle.std.specs.Prelude.{◌≡◌, ◌⊎◌, false, IfOk, IfErr, Ok, Err, Some, option_map};
 ghost use Rattle.pgv_value.specs.declared.tree_error.PgLQueryParseError.TheVariants.{Memory};
 ghost use Rattle.pgv_lquery.specs.LevelView.{level_of};
-ghost use Rattle.pgv_lquery.specs.QueryPrinted.{printed_level, printed_star, printed_variants};
-ghost use Rattle.pgv_lquery.specs.QueryRead.{between_read, bound_read, braced, count_read, inner_read, level_read, star_read, variants_read};
+ghost use Rattle.pgv_lquery.specs.QueryPrinted.{printed_level};
+ghost use Rattle.pgv_lquery.specs.QueryRead.{begins_level, begins_with_variant, between_read, bound_read, braced, count_read, inner_read, level_read, star_read, variants_read};
 
-mod codec;
+mod print;
 
 use crate::variant::PgLQueryVariant;
 use pgv_value::PgLQueryParseError;
@@ -100,6 +99,7 @@ fn star_of(text: &str) -> Result<PgLQueryLevel, PgLQueryParseError>
 fn variants_of(alloc: Global, text: &str) -> Result<Vec<PgLQueryVariant>, PgLQueryParseError>
     ensures ok { IfOk result (λ vs. variants_read text.now ≡ Ok vs.items) }
     ensures err { IfErr result (λ e. (variants_read text.now ≡ Err e) ⊎ (e ≡ Memory)) }
+    ensures refused_exactly { begins_with_variant text.now ≡ false → IfErr result (λ e. variants_read text.now ≡ Err e) }
 {
     let mut variants = Vec::new(alloc);
     for variant in text.split('|') {
@@ -111,10 +111,12 @@ fn variants_of(alloc: Global, text: &str) -> Result<Vec<PgLQueryVariant>, PgLQue
 impl PgLQueryLevel {
     /// The level of a text: a star, perhaps with one or two numbers in braces, as `*{2}`, `*{2,}`, `*{,3}` and `*{2,3}`; or variants, joined
     /// by `|`, perhaps after `!`. The empty text is refused with EmptyString; another that begins with `*` with UnexpectedCharacter, or with
-    /// ParseIntError where a number is not digits up to 65535; and a variant that is none with LTreeParrseError.
+    /// ParseIntError where a number is not digits up to 65535; and a variant that is none with LTreeParrseError. A star, and a first variant
+    /// that is none, are refused before memory is asked for.
     pub fn from_str(alloc: Global, text: &str) -> Result<PgLQueryLevel, PgLQueryParseError>
         ensures ok { IfOk result (λ l. level_read text.now ≡ Ok (level_of l)) }
         ensures err { IfErr result (λ e. (level_read text.now ≡ Err e) ⊎ (e ≡ Memory)) }
+        ensures refused_exactly { begins_level text.now ≡ false → IfErr result (λ e. level_read text.now ≡ Err e) }
     {
         if text.is_empty() {
             return Err(PgLQueryParseError::EmptyString);
@@ -167,60 +169,11 @@ impl Clone for PgLQueryLevel {
     }
 }
 
-/// Prints a star.
-fn print_star<W: fmt::Write>(
-    low: Option<u16>,
-    high: Option<u16>,
-    f: &mut fmt::Formatter<W>,
-) -> fmt::Result
-    ensures { DisplaysOnOk W.write_str_gives f.old result (Some (printed_star low high)) f.new }
-{
-    match (low, high) {
-        (None, None) => f.write_str("*"),
-        (Some(low), None) => write!(f, "*{{{low},}}"),
-        (None, Some(high)) => write!(f, "*{{,{high}}}"),
-        (Some(low), Some(high)) => {
-            if low == high {
-                write!(f, "*{{{low}}}")
-            } else {
-                write!(f, "*{{{low},{high}}}")
-            }
-        }
-    }
-}
-
-/// Prints variants, joined by `|`.
-fn print_variants<W: fmt::Write>(
-    variants: &[PgLQueryVariant],
-    f: &mut fmt::Formatter<W>,
-) -> fmt::Result
-    ensures { DisplaysOnOk W.write_str_gives f.old result (Some (printed_variants variants.now)) f.new }
-{
-    if let [first, rest @ ..] = variants {
-        f.write(first)?;
-        for variant in rest {
-            f.write_str("|")?;
-            f.write(variant)?;
-        }
-    }
-    Ok(())
-}
-
 /// Printed as it is read, with one number where both are equal. A level without a variant prints nothing.
 impl fmt::Display for PgLQueryLevel {
     ghost output = { λ l. Some (printed_level (level_of l)) };
 
     fn fmt<W: fmt::Write>(&self, f: &mut fmt::Formatter<W>) -> fmt::Result {
-        match self {
-            PgLQueryLevel::Star(low, high) => print_star(*low, *high, f),
-            PgLQueryLevel::NonStar(variants) => print_variants(variants.as_slice(), f),
-            PgLQueryLevel::NotNonStar(variants) => {
-                if variants.is_empty() {
-                    return Ok(());
-                }
-                f.write_str("!")?;
-                print_variants(variants.as_slice(), f)
-            }
-        }
+        self.print(f)
     }
 }

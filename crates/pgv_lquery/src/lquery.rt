@@ -1,19 +1,21 @@
 //! Queries of label trees (PostgreSQL, "ltree", lquery).
 
-ghost use Rattle.std.specs.Prelude.{◌≡◌, ◌⊎◌, ◌↔◌, ◌<◌, ◌++◌, ◌∷◌, [], List, ℕ, length, map, IfOk, IfErr, OnOk, OnErr, IsSome, Ok, Err, Some, option_map};
+ghost use Rattle.std.specs.Prelude.{◌≡◌, ◌⊎◌, ◌↔◌, ◌<◌, ◌++◌, ◌∷◌, [], List, ℕ, length, map, IfOk, IfErr, OnOk, OnErr, IsSome, Ok, Err, Some, option_map, true, false};
 ghost use Rattle.std.specs.Iterator.{Drains, IsFinite};
 ghost use Rattle.std.specs.Option.{option_to_list};
 ghost use Rattle.std.specs.Vec.Iter.{into_iter_items, into_iter_len};
 ghost use Rattle.pgv_value.specs.declared.tree_error.PgLQueryParseError.TheVariants.{Memory};
 ghost use Rattle.pgv_ltree.specs.Each.{read_each};
 ghost use Rattle.pgv_lquery.specs.LevelView.{level_of};
+ghost use Rattle.pgv_lquery.specs.Queries.{is_query};
 ghost use Rattle.pgv_lquery.specs.QueryPrinted.{printed_query};
-ghost use Rattle.pgv_lquery.specs.QueryRead.{level_read, query_read};
+ghost use Rattle.pgv_lquery.specs.QueryRead.{begins_level, begins_with_level, level_read, query_read};
 ghost use Rattle.pgv_lquery.specs.Taken.{GivesText, GivesTexts};
 
 mod codec;
 
 use crate::level::PgLQueryLevel;
+use pgv_ltree::Sink;
 use pgv_value::PgLQueryParseError;
 use std::alloc::{AllocError, Global};
 use std::fmt;
@@ -66,8 +68,8 @@ impl PgLQuery {
         requires { (it : I.IntoIter) → I.into_iter_gives levels it → I.IntoIter.can_next it × IsFinite (I.IntoIter.remaining it) }
         // Every text was taken, and is the level at its place.
         ensures ok { IfOk result (λ query. (it : I.IntoIter) × (texts : List (List ℕ)) × I.into_iter_gives levels it × GivesTexts I.IntoIter.next_gives it texts × (read_each level_read texts ≡ Ok query)) }
-        // A text that was taken is no level.
-        ensures err { IfErr result (λ e. (e ≡ Memory) ⊎ ((it : I.IntoIter) × (text : List ℕ) × I.into_iter_gives levels it × GivesText I.IntoIter.next_gives it text × (level_read text ≡ Err e))) }
+        // The text that was taken last is no level; or it begins as one, and there was no memory for it.
+        ensures err { IfErr result (λ e. (it : I.IntoIter) × (text : List ℕ) × I.into_iter_gives levels it × GivesText I.IntoIter.next_gives it text × ((level_read text ≡ Err e) ⊎ ((e ≡ Memory) × (begins_level text ≡ true)))) }
     {
         let mut query = PgLQuery::new(alloc);
         for level in levels {
@@ -91,10 +93,12 @@ impl PgLQuery {
         Ok(query)
     }
 
-    /// The query of a text: levels joined by `.`. It is refused as its first level that is none is.
+    /// The query of a text: levels joined by `.`. It is refused as its first level that is none is, and where that is the first level and
+    /// doesn't begin as one before memory is asked for.
     pub fn from_str(alloc: Global, text: &str) -> Result<PgLQuery, PgLQueryParseError>
         ensures ok { IfOk result (λ query. query_read text.now ≡ Ok query) }
         ensures err { IfErr result (λ e. (query_read text.now ≡ Err e) ⊎ (e ≡ Memory)) }
+        ensures refused_exactly { begins_with_level text.now ≡ false → IfErr result (λ e. query_read text.now ≡ Err e) }
     {
         let mut levels = Vec::new(alloc);
         for level in text.split('.') {
@@ -170,18 +174,29 @@ impl Clone for PgLQuery {
     }
 }
 
+/// Prints levels, joined by `.`.
+fn print_levels<S: Sink>(levels: &[PgLQueryLevel], out: &mut S) -> Result<(), S::Error>
+    ensures levels { OnOk result (is_query (map level_of levels.now) ≡ true) }
+    ensures ok { OnOk result (S.took out.old (printed_query (map level_of levels.now)) out.new) }
+    ensures err { IfErr result S.refuses }
+    ensures left { OnErr result (S.left out.old out.new) }
+{
+    let [first, rest @ ..] = levels else {
+        return Ok(());
+    };
+    first.print(out)?;
+    for level in rest {
+        out.put(".")?;
+        level.print(out)?;
+    }
+    Ok(())
+}
+
 /// Printed as its levels, joined by `.`; a query without levels prints nothing.
 impl fmt::Display for PgLQuery {
     ghost output = { λ query. Some (printed_query query) };
 
     fn fmt<W: fmt::Write>(&self, f: &mut fmt::Formatter<W>) -> fmt::Result {
-        if let [first, rest @ ..] = self.as_slice() {
-            f.write(first)?;
-            for level in rest {
-                f.write_str(".")?;
-                f.write(level)?;
-            }
-        }
-        Ok(())
+        print_levels(self.as_slice(), f)
     }
 }

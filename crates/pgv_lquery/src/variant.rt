@@ -1,7 +1,7 @@
 //! The variants of a level (PostgreSQL, "ltree", lquery).
 
-ghost use Rattle.std.specs.Prelude.{◌≡◌, ◌+◌, ◌⊎◌, IfOk, IfErr, Ok, Err, Some, take, drop, true};
-ghost use Rattle.std.specs.List.{list_all};
+ghost use Rattle.std.specs.Prelude.{◌≡◌, ◌+◌, ◌⊎◌, IfOk, IfErr, OnOk, OnErr, Ok, Err, Some, take, drop, true};
+ghost use Rattle.std.specs.List.{list_all, position};
 ghost use Rattle.pgv_value.specs.declared.tree_error.PgLQueryParseError.TheVariants.{Memory};
 ghost use Rattle.pgv_lquery.specs.Flags.{bit, modifier_bits};
 ghost use Rattle.pgv_lquery.specs.Queries.{is_variant};
@@ -9,11 +9,9 @@ ghost use Rattle.pgv_lquery.specs.QueryPrinted.{printed_variant};
 ghost use Rattle.pgv_lquery.specs.QueryRead.{label_length as label_length_of, variant_read};
 ghost use Rattle.pgv_lquery.specs.QueryText.{is_mark as is_mark_of};
 
-mod codec;
-
-use crate::flag::{PgLQueryVariantFlag, sign};
+use crate::flag::{PgLQueryVariantFlag, print_marks};
 use bitflags::Flags;
-use pgv_ltree::PgLTreeLabel;
+use pgv_ltree::{PgLTreeLabel, Sink};
 use pgv_value::{PgLQueryParseError, PgLTreeParseError};
 use std::alloc::{AllocError, Global};
 use std::fmt;
@@ -55,16 +53,18 @@ fn are_marks(bytes: &[u8]) -> bool
     bytes.iter().all(|byte| is_mark(*byte))
 }
 
+/// Where the first modifier is.
+fn first_mark(bytes: &[u8]) -> Option<usize>
+    ensures { result ≡ position is_mark_of bytes.now }
+{
+    bytes.iter().position(|byte| is_mark(*byte))
+}
+
 /// How long the label is that modifiers come after.
 fn label_length(bytes: &[u8]) -> usize
     ensures { result ≡ label_length_of bytes.now }
 {
-    for place in 0..bytes.len() {
-        if is_mark(bytes[place]) {
-            return place;
-        }
-    }
-    bytes.len()
+    first_mark(bytes).unwrap_or(bytes.len())
 }
 
 /// The label and the modifiers of a text.
@@ -79,9 +79,11 @@ fn split_marks(text: &str) -> (&str, &str)
 fn flags_of(any_end: bool, in_case: bool, sublexeme: bool) -> PgLQueryVariantFlag
     ensures { result.0 ≡ bit any_end 1 + bit in_case 2 + bit sublexeme 4 }
 {
-    PgLQueryVariantFlag::from_bits_retain(
-        any_end as u16 + 2 * (in_case as u16) + 4 * (sublexeme as u16),
-    )
+    let mut flags = PgLQueryVariantFlag::empty();
+    flags.set(PgLQueryVariantFlag::ANY_END, any_end);
+    flags.set(PgLQueryVariantFlag::IN_CASE, in_case);
+    flags.set(PgLQueryVariantFlag::SUBLEXEME, sublexeme);
+    flags
 }
 
 impl PgLQueryVariant {
@@ -119,6 +121,17 @@ impl PgLQueryVariant {
         ensures { result.0 ≡ modifier_bits self.now }
     {
         flags_of(self.any_end, self.in_case, self.sublexeme)
+    }
+
+    /// Prints the label, and then its modifiers.
+    pub(crate) fn print<S: Sink>(&self, out: &mut S) -> Result<(), S::Error>
+        ensures variant { OnOk result (is_variant self.now ≡ true) }
+        ensures ok { OnOk result (S.took out.old (printed_variant self.now) out.new) }
+        ensures err { IfErr result S.refuses }
+        ensures left { OnErr result (S.left out.old out.new) }
+    {
+        out.put(self.label.as_str())?;
+        print_marks(self.any_end, self.in_case, self.sublexeme, out)
     }
 }
 
@@ -162,9 +175,6 @@ impl fmt::Display for PgLQueryVariant {
     ghost output = { λ v. Some (printed_variant v) };
 
     fn fmt<W: fmt::Write>(&self, f: &mut fmt::Formatter<W>) -> fmt::Result {
-        f.write_str(self.label.as_str())?;
-        f.write_str(sign(self.any_end, "*"))?;
-        f.write_str(sign(self.in_case, "@"))?;
-        f.write_str(sign(self.sublexeme, "%"))
+        self.print(f)
     }
 }

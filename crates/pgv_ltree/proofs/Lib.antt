@@ -1,4 +1,5 @@
 pub mod Joined
+pub mod Printed
 pub mod EachRead
 pub mod Written
 pub mod LawsOfTrees

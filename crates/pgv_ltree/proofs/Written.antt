@@ -1,8 +1,8 @@
--- Labels that are appended one after another.
-use Rattle.std.proofs.Common.{◌≡◌, ◌∙◌, ◌+◌, ◌<◌, ℕ, List, [], ◌∷◌, ◌++◌, length, get_or, take, ap, sym, refl, Bool, true, Some, append_assoc}
+-- What is appended of a tree.
+use Rattle.std.proofs.Common.{◌≡◌, ◌∙◌, ◌+◌, ◌<◌, ℕ, List, [], ◌∷◌, ◌++◌, length, get_or, take, ap, sym, refl, Bool, true, Some}
 use Rattle.std.proofs.lemmas.List.{take_more}
 use Rattle.std.proofs.lemmas.List.Folds.{list_all-append}
-use Rattle.std.specs.List.{join_with_byte, list_all}
+use Rattle.std.specs.List.{list_all}
 use Rattle.pgv_buf.specs.Tokens.{Token, Cell, blank, byte, bytes}
 use Rattle.pgv_codec.specs.Image.{image_of}
 use Rattle.pgv_codec.specs.PlainBytes.{appended_parts}
@@ -10,7 +10,6 @@ use Rattle.pgv_ltree.specs.Labels.{is_label}
 use Rattle.pgv_ltree.specs.Trees.{printed_tree}
 use Rattle.pgv_ltree.specs.TreesCodec.{tree_image}
 use Rattle.pgv_ltree.specs.Joins.{from_both}
-use Rattle.pgv_ltree.proofs.Joined.{join-push}
 
 -- one more label of a list
 more : {X : Type 0} (xs : List X) (i : ℕ) (x : X) → i < length xs → x ≡ get_or xs i x → take (i + 1) xs ≡ take i xs ++ x ∷ []
@@ -20,17 +19,6 @@ more xs i x l e = take_more xs i x l ∙ ap (λ y. take i xs ++ y ∷ []) (sym e
 pub more_pass : {X : Type 0} (p : X → Bool) (xs : List X) (i : ℕ) (first x : X) → i < length xs → x ≡ get_or xs i x → list_all p (first ∷ take i xs) ≡ true → p x ≡ true → list_all p (first ∷ take (i + 1) xs) ≡ true
 more_pass p xs i first x l e h k =
     ap (λ ys. list_all p (first ∷ ys)) (more xs i x l e) ∙ list_all-append p (first ∷ take i xs) (x ∷ []) ∙ from_both (list_all p (first ∷ take i xs)) (list_all p (x ∷ [])) h (from_both (p x) true k refl)
-
--- and it is appended after a byte
-pub more_written : (d : ℕ) (xs : List (List ℕ)) (i : ℕ) (first x : List ℕ) (was now pushed next : List Cell) → i < length xs → x ≡ get_or xs i x →
-    now ≡ was ++ blank (bytes (join_with_byte d (first ∷ take i xs))) → pushed ≡ now ++ blank (byte d ∷ []) → next ≡ pushed ++ blank (bytes x) →
-    next ≡ was ++ blank (bytes (join_with_byte d (first ∷ take (i + 1) xs)))
-more_written d xs i first x was now pushed next l e a b c =
-    let so_far = join_with_byte d (first ∷ take i xs) in
-    let dotted = appended_parts was now pushed so_far (d ∷ []) a b in
-    let whole : (so_far ++ d ∷ []) ++ x ≡ join_with_byte d (first ∷ take (i + 1) xs) =
-    append_assoc so_far (d ∷ []) x ∙ sym (join-push d first (take i xs) x) ∙ ap (λ ys. join_with_byte d (first ∷ ys)) (sym (more xs i x l e)) in
-    appended_parts was pushed next (so_far ++ d ∷ []) x dotted c ∙ ap (λ ys. was ++ blank (bytes ys)) whole
 
 -- the version and all labels
 pub written_tree : (was between now : List Cell) (tree labels : List (List ℕ)) → labels ≡ tree → list_all is_label labels ≡ true → between ≡ was ++ blank (byte 1 ∷ []) → now ≡ between ++ blank (bytes (printed_tree labels)) →

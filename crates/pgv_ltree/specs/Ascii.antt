@@ -6,7 +6,8 @@ use Rattle.std.proofs.Common.{arith, refl, ◌∙◌}
 use Rattle.std.proofs.lemmas.Bool.{ltb-true, eq-eqb}
 use Rattle.std.proofs.lemmas.List.Folds.{list_all-append}
 use Rattle.std.proofs.lemmas.Str.{IsUtf8-from_ascii, utf8_valid_len-IsUtf8}
-use Rattle.pgv_ltree.specs.Joins.{both_true, from_both}
+use Rattle.pgv_codec.specs.Bools.{both_true}
+use Rattle.pgv_ltree.specs.Joins.{from_both}
 use Rattle.pgv_value.specs.Utf8.{is_utf8}
 
 -- whether a character is ASCII

@@ -1,5 +1,5 @@
 -- Texts that are read one after another: the first that is refused refuses them all.
-use Rattle.std.specs.Prelude.{List, [], ◌∷◌, Result, Ok, Err}
+use Rattle.std.specs.Prelude.{Bool, true, List, [], ◌∷◌, Result, Ok, Err}
 
 -- what is read first, and then the others
 abbrev pub and_others : {M E : Type 0} → Result M E → Result (List M) E → Result (List M) E
@@ -10,3 +10,8 @@ and_others (Ok m) (Ok ms) = Ok (m ∷ ms)
 abbrev pub read_each : {X M E : Type 0} → (X → Result M E) → List X → Result (List M) E
 read_each read [] = Ok []
 read_each read (x ∷ xs) = and_others (read x) (read_each read xs)
+
+-- whether the first passes a test, where there is one
+abbrev pub first_is : {X : Type 0} → (X → Bool) → List X → Bool
+first_is good [] = true
+first_is good (x ∷ xs) = good x

@@ -8,5 +8,6 @@ pub mod PrintedAgain
 pub mod Ascii
 pub mod LabelChars
 pub mod TreesCodec
+pub mod Sinks
 pub mod TreesBack
 pub mod Laws

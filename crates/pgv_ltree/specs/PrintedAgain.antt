@@ -2,8 +2,9 @@
 use Rattle.std.specs.Prelude.{◌≡◌, ℕ, nat_le, true, List, [], ◌∷◌, length, Ok, refl}
 use Rattle.std.specs.List.{list_all}
 use Rattle.std.proofs.Common.{ap, ◌∙◌}
+use Rattle.pgv_codec.specs.Bools.{both_true}
 use Rattle.pgv_ltree.specs.Each.{read_each}
-use Rattle.pgv_ltree.specs.Joins.{both_true, lacks, other_char, split_again, wider}
+use Rattle.pgv_ltree.specs.Joins.{lacks, other_char, split_again, wider}
 use Rattle.pgv_ltree.specs.Labels.{is_label, is_label_char, label_limit, label_read}
 use Rattle.pgv_ltree.specs.Trees.{parts, printed_tree, tree_read}
 

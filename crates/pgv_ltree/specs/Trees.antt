@@ -1,10 +1,10 @@
 -- Trees of labels and their texts (PostgreSQL: appendix F, "ltree", Definitions): one or more labels joined by `.`, which is 46
 -- (`IsTreeText`). A tree prints its labels joined by `.`.
 -- Laws: what is computed is exactly this (`tree_is_read`), and no text is two trees (`one_tree`).
-use Rattle.std.specs.Prelude.{◌≡◌, ◌≢◌, ℕ, ◌==◌, Bool, true, false, List, [], ◌∷◌, Result}
+use Rattle.std.specs.Prelude.{◌≡◌, ◌≢◌, ℕ, ◌==◌, Bool, true, List, [], ◌∷◌, Result}
 use Rattle.std.specs.List.{join_with_byte, list_all, slice_split}
 use Rattle.pgv_value.specs.declared.tree_error.PgLTreeParseError.{PgLTreeParseError}
-use Rattle.pgv_ltree.specs.Each.{read_each}
+use Rattle.pgv_ltree.specs.Each.{first_is, read_each}
 use Rattle.pgv_ltree.specs.Labels.{is_label, label_read}
 
 -- The text is that of the tree of these labels, of which there is one or more; the empty text is that of one empty label.
@@ -18,12 +18,8 @@ abbrev pub parts : List ℕ → List (List ℕ)
 parts text = slice_split (λ c. c == 46) text
 
 -- whether the first part is a label
-abbrev pub first_is_label : List (List ℕ) → Bool
-first_is_label [] = false
-first_is_label (first ∷ others) = is_label first
-
 abbrev pub begins_with_label : List ℕ → Bool
-begins_with_label text = first_is_label (parts text)
+begins_with_label text = first_is is_label (parts text)
 
 -- the labels of a text
 abbrev pub tree_read : List ℕ → Result (List (List ℕ)) PgLTreeParseError

@@ -45,14 +45,14 @@ tree_in_binary form = option_and_then tree_in_text (versioned form)
 abbrev pub tree_reading : Reading (List (List ℕ))
 tree_reading = scalar tree_in_binary tree_in_text
 
--- why there is no text: no bytes at all are C15, another version is C36, and other bytes than UTF-8 are C14
-abbrev pub version_fault : List ℕ → CodecError
-version_fault [] = Short
-version_fault (version ∷ text) = if version == 1 then Utf8 else LTree InvalidLtreeVersion
+-- why there is no text: no bytes at all are C15, another version is what is given, and other bytes than UTF-8 are C14
+abbrev pub version_fault : CodecError → List ℕ → CodecError
+version_fault wrong_version [] = Short
+version_fault wrong_version (version ∷ text) = if version == 1 then Utf8 else wrong_version
 
--- and else a label is none: C36
+-- another version is C36, and else a label is none: C36 too
 abbrev pub tree_binary_refusal : List ℕ → CodecError
-tree_binary_refusal form = if is_some (versioned form) then LTree InvalidLtreeLabel else version_fault form
+tree_binary_refusal form = if is_some (versioned form) then LTree InvalidLtreeLabel else version_fault (LTree InvalidLtreeVersion) form
 
 abbrev pub tree_refusal : PgValueFormat → Option (List ℕ) → CodecError
 tree_refusal = refusal tree_binary_refusal (λ _. LTree InvalidLtreeLabel)

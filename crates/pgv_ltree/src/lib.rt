@@ -4,7 +4,11 @@
 pub mod label;
 pub mod laws;
 pub mod ltree;
+pub mod sink;
+pub mod version;
 
 pub use label::PgLTreeLabel;
 pub use ltree::PgLTree;
 pub use pgv_value::PgLTreeParseError;
+pub use sink::Sink;
+pub use version::text_after_version;

@@ -2,6 +2,7 @@
 
 ghost use Rattle.std.specs.Prelude.{◌≡◌, ◌⊎◌, ◌↔◌, ◌<◌, ◌++◌, ◌∷◌, [], List, ℕ, length, IfOk, IfErr, OnOk, OnErr, IsSome, Ok, Err, Some, true, false};
 ghost use Rattle.std.specs.Iterator.{Drains, IsFinite};
+ghost use Rattle.std.specs.List.{list_all};
 ghost use Rattle.std.specs.Option.{option_to_list};
 ghost use Rattle.std.specs.Vec.Iter.{into_iter_items, into_iter_len};
 ghost use Rattle.pgv_value.specs.declared.tree_error.PgLTreeParseError.TheVariants.{InvalidLtreeLabel, Memory};
@@ -13,6 +14,7 @@ ghost use Rattle.pgv_ltree.specs.Trees.{begins_with_label, printed_tree, tree_re
 mod codec;
 
 use crate::label::PgLTreeLabel;
+use crate::sink::Sink;
 use pgv_value::PgLTreeParseError;
 use std::alloc::{AllocError, Global};
 use std::fmt;
@@ -176,18 +178,29 @@ impl Clone for PgLTree {
     }
 }
 
+/// Prints labels, joined by `.`.
+fn print_labels<S: Sink>(labels: &[PgLTreeLabel], out: &mut S) -> Result<(), S::Error>
+    ensures labels { OnOk result (list_all is_label labels.now ≡ true) }
+    ensures ok { OnOk result (S.took out.old (printed_tree labels.now) out.new) }
+    ensures err { IfErr result S.refuses }
+    ensures left { OnErr result (S.left out.old out.new) }
+{
+    let [first, rest @ ..] = labels else {
+        return Ok(());
+    };
+    out.put(first.as_str())?;
+    for label in rest {
+        out.put(".")?;
+        out.put(label.as_str())?;
+    }
+    Ok(())
+}
+
 /// Printed as its labels, joined by `.`; a tree without labels prints nothing.
 impl fmt::Display for PgLTree {
     ghost output = { λ tree. Some (printed_tree tree) };
 
     fn fmt<W: fmt::Write>(&self, f: &mut fmt::Formatter<W>) -> fmt::Result {
-        if let [first, rest @ ..] = self.as_slice() {
-            f.write_str(first.as_str())?;
-            for label in rest {
-                f.write_str(".")?;
-                f.write_str(label.as_str())?;
-            }
-        }
-        Ok(())
+        print_labels(self.as_slice(), f)
     }
 }

@@ -1,27 +1,20 @@
 //! Trees of labels, written and read (PostgreSQL, "ltree").
 
-ghost use Rattle.std.specs.Prelude.{◌≡◌, ◌++◌, ℕ, List, true, false, IfOk, IfErr, OnOk, OnErr, None, Some, refl};
-ghost use Rattle.std.specs.List.{list_all};
+ghost use Rattle.std.specs.Prelude.{◌≡◌, ℕ, List, false, IfErr, refl};
 ghost use Rattle.pgv_types.specs.Relations.{softly};
-ghost use Rattle.pgv_buf.specs.Tokens.{blank, bytes};
 ghost use Rattle.pgv_value.specs.Reading.{Answers, AnswersExactly, Refuses};
-ghost use Rattle.pgv_value.specs.declared.error.CodecError.TheVariants.{Memory, LTree};
+ghost use Rattle.pgv_value.specs.declared.error.CodecError.TheVariants.{LTree};
 ghost use Rattle.pgv_value.specs.declared.tree_error.PgLTreeParseError.TheVariants.{InvalidLtreeLabel};
-ghost use Rattle.pgv_codec.specs.Outcome.{Appended};
 ghost use Rattle.pgv_codec.specs.Saying.{plainly};
-ghost use Rattle.pgv_ltree.specs.Labels.{is_label};
-ghost use Rattle.pgv_ltree.specs.Trees.{begins_with_label, printed_tree};
-ghost use Rattle.pgv_ltree.specs.TreesCodec.{ltree, ltree_array, tree_image, tree_in_binary, tree_in_text, tree_reading, tree_binary_refusal, tree_refusal, tree_takes, text_takes, versioned, version_fault};
+ghost use Rattle.pgv_ltree.specs.Trees.{begins_with_label};
+ghost use Rattle.pgv_ltree.specs.TreesCodec.{ltree, ltree_array, tree_image, tree_in_binary, tree_in_text, tree_reading, tree_binary_refusal, tree_refusal, tree_takes, text_takes, versioned};
 
-use super::PgLTree;
-use crate::label::PgLTreeLabel;
+use super::{PgLTree, print_labels};
+use crate::version::{VERSION, text_after_version};
 use pgv_codec::{Encode, IsNull, PgArgumentBuffer, PgHasArrayType, Plain, Type};
 use pgv_types::PgTypeInfo;
 use pgv_value::{CodecError, PgLTreeParseError, PgValueFormat, PgValueRef};
 use std::alloc::{AllocError, Global};
-
-/// The version that the binary form begins with.
-const VERSION: u8 = 1;
 
 /// `ltree`, of which only the name is known until its OID is handed in. Read under it and domains over it.
 impl Type for PgLTree {
@@ -53,31 +46,13 @@ impl PgHasArrayType for PgLTree {
     }
 }
 
-/// Appends labels, joined by `.`.
-fn write_labels(labels: &[PgLTreeLabel], out: &mut PgArgumentBuffer) -> Result<(), CodecError>
-    ensures labels { OnOk result (list_all is_label labels.now ≡ true) }
-    ensures ok { OnOk result (out.new ≡ out.old ++ blank (bytes (printed_tree labels.now))) }
-    ensures err { IfErr result (λ e. e ≡ Memory) }
-    ensures appended { OnErr result (Appended out.old out.new) }
-{
-    let [first, rest @ ..] = labels else {
-        return Ok(());
-    };
-    out.extend_from_slice(first.as_str().as_bytes())?;
-    for label in rest {
-        out.push(b'.')?;
-        out.extend_from_slice(label.as_str().as_bytes())?;
-    }
-    Ok(())
-}
-
 /// Written as the byte 01 and the text, label after label: `a.b` is `01612e62`.
 impl Encode for PgLTree {
     ghost image = { tree_image };
 
     fn encode_by_ref(&self, out: &mut PgArgumentBuffer) -> Result<IsNull, CodecError> {
         out.push(VERSION)?;
-        write_labels(self.as_slice(), out)?;
+        print_labels(self.as_slice(), out)?;
         Ok(IsNull::No)
     }
 
@@ -100,24 +75,6 @@ fn read_text(alloc: Global, text: &str) -> Result<PgLTree, CodecError>
     Ok(PgLTree::from_str(alloc, text)?)
 }
 
-/// The text after the version.
-#[tactic(auto, using(crate::proofs::Text::whole_text))]
-fn text_of(form: &[u8]) -> Result<&str, CodecError>
-    ensures found { IfOk result (λ text. versioned form.now ≡ Some text.now) }
-    ensures none { IfErr result (λ e. (versioned form.now ≡ None) × (e ≡ version_fault form.now)) }
-{
-    let Some((version, text)) = form.split_first() else {
-        return Err(CodecError::Short);
-    };
-    if *version != VERSION {
-        return Err(CodecError::LTree(PgLTreeParseError::InvalidLtreeVersion));
-    }
-    match str::from_utf8(text) {
-        Ok(text) => Ok(text),
-        Err(_) => Err(CodecError::Utf8),
-    }
-}
-
 /// The tree of a version and a text.
 fn read_binary(alloc: Global, form: &[u8]) -> Result<PgLTree, CodecError>
     ensures exact { Answers (λ tree. tree) (tree_in_binary form.now) result }
@@ -125,7 +82,8 @@ fn read_binary(alloc: Global, form: &[u8]) -> Result<PgLTree, CodecError>
     ensures refused { IfErr result (λ e. Refuses e (e ≡ tree_binary_refusal form.now)) }
     ensures refused_exactly { text_takes (versioned form.now) ≡ false → IfErr result (λ e. e ≡ tree_binary_refusal form.now) }
 {
-    let text = text_of(form)?;
+    let wrong_version = CodecError::LTree(PgLTreeParseError::InvalidLtreeVersion);
+    let text = text_after_version(form, wrong_version)?;
     read_text(alloc, text)
 }
 

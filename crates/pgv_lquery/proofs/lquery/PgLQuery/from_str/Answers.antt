@@ -5,11 +5,13 @@ use Rattle.std.proofs.lemmas.Iterator.Splits.{YieldsList-from_str_split}
 use Rattle.std.proofs.lemmas.List.{map_push}
 use Rattle.std.specs.List.{slice_split}
 use Rattle.std.specs.Prelude.{◌==◌}
+use Rattle.pgv_codec.proofs.Refusing.{not_both}
 use Rattle.pgv_value.specs.declared.tree_error.PgLQueryParseError.TheVariants.{Memory}
 use Rattle.pgv_ltree.specs.Each.{read_each}
-use Rattle.pgv_ltree.proofs.EachRead.{each-push, each-refused}
-use Rattle.pgv_lquery.specs.QueryRead.{level_read}
+use Rattle.pgv_ltree.proofs.EachRead.{each-push, each-refused, first_now, refused_by_one}
+use Rattle.pgv_lquery.specs.QueryRead.{begins_level, level_read}
 use Rattle.pgv_lquery.specs.LevelView.{level_of}
+use Rattle.pgv_lquery.proofs.Begun.{level_passes}
 use Rattle.pgv_lquery.proofs.lquery.PgLQuery.from_str.Goals as goal
 
 pub returns-in_err-from_str-clause-err : goal.returns-in_err-from_str-clause-err
@@ -19,6 +21,23 @@ returns-in_err-from_str-clause-err c =
     let so_far = YieldsList-so_far chain c.loop-level.yielded _ c.loop-level.yielded_by in
     let p = err_from_is_err_and c.from_residual.result c.from_residual.ensures.1 in
     rw (p.1, p.2) (each-refused level_read Memory (slice_split (λ c. c == 46) c.args.text.now) _ (map level_of c.loop-level.levels.items) (length c.loop-level.yielded) c.in-Some.level.now c.in_err-from_str.field-0.0 so_far t.0 t.1 c.loop-level.invariant.2 c.in_err-from_str.ensures.err)
+
+pub returns-in_err-from_str-clause-refused_exactly : goal.returns-in_err-from_str-clause-refused_exactly
+returns-in_err-from_str-clause-refused_exactly c isnt =
+    let chain = YieldsList-from_str_split 46 c.args.text.now (lit< tt) (cc) (cc) (cc) in
+    let t = YieldsList-turn chain c.loop-level.yielded _ c.loop-level.yielded_by _ _ c.in-Some.level c.in-Some.is c.next.ensures.steps in
+    let so_far = YieldsList-so_far chain c.loop-level.yielded _ c.loop-level.yielded_by in
+    let none = first_now level_read begins_level level_passes (slice_split (λ c. c == 46) c.args.text.now) _ (map level_of c.loop-level.levels.items) (length c.loop-level.yielded) c.in-Some.level.now so_far t.0 t.1 c.loop-level.invariant.2 isnt in
+    let p = err_from_is_err_and c.from_residual.result c.from_residual.ensures.1 in
+    rw (p.1, p.2) (refused_by_one level_read (slice_split (λ c. c == 46) c.args.text.now) _ (map level_of c.loop-level.levels.items) (length c.loop-level.yielded) c.in-Some.level.now c.in_err-from_str.field-0.0 so_far t.0 t.1 c.loop-level.invariant.2 (c.in_err-from_str.ensures.refused_exactly none))
+
+pub returns-in_err-push-clause-refused_exactly : goal.returns-in_err-push-clause-refused_exactly
+returns-in_err-push-clause-refused_exactly c isnt =
+    let chain = YieldsList-from_str_split 46 c.args.text.now (lit< tt) (cc) (cc) (cc) in
+    let t = YieldsList-turn chain c.loop-level.yielded _ c.loop-level.yielded_by _ _ c.in-Some.level c.in-Some.is c.next.ensures.steps in
+    let so_far = YieldsList-so_far chain c.loop-level.yielded _ c.loop-level.yielded_by in
+    let none = first_now level_read begins_level level_passes (slice_split (λ c. c == 46) c.args.text.now) _ (map level_of c.loop-level.levels.items) (length c.loop-level.yielded) c.in-Some.level.now so_far t.0 t.1 c.loop-level.invariant.2 isnt in
+    absurd (not_both (begins_level c.in-Some.level.now) (level_passes c.in-Some.level.now (level_of c.in_ok-from_str.field-0) c.in_ok-from_str.ensures.ok) none)
 
 pub loop-level-preserved : goal.loop-level-preserved
 loop-level-preserved c =

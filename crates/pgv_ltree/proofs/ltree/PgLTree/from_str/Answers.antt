@@ -5,9 +5,9 @@ use Rattle.std.proofs.lemmas.Iterator.Splits.{YieldsList-from_str_split}
 use Rattle.std.proofs.lemmas.List.{map_push}
 use Rattle.pgv_value.specs.declared.tree_error.PgLTreeParseError.TheVariants.{Memory}
 use Rattle.pgv_ltree.specs.Each.{read_each}
-use Rattle.pgv_ltree.specs.Labels.{label_read}
+use Rattle.pgv_ltree.specs.Labels.{is_label, label_read}
 use Rattle.pgv_ltree.specs.Trees.{parts}
-use Rattle.pgv_ltree.proofs.EachRead.{each-push, each-refused, first_now, unread_label}
+use Rattle.pgv_ltree.proofs.EachRead.{each-push, each-refused, first_now, read_is_label, unread_label}
 use Rattle.pgv_ltree.proofs.ltree.PgLTree.from_str.Goals as goal
 
 pub returns-in_err-from_str-clause-err : goal.returns-in_err-from_str-clause-err
@@ -34,7 +34,7 @@ returns-in_err-from_str-clause-refused_exactly c isnt =
     let chain = YieldsList-from_str_split 46 c.args.text.now (lit< tt) (cc) (cc) (cc) in
     let t = YieldsList-turn chain c.loop-label.yielded _ c.loop-label.yielded_by _ _ c.in-Some.label c.in-Some.is c.next.ensures.steps in
     let so_far = YieldsList-so_far chain c.loop-label.yielded _ c.loop-label.yielded_by in
-    let none = first_now (parts c.args.text.now) _ c.loop-label.labels.items (length c.loop-label.yielded) c.in-Some.label.now so_far t.0 t.1 c.loop-label.invariant.2 isnt in
+    let none = first_now label_read is_label read_is_label (parts c.args.text.now) _ c.loop-label.labels.items (length c.loop-label.yielded) c.in-Some.label.now so_far t.0 t.1 c.loop-label.invariant.2 isnt in
     let p = err_from_is_err_and c.from_residual.result c.from_residual.ensures.1 in
     rw (p.1, p.2) (c.in_err-from_str.ensures.refused_exactly none)
 
@@ -43,5 +43,5 @@ returns-in_err-push-clause-refused_exactly c isnt =
     let chain = YieldsList-from_str_split 46 c.args.text.now (lit< tt) (cc) (cc) (cc) in
     let t = YieldsList-turn chain c.loop-label.yielded _ c.loop-label.yielded_by _ _ c.in-Some.label c.in-Some.is c.next.ensures.steps in
     let so_far = YieldsList-so_far chain c.loop-label.yielded _ c.loop-label.yielded_by in
-    let none = first_now (parts c.args.text.now) _ c.loop-label.labels.items (length c.loop-label.yielded) c.in-Some.label.now so_far t.0 t.1 c.loop-label.invariant.2 isnt in
+    let none = first_now label_read is_label read_is_label (parts c.args.text.now) _ c.loop-label.labels.items (length c.loop-label.yielded) c.in-Some.label.now so_far t.0 t.1 c.loop-label.invariant.2 isnt in
     unread_label c.in-Some.label.now c.in_ok-from_str.field-0 none c.in_ok-from_str.ensures.ok

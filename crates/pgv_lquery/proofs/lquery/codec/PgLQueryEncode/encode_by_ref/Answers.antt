@@ -5,4 +5,4 @@ use Rattle.pgv_lquery.proofs.lquery.codec.PgLQueryEncode.encode_by_ref.Goals as 
 
 pub returns-clause-ok : goal.returns-clause-ok
 returns-clause-ok c =
-    written_query c.args.out.now c.push.new.self c.append_levels.new.out c.args.self.now (map level_of c.as_slice.result.now) c.as_slice.ensures c.in_ok-append_levels.ensures.levels c.in_ok-push.ensures.ok c.in_ok-append_levels.ensures.ok
+    written_query c.args.out.now c.push.new.self c.print_levels.new.out c.args.self.now (map level_of c.as_slice.result.now) c.as_slice.ensures c.in_ok-print_levels.ensures.levels c.in_ok-push.ensures.ok c.in_ok-print_levels.ensures.ok

@@ -3,4 +3,4 @@ use Rattle.pgv_ltree.proofs.ltree.codec.PgLTreeEncode.encode_by_ref.Goals as goa
 
 pub returns-clause-ok : goal.returns-clause-ok
 returns-clause-ok c =
-    written_tree c.args.out.now c.push.new.self c.write_labels.new.out c.args.self.now c.as_slice.result.now c.as_slice.ensures c.in_ok-write_labels.ensures.labels c.in_ok-push.ensures.ok c.in_ok-write_labels.ensures.ok
+    written_tree c.args.out.now c.push.new.self c.print_labels.new.out c.args.self.now c.as_slice.result.now c.as_slice.ensures c.in_ok-print_labels.ensures.labels c.in_ok-push.ensures.ok c.in_ok-print_labels.ensures.ok

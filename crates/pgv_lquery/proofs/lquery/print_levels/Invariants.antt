@@ -1,15 +1,14 @@
-use Rattle.std.proofs.Common.{◌≡◌, ◌++◌, ◌∷◌, get_or, take, map, true, None}
-use Rattle.pgv_buf.specs.Tokens.{blank, bytes}
+use Rattle.std.proofs.Common.{◌≡◌, ◌∷◌, get_or, take, map, true, None}
 use Rattle.pgv_lquery.specs.LevelView.{level_of}
 use Rattle.pgv_lquery.specs.Queries.{is_query}
 use Rattle.pgv_lquery.specs.QueryPrinted.{printed_query}
 use Rattle.pgv_lquery.specs.declared.level.PgLQueryLevel.TheVariants.{Star}
-use Rattle.pgv_lquery.proofs.lquery.codec.append_levels.Given as goal
+use Rattle.pgv_lquery.proofs.lquery.print_levels.Given as goal
 
 -- the levels so far
 abbrev pub invariant-loop-level : goal.invariant-loop-level
-invariant-loop-level l =
+invariant-loop-level g l =
     record {
       levels : is_query (level_of (get_or l.levels 0 (Star None None)) ∷ map level_of (take l.level-index l.rest)) ≡ true;
-      written : l.out ≡ l.fn.out ++ blank (bytes (printed_query (level_of (get_or l.levels 0 (Star None None)) ∷ map level_of (take l.level-index l.rest))));
+      written : g.S.Sink.took l.fn.out (printed_query (level_of (get_or l.levels 0 (Star None None)) ∷ map level_of (take l.level-index l.rest))) l.out;
     }

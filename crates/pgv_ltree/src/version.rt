@@ -1,0 +1,27 @@
+//! The version that a text is written after, of trees and of their queries (PostgreSQL, "ltree").
+
+ghost use Rattle.std.specs.Prelude.{◌≡◌, IfOk, IfErr, None, Some};
+ghost use Rattle.pgv_ltree.specs.TreesCodec.{versioned, version_fault};
+
+use pgv_value::CodecError;
+
+/// The version that the binary form begins with.
+pub const VERSION: u8 = 1;
+
+/// The text after the version. No bytes are refused with C15, another version as given here, and other bytes than UTF-8 with C14.
+#[tactic(auto, using(crate::proofs::Text::whole_text))]
+pub fn text_after_version(form: &[u8], wrong_version: CodecError) -> Result<&str, CodecError>
+    ensures found { IfOk result (λ text. versioned form.now ≡ Some text.now) }
+    ensures none { IfErr result (λ e. (versioned form.now ≡ None) × (e ≡ version_fault wrong_version form.now)) }
+{
+    let Some((version, text)) = form.split_first() else {
+        return Err(CodecError::Short);
+    };
+    if *version != VERSION {
+        return Err(wrong_version);
+    }
+    match str::from_utf8(text) {
+        Ok(text) => Ok(text),
+        Err(_) => Err(CodecError::Utf8),
+    }
+}
