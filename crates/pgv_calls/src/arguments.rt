@@ -1,13 +1,12 @@
 //! Rows of calls on the arguments of a statement.
 
-use crate::again::{Again, same, told};
-use crate::called::Called;
+use crate::first::shown;
 use crate::own::{Bounds, Listed, Stop};
-use crate::readings::shown;
 use jiff::civil::{Date, date};
 use pgv::types::{PgLTree, PgRange};
 use pgv::{CodecError, Encode, Oid, PgArguments, PgType, PgTypeInfo, PgValueFormat, PgValueRef};
 use pgv_by_name::{Huge, MoodText, Size, size_ranges, type_of};
+use pgv_called::{Again, Called, same, told};
 use pgv_examples::empty_object::EmptyObject;
 use pgv_examples::household::Household;
 use pgv_examples::mood::Mood;
@@ -210,17 +209,33 @@ fn with_slots_filled(alloc: Global, arguments: &PgArguments) -> Result<PgArgumen
     }
 }
 
+/// Whether types have the same names.
+fn same_names(
+    alloc: Global,
+    now: &[PgTypeInfo],
+    before: &[PgTypeInfo],
+) -> Result<bool, AllocError> {
+    let now = names(alloc, now)?;
+    let before = names(alloc, before)?;
+    Ok(now.as_str() == before.as_str())
+}
+
+/// Whether arguments have the same bytes where their slots are filled.
+fn same_slots(alloc: Global, now: &PgArguments, before: &PgArguments) -> Result<bool, AllocError> {
+    let now = with_slots_filled(alloc, now)?;
+    let before = with_slots_filled(alloc, before)?;
+    Ok(now.buffer().as_slice() == before.buffer().as_slice())
+}
+
 /// Whether arguments are as they were: with the same bytes, types, holes and slots.
 fn unmoved(alloc: Global, now: &PgArguments, before: &PgArguments) -> Result<bool, AllocError> {
-    let now_filled = with_slots_filled(alloc, now)?;
-    let before_filled = with_slots_filled(alloc, before)?;
-    Ok(
-        now.buffer().as_slice() == before.buffer().as_slice()
-            && now_filled.buffer().as_slice() == before_filled.buffer().as_slice()
-            && names(alloc, now.types())?.as_str() == names(alloc, before.types())?.as_str()
-            && names(alloc, now.hole_types())?.as_str()
-                == names(alloc, before.hole_types())?.as_str(),
-    )
+    if now.buffer().as_slice() != before.buffer().as_slice() || !same_slots(alloc, now, before)? {
+        return Ok(false);
+    }
+    if !same_names(alloc, now.types(), before.types())? {
+        return Ok(false);
+    }
+    same_names(alloc, now.hole_types(), before.hole_types())
 }
 
 /// Whether a call on arguments, which a refusal has to leave as they were, answers what is wanted.
@@ -433,20 +448,25 @@ fn changed_or_asked(
     }
 }
 
-impl Called for PgArguments {
+/// Arguments that rows change.
+#[derive(Drop)]
+pub struct Arguments(pub PgArguments);
+
+impl Called for Arguments {
     fn holds(&mut self, alloc: Global, call: &str, wanted: &str) -> Result<bool, Again> {
+        let arguments = &mut self.0;
         if let Some(name) = call.strip_prefix("add ") {
-            return added(alloc, self, name, wanted);
+            return added(alloc, arguments, name, wanted);
         }
         if let Some(given) = call.strip_prefix("fill ") {
-            return filled(alloc, self, given, wanted);
+            return filled(alloc, arguments, given, wanted);
         }
         if let Some(reading) = call.strip_prefix("first ") {
-            return first(alloc, self, reading, wanted);
+            return first(alloc, arguments, reading, wanted);
         }
         if let Some(depth) = call.strip_prefix("stop ") {
-            return stopped(alloc, self, depth);
+            return stopped(alloc, arguments, depth);
         }
-        changed_or_asked(alloc, self, call, wanted)
+        changed_or_asked(alloc, arguments, call, wanted)
     }
 }

@@ -1,13 +1,12 @@
 //! Rows of calls on a buffer, with the pieces that callers' own encoders write.
 
-use crate::again::{Again, refused, same};
 use crate::arguments::names;
-use crate::called::Called;
 use pgv::types::PgRange;
 use pgv::{
     CodecError, Oid, PgArgumentBuffer, PgRecordEncoder, PgTypeInfo, encode_array, encode_text,
 };
 use pgv_by_name::{Huge, Size, sizes};
+use pgv_called::{Again, Called, refused, same};
 use pgv_examples::empty_object::push_version;
 use pgv_examples::mood::Mood;
 use std::alloc::Global;
@@ -121,19 +120,24 @@ fn written(
     }
 }
 
-impl Called for PgArgumentBuffer {
+/// A buffer that rows change.
+#[derive(Drop)]
+pub struct Buffer(pub PgArgumentBuffer);
+
+impl Called for Buffer {
     fn holds(&mut self, alloc: Global, call: &str, wanted: &str) -> Result<bool, Again> {
+        let buffer = &mut self.0;
         match call {
-            "bytes" | "holes" | "len" => same(asked(alloc, self, call), wanted),
+            "bytes" | "holes" | "len" => same(asked(alloc, buffer, call), wanted),
             "copy" => {
-                *self = self.clone()?;
+                *buffer = buffer.clone()?;
                 Ok(wanted == "ok")
             }
             "clear" => {
-                self.clear();
+                buffer.clear();
                 Ok(wanted == "ok")
             }
-            _ => written(alloc, self, call, wanted),
+            _ => written(alloc, buffer, call, wanted),
         }
     }
 }

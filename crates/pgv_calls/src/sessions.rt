@@ -1,8 +1,7 @@
 //! Lines of the program `pgvalue`, run as one session.
 
-use crate::again::Again;
-use crate::readings::bytes_of;
 use pgv::{RunFault, run};
+use pgv_called::{Again, bytes_of};
 use std::alloc::Global;
 use std::io::{self, Write};
 

@@ -1,7 +1,5 @@
 //! Rows of calls that take no memory: what they need is made by the row `make`, which stands first.
 
-use crate::again::Again;
-use crate::called::Called;
 use bytes::Bytes;
 use jiff::civil::{Date, DateTime, Time};
 use jiff::{SignedDuration, Timestamp};
@@ -16,6 +14,7 @@ use pgv::{
     read_i16, read_i32, read_i64, read_instant, read_interval, read_ip_address, read_ip_network,
     read_oid, read_time, read_uuid,
 };
+use pgv_called::{Again, Called};
 use pgv_examples::empty_object::EmptyObject;
 use std::alloc::Global;
 use std::net::{IpAddr, Ipv4Addr, Ipv6Addr};
@@ -76,15 +75,20 @@ fn readers() -> bool {
         && read_interval(&binary(&[0; 16], PgType::Interval)).is_ok()
 }
 
-/// Plain readers of times and addresses.
-fn more_readers() -> bool {
-    read_i8(&binary(b"\x07", PgType::Char)).is_ok_and(|found| found == 7)
-        && read_date(&text("2000-01-01", PgType::Date)).is_ok()
+/// Plain readers of times.
+fn readers_of_times() -> bool {
+    read_date(&text("2000-01-01", PgType::Date)).is_ok()
         && read_time(&binary(&[0; 8], PgType::Time)).is_ok()
         && read_date_time(&text("2000-01-01 00:00:00", PgType::Timestamp)).is_ok()
         && read_instant(&binary(&[0; 8], PgType::Timestamptz)).is_ok()
+}
+
+/// Plain readers of times, of addresses and of `"char"`.
+fn more_readers() -> bool {
+    read_i8(&binary(b"\x07", PgType::Char)).is_ok_and(|found| found == 7)
         && read_ip_network(&text("10.0.0.0/8", PgType::Inet)).is_ok()
         && read_ip_address(&text("10.0.0.1", PgType::Inet)).is_ok()
+        && readers_of_times()
 }
 
 /// Whole texts that are read.

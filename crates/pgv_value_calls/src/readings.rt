@@ -2,15 +2,12 @@
 //! or `null text`. ANSWER is the value as `Debug` shows it, or what it is written as where its Rust type has no `Debug`, or the number of
 //! the refusal.
 
-use crate::again::Again;
-use crate::called::Called;
 use jiff::Timestamp;
 use jiff::civil::{Date, DateTime};
 use pgv::types::{BitVec, MacAddress, PgByteaArray, PgLTree, PgRange, PgTimeTz};
-use pgv::{
-    CodecError, Decode, Encode, Oid, PgArgumentBuffer, PgTypeInfo, PgValueFormat, PgValueRef,
-};
+use pgv::{Oid, PgTypeInfo, PgValueFormat, PgValueRef};
 use pgv_by_name::{SizeRange, type_of};
+use pgv_called::{Again, Called, bytes_of, read_again as again, read_shown as debug};
 use pgv_examples::email::Email;
 use pgv_examples::empty_object::EmptyObject;
 use pgv_examples::mood::Mood;
@@ -19,49 +16,11 @@ use pgv_examples::pair::Pair;
 use pgv_examples::percent::Percent;
 use pgv_examples::user_id::UserId;
 use std::alloc::Global;
-use std::fmt::Debug;
 use std::net::IpAddr;
 use uuid::Uuid;
 
-/// The number of a refusal, as in `C15`.
-fn number(alloc: Global, error: &CodecError) -> Result<String, Again> {
-    match error.code() {
-        1 => Err(Again),
-        number => Ok(format!(in alloc; "C{number}")?),
-    }
-}
-
-/// What is written of a value, in hex, or the number of the refusal.
-pub fn written<T: Encode>(alloc: Global, value: &T) -> Result<String, Again> {
-    let mut out = PgArgumentBuffer::new(alloc);
-    match value.encode_by_ref(&mut out) {
-        Ok(_) => Ok(hex::encode(alloc, out.as_slice())?),
-        Err(error) => number(alloc, &error),
-    }
-}
-
-/// What is written of the value that is read, or the number of the refusal.
-fn again<T: Decode + Encode>(alloc: Global, value: PgValueRef<'_>) -> Result<String, Again> {
-    match T::decode(alloc, value) {
-        Ok(value) => written(alloc, &value),
-        Err(error) => number(alloc, &error),
-    }
-}
-
-/// The value that is read as `Debug` shows it, or the refusal by its number and as `Debug` shows it.
-fn debug<T: Decode + Debug>(alloc: Global, value: PgValueRef<'_>) -> Result<String, Again> {
-    match T::decode(alloc, value) {
-        Ok(value) => Ok(format!(in alloc; "{value:?}")?),
-        Err(CodecError::Memory) => Err(Again),
-        Err(error) => {
-            let number = error.code();
-            Ok(format!(in alloc; "C{number} {error:?}")?)
-        }
-    }
-}
-
 /// What is read of a value at the Rust type of this name.
-pub fn shown(alloc: Global, name: &str, value: PgValueRef<'_>) -> Result<String, Again> {
+fn shown(alloc: Global, name: &str, value: PgValueRef<'_>) -> Result<String, Again> {
     if name.starts_with("Vec") {
         return lists(alloc, name, value);
     }
@@ -204,11 +163,6 @@ fn shown_part(
     };
     let bytes = bytes_of(alloc, digits)?;
     shown_of(alloc, name, type_info, Some(bytes.as_slice()), format)
-}
-
-/// The bytes of hex digits.
-pub fn bytes_of(alloc: Global, digits: &str) -> Result<Vec<u8>, Again> {
-    hex::decode(alloc, digits.as_bytes()).or(Err(Again))
 }
 
 /// What rows of this kind call.

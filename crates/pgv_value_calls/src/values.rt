@@ -1,8 +1,5 @@
 //! Rows of calls that make, copy or write a value.
 
-use crate::again::{Again, same};
-use crate::called::Called;
-use crate::readings::{bytes_of, written};
 use bytes::Bytes;
 use jiff::SignedDuration;
 use pgv::types::{PgBytea, PgByteaArray, PgNumeric, PgNumericSign, PgRange};
@@ -11,6 +8,7 @@ use pgv::{
     PgValueFormat, PgValueRef,
 };
 use pgv_by_name::sizes;
+use pgv_called::{Again, Called, bytes_of, same, written};
 use std::alloc::{AllocError, Global};
 use std::rc::{RcSlice, RcStr};
 use std::time::Duration;
@@ -37,11 +35,15 @@ fn lent(alloc: Global, value: &PgValueRef<'_>) -> Result<String, CodecError> {
     Ok(format!(in alloc; "{bytes} {is_text}")?)
 }
 
-/// The name of the type of a copy, its bytes in hex, and whether it is a text.
+/// The name of the type of a value, its bytes in hex, and whether it is a text.
+fn named(alloc: Global, value: &PgValue) -> Result<String, CodecError> {
+    let lent = lent(alloc, &value.as_ref()?)?;
+    Ok(format!(in alloc; "{} {lent}", value.type_info())?)
+}
+
+/// The same of a copy.
 fn owned(alloc: Global, value: &PgValue) -> Result<String, CodecError> {
-    let copy = value.clone()?;
-    let lent = lent(alloc, &copy.as_ref()?)?;
-    Ok(format!(in alloc; "{} {lent}", copy.type_info())?)
+    named(alloc, &value.clone()?)
 }
 
 /// One field, `x` of the type `int4`.

@@ -1,10 +1,8 @@
 //! Rows of calls on bits.
 
-use crate::again::{Again, told};
-use crate::called::Called;
-use crate::readings::{bytes_of, written};
 use pgv::CodecError;
 use pgv::types::BitVec;
+use pgv_called::{Again, Called, bytes_of, told, written};
 use std::alloc::{AllocError, Global};
 
 /// Appends a bit.
@@ -36,23 +34,36 @@ fn pushed(bits: &mut BitVec, bit: bool, wanted: &str) -> Result<bool, Again> {
     told(answer, unmoved, wanted)
 }
 
-impl Called for BitVec {
+/// The bits of a call that makes some.
+fn made(alloc: Global, call: &str) -> Result<Option<BitVec>, Again> {
+    if let Some(digits) = call.strip_prefix("of bytes ") {
+        let bytes = bytes_of(alloc, digits)?;
+        return Ok(Some(BitVec::from_bytes(alloc, bytes.as_slice())?));
+    }
+    match call.strip_prefix("of ") {
+        Some(digits) => Ok(Some(bits_of(alloc, digits)?)),
+        None => Ok(None),
+    }
+}
+
+/// Bits that rows change.
+#[derive(Drop)]
+pub struct Bits(pub BitVec);
+
+impl Called for Bits {
     fn holds(&mut self, alloc: Global, call: &str, wanted: &str) -> Result<bool, Again> {
+        let bits = &mut self.0;
         if let Some(bit) = call.strip_prefix("push ") {
-            return pushed(self, bit == "1", wanted);
+            return pushed(bits, bit == "1", wanted);
         }
-        if let Some(digits) = call.strip_prefix("of bytes ") {
-            *self = BitVec::from_bytes(alloc, bytes_of(alloc, digits)?.as_slice())?;
-            return Ok(wanted == "ok");
-        }
-        if let Some(digits) = call.strip_prefix("of ") {
-            *self = bits_of(alloc, digits)?;
+        if let Some(made) = made(alloc, call)? {
+            *bits = made;
             return Ok(wanted == "ok");
         }
         match call {
-            "pop" => Ok(self.pop() == Some(wanted == "1")),
-            "bytes" => Ok(bytes(alloc, self)?.as_str() == wanted),
-            _ => Ok(written(alloc, self)?.as_str() == wanted),
+            "pop" => Ok(bits.pop() == Some(wanted == "1")),
+            "bytes" => Ok(bytes(alloc, bits)?.as_str() == wanted),
+            _ => Ok(written(alloc, bits)?.as_str() == wanted),
         }
     }
 }

@@ -1,13 +1,12 @@
 //! Rows of calls that read a text: `FORM TEXT => ANSWER`. The parts of a nest are in brackets, or `null`; behind the bounds of a range stands
 //! whether its brackets include them.
 
-use crate::again::{Again, same};
-use crate::called::Called;
 use pgv::text::{Parts, RangeText, TextForm, array_elements, range_parts, record_fields};
 use pgv::types::{
     PgCiText, PgLQuery, PgLQueryLevel, PgLQueryParseError, PgLQueryVariant, PgLTree, PgLTreeLabel,
 };
 use pgv::{CodecError, PgRecordDecoder, PgType, PgTypeInfo, PgValueFormat, PgValueRef};
+use pgv_called::{Again, Called, same};
 use std::alloc::{AllocError, Global};
 
 /// A part in brackets, or `null`, with a space in front but for the first.
@@ -112,6 +111,18 @@ fn field(record: &mut PgRecordDecoder<'_>) -> Result<Option<String>, CodecError>
     }
 }
 
+/// Two parts.
+fn two_parts(
+    alloc: Global,
+    first: Option<&str>,
+    second: Option<&str>,
+) -> Result<String, AllocError> {
+    let mut out = String::new(alloc);
+    push_part(&mut out, first)?;
+    push_part(&mut out, second)?;
+    Ok(out)
+}
+
 /// The first two fields of a record, which are texts.
 fn two_fields(alloc: Global, text: &str) -> Result<String, CodecError> {
     let value = PgValueRef::new(
@@ -122,10 +133,9 @@ fn two_fields(alloc: Global, text: &str) -> Result<String, CodecError> {
     let mut record = PgRecordDecoder::new(alloc, value)?;
     let first = field(&mut record)?;
     let second = field(&mut record)?;
-    let mut out = String::new(alloc);
-    push_part(&mut out, first.as_ref().map(|part| part.as_str()))?;
-    push_part(&mut out, second.as_ref().map(|part| part.as_str()))?;
-    Ok(out)
+    let first = first.as_ref().map(|part| part.as_str());
+    let second = second.as_ref().map(|part| part.as_str());
+    Ok(two_parts(alloc, first, second)?)
 }
 
 /// What is printed of the query of a text, or the text of the refusal where it is fixed.

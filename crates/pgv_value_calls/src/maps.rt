@@ -1,9 +1,7 @@
 //! Rows of calls on a map of texts.
 
-use crate::again::Again;
-use crate::called::Called;
-use crate::readings::written;
 use pgv::types::PgHstore;
+use pgv_called::{Again, Called, written};
 use std::alloc::{AllocError, Global};
 
 /// The pairs of words as in `name=Jane` and, for null, `name`.
@@ -45,22 +43,27 @@ fn keys(alloc: Global, map: &PgHstore) -> Result<String, AllocError> {
     Ok(text)
 }
 
-impl Called for PgHstore {
+/// A map that rows change.
+#[derive(Drop)]
+pub struct Map(pub PgHstore);
+
+impl Called for Map {
     fn holds(&mut self, alloc: Global, call: &str, wanted: &str) -> Result<bool, Again> {
+        let map = &mut self.0;
         if let Some(text) = call.strip_prefix("of present ") {
-            *self = PgHstore::try_from_pairs(alloc, present_pairs(alloc, text)?)?;
+            *map = PgHstore::try_from_pairs(alloc, present_pairs(alloc, text)?)?;
             return Ok(wanted == "ok");
         }
         if let Some(text) = call.strip_prefix("of ") {
-            *self = PgHstore::try_from_iter(alloc, pairs(alloc, text)?)?;
+            *map = PgHstore::try_from_iter(alloc, pairs(alloc, text)?)?;
             return Ok(wanted == "ok");
         }
         if call == "copy" {
-            return Ok((self.clone()? == *self) == (wanted == "same"));
+            return Ok((map.clone()? == *map) == (wanted == "same"));
         }
         if call == "keys" {
-            return Ok(keys(alloc, self)?.trim_ascii_end() == wanted);
+            return Ok(keys(alloc, map)?.trim_ascii_end() == wanted);
         }
-        Ok(written(alloc, self)?.as_str() == wanted)
+        Ok(written(alloc, map)?.as_str() == wanted)
     }
 }

@@ -1,9 +1,8 @@
 //! Rows of calls on a tree of labels.
 
-use crate::again::{Again, same, told};
-use crate::called::Called;
 use pgv::CodecError;
 use pgv::types::{PgLTree, PgLTreeLabel};
+use pgv_called::{Again, Called, same, told};
 use std::alloc::{AllocError, Global};
 
 /// The words of a text.
@@ -48,17 +47,22 @@ fn shown(alloc: Global, tree: &PgLTree) -> Result<String, CodecError> {
     Ok(format!(in alloc; "{tree}")?)
 }
 
-impl Called for PgLTree {
+/// A tree that rows change.
+#[derive(Drop)]
+pub struct Tree(pub PgLTree);
+
+impl Called for Tree {
     fn holds(&mut self, alloc: Global, call: &str, wanted: &str) -> Result<bool, Again> {
+        let tree = &mut self.0;
         if let Some(label) = call.strip_prefix("push ") {
-            let before = self.clone()?;
-            let answer = push(alloc, self, label);
-            return told(answer, *self == before, wanted);
+            let before = tree.clone()?;
+            let answer = push(alloc, tree, label);
+            return told(answer, *tree == before, wanted);
         }
         if let Some(labels) = call.strip_prefix("of ") {
             let answer = match tree_of(alloc, labels) {
-                Ok(tree) => {
-                    *self = tree;
+                Ok(made) => {
+                    *tree = made;
                     Ok(())
                 }
                 Err(error) => Err(error),
@@ -66,9 +70,9 @@ impl Called for PgLTree {
             return told(answer, true, wanted);
         }
         match call {
-            "pop" => Ok(popped(self, wanted)),
-            "again" => Ok((again(alloc, self)? == *self) == (wanted == "same")),
-            _ => same(shown(alloc, self), wanted),
+            "pop" => Ok(popped(tree, wanted)),
+            "again" => Ok((again(alloc, tree)? == *tree) == (wanted == "same")),
+            _ => same(shown(alloc, tree), wanted),
         }
     }
 }

@@ -1,9 +1,8 @@
 //! Rows of calls on a query of label trees.
 
-use crate::again::{Again, same, told};
-use crate::called::Called;
 use pgv::CodecError;
 use pgv::types::{PgLQuery, PgLQueryLevel, PgLQueryVariant};
+use pgv_called::{Again, Called, same, told};
 use std::alloc::{AllocError, Global};
 
 /// The query of these levels.
@@ -57,15 +56,20 @@ fn pushed(alloc: Global, query: &mut PgLQuery, level: &str, wanted: &str) -> Res
     told(answer, *query == before, wanted)
 }
 
-impl Called for PgLQuery {
+/// A query that rows change.
+#[derive(Drop)]
+pub struct Query(pub PgLQuery);
+
+impl Called for Query {
     fn holds(&mut self, alloc: Global, call: &str, wanted: &str) -> Result<bool, Again> {
+        let query = &mut self.0;
         if let Some(level) = call.strip_prefix("push ") {
-            return pushed(alloc, self, level, wanted);
+            return pushed(alloc, query, level, wanted);
         }
         if let Some(levels) = call.strip_prefix("of ") {
             let answer = match query_of(alloc, levels) {
-                Ok(query) => {
-                    *self = query;
+                Ok(made) => {
+                    *query = made;
                     Ok(())
                 }
                 Err(error) => Err(error),
@@ -73,10 +77,10 @@ impl Called for PgLQuery {
             return told(answer, true, wanted);
         }
         match call {
-            "pop" => Ok(self.pop().is_some() == (wanted == "some")),
-            "again" => Ok((again(alloc, self)? == *self) == (wanted == "same")),
-            "last" => same(last(alloc, self), wanted),
-            _ => same(shown(alloc, self), wanted),
+            "pop" => Ok(query.pop().is_some() == (wanted == "some")),
+            "again" => Ok((again(alloc, query)? == *query) == (wanted == "same")),
+            "last" => same(last(alloc, query), wanted),
+            _ => same(shown(alloc, query), wanted),
         }
     }
 }

@@ -1,0 +1,16 @@
+//! What `pgv_calls` and `pgv_value_calls` share: rows of calls, the blocks that they stand in, and what is said of an answer. It promises
+//! nothing but to be safe.
+#![tactic(auto)]
+
+mod again;
+mod blocks;
+mod called;
+mod fault;
+mod input;
+mod values;
+
+pub use again::{Again, refused, same, told};
+pub use blocks::{Blocks, compared};
+pub use called::{Called, differing};
+pub use fault::Fault;
+pub use values::{bytes_of, read_again, read_shown, written};

@@ -1,0 +1,52 @@
+//! `pgv_value_calls`: makes the calls of the rows of standard input on values, as `pgv_calls` makes those on arguments: readings, texts,
+//! values of our own types. See there for the form of the rows.
+#![tactic(auto)]
+
+mod bits;
+mod maps;
+mod queries;
+mod readings;
+mod texts;
+mod trees;
+mod values;
+
+use crate::bits::Bits;
+use crate::maps::Map;
+use crate::queries::Query;
+use crate::readings::Readings;
+use crate::texts::Texts;
+use crate::trees::Tree;
+use crate::values::Values;
+use pgv::types::{BitVec, PgHstore, PgLQuery, PgLTree};
+use pgv_called::{Blocks, compared, differing};
+use std::alloc::Global;
+use std::process::ExitCode;
+
+/// Calls on values.
+struct Calls;
+
+impl Blocks for Calls {
+    fn first_differing<'a>(&self, alloc: Global, kind: &'a str, rows: &'a str) -> Option<&'a str> {
+        match kind {
+            "readings" => differing(alloc, Readings, rows),
+            "texts" => differing(alloc, Texts, rows),
+            "values" => differing(alloc, Values, rows),
+            "tree" => differing(alloc, Tree(PgLTree::new(alloc)), rows),
+            "query" => differing(alloc, Query(PgLQuery::new(alloc)), rows),
+            "map" => differing(alloc, Map(PgHstore::new(alloc)), rows),
+            "bits" => differing(alloc, Bits(BitVec::new(alloc)), rows),
+            _ => Some(kind),
+        }
+    }
+}
+
+fn main(rt: HostRuntime) -> ExitCode {
+    match compared(&Calls, &rt) {
+        Ok(true) => ExitCode::SUCCESS,
+        Ok(false) => ExitCode::FAILURE,
+        Err(fault) => {
+            let _told = eprintln!(rt; "pgv_value_calls: {}", fault.text());
+            ExitCode::FAILURE
+        }
+    }
+}
