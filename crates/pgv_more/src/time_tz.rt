@@ -32,6 +32,7 @@ pub struct PgTimeTz {
 }
 
 /// The offset of seconds west of UTC, where they are less than a day.
+#[inline(always)]
 fn offset_west(west: i32) -> Option<Offset>
     ensures { option_map (λ offset. offset.seconds) result ≡ other_way west }
 {
@@ -53,6 +54,7 @@ fn seconds_west(offset: Offset) -> Option<i32>
 }
 
 /// The two numbers of the first twelve bytes, whatever comes after them.
+#[inline(always)]
 fn numbers_of(form: &[u8]) -> Option<(i64, i32)>
     ensures { result ≡ two_numbers form.now }
 {
@@ -64,6 +66,7 @@ fn numbers_of(form: &[u8]) -> Option<(i64, i32)>
 }
 
 /// The time and the offset of bytes.
+#[inline(always)]
 fn of_bytes(form: &[u8]) -> Result<PgTimeTz, CodecError>
     ensures exact { AnswersExactly time_tz_numbers (time_tz_in_binary form.now) result }
     ensures refused { IfErr result (λ e. e ≡ offset_refusal (two_numbers form.now)) }
@@ -175,6 +178,7 @@ impl Plain for PgTimeTz {
 
     ghost kept = { time_tz_kept };
 
+    #[inline(always)]
     fn read(_alloc: Global, value: PgValueRef<'_>) -> Result<PgTimeTz, CodecError> {
         match value.format() {
             PgValueFormat::Binary => of_bytes(value.as_bytes()?),

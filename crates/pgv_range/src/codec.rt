@@ -39,6 +39,7 @@ impl<T: Encode> Encode for PgRange<T> {
 
     ghost unwritable = { range_refused T.hint T.image T.unwritable };
 
+    #[inline(always)]
     fn encode_by_ref(&self, out: &mut PgArgumentBuffer) -> Result<IsNull, CodecError> {
         match self {
             PgRange::Empty => encode_empty(out),

@@ -11,6 +11,7 @@ pub mod ContentText
 pub mod Values
 pub mod PartsLeftView
 pub mod PartsView
+pub mod PartFound
 pub mod RangeTextView
 pub mod Spellings
 pub mod FieldText

@@ -17,5 +17,5 @@ pub use dates::{date, date_time, instant, time, time_tz};
 pub use nest::{RangeText, array_elements, range_parts, record_fields};
 pub use network::{IpNetwork, Ipv4Network, Ipv6Network};
 pub use number::{NumberFault, bool_of, char_of, number_of, unsigned_number_of};
-pub use parts::Parts;
+pub use parts::{Part, Parts};
 pub use scanner::TextForm;

@@ -1,7 +1,7 @@
 //! The parts of a text, one by one.
 
 ghost use Rattle.std.specs.Prelude.{◌≡◌, ◌==◌, ◌+◌, ◌∷◌, [], ℕ, List, Option, Some, None, IfOk, IfSome, IfNone, OnErr, cond, string_bytes, false, true, length};
-ghost use Rattle.std.specs.Option.{MatchOption, option_map};
+ghost use Rattle.std.specs.Option.{MatchOption, option_copied, option_map};
 ghost use Rattle.std.specs.Str.{chars};
 ghost use Rattle.pgv_text.specs.ContentText.{Content, IsTextOf, content_of, is_empty_in, no_parts};
 ghost use Rattle.pgv_text.specs.Forms.{form_of};
@@ -10,9 +10,12 @@ ghost use Rattle.pgv_text.specs.NestText.{Nest, IsNestText};
 ghost use Rattle.pgv_text.specs.Parsed.{nest_of};
 ghost use Rattle.pgv_text.specs.Values.{part_bytes, values_of};
 ghost use Rattle.pgv_text.specs.PartsLeftView.{values_left};
+ghost use Rattle.pgv_text.specs.PartFound.{part_value};
 ghost use Rattle.pgv_text.specs.declared.scanner.Place.TheVariants.{Start};
 
-use super::scanner::{Cell, Place, TextForm, closes, is_nothing, next_stop, opens};
+use super::scanner::{
+    Cell, Place, Stop, TextForm, closes, is_never_special, is_nothing, next_stop, opens,
+};
 use std::alloc::{AllocError, Global};
 
 /// Whether a text is that of the empty range, in the form of ranges.
@@ -35,10 +38,35 @@ fn after_opening(form: TextForm, text: &str) -> Option<(u8, &str)>
     }
 }
 
+/// The same where nothing but usual bytes and commas stand before the bracket, else `None`. There is no branch at a comma: where
+/// they stand can't be foretold.
+fn usual_part_count(form: TextForm, bytes: &[u8]) -> Option<(usize, u8)>
+    ensures { IfSome result (λ found. Some found ≡ numbered 1 (read (form_of form) Start bytes.now)) }
+{
+    let mut count = 1;
+    let mut left = bytes;
+    while let [byte, rest @ ..] = left {
+        let comma = *byte == b',';
+        if !(comma | is_never_special(*byte)) {
+            return if rest.is_empty() && closes(form, *byte) {
+                Some((count, *byte))
+            } else {
+                None
+            };
+        }
+        count += comma as usize;
+        left = rest;
+    }
+    None
+}
+
 /// How many parts there are to the closing bracket, and which bracket it is; `None` where the rest isn't in the form.
 fn part_count(form: TextForm, text: &str) -> Option<(usize, u8)>
     ensures { result ≡ numbered 1 (read (form_of form) Start text.now) }
 {
+    if let Some(found) = usual_part_count(form, text.as_bytes()) {
+        return Some(found);
+    }
     let mut count = 1;
     let mut place = Place::Start;
     let mut left = text;
@@ -55,6 +83,33 @@ fn part_count(form: TextForm, text: &str) -> Option<(usize, u8)>
         }
     }
     None
+}
+
+/// The next part of a text, as [`Parts::next_borrowed`] finds it.
+#[derive(Clone, Copy, Drop)]
+pub enum Part<'a> {
+    /// It is null or absent.
+    Nothing,
+    /// These bytes, as they stand in the text.
+    Plain(&'a str),
+    /// What was put into the text that was handed in.
+    Unquoted,
+}
+
+impl<'a> Part<'a> {
+    /// The part, where this is the text that was handed in; `None` where it is null or absent.
+    #[inline(always)]
+    pub fn in_text<'t>(self, text: &'t str) -> Option<&'t str>
+    where
+        'a: 't,
+        ensures { option_copied result ≡ part_value self.entry text.now }
+    {
+        match self {
+            Part::Nothing => None,
+            Part::Plain(run) => Some(run),
+            Part::Unquoted => Some(text),
+        }
+    }
 }
 
 /// The parts of a text that are still to come. It takes no memory of its own.
@@ -195,6 +250,43 @@ impl<'a> Parts<'a> {
             }
         }
         Ok(None)
+    }
+
+    /// The next part: borrowed where it has no quote and no backslash, else put into a text. `None` after the last part. Out of
+    /// memory it leaves the parts as they were.
+    #[inline(always)]
+    pub fn next_borrowed(&mut self, text: &mut String) -> Result<Option<Part<'a>>, AllocError>
+        ensures next { IfOk result (λ found. MatchOption found (((nest self.old).values ≡ []) × (self.new ≡ self.old)) (λ part. (nest self.old).values ≡ part_value part (string_bytes text.new) ∷ (nest self.new).values)) }
+        ensures err { OnErr result (self.new ≡ self.old) }
+        ensures lower { (nest self.new).lower ≡ (nest self.old).lower }
+        ensures upper { (nest self.new).upper ≡ (nest self.old).upper }
+        ensures empty { is_of_empty self.new ≡ is_of_empty self.old }
+    {
+        if self.count == 0 {
+            return Ok(None);
+        }
+        match next_stop(self.form, Place::Start, self.rest) {
+            Some(Stop {
+                run,
+                cell: Cell::Part | Cell::End,
+                rest,
+                ..
+            }) => {
+                let part = if is_nothing(self.form, self.rest) {
+                    Part::Nothing
+                } else {
+                    Part::Plain(run)
+                };
+                self.count -= 1;
+                self.rest = rest;
+                Ok(Some(part))
+            }
+            _ => match self.next_into(text)? {
+                None => Ok(None),
+                Some(false) => Ok(Some(Part::Nothing)),
+                Some(true) => Ok(Some(Part::Unquoted)),
+            },
+        }
     }
 
     /// The next part, in a text of its own. Out of memory it leaves the parts as they were.

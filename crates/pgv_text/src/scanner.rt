@@ -155,7 +155,7 @@ fn class_of(form: TextForm, byte: u8) -> Class
 
 /// Whether a byte is one of the usual ones, letters, digits and no ASCII, that mean nothing in any form.
 #[inline(always)]
-fn is_never_special(byte: u8) -> bool
+pub fn is_never_special(byte: u8) -> bool
     ensures { result ≡ true → (form : TextForm) → class (form_of form) byte ≡ Other }
 {
     matches!(byte, b'-'..=b'Z' | b'^'..=b'z' | 128..)

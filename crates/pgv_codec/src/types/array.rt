@@ -292,7 +292,7 @@ fn read_text<T: Decode + Type>(alloc: Global, text: &str) -> Result<Vec<T>, Code
     }
 }
 
-/// Parts, each read from one text under the own type of `T`.
+/// Parts, each read under the own type of `T`.
 fn read_parts<T: Decode + Type>(alloc: Global, parts: Parts<'_>) -> Result<Vec<T>, CodecError>
     ensures exact { Answers (λ v. map T.meaning v.items) (each (T.reading T.info Text) (nest parts.entry).values) result }
     ensures refused { RefusedFor (each_refusal (T.reading T.info Text) (T.refusal T.info Text) (nest parts.entry).values) result }
@@ -300,8 +300,12 @@ fn read_parts<T: Decode + Type>(alloc: Global, parts: Parts<'_>) -> Result<Vec<T
     let mut parts = parts;
     let mut items = Vec::with_capacity(alloc, parts.len())?;
     let mut text = String::new(alloc);
-    while let Some(present) = parts.next_into(&mut text)? {
-        items.push(read_part(alloc, T::type_info(), present, text.as_str())?)?;
+    while let Some(part) = parts.next_borrowed(&mut text)? {
+        items.push(read_part(
+            alloc,
+            T::type_info(),
+            part.in_text(text.as_str()),
+        )?)?;
     }
     Ok(items)
 }

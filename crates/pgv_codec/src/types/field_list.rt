@@ -49,6 +49,7 @@ impl<A: Type + Decode> FieldList for (A,) {
 
     ghost why = { next_refusal A.accepts A.refusal };
 
+    #[inline(always)]
     fn read(fields: &mut PgRecordDecoder<'_>) -> Result<(A,), CodecError> {
         Ok((fields.try_decode::<A>()?,))
     }
@@ -68,6 +69,7 @@ impl<A: Type + Decode, Rest: FieldList> FieldList for (A, Rest) {
 
     ghost why = { field_then A.accepts A.reading A.refusal Rest.why };
 
+    #[inline(always)]
     fn read(fields: &mut PgRecordDecoder<'_>) -> Result<(A, Rest), CodecError> {
         let first = fields.try_decode::<A>()?;
         let rest = Rest::read(fields)?;
@@ -76,6 +78,7 @@ impl<A: Type + Decode, Rest: FieldList> FieldList for (A, Rest) {
 }
 
 /// The first fields of a record, as [`PgRecordDecoder`] reads them; further fields are ignored.
+#[inline(always)]
 pub fn first_fields<List: FieldList>(
     alloc: Global,
     value: PgValueRef<'_>,

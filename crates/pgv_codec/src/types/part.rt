@@ -1,6 +1,6 @@
 //! Parts of the texts of arrays and records.
 
-ghost use Rattle.std.specs.Prelude.{cond, Some, None};
+ghost use Rattle.std.specs.Option.{option_copied};
 ghost use Rattle.pgv_value.specs.Reading.{Answers};
 ghost use Rattle.pgv_value.specs.declared.value.PgValueFormat.TheVariants.{Text};
 ghost use Rattle.pgv_codec.specs.Refusing.{RefusedFor};
@@ -10,18 +10,20 @@ use pgv_types::PgTypeInfo;
 use pgv_value::{CodecError, PgValueFormat, PgValueRef};
 use std::alloc::Global;
 
-/// A part in text, or null where it isn't present, read under a type.
+/// A part in text, or null where there is none, read under a type.
 #[inline(always)]
 pub(crate) fn read_part<T: Decode>(
     alloc: Global,
     type_info: PgTypeInfo,
-    present: bool,
-    text: &str,
+    part: Option<&str>,
 ) -> Result<T, CodecError>
-    ensures exact { Answers T.meaning (T.reading type_info Text (cond present (Some text.now) None)) result }
-    ensures refused { RefusedFor (T.refusal type_info Text (cond present (Some text.now) None)) result }
+    ensures exact { Answers T.meaning (T.reading type_info Text (option_copied part.entry)) result }
+    ensures refused { RefusedFor (T.refusal type_info Text (option_copied part.entry)) result }
 {
-    let bytes = if present { Some(text.as_bytes()) } else { None };
+    let bytes = match part {
+        Some(text) => Some(text.as_bytes()),
+        None => None,
+    };
     T::decode(
         alloc,
         PgValueRef::new(bytes, type_info, PgValueFormat::Text),

@@ -136,7 +136,7 @@ struct BinaryFields<'r> {
     rest: &'r [u8],
 }
 
-/// The fields of a text that are left, how many it has in all, and the text that each is read from.
+/// The fields of a text that are left, how many it has in all, and the text that those in quotes are read from.
 #[derive(Drop)]
 struct TextFields<'r> {
     parts: Parts<'r>,
@@ -147,6 +147,7 @@ struct TextFields<'r> {
 impl<'r> PgRecordDecoder<'r> {
     /// The fields of a record. In binary the number of fields is passed over (C15 where it isn't there); a text is
     /// read whole (C14 where it is not UTF-8, C29 where it is no record text). Null is refused with C13, and nothing else is.
+    #[inline(always)]
     pub fn new(alloc: Global, value: PgValueRef<'r>) -> Result<Self, CodecError>
         ensures exact { AnswersExactly (λ d. d) (fields_of value.entry.type_info value.entry.format value.entry.bytes) result }
         ensures refused { IfErr result (λ e. e ≡ fields_refusal value.entry.type_info value.entry.format value.entry.bytes) }
@@ -173,6 +174,7 @@ impl<'r> PgRecordDecoder<'r> {
     /// end too early are C15, a field of another OID than that of the composite's field C26, an OID that is no
     /// built-in type's under `record` C28, a type that is no record C24, and a field's type that isn't compatible
     /// with `T` C27. In text a field is read without a type, and without a field left it is C25.
+    #[inline(always)]
     pub fn try_decode<T: Type + Decode>(&mut self) -> Result<T, CodecError>
         ensures exact { Takes T.meaning self.old self.new (next T.accepts T.reading self.old) result }
         ensures refused { RefusedFor (next_refusal T.accepts T.refusal self.old) result }
@@ -191,14 +193,13 @@ impl<'r> PgRecordDecoder<'r> {
             }
             FieldsLeft::Text(fields) => {
                 let mut parts = fields.parts;
-                let Some(present) = parts.next_into(&mut fields.text)? else {
+                let Some(part) = parts.next_borrowed(&mut fields.text)? else {
                     return Err(CodecError::NoField(fields.count));
                 };
                 let value = read_part::<T>(
                     self.alloc,
                     PgTypeInfo::with_oid(Oid(0)),
-                    present,
-                    fields.text.as_str(),
+                    part.in_text(fields.text.as_str()),
                 )?;
                 fields.parts = parts;
                 Ok(value)
@@ -208,6 +209,7 @@ impl<'r> PgRecordDecoder<'r> {
 }
 
 /// The fields of a record text.
+#[inline(always)]
 fn text_fields_of(alloc: Global, text: &str) -> Result<TextFields<'_>, CodecError>
     ensures exact { AnswersExactly (λ fields. (nest fields.parts).values) (record_values text.now) result }
     ensures refused { IfErr result (λ e. e ≡ Syntax) }

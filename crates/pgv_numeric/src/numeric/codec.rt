@@ -182,6 +182,7 @@ fn signed_at(form: &[u8], place: usize) -> i16
 }
 
 /// So many digits, of any value, whatever comes after them.
+#[inline(always)]
 fn read_digits(alloc: Global, count: u16, form: &[u8]) -> Result<Vec<i16>, CodecError>
     ensures exact { Answers (λ v. v.items) (digits_after count form.now) result }
     ensures refused { IfErr result (λ e. Refuses e (e ≡ Short)) }
@@ -210,6 +211,7 @@ fn sign_of(word: u16) -> Option<PgNumericSign>
 }
 
 /// The number of bytes.
+#[inline(always)]
 fn of_bytes(alloc: Global, form: &[u8]) -> Result<PgNumeric, CodecError>
     ensures exact { Answers numeric_of (numeric_in_binary form.now) result }
     ensures refused { IfErr result (λ e. Refuses e (e ≡ numeric_binary_refusal form.now)) }
@@ -253,6 +255,7 @@ impl Plain for PgNumeric {
 
     ghost refusal = { numeric_refusal };
 
+    #[inline(always)]
     fn read(alloc: Global, value: PgValueRef<'_>) -> Result<PgNumeric, CodecError> {
         let bytes = value.as_bytes()?;
         match value.format() {

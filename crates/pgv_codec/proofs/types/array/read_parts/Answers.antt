@@ -1,6 +1,8 @@
-use Rattle.std.proofs.Common.{◌≡◌, cond, map, sym, ap, ◌∙◌, Some, None, ℕ, List, ◌++◌, ◌∷◌, []}
+use Rattle.std.proofs.Common.{◌≡◌, map, sym, ap, ◌∙◌, Some, None, ℕ, List, ◌++◌, ◌∷◌, []}
+use Rattle.std.specs.Option.{option_copied}
 use Rattle.std.proofs.lemmas.List.{map_push}
 use Rattle.std.proofs.lemmas.Result.{err_from_is_err_and}
+use Rattle.pgv_text.specs.PartFound.{part_value}
 use Rattle.pgv_text.specs.PartsView.{nest}
 use Rattle.pgv_value.specs.FrameBinary.{Part}
 use Rattle.pgv_value.specs.Reading.{Refuses}
@@ -16,11 +18,11 @@ pub returns-in_err-read_part : goal.returns-in_err-read_part
 returns-in_err-read_part g c =
     let read = g.T.Decode.reading g.T.Type.info Text in
     let why = g.T.Decode.refusal g.T.Type.info Text in
-    let part : Part = cond c.in-Some.present (Some c.as_str.result.now) None in
-    let rest : List Part = (nest c.next_into.new.self).values in
+    let part : Part = option_copied c.in_text.result in
+    let rest : List Part = (nest c.next_borrowed.new.self).values in
     let error = c.in_err-read_part.field-0.0 in
-    let next = rw c.in-Some.is at c.in_ok-present.ensures.next in
-    let split : (nest c.loop-text.parts).values ≡ part ∷ rest = next.0 ∙ ap (λ (t : List ℕ). cond c.in-Some.present (Some t) None ∷ rest) (sym c.as_str.ensures.value) in
+    let next = rw c.in-Some.is at c.in_ok-part.ensures.next in
+    let split : (nest c.loop-text.parts).values ≡ part ∷ rest = next ∙ ap (λ (t : List ℕ). part_value c.in-Some.part t ∷ rest) (sym c.as_str.ensures.value) ∙ ap (λ (v : Part). v ∷ rest) (sym c.in_text.ensures) in
     let unread : Refuses error (read part ≡ None) = rw (← c.type_info.ensures) c.in_err-read_part.ensures.exact in
     let said : RefusedBy (why part) error = rw (← c.type_info.ensures) c.in_err-read_part.ensures.refused in
     let p = err_from_is_err_and c.from_residual-in_err-read_part.result c.from_residual-in_err-read_part.ensures.1 in
@@ -34,11 +36,11 @@ pub loop-text-preserved : goal.loop-text-preserved
 loop-text-preserved g c =
     let read = g.T.Decode.reading g.T.Type.info Text in
     let why = g.T.Decode.refusal g.T.Type.info Text in
-    let part : Part = cond c.in-Some.present (Some c.as_str.result.now) None in
-    let rest : List Part = (nest c.next_into.new.self).values in
+    let part : Part = option_copied c.in_text.result in
+    let rest : List Part = (nest c.next_borrowed.new.self).values in
     let m = g.T.Decode.meaning c.in_ok-read_part.field-0 in
-    let next = rw c.in-Some.is at c.in_ok-present.ensures.next in
-    let split : (nest c.loop-text.parts).values ≡ part ∷ rest = next.0 ∙ ap (λ (t : List ℕ). cond c.in-Some.present (Some t) None ∷ rest) (sym c.as_str.ensures.value) in
+    let next = rw c.in-Some.is at c.in_ok-part.ensures.next in
+    let split : (nest c.loop-text.parts).values ≡ part ∷ rest = next ∙ ap (λ (t : List ℕ). part_value c.in-Some.part t ∷ rest) (sym c.as_str.ensures.value) ∙ ap (λ (v : Part). v ∷ rest) (sym c.in_text.ensures) in
     let e : read part ≡ Some m = rw (← c.type_info.ensures) c.in_ok-read_part.ensures.exact in
     let it : map g.T.Decode.meaning c.push.new.self.items ≡ map g.T.Decode.meaning c.loop-text.items.items ++ m ∷ [] = rw c.in_ok-push.ensures.items (map_push _ c.loop-text.items.items c.in_ok-read_part.field-0) in (
       rw it (part_read read (map g.T.Decode.meaning c.loop-text.items.items) (nest c.loop-text.parts).values part rest m (each read (nest c.args.parts).values) split e c.loop-text.invariant.0),
@@ -48,5 +50,5 @@ loop-text-preserved g c =
 pub returns-clause-exact : goal.returns-clause-exact
 returns-clause-exact g c =
     let read = g.T.Decode.reading g.T.Type.info Text in
-    let next = rw c.in_default.is at c.in_ok-present.ensures.next in
+    let next = rw c.in_default.is at c.in_ok-part.ensures.next in
     parts_done read (map g.T.Decode.meaning c.loop-text.items.items) (nest c.loop-text.parts).values (each read (nest c.args.parts).values) next.0 c.loop-text.invariant.0
