@@ -233,7 +233,7 @@ fn read_text<T: Decode + Type>(alloc: Global, text: &str) -> Result<PgRange<T>, 
     }
 }
 
-/// The two parts of a range, each read from one text under the own type of `T`.
+/// The two parts of a range, each read under the own type of `T`.
 fn read_parts<T: Decode + Type>(alloc: Global, parts: Parts<'_>) -> Result<PgRange<T>, CodecError>
     ensures exact { Answers (range_meaning T.meaning) (bounds_in_text (T.reading T.info Text) (nest parts.entry)) result }
     ensures refused { RefusedFor (bounds_text_refusal (T.reading T.info Text) (T.refusal T.info Text) (nest parts.entry)) result }
@@ -246,7 +246,7 @@ fn read_parts<T: Decode + Type>(alloc: Global, parts: Parts<'_>) -> Result<PgRan
     Ok(PgRange::Bounds { start, end })
 }
 
-/// The bound of the next part, which is put into a text.
+/// The bound of the next part. One in quotes is read from this text.
 fn next_bound_of<T: Decode + Type>(
     alloc: Global,
     parts: &mut Parts<'_>,
@@ -257,10 +257,12 @@ fn next_bound_of<T: Decode + Type>(
     ensures err { IfErr result (λ e. Refuses e (next_bound (T.reading T.info Text) included (nest parts.old).values ≡ None)) }
     ensures refused { RefusedFor (next_bound_refusal (T.reading T.info Text) (T.refusal T.info Text) (nest parts.old).values) result }
 {
-    match parts.next_into(text)? {
-        None => Err(CodecError::Syntax),
-        Some(false) => Ok(Bound::Unbounded),
-        Some(true) => bound_of_text(alloc, included, text.as_str()),
+    let Some(part) = parts.next_borrowed(text)? else {
+        return Err(CodecError::Syntax);
+    };
+    match part.in_text(text.as_str()) {
+        None => Ok(Bound::Unbounded),
+        Some(text) => bound_of_text(alloc, included, text),
     }
 }
 
