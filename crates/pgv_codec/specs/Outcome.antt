@@ -1,5 +1,5 @@
 -- What an encoder did to its buffer.
-use Rattle.std.specs.Prelude.{◌≡◌, ◌⊎◌, List, ◌++◌, Option, Some, None}
+use Rattle.std.specs.Prelude.{◌≡◌, ◌⊎◌, Bool, true, false, List, ◌++◌, Option, Some, None}
 use Rattle.pgv_buf.specs.Tokens.{Token, Cell, blank}
 use Rattle.pgv_codec.specs.Image.{Image, null_image, image_of}
 use Rattle.pgv_codec.specs.declared.buffer.IsNull.{IsNull}
@@ -23,3 +23,8 @@ Appended was now = (ts : List Cell) × (now ≡ was ++ ts)
 -- exactly these tokens are after what was there, not yet filled
 abbrev pub AppendedAll : Option (List Token) → List Cell → List Cell → Type 0
 AppendedAll f was now = (ts : List Token) × (f ≡ Some ts) × (now ≡ was ++ blank ts)
+
+-- these tokens are after what was there, or nothing is
+abbrev pub AtOnce : Bool → Option (List Token) → List Cell → List Cell → Type 0
+AtOnce true f was now = AppendedAll f was now
+AtOnce false f was now = now ≡ was

@@ -1,13 +1,13 @@
 //! The buffer that encoders append to.
 
-ghost use Rattle.std.specs.Prelude.{◌≡◌, ◌==◌, ◌<◌, ◌++◌, ℕ, List, [], ◌∷◌, length, OnOk, OnErr, IfErr, Err, sum};
+ghost use Rattle.std.specs.Prelude.{◌≡◌, ◌==◌, ◌<◌, ◌≤◌, ◌++◌, ℕ, List, [], ◌∷◌, length, Some, OnOk, OnErr, IfErr, Err, sum};
 ghost use Rattle.pgv_buf.specs.Tokens.{byte, hole, slot, bytes, Cell, blank, fixed_bytes, shown, width, be4, hole_types_of, hole_count, slot_count, CasesFit};
 ghost use Rattle.pgv_buf.specs.CasesView.{cases_of};
 ghost use Rattle.pgv_buf.specs.Marks.{mark_of};
 ghost use Rattle.pgv_buf.specs.Proper.{Proper};
 ghost use Rattle.pgv_buf.specs.Fill.{fill_holes, fill_slots, slot_types};
 ghost use Rattle.pgv_value.specs.declared.error.CodecError.TheVariants.{Memory, ValueSize};
-ghost use Rattle.pgv_codec.specs.Image.{frame, typed};
+ghost use Rattle.pgv_codec.specs.Image.{frame, image_of, null_image, typed};
 ghost use Rattle.pgv_codec.specs.Refusing.{RefusedFor, frame_refused};
 ghost use Rattle.pgv_codec.specs.Outcome.{Refused, Appended, AppendedAll};
 
@@ -162,6 +162,21 @@ impl PgArgumentBuffer {
         if hint > LENGTH_LIMIT {
             return Err(CodecError::ValueSize(hint));
         }
+        if value.encode_at_once(self)? {
+            return Ok(());
+        }
+        self.encode_in_steps(value)
+    }
+
+    /// Appends one frame: a length of 0, the value, and then the length that it has.
+    #[inline(always)]
+    fn encode_in_steps<T: Encode>(&mut self, value: &T) -> Result<(), CodecError>
+        requires { T.hint value.now ≤ 2147483647 }
+        ensures ok { OnOk result (AppendedAll (frame (T.hint value.now) (T.image value.now)) self.old self.new) }
+        ensures err { IfErr result (λ e. Refused e (frame (T.hint value.now) (T.image value.now))) }
+        ensures appended { OnErr result (Appended self.old self.new) }
+        ensures refused { RefusedFor (frame_refused (T.hint value.now) (T.image value.now) (T.unwritable value.now)) result }
+    {
         let mark = self.tokens.mark();
         self.push_u32(0)?;
         let start = self.len();
@@ -211,6 +226,40 @@ impl PgArgumentBuffer {
     {
         let number = value.to_be_bytes();
         self.extend_from_slice(&number)
+    }
+
+    /// Appends the number of 16 bytes or fewer, in four bytes, and the bytes, in one step.
+    #[inline(always)]
+    fn push_counted(&mut self, value: &[u8]) -> Result<(), CodecError>
+        requires { length value.now ≤ 16 }
+        ensures ok { OnOk result (self.new ≡ self.old ++ blank (bytes (be4 (length value.now) ++ value.now))) }
+        ensures err { IfErr result (λ e. (e ≡ Memory) × (self.new ≡ self.old)) }
+    {
+        let after = 4 + value.len();
+        let length = (value.len() as u32).to_be_bytes();
+        let mut counted = [0; 20];
+        counted[..4].copy_from_slice(&length);
+        counted[4..after].copy_from_slice(value);
+        self.extend_from_slice(&counted[..after])
+    }
+
+    /// Appends the frame of an image of 16 bytes or fewer, in one step.
+    #[inline(always)]
+    pub(crate) fn push_frame(&mut self, value: &[u8]) -> Result<(), CodecError>
+        requires { length value.now ≤ 16 }
+        ensures ok { OnOk result (AppendedAll (frame 0 (Some (image_of (bytes value.now)))) self.old self.new) }
+        ensures err { IfErr result (λ e. (e ≡ Memory) × (self.new ≡ self.old)) }
+    {
+        self.push_counted(value)
+    }
+
+    /// Appends the frame of null.
+    #[inline(always)]
+    pub(crate) fn push_null(&mut self) -> Result<(), CodecError>
+        ensures ok { OnOk result (AppendedAll (frame 0 (Some null_image)) self.old self.new) }
+        ensures err { IfErr result (λ e. (e ≡ Memory) × (self.new ≡ self.old)) }
+    {
+        self.push_u32(NULL_LENGTH)
     }
 
     /// A type, as an element's or a field's is written.

@@ -37,6 +37,12 @@ impl Scalar for bool {
         out.push(u8::from(*self))?;
         Ok(IsNull::No)
     }
+
+    #[inline(always)]
+    fn write_at_once(&self, out: &mut PgArgumentBuffer) -> Result<bool, CodecError> {
+        out.push_frame(&[u8::from(*self)])?;
+        Ok(true)
+    }
 }
 
 /// A truth value (PostgreSQL, "Boolean Type"), as [`read_bool`] reads it: `01` and `t` are `true`.

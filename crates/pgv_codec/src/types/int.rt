@@ -65,6 +65,13 @@ impl Scalar for i8 {
         out.extend_from_slice(&number)?;
         Ok(IsNull::No)
     }
+
+    #[inline(always)]
+    fn write_at_once(&self, out: &mut PgArgumentBuffer) -> Result<bool, CodecError> {
+        let number = self.to_be_bytes();
+        out.push_frame(&number)?;
+        Ok(true)
+    }
 }
 
 /// A `"char"` as a number (PostgreSQL, "Character Types"), as [`read_i8`] reads it: `61` and `a` are 97.
@@ -117,6 +124,13 @@ impl Scalar for i16 {
         out.extend_from_slice(&number)?;
         Ok(IsNull::No)
     }
+
+    #[inline(always)]
+    fn write_at_once(&self, out: &mut PgArgumentBuffer) -> Result<bool, CodecError> {
+        let number = self.to_be_bytes();
+        out.push_frame(&number)?;
+        Ok(true)
+    }
 }
 
 /// An `int2` (PostgreSQL, "Integer Types"), as [`read_i16`] reads it: `0007` and `7` are 7.
@@ -167,6 +181,13 @@ impl Scalar for i32 {
     fn write(&self, out: &mut PgArgumentBuffer) -> Result<IsNull, CodecError> {
         write_i32(*self, out)
     }
+
+    #[inline(always)]
+    fn write_at_once(&self, out: &mut PgArgumentBuffer) -> Result<bool, CodecError> {
+        let number = self.to_be_bytes();
+        out.push_frame(&number)?;
+        Ok(true)
+    }
 }
 
 /// An `int4` (PostgreSQL, "Integer Types"), as [`read_i32`] reads it: `00000007` and `7` are 7.
@@ -216,6 +237,13 @@ impl Scalar for i64 {
     #[inline(always)]
     fn write(&self, out: &mut PgArgumentBuffer) -> Result<IsNull, CodecError> {
         write_i64(*self, out)
+    }
+
+    #[inline(always)]
+    fn write_at_once(&self, out: &mut PgArgumentBuffer) -> Result<bool, CodecError> {
+        let number = self.to_be_bytes();
+        out.push_frame(&number)?;
+        Ok(true)
     }
 }
 

@@ -39,6 +39,13 @@ impl Scalar for Oid {
         out.extend_from_slice(&number)?;
         Ok(IsNull::No)
     }
+
+    #[inline(always)]
+    fn write_at_once(&self, out: &mut PgArgumentBuffer) -> Result<bool, CodecError> {
+        let number = self.0.to_be_bytes();
+        out.push_frame(&number)?;
+        Ok(true)
+    }
 }
 
 /// An object identifier (PostgreSQL, "Object Identifier Types"), as [`read_oid`] reads it: `00000019` and `25` are the OID of `text`.

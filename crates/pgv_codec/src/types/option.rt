@@ -78,6 +78,17 @@ impl<T: Encode + Type> Encode for Option<T> {
             Some(value) => value.produces(),
         }
     }
+
+    #[inline(always)]
+    fn encode_at_once(&self, out: &mut PgArgumentBuffer) -> Result<bool, CodecError> {
+        match self {
+            Some(value) => value.encode_at_once(out),
+            None => {
+                out.push_null()?;
+                Ok(true)
+            }
+        }
+    }
 }
 
 /// Null is read as `None`, and anything else as `Some` of what the type reads.

@@ -57,4 +57,9 @@ impl<T: Encode> Encode for &T {
     fn produces(&self) -> Result<Option<PgTypeInfo>, AllocError> {
         (**self).produces()
     }
+
+    #[inline(always)]
+    fn encode_at_once(&self, out: &mut PgArgumentBuffer) -> Result<bool, CodecError> {
+        (**self).encode_at_once(out)
+    }
 }

@@ -39,6 +39,12 @@ impl Scalar for Uuid {
         out.extend_from_slice(self.as_bytes())?;
         Ok(IsNull::No)
     }
+
+    #[inline(always)]
+    fn write_at_once(&self, out: &mut PgArgumentBuffer) -> Result<bool, CodecError> {
+        out.push_frame(self.as_bytes())?;
+        Ok(true)
+    }
 }
 
 /// A UUID (PostgreSQL, "UUID Type"), as [`read_uuid`] reads it: its sixteen bytes, or
