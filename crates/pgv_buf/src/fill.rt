@@ -98,7 +98,7 @@ fn write_run(
     place
 }
 
-/// Fills the slots of each argument by the parameter type of that argument.
+/// Fills the slots of each argument by the parameter type of that argument. Arguments after the last count have none.
 pub(crate) fn write_slots(
     bytes: &mut Vec<u8>,
     gaps: &[usize],
@@ -106,7 +106,7 @@ pub(crate) fn write_slots(
     types: &[PgTypeInfo],
     counts: &[usize],
 )
-    requires arguments { length types.now ≡ length counts.now }
+    requires arguments { length counts.now ≤ length types.now }
     requires slots { sum counts.now ≡ length slots.now }
     requires gaps { length gaps.now ≡ length slots.now }
     requires within { Within (length bytes.old.items) (places_after 0 gaps.now) (choices (slot_types types.now counts.now) (map kept_of slots.now)) }
@@ -117,9 +117,9 @@ pub(crate) fn write_slots(
     }
     let mut next = 0;
     let mut place = 0;
-    for (i, parameter) in types.iter().enumerate() {
-        let end = next + counts[i];
-        place = write_run(bytes, place, &gaps[next..end], &slots[next..end], parameter);
+    for (i, count) in counts.iter().enumerate() {
+        let end = next + *count;
+        place = write_run(bytes, place, &gaps[next..end], &slots[next..end], &types[i]);
         next = end;
     }
 }

@@ -1,6 +1,6 @@
 //! A list of tokens, kept as one run of bytes.
 
-ghost use Rattle.std.specs.Prelude.{◌≡◌, ◌==◌, ℕ, ◌++◌, List, [], ◌∷◌, length, OnOk, OnErr, sum};
+ghost use Rattle.std.specs.Prelude.{◌≡◌, ◌==◌, ◌≤◌, ℕ, ◌++◌, List, [], ◌∷◌, length, OnOk, OnErr, sum};
 ghost use Rattle.pgv_buf.specs.Tokens.{CasesFit, slot_count, byte, hole, slot, bytes, blank, Cell, fixed_bytes, hole_count, shown, width, be4, hole_types_of};
 ghost use Rattle.pgv_buf.specs.Proper.{Proper};
 ghost use Rattle.pgv_buf.specs.Marks.{mark_of};
@@ -214,9 +214,10 @@ impl Tokens {
     }
 
     /// Fills each hole with its OID and each slot by the parameter type of its own argument, whatever they
-    /// showed before: `types` has the parameter type of each argument, `counts` how many slots each has.
+    /// showed before: `types` has the parameter type of each argument, `counts` how many slots each has. Arguments
+    /// after the last count have none.
     pub fn fill(&mut self, types: &[PgTypeInfo], counts: &[usize], oids: &[Oid])
-        requires arguments { length types.now ≡ length counts.now }
+        requires arguments { length counts.now ≤ length types.now }
         requires slots { sum counts.now ≡ slot_count self.old }
         requires holes { length oids.now ≡ hole_count self.old }
         ensures { self.new ≡ fill_slots (slot_types types.now counts.now) (fill_holes oids.now self.old) }
@@ -233,7 +234,7 @@ impl Tokens {
     }
 
     fn fill_types(&mut self, types: &[PgTypeInfo], counts: &[usize])
-        requires arguments { length types.now ≡ length counts.now }
+        requires arguments { length counts.now ≤ length types.now }
         requires slots { sum counts.now ≡ slot_count self.old }
         ensures { self.new ≡ fill_slots (slot_types types.now counts.now) self.old }
     {

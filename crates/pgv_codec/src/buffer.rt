@@ -300,9 +300,9 @@ impl PgArgumentBuffer {
     }
 
     /// Writes the OIDs into the holes, in order, and fills each slot by the parameter type of its argument; `counts` has the number of slots of
-    /// each argument. Who keeps the arguments counts them.
+    /// each argument; arguments after the last count have none. Who keeps the arguments counts them.
     pub fn fill(&mut self, types: &[PgTypeInfo], counts: &[usize], oids: &[Oid])
-        requires arguments { length types.now ≡ length counts.now }
+        requires arguments { length counts.now ≤ length types.now }
         requires slots { sum counts.now ≡ slot_count self.old }
         requires holes { length oids.now ≡ hole_count self.old }
         ensures { self.new ≡ fill_slots (slot_types types.now counts.now) (fill_holes oids.now self.old) }

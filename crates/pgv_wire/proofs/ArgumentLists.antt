@@ -1,5 +1,5 @@
 -- Lists of arguments: one more, and all filled.
-use Rattle.std.proofs.Common.{◌≡◌, ℕ, ◌+◌, suc, zero, List, [], ◌∷◌, ◌++◌, length, take, drop, refl, sym, ◌∙◌, ap, subst, arith, append_assoc, append-nil, replicate, sum, Some}
+use Rattle.std.proofs.Common.{◌≡◌, ℕ, ◌+◌, suc, zero, List, [], ◌∷◌, ◌++◌, length, take, drop, refl, sym, ◌∙◌, ap, subst, arith, append-nil, replicate, sum, Some}
 use Rattle.std.proofs.lemmas.Grind.{flat_map-append}
 use Rattle.std.proofs.lemmas.List.{map-append}
 use Rattle.std.proofs.lemmas.List.Sums.{sum_by-cons}
@@ -9,16 +9,18 @@ use Rattle.pgv_types.specs.declared.oid.Oid.{Oid}
 use Rattle.pgv_buf.specs.Tokens.{blank, plain, Cell, fixed, hole_cell, slot_cell, be4, shown, width, hole_count, slot_count, chosen}
 use Rattle.pgv_buf.specs.Blank.{holes-plain}
 use Rattle.pgv_buf.specs.Fill.{slot_count-filled, fill_holes, first_number, rest_numbers, fill_slots, slot_types, rest_types}
-use Rattle.pgv_buf.specs.Proper.{width-append, shown-append, first_type}
+use Rattle.pgv_buf.specs.Proper.{shown-append, first_type}
 use Rattle.pgv_wire.specs.Arguments.{Argument, Framed, all_tokens, types_in, counts_in, framed, early, filled_arguments, filled_frame}
 use Rattle.pgv_codec.specs.Writing.{write}
+use Rattle.pgv_wire.specs.Counts.{AreCounts}
 use Rattle.pgv_wire.specs.KeptView.{Stands, arguments_of}
 use Rattle.pgv_wire.specs.History.{last_filling}
+use Rattle.pgv_wire.proofs.Counts.{types_counted}
 use Rattle.pgv_wire.proofs.Framed.{OfImage, images_more, images_filled, left_more, left_filled}
 use Rattle.pgv_wire.proofs.Split.{split_back}
 
 pub nothing_stands : Stands [] [] [] []
-nothing_stands = record { types_are = refl; counts_are = refl; tokens_are = refl; images_are = ([], tt); left_are = (last_filling [], record { arguments_are = refl; as_many_types = refl; as_many_oids = refl }) }
+nothing_stands = record { types_are = refl; counts_are = (0, refl); tokens_are = refl; images_are = ([], tt); left_are = (last_filling [], record { arguments_are = refl; as_many_types = refl; as_many_oids = refl }) }
 
 pub arguments_are : {args : List Argument} {hs : List Ty} {ns : List ℕ} {ts : List Cell} → Stands args hs ns ts → arguments_of hs ts ≡ args
 unfolding arguments_of
@@ -44,11 +46,11 @@ slot_count-append (slot_cell d cs s ∷ a) c = omega (arith, slot_count-append a
 
 pub one_more :
     {args : List Argument} {hs : List Ty} {ns : List ℕ} {ts : List Cell} → Stands args hs ns ts → (f : Framed) → OfImage f.1 →
-    (hs' : List Ty) (ns' : List ℕ) (ts' : List Cell) → hs' ≡ hs ++ f.0 ∷ [] → ns' ≡ ns ++ slot_count (blank f.1) ∷ [] → ts' ≡ ts ++ blank f.1 →
+    (hs' : List Ty) (ns' : List ℕ) (ts' : List Cell) → hs' ≡ hs ++ f.0 ∷ [] → AreCounts (counts_in args ++ slot_count (blank f.1) ∷ []) ns' → ts' ≡ ts ++ blank f.1 →
     Stands (args ++ (f.0, blank f.1) ∷ []) hs' ns' ts'
 one_more {args} s f i hs' ns' ts' d k g = record {
   types_are = d ∙ (ap (λ r. r ++ f.0 ∷ []) s.types_are ∙ sym (map-append (λ (a : Argument). a.0) args ((f.0, blank f.1) ∷ [])));
-  counts_are = k ∙ (ap (λ r. r ++ slot_count (blank f.1) ∷ []) s.counts_are ∙ sym (map-append (λ (a : Argument). slot_count a.1) args ((f.0, blank f.1) ∷ [])));
+  counts_are = subst (λ r. AreCounts r ns') (sym (map-append (λ (a : Argument). slot_count a.1) args ((f.0, blank f.1) ∷ []))) k;
   tokens_are = g ∙ (ap (λ r. r ++ blank f.1) s.tokens_are ∙ sym (flat_map-append (λ (a : Argument). a.1) args ((f.0, blank f.1) ∷ []) ∙ ap (λ r. all_tokens args ++ r) (append-nil (blank f.1))));
   images_are = images_more args f s.images_are i;
   left_are = left_more args f s.left_are;
@@ -132,8 +134,8 @@ pub all_filled :
     ts' ≡ fill_slots (slot_types ps ns) (fill_holes os ts) → Stands (filled_arguments args ps os) hs ns ts'
 all_filled {args} {hs} {ns} {ts} s ps os ts' n m e = record {
   types_are = s.types_are ∙ sym (types_in-filled args ps os);
-  counts_are = s.counts_are ∙ sym (counts_in-filled args ps os);
-  tokens_are = e ∙ (ap (λ r. fill_slots (slot_types ps ns) (fill_holes os r)) s.tokens_are ∙ (ap (λ r. fill_slots (slot_types ps r) (fill_holes os (all_tokens args))) s.counts_are ∙ sym (all_tokens-filled args ps os n)));
+  counts_are = subst (λ r. AreCounts r ns) (sym (counts_in-filled args ps os)) s.counts_are;
+  tokens_are = e ∙ (ap (λ r. fill_slots (slot_types ps ns) (fill_holes os r)) s.tokens_are ∙ (ap (λ r. fill_slots r (fill_holes os (all_tokens args))) (sym (types_counted ps (counts_in args) ns s.counts_are)) ∙ sym (all_tokens-filled args ps os n)));
   images_are = images_filled args ps os s.images_are;
   left_are = left_filled args ps os n m s.left_are;
 }

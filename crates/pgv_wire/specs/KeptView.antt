@@ -1,9 +1,10 @@
--- How arguments are kept: their frames one after another, their types, and how many slots each has. Each is the frame
--- of an image, and shows what some types and OIDs write, or is not filled yet.
+-- How arguments are kept: their frames one after another, their types, and how many slots each has, but for zeros at
+-- the end. Each is the frame of an image, and shows what some types and OIDs write, or is not filled yet.
 use Rattle.std.specs.Prelude.{◌≡◌, ℕ, List}
 use Rattle.pgv_types.specs.Ty.{Ty}
 use Rattle.pgv_buf.specs.Tokens.{Cell}
 use Rattle.pgv_wire.specs.Arguments.{Argument, all_tokens, types_in, counts_in}
+use Rattle.pgv_wire.specs.Counts.{AreCounts}
 use Rattle.pgv_wire.specs.History.{LeftBySome}
 use Rattle.pgv_wire.specs.Parts.{OfImages}
 use Rattle.pgv_wire.specs.Split.{split}
@@ -14,7 +15,7 @@ arguments_of hs ts = split hs ts
 
 pub record Stands (args : List Argument) (hs : List Ty) (ns : List ℕ) (ts : List Cell) : Type 0 where
   pub types_are : hs ≡ types_in args
-  pub counts_are : ns ≡ counts_in args
+  pub counts_are : AreCounts (counts_in args) ns
   pub tokens_are : ts ≡ all_tokens args
   pub images_are : OfImages args
   pub left_are : LeftBySome args

@@ -1,9 +1,10 @@
 //! The parameters of a statement.
 
-ghost use Rattle.std.specs.Prelude.{◌≡◌, ◌≢◌, ◌==◌, ◌+◌, ◌++◌, List, [], ◌∷◌, length, OnOk, OnErr, IfOk, IfErr, IsOk, IsErrOf, string_bytes, decimal};
+ghost use Rattle.std.specs.Prelude.{◌≡◌, ◌≢◌, ◌==◌, ◌+◌, ◌-◌, ◌≤◌, ◌++◌, ℕ, List, [], ◌∷◌, length, OnOk, OnErr, IfOk, IfErr, IsOk, IsErrOf, string_bytes, decimal, replicate};
 ghost use Rattle.pgv_buf.specs.Tokens.{shown, hole_count, hole_types_of};
 ghost use Rattle.pgv_value.specs.declared.error.CodecError.TheVariants.{Memory, ParameterCount, HoleCount};
 ghost use Rattle.pgv_wire.specs.Arguments.{types_in, all_tokens, Added, filled_arguments, framed, early};
+ghost use Rattle.pgv_wire.specs.Counts.{AreCounts};
 ghost use Rattle.pgv_wire.specs.Each.{AreOutcomes, EachRefusedFor, accepted};
 ghost use Rattle.pgv_wire.specs.History.{WrittenEarly};
 ghost use Rattle.pgv_codec.specs.Image.{frame, or_else};
@@ -26,6 +27,7 @@ use std::marker::Model;
 pub struct PgArguments {
     buffer: PgArgumentBuffer,
     types: Vec<PgTypeInfo>,
+    /// How many slots each argument has. Those at the end that have none are left out.
     counts: Vec<usize>,
 }
 
@@ -65,7 +67,6 @@ impl PgArguments {
         ensures err { IfErr result (λ e. e ≡ Memory) }
     {
         self.types.reserve(additional)?;
-        self.counts.reserve(additional)?;
         self.buffer.reserve(size)?;
         Ok(())
     }
@@ -118,7 +119,6 @@ impl PgArguments {
         ensures unchanged { OnErr result (self.new ≡ self.old) }
     {
         self.types.reserve(1)?;
-        self.counts.reserve(1)?;
         let argument_type = type_of_value(value)?;
         let mark = self.buffer.mark();
         if let Err(error) = self.buffer.encode(value) {
@@ -126,8 +126,11 @@ impl PgArguments {
             return Err(error);
         }
         let slots = self.buffer.mark().slots() - mark.slots();
+        if note_slots(&mut self.counts, self.types.len(), slots).is_err() {
+            self.buffer.back(mark);
+            return Err(CodecError::Memory);
+        }
         self.types.push(argument_type)?;
-        self.counts.push(slots)?;
         Ok(())
     }
 
@@ -229,4 +232,33 @@ impl Clone for PgArguments {
             counts: self.counts.clone()?,
         })
     }
+}
+
+/// Remembers how many slots the next argument has, where there are `before` so far. One that has none adds nothing.
+#[inline(always)]
+fn note_slots(counts: &mut Vec<usize>, before: usize, slots: usize) -> Result<(), AllocError>
+    requires { length counts.old.items ≤ before }
+    ensures ok { OnOk result ((all : List ℕ) → AreCounts all counts.old.items → length all ≡ before → AreCounts (all ++ slots ∷ []) counts.new.items) }
+    ensures err { OnErr result (counts.new.items ≡ counts.old.items) }
+{
+    if slots == 0 {
+        return Ok(());
+    }
+    push_slots(counts, before, slots)
+}
+
+/// Appends a number of slots, after zeros for the arguments that were left out.
+#[inline(never)]
+fn push_slots(counts: &mut Vec<usize>, before: usize, slots: usize) -> Result<(), AllocError>
+    requires { length counts.old.items ≤ before }
+    ensures ok { OnOk result (counts.new.items ≡ counts.old.items ++ replicate (before - length counts.old.items) 0 ++ slots ∷ []) }
+    ensures err { OnErr result (counts.new.items ≡ counts.old.items) }
+{
+    let len = counts.len();
+    counts.resize(before, 0)?;
+    if counts.push(slots).is_err() {
+        counts.truncate(len);
+        return Err(AllocError);
+    }
+    Ok(())
 }

@@ -56,25 +56,25 @@ told_after gaps slots types counts q next i t b b' target l k e fits same h f =
 
 pub write_run-place-requires-clause-within : goal.write_run-place-requires-clause-within
 write_run-place-requires-clause-within c =
-    let m : c.loop-i.i < length c.args.counts.now = omega (arith, c.loop-i-test.true, c.requires.arguments) in
-    let s : sum (drop c.loop-i.i c.args.counts.now) ≡ get_or c.args.counts.now c.loop-i.i 0 + sum (drop (c.loop-i.i + 1) c.args.counts.now) = sum_here c.args.counts.now c.loop-i.i m in
+    let l : c.loop-i.i < length c.args.types.now = omega (arith, c.loop-i-test.true, c.requires.arguments) in
+    let s : sum (drop c.loop-i.i c.args.counts.now) ≡ get_or c.args.counts.now c.loop-i.i 0 + sum (drop (c.loop-i.i + 1) c.args.counts.now) = sum_here c.args.counts.now c.loop-i.i c.loop-i-test.true in
     let k : (c.loop-i.next + get_or c.args.counts.now c.loop-i.i 0) - c.loop-i.next ≡ get_or c.args.counts.now c.loop-i.i 0 = omega arith in
     rw k (within_both c.args.gaps.now c.args.slots.now c.args.types.now c.args.counts.now c.loop-i.place c.loop-i.next c.loop-i.i (length c.loop-i.bytes.items) c.index-types-i.result
-    c.loop-i-test.true m c.index-types-i.is (omega (arith, s, c.loop-i.invariant.left)) c.loop-i.invariant.gaps c.loop-i.invariant.within).0
+    l c.loop-i-test.true c.index-types-i.is (omega (arith, s, c.loop-i.invariant.left)) c.loop-i.invariant.gaps c.loop-i.invariant.within).0
 
 pub loop-i-preserved : goal.loop-i-preserved
 loop-i-preserved c =
-    let m : c.loop-i.i < length c.args.counts.now = omega (arith, c.loop-i-test.true, c.requires.arguments) in
-    let s : sum (drop c.loop-i.i c.args.counts.now) ≡ get_or c.args.counts.now c.loop-i.i 0 + sum (drop (c.loop-i.i + 1) c.args.counts.now) = sum_here c.args.counts.now c.loop-i.i m in
+    let l : c.loop-i.i < length c.args.types.now = omega (arith, c.loop-i-test.true, c.requires.arguments) in
+    let s : sum (drop c.loop-i.i c.args.counts.now) ≡ get_or c.args.counts.now c.loop-i.i 0 + sum (drop (c.loop-i.i + 1) c.args.counts.now) = sum_here c.args.counts.now c.loop-i.i c.loop-i-test.true in
     let fits : c.loop-i.next + get_or c.args.counts.now c.loop-i.i 0 ≤ length c.args.slots.now = omega (arith, s, c.loop-i.invariant.left) in
     let k : (c.loop-i.next + get_or c.args.counts.now c.loop-i.i 0) - c.loop-i.next ≡ get_or c.args.counts.now c.loop-i.i 0 = omega arith in
     let last : c.write_run-place.result ≡ c.loop-i.place + sum (take (get_or c.args.counts.now c.loop-i.i 0) (drop c.loop-i.next c.args.gaps.now)) = c.write_run-place.ensures.last ∙ ap (λ n. c.loop-i.place + sum (take n (drop c.loop-i.next c.args.gaps.now))) k in
     rw last (record {
       told = told_after c.args.gaps.now c.args.slots.now c.args.types.now c.args.counts.now c.loop-i.place c.loop-i.next c.loop-i.i c.index-types-i.result c.loop-i.bytes.items c.write_run-place.new.bytes.items _
-          c.loop-i-test.true m c.index-types-i.is fits c.loop-i.invariant.gaps c.loop-i.invariant.told
+          l c.loop-i-test.true c.index-types-i.is fits c.loop-i.invariant.gaps c.loop-i.invariant.told
           (c.write_run-place.ensures.items ∙ ap (λ n. written (places_after c.loop-i.place (take n (drop c.loop-i.next c.args.gaps.now))) (run_choices c.index-types-i.result (take n (drop c.loop-i.next c.args.slots.now))) c.loop-i.bytes.items) k);
       within = rw c.write_run-place.ensures.len (within_both c.args.gaps.now c.args.slots.now c.args.types.now c.args.counts.now c.loop-i.place c.loop-i.next c.loop-i.i (length c.loop-i.bytes.items) c.index-types-i.result
-          c.loop-i-test.true m c.index-types-i.is fits c.loop-i.invariant.gaps c.loop-i.invariant.within).1;
+          l c.loop-i-test.true c.index-types-i.is fits c.loop-i.invariant.gaps c.loop-i.invariant.within).1;
       left = omega (arith, s, c.loop-i.invariant.left);
       many = c.requires.arguments;
       gaps = c.loop-i.invariant.gaps;

@@ -1,4 +1,4 @@
-use Rattle.std.proofs.Common.{◌≡◌, ◌+◌, drop, length, map, sum}
+use Rattle.std.proofs.Common.{◌≡◌, ◌+◌, ◌≤◌, drop, length, map, sum}
 use Rattle.pgv_buf.specs.TokensView.{kept_of}
 use Rattle.pgv_buf.specs.Fill.{slot_types}
 use Rattle.pgv_buf.specs.Patches.{written, Within, choices}
@@ -11,6 +11,6 @@ invariant-loop-i l = record {
       ≡ written (places_after 0 l.gaps) (choices (slot_types l.types l.counts) (map kept_of l.slots)) l.fn.bytes.items;
   within : Within (length l.bytes.items) (places_after l.place (drop l.next l.gaps)) (choices (slot_types (drop l.i l.types) (drop l.i l.counts)) (map kept_of (drop l.next l.slots)));
   left : l.next + sum (drop l.i l.counts) ≡ length l.slots;
-  many : length l.types ≡ length l.counts;
+  many : length l.counts ≤ length l.types;
   gaps : length l.gaps ≡ length l.slots;
 }

@@ -1,8 +1,14 @@
-use Rattle.std.proofs.Common.{◌≡◌, ◌+◌, ◌-◌, ℕ, List, [], ◌∷◌, ◌++◌, arith, sym, refl, ◌∙◌, ap}
+use Rattle.std.proofs.Common.{◌≡◌, ◌+◌, ◌-◌, ℕ, false, List, [], ◌∷◌, ◌++◌, length, arith, sym, subst, refl, ◌∙◌, ap, Result, Ok, Err, OnOk, is_err}
+use Rattle.std.proofs.lemmas.List.{length-map}
+use Rattle.pgv_types.specs.Ty.{Ty}
 use Rattle.pgv_buf.specs.declared.Mark.{Mark}
 use Rattle.pgv_buf.specs.Tokens.{Cell, blank, slot_count}
 use Rattle.pgv_buf.specs.Marks.{mark_of}
 use Rattle.pgv_codec.specs.Image.{or_else}
+use Rattle.pgv_wire.specs.Arguments.{Argument, counts_in}
+use Rattle.pgv_wire.specs.Counts.{AreCounts}
+use Rattle.pgv_wire.specs.KeptView.{Stands}
+use Rattle.pgv_wire.proofs.Counts.{fewer_kept}
 use Rattle.pgv_wire.proofs.ArgumentLists.{stands, arguments_are, held, one_more, slot_count-append}
 use Rattle.pgv_wire.proofs.Framed.{of_image}
 use Rattle.pgv_wire.proofs.arguments.PgArguments.add_by_ref.Goals as goal
@@ -15,6 +21,11 @@ counted a b n m was now ts e f g h k =
 slots_are : (n m : ℕ) (ts : List Cell) → m ≡ n + slot_count ts → m - n ≡ slot_count ts
 slots_are n m ts e = omega (arith, e)
 
+-- what holds where it is Ok
+where_ok : {V E P : Type 0} (r : Result V E) → OnOk r P → is_err r ≡ false → P
+where_ok (Ok x) h e = h
+where_ok (Err x) h e = absurd cc
+
 -- one more at the end, for which room was made before
 pushed : {X : Type 0} (was room now : List X) (x y : X) → now ≡ room ++ x ∷ [] → room ≡ was → x ≡ y → now ≡ was ++ y ∷ []
 pushed was room now x y e f g = e ∙ rw (f, g) refl
@@ -25,23 +36,39 @@ overflow_sub-slots g c =
     let more = counted c.mark-mark.result c.mark.result c.slots-2.result c.slots.result c.self.inside.buffer c.encode.new.self (blank a.0) c.mark-mark.ensures c.mark.ensures a.2 c.slots-2.ensures c.slots.ensures in
     omega (arith, more)
 
+-- there are as many arguments as types
+as_many : {args : List Argument} {hs : List Ty} {ns : List ℕ} {ts : List Cell} → Stands args hs ns ts → (n : ℕ) → n ≡ length hs → length (counts_in args) ≡ n
+as_many {args} {hs} s n e = omega (arith, e, ap length s.types_are, length-map args (λ (a : Argument). a.0), length-map args (λ (a : Argument). slot_count a.1))
+
+pub note_slots-requires : goal.note_slots-requires
+note_slots-requires g c =
+    let s = held c.args.self.now c.self.invariant c.self.view_is in
+    let n : c.len.result ≡ length c.self.inside.types.items = omega (arith, c.len.ensures, c.reserve.ensures.len, c.self.inside.types.ok.0) in
+    omega (arith, as_many s c.len.result n, fewer_kept (counts_in c.args.self.now) c.self.inside.counts.items s.counts_are)
+
 pub invariant_of-self-2 : goal.invariant_of-self-2
 invariant_of-self-2 g c =
     let a = c.in_default.ensures.ok in
+    let s = held c.args.self.now c.self.invariant c.self.view_is in
     let more = counted c.mark-mark.result c.mark.result c.slots-2.result c.slots.result c.self.inside.buffer c.encode.new.self (blank a.0) c.mark-mark.ensures c.mark.ensures a.2 c.slots-2.ensures c.slots.ensures in
-    stands (one_more (held c.args.self.now c.self.invariant c.self.view_is) (or_else (g.T.Encode.produced c.args.value.now) g.T.Type.info, a.0) (of_image (g.T.Encode.hint c.args.value.now) (g.T.Encode.image c.args.value.now) a.0 a.1) _ _ _
+    let n : c.len.result ≡ length c.self.inside.types.items = omega (arith, c.len.ensures, c.reserve.ensures.len, c.self.inside.types.ok.0) in
+    let noted = where_ok c.note_slots.result c.note_slots.ensures.ok (sym c.is_err.ensures.value ∙ c.if-is_err.false) (counts_in c.args.self.now) s.counts_are (as_many s c.len.result n) in
+    stands (one_more s (or_else (g.T.Encode.produced c.args.value.now) g.T.Type.info, a.0) (of_image (g.T.Encode.hint c.args.value.now) (g.T.Encode.image c.args.value.now) a.0 a.1) _ _ _
     (pushed _ _ _ _ _ c.in_ok-push.ensures.items c.reserve.ensures.items c.in_ok-argument_type.ensures)
-    (pushed _ _ _ _ _ c.in_ok-push-2.ensures.items c.reserve-2.ensures.items (slots_are c.slots-2.result c.slots.result (blank a.0) more))
+    (subst (λ x. AreCounts (counts_in c.args.self.now ++ x ∷ []) c.note_slots.new.counts.items) (slots_are c.slots-2.result c.slots.result (blank a.0) more) noted)
     a.2)
 
 pub returns-clause-ok : goal.returns-clause-ok
 returns-clause-ok g c =
     let a = c.in_default.ensures.ok in
-    let more = counted c.mark-mark.result c.mark.result c.slots-2.result c.slots.result c.self.inside.buffer c.encode.new.self (blank a.0) c.mark-mark.ensures c.mark.ensures a.2 c.slots-2.ensures c.slots.ensures in (
+    let s = held c.args.self.now c.self.invariant c.self.view_is in
+    let more = counted c.mark-mark.result c.mark.result c.slots-2.result c.slots.result c.self.inside.buffer c.encode.new.self (blank a.0) c.mark-mark.ensures c.mark.ensures a.2 c.slots-2.ensures c.slots.ensures in
+    let n : c.len.result ≡ length c.self.inside.types.items = omega (arith, c.len.ensures, c.reserve.ensures.len, c.self.inside.types.ok.0) in
+    let noted = where_ok c.note_slots.result c.note_slots.ensures.ok (sym c.is_err.ensures.value ∙ c.if-is_err.false) (counts_in c.args.self.now) s.counts_are (as_many s c.len.result n) in (
       a.0,
       a.1,
-      arguments_are (one_more (held c.args.self.now c.self.invariant c.self.view_is) (or_else (g.T.Encode.produced c.args.value.now) g.T.Type.info, a.0) (of_image (g.T.Encode.hint c.args.value.now) (g.T.Encode.image c.args.value.now) a.0 a.1) _ _ _
+      arguments_are (one_more s (or_else (g.T.Encode.produced c.args.value.now) g.T.Type.info, a.0) (of_image (g.T.Encode.hint c.args.value.now) (g.T.Encode.image c.args.value.now) a.0 a.1) _ _ _
           (pushed _ _ _ _ _ c.in_ok-push.ensures.items c.reserve.ensures.items c.in_ok-argument_type.ensures)
-          (pushed _ _ _ _ _ c.in_ok-push-2.ensures.items c.reserve-2.ensures.items (slots_are c.slots-2.result c.slots.result (blank a.0) more))
+          (subst (λ x. AreCounts (counts_in c.args.self.now ++ x ∷ []) c.note_slots.new.counts.items) (slots_are c.slots-2.result c.slots.result (blank a.0) more) noted)
           a.2),
     )

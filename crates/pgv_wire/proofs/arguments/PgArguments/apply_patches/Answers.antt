@@ -1,20 +1,21 @@
-use Rattle.std.proofs.Common.{ℕ, List, ◌∙◌, sym, ap, length, sum}
+use Rattle.std.proofs.Common.{ℕ, List, ◌∙◌, sym, ap, length, sum, arith}
 use Rattle.std.proofs.lemmas.List.{length-map}
 use Rattle.pgv_buf.specs.Tokens.{hole_count, slot_count, shown}
 use Rattle.pgv_buf.specs.Fill.{fill_slots, fill_holes, slot_types}
-use Rattle.pgv_wire.specs.Arguments.{Argument, all_tokens}
+use Rattle.pgv_wire.specs.Arguments.{Argument, all_tokens, counts_in}
+use Rattle.pgv_wire.proofs.Counts.{fewer_kept, slots_counted}
 use Rattle.pgv_wire.proofs.ArgumentLists.{stands, arguments_are, held, all_filled, late_is_early, sum-counts_in}
 use Rattle.pgv_wire.proofs.arguments.PgArguments.apply_patches.Goals as goal
 
 pub fill-requires-clause-arguments : goal.fill-requires-clause-arguments
 fill-requires-clause-arguments c =
     let s = held c.args.self.now c.self.invariant c.self.view_is in
-    c.if-types-len.false ∙ (c.len.ensures ∙ sym (ap length (c.as_slice.ensures.value ∙ s.counts_are) ∙ length-map c.args.self.now (λ (a : Argument). slot_count a.1)))
+    omega (arith, ap length c.as_slice.ensures.value, fewer_kept (counts_in c.args.self.now) c.self.inside.counts.items s.counts_are, length-map c.args.self.now (λ (a : Argument). slot_count a.1), c.if-types-len.false, c.len.ensures)
 
 pub fill-requires-clause-slots : goal.fill-requires-clause-slots
 fill-requires-clause-slots c =
     let s = held c.args.self.now c.self.invariant c.self.view_is in
-    ap sum (c.as_slice.ensures.value ∙ s.counts_are) ∙ (sum-counts_in c.args.self.now ∙ sym (ap slot_count s.tokens_are))
+    ap sum c.as_slice.ensures.value ∙ (sym (slots_counted (counts_in c.args.self.now) c.self.inside.counts.items s.counts_are) ∙ (sum-counts_in c.args.self.now ∙ sym (ap slot_count s.tokens_are)))
 
 pub fill-requires-clause-holes : goal.fill-requires-clause-holes
 fill-requires-clause-holes c =
