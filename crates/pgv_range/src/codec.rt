@@ -275,7 +275,7 @@ fn bound_of_text<T: Decode + Type>(
     ensures exact { Answers (bound_map T.meaning) (bound_in_text (T.reading T.info Text) included (Some text.now)) result }
     ensures refused { RefusedFor (T.refusal T.info Text (Some text.now)) result }
 {
-    let part = PgValueRef::new(Some(text.as_bytes()), T::type_info(), PgValueFormat::Text);
+    let part = PgValueRef::of_text(Some(text), T::type_info());
     let value = T::decode(alloc, part)?;
     Ok(side_of(included, value))
 }

@@ -38,23 +38,23 @@ fn after_opening(form: TextForm, text: &str) -> Option<(u8, &str)>
     }
 }
 
-/// The same where nothing but usual bytes and commas stand before the bracket, else `None`. There is no branch at a comma: where
-/// they stand can't be foretold.
+/// The same where nothing but usual bytes and commas stand before the bracket, else `None`.
 fn usual_part_count(form: TextForm, bytes: &[u8]) -> Option<(usize, u8)>
     ensures { IfSome result (λ found. Some found ≡ numbered 1 (read (form_of form) Start bytes.now)) }
 {
     let mut count = 1;
     let mut left = bytes;
     while let [byte, rest @ ..] = left {
-        let comma = *byte == b',';
-        if !(comma | is_never_special(*byte)) {
-            return if rest.is_empty() && closes(form, *byte) {
-                Some((count, *byte))
-            } else {
-                None
-            };
+        if !is_never_special(*byte) {
+            if *byte != b',' {
+                return if rest.is_empty() && closes(form, *byte) {
+                    Some((count, *byte))
+                } else {
+                    None
+                };
+            }
+            count += 1;
         }
-        count += comma as usize;
         left = rest;
     }
     None

@@ -3,9 +3,11 @@
 ghost use Rattle.std.specs.Prelude.{◌≡◌, ◌<◌, ◌≤◌, slice_range, length, Some, None, IfOk, OnOk, OnErr, IfErr, IsErrOf, IsTrue, is_none};
 ghost use Rattle.std.specs.Option.{option_copied};
 ghost use Rattle.pgv_value.specs.FrameBinary.{front, frame_fault};
+ghost use Rattle.pgv_value.specs.RowView.{held_bytes};
 ghost use Rattle.pgv_value.specs.ValueView.{Given};
 ghost use Rattle.pgv_value.specs.Utf8.{is_utf8, RefusesText};
 ghost use Rattle.pgv_value.specs.declared.error.CodecError.TheVariants.{UnexpectedNull, Memory};
+ghost use Rattle.pgv_value.specs.declared.value.PgValueFormat.TheVariants.{Text};
 
 use crate::error::CodecError;
 use crate::frame::part_in_front;
@@ -96,29 +98,52 @@ struct RowPart<'r> {
     end: usize,
 }
 
+/// What a value has.
+#[derive(Clone, Copy, Drop)]
+enum Held<'r> {
+    /// It is null.
+    Null,
+    /// Bytes of any kind.
+    Bytes(&'r [u8]),
+    /// Text, which isn't tested again.
+    Text(&'r str),
+}
+
+impl<'r> Held<'r> {
+    /// The bytes; `None` for null.
+    #[inline(always)]
+    fn bytes(self) -> Option<&'r [u8]>
+        ensures { option_copied result ≡ held_bytes self.entry }
+    {
+        match self {
+            Held::Null => None,
+            Held::Bytes(bytes) => Some(bytes),
+            Held::Text(text) => Some(text.as_bytes()),
+        }
+    }
+}
+
 /// A value as it stands in a row: null or bytes, its type and its format. The bytes are borrowed from the row, and
 /// what [`PgValueRef::as_bytes`] and [`PgValueRef::as_str`] hand out lives as long as the row does.
 #[derive(Drop)]
 pub struct PgValueRef<'r> {
     row: Option<RowPart<'r>>,
-    value: Option<&'r [u8]>,
+    held: Held<'r>,
     type_info: PgTypeInfo,
     format: PgValueFormat,
 }
 
 impl<'r> Model for PgValueRef<'r> {
-    ghost use Rattle.std.specs.Option.{option_copied};
+    ghost use Rattle.pgv_value.specs.RowView.{IsOfRow, held_bytes};
     ghost use Rattle.pgv_value.specs.ValueView.{Given, given_code};
 
     ghost Value = { Given };
 
     ghost coded = { given_code };
 
-    ghost view = { λ v. record { bytes = option_copied v.value; type_info = v.type_info; format = v.format } };
+    ghost view = { λ v. record { bytes = held_bytes v.held; type_info = v.type_info; format = v.format } };
 
-    ghost use Rattle.pgv_value.specs.RowView.{IsOfRow};
-
-    ghost invariant = { λ v. IsOfRow v.row v.value };
+    ghost invariant = { λ v. IsOfRow v.row (held_bytes v.held) };
 }
 
 impl<'r> PgValueRef<'r> {
@@ -127,11 +152,32 @@ impl<'r> PgValueRef<'r> {
     pub fn new(value: Option<&'r [u8]>, type_info: PgTypeInfo, format: PgValueFormat) -> Self
         ensures { result ≡ record { bytes = option_copied value.entry; type_info = type_info; format = format } }
     {
+        let held = match value {
+            Some(bytes) => Held::Bytes(bytes),
+            None => Held::Null,
+        };
         PgValueRef {
             row: None,
-            value,
+            held,
             type_info,
             format,
+        }
+    }
+
+    /// A value in text of this text, or null. [`PgValueRef::as_str`] answers the text without a test of its bytes.
+    #[inline(always)]
+    pub fn of_text(text: Option<&'r str>, type_info: PgTypeInfo) -> Self
+        ensures { result ≡ record { bytes = option_copied text.entry; type_info = type_info; format = Text } }
+    {
+        let held = match text {
+            Some(text) => Held::Text(text),
+            None => Held::Null,
+        };
+        PgValueRef {
+            row: None,
+            held,
+            type_info,
+            format: PgValueFormat::Text,
         }
     }
 
@@ -154,7 +200,7 @@ impl<'r> PgValueRef<'r> {
                 start,
                 end,
             }),
-            value: Some(&row.as_slice()[start..end]),
+            held: Held::Bytes(&row.as_slice()[start..end]),
             type_info,
             format,
         }
@@ -216,7 +262,7 @@ impl<'r> PgValueRef<'r> {
     pub fn is_null(&self) -> bool
         ensures { result ≡ is_none self.now.bytes }
     {
-        self.value.is_none()
+        self.held.bytes().is_none()
     }
 
     /// The bytes, in either format, which live as long as the row. Null is refused with C13.
@@ -225,7 +271,7 @@ impl<'r> PgValueRef<'r> {
         ensures found { IfOk result (λ b. self.now.bytes ≡ Some b.now) }
         ensures null { IfErr result (λ e. (e ≡ UnexpectedNull) × (self.now.bytes ≡ None)) }
     {
-        match self.value {
+        match self.held.bytes() {
             Some(bytes) => Ok(bytes),
             None => Err(CodecError::UnexpectedNull),
         }
@@ -241,6 +287,9 @@ impl<'r> PgValueRef<'r> {
         ensures null { self.now.bytes ≡ None → IsErrOf result UnexpectedNull }
         ensures refused { IfErr result (RefusesText self.now.bytes) }
     {
+        if let Held::Text(text) = self.held {
+            return Ok(text);
+        }
         let bytes = self.as_bytes()?;
         match str::from_utf8(bytes) {
             Ok(text) => Ok(text),
@@ -256,7 +305,7 @@ impl<'r> PgValueRef<'r> {
     {
         let bytes = match self.row {
             Some(part) => Some(part.bytes.slice(part.start..part.end)?),
-            None => match self.value {
+            None => match self.held.bytes() {
                 Some(bytes) => Some(Bytes::copy_from_slice(alloc, bytes)?),
                 None => None,
             },
@@ -275,7 +324,7 @@ impl<'r> Clone for PgValueRef<'r> {
     fn clone(&self) -> Result<PgValueRef<'r>, AllocError> {
         Ok(PgValueRef {
             row: self.row,
-            value: self.value,
+            held: self.held,
             type_info: self.type_info.clone()?,
             format: self.format,
         })

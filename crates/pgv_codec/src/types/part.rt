@@ -7,7 +7,7 @@ ghost use Rattle.pgv_codec.specs.Refusing.{RefusedFor};
 
 use crate::traits::Decode;
 use pgv_types::PgTypeInfo;
-use pgv_value::{CodecError, PgValueFormat, PgValueRef};
+use pgv_value::{CodecError, PgValueRef};
 use std::alloc::Global;
 
 /// A part in text, or null where there is none, read under a type.
@@ -20,12 +20,5 @@ pub(crate) fn read_part<T: Decode>(
     ensures exact { Answers T.meaning (T.reading type_info Text (option_copied part.entry)) result }
     ensures refused { RefusedFor (T.refusal type_info Text (option_copied part.entry)) result }
 {
-    let bytes = match part {
-        Some(text) => Some(text.as_bytes()),
-        None => None,
-    };
-    T::decode(
-        alloc,
-        PgValueRef::new(bytes, type_info, PgValueFormat::Text),
-    )
+    T::decode(alloc, PgValueRef::of_text(part, type_info))
 }
