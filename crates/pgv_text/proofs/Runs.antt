@@ -1,12 +1,14 @@
 -- A usual byte of a text, and those that stand after it, in one step.
-use Rattle.std.proofs.Common.{◌≡◌, ◌<◌, ℕ, zero, suc, ◌+◌, List, [], ◌∷◌, length, take, drop, Option, Some, None, ap, sym, ◌∙◌, refl, arith}
+use Rattle.std.proofs.Common.{◌≡◌, ◌<◌, ℕ, zero, suc, ◌+◌, ◌==◌, true, List, [], ◌∷◌, length, take, drop, Option, Some, None, ap, sym, ◌∙◌, refl, arith}
 use Rattle.std.specs.List.{slice_index}
+use Rattle.std.proofs.lemmas.Bool.{eqb-true}
 use Rattle.std.specs.Option.{option_map}
 use Rattle.pgv_text.specs.declared.scanner.TextForm.{TextForm}
 use Rattle.pgv_text.specs.declared.scanner.Class.TheVariants.{Other}
 use Rattle.pgv_text.specs.declared.scanner.Place.{Place}
-use Rattle.pgv_text.specs.declared.scanner.Cell.TheVariants.{Keep}
+use Rattle.pgv_text.specs.declared.scanner.Cell.TheVariants.{Keep, Pass}
 use Rattle.pgv_text.specs.declared.scanner.Cell.{Cell}
+use Rattle.pgv_text.specs.NestText.{Form}
 use Rattle.pgv_text.specs.Forms.{form_of}
 use Rattle.pgv_text.specs.Scan.{Rest, class, cell, grown, kept, read, read_by}
 use Rattle.pgv_text.proofs.Stops.{grown_none}
@@ -39,3 +41,21 @@ module _ (form : TextForm) (p q : Place) (n : ℕ) (keeps : cell (form_of form) 
       ∙ ap (option_map (kept b)) (usual_run bs i (omega (arith, lt)) other (λ rest e. run rest (e ∙ ap (λ (m : ℕ). drop m (b ∷ bs)) one)))
       ∙ grown_more b (take (i + (1 + n)) bs) (read (form_of form) q (drop (i + (1 + n)) bs))
       ∙ ap (read_after (b ∷ bs)) all
+
+-- a byte that is passed over, with nothing before it
+pub passed : (form : Form) (p q : Place) (b : ℕ) (text before rest : List ℕ) (k : Cell) →
+    read form p text ≡ grown before (read_by form b rest (λ r. read form r rest) k) → k ≡ Pass q → before ≡ [] → read form p text ≡ read form q rest
+passed form p q b text before rest k h e n = h ∙ rw (n, e) (grown_none (read form q rest))
+
+-- a run up to a byte that is passed over, with nothing between it and the end
+pub run_alone : (form : Form) (p q : Place) (b e : ℕ) (text run rest between after : List ℕ) (k m : Cell) →
+    read form p text ≡ grown run (read_by form b rest (λ r. read form r rest) k) → k ≡ Pass q →
+    read form q rest ≡ grown between (read_by form e after (λ r. read form r after) m) → between ≡ [] →
+    read form p text ≡ grown run (read_by form e after (λ r. read form r after) m)
+run_alone form p q b e text run rest between after k m h i j n =
+    h ∙ rw i (ap (grown run) (j ∙ rw n (grown_none (read_by form e after (λ r. read form r after) m))))
+
+-- a list that has no element
+pub none_in : (xs : List ℕ) → (length xs == 0) ≡ true → xs ≡ []
+none_in [] h = refl
+none_in (x ∷ xs) h = let e : length (x ∷ xs) ≡ 0 = eqb-true (length (x ∷ xs)) 0 h in absurd (omega (arith, e))

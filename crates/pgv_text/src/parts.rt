@@ -10,11 +10,11 @@ ghost use Rattle.pgv_text.specs.NestText.{Nest, IsNestText};
 ghost use Rattle.pgv_text.specs.Parsed.{nest_of};
 ghost use Rattle.pgv_text.specs.Values.{part_bytes, values_of};
 ghost use Rattle.pgv_text.specs.PartsLeftView.{values_left};
-ghost use Rattle.pgv_text.specs.PartFound.{part_value};
-ghost use Rattle.pgv_text.specs.declared.scanner.Place.TheVariants.{Start};
+ghost use Rattle.pgv_text.specs.PartFound.{IsPartFrom, part_value};
+ghost use Rattle.pgv_text.specs.declared.scanner.Place.TheVariants.{Quoted, Start};
 
 use super::scanner::{
-    Cell, Place, Stop, TextForm, closes, is_never_special, is_nothing, next_stop, opens,
+    Cell, Place, TextForm, closes, is_never_special, is_nothing, next_stop, opens,
 };
 use std::alloc::{AllocError, Global};
 
@@ -83,6 +83,35 @@ fn part_count(form: TextForm, text: &str) -> Option<(usize, u8)>
         }
     }
     None
+}
+
+/// The part in front where it is one run of bytes as they stand in the text, alone or in quotes, and what is after its end.
+#[inline(always)]
+fn one_run(form: TextForm, text: &str) -> Option<(&str, &str)>
+    ensures { IfSome result (λ found. IsPartFrom form Start text.now found.0.now found.1.now) }
+{
+    let first = next_stop(form, Place::Start, text)?;
+    match first.cell {
+        Cell::Part | Cell::End => Some((first.run, first.rest)),
+        Cell::Pass(Place::Quoted) if first.run.is_empty() => run_in_quotes(form, first.rest),
+        _ => None,
+    }
+}
+
+/// The same after an opening quote.
+#[inline(always)]
+fn run_in_quotes(form: TextForm, text: &str) -> Option<(&str, &str)>
+    ensures { IfSome result (λ found. IsPartFrom form Quoted text.now found.0.now found.1.now) }
+{
+    let inside = next_stop(form, Place::Quoted, text)?;
+    let Cell::Pass(Place::AfterQuote) = inside.cell else {
+        return None;
+    };
+    let end = next_stop(form, Place::AfterQuote, inside.rest)?;
+    match end.cell {
+        Cell::Part | Cell::End if end.run.is_empty() => Some((inside.run, end.rest)),
+        _ => None,
+    }
 }
 
 /// The next part of a text, as [`Parts::next_borrowed`] finds it.
@@ -265,13 +294,8 @@ impl<'a> Parts<'a> {
         if self.count == 0 {
             return Ok(None);
         }
-        match next_stop(self.form, Place::Start, self.rest) {
-            Some(Stop {
-                run,
-                cell: Cell::Part | Cell::End,
-                rest,
-                ..
-            }) => {
+        match one_run(self.form, self.rest) {
+            Some((run, rest)) => {
                 let part = if is_nothing(self.form, self.rest) {
                     Part::Nothing
                 } else {
@@ -281,7 +305,7 @@ impl<'a> Parts<'a> {
                 self.rest = rest;
                 Ok(Some(part))
             }
-            _ => match self.next_into(text)? {
+            None => match self.next_into(text)? {
                 None => Ok(None),
                 Some(false) => Ok(Some(Part::Nothing)),
                 Some(true) => Ok(Some(Part::Unquoted)),
