@@ -301,11 +301,7 @@ fn read_parts<T: Decode + Type>(alloc: Global, parts: Parts<'_>) -> Result<Vec<T
     let mut items = Vec::with_capacity(alloc, parts.len())?;
     let mut text = String::new(alloc);
     while let Some(part) = parts.next_borrowed(&mut text)? {
-        items.push(read_part(
-            alloc,
-            T::type_info(),
-            part.in_text(text.as_str()),
-        )?)?;
+        items.push(read_part(alloc, T::type_info(), part.in_text(text.as_str()))?)?;
     }
     Ok(items)
 }
