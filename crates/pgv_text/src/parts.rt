@@ -38,28 +38,6 @@ fn after_opening(form: TextForm, text: &str) -> Option<(u8, &str)>
     }
 }
 
-/// The same where nothing but usual bytes and commas stand before the bracket, else `None`.
-fn usual_part_count(form: TextForm, bytes: &[u8]) -> Option<(usize, u8)>
-    ensures { IfSome result (λ found. Some found ≡ numbered 1 (read (form_of form) Start bytes.now)) }
-{
-    let mut count = 1;
-    let mut left = bytes;
-    while let [byte, rest @ ..] = left {
-        if !is_never_special(*byte) {
-            if *byte != b',' {
-                return if rest.is_empty() && closes(form, *byte) {
-                    Some((count, *byte))
-                } else {
-                    None
-                };
-            }
-            count += 1;
-        }
-        left = rest;
-    }
-    None
-}
-
 /// How many parts there are to the closing bracket, and which bracket it is; `None` where the rest isn't in the form.
 fn part_count(form: TextForm, text: &str) -> Option<(usize, u8)>
     ensures { result ≡ numbered 1 (read (form_of form) Start text.now) }
@@ -81,6 +59,28 @@ fn part_count(form: TextForm, text: &str) -> Option<(usize, u8)>
             Cell::End if left.is_empty() => return Some((count, stop.byte)),
             _ => return None,
         }
+    }
+    None
+}
+
+/// The same where nothing but usual bytes and commas stand before the bracket, else `None`.
+fn usual_part_count(form: TextForm, bytes: &[u8]) -> Option<(usize, u8)>
+    ensures { IfSome result (λ found. Some found ≡ numbered 1 (read (form_of form) Start bytes.now)) }
+{
+    let mut count = 1;
+    let mut left = bytes;
+    while let [byte, rest @ ..] = left {
+        if !is_never_special(*byte) {
+            if *byte != b',' {
+                return if rest.is_empty() && closes(form, *byte) {
+                    Some((count, *byte))
+                } else {
+                    None
+                };
+            }
+            count += 1;
+        }
+        left = rest;
     }
     None
 }
@@ -281,8 +281,9 @@ impl<'a> Parts<'a> {
         Ok(None)
     }
 
-    /// The next part: borrowed where it has no quote and no backslash, else put into a text. `None` after the last part. Out of
-    /// memory it leaves the parts as they were.
+    /// The next part: borrowed where its bytes stand in the text one after another, alone or in quotes, else put into a text that is
+    /// handed in. `None` after the last part. Out of memory it leaves the parts as they were.
+    /// Of the array `{a,"b c"}` they are `a` and `b c`, both borrowed, and then there is none.
     #[inline(always)]
     pub fn next_borrowed(&mut self, text: &mut String) -> Result<Option<Part<'a>>, AllocError>
         ensures next { IfOk result (λ found. MatchOption found (((nest self.old).values ≡ []) × (self.new ≡ self.old)) (λ part. (nest self.old).values ≡ part_value part (string_bytes text.new) ∷ (nest self.new).values)) }
