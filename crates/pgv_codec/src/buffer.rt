@@ -243,14 +243,22 @@ impl PgArgumentBuffer {
         self.extend_from_slice(&counted[..after])
     }
 
-    /// Appends the frame of an image of 16 bytes or fewer, in one step.
+    /// Appends the frame of an image of 16 bytes or fewer. Of four bytes it is one number of eight; a longer one would wait for the
+    /// length that was written before it.
     #[inline(always)]
     pub(crate) fn push_frame(&mut self, value: &[u8]) -> Result<(), CodecError>
         requires { length value.now ≤ 16 }
         ensures ok { OnOk result (AppendedAll (frame 0 (Some (image_of (bytes value.now)))) self.old self.new) }
-        ensures err { IfErr result (λ e. (e ≡ Memory) × (self.new ≡ self.old)) }
+        ensures err { IfErr result (λ e. e ≡ Memory) }
+        ensures appended { OnErr result (Appended self.old self.new) }
     {
-        self.push_counted(value)
+        if value.len() == 4 {
+            self.push_counted(value)?;
+            return Ok(());
+        }
+        self.push_u32(value.len() as u32)?;
+        self.extend_from_slice(value)?;
+        Ok(())
     }
 
     /// Appends the frame of null.

@@ -86,12 +86,14 @@ pub trait Encode {
     fn produces(&self) -> Result<Option<PgTypeInfo>, AllocError>
         ensures { IfOk result (λ t. t ≡ produced self.now) };
 
-    /// Appends the value's frame, its length and its image, where that takes one step. `false` says that nothing was appended, and
-    /// [`PgArgumentBuffer::encode`] then writes the frame by [`encode_by_ref`](Encode::encode_by_ref). It is for speed alone.
+    /// Appends the value's frame, where its length is known before its image is written. `false` says that nothing was appended, and
+    /// [`PgArgumentBuffer::encode`] then writes the frame by [`encode_by_ref`](Encode::encode_by_ref). C1 may have appended
+    /// something. It is for speed alone.
     #[inline(always)]
     fn encode_at_once(&self, out: &mut PgArgumentBuffer) -> Result<bool, CodecError>
         ensures ok { IfOk result (λ done. AtOnce done (frame (hint self.now) (image self.now)) out.old out.new) }
-        ensures err { IfErr result (λ e. (e ≡ Memory) × (out.new ≡ out.old)) }
+        ensures err { IfErr result (λ e. e ≡ Memory) }
+        ensures appended { OnErr result (Appended out.old out.new) }
     {
         let _ = out;
         Ok(false)
@@ -265,11 +267,12 @@ pub trait Scalar {
         ensures refused { RefusedFor (formless self.now) result }
         ensures appended { OnErr result (Appended out.old out.new) };
 
-    /// Appends the value's frame in one step, or nothing: what [`Encode::encode_at_once`] does.
+    /// Appends the value's frame, or nothing: what [`Encode::encode_at_once`] does.
     #[inline(always)]
     fn write_at_once(&self, out: &mut PgArgumentBuffer) -> Result<bool, CodecError>
         ensures ok { IfOk result (λ done. AtOnce done (frame SIZE (form self.now)) out.old out.new) }
-        ensures err { IfErr result (λ e. (e ≡ Memory) × (out.new ≡ out.old)) }
+        ensures err { IfErr result (λ e. e ≡ Memory) }
+        ensures appended { OnErr result (Appended out.old out.new) }
     {
         let _ = out;
         Ok(false)
