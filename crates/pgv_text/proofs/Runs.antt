@@ -1,5 +1,5 @@
 -- A usual byte of a text, and those that stand after it, in one step.
-use Rattle.std.proofs.Common.{◌≡◌, ◌<◌, ℕ, zero, suc, ◌+◌, ◌==◌, true, List, [], ◌∷◌, length, take, drop, Option, Some, None, ap, sym, ◌∙◌, refl, arith}
+use Rattle.std.proofs.Common.{◌≡◌, ◌<◌, ℕ, zero, suc, ◌+◌, ◌==◌, true, List, [], ◌∷◌, length, take, drop, Option, Some, None, IfSome, ap, sym, ◌∙◌, refl, arith}
 use Rattle.std.specs.List.{slice_index}
 use Rattle.std.proofs.lemmas.Bool.{eqb-true}
 use Rattle.std.specs.Option.{option_map}
@@ -9,7 +9,9 @@ use Rattle.pgv_text.specs.declared.scanner.Place.{Place}
 use Rattle.pgv_text.specs.declared.scanner.Cell.TheVariants.{Keep, Pass}
 use Rattle.pgv_text.specs.declared.scanner.Cell.{Cell}
 use Rattle.pgv_text.specs.NestText.{Form}
+use Rattle.pgv_text.specs.declared.scanner.Stop.{Stop}
 use Rattle.pgv_text.specs.Forms.{form_of}
+use Rattle.pgv_text.specs.PartFound.{IsPartFrom}
 use Rattle.pgv_text.specs.Scan.{Rest, class, cell, grown, kept, read, read_by}
 use Rattle.pgv_text.proofs.Stops.{grown_none}
 
@@ -59,3 +61,8 @@ run_alone form p q b e text run rest between after k m h i j n =
 pub none_in : (xs : List ℕ) → (length xs == 0) ≡ true → xs ≡ []
 none_in [] h = refl
 none_in (x ∷ xs) h = let e : length (x ∷ xs) ≡ 0 = eqb-true (length (x ∷ xs)) 0 h in absurd (omega (arith, e))
+
+-- where reading goes on elsewhere, so does a part
+pub part_from : (form : TextForm) (p q : Place) (text rest : List ℕ) → read (form_of form) p text ≡ read (form_of form) q rest → (found : Option Stop) → IfSome found (IsPartFrom form q rest) → IfSome found (IsPartFrom form p text)
+part_from form p q text rest e None h = tt
+part_from form p q text rest e (Some s) h = (e ∙ h.0, h.1)

@@ -4,6 +4,7 @@
 #![tactic(auto)]
 
 pub mod dates;
+pub mod elements;
 mod field;
 pub mod laws;
 pub mod nest;
@@ -14,6 +15,7 @@ pub mod parts;
 pub mod scanner;
 
 pub use dates::{date, date_time, instant, time, time_tz};
+pub use elements::{Elements, Next};
 pub use nest::{RangeText, array_elements, range_parts, record_fields};
 pub use network::{IpNetwork, Ipv4Network, Ipv6Network};
 pub use number::{NumberFault, bool_of, char_of, number_of, unsigned_number_of};

@@ -1,6 +1,6 @@
 //! The parts of a text, one by one.
 
-ghost use Rattle.std.specs.Prelude.{◌≡◌, ◌==◌, ◌+◌, ◌∷◌, [], ℕ, List, Option, Some, None, IfOk, IfSome, IfNone, OnErr, cond, string_bytes, false, true, length};
+ghost use Rattle.std.specs.Prelude.{◌≡◌, ◌==◌, ◌+◌, ◌<◌, ◌∷◌, [], ℕ, List, Option, Some, None, IfOk, IfSome, IfNone, OnErr, cond, string_bytes, false, true, length};
 ghost use Rattle.std.specs.Option.{MatchOption, option_copied, option_map};
 ghost use Rattle.std.specs.Str.{chars};
 ghost use Rattle.pgv_text.specs.ContentText.{Content, IsTextOf, content_of, is_empty_in, no_parts};
@@ -10,11 +10,11 @@ ghost use Rattle.pgv_text.specs.NestText.{Nest, IsNestText};
 ghost use Rattle.pgv_text.specs.Parsed.{nest_of};
 ghost use Rattle.pgv_text.specs.Values.{part_bytes, values_of};
 ghost use Rattle.pgv_text.specs.PartsLeftView.{values_left};
-ghost use Rattle.pgv_text.specs.PartFound.{IsPartFrom, part_value};
+ghost use Rattle.pgv_text.specs.PartFound.{IsEndOf, IsPartFrom, part_value};
 ghost use Rattle.pgv_text.specs.declared.scanner.Place.TheVariants.{Quoted, Start};
 
 use super::scanner::{
-    Cell, Place, TextForm, closes, is_never_special, is_nothing, next_stop, opens,
+    Cell, Place, Stop, TextForm, closes, is_never_special, is_nothing, next_stop, opens,
 };
 use std::alloc::{AllocError, Global};
 
@@ -29,7 +29,7 @@ fn is_empty_range(form: TextForm, text: &str) -> bool
 }
 
 /// The opening bracket, and what is after it; `None` where there is none.
-fn after_opening(form: TextForm, text: &str) -> Option<(u8, &str)>
+pub(crate) fn after_opening(form: TextForm, text: &str) -> Option<(u8, &str)>
     ensures { MatchOption result (nest_read (form_of form) text.now ≡ None) (λ p. (text.now ≡ p.0 ∷ p.1.now) × ((form_of form).opens p.0 ≡ true)) }
 {
     match text.as_bytes() {
@@ -85,14 +85,15 @@ fn usual_part_count(form: TextForm, bytes: &[u8]) -> Option<(usize, u8)>
     None
 }
 
-/// The part in front where it is one run of bytes as they stand in the text, alone or in quotes, and what is after its end.
+/// The part in front where it is one run of bytes as they stand in the text, alone or in quotes, and where it ends.
 #[inline(always)]
-fn one_run(form: TextForm, text: &str) -> Option<(&str, &str)>
-    ensures { IfSome result (λ found. IsPartFrom form Start text.now found.0.now found.1.now) }
+pub(crate) fn one_run(form: TextForm, text: &str) -> Option<Stop<'_>>
+    ensures part { IfSome result (IsPartFrom form Start text.now) }
+    ensures shorter { IfSome result (λ stop. length stop.rest.now < length text.now) }
 {
     let first = next_stop(form, Place::Start, text)?;
     match first.cell {
-        Cell::Part | Cell::End => Some((first.run, first.rest)),
+        Cell::Part | Cell::End => Some(first),
         Cell::Pass(Place::Quoted) if first.run.is_empty() => run_in_quotes(form, first.rest),
         _ => None,
     }
@@ -100,8 +101,9 @@ fn one_run(form: TextForm, text: &str) -> Option<(&str, &str)>
 
 /// The same after an opening quote.
 #[inline(always)]
-fn run_in_quotes(form: TextForm, text: &str) -> Option<(&str, &str)>
-    ensures { IfSome result (λ found. IsPartFrom form Quoted text.now found.0.now found.1.now) }
+fn run_in_quotes(form: TextForm, text: &str) -> Option<Stop<'_>>
+    ensures part { IfSome result (IsPartFrom form Quoted text.now) }
+    ensures shorter { IfSome result (λ stop. length stop.rest.now < length text.now) }
 {
     let inside = next_stop(form, Place::Quoted, text)?;
     let Cell::Pass(Place::AfterQuote) = inside.cell else {
@@ -109,9 +111,37 @@ fn run_in_quotes(form: TextForm, text: &str) -> Option<(&str, &str)>
     };
     let end = next_stop(form, Place::AfterQuote, inside.rest)?;
     match end.cell {
-        Cell::Part | Cell::End if end.run.is_empty() => Some((inside.run, end.rest)),
+        Cell::Part | Cell::End if end.run.is_empty() => Some(Stop {
+            run: inside.run,
+            ..end
+        }),
         _ => None,
     }
+}
+
+/// Puts the text of the part in front in place of a text, and gives where it ends; `None` where it doesn't.
+pub(crate) fn unquote<'a>(
+    form: TextForm,
+    text: &'a str,
+    out: &mut String,
+) -> Result<Option<Stop<'a>>, AllocError>
+    ensures part { IfOk result (λ found. IfSome found (IsEndOf form text.now (string_bytes out.new))) }
+    ensures shorter { IfOk result (λ found. IfSome found (λ stop. length stop.rest.now < length text.now)) }
+{
+    out.clear();
+    let mut place = Place::Start;
+    let mut left = text;
+    while let Some(stop) = next_stop(form, place, left) {
+        if !stop.run.is_empty() {
+            out.push_str(stop.run)?;
+        }
+        left = stop.rest;
+        match stop.cell {
+            Cell::Pass(next) => place = next,
+            _ => return Ok(Some(stop)),
+        }
+    }
+    Ok(None)
 }
 
 /// The next part of a text, as [`Parts::next_borrowed`] finds it.
@@ -296,14 +326,14 @@ impl<'a> Parts<'a> {
             return Ok(None);
         }
         match one_run(self.form, self.rest) {
-            Some((run, rest)) => {
+            Some(stop) => {
                 let part = if is_nothing(self.form, self.rest) {
                     Part::Nothing
                 } else {
-                    Part::Plain(run)
+                    Part::Plain(stop.run)
                 };
                 self.count -= 1;
-                self.rest = rest;
+                self.rest = stop.rest;
                 Ok(Some(part))
             }
             None => match self.next_into(text)? {

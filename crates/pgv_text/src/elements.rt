@@ -1,0 +1,111 @@
+//! The elements of an array text, read as they come.
+
+ghost use Rattle.std.specs.Prelude.{◌≡◌, ◌<◌, ℕ, List, IfOk, IfSome, false, length, string_bytes};
+ghost use Rattle.pgv_text.specs.ArrayText.{array_form};
+ghost use Rattle.pgv_text.specs.ElementsView.{Follows, ahead};
+ghost use Rattle.pgv_text.specs.PartFound.{IsEndOf, part_value};
+ghost use Rattle.pgv_text.specs.Scan.{closes_here as spec_closes_here, value_here};
+ghost use Rattle.pgv_text.specs.Values.{array_values};
+ghost use Rattle.pgv_text.specs.declared.scanner.TextForm.TheVariants.{Array};
+
+use super::parts::{Part, after_opening, one_run, unquote};
+use super::scanner::{Cell, Stop, TextForm, closes, is_nothing};
+use std::alloc::AllocError;
+
+/// The elements of an array text that are still to come. The text isn't tested before, so that a reader sees each byte once: where it
+/// comes to the end, it was an array text. It takes no memory of its own.
+#[derive(Clone, Copy, Drop)]
+pub struct Elements<'a> {
+    /// These elements and the closing bracket.
+    rest: &'a str,
+    /// Whether the closing bracket was met, with nothing after it.
+    ended: bool,
+}
+
+/// What comes next in an array text.
+#[derive(Clone, Copy, Drop)]
+pub enum Next<'a> {
+    /// An element.
+    Element(Part<'a>),
+    /// The closing bracket, and nothing after it.
+    End,
+    /// What no array text has there.
+    Fault,
+}
+
+impl<'a> Elements<'a> {
+    /// The elements of a text; `None` where it begins as no array text does.
+    #[inline(always)]
+    pub fn of_text(text: &'a str) -> Option<Self>
+        ensures { IfSome result (λ elements. array_values text.now ≡ ahead elements) }
+    {
+        let (_, rest) = after_opening(TextForm::Array, text)?;
+        if !closes_here(rest) {
+            return Some(Elements { rest, ended: false });
+        }
+        if rest.len() == 1 {
+            Some(Elements { rest, ended: true })
+        } else {
+            None
+        }
+    }
+
+    /// Goes on after the part that ends at this stop.
+    #[inline(always)]
+    fn step(&mut self, part: Part<'a>, stop: Stop<'a>) -> Next<'a>
+        ensures { (bytes text : List ℕ) → self.old.ended ≡ false → IsEndOf Array self.old.rest.now bytes stop.entry → length stop.entry.rest.now < length self.old.rest.now → part_value part.entry text ≡ value_here array_form self.old.rest.now bytes → Follows result text self.old self.new }
+    {
+        match stop.cell {
+            Cell::Part => {
+                self.rest = stop.rest;
+                Next::Element(part)
+            }
+            Cell::End if stop.rest.is_empty() => {
+                self.ended = true;
+                Next::Element(part)
+            }
+            _ => Next::Fault,
+        }
+    }
+
+    /// The next element: borrowed where its bytes stand in the text one after another, alone or in quotes, else put into a text that
+    /// is handed in.
+    /// Of the array `{a,"b c"}` they are `a` and `b c`, both borrowed, and then there is the end.
+    #[inline(always)]
+    pub fn next_borrowed(&mut self, text: &mut String) -> Result<Next<'a>, AllocError>
+        ensures { IfOk result (λ next. Follows next (string_bytes text.new) self.old self.new) }
+    {
+        if self.ended {
+            return Ok(Next::End);
+        }
+        let absent = is_nothing(TextForm::Array, self.rest);
+        if let Some(stop) = one_run(TextForm::Array, self.rest) {
+            let part = if absent {
+                Part::Nothing
+            } else {
+                Part::Plain(stop.run)
+            };
+            return Ok(self.step(part, stop));
+        }
+        let Some(stop) = unquote(TextForm::Array, self.rest, text)? else {
+            return Ok(Next::Fault);
+        };
+        let part = if absent {
+            Part::Nothing
+        } else {
+            Part::Unquoted
+        };
+        Ok(self.step(part, stop))
+    }
+}
+
+/// Whether the closing bracket stands in front.
+#[inline(always)]
+fn closes_here(text: &str) -> bool
+    ensures { result ≡ spec_closes_here array_form text.now }
+{
+    match text.as_bytes() {
+        [byte, ..] => closes(TextForm::Array, *byte),
+        [] => false,
+    }
+}
