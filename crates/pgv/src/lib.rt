@@ -37,8 +37,8 @@ pub mod types {
 /// Readers of whole texts.
 pub mod text {
     pub use pgv_text::{
-        NumberFault, Part, Parts, RangeText, TextForm, array_elements, bool_of, char_of, date,
-        date_time, instant, number_of, range_parts, record_fields, time, time_tz,
+        Elements, Next, NumberFault, Part, Parts, RangeText, TextForm, array_elements, bool_of,
+        char_of, date, date_time, instant, number_of, range_parts, record_fields, time, time_tz,
         unsigned_number_of,
     };
 }

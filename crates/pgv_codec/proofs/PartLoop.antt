@@ -3,6 +3,8 @@ use Rattle.std.proofs.Common.{◌≡◌, ℕ, ◌+◌, ◌<◌, List, [], ◌∷
 use Rattle.std.proofs.lemmas.List.{append-nil}
 use Rattle.pgv_value.specs.FrameBinary.{Part}
 use Rattle.pgv_value.specs.declared.error.CodecError.{CodecError}
+use Rattle.std.specs.Option.{option_map}
+use Rattle.pgv_value.specs.Steps.{◌>>=◌}
 use Rattle.pgv_nest.specs.ArrayGrammar.{each}
 use Rattle.pgv_nest.specs.NestRefusals.{each_refusal}
 use Rattle.pgv_codec.proofs.FrameLoop.{with_front, regroup}
@@ -34,6 +36,15 @@ module _ {M : Type 0} (read : Part → Option M) where
   parts_done ms here total none so_far =
       let one : with_front ms (each read here) ≡ Some ms = rw none (ap (λ (xs : List M). Some xs) (append-nil ms)) in
       sym so_far ∙ one
+
+  -- the same of parts that are read as they come
+  pub part_read_ahead : (ms : List M) (here rest_after : Option (List Part)) (part : Part) (m : M) (total : Option (List M)) → here ≡ option_map (λ parts. part ∷ parts) rest_after →
+      read part ≡ Some m → with_front ms (here >>= each read) ≡ total → with_front (ms ++ m ∷ []) (rest_after >>= each read) ≡ total
+  part_read_ahead ms here None part m total e r so_far = sym (ap (λ o. with_front ms (o >>= each read)) e) ∙ so_far
+  part_read_ahead ms here (Some parts) part m total e r so_far = part_read ms (part ∷ parts) part parts m total refl r (sym (ap (λ o. with_front ms (o >>= each read)) e) ∙ so_far)
+
+  pub parts_done_ahead : (ms : List M) (here : Option (List Part)) (total : Option (List M)) → here ≡ Some [] → with_front ms (here >>= each read) ≡ total → total ≡ Some ms
+  parts_done_ahead ms here total e so_far = parts_done ms [] total refl (sym (ap (λ o. with_front ms (o >>= each read)) e) ∙ so_far)
 
 module _ {M : Type 0} (read : Part → Option M) (why : Part → Option CodecError) where
   -- why the parts are refused: one was read, one isn't read

@@ -20,7 +20,7 @@ use super::part::read_part;
 use crate::buffer::{IsNull, LENGTH_LIMIT, PgArgumentBuffer};
 use crate::traits::{Codec, Decode, Encode, PgHasArrayType, ReadBack, Type};
 use pgv_nest::array_head_of;
-use pgv_text::{Parts, TextForm};
+use pgv_text::{Elements, Next, Parts, TextForm};
 use pgv_types::PgTypeInfo;
 use pgv_value::{CodecError, PgValueFormat, PgValueRef};
 use std::alloc::{AllocError, Global};
@@ -279,16 +279,44 @@ fn read_frames<T: Decode>(
     Ok(items)
 }
 
-/// An array in text.
+/// An array in text: in one pass, and where that doesn't come to the end, once more for the refusal.
 fn read_text<T: Decode + Type>(alloc: Global, text: &str) -> Result<Vec<T>, CodecError>
     ensures exact { Answers (λ v. map T.meaning v.items) (array_in_text (T.reading T.info Text) text.now) result }
     ensures exactly { is_some (array_values text.now) ≡ false → AnswersExactly (λ v. map T.meaning v.items) (array_in_text (T.reading T.info Text) text.now) result }
     ensures refused { RefusedFor (array_text_refusal (T.reading T.info Text) (T.refusal T.info Text) text.now) result }
     ensures refused_exactly { is_some (array_values text.now) ≡ false → RefusedExactly (array_text_refusal (T.reading T.info Text) (T.refusal T.info Text) text.now) result }
 {
+    let read = read_elements(alloc, text);
+    if let Ok(Some(items)) = read {
+        return Ok(items);
+    }
     match Parts::new(TextForm::Array, text) {
         None => Err(CodecError::Syntax),
+        Some(_) if read.is_err() => Err(CodecError::Memory),
         Some(parts) => read_parts(alloc, parts),
+    }
+}
+
+/// The elements of an array text, read as they come. `None` where a part isn't read, or the text is no array text: why is not said.
+fn read_elements<T: Decode + Type>(alloc: Global, text: &str) -> Result<Option<Vec<T>>, AllocError>
+    ensures { IfOk result (λ found. IfSome found (λ v. array_in_text (T.reading T.info Text) text.now ≡ Some (map T.meaning v.items))) }
+{
+    let Some(mut elements) = Elements::of_text(text) else {
+        return Ok(None);
+    };
+    let mut items = Vec::new(alloc);
+    let mut unquoted = String::new(alloc);
+    loop {
+        let part = match elements.next_borrowed(&mut unquoted)? {
+            Next::Element(part) => part,
+            Next::End => return Ok(Some(items)),
+            Next::Fault => return Ok(None),
+        };
+        match read_part(alloc, T::type_info(), part.in_text(unquoted.as_str())) {
+            Ok(value) => items.push(value)?,
+            Err(CodecError::Memory) => return Err(AllocError),
+            Err(_) => return Ok(None),
+        }
     }
 }
 
