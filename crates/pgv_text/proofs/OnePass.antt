@@ -5,13 +5,14 @@ use Rattle.std.specs.Str.{IsUtf8}
 use Rattle.std.proofs.lemmas.Bool.{eqb-true, false≢true}
 use Rattle.pgv_text.specs.declared.scanner.TextForm.TheVariants.{Array}
 use Rattle.pgv_text.specs.declared.scanner.Place.TheVariants.{Start}
-use Rattle.pgv_text.specs.declared.scanner.Cell.TheVariants.{Part, End}
+use Rattle.pgv_text.specs.declared.scanner.Cell.TheVariants.{Keep, Pass, Part, End, Refuse}
 use Rattle.pgv_text.specs.declared.scanner.Cell.{Cell}
 use Rattle.pgv_text.specs.ArrayText.{array_form}
+use Rattle.pgv_text.specs.PartFound.{halts}
 use Rattle.pgv_text.specs.NestText.{Nest, any}
 use Rattle.pgv_text.specs.Values.{array_values}
 use Rattle.pgv_text.proofs.Bytes.{nest_bytes}
-use Rattle.pgv_text.specs.Scan.{Rest, closes_here, counted, grown, nest_between, nest_read, next, read, read_by, value_here, values_from}
+use Rattle.pgv_text.specs.Scan.{Rest, at_end, closes_here, counted, grown, nest_between, nest_read, next, read, read_by, value_here, values_from}
 
 -- after an opening bracket, where the closing one doesn't follow at once
 open_values : (b : ℕ) (bs : List ℕ) (r : Option Rest) (closes : Bool) → closes ≡ false →
@@ -35,6 +36,16 @@ values_none b [] o h l = absurd (false≢true h)
 values_none b (c ∷ []) o h l = values_end b c o h
 values_none b (c ∷ d ∷ bs) o h l = absurd (omega (arith, l))
 
+-- where something follows it
+pub values_more : (b : ℕ) (bs : List ℕ) → array_form.opens b ≡ true → closes_here array_form bs ≡ true → (length bs ≡ 1 → ⊥) → option_map (λ (n : Nest). n.values) (nest_read array_form (b ∷ bs)) ≡ None
+values_more b [] o h l = absurd (false≢true h)
+values_more b (c ∷ []) o h l = absurd (l refl)
+values_more b (c ∷ d ∷ bs) o h l = rw (eqb-true b 123 o, eqb-true c 125 h) refl
+
+-- a text that doesn't begin so
+pub none_read : (text : List ℕ) → IsUtf8 text → nest_read array_form text ≡ None → array_values text ≡ None
+none_read text u e = ap (option_map (λ (n : Nest). n.values)) (sym (nest_bytes Array text u) ∙ e)
+
 -- the values of a text are read of its bytes
 pub as_read : (text : List ℕ) (b : ℕ) (bs : List ℕ) → IsUtf8 text → text ≡ b ∷ bs → array_values text ≡ option_map (λ (n : Nest). n.values) (nest_read array_form (b ∷ bs))
 as_read text b bs u e = ap (option_map (λ (n : Nest). n.values)) (sym (nest_bytes Array text u) ∙ ap (nest_read array_form) e)
@@ -53,3 +64,16 @@ module _ (bytes part rest : List ℕ) (b : ℕ) where
   pub element_last : (k : Cell) → k ≡ End → rest ≡ [] → read array_form Start bytes ≡ grown part (read_by array_form b rest (λ q. read array_form q rest) k) →
       option_map (values_from array_form bytes) (read array_form Start bytes) ≡ Some (value_here array_form bytes part ∷ [])
   element_last k e n h = ap (option_map (values_from array_form bytes)) h ∙ rw (e, n) (ap (λ t. Some (value_here array_form bytes t ∷ [])) (append-nil part))
+
+  last : (after : List ℕ) → (End ≡ End → after ≡ [] → ⊥) → read array_form Start bytes ≡ grown part (at_end b after) → option_map (values_from array_form bytes) (read array_form Start bytes) ≡ None
+  last [] m h = absurd (m refl refl)
+  last (c ∷ cs) m h = ap (option_map (values_from array_form bytes)) h
+
+  -- what no array text has there
+  pub element_fault : (k : Cell) → halts k ≡ true → (k ≡ Part → ⊥) → (k ≡ End → rest ≡ [] → ⊥) → read array_form Start bytes ≡ grown part (read_by array_form b rest (λ q. read array_form q rest) k) →
+      option_map (values_from array_form bytes) (read array_form Start bytes) ≡ None
+  element_fault (Keep q) a n m h = absurd (false≢true a)
+  element_fault (Pass q) a n m h = absurd (false≢true a)
+  element_fault Part a n m h = absurd (n refl)
+  element_fault End a n m h = last rest m h
+  element_fault Refuse a n m h = ap (option_map (values_from array_form bytes)) h

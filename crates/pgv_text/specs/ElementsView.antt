@@ -1,5 +1,5 @@
 -- What is still to come of an array text that is read as it comes: none where it is no array text.
-use Rattle.std.specs.Prelude.{◌≡◌, ◌<◌, ◌+◌, ℕ, Bool, true, false, cond, List, [], ◌∷◌, length, Option, Some, ⊤}
+use Rattle.std.specs.Prelude.{◌≡◌, ◌<◌, ◌+◌, ℕ, Bool, true, false, cond, List, [], ◌∷◌, length, Option, Some, None}
 use Rattle.std.specs.Option.{option_map}
 use Rattle.pgv_text.specs.declared.elements.Elements.{Elements}
 use Rattle.pgv_text.specs.declared.elements.Next.{Next}
@@ -24,4 +24,4 @@ distance e = cond e.ended 0 (1 + length e.rest.now)
 abbrev pub Follows : Next → List ℕ → Elements → Elements → Type 0
 Follows (Element part) text was now = (ahead was ≡ option_map (λ values. part_value part text ∷ values) (ahead now)) × (distance now < distance was)
 Follows End text was now = ahead was ≡ Some []
-Follows Fault text was now = ⊤
+Follows Fault text was now = ahead was ≡ None

@@ -1,8 +1,9 @@
 -- The value of a part that was found, with the text that it may have been put into; and a part whose bytes stand in the text.
-use Rattle.std.specs.Prelude.{◌≡◌, ◌⊎◌, ℕ, List, Option, Some, None}
+use Rattle.std.specs.Prelude.{◌≡◌, ◌⊎◌, Bool, true, false, ℕ, List, Option, Some, None}
 use Rattle.pgv_text.specs.declared.parts.Part.{Part}
 use Rattle.pgv_text.specs.declared.parts.Part.TheVariants.{Nothing, Plain, Unquoted}
-use Rattle.pgv_text.specs.declared.scanner.Cell.TheVariants.{Part as Ends, End}
+use Rattle.pgv_text.specs.declared.scanner.Cell.{Cell}
+use Rattle.pgv_text.specs.declared.scanner.Cell.TheVariants.{Part as Ends, End, Keep, Pass}
 use Rattle.pgv_text.specs.declared.scanner.Place.{Place}
 use Rattle.pgv_text.specs.declared.scanner.Place.TheVariants.{Start}
 use Rattle.pgv_text.specs.declared.scanner.Stop.{Stop}
@@ -26,3 +27,9 @@ IsPartFrom form place text s = (read (form_of form) place text ≡ goes_on form 
 -- the part in front has these bytes, up to this stop
 abbrev pub IsEndOf : TextForm → List ℕ → List ℕ → Stop → Type 0
 IsEndOf form text part s = read (form_of form) Start text ≡ goes_on form part s
+
+-- a part doesn't go on
+abbrev pub halts : Cell → Bool
+halts (Keep place) = false
+halts (Pass place) = false
+halts _ = true

@@ -1,9 +1,10 @@
 //! The elements of an array text, read as they come.
 
-ghost use Rattle.std.specs.Prelude.{◌≡◌, ◌<◌, ℕ, List, IfOk, IfSome, false, length, string_bytes};
+ghost use Rattle.std.specs.Prelude.{◌≡◌, ◌<◌, ℕ, List, IfOk, None, OnErr, false, length, string_bytes, true};
+ghost use Rattle.std.specs.Option.{MatchOption};
 ghost use Rattle.pgv_text.specs.ArrayText.{array_form};
 ghost use Rattle.pgv_text.specs.ElementsView.{Follows, ahead};
-ghost use Rattle.pgv_text.specs.PartFound.{IsEndOf, part_value};
+ghost use Rattle.pgv_text.specs.PartFound.{IsEndOf, halts, part_value};
 ghost use Rattle.pgv_text.specs.Scan.{closes_here as spec_closes_here, value_here};
 ghost use Rattle.pgv_text.specs.Values.{array_values};
 ghost use Rattle.pgv_text.specs.declared.scanner.TextForm.TheVariants.{Array};
@@ -12,8 +13,8 @@ use super::parts::{Part, after_opening, one_run, unquote};
 use super::scanner::{Cell, Stop, TextForm, closes, is_nothing};
 use std::alloc::AllocError;
 
-/// The elements of an array text that are still to come. The text isn't tested before, so that a reader sees each byte once: where it
-/// comes to the end, it was an array text. It takes no memory of its own.
+/// The elements of an array text that are still to come. The text isn't tested before, so that a reader sees each byte once: it is an
+/// array text where the reader comes to the end. It takes no memory of its own.
 #[derive(Clone, Copy, Drop)]
 pub struct Elements<'a> {
     /// These elements and the closing bracket.
@@ -37,9 +38,11 @@ impl<'a> Elements<'a> {
     /// The elements of a text; `None` where it begins as no array text does.
     #[inline(always)]
     pub fn of_text(text: &'a str) -> Option<Self>
-        ensures { IfSome result (λ elements. array_values text.now ≡ ahead elements) }
+        ensures { MatchOption result (array_values text.now ≡ None) (λ elements. array_values text.now ≡ ahead elements) }
     {
-        let (_, rest) = after_opening(TextForm::Array, text)?;
+        let Some((_, rest)) = after_opening(TextForm::Array, text) else {
+            return None;
+        };
         if !closes_here(rest) {
             return Some(Elements { rest, ended: false });
         }
@@ -53,7 +56,7 @@ impl<'a> Elements<'a> {
     /// Goes on after the part that ends at this stop.
     #[inline(always)]
     fn step(&mut self, part: Part<'a>, stop: Stop<'a>) -> Next<'a>
-        ensures { (bytes text : List ℕ) → self.old.ended ≡ false → IsEndOf Array self.old.rest.now bytes stop.entry → length stop.entry.rest.now < length self.old.rest.now → part_value part.entry text ≡ value_here array_form self.old.rest.now bytes → Follows result text self.old self.new }
+        ensures { (bytes text : List ℕ) → self.old.ended ≡ false → IsEndOf Array self.old.rest.now bytes stop.entry → halts stop.entry.cell ≡ true → length stop.entry.rest.now < length self.old.rest.now → part_value part.entry text ≡ value_here array_form self.old.rest.now bytes → Follows result text self.old self.new }
     {
         match stop.cell {
             Cell::Part => {
@@ -69,11 +72,12 @@ impl<'a> Elements<'a> {
     }
 
     /// The next element: borrowed where its bytes stand in the text one after another, alone or in quotes, else put into a text that
-    /// is handed in.
+    /// is handed in. Out of memory it leaves the elements as they were.
     /// Of the array `{a,"b c"}` they are `a` and `b c`, both borrowed, and then there is the end.
     #[inline(always)]
     pub fn next_borrowed(&mut self, text: &mut String) -> Result<Next<'a>, AllocError>
-        ensures { IfOk result (λ next. Follows next (string_bytes text.new) self.old self.new) }
+        ensures next { IfOk result (λ next. Follows next (string_bytes text.new) self.old self.new) }
+        ensures err { OnErr result (self.new ≡ self.old) }
     {
         if self.ended {
             return Ok(Next::End);

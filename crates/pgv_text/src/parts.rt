@@ -10,7 +10,7 @@ ghost use Rattle.pgv_text.specs.NestText.{Nest, IsNestText};
 ghost use Rattle.pgv_text.specs.Parsed.{nest_of};
 ghost use Rattle.pgv_text.specs.Values.{part_bytes, values_of};
 ghost use Rattle.pgv_text.specs.PartsLeftView.{values_left};
-ghost use Rattle.pgv_text.specs.PartFound.{IsEndOf, IsPartFrom, part_value};
+ghost use Rattle.pgv_text.specs.PartFound.{IsEndOf, IsPartFrom, halts, part_value};
 ghost use Rattle.pgv_text.specs.declared.scanner.Place.TheVariants.{Quoted, Start};
 
 use super::scanner::{
@@ -127,6 +127,8 @@ pub(crate) fn unquote<'a>(
 ) -> Result<Option<Stop<'a>>, AllocError>
     ensures part { IfOk result (λ found. IfSome found (IsEndOf form text.now (string_bytes out.new))) }
     ensures shorter { IfOk result (λ found. IfSome found (λ stop. length stop.rest.now < length text.now)) }
+    ensures halts { IfOk result (λ found. IfSome found (λ stop. halts stop.cell ≡ true)) }
+    ensures none { IfOk result (λ found. IfNone found (read (form_of form) Start text.now ≡ None)) }
 {
     out.clear();
     let mut place = Place::Start;
