@@ -1,12 +1,14 @@
 -- Parts that are read one after the other.
-use Rattle.std.proofs.Common.{◌≡◌, ℕ, ◌+◌, ◌<◌, List, [], ◌∷◌, ◌++◌, Option, Some, None, length, get_or, drop, map, refl, sym, ap, ◌∙◌, drop-cons, add-one}
+use Rattle.std.proofs.Common.{◌≡◌, ℕ, ◌+◌, ◌<◌, List, [], ◌∷◌, ◌++◌, Option, Some, None, true, is_some, length, get_or, drop, map, refl, sym, ap, ◌∙◌, drop-cons, add-one}
 use Rattle.std.proofs.lemmas.List.{append-nil}
+use Rattle.std.proofs.lemmas.Bool.{false≢true}
 use Rattle.pgv_value.specs.FrameBinary.{Part}
 use Rattle.pgv_value.specs.declared.error.CodecError.{CodecError}
+use Rattle.pgv_value.specs.declared.error.CodecError.TheVariants.{Syntax}
 use Rattle.std.specs.Option.{option_map}
 use Rattle.pgv_value.specs.Steps.{◌>>=◌}
 use Rattle.pgv_nest.specs.ArrayGrammar.{each}
-use Rattle.pgv_nest.specs.NestRefusals.{each_refusal}
+use Rattle.pgv_nest.specs.NestRefusals.{each_refusal, refusal_or}
 use Rattle.pgv_codec.proofs.FrameLoop.{with_front, regroup}
 
 -- the parts from a place on begin with the one at that place
@@ -43,8 +45,18 @@ module _ {M : Type 0} (read : Part → Option M) where
   part_read_ahead ms here None part m total e r so_far = sym (ap (λ o. with_front ms (o >>= each read)) e) ∙ so_far
   part_read_ahead ms here (Some parts) part m total e r so_far = part_read ms (part ∷ parts) part parts m total refl r (sym (ap (λ o. with_front ms (o >>= each read)) e) ∙ so_far)
 
+  pub part_unread_ahead : (ms : List M) (here rest_after : Option (List Part)) (part : Part) (total : Option (List M)) → here ≡ option_map (λ parts. part ∷ parts) rest_after →
+      with_front ms (here >>= each read) ≡ total → read part ≡ None → total ≡ None
+  part_unread_ahead ms here None part total e so_far r = sym so_far ∙ ap (λ o. with_front ms (o >>= each read)) e
+  part_unread_ahead ms here (Some parts) part total e so_far r = part_unread ms (part ∷ parts) part parts total refl (sym (ap (λ o. with_front ms (o >>= each read)) e) ∙ so_far) r
+
   pub parts_done_ahead : (ms : List M) (here : Option (List Part)) (total : Option (List M)) → here ≡ Some [] → with_front ms (here >>= each read) ≡ total → total ≡ Some ms
   parts_done_ahead ms here total e so_far = parts_done ms [] total refl (sym (ap (λ o. with_front ms (o >>= each read)) e) ∙ so_far)
+
+-- whether there are parts, without the first of them
+pub still_some : (here rest_after : Option (List Part)) (part : Part) → here ≡ option_map (λ parts. part ∷ parts) rest_after → is_some rest_after ≡ is_some here
+still_some here None part e = ap is_some (sym e)
+still_some here (Some parts) part e = ap is_some (sym e)
 
 module _ {M : Type 0} (read : Part → Option M) (why : Part → Option CodecError) where
   -- why the parts are refused: one was read, one isn't read
@@ -61,3 +73,17 @@ module _ {M : Type 0} (read : Part → Option M) (why : Part → Option CodecErr
   part_refused here part rest_after total split so_far r =
       let one : each_refusal read why here ≡ why part = rw (split, r) refl in
       sym so_far ∙ one
+
+  -- the same of parts that are read as they come
+  abbrev pub ahead_refusal : Option (List Part) → Option CodecError
+  ahead_refusal here = refusal_or (Some Syntax) here (each_refusal read why)
+
+  pub part_refused_later_ahead : (here rest_after : Option (List Part)) (part : Part) (m : M) (total : Option CodecError) → here ≡ option_map (λ parts. part ∷ parts) rest_after → read part ≡ Some m →
+      ahead_refusal here ≡ total → ahead_refusal rest_after ≡ total
+  part_refused_later_ahead here None part m total e r so_far = sym (ap ahead_refusal e) ∙ so_far
+  part_refused_later_ahead here (Some parts) part m total e r so_far = part_refused_later (part ∷ parts) part parts m total refl r (sym (ap ahead_refusal e) ∙ so_far)
+
+  pub part_refused_ahead : (here rest_after : Option (List Part)) (part : Part) (total : Option CodecError) → here ≡ option_map (λ parts. part ∷ parts) rest_after → is_some here ≡ true →
+      ahead_refusal here ≡ total → read part ≡ None → total ≡ why part
+  part_refused_ahead here None part total e some so_far r = absurd (false≢true (ap is_some (sym e) ∙ some))
+  part_refused_ahead here (Some parts) part total e some so_far r = part_refused (part ∷ parts) part parts total refl (sym (ap ahead_refusal e) ∙ so_far) r

@@ -1,7 +1,7 @@
 -- What is written of dates, times, date-times and instants is read back, in whole microseconds.
-use Rattle.std.specs.Prelude.{◌≡◌, ℕ, ◌+◌, ◌*◌, ◌/◌, ◌%◌, ◌<◌, ◌&&◌, Bool, true, cond, int_le, ℤ, pos, neg_ℤ, ◌+ℤ◌, ◌-ℤ◌, ◌*ℤ◌, ◌≤ℤ◌, List, Option, Some, None, refl}
+use Rattle.std.specs.Prelude.{◌≡◌, ℕ, ◌/◌, ◌&&◌, true, cond, int_le, ℤ, pos, ◌+ℤ◌, ◌≤ℤ◌, List, Option, Some, None, refl}
 use Rattle.std.specs.Int.{Width, w32, w64, cast_unsigned, to_be_bytes}
-use Rattle.std.proofs.Common.{ap, sym, ◌∙◌, arith}
+use Rattle.std.proofs.Common.{ap, arith}
 use Rattle.std.proofs.lemmas.Int.{ints}
 use Rattle.jiff_core.specs.declared.civil.date.Date.{Date}
 use Rattle.jiff_core.specs.declared.civil.datetime.DateTime.{DateTime}
@@ -19,7 +19,6 @@ use Rattle.pgv_text.specs.DateTimeText.{instant_nanos}
 use Rattle.pgv_value.specs.DateTimeBinary.{day_after, time_after, nanos_after, civil_at, date_reading, time_reading, date_time_reading, instant_reading}
 use Rattle.pgv_value.specs.NumberBinary.{fits_signed, whole_number}
 use Rattle.pgv_value.specs.OwnBytes.{own_four_bytes, own_eight_bytes}
-use Rattle.pgv_value.specs.declared.value.PgValueFormat.TheVariants.{Binary}
 use Rattle.pgv_codec.specs.Back.{ReadsBack, always}
 use Rattle.pgv_codec.specs.BackParts.{guarded}
 use Rattle.pgv_codec.specs.BackScalars.{part_is}

@@ -1,7 +1,7 @@
 -- What comes back of a time, a date-time and an instant: whole microseconds. A time is cut towards midnight. A date-time and an
 -- instant are cut towards 2000-01-01 00:00: before 2000 that is upwards, and may be the midnight that ends the day
 -- (`next_day`). All other plain values are kept as they are.
-use Rattle.std.specs.Prelude.{◌≡◌, ℕ, ◌+◌, ◌*◌, ◌/◌, ◌%◌, ◌<◌, ◌≤◌, nat_lt, int_lt, Bool, true, false, ℤ, pos, negsuc, neg_ℤ, int_div, ◌+ℤ◌, ◌-ℤ◌, ◌*ℤ◌, ◌≤ℤ◌, ◌<ℤ◌, refl}
+use Rattle.std.specs.Prelude.{◌≡◌, ℕ, ◌+◌, ◌*◌, ◌/◌, ◌%◌, ◌<◌, nat_lt, int_lt, Bool, true, false, ℤ, pos, negsuc, neg_ℤ, int_div, ◌+ℤ◌, ◌-ℤ◌, ◌*ℤ◌, ◌≤ℤ◌, ◌<ℤ◌, refl}
 use Rattle.std.specs.Int.{IsInRange}
 use Rattle.std.proofs.Common.{arith}
 use Rattle.std.proofs.lemmas.Bool.{ltb-true}

@@ -1,9 +1,7 @@
 -- What is written of an interval is read back as it.
-use Rattle.std.specs.Prelude.{◌≡◌, ℕ, true, ◌&&◌, cond, ℤ, List, ◌++◌, length, Option, Some, None, refl}
-use Rattle.std.specs.Int.{Width, w32, w64, cast_unsigned, cast_signed, from_be_bytes, to_be_bytes}
+use Rattle.std.specs.Prelude.{◌≡◌, ℕ, true, ◌&&◌, List, ◌++◌, Some, refl}
+use Rattle.std.specs.Int.{w32, w64, cast_unsigned, to_be_bytes}
 use Rattle.std.proofs.Common.{ap, ◌∙◌}
-use Rattle.pgv_types.specs.Ty.{Ty}
-use Rattle.pgv_types.specs.declared.oid.Oid.{Oid}
 use Rattle.pgv_buf.specs.Tokens.{bytes}
 use Rattle.pgv_value.specs.FrameBinary.{Part}
 use Rattle.pgv_value.specs.Interval.{interval_in_binary, interval_reading}
@@ -13,7 +11,7 @@ use Rattle.pgv_codec.specs.Bools.{both_true}
 use Rattle.pgv_codec.specs.Back.{ReadsBack, always}
 use Rattle.pgv_codec.specs.BackParts.{guarded}
 use Rattle.pgv_codec.specs.BackScalars.{part_is}
-use Rattle.pgv_codec.specs.Image.{Image, image_of}
+use Rattle.pgv_codec.specs.Image.{image_of}
 use Rattle.pgv_codec.specs.Intervals.{interval_image}
 use Rattle.pgv_value.specs.NumberBinary.{fits_signed}
 use Rattle.pgv_value.specs.OwnBytes.{eight_again, four_again}

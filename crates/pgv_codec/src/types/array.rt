@@ -1,14 +1,13 @@
 //! Arrays of one dimension (PostgreSQL, "Arrays").
 
-ghost use Rattle.std.specs.Prelude.{◌≡◌, IfOk, IfErr, OnOk, OnErr, ◌*◌, ◌≤◌, false, length, map, Some, None, IfSome, is_some, IsErrOf, List};
+ghost use Rattle.std.specs.Prelude.{◌≡◌, IfOk, IfErr, OnOk, OnErr, ◌*◌, ◌≤◌, false, true, length, map, Some, None, IfSome, is_some, IsErrOf, List};
 ghost use Rattle.std.specs.Vec.{with_items};
-ghost use Rattle.pgv_text.specs.PartsView.{nest};
 ghost use Rattle.pgv_text.specs.Values.{array_values};
 ghost use Rattle.pgv_value.specs.Reading.{Answers, AnswersExactly};
 ghost use Rattle.pgv_value.specs.declared.error.CodecError.TheVariants.{Memory, UnexpectedNull};
 ghost use Rattle.pgv_value.specs.declared.value.PgValueFormat.TheVariants.{Binary, Text};
-ghost use Rattle.pgv_nest.specs.ArrayGrammar.{array, array_in_text, array_of, each, frames, array_of_length};
-ghost use Rattle.pgv_nest.specs.NestRefusals.{array_bytes_refusal, array_refusal, array_takes, array_text_refusal, each_refusal, frames_refusal as frames_read_refusal, is_one_dimension, array_of_length_refusal};
+ghost use Rattle.pgv_nest.specs.ArrayGrammar.{array, array_in_text, array_of, frames, array_of_length};
+ghost use Rattle.pgv_nest.specs.NestRefusals.{array_bytes_refusal, array_refusal, array_takes, array_text_refusal, frames_refusal as frames_read_refusal, is_one_dimension, array_of_length_refusal};
 ghost use Rattle.pgv_codec.specs.Image.{array_image, or_else, header, written_frames, written_element_type, sized_image};
 ghost use Rattle.pgv_codec.specs.Outcome.{Encoded, Refused, Appended, AppendedAll};
 ghost use Rattle.pgv_codec.specs.Refusing.{RefusedExactly, RefusedFor, array_refused, frames_refused};
@@ -279,59 +278,48 @@ fn read_frames<T: Decode>(
     Ok(items)
 }
 
-/// An array in text: in one pass, and where that doesn't come to the end, once more for the refusal.
+/// An array in text. That a text is none (C29) goes before why a part is refused, or that memory is.
 fn read_text<T: Decode + Type>(alloc: Global, text: &str) -> Result<Vec<T>, CodecError>
     ensures exact { Answers (λ v. map T.meaning v.items) (array_in_text (T.reading T.info Text) text.now) result }
     ensures exactly { is_some (array_values text.now) ≡ false → AnswersExactly (λ v. map T.meaning v.items) (array_in_text (T.reading T.info Text) text.now) result }
     ensures refused { RefusedFor (array_text_refusal (T.reading T.info Text) (T.refusal T.info Text) text.now) result }
     ensures refused_exactly { is_some (array_values text.now) ≡ false → RefusedExactly (array_text_refusal (T.reading T.info Text) (T.refusal T.info Text) text.now) result }
 {
-    let read = read_elements(alloc, text);
-    if let Ok(Some(items)) = read {
-        return Ok(items);
-    }
-    match Parts::new(TextForm::Array, text) {
-        None => Err(CodecError::Syntax),
-        Some(_) if read.is_err() => Err(CodecError::Memory),
-        Some(parts) => read_parts(alloc, parts),
+    match read_elements(alloc, text) {
+        Ok(items) => Ok(items),
+        Err(error) if is_array_text(text) => Err(error),
+        Err(_) => Err(CodecError::Syntax),
     }
 }
 
-/// The elements of an array text, read as they come. `None` where a part isn't read, or the text is no array text: why is not said.
-fn read_elements<T: Decode + Type>(alloc: Global, text: &str) -> Result<Option<Vec<T>>, AllocError>
-    ensures { IfOk result (λ found. IfSome found (λ v. array_in_text (T.reading T.info Text) text.now ≡ Some (map T.meaning v.items))) }
+/// Whether a text is that of an array, whatever its elements are.
+fn is_array_text(text: &str) -> bool
+    ensures { result ≡ is_some (array_values text.now) }
+{
+    Parts::new(TextForm::Array, text).is_some()
+}
+
+/// The elements of a text, each read under the own type of `T` as it comes: the text is not tested before.
+fn read_elements<T: Decode + Type>(alloc: Global, text: &str) -> Result<Vec<T>, CodecError>
+    ensures exact { Answers (λ v. map T.meaning v.items) (array_in_text (T.reading T.info Text) text.now) result }
+    ensures refused { is_some (array_values text.now) ≡ true → RefusedFor (array_text_refusal (T.reading T.info Text) (T.refusal T.info Text) text.now) result }
 {
     let Some(mut elements) = Elements::of_text(text) else {
-        return Ok(None);
+        return Err(CodecError::Syntax);
     };
     let mut items = Vec::new(alloc);
     let mut unquoted = String::new(alloc);
     loop {
-        let part = match elements.next_borrowed(&mut unquoted)? {
-            Next::Element(part) => part,
-            Next::End => return Ok(Some(items)),
-            Next::Fault => return Ok(None),
-        };
-        match read_part(alloc, T::type_info(), part.in_text(unquoted.as_str())) {
-            Ok(value) => items.push(value)?,
-            Err(CodecError::Memory) => return Err(AllocError),
-            Err(_) => return Ok(None),
+        match elements.next_borrowed(&mut unquoted)? {
+            Next::Element(part) => items.push(read_part(
+                alloc,
+                T::type_info(),
+                part.in_text(unquoted.as_str()),
+            )?)?,
+            Next::End => return Ok(items),
+            Next::Fault => return Err(CodecError::Syntax),
         }
     }
-}
-
-/// Parts, each read under the own type of `T`.
-fn read_parts<T: Decode + Type>(alloc: Global, parts: Parts<'_>) -> Result<Vec<T>, CodecError>
-    ensures exact { Answers (λ v. map T.meaning v.items) (each (T.reading T.info Text) (nest parts.entry).values) result }
-    ensures refused { RefusedFor (each_refusal (T.reading T.info Text) (T.refusal T.info Text) (nest parts.entry).values) result }
-{
-    let mut parts = parts;
-    let mut items = Vec::with_capacity(alloc, parts.len())?;
-    let mut text = String::new(alloc);
-    while let Some(part) = parts.next_borrowed(&mut text)? {
-        items.push(read_part(alloc, T::type_info(), part.in_text(text.as_str()))?)?;
-    }
-    Ok(items)
 }
 
 /// A list comes back where each element does, under the type that is found by the OID that was written.

@@ -1,4 +1,4 @@
-use Rattle.std.proofs.Common.{◌++◌, length, Some}
+use Rattle.std.proofs.Common.{◌++◌, length}
 use Rattle.pgv_buf.specs.Tokens.{bytes, be4}
 use Rattle.pgv_codec.proofs.Frames.{plain_frame}
 use Rattle.pgv_codec.specs.PlainBytes.{appended_parts}

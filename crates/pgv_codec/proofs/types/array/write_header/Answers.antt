@@ -1,4 +1,4 @@
-use Rattle.std.specs.Prelude.{◌≡◌, ℕ, List, [], ◌∷◌, ◌++◌, refl, length, Some}
+use Rattle.std.specs.Prelude.{◌≡◌, ℕ, List, ◌++◌, refl, length, Some}
 use Rattle.std.proofs.Common.{sym, ap, ◌∙◌, rules}
 use Rattle.pgv_buf.specs.Tokens.{bytes, be4, blank}
 use Rattle.pgv_codec.specs.Image.{typed, join}

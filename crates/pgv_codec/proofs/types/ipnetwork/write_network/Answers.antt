@@ -1,4 +1,4 @@
-use Rattle.std.specs.Prelude.{◌≡◌, ℕ, List, [], ◌∷◌, ◌++◌, refl, length}
+use Rattle.std.specs.Prelude.{◌≡◌, ℕ, List, ◌∷◌, ◌++◌, refl, length}
 use Rattle.std.proofs.Common.{sym, ap, ◌∙◌, rules}
 use Rattle.pgv_buf.specs.Tokens.{bytes, blank}
 use Rattle.pgv_codec.proofs.Fours.{four}
