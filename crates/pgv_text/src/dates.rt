@@ -1,6 +1,6 @@
 //! Texts of dates, times of day, date-times and instants, as PostgreSQL writes them.
 
-ghost use Rattle.std.specs.Prelude.{◌≡◌, ◌<◌, IfSome};
+ghost use Rattle.std.specs.Prelude.{◌≡◌, ◌<◌};
 ghost use Rattle.std.specs.Option.{option_copied, option_map};
 ghost use Rattle.jiff.specs.Words.{epoch_day, civil_nanos, time_nanos};
 ghost use Rattle.pgv_text.specs.DateTimeText as spec;

@@ -5,12 +5,12 @@ ghost use Rattle.std.specs.Option.{MatchOption};
 ghost use Rattle.pgv_text.specs.ArrayText.{array_form};
 ghost use Rattle.pgv_text.specs.ElementsView.{Follows, ahead};
 ghost use Rattle.pgv_text.specs.PartFound.{IsEndOf, halts, part_value};
-ghost use Rattle.pgv_text.specs.Scan.{closes_here as spec_closes_here, value_here};
+ghost use Rattle.pgv_text.specs.Scan.{value_here};
 ghost use Rattle.pgv_text.specs.Values.{array_values};
 ghost use Rattle.pgv_text.specs.declared.scanner.TextForm.TheVariants.{Array};
 
-use super::parts::{Part, after_opening, one_run, unquote};
-use super::scanner::{Cell, Stop, TextForm, closes, is_nothing};
+use super::parts::{Part, after_opening, closes_here, one_run, unquote};
+use super::scanner::{Cell, Stop, TextForm, is_nothing};
 use std::alloc::AllocError;
 
 /// The elements of an array text that are still to come. The text isn't tested before, so that a reader sees each byte once: it is an
@@ -100,16 +100,5 @@ impl<'a> Elements<'a> {
             Part::Unquoted
         };
         Ok(self.step(part, stop))
-    }
-}
-
-/// Whether the closing bracket stands in front.
-#[inline(always)]
-fn closes_here(text: &str) -> bool
-    ensures { result ≡ spec_closes_here array_form text.now }
-{
-    match text.as_bytes() {
-        [byte, ..] => closes(TextForm::Array, *byte),
-        [] => false,
     }
 }

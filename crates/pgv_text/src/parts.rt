@@ -1,13 +1,12 @@
 //! The parts of a text, one by one.
 
-ghost use Rattle.std.specs.Prelude.{◌≡◌, ◌==◌, ◌+◌, ◌<◌, ◌∷◌, [], ℕ, List, Option, Some, None, IfOk, IfSome, IfNone, OnErr, cond, string_bytes, false, true, length};
+ghost use Rattle.std.specs.Prelude.{◌≡◌, ◌==◌, ◌+◌, ◌<◌, ◌∷◌, [], Option, Some, None, IfOk, IfSome, IfNone, OnErr, cond, string_bytes, false, true, length};
 ghost use Rattle.std.specs.Option.{MatchOption, option_copied, option_map};
 ghost use Rattle.std.specs.Str.{chars};
+ghost use Rattle.pgv_text.specs.ArrayText.{array_form};
 ghost use Rattle.pgv_text.specs.ContentText.{Content, IsTextOf, content_of, is_empty_in, no_parts};
 ghost use Rattle.pgv_text.specs.Forms.{form_of};
-ghost use Rattle.pgv_text.specs.Scan.{nest_read, numbered, read};
-ghost use Rattle.pgv_text.specs.NestText.{Nest, IsNestText};
-ghost use Rattle.pgv_text.specs.Parsed.{nest_of};
+ghost use Rattle.pgv_text.specs.Scan.{closes_here as spec_closes_here, nest_read, numbered, read};
 ghost use Rattle.pgv_text.specs.Values.{part_bytes, values_of};
 ghost use Rattle.pgv_text.specs.PartsLeftView.{values_left};
 ghost use Rattle.pgv_text.specs.PartFound.{IsEndOf, IsPartFrom, halts, part_value};
@@ -35,6 +34,17 @@ pub(crate) fn after_opening(form: TextForm, text: &str) -> Option<(u8, &str)>
     match text.as_bytes() {
         [opening, ..] if opens(form, *opening) => Some((*opening, &text[1..])),
         _ => None,
+    }
+}
+
+/// Whether the closing bracket of an array stands in front.
+#[inline(always)]
+pub(crate) fn closes_here(text: &str) -> bool
+    ensures { result ≡ spec_closes_here array_form text.now }
+{
+    match text.as_bytes() {
+        [byte, ..] => closes(TextForm::Array, *byte),
+        [] => false,
     }
 }
 
@@ -231,7 +241,7 @@ impl<'a> Parts<'a> {
         let (opening, rest) = after_opening(form, text)?;
         let (count, closing) = part_count(form, rest)?;
         let (count, rest) = match form {
-            TextForm::Array if closes(form, *rest.as_bytes().first()?) => (0, ""),
+            TextForm::Array if closes_here(rest) => (0, ""),
             TextForm::Range if count != 2 => return None,
             _ => (count, rest),
         };
@@ -285,32 +295,27 @@ impl<'a> Parts<'a> {
         ensures upper { (nest self.new).upper ≡ (nest self.old).upper }
         ensures empty { is_of_empty self.new ≡ is_of_empty self.old }
     {
-        text.clear();
         if self.count == 0 {
+            text.clear();
             return Ok(None);
         }
-        let present = !is_nothing(self.form, self.rest);
-        let mut place = Place::Start;
-        let mut left = self.rest;
-        while let Some(stop) = next_stop(self.form, place, left) {
-            if let Err(error) = text.push_str(stop.run) {
+        let found = match unquote(self.form, self.rest, text) {
+            Ok(found) => found,
+            Err(error) => {
                 text.clear();
                 return Err(error);
             }
-            left = stop.rest;
-            match stop.cell {
-                Cell::Pass(next) => place = next,
-                _ => {
-                    if !present {
-                        text.clear();
-                    }
-                    self.count -= 1;
-                    self.rest = left;
-                    return Ok(Some(present));
-                }
-            }
+        };
+        let Some(stop) = found else {
+            return Ok(None);
+        };
+        let present = !is_nothing(self.form, self.rest);
+        if !present {
+            text.clear();
         }
-        Ok(None)
+        self.count -= 1;
+        self.rest = stop.rest;
+        Ok(Some(present))
     }
 
     /// The next part: borrowed where its bytes stand in the text one after another, alone or in quotes, else put into a text that is
