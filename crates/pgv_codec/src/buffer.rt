@@ -1,6 +1,6 @@
 //! The buffer that encoders append to.
 
-ghost use Rattle.std.specs.Prelude.{◌≡◌, ◌==◌, ◌<◌, ◌≤◌, ◌++◌, ℕ, List, [], ◌∷◌, length, Some, OnOk, OnErr, IfErr, Err, sum};
+ghost use Rattle.std.specs.Prelude.{◌≡◌, ◌==◌, ◌<◌, ◌≤◌, ◌++◌, ℕ, List, [], ◌∷◌, length, true, Some, OnOk, OnErr, IfOk, IfErr, Err, sum};
 ghost use Rattle.pgv_buf.specs.Tokens.{byte, hole, slot, bytes, Cell, blank, fixed_bytes, shown, width, be4, hole_types_of, hole_count, slot_count, CasesFit};
 ghost use Rattle.pgv_buf.specs.CasesView.{cases_of};
 ghost use Rattle.pgv_buf.specs.Marks.{mark_of};
@@ -224,8 +224,7 @@ impl PgArgumentBuffer {
         ensures number { value < 4294967296 }
         ensures err { IfErr result (λ e. (e ≡ Memory) × (self.new ≡ self.old)) }
     {
-        let number = value.to_be_bytes();
-        self.extend_from_slice(&number)
+        self.extend_from_slice(&value.to_be_bytes())
     }
 
     /// Appends the number of 16 bytes or fewer, in four bytes, and the bytes, in one step.
@@ -243,31 +242,32 @@ impl PgArgumentBuffer {
         self.extend_from_slice(&counted[..after])
     }
 
-    /// Appends the frame of an image of 16 bytes or fewer. Of four bytes it is one number of eight; a longer one would wait for the
-    /// length that was written before it.
+    /// Appends the frame of an image of 16 bytes or fewer, and answers `true`, as [`Encode::encode_at_once`] does. Of four bytes it is
+    /// one number of eight; a longer one would wait for the length that was written before it.
     #[inline(always)]
-    pub(crate) fn push_frame(&mut self, value: &[u8]) -> Result<(), CodecError>
+    pub(crate) fn push_frame(&mut self, value: &[u8]) -> Result<bool, CodecError>
         requires { length value.now ≤ 16 }
-        ensures ok { OnOk result (AppendedAll (frame 0 (Some (image_of (bytes value.now)))) self.old self.new) }
+        ensures ok { IfOk result (λ done. (done ≡ true) × AppendedAll (frame 0 (Some (image_of (bytes value.now)))) self.old self.new) }
         ensures err { IfErr result (λ e. e ≡ Memory) }
         ensures appended { OnErr result (Appended self.old self.new) }
     {
         if value.len() == 4 {
             self.push_counted(value)?;
-            return Ok(());
+            return Ok(true);
         }
         self.push_u32(value.len() as u32)?;
         self.extend_from_slice(value)?;
-        Ok(())
+        Ok(true)
     }
 
-    /// Appends the frame of null.
+    /// Appends the frame of null, and answers `true`.
     #[inline(always)]
-    pub(crate) fn push_null(&mut self) -> Result<(), CodecError>
-        ensures ok { OnOk result (AppendedAll (frame 0 (Some null_image)) self.old self.new) }
+    pub(crate) fn push_null(&mut self) -> Result<bool, CodecError>
+        ensures ok { IfOk result (λ done. (done ≡ true) × AppendedAll (frame 0 (Some null_image)) self.old self.new) }
         ensures err { IfErr result (λ e. (e ≡ Memory) × (self.new ≡ self.old)) }
     {
-        self.push_u32(NULL_LENGTH)
+        self.push_u32(NULL_LENGTH)?;
+        Ok(true)
     }
 
     /// A type, as an element's or a field's is written.

@@ -226,22 +226,30 @@ impl<T: Plain> Codec for T {
     ghost agrees = { T.agrees };
 }
 
-/// Tells the types of this crate that are [`Alone`] from references, which are written as what they refer to.
+/// What a [`BuiltIn`] is said of, in place of `T`: so that what follows from it stands beside the impls for references, which have none.
 pub struct Of<T>(PhantomData<T>);
 
-/// That `T` has its codec by [`Scalar`], of an `Of<T>`. No crate above this one can say so of its own types: there it writes the
-/// impls of [`Type`], [`PgHasArrayType`] and [`Encode`].
-pub trait Alone {}
+/// That an `Of<Self>` has a [`BuiltIn`]. No crate above this one can say so of its own types: there all impls are written out.
+pub trait HasBuiltIn {}
 
-/// A value of one built-in type, written with one size hint and never as of another type. From this one impl it has [`Type`],
-/// [`PgHasArrayType`] and [`Encode`].
-pub trait Scalar {
-    /// The type that its values have; they are read under it and domains over it.
+/// The built-in type that the values of `T` have, and the type of their arrays, said of an `Of<T>`: each is read under it and domains
+/// over it. From this one impl `T` has [`Type`] and [`PgHasArrayType`].
+pub trait BuiltIn {
+    /// The type of the values.
     ghost INFO: { Ty };
 
-    /// The type of their arrays, which are read under it and domains over it.
+    /// The type of their arrays.
     ghost ARRAY_INFO: { Ty };
 
+    /// The type of the values.
+    const INFO: PgTypeInfo;
+
+    /// The type of their arrays.
+    const ARRAY_INFO: PgTypeInfo;
+}
+
+/// A value of a [`BuiltIn`] type that is written with one size hint and never as of another type. From this one impl it has [`Encode`].
+pub trait Scalar {
     /// A number of bytes that a value says to need.
     ghost SIZE: { ℕ };
 
@@ -250,12 +258,6 @@ pub trait Scalar {
 
     /// Which refusal is answered where a value has no image, out of memory aside: none where the type doesn't state it.
     ghost formless: { Self → Option CodecError } = { λ _. None };
-
-    /// The type that its values have.
-    const INFO: PgTypeInfo;
-
-    /// The type of their arrays.
-    const ARRAY_INFO: PgTypeInfo;
 
     /// A number of bytes that a value says to need.
     const SIZE: usize;
@@ -279,44 +281,44 @@ pub trait Scalar {
     }
 }
 
-impl<T: Scalar> Type for T
+impl<T: HasBuiltIn> Type for T
 where
-    Of<T>: Alone,
+    Of<T>: BuiltIn,
 {
-    ghost info = { T.INFO };
+    ghost info = { ⟦<Of<T> as BuiltIn>⟧.INFO };
 
-    ghost accepts = { λ t. softly t T.INFO };
+    ghost accepts = { λ t. softly t ⟦<Of<T> as BuiltIn>⟧.INFO };
 
     #[inline(always)]
     fn type_info() -> PgTypeInfo {
-        T::INFO
+        Of::<T>::INFO
     }
 
     fn compatible(type_info: &PgTypeInfo) -> bool {
-        type_info.type_compatible(&T::INFO)
+        type_info.type_compatible(&Of::<T>::INFO)
     }
 }
 
-impl<T: Scalar> PgHasArrayType for T
+impl<T: HasBuiltIn> PgHasArrayType for T
 where
-    Of<T>: Alone,
+    Of<T>: BuiltIn,
 {
-    ghost array_info = { T.ARRAY_INFO };
+    ghost array_info = { ⟦<Of<T> as BuiltIn>⟧.ARRAY_INFO };
 
-    ghost accepts_array = { λ t. softly t T.ARRAY_INFO };
+    ghost accepts_array = { λ t. softly t ⟦<Of<T> as BuiltIn>⟧.ARRAY_INFO };
 
     fn array_type_info() -> PgTypeInfo {
-        T::ARRAY_INFO
+        Of::<T>::ARRAY_INFO
     }
 
     fn array_compatible(type_info: &PgTypeInfo) -> bool {
-        type_info.type_compatible(&T::ARRAY_INFO)
+        type_info.type_compatible(&Of::<T>::ARRAY_INFO)
     }
 }
 
 impl<T: Scalar> Encode for T
 where
-    Of<T>: Alone,
+    Of<T>: BuiltIn,
 {
     ghost image = { T.form };
 

@@ -7,28 +7,29 @@ ghost use Rattle.pgv_value.specs.ScalarGrammar.{bool_reading, bool_refusal};
 ghost use Rattle.pgv_codec.specs.Saying.{plainly};
 
 use crate::buffer::{IsNull, PgArgumentBuffer};
-use crate::traits::{Alone, Of, Plain, Scalar};
+use crate::traits::{BuiltIn, HasBuiltIn, Of, Plain, Scalar};
 use pgv_types::{PgType, PgTypeInfo};
 use pgv_value::{CodecError, PgValueRef, read_bool};
 use std::alloc::Global;
 
-impl Alone for Of<bool> {}
-
+impl HasBuiltIn for bool {}
 /// A `bool` (OID 16), read under `bool` and domains over it.
 /// An array of them is a `bool[]` (OID 1000).
-/// Written as one byte: `true` as `01`, `false` as `00`.
-impl Scalar for bool {
+impl BuiltIn for Of<bool> {
     ghost INFO = { builtin 16 };
 
     ghost ARRAY_INFO = { builtin 1000 };
 
-    ghost SIZE = { 0 };
-
-    ghost form = { bool_image };
-
     const INFO: PgTypeInfo = PgTypeInfo(PgType::Bool);
 
     const ARRAY_INFO: PgTypeInfo = PgTypeInfo(PgType::BoolArray);
+}
+
+/// Written as one byte: `true` as `01`, `false` as `00`.
+impl Scalar for bool {
+    ghost SIZE = { 0 };
+
+    ghost form = { bool_image };
 
     const SIZE: usize = 0;
 
@@ -40,8 +41,7 @@ impl Scalar for bool {
 
     #[inline(always)]
     fn write_at_once(&self, out: &mut PgArgumentBuffer) -> Result<bool, CodecError> {
-        out.push_frame(&[u8::from(*self)])?;
-        Ok(true)
+        out.push_frame(&[u8::from(*self)])
     }
 }
 

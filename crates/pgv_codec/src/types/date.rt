@@ -9,7 +9,7 @@ ghost use Rattle.pgv_codec.specs.WithHint.{with_hint};
 
 use super::int::write_i32;
 use crate::buffer::{IsNull, PgArgumentBuffer};
-use crate::traits::{Alone, Of, Plain, Scalar};
+use crate::traits::{BuiltIn, HasBuiltIn, Of, Plain, Scalar};
 use jiff::civil::Date;
 use pgv_types::{PgType, PgTypeInfo};
 use pgv_value::{CodecError, FIRST_DAY, PgValueRef, read_date};
@@ -22,23 +22,24 @@ fn days_from_2000(date: Date) -> i32
     date.to_plain().to_unix_epoch_day() - FIRST_DAY
 }
 
-impl Alone for Of<Date> {}
-
+impl HasBuiltIn for Date {}
 /// `date` (OID 1082), read under `date` and domains over it.
 /// An array of them is `date[]` (OID 1182).
-/// Written as four bytes, the days from 2000-01-01: 2024-02-29 as `00002279`.
-impl Scalar for Date {
+impl BuiltIn for Of<Date> {
     ghost INFO = { builtin 1082 };
 
     ghost ARRAY_INFO = { builtin 1182 };
 
-    ghost SIZE = { 4 };
-
-    ghost form = { λ v. date_image (epoch_day v) };
-
     const INFO: PgTypeInfo = PgTypeInfo(PgType::Date);
 
     const ARRAY_INFO: PgTypeInfo = PgTypeInfo(PgType::DateArray);
+}
+
+/// Written as four bytes, the days from 2000-01-01: 2024-02-29 as `00002279`.
+impl Scalar for Date {
+    ghost SIZE = { 4 };
+
+    ghost form = { λ v. date_image (epoch_day v) };
 
     const SIZE: usize = 4;
 

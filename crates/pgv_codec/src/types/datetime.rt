@@ -9,7 +9,7 @@ ghost use Rattle.pgv_codec.specs.WithHint.{with_hint};
 
 use super::int::write_i64;
 use crate::buffer::{IsNull, PgArgumentBuffer};
-use crate::traits::{Alone, Of, Plain, Scalar};
+use crate::traits::{BuiltIn, HasBuiltIn, Of, Plain, Scalar};
 use jiff::civil::DateTime;
 use pgv_types::{PgType, PgTypeInfo};
 use pgv_value::{CodecError, FIRST_NANOSECOND, PgValueRef, read_date_time};
@@ -22,23 +22,24 @@ fn micros_from_2000(at: DateTime) -> i64
     ((at.to_plain().to_nanosecond() - FIRST_NANOSECOND) / 1000) as i64
 }
 
-impl Alone for Of<DateTime> {}
-
+impl HasBuiltIn for DateTime {}
 /// `timestamp` (OID 1114), read under `timestamp` and domains over it.
 /// An array of them is `timestamp[]` (OID 1115).
-/// Written as eight bytes, the microseconds from 2000-01-01 00:00: one second later as `00000000000f4240`.
-impl Scalar for DateTime {
+impl BuiltIn for Of<DateTime> {
     ghost INFO = { builtin 1114 };
 
     ghost ARRAY_INFO = { builtin 1115 };
 
-    ghost SIZE = { 8 };
-
-    ghost form = { λ v. moment_image (civil_nanos v) };
-
     const INFO: PgTypeInfo = PgTypeInfo(PgType::Timestamp);
 
     const ARRAY_INFO: PgTypeInfo = PgTypeInfo(PgType::TimestampArray);
+}
+
+/// Written as eight bytes, the microseconds from 2000-01-01 00:00: one second later as `00000000000f4240`.
+impl Scalar for DateTime {
+    ghost SIZE = { 8 };
+
+    ghost form = { λ v. moment_image (civil_nanos v) };
 
     const SIZE: usize = 8;
 

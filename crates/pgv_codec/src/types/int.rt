@@ -10,7 +10,7 @@ ghost use Rattle.pgv_codec.specs.Outcome.{Encoded, Refused, Appended};
 ghost use Rattle.pgv_codec.specs.Saying.{plainly};
 
 use crate::buffer::{IsNull, PgArgumentBuffer};
-use crate::traits::{Alone, Of, Plain, Scalar};
+use crate::traits::{BuiltIn, HasBuiltIn, Of, Plain, Scalar};
 use pgv_types::{PgType, PgTypeInfo};
 use pgv_value::{CodecError, PgValueRef, read_i8, read_i16, read_i32, read_i64};
 use std::alloc::Global;
@@ -22,8 +22,7 @@ pub(crate) fn write_i32(number: i32, out: &mut PgArgumentBuffer) -> Result<IsNul
     ensures err { IfErr result (λ e. Refused e (signed_image w32 number)) }
     ensures appended { OnErr result (Appended out.old out.new) }
 {
-    let number = number.to_be_bytes();
-    out.extend_from_slice(&number)?;
+    out.extend_from_slice(&number.to_be_bytes())?;
     Ok(IsNull::No)
 }
 
@@ -34,43 +33,40 @@ pub(crate) fn write_i64(number: i64, out: &mut PgArgumentBuffer) -> Result<IsNul
     ensures err { IfErr result (λ e. Refused e (signed_image w64 number)) }
     ensures appended { OnErr result (Appended out.old out.new) }
 {
-    let number = number.to_be_bytes();
-    out.extend_from_slice(&number)?;
+    out.extend_from_slice(&number.to_be_bytes())?;
     Ok(IsNull::No)
 }
 
-impl Alone for Of<i8> {}
-
+impl HasBuiltIn for i8 {}
 /// `"char"` (OID 18), read under `"char"` and domains over it.
 /// An array of them is `"char"[]` (OID 1002).
-/// Written as one byte in two's complement: -1 as `ff`.
-impl Scalar for i8 {
+impl BuiltIn for Of<i8> {
     ghost INFO = { builtin 18 };
 
     ghost ARRAY_INFO = { builtin 1002 };
 
-    ghost SIZE = { 0 };
-
-    ghost form = { signed_image w8 };
-
     const INFO: PgTypeInfo = PgTypeInfo(PgType::Char);
 
     const ARRAY_INFO: PgTypeInfo = PgTypeInfo(PgType::CharArray);
+}
+
+/// Written as one byte in two's complement: -1 as `ff`.
+impl Scalar for i8 {
+    ghost SIZE = { 0 };
+
+    ghost form = { signed_image w8 };
 
     const SIZE: usize = 0;
 
     #[inline(always)]
     fn write(&self, out: &mut PgArgumentBuffer) -> Result<IsNull, CodecError> {
-        let number = self.to_be_bytes();
-        out.extend_from_slice(&number)?;
+        out.extend_from_slice(&self.to_be_bytes())?;
         Ok(IsNull::No)
     }
 
     #[inline(always)]
     fn write_at_once(&self, out: &mut PgArgumentBuffer) -> Result<bool, CodecError> {
-        let number = self.to_be_bytes();
-        out.push_frame(&number)?;
-        Ok(true)
+        out.push_frame(&self.to_be_bytes())
     }
 }
 
@@ -98,38 +94,36 @@ impl Plain for i8 {
     ghost agrees = { λ _. refl };
 }
 
-impl Alone for Of<i16> {}
-
+impl HasBuiltIn for i16 {}
 /// `int2` (OID 21), read under `int2` and domains over it.
 /// An array of them is `int2[]` (OID 1005).
-/// Written as two bytes in two's complement, the highest first: 7 as `0007`.
-impl Scalar for i16 {
+impl BuiltIn for Of<i16> {
     ghost INFO = { builtin 21 };
 
     ghost ARRAY_INFO = { builtin 1005 };
 
-    ghost SIZE = { 0 };
-
-    ghost form = { signed_image w16 };
-
     const INFO: PgTypeInfo = PgTypeInfo(PgType::Int2);
 
     const ARRAY_INFO: PgTypeInfo = PgTypeInfo(PgType::Int2Array);
+}
+
+/// Written as two bytes in two's complement, the highest first: 7 as `0007`.
+impl Scalar for i16 {
+    ghost SIZE = { 0 };
+
+    ghost form = { signed_image w16 };
 
     const SIZE: usize = 0;
 
     #[inline(always)]
     fn write(&self, out: &mut PgArgumentBuffer) -> Result<IsNull, CodecError> {
-        let number = self.to_be_bytes();
-        out.extend_from_slice(&number)?;
+        out.extend_from_slice(&self.to_be_bytes())?;
         Ok(IsNull::No)
     }
 
     #[inline(always)]
     fn write_at_once(&self, out: &mut PgArgumentBuffer) -> Result<bool, CodecError> {
-        let number = self.to_be_bytes();
-        out.push_frame(&number)?;
-        Ok(true)
+        out.push_frame(&self.to_be_bytes())
     }
 }
 
@@ -157,23 +151,24 @@ impl Plain for i16 {
     ghost agrees = { λ _. refl };
 }
 
-impl Alone for Of<i32> {}
-
+impl HasBuiltIn for i32 {}
 /// `int4` (OID 23), read under `int4` and domains over it.
 /// An array of them is `int4[]` (OID 1007).
-/// Written as four bytes in two's complement, the highest first: 7 as `00000007`.
-impl Scalar for i32 {
+impl BuiltIn for Of<i32> {
     ghost INFO = { builtin 23 };
 
     ghost ARRAY_INFO = { builtin 1007 };
 
-    ghost SIZE = { 0 };
-
-    ghost form = { signed_image w32 };
-
     const INFO: PgTypeInfo = PgTypeInfo(PgType::Int4);
 
     const ARRAY_INFO: PgTypeInfo = PgTypeInfo(PgType::Int4Array);
+}
+
+/// Written as four bytes in two's complement, the highest first: 7 as `00000007`.
+impl Scalar for i32 {
+    ghost SIZE = { 0 };
+
+    ghost form = { signed_image w32 };
 
     const SIZE: usize = 0;
 
@@ -184,9 +179,7 @@ impl Scalar for i32 {
 
     #[inline(always)]
     fn write_at_once(&self, out: &mut PgArgumentBuffer) -> Result<bool, CodecError> {
-        let number = self.to_be_bytes();
-        out.push_frame(&number)?;
-        Ok(true)
+        out.push_frame(&self.to_be_bytes())
     }
 }
 
@@ -214,23 +207,24 @@ impl Plain for i32 {
     ghost agrees = { λ _. refl };
 }
 
-impl Alone for Of<i64> {}
-
+impl HasBuiltIn for i64 {}
 /// `int8` (OID 20), read under `int8` and domains over it.
 /// An array of them is `int8[]` (OID 1016).
-/// Written as eight bytes in two's complement, the highest first: 7 as `0000000000000007`.
-impl Scalar for i64 {
+impl BuiltIn for Of<i64> {
     ghost INFO = { builtin 20 };
 
     ghost ARRAY_INFO = { builtin 1016 };
 
-    ghost SIZE = { 0 };
-
-    ghost form = { signed_image w64 };
-
     const INFO: PgTypeInfo = PgTypeInfo(PgType::Int8);
 
     const ARRAY_INFO: PgTypeInfo = PgTypeInfo(PgType::Int8Array);
+}
+
+/// Written as eight bytes in two's complement, the highest first: 7 as `0000000000000007`.
+impl Scalar for i64 {
+    ghost SIZE = { 0 };
+
+    ghost form = { signed_image w64 };
 
     const SIZE: usize = 0;
 
@@ -241,9 +235,7 @@ impl Scalar for i64 {
 
     #[inline(always)]
     fn write_at_once(&self, out: &mut PgArgumentBuffer) -> Result<bool, CodecError> {
-        let number = self.to_be_bytes();
-        out.push_frame(&number)?;
-        Ok(true)
+        out.push_frame(&self.to_be_bytes())
     }
 }
 

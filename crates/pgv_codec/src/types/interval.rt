@@ -13,7 +13,7 @@ ghost use Rattle.pgv_codec.specs.WithHint.{with_hint};
 ghost use Rattle.pgv_codec.specs.IntervalsBack.{interval_back};
 
 use crate::buffer::{IsNull, PgArgumentBuffer};
-use crate::traits::{Alone, Of, Plain, Scalar};
+use crate::traits::{BuiltIn, HasBuiltIn, Of, Plain, Scalar};
 use jiff::SignedDuration;
 use pgv_types::{PgType, PgTypeInfo};
 use pgv_value::{CodecError, PgInterval, PgValueRef, read_interval};
@@ -35,24 +35,25 @@ fn write_interval(interval: PgInterval, out: &mut PgArgumentBuffer) -> Result<Is
     Ok(IsNull::No)
 }
 
-impl Alone for Of<PgInterval> {}
-
+impl HasBuiltIn for PgInterval {}
 /// `interval` (OID 1186), read under `interval` and domains over it.
 /// An array of them is `interval[]` (OID 1187).
-/// Written as its microseconds in eight bytes, its days in four and its months in four: an hour as
-/// `00000000d693a4000000000000000000`.
-impl Scalar for PgInterval {
+impl BuiltIn for Of<PgInterval> {
     ghost INFO = { builtin 1186 };
 
     ghost ARRAY_INFO = { builtin 1187 };
 
-    ghost SIZE = { 16 };
-
-    ghost form = { interval_image };
-
     const INFO: PgTypeInfo = PgTypeInfo(PgType::Interval);
 
     const ARRAY_INFO: PgTypeInfo = PgTypeInfo(PgType::IntervalArray);
+}
+
+/// Written as its microseconds in eight bytes, its days in four and its months in four: an hour as
+/// `00000000d693a4000000000000000000`.
+impl Scalar for PgInterval {
+    ghost SIZE = { 16 };
+
+    ghost form = { interval_image };
 
     const SIZE: usize = 16;
 
@@ -83,26 +84,27 @@ impl Plain for PgInterval {
     ghost agrees = { λ _. refl };
 }
 
-impl Alone for Of<Duration> {}
-
+impl HasBuiltIn for Duration {}
 /// `interval` (OID 1186), as [`PgInterval`] is. It is only written.
 /// An array of them is `interval[]` (OID 1187).
-/// A duration is written as the interval of its microseconds, with no days and no months. One that isn't whole microseconds is
-/// refused with C4, and another whose number of microseconds 64 bits don't have with C5.
-impl Scalar for Duration {
+impl BuiltIn for Of<Duration> {
     ghost INFO = { builtin 1186 };
 
     ghost ARRAY_INFO = { builtin 1187 };
 
+    const INFO: PgTypeInfo = PgTypeInfo(PgType::Interval);
+
+    const ARRAY_INFO: PgTypeInfo = PgTypeInfo(PgType::IntervalArray);
+}
+
+/// A duration is written as the interval of its microseconds, with no days and no months. One that isn't whole microseconds is
+/// refused with C4, and another whose number of microseconds 64 bits don't have with C5.
+impl Scalar for Duration {
     ghost SIZE = { 16 };
 
     ghost form = { λ duration. duration_image (pos (as_nanos duration)) };
 
     ghost formless = { λ duration. Some (duration_refused (pos (as_nanos duration))) };
-
-    const INFO: PgTypeInfo = PgTypeInfo(PgType::Interval);
-
-    const ARRAY_INFO: PgTypeInfo = PgTypeInfo(PgType::IntervalArray);
 
     const SIZE: usize = 16;
 
@@ -112,25 +114,26 @@ impl Scalar for Duration {
     }
 }
 
-impl Alone for Of<SignedDuration> {}
-
+impl HasBuiltIn for SignedDuration {}
 /// `interval` (OID 1186), as [`PgInterval`] is. It is only written.
 /// An array of them is `interval[]` (OID 1187).
-/// A duration with a sign, written as one without.
-impl Scalar for SignedDuration {
+impl BuiltIn for Of<SignedDuration> {
     ghost INFO = { builtin 1186 };
 
     ghost ARRAY_INFO = { builtin 1187 };
 
+    const INFO: PgTypeInfo = PgTypeInfo(PgType::Interval);
+
+    const ARRAY_INFO: PgTypeInfo = PgTypeInfo(PgType::IntervalArray);
+}
+
+/// A duration with a sign, written as one without.
+impl Scalar for SignedDuration {
     ghost SIZE = { 16 };
 
     ghost form = { λ duration. duration_image (signed_nanos duration) };
 
     ghost formless = { λ duration. Some (duration_refused (signed_nanos duration)) };
-
-    const INFO: PgTypeInfo = PgTypeInfo(PgType::Interval);
-
-    const ARRAY_INFO: PgTypeInfo = PgTypeInfo(PgType::IntervalArray);
 
     const SIZE: usize = 16;
 

@@ -8,43 +8,41 @@ ghost use Rattle.pgv_value.specs.ScalarGrammar.{oid_reading, oid_refusal};
 ghost use Rattle.pgv_codec.specs.Saying.{plainly};
 
 use crate::buffer::{IsNull, PgArgumentBuffer};
-use crate::traits::{Alone, Of, Plain, Scalar};
+use crate::traits::{BuiltIn, HasBuiltIn, Of, Plain, Scalar};
 use pgv_types::{Oid, PgType, PgTypeInfo};
 use pgv_value::{CodecError, PgValueRef, read_oid};
 use std::alloc::Global;
 
-impl Alone for Of<Oid> {}
-
+impl HasBuiltIn for Oid {}
 /// `oid` (OID 26), read under `oid` and domains over it.
 /// An array of them is `oid[]` (OID 1028).
-/// Written as four bytes, the highest first: that of `text` as `00000019`.
-impl Scalar for Oid {
+impl BuiltIn for Of<Oid> {
     ghost INFO = { builtin 26 };
 
     ghost ARRAY_INFO = { builtin 1028 };
 
-    ghost SIZE = { 0 };
-
-    ghost form = { λ o. unsigned_image w32 o.0 };
-
     const INFO: PgTypeInfo = PgTypeInfo(PgType::Oid);
 
     const ARRAY_INFO: PgTypeInfo = PgTypeInfo(PgType::OidArray);
+}
+
+/// Written as four bytes, the highest first: that of `text` as `00000019`.
+impl Scalar for Oid {
+    ghost SIZE = { 0 };
+
+    ghost form = { λ o. unsigned_image w32 o.0 };
 
     const SIZE: usize = 0;
 
     #[inline(always)]
     fn write(&self, out: &mut PgArgumentBuffer) -> Result<IsNull, CodecError> {
-        let number = self.0.to_be_bytes();
-        out.extend_from_slice(&number)?;
+        out.extend_from_slice(&self.0.to_be_bytes())?;
         Ok(IsNull::No)
     }
 
     #[inline(always)]
     fn write_at_once(&self, out: &mut PgArgumentBuffer) -> Result<bool, CodecError> {
-        let number = self.0.to_be_bytes();
-        out.push_frame(&number)?;
-        Ok(true)
+        out.push_frame(&self.0.to_be_bytes())
     }
 }
 

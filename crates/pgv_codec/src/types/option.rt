@@ -83,10 +83,7 @@ impl<T: Encode + Type> Encode for Option<T> {
     fn encode_at_once(&self, out: &mut PgArgumentBuffer) -> Result<bool, CodecError> {
         match self {
             Some(value) => value.encode_at_once(out),
-            None => {
-                out.push_null()?;
-                Ok(true)
-            }
+            None => out.push_null(),
         }
     }
 }

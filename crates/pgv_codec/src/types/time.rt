@@ -9,7 +9,7 @@ ghost use Rattle.pgv_codec.specs.WithHint.{with_hint};
 
 use super::int::write_i64;
 use crate::buffer::{IsNull, PgArgumentBuffer};
-use crate::traits::{Alone, Of, Plain, Scalar};
+use crate::traits::{BuiltIn, HasBuiltIn, Of, Plain, Scalar};
 use jiff::civil::Time;
 use pgv_types::{PgType, PgTypeInfo};
 use pgv_value::{CodecError, PgValueRef, read_time};
@@ -22,23 +22,24 @@ pub fn micros_of_day(time: Time) -> i64
     (time.to_plain().to_nanosecond() / 1000) as i64
 }
 
-impl Alone for Of<Time> {}
-
+impl HasBuiltIn for Time {}
 /// `time` (OID 1083), read under `time` and domains over it.
 /// An array of them is `time[]` (OID 1183).
-/// Written as eight bytes, the microseconds of the day: 12:30 as `0000000a7a358200`.
-impl Scalar for Time {
+impl BuiltIn for Of<Time> {
     ghost INFO = { builtin 1083 };
 
     ghost ARRAY_INFO = { builtin 1183 };
 
-    ghost SIZE = { 8 };
-
-    ghost form = { λ v. time_image (time_nanos v) };
-
     const INFO: PgTypeInfo = PgTypeInfo(PgType::Time);
 
     const ARRAY_INFO: PgTypeInfo = PgTypeInfo(PgType::TimeArray);
+}
+
+/// Written as eight bytes, the microseconds of the day: 12:30 as `0000000a7a358200`.
+impl Scalar for Time {
+    ghost SIZE = { 8 };
+
+    ghost form = { λ v. time_image (time_nanos v) };
 
     const SIZE: usize = 8;
 

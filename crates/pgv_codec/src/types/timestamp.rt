@@ -8,7 +8,7 @@ ghost use Rattle.pgv_codec.specs.WithHint.{with_hint};
 
 use super::int::write_i64;
 use crate::buffer::{IsNull, PgArgumentBuffer};
-use crate::traits::{Alone, Of, Plain, Scalar};
+use crate::traits::{BuiltIn, HasBuiltIn, Of, Plain, Scalar};
 use jiff::Timestamp;
 use pgv_types::{PgType, PgTypeInfo};
 use pgv_value::{CodecError, FIRST_NANOSECOND, PgValueRef, read_instant};
@@ -21,23 +21,24 @@ fn micros_from_2000(at: Timestamp) -> i64
     ((at.as_nanosecond() - FIRST_NANOSECOND) / 1000) as i64
 }
 
-impl Alone for Of<Timestamp> {}
-
+impl HasBuiltIn for Timestamp {}
 /// `timestamptz` (OID 1184), read under `timestamptz` and domains over it.
 /// An array of them is `timestamptz[]` (OID 1185).
-/// Written as eight bytes, the microseconds from 2000-01-01 00:00 UTC: one second later as `00000000000f4240`.
-impl Scalar for Timestamp {
+impl BuiltIn for Of<Timestamp> {
     ghost INFO = { builtin 1184 };
 
     ghost ARRAY_INFO = { builtin 1185 };
 
-    ghost SIZE = { 8 };
-
-    ghost form = { λ v. moment_image v.nanosecond };
-
     const INFO: PgTypeInfo = PgTypeInfo(PgType::Timestamptz);
 
     const ARRAY_INFO: PgTypeInfo = PgTypeInfo(PgType::TimestamptzArray);
+}
+
+/// Written as eight bytes, the microseconds from 2000-01-01 00:00 UTC: one second later as `00000000000f4240`.
+impl Scalar for Timestamp {
+    ghost SIZE = { 8 };
+
+    ghost form = { λ v. moment_image v.nanosecond };
 
     const SIZE: usize = 8;
 

@@ -1,33 +1,17 @@
 //! Tuples of one to nine, which are read from records (PostgreSQL, "Composite Types"). Their fields are read from the
 //! front; further fields are ignored.
 
-ghost use Rattle.std.specs.Prelude.{◌≡◌};
 ghost use Rattle.pgv_types.specs.Ty.{builtin};
-ghost use Rattle.pgv_types.specs.Relations.{softly};
 ghost use Rattle.pgv_nest.specs.NestRefusals.{next_refusal, record_refusal, record_takes, field_then};
 ghost use Rattle.pgv_nest.specs.RecordGrammar.{next};
 ghost use Rattle.pgv_nest.specs.TupleGrammar.{record_of, ◌then◌};
 ghost use Rattle.pgv_codec.specs.Saying.{unwritten};
 
 use super::field_list::first_fields;
-use crate::traits::{Decode, PgHasArrayType, Type};
+use crate::traits::{BuiltIn, Decode, HasBuiltIn, Of, Type};
 use pgv_types::{PgType, PgTypeInfo};
 use pgv_value::{CodecError, PgValueRef};
 use std::alloc::Global;
-
-/// The type of a tuple.
-fn record() -> PgTypeInfo
-    ensures { result ≡ builtin 2249 }
-{
-    PgTypeInfo(PgType::Record)
-}
-
-/// The type of an array of tuples.
-fn records() -> PgTypeInfo
-    ensures { result ≡ builtin 2287 }
-{
-    PgTypeInfo(PgType::RecordArray)
-}
 
 /// The first field of a record. Further fields are ignored. `00000001 00000017 00000004 00000007` is `(7,)`, and so is the text `(7)`.
 impl<A: Type + Decode> Decode for (A,) {
@@ -48,32 +32,16 @@ impl<A: Type + Decode> Decode for (A,) {
     }
 }
 
-impl<A> Type for (A,) {
-    ghost info = { builtin 2249 };
+impl<A> HasBuiltIn for (A,) {}
+/// `record` (OID 2249), read under `record` and domains over it. An array of them is `record[]` (OID 2287).
+impl<A> BuiltIn for Of<(A,)> {
+    ghost INFO = { builtin 2249 };
 
-    ghost accepts = { λ t. softly t (builtin 2249) };
+    ghost ARRAY_INFO = { builtin 2287 };
 
-    fn type_info() -> PgTypeInfo {
-        record()
-    }
+    const INFO: PgTypeInfo = PgTypeInfo(PgType::Record);
 
-    fn compatible(type_info: &PgTypeInfo) -> bool {
-        type_info.type_compatible(&record())
-    }
-}
-
-impl<A> PgHasArrayType for (A,) {
-    ghost array_info = { builtin 2287 };
-
-    ghost accepts_array = { λ t. softly t (builtin 2287) };
-
-    fn array_type_info() -> PgTypeInfo {
-        records()
-    }
-
-    fn array_compatible(type_info: &PgTypeInfo) -> bool {
-        type_info.type_compatible(&records())
-    }
+    const ARRAY_INFO: PgTypeInfo = PgTypeInfo(PgType::RecordArray);
 }
 
 /// The first two fields of a record. Further fields are ignored. `00000002 00000017 00000004 00000001 00000019 00000001 61` is `(1, "a")`,
@@ -97,32 +65,16 @@ impl<A: Type + Decode, B: Type + Decode> Decode for (A, B) {
     }
 }
 
-impl<A, B> Type for (A, B) {
-    ghost info = { builtin 2249 };
+impl<A, B> HasBuiltIn for (A, B) {}
+/// `record` (OID 2249), read under `record` and domains over it. An array of them is `record[]` (OID 2287).
+impl<A, B> BuiltIn for Of<(A, B)> {
+    ghost INFO = { builtin 2249 };
 
-    ghost accepts = { λ t. softly t (builtin 2249) };
+    ghost ARRAY_INFO = { builtin 2287 };
 
-    fn type_info() -> PgTypeInfo {
-        record()
-    }
+    const INFO: PgTypeInfo = PgTypeInfo(PgType::Record);
 
-    fn compatible(type_info: &PgTypeInfo) -> bool {
-        type_info.type_compatible(&record())
-    }
-}
-
-impl<A, B> PgHasArrayType for (A, B) {
-    ghost array_info = { builtin 2287 };
-
-    ghost accepts_array = { λ t. softly t (builtin 2287) };
-
-    fn array_type_info() -> PgTypeInfo {
-        records()
-    }
-
-    fn array_compatible(type_info: &PgTypeInfo) -> bool {
-        type_info.type_compatible(&records())
-    }
+    const ARRAY_INFO: PgTypeInfo = PgTypeInfo(PgType::RecordArray);
 }
 
 /// The first three fields of a record. Further fields are ignored.
@@ -145,32 +97,16 @@ impl<A: Type + Decode, B: Type + Decode, C: Type + Decode> Decode for (A, B, C) 
     }
 }
 
-impl<A, B, C> Type for (A, B, C) {
-    ghost info = { builtin 2249 };
+impl<A, B, C> HasBuiltIn for (A, B, C) {}
+/// `record` (OID 2249), read under `record` and domains over it. An array of them is `record[]` (OID 2287).
+impl<A, B, C> BuiltIn for Of<(A, B, C)> {
+    ghost INFO = { builtin 2249 };
 
-    ghost accepts = { λ t. softly t (builtin 2249) };
+    ghost ARRAY_INFO = { builtin 2287 };
 
-    fn type_info() -> PgTypeInfo {
-        record()
-    }
+    const INFO: PgTypeInfo = PgTypeInfo(PgType::Record);
 
-    fn compatible(type_info: &PgTypeInfo) -> bool {
-        type_info.type_compatible(&record())
-    }
-}
-
-impl<A, B, C> PgHasArrayType for (A, B, C) {
-    ghost array_info = { builtin 2287 };
-
-    ghost accepts_array = { λ t. softly t (builtin 2287) };
-
-    fn array_type_info() -> PgTypeInfo {
-        records()
-    }
-
-    fn array_compatible(type_info: &PgTypeInfo) -> bool {
-        type_info.type_compatible(&records())
-    }
+    const ARRAY_INFO: PgTypeInfo = PgTypeInfo(PgType::RecordArray);
 }
 
 /// The first four fields of a record. Further fields are ignored.
@@ -194,32 +130,16 @@ impl<A: Type + Decode, B: Type + Decode, C: Type + Decode, D: Type + Decode> Dec
     }
 }
 
-impl<A, B, C, D> Type for (A, B, C, D) {
-    ghost info = { builtin 2249 };
+impl<A, B, C, D> HasBuiltIn for (A, B, C, D) {}
+/// `record` (OID 2249), read under `record` and domains over it. An array of them is `record[]` (OID 2287).
+impl<A, B, C, D> BuiltIn for Of<(A, B, C, D)> {
+    ghost INFO = { builtin 2249 };
 
-    ghost accepts = { λ t. softly t (builtin 2249) };
+    ghost ARRAY_INFO = { builtin 2287 };
 
-    fn type_info() -> PgTypeInfo {
-        record()
-    }
+    const INFO: PgTypeInfo = PgTypeInfo(PgType::Record);
 
-    fn compatible(type_info: &PgTypeInfo) -> bool {
-        type_info.type_compatible(&record())
-    }
-}
-
-impl<A, B, C, D> PgHasArrayType for (A, B, C, D) {
-    ghost array_info = { builtin 2287 };
-
-    ghost accepts_array = { λ t. softly t (builtin 2287) };
-
-    fn array_type_info() -> PgTypeInfo {
-        records()
-    }
-
-    fn array_compatible(type_info: &PgTypeInfo) -> bool {
-        type_info.type_compatible(&records())
-    }
+    const ARRAY_INFO: PgTypeInfo = PgTypeInfo(PgType::RecordArray);
 }
 
 /// The first five fields of a record. Further fields are ignored.
@@ -248,32 +168,16 @@ impl<
     }
 }
 
-impl<A, B, C, D, E> Type for (A, B, C, D, E) {
-    ghost info = { builtin 2249 };
+impl<A, B, C, D, E> HasBuiltIn for (A, B, C, D, E) {}
+/// `record` (OID 2249), read under `record` and domains over it. An array of them is `record[]` (OID 2287).
+impl<A, B, C, D, E> BuiltIn for Of<(A, B, C, D, E)> {
+    ghost INFO = { builtin 2249 };
 
-    ghost accepts = { λ t. softly t (builtin 2249) };
+    ghost ARRAY_INFO = { builtin 2287 };
 
-    fn type_info() -> PgTypeInfo {
-        record()
-    }
+    const INFO: PgTypeInfo = PgTypeInfo(PgType::Record);
 
-    fn compatible(type_info: &PgTypeInfo) -> bool {
-        type_info.type_compatible(&record())
-    }
-}
-
-impl<A, B, C, D, E> PgHasArrayType for (A, B, C, D, E) {
-    ghost array_info = { builtin 2287 };
-
-    ghost accepts_array = { λ t. softly t (builtin 2287) };
-
-    fn array_type_info() -> PgTypeInfo {
-        records()
-    }
-
-    fn array_compatible(type_info: &PgTypeInfo) -> bool {
-        type_info.type_compatible(&records())
-    }
+    const ARRAY_INFO: PgTypeInfo = PgTypeInfo(PgType::RecordArray);
 }
 
 /// The first six fields of a record. Further fields are ignored.
@@ -305,32 +209,16 @@ impl<
     }
 }
 
-impl<A, B, C, D, E, F> Type for (A, B, C, D, E, F) {
-    ghost info = { builtin 2249 };
+impl<A, B, C, D, E, F> HasBuiltIn for (A, B, C, D, E, F) {}
+/// `record` (OID 2249), read under `record` and domains over it. An array of them is `record[]` (OID 2287).
+impl<A, B, C, D, E, F> BuiltIn for Of<(A, B, C, D, E, F)> {
+    ghost INFO = { builtin 2249 };
 
-    ghost accepts = { λ t. softly t (builtin 2249) };
+    ghost ARRAY_INFO = { builtin 2287 };
 
-    fn type_info() -> PgTypeInfo {
-        record()
-    }
+    const INFO: PgTypeInfo = PgTypeInfo(PgType::Record);
 
-    fn compatible(type_info: &PgTypeInfo) -> bool {
-        type_info.type_compatible(&record())
-    }
-}
-
-impl<A, B, C, D, E, F> PgHasArrayType for (A, B, C, D, E, F) {
-    ghost array_info = { builtin 2287 };
-
-    ghost accepts_array = { λ t. softly t (builtin 2287) };
-
-    fn array_type_info() -> PgTypeInfo {
-        records()
-    }
-
-    fn array_compatible(type_info: &PgTypeInfo) -> bool {
-        type_info.type_compatible(&records())
-    }
+    const ARRAY_INFO: PgTypeInfo = PgTypeInfo(PgType::RecordArray);
 }
 
 /// The first seven fields of a record. Further fields are ignored.
@@ -363,32 +251,16 @@ impl<
     }
 }
 
-impl<A, B, C, D, E, F, G> Type for (A, B, C, D, E, F, G) {
-    ghost info = { builtin 2249 };
+impl<A, B, C, D, E, F, G> HasBuiltIn for (A, B, C, D, E, F, G) {}
+/// `record` (OID 2249), read under `record` and domains over it. An array of them is `record[]` (OID 2287).
+impl<A, B, C, D, E, F, G> BuiltIn for Of<(A, B, C, D, E, F, G)> {
+    ghost INFO = { builtin 2249 };
 
-    ghost accepts = { λ t. softly t (builtin 2249) };
+    ghost ARRAY_INFO = { builtin 2287 };
 
-    fn type_info() -> PgTypeInfo {
-        record()
-    }
+    const INFO: PgTypeInfo = PgTypeInfo(PgType::Record);
 
-    fn compatible(type_info: &PgTypeInfo) -> bool {
-        type_info.type_compatible(&record())
-    }
-}
-
-impl<A, B, C, D, E, F, G> PgHasArrayType for (A, B, C, D, E, F, G) {
-    ghost array_info = { builtin 2287 };
-
-    ghost accepts_array = { λ t. softly t (builtin 2287) };
-
-    fn array_type_info() -> PgTypeInfo {
-        records()
-    }
-
-    fn array_compatible(type_info: &PgTypeInfo) -> bool {
-        type_info.type_compatible(&records())
-    }
+    const ARRAY_INFO: PgTypeInfo = PgTypeInfo(PgType::RecordArray);
 }
 
 /// The first eight fields of a record. Further fields are ignored.
@@ -425,32 +297,16 @@ impl<
     }
 }
 
-impl<A, B, C, D, E, F, G, H> Type for (A, B, C, D, E, F, G, H) {
-    ghost info = { builtin 2249 };
+impl<A, B, C, D, E, F, G, H> HasBuiltIn for (A, B, C, D, E, F, G, H) {}
+/// `record` (OID 2249), read under `record` and domains over it. An array of them is `record[]` (OID 2287).
+impl<A, B, C, D, E, F, G, H> BuiltIn for Of<(A, B, C, D, E, F, G, H)> {
+    ghost INFO = { builtin 2249 };
 
-    ghost accepts = { λ t. softly t (builtin 2249) };
+    ghost ARRAY_INFO = { builtin 2287 };
 
-    fn type_info() -> PgTypeInfo {
-        record()
-    }
+    const INFO: PgTypeInfo = PgTypeInfo(PgType::Record);
 
-    fn compatible(type_info: &PgTypeInfo) -> bool {
-        type_info.type_compatible(&record())
-    }
-}
-
-impl<A, B, C, D, E, F, G, H> PgHasArrayType for (A, B, C, D, E, F, G, H) {
-    ghost array_info = { builtin 2287 };
-
-    ghost accepts_array = { λ t. softly t (builtin 2287) };
-
-    fn array_type_info() -> PgTypeInfo {
-        records()
-    }
-
-    fn array_compatible(type_info: &PgTypeInfo) -> bool {
-        type_info.type_compatible(&records())
-    }
+    const ARRAY_INFO: PgTypeInfo = PgTypeInfo(PgType::RecordArray);
 }
 
 /// The first nine fields of a record. Further fields are ignored.
@@ -488,30 +344,14 @@ impl<
     }
 }
 
-impl<A, B, C, D, E, F, G, H, I> Type for (A, B, C, D, E, F, G, H, I) {
-    ghost info = { builtin 2249 };
+impl<A, B, C, D, E, F, G, H, I> HasBuiltIn for (A, B, C, D, E, F, G, H, I) {}
+/// `record` (OID 2249), read under `record` and domains over it. An array of them is `record[]` (OID 2287).
+impl<A, B, C, D, E, F, G, H, I> BuiltIn for Of<(A, B, C, D, E, F, G, H, I)> {
+    ghost INFO = { builtin 2249 };
 
-    ghost accepts = { λ t. softly t (builtin 2249) };
+    ghost ARRAY_INFO = { builtin 2287 };
 
-    fn type_info() -> PgTypeInfo {
-        record()
-    }
+    const INFO: PgTypeInfo = PgTypeInfo(PgType::Record);
 
-    fn compatible(type_info: &PgTypeInfo) -> bool {
-        type_info.type_compatible(&record())
-    }
-}
-
-impl<A, B, C, D, E, F, G, H, I> PgHasArrayType for (A, B, C, D, E, F, G, H, I) {
-    ghost array_info = { builtin 2287 };
-
-    ghost accepts_array = { λ t. softly t (builtin 2287) };
-
-    fn array_type_info() -> PgTypeInfo {
-        records()
-    }
-
-    fn array_compatible(type_info: &PgTypeInfo) -> bool {
-        type_info.type_compatible(&records())
-    }
+    const ARRAY_INFO: PgTypeInfo = PgTypeInfo(PgType::RecordArray);
 }

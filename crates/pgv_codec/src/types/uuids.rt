@@ -7,30 +7,31 @@ ghost use Rattle.pgv_value.specs.ScalarGrammar.{uuid_reading, uuid_refusal};
 ghost use Rattle.pgv_codec.specs.Saying.{plainly};
 
 use crate::buffer::{IsNull, PgArgumentBuffer};
-use crate::traits::{Alone, Of, Plain, Scalar};
+use crate::traits::{BuiltIn, HasBuiltIn, Of, Plain, Scalar};
 use pgv_types::{PgType, PgTypeInfo};
 use pgv_value::{CodecError, PgValueRef, read_uuid};
 use std::alloc::Global;
 use uuid::Uuid;
 
-impl Alone for Of<Uuid> {}
-
+impl HasBuiltIn for Uuid {}
 /// `uuid` (OID 2950), read under `uuid` and domains over it.
 /// An array of them is `uuid[]` (OID 2951).
-/// Written as its sixteen bytes.
-/// `00000000-0000-0000-0000-000000000007` is fifteen bytes `00` and `07`.
-impl Scalar for Uuid {
+impl BuiltIn for Of<Uuid> {
     ghost INFO = { builtin 2950 };
 
     ghost ARRAY_INFO = { builtin 2951 };
 
-    ghost SIZE = { 0 };
-
-    ghost form = { uuid_image };
-
     const INFO: PgTypeInfo = PgTypeInfo(PgType::Uuid);
 
     const ARRAY_INFO: PgTypeInfo = PgTypeInfo(PgType::UuidArray);
+}
+
+/// Written as its sixteen bytes.
+/// `00000000-0000-0000-0000-000000000007` is fifteen bytes `00` and `07`.
+impl Scalar for Uuid {
+    ghost SIZE = { 0 };
+
+    ghost form = { uuid_image };
 
     const SIZE: usize = 0;
 
@@ -42,8 +43,7 @@ impl Scalar for Uuid {
 
     #[inline(always)]
     fn write_at_once(&self, out: &mut PgArgumentBuffer) -> Result<bool, CodecError> {
-        out.push_frame(self.as_bytes())?;
-        Ok(true)
+        out.push_frame(self.as_bytes())
     }
 }
 
