@@ -3,10 +3,10 @@ use Rattle.std.proofs.Common.{◌≡◌, ℕ, ◌+◌, ◌≤◌, ◌<◌, ◌==
 use Rattle.std.proofs.lemmas.Bool.{eq-eqb}
 use Rattle.std.proofs.lemmas.List.{take_at, drop_at}
 use Rattle.pgv_types.specs.Ty.{Ty}
-use Rattle.pgv_buf.specs.Tokens.{Token, byte, hole, slot, tokens_width, Cell, fixed, hole_cell, slot_cell, plain, shown, width, hole_types_of, hole_count, slot_count}
+use Rattle.pgv_buf.specs.Tokens.{tokens_hole_types, Token, byte, hole, slot, tokens_width, Cell, fixed, hole_cell, slot_cell, plain, shown, width, hole_types_of, hole_count, slot_count}
 use Rattle.pgv_buf.specs.Blank.{plain-append}
 use Rattle.pgv_buf.specs.Proper.{Proper, Proper-append, Proper-front, shown-append, length-shown, length-hole_types_of}
-use Rattle.pgv_buf.specs.Layout.{is_hole, is_slot, token_width, if_so, places, last_from, types_of, Kept, slots_of, Layout, layout_of, first_at, parse, tokens_of, Represents, Valid}
+use Rattle.pgv_buf.specs.Layout.{is_hole, is_slot, token_width, if_so, places, last_from, Kept, slots_of, Layout, layout_of, first_at, parse, tokens_of, Represents, Valid}
 
 -- ---- places
 
@@ -63,13 +63,13 @@ length-slot_places i (slot_cell d cs s ∷ ts) = omega (arith, length-slot_place
 
 -- ---- types and slots
 
-pub types-plain : (ts : List Cell) → types_of (plain ts) ≡ hole_types_of ts
+pub types-plain : (ts : List Cell) → tokens_hole_types (plain ts) ≡ hole_types_of ts
 types-plain [] = refl
 types-plain (fixed x ∷ ts) = types-plain ts
 types-plain (hole_cell t s ∷ ts) = ap (λ r. t ∷ r) (types-plain ts)
 types-plain (slot_cell d cs s ∷ ts) = types-plain ts
 
-types-append : (a c : List Token) → types_of (a ++ c) ≡ types_of a ++ types_of c
+types-append : (a c : List Token) → tokens_hole_types (a ++ c) ≡ tokens_hole_types a ++ tokens_hole_types c
 types-append [] c = refl
 types-append (byte x ∷ a) c = types-append a c
 types-append (hole t ∷ a) c = ap (λ r. t ∷ r) (types-append a c)
@@ -95,7 +95,7 @@ same_layout e f g h = cc
 
 -- one layout and then that of tokens that begin at n
 abbrev pub with_more : Layout → ℕ → List Token → Layout
-with_more l n c = record { holes = l.holes ++ places is_hole n c; types = l.types ++ types_of c; slot_places = l.slot_places ++ places is_slot n c; slots = l.slots ++ slots_of c }
+with_more l n c = record { holes = l.holes ++ places is_hole n c; types = l.types ++ tokens_hole_types c; slot_places = l.slot_places ++ places is_slot n c; slots = l.slots ++ slots_of c }
 
 pub layout-append : (a c : List Token) → layout_of (a ++ c) ≡ with_more (layout_of a) (tokens_width a) c
 layout-append a c =
@@ -107,7 +107,7 @@ layout-append a c =
 
 -- ---- only these cells are kept so
 
-parsed : (n i : ℕ) (ts : List Cell) → Proper ts → length ts ≤ n → parse n i (shown ts) (places is_hole i (plain ts)) (types_of (plain ts)) (places is_slot i (plain ts)) (slots_of (plain ts)) ≡ ts
+parsed : (n i : ℕ) (ts : List Cell) → Proper ts → length ts ≤ n → parse n i (shown ts) (places is_hole i (plain ts)) (tokens_hole_types (plain ts)) (places is_slot i (plain ts)) (slots_of (plain ts)) ≡ ts
 parsed zero i [] p h = refl
 parsed zero i (t ∷ ts) p h = absurd (omega arith)
 parsed (suc n) i [] p h = refl
@@ -167,7 +167,7 @@ cut {b} {l} a c r =
           ap (λ m. cut_layout (hole_count a) (slot_count a) m) e
           ∙ same_layout
           (take_at (places is_hole 0 (plain a)) (places is_hole (tokens_width (plain a)) (plain c)) (hole_count a) (length-holes 0 a))
-          (take_at (types_of (plain a)) (types_of (plain c)) (hole_count a) (ap length (types-plain a) ∙ length-hole_types_of a))
+          (take_at (tokens_hole_types (plain a)) (tokens_hole_types (plain c)) (hole_count a) (ap length (types-plain a) ∙ length-hole_types_of a))
           (take_at (places is_slot 0 (plain a)) (places is_slot (tokens_width (plain a)) (plain c)) (slot_count a) (length-slot_places 0 a))
           (take_at (slots_of (plain a)) (slots_of (plain c)) (slot_count a) (length-slots a));
       proper = Proper-front a c r.proper;

@@ -1,10 +1,10 @@
 -- What is written over bytes that stand, for the cells that are kept.
-use Rattle.std.proofs.Common.{◌≡◌, ℕ, ◌+◌, ◌≤◌, Bool, true, false, cond, List, [], ◌∷◌, ◌++◌, length, take, drop, drop_at, map, refl, sym, ◌∙◌, ap, subst, arith, append_assoc, length-append, length-take, length-drop}
+use Rattle.std.proofs.Common.{◌≡◌, ℕ, ◌+◌, ◌≤◌, Bool, true, false, cond, List, [], ◌∷◌, ◌++◌, length, take, drop, drop_at, map, refl, sym, ◌∙◌, ap, subst, arith, append_assoc, length-append}
 use Rattle.std.proofs.Math.Seq.{take-append_seam}
 use Rattle.pgv_types.specs.Ty.{Ty}
 use Rattle.pgv_types.specs.Relations.{softly}
 use Rattle.pgv_types.specs.declared.oid.Oid.{Oid}
-use Rattle.pgv_buf.specs.Tokens.{Token, byte, hole, slot, bytes, tokens_width, Cell, fixed, hole_cell, slot_cell, fixed_bytes, plain, be4, shown, cell_shown, width, hole_count, CasesFit, chosen}
+use Rattle.pgv_buf.specs.Tokens.{Token, byte, hole, slot, bytes, tokens_width, Cell, fixed, hole_cell, slot_cell, fixed_bytes, token_of, plain, be4, shown, cell_shown, width, hole_count, CasesFit, chosen}
 use Rattle.pgv_buf.specs.Blank.{plain-append}
 use Rattle.pgv_buf.specs.Proper.{Proper, Proper-front, Proper-back, Proper-append, first_type, shown-append, length-shown, width-append}
 use Rattle.pgv_buf.specs.Fill.{fill_holes, rest_numbers, fill_slots, rest_types}
@@ -19,21 +19,12 @@ put_at x y z w e =
     let back : drop (length x + length w) (x ++ y ++ z) ≡ z = drop_at (x ++ y) z (length x + length w) (omega (arith, length-append x y, e)) in
     rw (front, back)
 
-pub length-put : (p : ℕ) (w b : List ℕ) → p + length w ≤ length b → length (put p w b) ≡ length b
-length-put p w b h =
-    omega (arith, length-append (take p b ++ w) (drop (p + length w) b), length-append (take p b) w, length-take p b, length-drop (p + length w) b)
-
 -- ---- writing over the pieces of one sort
 
 -- the widths of the pieces
 abbrev pub widths : (Token → Bool) → List Token → List ℕ
 widths is [] = []
 widths is (t ∷ ts) = if_so (is t) (token_width t) ++ widths is ts
-
-abbrev token_of : Cell → Token
-token_of (fixed x) = byte x
-token_of (hole_cell t s) = hole t
-token_of (slot_cell d cs s) = slot d cs
 
 -- what cells show where the pieces show these strings
 abbrev showing : (Token → Bool) → List (List ℕ) → List Cell → List ℕ
@@ -99,7 +90,7 @@ numbers_show [] (hole_cell t s ∷ ts) h = absurd (omega arith)
 numbers_show (o ∷ os) (hole_cell t s ∷ ts) h = ap (λ r. be4 o.0 ++ r) (numbers_show os ts (omega arith))
 numbers_show os (slot_cell d cs s ∷ ts) h = ap (λ r. s ++ r) (numbers_show os ts h)
 
-holes_plain : (os : List Oid) (ts : List Cell) → plain (fill_holes os ts) ≡ plain ts
+pub holes_plain : (os : List Oid) (ts : List Cell) → plain (fill_holes os ts) ≡ plain ts
 holes_plain os [] = refl
 holes_plain os (fixed x ∷ ts) = ap (λ r. byte x ∷ r) (holes_plain os ts)
 holes_plain os (hole_cell t s ∷ ts) = ap (λ r. hole t ∷ r) (holes_plain (rest_numbers os) ts)
@@ -147,7 +138,7 @@ choices_show ps (fixed x ∷ ts) = ap (λ r. x ∷ r) (choices_show ps ts)
 choices_show ps (hole_cell t s ∷ ts) = ap (λ r. s ++ r) (choices_show ps ts)
 choices_show ps (slot_cell d cs s ∷ ts) = ap (λ r. chosen (first_type ps) d cs ++ r) (choices_show (rest_types ps) ts)
 
-slots_plain : (ps : List Ty) (ts : List Cell) → plain (fill_slots ps ts) ≡ plain ts
+pub slots_plain : (ps : List Ty) (ts : List Cell) → plain (fill_slots ps ts) ≡ plain ts
 slots_plain ps [] = refl
 slots_plain ps (fixed x ∷ ts) = ap (λ r. byte x ∷ r) (slots_plain ps ts)
 slots_plain ps (hole_cell t s ∷ ts) = ap (λ r. hole t ∷ r) (slots_plain ps ts)

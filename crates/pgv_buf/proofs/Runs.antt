@@ -1,5 +1,5 @@
 -- Strings written one after the other, and run after run.
-use Rattle.std.proofs.Common.{◌≡◌, ℕ, ◌+◌, ◌≤◌, ◌<◌, suc, zero, List, [], ◌∷◌, ◌++◌, length, take, drop, map, get_or, replicate, refl, sym, ◌∙◌, ap, subst, arith}
+use Rattle.std.proofs.Common.{◌≡◌, ℕ, ◌+◌, ◌<◌, suc, zero, List, [], ◌∷◌, ◌++◌, length, take, drop, map, get_or, replicate, refl, sym, ◌∙◌, ap, subst, arith}
 use Rattle.std.proofs.lemmas.List.{drop_more, take-append-drop}
 use Rattle.pgv_types.specs.Ty.{Ty}
 use Rattle.pgv_buf.specs.Tokens.{chosen}
@@ -11,29 +11,9 @@ use Rattle.pgv_buf.specs.Patches.{put, written, Within, choices}
 
 -- ---- one string
 
-pub told_next :
-    {ps qs : List ℕ} {ws vs : List (List ℕ)} {p : ℕ} {w : List ℕ} (b b' target : List ℕ) → ps ≡ p ∷ qs → ws ≡ w ∷ vs →
-    written ps ws b ≡ target → b' ≡ put p w b → written qs vs b' ≡ target
-told_next {ps} {qs} {ws} {vs} {p} {w} b b' target e f t g =
-    let k : written (p ∷ qs) (w ∷ vs) b ≡ target = ap (λ xs. written xs (w ∷ vs) b) (sym e) ∙ (ap (λ xs. written ps xs b) (sym f) ∙ t) in
-    ap (λ z. written qs vs z) g ∙ k
-
-pub within_next :
-    {n : ℕ} {ps qs : List ℕ} {ws vs : List (List ℕ)} {p : ℕ} {w : List ℕ} → ps ≡ p ∷ qs → ws ≡ w ∷ vs →
-    Within n ps ws → (p + length w ≤ n) × Within n qs vs
-within_next {n} {ps} {qs} {ws} {vs} {p} {w} e f h =
-    subst (λ xs. Within n (p ∷ qs) xs) f (subst (λ xs. Within n xs ws) e h)
-
 -- what slots show for one type
 abbrev pub run_choices : Ty → List Slot → List (List ℕ)
 run_choices t ss = choices (replicate (length ss) t) (map kept_of ss)
-
-pub choice_here :
-    (ss : List Slot) (i : ℕ) (s : Slot) (t : Ty) → i < length ss → s ≡ get_or ss i s →
-    run_choices t (drop i ss) ≡ chosen t (kept_of s).standard (kept_of s).cases ∷ run_choices t (drop (i + 1) ss)
-choice_here ss i s t l e =
-    let d : drop i ss ≡ s ∷ drop (i + 1) ss = drop_more ss i s l ∙ ap (λ y. y ∷ drop (i + 1) ss) (sym e) in
-    ap (λ xs. run_choices t xs) d
 
 -- ---- a run, and then the others
 

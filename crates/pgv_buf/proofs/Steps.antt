@@ -2,11 +2,11 @@
 use Rattle.std.proofs.Common.{◌≡◌, ℕ, Bool, false, ◌+◌, ◌≤◌, List, [], ◌∷◌, ◌++◌, length, take, refl, sym, ◌∙◌, ap, subst, arith, append-nil, length-take}
 use Rattle.pgv_types.specs.Ty.{Ty}
 use Rattle.pgv_buf.specs.declared.mark.Mark.{Mark}
-use Rattle.pgv_buf.specs.Tokens.{byte, bytes, Token, Cell, fixed_bytes, plain, shown, new_hole, new_slot, CasesFit}
+use Rattle.pgv_buf.specs.Tokens.{tokens_hole_types, byte, bytes, Token, Cell, fixed_bytes, plain, shown, new_hole, new_slot, CasesFit}
 use Rattle.pgv_buf.specs.Blank.{plain-blank, blank-bytes}
 use Rattle.pgv_buf.specs.Marks.{mark_of}
 use Rattle.pgv_buf.specs.Proper.{Proper}
-use Rattle.pgv_buf.specs.Layout.{is_hole, is_slot, places, last_from, types_of, Kept, slots_of, Layout, Represents}
+use Rattle.pgv_buf.specs.Layout.{is_hole, is_slot, places, last_from, Kept, slots_of, Layout, Represents}
 use Rattle.pgv_buf.proofs.Layouts.{joined, cut, cut_layout, same_layout, width-plain, last_before, wide, with_more, length-holes, length-slot_places}
 
 pub none_kept : Represents [] [] (record { holes = []; types = []; slot_places = []; slots = [] })
@@ -27,7 +27,7 @@ no_places : (is : Token → Bool) → ((x : ℕ) → is (byte x) ≡ false) → 
 no_places is h i [] = refl
 no_places is h i (x ∷ xs) = rw (h x) (no_places is h (i + 1) xs)
 
-no_types : (xs : List ℕ) → types_of (bytes xs) ≡ []
+no_types : (xs : List ℕ) → tokens_hole_types (bytes xs) ≡ []
 no_types [] = refl
 no_types (x ∷ xs) = no_types xs
 

@@ -2,7 +2,7 @@
 use Rattle.std.specs.Prelude.{◌≡◌, ℕ, ◌+◌, ◌==◌, Bool, true, false, cond, List, [], ◌∷◌, ◌++◌, length, take, drop}
 use Rattle.std.proofs.Common.{suc, zero}
 use Rattle.pgv_types.specs.Ty.{Ty}
-use Rattle.pgv_buf.specs.Tokens.{Token, byte, hole, slot, Cell, fixed, hole_cell, slot_cell, plain, shown}
+use Rattle.pgv_buf.specs.Tokens.{tokens_hole_types, Token, byte, hole, slot, Cell, fixed, hole_cell, slot_cell, plain, shown}
 use Rattle.pgv_buf.specs.Proper.{Proper, first_type}
 
 -- holes and slots are pieces: of known places and widths, and written over
@@ -36,12 +36,6 @@ abbrev pub last_from : ℕ → List ℕ → ℕ
 last_from q [] = q
 last_from q (p ∷ ps) = last_from p ps
 
-abbrev pub types_of : List Token → List Ty
-types_of [] = []
-types_of (byte x ∷ ts) = types_of ts
-types_of (hole t ∷ ts) = t ∷ types_of ts
-types_of (slot d cs ∷ ts) = types_of ts
-
 -- a slot as it is kept: its default and its cases
 pub record Kept : Type 0 where
   pub standard : List ℕ
@@ -60,7 +54,7 @@ pub record Layout : Type 0 where
   pub slots : List Kept
 
 abbrev pub layout_of : List Token → Layout
-layout_of ts = record { holes = places is_hole 0 ts; types = types_of ts; slot_places = places is_slot 0 ts; slots = slots_of ts }
+layout_of ts = record { holes = places is_hole 0 ts; types = tokens_hole_types ts; slot_places = places is_slot 0 ts; slots = slots_of ts }
 
 -- ---- the cells that are kept so
 

@@ -31,6 +31,13 @@ tokens_holes (byte x ∷ ts) = tokens_holes ts
 tokens_holes (hole t ∷ ts) = 1 + tokens_holes ts
 tokens_holes (slot d cs ∷ ts) = tokens_holes ts
 
+-- the types that holes name, in order
+abbrev pub tokens_hole_types : List Token → List Ty
+tokens_hole_types [] = []
+tokens_hole_types (byte x ∷ ts) = tokens_hole_types ts
+tokens_hole_types (hole t ∷ ts) = t ∷ tokens_hole_types ts
+tokens_hole_types (slot d cs ∷ ts) = tokens_hole_types ts
+
 -- ---- cells
 
 pub data Cell : Type 0 where

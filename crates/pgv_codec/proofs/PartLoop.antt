@@ -1,21 +1,17 @@
 -- Parts that are read one after the other.
-use Rattle.std.proofs.Common.{◌≡◌, ℕ, ◌+◌, ◌<◌, List, [], ◌∷◌, ◌++◌, Option, Some, None, true, is_some, length, get_or, drop, map, refl, sym, ap, ◌∙◌, drop-cons, add-one}
+use Rattle.std.proofs.Common.{◌≡◌, ℕ, ◌+◌, List, [], ◌∷◌, ◌++◌, Option, Some, None, true, is_some, refl, sym, ap, ◌∙◌}
 use Rattle.std.proofs.lemmas.List.{append-nil}
 use Rattle.std.proofs.lemmas.Bool.{false≢true}
 use Rattle.pgv_value.specs.FrameBinary.{Part}
 use Rattle.pgv_value.specs.declared.error.CodecError.{CodecError}
 use Rattle.pgv_value.specs.declared.error.CodecError.TheVariants.{Syntax}
 use Rattle.std.specs.Option.{option_map}
+use Rattle.pgv_text.specs.PartFound.{part_value}
+use Rattle.pgv_text.specs.declared.parts.Part.{Part as Found}
 use Rattle.pgv_value.specs.Steps.{◌>>=◌}
 use Rattle.pgv_nest.specs.ArrayGrammar.{each}
 use Rattle.pgv_nest.specs.NestRefusals.{each_refusal, refusal_or}
 use Rattle.pgv_codec.proofs.FrameLoop.{with_front, regroup}
-
--- the parts from a place on begin with the one at that place
-pub parts_split : {P : Type 0} (show : P → Part) (xs : List P) (i : ℕ) (x : P) → i < length xs → x ≡ get_or xs i x → map show (drop i xs) ≡ show x ∷ map show (drop (i + 1) xs)
-parts_split show xs i x lt is =
-    let first = drop-cons xs i x in
-    rw (add-one, first, ← is) refl
 
 module _ {M : Type 0} (read : Part → Option M) where
   -- a loop over parts: it goes on, it is done, a part isn't read
@@ -52,6 +48,11 @@ module _ {M : Type 0} (read : Part → Option M) where
 
   pub parts_done_ahead : (ms : List M) (here : Option (List Part)) (total : Option (List M)) → here ≡ Some [] → with_front ms (here >>= each read) ≡ total → total ≡ Some ms
   parts_done_ahead ms here total e so_far = parts_done ms [] total refl (sym (ap (λ o. with_front ms (o >>= each read)) e) ∙ so_far)
+
+-- the parts that are left begin with the one that was found, in a text that may have been written
+pub found_first : (here rest : Option (List Part)) (found : Found) (written text : List ℕ) (part : Part) → here ≡ option_map (λ parts. part_value found written ∷ parts) rest →
+    text ≡ written → part ≡ part_value found text → here ≡ option_map (λ parts. part ∷ parts) rest
+found_first here rest found written text part e same is = e ∙ ap (λ (v : Part). option_map (λ parts. v ∷ parts) rest) (sym (is ∙ ap (part_value found) same))
 
 -- whether there are parts, without the first of them
 pub still_some : (here rest_after : Option (List Part)) (part : Part) → here ≡ option_map (λ parts. part ∷ parts) rest_after → is_some rest_after ≡ is_some here

@@ -1,28 +1,17 @@
--- Errors that come only where a fact holds, and the refusals of what is written.
-use Rattle.std.proofs.Common.{◌≡◌, ◌≢◌, ℕ, ◌≤◌, ◌<◌, Bool, true, false, cond, nat_eq, List, [], ◌∷◌, length, get_or, take, Option, Some, None, Ok, refl, arith, inl, inr}
+-- The refusals of what is written.
+use Rattle.std.proofs.Common.{◌≡◌, ◌≢◌, ℕ, ◌≤◌, ◌<◌, Bool, true, false, cond, nat_eq, List, [], ◌∷◌, length, get_or, take, Option, Some, None, refl, arith, inl, inr}
 use Rattle.std.proofs.lemmas.Bool.{ne_eqb}
 use Rattle.std.proofs.lemmas.Bool.Decides.{nat_tests}
 use Rattle.pgv_buf.specs.Tokens.{Token, Cell, tokens_width}
 use Rattle.pgv_value.specs.declared.error.CodecError.{CodecError}
 use Rattle.pgv_value.specs.declared.error.CodecError.TheVariants.{Memory, ValueSize, FieldCount}
 use Rattle.pgv_value.specs.Reading.{Refuses}
+use Rattle.pgv_value.proofs.Refusals.{Refuses-from}
 use Rattle.pgv_codec.specs.Image.{Image, image_of, frame, written_frames, join}
 use Rattle.pgv_codec.specs.Outcome.{AppendedAll, Refused}
-use Rattle.pgv_codec.specs.Refusing.{RefusedBy, RefusedFor, frame_refused, frames_refused}
-
-pub Refuses-weaker : (e : CodecError) {P Q : Type 0} → (P → Q) → Refuses e P → Refuses e Q
-Refuses-weaker Memory f h = tt
-Refuses-weaker _ f h = f h
-
-pub Refuses-from : (e : CodecError) {P : Type 0} → P → Refuses e P
-Refuses-from Memory h = tt
-Refuses-from _ h = h
+use Rattle.pgv_codec.specs.Refusing.{RefusedBy, frame_refused, frames_refused}
 
 -- ---- what is stated
-
-pub none_refused : {V : Type 0} (why : Option CodecError) (v : V) → RefusedFor why (Ok v)
-none_refused None v = tt
-none_refused (Some stated) v = tt
 
 pub out_of_memory : (why : Option CodecError) (e : CodecError) → e ≡ Memory → RefusedBy why e
 out_of_memory None e m = tt
@@ -42,19 +31,8 @@ not_both false is isnt = absurd (cc)
 
 -- ---- a frame
 
-pub hint_refused : (h : ℕ) (i : Option Image) (why : Option CodecError) → 2147483647 < h → frame_refused h i why ≡ Some (ValueSize h)
-hint_refused h i why l = grind (arith, nat_tests)
-
-pub unwritten_refused : (h : ℕ) (i : Option Image) (why : Option CodecError) → h ≤ 2147483647 → i ≡ None → frame_refused h i why ≡ why
-unwritten_refused h i why l n = rw n (grind (arith, nat_tests))
-
 pub long_refused : (h : ℕ) (i : Option Image) (why : Option CodecError) (ts : List Token) → h ≤ 2147483647 → i ≡ Some (image_of ts) → frame_refused h i why ≡ Some (ValueSize (tokens_width ts))
 long_refused h i why ts l is = rw is (grind (arith, nat_tests))
-
--- an encoder refused it
-pub frame_unwritten : (h : ℕ) (i : Option Image) (why : Option CodecError) (e : CodecError) → h ≤ 2147483647 → Refused e i → RefusedBy why e → RefusedBy (frame_refused h i why) e
-frame_unwritten h i why e l (inl n) r = rw (unwritten_refused h i why l n) r
-frame_unwritten h i why e l (inr m) r = out_of_memory (frame_refused h i why) e m
 
 -- ---- a field
 

@@ -3,14 +3,15 @@ use Rattle.std.specs.Prelude.{◌≡◌, ℕ, ◌+◌, zero, suc, ◌<◌, ◌�
 use Rattle.std.specs.Int.{w32, to_be_bytes}
 use Rattle.std.proofs.Common.{sym, ap, ◌∙◌, subst, arith, append_assoc}
 use Rattle.std.proofs.Math.Numerals.{one-add}
+use Rattle.std.proofs.Math.Seq.{take-nil, drop-nil}
 use Rattle.std.proofs.lemmas.Bool.{leb-true, ltb-true}
 use Rattle.std.proofs.lemmas.List.{length-append}
 use Rattle.std.proofs.lemmas.Option.{same_Some}
 use Rattle.pgv_types.specs.Ty.{Ty}
-use Rattle.pgv_types.specs.Relations.{softly}
 use Rattle.pgv_types.specs.declared.oid.Oid.{Oid}
 use Rattle.pgv_buf.specs.Fill.{first_number, rest_numbers}
-use Rattle.pgv_buf.specs.Tokens.{Token, byte, hole, slot, bytes, be4, tokens_width, tokens_holes, CasesFit, chosen}
+use Rattle.pgv_buf.specs.Tokens.{Token, byte, hole, slot, bytes, be4, tokens_width, tokens_holes, CasesFit}
+use Rattle.pgv_buf.proofs.Patches.{chosen_fits}
 use Rattle.pgv_value.specs.FrameBinary.{Part, IsFrame}
 use Rattle.pgv_value.specs.Reading.{Reading}
 use Rattle.pgv_value.specs.declared.value.PgValueFormat.TheVariants.{Binary}
@@ -21,20 +22,12 @@ use Rattle.pgv_codec.specs.Image.{Image, null_image, image_of, limit, frame, fra
 
 -- ---- writing
 
-take_nil : (n : ℕ) → take n (let xs : List Oid = [] in xs) ≡ []
-take_nil zero = refl
-take_nil (suc n) = refl
-
-drop_nil : (n : ℕ) → drop n (let xs : List Oid = [] in xs) ≡ []
-drop_nil zero = refl
-drop_nil (suc n) = refl
-
 -- two lists of tokens are written one after the other, each with its own OIDs
 pub write-append : (p : Option Ty) (os : List Oid) (ts us : List Token) → write p os (ts ++ us) ≡ write p (take (tokens_holes ts) os) ts ++ write p (drop (tokens_holes ts) os) us
 write-append p os [] us = refl
 write-append p os (byte b ∷ ts) us = ap (λ (xs : List ℕ). b ∷ xs) (write-append p os ts us)
 write-append p [] (hole t ∷ ts) us =
-    let parts : write p (take (tokens_holes ts) []) ts ++ write p (drop (tokens_holes ts) []) us ≡ write p [] ts ++ write p [] us = rw (take_nil (tokens_holes ts), drop_nil (tokens_holes ts)) refl in
+    let parts : write p (take (tokens_holes ts) []) ts ++ write p (drop (tokens_holes ts) []) us ≡ write p [] ts ++ write p [] us = rw (take-nil (tokens_holes ts), drop-nil (tokens_holes ts)) refl in
     rw one-add (ap (λ (xs : List ℕ). be4 0 ++ xs) (write-append p [] ts us ∙ parts))
 write-append p (o ∷ os) (hole t ∷ ts) us = rw one-add (ap (λ (xs : List ℕ). be4 o.0 ++ xs) (write-append p os ts us))
 write-append p os (slot d cs ∷ ts) us =
@@ -44,17 +37,9 @@ pub write-bytes : (p : Option Ty) (os : List Oid) (xs : List ℕ) → write p os
 write-bytes p os [] = refl
 write-bytes p os (x ∷ xs) = ap (λ (ys : List ℕ). x ∷ ys) (write-bytes p os xs)
 
-by_test : (b : Bool) (xs ys : List ℕ) (n : ℕ) → length xs ≡ n → length ys ≡ n → length (cond b xs ys) ≡ n
-by_test true xs ys n e f = e
-by_test false xs ys n e f = f
-
-length-chosen : (p : Ty) (d : List ℕ) (cs : List (Ty × List ℕ)) → CasesFit (length d) cs → length (chosen p d cs) ≡ length d
-length-chosen p d [] fit = refl
-length-chosen p d (c ∷ cs) fit = by_test (softly c.0 p) c.1 (chosen p d cs) (length d) fit.0 (length-chosen p d cs fit.1)
-
 length-chosen_for : (p : Option Ty) (d : List ℕ) (cs : List (Ty × List ℕ)) → CasesFit (length d) cs → length (chosen_for p d cs) ≡ length d
 length-chosen_for None d cs fit = refl
-length-chosen_for (Some p) d cs fit = length-chosen p d cs fit
+length-chosen_for (Some p) d cs fit = chosen_fits p d cs fit
 
 pub length-write : (p : Option Ty) (os : List Oid) (ts : List Token) → SlotsFit ts → length (write p os ts) ≡ tokens_width ts
 length-write p os [] fit = refl

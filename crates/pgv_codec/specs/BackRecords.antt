@@ -12,7 +12,8 @@ use Rattle.pgv_value.specs.declared.value.PgValueFormat.TheVariants.{Binary}
 use Rattle.pgv_codec.specs.Writing.{write}
 use Rattle.pgv_codec.specs.Back.{AreOids, SlotsFit, ImageFits, ReadsBack, holes_of, written_oid, oids_after, field_holes, FieldFits, Followed, in_order, FieldReadsBack, FieldsBack, RecordReadsBack, RecordFieldsFollow}
 use Rattle.pgv_codec.specs.BackParts.{guarded, joined_parts, type_written, oids_left, tokens_holes-append, SlotsFit-front, SlotsFit-back, AreOids-drop, AreOids-after, frame_back}
-use Rattle.pgv_nest.specs.Found.{number_of_four, next_there}
+use Rattle.pgv_nest.specs.Found.{next_there}
+use Rattle.pgv_value.proofs.Numbers.{number_of_four}
 use Rattle.pgv_nest.specs.NestBinary.{IsField}
 use Rattle.pgv_value.specs.FrameBinary.{IsFrame}
 use Rattle.pgv_codec.specs.Image.{Image, null_image, image_of, limit, frame, frame_of, join, typed, or_else, field, field_of, counted_field, joined_fields, record_of_fields, record_image}

@@ -2,12 +2,12 @@
 use Rattle.std.specs.Prelude.{◌≡◌, ℕ, true, ◌&&◌, List, ◌++◌, Some, refl}
 use Rattle.std.specs.Int.{w32, w64, cast_unsigned, to_be_bytes}
 use Rattle.std.proofs.Common.{ap, ◌∙◌}
+use Rattle.std.proofs.lemmas.Bool.{and_parts}
 use Rattle.pgv_buf.specs.Tokens.{bytes}
 use Rattle.pgv_value.specs.FrameBinary.{Part}
 use Rattle.pgv_value.specs.Interval.{interval_in_binary, interval_reading}
 use Rattle.pgv_value.specs.declared.interval.PgInterval.{PgInterval}
 use Rattle.pgv_value.specs.declared.value.PgValueFormat.TheVariants.{Binary}
-use Rattle.pgv_codec.specs.Bools.{both_true}
 use Rattle.pgv_codec.specs.Back.{ReadsBack, always}
 use Rattle.pgv_codec.specs.BackParts.{guarded}
 use Rattle.pgv_codec.specs.BackScalars.{part_is}
@@ -27,6 +27,6 @@ pub interval_back : ReadsBack interval_image interval_reading (λ i. i) always
 unfolding form
 interval_back v i t p os e whole small fit =
     let g = guarded (fits_signed w64 v.microseconds && (fits_signed w32 v.days && fits_signed w32 v.months)) (Some (image_of (bytes (form v)))) i e in
-    let h = both_true (fits_signed w64 v.microseconds) (fits_signed w32 v.days && fits_signed w32 v.months) g.0 in
-    let k = both_true (fits_signed w32 v.days) (fits_signed w32 v.months) h.1 in
+    let h = and_parts (fits_signed w64 v.microseconds) (fits_signed w32 v.days && fits_signed w32 v.months) g.0 in
+    let k = and_parts (fits_signed w32 v.days) (fits_signed w32 v.months) h.1 in
     ap (λ (part : Part). interval_reading t Binary part) (part_is (form v) i p os g.1) ∙ interval_again v h.0 k.0 k.1

@@ -1,4 +1,3 @@
-pub mod Bools
 pub mod Image
 pub mod Writing
 pub mod ScalarBinary

@@ -17,7 +17,8 @@ use Rattle.pgv_copy.specs.CopyBinary.{Step, signature, after_signature, after_fl
 use Rattle.pgv_copy.specs.CopyStream.{IsHeader, field_bytes, row_bytes, trailer, IsField, IsRow, Answer, called, answers, row_answers, StopsAtTheCut, CutCopyIsShort, CutHeaderIsShort}
 use Rattle.pgv_copy.specs.CopyView.{Copying}
 use Rattle.pgv_copy.proofs.FieldLoop.{Row, with_first, field_there, field_missing}
-use Rattle.pgv_copy.proofs.Headers.{number_there, signature_there, flags_there, header_there, count_there}
+use Rattle.pgv_value.proofs.Numbers.{number_there}
+use Rattle.pgv_copy.proofs.Headers.{signature_there, flags_there, header_there, count_there}
 use Rattle.pgv_copy.proofs.Rows.{framed, rows_there}
 
 -- ---- where two lists are one, one of the beginnings ends first

@@ -3,10 +3,7 @@ use Rattle.std.proofs.Common.{◌≡◌, ℕ, suc, ◌<◌, ◌≤◌, List, [],
 use Rattle.std.proofs.lemmas.List.{drop_all}
 use Rattle.pgv_types.specs.Ty.{Ty}
 use Rattle.pgv_value.specs.FrameBinary.{front, frame_fault}
-use Rattle.pgv_value.specs.Reading.{Refuses}
 use Rattle.pgv_value.specs.ValueView.{Given}
-use Rattle.pgv_value.specs.declared.error.CodecError.{CodecError}
-use Rattle.pgv_value.specs.declared.error.CodecError.TheVariants.{Memory}
 use Rattle.pgv_value.specs.declared.value.PgValueFormat.TheVariants.{Binary}
 use Rattle.pgv_copy.specs.CopyBinary.{Read, ◌>>◌, fields}
 
@@ -62,7 +59,3 @@ pub ends : (done : List Given) (ts : List Ty) (i : ℕ) (t : Ty) (bytes : List �
     continued done (fields (drop i ts) bytes) ≡ whole → whole ≡ Err (frame_fault bytes)
 ends done ts i t bytes whole lt is none e =
     sym e ∙ ap (λ (us : List Ty). continued done (fields us bytes)) (field_of t ts i lt is) ∙ ap (continued done) (field_missing t (drop (suc i) ts) bytes none)
-
-pub refused_so : (e : CodecError) {P : Type 0} → P → Refuses e P
-refused_so Memory h = tt
-refused_so _ h = h

@@ -4,17 +4,12 @@ use Rattle.std.specs.Prelude.{pos}
 use Rattle.std.specs.Ordering.{int_eq}
 use Rattle.std.specs.Int.{w16, w32, to_be_bytes, cast_signed}
 use Rattle.std.proofs.lemmas.Bool.{le-ltb, lt-ltb}
-use Rattle.std.proofs.lemmas.Nat.{from_be_bytes-to_be_bytes_2, from_be_bytes-to_be_bytes_4}
+use Rattle.std.proofs.lemmas.Nat.{from_be_bytes-to_be_bytes_2}
 use Rattle.std.proofs.lemmas.List.{drop_at, length-append}
-use Rattle.pgv_value.specs.Steps.{number, signed_two}
+use Rattle.pgv_value.specs.Steps.{signed_two}
+use Rattle.pgv_value.proofs.Numbers.{number_there}
 use Rattle.pgv_copy.specs.CopyBinary.{signature, after_signature, after_flags, after_extension, after_count, header}
 use Rattle.pgv_copy.specs.CopyStream.{IsHeader}
-
-pub number_there : (n : ℕ) (rest : List ℕ) → n < 2 ^ 32 → number (to_be_bytes w32 n ++ rest) ≡ Some (n, rest)
-unfolding number
-number_there n rest lt =
-    let long : nat_lt (length (to_be_bytes w32 n ++ rest)) 4 ≡ false = le-ltb _ _ (omega arith) in
-    rw (long, from_be_bytes-to_be_bytes_4 n lt) refl
 
 pub two_there : (n : ℕ) (rest : List ℕ) → n < 2 ^ 16 → signed_two (to_be_bytes w16 n ++ rest) ≡ Some (cast_signed w16 n, rest)
 unfolding signed_two

@@ -1,5 +1,5 @@
 -- What is read of bytes is what they are.
-use Rattle.std.proofs.Common.{◌≡◌, ℕ, zero, suc, ◌+◌, ◌-◌, ◌<◌, ◌≤◌, ◌^◌, Bool, true, false, cond, nat_lt, List, [], ◌∷◌, ◌++◌, length, get_or, take, drop, map, Option, Some, None, Ok, Err, refl, sym, ap, ◌∙◌, subst, append_assoc, arith}
+use Rattle.std.proofs.Common.{◌≡◌, ℕ, suc, ◌+◌, ◌-◌, ◌<◌, ◌≤◌, ◌^◌, Bool, true, false, cond, nat_lt, List, [], ◌∷◌, ◌++◌, length, get_or, take, drop, map, Option, Some, None, Ok, Err, refl, sym, ap, ◌∙◌, subst, append_assoc, arith}
 use Rattle.std.specs.Prelude.{flat_map, ok_or, bytes_eq, ℤ, pos, negsuc, int_lt}
 use Rattle.std.specs.Ordering.{int_eq}
 use Rattle.std.specs.List.{AllByRecursion}
@@ -7,7 +7,7 @@ use Rattle.std.specs.Int.{w16, w32, to_be_bytes, from_be_bytes, cast_signed}
 use Rattle.std.specs.Cmp.{signed_Decides}
 use Rattle.std.proofs.lemmas.Bool.{ltb-false, ltb-true}
 use Rattle.std.proofs.lemmas.Slice.Eq.{bytes_eq-Decides}
-use Rattle.std.proofs.lemmas.Nat.{be_bytes_2, be_bytes_4}
+use Rattle.std.proofs.lemmas.Nat.{be_bytes_2}
 use Rattle.std.proofs.lemmas.List.{take-append-drop, length-take-le}
 use Rattle.pgv_types.specs.Ty.{Ty}
 use Rattle.pgv_value.specs.FrameBinary.{Part, IsFrame, front, frame_fault}
@@ -18,6 +18,7 @@ use Rattle.pgv_value.specs.declared.error.CodecError.{CodecError}
 use Rattle.pgv_value.specs.declared.error.CodecError.TheVariants.{Short, NegativeLength, FieldCount}
 use Rattle.pgv_value.specs.declared.value.PgValueFormat.TheVariants.{Binary}
 use Rattle.pgv_value.proofs.Fronts.{front_exactly}
+use Rattle.pgv_value.proofs.Numbers.{bytes_below, bytes_after, number_is}
 use Rattle.pgv_copy.specs.CopyBinary.{Read, ◌>>◌, Step, signature, after_signature, after_flags, after_extension, after_count, header, field, fields, before, ended, row_or_end, step}
 use Rattle.pgv_copy.specs.CopyStream.{IsHeader, field_bytes, row_bytes, trailer, IsField, IsRow, Answer, called, call, answers, values, RowsAreOfACopy}
 use Rattle.pgv_copy.specs.CopyView.{Copying}
@@ -53,32 +54,7 @@ some_is x y e = cc
 not_none : {A : Type 0} (x : A) → (let o : Option A = Some x in o) ≡ None → ⊥
 not_none x e = cc
 
--- ---- bytes
-
-bytes_below : (xs : List ℕ) → AreBytes xs → (i : ℕ) → get_or xs i 0 < 256
-bytes_below [] h i = omega arith
-bytes_below (x ∷ xs) h zero = h.0
-bytes_below (x ∷ xs) h (suc i) = bytes_below xs h.1 i
-
-bytes_in : (n : ℕ) (xs : List ℕ) → AreBytes xs → AreBytes (take n xs)
-bytes_in zero xs h = tt
-bytes_in (suc n) [] h = tt
-bytes_in (suc n) (x ∷ xs) h = (h.0, bytes_in n xs h.1)
-
-bytes_from : (xs ys : List ℕ) → AreBytes (xs ++ ys) → AreBytes ys
-bytes_from [] ys h = h
-bytes_from (x ∷ xs) ys h = bytes_from xs ys h.1
-
 -- ---- numbers
-
-number_is : (bytes rest : List ℕ) (n : ℕ) → AreBytes bytes → number bytes ≡ Some (n, rest) → bytes ≡ to_be_bytes w32 n ++ rest
-unfolding number
-number_is bytes rest n h e =
-    let t = is_there {A = ℕ × List ℕ} (nat_lt (length bytes) 4) (from_be_bytes w32 (take 4 bytes), drop 4 bytes) (n, rest) e in
-    let long : 4 ≤ length bytes = ltb-false (length bytes) 4 t.0 in
-    let n_is : n ≡ from_be_bytes w32 (take 4 bytes) = sym (ap (λ (p : ℕ × List ℕ). p.0) t.1) in
-    let four = be_bytes_4 (take 4 bytes) n (length-take-le 4 bytes long) (bytes_below (take 4 bytes) (bytes_in 4 bytes h)) n_is in
-    sym (take-append-drop 4 bytes) ∙ ap (λ (xs : List ℕ). xs ++ drop 4 bytes) (sym four) ∙ ap (λ (p : ℕ × List ℕ). to_be_bytes w32 n ++ p.1) t.1
 
 -- two bytes in front, and the number that they are
 pub record IsTwo (bytes rest : List ℕ) (v : ℤ) : Type 0 where
@@ -121,7 +97,7 @@ flags_are bytes rest h e =
     let a = taken {A = ℕ × List ℕ} (ok_or (number bytes) Short) _ rest e in
     let few = failed (nat_lt 65535 a.0.0) _ _ rest a.2 in
     let small : a.0.0 ≤ 65535 = ltb-false 65535 a.0.0 few.0 in
-    let whole = number_is bytes a.0.1 a.0.0 h (there (number bytes) Short a.0 a.1) in
+    let whole = (number_is bytes a.0.1 a.0.0 h (there (number bytes) Short a.0 a.1)).1 in
     (a.0.0, omega arith, whole ∙ ap (λ (xs : List ℕ). to_be_bytes w32 a.0.0 ++ xs) (ok_is {A = List ℕ} a.0.1 rest few.1))
 
 extension_is : (bytes rest : List ℕ) → AreBytes bytes → after_extension bytes ≡ Ok rest → (extension : List ℕ) × (length extension < 2 ^ 31) × (bytes ≡ to_be_bytes w32 (length extension) ++ (extension ++ rest))
@@ -133,7 +109,7 @@ extension_is bytes rest h e =
     let small : a.0.0 ≤ 2147483647 = ltb-false 2147483647 a.0.0 fits.0 in
     let le : a.0.0 ≤ length a.0.1 = ltb-false (length a.0.1) a.0.0 enough.0 in
     let len : length (take a.0.0 a.0.1) ≡ a.0.0 = length-take-le a.0.0 a.0.1 le in
-    let whole = number_is bytes a.0.1 a.0.0 h (there (number bytes) Short a.0 a.1) in
+    let whole = (number_is bytes a.0.1 a.0.0 h (there (number bytes) Short a.0 a.1)).1 in
     let split : a.0.1 ≡ take a.0.0 a.0.1 ++ rest = sym (take-append-drop a.0.0 a.0.1) ∙ ap (λ (xs : List ℕ). take a.0.0 a.0.1 ++ xs) (ok_is {A = List ℕ} (drop a.0.0 a.0.1) rest enough.1) in (
       take a.0.0 a.0.1,
       omega (arith, len),
@@ -145,9 +121,9 @@ header_is bytes rest h e =
     let c = taken (after_signature bytes >> after_flags) after_extension rest e in
     let b = taken (after_signature bytes) after_flags c.0 c.1 in
     let first = signature_is bytes b.0 b.1 in
-    let h1 : AreBytes b.0 = bytes_from signature b.0 (subst AreBytes first h) in
+    let h1 : AreBytes b.0 = bytes_after signature b.0 (subst AreBytes first h) in
     let flags = flags_are b.0 c.0 h1 b.2 in
-    let h2 : AreBytes c.0 = bytes_from (to_be_bytes w32 flags.0) c.0 (subst AreBytes flags.2 h1) in
+    let h2 : AreBytes c.0 = bytes_after (to_be_bytes w32 flags.0) c.0 (subst AreBytes flags.2 h1) in
     let extension = extension_is c.0 rest h2 c.2 in
     let head : List ℕ = signature ++ (to_be_bytes w32 flags.0 ++ (to_be_bytes w32 (length extension.0) ++ extension.0)) in (
       head,
@@ -237,7 +213,7 @@ fields_are (t ∷ types) bytes rest row h e =
     let frame = frame_bytes bytes part f.0.1 ((front_exactly bytes part f.0.1 h).0 (there (front bytes) (frame_fault bytes) f.0 f.1)) in
     let first = ok_is {A = Given × List ℕ} (record { bytes = part; type_info = t; format = Binary }, f.0.1) a.0 f.2 in
     let left : f.0.1 ≡ a.0.1 = ap (λ (q : Given × List ℕ). q.1) first in
-    let h1 : AreBytes a.0.1 = subst AreBytes left (bytes_from (field_bytes part) f.0.1 (subst AreBytes frame.1 h)) in
+    let h1 : AreBytes a.0.1 = subst AreBytes left (bytes_after (field_bytes part) f.0.1 (subst AreBytes frame.1 h)) in
     let b = taken {A = List Given × List ℕ} (fields types a.0.1) _ (row, rest) a.2 in
     let p = ok_is {A = List Given × List ℕ} (a.0.0 ∷ b.0.0, b.0.1) (row, rest) b.2 in
     let more = fields_are types a.0.1 b.0.1 b.0.0 h1 b.1 in
@@ -270,7 +246,7 @@ row_step_from types bytes row next None h c e =
     absurd (not_none row (sym (ap (λ (q : Option (List Given) × Copying). q.0) p)))
 row_step_from types bytes row next (Some rest) h c e =
     let count = count_is (length types) bytes rest h c in
-    let h1 : AreBytes rest = bytes_from (to_be_bytes w16 (length types)) rest (subst AreBytes count.1 h) in
+    let h1 : AreBytes rest = bytes_after (to_be_bytes w16 (length types)) rest (subst AreBytes count.1 h) in
     let a = taken (fields types rest) _ (Some row, next) e in
     let f = fields_are types rest a.0.1 a.0.0 h1 a.1 in
     let p = ok_is {A = Option (List Given) × Copying} (Some a.0.0, before types a.0.1) (Some row, next) a.2 in
@@ -284,7 +260,7 @@ row_step_from types bytes row next (Some rest) h c e =
       next_is = sym (ap (λ (q : Option (List Given) × Copying). q.1) p);
       whole = count.1 ∙ ap (λ (n : ℕ). to_be_bytes w16 n ++ rest) (sym wide) ∙ ap (λ (xs : List ℕ). to_be_bytes w16 (length f.parts) ++ xs) f.whole
           ∙ sym (append_assoc (to_be_bytes w16 (length f.parts)) (flat_map field_bytes f.parts) a.0.1);
-      left = bytes_from (flat_map field_bytes f.parts) a.0.1 (subst AreBytes f.whole h1);
+      left = bytes_after (flat_map field_bytes f.parts) a.0.1 (subst AreBytes f.whole h1);
     }
 
 row_step : (types : List Ty) (bytes : List ℕ) (row : List Given) (next : Copying) → AreBytes bytes → step (before types bytes) ≡ Ok (Some row, next) → IsRowStep types bytes row next
@@ -346,6 +322,6 @@ rows_are types bytes (row ∷ rows) h e =
 pub rows_are_of_a_copy : RowsAreOfACopy
 rows_are_of_a_copy types bytes rest rows h begins e =
     let head = header_is bytes rest h begins in
-    let h1 : AreBytes rest = bytes_from head.0 rest (subst AreBytes head.2 h) in
+    let h1 : AreBytes rest = bytes_after head.0 rest (subst AreBytes head.2 h) in
     let r = rows_are types rest rows h1 e in
     (r.parts, r.follows, record { head = head.0; whole = head.2 ∙ ap (λ (xs : List ℕ). head.0 ++ xs) r.whole; begins = head.1; each = r.each }, r.rows_are)

@@ -8,8 +8,8 @@ use Rattle.std.specs.Cmp.Lexicographic.{pointwise}
 use Rattle.std.specs.Option.{option_eq}
 use Rattle.std.specs.String.{string_eq}
 use Rattle.std.specs.declared.string.String.{String}
+use Rattle.std.proofs.lemmas.Bool.{and_parts}
 use Rattle.pgv_value.specs.FrameBinary.{Part}
-use Rattle.pgv_codec.specs.Bools.{both_true}
 use Rattle.pgv_hstore.specs.Hstore.{Pair, pair_of}
 
 -- the first pair, and the others, and something where there are none
@@ -32,7 +32,7 @@ same_value (Some x) (Some y) = (λ e. ap (λ (bytes : List ℕ). let o : Part = 
 
 same_pair : {Z : Type 0} (p q : String Z × Option (String Z)) → Decides (string_eq p.0 q.0 && option_eq string_eq p.1 q.1) (pair_of p ≡ pair_of q)
 same_pair p q = (
-  λ e. let b = both_true (string_eq p.0 q.0) (option_eq string_eq p.1 q.1) e in
+  λ e. let b = and_parts (string_eq p.0 q.0) (option_eq string_eq p.1 q.1) e in
       rw ((same_text p.0 q.0).0 b.0, (same_value p.1 q.1).0 b.1) refl,
   λ e. rw ((same_text p.0 q.0).1 (ap (λ (r : Pair). r.0) e), (same_value p.1 q.1).1 (ap (λ (r : Pair). r.1) e)) refl,
 )
@@ -44,7 +44,7 @@ equal_entries [] [] = (λ e. refl, λ e. refl)
 equal_entries [] (f ∷ fs) = (λ e. absurd (cc), λ e. absurd (cc))
 equal_entries (e ∷ es) [] = (λ e. absurd (cc), λ e. absurd (cc))
 equal_entries (e ∷ es) (f ∷ fs) = (
-  λ t. let b = both_true (string_eq e.0 f.0 && option_eq string_eq e.1 f.1) (pointwise (λ p q. string_eq p.0 q.0 && option_eq string_eq p.1 q.1) es fs) t in
+  λ t. let b = and_parts (string_eq e.0 f.0 && option_eq string_eq e.1 f.1) (pointwise (λ p q. string_eq p.0 q.0 && option_eq string_eq p.1 q.1) es fs) t in
       let same = (same_pair e f).0 b.0 in
       let more = (equal_entries es fs).0 b.1 in
       λ i. same i ∷ more i,

@@ -14,7 +14,7 @@ use Rattle.pgv_value.specs.FrameBinary.{Part, IsFrame, front}
 use Rattle.pgv_value.specs.Laws.{AreBytes}
 use Rattle.pgv_value.specs.Steps.{number}
 use Rattle.pgv_value.specs.Utf8.{is_utf8}
-use Rattle.pgv_nest.proofs.Numbers.{step_taken, test_failed, test_held, pair_is, number_is, bytes_after, after_four}
+use Rattle.pgv_value.proofs.Numbers.{step_taken, test_failed, test_held, pair_is, number_is, bytes_after, after_four}
 use Rattle.pgv_codec.specs.Image.{limit}
 use Rattle.pgv_hstore.specs.Hstore.{Pair, order, part_form, pair_form, as_key, as_value, key_front, value_front, pair_front, pairs, put_all, hstore_in_binary}
 use Rattle.pgv_hstore.specs.HstoreBack.{IsText, IsValue, IsPair, ArePairs, hstore_there}

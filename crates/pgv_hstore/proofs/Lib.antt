@@ -1,4 +1,3 @@
-pub mod Texts
 pub mod Written
 pub mod Read
 pub mod Refused

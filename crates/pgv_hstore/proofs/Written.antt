@@ -1,8 +1,8 @@
 -- Texts, pairs and maps that are written part after part.
-use Rattle.std.proofs.Common.{◌≡◌, ℕ, suc, ◌≤◌, Bool, true, false, cond, List, [], ◌∷◌, ◌++◌, length, map, subst, Option, Some, None, refl, sym, ap, ◌∙◌, append_assoc, arith, inl, inr}
-use Rattle.std.proofs.lemmas.Bool.Decides.{nat_tests}
+use Rattle.std.proofs.Common.{◌≡◌, ℕ, suc, Bool, true, false, cond, List, [], ◌∷◌, ◌++◌, length, map, Option, Some, None, refl, sym, ap, ◌∙◌, append_assoc, inl, inr}
 use Rattle.std.proofs.lemmas.List.{append-nil}
 use Rattle.std.proofs.lemmas.List.Folds.{list_all-append}
+use Rattle.std.proofs.lemmas.Option.{cond_some}
 use Rattle.std.specs.Prelude.{nat_le, ◌&&◌, string_bytes}
 use Rattle.std.specs.FinMap.{is_sorted}
 use Rattle.std.specs.FinMap.Entries.{below_all}
@@ -11,20 +11,15 @@ use Rattle.std.specs.List.Sorted.{IsStrictlySortedBy}
 use Rattle.std.specs.String.{string_cmp}
 use Rattle.std.specs.declared.cmp.Ordering.TheVariants.{Less}
 use Rattle.std.specs.declared.string.String.{String}
+use Rattle.std.proofs.lemmas.Bool.{and_parts}
 use Rattle.pgv_buf.specs.Tokens.{Token, Cell, bytes, be4, blank}
 use Rattle.pgv_value.specs.declared.error.CodecError.{CodecError}
-use Rattle.pgv_codec.specs.Bools.{both_true}
 use Rattle.pgv_codec.proofs.Refusing.{out_of_memory}
 use Rattle.pgv_codec.specs.Outcome.{AppendedAll, Refused}
 use Rattle.pgv_codec.specs.Refusing.{RefusedBy}
 use Rattle.pgv_codec.specs.Image.{image_of, limit}
 use Rattle.pgv_codec.specs.PlainBytes.{appended_parts}
 use Rattle.pgv_hstore.specs.Hstore.{Pair, pair_of, order, part_form, pair_form, hstore_form, part_fits, pair_fits, part_written, pair_refused, pair_written, pairs_refused, pairs_written, hstore_image}
-
--- what is there where a test holds
-guarded : {A : Type 0} (b : Bool) (x y : A) → cond b (Some x) None ≡ Some y → (b ≡ true) × (x ≡ y)
-guarded true x y e = (refl, ap (λ (o : Option _). elim o [ None ↦ x | Some z ↦ z ]) e)
-guarded false x y e = absurd (cc)
 
 there : (b : Bool) (form : List ℕ) → b ≡ true → cond b (Some (bytes form)) None ≡ Some (bytes form)
 there b form e = rw e refl
@@ -33,8 +28,8 @@ there b form e = rw e refl
 joined : (a b c : Bool) (first second : List ℕ) (start mid now : List Cell) → (a ≡ true → b ≡ true → c ≡ true) →
     AppendedAll (cond a (Some (bytes first)) None) start mid → AppendedAll (cond b (Some (bytes second)) None) mid now → AppendedAll (cond c (Some (bytes (first ++ second))) None) start now
 joined a b c first second start mid now both x y =
-    let p = guarded a (bytes first) x.0 x.1 in
-    let q = guarded b (bytes second) y.0 y.1 in (
+    let p = cond_some a (bytes first) x.0 x.1 in
+    let q = cond_some b (bytes second) y.0 y.1 in (
       bytes (first ++ second),
       there c (first ++ second) (both p.0 q.0),
       appended_parts start mid now first second (x.2 ∙ ap (λ (ts : List Token). start ++ blank ts) (sym p.1)) (y.2 ∙ ap (λ (ts : List Token). mid ++ blank ts) (sym q.1)),
@@ -104,7 +99,7 @@ pub map_appended : {Z : Type 0} (es : List (String Z × Option (String Z))) (sta
 map_appended es start mid now ordered le first written =
     let ps = map pair_of es in
     let count = same_length es in
-    let g = guarded (list_all pair_fits ps) (bytes (flat_map pair_form ps)) written.0 written.1 in (
+    let g = cond_some (list_all pair_fits ps) (bytes (flat_map pair_form ps)) written.0 written.1 in (
       bytes (hstore_form ps),
       rw (sorted_pairs es ordered, ap (λ (n : ℕ). nat_le n limit) count ∙ le, g.0) refl,
       appended_parts start mid now (be4 (length ps)) (flat_map pair_form ps) (first ∙ ap (λ (n : ℕ). start ++ blank (bytes (be4 n))) (sym count)) (written.2 ∙ ap (λ (ts : List Token). mid ++ blank ts) (sym g.1)),
@@ -120,12 +115,12 @@ refused_from [] p more fits none = by (pair_fits p) refl none
     by true is e = absurd (cc)
     by false is e = rw is refl
 refused_from (q ∷ so_far) p more fits none =
-    let all = both_true (pair_fits q) (list_all pair_fits so_far) fits in
+    let all = and_parts (pair_fits q) (list_all pair_fits so_far) fits in
     rw all.0 (refused_from so_far p more all.1 none)
 
 pub pairs_unwritten : (all so_far left more : List Pair) (p : Pair) (e : CodecError) (start now : List Cell) → all ≡ so_far ++ left → left ≡ p ∷ more →
     AppendedAll (pairs_written so_far) start now → Refused e (pair_written p) → RefusedBy (pair_refused p) e → RefusedBy (pairs_refused all) e
 pairs_unwritten all so_far left more p e start now is are there (inl none) r =
-    let fits = guarded (list_all pair_fits so_far) (bytes (flat_map pair_form so_far)) there.0 there.1 in
+    let fits = cond_some (list_all pair_fits so_far) (bytes (flat_map pair_form so_far)) there.0 there.1 in
     rw (is, are, refused_from so_far p more fits.0 none) r
 pairs_unwritten all so_far left more p e start now is are there (inr m) r = out_of_memory (pairs_refused all) e m

@@ -9,7 +9,7 @@ use Rattle.std.specs.FinMap.Entries.{below_all}
 use Rattle.std.specs.Ordering.{is_lt, ordering_reverse}
 use Rattle.std.specs.List.{flat_map, list_all}
 use Rattle.std.proofs.Common.{ap, sym, ◌∙◌, arith, append_assoc}
-use Rattle.std.proofs.lemmas.Bool.{le-ltb, eq-eqb}
+use Rattle.std.proofs.lemmas.Bool.{le-ltb, eq-eqb, and_parts}
 use Rattle.std.proofs.lemmas.Bool.Decides.{nat_tests}
 use Rattle.std.proofs.lemmas.List.{append-nil}
 use Rattle.std.proofs.lemmas.Str.{IsUtf8-had, utf8_valid_len-IsUtf8}
@@ -18,8 +18,7 @@ use Rattle.pgv_value.proofs.Fronts.{frame_in_front}
 use Rattle.pgv_value.specs.FrameBinary.{Part, front}
 use Rattle.pgv_value.specs.Utf8.{is_utf8}
 use Rattle.pgv_value.specs.declared.value.PgValueFormat.TheVariants.{Binary}
-use Rattle.pgv_nest.specs.Found.{number_there}
-use Rattle.pgv_codec.specs.Bools.{both_true}
+use Rattle.pgv_value.proofs.Numbers.{number_there}
 use Rattle.pgv_codec.specs.Back.{ReadsBack, always}
 use Rattle.pgv_codec.specs.BackParts.{guarded}
 use Rattle.pgv_codec.specs.BackScalars.{part_is}
@@ -82,13 +81,13 @@ is_less Equal e = absurd (cc)
 is_less Greater e = absurd (cc)
 
 below_at : (x key : List ℕ) (value : Part) (qs ps : List Pair) → below_all order x (qs ++ (key, value) ∷ ps) ≡ true → is_lt (order x key) ≡ true
-below_at x key value [] ps e = (both_true (is_lt (order x key)) (below_all order x ps) e).0
-below_at x key value (q ∷ qs) ps e = below_at x key value qs ps (both_true (is_lt (order x q.0)) (below_all order x (qs ++ (key, value) ∷ ps)) e).1
+below_at x key value [] ps e = (and_parts (is_lt (order x key)) (below_all order x ps) e).0
+below_at x key value (q ∷ qs) ps e = below_at x key value qs ps (and_parts (is_lt (order x q.0)) (below_all order x (qs ++ (key, value) ∷ ps)) e).1
 
 put_last : (key : List ℕ) (value : Part) (qs ps : List Pair) → is_sorted order (qs ++ (key, value) ∷ ps) ≡ true → put order key value qs ≡ qs ++ (key, value) ∷ []
 put_last key value [] ps e = refl
 put_last key value (q ∷ qs) ps e =
-    let b = both_true (below_all order q.0 (qs ++ (key, value) ∷ ps)) (is_sorted order (qs ++ (key, value) ∷ ps)) e in
+    let b = and_parts (below_all order q.0 (qs ++ (key, value) ∷ ps)) (is_sorted order (qs ++ (key, value) ∷ ps)) e in
     let less : order q.0 key ≡ Less = is_less (order q.0 key) (below_at q.0 key value qs ps b.0) in
     let greater : order key q.0 ≡ Greater = nat_list_cmp_total.antisymm key q.0 ∙ ap ordering_reverse less in
     rw (greater, put_last key value qs ps b.1) refl
@@ -115,8 +114,8 @@ is_value (Some s) fits = is_text s fits
 are_pairs : {Z : Type 0} (es : List (String Z × Option (String Z))) → list_all pair_fits (map pair_of es) ≡ true → ArePairs (map pair_of es)
 are_pairs [] fits = tt
 are_pairs (e ∷ es) fits =
-    let b = both_true (pair_fits (pair_of e)) (list_all pair_fits (map pair_of es)) fits in
-    let k = both_true (part_fits (Some (string_bytes e.0))) (part_fits (option_map string_bytes e.1)) b.0 in
+    let b = and_parts (pair_fits (pair_of e)) (list_all pair_fits (map pair_of es)) fits in
+    let k = and_parts (part_fits (Some (string_bytes e.0))) (part_fits (option_map string_bytes e.1)) b.0 in
     ((is_text e.0 k.0, is_value e.1 k.1), are_pairs es b.1)
 
 few_pairs : (n : ℕ) → nat_le n limit ≡ true → n < 2 ^ 31
@@ -127,8 +126,8 @@ hstore_back h i t p os e whole small fit =
     let ps = pairs_of h in
     let form = hstore_form ps in
     let g = guarded (is_sorted order ps && (nat_le (length ps) limit && list_all pair_fits ps)) (Some (image_of (bytes form))) i e in
-    let sorted = both_true (is_sorted order ps) (nat_le (length ps) limit && list_all pair_fits ps) g.0 in
-    let lengths = both_true (nat_le (length ps) limit) (list_all pair_fits ps) sorted.1 in
+    let sorted = and_parts (is_sorted order ps) (nat_le (length ps) limit && list_all pair_fits ps) g.0 in
+    let lengths = and_parts (nat_le (length ps) limit) (list_all pair_fits ps) sorted.1 in
     let read = hstore_there ps [] (few_pairs (length ps) lengths.0) (are_pairs h.0.entries lengths.1) in
     ap (λ (part : Part). hstore_reading t Binary part) (part_is form i p os g.1)
     ∙ ap (λ (rest : List ℕ). hstore_in_binary (be4 (length ps) ++ rest)) (sym (append-nil (flat_map pair_form ps))) ∙ read

@@ -3,8 +3,8 @@ use Rattle.std.proofs.Common.{◌≡◌, ◌≢◌, ◌∙◌, ap, refl, ℕ, Bo
 use Rattle.std.specs.Prelude.{◌==◌, Result, Ok}
 use Rattle.std.specs.List.{AllZip, list_all, slice_split}
 use Rattle.std.proofs.lemmas.List.Splits.{length-slice_split}
+use Rattle.std.proofs.lemmas.Bool.{and_from}
 use Rattle.pgv_ltree.specs.Each.{read_each}
-use Rattle.pgv_ltree.specs.Joins.{from_both}
 use Rattle.pgv_ltree.proofs.EachRead.{first_of}
 
 pub each_is : {M E : Type 0} (read : List ℕ → Result M E) (P : List ℕ → M → Type 0) → ((text : List ℕ) (m : M) → read text ≡ Ok m → P text m) → (texts : List (List ℕ)) (ms : List M) → read_each read texts ≡ Ok ms → AllZip P texts ms
@@ -28,13 +28,13 @@ pub each_text : {M : Type 0} (P : List ℕ → M → Type 0) (test : List ℕ �
 each_text P test h [] [] z = refl
 each_text P test h [] (m ∷ ms) z = absurd z
 each_text P test h (text ∷ texts) [] z = absurd z
-each_text P test h (text ∷ texts) (m ∷ ms) z = from_both (test text) (list_all test texts) (h text m z.0) (each_text P test h texts ms z.1)
+each_text P test h (text ∷ texts) (m ∷ ms) z = and_from (test text) (list_all test texts) (h text m z.0) (each_text P test h texts ms z.1)
 
 pub each_value : {M : Type 0} (P : List ℕ → M → Type 0) (test : M → Bool) → ((text : List ℕ) (m : M) → P text m → test m ≡ true) → (texts : List (List ℕ)) (ms : List M) → AllZip P texts ms → list_all test ms ≡ true
 each_value P test h [] [] z = refl
 each_value P test h [] (m ∷ ms) z = absurd z
 each_value P test h (text ∷ texts) [] z = absurd z
-each_value P test h (text ∷ texts) (m ∷ ms) z = from_both (test m) (list_all test ms) (h text m z.0) (each_value P test h texts ms z.1)
+each_value P test h (text ∷ texts) (m ∷ ms) z = and_from (test m) (list_all test ms) (h text m z.0) (each_value P test h texts ms z.1)
 
 pub no_nil : (d : ℕ) (text : List ℕ) → slice_split (λ c. c == d) text ≢ []
 no_nil d text e =

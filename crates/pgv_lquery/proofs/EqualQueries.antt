@@ -5,8 +5,7 @@ use Rattle.std.specs.Prelude.{◌&&◌, nat_eq}
 use Rattle.std.specs.Bool.{beq}
 use Rattle.std.specs.Cmp.Lexicographic.{bytes_decides, pointwise, pointwise_decides}
 use Rattle.std.specs.Option.{option_eq}
-use Rattle.std.proofs.lemmas.Bool.{eqb-true, eq-eqb}
-use Rattle.pgv_codec.specs.Bools.{both_true}
+use Rattle.std.proofs.lemmas.Bool.{eqb-true, eq-eqb, and_parts}
 use Rattle.pgv_ltree.specs.SameLabels.{same_label}
 use Rattle.pgv_lquery.specs.Queries.{Variant, Level, star, one_of, none_of}
 use Rattle.pgv_lquery.specs.SameQueries.{same_variant, same_level, least, most, variants}
@@ -30,9 +29,9 @@ same_parts l m a b c d e f p q r s = rw (p, q, r, s) refl
 variant_decides : (v w : Variant) → (same_variant v w ≡ true → v ≡ w) × (v ≡ w → same_variant v w ≡ true)
 variant_decides v w = (
   λ e.
-      let l = both_true (same_label v.label w.label) (beq v.any_end w.any_end && (beq v.in_case w.in_case && beq v.sublexeme w.sublexeme)) e in
-      let a = both_true (beq v.any_end w.any_end) (beq v.in_case w.in_case && beq v.sublexeme w.sublexeme) l.1 in
-      let i = both_true (beq v.in_case w.in_case) (beq v.sublexeme w.sublexeme) a.1 in
+      let l = and_parts (same_label v.label w.label) (beq v.any_end w.any_end && (beq v.in_case w.in_case && beq v.sublexeme w.sublexeme)) e in
+      let a = and_parts (beq v.any_end w.any_end) (beq v.in_case w.in_case && beq v.sublexeme w.sublexeme) l.1 in
+      let i = and_parts (beq v.in_case w.in_case) (beq v.sublexeme w.sublexeme) a.1 in
       same_parts v.label w.label v.any_end w.any_end v.in_case w.in_case v.sublexeme w.sublexeme ((bytes_decides v.label w.label).0 l.0) (same_bool v.any_end w.any_end a.0) (same_bool v.in_case w.in_case i.0)
       (same_bool v.sublexeme w.sublexeme i.1),
   λ e. rw (← e, (bytes_decides v.label v.label).1 refl, own_bool v.any_end, own_bool v.in_case, own_bool v.sublexeme) refl,
@@ -47,8 +46,8 @@ count_decides (Some m) (Some n) = (λ e. ap (λ (k : ℕ). let o : Option ℕ = 
 level_decides : (l m : Level) → (same_level l m ≡ true → l ≡ m) × (l ≡ m → same_level l m ≡ true)
 level_decides (star a b) (star c d) = (
   λ e.
-      let p = both_true (option_eq nat_eq a c) (option_eq nat_eq b d && true) e in
-      let q = both_true (option_eq nat_eq b d) true p.1 in
+      let p = and_parts (option_eq nat_eq a c) (option_eq nat_eq b d && true) e in
+      let q = and_parts (option_eq nat_eq b d) true p.1 in
       rw ((count_decides a c).0 p.0, (count_decides b d).0 q.0) refl,
   λ e. rw ((count_decides a c).1 (ap least e), (count_decides b d).1 (ap most e)) refl,
 )

@@ -3,11 +3,10 @@ use Rattle.std.proofs.Common.{◌≡◌, ◌≢◌, inl, inr, ◌∙◌, ap, sym
 use Rattle.std.specs.Prelude.{Option, option_map, ◌==◌, ◌&&◌, ◌||◌, nat_lt, Result, Ok, Err}
 use Rattle.std.specs.Str.{all_ascii_digits}
 use Rattle.std.specs.Str.Parse.{digits_value}
-use Rattle.std.proofs.lemmas.Bool.{eqb-true, false≢true, ltb-true}
+use Rattle.std.proofs.lemmas.Bool.{eqb-true, false≢true, ltb-true, and_parts}
 use Rattle.std.proofs.lemmas.Option.{same_Some}
 use Rattle.pgv_value.specs.declared.tree_error.PgLQueryParseError.{PgLQueryParseError}
 use Rattle.pgv_value.specs.declared.tree_error.PgLQueryParseError.TheVariants.{ParseIntError, UnexpectedCharacter}
-use Rattle.pgv_codec.specs.Bools.{both_true}
 use Rattle.pgv_ltree.specs.Joins.{lacks}
 use Rattle.pgv_lquery.specs.CountAgain.{bound_there, count_there, digits_lack}
 use Rattle.pgv_lquery.specs.Lacking.{before_last_at, lacks-append}
@@ -68,8 +67,8 @@ counted false text n e = absurd cc
 count_text : (text : List ℕ) (n : ℕ) → count_read text ≡ Ok n → IsCountText text n
 count_text text n e =
     let c = counted (is_count_text text) text n e in
-    let a = both_true (all_ascii_digits text && nat_lt 0 (length text)) (nat_lt (digits_value 10 text) 65536) c.0 in
-    let b = both_true (all_ascii_digits text) (nat_lt 0 (length text)) a.0 in
+    let a = and_parts (all_ascii_digits text && nat_lt 0 (length text)) (nat_lt (digits_value 10 text) 65536) c.0 in
+    let b = and_parts (all_ascii_digits text) (nat_lt 0 (length text)) a.0 in
     let low = ltb-true (digits_value 10 text) 65536 a.1 in
     record { some = ltb-true 0 (length text) b.1; digits = b.0; value = c.1; small = omega (arith, low, c.1) }
 

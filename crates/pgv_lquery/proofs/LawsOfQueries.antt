@@ -2,11 +2,10 @@
 use Rattle.std.proofs.Common.{◌≡◌, ◌≢◌, ◌∙◌, inl, inr, ap, sym, subst, refl, ℕ, Bool, true, false, List, [], ◌∷◌, ◌++◌, Some, None, map}
 use Rattle.std.specs.Prelude.{Option, ◌==◌, ◌&&◌, ◌||◌, not, Result, Ok}
 use Rattle.std.specs.List.{AllZip, join_with_byte, list_all, slice_split}
-use Rattle.std.proofs.lemmas.Bool.{false≢true, lt-ltb}
+use Rattle.std.proofs.lemmas.Bool.{false≢true, lt-ltb, and_from, and_parts}
 use Rattle.std.proofs.lemmas.List.Splits.{join_with_byte-slice_split}
 use Rattle.pgv_value.specs.declared.tree_error.PgLQueryParseError.{PgLQueryParseError}
-use Rattle.pgv_codec.specs.Bools.{both_true}
-use Rattle.pgv_ltree.specs.Joins.{from_both, lacks}
+use Rattle.pgv_ltree.specs.Joins.{lacks}
 use Rattle.pgv_lquery.specs.Laws.{OneQuery, PrintedQueryIsRead, QueryIsRead, ReadQueryIsReadAgain, begins_with_no_star}
 use Rattle.pgv_lquery.specs.LevelAgain.{BeginsPlainly, EachNeeds, NeedsFirst, query_again, query_there}
 use Rattle.pgv_lquery.specs.Queries.{Variant, Level, star, one_of, none_of, is_count, is_level, is_variant}
@@ -53,7 +52,7 @@ bound_is_count text (Some n) t = lt-ltb n 65536 t.small
 star_can_be : (text : List ℕ) (low high : Option ℕ) → IsLevelText text (star low high) → is_level (star low high) ≡ true
 star_can_be text low high (inl (t, lo, hi)) = rw (lo, hi) refl
 star_can_be text low high (inr (inl (n, count, is, t, lo, hi))) = let l = lt-ltb n 65536 is.small in rw (lo, hi, l) refl
-star_can_be text low high (inr (inr (least, most, p, q, some, t))) = from_both (is_count low) (is_count high) (bound_is_count least low p) (bound_is_count most high q)
+star_can_be text low high (inr (inr (least, most, p, q, some, t))) = and_from (is_count low) (is_count high) (bound_is_count least low p) (bound_is_count most high q)
 
 level_can_be : (text : List ℕ) (l : Level) → IsLevelText text l → is_level l ≡ true
 level_can_be text (star low high) t = star_can_be text low high t
@@ -69,7 +68,7 @@ or_false false b e = refl
 no_marks : (marks : List ℕ) → list_all is_mark marks ≡ true → has_mark 42 marks ≡ false → has_mark 64 marks ≡ false → has_mark 37 marks ≡ false → marks ≡ []
 no_marks [] e a b c = refl
 no_marks (m ∷ marks) e a b c =
-    let mark = (both_true (is_mark m) (list_all is_mark marks) e).0 in
+    let mark = (and_parts (is_mark m) (list_all is_mark marks) e).0 in
     let x = or_false (m == 42) (has_mark 42 marks) a in
     let y = or_false (m == 64) (has_mark 64 marks) b in
     let z = or_false (m == 37) (has_mark 37 marks) c in
@@ -113,7 +112,7 @@ level_needs : (text : List ℕ) (l : Level) → IsLevelText text l → begins_wi
 level_needs text (star low high) t bare = tt
 level_needs text (one_of []) (n, plain, t) bare = absurd (some_variant t.texts [] t.some t.each refl)
 level_needs text (one_of (v ∷ vs)) (n, plain, t) bare =
-    first_plain v.label v.any_end v.in_case v.sublexeme vs text t.texts (both_true (is_variant v) (list_all is_variant vs) (each_value IsVariantText is_variant is_variant_there t.texts (v ∷ vs) t.each)).0 n t.whole t.each bare
+    first_plain v.label v.any_end v.in_case v.sublexeme vs text t.texts (and_parts (is_variant v) (list_all is_variant vs) (each_value IsVariantText is_variant is_variant_there t.texts (v ∷ vs) t.each)).0 n t.whole t.each bare
 level_needs text (none_of vs) (rest, e, t) bare = some_variant t.texts vs t.some t.each
 
 each_level_needs : (texts : List (List ℕ)) (levels : List Level) → AllZip IsLevelText texts levels → list_all begins_with_no_star levels ≡ true → EachNeeds levels
@@ -121,7 +120,7 @@ each_level_needs [] [] z bare = tt
 each_level_needs [] (l ∷ levels) z bare = absurd z
 each_level_needs (text ∷ texts) [] z bare = absurd z
 each_level_needs (text ∷ texts) (l ∷ levels) z bare =
-    let b = both_true (begins_with_no_star l) (list_all begins_with_no_star levels) bare in
+    let b = and_parts (begins_with_no_star l) (list_all begins_with_no_star levels) bare in
     (level_needs text l z.0 b.0, each_level_needs texts levels z.1 b.1)
 
 again : (texts : List (List ℕ)) (levels : List Level) → texts ≢ [] → AllZip IsLevelText texts levels → list_all begins_with_no_star levels ≡ true → query_read (printed_query levels) ≡ Ok levels

@@ -4,8 +4,7 @@ use Rattle.std.specs.List.{join_with_byte, list_all}
 use Rattle.std.proofs.lemmas.List.{map_push, take_more}
 use Rattle.std.specs.Prelude.{◌==◌, Bool, false, codes}
 use Rattle.std.proofs.lemmas.List.Folds.{list_all-append}
-use Rattle.std.proofs.lemmas.Bool.{false≢true}
-use Rattle.pgv_ltree.specs.Joins.{from_both}
+use Rattle.std.proofs.lemmas.Bool.{false≢true, and_from}
 use Rattle.pgv_lquery.specs.Queries.{Variant, none_of}
 use Rattle.pgv_lquery.specs.QueryPrinted.{printed_level, printed_variants}
 use Rattle.pgv_ltree.proofs.Joined.{join-push}
@@ -30,7 +29,7 @@ pub more_seen_pass : {X Y : Type 0} (p : Y → Bool) (see : X → Y) (xs : List 
 more_seen_pass p see xs i first x l e h k =
     ap (λ ys. list_all p (first ∷ map see ys)) (take_more xs i x l ∙ ap (λ y. take i xs ++ y ∷ []) (sym e))
     ∙ ap (λ ys. list_all p (first ∷ ys)) (map_push see (take i xs) x)
-    ∙ list_all-append p (first ∷ map see (take i xs)) (see x ∷ []) ∙ from_both (list_all p (first ∷ map see (take i xs))) (list_all p (see x ∷ [])) h (from_both (p (see x)) true k refl)
+    ∙ list_all-append p (first ∷ map see (take i xs)) (see x ∷ []) ∙ and_from (list_all p (first ∷ map see (take i xs))) (list_all p (see x ∷ [])) h (and_from (p (see x)) true k refl)
 
 -- there is a variant after `!`
 pub printed_not : (vs : List Variant) → (length vs == 0) ≡ false → printed_level (none_of vs) ≡ codes "!" ++ printed_variants vs

@@ -1,16 +1,11 @@
 -- The variant of a text that was split.
-use Rattle.std.proofs.Common.{◌≡◌, ℕ, Bool, true, false, cond, List, take, drop, refl}
-use Rattle.std.specs.Prelude.{Result, Ok, Err}
+use Rattle.std.proofs.Common.{◌≡◌, ℕ, Bool, true, List, take, drop, refl}
+use Rattle.std.specs.Prelude.{Ok}
 use Rattle.std.specs.List.{list_all}
-use Rattle.pgv_value.specs.declared.tree_error.PgLTreeParseError.{PgLTreeParseError}
-use Rattle.pgv_value.specs.declared.tree_error.PgLTreeParseError.TheVariants.{InvalidLtreeLabel}
 use Rattle.pgv_ltree.specs.Labels.{is_label, label_read}
+use Rattle.pgv_ltree.proofs.LawsOfTrees.{label_is}
 use Rattle.pgv_lquery.specs.QueryRead.{label_length, variant_read}
 use Rattle.pgv_lquery.specs.QueryText.{has_mark, is_mark}
-
-label_is : (b : Bool) (text label : List ℕ) → (let r : Result (List ℕ) PgLTreeParseError = cond b (Ok text) (Err InvalidLtreeLabel) in r) ≡ Ok label → (b ≡ true) × (label ≡ text)
-label_is true text label e = (refl, cc)
-label_is false text label e = absurd cc
 
 pub variant_there : (text front after label : List ℕ) (any_end in_case sublexeme : Bool) → front ≡ take (label_length text) text → after ≡ drop (label_length text) text → list_all is_mark after ≡ true → label_read front ≡ Ok label →
     any_end ≡ has_mark 42 after → in_case ≡ has_mark 64 after → sublexeme ≡ has_mark 37 after → variant_read text ≡ Ok (record { label = label; any_end = any_end; in_case = in_case; sublexeme = sublexeme })

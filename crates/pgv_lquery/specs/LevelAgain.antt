@@ -5,16 +5,15 @@ use Rattle.std.specs.Fmt.{decimal}
 use Rattle.std.specs.List.{join_with_byte, list_all}
 use Rattle.std.specs.Str.{all_ascii_digits}
 use Rattle.std.proofs.Common.{arith, ap, sym, ◌∙◌, append_assoc}
-use Rattle.std.proofs.lemmas.Bool.{eqb-true, ltb-true}
+use Rattle.std.proofs.lemmas.Bool.{eqb-true, ltb-true, and_from, not-true, and_parts}
 use Rattle.std.proofs.lemmas.List.{take_at, drop_at}
 use Rattle.pgv_value.specs.declared.tree_error.PgLQueryParseError.{PgLQueryParseError}
-use Rattle.pgv_codec.specs.Bools.{both_true}
 use Rattle.pgv_ltree.specs.Each.{read_each}
-use Rattle.pgv_ltree.specs.Joins.{from_both, lacks, other_char, split_again, wider}
+use Rattle.pgv_ltree.specs.Joins.{lacks, other_char, split_again, wider}
 use Rattle.pgv_ltree.specs.Labels.{is_label, is_label_char}
 use Rattle.pgv_ltree.specs.PrintedAgain.{label_chars}
 use Rattle.pgv_lquery.specs.CountAgain.{bound_there, count_again, decimal_digits, decimal_some, digits_lack}
-use Rattle.pgv_lquery.specs.Lacking.{before_last_at, cut_between, cut_lacks, is_false, lacks-append, lacks-joined, no_mark}
+use Rattle.pgv_lquery.specs.Lacking.{before_last_at, cut_between, cut_lacks, lacks-append, lacks-joined, no_mark}
 use Rattle.pgv_lquery.specs.Queries.{Variant, Level, star, one_of, none_of, is_level, is_variant}
 use Rattle.pgv_lquery.specs.QueryPrinted.{printed_level, printed_marks, printed_query, printed_star, printed_variant, printed_variants}
 use Rattle.pgv_lquery.specs.QueryRead.{bound_read, count_read, inner_read, label_length, level_read, marked, query_read, variant_read, variants_read}
@@ -25,13 +24,13 @@ use Rattle.pgv_lquery.specs.QueryText.{begins_with_star, is_mark}
 -- a label's character is no modifier
 no_mark_there : (c : ℕ) → is_label_char c ≡ true → is_mark c ≡ false
 no_mark_there c e =
-    rw (is_false (c == 42) (other_char is_label_char 42 refl c e), is_false (c == 64) (other_char is_label_char 64 refl c e), is_false (c == 37) (other_char is_label_char 37 refl c e)) refl
+    rw (not-true (c == 42) (other_char is_label_char 42 refl c e), not-true (c == 64) (other_char is_label_char 64 refl c e), not-true (c == 37) (other_char is_label_char 37 refl c e)) refl
 
 length_at : (label marks : List ℕ) → list_all is_label_char label ≡ true → list_all is_mark marks ≡ true → label_length (label ++ marks) ≡ length label
 length_at [] [] e f = refl
-length_at [] (m ∷ marks) e f = rw (both_true (is_mark m) (list_all is_mark marks) f).0 refl
+length_at [] (m ∷ marks) e f = rw (and_parts (is_mark m) (list_all is_mark marks) f).0 refl
 length_at (c ∷ label) marks e f =
-    let b = both_true (is_label_char c) (list_all is_label_char label) e in
+    let b = and_parts (is_label_char c) (list_all is_label_char label) e in
     rw (no_mark_there c b.0, length_at label marks b.1 f) (omega arith)
 
 pub variant_there : (label marks : List ℕ) → is_label label ≡ true → list_all is_mark marks ≡ true → variant_read (label ++ marks) ≡ Ok (marked label marks)
@@ -72,14 +71,14 @@ variant_lacks d n m label marks e f =
 printed_lack : (d : ℕ) → is_label_char d ≡ false → is_mark d ≡ false → (vs : List Variant) → list_all is_variant vs ≡ true → list_all (lacks d) (map printed_variant vs) ≡ true
 printed_lack d n m [] e = refl
 printed_lack d n m (v ∷ vs) e =
-    let b = both_true (is_variant v) (list_all is_variant vs) e in
-    from_both (lacks d (printed_variant v)) (list_all (lacks d) (map printed_variant vs))
+    let b = and_parts (is_variant v) (list_all is_variant vs) e in
+    and_from (lacks d (printed_variant v)) (list_all (lacks d) (map printed_variant vs))
     (variant_lacks d n m v.label (printed_marks v.any_end v.in_case v.sublexeme) b.0 (marks_are v.any_end v.in_case v.sublexeme)) (printed_lack d n m vs b.1)
 
 each_again : (vs : List Variant) → list_all is_variant vs ≡ true → read_each variant_read (map printed_variant vs) ≡ Ok vs
 each_again [] e = refl
 each_again (v ∷ vs) e =
-    let b = both_true (is_variant v) (list_all is_variant vs) e in
+    let b = and_parts (is_variant v) (list_all is_variant vs) e in
     rw (variant_again v b.0, each_again vs b.1) refl
 
 variants_again : (v : Variant) (vs : List Variant) → list_all is_variant (v ∷ vs) ≡ true → variants_read (printed_variants (v ∷ vs)) ≡ Ok (v ∷ vs)
@@ -120,20 +119,20 @@ both_bounds low high false e l h =
 pub star_again : (low high : Option ℕ) → is_level (star low high) ≡ true → level_read (printed_star low high) ≡ Ok (star low high)
 star_again None None e = refl
 star_again (Some low) None e =
-    let l = small low (both_true (nat_lt low 65536) true e).0 in
+    let l = small low (and_parts (nat_lt low 65536) true e).0 in
     let whole : decimal low ++ 44 ∷ 125 ∷ [] ≡ (decimal low ++ 44 ∷ []) ++ 125 ∷ [] = sym (append_assoc (decimal low) (44 ∷ []) (125 ∷ [])) in
     rw (whole, before_last_at 125 (decimal low ++ 44 ∷ [])) (bounds_there (decimal low) [] (Some low) None (decimal_lacks 44 low refl l) refl (decimal_bound low l) refl (λ n. let s = decimal_some low l in omega (arith, n, s)))
 star_again None (Some high) e =
     let h = small high e in
     rw (before_last_at 125 (44 ∷ decimal high)) (bounds_there [] (decimal high) None (Some high) refl (decimal_lacks 44 high refl h) refl (decimal_bound high h) (λ n. let s = decimal_some high h in omega (arith, n, s)))
 star_again (Some low) (Some high) e =
-    let b = both_true (nat_lt low 65536) (nat_lt high 65536) e in
+    let b = and_parts (nat_lt low 65536) (nat_lt high 65536) e in
     both_bounds low high (low == high) refl (small low b.0) (small high b.1)
 
 -- ---- levels
 
 not_first : (d c : ℕ) (text : List ℕ) → lacks d (c ∷ text) ≡ true → (c == d) ≡ false
-not_first d c text e = is_false (c == d) (both_true (not (c == d)) (lacks d text) e).0
+not_first d c text e = not-true (c == d) (and_parts (not (c == d)) (lacks d text) e).0
 
 -- a text of variants that is neither empty nor begins with a star
 pub one_there : (text : List ℕ) (vs : List Variant) → text ≢ [] → begins_with_star text ≡ false → lacks 33 text ≡ true → variants_read text ≡ Ok vs → level_read text ≡ Ok (one_of vs)
@@ -166,10 +165,10 @@ by_case false x y e f = f
 
 star_lacks : (low high : Option ℕ) → is_level (star low high) ≡ true → lacks 46 (printed_star low high) ≡ true
 star_lacks None None e = refl
-star_lacks (Some low) None e = lacks-append 46 (decimal low) (44 ∷ 125 ∷ []) (decimal_lacks 46 low refl (small low (both_true (nat_lt low 65536) true e).0)) refl
+star_lacks (Some low) None e = lacks-append 46 (decimal low) (44 ∷ 125 ∷ []) (decimal_lacks 46 low refl (small low (and_parts (nat_lt low 65536) true e).0)) refl
 star_lacks None (Some high) e = lacks-append 46 (decimal high) (125 ∷ []) (decimal_lacks 46 high refl (small high e)) refl
 star_lacks (Some low) (Some high) e =
-    let b = both_true (nat_lt low 65536) (nat_lt high 65536) e in
+    let b = and_parts (nat_lt low 65536) (nat_lt high 65536) e in
     let l = decimal_lacks 46 low refl (small low b.0) in
     let h = decimal_lacks 46 high refl (small high b.1) in
     by_case (low == high) _ _ (lacks-append 46 (decimal low) (125 ∷ []) l refl) (lacks-append 46 (decimal low ++ 44 ∷ [] ++ decimal high) (125 ∷ []) (lacks-append 46 (decimal low ++ 44 ∷ []) (decimal high) (lacks-append 46 (decimal low) (44 ∷ []) l refl) h) refl)
@@ -189,8 +188,8 @@ query_there (text ∷ texts) levels some e r = ap (read_each level_read) (split_
 levels_lack : (levels : List Level) → list_all is_level levels ≡ true → list_all (lacks 46) (map printed_level levels) ≡ true
 levels_lack [] e = refl
 levels_lack (l ∷ levels) e =
-    let b = both_true (is_level l) (list_all is_level levels) e in
-    from_both (lacks 46 (printed_level l)) (list_all (lacks 46) (map printed_level levels)) (level_lacks l b.0) (levels_lack levels b.1)
+    let b = and_parts (is_level l) (list_all is_level levels) e in
+    and_from (lacks 46 (printed_level l)) (list_all (lacks 46) (map printed_level levels)) (level_lacks l b.0) (levels_lack levels b.1)
 
 -- each level of a query has what it needs
 abbrev pub EachNeeds : List Level → Type 0
@@ -200,7 +199,7 @@ EachNeeds (l ∷ levels) = NeedsFirst l × EachNeeds levels
 levels_again : (levels : List Level) → list_all is_level levels ≡ true → EachNeeds levels → read_each level_read (map printed_level levels) ≡ Ok levels
 levels_again [] e n = refl
 levels_again (l ∷ levels) e n =
-    let b = both_true (is_level l) (list_all is_level levels) e in
+    let b = and_parts (is_level l) (list_all is_level levels) e in
     rw (level_again l b.0 n.0, levels_again levels b.1 n.1) refl
 
 pub query_again : (l : Level) (levels : List Level) → list_all is_level (l ∷ levels) ≡ true → EachNeeds (l ∷ levels) → query_read (printed_query (l ∷ levels)) ≡ Ok (l ∷ levels)

@@ -1,6 +1,6 @@
 //! The modifiers of a variant (PostgreSQL, "ltree", lquery).
 
-ghost use Rattle.std.specs.Prelude.{⊤, ◌≡◌, ◌++◌, ◌∷◌, [], IfErr, OnOk, OnErr, Some, codes};
+ghost use Rattle.std.specs.Prelude.{⊤, ◌≡◌, ◌∷◌, [], IfErr, OnOk, OnErr, Some, codes};
 ghost use Rattle.pgv_lquery.specs.Flags.{has_bit};
 ghost use Rattle.pgv_lquery.specs.QueryPrinted.{mark, printed_marks};
 

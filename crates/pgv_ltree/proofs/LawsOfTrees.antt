@@ -3,17 +3,17 @@ use Rattle.std.proofs.Common.{◌≡◌, ◌≢◌, ◌∙◌, ap, sym, refl, �
 use Rattle.std.specs.Prelude.{◌==◌, Result, Ok, Err}
 use Rattle.std.specs.List.{join_with_byte, list_all}
 use Rattle.std.proofs.lemmas.List.Splits.{join_with_byte-slice_split, length-slice_split}
+use Rattle.std.proofs.lemmas.Bool.{and_from}
 use Rattle.pgv_value.specs.declared.tree_error.PgLTreeParseError.{PgLTreeParseError}
 use Rattle.pgv_value.specs.declared.tree_error.PgLTreeParseError.TheVariants.{InvalidLtreeLabel}
 use Rattle.pgv_ltree.specs.Each.{read_each}
-use Rattle.pgv_ltree.specs.Joins.{from_both}
 use Rattle.pgv_ltree.specs.Labels.{is_label, label_read}
 use Rattle.pgv_ltree.specs.Laws.{OneTree, PrintedTreeIsRead, TreeIsRead}
 use Rattle.pgv_ltree.specs.PrintedAgain.{tree_again}
 use Rattle.pgv_ltree.specs.Trees.{IsTreeText, parts, printed_tree, tree_read}
 use Rattle.pgv_ltree.proofs.EachRead.{first_of}
 
-label_is : (b : Bool) (text label : List ℕ) → (let r : Result (List ℕ) PgLTreeParseError = cond b (Ok text) (Err InvalidLtreeLabel) in r) ≡ Ok label → (b ≡ true) × (label ≡ text)
+pub label_is : (b : Bool) (text label : List ℕ) → (let r : Result (List ℕ) PgLTreeParseError = cond b (Ok text) (Err InvalidLtreeLabel) in r) ≡ Ok label → (b ≡ true) × (label ≡ text)
 label_is true text label e = (refl, cc)
 label_is false text label e = absurd cc
 
@@ -25,7 +25,7 @@ labels_are (text ∷ texts) labels e =
     let first = label_is (is_label text) text f.value f.is in
     let others = labels_are texts f.more f.are in
     let whole : labels ≡ text ∷ texts = f.whole ∙ ap (λ l. l ∷ f.more) first.1 ∙ ap (λ ls. text ∷ ls) others.0 in
-    (whole, ap (list_all is_label) (f.whole ∙ ap (λ l. l ∷ f.more) first.1) ∙ from_both (is_label text) (list_all is_label f.more) first.0 others.1)
+    (whole, ap (list_all is_label) (f.whole ∙ ap (λ l. l ∷ f.more) first.1) ∙ and_from (is_label text) (list_all is_label f.more) first.0 others.1)
 
 no_parts : (text : List ℕ) → parts text ≢ []
 no_parts text e =

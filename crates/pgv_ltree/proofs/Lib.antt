@@ -3,4 +3,3 @@ pub mod Printed
 pub mod EachRead
 pub mod Written
 pub mod LawsOfTrees
-pub mod Text

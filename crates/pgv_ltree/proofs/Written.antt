@@ -3,13 +3,13 @@ use Rattle.std.proofs.Common.{◌≡◌, ◌∙◌, ◌+◌, ◌<◌, ℕ, List,
 use Rattle.std.proofs.lemmas.List.{take_more}
 use Rattle.std.proofs.lemmas.List.Folds.{list_all-append}
 use Rattle.std.specs.List.{list_all}
+use Rattle.std.proofs.lemmas.Bool.{and_from}
 use Rattle.pgv_buf.specs.Tokens.{Token, Cell, blank, byte, bytes}
 use Rattle.pgv_codec.specs.Image.{image_of}
 use Rattle.pgv_codec.specs.PlainBytes.{appended_parts}
 use Rattle.pgv_ltree.specs.Labels.{is_label}
 use Rattle.pgv_ltree.specs.Trees.{printed_tree}
 use Rattle.pgv_ltree.specs.TreesCodec.{tree_image}
-use Rattle.pgv_ltree.specs.Joins.{from_both}
 
 -- one more label of a list
 more : {X : Type 0} (xs : List X) (i : ℕ) (x : X) → i < length xs → x ≡ get_or xs i x → take (i + 1) xs ≡ take i xs ++ x ∷ []
@@ -18,7 +18,7 @@ more xs i x l e = take_more xs i x l ∙ ap (λ y. take i xs ++ y ∷ []) (sym e
 -- it passes a test that the others pass
 pub more_pass : {X : Type 0} (p : X → Bool) (xs : List X) (i : ℕ) (first x : X) → i < length xs → x ≡ get_or xs i x → list_all p (first ∷ take i xs) ≡ true → p x ≡ true → list_all p (first ∷ take (i + 1) xs) ≡ true
 more_pass p xs i first x l e h k =
-    ap (λ ys. list_all p (first ∷ ys)) (more xs i x l e) ∙ list_all-append p (first ∷ take i xs) (x ∷ []) ∙ from_both (list_all p (first ∷ take i xs)) (list_all p (x ∷ [])) h (from_both (p x) true k refl)
+    ap (λ ys. list_all p (first ∷ ys)) (more xs i x l e) ∙ list_all-append p (first ∷ take i xs) (x ∷ []) ∙ and_from (list_all p (first ∷ take i xs)) (list_all p (x ∷ [])) h (and_from (p x) true k refl)
 
 -- the version and all labels
 pub written_tree : (was between now : List Cell) (tree labels : List (List ℕ)) → labels ≡ tree → list_all is_label labels ≡ true → between ≡ was ++ blank (byte 1 ∷ []) → now ≡ between ++ blank (bytes (printed_tree labels)) →

@@ -2,7 +2,7 @@
 use Rattle.std.specs.Prelude.{◌≡◌, ℕ, nat_le, true, List, [], ◌∷◌, length, Ok, refl}
 use Rattle.std.specs.List.{list_all}
 use Rattle.std.proofs.Common.{ap, ◌∙◌}
-use Rattle.pgv_codec.specs.Bools.{both_true}
+use Rattle.std.proofs.lemmas.Bool.{and_parts}
 use Rattle.pgv_ltree.specs.Each.{read_each}
 use Rattle.pgv_ltree.specs.Joins.{lacks, other_char, split_again, wider}
 use Rattle.pgv_ltree.specs.Labels.{is_label, is_label_char, label_limit, label_read}
@@ -10,7 +10,7 @@ use Rattle.pgv_ltree.specs.Trees.{parts, printed_tree, tree_read}
 
 -- the characters of a label
 pub label_chars : (label : List ℕ) → is_label label ≡ true → list_all is_label_char label ≡ true
-label_chars label e = (both_true (nat_le (length label) label_limit) (list_all is_label_char label) e).1
+label_chars label e = (and_parts (nat_le (length label) label_limit) (list_all is_label_char label) e).1
 
 -- a label has no dot
 pub no_dot : (label : List ℕ) → is_label label ≡ true → lacks 46 label ≡ true
@@ -20,7 +20,7 @@ no_dot label e = wider is_label_char _ (other_char is_label_char 46 refl) label 
 pub labels_again : (labels : List (List ℕ)) → list_all is_label labels ≡ true → read_each label_read labels ≡ Ok labels
 labels_again [] e = refl
 labels_again (label ∷ labels) e =
-    let b = both_true (is_label label) (list_all is_label labels) e in
+    let b = and_parts (is_label label) (list_all is_label labels) e in
     rw (b.0, labels_again labels b.1) refl
 
 pub parts_again : (label : List ℕ) (labels : List (List ℕ)) → list_all is_label (label ∷ labels) ≡ true → parts (printed_tree (label ∷ labels)) ≡ label ∷ labels

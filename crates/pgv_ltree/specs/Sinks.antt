@@ -6,7 +6,6 @@ use Rattle.std.proofs.lemmas.Grind.{put_two}
 use Rattle.std.proofs.Common.{sym, ap, ◌∙◌, append_assoc, append-nil}
 use Rattle.pgv_buf.specs.Tokens.{Cell, blank, bytes}
 use Rattle.pgv_codec.specs.Outcome.{Appended}
-use Rattle.pgv_codec.specs.PlainBytes.{appended_parts}
 
 -- ---- a formatter
 
@@ -23,9 +22,6 @@ module _ {W : Type 0} (took : W → List ℕ → W → Type 0) where
 
 pub appended_none : (was : List Cell) → was ≡ was ++ blank (bytes [])
 appended_none was = sym (append-nil was)
-
-pub appended_both : (was between now : List Cell) (x y : List ℕ) → between ≡ was ++ blank (bytes x) → now ≡ between ++ blank (bytes y) → now ≡ was ++ blank (bytes (x ++ y))
-appended_both was between now x y first second = appended_parts was between now x y first second
 
 pub appended_after : (was between now : List Cell) (x : List ℕ) → between ≡ was ++ blank (bytes x) → Appended between now → Appended was now
 appended_after was between now x first left =

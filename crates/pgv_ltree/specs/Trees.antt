@@ -1,7 +1,7 @@
 -- Trees of labels and their texts (PostgreSQL: appendix F, "ltree", Definitions): one or more labels joined by `.`, which is 46
 -- (`IsTreeText`). A tree prints its labels joined by `.`.
 -- Laws: what is computed is exactly this (`tree_is_read`), and no text is two trees (`one_tree`).
-use Rattle.std.specs.Prelude.{◌≡◌, ◌≢◌, ℕ, ◌==◌, Bool, true, List, [], ◌∷◌, Result}
+use Rattle.std.specs.Prelude.{◌≡◌, ◌≢◌, ℕ, ◌==◌, Bool, true, List, [], Result}
 use Rattle.std.specs.List.{join_with_byte, list_all, slice_split}
 use Rattle.pgv_value.specs.declared.tree_error.PgLTreeParseError.{PgLTreeParseError}
 use Rattle.pgv_ltree.specs.Each.{first_is, read_each}

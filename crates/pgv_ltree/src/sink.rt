@@ -66,7 +66,8 @@ impl<W: fmt::Write> Sink for fmt::Formatter<W> {
 
 /// The buffer appends them. An error is C1, and leaves at the beginning what was there.
 impl Sink for PgArgumentBuffer {
-    ghost use Rattle.pgv_ltree.specs.Sinks.{appended_none, appended_both, appended_after};
+    ghost use Rattle.pgv_codec.specs.PlainBytes.{appended_parts};
+    ghost use Rattle.pgv_ltree.specs.Sinks.{appended_none, appended_after};
 
     type Error = CodecError;
 
@@ -83,7 +84,7 @@ impl Sink for PgArgumentBuffer {
 
     ghost took_none = { appended_none };
 
-    ghost took_both = { appended_both };
+    ghost took_both = { appended_parts };
 
     ghost left_after = { appended_after };
 }

@@ -9,7 +9,7 @@ use pgv_value::CodecError;
 pub const VERSION: u8 = 1;
 
 /// The text after the version. No bytes are refused with C15, another version as given here, and other bytes than UTF-8 with C14.
-#[tactic(auto, using(crate::proofs::Text::whole_text))]
+#[tactic(auto, using(pgv_value::proofs::Text::whole_text))]
 pub fn text_after_version(form: &[u8], wrong_version: CodecError) -> Result<&str, CodecError>
     ensures found { IfOk result (λ text. versioned form.now ≡ Some text.now) }
     ensures none { IfErr result (λ e. (versioned form.now ≡ None) × (e ≡ version_fault wrong_version form.now)) }

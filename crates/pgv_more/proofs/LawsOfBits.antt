@@ -3,13 +3,12 @@ use Rattle.std.proofs.Common.{◌≡◌, ℕ, zero, suc, ◌+◌, ◌-◌, ◌*�
 use Rattle.std.specs.Prelude.{map, replicate}
 use Rattle.std.specs.Int.{w32, to_be_bytes}
 use Rattle.std.specs.List.{list_all}
-use Rattle.std.proofs.lemmas.Bool.{eqb-true}
+use Rattle.std.proofs.lemmas.Bool.{eqb-true, and_parts}
 use Rattle.std.proofs.lemmas.Bool.Decides.{nat_tests}
 use Rattle.std.proofs.lemmas.List.{length-append, length-drop, length-take-le, length-replicate, take-append-drop}
 use Rattle.std.proofs.lemmas.Nat.{be_bytes_4}
 use Rattle.std.proofs.lemmas.Option.{same_Some}
 use Rattle.pgv_value.specs.Laws.{AreBytes}
-use Rattle.pgv_codec.specs.Bools.{both_true}
 use Rattle.pgv_more.specs.Bits.{bits_of, byte_count, bytes_of, packed}
 use Rattle.pgv_more.specs.BitsBinary.{IsBits, BitsAreRead, OneListOfBits, bits_in_binary, bit_count}
 use Rattle.pgv_more.specs.BitsText.{BitsAreReadOfText, digit_of, is_digit, is_one}
@@ -105,7 +104,7 @@ digit_is c e = grind (arith, nat_tests)
 digits_are : (text : List ℕ) → list_all is_digit text ≡ true → text ≡ map digit_of (map is_one text)
 digits_are [] e = refl
 digits_are (c ∷ text) e =
-    let both = both_true (is_digit c) (list_all is_digit text) e in
+    let both = and_parts (is_digit c) (list_all is_digit text) e in
     ap (λ (d : ℕ). d ∷ text) (sym (digit_is c both.0)) ∙ ap (λ (ds : List ℕ). digit_of (is_one c) ∷ ds) (digits_are text both.1)
 
 are_digits : (bits : List Bool) → (list_all is_digit (map digit_of bits) ≡ true) × (map is_one (map digit_of bits) ≡ bits)

@@ -1,11 +1,10 @@
 -- The laws of the texts of strings of bytes.
-use Rattle.std.proofs.Common.{◌≡◌, ◌↔◌, ℕ, zero, suc, ◌+◌, ◌-◌, ◌*◌, ◌<◌, ◌≤◌, eqb, Bool, true, false, cond, List, [], ◌∷◌, length, Option, Some, None, Result, Ok, Err, refl, sym, ap, ◌∙◌, subst, arith, ◌⊎◌, inl, inr}
+use Rattle.std.proofs.Common.{◌≡◌, ℕ, ◌+◌, ◌*◌, Bool, true, false, cond, List, [], ◌∷◌, length, Option, Some, None, Result, Ok, Err, refl, sym, ap, ◌∙◌, subst, arith}
 use Rattle.std.proofs.lemmas.Bool.{eqb-true}
-use Rattle.std.proofs.lemmas.Bool.Decides.{nat_tests}
 use Rattle.std.proofs.lemmas.Option.{same_Some}
-use Rattle.std.specs.Prelude.{nat_le, ◌&&◌, ◌==◌, ◌%◌}
+use Rattle.std.specs.Prelude.{◌&&◌, ◌==◌, ◌%◌}
 use Rattle.std.specs.Option.{option_and_then}
-use Rattle.hex.specs.Hex.{decode_of, decode_pairs, hex_digit_value, value_at, pair_value, ◌>>=◌}
+use Rattle.hex.specs.Hex.{decode_of, decode_pairs, hex_digit_value, pair_value, ◌>>=◌}
 use Rattle.hex.specs.declared.error.FromHexError.{FromHexError}
 use Rattle.hex.proofs.HexLemmas.{decode_of-ok, decode_of-even}
 use Rattle.pgv_more.specs.ByteaText.{ArePairs, IsByteaText, ByteaTextIsRead, OneByteaText, bytea_in_text, digits_after, where_ok}
@@ -14,32 +13,10 @@ use Rattle.pgv_more.specs.MacAddressText.{IsHexDigit, IsPair}
 -- ---- digits
 
 digit_is : (c v : ℕ) → hex_digit_value c ≡ Some v → IsHexDigit c v
-digit_is c v e = by (nat_le 65 c && nat_le c 70) (nat_le 97 c && nat_le c 102) (nat_le 48 c && nat_le c 57) refl refl refl e
-  where
-    by : (upper lower decimal : Bool) → (nat_le 65 c && nat_le c 70) ≡ upper → (nat_le 97 c && nat_le c 102) ≡ lower → (nat_le 48 c && nat_le c 57) ≡ decimal →
-        cond upper (Some (c - 55)) (cond lower (Some (c - 87)) (cond decimal (Some (c - 48)) None)) ≡ Some v → IsHexDigit c v
-    by true lower decimal u l d e = let s = same_Some (c - 55) v e in let a : 65 ≤ c = grind (arith, nat_tests) in let b : c ≤ 70 = grind (arith, nat_tests) in inr (omega (arith, s), omega (arith, s), inl (omega (arith, s)))
-    by false true decimal u l d e = let s = same_Some (c - 87) v e in let a : 97 ≤ c = grind (arith, nat_tests) in let b : c ≤ 102 = grind (arith, nat_tests) in inr (omega (arith, s), omega (arith, s), inr (omega (arith, s)))
-    by false false true u l d e = let s = same_Some (c - 48) v e in let a : 48 ≤ c = grind (arith, nat_tests) in let b : c ≤ 57 = grind (arith, nat_tests) in inl (omega (arith, s), omega (arith, s))
-    by false false false u l d e = absurd (cc)
+digit_is c v e = grind (arith)
 
 digit_there : (c v : ℕ) → IsHexDigit c v → hex_digit_value c ≡ Some v
-digit_there c v (inl h) =
-    let a : nat_le 65 c ≡ false = grind (arith, nat_tests) in
-    let b : nat_le 97 c ≡ false = grind (arith, nat_tests) in
-    let d : nat_le 48 c ≡ true = grind (arith, nat_tests) in
-    let e : nat_le c 57 ≡ true = grind (arith, nat_tests) in
-    rw (a, b, d, e) (ap (λ (n : ℕ). Some n) (omega arith))
-digit_there c v (inr (above, below, inl h)) =
-    let a : nat_le 65 c ≡ true = grind (arith, nat_tests) in
-    let b : nat_le c 70 ≡ true = grind (arith, nat_tests) in
-    rw (a, b) (ap (λ (n : ℕ). Some n) (omega arith))
-digit_there c v (inr (above, below, inr h)) =
-    let a : nat_le 65 c ≡ true = grind (arith, nat_tests) in
-    let b : nat_le c 70 ≡ false = grind (arith, nat_tests) in
-    let d : nat_le 97 c ≡ true = grind (arith, nat_tests) in
-    let e : nat_le c 102 ≡ true = grind (arith, nat_tests) in
-    rw (a, b, d, e) (ap (λ (n : ℕ). Some n) (omega arith))
+digit_there c v h = grind (arith)
 
 -- ---- pairs of digits
 
@@ -64,9 +41,9 @@ step_taken (Err e) f y h = absurd (cc)
 step_taken (Ok x) f y h = (x, refl, h)
 
 same_Ok : {A : Type 0} (x y : A) → (let r : Result A FromHexError = Ok x in r) ≡ Ok y → x ≡ y
-same_Ok {A} x y e = ap (λ (r : Result A FromHexError). elim r [ Ok n ↦ n | Err f ↦ x ]) e
+same_Ok x y e = cc
 
-pairs_are : (i : ℕ) (digits value : List ℕ) → decode_pairs i digits ≡ Ok value → ArePairs value digits
+pub pairs_are : (i : ℕ) (digits value : List ℕ) → decode_pairs i digits ≡ Ok value → ArePairs value digits
 unfolding decode_pairs
 pairs_are i [] value e = subst (λ v. ArePairs v []) (same_Ok [] value e) refl
 pairs_are i (a ∷ []) value e = absurd (cc)
@@ -76,7 +53,7 @@ pairs_are i (a ∷ b ∷ digits) value e =
     subst (λ v. ArePairs v (a ∷ b ∷ digits)) (same_Ok (first.0 ∷ more.0) value more.2)
     (a, b, digits, refl, pair_is a b i first.0 first.1, pairs_are (i + 2) digits more.0 more.1)
 
-pairs_there : (i : ℕ) (digits value : List ℕ) → ArePairs value digits → (decode_pairs i digits ≡ Ok value) × (length digits % 2 ≡ 0)
+pub pairs_there : (i : ℕ) (digits value : List ℕ) → ArePairs value digits → (decode_pairs i digits ≡ Ok value) × (length digits % 2 ≡ 0)
 unfolding decode_pairs
 pairs_there i digits [] h = (rw h refl, rw h refl)
 pairs_there i digits (byte ∷ value) h =

@@ -1,19 +1,16 @@
 -- The laws of MAC addresses.
-use Rattle.std.proofs.Common.{◌≡◌, ℕ, zero, suc, ◌+◌, ◌*◌, ◌<◌, ◌≤◌, eqb, ltb, Bool, true, false, cond, List, [], ◌∷◌, length, drop, refl, sym, subst, ap, ◌∙◌, arith, Option, Some, None, ◌⊎◌, inl, inr}
+use Rattle.std.proofs.Common.{◌≡◌, ℕ, zero, suc, ◌+◌, ◌*◌, ◌<◌, ◌≤◌, eqb, ltb, Bool, true, false, List, [], ◌∷◌, length, drop, refl, sym, subst, ap, ◌∙◌, arith, Option, Some, None, ◌⊎◌, inl, inr}
 use Rattle.std.specs.Prelude.{◌||◌}
 use Rattle.std.specs.Option.{option_map}
 use Rattle.std.specs.Char.{digit_value}
 use Rattle.std.proofs.lemmas.Bool.{eqb-true, eq-eqb, ltb-true, lt-ltb, cases_lt}
 use Rattle.std.proofs.lemmas.Bool.Decides.{nat_tests}
-use Rattle.std.proofs.lemmas.Option.{same_Some}
+use Rattle.std.proofs.lemmas.Option.{same_Some, none-some}
 use Rattle.pgv_text.specs.DateTimeText.{IsValueOf}
+use Rattle.pgv_codec.specs.BackParts.{guarded}
 use Rattle.pgv_more.specs.MacAddressText.{IsHexDigit, IsPair, ArePairsAfter, IsSeparator, IsMacAddress, hex_value, pair_of, pair_value, with_rest, next_pair, before, at_end, pairs_after, is_separator, mac_value, MacAddressIsRead, OneMacAddress}
 
 -- ---- digits
-
-under : {A : Type 0} (b : Bool) (o : Option A) (y : A) → cond b o None ≡ Some y → (b ≡ true) × (o ≡ Some y)
-under true o y e = (refl, e)
-under false o y e = absurd (cc)
 
 low_digit : (c v : ℕ) → digit_value c ≡ v → v < 10 → c ≡ 48 + v
 low_digit c v e l = grind (arith, nat_tests)
@@ -39,7 +36,7 @@ by_sum (inr b) f g = g b
 
 digit_found : (c v : ℕ) → hex_value c ≡ Some v → IsHexDigit c v
 digit_found c v e =
-    let u = under (ltb (digit_value c) 16) (Some (digit_value c)) v e in
+    let u = guarded (ltb (digit_value c) 16) (Some (digit_value c)) v e in
     let small : digit_value c < 16 = ltb-true (digit_value c) 16 u.0 in
     let is : digit_value c ≡ v = same_Some (digit_value c) v u.1 in
     by_sum (cases_lt v 10)
@@ -84,7 +81,7 @@ next_there separator [] byte after e = absurd (cc)
 next_there separator (c ∷ []) byte after e = absurd (cc)
 next_there separator (c ∷ high ∷ []) byte after e = absurd (cc)
 next_there separator (c ∷ high ∷ low ∷ rest) byte after e =
-    let u = under (eqb c separator) (with_rest (pair_value high low) rest) (byte, after) e in
+    let u = guarded (eqb c separator) (with_rest (pair_value high low) rest) (byte, after) e in
     let f = rest_there (pair_value high low) rest byte after u.1 in
     let same : c ≡ separator = eqb-true c separator u.0 in
     (high, low, ap (λ (d : ℕ). d ∷ high ∷ low ∷ rest) same ∙ ap (λ (r : List ℕ). separator ∷ high ∷ low ∷ r) f.1, pair_found high low byte f.0)
@@ -134,7 +131,7 @@ mac_found [] bytes e = absurd (cc)
 mac_found (high ∷ []) bytes e = absurd (cc)
 mac_found (high ∷ low ∷ []) bytes e = absurd (cc)
 mac_found (high ∷ low ∷ s ∷ rest) bytes e =
-    let u = under (is_separator s) (before (with_rest (pair_value high low) (s ∷ rest)) (pairs_after s 5)) bytes e in
+    let u = guarded (is_separator s) (before (with_rest (pair_value high low) (s ∷ rest)) (pairs_after s 5)) bytes e in
     let b = before_there (with_rest (pair_value high low) (s ∷ rest)) (pairs_after s 5) bytes u.1 in
     let f = rest_there (pair_value high low) (s ∷ rest) b.0 b.1 b.3 in
     let m = pairs_found s 5 b.1 b.2 b.4 in
@@ -161,10 +158,7 @@ mac_address_is_read text bytes = (mac_found text bytes, mac_read text bytes)
 pub one_mac_address : OneMacAddress
 one_mac_address text first second a b = same_Some first second (sym (mac_read text first a) ∙ mac_read text second b)
 
-none_some : {A : Type 0} (a : A) → None ≡ Some a → ⊥
-none_some a e = absurd (cc)
-
 -- what is computed is the address that the text is, or that it is none
 pub address_is : (text : List ℕ) (found : Option (List ℕ)) → found ≡ mac_value text → IsValueOf IsMacAddress text found
 address_is text (Some bytes) e = mac_found text bytes (sym e)
-address_is text None e = λ bytes is. none_some bytes (e ∙ mac_read text bytes is)
+address_is text None e = λ bytes is. none-some bytes (e ∙ mac_read text bytes is)

@@ -1,6 +1,6 @@
 -- What is written of a string of bytes is read back as it.
-use Rattle.std.specs.Prelude.{◌≡◌, ℕ, nat_eq, List, length, Option, Some, refl}
-use Rattle.std.proofs.Common.{ap, ◌∙◌}
+use Rattle.std.specs.Prelude.{ℕ, nat_eq, length, Some, refl}
+use Rattle.std.proofs.Common.{ap}
 use Rattle.pgv_buf.specs.Tokens.{bytes}
 use Rattle.pgv_value.specs.FrameBinary.{Part}
 use Rattle.pgv_value.specs.declared.value.PgValueFormat.TheVariants.{Binary}

@@ -1,6 +1,6 @@
 //! Lists of bits (PostgreSQL, "Bit String Types"), kept as bytes, eight bits to a byte, the first of them the highest.
 
-ghost use Rattle.std.specs.Prelude.{◌≡◌, ◌↔◌, ◌++◌, ◌+◌, ◌*◌, ◌<◌, ◌≤◌, ◌==◌, ℕ, Bool, false, List, [], ◌∷◌, length, take, map, slice_get, is_some, IfOk, OnOk, OnErr, IsOk, IsSome, option_to_list};
+ghost use Rattle.std.specs.Prelude.{◌≡◌, ◌↔◌, ◌++◌, ◌+◌, ◌*◌, ◌<◌, ◌≤◌, ◌==◌, Bool, false, List, [], ◌∷◌, length, take, map, slice_get, is_some, IfOk, OnOk, OnErr, IsOk, IsSome, option_to_list};
 ghost use Rattle.pgv_more.specs.Bits.{bits_of, byte_count, low_bits, number_of, packed};
 ghost use Rattle.std.specs.List.{list_all};
 ghost use Rattle.pgv_more.specs.BitsText.{bits_in_text, is_digit, is_one};

@@ -12,7 +12,7 @@ use Rattle.pgv_nest.specs.ArrayGrammar.{element_type, Head, one_dimension, head,
 use Rattle.pgv_nest.specs.Found.{array_there}
 use Rattle.pgv_nest.specs.NestBinary.{BeginWithFrames, IsArray}
 use Rattle.pgv_value.specs.Steps.{◌>>=◌, number}
-use Rattle.pgv_nest.proofs.Numbers.{step_taken, test_failed, test_held, number_splits, number_is, bytes_after, after_four, after_frame}
+use Rattle.pgv_value.proofs.Numbers.{step_taken, test_failed, test_held, number_splits, number_is, bytes_after, after_four, after_frame}
 
 frames_are : {M : Type 0} (read : Part → Option M) (n : ℕ) (bytes : List ℕ) (ms : List M) → AreBytes bytes → frames read n bytes ≡ Some ms → (length ms ≡ n) × BeginWithFrames read bytes ms
 unfolding frames

@@ -1,5 +1,5 @@
 -- An array has few elements for its bytes: each takes four or more.
-use Rattle.std.proofs.Common.{◌≡◌, ℕ, zero, suc, ◌+◌, ◌*◌, ◌≤◌, List, [], ◌∷◌, ◌++◌, length, Option, Some, None, refl, arith, ◌∙◌, ap, inl, inr}
+use Rattle.std.proofs.Common.{◌≡◌, ℕ, zero, suc, ◌+◌, ◌*◌, ◌≤◌, List, [], ◌∷◌, ◌++◌, length, Option, Some, None, refl, arith, inl, inr}
 use Rattle.std.proofs.lemmas.List.{length-append}
 use Rattle.std.specs.Int.{w32, to_be_bytes}
 use Rattle.std.proofs.lemmas.Grind.{common_steps}
@@ -7,7 +7,7 @@ use Rattle.pgv_value.specs.FrameBinary.{Part, front}
 use Rattle.pgv_types.specs.Ty.{Ty}
 use Rattle.pgv_nest.specs.ArrayGrammar.{frames}
 use Rattle.pgv_nest.specs.Found.{frames_there}
-use Rattle.pgv_nest.specs.NestBinary.{IsArray, FewElements}
+use Rattle.pgv_nest.specs.NestBinary.{FewElements}
 use Rattle.pgv_value.specs.Steps.{◌>>=◌}
 
 -- a frame takes four bytes or more

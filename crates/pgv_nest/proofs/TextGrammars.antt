@@ -1,6 +1,6 @@
 -- What is computed of an array or a record in text is what its characters are.
 use Rattle.std.proofs.Common.{◌≡◌, ℕ, Bool, nat_eq, List, [], ◌∷◌, length, Option, Some, None, option_map, refl, sym, ◌∙◌, ap, subst}
-use Rattle.std.specs.Prelude.{◌↔◌, if◌then◌else◌}
+use Rattle.std.specs.Prelude.{◌↔◌}
 use Rattle.std.proofs.lemmas.Bool.{eq-eqb, eqb-true}
 use Rattle.std.proofs.lemmas.Option.{same_Some}
 use Rattle.pgv_types.specs.Ty.{Ty, by_oid}
@@ -15,7 +15,7 @@ use Rattle.pgv_nest.specs.ArrayGrammar.{array, array_of_length, array_in_text, e
 use Rattle.pgv_nest.specs.RecordGrammar.{Left, text_fields, next, fields_of}
 use Rattle.pgv_nest.specs.NestText.{IsArrayInText, IsSizedInText, TextStretch, IsTextField, ◌before◌, IsRecordInText, TextIs, RecordTextBegins, TextFieldIsItsValue}
 use Rattle.pgv_nest.specs.TupleGrammar.{record_of, ◌then◌}
-use Rattle.pgv_nest.proofs.Numbers.{step_taken, test_held, pair_is}
+use Rattle.pgv_value.proofs.Numbers.{step_taken, test_held, pair_is}
 
 -- ---- arrays
 

@@ -1,29 +1,16 @@
 -- What stands in bytes is found there: numbers, arrays and the fields of records.
 use Rattle.std.specs.Prelude.{◌≡◌, ℕ, suc, ◌<◌, ◌^◌, Bool, false, nat_lt, List, [], ◌∷◌, ◌++◌, length, Option, Some, refl}
-use Rattle.std.specs.Int.{w32, from_be_bytes, to_be_bytes}
-use Rattle.std.proofs.Common.{◌∙◌, ap, inl, inr, arith}
+use Rattle.std.specs.Int.{w32, to_be_bytes}
+use Rattle.std.proofs.Common.{inl, inr, arith}
 use Rattle.std.proofs.lemmas.Bool.{le-ltb, eq-eqb}
-use Rattle.std.proofs.lemmas.List.{take_at, drop_at, length-append}
-use Rattle.std.proofs.lemmas.Nat.{from_be_bytes-to_be_bytes_4}
 use Rattle.pgv_types.specs.Ty.{Ty}
 use Rattle.pgv_value.specs.FrameBinary.{Part}
 use Rattle.pgv_value.specs.Reading.{Reading}
 use Rattle.pgv_value.proofs.Fronts.{frame_in_front}
+use Rattle.pgv_value.proofs.Numbers.{number_of_four, number_there}
 use Rattle.pgv_nest.specs.ArrayGrammar.{element_type, one_dimension, head, frames, array_of}
 use Rattle.pgv_nest.specs.NestBinary.{BeginWithFrames, IsArray, HasFieldType, of_record, of_custom_record, of_composite, of_domain, IsField}
 use Rattle.pgv_nest.specs.RecordGrammar.{field_type, field_head, field_in, binary_fields, next}
-use Rattle.pgv_value.specs.Steps.{number}
-
--- ---- numbers
-
-pub number_of_four : (four rest : List ℕ) → length four ≡ 4 → number (four ++ rest) ≡ Some (from_be_bytes w32 four, rest)
-unfolding number
-number_of_four four rest len =
-    let long : nat_lt (length (four ++ rest)) 4 ≡ false = le-ltb _ _ (omega (arith, length-append four rest)) in
-    rw (long, take_at four rest 4 len, drop_at four rest 4 len) refl
-
-pub number_there : (n : ℕ) (rest : List ℕ) → n < 2 ^ 32 → number (to_be_bytes w32 n ++ rest) ≡ Some (n, rest)
-number_there n rest fits = number_of_four (to_be_bytes w32 n) rest refl ∙ ap (λ (m : ℕ). Some (m, rest)) (from_be_bytes-to_be_bytes_4 n fits)
 
 -- ---- arrays
 

@@ -5,7 +5,7 @@ use Rattle.std.proofs.lemmas.Slice.Eq.{slice_eq-Decides}
 use Rattle.std.specs.Prelude.{ℤ, ◌&&◌}
 use Rattle.std.specs.Cmp.Lexicographic.{pointwise}
 use Rattle.std.specs.Ordering.{int_eq}
-use Rattle.pgv_codec.specs.Bools.{both_true}
+use Rattle.std.proofs.lemmas.Bool.{and_parts}
 use Rattle.pgv_numeric.specs.Numeric.{Numeric, not_a_number, number}
 use Rattle.pgv_numeric.specs.declared.numeric.PgNumericSign.{PgNumericSign}
 
@@ -32,9 +32,9 @@ pub equal_parts :
     ((same && (pointwise int_eq xs ys && (int_eq w v && int_eq c d))) ≡ true) ↔ (number s xs w c ≡ number t ys v d)
 unfolding sign_of digits_of weight_of scale_of
 equal_parts s t same xs ys w v c d decides = (
-  λ e. let a = both_true same (pointwise int_eq xs ys && (int_eq w v && int_eq c d)) e in
-      let b = both_true (pointwise int_eq xs ys) (int_eq w v && int_eq c d) a.1 in
-      let k = both_true (int_eq w v) (int_eq c d) b.1 in
+  λ e. let a = and_parts same (pointwise int_eq xs ys && (int_eq w v && int_eq c d)) e in
+      let b = and_parts (pointwise int_eq xs ys) (int_eq w v && int_eq c d) a.1 in
+      let k = and_parts (int_eq w v) (int_eq c d) b.1 in
       rw (decides.0 a.0, (slice_eq-Decides Decides-int_eq xs ys (pointwise int_eq xs ys) refl).0 b.0, (Decides-int_eq w v).0 k.0, (Decides-int_eq c d).0 k.1) refl,
   λ e. rw (decides.1 (ap (sign_of s) e), (slice_eq-Decides Decides-int_eq xs ys (pointwise int_eq xs ys) refl).1 (ap (digits_of xs) e), (Decides-int_eq w v).1 (ap (weight_of w) e), (Decides-int_eq c d).1 (ap (scale_of c) e)) refl,
 )

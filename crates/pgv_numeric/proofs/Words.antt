@@ -1,5 +1,5 @@
 -- Signed numbers and the bytes that they are read of.
-use Rattle.std.proofs.Common.{◌≡◌, ℕ, zero, suc, ◌<◌, ◌^◌, true, List, [], ◌∷◌, length, get_or, refl, ap, ◌∙◌, arith}
+use Rattle.std.proofs.Common.{◌≡◌, ℕ, ◌<◌, ◌^◌, true, List, [], ◌∷◌, length, refl, ap, ◌∙◌, arith}
 use Rattle.std.proofs.Math.Facts.{sfits_to_z}
 use Rattle.std.proofs.lemmas.Int.{of_z-to_z}
 use Rattle.std.proofs.lemmas.Nat.{be_bytes_2, be_bytes_8}
@@ -8,11 +8,7 @@ use Rattle.std.specs.Int.{w16, w64, cast_signed, cast_unsigned, from_be_bytes, t
 use Rattle.pgv_value.specs.Laws.{AreBytes}
 use Rattle.pgv_value.specs.NumberBinary.{fits_signed}
 use Rattle.pgv_value.specs.OwnBytes.{signed_fits}
-
-below : (bytes : List ℕ) → AreBytes bytes → (i : ℕ) → get_or bytes i 0 < 256
-below [] small i = omega arith
-below (x ∷ bytes) small zero = small.0
-below (x ∷ bytes) small (suc i) = below bytes small.1 i
+use Rattle.pgv_value.proofs.Numbers.{bytes_below}
 
 -- ---- two bytes
 
@@ -20,7 +16,7 @@ two_below : (a b : ℕ) → a < 256 → b < 256 → from_be_bytes w16 (a ∷ b �
 two_below a b p q = omega arith
 
 pub unsigned_two : (a b : ℕ) → a < 256 → b < 256 → (from_be_bytes w16 (a ∷ b ∷ []) < 2 ^ 16) × (to_be_bytes w16 (from_be_bytes w16 (a ∷ b ∷ [])) ≡ a ∷ b ∷ [])
-unsigned_two a b p q = (two_below a b p q, be_bytes_2 (a ∷ b ∷ []) (from_be_bytes w16 (a ∷ b ∷ [])) refl (below (a ∷ b ∷ []) (p, (q, tt))) refl)
+unsigned_two a b p q = (two_below a b p q, be_bytes_2 (a ∷ b ∷ []) (from_be_bytes w16 (a ∷ b ∷ [])) refl (bytes_below (a ∷ b ∷ []) (p, (q, tt))) refl)
 
 pub signed_two : (a b : ℕ) → a < 256 → b < 256 → let n = cast_signed w16 (from_be_bytes w16 (a ∷ b ∷ [])) in
     (fits_signed w16 n ≡ true) × (to_be_bytes w16 (cast_unsigned w16 n) ≡ a ∷ b ∷ [])
@@ -44,7 +40,7 @@ signed_eight a b c d e f g h small =
     let said = from_be_bytes w64 form in
     let fits = eight_below a b c d e f g h small.0 small.1.0 small.1.1.0 small.1.1.1.0 small.1.1.1.1.0 small.1.1.1.1.1.0 small.1.1.1.1.1.1.0 small.1.1.1.1.1.1.1.0 in (
       sfits_to_z (record { fits = fits }),
-      ap (to_be_bytes w64) (of_z-to_z w64 said fits) ∙ be_bytes_8 form said refl (below form small) refl,
+      ap (to_be_bytes w64) (of_z-to_z w64 said fits) ∙ be_bytes_8 form said refl (bytes_below form small) refl,
     )
 
 -- what holds of lists of fewer than eight bytes, and of eight bytes with any after them, holds of every list

@@ -3,7 +3,7 @@ use Rattle.std.specs.Prelude.{◌≡◌, ℕ, ◌*◌, ◌<◌, ◌^◌, nat_lt,
 use Rattle.std.specs.Int.{w16, from_be_bytes, to_be_bytes}
 use Rattle.std.specs.List.{flat_map, list_all}
 use Rattle.std.proofs.Common.{ap, sym, ◌∙◌, arith}
-use Rattle.std.proofs.lemmas.Bool.{le-ltb}
+use Rattle.std.proofs.lemmas.Bool.{le-ltb, and_parts}
 use Rattle.std.proofs.lemmas.Bool.Decides.{nat_tests}
 use Rattle.std.proofs.lemmas.List.{length-append}
 use Rattle.std.proofs.lemmas.Nat.{from_be_bytes-to_be_bytes_2}
@@ -12,7 +12,6 @@ use Rattle.pgv_value.specs.FrameBinary.{Part}
 use Rattle.pgv_value.specs.NumberBinary.{fits_signed}
 use Rattle.pgv_value.specs.OwnBytes.{two_again}
 use Rattle.pgv_value.specs.declared.value.PgValueFormat.TheVariants.{Binary}
-use Rattle.pgv_codec.specs.Bools.{both_true}
 use Rattle.pgv_codec.specs.Back.{ReadsBack, always}
 use Rattle.pgv_codec.specs.BackParts.{guarded}
 use Rattle.pgv_codec.specs.BackScalars.{part_is}
@@ -32,7 +31,7 @@ length-words (d ∷ ds) = let h = length-words ds in omega (arith, h, length-app
 pub words_again : (ds : List ℤ) (rest : List ℕ) → list_all (fits_signed w16) ds ≡ true → digits (length ds) (flat_map word ds ++ rest) ≡ ds
 words_again [] rest e = refl
 words_again (d ∷ ds) rest e =
-    let b = both_true (fits_signed w16 d) (list_all (fits_signed w16) ds) e in
+    let b = and_parts (fits_signed w16 d) (list_all (fits_signed w16) ds) e in
     rw (two_again d b.0, words_again ds rest b.1) refl
 
 digits_there : (ds : List ℤ) (rest : List ℕ) → list_all (fits_signed w16) ds ≡ true → digits_after (length ds) (flat_map word ds ++ rest) ≡ Some ds
@@ -71,7 +70,7 @@ digit_fits (negsuc n) e = absurd (cc)
 digits_fit : (ds : List ℤ) → list_all is_digit ds ≡ true → list_all (fits_signed w16) ds ≡ true
 digits_fit [] e = refl
 digits_fit (d ∷ ds) e =
-    let b = both_true (is_digit d) (list_all is_digit ds) e in
+    let b = and_parts (is_digit d) (list_all is_digit ds) e in
     rw (digit_fits d b.0, digits_fit ds b.1) refl
 
 few_digits : (n : ℕ) → nat_le n 32767 ≡ true → n < 2 ^ 16
@@ -88,9 +87,9 @@ numeric_back (Number sign v weight scale) i t p os e whole small fit =
     let ds = v.items in
     let form = number_form sign ds weight scale in
     let g = guarded (has_form ds weight scale) (Some (image_of (bytes form))) i e in
-    let few = both_true (nat_le (length ds) 32767) (list_all is_digit ds && (fits_signed w16 weight && fits_signed w16 scale)) g.0 in
-    let fit = both_true (list_all is_digit ds) (fits_signed w16 weight && fits_signed w16 scale) few.1 in
-    let words = both_true (fits_signed w16 weight) (fits_signed w16 scale) fit.1 in
+    let few = and_parts (nat_le (length ds) 32767) (list_all is_digit ds && (fits_signed w16 weight && fits_signed w16 scale)) g.0 in
+    let fit = and_parts (list_all is_digit ds) (fits_signed w16 weight && fits_signed w16 scale) few.1 in
+    let words = and_parts (fits_signed w16 weight) (fits_signed w16 scale) fit.1 in
     ap (λ (part : Part). numeric_reading t Binary part) (part_is form i p os g.1)
     ∙ ap numeric_in_binary (sym (nothing_after form))
     ∙ number_there [] sign ds weight scale (few_digits (length ds) few.0) (digits_fit ds fit.0) words.0 words.1

@@ -1,6 +1,6 @@
 //! Amounts of money (PostgreSQL, "Monetary Types", money).
 
-ghost use Rattle.std.specs.Prelude.{◌≡◌, ◌↔◌, ◌+ℤ◌, ◌-ℤ◌, ℤ, FitsSigned, IfErr, IfSome, IsSome};
+ghost use Rattle.std.specs.Prelude.{◌≡◌, ◌↔◌, ◌+ℤ◌, ◌-ℤ◌, FitsSigned, IfErr, IfSome, IsSome};
 ghost use Rattle.std.specs.Int.{w64};
 ghost use Rattle.pgv_value.specs.Reading.{AnswersExactly};
 ghost use Rattle.pgv_value.specs.declared.error.CodecError.TheVariants.{Short};

@@ -13,7 +13,7 @@ use Rattle.pgv_range.specs.FlagByte.{has, side_by, side_of}
 use Rattle.pgv_range.specs.RangeBinary.{IsClear, BeginsWith, IsBound, IsRangeBytes, IsRange, RangeIsItsBounds, OneRange}
 use Rattle.pgv_range.specs.RangeGrammar.{element_in_kind, value_in_front, bound_in, bounds_in, range_by, range_bytes, range_in_binary}
 use Rattle.pgv_range.specs.declared.flags.RangeForm.TheVariants.{Empty, Sides}
-use Rattle.pgv_range.proofs.Steps.{step_taken, pair_is, after_frame}
+use Rattle.pgv_value.proofs.Numbers.{step_taken, pair_is, after_frame}
 
 over : (k : Option Kind) (u : Ty) → element_in_kind k ≡ Some u → k ≡ Some (range_over u)
 over None u e = absurd cc

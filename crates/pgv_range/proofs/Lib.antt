@@ -1,3 +1,2 @@
-mod Steps
 pub mod BinaryGrammars
 pub mod TextGrammars

@@ -17,7 +17,7 @@ use Rattle.pgv_nest.specs.NestText.{TextIs}
 use Rattle.pgv_range.specs.RangeOf.{RangeOf, empty, bounds}
 use Rattle.pgv_range.specs.RangeInText.{IsValue, IsTextBound, IsRangeInText, OneRangeInText}
 use Rattle.pgv_range.specs.RangeGrammar.{side_in_text, bound_in_text, next_bound, bounds_in_text, content_in_text, range_in_text, range}
-use Rattle.pgv_range.proofs.Steps.{step_taken, test_held, pair_is}
+use Rattle.pgv_value.proofs.Numbers.{step_taken, test_held, pair_is}
 
 -- two parts have two values
 two_values : (R : List Piece → Part → Type 0) (parts : List (List Piece)) (values : List Part) → length parts ≡ 2 → Pairwise R parts values → (lower : Part) × (upper : Part) × (values ≡ lower ∷ upper ∷ [])

@@ -1,6 +1,6 @@
 -- The steps of the line `copy`.
 use Rattle.std.proofs.Common.{◌≡◌, ◌≢◌, ◌++◌, ◌∙◌, sym, ap, subst, ℕ, List, [], ◌∷◌, refl, Option, Some, None, append_assoc, append-nil, length, arith}
-use Rattle.std.specs.Prelude.{codes, option_map, zip, string_bytes, Bool, true, false, Result, Ok, Err, IfOk, IsSome}
+use Rattle.std.specs.Prelude.{option_map, zip, string_bytes, Result, Ok, Err, IfOk, IsSome}
 use Rattle.std.specs.declared.alloc.AllocError.{AllocError}
 use Rattle.hex.specs.Hex.{encode_lower}
 use Rattle.pgv_buf.specs.Tokens.{shown, blank}
@@ -16,9 +16,9 @@ use Rattle.pgv_value.specs.declared.error.CodecError.TheVariants.{Memory}
 use Rattle.pgv_value.specs.declared.value.PgValueFormat.TheVariants.{Binary as InBinary}
 use Rattle.pgv_copy.specs.CopyBinary.{Read, Step, header, before, step}
 use Rattle.pgv_copy.specs.CopyView.{Copying}
-use Rattle.pgv_session.specs.CopiedView.{infos, TypesFrom, ShowsField, FieldsFrom, ShowsRow, CopiesIn, YieldsIn}
+use Rattle.pgv_session.specs.CopiedView.{infos, ShowsField, FieldsFrom, ShowsRow, CopiesIn, YieldsIn}
 use Rattle.pgv_session.specs.Lines.{before as before_mark, rest_after, words, with_first}
-use Rattle.pgv_session.specs.Session.{State, RespondsBy, fields_shown, row_shown, all_with, rows_named, rows_told, Yields, EndsWith, CopiesFrom, Copies, Reads, refused, IsRefusal}
+use Rattle.pgv_session.specs.Session.{State, RespondsBy, fields_shown, row_shown, rows_named, rows_told, Yields, EndsWith, CopiesFrom, Reads, refused, IsRefusal}
 use Rattle.pgv_session.specs.Spelled.{to_read}
 use Rattle.pgv_session.specs.ToldView.{told_text, TellsOf}
 use Rattle.pgv_session.specs.Types.{Row, types, row_named}
@@ -37,27 +37,6 @@ name_more done done' name text all rest d r n h =
     rw (d, r, n) (append_assoc done (before_mark 32 text ∷ []) (words_after (rest_after 32 text)) ∙ (ap (λ (ws : List (List ℕ)). done ++ ws) (sym (words_split text)) ∙ h))
 
 -- ---- types
-
-pub types_more : (a : Option Row) (w : Option (List Row)) (t : Ty) (known : Bool) (was mid now : List Ty) → Some t ≡ option_map (λ row. row.info) a → mid ≡ was ++ t ∷ [] → TypesFrom w known mid now → TypesFrom (with_first a w) known was now
-types_more None w t known was mid now e m h = absurd cc
-types_more (Some row) None t true was mid now e m h = absurd h
-types_more (Some row) None t false was mid now e m h = tt
-types_more (Some row) (Some columns) t false was mid now e m h = absurd h
-types_more (Some row) (Some columns) t true was mid now e m h =
-    let first : t ≡ row.info = cc in
-    h ∙ (ap (λ (ts : List Ty). ts ++ infos columns) (m ∙ ap (λ (u : Ty). was ++ u ∷ []) first) ∙ append_assoc was (row.info ∷ []) (infos columns))
-
-pub types_none : (a : Option Row) (w : Option (List Row)) (was now : List Ty) → None ≡ option_map (λ row. row.info) a → TypesFrom (with_first a w) false was now
-types_none None w was now e = tt
-types_none (Some row) w was now e = absurd cc
-
-pub types_step : (ns : List (List ℕ)) (n : List ℕ) (ns' : List (List ℕ)) (t : Ty) (was mid now : List Ty) (r : Result Bool AllocError) → ns ≡ n ∷ ns' → Some t ≡ option_map (λ row. row.info) (row_named types n) → mid ≡ was ++ t ∷ [] →
-    IfOk r (λ known. TypesFrom (rows_named ns') known mid now) → IfOk r (λ known. TypesFrom (rows_named ns) known was now)
-types_step ns n ns' t was mid now (Err x) e f m h = tt
-types_step ns n ns' t was mid now (Ok known) e f m h = subst (λ (l : List (List ℕ)). TypesFrom (rows_named l) known was now) (sym e) (types_more (row_named types n) (rows_named ns') t known was mid now f m h)
-
-pub types_stop : (ns : List (List ℕ)) (n : List ℕ) (ns' : List (List ℕ)) (was now : List Ty) → ns ≡ n ∷ ns' → None ≡ option_map (λ row. row.info) (row_named types n) → TypesFrom (rows_named ns) false was now
-types_stop ns n ns' was now e f = subst (λ (l : List (List ℕ)). TypesFrom (rows_named l) false was now) (sym e) (types_none (row_named types n) (rows_named ns') was now f)
 
 -- ---- fields
 
@@ -87,23 +66,12 @@ fields_more (Some r) (Some columns) v row text None was mid now f m h =
     (string_bytes text ∷ h.0, rw (f, h.1) refl, h.2 ∙ (ap (λ (ts : List (List ℕ)). ts ++ h.0) m ∙ append_assoc was (string_bytes text ∷ []) h.0))
 fields_more (Some r) (Some columns) v row text (Some x) was mid now f m h = (rw (f, h.0) refl, h.1)
 
-pub fields_refused : (a : Option Row) (w : Option (List Row)) (v : Given) (row : List Given) (text : Text) (was now : List (List ℕ)) → ShowsField a v.bytes (Refused text) → FieldsFrom (with_first a w) (v ∷ row) (Some text) was now
-fields_refused None w v row text was now f = tt
-fields_refused (Some r) None v row text was now f = tt
-fields_refused (Some r) (Some columns) v row text was now f = (rw f.0 refl, f.1)
-
 pub fields_step : (ns : List (List ℕ)) (n : List ℕ) (ns' : List (List ℕ)) (vs : List Given) (v : Given) (vs' : List Given) (text : Text) (was mid now : List (List ℕ)) (r : Result (Option Text) AllocError) → ns ≡ n ∷ ns' → vs ≡ v ∷ vs' →
     ShowsField (row_named types n) v.bytes (Said text) → mid ≡ was ++ string_bytes text ∷ [] → IfOk r (λ refused. FieldsFrom (rows_named ns') vs' refused mid now) → IfOk r (λ refused. FieldsFrom (rows_named ns) vs refused was now)
 fields_step ns n ns' vs v vs' text was mid now (Err x) e f s m h = tt
 fields_step ns n ns' vs v vs' text was mid now (Ok refused) e f s m h =
     subst (λ (l : List (List ℕ)). FieldsFrom (rows_named l) vs refused was now) (sym e)
     (subst (λ (l : List Given). FieldsFrom (rows_named (n ∷ ns')) l refused was now) (sym f) (fields_more (row_named types n) (rows_named ns') v vs' text refused was mid now s m h))
-
-pub fields_stop : (ns : List (List ℕ)) (n : List ℕ) (ns' : List (List ℕ)) (vs : List Given) (v : Given) (vs' : List Given) (text : Text) (was now : List (List ℕ)) → ns ≡ n ∷ ns' → vs ≡ v ∷ vs' →
-    ShowsField (row_named types n) v.bytes (Refused text) → FieldsFrom (rows_named ns) vs (Some text) was now
-fields_stop ns n ns' vs v vs' text was now e f s =
-    subst (λ (l : List (List ℕ)). FieldsFrom (rows_named l) vs (Some text) was now) (sym e)
-    (subst (λ (l : List Given). FieldsFrom (rows_named (n ∷ ns')) l (Some text) was now) (sym f) (fields_refused (row_named types n) (rows_named ns') v vs' text was now s))
 
 zip_nothing : (columns : List Row) → ◌≡◌ {A = List (Row × Given)} (zip columns []) []
 zip_nothing [] = refl
@@ -117,14 +85,6 @@ pub no_more_fields : (w : Option (List Row)) (vs : List Given) (was : List (List
 no_more_fields w [] was e = no_fields w was
 no_more_fields w (v ∷ vs) was e = absurd (omega (arith, e))
 
-pub row_said : (w : Option (List Row)) (row : List Given) (texts : List (List ℕ)) (text : Text) → FieldsFrom w row None [] texts → string_bytes text ≡ all_with (codes " ") texts → ShowsRow w row (Said text)
-row_said None row texts text h t = tt
-row_said (Some columns) row texts text h t = rw h.1 (ap (λ (ts : List ℕ). Some ts) (sym (t ∙ ap (all_with (codes " ")) h.2)))
-
-pub row_refused : (w : Option (List Row)) (row : List Given) (text : Text) (was now : List (List ℕ)) → FieldsFrom w row (Some text) was now → ShowsRow w row (Refused text)
-row_refused None row text was now h = tt
-row_refused (Some columns) row text was now h = (rw h.0 refl, h.1)
-
 -- ---- rows
 
 yields_more : (columns : List Row) (a b c : Copying) (texts : List (List ℕ)) (row : List Given) (text : List ℕ) → Yields columns a texts b → step b ≡ Ok (Some row, c) → row_shown columns row ≡ Some text → Yields columns a (texts ++ text ∷ []) c
@@ -136,10 +96,6 @@ pub row_more : (w : Option (List Row)) (types : List Ty) (rest : List ℕ) (text
 row_more None types rest texts texts' b c row text y s t p = tt
 row_more (Some columns) types rest texts texts' b c row text y s t p =
     λ e. subst (λ (ts : List (List ℕ)). Yields columns (before (infos columns) rest) ts c) (sym p) (yields_more columns (before (infos columns) rest) b c texts row (string_bytes text) (y e) s t)
-
-pub none_yet : (w : Option (List Row)) (types : List Ty) (rest : List ℕ) → YieldsIn w types rest [] (before types rest)
-none_yet None types rest = tt
-none_yet (Some columns) types rest = λ e. ap (λ (ts : List Ty). before ts rest) e
 
 ends : (w : Option (List Row)) (types : List Ty) (bytes rest : List ℕ) (texts : List (List ℕ)) (reader : Copying) (answer : List ℕ) → header bytes ≡ Ok rest → YieldsIn w types rest texts reader →
     ((columns : List Row) → w ≡ Some columns → EndsWith columns texts (step reader) answer) → CopiesIn w types (header bytes) answer
@@ -174,16 +130,4 @@ pub stream_refused : (w : Option (List Row)) (types : List Ty) (bytes rest : Lis
 stream_refused w types bytes rest texts reader e (Err x) hd y s n t = tt
 stream_refused w types bytes rest texts reader e (Ok text) hd y s n t = stream_stops w types bytes rest texts reader e (string_bytes text) hd y s n t
 
-pub no_stream : (w : Option (List Row)) (types : List Ty) (bytes : List ℕ) (e : CodecError) (answer : List ℕ) → header bytes ≡ Err e → answer ≡ refused (code_of e) → CopiesIn w types (header bytes) answer
-no_stream None types bytes e answer hd t = tt
-no_stream (Some columns) types bytes e answer hd t = λ q. subst (λ (r : Read (List ℕ)). CopiesFrom columns r answer) (sym hd) t
-
 -- ---- the line
-
-pub copied_is : (w : Option (List Row)) (types : List Ty) (bytes answer : List ℕ) → TypesFrom w true [] types → CopiesIn w types (header bytes) answer → Copies w bytes answer
-copied_is None types bytes answer t h = absurd t
-copied_is (Some columns) types bytes answer t h = h t
-
-pub not_copied : (w : Option (List Row)) (types : List Ty) (bytes : List ℕ) → TypesFrom w false [] types → Copies w bytes (codes "refused line")
-not_copied None types bytes t = refl
-not_copied (Some columns) types bytes t = absurd t

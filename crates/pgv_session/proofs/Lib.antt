@@ -1,4 +1,3 @@
-pub mod Texts
 pub mod Wording
 pub mod Marks
 pub mod OidWords

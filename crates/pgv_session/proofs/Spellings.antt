@@ -6,10 +6,11 @@ use Rattle.std.proofs.lemmas.Option.{same_Some}
 use Rattle.hex.specs.Hex.{decode_of}
 use Rattle.hex.specs.declared.error.FromHexError.{FromHexError}
 use Rattle.pgv_types.specs.declared.oid.Oid.{Oid}
+use Rattle.pgv_more.specs.ByteaText.{ArePairs}
 use Rattle.pgv_session.specs.declared.line.Request.{Request as Parsed}
 use Rattle.pgv_session.specs.RequestsView.{request_seen}
 use Rattle.pgv_session.specs.Lines.{first_word, after_word, words, oids_named, given_bytes, added, read_of, alone, add_line, null_line, resolve_line, read_line, copied, copy_line, hex_bytes, request}
-use Rattle.pgv_session.specs.Spelled.{Request, asks, to_add, to_add_null, to_read, asks_holes, resolves, asks_wire, copies, IsName, SpellsBytes, SpellsNames, SpellsOids, SpellsPart, Spells, Asks}
+use Rattle.pgv_session.specs.Spelled.{Request, asks, to_add, to_add_null, to_read, asks_holes, resolves, asks_wire, copies, IsName, SpellsNames, SpellsOids, SpellsPart, Spells, Asks}
 use Rattle.pgv_session.proofs.Marks.{joined, whole, split_joined, word_or, before_has_none, none_after}
 use Rattle.pgv_session.proofs.OidWords.{oids_are, oids_found}
 use Rattle.pgv_session.proofs.HexTexts.{part_is, part_given, hex_is, hex_given, hex_is_name}
@@ -97,7 +98,7 @@ null_found name n = let parts = split_joined 32 name None (none_after 32 name n)
 read_found : (name text : List ℕ) (part : Option (List ℕ)) → IsName name → SpellsPart part text → read_line (Some (name ++ 32 ∷ text)) ≡ Some (asks name (to_read part))
 read_found name text part n s = let parts = split_joined 32 name (Some text) (none_after 32 name n) in rw (parts.0, parts.1, part_given text part s) refl
 
-copy_found : (bytes : List ℕ) (names : List (List ℕ)) (text rest : List ℕ) → SpellsBytes bytes text → SpellsNames names rest → copy_line (Some (text ++ 32 ∷ rest)) ≡ Some (copies bytes names)
+copy_found : (bytes : List ℕ) (names : List (List ℕ)) (text rest : List ℕ) → ArePairs bytes text → SpellsNames names rest → copy_line (Some (text ++ 32 ∷ rest)) ≡ Some (copies bytes names)
 copy_found bytes names text rest s n =
     let parts = split_joined 32 text (Some rest) (none_after 32 text (hex_is_name bytes text s)) in
     rw (parts.0, parts.1, hex_given text bytes s, names_found names rest n) refl

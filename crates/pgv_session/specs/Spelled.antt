@@ -8,10 +8,11 @@
 -- - `copy HEX TYPE ..`: the word, a space, two hex digits for each byte, and for each column a space and the name of its type;
 --   there is at least one.
 -- A name is bytes without a space. A line asks for the request that it spells, and for nothing where it spells none (`Asks`).
-use Rattle.std.specs.Prelude.{◌≡◌, ◌≢◌, ◌⊎◌, ◌≤◌, ◌<◌, ◌+◌, ◌*◌, ℕ, codes, List, [], ◌∷◌, ◌++◌, map, length, Option, Some, None}
+use Rattle.std.specs.Prelude.{◌≡◌, ◌≢◌, ◌≤◌, ◌<◌, ◌+◌, ℕ, codes, List, [], ◌∷◌, ◌++◌, map, length, Option, Some, None}
 use Rattle.std.specs.List.{AllByRecursion}
 use Rattle.std.specs.Int.Digits.{number_from_digits}
 use Rattle.pgv_types.specs.declared.oid.Oid.{Oid}
+use Rattle.pgv_more.specs.ByteaText.{ArePairs}
 
 -- ---- what is asked for
 
@@ -48,27 +49,16 @@ abbrev pub SpellsOids : List Oid → List ℕ → Type 0
 SpellsOids [] text = text ≡ []
 SpellsOids (oid ∷ oids) text = (word rest : List ℕ) × IsOid word oid × SpellsOids oids rest × (text ≡ 32 ∷ (word ++ rest))
 
--- The character is the hex digit of this value: `0` is 48, `a` is 97 and `A` is 65.
-abbrev pub IsHexDigit : ℕ → ℕ → Type 0
-IsHexDigit c v = ((v < 10) × (c ≡ 48 + v)) ⊎ ((10 ≤ v) × (v < 16) × ((c ≡ 87 + v) ⊎ (c ≡ 55 + v)))
-
--- two digits for each byte, the high one first
-abbrev pub SpellsBytes : List ℕ → List ℕ → Type 0
-SpellsBytes [] text = text ≡ []
-SpellsBytes (byte ∷ bytes) text =
-    (first second high low : ℕ) × (rest : List ℕ) × IsHexDigit first high × IsHexDigit second low × (byte ≡ 16 * high + low)
-    × SpellsBytes bytes rest × (text ≡ first ∷ second ∷ rest)
-
 -- the names in turn, with one space between each two
 abbrev pub SpellsNames : List (List ℕ) → List ℕ → Type 0
 SpellsNames [] text = ⊥
 SpellsNames (name ∷ []) text = IsName name × (text ≡ name)
 SpellsNames (name ∷ next ∷ names) text = (rest : List ℕ) × IsName name × SpellsNames (next ∷ names) rest × (text ≡ name ++ 32 ∷ rest)
 
--- the bytes of a value, or that it is null
+-- the bytes of a value, two digits for each and the high one first (`ArePairs`), or that it is null
 abbrev pub SpellsPart : Option (List ℕ) → List ℕ → Type 0
 SpellsPart None text = text ≡ codes "null"
-SpellsPart (Some bytes) text = SpellsBytes bytes text
+SpellsPart (Some bytes) text = ArePairs bytes text
 
 -- The line is this request; 32 is a space.
 abbrev pub Spells : Request → List ℕ → Type 0
@@ -78,7 +68,7 @@ Spells (asks name (to_read part)) line = (text : List ℕ) × IsName name × Spe
 Spells asks_holes line = line ≡ codes "holes"
 Spells (resolves oids) line = (text : List ℕ) × SpellsOids oids text × (line ≡ codes "resolve" ++ text)
 Spells asks_wire line = line ≡ codes "wire"
-Spells (copies bytes names) line = (text rest : List ℕ) × SpellsBytes bytes text × SpellsNames names rest × (line ≡ codes "copy " ++ (text ++ 32 ∷ rest))
+Spells (copies bytes names) line = (text rest : List ℕ) × ArePairs bytes text × SpellsNames names rest × (line ≡ codes "copy " ++ (text ++ 32 ∷ rest))
 
 -- what a line asks for: the request that it spells, or nothing where it spells none
 abbrev pub Asks : List ℕ → Option Request → Type 0

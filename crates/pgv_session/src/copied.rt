@@ -1,10 +1,10 @@
 //! The rows of a COPY stream, as the program answers them.
 
-ghost use Rattle.std.specs.Prelude.{◌≡◌, ◌++◌, Some, IfOk, OnOk, codes, map, string_bytes};
+ghost use Rattle.std.specs.Prelude.{◌≡◌, Some, IfOk, map, string_bytes};
 ghost use Rattle.pgv_copy.specs.CopyBinary.{header};
 ghost use Rattle.pgv_session.specs.CopiedView.{TypesFrom, ShowsField, FieldsFrom, ShowsRow, CopiesIn};
 ghost use Rattle.pgv_session.specs.Lines.{words};
-ghost use Rattle.pgv_session.specs.Session.{Copies, all_with, more_after, rows_named, rows_told};
+ghost use Rattle.pgv_session.specs.Session.{Copies, all_with, rows_named, rows_told};
 ghost use Rattle.pgv_session.specs.Types.{row_named, types};
 
 use crate::line::{Ask, split_word};

@@ -1,9 +1,8 @@
 //! What a line does, and what it answers.
 
 ghost use Rattle.std.specs.Prelude.{◌≡◌, ◌++◌, IfOk, OnOk, length, ◌==◌, string_bytes, option_map};
-ghost use Rattle.hex.specs.Hex.{encode_lower};
 ghost use Rattle.pgv_types.specs.Facts.{display_of};
-ghost use Rattle.pgv_buf.specs.Tokens.{shown, hole_count};
+ghost use Rattle.pgv_buf.specs.Tokens.{hole_count};
 ghost use Rattle.pgv_wire.specs.Arguments.{all_tokens};
 ghost use Rattle.pgv_session.specs.RequestsView.{request_seen};
 ghost use Rattle.pgv_session.specs.Session.{Answers, RespondsTo, Resolves, names_shown};

@@ -1,6 +1,5 @@
 -- From what is computed of a text to the clauses of a reader.
-use Rattle.std.proofs.Common.{◌≡◌, ◌↔◌, ℕ, List, Option, Some, None, IfSome, IfNone, sym, ◌∙◌}
-use Rattle.std.specs.Option.{option_map}
+use Rattle.std.proofs.Common.{◌≡◌, ◌↔◌, ℕ, List, Some, sym, ◌∙◌}
 use Rattle.pgv_text.specs.declared.scanner.TextForm.{TextForm}
 use Rattle.pgv_text.specs.NestText.{Nest, IsNestText}
 use Rattle.pgv_text.specs.Forms.{form_of}
@@ -8,14 +7,6 @@ use Rattle.pgv_text.specs.Parsed.{nest_of}
 use Rattle.pgv_text.proofs.Nests.{nest_sound, nest_complete}
 
 module _ (t : TextForm) (text : List ℕ) where
-  pub nest_found : {X : Type 0} → (f : X → Nest) (o : Option X) → option_map f o ≡ nest_of (form_of t) text → IfSome o (λ x. IsNestText (form_of t) text (f x))
-  nest_found f None h = tt
-  nest_found f (Some x) h = nest_sound t text (f x) (sym h)
-
-  pub nest_none : {X : Type 0} → (f : X → Nest) (o : Option X) → option_map f o ≡ nest_of (form_of t) text → IfNone o ((other : Nest) → IsNestText (form_of t) text other → ⊥)
-  nest_none f None h = λ other n. let read = h ∙ nest_complete t text other n in cc
-  nest_none f (Some x) h = tt
-
   pub nest_is : (nest : Nest) → (nest_of (form_of t) text ≡ Some nest) ↔ IsNestText (form_of t) text nest
   nest_is nest = (nest_sound t text nest, nest_complete t text nest)
 

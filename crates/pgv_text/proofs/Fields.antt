@@ -1,7 +1,7 @@
 -- What a chain of readers went through, and fields of digits at the front of a text.
-use Rattle.std.proofs.Common.{◌≡◌, ℕ, ◌+◌, ◌-◌, ◌*◌, ◌/◌, ◌%◌, ◌<◌, ◌≤◌, Bool, true, false, ◌&&◌, ◌==◌, List, [], ◌∷◌, ◌++◌, length, Option, Some, None, option_map, option_and_then, sym, ap, ◌∙◌, arith, ne_eqb, eqb-true, ltb-true, lt-ltb}
+use Rattle.std.proofs.Common.{◌≡◌, ℕ, ◌+◌, ◌-◌, ◌*◌, ◌/◌, ◌%◌, ◌<◌, ◌≤◌, true, false, ◌==◌, List, [], ◌∷◌, ◌++◌, length, Option, Some, None, option_map, option_and_then, sym, ap, ◌∙◌, arith, ne_eqb, eqb-true, ltb-true, lt-ltb}
 use Rattle.std.proofs.lemmas.Option.{none-some, same_Some}
-use Rattle.std.proofs.lemmas.Bool.{and_parts}
+use Rattle.std.proofs.lemmas.Bool.{and_parts, and_from}
 use Rattle.std.proofs.lemmas.Bool.Decides.{nat_tests}
 use Rattle.std.proofs.NetLemmas.Options.{cond_some, and_then_some, same_parts}
 use Rattle.std.specs.Char.{is_ascii_digit}
@@ -49,12 +49,9 @@ digit_there d h = grind (arith, nat_tests)
 pub digit_is : (c : ℕ) → is_ascii_digit c ≡ true → (48 ≤ c) × (c ≤ 57)
 digit_is c h = (grind (arith, nat_tests), grind (arith, nat_tests))
 
-pub both : (a b : Bool) → a ≡ true → b ≡ true → (a && b) ≡ true
-both a b h k = rw (h, k)
-
 two_at : (a b n : ℕ) (rest : List ℕ) → a < 10 → b < 10 → n ≡ a * 10 + b → two ((48 + a) ∷ (48 + b) ∷ rest) ≡ found n rest
 two_at a b n rest ha hb e =
-    let test = both (is_ascii_digit (48 + a)) (is_ascii_digit (48 + b)) (digit_there a ha) (digit_there b hb) in
+    let test = and_from (is_ascii_digit (48 + a)) (is_ascii_digit (48 + b)) (digit_there a ha) (digit_there b hb) in
     let value : (48 + a - 48) * 10 + (48 + b - 48) ≡ n = omega arith in
     rw test (ap (λ v. found v rest) value)
 

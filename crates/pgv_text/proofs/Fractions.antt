@@ -6,10 +6,10 @@ use Rattle.std.specs.Int.Digits.{number_from_digits, number_from_digits_after}
 use Rattle.std.proofs.lemmas.Nat.{pow-add, mul-le}
 use Rattle.std.proofs.Math.Nat.{pow-suc}
 use Rattle.std.proofs.lemmas.Option.{none-some}
-use Rattle.std.proofs.lemmas.Bool.{false≢true, and_right}
+use Rattle.std.proofs.lemmas.Bool.{false≢true, and_right, and_from}
 use Rattle.std.proofs.NetLemmas.Options.{same_parts}
 use Rattle.pgv_text.specs.FieldText.{worth, fraction, IsFractionIfAny}
-use Rattle.pgv_text.proofs.Fields.{found, both, digit_is, digit_there}
+use Rattle.pgv_text.proofs.Fields.{found, digit_is, digit_there}
 
 -- The unit of the first of that many digits, of which the last is worth 1.
 abbrev unit : ℕ → ℕ
@@ -78,7 +78,7 @@ stopped u (c ∷ cs) h = rw (and_right (nat_lt 0 u) (is_ascii_digit c) h)
 
 one_more : (k d v : ℕ) (cs rest : List ℕ) → d < 10 → worth (unit k) cs ≡ pair v rest → worth (unit (suc k)) ((48 + d) ∷ cs) ≡ pair (d * 10 ^ k + v) rest
 one_more k d v cs rest h e =
-    let test = both (nat_lt 0 (10 ^ k)) (is_ascii_digit (48 + d)) (lt-ltb 0 (10 ^ k) (pow_some k)) (digit_there d h) in
+    let test = and_from (nat_lt 0 (10 ^ k)) (is_ascii_digit (48 + d)) (lt-ltb 0 (10 ^ k) (pow_some k)) (digit_there d h) in
     let value : 48 + d - 48 ≡ d = omega arith in
     rw (test, unit_falls k, e, value)
 
@@ -116,7 +116,7 @@ more_digits k c cs rest v test h =
 -- a digit at the front, and the others
 digit_first : (k c : ℕ) (cs : List ℕ) → is_ascii_digit c ≡ true → worth (unit (suc k)) (c ∷ cs) ≡ pair ((c - 48) * 10 ^ k + (worth (unit k) cs).0) (worth (unit k) cs).1
 digit_first k c cs test =
-    let all = both (nat_lt 0 (10 ^ k)) (is_ascii_digit c) (lt-ltb 0 (10 ^ k) (pow_some k)) test in
+    let all = and_from (nat_lt 0 (10 ^ k)) (is_ascii_digit c) (lt-ltb 0 (10 ^ k) (pow_some k)) test in
     rw (all, unit_falls k)
 
 digits_at : (k c : ℕ) (cs rest : List ℕ) (v : ℕ) (b : Bool) → is_ascii_digit c ≡ b → ((w : ℕ) (behind : List ℕ) → worth (unit k) cs ≡ pair w behind → HasDigits k cs behind w) → worth (unit (suc k)) (c ∷ cs) ≡ pair v rest → HasDigits (suc k) (c ∷ cs) rest v

@@ -14,6 +14,7 @@ use Rattle.std.proofs.lemmas.Str.Parse.{digit_from_value, tells_by_index, numera
 use Rattle.std.proofs.lemmas.Int.Digits.{digits_value_is, all_below_base_from_digits}
 use Rattle.std.proofs.lemmas.List.{length-map}
 use Rattle.std.proofs.lemmas.Bool.{and_parts, eqb-true, ne_eqb, ltb-true, lt-ltb, false≢true}
+use Rattle.std.proofs.lemmas.Option.{cond_some}
 use Rattle.pgv_text.specs.declared.number.NumberFault.{NumberFault}
 use Rattle.pgv_text.specs.declared.number.NumberFault.TheVariants.{Syntax, OutOfRange}
 use Rattle.pgv_text.specs.NumberText.{Sign, none, plus, minus, sign_text, signed, IsNumber, plus_text, IsUnsignedNumber, is_numeral, number_value, unsigned_value, IsRead, IsComputed, IsUnsignedRead, IsUnsignedComputed}
@@ -119,14 +120,9 @@ numeral_tested (d ∷ ds) h =
 pub tested_numeral : (ds : List ℕ) → IsNumeral 10 ds → is_numeral ds ≡ true
 tested_numeral ds h = rw (ne_eqb (length ds) 0 (λ e. omega (arith, h.0, e)), digits_all ds h.1) refl
 
--- what a chosen value is
-chosen : {X : Type 0} (b : Bool) (x n : X) → cond b (Some x) None ≡ Some n → (b ≡ true) × (x ≡ n)
-chosen true x n e = (refl, cc)
-chosen false x n e = absurd (cc)
-
 pub value_number : (text : List ℕ) (n : ℤ) → number_value text ≡ Some n → IsNumber text n
 value_number text n e =
-    let c = chosen (is_numeral (without_leading_sign text)) (signed_digits_value 10 text) n e in
+    let c = cond_some (is_numeral (without_leading_sign text)) (signed_digits_value 10 text) n e in
     subst (IsNumber text) c.1 (number_from text (numeral_tested (without_leading_sign text) c.0))
 
 pub number_value_of : (text : List ℕ) (n : ℤ) → IsNumber text n → number_value text ≡ Some n
@@ -188,7 +184,7 @@ one_unsigned text m n a b = (unsigned_numeral_from text m a).1 ∙ sym (unsigned
 
 pub value_unsigned : (text : List ℕ) (n : ℕ) → unsigned_value text ≡ Some n → IsUnsignedNumber text n
 value_unsigned text n e =
-    let c = chosen (is_numeral (without_leading_plus text)) (digits_value 10 (without_leading_plus text)) n e in
+    let c = cond_some (is_numeral (without_leading_plus text)) (digits_value 10 (without_leading_plus text)) n e in
     subst (IsUnsignedNumber text) c.1 (unsigned_from text (numeral_tested (without_leading_plus text) c.0))
 
 pub unsigned_value_of : (text : List ℕ) (n : ℕ) → IsUnsignedNumber text n → unsigned_value text ≡ Some n

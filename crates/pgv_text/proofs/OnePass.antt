@@ -5,10 +5,9 @@ use Rattle.std.specs.Str.{IsUtf8}
 use Rattle.std.proofs.lemmas.Bool.{eqb-true, false≢true}
 use Rattle.pgv_text.specs.declared.scanner.TextForm.TheVariants.{Array}
 use Rattle.pgv_text.specs.declared.scanner.Place.TheVariants.{Start}
-use Rattle.pgv_text.specs.declared.scanner.Cell.TheVariants.{Keep, Pass, Part, End, Refuse}
+use Rattle.pgv_text.specs.declared.scanner.Cell.TheVariants.{Part, End}
 use Rattle.pgv_text.specs.declared.scanner.Cell.{Cell}
 use Rattle.pgv_text.specs.ArrayText.{array_form}
-use Rattle.pgv_text.specs.PartFound.{halts}
 use Rattle.pgv_text.specs.NestText.{Nest, any}
 use Rattle.pgv_text.specs.Values.{array_values}
 use Rattle.pgv_text.proofs.Bytes.{nest_bytes}
@@ -60,20 +59,6 @@ module _ (bytes part rest : List ℕ) (b : ℕ) where
       option_map (values_from array_form bytes) (read array_form Start bytes) ≡ option_map (λ values. value_here array_form bytes part ∷ values) (option_map (values_from array_form rest) (read array_form Start rest))
   element_next k e h = ap (option_map (values_from array_form bytes)) h ∙ rw e (more (read array_form Start rest))
 
-  -- the last element
-  pub element_last : (k : Cell) → k ≡ End → rest ≡ [] → read array_form Start bytes ≡ grown part (read_by array_form b rest (λ q. read array_form q rest) k) →
-      option_map (values_from array_form bytes) (read array_form Start bytes) ≡ Some (value_here array_form bytes part ∷ [])
-  element_last k e n h = ap (option_map (values_from array_form bytes)) h ∙ rw (e, n) (ap (λ t. Some (value_here array_form bytes t ∷ [])) (append-nil part))
-
   last : (after : List ℕ) → (End ≡ End → after ≡ [] → ⊥) → read array_form Start bytes ≡ grown part (at_end b after) → option_map (values_from array_form bytes) (read array_form Start bytes) ≡ None
   last [] m h = absurd (m refl refl)
   last (c ∷ cs) m h = ap (option_map (values_from array_form bytes)) h
-
-  -- what no array text has there
-  pub element_fault : (k : Cell) → halts k ≡ true → (k ≡ Part → ⊥) → (k ≡ End → rest ≡ [] → ⊥) → read array_form Start bytes ≡ grown part (read_by array_form b rest (λ q. read array_form q rest) k) →
-      option_map (values_from array_form bytes) (read array_form Start bytes) ≡ None
-  element_fault (Keep q) a n m h = absurd (false≢true a)
-  element_fault (Pass q) a n m h = absurd (false≢true a)
-  element_fault Part a n m h = absurd (n refl)
-  element_fault End a n m h = last rest m h
-  element_fault Refuse a n m h = ap (option_map (values_from array_form bytes)) h

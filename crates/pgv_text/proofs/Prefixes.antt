@@ -4,14 +4,14 @@ use Rattle.std.specs.List.{AllByRecursion}
 use Rattle.std.specs.Char.{is_ascii_digit}
 use Rattle.std.specs.Int.Digits.{number_from_digits}
 use Rattle.std.specs.Str.Parse.{digits_value}
-use Rattle.std.proofs.lemmas.Bool.{cases_lt}
+use Rattle.std.proofs.lemmas.Bool.{cases_lt, and_from}
 use Rattle.std.proofs.lemmas.Bool.Decides.{nat_tests}
 use Rattle.std.proofs.lemmas.Fmt.{decimal-digits_value}
 use Rattle.std.proofs.lemmas.Option.{none-some}
 use Rattle.std.proofs.lemmas.Str.Parse.{numerals_by_value, tells_digits}
 use Rattle.std.proofs.NetLemmas.Options.{cond_some}
 use Rattle.pgv_text.specs.AddressText.{prefix_value}
-use Rattle.pgv_text.proofs.Fields.{both, digit_is, digit_there}
+use Rattle.pgv_text.proofs.Fields.{digit_is, digit_there}
 use Rattle.pgv_text.proofs.Fractions.{chosen}
 use Rattle.pgv_text.proofs.Numbers.{numeral}
 
@@ -49,7 +49,7 @@ read_two a b some ha hb =
 read_three : (b c : ℕ) → b < 10 → c < 10 → prefix_value (49 ∷ (48 + b) ∷ (48 + c) ∷ []) ≡ Some (100 + b * 10 + c)
 read_three b c hb hc =
     let value : 100 + (48 + b - 48) * 10 + (48 + c - 48) ≡ 100 + b * 10 + c = omega arith in
-    chosen _ (Some (100 + (48 + b - 48) * 10 + (48 + c - 48))) None (both (is_ascii_digit (48 + b)) (is_ascii_digit (48 + c)) (digit_there b hb) (digit_there c hc)) ∙ ap Some value
+    chosen _ (Some (100 + (48 + b - 48) * 10 + (48 + c - 48))) None (and_from (is_ascii_digit (48 + b)) (is_ascii_digit (48 + c)) (digit_there b hb) (digit_there c hc)) ∙ ap Some value
 
 pub prefix_read : (n : ℕ) → n < 200 → prefix_value (decimal n) ≡ Some n
 prefix_read n h =

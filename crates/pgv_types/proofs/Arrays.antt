@@ -3,11 +3,12 @@ use Rattle.std.proofs.Common.{◌≡◌, ℕ, ◌==◌, ◌&&◌, Bool, true, fa
 use Rattle.std.proofs.lemmas.Bool.{and_parts}
 use Rattle.std.proofs.lemmas.List.{append-nil}
 use Rattle.std.proofs.lemmas.Slice.Eq.{bytes_eq-Decides}
+use Rattle.std.proofs.lemmas.Option.{none-some}
 use Rattle.pgv_types.specs.Ty.{builtin}
 use Rattle.pgv_types.specs.Table.{Entry, entries, entry_of, find}
 use Rattle.pgv_types.specs.Suffix.{suffix_of}
 use Rattle.pgv_types.specs.Facts.{element_oid, entry_element, entry_name, entry_display, name_of, display_of, is_a_type}
-use Rattle.pgv_types.proofs.Elements.{element_flat, none_some, FlatAt}
+use Rattle.pgv_types.proofs.Elements.{element_flat, FlatAt}
 
 abbrev is_named : List ℕ → List ℕ → Option ℕ → Bool
 is_named name display None = true
@@ -45,7 +46,7 @@ found_named o (e ∷ es) h =
     named_choice (e.oid == o) e (find o es) (named_from e.name e.display e.element k.0) (found_named o es k.1)
 
 named_when : (m : Option Entry) (x : ℕ) → NamedAt m → entry_element m ≡ Some x → (entry_name m ≡ codes "_" ++ entry_name (entry_of x)) × (entry_display m ≡ entry_display (entry_of x))
-named_when None x h q = absurd (none_some q)
+named_when None x h q = absurd (none-some x q)
 named_when (Some e) x h q = subst (NamedFrom e.name e.display) q h
 
 abbrev mark : Option ℕ → List ℕ

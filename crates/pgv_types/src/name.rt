@@ -2,7 +2,7 @@
 //! between them (PostgreSQL, "Lexical Structure", "Identifiers and Key Words").
 ghost use Rattle.std.specs.Prelude.{◌≡◌, ℕ, List, ◌∷◌, ◌++◌, codes, true, option_to_list, Decides};
 ghost use Rattle.std.specs.Option.{option_map};
-ghost use Rattle.std.specs.Str.{chars, is_utf8, bytes_eq};
+ghost use Rattle.std.specs.Str.{chars, bytes_eq};
 ghost use Rattle.std.specs.Iterator.{YieldsFirst, YieldsFirstBy, item_count};
 ghost use Rattle.pgv_types.specs.Names.{AreSignificant, walk, alike, all_alike};
 ghost use Rattle.pgv_types.specs.Agree.{Agree, agree, BeginsUnicode, significant, char_seen};

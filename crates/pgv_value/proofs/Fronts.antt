@@ -1,5 +1,5 @@
 -- What stands in front of bytes is a frame, and every frame is found there.
-use Rattle.std.proofs.Common.{◌≡◌, ℕ, zero, suc, ◌<◌, ◌≤◌, ◌^◌, Bool, true, false, cond, nat_lt, nat_eq, List, [], ◌∷◌, ◌++◌, length, get_or, take, drop, Option, Some, None, refl, sym, ap, ◌∙◌, subst, arith}
+use Rattle.std.proofs.Common.{◌≡◌, ℕ, ◌<◌, ◌≤◌, ◌^◌, Bool, true, false, cond, nat_lt, nat_eq, List, [], ◌∷◌, ◌++◌, length, take, drop, Option, Some, None, refl, sym, ap, ◌∙◌, subst, arith}
 use Rattle.std.specs.Prelude.{◌↔◌}
 use Rattle.std.specs.Int.{w32, to_be_bytes, from_be_bytes}
 use Rattle.std.proofs.lemmas.Nat.{be_bytes_4, from_be_bytes-to_be_bytes_4}
@@ -9,6 +9,7 @@ use Rattle.std.proofs.lemmas.Option.{same_Some}
 use Rattle.pgv_value.specs.FrameBinary.{Part, IsFrame, front, front_length, frame_fault}
 use Rattle.pgv_value.specs.Laws.{AreBytes}
 use Rattle.pgv_value.specs.declared.error.CodecError.TheVariants.{Short}
+use Rattle.pgv_value.proofs.Numbers.{bytes_below, AreBytes-take}
 
 -- ---- a frame is found in front
 
@@ -36,16 +37,6 @@ frame_in_front bytes None rest h = subst (λ (xs : List ℕ). front xs ≡ Some 
 frame_in_front bytes (Some part) rest h = subst (λ (xs : List ℕ). front xs ≡ Some (Some part, rest)) (sym h.1) (front_of_part part rest (length part) refl h.0)
 
 -- ---- what is found in front is a frame
-
-bytes_below : (xs : List ℕ) → AreBytes xs → (i : ℕ) → get_or xs i 0 < 256
-bytes_below [] h i = omega arith
-bytes_below (x ∷ xs) h zero = h.0
-bytes_below (x ∷ xs) h (suc i) = bytes_below xs h.1 i
-
-AreBytes-take : (n : ℕ) (xs : List ℕ) → AreBytes xs → AreBytes (take n xs)
-AreBytes-take zero xs h = tt
-AreBytes-take (suc n) [] h = tt
-AreBytes-take (suc n) (x ∷ xs) h = (h.0, AreBytes-take n xs h.1)
 
 -- of a length and what comes after it
 frame_of : (bytes head rest_after : List ℕ) (n : ℕ) (part : Part) (rest : List ℕ) → bytes ≡ head ++ rest_after → to_be_bytes w32 n ≡ head → (x y z : Bool) → nat_eq n 4294967295 ≡ x → nat_lt 2147483647 n ≡ y → nat_lt (length rest_after) n ≡ z →

@@ -1,4 +1,6 @@
-mod Text
+pub mod Text
 mod Narrower
 pub mod Fronts
 pub mod NetworkBytes
+pub mod Numbers
+pub mod Refusals

@@ -4,6 +4,7 @@ use Rattle.std.proofs.lemmas.Grind.{flat_map-append}
 use Rattle.std.proofs.lemmas.List.{map-append}
 use Rattle.std.proofs.lemmas.List.Sums.{sum_by-cons}
 use Rattle.std.proofs.Math.Numerals.{one-add}
+use Rattle.std.proofs.Math.Seq.{take-nil, drop-nil}
 use Rattle.pgv_types.specs.Ty.{Ty}
 use Rattle.pgv_types.specs.declared.oid.Oid.{Oid}
 use Rattle.pgv_buf.specs.Tokens.{blank, plain, Cell, fixed, hole_cell, slot_cell, be4, shown, width, hole_count, slot_count, chosen}
@@ -58,19 +59,11 @@ one_more {args} s f i hs' ns' ts' d k g = record {
 
 -- ---- filling
 
-no_more : (n : ℕ) → take n (let xs : List Oid = [] in xs) ≡ []
-no_more zero = refl
-no_more (suc n) = refl
-
-none_left : (n : ℕ) → drop n (let xs : List Oid = [] in xs) ≡ []
-none_left zero = refl
-none_left (suc n) = refl
-
 pub fill_holes-append :
     (os : List Oid) (a c : List Cell) → fill_holes os (a ++ c) ≡ fill_holes (take (hole_count a) os) a ++ fill_holes (drop (hole_count a) os) c
 fill_holes-append os [] c = refl
 fill_holes-append os (fixed x ∷ a) c = ap (λ r. fixed x ∷ r) (fill_holes-append os a c)
-fill_holes-append [] (hole_cell t s ∷ a) c = rw one-add (ap (λ r. hole_cell t (be4 0) ∷ r) (fill_holes-append [] a c ∙ rw (no_more (hole_count a), none_left (hole_count a))))
+fill_holes-append [] (hole_cell t s ∷ a) c = rw one-add (ap (λ r. hole_cell t (be4 0) ∷ r) (fill_holes-append [] a c ∙ rw (take-nil (hole_count a), drop-nil (hole_count a))))
 fill_holes-append (o ∷ os) (hole_cell t s ∷ a) c = rw one-add (ap (λ r. hole_cell t (be4 o.0) ∷ r) (fill_holes-append os a c))
 fill_holes-append os (slot_cell d cs s ∷ a) c = ap (λ r. slot_cell d cs s ∷ r) (fill_holes-append os a c)
 

@@ -1,34 +1,23 @@
 -- What additions and fillings keep of arguments: their frames without what these show, that each is the frame of an
 -- image, and that each shows what some types and OIDs write, or is not filled yet.
-use Rattle.std.proofs.Common.{◌≡◌, ℕ, ◌+◌, suc, Bool, true, false, cond, List, [], ◌∷◌, ◌++◌, length, drop, take, replicate, Option, Some, None, refl, sym, ◌∙◌, ap, subst, append_assoc, append-nil}
+use Rattle.std.proofs.Common.{◌≡◌, ℕ, ◌+◌, Bool, true, false, cond, List, [], ◌∷◌, ◌++◌, length, drop, take, replicate, Option, Some, None, refl, sym, ◌∙◌, ap, subst, append_assoc, append-nil}
 use Rattle.std.proofs.lemmas.List.{length-map, map-append}
 use Rattle.pgv_types.specs.Ty.{Ty}
 use Rattle.pgv_types.specs.declared.oid.Oid.{Oid}
-use Rattle.pgv_buf.specs.Tokens.{width, tokens_width, Token, byte, hole, slot, tokens_holes, Cell, fixed, hole_cell, slot_cell, be4, blank, plain, hole_count, slot_count, chosen}
+use Rattle.pgv_buf.specs.Tokens.{Token, tokens_holes, Cell, fixed, hole_cell, slot_cell, be4, blank, plain, hole_count, slot_count, chosen}
 use Rattle.pgv_buf.specs.Blank.{plain-append, plain-blank, holes-plain}
 use Rattle.pgv_buf.specs.Fill.{first_number, rest_numbers, fill_holes, fill_slots, rest_types}
 use Rattle.pgv_buf.specs.Proper.{first_type}
+use Rattle.pgv_buf.proofs.Patches.{holes_plain, slots_plain}
 use Rattle.pgv_wire.specs.Arguments.{Argument, Framed, framed, all_tokens, filled_frame, filled_arguments}
 use Rattle.pgv_wire.specs.History.{blanks, LastFilling, with_added, with_filled, left_by, joined_frames, LeftBySome}
 use Rattle.pgv_codec.specs.Image.{Image, frame_of, frame}
 use Rattle.pgv_wire.specs.Parts.{AreFrames, OfImages}
 
-plain-holes : (os : List Oid) (a : List Cell) → plain (fill_holes os a) ≡ plain a
-plain-holes os [] = refl
-plain-holes os (fixed x ∷ a) = ap (λ r. byte x ∷ r) (plain-holes os a)
-plain-holes os (hole_cell t s ∷ a) = ap (λ r. hole t ∷ r) (plain-holes (rest_numbers os) a)
-plain-holes os (slot_cell d cs s ∷ a) = ap (λ r. slot d cs ∷ r) (plain-holes os a)
-
-plain-slots : (ps : List Ty) (a : List Cell) → plain (fill_slots ps a) ≡ plain a
-plain-slots ps [] = refl
-plain-slots ps (fixed x ∷ a) = ap (λ r. byte x ∷ r) (plain-slots ps a)
-plain-slots ps (hole_cell t s ∷ a) = ap (λ r. hole t ∷ r) (plain-slots ps a)
-plain-slots ps (slot_cell d cs s ∷ a) = ap (λ r. slot d cs ∷ r) (plain-slots (rest_types ps) a)
-
 pub framed-filled : (args : List Argument) (ps : List Ty) (os : List Oid) → framed (filled_arguments args ps os) ≡ framed args
 framed-filled [] ps os = refl
 framed-filled (a ∷ args) ps os =
-    ap (λ (f : List Token). (a.0, f) ∷ framed (filled_arguments args (rest_types ps) (drop (hole_count a.1) os))) (plain-slots (replicate (slot_count a.1) (first_type ps)) (fill_holes (take (hole_count a.1) os) a.1) ∙ plain-holes (take (hole_count a.1) os) a.1)
+    ap (λ (f : List Token). (a.0, f) ∷ framed (filled_arguments args (rest_types ps) (drop (hole_count a.1) os))) (slots_plain (replicate (slot_count a.1) (first_type ps)) (fill_holes (take (hole_count a.1) os) a.1) ∙ holes_plain (take (hole_count a.1) os) a.1)
     ∙ ap (λ (r : List Framed). (a.0, plain a.1) ∷ r) (framed-filled args (rest_types ps) (drop (hole_count a.1) os))
 
 pub framed-blanks : (fs : List Framed) → framed (blanks fs) ≡ fs
@@ -77,12 +66,6 @@ framed-stands a s ps os =
 pub joined-plain : (args : List Argument) → plain (all_tokens args) ≡ joined_frames (framed args)
 joined-plain [] = refl
 joined-plain (a ∷ args) = plain-append a.1 (all_tokens args) ∙ ap (λ (r : List Token). plain a.1 ++ r) (joined-plain args)
-
-pub width-plain : (a : List Cell) → width a ≡ tokens_width (plain a)
-width-plain [] = refl
-width-plain (fixed x ∷ a) = ap (λ n. 1 + n) (width-plain a)
-width-plain (hole_cell t s ∷ a) = ap (λ n. 4 + n) (width-plain a)
-width-plain (slot_cell d cs s ∷ a) = ap (λ n. length d + n) (width-plain a)
 
 -- ---- what a filling and later additions leave
 

@@ -4,13 +4,14 @@ use Rattle.std.proofs.lemmas.Grind.{flat_map-append}
 use Rattle.std.proofs.lemmas.List.{map-append}
 use Rattle.pgv_types.specs.Ty.{Ty}
 use Rattle.pgv_types.specs.declared.oid.Oid.{Oid}
-use Rattle.pgv_buf.specs.Tokens.{Cell, bytes, tokens_width, fixed, hole_cell, slot_cell, blank, plain, shown, width, hole_types_of, hole_count}
+use Rattle.pgv_buf.specs.Tokens.{tokens_hole_types, Cell, bytes, tokens_width, fixed, hole_cell, slot_cell, blank, plain, shown, width, hole_types_of, hole_count}
 use Rattle.pgv_buf.specs.Proper.{shown-append, first_type}
 use Rattle.pgv_buf.specs.Fill.{rest_types}
+use Rattle.pgv_buf.proofs.Layouts.{width-plain, types-plain}
 use Rattle.pgv_wire.specs.Arguments.{Argument, Framed, framed, all_tokens, types_in, early, filled_arguments}
-use Rattle.pgv_wire.specs.History.{LeftBySome, WrittenEarly, left_by, with_added, with_filled, Call, adds, fills, is_refused, blanks, after, LastFilling, last_filling_by, last_filling, bytes_by, added_in, joined_frames, framed_types, holes_in, lengths_in, ArePlain, joined_bytes}
+use Rattle.pgv_wire.specs.History.{LeftBySome, WrittenEarly, left_by, with_added, with_filled, Call, adds, fills, is_refused, blanks, after, LastFilling, last_filling_by, last_filling, bytes_by, added_in, joined_frames, framed_types, lengths_in, ArePlain, joined_bytes}
 use Rattle.pgv_wire.proofs.ArgumentLists.{late_is_early, width-frame}
-use Rattle.pgv_wire.proofs.Framed.{width-plain, framed-filled, framed-blanks, arguments-same, joined-plain, left-added, left-filled, framed-left}
+use Rattle.pgv_wire.proofs.Framed.{framed-filled, framed-blanks, arguments-same, joined-plain, left-added, left-filled, framed-left}
 
 -- a second filling answers as if it were the only one
 pub filled_over : (args : List Argument) (ps ps' : List Ty) (os os' : List Oid) → filled_arguments (filled_arguments args ps os) ps' os' ≡ filled_arguments args ps' os'
@@ -63,25 +64,19 @@ after-framed (is_refused ∷ calls) args = after-framed calls args
 pub only_added : (calls : List Call) → framed (after [] calls) ≡ added_in calls
 only_added calls = after-framed calls []
 
-holes_in-plain : (a : List Cell) → hole_types_of a ≡ holes_in (plain a)
-holes_in-plain [] = refl
-holes_in-plain (fixed x ∷ a) = holes_in-plain a
-holes_in-plain (hole_cell t s ∷ a) = ap (λ (r : List Ty). t ∷ r) (holes_in-plain a)
-holes_in-plain (slot_cell d cs s ∷ a) = holes_in-plain a
-
 types-framed : (args : List Argument) → types_in args ≡ framed_types (framed args)
 types-framed [] = refl
 types-framed (a ∷ args) = ap (λ (r : List Ty). a.0 ∷ r) (types-framed args)
 
-pub holes_told : (calls : List Call) → hole_types_of (all_tokens (after [] calls)) ≡ holes_in (joined_frames (added_in calls))
+pub holes_told : (calls : List Call) → hole_types_of (all_tokens (after [] calls)) ≡ tokens_hole_types (joined_frames (added_in calls))
 holes_told calls =
     let args : List Argument = after [] calls in
-    holes_in-plain (all_tokens args) ∙ (ap holes_in (joined-plain args) ∙ ap (λ (f : List Framed). holes_in (joined_frames f)) (only_added calls))
+    sym (types-plain (all_tokens args)) ∙ (ap tokens_hole_types (joined-plain args) ∙ ap (λ (f : List Framed). tokens_hole_types (joined_frames f)) (only_added calls))
 
 pub width_told : (calls : List Call) → width (all_tokens (after [] calls)) ≡ tokens_width (joined_frames (added_in calls))
 width_told calls =
     let args : List Argument = after [] calls in
-    width-plain (all_tokens args) ∙ (ap tokens_width (joined-plain args) ∙ ap (λ (f : List Framed). tokens_width (joined_frames f)) (only_added calls))
+    sym (width-plain (all_tokens args)) ∙ (ap tokens_width (joined-plain args) ∙ ap (λ (f : List Framed). tokens_width (joined_frames f)) (only_added calls))
 
 pub types_told : (calls : List Call) → types_in (after [] calls) ≡ framed_types (added_in calls)
 types_told calls = types-framed (after [] calls) ∙ ap framed_types (only_added calls)

@@ -15,7 +15,7 @@ use Rattle.pgv_codec.specs.Image.{Image, null_image, image_of, frame_of}
 use Rattle.pgv_wire.specs.Parts.{ReadAs, AreFrames, OfImages, AllRead, part_in, parts_in, written_parts}
 use Rattle.pgv_codec.specs.Writing.{written_part, image_holes}
 use Rattle.pgv_wire.proofs.ArgumentLists.{shown-frame}
-use Rattle.pgv_wire.proofs.Framed.{width-plain}
+use Rattle.pgv_buf.proofs.Layouts.{width-plain}
 use Rattle.pgv_wire.proofs.Histories.{shown_plain}
 use Rattle.pgv_wire.proofs.Split.{after_bytes, cut}
 
@@ -28,7 +28,7 @@ frame_found (image_of ts) c rest e p =
     let k = cut ts (plain c) _ refl e in
     let b = after_bytes (be4 (tokens_width ts)) ts c k.1 in
     let q : Proper b.cells = subst (λ (r : List Cell). Proper r) b.whole p in
-    let len : length (shown b.cells) ≡ tokens_width ts = length-shown b.cells q ∙ (width-plain b.cells ∙ ap tokens_width b.tokens) in
+    let len : length (shown b.cells) ≡ tokens_width ts = length-shown b.cells q ∙ (sym (width-plain b.cells) ∙ ap tokens_width b.tokens) in
     let bytes_are : shown c ≡ be4 (tokens_width ts) ++ shown b.cells = ap shown b.whole in
     let found : front (shown c ++ rest) ≡ Some (Some (shown b.cells), rest) =
     frame_in_front (shown c ++ rest) (Some (shown b.cells)) rest (

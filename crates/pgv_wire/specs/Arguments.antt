@@ -1,7 +1,7 @@
 -- A list of arguments, each a type and the cells of its frame, and what it is written as with parameter types and OIDs
 -- (PostgreSQL: "Message Formats", Bind; "Extended Query").
 -- Early writing (`early`): each frame is written with its own parameter type and its share of the OIDs, in order.
-use Rattle.std.specs.Prelude.{◌≡◌, ℕ, List, [], ◌∷◌, ◌++◌, map, take, drop, replicate, Option, Some, None}
+use Rattle.std.specs.Prelude.{◌≡◌, ℕ, List, [], ◌∷◌, ◌++◌, map, take, drop, replicate, Option, Some}
 use Rattle.std.specs.List.{flat_map}
 use Rattle.pgv_types.specs.Ty.{Ty}
 use Rattle.pgv_types.specs.declared.oid.Oid.{Oid}

@@ -8,7 +8,7 @@ use Rattle.std.specs.Prelude.{◌≡◌, ℕ, List, [], ◌∷◌, ◌++◌, map
 use Rattle.std.specs.List.{flat_map}
 use Rattle.pgv_types.specs.Ty.{Ty}
 use Rattle.pgv_types.specs.declared.oid.Oid.{Oid}
-use Rattle.pgv_buf.specs.Tokens.{Token, byte, hole, slot, bytes, blank, shown, width, tokens_holes}
+use Rattle.pgv_buf.specs.Tokens.{Token, bytes, blank, shown, width, tokens_holes}
 use Rattle.pgv_wire.specs.Arguments.{Argument, Framed, framed, all_tokens, early, filled_arguments}
 
 -- an accepted addition, an accepted filling, or a call that was refused
@@ -86,13 +86,6 @@ LeftBySome args = (h : LastFilling) × LeftBy args h
 abbrev pub WrittenEarly : List Argument → Type 0
 WrittenEarly args =
     (h : LastFilling) × (framed args ≡ h.filled ++ h.since) × (length h.types ≡ length h.filled) × (length h.oids ≡ tokens_holes (joined_frames h.filled)) × (shown (all_tokens args) ≡ bytes_by h)
-
--- the types that holes name, in order
-abbrev pub holes_in : List Token → List Ty
-holes_in [] = []
-holes_in (byte x ∷ ts) = holes_in ts
-holes_in (hole t ∷ ts) = t ∷ holes_in ts
-holes_in (slot d cs ∷ ts) = holes_in ts
 
 -- the lengths of arguments
 abbrev pub lengths_in : List Argument → List ℕ

@@ -3,12 +3,12 @@
 -- Frame after frame is found at the front (`ReadAs`), and nothing is left (`AllRead`): a part for each argument, null where its
 -- image is null, and else what it shows after its length (`parts_in`). Each argument is the frame of an image (`OfImages`), and
 -- of one only.
-use Rattle.std.specs.Prelude.{◌≡◌, ℕ, List, [], ◌∷◌, length, take, drop, Option, Some, None, ⊤}
+use Rattle.std.specs.Prelude.{◌≡◌, ℕ, List, [], ◌∷◌, length, take, drop, Some, None, ⊤}
 use Rattle.pgv_types.specs.Ty.{Ty}
 use Rattle.pgv_types.specs.declared.oid.Oid.{Oid}
 use Rattle.pgv_buf.specs.Fill.{rest_types}
 use Rattle.pgv_buf.specs.Proper.{first_type}
-use Rattle.pgv_buf.specs.Tokens.{Cell, shown, tokens_holes}
+use Rattle.pgv_buf.specs.Tokens.{Cell, shown}
 use Rattle.pgv_value.specs.FrameBinary.{Part, front}
 use Rattle.pgv_codec.specs.Image.{Image, null_image, image_of, frame_of}
 use Rattle.pgv_codec.specs.Writing.{written_part, image_holes}

@@ -1,15 +1,14 @@
 //! Laws of what buffers and arguments hold, and of what is read back of them: each is the contract of a function that does
 //! nothing. Those of codecs stand in `pgv_codec`, those of arrays and records in binary in `pgv_nest`.
 
-ghost use Rattle.std.specs.Prelude.{◌≡◌, ◌<◌, ℕ, List, [], length, Some};
+ghost use Rattle.std.specs.Prelude.{◌≡◌, ℕ, List, [], length, Some};
 ghost use Rattle.pgv_types.specs.Ty.{Ty};
 ghost use Rattle.pgv_types.specs.declared.oid.Oid.{Oid};
 ghost use Rattle.pgv_buf.specs.Proper.{Proper};
-ghost use Rattle.pgv_buf.specs.Tokens.{Token, Cell, shown, width, tokens_width, hole_types_of};
+ghost use Rattle.pgv_buf.specs.Tokens.{tokens_hole_types, Token, Cell, shown, width, tokens_width, hole_types_of};
 ghost use Rattle.pgv_wire.specs.Arguments.{Argument, Framed, all_tokens, types_in, framed, filled_arguments};
 ghost use Rattle.pgv_wire.specs.Given.{ArgumentReadsBack, given_in, parts_given};
-ghost use Rattle.pgv_nest.specs.NestBinary.{◌and◌};
-ghost use Rattle.pgv_wire.specs.History.{Call, after, last_filling, bytes_by, added_in, joined_frames, framed_types, holes_in, lengths_in, ArePlain, joined_bytes};
+ghost use Rattle.pgv_wire.specs.History.{Call, after, last_filling, bytes_by, added_in, joined_frames, framed_types, lengths_in, ArePlain, joined_bytes};
 ghost use Rattle.pgv_codec.specs.Image.{Image, frame_of};
 ghost use Rattle.pgv_wire.specs.Parts.{ReadAs, AreFrames, AllRead, parts_in, written_parts};
 
@@ -41,7 +40,7 @@ pub fn lengths_stay()
 pub fn only_additions_count()
     ensures frames { (calls : List Call) → framed (after [] calls) ≡ added_in calls }
     ensures types { (calls : List Call) → types_in (after [] calls) ≡ framed_types (added_in calls) }
-    ensures holes { (calls : List Call) → hole_types_of (all_tokens (after [] calls)) ≡ holes_in (joined_frames (added_in calls)) }
+    ensures holes { (calls : List Call) → hole_types_of (all_tokens (after [] calls)) ≡ tokens_hole_types (joined_frames (added_in calls)) }
     ensures length { (calls : List Call) → width (all_tokens (after [] calls)) ≡ tokens_width (joined_frames (added_in calls)) }
 {}
 

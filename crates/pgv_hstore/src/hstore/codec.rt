@@ -156,7 +156,7 @@ impl Encode for PgHstore {
 }
 
 /// A text of bytes, where they are UTF-8, else C14.
-#[tactic(auto, using(crate::proofs::Texts::whole_text))]
+#[tactic(auto, using(pgv_value::proofs::Text::whole_text))]
 fn text_of(alloc: Global, form: &[u8]) -> Result<String, CodecError>
     ensures exact { Answers (λ text. string_bytes text) (if is_utf8 form.now then Some form.now else None) result }
     ensures refused { IfErr result (λ e. Refuses e (e ≡ Utf8)) }

@@ -2,7 +2,8 @@ use Rattle.std.proofs.Common.{◌∙◌, ◌≡◌, ◌<◌, length, Err, refl, 
 use Rattle.std.proofs.lemmas.Result.{err_from_is_err_and}
 use Rattle.pgv_value.specs.declared.error.CodecError.{CodecError}
 use Rattle.pgv_copy.specs.CopyBinary.{fields}
-use Rattle.pgv_copy.proofs.FieldLoop.{Row, nothing_done, nothing_left, goes_on, ends, refused_so}
+use Rattle.pgv_value.proofs.Refusals.{Refuses-from}
+use Rattle.pgv_copy.proofs.FieldLoop.{Row, nothing_done, nothing_left, goes_on, ends}
 use Rattle.pgv_copy.proofs.reader.read_fields.Goals as goal
 
 pub loop-type_info-init : goal.loop-type_info-init
@@ -25,7 +26,7 @@ returns-in_err-get-clause-refused c =
     let lt : c.loop-type_info.type_info-index < length c.args.types.now = c.loop-type_info-test.true in
     let is : c.type_info-item.result ≡ get_or c.args.types.now c.loop-type_info.type_info-index c.type_info-item.result = c.type_info-item.is in
     let none = ends c.loop-type_info.row.items c.args.types.now c.loop-type_info.type_info-index c.type_info-item.result c.loop-type_info.bytes.now (fields c.args.types.now c.args.bytes.now.now) lt is c.in_err-get.ensures.none c.loop-type_info.invariant.0 in
-    rw (p.1, p.2) (refused_so c.in_err-get.field-0.0 (none ∙ ap (λ (e : CodecError). let row : Row = Err e in row) (sym c.in_err-get.ensures.fault)))
+    rw (p.1, p.2) (Refuses-from c.in_err-get.field-0.0 (none ∙ ap (λ (e : CodecError). let row : Row = Err e in row) (sym c.in_err-get.ensures.fault)))
 
 pub returns-clause-found : goal.returns-clause-found
 returns-clause-found c =

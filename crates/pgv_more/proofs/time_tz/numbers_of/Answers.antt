@@ -1,15 +1,11 @@
 use mir.Val.{SFits}
-use Rattle.std.proofs.Common.{◌≡◌, ◌∙◌, false, ℕ, List, length, take, drop, nat_lt, rules, refl, ap, arith}
-use Rattle.std.specs.Int.{w32, w64, from_be_bytes, cast_signed, cast_unsigned}
+use Rattle.std.proofs.Common.{◌≡◌, ◌∙◌, false, length, drop, nat_lt, rules, refl, ap}
+use Rattle.std.specs.Int.{w32, w64, cast_signed, cast_unsigned}
 use Rattle.std.proofs.lemmas.Bool.{le-ltb}
 use Rattle.std.proofs.lemmas.Int.{to_z-of_z}
-use Rattle.std.proofs.lemmas.List.{take-take}
 use Rattle.pgv_value.specs.Interval.{eight_bytes, signed_four_bytes}
+use Rattle.pgv_value.proofs.Numbers.{front_of_eight}
 use Rattle.pgv_more.proofs.time_tz.numbers_of.Goals as goal
-
--- the bytes at the front are those that are read
-front_of_eight : (form : List ℕ) → eight_bytes (take 8 form) ≡ eight_bytes form
-front_of_eight form = ap (λ (xs : List ℕ). cast_signed w64 (from_be_bytes w64 xs)) (take-take 8 8 form (omega arith))
 
 pub returns : goal.returns
 returns c =

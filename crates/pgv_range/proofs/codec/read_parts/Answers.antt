@@ -1,11 +1,18 @@
-use Rattle.std.proofs.Common.{Bool, ap}
+use Rattle.std.proofs.Common.{◌≡◌, Bool, Option, None, refl, ap}
 use Rattle.std.proofs.lemmas.Result.{err_from_is_err_and}
+use Rattle.pgv_text.specs.NestText.{Nest}
 use Rattle.pgv_text.specs.PartsView.{nest}
+use Rattle.pgv_value.specs.FrameBinary.{Part}
+use Rattle.pgv_value.specs.declared.error.CodecError.{CodecError}
 use Rattle.pgv_value.specs.declared.value.PgValueFormat.TheVariants.{Text}
 use Rattle.pgv_codec.proofs.Refusing.{stated_of_part}
+use Rattle.pgv_range.specs.RangeGrammar.{next_bound}
 use Rattle.pgv_range.specs.RangeRefusals.{bounds_text_refusal, next_bound_refusal}
-use Rattle.pgv_range.proofs.Steps.{start_refused}
 use Rattle.pgv_range.proofs.codec.read_parts.Goals as goal
+
+start_refused : {M : Type 0} (read : Part → Option M) (why : Part → Option CodecError) (whole : Nest) (included : Bool) → included ≡ whole.lower →
+    next_bound read included whole.values ≡ None → bounds_text_refusal read why whole ≡ next_bound_refusal read why whole.values
+start_refused read why whole included same none = rw (← same, none) refl
 
 -- the lower bound isn't read
 pub returns-in_err-start-clause-refused : goal.returns-in_err-start-clause-refused

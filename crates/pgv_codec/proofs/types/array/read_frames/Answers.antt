@@ -4,7 +4,8 @@ use Rattle.std.proofs.lemmas.Result.{err_from_is_err_and}
 use Rattle.pgv_value.specs.declared.value.PgValueFormat.TheVariants.{Binary}
 use Rattle.pgv_nest.specs.ArrayGrammar.{frames}
 use Rattle.pgv_value.specs.Reading.{Refuses}
-use Rattle.pgv_codec.proofs.Refusing.{Refuses-weaker, Refuses-from, stated_by, stated_of_part}
+use Rattle.pgv_value.proofs.Refusals.{Refuses-weaker, Refuses-from}
+use Rattle.pgv_codec.proofs.Refusing.{stated_by, stated_of_part}
 use Rattle.pgv_codec.specs.Refusing.{RefusedBy}
 use Rattle.pgv_nest.specs.NestRefusals.{frames_refusal}
 use Rattle.pgv_value.specs.FrameBinary.{frame_fault}

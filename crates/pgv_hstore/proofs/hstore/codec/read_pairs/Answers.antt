@@ -1,7 +1,7 @@
 use Rattle.std.proofs.Common.{◌∙◌, ap, map, []}
 use Rattle.std.proofs.lemmas.Result.{err_from_is_err_and}
 use Rattle.std.specs.Prelude.{option_map, string_bytes}
-use Rattle.pgv_codec.proofs.Refusing.{Refuses-weaker}
+use Rattle.pgv_value.proofs.Refusals.{Refuses-weaker}
 use Rattle.pgv_hstore.proofs.Read.{ends_at_key, ends_at_value, goes_on, inserted, is_done}
 use Rattle.pgv_hstore.proofs.Refused.{first_key, key_alone, no_key, refused_at_key, refused_at_value, refused_later, takes_of}
 use Rattle.pgv_hstore.specs.Hstore.{pair_of, put_read}

@@ -1,4 +1,4 @@
-use Rattle.std.proofs.Common.{◌∙◌, ap, sym, rules}
+use Rattle.std.proofs.Common.{◌∙◌, ap, rules}
 use Rattle.std.proofs.lemmas.List.{map-id}
 use Rattle.pgv_more.specs.Bits.{packed}
 use Rattle.pgv_more.proofs.Kept.{closes, shows}

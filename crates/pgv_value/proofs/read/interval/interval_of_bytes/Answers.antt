@@ -1,18 +1,12 @@
 use mir.Val.{SFits}
-use Rattle.std.proofs.Common.{◌≡◌, ◌∙◌, false, ℕ, List, length, take, drop, nat_lt, rules, refl, ap, arith}
-use Rattle.std.specs.Int.{w32, w64, from_be_bytes, cast_signed, cast_unsigned}
+use Rattle.std.proofs.Common.{◌≡◌, ◌∙◌, false, length, take, drop, nat_lt, rules, refl, ap}
+use Rattle.std.specs.Int.{w32, w64, cast_signed, cast_unsigned}
 use Rattle.std.proofs.lemmas.Bool.{le-ltb}
 use Rattle.std.proofs.lemmas.Int.{to_z-of_z}
-use Rattle.std.proofs.lemmas.List.{drop-drop, take-take}
+use Rattle.std.proofs.lemmas.List.{drop-drop}
 use Rattle.pgv_value.specs.Interval.{eight_bytes, signed_four_bytes}
+use Rattle.pgv_value.proofs.Numbers.{front_of_eight, front_of_four}
 use Rattle.pgv_value.proofs.read.interval.interval_of_bytes.Goals as goal
-
--- the bytes at the front are those that are read
-front_of_four : (bytes : List ℕ) → signed_four_bytes (take 4 bytes) ≡ signed_four_bytes bytes
-front_of_four bytes = ap (λ (xs : List ℕ). cast_signed w32 (from_be_bytes w32 xs)) (take-take 4 4 bytes (omega arith))
-
-front_of_eight : (bytes : List ℕ) → eight_bytes (take 8 bytes) ≡ eight_bytes bytes
-front_of_eight bytes = ap (λ (xs : List ℕ). cast_signed w64 (from_be_bytes w64 xs)) (take-take 8 8 bytes (omega arith))
 
 pub returns-clause-exact : goal.returns-clause-exact
 returns-clause-exact c =

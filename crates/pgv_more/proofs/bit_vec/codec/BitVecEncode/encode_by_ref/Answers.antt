@@ -1,4 +1,4 @@
-use Rattle.std.proofs.Common.{◌≡◌, ◌≤◌, ◌∙◌, ap, length, pos, rules, arith}
+use Rattle.std.proofs.Common.{◌≡◌, ◌≤◌, length, pos, rules, arith}
 use Rattle.std.proofs.lemmas.Int.{ints}
 use Rattle.pgv_buf.specs.Tokens.{be4}
 use Rattle.pgv_more.proofs.Written.{written_bits}
