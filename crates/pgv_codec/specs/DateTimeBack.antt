@@ -23,8 +23,7 @@ use Rattle.pgv_codec.specs.Back.{ReadsBack, always}
 use Rattle.pgv_codec.specs.BackParts.{guarded}
 use Rattle.pgv_codec.specs.BackScalars.{part_is}
 use Rattle.pgv_codec.specs.DateTimeBinary.{days_of, date_image, time_image, micros_of, moment_image}
-use Rattle.pgv_codec.specs.DateTimeAgain.{date_time_again}
-use Rattle.pgv_codec.specs.DateTimeKept.{time_kept, date_time_kept, instant_kept}
+use Rattle.pgv_codec.specs.DateTimeKept.{time_kept, date_time_kept, date_time_kept_cut, instant_kept}
 use Rattle.pgv_codec.specs.Image.{Image, image_of}
 use Rattle.pgv_codec.specs.ScalarBinary.{signed_image}
 use Rattle.pgv_codec.specs.Writing.{written_part}
@@ -79,7 +78,7 @@ instant_back at i t p os e whole small fit =
 moment_again : (at : DateTime) → civil_at (nanos_after (micros_of (civil_nanos at))) ≡ Some (civil_nanos (date_time_kept at))
 moment_again at =
     let r = civil_nanos_range (date_time_kept at) in
-    between _ _ (nanos_after (micros_of (civil_nanos at))) (civil_nanos (date_time_kept at)) (λ n. n) (date_time_again at) r.0 r.1
+    between _ _ (nanos_after (micros_of (civil_nanos at))) (civil_nanos (date_time_kept at)) (λ n. n) (date_time_kept_cut at) r.0 r.1
 
 pub date_time_back : ReadsBack {A = DateTime} (λ at. moment_image (civil_nanos at)) date_time_reading (λ at. civil_nanos (date_time_kept at)) always
 date_time_back at i t p os e whole small fit =

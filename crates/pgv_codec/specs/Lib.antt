@@ -20,12 +20,13 @@ pub mod Plain
 pub mod RecordCalls
 pub mod WithHint
 pub mod DateTimeBinary
+pub mod DateTimeFound
 pub mod DateTimeKept
 pub mod DateTimeBack
-pub mod DateTimeAgain
 pub mod Intervals
 pub mod IntervalsBack
 pub mod PlainBytes
 pub mod NetworkBinary
 pub mod NetworkBack
 pub mod Refusing
+pub mod TimeOfDay

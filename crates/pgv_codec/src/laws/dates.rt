@@ -24,7 +24,7 @@ pub fn date_is_a_date()
 
 /// A `Time` is a time (OID 1083), its microseconds in eight bytes, as `0000000a7a358200` for 12:30. Its arrays are `time[]` (1183).
 /// It comes back in whole microseconds.
-#[tactic(auto, using(crate::specs::DateTimeAgain::time_kept_cut))]
+#[tactic(auto, using(crate::specs::DateTimeKept::time_kept_cut))]
 pub fn time_is_a_time()
     ensures types { IsBuiltIn 1083 ⟦<Time as Type>⟧.info ⟦<Time as Type>⟧.accepts }
     ensures arrays { IsBuiltIn 1183 ⟦<Time as PgHasArrayType>⟧.array_info ⟦<Time as PgHasArrayType>⟧.accepts_array }
@@ -39,7 +39,7 @@ pub fn time_is_a_time()
 
 /// A `DateTime` is a timestamp (OID 1114), its microseconds in eight bytes. Its arrays are `timestamp[]` (1115). It comes back as the
 /// moment of its microseconds.
-#[tactic(auto, using(crate::specs::DateTimeAgain::date_time_again))]
+#[tactic(auto, using(crate::specs::DateTimeKept::date_time_kept_cut))]
 pub fn date_time_is_a_timestamp()
     ensures types { IsBuiltIn 1114 ⟦<DateTime as Type>⟧.info ⟦<DateTime as Type>⟧.accepts }
     ensures arrays { IsBuiltIn 1115 ⟦<DateTime as PgHasArrayType>⟧.array_info ⟦<DateTime as PgHasArrayType>⟧.accepts_array }

@@ -1,46 +1,71 @@
--- A date-time that is cut to microseconds towards 2000-01-01 00:00 is the moment that its microseconds say.
-use Rattle.std.specs.Prelude.{◌≡◌, ℕ, suc, ◌+◌, ◌-◌, ◌*◌, ◌/◌, ◌<◌, ◌≤◌, nat_lt, int_lt, int_div, Bool, true, false, ℤ, pos, negsuc, neg_ℤ, ◌+ℤ◌, ◌-ℤ◌, ◌*ℤ◌, ◌≤ℤ◌, ◌<ℤ◌, ◌⊎◌, refl}
+-- There is a date-time at the moment of the microseconds that are written of another: they are cut towards 2000-01-01 00:00, so
+-- before 2000 it may be the midnight that ends the day.
+use Rattle.std.specs.Prelude.{◌≡◌, ℕ, suc, ◌+◌, ◌-◌, ◌*◌, ◌<◌, ◌≤◌, nat_lt, int_lt, int_div, Bool, true, false, ℤ, pos, negsuc, neg_ℤ, ◌+ℤ◌, ◌-ℤ◌, ◌*ℤ◌, ◌≤ℤ◌, ◌<ℤ◌, ◌⊎◌, refl}
+use Rattle.std.specs.Int.{IsInRange}
 use Rattle.std.proofs.Common.{arith, ap, sym, ◌∙◌, inl, inr}
 use Rattle.std.proofs.lemmas.Bool.{ltb-true, ltb-false}
 use Rattle.std.proofs.lemmas.Int.{ints}
 use Rattle.jiff_core.specs.declared.civil.date.Date.{Date}
 use Rattle.jiff_core.specs.declared.civil.datetime.DateTime.{DateTime}
-use Rattle.jiff_core.specs.declared.civil.time.Time.{Time}
 use Rattle.jiff_core.specs.Calendar.{days_in_month, days_from_civil, IsYear}
 use Rattle.jiff_core.specs.Date.{epoch_day}
 use Rattle.jiff_core.specs.DateTime.{civil_nanos}
 use Rattle.jiff_core.specs.Time.{time_nanos}
+use Rattle.jiff_core.proofs.CalendarLemmas.{days_in_month_bounds}
 use Rattle.jiff_core.proofs.DateLemmas.{days_from_civil-day, days_from_civil-next_month, days_from_civil-next_year, IsEarlier, epoch_day-lt, epoch_day_same, cases_date}
 use Rattle.jiff_core.proofs.DateTimeLemmas.{civil_nanos-parts, time_nanos_bound}
 use Rattle.jiff_core.proofs.StandardFacts.{known_days}
 use Rattle.pgv_value.specs.DateTimeBinary.{nanos_after}
 use Rattle.pgv_codec.specs.DateTimeBinary.{micros_of}
-use Rattle.pgv_codec.specs.DateTimeKept.{time_of, cut, cut_fits, cut_up, time_kept, first_day, first_month, by_month, by_day, next_day, before_2000, by_year, is_early, date_time_kept}
+use Rattle.pgv_codec.specs.TimeOfDay.{time_of, time_nanos-time_of, cut, cut_fits}
 
--- ---- the next day
+-- ---- each day before 2000 has a next one
 
-month_next : (d : Date) (early : d.year <ℤ pos 2000) (b : Bool) (e : nat_lt d.month 12 ≡ b) → d.day ≡ days_in_month d.year d.month → epoch_day (by_month d early b e) ≡ epoch_day d +ℤ pos 1
-month_next d early true e last = days_from_civil-next_month d.year d.month d.day d.month_in.0 last
-month_next d early false e last =
+abbrev HasNext : Date → Type 0
+HasNext d = (next : Date) × (epoch_day next ≡ epoch_day d +ℤ pos 1)
+
+first_day : (y : ℤ) (m : ℕ) → IsInRange 1 (days_in_month y m) 1
+first_day y m = let b = days_in_month_bounds y m in (omega arith, omega (arith, b.1))
+
+first_month : IsInRange 1 12 1
+first_month = (omega arith, omega arith)
+
+month_more : (m : ℕ) → nat_lt m 12 ≡ true → IsInRange 1 12 (m + 1)
+month_more m e = let lt = ltb-true m 12 e in (omega arith, omega (arith, lt))
+
+year_more : (y : ℤ) → IsYear y → y <ℤ pos 2000 → IsYear (y +ℤ pos 1)
+year_more y h lt = (omega (arith, ints, h.0), omega (arith, ints, lt))
+
+-- the last day of a month: the first of the next month, or of the next year
+first_is_next : (d : Date) → d.year <ℤ pos 2000 → d.day ≡ days_in_month d.year d.month → (b : Bool) → nat_lt d.month 12 ≡ b → HasNext d
+first_is_next d early last true e =
+    let next : Date = record { year = d.year; month = d.month + 1; day = 1; year_in = d.year_in; month_in = month_more d.month e; day_in = first_day d.year (d.month + 1) } in
+    (next, days_from_civil-next_month d.year d.month d.day d.month_in.0 last)
+first_is_next d early last false e =
+    let next : Date = record { year = d.year +ℤ pos 1; month = 1; day = 1; year_in = year_more d.year d.year_in early; month_in = first_month; day_in = first_day (d.year +ℤ pos 1) 1 } in
     let ge = ltb-false d.month 12 e in
     let top = d.month_in.1 in
     let twelve : d.month ≡ 12 = omega (arith, ge, top) in
     let day_is : d.day ≡ 31 = last ∙ ap (λ (m : ℕ). days_in_month d.year m) twelve in
-    let low : neg_ℤ (pos 10000) ≤ℤ d.year = omega (arith, ints, d.year_in.0) in
-    days_from_civil-next_year d.year (d.year +ℤ pos 1) low refl
-    ∙ ap (λ (z : ℤ). z +ℤ pos 1) (sym (ap (λ (m : ℕ). days_from_civil d.year m d.day) twelve ∙ ap (λ (x : ℕ). days_from_civil d.year 12 x) day_is))
+    let low : neg_ℤ (pos 10000) ≤ℤ d.year = omega (arith, ints, d.year_in.0) in (
+      next,
+      days_from_civil-next_year d.year (d.year +ℤ pos 1) low refl
+          ∙ ap (λ (z : ℤ). z +ℤ pos 1) (sym (ap (λ (m : ℕ). days_from_civil d.year m d.day) twelve ∙ ap (λ (x : ℕ). days_from_civil d.year 12 x) day_is)),
+    )
 
-day_next : (d : Date) (early : d.year <ℤ pos 2000) (b : Bool) (e : nat_lt d.day (days_in_month d.year d.month) ≡ b) → epoch_day (by_day d early b e) ≡ epoch_day d +ℤ pos 1
-day_next d early true e =
+next_by : (d : Date) → d.year <ℤ pos 2000 → (b : Bool) → nat_lt d.day (days_in_month d.year d.month) ≡ b → HasNext d
+next_by d early true e =
+    let lt = ltb-true d.day (days_in_month d.year d.month) e in
+    let next : Date = record { year = d.year; month = d.month; day = d.day + 1; year_in = d.year_in; month_in = d.month_in; day_in = (omega arith, omega (arith, lt)) } in
     let k = days_from_civil-day d.year d.month d.day (d.day + 1) d.day_in.0 (omega arith) in
-    omega (arith, ints, k)
-day_next d early false e =
+    (next, omega (arith, ints, k))
+next_by d early false e =
     let ge = ltb-false d.day (days_in_month d.year d.month) e in
     let top = d.day_in.1 in
-    month_next d early _ refl (omega (arith, ge, top))
+    first_is_next d early (omega (arith, ge, top)) _ refl
 
-epoch_day-next_day : (d : Date) (early : d.year <ℤ pos 2000) → epoch_day (next_day d early) ≡ epoch_day d +ℤ pos 1
-epoch_day-next_day d early = day_next d early _ refl
+has_next : (d : Date) → d.year <ℤ pos 2000 → HasNext d
+has_next d early = next_by d early _ refl
 
 -- ---- 2000-01-01 is day 10957
 
@@ -74,6 +99,10 @@ late_day d ge = by (cases_date new_year d)
 -- nanoseconds from 1970 of a day and a time of day
 abbrev moment : ℤ → ℕ → ℤ
 moment day nanos = day *ℤ pos 86_400_000_000_000 +ℤ pos nanos
+
+-- the whole microseconds that a number of nanoseconds begins
+abbrev cut_up : ℕ → ℕ
+cut_up n = cut (n + 999)
 
 -- that many days from 2000 on, or before it
 late_cut : (k s : ℕ) → nanos_after (int_div (pos (k * 86_400_000_000_000 + s)) (pos 1000)) ≡ moment (pos (10_957 + k)) (cut s)
@@ -116,13 +145,18 @@ early_moment n day s e early lt =
     let days = j.1 in
     same ∙ omega (arith, ints, is, days)
 
--- ---- what a date-time keeps
+-- ---- a date-time at a moment
 
-seen : (at : DateTime) (day : ℤ) (s : ℕ) → epoch_day at.date ≡ day → time_nanos at.time ≡ s → civil_nanos at ≡ moment day s
-seen at day s d t = civil_nanos-parts at ∙ (ap (λ (x : ℤ). moment x (time_nanos at.time)) d ∙ ap (λ (x : ℕ). moment day x) t)
+abbrev HasMoment : ℤ → ℕ → Type 0
+HasMoment day nanos = (at : DateTime) × (civil_nanos at ≡ moment day nanos)
 
-time_nanos-time_of : (n : ℕ) (lt : n < 86_400_000_000_000) → time_nanos (time_of n lt) ≡ n
-time_nanos-time_of n lt = omega arith
+at_moment : (d : Date) (s : ℕ) → s < 86_400_000_000_000 → HasMoment (epoch_day d) s
+at_moment d s lt =
+    let at : DateTime = record { date = d; time = time_of s lt } in
+    (at, civil_nanos-parts at ∙ ap (λ (x : ℕ). moment (epoch_day d) x) (time_nanos-time_of s lt))
+
+midnight_fits : 0 < 86_400_000_000_000
+midnight_fits = omega arith
 
 -- a day that ends is the next one's midnight
 day_ends : (day : ℤ) (s : ℕ) → s < 86_400_000_000_000 → nat_lt (cut_up s) 86_400_000_000_000 ≡ false → moment (day +ℤ pos 1) 0 ≡ moment day (cut_up s)
@@ -130,26 +164,36 @@ day_ends day s lt e =
     let ge = ltb-false (cut_up s) 86_400_000_000_000 e in
     omega (arith, ints, lt, ge)
 
-early_kept : (at : DateTime) (early : at.date.year <ℤ pos 2000) (b : Bool) (e : nat_lt (cut_up (time_nanos at.time)) 86_400_000_000_000 ≡ b) →
-    civil_nanos (before_2000 at early b e) ≡ moment (epoch_day at.date) (cut_up (time_nanos at.time))
-early_kept at early true e = seen (before_2000 at early true e) (epoch_day at.date) (cut_up (time_nanos at.time)) refl (time_nanos-time_of _ (ltb-true (cut_up (time_nanos at.time)) 86_400_000_000_000 e))
-early_kept at early false e =
-    seen (before_2000 at early false e) (epoch_day at.date +ℤ pos 1) 0 (epoch_day-next_day at.date early) refl
-    ∙ day_ends (epoch_day at.date) (time_nanos at.time) (time_nanos_bound at.time) e
+-- before 2000 the time is cut up, which may end its day
+cut_up_found : (d : Date) (s : ℕ) → d.year <ℤ pos 2000 → s < 86_400_000_000_000 → (b : Bool) → nat_lt (cut_up s) 86_400_000_000_000 ≡ b → HasMoment (epoch_day d) (cut_up s)
+cut_up_found d s early lt true e = at_moment d (cut_up s) (ltb-true (cut_up s) 86_400_000_000_000 e)
+cut_up_found d s early lt false e =
+    let next = has_next d early in
+    let midnight = at_moment next.0 0 midnight_fits in
+    (midnight.0, midnight.1 ∙ (ap (λ (x : ℤ). moment x 0) next.1 ∙ day_ends (epoch_day d) s lt e))
 
-not_early : (y : ℤ) → int_lt y (pos 2000) ≡ false → pos 2000 ≤ℤ y
-not_early y e = grind (arith, ints)
+-- ---- the date-time that is found
 
-kept_by : (at : DateTime) (b : Bool) (e : int_lt at.date.year (pos 2000) ≡ b) → nanos_after (micros_of (civil_nanos at)) ≡ civil_nanos (by_year at b e)
-kept_by at true e =
-    early_moment (civil_nanos at) (epoch_day at.date) (time_nanos at.time) (civil_nanos-parts at) (early_day at.date (is_early at.date.year e)) (time_nanos_bound at.time)
-    ∙ sym (early_kept at (is_early at.date.year e) _ refl)
-kept_by at false e =
-    late_moment (civil_nanos at) (epoch_day at.date) (time_nanos at.time) (civil_nanos-parts at) (late_day at.date (not_early at.date.year e))
-    ∙ sym (seen (by_year at false e) (epoch_day at.date) (cut (time_nanos at.time)) refl (time_nanos-time_of (cut (time_nanos at.time)) (cut_fits (time_nanos at.time) (time_nanos_bound at.time))))
+abbrev pub Found : DateTime → Type 0
+Found at = (kept : DateTime) × (nanos_after (micros_of (civil_nanos at)) ≡ civil_nanos kept)
 
-pub date_time_again : (at : DateTime) → nanos_after (micros_of (civil_nanos at)) ≡ civil_nanos (date_time_kept at)
-date_time_again at = kept_by at _ refl
+is_early : (y : ℤ) → int_lt y (pos 2000) ≡ true → y <ℤ pos 2000
+is_early y e = grind (arith, ints)
 
-pub time_kept_cut : (t : Time) → time_nanos (time_kept t) ≡ time_nanos t / 1000 * 1000
-time_kept_cut t = time_nanos-time_of (cut (time_nanos t)) (cut_fits (time_nanos t) (time_nanos_bound t))
+is_late : (y : ℤ) → int_lt y (pos 2000) ≡ false → pos 2000 ≤ℤ y
+is_late y e = grind (arith, ints)
+
+found_by : (at : DateTime) (b : Bool) → int_lt at.date.year (pos 2000) ≡ b → Found at
+found_by at true e =
+    let early = is_early at.date.year e in
+    let s = time_nanos at.time in
+    let lt = time_nanos_bound at.time in
+    let kept = cut_up_found at.date s early lt _ refl in
+    (kept.0, early_moment (civil_nanos at) (epoch_day at.date) s (civil_nanos-parts at) (early_day at.date early) lt ∙ sym kept.1)
+found_by at false e =
+    let s = time_nanos at.time in
+    let kept = at_moment at.date (cut s) (cut_fits s (time_nanos_bound at.time)) in
+    (kept.0, late_moment (civil_nanos at) (epoch_day at.date) s (civil_nanos-parts at) (late_day at.date (is_late at.date.year e)) ∙ sym kept.1)
+
+pub found : (at : DateTime) → Found at
+found at = found_by at _ refl
