@@ -3,7 +3,9 @@
 -- Read in binary: a type that isn't a range is C23, no flag byte C15, and then what the first bound that isn't read is refused with:
 -- its frame, or its value. Read in text: C14 where it isn't UTF-8, C29 where it isn't a range, and then the first bound that isn't
 -- read. Null is C13.
-use Rattle.std.specs.Prelude.{ℕ, Bool, false, ◌&&◌, List, [], ◌∷◌, Option, Some, None, is_some, if◌then◌else◌}
+-- What is seen before memory is asked for is always answered as itself: in binary that is all up to the frame of the first finite
+-- bound, and in text all but a range with parts.
+use Rattle.std.specs.Prelude.{ℕ, Bool, true, false, ◌&&◌, ◌||◌, List, [], ◌∷◌, Option, Some, None, is_some, if◌then◌else◌}
 use Rattle.std.specs.Str.{chars}
 use Rattle.std.specs.declared.ops.Bound.{Bound}
 use Rattle.std.specs.declared.ops.Bound.TheVariants.{Included, Excluded, Unbounded}
@@ -95,8 +97,41 @@ range_refusal info reading why t f None = Some UnexpectedNull
 range_refusal info reading why t Text (Some bytes) = if is_utf8 bytes then range_text_refusal (reading info Text) (why info Text) bytes else Some Utf8
 range_refusal info reading why t Binary (Some bytes) = range_binary_refusal (λ u. reading u Binary) (λ u. why u Binary) t bytes
 
--- Where memory is asked for: in text only of a range, and in binary only under a type of kind range.
+-- ---- where memory is asked for
+
+-- in text: only where the text is a range with parts; the empty range has none
+abbrev pub has_parts : Option RangeContent → Bool
+has_parts None = false
+has_parts (Some empty_text) = false
+has_parts (Some (parts_text nest)) = true
+
+-- in binary: whether a side has a bound at all
+abbrev pub is_finite : Side → Bool
+is_finite Infinite = false
+is_finite Inclusive = true
+is_finite Exclusive = true
+
+-- of one bound: only where it is finite, and its frame stands there
+abbrev pub bound_takes : Side → List ℕ → Bool
+bound_takes side bytes = is_finite side && is_some (front bytes)
+
+-- of both: the frame in front is that of the first finite bound
+abbrev pub bounds_take : Side → Side → List ℕ → Bool
+bounds_take below above bytes = (is_finite below || is_finite above) && is_some (front bytes)
+
+abbrev pub form_takes : RangeForm → List ℕ → Bool
+form_takes EmptyForm bytes = false
+form_takes (Sides below above) bytes = bounds_take below above bytes
+
+abbrev pub bytes_take : List ℕ → Bool
+bytes_take [] = false
+bytes_take (flags ∷ rest) = form_takes (form_of flags) rest
+
+-- only under a type of kind range
+abbrev pub range_binary_takes : Ty → List ℕ → Bool
+range_binary_takes t bytes = is_some (range_element t) && bytes_take bytes
+
 abbrev pub range_takes : Ty → PgValueFormat → Option (List ℕ) → Bool
 range_takes t f None = false
-range_takes t Text (Some bytes) = is_utf8 bytes && is_some (range_content (chars bytes))
-range_takes t Binary (Some bytes) = is_some (range_element t)
+range_takes t Text (Some bytes) = is_utf8 bytes && has_parts (range_content (chars bytes))
+range_takes t Binary (Some bytes) = range_binary_takes t bytes

@@ -7,6 +7,7 @@ ghost use Rattle.std.specs.Range.Bound.{bound_map};
 ghost use Rattle.pgv_types.specs.Parts.{ref_type};
 ghost use Rattle.pgv_text.specs.PartsView.{nest};
 ghost use Rattle.pgv_text.specs.ContentText.{range_content};
+ghost use Rattle.pgv_value.specs.FrameBinary.{frame_fault, front};
 ghost use Rattle.pgv_value.specs.Reading.{Answers, AnswersExactly, Refuses};
 ghost use Rattle.pgv_value.specs.declared.error.CodecError.TheVariants.{NotARange};
 ghost use Rattle.pgv_value.specs.declared.value.PgValueFormat.TheVariants.{Binary, Text};
@@ -15,7 +16,7 @@ ghost use Rattle.pgv_range.specs.RangeGrammar.{bound_in, bound_in_text, bounds_i
 ghost use Rattle.pgv_range.specs.RangeImage.{bound_frame, bounds_image, empty_image};
 ghost use Rattle.pgv_codec.specs.Refusing.{RefusedExactly, RefusedFor};
 ghost use Rattle.pgv_range.specs.RangeOf.{range_meaning};
-ghost use Rattle.pgv_range.specs.RangeRefusals.{bound_refusal, bound_refused, bounds_refusal, bounds_refused, bounds_text_refusal, next_bound_refusal, range_binary_refusal, range_text_refusal, value_refusal};
+ghost use Rattle.pgv_range.specs.RangeRefusals.{bound_refusal, bound_refused, bound_takes, bounds_refusal, bounds_refused, bounds_take, bounds_text_refusal, has_parts, next_bound_refusal, range_binary_refusal, range_binary_takes, range_text_refusal, value_refusal};
 
 use crate::flags::{RangeFlags, RangeForm, Side};
 use crate::range::PgRange;
@@ -24,7 +25,7 @@ use bitflags::Flags;
 use pgv_codec::{Codec, Decode, Encode, IsNull, PgArgumentBuffer, ReadBack, Type};
 use pgv_text::{Parts, TextForm};
 use pgv_types::{PgTypeInfo, PgTypeRef};
-use pgv_value::{CodecError, PgValueFormat, PgValueRef};
+use pgv_value::{CodecError, PgValueFormat, PgValueRef, part_in_front};
 use std::alloc::{AllocError, Global};
 use std::ops::Bound;
 
@@ -143,9 +144,9 @@ fn read_binary<T: Decode>(
     bytes: &[u8],
 ) -> Result<PgRange<T>, CodecError>
     ensures exact { Answers (range_meaning T.meaning) (range_in_binary (λ u. T.reading u Binary) type_info.now bytes.now) result }
-    ensures exactly { is_some (range_element type_info.now) ≡ false → AnswersExactly (range_meaning T.meaning) (range_in_binary (λ u. T.reading u Binary) type_info.now bytes.now) result }
+    ensures exactly { range_binary_takes type_info.now bytes.now ≡ false → AnswersExactly (range_meaning T.meaning) (range_in_binary (λ u. T.reading u Binary) type_info.now bytes.now) result }
     ensures refused { RefusedFor (range_binary_refusal (λ u. T.reading u Binary) (λ u. T.refusal u Binary) type_info.now bytes.now) result }
-    ensures refused_exactly { is_some (range_element type_info.now) ≡ false → RefusedExactly (range_binary_refusal (λ u. T.reading u Binary) (λ u. T.refusal u Binary) type_info.now bytes.now) result }
+    ensures refused_exactly { range_binary_takes type_info.now bytes.now ≡ false → RefusedExactly (range_binary_refusal (λ u. T.reading u Binary) (λ u. T.refusal u Binary) type_info.now bytes.now) result }
 {
     let element = element_of_range(type_info)?;
     let Some((flags, frames)) = bytes.split_first() else {
@@ -179,7 +180,9 @@ fn read_bounds<T: Decode>(
     bytes: &[u8],
 ) -> Result<PgRange<T>, CodecError>
     ensures exact { Answers (range_meaning T.meaning) (bounds_in (T.reading element.now Binary) below above bytes.now) result }
+    ensures exactly { bounds_take below above bytes.now ≡ false → AnswersExactly (range_meaning T.meaning) (bounds_in (T.reading element.now Binary) below above bytes.now) result }
     ensures refused { RefusedFor (bounds_refusal (T.reading element.now Binary) (T.refusal element.now Binary) below above bytes.now) result }
+    ensures refused_exactly { bounds_take below above bytes.now ≡ false → RefusedExactly (bounds_refusal (T.reading element.now Binary) (T.refusal element.now Binary) below above bytes.now) result }
 {
     let mut rest = bytes;
     let start = read_bound(alloc, element, below, &mut rest)?;
@@ -196,7 +199,9 @@ fn read_bound<'a, T: Decode>(
 ) -> Result<Bound<T>, CodecError>
     ensures ok { IfOk result (λ b. bound_in (T.reading element.now Binary) side bytes.old.now ≡ Some (bound_map T.meaning b, bytes.new.now)) }
     ensures err { IfErr result (λ e. Refuses e (bound_in (T.reading element.now Binary) side bytes.old.now ≡ None)) }
+    ensures exactly { bound_takes side bytes.old.now ≡ false → IfErr result (λ e. bound_in (T.reading element.now Binary) side bytes.old.now ≡ None) }
     ensures refused { RefusedFor (bound_refusal (T.reading element.now Binary) (T.refusal element.now Binary) side bytes.old.now) result }
+    ensures refused_exactly { bound_takes side bytes.old.now ≡ false → RefusedExactly (bound_refusal (T.reading element.now Binary) (T.refusal element.now Binary) side bytes.old.now) result }
 {
     match side {
         Side::Infinite => Ok(Bound::Unbounded),
@@ -205,7 +210,7 @@ fn read_bound<'a, T: Decode>(
     }
 }
 
-/// The value of the frame in front.
+/// The value of the frame in front. No memory is asked for before the frame is there.
 fn read_value<'a, T: Decode>(
     alloc: Global,
     element: &PgTypeInfo,
@@ -214,17 +219,21 @@ fn read_value<'a, T: Decode>(
     ensures ok { IfOk result (λ v. value_in_front (T.reading element.now Binary) bytes.old.now ≡ Some (T.meaning v, bytes.new.now)) }
     ensures err { IfErr result (λ e. Refuses e (value_in_front (T.reading element.now Binary) bytes.old.now ≡ None)) }
     ensures refused { RefusedFor (value_refusal (T.reading element.now Binary) (T.refusal element.now Binary) bytes.old.now) result }
+    ensures refused_exactly { is_some (front bytes.old.now) ≡ false → IfErr result (λ e. e ≡ frame_fault bytes.old.now) }
 {
-    let part = PgValueRef::get(bytes, PgValueFormat::Binary, element.clone()?)?;
+    let all: &'a [u8] = *bytes;
+    let (part, rest) = part_in_front(all)?;
+    *bytes = rest;
+    let part = PgValueRef::new(part, element.clone()?, PgValueFormat::Binary);
     T::decode(alloc, part)
 }
 
 /// A range in text.
 fn read_text<T: Decode + Type>(alloc: Global, text: &str) -> Result<PgRange<T>, CodecError>
     ensures exact { Answers (range_meaning T.meaning) (range_in_text (T.reading T.info Text) text.now) result }
-    ensures exactly { is_some (range_content (chars text.now)) ≡ false → AnswersExactly (range_meaning T.meaning) (range_in_text (T.reading T.info Text) text.now) result }
+    ensures exactly { has_parts (range_content (chars text.now)) ≡ false → AnswersExactly (range_meaning T.meaning) (range_in_text (T.reading T.info Text) text.now) result }
     ensures refused { RefusedFor (range_text_refusal (T.reading T.info Text) (T.refusal T.info Text) text.now) result }
-    ensures refused_exactly { is_some (range_content (chars text.now)) ≡ false → RefusedExactly (range_text_refusal (T.reading T.info Text) (T.refusal T.info Text) text.now) result }
+    ensures refused_exactly { has_parts (range_content (chars text.now)) ≡ false → RefusedExactly (range_text_refusal (T.reading T.info Text) (T.refusal T.info Text) text.now) result }
 {
     match Parts::new(TextForm::Range, text) {
         None => Err(CodecError::Syntax),
