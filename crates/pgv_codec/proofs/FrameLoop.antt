@@ -1,12 +1,11 @@
 -- Frames that are read one after the other.
-use Rattle.std.proofs.Common.{◌≡◌, ℕ, suc, ◌+◌, ◌-◌, ◌<◌, ◌≤◌, Bool, true, false, if◌then◌else◌, nat_eq, List, [], ◌∷◌, ◌++◌, Option, Some, None, refl, sym, ap, ◌∙◌, append_assoc, arith}
+use Rattle.std.proofs.Common.{◌≡◌, ℕ, suc, ◌+◌, ◌-◌, ◌<◌, ◌≤◌, List, [], ◌∷◌, ◌++◌, Option, Some, None, refl, sym, ap, ◌∙◌, append_assoc, arith}
 use Rattle.std.proofs.lemmas.List.{append-nil}
-use Rattle.pgv_types.specs.Ty.{Ty}
 use Rattle.pgv_value.specs.FrameBinary.{Part, front, frame_fault}
 use Rattle.pgv_value.specs.declared.error.CodecError.{CodecError}
-use Rattle.pgv_nest.specs.ArrayGrammar.{Head, frames, head, one_dimension}
-use Rattle.pgv_nest.specs.NestRefusals.{frames_refusal, is_one_dimension, refusal_or}
-use Rattle.pgv_value.specs.Steps.{◌>>=◌, number}
+use Rattle.pgv_nest.specs.ArrayGrammar.{frames}
+use Rattle.pgv_nest.specs.NestRefusals.{frames_refusal}
+use Rattle.pgv_value.specs.Steps.{◌>>=◌}
 
 module _ {M : Type 0} where
   -- what was read before, and what is still read
@@ -98,19 +97,3 @@ module _ {M : Type 0} (read : Part → Option M) (why : Part → Option CodecErr
   refused_unread count i bytes part rest total lt f so_far r =
       let k : count - i ≡ suc (count - (i + 1)) = omega arith in
       sym so_far ∙ (ap (λ (n : ℕ). frames_refusal read why n bytes) k ∙ refused_part (count - (i + 1)) bytes part rest f r)
-
--- a head that is there says one dimension
-pub one_is_said : (t : Ty) (bytes : List ℕ) (h : Head) → head t bytes ≡ Some (Some h) → is_one_dimension bytes ≡ true
-unfolding head
-one_is_said t bytes h e = said (number bytes) e
-  where
-    by_tests : (none one : Bool) (o : Option Head) → (if none then Some None else (if one then (o >>= λ found. Some (Some found)) else None)) ≡ Some (Some h) → one ≡ true
-    by_tests true one o is = absurd (cc)
-    by_tests false true o is = refl
-    by_tests false false o is = absurd (cc)
-
-    said : (o : Option (ℕ × List ℕ)) →
-        (o >>= λ dimensions. if nat_eq dimensions.0 0 then Some None else if nat_eq dimensions.0 1 then (one_dimension t dimensions.1 >>= λ found. Some (Some found)) else None) ≡ Some (Some h) →
-        refusal_or false o (λ dimensions. nat_eq dimensions.0 1) ≡ true
-    said None is = absurd (cc)
-    said (Some d) is = by_tests (nat_eq d.0 0) (nat_eq d.0 1) (one_dimension t d.1) is

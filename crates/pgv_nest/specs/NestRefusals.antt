@@ -5,7 +5,7 @@
 -- has C26; an OID that is no built-in type's under `record` C28; a type that is no record C24; a type that isn't accepted C27. A
 -- frame says C15 or C16, and a part what its own type says. In text: C14 where it isn't UTF-8, C29 outside the grammar, and then
 -- what a part's type says. Null is C13.
-use Rattle.std.specs.Prelude.{ℕ, zero, suc, nat_eq, nat_lt, Bool, false, ◌&&◌, ◌==◌, List, [], ◌∷◌, length, Option, Some, None, is_some, if◌then◌else◌}
+use Rattle.std.specs.Prelude.{ℕ, zero, suc, nat_eq, nat_lt, Bool, true, false, ◌&&◌, ◌==◌, List, [], ◌∷◌, length, Option, Some, None, is_some, if◌then◌else◌}
 use Rattle.std.specs.Int.{w32, cast_signed}
 use Rattle.pgv_types.specs.Ty.{Ty, builtin, custom, named, by_oid, array_of, Kind, simple, pseudo, domain, composite, array as array_kind, enumeration, range}
 use Rattle.pgv_text.specs.Values.{array_values}
@@ -49,9 +49,11 @@ abbrev pub head_refusal : Ty → List ℕ → CodecError
 head_refusal t bytes =
     refusal_or Short (number bytes) (λ dimensions. if nat_eq dimensions.0 1 then one_dimension_refusal t dimensions.1 else Dimensions (cast_signed w32 dimensions.0))
 
--- whether one dimension is said; without one nothing is copied
-abbrev pub is_one_dimension : List ℕ → Bool
-is_one_dimension bytes = refusal_or false (number bytes) (λ dimensions. nat_eq dimensions.0 1)
+-- whether there is a head with a dimension; until there is one nothing is copied
+abbrev pub has_dimension : Option (Option Head) → Bool
+has_dimension None = false
+has_dimension (Some None) = false
+has_dimension (Some (Some h)) = true
 
 -- ---- arrays
 
@@ -89,11 +91,11 @@ of_length_refusal (Some ms) why = Some (ElementCount (length ms))
 abbrev pub array_of_length_refusal : {M : Type 0} → Ty → Reading M → Refusal → Refusal
 array_of_length_refusal info reading why t f bytes = of_length_refusal (array info reading t f bytes) (array_refusal info reading why t f bytes)
 
--- Where memory is asked for: in text only of a text of the grammar, and in binary only where one dimension is said.
+-- Where memory is asked for: in text only of a text of the grammar, and in binary only after a head with a dimension.
 abbrev pub array_takes : Ty → PgValueFormat → Option (List ℕ) → Bool
 array_takes t f None = false
 array_takes t Text (Some bytes) = is_utf8 bytes && is_some (array_values bytes)
-array_takes t Binary (Some bytes) = is_one_dimension bytes
+array_takes t Binary (Some bytes) = has_dimension (head t bytes)
 
 -- ---- the fields of records
 
@@ -148,6 +150,11 @@ fields_refusal t Binary (Some bytes) = Short
 abbrev pub record_refusal : (Left → Option CodecError) → Refusal
 record_refusal why t f bytes = refusal_or (Some (fields_refusal t f bytes)) (fields_of t f bytes) why
 
--- where memory is asked for: only of the fields
+-- Where memory is asked for: in binary only where there is a field of a type that is known, and in text only where there is a field.
+abbrev pub next_takes : Left → Bool
+next_takes (binary_fields t place bytes) = is_some (field_head t place bytes)
+next_takes (text_fields []) = false
+next_takes (text_fields (part ∷ parts)) = true
+
 abbrev pub record_takes : Ty → PgValueFormat → Option (List ℕ) → Bool
-record_takes t f bytes = is_some (fields_of t f bytes)
+record_takes t f bytes = refusal_or false (fields_of t f bytes) next_takes

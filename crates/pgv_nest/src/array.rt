@@ -1,11 +1,12 @@
 //! The heads of arrays in binary (PostgreSQL, "Arrays"; array_send).
 
-ghost use Rattle.std.specs.Prelude.{◌≡◌, ◌≤◌, false, length, IfOk, IfErr, IfSome, option_map};
+ghost use Rattle.std.specs.Prelude.{◌≡◌, ◌≤◌, false, length, is_some, IfOk, IfErr, IfSome, option_map};
+ghost use Rattle.pgv_types.specs.Parts.{ref_type};
 ghost use Rattle.pgv_value.specs.Reading.{Answers, AnswersExactly, Refuses};
-ghost use Rattle.pgv_value.specs.declared.error.CodecError.TheVariants.{ElementType};
+ghost use Rattle.pgv_value.specs.declared.error.CodecError.TheVariants.{ElementType, Memory};
 ghost use Rattle.pgv_nest.specs.ArrayGrammar.{element_type, head, one_dimension};
 ghost use Rattle.pgv_nest.specs.HeadsView.{head_shown};
-ghost use Rattle.pgv_nest.specs.NestRefusals.{head_refusal, is_one_dimension, one_dimension_refusal};
+ghost use Rattle.pgv_nest.specs.NestRefusals.{has_dimension, head_refusal, one_dimension_refusal};
 
 use pgv_types::{Oid, PgTypeInfo, PgTypeRef};
 use pgv_value::{CodecError, u32_in_front};
@@ -26,16 +27,16 @@ pub struct ArrayHead<'a> {
 
 /// The head of an array, or none where it has no dimensions and so no elements. Bytes that end too early are refused with
 /// C15, a negative number of elements with C16, more dimensions than one with C19, a lower bound other than 1 with C20, and elements of
-/// a type that neither the OID nor the array's type gives with C21.
+/// a type that neither the OID nor the array's type gives with C21. C1 comes only where there is a whole head: it copies a custom type.
 #[tactic(auto, unfolding(crate::specs::ArrayGrammar::head))]
 pub fn array_head_of<'a>(
     type_info: &PgTypeInfo,
     bytes: &'a [u8],
 ) -> Result<Option<ArrayHead<'a>>, CodecError>
     ensures exact { Answers (option_map head_shown) (head type_info.now bytes.now) result }
-    ensures exactly { is_one_dimension bytes.now ≡ false → AnswersExactly (option_map head_shown) (head type_info.now bytes.now) result }
+    ensures exactly { has_dimension (head type_info.now bytes.now) ≡ false → AnswersExactly (option_map head_shown) (head type_info.now bytes.now) result }
     ensures refused { IfErr result (λ e. Refuses e (e ≡ head_refusal type_info.now bytes.now)) }
-    ensures refused_exactly { is_one_dimension bytes.now ≡ false → IfErr result (λ e. e ≡ head_refusal type_info.now bytes.now) }
+    ensures refused_exactly { has_dimension (head type_info.now bytes.now) ≡ false → IfErr result (λ e. e ≡ head_refusal type_info.now bytes.now) }
     ensures within { IfOk result (λ found. IfSome found (λ h. length h.frames.now ≤ length bytes.now)) }
 {
     let (dimensions, rest) = u32_in_front(bytes)?;
@@ -54,6 +55,7 @@ fn one_dimension_of<'a>(
 ) -> Result<ArrayHead<'a>, CodecError>
     ensures exact { Answers head_shown (one_dimension type_info.now bytes.now) result }
     ensures refused { IfErr result (λ e. Refuses e (e ≡ one_dimension_refusal type_info.now bytes.now)) }
+    ensures refused_exactly { is_some (one_dimension type_info.now bytes.now) ≡ false → IfErr result (λ e. e ≡ one_dimension_refusal type_info.now bytes.now) }
     ensures within { IfOk result (λ h. length h.frames.now ≤ length bytes.now) }
 {
     let (_flags, rest) = u32_in_front(bytes)?;
@@ -68,23 +70,33 @@ fn one_dimension_of<'a>(
         return Err(CodecError::LowerBound(lower_bound.cast_signed()));
     }
     Ok(ArrayHead {
-        element,
+        element: owned(element)?,
         count,
         frames,
     })
 }
 
 /// The type of the elements: the built-in type of the OID, else the element of the array's type.
-fn element_type_of(type_info: &PgTypeInfo, oid: Oid) -> Result<PgTypeInfo, CodecError>
-    ensures exact { Answers (λ t. t) (element_type type_info.now oid.0) result }
-    ensures refused { IfErr result (λ e. Refuses e (e ≡ ElementType oid)) }
+fn element_type_of(type_info: &PgTypeInfo, oid: Oid) -> Result<PgTypeRef<'_>, CodecError>
+    ensures exact { AnswersExactly ref_type (element_type type_info.now oid.0) result }
+    ensures refused { IfErr result (λ e. e ≡ ElementType oid) }
 {
     if let Some(element) = PgTypeInfo::try_from_oid(oid) {
-        return Ok(element);
+        return Ok(PgTypeRef::Owned(element));
     }
     match type_info.array_element() {
-        Some(PgTypeRef::Owned(element)) => Ok(element),
-        Some(PgTypeRef::Borrowed(element)) => Ok(element.clone()?),
+        Some(element) => Ok(element),
         None => Err(CodecError::ElementType(oid)),
+    }
+}
+
+/// The type itself. One that is borrowed is copied.
+fn owned(type_ref: PgTypeRef<'_>) -> Result<PgTypeInfo, CodecError>
+    ensures ok { IfOk result (λ t. t ≡ ref_type type_ref.entry) }
+    ensures err { IfErr result (λ e. e ≡ Memory) }
+{
+    match type_ref {
+        PgTypeRef::Owned(type_info) => Ok(type_info),
+        PgTypeRef::Borrowed(type_info) => Ok(type_info.clone()?),
     }
 }

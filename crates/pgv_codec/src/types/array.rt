@@ -6,8 +6,8 @@ ghost use Rattle.pgv_text.specs.Values.{array_values};
 ghost use Rattle.pgv_value.specs.Reading.{Answers, AnswersExactly};
 ghost use Rattle.pgv_value.specs.declared.error.CodecError.TheVariants.{Memory, UnexpectedNull};
 ghost use Rattle.pgv_value.specs.declared.value.PgValueFormat.TheVariants.{Binary, Text};
-ghost use Rattle.pgv_nest.specs.ArrayGrammar.{array, array_in_text, array_of, frames, array_of_length};
-ghost use Rattle.pgv_nest.specs.NestRefusals.{array_bytes_refusal, array_refusal, array_takes, array_text_refusal, frames_refusal as frames_read_refusal, is_one_dimension, array_of_length_refusal};
+ghost use Rattle.pgv_nest.specs.ArrayGrammar.{array, array_in_text, array_of, frames, head, array_of_length};
+ghost use Rattle.pgv_nest.specs.NestRefusals.{array_bytes_refusal, array_refusal, array_takes, array_text_refusal, frames_refusal as frames_read_refusal, has_dimension, array_of_length_refusal};
 ghost use Rattle.pgv_codec.specs.Image.{array_image, or_else, header, written_frames, written_element_type, sized_image};
 ghost use Rattle.pgv_codec.specs.Outcome.{Encoded, Refused, Appended, AppendedAll};
 ghost use Rattle.pgv_codec.specs.Refusing.{RefusedExactly, RefusedFor, array_refused, frames_refused};
@@ -246,9 +246,9 @@ fn read_array<T: Decode>(
     bytes: &[u8],
 ) -> Result<Vec<T>, CodecError>
     ensures exact { Answers (λ v. map T.meaning v.items) (array_of (λ u. T.reading u Binary) type_info.now bytes.now) result }
-    ensures exactly { is_one_dimension bytes.now ≡ false → AnswersExactly (λ v. map T.meaning v.items) (array_of (λ u. T.reading u Binary) type_info.now bytes.now) result }
+    ensures exactly { has_dimension (head type_info.now bytes.now) ≡ false → AnswersExactly (λ v. map T.meaning v.items) (array_of (λ u. T.reading u Binary) type_info.now bytes.now) result }
     ensures refused { RefusedFor (array_bytes_refusal (λ u. T.reading u Binary) (λ u. T.refusal u Binary) type_info.now bytes.now) result }
-    ensures refused_exactly { is_one_dimension bytes.now ≡ false → RefusedExactly (array_bytes_refusal (λ u. T.reading u Binary) (λ u. T.refusal u Binary) type_info.now bytes.now) result }
+    ensures refused_exactly { has_dimension (head type_info.now bytes.now) ≡ false → RefusedExactly (array_bytes_refusal (λ u. T.reading u Binary) (λ u. T.refusal u Binary) type_info.now bytes.now) result }
     ensures few { IfOk result (λ v. 4 * length v.items ≤ length bytes.now) }
 {
     match array_head_of(type_info, bytes)? {

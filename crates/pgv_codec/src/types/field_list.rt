@@ -1,12 +1,12 @@
 //! The fields of a record, read one after another into a list of values of any types.
 
-ghost use Rattle.std.specs.Prelude.{◌≡◌, Option, IfOk, IfErr, None, IsErrOf, false};
+ghost use Rattle.std.specs.Prelude.{◌≡◌, Option, IfOk, IfErr, OnErr, None, IsErrOf, false};
 ghost use Rattle.pgv_value.specs.Reading.{Answers, AnswersExactly, Refuses};
 ghost use Rattle.pgv_value.specs.declared.error.CodecError.{CodecError as Error};
 ghost use Rattle.pgv_value.specs.declared.error.CodecError.TheVariants.{UnexpectedNull};
 ghost use Rattle.pgv_nest.specs.RecordGrammar.{Left};
 ghost use Rattle.pgv_nest.specs.TupleGrammar.{record_of};
-ghost use Rattle.pgv_nest.specs.NestRefusals.{record_refusal, record_takes};
+ghost use Rattle.pgv_nest.specs.NestRefusals.{next_takes, record_refusal, record_takes};
 ghost use Rattle.pgv_codec.specs.Refusing.{RefusedExactly, RefusedFor};
 
 use super::record::PgRecordDecoder;
@@ -33,7 +33,9 @@ pub trait FieldList: Sized + Drop {
     fn read(fields: &mut PgRecordDecoder<'_>) -> Result<Self, CodecError>
         ensures ok { IfOk result (λ list. step fields.old ≡ Some (meaning list, fields.new)) }
         ensures err { IfErr result (λ e. Refuses e (step fields.old ≡ None)) }
-        ensures refused { RefusedFor (why fields.old) result };
+        ensures exactly { next_takes fields.old ≡ false → OnErr result (step fields.old ≡ None) }
+        ensures refused { RefusedFor (why fields.old) result }
+        ensures refused_exactly { next_takes fields.old ≡ false → RefusedExactly (why fields.old) result };
 }
 
 /// The last field.
@@ -50,6 +52,7 @@ impl<A: Type + Decode> FieldList for (A,) {
     ghost why = { next_refusal A.accepts A.refusal };
 
     #[inline(always)]
+    #[tactic(auto, using(crate::proofs::NoField::no_field))]
     fn read(fields: &mut PgRecordDecoder<'_>) -> Result<(A,), CodecError> {
         Ok((fields.try_decode::<A>()?,))
     }
@@ -70,6 +73,7 @@ impl<A: Type + Decode, Rest: FieldList> FieldList for (A, Rest) {
     ghost why = { field_then A.accepts A.reading A.refusal Rest.why };
 
     #[inline(always)]
+    #[tactic(auto, using(crate::proofs::NoField::no_field))]
     fn read(fields: &mut PgRecordDecoder<'_>) -> Result<(A, Rest), CodecError> {
         let first = fields.try_decode::<A>()?;
         let rest = Rest::read(fields)?;

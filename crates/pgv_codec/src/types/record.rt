@@ -1,18 +1,18 @@
 //! Records: composite types, field by field.
 
-ghost use Rattle.std.specs.Prelude.{IfErr, OnOk, OnErr, ◌≡◌, ◌≢◌, ◌+◌, ◌<◌, length, None, IfOk, IsErrOf};
+ghost use Rattle.std.specs.Prelude.{IfErr, OnOk, OnErr, ◌≡◌, ◌≢◌, ◌+◌, ◌<◌, length, false, is_some, None, IfOk, IsErrOf};
 ghost use Rattle.std.specs.Borrow.{sem, RestsIfErr};
 ghost use Rattle.pgv_text.specs.PartsView.{nest};
 ghost use Rattle.pgv_text.specs.Values.{record_values};
 ghost use Rattle.pgv_value.specs.Reading.{Answers, AnswersExactly};
 ghost use Rattle.pgv_value.specs.declared.error.CodecError.TheVariants.{UnexpectedNull, Syntax, Memory};
-ghost use Rattle.pgv_nest.specs.NestRefusals.{field_refusal, fields_refusal, next_refusal};
-ghost use Rattle.pgv_nest.specs.RecordGrammar.{field_in, fields_of, next, Takes, Left, left_code};
+ghost use Rattle.pgv_nest.specs.NestRefusals.{field_refusal, fields_refusal, next_refusal, next_takes};
+ghost use Rattle.pgv_nest.specs.RecordGrammar.{field_head, field_in, fields_of, next, Takes, Left, left_code};
 ghost use Rattle.pgv_codec.specs.Image.{field, counted_field};
 ghost use Rattle.pgv_codec.specs.FieldsLeftView.{left_of, IsInPlace};
 ghost use Rattle.pgv_codec.specs.Outcome.{Refused, Appended, AppendedAll};
 ghost use Rattle.pgv_codec.specs.Record.{IsOpen, begun, so_far, AddsField};
-ghost use Rattle.pgv_codec.specs.Refusing.{RefusedFor, frame_refused, field_refused};
+ghost use Rattle.pgv_codec.specs.Refusing.{RefusedExactly, RefusedFor, frame_refused, field_refused};
 ghost use Rattle.pgv_codec.specs.contracts.buffer.PgArgumentBuffer.{the_row};
 
 use super::part::read_part;
@@ -178,6 +178,7 @@ impl<'r> PgRecordDecoder<'r> {
     pub fn try_decode<T: Type + Decode>(&mut self) -> Result<T, CodecError>
         ensures exact { Takes T.meaning self.old self.new (next T.accepts T.reading self.old) result }
         ensures refused { RefusedFor (next_refusal T.accepts T.refusal self.old) result }
+        ensures refused_exactly { next_takes self.old ≡ false → RefusedExactly (next_refusal T.accepts T.refusal self.old) result }
     {
         match &mut self.left {
             FieldsLeft::Binary(fields) => {
@@ -233,6 +234,7 @@ fn read_field<'r, T: Type + Decode>(
 ) -> Result<(T, &'r [u8]), CodecError>
     ensures exact { Answers (λ x. (T.meaning x.0, x.1.now)) (field_in T.accepts T.reading type_info.now place bytes.now) result }
     ensures refused { RefusedFor (field_refusal T.accepts T.refusal type_info.now place bytes.now) result }
+    ensures refused_exactly { is_some (field_head type_info.now place bytes.now) ≡ false → RefusedExactly (field_refusal T.accepts T.refusal type_info.now place bytes.now) result }
     ensures shorter { IfOk result (λ x. length x.1.now < length bytes.now) }
 {
     let (type_info, mut rest) = field_head_of(type_info, place, bytes)?;

@@ -14,4 +14,5 @@ returns-in-Composite t c =
     record {
       exact = rw (← c.type_info.view_is, c.in-Custom.is, same) c.composite_field.ensures.exact;
       refused = rw (← c.type_info.view_is, c.in-Custom.is, why) c.composite_field.ensures.refused;
+      refused_exactly = rw (← c.type_info.view_is, c.in-Custom.is, same, why) c.composite_field.ensures.refused_exactly;
     }
