@@ -2,7 +2,7 @@
 use Rattle.std.proofs.Common.{◌≡◌, ℕ, ◌*◌, ◌/◌, ◌%◌, ◌==◌, ◌&&◌, Bool, true, false, List, length, Some, None, Result, Ok, Err, refl, sym, ◌∙◌, arith}
 use Rattle.std.proofs.lemmas.Bool.{and_parts, eqb-true}
 use Rattle.std.proofs.lemmas.List.Sums.{AllPass-from_list_all, list_all-from_AllPass}
-use Rattle.std.specs.Prelude.{nat_eq}
+use Rattle.std.specs.Prelude.{is_some, nat_eq}
 use Rattle.hex.specs.Hex.{decode_of, decode_sized, is_hex_digit}
 use Rattle.hex.specs.declared.error.FromHexError.{FromHexError}
 use Rattle.hex.proofs.HexLemmas.{decode_of-digits, decode_of-ok, decode_sized-twice}
@@ -32,23 +32,31 @@ two_each digits value is =
     let half : length digits / 2 ≡ length value = omega (arith, (decode_of-ok digits value is).2) in
     rw (is, half) refl
 
-of_pairs : (digits : List ℕ) → (length digits % 2 == 0 && all_digits digits) ≡ true → WrongLength (length digits / 2) ≡ length_refusal (where_ok (decode_of digits))
-of_pairs digits pairs =
+value_of_pairs : (digits : List ℕ) → (length digits % 2 == 0 && all_digits digits) ≡ true → (value : List ℕ) × (decode_of digits ≡ Ok value)
+value_of_pairs digits pairs =
     let parts = and_parts (length digits % 2 == 0) (all_digits digits) pairs in
-    let value = decode_of-digits digits (eqb-true (length digits % 2) 0 parts.0) (AllPass-from_list_all is_hex_digit digits parts.1) in
-    two_each digits value.0 value.1
+    decode_of-digits digits (eqb-true (length digits % 2) 0 parts.0) (AllPass-from_list_all is_hex_digit digits parts.1)
+
+of_pairs : (digits : List ℕ) → (length digits % 2 == 0 && all_digits digits) ≡ true → WrongLength (length digits / 2) ≡ length_refusal (where_ok (decode_of digits))
+of_pairs digits pairs = let value = value_of_pairs digits pairs in two_each digits value.0 value.1
+
+pub pairs_are_read : (text digits : List ℕ) → Some digits ≡ digits_after text → (length digits % 2 == 0 && all_digits digits) ≡ true → is_some (bytea_in_text text) ≡ true
+pairs_are_read text digits after pairs = rw (← after, (value_of_pairs digits pairs).1) refl
 
 -- all others stand for none
-of_others : (digits : List ℕ) → (length digits % 2 == 0 && all_digits digits) ≡ false → (r : Result (List ℕ) FromHexError) → decode_of digits ≡ r → Syntax ≡ length_refusal (where_ok r)
-of_others digits others (Err f) is = refl
-of_others digits others (Ok value) is =
+others_are_none : (digits : List ℕ) → (length digits % 2 == 0 && all_digits digits) ≡ false → (r : Result (List ℕ) FromHexError) → decode_of digits ≡ r → where_ok r ≡ None
+others_are_none digits others (Err f) is = refl
+others_are_none digits others (Ok value) is =
     let good = decode_of-ok digits value is in
     let all : all_digits digits ≡ true = list_all-from_AllPass is_hex_digit digits good.1 in
     let pairs : (length digits % 2 == 0 && all_digits digits) ≡ true = rw (good.0, all) refl in
     absurd (cc)
 
+pub others_not_read : (text digits : List ℕ) → Some digits ≡ digits_after text → (length digits % 2 == 0 && all_digits digits) ≡ false → bytea_in_text text ≡ None
+others_not_read text digits after others = rw (← after) (others_are_none digits others (decode_of digits) refl)
+
 pub refused_for_length : (text digits : List ℕ) → Some digits ≡ digits_after text → (length digits % 2 == 0 && all_digits digits) ≡ true → WrongLength (length digits / 2) ≡ length_refusal (bytea_in_text text)
 refused_for_length text digits after pairs = rw (← after) (of_pairs digits pairs)
 
 pub refused_for_digits : (text digits : List ℕ) → Some digits ≡ digits_after text → (length digits % 2 == 0 && all_digits digits) ≡ false → Syntax ≡ length_refusal (bytea_in_text text)
-refused_for_digits text digits after others = rw (← after) (of_others digits others (decode_of digits) refl)
+refused_for_digits text digits after others = rw (others_not_read text digits after others) refl

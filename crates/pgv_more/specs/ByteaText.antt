@@ -3,11 +3,10 @@
 -- Read: in binary any bytes. A text is `\x` and two hex digits of either case for each byte, the high one first
 -- (`IsByteaText`). Of N bytes another number is refused with C17, and a text that stands for no bytes with C29. Text without
 -- case is read as `text` is. Law: `bytea_text_is_read`.
-use Rattle.std.specs.Prelude.{◌≡◌, ◌↔◌, ℕ, ◌%◌, ◌==◌, ◌&&◌, nat_eq, Bool, true, false, List, [], ◌∷◌, length, Option, Some, None, Result, Ok, Err, if◌then◌else◌}
+use Rattle.std.specs.Prelude.{◌≡◌, ◌↔◌, ℕ, ◌==◌, ◌&&◌, nat_eq, Bool, List, [], ◌∷◌, length, Option, Some, None, Result, Ok, Err, if◌then◌else◌}
 use Rattle.std.specs.Option.{option_and_then}
 use Rattle.std.specs.List.{list_all}
 use Rattle.hex.specs.Hex.{decode_of, is_hex_digit}
-use Rattle.pgv_types.specs.Ty.{Ty}
 use Rattle.pgv_buf.specs.Tokens.{bytes}
 use Rattle.pgv_codec.specs.Image.{Image, image_of}
 use Rattle.pgv_value.specs.Reading.{Reading}
@@ -52,16 +51,6 @@ bytea_reading t Binary (Some value) = Some value
 abbrev pub bytea_refusal : PgValueFormat → Option (List ℕ) → CodecError
 bytea_refusal f None = UnexpectedNull
 bytea_refusal f (Some text) = Syntax
-
--- Where memory is asked for: in text only after `\x`, of an even number of digits.
-abbrev pub are_even : Option (List ℕ) → Bool
-are_even None = false
-are_even (Some digits) = length digits % 2 == 0
-
-abbrev pub bytea_takes : Ty → PgValueFormat → Option (List ℕ) → Bool
-bytea_takes t f None = false
-bytea_takes t Text (Some text) = are_even (digits_after text)
-bytea_takes t Binary (Some value) = true
 
 -- ---- strings of n bytes
 

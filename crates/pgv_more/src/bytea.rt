@@ -1,16 +1,15 @@
 //! Strings of bytes (PostgreSQL, "Binary Data Types", bytea).
 
-ghost use Rattle.std.specs.Prelude.{◌≡◌, IfErr, false};
+ghost use Rattle.std.specs.Prelude.{◌≡◌, ◌%◌, ◌==◌, ◌&&◌, IfErr, false, is_some, length};
 ghost use Rattle.pgv_value.specs.Reading.{Answers, AnswersExactly, Refuses};
 ghost use Rattle.pgv_value.specs.declared.error.CodecError.TheVariants.{Syntax};
-ghost use Rattle.pgv_more.specs.ByteaText.{are_even, bytea_in_text, digits_after};
+ghost use Rattle.pgv_more.specs.ByteaText.{all_digits, bytea_in_text, digits_after};
 ghost use Rattle.std.specs.Option.{option_copied};
 
 mod array;
 mod codec;
 
 pub use array::PgByteaArray;
-use hex::FromHexError;
 use pgv_value::CodecError;
 use std::alloc::Global;
 
@@ -28,19 +27,33 @@ fn digits_of(text: &[u8]) -> Option<&[u8]>
     }
 }
 
-/// The bytes of a text `\x00ff`.
+/// Whether each is a hex digit, of either case.
+fn are_digits(digits: &[u8]) -> bool
+    ensures { result ≡ all_digits digits.now }
+{
+    digits.iter().all(|digit| digit.is_ascii_hexdigit())
+}
+
+/// Whether they are pairs of hex digits.
+fn are_pairs(digits: &[u8]) -> bool
+    ensures { result ≡ (length digits.now % 2 == 0 && all_digits digits.now) }
+{
+    digits.len() % 2 == 0 && are_digits(digits)
+}
+
+/// The bytes of a text `\x00ff`. Pairs of digits are refused only where there is no memory for their bytes.
 fn of_text(alloc: Global, text: &[u8]) -> Result<PgBytea, CodecError>
     ensures exact { Answers (λ b. b.0.items) (bytea_in_text text.now) result }
-    ensures exactly { are_even (digits_after text.now) ≡ false → AnswersExactly (λ b. b.0.items) (bytea_in_text text.now) result }
+    ensures exactly { is_some (bytea_in_text text.now) ≡ false → AnswersExactly (λ b. b.0.items) (bytea_in_text text.now) result }
     ensures refused { IfErr result (λ e. Refuses e (e ≡ Syntax)) }
-    ensures refused_exactly { are_even (digits_after text.now) ≡ false → IfErr result (λ e. e ≡ Syntax) }
+    ensures refused_exactly { is_some (bytea_in_text text.now) ≡ false → IfErr result (λ e. e ≡ Syntax) }
 {
     let Some(digits) = digits_of(text) else {
         return Err(CodecError::Syntax);
     };
     match hex::decode(alloc, digits) {
         Ok(bytes) => Ok(PgBytea(bytes)),
-        Err(FromHexError::OutOfMemory) => Err(CodecError::Memory),
+        Err(_) if are_pairs(digits) => Err(CodecError::Memory),
         Err(_) => Err(CodecError::Syntax),
     }
 }

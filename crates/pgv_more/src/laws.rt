@@ -6,7 +6,7 @@ ghost use Rattle.pgv_types.specs.Ty.{Ty, builtin, named};
 ghost use Rattle.pgv_codec.specs.ScalarBinary.{text_image};
 ghost use Rattle.pgv_codec.specs.TypeRow.{IsBuiltIn, IsRefusedAs, IsWrittenAs, TakesNone};
 ghost use Rattle.pgv_value.specs.declared.error.CodecError.TheVariants.{OffsetRange};
-ghost use Rattle.pgv_more.specs.ByteaText.{bytea_reading, bytea_refusal, bytea_takes, sized_image, sized_reading, sized_refusal, ByteaTextIsRead, OneByteaText};
+ghost use Rattle.pgv_more.specs.ByteaText.{bytea_reading, bytea_refusal, sized_image, sized_reading, sized_refusal, ByteaTextIsRead, OneByteaText};
 ghost use Rattle.pgv_more.specs.BitsBinary.{bits_image, bits_hint, bits_refused, BitsAreRead, OneListOfBits};
 ghost use Rattle.pgv_more.specs.BitsText.{BitsAreReadOfText};
 ghost use Rattle.pgv_more.specs.BitsCodec.{is_bits, is_bits_array, bits_reading, bits_refusal};
@@ -101,7 +101,7 @@ pub fn bytea_is_a_bytea()
     ensures means { ⟦<crate::PgBytea as Decode>⟧.meaning ≡ (λ b. b.0.items) }
     ensures read { ⟦<crate::PgBytea as Decode>⟧.reading ≡ bytea_reading }
     ensures refused { IsRefusedAs bytea_refusal ⟦<crate::PgBytea as Decode>⟧.refusal }
-    ensures takes_memory { ⟦<crate::PgBytea as Decode>⟧.takes_memory ≡ bytea_takes }
+    ensures takes_memory { ⟦<crate::PgBytea as Decode>⟧.takes_memory ≡ (λ t f bytes. is_some (bytea_reading t f bytes)) }
 {}
 
 /// A `PgByteaArray` of `N` bytes is a bytea (OID 17) of so many.

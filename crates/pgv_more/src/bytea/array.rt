@@ -1,14 +1,14 @@
 //! Strings of a number of bytes that is known (PostgreSQL, "Binary Data Types", bytea).
 
-ghost use Rattle.std.specs.Prelude.{◌≡◌, ℕ, ◌%◌, ◌==◌, ◌&&◌, List, Some, IfErr, length, refl};
+ghost use Rattle.std.specs.Prelude.{◌≡◌, ℕ, List, Some, IfErr, length, refl};
 ghost use Rattle.pgv_types.specs.Ty.{builtin};
 ghost use Rattle.pgv_types.specs.Relations.{softly};
 ghost use Rattle.pgv_codec.specs.Saying.{plainly};
 ghost use Rattle.pgv_value.specs.Reading.{AnswersExactly};
 ghost use Rattle.pgv_value.specs.declared.error.CodecError.TheVariants.{WrongLength};
-ghost use Rattle.pgv_more.specs.ByteaText.{all_digits, bytea_in_text, length_refusal, of_length, sized_image, sized_reading, sized_refusal};
+ghost use Rattle.pgv_more.specs.ByteaText.{bytea_in_text, length_refusal, of_length, sized_image, sized_reading, sized_refusal};
 
-use super::digits_of;
+use super::{are_pairs, digits_of};
 use hex::FromHex;
 use pgv_codec::{Encode, IsNull, PgArgumentBuffer, PgHasArrayType, Plain, Type};
 use pgv_types::{PgType, PgTypeInfo};
@@ -18,20 +18,6 @@ use std::alloc::{AllocError, Global};
 /// A string of `N` bytes, such as a hash.
 #[derive(Clone, Copy, Debug, PartialEq)]
 pub struct PgByteaArray<const N: usize>(pub [u8; N]);
-
-/// Whether each is a hex digit, of either case.
-fn are_digits(digits: &[u8]) -> bool
-    ensures { result ≡ all_digits digits.now }
-{
-    digits.iter().all(|digit| digit.is_ascii_hexdigit())
-}
-
-/// Whether they are pairs of hex digits.
-fn are_pairs(digits: &[u8]) -> bool
-    ensures { result ≡ (length digits.now % 2 == 0 && all_digits digits.now) }
-{
-    digits.len() % 2 == 0 && are_digits(digits)
-}
 
 /// The bytes of a text `\x00ff`, of `N` bytes.
 fn of_text<const N: usize>(text: &[u8]) -> Result<PgByteaArray<N>, CodecError>

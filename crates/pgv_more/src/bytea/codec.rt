@@ -1,11 +1,11 @@
 //! Strings of bytes, written and read (PostgreSQL, "Binary Data Types", bytea).
 
-ghost use Rattle.std.specs.Prelude.{ℕ, List, refl};
+ghost use Rattle.std.specs.Prelude.{ℕ, List, is_some, refl};
 ghost use Rattle.pgv_types.specs.Ty.{builtin};
 ghost use Rattle.pgv_types.specs.Relations.{softly};
 ghost use Rattle.pgv_codec.specs.Saying.{plainly};
 ghost use Rattle.pgv_codec.specs.ScalarBinary.{text_image as plain_image};
-ghost use Rattle.pgv_more.specs.ByteaText.{bytea_reading, bytea_refusal, bytea_takes};
+ghost use Rattle.pgv_more.specs.ByteaText.{bytea_reading, bytea_refusal};
 
 use super::{PgBytea, of_text};
 use pgv_codec::{Encode, IsNull, PgArgumentBuffer, PgHasArrayType, Plain, Type};
@@ -76,7 +76,7 @@ impl Plain for PgBytea {
 
     ghost written = { plainly plain_image };
 
-    ghost takes_memory = { bytea_takes };
+    ghost takes_memory = { λ t format bytes. is_some (bytea_reading t format bytes) };
 
     ghost refusal = { bytea_refusal };
 
