@@ -9,7 +9,7 @@ ghost use Rattle.pgv_session.specs.RequestsView.{request_seen};
 ghost use Rattle.pgv_session.specs.Spelled.{Asks};
 
 use hex::FromHexError;
-use pgv_text::{NumberFault, unsigned_number_of};
+use pgv_text::unsigned_number_of;
 use pgv_types::Oid;
 use std::alloc::{AllocError, Global};
 
@@ -94,14 +94,9 @@ fn is_plus_first(text: &str) -> bool
 fn number(text: &str) -> Option<Oid>
     ensures { result ≡ oid_of (unsigned_value text.now) }
 {
-    match unsigned_number_of(text) {
-        Ok(number) => match u32::try_from(number) {
-            Ok(oid) => Some(Oid(oid)),
-            Err(_) => None,
-        },
-        Err(NumberFault::Syntax) => None,
-        Err(NumberFault::OutOfRange) => None,
-    }
+    let number = unsigned_number_of(text).ok()?;
+    let oid = u32::try_from(number).ok()?;
+    Some(Oid(oid))
 }
 
 /// OIDs with one space between them.

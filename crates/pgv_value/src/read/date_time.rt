@@ -28,10 +28,8 @@ const DAY: i64 = 86_400_000_000;
 fn date_after(days: i32) -> Option<Date>
     ensures { option_map epoch_day result ≡ day_after days }
 {
-    match jiff_core::civil::Date::from_unix_epoch_day(days as i64 + FIRST_DAY as i64) {
-        Ok(plain) => Some(Date::from_plain(plain)),
-        Err(_) => None,
-    }
+    let plain = jiff_core::civil::Date::from_unix_epoch_day(days as i64 + FIRST_DAY as i64);
+    plain.ok().map(Date::from_plain)
 }
 
 /// The time that many microseconds after midnight, round the clock: of 86400000001 it is one microsecond after midnight.
@@ -53,10 +51,8 @@ fn nanos_of(micros: i64) -> i128
 fn date_time_after(micros: i64) -> Option<DateTime>
     ensures { option_map civil_nanos result ≡ civil_at (nanos_after micros) }
 {
-    match jiff_core::civil::DateTime::from_nanosecond(nanos_of(micros)) {
-        Ok(plain) => Some(DateTime::from_plain(plain)),
-        Err(_) => None,
-    }
+    let plain = jiff_core::civil::DateTime::from_nanosecond(nanos_of(micros));
+    plain.ok().map(DateTime::from_plain)
 }
 
 /// The instant that many microseconds after 2000-01-01 00:00 UTC.

@@ -17,14 +17,14 @@ fn address_of(family: u8, count: u8, octets: &[u8]) -> Option<IpAddr>
     ensures { result ≡ address_binary family count octets.now }
 {
     match (family, count) {
-        (2, 4) => match <[u8; 4]>::try_from(octets) {
-            Ok(octets) => Some(IpAddr::V4(Ipv4Addr::from_octets(octets))),
-            Err(_) => None,
-        },
-        (3, 16) => match <[u8; 16]>::try_from(octets) {
-            Ok(octets) => Some(IpAddr::V6(Ipv6Addr::from_octets(octets))),
-            Err(_) => None,
-        },
+        (2, 4) => {
+            let octets = <[u8; 4]>::try_from(octets).ok()?;
+            Some(IpAddr::V4(Ipv4Addr::from_octets(octets)))
+        }
+        (3, 16) => {
+            let octets = <[u8; 16]>::try_from(octets).ok()?;
+            Some(IpAddr::V6(Ipv6Addr::from_octets(octets)))
+        }
         _ => None,
     }
 }
