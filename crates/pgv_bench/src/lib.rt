@@ -9,7 +9,6 @@ mod reading;
 mod seen;
 mod triple;
 mod types;
-mod values;
 mod writing;
 
 use copying::copies;

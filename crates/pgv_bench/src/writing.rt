@@ -1,8 +1,9 @@
 //! Values that are written.
 
 use crate::triple::Triple;
-use crate::values::{EmptyObject, Mood};
 use pgv_codec::{Encode, PgArgumentBuffer, Type};
+use pgv_examples::empty_object::EmptyObject;
+use pgv_examples::mood::Mood;
 use pgv_types::{Oid, PgType, PgTypeInfo};
 use pgv_value::CodecError;
 use pgv_wire::PgArguments;
@@ -197,7 +198,7 @@ fn own_types(alloc: Global, arguments: &PgArguments) -> Result<Vec<PgTypeInfo>, 
 pub fn patches(alloc: Global, n: u32, rounds: u32) -> Result<usize, CodecError> {
     let mut arguments = PgArguments::new(alloc);
     let mut moods = Vec::new(alloc);
-    moods.push(Mood::ok(alloc)?)?;
+    moods.push(Mood::Fine)?;
     let mut oids = Vec::new(alloc);
     for _ in 0..n {
         arguments.add_by_ref(&moods)?;

@@ -1,7 +1,7 @@
 //! Rows of calls on the arguments of a statement.
 
 use crate::first::shown;
-use crate::own::{Bounds, Listed, Stop};
+use crate::own::{Bounds, Listed};
 use jiff::civil::{Date, date};
 use pgv::types::{PgLTree, PgRange};
 use pgv::{CodecError, Encode, Oid, PgArguments, PgType, PgTypeInfo, PgValueFormat, PgValueRef};
@@ -164,9 +164,9 @@ fn add_range<T: Encode + Drop>(arguments: &mut PgArguments, start: T) -> Result<
     })
 }
 
-/// Adds a range of a value that is refused: itself at the depth 1, in a record at 2, in a list in that at 3, in a record of that at 4.
+/// Adds a range of a value that is refused with C38(38): itself at the depth 1, in a record at 2, in a list in that at 3, in a record of that at 4.
 fn add_stop(alloc: Global, arguments: &mut PgArguments, depth: u32) -> Result<(), CodecError> {
-    let stop = Stop { alloc, depth };
+    let stop = Size { alloc, number: 0 };
     match depth {
         1 => add_range(arguments, stop),
         2 => add_range(arguments, behind(alloc, stop)),
@@ -262,14 +262,14 @@ fn added(
     told_of(alloc, answer, arguments, &before, wanted)
 }
 
-/// Whether a value is refused with C38 of its depth.
+/// Whether a value is refused with C38(38) at a depth, and the arguments are as they were.
 fn stopped(alloc: Global, arguments: &mut PgArguments, depth: &str) -> Result<bool, Again> {
     let depth = depth.parse::<u32>().unwrap_or(0);
     let before = arguments.clone()?;
     let answer = add_stop(alloc, arguments, depth);
     let unmoved = unmoved(alloc, arguments, &before)?;
     match answer {
-        Err(CodecError::Caller(found)) => Ok(unmoved && found == depth),
+        Err(CodecError::Caller(found)) => Ok(unmoved && found == 38),
         Err(CodecError::Memory) if unmoved => Err(Again),
         _ => Ok(false),
     }

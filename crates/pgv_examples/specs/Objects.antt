@@ -1,7 +1,7 @@
 -- Empty objects of json and jsonb (PostgreSQL: "JSON Types", 8.14): a version, or a space, and two braces.
 use Rattle.std.specs.Prelude.{◌≡◌, ℕ, nat_eq, Bool, true, false, cond, if◌then◌else◌, List, [], ◌∷◌, ◌++◌, length, get_or, Option, Some, None, ⊤, refl}
 use Rattle.std.proofs.lemmas.Option.{same_Some}
-use Rattle.pgv.specs.Words.{Ty, builtin, softly, Token, byte, slot, Reading, Binary, ReadsBack, always, image_of, written_part}
+use Rattle.pgv.specs.Words.{Ty, builtin, softly, Token, byte, slot, Reading, PgValueFormat, Binary, CodecError, UnexpectedNull, Syntax, ReadsBack, always, image_of, written_part}
 
 -- a byte of any value, which is the slot's, and the braces
 abbrev pub braces : List ℕ → Option ⊤
@@ -10,6 +10,11 @@ braces bytes = if nat_eq (length bytes) 3 then (if nat_eq (get_or bytes 1 0) 123
 abbrev pub object_reading : Reading ⊤
 object_reading t f None = None
 object_reading t f (Some bytes) = braces bytes
+
+-- null is C13, and what is no object C29
+abbrev pub object_refusal : PgValueFormat → Option (List ℕ) → CodecError
+object_refusal f None = UnexpectedNull
+object_refusal f (Some bytes) = Syntax
 
 abbrev pub object_image : List Token
 object_image = slot (32 ∷ []) ((builtin 3802, 1 ∷ []) ∷ []) ∷ byte 123 ∷ byte 125 ∷ []

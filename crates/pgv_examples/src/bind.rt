@@ -1,6 +1,6 @@
 //! Binds the values of a statement: adds them, fills their holes, and gives the bytes that are sent.
 
-ghost use Rattle.std.specs.Prelude.{◌≡◌, ◌++◌, List, [], length, IfOk, OnOk, OnErr, codes};
+ghost use Rattle.std.specs.Prelude.{◌≡◌, ◌++◌, ◌<◌, ◌⊎◌, List, [], length, IfOk, IfErr, OnOk, OnErr, codes};
 ghost use Rattle.std.specs.Int.{w16, to_be_bytes};
 ghost use Rattle.pgv.specs.Words.{Added, Argument, Oid, builtin, array_of, frame, hole_types_of, shown, all_tokens, framed, early};
 ghost use Rattle.pgv_examples.specs.Known.{AreKnownOids, IsKnownOid};
@@ -75,7 +75,8 @@ fn oid_among(known: &[PgTypeInfo], wanted: &PgTypeInfo) -> Result<Oid, CodecErro
 /// What the message Bind has of its parameters (PostgreSQL, "Message Formats"): their number in two bytes, and their frames. C10 where
 /// there are more than 65535.
 pub fn parameters_of_bind(alloc: Global, arguments: &PgArguments) -> Result<Vec<u8>, CodecError>
-    ensures { IfOk result (λ message. message.items ≡ to_be_bytes w16 (length arguments.now) ++ shown (all_tokens arguments.now)) }
+    ensures ok { IfOk result (λ message. message.items ≡ to_be_bytes w16 (length arguments.now) ++ shown (all_tokens arguments.now)) }
+    ensures err { IfErr result (λ e. (e ≡ CodecError.Memory) ⊎ ((e ≡ CodecError.ParameterCount) × (65535 < length arguments.now))) }
 {
     let Ok(count) = u16::try_from(arguments.len()) else {
         return Err(CodecError::ParameterCount);

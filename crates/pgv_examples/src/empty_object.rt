@@ -7,8 +7,7 @@ ghost use Rattle.std.specs.Prelude.{◌≡◌, ◌++◌, [], ◌∷◌, OnOk, If
 ghost use Rattle.pgv.specs.Words.{builtin, blank, slot};
 
 use pgv::{
-    CodecError, Decode, Encode, IsNull, PgArgumentBuffer, PgType, PgTypeInfo, PgValueRef, ReadBack,
-    Type,
+    CodecError, Encode, IsNull, PgArgumentBuffer, PgType, PgTypeInfo, PgValueRef, Plain, Type,
 };
 use std::alloc::{AllocError, Global};
 
@@ -48,10 +47,11 @@ impl Type for EmptyObject {
 }
 
 impl Encode for EmptyObject {
-    ghost use Rattle.std.specs.Prelude.{Some, [], ◌∷◌};
-    ghost use Rattle.pgv.specs.Words.{builtin, byte, slot, image_of};
+    ghost use Rattle.std.specs.Prelude.{Some};
+    ghost use Rattle.pgv.specs.Words.{image_of};
+    ghost use Rattle.pgv_examples.specs.Objects.{object_image};
 
-    ghost image = { λ _. Some (image_of (slot (32 ∷ []) ((builtin 3802, 1 ∷ []) ∷ []) ∷ byte 123 ∷ byte 125 ∷ [])) };
+    ghost image = { λ _. Some (image_of object_image) };
 
     fn encode_by_ref(&self, out: &mut PgArgumentBuffer) -> Result<IsNull, CodecError> {
         push_version(self.alloc, out)?;
@@ -69,11 +69,11 @@ impl Encode for EmptyObject {
 }
 
 /// An empty object, whatever byte stands in front of its braces, in either format. Other bytes are refused with C29, and null
-/// with C13.
-impl Decode for EmptyObject {
-    ghost use Rattle.std.specs.Prelude.{⊤};
-    ghost use Rattle.pgv_examples.specs.Objects.{object_reading};
-    ghost use Rattle.pgv.specs.Words.{unwritten};
+/// with C13. An object comes back, whichever case its slot shows.
+impl Plain for EmptyObject {
+    ghost use Rattle.std.specs.Prelude.{⊤, Some, refl};
+    ghost use Rattle.pgv.specs.Words.{image_of, plainly};
+    ghost use Rattle.pgv_examples.specs.Objects.{object_back, object_image, object_reading, object_refusal};
 
     ghost Meaning = { ⊤ };
 
@@ -81,25 +81,19 @@ impl Decode for EmptyObject {
 
     ghost reading = { object_reading };
 
-    ghost written = { unwritten };
+    ghost written = { plainly (λ _. Some (image_of object_image)) };
 
-    fn decode(alloc: Global, value: PgValueRef<'_>) -> Result<EmptyObject, CodecError> {
+    ghost refusal = { object_refusal };
+
+    fn read(alloc: Global, value: PgValueRef<'_>) -> Result<EmptyObject, CodecError> {
         let bytes = value.as_bytes()?;
         if bytes.len() == 3 && bytes[1] == b'{' && bytes[2] == b'}' {
             return Ok(EmptyObject { alloc });
         }
         Err(CodecError::Syntax)
     }
-}
-
-/// An empty object comes back, whichever case its slot shows.
-impl ReadBack for EmptyObject {
-    ghost use Rattle.pgv.specs.Words.{always};
-    ghost use Rattle.pgv_examples.specs.Objects.{object_back};
-
-    ghost kept = { λ object. object };
-
-    ghost fits = { always };
 
     ghost reads_back = { object_back };
+
+    ghost agrees = { λ _. refl };
 }
