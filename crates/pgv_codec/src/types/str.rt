@@ -1,6 +1,7 @@
 //! Texts (PostgreSQL, "Character Types"): their bytes in UTF-8.
 
-ghost use Rattle.std.specs.Prelude.{◌≡◌, IfOk, IfErr, OnErr};
+ghost use Rattle.std.specs.Prelude.{◌≡◌, ℕ, List, is_some, refl, string_bytes, IfOk, IfErr, OnErr};
+ghost use Rattle.pgv_types.specs.Ty.{builtin};
 ghost use Rattle.pgv_codec.specs.Outcome.{Encoded};
 ghost use Rattle.pgv_value.specs.declared.error.CodecError.TheVariants.{Memory};
 ghost use Rattle.pgv_codec.specs.ScalarBinary.{text_image, is_text as is_text_type, is_text_array as is_text_array_type};
@@ -46,7 +47,6 @@ fn is_text_array(type_info: &PgTypeInfo) -> bool
 
 /// `text` (OID 25), read under `text`, `name`, `bpchar`, `varchar`, `unknown`, `citext` and domains over one of them.
 impl Type for String {
-    ghost use Rattle.pgv_types.specs.Ty.{builtin};
     ghost use Rattle.pgv_codec.specs.ScalarBinary.{is_text};
 
     ghost info = { builtin 25 };
@@ -65,7 +65,6 @@ impl Type for String {
 
 /// An array of them is `text[]` (OID 1009), read under each array of a type under which a text is read.
 impl PgHasArrayType for String {
-    ghost use Rattle.pgv_types.specs.Ty.{builtin};
     ghost use Rattle.pgv_codec.specs.ScalarBinary.{is_text_array};
 
     ghost array_info = { builtin 1009 };
@@ -83,9 +82,6 @@ impl PgHasArrayType for String {
 
 /// Written as its bytes: `hi` as `6869`.
 impl Encode for String {
-    ghost use Rattle.std.specs.Prelude.{string_bytes};
-    ghost use Rattle.pgv_codec.specs.ScalarBinary.{text_image};
-
     ghost image = { λ s. text_image (string_bytes s) };
 
     #[inline(always)]
@@ -107,12 +103,9 @@ impl Encode for String {
 /// A text (PostgreSQL, "Character Types"), the same in either format: bytes that are UTF-8, else C14: `6869` is `hi`. Null is refused
 /// with C13.
 impl Plain for String {
-    ghost use Rattle.std.specs.Prelude.{ℕ, List, is_some, refl};
     ghost use Rattle.pgv_value.specs.Utf8.{text_refusal};
-    ghost use Rattle.std.specs.String.{string_bytes};
     ghost use Rattle.pgv_value.specs.ScalarGrammar.{text_reading};
     ghost use Rattle.pgv_codec.specs.Saying.{plainly};
-    ghost use Rattle.pgv_codec.specs.ScalarBinary.{text_image};
     ghost use Rattle.pgv_codec.specs.BackScalars.{text_back};
 
     ghost Meaning = { List ℕ };
