@@ -4,10 +4,13 @@
 -- without a field at this place of a composite type, C25; four bytes that are missing C15; another OID than the composite's field
 -- has C26; an OID that is no built-in type's under `record` C28; a type that is no record C24; a type that isn't accepted C27. A
 -- frame says C15 or C16, and a part what its own type says. In text: C14 where it isn't UTF-8, C29 outside the grammar, and then
--- what a part's type says. Null is C13.
-use Rattle.std.specs.Prelude.{ℕ, zero, suc, nat_eq, nat_lt, Bool, true, false, ◌&&◌, ◌==◌, List, [], ◌∷◌, length, Option, Some, None, is_some, if◌then◌else◌}
+-- what a part's type says; without a field left C25. Null is C13.
+-- What asks for memory: the copy of a custom type, the list of an array's elements, a part of a record's text that has quotes or
+-- backslashes, and what a part's type asks for. What can't be read before that is always answered as itself.
+use Rattle.std.specs.Prelude.{ℕ, zero, suc, nat_eq, nat_lt, Bool, true, false, not, ◌&&◌, ◌||◌, ◌==◌, List, [], ◌∷◌, length, Option, Some, None, if◌then◌else◌}
 use Rattle.std.specs.Int.{w32, cast_signed}
 use Rattle.pgv_types.specs.Ty.{Ty, builtin, custom, named, by_oid, array_of, Kind, simple, pseudo, domain, composite, array as array_kind, enumeration, range}
+use Rattle.pgv_types.specs.Facts.{is_custom}
 use Rattle.pgv_text.specs.Values.{array_values}
 use Rattle.pgv_value.specs.FrameBinary.{Part, front, frame_fault}
 use Rattle.pgv_value.specs.Reading.{Reading}
@@ -49,11 +52,23 @@ abbrev pub head_refusal : Ty → List ℕ → CodecError
 head_refusal t bytes =
     refusal_or Short (number bytes) (λ dimensions. if nat_eq dimensions.0 1 then one_dimension_refusal t dimensions.1 else Dimensions (cast_signed w32 dimensions.0))
 
--- whether there is a head with a dimension; until there is one nothing is copied
-abbrev pub has_dimension : Option (Option Head) → Bool
-has_dimension None = false
-has_dimension (Some None) = false
-has_dimension (Some (Some h)) = true
+-- whether memory may be asked for under a type and in a format, of null or bytes
+abbrev pub Taking : Type 0
+Taking = Ty → PgValueFormat → Option (List ℕ) → Bool
+
+-- whether memory is asked for once there is a head with a dimension, by this head
+abbrev pub where_dimension : (Head → Bool) → Option (Option Head) → Bool
+where_dimension takes None = false
+where_dimension takes (Some None) = false
+where_dimension takes (Some (Some h)) = takes h
+
+-- to have a head, only where the elements' type is a custom one, which is copied
+abbrev pub copies_element : Head → Bool
+copies_element h = is_custom h.element
+
+abbrev pub one_copies : Option Head → Bool
+one_copies None = false
+one_copies (Some h) = copies_element h
 
 -- ---- arrays
 
@@ -91,11 +106,24 @@ of_length_refusal (Some ms) why = Some (ElementCount (length ms))
 abbrev pub array_of_length_refusal : {M : Type 0} → Ty → Reading M → Refusal → Refusal
 array_of_length_refusal info reading why t f bytes = of_length_refusal (array info reading t f bytes) (array_refusal info reading why t f bytes)
 
--- Where memory is asked for: in text only of a text of the grammar, and in binary only after a head with a dimension.
-abbrev pub array_takes : Ty → PgValueFormat → Option (List ℕ) → Bool
+-- the list has room for as many elements as the bytes can hold; where that is none, it asks for no memory
+abbrev pub has_room : ℕ → List ℕ → Bool
+has_room count bytes = nat_lt 0 count && nat_lt 3 (length bytes)
+
+-- after a head: the copy of a custom type, and the list
+abbrev pub head_takes : Head → Bool
+head_takes h = copies_element h || has_room h.count h.frames
+
+-- in text: the list, before its first element is read
+abbrev pub has_elements : Option (List Part) → Bool
+has_elements None = false
+has_elements (Some []) = false
+has_elements (Some (part ∷ parts)) = true
+
+abbrev pub array_takes : Taking
 array_takes t f None = false
-array_takes t Text (Some bytes) = is_utf8 bytes && is_some (array_values bytes)
-array_takes t Binary (Some bytes) = has_dimension (head t bytes)
+array_takes t Text (Some bytes) = is_utf8 bytes && has_elements (array_values bytes)
+array_takes t Binary (Some bytes) = where_dimension head_takes (head t bytes)
 
 -- ---- the fields of records
 
@@ -131,11 +159,11 @@ field_refusal accepts why t place bytes =
     refusal_or (Some (field_head_refusal t place bytes)) (field_head t place bytes)
     (λ h. if accepts h.0 then refusal_or (Some (frame_fault h.1)) (front h.1) (λ p. why h.0 Binary p.0) else Some MismatchedTypes)
 
--- The next field. Without one in text it is C25, with the number of fields that there were, which isn't stated here.
+-- the next field; without one in text it is C25, with the number of fields that the text has
 abbrev pub next_refusal : (Ty → Bool) → Refusal → Left → Option CodecError
 next_refusal accepts why (binary_fields t place bytes) = field_refusal accepts why t place bytes
-next_refusal accepts why (text_fields []) = None
-next_refusal accepts why (text_fields (part ∷ parts)) = why (by_oid 0) Text part
+next_refusal accepts why (text_fields n plain []) = Some (NoField n)
+next_refusal accepts why (text_fields n plain (part ∷ parts)) = why (by_oid 0) Text part
 
 -- a field, and then the rest
 abbrev pub field_then : {M : Type 0} → (Ty → Bool) → Reading M → Refusal → (Left → Option CodecError) → Left → Option CodecError
@@ -150,11 +178,36 @@ fields_refusal t Binary (Some bytes) = Short
 abbrev pub record_refusal : (Left → Option CodecError) → Refusal
 record_refusal why t f bytes = refusal_or (Some (fields_refusal t f bytes)) (fields_of t f bytes) why
 
--- Where memory is asked for: in binary only where there is a field of a type that is known, and in text only where there is a field.
-abbrev pub next_takes : Left → Bool
-next_takes (binary_fields t place bytes) = is_some (field_head t place bytes)
-next_takes (text_fields []) = false
-next_takes (text_fields (part ∷ parts)) = true
+-- ---- where records ask for memory
 
-abbrev pub record_takes : Ty → PgValueFormat → Option (List ℕ) → Bool
-record_takes t f bytes = refusal_or false (fields_of t f bytes) next_takes
+-- to have the type of a field, only where it is a custom one, which is copied
+abbrev pub is_copied : Option Ty → Bool
+is_copied None = false
+is_copied (Some t) = is_custom t
+
+abbrev pub copies_field : Option (Ty × List ℕ) → Bool
+copies_field None = false
+copies_field (Some h) = is_custom h.0
+
+-- of the part in front, where there is one
+abbrev pub front_takes : (Part → Bool) → List ℕ → Bool
+front_takes takes bytes = refusal_or false (front bytes) (λ p. takes p.0)
+
+-- of a field in binary: the copy of its type; and where that is accepted, its value
+abbrev pub field_takes : (Ty → Bool) → Taking → Option (Ty × List ℕ) → Bool
+field_takes accepts takes None = false
+field_takes accepts takes (Some h) = is_custom h.0 || (accepts h.0 && front_takes (takes h.0 Binary) h.1)
+
+-- of the next field; in text it may be copied where the text has quotes or backslashes
+abbrev pub next_takes : (Ty → Bool) → Taking → Left → Bool
+next_takes accepts takes (binary_fields t place bytes) = field_takes accepts takes (field_head t place bytes)
+next_takes accepts takes (text_fields n plain []) = false
+next_takes accepts takes (text_fields n plain (part ∷ parts)) = not plain || takes (by_oid 0) Text part
+
+-- of a field, and then of the rest
+abbrev pub takes_then : {M : Type 0} → (Ty → Bool) → Reading M → Taking → (Left → Bool) → Left → Bool
+takes_then accepts reading takes later left = next_takes accepts takes left || refusal_or false (next accepts reading left) (λ x. later x.1)
+
+-- of a whole record
+abbrev pub record_takes : (Left → Bool) → Taking
+record_takes takes t f bytes = refusal_or false (fields_of t f bytes) takes

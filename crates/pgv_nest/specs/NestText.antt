@@ -11,6 +11,7 @@ use Rattle.pgv_types.specs.Ty.{Ty, by_oid}
 use Rattle.pgv_text.specs.ArrayText.{IsArrayText}
 use Rattle.pgv_text.specs.NestText.{Pairwise}
 use Rattle.pgv_text.specs.RecordText.{IsRecordText}
+use Rattle.pgv_text.specs.Unquoted.{unquoted}
 use Rattle.pgv_value.specs.FrameBinary.{Part}
 use Rattle.pgv_value.specs.Reading.{Reading}
 use Rattle.pgv_value.specs.Utf8.{is_utf8}
@@ -63,10 +64,10 @@ TextIs {M} reading Is = (t : Ty) (bytes : List ℕ) (m : M) → (reading t Text 
 abbrev pub RecordTextBegins : Type 0
 RecordTextBegins =
     (t : Ty) (bytes : List ℕ) (left : Left) →
-    (fields_of t Text (Some bytes) ≡ Some left) ↔ ((parts : List Part) × (left ≡ text_fields parts) × (is_utf8 bytes ≡ true) × IsRecordText (chars bytes) parts)
+    (fields_of t Text (Some bytes) ≡ Some left) ↔ ((parts : List Part) × (left ≡ text_fields (length parts) (unquoted bytes) parts) × (is_utf8 bytes ≡ true) × IsRecordText (chars bytes) parts)
 
 -- The next field is the first part, and the others are left.
 abbrev pub TextFieldIsItsValue : {M : Type 0} → (Ty → Bool) → Reading M → Type 0
 TextFieldIsItsValue {M} accepts reading =
-    (parts : List Part) (m : M) (left : Left) →
-    (next accepts reading (text_fields parts) ≡ Some (m, left)) ↔ ((rest : List Part) × (left ≡ text_fields rest) × IsTextField reading parts m rest)
+    (n : ℕ) (plain : Bool) (parts : List Part) (m : M) (left : Left) →
+    (next accepts reading (text_fields n plain parts) ≡ Some (m, left)) ↔ ((rest : List Part) × (left ≡ text_fields n plain rest) × IsTextField reading parts m rest)

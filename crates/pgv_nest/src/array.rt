@@ -1,12 +1,13 @@
 //! The heads of arrays in binary (PostgreSQL, "Arrays"; array_send).
 
-ghost use Rattle.std.specs.Prelude.{◌≡◌, ◌≤◌, false, length, is_some, IfOk, IfErr, IfSome, option_map};
+ghost use Rattle.std.specs.Prelude.{◌≡◌, ◌≤◌, false, true, length, is_some, IfOk, IfErr, IfSome, option_map};
+ghost use Rattle.pgv_types.specs.Facts.{is_custom};
 ghost use Rattle.pgv_types.specs.Parts.{ref_type};
 ghost use Rattle.pgv_value.specs.Reading.{Answers, AnswersExactly, Refuses};
 ghost use Rattle.pgv_value.specs.declared.error.CodecError.TheVariants.{ElementType, Memory};
 ghost use Rattle.pgv_nest.specs.ArrayGrammar.{element_type, head, one_dimension};
 ghost use Rattle.pgv_nest.specs.HeadsView.{head_shown};
-ghost use Rattle.pgv_nest.specs.NestRefusals.{has_dimension, head_refusal, one_dimension_refusal};
+ghost use Rattle.pgv_nest.specs.NestRefusals.{copies_element, head_refusal, one_dimension_refusal, one_copies, where_dimension};
 
 use pgv_types::{Oid, PgTypeInfo, PgTypeRef};
 use pgv_value::{CodecError, u32_in_front};
@@ -27,16 +28,17 @@ pub struct ArrayHead<'a> {
 
 /// The head of an array, or none where it has no dimensions and so no elements. Bytes that end too early are refused with
 /// C15, a negative number of elements with C16, more dimensions than one with C19, a lower bound other than 1 with C20, and elements of
-/// a type that neither the OID nor the array's type gives with C21. C1 comes only where there is a whole head: it copies a custom type.
+/// a type that neither the OID nor the array's type gives with C21. C1 comes only where the
+/// elements are of a custom type, which is copied.
 #[tactic(auto, unfolding(crate::specs::ArrayGrammar::head))]
 pub fn array_head_of<'a>(
     type_info: &PgTypeInfo,
     bytes: &'a [u8],
 ) -> Result<Option<ArrayHead<'a>>, CodecError>
     ensures exact { Answers (option_map head_shown) (head type_info.now bytes.now) result }
-    ensures exactly { has_dimension (head type_info.now bytes.now) ≡ false → AnswersExactly (option_map head_shown) (head type_info.now bytes.now) result }
+    ensures exactly { where_dimension copies_element (head type_info.now bytes.now) ≡ false → AnswersExactly (option_map head_shown) (head type_info.now bytes.now) result }
     ensures refused { IfErr result (λ e. Refuses e (e ≡ head_refusal type_info.now bytes.now)) }
-    ensures refused_exactly { has_dimension (head type_info.now bytes.now) ≡ false → IfErr result (λ e. e ≡ head_refusal type_info.now bytes.now) }
+    ensures refused_exactly { where_dimension copies_element (head type_info.now bytes.now) ≡ false → IfErr result (λ e. e ≡ head_refusal type_info.now bytes.now) }
     ensures within { IfOk result (λ found. IfSome found (λ h. length h.frames.now ≤ length bytes.now)) }
 {
     let (dimensions, rest) = u32_in_front(bytes)?;
@@ -54,8 +56,9 @@ fn one_dimension_of<'a>(
     bytes: &'a [u8],
 ) -> Result<ArrayHead<'a>, CodecError>
     ensures exact { Answers head_shown (one_dimension type_info.now bytes.now) result }
+    ensures exactly { one_copies (one_dimension type_info.now bytes.now) ≡ false → AnswersExactly head_shown (one_dimension type_info.now bytes.now) result }
     ensures refused { IfErr result (λ e. Refuses e (e ≡ one_dimension_refusal type_info.now bytes.now)) }
-    ensures refused_exactly { is_some (one_dimension type_info.now bytes.now) ≡ false → IfErr result (λ e. e ≡ one_dimension_refusal type_info.now bytes.now) }
+    ensures refused_exactly { one_copies (one_dimension type_info.now bytes.now) ≡ false → IfErr result (λ e. e ≡ one_dimension_refusal type_info.now bytes.now) }
     ensures within { IfOk result (λ h. length h.frames.now ≤ length bytes.now) }
 {
     let (_flags, rest) = u32_in_front(bytes)?;
@@ -93,7 +96,7 @@ fn element_type_of(type_info: &PgTypeInfo, oid: Oid) -> Result<PgTypeRef<'_>, Co
 /// The type itself. One that is borrowed is copied.
 fn owned(type_ref: PgTypeRef<'_>) -> Result<PgTypeInfo, CodecError>
     ensures ok { IfOk result (λ t. t ≡ ref_type type_ref.entry) }
-    ensures err { IfErr result (λ e. e ≡ Memory) }
+    ensures err { IfErr result (λ e. (e ≡ Memory) × (is_custom (ref_type type_ref.entry) ≡ true)) }
 {
     match type_ref {
         PgTypeRef::Owned(type_info) => Ok(type_info),

@@ -1,9 +1,9 @@
 //! The fields of records in binary, up to their frames (PostgreSQL, "Composite Types"; record_send).
 
-ghost use Rattle.std.specs.Prelude.{◌≡◌, ◌+◌, false, length, slice_get, is_some, Some, None, IfOk, IfErr, option_map};
+ghost use Rattle.std.specs.Prelude.{◌≡◌, ◌+◌, false, length, slice_get, Some, None, IfOk, IfErr, option_map};
 ghost use Rattle.pgv_types.specs.Facts.{oid_of};
 ghost use Rattle.pgv_value.specs.Reading.{Answers, AnswersExactly, Refuses};
-ghost use Rattle.pgv_nest.specs.NestRefusals.{by_own_oid_refusal, composite_refusal, field_head_refusal, field_type_refusal};
+ghost use Rattle.pgv_nest.specs.NestRefusals.{by_own_oid_refusal, composite_refusal, copies_field, field_head_refusal, field_type_refusal, is_copied};
 ghost use Rattle.pgv_nest.specs.RecordGrammar.{by_own_oid, field_head, field_type, if_oid, is_oid};
 
 use pgv_types::{Oid, PgType, PgTypeInfo, PgTypeKindRef};
@@ -15,8 +15,8 @@ const RECORD: Oid = Oid(2249);
 
 /// The type of the next field of a record, the one at `place`, and the bytes after its OID. Where no byte is left, or a composite
 /// type has no field at this place, it is refused with C25, bytes that end too early with C15, another OID than the composite's field
-/// has with C26, an OID that is no built-in type's under `record` with C28, and a type that is no record with C24. C1 comes only where
-/// there is a field of this type: it copies a composite's.
+/// has with C26, an OID that is no built-in type's under `record` with C28, and a type that is no record with C24. C1 comes only of
+/// a field of a custom type, which is copied.
 #[tactic(auto, unfolding(crate::specs::RecordGrammar::field_head))]
 pub fn field_head_of<'r>(
     type_info: &PgTypeInfo,
@@ -24,8 +24,9 @@ pub fn field_head_of<'r>(
     bytes: &'r [u8],
 ) -> Result<(PgTypeInfo, &'r [u8]), CodecError>
     ensures exact { Answers (λ h. (h.0, h.1.now)) (field_head type_info.now place bytes.now) result }
+    ensures exactly { copies_field (field_head type_info.now place bytes.now) ≡ false → AnswersExactly (λ h. (h.0, h.1.now)) (field_head type_info.now place bytes.now) result }
     ensures refused { IfErr result (λ e. Refuses e (e ≡ field_head_refusal type_info.now place bytes.now)) }
-    ensures refused_exactly { is_some (field_head type_info.now place bytes.now) ≡ false → IfErr result (λ e. e ≡ field_head_refusal type_info.now place bytes.now) }
+    ensures refused_exactly { copies_field (field_head type_info.now place bytes.now) ≡ false → IfErr result (λ e. e ≡ field_head_refusal type_info.now place bytes.now) }
     ensures shorter { IfOk result (λ h. length h.1.now + 4 ≡ length bytes.now) }
 {
     if bytes.is_empty() {
@@ -38,8 +39,9 @@ pub fn field_head_of<'r>(
 /// The type of the field at a place that has this OID.
 fn field_type_of(type_info: &PgTypeInfo, place: usize, oid: Oid) -> Result<PgTypeInfo, CodecError>
     ensures exact { Answers (λ t. t) (field_type type_info.now place oid.0) result }
+    ensures exactly { is_copied (field_type type_info.now place oid.0) ≡ false → AnswersExactly (λ t. t) (field_type type_info.now place oid.0) result }
     ensures refused { IfErr result (λ e. Refuses e (e ≡ field_type_refusal type_info.now place oid.0)) }
-    ensures refused_exactly { is_some (field_type type_info.now place oid.0) ≡ false → IfErr result (λ e. e ≡ field_type_refusal type_info.now place oid.0) }
+    ensures refused_exactly { is_copied (field_type type_info.now place oid.0) ≡ false → IfErr result (λ e. e ≡ field_type_refusal type_info.now place oid.0) }
 {
     match &type_info.0 {
         PgType::Record => by_own_oid_of(RECORD, oid),
@@ -74,8 +76,9 @@ fn composite_field(
     oid: Oid,
 ) -> Result<PgTypeInfo, CodecError>
     ensures exact { Answers (λ t. t) (if_oid (option_map (λ field. field.1) (slice_get fields.now place)) oid.0) result }
+    ensures exactly { is_copied (if_oid (option_map (λ field. field.1) (slice_get fields.now place)) oid.0) ≡ false → AnswersExactly (λ t. t) (if_oid (option_map (λ field. field.1) (slice_get fields.now place)) oid.0) result }
     ensures refused { IfErr result (λ e. Refuses e (e ≡ composite_refusal place (option_map (λ field. field.1) (slice_get fields.now place)))) }
-    ensures refused_exactly { is_some (if_oid (option_map (λ field. field.1) (slice_get fields.now place)) oid.0) ≡ false → IfErr result (λ e. e ≡ composite_refusal place (option_map (λ field. field.1) (slice_get fields.now place))) }
+    ensures refused_exactly { is_copied (if_oid (option_map (λ field. field.1) (slice_get fields.now place)) oid.0) ≡ false → IfErr result (λ e. e ≡ composite_refusal place (option_map (λ field. field.1) (slice_get fields.now place))) }
 {
     let Some((_name, type_info)) = fields.get(place) else {
         return Err(CodecError::NoField(place));

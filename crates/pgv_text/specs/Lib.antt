@@ -9,6 +9,7 @@ pub mod Scan
 pub mod Parsed
 pub mod ContentText
 pub mod Values
+pub mod Unquoted
 pub mod PartsLeftView
 pub mod PartsView
 pub mod PartFound

@@ -13,6 +13,7 @@ returns-in-Composite t c =
     let why = composite_why custom.oid.0 (kind_of custom.kind) c.in-Composite.fields.now c.args.place c.args.oid.0 kind in
     record {
       exact = rw (← c.type_info.view_is, c.in-Custom.is, same) c.composite_field.ensures.exact;
+      exactly = rw (← c.type_info.view_is, c.in-Custom.is, same) c.composite_field.ensures.exactly;
       refused = rw (← c.type_info.view_is, c.in-Custom.is, why) c.composite_field.ensures.refused;
       refused_exactly = rw (← c.type_info.view_is, c.in-Custom.is, same, why) c.composite_field.ensures.refused_exactly;
     }

@@ -9,3 +9,9 @@ unfolding field_head
 returns-then-is_empty-clause-exact c =
     let none : length c.args.bytes.now ≡ 0 = grind (arith, common_steps) in
     rw (no_number c.args.bytes.now none) refl
+
+pub returns-then-is_empty-clause-exactly : goal.returns-then-is_empty-clause-exactly
+unfolding field_head
+returns-then-is_empty-clause-exactly c isnt =
+    let none : length c.args.bytes.now ≡ 0 = grind (arith, common_steps) in
+    rw (no_number c.args.bytes.now none) refl
