@@ -6,4 +6,4 @@ pub mod FrameLoop
 pub mod PartLoop
 pub mod PlainFits
 pub mod Refusing
-pub mod NoField
+pub mod Taking

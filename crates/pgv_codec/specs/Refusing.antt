@@ -11,7 +11,7 @@ use Rattle.pgv_value.specs.Utf8.{is_utf8}
 use Rattle.pgv_value.specs.declared.error.CodecError.{CodecError}
 use Rattle.pgv_value.specs.declared.error.CodecError.TheVariants.{ValueSize, ArrayLength, FieldCount, UnexpectedNull, Utf8}
 use Rattle.pgv_value.specs.declared.value.PgValueFormat.{PgValueFormat}
-use Rattle.pgv_nest.specs.NestRefusals.{Refusal}
+use Rattle.pgv_nest.specs.NestRefusals.{Refusal, Taking}
 use Rattle.pgv_codec.specs.Image.{Image, null_image, image_of, frame, limit}
 
 -- an error is the refusal that is stated, or out of memory
@@ -68,10 +68,6 @@ text_refusal_or other f (Some text) = if is_utf8 text then other else Utf8
 abbrev pub nullable_refusal : Refusal → Refusal
 nullable_refusal refusal t f None = None
 nullable_refusal refusal t f (Some bytes) = refusal t f (Some bytes)
-
--- whether memory may be asked for under a type and in a format, of null or bytes
-abbrev pub Taking : Type 0
-Taking = Ty → PgValueFormat → Option (List ℕ) → Bool
 
 abbrev pub nullable_takes : Taking → Taking
 nullable_takes takes t f None = false

@@ -7,9 +7,8 @@ use Rattle.pgv_types.specs.Ty.{Ty, builtin}
 use Rattle.pgv_types.specs.Relations.{softly}
 use Rattle.pgv_value.specs.declared.error.CodecError.{CodecError}
 use Rattle.pgv_value.specs.declared.value.PgValueFormat.{PgValueFormat}
-use Rattle.pgv_nest.specs.NestRefusals.{Refusal}
+use Rattle.pgv_nest.specs.NestRefusals.{Refusal, Taking}
 use Rattle.pgv_codec.specs.Image.{Image}
-use Rattle.pgv_codec.specs.Refusing.{Taking}
 
 -- values have the built-in type of this OID, and are read under each type that is softly equal to it
 abbrev pub IsBuiltIn : ℕ → Ty → (Ty → Bool) → Type 0

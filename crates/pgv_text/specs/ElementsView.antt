@@ -16,6 +16,12 @@ ahead_of false bytes = option_map (values_from array_form bytes) (read array_for
 abbrev pub ahead : Elements → Option (List (Option (List ℕ)))
 ahead e = ahead_of e.ended e.rest.now
 
+-- whether that is no element, and the end
+abbrev pub is_end : Option (List (Option (List ℕ))) → Bool
+is_end None = false
+is_end (Some []) = true
+is_end (Some (value ∷ values)) = false
+
 -- how far the end is at most
 abbrev pub distance : Elements → ℕ
 distance e = cond e.ended 0 (1 + length e.rest.now)

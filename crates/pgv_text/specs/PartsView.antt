@@ -6,6 +6,7 @@ use Rattle.pgv_text.specs.declared.scanner.TextForm.TheVariants.{Array, Range, R
 use Rattle.pgv_text.specs.ContentText.{Content, RangeContent, empty, parts}
 use Rattle.pgv_text.specs.NestText.{Nest}
 use Rattle.pgv_text.specs.PartsLeftView.{values_left}
+use Rattle.pgv_text.specs.Unquoted.{unquoted}
 
 abbrev pub nest : Parts → Nest
 nest p = record { values = values_left p.form p.rest.now; lower = p.lower_included; upper = p.upper_included }
@@ -23,3 +24,7 @@ abbrev pub content : (form : TextForm) → Parts → Content form
 content Array p = nest p
 content Range p = empty_or (is_of_empty p) (nest p)
 content Record p = nest p
+
+-- no quote and no backslash is among the bytes that are left
+abbrev pub is_unquoted : Parts → Bool
+is_unquoted p = unquoted p.rest.now

@@ -3,7 +3,7 @@
 ghost use Rattle.std.specs.Prelude.{◌≡◌, ◌<◌, ℕ, List, IfOk, None, OnErr, false, length, string_bytes, true};
 ghost use Rattle.std.specs.Option.{MatchOption};
 ghost use Rattle.pgv_text.specs.ArrayText.{array_form};
-ghost use Rattle.pgv_text.specs.ElementsView.{Follows, ahead};
+ghost use Rattle.pgv_text.specs.ElementsView.{Follows, ahead, is_end};
 ghost use Rattle.pgv_text.specs.PartFound.{IsEndOf, halts, part_value};
 ghost use Rattle.pgv_text.specs.Scan.{value_here};
 ghost use Rattle.pgv_text.specs.Values.{array_values};
@@ -51,6 +51,14 @@ impl<'a> Elements<'a> {
         } else {
             None
         }
+    }
+
+    /// Whether the end comes next, so that no element is left.
+    #[inline(always)]
+    pub fn is_at_end(&self) -> bool
+        ensures { result ≡ is_end (ahead self.now) }
+    {
+        self.ended
     }
 
     /// Goes on after the part that ends at this stop.

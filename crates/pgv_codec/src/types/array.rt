@@ -1,13 +1,13 @@
 //! Arrays of one dimension (PostgreSQL, "Arrays").
 
-ghost use Rattle.std.specs.Prelude.{◌≡◌, IfOk, IfErr, OnOk, OnErr, ◌*◌, ◌≤◌, false, true, length, map, Some, None, IfSome, is_some, IsErrOf, List};
+ghost use Rattle.std.specs.Prelude.{◌≡◌, IfOk, IfErr, OnOk, OnErr, ◌*◌, ◌≤◌, false, true, length, map, Some, None, [], IfSome, is_some, IsErrOf, List};
 ghost use Rattle.std.specs.Vec.{with_items};
 ghost use Rattle.pgv_text.specs.Values.{array_values};
 ghost use Rattle.pgv_value.specs.Reading.{Answers, AnswersExactly};
 ghost use Rattle.pgv_value.specs.declared.error.CodecError.TheVariants.{Memory, UnexpectedNull};
 ghost use Rattle.pgv_value.specs.declared.value.PgValueFormat.TheVariants.{Binary, Text};
 ghost use Rattle.pgv_nest.specs.ArrayGrammar.{array, array_in_text, array_of, frames, head, array_of_length};
-ghost use Rattle.pgv_nest.specs.NestRefusals.{array_bytes_refusal, array_refusal, array_takes, array_text_refusal, frames_refusal as frames_read_refusal, has_dimension, array_of_length_refusal};
+ghost use Rattle.pgv_nest.specs.NestRefusals.{array_bytes_refusal, array_refusal, array_takes, array_text_refusal, frames_refusal as frames_read_refusal, has_elements, has_room, head_takes, where_dimension, array_of_length_refusal};
 ghost use Rattle.pgv_codec.specs.Image.{array_image, or_else, header, written_frames, written_element_type, sized_image};
 ghost use Rattle.pgv_codec.specs.Outcome.{Encoded, Refused, Appended, AppendedAll};
 ghost use Rattle.pgv_codec.specs.Refusing.{RefusedExactly, RefusedFor, array_refused, frames_refused};
@@ -240,15 +240,16 @@ impl<T: Codec + PgHasArrayType, const N: usize> Codec for [T; N] {
 }
 
 /// An array in binary.
+#[tactic(auto, using(crate::proofs::Taking::head_free))]
 fn read_array<T: Decode>(
     alloc: Global,
     type_info: &PgTypeInfo,
     bytes: &[u8],
 ) -> Result<Vec<T>, CodecError>
     ensures exact { Answers (λ v. map T.meaning v.items) (array_of (λ u. T.reading u Binary) type_info.now bytes.now) result }
-    ensures exactly { has_dimension (head type_info.now bytes.now) ≡ false → AnswersExactly (λ v. map T.meaning v.items) (array_of (λ u. T.reading u Binary) type_info.now bytes.now) result }
+    ensures exactly { where_dimension head_takes (head type_info.now bytes.now) ≡ false → AnswersExactly (λ v. map T.meaning v.items) (array_of (λ u. T.reading u Binary) type_info.now bytes.now) result }
     ensures refused { RefusedFor (array_bytes_refusal (λ u. T.reading u Binary) (λ u. T.refusal u Binary) type_info.now bytes.now) result }
-    ensures refused_exactly { has_dimension (head type_info.now bytes.now) ≡ false → RefusedExactly (array_bytes_refusal (λ u. T.reading u Binary) (λ u. T.refusal u Binary) type_info.now bytes.now) result }
+    ensures refused_exactly { where_dimension head_takes (head type_info.now bytes.now) ≡ false → RefusedExactly (array_bytes_refusal (λ u. T.reading u Binary) (λ u. T.refusal u Binary) type_info.now bytes.now) result }
     ensures few { IfOk result (λ v. 4 * length v.items ≤ length bytes.now) }
 {
     match array_head_of(type_info, bytes)? {
@@ -257,8 +258,31 @@ fn read_array<T: Decode>(
     }
 }
 
-/// As many frames as the head says. Room is asked for as many elements as the bytes can hold at most, whatever the count says.
+/// As many frames as the head says. Without one, or without the length of one, no memory is asked for.
+#[tactic(auto, unfolding(pgv_nest::specs::ArrayGrammar::frames, pgv_nest::specs::NestRefusals::frames_refusal, pgv_value::specs::FrameBinary::front))]
 fn read_frames<T: Decode>(
+    alloc: Global,
+    element: &PgTypeInfo,
+    count: u32,
+    bytes: &[u8],
+) -> Result<Vec<T>, CodecError>
+    ensures exact { Answers (λ v. map T.meaning v.items) (frames (T.reading element.now Binary) count bytes.now) result }
+    ensures exactly { has_room count bytes.now ≡ false → AnswersExactly (λ v. map T.meaning v.items) (frames (T.reading element.now Binary) count bytes.now) result }
+    ensures refused { RefusedFor (frames_read_refusal (T.reading element.now Binary) (T.refusal element.now Binary) count bytes.now) result }
+    ensures refused_exactly { has_room count bytes.now ≡ false → RefusedExactly (frames_read_refusal (T.reading element.now Binary) (T.refusal element.now Binary) count bytes.now) result }
+    ensures few { IfOk result (λ v. 4 * length v.items ≤ length bytes.now) }
+{
+    if count == 0 {
+        return Ok(Vec::new(alloc));
+    }
+    if bytes.len() < 4 {
+        return Err(CodecError::Short);
+    }
+    read_in_room(alloc, element, count, bytes)
+}
+
+/// The same in a list with room for as many elements as the bytes can hold at most, whatever the count says.
+fn read_in_room<T: Decode>(
     alloc: Global,
     element: &PgTypeInfo,
     count: u32,
@@ -278,17 +302,34 @@ fn read_frames<T: Decode>(
     Ok(items)
 }
 
-/// An array in text. That a text is none (C29) goes before why a part is refused, or that memory is.
+/// An array in text. That a text is none (C29) goes before why a part is refused, or that memory is. One without elements asks for
+/// none.
+#[tactic(auto, unfolding(pgv_nest::specs::ArrayGrammar::each))]
 fn read_text<T: Decode + Type>(alloc: Global, text: &str) -> Result<Vec<T>, CodecError>
     ensures exact { Answers (λ v. map T.meaning v.items) (array_in_text (T.reading T.info Text) text.now) result }
-    ensures exactly { is_some (array_values text.now) ≡ false → AnswersExactly (λ v. map T.meaning v.items) (array_in_text (T.reading T.info Text) text.now) result }
+    ensures exactly { has_elements (array_values text.now) ≡ false → AnswersExactly (λ v. map T.meaning v.items) (array_in_text (T.reading T.info Text) text.now) result }
     ensures refused { RefusedFor (array_text_refusal (T.reading T.info Text) (T.refusal T.info Text) text.now) result }
-    ensures refused_exactly { is_some (array_values text.now) ≡ false → RefusedExactly (array_text_refusal (T.reading T.info Text) (T.refusal T.info Text) text.now) result }
+    ensures refused_exactly { has_elements (array_values text.now) ≡ false → RefusedExactly (array_text_refusal (T.reading T.info Text) (T.refusal T.info Text) text.now) result }
 {
+    if is_empty_array(text) {
+        return Ok(Vec::new(alloc));
+    }
     match read_elements(alloc, text) {
         Ok(items) => Ok(items),
         Err(error) if is_array_text(text) => Err(error),
         Err(_) => Err(CodecError::Syntax),
+    }
+}
+
+/// Whether a text is that of an array without elements.
+#[inline(always)]
+fn is_empty_array(text: &str) -> bool
+    ensures empty { result ≡ true → array_values text.now ≡ Some [] }
+    ensures others { result ≡ false → has_elements (array_values text.now) ≡ is_some (array_values text.now) }
+{
+    match Elements::of_text(text) {
+        Some(elements) => elements.is_at_end(),
+        None => false,
     }
 }
 
@@ -299,6 +340,9 @@ fn is_array_text(text: &str) -> bool
     Parts::new(TextForm::Array, text).is_some()
 }
 
+/// For how many elements of a text the list has room before the first is read.
+const FIRST_ROOM: usize = 4;
+
 /// The elements of a text, each read under the own type of `T` as it comes: the text is not tested before.
 fn read_elements<T: Decode + Type>(alloc: Global, text: &str) -> Result<Vec<T>, CodecError>
     ensures exact { Answers (λ v. map T.meaning v.items) (array_in_text (T.reading T.info Text) text.now) result }
@@ -307,7 +351,7 @@ fn read_elements<T: Decode + Type>(alloc: Global, text: &str) -> Result<Vec<T>, 
     let Some(mut elements) = Elements::of_text(text) else {
         return Err(CodecError::Syntax);
     };
-    let mut items = Vec::new(alloc);
+    let mut items = Vec::with_capacity(alloc, FIRST_ROOM)?;
     let mut unquoted = String::new(alloc);
     loop {
         match elements.next_borrowed(&mut unquoted)? {

@@ -1,12 +1,12 @@
 //! The fields of a record, read one after another into a list of values of any types.
 
-ghost use Rattle.std.specs.Prelude.{◌≡◌, Option, IfOk, IfErr, OnErr, None, IsErrOf, false};
+ghost use Rattle.std.specs.Prelude.{◌≡◌, Bool, Option, IfOk, IfErr, OnErr, None, IsErrOf, false};
 ghost use Rattle.pgv_value.specs.Reading.{Answers, AnswersExactly, Refuses};
 ghost use Rattle.pgv_value.specs.declared.error.CodecError.{CodecError as Error};
 ghost use Rattle.pgv_value.specs.declared.error.CodecError.TheVariants.{UnexpectedNull};
 ghost use Rattle.pgv_nest.specs.RecordGrammar.{Left};
 ghost use Rattle.pgv_nest.specs.TupleGrammar.{record_of};
-ghost use Rattle.pgv_nest.specs.NestRefusals.{next_takes, record_refusal, record_takes};
+ghost use Rattle.pgv_nest.specs.NestRefusals.{record_refusal, record_takes};
 ghost use Rattle.pgv_codec.specs.Refusing.{RefusedExactly, RefusedFor};
 
 use super::record::PgRecordDecoder;
@@ -29,18 +29,21 @@ pub trait FieldList: Sized + Drop {
     /// Which refusal is answered, out of memory aside: none where a field doesn't state it.
     ghost why: { Left → Option Error };
 
+    /// Whether memory may be asked for.
+    ghost takes: { Left → Bool };
+
     /// Reads the next fields. What a refusal leaves of the decoder is left open.
     fn read(fields: &mut PgRecordDecoder<'_>) -> Result<Self, CodecError>
         ensures ok { IfOk result (λ list. step fields.old ≡ Some (meaning list, fields.new)) }
         ensures err { IfErr result (λ e. Refuses e (step fields.old ≡ None)) }
-        ensures exactly { next_takes fields.old ≡ false → OnErr result (step fields.old ≡ None) }
+        ensures exactly { takes fields.old ≡ false → OnErr result (step fields.old ≡ None) }
         ensures refused { RefusedFor (why fields.old) result }
-        ensures refused_exactly { next_takes fields.old ≡ false → RefusedExactly (why fields.old) result };
+        ensures refused_exactly { takes fields.old ≡ false → RefusedExactly (why fields.old) result };
 }
 
 /// The last field.
 impl<A: Type + Decode> FieldList for (A,) {
-    ghost use Rattle.pgv_nest.specs.NestRefusals.{next_refusal};
+    ghost use Rattle.pgv_nest.specs.NestRefusals.{next_refusal, next_takes};
     ghost use Rattle.pgv_nest.specs.RecordGrammar.{next};
 
     ghost Meaning = { A.Meaning };
@@ -51,8 +54,9 @@ impl<A: Type + Decode> FieldList for (A,) {
 
     ghost why = { next_refusal A.accepts A.refusal };
 
+    ghost takes = { next_takes A.accepts A.takes_memory };
+
     #[inline(always)]
-    #[tactic(auto, using(crate::proofs::NoField::no_field))]
     fn read(fields: &mut PgRecordDecoder<'_>) -> Result<(A,), CodecError> {
         Ok((fields.try_decode::<A>()?,))
     }
@@ -60,7 +64,7 @@ impl<A: Type + Decode> FieldList for (A,) {
 
 /// A field and the rest.
 impl<A: Type + Decode, Rest: FieldList> FieldList for (A, Rest) {
-    ghost use Rattle.pgv_nest.specs.NestRefusals.{field_then};
+    ghost use Rattle.pgv_nest.specs.NestRefusals.{field_then, takes_then};
     ghost use Rattle.pgv_nest.specs.RecordGrammar.{next};
     ghost use Rattle.pgv_nest.specs.TupleGrammar.{◌then◌};
 
@@ -72,8 +76,9 @@ impl<A: Type + Decode, Rest: FieldList> FieldList for (A, Rest) {
 
     ghost why = { field_then A.accepts A.reading A.refusal Rest.why };
 
+    ghost takes = { takes_then A.accepts A.reading A.takes_memory Rest.takes };
+
     #[inline(always)]
-    #[tactic(auto, using(crate::proofs::NoField::no_field))]
     fn read(fields: &mut PgRecordDecoder<'_>) -> Result<(A, Rest), CodecError> {
         let first = fields.try_decode::<A>()?;
         let rest = Rest::read(fields)?;
@@ -88,9 +93,9 @@ pub fn first_fields<List: FieldList>(
     value: PgValueRef<'_>,
 ) -> Result<List, CodecError>
     ensures exact { Answers List.meaning (record_of List.step value.entry.type_info value.entry.format value.entry.bytes) result }
-    ensures exactly { record_takes value.entry.type_info value.entry.format value.entry.bytes ≡ false → AnswersExactly List.meaning (record_of List.step value.entry.type_info value.entry.format value.entry.bytes) result }
+    ensures exactly { record_takes List.takes value.entry.type_info value.entry.format value.entry.bytes ≡ false → AnswersExactly List.meaning (record_of List.step value.entry.type_info value.entry.format value.entry.bytes) result }
     ensures refused { RefusedFor (record_refusal List.why value.entry.type_info value.entry.format value.entry.bytes) result }
-    ensures refused_exactly { record_takes value.entry.type_info value.entry.format value.entry.bytes ≡ false → RefusedExactly (record_refusal List.why value.entry.type_info value.entry.format value.entry.bytes) result }
+    ensures refused_exactly { record_takes List.takes value.entry.type_info value.entry.format value.entry.bytes ≡ false → RefusedExactly (record_refusal List.why value.entry.type_info value.entry.format value.entry.bytes) result }
     ensures null { value.entry.bytes ≡ None → IsErrOf result UnexpectedNull }
 {
     let mut fields = PgRecordDecoder::new(alloc, value)?;

@@ -4,7 +4,7 @@ pub mod array;
 pub mod bool;
 pub mod date;
 pub mod datetime;
-mod field_list;
+pub mod field_list;
 pub mod int;
 pub mod interval;
 pub mod ipaddr;

@@ -1,15 +1,15 @@
 //! Records: composite types, field by field.
 
-ghost use Rattle.std.specs.Prelude.{IfErr, OnOk, OnErr, ◌≡◌, ◌≢◌, ◌+◌, ◌<◌, length, false, is_some, None, IfOk, IsErrOf};
+ghost use Rattle.std.specs.Prelude.{IfErr, OnOk, OnErr, ◌≡◌, ◌≢◌, ◌+◌, ◌<◌, length, false, true, None, IfOk, IsErrOf};
 ghost use Rattle.std.specs.Borrow.{sem, RestsIfErr};
-ghost use Rattle.pgv_text.specs.PartsView.{nest};
+ghost use Rattle.pgv_text.specs.PartsView.{is_unquoted, nest};
+ghost use Rattle.pgv_text.specs.Unquoted.{unquoted};
 ghost use Rattle.pgv_text.specs.Values.{record_values};
 ghost use Rattle.pgv_value.specs.Reading.{Answers, AnswersExactly};
 ghost use Rattle.pgv_value.specs.declared.error.CodecError.TheVariants.{UnexpectedNull, Syntax, Memory};
-ghost use Rattle.pgv_nest.specs.NestRefusals.{field_refusal, fields_refusal, next_refusal, next_takes};
+ghost use Rattle.pgv_nest.specs.NestRefusals.{field_refusal, field_takes, fields_refusal, next_refusal, next_takes};
 ghost use Rattle.pgv_nest.specs.RecordGrammar.{field_head, field_in, fields_of, next, Takes, Left, left_code};
 ghost use Rattle.pgv_codec.specs.Image.{field, counted_field};
-ghost use Rattle.pgv_codec.specs.FieldsLeftView.{left_of, IsInPlace};
 ghost use Rattle.pgv_codec.specs.Outcome.{Refused, Appended, AppendedAll};
 ghost use Rattle.pgv_codec.specs.Record.{IsOpen, begun, so_far, AddsField};
 ghost use Rattle.pgv_codec.specs.Refusing.{RefusedExactly, RefusedFor, frame_refused, field_refused};
@@ -112,6 +112,8 @@ pub struct PgRecordDecoder<'r> {
 }
 
 impl<'r> Model for PgRecordDecoder<'r> {
+    ghost use Rattle.pgv_codec.specs.FieldsLeftView.{left_of, IsInPlace};
+
     ghost Value = { Left };
 
     ghost coded = { left_code };
@@ -136,12 +138,14 @@ struct BinaryFields<'r> {
     rest: &'r [u8],
 }
 
-/// The fields of a text that are left, how many it has in all, and the text that those in quotes are read from.
+/// The whole text, its fields that are left, how many it has in all, and the text that those in quotes are read from.
 #[derive(Drop)]
 struct TextFields<'r> {
+    whole: &'r str,
     parts: Parts<'r>,
     count: usize,
     text: String,
+    ghost in_place: { unquoted whole.now ≡ true → is_unquoted parts ≡ true },
 }
 
 impl<'r> PgRecordDecoder<'r> {
@@ -177,8 +181,9 @@ impl<'r> PgRecordDecoder<'r> {
     #[inline(always)]
     pub fn try_decode<T: Type + Decode>(&mut self) -> Result<T, CodecError>
         ensures exact { Takes T.meaning self.old self.new (next T.accepts T.reading self.old) result }
+        ensures exactly { next_takes T.accepts T.takes_memory self.old ≡ false → OnErr result (next T.accepts T.reading self.old ≡ None) }
         ensures refused { RefusedFor (next_refusal T.accepts T.refusal self.old) result }
-        ensures refused_exactly { next_takes self.old ≡ false → RefusedExactly (next_refusal T.accepts T.refusal self.old) result }
+        ensures refused_exactly { next_takes T.accepts T.takes_memory self.old ≡ false → RefusedExactly (next_refusal T.accepts T.refusal self.old) result }
     {
         match &mut self.left {
             FieldsLeft::Binary(fields) => {
@@ -213,11 +218,14 @@ impl<'r> PgRecordDecoder<'r> {
 #[inline(always)]
 fn text_fields_of(alloc: Global, text: &str) -> Result<TextFields<'_>, CodecError>
     ensures exact { AnswersExactly (λ fields. (nest fields.parts).values) (record_values text.now) result }
+    ensures whole { IfOk result (λ fields. fields.whole.now ≡ text.now) }
+    ensures count { IfOk result (λ fields. fields.count ≡ length (nest fields.parts).values) }
     ensures refused { IfErr result (λ e. e ≡ Syntax) }
 {
     match Parts::new(TextForm::Record, text) {
         None => Err(CodecError::Syntax),
         Some(parts) => Ok(TextFields {
+            whole: text,
             parts,
             count: parts.len(),
             text: String::new(alloc),
@@ -233,8 +241,9 @@ fn read_field<'r, T: Type + Decode>(
     bytes: &'r [u8],
 ) -> Result<(T, &'r [u8]), CodecError>
     ensures exact { Answers (λ x. (T.meaning x.0, x.1.now)) (field_in T.accepts T.reading type_info.now place bytes.now) result }
+    ensures exactly { field_takes T.accepts T.takes_memory (field_head type_info.now place bytes.now) ≡ false → AnswersExactly (λ x. (T.meaning x.0, x.1.now)) (field_in T.accepts T.reading type_info.now place bytes.now) result }
     ensures refused { RefusedFor (field_refusal T.accepts T.refusal type_info.now place bytes.now) result }
-    ensures refused_exactly { is_some (field_head type_info.now place bytes.now) ≡ false → RefusedExactly (field_refusal T.accepts T.refusal type_info.now place bytes.now) result }
+    ensures refused_exactly { field_takes T.accepts T.takes_memory (field_head type_info.now place bytes.now) ≡ false → RefusedExactly (field_refusal T.accepts T.refusal type_info.now place bytes.now) result }
     ensures shorter { IfOk result (λ x. length x.1.now < length bytes.now) }
 {
     let (type_info, mut rest) = field_head_of(type_info, place, bytes)?;

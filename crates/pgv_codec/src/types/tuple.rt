@@ -7,7 +7,7 @@ ghost use Rattle.pgv_nest.specs.RecordGrammar.{next};
 ghost use Rattle.pgv_nest.specs.TupleGrammar.{record_of, ◌then◌};
 ghost use Rattle.pgv_codec.specs.Saying.{unwritten};
 
-use super::field_list::first_fields;
+use super::field_list::{FieldList, first_fields};
 use crate::traits::{BuiltIn, Decode, HasBuiltIn, Of, Type};
 use pgv_types::{PgType, PgTypeInfo};
 use pgv_value::{CodecError, PgValueRef};
@@ -23,7 +23,7 @@ impl<A: Type + Decode> Decode for (A,) {
 
     ghost written = { unwritten };
 
-    ghost takes_memory = { record_takes };
+    ghost takes_memory = { record_takes ⟦<(A,) as FieldList>⟧.takes };
 
     ghost refusal = { record_refusal (next_refusal A.accepts A.refusal) };
 
@@ -55,7 +55,7 @@ impl<A: Type + Decode, B: Type + Decode> Decode for (A, B) {
 
     ghost written = { unwritten };
 
-    ghost takes_memory = { record_takes };
+    ghost takes_memory = { record_takes ⟦<(A, (B,)) as FieldList>⟧.takes };
 
     ghost refusal = { record_refusal (field_then A.accepts A.reading A.refusal (next_refusal B.accepts B.refusal)) };
 
@@ -87,7 +87,7 @@ impl<A: Type + Decode, B: Type + Decode, C: Type + Decode> Decode for (A, B, C) 
 
     ghost written = { unwritten };
 
-    ghost takes_memory = { record_takes };
+    ghost takes_memory = { record_takes ⟦<(A, (B, (C,))) as FieldList>⟧.takes };
 
     ghost refusal = { record_refusal (field_then A.accepts A.reading A.refusal (field_then B.accepts B.reading B.refusal (next_refusal C.accepts C.refusal))) };
 
@@ -120,7 +120,7 @@ impl<A: Type + Decode, B: Type + Decode, C: Type + Decode, D: Type + Decode> Dec
 
     ghost written = { unwritten };
 
-    ghost takes_memory = { record_takes };
+    ghost takes_memory = { record_takes ⟦<(A, (B, (C, (D,)))) as FieldList>⟧.takes };
 
     ghost refusal = { record_refusal (field_then A.accepts A.reading A.refusal (field_then B.accepts B.reading B.refusal (field_then C.accepts C.reading C.refusal (next_refusal D.accepts D.refusal)))) };
 
@@ -158,7 +158,7 @@ impl<
 
     ghost written = { unwritten };
 
-    ghost takes_memory = { record_takes };
+    ghost takes_memory = { record_takes ⟦<(A, (B, (C, (D, (E,))))) as FieldList>⟧.takes };
 
     ghost refusal = { record_refusal (field_then A.accepts A.reading A.refusal (field_then B.accepts B.reading B.refusal (field_then C.accepts C.reading C.refusal (field_then D.accepts D.reading D.refusal (next_refusal E.accepts E.refusal))))) };
 
@@ -197,7 +197,7 @@ impl<
 
     ghost written = { unwritten };
 
-    ghost takes_memory = { record_takes };
+    ghost takes_memory = { record_takes ⟦<(A, (B, (C, (D, (E, (F,)))))) as FieldList>⟧.takes };
 
     ghost refusal = { record_refusal (field_then A.accepts A.reading A.refusal (field_then B.accepts B.reading B.refusal (field_then C.accepts C.reading C.refusal (field_then D.accepts D.reading D.refusal (field_then E.accepts E.reading E.refusal (next_refusal F.accepts F.refusal)))))) };
 
@@ -239,7 +239,7 @@ impl<
 
     ghost written = { unwritten };
 
-    ghost takes_memory = { record_takes };
+    ghost takes_memory = { record_takes ⟦<(A, (B, (C, (D, (E, (F, (G,))))))) as FieldList>⟧.takes };
 
     ghost refusal = { record_refusal (field_then A.accepts A.reading A.refusal (field_then B.accepts B.reading B.refusal (field_then C.accepts C.reading C.refusal (field_then D.accepts D.reading D.refusal (field_then E.accepts E.reading E.refusal (field_then F.accepts F.reading F.refusal (next_refusal G.accepts G.refusal))))))) };
 
@@ -282,7 +282,7 @@ impl<
 
     ghost written = { unwritten };
 
-    ghost takes_memory = { record_takes };
+    ghost takes_memory = { record_takes ⟦<(A, (B, (C, (D, (E, (F, (G, (H,)))))))) as FieldList>⟧.takes };
 
     ghost refusal = { record_refusal (field_then A.accepts A.reading A.refusal (field_then B.accepts B.reading B.refusal (field_then C.accepts C.reading C.refusal (field_then D.accepts D.reading D.refusal (field_then E.accepts E.reading E.refusal (field_then F.accepts F.reading F.refusal (field_then G.accepts G.reading G.refusal (next_refusal H.accepts H.refusal)))))))) };
 
@@ -329,7 +329,7 @@ impl<
 
     ghost written = { unwritten };
 
-    ghost takes_memory = { record_takes };
+    ghost takes_memory = { record_takes ⟦<(A, (B, (C, (D, (E, (F, (G, (H, (I,))))))))) as FieldList>⟧.takes };
 
     ghost refusal = { record_refusal (field_then A.accepts A.reading A.refusal (field_then B.accepts B.reading B.refusal (field_then C.accepts C.reading C.refusal (field_then D.accepts D.reading D.refusal (field_then E.accepts E.reading E.refusal (field_then F.accepts F.reading F.refusal (field_then G.accepts G.reading G.refusal (field_then H.accepts H.reading H.refusal (next_refusal I.accepts I.refusal))))))))) };
 

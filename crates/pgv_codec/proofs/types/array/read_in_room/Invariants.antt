@@ -3,7 +3,7 @@ use Rattle.pgv_value.specs.declared.value.PgValueFormat.TheVariants.{Binary}
 use Rattle.pgv_nest.specs.ArrayGrammar.{frames}
 use Rattle.pgv_nest.specs.NestRefusals.{frames_refusal}
 use Rattle.pgv_codec.proofs.FrameLoop.{with_front}
-use Rattle.pgv_codec.proofs.types.array.read_frames.Given as goal
+use Rattle.pgv_codec.proofs.types.array.read_in_room.Given as goal
 
 -- what was read and what is left to read are what the bytes hold, and what refuses the rest refuses all
 abbrev pub invariant-loop : goal.invariant-loop

@@ -11,7 +11,7 @@ use Rattle.pgv_nest.specs.NestRefusals.{frames_refusal}
 use Rattle.pgv_value.specs.FrameBinary.{frame_fault}
 use Rattle.pgv_nest.proofs.FewElements.{few_frames}
 use Rattle.pgv_codec.proofs.FrameLoop.{is_done, goes_on, ends_short, ends_unread, refused_later, refused_short, refused_unread}
-use Rattle.pgv_codec.proofs.types.array.read_frames.Goals as goal
+use Rattle.pgv_codec.proofs.types.array.read_in_room.Goals as goal
 
 pub returns-in_err-part-clause-exact : goal.returns-in_err-part-clause-exact
 returns-in_err-part-clause-exact g c =
