@@ -12,6 +12,7 @@ pub mod Values
 pub mod PartsLeftView
 pub mod PartsView
 pub mod PartFound
+pub mod Unquoted
 pub mod ElementsView
 pub mod RangeTextView
 pub mod Spellings

@@ -6,6 +6,7 @@ use Rattle.pgv_text.specs.declared.scanner.TextForm.TheVariants.{Array, Range, R
 use Rattle.pgv_text.specs.ContentText.{Content, RangeContent, empty, parts}
 use Rattle.pgv_text.specs.NestText.{Nest}
 use Rattle.pgv_text.specs.PartsLeftView.{values_left}
+use Rattle.pgv_text.specs.Unquoted.{unquoted}
 
 abbrev pub nest : Parts → Nest
 nest p = record { values = values_left p.form p.rest.now; lower = p.lower_included; upper = p.upper_included }
@@ -13,6 +14,10 @@ nest p = record { values = values_left p.form p.rest.now; lower = p.lower_includ
 -- whether the text is that of the empty range
 abbrev pub is_of_empty : Parts → Bool
 is_of_empty p = p.of_empty
+
+-- whether neither a quote nor a backslash is to come
+abbrev pub is_unquoted : Parts → Bool
+is_unquoted p = unquoted p.rest.now
 
 -- no value, where it is, and else these parts
 abbrev pub empty_or : Bool → Nest → RangeContent
