@@ -9,10 +9,10 @@ pub mod Scan
 pub mod Parsed
 pub mod ContentText
 pub mod Values
-pub mod Unquoted
 pub mod PartsLeftView
 pub mod PartsView
 pub mod PartFound
+pub mod Unquoted
 pub mod ElementsView
 pub mod RangeTextView
 pub mod Spellings

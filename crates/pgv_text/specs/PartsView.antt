@@ -15,6 +15,10 @@ nest p = record { values = values_left p.form p.rest.now; lower = p.lower_includ
 abbrev pub is_of_empty : Parts → Bool
 is_of_empty p = p.of_empty
 
+-- whether neither a quote nor a backslash is to come
+abbrev pub is_unquoted : Parts → Bool
+is_unquoted p = unquoted p.rest.now
+
 -- no value, where it is, and else these parts
 abbrev pub empty_or : Bool → Nest → RangeContent
 empty_or true nest = empty
@@ -24,7 +28,3 @@ abbrev pub content : (form : TextForm) → Parts → Content form
 content Array p = nest p
 content Range p = empty_or (is_of_empty p) (nest p)
 content Record p = nest p
-
--- no quote and no backslash is among the bytes that are left
-abbrev pub is_unquoted : Parts → Bool
-is_unquoted p = unquoted p.rest.now

@@ -1,6 +1,6 @@
 //! The parts of a text, one by one.
 
-ghost use Rattle.std.specs.Prelude.{◌≡◌, ◌==◌, ◌+◌, ◌<◌, ◌∷◌, [], Option, Some, None, IfOk, IfSome, IfNone, OnErr, cond, string_bytes, false, true, length};
+ghost use Rattle.std.specs.Prelude.{◌≡◌, ◌==◌, ◌+◌, ◌<◌, ◌∷◌, [], Option, Some, None, IfErr, IfOk, IfSome, IfNone, OnErr, cond, string_bytes, false, true, length};
 ghost use Rattle.std.specs.Option.{MatchOption, option_copied, option_map};
 ghost use Rattle.std.specs.Str.{chars};
 ghost use Rattle.pgv_text.specs.ArrayText.{array_form};
@@ -10,6 +10,7 @@ ghost use Rattle.pgv_text.specs.Scan.{closes_here as spec_closes_here, nest_read
 ghost use Rattle.pgv_text.specs.Values.{part_bytes, values_of};
 ghost use Rattle.pgv_text.specs.PartsLeftView.{values_left};
 ghost use Rattle.pgv_text.specs.PartFound.{IsEndOf, IsPartFrom, halts, part_value};
+ghost use Rattle.pgv_text.specs.Unquoted.{unquoted};
 ghost use Rattle.pgv_text.specs.declared.scanner.Place.TheVariants.{Quoted, Start};
 
 use super::scanner::{
@@ -100,6 +101,8 @@ fn usual_part_count(form: TextForm, bytes: &[u8]) -> Option<(usize, u8)>
 pub(crate) fn one_run(form: TextForm, text: &str) -> Option<Stop<'_>>
     ensures part { IfSome result (IsPartFrom form Start text.now) }
     ensures shorter { IfSome result (λ stop. length stop.rest.now < length text.now) }
+    // Without quotes and backslashes every part is one run.
+    ensures unquoted { unquoted text.now ≡ true → MatchOption result (read (form_of form) Start text.now ≡ None) (λ stop. unquoted stop.rest.now ≡ true) }
 {
     let first = next_stop(form, Place::Start, text)?;
     match first.cell {
@@ -199,7 +202,7 @@ pub struct Parts<'a> {
 }
 
 impl<'a> Parts<'a> {
-    ghost use Rattle.pgv_text.specs.PartsView.{content, is_of_empty, nest};
+    ghost use Rattle.pgv_text.specs.PartsView.{content, is_of_empty, is_unquoted, nest};
 
     /// The parts of a text; `None` where it isn't in the form. The empty range has none.
     pub fn new(form: TextForm, text: &'a str) -> Option<Self>
@@ -211,6 +214,8 @@ impl<'a> Parts<'a> {
         ensures computed { option_map (content form) result ≡ content_of form (chars text.now) }
         // The empty range has no parts, and its brackets include nothing.
         ensures nothing { IfSome result (λ p. is_of_empty p ≡ true → nest p ≡ no_parts) }
+        // No quote and no backslash is to come where the text has none.
+        ensures in_place { IfSome result (λ p. unquoted text.now ≡ true → is_unquoted p ≡ true) }
     {
         if is_empty_range(form, text) {
             return Some(Parts::of_empty_range());
@@ -222,6 +227,7 @@ impl<'a> Parts<'a> {
     fn of_empty_range() -> Self
         ensures empty { is_of_empty result ≡ true }
         ensures nothing { nest result ≡ no_parts }
+        ensures in_place { is_unquoted result ≡ true }
     {
         Parts {
             form: TextForm::Range,
@@ -237,6 +243,7 @@ impl<'a> Parts<'a> {
     fn begun(form: TextForm, text: &'a str) -> Option<Self>
         ensures exact { option_map nest result ≡ nest_read (form_of form) text.now }
         ensures bounded { IfSome result (λ p. is_of_empty p ≡ false) }
+        ensures in_place { IfSome result (λ p. unquoted text.now ≡ true → is_unquoted p ≡ true) }
     {
         let (opening, rest) = after_opening(form, text)?;
         let (count, closing) = part_count(form, rest)?;
@@ -319,7 +326,8 @@ impl<'a> Parts<'a> {
     }
 
     /// The next part: borrowed where its bytes stand in the text one after another, alone or in quotes, else put into a text that is
-    /// handed in. `None` after the last part. Out of memory it leaves the parts as they were.
+    /// handed in. `None` after the last part. Out of memory it leaves the parts as they were; without quotes and backslashes to come
+    /// no memory is asked for.
     /// Of the array `{a,"b c"}` they are `a` and `b c`, both borrowed, and then there is none.
     #[inline(always)]
     pub fn next_borrowed(&mut self, text: &mut String) -> Result<Option<Part<'a>>, AllocError>
@@ -328,6 +336,9 @@ impl<'a> Parts<'a> {
         ensures lower { (nest self.new).lower ≡ (nest self.old).lower }
         ensures upper { (nest self.new).upper ≡ (nest self.old).upper }
         ensures empty { is_of_empty self.new ≡ is_of_empty self.old }
+        // Without quotes and backslashes to come the part is borrowed, and so are those after it.
+        ensures never_copied { is_unquoted self.old ≡ true → IfErr result (λ e. ⊥) }
+        ensures in_place { is_unquoted self.old ≡ true → is_unquoted self.new ≡ true }
     {
         if self.count == 0 {
             return Ok(None);

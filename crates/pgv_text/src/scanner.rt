@@ -1,13 +1,15 @@
 //! One scanner for the texts of nests: a bracket, parts separated by commas, a bracket. A table of cells
 //! says what a byte does at a place, by its class; all bytes that mean something are ASCII.
 
-ghost use Rattle.std.specs.Prelude.{◌≡◌, ◌==◌, ◌++◌, ◌∷◌, ◌≤◌, Option, None, true, drop, take, length};
+ghost use Rattle.std.specs.Prelude.{◌≡◌, ◌==◌, ◌++◌, ◌∷◌, ◌≤◌, Option, None, IfSome, true, drop, take, length};
 ghost use Rattle.std.specs.Option.{MatchOption};
 ghost use Rattle.pgv_text.specs.Forms.{form_of};
+ghost use Rattle.pgv_text.specs.PartFound.{halts};
 ghost use Rattle.pgv_text.specs.declared.scanner.Class.TheVariants.{Other};
 ghost use Rattle.pgv_text.specs.declared.scanner.Place.TheVariants.{Outside, Quoted};
 ghost use Rattle.pgv_text.specs.declared.scanner.TextForm.{TextForm};
 ghost use Rattle.pgv_text.specs.Scan.{cell, class, grown, read, read_by, stands, stops};
+ghost use Rattle.pgv_text.specs.Unquoted.{unquoted};
 
 /// The form of a text.
 #[derive(Clone, Copy, PartialEq, Eq, Drop)]
@@ -203,6 +205,8 @@ pub fn next_stop(form: TextForm, place: Place, text: &str) -> Option<Stop<'_>>
     ensures whole { MatchOption result (read (form_of form) place text.now ≡ None) (λ s. text.now ≡ s.run.now ++ s.byte ∷ s.rest.now) }
     ensures read { MatchOption result (read (form_of form) place text.now ≡ None) (λ s. read (form_of form) place text.now ≡ grown s.run.now (read_by (form_of form) s.byte s.rest.now (λ q. read (form_of form) q s.rest.now) s.cell)) }
     ensures stops { MatchOption result (read (form_of form) place text.now ≡ None) (λ s. stops s.cell ≡ true) }
+    // Without quotes and backslashes nothing is passed over.
+    ensures unquoted { unquoted text.now ≡ true → IfSome result (λ s. (halts s.cell ≡ true) × (unquoted s.rest.now ≡ true)) }
 {
     let bytes = text.as_bytes();
     let mut place = place;

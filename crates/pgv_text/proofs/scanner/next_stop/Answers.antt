@@ -1,10 +1,13 @@
-use Rattle.std.proofs.Common.{◌<◌, ◌+◌, ◌-◌, ◌∙◌, drop, inl, inr, length, refl, sym, arith}
+use Rattle.std.proofs.Common.{◌≡◌, ◌<◌, ◌+◌, ◌-◌, ◌∙◌, ◌++◌, ◌∷◌, drop, inl, inr, length, refl, sym, slice_index_or, arith}
+use Rattle.std.proofs.lemmas.Grind.{common_steps}
 use Rattle.std.specs.List.{slice_index}
 use Rattle.std.proofs.lemmas.List.{length-drop, take_all}
 use Rattle.std.proofs.lemmas.Str.{IsCharBoundary-after_ascii}
 use Rattle.pgv_text.specs.declared.scanner.Place.TheVariants.{Outside, Quoted}
 use Rattle.pgv_text.proofs.Runs.{usual_run}
 use Rattle.pgv_text.proofs.Stops.{stop_is_ascii}
+use Rattle.pgv_text.proofs.Unquoted.{halts_unquoted}
+use Rattle.pgv_text.specs.Forms.{form_of}
 use Rattle.pgv_text.proofs.scanner.next_stop.Goals as goal
 
 pub range_from-requires : goal.range_from-requires
@@ -45,3 +48,11 @@ loop-index-preserved-in-Quoted c =
           (rw (sym value) (c.is_never_special.ensures c.if-is_never_special.true c.args.form))
           (λ rest e. rw (e, sym value, sym whole) (c.usual_in_front-in-Quoted.ensures.quoted c.args.form))),
     )
+
+-- what stops in a text without quotes and backslashes
+pub returns-in_default-cell-clause-unquoted : goal.returns-in_default-cell-clause-unquoted
+returns-in_default-cell-clause-unquoted c = λ h.
+    let byte = slice_index_or c.as_bytes-bytes.result.now c.loop-index.index 0 in
+    let whole : c.args.text.now ≡ c.range.result.now ++ byte ∷ c.range_from.result.now = grind (arith, common_steps) in
+    halts_unquoted (form_of c.args.form) c.loop-index.place c.args.text.now c.range.result.now c.range_from.result.now byte c.cell_of-cell.result
+    whole h (cc) c.in_default-cell.not-Keep
