@@ -5,7 +5,7 @@ pub mod bool;
 pub mod date;
 pub mod datetime;
 pub mod duration;
-mod field_list;
+pub mod field_list;
 pub mod int;
 pub mod interval;
 pub mod ipaddr;
