@@ -209,5 +209,5 @@ abbrev pub takes_then : {M : Type 0} → (Ty → Bool) → Reading M → Taking 
 takes_then accepts reading takes later left = next_takes accepts takes left || refusal_or false (next accepts reading left) (λ x. later x.1)
 
 -- of a whole record
-abbrev pub record_takes : (Left → Bool) → Taking
+unfoldable pub record_takes : (Left → Bool) → Taking
 record_takes takes t f bytes = refusal_or false (fields_of t f bytes) takes

@@ -336,6 +336,7 @@ impl<'a> Parts<'a> {
         ensures lower { (nest self.new).lower ≡ (nest self.old).lower }
         ensures upper { (nest self.new).upper ≡ (nest self.old).upper }
         ensures empty { is_of_empty self.new ≡ is_of_empty self.old }
+        ensures at_end { (nest self.old).values ≡ [] → IfErr result (λ e. ⊥) }
         // Without quotes and backslashes to come the part is borrowed, and so are those after it.
         ensures never_copied { is_unquoted self.old ≡ true → IfErr result (λ e. ⊥) }
         ensures in_place { is_unquoted self.old ≡ true → is_unquoted self.new ≡ true }

@@ -1,43 +1,38 @@
-//! Intervals (PostgreSQL, "Date/Time Types", interval), and durations, which are written as intervals.
+//! Intervals (PostgreSQL, "Date/Time Types", interval).
 
-ghost use Rattle.std.specs.Prelude.{◌≡◌, IfOk, IfErr, OnErr, Some, refl, pos};
-ghost use Rattle.std.specs.Duration.{as_nanos};
-ghost use Rattle.jiff.specs.Words.{signed_nanos};
+ghost use Rattle.std.specs.Prelude.{◌≡◌, IfOk, IfErr, OnErr, refl};
 ghost use Rattle.pgv_types.specs.Ty.{builtin};
 ghost use Rattle.pgv_value.specs.declared.error.CodecError.TheVariants.{Memory};
 ghost use Rattle.pgv_value.specs.Interval.{interval_reading, interval_refusal};
 ghost use Rattle.pgv_value.specs.declared.interval.PgInterval.{PgInterval as Interval};
-ghost use Rattle.pgv_codec.specs.Intervals.{interval_image, duration_image, duration_refused};
+ghost use Rattle.pgv_codec.specs.Intervals.{interval_image};
 ghost use Rattle.pgv_codec.specs.Outcome.{Encoded, Appended};
 ghost use Rattle.pgv_codec.specs.WithHint.{with_hint};
 ghost use Rattle.pgv_codec.specs.IntervalsBack.{interval_back};
 
 use crate::buffer::{IsNull, PgArgumentBuffer};
 use crate::traits::{BuiltIn, HasBuiltIn, Of, Plain, Scalar};
-use jiff::SignedDuration;
 use pgv_types::{PgType, PgTypeInfo};
 use pgv_value::{CodecError, PgInterval, PgValueRef, read_interval};
 use std::alloc::Global;
-use std::time::Duration;
 
 /// Appends an interval.
-fn write_interval(interval: PgInterval, out: &mut PgArgumentBuffer) -> Result<IsNull, CodecError>
+pub(super) fn write_interval(
+    interval: PgInterval,
+    out: &mut PgArgumentBuffer,
+) -> Result<IsNull, CodecError>
     ensures ok { IfOk result (λ n. Encoded n (interval_image interval) out.old out.new) }
     ensures err { IfErr result (λ e. e ≡ Memory) }
     ensures appended { OnErr result (Appended out.old out.new) }
 {
-    let microseconds = interval.microseconds.to_be_bytes();
-    let days = interval.days.to_be_bytes();
-    let months = interval.months.to_be_bytes();
-    out.extend_from_slice(&microseconds)?;
-    out.extend_from_slice(&days)?;
-    out.extend_from_slice(&months)?;
+    out.extend_from_slice(&interval.microseconds.to_be_bytes())?;
+    out.extend_from_slice(&interval.days.to_be_bytes())?;
+    out.extend_from_slice(&interval.months.to_be_bytes())?;
     Ok(IsNull::No)
 }
 
 impl HasBuiltIn for PgInterval {}
-/// `interval` (OID 1186), read under `interval` and domains over it.
-/// An array of them is `interval[]` (OID 1187).
+/// `interval` (OID 1186), read under `interval` and domains over it. An array of them is `interval[]` (OID 1187).
 impl BuiltIn for Of<PgInterval> {
     ghost INFO = { builtin 1186 };
 
@@ -48,8 +43,7 @@ impl BuiltIn for Of<PgInterval> {
     const ARRAY_INFO: PgTypeInfo = PgTypeInfo(PgType::IntervalArray);
 }
 
-/// Written as its microseconds in eight bytes, its days in four and its months in four: an hour as
-/// `00000000d693a4000000000000000000`.
+/// Written as its microseconds in eight bytes, its days in four and its months in four: an hour as `00000000d693a4000000000000000000`.
 impl Scalar for PgInterval {
     ghost SIZE = { 16 };
 
@@ -62,8 +56,7 @@ impl Scalar for PgInterval {
     }
 }
 
-/// An `interval`, as [`read_interval`] reads it: `00000000d693a4000000000000000000` is an hour. It has no text (C18).
-/// An interval comes back as it is.
+/// An `interval`, as [`read_interval`] reads it: `00000000d693a4000000000000000000` is an hour. It has no text (C18). It comes back as it is.
 impl Plain for PgInterval {
     ghost Meaning = { Interval };
 
@@ -82,62 +75,4 @@ impl Plain for PgInterval {
     ghost reads_back = { interval_back };
 
     ghost agrees = { λ _. refl };
-}
-
-impl HasBuiltIn for Duration {}
-/// `interval` (OID 1186), as [`PgInterval`] is. It is only written.
-/// An array of them is `interval[]` (OID 1187).
-impl BuiltIn for Of<Duration> {
-    ghost INFO = { builtin 1186 };
-
-    ghost ARRAY_INFO = { builtin 1187 };
-
-    const INFO: PgTypeInfo = PgTypeInfo(PgType::Interval);
-
-    const ARRAY_INFO: PgTypeInfo = PgTypeInfo(PgType::IntervalArray);
-}
-
-/// A duration is written as the interval of its microseconds, with no days and no months. One that isn't whole microseconds is
-/// refused with C4, and another whose number of microseconds 64 bits don't have with C5.
-impl Scalar for Duration {
-    ghost SIZE = { 16 };
-
-    ghost form = { λ duration. duration_image (pos (as_nanos duration)) };
-
-    ghost formless = { λ duration. Some (duration_refused (pos (as_nanos duration))) };
-
-    const SIZE: usize = 16;
-
-    fn write(&self, out: &mut PgArgumentBuffer) -> Result<IsNull, CodecError> {
-        let interval = PgInterval::try_from(*self)?;
-        write_interval(interval, out)
-    }
-}
-
-impl HasBuiltIn for SignedDuration {}
-/// `interval` (OID 1186), as [`PgInterval`] is. It is only written.
-/// An array of them is `interval[]` (OID 1187).
-impl BuiltIn for Of<SignedDuration> {
-    ghost INFO = { builtin 1186 };
-
-    ghost ARRAY_INFO = { builtin 1187 };
-
-    const INFO: PgTypeInfo = PgTypeInfo(PgType::Interval);
-
-    const ARRAY_INFO: PgTypeInfo = PgTypeInfo(PgType::IntervalArray);
-}
-
-/// A duration with a sign, written as one without.
-impl Scalar for SignedDuration {
-    ghost SIZE = { 16 };
-
-    ghost form = { λ duration. duration_image (signed_nanos duration) };
-
-    ghost formless = { λ duration. Some (duration_refused (signed_nanos duration)) };
-
-    const SIZE: usize = 16;
-
-    fn write(&self, out: &mut PgArgumentBuffer) -> Result<IsNull, CodecError> {
-        write_interval(PgInterval::try_from(*self)?, out)
-    }
 }

@@ -4,6 +4,7 @@ pub mod array;
 pub mod bool;
 pub mod date;
 pub mod datetime;
+pub mod duration;
 pub mod field_list;
 pub mod int;
 pub mod interval;

@@ -113,6 +113,7 @@ pub struct PgRecordDecoder<'r> {
 
 impl<'r> Model for PgRecordDecoder<'r> {
     ghost use Rattle.pgv_codec.specs.FieldsLeftView.{left_of, IsInPlace};
+    ghost use Rattle.pgv_nest.specs.RecordGrammar.{Left, left_code};
 
     ghost Value = { Left };
 

@@ -2,9 +2,8 @@
 //! front; further fields are ignored.
 
 ghost use Rattle.pgv_types.specs.Ty.{builtin};
-ghost use Rattle.pgv_nest.specs.NestRefusals.{next_refusal, record_refusal, record_takes, field_then};
-ghost use Rattle.pgv_nest.specs.RecordGrammar.{next};
-ghost use Rattle.pgv_nest.specs.TupleGrammar.{record_of, ◌then◌};
+ghost use Rattle.pgv_nest.specs.NestRefusals.{record_refusal, record_takes};
+ghost use Rattle.pgv_nest.specs.TupleGrammar.{record_of};
 ghost use Rattle.pgv_codec.specs.Saying.{unwritten};
 
 use super::field_list::{FieldList, first_fields};
@@ -19,13 +18,13 @@ impl<A: Type + Decode> Decode for (A,) {
 
     ghost meaning = { λ v. A.meaning v.0 };
 
-    ghost reading = { record_of (next A.accepts A.reading) };
+    ghost reading = { record_of ⟦<(A,) as FieldList>⟧.step };
 
     ghost written = { unwritten };
 
     ghost takes_memory = { record_takes ⟦<(A,) as FieldList>⟧.takes };
 
-    ghost refusal = { record_refusal (next_refusal A.accepts A.refusal) };
+    ghost refusal = { record_refusal ⟦<(A,) as FieldList>⟧.why };
 
     fn decode(alloc: Global, value: PgValueRef<'_>) -> Result<(A,), CodecError> {
         first_fields(alloc, value)
@@ -51,13 +50,13 @@ impl<A: Type + Decode, B: Type + Decode> Decode for (A, B) {
 
     ghost meaning = { λ v. (A.meaning v.0, B.meaning v.1) };
 
-    ghost reading = { record_of (next A.accepts A.reading then next B.accepts B.reading) };
+    ghost reading = { record_of ⟦<(A, (B,)) as FieldList>⟧.step };
 
     ghost written = { unwritten };
 
     ghost takes_memory = { record_takes ⟦<(A, (B,)) as FieldList>⟧.takes };
 
-    ghost refusal = { record_refusal (field_then A.accepts A.reading A.refusal (next_refusal B.accepts B.refusal)) };
+    ghost refusal = { record_refusal ⟦<(A, (B,)) as FieldList>⟧.why };
 
     fn decode(alloc: Global, value: PgValueRef<'_>) -> Result<(A, B), CodecError> {
         let (a, (b,)) = first_fields::<(A, (B,))>(alloc, value)?;
@@ -83,13 +82,13 @@ impl<A: Type + Decode, B: Type + Decode, C: Type + Decode> Decode for (A, B, C) 
 
     ghost meaning = { λ v. (A.meaning v.0, (B.meaning v.1, C.meaning v.2)) };
 
-    ghost reading = { record_of (next A.accepts A.reading then next B.accepts B.reading then next C.accepts C.reading) };
+    ghost reading = { record_of ⟦<(A, (B, (C,))) as FieldList>⟧.step };
 
     ghost written = { unwritten };
 
     ghost takes_memory = { record_takes ⟦<(A, (B, (C,))) as FieldList>⟧.takes };
 
-    ghost refusal = { record_refusal (field_then A.accepts A.reading A.refusal (field_then B.accepts B.reading B.refusal (next_refusal C.accepts C.refusal))) };
+    ghost refusal = { record_refusal ⟦<(A, (B, (C,))) as FieldList>⟧.why };
 
     fn decode(alloc: Global, value: PgValueRef<'_>) -> Result<(A, B, C), CodecError> {
         let (a, (b, (c,))) = first_fields::<(A, (B, (C,)))>(alloc, value)?;
@@ -116,13 +115,13 @@ impl<A: Type + Decode, B: Type + Decode, C: Type + Decode, D: Type + Decode> Dec
 
     ghost meaning = { λ v. (A.meaning v.0, (B.meaning v.1, (C.meaning v.2, D.meaning v.3))) };
 
-    ghost reading = { record_of (next A.accepts A.reading then next B.accepts B.reading then next C.accepts C.reading then next D.accepts D.reading) };
+    ghost reading = { record_of ⟦<(A, (B, (C, (D,)))) as FieldList>⟧.step };
 
     ghost written = { unwritten };
 
     ghost takes_memory = { record_takes ⟦<(A, (B, (C, (D,)))) as FieldList>⟧.takes };
 
-    ghost refusal = { record_refusal (field_then A.accepts A.reading A.refusal (field_then B.accepts B.reading B.refusal (field_then C.accepts C.reading C.refusal (next_refusal D.accepts D.refusal)))) };
+    ghost refusal = { record_refusal ⟦<(A, (B, (C, (D,)))) as FieldList>⟧.why };
 
     fn decode(alloc: Global, value: PgValueRef<'_>) -> Result<(A, B, C, D), CodecError> {
         let (a, (b, (c, (d,)))) = first_fields::<(A, (B, (C, (D,))))>(alloc, value)?;
@@ -154,13 +153,13 @@ impl<
 
     ghost meaning = { λ v. (A.meaning v.0, (B.meaning v.1, (C.meaning v.2, (D.meaning v.3, E.meaning v.4)))) };
 
-    ghost reading = { record_of (next A.accepts A.reading then next B.accepts B.reading then next C.accepts C.reading then next D.accepts D.reading then next E.accepts E.reading) };
+    ghost reading = { record_of ⟦<(A, (B, (C, (D, (E,))))) as FieldList>⟧.step };
 
     ghost written = { unwritten };
 
     ghost takes_memory = { record_takes ⟦<(A, (B, (C, (D, (E,))))) as FieldList>⟧.takes };
 
-    ghost refusal = { record_refusal (field_then A.accepts A.reading A.refusal (field_then B.accepts B.reading B.refusal (field_then C.accepts C.reading C.refusal (field_then D.accepts D.reading D.refusal (next_refusal E.accepts E.refusal))))) };
+    ghost refusal = { record_refusal ⟦<(A, (B, (C, (D, (E,))))) as FieldList>⟧.why };
 
     fn decode(alloc: Global, value: PgValueRef<'_>) -> Result<(A, B, C, D, E), CodecError> {
         let (a, (b, (c, (d, (e,))))) = first_fields::<(A, (B, (C, (D, (E,)))))>(alloc, value)?;
@@ -193,13 +192,13 @@ impl<
 
     ghost meaning = { λ v. (A.meaning v.0, (B.meaning v.1, (C.meaning v.2, (D.meaning v.3, (E.meaning v.4, F.meaning v.5))))) };
 
-    ghost reading = { record_of (next A.accepts A.reading then next B.accepts B.reading then next C.accepts C.reading then next D.accepts D.reading then next E.accepts E.reading then next F.accepts F.reading) };
+    ghost reading = { record_of ⟦<(A, (B, (C, (D, (E, (F,)))))) as FieldList>⟧.step };
 
     ghost written = { unwritten };
 
     ghost takes_memory = { record_takes ⟦<(A, (B, (C, (D, (E, (F,)))))) as FieldList>⟧.takes };
 
-    ghost refusal = { record_refusal (field_then A.accepts A.reading A.refusal (field_then B.accepts B.reading B.refusal (field_then C.accepts C.reading C.refusal (field_then D.accepts D.reading D.refusal (field_then E.accepts E.reading E.refusal (next_refusal F.accepts F.refusal)))))) };
+    ghost refusal = { record_refusal ⟦<(A, (B, (C, (D, (E, (F,)))))) as FieldList>⟧.why };
 
     fn decode(alloc: Global, value: PgValueRef<'_>) -> Result<(A, B, C, D, E, F), CodecError> {
         let (a, (b, (c, (d, (e, (f,)))))) = first_fields::<(A, (B, (C, (D, (E, (F,))))))>(
@@ -235,13 +234,13 @@ impl<
 
     ghost meaning = { λ v. (A.meaning v.0, (B.meaning v.1, (C.meaning v.2, (D.meaning v.3, (E.meaning v.4, (F.meaning v.5, G.meaning v.6)))))) };
 
-    ghost reading = { record_of (next A.accepts A.reading then next B.accepts B.reading then next C.accepts C.reading then next D.accepts D.reading then next E.accepts E.reading then next F.accepts F.reading then next G.accepts G.reading) };
+    ghost reading = { record_of ⟦<(A, (B, (C, (D, (E, (F, (G,))))))) as FieldList>⟧.step };
 
     ghost written = { unwritten };
 
     ghost takes_memory = { record_takes ⟦<(A, (B, (C, (D, (E, (F, (G,))))))) as FieldList>⟧.takes };
 
-    ghost refusal = { record_refusal (field_then A.accepts A.reading A.refusal (field_then B.accepts B.reading B.refusal (field_then C.accepts C.reading C.refusal (field_then D.accepts D.reading D.refusal (field_then E.accepts E.reading E.refusal (field_then F.accepts F.reading F.refusal (next_refusal G.accepts G.refusal))))))) };
+    ghost refusal = { record_refusal ⟦<(A, (B, (C, (D, (E, (F, (G,))))))) as FieldList>⟧.why };
 
     fn decode(alloc: Global, value: PgValueRef<'_>) -> Result<(A, B, C, D, E, F, G), CodecError> {
         let (a, (b, (c, (d, (e, (f, (g,))))))) = first_fields::<(A, (B, (C, (D, (E, (F, (G,)))))))>(
@@ -278,13 +277,13 @@ impl<
 
     ghost meaning = { λ v. (A.meaning v.0, (B.meaning v.1, (C.meaning v.2, (D.meaning v.3, (E.meaning v.4, (F.meaning v.5, (G.meaning v.6, H.meaning v.7))))))) };
 
-    ghost reading = { record_of (next A.accepts A.reading then next B.accepts B.reading then next C.accepts C.reading then next D.accepts D.reading then next E.accepts E.reading then next F.accepts F.reading then next G.accepts G.reading then next H.accepts H.reading) };
+    ghost reading = { record_of ⟦<(A, (B, (C, (D, (E, (F, (G, (H,)))))))) as FieldList>⟧.step };
 
     ghost written = { unwritten };
 
     ghost takes_memory = { record_takes ⟦<(A, (B, (C, (D, (E, (F, (G, (H,)))))))) as FieldList>⟧.takes };
 
-    ghost refusal = { record_refusal (field_then A.accepts A.reading A.refusal (field_then B.accepts B.reading B.refusal (field_then C.accepts C.reading C.refusal (field_then D.accepts D.reading D.refusal (field_then E.accepts E.reading E.refusal (field_then F.accepts F.reading F.refusal (field_then G.accepts G.reading G.refusal (next_refusal H.accepts H.refusal)))))))) };
+    ghost refusal = { record_refusal ⟦<(A, (B, (C, (D, (E, (F, (G, (H,)))))))) as FieldList>⟧.why };
 
     fn decode(
         alloc: Global,
@@ -325,13 +324,13 @@ impl<
 
     ghost meaning = { λ v. (A.meaning v.0, (B.meaning v.1, (C.meaning v.2, (D.meaning v.3, (E.meaning v.4, (F.meaning v.5, (G.meaning v.6, (H.meaning v.7, I.meaning v.8)))))))) };
 
-    ghost reading = { record_of (next A.accepts A.reading then next B.accepts B.reading then next C.accepts C.reading then next D.accepts D.reading then next E.accepts E.reading then next F.accepts F.reading then next G.accepts G.reading then next H.accepts H.reading then next I.accepts I.reading) };
+    ghost reading = { record_of ⟦<(A, (B, (C, (D, (E, (F, (G, (H, (I,))))))))) as FieldList>⟧.step };
 
     ghost written = { unwritten };
 
     ghost takes_memory = { record_takes ⟦<(A, (B, (C, (D, (E, (F, (G, (H, (I,))))))))) as FieldList>⟧.takes };
 
-    ghost refusal = { record_refusal (field_then A.accepts A.reading A.refusal (field_then B.accepts B.reading B.refusal (field_then C.accepts C.reading C.refusal (field_then D.accepts D.reading D.refusal (field_then E.accepts E.reading E.refusal (field_then F.accepts F.reading F.refusal (field_then G.accepts G.reading G.refusal (field_then H.accepts H.reading H.refusal (next_refusal I.accepts I.refusal))))))))) };
+    ghost refusal = { record_refusal ⟦<(A, (B, (C, (D, (E, (F, (G, (H, (I,))))))))) as FieldList>⟧.why };
 
     fn decode(
         alloc: Global,

@@ -23,9 +23,9 @@ image_is i a b d f g h e k l =
 pub returns-clause-ok : goal.returns-clause-ok
 returns-clause-ok c =
     let i = c.args.interval in
-    let a = c.to_be_bytes-microseconds.result in
-    let b = c.to_be_bytes-days.result in
-    let d = c.to_be_bytes-months.result in
+    let a = c.to_be_bytes.result in
+    let b = c.to_be_bytes-2.result in
+    let d = c.to_be_bytes-3.result in
     let two = appended_parts c.extend_from_slice.new.self c.extend_from_slice-2.new.self c.extend_from_slice-3.new.self b d c.in_ok-extend_from_slice-2.ensures.ok c.in_ok-extend_from_slice-3.ensures.ok in
     let all = appended_parts c.args.out.now c.extend_from_slice.new.self c.extend_from_slice-3.new.self a (b ++ d) c.in_ok-extend_from_slice.ensures.ok two in
-    (bytes (a ++ (b ++ d)), image_is i a b d (search rules) (search rules) (search rules) c.to_be_bytes-microseconds.ensures c.to_be_bytes-days.ensures c.to_be_bytes-months.ensures, all)
+    (bytes (a ++ (b ++ d)), image_is i a b d (search rules) (search rules) (search rules) c.to_be_bytes.ensures c.to_be_bytes-2.ensures c.to_be_bytes-3.ensures, all)

@@ -1,0 +1,71 @@
+//! `int2` (PostgreSQL, "Integer Types").
+
+ghost use Rattle.std.specs.Int.{w16};
+ghost use Rattle.std.specs.Prelude.{ℤ, refl};
+ghost use Rattle.pgv_types.specs.Ty.{builtin};
+ghost use Rattle.pgv_value.specs.ScalarGrammar.{int_reading, int_refusal};
+ghost use Rattle.pgv_codec.specs.Saying.{plainly};
+ghost use Rattle.pgv_codec.specs.ScalarBinary.{signed_image};
+
+use crate::buffer::{IsNull, PgArgumentBuffer};
+use crate::traits::{BuiltIn, HasBuiltIn, Of, Plain, Scalar};
+use pgv_types::{PgType, PgTypeInfo};
+use pgv_value::{CodecError, PgValueRef, read_i16};
+use std::alloc::Global;
+
+impl HasBuiltIn for i16 {}
+/// `int2` (OID 21), read under `int2` and domains over it.
+/// An array of them is `int2[]` (OID 1005).
+impl BuiltIn for Of<i16> {
+    ghost INFO = { builtin 21 };
+
+    ghost ARRAY_INFO = { builtin 1005 };
+
+    const INFO: PgTypeInfo = PgTypeInfo(PgType::Int2);
+
+    const ARRAY_INFO: PgTypeInfo = PgTypeInfo(PgType::Int2Array);
+}
+
+/// Written as two bytes in two's complement, the highest first: 7 as `0007`.
+impl Scalar for i16 {
+    ghost SIZE = { 0 };
+
+    ghost form = { signed_image w16 };
+
+    const SIZE: usize = 0;
+
+    #[inline(always)]
+    fn write(&self, out: &mut PgArgumentBuffer) -> Result<IsNull, CodecError> {
+        out.extend_from_slice(&self.to_be_bytes())?;
+        Ok(IsNull::No)
+    }
+
+    #[inline(always)]
+    fn write_at_once(&self, out: &mut PgArgumentBuffer) -> Result<bool, CodecError> {
+        out.push_frame(&self.to_be_bytes())
+    }
+}
+
+/// An `int2` (PostgreSQL, "Integer Types"), as [`read_i16`] reads it: `0007` and `7` are 7.
+impl Plain for i16 {
+    ghost use Rattle.pgv_codec.specs.BackScalars.{int2_back};
+
+    ghost Meaning = { ℤ };
+
+    ghost meaning = { λ number. number };
+
+    ghost reading = { int_reading w16 };
+
+    ghost written = { plainly (signed_image w16) };
+
+    ghost refusal = { int_refusal };
+
+    #[inline(always)]
+    fn read(_alloc: Global, value: PgValueRef<'_>) -> Result<i16, CodecError> {
+        read_i16(&value)
+    }
+
+    ghost reads_back = { int2_back };
+
+    ghost agrees = { λ _. refl };
+}

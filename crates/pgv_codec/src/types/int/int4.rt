@@ -1,0 +1,71 @@
+//! `int4` (PostgreSQL, "Integer Types").
+
+ghost use Rattle.std.specs.Int.{w32};
+ghost use Rattle.std.specs.Prelude.{ℤ, refl};
+ghost use Rattle.pgv_types.specs.Ty.{builtin};
+ghost use Rattle.pgv_value.specs.ScalarGrammar.{int_reading, int_refusal};
+ghost use Rattle.pgv_codec.specs.Saying.{plainly};
+ghost use Rattle.pgv_codec.specs.ScalarBinary.{signed_image};
+
+use super::write_i32;
+use crate::buffer::{IsNull, PgArgumentBuffer};
+use crate::traits::{BuiltIn, HasBuiltIn, Of, Plain, Scalar};
+use pgv_types::{PgType, PgTypeInfo};
+use pgv_value::{CodecError, PgValueRef, read_i32};
+use std::alloc::Global;
+
+impl HasBuiltIn for i32 {}
+/// `int4` (OID 23), read under `int4` and domains over it.
+/// An array of them is `int4[]` (OID 1007).
+impl BuiltIn for Of<i32> {
+    ghost INFO = { builtin 23 };
+
+    ghost ARRAY_INFO = { builtin 1007 };
+
+    const INFO: PgTypeInfo = PgTypeInfo(PgType::Int4);
+
+    const ARRAY_INFO: PgTypeInfo = PgTypeInfo(PgType::Int4Array);
+}
+
+/// Written as four bytes in two's complement, the highest first: 7 as `00000007`.
+impl Scalar for i32 {
+    ghost SIZE = { 0 };
+
+    ghost form = { signed_image w32 };
+
+    const SIZE: usize = 0;
+
+    #[inline(always)]
+    fn write(&self, out: &mut PgArgumentBuffer) -> Result<IsNull, CodecError> {
+        write_i32(*self, out)
+    }
+
+    #[inline(always)]
+    fn write_at_once(&self, out: &mut PgArgumentBuffer) -> Result<bool, CodecError> {
+        out.push_frame(&self.to_be_bytes())
+    }
+}
+
+/// An `int4` (PostgreSQL, "Integer Types"), as [`read_i32`] reads it: `00000007` and `7` are 7.
+impl Plain for i32 {
+    ghost use Rattle.pgv_codec.specs.BackScalars.{int4_back};
+
+    ghost Meaning = { ℤ };
+
+    ghost meaning = { λ number. number };
+
+    ghost reading = { int_reading w32 };
+
+    ghost written = { plainly (signed_image w32) };
+
+    ghost refusal = { int_refusal };
+
+    #[inline(always)]
+    fn read(_alloc: Global, value: PgValueRef<'_>) -> Result<i32, CodecError> {
+        read_i32(&value)
+    }
+
+    ghost reads_back = { int4_back };
+
+    ghost agrees = { λ _. refl };
+}

@@ -1,0 +1,71 @@
+//! `int8` (PostgreSQL, "Integer Types").
+
+ghost use Rattle.std.specs.Int.{w64};
+ghost use Rattle.std.specs.Prelude.{ℤ, refl};
+ghost use Rattle.pgv_types.specs.Ty.{builtin};
+ghost use Rattle.pgv_value.specs.ScalarGrammar.{int_reading, int_refusal};
+ghost use Rattle.pgv_codec.specs.Saying.{plainly};
+ghost use Rattle.pgv_codec.specs.ScalarBinary.{signed_image};
+
+use super::write_i64;
+use crate::buffer::{IsNull, PgArgumentBuffer};
+use crate::traits::{BuiltIn, HasBuiltIn, Of, Plain, Scalar};
+use pgv_types::{PgType, PgTypeInfo};
+use pgv_value::{CodecError, PgValueRef, read_i64};
+use std::alloc::Global;
+
+impl HasBuiltIn for i64 {}
+/// `int8` (OID 20), read under `int8` and domains over it.
+/// An array of them is `int8[]` (OID 1016).
+impl BuiltIn for Of<i64> {
+    ghost INFO = { builtin 20 };
+
+    ghost ARRAY_INFO = { builtin 1016 };
+
+    const INFO: PgTypeInfo = PgTypeInfo(PgType::Int8);
+
+    const ARRAY_INFO: PgTypeInfo = PgTypeInfo(PgType::Int8Array);
+}
+
+/// Written as eight bytes in two's complement, the highest first: 7 as `0000000000000007`.
+impl Scalar for i64 {
+    ghost SIZE = { 0 };
+
+    ghost form = { signed_image w64 };
+
+    const SIZE: usize = 0;
+
+    #[inline(always)]
+    fn write(&self, out: &mut PgArgumentBuffer) -> Result<IsNull, CodecError> {
+        write_i64(*self, out)
+    }
+
+    #[inline(always)]
+    fn write_at_once(&self, out: &mut PgArgumentBuffer) -> Result<bool, CodecError> {
+        out.push_frame(&self.to_be_bytes())
+    }
+}
+
+/// An `int8` (PostgreSQL, "Integer Types"), as [`read_i64`] reads it: `0000000000000007` and `7` are 7.
+impl Plain for i64 {
+    ghost use Rattle.pgv_codec.specs.BackScalars.{int8_back};
+
+    ghost Meaning = { ℤ };
+
+    ghost meaning = { λ number. number };
+
+    ghost reading = { int_reading w64 };
+
+    ghost written = { plainly (signed_image w64) };
+
+    ghost refusal = { int_refusal };
+
+    #[inline(always)]
+    fn read(_alloc: Global, value: PgValueRef<'_>) -> Result<i64, CodecError> {
+        read_i64(&value)
+    }
+
+    ghost reads_back = { int8_back };
+
+    ghost agrees = { λ _. refl };
+}
