@@ -59,8 +59,10 @@ impl<A: Type + Decode, B: Type + Decode> Decode for (A, B) {
     ghost refusal = { record_refusal ⟦<(A, (B,)) as FieldList>⟧.why };
 
     fn decode(alloc: Global, value: PgValueRef<'_>) -> Result<(A, B), CodecError> {
-        let (a, (b,)) = first_fields::<(A, (B,))>(alloc, value)?;
-        Ok((a, b))
+        match first_fields::<(A, (B,))>(alloc, value) {
+            Ok((a, (b,))) => Ok((a, b)),
+            Err(error) => Err(error),
+        }
     }
 }
 
@@ -91,8 +93,7 @@ impl<A: Type + Decode, B: Type + Decode, C: Type + Decode> Decode for (A, B, C) 
     ghost refusal = { record_refusal ⟦<(A, (B, (C,))) as FieldList>⟧.why };
 
     fn decode(alloc: Global, value: PgValueRef<'_>) -> Result<(A, B, C), CodecError> {
-        let (a, (b, (c,))) = first_fields::<(A, (B, (C,)))>(alloc, value)?;
-        Ok((a, b, c))
+        first_fields::<(A, (B, (C,)))>(alloc, value).map(|(a, (b, (c,)))| (a, b, c))
     }
 }
 
