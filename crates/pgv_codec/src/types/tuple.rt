@@ -26,7 +26,7 @@ impl<A: Type + Decode> Decode for (A,) {
 
     ghost refusal = { record_refusal ⟦<(A,) as FieldList>⟧.why };
 
-    fn decode(alloc: Global, value: PgValueRef<'_>) -> Result<(A,), CodecError> {
+    fn decode(alloc: Global, value: PgValueRef<'_>) -> Result<Self, CodecError> {
         first_fields(alloc, value)
     }
 }
@@ -58,8 +58,8 @@ impl<A: Type + Decode, B: Type + Decode> Decode for (A, B) {
 
     ghost refusal = { record_refusal ⟦<(A, (B,)) as FieldList>⟧.why };
 
-    fn decode(alloc: Global, value: PgValueRef<'_>) -> Result<(A, B), CodecError> {
-        let (a, (b,)) = first_fields::<(A, (B,))>(alloc, value)?;
+    fn decode(alloc: Global, value: PgValueRef<'_>) -> Result<Self, CodecError> {
+        let (a, (b,)) = first_fields(alloc, value)?;
         Ok((a, b))
     }
 }
@@ -90,8 +90,8 @@ impl<A: Type + Decode, B: Type + Decode, C: Type + Decode> Decode for (A, B, C) 
 
     ghost refusal = { record_refusal ⟦<(A, (B, (C,))) as FieldList>⟧.why };
 
-    fn decode(alloc: Global, value: PgValueRef<'_>) -> Result<(A, B, C), CodecError> {
-        let (a, (b, (c,))) = first_fields::<(A, (B, (C,)))>(alloc, value)?;
+    fn decode(alloc: Global, value: PgValueRef<'_>) -> Result<Self, CodecError> {
+        let (a, (b, (c,))) = first_fields(alloc, value)?;
         Ok((a, b, c))
     }
 }
@@ -123,8 +123,8 @@ impl<A: Type + Decode, B: Type + Decode, C: Type + Decode, D: Type + Decode> Dec
 
     ghost refusal = { record_refusal ⟦<(A, (B, (C, (D,)))) as FieldList>⟧.why };
 
-    fn decode(alloc: Global, value: PgValueRef<'_>) -> Result<(A, B, C, D), CodecError> {
-        let (a, (b, (c, (d,)))) = first_fields::<(A, (B, (C, (D,))))>(alloc, value)?;
+    fn decode(alloc: Global, value: PgValueRef<'_>) -> Result<Self, CodecError> {
+        let (a, (b, (c, (d,)))) = first_fields(alloc, value)?;
         Ok((a, b, c, d))
     }
 }
@@ -161,8 +161,8 @@ impl<
 
     ghost refusal = { record_refusal ⟦<(A, (B, (C, (D, (E,))))) as FieldList>⟧.why };
 
-    fn decode(alloc: Global, value: PgValueRef<'_>) -> Result<(A, B, C, D, E), CodecError> {
-        let (a, (b, (c, (d, (e,))))) = first_fields::<(A, (B, (C, (D, (E,)))))>(alloc, value)?;
+    fn decode(alloc: Global, value: PgValueRef<'_>) -> Result<Self, CodecError> {
+        let (a, (b, (c, (d, (e,))))) = first_fields(alloc, value)?;
         Ok((a, b, c, d, e))
     }
 }
@@ -200,7 +200,7 @@ impl<
 
     ghost refusal = { record_refusal ⟦<(A, (B, (C, (D, (E, (F,)))))) as FieldList>⟧.why };
 
-    fn decode(alloc: Global, value: PgValueRef<'_>) -> Result<(A, B, C, D, E, F), CodecError> {
+    fn decode(alloc: Global, value: PgValueRef<'_>) -> Result<Self, CodecError> {
         let (a, (b, (c, (d, (e, (f,)))))) = first_fields::<(A, (B, (C, (D, (E, (F,))))))>(
             alloc, value,
         )?;
@@ -242,7 +242,7 @@ impl<
 
     ghost refusal = { record_refusal ⟦<(A, (B, (C, (D, (E, (F, (G,))))))) as FieldList>⟧.why };
 
-    fn decode(alloc: Global, value: PgValueRef<'_>) -> Result<(A, B, C, D, E, F, G), CodecError> {
+    fn decode(alloc: Global, value: PgValueRef<'_>) -> Result<Self, CodecError> {
         let (a, (b, (c, (d, (e, (f, (g,))))))) = first_fields::<(A, (B, (C, (D, (E, (F, (G,)))))))>(
             alloc, value,
         )?;
@@ -285,13 +285,8 @@ impl<
 
     ghost refusal = { record_refusal ⟦<(A, (B, (C, (D, (E, (F, (G, (H,)))))))) as FieldList>⟧.why };
 
-    fn decode(
-        alloc: Global,
-        value: PgValueRef<'_>,
-    ) -> Result<(A, B, C, D, E, F, G, H), CodecError> {
-        let (a, (b, (c, (d, (e, (f, (g, (h,)))))))) = first_fields::<
-            (A, (B, (C, (D, (E, (F, (G, (H,)))))))),
-        >(alloc, value)?;
+    fn decode(alloc: Global, value: PgValueRef<'_>) -> Result<Self, CodecError> {
+        let (a, (b, (c, (d, (e, (f, (g, (h,)))))))) = first_fields(alloc, value)?;
         Ok((a, b, c, d, e, f, g, h))
     }
 }
@@ -332,13 +327,8 @@ impl<
 
     ghost refusal = { record_refusal ⟦<(A, (B, (C, (D, (E, (F, (G, (H, (I,))))))))) as FieldList>⟧.why };
 
-    fn decode(
-        alloc: Global,
-        value: PgValueRef<'_>,
-    ) -> Result<(A, B, C, D, E, F, G, H, I), CodecError> {
-        let (a, (b, (c, (d, (e, (f, (g, (h, (i,))))))))) = first_fields::<
-            (A, (B, (C, (D, (E, (F, (G, (H, (I,))))))))),
-        >(alloc, value)?;
+    fn decode(alloc: Global, value: PgValueRef<'_>) -> Result<Self, CodecError> {
+        let (a, (b, (c, (d, (e, (f, (g, (h, (i,))))))))) = first_fields(alloc, value)?;
         Ok((a, b, c, d, e, f, g, h, i))
     }
 }
