@@ -5,8 +5,10 @@ ghost use Rattle.std.specs.Prelude.{◌≡◌, ◌<◌, ◌^◌, ℕ, List, ◌�
 ghost use Rattle.pgv_types.specs.Ty.{Ty};
 ghost use Rattle.pgv_types.specs.declared.oid.Oid.{Oid};
 ghost use Rattle.pgv_buf.specs.Tokens.{Token};
-ghost use Rattle.pgv_nest.specs.NestRefusals.{field_then, next_refusal, record_refusal, record_takes};
 ghost use Rattle.pgv_nest.specs.NestBinary.{RecordIsItsFields, IsField, ◌and◌};
+ghost use Rattle.pgv_nest.specs.NestRefusals.{field_then, next_refusal, next_takes, record_refusal, record_takes, takes_then};
+ghost use Rattle.pgv_nest.specs.NestText.{IsTextField, ◌before◌};
+ghost use Rattle.pgv_nest.specs.TupleGrammar.{record_of};
 ghost use Rattle.pgv_codec.specs.Back.{AreOids, ReadsBack, FieldFits, FieldsFit, FieldReadsBack, RecordFieldsFollow, RecordReadsBack};
 ghost use Rattle.pgv_codec.specs.Image.{field};
 ghost use Rattle.pgv_codec.specs.Plain.{ArrayIsPlain, FieldIsPlain};
@@ -20,12 +22,11 @@ pub mod rows;
 pub mod texts;
 
 use crate::traits::{Codec, Decode, Plain, ReadBack, Type};
-use crate::types::field_list::FieldList;
+use crate::types::field_list::{FieldList, KeptList};
 
-/// The tuple that is decoded from bytes in binary is the one that they are a record of, whatever its fields are. It is refused with
-/// what refuses the record, and else with what its first field that isn't read is refused with. Memory is asked for only where there
-/// is a record.
-pub fn tuple_is_its_fields<
+/// A tuple is read as the list of its fields is. It is refused with what refuses the record, and else with what its first field that
+/// isn't read is refused with. Memory is asked for only where there is a record.
+pub fn tuple_is_its_list<
     A: Type + Decode,
     B: Type + Decode,
     C: Type + Decode,
@@ -36,24 +37,58 @@ pub fn tuple_is_its_fields<
     H: Type + Decode,
     I: Type + Decode,
 >()
-    ensures one { RecordIsItsFields ⟦<(A,) as Decode>⟧.reading (IsField A.accepts A.reading) }
-    ensures one_refused { (⟦<(A,) as Decode>⟧.refusal ≡ record_refusal (next_refusal A.accepts A.refusal)) × (⟦<(A,) as Decode>⟧.takes_memory ≡ record_takes ⟦<(A,) as FieldList>⟧.takes) }
-    ensures two { RecordIsItsFields ⟦<(A, B) as Decode>⟧.reading (IsField A.accepts A.reading and IsField B.accepts B.reading) }
-    ensures two_refused { (⟦<(A, B) as Decode>⟧.refusal ≡ record_refusal (field_then A.accepts A.reading A.refusal (next_refusal B.accepts B.refusal))) × (⟦<(A, B) as Decode>⟧.takes_memory ≡ record_takes ⟦<(A, (B,)) as FieldList>⟧.takes) }
-    ensures three { RecordIsItsFields ⟦<(A, B, C) as Decode>⟧.reading (IsField A.accepts A.reading and IsField B.accepts B.reading and IsField C.accepts C.reading) }
-    ensures three_refused { (⟦<(A, B, C) as Decode>⟧.refusal ≡ record_refusal (field_then A.accepts A.reading A.refusal (field_then B.accepts B.reading B.refusal (next_refusal C.accepts C.refusal)))) × (⟦<(A, B, C) as Decode>⟧.takes_memory ≡ record_takes ⟦<(A, (B, (C,))) as FieldList>⟧.takes) }
-    ensures four { RecordIsItsFields ⟦<(A, B, C, D) as Decode>⟧.reading (IsField A.accepts A.reading and IsField B.accepts B.reading and IsField C.accepts C.reading and IsField D.accepts D.reading) }
-    ensures four_refused { (⟦<(A, B, C, D) as Decode>⟧.refusal ≡ record_refusal (field_then A.accepts A.reading A.refusal (field_then B.accepts B.reading B.refusal (field_then C.accepts C.reading C.refusal (next_refusal D.accepts D.refusal))))) × (⟦<(A, B, C, D) as Decode>⟧.takes_memory ≡ record_takes ⟦<(A, (B, (C, (D,)))) as FieldList>⟧.takes) }
-    ensures five { RecordIsItsFields ⟦<(A, B, C, D, E) as Decode>⟧.reading (IsField A.accepts A.reading and IsField B.accepts B.reading and IsField C.accepts C.reading and IsField D.accepts D.reading and IsField E.accepts E.reading) }
-    ensures five_refused { (⟦<(A, B, C, D, E) as Decode>⟧.refusal ≡ record_refusal (field_then A.accepts A.reading A.refusal (field_then B.accepts B.reading B.refusal (field_then C.accepts C.reading C.refusal (field_then D.accepts D.reading D.refusal (next_refusal E.accepts E.refusal)))))) × (⟦<(A, B, C, D, E) as Decode>⟧.takes_memory ≡ record_takes ⟦<(A, (B, (C, (D, (E,))))) as FieldList>⟧.takes) }
-    ensures six { RecordIsItsFields ⟦<(A, B, C, D, E, F) as Decode>⟧.reading (IsField A.accepts A.reading and IsField B.accepts B.reading and IsField C.accepts C.reading and IsField D.accepts D.reading and IsField E.accepts E.reading and IsField F.accepts F.reading) }
-    ensures six_refused { (⟦<(A, B, C, D, E, F) as Decode>⟧.refusal ≡ record_refusal (field_then A.accepts A.reading A.refusal (field_then B.accepts B.reading B.refusal (field_then C.accepts C.reading C.refusal (field_then D.accepts D.reading D.refusal (field_then E.accepts E.reading E.refusal (next_refusal F.accepts F.refusal))))))) × (⟦<(A, B, C, D, E, F) as Decode>⟧.takes_memory ≡ record_takes ⟦<(A, (B, (C, (D, (E, (F,)))))) as FieldList>⟧.takes) }
-    ensures seven { RecordIsItsFields ⟦<(A, B, C, D, E, F, G) as Decode>⟧.reading (IsField A.accepts A.reading and IsField B.accepts B.reading and IsField C.accepts C.reading and IsField D.accepts D.reading and IsField E.accepts E.reading and IsField F.accepts F.reading and IsField G.accepts G.reading) }
-    ensures seven_refused { (⟦<(A, B, C, D, E, F, G) as Decode>⟧.refusal ≡ record_refusal (field_then A.accepts A.reading A.refusal (field_then B.accepts B.reading B.refusal (field_then C.accepts C.reading C.refusal (field_then D.accepts D.reading D.refusal (field_then E.accepts E.reading E.refusal (field_then F.accepts F.reading F.refusal (next_refusal G.accepts G.refusal)))))))) × (⟦<(A, B, C, D, E, F, G) as Decode>⟧.takes_memory ≡ record_takes ⟦<(A, (B, (C, (D, (E, (F, (G,))))))) as FieldList>⟧.takes) }
-    ensures eight { RecordIsItsFields ⟦<(A, B, C, D, E, F, G, H) as Decode>⟧.reading (IsField A.accepts A.reading and IsField B.accepts B.reading and IsField C.accepts C.reading and IsField D.accepts D.reading and IsField E.accepts E.reading and IsField F.accepts F.reading and IsField G.accepts G.reading and IsField H.accepts H.reading) }
-    ensures eight_refused { (⟦<(A, B, C, D, E, F, G, H) as Decode>⟧.refusal ≡ record_refusal (field_then A.accepts A.reading A.refusal (field_then B.accepts B.reading B.refusal (field_then C.accepts C.reading C.refusal (field_then D.accepts D.reading D.refusal (field_then E.accepts E.reading E.refusal (field_then F.accepts F.reading F.refusal (field_then G.accepts G.reading G.refusal (next_refusal H.accepts H.refusal))))))))) × (⟦<(A, B, C, D, E, F, G, H) as Decode>⟧.takes_memory ≡ record_takes ⟦<(A, (B, (C, (D, (E, (F, (G, (H,)))))))) as FieldList>⟧.takes) }
-    ensures nine { RecordIsItsFields ⟦<(A, B, C, D, E, F, G, H, I) as Decode>⟧.reading (IsField A.accepts A.reading and IsField B.accepts B.reading and IsField C.accepts C.reading and IsField D.accepts D.reading and IsField E.accepts E.reading and IsField F.accepts F.reading and IsField G.accepts G.reading and IsField H.accepts H.reading and IsField I.accepts I.reading) }
-    ensures nine_refused { (⟦<(A, B, C, D, E, F, G, H, I) as Decode>⟧.refusal ≡ record_refusal (field_then A.accepts A.reading A.refusal (field_then B.accepts B.reading B.refusal (field_then C.accepts C.reading C.refusal (field_then D.accepts D.reading D.refusal (field_then E.accepts E.reading E.refusal (field_then F.accepts F.reading F.refusal (field_then G.accepts G.reading G.refusal (field_then H.accepts H.reading H.refusal (next_refusal I.accepts I.refusal)))))))))) × (⟦<(A, B, C, D, E, F, G, H, I) as Decode>⟧.takes_memory ≡ record_takes ⟦<(A, (B, (C, (D, (E, (F, (G, (H, (I,))))))))) as FieldList>⟧.takes) }
+    ensures one { ⟦<(A,) as Decode>⟧.reading ≡ record_of ⟦<(A,) as FieldList>⟧.step }
+    ensures one_refused { ⟦<(A,) as Decode>⟧.refusal ≡ record_refusal ⟦<(A,) as FieldList>⟧.why }
+    ensures one_takes { ⟦<(A,) as Decode>⟧.takes_memory ≡ record_takes ⟦<(A,) as FieldList>⟧.takes }
+    ensures two { ⟦<(A, B) as Decode>⟧.reading ≡ record_of ⟦<(A, (B,)) as FieldList>⟧.step }
+    ensures two_refused { ⟦<(A, B) as Decode>⟧.refusal ≡ record_refusal ⟦<(A, (B,)) as FieldList>⟧.why }
+    ensures two_takes { ⟦<(A, B) as Decode>⟧.takes_memory ≡ record_takes ⟦<(A, (B,)) as FieldList>⟧.takes }
+    ensures three { ⟦<(A, B, C) as Decode>⟧.reading ≡ record_of ⟦<(A, (B, (C,))) as FieldList>⟧.step }
+    ensures three_refused { ⟦<(A, B, C) as Decode>⟧.refusal ≡ record_refusal ⟦<(A, (B, (C,))) as FieldList>⟧.why }
+    ensures three_takes { ⟦<(A, B, C) as Decode>⟧.takes_memory ≡ record_takes ⟦<(A, (B, (C,))) as FieldList>⟧.takes }
+    ensures four { ⟦<(A, B, C, D) as Decode>⟧.reading ≡ record_of ⟦<(A, (B, (C, (D,)))) as FieldList>⟧.step }
+    ensures four_refused { ⟦<(A, B, C, D) as Decode>⟧.refusal ≡ record_refusal ⟦<(A, (B, (C, (D,)))) as FieldList>⟧.why }
+    ensures four_takes { ⟦<(A, B, C, D) as Decode>⟧.takes_memory ≡ record_takes ⟦<(A, (B, (C, (D,)))) as FieldList>⟧.takes }
+    ensures five { ⟦<(A, B, C, D, E) as Decode>⟧.reading ≡ record_of ⟦<(A, (B, (C, (D, (E,))))) as FieldList>⟧.step }
+    ensures five_refused { ⟦<(A, B, C, D, E) as Decode>⟧.refusal ≡ record_refusal ⟦<(A, (B, (C, (D, (E,))))) as FieldList>⟧.why }
+    ensures five_takes { ⟦<(A, B, C, D, E) as Decode>⟧.takes_memory ≡ record_takes ⟦<(A, (B, (C, (D, (E,))))) as FieldList>⟧.takes }
+    ensures six { ⟦<(A, B, C, D, E, F) as Decode>⟧.reading ≡ record_of ⟦<(A, (B, (C, (D, (E, (F,)))))) as FieldList>⟧.step }
+    ensures six_refused { ⟦<(A, B, C, D, E, F) as Decode>⟧.refusal ≡ record_refusal ⟦<(A, (B, (C, (D, (E, (F,)))))) as FieldList>⟧.why }
+    ensures six_takes { ⟦<(A, B, C, D, E, F) as Decode>⟧.takes_memory ≡ record_takes ⟦<(A, (B, (C, (D, (E, (F,)))))) as FieldList>⟧.takes }
+    ensures seven { ⟦<(A, B, C, D, E, F, G) as Decode>⟧.reading ≡ record_of ⟦<(A, (B, (C, (D, (E, (F, (G,))))))) as FieldList>⟧.step }
+    ensures seven_refused { ⟦<(A, B, C, D, E, F, G) as Decode>⟧.refusal ≡ record_refusal ⟦<(A, (B, (C, (D, (E, (F, (G,))))))) as FieldList>⟧.why }
+    ensures seven_takes { ⟦<(A, B, C, D, E, F, G) as Decode>⟧.takes_memory ≡ record_takes ⟦<(A, (B, (C, (D, (E, (F, (G,))))))) as FieldList>⟧.takes }
+    ensures eight { ⟦<(A, B, C, D, E, F, G, H) as Decode>⟧.reading ≡ record_of ⟦<(A, (B, (C, (D, (E, (F, (G, (H,)))))))) as FieldList>⟧.step }
+    ensures eight_refused { ⟦<(A, B, C, D, E, F, G, H) as Decode>⟧.refusal ≡ record_refusal ⟦<(A, (B, (C, (D, (E, (F, (G, (H,)))))))) as FieldList>⟧.why }
+    ensures eight_takes { ⟦<(A, B, C, D, E, F, G, H) as Decode>⟧.takes_memory ≡ record_takes ⟦<(A, (B, (C, (D, (E, (F, (G, (H,)))))))) as FieldList>⟧.takes }
+    ensures nine { ⟦<(A, B, C, D, E, F, G, H, I) as Decode>⟧.reading ≡ record_of ⟦<(A, (B, (C, (D, (E, (F, (G, (H, (I,))))))))) as FieldList>⟧.step }
+    ensures nine_refused { ⟦<(A, B, C, D, E, F, G, H, I) as Decode>⟧.refusal ≡ record_refusal ⟦<(A, (B, (C, (D, (E, (F, (G, (H, (I,))))))))) as FieldList>⟧.why }
+    ensures nine_takes { ⟦<(A, B, C, D, E, F, G, H, I) as Decode>⟧.takes_memory ≡ record_takes ⟦<(A, (B, (C, (D, (E, (F, (G, (H, (I,))))))))) as FieldList>⟧.takes }
+{}
+
+/// What a list of fields is: a field, or a field and then the rest. So it is for what its bytes and texts are, for why it is refused,
+/// where it asks for memory, and for what is written and kept of it and what it fits.
+pub fn lists_are_their_fields<A: ReadBack + Type, Rest: KeptList>()
+    ensures one { ⟦<(A,) as FieldList>⟧.in_binary ≡ IsField A.accepts A.reading }
+    ensures one_text { ⟦<(A,) as FieldList>⟧.in_text ≡ IsTextField A.reading }
+    ensures one_refused { ⟦<(A,) as FieldList>⟧.why ≡ next_refusal A.accepts A.refusal }
+    ensures one_takes { ⟦<(A,) as FieldList>⟧.takes ≡ next_takes A.accepts A.takes_memory }
+    ensures one_written { (a : (A,)) (further : List (Option (List Token))) → ⟦<(A,) as KeptList>⟧.written a further ≡ field A.hint A.image A.produced A.info a.0 ∷ further }
+    ensures one_means { (a : (A,)) → ⟦<(A,) as FieldList>⟧.meaning (⟦<(A,) as KeptList>⟧.kept a) ≡ A.meaning (A.kept a.0) }
+    ensures one_fits { (a : (A,)) → ⟦<(A,) as KeptList>⟧.fits a ≡ FieldFits A.info A.produced A.image A.accepts A.fits a.0 }
+    ensures more { ⟦<(A, Rest) as FieldList>⟧.in_binary ≡ (IsField A.accepts A.reading and Rest.in_binary) }
+    ensures more_text { ⟦<(A, Rest) as FieldList>⟧.in_text ≡ (IsTextField A.reading before Rest.in_text) }
+    ensures more_refused { ⟦<(A, Rest) as FieldList>⟧.why ≡ field_then A.accepts A.reading A.refusal Rest.why }
+    ensures more_take { ⟦<(A, Rest) as FieldList>⟧.takes ≡ takes_then A.accepts A.reading A.takes_memory Rest.takes }
+    ensures more_written { (l : (A, Rest)) (further : List (Option (List Token))) → ⟦<(A, Rest) as KeptList>⟧.written l further ≡ field A.hint A.image A.produced A.info l.0 ∷ Rest.written l.1 further }
+    ensures more_mean { (l : (A, Rest)) → ⟦<(A, Rest) as FieldList>⟧.meaning (⟦<(A, Rest) as KeptList>⟧.kept l) ≡ (A.meaning (A.kept l.0), Rest.meaning (Rest.kept l.1)) }
+    ensures more_fit { (l : (A, Rest)) → ⟦<(A, Rest) as KeptList>⟧.fits l ≡ FieldsFit A.info A.produced A.hint A.image A.accepts A.fits l.0 (Rest.fits l.1) }
+{}
+
+/// The tuple that is decoded from bytes in binary is the one that they are a record of, whatever its fields are: as a list of these,
+/// by [`tuple_is_its_list`].
+pub fn tuple_is_its_fields<Fields: FieldList>()
+    ensures { RecordIsItsFields (record_of Fields.step) Fields.in_binary }
 {}
 
 /// Whatever a record encoder accepted and refused, in any order, and then was given `finish`: the buffer is what stood before
@@ -97,28 +132,10 @@ pub fn record_fields_follow()
     ensures { RecordFieldsFollow }
 {}
 
-/// A record that was written is read back by a tuple of its first fields, under each type that these fit, each with the OIDs
-/// that those before it leave.
-pub fn tuple_reads_back<
-    A: ReadBack + Type,
-    B: ReadBack + Type,
-    C: ReadBack + Type,
-    D: ReadBack + Type,
-    E: ReadBack + Type,
-    F: ReadBack + Type,
-    G: ReadBack + Type,
-    H: ReadBack + Type,
-    I: ReadBack + Type,
->()
-    ensures one { (a : A) (further : List (Option (List Token))) → RecordReadsBack ⟦<(A,) as Decode>⟧.reading (field A.hint A.image A.produced A.info a ∷ further) (A.meaning (A.kept a)) (FieldFits A.info A.produced A.image A.accepts A.fits a) }
-    ensures two { (a : A) (b : B) (further : List (Option (List Token))) → RecordReadsBack ⟦<(A, B) as Decode>⟧.reading (field A.hint A.image A.produced A.info a ∷ field B.hint B.image B.produced B.info b ∷ further) (A.meaning (A.kept a), B.meaning (B.kept b)) (FieldsFit A.info A.produced A.hint A.image A.accepts A.fits a (FieldFits B.info B.produced B.image B.accepts B.fits b)) }
-    ensures three { (a : A) (b : B) (c : C) (further : List (Option (List Token))) → RecordReadsBack ⟦<(A, B, C) as Decode>⟧.reading (field A.hint A.image A.produced A.info a ∷ field B.hint B.image B.produced B.info b ∷ field C.hint C.image C.produced C.info c ∷ further) (A.meaning (A.kept a), (B.meaning (B.kept b), C.meaning (C.kept c))) (FieldsFit A.info A.produced A.hint A.image A.accepts A.fits a (FieldsFit B.info B.produced B.hint B.image B.accepts B.fits b (FieldFits C.info C.produced C.image C.accepts C.fits c))) }
-    ensures four { (a : A) (b : B) (c : C) (d : D) (further : List (Option (List Token))) → RecordReadsBack ⟦<(A, B, C, D) as Decode>⟧.reading (field A.hint A.image A.produced A.info a ∷ field B.hint B.image B.produced B.info b ∷ field C.hint C.image C.produced C.info c ∷ field D.hint D.image D.produced D.info d ∷ further) (A.meaning (A.kept a), (B.meaning (B.kept b), (C.meaning (C.kept c), D.meaning (D.kept d)))) (FieldsFit A.info A.produced A.hint A.image A.accepts A.fits a (FieldsFit B.info B.produced B.hint B.image B.accepts B.fits b (FieldsFit C.info C.produced C.hint C.image C.accepts C.fits c (FieldFits D.info D.produced D.image D.accepts D.fits d)))) }
-    ensures five { (a : A) (b : B) (c : C) (d : D) (e : E) (further : List (Option (List Token))) → RecordReadsBack ⟦<(A, B, C, D, E) as Decode>⟧.reading (field A.hint A.image A.produced A.info a ∷ field B.hint B.image B.produced B.info b ∷ field C.hint C.image C.produced C.info c ∷ field D.hint D.image D.produced D.info d ∷ field E.hint E.image E.produced E.info e ∷ further) (A.meaning (A.kept a), (B.meaning (B.kept b), (C.meaning (C.kept c), (D.meaning (D.kept d), E.meaning (E.kept e))))) (FieldsFit A.info A.produced A.hint A.image A.accepts A.fits a (FieldsFit B.info B.produced B.hint B.image B.accepts B.fits b (FieldsFit C.info C.produced C.hint C.image C.accepts C.fits c (FieldsFit D.info D.produced D.hint D.image D.accepts D.fits d (FieldFits E.info E.produced E.image E.accepts E.fits e))))) }
-    ensures six { (a : A) (b : B) (c : C) (d : D) (e : E) (f : F) (further : List (Option (List Token))) → RecordReadsBack ⟦<(A, B, C, D, E, F) as Decode>⟧.reading (field A.hint A.image A.produced A.info a ∷ field B.hint B.image B.produced B.info b ∷ field C.hint C.image C.produced C.info c ∷ field D.hint D.image D.produced D.info d ∷ field E.hint E.image E.produced E.info e ∷ field F.hint F.image F.produced F.info f ∷ further) (A.meaning (A.kept a), (B.meaning (B.kept b), (C.meaning (C.kept c), (D.meaning (D.kept d), (E.meaning (E.kept e), F.meaning (F.kept f)))))) (FieldsFit A.info A.produced A.hint A.image A.accepts A.fits a (FieldsFit B.info B.produced B.hint B.image B.accepts B.fits b (FieldsFit C.info C.produced C.hint C.image C.accepts C.fits c (FieldsFit D.info D.produced D.hint D.image D.accepts D.fits d (FieldsFit E.info E.produced E.hint E.image E.accepts E.fits e (FieldFits F.info F.produced F.image F.accepts F.fits f)))))) }
-    ensures seven { (a : A) (b : B) (c : C) (d : D) (e : E) (f : F) (g : G) (further : List (Option (List Token))) → RecordReadsBack ⟦<(A, B, C, D, E, F, G) as Decode>⟧.reading (field A.hint A.image A.produced A.info a ∷ field B.hint B.image B.produced B.info b ∷ field C.hint C.image C.produced C.info c ∷ field D.hint D.image D.produced D.info d ∷ field E.hint E.image E.produced E.info e ∷ field F.hint F.image F.produced F.info f ∷ field G.hint G.image G.produced G.info g ∷ further) (A.meaning (A.kept a), (B.meaning (B.kept b), (C.meaning (C.kept c), (D.meaning (D.kept d), (E.meaning (E.kept e), (F.meaning (F.kept f), G.meaning (G.kept g))))))) (FieldsFit A.info A.produced A.hint A.image A.accepts A.fits a (FieldsFit B.info B.produced B.hint B.image B.accepts B.fits b (FieldsFit C.info C.produced C.hint C.image C.accepts C.fits c (FieldsFit D.info D.produced D.hint D.image D.accepts D.fits d (FieldsFit E.info E.produced E.hint E.image E.accepts E.fits e (FieldsFit F.info F.produced F.hint F.image F.accepts F.fits f (FieldFits G.info G.produced G.image G.accepts G.fits g))))))) }
-    ensures eight { (a : A) (b : B) (c : C) (d : D) (e : E) (f : F) (g : G) (h : H) (further : List (Option (List Token))) → RecordReadsBack ⟦<(A, B, C, D, E, F, G, H) as Decode>⟧.reading (field A.hint A.image A.produced A.info a ∷ field B.hint B.image B.produced B.info b ∷ field C.hint C.image C.produced C.info c ∷ field D.hint D.image D.produced D.info d ∷ field E.hint E.image E.produced E.info e ∷ field F.hint F.image F.produced F.info f ∷ field G.hint G.image G.produced G.info g ∷ field H.hint H.image H.produced H.info h ∷ further) (A.meaning (A.kept a), (B.meaning (B.kept b), (C.meaning (C.kept c), (D.meaning (D.kept d), (E.meaning (E.kept e), (F.meaning (F.kept f), (G.meaning (G.kept g), H.meaning (H.kept h)))))))) (FieldsFit A.info A.produced A.hint A.image A.accepts A.fits a (FieldsFit B.info B.produced B.hint B.image B.accepts B.fits b (FieldsFit C.info C.produced C.hint C.image C.accepts C.fits c (FieldsFit D.info D.produced D.hint D.image D.accepts D.fits d (FieldsFit E.info E.produced E.hint E.image E.accepts E.fits e (FieldsFit F.info F.produced F.hint F.image F.accepts F.fits f (FieldsFit G.info G.produced G.hint G.image G.accepts G.fits g (FieldFits H.info H.produced H.image H.accepts H.fits h)))))))) }
-    ensures nine { (a : A) (b : B) (c : C) (d : D) (e : E) (f : F) (g : G) (h : H) (i : I) (further : List (Option (List Token))) → RecordReadsBack ⟦<(A, B, C, D, E, F, G, H, I) as Decode>⟧.reading (field A.hint A.image A.produced A.info a ∷ field B.hint B.image B.produced B.info b ∷ field C.hint C.image C.produced C.info c ∷ field D.hint D.image D.produced D.info d ∷ field E.hint E.image E.produced E.info e ∷ field F.hint F.image F.produced F.info f ∷ field G.hint G.image G.produced G.info g ∷ field H.hint H.image H.produced H.info h ∷ field I.hint I.image I.produced I.info i ∷ further) (A.meaning (A.kept a), (B.meaning (B.kept b), (C.meaning (C.kept c), (D.meaning (D.kept d), (E.meaning (E.kept e), (F.meaning (F.kept f), (G.meaning (G.kept g), (H.meaning (H.kept h), I.meaning (I.kept i))))))))) (FieldsFit A.info A.produced A.hint A.image A.accepts A.fits a (FieldsFit B.info B.produced B.hint B.image B.accepts B.fits b (FieldsFit C.info C.produced C.hint C.image C.accepts C.fits c (FieldsFit D.info D.produced D.hint D.image D.accepts D.fits d (FieldsFit E.info E.produced E.hint E.image E.accepts E.fits e (FieldsFit F.info F.produced F.hint F.image F.accepts F.fits f (FieldsFit G.info G.produced G.hint G.image G.accepts G.fits g (FieldsFit H.info H.produced H.hint H.image H.accepts H.fits h (FieldFits I.info I.produced I.image I.accepts I.fits i))))))))) }
+/// A record that was written is read back by a tuple of its first fields, as a list of these ([`tuple_is_its_list`]), under each type
+/// that they fit, each with the OIDs that those before it leave.
+pub fn tuple_reads_back<Fields: KeptList>()
+    ensures { (fields : Fields) (further : List (Option (List Token))) → RecordReadsBack (record_of Fields.step) (Fields.written fields further) (Fields.meaning (Fields.kept fields)) (Fields.fits fields) }
 {}
 
 /// A plain value comes back under every type: no type chooses under which.

@@ -1,9 +1,11 @@
 //! Laws of what lists, arrays and tuples in text are: each is the contract of a function that does nothing.
 
-ghost use Rattle.pgv_nest.specs.NestText.{IsArrayInText, IsRecordInText, IsSizedInText, IsTextField, TextIs, ◌before◌};
+ghost use Rattle.pgv_nest.specs.NestText.{IsArrayInText, IsRecordInText, IsSizedInText, TextIs};
+ghost use Rattle.pgv_nest.specs.TupleGrammar.{record_of};
 ghost use Rattle.pgv_value.specs.declared.value.PgValueFormat.TheVariants.{Text};
 
 use crate::traits::{Decode, Type};
+use crate::types::field_list::FieldList;
 use pgv_text::laws::{array_is_its_values, record_is_its_values};
 
 /// The list that is decoded from a text is the one of which the text is an array, each element read under its own type; and so
@@ -15,27 +17,10 @@ pub fn array_text_is_its_elements<T: Type + Decode, const N: usize>()
     array_is_its_values();
 }
 
-/// The tuple that is decoded from a text is the one that the text is a record of, whatever its fields are.
-pub fn tuple_text_is_its_fields<
-    A: Type + Decode,
-    B: Type + Decode,
-    C: Type + Decode,
-    D: Type + Decode,
-    E: Type + Decode,
-    F: Type + Decode,
-    G: Type + Decode,
-    H: Type + Decode,
-    I: Type + Decode,
->()
-    ensures one { TextIs ⟦<(A,) as Decode>⟧.reading (IsRecordInText (IsTextField A.reading)) }
-    ensures two { TextIs ⟦<(A, B) as Decode>⟧.reading (IsRecordInText (IsTextField A.reading before IsTextField B.reading)) }
-    ensures three { TextIs ⟦<(A, B, C) as Decode>⟧.reading (IsRecordInText (IsTextField A.reading before IsTextField B.reading before IsTextField C.reading)) }
-    ensures four { TextIs ⟦<(A, B, C, D) as Decode>⟧.reading (IsRecordInText (IsTextField A.reading before IsTextField B.reading before IsTextField C.reading before IsTextField D.reading)) }
-    ensures five { TextIs ⟦<(A, B, C, D, E) as Decode>⟧.reading (IsRecordInText (IsTextField A.reading before IsTextField B.reading before IsTextField C.reading before IsTextField D.reading before IsTextField E.reading)) }
-    ensures six { TextIs ⟦<(A, B, C, D, E, F) as Decode>⟧.reading (IsRecordInText (IsTextField A.reading before IsTextField B.reading before IsTextField C.reading before IsTextField D.reading before IsTextField E.reading before IsTextField F.reading)) }
-    ensures seven { TextIs ⟦<(A, B, C, D, E, F, G) as Decode>⟧.reading (IsRecordInText (IsTextField A.reading before IsTextField B.reading before IsTextField C.reading before IsTextField D.reading before IsTextField E.reading before IsTextField F.reading before IsTextField G.reading)) }
-    ensures eight { TextIs ⟦<(A, B, C, D, E, F, G, H) as Decode>⟧.reading (IsRecordInText (IsTextField A.reading before IsTextField B.reading before IsTextField C.reading before IsTextField D.reading before IsTextField E.reading before IsTextField F.reading before IsTextField G.reading before IsTextField H.reading)) }
-    ensures nine { TextIs ⟦<(A, B, C, D, E, F, G, H, I) as Decode>⟧.reading (IsRecordInText (IsTextField A.reading before IsTextField B.reading before IsTextField C.reading before IsTextField D.reading before IsTextField E.reading before IsTextField F.reading before IsTextField G.reading before IsTextField H.reading before IsTextField I.reading)) }
+/// The tuple that is decoded from a text is the one that the text is a record of, whatever its fields are: as a list of these, by
+/// [`tuple_is_its_list`](super::tuple_is_its_list).
+pub fn tuple_text_is_its_fields<Fields: FieldList>()
+    ensures { TextIs (record_of Fields.step) (IsRecordInText Fields.in_text) }
 {
     record_is_its_values();
 }

@@ -13,8 +13,7 @@ use pgv_value::{CodecError, PgValueRef, read_bool};
 use std::alloc::Global;
 
 impl HasBuiltIn for bool {}
-/// A `bool` (OID 16), read under `bool` and domains over it.
-/// An array of them is a `bool[]` (OID 1000).
+/// A `bool` (OID 16), read under `bool` and domains over it. An array of them is a `bool[]` (OID 1000).
 impl BuiltIn for Of<bool> {
     ghost INFO = { builtin 16 };
 

@@ -23,8 +23,7 @@ fn days_from_2000(date: Date) -> i32
 }
 
 impl HasBuiltIn for Date {}
-/// `date` (OID 1082), read under `date` and domains over it.
-/// An array of them is `date[]` (OID 1182).
+/// `date` (OID 1082), read under `date` and domains over it. An array of them is `date[]` (OID 1182).
 impl BuiltIn for Of<Date> {
     ghost INFO = { builtin 1082 };
 

@@ -23,8 +23,7 @@ fn micros_from_2000(at: DateTime) -> i64
 }
 
 impl HasBuiltIn for DateTime {}
-/// `timestamp` (OID 1114), read under `timestamp` and domains over it.
-/// An array of them is `timestamp[]` (OID 1115).
+/// `timestamp` (OID 1114), read under `timestamp` and domains over it. An array of them is `timestamp[]` (OID 1115).
 impl BuiltIn for Of<DateTime> {
     ghost INFO = { builtin 1114 };
 

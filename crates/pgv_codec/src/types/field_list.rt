@@ -4,17 +4,18 @@ ghost use Rattle.std.specs.Prelude.{◌≡◌, ℕ, Bool, List, ◌∷◌, Optio
 ghost use Rattle.pgv_value.specs.Reading.{Answers, AnswersExactly, Refuses};
 ghost use Rattle.pgv_value.specs.declared.error.CodecError.{CodecError as Error};
 ghost use Rattle.pgv_value.specs.declared.error.CodecError.TheVariants.{UnexpectedNull};
-ghost use Rattle.pgv_nest.proofs.RecordGrammars.{FindExactly};
-ghost use Rattle.pgv_nest.proofs.TextGrammars.{FindInText};
-ghost use Rattle.pgv_nest.specs.NestBinary.{Stretch};
-ghost use Rattle.pgv_nest.specs.NestText.{TextStretch};
-ghost use Rattle.pgv_nest.specs.RecordGrammar.{Left};
-ghost use Rattle.pgv_nest.specs.TupleGrammar.{record_of};
-ghost use Rattle.pgv_nest.specs.NestRefusals.{record_refusal, record_takes};
+ghost use Rattle.pgv_nest.proofs.RecordGrammars.{FindExactly, one_found, further_found};
+ghost use Rattle.pgv_nest.proofs.TextGrammars.{FindInText, text_field, further_text};
+ghost use Rattle.pgv_nest.specs.NestBinary.{Stretch, IsField, ◌and◌};
+ghost use Rattle.pgv_nest.specs.NestText.{TextStretch, IsTextField, ◌before◌};
+ghost use Rattle.pgv_nest.specs.RecordGrammar.{Left, next};
+ghost use Rattle.pgv_nest.specs.TupleGrammar.{record_of, ◌then◌};
+ghost use Rattle.pgv_nest.specs.NestRefusals.{field_then, next_refusal, next_takes, record_refusal, record_takes, takes_then};
 ghost use Rattle.pgv_buf.specs.Tokens.{Token};
 ghost use Rattle.pgv_types.specs.Ty.{Ty};
 ghost use Rattle.pgv_types.specs.declared.oid.Oid.{Oid};
-ghost use Rattle.pgv_codec.specs.Back.{FieldsBack};
+ghost use Rattle.pgv_codec.specs.Back.{FieldFits, FieldsFit, FieldsBack};
+ghost use Rattle.pgv_codec.specs.BackRecords.{last_back, further_back};
 ghost use Rattle.pgv_codec.specs.Image.{field};
 ghost use Rattle.pgv_codec.specs.Refusing.{RefusedExactly, RefusedFor};
 
@@ -64,13 +65,6 @@ pub trait FieldList: Sized + Drop {
 
 /// The last field.
 impl<A: Type + Decode> FieldList for (A,) {
-    ghost use Rattle.pgv_nest.proofs.RecordGrammars.{one_found};
-    ghost use Rattle.pgv_nest.proofs.TextGrammars.{text_field};
-    ghost use Rattle.pgv_nest.specs.NestBinary.{IsField};
-    ghost use Rattle.pgv_nest.specs.NestText.{IsTextField};
-    ghost use Rattle.pgv_nest.specs.NestRefusals.{next_refusal, next_takes};
-    ghost use Rattle.pgv_nest.specs.RecordGrammar.{next};
-
     ghost Meaning = { A.Meaning };
 
     ghost meaning = { λ list. A.meaning list.0 };
@@ -97,14 +91,6 @@ impl<A: Type + Decode> FieldList for (A,) {
 
 /// A field and the rest.
 impl<A: Type + Decode, Rest: FieldList> FieldList for (A, Rest) {
-    ghost use Rattle.pgv_nest.proofs.RecordGrammars.{further_found};
-    ghost use Rattle.pgv_nest.proofs.TextGrammars.{further_text};
-    ghost use Rattle.pgv_nest.specs.NestBinary.{IsField, ◌and◌};
-    ghost use Rattle.pgv_nest.specs.NestText.{IsTextField, ◌before◌};
-    ghost use Rattle.pgv_nest.specs.NestRefusals.{field_then, takes_then};
-    ghost use Rattle.pgv_nest.specs.RecordGrammar.{next};
-    ghost use Rattle.pgv_nest.specs.TupleGrammar.{◌then◌};
-
     ghost Meaning = { A.Meaning × Rest.Meaning };
 
     ghost meaning = { λ list. (A.meaning list.0, Rest.meaning list.1) };
@@ -148,9 +134,6 @@ pub trait KeptList: FieldList {
 
 /// The last field.
 impl<A: ReadBack + Type> KeptList for (A,) {
-    ghost use Rattle.pgv_codec.specs.Back.{FieldFits};
-    ghost use Rattle.pgv_codec.specs.BackRecords.{last_back};
-
     ghost written = { λ list further. field A.hint A.image A.produced A.info list.0 ∷ further };
 
     ghost kept = { λ list. record { 0 = A.kept list.0 } };
@@ -162,9 +145,6 @@ impl<A: ReadBack + Type> KeptList for (A,) {
 
 /// A field and the rest.
 impl<A: ReadBack + Type, Rest: KeptList> KeptList for (A, Rest) {
-    ghost use Rattle.pgv_codec.specs.Back.{FieldsFit};
-    ghost use Rattle.pgv_codec.specs.BackRecords.{further_back};
-
     ghost written = { λ list further. field A.hint A.image A.produced A.info list.0 ∷ Rest.written list.1 further };
 
     ghost kept = { λ list. (A.kept list.0, Rest.kept list.1) };

@@ -14,8 +14,7 @@ use pgv_value::{CodecError, PgValueRef, read_oid};
 use std::alloc::Global;
 
 impl HasBuiltIn for Oid {}
-/// `oid` (OID 26), read under `oid` and domains over it.
-/// An array of them is `oid[]` (OID 1028).
+/// `oid` (OID 26), read under `oid` and domains over it. An array of them is `oid[]` (OID 1028).
 impl BuiltIn for Of<Oid> {
     ghost INFO = { builtin 26 };
 

@@ -23,8 +23,7 @@ pub fn micros_of_day(time: Time) -> i64
 }
 
 impl HasBuiltIn for Time {}
-/// `time` (OID 1083), read under `time` and domains over it.
-/// An array of them is `time[]` (OID 1183).
+/// `time` (OID 1083), read under `time` and domains over it. An array of them is `time[]` (OID 1183).
 impl BuiltIn for Of<Time> {
     ghost INFO = { builtin 1083 };
 

@@ -22,8 +22,7 @@ fn micros_from_2000(at: Timestamp) -> i64
 }
 
 impl HasBuiltIn for Timestamp {}
-/// `timestamptz` (OID 1184), read under `timestamptz` and domains over it.
-/// An array of them is `timestamptz[]` (OID 1185).
+/// `timestamptz` (OID 1184), read under `timestamptz` and domains over it. An array of them is `timestamptz[]` (OID 1185).
 impl BuiltIn for Of<Timestamp> {
     ghost INFO = { builtin 1184 };
 

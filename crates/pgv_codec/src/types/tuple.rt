@@ -26,7 +26,7 @@ impl<A: Type + Decode> Decode for (A,) {
 
     ghost refusal = { record_refusal ⟦<(A,) as FieldList>⟧.why };
 
-    fn decode(alloc: Global, value: PgValueRef<'_>) -> Result<(A,), CodecError> {
+    fn decode(alloc: Global, value: PgValueRef<'_>) -> Result<Self, CodecError> {
         first_fields(alloc, value)
     }
 }
@@ -58,11 +58,8 @@ impl<A: Type + Decode, B: Type + Decode> Decode for (A, B) {
 
     ghost refusal = { record_refusal ⟦<(A, (B,)) as FieldList>⟧.why };
 
-    fn decode(alloc: Global, value: PgValueRef<'_>) -> Result<(A, B), CodecError> {
-        match first_fields::<(A, (B,))>(alloc, value) {
-            Ok((a, (b,))) => Ok((a, b)),
-            Err(error) => Err(error),
-        }
+    fn decode(alloc: Global, value: PgValueRef<'_>) -> Result<Self, CodecError> {
+        first_fields(alloc, value).map(|(a, (b,))| (a, b))
     }
 }
 
@@ -92,8 +89,8 @@ impl<A: Type + Decode, B: Type + Decode, C: Type + Decode> Decode for (A, B, C) 
 
     ghost refusal = { record_refusal ⟦<(A, (B, (C,))) as FieldList>⟧.why };
 
-    fn decode(alloc: Global, value: PgValueRef<'_>) -> Result<(A, B, C), CodecError> {
-        first_fields::<(A, (B, (C,)))>(alloc, value).map(|(a, (b, (c,)))| (a, b, c))
+    fn decode(alloc: Global, value: PgValueRef<'_>) -> Result<Self, CodecError> {
+        first_fields(alloc, value).map(|(a, (b, (c,)))| (a, b, c))
     }
 }
 
@@ -124,9 +121,8 @@ impl<A: Type + Decode, B: Type + Decode, C: Type + Decode, D: Type + Decode> Dec
 
     ghost refusal = { record_refusal ⟦<(A, (B, (C, (D,)))) as FieldList>⟧.why };
 
-    fn decode(alloc: Global, value: PgValueRef<'_>) -> Result<(A, B, C, D), CodecError> {
-        let (a, (b, (c, (d,)))) = first_fields::<(A, (B, (C, (D,))))>(alloc, value)?;
-        Ok((a, b, c, d))
+    fn decode(alloc: Global, value: PgValueRef<'_>) -> Result<Self, CodecError> {
+        first_fields(alloc, value).map(|(a, (b, (c, (d,))))| (a, b, c, d))
     }
 }
 
@@ -162,9 +158,8 @@ impl<
 
     ghost refusal = { record_refusal ⟦<(A, (B, (C, (D, (E,))))) as FieldList>⟧.why };
 
-    fn decode(alloc: Global, value: PgValueRef<'_>) -> Result<(A, B, C, D, E), CodecError> {
-        let (a, (b, (c, (d, (e,))))) = first_fields::<(A, (B, (C, (D, (E,)))))>(alloc, value)?;
-        Ok((a, b, c, d, e))
+    fn decode(alloc: Global, value: PgValueRef<'_>) -> Result<Self, CodecError> {
+        first_fields(alloc, value).map(|(a, (b, (c, (d, (e,)))))| (a, b, c, d, e))
     }
 }
 
@@ -201,11 +196,8 @@ impl<
 
     ghost refusal = { record_refusal ⟦<(A, (B, (C, (D, (E, (F,)))))) as FieldList>⟧.why };
 
-    fn decode(alloc: Global, value: PgValueRef<'_>) -> Result<(A, B, C, D, E, F), CodecError> {
-        let (a, (b, (c, (d, (e, (f,)))))) = first_fields::<(A, (B, (C, (D, (E, (F,))))))>(
-            alloc, value,
-        )?;
-        Ok((a, b, c, d, e, f))
+    fn decode(alloc: Global, value: PgValueRef<'_>) -> Result<Self, CodecError> {
+        first_fields(alloc, value).map(|(a, (b, (c, (d, (e, (f,))))))| (a, b, c, d, e, f))
     }
 }
 
@@ -243,11 +235,8 @@ impl<
 
     ghost refusal = { record_refusal ⟦<(A, (B, (C, (D, (E, (F, (G,))))))) as FieldList>⟧.why };
 
-    fn decode(alloc: Global, value: PgValueRef<'_>) -> Result<(A, B, C, D, E, F, G), CodecError> {
-        let (a, (b, (c, (d, (e, (f, (g,))))))) = first_fields::<(A, (B, (C, (D, (E, (F, (G,)))))))>(
-            alloc, value,
-        )?;
-        Ok((a, b, c, d, e, f, g))
+    fn decode(alloc: Global, value: PgValueRef<'_>) -> Result<Self, CodecError> {
+        first_fields(alloc, value).map(|(a, (b, (c, (d, (e, (f, (g,)))))))| (a, b, c, d, e, f, g))
     }
 }
 
@@ -286,14 +275,10 @@ impl<
 
     ghost refusal = { record_refusal ⟦<(A, (B, (C, (D, (E, (F, (G, (H,)))))))) as FieldList>⟧.why };
 
-    fn decode(
-        alloc: Global,
-        value: PgValueRef<'_>,
-    ) -> Result<(A, B, C, D, E, F, G, H), CodecError> {
-        let (a, (b, (c, (d, (e, (f, (g, (h,)))))))) = first_fields::<
-            (A, (B, (C, (D, (E, (F, (G, (H,)))))))),
-        >(alloc, value)?;
-        Ok((a, b, c, d, e, f, g, h))
+    fn decode(alloc: Global, value: PgValueRef<'_>) -> Result<Self, CodecError> {
+        first_fields(alloc, value).map(|(a, (b, (c, (d, (e, (f, (g, (h,))))))))| (
+            a, b, c, d, e, f, g, h,
+        ))
     }
 }
 
@@ -333,14 +318,10 @@ impl<
 
     ghost refusal = { record_refusal ⟦<(A, (B, (C, (D, (E, (F, (G, (H, (I,))))))))) as FieldList>⟧.why };
 
-    fn decode(
-        alloc: Global,
-        value: PgValueRef<'_>,
-    ) -> Result<(A, B, C, D, E, F, G, H, I), CodecError> {
-        let (a, (b, (c, (d, (e, (f, (g, (h, (i,))))))))) = first_fields::<
-            (A, (B, (C, (D, (E, (F, (G, (H, (I,))))))))),
-        >(alloc, value)?;
-        Ok((a, b, c, d, e, f, g, h, i))
+    fn decode(alloc: Global, value: PgValueRef<'_>) -> Result<Self, CodecError> {
+        first_fields(alloc, value).map(|(a, (b, (c, (d, (e, (f, (g, (h, (i,)))))))))| (
+            a, b, c, d, e, f, g, h, i,
+        ))
     }
 }
 

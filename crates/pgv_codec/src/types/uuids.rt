@@ -14,8 +14,7 @@ use std::alloc::Global;
 use uuid::Uuid;
 
 impl HasBuiltIn for Uuid {}
-/// `uuid` (OID 2950), read under `uuid` and domains over it.
-/// An array of them is `uuid[]` (OID 2951).
+/// `uuid` (OID 2950), read under `uuid` and domains over it. An array of them is `uuid[]` (OID 2951).
 impl BuiltIn for Of<Uuid> {
     ghost INFO = { builtin 2950 };
 

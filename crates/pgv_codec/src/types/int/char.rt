@@ -14,8 +14,7 @@ use pgv_value::{CodecError, PgValueRef, read_i8};
 use std::alloc::Global;
 
 impl HasBuiltIn for i8 {}
-/// `"char"` (OID 18), read under `"char"` and domains over it.
-/// An array of them is `"char"[]` (OID 1002).
+/// `"char"` (OID 18), read under `"char"` and domains over it. An array of them is `"char"[]` (OID 1002).
 impl BuiltIn for Of<i8> {
     ghost INFO = { builtin 18 };
 

@@ -14,8 +14,7 @@ use pgv_value::{CodecError, PgValueRef, read_i16};
 use std::alloc::Global;
 
 impl HasBuiltIn for i16 {}
-/// `int2` (OID 21), read under `int2` and domains over it.
-/// An array of them is `int2[]` (OID 1005).
+/// `int2` (OID 21), read under `int2` and domains over it. An array of them is `int2[]` (OID 1005).
 impl BuiltIn for Of<i16> {
     ghost INFO = { builtin 21 };
 

@@ -15,8 +15,7 @@ use pgv_value::{CodecError, PgValueRef, read_i32};
 use std::alloc::Global;
 
 impl HasBuiltIn for i32 {}
-/// `int4` (OID 23), read under `int4` and domains over it.
-/// An array of them is `int4[]` (OID 1007).
+/// `int4` (OID 23), read under `int4` and domains over it. An array of them is `int4[]` (OID 1007).
 impl BuiltIn for Of<i32> {
     ghost INFO = { builtin 23 };
 

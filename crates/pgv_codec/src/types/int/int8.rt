@@ -15,8 +15,7 @@ use pgv_value::{CodecError, PgValueRef, read_i64};
 use std::alloc::Global;
 
 impl HasBuiltIn for i64 {}
-/// `int8` (OID 20), read under `int8` and domains over it.
-/// An array of them is `int8[]` (OID 1016).
+/// `int8` (OID 20), read under `int8` and domains over it. An array of them is `int8[]` (OID 1016).
 impl BuiltIn for Of<i64> {
     ghost INFO = { builtin 20 };
 
