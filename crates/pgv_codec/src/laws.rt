@@ -5,9 +5,9 @@ ghost use Rattle.std.specs.Prelude.{◌≡◌, ◌<◌, ◌^◌, ℕ, List, ◌�
 ghost use Rattle.pgv_types.specs.Ty.{Ty};
 ghost use Rattle.pgv_types.specs.declared.oid.Oid.{Oid};
 ghost use Rattle.pgv_buf.specs.Tokens.{Token};
-ghost use Rattle.pgv_nest.specs.NestBinary.{RecordIsItsFields, IsField, ◌and◌};
+ghost use Rattle.pgv_nest.specs.NestBinary.{RecordIsItsFields, IsField, SameFields, ◌and◌};
 ghost use Rattle.pgv_nest.specs.NestRefusals.{field_then, next_refusal, next_takes, record_refusal, record_takes, takes_then};
-ghost use Rattle.pgv_nest.specs.NestText.{IsTextField, ◌before◌};
+ghost use Rattle.pgv_nest.specs.NestText.{IsTextField, SameParts, ◌before◌};
 ghost use Rattle.pgv_nest.specs.TupleGrammar.{record_of};
 ghost use Rattle.pgv_codec.specs.Back.{AreOids, ReadsBack, FieldFits, FieldsFit, FieldReadsBack, RecordFieldsFollow, RecordReadsBack};
 ghost use Rattle.pgv_codec.specs.Image.{field};
@@ -69,20 +69,20 @@ pub fn tuple_is_its_list<
 /// What a list of fields is: a field, or a field and then the rest. So it is for what its bytes and texts are, for why it is refused,
 /// where it asks for memory, and for what is written and kept of it and what it fits.
 pub fn lists_are_their_fields<A: ReadBack + Type, Rest: KeptList>()
-    ensures one { ⟦<(A,) as FieldList>⟧.in_binary ≡ IsField A.accepts A.reading }
-    ensures one_text { ⟦<(A,) as FieldList>⟧.in_text ≡ IsTextField A.reading }
+    ensures one { SameFields ⟦<(A,) as FieldList>⟧.in_binary (IsField A.accepts A.reading) }
+    ensures one_text { SameParts ⟦<(A,) as FieldList>⟧.in_text (IsTextField A.reading) }
     ensures one_refused { ⟦<(A,) as FieldList>⟧.why ≡ next_refusal A.accepts A.refusal }
     ensures one_takes { ⟦<(A,) as FieldList>⟧.takes ≡ next_takes A.accepts A.takes_memory }
-    ensures one_written { (a : (A,)) (further : List (Option (List Token))) → ⟦<(A,) as KeptList>⟧.written a further ≡ field A.hint A.image A.produced A.info a.0 ∷ further }
-    ensures one_means { (a : (A,)) → ⟦<(A,) as FieldList>⟧.meaning (⟦<(A,) as KeptList>⟧.kept a) ≡ A.meaning (A.kept a.0) }
-    ensures one_fits { (a : (A,)) → ⟦<(A,) as KeptList>⟧.fits a ≡ FieldFits A.info A.produced A.image A.accepts A.fits a.0 }
-    ensures more { ⟦<(A, Rest) as FieldList>⟧.in_binary ≡ (IsField A.accepts A.reading and Rest.in_binary) }
-    ensures more_text { ⟦<(A, Rest) as FieldList>⟧.in_text ≡ (IsTextField A.reading before Rest.in_text) }
+    ensures one_written { (a : _) (further : List (Option (List Token))) → ⟦<(A,) as KeptList>⟧.written a further ≡ field A.hint A.image A.produced A.info a.0 ∷ further }
+    ensures one_means { (a : _) → ⟦<(A,) as FieldList>⟧.meaning (⟦<(A,) as KeptList>⟧.kept a) ≡ A.meaning (A.kept a.0) }
+    ensures one_fits { (a : _) → ⟦<(A,) as KeptList>⟧.fits a ≡ FieldFits A.info A.produced A.image A.accepts A.fits a.0 }
+    ensures more { SameFields ⟦<(A, Rest) as FieldList>⟧.in_binary (IsField A.accepts A.reading and Rest.in_binary) }
+    ensures more_text { SameParts ⟦<(A, Rest) as FieldList>⟧.in_text (IsTextField A.reading before Rest.in_text) }
     ensures more_refused { ⟦<(A, Rest) as FieldList>⟧.why ≡ field_then A.accepts A.reading A.refusal Rest.why }
     ensures more_take { ⟦<(A, Rest) as FieldList>⟧.takes ≡ takes_then A.accepts A.reading A.takes_memory Rest.takes }
-    ensures more_written { (l : (A, Rest)) (further : List (Option (List Token))) → ⟦<(A, Rest) as KeptList>⟧.written l further ≡ field A.hint A.image A.produced A.info l.0 ∷ Rest.written l.1 further }
-    ensures more_mean { (l : (A, Rest)) → ⟦<(A, Rest) as FieldList>⟧.meaning (⟦<(A, Rest) as KeptList>⟧.kept l) ≡ (A.meaning (A.kept l.0), Rest.meaning (Rest.kept l.1)) }
-    ensures more_fit { (l : (A, Rest)) → ⟦<(A, Rest) as KeptList>⟧.fits l ≡ FieldsFit A.info A.produced A.hint A.image A.accepts A.fits l.0 (Rest.fits l.1) }
+    ensures more_written { (l : _) (further : List (Option (List Token))) → ⟦<(A, Rest) as KeptList>⟧.written l further ≡ field A.hint A.image A.produced A.info l.0 ∷ Rest.written l.1 further }
+    ensures more_mean { (l : _) → ⟦<(A, Rest) as FieldList>⟧.meaning (⟦<(A, Rest) as KeptList>⟧.kept l) ≡ (let both : A.Meaning × Rest.Meaning = (A.meaning (A.kept l.0), Rest.meaning (Rest.kept l.1)) in both) }
+    ensures more_fit { (l : _) → ⟦<(A, Rest) as KeptList>⟧.fits l ≡ FieldsFit A.info A.produced A.hint A.image A.accepts A.fits l.0 (Rest.fits l.1) }
 {}
 
 /// The tuple that is decoded from bytes in binary is the one that they are a record of, whatever its fields are: as a list of these,

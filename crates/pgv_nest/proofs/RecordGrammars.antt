@@ -133,12 +133,6 @@ record_begins t bytes rest = (
   λ h. rw (h.1, number_of_four h.0 rest h.2) refl,
 )
 
--- Steps that read fields from the bytes that are left find exactly such fields.
-abbrev pub FindExactly : {M : Type 0} → (Left → Option (M × Left)) → Stretch M → Type 0
-FindExactly {M} steps fields =
-    (t : Ty) (place : ℕ) (bytes : List ℕ) (m : M) → AreBytes bytes →
-    ((left : Left) × (steps (binary_fields t place bytes) ≡ Some (m, left))) ↔ ((rest : List ℕ) × fields t place bytes m rest)
-
 pub one_found : {M : Type 0} (accepts : Ty → Bool) (reading : Reading M) → FindExactly (next accepts reading) (IsField accepts reading)
 one_found accepts reading t place bytes m b = (
   λ h.

@@ -14,7 +14,7 @@ use Rattle.pgv_value.specs.Utf8.{is_utf8}
 use Rattle.pgv_value.specs.declared.value.PgValueFormat.TheVariants.{Text}
 use Rattle.pgv_nest.specs.ArrayGrammar.{array, array_of_length, array_in_text, each, of_length}
 use Rattle.pgv_nest.specs.RecordGrammar.{Left, text_fields, next, fields_of}
-use Rattle.pgv_nest.specs.NestText.{IsArrayInText, IsSizedInText, TextStretch, IsTextField, ◌before◌, IsRecordInText, TextIs, RecordTextBegins, TextFieldIsItsValue}
+use Rattle.pgv_nest.specs.NestText.{IsArrayInText, IsSizedInText, TextStretch, IsTextField, ◌before◌, IsRecordInText, TextIs, RecordTextBegins, TextFieldIsItsValue, FindInText}
 use Rattle.pgv_nest.specs.TupleGrammar.{record_of, ◌then◌}
 use Rattle.pgv_value.proofs.Numbers.{step_taken, test_held, pair_is}
 
@@ -93,11 +93,6 @@ text_field {M} accepts reading n plain (part ∷ parts) m left = (
       let others : parts ≡ h.0 = cc in
       rw (first, h.2.2, h.1, others) refl,
 )
-
--- Steps that read fields from the parts that are left find exactly such fields.
-abbrev pub FindInText : {M : Type 0} → (Left → Option (M × Left)) → TextStretch M → Type 0
-FindInText {M} steps fields =
-    (n : ℕ) (plain : Bool) (parts : List Part) (m : M) (left : Left) → (steps (text_fields n plain parts) ≡ Some (m, left)) ↔ ((rest : List Part) × (left ≡ text_fields n plain rest) × fields parts m rest)
 
 pub further_text :
     {A B : Type 0} (accepts : Ty → Bool) (reading : Reading A) (steps : Left → Option (B × Left)) (fields : TextStretch B) →

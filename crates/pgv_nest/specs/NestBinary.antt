@@ -115,3 +115,13 @@ RecordBegins = (t : Ty) (bytes rest : List ℕ) → (fields_of t Binary (Some by
 -- what is read of bytes in binary under a type is what they are a record of
 abbrev pub RecordIsItsFields : {M : Type 0} → Reading M → Stretch M → Type 0
 RecordIsItsFields {M} reading fields = (t : Ty) (bytes : List ℕ) (m : M) → AreBytes bytes → (reading t Binary (Some bytes) ≡ Some m) ↔ IsRecord fields t bytes m
+
+-- Steps that read fields from the bytes that are left find exactly such fields.
+abbrev pub FindExactly : {M : Type 0} → (Left → Option (M × Left)) → Stretch M → Type 0
+FindExactly {M} steps fields =
+    (t : Ty) (place : ℕ) (bytes : List ℕ) (m : M) → AreBytes bytes →
+    ((left : Left) × (steps (binary_fields t place bytes) ≡ Some (m, left))) ↔ ((rest : List ℕ) × fields t place bytes m rest)
+
+-- two relations hold of the same fields
+abbrev pub SameFields : {M : Type 0} → Stretch M → Stretch M → Type 0
+SameFields {M} one other = (t : Ty) (place : ℕ) (bytes : List ℕ) (m : M) (rest : List ℕ) → one t place bytes m rest ↔ other t place bytes m rest

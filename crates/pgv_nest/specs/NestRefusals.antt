@@ -166,7 +166,7 @@ next_refusal accepts why (text_fields n plain []) = Some (NoField n)
 next_refusal accepts why (text_fields n plain (part ∷ parts)) = why (by_oid 0) Text part
 
 -- a field, and then the rest
-abbrev pub field_then : {M : Type 0} → (Ty → Bool) → Reading M → Refusal → (Left → Option CodecError) → Left → Option CodecError
+unfoldable pub field_then : {M : Type 0} → (Ty → Bool) → Reading M → Refusal → (Left → Option CodecError) → Left → Option CodecError
 field_then accepts reading why later left = refusal_or (next_refusal accepts why left) (next accepts reading left) (λ x. later x.1)
 
 -- what is left where no field was read
@@ -205,7 +205,7 @@ next_takes accepts takes (text_fields n plain []) = false
 next_takes accepts takes (text_fields n plain (part ∷ parts)) = not plain || takes (by_oid 0) Text part
 
 -- of a field, and then of the rest
-abbrev pub takes_then : {M : Type 0} → (Ty → Bool) → Reading M → Taking → (Left → Bool) → Left → Bool
+unfoldable pub takes_then : {M : Type 0} → (Ty → Bool) → Reading M → Taking → (Left → Bool) → Left → Bool
 takes_then accepts reading takes later left = next_takes accepts takes left || refusal_or false (next accepts reading left) (λ x. later x.1)
 
 -- of a whole record

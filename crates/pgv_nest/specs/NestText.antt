@@ -71,3 +71,12 @@ abbrev pub TextFieldIsItsValue : {M : Type 0} → (Ty → Bool) → Reading M �
 TextFieldIsItsValue {M} accepts reading =
     (n : ℕ) (plain : Bool) (parts : List Part) (m : M) (left : Left) →
     (next accepts reading (text_fields n plain parts) ≡ Some (m, left)) ↔ ((rest : List Part) × (left ≡ text_fields n plain rest) × IsTextField reading parts m rest)
+
+-- Steps that read fields from the parts that are left find exactly such fields.
+abbrev pub FindInText : {M : Type 0} → (Left → Option (M × Left)) → TextStretch M → Type 0
+FindInText {M} steps fields =
+    (n : ℕ) (plain : Bool) (parts : List Part) (m : M) (left : Left) → (steps (text_fields n plain parts) ≡ Some (m, left)) ↔ ((rest : List Part) × (left ≡ text_fields n plain rest) × fields parts m rest)
+
+-- two relations hold of the same parts
+abbrev pub SameParts : {M : Type 0} → TextStretch M → TextStretch M → Type 0
+SameParts {M} one other = (parts : List Part) (m : M) (rest : List Part) → one parts m rest ↔ other parts m rest

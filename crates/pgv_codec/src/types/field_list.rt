@@ -4,10 +4,10 @@ ghost use Rattle.std.specs.Prelude.{◌≡◌, ℕ, Bool, List, ◌∷◌, Optio
 ghost use Rattle.pgv_value.specs.Reading.{Answers, AnswersExactly, Refuses};
 ghost use Rattle.pgv_value.specs.declared.error.CodecError.{CodecError as Error};
 ghost use Rattle.pgv_value.specs.declared.error.CodecError.TheVariants.{UnexpectedNull};
-ghost use Rattle.pgv_nest.proofs.RecordGrammars.{FindExactly, one_found, further_found};
-ghost use Rattle.pgv_nest.proofs.TextGrammars.{FindInText, text_field, further_text};
-ghost use Rattle.pgv_nest.specs.NestBinary.{Stretch, IsField, ◌and◌};
-ghost use Rattle.pgv_nest.specs.NestText.{TextStretch, IsTextField, ◌before◌};
+ghost use Rattle.pgv_nest.proofs.RecordGrammars.{one_found, further_found};
+ghost use Rattle.pgv_nest.proofs.TextGrammars.{text_field, further_text};
+ghost use Rattle.pgv_nest.specs.NestBinary.{FindExactly, Stretch, IsField, ◌and◌};
+ghost use Rattle.pgv_nest.specs.NestText.{FindInText, TextStretch, IsTextField, ◌before◌};
 ghost use Rattle.pgv_nest.specs.RecordGrammar.{Left, next};
 ghost use Rattle.pgv_nest.specs.TupleGrammar.{record_of, ◌then◌};
 ghost use Rattle.pgv_nest.specs.NestRefusals.{field_then, next_refusal, next_takes, record_refusal, record_takes, takes_then};
@@ -106,6 +106,7 @@ impl<A: Type + Decode, Rest: FieldList> FieldList for (A, Rest) {
     ghost takes = { takes_then A.accepts A.reading A.takes_memory Rest.takes };
 
     #[inline(always)]
+    #[tactic(auto, unfolding(pgv_nest::specs::NestRefusals::field_then, pgv_nest::specs::NestRefusals::takes_then))]
     fn read(fields: &mut PgRecordDecoder<'_>) -> Result<(A, Rest), CodecError> {
         let first = fields.try_decode::<A>()?;
         let rest = Rest::read(fields)?;

@@ -12,6 +12,23 @@ use pgv_types::{PgType, PgTypeInfo};
 use pgv_value::{CodecError, PgValueRef};
 use std::alloc::Global;
 
+/// That `T` is a tuple of one to nine, said of an `Of<T>`.
+pub trait Tuple {}
+
+/// `record` (OID 2249), read under `record` and domains over it. An array of them is `record[]` (OID 2287).
+impl<T> BuiltIn for Of<T>
+where
+    Of<T>: Tuple,
+{
+    ghost INFO = { builtin 2249 };
+
+    ghost ARRAY_INFO = { builtin 2287 };
+
+    const INFO: PgTypeInfo = PgTypeInfo(PgType::Record);
+
+    const ARRAY_INFO: PgTypeInfo = PgTypeInfo(PgType::RecordArray);
+}
+
 /// The first field of a record. Further fields are ignored. `00000001 00000017 00000004 00000007` is `(7,)`, and so is the text `(7)`.
 impl<A: Type + Decode> Decode for (A,) {
     ghost Meaning = { A.Meaning };
@@ -32,16 +49,8 @@ impl<A: Type + Decode> Decode for (A,) {
 }
 
 impl<A> HasBuiltIn for (A,) {}
-/// `record` (OID 2249), read under `record` and domains over it. An array of them is `record[]` (OID 2287).
-impl<A> BuiltIn for Of<(A,)> {
-    ghost INFO = { builtin 2249 };
 
-    ghost ARRAY_INFO = { builtin 2287 };
-
-    const INFO: PgTypeInfo = PgTypeInfo(PgType::Record);
-
-    const ARRAY_INFO: PgTypeInfo = PgTypeInfo(PgType::RecordArray);
-}
+impl<A> Tuple for Of<(A,)> {}
 
 /// The first two fields of a record. Further fields are ignored. `00000002 00000017 00000004 00000001 00000019 00000001 61` is `(1, "a")`,
 /// and so is the text `(1,a)`.
@@ -64,16 +73,8 @@ impl<A: Type + Decode, B: Type + Decode> Decode for (A, B) {
 }
 
 impl<A, B> HasBuiltIn for (A, B) {}
-/// `record` (OID 2249), read under `record` and domains over it. An array of them is `record[]` (OID 2287).
-impl<A, B> BuiltIn for Of<(A, B)> {
-    ghost INFO = { builtin 2249 };
 
-    ghost ARRAY_INFO = { builtin 2287 };
-
-    const INFO: PgTypeInfo = PgTypeInfo(PgType::Record);
-
-    const ARRAY_INFO: PgTypeInfo = PgTypeInfo(PgType::RecordArray);
-}
+impl<A, B> Tuple for Of<(A, B)> {}
 
 /// The first three fields of a record. Further fields are ignored.
 impl<A: Type + Decode, B: Type + Decode, C: Type + Decode> Decode for (A, B, C) {
@@ -95,16 +96,8 @@ impl<A: Type + Decode, B: Type + Decode, C: Type + Decode> Decode for (A, B, C) 
 }
 
 impl<A, B, C> HasBuiltIn for (A, B, C) {}
-/// `record` (OID 2249), read under `record` and domains over it. An array of them is `record[]` (OID 2287).
-impl<A, B, C> BuiltIn for Of<(A, B, C)> {
-    ghost INFO = { builtin 2249 };
 
-    ghost ARRAY_INFO = { builtin 2287 };
-
-    const INFO: PgTypeInfo = PgTypeInfo(PgType::Record);
-
-    const ARRAY_INFO: PgTypeInfo = PgTypeInfo(PgType::RecordArray);
-}
+impl<A, B, C> Tuple for Of<(A, B, C)> {}
 
 /// The first four fields of a record. Further fields are ignored.
 impl<A: Type + Decode, B: Type + Decode, C: Type + Decode, D: Type + Decode> Decode
@@ -127,16 +120,8 @@ impl<A: Type + Decode, B: Type + Decode, C: Type + Decode, D: Type + Decode> Dec
 }
 
 impl<A, B, C, D> HasBuiltIn for (A, B, C, D) {}
-/// `record` (OID 2249), read under `record` and domains over it. An array of them is `record[]` (OID 2287).
-impl<A, B, C, D> BuiltIn for Of<(A, B, C, D)> {
-    ghost INFO = { builtin 2249 };
 
-    ghost ARRAY_INFO = { builtin 2287 };
-
-    const INFO: PgTypeInfo = PgTypeInfo(PgType::Record);
-
-    const ARRAY_INFO: PgTypeInfo = PgTypeInfo(PgType::RecordArray);
-}
+impl<A, B, C, D> Tuple for Of<(A, B, C, D)> {}
 
 /// The first five fields of a record. Further fields are ignored.
 impl<
@@ -164,16 +149,8 @@ impl<
 }
 
 impl<A, B, C, D, E> HasBuiltIn for (A, B, C, D, E) {}
-/// `record` (OID 2249), read under `record` and domains over it. An array of them is `record[]` (OID 2287).
-impl<A, B, C, D, E> BuiltIn for Of<(A, B, C, D, E)> {
-    ghost INFO = { builtin 2249 };
 
-    ghost ARRAY_INFO = { builtin 2287 };
-
-    const INFO: PgTypeInfo = PgTypeInfo(PgType::Record);
-
-    const ARRAY_INFO: PgTypeInfo = PgTypeInfo(PgType::RecordArray);
-}
+impl<A, B, C, D, E> Tuple for Of<(A, B, C, D, E)> {}
 
 /// The first six fields of a record. Further fields are ignored.
 impl<
@@ -202,16 +179,8 @@ impl<
 }
 
 impl<A, B, C, D, E, F> HasBuiltIn for (A, B, C, D, E, F) {}
-/// `record` (OID 2249), read under `record` and domains over it. An array of them is `record[]` (OID 2287).
-impl<A, B, C, D, E, F> BuiltIn for Of<(A, B, C, D, E, F)> {
-    ghost INFO = { builtin 2249 };
 
-    ghost ARRAY_INFO = { builtin 2287 };
-
-    const INFO: PgTypeInfo = PgTypeInfo(PgType::Record);
-
-    const ARRAY_INFO: PgTypeInfo = PgTypeInfo(PgType::RecordArray);
-}
+impl<A, B, C, D, E, F> Tuple for Of<(A, B, C, D, E, F)> {}
 
 /// The first seven fields of a record. Further fields are ignored.
 impl<
@@ -241,16 +210,8 @@ impl<
 }
 
 impl<A, B, C, D, E, F, G> HasBuiltIn for (A, B, C, D, E, F, G) {}
-/// `record` (OID 2249), read under `record` and domains over it. An array of them is `record[]` (OID 2287).
-impl<A, B, C, D, E, F, G> BuiltIn for Of<(A, B, C, D, E, F, G)> {
-    ghost INFO = { builtin 2249 };
 
-    ghost ARRAY_INFO = { builtin 2287 };
-
-    const INFO: PgTypeInfo = PgTypeInfo(PgType::Record);
-
-    const ARRAY_INFO: PgTypeInfo = PgTypeInfo(PgType::RecordArray);
-}
+impl<A, B, C, D, E, F, G> Tuple for Of<(A, B, C, D, E, F, G)> {}
 
 /// The first eight fields of a record. Further fields are ignored.
 impl<
@@ -283,16 +244,8 @@ impl<
 }
 
 impl<A, B, C, D, E, F, G, H> HasBuiltIn for (A, B, C, D, E, F, G, H) {}
-/// `record` (OID 2249), read under `record` and domains over it. An array of them is `record[]` (OID 2287).
-impl<A, B, C, D, E, F, G, H> BuiltIn for Of<(A, B, C, D, E, F, G, H)> {
-    ghost INFO = { builtin 2249 };
 
-    ghost ARRAY_INFO = { builtin 2287 };
-
-    const INFO: PgTypeInfo = PgTypeInfo(PgType::Record);
-
-    const ARRAY_INFO: PgTypeInfo = PgTypeInfo(PgType::RecordArray);
-}
+impl<A, B, C, D, E, F, G, H> Tuple for Of<(A, B, C, D, E, F, G, H)> {}
 
 /// The first nine fields of a record. Further fields are ignored.
 impl<
@@ -326,13 +279,5 @@ impl<
 }
 
 impl<A, B, C, D, E, F, G, H, I> HasBuiltIn for (A, B, C, D, E, F, G, H, I) {}
-/// `record` (OID 2249), read under `record` and domains over it. An array of them is `record[]` (OID 2287).
-impl<A, B, C, D, E, F, G, H, I> BuiltIn for Of<(A, B, C, D, E, F, G, H, I)> {
-    ghost INFO = { builtin 2249 };
 
-    ghost ARRAY_INFO = { builtin 2287 };
-
-    const INFO: PgTypeInfo = PgTypeInfo(PgType::Record);
-
-    const ARRAY_INFO: PgTypeInfo = PgTypeInfo(PgType::RecordArray);
-}
+impl<A, B, C, D, E, F, G, H, I> Tuple for Of<(A, B, C, D, E, F, G, H, I)> {}
