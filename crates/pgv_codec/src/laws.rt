@@ -1,7 +1,7 @@
 //! Laws of codecs: what tuples read, and what is read back of what was written. Each is the contract of a function that does
 //! nothing.
 
-ghost use Rattle.std.specs.Prelude.{◌≡◌, ◌<◌, ◌^◌, ℕ, List, ◌∷◌, Option, Some, None};
+ghost use Rattle.std.specs.Prelude.{◌≡◌, ◌↔◌, ◌<◌, ◌^◌, ℕ, List, ◌∷◌, Option, Some, None};
 ghost use Rattle.pgv_types.specs.Ty.{Ty};
 ghost use Rattle.pgv_types.specs.declared.oid.Oid.{Oid};
 ghost use Rattle.pgv_buf.specs.Tokens.{Token};
@@ -75,14 +75,14 @@ pub fn lists_are_their_fields<A: ReadBack + Type, Rest: KeptList>()
     ensures one_takes { ⟦<(A,) as FieldList>⟧.takes ≡ next_takes A.accepts A.takes_memory }
     ensures one_written { (a : _) (further : List (Option (List Token))) → ⟦<(A,) as KeptList>⟧.written a further ≡ field A.hint A.image A.produced A.info a.0 ∷ further }
     ensures one_means { (a : _) → ⟦<(A,) as FieldList>⟧.meaning (⟦<(A,) as KeptList>⟧.kept a) ≡ A.meaning (A.kept a.0) }
-    ensures one_fits { (a : _) → ⟦<(A,) as KeptList>⟧.fits a ≡ FieldFits A.info A.produced A.image A.accepts A.fits a.0 }
+    ensures one_fits { (a : _) (t : Ty) (place : ℕ) (oids : List Oid) → ⟦<(A,) as KeptList>⟧.fits a t place oids ↔ FieldFits A.info A.produced A.image A.accepts A.fits a.0 t place oids }
     ensures more { SameFields ⟦<(A, Rest) as FieldList>⟧.in_binary (IsField A.accepts A.reading and Rest.in_binary) }
     ensures more_text { SameParts ⟦<(A, Rest) as FieldList>⟧.in_text (IsTextField A.reading before Rest.in_text) }
     ensures more_refused { ⟦<(A, Rest) as FieldList>⟧.why ≡ field_then A.accepts A.reading A.refusal Rest.why }
     ensures more_take { ⟦<(A, Rest) as FieldList>⟧.takes ≡ takes_then A.accepts A.reading A.takes_memory Rest.takes }
     ensures more_written { (l : _) (further : List (Option (List Token))) → ⟦<(A, Rest) as KeptList>⟧.written l further ≡ field A.hint A.image A.produced A.info l.0 ∷ Rest.written l.1 further }
     ensures more_mean { (l : _) → ⟦<(A, Rest) as FieldList>⟧.meaning (⟦<(A, Rest) as KeptList>⟧.kept l) ≡ (let both : A.Meaning × Rest.Meaning = (A.meaning (A.kept l.0), Rest.meaning (Rest.kept l.1)) in both) }
-    ensures more_fit { (l : _) → ⟦<(A, Rest) as KeptList>⟧.fits l ≡ FieldsFit A.info A.produced A.hint A.image A.accepts A.fits l.0 (Rest.fits l.1) }
+    ensures more_fit { (l : _) (t : Ty) (place : ℕ) (oids : List Oid) → ⟦<(A, Rest) as KeptList>⟧.fits l t place oids ↔ FieldsFit A.info A.produced A.hint A.image A.accepts A.fits l.0 (Rest.fits l.1) t place oids }
 {}
 
 /// The tuple that is decoded from bytes in binary is the one that they are a record of, whatever its fields are: as a list of these,

@@ -12,7 +12,7 @@ use Rattle.pgv_value.specs.Reading.{Reading}
 use Rattle.pgv_value.specs.declared.value.PgValueFormat.TheVariants.{Binary}
 use Rattle.pgv_value.proofs.Fronts.{front_exactly}
 use Rattle.pgv_nest.specs.Found.{field_type_there, field_there, next_there}
-use Rattle.pgv_nest.specs.NestBinary.{HasFieldType, of_record, of_custom_record, of_composite, of_domain, Stretch, IsField, ◌and◌, RecordIsItsFields}
+use Rattle.pgv_nest.specs.NestBinary.{FindExactly, HasFieldType, of_record, of_custom_record, of_composite, of_domain, Stretch, IsField, ◌and◌, RecordIsItsFields}
 use Rattle.pgv_nest.specs.RecordGrammar.{is_oid, field_at, if_oid, field_type, field_type_in, field_head, field_in, Left, binary_fields, next, fields_of}
 use Rattle.pgv_value.specs.Steps.{number}
 use Rattle.pgv_nest.specs.TupleGrammar.{record_of, ◌then◌}

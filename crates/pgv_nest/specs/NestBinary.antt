@@ -14,7 +14,7 @@ use Rattle.pgv_value.specs.Laws.{AreBytes}
 use Rattle.pgv_value.specs.Reading.{Reading}
 use Rattle.pgv_value.specs.declared.value.PgValueFormat.TheVariants.{Binary}
 use Rattle.pgv_nest.specs.ArrayGrammar.{element_type, array_of}
-use Rattle.pgv_nest.specs.RecordGrammar.{field_at, field_type, field_in, binary_fields, fields_of}
+use Rattle.pgv_nest.specs.RecordGrammar.{Left, field_at, field_type, field_in, binary_fields, fields_of}
 
 -- ---- arrays
 

@@ -272,9 +272,10 @@ impl<
     ghost refusal = { record_refusal ⟦<(A, (B, (C, (D, (E, (F, (G, (H, (I,))))))))) as FieldList>⟧.why };
 
     fn decode(alloc: Global, value: PgValueRef<'_>) -> Result<Self, CodecError> {
-        first_fields(alloc, value).map(|(a, (b, (c, (d, (e, (f, (g, (h, (i,)))))))))| (
-            a, b, c, d, e, f, g, h, i,
-        ))
+        match first_fields(alloc, value) {
+            Ok((a, (b, (c, (d, (e, (f, (g, (h, (i,)))))))))) => Ok((a, b, c, d, e, f, g, h, i)),
+            Err(error) => Err(error),
+        }
     }
 }
 
