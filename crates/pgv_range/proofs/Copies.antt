@@ -32,7 +32,7 @@ never_both true b none = none
 never_both false b none = refl
 
 module _ {M : Type 0} (read : Part → Option M) (takes : Part → Bool) (none : (part : Part) → takes part ≡ false) where
-  bound_takes_none : (side : Side) (bytes : List ℕ) → bound_takes read takes side bytes ≡ false
+  bound_takes_none : (side : Side) (bytes : List ℕ) → bound_takes takes side bytes ≡ false
   bound_takes_none Infinite bytes = refl
   bound_takes_none Inclusive bytes = none_after (front bytes) (λ p. takes p.0) (λ p. none p.0)
   bound_takes_none Exclusive bytes = none_after (front bytes) (λ p. takes p.0) (λ p. none p.0)
@@ -40,14 +40,14 @@ module _ {M : Type 0} (read : Part → Option M) (takes : Part → Bool) (none :
   form_takes_none : (form : RangeForm) (bytes : List ℕ) → form_takes read takes form bytes ≡ false
   form_takes_none EmptyForm bytes = refl
   form_takes_none (Sides below above) bytes =
-      or_from (bound_takes read takes below bytes) _ (bound_takes_none below bytes)
-      (none_after (bound_in read below bytes) (λ lower. bound_takes read takes above lower.1) (λ lower. bound_takes_none above lower.1))
+      or_from (bound_takes takes below bytes) _ (bound_takes_none below bytes)
+      (none_after (bound_in read below bytes) (λ lower. bound_takes takes above lower.1) (λ lower. bound_takes_none above lower.1))
 
   bytes_take_none : (bytes : List ℕ) → bytes_take read takes bytes ≡ false
   bytes_take_none [] = refl
   bytes_take_none (flags ∷ rest) = form_takes_none (form_of flags) rest
 
-  next_takes_none : (values : List Part) → next_bound_takes read takes values ≡ false
+  next_takes_none : (values : List Part) → next_bound_takes takes values ≡ false
   next_takes_none [] = refl
   next_takes_none (None ∷ values) = refl
   next_takes_none (Some text ∷ values) = none (Some text)
@@ -56,8 +56,8 @@ module _ {M : Type 0} (read : Part → Option M) (takes : Part → Bool) (none :
   content_takes_none text empty plain = refl
   content_takes_none text (parts nest) plain =
       or_from (not (unquoted text)) _ (ap not plain)
-      (or_from (next_bound_takes read takes nest.values) _ (next_takes_none nest.values)
-      (none_after (next_bound read nest.lower nest.values) (λ lower. next_bound_takes read takes lower.1) (λ lower. next_takes_none lower.1)))
+      (or_from (next_bound_takes takes nest.values) _ (next_takes_none nest.values)
+      (none_after (next_bound read nest.lower nest.values) (λ lower. next_bound_takes takes lower.1) (λ lower. next_takes_none lower.1)))
 
   text_takes_none : (text : List ℕ) → unquoted text ≡ true → range_text_takes read takes text ≡ false
   text_takes_none text plain = none_after (range_content (chars text)) (content_takes read takes text) (λ content. content_takes_none text content plain)

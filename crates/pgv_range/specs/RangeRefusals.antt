@@ -105,8 +105,9 @@ range_refusal info reading why t Binary (Some bytes) = range_binary_refusal (λ 
 abbrev pub part_takes : Taking → Ty → Part → Bool
 part_takes takes u part = is_custom u || takes u Binary part
 
-module _ {M : Type 0} (read : Part → Option M) (takes : Part → Bool) where
-  -- of the value of the frame in front: not before the frame is there
+-- of one bound
+module _ (takes : Part → Bool) where
+  -- not before the frame in front is there
   abbrev pub value_takes : List ℕ → Bool
   value_takes bytes = refusal_or false (front bytes) (λ p. takes p.0)
 
@@ -115,9 +116,18 @@ module _ {M : Type 0} (read : Part → Option M) (takes : Part → Bool) where
   bound_takes Inclusive bytes = value_takes bytes
   bound_takes Exclusive bytes = value_takes bytes
 
-  -- of the upper bound: not before the lower one is read
+  abbrev pub bound_text_takes : Part → Bool
+  bound_text_takes None = false
+  bound_text_takes (Some text) = takes (Some text)
+
+  abbrev pub next_bound_takes : List Part → Bool
+  next_bound_takes [] = false
+  next_bound_takes (part ∷ parts) = bound_text_takes part
+
+-- of both, of the upper one not before the lower one is read
+module _ {M : Type 0} (read : Part → Option M) (takes : Part → Bool) where
   abbrev pub bounds_take : Side → Side → List ℕ → Bool
-  bounds_take below above bytes = bound_takes below bytes || refusal_or false (bound_in read below bytes) (λ lower. bound_takes above lower.1)
+  bounds_take below above bytes = bound_takes takes below bytes || refusal_or false (bound_in read below bytes) (λ lower. bound_takes takes above lower.1)
 
   abbrev pub form_takes : RangeForm → List ℕ → Bool
   form_takes EmptyForm bytes = false
@@ -127,17 +137,8 @@ module _ {M : Type 0} (read : Part → Option M) (takes : Part → Bool) where
   bytes_take [] = false
   bytes_take (flags ∷ rest) = form_takes (form_of flags) rest
 
-  -- in text
-  abbrev pub bound_text_takes : Part → Bool
-  bound_text_takes None = false
-  bound_text_takes (Some text) = takes (Some text)
-
-  abbrev pub next_bound_takes : List Part → Bool
-  next_bound_takes [] = false
-  next_bound_takes (part ∷ parts) = bound_text_takes part
-
   abbrev pub bounds_text_take : Nest → Bool
-  bounds_text_take nest = next_bound_takes nest.values || refusal_or false (next_bound read nest.lower nest.values) (λ lower. next_bound_takes lower.1)
+  bounds_text_take nest = next_bound_takes takes nest.values || refusal_or false (next_bound read nest.lower nest.values) (λ lower. next_bound_takes takes lower.1)
 
   -- a part with a quote or a backslash is copied
   abbrev pub content_takes : List ℕ → RangeContent → Bool

@@ -198,9 +198,9 @@ fn read_bound<'a, T: Decode>(
 ) -> Result<Bound<T>, CodecError>
     ensures ok { IfOk result (λ b. bound_in (T.reading element.now Binary) side bytes.old.now ≡ Some (bound_map T.meaning b, bytes.new.now)) }
     ensures err { IfErr result (λ e. Refuses e (bound_in (T.reading element.now Binary) side bytes.old.now ≡ None)) }
-    ensures exactly { bound_takes (T.reading element.now Binary) (part_takes T.takes_memory element.now) side bytes.old.now ≡ false → IfErr result (λ e. bound_in (T.reading element.now Binary) side bytes.old.now ≡ None) }
+    ensures exactly { bound_takes (part_takes T.takes_memory element.now) side bytes.old.now ≡ false → IfErr result (λ e. bound_in (T.reading element.now Binary) side bytes.old.now ≡ None) }
     ensures refused { RefusedFor (bound_refusal (T.reading element.now Binary) (T.refusal element.now Binary) side bytes.old.now) result }
-    ensures refused_exactly { bound_takes (T.reading element.now Binary) (part_takes T.takes_memory element.now) side bytes.old.now ≡ false → RefusedExactly (bound_refusal (T.reading element.now Binary) (T.refusal element.now Binary) side bytes.old.now) result }
+    ensures refused_exactly { bound_takes (part_takes T.takes_memory element.now) side bytes.old.now ≡ false → RefusedExactly (bound_refusal (T.reading element.now Binary) (T.refusal element.now Binary) side bytes.old.now) result }
 {
     match side {
         Side::Infinite => Ok(Bound::Unbounded),
@@ -219,8 +219,8 @@ fn read_value<'a, T: Decode>(
     ensures ok { IfOk result (λ v. value_in_front (T.reading element.now Binary) bytes.old.now ≡ Some (T.meaning v, bytes.new.now)) }
     ensures err { IfErr result (λ e. Refuses e (value_in_front (T.reading element.now Binary) bytes.old.now ≡ None)) }
     ensures refused { RefusedFor (value_refusal (T.reading element.now Binary) (T.refusal element.now Binary) bytes.old.now) result }
-    ensures exactly { value_takes (T.reading element.now Binary) (part_takes T.takes_memory element.now) bytes.old.now ≡ false → IfErr result (λ e. value_in_front (T.reading element.now Binary) bytes.old.now ≡ None) }
-    ensures refused_exactly { value_takes (T.reading element.now Binary) (part_takes T.takes_memory element.now) bytes.old.now ≡ false → RefusedExactly (value_refusal (T.reading element.now Binary) (T.refusal element.now Binary) bytes.old.now) result }
+    ensures exactly { value_takes (part_takes T.takes_memory element.now) bytes.old.now ≡ false → IfErr result (λ e. value_in_front (T.reading element.now Binary) bytes.old.now ≡ None) }
+    ensures refused_exactly { value_takes (part_takes T.takes_memory element.now) bytes.old.now ≡ false → RefusedExactly (value_refusal (T.reading element.now Binary) (T.refusal element.now Binary) bytes.old.now) result }
 {
     let all: &'a [u8] = *bytes;
     let (part, rest) = part_in_front(all)?;
@@ -267,9 +267,9 @@ fn next_bound_of<T: Decode + Type>(
 ) -> Result<Bound<T>, CodecError>
     ensures ok { IfOk result (λ b. next_bound (T.reading T.info Text) included (nest parts.old).values ≡ Some (bound_map T.meaning b, (nest parts.new).values)) }
     ensures err { IfErr result (λ e. Refuses e (next_bound (T.reading T.info Text) included (nest parts.old).values ≡ None)) }
-    ensures exactly { is_unquoted parts.old ≡ true → next_bound_takes (T.reading T.info Text) (T.takes_memory T.info Text) (nest parts.old).values ≡ false → IfErr result (λ e. next_bound (T.reading T.info Text) included (nest parts.old).values ≡ None) }
+    ensures exactly { is_unquoted parts.old ≡ true → next_bound_takes (T.takes_memory T.info Text) (nest parts.old).values ≡ false → IfErr result (λ e. next_bound (T.reading T.info Text) included (nest parts.old).values ≡ None) }
     ensures refused { RefusedFor (next_bound_refusal (T.reading T.info Text) (T.refusal T.info Text) (nest parts.old).values) result }
-    ensures refused_exactly { is_unquoted parts.old ≡ true → next_bound_takes (T.reading T.info Text) (T.takes_memory T.info Text) (nest parts.old).values ≡ false → RefusedExactly (next_bound_refusal (T.reading T.info Text) (T.refusal T.info Text) (nest parts.old).values) result }
+    ensures refused_exactly { is_unquoted parts.old ≡ true → next_bound_takes (T.takes_memory T.info Text) (nest parts.old).values ≡ false → RefusedExactly (next_bound_refusal (T.reading T.info Text) (T.refusal T.info Text) (nest parts.old).values) result }
     ensures in_place { is_unquoted parts.old ≡ true → is_unquoted parts.new ≡ true }
 {
     let Some(part) = parts.next_borrowed(text)? else {

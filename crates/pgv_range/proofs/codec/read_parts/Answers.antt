@@ -17,8 +17,8 @@ start_refused : {M : Type 0} (read : Part → Option M) (why : Part → Option C
     next_bound read included whole.values ≡ None → bounds_text_refusal read why whole ≡ next_bound_refusal read why whole.values
 start_refused read why whole included same none = rw (← same, none) refl
 
-start_takes : {M : Type 0} (read : Part → Option M) (takes : Part → Bool) (whole : Nest) → bounds_text_take read takes whole ≡ false → next_bound_takes read takes whole.values ≡ false
-start_takes read takes whole none = (or_parts (next_bound_takes read takes whole.values) _ none).0
+start_takes : {M : Type 0} (read : Part → Option M) (takes : Part → Bool) (whole : Nest) → bounds_text_take read takes whole ≡ false → next_bound_takes takes whole.values ≡ false
+start_takes read takes whole none = (or_parts (next_bound_takes takes whole.values) _ none).0
 
 -- after a lower bound that is read
 end_refused : {M : Type 0} (read : Part → Option M) (why : Part → Option CodecError) (whole : Nest) (included : Bool) (later : List Part) {b : Bound M} → included ≡ whole.lower →
@@ -26,9 +26,9 @@ end_refused : {M : Type 0} (read : Part → Option M) (why : Part → Option Cod
 end_refused read why whole included later same found = rw (← same, found) refl
 
 end_takes : {M : Type 0} (read : Part → Option M) (takes : Part → Bool) (whole : Nest) (included : Bool) (later : List Part) {b : Bound M} → included ≡ whole.lower →
-    next_bound read included whole.values ≡ Some (b, later) → bounds_text_take read takes whole ≡ false → next_bound_takes read takes later ≡ false
+    next_bound read included whole.values ≡ Some (b, later) → bounds_text_take read takes whole ≡ false → next_bound_takes takes later ≡ false
 end_takes read takes whole included later same found none =
-    let upper = (or_parts (next_bound_takes read takes whole.values) (refusal_or false (next_bound read whole.lower whole.values) (λ lower. next_bound_takes read takes lower.1)) none).1 in
+    let upper = (or_parts (next_bound_takes takes whole.values) (refusal_or false (next_bound read whole.lower whole.values) (λ lower. next_bound_takes takes lower.1)) none).1 in
     rw (← same, found) at upper
 
 -- the lower bound isn't read
