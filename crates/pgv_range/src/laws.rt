@@ -34,6 +34,12 @@ use pgv_text::laws::range_is_computed;
 use std::fmt;
 use std::ops::{Bound, Range, RangeFrom, RangeInclusive, RangeTo, RangeToInclusive};
 
+/// Several ranges.
+type Ranges<T> = Vec<PgRange<T>>;
+
+/// A range of arrays.
+type OfLists<T> = PgRange<Vec<T>>;
+
 /// The range that is decoded from bytes in binary is the one that they are, under a type of kind range: a flag byte, a frame for each
 /// bound that there is, and anything after them; or a flag byte with 01, and anything (PostgreSQL, "Range Types"; range_send).
 pub fn range_is_its_bounds<T: Type + Decode>()
@@ -121,13 +127,13 @@ pub fn ranges_read_back<T: ReadBack + Type + PgHasArrayType>()
 where
     PgRange<T>: Type + PgHasArrayType,
     ensures range { ComesBack ⟦<PgRange<T> as Encode>⟧.image ⟦<PgRange<T> as Decode>⟧.reading ⟦<PgRange<T> as Decode>⟧.meaning ⟦<PgRange<T> as ReadBack>⟧.kept ⟦<PgRange<T> as ReadBack>⟧.fits }
-    ensures ranges { ComesBack ⟦<Vec<PgRange<T>> as Encode>⟧.image ⟦<Vec<PgRange<T>> as Decode>⟧.reading ⟦<Vec<PgRange<T>> as Decode>⟧.meaning ⟦<Vec<PgRange<T>> as ReadBack>⟧.kept ⟦<Vec<PgRange<T>> as ReadBack>⟧.fits }
-    ensures of_lists { ComesBack ⟦<PgRange<Vec<T>> as Encode>⟧.image ⟦<PgRange<Vec<T>> as Decode>⟧.reading ⟦<PgRange<Vec<T>> as Decode>⟧.meaning ⟦<PgRange<Vec<T>> as ReadBack>⟧.kept ⟦<PgRange<Vec<T>> as ReadBack>⟧.fits }
+    ensures ranges { ComesBack ⟦<Ranges<T> as Encode>⟧.image ⟦<Ranges<T> as Decode>⟧.reading ⟦<Ranges<T> as Decode>⟧.meaning ⟦<Ranges<T> as ReadBack>⟧.kept ⟦<Ranges<T> as ReadBack>⟧.fits }
+    ensures of_lists { ComesBack ⟦<OfLists<T> as Encode>⟧.image ⟦<OfLists<T> as Decode>⟧.reading ⟦<OfLists<T> as Decode>⟧.meaning ⟦<OfLists<T> as ReadBack>⟧.kept ⟦<OfLists<T> as ReadBack>⟧.fits }
     ensures field { RangeFieldComesBack T.hint T.image T.info T.reading T.meaning T.kept ⟦<PgRange<T> as Type>⟧.info ⟦<PgRange<T> as Type>⟧.accepts ⟦<PgRange<T> as ReadBack>⟧.fits }
 {
     read_back::<PgRange<T>>();
-    read_back::<Vec<PgRange<T>>>();
-    read_back::<PgRange<Vec<T>>>();
+    read_back::<Ranges<T>>();
+    read_back::<OfLists<T>>();
     field_reads_back::<PgRange<T>>();
 }
 
