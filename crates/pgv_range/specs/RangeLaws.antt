@@ -27,8 +27,8 @@ abbrev pub RangeFieldComesBack : {X M : Type 0} → (X → ℕ) → (X → Optio
 RangeFieldComesBack hint image element reading meaning kept info accepts fits =
     FieldReadsBack info (λ r. None) (λ r. 0) (range_image hint image) accepts (range element reading) (λ r. range_meaning meaning (range_kept kept r)) fits
 
--- memory may be asked for only to copy: in binary a custom type that the range is over, in text a part where there is a quote or a
--- backslash
+-- memory may be asked for only to copy: in binary a custom type that the range is over, in text a part, only where a quote or a
+-- backslash stands anywhere in it
 abbrev pub TakesOnlyForCopies : Taking → Type 0
 TakesOnlyForCopies takes =
     ((t u : Ty) (bytes : Part) → IsRangeOver t u → is_custom u ≡ false → takes t Binary bytes ≡ false)

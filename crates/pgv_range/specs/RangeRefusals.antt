@@ -3,9 +3,9 @@
 -- Read in binary: a type that isn't a range is C23, no flag byte C15, and then what the first bound that isn't read is refused with:
 -- its frame, or its value. Read in text: C14 where it isn't UTF-8, C29 where it isn't a range, and then the first bound that isn't
 -- read. Null is C13.
--- Memory is asked for only for the values of the bounds, by their own type, and where one is copied: in binary a custom type that
--- the range is over, and in text a part where there is a quote or a backslash. What is seen before the first request is always
--- answered as itself; where there is none, so is everything.
+-- Memory is asked for only by the values of the bounds that are read, and for copies: in binary of a custom type that the range is
+-- over, after the frame of a bound; in text of a part, only where a quote or a backslash stands anywhere in a range with parts. Where
+-- none may be asked for (`range_takes`), each refusal is answered as itself.
 use Rattle.std.specs.Prelude.{ℕ, Bool, false, not, ◌&&◌, ◌||◌, List, [], ◌∷◌, Option, Some, None, if◌then◌else◌}
 use Rattle.std.specs.Str.{chars}
 use Rattle.std.specs.declared.ops.Bound.{Bound}
@@ -140,7 +140,7 @@ module _ {M : Type 0} (read : Part → Option M) (takes : Part → Bool) where
   abbrev pub bounds_text_take : Nest → Bool
   bounds_text_take nest = next_bound_takes takes nest.values || refusal_or false (next_bound read nest.lower nest.values) (λ lower. next_bound_takes takes lower.1)
 
-  -- a part with a quote or a backslash is copied
+  -- where there is a quote or a backslash, a part may be copied
   abbrev pub content_takes : List ℕ → RangeContent → Bool
   content_takes text empty_text = false
   content_takes text (parts_text nest) = not (unquoted text) || bounds_text_take nest

@@ -108,8 +108,8 @@ fn encode_bound<T: Encode>(bound: &Bound<T>, out: &mut PgArgumentBuffer) -> Resu
 ///
 /// Null is refused with C13, a text that is not UTF-8 with C14 and one outside the grammar with C29, a type that isn't a range in
 /// binary with C23, bytes that end too early with C15, and what a bound is refused with. Out of memory (C1) is answered only where the
-/// value of a bound asks for memory, or where one is copied: in binary a custom type that the range is over, in text a part where there
-/// is a quote or a backslash.
+/// value of a bound asks for memory, or for a copy: in binary of a custom type that the range is over, in text of a part, only where a
+/// quote or a backslash stands anywhere in it.
 impl<T: Decode + Type> Decode for PgRange<T> {
     ghost use Rattle.pgv_range.specs.RangeGrammar.{range};
     ghost use Rattle.pgv_range.specs.RangeOf.{RangeOf};
