@@ -1,2 +1,3 @@
 pub mod BinaryGrammars
 pub mod TextGrammars
+pub mod Copies

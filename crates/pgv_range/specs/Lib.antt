@@ -11,3 +11,4 @@ pub mod RangeFits
 pub mod RangeBack
 pub mod RangeShown
 pub mod RangeRow
+pub mod RangeLaws

@@ -3,25 +3,27 @@
 -- Read in binary: a type that isn't a range is C23, no flag byte C15, and then what the first bound that isn't read is refused with:
 -- its frame, or its value. Read in text: C14 where it isn't UTF-8, C29 where it isn't a range, and then the first bound that isn't
 -- read. Null is C13.
--- What is seen before memory is asked for is always answered as itself: in binary that is all up to the frame of the first finite
--- bound, and in text all but a range with parts.
-use Rattle.std.specs.Prelude.{ℕ, Bool, true, false, ◌&&◌, ◌||◌, List, [], ◌∷◌, Option, Some, None, is_some, if◌then◌else◌}
+-- Memory is asked for only by the values of the bounds that are read, and for copies: in binary of a custom type that the range is
+-- over, after the frame of a bound; in text of a part, only where a quote or a backslash stands anywhere in a range with parts. Where
+-- none may be asked for (`range_takes`), each refusal is answered as itself.
+use Rattle.std.specs.Prelude.{ℕ, Bool, false, not, ◌&&◌, ◌||◌, List, [], ◌∷◌, Option, Some, None, if◌then◌else◌}
 use Rattle.std.specs.Str.{chars}
 use Rattle.std.specs.declared.ops.Bound.{Bound}
 use Rattle.std.specs.declared.ops.Bound.TheVariants.{Included, Excluded, Unbounded}
 use Rattle.pgv_types.specs.Ty.{Ty}
+use Rattle.pgv_types.specs.Facts.{is_custom}
 use Rattle.pgv_text.specs.ContentText.{RangeContent, empty as empty_text, parts as parts_text, range_content}
 use Rattle.pgv_text.specs.NestText.{Nest}
+use Rattle.pgv_text.specs.Unquoted.{unquoted}
 use Rattle.pgv_value.specs.FrameBinary.{Part, front, frame_fault}
 use Rattle.pgv_value.specs.Reading.{Reading}
 use Rattle.pgv_value.specs.Utf8.{is_utf8}
 use Rattle.pgv_value.specs.declared.error.CodecError.{CodecError}
 use Rattle.pgv_value.specs.declared.error.CodecError.TheVariants.{UnexpectedNull, Utf8, Short, NotARange, Syntax}
-use Rattle.pgv_value.specs.declared.value.PgValueFormat.{PgValueFormat}
 use Rattle.pgv_value.specs.declared.value.PgValueFormat.TheVariants.{Text, Binary}
 use Rattle.pgv_nest.specs.NestRefusals.{Refusal, refusal_or}
 use Rattle.pgv_codec.specs.Image.{Image}
-use Rattle.pgv_codec.specs.Refusing.{first_refused, frame_refused}
+use Rattle.pgv_codec.specs.Refusing.{Taking, first_refused, frame_refused}
 use Rattle.pgv_range.specs.FlagByte.{form_of}
 use Rattle.pgv_range.specs.RangeGrammar.{bound_in, next_bound, range_element}
 use Rattle.pgv_range.specs.RangeImage.{bound_frame}
@@ -97,41 +99,60 @@ range_refusal info reading why t f None = Some UnexpectedNull
 range_refusal info reading why t Text (Some bytes) = if is_utf8 bytes then range_text_refusal (reading info Text) (why info Text) bytes else Some Utf8
 range_refusal info reading why t Binary (Some bytes) = range_binary_refusal (λ u. reading u Binary) (λ u. why u Binary) t bytes
 
--- ---- where memory is asked for
+-- ---- where memory may be asked for
 
--- in text: only where the text is a range with parts; the empty range has none
-abbrev pub has_parts : Option RangeContent → Bool
-has_parts None = false
-has_parts (Some empty_text) = false
-has_parts (Some (parts_text nest)) = true
+-- of a bound in binary: for its value, and for the copy of its type where that is a custom one
+abbrev pub part_takes : Taking → Ty → Part → Bool
+part_takes takes u part = is_custom u || takes u Binary part
 
--- in binary: whether a side has a bound at all
-abbrev pub is_finite : Side → Bool
-is_finite Infinite = false
-is_finite Inclusive = true
-is_finite Exclusive = true
+-- of one bound
+module _ (takes : Part → Bool) where
+  -- not before the frame in front is there
+  abbrev pub value_takes : List ℕ → Bool
+  value_takes bytes = refusal_or false (front bytes) (λ p. takes p.0)
 
--- of one bound: only where it is finite, and its frame stands there
-abbrev pub bound_takes : Side → List ℕ → Bool
-bound_takes side bytes = is_finite side && is_some (front bytes)
+  abbrev pub bound_takes : Side → List ℕ → Bool
+  bound_takes Infinite bytes = false
+  bound_takes Inclusive bytes = value_takes bytes
+  bound_takes Exclusive bytes = value_takes bytes
 
--- of both: the frame in front is that of the first finite bound
-abbrev pub bounds_take : Side → Side → List ℕ → Bool
-bounds_take below above bytes = (is_finite below || is_finite above) && is_some (front bytes)
+  abbrev pub bound_text_takes : Part → Bool
+  bound_text_takes None = false
+  bound_text_takes (Some text) = takes (Some text)
 
-abbrev pub form_takes : RangeForm → List ℕ → Bool
-form_takes EmptyForm bytes = false
-form_takes (Sides below above) bytes = bounds_take below above bytes
+  abbrev pub next_bound_takes : List Part → Bool
+  next_bound_takes [] = false
+  next_bound_takes (part ∷ parts) = bound_text_takes part
 
-abbrev pub bytes_take : List ℕ → Bool
-bytes_take [] = false
-bytes_take (flags ∷ rest) = form_takes (form_of flags) rest
+-- of both, of the upper one not before the lower one is read
+module _ {M : Type 0} (read : Part → Option M) (takes : Part → Bool) where
+  abbrev pub bounds_take : Side → Side → List ℕ → Bool
+  bounds_take below above bytes = bound_takes takes below bytes || refusal_or false (bound_in read below bytes) (λ lower. bound_takes takes above lower.1)
+
+  abbrev pub form_takes : RangeForm → List ℕ → Bool
+  form_takes EmptyForm bytes = false
+  form_takes (Sides below above) bytes = bounds_take below above bytes
+
+  abbrev pub bytes_take : List ℕ → Bool
+  bytes_take [] = false
+  bytes_take (flags ∷ rest) = form_takes (form_of flags) rest
+
+  abbrev pub bounds_text_take : Nest → Bool
+  bounds_text_take nest = next_bound_takes takes nest.values || refusal_or false (next_bound read nest.lower nest.values) (λ lower. next_bound_takes takes lower.1)
+
+  -- where there is a quote or a backslash, a part may be copied
+  abbrev pub content_takes : List ℕ → RangeContent → Bool
+  content_takes text empty_text = false
+  content_takes text (parts_text nest) = not (unquoted text) || bounds_text_take nest
+
+  abbrev pub range_text_takes : List ℕ → Bool
+  range_text_takes text = refusal_or false (range_content (chars text)) (content_takes text)
 
 -- only under a type of kind range
-abbrev pub range_binary_takes : Ty → List ℕ → Bool
-range_binary_takes t bytes = is_some (range_element t) && bytes_take bytes
+abbrev pub range_binary_takes : {M : Type 0} → (Ty → Part → Option M) → (Ty → Part → Bool) → Ty → List ℕ → Bool
+range_binary_takes read takes t bytes = refusal_or false (range_element t) (λ u. bytes_take (read u) (takes u) bytes)
 
-abbrev pub range_takes : Ty → PgValueFormat → Option (List ℕ) → Bool
-range_takes t f None = false
-range_takes t Text (Some bytes) = is_utf8 bytes && has_parts (range_content (chars bytes))
-range_takes t Binary (Some bytes) = range_binary_takes t bytes
+abbrev pub range_takes : {M : Type 0} → Ty → Reading M → Taking → Taking
+range_takes info reading takes t f None = false
+range_takes info reading takes t Text (Some bytes) = is_utf8 bytes && range_text_takes (reading info Text) (takes info Text) bytes
+range_takes info reading takes t Binary (Some bytes) = range_binary_takes (λ u. reading u Binary) (part_takes takes) t bytes

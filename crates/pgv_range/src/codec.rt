@@ -1,13 +1,10 @@
 //! What ranges are written as and read of, whatever their bounds are (PostgreSQL, "Range Types"; the binary form is that of its source,
 //! range_send).
 
-ghost use Rattle.std.specs.Prelude.{◌≡◌, IfOk, IfErr, OnOk, OnErr, Some, None, false, is_some};
-ghost use Rattle.std.specs.Str.{chars};
+ghost use Rattle.std.specs.Prelude.{◌≡◌, IfOk, IfErr, OnOk, OnErr, Some, None, false, true};
 ghost use Rattle.std.specs.Range.Bound.{bound_map};
 ghost use Rattle.pgv_types.specs.Parts.{ref_type};
-ghost use Rattle.pgv_text.specs.PartsView.{nest};
-ghost use Rattle.pgv_text.specs.ContentText.{range_content};
-ghost use Rattle.pgv_value.specs.FrameBinary.{frame_fault, front};
+ghost use Rattle.pgv_text.specs.PartsView.{is_unquoted, nest};
 ghost use Rattle.pgv_value.specs.Reading.{Answers, AnswersExactly, Refuses};
 ghost use Rattle.pgv_value.specs.declared.error.CodecError.TheVariants.{NotARange};
 ghost use Rattle.pgv_value.specs.declared.value.PgValueFormat.TheVariants.{Binary, Text};
@@ -16,7 +13,7 @@ ghost use Rattle.pgv_range.specs.RangeGrammar.{bound_in, bound_in_text, bounds_i
 ghost use Rattle.pgv_range.specs.RangeImage.{bound_frame, bounds_image, empty_image};
 ghost use Rattle.pgv_codec.specs.Refusing.{RefusedExactly, RefusedFor};
 ghost use Rattle.pgv_range.specs.RangeOf.{range_meaning};
-ghost use Rattle.pgv_range.specs.RangeRefusals.{bound_refusal, bound_refused, bound_takes, bounds_refusal, bounds_refused, bounds_take, bounds_text_refusal, has_parts, next_bound_refusal, range_binary_refusal, range_binary_takes, range_text_refusal, value_refusal};
+ghost use Rattle.pgv_range.specs.RangeRefusals.{bound_refusal, bound_refused, bound_takes, bounds_refusal, bounds_refused, bounds_take, bounds_text_refusal, bounds_text_take, next_bound_refusal, next_bound_takes, part_takes, range_binary_refusal, range_binary_takes, range_text_refusal, range_text_takes, value_refusal, value_takes};
 
 use crate::flags::{RangeFlags, RangeForm, Side};
 use crate::range::PgRange;
@@ -110,7 +107,9 @@ fn encode_bound<T: Encode>(bound: &Bound<T>, out: &mut PgArgumentBuffer) -> Resu
 /// white space, is the empty range.
 ///
 /// Null is refused with C13, a text that is not UTF-8 with C14 and one outside the grammar with C29, a type that isn't a range in
-/// binary with C23, bytes that end too early with C15, and what a bound is refused with.
+/// binary with C23, bytes that end too early with C15, and what a bound is refused with. Out of memory (C1) is answered only where the
+/// value of a bound asks for memory, or for a copy: in binary of a custom type that the range is over, in text of a part, only where a
+/// quote or a backslash stands anywhere in it.
 impl<T: Decode + Type> Decode for PgRange<T> {
     ghost use Rattle.pgv_range.specs.RangeGrammar.{range};
     ghost use Rattle.pgv_range.specs.RangeOf.{RangeOf};
@@ -125,7 +124,7 @@ impl<T: Decode + Type> Decode for PgRange<T> {
 
     ghost written = { range_written T.info T.written };
 
-    ghost takes_memory = { range_takes };
+    ghost takes_memory = { range_takes T.info T.reading T.takes_memory };
 
     ghost refusal = { range_refusal T.info T.reading T.refusal };
 
@@ -144,9 +143,9 @@ fn read_binary<T: Decode>(
     bytes: &[u8],
 ) -> Result<PgRange<T>, CodecError>
     ensures exact { Answers (range_meaning T.meaning) (range_in_binary (λ u. T.reading u Binary) type_info.now bytes.now) result }
-    ensures exactly { range_binary_takes type_info.now bytes.now ≡ false → AnswersExactly (range_meaning T.meaning) (range_in_binary (λ u. T.reading u Binary) type_info.now bytes.now) result }
+    ensures exactly { range_binary_takes (λ u. T.reading u Binary) (part_takes T.takes_memory) type_info.now bytes.now ≡ false → AnswersExactly (range_meaning T.meaning) (range_in_binary (λ u. T.reading u Binary) type_info.now bytes.now) result }
     ensures refused { RefusedFor (range_binary_refusal (λ u. T.reading u Binary) (λ u. T.refusal u Binary) type_info.now bytes.now) result }
-    ensures refused_exactly { range_binary_takes type_info.now bytes.now ≡ false → RefusedExactly (range_binary_refusal (λ u. T.reading u Binary) (λ u. T.refusal u Binary) type_info.now bytes.now) result }
+    ensures refused_exactly { range_binary_takes (λ u. T.reading u Binary) (part_takes T.takes_memory) type_info.now bytes.now ≡ false → RefusedExactly (range_binary_refusal (λ u. T.reading u Binary) (λ u. T.refusal u Binary) type_info.now bytes.now) result }
 {
     let element = element_of_range(type_info)?;
     let Some((flags, frames)) = bytes.split_first() else {
@@ -180,9 +179,9 @@ fn read_bounds<T: Decode>(
     bytes: &[u8],
 ) -> Result<PgRange<T>, CodecError>
     ensures exact { Answers (range_meaning T.meaning) (bounds_in (T.reading element.now Binary) below above bytes.now) result }
-    ensures exactly { bounds_take below above bytes.now ≡ false → AnswersExactly (range_meaning T.meaning) (bounds_in (T.reading element.now Binary) below above bytes.now) result }
+    ensures exactly { bounds_take (T.reading element.now Binary) (part_takes T.takes_memory element.now) below above bytes.now ≡ false → AnswersExactly (range_meaning T.meaning) (bounds_in (T.reading element.now Binary) below above bytes.now) result }
     ensures refused { RefusedFor (bounds_refusal (T.reading element.now Binary) (T.refusal element.now Binary) below above bytes.now) result }
-    ensures refused_exactly { bounds_take below above bytes.now ≡ false → RefusedExactly (bounds_refusal (T.reading element.now Binary) (T.refusal element.now Binary) below above bytes.now) result }
+    ensures refused_exactly { bounds_take (T.reading element.now Binary) (part_takes T.takes_memory element.now) below above bytes.now ≡ false → RefusedExactly (bounds_refusal (T.reading element.now Binary) (T.refusal element.now Binary) below above bytes.now) result }
 {
     let mut rest = bytes;
     let start = read_bound(alloc, element, below, &mut rest)?;
@@ -199,9 +198,9 @@ fn read_bound<'a, T: Decode>(
 ) -> Result<Bound<T>, CodecError>
     ensures ok { IfOk result (λ b. bound_in (T.reading element.now Binary) side bytes.old.now ≡ Some (bound_map T.meaning b, bytes.new.now)) }
     ensures err { IfErr result (λ e. Refuses e (bound_in (T.reading element.now Binary) side bytes.old.now ≡ None)) }
-    ensures exactly { bound_takes side bytes.old.now ≡ false → IfErr result (λ e. bound_in (T.reading element.now Binary) side bytes.old.now ≡ None) }
+    ensures exactly { bound_takes (part_takes T.takes_memory element.now) side bytes.old.now ≡ false → IfErr result (λ e. bound_in (T.reading element.now Binary) side bytes.old.now ≡ None) }
     ensures refused { RefusedFor (bound_refusal (T.reading element.now Binary) (T.refusal element.now Binary) side bytes.old.now) result }
-    ensures refused_exactly { bound_takes side bytes.old.now ≡ false → RefusedExactly (bound_refusal (T.reading element.now Binary) (T.refusal element.now Binary) side bytes.old.now) result }
+    ensures refused_exactly { bound_takes (part_takes T.takes_memory element.now) side bytes.old.now ≡ false → RefusedExactly (bound_refusal (T.reading element.now Binary) (T.refusal element.now Binary) side bytes.old.now) result }
 {
     match side {
         Side::Infinite => Ok(Bound::Unbounded),
@@ -210,7 +209,8 @@ fn read_bound<'a, T: Decode>(
     }
 }
 
-/// The value of the frame in front. No memory is asked for before the frame is there.
+/// The value of the frame in front. No memory is asked for before the frame is there, and then only by the value, and for the copy of
+/// a custom type.
 fn read_value<'a, T: Decode>(
     alloc: Global,
     element: &PgTypeInfo,
@@ -219,21 +219,22 @@ fn read_value<'a, T: Decode>(
     ensures ok { IfOk result (λ v. value_in_front (T.reading element.now Binary) bytes.old.now ≡ Some (T.meaning v, bytes.new.now)) }
     ensures err { IfErr result (λ e. Refuses e (value_in_front (T.reading element.now Binary) bytes.old.now ≡ None)) }
     ensures refused { RefusedFor (value_refusal (T.reading element.now Binary) (T.refusal element.now Binary) bytes.old.now) result }
-    ensures refused_exactly { is_some (front bytes.old.now) ≡ false → IfErr result (λ e. e ≡ frame_fault bytes.old.now) }
+    ensures exactly { value_takes (part_takes T.takes_memory element.now) bytes.old.now ≡ false → IfErr result (λ e. value_in_front (T.reading element.now Binary) bytes.old.now ≡ None) }
+    ensures refused_exactly { value_takes (part_takes T.takes_memory element.now) bytes.old.now ≡ false → RefusedExactly (value_refusal (T.reading element.now Binary) (T.refusal element.now Binary) bytes.old.now) result }
 {
     let all: &'a [u8] = *bytes;
     let (part, rest) = part_in_front(all)?;
     *bytes = rest;
-    let part = PgValueRef::new(part, element.clone()?, PgValueFormat::Binary);
-    T::decode(alloc, part)
+    let value = PgValueRef::new(part, element.clone()?, PgValueFormat::Binary);
+    T::decode(alloc, value)
 }
 
 /// A range in text.
 fn read_text<T: Decode + Type>(alloc: Global, text: &str) -> Result<PgRange<T>, CodecError>
     ensures exact { Answers (range_meaning T.meaning) (range_in_text (T.reading T.info Text) text.now) result }
-    ensures exactly { has_parts (range_content (chars text.now)) ≡ false → AnswersExactly (range_meaning T.meaning) (range_in_text (T.reading T.info Text) text.now) result }
+    ensures exactly { range_text_takes (T.reading T.info Text) (T.takes_memory T.info Text) text.now ≡ false → AnswersExactly (range_meaning T.meaning) (range_in_text (T.reading T.info Text) text.now) result }
     ensures refused { RefusedFor (range_text_refusal (T.reading T.info Text) (T.refusal T.info Text) text.now) result }
-    ensures refused_exactly { has_parts (range_content (chars text.now)) ≡ false → RefusedExactly (range_text_refusal (T.reading T.info Text) (T.refusal T.info Text) text.now) result }
+    ensures refused_exactly { range_text_takes (T.reading T.info Text) (T.takes_memory T.info Text) text.now ≡ false → RefusedExactly (range_text_refusal (T.reading T.info Text) (T.refusal T.info Text) text.now) result }
 {
     match Parts::new(TextForm::Range, text) {
         None => Err(CodecError::Syntax),
@@ -245,7 +246,9 @@ fn read_text<T: Decode + Type>(alloc: Global, text: &str) -> Result<PgRange<T>, 
 /// The two parts of a range, each read under the own type of `T`.
 fn read_parts<T: Decode + Type>(alloc: Global, parts: Parts<'_>) -> Result<PgRange<T>, CodecError>
     ensures exact { Answers (range_meaning T.meaning) (bounds_in_text (T.reading T.info Text) (nest parts.entry)) result }
+    ensures exactly { is_unquoted parts.entry ≡ true → bounds_text_take (T.reading T.info Text) (T.takes_memory T.info Text) (nest parts.entry) ≡ false → AnswersExactly (range_meaning T.meaning) (bounds_in_text (T.reading T.info Text) (nest parts.entry)) result }
     ensures refused { RefusedFor (bounds_text_refusal (T.reading T.info Text) (T.refusal T.info Text) (nest parts.entry)) result }
+    ensures refused_exactly { is_unquoted parts.entry ≡ true → bounds_text_take (T.reading T.info Text) (T.takes_memory T.info Text) (nest parts.entry) ≡ false → RefusedExactly (bounds_text_refusal (T.reading T.info Text) (T.refusal T.info Text) (nest parts.entry)) result }
 {
     let (lower_included, upper_included) = parts.includes();
     let mut parts = parts;
@@ -255,7 +258,7 @@ fn read_parts<T: Decode + Type>(alloc: Global, parts: Parts<'_>) -> Result<PgRan
     Ok(PgRange::Bounds { start, end })
 }
 
-/// The bound of the next part. One in quotes is read from this text.
+/// The bound of the next part. One in quotes is read from this text; without quotes and backslashes only its value asks for memory.
 fn next_bound_of<T: Decode + Type>(
     alloc: Global,
     parts: &mut Parts<'_>,
@@ -264,7 +267,10 @@ fn next_bound_of<T: Decode + Type>(
 ) -> Result<Bound<T>, CodecError>
     ensures ok { IfOk result (λ b. next_bound (T.reading T.info Text) included (nest parts.old).values ≡ Some (bound_map T.meaning b, (nest parts.new).values)) }
     ensures err { IfErr result (λ e. Refuses e (next_bound (T.reading T.info Text) included (nest parts.old).values ≡ None)) }
+    ensures exactly { is_unquoted parts.old ≡ true → next_bound_takes (T.takes_memory T.info Text) (nest parts.old).values ≡ false → IfErr result (λ e. next_bound (T.reading T.info Text) included (nest parts.old).values ≡ None) }
     ensures refused { RefusedFor (next_bound_refusal (T.reading T.info Text) (T.refusal T.info Text) (nest parts.old).values) result }
+    ensures refused_exactly { is_unquoted parts.old ≡ true → next_bound_takes (T.takes_memory T.info Text) (nest parts.old).values ≡ false → RefusedExactly (next_bound_refusal (T.reading T.info Text) (T.refusal T.info Text) (nest parts.old).values) result }
+    ensures in_place { is_unquoted parts.old ≡ true → is_unquoted parts.new ≡ true }
 {
     let Some(part) = parts.next_borrowed(text)? else {
         return Err(CodecError::Syntax);
@@ -282,7 +288,9 @@ fn bound_of_text<T: Decode + Type>(
     text: &str,
 ) -> Result<Bound<T>, CodecError>
     ensures exact { Answers (bound_map T.meaning) (bound_in_text (T.reading T.info Text) included (Some text.now)) result }
+    ensures exactly { T.takes_memory T.info Text (Some text.now) ≡ false → AnswersExactly (bound_map T.meaning) (bound_in_text (T.reading T.info Text) included (Some text.now)) result }
     ensures refused { RefusedFor (T.refusal T.info Text (Some text.now)) result }
+    ensures refused_exactly { T.takes_memory T.info Text (Some text.now) ≡ false → RefusedExactly (T.refusal T.info Text (Some text.now)) result }
 {
     let part = PgValueRef::of_text(Some(text), T::type_info());
     let value = T::decode(alloc, part)?;

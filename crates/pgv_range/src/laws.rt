@@ -1,21 +1,23 @@
 //! Laws of ranges: what they are in binary and in text, what is read back of them, and what each type of this crate is. Each is the
 //! contract of a function that does nothing.
 
-ghost use Rattle.std.specs.Prelude.{◌≡◌, ◌↔◌, ℕ, List, Some, None};
+ghost use Rattle.std.specs.Prelude.{◌≡◌, ◌↔◌, ℕ, false, List, Some, None};
 ghost use Rattle.std.specs.Range.{range_inclusive_start, range_inclusive_end};
 ghost use Rattle.std.specs.declared.ops.Bound.TheVariants.{Included, Excluded, Unbounded};
 ghost use Rattle.pgv_types.specs.Ty.{Ty};
 ghost use Rattle.pgv_types.specs.declared.oid.Oid.{Oid};
+ghost use Rattle.pgv_value.specs.FrameBinary.{Part};
 ghost use Rattle.pgv_value.specs.Laws.{AreBytes};
+ghost use Rattle.pgv_value.specs.declared.value.PgValueFormat.{PgValueFormat as Format};
 ghost use Rattle.pgv_value.specs.declared.value.PgValueFormat.TheVariants.{Binary, Text};
 ghost use Rattle.pgv_nest.specs.NestText.{TextIs};
-ghost use Rattle.pgv_codec.specs.Back.{ReadsBack, FieldReadsBack};
 ghost use Rattle.pgv_codec.specs.TypeRow.{IsBuiltIn, IsWrittenAs};
 ghost use Rattle.pgv_range.specs.RangeBinary.{IsRange, IsRangeOver, OneRange};
 ghost use Rattle.pgv_range.specs.RangeFits.{BoundsFit, range_kept};
 ghost use Rattle.pgv_range.specs.RangeGrammar.{range};
 ghost use Rattle.pgv_range.specs.RangeImage.{range_image};
 ghost use Rattle.pgv_range.specs.RangeInText.{IsRangeInText, OneRangeInText};
+ghost use Rattle.pgv_range.specs.RangeLaws.{ComesBack, RangeFieldComesBack, TakesOnlyForCopies};
 ghost use Rattle.pgv_range.specs.RangeOf.{RangeOf, range_meaning};
 ghost use Rattle.pgv_range.specs.RangeRefusals.{range_refusal, range_refused, range_takes};
 ghost use Rattle.pgv_range.specs.RangeRow.{ComesBackUnderRanges, IsBuiltInRange};
@@ -31,6 +33,12 @@ use pgv_codec::{Decode, Encode, PgHasArrayType, ReadBack, Type};
 use pgv_text::laws::range_is_computed;
 use std::fmt;
 use std::ops::{Bound, Range, RangeFrom, RangeInclusive, RangeTo, RangeToInclusive};
+
+/// Several ranges.
+type Ranges<T> = Vec<PgRange<T>>;
+
+/// A range of arrays.
+type OfLists<T> = PgRange<Vec<T>>;
 
 /// The range that is decoded from bytes in binary is the one that they are, under a type of kind range: a flag byte, a frame for each
 /// bound that there is, and anything after them; or a flag byte with 01, and anything (PostgreSQL, "Range Types"; range_send).
@@ -71,9 +79,30 @@ pub fn ranges_are_their_bounds<T: ReadBack + Type>()
     ensures means { ⟦<PgRange<T> as Decode>⟧.meaning ≡ range_meaning T.meaning }
     ensures read { ⟦<PgRange<T> as Decode>⟧.reading ≡ range T.info T.reading }
     ensures unwritten { ⟦<PgRange<T> as Encode>⟧.unwritable ≡ range_refused T.hint T.image T.unwritable }
-    ensures refused { (⟦<PgRange<T> as Decode>⟧.refusal ≡ range_refusal T.info T.reading T.refusal) × (⟦<PgRange<T> as Decode>⟧.takes_memory ≡ range_takes) }
+    ensures refused { (⟦<PgRange<T> as Decode>⟧.refusal ≡ range_refusal T.info T.reading T.refusal) × (⟦<PgRange<T> as Decode>⟧.takes_memory ≡ range_takes T.info T.reading T.takes_memory) }
     ensures kept { ⟦<PgRange<T> as ReadBack>⟧.kept ≡ range_kept T.kept }
 {}
+
+/// Where reading a bound never asks for memory, reading a range asks only for copies: in binary of a custom type that the range is over,
+/// in text of a part, only where a quote or a backslash stands anywhere in it.
+pub fn ranges_take_only_for_copies<T: Decode + Type>()
+    ensures { ((t : Ty) (f : Format) (bytes : Part) → T.takes_memory t f bytes ≡ false) → TakesOnlyForCopies ⟦<PgRange<T> as Decode>⟧.takes_memory }
+{}
+
+/// So do the ranges over a type of this project.
+pub fn own_ranges_take_only_for_copies()
+    ensures int4 { TakesOnlyForCopies ⟦<PgRange<i32> as Decode>⟧.takes_memory }
+    ensures int8 { TakesOnlyForCopies ⟦<PgRange<i64> as Decode>⟧.takes_memory }
+    ensures date { TakesOnlyForCopies ⟦<PgRange<Date> as Decode>⟧.takes_memory }
+    ensures date_time { TakesOnlyForCopies ⟦<PgRange<DateTime> as Decode>⟧.takes_memory }
+    ensures timestamp { TakesOnlyForCopies ⟦<PgRange<Timestamp> as Decode>⟧.takes_memory }
+{
+    ranges_take_only_for_copies::<i32>();
+    ranges_take_only_for_copies::<i64>();
+    ranges_take_only_for_copies::<Date>();
+    ranges_take_only_for_copies::<DateTime>();
+    ranges_take_only_for_copies::<Timestamp>();
+}
 
 /// A range comes back under a type of kind range, where the value of each bound comes back under the type that it is a range over, with
 /// the OIDs of its own holes, those of the lower bound first; and so where every value comes back under it. The empty range comes back
@@ -97,14 +126,14 @@ pub fn own_ranges_fit()
 pub fn ranges_read_back<T: ReadBack + Type + PgHasArrayType>()
 where
     PgRange<T>: Type + PgHasArrayType,
-    ensures range { ReadsBack ⟦<PgRange<T> as Encode>⟧.image ⟦<PgRange<T> as Decode>⟧.reading (λ v. ⟦<PgRange<T> as Decode>⟧.meaning (⟦<PgRange<T> as ReadBack>⟧.kept v)) ⟦<PgRange<T> as ReadBack>⟧.fits }
-    ensures ranges { ReadsBack ⟦<Vec<PgRange<T>> as Encode>⟧.image ⟦<Vec<PgRange<T>> as Decode>⟧.reading (λ v. ⟦<Vec<PgRange<T>> as Decode>⟧.meaning (⟦<Vec<PgRange<T>> as ReadBack>⟧.kept v)) ⟦<Vec<PgRange<T>> as ReadBack>⟧.fits }
-    ensures of_lists { ReadsBack ⟦<PgRange<Vec<T>> as Encode>⟧.image ⟦<PgRange<Vec<T>> as Decode>⟧.reading (λ v. ⟦<PgRange<Vec<T>> as Decode>⟧.meaning (⟦<PgRange<Vec<T>> as ReadBack>⟧.kept v)) ⟦<PgRange<Vec<T>> as ReadBack>⟧.fits }
-    ensures field { FieldReadsBack ⟦<PgRange<T> as Type>⟧.info ⟦<PgRange<T> as Encode>⟧.produced ⟦<PgRange<T> as Encode>⟧.hint ⟦<PgRange<T> as Encode>⟧.image ⟦<PgRange<T> as Type>⟧.accepts ⟦<PgRange<T> as Decode>⟧.reading (λ v. ⟦<PgRange<T> as Decode>⟧.meaning (⟦<PgRange<T> as ReadBack>⟧.kept v)) ⟦<PgRange<T> as ReadBack>⟧.fits }
+    ensures range { ComesBack ⟦<PgRange<T> as Encode>⟧.image ⟦<PgRange<T> as Decode>⟧.reading ⟦<PgRange<T> as Decode>⟧.meaning ⟦<PgRange<T> as ReadBack>⟧.kept ⟦<PgRange<T> as ReadBack>⟧.fits }
+    ensures ranges { ComesBack ⟦<Ranges<T> as Encode>⟧.image ⟦<Ranges<T> as Decode>⟧.reading ⟦<Ranges<T> as Decode>⟧.meaning ⟦<Ranges<T> as ReadBack>⟧.kept ⟦<Ranges<T> as ReadBack>⟧.fits }
+    ensures of_lists { ComesBack ⟦<OfLists<T> as Encode>⟧.image ⟦<OfLists<T> as Decode>⟧.reading ⟦<OfLists<T> as Decode>⟧.meaning ⟦<OfLists<T> as ReadBack>⟧.kept ⟦<OfLists<T> as ReadBack>⟧.fits }
+    ensures field { RangeFieldComesBack T.hint T.image T.info T.reading T.meaning T.kept ⟦<PgRange<T> as Type>⟧.info ⟦<PgRange<T> as Type>⟧.accepts ⟦<PgRange<T> as ReadBack>⟧.fits }
 {
     read_back::<PgRange<T>>();
-    read_back::<Vec<PgRange<T>>>();
-    read_back::<PgRange<Vec<T>>>();
+    read_back::<Ranges<T>>();
+    read_back::<OfLists<T>>();
     field_reads_back::<PgRange<T>>();
 }
 

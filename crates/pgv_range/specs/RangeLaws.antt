@@ -1,0 +1,35 @@
+-- The laws of ranges in short words: what was written is read back, and where memory may be asked for.
+use Rattle.std.specs.Prelude.{◌≡◌, ℕ, Bool, true, false, List, Option, Some, None}
+use Rattle.pgv_types.specs.Ty.{Ty}
+use Rattle.pgv_types.specs.Facts.{is_custom}
+use Rattle.pgv_types.specs.declared.oid.Oid.{Oid}
+use Rattle.pgv_text.specs.Unquoted.{unquoted}
+use Rattle.pgv_value.specs.FrameBinary.{Part}
+use Rattle.pgv_value.specs.Reading.{Reading}
+use Rattle.pgv_value.specs.declared.value.PgValueFormat.TheVariants.{Text, Binary}
+use Rattle.pgv_codec.specs.Back.{ReadsBack, FieldReadsBack}
+use Rattle.pgv_codec.specs.Image.{Image}
+use Rattle.pgv_codec.specs.Refusing.{Taking}
+use Rattle.pgv_range.specs.RangeBinary.{IsRangeOver}
+use Rattle.pgv_range.specs.RangeFits.{range_kept}
+use Rattle.pgv_range.specs.RangeGrammar.{range}
+use Rattle.pgv_range.specs.RangeImage.{range_image}
+use Rattle.pgv_range.specs.RangeOf.{range_meaning}
+use Rattle.pgv_range.specs.declared.range.PgRange.{PgRange}
+
+-- what was written of a value is read back as what it keeps
+abbrev pub ComesBack : {A M : Type 0} → (A → Option Image) → Reading M → (A → M) → (A → A) → (A → Ty → List Oid → Type 0) → Type 0
+ComesBack image reading meaning kept fits = ReadsBack image reading (λ v. meaning (kept v)) fits
+
+-- and so is a range that is a field of a record: of the bounds' hint, image, type, reading, meaning and what they keep, and of the
+-- ranges' type, the types under which they are read, and where they fit
+abbrev pub RangeFieldComesBack : {X M : Type 0} → (X → ℕ) → (X → Option Image) → Ty → Reading M → (X → M) → (X → X) → Ty → (Ty → Bool) → (PgRange X → Ty → List Oid → Type 0) → Type 0
+RangeFieldComesBack hint image element reading meaning kept info accepts fits =
+    FieldReadsBack info (λ r. None) (λ r. 0) (range_image hint image) accepts (range element reading) (λ r. range_meaning meaning (range_kept kept r)) fits
+
+-- memory may be asked for only to copy: in binary a custom type that the range is over, in text a part, only where a quote or a
+-- backslash stands anywhere in it
+abbrev pub TakesOnlyForCopies : Taking → Type 0
+TakesOnlyForCopies takes =
+    ((t u : Ty) (bytes : Part) → IsRangeOver t u → is_custom u ≡ false → takes t Binary bytes ≡ false)
+    × ((t : Ty) (text : List ℕ) → unquoted text ≡ true → takes t Text (Some text) ≡ false)
