@@ -9,8 +9,9 @@
 
 pub use pgv_buf::{Mark, Tokens};
 pub use pgv_codec::{
-    Codec, Decode, Encode, IsNull, PgArgumentBuffer, PgHasArrayType, PgRecordDecoder,
-    PgRecordEncoder, Plain, ReadBack, Type, encode_array, encode_text, type_of_value,
+    Codec, Decode, Encode, FieldList, IsNull, KeptList, PgArgumentBuffer, PgHasArrayType,
+    PgRecordDecoder, PgRecordEncoder, Plain, ReadBack, Type, encode_array, encode_text,
+    type_of_value,
 };
 pub use pgv_copy::PgCopyReader;
 pub use pgv_range::range_compatible;
@@ -48,6 +49,7 @@ pub mod laws {
     pub use pgv_codec::laws as codec;
     pub use pgv_copy::laws as copy;
     pub use pgv_hstore::laws as hstore;
+    pub use pgv_laws::{dates, intervals, networks, texts};
     pub use pgv_lquery::laws as lquery;
     pub use pgv_ltree::laws as ltree;
     pub use pgv_more::laws as more;

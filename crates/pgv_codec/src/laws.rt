@@ -15,11 +15,7 @@ ghost use Rattle.pgv_codec.specs.Plain.{ArrayIsPlain, FieldIsPlain};
 ghost use Rattle.pgv_codec.specs.RecordCalls.{RecordIsItsAccepted};
 ghost use Rattle.pgv_codec.specs.Saying.{said};
 
-pub mod dates;
-pub mod intervals;
-pub mod networks;
 pub mod rows;
-pub mod texts;
 
 use crate::traits::{Codec, Decode, Plain, ReadBack, Type};
 use crate::types::field_list::{FieldList, KeptList};
@@ -69,15 +65,13 @@ pub fn tuple_is_its_list<
 /// What a list of fields is: a field, or a field and then the rest. So it is for what its bytes and texts are, for why it is refused,
 /// where it asks for memory, and for what is written and kept of it and what it fits.
 pub fn lists_are_their_fields<A: ReadBack + Type, Rest: KeptList>()
-    ensures one { SameFields ⟦<(A,) as FieldList>⟧.in_binary (IsField A.accepts A.reading) }
-    ensures one_text { SameParts ⟦<(A,) as FieldList>⟧.in_text (IsTextField A.reading) }
+    ensures one { SameFields ⟦<(A,) as FieldList>⟧.in_binary (IsField A.accepts A.reading) × SameParts ⟦<(A,) as FieldList>⟧.in_text (IsTextField A.reading) }
     ensures one_refused { ⟦<(A,) as FieldList>⟧.why ≡ next_refusal A.accepts A.refusal }
     ensures one_takes { ⟦<(A,) as FieldList>⟧.takes ≡ next_takes A.accepts A.takes_memory }
     ensures one_written { (a : _) (further : List (Option (List Token))) → ⟦<(A,) as KeptList>⟧.written a further ≡ field A.hint A.image A.produced A.info a.0 ∷ further }
     ensures one_means { (a : _) → ⟦<(A,) as FieldList>⟧.meaning (⟦<(A,) as KeptList>⟧.kept a) ≡ A.meaning (A.kept a.0) }
     ensures one_fits { (a : _) (t : Ty) (place : ℕ) (oids : List Oid) → ⟦<(A,) as KeptList>⟧.fits a t place oids ↔ FieldFits A.info A.produced A.image A.accepts A.fits a.0 t place oids }
-    ensures more { SameFields ⟦<(A, Rest) as FieldList>⟧.in_binary (IsField A.accepts A.reading and Rest.in_binary) }
-    ensures more_text { SameParts ⟦<(A, Rest) as FieldList>⟧.in_text (IsTextField A.reading before Rest.in_text) }
+    ensures more { SameFields ⟦<(A, Rest) as FieldList>⟧.in_binary (IsField A.accepts A.reading and Rest.in_binary) × SameParts ⟦<(A, Rest) as FieldList>⟧.in_text (IsTextField A.reading before Rest.in_text) }
     ensures more_refused { ⟦<(A, Rest) as FieldList>⟧.why ≡ field_then A.accepts A.reading A.refusal Rest.why }
     ensures more_take { ⟦<(A, Rest) as FieldList>⟧.takes ≡ takes_then A.accepts A.reading A.takes_memory Rest.takes }
     ensures more_written { (l : _) (further : List (Option (List Token))) → ⟦<(A, Rest) as KeptList>⟧.written l further ≡ field A.hint A.image A.produced A.info l.0 ∷ Rest.written l.1 further }

@@ -52,6 +52,7 @@ pub mod types;
 pub use buffer::{IsNull, PgArgumentBuffer};
 pub use traits::{Codec, Decode, Encode, PgHasArrayType, Plain, ReadBack, Type};
 pub use types::array::{encode_array, type_of_value};
+pub use types::field_list::{FieldList, KeptList};
 pub use types::record::{PgRecordDecoder, PgRecordEncoder};
 pub use types::str::encode_text;
 pub use types::time::micros_of_day;

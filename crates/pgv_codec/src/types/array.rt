@@ -340,10 +340,8 @@ fn is_array_text(text: &str) -> bool
     Parts::new(TextForm::Array, text).is_some()
 }
 
-/// For how many elements of a text the list has room before the first is read.
-const FIRST_ROOM: usize = 4;
-
-/// The elements of a text, each read under the own type of `T` as it comes: the text is not tested before.
+/// The elements of a text, each read under the own type of `T` as it comes: the text is not tested before. Room for the first four is
+/// asked for before any is read.
 fn read_elements<T: Decode + Type>(alloc: Global, text: &str) -> Result<Vec<T>, CodecError>
     ensures exact { Answers (λ v. map T.meaning v.items) (array_in_text (T.reading T.info Text) text.now) result }
     ensures refused { is_some (array_values text.now) ≡ true → RefusedFor (array_text_refusal (T.reading T.info Text) (T.refusal T.info Text) text.now) result }
@@ -351,7 +349,7 @@ fn read_elements<T: Decode + Type>(alloc: Global, text: &str) -> Result<Vec<T>, 
     let Some(mut elements) = Elements::of_text(text) else {
         return Err(CodecError::Syntax);
     };
-    let mut items = Vec::with_capacity(alloc, FIRST_ROOM)?;
+    let mut items = Vec::with_capacity(alloc, 4)?;
     let mut unquoted = String::new(alloc);
     loop {
         match elements.next_borrowed(&mut unquoted)? {

@@ -12,23 +12,6 @@ use pgv_types::{PgType, PgTypeInfo};
 use pgv_value::{CodecError, PgValueRef};
 use std::alloc::Global;
 
-/// That `T` is a tuple of one to nine, said of an `Of<T>`.
-pub trait Tuple {}
-
-/// `record` (OID 2249), read under `record` and domains over it. An array of them is `record[]` (OID 2287).
-impl<T> BuiltIn for Of<T>
-where
-    Of<T>: Tuple,
-{
-    ghost INFO = { builtin 2249 };
-
-    ghost ARRAY_INFO = { builtin 2287 };
-
-    const INFO: PgTypeInfo = PgTypeInfo(PgType::Record);
-
-    const ARRAY_INFO: PgTypeInfo = PgTypeInfo(PgType::RecordArray);
-}
-
 /// The first field of a record. Further fields are ignored. `00000001 00000017 00000004 00000007` is `(7,)`, and so is the text `(7)`.
 impl<A: Type + Decode> Decode for (A,) {
     ghost Meaning = { A.Meaning };
@@ -49,8 +32,16 @@ impl<A: Type + Decode> Decode for (A,) {
 }
 
 impl<A> HasBuiltIn for (A,) {}
+/// `record` (OID 2249), read under `record` and domains over it. An array of them is `record[]` (OID 2287).
+impl<A> BuiltIn for Of<(A,)> {
+    ghost INFO = { builtin 2249 };
 
-impl<A> Tuple for Of<(A,)> {}
+    ghost ARRAY_INFO = { builtin 2287 };
+
+    const INFO: PgTypeInfo = PgTypeInfo(PgType::Record);
+
+    const ARRAY_INFO: PgTypeInfo = PgTypeInfo(PgType::RecordArray);
+}
 
 /// The first two fields of a record. Further fields are ignored. `00000002 00000017 00000004 00000001 00000019 00000001 61` is `(1, "a")`,
 /// and so is the text `(1,a)`.
@@ -68,13 +59,24 @@ impl<A: Type + Decode, B: Type + Decode> Decode for (A, B) {
     ghost refusal = { record_refusal ⟦<(A, (B,)) as FieldList>⟧.why };
 
     fn decode(alloc: Global, value: PgValueRef<'_>) -> Result<Self, CodecError> {
-        first_fields(alloc, value).map(|(a, (b,))| (a, b))
+        match first_fields(alloc, value) {
+            Ok((a, (b,))) => Ok((a, b)),
+            Err(error) => Err(error),
+        }
     }
 }
 
 impl<A, B> HasBuiltIn for (A, B) {}
+/// `record` (OID 2249), read under `record` and domains over it. An array of them is `record[]` (OID 2287).
+impl<A, B> BuiltIn for Of<(A, B)> {
+    ghost INFO = { builtin 2249 };
 
-impl<A, B> Tuple for Of<(A, B)> {}
+    ghost ARRAY_INFO = { builtin 2287 };
+
+    const INFO: PgTypeInfo = PgTypeInfo(PgType::Record);
+
+    const ARRAY_INFO: PgTypeInfo = PgTypeInfo(PgType::RecordArray);
+}
 
 /// The first three fields of a record. Further fields are ignored.
 impl<A: Type + Decode, B: Type + Decode, C: Type + Decode> Decode for (A, B, C) {
@@ -91,13 +93,24 @@ impl<A: Type + Decode, B: Type + Decode, C: Type + Decode> Decode for (A, B, C) 
     ghost refusal = { record_refusal ⟦<(A, (B, (C,))) as FieldList>⟧.why };
 
     fn decode(alloc: Global, value: PgValueRef<'_>) -> Result<Self, CodecError> {
-        first_fields(alloc, value).map(|(a, (b, (c,)))| (a, b, c))
+        match first_fields(alloc, value) {
+            Ok((a, (b, (c,)))) => Ok((a, b, c)),
+            Err(error) => Err(error),
+        }
     }
 }
 
 impl<A, B, C> HasBuiltIn for (A, B, C) {}
+/// `record` (OID 2249), read under `record` and domains over it. An array of them is `record[]` (OID 2287).
+impl<A, B, C> BuiltIn for Of<(A, B, C)> {
+    ghost INFO = { builtin 2249 };
 
-impl<A, B, C> Tuple for Of<(A, B, C)> {}
+    ghost ARRAY_INFO = { builtin 2287 };
+
+    const INFO: PgTypeInfo = PgTypeInfo(PgType::Record);
+
+    const ARRAY_INFO: PgTypeInfo = PgTypeInfo(PgType::RecordArray);
+}
 
 /// The first four fields of a record. Further fields are ignored.
 impl<A: Type + Decode, B: Type + Decode, C: Type + Decode, D: Type + Decode> Decode
@@ -115,13 +128,24 @@ impl<A: Type + Decode, B: Type + Decode, C: Type + Decode, D: Type + Decode> Dec
     ghost refusal = { record_refusal ⟦<(A, (B, (C, (D,)))) as FieldList>⟧.why };
 
     fn decode(alloc: Global, value: PgValueRef<'_>) -> Result<Self, CodecError> {
-        first_fields(alloc, value).map(|(a, (b, (c, (d,))))| (a, b, c, d))
+        match first_fields(alloc, value) {
+            Ok((a, (b, (c, (d,))))) => Ok((a, b, c, d)),
+            Err(error) => Err(error),
+        }
     }
 }
 
 impl<A, B, C, D> HasBuiltIn for (A, B, C, D) {}
+/// `record` (OID 2249), read under `record` and domains over it. An array of them is `record[]` (OID 2287).
+impl<A, B, C, D> BuiltIn for Of<(A, B, C, D)> {
+    ghost INFO = { builtin 2249 };
 
-impl<A, B, C, D> Tuple for Of<(A, B, C, D)> {}
+    ghost ARRAY_INFO = { builtin 2287 };
+
+    const INFO: PgTypeInfo = PgTypeInfo(PgType::Record);
+
+    const ARRAY_INFO: PgTypeInfo = PgTypeInfo(PgType::RecordArray);
+}
 
 /// The first five fields of a record. Further fields are ignored.
 impl<
@@ -144,13 +168,24 @@ impl<
     ghost refusal = { record_refusal ⟦<(A, (B, (C, (D, (E,))))) as FieldList>⟧.why };
 
     fn decode(alloc: Global, value: PgValueRef<'_>) -> Result<Self, CodecError> {
-        first_fields(alloc, value).map(|(a, (b, (c, (d, (e,)))))| (a, b, c, d, e))
+        match first_fields(alloc, value) {
+            Ok((a, (b, (c, (d, (e,)))))) => Ok((a, b, c, d, e)),
+            Err(error) => Err(error),
+        }
     }
 }
 
 impl<A, B, C, D, E> HasBuiltIn for (A, B, C, D, E) {}
+/// `record` (OID 2249), read under `record` and domains over it. An array of them is `record[]` (OID 2287).
+impl<A, B, C, D, E> BuiltIn for Of<(A, B, C, D, E)> {
+    ghost INFO = { builtin 2249 };
 
-impl<A, B, C, D, E> Tuple for Of<(A, B, C, D, E)> {}
+    ghost ARRAY_INFO = { builtin 2287 };
+
+    const INFO: PgTypeInfo = PgTypeInfo(PgType::Record);
+
+    const ARRAY_INFO: PgTypeInfo = PgTypeInfo(PgType::RecordArray);
+}
 
 /// The first six fields of a record. Further fields are ignored.
 impl<
@@ -174,13 +209,24 @@ impl<
     ghost refusal = { record_refusal ⟦<(A, (B, (C, (D, (E, (F,)))))) as FieldList>⟧.why };
 
     fn decode(alloc: Global, value: PgValueRef<'_>) -> Result<Self, CodecError> {
-        first_fields(alloc, value).map(|(a, (b, (c, (d, (e, (f,))))))| (a, b, c, d, e, f))
+        match first_fields(alloc, value) {
+            Ok((a, (b, (c, (d, (e, (f,))))))) => Ok((a, b, c, d, e, f)),
+            Err(error) => Err(error),
+        }
     }
 }
 
 impl<A, B, C, D, E, F> HasBuiltIn for (A, B, C, D, E, F) {}
+/// `record` (OID 2249), read under `record` and domains over it. An array of them is `record[]` (OID 2287).
+impl<A, B, C, D, E, F> BuiltIn for Of<(A, B, C, D, E, F)> {
+    ghost INFO = { builtin 2249 };
 
-impl<A, B, C, D, E, F> Tuple for Of<(A, B, C, D, E, F)> {}
+    ghost ARRAY_INFO = { builtin 2287 };
+
+    const INFO: PgTypeInfo = PgTypeInfo(PgType::Record);
+
+    const ARRAY_INFO: PgTypeInfo = PgTypeInfo(PgType::RecordArray);
+}
 
 /// The first seven fields of a record. Further fields are ignored.
 impl<
@@ -205,13 +251,24 @@ impl<
     ghost refusal = { record_refusal ⟦<(A, (B, (C, (D, (E, (F, (G,))))))) as FieldList>⟧.why };
 
     fn decode(alloc: Global, value: PgValueRef<'_>) -> Result<Self, CodecError> {
-        first_fields(alloc, value).map(|(a, (b, (c, (d, (e, (f, (g,)))))))| (a, b, c, d, e, f, g))
+        match first_fields(alloc, value) {
+            Ok((a, (b, (c, (d, (e, (f, (g,)))))))) => Ok((a, b, c, d, e, f, g)),
+            Err(error) => Err(error),
+        }
     }
 }
 
 impl<A, B, C, D, E, F, G> HasBuiltIn for (A, B, C, D, E, F, G) {}
+/// `record` (OID 2249), read under `record` and domains over it. An array of them is `record[]` (OID 2287).
+impl<A, B, C, D, E, F, G> BuiltIn for Of<(A, B, C, D, E, F, G)> {
+    ghost INFO = { builtin 2249 };
 
-impl<A, B, C, D, E, F, G> Tuple for Of<(A, B, C, D, E, F, G)> {}
+    ghost ARRAY_INFO = { builtin 2287 };
+
+    const INFO: PgTypeInfo = PgTypeInfo(PgType::Record);
+
+    const ARRAY_INFO: PgTypeInfo = PgTypeInfo(PgType::RecordArray);
+}
 
 /// The first eight fields of a record. Further fields are ignored.
 impl<
@@ -237,15 +294,24 @@ impl<
     ghost refusal = { record_refusal ⟦<(A, (B, (C, (D, (E, (F, (G, (H,)))))))) as FieldList>⟧.why };
 
     fn decode(alloc: Global, value: PgValueRef<'_>) -> Result<Self, CodecError> {
-        first_fields(alloc, value).map(|(a, (b, (c, (d, (e, (f, (g, (h,))))))))| (
-            a, b, c, d, e, f, g, h,
-        ))
+        match first_fields(alloc, value) {
+            Ok((a, (b, (c, (d, (e, (f, (g, (h,))))))))) => Ok((a, b, c, d, e, f, g, h)),
+            Err(error) => Err(error),
+        }
     }
 }
 
 impl<A, B, C, D, E, F, G, H> HasBuiltIn for (A, B, C, D, E, F, G, H) {}
+/// `record` (OID 2249), read under `record` and domains over it. An array of them is `record[]` (OID 2287).
+impl<A, B, C, D, E, F, G, H> BuiltIn for Of<(A, B, C, D, E, F, G, H)> {
+    ghost INFO = { builtin 2249 };
 
-impl<A, B, C, D, E, F, G, H> Tuple for Of<(A, B, C, D, E, F, G, H)> {}
+    ghost ARRAY_INFO = { builtin 2287 };
+
+    const INFO: PgTypeInfo = PgTypeInfo(PgType::Record);
+
+    const ARRAY_INFO: PgTypeInfo = PgTypeInfo(PgType::RecordArray);
+}
 
 /// The first nine fields of a record. Further fields are ignored.
 impl<
@@ -280,5 +346,13 @@ impl<
 }
 
 impl<A, B, C, D, E, F, G, H, I> HasBuiltIn for (A, B, C, D, E, F, G, H, I) {}
+/// `record` (OID 2249), read under `record` and domains over it. An array of them is `record[]` (OID 2287).
+impl<A, B, C, D, E, F, G, H, I> BuiltIn for Of<(A, B, C, D, E, F, G, H, I)> {
+    ghost INFO = { builtin 2249 };
 
-impl<A, B, C, D, E, F, G, H, I> Tuple for Of<(A, B, C, D, E, F, G, H, I)> {}
+    ghost ARRAY_INFO = { builtin 2287 };
+
+    const INFO: PgTypeInfo = PgTypeInfo(PgType::Record);
+
+    const ARRAY_INFO: PgTypeInfo = PgTypeInfo(PgType::RecordArray);
+}

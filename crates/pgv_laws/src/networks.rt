@@ -1,4 +1,4 @@
-//! What networks and addresses are, as [`rows`](super::rows) has it of other types.
+//! What networks and addresses are, as `rows` of `pgv_codec` has it of other types.
 
 ghost use Rattle.std.specs.Prelude.{◌≡◌, None};
 ghost use Rattle.pgv_types.specs.Ty.{Ty, builtin};
@@ -7,7 +7,7 @@ ghost use Rattle.pgv_value.specs.NetworkBinary.{address_reading, address_refusal
 ghost use Rattle.pgv_codec.specs.TypeRow.{IsRefusedAs, TakesNone};
 ghost use Rattle.pgv_codec.specs.NetworkBinary.{address_hint, address_image, is_network, is_network_array, network_hint, network_image};
 
-use crate::traits::{Decode, Encode, PgHasArrayType, Type};
+use pgv_codec::{Decode, Encode, PgHasArrayType, Type};
 use pgv_text::IpNetwork;
 use std::net::IpAddr;
 

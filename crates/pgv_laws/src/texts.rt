@@ -4,8 +4,7 @@ ghost use Rattle.pgv_nest.specs.NestText.{IsArrayInText, IsRecordInText, IsSized
 ghost use Rattle.pgv_nest.specs.TupleGrammar.{record_of};
 ghost use Rattle.pgv_value.specs.declared.value.PgValueFormat.TheVariants.{Text};
 
-use crate::traits::{Decode, Type};
-use crate::types::field_list::FieldList;
+use pgv_codec::{Decode, FieldList, Type};
 use pgv_text::laws::{array_is_its_values, record_is_its_values};
 
 /// The list that is decoded from a text is the one of which the text is an array, each element read under its own type; and so
@@ -18,7 +17,7 @@ pub fn array_text_is_its_elements<T: Type + Decode, const N: usize>()
 }
 
 /// The tuple that is decoded from a text is the one that the text is a record of, whatever its fields are: as a list of these, by
-/// [`tuple_is_its_list`](super::tuple_is_its_list).
+/// `tuple_is_its_list` of `pgv_codec`.
 pub fn tuple_text_is_its_fields<Fields: FieldList>()
     ensures { TextIs (record_of Fields.step) (IsRecordInText Fields.in_text) }
 {

@@ -1,4 +1,4 @@
-//! What dates, times, date-times and instants are, as [`rows`](super::rows) has it of other types. All count from 2000-01-01.
+//! What dates, times, date-times and instants are, as `rows` of `pgv_codec` has it of other types. All count from 2000-01-01.
 
 ghost use Rattle.std.specs.Prelude.{◌≡◌, ◌*◌, ◌/◌, None};
 ghost use Rattle.jiff.specs.Words.{civil_nanos, epoch_day, time_nanos};
@@ -6,9 +6,9 @@ ghost use Rattle.pgv_value.specs.DateTimeBinary.{date_reading, date_time_reading
 ghost use Rattle.pgv_codec.specs.DateTimeBinary.{date_image, micros_of, moment_image, time_image};
 ghost use Rattle.pgv_codec.specs.TypeRow.{IsBuiltIn, IsRefusedAs, TakesNone};
 
-use crate::traits::{Decode, Encode, PgHasArrayType, ReadBack, Type};
 use jiff::Timestamp;
 use jiff::civil::{Date, DateTime, Time};
+use pgv_codec::{Decode, Encode, PgHasArrayType, ReadBack, Type};
 
 /// A `Date` is a date (OID 1082), its days in four bytes, as `00002279` for 2024-02-29. Its arrays are `date[]` (1182).
 pub fn date_is_a_date()
@@ -24,7 +24,7 @@ pub fn date_is_a_date()
 
 /// A `Time` is a time (OID 1083), its microseconds in eight bytes, as `0000000a7a358200` for 12:30. Its arrays are `time[]` (1183).
 /// It comes back in whole microseconds.
-#[tactic(auto, using(crate::specs::DateTimeKept::time_kept_cut))]
+#[tactic(auto, using(pgv_codec::specs::DateTimeKept::time_kept_cut))]
 pub fn time_is_a_time()
     ensures types { IsBuiltIn 1083 ⟦<Time as Type>⟧.info ⟦<Time as Type>⟧.accepts }
     ensures arrays { IsBuiltIn 1183 ⟦<Time as PgHasArrayType>⟧.array_info ⟦<Time as PgHasArrayType>⟧.accepts_array }
@@ -39,7 +39,7 @@ pub fn time_is_a_time()
 
 /// A `DateTime` is a timestamp (OID 1114), its microseconds in eight bytes. Its arrays are `timestamp[]` (1115). It comes back as the
 /// moment of its microseconds.
-#[tactic(auto, using(crate::specs::DateTimeKept::date_time_kept_cut))]
+#[tactic(auto, using(pgv_codec::specs::DateTimeKept::date_time_kept_cut))]
 pub fn date_time_is_a_timestamp()
     ensures types { IsBuiltIn 1114 ⟦<DateTime as Type>⟧.info ⟦<DateTime as Type>⟧.accepts }
     ensures arrays { IsBuiltIn 1115 ⟦<DateTime as PgHasArrayType>⟧.array_info ⟦<DateTime as PgHasArrayType>⟧.accepts_array }

@@ -1,4 +1,4 @@
-//! What intervals and durations are, as [`rows`](super::rows) has it of other types.
+//! What intervals and durations are, as `rows` of `pgv_codec` has it of other types.
 
 ghost use Rattle.std.specs.Prelude.{◌≡◌, pos, Some, None};
 ghost use Rattle.std.specs.Duration.{as_nanos};
@@ -7,8 +7,8 @@ ghost use Rattle.pgv_value.specs.Interval.{interval_reading, interval_refusal};
 ghost use Rattle.pgv_codec.specs.Intervals.{interval_image, duration_image, duration_refused};
 ghost use Rattle.pgv_codec.specs.TypeRow.{IsBuiltIn, IsRefusedAs, TakesNone};
 
-use crate::traits::{Decode, Encode, PgHasArrayType, Type};
 use jiff::SignedDuration;
+use pgv_codec::{Decode, Encode, PgHasArrayType, Type};
 use pgv_value::PgInterval;
 use std::time::Duration;
 
