@@ -11,8 +11,7 @@ use Rattle.pgv_value.specs.Reading.{Reading}
 use Rattle.pgv_value.specs.Utf8.{is_utf8}
 use Rattle.pgv_value.specs.declared.value.PgValueFormat.{PgValueFormat}
 use Rattle.pgv_value.specs.declared.value.PgValueFormat.TheVariants.{Text, Binary}
-use Rattle.pgv_nest.specs.NestRefusals.{refusal_or}
-use Rattle.pgv_codec.specs.Refusing.{Taking}
+use Rattle.pgv_nest.specs.NestRefusals.{Taking, refusal_or}
 use Rattle.pgv_range.specs.FlagByte.{form_of}
 use Rattle.pgv_range.specs.RangeBinary.{IsRangeOver}
 use Rattle.pgv_range.specs.RangeGrammar.{bound_in, element_in_kind, next_bound}

@@ -7,9 +7,9 @@ use Rattle.pgv_text.specs.Unquoted.{unquoted}
 use Rattle.pgv_value.specs.FrameBinary.{Part}
 use Rattle.pgv_value.specs.Reading.{Reading}
 use Rattle.pgv_value.specs.declared.value.PgValueFormat.TheVariants.{Text, Binary}
+use Rattle.pgv_nest.specs.NestRefusals.{Taking}
 use Rattle.pgv_codec.specs.Back.{ReadsBack, FieldReadsBack}
 use Rattle.pgv_codec.specs.Image.{Image}
-use Rattle.pgv_codec.specs.Refusing.{Taking}
 use Rattle.pgv_range.specs.RangeBinary.{IsRangeOver}
 use Rattle.pgv_range.specs.RangeFits.{range_kept}
 use Rattle.pgv_range.specs.RangeGrammar.{range}

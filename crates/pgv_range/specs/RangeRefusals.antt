@@ -21,9 +21,9 @@ use Rattle.pgv_value.specs.Utf8.{is_utf8}
 use Rattle.pgv_value.specs.declared.error.CodecError.{CodecError}
 use Rattle.pgv_value.specs.declared.error.CodecError.TheVariants.{UnexpectedNull, Utf8, Short, NotARange, Syntax}
 use Rattle.pgv_value.specs.declared.value.PgValueFormat.TheVariants.{Text, Binary}
-use Rattle.pgv_nest.specs.NestRefusals.{Refusal, refusal_or}
+use Rattle.pgv_nest.specs.NestRefusals.{Refusal, Taking, front_takes, refusal_or}
 use Rattle.pgv_codec.specs.Image.{Image}
-use Rattle.pgv_codec.specs.Refusing.{Taking, first_refused, frame_refused}
+use Rattle.pgv_codec.specs.Refusing.{first_refused, frame_refused}
 use Rattle.pgv_range.specs.FlagByte.{form_of}
 use Rattle.pgv_range.specs.RangeGrammar.{bound_in, next_bound, range_element}
 use Rattle.pgv_range.specs.RangeImage.{bound_frame}
@@ -107,14 +107,11 @@ part_takes takes u part = is_custom u || takes u Binary part
 
 -- of one bound
 module _ (takes : Part → Bool) where
-  -- not before the frame in front is there
-  abbrev pub value_takes : List ℕ → Bool
-  value_takes bytes = refusal_or false (front bytes) (λ p. takes p.0)
-
+  -- not before its frame is there
   abbrev pub bound_takes : Side → List ℕ → Bool
   bound_takes Infinite bytes = false
-  bound_takes Inclusive bytes = value_takes bytes
-  bound_takes Exclusive bytes = value_takes bytes
+  bound_takes Inclusive bytes = front_takes takes bytes
+  bound_takes Exclusive bytes = front_takes takes bytes
 
   abbrev pub bound_text_takes : Part → Bool
   bound_text_takes None = false

@@ -13,7 +13,8 @@ ghost use Rattle.pgv_range.specs.RangeGrammar.{bound_in, bound_in_text, bounds_i
 ghost use Rattle.pgv_range.specs.RangeImage.{bound_frame, bounds_image, empty_image};
 ghost use Rattle.pgv_codec.specs.Refusing.{RefusedExactly, RefusedFor};
 ghost use Rattle.pgv_range.specs.RangeOf.{range_meaning};
-ghost use Rattle.pgv_range.specs.RangeRefusals.{bound_refusal, bound_refused, bound_takes, bounds_refusal, bounds_refused, bounds_take, bounds_text_refusal, bounds_text_take, next_bound_refusal, next_bound_takes, part_takes, range_binary_refusal, range_binary_takes, range_text_refusal, range_text_takes, value_refusal, value_takes};
+ghost use Rattle.pgv_nest.specs.NestRefusals.{front_takes};
+ghost use Rattle.pgv_range.specs.RangeRefusals.{bound_refusal, bound_refused, bound_takes, bounds_refusal, bounds_refused, bounds_take, bounds_text_refusal, bounds_text_take, next_bound_refusal, next_bound_takes, part_takes, range_binary_refusal, range_binary_takes, range_text_refusal, range_text_takes, value_refusal};
 
 use crate::flags::{RangeFlags, RangeForm, Side};
 use crate::range::PgRange;
@@ -219,8 +220,8 @@ fn read_value<'a, T: Decode>(
     ensures ok { IfOk result (λ v. value_in_front (T.reading element.now Binary) bytes.old.now ≡ Some (T.meaning v, bytes.new.now)) }
     ensures err { IfErr result (λ e. Refuses e (value_in_front (T.reading element.now Binary) bytes.old.now ≡ None)) }
     ensures refused { RefusedFor (value_refusal (T.reading element.now Binary) (T.refusal element.now Binary) bytes.old.now) result }
-    ensures exactly { value_takes (part_takes T.takes_memory element.now) bytes.old.now ≡ false → IfErr result (λ e. value_in_front (T.reading element.now Binary) bytes.old.now ≡ None) }
-    ensures refused_exactly { value_takes (part_takes T.takes_memory element.now) bytes.old.now ≡ false → RefusedExactly (value_refusal (T.reading element.now Binary) (T.refusal element.now Binary) bytes.old.now) result }
+    ensures exactly { front_takes (part_takes T.takes_memory element.now) bytes.old.now ≡ false → IfErr result (λ e. value_in_front (T.reading element.now Binary) bytes.old.now ≡ None) }
+    ensures refused_exactly { front_takes (part_takes T.takes_memory element.now) bytes.old.now ≡ false → RefusedExactly (value_refusal (T.reading element.now Binary) (T.refusal element.now Binary) bytes.old.now) result }
 {
     let all: &'a [u8] = *bytes;
     let (part, rest) = part_in_front(all)?;
