@@ -10,9 +10,9 @@ pub mod Parsed
 pub mod ContentText
 pub mod Values
 pub mod PartsLeftView
-pub mod PartsView
 pub mod PartFound
-pub mod Unquoted
+pub mod Copies
+pub mod PartsView
 pub mod ElementsView
 pub mod RangeTextView
 pub mod Spellings

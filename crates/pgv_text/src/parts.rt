@@ -1,6 +1,6 @@
 //! The parts of a text, one by one.
 
-ghost use Rattle.std.specs.Prelude.{◌≡◌, ◌==◌, ◌+◌, ◌<◌, ◌∷◌, [], Option, Some, None, IfErr, IfOk, IfSome, IfNone, OnErr, cond, string_bytes, false, true, length};
+ghost use Rattle.std.specs.Prelude.{◌≡◌, ◌≢◌, ◌==◌, ◌+◌, ◌<◌, ◌∷◌, [], Option, Some, None, IfErr, IfOk, IfSome, IfNone, OnErr, OnOk, cond, drop, is_some, string_bytes, false, true, length};
 ghost use Rattle.std.specs.Option.{MatchOption, option_copied, option_map};
 ghost use Rattle.std.specs.Str.{chars};
 ghost use Rattle.pgv_text.specs.ArrayText.{array_form};
@@ -10,7 +10,7 @@ ghost use Rattle.pgv_text.specs.Scan.{closes_here as spec_closes_here, nest_read
 ghost use Rattle.pgv_text.specs.Values.{part_bytes, values_of};
 ghost use Rattle.pgv_text.specs.PartsLeftView.{values_left};
 ghost use Rattle.pgv_text.specs.PartFound.{IsEndOf, IsPartFrom, halts, part_value};
-ghost use Rattle.pgv_text.specs.Unquoted.{unquoted};
+ghost use Rattle.pgv_text.specs.Copies.{as_it_is, copies_after, copies_by, copies_from, copies_of, first_copied, in_quotes};
 ghost use Rattle.pgv_text.specs.declared.scanner.Place.TheVariants.{Quoted, Start};
 
 use super::scanner::{
@@ -101,8 +101,9 @@ fn usual_part_count(form: TextForm, bytes: &[u8]) -> Option<(usize, u8)>
 pub(crate) fn one_run(form: TextForm, text: &str) -> Option<Stop<'_>>
     ensures part { IfSome result (IsPartFrom form Start text.now) }
     ensures shorter { IfSome result (λ stop. length stop.rest.now < length text.now) }
-    // Without quotes and backslashes every part is one run.
-    ensures unquoted { unquoted text.now ≡ true → MatchOption result (read (form_of form) Start text.now ≡ None) (λ stop. unquoted stop.rest.now ≡ true) }
+    // It is none exactly where the part doesn't stand in the text as it is.
+    ensures as_it_is { is_some result ≡ as_it_is (form_of form) text.now }
+    ensures copies { IfSome result (λ stop. copies_after (form_of form) Start text.now ≡ copies_from (form_of form) stop.rest.now) }
 {
     let first = next_stop(form, Place::Start, text)?;
     match first.cell {
@@ -117,6 +118,8 @@ pub(crate) fn one_run(form: TextForm, text: &str) -> Option<Stop<'_>>
 fn run_in_quotes(form: TextForm, text: &str) -> Option<Stop<'_>>
     ensures part { IfSome result (IsPartFrom form Quoted text.now) }
     ensures shorter { IfSome result (λ stop. length stop.rest.now < length text.now) }
+    ensures in_quotes { is_some result ≡ in_quotes (form_of form) text.now }
+    ensures copies { IfSome result (λ stop. copies_after (form_of form) Quoted text.now ≡ copies_from (form_of form) stop.rest.now) }
 {
     let inside = next_stop(form, Place::Quoted, text)?;
     let Cell::Pass(Place::AfterQuote) = inside.cell else {
@@ -142,6 +145,7 @@ pub(crate) fn unquote<'a>(
     ensures shorter { IfOk result (λ found. IfSome found (λ stop. length stop.rest.now < length text.now)) }
     ensures halts { IfOk result (λ found. IfSome found (λ stop. halts stop.cell ≡ true)) }
     ensures none { IfOk result (λ found. IfNone found (read (form_of form) Start text.now ≡ None)) }
+    ensures copies { IfOk result (λ found. IfSome found (λ stop. copies_after (form_of form) Start text.now ≡ copies_by (form_of form) stop.rest.now (λ q. copies_after (form_of form) q stop.rest.now) stop.cell)) }
 {
     out.clear();
     let mut place = Place::Start;
@@ -202,7 +206,7 @@ pub struct Parts<'a> {
 }
 
 impl<'a> Parts<'a> {
-    ghost use Rattle.pgv_text.specs.PartsView.{content, is_of_empty, is_unquoted, nest};
+    ghost use Rattle.pgv_text.specs.PartsView.{content, copies, is_of_empty, nest};
 
     /// The parts of a text; `None` where it isn't in the form. The empty range has none.
     pub fn new(form: TextForm, text: &'a str) -> Option<Self>
@@ -214,8 +218,8 @@ impl<'a> Parts<'a> {
         ensures computed { option_map (content form) result ≡ content_of form (chars text.now) }
         // The empty range has no parts, and its brackets include nothing.
         ensures nothing { IfSome result (λ p. is_of_empty p ≡ true → nest p ≡ no_parts) }
-        // No quote and no backslash is to come where the text has none.
-        ensures in_place { IfSome result (λ p. unquoted text.now ≡ true → is_unquoted p ≡ true) }
+        // Which parts are copied, of a text between brackets.
+        ensures copies { IfSome result (λ p. is_of_empty p ≡ false → copies p ≡ copies_of form text.now) }
     {
         if is_empty_range(form, text) {
             return Some(Parts::of_empty_range());
@@ -227,7 +231,6 @@ impl<'a> Parts<'a> {
     fn of_empty_range() -> Self
         ensures empty { is_of_empty result ≡ true }
         ensures nothing { nest result ≡ no_parts }
-        ensures in_place { is_unquoted result ≡ true }
     {
         Parts {
             form: TextForm::Range,
@@ -243,7 +246,7 @@ impl<'a> Parts<'a> {
     fn begun(form: TextForm, text: &'a str) -> Option<Self>
         ensures exact { option_map nest result ≡ nest_read (form_of form) text.now }
         ensures bounded { IfSome result (λ p. is_of_empty p ≡ false) }
-        ensures in_place { IfSome result (λ p. unquoted text.now ≡ true → is_unquoted p ≡ true) }
+        ensures copies { IfSome result (λ p. copies p ≡ copies_of form text.now) }
     {
         let (opening, rest) = after_opening(form, text)?;
         let (count, closing) = part_count(form, rest)?;
@@ -298,6 +301,7 @@ impl<'a> Parts<'a> {
             (((nest self.old).values ≡ []) × (self.new ≡ self.old) × (string_bytes text.new ≡ []))
             (λ present. ((nest self.old).values ≡ cond present (Some (string_bytes text.new)) None ∷ (nest self.new).values) × (present ≡ false → string_bytes text.new ≡ []))) }
         ensures err { OnErr result ((self.new ≡ self.old) × (string_bytes text.new ≡ [])) }
+        ensures copies { (nest self.old).values ≢ [] → OnOk result (copies self.new ≡ drop 1 (copies self.old)) }
         ensures lower { (nest self.new).lower ≡ (nest self.old).lower }
         ensures upper { (nest self.new).upper ≡ (nest self.old).upper }
         ensures empty { is_of_empty self.new ≡ is_of_empty self.old }
@@ -326,8 +330,8 @@ impl<'a> Parts<'a> {
     }
 
     /// The next part: borrowed where its bytes stand in the text one after another, alone or in quotes, else put into a text that is
-    /// handed in. `None` after the last part. Out of memory it leaves the parts as they were; without quotes and backslashes to come
-    /// no memory is asked for.
+    /// handed in. `None` after the last part. Out of memory it leaves the parts as they were; no memory
+    /// is asked for a part that is borrowed.
     /// Of the array `{a,"b c"}` they are `a` and `b c`, both borrowed, and then there is none.
     #[inline(always)]
     pub fn next_borrowed(&mut self, text: &mut String) -> Result<Option<Part<'a>>, AllocError>
@@ -337,9 +341,9 @@ impl<'a> Parts<'a> {
         ensures upper { (nest self.new).upper ≡ (nest self.old).upper }
         ensures empty { is_of_empty self.new ≡ is_of_empty self.old }
         ensures at_end { (nest self.old).values ≡ [] → IfErr result (λ e. ⊥) }
-        // Without quotes and backslashes to come the part is borrowed, and so are those after it.
-        ensures never_copied { is_unquoted self.old ≡ true → IfErr result (λ e. ⊥) }
-        ensures in_place { is_unquoted self.old ≡ true → is_unquoted self.new ≡ true }
+        // Only for a part that is copied memory is asked for.
+        ensures copied { OnErr result (first_copied (copies self.old) ≡ true) }
+        ensures copies { (nest self.old).values ≢ [] → OnOk result (copies self.new ≡ drop 1 (copies self.old)) }
     {
         if self.count == 0 {
             return Ok(None);

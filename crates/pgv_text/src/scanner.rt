@@ -4,12 +4,12 @@
 ghost use Rattle.std.specs.Prelude.{◌≡◌, ◌==◌, ◌++◌, ◌∷◌, ◌≤◌, Option, None, IfSome, true, drop, take, length};
 ghost use Rattle.std.specs.Option.{MatchOption};
 ghost use Rattle.pgv_text.specs.Forms.{form_of};
-ghost use Rattle.pgv_text.specs.PartFound.{halts};
+
 ghost use Rattle.pgv_text.specs.declared.scanner.Class.TheVariants.{Other};
 ghost use Rattle.pgv_text.specs.declared.scanner.Place.TheVariants.{Outside, Quoted};
 ghost use Rattle.pgv_text.specs.declared.scanner.TextForm.{TextForm};
 ghost use Rattle.pgv_text.specs.Scan.{cell, class, grown, read, read_by, stands, stops};
-ghost use Rattle.pgv_text.specs.Unquoted.{unquoted};
+ghost use Rattle.pgv_text.specs.Copies.{IsStopFrom, copies_after, copies_by, stop_at};
 
 /// The form of a text.
 #[derive(Clone, Copy, PartialEq, Eq, Drop)]
@@ -169,6 +169,8 @@ fn usual_in_front(bytes: &[u8]) -> usize
     ensures within { result ≤ length bytes.now }
     ensures outside { (form : TextForm) → read (form_of form) Outside bytes.now ≡ grown (take result bytes.now) (read (form_of form) Outside (drop result bytes.now)) }
     ensures quoted { (form : TextForm) → read (form_of form) Quoted bytes.now ≡ grown (take result bytes.now) (read (form_of form) Quoted (drop result bytes.now)) }
+    ensures stops_outside { (form : TextForm) → stop_at (form_of form) Outside bytes.now ≡ stop_at (form_of form) Outside (drop result bytes.now) }
+    ensures stops_quoted { (form : TextForm) → stop_at (form_of form) Quoted bytes.now ≡ stop_at (form_of form) Quoted (drop result bytes.now) }
 {
     let mut count = 0;
     while count < bytes.len() && is_never_special(bytes[count]) {
@@ -205,8 +207,8 @@ pub fn next_stop(form: TextForm, place: Place, text: &str) -> Option<Stop<'_>>
     ensures whole { MatchOption result (read (form_of form) place text.now ≡ None) (λ s. text.now ≡ s.run.now ++ s.byte ∷ s.rest.now) }
     ensures read { MatchOption result (read (form_of form) place text.now ≡ None) (λ s. read (form_of form) place text.now ≡ grown s.run.now (read_by (form_of form) s.byte s.rest.now (λ q. read (form_of form) q s.rest.now) s.cell)) }
     ensures stops { MatchOption result (read (form_of form) place text.now ≡ None) (λ s. stops s.cell ≡ true) }
-    // Without quotes and backslashes nothing is passed over.
-    ensures unquoted { unquoted text.now ≡ true → IfSome result (λ s. (halts s.cell ≡ true) × (unquoted s.rest.now ≡ true)) }
+    ensures first { MatchOption result (stop_at (form_of form) place text.now ≡ None) (IsStopFrom (form_of form) place text.now) }
+    ensures copies { IfSome result (λ s. copies_after (form_of form) place text.now ≡ copies_by (form_of form) s.rest.now (λ q. copies_after (form_of form) q s.rest.now) s.cell) }
 {
     let bytes = text.as_bytes();
     let mut place = place;

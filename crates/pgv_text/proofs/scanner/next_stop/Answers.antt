@@ -6,7 +6,7 @@ use Rattle.std.proofs.lemmas.Str.{IsCharBoundary-after_ascii}
 use Rattle.pgv_text.specs.declared.scanner.Place.TheVariants.{Outside, Quoted}
 use Rattle.pgv_text.proofs.Runs.{usual_run}
 use Rattle.pgv_text.proofs.Stops.{stop_is_ascii}
-use Rattle.pgv_text.proofs.Unquoted.{halts_unquoted}
+use Rattle.pgv_text.proofs.Copies.{copies_there, found_stop, usual_stop}
 use Rattle.pgv_text.specs.Forms.{form_of}
 use Rattle.pgv_text.proofs.scanner.next_stop.Goals as goal
 
@@ -34,6 +34,11 @@ loop-index-preserved-in-Start c =
           (omega (arith, c.loop-index-test.true, c.as_bytes-bytes.ensures))
           (rw (sym value) (c.is_never_special.ensures c.if-is_never_special.true c.args.form))
           (λ rest e. rw (e, sym value, sym whole) (c.usual_in_front.ensures.outside c.args.form)),
+      c.loop-index.invariant.2
+          ∙ usual_stop c.args.form c.loop-index.place Outside c.usual_in_front.result (elim c.in-Start.is [ inl e ↦ rw e refl | inr e ↦ rw e refl ]) c.args.text.now c.loop-index.index
+          (omega (arith, c.loop-index-test.true, c.as_bytes-bytes.ensures))
+          (rw (sym value) (c.is_never_special.ensures c.if-is_never_special.true c.args.form))
+          (λ rest e. rw (e, sym value, sym whole) (c.usual_in_front.ensures.stops_outside c.args.form)),
     )
 
 pub loop-index-preserved-in-Quoted : goal.loop-index-preserved-in-Quoted
@@ -47,12 +52,27 @@ loop-index-preserved-in-Quoted c =
           (omega (arith, c.loop-index-test.true, c.as_bytes-bytes.ensures))
           (rw (sym value) (c.is_never_special.ensures c.if-is_never_special.true c.args.form))
           (λ rest e. rw (e, sym value, sym whole) (c.usual_in_front-in-Quoted.ensures.quoted c.args.form))),
+      rw c.in-Quoted.is
+          (c.loop-index.invariant.2
+          ∙ usual_stop c.args.form c.loop-index.place Quoted c.usual_in_front-in-Quoted.result (rw c.in-Quoted.is refl) c.args.text.now c.loop-index.index
+          (omega (arith, c.loop-index-test.true, c.as_bytes-bytes.ensures))
+          (rw (sym value) (c.is_never_special.ensures c.if-is_never_special.true c.args.form))
+          (λ rest e. rw (e, sym value, sym whole) (c.usual_in_front-in-Quoted.ensures.stops_quoted c.args.form))),
     )
 
--- what stops in a text without quotes and backslashes
-pub returns-in_default-cell-clause-unquoted : goal.returns-in_default-cell-clause-unquoted
-returns-in_default-cell-clause-unquoted c = λ h.
+-- where it stops
+pub returns-in_default-cell-clause-first : goal.returns-in_default-cell-clause-first
+returns-in_default-cell-clause-first c =
     let byte = slice_index_or c.as_bytes-bytes.result.now c.loop-index.index 0 in
-    let whole : c.args.text.now ≡ c.range.result.now ++ byte ∷ c.range_from.result.now = grind (arith, common_steps) in
-    halts_unquoted (form_of c.args.form) c.loop-index.place c.args.text.now c.range.result.now c.range_from.result.now byte c.cell_of-cell.result
-    whole h (cc) c.in_default-cell.not-Keep
+    let split : drop c.loop-index.index c.args.text.now ≡ byte ∷ c.range_from.result.now = grind (arith, common_steps) in (
+      c.loop-index.place,
+      found_stop (form_of c.args.form) c.args.place c.loop-index.place c.args.text.now (drop c.loop-index.index c.args.text.now) c.range_from.result.now byte c.cell_of-cell.result
+          c.loop-index.invariant.2 split (cc) c.in_default-cell.not-Keep,
+      cc,
+    )
+
+pub returns-in_default-cell-clause-copies : goal.returns-in_default-cell-clause-copies
+returns-in_default-cell-clause-copies c =
+    let stop = returns-in_default-cell-clause-first c in
+    let byte = slice_index_or c.as_bytes-bytes.result.now c.loop-index.index 0 in
+    copies_there (form_of c.args.form) c.args.place stop.0 c.args.text.now c.range_from.result.now byte c.cell_of-cell.result stop.1 stop.2
