@@ -310,7 +310,6 @@ module _ (form : Form) where
   ended AfterBackslash k e = elim e [ inl h ↦ absurd cc | inr h ↦ absurd cc ]
   ended QuotedBackslash k e = elim e [ inl h ↦ absurd cc | inr h ↦ absurd cc ]
 
-
   module _ (q : Place) (b : ℕ) (rest : List ℕ) (k : Cell) (is : k ≡ cell form q (class form b)) where
     module _ (text : List ℕ) (stop : stop_at form Quoted text ≡ Some (q, b ∷ rest)) where
       inside : (k ≡ quoted_cell (class form b)) × (in_quotes form text ≡ in_quotes_by (part_ends form rest) (in_quotes form rest) (class form b))
@@ -333,7 +332,7 @@ module _ (form : Form) where
         let kind = ends_by form.doubles (class form c) e in
         let keeps : (r : Place) → cell form AfterQuote (class form c) ≡ Keep r → ⊥ = elim kind [ inl h ↦ λ r l. absurd cc | inr h ↦ λ r l. absurd cc ] in
         let here : ◌≡◌ {A = Place × List ℕ} (AfterQuote, c ∷ cs) (q, b ∷ rest) =
-            same_Some {A = Place × List ℕ} (AfterQuote, c ∷ cs) (q, b ∷ rest) (sym (stops_here AfterQuote (c ∷ cs) (λ r. stop_at form r cs) (cell form AfterQuote (class form c)) keeps) ∙ stop) in
+        same_Some {A = Place × List ℕ} (AfterQuote, c ∷ cs) (q, b ∷ rest) (sym (stops_here AfterQuote (c ∷ cs) (λ r. stop_at form r cs) (cell form AfterQuote (class form c)) keeps) ∙ stop) in
         let place : AfterQuote ≡ q = ap (λ (x : Place × List ℕ). x.0) here in
         let same : c ∷ cs ≡ b ∷ rest = ap (λ (x : Place × List ℕ). x.1) here in
         let what : k ≡ cell form AfterQuote (class form c) = is ∙ ap (λ (p : Place). cell form p (class form b)) (sym place) ∙ ap (λ d. cell form AfterQuote (class form d)) (sym (first_same c b cs rest same)) in

@@ -1,11 +1,12 @@
 -- What is still to come of an array text that is read as it comes: none where it is no array text.
-use Rattle.std.specs.Prelude.{◌≡◌, ◌<◌, ◌+◌, ℕ, Bool, true, false, cond, List, [], ◌∷◌, length, Option, Some, None}
+use Rattle.std.specs.Prelude.{◌≡◌, ◌<◌, ◌+◌, ℕ, Bool, true, false, not, ◌||◌, cond, List, [], ◌∷◌, length, Option, Some, None}
 use Rattle.std.specs.Option.{option_map}
 use Rattle.pgv_text.specs.declared.elements.Elements.{Elements}
 use Rattle.pgv_text.specs.declared.elements.Next.{Next}
 use Rattle.pgv_text.specs.declared.elements.Next.TheVariants.{Element, End, Fault}
 use Rattle.pgv_text.specs.declared.scanner.Place.TheVariants.{Start}
 use Rattle.pgv_text.specs.ArrayText.{array_form}
+use Rattle.pgv_text.specs.Copies.{as_it_is}
 use Rattle.pgv_text.specs.PartFound.{part_value}
 use Rattle.pgv_text.specs.Scan.{read, values_from}
 
@@ -21,6 +22,10 @@ abbrev pub is_end : Option (List (Option (List ℕ))) → Bool
 is_end None = false
 is_end (Some []) = true
 is_end (Some (value ∷ values)) = false
+
+-- whether the next element is copied: it doesn't stand in the text as it is
+abbrev pub is_copied : Elements → Bool
+is_copied e = not (e.ended || as_it_is array_form e.rest.now)
 
 -- how far the end is at most
 abbrev pub distance : Elements → ℕ

@@ -3,7 +3,7 @@
 ghost use Rattle.std.specs.Prelude.{◌≡◌, ◌<◌, ℕ, List, IfOk, None, OnErr, false, length, string_bytes, true};
 ghost use Rattle.std.specs.Option.{MatchOption};
 ghost use Rattle.pgv_text.specs.ArrayText.{array_form};
-ghost use Rattle.pgv_text.specs.ElementsView.{Follows, ahead, is_end};
+ghost use Rattle.pgv_text.specs.ElementsView.{Follows, ahead, is_copied, is_end};
 ghost use Rattle.pgv_text.specs.PartFound.{IsEndOf, halts, part_value};
 ghost use Rattle.pgv_text.specs.Scan.{value_here};
 ghost use Rattle.pgv_text.specs.Values.{array_values};
@@ -80,12 +80,14 @@ impl<'a> Elements<'a> {
     }
 
     /// The next element: borrowed where its bytes stand in the text one after another, alone or in quotes, else put into a text that
-    /// is handed in. Out of memory it leaves the elements as they were.
+    /// is handed in. Out of memory it leaves the elements as they were; none is asked for an element that is borrowed.
     /// Of the array `{a,"b c"}` they are `a` and `b c`, both borrowed, and then there is the end.
     #[inline(always)]
     pub fn next_borrowed(&mut self, text: &mut String) -> Result<Next<'a>, AllocError>
         ensures next { IfOk result (λ next. Follows next (string_bytes text.new) self.old self.new) }
         ensures err { OnErr result (self.new ≡ self.old) }
+        // Only for an element that is copied memory is asked for.
+        ensures copied { OnErr result (is_copied self.old ≡ true) }
     {
         if self.ended {
             return Ok(Next::End);

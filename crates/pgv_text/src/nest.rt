@@ -1,10 +1,11 @@
 //! The texts of arrays, of ranges and of records, as lists.
 
-ghost use Rattle.std.specs.Prelude.{◌≡◌, ℕ, List, Option, Some, IfOk, IfSome, IfNone, length, map};
+ghost use Rattle.std.specs.Prelude.{◌≡◌, ◌≢◌, ℕ, List, [], Option, Some, OnErr, IfOk, IfSome, IfNone, is_some, length, map, true};
 ghost use Rattle.std.specs.Option.{option_map};
 ghost use Rattle.std.specs.Str.{chars};
 ghost use Rattle.pgv_text.specs.ArrayText.{IsArrayText};
-ghost use Rattle.pgv_text.specs.ContentText.{IsRangeOf, RangeContent, parts as parts_of, range_content};
+ghost use Rattle.pgv_text.specs.ContentText.{IsRangeOf, RangeContent, empty, parts as parts_of, range_content};
+ghost use Rattle.pgv_text.specs.PartsLeftView.{or_none};
 ghost use Rattle.pgv_text.specs.PartsView.{nest};
 ghost use Rattle.pgv_text.specs.RangeTextView.{range_of};
 ghost use Rattle.pgv_text.specs.RecordText.{IsRecordText};
@@ -22,6 +23,8 @@ pub fn array_elements(alloc: Global, text: &str) -> Result<Option<Vec<Option<Str
     ensures none { IfOk result (λ found. IfNone found ((values : List (Option (List ℕ))) → IsArrayText (chars text.now) values → ⊥)) }
     // The same by the computed values.
     ensures computed { IfOk result (λ found. option_map values_of found ≡ array_values text.now) }
+    // Memory is asked for only where there are elements.
+    ensures asks { OnErr result (or_none (array_values text.now) ≢ []) }
 {
     match Parts::new(TextForm::Array, text) {
         None => Ok(None),
@@ -37,6 +40,8 @@ pub fn record_fields(alloc: Global, text: &str) -> Result<Option<Vec<Option<Stri
     ensures none { IfOk result (λ found. IfNone found ((values : List (Option (List ℕ))) → IsRecordText (chars text.now) values → ⊥)) }
     // The same by the computed values.
     ensures computed { IfOk result (λ found. option_map values_of found ≡ record_values text.now) }
+    // Memory is asked for only where there are fields.
+    ensures asks { OnErr result (or_none (record_values text.now) ≢ []) }
 {
     match Parts::new(TextForm::Record, text) {
         None => Ok(None),
@@ -72,6 +77,8 @@ pub fn range_parts(alloc: Global, text: &str) -> Result<Option<RangeText>, Alloc
     ensures none { IfOk result (λ found. IfNone found ((other : RangeContent) → IsRangeOf (chars text.now) other → ⊥)) }
     // The same, computed.
     ensures computed { IfOk result (λ found. option_map range_of found ≡ range_content (chars text.now)) }
+    // Memory is asked for only where there are bounds.
+    ensures asks { OnErr result ((is_some (range_content (chars text.now)) ≡ true) × (range_content (chars text.now) ≢ Some empty)) }
 {
     let Some(parts) = Parts::new(TextForm::Range, text) else {
         return Ok(None);

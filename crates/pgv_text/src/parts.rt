@@ -301,6 +301,7 @@ impl<'a> Parts<'a> {
             (((nest self.old).values ≡ []) × (self.new ≡ self.old) × (string_bytes text.new ≡ []))
             (λ present. ((nest self.old).values ≡ cond present (Some (string_bytes text.new)) None ∷ (nest self.new).values) × (present ≡ false → string_bytes text.new ≡ []))) }
         ensures err { OnErr result ((self.new ≡ self.old) × (string_bytes text.new ≡ [])) }
+        ensures at_end { (nest self.old).values ≡ [] → IfErr result (λ e. ⊥) }
         ensures copies { (nest self.old).values ≢ [] → OnOk result (copies self.new ≡ drop 1 (copies self.old)) }
         ensures lower { (nest self.new).lower ≡ (nest self.old).lower }
         ensures upper { (nest self.new).upper ≡ (nest self.old).upper }
@@ -372,6 +373,7 @@ impl<'a> Parts<'a> {
     pub fn next_part(&mut self, alloc: Global) -> Result<Option<Option<String>>, AllocError>
         ensures next { IfOk result (λ found. MatchOption found (((nest self.old).values ≡ []) × (self.new ≡ self.old)) (λ part. (nest self.old).values ≡ part_bytes part ∷ (nest self.new).values)) }
         ensures err { OnErr result (self.new ≡ self.old) }
+        ensures at_end { (nest self.old).values ≡ [] → IfErr result (λ e. ⊥) }
         ensures lower { (nest self.new).lower ≡ (nest self.old).lower }
         ensures upper { (nest self.new).upper ≡ (nest self.old).upper }
         ensures empty { is_of_empty self.new ≡ is_of_empty self.old }
@@ -386,7 +388,8 @@ impl<'a> Parts<'a> {
 
     /// All parts that are still to come.
     pub fn list(self, alloc: Global) -> Result<Vec<Option<String>>, AllocError>
-        ensures { IfOk result (λ v. values_of v ≡ (nest self.entry).values) }
+        ensures ok { IfOk result (λ v. values_of v ≡ (nest self.entry).values) }
+        ensures none { (nest self.entry).values ≡ [] → IfErr result (λ e. ⊥) }
     {
         let mut parts = self;
         let mut list = Vec::with_capacity(alloc, self.len())?;

@@ -4,7 +4,6 @@
 ghost use Rattle.std.specs.Prelude.{◌≡◌, ◌==◌, ◌++◌, ◌∷◌, ◌≤◌, Option, None, IfSome, true, drop, take, length};
 ghost use Rattle.std.specs.Option.{MatchOption};
 ghost use Rattle.pgv_text.specs.Forms.{form_of};
-
 ghost use Rattle.pgv_text.specs.declared.scanner.Class.TheVariants.{Other};
 ghost use Rattle.pgv_text.specs.declared.scanner.Place.TheVariants.{Outside, Quoted};
 ghost use Rattle.pgv_text.specs.declared.scanner.TextForm.{TextForm};

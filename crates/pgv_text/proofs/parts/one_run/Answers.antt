@@ -38,7 +38,7 @@ returns-in-Pass-Quoted-clause-as_it_is c =
     let none = none_in first.run.now (sym c.is_empty.ensures ∙ c.if-is_empty.true) in
     c.run_in_quotes.ensures.in_quotes
     ∙ sym (run_quoted (form_of c.args.form) stop.0 first.byte first.rest.now first.cell stop.2 c.args.text.now stop.1 (c.in-Pass-Quoted.is ∙ ap Pass quoted)
-        (c.in_ok-first.ensures.whole ∙ ap (λ r. r ++ first.byte ∷ first.rest.now) none))
+    (c.in_ok-first.ensures.whole ∙ ap (λ r. r ++ first.byte ∷ first.rest.now) none))
 
 -- anything else
 pub returns-in_default-clause-as_it_is : goal.returns-in_default-clause-as_it_is
@@ -46,10 +46,10 @@ returns-in_default-clause-as_it_is c =
     let first = c.in_ok-first.first in
     let stop = c.in_ok-first.ensures.first in
     let goes_on : (first.cell ≡ Part → ⊥) × (first.cell ≡ End → ⊥) × (first.cell ≡ Pass Quoted → first.run.now ≡ [] → ⊥) =
-        elim c.in_default.branch [
-          | in_default-via-in-Pass-Quoted+else-is_empty w ↦ search rules
-          | in_default-via-in-Pass+in_default w ↦ search rules
-          | in_default-via-in_default w ↦ search rules
-        ] in
+    elim c.in_default.branch [
+      | in_default-via-in-Pass-Quoted+else-is_empty w ↦ search rules
+      | in_default-via-in-Pass+in_default w ↦ search rules
+      | in_default-via-in_default w ↦ search rules
+    ] in
     sym (run_goes_on (form_of c.args.form) stop.0 first.byte first.rest.now first.cell stop.2 c.args.text.now first.run.now stop.1 c.in_ok-first.ensures.whole c.in_ok-first.ensures.stops
-        goes_on.0 goes_on.1 goes_on.2)
+    goes_on.0 goes_on.1 goes_on.2)

@@ -48,8 +48,8 @@ returns-in-Part-clause-in_quotes c =
     let closed : c.in-Pass-AfterQuote.field-0 ≡ AfterQuote = rw c.in-Pass-AfterQuote.is at c.in-Pass-AfterQuote.field-0-is in
     let none = none_in end.run.now (sym c.is_empty.ensures ∙ c.if-is_empty.true) in
     sym (
-      quotes_close form stop.0 inside.byte inside.rest.now inside.cell stop.2 c.args.text.now stop.1 (c.in-Pass-AfterQuote.is ∙ ap Pass closed)
-          ∙ ends_at_once form last.0 end.byte end.rest.now end.cell last.2 inside.rest.now (c.in_ok-end.ensures.whole ∙ ap (λ r. r ++ end.byte ∷ end.rest.now) none) c.in-Part.is
+    quotes_close form stop.0 inside.byte inside.rest.now inside.cell stop.2 c.args.text.now stop.1 (c.in-Pass-AfterQuote.is ∙ ap Pass closed)
+    ∙ ends_at_once form last.0 end.byte end.rest.now end.cell last.2 inside.rest.now (c.in_ok-end.ensures.whole ∙ ap (λ r. r ++ end.byte ∷ end.rest.now) none) c.in-Part.is
     )
 
 -- more than the quote
@@ -62,8 +62,8 @@ returns-in_default-cell-clause-in_quotes c =
     let last = c.in_ok-end.ensures.first in
     let closed : c.in-Pass-AfterQuote.field-0 ≡ AfterQuote = rw c.in-Pass-AfterQuote.is at c.in-Pass-AfterQuote.field-0-is in
     let more : (end.cell ≡ Part) ⊎ (end.cell ≡ End) → end.run.now ≡ [] → ⊥ =
-        elim c.in_default-cell.branch [ in_default-cell-via-in-Part+else-is_empty w ↦ search rules | in_default-cell-via-in_default-cell w ↦ search rules ] in
+    elim c.in_default-cell.branch [ in_default-cell-via-in-Part+else-is_empty w ↦ search rules | in_default-cell-via-in_default-cell w ↦ search rules ] in
     sym (
-      quotes_close form stop.0 inside.byte inside.rest.now inside.cell stop.2 c.args.text.now stop.1 (c.in-Pass-AfterQuote.is ∙ ap Pass closed)
-          ∙ ends_later form last.0 end.byte end.rest.now end.cell last.2 inside.rest.now end.run.now last.1 c.in_ok-end.ensures.whole more
+    quotes_close form stop.0 inside.byte inside.rest.now inside.cell stop.2 c.args.text.now stop.1 (c.in-Pass-AfterQuote.is ∙ ap Pass closed)
+    ∙ ends_later form last.0 end.byte end.rest.now end.cell last.2 inside.rest.now end.run.now last.1 c.in_ok-end.ensures.whole more
     )

@@ -12,9 +12,9 @@ returns-in_default-cell-clause-part c =
     let stop = c.in-Some.stop in
     let before = string_bytes c.loop-stop.out in
     let longer : string_bytes c.if-not-is_empty.out ≡ before ++ stop.run.now =
-        elim c.if-not-is_empty.branch [
-          | then-not-is_empty+in_ok-push_str w ↦ ap string_bytes w.out-is ∙ w.in_ok-push_str.ensures.bytes
-          | else-not-is_empty w ↦ ap string_bytes w.out-is ∙ sym (append-nil before) ∙ ap (λ r. before ++ r) (sym (none_in stop.run.now (sym c.is_empty.ensures ∙ w.if-not-is_empty.false)))
-        ] in
+    elim c.if-not-is_empty.branch [
+      | then-not-is_empty+in_ok-push_str w ↦ ap string_bytes w.out-is ∙ w.in_ok-push_str.ensures.bytes
+      | else-not-is_empty w ↦ ap string_bytes w.out-is ∙ sym (append-nil before) ∙ ap (λ r. before ++ r) (sym (none_in stop.run.now (sym c.is_empty.ensures ∙ w.if-not-is_empty.false)))
+    ] in
     let onward = read_by form stop.byte stop.rest.now (λ q. read form q stop.rest.now) stop.cell in
     c.loop-stop.invariant.1 ∙ ap (grown before) c.in-Some.ensures.read ∙ sym (grown_twice before stop.run.now onward) ∙ ap (λ b. grown b onward) (sym longer)
