@@ -1,13 +1,14 @@
 -- What is computed of an array or a record in text is what its characters are.
-use Rattle.std.proofs.Common.{◌≡◌, ℕ, Bool, nat_eq, List, [], ◌∷◌, length, Option, Some, None, option_map, refl, sym, ◌∙◌, ap, subst}
+use Rattle.std.proofs.Common.{◌≡◌, ℕ, Bool, nat_eq, List, [], ◌∷◌, drop, length, Option, Some, None, option_map, refl, sym, ◌∙◌, ap, subst}
 use Rattle.std.specs.Prelude.{◌↔◌}
 use Rattle.std.proofs.lemmas.Bool.{eq-eqb, eqb-true}
 use Rattle.std.proofs.lemmas.Option.{same_Some}
 use Rattle.pgv_types.specs.Ty.{Ty, by_oid}
 use Rattle.pgv_text.specs.Laws.{ArrayIsItsValues, RecordIsItsValues}
 use Rattle.pgv_text.specs.NestText.{Pairwise}
-use Rattle.pgv_text.specs.Unquoted.{unquoted}
+use Rattle.pgv_text.specs.Copies.{copies_of}
 use Rattle.pgv_text.specs.Values.{array_values, record_values}
+use Rattle.pgv_text.specs.declared.scanner.TextForm.TheVariants.{Record}
 use Rattle.pgv_value.specs.FrameBinary.{Part}
 use Rattle.pgv_value.specs.Reading.{Reading}
 use Rattle.pgv_value.specs.Utf8.{is_utf8}
@@ -66,26 +67,26 @@ module _ (law : ArrayIsItsValues) {M : Type 0} (info : Ty) (reading : Reading M)
 
 -- ---- records
 
-mapped_fields : (plain : Bool) (o : Option (List Part)) (left : Left) → option_map (λ parts. text_fields (length parts) plain parts) o ≡ Some left → (parts : List Part) × (o ≡ Some parts) × (left ≡ text_fields (length parts) plain parts)
-mapped_fields plain None left e = absurd cc
-mapped_fields plain (Some parts) left e = (parts, refl, sym (same_Some (text_fields (length parts) plain parts) left e))
+mapped_fields : (copied : List Bool) (o : Option (List Part)) (left : Left) → option_map (λ parts. text_fields (length parts) copied parts) o ≡ Some left → (parts : List Part) × (o ≡ Some parts) × (left ≡ text_fields (length parts) copied parts)
+mapped_fields copied None left e = absurd cc
+mapped_fields copied (Some parts) left e = (parts, refl, sym (same_Some (text_fields (length parts) copied parts) left e))
 
 module _ (law : RecordIsItsValues) where
   pub text_begins : RecordTextBegins
   text_begins t bytes left = (
     λ e.
-        let u = test_held (is_utf8 bytes) (option_map (λ parts. text_fields (length parts) (unquoted bytes) parts) (record_values bytes)) left e in
-        let v = mapped_fields (unquoted bytes) (record_values bytes) left u.1 in
+        let u = test_held (is_utf8 bytes) (option_map (λ parts. text_fields (length parts) (copies_of Record bytes) parts) (record_values bytes)) left e in
+        let v = mapped_fields (copies_of Record bytes) (record_values bytes) left u.1 in
         (v.0, v.2, u.0, (law bytes v.0).0 v.1),
     λ h. rw (h.2, (law bytes h.0).1 h.3) (ap (λ (l : Left). let o : Option Left = Some l in o) (sym h.1)),
   )
 
 pub text_field : {M : Type 0} (accepts : Ty → Bool) (reading : Reading M) → TextFieldIsItsValue accepts reading
-text_field accepts reading n plain [] m left = (λ e. absurd cc, λ h. absurd cc)
-text_field {M} accepts reading n plain (part ∷ parts) m left = (
+text_field accepts reading n copied [] m left = (λ e. absurd cc, λ h. absurd cc)
+text_field {M} accepts reading n copied (part ∷ parts) m left = (
   λ e.
       let a = step_taken (reading (by_oid 0) Text part) _ (m, left) e in
-      let k = pair_is a.0 m (text_fields n plain parts) left a.2 in
+      let k = pair_is a.0 m (text_fields n (drop 1 copied) parts) left a.2 in
       (parts, sym k.1, (part, refl, a.1 ∙ ap (λ (x : M). let o : Option M = Some x in o) k.0)),
   λ h.
       let same : part ∷ parts ≡ h.2.0 ∷ h.0 = h.2.1 in
@@ -94,22 +95,28 @@ text_field {M} accepts reading n plain (part ∷ parts) m left = (
       rw (first, h.2.2, h.1, others) refl,
 )
 
+pub one_text : {M : Type 0} (accepts : Ty → Bool) (reading : Reading M) → FindInText (next accepts reading) (IsTextField reading)
+one_text accepts reading n copied parts m = (
+  λ left e. let h = (text_field accepts reading n copied parts m left).0 e in (drop 1 copied, h.0, h.1, h.2),
+  λ rest h. (drop 1 copied, (text_field accepts reading n copied parts m (text_fields n (drop 1 copied) rest)).1 (rest, refl, h)),
+)
+
 pub further_text :
     {A B : Type 0} (accepts : Ty → Bool) (reading : Reading A) (steps : Left → Option (B × Left)) (fields : TextStretch B) →
     FindInText steps fields → FindInText (next accepts reading then steps) (IsTextField reading before fields)
-further_text {A} {B} accepts reading steps fields found n plain parts m left = (
-  λ e.
-      let one = step_taken (next accepts reading (text_fields n plain parts)) _ (m, left) e in
+further_text {A} {B} accepts reading steps fields found n copied parts m = (
+  λ left e.
+      let one = step_taken (next accepts reading (text_fields n copied parts)) _ (m, left) e in
       let further = step_taken (steps one.0.1) _ (m, left) one.2 in
       let both_are = pair_is {A = A × B} {B = Left} (one.0.0, further.0.0) m further.0.1 left further.2 in
-      let k = (text_field accepts reading n plain parts one.0.0 one.0.1).0 one.1 in
-      let after : steps (text_fields n plain k.0) ≡ Some (further.0.0, further.0.1) = ap steps (sym k.1) ∙ further.1 in
-      let rest = (found n plain k.0 further.0.0 further.0.1).0 after in
-      (rest.0, sym both_are.1 ∙ rest.1, subst (λ (x : A × B). (IsTextField reading before fields) parts x rest.0) both_are.0 (k.0, k.2, rest.2)),
-  λ h.
-      let one = (text_field accepts reading n plain parts m.0 (text_fields n plain h.2.0)).1 (h.2.0, refl, h.2.1) in
-      let further = (found n plain h.2.0 m.1 left).1 (h.0, h.1, h.2.2) in
-      rw (one, further) refl,
+      let k = (text_field accepts reading n copied parts one.0.0 one.0.1).0 one.1 in
+      let after : steps (text_fields n (drop 1 copied) k.0) ≡ Some (further.0.0, further.0.1) = ap steps (sym k.1) ∙ further.1 in
+      let rest = (found n (drop 1 copied) k.0 further.0.0).0 further.0.1 after in
+      (rest.0, rest.1, ◌∙◌ {c = text_fields n rest.0 rest.1} (sym both_are.1) rest.2, subst (λ (x : A × B). (IsTextField reading before fields) parts x rest.1) both_are.0 (k.0, k.2, rest.3)),
+  λ rest h.
+      let one = (text_field accepts reading n copied parts m.0 (text_fields n (drop 1 copied) h.0)).1 (h.0, refl, h.1) in
+      let further = (found n (drop 1 copied) h.0 m.1).1 rest h.2 in
+      (further.0, rw (one, further.1) refl),
 )
 
 pub record_text : {M : Type 0} (law : RecordIsItsValues) (steps : Left → Option (M × Left)) (fields : TextStretch M) → FindInText steps fields → TextIs (record_of steps) (IsRecordInText fields)
@@ -118,11 +125,11 @@ record_text {M} law steps fields found t bytes m = (
       let start = step_taken (fields_of t Text (Some bytes)) _ m e in
       let x = step_taken (steps start.0) _ m start.2 in
       let b = (text_begins law t bytes start.0).0 start.1 in
-      let first : steps (text_fields (length b.0) (unquoted bytes) b.0) ≡ Some (x.0.0, x.0.1) = ap steps (sym b.1) ∙ x.1 in
-      let k = (found (length b.0) (unquoted bytes) b.0 x.0.0 x.0.1).0 first in
-      record { parts = b.0; rest = k.0; utf8 = b.2; whole = b.3; read = subst (λ (y : M). fields b.0 y k.0) (same_Some x.0.0 m x.2) k.2 },
+      let first : steps (text_fields (length b.0) (copies_of Record bytes) b.0) ≡ Some (x.0.0, x.0.1) = ap steps (sym b.1) ∙ x.1 in
+      let k = (found (length b.0) (copies_of Record bytes) b.0 x.0.0).0 x.0.1 first in
+      record { parts = b.0; rest = k.1; utf8 = b.2; whole = b.3; read = subst (λ (y : M). fields b.0 y k.1) (same_Some x.0.0 m x.2) k.3 },
   λ h.
-      let start = (text_begins law t bytes (text_fields (length h.parts) (unquoted bytes) h.parts)).1 (h.parts, refl, h.utf8, h.whole) in
-      let x = (found (length h.parts) (unquoted bytes) h.parts m (text_fields (length h.parts) (unquoted bytes) h.rest)).1 (h.rest, refl, h.read) in
-      rw (start, x) refl,
+      let start = (text_begins law t bytes (text_fields (length h.parts) (copies_of Record bytes) h.parts)).1 (h.parts, refl, h.utf8, h.whole) in
+      let x = (found (length h.parts) (copies_of Record bytes) h.parts m).1 h.rest h.read in
+      rw (start, x.1) refl,
 )

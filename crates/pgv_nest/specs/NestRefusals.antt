@@ -5,12 +5,13 @@
 -- has C26; an OID that is no built-in type's under `record` C28; a type that is no record C24; a type that isn't accepted C27. A
 -- frame says C15 or C16, and a part what its own type says. In text: C14 where it isn't UTF-8, C29 outside the grammar, and then
 -- what a part's type says; without a field left C25. Null is C13.
--- What asks for memory: the copy of a custom type, the list of an array's elements, a part of a record's text that has quotes or
--- backslashes, and what a part's type asks for. What can't be read before that is always answered as itself.
+-- What asks for memory: the copy of a custom type, the list of an array's elements, a part of a record's text that doesn't stand in
+-- it as it is, and what a part's type asks for. What can't be read before that is always answered as itself.
 use Rattle.std.specs.Prelude.{ℕ, zero, suc, nat_eq, nat_lt, Bool, true, false, not, ◌&&◌, ◌||◌, ◌==◌, List, [], ◌∷◌, length, Option, Some, None, if◌then◌else◌}
 use Rattle.std.specs.Int.{w32, cast_signed}
 use Rattle.pgv_types.specs.Ty.{Ty, builtin, custom, named, by_oid, array_of, Kind, simple, pseudo, domain, composite, array as array_kind, enumeration, range}
 use Rattle.pgv_types.specs.Facts.{is_custom}
+use Rattle.pgv_text.specs.Copies.{first_copied}
 use Rattle.pgv_text.specs.Values.{array_values}
 use Rattle.pgv_value.specs.FrameBinary.{Part, front, frame_fault}
 use Rattle.pgv_value.specs.Reading.{Reading}
@@ -162,8 +163,8 @@ field_refusal accepts why t place bytes =
 -- the next field; without one in text it is C25, with the number of fields that the text has
 abbrev pub next_refusal : (Ty → Bool) → Refusal → Left → Option CodecError
 next_refusal accepts why (binary_fields t place bytes) = field_refusal accepts why t place bytes
-next_refusal accepts why (text_fields n plain []) = Some (NoField n)
-next_refusal accepts why (text_fields n plain (part ∷ parts)) = why (by_oid 0) Text part
+next_refusal accepts why (text_fields n copied []) = Some (NoField n)
+next_refusal accepts why (text_fields n copied (part ∷ parts)) = why (by_oid 0) Text part
 
 -- a field, and then the rest
 unfoldable pub field_then : {M : Type 0} → (Ty → Bool) → Reading M → Refusal → (Left → Option CodecError) → Left → Option CodecError
@@ -198,11 +199,11 @@ abbrev pub field_takes : (Ty → Bool) → Taking → Option (Ty × List ℕ) �
 field_takes accepts takes None = false
 field_takes accepts takes (Some h) = is_custom h.0 || (accepts h.0 && front_takes (takes h.0 Binary) h.1)
 
--- of the next field; in text it may be copied where the text has quotes or backslashes
+-- of the next field; in text the copy of its text, and its value
 abbrev pub next_takes : (Ty → Bool) → Taking → Left → Bool
 next_takes accepts takes (binary_fields t place bytes) = field_takes accepts takes (field_head t place bytes)
-next_takes accepts takes (text_fields n plain []) = false
-next_takes accepts takes (text_fields n plain (part ∷ parts)) = not plain || takes (by_oid 0) Text part
+next_takes accepts takes (text_fields n copied []) = false
+next_takes accepts takes (text_fields n copied (part ∷ parts)) = first_copied copied || takes (by_oid 0) Text part
 
 -- of a field, and then of the rest
 unfoldable pub takes_then : {M : Type 0} → (Ty → Bool) → Reading M → Taking → (Left → Bool) → Left → Bool

@@ -5,13 +5,14 @@
 -- the type declared by the OID 0 (`IsRecordInText`).
 -- The decoders' contracts name functions that compute these. Laws: they do (`array_text_is_its_elements`,
 -- `tuple_text_is_its_fields`), and so do the record decoder's calls (`record_text_begins`, `text_field_is_its_value`).
-use Rattle.std.specs.Prelude.{◌≡◌, ◌↔◌, ℕ, Bool, true, List, ◌∷◌, length, Option, Some}
+use Rattle.std.specs.Prelude.{◌≡◌, ◌↔◌, ℕ, Bool, true, List, ◌∷◌, drop, length, Option, Some}
 use Rattle.std.specs.Str.{chars}
 use Rattle.pgv_types.specs.Ty.{Ty, by_oid}
 use Rattle.pgv_text.specs.ArrayText.{IsArrayText}
+use Rattle.pgv_text.specs.Copies.{copies_of}
 use Rattle.pgv_text.specs.NestText.{Pairwise}
 use Rattle.pgv_text.specs.RecordText.{IsRecordText}
-use Rattle.pgv_text.specs.Unquoted.{unquoted}
+use Rattle.pgv_text.specs.declared.scanner.TextForm.TheVariants.{Record}
 use Rattle.pgv_value.specs.FrameBinary.{Part}
 use Rattle.pgv_value.specs.Reading.{Reading}
 use Rattle.pgv_value.specs.Utf8.{is_utf8}
@@ -64,18 +65,20 @@ TextIs {M} reading Is = (t : Ty) (bytes : List ℕ) (m : M) → (reading t Text 
 abbrev pub RecordTextBegins : Type 0
 RecordTextBegins =
     (t : Ty) (bytes : List ℕ) (left : Left) →
-    (fields_of t Text (Some bytes) ≡ Some left) ↔ ((parts : List Part) × (left ≡ text_fields (length parts) (unquoted bytes) parts) × (is_utf8 bytes ≡ true) × IsRecordText (chars bytes) parts)
+    (fields_of t Text (Some bytes) ≡ Some left) ↔ ((parts : List Part) × (left ≡ text_fields (length parts) (copies_of Record bytes) parts) × (is_utf8 bytes ≡ true) × IsRecordText (chars bytes) parts)
 
 -- The next field is the first part, and the others are left.
 abbrev pub TextFieldIsItsValue : {M : Type 0} → (Ty → Bool) → Reading M → Type 0
 TextFieldIsItsValue {M} accepts reading =
-    (n : ℕ) (plain : Bool) (parts : List Part) (m : M) (left : Left) →
-    (next accepts reading (text_fields n plain parts) ≡ Some (m, left)) ↔ ((rest : List Part) × (left ≡ text_fields n plain rest) × IsTextField reading parts m rest)
+    (n : ℕ) (copied : List Bool) (parts : List Part) (m : M) (left : Left) →
+    (next accepts reading (text_fields n copied parts) ≡ Some (m, left)) ↔ ((rest : List Part) × (left ≡ text_fields n (drop 1 copied) rest) × IsTextField reading parts m rest)
 
 -- Steps that read fields from the parts that are left find exactly such fields.
 abbrev pub FindInText : {M : Type 0} → (Left → Option (M × Left)) → TextStretch M → Type 0
 FindInText {M} steps fields =
-    (n : ℕ) (plain : Bool) (parts : List Part) (m : M) (left : Left) → (steps (text_fields n plain parts) ≡ Some (m, left)) ↔ ((rest : List Part) × (left ≡ text_fields n plain rest) × fields parts m rest)
+    (n : ℕ) (copied : List Bool) (parts : List Part) (m : M) →
+    ((left : Left) → steps (text_fields n copied parts) ≡ Some (m, left) → (later : List Bool) × (rest : List Part) × (left ≡ text_fields n later rest) × fields parts m rest)
+    × ((rest : List Part) → fields parts m rest → (later : List Bool) × (steps (text_fields n copied parts) ≡ Some (m, text_fields n later rest)))
 
 -- two relations hold of the same parts
 abbrev pub SameParts : {M : Type 0} → TextStretch M → TextStretch M → Type 0

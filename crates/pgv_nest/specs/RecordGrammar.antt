@@ -3,12 +3,13 @@
 -- In binary: any four bytes, then for each field that is read an OID and a frame. Under `record` the field's type is the
 -- built-in of its OID. Under a composite it is the field at that place, whose `oid` must be that one. A domain is followed to
 -- its base. The Rust type must be compatible with the field's type.
-use Rattle.std.specs.Prelude.{◌≡◌, ℕ, zero, suc, nat_eq, Bool, true, false, List, [], ◌∷◌, length, Option, Some, None, Result, Ok, Err, option_map, if◌then◌else◌, refl}
+use Rattle.std.specs.Prelude.{◌≡◌, ℕ, zero, suc, nat_eq, Bool, true, false, List, [], ◌∷◌, drop, length, Option, Some, None, Result, Ok, Err, option_map, if◌then◌else◌, refl}
 use Rattle.std.specs.Coded.{Coded, code_by, coded×, coded_ℕ, coded_bool, coded_list, coded_option}
 use Rattle.pgv_types.specs.Ty.{Ty, ty_code, builtin, custom, named, by_oid, array_of, Kind, simple, pseudo, domain, composite, array, enumeration, range, Fields, no_fields, field}
 use Rattle.pgv_types.specs.Facts.{built_in, oid_of}
-use Rattle.pgv_text.specs.Unquoted.{unquoted}
+use Rattle.pgv_text.specs.Copies.{copies_of}
 use Rattle.pgv_text.specs.Values.{record_values}
+use Rattle.pgv_text.specs.declared.scanner.TextForm.TheVariants.{Record}
 use Rattle.pgv_value.specs.FrameBinary.{Part, front}
 use Rattle.pgv_value.specs.Reading.{Reading, Refuses}
 use Rattle.pgv_value.specs.Utf8.{is_utf8}
@@ -74,21 +75,21 @@ field_in accepts reading t place bytes =
 -- ---- what is left of a record
 
 -- in binary the record's type, the place of the next field and the bytes of the fields that are left; in text how many fields
--- the text has, whether it has neither quotes nor backslashes, and the texts of the fields that are left
+-- the text has, whether each field that is left is copied when it is read, and the texts of these fields
 pub data Left : Type 0 where
   binary_fields : Ty → ℕ → List ℕ → Left
-  text_fields : ℕ → Bool → List Part → Left
+  text_fields : ℕ → List Bool → List Part → Left
 
 -- the next field, and what is left after it
 abbrev pub next : {M : Type 0} → (Ty → Bool) → Reading M → Left → Option (M × Left)
 next accepts reading (binary_fields t place bytes) = option_map (λ x. (x.0, binary_fields t (suc place) x.1)) (field_in accepts reading t place bytes)
-next accepts reading (text_fields n plain []) = None
-next accepts reading (text_fields n plain (part ∷ parts)) = reading (by_oid 0) Text part >>= λ m. Some (m, text_fields n plain parts)
+next accepts reading (text_fields n copied []) = None
+next accepts reading (text_fields n copied (part ∷ parts)) = reading (by_oid 0) Text part >>= λ m. Some (m, text_fields n (drop 1 copied) parts)
 
 -- what is left where no field was read: in binary all after the number of fields, in text all values of a record text
 abbrev pub fields_of : Ty → PgValueFormat → Option (List ℕ) → Option Left
 fields_of t f None = None
-fields_of t Text (Some bytes) = if is_utf8 bytes then option_map (λ parts. text_fields (length parts) (unquoted bytes) parts) (record_values bytes) else None
+fields_of t Text (Some bytes) = if is_utf8 bytes then option_map (λ parts. text_fields (length parts) (copies_of Record bytes) parts) (record_values bytes) else None
 fields_of t Binary (Some bytes) = number bytes >>= λ count. Some (binary_fields t 0 count.1)
 
 -- A step is taken exactly where there is one: else nothing has moved.
@@ -99,13 +100,13 @@ Takes meaning old new step (Err e) = (new ≡ old) × Refuses e (step ≡ None)
 -- ---- how the logic stores what is left
 
 abbrev pub Stored : Type 0
-Stored = Option (Bool × List Part) × (Ty × (ℕ × List ℕ))
+Stored = Option (List Bool × List Part) × (Ty × (ℕ × List ℕ))
 
 abbrev pub stored : Left → Stored
 stored (binary_fields t place bytes) = (None, (t, (place, bytes)))
-stored (text_fields n plain parts) = (Some (plain, parts), (builtin 0, (n, [])))
+stored (text_fields n copied parts) = (Some (copied, parts), (builtin 0, (n, [])))
 
-abbrev pub restored_by : Option (Bool × List Part) → Ty × (ℕ × List ℕ) → Left
+abbrev pub restored_by : Option (List Bool × List Part) → Ty × (ℕ × List ℕ) → Left
 restored_by None b = binary_fields b.0 b.1.0 b.1.1
 restored_by (Some a) b = text_fields b.1.0 a.0 a.1
 
@@ -114,9 +115,9 @@ restored s = restored_by s.0 s.1
 
 pub restored-stored : (l : Left) → restored (stored l) ≡ l
 restored-stored (binary_fields t place bytes) = refl
-restored-stored (text_fields n plain parts) = refl
+restored-stored (text_fields n copied parts) = refl
 
 abbrev pub left_code : Coded Left
 left_code = code_by Stored
-    (coded× (coded_option (coded× coded_bool (coded_list (coded_option (coded_list coded_ℕ))))) (coded× ty_code (coded× coded_ℕ (coded_list coded_ℕ))))
+    (coded× (coded_option (coded× (coded_list coded_bool) (coded_list (coded_option (coded_list coded_ℕ))))) (coded× ty_code (coded× coded_ℕ (coded_list coded_ℕ))))
     stored restored restored-stored

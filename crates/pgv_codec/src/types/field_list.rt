@@ -5,7 +5,7 @@ ghost use Rattle.pgv_value.specs.Reading.{Answers, AnswersExactly, Refuses};
 ghost use Rattle.pgv_value.specs.declared.error.CodecError.{CodecError as Error};
 ghost use Rattle.pgv_value.specs.declared.error.CodecError.TheVariants.{UnexpectedNull};
 ghost use Rattle.pgv_nest.proofs.RecordGrammars.{one_found, further_found};
-ghost use Rattle.pgv_nest.proofs.TextGrammars.{text_field, further_text};
+ghost use Rattle.pgv_nest.proofs.TextGrammars.{one_text, further_text};
 ghost use Rattle.pgv_nest.specs.NestBinary.{FindExactly, Stretch, IsField, ◌and◌};
 ghost use Rattle.pgv_nest.specs.NestText.{FindInText, TextStretch, IsTextField, ◌before◌};
 ghost use Rattle.pgv_nest.specs.RecordGrammar.{Left, next};
@@ -86,7 +86,7 @@ impl<A: Type + Decode> FieldList for (A,) {
 
     ghost found = { one_found A.accepts A.reading };
 
-    ghost found_in_text = { text_field A.accepts A.reading };
+    ghost found_in_text = { one_text A.accepts A.reading };
 }
 
 /// A field and the rest.
