@@ -1,14 +1,13 @@
 -- What is left of a record, without where it lies in memory.
 use Rattle.std.specs.Prelude.{◌+◌, ◌<◌, ◌^◌, length, ⊤}
-use Rattle.pgv_text.specs.PartsView.{nest}
-use Rattle.pgv_text.specs.Unquoted.{unquoted}
+use Rattle.pgv_text.specs.PartsView.{copies, nest}
 use Rattle.pgv_codec.specs.declared.types.record.FieldsLeft.{FieldsLeft}
 use Rattle.pgv_codec.specs.declared.types.record.FieldsLeft.TheVariants.{Binary, Text}
 use Rattle.pgv_nest.specs.RecordGrammar.{Left, binary_fields, text_fields}
 
 abbrev pub left_of : FieldsLeft → Left
 left_of (Binary fields) = binary_fields fields.type_info fields.place fields.rest.now
-left_of (Text fields) = text_fields fields.count (unquoted fields.whole.now) (nest fields.parts).values
+left_of (Text fields) = text_fields fields.count (copies fields.parts) (nest fields.parts).values
 
 -- in binary the next place is a number that the code has
 abbrev pub IsInPlace : FieldsLeft → Type 0

@@ -78,12 +78,12 @@ module _ (form : Form) where
 
   -- ---- the part in front, outside quotes
 
-  abbrev outside : Place → Bool
+  abbrev pub outside : Place → Bool
   outside Start = true
   outside Outside = true
   outside _ = false
 
-  outside_is : (p : Place) (k : Class) → outside p ≡ true → cell form p k ≡ outside_cell k
+  pub outside_is : (p : Place) (k : Class) → outside p ≡ true → cell form p k ≡ outside_cell k
   outside_is Start k o = refl
   outside_is Outside k o = refl
   outside_is Quoted k o = absurd (false≢true o)
@@ -141,7 +141,7 @@ module _ (form : Form) where
   no_quote : (rest : Bool) (k : Class) → bare_by rest k ≡ true → k ≡ Quote → ⊥
   no_quote rest k h e = false≢true (ap (bare_by rest) (sym e) ∙ h)
 
-  bare_is : (text : List ℕ) → bare form text ≡ true → as_it_is form text ≡ true
+  pub bare_is : (text : List ℕ) → bare form text ≡ true → as_it_is form text ≡ true
   bare_is [] h = absurd (false≢true h)
   bare_is (b ∷ bs) h = as_bare (in_quotes form bs) (bare form (b ∷ bs)) (class form b) (no_quote (bare form bs) (class form b) h) ∙ h
 

@@ -1,5 +1,6 @@
 -- Which parts of a text are copied when they are read: each that doesn't stand in the text as it is, alone or in quotes.
-use Rattle.std.specs.Prelude.{◌≡◌, ℕ, Bool, true, false, not, cond, List, [], ◌∷◌, Option, Some, None}
+use Rattle.std.specs.Prelude.{◌≡◌, ℕ, Bool, true, false, not, ◌&&◌, ◌||◌, ◌==◌, cond, is_some, List, [], ◌∷◌, Option, Some, None}
+use Rattle.std.specs.Str.{IsUtf8, chars}
 use Rattle.pgv_text.specs.declared.scanner.Class.{Class}
 use Rattle.pgv_text.specs.declared.scanner.Class.TheVariants.{Quote, Backslash, Other}
 use Rattle.pgv_text.specs.declared.scanner.Place.{Place}
@@ -12,6 +13,7 @@ use Rattle.pgv_text.specs.declared.scanner.TextForm.TheVariants.{Array}
 use Rattle.pgv_text.specs.ArrayText.{array_form}
 use Rattle.pgv_text.specs.Forms.{form_of}
 use Rattle.pgv_text.specs.NestText.{Form}
+use Rattle.pgv_text.specs.Parsed.{nest_of}
 use Rattle.pgv_text.specs.Scan.{class, cell, closes_here, ends}
 
 -- ---- the part in front
@@ -84,6 +86,20 @@ closes_at_once _ bs = false
 abbrev pub copies_of : TextForm → List ℕ → List Bool
 copies_of form [] = []
 copies_of form (b ∷ bs) = cond (closes_at_once form bs) [] (copies_from (form_of form) bs)
+
+-- no part is copied
+abbrev pub none_copied : List Bool → Bool
+none_copied [] = true
+none_copied (copied ∷ later) = not copied && none_copied later
+
+-- no quote (34) and no backslash (92)
+abbrev pub unquoted : List ℕ → Bool
+unquoted [] = true
+unquoted (c ∷ cs) = not (c == 34 || c == 92) && unquoted cs
+
+-- Of a text of parts without quotes and backslashes no part is copied.
+abbrev pub UnquotedIsNotCopied : Type 0
+UnquotedIsNotCopied = (form : TextForm) (text : List ℕ) → IsUtf8 text → is_some (nest_of (form_of form) (chars text)) ≡ true → unquoted text ≡ true → none_copied (copies_of form text) ≡ true
 
 -- ---- the bytes in front that are kept
 

@@ -1,6 +1,7 @@
 //! Laws of the definitions: what holds of every text, with nothing to run.
 
 ghost use Rattle.pgv_text.specs.AddressText.{AddressIsItsValue};
+ghost use Rattle.pgv_text.specs.Copies.{UnquotedIsNotCopied};
 ghost use Rattle.pgv_text.specs.DateTimeText.{DateIsItsValue, DateTimeIsItsValue, InstantIsItsValue, OneDate, OneDateTime, OneInstant, OneTime, OneTimeTz, TimeIsItsValue, TimeTzIsItsValue};
 ghost use Rattle.pgv_text.specs.Laws.{ArrayIsItsValues, EveryListHasAText, NestIsComputed, OneNest, OneRange, RangeIsComputed, RecordIsItsValues, SpelledReadsBack, ValuesAreTexts};
 ghost use Rattle.pgv_text.specs.NetworkText.{NetworkIsItsValue, OneNetwork};
@@ -44,6 +45,12 @@ pub fn range_is_computed()
 /// No text is of two ranges: none of bounds is that of the empty range.
 pub fn one_range()
     ensures { OneRange }
+{}
+
+/// No part of a text without quotes and backslashes is copied when it is read.
+#[tactic(auto, using(crate::proofs::Plain::unquoted_is_not_copied))]
+pub fn unquoted_is_not_copied()
+    ensures { UnquotedIsNotCopied }
 {}
 
 /// The computed elements of a text are those that it is an array text of.

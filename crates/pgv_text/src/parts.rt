@@ -218,6 +218,7 @@ impl<'a> Parts<'a> {
         ensures computed { option_map (content form) result ≡ content_of form (chars text.now) }
         // The empty range has no parts, and its brackets include nothing.
         ensures nothing { IfSome result (λ p. is_of_empty p ≡ true → nest p ≡ no_parts) }
+        ensures of_empty { IfSome result (λ p. is_of_empty p ≡ is_empty_in form text.now) }
         // Which parts are copied, of a text between brackets.
         ensures copies { IfSome result (λ p. is_of_empty p ≡ false → copies p ≡ copies_of form text.now) }
     {

@@ -2,9 +2,10 @@
 
 ghost use Rattle.std.specs.Prelude.{IfErr, OnOk, OnErr, ◌≡◌, ◌≢◌, ◌+◌, ◌<◌, length, false, true, None, IfOk, IsErrOf};
 ghost use Rattle.std.specs.Borrow.{sem, RestsIfErr};
-ghost use Rattle.pgv_text.specs.PartsView.{is_unquoted, nest};
-ghost use Rattle.pgv_text.specs.Unquoted.{unquoted};
+ghost use Rattle.pgv_text.specs.Copies.{copies_of};
+ghost use Rattle.pgv_text.specs.PartsView.{copies, nest};
 ghost use Rattle.pgv_text.specs.Values.{record_values};
+ghost use Rattle.pgv_text.specs.declared.scanner.TextForm.TheVariants.{Record};
 ghost use Rattle.pgv_value.specs.Reading.{Answers, AnswersExactly};
 ghost use Rattle.pgv_value.specs.declared.error.CodecError.TheVariants.{UnexpectedNull, Syntax, Memory};
 ghost use Rattle.pgv_nest.specs.NestRefusals.{field_refusal, field_takes, fields_refusal, next_refusal, next_takes};
@@ -139,14 +140,12 @@ struct BinaryFields<'r> {
     rest: &'r [u8],
 }
 
-/// The whole text, its fields that are left, how many it has in all, and the text that those in quotes are read from.
+/// The fields of a text that are left, how many it has in all, and the text that those that are copied are read from.
 #[derive(Drop)]
 struct TextFields<'r> {
-    whole: &'r str,
     parts: Parts<'r>,
     count: usize,
     text: String,
-    ghost in_place: { unquoted whole.now ≡ true → is_unquoted parts ≡ true },
 }
 
 impl<'r> PgRecordDecoder<'r> {
@@ -219,14 +218,13 @@ impl<'r> PgRecordDecoder<'r> {
 #[inline(always)]
 fn text_fields_of(alloc: Global, text: &str) -> Result<TextFields<'_>, CodecError>
     ensures exact { AnswersExactly (λ fields. (nest fields.parts).values) (record_values text.now) result }
-    ensures whole { IfOk result (λ fields. fields.whole.now ≡ text.now) }
+    ensures copies { IfOk result (λ fields. copies fields.parts ≡ copies_of Record text.now) }
     ensures count { IfOk result (λ fields. fields.count ≡ length (nest fields.parts).values) }
     ensures refused { IfErr result (λ e. e ≡ Syntax) }
 {
     match Parts::new(TextForm::Record, text) {
         None => Err(CodecError::Syntax),
         Some(parts) => Ok(TextFields {
-            whole: text,
             parts,
             count: parts.len(),
             text: String::new(alloc),
