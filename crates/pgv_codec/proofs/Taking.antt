@@ -1,11 +1,13 @@
 -- Where memory is asked for.
-use Rattle.std.proofs.Common.{◌≡◌, ℕ, List, Bool, true, false, ◌||◌, Option, Some, None, refl}
+use Rattle.std.proofs.Common.{◌≡◌, ℕ, List, ◌∷◌, Bool, true, false, ◌||◌, Option, Some, None, refl}
 use Rattle.pgv_types.specs.Facts.{is_custom}
-use Rattle.pgv_types.specs.Ty.{Ty}
+use Rattle.pgv_types.specs.Ty.{Ty, by_oid}
+use Rattle.pgv_text.specs.Copies.{first_copied}
 use Rattle.pgv_value.specs.FrameBinary.{Part, front}
-use Rattle.pgv_value.specs.declared.value.PgValueFormat.TheVariants.{Binary}
+use Rattle.pgv_value.specs.declared.value.PgValueFormat.TheVariants.{Binary, Text}
 use Rattle.pgv_nest.specs.ArrayGrammar.{Head}
-use Rattle.pgv_nest.specs.NestRefusals.{Taking, copies_element, field_takes, has_room, head_takes, where_dimension}
+use Rattle.pgv_nest.specs.NestRefusals.{Taking, copies_element, field_takes, has_room, head_takes, next_takes, where_dimension}
+use Rattle.pgv_nest.specs.RecordGrammar.{text_fields}
 
 -- where neither of two asks for memory, the second doesn't
 second_free : (a b : Bool) → a || b ≡ false → b ≡ false
@@ -28,3 +30,10 @@ pub value_free : (accepts : Ty → Bool) (takes : Taking) (head : Option (Ty × 
 value_free accepts takes head t bytes after part is accepted found free =
     let there = rw (is, accepted, found) at free in
     second_free (is_custom t) (takes t Binary part) there
+
+-- so it is in text
+pub part_free : (accepts : Ty → Bool) (takes : Taking) (n : ℕ) (copied : List Bool) (part : Part) (parts values : List Part) →
+    values ≡ part ∷ parts → next_takes accepts takes (text_fields n copied values) ≡ false → takes (by_oid 0) Text part ≡ false
+part_free accepts takes n copied part parts values split free =
+    let there = rw split at free in
+    second_free (first_copied copied) (takes (by_oid 0) Text part) there
