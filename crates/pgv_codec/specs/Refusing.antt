@@ -3,7 +3,7 @@
 -- Written: a frame whose size hint is above 2147483647 is C2 before anything else, a value without an image is what it says
 -- itself, and an image above 2147483647 bytes is C2. A list of more than 2147483647 elements is C3, and another is what its first
 -- element without a frame is refused with. A field after 4294967295 others is C12.
-use Rattle.std.specs.Prelude.{◌≡◌, ℕ, Bool, false, nat_eq, nat_le, List, [], ◌∷◌, length, Option, Some, None, IfSome, IfErr, Result, cond, if◌then◌else◌}
+use Rattle.std.specs.Prelude.{◌≡◌, ℕ, Bool, true, false, nat_eq, nat_le, List, [], ◌∷◌, length, Option, Some, None, IfSome, IfErr, Result, cond, if◌then◌else◌}
 use Rattle.pgv_types.specs.Ty.{Ty}
 use Rattle.pgv_buf.specs.Tokens.{Token, tokens_width}
 use Rattle.pgv_value.specs.Reading.{Refuses}
@@ -11,7 +11,7 @@ use Rattle.pgv_value.specs.Utf8.{is_utf8}
 use Rattle.pgv_value.specs.declared.error.CodecError.{CodecError}
 use Rattle.pgv_value.specs.declared.error.CodecError.TheVariants.{ValueSize, ArrayLength, FieldCount, UnexpectedNull, Utf8}
 use Rattle.pgv_value.specs.declared.value.PgValueFormat.{PgValueFormat}
-use Rattle.pgv_nest.specs.NestRefusals.{Refusal, Taking}
+use Rattle.pgv_nest.specs.NestRefusals.{Refusal, Taking, is_copied}
 use Rattle.pgv_codec.specs.Image.{Image, null_image, image_of, frame, limit}
 
 -- an error is the refusal that is stated, or out of memory
@@ -56,6 +56,19 @@ module _ {X : Type 0} (hint : X → ℕ) (image : X → Option Image) (unwritabl
 abbrev pub option_unwritable : {X : Type 0} → (X → Option CodecError) → Option X → Option CodecError
 option_unwritable unwritable None = None
 option_unwritable unwritable (Some x) = unwritable x
+
+-- whether memory may be asked for before a value without an image is refused: of a list, but where it has too many elements
+abbrev pub array_asks_first : {X : Type 0} → List X → Bool
+array_asks_first xs = nat_le (length xs) limit
+
+abbrev pub option_asks_first : {X : Type 0} → (X → Bool) → Option X → Bool
+option_asks_first asks_first None = true
+option_asks_first asks_first (Some x) = asks_first x
+
+-- whether the type of a list's elements is copied, which may be refused: where the first one produces a custom type
+abbrev pub first_copied : {X : Type 0} → (X → Option Ty) → List X → Bool
+first_copied produced [] = false
+first_copied produced (x ∷ xs) = is_copied (produced x)
 
 -- ---- read
 

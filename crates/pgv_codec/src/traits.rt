@@ -4,6 +4,7 @@ ghost use Rattle.std.specs.Prelude.{◌≡◌, ℕ, Bool, true, false, List, Opt
 ghost use Rattle.pgv_types.specs.Relations.{softly};
 ghost use Rattle.pgv_types.specs.Ty.{Ty};
 ghost use Rattle.pgv_value.specs.Reading.{Answers, AnswersExactly};
+ghost use Rattle.pgv_nest.specs.NestRefusals.{is_copied};
 ghost use Rattle.pgv_codec.specs.Refusing.{RefusedExactly, RefusedFor};
 ghost use Rattle.pgv_value.specs.declared.error.CodecError.{CodecError};
 ghost use Rattle.pgv_value.specs.declared.error.CodecError.TheVariants.{Memory, UnexpectedNull};
@@ -71,20 +72,25 @@ pub trait Encode {
     /// Which refusal is answered where a value has no image, out of memory aside: none where the type doesn't state it.
     ghost unwritable: { Self → Option CodecError } = { λ _. None };
 
+    /// Whether memory may be asked for before a value without an image is refused. Where it isn't, that refusal is never out of memory.
+    ghost asks_first: { Self → Bool } = { λ _. true };
+
     /// Appends the value's image. `Yes` says that it is null, and then nothing was appended.
     fn encode_by_ref(&self, out: &mut PgArgumentBuffer) -> Result<IsNull, CodecError>
         ensures ok { IfOk result (λ n. Encoded n (image self.now) out.old out.new) }
         ensures err { IfErr result (λ e. Refused e (image self.now)) }
         ensures refused { RefusedFor (unwritable self.now) result }
+        ensures refused_exactly { asks_first self.now ≡ false → image self.now ≡ None → RefusedExactly (unwritable self.now) result }
         ensures appended { OnErr result (Appended out.old out.new) };
 
     /// A number of bytes that the value says to need; 0 where it doesn't say.
     fn size_hint(&self) -> usize
         ensures { result ≡ hint self.now };
 
-    /// The type of this value, where it isn't the one that its Rust type has.
+    /// The type of this value, where it isn't the one that its Rust type has. Only the copy of a custom type may fail.
     fn produces(&self) -> Result<Option<PgTypeInfo>, AllocError>
-        ensures { IfOk result (λ t. t ≡ produced self.now) };
+        ensures ok { IfOk result (λ t. t ≡ produced self.now) }
+        ensures err { OnErr result (is_copied (produced self.now) ≡ true) };
 
     /// Appends the value's frame, where its length is known before its image is written. `false` says that nothing was appended, and
     /// [`PgArgumentBuffer::encode`] then writes the frame by [`encode_by_ref`](Encode::encode_by_ref). C1 may have appended
@@ -267,6 +273,7 @@ pub trait Scalar {
         ensures ok { IfOk result (λ n. Encoded n (form self.now) out.old out.new) }
         ensures err { IfErr result (λ e. Refused e (form self.now)) }
         ensures refused { RefusedFor (formless self.now) result }
+        ensures refused_exactly { form self.now ≡ None → RefusedExactly (formless self.now) result }
         ensures appended { OnErr result (Appended out.old out.new) };
 
     /// Appends the value's frame, or nothing: what [`Encode::encode_at_once`] does.
@@ -325,6 +332,8 @@ where
     ghost hint = { λ _. T.SIZE };
 
     ghost unwritable = { T.formless };
+
+    ghost asks_first = { λ _. false };
 
     #[inline(always)]
     fn encode_by_ref(&self, out: &mut PgArgumentBuffer) -> Result<IsNull, CodecError> {

@@ -52,6 +52,8 @@ impl Encode for Percent {
 
     ghost unwritable = { λ _. Some (Caller 9) };
 
+    ghost asks_first = { λ _. false };
+
     fn encode_by_ref(&self, out: &mut PgArgumentBuffer) -> Result<IsNull, CodecError> {
         self.check()?;
         self.number.encode_by_ref(out)

@@ -101,6 +101,10 @@ pairs_refused (p ∷ ps) = if pair_fits p then pairs_refused ps else pair_refuse
 abbrev pub hstore_refused : List Pair → Option CodecError
 hstore_refused ps = if nat_le (length ps) limit then pairs_refused ps else Some (HstoreLength (cast_signed w64 (length ps)))
 
+-- whether memory may be asked for before that: not before the pairs are counted
+abbrev pub hstore_asks_first : List Pair → Bool
+hstore_asks_first ps = nat_le (length ps) limit
+
 -- ---- read
 
 -- a text is UTF-8; a key is never null

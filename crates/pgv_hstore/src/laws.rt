@@ -5,7 +5,7 @@ ghost use Rattle.pgv_types.specs.Ty.{array_of, named, Ty};
 ghost use Rattle.pgv_types.specs.Relations.{softly};
 ghost use Rattle.std.specs.Iterator.{AlwaysYields};
 ghost use Rattle.pgv_codec.specs.TypeRow.{IsRefusedAs, IsWrittenAs};
-ghost use Rattle.pgv_hstore.specs.Hstore.{hstore_image, hstore_reading, hstore_refused, pairs_of};
+ghost use Rattle.pgv_hstore.specs.Hstore.{hstore_asks_first, hstore_image, hstore_reading, hstore_refused, pairs_of};
 ghost use Rattle.pgv_hstore.specs.HstoreRefusal.{hstore_refusal, hstore_takes};
 ghost use Rattle.pgv_hstore.specs.Laws.{HstoreIsRead, HstoresAreEqual, OneHstore};
 ghost use Rattle.pgv_types.specs.declared.oid.Oid.{Oid};
@@ -22,7 +22,7 @@ pub fn hstore_is_an_hstore()
     ensures written { IsWrittenAs (λ h. hstore_image (pairs_of h)) ⟦<crate::PgHstore as Encode>⟧.hint ⟦<crate::PgHstore as Encode>⟧.image ⟦<crate::PgHstore as Encode>⟧.produced }
     ensures means { ⟦<crate::PgHstore as Decode>⟧.meaning ≡ pairs_of }
     ensures read { ⟦<crate::PgHstore as Decode>⟧.reading ≡ hstore_reading }
-    ensures unwritten { ⟦<crate::PgHstore as Encode>⟧.unwritable ≡ (λ h. hstore_refused (pairs_of h)) }
+    ensures unwritten { (⟦<crate::PgHstore as Encode>⟧.unwritable ≡ (λ h. hstore_refused (pairs_of h))) × (⟦<crate::PgHstore as Encode>⟧.asks_first ≡ (λ h. hstore_asks_first (pairs_of h))) }
     ensures refused { IsRefusedAs hstore_refusal ⟦<crate::PgHstore as Decode>⟧.refusal }
     ensures takes_memory { ⟦<crate::PgHstore as Decode>⟧.takes_memory ≡ hstore_takes }
 {}

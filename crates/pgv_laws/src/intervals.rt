@@ -1,6 +1,6 @@
 //! What intervals and durations are, as `rows` of `pgv_codec` has it of other types.
 
-ghost use Rattle.std.specs.Prelude.{◌≡◌, pos, Some, None};
+ghost use Rattle.std.specs.Prelude.{◌≡◌, false, pos, Some, None};
 ghost use Rattle.std.specs.Duration.{as_nanos};
 ghost use Rattle.jiff.specs.Words.{signed_nanos};
 ghost use Rattle.pgv_value.specs.Interval.{interval_reading, interval_refusal};
@@ -33,7 +33,7 @@ pub fn duration_is_an_interval()
     ensures written { ⟦<Duration as Encode>⟧.image ≡ (λ v. duration_image (pos (as_nanos v))) }
     ensures hint { ⟦<Duration as Encode>⟧.hint ≡ (λ _. 16) }
     ensures produced { ⟦<Duration as Encode>⟧.produced ≡ (λ _. None) }
-    ensures unwritten { ⟦<Duration as Encode>⟧.unwritable ≡ (λ v. Some (duration_refused (pos (as_nanos v)))) }
+    ensures unwritten { (⟦<Duration as Encode>⟧.unwritable ≡ (λ v. Some (duration_refused (pos (as_nanos v))))) × (⟦<Duration as Encode>⟧.asks_first ≡ (λ _. false)) }
 {}
 
 /// A `SignedDuration` is an interval, and is written as a `Duration` is.
@@ -43,5 +43,5 @@ pub fn signed_duration_is_an_interval()
     ensures written { ⟦<SignedDuration as Encode>⟧.image ≡ (λ v. duration_image (signed_nanos v)) }
     ensures hint { ⟦<SignedDuration as Encode>⟧.hint ≡ (λ _. 16) }
     ensures produced { ⟦<SignedDuration as Encode>⟧.produced ≡ (λ _. None) }
-    ensures unwritten { ⟦<SignedDuration as Encode>⟧.unwritable ≡ (λ v. Some (duration_refused (signed_nanos v))) }
+    ensures unwritten { (⟦<SignedDuration as Encode>⟧.unwritable ≡ (λ v. Some (duration_refused (signed_nanos v)))) × (⟦<SignedDuration as Encode>⟧.asks_first ≡ (λ _. false)) }
 {}

@@ -1,7 +1,7 @@
 //! What is proved of these types and of the definitions that say what they are. Each law is the contract of a function that does
 //! nothing.
 
-ghost use Rattle.std.specs.Prelude.{◌≡◌, ℕ, Bool, List, Some, None, is_some, codes, string_bytes};
+ghost use Rattle.std.specs.Prelude.{◌≡◌, ℕ, Bool, false, List, Some, None, is_some, codes, string_bytes};
 ghost use Rattle.pgv_types.specs.Ty.{Ty, builtin, named};
 ghost use Rattle.pgv_codec.specs.ScalarBinary.{text_image};
 ghost use Rattle.pgv_codec.specs.TypeRow.{IsBuiltIn, IsRefusedAs, IsWrittenAs, TakesNone};
@@ -31,7 +31,7 @@ pub fn bit_vec_is_a_varbit()
     ensures produced { (v : List Bool) → ⟦<crate::BitVec as Encode>⟧.produced v ≡ None }
     ensures means { ⟦<crate::BitVec as Decode>⟧.meaning ≡ (λ v. v) }
     ensures read { ⟦<crate::BitVec as Decode>⟧.reading ≡ bits_reading }
-    ensures unwritten { (v : List Bool) → ⟦<crate::BitVec as Encode>⟧.unwritable v ≡ bits_refused v }
+    ensures unwritten { (v : List Bool) → (⟦<crate::BitVec as Encode>⟧.unwritable v ≡ bits_refused v) × (⟦<crate::BitVec as Encode>⟧.asks_first v ≡ false) }
     ensures refused { IsRefusedAs bits_refusal ⟦<crate::BitVec as Decode>⟧.refusal }
     ensures takes_memory { ⟦<crate::BitVec as Decode>⟧.takes_memory ≡ (λ t f bytes. is_some (bits_reading t f bytes)) }
 {}
@@ -58,7 +58,7 @@ pub fn time_tz_is_a_timetz()
     ensures produced { ⟦<crate::PgTimeTz as Encode>⟧.produced ≡ (λ _. None) }
     ensures means { ⟦<crate::PgTimeTz as Decode>⟧.meaning ≡ time_tz_numbers }
     ensures read { ⟦<crate::PgTimeTz as Decode>⟧.reading ≡ time_tz_reading }
-    ensures unwritten { ⟦<crate::PgTimeTz as Encode>⟧.unwritable ≡ (λ v. Some (OffsetRange v.offset.seconds)) }
+    ensures unwritten { (⟦<crate::PgTimeTz as Encode>⟧.unwritable ≡ (λ v. Some (OffsetRange v.offset.seconds))) × (⟦<crate::PgTimeTz as Encode>⟧.asks_first ≡ (λ _. false)) }
     ensures refused { IsRefusedAs time_tz_refusal ⟦<crate::PgTimeTz as Decode>⟧.refusal × TakesNone ⟦<crate::PgTimeTz as Decode>⟧.takes_memory }
     ensures kept { ⟦<crate::PgTimeTz as ReadBack>⟧.kept ≡ (λ v. record { time = time_kept v.time; offset = v.offset }) }
 {}

@@ -1,6 +1,6 @@
 //! Times of day with an offset from UTC (PostgreSQL, "Date/Time Types", timetz).
 
-ghost use Rattle.std.specs.Prelude.{◌≡◌, ℕ, ℤ, Some, IfErr, IfOk, OnErr, refl};
+ghost use Rattle.std.specs.Prelude.{◌≡◌, ℕ, ℤ, false, Some, IfErr, IfOk, OnErr, refl};
 ghost use Rattle.std.specs.Option.{option_map};
 ghost use Rattle.pgv_codec.specs.Outcome.{Appended, Encoded};
 ghost use Rattle.pgv_codec.specs.WithHint.{with_hint};
@@ -142,6 +142,8 @@ impl Encode for PgTimeTz {
     ghost hint = { λ _. 12 };
 
     ghost unwritable = { λ v. Some (OffsetRange v.offset.seconds) };
+
+    ghost asks_first = { λ _. false };
 
     fn encode_by_ref(&self, out: &mut PgArgumentBuffer) -> Result<IsNull, CodecError> {
         match seconds_west(self.offset) {

@@ -4,7 +4,7 @@
 -- Written: words of two bytes: the number of digits, the weight, the sign (0000, or 4000 below zero), the scale, and the
 -- digits. There is no image where there are more than 32767 digits (C7), or one that isn't from 0 to 9999 (C8). The value that
 -- is no number is `0000 0000 c000 0000`.
-use Rattle.std.specs.Prelude.{ℕ, zero, suc, nat_lt, nat_le, ◌*◌, Bool, ◌&&◌, ◌==◌, if◌then◌else◌, ℤ, pos, int_le, List, [], ◌∷◌, ◌++◌, length, take, drop, Option, Some, None}
+use Rattle.std.specs.Prelude.{ℕ, zero, suc, nat_lt, nat_le, ◌*◌, Bool, true, ◌&&◌, ◌==◌, if◌then◌else◌, ℤ, pos, int_le, List, [], ◌∷◌, ◌++◌, length, take, drop, Option, Some, None}
 use Rattle.std.specs.Int.{w16, cast_signed, cast_unsigned, from_be_bytes, to_be_bytes}
 use Rattle.std.specs.List.{flat_map, list_all}
 use Rattle.pgv_buf.specs.Tokens.{Token, bytes}
@@ -88,6 +88,11 @@ digits_refused (d ∷ ds) = if is_digit d then digits_refused ds else Some (Nume
 abbrev pub numeric_refused : Numeric → Option CodecError
 numeric_refused not_a_number = None
 numeric_refused (number sign digits weight scale) = if nat_le (length digits) 32767 then digits_refused digits else Some (NumericDigits (length digits))
+
+-- whether memory may be asked for before that: not before the digits are counted
+abbrev pub numeric_asks_first : Numeric → Bool
+numeric_asks_first not_a_number = true
+numeric_asks_first (number sign digits weight scale) = nat_le (length digits) 32767
 
 -- ---- read
 

@@ -1,7 +1,7 @@
 //! Laws of ranges: what they are in binary and in text, what is read back of them, and what each type of this crate is. Each is the
 //! contract of a function that does nothing.
 
-ghost use Rattle.std.specs.Prelude.{◌≡◌, ◌↔◌, ℕ, false, List, Some, None};
+ghost use Rattle.std.specs.Prelude.{◌≡◌, ◌↔◌, ℕ, false, true, List, Some, None};
 ghost use Rattle.std.specs.Range.{range_inclusive_start, range_inclusive_end};
 ghost use Rattle.std.specs.declared.ops.Bound.TheVariants.{Included, Excluded, Unbounded};
 ghost use Rattle.pgv_types.specs.Ty.{Ty};
@@ -78,7 +78,7 @@ pub fn ranges_are_their_bounds<T: ReadBack + Type>()
     ensures written { IsWrittenAs (range_image T.hint T.image) ⟦<PgRange<T> as Encode>⟧.hint ⟦<PgRange<T> as Encode>⟧.image ⟦<PgRange<T> as Encode>⟧.produced }
     ensures means { ⟦<PgRange<T> as Decode>⟧.meaning ≡ range_meaning T.meaning }
     ensures read { ⟦<PgRange<T> as Decode>⟧.reading ≡ range T.info T.reading }
-    ensures unwritten { ⟦<PgRange<T> as Encode>⟧.unwritable ≡ range_refused T.hint T.image T.unwritable }
+    ensures unwritten { (⟦<PgRange<T> as Encode>⟧.unwritable ≡ range_refused T.hint T.image T.unwritable) × (⟦<PgRange<T> as Encode>⟧.asks_first ≡ (λ _. true)) }
     ensures refused { (⟦<PgRange<T> as Decode>⟧.refusal ≡ range_refusal T.info T.reading T.refusal) × (⟦<PgRange<T> as Decode>⟧.takes_memory ≡ range_takes T.info T.reading T.takes_memory) }
     ensures kept { ⟦<PgRange<T> as ReadBack>⟧.kept ≡ range_kept T.kept }
 {}

@@ -15,7 +15,7 @@ ghost use Rattle.pgv_nest.specs.ArrayGrammar.{array, array_of_length};
 ghost use Rattle.pgv_codec.specs.Image.{array_image, sized_image, option_image, option_hint, option_produced};
 ghost use Rattle.pgv_codec.specs.Nullable.{nullable};
 ghost use Rattle.pgv_nest.specs.NestRefusals.{array_of_length_refusal, array_refusal, array_takes};
-ghost use Rattle.pgv_codec.specs.Refusing.{array_refused, nullable_refusal, nullable_takes, option_unwritable};
+ghost use Rattle.pgv_codec.specs.Refusing.{array_asks_first, array_refused, nullable_refusal, nullable_takes, option_asks_first, option_unwritable};
 ghost use Rattle.pgv_codec.specs.TypeRow.{IsBuiltIn, IsRefusedAs, IsWrittenAs, TakesNone};
 ghost use Rattle.pgv_codec.specs.ScalarBinary.{bool_image, signed_image, unsigned_image, text_image, uuid_image, is_text, is_text_array, is_void_or_record};
 
@@ -115,38 +115,42 @@ pub fn unit_is_a_void()
 
 /// An `Option<T>` has the types of `T`. None is null, Some is written as its value, and null is read as None.
 pub fn option_may_be_null<T: Type + Encode + Decode + PgHasArrayType>()
-    ensures types { ⟦<Option<T> as Type>⟧.info ≡ T.info }
-    ensures accepts { ⟦<Option<T> as Type>⟧.accepts ≡ T.accepts }
-    ensures arrays { ⟦<Option<T> as PgHasArrayType>⟧.array_info ≡ T.array_info }
-    ensures accepts_arrays { ⟦<Option<T> as PgHasArrayType>⟧.accepts_array ≡ T.accepts_array }
+    ensures types { (⟦<Option<T> as Type>⟧.info ≡ T.info) × (⟦<Option<T> as Type>⟧.accepts ≡ T.accepts) }
+    ensures arrays { (⟦<Option<T> as PgHasArrayType>⟧.array_info ≡ T.array_info) × (⟦<Option<T> as PgHasArrayType>⟧.accepts_array ≡ T.accepts_array) }
     ensures written { ⟦<Option<T> as Encode>⟧.image ≡ option_image T.image }
     ensures hint { ⟦<Option<T> as Encode>⟧.hint ≡ option_hint T.hint }
     ensures produced { ⟦<Option<T> as Encode>⟧.produced ≡ option_produced T.produced T.info }
     ensures means { ⟦<Option<T> as Decode>⟧.meaning ≡ option_map T.meaning }
     ensures read { ⟦<Option<T> as Decode>⟧.reading ≡ nullable T.reading }
-    ensures unwritten { ⟦<Option<T> as Encode>⟧.unwritable ≡ option_unwritable T.unwritable }
+    ensures unwritten { (⟦<Option<T> as Encode>⟧.unwritable ≡ option_unwritable T.unwritable) × (⟦<Option<T> as Encode>⟧.asks_first ≡ option_asks_first T.asks_first) }
     ensures refused { (⟦<Option<T> as Decode>⟧.refusal ≡ nullable_refusal T.refusal) × (⟦<Option<T> as Decode>⟧.takes_memory ≡ nullable_takes T.takes_memory) }
+{}
+
+/// A `&T` is all that the value behind it is.
+pub fn reference_is_its_value<'a, T: Type + Encode + PgHasArrayType>()
+    ensures types { (⟦<&'a T as Type>⟧.info ≡ T.info) × (⟦<&'a T as Type>⟧.accepts ≡ T.accepts) }
+    ensures arrays { (⟦<&'a T as PgHasArrayType>⟧.array_info ≡ T.array_info) × (⟦<&'a T as PgHasArrayType>⟧.accepts_array ≡ T.accepts_array) }
+    ensures written { (⟦<&'a T as Encode>⟧.image ≡ (λ r. T.image r.now)) × (⟦<&'a T as Encode>⟧.hint ≡ (λ r. T.hint r.now)) × (⟦<&'a T as Encode>⟧.produced ≡ (λ r. T.produced r.now)) }
+    ensures unwritten { (⟦<&'a T as Encode>⟧.unwritable ≡ (λ r. T.unwritable r.now)) × (⟦<&'a T as Encode>⟧.asks_first ≡ (λ r. T.asks_first r.now)) }
 {}
 
 /// A `Vec<T>` has the type of `T`'s arrays, and is written and read as an array of one dimension.
 pub fn list_is_an_array<T: Type + Encode + Decode + PgHasArrayType>()
-    ensures types { ⟦<Vec<T> as Type>⟧.info ≡ T.array_info }
-    ensures accepts { ⟦<Vec<T> as Type>⟧.accepts ≡ T.accepts_array }
+    ensures types { (⟦<Vec<T> as Type>⟧.info ≡ T.array_info) × (⟦<Vec<T> as Type>⟧.accepts ≡ T.accepts_array) }
     ensures written { IsWrittenAs (λ v. array_image T.hint T.image T.produced T.info v.items) ⟦<Vec<T> as Encode>⟧.hint ⟦<Vec<T> as Encode>⟧.image ⟦<Vec<T> as Encode>⟧.produced }
     ensures means { ⟦<Vec<T> as Decode>⟧.meaning ≡ (λ v. map T.meaning v.items) }
     ensures read { ⟦<Vec<T> as Decode>⟧.reading ≡ array T.info T.reading }
-    ensures unwritten { ⟦<Vec<T> as Encode>⟧.unwritable ≡ (λ v. array_refused T.hint T.image T.unwritable v.items) }
+    ensures unwritten { (⟦<Vec<T> as Encode>⟧.unwritable ≡ (λ v. array_refused T.hint T.image T.unwritable v.items)) × (⟦<Vec<T> as Encode>⟧.asks_first ≡ (λ v. array_asks_first v.items)) }
     ensures refused { (⟦<Vec<T> as Decode>⟧.refusal ≡ array_refusal T.info T.reading T.refusal) × (⟦<Vec<T> as Decode>⟧.takes_memory ≡ array_takes) }
 {}
 
 /// A `[T; N]` has the type of `T`'s arrays, and is written and read as an array of `N` elements.
 pub fn sized_array_is_an_array<T: Type + Encode + Decode + PgHasArrayType, const N: usize>()
-    ensures types { ⟦<[T; N] as Type>⟧.info ≡ T.array_info }
-    ensures accepts { ⟦<[T; N] as Type>⟧.accepts ≡ T.accepts_array }
+    ensures types { (⟦<[T; N] as Type>⟧.info ≡ T.array_info) × (⟦<[T; N] as Type>⟧.accepts ≡ T.accepts_array) }
     ensures written { IsWrittenAs (sized_image N T.hint T.image T.produced T.info) ⟦<[T; N] as Encode>⟧.hint ⟦<[T; N] as Encode>⟧.image ⟦<[T; N] as Encode>⟧.produced }
     ensures means { ⟦<[T; N] as Decode>⟧.meaning ≡ map T.meaning }
     ensures read { ⟦<[T; N] as Decode>⟧.reading ≡ array_of_length N T.info T.reading }
-    ensures unwritten { ⟦<[T; N] as Encode>⟧.unwritable ≡ array_refused T.hint T.image T.unwritable }
+    ensures unwritten { (⟦<[T; N] as Encode>⟧.unwritable ≡ array_refused T.hint T.image T.unwritable) × (⟦<[T; N] as Encode>⟧.asks_first ≡ array_asks_first) }
     ensures refused { (⟦<[T; N] as Decode>⟧.refusal ≡ array_of_length_refusal T.info T.reading T.refusal) × (⟦<[T; N] as Decode>⟧.takes_memory ≡ array_takes) }
 {}
 

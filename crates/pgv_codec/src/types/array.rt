@@ -7,10 +7,10 @@ ghost use Rattle.pgv_value.specs.Reading.{Answers, AnswersExactly};
 ghost use Rattle.pgv_value.specs.declared.error.CodecError.TheVariants.{Memory, UnexpectedNull};
 ghost use Rattle.pgv_value.specs.declared.value.PgValueFormat.TheVariants.{Binary, Text};
 ghost use Rattle.pgv_nest.specs.ArrayGrammar.{array, array_in_text, array_of, frames, head, array_of_length};
-ghost use Rattle.pgv_nest.specs.NestRefusals.{array_bytes_refusal, array_refusal, array_takes, array_text_refusal, frames_refusal as frames_read_refusal, has_elements, has_room, head_takes, where_dimension, array_of_length_refusal};
+ghost use Rattle.pgv_nest.specs.NestRefusals.{array_bytes_refusal, array_refusal, array_takes, array_text_refusal, frames_refusal as frames_read_refusal, has_elements, has_room, head_takes, is_copied, where_dimension, array_of_length_refusal};
 ghost use Rattle.pgv_codec.specs.Image.{array_image, or_else, header, written_frames, written_element_type, sized_image};
 ghost use Rattle.pgv_codec.specs.Outcome.{Encoded, Refused, Appended, AppendedAll};
-ghost use Rattle.pgv_codec.specs.Refusing.{RefusedExactly, RefusedFor, array_refused, frames_refused};
+ghost use Rattle.pgv_codec.specs.Refusing.{RefusedExactly, RefusedFor, array_asks_first, array_refused, first_copied, frames_refused};
 ghost use Rattle.pgv_codec.specs.Saying.{array_written, sized_written, array_agrees, sized_agrees};
 ghost use Rattle.pgv_codec.specs.Back.{ArrayFits};
 ghost use Rattle.pgv_codec.specs.BackNests.{vec_back, sized_back};
@@ -33,6 +33,7 @@ pub fn encode_array<T: Encode + Type>(
     ensures ok { IfOk result (λ n. Encoded n (array_image T.hint T.image T.produced T.info values.now) out.old out.new) }
     ensures err { IfErr result (λ e. Refused e (array_image T.hint T.image T.produced T.info values.now)) }
     ensures refused { RefusedFor (array_refused T.hint T.image T.unwritable values.now) result }
+    ensures refused_exactly { array_asks_first values.now ≡ false → RefusedExactly (array_refused T.hint T.image T.unwritable values.now) result }
     ensures appended { OnErr result (Appended out.old out.new) }
 {
     let count = values.len();
@@ -49,7 +50,8 @@ pub fn encode_array<T: Encode + Type>(
 /// The type of the elements, as an array writes it.
 #[inline(always)]
 fn type_of_elements<T: Encode + Type>(values: &[T]) -> Result<PgTypeInfo, AllocError>
-    ensures { IfOk result (λ t. t ≡ written_element_type T.produced T.info values.now) }
+    ensures ok { IfOk result (λ t. t ≡ written_element_type T.produced T.info values.now) }
+    ensures err { OnErr result (first_copied T.produced values.now ≡ true) }
 {
     match values.first() {
         None => Ok(T::type_info()),
@@ -60,7 +62,8 @@ fn type_of_elements<T: Encode + Type>(values: &[T]) -> Result<PgTypeInfo, AllocE
 /// The type that a value has: what it produces, or else its Rust type's own.
 #[inline(always)]
 pub fn type_of_value<T: Encode + Type>(value: &T) -> Result<PgTypeInfo, AllocError>
-    ensures { IfOk result (λ t. t ≡ or_else (T.produced value.now) T.info) }
+    ensures ok { IfOk result (λ t. t ≡ or_else (T.produced value.now) T.info) }
+    ensures err { OnErr result (is_copied (T.produced value.now) ≡ true) }
 {
     match value.produces()? {
         Some(produced) => Ok(produced),
@@ -122,6 +125,8 @@ impl<T: Encode + Type> Encode for Vec<T> {
 
     ghost unwritable = { λ v. array_refused T.hint T.image T.unwritable v.items };
 
+    ghost asks_first = { λ v. array_asks_first v.items };
+
     fn encode_by_ref(&self, out: &mut PgArgumentBuffer) -> Result<IsNull, CodecError> {
         encode_array(self.as_slice(), out)
     }
@@ -155,6 +160,8 @@ impl<T: Encode + Type, const N: usize> Encode for [T; N] {
     ghost image = { sized_image N T.hint T.image T.produced T.info };
 
     ghost unwritable = { array_refused T.hint T.image T.unwritable };
+
+    ghost asks_first = { array_asks_first };
 
     fn encode_by_ref(&self, out: &mut PgArgumentBuffer) -> Result<IsNull, CodecError> {
         encode_array(self.as_slice(), out)

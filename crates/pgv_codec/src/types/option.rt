@@ -2,7 +2,7 @@
 
 ghost use Rattle.std.specs.Prelude.{Option, option_map, Some, None, refl};
 ghost use Rattle.pgv_codec.specs.Image.{option_image, option_hint, option_produced};
-ghost use Rattle.pgv_codec.specs.Refusing.{option_unwritable, nullable_refusal, nullable_takes};
+ghost use Rattle.pgv_codec.specs.Refusing.{option_asks_first, option_unwritable, nullable_refusal, nullable_takes};
 ghost use Rattle.pgv_codec.specs.Nullable.{nullable};
 ghost use Rattle.pgv_codec.specs.Saying.{option_written};
 ghost use Rattle.pgv_codec.specs.Back.{option_kept, option_fits};
@@ -54,6 +54,8 @@ impl<T: Encode + Type> Encode for Option<T> {
     ghost produced = { option_produced T.produced T.info };
 
     ghost unwritable = { option_unwritable T.unwritable };
+
+    ghost asks_first = { option_asks_first T.asks_first };
 
     #[inline(always)]
     fn encode_by_ref(&self, out: &mut PgArgumentBuffer) -> Result<IsNull, CodecError> {

@@ -7,7 +7,7 @@ ghost use Rattle.pgv_text.specs.PartsView.{copies, nest};
 ghost use Rattle.pgv_text.specs.Values.{record_values};
 ghost use Rattle.pgv_text.specs.declared.scanner.TextForm.TheVariants.{Record};
 ghost use Rattle.pgv_value.specs.Reading.{Answers, AnswersExactly};
-ghost use Rattle.pgv_value.specs.declared.error.CodecError.TheVariants.{UnexpectedNull, Syntax, Memory};
+ghost use Rattle.pgv_value.specs.declared.error.CodecError.TheVariants.{UnexpectedNull, Syntax, Memory, FieldCount};
 ghost use Rattle.pgv_nest.specs.NestRefusals.{field_refusal, field_takes, fields_refusal, next_refusal, next_takes};
 ghost use Rattle.pgv_nest.specs.RecordGrammar.{field_head, field_in, fields_of, next, Takes, Left, left_code};
 ghost use Rattle.pgv_codec.specs.Image.{field, counted_field};
@@ -64,6 +64,7 @@ impl<'a> PgRecordEncoder<'a> {
         ensures ok { OnOk result (AddsField (counted_field (written self.old).count (field T.hint T.image T.produced T.info value)) (written self.old) (written self.new)) }
         ensures err { IfErr result (λ e. Refused e (counted_field (written self.old).count (field T.hint T.image T.produced T.info value))) }
         ensures refused { RefusedFor (field_refused T.hint T.image T.unwritable (written self.old).count value) result }
+        ensures full { (written self.old).count ≡ 4294967295 → IsErrOf result FieldCount }
         ensures unchanged { OnErr result (written self.new ≡ written self.old) }
         ensures so_far { buffer self.new ≡ so_far (written self.new) }
     {

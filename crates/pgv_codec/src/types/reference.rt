@@ -46,6 +46,8 @@ impl<T: Encode> Encode for &T {
 
     ghost unwritable = { λ r. T.unwritable r.now };
 
+    ghost asks_first = { λ r. T.asks_first r.now };
+
     fn encode_by_ref(&self, out: &mut PgArgumentBuffer) -> Result<IsNull, CodecError> {
         (**self).encode_by_ref(out)
     }

@@ -11,7 +11,7 @@ ghost use Rattle.pgv_codec.specs.Image.{limit};
 ghost use Rattle.pgv_codec.specs.Outcome.{Refused, Appended, AppendedAll};
 ghost use Rattle.pgv_codec.specs.Refusing.{RefusedFor};
 ghost use Rattle.pgv_codec.specs.Saying.{plainly};
-ghost use Rattle.pgv_hstore.specs.Hstore.{Pair, pair_of, pairs_of, hstore_image, hstore_in_binary, hstore_reading, key_front, value_front, hstore_refused, pair_refused, pairs_refused, part_written, pair_written, pairs_written, put_read, value_refused};
+ghost use Rattle.pgv_hstore.specs.Hstore.{Pair, pair_of, pairs_of, hstore_image, hstore_in_binary, hstore_reading, key_front, value_front, hstore_asks_first, hstore_refused, pair_refused, pairs_refused, part_written, pair_written, pairs_written, put_read, value_refused};
 ghost use Rattle.pgv_hstore.specs.HstoreRefusal.{hstore_binary_refusal, hstore_binary_takes, hstore_refusal, hstore_takes, key_refusal, pairs_refusal, pairs_take, value_refusal};
 ghost use Rattle.pgv_value.specs.Utf8.{is_utf8};
 
@@ -138,6 +138,8 @@ impl Encode for PgHstore {
     ghost image = { λ h. hstore_image (pairs_of h) };
 
     ghost unwritable = { λ h. hstore_refused (pairs_of h) };
+
+    ghost asks_first = { λ h. hstore_asks_first (pairs_of h) };
 
     fn encode_by_ref(&self, out: &mut PgArgumentBuffer) -> Result<IsNull, CodecError> {
         let number = number_of(self.0.len())?;

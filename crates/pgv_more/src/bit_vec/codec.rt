@@ -56,6 +56,8 @@ impl Encode for BitVec {
 
     ghost unwritable = { bits_refused };
 
+    ghost asks_first = { λ _. false };
+
     fn encode_by_ref(&self, out: &mut PgArgumentBuffer) -> Result<IsNull, CodecError> {
         let count = self.len();
         let Ok(number) = i32::try_from(count) else {

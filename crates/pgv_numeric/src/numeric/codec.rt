@@ -6,9 +6,9 @@ ghost use Rattle.pgv_types.specs.Relations.{softly};
 ghost use Rattle.pgv_value.specs.Reading.{Answers, Refuses};
 ghost use Rattle.pgv_value.specs.declared.error.CodecError.TheVariants.{NumericDigit, Short};
 ghost use Rattle.pgv_codec.specs.Outcome.{Encoded, Refused, Appended, AppendedAll};
-ghost use Rattle.pgv_codec.specs.Refusing.{RefusedFor};
+ghost use Rattle.pgv_codec.specs.Refusing.{RefusedExactly, RefusedFor};
 ghost use Rattle.pgv_codec.specs.Saying.{plainly};
-ghost use Rattle.pgv_numeric.specs.Numeric.{Numeric, number, numeric_of, numeric_image, numeric_in_binary, numeric_binary_refusal, numeric_reading, numeric_refusal, digit_written, digits_after, digits_refused, digits_written, head_form, is_digit, numeric_refused, sign_of as sign_of_word, sign_word as sign_as_word, signed_word, unsigned_word};
+ghost use Rattle.pgv_numeric.specs.Numeric.{Numeric, number, numeric_of, numeric_image, numeric_in_binary, numeric_binary_refusal, numeric_reading, numeric_refusal, digit_written, digits_after, digits_refused, digits_written, head_form, is_digit, numeric_asks_first, numeric_refused, sign_of as sign_of_word, sign_word as sign_as_word, signed_word, unsigned_word};
 
 use super::{PgNumeric, PgNumericSign};
 use byteorder::{BigEndian, ByteOrder};
@@ -110,6 +110,7 @@ fn write_number(
     ensures ok { IfOk result (λ n. Encoded n (numeric_image (number sign digits.now weight scale)) out.old out.new) }
     ensures err { IfErr result (λ e. Refused e (numeric_image (number sign digits.now weight scale))) }
     ensures refused { RefusedFor (numeric_refused (number sign digits.now weight scale)) result }
+    ensures refused_exactly { numeric_asks_first (number sign digits.now weight scale) ≡ false → RefusedExactly (numeric_refused (number sign digits.now weight scale)) result }
     ensures appended { OnErr result (Appended out.old out.new) }
 {
     let count = digits.len();
@@ -140,6 +141,8 @@ impl Encode for PgNumeric {
     ghost image = { λ n. numeric_image (numeric_of n) };
 
     ghost unwritable = { λ n. numeric_refused (numeric_of n) };
+
+    ghost asks_first = { λ n. numeric_asks_first (numeric_of n) };
 
     fn encode_by_ref(&self, out: &mut PgArgumentBuffer) -> Result<IsNull, CodecError> {
         match self {

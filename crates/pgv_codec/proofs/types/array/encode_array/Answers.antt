@@ -15,7 +15,7 @@ returns-clause-ok g c =
     let start : AppendedAll (header c.in_ok-element.element (length xs)) was c.write_header.new.out =
     subst (λ (b : List Cell). AppendedAll (header c.in_ok-element.element (length xs)) b c.write_header.new.out) c.reserve.ensures.same c.in_ok-write_header.ensures.ok in
     let h : AppendedAll (header t (length xs)) was c.write_header.new.out =
-    subst (λ (u : Ty). AppendedAll (header u (length xs)) was c.write_header.new.out) c.in_ok-element.ensures start in (
+    subst (λ (u : Ty). AppendedAll (header u (length xs)) was c.write_header.new.out) c.in_ok-element.ensures.ok start in (
       h.0 ++ a.0,
       array_there t (length xs) (written_frames g.T.Encode.hint g.T.Encode.image xs) h.0 a.0 (omega (arith, c.if-count-gt-LENGTH_LIMIT.false)) h.1 a.1,
       both was c.write_header.new.out c.write_frames.new.out h.0 a.0 h.2 a.2,

@@ -9,4 +9,4 @@ pub returns-clause-ok : goal.returns-clause-ok
 returns-clause-ok g c =
     let t = or_else (g.T.Encode.produced c.args.value.now) g.T.Type.info in
     field_written t _ c.args.out.now c.push_type.new.self c.encode.new.self
-    (subst (λ (u : Ty). AppendedAll (typed u) c.args.out.now c.push_type.new.self) c.in_ok-field_type.ensures c.in_ok-push_type.ensures.ok) c.in_ok-encode.ensures.ok
+    (subst (λ (u : Ty). AppendedAll (typed u) c.args.out.now c.push_type.new.self) c.in_ok-field_type.ensures.ok c.in_ok-push_type.ensures.ok) c.in_ok-encode.ensures.ok

@@ -54,7 +54,7 @@ invariant_of-self-2 g c =
     let n : c.len.result ≡ length c.self.inside.types.items = omega (arith, c.len.ensures, c.reserve.ensures.len, c.self.inside.types.ok.0) in
     let noted = where_ok c.note_slots.result c.note_slots.ensures.ok (sym c.is_err.ensures.value ∙ c.if-is_err.false) (counts_in c.args.self.now) s.counts_are (as_many s c.len.result n) in
     stands (one_more s (or_else (g.T.Encode.produced c.args.value.now) g.T.Type.info, a.0) (of_image (g.T.Encode.hint c.args.value.now) (g.T.Encode.image c.args.value.now) a.0 a.1) _ _ _
-    (pushed _ _ _ _ _ c.in_ok-push.ensures.items c.reserve.ensures.items c.in_ok-argument_type.ensures)
+    (pushed _ _ _ _ _ c.in_ok-push.ensures.items c.reserve.ensures.items c.in_ok-argument_type.ensures.ok)
     (subst (λ x. AreCounts (counts_in c.args.self.now ++ x ∷ []) c.note_slots.new.counts.items) (slots_are c.slots-2.result c.slots.result (blank a.0) more) noted)
     a.2)
 
@@ -68,7 +68,7 @@ returns-clause-ok g c =
       a.0,
       a.1,
       arguments_are (one_more s (or_else (g.T.Encode.produced c.args.value.now) g.T.Type.info, a.0) (of_image (g.T.Encode.hint c.args.value.now) (g.T.Encode.image c.args.value.now) a.0 a.1) _ _ _
-          (pushed _ _ _ _ _ c.in_ok-push.ensures.items c.reserve.ensures.items c.in_ok-argument_type.ensures)
+          (pushed _ _ _ _ _ c.in_ok-push.ensures.items c.reserve.ensures.items c.in_ok-argument_type.ensures.ok)
           (subst (λ x. AreCounts (counts_in c.args.self.now ++ x ∷ []) c.note_slots.new.counts.items) (slots_are c.slots-2.result c.slots.result (blank a.0) more) noted)
           a.2),
     )

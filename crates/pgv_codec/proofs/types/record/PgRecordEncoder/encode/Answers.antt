@@ -49,3 +49,11 @@ pub returns-in-Err-clause-refused : goal.returns-in-Err-clause-refused
 unfolding writing_at
 returns-in-Err-clause-refused g c =
     field_unwritten c.args.self.now.count (frame_refused (g.T.Encode.hint c.args.value) (g.T.Encode.image c.args.value) (g.T.Encode.unwritable c.args.value)) c.in-Err.error c.if-self.false c.in-Err.ensures.refused
+
+pub returns-in-Err-clause-full : goal.returns-in-Err-clause-full
+unfolding writing_at
+returns-in-Err-clause-full g c = λ full. absurd (c.if-self.false full)
+
+pub returns-clause-full : goal.returns-clause-full
+unfolding writing_at
+returns-clause-full g c = λ full. absurd (c.if-self.false full)
