@@ -2,7 +2,7 @@
 -- trailer. That this is what a stream's bytes are, is a law (CopyStream).
 -- `step` is what a reader's next call answers, in the order of the format: a number of fields below -1 is C16 before another
 -- number is C12, and that before any field is read.
-use Rattle.std.specs.Prelude.{ℕ, nat_lt, pos, negsuc, int_lt, List, [], ◌∷◌, length, take, drop, bytes_eq, Option, Some, None, ok_or, Result, Ok, Err, if◌then◌else◌}
+use Rattle.std.specs.Prelude.{ℕ, nat_lt, pos, negsuc, int_lt, ◌&&◌, Bool, true, false, List, [], ◌∷◌, length, take, drop, bytes_eq, Option, Some, None, ok_or, Result, Ok, Err, if◌then◌else◌}
 use Rattle.std.specs.Int.{w32, cast_signed}
 use Rattle.std.specs.Ordering.{int_eq}
 use Rattle.pgv_types.specs.Ty.{Ty}
@@ -104,3 +104,23 @@ step_from types (Some bytes) = after_count (length types) bytes >> row_or_end ty
 -- The next row, or none at the trailer and after it.
 unfoldable pub step : Copying → Step
 step reader = step_from reader.types reader.left
+
+-- ---- memory
+
+-- whether bytes are left after the number of fields, so that a row begins there
+abbrev pub begins_row : Read (Option (List ℕ)) → Bool
+begins_row (Err e) = false
+begins_row (Ok None) = false
+begins_row (Ok (Some bytes)) = true
+
+abbrev pub has_columns : List Ty → Bool
+has_columns [] = false
+has_columns (t ∷ ts) = true
+
+abbrev pub row_takes_from : List Ty → Option (List ℕ) → Bool
+row_takes_from types None = false
+row_takes_from types (Some bytes) = has_columns types && begins_row (after_count (length types) bytes)
+
+-- Whether a call asks for memory: only where a row of one field or more begins, and its fields are read.
+abbrev pub row_takes : Copying → Bool
+row_takes reader = row_takes_from reader.types reader.left

@@ -1,9 +1,9 @@
 //! A reader of rows.
 
-ghost use Rattle.std.specs.Prelude.{◌≡◌, ◌<◌, ◌≤◌, length, Some, None, Ok, Err, IfOk, IfErr, OnOk, OnErr, IfSome, OnSome, option_map};
+ghost use Rattle.std.specs.Prelude.{◌≡◌, ◌<◌, ◌≤◌, false, length, Some, None, Ok, Err, IfOk, IfErr, OnOk, OnErr, IfSome, OnSome, option_map};
 ghost use Rattle.std.specs.Option.{option_copied};
 ghost use Rattle.pgv_value.specs.Reading.{Refuses};
-ghost use Rattle.pgv_copy.specs.CopyBinary.{header, after_signature as signature_passed, after_flags as flags_passed, after_extension as extension_passed, after_count as count_passed, fields, before, step, bytes_left};
+ghost use Rattle.pgv_copy.specs.CopyBinary.{header, after_signature as signature_passed, after_flags as flags_passed, after_extension as extension_passed, after_count as count_passed, fields, before, has_columns, row_takes, step, bytes_left};
 
 use pgv_types::PgTypeInfo;
 use pgv_value::{CodecError, PgValueFormat, PgValueRef, i16_in_front, u32_in_front};
@@ -63,12 +63,14 @@ impl<'r> PgCopyReader<'r> {
     ///
     /// Where the bytes end before the stream does it is C15, a negative number of fields but the -1 of the end C16, another
     /// number than that of the columns C12, and a negative length of a field but the -1 of null C16. A refused call leaves the
-    /// reader as it was. The list is all that takes memory (C1), from the allocator of the types.
+    /// reader as it was. The list is all that takes memory (C1), from the allocator of the types, beside a custom type, which is
+    /// copied: so C1 comes only where the fields of a row are read, and not at the trailer or after it.
     #[inline(always)]
     #[tactic(auto, unfolding(crate::specs::CopyBinary::step))]
     pub fn next_row(&mut self) -> Result<Option<Vec<PgValueRef<'r>>>, CodecError>
         ensures answered { IfOk result (λ found. step self.old ≡ Ok (option_map (λ row. row.items) found, self.new)) }
         ensures refused { IfErr result (λ e. Refuses e (step self.old ≡ Err e)) }
+        ensures refused_exactly { row_takes self.old ≡ false → IfErr result (λ e. step self.old ≡ Err e) }
         ensures unmoved { OnErr result (self.new ≡ self.old) }
         // Each row takes bytes, so a loop over the rows ends.
         ensures shorter { IfOk result (λ found. OnSome found (bytes_left self.new < bytes_left self.old)) }
@@ -166,6 +168,7 @@ fn read_fields<'r>(
 ) -> Result<Vec<PgValueRef<'r>>, CodecError>
     ensures found { IfOk result (λ row. fields types.now bytes.old.now ≡ Ok (row.items, bytes.new.now)) }
     ensures refused { IfErr result (λ e. Refuses e (fields types.now bytes.old.now ≡ Err e)) }
+    ensures refused_exactly { has_columns types.now ≡ false → IfErr result (λ e. fields types.now bytes.old.now ≡ Err e) }
     ensures within { OnOk result (length bytes.new.now ≤ length bytes.old.now) }
 {
     let mut row = Vec::with_capacity(alloc, types.len())?;

@@ -59,6 +59,7 @@ impl<A: Encode + Type, B: Encode + Type> Encode for Pair<A, B> {
     }
 }
 
+/// A pair is read and refused as the first two fields of a record.
 impl<A: Type + Decode, B: Type + Decode> Decode for Pair<A, B> {
     ghost use Rattle.std.specs.Prelude.{[], ◌∷◌};
     ghost use Rattle.pgv.specs.Words.{record_image, plainly, field_written};
@@ -70,6 +71,10 @@ impl<A: Type + Decode, B: Type + Decode> Decode for Pair<A, B> {
     ghost reading = { ⟦<(A, B) as Decode>⟧.reading };
 
     ghost written = { plainly (λ m. record_image (field_written A.info A.written m.0 ∷ field_written B.info B.written m.1 ∷ [])) };
+
+    ghost takes_memory = { ⟦<(A, B) as Decode>⟧.takes_memory };
+
+    ghost refusal = { ⟦<(A, B) as Decode>⟧.refusal };
 
     fn decode(alloc: Global, value: PgValueRef<'_>) -> Result<Pair<A, B>, CodecError> {
         let (first, second) = <(A, B) as Decode>::decode(alloc, value)?;

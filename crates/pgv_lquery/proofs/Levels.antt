@@ -1,10 +1,10 @@
 -- Levels that are neither stars nor begin with `!`.
-use Rattle.std.proofs.Common.{◌≡◌, ◌≢◌, ◌⊎◌, inl, inr, ◌∙◌, ap, ℕ, Bool, false, List, [], ◌∷◌, length, refl, sym}
+use Rattle.std.proofs.Common.{◌≡◌, ◌≢◌, ◌⊎◌, inl, inr, ◌∙◌, ap, ℕ, Bool, false, true, List, [], ◌∷◌, length, refl, sym}
 use Rattle.std.specs.Prelude.{◌==◌, Ok, Err}
 use Rattle.std.proofs.lemmas.Bool.{ne_eqb}
 use Rattle.pgv_value.specs.declared.tree_error.PgLQueryParseError.{PgLQueryParseError}
 use Rattle.pgv_value.specs.declared.tree_error.PgLQueryParseError.TheVariants.{Memory}
-use Rattle.pgv_lquery.specs.QueryRead.{begins_level, begins_with_variant, level_read, read_as, variants_read}
+use Rattle.pgv_lquery.specs.QueryRead.{begins_level, begins_with_star, begins_with_variant, level_read, read_as, variants_read}
 use Rattle.pgv_lquery.specs.Queries.{Variant, one_of}
 
 other_level : (text : List ℕ) (empty : Bool) → empty ≡ (length text == 0) → empty ≡ false → ((rest : List ℕ) → text ≢ 42 ∷ rest) → ((rest : List ℕ) → text ≢ 33 ∷ rest) → level_read text ≡ read_as (λ vs. one_of vs) (variants_read text)
@@ -29,3 +29,7 @@ other_begun (c ∷ text) empty n f h k = rw (ne_eqb c 42 (λ e. h text (ap (λ x
 pub other_refused_exactly : (text : List ℕ) (empty : Bool) (e : PgLQueryParseError) → empty ≡ (length text == 0) → empty ≡ false → ((rest : List ℕ) → text ≢ 42 ∷ rest) → ((rest : List ℕ) → text ≢ 33 ∷ rest) →
     begins_level text ≡ false → (begins_with_variant text ≡ false → variants_read text ≡ Err e) → level_read text ≡ Err e
 other_refused_exactly text empty e n f h k isnt r = other_level text empty n f h k ∙ rw (r (sym (other_begun text empty n f h k) ∙ isnt)) refl
+
+pub no_star_begins : (text : List ℕ) → ((rest : List ℕ) → text ≢ 42 ∷ rest) → begins_with_star text ≡ true → ⊥
+no_star_begins [] h e = cc
+no_star_begins (c ∷ text) h e = let isnt : (c == 42) ≡ false = ne_eqb c 42 (λ e. h text (ap (λ x. x ∷ text) e)) in cc

@@ -1,10 +1,10 @@
 //! The levels of a query (PostgreSQL, "ltree", lquery).
 
-ghost use Rattle.std.specs.Prelude.{◌≡◌, ◌⊎◌, false, IfOk, IfErr, Ok, Err, Some, option_map};
+ghost use Rattle.std.specs.Prelude.{◌≡◌, ◌⊎◌, false, true, IfOk, IfErr, Ok, Err, Some, option_map};
 ghost use Rattle.pgv_value.specs.declared.tree_error.PgLQueryParseError.TheVariants.{Memory};
 ghost use Rattle.pgv_lquery.specs.LevelView.{level_of};
 ghost use Rattle.pgv_lquery.specs.QueryPrinted.{printed_level};
-ghost use Rattle.pgv_lquery.specs.QueryRead.{begins_level, begins_with_variant, between_read, bound_read, braced, count_read, inner_read, level_read, star_read, variants_read};
+ghost use Rattle.pgv_lquery.specs.QueryRead.{begins_level, begins_with_star, begins_with_variant, between_read, bound_read, braced, count_read, inner_read, level_read, star_read, variants_read};
 
 mod print;
 
@@ -111,12 +111,13 @@ fn variants_of(alloc: Global, text: &str) -> Result<Vec<PgLQueryVariant>, PgLQue
 impl PgLQueryLevel {
     /// The level of a text: a star, perhaps with one or two numbers in braces, as `*{2}`, `*{2,}`, `*{,3}` and `*{2,3}`; or variants, joined
     /// by `|`, perhaps after `!`. The empty text is refused with EmptyString; another that begins with `*` with UnexpectedCharacter, or with
-    /// ParseIntError where a number is not digits up to 65535; and a variant that is none with LTreeParrseError. A star, and a first variant
-    /// that is none, are refused before memory is asked for.
+    /// ParseIntError where a number is not digits up to 65535; and a variant that is none with LTreeParrseError. A text that begins with
+    /// `*` takes no memory, whether it is a star or not, and a first variant that is none is refused before memory is asked for.
     pub fn from_str(alloc: Global, text: &str) -> Result<PgLQueryLevel, PgLQueryParseError>
         ensures ok { IfOk result (λ l. level_read text.now ≡ Ok (level_of l)) }
         ensures err { IfErr result (λ e. (level_read text.now ≡ Err e) ⊎ (e ≡ Memory)) }
         ensures refused_exactly { begins_level text.now ≡ false → IfErr result (λ e. level_read text.now ≡ Err e) }
+        ensures star { begins_with_star text.now ≡ true → IfErr result (λ e. level_read text.now ≡ Err e) }
     {
         if text.is_empty() {
             return Err(PgLQueryParseError::EmptyString);

@@ -1,6 +1,6 @@
 //! Lists of bits (PostgreSQL, "Bit String Types"), kept as bytes, eight bits to a byte, the first of them the highest.
 
-ghost use Rattle.std.specs.Prelude.{◌≡◌, ◌↔◌, ◌++◌, ◌+◌, ◌*◌, ◌<◌, ◌≤◌, ◌==◌, Bool, false, List, [], ◌∷◌, length, take, map, slice_get, is_some, IfOk, OnOk, OnErr, IsOk, IsSome, option_to_list};
+ghost use Rattle.std.specs.Prelude.{◌≡◌, ◌↔◌, ◌++◌, ◌+◌, ◌*◌, ◌%◌, ◌^◌, ◌<◌, ◌≤◌, ◌==◌, Bool, false, List, [], ◌∷◌, length, take, map, slice_get, is_some, IfOk, OnOk, OnErr, IsOk, IsSome, option_to_list};
 ghost use Rattle.pgv_more.specs.Bits.{bits_of, byte_count, low_bits, number_of, packed};
 ghost use Rattle.std.specs.List.{list_all};
 ghost use Rattle.pgv_more.specs.BitsText.{bits_in_text, is_digit, is_one};
@@ -133,10 +133,11 @@ impl BitVec {
         Some(self.bytes[index / 8] >> (7 - index % 8) & 1 == 1)
     }
 
-    /// Appends a bit. A refused one leaves the bits as they were.
+    /// Appends a bit. A refused one leaves the bits as they were. Only the first bit of a new byte may ask for memory.
     pub fn push(&mut self, bit: bool) -> Result<(), AllocError>
         ensures ok { OnOk result (self.new ≡ self.old ++ bit ∷ []) }
         ensures err { OnErr result (self.new ≡ self.old) }
+        ensures in_begun_byte { 0 < length self.old % 8 → length self.old + 1 < 2 ^ 64 → IsOk result }
     {
         let Some(more) = self.count.checked_add(1) else {
             return Err(AllocError);
@@ -258,6 +259,7 @@ fn append_bit(bytes: &mut Vec<u8>, count: usize, bit: bool) -> Result<(), AllocE
     requires { length bytes.old.items ≡ byte_count count }
     ensures ok { OnOk result ((bits : List Bool) → count ≡ length bits → bytes.old.items ≡ packed bits → bytes.new.items ≡ packed (bits ++ bit ∷ [])) }
     ensures err { OnErr result (bytes.new.items ≡ bytes.old.items) }
+    ensures in_begun_byte { 0 < count % 8 → IsOk result }
 {
     let place = count % 8;
     if place == 0 {

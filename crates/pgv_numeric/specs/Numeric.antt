@@ -4,11 +4,12 @@
 -- Written: words of two bytes: the number of digits, the weight, the sign (0000, or 4000 below zero), the scale, and the
 -- digits. There is no image where there are more than 32767 digits (C7), or one that isn't from 0 to 9999 (C8). The value that
 -- is no number is `0000 0000 c000 0000`.
-use Rattle.std.specs.Prelude.{ℕ, zero, suc, nat_lt, nat_le, ◌*◌, Bool, true, ◌&&◌, ◌==◌, if◌then◌else◌, ℤ, pos, int_le, List, [], ◌∷◌, ◌++◌, length, take, drop, Option, Some, None}
+use Rattle.std.specs.Prelude.{ℕ, zero, suc, nat_lt, nat_le, ◌*◌, Bool, true, false, ◌&&◌, ◌==◌, if◌then◌else◌, ℤ, pos, int_le, List, [], ◌∷◌, ◌++◌, length, take, drop, Option, Some, None}
 use Rattle.std.specs.Int.{w16, cast_signed, cast_unsigned, from_be_bytes, to_be_bytes}
 use Rattle.std.specs.List.{flat_map, list_all}
 use Rattle.pgv_buf.specs.Tokens.{Token, bytes}
 use Rattle.pgv_codec.specs.Image.{Image, image_of}
+use Rattle.pgv_types.specs.Ty.{Ty}
 use Rattle.pgv_value.specs.NumberBinary.{fits_signed}
 use Rattle.pgv_value.specs.Reading.{Reading}
 use Rattle.pgv_value.specs.ScalarGrammar.{binary_alone, refusal_alone}
@@ -123,6 +124,23 @@ numeric_in_binary form =
 
 abbrev pub numeric_reading : Reading Numeric
 numeric_reading = binary_alone numeric_in_binary
+
+-- ---- memory
+
+-- digits ask for memory where there is one
+abbrev pub digits_take : Option (List ℤ) → Bool
+digits_take None = false
+digits_take (Some []) = false
+digits_take (Some (d ∷ ds)) = true
+
+abbrev pub number_takes : Option Numeric → Bool
+number_takes None = false
+number_takes (Some not_a_number) = false
+number_takes (Some (number sign ds weight scale)) = digits_take (Some ds)
+
+-- Whether reading asks for memory: only of a number with a digit.
+abbrev pub numeric_takes : Ty → PgValueFormat → Option (List ℕ) → Bool
+numeric_takes t format bytes = number_takes (numeric_reading t format bytes)
 
 -- ---- refused
 

@@ -1,13 +1,13 @@
 //! What is proved of these types and of the definitions that say what they are. Each law is the contract of a function that does
 //! nothing.
 
-ghost use Rattle.std.specs.Prelude.{◌≡◌, List, is_some};
+ghost use Rattle.std.specs.Prelude.{◌≡◌, List};
 ghost use Rattle.std.specs.Int.{w64};
 ghost use Rattle.pgv_codec.specs.TypeRow.{IsBuiltIn, IsRefusedAs, IsWrittenAs, TakesNone};
 ghost use Rattle.pgv_codec.specs.ScalarBinary.{signed_image};
 ghost use Rattle.pgv_numeric.specs.Laws.{NumericIsRead, OneNumeric, OneMoney, NumericsAreEqual};
 ghost use Rattle.pgv_numeric.specs.MoneyCodec.{money_reading, money_refusal, MoneyIsRead};
-ghost use Rattle.pgv_numeric.specs.Numeric.{numeric_asks_first, numeric_image, numeric_of, numeric_reading, numeric_refusal, numeric_refused};
+ghost use Rattle.pgv_numeric.specs.Numeric.{numeric_asks_first, numeric_image, numeric_of, numeric_reading, numeric_refusal, numeric_refused, numeric_takes};
 ghost use Rattle.pgv_types.specs.declared.oid.Oid.{Oid};
 ghost use Rattle.pgv_types.specs.Ty.{Ty};
 
@@ -32,7 +32,7 @@ pub fn numeric_is_a_numeric()
     ensures read { ⟦<crate::PgNumeric as Decode>⟧.reading ≡ numeric_reading }
     ensures unwritten { (⟦<crate::PgNumeric as Encode>⟧.unwritable ≡ (λ n. numeric_refused (numeric_of n))) × (⟦<crate::PgNumeric as Encode>⟧.asks_first ≡ (λ n. numeric_asks_first (numeric_of n))) }
     ensures refused { IsRefusedAs numeric_refusal ⟦<crate::PgNumeric as Decode>⟧.refusal }
-    ensures takes_memory { ⟦<crate::PgNumeric as Decode>⟧.takes_memory ≡ (λ t f bytes. is_some (numeric_reading t f bytes)) }
+    ensures takes_memory { ⟦<crate::PgNumeric as Decode>⟧.takes_memory ≡ numeric_takes }
 {}
 
 /// Bytes begin with the form of an amount exactly where it is read of them.

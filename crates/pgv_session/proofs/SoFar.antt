@@ -14,14 +14,6 @@ IsSoFar (Some xs) None old new now = ⊥
 IsSoFar (Some xs) (Some ys) old new now =
     (out : List ℕ) × Appends old new out × ((rest : List ℕ) → IsSession now (lines_of ys) rest → IsSession [] (lines_of xs) (out ++ rest))
 
-nothing_appended : (o : Option (List ℕ)) → Appends o o []
-nothing_appended None = tt
-nothing_appended (Some os) = sym (append-nil os)
-
-pub at_first : (a o : Option (List ℕ)) → IsSoFar a a o o []
-at_first None o = tt
-at_first (Some xs) o = ([], nothing_appended o, λ rest s. s)
-
 appended : (o w v : Option (List ℕ)) (xs ys : List ℕ) → Appends o w xs → Appends w v ys → Appends o v (xs ++ ys)
 appended None w v xs ys p q = tt
 appended (Some os) None v xs ys p q = absurd p

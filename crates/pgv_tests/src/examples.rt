@@ -9,6 +9,7 @@ use pgv::{
 use pgv_examples::arrays::{add_lists, scores};
 use pgv_examples::bind::{arguments_of_search, fill, parameters_of_bind};
 use pgv_examples::copied::{columns, read_item, read_items};
+use pgv_examples::email::Email;
 use pgv_examples::mood::Mood;
 use pgv_examples::row::{column, keep, read_person};
 use pgv_examples::user_id::UserId;
@@ -53,6 +54,13 @@ fn fill_search(
     fill(alloc, arguments, &parameters, known)
 }
 
+/// The types that a server tells of: `email` has the OID 16602 and `mood` 16600.
+fn known_types(alloc: Global) -> Result<[PgTypeInfo; 2], AllocError> {
+    let email = PgTypeInfo::custom(alloc, Oid(16602), "email", PgTypeKind::Simple)?;
+    let mood = PgTypeInfo::custom(alloc, Oid(16600), "mood", PgTypeKind::Simple)?;
+    Ok([email, mood])
+}
+
 /// The parameters of a search for one mood. Until the type of a hole is known, nothing is filled.
 fn bound(alloc: Global) -> Result<String, CodecError> {
     let moods = [Mood::Fine].to_vec(alloc)?;
@@ -61,9 +69,7 @@ fn bound(alloc: Global) -> Result<String, CodecError> {
     if fill_search(alloc, &mut arguments, &[]).is_ok() {
         return Ok(String::from_str(alloc, "filled without a type")?);
     }
-    let email = PgTypeInfo::custom(alloc, Oid(16602), "email", PgTypeKind::Simple)?;
-    let mood = PgTypeInfo::custom(alloc, Oid(16600), "mood", PgTypeKind::Simple)?;
-    fill_search(alloc, &mut arguments, &[email, mood])?;
+    fill_search(alloc, &mut arguments, &known_types(alloc)?)?;
     let message = parameters_of_bind(alloc, &arguments)?;
     Ok(encode(alloc, message.as_slice())?)
 }
@@ -74,6 +80,28 @@ fn a_search_is_bound(rt: HostRuntime) -> Result<(), CodecError> {
     assert_eq!(rt;
         shown.as_str(),
         "0003000000040000000700000005736576656e0000001a0000000100000000000040d80000000100000001000000026f6b"
+    );
+    Ok(())
+}
+
+/// A list of moods and a list of addresses. The types of their holes are known in the other order.
+fn two_holes(alloc: Global) -> Result<String, CodecError> {
+    let mut arguments = PgArguments::new(alloc);
+    arguments.add([Mood::Fine].to_vec(alloc)?)?;
+    let address = String::from_str(alloc, "a@b")?;
+    arguments.add(Vec::from_array(alloc, [Email { address }])?)?;
+    let parameters = [PgTypeInfo::array_of("mood"), PgTypeInfo::array_of("email")];
+    fill(alloc, &mut arguments, &parameters, &known_types(alloc)?)?;
+    Ok(encode(alloc, arguments.buffer().as_slice())?)
+}
+
+#[test]
+fn two_holes_are_filled(rt: HostRuntime) -> Result<(), CodecError> {
+    let shown = two_holes(rt.alloc())?;
+    assert_eq!(rt;
+        shown.as_str(),
+        "0000001a0000000100000000000040d80000000100000001000000026f6b\
+         0000001b0000000100000000000040da000000010000000100000003614062"
     );
     Ok(())
 }

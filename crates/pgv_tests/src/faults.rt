@@ -71,17 +71,20 @@ impl BufRead for FailingReader<'_> {
     }
 }
 
-/// A writer that fails at a call, `flush` among them, and compares what is written with the answers.
+/// A writer that fails at a call, `flush` among them, and compares what is written with the answers. It holds what was written since
+/// the last `flush`.
 #[derive(Drop)]
 struct FailingWriter {
     answers: &'static [u8],
     same: bool,
+    held: bool,
     left: Countdown,
 }
 
 impl Write for FailingWriter {
     fn write(&mut self, buf: &[u8]) -> io::Result<usize> {
         self.left.step()?;
+        self.held = true;
         match self.answers.strip_prefix(buf) {
             Some(answers) => self.answers = answers,
             None => self.same = false,
@@ -90,7 +93,9 @@ impl Write for FailingWriter {
     }
 
     fn flush(&mut self) -> io::Result<()> {
-        self.left.step()
+        self.left.step()?;
+        self.held = false;
+        Ok(())
     }
 }
 
@@ -113,6 +118,7 @@ fn writer(calls: u32) -> FailingWriter {
     FailingWriter {
         answers: ANSWERS,
         same: true,
+        held: false,
         left: Countdown::new(calls, ErrorKind::Other),
     }
 }
@@ -122,14 +128,19 @@ fn wanted(met: bool, fault: RunFault) -> Result<(), RunFault> {
     if met { Err(fault) } else { Ok(()) }
 }
 
-/// Whether `run` answers the fault exactly where its reader fails, after a beginning of the answers; and whether it does.
+/// Whether `run` answers the fault exactly where its reader fails, after a beginning of the answers of which the writer holds nothing
+/// back; and whether it does.
 fn read_failing(alloc: Global, calls: u32, kind: ErrorKind, fault: RunFault) -> (bool, bool) {
     let mut reader = reader(calls, kind);
     let mut writer = writer(u32::MAX);
     let done = run(alloc, &mut reader, &mut writer);
     let met = reader.left.met;
     let whole = met || writer.answers.is_empty();
-    (done == wanted(met, fault) && writer.same && whole, met)
+    let flushed = !writer.held;
+    (
+        done == wanted(met, fault) && writer.same && whole && flushed,
+        met,
+    )
 }
 
 /// The same where its writer fails.

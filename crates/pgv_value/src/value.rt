@@ -1,7 +1,8 @@
 //! A value as it stands in a row: null or bytes, with its type and its format.
 
-ghost use Rattle.std.specs.Prelude.{◌≡◌, ◌<◌, ◌≤◌, slice_range, length, Some, None, IfOk, OnOk, OnErr, IfErr, IsErrOf, IsTrue, is_none};
+ghost use Rattle.std.specs.Prelude.{◌≡◌, ◌<◌, ◌≤◌, slice_range, length, Some, None, IfOk, OnOk, OnErr, IfErr, IsErrOf, IsOk, IsTrue, is_none};
 ghost use Rattle.std.specs.Option.{option_copied};
+ghost use Rattle.pgv_types.specs.Facts.{IsNotCustom};
 ghost use Rattle.pgv_value.specs.FrameBinary.{front, frame_fault};
 ghost use Rattle.pgv_value.specs.RowView.{held_bytes};
 ghost use Rattle.pgv_value.specs.ValueView.{Given};
@@ -45,10 +46,12 @@ impl Model for PgValue {
 }
 
 impl PgValue {
-    /// The value as a reader takes it. It is refused only for memory (C1): the type is cloned.
+    /// The value as a reader takes it. It is refused only for memory (C1), and only where its type is a custom one: the type is
+    /// cloned.
     pub fn as_ref(&self) -> Result<PgValueRef<'_>, CodecError>
         ensures same { IfOk result (λ v. v ≡ self.now) }
         ensures memory { IfErr result (λ e. e ≡ Memory) }
+        ensures succeeds { IsNotCustom self.now.type_info → IsOk result }
     {
         let value = match &self.bytes {
             Some(bytes) => Some(bytes.as_slice()),
@@ -74,8 +77,11 @@ impl PgValue {
     }
 }
 
+/// A copy shares the bytes. Null of a type that isn't custom is copied without memory.
 impl Clone for PgValue {
     ghost is_clone = { λ v copy. copy ≡ v };
+
+    ghost is_infallible = { λ v. IsNotCustom v.type_info × (v.bytes ≡ None) };
 
     fn clone(&self) -> Result<PgValue, AllocError> {
         let bytes = match &self.bytes {
@@ -298,10 +304,11 @@ impl<'r> PgValueRef<'r> {
     }
 
     /// The value without a borrow: of a row, it shares that part of the row's bytes; else its bytes are copied.
-    /// It is refused only for memory (C1).
+    /// It is refused only for memory (C1), and only where it has bytes or its type is a custom one.
     pub fn to_owned(&self, alloc: Global) -> Result<PgValue, CodecError>
         ensures same { IfOk result (λ v. v ≡ self.now) }
         ensures memory { IfErr result (λ e. e ≡ Memory) }
+        ensures succeeds { IsNotCustom self.now.type_info → self.now.bytes ≡ None → IsOk result }
     {
         let bytes = match self.row {
             Some(part) => Some(part.bytes.slice(part.start..part.end)?),
@@ -318,8 +325,11 @@ impl<'r> PgValueRef<'r> {
     }
 }
 
+/// A copy refers to the same bytes, and takes no memory. It can fail only at a custom type with too many copies.
 impl<'r> Clone for PgValueRef<'r> {
     ghost is_clone = { λ v copy. copy ≡ v };
+
+    ghost is_infallible = { λ v. IsNotCustom v.type_info };
 
     fn clone(&self) -> Result<PgValueRef<'r>, AllocError> {
         Ok(PgValueRef {

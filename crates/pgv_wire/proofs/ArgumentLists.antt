@@ -33,12 +33,6 @@ stands {args} {hs} {ns} {ts} s = subst (λ bs. Stands bs hs ns ts) (sym (argumen
 pub held : {hs : List Ty} {ns : List ℕ} {ts : List Cell} (args : List Argument) → Stands (arguments_of hs ts) hs ns ts → arguments_of hs ts ≡ args → Stands args hs ns ts
 held {hs} {ns} {ts} args s e = subst (λ bs. Stands bs hs ns ts) e s
 
-pub hole_count-append : (a c : List Cell) → hole_count (a ++ c) ≡ hole_count a + hole_count c
-hole_count-append [] c = omega arith
-hole_count-append (fixed x ∷ a) c = hole_count-append a c
-hole_count-append (hole_cell t s ∷ a) c = omega (arith, hole_count-append a c)
-hole_count-append (slot_cell d cs s ∷ a) c = hole_count-append a c
-
 pub slot_count-append : (a c : List Cell) → slot_count (a ++ c) ≡ slot_count a + slot_count c
 slot_count-append [] c = omega arith
 slot_count-append (fixed x ∷ a) c = slot_count-append a c

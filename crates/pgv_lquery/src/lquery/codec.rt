@@ -17,7 +17,8 @@ use pgv_types::PgTypeInfo;
 use pgv_value::{CodecError, PgLQueryParseError, PgValueFormat, PgValueRef};
 use std::alloc::{AllocError, Global};
 
-/// `lquery`, of which only the name is known until its OID is handed in. Read under it and domains over it.
+/// `lquery`, of which only the name is known until its OID is handed in. Read under each type of this name, and
+/// under one declared by its OID.
 impl Type for PgLQuery {
     ghost info = { lquery };
 

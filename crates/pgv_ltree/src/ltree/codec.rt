@@ -16,7 +16,8 @@ use pgv_types::PgTypeInfo;
 use pgv_value::{CodecError, PgLTreeParseError, PgValueFormat, PgValueRef};
 use std::alloc::{AllocError, Global};
 
-/// `ltree`, of which only the name is known until its OID is handed in. Read under it and domains over it.
+/// `ltree`, of which only the name is known until its OID is handed in. Read under each type of this name, and
+/// under one declared by its OID.
 impl Type for PgLTree {
     ghost info = { ltree };
 

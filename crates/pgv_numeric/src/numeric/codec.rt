@@ -1,14 +1,14 @@
 //! Numbers with any number of digits, written and read (PostgreSQL, "Numeric Types", numeric).
 
-ghost use Rattle.std.specs.Prelude.{◌≡◌, ◌+◌, ◌≤◌, false, length, drop, IfOk, IfErr, OnOk, OnErr, is_some, refl};
+ghost use Rattle.std.specs.Prelude.{◌≡◌, ◌+◌, ◌≤◌, false, length, drop, IfOk, IfErr, OnOk, OnErr, refl};
 ghost use Rattle.pgv_types.specs.Ty.{builtin};
 ghost use Rattle.pgv_types.specs.Relations.{softly};
-ghost use Rattle.pgv_value.specs.Reading.{Answers, Refuses};
+ghost use Rattle.pgv_value.specs.Reading.{Answers, AnswersExactly, Refuses};
 ghost use Rattle.pgv_value.specs.declared.error.CodecError.TheVariants.{NumericDigit, Short};
 ghost use Rattle.pgv_codec.specs.Outcome.{Encoded, Refused, Appended, AppendedAll};
 ghost use Rattle.pgv_codec.specs.Refusing.{RefusedExactly, RefusedFor};
 ghost use Rattle.pgv_codec.specs.Saying.{plainly};
-ghost use Rattle.pgv_numeric.specs.Numeric.{Numeric, number, numeric_of, numeric_image, numeric_in_binary, numeric_binary_refusal, numeric_reading, numeric_refusal, digit_written, digits_after, digits_refused, digits_written, head_form, is_digit, numeric_asks_first, numeric_refused, sign_of as sign_of_word, sign_word as sign_as_word, signed_word, unsigned_word};
+ghost use Rattle.pgv_numeric.specs.Numeric.{Numeric, digit_written, digits_after, digits_refused, digits_take, digits_written, head_form, is_digit, number, number_takes, numeric_asks_first, numeric_binary_refusal, numeric_image, numeric_in_binary, numeric_of, numeric_reading, numeric_refusal, numeric_refused, numeric_takes, sign_of as sign_of_word, sign_word as sign_as_word, signed_word, unsigned_word};
 
 use super::{PgNumeric, PgNumericSign};
 use byteorder::{BigEndian, ByteOrder};
@@ -188,8 +188,9 @@ fn signed_at(form: &[u8], place: usize) -> i16
 #[inline(always)]
 fn read_digits(alloc: Global, count: u16, form: &[u8]) -> Result<Vec<i16>, CodecError>
     ensures exact { Answers (λ v. v.items) (digits_after count form.now) result }
+    ensures exactly { digits_take (digits_after count form.now) ≡ false → AnswersExactly (λ v. v.items) (digits_after count form.now) result }
     ensures refused { IfErr result (λ e. Refuses e (e ≡ Short)) }
-    ensures refused_exactly { is_some (digits_after count form.now) ≡ false → IfErr result (λ e. e ≡ Short) }
+    ensures refused_exactly { digits_take (digits_after count form.now) ≡ false → IfErr result (λ e. e ≡ Short) }
 {
     let count = count as usize;
     if form.len() < 2 * count {
@@ -217,8 +218,9 @@ fn sign_of(word: u16) -> Option<PgNumericSign>
 #[inline(always)]
 fn of_bytes(alloc: Global, form: &[u8]) -> Result<PgNumeric, CodecError>
     ensures exact { Answers numeric_of (numeric_in_binary form.now) result }
+    ensures exactly { number_takes (numeric_in_binary form.now) ≡ false → AnswersExactly numeric_of (numeric_in_binary form.now) result }
     ensures refused { IfErr result (λ e. Refuses e (e ≡ numeric_binary_refusal form.now)) }
-    ensures refused_exactly { is_some (numeric_in_binary form.now) ≡ false → IfErr result (λ e. e ≡ numeric_binary_refusal form.now) }
+    ensures refused_exactly { number_takes (numeric_in_binary form.now) ≡ false → IfErr result (λ e. e ≡ numeric_binary_refusal form.now) }
 {
     if form.len() < 8 {
         return Err(CodecError::Short);
@@ -242,6 +244,7 @@ fn of_bytes(alloc: Global, form: &[u8]) -> Result<PgNumeric, CodecError>
 /// Read of words as they are written, with digits of any value, and whatever comes after them. The sign `c000` is `NaN`, whatever the
 /// other words are; another sign is refused with C34, and bytes that end too early with C15. A text is refused with C18, and null with
 /// C13.
+/// Memory is asked for only by the digits: `NaN`, and a number without digits, are never refused as out of memory.
 /// A number comes back as it is.
 impl Plain for PgNumeric {
     ghost use Rattle.pgv_numeric.specs.NumericBack.{numeric_back};
@@ -254,7 +257,7 @@ impl Plain for PgNumeric {
 
     ghost written = { plainly numeric_image };
 
-    ghost takes_memory = { λ t format bytes. is_some (numeric_reading t format bytes) };
+    ghost takes_memory = { numeric_takes };
 
     ghost refusal = { numeric_refusal };
 
