@@ -1,11 +1,12 @@
 -- Where reading a bound never asks for memory, reading a range asks only for copies.
-use Rattle.std.proofs.Common.{◌≡◌, ◌∙◌, ℕ, Bool, true, false, not, ◌&&◌, List, [], ◌∷◌, Option, Some, None, refl, ap}
-use Rattle.std.proofs.lemmas.Bool.{or_from}
+use Rattle.std.proofs.Common.{◌≡◌, ◌∙◌, ℕ, Bool, true, false, ◌&&◌, List, [], ◌∷◌, drop, Option, Some, None, refl, ap}
+use Rattle.std.proofs.lemmas.Bool.{false≢true, or_from}
 use Rattle.std.specs.Str.{chars}
 use Rattle.pgv_types.specs.Ty.{Ty}
 use Rattle.pgv_types.specs.Facts.{is_custom}
 use Rattle.pgv_text.specs.ContentText.{RangeContent, empty, parts, range_content}
-use Rattle.pgv_text.specs.Unquoted.{unquoted}
+use Rattle.pgv_text.specs.Copies.{copies_of, first_copied, none_copied}
+use Rattle.pgv_text.specs.declared.scanner.TextForm.TheVariants.{Range}
 use Rattle.pgv_value.specs.FrameBinary.{Part, front}
 use Rattle.pgv_value.specs.Reading.{Reading}
 use Rattle.pgv_value.specs.Utf8.{is_utf8}
@@ -30,6 +31,17 @@ never_both : (a b : Bool) → b ≡ false → (a && b) ≡ false
 never_both true b none = none
 never_both false b none = refl
 
+-- where no part is copied, the first isn't, and none after it
+first_plain : (copied : List Bool) → none_copied copied ≡ true → first_copied copied ≡ false
+first_plain [] plain = refl
+first_plain (true ∷ later) plain = absurd (false≢true plain)
+first_plain (false ∷ later) plain = refl
+
+later_plain : (copied : List Bool) → none_copied copied ≡ true → none_copied (drop 1 copied) ≡ true
+later_plain [] plain = refl
+later_plain (true ∷ later) plain = absurd (false≢true plain)
+later_plain (false ∷ later) plain = plain
+
 module _ {M : Type 0} (read : Part → Option M) (takes : Part → Bool) (none : (part : Part) → takes part ≡ false) where
   bound_takes_none : (side : Side) (bytes : List ℕ) → bound_takes takes side bytes ≡ false
   bound_takes_none Infinite bytes = refl
@@ -46,19 +58,19 @@ module _ {M : Type 0} (read : Part → Option M) (takes : Part → Bool) (none :
   bytes_take_none [] = refl
   bytes_take_none (flags ∷ rest) = form_takes_none (form_of flags) rest
 
-  next_takes_none : (values : List Part) → next_bound_takes takes values ≡ false
-  next_takes_none [] = refl
-  next_takes_none (None ∷ values) = refl
-  next_takes_none (Some text ∷ values) = none (Some text)
+  next_takes_none : (copied : List Bool) (values : List Part) → none_copied copied ≡ true → next_bound_takes takes copied values ≡ false
+  next_takes_none copied [] plain = refl
+  next_takes_none copied (None ∷ values) plain = or_from (first_copied copied) false (first_plain copied plain) refl
+  next_takes_none copied (Some text ∷ values) plain = or_from (first_copied copied) (takes (Some text)) (first_plain copied plain) (none (Some text))
 
-  content_takes_none : (text : List ℕ) (content : RangeContent) → unquoted text ≡ true → content_takes read takes text content ≡ false
+  content_takes_none : (text : List ℕ) (content : RangeContent) → none_copied (copies_of Range text) ≡ true → content_takes read takes text content ≡ false
   content_takes_none text empty plain = refl
   content_takes_none text (parts nest) plain =
-      or_from (not (unquoted text)) _ (ap not plain)
-      (or_from (next_bound_takes takes nest.values) _ (next_takes_none nest.values)
-      (none_after (next_bound read nest.lower nest.values) (λ lower. next_bound_takes takes lower.1) (λ lower. next_takes_none lower.1)))
+      or_from (next_bound_takes takes (copies_of Range text) nest.values) _ (next_takes_none (copies_of Range text) nest.values plain)
+      (none_after (next_bound read nest.lower nest.values) (λ lower. next_bound_takes takes (drop 1 (copies_of Range text)) lower.1)
+      (λ lower. next_takes_none (drop 1 (copies_of Range text)) lower.1 (later_plain (copies_of Range text) plain)))
 
-  text_takes_none : (text : List ℕ) → unquoted text ≡ true → range_text_takes read takes text ≡ false
+  text_takes_none : (text : List ℕ) → none_copied (copies_of Range text) ≡ true → range_text_takes read takes text ≡ false
   text_takes_none text plain = none_after (range_content (chars text)) (content_takes read takes text) (λ content. content_takes_none text content plain)
 
 module _ {M : Type 0} (info : Ty) (reading : Reading M) (takes : Taking) (none : (t : Ty) (f : PgValueFormat) (bytes : Part) → takes t f bytes ≡ false) where

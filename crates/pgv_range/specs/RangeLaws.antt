@@ -3,7 +3,8 @@ use Rattle.std.specs.Prelude.{◌≡◌, ℕ, Bool, true, false, List, Option, S
 use Rattle.pgv_types.specs.Ty.{Ty}
 use Rattle.pgv_types.specs.Facts.{is_custom}
 use Rattle.pgv_types.specs.declared.oid.Oid.{Oid}
-use Rattle.pgv_text.specs.Unquoted.{unquoted}
+use Rattle.pgv_text.specs.Copies.{copies_of, none_copied}
+use Rattle.pgv_text.specs.declared.scanner.TextForm.TheVariants.{Range}
 use Rattle.pgv_value.specs.FrameBinary.{Part}
 use Rattle.pgv_value.specs.Reading.{Reading}
 use Rattle.pgv_value.specs.declared.value.PgValueFormat.TheVariants.{Text, Binary}
@@ -27,9 +28,9 @@ abbrev pub RangeFieldComesBack : {X M : Type 0} → (X → ℕ) → (X → Optio
 RangeFieldComesBack hint image element reading meaning kept info accepts fits =
     FieldReadsBack info (λ r. None) (λ r. 0) (range_image hint image) accepts (range element reading) (λ r. range_meaning meaning (range_kept kept r)) fits
 
--- memory may be asked for only to copy: in binary a custom type that the range is over, in text a part, only where a quote or a
--- backslash stands anywhere in it
+-- memory may be asked for only to copy: in binary a custom type that the range is over, in text a part that doesn't stand in it as
+-- it is
 abbrev pub TakesOnlyForCopies : Taking → Type 0
 TakesOnlyForCopies takes =
     ((t u : Ty) (bytes : Part) → IsRangeOver t u → is_custom u ≡ false → takes t Binary bytes ≡ false)
-    × ((t : Ty) (text : List ℕ) → unquoted text ≡ true → takes t Text (Some text) ≡ false)
+    × ((t : Ty) (text : List ℕ) → none_copied (copies_of Range text) ≡ true → takes t Text (Some text) ≡ false)

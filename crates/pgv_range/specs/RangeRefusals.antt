@@ -4,17 +4,18 @@
 -- its frame, or its value. Read in text: C14 where it isn't UTF-8, C29 where it isn't a range, and then the first bound that isn't
 -- read. Null is C13.
 -- Memory is asked for only by the values of the bounds that are read, and for copies: in binary of a custom type that the range is
--- over, after the frame of a bound; in text of a part, only where a quote or a backslash stands anywhere in a range with parts. Where
--- none may be asked for (`range_takes`), each refusal is answered as itself.
-use Rattle.std.specs.Prelude.{ℕ, Bool, false, not, ◌&&◌, ◌||◌, List, [], ◌∷◌, Option, Some, None, if◌then◌else◌}
+-- over, after the frame of a bound; in text of a part that doesn't stand in the text as it is. Where none may be asked for
+-- (`range_takes`), each refusal is answered as itself.
+use Rattle.std.specs.Prelude.{ℕ, Bool, false, ◌&&◌, ◌||◌, List, [], ◌∷◌, drop, Option, Some, None, if◌then◌else◌}
 use Rattle.std.specs.Str.{chars}
 use Rattle.std.specs.declared.ops.Bound.{Bound}
 use Rattle.std.specs.declared.ops.Bound.TheVariants.{Included, Excluded, Unbounded}
 use Rattle.pgv_types.specs.Ty.{Ty}
 use Rattle.pgv_types.specs.Facts.{is_custom}
 use Rattle.pgv_text.specs.ContentText.{RangeContent, empty as empty_text, parts as parts_text, range_content}
+use Rattle.pgv_text.specs.Copies.{copies_of, first_copied}
 use Rattle.pgv_text.specs.NestText.{Nest}
-use Rattle.pgv_text.specs.Unquoted.{unquoted}
+use Rattle.pgv_text.specs.declared.scanner.TextForm.TheVariants.{Range}
 use Rattle.pgv_value.specs.FrameBinary.{Part, front, frame_fault}
 use Rattle.pgv_value.specs.Reading.{Reading}
 use Rattle.pgv_value.specs.Utf8.{is_utf8}
@@ -117,9 +118,10 @@ module _ (takes : Part → Bool) where
   bound_text_takes None = false
   bound_text_takes (Some text) = takes (Some text)
 
-  abbrev pub next_bound_takes : List Part → Bool
-  next_bound_takes [] = false
-  next_bound_takes (part ∷ parts) = bound_text_takes part
+  -- where its part is copied, and where its value asks
+  abbrev pub next_bound_takes : List Bool → List Part → Bool
+  next_bound_takes copied [] = false
+  next_bound_takes copied (part ∷ parts) = first_copied copied || bound_text_takes part
 
 -- of both, of the upper one not before the lower one is read
 module _ {M : Type 0} (read : Part → Option M) (takes : Part → Bool) where
@@ -134,13 +136,13 @@ module _ {M : Type 0} (read : Part → Option M) (takes : Part → Bool) where
   bytes_take [] = false
   bytes_take (flags ∷ rest) = form_takes (form_of flags) rest
 
-  abbrev pub bounds_text_take : Nest → Bool
-  bounds_text_take nest = next_bound_takes takes nest.values || refusal_or false (next_bound read nest.lower nest.values) (λ lower. next_bound_takes takes lower.1)
+  abbrev pub bounds_text_take : List Bool → Nest → Bool
+  bounds_text_take copied nest =
+      next_bound_takes takes copied nest.values || refusal_or false (next_bound read nest.lower nest.values) (λ lower. next_bound_takes takes (drop 1 copied) lower.1)
 
-  -- where there is a quote or a backslash, a part may be copied
   abbrev pub content_takes : List ℕ → RangeContent → Bool
   content_takes text empty_text = false
-  content_takes text (parts_text nest) = not (unquoted text) || bounds_text_take nest
+  content_takes text (parts_text nest) = bounds_text_take (copies_of Range text) nest
 
   abbrev pub range_text_takes : List ℕ → Bool
   range_text_takes text = refusal_or false (range_content (chars text)) (content_takes text)

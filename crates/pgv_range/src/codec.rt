@@ -1,10 +1,10 @@
 //! What ranges are written as and read of, whatever their bounds are (PostgreSQL, "Range Types"; the binary form is that of its source,
 //! range_send).
 
-ghost use Rattle.std.specs.Prelude.{◌≡◌, IfOk, IfErr, OnOk, OnErr, Some, None, false, true};
+ghost use Rattle.std.specs.Prelude.{◌≡◌, IfOk, IfErr, OnOk, OnErr, Some, None, drop, false};
 ghost use Rattle.std.specs.Range.Bound.{bound_map};
 ghost use Rattle.pgv_types.specs.Parts.{ref_type};
-ghost use Rattle.pgv_text.specs.PartsView.{is_unquoted, nest};
+ghost use Rattle.pgv_text.specs.PartsView.{copies, nest};
 ghost use Rattle.pgv_value.specs.Reading.{Answers, AnswersExactly, Refuses};
 ghost use Rattle.pgv_value.specs.declared.error.CodecError.TheVariants.{NotARange};
 ghost use Rattle.pgv_value.specs.declared.value.PgValueFormat.TheVariants.{Binary, Text};
@@ -247,9 +247,9 @@ fn read_text<T: Decode + Type>(alloc: Global, text: &str) -> Result<PgRange<T>, 
 /// The two parts of a range, each read under the own type of `T`.
 fn read_parts<T: Decode + Type>(alloc: Global, parts: Parts<'_>) -> Result<PgRange<T>, CodecError>
     ensures exact { Answers (range_meaning T.meaning) (bounds_in_text (T.reading T.info Text) (nest parts.entry)) result }
-    ensures exactly { is_unquoted parts.entry ≡ true → bounds_text_take (T.reading T.info Text) (T.takes_memory T.info Text) (nest parts.entry) ≡ false → AnswersExactly (range_meaning T.meaning) (bounds_in_text (T.reading T.info Text) (nest parts.entry)) result }
+    ensures exactly { bounds_text_take (T.reading T.info Text) (T.takes_memory T.info Text) (copies parts.entry) (nest parts.entry) ≡ false → AnswersExactly (range_meaning T.meaning) (bounds_in_text (T.reading T.info Text) (nest parts.entry)) result }
     ensures refused { RefusedFor (bounds_text_refusal (T.reading T.info Text) (T.refusal T.info Text) (nest parts.entry)) result }
-    ensures refused_exactly { is_unquoted parts.entry ≡ true → bounds_text_take (T.reading T.info Text) (T.takes_memory T.info Text) (nest parts.entry) ≡ false → RefusedExactly (bounds_text_refusal (T.reading T.info Text) (T.refusal T.info Text) (nest parts.entry)) result }
+    ensures refused_exactly { bounds_text_take (T.reading T.info Text) (T.takes_memory T.info Text) (copies parts.entry) (nest parts.entry) ≡ false → RefusedExactly (bounds_text_refusal (T.reading T.info Text) (T.refusal T.info Text) (nest parts.entry)) result }
 {
     let (lower_included, upper_included) = parts.includes();
     let mut parts = parts;
@@ -259,7 +259,7 @@ fn read_parts<T: Decode + Type>(alloc: Global, parts: Parts<'_>) -> Result<PgRan
     Ok(PgRange::Bounds { start, end })
 }
 
-/// The bound of the next part. One in quotes is read from this text; without quotes and backslashes only its value asks for memory.
+/// The bound of the next part. One that is copied is read from this text; for another only its value asks for memory.
 fn next_bound_of<T: Decode + Type>(
     alloc: Global,
     parts: &mut Parts<'_>,
@@ -268,10 +268,10 @@ fn next_bound_of<T: Decode + Type>(
 ) -> Result<Bound<T>, CodecError>
     ensures ok { IfOk result (λ b. next_bound (T.reading T.info Text) included (nest parts.old).values ≡ Some (bound_map T.meaning b, (nest parts.new).values)) }
     ensures err { IfErr result (λ e. Refuses e (next_bound (T.reading T.info Text) included (nest parts.old).values ≡ None)) }
-    ensures exactly { is_unquoted parts.old ≡ true → next_bound_takes (T.takes_memory T.info Text) (nest parts.old).values ≡ false → IfErr result (λ e. next_bound (T.reading T.info Text) included (nest parts.old).values ≡ None) }
+    ensures exactly { next_bound_takes (T.takes_memory T.info Text) (copies parts.old) (nest parts.old).values ≡ false → IfErr result (λ e. next_bound (T.reading T.info Text) included (nest parts.old).values ≡ None) }
     ensures refused { RefusedFor (next_bound_refusal (T.reading T.info Text) (T.refusal T.info Text) (nest parts.old).values) result }
-    ensures refused_exactly { is_unquoted parts.old ≡ true → next_bound_takes (T.takes_memory T.info Text) (nest parts.old).values ≡ false → RefusedExactly (next_bound_refusal (T.reading T.info Text) (T.refusal T.info Text) (nest parts.old).values) result }
-    ensures in_place { is_unquoted parts.old ≡ true → is_unquoted parts.new ≡ true }
+    ensures refused_exactly { next_bound_takes (T.takes_memory T.info Text) (copies parts.old) (nest parts.old).values ≡ false → RefusedExactly (next_bound_refusal (T.reading T.info Text) (T.refusal T.info Text) (nest parts.old).values) result }
+    ensures copies { OnOk result (copies parts.new ≡ drop 1 (copies parts.old)) }
 {
     let Some(part) = parts.next_borrowed(text)? else {
         return Err(CodecError::Syntax);

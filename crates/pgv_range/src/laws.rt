@@ -84,7 +84,7 @@ pub fn ranges_are_their_bounds<T: ReadBack + Type>()
 {}
 
 /// Where reading a bound never asks for memory, reading a range asks only for copies: in binary of a custom type that the range is over,
-/// in text of a part, only where a quote or a backslash stands anywhere in it.
+/// in text of a part that doesn't stand in it as it is.
 pub fn ranges_take_only_for_copies<T: Decode + Type>()
     ensures { ((t : Ty) (f : Format) (bytes : Part) → T.takes_memory t f bytes ≡ false) → TakesOnlyForCopies ⟦<PgRange<T> as Decode>⟧.takes_memory }
 {}
