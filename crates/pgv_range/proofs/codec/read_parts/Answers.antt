@@ -8,7 +8,7 @@ use Rattle.pgv_value.specs.FrameBinary.{Part}
 use Rattle.pgv_value.specs.declared.error.CodecError.{CodecError}
 use Rattle.pgv_value.specs.declared.value.PgValueFormat.TheVariants.{Text}
 use Rattle.pgv_codec.proofs.Refusing.{stated_of_part}
-use Rattle.pgv_range.specs.RangeGrammar.{next_bound}
+use Rattle.pgv_range.specs.RangeGrammar.{bounds_in_text, next_bound}
 use Rattle.pgv_nest.specs.NestRefusals.{refusal_or}
 use Rattle.pgv_range.specs.RangeRefusals.{bounds_text_refusal, bounds_text_take, next_bound_refusal, next_bound_takes}
 use Rattle.pgv_range.proofs.codec.read_parts.Goals as goal
@@ -67,3 +67,33 @@ returns-in_err-end-clause-refused_exactly g c = λ none_taken.
     let own = end_takes read takes (copies c.args.parts) (copies c.next_bound_of.new.parts) whole c.includes-lower_included.result.0 later lower c.in_ok-start.ensures.copies c.in_ok-start.ensures.ok none_taken in
     rw (p.1, p.2, end_refused read why whole c.includes-lower_included.result.0 later lower c.in_ok-start.ensures.ok)
     (c.in_err-end.ensures.refused_exactly own)
+
+start_unread : {M : Type 0} (read : Part → Option M) (whole : Nest) (included : Bool) → included ≡ whole.lower → next_bound read included whole.values ≡ None → bounds_in_text read whole ≡ None
+start_unread read whole included same none = rw (← same, none) refl
+
+end_unread : {M : Type 0} (read : Part → Option M) (whole : Nest) (lower upper : Bool) (later : List Part) {b : Bound M} → lower ≡ whole.lower → upper ≡ whole.upper →
+    next_bound read lower whole.values ≡ Some (b, later) → next_bound read upper later ≡ None → bounds_in_text read whole ≡ None
+end_unread read whole lower upper later same also found none = rw (← same, found, ← also, none) refl
+
+pub returns-in_err-start-clause-exactly : goal.returns-in_err-start-clause-exactly
+returns-in_err-start-clause-exactly g c = λ none_taken.
+    let read = g.T.Decode.reading g.T.Type.info Text in
+    let takes = g.T.Decode.takes_memory g.T.Type.info Text in
+    let whole = nest c.args.parts in
+    let lower = ap (λ (p : Bool × Bool). p.0) c.includes-lower_included.ensures in
+    let own = start_takes read takes (copies c.args.parts) whole none_taken in
+    let p = err_from_is_err_and c.from_residual.result c.from_residual.ensures.1 in
+    rw p.1 (start_unread read whole c.includes-lower_included.result.0 lower (c.in_err-start.ensures.exactly own))
+
+pub returns-in_err-end-clause-exactly : goal.returns-in_err-end-clause-exactly
+returns-in_err-end-clause-exactly g c = λ none_taken.
+    let read = g.T.Decode.reading g.T.Type.info Text in
+    let takes = g.T.Decode.takes_memory g.T.Type.info Text in
+    let whole = nest c.args.parts in
+    let later = (nest c.next_bound_of.new.parts).values in
+    let lower = ap (λ (p : Bool × Bool). p.0) c.includes-lower_included.ensures in
+    let upper = ap (λ (p : Bool × Bool). p.1) c.includes-lower_included.ensures in
+    let own = end_takes read takes (copies c.args.parts) (copies c.next_bound_of.new.parts) whole c.includes-lower_included.result.0 later lower c.in_ok-start.ensures.copies c.in_ok-start.ensures.ok none_taken in
+    let p = err_from_is_err_and c.from_residual-in_err-end.result c.from_residual-in_err-end.ensures.1 in
+    rw p.1
+    (end_unread read whole c.includes-lower_included.result.0 c.includes-lower_included.result.1 later lower upper c.in_ok-start.ensures.ok (c.in_err-end.ensures.exactly own))
