@@ -66,9 +66,9 @@ option_asks_first asks_first None = true
 option_asks_first asks_first (Some x) = asks_first x
 
 -- whether the type of a list's elements is copied, which may be refused: where the first one produces a custom type
-abbrev pub first_copied : {X : Type 0} → (X → Option Ty) → List X → Bool
-first_copied produced [] = false
-first_copied produced (x ∷ xs) = is_copied (produced x)
+abbrev pub first_type_copied : {X : Type 0} → (X → Option Ty) → List X → Bool
+first_type_copied produced [] = false
+first_type_copied produced (x ∷ xs) = is_copied (produced x)
 
 -- ---- read
 

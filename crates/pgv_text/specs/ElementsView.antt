@@ -24,8 +24,8 @@ is_end (Some []) = true
 is_end (Some (value ∷ values)) = false
 
 -- whether the next element is copied: it doesn't stand in the text as it is
-abbrev pub is_copied : Elements → Bool
-is_copied e = not (e.ended || as_it_is array_form e.rest.now)
+abbrev pub element_copied : Elements → Bool
+element_copied e = not (e.ended || as_it_is array_form e.rest.now)
 
 -- how far the end is at most
 abbrev pub distance : Elements → ℕ

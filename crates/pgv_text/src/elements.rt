@@ -3,7 +3,7 @@
 ghost use Rattle.std.specs.Prelude.{◌≡◌, ◌<◌, ℕ, List, IfOk, None, OnErr, false, length, string_bytes, true};
 ghost use Rattle.std.specs.Option.{MatchOption};
 ghost use Rattle.pgv_text.specs.ArrayText.{array_form};
-ghost use Rattle.pgv_text.specs.ElementsView.{Follows, ahead, is_copied, is_end};
+ghost use Rattle.pgv_text.specs.ElementsView.{Follows, ahead, element_copied, is_end};
 ghost use Rattle.pgv_text.specs.PartFound.{IsEndOf, halts, part_value};
 ghost use Rattle.pgv_text.specs.Scan.{value_here};
 ghost use Rattle.pgv_text.specs.Values.{array_values};
@@ -87,7 +87,7 @@ impl<'a> Elements<'a> {
         ensures next { IfOk result (λ next. Follows next (string_bytes text.new) self.old self.new) }
         ensures err { OnErr result (self.new ≡ self.old) }
         // Only for an element that is copied memory is asked for.
-        ensures copied { OnErr result (is_copied self.old ≡ true) }
+        ensures copied { OnErr result (element_copied self.old ≡ true) }
     {
         if self.ended {
             return Ok(Next::End);

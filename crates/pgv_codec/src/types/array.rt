@@ -10,7 +10,7 @@ ghost use Rattle.pgv_nest.specs.ArrayGrammar.{array, array_in_text, array_of, fr
 ghost use Rattle.pgv_nest.specs.NestRefusals.{array_bytes_refusal, array_refusal, array_takes, array_text_refusal, frames_refusal as frames_read_refusal, has_elements, has_room, head_takes, is_copied, where_dimension, array_of_length_refusal};
 ghost use Rattle.pgv_codec.specs.Image.{array_image, or_else, header, written_frames, written_element_type, sized_image};
 ghost use Rattle.pgv_codec.specs.Outcome.{Encoded, Refused, Appended, AppendedAll};
-ghost use Rattle.pgv_codec.specs.Refusing.{RefusedExactly, RefusedFor, array_asks_first, array_refused, first_copied, frames_refused};
+ghost use Rattle.pgv_codec.specs.Refusing.{RefusedExactly, RefusedFor, array_asks_first, array_refused, first_type_copied, frames_refused};
 ghost use Rattle.pgv_codec.specs.Saying.{array_written, sized_written, array_agrees, sized_agrees};
 ghost use Rattle.pgv_codec.specs.Back.{ArrayFits};
 ghost use Rattle.pgv_codec.specs.BackNests.{vec_back, sized_back};
@@ -51,7 +51,7 @@ pub fn encode_array<T: Encode + Type>(
 #[inline(always)]
 fn type_of_elements<T: Encode + Type>(values: &[T]) -> Result<PgTypeInfo, AllocError>
     ensures ok { IfOk result (λ t. t ≡ written_element_type T.produced T.info values.now) }
-    ensures err { OnErr result (first_copied T.produced values.now ≡ true) }
+    ensures err { OnErr result (first_type_copied T.produced values.now ≡ true) }
 {
     match values.first() {
         None => Ok(T::type_info()),
