@@ -1,19 +1,15 @@
 -- A text without quotes and backslashes: each part stands in it as it is.
-use Rattle.std.proofs.Common.{◌≡◌, ℕ, Bool, true, false, not, cond, ◌&&◌, ◌||◌, ◌==◌, List, [], ◌∷◌, Option, Some, None, is_some, ap, sym, ◌∙◌, refl, subst}
+use Rattle.std.proofs.Common.{◌≡◌, ℕ, Bool, true, false, not, cond, ◌||◌, ◌==◌, List, [], ◌∷◌, Option, Some, None, is_some, ap, sym, ◌∙◌, refl, subst}
 use Rattle.std.specs.Option.{option_and_then, option_map}
-use Rattle.std.specs.Str.{IsUtf8, chars}
 use Rattle.std.proofs.lemmas.Bool.{and_parts, false≢true}
-use Rattle.pgv_text.specs.declared.scanner.TextForm.{TextForm}
-use Rattle.pgv_text.specs.declared.scanner.TextForm.TheVariants.{Array, Range, Record}
 use Rattle.pgv_text.specs.declared.scanner.Class.{Class}
 use Rattle.pgv_text.specs.declared.scanner.Class.TheVariants.{Quote, Backslash, Comma, Open, Close, Other}
 use Rattle.pgv_text.specs.declared.scanner.Place.{Place}
 use Rattle.pgv_text.specs.declared.scanner.Place.TheVariants.{Start, Outside}
 use Rattle.pgv_text.specs.NestText.{Form}
 use Rattle.pgv_text.specs.Forms.{form_of}
-use Rattle.pgv_text.specs.Parsed.{nest_of}
-use Rattle.pgv_text.specs.Scan.{Rest, class, outside_cell, nest_read, read, read_by}
-use Rattle.pgv_text.specs.Copies.{UnquotedIsNotCopied, as_it_is, bare, bare_by, closes_at_once, copies_after, copies_by, copies_from, copies_of, next_copies, none_copied, unquoted}
+use Rattle.pgv_text.specs.Scan.{class, outside_cell, read, read_by}
+use Rattle.pgv_text.specs.Copies.{UnquotedIsNotCopied, bare, bare_by, closes_at_once, copies_after, copies_by, copies_from, next_copies, none_copied, unquoted}
 use Rattle.pgv_text.proofs.Bytes.{nest_bytes}
 use Rattle.pgv_text.proofs.Classes.{says}
 use Rattle.pgv_text.proofs.Copies.{bare_is, outside, outside_is}
