@@ -4,8 +4,8 @@
 
 use pgv::types::PgLTree;
 use pgv::{
-    Codec, CodecError, Decode, Encode, IsNull, PgArgumentBuffer, PgHasArrayType, PgRecordEncoder,
-    PgTypeInfo, PgValueRef, ReadBack, Type,
+    Codec, CodecError, Decode, Encode, IsNull, KeptList, PgArgumentBuffer, PgHasArrayType,
+    PgRecordEncoder, PgTypeInfo, PgValueRef, ReadBack, Type,
 };
 use std::alloc::{AllocError, Global};
 
@@ -104,16 +104,20 @@ impl Decode for Page {
     }
 }
 
-/// A page comes back where each field does: a path without labels as one empty label.
+/// A page comes back where each field does, as the list of its fields says: a path without labels as one empty label.
 impl ReadBack for Page {
     ghost use Rattle.std.specs.Prelude.{[]};
-    ghost use Rattle.pgv.specs.Words.{FieldFits, FieldsFit, last_back, further_back, record_back, int4_back, tree_back, tree_kept};
+    ghost use Rattle.pgv.specs.Words.{last_back, further_back, record_back, int4_back, tree_back, tree_kept};
 
     ghost kept = { λ v. record { id = v.id; path = tree_kept v.path } };
 
-    ghost fits = { λ v t oids. FieldsFit ⟦<i32 as Type>⟧.info ⟦<i32 as Encode>⟧.produced ⟦<i32 as Encode>⟧.hint ⟦<i32 as Encode>⟧.image ⟦<i32 as Type>⟧.accepts ⟦<i32 as ReadBack>⟧.fits v.id (FieldFits ⟦<PgLTree as Type>⟧.info ⟦<PgLTree as Encode>⟧.produced ⟦<PgLTree as Encode>⟧.image ⟦<PgLTree as Type>⟧.accepts ⟦<PgLTree as ReadBack>⟧.fits v.path) t 0 oids };
+    ghost fits = { λ v t oids. ⟦<(i32, (PgLTree,)) as KeptList>⟧.fits (v.id, record { 0 = v.path }) t 0 oids };
 
-    ghost reads_back = { λ v. record_back (further_back ⟦<i32 as Type>⟧.info ⟦<i32 as Encode>⟧.produced ⟦<i32 as Encode>⟧.hint ⟦<i32 as Encode>⟧.image ⟦<i32 as Type>⟧.accepts ⟦<i32 as Decode>⟧.reading ⟦<i32 as Decode>⟧.meaning ⟦<i32 as ReadBack>⟧.fits int4_back v.id (last_back ⟦<PgLTree as Type>⟧.info ⟦<PgLTree as Encode>⟧.produced ⟦<PgLTree as Encode>⟧.hint ⟦<PgLTree as Encode>⟧.image ⟦<PgLTree as Type>⟧.accepts ⟦<PgLTree as Decode>⟧.reading tree_kept ⟦<PgLTree as ReadBack>⟧.fits tree_back v.path [])) };
+    ghost reads_back = { λ v. record_back
+        (further_back ⟦<i32 as Type>⟧.info ⟦<i32 as Encode>⟧.produced ⟦<i32 as Encode>⟧.hint ⟦<i32 as Encode>⟧.image ⟦<i32 as Type>⟧.accepts
+        ⟦<i32 as Decode>⟧.reading ⟦<i32 as Decode>⟧.meaning ⟦<i32 as ReadBack>⟧.fits int4_back v.id
+        (last_back ⟦<PgLTree as Type>⟧.info ⟦<PgLTree as Encode>⟧.produced ⟦<PgLTree as Encode>⟧.hint ⟦<PgLTree as Encode>⟧.image ⟦<PgLTree as Type>⟧.accepts
+        ⟦<PgLTree as Decode>⟧.reading tree_kept ⟦<PgLTree as ReadBack>⟧.fits tree_back v.path [])) };
 }
 
 impl Codec for Page {

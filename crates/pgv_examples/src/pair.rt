@@ -6,7 +6,7 @@ ghost use Rattle.std.specs.Prelude.{List};
 ghost use Rattle.pgv.specs.Words.{Ty, Oid, Followed, field, FieldIsPlain};
 
 use pgv::{
-    Codec, CodecError, Decode, Encode, IsNull, PgArgumentBuffer, PgRecordEncoder, PgType,
+    Codec, CodecError, Decode, Encode, IsNull, KeptList, PgArgumentBuffer, PgRecordEncoder, PgType,
     PgTypeInfo, PgValueRef, ReadBack, Type,
 };
 use std::alloc::{AllocError, Global};
@@ -82,16 +82,18 @@ impl<A: Type + Decode, B: Type + Decode> Decode for Pair<A, B> {
     }
 }
 
-/// A pair comes back where each field does.
+/// A pair comes back where each field does, as the list of its fields says.
 impl<A: ReadBack + Type, B: ReadBack + Type> ReadBack for Pair<A, B> {
     ghost use Rattle.std.specs.Prelude.{[]};
-    ghost use Rattle.pgv.specs.Words.{FieldFits, FieldsFit, last_back, further_back, record_back};
+    ghost use Rattle.pgv.specs.Words.{last_back, further_back, record_back};
 
     ghost kept = { λ v. record { first = A.kept v.first; second = B.kept v.second } };
 
-    ghost fits = { λ v t oids. FieldsFit A.info A.produced A.hint A.image A.accepts A.fits v.first (FieldFits B.info B.produced B.image B.accepts B.fits v.second) t 0 oids };
+    ghost fits = { λ v t oids. ⟦<(A, (B,)) as KeptList>⟧.fits (v.first, record { 0 = v.second }) t 0 oids };
 
-    ghost reads_back = { λ v. record_back (further_back A.info A.produced A.hint A.image A.accepts A.reading (λ x. A.meaning (A.kept x)) A.fits A.reads_back v.first (last_back B.info B.produced B.hint B.image B.accepts B.reading (λ x. B.meaning (B.kept x)) B.fits B.reads_back v.second [])) };
+    ghost reads_back = { λ v. record_back
+        (further_back A.info A.produced A.hint A.image A.accepts A.reading (λ x. A.meaning (A.kept x)) A.fits A.reads_back v.first
+        (last_back B.info B.produced B.hint B.image B.accepts B.reading (λ x. B.meaning (B.kept x)) B.fits B.reads_back v.second [])) };
 }
 
 /// A pair comes back under a composite type, a domain of one or `record`, where the OID of the type at each place was written,

@@ -93,14 +93,14 @@ yields_more columns a b c (x ∷ xs) row text h s t = (h.0, h.1, h.2, h.3, yield
 
 pub row_more : (w : Option (List Row)) (types : List Ty) (rest : List ℕ) (texts texts' : List (List ℕ)) (b c : Copying) (row : List Given) (text : Text) → YieldsIn w types rest texts b → step b ≡ Ok (Some row, c) → ShowsRow w row (Said text) →
     texts' ≡ texts ++ string_bytes text ∷ [] → YieldsIn w types rest texts' c
-row_more None types rest texts texts' b c row text y s t p = tt
-row_more (Some columns) types rest texts texts' b c row text y s t p =
+row_more None column_types rest texts texts' b c row text y s t p = tt
+row_more (Some columns) column_types rest texts texts' b c row text y s t p =
     λ e. subst (λ (ts : List (List ℕ)). Yields columns (before (infos columns) rest) ts c) (sym p) (yields_more columns (before (infos columns) rest) b c texts row (string_bytes text) (y e) s t)
 
 ends : (w : Option (List Row)) (types : List Ty) (bytes rest : List ℕ) (texts : List (List ℕ)) (reader : Copying) (answer : List ℕ) → header bytes ≡ Ok rest → YieldsIn w types rest texts reader →
     ((columns : List Row) → w ≡ Some columns → EndsWith columns texts (step reader) answer) → CopiesIn w types (header bytes) answer
-ends None types bytes rest texts reader answer hd y a = tt
-ends (Some columns) types bytes rest texts reader answer hd y a =
+ends None column_types bytes rest texts reader answer hd y a = tt
+ends (Some columns) column_types bytes rest texts reader answer hd y a =
     λ e. subst (λ (r : Read (List ℕ)). CopiesFrom columns r answer) (sym hd) (texts, reader, y e, a columns refl)
 
 pub all_rows : (w : Option (List Row)) (types : List Ty) (bytes rest : List ℕ) (texts : List (List ℕ)) (reader next : Copying) (answer : List ℕ) → header bytes ≡ Ok rest → YieldsIn w types rest texts reader → step reader ≡ Ok (None, next) →
@@ -127,7 +127,7 @@ stream_stops w types bytes rest texts reader e answer hd y s n t =
 
 pub stream_refused : (w : Option (List Row)) (types : List Ty) (bytes rest : List ℕ) (texts : List (List ℕ)) (reader : Copying) (e : CodecError) (r : Result Text AllocError) → header bytes ≡ Ok rest → YieldsIn w types rest texts reader →
     Refuses e (step reader ≡ Err e) → IfOk r (λ text. e ≢ Memory) → IfOk r (λ text. string_bytes text ≡ refused (code_of e)) → IfOk r (λ text. CopiesIn w types (header bytes) (string_bytes text))
-stream_refused w types bytes rest texts reader e (Err x) hd y s n t = tt
-stream_refused w types bytes rest texts reader e (Ok text) hd y s n t = stream_stops w types bytes rest texts reader e (string_bytes text) hd y s n t
+stream_refused w column_types bytes rest texts reader e (Err x) hd y s n t = tt
+stream_refused w column_types bytes rest texts reader e (Ok text) hd y s n t = stream_stops w column_types bytes rest texts reader e (string_bytes text) hd y s n t
 
 -- ---- the line
