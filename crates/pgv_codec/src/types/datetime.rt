@@ -1,7 +1,8 @@
 //! Date-times without a time zone (PostgreSQL, "Date/Time Types", timestamp).
 
 ghost use Rattle.pgv_types.specs.Ty.{builtin};
-ghost use Rattle.std.specs.Prelude.{◌≡◌, ℤ, refl};
+ghost use Rattle.std.specs.Prelude.{◌≡◌, FitsSigned, ℤ, refl};
+ghost use Rattle.std.specs.Int.{w64};
 ghost use Rattle.jiff.specs.Words.{civil_nanos};
 ghost use Rattle.pgv_value.specs.DateTimeBinary.{date_time_reading, date_time_refusal};
 ghost use Rattle.pgv_codec.specs.DateTimeBinary.{micros_of, moment_image};
@@ -15,11 +16,13 @@ use pgv_types::{PgType, PgTypeInfo};
 use pgv_value::{CodecError, FIRST_NANOSECOND, PgValueRef, read_date_time};
 use std::alloc::Global;
 
-/// The microseconds from 2000-01-01 00:00; what is less is cut off, towards that moment.
-fn micros_from_2000(at: DateTime) -> i64
-    ensures { result ≡ micros_of (civil_nanos at) }
+/// The microseconds from 2000-01-01 00:00 to so many nanoseconds after 1970-01-01 00:00; what is less is cut off, towards the former.
+#[inline(always)]
+pub(crate) fn micros_from_2000(nanos: i128) -> i64
+    requires { FitsSigned w64 (micros_of nanos) }
+    ensures { result ≡ micros_of nanos }
 {
-    ((at.to_plain().to_nanosecond() - FIRST_NANOSECOND) / 1000) as i64
+    ((nanos - FIRST_NANOSECOND) / 1000) as i64
 }
 
 impl HasBuiltIn for DateTime {}
@@ -44,7 +47,7 @@ impl Scalar for DateTime {
 
     #[inline(always)]
     fn write(&self, out: &mut PgArgumentBuffer) -> Result<IsNull, CodecError> {
-        write_i64(micros_from_2000(*self), out)
+        write_i64(micros_from_2000(self.to_plain().to_nanosecond()), out)
     }
 }
 
