@@ -1,29 +1,20 @@
 //! Date-times without a time zone (PostgreSQL, "Date/Time Types", timestamp).
 
 ghost use Rattle.pgv_types.specs.Ty.{builtin};
-ghost use Rattle.std.specs.Prelude.{◌≡◌, FitsSigned, ℤ, refl};
-ghost use Rattle.std.specs.Int.{w64};
+ghost use Rattle.std.specs.Prelude.{ℤ, refl};
 ghost use Rattle.jiff.specs.Words.{civil_nanos};
 ghost use Rattle.pgv_value.specs.DateTimeBinary.{date_time_reading, date_time_refusal};
-ghost use Rattle.pgv_codec.specs.DateTimeBinary.{micros_of, moment_image};
+ghost use Rattle.pgv_codec.specs.DateTimeBinary.{moment_image};
 ghost use Rattle.pgv_codec.specs.WithHint.{with_hint};
 
 use super::int::write_i64;
+use super::timestamp::micros_from_2000;
 use crate::buffer::{IsNull, PgArgumentBuffer};
 use crate::traits::{BuiltIn, HasBuiltIn, Of, Plain, Scalar};
 use jiff::civil::DateTime;
 use pgv_types::{PgType, PgTypeInfo};
-use pgv_value::{CodecError, FIRST_NANOSECOND, PgValueRef, read_date_time};
+use pgv_value::{CodecError, PgValueRef, read_date_time};
 use std::alloc::Global;
-
-/// The microseconds from 2000-01-01 00:00 to so many nanoseconds after 1970-01-01 00:00; what is less is cut off, towards the former.
-#[inline(always)]
-pub(crate) fn micros_from_2000(nanos: i128) -> i64
-    requires { FitsSigned w64 (micros_of nanos) }
-    ensures { result ≡ micros_of nanos }
-{
-    ((nanos - FIRST_NANOSECOND) / 1000) as i64
-}
 
 impl HasBuiltIn for DateTime {}
 /// `timestamp` (OID 1114), read under `timestamp` and domains over it. An array of them is `timestamp[]` (OID 1115).

@@ -1,19 +1,28 @@
 //! Instants (PostgreSQL, "Date/Time Types", timestamptz).
 
 ghost use Rattle.pgv_types.specs.Ty.{builtin};
-ghost use Rattle.std.specs.Prelude.{ℤ, refl};
+ghost use Rattle.std.specs.Int.{w64};
+ghost use Rattle.std.specs.Prelude.{◌≡◌, FitsSigned, ℤ, refl};
 ghost use Rattle.pgv_value.specs.DateTimeBinary.{instant_reading, date_time_refusal};
-ghost use Rattle.pgv_codec.specs.DateTimeBinary.{moment_image};
+ghost use Rattle.pgv_codec.specs.DateTimeBinary.{micros_of, moment_image};
 ghost use Rattle.pgv_codec.specs.WithHint.{with_hint};
 
-use super::datetime::micros_from_2000;
 use super::int::write_i64;
 use crate::buffer::{IsNull, PgArgumentBuffer};
 use crate::traits::{BuiltIn, HasBuiltIn, Of, Plain, Scalar};
 use jiff::Timestamp;
 use pgv_types::{PgType, PgTypeInfo};
-use pgv_value::{CodecError, PgValueRef, read_instant};
+use pgv_value::{CodecError, FIRST_NANOSECOND, PgValueRef, read_instant};
 use std::alloc::Global;
+
+/// The microseconds from 2000-01-01 00:00 to so many nanoseconds after 1970-01-01 00:00; what is less is cut off, towards the former.
+#[inline(always)]
+pub(crate) fn micros_from_2000(nanos: i128) -> i64
+    requires { FitsSigned w64 (micros_of nanos) }
+    ensures { result ≡ micros_of nanos }
+{
+    ((nanos - FIRST_NANOSECOND) / 1000) as i64
+}
 
 impl HasBuiltIn for Timestamp {}
 /// `timestamptz` (OID 1184), read under `timestamptz` and domains over it. An array of them is `timestamptz[]` (OID 1185).
