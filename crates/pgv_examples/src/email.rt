@@ -71,7 +71,7 @@ impl Encode for Email {
 
 /// Read as its text, and comes back as its text does.
 impl Plain for Email {
-    ghost use Rattle.std.specs.Prelude.{ℕ, List, is_some, string_bytes, refl};
+    ghost use Rattle.std.specs.Prelude.{ℕ, List, string_bytes, refl};
     ghost use Rattle.pgv.specs.Words.{plainly, text_back, text_image, text_reading, text_refusal};
 
     ghost Meaning = { List ℕ };
@@ -82,7 +82,7 @@ impl Plain for Email {
 
     ghost written = { plainly text_image };
 
-    ghost takes_memory = { λ t format bytes. is_some (text_reading t format bytes) };
+    ghost takes_memory = { ⟦<String as Decode>⟧.takes_memory };
 
     ghost refusal = { text_refusal };
 

@@ -29,6 +29,8 @@ pub struct PgLQueryVariant {
 }
 
 impl Model for PgLQueryVariant {
+    ghost use Rattle.std.specs.Prelude.{◌≡◌, true};
+    ghost use Rattle.pgv_ltree.specs.Labels.{is_label};
     ghost use Rattle.pgv_lquery.specs.Queries.{Variant};
     ghost use Rattle.pgv_lquery.specs.QueryCode.{variant_code};
 
@@ -37,6 +39,8 @@ impl Model for PgLQueryVariant {
     ghost coded = { variant_code };
 
     ghost view = { λ v. record { label = v.label; any_end = v.any_end; in_case = v.in_case; sublexeme = v.sublexeme } };
+
+    ghost invariant = { λ v. is_label v.label ≡ true };
 }
 
 /// Whether a character is a modifier.
@@ -112,7 +116,6 @@ impl PgLQueryVariant {
         ensures label { result.now ≡ self.now.label }
         ensures variant { is_variant self.now ≡ true }
     {
-        let _label = self.label.as_str();
         &self.label
     }
 

@@ -155,10 +155,10 @@ packs_part rest mid l e =
     let after : drop mid rest ≡ drop 8 rest = ap (λ (n : ℕ). drop n rest) (sym same) ∙ drop_min 8 rest in
     rw (front, after, number_of-take 8 rest) (packs_next rest l)
 
-pub packs_mapped : {A : Type 0} (set : A → Bool) (rest : List A) (mid : ℕ) → 0 < length rest → mid ≡ min (length rest) 8 →
-    packed (map set rest) ≡ number_of 8 (map set (take mid rest)) ∷ packed (map set (drop mid rest))
-packs_mapped set rest mid l e =
-    rw (packs_part (map set rest) mid (omega (arith, length-map rest set)) (omega (arith, length-map rest set)), take-map set mid rest, drop-map set mid rest) refl
+pub packs_chunk : {A : Type 0} (set : A → Bool) (rest chunk after : List A) → rest ≡ chunk ++ after → length chunk ≡ min 8 (length rest) → 0 < length rest →
+    packed (map set rest) ≡ number_of 8 (map set chunk) ∷ packed (map set after)
+packs_chunk set rest chunk after parts size some =
+    rw (packs_part (map set rest) (length chunk) (omega (arith, length-map rest set)) (omega (arith, length-map rest set)), take-map set (length chunk) rest, drop-map set (length chunk) rest, parts, take_at chunk after (length chunk) refl, drop_at chunk after (length chunk) refl) refl
 
 -- the last bit, taken off
 pub popped : (bits : List Bool) (last : ℕ) (o : Option Bool) → length bits ≡ last + 1 → o ≡ slice_get bits last → bits ≡ take last bits ++ option_to_list o

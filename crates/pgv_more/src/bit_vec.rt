@@ -1,12 +1,14 @@
 //! Lists of bits (PostgreSQL, "Bit String Types"), kept as bytes, eight bits to a byte, the first of them the highest.
 
-ghost use Rattle.std.specs.Prelude.{◌≡◌, ◌↔◌, ◌++◌, ◌+◌, ◌*◌, ◌%◌, ◌^◌, ◌<◌, ◌≤◌, ◌==◌, Bool, false, List, [], ◌∷◌, length, take, map, slice_get, is_some, IfOk, OnOk, OnErr, IsOk, IsSome, option_to_list};
+ghost use Rattle.std.specs.Prelude.{◌≡◌, ◌↔◌, ◌++◌, ◌+◌, ◌*◌, ◌%◌, ◌^◌, ◌<◌, ◌≤◌, ◌==◌, Bool, false, List, [], ◌∷◌, length, take, map, slice_get, IfOk, OnOk, OnErr, IsOk, IsSome, option_to_list};
+ghost use Rattle.pgv_value.specs.Reading.{has_items};
 ghost use Rattle.pgv_more.specs.Bits.{bits_of, byte_count, low_bits, number_of, packed};
 ghost use Rattle.std.specs.List.{list_all};
 ghost use Rattle.pgv_more.specs.BitsText.{bits_in_text, is_digit, is_one};
 
 mod codec;
 
+use crate::bytea::copy_of;
 use std::alloc::{AllocError, Global};
 use std::marker::Model;
 
@@ -42,10 +44,11 @@ impl BitVec {
         }
     }
 
-    /// These bits, the first of them first.
+    /// These bits, the first of them first. Where there is none, no memory is asked for.
     /// `[true, false, true]` is `101`.
     pub fn from_bits(alloc: Global, bits: Vec<bool>) -> Result<BitVec, AllocError>
-        ensures { IfOk result (λ b. b ≡ bits.items) }
+        ensures ok { IfOk result (λ b. b ≡ bits.items) }
+        ensures succeeds { bits.items ≡ [] → IsOk result }
     {
         Ok(BitVec {
             bytes: bytes_of(alloc, bits.as_slice())?,
@@ -53,37 +56,39 @@ impl BitVec {
         })
     }
 
-    /// All bits of these bytes, as `11111111 10000000` of `ff80`.
+    /// All bits of these bytes, as `11111111 10000000` of `ff80`. Where there is none, no memory is asked for.
     pub fn from_bytes(alloc: Global, bytes: &[u8]) -> Result<BitVec, AllocError>
-        ensures { IfOk result (λ b. b ≡ bits_of bytes.now) }
+        ensures ok { IfOk result (λ b. b ≡ bits_of bytes.now) }
+        ensures succeeds { bytes.now ≡ [] → IsOk result }
     {
         let Some(count) = bytes.len().checked_mul(8) else {
             return Err(AllocError);
         };
         Ok(BitVec {
-            bytes: Vec::from_slice(alloc, bytes)?,
+            bytes: copy_of(alloc, bytes)?,
             count,
         })
     }
 
-    /// The first `count` bits of bytes, which are as many as these bits need.
+    /// The first `count` bits of bytes, which are as many as these bits need. For no bits no memory is asked for.
     pub(crate) fn from_packed(
         alloc: Global,
         bytes: &[u8],
         count: usize,
     ) -> Result<BitVec, AllocError>
         requires { length bytes.now ≡ byte_count count }
-        ensures { IfOk result (λ b. b ≡ take count (bits_of bytes.now)) }
+        ensures ok { IfOk result (λ b. b ≡ take count (bits_of bytes.now)) }
+        ensures succeeds { count ≡ 0 → IsOk result }
     {
-        let mut bytes = Vec::from_slice(alloc, bytes)?;
+        let mut bytes = copy_of(alloc, bytes)?;
         cut(&mut bytes, count);
         Ok(BitVec { bytes, count })
     }
 
-    /// The bits of digits `0` and `1`, where there are only these, which is seen before memory is asked for.
+    /// The bits of digits `0` and `1`, where there are only these, which is seen before memory is asked for. For no bits none is.
     pub(crate) fn from_digits(alloc: Global, digits: &[u8]) -> Result<Option<BitVec>, AllocError>
         ensures bits { IfOk result (λ b. b ≡ bits_in_text digits.now) }
-        ensures digits { is_some (bits_in_text digits.now) ≡ false → IsOk result }
+        ensures succeeds { has_items (bits_in_text digits.now) ≡ false → IsOk result }
     {
         if !are_digits(digits) {
             return Ok(None);
@@ -233,16 +238,14 @@ fn byte_of<B: Bit>(bits: &[B]) -> u8
     byte
 }
 
-/// The bytes of bits.
+/// The bytes of bits. For no bits no memory is asked for.
 fn bytes_of<B: Bit>(alloc: Global, bits: &[B]) -> Result<Vec<u8>, AllocError>
-    ensures { IfOk result (λ v. v.items ≡ packed (map B.set bits.now)) }
+    ensures ok { IfOk result (λ v. v.items ≡ packed (map B.set bits.now)) }
+    ensures succeeds { bits.now ≡ [] → IsOk result }
 {
     let mut bytes = Vec::with_capacity(alloc, bits.len().div_ceil(8))?;
-    let mut rest = bits;
-    while !rest.is_empty() {
-        let (first, after) = rest.split_at(rest.len().min(8));
-        bytes.push(byte_of(first))?;
-        rest = after;
+    for chunk in bits.chunks(8) {
+        bytes.push(byte_of(chunk))?;
     }
     Ok(bytes)
 }

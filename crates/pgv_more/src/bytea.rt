@@ -1,7 +1,7 @@
 //! Strings of bytes (PostgreSQL, "Binary Data Types", bytea).
 
-ghost use Rattle.std.specs.Prelude.{◌≡◌, ◌%◌, ◌==◌, ◌&&◌, IfErr, false, is_some, length};
-ghost use Rattle.pgv_value.specs.Reading.{Answers, AnswersExactly, Refuses};
+ghost use Rattle.std.specs.Prelude.{◌≡◌, ◌%◌, ◌==◌, ◌&&◌, [], IfOk, IfErr, IsOk, false, length};
+ghost use Rattle.pgv_value.specs.Reading.{Answers, AnswersExactly, Refuses, has_items};
 ghost use Rattle.pgv_value.specs.declared.error.CodecError.TheVariants.{Syntax};
 ghost use Rattle.pgv_more.specs.ByteaText.{all_digits, bytea_in_text, digits_after};
 ghost use Rattle.std.specs.Option.{option_copied};
@@ -11,11 +11,22 @@ mod codec;
 
 pub use array::PgByteaArray;
 use pgv_value::CodecError;
-use std::alloc::Global;
+use std::alloc::{AllocError, Global};
 
 /// A string of bytes, such as an image or a hash.
 #[derive(Debug, Drop, PartialEq)]
 pub struct PgBytea(pub Vec<u8>);
+
+/// Bytes of their own. Where there is none, no memory is asked for.
+#[inline(always)]
+pub(crate) fn copy_of(alloc: Global, bytes: &[u8]) -> Result<Vec<u8>, AllocError>
+    ensures ok { IfOk result (λ copy. copy.items ≡ bytes.now) }
+    ensures succeeds { bytes.now ≡ [] → IsOk result }
+{
+    let mut copy = Vec::with_capacity(alloc, bytes.len())?;
+    copy.extend_from_slice(bytes)?;
+    Ok(copy)
+}
 
 /// The digits of a text `\x00ff`.
 fn digits_of(text: &[u8]) -> Option<&[u8]>
@@ -41,16 +52,19 @@ fn are_pairs(digits: &[u8]) -> bool
     digits.len() % 2 == 0 && are_digits(digits)
 }
 
-/// The bytes of a text `\x00ff`. Pairs of digits are refused only where there is no memory for their bytes.
+/// The bytes of a text `\x00ff`. Pairs of digits are refused only where there is no memory for their bytes, and `\x` needs none.
 fn of_text(alloc: Global, text: &[u8]) -> Result<PgBytea, CodecError>
     ensures exact { Answers (λ b. b.0.items) (bytea_in_text text.now) result }
-    ensures exactly { is_some (bytea_in_text text.now) ≡ false → AnswersExactly (λ b. b.0.items) (bytea_in_text text.now) result }
+    ensures exactly { has_items (bytea_in_text text.now) ≡ false → AnswersExactly (λ b. b.0.items) (bytea_in_text text.now) result }
     ensures refused { IfErr result (λ e. Refuses e (e ≡ Syntax)) }
-    ensures refused_exactly { is_some (bytea_in_text text.now) ≡ false → IfErr result (λ e. e ≡ Syntax) }
+    ensures refused_exactly { has_items (bytea_in_text text.now) ≡ false → IfErr result (λ e. e ≡ Syntax) }
 {
     let Some(digits) = digits_of(text) else {
         return Err(CodecError::Syntax);
     };
+    if digits.is_empty() {
+        return Ok(PgBytea(Vec::new(alloc)));
+    }
     match hex::decode(alloc, digits) {
         Ok(bytes) => Ok(PgBytea(bytes)),
         Err(_) if are_pairs(digits) => Err(CodecError::Memory),

@@ -1,10 +1,11 @@
 //! What is proved of these types and of the definitions that say what they are. Each law is the contract of a function that does
 //! nothing.
 
-ghost use Rattle.std.specs.Prelude.{◌≡◌, ℕ, Bool, false, List, Some, None, is_some, codes, string_bytes};
+ghost use Rattle.std.specs.Prelude.{◌≡◌, ℕ, Bool, false, List, Some, None, codes, string_bytes};
 ghost use Rattle.pgv_types.specs.Ty.{Ty, builtin, named};
 ghost use Rattle.pgv_codec.specs.ScalarBinary.{text_image};
 ghost use Rattle.pgv_codec.specs.TypeRow.{IsBuiltIn, IsRefusedAs, IsWrittenAs, TakesNone};
+ghost use Rattle.pgv_value.specs.Reading.{has_items};
 ghost use Rattle.pgv_value.specs.declared.error.CodecError.TheVariants.{OffsetRange};
 ghost use Rattle.pgv_more.specs.ByteaText.{bytea_reading, bytea_refusal, sized_image, sized_reading, sized_refusal, ByteaTextIsRead, OneByteaText};
 ghost use Rattle.pgv_more.specs.BitsBinary.{bits_image, bits_hint, bits_refused, BitsAreRead, OneListOfBits};
@@ -33,7 +34,7 @@ pub fn bit_vec_is_a_varbit()
     ensures read { ⟦<crate::BitVec as Decode>⟧.reading ≡ bits_reading }
     ensures unwritten { (v : List Bool) → (⟦<crate::BitVec as Encode>⟧.unwritable v ≡ bits_refused v) × (⟦<crate::BitVec as Encode>⟧.asks_first v ≡ false) }
     ensures refused { IsRefusedAs bits_refusal ⟦<crate::BitVec as Decode>⟧.refusal }
-    ensures takes_memory { ⟦<crate::BitVec as Decode>⟧.takes_memory ≡ (λ t f bytes. is_some (bits_reading t f bytes)) }
+    ensures takes_memory { ⟦<crate::BitVec as Decode>⟧.takes_memory ≡ (λ t f bytes. has_items (bits_reading t f bytes)) }
 {}
 
 /// A `MacAddress` is a macaddr (OID 829), its six bytes, as `08002b010203`. Its arrays are `macaddr[]` (1040).
@@ -101,7 +102,7 @@ pub fn bytea_is_a_bytea()
     ensures means { ⟦<crate::PgBytea as Decode>⟧.meaning ≡ (λ b. b.0.items) }
     ensures read { ⟦<crate::PgBytea as Decode>⟧.reading ≡ bytea_reading }
     ensures refused { IsRefusedAs bytea_refusal ⟦<crate::PgBytea as Decode>⟧.refusal }
-    ensures takes_memory { ⟦<crate::PgBytea as Decode>⟧.takes_memory ≡ (λ t f bytes. is_some (bytea_reading t f bytes)) }
+    ensures takes_memory { ⟦<crate::PgBytea as Decode>⟧.takes_memory ≡ (λ t f bytes. has_items (bytea_reading t f bytes)) }
 {}
 
 /// A `PgByteaArray` of `N` bytes is a bytea (OID 17) of so many.

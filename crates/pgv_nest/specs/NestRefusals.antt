@@ -14,7 +14,7 @@ use Rattle.pgv_types.specs.Facts.{is_custom}
 use Rattle.pgv_text.specs.Copies.{first_copied}
 use Rattle.pgv_text.specs.Values.{array_values}
 use Rattle.pgv_value.specs.FrameBinary.{Part, front, frame_fault}
-use Rattle.pgv_value.specs.Reading.{Reading}
+use Rattle.pgv_value.specs.Reading.{Reading, has_items}
 use Rattle.pgv_value.specs.Steps.{number}
 use Rattle.pgv_value.specs.Utf8.{is_utf8}
 use Rattle.pgv_value.specs.declared.error.CodecError.{CodecError}
@@ -116,14 +116,10 @@ abbrev pub head_takes : Head → Bool
 head_takes h = copies_element h || has_room h.count h.frames
 
 -- in text: the list, before its first element is read
-abbrev pub has_elements : Option (List Part) → Bool
-has_elements None = false
-has_elements (Some []) = false
-has_elements (Some (part ∷ parts)) = true
 
 abbrev pub array_takes : Taking
 array_takes t f None = false
-array_takes t Text (Some bytes) = is_utf8 bytes && has_elements (array_values bytes)
+array_takes t Text (Some bytes) = is_utf8 bytes && has_items (array_values bytes)
 array_takes t Binary (Some bytes) = where_dimension head_takes (head t bytes)
 
 -- ---- the fields of records

@@ -4,10 +4,11 @@
 //! Each is the contract of a function that does nothing. A codec that reads nothing, or writes nothing, meets its trait's
 //! contract; it does not meet its row.
 
-ghost use Rattle.std.specs.Prelude.{◌≡◌, ℕ, List, Option, Some, is_some, option_map, string_bytes, map};
+ghost use Rattle.std.specs.Prelude.{◌≡◌, ℕ, List, Option, Some, option_map, string_bytes, map};
 ghost use Rattle.std.specs.Int.{w8, w16, w32, w64};
 ghost use Rattle.pgv_types.specs.Ty.{Ty, builtin};
 ghost use Rattle.pgv_types.specs.declared.oid.Oid.{Oid};
+ghost use Rattle.pgv_value.specs.Reading.{has_items};
 ghost use Rattle.pgv_value.specs.ScalarGrammar.{bool_reading, bool_refusal, char_reading, char_refusal, int_reading, int_refusal, oid_reading, oid_refusal, text_reading, uuid_reading, uuid_refusal};
 ghost use Rattle.pgv_value.specs.Utf8.{text_refusal};
 ghost use Rattle.pgv_value.specs.declared.value.PgValueFormat.{PgValueFormat};
@@ -102,7 +103,7 @@ pub fn string_is_a_text()
     ensures means { ⟦<String as Decode>⟧.meaning ≡ (λ s. string_bytes s) }
     ensures read { ⟦<String as Decode>⟧.reading ≡ text_reading }
     ensures refused { IsRefusedAs text_refusal ⟦<String as Decode>⟧.refusal }
-    ensures takes_memory { ⟦<String as Decode>⟧.takes_memory ≡ (λ t f bytes. is_some (text_reading t f bytes)) }
+    ensures takes_memory { ⟦<String as Decode>⟧.takes_memory ≡ (λ t f bytes. has_items (text_reading t f bytes)) }
 {}
 
 /// `()` is a void (OID 2278), read under void and record, of whatever is there, null too. It is never written.

@@ -3,11 +3,11 @@
 ghost use Rattle.std.specs.Prelude.{◌≡◌, IfOk, IfErr, OnOk, OnErr, ◌*◌, ◌≤◌, false, true, length, map, Some, None, [], IfSome, is_some, IsErrOf, List};
 ghost use Rattle.std.specs.Vec.{with_items};
 ghost use Rattle.pgv_text.specs.Values.{array_values};
-ghost use Rattle.pgv_value.specs.Reading.{Answers, AnswersExactly};
+ghost use Rattle.pgv_value.specs.Reading.{Answers, AnswersExactly, has_items};
 ghost use Rattle.pgv_value.specs.declared.error.CodecError.TheVariants.{Memory, UnexpectedNull};
 ghost use Rattle.pgv_value.specs.declared.value.PgValueFormat.TheVariants.{Binary, Text};
 ghost use Rattle.pgv_nest.specs.ArrayGrammar.{array, array_in_text, array_of, frames, head, array_of_length};
-ghost use Rattle.pgv_nest.specs.NestRefusals.{array_bytes_refusal, array_refusal, array_takes, array_text_refusal, frames_refusal as frames_read_refusal, has_elements, has_room, head_takes, is_copied, where_dimension, array_of_length_refusal};
+ghost use Rattle.pgv_nest.specs.NestRefusals.{array_bytes_refusal, array_refusal, array_takes, array_text_refusal, frames_refusal as frames_read_refusal, has_room, head_takes, is_copied, where_dimension, array_of_length_refusal};
 ghost use Rattle.pgv_codec.specs.Image.{array_image, or_else, header, written_frames, written_element_type, sized_image};
 ghost use Rattle.pgv_codec.specs.Outcome.{Encoded, Refused, Appended, AppendedAll};
 ghost use Rattle.pgv_codec.specs.Refusing.{RefusedExactly, RefusedFor, array_asks_first, array_refused, first_type_copied, frames_refused};
@@ -314,9 +314,9 @@ fn read_in_room<T: Decode>(
 #[tactic(auto, unfolding(pgv_nest::specs::ArrayGrammar::each))]
 fn read_text<T: Decode + Type>(alloc: Global, text: &str) -> Result<Vec<T>, CodecError>
     ensures exact { Answers (λ v. map T.meaning v.items) (array_in_text (T.reading T.info Text) text.now) result }
-    ensures exactly { has_elements (array_values text.now) ≡ false → AnswersExactly (λ v. map T.meaning v.items) (array_in_text (T.reading T.info Text) text.now) result }
+    ensures exactly { has_items (array_values text.now) ≡ false → AnswersExactly (λ v. map T.meaning v.items) (array_in_text (T.reading T.info Text) text.now) result }
     ensures refused { RefusedFor (array_text_refusal (T.reading T.info Text) (T.refusal T.info Text) text.now) result }
-    ensures refused_exactly { has_elements (array_values text.now) ≡ false → RefusedExactly (array_text_refusal (T.reading T.info Text) (T.refusal T.info Text) text.now) result }
+    ensures refused_exactly { has_items (array_values text.now) ≡ false → RefusedExactly (array_text_refusal (T.reading T.info Text) (T.refusal T.info Text) text.now) result }
 {
     if is_empty_array(text) {
         return Ok(Vec::new(alloc));
@@ -332,7 +332,7 @@ fn read_text<T: Decode + Type>(alloc: Global, text: &str) -> Result<Vec<T>, Code
 #[inline(always)]
 fn is_empty_array(text: &str) -> bool
     ensures empty { result ≡ true → array_values text.now ≡ Some [] }
-    ensures others { result ≡ false → has_elements (array_values text.now) ≡ is_some (array_values text.now) }
+    ensures others { result ≡ false → has_items (array_values text.now) ≡ is_some (array_values text.now) }
 {
     match Elements::of_text(text) {
         Some(elements) => elements.is_at_end(),

@@ -1,6 +1,6 @@
 //! Texts (PostgreSQL, "Character Types"): their bytes in UTF-8.
 
-ghost use Rattle.std.specs.Prelude.{◌≡◌, ℕ, List, is_some, refl, string_bytes, IfOk, IfErr, OnErr};
+ghost use Rattle.std.specs.Prelude.{◌≡◌, ℕ, List, [], refl, string_bytes, IfOk, IfErr, IsOk, OnErr};
 ghost use Rattle.pgv_types.specs.Ty.{builtin};
 ghost use Rattle.pgv_codec.specs.Outcome.{Encoded};
 ghost use Rattle.pgv_value.specs.declared.error.CodecError.TheVariants.{Memory};
@@ -21,6 +21,17 @@ pub fn encode_text(text: &str, out: &mut PgArgumentBuffer) -> Result<IsNull, Cod
 {
     out.extend_from_slice(text.as_bytes())?;
     Ok(IsNull::No)
+}
+
+/// A text of its own. An empty one asks for no memory.
+#[inline(always)]
+fn copy_of(alloc: Global, text: &str) -> Result<String, AllocError>
+    ensures ok { IfOk result (λ copy. string_bytes copy ≡ text.now) }
+    ensures succeeds { text.now ≡ [] → IsOk result }
+{
+    let mut copy = String::with_capacity(alloc, text.len())?;
+    copy.push_str(text)?;
+    Ok(copy)
 }
 
 /// Whether values of this type are read as texts.
@@ -102,8 +113,9 @@ impl Encode for String {
 }
 
 /// A text (PostgreSQL, "Character Types"), the same in either format: bytes that are UTF-8, else C14: `6869` is `hi`. Null is refused
-/// with C13.
+/// with C13. An empty text asks for no memory.
 impl Plain for String {
+    ghost use Rattle.pgv_value.specs.Reading.{has_items};
     ghost use Rattle.pgv_value.specs.Utf8.{text_refusal};
     ghost use Rattle.pgv_value.specs.ScalarGrammar.{text_reading};
     ghost use Rattle.pgv_codec.specs.Saying.{plainly};
@@ -117,13 +129,13 @@ impl Plain for String {
 
     ghost written = { plainly text_image };
 
-    ghost takes_memory = { λ t format bytes. is_some (text_reading t format bytes) };
+    ghost takes_memory = { λ t format bytes. has_items (text_reading t format bytes) };
 
     ghost refusal = { text_refusal };
 
     #[inline(always)]
     fn read(alloc: Global, value: PgValueRef<'_>) -> Result<String, CodecError> {
-        Ok(String::from_str(alloc, value.as_str()?)?)
+        Ok(copy_of(alloc, value.as_str()?)?)
     }
 
     ghost reads_back = { text_back };

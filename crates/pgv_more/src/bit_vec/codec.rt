@@ -1,8 +1,8 @@
 //! Lists of bits, written and read (PostgreSQL, "Bit String Types").
 
-ghost use Rattle.std.specs.Prelude.{◌≡◌, Bool, List, IfErr, false, is_some, refl};
+ghost use Rattle.std.specs.Prelude.{◌≡◌, Bool, List, IfErr, false, refl};
 ghost use Rattle.pgv_types.specs.Ty.{builtin};
-ghost use Rattle.pgv_value.specs.Reading.{Answers, Refuses};
+ghost use Rattle.pgv_value.specs.Reading.{Answers, AnswersExactly, Refuses, has_items};
 ghost use Rattle.pgv_value.specs.declared.error.CodecError.TheVariants.{Syntax};
 ghost use Rattle.pgv_more.specs.BitsBinary.{bits_image, bits_hint, bits_in_binary, bits_binary_refusal, bits_refused};
 ghost use Rattle.pgv_more.specs.BitsText.{bits_in_text};
@@ -81,8 +81,9 @@ impl Encode for BitVec {
 #[tactic(auto, unfolding(pgv_value::specs::Steps::number))]
 fn read_binary(alloc: Global, form: &[u8]) -> Result<BitVec, CodecError>
     ensures exact { Answers (λ bits. bits) (bits_in_binary form.now) result }
+    ensures exactly { has_items (bits_in_binary form.now) ≡ false → AnswersExactly (λ bits. bits) (bits_in_binary form.now) result }
     ensures refused { IfErr result (λ e. Refuses e (e ≡ bits_binary_refusal form.now)) }
-    ensures refused_exactly { is_some (bits_in_binary form.now) ≡ false → IfErr result (λ e. e ≡ bits_binary_refusal form.now) }
+    ensures refused_exactly { has_items (bits_in_binary form.now) ≡ false → IfErr result (λ e. e ≡ bits_binary_refusal form.now) }
 {
     let (count, body) = u32_in_front(form)?;
     if count > 2147483647 {
@@ -98,8 +99,9 @@ fn read_binary(alloc: Global, form: &[u8]) -> Result<BitVec, CodecError>
 /// The bits of digits `0` and `1`. Another text is refused with C29.
 fn read_text(alloc: Global, text: &str) -> Result<BitVec, CodecError>
     ensures exact { Answers (λ bits. bits) (bits_in_text text.now) result }
+    ensures exactly { has_items (bits_in_text text.now) ≡ false → AnswersExactly (λ bits. bits) (bits_in_text text.now) result }
     ensures refused { IfErr result (λ e. Refuses e (e ≡ Syntax)) }
-    ensures refused_exactly { is_some (bits_in_text text.now) ≡ false → IfErr result (λ e. e ≡ Syntax) }
+    ensures refused_exactly { has_items (bits_in_text text.now) ≡ false → IfErr result (λ e. e ≡ Syntax) }
 {
     match BitVec::from_digits(alloc, text.as_bytes())? {
         Some(bits) => Ok(bits),
@@ -109,7 +111,7 @@ fn read_text(alloc: Global, text: &str) -> Result<BitVec, CodecError>
 
 /// Bits are read in binary as they are written, whatever fills the last byte after them: fewer than four bytes are refused with
 /// C15, a negative number with C16, and another number of bytes than the bits need with C17. A text is digits `0` and `1`,
-/// perhaps none, else C29. Null is refused with C13. `00000003a0` and the text `101` are `101`.
+/// perhaps none, else C29. Null is refused with C13. `00000003a0` and the text `101` are `101`. For no bits no memory is asked for.
 /// Bits come back as they were written.
 impl Plain for BitVec {
     ghost use Rattle.pgv_more.specs.BitsBack.{bits_back};
@@ -122,7 +124,7 @@ impl Plain for BitVec {
 
     ghost written = { with_hint bits_hint bits_image };
 
-    ghost takes_memory = { λ t format bytes. is_some (bits_reading t format bytes) };
+    ghost takes_memory = { λ t format bytes. has_items (bits_reading t format bytes) };
 
     ghost refusal = { bits_refusal };
 

@@ -1,13 +1,14 @@
 //! Strings of bytes, written and read (PostgreSQL, "Binary Data Types", bytea).
 
-ghost use Rattle.std.specs.Prelude.{ℕ, List, is_some, refl};
+ghost use Rattle.std.specs.Prelude.{ℕ, List, refl};
 ghost use Rattle.pgv_types.specs.Ty.{builtin};
 ghost use Rattle.pgv_types.specs.Relations.{softly};
+ghost use Rattle.pgv_value.specs.Reading.{has_items};
 ghost use Rattle.pgv_codec.specs.Saying.{plainly};
 ghost use Rattle.pgv_codec.specs.ScalarBinary.{text_image as plain_image};
 ghost use Rattle.pgv_more.specs.ByteaText.{bytea_reading, bytea_refusal};
 
-use super::{PgBytea, of_text};
+use super::{PgBytea, copy_of, of_text};
 use pgv_codec::{Encode, IsNull, PgArgumentBuffer, PgHasArrayType, Plain, Type};
 use pgv_types::{PgType, PgTypeInfo};
 use pgv_value::{CodecError, PgValueFormat, PgValueRef};
@@ -63,7 +64,8 @@ impl Encode for PgBytea {
 }
 
 /// In binary the bytes, and in text `\x` and two hex digits of either case for each, as `\x00ff`; another text is refused with C29,
-/// one that isn't UTF-8 too. Null is refused with C13. (A server that writes the older escape format is not read.)
+/// one that isn't UTF-8 too. Null is refused with C13. (A server that writes the older escape format is not read.) For no bytes no memory
+/// is asked for.
 /// Bytes come back as they were written.
 impl Plain for PgBytea {
     ghost use Rattle.pgv_more.specs.ByteaBack.{bytea_back};
@@ -76,7 +78,7 @@ impl Plain for PgBytea {
 
     ghost written = { plainly plain_image };
 
-    ghost takes_memory = { λ t format bytes. is_some (bytea_reading t format bytes) };
+    ghost takes_memory = { λ t format bytes. has_items (bytea_reading t format bytes) };
 
     ghost refusal = { bytea_refusal };
 
@@ -84,7 +86,7 @@ impl Plain for PgBytea {
     fn read(alloc: Global, value: PgValueRef<'_>) -> Result<PgBytea, CodecError> {
         let bytes = value.as_bytes()?;
         match value.format() {
-            PgValueFormat::Binary => Ok(PgBytea(Vec::from_slice(alloc, bytes)?)),
+            PgValueFormat::Binary => Ok(PgBytea(copy_of(alloc, bytes)?)),
             PgValueFormat::Text => of_text(alloc, bytes),
         }
     }

@@ -66,7 +66,6 @@ impl Encode for PgCiText {
 /// Read as a `String` is: in either format any bytes that are UTF-8, else C14. Null is refused with C13.
 /// A text comes back as it was written.
 impl Plain for PgCiText {
-    ghost use Rattle.std.specs.Prelude.{is_some};
     ghost use Rattle.pgv_codec.specs.BackScalars.{text_back};
 
     ghost Meaning = { List ℕ };
@@ -77,7 +76,7 @@ impl Plain for PgCiText {
 
     ghost written = { plainly text_image };
 
-    ghost takes_memory = { λ t format bytes. is_some (text_reading t format bytes) };
+    ghost takes_memory = { ⟦<String as Decode>⟧.takes_memory };
 
     ghost refusal = { text_refusal };
 
