@@ -67,8 +67,12 @@ pub use Rattle.pgv_codec.specs.Writing.{written_part}
 pub use Rattle.pgv_ltree.specs.Ascii.{are_ascii, ascii_is_utf8}
 -- The law for `PgLTree`, and what comes back of a tree.
 pub use Rattle.pgv_ltree.specs.TreesBack.{tree_back, tree_kept}
--- For the answer of a composite's encoder, one `more_fields` for each field.
+-- For the answer of a composite's encoder, one `more_fields` for each field. `field_unwritable hint image produced info unwritable x
+-- later` is for its `unwritable`: what the field x is refused with, or else `later`; the field that is refused is answered by
+-- `refused_here`, and each before it by `refused_after`.
 pub use Rattle.pgv_codec.specs.Fields.{no_fields, more_fields, all_fields}
+pub use Rattle.pgv_codec.specs.Refusing.{field_unwritable}
+pub use Rattle.pgv_codec.proofs.Refusing.{refused_here, refused_after}
 -- For a composite's `Codec`.
 pub use Rattle.pgv_codec.specs.Saying.{field_agrees, same_none, same_fields, record_agrees}
 -- A field that is plain fits.

@@ -1,5 +1,5 @@
 -- The refusals of what is written.
-use Rattle.std.proofs.Common.{◌≡◌, ◌≢◌, ℕ, ◌≤◌, ◌<◌, Bool, true, false, cond, nat_eq, List, [], ◌∷◌, length, get_or, take, Option, Some, None, refl, arith, inl, inr}
+use Rattle.std.proofs.Common.{◌≡◌, ◌≢◌, sym, ap, ◌∙◌, ℕ, ◌≤◌, ◌<◌, Bool, true, false, cond, nat_eq, nat_lt, List, [], ◌∷◌, length, get_or, take, Option, Some, None, refl, arith, inl, inr}
 use Rattle.std.proofs.lemmas.Bool.{ne_eqb}
 use Rattle.std.proofs.lemmas.Bool.Decides.{nat_tests}
 use Rattle.pgv_buf.specs.Tokens.{Token, Cell, tokens_width}
@@ -7,9 +7,11 @@ use Rattle.pgv_value.specs.declared.error.CodecError.{CodecError}
 use Rattle.pgv_value.specs.declared.error.CodecError.TheVariants.{Memory, ValueSize, FieldCount}
 use Rattle.pgv_value.specs.Reading.{Refuses}
 use Rattle.pgv_value.proofs.Refusals.{Refuses-from}
-use Rattle.pgv_codec.specs.Image.{Image, image_of, frame, written_frames, join}
+use Rattle.pgv_codec.specs.Fields.{HasFields}
+use Rattle.pgv_codec.specs.Image.{Image, image_of, counted_field, frame, written_frames, join}
 use Rattle.pgv_codec.specs.Outcome.{AppendedAll, Refused}
-use Rattle.pgv_codec.specs.Refusing.{RefusedBy, frame_refused, frames_refused}
+use Rattle.pgv_codec.specs.Record.{Writing, AddsField}
+use Rattle.pgv_codec.specs.Refusing.{RefusedBy, first_refused, frame_refused, frames_refused}
 
 -- ---- what is stated
 
@@ -41,6 +43,25 @@ fields_full n why e = rw e refl
 
 pub field_unwritten : (n : ℕ) (why : Option CodecError) (e : CodecError) → n ≢ 4294967295 → RefusedBy why e → RefusedBy (cond (nat_eq n 4294967295) (Some FieldCount) why) e
 field_unwritten n why e l r = rw (ne_eqb n 4294967295 l) r
+
+-- ---- the fields of a composite
+
+counted_there : (full : Bool) (f : Option (List Token)) (ts : List Token) → cond full None f ≡ Some ts → f ≡ Some ts
+counted_there true f ts e = absurd (cc)
+counted_there false f ts e = e
+
+-- the field after those that were written is refused
+pub refused_here : {was : List Cell} {fs : List (Option (List Token))} {w : Writing} {f : Option (List Token)} {why later : Option CodecError} {e : CodecError} →
+    HasFields was fs w → nat_lt (length fs) 4294967295 ≡ true → Refused e (counted_field w.count f) → RefusedBy (cond (nat_eq w.count 4294967295) (Some FieldCount) why) e → RefusedBy (first_refused f why later) e
+refused_here {w = w} {f} {why} {later} {e} h few (inr m) r = out_of_memory (first_refused f why later) e m
+refused_here {w = w} {f} {why} {later} {e} h few (inl none) r =
+    let more : nat_eq w.count 4294967295 ≡ false = ne_eqb w.count 4294967295 (λ full. grind (arith, nat_tests, few, h.count_is, full)) in
+    let gone : f ≡ None = sym (ap (λ (full : Bool). cond full None f) more) ∙ none in
+    rw gone (rw more at r)
+
+-- a field that was written isn't
+pub refused_after : {w now : Writing} {f : Option (List Token)} {why later : Option CodecError} {e : CodecError} → AddsField (counted_field w.count f) w now → RefusedBy later e → RefusedBy (first_refused f why later) e
+refused_after {w = w} {f = f} a r = rw (counted_there (nat_eq w.count 4294967295) f a.0 a.1) r
 
 -- ---- frames
 

@@ -12,7 +12,7 @@ use Rattle.pgv_value.specs.declared.error.CodecError.{CodecError}
 use Rattle.pgv_value.specs.declared.error.CodecError.TheVariants.{ValueSize, ArrayLength, FieldCount, UnexpectedNull, Utf8}
 use Rattle.pgv_value.specs.declared.value.PgValueFormat.{PgValueFormat}
 use Rattle.pgv_nest.specs.NestRefusals.{Refusal, Taking, is_copied}
-use Rattle.pgv_codec.specs.Image.{Image, null_image, image_of, frame, limit}
+use Rattle.pgv_codec.specs.Image.{Image, null_image, image_of, field, frame, limit}
 
 -- an error is the refusal that is stated, or out of memory
 abbrev pub RefusedBy : Option CodecError → CodecError → Type 0
@@ -52,6 +52,10 @@ module _ {X : Type 0} (hint : X → ℕ) (image : X → Option Image) (unwritabl
   -- a field after n others
   abbrev pub field_refused : ℕ → X → Option CodecError
   field_refused n x = cond (nat_eq n 4294967295) (Some FieldCount) (frame_refused (hint x) (image x) (unwritable x))
+
+-- of a composite: what a field that has no frame is refused with, or else what those after it are
+abbrev pub field_unwritable : {X : Type 0} → (X → ℕ) → (X → Option Image) → (X → Option Ty) → Ty → (X → Option CodecError) → X → Option CodecError → Option CodecError
+field_unwritable hint image produced info unwritable x later = first_refused (field hint image produced info x) (frame_refused (hint x) (image x) (unwritable x)) later
 
 abbrev pub option_unwritable : {X : Type 0} → (X → Option CodecError) → Option X → Option CodecError
 option_unwritable unwritable None = None
