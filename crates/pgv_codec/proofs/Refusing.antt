@@ -51,17 +51,17 @@ counted_there true f ts e = absurd (cc)
 counted_there false f ts e = e
 
 -- the field after those that were written is refused
-pub refused_here : {was : List Cell} {fs : List (Option (List Token))} {w : Writing} {f : Option (List Token)} {why later : Option CodecError} {e : CodecError} →
+pub refused_here : {was : List Cell} {fs : List (Option (List Token))} {w : Writing} {e : CodecError} (f : Option (List Token)) (why later : Option CodecError) →
     HasFields was fs w → nat_lt (length fs) 4294967295 ≡ true → Refused e (counted_field w.count f) → RefusedBy (cond (nat_eq w.count 4294967295) (Some FieldCount) why) e → RefusedBy (first_refused f why later) e
-refused_here {w = w} {f} {why} {later} {e} h few (inr m) r = out_of_memory (first_refused f why later) e m
-refused_here {w = w} {f} {why} {later} {e} h few (inl none) r =
+refused_here {w = w} {e} f why later h few (inr m) r = out_of_memory (first_refused f why later) e m
+refused_here {w = w} {e} f why later h few (inl none) r =
     let more : nat_eq w.count 4294967295 ≡ false = ne_eqb w.count 4294967295 (λ full. grind (arith, nat_tests, few, h.count_is, full)) in
     let gone : f ≡ None = sym (ap (λ (full : Bool). cond full None f) more) ∙ none in
     rw gone (rw more at r)
 
 -- a field that was written isn't
-pub refused_after : {w now : Writing} {f : Option (List Token)} {why later : Option CodecError} {e : CodecError} → AddsField (counted_field w.count f) w now → RefusedBy later e → RefusedBy (first_refused f why later) e
-refused_after {w = w} {f = f} a r = rw (counted_there (nat_eq w.count 4294967295) f a.0 a.1) r
+pub refused_after : (w : Writing) {now : Writing} (f : Option (List Token)) (why later : Option CodecError) (e : CodecError) → AddsField (counted_field w.count f) w now → RefusedBy later e → RefusedBy (first_refused f why later) e
+refused_after w f why later e a r = rw (counted_there (nat_eq w.count 4294967295) f a.0 a.1) r
 
 -- ---- frames
 
