@@ -5,8 +5,8 @@ use jiff::civil::{Date, DateTime, Time};
 use jiff::{SignedDuration, Timestamp};
 use pgv::text::{Parts, TextForm, date, date_time, instant, time, time_tz};
 use pgv::types::{
-    IpNetwork, Ipv4Network, Ipv6Network, MacAddress, PgByteaArray, PgInterval, PgLTree, PgMoney,
-    PgTimeTz,
+    BitVec, IpNetwork, Ipv4Network, Ipv6Network, MacAddress, PgByteaArray, PgInterval, PgLTree,
+    PgMoney, PgTimeTz,
 };
 use pgv::{
     CodecError, Decode, Oid, PgArgumentBuffer, PgArguments, PgRecordEncoder, PgType, PgTypeInfo,
@@ -183,6 +183,9 @@ pub struct Still {
     tree: PgLTree,
     buffer: PgArgumentBuffer,
     row: Option<Bytes>,
+    text: String,
+    list: Vec<i32>,
+    bits: BitVec,
 }
 
 impl Still {
@@ -193,6 +196,9 @@ impl Still {
             tree: PgLTree::new(alloc),
             buffer: PgArgumentBuffer::new(alloc),
             row: None,
+            text: String::new(alloc),
+            list: Vec::new(alloc),
+            bits: BitVec::new(alloc),
         }
     }
 
@@ -200,8 +206,11 @@ impl Still {
     fn make(&mut self, alloc: Global) -> Result<(), CodecError> {
         self.tree = make_tree(alloc)?;
         self.row = Some(Bytes::copy_from_slice(alloc, b"row")?);
+        self.text = String::from_str(alloc, "hi")?;
+        self.list = Vec::from_slice(alloc, &[7])?;
+        self.bits = BitVec::from_bytes(alloc, &[0xa0])?;
         self.buffer = PgArgumentBuffer::new(alloc);
-        self.buffer.reserve(64)?;
+        self.buffer.reserve(128)?;
         self.buffer.push(1)?;
         self.arguments = PgArguments::new(alloc);
         self.arguments.add(PgLTree::new(alloc))?;
@@ -232,9 +241,13 @@ impl Still {
         whole && self.buffer.is_empty()
     }
 
-    /// Writes a record where there is room for it.
+    /// Writes a record and values where there is room for them: nothing is copied before it is written.
     fn write(&mut self) -> bool {
-        write_record(&mut self.buffer).is_ok() && self.buffer.len() == 16
+        write_record(&mut self.buffer).is_ok()
+            && self.buffer.encode(&self.text).is_ok()
+            && self.buffer.encode(&self.list).is_ok()
+            && self.buffer.encode(&self.bits).is_ok()
+            && self.buffer.len() == 63
     }
 
     /// Lends the first two bytes of the row.

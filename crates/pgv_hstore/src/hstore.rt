@@ -1,8 +1,8 @@
 //! Maps of texts (PostgreSQL, appendix F, hstore).
 
-ghost use Rattle.std.specs.Prelude.{◌≡◌, [], IfOk, OnOk, List, map};
+ghost use Rattle.std.specs.Prelude.{◌≡◌, [], IfOk, OnOk, OnErr, List, Some, map};
 ghost use Rattle.std.specs.BTreeMap.{insert_entry};
-ghost use Rattle.std.specs.Iterator.{Drains, IsFiniteIterable};
+ghost use Rattle.std.specs.Iterator.{Drains, IsFiniteIterable, YieldsThen};
 ghost use Rattle.std.specs.String.{string_cmp};
 ghost use Rattle.pgv_hstore.specs.Hstore.{pair_of, pairs_of, text_pair_of};
 ghost use Rattle.pgv_hstore.specs.Laws.{IsMapOf};
@@ -32,7 +32,9 @@ impl PgHstore {
         pairs: I,
     ) -> Result<PgHstore, AllocError>
         requires { IsFiniteIterable I.into_iter_gives I.IntoIter.can_next I.IntoIter.remaining pairs }
-        ensures { IfOk result (λ h. (it : I.IntoIter) × (xs : List _) × I.into_iter_gives pairs it × Drains I.IntoIter.next_gives it xs × IsMapOf (map pair_of xs) (pairs_of h)) }
+        ensures ok { IfOk result (λ h. (it : I.IntoIter) × (xs : List _) × I.into_iter_gives pairs it × Drains I.IntoIter.next_gives it xs × IsMapOf (map pair_of xs) (pairs_of h)) }
+        // Memory was asked for a pair.
+        ensures err { OnErr result ((it : I.IntoIter) × (taken : List _) × (last : _) × (after : I.IntoIter) × I.into_iter_gives pairs it × YieldsThen I.IntoIter.next_gives it taken (Some last) after) }
     {
         let mut map = BTreeMap::new(alloc);
         for (key, value) in pairs {
@@ -47,7 +49,9 @@ impl PgHstore {
         pairs: I,
     ) -> Result<PgHstore, AllocError>
         requires { IsFiniteIterable I.into_iter_gives I.IntoIter.can_next I.IntoIter.remaining pairs }
-        ensures { IfOk result (λ h. (it : I.IntoIter) × (xs : List _) × I.into_iter_gives pairs it × Drains I.IntoIter.next_gives it xs × IsMapOf (map text_pair_of xs) (pairs_of h)) }
+        ensures ok { IfOk result (λ h. (it : I.IntoIter) × (xs : List _) × I.into_iter_gives pairs it × Drains I.IntoIter.next_gives it xs × IsMapOf (map text_pair_of xs) (pairs_of h)) }
+        // Memory was asked for a pair.
+        ensures err { OnErr result ((it : I.IntoIter) × (taken : List _) × (last : _) × (after : I.IntoIter) × I.into_iter_gives pairs it × YieldsThen I.IntoIter.next_gives it taken (Some last) after) }
     {
         let mut map = BTreeMap::new(alloc);
         for (key, value) in pairs {

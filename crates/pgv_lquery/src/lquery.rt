@@ -1,7 +1,7 @@
 //! Queries of label trees (PostgreSQL, "ltree", lquery).
 
 ghost use Rattle.std.specs.Prelude.{◌≡◌, ◌⊎◌, ◌↔◌, ◌<◌, ◌++◌, ◌∷◌, [], List, ℕ, length, map, IfOk, IfErr, OnOk, OnErr, IsSome, Ok, Err, Some, option_map, true, false};
-ghost use Rattle.std.specs.Iterator.{Drains, IsFinite};
+ghost use Rattle.std.specs.Iterator.{Drains, IsFinite, YieldsThen};
 ghost use Rattle.std.specs.Option.{option_to_list};
 ghost use Rattle.std.specs.Vec.Iter.{into_iter_items, into_iter_len};
 ghost use Rattle.pgv_value.specs.declared.tree_error.PgLQueryParseError.TheVariants.{Memory};
@@ -10,7 +10,7 @@ ghost use Rattle.pgv_lquery.specs.LevelView.{level_of};
 ghost use Rattle.pgv_lquery.specs.Queries.{is_query};
 ghost use Rattle.pgv_lquery.specs.QueryPrinted.{printed_query};
 ghost use Rattle.pgv_lquery.specs.QueryRead.{begins_level, begins_with_level, level_read, query_read};
-ghost use Rattle.pgv_lquery.specs.Taken.{GivesText, GivesTexts};
+ghost use Rattle.pgv_lquery.specs.Taken.{GivesAfterRead, GivesTexts};
 
 mod codec;
 
@@ -68,8 +68,8 @@ impl PgLQuery {
         requires { (it : I.IntoIter) → I.into_iter_gives levels it → I.IntoIter.can_next it × IsFinite (I.IntoIter.remaining it) }
         // Every text was taken, and is the level at its place.
         ensures ok { IfOk result (λ query. (it : I.IntoIter) × (texts : List (List ℕ)) × I.into_iter_gives levels it × GivesTexts I.IntoIter.next_gives it texts × (read_each level_read texts ≡ Ok query)) }
-        // The text that was taken last is no level; or it begins as one, and there was no memory for it.
-        ensures err { IfErr result (λ e. (it : I.IntoIter) × (text : List ℕ) × I.into_iter_gives levels it × GivesText I.IntoIter.next_gives it text × ((level_read text ≡ Err e) ⊎ ((e ≡ Memory) × (begins_level text ≡ true)))) }
+        // The text that was taken last, after levels, is no level; or it begins as one, and there was no memory for it.
+        ensures err { IfErr result (λ e. (it : I.IntoIter) × (text : List ℕ) × I.into_iter_gives levels it × GivesAfterRead level_read I.IntoIter.next_gives it text × ((level_read text ≡ Err e) ⊎ ((e ≡ Memory) × (begins_level text ≡ true)))) }
     {
         let mut query = PgLQuery::new(alloc);
         for level in levels {
@@ -84,7 +84,9 @@ impl PgLQuery {
         levels: I,
     ) -> Result<PgLQuery, AllocError>
         requires { (it : I.IntoIter) → I.into_iter_gives levels it → I.IntoIter.can_next it × IsFinite (I.IntoIter.remaining it) }
-        ensures { IfOk result (λ query. (it : I.IntoIter) × (taken : List PgLQueryLevel) × I.into_iter_gives levels it × Drains I.IntoIter.next_gives it taken × (query ≡ map level_of taken)) }
+        ensures ok { IfOk result (λ query. (it : I.IntoIter) × (taken : List PgLQueryLevel) × I.into_iter_gives levels it × Drains I.IntoIter.next_gives it taken × (query ≡ map level_of taken)) }
+        // Memory was asked for a level.
+        ensures err { OnErr result ((it : I.IntoIter) × (taken : List _) × (last : _) × (after : I.IntoIter) × I.into_iter_gives levels it × YieldsThen I.IntoIter.next_gives it taken (Some last) after) }
     {
         let mut query = PgLQuery::new(alloc);
         for level in levels {

@@ -1,14 +1,14 @@
 //! Trees of labels (PostgreSQL, "ltree", Definitions).
 
 ghost use Rattle.std.specs.Prelude.{◌≡◌, ◌⊎◌, ◌↔◌, ◌<◌, ◌++◌, ◌∷◌, [], List, ℕ, length, IfOk, IfErr, OnOk, OnErr, IsSome, Ok, Err, Some, true, false};
-ghost use Rattle.std.specs.Iterator.{Drains, IsFinite};
+ghost use Rattle.std.specs.Iterator.{Drains, IsFinite, YieldsThen};
 ghost use Rattle.std.specs.List.{list_all};
 ghost use Rattle.std.specs.Option.{option_to_list};
 ghost use Rattle.std.specs.Vec.Iter.{into_iter_items, into_iter_len};
 ghost use Rattle.pgv_value.specs.declared.tree_error.PgLTreeParseError.TheVariants.{InvalidLtreeLabel, Memory};
 ghost use Rattle.pgv_ltree.specs.Each.{read_each};
 ghost use Rattle.pgv_ltree.specs.Labels.{is_label, label_read};
-ghost use Rattle.pgv_ltree.specs.Taken.{GivesText, GivesTexts};
+ghost use Rattle.pgv_ltree.specs.Taken.{GivesAfterRead, GivesTexts};
 ghost use Rattle.pgv_ltree.specs.Trees.{begins_with_label, printed_tree, tree_read};
 
 mod codec;
@@ -62,8 +62,8 @@ impl PgLTree {
         requires { (it : I.IntoIter) → I.into_iter_gives labels it → I.IntoIter.can_next it × IsFinite (I.IntoIter.remaining it) }
         // Every text was taken, and is the label at its place.
         ensures ok { IfOk result (λ tree. (it : I.IntoIter) × (texts : List (List ℕ)) × I.into_iter_gives labels it × GivesTexts I.IntoIter.next_gives it texts × (read_each label_read texts ≡ Ok tree)) }
-        // The text that was taken last is no label; or it is one, and there was no memory for it.
-        ensures err { IfErr result (λ e. (it : I.IntoIter) × (text : List ℕ) × I.into_iter_gives labels it × GivesText I.IntoIter.next_gives it text × ((label_read text ≡ Err e) ⊎ ((e ≡ Memory) × (is_label text ≡ true)))) }
+        // The text that was taken last, after labels, is no label; or it is one, and there was no memory for it.
+        ensures err { IfErr result (λ e. (it : I.IntoIter) × (text : List ℕ) × I.into_iter_gives labels it × GivesAfterRead label_read I.IntoIter.next_gives it text × ((label_read text ≡ Err e) ⊎ ((e ≡ Memory) × (is_label text ≡ true)))) }
     {
         let mut tree = PgLTree::new(alloc);
         for label in labels {
@@ -78,7 +78,9 @@ impl PgLTree {
         labels: I,
     ) -> Result<PgLTree, AllocError>
         requires { (it : I.IntoIter) → I.into_iter_gives labels it → I.IntoIter.can_next it × IsFinite (I.IntoIter.remaining it) }
-        ensures { IfOk result (λ tree. (it : I.IntoIter) × I.into_iter_gives labels it × Drains I.IntoIter.next_gives it tree) }
+        ensures ok { IfOk result (λ tree. (it : I.IntoIter) × I.into_iter_gives labels it × Drains I.IntoIter.next_gives it tree) }
+        // Memory was asked for a label.
+        ensures err { OnErr result ((it : I.IntoIter) × (taken : List _) × (last : _) × (after : I.IntoIter) × I.into_iter_gives labels it × YieldsThen I.IntoIter.next_gives it taken (Some last) after) }
     {
         let mut tree = PgLTree::new(alloc);
         for label in labels {

@@ -1,11 +1,12 @@
 -- The digits of strings of bytes.
-use Rattle.std.proofs.Common.{◌≡◌, ℕ, ◌*◌, ◌/◌, ◌%◌, ◌==◌, ◌&&◌, Bool, true, false, List, length, Some, None, Result, Ok, Err, refl, sym, ◌∙◌, arith}
+use Rattle.std.proofs.Common.{◌≡◌, ℕ, ◌*◌, ◌/◌, ◌%◌, ◌<◌, ◌==◌, ◌&&◌, Bool, true, false, List, [], ◌∷◌, length, Some, None, Result, Ok, Err, refl, sym, ◌∙◌, arith}
 use Rattle.std.proofs.lemmas.Bool.{and_parts, eqb-true}
 use Rattle.std.proofs.lemmas.List.Sums.{AllPass-from_list_all, list_all-from_AllPass}
-use Rattle.std.specs.Prelude.{is_some, nat_eq}
-use Rattle.hex.specs.Hex.{decode_of, decode_sized, is_hex_digit}
+use Rattle.std.specs.Prelude.{nat_eq}
+use Rattle.hex.specs.Hex.{decode_of, decode_pairs, decode_sized, is_hex_digit}
 use Rattle.hex.specs.declared.error.FromHexError.{FromHexError}
 use Rattle.hex.proofs.HexLemmas.{decode_of-digits, decode_of-ok, decode_sized-twice}
+use Rattle.pgv_value.specs.Reading.{has_items}
 use Rattle.pgv_value.specs.declared.error.CodecError.TheVariants.{Syntax, WrongLength}
 use Rattle.pgv_more.specs.ByteaText.{all_digits, bytea_in_text, digits_after, length_refusal, of_length, where_ok}
 
@@ -40,8 +41,19 @@ value_of_pairs digits pairs =
 of_pairs : (digits : List ℕ) → (length digits % 2 == 0 && all_digits digits) ≡ true → WrongLength (length digits / 2) ≡ length_refusal (where_ok (decode_of digits))
 of_pairs digits pairs = let value = value_of_pairs digits pairs in two_each digits value.0 value.1
 
-pub pairs_are_read : (text digits : List ℕ) → Some digits ≡ digits_after text → (length digits % 2 == 0 && all_digits digits) ≡ true → is_some (bytea_in_text text) ≡ true
-pairs_are_read text digits after pairs = rw (← after, (value_of_pairs digits pairs).1) refl
+-- some are read of some
+held : (digits value : List ℕ) → 0 < length digits → decode_of digits ≡ Ok value → has_items (where_ok (decode_of digits)) ≡ true
+held digits [] some is = absurd (omega (arith, some, (decode_of-ok digits [] is).2))
+held digits (byte ∷ value) some is = rw is refl
+
+pub pairs_are_read : (text digits : List ℕ) → Some digits ≡ digits_after text → 0 < length digits → (length digits % 2 == 0 && all_digits digits) ≡ true → has_items (bytea_in_text text) ≡ true
+pairs_are_read text digits after some pairs = let value = value_of_pairs digits pairs in rw (← after) (held digits value.0 some value.1)
+
+-- and nothing of none
+pub nothing_is_read : (text digits : List ℕ) → Some digits ≡ digits_after text → length digits ≡ 0 → bytea_in_text text ≡ Some []
+unfolding decode_pairs
+nothing_is_read text [] after none = rw (← after) refl
+nothing_is_read text (digit ∷ digits) after none = absurd (omega (arith, none))
 
 -- all others stand for none
 others_are_none : (digits : List ℕ) → (length digits % 2 == 0 && all_digits digits) ≡ false → (r : Result (List ℕ) FromHexError) → decode_of digits ≡ r → where_ok r ≡ None

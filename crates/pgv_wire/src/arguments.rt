@@ -146,7 +146,7 @@ impl PgArguments {
     }
 
     /// Adds each value in order, and answers an outcome for each. The list of outcomes is reserved first: where that
-    /// is refused (C1), nothing was added.
+    /// is refused (C1), nothing was added. For no values no memory is asked for.
     /// Of 2, a value that refuses and 4, the outcomes are Ok, an error and Ok, and the bytes `00000004 00000002 00000004 00000004`.
     pub fn add_each<T: Encode + Type>(
         &mut self,
@@ -157,6 +157,7 @@ impl PgArguments {
         ensures refused { IfOk result (λ rs. EachRefusedFor (λ x. frame_refused (T.hint x) (T.image x) (T.unwritable x)) values.now rs.items) }
         ensures added { IfOk result (λ rs. self.new ≡ self.old ++ accepted (λ x. frame (T.hint x) (T.image x)) (λ x. or_else (T.produced x) T.info) values.now rs.items) }
         ensures err { IfErr result (λ e. e ≡ Memory) }
+        ensures succeeds { values.now ≡ [] → IsOk result }
         ensures unchanged { OnErr result (self.new ≡ self.old) }
     {
         let mut outcomes = Vec::with_capacity(alloc, values.len())?;

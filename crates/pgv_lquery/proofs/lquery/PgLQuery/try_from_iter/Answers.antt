@@ -15,7 +15,7 @@ returns-in_err-from_str-clause-err g c =
       c.into_iter-level-iterator.result,
       c.in-Some.level.now,
       c.into_iter-level-iterator.ensures.into_iter_gives,
-      (c.loop-level.yielded, c.in-Some.level, c.next.new.self, (c.loop-level.level-iterator, c.loop-level.yielded_by, c.in-Some.ensures.steps), refl),
+      (c.loop-level.yielded, c.in-Some.level, c.next.new.self, c.loop-level.query, (c.loop-level.level-iterator, c.loop-level.yielded_by, c.in-Some.ensures.steps), refl, c.loop-level.invariant),
       begun_or_refused c.in-Some.level.now c.in_err-from_str.field-0.0 c.in_err-from_str.ensures.err c.in_err-from_str.ensures.refused_exactly,
     )
 
@@ -26,7 +26,7 @@ returns-in_err-push-clause-err g c =
       c.into_iter-level-iterator.result,
       c.in-Some.level.now,
       c.into_iter-level-iterator.ensures.into_iter_gives,
-      (c.loop-level.yielded, c.in-Some.level, c.next.new.self, (c.loop-level.level-iterator, c.loop-level.yielded_by, c.in-Some.ensures.steps), refl),
+      (c.loop-level.yielded, c.in-Some.level, c.next.new.self, c.loop-level.query, (c.loop-level.level-iterator, c.loop-level.yielded_by, c.in-Some.ensures.steps), refl, c.loop-level.invariant),
       inr (refl, level_passes c.in-Some.level.now (level_of c.in_ok-from_str.field-0) c.in_ok-from_str.ensures.ok),
     )
 

@@ -13,7 +13,7 @@ returns-in_err-new-clause-err g c =
       c.into_iter-label-iterator.result,
       string_bytes c.in-Some.label,
       c.into_iter-label-iterator.ensures.into_iter_gives,
-      (c.loop-label.yielded, c.in-Some.label, c.next.new.self, (c.loop-label.label-iterator, c.loop-label.yielded_by, c.in-Some.ensures.steps), refl),
+      (c.loop-label.yielded, c.in-Some.label, c.next.new.self, c.loop-label.tree, (c.loop-label.label-iterator, c.loop-label.yielded_by, c.in-Some.ensures.steps), refl, c.loop-label.invariant),
       inl (sym c.in_err-new.ensures),
     )
 
@@ -24,7 +24,7 @@ returns-in_err-push-clause-err g c =
       c.into_iter-label-iterator.result,
       string_bytes c.in-Some.label,
       c.into_iter-label-iterator.ensures.into_iter_gives,
-      (c.loop-label.yielded, c.in-Some.label, c.next.new.self, (c.loop-label.label-iterator, c.loop-label.yielded_by, c.in-Some.ensures.steps), refl),
+      (c.loop-label.yielded, c.in-Some.label, c.next.new.self, c.loop-label.tree, (c.loop-label.label-iterator, c.loop-label.yielded_by, c.in-Some.ensures.steps), refl, c.loop-label.invariant),
       inr (refl, read_is_label (string_bytes c.in-Some.label) c.in_ok-new.field-0 (sym c.in_ok-new.ensures)),
     )
 

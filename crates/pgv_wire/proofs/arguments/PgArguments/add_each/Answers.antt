@@ -12,6 +12,10 @@ pub returns-in_err-push-clause-unchanged : goal.returns-in_err-push-clause-uncha
 returns-in_err-push-clause-unchanged g c =
     absurd (not_err c.push.result _ (c.push.ensures.succeeds (omega (arith, c.loop-value.invariant.2, c.loop-value.invariant.3, c.loop-value-test.true))) c.in_err-push.was)
 
+pub returns-in_err-push-clause-succeeds : goal.returns-in_err-push-clause-succeeds
+returns-in_err-push-clause-succeeds g c = λ _.
+    absurd (not_err c.push.result _ (c.push.ensures.succeeds (omega (arith, c.loop-value.invariant.2, c.loop-value.invariant.3, c.loop-value-test.true))) c.in_err-push.was)
+
 pub loop-value-preserved : goal.loop-value-preserved
 loop-value-preserved g c =
     let r = c.add_by_ref-outcome.result in
