@@ -7,12 +7,13 @@
 -- others.
 use Rattle.std.specs.Prelude.{ℕ, ◌/◌, ℤ, pos, ◌-ℤ◌, int_div, Option}
 use Rattle.std.specs.Int.{w32, w64}
+use Rattle.pgv_value.specs.DateTimeBinary.{first_day, first_nanosecond}
 use Rattle.pgv_codec.specs.Image.{Image}
 use Rattle.pgv_codec.specs.ScalarBinary.{signed_image}
 
--- a day, as days from 2000-01-01, which is day 10957
+-- a day, as days from 2000-01-01
 abbrev pub days_of : ℤ → ℤ
-days_of day = day -ℤ pos 10_957
+days_of day = day -ℤ first_day
 
 abbrev pub date_image : ℤ → Option Image
 date_image day = signed_image w32 (days_of day)
@@ -23,7 +24,7 @@ time_image nanos = signed_image w64 (pos (nanos / 1000))
 
 -- a moment, as microseconds from 2000-01-01 00:00, the difference cut towards zero
 abbrev pub micros_of : ℤ → ℤ
-micros_of nanos = int_div (nanos -ℤ pos 946_684_800_000_000_000) (pos 1000)
+micros_of nanos = int_div (nanos -ℤ first_nanosecond) (pos 1000)
 
 abbrev pub moment_image : ℤ → Option Image
 moment_image nanos = signed_image w64 (micros_of nanos)

@@ -1,6 +1,6 @@
 -- There is a date-time at the moment of the microseconds that are written of another: they are cut towards 2000-01-01 00:00, so
 -- before 2000 it may be the midnight that ends the day.
-use Rattle.std.specs.Prelude.{◌≡◌, ℕ, suc, ◌+◌, ◌-◌, ◌*◌, ◌<◌, ◌≤◌, nat_lt, int_lt, int_div, Bool, true, false, ℤ, pos, negsuc, neg_ℤ, ◌+ℤ◌, ◌-ℤ◌, ◌*ℤ◌, ◌≤ℤ◌, ◌<ℤ◌, ◌⊎◌, refl}
+use Rattle.std.specs.Prelude.{◌≡◌, ℕ, suc, ◌+◌, ◌-◌, ◌*◌, ◌<◌, ◌≤◌, nat_lt, int_lt, int_div, Bool, true, false, ℤ, pos, negsuc, neg_ℤ, ◌+ℤ◌, ◌-ℤ◌, ◌≤ℤ◌, ◌<ℤ◌, ◌⊎◌, refl}
 use Rattle.std.specs.Int.{IsInRange}
 use Rattle.std.proofs.Common.{arith, ap, sym, ◌∙◌, inl, inr}
 use Rattle.std.proofs.lemmas.Bool.{ltb-true, ltb-false}
@@ -15,6 +15,7 @@ use Rattle.jiff_core.proofs.CalendarLemmas.{days_in_month_bounds}
 use Rattle.jiff_core.proofs.DateLemmas.{days_from_civil-day, days_from_civil-next_month, days_from_civil-next_year, IsEarlier, epoch_day-lt, epoch_day_same, cases_date}
 use Rattle.jiff_core.proofs.DateTimeLemmas.{civil_nanos-parts, time_nanos_bound}
 use Rattle.jiff_core.proofs.StandardFacts.{known_days}
+use Rattle.pgv_text.specs.DateTimeText.{nanos_at}
 use Rattle.pgv_value.specs.DateTimeBinary.{nanos_after}
 use Rattle.pgv_codec.specs.DateTimeBinary.{micros_of}
 use Rattle.pgv_codec.specs.TimeOfDay.{time_of, time_nanos-time_of, cut, cut_fits}
@@ -96,26 +97,22 @@ late_day d ge = by (cases_date new_year d)
 
 -- ---- the moments
 
--- nanoseconds from 1970 of a day and a time of day
-abbrev moment : ℤ → ℕ → ℤ
-moment day nanos = day *ℤ pos 86_400_000_000_000 +ℤ pos nanos
-
 -- the whole microseconds that a number of nanoseconds begins
 abbrev cut_up : ℕ → ℕ
 cut_up n = cut (n + 999)
 
 -- that many days from 2000 on, or before it
-late_cut : (k s : ℕ) → nanos_after (int_div (pos (k * 86_400_000_000_000 + s)) (pos 1000)) ≡ moment (pos (10_957 + k)) (cut s)
+late_cut : (k s : ℕ) → nanos_after (int_div (pos (k * 86_400_000_000_000 + s)) (pos 1000)) ≡ nanos_at (pos (10_957 + k)) (cut s)
 late_cut k s = omega (arith, ints)
 
-early_cut : (a j s : ℕ) → suc a + s ≡ j * 86_400_000_000_000 → nanos_after (int_div (negsuc a) (pos 1000)) +ℤ pos (j * 86_400_000_000_000) ≡ moment (pos 10_957) (cut_up s)
+early_cut : (a j s : ℕ) → suc a + s ≡ j * 86_400_000_000_000 → nanos_after (int_div (negsuc a) (pos 1000)) +ℤ pos (j * 86_400_000_000_000) ≡ nanos_at (pos 10_957) (cut_up s)
 early_cut a j s e = omega (arith, ints, e)
 
 -- a difference of natural numbers
-late_difference : (n day : ℤ) (s : ℕ) → n ≡ moment day s → (k : ℕ) → day ≡ pos (10_957 + k) → n -ℤ pos 946_684_800_000_000_000 ≡ pos (k * 86_400_000_000_000 + s)
+late_difference : (n day : ℤ) (s : ℕ) → n ≡ nanos_at day s → (k : ℕ) → day ≡ pos (10_957 + k) → n -ℤ pos 946_684_800_000_000_000 ≡ pos (k * 86_400_000_000_000 + s)
 late_difference n day s e k d = omega (arith, ints, e, d)
 
-early_difference : (n day : ℤ) (s a j : ℕ) → n ≡ moment day s → day +ℤ pos j ≡ pos 10_957 → suc a + s ≡ j * 86_400_000_000_000 → n -ℤ pos 946_684_800_000_000_000 ≡ negsuc a
+early_difference : (n day : ℤ) (s a j : ℕ) → n ≡ nanos_at day s → day +ℤ pos j ≡ pos 10_957 → suc a + s ≡ j * 86_400_000_000_000 → n -ℤ pos 946_684_800_000_000_000 ≡ negsuc a
 early_difference n day s a j e d h = omega (arith, ints, e, d, h)
 
 -- how many days a day is after 2000-01-01, and before it
@@ -128,13 +125,13 @@ days_early (pos n) h = (10_957 - n, omega (arith, ints, h), omega (arith, ints, 
 days_early (negsuc n) h = (10_958 + n, omega (arith, ints), omega arith)
 
 -- a moment from 2000 on
-late_moment : (n day : ℤ) (s : ℕ) → n ≡ moment day s → pos 10_957 ≤ℤ day → nanos_after (micros_of n) ≡ moment day (cut s)
+late_moment : (n day : ℤ) (s : ℕ) → n ≡ nanos_at day s → pos 10_957 ≤ℤ day → nanos_after (micros_of n) ≡ nanos_at day (cut s)
 late_moment n day s e late =
     let k = days_late day late in
-    ap (λ (x : ℤ). nanos_after (int_div x (pos 1000))) (late_difference n day s e k.0 k.1) ∙ (late_cut k.0 s ∙ ap (λ (x : ℤ). moment x (cut s)) (sym k.1))
+    ap (λ (x : ℤ). nanos_after (int_div x (pos 1000))) (late_difference n day s e k.0 k.1) ∙ (late_cut k.0 s ∙ ap (λ (x : ℤ). nanos_at x (cut s)) (sym k.1))
 
 -- and one before it
-early_moment : (n day : ℤ) (s : ℕ) → n ≡ moment day s → day <ℤ pos 10_957 → s < 86_400_000_000_000 → nanos_after (micros_of n) ≡ moment day (cut_up s)
+early_moment : (n day : ℤ) (s : ℕ) → n ≡ nanos_at day s → day <ℤ pos 10_957 → s < 86_400_000_000_000 → nanos_after (micros_of n) ≡ nanos_at day (cut_up s)
 early_moment n day s e early lt =
     let j = days_early day early in
     let at_least = j.2 in
@@ -148,18 +145,18 @@ early_moment n day s e early lt =
 -- ---- a date-time at a moment
 
 abbrev HasMoment : ℤ → ℕ → Type 0
-HasMoment day nanos = (at : DateTime) × (civil_nanos at ≡ moment day nanos)
+HasMoment day nanos = (at : DateTime) × (civil_nanos at ≡ nanos_at day nanos)
 
 at_moment : (d : Date) (s : ℕ) → s < 86_400_000_000_000 → HasMoment (epoch_day d) s
 at_moment d s lt =
     let at : DateTime = record { date = d; time = time_of s lt } in
-    (at, civil_nanos-parts at ∙ ap (λ (x : ℕ). moment (epoch_day d) x) (time_nanos-time_of s lt))
+    (at, civil_nanos-parts at ∙ ap (λ (x : ℕ). nanos_at (epoch_day d) x) (time_nanos-time_of s lt))
 
 midnight_fits : 0 < 86_400_000_000_000
 midnight_fits = omega arith
 
 -- a day that ends is the next one's midnight
-day_ends : (day : ℤ) (s : ℕ) → s < 86_400_000_000_000 → nat_lt (cut_up s) 86_400_000_000_000 ≡ false → moment (day +ℤ pos 1) 0 ≡ moment day (cut_up s)
+day_ends : (day : ℤ) (s : ℕ) → s < 86_400_000_000_000 → nat_lt (cut_up s) 86_400_000_000_000 ≡ false → nanos_at (day +ℤ pos 1) 0 ≡ nanos_at day (cut_up s)
 day_ends day s lt e =
     let ge = ltb-false (cut_up s) 86_400_000_000_000 e in
     omega (arith, ints, lt, ge)
@@ -170,7 +167,7 @@ cut_up_found d s early lt true e = at_moment d (cut_up s) (ltb-true (cut_up s) 8
 cut_up_found d s early lt false e =
     let next = has_next d early in
     let midnight = at_moment next.0 0 midnight_fits in
-    (midnight.0, midnight.1 ∙ (ap (λ (x : ℤ). moment x 0) next.1 ∙ day_ends (epoch_day d) s lt e))
+    (midnight.0, midnight.1 ∙ (ap (λ (x : ℤ). nanos_at x 0) next.1 ∙ day_ends (epoch_day d) s lt e))
 
 -- ---- the date-time that is found
 

@@ -11,7 +11,7 @@ use Rattle.jiff_core.specs.DateTime.{civil_nanos}
 use Rattle.jiff_core.specs.Time.{time_nanos}
 use Rattle.jiff_core.specs.Timestamp.{IsTimestampNanos}
 use Rattle.jiff_core.proofs.DateTimeLemmas.{time_nanos_bound}
-use Rattle.pgv_value.specs.DateTimeBinary.{nanos_after}
+use Rattle.pgv_value.specs.DateTimeBinary.{first_nanosecond, nanos_after}
 use Rattle.pgv_codec.specs.DateTimeBinary.{micros_of}
 use Rattle.pgv_codec.specs.DateTimeFound.{found}
 use Rattle.pgv_codec.specs.TimeOfDay.{time_of, time_nanos-time_of, cut, cut_fits}
@@ -43,7 +43,7 @@ pub instant_fits : (n : ℤ) → IsTimestampNanos n → IsTimestampNanos (nanos_
 instant_fits n h =
     let low : ℤ = neg_ℤ (pos 378_651_708_001_000_000_000) in
     let high : ℤ = pos 252_455_522_400_999_999_999 in
-    let c = cut_between low high (n -ℤ pos 946_684_800_000_000_000) (omega (arith, ints)) (omega (arith, ints)) (omega (arith, ints, h.0)) (omega (arith, ints, h.1)) in
+    let c = cut_between low high (n -ℤ first_nanosecond) (omega (arith, ints)) (omega (arith, ints)) (omega (arith, ints, h.0)) (omega (arith, ints, h.1)) in
     (omega (arith, ints, c.0), omega (arith, ints, c.1))
 
 abbrev pub instant_kept : Timestamp → Timestamp

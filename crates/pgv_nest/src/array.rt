@@ -1,6 +1,6 @@
 //! The heads of arrays in binary (PostgreSQL, "Arrays"; array_send).
 
-ghost use Rattle.std.specs.Prelude.{◌≡◌, ◌≤◌, false, true, length, is_some, IfOk, IfErr, IfSome, option_map};
+ghost use Rattle.std.specs.Prelude.{◌≡◌, ◌≤◌, false, true, length, IfOk, IfErr, IfSome, option_map};
 ghost use Rattle.pgv_types.specs.Facts.{is_custom};
 ghost use Rattle.pgv_types.specs.Parts.{ref_type};
 ghost use Rattle.pgv_value.specs.Reading.{Answers, AnswersExactly, Refuses};

@@ -1,6 +1,6 @@
 //! The fields of records in binary, up to their frames (PostgreSQL, "Composite Types"; record_send).
 
-ghost use Rattle.std.specs.Prelude.{◌≡◌, ◌+◌, false, length, slice_get, Some, None, IfOk, IfErr, option_map};
+ghost use Rattle.std.specs.Prelude.{◌≡◌, ◌+◌, false, length, slice_get, IfOk, IfErr, option_map};
 ghost use Rattle.pgv_types.specs.Facts.{oid_of};
 ghost use Rattle.pgv_value.specs.Reading.{Answers, AnswersExactly, Refuses};
 ghost use Rattle.pgv_nest.specs.NestRefusals.{by_own_oid_refusal, composite_refusal, copies_field, field_head_refusal, field_type_refusal, is_copied};

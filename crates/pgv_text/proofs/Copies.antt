@@ -13,9 +13,8 @@ use Rattle.pgv_text.specs.declared.scanner.Cell.{Cell}
 use Rattle.pgv_text.specs.declared.scanner.Cell.TheVariants.{Keep, Pass, Part, End, Refuse}
 use Rattle.pgv_text.specs.NestText.{Form}
 use Rattle.pgv_text.specs.Forms.{form_of}
-use Rattle.pgv_text.specs.PartFound.{halts}
 use Rattle.pgv_text.specs.Scan.{class, cell, outside_cell, quoted_cell, after_quote_cell, ends, stops}
-use Rattle.pgv_text.specs.Copies.{as_it_is, as_it_is_by, bare, bare_by, copies_after, copies_by, in_quotes, in_quotes_by, next_copies, part_ends, stop_at, stop_by}
+use Rattle.pgv_text.specs.Copies.{as_it_is, as_it_is_by, bare, bare_by, copies_after, copies_by, in_quotes, in_quotes_by, part_ends, stop_at, stop_by}
 
 -- ---- usual bytes, in one step
 
@@ -67,14 +66,6 @@ module _ (form : Form) where
   pub copies_there : (p q : Place) (text rest : List ℕ) (b : ℕ) (k : Cell) → stop_at form p text ≡ Some (q, b ∷ rest) → k ≡ cell form q (class form b) →
       copies_after form p text ≡ copies_by form rest (λ r. copies_after form r rest) k
   copies_there p q text rest b k found is = same_copies text (b ∷ rest) p q found ∙ ap (copies_by form rest (λ r. copies_after form r rest)) (sym is)
-
-  -- where a part ends, the next one begins
-  pub copies_ended : (bs : List ℕ) (go : Place → List Bool) (k : Cell) → halts k ≡ true → copies_by form bs go k ≡ next_copies form bs (go Start)
-  copies_ended bs go (Keep q) h = absurd (false≢true h)
-  copies_ended bs go (Pass q) h = absurd (false≢true h)
-  copies_ended bs go Part h = refl
-  copies_ended bs go End h = refl
-  copies_ended bs go Refuse h = refl
 
   -- ---- the part in front, outside quotes
 

@@ -5,13 +5,13 @@ use Rattle.std.specs.Str.{IsUtf8}
 use Rattle.std.proofs.lemmas.Bool.{eqb-true, false≢true}
 use Rattle.pgv_text.specs.declared.scanner.TextForm.TheVariants.{Array}
 use Rattle.pgv_text.specs.declared.scanner.Place.TheVariants.{Start}
-use Rattle.pgv_text.specs.declared.scanner.Cell.TheVariants.{Part, End}
+use Rattle.pgv_text.specs.declared.scanner.Cell.TheVariants.{Part}
 use Rattle.pgv_text.specs.declared.scanner.Cell.{Cell}
 use Rattle.pgv_text.specs.ArrayText.{array_form}
 use Rattle.pgv_text.specs.NestText.{Nest, any}
 use Rattle.pgv_text.specs.Values.{array_values}
 use Rattle.pgv_text.proofs.Bytes.{nest_bytes}
-use Rattle.pgv_text.specs.Scan.{Rest, at_end, closes_here, counted, grown, nest_between, nest_read, next, read, read_by, value_here, values_from}
+use Rattle.pgv_text.specs.Scan.{Rest, closes_here, counted, grown, nest_between, nest_read, next, read, read_by, value_here, values_from}
 
 -- after an opening bracket, where the closing one doesn't follow at once
 open_values : (b : ℕ) (bs : List ℕ) (r : Option Rest) (closes : Bool) → closes ≡ false →
@@ -58,7 +58,3 @@ module _ (bytes part rest : List ℕ) (b : ℕ) where
   pub element_next : (k : Cell) → k ≡ Part → read array_form Start bytes ≡ grown part (read_by array_form b rest (λ q. read array_form q rest) k) →
       option_map (values_from array_form bytes) (read array_form Start bytes) ≡ option_map (λ values. value_here array_form bytes part ∷ values) (option_map (values_from array_form rest) (read array_form Start rest))
   element_next k e h = ap (option_map (values_from array_form bytes)) h ∙ rw e (more (read array_form Start rest))
-
-  last : (after : List ℕ) → (End ≡ End → after ≡ [] → ⊥) → read array_form Start bytes ≡ grown part (at_end b after) → option_map (values_from array_form bytes) (read array_form Start bytes) ≡ None
-  last [] m h = absurd (m refl refl)
-  last (c ∷ cs) m h = ap (option_map (values_from array_form bytes)) h

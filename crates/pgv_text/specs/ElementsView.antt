@@ -31,8 +31,8 @@ element_copied e = not (e.ended || as_it_is array_form e.rest.now)
 abbrev pub distance : Elements → ℕ
 distance e = cond e.ended 0 (1 + length e.rest.now)
 
--- what came next, with the text that it may have been put into
+-- what came next, with the text that it may have been put into; at the end and at a fault nothing moves on
 abbrev pub Follows : Next → List ℕ → Elements → Elements → Type 0
 Follows (Element part) text was now = (ahead was ≡ option_map (λ values. part_value part text ∷ values) (ahead now)) × (distance now < distance was)
-Follows End text was now = ahead was ≡ Some []
-Follows Fault text was now = ahead was ≡ None
+Follows End text was now = (ahead was ≡ Some []) × (now ≡ was)
+Follows Fault text was now = (ahead was ≡ None) × (now ≡ was)

@@ -1,6 +1,6 @@
 //! The parts of a text, one by one.
 
-ghost use Rattle.std.specs.Prelude.{◌≡◌, ◌≢◌, ◌==◌, ◌+◌, ◌<◌, ◌∷◌, [], Option, Some, None, IfErr, IfOk, IfSome, IfNone, OnErr, OnOk, cond, drop, is_some, string_bytes, false, true, length};
+ghost use Rattle.std.specs.Prelude.{◌≡◌, ◌≢◌, ◌==◌, ◌<◌, ◌∷◌, [], Some, None, IfErr, IfOk, IfSome, IfNone, OnErr, OnOk, cond, drop, is_some, string_bytes, false, true, length};
 ghost use Rattle.std.specs.Option.{MatchOption, option_copied, option_map};
 ghost use Rattle.std.specs.Str.{chars};
 ghost use Rattle.pgv_text.specs.ArrayText.{array_form};

@@ -1,7 +1,7 @@
 //! One scanner for the texts of nests: a bracket, parts separated by commas, a bracket. A table of cells
 //! says what a byte does at a place, by its class; all bytes that mean something are ASCII.
 
-ghost use Rattle.std.specs.Prelude.{◌≡◌, ◌==◌, ◌++◌, ◌∷◌, ◌≤◌, Option, None, IfSome, true, drop, take, length};
+ghost use Rattle.std.specs.Prelude.{◌≡◌, ◌++◌, ◌∷◌, ◌≤◌, None, IfSome, true, drop, take, length};
 ghost use Rattle.std.specs.Option.{MatchOption};
 ghost use Rattle.pgv_text.specs.Forms.{form_of};
 ghost use Rattle.pgv_text.specs.declared.scanner.Class.TheVariants.{Other};

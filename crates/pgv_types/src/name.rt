@@ -1,6 +1,6 @@
 //! Names of types, and when two agree: as identifiers do, whose quotes keep the case of what stands
 //! between them (PostgreSQL, "Lexical Structure", "Identifiers and Key Words").
-ghost use Rattle.std.specs.Prelude.{◌≡◌, ℕ, List, ◌∷◌, ◌++◌, codes, true, option_to_list, Decides};
+ghost use Rattle.std.specs.Prelude.{◌≡◌, ℕ, List, ◌∷◌, ◌++◌, codes, option_to_list, Decides};
 ghost use Rattle.std.specs.Option.{option_map};
 ghost use Rattle.std.specs.Str.{chars, bytes_eq};
 ghost use Rattle.std.specs.Iterator.{YieldsFirst, YieldsFirstBy, item_count};

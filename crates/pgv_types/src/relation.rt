@@ -10,7 +10,7 @@ use crate::{Oid, PgType, PgTypeInfo, PgTypeKind};
 impl PgType {
     /// The OID, or that of the type under a domain.
     #[inline(always)]
-    pub(crate) fn base_oid(&self) -> Option<Oid>
+    fn base_oid(&self) -> Option<Oid>
         ensures { option_map (λ o. o.0) result ≡ base_oid (type_of self.now) }
     {
         match self {

@@ -1,5 +1,5 @@
 //! Types as callers hold them.
-ghost use Rattle.std.specs.Prelude.{◌≡◌, ◌||◌, false, option_map, IfOk};
+ghost use Rattle.std.specs.Prelude.{◌≡◌, false, option_map, IfOk};
 ghost use Rattle.pgv_types.specs.Whole.{whole};
 ghost use Rattle.pgv_types.specs.Facts.{is_void, oid_of, element_of, element_built_in, name_element, kind_at, kind_when_built_in, name_of, has_brackets, display_of, shows_brackets, is_a_type, built_in};
 ghost use Rattle.pgv_types.specs.Relations.{is_by_oid};

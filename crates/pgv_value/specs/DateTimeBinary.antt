@@ -15,10 +15,17 @@ use Rattle.pgv_value.specs.declared.error.CodecError.{CodecError}
 use Rattle.pgv_value.specs.declared.error.CodecError.TheVariants.{Syntax}
 use Rattle.pgv_value.specs.declared.value.PgValueFormat.{PgValueFormat}
 
--- The day number that many days after 2000-01-01, which is day 10957, where there is such a date.
+-- 2000-01-01, as its day number and as its first nanosecond
+abbrev pub first_day : ℤ
+first_day = pos 10_957
+
+abbrev pub first_nanosecond : ℤ
+first_nanosecond = pos 946_684_800_000_000_000
+
+-- The day number that many days after 2000-01-01, where there is such a date.
 abbrev pub day_after : ℤ → Option ℤ
 day_after days =
-    if int_le (neg_ℤ (pos 4_371_587)) (days +ℤ pos 10_957) && int_le (days +ℤ pos 10_957) (pos 2_932_896) then Some (days +ℤ pos 10_957)
+    if int_le (neg_ℤ (pos 4_371_587)) (days +ℤ first_day) && int_le (days +ℤ first_day) (pos 2_932_896) then Some (days +ℤ first_day)
     else None
 
 -- The nanoseconds of the time that many microseconds after midnight, round the clock.
@@ -27,7 +34,7 @@ time_after micros = unsigned_abs (int_rem_euclid micros (pos 86_400_000_000)) * 
 
 -- The nanoseconds from 1970 that many microseconds after 2000-01-01 00:00.
 abbrev pub nanos_after : ℤ → ℤ
-nanos_after micros = micros *ℤ pos 1000 +ℤ pos 946_684_800_000_000_000
+nanos_after micros = micros *ℤ pos 1000 +ℤ first_nanosecond
 
 -- The number, if a date-time has it.
 abbrev pub civil_at : ℤ → Option ℤ

@@ -5,7 +5,6 @@ ghost use Rattle.std.specs.Option.{option_copied};
 ghost use Rattle.pgv_types.specs.Facts.{IsNotCustom};
 ghost use Rattle.pgv_value.specs.FrameBinary.{front, frame_fault};
 ghost use Rattle.pgv_value.specs.RowView.{held_bytes};
-ghost use Rattle.pgv_value.specs.ValueView.{Given};
 ghost use Rattle.pgv_value.specs.Utf8.{is_utf8, RefusesText};
 ghost use Rattle.pgv_value.specs.declared.error.CodecError.TheVariants.{UnexpectedNull, Memory};
 ghost use Rattle.pgv_value.specs.declared.value.PgValueFormat.TheVariants.{Text};

@@ -1,6 +1,6 @@
 //! Records: composite types, field by field.
 
-ghost use Rattle.std.specs.Prelude.{IfErr, OnOk, OnErr, ◌≡◌, ◌≢◌, ◌+◌, ◌<◌, length, false, true, None, IfOk, IsErrOf};
+ghost use Rattle.std.specs.Prelude.{IfErr, OnOk, OnErr, ◌≡◌, ◌≢◌, ◌<◌, length, false, None, IfOk, IsErrOf};
 ghost use Rattle.std.specs.Borrow.{sem, RestsIfErr};
 ghost use Rattle.pgv_text.specs.Copies.{copies_of};
 ghost use Rattle.pgv_text.specs.PartsView.{copies, nest};
@@ -9,7 +9,7 @@ ghost use Rattle.pgv_text.specs.declared.scanner.TextForm.TheVariants.{Record};
 ghost use Rattle.pgv_value.specs.Reading.{Answers, AnswersExactly};
 ghost use Rattle.pgv_value.specs.declared.error.CodecError.TheVariants.{UnexpectedNull, Syntax, Memory, FieldCount};
 ghost use Rattle.pgv_nest.specs.NestRefusals.{field_refusal, field_takes, fields_refusal, next_refusal, next_takes};
-ghost use Rattle.pgv_nest.specs.RecordGrammar.{field_head, field_in, fields_of, next, Takes, Left, left_code};
+ghost use Rattle.pgv_nest.specs.RecordGrammar.{field_head, field_in, fields_of, next, Takes};
 ghost use Rattle.pgv_codec.specs.Image.{field, counted_field};
 ghost use Rattle.pgv_codec.specs.Outcome.{Refused, Appended, AppendedAll};
 ghost use Rattle.pgv_codec.specs.Record.{IsOpen, begun, so_far, AddsField};

@@ -6,7 +6,7 @@ ghost use Rattle.jiff.specs.Words.{civil_nanos, epoch_day, time_nanos};
 ghost use Rattle.pgv_text.specs.DateTimeText.{instant_nanos};
 ghost use Rattle.pgv_value.specs.DateTimeBinary.{civil_at, date_reading, date_time_reading, date_time_refusal, day_after, instant_reading, nanos_after, time_after, time_reading};
 ghost use Rattle.pgv_value.specs.Reading.{AnswersExactly};
-ghost use Rattle.pgv_value.specs.declared.error.CodecError.TheVariants.{OutOfRange, UnexpectedNull};
+ghost use Rattle.pgv_value.specs.declared.error.CodecError.TheVariants.{UnexpectedNull};
 
 use super::int::whole_number_of;
 use crate::error::CodecError;

@@ -37,7 +37,7 @@ pub returns-in-End-clause-exact : goal.returns-in-End-clause-exact
 returns-in-End-clause-exact g c =
     let read = g.T.Decode.reading g.T.Type.info Text in
     let end = rw c.in-End.is at c.in_ok-part.ensures.next in
-    parts_done_ahead read (map g.T.Decode.meaning c.loop-unquoted.items.items) (ahead c.loop-unquoted.elements) (array_in_text read c.args.text.now) end c.loop-unquoted.invariant.0
+    parts_done_ahead read (map g.T.Decode.meaning c.loop-unquoted.items.items) (ahead c.loop-unquoted.elements) (array_in_text read c.args.text.now) end.0 c.loop-unquoted.invariant.0
 
 pub loop-unquoted-preserved : goal.loop-unquoted-preserved
 loop-unquoted-preserved g c =
