@@ -4,7 +4,7 @@ use pgv::types::PgRange;
 use pgv::{CodecError, Encode, IsNull, PgArgumentBuffer, PgHasArrayType, PgTypeInfo, Type};
 use pgv_examples::empty_object::EmptyObject;
 use pgv_examples::pair::Pair;
-use std::alloc::{AllocError, Global};
+use std::alloc::AllocError;
 
 /// A range with a type of its own, which `PgRange` has for the bounds of PostgreSQL's own ranges alone.
 #[derive(Drop)]

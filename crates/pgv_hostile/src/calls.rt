@@ -18,7 +18,6 @@ use pgv_examples::percent::Percent;
 use pgv_examples::user_id::UserId;
 use std::alloc::Global;
 use std::net::IpAddr;
-use std::time::Duration;
 use uuid::Uuid;
 
 /// A tuple of as many numbers as the name says, or none.

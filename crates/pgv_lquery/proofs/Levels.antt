@@ -4,7 +4,8 @@ use Rattle.std.specs.Prelude.{◌==◌, Ok, Err}
 use Rattle.std.proofs.lemmas.Bool.{ne_eqb}
 use Rattle.pgv_value.specs.declared.tree_error.PgLQueryParseError.{PgLQueryParseError}
 use Rattle.pgv_value.specs.declared.tree_error.PgLQueryParseError.TheVariants.{Memory}
-use Rattle.pgv_lquery.specs.QueryRead.{begins_level, begins_with_star, begins_with_variant, level_read, read_as, variants_read}
+use Rattle.pgv_lquery.specs.QueryRead.{begins_level, begins_with_variant, level_read, read_as, variants_read}
+use Rattle.pgv_lquery.specs.QueryText.{begins_with_star}
 use Rattle.pgv_lquery.specs.Queries.{Variant, one_of}
 
 other_level : (text : List ℕ) (empty : Bool) → empty ≡ (length text == 0) → empty ≡ false → ((rest : List ℕ) → text ≢ 42 ∷ rest) → ((rest : List ℕ) → text ≢ 33 ∷ rest) → level_read text ≡ read_as (λ vs. one_of vs) (variants_read text)

@@ -113,11 +113,6 @@ level_read (c ∷ text) =
 abbrev pub query_read : List ℕ → Result (List Level) PgLQueryParseError
 query_read text = read_each level_read (slice_split (λ c. c == 46) text)
 
--- whether the text begins with a star: it asks for no memory, whatever comes after it
-abbrev pub begins_with_star : List ℕ → Bool
-begins_with_star [] = false
-begins_with_star (c ∷ text) = c == 42
-
 -- whether the text is a star, or begins with a variant: what is seen of a level before memory is asked for
 abbrev pub begins_level : List ℕ → Bool
 begins_level [] = false

@@ -4,7 +4,8 @@ ghost use Rattle.std.specs.Prelude.{◌≡◌, ◌⊎◌, false, true, IfOk, IfE
 ghost use Rattle.pgv_value.specs.declared.tree_error.PgLQueryParseError.TheVariants.{Memory};
 ghost use Rattle.pgv_lquery.specs.LevelView.{level_of};
 ghost use Rattle.pgv_lquery.specs.QueryPrinted.{printed_level};
-ghost use Rattle.pgv_lquery.specs.QueryRead.{begins_level, begins_with_star, begins_with_variant, between_read, bound_read, braced, count_read, inner_read, level_read, star_read, variants_read};
+ghost use Rattle.pgv_lquery.specs.QueryRead.{begins_level, begins_with_variant, between_read, bound_read, braced, count_read, inner_read, level_read, star_read, variants_read};
+ghost use Rattle.pgv_lquery.specs.QueryText.{begins_with_star};
 
 mod print;
 

@@ -11,5 +11,4 @@ pub mod variant;
 pub use flag::PgLQueryVariantFlag;
 pub use level::PgLQueryLevel;
 pub use lquery::PgLQuery;
-pub use pgv_value::{PgLQueryParseError, PgLTreeParseError};
 pub use variant::PgLQueryVariant;

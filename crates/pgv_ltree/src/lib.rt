@@ -9,6 +9,5 @@ pub mod version;
 
 pub use label::PgLTreeLabel;
 pub use ltree::PgLTree;
-pub use pgv_value::PgLTreeParseError;
 pub use sink::Sink;
 pub use version::text_after_version;

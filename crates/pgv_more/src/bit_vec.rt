@@ -274,7 +274,7 @@ fn append_bit(bytes: &mut Vec<u8>, count: usize, bit: bool) -> Result<(), AllocE
 }
 
 /// Cuts bytes to their first `count` bits, with zeros after them in the last byte.
-pub(crate) fn cut(bytes: &mut Vec<u8>, count: usize)
+fn cut(bytes: &mut Vec<u8>, count: usize)
     requires { count ≤ 8 * length bytes.old.items }
     ensures { bytes.new.items ≡ packed (take count (bits_of bytes.old.items)) }
 {

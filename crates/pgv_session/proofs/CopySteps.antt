@@ -18,7 +18,7 @@ use Rattle.pgv_copy.specs.CopyBinary.{Read, Step, header, before, step}
 use Rattle.pgv_copy.specs.CopyView.{Copying}
 use Rattle.pgv_session.specs.CopiedView.{infos, ShowsField, FieldsFrom, ShowsRow, CopiesIn, YieldsIn}
 use Rattle.pgv_session.specs.Lines.{before as before_mark, rest_after, words, with_first}
-use Rattle.pgv_session.specs.Session.{State, RespondsBy, fields_shown, row_shown, rows_named, rows_told, Yields, EndsWith, CopiesFrom, Reads, refused, IsRefusal}
+use Rattle.pgv_session.specs.Session.{State, RespondsBy, fields_shown, row_shown, rows_named, Yields, EndsWith, CopiesFrom, Reads, refused, IsRefusal}
 use Rattle.pgv_session.specs.Spelled.{to_read}
 use Rattle.pgv_session.specs.ToldView.{told_text, TellsOf}
 use Rattle.pgv_session.specs.Types.{Row, types, row_named}
@@ -102,11 +102,6 @@ ends : (w : Option (List Row)) (types : List Ty) (bytes rest : List ℕ) (texts 
 ends None column_types bytes rest texts reader answer hd y a = tt
 ends (Some columns) column_types bytes rest texts reader answer hd y a =
     λ e. subst (λ (r : Read (List ℕ)). CopiesFrom columns r answer) (sym hd) (texts, reader, y e, a columns refl)
-
-pub all_rows : (w : Option (List Row)) (types : List Ty) (bytes rest : List ℕ) (texts : List (List ℕ)) (reader next : Copying) (answer : List ℕ) → header bytes ≡ Ok rest → YieldsIn w types rest texts reader → step reader ≡ Ok (None, next) →
-    answer ≡ rows_told texts → CopiesIn w types (header bytes) answer
-all_rows w types bytes rest texts reader next answer hd y s t =
-    ends w types bytes rest texts reader answer hd y (λ columns e. subst (λ (x : Step). EndsWith columns texts x answer) (sym s) t)
 
 refused_here : (w : Option (List Row)) (columns : List Row) (row : List Given) (text : Text) → w ≡ Some columns → ShowsRow w row (Refused text) → ShowsRow (Some columns) row (Refused text)
 refused_here w columns row text e h = subst (λ (x : Option (List Row)). ShowsRow x row (Refused text)) e h

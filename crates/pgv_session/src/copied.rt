@@ -1,6 +1,6 @@
 //! The rows of a COPY stream, as the program answers them.
 
-ghost use Rattle.std.specs.Prelude.{◌≡◌, Some, IfOk, map, string_bytes};
+ghost use Rattle.std.specs.Prelude.{◌≡◌, IfOk, map, string_bytes};
 ghost use Rattle.pgv_copy.specs.CopyBinary.{header};
 ghost use Rattle.pgv_session.specs.CopiedView.{TypesFrom, ShowsField, FieldsFrom, ShowsRow, CopiesIn};
 ghost use Rattle.pgv_session.specs.Lines.{words};

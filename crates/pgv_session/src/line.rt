@@ -1,6 +1,6 @@
 //! What a line asks for.
 
-ghost use Rattle.std.specs.Prelude.{◌≡◌, Option, option_map, bytes_eq, IfOk};
+ghost use Rattle.std.specs.Prelude.{◌≡◌, option_map, bytes_eq, IfOk};
 ghost use Rattle.std.specs.Option.{option_copied};
 ghost use Rattle.hex.specs.Hex.{decode_of};
 ghost use Rattle.pgv_text.specs.NumberText.{unsigned_value};

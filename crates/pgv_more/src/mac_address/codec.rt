@@ -1,6 +1,6 @@
 //! MAC addresses, written and read (PostgreSQL, "Network Address Types", macaddr).
 
-ghost use Rattle.std.specs.Prelude.{ℕ, List, None, Some, refl};
+ghost use Rattle.std.specs.Prelude.{ℕ, List, refl};
 ghost use Rattle.pgv_types.specs.Ty.{builtin};
 ghost use Rattle.pgv_types.specs.Relations.{softly};
 ghost use Rattle.pgv_more.specs.MacAddressCodec.{mac_image, mac_reading, mac_refusal};

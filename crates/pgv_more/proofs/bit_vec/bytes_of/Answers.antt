@@ -1,8 +1,8 @@
-use Rattle.std.proofs.Common.{◌≡◌, ◌<◌, ℕ, List, sym, ◌∙◌, ap, arith, rules, ◌++◌, ◌∷◌, [], length, append_assoc}
+use Rattle.std.proofs.Common.{◌≡◌, ℕ, List, sym, ◌∙◌, ap, arith, rules, ◌++◌, ◌∷◌, [], length, append_assoc}
 use Rattle.std.specs.Prelude.{map}
 use Rattle.std.specs.Slice.Iter.{chunks_rest}
 use Rattle.std.proofs.lemmas.List.{append-nil, length-append, nil_from_length}
-use Rattle.pgv_more.specs.Bits.{number_of, packed}
+use Rattle.pgv_more.specs.Bits.{packed}
 use Rattle.pgv_more.proofs.Kept.{packs_chunk, no_bytes}
 use Rattle.pgv_more.proofs.bit_vec.bytes_of.Goals as goal
 
