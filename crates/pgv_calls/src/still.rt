@@ -48,6 +48,7 @@ fn types() -> bool {
         && named.name().text() == "_mood"
         && name_eq("foo", "FOO")
         && PgTypeInfo::with_oid(Oid(1)).oid() == Some(Oid(1))
+        && PgTypeInfo(PgType::Void).is_void()
 }
 
 /// Frames that are read from the front, and values that are lent.
@@ -160,7 +161,9 @@ fn networks() -> bool {
     Ipv4Network::new(Ipv4Addr::from_octets([10, 0, 0, 0]), 8).is_some_and(|found| found.prefix()
         == 8)
         && Ipv6Network::new(local, 129).is_none()
-        && IpNetwork::new(IpAddr::V6(local), 128).is_some_and(|found| found.prefix() == 128)
+        && IpNetwork::new(IpAddr::V6(local), 128).is_some_and(|found| found.prefix() == 128
+            && found.is_ipv6()
+            && !found.is_ipv4())
 }
 
 /// A record of one field.

@@ -1,6 +1,7 @@
 //! A composite type of fixed fields, written and read: `create type page as (id int4, path ltree)`.
 //!
-//! The answer of `encode_by_ref` is `proofs/page/PageEncode/encode_by_ref/Answers.antt`, with one `more_fields` for each field.
+//! The answer of `encode_by_ref` is `proofs/page/PageEncode/encode_by_ref/Answers.antt`, with one `more_fields` for each field, and an
+//! answer for the refusal of each.
 
 use pgv::types::PgLTree;
 use pgv::{

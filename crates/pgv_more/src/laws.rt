@@ -1,7 +1,7 @@
 //! What is proved of these types and of the definitions that say what they are. Each law is the contract of a function that does
 //! nothing.
 
-ghost use Rattle.std.specs.Prelude.{◌≡◌, ℕ, Bool, false, List, Some, None, codes, string_bytes};
+ghost use Rattle.std.specs.Prelude.{◌≡◌, ◌↔◌, ℕ, Bool, false, true, List, Some, None, codes, string_bytes};
 ghost use Rattle.pgv_types.specs.Ty.{Ty, builtin, named};
 ghost use Rattle.pgv_codec.specs.ScalarBinary.{text_image};
 ghost use Rattle.pgv_codec.specs.TypeRow.{IsBuiltIn, IsRefusedAs, IsWrittenAs, TakesNone};
@@ -125,6 +125,11 @@ pub fn ci_text_is_a_citext()
     ensures means { ⟦<crate::PgCiText as Decode>⟧.meaning ≡ (λ text. string_bytes text.0) }
     ensures read { ⟦<crate::PgCiText as Decode>⟧.reading ≡ ⟦<String as Decode>⟧.reading }
     ensures refused { (⟦<crate::PgCiText as Decode>⟧.refusal ≡ ⟦<String as Decode>⟧.refusal) × (⟦<crate::PgCiText as Decode>⟧.takes_memory ≡ ⟦<String as Decode>⟧.takes_memory) }
+{}
+
+/// Lists of bits are equal exactly where they have the same bits.
+pub fn equal_bits()
+    ensures { (a b : List Bool) → (⟦<crate::BitVec as PartialEq>⟧.eq a b ≡ true) ↔ (a ≡ b) }
 {}
 
 /// A text is `\x` and two hex digits for each byte exactly where these bytes are read of it.
