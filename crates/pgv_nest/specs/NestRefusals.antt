@@ -7,7 +7,7 @@
 -- what a part's type says; without a field left C25. Null is C13.
 -- What asks for memory: the copy of a custom type, the list of an array's elements, a part of a record's text that doesn't stand in
 -- it as it is, and what a part's type asks for. What can't be read before that is always answered as itself.
-use Rattle.std.specs.Prelude.{ℕ, zero, suc, nat_eq, nat_lt, Bool, true, false, ◌&&◌, ◌||◌, ◌==◌, List, [], ◌∷◌, length, Option, Some, None, if◌then◌else◌}
+use Rattle.std.specs.Prelude.{ℕ, zero, suc, nat_eq, nat_lt, Bool, false, ◌&&◌, ◌||◌, ◌==◌, List, [], ◌∷◌, length, Option, Some, None, if◌then◌else◌}
 use Rattle.std.specs.Int.{w32, cast_signed}
 use Rattle.pgv_types.specs.Ty.{Ty, builtin, custom, named, by_oid, array_of, Kind, simple, pseudo, domain, composite, array as array_kind, enumeration, range}
 use Rattle.pgv_types.specs.Facts.{is_custom}

@@ -1,7 +1,6 @@
-use Rattle.std.proofs.Common.{◌≡◌, ◌<◌, ℕ, List, Some, [], length, sym, ◌∙◌, ap, arith}
+use Rattle.std.proofs.Common.{◌<◌, ℕ, List, Some, length, sym, ◌∙◌, ap, arith}
 use Rattle.std.proofs.lemmas.Bool.Decides.{nat_tests}
 use Rattle.pgv_more.proofs.ByteaDigits.{nothing_is_read, others_not_read, pairs_are_read}
-use Rattle.pgv_more.specs.ByteaText.{bytea_in_text}
 use Rattle.pgv_more.proofs.bytea.of_text.Goals as goal
 
 pub returns-then-is_empty-clause-exact : goal.returns-then-is_empty-clause-exact
