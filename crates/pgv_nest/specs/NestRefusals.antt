@@ -115,8 +115,7 @@ has_room count bytes = nat_lt 0 count && nat_lt 3 (length bytes)
 abbrev pub head_takes : Head → Bool
 head_takes h = copies_element h || has_room h.count h.frames
 
--- in text: the list, before its first element is read
-
+-- of a whole array; in text it is the list, before its first element is read
 abbrev pub array_takes : Taking
 array_takes t f None = false
 array_takes t Text (Some bytes) = is_utf8 bytes && has_items (array_values bytes)
