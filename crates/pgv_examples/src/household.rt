@@ -33,13 +33,17 @@ impl Type for Household {
 }
 
 impl Encode for Household {
-    ghost use Rattle.std.specs.Prelude.{[], ◌∷◌};
-    ghost use Rattle.pgv.specs.Words.{field, record_image};
+    ghost use Rattle.std.specs.Prelude.{[], ◌∷◌, None};
+    ghost use Rattle.pgv.specs.Words.{field, field_unwritable, record_image};
 
     ghost image = { λ v. record_image (
         field ⟦<i32 as Encode>⟧.hint ⟦<i32 as Encode>⟧.image ⟦<i32 as Encode>⟧.produced ⟦<i32 as Type>⟧.info v.number
         ∷ field ⟦<Vec<Mood> as Encode>⟧.hint ⟦<Vec<Mood> as Encode>⟧.image ⟦<Vec<Mood> as Encode>⟧.produced ⟦<Vec<Mood> as Type>⟧.info v.moods
         ∷ []) };
+
+    ghost unwritable = { λ v.
+        field_unwritable ⟦<i32 as Encode>⟧.hint ⟦<i32 as Encode>⟧.image ⟦<i32 as Encode>⟧.produced ⟦<i32 as Type>⟧.info ⟦<i32 as Encode>⟧.unwritable v.number
+        (field_unwritable ⟦<Vec<Mood> as Encode>⟧.hint ⟦<Vec<Mood> as Encode>⟧.image ⟦<Vec<Mood> as Encode>⟧.produced ⟦<Vec<Mood> as Type>⟧.info ⟦<Vec<Mood> as Encode>⟧.unwritable v.moods None) };
 
     fn encode_by_ref(&self, out: &mut PgArgumentBuffer) -> Result<IsNull, CodecError> {
         let mut record = PgRecordEncoder::new(out)?;

@@ -1,6 +1,7 @@
 //! A composite type of fixed fields, written and read: `create type page as (id int4, path ltree)`.
 //!
-//! The answer of `encode_by_ref` is `proofs/page/PageEncode/encode_by_ref/Answers.antt`, with one `more_fields` for each field.
+//! The answer of `encode_by_ref` is `proofs/page/PageEncode/encode_by_ref/Answers.antt`, with one `more_fields` for each field, and an
+//! answer for the refusal of each.
 
 use pgv::types::PgLTree;
 use pgv::{
@@ -53,13 +54,17 @@ impl PgHasArrayType for Page {
 }
 
 impl Encode for Page {
-    ghost use Rattle.std.specs.Prelude.{[], ◌∷◌};
-    ghost use Rattle.pgv.specs.Words.{field, record_image};
+    ghost use Rattle.std.specs.Prelude.{[], ◌∷◌, None};
+    ghost use Rattle.pgv.specs.Words.{field, field_unwritable, record_image};
 
     ghost image = { λ v. record_image (
         field ⟦<i32 as Encode>⟧.hint ⟦<i32 as Encode>⟧.image ⟦<i32 as Encode>⟧.produced ⟦<i32 as Type>⟧.info v.id
         ∷ field ⟦<PgLTree as Encode>⟧.hint ⟦<PgLTree as Encode>⟧.image ⟦<PgLTree as Encode>⟧.produced ⟦<PgLTree as Type>⟧.info v.path
         ∷ []) };
+
+    ghost unwritable = { λ v.
+        field_unwritable ⟦<i32 as Encode>⟧.hint ⟦<i32 as Encode>⟧.image ⟦<i32 as Encode>⟧.produced ⟦<i32 as Type>⟧.info ⟦<i32 as Encode>⟧.unwritable v.id
+        (field_unwritable ⟦<PgLTree as Encode>⟧.hint ⟦<PgLTree as Encode>⟧.image ⟦<PgLTree as Encode>⟧.produced ⟦<PgLTree as Type>⟧.info ⟦<PgLTree as Encode>⟧.unwritable v.path None) };
 
     fn encode_by_ref(&self, out: &mut PgArgumentBuffer) -> Result<IsNull, CodecError> {
         let mut record = PgRecordEncoder::new(out)?;

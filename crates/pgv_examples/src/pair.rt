@@ -37,10 +37,12 @@ impl<A, B> Type for Pair<A, B> {
 }
 
 impl<A: Encode + Type, B: Encode + Type> Encode for Pair<A, B> {
-    ghost use Rattle.std.specs.Prelude.{[], ◌∷◌};
-    ghost use Rattle.pgv.specs.Words.{field, record_image};
+    ghost use Rattle.std.specs.Prelude.{[], ◌∷◌, None};
+    ghost use Rattle.pgv.specs.Words.{field, field_unwritable, record_image};
 
     ghost image = { λ v. record_image (field A.hint A.image A.produced A.info v.first ∷ field B.hint B.image B.produced B.info v.second ∷ []) };
+
+    ghost unwritable = { λ v. field_unwritable A.hint A.image A.produced A.info A.unwritable v.first (field_unwritable B.hint B.image B.produced B.info B.unwritable v.second None) };
 
     fn encode_by_ref(&self, out: &mut PgArgumentBuffer) -> Result<IsNull, CodecError> {
         let mut record = PgRecordEncoder::new(out)?;
