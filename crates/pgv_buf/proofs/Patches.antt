@@ -6,9 +6,9 @@ use Rattle.pgv_types.specs.Relations.{softly}
 use Rattle.pgv_types.specs.declared.oid.Oid.{Oid}
 use Rattle.pgv_buf.specs.Tokens.{Token, byte, hole, slot, bytes, tokens_width, Cell, fixed, hole_cell, slot_cell, fixed_bytes, token_of, plain, be4, shown, cell_shown, width, hole_count, CasesFit, chosen}
 use Rattle.pgv_buf.specs.Blank.{plain-append}
-use Rattle.pgv_buf.specs.Proper.{Proper, Proper-front, Proper-back, Proper-append, first_type, shown-append, length-shown, width-append}
-use Rattle.pgv_buf.specs.Fill.{fill_holes, rest_numbers, fill_slots, rest_types}
-use Rattle.pgv_buf.specs.Layout.{is_hole, is_slot, token_width, if_so, places, rest_of, slots_of, Layout, layout_of, Represents}
+use Rattle.pgv_buf.specs.Proper.{Proper, Proper-front, Proper-back, Proper-append, first_type, shown-append, length-shown, width-append, rest_of}
+use Rattle.pgv_buf.specs.Fill.{fill_holes, fill_slots}
+use Rattle.pgv_buf.specs.Layout.{is_hole, is_slot, token_width, if_so, places, slots_of, Layout, layout_of, Represents}
 use Rattle.pgv_buf.specs.Patches.{put, first_string, written, Within, numbers, choices}
 use Rattle.pgv_buf.proofs.Layouts.{width_first, width-plain, layout-append, with_more, wide}
 use Rattle.pgv_buf.proofs.Steps.{shown-bytes, plain-bytes, Proper-bytes, bytes_alone}
@@ -93,13 +93,13 @@ numbers_show os (slot_cell d cs s ∷ ts) h = ap (λ r. s ++ r) (numbers_show os
 pub holes_plain : (os : List Oid) (ts : List Cell) → plain (fill_holes os ts) ≡ plain ts
 holes_plain os [] = refl
 holes_plain os (fixed x ∷ ts) = ap (λ r. byte x ∷ r) (holes_plain os ts)
-holes_plain os (hole_cell t s ∷ ts) = ap (λ r. hole t ∷ r) (holes_plain (rest_numbers os) ts)
+holes_plain os (hole_cell t s ∷ ts) = ap (λ r. hole t ∷ r) (holes_plain (rest_of os) ts)
 holes_plain os (slot_cell d cs s ∷ ts) = ap (λ r. slot d cs ∷ r) (holes_plain os ts)
 
 holes_proper : (os : List Oid) (ts : List Cell) → Proper ts → Proper (fill_holes os ts)
 holes_proper os [] p = tt
 holes_proper os (fixed x ∷ ts) p = holes_proper os ts p
-holes_proper os (hole_cell t s ∷ ts) p = (refl, holes_proper (rest_numbers os) ts p.1)
+holes_proper os (hole_cell t s ∷ ts) p = (refl, holes_proper (rest_of os) ts p.1)
 holes_proper os (slot_cell d cs s ∷ ts) p = (p.0, p.1, holes_proper os ts p.2)
 
 pub holes_filled :
@@ -129,26 +129,26 @@ choices_fit ps [] p = refl
 choices_fit ps (fixed x ∷ ts) p = choices_fit ps ts p
 choices_fit ps (hole_cell t s ∷ ts) p = choices_fit ps ts p.1
 choices_fit ps (slot_cell d cs s ∷ ts) p =
-    ap (λ n. n ∷ map length (choices (rest_types ps) (slots_of (plain ts)))) (chosen_fits (first_type ps) d cs p.1)
-    ∙ ap (λ r. length d ∷ r) (choices_fit (rest_types ps) ts p.2)
+    ap (λ n. n ∷ map length (choices (rest_of ps) (slots_of (plain ts)))) (chosen_fits (first_type ps) d cs p.1)
+    ∙ ap (λ r. length d ∷ r) (choices_fit (rest_of ps) ts p.2)
 
 choices_show : (ps : List Ty) (ts : List Cell) → showing is_slot (choices ps (slots_of (plain ts))) ts ≡ shown (fill_slots ps ts)
 choices_show ps [] = refl
 choices_show ps (fixed x ∷ ts) = ap (λ r. x ∷ r) (choices_show ps ts)
 choices_show ps (hole_cell t s ∷ ts) = ap (λ r. s ++ r) (choices_show ps ts)
-choices_show ps (slot_cell d cs s ∷ ts) = ap (λ r. chosen (first_type ps) d cs ++ r) (choices_show (rest_types ps) ts)
+choices_show ps (slot_cell d cs s ∷ ts) = ap (λ r. chosen (first_type ps) d cs ++ r) (choices_show (rest_of ps) ts)
 
 pub slots_plain : (ps : List Ty) (ts : List Cell) → plain (fill_slots ps ts) ≡ plain ts
 slots_plain ps [] = refl
 slots_plain ps (fixed x ∷ ts) = ap (λ r. byte x ∷ r) (slots_plain ps ts)
 slots_plain ps (hole_cell t s ∷ ts) = ap (λ r. hole t ∷ r) (slots_plain ps ts)
-slots_plain ps (slot_cell d cs s ∷ ts) = ap (λ r. slot d cs ∷ r) (slots_plain (rest_types ps) ts)
+slots_plain ps (slot_cell d cs s ∷ ts) = ap (λ r. slot d cs ∷ r) (slots_plain (rest_of ps) ts)
 
 slots_proper : (ps : List Ty) (ts : List Cell) → Proper ts → Proper (fill_slots ps ts)
 slots_proper ps [] p = tt
 slots_proper ps (fixed x ∷ ts) p = slots_proper ps ts p
 slots_proper ps (hole_cell t s ∷ ts) p = (p.0, slots_proper ps ts p.1)
-slots_proper ps (slot_cell d cs s ∷ ts) p = (chosen_fits (first_type ps) d cs p.1, p.1, slots_proper (rest_types ps) ts p.2)
+slots_proper ps (slot_cell d cs s ∷ ts) p = (chosen_fits (first_type ps) d cs p.1, p.1, slots_proper (rest_of ps) ts p.2)
 
 pub slots_filled :
     {ts : List Cell} {b : List ℕ} {l : Layout} → Represents ts b l →

@@ -6,7 +6,8 @@ use Rattle.pgv_buf.specs.Tokens.{chosen}
 use Rattle.pgv_buf.specs.declared.fill.Slot.{Slot}
 use Rattle.pgv_buf.specs.TokensView.{kept_of}
 use Rattle.pgv_buf.specs.Layout.{Kept}
-use Rattle.pgv_buf.specs.Fill.{slot_types, rest_types}
+use Rattle.pgv_buf.specs.Fill.{slot_types}
+use Rattle.pgv_buf.specs.Proper.{rest_of}
 use Rattle.pgv_buf.specs.Patches.{put, written, Within, choices}
 
 -- ---- one string
@@ -41,7 +42,7 @@ choices-append (suc n) t ts (x ∷ xs) ys h = ap (λ r. chosen t x.standard x.ca
 
 length-choices : (ts : List Ty) (ks : List Kept) → length (choices ts ks) ≡ length ks
 length-choices ts [] = refl
-length-choices ts (k ∷ ks) = omega (arith, length-choices (rest_types ts) ks)
+length-choices ts (k ∷ ks) = omega (arith, length-choices (rest_of ts) ks)
 
 split_choices :
     (n : ℕ) (t : Ty) (ts : List Ty) (ks : List Kept) → length (take n ks) ≡ n →

@@ -3,7 +3,7 @@ use Rattle.std.specs.Prelude.{◌≡◌, ℕ, ◌+◌, ◌==◌, Bool, true, fal
 use Rattle.std.proofs.Common.{suc, zero}
 use Rattle.pgv_types.specs.Ty.{Ty}
 use Rattle.pgv_buf.specs.Tokens.{tokens_hole_types, Token, byte, hole, slot, Cell, fixed, hole_cell, slot_cell, plain, shown}
-use Rattle.pgv_buf.specs.Proper.{Proper, first_type}
+use Rattle.pgv_buf.specs.Proper.{Proper, first_type, first_or_zero, rest_of}
 
 -- holes and slots are pieces: of known places and widths, and written over
 abbrev pub is_hole : Token → Bool
@@ -62,17 +62,9 @@ abbrev pub first_at : ℕ → List ℕ → Bool
 first_at i [] = false
 first_at i (p ∷ ps) = p == i
 
-abbrev pub rest_of : {A : Type 0} → List A → List A
-rest_of [] = []
-rest_of (x ∷ xs) = xs
-
 abbrev pub first_slot : List Kept → Kept
 first_slot [] = record { standard = []; cases = [] }
 first_slot (k ∷ ks) = k
-
-abbrev pub first_byte : List ℕ → ℕ
-first_byte [] = 0
-first_byte (x ∷ xs) = x
 
 abbrev pub is_empty : List ℕ → Bool
 is_empty [] = true
@@ -86,7 +78,7 @@ parse (suc n) i b ps ts qs ks =
     (slot_cell (first_slot ks).standard (first_slot ks).cases (take (length (first_slot ks).standard) b) ∷ parse n (i + length (first_slot ks).standard) (drop (length (first_slot ks).standard) b) ps ts (rest_of qs) (rest_of ks))
     (cond (first_at i ps)
     (hole_cell (first_type ts) (take 4 b) ∷ parse n (i + 4) (drop 4 b) (rest_of ps) (rest_of ts) qs ks)
-    (cond (is_empty b) [] (fixed (first_byte b) ∷ parse n (i + 1) (rest_of b) ps ts qs ks)))
+    (cond (is_empty b) [] (fixed (first_or_zero b) ∷ parse n (i + 1) (rest_of b) ps ts qs ks)))
 
 unfoldable pub tokens_of : List ℕ → Layout → List Cell
 tokens_of b l = parse (length b + length l.holes + length l.slot_places) 0 b l.holes l.types l.slot_places l.slots

@@ -3,9 +3,8 @@ use Rattle.std.specs.Prelude.{ℕ, ◌+◌, ◌≤◌, List, [], ◌∷◌, ◌+
 use Rattle.pgv_types.specs.Ty.{Ty}
 use Rattle.pgv_types.specs.declared.oid.Oid.{Oid}
 use Rattle.pgv_buf.specs.Tokens.{be4, chosen}
-use Rattle.pgv_buf.specs.Proper.{first_type}
-use Rattle.pgv_buf.specs.Fill.{rest_types}
-use Rattle.pgv_buf.specs.Layout.{Kept, rest_of}
+use Rattle.pgv_buf.specs.Proper.{first_type, rest_of}
+use Rattle.pgv_buf.specs.Layout.{Kept}
 
 -- w in place of what stood at p
 abbrev pub put : ℕ → List ℕ → List ℕ → List ℕ
@@ -32,4 +31,4 @@ numbers os = map (λ o. be4 o.0) os
 -- what is written into slots, where each has a type
 abbrev pub choices : List Ty → List Kept → List (List ℕ)
 choices ps [] = []
-choices ps (k ∷ ks) = chosen (first_type ps) k.standard k.cases ∷ choices (rest_types ps) ks
+choices ps (k ∷ ks) = chosen (first_type ps) k.standard k.cases ∷ choices (rest_of ps) ks

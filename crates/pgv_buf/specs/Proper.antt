@@ -1,5 +1,5 @@
 -- Which cells a buffer has, and the laws of joining cells.
-use Rattle.std.specs.Prelude.{◌≡◌, ◌+◌, List, [], ◌∷◌, ◌++◌, length, refl}
+use Rattle.std.specs.Prelude.{◌≡◌, ℕ, ◌+◌, List, [], ◌∷◌, ◌++◌, length, refl}
 use Rattle.std.proofs.Common.{arith, length-append}
 use Rattle.std.proofs.lemmas.Grind.{flat_map-append}
 use Rattle.pgv_types.specs.Ty.{Ty, by_oid}
@@ -15,6 +15,14 @@ Proper (slot_cell d cs s ∷ ts) = (length s ≡ length d) × CasesFit (length d
 abbrev pub first_type : List Ty → Ty
 first_type [] = by_oid 0
 first_type (t ∷ ts) = t
+
+abbrev pub first_or_zero : List ℕ → ℕ
+first_or_zero [] = 0
+first_or_zero (n ∷ ns) = n
+
+abbrev pub rest_of : {A : Type 0} → List A → List A
+rest_of [] = []
+rest_of (x ∷ xs) = xs
 
 pub shown-append : (a c : List Cell) → shown (a ++ c) ≡ shown a ++ shown c
 shown-append = flat_map-append cell_shown

@@ -13,7 +13,8 @@ use Rattle.std.specs.Prelude.{◌≡◌, ℕ, suc, ◌<◌, ◌^◌, Bool, true,
 use Rattle.pgv_types.specs.Ty.{Ty}
 use Rattle.pgv_types.specs.Facts.{oid_of}
 use Rattle.pgv_types.specs.declared.oid.Oid.{Oid}
-use Rattle.pgv_buf.specs.Fill.{first_number, rest_numbers}
+use Rattle.pgv_buf.specs.Fill.{first_number}
+use Rattle.pgv_buf.specs.Proper.{rest_of}
 use Rattle.pgv_buf.specs.Tokens.{Token, byte, hole, slot, bytes, be4, tokens_holes, CasesFit}
 use Rattle.pgv_value.specs.Reading.{Reading}
 use Rattle.pgv_value.specs.declared.value.PgValueFormat.TheVariants.{Binary}
@@ -77,7 +78,7 @@ written_oid None os = first_number os
 -- the OIDs that are left after it
 abbrev pub oids_after : Option ℕ → List Oid → List Oid
 oids_after (Some o) os = os
-oids_after None os = rest_numbers os
+oids_after None os = rest_of os
 
 -- how many OIDs a value takes
 abbrev pub holes_of : Option Image → ℕ

@@ -9,7 +9,8 @@ use Rattle.std.proofs.lemmas.List.{length-append}
 use Rattle.std.proofs.lemmas.Option.{same_Some}
 use Rattle.pgv_types.specs.Ty.{Ty}
 use Rattle.pgv_types.specs.declared.oid.Oid.{Oid}
-use Rattle.pgv_buf.specs.Fill.{first_number, rest_numbers}
+use Rattle.pgv_buf.specs.Fill.{first_number}
+use Rattle.pgv_buf.specs.Proper.{rest_of}
 use Rattle.pgv_buf.specs.Tokens.{Token, byte, hole, slot, bytes, be4, tokens_width, tokens_holes, CasesFit}
 use Rattle.pgv_buf.proofs.Patches.{chosen_fits}
 use Rattle.pgv_value.specs.FrameBinary.{Part, IsFrame}
@@ -44,7 +45,7 @@ length-chosen_for (Some p) d cs fit = chosen_fits p d cs fit
 pub length-write : (p : Option Ty) (os : List Oid) (ts : List Token) → SlotsFit ts → length (write p os ts) ≡ tokens_width ts
 length-write p os [] fit = refl
 length-write p os (byte b ∷ ts) fit = let ih = length-write p os ts fit in omega arith
-length-write p os (hole t ∷ ts) fit = let ih = length-write p (rest_numbers os) ts fit in omega arith
+length-write p os (hole t ∷ ts) fit = let ih = length-write p (rest_of os) ts fit in omega arith
 length-write p os (slot d cs ∷ ts) fit =
     let ih = length-write p os ts fit.1 in
     length-append (chosen_for p d cs) (write p os ts) ∙ omega (arith, ih, length-chosen_for p d cs fit.0)

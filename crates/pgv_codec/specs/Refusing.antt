@@ -3,13 +3,13 @@
 -- Written: a frame whose size hint is above 2147483647 is C2 before anything else, a value without an image is what it says
 -- itself, and an image above 2147483647 bytes is C2. A list of more than 2147483647 elements is C3, and another is what its first
 -- element without a frame is refused with. A field after 4294967295 others is C12.
-use Rattle.std.specs.Prelude.{◌≡◌, ℕ, Bool, true, false, nat_eq, nat_le, List, [], ◌∷◌, length, Option, Some, None, IfSome, IfErr, Result, cond, if◌then◌else◌}
+use Rattle.std.specs.Prelude.{◌≡◌, ◌≢◌, ℕ, Bool, true, false, nat_eq, nat_le, List, [], ◌∷◌, length, Option, Some, None, IfSome, IfErr, Result, cond, if◌then◌else◌}
 use Rattle.pgv_types.specs.Ty.{Ty}
 use Rattle.pgv_buf.specs.Tokens.{Token, tokens_width}
 use Rattle.pgv_value.specs.Reading.{Refuses}
 use Rattle.pgv_value.specs.Utf8.{is_utf8}
 use Rattle.pgv_value.specs.declared.error.CodecError.{CodecError}
-use Rattle.pgv_value.specs.declared.error.CodecError.TheVariants.{ValueSize, ArrayLength, FieldCount, UnexpectedNull, Utf8}
+use Rattle.pgv_value.specs.declared.error.CodecError.TheVariants.{Memory, ValueSize, ArrayLength, FieldCount, UnexpectedNull, Utf8}
 use Rattle.pgv_value.specs.declared.value.PgValueFormat.{PgValueFormat}
 use Rattle.pgv_nest.specs.NestRefusals.{Refusal, Taking, is_copied}
 use Rattle.pgv_codec.specs.Image.{Image, null_image, image_of, field, frame, limit}
@@ -21,9 +21,10 @@ RefusedBy why e = IfSome why (λ stated. Refuses e (e ≡ stated))
 abbrev pub RefusedFor : {V : Type 0} → Option CodecError → Result V CodecError → Type 0
 RefusedFor why result = IfSome why (λ stated. IfErr result (λ e. Refuses e (e ≡ stated)))
 
--- the same where no memory is asked for
+-- The same where no memory is asked for: exactly what is stated, and where nothing is, anything but out of memory.
 abbrev pub RefusedExactly : {V : Type 0} → Option CodecError → Result V CodecError → Type 0
-RefusedExactly why result = IfSome why (λ stated. IfErr result (λ e. e ≡ stated))
+RefusedExactly None result = IfErr result (λ e. e ≢ Memory)
+RefusedExactly (Some stated) result = IfErr result (λ e. e ≡ stated)
 
 -- ---- written
 

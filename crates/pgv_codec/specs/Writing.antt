@@ -6,7 +6,8 @@
 use Rattle.std.specs.Prelude.{ℕ, List, [], ◌∷◌, ◌++◌, Option, Some, None}
 use Rattle.pgv_types.specs.Ty.{Ty}
 use Rattle.pgv_types.specs.declared.oid.Oid.{Oid}
-use Rattle.pgv_buf.specs.Fill.{first_number, rest_numbers}
+use Rattle.pgv_buf.specs.Fill.{first_number}
+use Rattle.pgv_buf.specs.Proper.{rest_of}
 use Rattle.pgv_buf.specs.Tokens.{Token, byte, hole, slot, be4, chosen, tokens_holes}
 use Rattle.pgv_value.specs.FrameBinary.{Part}
 use Rattle.pgv_codec.specs.Image.{Image, null_image, image_of}
@@ -20,7 +21,7 @@ chosen_for (Some p) d cs = chosen p d cs
 abbrev pub write : Option Ty → List Oid → List Token → List ℕ
 write p os [] = []
 write p os (byte x ∷ ts) = x ∷ write p os ts
-write p os (hole t ∷ ts) = be4 (first_number os) ++ write p (rest_numbers os) ts
+write p os (hole t ∷ ts) = be4 (first_number os) ++ write p (rest_of os) ts
 write p os (slot d cs ∷ ts) = chosen_for p d cs ++ write p os ts
 
 -- the part that an image is written as, for a parameter type, or for none, and with the OIDs of its holes

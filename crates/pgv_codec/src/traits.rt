@@ -73,7 +73,7 @@ pub trait Encode {
     ghost unwritable: { Self → Option CodecError } = { λ _. None };
 
     /// Whether memory may be asked for before a value without an image is refused. Where it isn't, it is refused with what `unwritable`
-    /// states, never as out of memory.
+    /// states, and where that is none, with anything but out of memory (C1).
     ghost asks_first: { Self → Bool } = { λ _. true };
 
     /// Appends the value's image. `Yes` says that it is null, and then nothing was appended.
@@ -125,7 +125,8 @@ pub trait Decode: Sized + Drop {
     ghost written: { Ty → Meaning → Saying };
 
     /// Whether reading may ask for memory, by type, format and bytes. Where it doesn't, it is refused only where nothing is read, and
-    /// with what `refusal` states, never as out of memory: what is seen before the first request is answered as itself.
+    /// with what `refusal` states, and where that is none, with anything but out of memory (C1): what is seen before the first request
+    /// is answered as itself.
     ghost takes_memory: { Ty → Format → Option (List ℕ) → Bool } = { λ _ _ _. true };
 
     /// Which refusal is answered, out of memory aside, by type, format and bytes: none where the type doesn't state it. A plain type

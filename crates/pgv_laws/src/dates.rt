@@ -2,7 +2,8 @@
 
 ghost use Rattle.std.specs.Prelude.{◌≡◌, ◌*◌, ◌/◌, None};
 ghost use Rattle.jiff.specs.Words.{civil_nanos, epoch_day, time_nanos};
-ghost use Rattle.pgv_value.specs.DateTimeBinary.{date_reading, date_time_reading, date_time_refusal, instant_reading, nanos_after, time_reading};
+ghost use Rattle.pgv_value.specs.DateTimeBinary.{date_reading, date_time_reading, instant_reading, nanos_after, time_reading};
+ghost use Rattle.pgv_value.specs.ScalarGrammar.{whole_or_syntax_refusal};
 ghost use Rattle.pgv_codec.specs.DateTimeBinary.{date_image, micros_of, moment_image, time_image};
 ghost use Rattle.pgv_codec.specs.TypeRow.{IsBuiltIn, IsRefusedAs, TakesNone};
 
@@ -19,7 +20,7 @@ pub fn date_is_a_date()
     ensures produced { ⟦<Date as Encode>⟧.produced ≡ (λ _. None) }
     ensures means { ⟦<Date as Decode>⟧.meaning ≡ (λ v. epoch_day v) }
     ensures read { ⟦<Date as Decode>⟧.reading ≡ date_reading }
-    ensures refused { IsRefusedAs date_time_refusal ⟦<Date as Decode>⟧.refusal × TakesNone ⟦<Date as Decode>⟧.takes_memory }
+    ensures refused { IsRefusedAs whole_or_syntax_refusal ⟦<Date as Decode>⟧.refusal × TakesNone ⟦<Date as Decode>⟧.takes_memory }
 {}
 
 /// A `Time` is a time (OID 1083), its microseconds in eight bytes, as `0000000a7a358200` for 12:30. Its arrays are `time[]` (1183).
@@ -33,7 +34,7 @@ pub fn time_is_a_time()
     ensures produced { ⟦<Time as Encode>⟧.produced ≡ (λ _. None) }
     ensures means { ⟦<Time as Decode>⟧.meaning ≡ (λ v. time_nanos v) }
     ensures read { ⟦<Time as Decode>⟧.reading ≡ time_reading }
-    ensures refused { IsRefusedAs date_time_refusal ⟦<Time as Decode>⟧.refusal × TakesNone ⟦<Time as Decode>⟧.takes_memory }
+    ensures refused { IsRefusedAs whole_or_syntax_refusal ⟦<Time as Decode>⟧.refusal × TakesNone ⟦<Time as Decode>⟧.takes_memory }
     ensures kept { (v : Time) → time_nanos (⟦<Time as ReadBack>⟧.kept v) ≡ time_nanos v / 1000 * 1000 }
 {}
 
@@ -48,7 +49,7 @@ pub fn date_time_is_a_timestamp()
     ensures produced { ⟦<DateTime as Encode>⟧.produced ≡ (λ _. None) }
     ensures means { ⟦<DateTime as Decode>⟧.meaning ≡ (λ v. civil_nanos v) }
     ensures read { ⟦<DateTime as Decode>⟧.reading ≡ date_time_reading }
-    ensures refused { IsRefusedAs date_time_refusal ⟦<DateTime as Decode>⟧.refusal × TakesNone ⟦<DateTime as Decode>⟧.takes_memory }
+    ensures refused { IsRefusedAs whole_or_syntax_refusal ⟦<DateTime as Decode>⟧.refusal × TakesNone ⟦<DateTime as Decode>⟧.takes_memory }
     ensures kept { (v : DateTime) → nanos_after (micros_of (civil_nanos v)) ≡ civil_nanos (⟦<DateTime as ReadBack>⟧.kept v) }
 {}
 
@@ -62,6 +63,6 @@ pub fn timestamp_is_a_timestamptz()
     ensures produced { ⟦<Timestamp as Encode>⟧.produced ≡ (λ _. None) }
     ensures means { ⟦<Timestamp as Decode>⟧.meaning ≡ (λ v. v.nanosecond) }
     ensures read { ⟦<Timestamp as Decode>⟧.reading ≡ instant_reading }
-    ensures refused { IsRefusedAs date_time_refusal ⟦<Timestamp as Decode>⟧.refusal × TakesNone ⟦<Timestamp as Decode>⟧.takes_memory }
+    ensures refused { IsRefusedAs whole_or_syntax_refusal ⟦<Timestamp as Decode>⟧.refusal × TakesNone ⟦<Timestamp as Decode>⟧.takes_memory }
     ensures kept { (v : Timestamp) → (⟦<Timestamp as ReadBack>⟧.kept v).nanosecond ≡ nanos_after (micros_of v.nanosecond) }
 {}

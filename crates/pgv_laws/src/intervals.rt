@@ -3,7 +3,8 @@
 ghost use Rattle.std.specs.Prelude.{◌≡◌, false, pos, Some, None};
 ghost use Rattle.std.specs.Duration.{as_nanos};
 ghost use Rattle.jiff.specs.Words.{signed_nanos};
-ghost use Rattle.pgv_value.specs.Interval.{interval_reading, interval_refusal};
+ghost use Rattle.pgv_value.specs.Interval.{interval_reading};
+ghost use Rattle.pgv_value.specs.ScalarGrammar.{short_refusal};
 ghost use Rattle.pgv_codec.specs.Intervals.{interval_image, duration_image, duration_refused};
 ghost use Rattle.pgv_codec.specs.TypeRow.{IsBuiltIn, IsRefusedAs, TakesNone};
 
@@ -22,7 +23,7 @@ pub fn pg_interval_is_an_interval()
     ensures produced { ⟦<PgInterval as Encode>⟧.produced ≡ (λ _. None) }
     ensures means { ⟦<PgInterval as Decode>⟧.meaning ≡ (λ v. v) }
     ensures read { ⟦<PgInterval as Decode>⟧.reading ≡ interval_reading }
-    ensures refused { IsRefusedAs interval_refusal ⟦<PgInterval as Decode>⟧.refusal × TakesNone ⟦<PgInterval as Decode>⟧.takes_memory }
+    ensures refused { IsRefusedAs short_refusal ⟦<PgInterval as Decode>⟧.refusal × TakesNone ⟦<PgInterval as Decode>⟧.takes_memory }
 {}
 
 /// A `Duration` is an interval, and is written as that of its microseconds, where it is whole microseconds and 64 bits have

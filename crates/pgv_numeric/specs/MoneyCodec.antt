@@ -6,10 +6,7 @@ use Rattle.std.specs.Int.{w64, cast_unsigned, to_be_bytes}
 use Rattle.pgv_value.specs.Interval.{eight_bytes}
 use Rattle.pgv_value.specs.Laws.{AreBytes}
 use Rattle.pgv_value.specs.Reading.{Reading}
-use Rattle.pgv_value.specs.ScalarGrammar.{binary_alone, refusal_alone}
-use Rattle.pgv_value.specs.declared.error.CodecError.{CodecError}
-use Rattle.pgv_value.specs.declared.error.CodecError.TheVariants.{Short}
-use Rattle.pgv_value.specs.declared.value.PgValueFormat.{PgValueFormat}
+use Rattle.pgv_value.specs.ScalarGrammar.{binary_alone}
 
 -- the bytes begin with the form of this amount, and anything comes after it
 abbrev pub IsMoney : List ℕ → ℤ → Type 0
@@ -21,10 +18,6 @@ money_in_binary bytes = if nat_lt (length bytes) 8 then None else Some (eight_by
 
 abbrev pub money_reading : Reading ℤ
 money_reading = binary_alone money_in_binary
-
--- fewer than eight bytes are C15
-abbrev pub money_refusal : PgValueFormat → Option (List ℕ) → CodecError
-money_refusal = refusal_alone (λ _. Short)
 
 -- bytes are an amount exactly where it is read of them
 abbrev pub MoneyIsRead : Type 0

@@ -6,10 +6,11 @@ ghost use Rattle.std.specs.Int.{w64};
 ghost use Rattle.pgv_codec.specs.TypeRow.{IsBuiltIn, IsRefusedAs, IsWrittenAs, TakesNone};
 ghost use Rattle.pgv_codec.specs.ScalarBinary.{signed_image};
 ghost use Rattle.pgv_numeric.specs.Laws.{NumericIsRead, OneNumeric, OneMoney, NumericsAreEqual};
-ghost use Rattle.pgv_numeric.specs.MoneyCodec.{money_reading, money_refusal, MoneyIsRead};
+ghost use Rattle.pgv_numeric.specs.MoneyCodec.{money_reading, MoneyIsRead};
 ghost use Rattle.pgv_numeric.specs.Numeric.{numeric_asks_first, numeric_image, numeric_of, numeric_reading, numeric_refusal, numeric_refused, numeric_takes};
 ghost use Rattle.pgv_types.specs.declared.oid.Oid.{Oid};
 ghost use Rattle.pgv_types.specs.Ty.{Ty};
+ghost use Rattle.pgv_value.specs.ScalarGrammar.{short_refusal};
 
 use pgv_codec::{Decode, Encode, PgHasArrayType, ReadBack, Type};
 
@@ -20,7 +21,7 @@ pub fn money_is_a_money()
     ensures written { IsWrittenAs (λ amount. signed_image w64 amount.0) ⟦<crate::PgMoney as Encode>⟧.hint ⟦<crate::PgMoney as Encode>⟧.image ⟦<crate::PgMoney as Encode>⟧.produced }
     ensures means { ⟦<crate::PgMoney as Decode>⟧.meaning ≡ (λ amount. amount.0) }
     ensures read { ⟦<crate::PgMoney as Decode>⟧.reading ≡ money_reading }
-    ensures refused { IsRefusedAs money_refusal ⟦<crate::PgMoney as Decode>⟧.refusal × TakesNone ⟦<crate::PgMoney as Decode>⟧.takes_memory }
+    ensures refused { IsRefusedAs short_refusal ⟦<crate::PgMoney as Decode>⟧.refusal × TakesNone ⟦<crate::PgMoney as Decode>⟧.takes_memory }
 {}
 
 /// A `PgNumeric` is a numeric (OID 1700), words of two bytes. Its arrays are `numeric[]` (1231).

@@ -8,12 +8,9 @@ use Rattle.std.specs.Prelude.{ℕ, ◌*◌, ◌&&◌, if◌then◌else◌, ℤ, 
 use Rattle.std.specs.Option.{option_map, option_and_then}
 use Rattle.std.specs.Int.{int_rem_euclid}
 use Rattle.pgv_text.specs.DateTimeText.{date_value, time_value, date_time_value, instant_value, instant_nanos}
-use Rattle.pgv_value.specs.NumberBinary.{in_range, whole_number, whole_refusal}
+use Rattle.pgv_value.specs.NumberBinary.{in_range, whole_number}
 use Rattle.pgv_value.specs.Reading.{Reading}
-use Rattle.pgv_value.specs.ScalarGrammar.{scalar, refusal}
-use Rattle.pgv_value.specs.declared.error.CodecError.{CodecError}
-use Rattle.pgv_value.specs.declared.error.CodecError.TheVariants.{Syntax}
-use Rattle.pgv_value.specs.declared.value.PgValueFormat.{PgValueFormat}
+use Rattle.pgv_value.specs.ScalarGrammar.{scalar}
 
 -- 2000-01-01, as its day number and as its first nanosecond
 abbrev pub first_day : ℤ
@@ -56,7 +53,3 @@ date_time_reading = scalar (λ bytes. option_and_then (λ micros. civil_at (nano
 -- timestamptz: microseconds from 2000-01-01 00:00 UTC
 abbrev pub instant_reading : Reading ℤ
 instant_reading = scalar (λ bytes. option_and_then (λ micros. instant_nanos (nanos_after micros)) (whole_number bytes)) instant_value
-
--- Why each of them is refused: C17 or C30 in binary, and C29 in text.
-abbrev pub date_time_refusal : PgValueFormat → Option (List ℕ) → CodecError
-date_time_refusal = refusal whole_refusal (λ _. Syntax)

@@ -7,11 +7,10 @@ use Rattle.std.specs.Int.RustNames.{int_div, int_rem}
 use Rattle.std.specs.Ordering.{int_eq}
 use Rattle.pgv_value.specs.NumberBinary.{fits_signed}
 use Rattle.pgv_value.specs.Reading.{Reading}
-use Rattle.pgv_value.specs.ScalarGrammar.{binary_alone, refusal_alone}
+use Rattle.pgv_value.specs.ScalarGrammar.{binary_alone}
 use Rattle.pgv_value.specs.declared.interval.PgInterval.{PgInterval}
 use Rattle.pgv_value.specs.declared.error.CodecError.{CodecError}
-use Rattle.pgv_value.specs.declared.error.CodecError.TheVariants.{IntervalPrecision, IntervalOverflow, Short}
-use Rattle.pgv_value.specs.declared.value.PgValueFormat.{PgValueFormat}
+use Rattle.pgv_value.specs.declared.error.CodecError.TheVariants.{IntervalPrecision, IntervalOverflow}
 
 -- ---- of durations
 
@@ -51,7 +50,3 @@ interval_in_binary bytes =
 -- intervals are not read of text
 abbrev pub interval_reading : Reading PgInterval
 interval_reading = binary_alone interval_in_binary
-
--- why none is read: fewer than sixteen bytes are C15
-abbrev pub interval_refusal : PgValueFormat → Option (List ℕ) → CodecError
-interval_refusal = refusal_alone (λ _. Short)

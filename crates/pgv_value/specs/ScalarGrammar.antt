@@ -76,14 +76,19 @@ refusal_alone binary f None = UnexpectedNull
 refusal_alone binary Text (Some bytes) = TextUnsupported
 refusal_alone binary Binary (Some bytes) = binary bytes
 
+-- of intervals and amounts of money: too few bytes are C15
+abbrev pub short_refusal : PgValueFormat → Option (List ℕ) → CodecError
+short_refusal = refusal_alone (λ _. Short)
+
 abbrev pub bool_refusal : PgValueFormat → Option (List ℕ) → CodecError
 bool_refusal = refusal (λ _. Short) (λ _. Syntax)
 
 abbrev pub int_refusal : PgValueFormat → Option (List ℕ) → CodecError
 int_refusal = refusal whole_refusal (λ text. number_refusal (number_value text))
 
-abbrev pub char_refusal : PgValueFormat → Option (List ℕ) → CodecError
-char_refusal = refusal whole_refusal (λ _. Syntax)
+-- of "char", dates and times: in binary as an integer is refused, and any text outside its grammar is C29
+abbrev pub whole_or_syntax_refusal : PgValueFormat → Option (List ℕ) → CodecError
+whole_or_syntax_refusal = refusal whole_refusal (λ _. Syntax)
 
 abbrev pub oid_refusal : PgValueFormat → Option (List ℕ) → CodecError
 oid_refusal = refusal (λ _. Short) (λ text. number_refusal (unsigned_value text))

@@ -9,8 +9,8 @@ use Rattle.pgv_types.specs.Ty.{Ty}
 use Rattle.pgv_types.specs.declared.oid.Oid.{Oid}
 use Rattle.pgv_buf.specs.Tokens.{blank, plain, Cell, fixed, hole_cell, slot_cell, be4, shown, width, hole_count, slot_count, chosen}
 use Rattle.pgv_buf.specs.Blank.{holes-plain}
-use Rattle.pgv_buf.specs.Fill.{slot_count-filled, fill_holes, first_number, rest_numbers, fill_slots, slot_types, rest_types}
-use Rattle.pgv_buf.specs.Proper.{shown-append, first_type}
+use Rattle.pgv_buf.specs.Fill.{slot_count-filled, fill_holes, first_number, fill_slots, slot_types}
+use Rattle.pgv_buf.specs.Proper.{shown-append, first_type, rest_of}
 use Rattle.pgv_wire.specs.Arguments.{Argument, Framed, all_tokens, types_in, counts_in, framed, early, filled_arguments, filled_frame}
 use Rattle.pgv_codec.specs.Writing.{write}
 use Rattle.pgv_wire.specs.Counts.{AreCounts}
@@ -64,20 +64,20 @@ fill_holes-append os (slot_cell d cs s ∷ a) c = ap (λ r. slot_cell d cs s ∷
 width-filled : (os : List Oid) (a : List Cell) → width (fill_holes os a) ≡ width a
 width-filled os [] = refl
 width-filled os (fixed x ∷ a) = ap (λ n. 1 + n) (width-filled os a)
-width-filled os (hole_cell t s ∷ a) = ap (λ n. 4 + n) (width-filled (rest_numbers os) a)
+width-filled os (hole_cell t s ∷ a) = ap (λ n. 4 + n) (width-filled (rest_of os) a)
 width-filled os (slot_cell d cs s ∷ a) = ap (λ n. length d + n) (width-filled os a)
 
 width-slots : (ps : List Ty) (a : List Cell) → width (fill_slots ps a) ≡ width a
 width-slots ps [] = refl
 width-slots ps (fixed x ∷ a) = ap (λ n. 1 + n) (width-slots ps a)
 width-slots ps (hole_cell t s ∷ a) = ap (λ n. 4 + n) (width-slots ps a)
-width-slots ps (slot_cell d cs s ∷ a) = ap (λ n. length d + n) (width-slots (rest_types ps) a)
+width-slots ps (slot_cell d cs s ∷ a) = ap (λ n. length d + n) (width-slots (rest_of ps) a)
 
 slot_count-slots : (ps : List Ty) (a : List Cell) → slot_count (fill_slots ps a) ≡ slot_count a
 slot_count-slots ps [] = refl
 slot_count-slots ps (fixed x ∷ a) = slot_count-slots ps a
 slot_count-slots ps (hole_cell t s ∷ a) = slot_count-slots ps a
-slot_count-slots ps (slot_cell d cs s ∷ a) = ap (λ n. 1 + n) (slot_count-slots (rest_types ps) a)
+slot_count-slots ps (slot_cell d cs s ∷ a) = ap (λ n. 1 + n) (slot_count-slots (rest_of ps) a)
 
 pub width-frame : (p : Ty) (os : List Oid) (a : List Cell) → width (filled_frame p os a) ≡ width a
 width-frame p os a = width-slots (replicate (slot_count a) p) (fill_holes os a) ∙ width-filled os a
@@ -87,13 +87,13 @@ slot_count-frame p os a = slot_count-slots (replicate (slot_count a) p) (fill_ho
 
 types_in-filled : (args : List Argument) (ps : List Ty) (os : List Oid) → types_in (filled_arguments args ps os) ≡ types_in args
 types_in-filled [] ps os = refl
-types_in-filled (a ∷ args) ps os = ap (λ r. a.0 ∷ r) (types_in-filled args (rest_types ps) (drop (hole_count a.1) os))
+types_in-filled (a ∷ args) ps os = ap (λ r. a.0 ∷ r) (types_in-filled args (rest_of ps) (drop (hole_count a.1) os))
 
 counts_in-filled : (args : List Argument) (ps : List Ty) (os : List Oid) → counts_in (filled_arguments args ps os) ≡ counts_in args
 counts_in-filled [] ps os = refl
 counts_in-filled (a ∷ args) ps os =
     let e : slot_count (filled_frame (first_type ps) (take (hole_count a.1) os) a.1) ≡ slot_count a.1 = slot_count-frame (first_type ps) (take (hole_count a.1) os) a.1 in
-    ap (λ m. m ∷ counts_in (filled_arguments args (rest_types ps) (drop (hole_count a.1) os))) e ∙ ap (λ r. slot_count a.1 ∷ r) (counts_in-filled args (rest_types ps) (drop (hole_count a.1) os))
+    ap (λ m. m ∷ counts_in (filled_arguments args (rest_of ps) (drop (hole_count a.1) os))) e ∙ ap (λ r. slot_count a.1 ∷ r) (counts_in-filled args (rest_of ps) (drop (hole_count a.1) os))
 
 fill_slots-append :
     (n : ℕ) (p : Ty) (ps : List Ty) (a c : List Cell) → n ≡ slot_count a → fill_slots (replicate n p ++ ps) (a ++ c) ≡ fill_slots (replicate n p) a ++ fill_slots ps c
@@ -130,7 +130,7 @@ all_filled {args} {hs} {ns} {ts} s ps os ts' n m e = record {
 pub shown-frame : (n : ℕ) (p : Ty) (os : List Oid) (a : List Cell) → n ≡ slot_count a → shown (fill_slots (replicate n p) (fill_holes os a)) ≡ write (Some p) os (plain a)
 shown-frame n p os [] e = refl
 shown-frame n p os (fixed x ∷ a) e = ap (λ r. x ∷ r) (shown-frame n p os a e)
-shown-frame n p os (hole_cell t s ∷ a) e = ap (λ r. be4 (first_number os) ++ r) (shown-frame n p (rest_numbers os) a e)
+shown-frame n p os (hole_cell t s ∷ a) e = ap (λ r. be4 (first_number os) ++ r) (shown-frame n p (rest_of os) a e)
 shown-frame zero p os (slot_cell d cs s ∷ a) e = absurd (omega (arith, e))
 shown-frame (suc n) p os (slot_cell d cs s ∷ a) e = ap (λ r. chosen p d cs ++ r) (shown-frame n p os a (omega (arith, e)))
 
@@ -141,9 +141,9 @@ late_is_early (a ∷ args) ps os =
     let p : Ty = first_type ps in
     let o : List Oid = take (hole_count a.1) os in
     let r : List Oid = drop (hole_count a.1) os in
-    shown-append (filled_frame p o a.1) (all_tokens (filled_arguments args (rest_types ps) r))
-    ∙ (ap (λ x. x ++ shown (all_tokens (filled_arguments args (rest_types ps) r))) (shown-frame (slot_count a.1) p o a.1 refl) ∙ ap (λ x. write (Some p) o (plain a.1) ++ x) (late_is_early args (rest_types ps) r)
-    ∙ sym (ap (λ n. write (Some p) (take n os) (plain a.1) ++ early (framed args) (rest_types ps) (drop n os)) (holes-plain a.1)))
+    shown-append (filled_frame p o a.1) (all_tokens (filled_arguments args (rest_of ps) r))
+    ∙ (ap (λ x. x ++ shown (all_tokens (filled_arguments args (rest_of ps) r))) (shown-frame (slot_count a.1) p o a.1 refl) ∙ ap (λ x. write (Some p) o (plain a.1) ++ x) (late_is_early args (rest_of ps) r)
+    ∙ sym (ap (λ n. write (Some p) (take n os) (plain a.1) ++ early (framed args) (rest_of ps) (drop n os)) (holes-plain a.1)))
 
 pub sum-counts_in : (args : List Argument) → sum (counts_in args) ≡ slot_count (all_tokens args)
 sum-counts_in [] = refl

@@ -5,8 +5,7 @@ use Rattle.std.proofs.lemmas.Option.{same_Some}
 use Rattle.pgv_types.specs.Ty.{Ty}
 use Rattle.pgv_types.specs.declared.oid.Oid.{Oid}
 use Rattle.pgv_buf.specs.Blank.{plain-blank, holes-plain}
-use Rattle.pgv_buf.specs.Fill.{rest_types}
-use Rattle.pgv_buf.specs.Proper.{Proper, Proper-front, Proper-back, first_type}
+use Rattle.pgv_buf.specs.Proper.{Proper, Proper-front, Proper-back, first_type, rest_of}
 use Rattle.pgv_buf.specs.Tokens.{Token, byte, hole, slot, bytes, be4, tokens_width, tokens_holes, Cell, fixed, hole_cell, slot_cell, blank, plain, shown, hole_count}
 use Rattle.pgv_value.specs.FrameBinary.{Part}
 use Rattle.pgv_value.specs.Reading.{Reading}
@@ -56,10 +55,10 @@ parts_left (f ∷ fs) since (i ∷ is) ps os h =
     let same : plain c ≡ f.1 = plain-blank f.1 in
     let there : frame_of (Some i) ≡ Some (plain c) = h.0 ∙ ap (λ (r : List Token). let o : Option (List Token) = Some r in o) (sym same) in
     let many : hole_count c ≡ tokens_holes f.1 = sym (holes-plain c) ∙ ap tokens_holes same in
-    let rest : ℕ → List Part = λ n. parts_in is (filled_arguments (blanks fs) (rest_types ps) (drop n os) ++ blanks since) in
+    let rest : ℕ → List Part = λ n. parts_in is (filled_arguments (blanks fs) (rest_of ps) (drop n os) ++ blanks since) in
     ap (λ (p : Part). p ∷ rest (hole_count c)) (part_filled i c (first_type ps) (take (hole_count c) os) there)
     ∙ (ap (λ (n : ℕ). written_part i (Some (first_type ps)) (take n os) ∷ rest n) many
-    ∙ ap (λ (r : List Part). written_part i (Some (first_type ps)) (take (tokens_holes f.1) os) ∷ r) (parts_left fs since is (rest_types ps) (drop (tokens_holes f.1) os) h.1))
+    ∙ ap (λ (r : List Part). written_part i (Some (first_type ps)) (take (tokens_holes f.1) os) ∷ r) (parts_left fs since is (rest_of ps) (drop (tokens_holes f.1) os) h.1))
 
 pub parts_told : (calls : List Call) (is : List Image) → AreFrames is (added_in calls) → parts_in is (after [] calls) ≡ parts_given is (given_in (last_filling calls))
 parts_told calls is h =
@@ -115,7 +114,7 @@ since_fit (f ∷ fs) (suc k) g e = since_fit fs k g e
 oids_fit : (fs since : List Framed) (ps : List Ty) (os : List Oid) (k : ℕ) (g : Given) → AreOids os → slice_get (given_by fs ps os ++ given_none since) k ≡ Some g → AreOids g.oids
 oids_fit [] since ps os k g h e = since_fit since k g e
 oids_fit (f ∷ fs) since ps os zero g h e = subst (λ (x : Given). AreOids x.oids) (same_Some _ g e) (AreOids-take (tokens_holes f.1) os h)
-oids_fit (f ∷ fs) since ps os (suc k) g h e = oids_fit fs since (rest_types ps) (drop (tokens_holes f.1) os) k g (AreOids-drop (tokens_holes f.1) os h) e
+oids_fit (f ∷ fs) since ps os (suc k) g h e = oids_fit fs since (rest_of ps) (drop (tokens_holes f.1) os) k g (AreOids-drop (tokens_holes f.1) os h) e
 
 module _ {A M : Type 0} (hint : A → ℕ) (image : A → Option Image) (reading : Reading M) (kept : A → M) (fits : A → Ty → List Oid → Type 0) (law : ReadsBack image reading kept fits) where
   pub argument_back : ArgumentReadsBack hint image reading kept fits

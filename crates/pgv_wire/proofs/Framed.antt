@@ -6,8 +6,8 @@ use Rattle.pgv_types.specs.Ty.{Ty}
 use Rattle.pgv_types.specs.declared.oid.Oid.{Oid}
 use Rattle.pgv_buf.specs.Tokens.{Token, tokens_holes, Cell, fixed, hole_cell, slot_cell, be4, blank, plain, hole_count, slot_count, chosen}
 use Rattle.pgv_buf.specs.Blank.{plain-append, plain-blank, holes-plain}
-use Rattle.pgv_buf.specs.Fill.{first_number, rest_numbers, fill_holes, fill_slots, rest_types}
-use Rattle.pgv_buf.specs.Proper.{first_type}
+use Rattle.pgv_buf.specs.Fill.{first_number, fill_holes, fill_slots}
+use Rattle.pgv_buf.specs.Proper.{first_type, rest_of}
 use Rattle.pgv_buf.proofs.Patches.{holes_plain, slots_plain}
 use Rattle.pgv_wire.specs.Arguments.{Argument, Framed, framed, all_tokens, filled_frame, filled_arguments}
 use Rattle.pgv_wire.specs.History.{blanks, LastFilling, with_added, with_filled, left_by, joined_frames, LeftBySome}
@@ -17,8 +17,8 @@ use Rattle.pgv_wire.specs.Parts.{AreFrames, OfImages}
 pub framed-filled : (args : List Argument) (ps : List Ty) (os : List Oid) → framed (filled_arguments args ps os) ≡ framed args
 framed-filled [] ps os = refl
 framed-filled (a ∷ args) ps os =
-    ap (λ (f : List Token). (a.0, f) ∷ framed (filled_arguments args (rest_types ps) (drop (hole_count a.1) os))) (slots_plain (replicate (slot_count a.1) (first_type ps)) (fill_holes (take (hole_count a.1) os) a.1) ∙ holes_plain (take (hole_count a.1) os) a.1)
-    ∙ ap (λ (r : List Framed). (a.0, plain a.1) ∷ r) (framed-filled args (rest_types ps) (drop (hole_count a.1) os))
+    ap (λ (f : List Token). (a.0, f) ∷ framed (filled_arguments args (rest_of ps) (drop (hole_count a.1) os))) (slots_plain (replicate (slot_count a.1) (first_type ps)) (fill_holes (take (hole_count a.1) os) a.1) ∙ holes_plain (take (hole_count a.1) os) a.1)
+    ∙ ap (λ (r : List Framed). (a.0, plain a.1) ∷ r) (framed-filled args (rest_of ps) (drop (hole_count a.1) os))
 
 pub framed-blanks : (fs : List Framed) → framed (blanks fs) ≡ fs
 framed-blanks [] = refl
@@ -29,8 +29,8 @@ framed-blanks (f ∷ fs) = ap (λ (t : List Token). (f.0, t) ∷ framed (blanks 
 filled-same : (ps : List Ty) (os : List Oid) (a : List Cell) → fill_slots ps (fill_holes os a) ≡ fill_slots ps (fill_holes os (blank (plain a)))
 filled-same ps os [] = refl
 filled-same ps os (fixed x ∷ a) = ap (λ r. fixed x ∷ r) (filled-same ps os a)
-filled-same ps os (hole_cell t s ∷ a) = ap (λ r. hole_cell t (be4 (first_number os)) ∷ r) (filled-same ps (rest_numbers os) a)
-filled-same ps os (slot_cell d cs s ∷ a) = ap (λ r. slot_cell d cs (chosen (first_type ps) d cs) ∷ r) (filled-same (rest_types ps) os a)
+filled-same ps os (hole_cell t s ∷ a) = ap (λ r. hole_cell t (be4 (first_number os)) ∷ r) (filled-same ps (rest_of os) a)
+filled-same ps os (slot_cell d cs s ∷ a) = ap (λ r. slot_cell d cs (chosen (first_type ps) d cs) ∷ r) (filled-same (rest_of ps) os a)
 
 holes-same : (a : List Cell) → hole_count (blank (plain a)) ≡ hole_count a
 holes-same [] = refl
@@ -53,8 +53,8 @@ arguments-same [] ps os = refl
 arguments-same (a ∷ args) ps os =
     let n = hole_count a.1 in
     let m = hole_count (blank (plain a.1)) in
-    let rest : ℕ → List Argument = λ k. filled_arguments (blanks (framed args)) (rest_types ps) (drop k os) in
-    ap (λ (r : List Argument). (a.0, filled_frame (first_type ps) (take n os) a.1) ∷ r) (arguments-same args (rest_types ps) (drop n os))
+    let rest : ℕ → List Argument = λ k. filled_arguments (blanks (framed args)) (rest_of ps) (drop k os) in
+    ap (λ (r : List Argument). (a.0, filled_frame (first_type ps) (take n os) a.1) ∷ r) (arguments-same args (rest_of ps) (drop n os))
     ∙ (ap (λ (f : List Cell). (a.0, f) ∷ rest n) (frame-same (first_type ps) (take n os) a.1)
     ∙ ap (λ (k : ℕ). (a.0, filled_frame (first_type ps) (take k os) (blank (plain a.1))) ∷ rest k) (sym (holes-same a.1)))
 

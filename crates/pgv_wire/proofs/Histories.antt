@@ -5,8 +5,7 @@ use Rattle.std.proofs.lemmas.List.{map-append}
 use Rattle.pgv_types.specs.Ty.{Ty}
 use Rattle.pgv_types.specs.declared.oid.Oid.{Oid}
 use Rattle.pgv_buf.specs.Tokens.{tokens_hole_types, Cell, bytes, tokens_width, fixed, hole_cell, slot_cell, blank, plain, shown, width, hole_types_of, hole_count}
-use Rattle.pgv_buf.specs.Proper.{shown-append, first_type}
-use Rattle.pgv_buf.specs.Fill.{rest_types}
+use Rattle.pgv_buf.specs.Proper.{shown-append, first_type, rest_of}
 use Rattle.pgv_buf.proofs.Layouts.{width-plain, types-plain}
 use Rattle.pgv_wire.specs.Arguments.{Argument, Framed, framed, all_tokens, types_in, early, filled_arguments}
 use Rattle.pgv_wire.specs.History.{LeftBySome, WrittenEarly, left_by, with_added, with_filled, Call, adds, fills, is_refused, blanks, after, LastFilling, last_filling_by, last_filling, bytes_by, added_in, joined_frames, framed_types, lengths_in, ArePlain, joined_bytes}
@@ -84,8 +83,8 @@ types_told calls = types-framed (after [] calls) ∙ ap framed_types (only_added
 pub lengths_kept : (args : List Argument) (ps : List Ty) (os : List Oid) → lengths_in (filled_arguments args ps os) ≡ lengths_in args
 lengths_kept [] ps os = refl
 lengths_kept (a ∷ args) ps os =
-    ap (λ n. n ∷ lengths_in (filled_arguments args (rest_types ps) (drop (hole_count a.1) os))) (width-frame (first_type ps) (take (hole_count a.1) os) a.1)
-    ∙ ap (λ (r : List ℕ). width a.1 ∷ r) (lengths_kept args (rest_types ps) (drop (hole_count a.1) os))
+    ap (λ n. n ∷ lengths_in (filled_arguments args (rest_of ps) (drop (hole_count a.1) os))) (width-frame (first_type ps) (take (hole_count a.1) os) a.1)
+    ∙ ap (λ (r : List ℕ). width a.1 ∷ r) (lengths_kept args (rest_of ps) (drop (hole_count a.1) os))
 
 -- ---- frames without holes and slots
 

@@ -3,9 +3,8 @@ use Rattle.std.proofs.Common.{◌≡◌, ℕ, suc, arith, List, [], ◌∷◌, �
 use Rattle.std.specs.Int.{w32, to_be_bytes}
 use Rattle.pgv_types.specs.Ty.{Ty}
 use Rattle.pgv_types.specs.declared.oid.Oid.{Oid}
-use Rattle.pgv_buf.specs.Fill.{rest_types}
 use Rattle.pgv_buf.specs.Blank.{holes-plain}
-use Rattle.pgv_buf.specs.Proper.{Proper, Proper-front, Proper-back, first_type, shown-append, length-shown}
+use Rattle.pgv_buf.specs.Proper.{Proper, Proper-front, Proper-back, first_type, shown-append, length-shown, rest_of}
 use Rattle.pgv_buf.specs.Tokens.{Token, bytes, be4, tokens_width, tokens_holes, Cell, plain, shown, hole_count, slot_count}
 use Rattle.pgv_value.specs.FrameBinary.{Part, front}
 use Rattle.pgv_value.proofs.Fronts.{frame_in_front}
@@ -109,6 +108,6 @@ parts_filled [] (i ∷ is) ps os h = absurd h
 parts_filled (a ∷ args) [] ps os h = absurd h
 parts_filled (a ∷ args) (i ∷ is) ps os h =
     let n = hole_count a.1 in
-    ap (λ (p : Part). p ∷ parts_in is (filled_arguments args (rest_types ps) (drop n os))) (part_filled i a.1 (first_type ps) (take n os) h.0)
-    ∙ (ap (λ (r : List Part). written_part i (Some (first_type ps)) (take n os) ∷ r) (parts_filled args is (rest_types ps) (drop n os) h.1)
-    ∙ ap (λ (m : ℕ). written_part i (Some (first_type ps)) (take m os) ∷ written_parts is (rest_types ps) (drop m os)) (holes_are i a.1 h.0))
+    ap (λ (p : Part). p ∷ parts_in is (filled_arguments args (rest_of ps) (drop n os))) (part_filled i a.1 (first_type ps) (take n os) h.0)
+    ∙ (ap (λ (r : List Part). written_part i (Some (first_type ps)) (take n os) ∷ r) (parts_filled args is (rest_of ps) (drop n os) h.1)
+    ∙ ap (λ (m : ℕ). written_part i (Some (first_type ps)) (take m os) ∷ written_parts is (rest_of ps) (drop m os)) (holes_are i a.1 h.0))

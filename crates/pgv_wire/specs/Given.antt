@@ -7,8 +7,7 @@ use Rattle.std.specs.Prelude.{◌≡◌, ℕ, List, [], ◌∷◌, ◌++◌, map
 use Rattle.std.specs.List.{slice_get}
 use Rattle.pgv_types.specs.Ty.{Ty}
 use Rattle.pgv_types.specs.declared.oid.Oid.{Oid}
-use Rattle.pgv_buf.specs.Fill.{rest_types}
-use Rattle.pgv_buf.specs.Proper.{Proper, first_type}
+use Rattle.pgv_buf.specs.Proper.{Proper, first_type, rest_of}
 use Rattle.pgv_buf.specs.Tokens.{tokens_holes, shown}
 use Rattle.pgv_value.specs.FrameBinary.{Part}
 use Rattle.pgv_value.specs.Reading.{Reading}
@@ -31,7 +30,7 @@ zeros n = replicate n (record { 0 = 0 })
 abbrev pub given_by : List Framed → List Ty → List Oid → List Given
 given_by [] ps os = []
 given_by (f ∷ fs) ps os =
-    record { parameter = Some (first_type ps); oids = take (tokens_holes f.1) os } ∷ given_by fs (rest_types ps) (drop (tokens_holes f.1) os)
+    record { parameter = Some (first_type ps); oids = take (tokens_holes f.1) os } ∷ given_by fs (rest_of ps) (drop (tokens_holes f.1) os)
 
 -- those that were added since
 abbrev pub given_none : List Framed → List Given

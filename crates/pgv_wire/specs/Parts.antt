@@ -6,8 +6,7 @@
 use Rattle.std.specs.Prelude.{◌≡◌, ℕ, List, [], ◌∷◌, length, take, drop, Some, None, ⊤}
 use Rattle.pgv_types.specs.Ty.{Ty}
 use Rattle.pgv_types.specs.declared.oid.Oid.{Oid}
-use Rattle.pgv_buf.specs.Fill.{rest_types}
-use Rattle.pgv_buf.specs.Proper.{first_type}
+use Rattle.pgv_buf.specs.Proper.{first_type, rest_of}
 use Rattle.pgv_buf.specs.Tokens.{Cell, shown}
 use Rattle.pgv_value.specs.FrameBinary.{Part, front}
 use Rattle.pgv_codec.specs.Image.{Image, null_image, image_of, frame_of}
@@ -43,7 +42,7 @@ parts_in (i ∷ is) (a ∷ args) = part_in i a.1 ∷ parts_in is args
 -- the parts of all, each with its own parameter type and its share of the OIDs
 abbrev pub written_parts : List Image → List Ty → List Oid → List Part
 written_parts [] ps os = []
-written_parts (i ∷ is) ps os = written_part i (Some (first_type ps)) (take (image_holes i) os) ∷ written_parts is (rest_types ps) (drop (image_holes i) os)
+written_parts (i ∷ is) ps os = written_part i (Some (first_type ps)) (take (image_holes i) os) ∷ written_parts is (rest_of ps) (drop (image_holes i) os)
 
 -- frames that are read one after another, a part for each and nothing after: null where the image is null, and
 -- else what the argument shows after its length

@@ -9,7 +9,7 @@ ghost use Rattle.std.specs.Int.{w8, w16, w32, w64};
 ghost use Rattle.pgv_types.specs.Ty.{Ty, builtin};
 ghost use Rattle.pgv_types.specs.declared.oid.Oid.{Oid};
 ghost use Rattle.pgv_value.specs.Reading.{has_items};
-ghost use Rattle.pgv_value.specs.ScalarGrammar.{bool_reading, bool_refusal, char_reading, char_refusal, int_reading, int_refusal, oid_reading, oid_refusal, text_reading, uuid_reading, uuid_refusal};
+ghost use Rattle.pgv_value.specs.ScalarGrammar.{bool_reading, bool_refusal, char_reading, int_reading, int_refusal, oid_reading, oid_refusal, text_reading, uuid_reading, uuid_refusal, whole_or_syntax_refusal};
 ghost use Rattle.pgv_value.specs.Utf8.{text_refusal};
 ghost use Rattle.pgv_value.specs.declared.value.PgValueFormat.{PgValueFormat};
 ghost use Rattle.pgv_nest.specs.ArrayGrammar.{array, array_of_length};
@@ -39,7 +39,7 @@ pub fn i8_is_a_char()
     ensures written { IsWrittenAs (signed_image w8) ⟦<i8 as Encode>⟧.hint ⟦<i8 as Encode>⟧.image ⟦<i8 as Encode>⟧.produced }
     ensures means { ⟦<i8 as Decode>⟧.meaning ≡ (λ v. v) }
     ensures read { ⟦<i8 as Decode>⟧.reading ≡ char_reading }
-    ensures refused { IsRefusedAs char_refusal ⟦<i8 as Decode>⟧.refusal × TakesNone ⟦<i8 as Decode>⟧.takes_memory }
+    ensures refused { IsRefusedAs whole_or_syntax_refusal ⟦<i8 as Decode>⟧.refusal × TakesNone ⟦<i8 as Decode>⟧.takes_memory }
 {}
 
 /// An `i16` is an int2 (OID 21), two bytes, as `0007` for 7. Its arrays are `int2[]` (1005).

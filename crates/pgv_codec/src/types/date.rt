@@ -3,7 +3,8 @@
 ghost use Rattle.pgv_types.specs.Ty.{builtin};
 ghost use Rattle.std.specs.Prelude.{◌≡◌, ℤ, refl};
 ghost use Rattle.jiff.specs.Words.{epoch_day};
-ghost use Rattle.pgv_value.specs.DateTimeBinary.{date_reading, date_time_refusal};
+ghost use Rattle.pgv_value.specs.DateTimeBinary.{date_reading};
+ghost use Rattle.pgv_value.specs.ScalarGrammar.{whole_or_syntax_refusal};
 ghost use Rattle.pgv_codec.specs.DateTimeBinary.{days_of, date_image};
 ghost use Rattle.pgv_codec.specs.WithHint.{with_hint};
 
@@ -61,7 +62,7 @@ impl Plain for Date {
 
     ghost written = { with_hint (λ _. 4) date_image };
 
-    ghost refusal = { date_time_refusal };
+    ghost refusal = { whole_or_syntax_refusal };
 
     fn read(_alloc: Global, value: PgValueRef<'_>) -> Result<Date, CodecError> {
         read_date(&value)

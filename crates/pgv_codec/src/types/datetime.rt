@@ -3,7 +3,8 @@
 ghost use Rattle.pgv_types.specs.Ty.{builtin};
 ghost use Rattle.std.specs.Prelude.{ℤ, refl};
 ghost use Rattle.jiff.specs.Words.{civil_nanos};
-ghost use Rattle.pgv_value.specs.DateTimeBinary.{date_time_reading, date_time_refusal};
+ghost use Rattle.pgv_value.specs.DateTimeBinary.{date_time_reading};
+ghost use Rattle.pgv_value.specs.ScalarGrammar.{whole_or_syntax_refusal};
 ghost use Rattle.pgv_codec.specs.DateTimeBinary.{moment_image};
 ghost use Rattle.pgv_codec.specs.WithHint.{with_hint};
 
@@ -57,7 +58,7 @@ impl Plain for DateTime {
 
     ghost written = { with_hint (λ _. 8) moment_image };
 
-    ghost refusal = { date_time_refusal };
+    ghost refusal = { whole_or_syntax_refusal };
 
     ghost kept = { date_time_kept };
 

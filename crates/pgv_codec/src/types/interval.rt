@@ -3,8 +3,9 @@
 ghost use Rattle.std.specs.Prelude.{◌≡◌, IfOk, IfErr, OnErr, refl};
 ghost use Rattle.pgv_types.specs.Ty.{builtin};
 ghost use Rattle.pgv_value.specs.declared.error.CodecError.TheVariants.{Memory};
-ghost use Rattle.pgv_value.specs.Interval.{interval_reading, interval_refusal};
+ghost use Rattle.pgv_value.specs.Interval.{interval_reading};
 ghost use Rattle.pgv_value.specs.declared.interval.PgInterval.{PgInterval as Interval};
+ghost use Rattle.pgv_value.specs.ScalarGrammar.{short_refusal};
 ghost use Rattle.pgv_codec.specs.Intervals.{interval_image};
 ghost use Rattle.pgv_codec.specs.Outcome.{Encoded, Appended};
 ghost use Rattle.pgv_codec.specs.WithHint.{with_hint};
@@ -66,7 +67,7 @@ impl Plain for PgInterval {
 
     ghost written = { with_hint (λ _. 16) interval_image };
 
-    ghost refusal = { interval_refusal };
+    ghost refusal = { short_refusal };
 
     fn read(_alloc: Global, value: PgValueRef<'_>) -> Result<PgInterval, CodecError> {
         read_interval(&value)

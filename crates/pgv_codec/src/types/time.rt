@@ -3,7 +3,8 @@
 ghost use Rattle.pgv_types.specs.Ty.{builtin};
 ghost use Rattle.std.specs.Prelude.{◌≡◌, ◌/◌, pos, ℕ, refl};
 ghost use Rattle.jiff.specs.Words.{time_nanos};
-ghost use Rattle.pgv_value.specs.DateTimeBinary.{time_reading, date_time_refusal};
+ghost use Rattle.pgv_value.specs.DateTimeBinary.{time_reading};
+ghost use Rattle.pgv_value.specs.ScalarGrammar.{whole_or_syntax_refusal};
 ghost use Rattle.pgv_codec.specs.DateTimeBinary.{time_image};
 ghost use Rattle.pgv_codec.specs.WithHint.{with_hint};
 
@@ -62,7 +63,7 @@ impl Plain for Time {
 
     ghost written = { with_hint (λ _. 8) time_image };
 
-    ghost refusal = { date_time_refusal };
+    ghost refusal = { whole_or_syntax_refusal };
 
     ghost kept = { time_kept };
 

@@ -3,7 +3,8 @@
 ghost use Rattle.pgv_types.specs.Ty.{builtin};
 ghost use Rattle.std.specs.Int.{w64};
 ghost use Rattle.std.specs.Prelude.{◌≡◌, FitsSigned, ℤ, refl};
-ghost use Rattle.pgv_value.specs.DateTimeBinary.{instant_reading, date_time_refusal};
+ghost use Rattle.pgv_value.specs.DateTimeBinary.{instant_reading};
+ghost use Rattle.pgv_value.specs.ScalarGrammar.{whole_or_syntax_refusal};
 ghost use Rattle.pgv_codec.specs.DateTimeBinary.{micros_of, moment_image};
 ghost use Rattle.pgv_codec.specs.WithHint.{with_hint};
 
@@ -64,7 +65,7 @@ impl Plain for Timestamp {
 
     ghost written = { with_hint (λ _. 8) moment_image };
 
-    ghost refusal = { date_time_refusal };
+    ghost refusal = { whole_or_syntax_refusal };
 
     ghost kept = { instant_kept };
 

@@ -6,7 +6,8 @@ ghost use Rattle.pgv_types.specs.Ty.{builtin};
 ghost use Rattle.pgv_types.specs.Relations.{softly};
 ghost use Rattle.pgv_codec.specs.ScalarBinary.{signed_image};
 ghost use Rattle.pgv_codec.specs.Saying.{plainly};
-ghost use Rattle.pgv_numeric.specs.MoneyCodec.{money_reading, money_refusal};
+ghost use Rattle.pgv_numeric.specs.MoneyCodec.{money_reading};
+ghost use Rattle.pgv_value.specs.ScalarGrammar.{short_refusal};
 
 use super::{PgMoney, of_bytes};
 use pgv_codec::{Encode, IsNull, PgArgumentBuffer, PgHasArrayType, Plain, Type};
@@ -75,7 +76,7 @@ impl Plain for PgMoney {
 
     ghost written = { plainly (signed_image w64) };
 
-    ghost refusal = { money_refusal };
+    ghost refusal = { short_refusal };
 
     fn read(_alloc: Global, value: PgValueRef<'_>) -> Result<PgMoney, CodecError> {
         let bytes = value.as_bytes()?;

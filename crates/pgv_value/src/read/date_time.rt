@@ -4,9 +4,10 @@ ghost use Rattle.std.specs.Prelude.{◌≡◌, None, IfErr, IsErrOf};
 ghost use Rattle.std.specs.Option.{option_map};
 ghost use Rattle.jiff.specs.Words.{civil_nanos, epoch_day, time_nanos};
 ghost use Rattle.pgv_text.specs.DateTimeText.{instant_nanos};
-ghost use Rattle.pgv_value.specs.DateTimeBinary.{civil_at, date_reading, date_time_reading, date_time_refusal, day_after, instant_reading, nanos_after, time_after, time_reading};
+ghost use Rattle.pgv_value.specs.DateTimeBinary.{civil_at, date_reading, date_time_reading, day_after, instant_reading, nanos_after, time_after, time_reading};
 ghost use Rattle.pgv_value.specs.Reading.{AnswersExactly};
 ghost use Rattle.pgv_value.specs.declared.error.CodecError.TheVariants.{UnexpectedNull};
+ghost use Rattle.pgv_value.specs.ScalarGrammar.{whole_or_syntax_refusal};
 
 use super::int::whole_number_of;
 use crate::error::CodecError;
@@ -68,7 +69,7 @@ fn instant_after(micros: i64) -> Option<Timestamp>
 /// `00000001` and `2000-01-02` are the same day.
 pub fn read_date(value: &PgValueRef<'_>) -> Result<Date, CodecError>
     ensures exact { AnswersExactly epoch_day (date_reading value.now.type_info value.now.format value.now.bytes) result }
-    ensures refused { IfErr result (λ e. e ≡ date_time_refusal value.now.format value.now.bytes) }
+    ensures refused { IfErr result (λ e. e ≡ whole_or_syntax_refusal value.now.format value.now.bytes) }
     ensures null { value.now.bytes ≡ None → IsErrOf result UnexpectedNull }
 {
     match value.format() {
@@ -86,7 +87,7 @@ pub fn read_date(value: &PgValueRef<'_>) -> Result<Date, CodecError>
 /// `00000000000f4240` and `00:00:01` are the first second.
 pub fn read_time(value: &PgValueRef<'_>) -> Result<Time, CodecError>
     ensures exact { AnswersExactly time_nanos (time_reading value.now.type_info value.now.format value.now.bytes) result }
-    ensures refused { IfErr result (λ e. e ≡ date_time_refusal value.now.format value.now.bytes) }
+    ensures refused { IfErr result (λ e. e ≡ whole_or_syntax_refusal value.now.format value.now.bytes) }
     ensures null { value.now.bytes ≡ None → IsErrOf result UnexpectedNull }
 {
     match value.format() {
@@ -101,7 +102,7 @@ pub fn read_time(value: &PgValueRef<'_>) -> Result<Time, CodecError>
 /// `00000000000f4240` and `2000-01-01 00:00:01` are the same.
 pub fn read_date_time(value: &PgValueRef<'_>) -> Result<DateTime, CodecError>
     ensures exact { AnswersExactly civil_nanos (date_time_reading value.now.type_info value.now.format value.now.bytes) result }
-    ensures refused { IfErr result (λ e. e ≡ date_time_refusal value.now.format value.now.bytes) }
+    ensures refused { IfErr result (λ e. e ≡ whole_or_syntax_refusal value.now.format value.now.bytes) }
     ensures null { value.now.bytes ≡ None → IsErrOf result UnexpectedNull }
 {
     match value.format() {
@@ -118,7 +119,7 @@ pub fn read_date_time(value: &PgValueRef<'_>) -> Result<DateTime, CodecError>
 /// `00000000000f4240` and `2000-01-01 02:00:01+02` are the same instant.
 pub fn read_instant(value: &PgValueRef<'_>) -> Result<Timestamp, CodecError>
     ensures exact { AnswersExactly (λ at. at.nanosecond) (instant_reading value.now.type_info value.now.format value.now.bytes) result }
-    ensures refused { IfErr result (λ e. e ≡ date_time_refusal value.now.format value.now.bytes) }
+    ensures refused { IfErr result (λ e. e ≡ whole_or_syntax_refusal value.now.format value.now.bytes) }
     ensures null { value.now.bytes ≡ None → IsErrOf result UnexpectedNull }
 {
     match value.format() {

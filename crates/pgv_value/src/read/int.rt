@@ -4,7 +4,7 @@ ghost use Rattle.std.specs.Prelude.{◌≡◌, None, IfErr, IsErrOf};
 ghost use Rattle.std.specs.Int.{w16, w32, w64};
 ghost use Rattle.pgv_value.specs.Reading.{AnswersExactly};
 ghost use Rattle.pgv_value.specs.NumberBinary.{in_range, whole_number, whole_refusal};
-ghost use Rattle.pgv_value.specs.ScalarGrammar.{char_reading, char_refusal, int_reading, int_refusal};
+ghost use Rattle.pgv_value.specs.ScalarGrammar.{char_reading, int_reading, int_refusal, whole_or_syntax_refusal};
 ghost use Rattle.pgv_value.specs.declared.error.CodecError.TheVariants.{UnexpectedNull};
 
 use crate::error::CodecError;
@@ -61,7 +61,7 @@ fn integer(value: &PgValueRef<'_>) -> Result<i64, CodecError>
 #[inline(always)]
 pub fn read_i8(value: &PgValueRef<'_>) -> Result<i8, CodecError>
     ensures exact { AnswersExactly (λ number. number) (char_reading value.now.type_info value.now.format value.now.bytes) result }
-    ensures refused { IfErr result (λ e. e ≡ char_refusal value.now.format value.now.bytes) }
+    ensures refused { IfErr result (λ e. e ≡ whole_or_syntax_refusal value.now.format value.now.bytes) }
     ensures null { value.now.bytes ≡ None → IsErrOf result UnexpectedNull }
 {
     match value.format() {

@@ -2,8 +2,9 @@
 
 ghost use Rattle.std.specs.Prelude.{◌≡◌, None, IfErr, IsErrOf};
 ghost use Rattle.pgv_value.specs.Reading.{AnswersExactly};
-ghost use Rattle.pgv_value.specs.Interval.{interval_in_binary, interval_reading, interval_refusal};
+ghost use Rattle.pgv_value.specs.Interval.{interval_in_binary, interval_reading};
 ghost use Rattle.pgv_value.specs.declared.error.CodecError.TheVariants.{Short, UnexpectedNull};
+ghost use Rattle.pgv_value.specs.ScalarGrammar.{short_refusal};
 
 use crate::error::CodecError;
 use crate::interval::PgInterval;
@@ -32,7 +33,7 @@ fn interval_of_bytes(bytes: &[u8]) -> Result<PgInterval, CodecError>
 /// `00000000d693a400 00000000 00000000` is an hour.
 pub fn read_interval(value: &PgValueRef<'_>) -> Result<PgInterval, CodecError>
     ensures exact { AnswersExactly (λ interval. interval) (interval_reading value.now.type_info value.now.format value.now.bytes) result }
-    ensures refused { IfErr result (λ e. e ≡ interval_refusal value.now.format value.now.bytes) }
+    ensures refused { IfErr result (λ e. e ≡ short_refusal value.now.format value.now.bytes) }
     ensures null { value.now.bytes ≡ None → IsErrOf result UnexpectedNull }
 {
     let bytes = value.as_bytes()?;

@@ -3,7 +3,7 @@
 ghost use Rattle.std.specs.Int.{w8};
 ghost use Rattle.std.specs.Prelude.{ℤ, refl};
 ghost use Rattle.pgv_types.specs.Ty.{builtin};
-ghost use Rattle.pgv_value.specs.ScalarGrammar.{char_reading, char_refusal};
+ghost use Rattle.pgv_value.specs.ScalarGrammar.{char_reading, whole_or_syntax_refusal};
 ghost use Rattle.pgv_codec.specs.Saying.{plainly};
 ghost use Rattle.pgv_codec.specs.ScalarBinary.{signed_image};
 
@@ -57,7 +57,7 @@ impl Plain for i8 {
 
     ghost written = { plainly (signed_image w8) };
 
-    ghost refusal = { char_refusal };
+    ghost refusal = { whole_or_syntax_refusal };
 
     #[inline(always)]
     fn read(_alloc: Global, value: PgValueRef<'_>) -> Result<i8, CodecError> {
