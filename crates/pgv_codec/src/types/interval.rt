@@ -1,6 +1,6 @@
 //! Intervals (PostgreSQL, "Date/Time Types", interval).
 
-ghost use Rattle.std.specs.Prelude.{◌≡◌, IfOk, IfErr, OnErr, refl};
+ghost use Rattle.std.specs.Prelude.{◌≡◌, ◌≢◌, None, IfOk, IfErr, OnErr, refl};
 ghost use Rattle.pgv_types.specs.Ty.{builtin};
 ghost use Rattle.pgv_value.specs.declared.error.CodecError.TheVariants.{Memory};
 ghost use Rattle.pgv_value.specs.Interval.{interval_reading};
@@ -17,11 +17,12 @@ use pgv_types::{PgType, PgTypeInfo};
 use pgv_value::{CodecError, PgInterval, PgValueRef, read_interval};
 use std::alloc::Global;
 
-/// Appends an interval.
+/// Appends an interval: each has an image.
 pub(super) fn write_interval(
     interval: PgInterval,
     out: &mut PgArgumentBuffer,
 ) -> Result<IsNull, CodecError>
+    ensures there { interval_image interval ≢ None }
     ensures ok { IfOk result (λ n. Encoded n (interval_image interval) out.old out.new) }
     ensures err { IfErr result (λ e. e ≡ Memory) }
     ensures appended { OnErr result (Appended out.old out.new) }

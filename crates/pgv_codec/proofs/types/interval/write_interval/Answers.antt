@@ -20,6 +20,12 @@ image_is i a b d f g h e k l =
     let third = l ∙ ap (λ (z : ℤ). to_be_bytes w32 (cast_unsigned w32 z)) (to_z-of_z w32 i.months h) in
     rw (signed_fits w64 i.microseconds f, signed_fits w32 i.days g, signed_fits w32 i.months h, first, second, third) refl
 
+pub returns-clause-there : goal.returns-clause-there
+returns-clause-there c none =
+    let i = c.args.interval in
+    let is = image_is i c.to_be_bytes.result c.to_be_bytes-2.result c.to_be_bytes-3.result (search rules) (search rules) (search rules) c.to_be_bytes.ensures c.to_be_bytes-2.ensures c.to_be_bytes-3.ensures in
+    absurd (cc)
+
 pub returns-clause-ok : goal.returns-clause-ok
 returns-clause-ok c =
     let i = c.args.interval in
