@@ -49,7 +49,7 @@ pub mod laws {
     pub use pgv_codec::laws as codec;
     pub use pgv_copy::laws as copy;
     pub use pgv_hstore::laws as hstore;
-    pub use pgv_laws::{dates, intervals, networks, texts};
+    pub use pgv_laws::{dates, intervals, networks, rows, texts};
     pub use pgv_lquery::laws as lquery;
     pub use pgv_ltree::laws as ltree;
     pub use pgv_more::laws as more;

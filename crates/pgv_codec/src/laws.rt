@@ -1,10 +1,11 @@
-//! Laws of codecs: what tuples read, and what is read back of what was written. Each is the contract of a function that does
+//! Laws of codecs: what tuples and `()` read, and what is read back of what was written. Each is the contract of a function that does
 //! nothing.
 
 ghost use Rattle.std.specs.Prelude.{◌≡◌, ◌↔◌, ◌<◌, ◌^◌, ℕ, List, ◌∷◌, Option, Some, None};
-ghost use Rattle.pgv_types.specs.Ty.{Ty};
+ghost use Rattle.pgv_types.specs.Ty.{Ty, builtin};
 ghost use Rattle.pgv_types.specs.declared.oid.Oid.{Oid};
 ghost use Rattle.pgv_buf.specs.Tokens.{Token};
+ghost use Rattle.pgv_value.specs.declared.value.PgValueFormat.{PgValueFormat};
 ghost use Rattle.pgv_nest.specs.NestBinary.{RecordIsItsFields, IsField, SameFields, ◌and◌};
 ghost use Rattle.pgv_nest.specs.NestRefusals.{field_then, next_refusal, next_takes, record_refusal, record_takes, takes_then};
 ghost use Rattle.pgv_nest.specs.NestText.{IsTextField, SameParts, ◌before◌};
@@ -14,8 +15,8 @@ ghost use Rattle.pgv_codec.specs.Image.{field};
 ghost use Rattle.pgv_codec.specs.Plain.{ArrayIsPlain, FieldIsPlain};
 ghost use Rattle.pgv_codec.specs.RecordCalls.{RecordIsItsAccepted};
 ghost use Rattle.pgv_codec.specs.Saying.{said};
-
-pub mod rows;
+ghost use Rattle.pgv_codec.specs.ScalarBinary.{is_void_or_record};
+ghost use Rattle.pgv_codec.specs.TypeRow.{TakesNone};
 
 use crate::traits::{Codec, Decode, Plain, ReadBack, Type};
 use crate::types::field_list::{FieldList, KeptList};
@@ -173,4 +174,13 @@ pub fn nests_fit<T: ReadBack + Type, const N: usize>()
 /// What an encoder says of a value is what is written of its meaning, so that values of one meaning are written alike.
 pub fn written_as_read<T: Codec>(value: &T)
     ensures { said T.hint T.image T.produced T.info value.now ≡ T.written T.info (T.meaning value.now) }
+{}
+
+/// `()` is a void (OID 2278), read under void and record, of whatever is there, null too. It is never written. What each other type is,
+/// the laws of `pgv_laws` say.
+pub fn unit_is_a_void()
+    ensures types { ⟦<() as Type>⟧.info ≡ builtin 2278 }
+    ensures accepts { (t : Ty) → ⟦<() as Type>⟧.accepts t ≡ is_void_or_record t }
+    ensures read { (t : Ty) (f : PgValueFormat) (bytes : Option (List ℕ)) → ⟦<() as Decode>⟧.reading t f bytes ≡ Some tt }
+    ensures takes_memory { TakesNone ⟦<() as Decode>⟧.takes_memory }
 {}

@@ -17,5 +17,5 @@ pub use traits::{Codec, Decode, Encode, PgHasArrayType, Plain, ReadBack, Type};
 pub use types::array::{encode_array, type_of_value};
 pub use types::field_list::{FieldList, KeptList};
 pub use types::record::{PgRecordDecoder, PgRecordEncoder};
-pub use types::str::encode_text;
+pub use types::text::encode_text;
 pub use types::time::micros_of_day;

@@ -1,4 +1,4 @@
-//! What dates, times, date-times and instants are, as `rows` of `pgv_codec` has it of other types. All count from 2000-01-01.
+//! What dates, times, date-times and instants are, as [`rows`](super::rows) has it of other types. All count from 2000-01-01.
 
 ghost use Rattle.std.specs.Prelude.{◌≡◌, ◌*◌, ◌/◌, None};
 ghost use Rattle.jiff.specs.Words.{civil_nanos, epoch_day, time_nanos};

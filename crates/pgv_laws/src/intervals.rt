@@ -1,4 +1,4 @@
-//! What intervals and durations are, as `rows` of `pgv_codec` has it of other types.
+//! What intervals and durations are, as [`rows`](super::rows) has it of other types.
 
 ghost use Rattle.std.specs.Prelude.{◌≡◌, false, pos, Some, None};
 ghost use Rattle.std.specs.Duration.{as_nanos};

@@ -1,8 +1,9 @@
-//! What the types of dates, intervals and networks are, and what lists, arrays and tuples in text are: laws of the codecs of `pgv_codec`.
+//! What each type of `pgv_codec` is, and what lists, arrays and tuples in text are.
 //! Each is the contract of a function that does nothing.
 #![tactic(auto)]
 
 pub mod dates;
 pub mod intervals;
 pub mod networks;
+pub mod rows;
 pub mod texts;

@@ -2,18 +2,16 @@
 
 ghost use Rattle.std.specs.Prelude.{◌≡◌, refl};
 ghost use Rattle.std.specs.declared.net.ip_addr.IpAddr.{IpAddr as Address};
-ghost use Rattle.pgv_types.specs.Ty.{builtin};
 ghost use Rattle.pgv_text.specs.AddressText as text;
 ghost use Rattle.pgv_value.specs.NetworkBinary.{address_reading, address_refusal};
 ghost use Rattle.pgv_codec.specs.NetworkBinary.{address_hint, address_image};
-ghost use Rattle.pgv_codec.specs.NetworkBinary as spec;
 ghost use Rattle.pgv_codec.specs.WithHint.{with_hint};
 
-use super::ipnetwork::{is_network, is_network_array, write_network, written_size};
+use super::network::{write_network, written_size};
 use crate::buffer::{IsNull, PgArgumentBuffer};
-use crate::traits::{Encode, PgHasArrayType, Plain, Type};
+use crate::traits::{Encode, Plain};
 use pgv_text::IpNetwork;
-use pgv_types::{PgType, PgTypeInfo};
+use pgv_types::PgTypeInfo;
 use pgv_value::{CodecError, PgValueRef, read_ip_address};
 use std::alloc::{AllocError, Global};
 use std::net::IpAddr;
@@ -23,36 +21,6 @@ fn full_prefix(address: IpAddr) -> u8
     ensures { result ≡ text.full_prefix address }
 {
     IpNetwork::from(address).prefix()
-}
-
-/// `inet` (OID 869), read under `cidr`, `inet` and domains over one of them.
-impl Type for IpAddr {
-    ghost info = { builtin 869 };
-
-    ghost accepts = { spec.is_network };
-
-    fn type_info() -> PgTypeInfo {
-        PgTypeInfo(PgType::Inet)
-    }
-
-    fn compatible(type_info: &PgTypeInfo) -> bool {
-        is_network(type_info)
-    }
-}
-
-/// An array of them is `inet[]` (OID 1041), read under `cidr[]` and `inet[]`.
-impl PgHasArrayType for IpAddr {
-    ghost array_info = { builtin 1041 };
-
-    ghost accepts_array = { spec.is_network_array };
-
-    fn array_type_info() -> PgTypeInfo {
-        PgTypeInfo(PgType::InetArray)
-    }
-
-    fn array_compatible(type_info: &PgTypeInfo) -> bool {
-        is_network_array(type_info)
-    }
 }
 
 /// Written as the network of all its bits: `10.0.0.1` as `022000040a000001`.

@@ -1,118 +1,18 @@
 //! Networks (PostgreSQL, "Network Address Types", inet and cidr).
 
-ghost use Rattle.std.specs.Prelude.{◌≡◌, ◌++◌, Some, refl, IfOk, IfErr, OnErr};
-ghost use Rattle.pgv_types.specs.Ty.{builtin};
-ghost use Rattle.pgv_buf.specs.Tokens.{bytes};
+ghost use Rattle.std.specs.Prelude.{◌≡◌, refl};
 ghost use Rattle.pgv_text.specs.NetworkText.{Network, network_of};
 ghost use Rattle.pgv_value.specs.NetworkBinary.{network_reading, network_refusal};
-ghost use Rattle.pgv_value.specs.declared.error.CodecError.TheVariants.{Memory};
-ghost use Rattle.pgv_codec.specs.Image.{image_of};
-ghost use Rattle.pgv_codec.specs.NetworkBinary.{address_hint, image_with, network_hint, network_image};
-ghost use Rattle.pgv_codec.specs.NetworkBinary as spec;
-ghost use Rattle.pgv_codec.specs.Outcome.{Encoded, Refused, Appended};
+ghost use Rattle.pgv_codec.specs.NetworkBinary.{network_hint, network_image};
 ghost use Rattle.pgv_codec.specs.WithHint.{with_hint};
 
+use super::network::{write_network, written_size};
 use crate::buffer::{IsNull, PgArgumentBuffer};
-use crate::traits::{Encode, PgHasArrayType, Plain, Type};
+use crate::traits::{Encode, Plain};
 use pgv_text::IpNetwork;
-use pgv_types::{PgType, PgTypeInfo};
+use pgv_types::PgTypeInfo;
 use pgv_value::{CodecError, PgValueRef, read_ip_network};
 use std::alloc::{AllocError, Global};
-use std::net::IpAddr;
-
-/// Whether values of this type are read as networks and addresses.
-pub(crate) fn is_network(type_info: &PgTypeInfo) -> bool
-    ensures { result ≡ spec.is_network type_info.now }
-{
-    type_info.type_compatible(&PgTypeInfo(PgType::Cidr))
-        || type_info.type_compatible(&PgTypeInfo(PgType::Inet))
-}
-
-/// Whether it is an array of such a type.
-pub(crate) fn is_network_array(type_info: &PgTypeInfo) -> bool
-    ensures { result ≡ spec.is_network_array type_info.now }
-{
-    type_info.type_compatible(&PgTypeInfo(PgType::CidrArray))
-        || type_info.type_compatible(&PgTypeInfo(PgType::InetArray))
-}
-
-/// How many bytes an address is written as.
-#[inline(always)]
-pub(crate) fn written_size(address: IpAddr) -> usize
-    ensures { result ≡ address_hint address }
-{
-    match address {
-        IpAddr::V4(_) => 8,
-        IpAddr::V6(_) => 20,
-    }
-}
-
-/// Appends four bytes and the octets after them.
-#[inline(always)]
-fn write_octets(
-    front: &[u8; 4],
-    octets: &[u8],
-    out: &mut PgArgumentBuffer,
-) -> Result<IsNull, CodecError>
-    ensures ok { IfOk result (λ n. Encoded n (Some (image_of (bytes (front.now ++ octets.now)))) out.old out.new) }
-    ensures err { IfErr result (λ e. e ≡ Memory) }
-    ensures appended { OnErr result (Appended out.old out.new) }
-{
-    out.extend_from_slice(front)?;
-    out.extend_from_slice(octets)?;
-    Ok(IsNull::No)
-}
-
-/// Appends an address and the number of bits that name its network.
-#[inline(always)]
-pub(crate) fn write_network(
-    address: IpAddr,
-    prefix: u8,
-    out: &mut PgArgumentBuffer,
-) -> Result<IsNull, CodecError>
-    ensures ok { IfOk result (λ n. Encoded n (image_with address prefix) out.old out.new) }
-    ensures err { IfErr result (λ e. Refused e (image_with address prefix)) }
-    ensures appended { OnErr result (Appended out.old out.new) }
-{
-    match address {
-        IpAddr::V4(ip) => {
-            let [a, b, c, d] = ip.octets();
-            out.extend_from_slice(&[2, prefix, 0, 4, a, b, c, d])?;
-            Ok(IsNull::No)
-        }
-        IpAddr::V6(ip) => write_octets(&[3, prefix, 0, 16], &ip.octets(), out),
-    }
-}
-
-/// `inet` (OID 869), read under `cidr`, `inet` and domains over one of them.
-impl Type for IpNetwork {
-    ghost info = { builtin 869 };
-
-    ghost accepts = { spec.is_network };
-
-    fn type_info() -> PgTypeInfo {
-        PgTypeInfo(PgType::Inet)
-    }
-
-    fn compatible(type_info: &PgTypeInfo) -> bool {
-        is_network(type_info)
-    }
-}
-
-/// An array of them is `inet[]` (OID 1041), read under `cidr[]` and `inet[]`.
-impl PgHasArrayType for IpNetwork {
-    ghost array_info = { builtin 1041 };
-
-    ghost accepts_array = { spec.is_network_array };
-
-    fn array_type_info() -> PgTypeInfo {
-        PgTypeInfo(PgType::InetArray)
-    }
-
-    fn array_compatible(type_info: &PgTypeInfo) -> bool {
-        is_network_array(type_info)
-    }
-}
 
 /// Written as the family, the number of bits, a zero, the number of octets, and the octets: `10.0.0.0/8` as `020800040a000000`.
 impl Encode for IpNetwork {

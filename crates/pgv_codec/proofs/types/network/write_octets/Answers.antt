@@ -1,7 +1,7 @@
 use Rattle.std.proofs.Common.{◌++◌, refl}
 use Rattle.pgv_buf.specs.Tokens.{bytes}
 use Rattle.pgv_codec.specs.PlainBytes.{appended_parts}
-use Rattle.pgv_codec.proofs.types.ipnetwork.write_octets.Goals as goal
+use Rattle.pgv_codec.proofs.types.network.write_octets.Goals as goal
 
 pub returns-clause-ok : goal.returns-clause-ok
 returns-clause-ok c =

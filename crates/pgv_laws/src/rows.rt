@@ -11,16 +11,15 @@ ghost use Rattle.pgv_types.specs.declared.oid.Oid.{Oid};
 ghost use Rattle.pgv_value.specs.Reading.{has_items};
 ghost use Rattle.pgv_value.specs.ScalarGrammar.{bool_reading, bool_refusal, char_reading, int_reading, int_refusal, oid_reading, oid_refusal, text_reading, uuid_reading, uuid_refusal, whole_or_syntax_refusal};
 ghost use Rattle.pgv_value.specs.Utf8.{text_refusal};
-ghost use Rattle.pgv_value.specs.declared.value.PgValueFormat.{PgValueFormat};
 ghost use Rattle.pgv_nest.specs.ArrayGrammar.{array, array_of_length};
 ghost use Rattle.pgv_codec.specs.Image.{array_image, sized_image, option_image, option_hint, option_produced};
 ghost use Rattle.pgv_codec.specs.Nullable.{nullable};
 ghost use Rattle.pgv_nest.specs.NestRefusals.{array_of_length_refusal, array_refusal, array_takes};
 ghost use Rattle.pgv_codec.specs.Refusing.{array_asks_first, array_refused, nullable_refusal, nullable_takes, option_asks_first, option_unwritable};
 ghost use Rattle.pgv_codec.specs.TypeRow.{IsBuiltIn, IsRefusedAs, IsWrittenAs, TakesNone};
-ghost use Rattle.pgv_codec.specs.ScalarBinary.{bool_image, signed_image, unsigned_image, text_image, uuid_image, is_text, is_text_array, is_void_or_record};
+ghost use Rattle.pgv_codec.specs.ScalarBinary.{bool_image, signed_image, unsigned_image, text_image, uuid_image, is_text, is_text_array};
 
-use crate::traits::{Decode, Encode, PgHasArrayType, Type};
+use pgv_codec::{Decode, Encode, PgHasArrayType, Type};
 
 /// A `bool` is a boolean (OID 16), written as the byte 00 or 01, as `01` for true. Its arrays are `bool[]` (1000).
 pub fn bool_is_a_boolean()
@@ -106,14 +105,6 @@ pub fn string_is_a_text()
     ensures takes_memory { ⟦<String as Decode>⟧.takes_memory ≡ (λ t f bytes. has_items (text_reading t f bytes)) }
 {}
 
-/// `()` is a void (OID 2278), read under void and record, of whatever is there, null too. It is never written.
-pub fn unit_is_a_void()
-    ensures types { ⟦<() as Type>⟧.info ≡ builtin 2278 }
-    ensures accepts { (t : Ty) → ⟦<() as Type>⟧.accepts t ≡ is_void_or_record t }
-    ensures read { (t : Ty) (f : PgValueFormat) (bytes : Option (List ℕ)) → ⟦<() as Decode>⟧.reading t f bytes ≡ Some tt }
-    ensures takes_memory { TakesNone ⟦<() as Decode>⟧.takes_memory }
-{}
-
 /// An `Option<T>` has the types of `T`. None is null, Some is written as its value, and null is read as None.
 pub fn option_may_be_null<T: Type + Encode + Decode + PgHasArrayType>()
     ensures types { (⟦<Option<T> as Type>⟧.info ≡ T.info) × (⟦<Option<T> as Type>⟧.accepts ≡ T.accepts) }
@@ -156,7 +147,7 @@ pub fn sized_array_is_an_array<T: Type + Encode + Decode + PgHasArrayType, const
 {}
 
 /// A tuple is a record (OID 2249), and its arrays are `record[]` (2287). What it reads is
-/// [`tuple_is_its_fields`](super::tuple_is_its_fields).
+/// [`tuple_is_its_fields`](pgv_codec::laws::tuple_is_its_fields).
 pub fn tuple_is_a_record<A, B, C, D, E, F, G, H, I>()
     ensures one { IsBuiltIn 2249 ⟦<(A,) as Type>⟧.info ⟦<(A,) as Type>⟧.accepts × IsBuiltIn 2287 ⟦<(A,) as PgHasArrayType>⟧.array_info ⟦<(A,) as PgHasArrayType>⟧.accepts_array }
     ensures two { IsBuiltIn 2249 ⟦<(A, B) as Type>⟧.info ⟦<(A, B) as Type>⟧.accepts × IsBuiltIn 2287 ⟦<(A, B) as PgHasArrayType>⟧.array_info ⟦<(A, B) as PgHasArrayType>⟧.accepts_array }

@@ -2,7 +2,7 @@ use Rattle.std.specs.Prelude.{◌≡◌, ℕ, List, ◌∷◌, ◌++◌, refl, l
 use Rattle.std.proofs.Common.{sym, ap, ◌∙◌, rules}
 use Rattle.pgv_buf.specs.Tokens.{bytes, blank}
 use Rattle.pgv_codec.proofs.Fours.{four}
-use Rattle.pgv_codec.proofs.types.ipnetwork.write_network.Goals as goal
+use Rattle.pgv_codec.proofs.types.network.write_network.Goals as goal
 
 -- the four octets, taken apart, are the address's
 pub returns-in_ok-extend_from_slice-in-V4-clause-ok : goal.returns-in_ok-extend_from_slice-in-V4-clause-ok
