@@ -22,9 +22,12 @@ abbrev pub RefusedFor : {V : Type 0} → Option CodecError → Result V CodecErr
 RefusedFor why result = IfSome why (λ stated. IfErr result (λ e. Refuses e (e ≡ stated)))
 
 -- The same where no memory is asked for: exactly what is stated, and where nothing is, anything but out of memory.
+abbrev pub ExactlyBy : Option CodecError → CodecError → Type 0
+ExactlyBy None e = e ≢ Memory
+ExactlyBy (Some stated) e = e ≡ stated
+
 abbrev pub RefusedExactly : {V : Type 0} → Option CodecError → Result V CodecError → Type 0
-RefusedExactly None result = IfErr result (λ e. e ≢ Memory)
-RefusedExactly (Some stated) result = IfErr result (λ e. e ≡ stated)
+RefusedExactly why result = IfErr result (ExactlyBy why)
 
 -- ---- written
 

@@ -3,8 +3,7 @@
 ghost use Rattle.std.specs.Prelude.{◌≡◌, false, pos, Some, None};
 ghost use Rattle.std.specs.Duration.{as_nanos};
 ghost use Rattle.jiff.specs.Words.{signed_nanos};
-ghost use Rattle.pgv_value.specs.Interval.{interval_reading};
-ghost use Rattle.pgv_value.specs.ScalarGrammar.{short_refusal};
+ghost use Rattle.pgv_value.specs.Interval.{interval_reading, short_refusal};
 ghost use Rattle.pgv_codec.specs.Intervals.{interval_image, duration_image, duration_refused};
 ghost use Rattle.pgv_codec.specs.TypeRow.{IsBuiltIn, IsRefusedAs, TakesNone};
 

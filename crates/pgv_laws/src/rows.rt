@@ -4,7 +4,7 @@
 //! Each is the contract of a function that does nothing. A codec that reads nothing, or writes nothing, meets its trait's
 //! contract; it does not meet its row.
 
-ghost use Rattle.std.specs.Prelude.{◌≡◌, ℕ, List, Option, Some, option_map, string_bytes, map};
+ghost use Rattle.std.specs.Prelude.{◌≡◌, option_map, string_bytes, map};
 ghost use Rattle.std.specs.Int.{w8, w16, w32, w64};
 ghost use Rattle.pgv_types.specs.Ty.{Ty, builtin};
 ghost use Rattle.pgv_types.specs.declared.oid.Oid.{Oid};

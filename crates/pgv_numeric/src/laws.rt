@@ -10,7 +10,7 @@ ghost use Rattle.pgv_numeric.specs.MoneyCodec.{money_reading, MoneyIsRead};
 ghost use Rattle.pgv_numeric.specs.Numeric.{numeric_asks_first, numeric_image, numeric_of, numeric_reading, numeric_refusal, numeric_refused, numeric_takes};
 ghost use Rattle.pgv_types.specs.declared.oid.Oid.{Oid};
 ghost use Rattle.pgv_types.specs.Ty.{Ty};
-ghost use Rattle.pgv_value.specs.ScalarGrammar.{short_refusal};
+ghost use Rattle.pgv_value.specs.Interval.{short_refusal};
 
 use pgv_codec::{Decode, Encode, PgHasArrayType, ReadBack, Type};
 

@@ -7,10 +7,11 @@ use Rattle.std.specs.Int.RustNames.{int_div, int_rem}
 use Rattle.std.specs.Ordering.{int_eq}
 use Rattle.pgv_value.specs.NumberBinary.{fits_signed}
 use Rattle.pgv_value.specs.Reading.{Reading}
-use Rattle.pgv_value.specs.ScalarGrammar.{binary_alone}
+use Rattle.pgv_value.specs.ScalarGrammar.{binary_alone, refusal_alone}
 use Rattle.pgv_value.specs.declared.interval.PgInterval.{PgInterval}
 use Rattle.pgv_value.specs.declared.error.CodecError.{CodecError}
-use Rattle.pgv_value.specs.declared.error.CodecError.TheVariants.{IntervalPrecision, IntervalOverflow}
+use Rattle.pgv_value.specs.declared.error.CodecError.TheVariants.{IntervalPrecision, IntervalOverflow, Short}
+use Rattle.pgv_value.specs.declared.value.PgValueFormat.{PgValueFormat}
 
 -- ---- of durations
 
@@ -50,3 +51,7 @@ interval_in_binary bytes =
 -- intervals are not read of text
 abbrev pub interval_reading : Reading PgInterval
 interval_reading = binary_alone interval_in_binary
+
+-- Why none is read, nor an amount of money: too few bytes are C15.
+abbrev pub short_refusal : PgValueFormat → Option (List ℕ) → CodecError
+short_refusal = refusal_alone (λ _. Short)

@@ -76,10 +76,6 @@ refusal_alone binary f None = UnexpectedNull
 refusal_alone binary Text (Some bytes) = TextUnsupported
 refusal_alone binary Binary (Some bytes) = binary bytes
 
--- of intervals and amounts of money: too few bytes are C15
-abbrev pub short_refusal : PgValueFormat → Option (List ℕ) → CodecError
-short_refusal = refusal_alone (λ _. Short)
-
 abbrev pub bool_refusal : PgValueFormat → Option (List ℕ) → CodecError
 bool_refusal = refusal (λ _. Short) (λ _. Syntax)
 

@@ -1,6 +1,5 @@
 //! The types of networks and addresses (PostgreSQL, "Network Address Types", inet and cidr).
 
-ghost use Rattle.std.specs.Prelude.{◌≡◌};
 ghost use Rattle.pgv_types.specs.Ty.{builtin};
 ghost use Rattle.pgv_codec.specs.NetworkBinary as spec;
 

@@ -3,9 +3,8 @@
 ghost use Rattle.std.specs.Prelude.{◌≡◌, ◌≢◌, None, IfOk, IfErr, OnErr, refl};
 ghost use Rattle.pgv_types.specs.Ty.{builtin};
 ghost use Rattle.pgv_value.specs.declared.error.CodecError.TheVariants.{Memory};
-ghost use Rattle.pgv_value.specs.Interval.{interval_reading};
+ghost use Rattle.pgv_value.specs.Interval.{interval_reading, short_refusal};
 ghost use Rattle.pgv_value.specs.declared.interval.PgInterval.{PgInterval as Interval};
-ghost use Rattle.pgv_value.specs.ScalarGrammar.{short_refusal};
 ghost use Rattle.pgv_codec.specs.Intervals.{interval_image};
 ghost use Rattle.pgv_codec.specs.Outcome.{Encoded, Appended};
 ghost use Rattle.pgv_codec.specs.WithHint.{with_hint};

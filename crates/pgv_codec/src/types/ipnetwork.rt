@@ -1,6 +1,6 @@
 //! Networks (PostgreSQL, "Network Address Types", inet and cidr).
 
-ghost use Rattle.std.specs.Prelude.{◌≡◌, refl};
+ghost use Rattle.std.specs.Prelude.{refl};
 ghost use Rattle.pgv_text.specs.NetworkText.{Network, network_of};
 ghost use Rattle.pgv_value.specs.NetworkBinary.{network_reading, network_refusal};
 ghost use Rattle.pgv_codec.specs.NetworkBinary.{network_hint, network_image};

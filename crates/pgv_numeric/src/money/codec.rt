@@ -7,7 +7,7 @@ ghost use Rattle.pgv_types.specs.Relations.{softly};
 ghost use Rattle.pgv_codec.specs.ScalarBinary.{signed_image};
 ghost use Rattle.pgv_codec.specs.Saying.{plainly};
 ghost use Rattle.pgv_numeric.specs.MoneyCodec.{money_reading};
-ghost use Rattle.pgv_value.specs.ScalarGrammar.{short_refusal};
+ghost use Rattle.pgv_value.specs.Interval.{short_refusal};
 
 use super::{PgMoney, of_bytes};
 use pgv_codec::{Encode, IsNull, PgArgumentBuffer, PgHasArrayType, Plain, Type};

@@ -2,9 +2,8 @@
 
 ghost use Rattle.std.specs.Prelude.{◌≡◌, None, IfErr, IsErrOf};
 ghost use Rattle.pgv_value.specs.Reading.{AnswersExactly};
-ghost use Rattle.pgv_value.specs.Interval.{interval_in_binary, interval_reading};
+ghost use Rattle.pgv_value.specs.Interval.{interval_in_binary, interval_reading, short_refusal};
 ghost use Rattle.pgv_value.specs.declared.error.CodecError.TheVariants.{Short, UnexpectedNull};
-ghost use Rattle.pgv_value.specs.ScalarGrammar.{short_refusal};
 
 use crate::error::CodecError;
 use crate::interval::PgInterval;
