@@ -1,21 +1,41 @@
--- Domains over one another.
-use Rattle.std.proofs.Common.{ℕ, suc}
+-- Domains over one another: a field's type is what it is under the type that lies under all of them.
+use Rattle.std.proofs.Common.{◌≡◌, ℕ, List, refl}
 use Rattle.pgv_types.specs.Ty.{Ty, builtin, custom, named, by_oid, array_of, Kind, simple, pseudo, domain, composite, array, enumeration, range}
+use Rattle.pgv_types.specs.Facts.{under_domains, under_domains_in}
+use Rattle.pgv_nest.specs.NestRefusals.{field_type_refusal, field_type_refusal_in}
+use Rattle.pgv_nest.specs.RecordGrammar.{field_type, field_type_in}
 
--- how many domains lie over one another
-abbrev mutual
-  pub domains : Ty → ℕ
-  domains (builtin own) = 0
-  domains (custom own name kind) = domains_of kind
-  domains (named name) = 0
-  domains (by_oid own) = 0
-  domains (array_of name) = 0
+module _ (place oid : ℕ) where
+  mutual
+    pub type_under : (t : Ty) → field_type (under_domains t) place oid ≡ field_type t place oid
+    type_under (builtin own) = refl
+    type_under (custom own name kind) = type_under_in own name kind
+    type_under (named name) = refl
+    type_under (by_oid own) = refl
+    type_under (array_of name) = refl
 
-  pub domains_of : Kind → ℕ
-  domains_of simple = 0
-  domains_of pseudo = 0
-  domains_of (domain base) = suc (domains base)
-  domains_of (composite parts) = 0
-  domains_of (array element) = 0
-  domains_of (enumeration labels) = 0
-  domains_of (range element) = 0
+    type_under_in : (own : ℕ) (name : List ℕ) (kind : Kind) → field_type (under_domains_in (custom own name kind) kind) place oid ≡ field_type_in own kind place oid
+    type_under_in own name simple = refl
+    type_under_in own name pseudo = refl
+    type_under_in own name (domain base) = type_under base
+    type_under_in own name (composite _) = refl
+    type_under_in own name (array element) = refl
+    type_under_in own name (enumeration labels) = refl
+    type_under_in own name (range element) = refl
+
+  mutual
+    pub refusal_under : (t : Ty) → field_type_refusal (under_domains t) place oid ≡ field_type_refusal t place oid
+    refusal_under (builtin own) = refl
+    refusal_under (custom own name kind) = refusal_under_in own name kind
+    refusal_under (named name) = refl
+    refusal_under (by_oid own) = refl
+    refusal_under (array_of name) = refl
+
+    refusal_under_in : (own : ℕ) (name : List ℕ) (kind : Kind) → field_type_refusal (under_domains_in (custom own name kind) kind) place oid ≡ field_type_refusal_in own kind place oid
+    refusal_under_in own name simple = refl
+    refusal_under_in own name pseudo = refl
+    refusal_under_in own name (domain base) = refusal_under base
+    refusal_under_in own name (composite _) = refl
+    refusal_under_in own name (array element) = refl
+    refusal_under_in own name (enumeration labels) = refl
+    refusal_under_in own name (range element) = refl

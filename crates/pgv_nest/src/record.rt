@@ -1,7 +1,7 @@
 //! The fields of records in binary, up to their frames (PostgreSQL, "Composite Types"; record_send).
 
-ghost use Rattle.std.specs.Prelude.{◌≡◌, ◌+◌, false, length, slice_get, IfOk, IfErr, option_map};
-ghost use Rattle.pgv_types.specs.Facts.{oid_of};
+ghost use Rattle.std.specs.Prelude.{◌≡◌, ◌+◌, None, false, length, slice_get, IfOk, IfErr, option_map};
+ghost use Rattle.pgv_types.specs.Facts.{domain_base, oid_of};
 ghost use Rattle.pgv_value.specs.Reading.{Answers, AnswersExactly, Refuses};
 ghost use Rattle.pgv_nest.specs.NestRefusals.{by_own_oid_refusal, composite_refusal, copies_field, field_head_refusal, field_type_refusal, is_copied};
 ghost use Rattle.pgv_nest.specs.RecordGrammar.{by_own_oid, field_head, field_type, if_oid, is_oid};
@@ -43,12 +43,24 @@ fn field_type_of(type_info: &PgTypeInfo, place: usize, oid: Oid) -> Result<PgTyp
     ensures refused { IfErr result (λ e. Refuses e (e ≡ field_type_refusal type_info.now place oid.0)) }
     ensures refused_exactly { is_copied (field_type type_info.now place oid.0) ≡ false → IfErr result (λ e. e ≡ field_type_refusal type_info.now place oid.0) }
 {
-    match &type_info.0 {
+    field_type_under(type_info.under_domains(), place, oid)
+}
+
+/// The same of a type that is no domain.
+fn field_type_under(base: &PgTypeInfo, place: usize, oid: Oid) -> Result<PgTypeInfo, CodecError>
+    requires { domain_base base.now ≡ None }
+    ensures exact { Answers (λ t. t) (field_type base.now place oid.0) result }
+    ensures exactly { is_copied (field_type base.now place oid.0) ≡ false → AnswersExactly (λ t. t) (field_type base.now place oid.0) result }
+    ensures refused { IfErr result (λ e. Refuses e (e ≡ field_type_refusal base.now place oid.0)) }
+    ensures refused_exactly { is_copied (field_type base.now place oid.0) ≡ false → IfErr result (λ e. e ≡ field_type_refusal base.now place oid.0) }
+{
+    match &base.0 {
         PgType::Record => by_own_oid_of(RECORD, oid),
         PgType::Custom(custom) => match custom.kind() {
             PgTypeKindRef::Simple => by_own_oid_of(custom.oid(), oid),
-            PgTypeKindRef::Domain(base) => field_type_of(base.as_ref(), place, oid),
             PgTypeKindRef::Composite(fields) => composite_field(fields, place, oid),
+            // It is none: what is under all domains.
+            PgTypeKindRef::Domain(_base) => Err(CodecError::NotARecord),
             _ => Err(CodecError::NotARecord),
         },
         _ => Err(CodecError::NotARecord),

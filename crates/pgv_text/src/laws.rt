@@ -1,11 +1,14 @@
 //! Laws of the definitions: what holds of every text, with nothing to run.
 
+ghost use Rattle.std.specs.Prelude.{◌≡◌, ◌↔◌, true};
 ghost use Rattle.pgv_text.specs.AddressText.{AddressIsItsValue};
 ghost use Rattle.pgv_text.specs.Copies.{UnquotedIsNotCopied};
 ghost use Rattle.pgv_text.specs.DateTimeText.{DateIsItsValue, DateTimeIsItsValue, InstantIsItsValue, OneDate, OneDateTime, OneInstant, OneTime, OneTimeTz, TimeIsItsValue, TimeTzIsItsValue};
 ghost use Rattle.pgv_text.specs.Laws.{ArrayIsItsValues, EveryListHasAText, NestIsComputed, OneNest, OneRange, RangeIsComputed, RecordIsItsValues, SpelledReadsBack, ValuesAreTexts};
-ghost use Rattle.pgv_text.specs.NetworkText.{NetworkIsItsValue, OneNetwork};
+ghost use Rattle.pgv_text.specs.NetworkText.{network_of, NetworkIsItsValue, OneNetwork};
 ghost use Rattle.pgv_text.specs.NumberText.{NumberIsItsValue, OneNumber, OneUnsignedNumber, UnsignedIsItsValue};
+
+use crate::{IpNetwork, Ipv4Network, Ipv6Network};
 
 /// A text is a number exactly where one is computed of it, and it is that one.
 pub fn number_is_its_value()
@@ -142,4 +145,11 @@ pub fn one_network()
 /// A text writes an address exactly where that address is computed of it.
 pub fn address_is_its_value()
     ensures { AddressIsItsValue }
+{}
+
+/// Networks are equal exactly where they have the same address and prefix: one of version 4 is no one of version 6.
+pub fn equal_networks()
+    ensures four { (a b : Ipv4Network) → (⟦<Ipv4Network as PartialEq>⟧.eq a b ≡ true) ↔ ((a.ip ≡ b.ip) × (a.prefix ≡ b.prefix)) }
+    ensures six { (a b : Ipv6Network) → (⟦<Ipv6Network as PartialEq>⟧.eq a b ≡ true) ↔ ((a.ip ≡ b.ip) × (a.prefix ≡ b.prefix)) }
+    ensures either { (a b : IpNetwork) → (⟦<IpNetwork as PartialEq>⟧.eq a b ≡ true) ↔ (network_of a ≡ network_of b) }
 {}

@@ -14,3 +14,4 @@ pub mod Arrays
 pub mod Fits
 pub mod Lawful
 mod Printing
+pub mod Customs

@@ -79,6 +79,45 @@ element_of (named n) = option_map named (name_element n)
 element_of (by_oid o) = None
 element_of (array_of n) = Some (named n)
 
+-- ---- domains
+
+-- the type that a domain is over
+abbrev pub base_in : Kind → Option Ty
+base_in simple = None
+base_in pseudo = None
+base_in (domain t) = Some t
+base_in (composite fs) = None
+base_in (array t) = None
+base_in (enumeration ls) = None
+base_in (range t) = None
+
+abbrev pub domain_base : Ty → Option Ty
+domain_base (builtin o) = None
+domain_base (custom o n k) = base_in k
+domain_base (named n) = None
+domain_base (by_oid o) = None
+domain_base (array_of n) = None
+
+-- the type under all domains
+abbrev mutual
+  pub under_domains : Ty → Ty
+  under_domains (builtin o) = builtin o
+  under_domains (custom o n k) = under_domains_in (custom o n k) k
+  under_domains (named n) = named n
+  under_domains (by_oid o) = by_oid o
+  under_domains (array_of n) = array_of n
+
+  pub under_domains_in : Ty → Kind → Ty
+  under_domains_in t simple = t
+  under_domains_in t pseudo = t
+  under_domains_in t (domain base) = under_domains base
+  under_domains_in t (composite fs) = t
+  under_domains_in t (array element) = t
+  under_domains_in t (enumeration ls) = t
+  under_domains_in t (range element) = t
+
+-- ---- elements of built-in arrays
+
 abbrev pub element_built_in : Ty → Option Ty
 element_built_in (builtin o) = option_map builtin (element_oid o)
 element_built_in (custom o n k) = None

@@ -1,7 +1,8 @@
 -- The trees that types and kinds stand for that are lent out.
-use Rattle.std.specs.Prelude.{map}
+use Rattle.std.specs.Prelude.{map, ⊤}
 use Rattle.std.specs.Rc.{rc_str_bytes}
 use Rattle.pgv_types.specs.Ty.{Ty, Kind, simple, pseudo, domain, composite, array, enumeration, range}
+use Rattle.pgv_types.specs.Facts.{IsNotCustom}
 use Rattle.pgv_types.specs.Shown.{fields_of}
 use Rattle.pgv_types.specs.declared.kind.PgTypeRef.{PgTypeRef}
 use Rattle.pgv_types.specs.declared.kind.PgTypeRef.TheVariants.{Owned, Borrowed}
@@ -11,6 +12,11 @@ use Rattle.pgv_types.specs.declared.kind.PgTypeKindRef.TheVariants.{Simple, Pseu
 abbrev pub ref_type : PgTypeRef → Ty
 ref_type (Owned t) = t
 ref_type (Borrowed t) = t.now
+
+-- what is made here is never a custom type
+abbrev pub IsHeld : PgTypeRef → Type 0
+IsHeld (Owned t) = IsNotCustom t
+IsHeld (Borrowed t) = ⊤
 
 abbrev pub kind_lent : PgTypeKindRef → Kind
 kind_lent Simple = simple

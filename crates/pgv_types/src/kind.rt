@@ -1,6 +1,7 @@
 //! What kind of type a type is.
-ghost use Rattle.std.specs.Prelude.{◌≡◌};
-ghost use Rattle.pgv_types.specs.Parts.{ref_type, kind_lent};
+ghost use Rattle.std.specs.Prelude.{◌≡◌, option_map, IfSome};
+ghost use Rattle.pgv_types.specs.Facts.{element_of};
+ghost use Rattle.pgv_types.specs.Parts.{ref_type, IsHeld, kind_lent};
 ghost use Rattle.pgv_types.specs.Shown.{kind_of};
 
 use crate::PgTypeInfo;
@@ -73,7 +74,7 @@ pub enum PgTypeRef<'a> {
     Borrowed(&'a PgTypeInfo),
 }
 
-impl PgTypeRef<'_> {
+impl<'a> PgTypeRef<'a> {
     /// The type.
     pub fn as_ref(&self) -> &PgTypeInfo
         ensures { result.now ≡ ref_type self.now }
@@ -81,6 +82,18 @@ impl PgTypeRef<'_> {
         match self {
             PgTypeRef::Owned(info) => info,
             PgTypeRef::Borrowed(info) => *info,
+        }
+    }
+
+    /// The element of an array, which may be kept longer than this.
+    pub(crate) fn element(&self) -> Option<PgTypeRef<'a>>
+        requires { IsHeld self.now }
+        ensures element { option_map ref_type result ≡ element_of (ref_type self.now) }
+        ensures held { IfSome result IsHeld }
+    {
+        match self {
+            PgTypeRef::Owned(info) => Some(PgTypeRef::Owned(info.0.made_element()?)),
+            PgTypeRef::Borrowed(info) => info.0.array_element(),
         }
     }
 }

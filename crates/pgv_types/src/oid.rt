@@ -4,5 +4,16 @@
 ///
 /// The server gives one to each of its types. Those of the built-in types never change, and those
 /// of other types differ from one database to the next.
-#[derive(Clone, Copy, PartialEq, Eq, Hash, Debug, Default)]
+#[derive(Clone, Copy, PartialEq, Eq, Hash, Debug)]
 pub struct Oid(pub u32);
+
+/// 0, which is no type's OID.
+impl Default for Oid {
+    ghost use Rattle.std.specs.Prelude.{◌≡◌};
+
+    ghost is_default = { λ oid. oid.0 ≡ 0 };
+
+    fn default() -> Oid {
+        Oid(0)
+    }
+}

@@ -5,7 +5,7 @@ ghost use Rattle.pgv_types.specs.Facts.{base_oid, name_of};
 ghost use Rattle.pgv_types.specs.Relations.{softly, exactly, related, levels, common_base, is_by_oid};
 ghost use Rattle.pgv_types.specs.Shown.{type_of};
 
-use crate::{Oid, PgType, PgTypeInfo, PgTypeKind};
+use crate::{Oid, PgType, PgTypeInfo, PgTypeKind, PgTypeRef};
 
 impl PgType {
     /// The OID, or that of the type under a domain.
@@ -57,23 +57,29 @@ impl PgTypeInfo {
         self.0.name().agrees(&other.0.name())
     }
 
-    /// Whether the two are softly, or else exactly, the same.
+    /// Whether the two are softly, or else exactly, the same. However many elements stand within one another, it takes no more of
+    /// the stack.
     fn is_related(&self, other: &PgTypeInfo, soft: bool) -> bool
         ensures { result ≡ related soft (levels self.now) (levels other.now) }
     {
-        if let Some(same) = self.same_base(other) {
-            return same;
+        let mut first = PgTypeRef::Borrowed(self);
+        let mut second = PgTypeRef::Borrowed(other);
+        loop {
+            if let Some(same) = first.as_ref().same_base(second.as_ref()) {
+                return same;
+            }
+            if first.as_ref().is_open(second.as_ref(), soft) {
+                return true;
+            }
+            let Some(first_element) = first.element() else {
+                return first.as_ref().names_agree(second.as_ref());
+            };
+            let Some(second_element) = second.element() else {
+                return first.as_ref().names_agree(second.as_ref());
+            };
+            first = first_element;
+            second = second_element;
         }
-        if self.is_open(other, soft) {
-            return true;
-        }
-        let Some(first) = self.array_element() else {
-            return self.names_agree(other);
-        };
-        let Some(second) = other.array_element() else {
-            return self.names_agree(other);
-        };
-        first.as_ref().is_related(second.as_ref(), soft)
     }
 
     /// Whether a value of one type may stand for one of the other: the soft relation.

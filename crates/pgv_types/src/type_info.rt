@@ -1,11 +1,11 @@
 //! Types as callers hold them.
-ghost use Rattle.std.specs.Prelude.{◌≡◌, false, option_map, IfOk};
+ghost use Rattle.std.specs.Prelude.{◌≡◌, None, false, option_map, IfOk, IfSome};
 ghost use Rattle.pgv_types.specs.Whole.{whole};
-ghost use Rattle.pgv_types.specs.Facts.{is_void, oid_of, element_of, element_built_in, name_element, kind_at, kind_when_built_in, name_of, has_brackets, display_of, shows_brackets, is_a_type, built_in};
+ghost use Rattle.pgv_types.specs.Facts.{is_custom, is_void, IsNotCustom, domain_base, under_domains, oid_of, element_of, element_built_in, name_element, kind_at, kind_when_built_in, name_of, has_brackets, display_of, shows_brackets, is_a_type, built_in};
 ghost use Rattle.pgv_types.specs.Relations.{is_by_oid};
 ghost use Rattle.pgv_types.specs.Ty.{named, array_of, by_oid, custom};
 ghost use Rattle.pgv_types.specs.Shown.{kind_of, type_of};
-ghost use Rattle.pgv_types.specs.Parts.{ref_type, kind_lent};
+ghost use Rattle.pgv_types.specs.Parts.{ref_type, IsHeld, kind_lent};
 
 use crate::{
     Oid, PgArrayOf, PgCustomType, PgTypeKind, PgTypeKindRef, PgTypeName, PgTypeRef, StaticText,
@@ -154,22 +154,30 @@ impl PgType {
     /// The element of an array: a built-in array's or a custom one's, the name after the `_` of a
     /// declared name, or the name that an array was declared by. It takes no memory.
     pub fn array_element(&self) -> Option<PgTypeRef<'_>>
-        ensures { option_map ref_type result ≡ element_of (type_of self.now) }
+        ensures element { option_map ref_type result ≡ element_of (type_of self.now) }
+        ensures held { IfSome result IsHeld }
     {
         match self {
             PgType::Custom(custom) => match &custom.kind {
                 PgTypeKind::Array(info) => Some(PgTypeRef::Borrowed(info)),
                 _ => None,
             },
+            _ => Some(PgTypeRef::Owned(self.made_element()?)),
+        }
+    }
+
+    /// The element of a type that is not custom, which is made here.
+    pub(crate) fn made_element(&self) -> Option<PgTypeInfo>
+        ensures element { is_custom (type_of self.now) ≡ false → result ≡ element_of (type_of self.now) }
+        ensures made { IfSome result IsNotCustom }
+    {
+        match self {
             PgType::DeclareWithName(name) => {
-                let element = element_name(name.as_str())?;
-                Some(PgTypeRef::Owned(PgTypeInfo::with_name(element)))
+                Some(PgTypeInfo::with_name(element_name(name.as_str())?))
             }
-            PgType::DeclareArrayOf(of) => Some(PgTypeRef::Owned(PgTypeInfo::with_name(
-                of.elem_name(),
-            ))),
-            PgType::DeclareWithOid(_) => None,
-            _ => Some(PgTypeRef::Owned(PgTypeInfo(self.built_in_element()?))),
+            PgType::DeclareArrayOf(of) => Some(PgTypeInfo::with_name(of.elem_name())),
+            PgType::DeclareWithOid(_) | PgType::Custom(_) => None,
+            _ => Some(PgTypeInfo(self.built_in_element()?)),
         }
     }
 
@@ -458,6 +466,32 @@ impl PgTypeInfo {
         ensures { option_map ref_type result ≡ element_of self.now }
     {
         self.0.array_element()
+    }
+
+    /// The type that a domain is over.
+    fn domain_base(&self) -> Option<&PgTypeInfo>
+        ensures { option_map (λ t. t.now) result ≡ domain_base self.now }
+    {
+        match &self.0 {
+            PgType::Custom(custom) => match &custom.kind {
+                PgTypeKind::Domain(base) => Some(base),
+                _ => None,
+            },
+            _ => None,
+        }
+    }
+
+    /// The type under all domains: of a domain over a domain over `int4` it is `int4`. A type that is no domain is its own.
+    /// It takes no memory, and no more of the stack for more domains.
+    pub fn under_domains(&self) -> &PgTypeInfo
+        ensures under { result.now ≡ under_domains self.now }
+        ensures last { domain_base result.now ≡ None }
+    {
+        let mut found = self;
+        while let Some(base) = found.domain_base() {
+            found = base;
+        }
+        found
     }
 
     /// The name that is shown: in upper case for a built-in type, with `[]` after an array.

@@ -10,7 +10,6 @@ use crate::tree_error::{PgLQueryParseError, PgLTreeParseError};
 use pgv_text::NumberFault;
 use pgv_types::Oid;
 use std::alloc::{AllocError, AllocFailed};
-use std::num::TryFromIntError;
 use thiserror::Error;
 
 /// Why a value could not be written or read. The number of each refusal, which [`CodecError::code`] gives, is
@@ -195,14 +194,6 @@ impl<T: Drop> From<AllocFailed<T>> for CodecError {
 
     fn from(_error: AllocFailed<T>) -> CodecError {
         CodecError::Memory
-    }
-}
-
-impl From<TryFromIntError> for CodecError {
-    ghost from_gives = { λ _ e. e ≡ OutOfRange };
-
-    fn from(_error: TryFromIntError) -> CodecError {
-        CodecError::OutOfRange
     }
 }
 

@@ -8,7 +8,7 @@ use std::time::Duration;
 
 /// An interval: months, days and microseconds, each with a sign of its own. `1 month` isn't a number of days, nor `1 day` one of
 /// hours.
-#[derive(Clone, Copy, Debug, Default, PartialEq, Eq, Hash)]
+#[derive(Clone, Copy, Debug, PartialEq, Eq, Hash)]
 pub struct PgInterval {
     /// Months, of which twelve are a year.
     pub months: i32,
@@ -16,6 +16,17 @@ pub struct PgInterval {
     pub days: i32,
     /// Microseconds.
     pub microseconds: i64,
+}
+
+/// No months, no days and no microseconds.
+impl Default for PgInterval {
+    ghost use Rattle.std.specs.Prelude.{◌≡◌, pos};
+
+    ghost is_default = { λ i. (i.months ≡ pos 0) × (i.days ≡ pos 0) × (i.microseconds ≡ pos 0) };
+
+    fn default() -> PgInterval {
+        of_microseconds(0)
+    }
 }
 
 /// As many microseconds, no days and no months. A duration that isn't whole microseconds is refused with C4, and another of more

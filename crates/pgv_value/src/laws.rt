@@ -1,6 +1,6 @@
 //! Laws of the definitions: what holds of all bytes, with nothing to run.
 
-ghost use Rattle.std.specs.Prelude.{◌≡◌, fold, true};
+ghost use Rattle.std.specs.Prelude.{◌≡◌, ◌↔◌, fold, true};
 ghost use Rattle.pgv_value.specs.Interval.{IntervalIsItsMicroseconds};
 ghost use Rattle.pgv_value.specs.Laws.{CutFrameIsShort, FrontIsFrame};
 
@@ -29,6 +29,11 @@ pub fn equal_ids_hash_alike<H: Hasher>(a: &Uuid, b: &Uuid, first: &mut H, second
     a.hash(first);
     b.hash(second);
 }
+
+/// Intervals are equal exactly where they have the same months, days and microseconds.
+pub fn equal_intervals()
+    ensures { (a b : PgInterval) → (⟦<PgInterval as PartialEq>⟧.eq a b ≡ true) ↔ (a ≡ b) }
+{}
 
 /// Equal intervals have equal hashes: from one state of a hasher they lead to one state.
 pub fn equal_intervals_hash_alike<H: Hasher>(

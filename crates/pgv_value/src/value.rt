@@ -25,6 +25,9 @@ pub enum PgValueFormat {
     Binary = 1,
 }
 
+/// A message has a format as this number (PostgreSQL, "Message Formats", Bind).
+const _: () = prove!(PgValueFormat::Text as u8 == 0 && PgValueFormat::Binary as u8 == 1);
+
 /// A value that has its own bytes, or shares those of its row, and so outlives the reference that it was made
 /// from. It is made by [`PgValueRef::to_owned`] and read through [`PgValue::as_ref`].
 #[derive(Drop)]

@@ -1,16 +1,28 @@
 //! Whole numbers of 8, 16, 32 and 64 bits.
 
-ghost use Rattle.std.specs.Prelude.{◌≡◌, None, IfErr, IsErrOf};
+ghost use Rattle.std.specs.Prelude.{◌≡◌, None, IfErr, IsErrOf, MatchResult};
 ghost use Rattle.std.specs.Int.{w16, w32, w64};
 ghost use Rattle.pgv_value.specs.Reading.{AnswersExactly};
 ghost use Rattle.pgv_value.specs.NumberBinary.{in_range, whole_number, whole_refusal};
 ghost use Rattle.pgv_value.specs.ScalarGrammar.{char_reading, int_reading, int_refusal, whole_or_syntax_refusal};
-ghost use Rattle.pgv_value.specs.declared.error.CodecError.TheVariants.{UnexpectedNull};
+ghost use Rattle.pgv_value.specs.declared.error.CodecError.TheVariants.{OutOfRange, UnexpectedNull};
 
 use crate::error::CodecError;
 use crate::value::{PgValueFormat, PgValueRef};
 use byteorder::{BigEndian, ByteOrder};
 use pgv_text::{char_of, number_of};
+use std::num::TryFromIntError;
+
+/// A number that was made one of another type: C30 where that type doesn't have it.
+#[inline(always)]
+pub(crate) fn in_type<T: Drop>(number: Result<T, TryFromIntError>) -> Result<T, CodecError>
+    ensures { MatchResult number (λ n. result ≡ Ok n) (λ _. result ≡ Err OutOfRange) }
+{
+    match number {
+        Ok(number) => Ok(number),
+        Err(_) => Err(CodecError::OutOfRange),
+    }
+}
 
 /// The number in one to eight bytes of two's complement, the highest first. Another length is refused with C17.
 #[inline(always)]
@@ -38,7 +50,7 @@ fn number_of_32(bytes: &[u8]) -> Result<i32, CodecError>
     if bytes.len() == 4 {
         return Ok(BigEndian::read_i32(bytes));
     }
-    Ok(i32::try_from(whole_number_of(bytes)?)?)
+    in_type(i32::try_from(whole_number_of(bytes)?))
 }
 
 /// The number in either format, if 64 bits have it.
@@ -65,7 +77,7 @@ pub fn read_i8(value: &PgValueRef<'_>) -> Result<i8, CodecError>
     ensures null { value.now.bytes ≡ None → IsErrOf result UnexpectedNull }
 {
     match value.format() {
-        PgValueFormat::Binary => Ok(i8::try_from(whole_number_of(value.as_bytes()?)?)?),
+        PgValueFormat::Binary => in_type(i8::try_from(whole_number_of(value.as_bytes()?)?)),
         PgValueFormat::Text => char_of(value.as_str()?).ok_or(CodecError::Syntax),
     }
 }
@@ -79,7 +91,7 @@ pub fn read_i16(value: &PgValueRef<'_>) -> Result<i16, CodecError>
     ensures refused { IfErr result (λ e. e ≡ int_refusal value.now.format value.now.bytes) }
     ensures null { value.now.bytes ≡ None → IsErrOf result UnexpectedNull }
 {
-    Ok(i16::try_from(integer(value)?)?)
+    in_type(i16::try_from(integer(value)?))
 }
 
 /// Reads an `int4`, as [`read_i16`] reads an `int2`; a number outside 32 bits is refused with C30. `00000007` is 7.
@@ -91,7 +103,7 @@ pub fn read_i32(value: &PgValueRef<'_>) -> Result<i32, CodecError>
 {
     match value.format() {
         PgValueFormat::Binary => number_of_32(value.as_bytes()?),
-        PgValueFormat::Text => Ok(i32::try_from(number_of(value.as_str()?)?)?),
+        PgValueFormat::Text => in_type(i32::try_from(number_of(value.as_str()?)?)),
     }
 }
 

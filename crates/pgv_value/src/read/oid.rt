@@ -7,6 +7,7 @@ ghost use Rattle.pgv_value.specs.declared.error.CodecError.TheVariants.{Unexpect
 
 use crate::error::CodecError;
 use crate::number::u32_in_front;
+use crate::read::int::in_type;
 use crate::value::{PgValueFormat, PgValueRef};
 use pgv_text::unsigned_number_of;
 use pgv_types::Oid;
@@ -24,6 +25,9 @@ pub fn read_oid(value: &PgValueRef<'_>) -> Result<Oid, CodecError>
             let (number, _rest) = u32_in_front(value.as_bytes()?)?;
             Ok(Oid(number))
         }
-        PgValueFormat::Text => Ok(Oid(u32::try_from(unsigned_number_of(value.as_str()?)?)?)),
+        PgValueFormat::Text => {
+            let number = in_type(u32::try_from(unsigned_number_of(value.as_str()?)?))?;
+            Ok(Oid(number))
+        }
     }
 }
