@@ -10,7 +10,7 @@ ghost use Rattle.pgv_nest.specs.NestBinary.{RecordIsItsFields, IsField, SameFiel
 ghost use Rattle.pgv_nest.specs.NestRefusals.{field_then, next_refusal, next_takes, record_refusal, record_takes, takes_then};
 ghost use Rattle.pgv_nest.specs.NestText.{IsTextField, SameParts, ◌before◌};
 ghost use Rattle.pgv_nest.specs.TupleGrammar.{record_of};
-ghost use Rattle.pgv_codec.specs.Back.{AreOids, ReadsBack, FieldFits, FieldsFit, FieldReadsBack, RecordFieldsFollow, RecordReadsBack};
+ghost use Rattle.pgv_codec.specs.Back.{AreOids, ArrayFits, ReadsBack, FieldFits, FieldsFit, FieldReadsBack, RecordFieldsFollow, RecordReadsBack};
 ghost use Rattle.pgv_codec.specs.Image.{field};
 ghost use Rattle.pgv_codec.specs.Plain.{ArrayIsPlain, FieldIsPlain};
 ghost use Rattle.pgv_codec.specs.RecordCalls.{RecordIsItsAccepted};
@@ -21,7 +21,7 @@ ghost use Rattle.pgv_codec.specs.TypeRow.{TakesNone};
 use crate::traits::{Codec, Decode, Plain, ReadBack, Type};
 use crate::types::field_list::{FieldList, KeptList};
 
-/// A tuple is read as the list of its fields is. It is refused with what refuses the record, and else with what its first field that
+/// A tuple is read as the list of its fields is, and means what the list means. It is refused with what refuses the record, and else with what its first field that
 /// isn't read is refused with. Memory is asked for only where there is a record.
 pub fn tuple_is_its_list<
     A: Type + Decode,
@@ -35,48 +35,63 @@ pub fn tuple_is_its_list<
     I: Type + Decode,
 >()
     ensures one { ⟦<(A,) as Decode>⟧.reading ≡ record_of ⟦<(A,) as FieldList>⟧.step }
+    ensures one_means { (v : _) → ⟦<(A,) as Decode>⟧.meaning v ≡ ⟦<(A,) as FieldList>⟧.meaning v }
     ensures one_refused { ⟦<(A,) as Decode>⟧.refusal ≡ record_refusal ⟦<(A,) as FieldList>⟧.why }
     ensures one_takes { ⟦<(A,) as Decode>⟧.takes_memory ≡ record_takes ⟦<(A,) as FieldList>⟧.takes }
     ensures two { ⟦<(A, B) as Decode>⟧.reading ≡ record_of ⟦<(A, (B,)) as FieldList>⟧.step }
+    ensures two_means { (v : _) → ⟦<(A, B) as Decode>⟧.meaning v ≡ ⟦<(A, (B,)) as FieldList>⟧.meaning (v.0, record { 0 = v.1 }) }
     ensures two_refused { ⟦<(A, B) as Decode>⟧.refusal ≡ record_refusal ⟦<(A, (B,)) as FieldList>⟧.why }
     ensures two_takes { ⟦<(A, B) as Decode>⟧.takes_memory ≡ record_takes ⟦<(A, (B,)) as FieldList>⟧.takes }
     ensures three { ⟦<(A, B, C) as Decode>⟧.reading ≡ record_of ⟦<(A, (B, (C,))) as FieldList>⟧.step }
+    ensures three_means { (v : _) → ⟦<(A, B, C) as Decode>⟧.meaning v ≡ ⟦<(A, (B, (C,))) as FieldList>⟧.meaning (v.0, (v.1, record { 0 = v.2 })) }
     ensures three_refused { ⟦<(A, B, C) as Decode>⟧.refusal ≡ record_refusal ⟦<(A, (B, (C,))) as FieldList>⟧.why }
     ensures three_takes { ⟦<(A, B, C) as Decode>⟧.takes_memory ≡ record_takes ⟦<(A, (B, (C,))) as FieldList>⟧.takes }
     ensures four { ⟦<(A, B, C, D) as Decode>⟧.reading ≡ record_of ⟦<(A, (B, (C, (D,)))) as FieldList>⟧.step }
+    ensures four_means { (v : _) → ⟦<(A, B, C, D) as Decode>⟧.meaning v ≡ ⟦<(A, (B, (C, (D,)))) as FieldList>⟧.meaning (v.0, (v.1, (v.2, record { 0 = v.3 }))) }
     ensures four_refused { ⟦<(A, B, C, D) as Decode>⟧.refusal ≡ record_refusal ⟦<(A, (B, (C, (D,)))) as FieldList>⟧.why }
     ensures four_takes { ⟦<(A, B, C, D) as Decode>⟧.takes_memory ≡ record_takes ⟦<(A, (B, (C, (D,)))) as FieldList>⟧.takes }
     ensures five { ⟦<(A, B, C, D, E) as Decode>⟧.reading ≡ record_of ⟦<(A, (B, (C, (D, (E,))))) as FieldList>⟧.step }
+    ensures five_means { (v : _) → ⟦<(A, B, C, D, E) as Decode>⟧.meaning v ≡ ⟦<(A, (B, (C, (D, (E,))))) as FieldList>⟧.meaning (v.0, (v.1, (v.2, (v.3, record { 0 = v.4 })))) }
     ensures five_refused { ⟦<(A, B, C, D, E) as Decode>⟧.refusal ≡ record_refusal ⟦<(A, (B, (C, (D, (E,))))) as FieldList>⟧.why }
     ensures five_takes { ⟦<(A, B, C, D, E) as Decode>⟧.takes_memory ≡ record_takes ⟦<(A, (B, (C, (D, (E,))))) as FieldList>⟧.takes }
     ensures six { ⟦<(A, B, C, D, E, F) as Decode>⟧.reading ≡ record_of ⟦<(A, (B, (C, (D, (E, (F,)))))) as FieldList>⟧.step }
+    ensures six_means { (v : _) → ⟦<(A, B, C, D, E, F) as Decode>⟧.meaning v ≡ ⟦<(A, (B, (C, (D, (E, (F,)))))) as FieldList>⟧.meaning (v.0, (v.1, (v.2, (v.3, (v.4, record { 0 = v.5 }))))) }
     ensures six_refused { ⟦<(A, B, C, D, E, F) as Decode>⟧.refusal ≡ record_refusal ⟦<(A, (B, (C, (D, (E, (F,)))))) as FieldList>⟧.why }
     ensures six_takes { ⟦<(A, B, C, D, E, F) as Decode>⟧.takes_memory ≡ record_takes ⟦<(A, (B, (C, (D, (E, (F,)))))) as FieldList>⟧.takes }
     ensures seven { ⟦<(A, B, C, D, E, F, G) as Decode>⟧.reading ≡ record_of ⟦<(A, (B, (C, (D, (E, (F, (G,))))))) as FieldList>⟧.step }
+    ensures seven_means { (v : _) → ⟦<(A, B, C, D, E, F, G) as Decode>⟧.meaning v ≡ ⟦<(A, (B, (C, (D, (E, (F, (G,))))))) as FieldList>⟧.meaning (v.0, (v.1, (v.2, (v.3, (v.4, (v.5, record { 0 = v.6 })))))) }
     ensures seven_refused { ⟦<(A, B, C, D, E, F, G) as Decode>⟧.refusal ≡ record_refusal ⟦<(A, (B, (C, (D, (E, (F, (G,))))))) as FieldList>⟧.why }
     ensures seven_takes { ⟦<(A, B, C, D, E, F, G) as Decode>⟧.takes_memory ≡ record_takes ⟦<(A, (B, (C, (D, (E, (F, (G,))))))) as FieldList>⟧.takes }
     ensures eight { ⟦<(A, B, C, D, E, F, G, H) as Decode>⟧.reading ≡ record_of ⟦<(A, (B, (C, (D, (E, (F, (G, (H,)))))))) as FieldList>⟧.step }
+    ensures eight_means { (v : _) → ⟦<(A, B, C, D, E, F, G, H) as Decode>⟧.meaning v ≡ ⟦<(A, (B, (C, (D, (E, (F, (G, (H,)))))))) as FieldList>⟧.meaning (v.0, (v.1, (v.2, (v.3, (v.4, (v.5, (v.6, record { 0 = v.7 }))))))) }
     ensures eight_refused { ⟦<(A, B, C, D, E, F, G, H) as Decode>⟧.refusal ≡ record_refusal ⟦<(A, (B, (C, (D, (E, (F, (G, (H,)))))))) as FieldList>⟧.why }
     ensures eight_takes { ⟦<(A, B, C, D, E, F, G, H) as Decode>⟧.takes_memory ≡ record_takes ⟦<(A, (B, (C, (D, (E, (F, (G, (H,)))))))) as FieldList>⟧.takes }
     ensures nine { ⟦<(A, B, C, D, E, F, G, H, I) as Decode>⟧.reading ≡ record_of ⟦<(A, (B, (C, (D, (E, (F, (G, (H, (I,))))))))) as FieldList>⟧.step }
+    ensures nine_means { (v : _) → ⟦<(A, B, C, D, E, F, G, H, I) as Decode>⟧.meaning v ≡ ⟦<(A, (B, (C, (D, (E, (F, (G, (H, (I,))))))))) as FieldList>⟧.meaning (v.0, (v.1, (v.2, (v.3, (v.4, (v.5, (v.6, (v.7, record { 0 = v.8 })))))))) }
     ensures nine_refused { ⟦<(A, B, C, D, E, F, G, H, I) as Decode>⟧.refusal ≡ record_refusal ⟦<(A, (B, (C, (D, (E, (F, (G, (H, (I,))))))))) as FieldList>⟧.why }
     ensures nine_takes { ⟦<(A, B, C, D, E, F, G, H, I) as Decode>⟧.takes_memory ≡ record_takes ⟦<(A, (B, (C, (D, (E, (F, (G, (H, (I,))))))))) as FieldList>⟧.takes }
 {}
 
-/// What a list of fields is: a field, or a field and then the rest. So it is for what its bytes and texts are, for why it is refused,
-/// where it asks for memory, and for what is written and kept of it and what it fits.
-pub fn lists_are_their_fields<A: ReadBack + Type, Rest: KeptList>()
+/// What a list of fields is: a field, or a field and then the rest. So it is for what its bytes and texts are, for what it means, for
+/// why it is refused, and where it asks for memory, also of fields that are only read, as tuples and `()`.
+pub fn lists_are_their_fields<A: Decode + Type, Rest: FieldList>()
     ensures one { SameFields ⟦<(A,) as FieldList>⟧.in_binary (IsField A.accepts A.reading) × SameParts ⟦<(A,) as FieldList>⟧.in_text (IsTextField A.reading) }
+    ensures one_means { (a : _) → ⟦<(A,) as FieldList>⟧.meaning a ≡ A.meaning a.0 }
     ensures one_refused { ⟦<(A,) as FieldList>⟧.why ≡ next_refusal A.accepts A.refusal }
     ensures one_takes { ⟦<(A,) as FieldList>⟧.takes ≡ next_takes A.accepts A.takes_memory }
-    ensures one_written { (a : _) (further : List (Option (List Token))) → ⟦<(A,) as KeptList>⟧.written a further ≡ field A.hint A.image A.produced A.info a.0 ∷ further }
-    ensures one_means { (a : _) → ⟦<(A,) as FieldList>⟧.meaning (⟦<(A,) as KeptList>⟧.kept a) ≡ A.meaning (A.kept a.0) }
-    ensures one_fits { (a : _) (t : Ty) (place : ℕ) (oids : List Oid) → ⟦<(A,) as KeptList>⟧.fits a t place oids ↔ FieldFits A.info A.produced A.image A.accepts A.fits a.0 t place oids }
     ensures more { SameFields ⟦<(A, Rest) as FieldList>⟧.in_binary (IsField A.accepts A.reading and Rest.in_binary) × SameParts ⟦<(A, Rest) as FieldList>⟧.in_text (IsTextField A.reading before Rest.in_text) }
+    ensures more_mean { (l : _) → ⟦<(A, Rest) as FieldList>⟧.meaning l ≡ (let both : A.Meaning × Rest.Meaning = (A.meaning l.0, Rest.meaning l.1) in both) }
     ensures more_refused { ⟦<(A, Rest) as FieldList>⟧.why ≡ field_then A.accepts A.reading A.refusal Rest.why }
     ensures more_take { ⟦<(A, Rest) as FieldList>⟧.takes ≡ takes_then A.accepts A.reading A.takes_memory Rest.takes }
+{}
+
+/// What is written and kept of a list of fields that are read back, and what it fits: as of a field, or of a field and then the rest.
+pub fn kept_lists_are_their_fields<A: ReadBack + Type, Rest: KeptList>()
+    ensures one_written { (a : _) (further : List (Option (List Token))) → ⟦<(A,) as KeptList>⟧.written a further ≡ field A.hint A.image A.produced A.info a.0 ∷ further }
+    ensures one_kept { (a : _) → ⟦<(A,) as FieldList>⟧.meaning (⟦<(A,) as KeptList>⟧.kept a) ≡ A.meaning (A.kept a.0) }
+    ensures one_fits { (a : _) (t : Ty) (place : ℕ) (oids : List Oid) → ⟦<(A,) as KeptList>⟧.fits a t place oids ↔ FieldFits A.info A.produced A.image A.accepts A.fits a.0 t place oids }
     ensures more_written { (l : _) (further : List (Option (List Token))) → ⟦<(A, Rest) as KeptList>⟧.written l further ≡ field A.hint A.image A.produced A.info l.0 ∷ Rest.written l.1 further }
-    ensures more_mean { (l : _) → ⟦<(A, Rest) as FieldList>⟧.meaning (⟦<(A, Rest) as KeptList>⟧.kept l) ≡ (let both : A.Meaning × Rest.Meaning = (A.meaning (A.kept l.0), Rest.meaning (Rest.kept l.1)) in both) }
+    ensures more_kept { (l : _) → ⟦<(A, Rest) as FieldList>⟧.meaning (⟦<(A, Rest) as KeptList>⟧.kept l) ≡ (let both : A.Meaning × Rest.Meaning = (A.meaning (A.kept l.0), Rest.meaning (Rest.kept l.1)) in both) }
     ensures more_fit { (l : _) (t : Ty) (place : ℕ) (oids : List Oid) → ⟦<(A, Rest) as KeptList>⟧.fits l t place oids ↔ FieldsFit A.info A.produced A.hint A.image A.accepts A.fits l.0 (Rest.fits l.1) t place oids }
 {}
 
@@ -157,15 +172,18 @@ pub fn plain_types_fit()
     ensures address { (v : _) (t : Ty) (oids : List Oid) → ⟦<std::net::IpAddr as ReadBack>⟧.fits v t oids }
 {}
 
-/// None comes back under every type, and Some where its value does. A list or an array comes back under an array whose
-/// element's own OID was written, where each element does. A field comes back under a composite type, a domain of one or
+/// None comes back under every type, and Some where its value does. A list or an array comes back exactly where the type of its
+/// elements is found by the OID that was written (the built-in type of this OID, and where there is none the element of the
+/// array's type), and each element comes back under that; so it does under an array whose element's own OID was written. A field comes back under a composite type, a domain of one or
 /// `record`, where the OID of the type at its place was written, that type is accepted, and the value comes back under it.
 ///
 /// Applied at each place, this says that a nest comes back under a type that is resolved and of its shape at every place,
 /// where each OID that was written is that of the type there, and no custom type has a built-in's.
 pub fn nests_fit<T: ReadBack + Type, const N: usize>()
     ensures none { (t : Ty) (oids : List Oid) → ⟦<Option<T> as ReadBack>⟧.fits None t oids }
-    ensures some { (v : T) (t : Ty) (oids : List Oid) → T.fits v t oids → ⟦<Option<T> as ReadBack>⟧.fits (Some v) t oids }
+    ensures some { (v : T) (t : Ty) (oids : List Oid) → ⟦<Option<T> as ReadBack>⟧.fits (Some v) t oids ↔ T.fits v t oids }
+    ensures list_exactly { (v : _) (t : Ty) (oids : List Oid) → ⟦<Vec<T> as ReadBack>⟧.fits v t oids ↔ ArrayFits T.info T.produced T.image T.fits v.items t oids }
+    ensures array_exactly { (v : _) (t : Ty) (oids : List Oid) → ⟦<[T; N] as ReadBack>⟧.fits v t oids ↔ ArrayFits T.info T.produced T.image T.fits v t oids }
     ensures list { (v : _) (t : Ty) (oids : List Oid) → ArrayIsPlain T.info T.produced T.image T.fits v.items t oids → ⟦<Vec<T> as ReadBack>⟧.fits v t oids }
     ensures array { (v : _) (t : Ty) (oids : List Oid) → ArrayIsPlain T.info T.produced T.image T.fits v t oids → ⟦<[T; N] as ReadBack>⟧.fits v t oids }
     ensures field { (v : T) (t : Ty) (place : ℕ) (oids : List Oid) → FieldIsPlain T.info T.produced T.image T.accepts T.fits v t place oids → FieldFits T.info T.produced T.image T.accepts T.fits v t place oids }

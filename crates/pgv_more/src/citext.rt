@@ -64,11 +64,13 @@ impl Clone for PgCiText {
     }
 }
 
-/// The characters, as they are.
+/// The characters, as they are. They are never padded.
 impl fmt::Display for PgCiText {
     ghost use Rattle.std.specs.Prelude.{Some};
 
     ghost output = { λ text. Some (string_bytes text.0) };
+
+    ghost styled_output = { λ text _. Some (string_bytes text.0) };
 
     fn fmt<W: fmt::Write>(&self, f: &mut fmt::Formatter<W>) -> fmt::Result {
         f.write_str(self.0.as_str())

@@ -2,6 +2,7 @@
 //! nothing.
 
 ghost use Rattle.std.specs.Prelude.{◌≡◌, ◌↔◌, ℕ, Bool, false, true, List, Some, None, codes, string_bytes};
+ghost use Rattle.jiff.specs.Words.{time_nanos};
 ghost use Rattle.pgv_types.specs.Ty.{Ty, builtin, named};
 ghost use Rattle.pgv_codec.specs.ScalarBinary.{text_image};
 ghost use Rattle.pgv_codec.specs.TypeRow.{IsBuiltIn, IsRefusedAs, IsWrittenAs, TakesNone};
@@ -18,6 +19,7 @@ ghost use Rattle.pgv_more.specs.TimeTzCodec.{time_tz_numbers, time_tz_image, tim
 ghost use Rattle.pgv_codec.specs.DateTimeKept.{time_kept};
 ghost use Rattle.pgv_types.specs.declared.oid.Oid.{Oid};
 
+use crate::{PgBytea, PgCiText, PgTimeTz};
 use pgv_codec::{Decode, Encode, PgHasArrayType, ReadBack, Type};
 
 /// A `BitVec` is a varbit (OID 1562), the number of bits and then its bytes, as `00000003a0` for `101`. It is read under bit
@@ -125,6 +127,16 @@ pub fn ci_text_is_a_citext()
     ensures means { ⟦<crate::PgCiText as Decode>⟧.meaning ≡ (λ text. string_bytes text.0) }
     ensures read { ⟦<crate::PgCiText as Decode>⟧.reading ≡ ⟦<String as Decode>⟧.reading }
     ensures refused { (⟦<crate::PgCiText as Decode>⟧.refusal ≡ ⟦<String as Decode>⟧.refusal) × (⟦<crate::PgCiText as Decode>⟧.takes_memory ≡ ⟦<String as Decode>⟧.takes_memory) }
+{}
+
+/// Times with offsets, hardware addresses, and texts and bytes of these types are equal exactly where their parts are: of a time the
+/// time of day and the offset, of a text the bytes of its characters, whatever their case.
+pub fn equal_values<const N: usize>()
+    ensures times { (a b : PgTimeTz) → (⟦<PgTimeTz as PartialEq>⟧.eq a b ≡ true) ↔ ((time_nanos a.time ≡ time_nanos b.time) × (a.offset.seconds ≡ b.offset.seconds)) }
+    ensures addresses { (a b : List ℕ) → (⟦<crate::MacAddress as PartialEq>⟧.eq a b ≡ true) ↔ (a ≡ b) }
+    ensures texts { (a b : PgCiText) → (⟦<PgCiText as PartialEq>⟧.eq a b ≡ true) ↔ (string_bytes a.0 ≡ string_bytes b.0) }
+    ensures bytes { (a b : PgBytea) → (⟦<PgBytea as PartialEq>⟧.eq a b ≡ true) ↔ (a.0.items ≡ b.0.items) }
+    ensures arrays { (a b : _) → (⟦<crate::PgByteaArray<N> as PartialEq>⟧.eq a b ≡ true) ↔ (a.0 ≡ b.0) }
 {}
 
 /// Lists of bits are equal exactly where they have the same bits.

@@ -1,7 +1,7 @@
 //! What is proved of these types and of the definitions that say what they are. Each law is the contract of a function that does
 //! nothing.
 
-ghost use Rattle.std.specs.Prelude.{◌≡◌, List};
+ghost use Rattle.std.specs.Prelude.{◌≡◌, ◌↔◌, true, List};
 ghost use Rattle.std.specs.Int.{w64};
 ghost use Rattle.pgv_codec.specs.TypeRow.{IsBuiltIn, IsRefusedAs, IsWrittenAs, TakesNone};
 ghost use Rattle.pgv_codec.specs.ScalarBinary.{signed_image};
@@ -12,6 +12,7 @@ ghost use Rattle.pgv_types.specs.declared.oid.Oid.{Oid};
 ghost use Rattle.pgv_types.specs.Ty.{Ty};
 ghost use Rattle.pgv_value.specs.Interval.{short_refusal};
 
+use crate::PgMoney;
 use pgv_codec::{Decode, Encode, PgHasArrayType, ReadBack, Type};
 
 /// A `PgMoney` is a money (OID 790), eight bytes in two's complement. Its arrays are `money[]` (791).
@@ -54,6 +55,11 @@ pub fn numeric_is_read()
 /// No bytes begin with the forms of two numbers.
 pub fn one_numeric()
     ensures { OneNumeric }
+{}
+
+/// Amounts are equal exactly where they are one number.
+pub fn equal_amounts()
+    ensures { (a b : PgMoney) → (⟦<PgMoney as PartialEq>⟧.eq a b ≡ true) ↔ (a ≡ b) }
 {}
 
 /// Numbers are equal exactly where they have the same sign, digits, weight and scale, and no numbers are equal.

@@ -15,8 +15,19 @@ use std::ops::{Add, AddAssign, Sub, SubAssign};
 ///
 /// The operators want that the result is a number of 64 bits; [`checked_add`](PgMoney::checked_add) and
 /// [`checked_sub`](PgMoney::checked_sub) test it.
-#[derive(Clone, Copy, PartialEq, Eq, Debug, Default)]
+#[derive(Clone, Copy, PartialEq, Eq, Debug)]
 pub struct PgMoney(pub i64);
+
+/// Nothing.
+impl Default for PgMoney {
+    ghost use Rattle.std.specs.Prelude.{◌≡◌, pos};
+
+    ghost is_default = { λ amount. amount.0 ≡ pos 0 };
+
+    fn default() -> PgMoney {
+        PgMoney(0)
+    }
+}
 
 impl PgMoney {
     /// The sum, where it is a number of 64 bits.

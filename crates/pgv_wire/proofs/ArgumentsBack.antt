@@ -1,6 +1,7 @@
 -- The parts of arguments after any list of calls, and that they are read back.
-use Rattle.std.proofs.Common.{◌≡◌, ℕ, zero, suc, nat_le, List, [], ◌∷◌, ◌++◌, take, drop, Option, Some, None, refl, sym, ◌∙◌, ap, subst, arith}
+use Rattle.std.proofs.Common.{◌≡◌, ℕ, zero, suc, nat_le, List, [], ◌∷◌, ◌++◌, length, take, drop, Option, Some, None, refl, sym, ◌∙◌, ap, subst, arith}
 use Rattle.std.specs.List.{slice_get}
+use Rattle.std.proofs.lemmas.List.{length-map}
 use Rattle.std.proofs.lemmas.Option.{same_Some}
 use Rattle.pgv_types.specs.Ty.{Ty}
 use Rattle.pgv_types.specs.declared.oid.Oid.{Oid}
@@ -16,12 +17,13 @@ use Rattle.pgv_codec.specs.Back.{AreOids, SlotsFit, ImageFits, ReadsBack}
 use Rattle.pgv_codec.specs.BackParts.{guarded, SlotsFit-back, AreOids-take, AreOids-drop}
 use Rattle.pgv_wire.specs.Given.{Given, zeros, given_by, given_none, given_in, parts_given, ArgumentReadsBack}
 use Rattle.pgv_wire.specs.History.{Call, last_filling, after, added_in, blanks}
+use Rattle.pgv_wire.specs.MainSentence.{ComeBackIn, MainSentence}
 use Rattle.pgv_codec.specs.Image.{Image, null_image, image_of, limit, frame_of}
 use Rattle.pgv_wire.specs.Parts.{AreFrames, ReadAs, part_in, parts_in}
 use Rattle.pgv_codec.specs.Writing.{written_part}
 use Rattle.pgv_wire.proofs.Framed.{framed-left}
-use Rattle.pgv_wire.proofs.Histories.{left_told, only_added}
-use Rattle.pgv_wire.proofs.PartsRead.{frames_read, part_filled, one_image}
+use Rattle.pgv_wire.proofs.Histories.{left_told, only_added, history_told}
+use Rattle.pgv_wire.proofs.PartsRead.{frames_read, as_many, part_filled, one_image}
 use Rattle.pgv_wire.proofs.Split.{cut}
 
 -- ---- the parts
@@ -117,22 +119,37 @@ oids_fit (f ∷ fs) since ps os zero g h e = subst (λ (x : Given). AreOids x.oi
 oids_fit (f ∷ fs) since ps os (suc k) g h e = oids_fit fs since (rest_of ps) (drop (tokens_holes f.1) os) k g (AreOids-drop (tokens_holes f.1) os h) e
 
 module _ {A M : Type 0} (hint : A → ℕ) (image : A → Option Image) (reading : Reading M) (kept : A → M) (fits : A → Ty → List Oid → Type 0) (law : ReadsBack image reading kept fits) where
-  pub argument_back : ArgumentReadsBack hint image reading kept fits
-  argument_back calls is place a g v t frames proper small there framed_as given fit = by_image (image v) refl (guarded (nat_le (hint v) limit) (frame_of (image v)) a.1 framed_as).1
+  come_back : (calls : List Call) (is : List Image) → AreFrames is (added_in calls) → Proper (all_tokens (after [] calls)) → AreOids (last_filling calls).oids →
+      ComeBackIn hint image reading kept fits calls (parts_in is (after [] calls))
+  come_back calls is frames proper small place a g v t there framed_as given fit = by_image (image v) refl (guarded (nat_le (hint v) limit) (frame_of (image v)) a.1 framed_as).1
     where
       by_image : (o : Option Image) → image v ≡ o → frame_of (image v) ≡ Some a.1 →
-          (parts : List Part) × (part : Part) × ReadAs (shown (all_tokens (after [] calls))) parts [] × (slice_get parts place ≡ Some part) × (reading t Binary part ≡ Some (kept v))
+          (part : Part) × (slice_get (parts_in is (after [] calls)) place ≡ Some part) × (reading t Binary part ≡ Some (kept v))
       by_image None o_is e = absurd (let none : frame_of None ≡ Some a.1 = ap frame_of (sym o_is) ∙ e in cc)
       by_image (Some j) o_is e =
           let frame_is : frame_of (Some j) ≡ Some a.1 = ap frame_of (sym o_is) ∙ e in
           let j_there = image_at is (added_in calls) place a j frames there frame_is in
           let a_there : slice_get (framed (after [] calls)) place ≡ Some a = ap (λ (fs : List Framed). slice_get fs place) (only_added calls) ∙ there in
           let whole = image_fits j a.1 frame_is (slots_fit_at (after [] calls) place a proper a_there) in
-          let own = oids_fit (last_filling calls).filled (last_filling calls).since (last_filling calls).types (last_filling calls).oids place g small given in
-          let framed_too = subst (λ (fs : List Framed). AreFrames is fs) (sym (only_added calls)) frames in (
-            parts_in is (after [] calls),
+          let own = oids_fit (last_filling calls).filled (last_filling calls).since (last_filling calls).types (last_filling calls).oids place g small given in (
             written_part j g.parameter g.oids,
-            frames_read (after [] calls) is framed_too proper,
             ap (λ (ps : List Part). slice_get ps place) (parts_told calls is frames) ∙ part_at is (given_in (last_filling calls)) place j g j_there given,
             law v j t g.parameter g.oids o_is whole own fit,
           )
+
+  pub main_sentence : MainSentence hint image reading kept fits
+  main_sentence calls is frames proper small =
+      let framed_too : AreFrames is (framed (after [] calls)) = subst (λ (fs : List Framed). AreFrames is fs) (sym (only_added calls)) frames in
+      record {
+        written = history_told calls;
+        parts = parts_in is (after [] calls);
+        read = frames_read (after [] calls) is framed_too proper;
+        as_many = as_many (after [] calls) is framed_too ∙ (sym (length-map (after [] calls) _) ∙ ap length (only_added calls));
+        come_back = come_back calls is frames proper small;
+      }
+
+  pub argument_back : ArgumentReadsBack hint image reading kept fits
+  argument_back calls is place a g v t frames proper small there framed_as given fit =
+      let all = main_sentence calls is frames proper small in
+      let back = all.come_back place a g v t there framed_as given fit in
+      (all.parts, back.0, all.read, back.1, back.2)

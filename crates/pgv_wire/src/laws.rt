@@ -9,11 +9,37 @@ ghost use Rattle.pgv_buf.specs.Tokens.{tokens_hole_types, Token, Cell, shown, wi
 ghost use Rattle.pgv_wire.specs.Arguments.{Argument, Framed, all_tokens, types_in, framed, filled_arguments};
 ghost use Rattle.pgv_wire.specs.Given.{ArgumentReadsBack, given_in, parts_given};
 ghost use Rattle.pgv_wire.specs.History.{Call, after, last_filling, bytes_by, added_in, joined_frames, framed_types, lengths_in, ArePlain, joined_bytes};
+ghost use Rattle.pgv_wire.specs.MainSentence.{MainSentence, AdditionIsAStep, RefusalIsAStep, UnchangedIsAStep, EachAdditionIsAStep, FillingIsAStep, CallsAreJoined};
 ghost use Rattle.pgv_codec.specs.Image.{Image, frame_of};
 ghost use Rattle.pgv_wire.specs.Parts.{ReadAs, AreFrames, AllRead, parts_in, written_parts};
 
 use crate::arguments::PgArguments;
-use pgv_codec::ReadBack;
+use pgv_codec::{Encode, ReadBack, Type};
+
+/// The main sentence, from end to end. Whatever was added, refused and filled, in any order ([`call_is_a_step`] says what a call
+/// is): the buffer has the accepted frames, written directly with what the last filling was given, those added since with zeros and
+/// defaults; its bytes are read frame by frame, as [`PgValueRef::get`](crate::PgValueRef::get) does, one for each accepted addition
+/// and nothing after them; and the part of the frame that was added for a value of `T` is read in binary, by `T` itself, as what the
+/// value keeps, under each type that fits.
+///
+/// That each addition is the frame of an image is what [`PgArguments::buffer`] says of running arguments, that their cells are proper
+/// what [`PgArgumentBuffer::as_slice`](crate::PgArgumentBuffer::as_slice) says, and that OIDs are numbers of 32 bits [`oids_fit`].
+pub fn main_sentence<T: ReadBack>()
+    ensures { MainSentence T.hint T.image T.reading (λ v. T.meaning (T.kept v)) T.fits }
+{}
+
+/// What the calls' contracts say is a step of [`main_sentence`]'s lists. `ok` of [`PgArguments::add`], of
+/// [`add_by_ref`](PgArguments::add_by_ref) too, is the addition of the value's frame; a refusal with anything but out of memory is
+/// the step of a value without a frame; whatever is `unchanged` is a refused call; `added` of [`add_each`](PgArguments::add_each) is
+/// a step for each outcome; `filled` of [`apply_patches`](PgArguments::apply_patches) is a filling; and calls after calls are one list.
+pub fn call_is_a_step<T: Encode + Type>()
+    ensures added { AdditionIsAStep }
+    ensures refused { RefusalIsAStep }
+    ensures unchanged { UnchangedIsAStep }
+    ensures each { EachAdditionIsAStep T.hint T.image T.produced T.info }
+    ensures filled { FillingIsAStep }
+    ensures joined { CallsAreJoined }
+{}
 
 /// Whatever was added, refused and filled, in any order: the bytes are those that the arguments at the last
 /// filling are written as with what it was given, and then the others with zeros and defaults.
