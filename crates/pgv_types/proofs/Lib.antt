@@ -13,5 +13,5 @@ pub mod Copies
 pub mod Arrays
 pub mod Fits
 pub mod Lawful
-mod Printing
+pub mod Printing
 pub mod Customs

@@ -1,9 +1,11 @@
 -- Texts that are written one after another, whatever the formatter asks for.
-use Rattle.std.proofs.Common.{◌≡◌, ℕ, List, [], ◌∷◌, ◌++◌, ◌∙◌, ap, subst, sym}
+use Rattle.std.proofs.Common.{◌≡◌, ℕ, false, List, [], ◌∷◌, ◌++◌, ◌∙◌, ap, append-nil, subst, sym}
 use Rattle.std.specs.List.{FoldsTo, concat}
 use Rattle.std.specs.Fmt.{WritesInCalls, HasWrittenStyled}
 use Rattle.std.specs.declared.fmt.Formatter.{Formatter}
 use Rattle.std.proofs.lemmas.List.Folds.{concat-append}
+use Rattle.pgv_types.specs.Facts.{display_of, display_text_of, shows_brackets}
+use Rattle.pgv_types.specs.Ty.{Ty}
 
 module _ {W : Type 0} (took : W → List ℕ → W → Type 0) where
   calls_joined : (u v w : W) (xs ys : List (List ℕ)) → FoldsTo took u xs v → FoldsTo took v ys w → FoldsTo took u (xs ++ ys) w
@@ -24,3 +26,7 @@ module _ {W : Type 0} (took : W → List ℕ → W → Type 0) where
     spec = q.spec ∙ p.spec;
     flush = q.flush;
   }
+
+-- a name that is shown with nothing after it
+pub shown_alone : (t : Ty) → shows_brackets t ≡ false → display_of t ≡ display_text_of t
+shown_alone t none = rw none (append-nil (display_text_of t))

@@ -516,15 +516,22 @@ impl PgTypeInfo {
     }
 }
 
-/// The display name. A width, a fill, an alignment and a precision are met as `Formatter::pad`
-/// meets them.
+/// The display name. A width, a fill, an alignment and a precision are met as [`Formatter::pad`] meets them. The contract says so of
+/// all types but those that are shown with `[]` after a name.
 impl Display for PgTypeInfo {
-    ghost use Rattle.std.specs.Prelude.{Some};
-    ghost use Rattle.pgv_types.specs.Facts.{display_of};
+    ghost use Rattle.std.specs.Prelude.{Some, None, if◌then◌else◌};
+    ghost use Rattle.std.specs.Fmt.{styled_text};
+    ghost use Rattle.pgv_types.specs.Facts.{display_of, shows_brackets};
 
     ghost output = { λ t. Some (display_of t) };
 
+    ghost styled_output = { λ t spec. if shows_brackets t then None else Some (styled_text spec (display_of t)) };
+
+    #[tactic(auto, using(crate::proofs::Printing::shown_alone))]
     fn fmt<W: fmt::Write>(&self, f: &mut Formatter<W>) -> fmt::Result {
+        if !self.0.shows_brackets() {
+            return f.pad(self.0.display_text());
+        }
         let name = self.name();
         if f.width().is_none() && f.precision().is_none() {
             return name.fmt(f);
