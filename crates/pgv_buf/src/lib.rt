@@ -9,6 +9,8 @@
 mod fill;
 mod mark;
 mod places;
+#[cfg(test)]
+mod tests;
 mod tokens;
 
 pub use mark::Mark;
