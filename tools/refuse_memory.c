@@ -1,6 +1,7 @@
 /* Stands between a program and the C library's calls that take memory (LD_PRELOAD). It refuses the requests that the variable REFUSE names:
    `7` the seventh, `7-` that and all after it, and none where it isn't set. At its end it writes to the file that REFUSE_REPORT names how
-   many requests there were and how many were refused. tools/refuse_memory builds it; it is linked with nothing. */
+   many requests there were, how many were refused, and how many were for more than LARGE bytes. tools/refuse_memory builds it; it is
+   linked with nothing. */
 #include <errno.h>
 #include <stddef.h>
 #include <stdio.h>
@@ -10,7 +11,9 @@ void *__libc_malloc(size_t size);
 void *__libc_calloc(size_t count, size_t size);
 void *__libc_realloc(void *old, size_t size);
 
-static unsigned long requests, refused, first, last;
+#define LARGE 65536
+
+static unsigned long requests, refused, large, first, last;
 static int is_ready;
 
 static void read_range(void) {
@@ -23,28 +26,34 @@ static void read_range(void) {
     }
 }
 
-static int is_refused(void) {
+static int is_refused(size_t size) {
     if (!is_ready) read_range();
     requests++;
+    if (size > LARGE) large++;
     if (first == 0 || requests < first || requests > last) return 0;
     refused++;
     errno = ENOMEM;
     return 1;
 }
 
-void *malloc(size_t size) { return is_refused() ? NULL : __libc_malloc(size); }
+static size_t product(size_t count, size_t size) {
+    size_t all;
+    return __builtin_mul_overflow(count, size, &all) ? (size_t)-1 : all;
+}
 
-void *calloc(size_t count, size_t size) { return is_refused() ? NULL : __libc_calloc(count, size); }
+void *malloc(size_t size) { return is_refused(size) ? NULL : __libc_malloc(size); }
 
-void *realloc(void *old, size_t size) { return is_refused() ? NULL : __libc_realloc(old, size); }
+void *calloc(size_t count, size_t size) { return is_refused(product(count, size)) ? NULL : __libc_calloc(count, size); }
+
+void *realloc(void *old, size_t size) { return is_refused(size) ? NULL : __libc_realloc(old, size); }
 
 __attribute__((destructor)) static void report(void) {
-    unsigned long counted = requests, counted_refused = refused;
+    unsigned long counted = requests, counted_refused = refused, counted_large = large;
     const char *path = getenv("REFUSE_REPORT");
     FILE *file = NULL;
     first = 0;
     if (path != NULL) file = fopen(path, "w");
     if (file == NULL) return;
-    fprintf(file, "%lu %lu\n", counted, counted_refused);
+    fprintf(file, "%lu %lu %lu\n", counted, counted_refused, counted_large);
     fclose(file);
 }

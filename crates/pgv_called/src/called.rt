@@ -1,6 +1,7 @@
 //! Rows of calls on an object.
 
 use crate::again::Again;
+use crate::tries::Tries;
 use std::alloc::Global;
 
 /// What rows call.
@@ -10,25 +11,29 @@ pub trait Called {
 }
 
 /// Whether a row holds. After want of memory it is called once more.
-fn held<T: Called>(alloc: Global, object: &mut T, row: &str) -> bool {
+fn held<T: Called>(alloc: Global, tries: &Tries, object: &mut T, row: &str) -> bool {
     let Some((call, wanted)) = row.split_once(" =>") else {
         return false;
     };
     let wanted = wanted.strip_prefix(' ').unwrap_or(wanted);
     match object.holds(alloc, call, wanted) {
         Ok(holds) => holds,
-        Err(Again) => object.holds(alloc, call, wanted) == Ok(true),
+        Err(Again) => {
+            tries.count();
+            object.holds(alloc, call, wanted) == Ok(true)
+        }
     }
 }
 
 /// The first row that doesn't hold, if there is one. A row that begins with `#` says what the rows are.
 pub fn differing<'a, T: Called + Drop>(
     alloc: Global,
+    tries: &Tries,
     mut object: T,
     rows: &'a str,
 ) -> Option<&'a str> {
     for row in rows.lines() {
-        if !row.starts_with('#') && !held(alloc, &mut object, row) {
+        if !row.starts_with('#') && !held(alloc, tries, &mut object, row) {
             return Some(row);
         }
     }

@@ -1,6 +1,7 @@
 //! Standard input, read with one request for memory.
 
 use crate::fault::Fault;
+use crate::tries::Tries;
 use std::alloc::{AllocError, Global};
 use std::io::Read;
 
@@ -29,10 +30,13 @@ fn room(alloc: Global) -> Result<Vec<u8>, AllocError> {
 }
 
 /// All of a reader. The request for memory is made again where it is refused.
-pub fn read_all<R: Read>(alloc: Global, reader: &mut R) -> Result<Input, Fault> {
+pub fn read_all<R: Read>(alloc: Global, tries: &Tries, reader: &mut R) -> Result<Input, Fault> {
     let mut room = match room(alloc) {
         Ok(room) => room,
-        Err(_) => room(alloc).or(Err(Fault::Memory))?,
+        Err(_) => {
+            tries.count();
+            room(alloc).or(Err(Fault::Memory))?
+        }
     };
     let mut filled = 0usize;
     for _ in 0..ROOM {

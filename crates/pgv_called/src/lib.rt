@@ -7,10 +7,12 @@ mod blocks;
 mod called;
 mod fault;
 mod input;
+mod tries;
 mod values;
 
 pub use again::{Again, refused, same, told};
 pub use blocks::{Blocks, compared};
 pub use called::{Called, differing};
 pub use fault::Fault;
+pub use tries::Tries;
 pub use values::{bytes_of, read_again, read_shown, written};

@@ -1,7 +1,7 @@
 //! Rows of calls on the arguments of a statement.
 
 use crate::first::shown;
-use crate::own::{Bounds, Listed};
+use crate::own::{Bounds, Listed, Stop};
 use jiff::civil::{Date, date};
 use pgv::types::{PgLTree, PgRange};
 use pgv::{CodecError, Encode, Oid, PgArguments, PgType, PgTypeInfo, PgValueFormat, PgValueRef};
@@ -164,9 +164,10 @@ fn add_range<T: Encode + Drop>(arguments: &mut PgArguments, start: T) -> Result<
     })
 }
 
-/// Adds a range of a value that is refused with C38(38): itself at the depth 1, in a record at 2, in a list in that at 3, in a record of that at 4.
+/// Adds a range of a value that is refused with the number of its depth: itself at 1, in a record at 2, in a list in that at 3, in a
+/// record of that at 4.
 fn add_stop(alloc: Global, arguments: &mut PgArguments, depth: u32) -> Result<(), CodecError> {
-    let stop = Size { alloc, number: 0 };
+    let stop = Stop { alloc, depth };
     match depth {
         1 => add_range(arguments, stop),
         2 => add_range(arguments, behind(alloc, stop)),
@@ -262,14 +263,28 @@ fn added(
     told_of(alloc, answer, arguments, &before, wanted)
 }
 
-/// Whether a value is refused with C38(38) at a depth, and the arguments are as they were.
-fn stopped(alloc: Global, arguments: &mut PgArguments, depth: &str) -> Result<bool, Again> {
+/// The number of a caller's refusal, as in `C38(2)`.
+fn caller_number(wanted: &str) -> Option<u32> {
+    wanted
+        .strip_prefix("C38(")?
+        .strip_suffix(')')?
+        .parse::<u32>()
+        .ok()
+}
+
+/// Whether a value is refused at a depth with the number that is wanted, and the arguments are as they were.
+fn stopped(
+    alloc: Global,
+    arguments: &mut PgArguments,
+    depth: &str,
+    wanted: &str,
+) -> Result<bool, Again> {
     let depth = depth.parse::<u32>().unwrap_or(0);
     let before = arguments.clone()?;
     let answer = add_stop(alloc, arguments, depth);
     let unmoved = unmoved(alloc, arguments, &before)?;
     match answer {
-        Err(CodecError::Caller(found)) => Ok(unmoved && found == 38),
+        Err(CodecError::Caller(found)) => Ok(unmoved && caller_number(wanted) == Some(found)),
         Err(CodecError::Memory) if unmoved => Err(Again),
         _ => Ok(false),
     }
@@ -379,19 +394,14 @@ fn frames(alloc: Global, arguments: &PgArguments) -> Result<String, CodecError> 
     Ok(text)
 }
 
-/// Appends the placeholder of the last argument. Out of memory it leaves the text as it was, so it is appended once more.
-fn push_placeholder(arguments: &PgArguments, query: &mut String) -> Result<(), CodecError> {
-    match arguments.format_placeholder(query) {
-        Err(_) if query.as_str() == "select " => arguments.format_placeholder(query),
-        answer => answer,
-    }
-}
-
-/// The start of a query with the placeholder of the last argument.
+/// The start of a query with the placeholder of the last argument. A refusal has to leave the text as it was.
 fn placeholder(alloc: Global, arguments: &PgArguments) -> Result<String, CodecError> {
     let mut query = String::from_str(alloc, "select ")?;
-    push_placeholder(arguments, &mut query)?;
-    Ok(query)
+    match arguments.format_placeholder(&mut query) {
+        Ok(()) => Ok(query),
+        Err(error) if query.as_str() == "select " => Err(error),
+        Err(_) => Err(CodecError::Caller(0)),
+    }
 }
 
 /// Appends the name of a type, with a space in front but for the first.
@@ -465,7 +475,7 @@ impl Called for Arguments {
             return first(alloc, arguments, reading, wanted);
         }
         if let Some(depth) = call.strip_prefix("stop ") {
-            return stopped(alloc, arguments, depth);
+            return stopped(alloc, arguments, depth, wanted);
         }
         changed_or_asked(alloc, arguments, call, wanted)
     }

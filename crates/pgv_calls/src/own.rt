@@ -1,10 +1,10 @@
-//! Types of a caller's own: a range and an element that give others a type.
+//! Types of a caller's own: a range and an element that give others a type, and a value that is never written.
 
 use pgv::types::PgRange;
 use pgv::{CodecError, Encode, IsNull, PgArgumentBuffer, PgHasArrayType, PgTypeInfo, Type};
-use pgv_examples::empty_object::EmptyObject;
+use pgv_examples::empty_object::{EmptyObject, push_version};
 use pgv_examples::pair::Pair;
-use std::alloc::AllocError;
+use std::alloc::{AllocError, Global};
 
 /// A range with a type of its own, which `PgRange` has for the bounds of PostgreSQL's own ranges alone.
 #[derive(Drop)]
@@ -92,6 +92,70 @@ impl<T: Encode + Type> Encode for Listed<T> {
 
     fn encode_by_ref(&self, out: &mut PgArgumentBuffer) -> Result<IsNull, CodecError> {
         self.pair.encode_by_ref(out)
+    }
+
+    fn size_hint(&self) -> usize {
+        0
+    }
+
+    fn produces(&self) -> Result<Option<PgTypeInfo>, AllocError> {
+        Ok(None)
+    }
+}
+
+/// A value that is refused with the number of the depth that it stands at, after a byte, a hole and a slot.
+#[derive(Drop)]
+pub struct Stop {
+    /// What the cases of its slot are allocated by.
+    pub alloc: Global,
+    /// The depth.
+    pub depth: u32,
+}
+
+impl Type for Stop {
+    ghost use Rattle.std.specs.Prelude.{codes};
+    ghost use Rattle.pgv.specs.Words.{named, softly};
+
+    ghost info = { named (codes "stop") };
+
+    ghost accepts = { λ t. softly t (named (codes "stop")) };
+
+    fn type_info() -> PgTypeInfo {
+        PgTypeInfo::with_name("stop")
+    }
+
+    fn compatible(type_info: &PgTypeInfo) -> bool {
+        type_info.type_compatible(&Self::type_info())
+    }
+}
+
+impl PgHasArrayType for Stop {
+    ghost use Rattle.std.specs.Prelude.{codes};
+    ghost use Rattle.pgv.specs.Words.{array_of, softly};
+
+    ghost array_info = { array_of (codes "stop") };
+
+    ghost accepts_array = { λ t. softly t (array_of (codes "stop")) };
+
+    fn array_type_info() -> PgTypeInfo {
+        PgTypeInfo::array_of("stop")
+    }
+
+    fn array_compatible(type_info: &PgTypeInfo) -> bool {
+        type_info.type_compatible(&Self::array_type_info())
+    }
+}
+
+impl Encode for Stop {
+    ghost use Rattle.std.specs.Prelude.{None};
+
+    ghost image = { λ _. None };
+
+    fn encode_by_ref(&self, out: &mut PgArgumentBuffer) -> Result<IsNull, CodecError> {
+        out.push(0)?;
+        out.push_hole(PgTypeInfo::with_name("stop"))?;
+        push_version(self.alloc, out)?;
+        Err(CodecError::Caller(self.depth))
     }
 
     fn size_hint(&self) -> usize {

@@ -1,7 +1,7 @@
 //! Lines of the program `pgvalue`, run as one session.
 
 use pgv::{RunFault, run};
-use pgv_called::{Again, bytes_of};
+use pgv_called::{Again, Tries, bytes_of};
 use std::alloc::Global;
 use std::io::{self, Write};
 
@@ -47,26 +47,36 @@ fn answered_in_hex(alloc: Global, lines: &str, wanted: &str) -> Result<bool, Aga
     answered(alloc, lines.as_slice(), wanted.as_slice())
 }
 
-/// Whether the lines of a session are answered so. After want of memory they are run once more.
-fn held(alloc: Global, lines: &str, wanted: &str, in_hex: bool) -> bool {
+/// Whether the lines are answered so, which stand as they are or in hex.
+fn answered_in(alloc: Global, lines: &str, wanted: &str, in_hex: bool) -> Result<bool, Again> {
     if in_hex {
-        return match answered_in_hex(alloc, lines, wanted) {
-            Ok(held) => held,
-            Err(Again) => answered_in_hex(alloc, lines, wanted) == Ok(true),
-        };
+        return answered_in_hex(alloc, lines, wanted);
     }
-    match answered(alloc, lines.as_bytes(), wanted.as_bytes()) {
+    answered(alloc, lines.as_bytes(), wanted.as_bytes())
+}
+
+/// Whether the lines of a session are answered so. After want of memory they are run once more.
+fn held(alloc: Global, tries: &Tries, lines: &str, wanted: &str, in_hex: bool) -> bool {
+    match answered_in(alloc, lines, wanted, in_hex) {
         Ok(held) => held,
-        Err(Again) => answered(alloc, lines.as_bytes(), wanted.as_bytes()) == Ok(true),
+        Err(Again) => {
+            tries.count();
+            answered_in(alloc, lines, wanted, in_hex) == Ok(true)
+        }
     }
 }
 
 /// The lines of a session that isn't answered as it has to be.
-pub fn differing(alloc: Global, session: &str, in_hex: bool) -> Option<&str> {
+pub fn differing<'a>(
+    alloc: Global,
+    tries: &Tries,
+    session: &'a str,
+    in_hex: bool,
+) -> Option<&'a str> {
     let Some((lines, wanted)) = session.split_once("=>\n") else {
         return Some(session);
     };
-    if held(alloc, lines, wanted, in_hex) {
+    if held(alloc, tries, lines, wanted, in_hex) {
         None
     } else {
         Some(lines)

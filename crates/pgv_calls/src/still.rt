@@ -1,18 +1,19 @@
 //! Rows of calls that take no memory: what they need is made by the row `make`, which stands first.
 
+use crate::{made, tokens};
 use bytes::Bytes;
 use jiff::civil::{Date, DateTime, Time};
 use jiff::{SignedDuration, Timestamp};
 use pgv::text::{Parts, TextForm, date, date_time, instant, time, time_tz};
 use pgv::types::{
-    BitVec, IpNetwork, Ipv4Network, Ipv6Network, MacAddress, PgByteaArray, PgInterval, PgLTree,
-    PgMoney, PgTimeTz,
+    BitVec, IpNetwork, Ipv4Network, Ipv6Network, MacAddress, PgByteaArray, PgInterval, PgLQuery,
+    PgLTree, PgMoney, PgTimeTz,
 };
 use pgv::{
     CodecError, Decode, Oid, PgArgumentBuffer, PgArguments, PgRecordEncoder, PgType, PgTypeInfo,
-    PgValueFormat, PgValueRef, Type, name_eq, read_bool, read_date, read_date_time, read_i8,
-    read_i16, read_i32, read_i64, read_instant, read_interval, read_ip_address, read_ip_network,
-    read_oid, read_time, read_uuid,
+    PgValueFormat, PgValueRef, Tokens, Type, name_eq, read_bool, read_date, read_date_time,
+    read_i8, read_i16, read_i32, read_i64, read_instant, read_interval, read_ip_address,
+    read_ip_network, read_oid, read_time, read_uuid,
 };
 use pgv_called::{Again, Called};
 use pgv_examples::empty_object::EmptyObject;
@@ -143,13 +144,11 @@ fn short_array(alloc: Global) -> bool {
     matches!(found, Err(CodecError::Short))
 }
 
-/// Sums of money, durations, and the parts of a text.
-fn sums() -> bool {
+/// Durations, and the parts of a text.
+fn durations() -> bool {
     let interval = PgInterval::try_from(Duration::from_secs(1));
     let signed = PgInterval::try_from(SignedDuration::from_secs(-1));
-    (PgMoney(1) + PgMoney(2)).0 == 3
-        && PgMoney(1).checked_sub(PgMoney(2)).is_some()
-        && interval.is_ok_and(|found| found.microseconds == 1_000_000)
+    interval.is_ok_and(|found| found.microseconds == 1_000_000)
         && signed.is_ok_and(|found| found.microseconds == -1_000_000)
         && Parts::new(TextForm::Array, "{a,b}").is_some_and(|parts| parts.len() == 2
             && !parts.is_empty())
@@ -174,16 +173,30 @@ fn write_record(buffer: &mut PgArgumentBuffer) -> Result<(), CodecError> {
     Ok(())
 }
 
+/// Whether a value is the bytes `ro`.
+fn is_ro(value: &PgValueRef<'_>) -> bool {
+    value
+        .as_bytes()
+        .is_ok_and(|bytes| bytes == b"ro".as_slice())
+}
+
 /// A tree that is filled and emptied again.
 fn make_tree(alloc: Global) -> Result<PgLTree, CodecError> {
     Ok(PgLTree::from_str(alloc, "a.b")?)
 }
 
-/// What rows of this kind call: arguments and a tree.
+/// A query of one level.
+fn make_query(alloc: Global) -> Result<PgLQuery, CodecError> {
+    Ok(PgLQuery::from_str(alloc, "a")?)
+}
+
+/// What rows of this kind call.
 #[derive(Drop)]
 pub struct Still {
     arguments: PgArguments,
     tree: PgLTree,
+    query: PgLQuery,
+    tokens: Tokens,
     buffer: PgArgumentBuffer,
     row: Option<Bytes>,
     text: String,
@@ -197,6 +210,8 @@ impl Still {
         Still {
             arguments: PgArguments::new(alloc),
             tree: PgLTree::new(alloc),
+            query: PgLQuery::new(alloc),
+            tokens: Tokens::new(alloc),
             buffer: PgArgumentBuffer::new(alloc),
             row: None,
             text: String::new(alloc),
@@ -205,9 +220,11 @@ impl Still {
         }
     }
 
-    /// Makes a tree, and arguments with a hole and a slot.
+    /// Makes values, and arguments with a hole and a slot.
     fn make(&mut self, alloc: Global) -> Result<(), CodecError> {
         self.tree = make_tree(alloc)?;
+        self.query = make_query(alloc)?;
+        self.tokens = tokens::roomy(alloc)?;
         self.row = Some(Bytes::copy_from_slice(alloc, b"row")?);
         self.text = String::from_str(alloc, "hi")?;
         self.list = Vec::from_slice(alloc, &[7])?;
@@ -253,22 +270,54 @@ impl Still {
             && self.buffer.len() == 63
     }
 
-    /// Lends the first two bytes of the row.
-    fn lend(&self) -> bool {
-        let Some(row) = &self.row else {
-            return false;
-        };
+    /// The first two bytes of the row.
+    fn part(&self) -> Option<PgValueRef<'_>> {
+        let row = self.row.as_ref()?;
         if row.as_slice().len() < 2 {
-            return false;
+            return None;
         }
         let info = PgTypeInfo(PgType::Bytea);
-        let part = PgValueRef::from_row(row, 0, 2, info, PgValueFormat::Binary);
-        part.as_bytes().is_ok_and(|bytes| bytes == b"ro".as_slice())
+        Some(PgValueRef::from_row(row, 0, 2, info, PgValueFormat::Binary))
     }
 
-    /// Takes the labels off.
+    /// Lends a part of the row.
+    fn lend(&self) -> bool {
+        self.part().is_some_and(|part| is_ro(&part))
+    }
+
+    /// Keeps a part of the row, which shares its bytes.
+    fn keep(&self, alloc: Global) -> bool {
+        let Some(part) = self.part() else {
+            return false;
+        };
+        match part.to_owned(alloc) {
+            Ok(value) => !value.is_null() && value.as_ref().is_ok_and(|value| is_ro(&value)),
+            Err(_) => false,
+        }
+    }
+
+    /// Takes the labels, the level and a bit off.
     fn empty(&mut self) -> bool {
-        self.tree.pop().is_some() && self.tree.pop().is_some() && self.tree.pop().is_none()
+        self.tree.pop().is_some()
+            && self.tree.pop().is_some()
+            && self.tree.pop().is_none()
+            && self.query.pop().is_some()
+            && self.query.pop().is_none()
+            && self.bits.pop() == Some(false)
+    }
+
+    /// What a call of this name on what was made answers.
+    fn called(&mut self, alloc: Global, call: &str) -> Result<bool, Again> {
+        match call {
+            "fill" => Ok(self.fill()),
+            "clear" => Ok(self.clear()),
+            "record" => Ok(self.write()),
+            "lend" => Ok(self.lend()),
+            "keep" => Ok(self.keep(alloc)),
+            "pop" => Ok(self.empty()),
+            "tokens" => Ok(tokens::used(&mut self.tokens)?),
+            _ => Ok(false),
+        }
     }
 }
 
@@ -288,14 +337,15 @@ impl Called for Still {
             "moments" => Ok(moments(alloc)),
             "decoders" => Ok(decoders(alloc)),
             "short array" => Ok(short_array(alloc)),
-            "sums" => Ok(sums()),
+            "durations" => Ok(durations()),
             "networks" => Ok(networks()),
-            "fill" => Ok(self.fill()),
-            "clear" => Ok(self.clear()),
-            "record" => Ok(self.write()),
-            "lend" => Ok(self.lend()),
-            "pop" => Ok(self.empty()),
-            _ => Ok(false),
+            "empty values" => Ok(made::empty_values(alloc)),
+            "money" => Ok(made::money()),
+            "identifiers" => Ok(made::identifiers()),
+            "names" => Ok(made::names()),
+            "nulls" => Ok(made::nulls()),
+            "addresses" => Ok(made::addresses()),
+            _ => self.called(alloc, call),
         }
     }
 }

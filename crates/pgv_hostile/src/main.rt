@@ -1,15 +1,17 @@
 //! `pgv_hostile`: changes the bytes of each row of standard input in every small way, and reads what comes of it. Each answer has to be a
 //! refusal, or a value whose frame is read as the same value. Values that have no frame of their own are only read: tuples, `()`, lists of
-//! tuples and `PgRange<String>`. It prints how many mutants there were, and what came of them.
+//! tuples and lists of arrays. It prints how many mutants there were, and what came of them.
 //!
 //! A row is a line of `pgvalue`, `read TYPE HEX`, `add TYPE TEXT` or `copy HEX TYPE ..`, whose answers come of [`pgv::run`]; or
-//! `RUST | TYPE | b HEX` and `RUST | TYPE | t TEXT`, which is read by calls at a Rust type that the program has no TYPE for.
+//! `RUST | TYPE | PART`, which is read by calls at a Rust type, as the readings of `pgv_value_calls` are: PART is `b` and hex, `t` and a
+//! text, or `x` and a text in hex.
 #![tactic(auto)]
 
 mod calls;
 mod fault;
 mod mutants;
 mod rows;
+mod rust_types;
 mod sessions;
 mod tally;
 mod trial;

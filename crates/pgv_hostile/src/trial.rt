@@ -2,7 +2,8 @@
 
 use crate::tally::Outcome;
 use pgv::{
-    CodecError, Decode, Encode, Oid, PgArguments, PgTypeInfo, PgValueFormat, PgValueRef, Type,
+    CodecError, Decode, Encode, Oid, PgArgumentBuffer, PgArguments, PgTypeInfo, PgValueFormat,
+    PgValueRef, Type,
 };
 use std::alloc::{AllocError, Global};
 
@@ -74,15 +75,50 @@ pub fn read_again<T: Decode + Encode + Type>(
     info: &PgTypeInfo,
 ) -> Outcome {
     match frame_of::<T>(alloc, value, info) {
-        Ok(frame) => {
-            let again = frame_again::<T>(alloc, frame.as_slice(), info);
-            let same = again.is_ok_and(|again| again.as_slice() == frame.as_slice());
-            if same {
-                Outcome::Read
-            } else {
-                Outcome::Differs
-            }
-        }
+        Ok(frame) => compared(&frame, frame_again::<T>(alloc, frame.as_slice(), info)),
+        Err(error) => Outcome::Refused(error.code()),
+    }
+}
+
+/// Whether the frame of what was read of a frame is the same.
+fn compared(frame: &Vec<u8>, again: Result<Vec<u8>, CodecError>) -> Outcome {
+    if again.is_ok_and(|again| again.as_slice() == frame.as_slice()) {
+        Outcome::Read
+    } else {
+        Outcome::Differs
+    }
+}
+
+/// The frame of what is read of a value of a Rust type without a type of its own.
+fn part_frame<T: Decode + Encode>(
+    alloc: Global,
+    value: PgValueRef<'_>,
+) -> Result<Vec<u8>, CodecError> {
+    let value = T::decode(alloc, value)?;
+    let mut out = PgArgumentBuffer::new(alloc);
+    out.encode(&value)?;
+    Ok(out.as_slice().to_vec(alloc)?)
+}
+
+/// The same of the value in a frame.
+fn part_frame_again<T: Decode + Encode>(
+    alloc: Global,
+    frame_bytes: &[u8],
+    info: &PgTypeInfo,
+) -> Result<Vec<u8>, CodecError> {
+    let mut rest = frame_bytes;
+    let value = PgValueRef::get(&mut rest, PgValueFormat::Binary, info.clone()?)?;
+    part_frame::<T>(alloc, value)
+}
+
+/// What comes of a value of a Rust type without a type of its own, which is a part of others, that is read, written and read again.
+pub fn read_framed<T: Decode + Encode>(
+    alloc: Global,
+    value: PgValueRef<'_>,
+    info: &PgTypeInfo,
+) -> Outcome {
+    match part_frame::<T>(alloc, value) {
+        Ok(frame) => compared(&frame, part_frame_again::<T>(alloc, frame.as_slice(), info)),
         Err(error) => Outcome::Refused(error.code()),
     }
 }

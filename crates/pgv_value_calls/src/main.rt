@@ -18,7 +18,7 @@ use crate::texts::Texts;
 use crate::trees::Tree;
 use crate::values::Values;
 use pgv::types::{BitVec, PgHstore, PgLQuery, PgLTree};
-use pgv_called::{Blocks, compared, differing};
+use pgv_called::{Blocks, Tries, compared, differing};
 use std::alloc::Global;
 use std::process::ExitCode;
 
@@ -26,15 +26,21 @@ use std::process::ExitCode;
 struct Calls;
 
 impl Blocks for Calls {
-    fn first_differing<'a>(&self, alloc: Global, kind: &'a str, rows: &'a str) -> Option<&'a str> {
+    fn first_differing<'a>(
+        &self,
+        alloc: Global,
+        tries: &Tries,
+        kind: &'a str,
+        rows: &'a str,
+    ) -> Option<&'a str> {
         match kind {
-            "readings" => differing(alloc, Readings, rows),
-            "texts" => differing(alloc, Texts, rows),
-            "values" => differing(alloc, Values, rows),
-            "tree" => differing(alloc, Tree(PgLTree::new(alloc)), rows),
-            "query" => differing(alloc, Query(PgLQuery::new(alloc)), rows),
-            "map" => differing(alloc, Map(PgHstore::new(alloc)), rows),
-            "bits" => differing(alloc, Bits(BitVec::new(alloc)), rows),
+            "readings" => differing(alloc, tries, Readings, rows),
+            "texts" => differing(alloc, tries, Texts(tries), rows),
+            "values" => differing(alloc, tries, Values(tries), rows),
+            "tree" => differing(alloc, tries, Tree(PgLTree::new(alloc)), rows),
+            "query" => differing(alloc, tries, Query(PgLQuery::new(alloc)), rows),
+            "map" => differing(alloc, tries, Map(PgHstore::new(alloc)), rows),
+            "bits" => differing(alloc, tries, Bits(BitVec::new(alloc)), rows),
             _ => Some(kind),
         }
     }

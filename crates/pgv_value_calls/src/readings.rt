@@ -4,7 +4,9 @@
 
 use jiff::Timestamp;
 use jiff::civil::{Date, DateTime};
-use pgv::types::{BitVec, MacAddress, PgByteaArray, PgLTree, PgRange, PgTimeTz};
+use pgv::types::{
+    BitVec, MacAddress, PgByteaArray, PgHstore, PgLTree, PgNumeric, PgRange, PgTimeTz,
+};
 use pgv::{Oid, PgTypeInfo, PgValueFormat, PgValueRef};
 use pgv_by_name::{SizeRange, type_of};
 use pgv_called::{Again, Called, bytes_of, read_again as again, read_shown as debug};
@@ -47,6 +49,9 @@ fn scalars(alloc: Global, name: &str, value: PgValueRef<'_>) -> Result<String, A
         "PgTimeTz" => again::<PgTimeTz>(alloc, value),
         "MacAddress" => again::<MacAddress>(alloc, value),
         "PgByteaArray<2>" => again::<PgByteaArray<2>>(alloc, value),
+        "BitVec" => again::<BitVec>(alloc, value),
+        "PgHstore" => again::<PgHstore>(alloc, value),
+        "PgNumeric" => again::<PgNumeric>(alloc, value),
         "Option<i32>" => debug::<Option<i32>>(alloc, value),
         "Option<Option<i32>>" => debug::<Option<Option<i32>>>(alloc, value),
         "[i32; 2]" => debug::<[i32; 2]>(alloc, value),

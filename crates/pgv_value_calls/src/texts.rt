@@ -6,7 +6,7 @@ use pgv::types::{
     PgCiText, PgLQuery, PgLQueryLevel, PgLQueryParseError, PgLQueryVariant, PgLTree, PgLTreeLabel,
 };
 use pgv::{CodecError, PgRecordDecoder, PgType, PgTypeInfo, PgValueFormat, PgValueRef};
-use pgv_called::{Again, Called, same};
+use pgv_called::{Again, Called, Tries, same};
 use std::alloc::{AllocError, Global};
 
 /// A part in brackets, or `null`, with a space in front but for the first.
@@ -104,9 +104,12 @@ fn first_and_list(alloc: Global, array: &str) -> Result<String, AllocError> {
 }
 
 /// The next field of a record. Out of memory it leaves the record as it was, so it is read once more.
-fn field(record: &mut PgRecordDecoder<'_>) -> Result<Option<String>, CodecError> {
+fn field(tries: &Tries, record: &mut PgRecordDecoder<'_>) -> Result<Option<String>, CodecError> {
     match record.try_decode::<Option<String>>() {
-        Err(CodecError::Memory) => record.try_decode::<Option<String>>(),
+        Err(CodecError::Memory) => {
+            tries.count();
+            record.try_decode::<Option<String>>()
+        }
         answer => answer,
     }
 }
@@ -124,15 +127,15 @@ fn two_parts(
 }
 
 /// The first two fields of a record, which are texts.
-fn two_fields(alloc: Global, text: &str) -> Result<String, CodecError> {
+fn two_fields(alloc: Global, tries: &Tries, text: &str) -> Result<String, CodecError> {
     let value = PgValueRef::new(
         Some(text.as_bytes()),
         PgTypeInfo(PgType::Record),
         PgValueFormat::Text,
     );
     let mut record = PgRecordDecoder::new(alloc, value)?;
-    let first = field(&mut record)?;
-    let second = field(&mut record)?;
+    let first = field(tries, &mut record)?;
+    let second = field(tries, &mut record)?;
     let first = first.as_ref().map(|part| part.as_str());
     let second = second.as_ref().map(|part| part.as_str());
     Ok(two_parts(alloc, first, second)?)
@@ -169,9 +172,9 @@ fn nest(alloc: Global, form: &str, text: &str) -> Result<String, AllocError> {
 }
 
 /// What is printed of the part of a query, or of what is found in the text of a nest.
-fn found(alloc: Global, form: &str, text: &str) -> Result<String, CodecError> {
+fn found(alloc: Global, tries: &Tries, form: &str, text: &str) -> Result<String, CodecError> {
     match form {
-        "fields" => two_fields(alloc, text),
+        "fields" => two_fields(alloc, tries, text),
         "query" => query(alloc, text),
         "level" => Ok(format!(in alloc; "{}", PgLQueryLevel::from_str(alloc, text)?)?),
         "variant" => Ok(format!(in alloc; "{}", PgLQueryVariant::from_str(alloc, text)?)?),
@@ -183,11 +186,11 @@ fn found(alloc: Global, form: &str, text: &str) -> Result<String, CodecError> {
 
 /// What rows of this kind call.
 #[derive(Drop)]
-pub struct Texts;
+pub struct Texts<'a>(pub &'a Tries);
 
-impl Called for Texts {
+impl Called for Texts<'_> {
     fn holds(&mut self, alloc: Global, call: &str, wanted: &str) -> Result<bool, Again> {
         let (form, text) = call.split_once(' ').unwrap_or((call, ""));
-        same(found(alloc, form, text), wanted)
+        same(found(alloc, self.0, form, text), wanted)
     }
 }

@@ -8,7 +8,7 @@ use pgv::{
     PgValueFormat, PgValueRef,
 };
 use pgv_by_name::sizes;
-use pgv_called::{Again, Called, bytes_of, same, written};
+use pgv_called::{Again, Called, Tries, bytes_of, same, written};
 use std::alloc::{AllocError, Global};
 use std::rc::{RcSlice, RcStr};
 use std::time::Duration;
@@ -106,22 +106,28 @@ fn columns(alloc: Global) -> Result<Vec<PgTypeInfo>, AllocError> {
 }
 
 /// The next row of a stream. Out of memory it leaves the reader as it was, so it is read once more.
-fn next_row<'r>(reader: &mut PgCopyReader<'r>) -> Result<Option<Vec<PgValueRef<'r>>>, CodecError> {
+fn next_row<'r>(
+    tries: &Tries,
+    reader: &mut PgCopyReader<'r>,
+) -> Result<Option<Vec<PgValueRef<'r>>>, CodecError> {
     match reader.next_row() {
-        Err(CodecError::Memory) => reader.next_row(),
+        Err(CodecError::Memory) => {
+            tries.count();
+            reader.next_row()
+        }
         answer => answer,
     }
 }
 
 /// How many rows there are in a stream of an `int4` and a text.
-fn rows(alloc: Global, digits: &str) -> Result<String, CodecError> {
+fn rows(alloc: Global, tries: &Tries, digits: &str) -> Result<String, CodecError> {
     let Ok(bytes) = bytes_of(alloc, digits) else {
         return Err(CodecError::Memory);
     };
     let mut reader = PgCopyReader::new(bytes.as_slice(), columns(alloc)?)?;
     let mut rows = 0u32;
     for _ in 0..bytes.len() {
-        if next_row(&mut reader)?.is_none() {
+        if next_row(tries, &mut reader)?.is_none() {
             break;
         }
         rows = rows.saturating_add(1);
@@ -173,16 +179,16 @@ fn written_value(alloc: Global, name: &str) -> Result<String, Again> {
 
 /// What rows of this kind call.
 #[derive(Drop)]
-pub struct Values;
+pub struct Values<'a>(pub &'a Tries);
 
-impl Called for Values {
+impl Called for Values<'_> {
     fn holds(&mut self, alloc: Global, call: &str, wanted: &str) -> Result<bool, Again> {
         let (form, name) = call.split_once(' ').unwrap_or((call, ""));
         match form {
             "written" => Ok(written_value(alloc, name)?.as_str() == wanted),
             "kind" => Ok(copied(alloc, name)?.as_str() == wanted),
             "custom" => Ok(copied_custom(alloc)?.as_str() == wanted),
-            "rows" => same(rows(alloc, name), wanted),
+            "rows" => same(rows(alloc, self.0, name), wanted),
             "row" => match of_row(alloc) {
                 Ok(value) => same(owned(alloc, &value), wanted),
                 Err(error) => same(Err(error), wanted),
