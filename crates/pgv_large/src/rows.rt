@@ -1,0 +1,80 @@
+//! Records and rows of 1,700 fields; a table has at most 1,600 columns.
+
+use pgv::{
+    CodecError, Decode, Oid, PgArgumentBuffer, PgCopyReader, PgRecordDecoder, PgRecordEncoder,
+    PgType, PgTypeInfo, PgTypeKind, PgValueFormat, PgValueRef,
+};
+use std::alloc::Global;
+use std::rc::RcStr;
+
+/// The number of fields.
+const FIELDS: i32 = 1_700;
+
+/// A composite type of numbers.
+fn composite_type(alloc: Global) -> Result<PgTypeInfo, CodecError> {
+    let mut fields = Vec::new(alloc);
+    for _ in 0..FIELDS {
+        fields.push((RcStr::from_str(alloc, "number")?, PgTypeInfo(PgType::Int4)))?;
+    }
+    let kind = PgTypeKind::Composite(fields);
+    Ok(PgTypeInfo::custom(alloc, Oid(16600), "numbers", kind.clone()?)?)
+}
+
+/// A record of the numbers from 0 on.
+fn write_record(out: &mut PgArgumentBuffer) -> Result<(), CodecError> {
+    let mut record = PgRecordEncoder::new(out)?;
+    for number in 0..FIELDS {
+        record.encode(number)?;
+    }
+    record.finish();
+    Ok(())
+}
+
+/// A record that is written, and read field by field under its composite type.
+pub fn composite(alloc: Global) -> Result<bool, CodecError> {
+    let mut out = PgArgumentBuffer::new(alloc);
+    write_record(&mut out)?;
+    let value = PgValueRef::new(
+        Some(out.as_slice()),
+        composite_type(alloc)?,
+        PgValueFormat::Binary,
+    );
+    let mut fields = PgRecordDecoder::new(alloc, value)?;
+    for number in 0..FIELDS {
+        if fields.try_decode::<i32>()? != number {
+            return Ok(false);
+        }
+    }
+    Ok(true)
+}
+
+/// A stream of COPY with one row of the number 7.
+fn stream(alloc: Global) -> Result<Vec<u8>, CodecError> {
+    let mut bytes = Vec::new(alloc);
+    bytes.extend_from_slice(b"PGCOPY\n\xff\r\n\0\0\0\0\0\0\0\0\0\x06\xa4")?;
+    for _ in 0..FIELDS {
+        bytes.extend_from_slice(b"\0\0\0\x04\0\0\0\x07")?;
+    }
+    bytes.extend_from_slice(b"\xff\xff")?;
+    Ok(bytes)
+}
+
+/// The row of a stream, and its end.
+pub fn copied(alloc: Global) -> Result<bool, CodecError> {
+    let bytes = stream(alloc)?;
+    let mut types = Vec::new(alloc);
+    for _ in 0..FIELDS {
+        types.push(PgTypeInfo(PgType::Int4))?;
+    }
+    let mut reader = PgCopyReader::new(bytes.as_slice(), types)?;
+    let Some(row) = reader.next_row()? else {
+        return Ok(false);
+    };
+    let mut count = 0;
+    for value in row {
+        if i32::decode(alloc, value)? == 7 {
+            count += 1;
+        }
+    }
+    Ok(count == FIELDS && reader.next_row()?.is_none())
+}
