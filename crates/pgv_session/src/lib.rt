@@ -6,6 +6,7 @@
 #![tactic(auto)]
 
 mod copied;
+mod explained;
 pub mod laws;
 mod line;
 mod runner;

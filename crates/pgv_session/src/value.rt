@@ -1,23 +1,22 @@
 //! What is asked of a value of a TYPE.
 
-ghost use Rattle.std.specs.Prelude.{◌≡◌, ◌≢◌, Some, None, IfOk, MatchOption, option_map, is_some, false, string_bytes};
+ghost use Rattle.std.specs.Prelude.{◌≡◌, ◌≢◌, Some, None, IfOk, option_map, is_some, false, string_bytes};
 ghost use Rattle.std.specs.Option.{option_copied};
-ghost use Rattle.hex.specs.Hex.{encode_lower};
-ghost use Rattle.pgv_buf.specs.Tokens.{shown, blank};
 ghost use Rattle.pgv_value.specs.Codes.{code_of};
 ghost use Rattle.pgv_value.specs.declared.error.CodecError.TheVariants.{Memory};
 ghost use Rattle.pgv_value.specs.declared.value.PgValueFormat.TheVariants.{Text as InText, Binary as InBinary};
 ghost use Rattle.pgv_codec.specs.Saying.{said};
 ghost use Rattle.pgv_session.specs.RequestsView.{ask_seen};
-ghost use Rattle.pgv_session.specs.Session.{RespondsBy, Adds, Reads, IsRefusal, refused, placeholder as placeholder_of};
+ghost use Rattle.pgv_session.specs.Session.{RespondsBy, Adds, AddsText, ReadsPart, Shows, IsRefusal, refused, placeholder as placeholder_of};
 ghost use Rattle.pgv_session.specs.Spelled.{to_read};
 ghost use Rattle.pgv_session.specs.ToldView.{told_text, is_said, TellsOf};
-ghost use Rattle.pgv_session.specs.Types.{framed_as, framed_by, row, row_named, types};
+ghost use Rattle.pgv_session.specs.Types.{framed_as, saying_refused, row, row_named, types};
 
+use crate::explained::Explained;
 use crate::line::{Ask, is};
 use jiff::Timestamp;
 use jiff::civil::{Date, DateTime, Time};
-use pgv_codec::{Codec, Encode, PgArgumentBuffer, Type};
+use pgv_codec::{Decode, Encode, PgArgumentBuffer, Type};
 use pgv_hstore::PgHstore;
 use pgv_lquery::PgLQuery;
 use pgv_ltree::PgLTree;
@@ -98,7 +97,8 @@ pub fn respond_by(
     name: &[u8],
     ask: Ask,
 ) -> Result<Told, AllocError>
-    ensures answer { IfOk result (λ told. RespondsBy (row_named types name.now) (ask_seen ask.entry) arguments.old (told_text told) arguments.new) }
+    ensures answer { IfOk result (λ told.
+        RespondsBy (row_named types name.now) (ask_seen ask.entry) arguments.old (told_text told) arguments.new) }
     ensures exact { IfOk result (TellsOf (row_named types name.now) (ask_seen ask.entry)) }
 {
     match name {
@@ -138,14 +138,17 @@ pub fn respond_by(
 }
 
 /// Answers what is asked of a value of a Rust type, of which null is none.
-fn respond_as<T: Codec>(
+fn respond_as<T: Explained>(
     alloc: Global,
     arguments: &mut PgArguments,
     ask: Ask,
 ) -> Result<Told, AllocError>
     requires { T.reading T.info InBinary None ≡ None }
-    ensures answer { IfOk result (λ told. RespondsBy (Some (row T.info T.reading T.written)) (ask_seen ask.entry) arguments.old (told_text told) arguments.new) }
-    ensures exact { IfOk result (TellsOf (Some (row T.info T.reading T.written)) (ask_seen ask.entry)) }
+    ensures answer { IfOk result (λ told.
+        RespondsBy (Some (row T.info T.reading T.written T.refusal T.unwritten)) (ask_seen ask.entry)
+            arguments.old (told_text told) arguments.new) }
+    ensures exact { IfOk result (λ told.
+        TellsOf (Some (row T.info T.reading T.written T.refusal T.unwritten)) (ask_seen ask.entry) told) }
 {
     match ask {
         Ask::Add(text) => Ok(Told::Said(add::<T>(alloc, arguments, text)?)),
@@ -159,12 +162,13 @@ fn respond_as<T: Codec>(
 }
 
 /// Adds the value that a text is.
-fn add<T: Codec>(
+fn add<T: Explained>(
     alloc: Global,
     arguments: &mut PgArguments,
     text: &[u8],
 ) -> Result<String, AllocError>
-    ensures { IfOk result (λ answer. Adds (framed_by T.info T.written (T.reading T.info InText (Some text.now))) arguments.old (string_bytes answer) arguments.new) }
+    ensures { IfOk result (λ answer.
+        AddsText (row T.info T.reading T.written T.refusal T.unwritten) text.now arguments.old (string_bytes answer) arguments.new) }
 {
     match T::decode(
         alloc,
@@ -181,7 +185,9 @@ fn add_value<T: Encode + Type>(
     arguments: &mut PgArguments,
     value: &T,
 ) -> Result<String, AllocError>
-    ensures { IfOk result (λ answer. Adds (framed_as (said T.hint T.image T.produced T.info value.now)) arguments.old (string_bytes answer) arguments.new) }
+    ensures { IfOk result (λ answer.
+        Adds (framed_as (said T.hint T.image T.produced T.info value.now)) (saying_refused (said T.hint T.image T.produced T.info value.now) (T.unwritable value.now))
+            arguments.old (string_bytes answer) arguments.new) }
 {
     match arguments.add_by_ref(value) {
         Ok(()) => placeholder(alloc, arguments),
@@ -201,10 +207,12 @@ fn placeholder(alloc: Global, arguments: &PgArguments) -> Result<String, AllocEr
 }
 
 /// The frame that the value of null or bytes writes, in hex.
-fn read<T: Codec>(alloc: Global, part: Option<&[u8]>) -> Result<Told, AllocError>
+fn read<T: Explained>(alloc: Global, part: Option<&[u8]>) -> Result<Told, AllocError>
     requires { T.reading T.info InBinary None ≡ None }
-    ensures answer { IfOk result (λ told. Reads (framed_by T.info T.written (T.reading T.info InBinary (option_copied part.entry))) (option_copied part.entry) (told_text told)) }
-    ensures exact { IfOk result (TellsOf (Some (row T.info T.reading T.written)) (to_read (option_copied part.entry))) }
+    ensures answer { IfOk result (λ told.
+        ReadsPart (row T.info T.reading T.written T.refusal T.unwritten) (option_copied part.entry) (told_text told)) }
+    ensures exact { IfOk result (λ told.
+        TellsOf (Some (row T.info T.reading T.written T.refusal T.unwritten)) (to_read (option_copied part.entry)) told) }
 {
     match T::decode(
         alloc,
@@ -217,7 +225,8 @@ fn read<T: Codec>(alloc: Global, part: Option<&[u8]>) -> Result<Told, AllocError
 
 /// The frame that a value writes, in hex, or why it is refused.
 fn frame_text<T: Encode + Type>(alloc: Global, value: &T) -> Result<Told, AllocError>
-    ensures answer { IfOk result (λ told. MatchOption (framed_as (said T.hint T.image T.produced T.info value.now)) (IsRefusal (told_text told)) (λ f. told_text told ≡ encode_lower (shown (blank f.1)))) }
+    ensures answer { IfOk result (λ told.
+        Shows (framed_as (said T.hint T.image T.produced T.info value.now)) (saying_refused (said T.hint T.image T.produced T.info value.now) (T.unwritable value.now)) (told_text told)) }
     ensures exact { IfOk result (λ told. is_said told ≡ is_some (framed_as (said T.hint T.image T.produced T.info value.now))) }
 {
     let mut buffer = PgArgumentBuffer::new(alloc);
