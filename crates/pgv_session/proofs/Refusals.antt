@@ -72,8 +72,8 @@ unread_added info written unwritten unread read e was now (Err x) none stated sa
 
 -- of null it is C13
 null_told : (part : Option (List ℕ)) (unread : Option CodecError) (e : CodecError) (answer : List ℕ) → RefusedAs unread answer → (part ≡ None → e ≡ UnexpectedNull) → answer ≡ refused (code_of e) → Reads None unread part answer
-null_told None unread e answer as null told = told ∙ ap (λ (g : CodecError). refused (code_of g)) (null refl)
-null_told (Some bytes) unread e answer as null told = as
+null_told None unread e answer stated null told = told ∙ ap (λ (g : CodecError). refused (code_of g)) (null refl)
+null_told (Some bytes) unread e answer stated null told = stated
 
 pub unread_shown : {M : Type 0} (info : Ty) (written : Ty → M → Saying) (unwritten : M → Option CodecError) (unread : Option CodecError) (read : Option M) (part : Option (List ℕ)) (e : CodecError) (r : Result Told AllocError) →
     Refuses e (read ≡ None) → RefusedBy unread e → (part ≡ None → e ≡ UnexpectedNull) →

@@ -1,7 +1,7 @@
 -- Which refusal a value without a frame is answered with, by what the value says (its meaning): of a list, as its elements'
 -- meanings say, and of a range, as those of its bounds' values.
--- The lemmas are what the impls of `Explained` need: where an encoder states this of each part, it states it of the whole.
-use Rattle.std.specs.Prelude.{◌≡◌, ℕ, List, [], ◌∷◌, map, Option, Some, None, refl}
+-- The lemmas say that where an encoder states of each part what is stated of its meaning, it states so of the whole.
+use Rattle.std.specs.Prelude.{◌≡◌, ℕ, List, [], ◌∷◌, map, Option, Some, None, option_map, refl}
 use Rattle.std.proofs.Common.{ap}
 use Rattle.std.proofs.lemmas.List.{length-map}
 use Rattle.std.specs.Range.Bound.{bound_map}
@@ -10,13 +10,17 @@ use Rattle.std.specs.declared.ops.Bound.TheVariants.{Included, Excluded, Unbound
 use Rattle.pgv_types.specs.Ty.{Ty}
 use Rattle.pgv_value.specs.declared.error.CodecError.{CodecError}
 use Rattle.pgv_codec.specs.Image.{Image, frame}
-use Rattle.pgv_codec.specs.Refusing.{array_refused, first_refused, frame_refused, frames_refused}
+use Rattle.pgv_codec.specs.Refusing.{array_refused, first_refused, frame_refused, frames_refused, option_unwritable}
 use Rattle.pgv_codec.specs.Saying.{Saying, said}
 use Rattle.pgv_range.specs.RangeImage.{bound_frame}
 use Rattle.pgv_range.specs.RangeOf.{RangeOf, empty, bounds, range_meaning}
 use Rattle.pgv_range.specs.RangeRefusals.{bound_refused, bounds_refused, range_refused}
 use Rattle.pgv_range.specs.declared.range.PgRange.{PgRange}
 use Rattle.pgv_range.specs.declared.range.PgRange.TheVariants.{Empty, Bounds}
+
+-- what an encoder states of a value without an image is what is stated of its meaning
+abbrev pub Explains : {X M : Type 0} → (X → Option CodecError) → (X → M) → (M → Option CodecError) → Type 0
+Explains {X} unwritable meaning unwritten = (v : X) → unwritable v ≡ unwritten (meaning v)
 
 abbrev pub array_unwritten : {M : Type 0} → Ty → (Ty → M → Saying) → (M → Option CodecError) → List M → Option CodecError
 array_unwritten element written = array_refused (λ m. (written element m).hint) (λ m. (written element m).image)
@@ -27,7 +31,11 @@ range_unwritten element written unwritten (bounds lower upper) =
     bounds_refused (λ m. (written element m).hint) (λ m. (written element m).image) unwritten lower upper
 
 module _ {X M : Type 0} (hint : X → ℕ) (image : X → Option Image) (produced : X → Option Ty) (info : Ty) (unwritable : X → Option CodecError) (meaning : X → M) (written : Ty → M → Saying) (unwritten : M → Option CodecError)
-    (agrees : (x : X) → said hint image produced info x ≡ written info (meaning x)) (explains : (x : X) → unwritable x ≡ unwritten (meaning x)) where
+    (agrees : (x : X) → said hint image produced info x ≡ written info (meaning x)) (explains : Explains unwritable meaning unwritten) where
+  pub option_explains : Explains (option_unwritable unwritable) (option_map meaning) (option_unwritable unwritten)
+  option_explains None = refl
+  option_explains (Some x) = explains x
+
   frame_explains : (x : X) → frame_refused (hint x) (image x) (unwritable x) ≡ frame_refused (written info (meaning x)).hint (written info (meaning x)).image (unwritten (meaning x))
   frame_explains x = rw (explains x) (ap (λ (s : Saying). frame_refused s.hint s.image (unwritten (meaning x))) (agrees x))
 

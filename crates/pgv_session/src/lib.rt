@@ -6,7 +6,6 @@
 #![tactic(auto)]
 
 mod copied;
-mod explained;
 pub mod laws;
 mod line;
 mod runner;

@@ -1,8 +1,9 @@
 //! What is asked of a value of a TYPE.
 
-ghost use Rattle.std.specs.Prelude.{◌≡◌, ◌≢◌, Some, None, IfOk, option_map, is_some, false, string_bytes};
+ghost use Rattle.std.specs.Prelude.{◌≡◌, ◌≢◌, Option, Some, None, IfOk, option_map, is_some, false, string_bytes};
 ghost use Rattle.std.specs.Option.{option_copied};
 ghost use Rattle.pgv_value.specs.Codes.{code_of};
+ghost use Rattle.pgv_value.specs.declared.error.CodecError.{CodecError};
 ghost use Rattle.pgv_value.specs.declared.error.CodecError.TheVariants.{Memory};
 ghost use Rattle.pgv_value.specs.declared.value.PgValueFormat.TheVariants.{Text as InText, Binary as InBinary};
 ghost use Rattle.pgv_codec.specs.Saying.{said};
@@ -10,13 +11,13 @@ ghost use Rattle.pgv_session.specs.RequestsView.{ask_seen};
 ghost use Rattle.pgv_session.specs.Session.{RespondsBy, Adds, AddsText, ReadsPart, Shows, IsRefusal, refused, placeholder as placeholder_of};
 ghost use Rattle.pgv_session.specs.Spelled.{to_read};
 ghost use Rattle.pgv_session.specs.ToldView.{told_text, is_said, TellsOf};
-ghost use Rattle.pgv_session.specs.Types.{framed_as, saying_refused, row, row_named, types};
+ghost use Rattle.pgv_session.specs.Types.{framed_as, saying_refused, row, row_named, types, unstated};
+ghost use Rattle.pgv_session.specs.Explained.{Explains};
 
-use crate::explained::Explained;
 use crate::line::{Ask, is};
 use jiff::Timestamp;
 use jiff::civil::{Date, DateTime, Time};
-use pgv_codec::{Decode, Encode, PgArgumentBuffer, Type};
+use pgv_codec::{Codec, Encode, PgArgumentBuffer, Type};
 use pgv_hstore::PgHstore;
 use pgv_lquery::PgLQuery;
 use pgv_ltree::PgLTree;
@@ -138,17 +139,17 @@ pub fn respond_by(
 }
 
 /// Answers what is asked of a value of a Rust type, of which null is none.
-fn respond_as<T: Explained>(
+fn respond_as<T: Codec>(
     alloc: Global,
     arguments: &mut PgArguments,
     ask: Ask,
 ) -> Result<Told, AllocError>
     requires { T.reading T.info InBinary None ≡ None }
-    ensures answer { IfOk result (λ told.
-        RespondsBy (Some (row T.info T.reading T.written T.refusal T.unwritten)) (ask_seen ask.entry)
+    ensures answer { (unwritten : T.Meaning → Option CodecError) → Explains T.unwritable T.meaning unwritten → IfOk result (λ told.
+        RespondsBy (Some (row T.info T.reading T.written T.refusal unwritten)) (ask_seen ask.entry)
             arguments.old (told_text told) arguments.new) }
     ensures exact { IfOk result (λ told.
-        TellsOf (Some (row T.info T.reading T.written T.refusal T.unwritten)) (ask_seen ask.entry) told) }
+        TellsOf (Some (row T.info T.reading T.written T.refusal unstated)) (ask_seen ask.entry) told) }
 {
     match ask {
         Ask::Add(text) => Ok(Told::Said(add::<T>(alloc, arguments, text)?)),
@@ -162,13 +163,14 @@ fn respond_as<T: Explained>(
 }
 
 /// Adds the value that a text is.
-fn add<T: Explained>(
+fn add<T: Codec>(
     alloc: Global,
     arguments: &mut PgArguments,
     text: &[u8],
 ) -> Result<String, AllocError>
-    ensures { IfOk result (λ answer.
-        AddsText (row T.info T.reading T.written T.refusal T.unwritten) text.now arguments.old (string_bytes answer) arguments.new) }
+    ensures { (unwritten : T.Meaning → Option CodecError) → Explains T.unwritable T.meaning unwritten → IfOk result (λ answer.
+        AddsText (row T.info T.reading T.written T.refusal unwritten) text.now
+            arguments.old (string_bytes answer) arguments.new) }
 {
     match T::decode(
         alloc,
@@ -207,12 +209,12 @@ fn placeholder(alloc: Global, arguments: &PgArguments) -> Result<String, AllocEr
 }
 
 /// The frame that the value of null or bytes writes, in hex.
-fn read<T: Explained>(alloc: Global, part: Option<&[u8]>) -> Result<Told, AllocError>
+fn read<T: Codec>(alloc: Global, part: Option<&[u8]>) -> Result<Told, AllocError>
     requires { T.reading T.info InBinary None ≡ None }
-    ensures answer { IfOk result (λ told.
-        ReadsPart (row T.info T.reading T.written T.refusal T.unwritten) (option_copied part.entry) (told_text told)) }
+    ensures answer { (unwritten : T.Meaning → Option CodecError) → Explains T.unwritable T.meaning unwritten → IfOk result (λ told.
+        ReadsPart (row T.info T.reading T.written T.refusal unwritten) (option_copied part.entry) (told_text told)) }
     ensures exact { IfOk result (λ told.
-        TellsOf (Some (row T.info T.reading T.written T.refusal T.unwritten)) (to_read (option_copied part.entry)) told) }
+        TellsOf (Some (row T.info T.reading T.written T.refusal unstated)) (to_read (option_copied part.entry)) told) }
 {
     match T::decode(
         alloc,
