@@ -17,9 +17,10 @@ use Rattle.pgv_wire.specs.Arguments.{Framed}
 use Rattle.pgv_codec.specs.Outcome.{Refused}
 use Rattle.pgv_codec.specs.Refusing.{RefusedBy}
 use Rattle.pgv_codec.specs.Saying.{Saying}
-use Rattle.pgv_session.specs.Session.{State, Adds, Reads, Resolves, Shows, refused, IsRefusal, RefusedAs}
+use Rattle.pgv_session.specs.Session.{State, Adds, Reads, ReadsPart, Resolves, RespondsBy, Shows, refused, IsRefusal, RefusedAs}
+use Rattle.pgv_session.specs.Spelled.{Ask, to_read}
 use Rattle.pgv_session.specs.ToldView.{told_text}
-use Rattle.pgv_session.specs.Types.{framed_as, framed_by, refused_by, saying_refused}
+use Rattle.pgv_session.specs.Types.{Row, framed_as, framed_by, refused_by, saying_refused}
 use Rattle.pgv_session.specs.declared.value.Told.{Told}
 
 abbrev pub Text : Type 0
@@ -83,6 +84,13 @@ unread_shown info written unwritten unread read part e (Ok told) none stated nul
     subst (λ x. Reads (framed_by info written x) (refused_by info written unwritten unread x) part (told_text told)) (sym (no_memory e n none))
         (null_told part unread e (told_text told) (refused_as unread e (told_text told) stated n refusal number) null number)
 unread_shown info written unwritten unread read part e (Err x) none stated null refusal n number = tt
+
+-- ---- what is asked is answered by the row
+
+pub read_responds : (row : Row) (asked : Ask) (part : Option (List ℕ)) (was now : State) (r : Result Told AllocError) → asked ≡ to_read part → now ≡ was →
+    IfOk r (λ told. ReadsPart row part (told_text told)) → IfOk r (λ told. RespondsBy (Some row) asked was (told_text told) now)
+read_responds row asked part was now (Ok told) e same h = rw e (h, same)
+read_responds row asked part was now (Err x) e same h = tt
 
 -- ---- what is read is added and shown as what it says
 
