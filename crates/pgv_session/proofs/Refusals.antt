@@ -12,16 +12,11 @@ use Rattle.pgv_buf.specs.Tokens.{Token}
 use Rattle.pgv_value.specs.Codes.{code_of}
 use Rattle.pgv_value.specs.declared.error.CodecError.{CodecError}
 use Rattle.pgv_value.specs.Reading.{Refuses}
-use Rattle.pgv_value.specs.declared.error.CodecError.TheVariants.{Memory, HoleCount, UnexpectedNull}
+use Rattle.pgv_value.specs.declared.error.CodecError.TheVariants.{Memory, HoleCount}
 use Rattle.pgv_wire.specs.Arguments.{Framed}
 use Rattle.pgv_codec.specs.Outcome.{Refused}
 use Rattle.pgv_codec.specs.Refusing.{RefusedBy}
-use Rattle.pgv_codec.specs.Saying.{Saying}
-use Rattle.pgv_session.specs.Session.{State, Adds, Reads, ReadsPart, Resolves, RespondsBy, Shows, refused, IsRefusal, RefusedAs}
-use Rattle.pgv_session.specs.Spelled.{Ask, to_read}
-use Rattle.pgv_session.specs.ToldView.{told_text}
-use Rattle.pgv_session.specs.Types.{Row, framed_as, framed_by, refused_by, saying_refused}
-use Rattle.pgv_session.specs.declared.value.Told.{Told}
+use Rattle.pgv_session.specs.Session.{State, Adds, Resolves, refused, IsRefusal, RefusedAs}
 
 abbrev pub Text : Type 0
 Text = String Global
@@ -39,8 +34,6 @@ pub refused_as : (why : Option CodecError) (e : CodecError) (answer : List ℕ) 
 refused_as None e answer r n refusal told = (refusal, tt)
 refused_as (Some stated) e answer r n refusal told = (refusal, told ∙ ap (λ (g : CodecError). refused (code_of g)) (no_memory e n r))
 
--- ---- what is refused is not added
-
 no_frame : (f : Option (List Token)) (e : CodecError) → Refused e f → e ≢ Memory → f ≡ None
 no_frame f e (inl none) n = none
 no_frame f e (inr memory) n = absurd (n memory)
@@ -48,57 +41,12 @@ no_frame f e (inr memory) n = absurd (n memory)
 framed_none : (t : Ty) (f : Option (List Token)) → f ≡ None → ◌≡◌ {A = Option Framed} None (framed_with t f)
 framed_none t f none = sym (ap (λ (g : Option (List Token)). framed_with t g) none)
 
+-- what is refused is not added
 pub not_added : (t : Ty) (f : Option (List Token)) (why : Option CodecError) (e : CodecError) (was now : State) (r : Result Text AllocError) → Refused e f → RefusedBy why e → now ≡ was →
     IfOk r (λ text. IsRefusal (string_bytes text)) → IfOk r (λ text. e ≢ Memory) → IfOk r (λ text. string_bytes text ≡ refused (code_of e)) → IfOk r (λ text. Adds (framed_with t f) why was (string_bytes text) now)
 not_added t f why e was now (Ok text) none stated same refusal n told =
     subst (λ g. Adds g why was (string_bytes text) now) (framed_none t f (no_frame f e none n)) (refused_as why e (string_bytes text) stated n refusal told, same)
 not_added t f why e was now (Err x) none stated same refusal n told = tt
-
--- nor is it shown
-pub not_shown : (t : Ty) (f : Option (List Token)) (why : Option CodecError) (e : CodecError) (r : Result Told AllocError) → Refused e f → RefusedBy why e →
-    IfOk r (λ told. IsRefusal (told_text told)) → IfOk r (λ told. e ≢ Memory) → IfOk r (λ told. told_text told ≡ refused (code_of e)) → IfOk r (λ told. Shows (framed_with t f) why (told_text told))
-not_shown t f why e (Ok told) none stated refusal n number =
-    subst (λ g. Shows g why (told_text told)) (framed_none t f (no_frame f e none n)) (refused_as why e (told_text told) stated n refusal number)
-not_shown t f why e (Err x) none stated refusal n number = tt
-
--- ---- what is not read is refused as its type states
-
-pub unread_added : {M : Type 0} (info : Ty) (written : Ty → M → Saying) (unwritten : M → Option CodecError) (unread : Option CodecError) (read : Option M) (e : CodecError) (was now : State) (r : Result Text AllocError) →
-    Refuses e (read ≡ None) → RefusedBy unread e → now ≡ was →
-    IfOk r (λ text. IsRefusal (string_bytes text)) → IfOk r (λ text. e ≢ Memory) → IfOk r (λ text. string_bytes text ≡ refused (code_of e)) →
-    IfOk r (λ text. Adds (framed_by info written read) (refused_by info written unwritten unread read) was (string_bytes text) now)
-unread_added info written unwritten unread read e was now (Ok text) none stated same refusal n told =
-    subst (λ x. Adds (framed_by info written x) (refused_by info written unwritten unread x) was (string_bytes text) now) (sym (no_memory e n none)) (refused_as unread e (string_bytes text) stated n refusal told, same)
-unread_added info written unwritten unread read e was now (Err x) none stated same refusal n told = tt
-
--- of null it is C13
-null_told : (part : Option (List ℕ)) (unread : Option CodecError) (e : CodecError) (answer : List ℕ) → RefusedAs unread answer → (part ≡ None → e ≡ UnexpectedNull) → answer ≡ refused (code_of e) → Reads None unread part answer
-null_told None unread e answer stated null told = told ∙ ap (λ (g : CodecError). refused (code_of g)) (null refl)
-null_told (Some bytes) unread e answer stated null told = stated
-
-pub unread_shown : {M : Type 0} (info : Ty) (written : Ty → M → Saying) (unwritten : M → Option CodecError) (unread : Option CodecError) (read : Option M) (part : Option (List ℕ)) (e : CodecError) (r : Result Told AllocError) →
-    Refuses e (read ≡ None) → RefusedBy unread e → (part ≡ None → e ≡ UnexpectedNull) →
-    IfOk r (λ told. IsRefusal (told_text told)) → IfOk r (λ told. e ≢ Memory) → IfOk r (λ told. told_text told ≡ refused (code_of e)) →
-    IfOk r (λ told. Reads (framed_by info written read) (refused_by info written unwritten unread read) part (told_text told))
-unread_shown info written unwritten unread read part e (Ok told) none stated null refusal n number =
-    subst (λ x. Reads (framed_by info written x) (refused_by info written unwritten unread x) part (told_text told)) (sym (no_memory e n none))
-        (null_told part unread e (told_text told) (refused_as unread e (told_text told) stated n refusal number) null number)
-unread_shown info written unwritten unread read part e (Err x) none stated null refusal n number = tt
-
--- ---- what is asked is answered by the row
-
-pub read_responds : (row : Row) (asked : Ask) (part : Option (List ℕ)) (was now : State) (r : Result Told AllocError) → asked ≡ to_read part → now ≡ was →
-    IfOk r (λ told. ReadsPart row part (told_text told)) → IfOk r (λ told. RespondsBy (Some row) asked was (told_text told) now)
-read_responds row asked part was now (Ok told) e same h = rw e (h, same)
-read_responds row asked part was now (Err x) e same h = tt
-
--- ---- what is read is added and shown as what it says
-
-pub by_meaning : {M : Type 0} (P : Option Framed → Option CodecError → Type 0) (info : Ty) (written : Ty → M → Saying) (unwritten : M → Option CodecError) (unread : Option CodecError) (read : Option M) (m : M) (s : Saying) (why : Option CodecError) →
-    read ≡ Some m → s ≡ written info m → why ≡ unwritten m → P (framed_as s) (saying_refused s why) → P (framed_by info written read) (refused_by info written unwritten unread read)
-by_meaning P info written unwritten unread read m s why r agrees explains h =
-    subst (λ x. P (framed_by info written x) (refused_by info written unwritten unread x)) (sym r)
-    (subst (λ t. P (framed_as t) (saying_refused t (unwritten m))) agrees (subst (λ w. P (framed_as s) (saying_refused s w)) explains h))
 
 -- `refused Cn`, of an error
 abbrev pub IsTold : CodecError → Text → Type 0
