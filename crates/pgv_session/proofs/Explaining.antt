@@ -60,4 +60,4 @@ pub list_explains : {X M : Type 0} (hint : X → ℕ) (image : X → Option Imag
     (xs : List (Option X)) → array_refused (option_hint hint) (option_image image) (option_unwritable (λ x. None)) xs ≡ array_unwritten info (option_written written) (option_unwritable (λ m. None)) (map (option_map meaning) xs)
 list_explains hint image info meaning written agrees =
     array_explains (option_hint hint) (option_image image) (option_produced (λ x. None) info) info (option_unwritable (λ x. None)) (option_map meaning) (option_written written) (option_unwritable (λ m. None))
-        (option_agrees hint image (λ x. None) info (λ x. None) meaning written (λ m. None) agrees (λ x. refl)) (option_explains hint image (λ x. None) info (λ x. None) meaning written (λ m. None) agrees (λ x. refl))
+    (option_agrees hint image (λ x. None) info (λ x. None) meaning written (λ m. None) agrees (λ x. refl)) (option_explains hint image (λ x. None) info (λ x. None) meaning written (λ m. None) agrees (λ x. refl))

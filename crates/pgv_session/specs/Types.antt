@@ -45,10 +45,6 @@ use Rattle.pgv_session.specs.Explained.{array_unwritten, range_unwritten}
 abbrev pub framed_as : Saying → Option Framed
 framed_as s = option_map (λ ts. (s.value_type, ts)) (frame s.hint s.image)
 
--- which refusal is answered where it has none, by what is stated of a value without an image
-abbrev pub saying_refused : Saying → Option CodecError → Option CodecError
-saying_refused s why = frame_refused s.hint s.image why
-
 -- what is added of a meaning that was read, if any
 abbrev pub framed_by : {M : Type 0} → Ty → (Ty → M → Saying) → Option M → Option Framed
 framed_by info written None = None
@@ -58,7 +54,7 @@ framed_by info written (Some m) = framed_as (written info m)
 -- refused with
 abbrev pub refused_by : {M : Type 0} → Ty → (Ty → M → Saying) → (M → Option CodecError) → Option CodecError → Option M → Option CodecError
 refused_by info written unwritten unread None = unread
-refused_by info written unwritten unread (Some m) = saying_refused (written info m) (unwritten m)
+refused_by info written unwritten unread (Some m) = frame_refused (written info m).hint (written info m).image (unwritten m)
 
 -- a TYPE: its type, what is added of the value that a text or bytes are under it, and where there is none, which refusal is
 -- answered, if the type states it
@@ -72,7 +68,7 @@ abbrev pub row : {M : Type 0} → Ty → Reading M → (Ty → M → Saying) →
 row info reading written unread unwritten = record {
   info = info;
   value = λ f part. framed_by info written (reading info f part);
-  refusal = λ f part. refused_by info written unwritten (unread info f part) (reading info f part)
+  refusal = λ f part. refused_by info written unwritten (unread info f part) (reading info f part);
 }
 
 -- the same whatever the type is
@@ -87,7 +83,7 @@ unstated m = None
 abbrev pub list_row : {M : Type 0} → Ty → Ty → Reading M → (Ty → M → Saying) → Refusal → (M → Option CodecError) → Row
 list_row info element reading written unread unwritten =
     row info (array element (nullable reading)) (array_written element (option_written written)) (array_refusal element (nullable reading) (nullable_refusal unread))
-        (array_unwritten element (option_written written) (option_unwritable unwritten))
+    (array_unwritten element (option_written written) (option_unwritable unwritten))
 
 -- ranges of such values
 abbrev pub range_row : {M : Type 0} → Ty → Ty → Reading M → (Ty → M → Saying) → Refusal → (M → Option CodecError) → Row
