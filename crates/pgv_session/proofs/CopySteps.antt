@@ -18,12 +18,13 @@ use Rattle.pgv_copy.specs.CopyBinary.{Read, Step, header, before, step}
 use Rattle.pgv_copy.specs.CopyView.{Copying}
 use Rattle.pgv_session.specs.CopiedView.{infos, ShowsField, FieldsFrom, ShowsRow, CopiesIn, YieldsIn}
 use Rattle.pgv_session.specs.Lines.{before as before_mark, rest_after, words, with_first}
-use Rattle.pgv_session.specs.Session.{State, RespondsBy, fields_shown, row_shown, rows_named, Yields, EndsWith, CopiesFrom, Reads, refused, IsRefusal}
+use Rattle.pgv_session.specs.Session.{State, RespondsBy, fields_shown, row_shown, rows_named, Yields, EndsWith, CopiesFrom, Reads, refused, RefusedAs}
 use Rattle.pgv_session.specs.Spelled.{to_read}
 use Rattle.pgv_session.specs.ToldView.{told_text, TellsOf}
 use Rattle.pgv_session.specs.Types.{Row, types, row_named}
 use Rattle.pgv_session.specs.declared.value.Told.{Told}
 use Rattle.pgv_session.specs.declared.value.Told.TheVariants.{Said, Refused}
+use Rattle.pgv_session.proofs.Refusals.{no_memory}
 use Rattle.pgv_session.proofs.Wording.{words_after, words_split}
 
 abbrev pub Text : Type 0
@@ -40,18 +41,20 @@ name_more done done' name text all rest d r n h =
 
 -- ---- fields
 
-read_said : (f : Option Framed) (bytes : List ℕ) (text : Text) → Reads f (Some bytes) (string_bytes text) → IsSome f → option_map (λ g. encode_lower (shown (blank g.1))) f ≡ Some (string_bytes text)
-read_said None bytes text h s = absurd cc
-read_said (Some g) bytes text h s = ap (λ (t : List ℕ). Some t) (sym h)
+read_said : (f : Option Framed) (why : Option CodecError) (bytes : List ℕ) (text : Text) → Reads f why (Some bytes) (string_bytes text) → IsSome f →
+    option_map (λ g. encode_lower (shown (blank g.1))) f ≡ Some (string_bytes text)
+read_said None why bytes text h s = absurd cc
+read_said (Some g) why bytes text h s = ap (λ (t : List ℕ). Some t) (sym h)
 
-read_refused : (f : Option Framed) (bytes answer : List ℕ) → Reads f (Some bytes) answer → f ≡ None → (option_map (λ g. encode_lower (shown (blank g.1))) f ≡ None) × IsRefusal answer
-read_refused None bytes answer h n = (refl, h)
-read_refused (Some g) bytes answer h n = absurd cc
+read_refused : (f : Option Framed) (why : Option CodecError) (bytes answer : List ℕ) → Reads f why (Some bytes) answer → f ≡ None →
+    (option_map (λ g. encode_lower (shown (blank g.1))) f ≡ None) × RefusedAs why answer
+read_refused None why bytes answer h n = (refl, h)
+read_refused (Some g) why bytes answer h n = absurd cc
 
 field_read : (a : Option Row) (bytes : List ℕ) (was now : State) (told : Told) → RespondsBy a (to_read (Some bytes)) was (told_text told) now → TellsOf a (to_read (Some bytes)) told → ShowsField a (Some bytes) told
 field_read None bytes was now told r t = tt
-field_read (Some row) bytes was now (Said text) r t = read_said (row.value InBinary (Some bytes)) bytes text r.0 t
-field_read (Some row) bytes was now (Refused text) r t = read_refused (row.value InBinary (Some bytes)) bytes (string_bytes text) r.0 t
+field_read (Some row) bytes was now (Said text) r t = read_said (row.value InBinary (Some bytes)) (row.refusal InBinary (Some bytes)) bytes text r.0 t
+field_read (Some row) bytes was now (Refused text) r t = read_refused (row.value InBinary (Some bytes)) (row.refusal InBinary (Some bytes)) bytes (string_bytes text) r.0 t
 
 pub field_shows : (a : Option Row) (part : Option (List ℕ)) (bytes : List ℕ) (was now : State) (r : Result Told AllocError) → part ≡ Some bytes → IfOk r (λ told. RespondsBy a (to_read (Some bytes)) was (told_text told) now) →
     IfOk r (λ told. TellsOf a (to_read (Some bytes)) told) → IfOk r (λ told. ShowsField a part told)
@@ -64,7 +67,7 @@ fields_more None w v row text refused was mid now f m h = tt
 fields_more (Some r) None v row text refused was mid now f m h = tt
 fields_more (Some r) (Some columns) v row text None was mid now f m h =
     (string_bytes text ∷ h.0, rw (f, h.1) refl, h.2 ∙ (ap (λ (ts : List (List ℕ)). ts ++ h.0) m ∙ append_assoc was (string_bytes text ∷ []) h.0))
-fields_more (Some r) (Some columns) v row text (Some x) was mid now f m h = (rw (f, h.0) refl, h.1)
+fields_more (Some r) (Some columns) v row text (Some x) was mid now f m h = (rw (f, h.0) refl, rw f h.1)
 
 pub fields_step : (ns : List (List ℕ)) (n : List ℕ) (ns' : List (List ℕ)) (vs : List Given) (v : Given) (vs' : List Given) (text : Text) (was mid now : List (List ℕ)) (r : Result (Option Text) AllocError) → ns ≡ n ∷ ns' → vs ≡ v ∷ vs' →
     ShowsField (row_named types n) v.bytes (Said text) → mid ≡ was ++ string_bytes text ∷ [] → IfOk r (λ refused. FieldsFrom (rows_named ns') vs' refused mid now) → IfOk r (λ refused. FieldsFrom (rows_named ns) vs refused was now)
@@ -110,10 +113,6 @@ pub row_stops : (w : Option (List Row)) (types : List Ty) (bytes rest : List ℕ
     step reader ≡ Ok (Some row, next) → ShowsRow w row (Refused text) → CopiesIn w types (header bytes) (string_bytes text)
 row_stops w types bytes rest texts reader next row text hd y s t =
     ends w types bytes rest texts reader (string_bytes text) hd y (λ columns e. subst (λ (x : Step). EndsWith columns texts x (string_bytes text)) (sym s) (refused_here w columns row text e t))
-
-no_memory : (e : CodecError) {P : Type 0} → e ≢ Memory → Refuses e P → P
-no_memory Memory n h = absurd (n refl)
-no_memory _ n h = h
 
 stream_stops : (w : Option (List Row)) (types : List Ty) (bytes rest : List ℕ) (texts : List (List ℕ)) (reader : Copying) (e : CodecError) (answer : List ℕ) → header bytes ≡ Ok rest → YieldsIn w types rest texts reader →
     Refuses e (step reader ≡ Err e) → e ≢ Memory → answer ≡ refused (code_of e) → CopiesIn w types (header bytes) answer

@@ -9,3 +9,4 @@ pub mod InputLines
 pub mod Feeds
 pub mod SoFar
 pub mod Refusals
+pub mod Explaining

@@ -4,9 +4,10 @@ use Rattle.std.specs.declared.string.String.{String}
 use Rattle.std.specs.declared.alloc.Global.{Global}
 use Rattle.pgv_types.specs.Ty.{Ty}
 use Rattle.pgv_value.specs.ValueView.{Given}
+use Rattle.pgv_value.specs.declared.value.PgValueFormat.TheVariants.{Binary as InBinary}
 use Rattle.pgv_copy.specs.CopyBinary.{Read, before}
 use Rattle.pgv_copy.specs.CopyView.{Copying}
-use Rattle.pgv_session.specs.Session.{field_shown, fields_shown, row_shown, Yields, CopiesFrom, IsRefusal}
+use Rattle.pgv_session.specs.Session.{field_shown, fields_shown, row_shown, row_refused, Yields, CopiesFrom, RefusedAs}
 use Rattle.pgv_session.specs.Types.{Row}
 use Rattle.pgv_session.specs.declared.value.Told.{Told}
 use Rattle.pgv_session.specs.declared.value.Told.TheVariants.{Said, Refused}
@@ -25,18 +26,18 @@ TypesFrom None false was now = ⊤
 abbrev pub ShowsField : Option Row → Option (List ℕ) → Told → Type 0
 ShowsField None part told = ⊤
 ShowsField (Some row) part (Said text) = field_shown row part ≡ Some (string_bytes text)
-ShowsField (Some row) part (Refused text) = (field_shown row part ≡ None) × IsRefusal (string_bytes text)
+ShowsField (Some row) part (Refused text) = (field_shown row part ≡ None) × RefusedAs (row.refusal InBinary part) (string_bytes text)
 
 -- after these texts, those of the fields; or the refusal of one
 abbrev pub FieldsFrom : Option (List Row) → List Given → Option (String Global) → List (List ℕ) → List (List ℕ) → Type 0
 FieldsFrom None row refused was now = ⊤
 FieldsFrom (Some columns) row None was now = (texts : List (List ℕ)) × (fields_shown (zip columns row) ≡ Some texts) × (now ≡ was ++ texts)
-FieldsFrom (Some columns) row (Some text) was now = (fields_shown (zip columns row) ≡ None) × IsRefusal (string_bytes text)
+FieldsFrom (Some columns) row (Some text) was now = (fields_shown (zip columns row) ≡ None) × RefusedAs (row_refused columns row) (string_bytes text)
 
 abbrev pub ShowsRow : Option (List Row) → List Given → Told → Type 0
 ShowsRow None row told = ⊤
 ShowsRow (Some columns) row (Said text) = row_shown columns row ≡ Some (string_bytes text)
-ShowsRow (Some columns) row (Refused text) = (row_shown columns row ≡ None) × IsRefusal (string_bytes text)
+ShowsRow (Some columns) row (Refused text) = (row_shown columns row ≡ None) × RefusedAs (row_refused columns row) (string_bytes text)
 
 -- what is answered to a stream of columns of these types
 abbrev pub CopiesIn : Option (List Row) → List Ty → Read (List ℕ) → List ℕ → Type 0

@@ -3,6 +3,7 @@ pub mod Lines
 pub mod Laws
 pub mod RequestsView
 pub mod Session
+pub mod Explained
 pub mod Types
 pub mod Faults
 pub mod ToldView

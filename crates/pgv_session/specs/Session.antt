@@ -3,10 +3,10 @@
 -- with the bytes of the answers. The lines of an input are those that it is put together of, each with its line feed, which the
 -- last may lack (`AreLines`); `lines_of` computes them (law: `input_is_its_lines`).
 -- A stream of COPY is answered by its rows, ` / ` between two, and each by its fields, a space between two: null is `null`, and
--- bytes are what `read` answers of them (`Copies`). Where there are no rows it is `none`. The first refusal is answered alone;
--- which number it has is fixed where the stream itself is refused. A name that is not in the table is answered before a byte is
--- read.
-use Rattle.std.specs.Prelude.{◌≡◌, ◌≢◌, ℕ, ◌≤◌, ◌==◌, Bool, true, false, codes, decimal, List, [], ◌∷◌, ◌++◌, map, length, Option, Some, None, option_map, Ok, Err, zip, if◌then◌else◌}
+-- bytes are what `read` answers of them (`Copies`). Where there are no rows it is `none`. The first refusal is answered alone: of
+-- the stream itself, or of the first field that is not read. A name that is not in the table is answered before a byte is read.
+-- Which number a refusal has is what the row of its TYPE says (`Types`): of what is not read, and of what is read and has no frame.
+use Rattle.std.specs.Prelude.{◌≡◌, ◌≢◌, ℕ, ◌≤◌, ◌==◌, Bool, true, false, codes, decimal, List, [], ◌∷◌, ◌++◌, map, length, Option, Some, None, IfSome, option_map, Ok, Err, zip, if◌then◌else◌}
 use Rattle.std.specs.List.{AllByRecursion}
 use Rattle.hex.specs.Hex.{encode_lower}
 use Rattle.pgv_types.specs.Ty.{Ty}
@@ -15,6 +15,8 @@ use Rattle.pgv_types.specs.declared.oid.Oid.{Oid}
 use Rattle.pgv_buf.specs.Tokens.{bytes, be4, blank, shown, hole_count, hole_types_of}
 use Rattle.pgv_value.specs.Codes.{code_of}
 use Rattle.pgv_value.specs.ValueView.{Given}
+use Rattle.pgv_value.specs.declared.error.CodecError.{CodecError}
+use Rattle.pgv_nest.specs.NestRefusals.{refusal_or}
 use Rattle.pgv_copy.specs.CopyBinary.{Read, Step, header, before, step}
 use Rattle.pgv_copy.specs.CopyView.{Copying}
 use Rattle.pgv_value.specs.declared.value.PgValueFormat.TheVariants.{Text as InText, Binary as InBinary}
@@ -36,14 +38,26 @@ placeholder args = 36 ∷ decimal (length args)
 abbrev pub refused : ℕ → List ℕ
 refused n = codes "refused C" ++ decimal n
 
--- `refused Cn`, n from 2 to 38; which n is left open
+-- `refused Cn`, n from 2 to 38
 abbrev pub IsRefusal : List ℕ → Type 0
 IsRefusal answer = (n : ℕ) × (2 ≤ n) × (n ≤ 38) × (answer ≡ refused n)
 
+-- the same with the number of the refusal that is stated
+abbrev pub RefusedAs : Option CodecError → List ℕ → Type 0
+RefusedAs why answer = IsRefusal answer × IfSome why (λ stated. answer ≡ refused (code_of stated))
+
 -- what is accepted is added, and what is refused changes nothing
-abbrev pub Adds : Option Framed → State → List ℕ → State → Type 0
-Adds None was answer now = IsRefusal answer × (now ≡ was)
-Adds (Some f) was answer now = (answer ≡ placeholder now) × (now ≡ was ++ (f.0, blank f.1) ∷ [])
+abbrev pub Adds : Option Framed → Option CodecError → State → List ℕ → State → Type 0
+Adds None why was answer now = RefusedAs why answer × (now ≡ was)
+Adds (Some f) why was answer now = (answer ≡ placeholder now) × (now ≡ was ++ (f.0, blank f.1) ∷ [])
+
+-- the value that a text is, under a TYPE
+abbrev pub AddsText : Row → List ℕ → State → List ℕ → State → Type 0
+AddsText row text was answer now = Adds (row.value InText (Some text)) (row.refusal InText (Some text)) was answer now
+
+-- null, which every TYPE has
+abbrev pub AddsNull : Row → State → List ℕ → State → Type 0
+AddsNull row was answer now = Adds (Some (row.info, bytes (be4 4294967295))) None was answer now
 
 -- the display names, with one space before each
 abbrev pub names_after : List Ty → List ℕ
@@ -60,18 +74,26 @@ abbrev pub Resolves : Bool → List Oid → State → List ℕ → State → Typ
 Resolves false oids was answer now = (answer ≡ refused 11) × (now ≡ was)
 Resolves true oids was answer now = (answer ≡ codes "ok") × (now ≡ filled_arguments was (types_in was) oids)
 
--- the frame that the value writes, its holes as zeros; a null that is not read is C13
-abbrev pub Reads : Option Framed → Option (List ℕ) → List ℕ → Type 0
-Reads (Some f) part answer = answer ≡ encode_lower (shown (blank f.1))
-Reads None (Some bytes) answer = IsRefusal answer
-Reads None None answer = answer ≡ refused 13
+-- the frame that a value writes, its holes as zeros, or its refusal
+abbrev pub Shows : Option Framed → Option CodecError → List ℕ → Type 0
+Shows None why answer = RefusedAs why answer
+Shows (Some f) why answer = answer ≡ encode_lower (shown (blank f.1))
+
+-- the same of the value that null or bytes are; a null that is not read is C13
+abbrev pub Reads : Option Framed → Option CodecError → Option (List ℕ) → List ℕ → Type 0
+Reads (Some f) why part answer = Shows (Some f) why answer
+Reads None why (Some bytes) answer = Shows None why answer
+Reads None why None answer = answer ≡ refused 13
+
+abbrev pub ReadsPart : Row → Option (List ℕ) → List ℕ → Type 0
+ReadsPart row part answer = Reads (row.value InBinary part) (row.refusal InBinary part) part answer
 
 -- what is asked of a value, by the row of its TYPE, where that has one
 abbrev pub RespondsBy : Option Row → Ask → State → List ℕ → State → Type 0
 RespondsBy None ask was answer now = (answer ≡ codes "refused line") × (now ≡ was)
-RespondsBy (Some row) (to_add text) was answer now = Adds (row.value InText (Some text)) was answer now
-RespondsBy (Some row) to_add_null was answer now = Adds (Some (row.info, bytes (be4 4294967295))) was answer now
-RespondsBy (Some row) (to_read part) was answer now = Reads (row.value InBinary part) part answer × (now ≡ was)
+RespondsBy (Some row) (to_add text) was answer now = AddsText row text was answer now
+RespondsBy (Some row) to_add_null was answer now = AddsNull row was answer now
+RespondsBy (Some row) (to_read part) was answer now = ReadsPart row part answer × (now ≡ was)
 
 -- ---- streams of COPY
 
@@ -90,6 +112,11 @@ abbrev pub fields_shown : List (Row × Given) → Option (List (List ℕ))
 fields_shown [] = Some []
 fields_shown (f ∷ fs) = with_first (field_shown f.0 f.1.bytes) (fields_shown fs)
 
+-- and else which refusal the first has that is not read
+abbrev pub fields_refused : List (Row × Given) → Option CodecError
+fields_refused [] = None
+fields_refused (f ∷ fs) = refusal_or (f.0.refusal InBinary f.1.bytes) (field_shown f.0 f.1.bytes) (λ text. fields_refused fs)
+
 -- texts with this between each two
 abbrev pub more_after : List ℕ → List (List ℕ) → List ℕ
 more_after between [] = []
@@ -101,6 +128,9 @@ all_with between (text ∷ texts) = text ++ more_after between texts
 
 abbrev pub row_shown : List Row → List Given → Option (List ℕ)
 row_shown columns row = option_map (all_with (codes " ")) (fields_shown (zip columns row))
+
+abbrev pub row_refused : List Row → List Given → Option CodecError
+row_refused columns row = fields_refused (zip columns row)
 
 abbrev pub rows_told : List (List ℕ) → List ℕ
 rows_told [] = codes "none"
@@ -116,7 +146,7 @@ Yields columns reader (text ∷ texts) last =
 abbrev pub EndsWith : List Row → List (List ℕ) → Step → List ℕ → Type 0
 EndsWith columns texts (Err e) answer = answer ≡ refused (code_of e)
 EndsWith columns texts (Ok (None, next)) answer = answer ≡ rows_told texts
-EndsWith columns texts (Ok (Some row, next)) answer = (row_shown columns row ≡ None) × IsRefusal answer
+EndsWith columns texts (Ok (Some row, next)) answer = (row_shown columns row ≡ None) × RefusedAs (row_refused columns row) answer
 
 abbrev pub CopiesFrom : List Row → Read (List ℕ) → List ℕ → Type 0
 CopiesFrom columns (Err e) answer = answer ≡ refused (code_of e)

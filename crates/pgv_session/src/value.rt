@@ -1,18 +1,19 @@
 //! What is asked of a value of a TYPE.
 
-ghost use Rattle.std.specs.Prelude.{◌≡◌, ◌≢◌, Some, None, IfOk, MatchOption, option_map, is_some, false, string_bytes};
+ghost use Rattle.std.specs.Prelude.{◌≡◌, ◌≢◌, Option, Some, None, IfOk, option_map, is_some, false, string_bytes};
 ghost use Rattle.std.specs.Option.{option_copied};
-ghost use Rattle.hex.specs.Hex.{encode_lower};
-ghost use Rattle.pgv_buf.specs.Tokens.{shown, blank};
 ghost use Rattle.pgv_value.specs.Codes.{code_of};
+ghost use Rattle.pgv_value.specs.declared.error.CodecError.{CodecError};
 ghost use Rattle.pgv_value.specs.declared.error.CodecError.TheVariants.{Memory};
 ghost use Rattle.pgv_value.specs.declared.value.PgValueFormat.TheVariants.{Text as InText, Binary as InBinary};
+ghost use Rattle.pgv_codec.specs.Refusing.{frame_refused};
 ghost use Rattle.pgv_codec.specs.Saying.{said};
 ghost use Rattle.pgv_session.specs.RequestsView.{ask_seen};
-ghost use Rattle.pgv_session.specs.Session.{RespondsBy, Adds, Reads, IsRefusal, refused, placeholder as placeholder_of};
+ghost use Rattle.pgv_session.specs.Session.{RespondsBy, Adds, AddsText, ReadsPart, Shows, IsRefusal, refused, placeholder as placeholder_of};
 ghost use Rattle.pgv_session.specs.Spelled.{to_read};
 ghost use Rattle.pgv_session.specs.ToldView.{told_text, is_said, TellsOf};
-ghost use Rattle.pgv_session.specs.Types.{framed_as, framed_by, row, row_named, types};
+ghost use Rattle.pgv_session.specs.Types.{framed_as, row, row_named, types, unstated};
+ghost use Rattle.pgv_session.specs.Explained.{Explains};
 
 use crate::line::{Ask, is};
 use jiff::Timestamp;
@@ -98,7 +99,9 @@ pub fn respond_by(
     name: &[u8],
     ask: Ask,
 ) -> Result<Told, AllocError>
-    ensures answer { IfOk result (λ told. RespondsBy (row_named types name.now) (ask_seen ask.entry) arguments.old (told_text told) arguments.new) }
+    ensures answer { IfOk result (λ told.
+        RespondsBy (row_named types name.now) (ask_seen ask.entry)
+        arguments.old (told_text told) arguments.new) }
     ensures exact { IfOk result (TellsOf (row_named types name.now) (ask_seen ask.entry)) }
 {
     match name {
@@ -137,15 +140,20 @@ pub fn respond_by(
     }
 }
 
-/// Answers what is asked of a value of a Rust type, of which null is none.
+/// Answers what is asked of a value of a Rust type, of which null is none. What explains the refusals that its encoder states may be any
+/// function of what a value says.
 fn respond_as<T: Codec>(
     alloc: Global,
     arguments: &mut PgArguments,
     ask: Ask,
 ) -> Result<Told, AllocError>
     requires { T.reading T.info InBinary None ≡ None }
-    ensures answer { IfOk result (λ told. RespondsBy (Some (row T.info T.reading T.written)) (ask_seen ask.entry) arguments.old (told_text told) arguments.new) }
-    ensures exact { IfOk result (TellsOf (Some (row T.info T.reading T.written)) (ask_seen ask.entry)) }
+    ensures answer { (unwritten : T.Meaning → Option CodecError) →
+        Explains T.unwritable T.meaning unwritten → IfOk result (λ told.
+        RespondsBy (Some (row T.info T.reading T.written T.refusal unwritten)) (ask_seen ask.entry)
+        arguments.old (told_text told) arguments.new) }
+    ensures exact { IfOk result (λ told.
+        TellsOf (Some (row T.info T.reading T.written T.refusal unstated)) (ask_seen ask.entry) told) }
 {
     match ask {
         Ask::Add(text) => Ok(Told::Said(add::<T>(alloc, arguments, text)?)),
@@ -164,7 +172,10 @@ fn add<T: Codec>(
     arguments: &mut PgArguments,
     text: &[u8],
 ) -> Result<String, AllocError>
-    ensures { IfOk result (λ answer. Adds (framed_by T.info T.written (T.reading T.info InText (Some text.now))) arguments.old (string_bytes answer) arguments.new) }
+    ensures { (unwritten : T.Meaning → Option CodecError) →
+        Explains T.unwritable T.meaning unwritten → IfOk result (λ answer.
+        AddsText (row T.info T.reading T.written T.refusal unwritten) text.now
+        arguments.old (string_bytes answer) arguments.new) }
 {
     match T::decode(
         alloc,
@@ -181,7 +192,10 @@ fn add_value<T: Encode + Type>(
     arguments: &mut PgArguments,
     value: &T,
 ) -> Result<String, AllocError>
-    ensures { IfOk result (λ answer. Adds (framed_as (said T.hint T.image T.produced T.info value.now)) arguments.old (string_bytes answer) arguments.new) }
+    ensures { IfOk result (λ answer.
+        Adds (framed_as (said T.hint T.image T.produced T.info value.now))
+        (frame_refused (T.hint value.now) (T.image value.now) (T.unwritable value.now))
+        arguments.old (string_bytes answer) arguments.new) }
 {
     match arguments.add_by_ref(value) {
         Ok(()) => placeholder(alloc, arguments),
@@ -203,8 +217,13 @@ fn placeholder(alloc: Global, arguments: &PgArguments) -> Result<String, AllocEr
 /// The frame that the value of null or bytes writes, in hex.
 fn read<T: Codec>(alloc: Global, part: Option<&[u8]>) -> Result<Told, AllocError>
     requires { T.reading T.info InBinary None ≡ None }
-    ensures answer { IfOk result (λ told. Reads (framed_by T.info T.written (T.reading T.info InBinary (option_copied part.entry))) (option_copied part.entry) (told_text told)) }
-    ensures exact { IfOk result (TellsOf (Some (row T.info T.reading T.written)) (to_read (option_copied part.entry))) }
+    ensures answer { (unwritten : T.Meaning → Option CodecError) →
+        Explains T.unwritable T.meaning unwritten → IfOk result (λ told.
+        ReadsPart (row T.info T.reading T.written T.refusal unwritten) (option_copied part.entry)
+        (told_text told)) }
+    ensures exact { IfOk result (λ told.
+        TellsOf (Some (row T.info T.reading T.written T.refusal unstated))
+        (to_read (option_copied part.entry)) told) }
 {
     match T::decode(
         alloc,
@@ -217,8 +236,11 @@ fn read<T: Codec>(alloc: Global, part: Option<&[u8]>) -> Result<Told, AllocError
 
 /// The frame that a value writes, in hex, or why it is refused.
 fn frame_text<T: Encode + Type>(alloc: Global, value: &T) -> Result<Told, AllocError>
-    ensures answer { IfOk result (λ told. MatchOption (framed_as (said T.hint T.image T.produced T.info value.now)) (IsRefusal (told_text told)) (λ f. told_text told ≡ encode_lower (shown (blank f.1)))) }
-    ensures exact { IfOk result (λ told. is_said told ≡ is_some (framed_as (said T.hint T.image T.produced T.info value.now))) }
+    ensures answer { IfOk result (λ told.
+        Shows (framed_as (said T.hint T.image T.produced T.info value.now))
+        (frame_refused (T.hint value.now) (T.image value.now) (T.unwritable value.now)) (told_text told)) }
+    ensures exact { IfOk result (λ told.
+        is_said told ≡ is_some (framed_as (said T.hint T.image T.produced T.info value.now))) }
 {
     let mut buffer = PgArgumentBuffer::new(alloc);
     match buffer.encode(value) {

@@ -2,4 +2,6 @@ use Rattle.pgv_session.proofs.Refusals.{not_added}
 use Rattle.pgv_session.proofs.value.add_value.Goals as goal
 
 pub returns-in-Err : goal.returns-in-Err
-returns-in-Err g c = not_added _ _ c.in-Err.error c.args.arguments.now _ c.refusal.result c.in-Err.ensures.err c.in-Err.ensures.unchanged c.refusal.ensures.refused c.refusal.ensures.told
+returns-in-Err g c =
+    not_added _ _ _ c.in-Err.error c.args.arguments.now _ c.refusal.result c.in-Err.ensures.err c.in-Err.ensures.refused c.in-Err.ensures.unchanged
+    c.refusal.ensures.refused c.refusal.ensures.told c.refusal.ensures.number
