@@ -8,7 +8,7 @@ use Rattle.std.specs.declared.ops.Bound.TheVariants.{Included, Excluded, Unbound
 use Rattle.pgv_types.specs.Ty.{Ty}
 use Rattle.pgv_value.specs.declared.error.CodecError.{CodecError}
 use Rattle.pgv_codec.specs.Image.{Image, frame, option_hint, option_image, option_produced}
-use Rattle.pgv_codec.specs.Refusing.{array_refused, first_refused, frame_refused, frames_refused, option_unwritable}
+use Rattle.pgv_codec.specs.Refusing.{array_refused, frame_refused, frames_refused, option_unwritable}
 use Rattle.pgv_codec.specs.Saying.{Saying, said, option_written}
 use Rattle.pgv_range.specs.RangeImage.{bound_frame}
 use Rattle.pgv_range.specs.RangeOf.{range_meaning}

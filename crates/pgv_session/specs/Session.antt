@@ -4,7 +4,8 @@
 -- last may lack (`AreLines`); `lines_of` computes them (law: `input_is_its_lines`).
 -- A stream of COPY is answered by its rows, ` / ` between two, and each by its fields, a space between two: null is `null`, and
 -- bytes are what `read` answers of them (`Copies`). Where there are no rows it is `none`. The first refusal is answered alone: of
--- the stream itself, or of the first field that is not read. A name that is not in the table is answered before a byte is read.
+-- the stream itself, or of the first field of a row that is not read or has no frame. A name that is not in the table is answered
+-- before a byte is read.
 -- Which number a refusal has is what the row of its TYPE says (`Types`): of what is not read, and of what is read and has no frame.
 use Rattle.std.specs.Prelude.{◌≡◌, ◌≢◌, ℕ, ◌≤◌, ◌==◌, Bool, true, false, codes, decimal, List, [], ◌∷◌, ◌++◌, map, length, Option, Some, None, IfSome, option_map, Ok, Err, zip, if◌then◌else◌}
 use Rattle.std.specs.List.{AllByRecursion}
@@ -42,7 +43,7 @@ refused n = codes "refused C" ++ decimal n
 abbrev pub IsRefusal : List ℕ → Type 0
 IsRefusal answer = (n : ℕ) × (2 ≤ n) × (n ≤ 38) × (answer ≡ refused n)
 
--- the same with the number of the refusal that is stated
+-- the same, and where a refusal is stated, n is its number
 abbrev pub RefusedAs : Option CodecError → List ℕ → Type 0
 RefusedAs why answer = IsRefusal answer × IfSome why (λ stated. answer ≡ refused (code_of stated))
 
@@ -112,7 +113,7 @@ abbrev pub fields_shown : List (Row × Given) → Option (List (List ℕ))
 fields_shown [] = Some []
 fields_shown (f ∷ fs) = with_first (field_shown f.0 f.1.bytes) (fields_shown fs)
 
--- and else which refusal the first has that is not read
+-- and else the refusal of the first that is not shown, where it is stated
 abbrev pub fields_refused : List (Row × Given) → Option CodecError
 fields_refused [] = None
 fields_refused (f ∷ fs) = refusal_or (f.0.refusal InBinary f.1.bytes) (field_shown f.0 f.1.bytes) (λ text. fields_refused fs)

@@ -71,11 +71,11 @@ row info reading written unread unwritten = record {
   refusal = λ f part. refused_by info written unwritten (unread info f part) (reading info f part);
 }
 
--- the same whatever the type is
+-- a refusal that does not depend on the type
 abbrev pub plain : (PgValueFormat → Option (List ℕ) → CodecError) → Refusal
 plain refusal t f part = Some (refusal f part)
 
--- nothing is stated, as each value that is read has an image
+-- nothing is stated: no value that is read under these TYPEs is known to have no image
 abbrev pub unstated : {M : Type 0} → M → Option CodecError
 unstated m = None
 

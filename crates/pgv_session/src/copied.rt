@@ -93,7 +93,7 @@ fn all_rows(alloc: Global, texts: &[String]) -> Result<String, AllocError>
     joined(alloc, texts, " / ")
 }
 
-/// The fields of a row, or the refusal of the first that is not read.
+/// The fields of a row, or the refusal of the first that is not read or has no frame.
 fn row_text(alloc: Global, names: &[&[u8]], row: &[PgValueRef<'_>]) -> Result<Told, AllocError>
     ensures { IfOk result (ShowsRow (rows_named (map (λ name. name.now) names.now)) row.now) }
 {
@@ -104,7 +104,7 @@ fn row_text(alloc: Global, names: &[&[u8]], row: &[PgValueRef<'_>]) -> Result<To
     }
 }
 
-/// Appends the texts of fields; or gives the refusal of the first that is not read.
+/// Appends the texts of fields; or gives the refusal of the first that is not read or has no frame.
 fn push_fields(
     alloc: Global,
     names: &[&[u8]],
