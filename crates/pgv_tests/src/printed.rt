@@ -12,7 +12,9 @@ use std::test::Fail;
 
 /// Widths, fills of two bytes and precisions, of one value.
 fn styled<T: Display>(alloc: Global, value: &T) -> Result<String, AllocError> {
-    format!(in alloc; "{value:é>200}|{value:é^101}|{value:é<64}|{value:9}|{value:.1}|{value:é>150.5}")
+    format!(in alloc;
+        "{value:é>200}|{value:é^101}|{value:é<64}|{value:9}|{value:.1}|{value:é>150.5}"
+    )
 }
 
 /// Whether a type is printed as its display name, which is a text, is printed by std.
@@ -37,7 +39,11 @@ fn types_are_padded(rt: HostRuntime) -> Result<(), Fail> {
 }
 
 /// What is printed of a value, if it is the same whatever is asked for.
-fn push_unpadded<T: Display>(alloc: Global, lines: &mut Lines, value: &T) -> Result<(), AllocError> {
+fn push_unpadded<T: Display>(
+    alloc: Global,
+    lines: &mut Lines,
+    value: &T,
+) -> Result<(), AllocError> {
     let plain = format!(in alloc; "{value}")?;
     let wanted = format!(in alloc; "{plain}|{plain}|{plain}|{plain}|{plain}|{plain}")?;
     if styled(alloc, value)?.as_str() == wanted.as_str() {

@@ -106,7 +106,9 @@ fn found(oid: &str) -> Option<PgTypeInfo> {
 /// Whether a type is the element of the built-in type of an OID; of 0 there is none, and it is no element here.
 fn is_element_of(info: &PgTypeInfo, array: &str) -> bool {
     match found(array) {
-        Some(array) => array.array_element().is_some_and(|it| it.as_ref().oid() == info.oid()),
+        Some(array) => array
+            .array_element()
+            .is_some_and(|it| it.as_ref().oid() == info.oid()),
         None => array == "0",
     }
 }
