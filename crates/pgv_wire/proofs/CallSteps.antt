@@ -1,12 +1,9 @@
 -- What a call's contract says is a step.
-use Rattle.std.proofs.Common.{◌≡◌, ◌≢◌, List, [], ◌∷◌, ◌++◌, Option, Some, None, Ok, Err, inl, inr, refl, sym, ◌∙◌, ap, append_assoc, append-nil}
+use Rattle.std.proofs.Common.{◌≡◌, List, [], ◌∷◌, ◌++◌, Option, Some, None, Ok, Err, inl, inr, refl, sym, ◌∙◌, ap, append_assoc, append-nil}
 use Rattle.pgv_types.specs.Ty.{Ty}
 use Rattle.pgv_buf.specs.Tokens.{Token, blank}
-use Rattle.pgv_value.specs.declared.error.CodecError.{CodecError}
-use Rattle.pgv_value.specs.declared.error.CodecError.TheVariants.{Memory}
-use Rattle.pgv_codec.specs.Outcome.{Refused}
 use Rattle.pgv_wire.specs.Arguments.{Argument, filled_arguments}
-use Rattle.pgv_wire.specs.Each.{Outcome, argument_by, added_by, accepted}
+use Rattle.pgv_wire.specs.Each.{argument_by, added_by, accepted}
 use Rattle.pgv_wire.specs.History.{Call, adds, fills, is_refused, after}
 use Rattle.pgv_wire.specs.MainSentence.{call_of, calls_of, AdditionIsAStep, RefusalIsAStep, EachOutcomeIsAStep, CallsAreJoined}
 
