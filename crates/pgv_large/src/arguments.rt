@@ -19,6 +19,18 @@ pub fn numbers(alloc: Global) -> Result<bool, CodecError> {
     )
 }
 
+/// The same numbers at once, and a copy of them.
+pub fn each(alloc: Global) -> Result<bool, CodecError> {
+    let mut numbers = Vec::new(alloc);
+    for number in 0..70_000 {
+        numbers.push(number)?;
+    }
+    let mut arguments = PgArguments::new(alloc);
+    let outcomes = arguments.add_each(alloc, numbers.as_slice())?;
+    let copy = arguments.clone()?;
+    Ok(outcomes.iter().all(|outcome| outcome.is_ok()) && copy.buffer().len() == 560_000)
+}
+
 /// An array without elements for each OID, 24 bytes of which the OID is four.
 pub fn holes(alloc: Global) -> Result<bool, CodecError> {
     let mut arguments = PgArguments::new(alloc);

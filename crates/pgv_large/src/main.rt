@@ -30,6 +30,7 @@ fn told(rt: &impl Print, what: &str, made: Result<bool, CodecError>) -> io::Resu
 fn flat(rt: &(impl AllocGlobal + Print)) -> io::Result<()> {
     let alloc = rt.alloc();
     told(rt, "70,000 arguments", arguments::numbers(alloc))?;
+    told(rt, "70,000 arguments at once", arguments::each(alloc))?;
     told(rt, "100,000 holes", arguments::holes(alloc))?;
     told(rt, "2,000,000 elements", lists::in_binary(alloc))?;
     told(rt, "2,000,000 elements in text", lists::in_text(alloc))?;
@@ -44,6 +45,7 @@ fn flat(rt: &(impl AllocGlobal + Print)) -> io::Result<()> {
 fn nested(rt: &(impl AllocGlobal + Print)) -> io::Result<()> {
     let alloc = rt.alloc();
     told(rt, "a composite of 1,700 fields", rows::composite(alloc))?;
+    told(rt, "a record text of 1,700 fields", rows::in_text(alloc))?;
     told(rt, "a COPY row of 1,700 fields", rows::copied(alloc))?;
     told(rt, "32,767 digits", trees::digits(alloc))?;
     told(rt, "a tree of 65,535 labels", trees::tree(alloc))?;
@@ -51,7 +53,7 @@ fn nested(rt: &(impl AllocGlobal + Print)) -> io::Result<()> {
     told(rt, "a map of 100,000 pairs", trees::map(alloc))?;
     told(rt, "100,000 labels, pushed", pushes::labels(alloc))?;
     told(rt, "100,000 levels, pushed", pushes::levels(alloc))?;
-    told(rt, "100,000 bits, pushed", pushes::bits(alloc))
+    told(rt, "1,200,000 bits, pushed", pushes::bits(alloc))
 }
 
 fn main(rt: HostRuntime) -> ExitCode {

@@ -25,8 +25,8 @@ pub fn levels(alloc: Global) -> Result<bool, CodecError> {
 /// Bits.
 pub fn bits(alloc: Global) -> Result<bool, CodecError> {
     let mut bits = BitVec::new(alloc);
-    for number in 0..100_000 {
+    for number in 0..1_200_000 {
         bits.push(number % 3 == 0)?;
     }
-    Ok(bits.len() == 100_000 && bits.get(99_999) == Some(true))
+    Ok(bits.len() == 1_200_000 && bits.get(1_199_997) == Some(true))
 }

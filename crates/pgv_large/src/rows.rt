@@ -48,6 +48,27 @@ pub fn composite(alloc: Global) -> Result<bool, CodecError> {
     Ok(true)
 }
 
+/// A record text whose first field is quoted, and so is copied.
+pub fn in_text(alloc: Global) -> Result<bool, CodecError> {
+    let mut text = String::from_str(alloc, "(\"7\"\"\"")?;
+    for _ in 1..FIELDS {
+        text.push_str(",7")?;
+    }
+    text.push(')')?;
+    let record = PgTypeInfo(PgType::Record);
+    let value = PgValueRef::new(Some(text.as_bytes()), record, PgValueFormat::Text);
+    let mut fields = PgRecordDecoder::new(alloc, value)?;
+    if fields.try_decode::<String>()?.as_str() != "7\"" {
+        return Ok(false);
+    }
+    for _ in 1..FIELDS {
+        if fields.try_decode::<i32>()? != 7 {
+            return Ok(false);
+        }
+    }
+    Ok(true)
+}
+
 /// A stream of COPY with one row of the number 7.
 fn stream(alloc: Global) -> Result<Vec<u8>, CodecError> {
     let mut bytes = Vec::new(alloc);
