@@ -103,13 +103,14 @@ fn found(oid: &str) -> Option<PgTypeInfo> {
     PgTypeInfo::try_from_oid(Oid(oid.parse::<u32>().ok()?))
 }
 
-/// Whether a type is the element of the built-in type of an OID; of 0 there is none, and it is no element here.
+/// Whether a type is the element of the built-in type of an OID; 0 is that of no type.
 fn is_element_of(info: &PgTypeInfo, array: &str) -> bool {
-    match found(array) {
-        Some(array) => array
-            .array_element()
-            .is_some_and(|it| it.as_ref().oid() == info.oid()),
-        None => array == "0",
+    let Some(array) = found(array) else {
+        return array == "0";
+    };
+    match array.array_element() {
+        Some(element) => element.as_ref().oid() == info.oid(),
+        None => false,
     }
 }
 
