@@ -91,11 +91,11 @@ pub fn copied(alloc: Global) -> Result<bool, CodecError> {
     let Some(row) = reader.next_row()? else {
         return Ok(false);
     };
-    let mut count = 0;
+    let len = row.len();
     for value in row {
-        if i32::decode(alloc, value)? == 7 {
-            count += 1;
+        if i32::decode(alloc, value)? != 7 {
+            return Ok(false);
         }
     }
-    Ok(count == FIELDS && reader.next_row()?.is_none())
+    Ok(len == 1_700 && reader.next_row()?.is_none())
 }
