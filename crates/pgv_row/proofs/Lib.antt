@@ -1,0 +1,8 @@
+mod Cut
+mod PartLoop
+mod ColumnLoop
+mod Formats
+mod Steps
+mod DataRows
+mod Descriptions
+mod DescriptionsRead

@@ -1,0 +1,14 @@
+//! Rows of a statement's result, as a server sends them: the columns that a RowDescription tells of, and the values of each DataRow.
+#![tactic(auto)]
+
+pub mod catalog;
+pub mod column;
+pub mod example;
+mod front;
+pub mod laws;
+mod place;
+pub mod row;
+
+pub use catalog::PgCatalog;
+pub use column::{PgColumn, PgColumns};
+pub use row::{PgPlaces, PgRow};
