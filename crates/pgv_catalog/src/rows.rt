@@ -1,8 +1,10 @@
 //! Rows of the catalogue.
 
-use pgv_row::PgRow;
+ghost use Rattle.std.specs.Prelude.{◌≡◌, ℕ, ℤ, Bool, List, Ok, IfOk, IfErr, string_bytes};
+ghost use Rattle.pgv_catalog.specs.Classes.{class_of, ReadsField, ReadsLabel, ReadsType};
+
+use pgv_row::{ColumnError, FromRow, PgRow};
 use pgv_types::Oid;
-use pgv_value::CodecError;
 use std::alloc::Global;
 
 /// What kind of type a row of `pg_type` has (PostgreSQL, "pg_type", columns `typtype` and `typcategory`).
@@ -25,8 +27,11 @@ pub enum PgTypeClass {
 }
 
 impl PgTypeClass {
-    /// The class of a letter of `typtype`, or `a` for an array.
-    pub fn from_letter(letter: i8) -> PgTypeClass {
+    /// The class of a letter of `typtype`, or `a` (97) for an array: `c` (99) is a composite type, `d` (100) a domain, `e` (101) an enumeration, `p` (112)
+    /// a pseudo-type, `r` (114) a range, and any other a type without parts.
+    pub fn from_letter(letter: i8) -> PgTypeClass
+        ensures { result ≡ class_of letter }
+    {
         match letter {
             97 => PgTypeClass::Array,
             99 => PgTypeClass::Composite,
@@ -58,14 +63,19 @@ pub struct PgTypeRow {
 
 impl PgTypeRow {
     /// The type in a row of [`TYPES`](crate::TYPES).
-    pub fn read(alloc: Global, row: &PgRow<'_>) -> Result<PgTypeRow, CodecError> {
+    pub fn read(alloc: Global, row: &PgRow<'_>) -> Result<PgTypeRow, ColumnError<usize>>
+        ensures read { IfOk result (ReadsType (⟦<(Oid, String, String, bool, i8, Oid) as FromRow>⟧.parse row.now)) }
+        ensures refused { IfErr result (⟦<(Oid, String, String, bool, i8, Oid) as FromRow>⟧.refused row.now) }
+    {
+        let (oid, schema, name, is_visible, letter, part) =
+            row.as_tuple::<(Oid, String, String, bool, i8, Oid)>(alloc)?;
         Ok(PgTypeRow {
-            oid: row.try_get(alloc, 0)?,
-            schema: row.try_get(alloc, 1)?,
-            name: row.try_get(alloc, 2)?,
-            is_visible: row.try_get(alloc, 3)?,
-            class: PgTypeClass::from_letter(row.try_get(alloc, 4)?),
-            part: row.try_get(alloc, 5)?,
+            oid,
+            schema,
+            name,
+            is_visible,
+            class: PgTypeClass::from_letter(letter),
+            part,
         })
     }
 }
@@ -83,11 +93,15 @@ pub struct PgFieldRow {
 
 impl PgFieldRow {
     /// The field in a row of [`FIELDS`](crate::FIELDS).
-    pub fn read(alloc: Global, row: &PgRow<'_>) -> Result<PgFieldRow, CodecError> {
+    pub fn read(alloc: Global, row: &PgRow<'_>) -> Result<PgFieldRow, ColumnError<usize>>
+        ensures read { IfOk result (ReadsField (⟦<(Oid, String, Oid) as FromRow>⟧.parse row.now)) }
+        ensures refused { IfErr result (⟦<(Oid, String, Oid) as FromRow>⟧.refused row.now) }
+    {
+        let (of, name, field_type) = row.as_tuple::<(Oid, String, Oid)>(alloc)?;
         Ok(PgFieldRow {
-            of: row.try_get(alloc, 0)?,
-            name: row.try_get(alloc, 1)?,
-            field_type: row.try_get(alloc, 2)?,
+            of,
+            name,
+            field_type,
         })
     }
 }
@@ -103,11 +117,12 @@ pub struct PgLabelRow {
 
 impl PgLabelRow {
     /// The label in a row of [`LABELS`](crate::LABELS).
-    pub fn read(alloc: Global, row: &PgRow<'_>) -> Result<PgLabelRow, CodecError> {
-        Ok(PgLabelRow {
-            of: row.try_get(alloc, 0)?,
-            label: row.try_get(alloc, 1)?,
-        })
+    pub fn read(alloc: Global, row: &PgRow<'_>) -> Result<PgLabelRow, ColumnError<usize>>
+        ensures read { IfOk result (ReadsLabel (⟦<(Oid, String) as FromRow>⟧.parse row.now)) }
+        ensures refused { IfErr result (⟦<(Oid, String) as FromRow>⟧.refused row.now) }
+    {
+        let (of, label) = row.as_tuple::<(Oid, String)>(alloc)?;
+        Ok(PgLabelRow { of, label })
     }
 }
 

@@ -129,7 +129,7 @@ impl PgServerTypes {
 
 /// The first type that has the OID.
 impl PgCatalog for PgServerTypes {
-    ghost told = { λ types oid. with_oid oid types };
+    ghost known = { λ types oid. with_oid oid types };
 
     fn type_of(&self, oid: Oid) -> Option<&PgTypeInfo> {
         for entry in self.list.as_slice() {
