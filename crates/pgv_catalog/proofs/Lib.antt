@@ -1,0 +1,3 @@
+mod Holes
+mod Found
+mod Passed

@@ -1,0 +1,4 @@
+pub mod Classes
+pub mod Entries
+pub mod Filling
+pub mod Rows

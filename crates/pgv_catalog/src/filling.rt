@@ -1,0 +1,57 @@
+//! OIDs of a catalogue, put into the holes of arguments.
+
+ghost use Rattle.std.specs.Prelude.{◌≡◌, ◌≢◌, ◌<◌, List, length, map, Some, None, IfOk, IfErr, OnOk, OnErr};
+ghost use Rattle.pgv_types.specs.declared.oid.Oid.{Oid as OidValue};
+ghost use Rattle.pgv_buf.specs.Tokens.{hole_types_of, shown};
+ghost use Rattle.pgv_wire.specs.Arguments.{all_tokens, early, framed};
+ghost use Rattle.pgv_catalog.specs.Filling.{AreNamed, FillRefused, OidsRefused};
+
+use crate::error::CatalogError;
+use crate::names::PgNames;
+use pgv_types::{Oid, PgTypeInfo};
+use pgv_value::CodecError;
+use pgv_wire::PgArguments;
+use std::alloc::Global;
+
+/// Puts into each hole of arguments the OID that the catalogue has for its type, and fills each slot by the parameter types that the server named, one for each argument.
+///
+/// C10 where there are not as many types as arguments, and [`CatalogError::Unknown`] where a hole's type is not in the catalogue; then nothing was changed.
+pub fn fill<N: PgNames>(
+    alloc: Global,
+    arguments: &mut PgArguments,
+    parameters: &[PgTypeInfo],
+    catalog: &N,
+) -> Result<(), CatalogError>
+    // The bytes are the frames written early with these types, and with the OIDs that the catalogue has for the types of the holes.
+    ensures written { OnOk result ((oids : List OidValue) × AreNamed (N.named catalog.now) (hole_types_of (all_tokens arguments.old)) oids × (shown (all_tokens arguments.new) ≡ early (framed arguments.old) parameters.now oids)) }
+    ensures refused { IfErr result (FillRefused (N.named catalog.now) (hole_types_of (all_tokens arguments.old)) (length parameters.now) (length arguments.old)) }
+    ensures unchanged { OnErr result (arguments.new ≡ arguments.old) }
+{
+    if parameters.len() != arguments.len() {
+        return Err(CatalogError::Codec(CodecError::ParameterCount));
+    }
+    let oids = oids_of(alloc, arguments.hole_types(), catalog)?;
+    arguments.apply_patches(parameters, oids.as_slice())?;
+    Ok(())
+}
+
+/// The OID of each type, in order.
+fn oids_of<N: PgNames>(
+    alloc: Global,
+    holes: &[PgTypeInfo],
+    catalog: &N,
+) -> Result<Vec<Oid>, CatalogError>
+    ensures found { IfOk result (λ oids. AreNamed (N.named catalog.now) holes.now oids.items) }
+    ensures refused { IfErr result (OidsRefused (N.named catalog.now) holes.now) }
+{
+    let mut oids = Vec::new(alloc);
+    let mut place: usize = 0;
+    for hole in holes {
+        let Some(oid) = catalog.oid_for(hole) else {
+            return Err(CatalogError::Unknown(place));
+        };
+        oids.push(oid)?;
+        place += 1;
+    }
+    Ok(oids)
+}

@@ -1,0 +1,13 @@
+pub mod Parsed
+pub mod Outcome
+pub mod Fronts
+pub mod Several
+pub mod DataRow
+pub mod Places
+pub mod ColumnView
+pub mod Catalog
+pub mod Errors
+pub mod Description
+pub mod RowView
+pub mod Values
+pub mod Tuples

@@ -1,0 +1,266 @@
+//! The columns of a statement's result, as a RowDescription tells of them.
+
+ghost use Rattle.std.specs.Prelude.{◌≡◌, ◌==◌, true, List, length, map, IfOk, MatchResult};
+ghost use Rattle.std.specs.Option.{option_copied};
+ghost use Rattle.pgv_value.specs.declared.error.CodecError.TheVariants.{Memory};
+ghost use Rattle.pgv_row.specs.ColumnView.{Column};
+ghost use Rattle.pgv_row.specs.Description.{format_of as format_by, column_front, description, in_format, IsDescription};
+ghost use Rattle.pgv_row.specs.Outcome.{Gives, after};
+ghost use Rattle.pgv_row.specs.Parsed.{GivesExactly};
+ghost use Rattle.pgv_row.specs.RowView.{column_at};
+ghost use Rattle.pgv_row.specs.Several.{several};
+
+use crate::catalog::{PgCatalog, type_of_oid};
+use crate::front::{name_in_front, u16_in_front};
+use crate::index::ColumnIndex;
+use pgv_types::{Oid, PgTypeInfo};
+use pgv_value::{CodecError, PgValueFormat, i16_in_front, u32_in_front};
+use std::alloc::Global;
+use std::marker::Model;
+
+/// A column of a statement's result. Its name is borrowed from the bytes of the description.
+#[derive(Drop)]
+pub struct PgColumn<'d> {
+    name: &'d str,
+    table: Oid,
+    attribute: i16,
+    type_oid: Oid,
+    size: i16,
+    modifier: i32,
+    format: PgValueFormat,
+    type_info: PgTypeInfo,
+}
+
+impl<'d> Model for PgColumn<'d> {
+    ghost use Rattle.pgv_row.specs.ColumnView.{Column, column_code};
+
+    ghost Value = { Column };
+
+    ghost coded = { column_code };
+
+    ghost view = { λ c. record { name = c.name.now; table = c.table.0; attribute = c.attribute; type_oid = c.type_oid.0; size = c.size; modifier = c.modifier; format = c.format; type_info = c.type_info } };
+}
+
+impl<'d> PgColumn<'d> {
+    /// The name.
+    pub fn name(&self) -> &'d str
+        ensures { result.now ≡ self.now.name }
+    {
+        self.name
+    }
+
+    /// The OID of the table that the column is of, or 0 where it is of none.
+    pub fn table(&self) -> Oid
+        ensures { result.0 ≡ self.now.table }
+    {
+        self.table
+    }
+
+    /// The number of the column in its table, or 0.
+    pub fn attribute(&self) -> i16
+        ensures { result ≡ self.now.attribute }
+    {
+        self.attribute
+    }
+
+    /// The OID of the type.
+    pub fn type_oid(&self) -> Oid
+        ensures { result.0 ≡ self.now.type_oid }
+    {
+        self.type_oid
+    }
+
+    /// The type.
+    pub fn type_info(&self) -> &PgTypeInfo
+        ensures { result.now ≡ self.now.type_info }
+    {
+        &self.type_info
+    }
+
+    /// The size of the type's values in bytes, where it is positive.
+    pub fn size(&self) -> i16
+        ensures { result ≡ self.now.size }
+    {
+        self.size
+    }
+
+    /// The modifier of the type, or -1.
+    pub fn modifier(&self) -> i32
+        ensures { result ≡ self.now.modifier }
+    {
+        self.modifier
+    }
+
+    /// The format of the values.
+    pub fn format(&self) -> PgValueFormat
+        ensures { result ≡ self.now.format }
+    {
+        self.format
+    }
+
+    /// Says in which format the values are.
+    fn set_format(&mut self, format: PgValueFormat)
+        ensures { self.new ≡ in_format format self.old }
+    {
+        self.format = format;
+    }
+}
+
+/// The format of a code: 0 is text and 1 binary. Any other is refused with C30.
+fn format_of(code: u16) -> Result<PgValueFormat, CodecError>
+    ensures { GivesExactly (λ format. format) (format_by code) result }
+{
+    match code {
+        0 => Ok(PgValueFormat::Text),
+        1 => Ok(PgValueFormat::Binary),
+        _ => Err(CodecError::OutOfRange),
+    }
+}
+
+/// The column in front, and the rest.
+#[tactic(auto, unfolding(crate::specs::Description::column_front))]
+fn column_in_front<'d, C: PgCatalog>(
+    bytes: &'d [u8],
+    catalog: &C,
+) -> Result<(PgColumn<'d>, &'d [u8]), CodecError>
+    ensures { Gives (λ x. (x.0, x.1.now)) (column_front (C.known catalog.now) bytes.now) result }
+{
+    let (name, rest) = name_in_front(bytes)?;
+    let (table, rest) = u32_in_front(rest)?;
+    let (attribute, rest) = i16_in_front(rest)?;
+    let (oid, rest) = u32_in_front(rest)?;
+    let (size, rest) = i16_in_front(rest)?;
+    let (modifier, rest) = u32_in_front(rest)?;
+    let (code, rest) = u16_in_front(rest)?;
+    let format = format_of(code)?;
+    let type_oid = Oid(oid);
+    let column = PgColumn {
+        name,
+        table: Oid(table),
+        attribute,
+        type_oid,
+        size,
+        modifier: modifier.cast_signed(),
+        format,
+        type_info: type_of_oid(catalog, type_oid)?,
+    };
+    Ok((column, rest))
+}
+
+/// As many columns, and the rest.
+fn columns_in_front<'d, C: PgCatalog>(
+    alloc: Global,
+    bytes: &'d [u8],
+    count: u16,
+    catalog: &C,
+) -> Result<(Vec<PgColumn<'d>>, &'d [u8]), CodecError>
+    ensures { Gives (λ x. (x.0.items, x.1.now)) (after true (several (column_front (C.known catalog.now)) count bytes.now)) result }
+{
+    let mut columns = Vec::new(alloc);
+    let mut rest = bytes;
+    for _ in 0..count {
+        let (column, after) = column_in_front(rest, catalog)?;
+        columns.push(column)?;
+        rest = after;
+    }
+    Ok((columns, rest))
+}
+
+/// The columns of the body of a RowDescription.
+#[tactic(auto, unfolding(crate::specs::Description::description))]
+fn described<'d, C: PgCatalog>(
+    alloc: Global,
+    body: &'d [u8],
+    catalog: &C,
+) -> Result<Vec<PgColumn<'d>>, CodecError>
+    ensures { Gives (λ list. list.items) (description (C.known catalog.now) body.now) result }
+{
+    let (count, rest) = u16_in_front(body)?;
+    let (list, rest) = columns_in_front(alloc, rest, count, catalog)?;
+    if !rest.is_empty() {
+        return Err(CodecError::WrongLength(body.len()));
+    }
+    Ok(list)
+}
+
+/// The columns of a statement's result, in order. Their names are borrowed from the description that they were read from.
+#[derive(Drop)]
+pub struct PgColumns<'d> {
+    list: Vec<PgColumn<'d>>,
+}
+
+impl<'d> Model for PgColumns<'d> {
+    ghost use Rattle.std.specs.Prelude.{List};
+    ghost use Rattle.std.specs.Coded.{coded_list};
+    ghost use Rattle.pgv_row.specs.ColumnView.{Column, column_code};
+
+    ghost Value = { List Column };
+
+    ghost coded = { coded_list column_code };
+
+    ghost view = { λ c. c.list.items };
+}
+
+impl<'d> PgColumns<'d> {
+    /// The columns that the body of a RowDescription tells of. A type that isn't built in is looked up in the catalogue.
+    ///
+    /// Bytes that end too early are refused with C15, a name that isn't UTF-8 with C14, another format than 0 and 1 with C30, and bytes
+    /// after the last column with C17.
+    pub fn read<C: PgCatalog>(
+        alloc: Global,
+        body: &'d [u8],
+        catalog: &C,
+    ) -> Result<Self, CodecError>
+        ensures read { Gives (λ columns. columns) (description (C.known catalog.now) body.now) result }
+        // What is answered is what the body describes, and nothing but memory keeps a description from being answered.
+        ensures exact { IfOk result (λ columns. IsDescription (C.known catalog.now) body.now columns) }
+        ensures only { (columns : List Column) → IsDescription (C.known catalog.now) body.now columns → MatchResult result (λ found. found ≡ columns) (λ e. e ≡ Memory) }
+    {
+        let list = described(alloc, body, catalog)?;
+        Ok(PgColumns { list })
+    }
+
+    /// How many columns there are.
+    pub fn len(&self) -> usize
+        ensures { result ≡ length self.now }
+    {
+        self.list.len()
+    }
+
+    /// Whether there is no column.
+    pub fn is_empty(&self) -> bool
+        ensures { result ≡ (length self.now == 0) }
+    {
+        self.list.is_empty()
+    }
+
+    /// All columns, in order.
+    pub fn as_slice(&self) -> &[PgColumn<'d>]
+        ensures { result.now ≡ self.now }
+    {
+        self.list.as_slice()
+    }
+
+    /// The column at a place or of a name; `None` where there is none.
+    pub fn get<I: ColumnIndex>(&self, index: I) -> Option<&PgColumn<'d>>
+        ensures { option_copied result ≡ column_at self.now (I.place index self.now) }
+    {
+        self.list.get(self.find(index)?)
+    }
+
+    /// The place of the column that is meant by an index: the first one that has a name.
+    pub fn find<I: ColumnIndex>(&self, index: I) -> Option<usize>
+        ensures { result ≡ I.place index self.now }
+    {
+        index.index(self.list.as_slice())
+    }
+
+    /// Says in which format all values are: that which was asked for in Bind. A description that comes before Bind says text.
+    pub fn set_format(&mut self, format: PgValueFormat)
+        ensures { self.new ≡ map (in_format format) self.old }
+    {
+        for column in self.list.iter_mut() {
+            column.set_format(format);
+        }
+    }
+}

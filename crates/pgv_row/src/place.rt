@@ -1,0 +1,116 @@
+//! Where the parts of a row stand in its bytes.
+
+ghost use Rattle.std.specs.Prelude.{◌≡◌, ◌≢◌, ◌+◌, ◌<◌, ◌≤◌, List, [], length, drop, IfOk, IfErr, OnOk, MatchResult, vec_capacity};
+ghost use Rattle.pgv_value.specs.FrameBinary.{Part};
+ghost use Rattle.pgv_value.specs.declared.error.CodecError.TheVariants.{Memory};
+ghost use Rattle.pgv_row.specs.DataRow.{data_row, IsDataRow};
+ghost use Rattle.pgv_row.specs.Fronts.{frames_front, one_part, part_front};
+ghost use Rattle.pgv_row.specs.Outcome.{Gives};
+ghost use Rattle.pgv_row.specs.Parsed.{GivesExactly};
+ghost use Rattle.pgv_row.specs.Places.{part_at, parts_at, IsWithin, AreWithin};
+ghost use Rattle.pgv_row.specs.Several.{several};
+
+use pgv_value::{CodecError, part_in_front};
+
+/// Where a part stands in the bytes of a row.
+#[derive(Clone, Copy)]
+pub struct Place {
+    /// Its first byte.
+    pub start: usize,
+    /// The byte after its last one.
+    pub end: usize,
+}
+
+/// That the number of columns in front is this one: C15 where no number is there, and C12 where it is another. The frames come after
+/// its two bytes.
+#[inline(always)]
+#[tactic(auto, unfolding(crate::specs::Fronts::frames_front, crate::specs::Fronts::u16_front))]
+fn check_count(bytes: &[u8], width: usize) -> Result<(), CodecError>
+    ensures exact { GivesExactly (λ _. drop 2 bytes.now) (frames_front width bytes.now) result }
+    ensures long { OnOk result (2 ≤ length bytes.now) }
+{
+    if bytes.len() < 2 {
+        return Err(CodecError::Short);
+    }
+    let (front, _frames) = bytes.split_at(2);
+    if u16::from_be_bytes([front[0], front[1]]) as usize != width {
+        return Err(CodecError::FieldCount);
+    }
+    Ok(())
+}
+
+/// Where the part of the frame at `at` stands, and where the next frame begins.
+#[inline(always)]
+fn place_at(bytes: &[u8], at: usize) -> Result<(Option<Place>, usize), CodecError>
+    requires { at ≤ length bytes.now }
+    ensures exact { GivesExactly (λ p. (part_at bytes.now p.0, drop p.1 bytes.now)) (part_front (drop at bytes.now)) result }
+    ensures within { IfOk result (λ p. IsWithin bytes.now p.0) }
+    ensures next { IfOk result (λ p. p.1 ≤ length bytes.now) }
+{
+    let (_read, left) = bytes.split_at(at);
+    let (part, rest) = part_in_front(left)?;
+    let end = bytes.len() - rest.len();
+    match part {
+        None => Ok((None, end)),
+        Some(part) => {
+            let start = end - part.len();
+            Ok((Some(Place { start, end }), end))
+        }
+    }
+}
+
+/// Notes where the parts of as many frames stand, of which the first begins at `at`, and answers where the last one ends.
+fn note_places(
+    places: &mut Vec<Option<Place>>,
+    bytes: &[u8],
+    at: usize,
+    width: usize,
+) -> Result<usize, CodecError>
+    requires empty { places.old.items ≡ [] }
+    requires room { width ≤ vec_capacity places.old }
+    requires within { at ≤ length bytes.now }
+    ensures exact { Gives (λ end. (parts_at bytes.now places.new.items, drop end bytes.now)) (several one_part width (drop at bytes.now)) result }
+    ensures places { OnOk result (AreWithin bytes.now places.new.items) }
+    ensures end { IfOk result (λ end. end ≤ length bytes.now) }
+{
+    let mut next = at;
+    for _ in 0..width {
+        let (place, end) = place_at(bytes, next)?;
+        places.push(place)?;
+        next = end;
+    }
+    Ok(next)
+}
+
+/// Notes where the parts of a row stand that is the body of a DataRow, in place of what was noted before.
+#[inline(always)]
+#[tactic(auto, unfolding(crate::specs::DataRow::data_row))]
+fn note_row(places: &mut Vec<Option<Place>>, bytes: &[u8], width: usize) -> Result<(), CodecError>
+    ensures exact { Gives (λ _. parts_at bytes.now places.new.items) (data_row (vec_capacity places.old) width bytes.now) result }
+    ensures places { OnOk result (AreWithin bytes.now places.new.items) }
+{
+    places.clear();
+    check_count(bytes, width)?;
+    places.reserve(width)?;
+    let end = note_places(places, bytes, 2, width)?;
+    if end != bytes.len() {
+        return Err(CodecError::WrongLength(bytes.len()));
+    }
+    Ok(())
+}
+
+/// Notes where the parts of a row stand that is the body of a DataRow, in place of what was noted before.
+#[inline(always)]
+pub fn find_places(
+    places: &mut Vec<Option<Place>>,
+    bytes: &[u8],
+    width: usize,
+) -> Result<(), CodecError>
+    ensures read { Gives (λ _. parts_at bytes.now places.new.items) (data_row (vec_capacity places.old) width bytes.now) result }
+    ensures exact { OnOk result (IsDataRow width bytes.now (parts_at bytes.now places.new.items)) }
+    ensures only { (parts : List Part) → IsDataRow width bytes.now parts → MatchResult result (λ _. parts_at bytes.now places.new.items ≡ parts) (λ e. (e ≡ Memory) × (vec_capacity places.old < width)) }
+    ensures memory { width ≤ vec_capacity places.old → IfErr result (λ e. e ≢ Memory) }
+    ensures places { OnOk result (AreWithin bytes.now places.new.items) }
+{
+    note_row(places, bytes, width)
+}

@@ -1,0 +1,279 @@
+//! Rows: the values of the columns, one DataRow after another.
+
+ghost use Rattle.std.specs.Prelude.{◌≡◌, ◌≢◌, ◌<◌, ◌≤◌, List, length, IfOk, IfErr, MatchResult, option_map, slice_get};
+ghost use Rattle.std.specs.Option.{option_copied};
+ghost use Rattle.pgv_value.specs.FrameBinary.{Part};
+ghost use Rattle.pgv_value.specs.declared.error.CodecError.TheVariants.{Memory};
+ghost use Rattle.pgv_row.specs.DataRow.{data_row, IsDataRow};
+ghost use Rattle.pgv_row.specs.Errors.{GivesAt};
+ghost use Rattle.pgv_row.specs.declared.error.ColumnError.TheVariants.{NotFound};
+ghost use Rattle.pgv_row.specs.Outcome.{Gives};
+ghost use Rattle.pgv_row.specs.Places.{parts_at, AreWithin};
+ghost use Rattle.pgv_row.specs.RowView.{column_there};
+ghost use Rattle.pgv_row.specs.Tuples.{or_codec};
+ghost use Rattle.pgv_row.specs.Values.{column_value, parse_by, raw_value, unchecked_value};
+
+use crate::column::{PgColumn, PgColumns};
+use crate::error::ColumnError;
+use crate::index::ColumnIndex;
+use crate::place::{Place, find_places};
+use crate::tuple::FromRow;
+use pgv_codec::{Decode, Type};
+use pgv_value::{CodecError, PgValueRef};
+use std::alloc::{AllocError, Global};
+use std::marker::Model;
+
+/// Room for the places of a row's parts, which serves one row after another.
+#[derive(Drop)]
+pub struct PgPlaces {
+    list: Vec<Option<Place>>,
+}
+
+impl Model for PgPlaces {
+    ghost use Rattle.std.specs.Prelude.{ℕ, vec_capacity};
+    ghost use Rattle.std.specs.Coded.{coded_ℕ};
+
+    ghost Value = { ℕ };
+
+    ghost coded = { coded_ℕ };
+
+    ghost view = { λ p. vec_capacity p.list };
+}
+
+impl PgPlaces {
+    /// Room for no place. It takes no memory yet.
+    pub fn new(alloc: Global) -> PgPlaces
+        ensures { result ≡ 0 }
+    {
+        PgPlaces {
+            list: Vec::new(alloc),
+        }
+    }
+
+    /// Room for the places of rows of these columns, so that no row is refused for memory. C1 where that can't be had.
+    pub fn with_columns(alloc: Global, columns: &PgColumns<'_>) -> Result<PgPlaces, AllocError>
+        ensures { IfOk result (λ room. length columns.now ≤ room) }
+    {
+        let list = Vec::with_capacity(alloc, columns.len())?;
+        Ok(PgPlaces { list })
+    }
+}
+
+/// A row: for each column null or the bytes of its value, which are borrowed from the message.
+#[derive(Drop)]
+pub struct PgRow<'a> {
+    columns: &'a [PgColumn<'a>],
+    bytes: &'a [u8],
+    places: &'a [Option<Place>],
+}
+
+impl<'a> Model for PgRow<'a> {
+    ghost use Rattle.std.specs.Prelude.{◌≡◌, length};
+    ghost use Rattle.pgv_row.specs.Outcome.{Gives};
+    ghost use Rattle.pgv_row.specs.Places.{parts_at, AreWithin};
+    ghost use Rattle.pgv_row.specs.RowView.{Row, row_code};
+
+    ghost Value = { Row };
+
+    ghost coded = { row_code };
+
+    ghost view = { λ r. record { columns = r.columns.now; parts = parts_at r.bytes.now r.places.now } };
+
+    ghost invariant = { λ r. AreWithin r.bytes.now r.places.now };
+}
+
+/// The part at a place of a row.
+fn part_of<'a>(bytes: &'a [u8], places: &[Option<Place>], place: usize) -> Option<Option<&'a [u8]>>
+    requires { AreWithin bytes.now places.now }
+    ensures { option_map option_copied result ≡ slice_get (parts_at bytes.now places.now) place }
+{
+    match places.get(place)? {
+        None => Some(None),
+        Some(p) => Some(Some(&bytes[p.start..p.end])),
+    }
+}
+
+impl<'a> PgRow<'a> {
+    /// The row that is the body of a DataRow, under these columns. It lasts until the next one is read with the same room.
+    ///
+    /// Another number of columns is refused with C12, bytes that end too early with C15, a negative length but the -1 of null with C16,
+    /// and bytes after the last column with C17. C1 comes only where the room grows, and so of no row but the first of a statement.
+    #[inline(always)]
+    pub fn read(
+        columns: &'a PgColumns<'a>,
+        room: &'a mut PgPlaces,
+        body: &'a [u8],
+    ) -> Result<Self, CodecError>
+        ensures columns { IfOk result (λ row. row.columns ≡ columns.now) }
+        ensures read { Gives (λ row. row.parts) (data_row room.old (length columns.now) body.now) result }
+        // What is answered is the row that the body is, and nothing but memory keeps such a row from being answered.
+        ensures exact { IfOk result (λ row. IsDataRow (length columns.now) body.now row.parts) }
+        ensures only { (parts : List Part) → IsDataRow (length columns.now) body.now parts → MatchResult result (λ row. row.parts ≡ parts) (λ e. (e ≡ Memory) × (room.old < length columns.now)) }
+        ensures memory { length columns.now ≤ room.old → IfErr result (λ e. e ≢ Memory) }
+    {
+        let columns = columns.as_slice();
+        find_places(&mut room.list, body, columns.len())?;
+        let places = room.list.as_slice();
+        Ok(PgRow {
+            columns,
+            bytes: body,
+            places,
+        })
+    }
+
+    /// How many columns there are.
+    pub fn len(&self) -> usize
+        ensures { result ≡ length self.now.columns }
+    {
+        self.columns.len()
+    }
+
+    /// The columns.
+    pub fn columns(&self) -> &'a [PgColumn<'a>]
+        ensures { result.now ≡ self.now.columns }
+    {
+        self.columns
+    }
+
+    /// The column at a place or of a name.
+    pub fn try_column<I: ColumnIndex>(&self, index: I) -> Result<&'a PgColumn<'a>, ColumnError<I>>
+        ensures { GivesAt (λ column. column.now) index (I.place index self.now.columns) (I.missing index self.now.columns) (column_there self.now.columns) result }
+    {
+        let Some(place) = index.index(self.columns) else {
+            return Err(self.not_found(index));
+        };
+        match self.columns.get(place) {
+            Some(column) => Ok(column),
+            None => Err(ColumnError::Decode {
+                index,
+                place,
+                source: CodecError::NoField(place),
+            }),
+        }
+    }
+
+    /// The refusal of an index that no column is meant by.
+    fn not_found<I: ColumnIndex>(&self, index: I) -> ColumnError<I>
+        ensures { result ≡ NotFound index (I.missing index self.now.columns) }
+    {
+        ColumnError::NotFound {
+            index,
+            place: index.missing_place(self.columns),
+        }
+    }
+
+    /// The value of the column at a place, as it stands in the row.
+    #[tactic(auto, unfolding(crate::specs::Values::raw_value))]
+    fn raw_at(&self, place: usize) -> Result<PgValueRef<'a>, CodecError>
+        ensures { Gives (λ value. value) (raw_value self.now place) result }
+    {
+        let Some(column) = self.columns.get(place) else {
+            return Err(CodecError::NoField(place));
+        };
+        let Some(part) = part_of(self.bytes, self.places, place) else {
+            return Err(CodecError::NoField(place));
+        };
+        Ok(PgValueRef::new(part, column.type_info().clone()?, column.format()))
+    }
+
+    /// What `T` reads of the column at a place, whatever its type is.
+    #[tactic(auto, unfolding(crate::specs::Values::unchecked_value))]
+    fn unchecked_at<T: Decode>(&self, alloc: Global, place: usize) -> Result<T, CodecError>
+        ensures { Gives T.meaning (unchecked_value (parse_by T.reading T.refusal T.takes_memory) self.now place) result }
+    {
+        decode_value(alloc, self.raw_at(place)?)
+    }
+
+    /// What `T` reads of the column at a place under its type.
+    #[tactic(auto, unfolding(crate::specs::Values::column_value))]
+    pub(crate) fn value_at<T: Type + Decode>(
+        &self,
+        alloc: Global,
+        place: usize,
+    ) -> Result<T, CodecError>
+        ensures { Gives T.meaning (column_value T.accepts (parse_by T.reading T.refusal T.takes_memory) self.now place) result }
+    {
+        let value = self.raw_at(place)?;
+        if !value.is_null() && !T::compatible(value.type_info()) {
+            return Err(CodecError::MismatchedTypes);
+        }
+        decode_value(alloc, value)
+    }
+
+    /// The value of a column, as it stands in the row. C1 comes only of a custom type, which is copied.
+    pub fn try_get_raw<I: ColumnIndex>(&self, index: I) -> Result<PgValueRef<'a>, ColumnError<I>>
+        ensures { GivesAt (λ value. value) index (I.place index self.now.columns) (I.missing index self.now.columns) (raw_value self.now) result }
+    {
+        let Some(place) = index.index(self.columns) else {
+            return Err(self.not_found(index));
+        };
+        match self.raw_at(place) {
+            Ok(value) => Ok(value),
+            Err(source) => Err(ColumnError::Decode {
+                index,
+                place,
+                source,
+            }),
+        }
+    }
+
+    /// The value of a column: what `T` reads of it. Null is read or refused by `T` whatever the column's type is, where
+    /// [`pgv_codec::PgRecordDecoder`] asks for the type of null too. Any other value is refused with C27 where `T` isn't read under the
+    /// column's type, and else with what `T` refuses it with.
+    pub fn try_get<T: Type + Decode, I: ColumnIndex>(
+        &self,
+        alloc: Global,
+        index: I,
+    ) -> Result<T, ColumnError<I>>
+        ensures { GivesAt T.meaning index (I.place index self.now.columns) (I.missing index self.now.columns) (column_value T.accepts (parse_by T.reading T.refusal T.takes_memory) self.now) result }
+    {
+        let Some(place) = index.index(self.columns) else {
+            return Err(self.not_found(index));
+        };
+        match self.value_at(alloc, place) {
+            Ok(value) => Ok(value),
+            Err(source) => Err(ColumnError::Decode {
+                index,
+                place,
+                source,
+            }),
+        }
+    }
+
+    /// The value of a column: what `T` reads of it, whatever the column's type is.
+    pub fn try_get_unchecked<T: Decode, I: ColumnIndex>(
+        &self,
+        alloc: Global,
+        index: I,
+    ) -> Result<T, ColumnError<I>>
+        ensures { GivesAt T.meaning index (I.place index self.now.columns) (I.missing index self.now.columns) (unchecked_value (parse_by T.reading T.refusal T.takes_memory) self.now) result }
+    {
+        let Some(place) = index.index(self.columns) else {
+            return Err(self.not_found(index));
+        };
+        match self.unchecked_at(alloc, place) {
+            Ok(value) => Ok(value),
+            Err(source) => Err(ColumnError::Decode {
+                index,
+                place,
+                source,
+            }),
+        }
+    }
+
+    /// The columns in order as the fields of a tuple of one to nine, each read as [`PgRow::try_get`] reads it. Further columns are
+    /// ignored, as in sqlx. The first column that is refused refuses the tuple, and the error names its place.
+    pub fn as_tuple<T: FromRow>(&self, alloc: Global) -> Result<T, ColumnError<usize>>
+        ensures read { Gives T.meaning (T.parse self.now) (or_codec result) }
+        ensures first { IfErr result (T.refused self.now) }
+    {
+        T::from_row(alloc, self)
+    }
+}
+
+/// What `T` reads of a value.
+fn decode_value<T: Decode>(alloc: Global, value: PgValueRef<'_>) -> Result<T, CodecError>
+    ensures { Gives T.meaning (parse_by T.reading T.refusal T.takes_memory value.entry) result }
+{
+    T::decode(alloc, value)
+}
