@@ -4,6 +4,8 @@
 //! - At the top what a binder and a reader of rows need: [`PgArguments`], [`PgValueRef`], types and the traits.
 //! - [`types`]: the Rust types of values, beside those of std, `jiff` and `uuid`.
 //! - [`text`]: readers of whole texts.
+//! - [`row`], [`message`], [`catalog`]: rows of a statement's result, the messages around parameters and rows, and the types of a server that are not built
+//!   in: what a driver stands on.
 //! - [`laws`]: what is proved of all of it, each law the contract of a function that does nothing.
 #![tactic(auto)]
 
@@ -44,6 +46,30 @@ pub mod text {
     };
 }
 
+/// Rows of a statement's result, by the columns that a RowDescription has.
+pub mod row {
+    pub use pgv_row::{
+        ColumnError, ColumnIndex, ColumnList, FromRow, PgCatalog, PgColumn, PgColumns, PgPlaces, PgRow, type_of_oid,
+    };
+}
+
+/// Messages of PostgreSQL's protocol: those that a driver sends, those that it reads, and which may come next.
+pub mod message {
+    pub use pgv_message::{
+        MessageError, PgAuthentication, PgAwaited, PgBackendKey, PgExchange, PgField, PgMessage, PgNotice, PgNotification, PgRequest, PgSetting,
+        PgTag, PgTransactionStatus, Prepared, UnexpectedMessage, authentication_of, backend_key, changed_setting, command_tag, message_in_front,
+        notification_of, parameter_oids, transaction_status, write_bind, write_close, write_copy_data, write_copy_done, write_copy_fail,
+        write_describe, write_execute, write_flush, write_parse, write_query, write_startup, write_sync, write_terminate,
+    };
+}
+
+/// The types of a server that are not built in, made of rows of its catalogue.
+pub mod catalog {
+    pub use pgv_catalog::{
+        CatalogError, FIELDS, LABELS, PgCatalogRows, PgFieldRow, PgLabelRow, PgNames, PgServerTypes, PgTypeClass, PgTypeRow, TYPES, fill,
+    };
+}
+
 /// What is proved, by crate.
 pub mod laws {
     pub use pgv_codec::laws as codec;
@@ -52,10 +78,12 @@ pub mod laws {
     pub use pgv_laws::{dates, intervals, networks, rows, texts};
     pub use pgv_lquery::laws as lquery;
     pub use pgv_ltree::laws as ltree;
+    pub use pgv_message::laws as message;
     pub use pgv_more::laws as more;
     pub use pgv_nest::laws as nest;
     pub use pgv_numeric::laws as numeric;
     pub use pgv_range::laws as range;
+    pub use pgv_row::laws as row;
     pub use pgv_session::laws as session;
     pub use pgv_text::laws as text;
     pub use pgv_types::laws as types;

@@ -1,6 +1,6 @@
 //! Types made of the rows of a catalogue, parts before wholes.
 
-ghost use Rattle.std.specs.Prelude.{◌≡◌, ◌⊎◌, List, Some, None, IfOk, IfErr, IfSome, OnOk, map, string_bytes};
+ghost use Rattle.std.specs.Prelude.{◌≡◌, ◌⊎◌, List, [], Some, None, IfOk, IfErr, IfSome, OnOk, map, string_bytes};
 ghost use Rattle.std.specs.Rc.{rc_slice_items, rc_str_bytes};
 ghost use Rattle.std.specs.List.{AllByRecursion};
 ghost use Rattle.pgv_types.specs.Facts.{oid_of};
@@ -194,6 +194,15 @@ fn missing(rows: &[PgTypeRow], known: &PgServerTypes) -> Option<Oid>
 }
 
 impl PgServerTypes {
+    /// No types. It takes no memory yet.
+    pub fn new(alloc: Global) -> PgServerTypes
+        ensures { result ≡ [] }
+    {
+        PgServerTypes {
+            list: Vec::new(alloc),
+        }
+    }
+
     /// The types that the rows of a server's catalogue show: each has the OID, the name and the kind that its rows have, and its parts come before it.
     ///
     /// [`CatalogError::Cycle`] where a type is a part of itself. A part that is neither built in nor has a row is known by its OID alone.
@@ -202,9 +211,7 @@ impl PgServerTypes {
         ensures all { IfOk result (λ types. AreAllKnown rows.now.types.items types) }
         ensures refused { IfErr result (λ e. (e ≡ Memory) ⊎ ((oid : OidValue) × (e ≡ Cycle oid))) }
     {
-        let mut known = PgServerTypes {
-            list: Vec::new(alloc),
-        };
+        let mut known = PgServerTypes::new(alloc);
         for _ in 0..rows.types.len() {
             let before = known.len();
             add_ready(alloc, rows, &mut known)?;
