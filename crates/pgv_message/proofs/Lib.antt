@@ -1,0 +1,4 @@
+mod Joined
+mod Frames
+mod Incoming
+mod OidLoop
