@@ -1,4 +1,4 @@
-mod Joined
+mod Sizes
 mod Frames
-mod Incoming
-mod OidLoop
+mod InFront
+mod ExchangeLaws

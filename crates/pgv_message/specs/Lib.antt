@@ -1,5 +1,9 @@
+pub mod Writing
+pub mod Pieces
 pub mod Messages
-pub mod Sent
 pub mod Frames
-pub mod Kinds
-pub mod Incoming
+pub mod Received
+pub mod Tags
+pub mod Exchange
+pub mod ExchangeLaws
+pub mod Startup

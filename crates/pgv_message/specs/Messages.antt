@@ -1,47 +1,75 @@
--- Messages of a frontend (PostgreSQL: "Message Formats"), each a byte that names it, its length in four bytes, which counts these
--- four, and its body. A text in a body ends with a zero byte, so it has none itself.
-use Rattle.std.specs.Prelude.{ℕ, ◌+◌, ◌==◌, List, [], ◌∷◌, ◌++◌, length, flat_map, Bool}
-use Rattle.std.specs.List.{list_any}
+-- Messages of a frontend (PostgreSQL: "Message Formats"), each as the bytes that are sent, or why they are not.
+use Rattle.std.specs.Prelude.{ℕ, List, [], ◌∷◌, length, flat_map}
 use Rattle.std.specs.Int.{w16, w32, to_be_bytes}
 use Rattle.pgv_types.specs.declared.oid.Oid.{Oid}
 use Rattle.pgv_buf.specs.Tokens.{shown}
 use Rattle.pgv_value.specs.declared.value.PgValueFormat.{PgValueFormat}
-use Rattle.pgv_value.specs.declared.value.PgValueFormat.TheVariants.{Text, Binary}
 use Rattle.pgv_wire.specs.Arguments.{Argument, all_tokens}
+use Rattle.pgv_message.specs.declared.describe.Prepared.{Prepared}
+use Rattle.pgv_message.specs.declared.describe.Prepared.TheVariants.{Statement, Portal}
+use Rattle.pgv_message.specs.Pieces.{format_bytes, oid_bytes}
+use Rattle.pgv_message.specs.Writing.{Writing, ◌>>=◌, text_of, count_of, joined, whole}
 
-abbrev pub message : ℕ → List ℕ → List ℕ
-message tag body = tag ∷ (to_be_bytes w32 (length body + 4) ++ body)
+-- Bind, `B`: the portal, the statement, one format for all parameters, which is binary, the number of parameters and a frame for
+-- each, and the number of formats of the result's columns and these: none where all are text, one for all, or one for each.
+unfoldable pub bind : List ℕ → List ℕ → List Argument → List PgValueFormat → Writing (List ℕ)
+bind portal statement arguments results = do
+  portal_name ← text_of portal
+  statement_name ← text_of statement
+  parameters ← count_of (length arguments)
+  formats ← count_of (length results)
+  whole (66 ∷ []) (joined (portal_name ∷ statement_name ∷ to_be_bytes w16 1 ∷ to_be_bytes w16 1 ∷ parameters ∷ shown (all_tokens arguments) ∷ formats ∷ flat_map format_bytes results ∷ []))
 
--- pieces one after another
-abbrev pub joined : List (List ℕ) → List ℕ
-joined = flat_map (λ piece. piece)
+-- Parse, `P`: the statement's name, the query, the number of parameters whose types are given, and their OIDs, 0 where the server
+-- is to find one.
+unfoldable pub parse : List ℕ → List ℕ → List Oid → Writing (List ℕ)
+parse statement query oids = do
+  name ← text_of statement
+  sql ← text_of query
+  types ← count_of (length oids)
+  whole (80 ∷ []) (joined (name ∷ sql ∷ types ∷ flat_map oid_bytes oids ∷ []))
 
--- a text in a body
-abbrev pub text : List ℕ → List ℕ
-text bytes = bytes ++ 0 ∷ []
+-- `S` a statement, `P` a portal
+abbrev pub kind_byte : Prepared → ℕ
+kind_byte Statement = 83
+kind_byte Portal = 80
 
-abbrev pub has_zero : List ℕ → Bool
-has_zero bytes = list_any (λ b. b == 0) bytes
+-- a message about a statement or a portal
+unfoldable pub about : ℕ → Prepared → List ℕ → Writing (List ℕ)
+about tag kind name = do
+  bytes ← text_of name
+  whole (tag ∷ []) (joined ((kind_byte kind ∷ []) ∷ bytes ∷ []))
 
--- a format in two bytes
-abbrev pub format_bytes : PgValueFormat → List ℕ
-format_bytes Text = 0 ∷ 0 ∷ []
-format_bytes Binary = 0 ∷ 1 ∷ []
+-- Describe, `D`, and Close, `C`, of a statement or of a portal
+abbrev pub describe : Prepared → List ℕ → Writing (List ℕ)
+describe = about 68
 
--- Bind: the portal, the statement, one format for all parameters, which is binary, the number of parameters and their frames, and
--- the number of formats of the result's columns and these: none where all are text, one for all, or one for each.
-abbrev pub bind_body : List ℕ → List ℕ → List Argument → List PgValueFormat → List ℕ
-bind_body portal statement arguments results =
-    text portal ++ (text statement ++ (0 ∷ 1 ∷ 0 ∷ 1 ∷ [] ++ (to_be_bytes w16 (length arguments) ++ (shown (all_tokens arguments) ++ (to_be_bytes w16 (length results) ++ flat_map format_bytes results)))))
+abbrev pub close : Prepared → List ℕ → Writing (List ℕ)
+close = about 67
 
--- Parse: the statement's name, the query, and the number of parameters whose types are told, and their OIDs, 0 where the server finds it
-abbrev pub parse_body : List ℕ → List ℕ → List Oid → List ℕ
-parse_body statement query oids = text statement ++ (text query ++ (to_be_bytes w16 (length oids) ++ flat_map (λ o. to_be_bytes w32 o.0) oids))
+-- Execute, `E`: the portal, and the number of rows after which it stops, 0 for all
+unfoldable pub execute : List ℕ → ℕ → Writing (List ℕ)
+execute portal rows = do
+  name ← text_of portal
+  whole (69 ∷ []) (joined (name ∷ to_be_bytes w32 rows ∷ []))
 
--- Describe, of a statement or of a portal
-abbrev pub describe_body : ℕ → List ℕ → List ℕ
-describe_body kind name = kind ∷ text name
+-- a message whose body is one text
+unfoldable pub one_text : ℕ → List ℕ → Writing (List ℕ)
+one_text tag bytes = do
+  ended ← text_of bytes
+  whole (tag ∷ []) (joined (ended ∷ []))
 
--- Execute: the portal, and the number of rows after which it stops, 0 for all
-abbrev pub execute_body : List ℕ → ℕ → List ℕ
-execute_body portal rows = text portal ++ to_be_bytes w32 rows
+-- Query, `Q`, and CopyFail, `f`, with the reason
+abbrev pub query : List ℕ → Writing (List ℕ)
+query = one_text 81
+
+abbrev pub copy_fail : List ℕ → Writing (List ℕ)
+copy_fail = one_text 102
+
+-- CopyData, `d`: bytes of a COPY stream, cut anywhere
+abbrev pub copy_data : List ℕ → Writing (List ℕ)
+copy_data bytes = whole (100 ∷ []) bytes
+
+-- a message without a body: CopyDone, `c`; Flush, `H`; Sync, `S`; Terminate, `X`
+abbrev pub bare : ℕ → Writing (List ℕ)
+bare tag = whole (tag ∷ []) []

@@ -1,9 +1,0 @@
-use Rattle.std.proofs.Common.{◌≡◌, ◌++◌, length, take}
-use Rattle.std.specs.Prelude.{flat_map}
-use Rattle.pgv_message.proofs.pieces.push_all.Given as goal
-
-abbrev pub invariant-loop-piece : goal.invariant-loop-piece
-invariant-loop-piece l = record {
-  items : l.out.items ≡ l.fn.out.items ++ flat_map (λ p. p.now) (take l.piece-index l.pieces);
-  mark : l.mark ≡ length l.fn.out.items;
-}
