@@ -1,165 +1,141 @@
 -- The body of a DataRow is read as a row exactly where it is that row.
-use Rattle.std.proofs.Common.{◌≡◌, ℕ, zero, suc, ◌<◌, ◌^◌, true, false, nat_lt, nat_eq, List, [], ◌∷◌, ◌++◌, length, get_or, Some, None, Ok, Err, refl, sym, ap, ◌∙◌, subst, append_assoc, append-nil, arith}
-use Rattle.std.specs.Prelude.{flat_map, ok_or, Result, OnOk, IfErr, MatchResult, ⊤}
-use Rattle.std.specs.List.{AllByRecursion}
-use Rattle.std.specs.Int.{w16, w32, to_be_bytes, from_be_bytes}
-use Rattle.std.proofs.lemmas.Bool.{le-ltb, eqb-true, eq-eqb}
-use Rattle.std.proofs.lemmas.Nat.{be_bytes_2, from_be_bytes-to_be_bytes_2}
-use Rattle.std.proofs.lemmas.Option.{same_Some}
-use Rattle.pgv_value.specs.FrameBinary.{Part, IsFrame, front, frame_fault}
+use Rattle.std.proofs.Common.{◌≡◌, ◌≢◌, ℕ, ℤ, ◌<◌, ◌≤◌, ◌^◌, Bool, true, false, cond, nat_lt, nat_eq, List, [], ◌++◌, length, take, drop, Option, Some, None, Result, Ok, Err, refl, sym, ap, ◌∙◌, subst, append-nil}
+use Rattle.std.specs.Prelude.{flat_map, not, ok_or, IfOk, IfErr, MatchResult}
+use Rattle.std.specs.Int.{w16, w32, to_be_bytes, from_be_bytes, cast_signed}
+use Rattle.std.proofs.lemmas.Bool.{false≢true, ltb-true, le-ltb}
+use Rattle.pgv_value.specs.FrameBinary.{Part, front, front_length, frame_fault}
 use Rattle.pgv_value.specs.Laws.{AreBytes}
-use Rattle.pgv_value.specs.declared.error.CodecError.TheVariants.{Memory, Short, FieldCount, WrongLength}
 use Rattle.pgv_value.specs.declared.error.CodecError.{CodecError}
-use Rattle.pgv_value.specs.Reading.{Refuses}
-use Rattle.pgv_value.proofs.Fronts.{front_exactly, frame_in_front}
-use Rattle.pgv_value.proofs.Numbers.{bytes_below, bytes_after, test_failed}
+use Rattle.pgv_value.specs.declared.error.CodecError.TheVariants.{Memory, FieldCount, NegativeLength, Short, WrongLength}
+use Rattle.pgv_value.proofs.Numbers.{bytes_after}
 use Rattle.pgv_copy.specs.CopyStream.{field_bytes, row_bytes, IsField}
-use Rattle.pgv_row.specs.Numbers.{two}
-use Rattle.pgv_row.specs.DataRow.{IsDataRow, parts, nothing_after, columns_after, data_row, DataRowIsRead}
-use Rattle.pgv_row.proofs.PartLoop.{with_first, part_there}
-use Rattle.pgv_row.proofs.Steps.{taken, there, held, ok_is}
+use Rattle.pgv_row.specs.DataRow.{IsDataRow, data_row, DataRowIsRead}
+use Rattle.pgv_row.specs.Fronts.{frames_front, one_part, part_front, u16_front}
+use Rattle.pgv_row.specs.Outcome.{Outcome, Gives, stated, exactly, allocates, fails_if, done, ◌>>=◌, ◌>>◌}
+use Rattle.pgv_row.specs.Parsed.{Parsed, ◌>>=◌ as ◌and_then◌}
+use Rattle.pgv_row.specs.Several.{several, AreSeveral}
+use Rattle.pgv_row.proofs.Fronts.{reads_part, frames_read, frames_are, nothing_is}
+use Rattle.pgv_row.proofs.Outcomes.{answer_is, taken, taken_exactly, tested, IsOther, free_then, other_then, only_memory, another}
+use Rattle.pgv_row.proofs.Several.{are_several, several_read, never_allocate, never_out_of_memory}
 
--- ---- a row is read
-
-pub two_there : (n : ℕ) (rest : List ℕ) → n < 2 ^ 16 → two (to_be_bytes w16 n ++ rest) ≡ Some (n, rest)
-unfolding two
-two_there n rest lt =
-    let long : nat_lt (length (to_be_bytes w16 n ++ rest)) 2 ≡ false = le-ltb _ _ (omega arith) in
-    rw (long, from_be_bytes-to_be_bytes_2 n lt) refl
-
-framed : (part : Part) (rest : List ℕ) → IsField part → IsFrame (field_bytes part ++ rest) part rest
-framed None rest h = refl
-framed (Some part) rest h = (h, append_assoc (to_be_bytes w32 (length part)) part rest)
-
-no_parts : (bytes : List ℕ) → parts 0 bytes ≡ Ok ([], bytes)
-unfolding parts
-no_parts bytes = refl
-
-pub parts_there : (row : List Part) (rest : List ℕ) → AllByRecursion IsField row → parts (length row) (flat_map field_bytes row ++ rest) ≡ Ok (row, rest)
-parts_there [] rest each = no_parts rest
-parts_there (p ∷ row) rest each =
-    let more = flat_map field_bytes row ++ rest in
-    let found : front (field_bytes p ++ more) ≡ Some (p, more) = frame_in_front (field_bytes p ++ more) p more (framed p more each.0) in
-    ap (parts (suc (length row))) (append_assoc (field_bytes p) (flat_map field_bytes row) rest)
-    ∙ part_there (length row) (field_bytes p ++ more) p more found
-    ∙ ap (with_first p) (parts_there row rest each.1)
-
-counted : (width : ℕ) (rest : List ℕ) → width < 2 ^ 16 → columns_after width (to_be_bytes w16 width ++ rest) ≡ Ok rest
-unfolding columns_after
-counted width rest lt = let same : nat_eq width width ≡ true = eq-eqb width width refl in rw (two_there width rest lt, same) refl
-
-row_by : (width : ℕ) (bytes frames : List ℕ) (row : List Part) → columns_after width bytes ≡ Ok frames → parts width frames ≡ Ok (row, []) → data_row width bytes ≡ Ok row
+row_by : (room width : ℕ) (bytes frames : List ℕ) (row : List Part) → frames_front width bytes ≡ Ok frames → (several one_part width frames).answer ≡ Ok (row, []) → (data_row room width bytes).answer ≡ Ok row
 unfolding data_row
-row_by width bytes frames row count found = rw (count, found) refl
+row_by room width bytes frames row count found = rw (count, found) refl
 
-row_there : (row : List Part) → length row < 2 ^ 16 → AllByRecursion IsField row → data_row (length row) (row_bytes row) ≡ Ok row
-row_there row lt each =
-    row_by (length row) (row_bytes row) (flat_map field_bytes row) row (counted (length row) (flat_map field_bytes row) lt)
-    (ap (parts (length row)) (sym (append-nil (flat_map field_bytes row))) ∙ parts_there row [] each)
+is_read : (room width : ℕ) (bytes : List ℕ) (row : List Part) → AreBytes bytes → IsDataRow width bytes row → (data_row room width bytes).answer ≡ Ok row
+is_read room width bytes row h s =
+    let frames : List ℕ = flat_map field_bytes row in
+    let whole : bytes ≡ to_be_bytes w16 width ++ frames = s.whole ∙ ap (λ (n : ℕ). to_be_bytes w16 n ++ frames) s.wide in
+    let left : AreBytes frames = bytes_after (to_be_bytes w16 width) frames (subst AreBytes whole h) in
+    row_by room width bytes frames row (frames_read width bytes frames s.width_fits whole)
+    (several_read IsField field_bytes one_part reads_part width frames row [] left (record { many = s.wide; each = s.each; whole = sym (append-nil frames) }))
 
-pub is_read : (width : ℕ) (bytes : List ℕ) (row : List Part) → IsDataRow width bytes row → data_row width bytes ≡ Ok row
-is_read width bytes row h =
-    let lt : length row < 2 ^ 16 = subst (λ (n : ℕ). n < 2 ^ 16) (sym h.wide) h.width_fits in
-    ap (data_row width) h.whole ∙ ap (λ (n : ℕ). data_row n (row_bytes row)) (sym h.wide) ∙ row_there row lt h.each
-
--- ---- what is read is a row
-
-pub two_is : (bytes rest : List ℕ) (n : ℕ) → AreBytes bytes → two bytes ≡ Some (n, rest) → (n < 2 ^ 16) × (bytes ≡ to_be_bytes w16 n ++ rest)
-unfolding two
-two_is [] rest n h e = absurd cc
-two_is (a ∷ []) rest n h e = absurd cc
-two_is (a ∷ b ∷ more) rest n h e =
-    let t = test_failed (nat_lt (length (a ∷ b ∷ more)) 2) (Some (from_be_bytes w16 (a ∷ b ∷ []), more)) (n, rest) e in
-    let same = same_Some {A = ℕ × List ℕ} (from_be_bytes w16 (a ∷ b ∷ []), more) (n, rest) t.1 in
-    let below : (i : ℕ) → get_or (a ∷ b ∷ []) i 0 < 256 = bytes_below (a ∷ b ∷ []) (h.0, (h.1.0, tt)) in
-    let n_is : from_be_bytes w16 (a ∷ b ∷ []) ≡ n = ap (λ (p : ℕ × List ℕ). p.0) same in
-    let pair : to_be_bytes w16 (from_be_bytes w16 (a ∷ b ∷ [])) ≡ a ∷ b ∷ [] = be_bytes_2 (a ∷ b ∷ []) (from_be_bytes w16 (a ∷ b ∷ [])) refl below refl in
-    let small_a : a < 256 = h.0 in
-    let small_b : b < 256 = h.1.0 in
-    let fits : from_be_bytes w16 (a ∷ b ∷ []) < 2 ^ 16 = omega arith in (
-      subst (λ (m : ℕ). m < 2 ^ 16) n_is fits,
-      ap (λ (p : ℕ × List ℕ). a ∷ b ∷ p.1) same ∙ ap (λ (xs : List ℕ). xs ++ rest) (sym pair) ∙ ap (λ (m : ℕ). to_be_bytes w16 m ++ rest) n_is,
-    )
-
-pub frame_bytes : (bytes : List ℕ) (part : Part) (rest : List ℕ) → IsFrame bytes part rest → IsField part × (bytes ≡ field_bytes part ++ rest)
-frame_bytes bytes None rest e = (tt, e)
-frame_bytes bytes (Some part) rest e = (e.0, e.1 ∙ sym (append_assoc (to_be_bytes w32 (length part)) part rest))
-
--- what is read as so many parts
-pub record AreParts (n : ℕ) (bytes rest : List ℕ) (row : List Part) : Type 0 where
-  pub wide : length row ≡ n
-  pub each : AllByRecursion IsField row
-  pub whole : bytes ≡ flat_map field_bytes row ++ rest
-
-pub parts_are : (n : ℕ) (bytes rest : List ℕ) (row : List Part) → AreBytes bytes → parts n bytes ≡ Ok (row, rest) → AreParts n bytes rest row
-unfolding parts
-parts_are zero bytes rest row h e =
-    let p = ok_is {A = List Part × List ℕ} ([], bytes) (row, rest) e in
-    subst (λ (q : List Part × List ℕ). AreParts 0 bytes q.1 q.0) p (record { wide = refl; each = tt; whole = refl })
-parts_are (suc n) bytes rest row h e =
-    let f = taken {A = Part × List ℕ} (ok_or (front bytes) (frame_fault bytes)) _ (row, rest) e in
-    let part : Part = f.0.0 in
-    let frame = frame_bytes bytes part f.0.1 ((front_exactly bytes part f.0.1 h).0 (there (front bytes) (frame_fault bytes) f.0 f.1)) in
-    let h1 : AreBytes f.0.1 = bytes_after (field_bytes part) f.0.1 (subst AreBytes frame.1 h) in
-    let b = taken {A = List Part × List ℕ} (parts n f.0.1) _ (row, rest) f.2 in
-    let p = ok_is {A = List Part × List ℕ} (part ∷ b.0.0, b.0.1) (row, rest) b.2 in
-    let more = parts_are n f.0.1 b.0.1 b.0.0 h1 b.1 in
-    let wide : length b.0.0 ≡ n = more.wide in
-    let whole : bytes ≡ flat_map field_bytes (part ∷ b.0.0) ++ b.0.1 =
-    frame.1 ∙ ap (λ (xs : List ℕ). field_bytes part ++ xs) more.whole ∙ sym (append_assoc (field_bytes part) (flat_map field_bytes b.0.0) b.0.1) in
-    subst (λ (q : List Part × List ℕ). AreParts (suc n) bytes q.1 q.0) p (record { wide = ap suc wide; each = (frame.0, more.each); whole = whole })
-
-count_is : (width : ℕ) (bytes frames : List ℕ) → AreBytes bytes → columns_after width bytes ≡ Ok frames → (width < 2 ^ 16) × (bytes ≡ to_be_bytes w16 width ++ frames)
-unfolding columns_after
-count_is width bytes frames h e =
-    let a = taken {A = ℕ × List ℕ} (ok_or (two bytes) Short) _ frames e in
-    let t = held (nat_eq a.0.0 width) FieldCount (Ok a.0.1) frames a.2 in
-    let n_is : a.0.0 ≡ width = eqb-true a.0.0 width t.0 in
-    let k = two_is bytes a.0.1 a.0.0 h (there (two bytes) Short a.0 a.1) in (
-      subst (λ (n : ℕ). n < 2 ^ 16) n_is k.0,
-      k.1 ∙ ap (λ (n : ℕ). to_be_bytes w16 n ++ a.0.1) n_is ∙ ap (λ (xs : List ℕ). to_be_bytes w16 width ++ xs) (ok_is {A = List ℕ} a.0.1 frames t.1),
-    )
-
-pub nothing_is : (rest : List ℕ) → nat_eq (length rest) 0 ≡ true → rest ≡ []
-nothing_is [] e = refl
-nothing_is (x ∷ rest) e = let none : suc (length rest) ≡ 0 = eqb-true (suc (length rest)) 0 e in absurd (omega arith)
-
-is_row : (width : ℕ) (bytes : List ℕ) (row : List Part) → AreBytes bytes → data_row width bytes ≡ Ok row → IsDataRow width bytes row
+is_row : (room width : ℕ) (bytes : List ℕ) (row : List Part) → AreBytes bytes → (data_row room width bytes).answer ≡ Ok row → IsDataRow width bytes row
 unfolding data_row
-is_row width bytes row h e =
-    let a = taken {A = List ℕ} (columns_after width bytes) _ row e in
-    let k = count_is width bytes a.0 h a.1 in
-    let b = taken {A = List Part × List ℕ} (parts width a.0) (nothing_after (length bytes)) row a.2 in
-    let t = held (nat_eq (length b.0.1) 0) (WrongLength (length bytes)) (Ok b.0.0) row b.2 in
-    let h1 : AreBytes a.0 = bytes_after (to_be_bytes w16 width) a.0 (subst AreBytes k.1 h) in
-    let p = parts_are width a.0 b.0.1 b.0.0 h1 b.1 in
-    let row_is : b.0.0 ≡ row = ok_is {A = List Part} b.0.0 row t.1 in
+is_row room width bytes row h e =
+    let a = taken_exactly (frames_front width bytes) _ row e in
+    let k = frames_are width bytes a.0 h a.1 in
+    let b = taken (several one_part width a.0) _ row a.2 in
+    let t = tested (not (nat_eq (length b.0.1) 0)) (WrongLength (length bytes)) (done b.0.0) row b.2 in
+    let left : AreBytes a.0 = bytes_after (to_be_bytes w16 width) a.0 (subst AreBytes k.1 h) in
+    let p = are_several IsField field_bytes one_part reads_part width a.0 b.0.0 b.0.1 left b.1 in
+    let row_is : b.0.0 ≡ row = answer_is {A = List Part} b.0.0 row t.1 in
     let frames : a.0 ≡ flat_map field_bytes b.0.0 = p.whole ∙ ap (λ (xs : List ℕ). flat_map field_bytes b.0.0 ++ xs) (nothing_is b.0.1 t.0) ∙ append-nil (flat_map field_bytes b.0.0) in
     subst (IsDataRow width bytes) row_is (record {
-      whole = k.1 ∙ ap (λ (xs : List ℕ). to_be_bytes w16 width ++ xs) frames ∙ ap (λ (n : ℕ). to_be_bytes w16 n ++ flat_map field_bytes b.0.0) (sym p.wide);
-      wide = p.wide;
+      whole = k.1 ∙ ap (λ (xs : List ℕ). to_be_bytes w16 width ++ xs) frames ∙ ap (λ (n : ℕ). to_be_bytes w16 n ++ flat_map field_bytes b.0.0) (sym p.many);
+      wide = p.many;
       width_fits = k.0;
       each = p.each;
     })
 
 pub data_row_is_read : DataRowIsRead
-data_row_is_read width bytes row h = (is_row width bytes row h, is_read width bytes row)
+data_row_is_read room width bytes row h = (is_row room width bytes row h, is_read room width bytes row h)
+
+-- ---- memory
+
+abbrev NotMemory : {A : Type 0} → Parsed A → Type 0
+NotMemory p = IfErr p (λ e. e ≢ Memory)
+
+stated_is_other : {A : Type 0} (p : Parsed A) → NotMemory p → IsOther (stated p)
+stated_is_other (Ok x) other = tt
+stated_is_other (Err e) other = λ is. other (let same : e ≡ Memory = cc in same)
+
+or_other : {A : Type 0} (o : Option A) (e : CodecError) → e ≢ Memory → NotMemory (let p : Parsed A = ok_or o e in p)
+or_other (Some x) e other = tt
+or_other None e other = other
+
+test_is_other : {A : Type 0} (b : Bool) (p q : Parsed A) → NotMemory p → NotMemory q → NotMemory (cond b p q)
+test_is_other true p q left right = left
+test_is_other false p q left right = right
+
+and_then_is_other : {A B : Type 0} (p : Parsed A) (f : A → Parsed B) → NotMemory p → ((x : A) → NotMemory (f x)) → NotMemory (p and_then f)
+and_then_is_other (Ok x) f left right = right x
+and_then_is_other (Err e) f left right = left
+
+fault_is_other : (x y : Bool) (z : ℤ) → cond {A = CodecError} x Short (cond y (NegativeLength z) Short) ≢ Memory
+fault_is_other true y z e = absurd cc
+fault_is_other false true z e = absurd cc
+fault_is_other false false z e = absurd cc
+
+part_is_other : (bytes : List ℕ) → IsOther (one_part bytes).answer
+part_is_other bytes = stated_is_other (part_front bytes) (or_other (front bytes) (frame_fault bytes) (fault_is_other (nat_lt (length bytes) 4) (nat_lt 2147483647 (front_length bytes)) (cast_signed w32 (front_length bytes))))
+
+short_is_other : Short ≢ Memory
+short_is_other e = absurd cc
+
+count_is_other : FieldCount ≢ Memory
+count_is_other e = absurd cc
+
+u16_is_other : (bytes : List ℕ) → NotMemory (u16_front bytes)
+unfolding u16_front
+u16_is_other bytes = test_is_other (nat_lt (length bytes) 2) (Err Short) (Ok (from_be_bytes w16 (take 2 bytes), drop 2 bytes)) short_is_other tt
+
+frames_are_other : (width : ℕ) (bytes : List ℕ) → NotMemory (frames_front width bytes)
+unfolding frames_front
+frames_are_other width bytes = and_then_is_other (u16_front bytes) _ (u16_is_other bytes) (λ count. test_is_other (nat_eq count.0 width) (Ok count.1) (Err FieldCount) tt count_is_other)
+
+rest_is_other : {B : Type 0} (b : Bool) (n : ℕ) (o : Outcome B) → IsOther o.answer → IsOther (fails_if b (WrongLength n) >> o).answer
+rest_is_other true n o other = λ is. absurd cc
+rest_is_other false n o other = other
+
+row_is_other : (room width : ℕ) (bytes : List ℕ) → IsOther (data_row room width bytes).answer
+unfolding data_row
+row_is_other room width bytes =
+    other_then (exactly (frames_front width bytes)) _ (stated_is_other (frames_front width bytes) (frames_are_other width bytes)) (λ frames.
+    other_then (several one_part width frames) _ (never_out_of_memory one_part part_is_other width frames) (λ row. rest_is_other (not (nat_eq (length row.1) 0)) (length bytes) (done row.0) tt))
+
+abbrev end_of : ℕ → List Part × List ℕ → Outcome (List Part)
+end_of n row = fails_if (not (nat_eq (length row.1) 0)) (WrongLength n) >> done row.0
+
+end_is_free : {B : Type 0} (b : Bool) (n : ℕ) (x : B) → (fails_if b (WrongLength n) >> done x).may_alloc ≡ false
+end_is_free true n x = refl
+end_is_free false n x = refl
+
+parts_are_free : (room width n : ℕ) (frames : List ℕ) → nat_lt room width ≡ false → (allocates (nat_lt room width) >> (several one_part width frames >>= end_of n)).may_alloc ≡ false
+parts_are_free room width n frames enough =
+    rw enough (free_then (several one_part width frames) (end_of n) (never_allocate one_part (λ b. refl) width frames) (λ row. end_is_free (not (nat_eq (length row.1) 0)) n row.0))
+
+row_is_free : (room width : ℕ) (bytes : List ℕ) → nat_lt room width ≡ false → (data_row room width bytes).may_alloc ≡ false
+unfolding data_row
+row_is_free room width bytes enough =
+    free_then (exactly (frames_front width bytes)) (λ frames. allocates (nat_lt room width) >> (several one_part width frames >>= end_of (length bytes))) refl (λ frames. parts_are_free room width (length bytes) frames enough)
 
 -- ---- as a reader answers
 
-pub are_bytes : (xs : List ℕ) → ((i : ℕ) → get_or xs i 0 < 256) → AreBytes xs
-are_bytes [] h = tt
-are_bytes (x ∷ xs) h = (h 0, are_bytes xs (λ i. h (suc i)))
+module _ {V : Type 0} (view : V → List Part) (room width : ℕ) (bytes : List ℕ) where
+  pub exactly_row : (result : Result V CodecError) → AreBytes bytes → Gives view (data_row room width bytes) result → IfOk result (λ v. IsDataRow width bytes (view v))
+  exactly_row (Ok v) h gives = is_row room width bytes (view v) h gives
+  exactly_row (Err e) h gives = tt
 
-pub exact_row : (width : ℕ) (bytes : List ℕ) (row : List Part) (result : Result ⊤ CodecError) → ((i : ℕ) → get_or bytes i 0 < 256) → OnOk result (data_row width bytes ≡ Ok row) → OnOk result (IsDataRow width bytes row)
-exact_row width bytes row (Ok u) h e = is_row width bytes row (are_bytes bytes h) e
-exact_row width bytes row (Err d) h e = tt
+  wanting : (b : Bool) → nat_lt room width ≡ b → (data_row room width bytes).may_alloc ≡ true → room < width
+  wanting true is may = ltb-true room width is
+  wanting false is may = absurd (false≢true (sym (row_is_free room width bytes is) ∙ may))
 
-only_memory : (width : ℕ) (bytes : List ℕ) (row : List Part) (e : CodecError) → data_row width bytes ≡ Ok row → Refuses e (data_row width bytes ≡ Err e) → e ≡ Memory
-only_memory width bytes row Memory is r = refl
-only_memory width bytes row _ is r = absurd cc
+  pub only_row : (result : Result V CodecError) (row : List Part) → AreBytes bytes → Gives view (data_row room width bytes) result → IsDataRow width bytes row →
+      MatchResult result (λ v. view v ≡ row) (λ e. (e ≡ Memory) × (room < width))
+  only_row (Ok v) row h gives s = answer_is {A = List Part} (view v) row (sym gives ∙ is_read room width bytes row h s)
+  only_row (Err e) row h gives s = let m = only_memory (data_row room width bytes) e row (is_read room width bytes row h s) gives in (m.0, wanting _ refl m.1)
 
-pub only_row : (width : ℕ) (bytes : List ℕ) (row parts : List Part) (result : Result ⊤ CodecError) → OnOk result (data_row width bytes ≡ Ok row) → IfErr result (λ e. Refuses e (data_row width bytes ≡ Err e)) → IsDataRow width bytes parts →
-    MatchResult result (λ _. row ≡ parts) (λ e. e ≡ Memory)
-only_row width bytes row wanted (Ok u) found r h = ok_is {A = List Part} row wanted (sym found ∙ is_read width bytes wanted h)
-only_row width bytes row wanted (Err e) found r h = only_memory width bytes wanted e (is_read width bytes wanted h) r
+  pub enough_room : (result : Result V CodecError) → Gives view (data_row room width bytes) result → width ≤ room → IfErr result (λ e. e ≢ Memory)
+  enough_room (Ok v) gives le = tt
+  enough_room (Err e) gives le = another (data_row room width bytes) e (row_is_other room width bytes) (row_is_free room width bytes (le-ltb room width le)) gives

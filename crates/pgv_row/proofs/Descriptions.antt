@@ -1,104 +1,209 @@
--- A description is read as its columns.
-use Rattle.std.proofs.Common.{◌≡◌, ℕ, suc, ◌+◌, ◌<◌, ◌^◌, true, false, nat_lt, List, [], ◌∷◌, ◌++◌, length, drop, map, Some, Ok, refl, sym, ap, ◌∙◌, append_assoc, append-nil, arith}
-use Rattle.std.specs.Prelude.{flat_map, ◌==◌, ℤ}
-use Rattle.pgv_value.specs.Utf8.{is_utf8}
-use Rattle.std.specs.List.{AllByRecursion, position, position_or_len}
-use Rattle.std.specs.Int.{w16, w32, to_be_bytes, cast_signed}
-use Rattle.std.proofs.lemmas.Bool.{le-ltb, lt-ltb}
-use Rattle.std.proofs.lemmas.List.{take_at, drop_at, length-append}
-use Rattle.std.proofs.lemmas.Nat.{from_be_bytes-to_be_bytes_2}
-use Rattle.pgv_value.specs.Steps.{number, signed_two}
-use Rattle.pgv_value.specs.declared.value.PgValueFormat.TheVariants.{Text, Binary}
+-- The body of a RowDescription is read as columns exactly where it is a description of them.
+use Rattle.std.proofs.Common.{◌≡◌, ℕ, ℤ, ◌<◌, ◌^◌, Bool, true, false, nat_eq, List, [], ◌∷◌, ◌++◌, length, Result, Ok, Err, refl, sym, ap, ◌∙◌, subst, append_assoc, append-nil, arith}
+use Rattle.std.specs.Prelude.{FitsSigned, flat_map, not, ◌==◌, IfOk, MatchResult}
+use Rattle.std.specs.Int.{w16, w32, to_be_bytes, cast_signed, cast_unsigned}
+use Rattle.std.proofs.Math.Facts.{sfits_to_z, Fits-of_z, of_z-to_z, to_z-of_z}
+use Rattle.pgv_types.specs.Ty.{Ty}
+use Rattle.pgv_types.specs.Facts.{is_custom}
+use Rattle.pgv_value.specs.Laws.{AreBytes}
+use Rattle.pgv_value.specs.declared.error.CodecError.TheVariants.{Memory, WrongLength}
+use Rattle.pgv_value.specs.declared.error.CodecError.{CodecError}
 use Rattle.pgv_value.specs.declared.value.PgValueFormat.{PgValueFormat}
-use Rattle.pgv_value.proofs.Numbers.{number_there}
-use Rattle.pgv_copy.specs.CopyBinary.{Read}
-use Rattle.pgv_row.specs.Numbers.{two, ended}
+use Rattle.pgv_value.specs.declared.value.PgValueFormat.TheVariants.{Text, Binary}
+use Rattle.pgv_value.proofs.Numbers.{bytes_after}
 use Rattle.pgv_row.specs.ColumnView.{Column}
-use Rattle.pgv_row.specs.Description.{Told, type_by, name_in, format_of, column_in, columns_in, description, Raw, raw_bytes, IsRaw, column_of, format_number, DescriptionIsRead}
-use Rattle.pgv_row.proofs.DataRows.{two_there}
-use Rattle.pgv_row.proofs.ColumnLoop.{with_first, column_there}
+use Rattle.pgv_row.specs.Description.{KnownTypes, type_by, format_of, format_number, column_front, description, column_bytes, IsColumn, IsDescription, DescriptionIsRead}
+use Rattle.pgv_row.specs.Fronts.{i16_front, u16_front, u32_front, name_front}
+use Rattle.pgv_row.specs.Outcome.{Outcome, Gives, exactly, allocates, done, ◌>>=◌, ◌>>◌}
+use Rattle.pgv_row.specs.Several.{several, ReadsOne, AreSeveral}
+use Rattle.pgv_row.proofs.Fronts.{u16_there, u16_is, i16_there, i16_is, u32_there, u32_is, IsName, name_there, name_is, format_there, format_is, nothing_is}
+use Rattle.pgv_row.proofs.Outcomes.{answer_is, taken, taken_exactly, tested, only_memory}
+use Rattle.pgv_row.proofs.Several.{are_several, several_read}
 
--- ---- the steps of a column
+-- ---- a column is read
 
-signed_there : (n : ℕ) (rest : List ℕ) → n < 2 ^ 16 → signed_two (to_be_bytes w16 n ++ rest) ≡ Some (cast_signed w16 n, rest)
-unfolding signed_two
-signed_there n rest lt =
-    let long : nat_lt (length (to_be_bytes w16 n ++ rest)) 2 ≡ false = le-ltb _ _ (omega arith) in
-    rw (long, from_be_bytes-to_be_bytes_2 n lt) refl
-
--- a zero byte after bytes that have none is the first one
-first_there : (name rest : List ℕ) → AllByRecursion (λ b. (b == 0) ≡ false) name → position_or_len (λ b. b == 0) (name ++ 0 ∷ rest) ≡ length name
-first_there [] rest none = refl
-first_there (b ∷ name) rest none = let more = first_there name rest none.1 in rw none.0 (omega (arith, more))
-
-position_there : (name rest : List ℕ) → AllByRecursion (λ b. (b == 0) ≡ false) name → position (λ b. b == 0) (name ++ 0 ∷ rest) ≡ Some (length name)
-position_there name rest none =
-    let first = first_there name rest none in
-    let within : nat_lt (length name) (length (name ++ 0 ∷ rest)) ≡ true = lt-ltb _ _ (omega (arith, length-append name (0 ∷ rest))) in
-    rw (first, within) refl
-
-after_zero : (name rest : List ℕ) → drop (length name + 1) (name ++ 0 ∷ rest) ≡ rest
-after_zero name rest =
-    ap (drop (length name + 1)) (sym (append_assoc name (0 ∷ []) rest)) ∙ drop_at (name ++ 0 ∷ []) rest (length name + 1) (omega (arith, length-append name (0 ∷ [])))
-
-ended_there : (name rest : List ℕ) → AllByRecursion (λ b. (b == 0) ≡ false) name → ended (name ++ 0 ∷ rest) ≡ Some (name, rest)
-unfolding ended
-ended_there name rest none = rw (position_there name rest none, take_at name (0 ∷ rest) (length name) refl, after_zero name rest) refl
-
-name_there : (name rest : List ℕ) → AllByRecursion (λ b. (b == 0) ≡ false) name → is_utf8 name ≡ true → name_in (name ++ 0 ∷ rest) ≡ Ok (name, rest)
-unfolding name_in
-name_there name rest none text = rw (ended_there name rest none, text) refl
-
-format_there : (f : PgValueFormat) → format_of (format_number f) ≡ Ok f
-format_there Text = refl
-format_there Binary = refl
-
-column_by : (told : Told) (bytes name b1 b2 b3 b4 b5 b6 rest : List ℕ) (table oid modifier code : ℕ) (attribute size : ℤ) (f : PgValueFormat) →
-    name_in bytes ≡ Ok (name, b1) → number b1 ≡ Some (table, b2) → signed_two b2 ≡ Some (attribute, b3) → number b3 ≡ Some (oid, b4) → signed_two b4 ≡ Some (size, b5) → number b5 ≡ Some (modifier, b6) →
-    two b6 ≡ Some (code, rest) → format_of code ≡ Ok f →
-    column_in told bytes ≡ Ok (record { name = name; table = table; attribute = attribute; type_oid = oid; size = size; modifier = cast_signed w32 modifier; format = f; type_info = type_by told oid }, rest)
-unfolding column_in
-column_by told bytes name b1 b2 b3 b4 b5 b6 rest table oid modifier code attribute size f e1 e2 e3 e4 e5 e6 e7 e8 = rw (e1, e2, e3, e4, e5, e6, e7, e8) refl
+column_by : (known : KnownTypes) (bytes name b1 b2 b3 b4 b5 b6 rest : List ℕ) (table oid modifier code : ℕ) (attribute size : ℤ) (f : PgValueFormat) →
+    name_front bytes ≡ Ok (name, b1) → u32_front b1 ≡ Ok (table, b2) → i16_front b2 ≡ Ok (attribute, b3) → u32_front b3 ≡ Ok (oid, b4) → i16_front b4 ≡ Ok (size, b5) → u32_front b5 ≡ Ok (modifier, b6) →
+    u16_front b6 ≡ Ok (code, rest) → format_of code ≡ Ok f →
+    (column_front known bytes).answer
+    ≡ Ok (record { name = name; table = table; attribute = attribute; type_oid = oid; size = size; modifier = cast_signed w32 modifier; format = f; type_info = type_by known oid }, rest)
+unfolding column_front
+column_by known bytes name b1 b2 b3 b4 b5 b6 rest table oid modifier code attribute size f e1 e2 e3 e4 e5 e6 e7 e8 = rw (e1, e2, e3, e4, e5, e6, e7, e8) refl
 
 format_fits : (f : PgValueFormat) → format_number f < 2 ^ 16
 format_fits Text = omega arith
 format_fits Binary = omega arith
 
-raw_there : (told : Told) (r : Raw) (rest : List ℕ) → IsRaw r → column_in told (raw_bytes r ++ rest) ≡ Ok (column_of told r, rest)
-raw_there told r rest h =
-    let b6 : List ℕ = to_be_bytes w16 (format_number r.format) ++ rest in
-    let b5 : List ℕ = to_be_bytes w32 r.modifier ++ b6 in
-    let b4 : List ℕ = to_be_bytes w16 r.size ++ b5 in
-    let b3 : List ℕ = to_be_bytes w32 r.type_oid ++ b4 in
-    let b2 : List ℕ = to_be_bytes w16 r.attribute ++ b3 in
-    let b1 : List ℕ = to_be_bytes w32 r.table ++ b2 in
-    let whole : raw_bytes r ++ rest ≡ r.name ++ (0 ∷ b1) = append_assoc r.name _ rest in
-    ap (column_in told) whole
-    ∙ column_by told (r.name ++ (0 ∷ b1)) r.name b1 b2 b3 b4 b5 b6 rest r.table r.type_oid r.modifier (format_number r.format) (cast_signed w16 r.attribute) (cast_signed w16 r.size) r.format
-    (name_there r.name b1 h.name h.text) (number_there r.table b2 h.table) (signed_there r.attribute b3 h.attribute) (number_there r.type_oid b4 h.type_oid) (signed_there r.size b5 h.size)
-    (number_there r.modifier b6 h.modifier) (two_there (format_number r.format) rest (format_fits r.format)) (format_there r.format)
+-- a column's bytes and the rest
+column_there : (known : KnownTypes) (c : Column) (rest : List ℕ) → IsColumn known c → (column_front known (column_bytes c ++ rest)).answer ≡ Ok (c, rest)
+column_there known c rest s =
+    let n : ℕ = cast_unsigned w32 c.modifier in
+    let b6 : List ℕ = to_be_bytes w16 (format_number c.format) ++ rest in
+    let b5 : List ℕ = to_be_bytes w32 n ++ b6 in
+    let b4 : List ℕ = to_be_bytes w16 (cast_unsigned w16 c.size) ++ b5 in
+    let b3 : List ℕ = to_be_bytes w32 c.type_oid ++ b4 in
+    let b2 : List ℕ = to_be_bytes w16 (cast_unsigned w16 c.attribute) ++ b3 in
+    let b1 : List ℕ = to_be_bytes w32 c.table ++ b2 in
+    let whole : column_bytes c ++ rest ≡ c.name ++ 0 ∷ b1 = append_assoc c.name _ rest in
+    let read = column_by known (c.name ++ 0 ∷ b1) c.name b1 b2 b3 b4 b5 b6 rest c.table c.type_oid n (format_number c.format) c.attribute c.size c.format (name_there c.name b1 s.name s.text) (u32_there c.table b2 s.table)
+    (i16_there c.attribute b3 s.attribute) (u32_there c.type_oid b4 s.type_oid) (i16_there c.size b5 s.size) (u32_there n b6 (Fits-of_z s.modifier).fits) (u16_there (format_number c.format) rest (format_fits c.format)) (format_there c.format) in
+    let same : (let d : Column = record c { modifier = cast_signed w32 n; type_info = type_by known c.type_oid } in d) ≡ c =
+    ap (λ (m : ℤ). let d : Column = record c { modifier = m; type_info = type_by known c.type_oid } in d) (to_z-of_z s.modifier) ∙ ap (λ (t : Ty). let d : Column = record c { type_info = t } in d) (sym s.type_is) in
+    ap (λ (bytes : List ℕ). (column_front known bytes).answer) whole ∙ read ∙ ap (λ (d : Column). Ok (d, rest)) same
 
-no_columns : (told : Told) (bytes : List ℕ) → columns_in told 0 bytes ≡ Ok ([], bytes)
-unfolding columns_in
-no_columns told bytes = refl
+-- ---- what is read is a column
 
-columns_there : (told : Told) (raws : List Raw) (rest : List ℕ) → AllByRecursion IsRaw raws → columns_in told (length raws) (flat_map raw_bytes raws ++ rest) ≡ Ok (map (column_of told) raws, rest)
-columns_there told [] rest each = no_columns told rest
-columns_there told (r ∷ raws) rest each =
-    let more : List ℕ = flat_map raw_bytes raws ++ rest in
-    ap (columns_in told (suc (length raws))) (append_assoc (raw_bytes r) (flat_map raw_bytes raws) rest)
-    ∙ column_there told (length raws) (raw_bytes r ++ more) (column_of told r) more (raw_there told r more each.0)
-    ∙ ap (with_first (column_of told r)) (columns_there told raws rest each.1)
+-- what is made of the modifier and the format
+record IsTail (g : ℤ → PgValueFormat → Column) (bytes rest : List ℕ) (c : Column) : Type 0 where
+  modifier : ℤ
+  format : PgValueFormat
+  fits : FitsSigned w32 modifier
+  column : g modifier format ≡ c
+  whole : bytes ≡ to_be_bytes w32 (cast_unsigned w32 modifier) ++ (to_be_bytes w16 (format_number format) ++ rest)
 
-description_by : (told : Told) (bytes frames : List ℕ) (n : ℕ) (columns : List Column) → two bytes ≡ Some (n, frames) → columns_in told n frames ≡ Ok (columns, []) → description told bytes ≡ Ok columns
+abbrev tail_front : (ℤ → PgValueFormat → Column) → Bool → List ℕ → Outcome (Column × List ℕ)
+tail_front g b bytes = do
+  modifier ← exactly (u32_front bytes)
+  code ← exactly (u16_front modifier.1)
+  format ← exactly (format_of code.0)
+  allocates b
+  done (g (cast_signed w32 modifier.0) format, code.1)
+
+tail_is : (g : ℤ → PgValueFormat → Column) (b : Bool) (bytes rest : List ℕ) (c : Column) → AreBytes bytes → (tail_front g b bytes).answer ≡ Ok (c, rest) → IsTail g bytes rest c
+tail_is g b bytes rest c h e =
+    let m = taken_exactly (u32_front bytes) _ (c, rest) e in
+    let k = taken_exactly (u16_front m.0.1) _ (c, rest) m.2 in
+    let f = taken_exactly (format_of k.0.0) _ (c, rest) k.2 in
+    let p = answer_is {A = Column × List ℕ} (g (cast_signed w32 m.0.0) f.0, k.0.1) (c, rest) f.2 in
+    let number = u32_is bytes m.0.1 m.0.0 h m.1 in
+    let h1 : AreBytes m.0.1 = bytes_after (to_be_bytes w32 m.0.0) m.0.1 (subst AreBytes number.1 h) in
+    let code = u16_is m.0.1 k.0.1 k.0.0 h1 k.1 in
+    let format : k.0.0 ≡ format_number f.0 = format_is k.0.0 f.0 f.1 in
+    let n_is : m.0.0 ≡ cast_unsigned w32 (cast_signed w32 m.0.0) = sym (of_z-to_z {w = w32} (record { fits = number.0 })) in
+    subst (λ (q : Column × List ℕ). IsTail g bytes q.1 q.0) p (record {
+      modifier = cast_signed w32 m.0.0;
+      format = f.0;
+      fits = sfits_to_z {w = w32} (record { fits = number.0 });
+      column = refl;
+      whole = number.1 ∙ ap (λ (xs : List ℕ). to_be_bytes w32 m.0.0 ++ xs) (code.1 ∙ ap (λ (n : ℕ). to_be_bytes w16 n ++ k.0.1) format)
+          ∙ ap (λ (n : ℕ). to_be_bytes w32 n ++ (to_be_bytes w16 (format_number f.0) ++ k.0.1)) n_is;
+    })
+
+-- a number of four bytes and a signed one of two, and what is read after them
+record IsPair (g : ℕ → ℤ → List ℕ → Outcome (Column × List ℕ)) (bytes : List ℕ) (y : Column × List ℕ) : Type 0 where
+  first : ℕ
+  second : ℤ
+  rest : List ℕ
+  first_fits : first < 2 ^ 32
+  second_fits : FitsSigned w16 second
+  whole : bytes ≡ to_be_bytes w32 first ++ (to_be_bytes w16 (cast_unsigned w16 second) ++ rest)
+  left : AreBytes rest
+  more : (g first second rest).answer ≡ Ok y
+
+abbrev pair_front : (ℕ → ℤ → List ℕ → Outcome (Column × List ℕ)) → List ℕ → Outcome (Column × List ℕ)
+pair_front g bytes = do
+  first ← exactly (u32_front bytes)
+  second ← exactly (i16_front first.1)
+  g first.0 second.0 second.1
+
+pair_is : (g : ℕ → ℤ → List ℕ → Outcome (Column × List ℕ)) (bytes : List ℕ) (y : Column × List ℕ) → AreBytes bytes → (pair_front g bytes).answer ≡ Ok y → IsPair g bytes y
+pair_is g bytes y h e =
+    let t = taken_exactly (u32_front bytes) _ y e in
+    let u = taken_exactly (i16_front t.0.1) _ y t.2 in
+    let first = u32_is bytes t.0.1 t.0.0 h t.1 in
+    let h1 : AreBytes t.0.1 = bytes_after (to_be_bytes w32 t.0.0) t.0.1 (subst AreBytes first.1 h) in
+    let second = i16_is t.0.1 u.0.1 u.0.0 h1 u.1 in
+    record {
+      first = t.0.0;
+      second = u.0.0;
+      rest = u.0.1;
+      first_fits = first.0;
+      second_fits = second.0;
+      whole = first.1 ∙ ap (λ (xs : List ℕ). to_be_bytes w32 t.0.0 ++ xs) second.1;
+      left = bytes_after (to_be_bytes w16 (cast_unsigned w16 u.0.0)) u.0.1 (subst AreBytes second.1 h1);
+      more = u.2;
+    }
+
+abbrev column_made : KnownTypes → List ℕ → ℕ → ℤ → ℕ → ℤ → ℤ → PgValueFormat → Column
+column_made known name table attribute oid size modifier format =
+    record { name = name; table = table; attribute = attribute; type_oid = oid; size = size; modifier = modifier; format = format; type_info = type_by known oid }
+
+abbrev type_on : KnownTypes → List ℕ → ℕ → ℤ → ℕ → ℤ → List ℕ → Outcome (Column × List ℕ)
+type_on known name table attribute oid size bytes = tail_front (column_made known name table attribute oid size) (is_custom (type_by known oid)) bytes
+
+abbrev table_on : KnownTypes → List ℕ → ℕ → ℤ → List ℕ → Outcome (Column × List ℕ)
+table_on known name table attribute bytes = pair_front (type_on known name table attribute) bytes
+
+record IsNamed (known : KnownTypes) (bytes : List ℕ) (y : Column × List ℕ) : Type 0 where
+  name : List ℕ
+  rest : List ℕ
+  is_name : IsName bytes name rest
+  more : (pair_front (table_on known name) rest).answer ≡ Ok y
+
+named_is : (known : KnownTypes) (bytes : List ℕ) (y : Column × List ℕ) → (column_front known bytes).answer ≡ Ok y → IsNamed known bytes y
+unfolding column_front
+named_is known bytes y e =
+    let a = taken_exactly (name_front bytes) _ y e in
+    record { name = a.0.0; rest = a.0.1; is_name = name_is bytes a.0.0 a.0.1 a.1; more = a.2 }
+
+column_is : (known : KnownTypes) (bytes : List ℕ) (c : Column) (rest : List ℕ) → AreBytes bytes → (column_front known bytes).answer ≡ Ok (c, rest) → IsColumn known c × (bytes ≡ column_bytes c ++ rest)
+column_is known bytes c rest h e =
+    let n = named_is known bytes (c, rest) e in
+    let h1 : AreBytes n.rest = bytes_after (0 ∷ []) n.rest (bytes_after n.name (0 ∷ n.rest) (subst AreBytes n.is_name.whole h)) in
+    let a = pair_is (table_on known n.name) n.rest (c, rest) h1 n.more in
+    let b = pair_is (type_on known n.name a.first a.second) a.rest (c, rest) a.left a.more in
+    let t = tail_is (column_made known n.name a.first a.second b.first b.second) (is_custom (type_by known b.first)) b.rest rest c b.left b.more in
+    let numbers : n.rest ≡ to_be_bytes w32 a.first ++ (to_be_bytes w16 (cast_unsigned w16 a.second) ++ (to_be_bytes w32 b.first ++ (to_be_bytes w16 (cast_unsigned w16 b.second) ++ (to_be_bytes w32 (cast_unsigned w32 t.modifier) ++ (to_be_bytes w16 (format_number t.format) ++ rest))))) =
+    a.whole ∙ ap (λ (xs : List ℕ). to_be_bytes w32 a.first ++ (to_be_bytes w16 (cast_unsigned w16 a.second) ++ xs)) (b.whole ∙ ap (λ (xs : List ℕ). to_be_bytes w32 b.first ++ (to_be_bytes w16 (cast_unsigned w16 b.second) ++ xs)) t.whole) in
+    subst (λ (d : Column). IsColumn known d × (bytes ≡ column_bytes d ++ rest)) t.column (
+      record { name = n.is_name.none; text = n.is_name.text; table = a.first_fits; attribute = a.second_fits; type_oid = b.first_fits; size = b.second_fits; modifier = t.fits; type_is = refl },
+      n.is_name.whole ∙ ap (λ (xs : List ℕ). n.name ++ (0 ∷ xs)) numbers ∙ sym (append_assoc n.name _ rest),
+    )
+
+-- a column is read exactly from its bytes
+pub reads_column : (known : KnownTypes) → ReadsOne (IsColumn known) column_bytes (column_front known)
+reads_column known bytes c rest h = (column_is known bytes c rest h, λ s. ap (λ (xs : List ℕ). (column_front known xs).answer) s.1 ∙ column_there known c rest s.0)
+
+-- ---- descriptions
+
+described_by : (known : KnownTypes) (bytes rest : List ℕ) (n : ℕ) (columns : List Column) → u16_front bytes ≡ Ok (n, rest) → (several (column_front known) n rest).answer ≡ Ok (columns, []) → (description known bytes).answer ≡ Ok columns
 unfolding description
-description_by told bytes frames n columns count found = rw (count, found) refl
+described_by known bytes rest n columns count found = rw (count, found) refl
 
-there : (told : Told) (raws : List Raw) → length raws < 2 ^ 16 → AllByRecursion IsRaw raws → description told (to_be_bytes w16 (length raws) ++ flat_map raw_bytes raws) ≡ Ok (map (column_of told) raws)
-there told raws many each =
-    description_by told (to_be_bytes w16 (length raws) ++ flat_map raw_bytes raws) (flat_map raw_bytes raws) (length raws) (map (column_of told) raws) (two_there (length raws) (flat_map raw_bytes raws) many)
-    (ap (columns_in told (length raws)) (sym (append-nil (flat_map raw_bytes raws))) ∙ columns_there told raws [] each)
+is_read : (known : KnownTypes) (bytes : List ℕ) (columns : List Column) → AreBytes bytes → IsDescription known bytes columns → (description known bytes).answer ≡ Ok columns
+is_read known bytes columns h s =
+    let body : List ℕ = flat_map column_bytes columns in
+    let left : AreBytes body = bytes_after (to_be_bytes w16 (length columns)) body (subst AreBytes s.whole h) in
+    described_by known bytes body (length columns) columns (ap u16_front s.whole ∙ u16_there (length columns) body s.many)
+    (several_read (IsColumn known) column_bytes (column_front known) (reads_column known) (length columns) body columns [] left (record { many = refl; each = s.each; whole = sym (append-nil body) }))
+
+is_description : (known : KnownTypes) (bytes : List ℕ) (columns : List Column) → AreBytes bytes → (description known bytes).answer ≡ Ok columns → IsDescription known bytes columns
+unfolding description
+is_description known bytes columns h e =
+    let a = taken_exactly (u16_front bytes) _ columns e in
+    let count = u16_is bytes a.0.1 a.0.0 h a.1 in
+    let b = taken (several (column_front known) a.0.0 a.0.1) _ columns a.2 in
+    let t = tested (not (nat_eq (length b.0.1) 0)) (WrongLength (length bytes)) (done b.0.0) columns b.2 in
+    let left : AreBytes a.0.1 = bytes_after (to_be_bytes w16 a.0.0) a.0.1 (subst AreBytes count.1 h) in
+    let c = are_several (IsColumn known) column_bytes (column_front known) (reads_column known) a.0.0 a.0.1 b.0.0 b.0.1 left b.1 in
+    let body : a.0.1 ≡ flat_map column_bytes b.0.0 = c.whole ∙ ap (λ (xs : List ℕ). flat_map column_bytes b.0.0 ++ xs) (nothing_is b.0.1 t.0) ∙ append-nil (flat_map column_bytes b.0.0) in
+    subst (IsDescription known bytes) (answer_is {A = List Column} b.0.0 columns t.1) (record {
+      whole = count.1 ∙ ap (λ (xs : List ℕ). to_be_bytes w16 a.0.0 ++ xs) body ∙ ap (λ (n : ℕ). to_be_bytes w16 n ++ flat_map column_bytes b.0.0) (sym c.many);
+      many = subst (λ (n : ℕ). n < 2 ^ 16) (sym c.many) count.0;
+      each = c.each;
+    })
 
 pub description_is_read : DescriptionIsRead
-description_is_read told bytes columns h =
-    ap (description told) h.whole ∙ there told h.raws h.many h.each ∙ ap (λ (cs : List Column). let r : Read (List Column) = Ok cs in r) (sym h.columns_are)
+description_is_read known bytes columns h = (is_description known bytes columns h, is_read known bytes columns h)
+
+-- ---- as a reader answers
+
+module _ {V : Type 0} (view : V → List Column) (known : KnownTypes) (bytes : List ℕ) where
+  pub exactly_columns : (result : Result V CodecError) → AreBytes bytes → Gives view (description known bytes) result → IfOk result (λ v. IsDescription known bytes (view v))
+  exactly_columns (Ok v) h gives = is_description known bytes (view v) h gives
+  exactly_columns (Err e) h gives = tt
+
+  pub only_columns : (result : Result V CodecError) (columns : List Column) → AreBytes bytes → Gives view (description known bytes) result → IsDescription known bytes columns →
+      MatchResult result (λ v. view v ≡ columns) (λ e. e ≡ Memory)
+  only_columns (Ok v) columns h gives s = answer_is {A = List Column} (view v) columns (sym gives ∙ is_read known bytes columns h s)
+  only_columns (Err e) columns h gives s = (only_memory (description known bytes) e columns (is_read known bytes columns h s) gives).0

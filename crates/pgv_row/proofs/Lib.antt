@@ -1,8 +1,8 @@
-mod Cut
-mod PartLoop
-mod ColumnLoop
-mod Formats
-mod Steps
-mod DataRows
-mod Descriptions
-mod DescriptionsRead
+pub mod Outcomes
+pub mod Several
+pub mod Fronts
+pub mod Cut
+pub mod Places
+pub mod DataRows
+pub mod Descriptions
+pub mod Formats

@@ -1,69 +1,62 @@
--- The body of a RowDescription (PostgreSQL: "Message Formats", RowDescription): the number of columns in two bytes, unsigned as libpq
--- reads it, and for each its name, which a zero byte ends, the OID of its table in four bytes and its number there in two, the OID
--- of its type in four, the size of the type in two and its modifier in four, and the format of its values in two; nothing comes after
--- them.
+-- The body of a RowDescription (PostgreSQL: "Message Formats", RowDescription): the number of columns in two bytes, unsigned, and for
+-- each its name, which a zero byte ends, the OID of its table in four bytes and its number there in two, the OID of its type in
+-- four, the size of the type in two and its modifier in four, and the format of its values in two; nothing comes after them.
 -- How it is read: what isn't there is C15, a name that isn't UTF-8 C14, another format than 0 and 1 C30, and bytes after the last
--- column C17. The type of a column is the built-in of its OID, or else what a catalogue tells of it, or else known by its OID alone.
-use Rattle.std.specs.Prelude.{◌≡◌, ◌==◌, ℕ, zero, suc, ◌<◌, ◌^◌, nat_eq, true, false, List, [], ◌∷◌, ◌++◌, length, map, flat_map, Option, Some, None, ok_or, Ok, Err, if◌then◌else◌}
-use Rattle.std.specs.Int.{w16, w32, cast_signed, to_be_bytes}
+-- column C17. The type of a column is the built-in of its OID, or else what a catalogue has of it, or else known by its OID alone.
+use Rattle.std.specs.Prelude.{FitsSigned, ◌≡◌, ◌==◌, ◌↔◌, ℕ, ◌<◌, ◌^◌, nat_eq, not, true, false, List, ◌∷◌, ◌++◌, length, flat_map, Option, Some, None, Ok, Err, if◌then◌else◌}
+use Rattle.std.specs.Int.{w16, w32, cast_signed, cast_unsigned, to_be_bytes}
 use Rattle.std.specs.List.{AllByRecursion}
 use Rattle.pgv_types.specs.Ty.{Ty, by_oid}
-use Rattle.pgv_types.specs.Facts.{built_in}
-use Rattle.pgv_value.specs.Steps.{number, signed_two}
+use Rattle.pgv_types.specs.Facts.{built_in, is_custom}
 use Rattle.pgv_value.specs.Laws.{AreBytes}
 use Rattle.pgv_value.specs.Utf8.{is_utf8}
-use Rattle.pgv_value.specs.declared.error.CodecError.TheVariants.{Short, Utf8, OutOfRange, WrongLength}
+use Rattle.pgv_value.specs.declared.error.CodecError.TheVariants.{OutOfRange, WrongLength}
 use Rattle.pgv_value.specs.declared.value.PgValueFormat.{PgValueFormat}
 use Rattle.pgv_value.specs.declared.value.PgValueFormat.TheVariants.{Text, Binary}
-use Rattle.pgv_copy.specs.CopyBinary.{Read, ◌>>◌}
-use Rattle.pgv_row.specs.Numbers.{two, ended}
 use Rattle.pgv_row.specs.ColumnView.{Column}
+use Rattle.pgv_row.specs.Fronts.{i16_front, u16_front, u32_front, name_front}
+use Rattle.pgv_row.specs.Outcome.{Outcome, exactly, allocates, fails_if, done, ◌>>=◌, ◌>>◌}
+use Rattle.pgv_row.specs.Parsed.{Parsed}
+use Rattle.pgv_row.specs.Several.{several}
 
 -- ---- the type of a column
 
 -- what is known of the types of a server, by their OIDs
-abbrev pub Told : Type 0
-Told = ℕ → Option Ty
+abbrev pub KnownTypes : Type 0
+KnownTypes = ℕ → Option Ty
 
-abbrev pub told_or : Option Ty → Ty → Ty
-told_or None t = t
-told_or (Some u) t = u
+abbrev pub type_or : Option Ty → Ty → Ty
+type_or None t = t
+type_or (Some u) t = u
 
-unfoldable pub type_by : Told → ℕ → Ty
-type_by told oid = told_or (built_in oid) (told_or (told oid) (by_oid oid))
+unfoldable pub type_by : KnownTypes → ℕ → Ty
+type_by known oid = type_or (built_in oid) (type_or (known oid) (by_oid oid))
 
 -- ---- how a column is read
 
--- a text that a zero byte ends
-unfoldable pub name_in : List ℕ → Read (List ℕ × List ℕ)
-name_in bytes = ok_or (ended bytes) Short >> λ name. if is_utf8 name.0 then Ok name else Err Utf8
-
-abbrev pub format_of : ℕ → Read PgValueFormat
+abbrev pub format_of : ℕ → Parsed PgValueFormat
 format_of code = if nat_eq code 0 then Ok Text else if nat_eq code 1 then Ok Binary else Err OutOfRange
 
-unfoldable pub column_in : Told → List ℕ → Read (Column × List ℕ)
-column_in told bytes =
-    name_in bytes >> λ name.
-    ok_or (number name.1) Short >> λ table.
-    ok_or (signed_two table.1) Short >> λ attribute.
-    ok_or (number attribute.1) Short >> λ oid.
-    ok_or (signed_two oid.1) Short >> λ size.
-    ok_or (number size.1) Short >> λ modifier.
-    ok_or (two modifier.1) Short >> λ code.
-    format_of code.0 >> λ format.
-    Ok (record { name = name.0; table = table.0; attribute = attribute.0; type_oid = oid.0; size = size.0; modifier = cast_signed w32 modifier.0; format = format; type_info = type_by told oid.0 }, code.1)
+unfoldable pub column_front : KnownTypes → List ℕ → Outcome (Column × List ℕ)
+column_front known bytes = do
+  name ← exactly (name_front bytes)
+  table ← exactly (u32_front name.1)
+  attribute ← exactly (i16_front table.1)
+  oid ← exactly (u32_front attribute.1)
+  size ← exactly (i16_front oid.1)
+  modifier ← exactly (u32_front size.1)
+  code ← exactly (u16_front modifier.1)
+  format ← exactly (format_of code.0)
+  allocates (is_custom (type_by known oid.0))
+  done (record { name = name.0; table = table.0; attribute = attribute.0; type_oid = oid.0; size = size.0; modifier = cast_signed w32 modifier.0; format = format; type_info = type_by known oid.0 }, code.1)
 
--- as many columns, and what comes after them
-unfoldable pub columns_in : Told → ℕ → List ℕ → Read (List Column × List ℕ)
-columns_in told zero bytes = Ok ([], bytes)
-columns_in told (suc n) bytes = column_in told bytes >> λ first. columns_in told n first.1 >> λ more. Ok (first.0 ∷ more.0, more.1)
-
--- the columns of a body of this size, after which nothing is left
-abbrev pub none_after : ℕ → List Column × List ℕ → Read (List Column)
-none_after size p = if nat_eq (length p.1) 0 then Ok p.0 else Err (WrongLength size)
-
-unfoldable pub description : Told → List ℕ → Read (List Column)
-description told bytes = ok_or (two bytes) Short >> λ count. columns_in told count.0 count.1 >> none_after (length bytes)
+unfoldable pub description : KnownTypes → List ℕ → Outcome (List Column)
+description known bytes = do
+  count ← exactly (u16_front bytes)
+  allocates true
+  columns ← several (column_front known) count.0 count.1
+  fails_if (not (nat_eq (length columns.1) 0)) (WrongLength (length bytes))
+  done columns.0
 
 -- a column whose values are in this format
 abbrev pub in_format : PgValueFormat → Column → Column
@@ -71,51 +64,34 @@ in_format format c = record c { format = format }
 
 -- ---- what a body is
 
--- a column as it stands, with its numbers as they are before their signs are seen
-pub record Raw : Type 0 where
-  pub name : List ℕ
-  pub table : ℕ
-  pub attribute : ℕ
-  pub type_oid : ℕ
-  pub size : ℕ
-  pub modifier : ℕ
-  pub format : PgValueFormat
-
 abbrev pub format_number : PgValueFormat → ℕ
 format_number Text = 0
 format_number Binary = 1
 
 -- its name, which a zero byte ends, and its numbers
-abbrev pub raw_bytes : Raw → List ℕ
-raw_bytes r =
-    r.name ++ (0 ∷ (to_be_bytes w32 r.table ++ (to_be_bytes w16 r.attribute ++ (to_be_bytes w32 r.type_oid ++ (to_be_bytes w16 r.size ++ (to_be_bytes w32 r.modifier ++ to_be_bytes w16 (format_number r.format)))))))
+abbrev pub column_bytes : Column → List ℕ
+column_bytes c =
+    c.name ++ (0 ∷ (to_be_bytes w32 c.table ++ (to_be_bytes w16 (cast_unsigned w16 c.attribute) ++ (to_be_bytes w32 c.type_oid ++ (to_be_bytes w16 (cast_unsigned w16 c.size) ++ (to_be_bytes w32 (cast_unsigned w32 c.modifier) ++ to_be_bytes w16 (format_number c.format)))))))
 
--- a name has no zero byte and is UTF-8, and each number fits its bytes
-pub record IsRaw (r : Raw) : Type 0 where
-  pub name : AllByRecursion (λ b. (b == 0) ≡ false) r.name
-  pub text : is_utf8 r.name ≡ true
-  pub table : r.table < 2 ^ 32
-  pub attribute : r.attribute < 2 ^ 16
-  pub type_oid : r.type_oid < 2 ^ 32
-  pub size : r.size < 2 ^ 16
-  pub modifier : r.modifier < 2 ^ 32
-
--- the column that it is
-abbrev pub column_of : Told → Raw → Column
-column_of told r = record { name = r.name; table = r.table; attribute = cast_signed w16 r.attribute; type_oid = r.type_oid; size = cast_signed w16 r.size; modifier = cast_signed w32 r.modifier; format = r.format; type_info = type_by told r.type_oid }
+-- a name has no zero byte and is UTF-8, each number fits its bytes, and the type is that of the OID
+pub record IsColumn (known : KnownTypes) (c : Column) : Type 0 where
+  pub name : AllByRecursion (λ b. (b == 0) ≡ false) c.name
+  pub text : is_utf8 c.name ≡ true
+  pub table : c.table < 2 ^ 32
+  pub attribute : FitsSigned w16 c.attribute
+  pub type_oid : c.type_oid < 2 ^ 32
+  pub size : FitsSigned w16 c.size
+  pub modifier : FitsSigned w32 c.modifier
+  pub type_is : c.type_info ≡ type_by known c.type_oid
 
 -- a body: the number of columns, and these; nothing comes after them
-pub record IsDescription (told : Told) (bytes : List ℕ) (columns : List Column) : Type 0 where
-  pub raws : List Raw
-  pub whole : bytes ≡ to_be_bytes w16 (length raws) ++ flat_map raw_bytes raws
-  pub many : length raws < 2 ^ 16
-  pub each : AllByRecursion IsRaw raws
-  pub columns_are : columns ≡ map (column_of told) raws
+pub record IsDescription (known : KnownTypes) (bytes : List ℕ) (columns : List Column) : Type 0 where
+  pub whole : bytes ≡ to_be_bytes w16 (length columns) ++ flat_map column_bytes columns
+  pub many : length columns < 2 ^ 16
+  pub each : AllByRecursion (IsColumn known) columns
 
--- Whatever is a description is read as its columns.
+-- ---- laws
+
+-- A body is read as columns exactly where it is a description of them.
 abbrev pub DescriptionIsRead : Type 0
-DescriptionIsRead = (told : Told) (bytes : List ℕ) (columns : List Column) → IsDescription told bytes columns → description told bytes ≡ Ok columns
-
--- What is read as columns is a description of them.
-abbrev pub ReadIsDescription : Type 0
-ReadIsDescription = (told : Told) (bytes : List ℕ) (columns : List Column) → AreBytes bytes → description told bytes ≡ Ok columns → IsDescription told bytes columns
+DescriptionIsRead = (known : KnownTypes) (bytes : List ℕ) (columns : List Column) → AreBytes bytes → ((description known bytes).answer ≡ Ok columns) ↔ IsDescription known bytes columns

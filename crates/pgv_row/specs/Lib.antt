@@ -1,4 +1,7 @@
-pub mod Numbers
+pub mod Parsed
+pub mod Outcome
+pub mod Fronts
+pub mod Several
 pub mod DataRow
 pub mod Places
 pub mod ColumnView

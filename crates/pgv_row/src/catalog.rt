@@ -1,9 +1,9 @@
 //! The types of a server that are not built in.
 
-ghost use Rattle.std.specs.Prelude.{◌≡◌, ℕ, Option, option_map, IfOk, IfErr};
+ghost use Rattle.std.specs.Prelude.{◌≡◌, ℕ, Option, true, option_map, IfOk, IfErr, OnErr};
 ghost use Rattle.pgv_types.specs.Ty.{Ty};
 ghost use Rattle.pgv_value.specs.declared.error.CodecError.TheVariants.{Memory};
-ghost use Rattle.pgv_types.specs.Facts.{oid_of};
+ghost use Rattle.pgv_types.specs.Facts.{oid_of, is_custom};
 ghost use Rattle.pgv_row.specs.Catalog.{with_oid, is_oid};
 ghost use Rattle.pgv_row.specs.Description.{type_by};
 
@@ -13,16 +13,16 @@ use pgv_value::CodecError;
 /// What a caller knows of the types of a server, by their OIDs.
 pub trait PgCatalog {
     /// The type of an OID, where it is known.
-    ghost told: { Self → ℕ → Option Ty };
+    ghost known: { Self → ℕ → Option Ty };
 
     /// The type of an OID, where it is known.
     fn type_of(&self, oid: Oid) -> Option<&PgTypeInfo>
-        ensures { option_map (λ t. t.now) result ≡ told self.now oid.0 };
+        ensures { option_map (λ t. t.now) result ≡ known self.now oid.0 };
 }
 
 /// A list of types: the first that has the OID.
 impl PgCatalog for &[PgTypeInfo] {
-    ghost told = { λ types oid. with_oid oid types.now };
+    ghost known = { λ types oid. with_oid oid types.now };
 
     fn type_of(&self, oid: Oid) -> Option<&PgTypeInfo> {
         let types: &[PgTypeInfo] = *self;
@@ -45,18 +45,19 @@ fn has_oid(type_info: &PgTypeInfo, oid: Oid) -> bool
     }
 }
 
-/// The type of an OID: the built-in one, or else what the catalogue tells, or else a type of which only the OID is known. Only the copy
+/// The type of an OID: the built-in one, or else what the catalogue has, or else a type of which only the OID is known. Only the copy
 /// of a custom type may be refused (C1).
 #[tactic(auto, unfolding(crate::specs::Description::type_by))]
 pub fn type_of_oid<C: PgCatalog>(catalog: &C, oid: Oid) -> Result<PgTypeInfo, CodecError>
-    ensures found { IfOk result (λ t. t ≡ type_by (C.told catalog.now) oid.0) }
+    ensures found { IfOk result (λ t. t ≡ type_by (C.known catalog.now) oid.0) }
     ensures memory { IfErr result (λ e. e ≡ Memory) }
+    ensures copied { OnErr result (is_custom (type_by (C.known catalog.now) oid.0) ≡ true) }
 {
     if let Some(built_in) = PgTypeInfo::try_from_oid(oid) {
         return Ok(built_in);
     }
     match catalog.type_of(oid) {
-        Some(told) => Ok(told.clone()?),
+        Some(known) => Ok(known.clone()?),
         None => Ok(PgTypeInfo::with_oid(oid)),
     }
 }

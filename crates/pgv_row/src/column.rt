@@ -1,12 +1,14 @@
 //! The columns of a statement's result, as a RowDescription tells of them.
 
-ghost use Rattle.std.specs.Prelude.{◌≡◌, ◌==◌, List, length, map, Ok, Err, Some, None, IfOk, IfErr, IfSome, MatchResult, slice_get, position};
+ghost use Rattle.std.specs.Prelude.{◌≡◌, ◌==◌, true, List, length, map, IfOk, MatchResult, slice_get, position};
 ghost use Rattle.std.specs.Option.{option_copied};
 ghost use Rattle.std.specs.Str.{bytes_eq};
-ghost use Rattle.pgv_value.specs.Reading.{Refuses};
-ghost use Rattle.pgv_row.specs.Description.{format_of as format_by, column_in, columns_in, description, in_format, IsDescription};
-ghost use Rattle.pgv_row.specs.ColumnView.{Column};
 ghost use Rattle.pgv_value.specs.declared.error.CodecError.TheVariants.{Memory};
+ghost use Rattle.pgv_row.specs.ColumnView.{Column};
+ghost use Rattle.pgv_row.specs.Description.{format_of as format_by, column_front, description, in_format, IsDescription};
+ghost use Rattle.pgv_row.specs.Outcome.{Gives, after};
+ghost use Rattle.pgv_row.specs.Parsed.{GivesExactly};
+ghost use Rattle.pgv_row.specs.Several.{several};
 
 use crate::catalog::{PgCatalog, type_of_oid};
 use crate::front::{name_in_front, u16_in_front};
@@ -105,8 +107,7 @@ impl<'d> PgColumn<'d> {
 
 /// The format of a code: 0 is text and 1 binary. Any other is refused with C30.
 fn format_of(code: u16) -> Result<PgValueFormat, CodecError>
-    ensures found { IfOk result (λ f. format_by code ≡ Ok f) }
-    ensures refused { IfErr result (λ e. format_by code ≡ Err e) }
+    ensures { GivesExactly (λ format. format) (format_by code) result }
 {
     match code {
         0 => Ok(PgValueFormat::Text),
@@ -115,14 +116,13 @@ fn format_of(code: u16) -> Result<PgValueFormat, CodecError>
     }
 }
 
-/// The column in front, and the bytes after it.
-#[tactic(auto, unfolding(crate::specs::Description::column_in))]
+/// The column in front, and the rest.
+#[tactic(auto, unfolding(crate::specs::Description::column_front))]
 fn column_in_front<'d, C: PgCatalog>(
     bytes: &'d [u8],
     catalog: &C,
 ) -> Result<(PgColumn<'d>, &'d [u8]), CodecError>
-    ensures found { IfOk result (λ x. column_in (C.told catalog.now) bytes.now ≡ Ok (x.0, x.1.now)) }
-    ensures refused { IfErr result (λ e. Refuses e (column_in (C.told catalog.now) bytes.now ≡ Err e)) }
+    ensures { Gives (λ x. (x.0, x.1.now)) (column_front (C.known catalog.now) bytes.now) result }
 {
     let (name, rest) = name_in_front(bytes)?;
     let (table, rest) = u32_in_front(rest)?;
@@ -146,15 +146,14 @@ fn column_in_front<'d, C: PgCatalog>(
     Ok((column, rest))
 }
 
-/// As many columns, and the bytes after them.
+/// As many columns, and the rest.
 fn columns_in_front<'d, C: PgCatalog>(
     alloc: Global,
     bytes: &'d [u8],
     count: u16,
     catalog: &C,
 ) -> Result<(Vec<PgColumn<'d>>, &'d [u8]), CodecError>
-    ensures found { IfOk result (λ x. columns_in (C.told catalog.now) count bytes.now ≡ Ok (x.0.items, x.1.now)) }
-    ensures refused { IfErr result (λ e. Refuses e (columns_in (C.told catalog.now) count bytes.now ≡ Err e)) }
+    ensures { Gives (λ x. (x.0.items, x.1.now)) (after true (several (column_front (C.known catalog.now)) count bytes.now)) result }
 {
     let mut columns = Vec::new(alloc);
     let mut rest = bytes;
@@ -173,8 +172,7 @@ fn described<'d, C: PgCatalog>(
     body: &'d [u8],
     catalog: &C,
 ) -> Result<Vec<PgColumn<'d>>, CodecError>
-    ensures found { IfOk result (λ list. description (C.told catalog.now) body.now ≡ Ok list.items) }
-    ensures refused { IfErr result (λ e. Refuses e (description (C.told catalog.now) body.now ≡ Err e)) }
+    ensures { Gives (λ list. list.items) (description (C.known catalog.now) body.now) result }
 {
     let (count, rest) = u16_in_front(body)?;
     let (list, rest) = columns_in_front(alloc, rest, count, catalog)?;
@@ -212,10 +210,10 @@ impl<'d> PgColumns<'d> {
         body: &'d [u8],
         catalog: &C,
     ) -> Result<Self, CodecError>
+        ensures read { Gives (λ columns. columns) (description (C.known catalog.now) body.now) result }
         // What is answered is what the body describes, and nothing but memory keeps a description from being answered.
-        ensures exact { IfOk result (λ columns. IsDescription (C.told catalog.now) body.now columns) }
-        ensures only { (columns : List Column) → IsDescription (C.told catalog.now) body.now columns → MatchResult result (λ found. found ≡ columns) (λ e. e ≡ Memory) }
-        ensures refused { IfErr result (λ e. Refuses e (description (C.told catalog.now) body.now ≡ Err e)) }
+        ensures exact { IfOk result (λ columns. IsDescription (C.known catalog.now) body.now columns) }
+        ensures only { (columns : List Column) → IsDescription (C.known catalog.now) body.now columns → MatchResult result (λ found. found ≡ columns) (λ e. e ≡ Memory) }
     {
         let list = described(alloc, body, catalog)?;
         Ok(PgColumns { list })

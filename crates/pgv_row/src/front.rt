@@ -1,19 +1,17 @@
 //! What stands in front of bytes.
 
-ghost use Rattle.std.specs.Prelude.{◌≡◌, ◌+◌, ◌<◌, ◌==◌, length, Ok, Err, IfOk, IfErr, IfSome, position};
-ghost use Rattle.pgv_value.specs.Reading.{AnswersExactly};
-ghost use Rattle.pgv_value.specs.declared.error.CodecError.TheVariants.{Short};
-ghost use Rattle.pgv_row.specs.Numbers.{two, ended};
-ghost use Rattle.pgv_row.specs.Description.{name_in};
+ghost use Rattle.std.specs.Prelude.{◌≡◌, ◌+◌, ◌<◌, ◌==◌, length, IfOk, IfSome, position};
+ghost use Rattle.pgv_row.specs.Fronts.{u16_front, ended_front, name_front};
+ghost use Rattle.pgv_row.specs.Parsed.{GivesExactly};
 
 use pgv_value::CodecError;
 
-/// The unsigned number of 16 bits in front, the highest byte first, and the rest. Fewer than two bytes are refused with C15.
+/// The unsigned number of 16 bits in front, the highest byte first, and the rest: of `ffff00` it is 65535, and the rest is `00`. Fewer
+/// than two bytes are refused with C15.
 #[inline(always)]
-#[tactic(auto, unfolding(crate::specs::Numbers::two))]
+#[tactic(auto, unfolding(crate::specs::Fronts::u16_front))]
 pub fn u16_in_front(bytes: &[u8]) -> Result<(u16, &[u8]), CodecError>
-    ensures exact { AnswersExactly (λ x. (x.0, x.1.now)) (two bytes.now) result }
-    ensures short { IfErr result (λ e. e ≡ Short) }
+    ensures exact { GivesExactly (λ x. (x.0, x.1.now)) (u16_front bytes.now) result }
     ensures shorter { IfOk result (λ x. length x.1.now + 2 ≡ length bytes.now) }
 {
     if bytes.len() < 2 {
@@ -32,10 +30,10 @@ fn first_zero(bytes: &[u8]) -> Option<usize>
 }
 
 /// The bytes before the first zero byte, and those after it. Without a zero byte it is C15.
-#[tactic(auto, unfolding(crate::specs::Numbers::ended))]
+#[tactic(auto, unfolding(crate::specs::Fronts::ended_front))]
 fn ended_in_front(bytes: &[u8]) -> Result<(&[u8], &[u8]), CodecError>
-    ensures exact { AnswersExactly (λ x. (x.0.now, x.1.now)) (ended bytes.now) result }
-    ensures short { IfErr result (λ e. e ≡ Short) }
+    ensures exact { GivesExactly (λ x. (x.0.now, x.1.now)) (ended_front bytes.now) result }
+    ensures shorter { IfOk result (λ x. length x.1.now < length bytes.now) }
 {
     let Some(end) = first_zero(bytes) else {
         return Err(CodecError::Short);
@@ -45,11 +43,12 @@ fn ended_in_front(bytes: &[u8]) -> Result<(&[u8], &[u8]), CodecError>
     Ok((name, rest))
 }
 
-/// The text before the first zero byte, and the bytes after it. Without a zero byte it is C15, and where the text isn't UTF-8 C14.
-#[tactic(auto, unfolding(crate::specs::Description::name_in), using(pgv_value::proofs::Text::whole_text))]
+/// The text that a zero byte ends, and the rest: of `696400ff` it is `id`, and the rest is `ff` (PostgreSQL, "Message Data Types",
+/// String). Without a zero byte it is refused with C15, and where it isn't UTF-8 with C14.
+#[tactic(auto, unfolding(crate::specs::Fronts::name_front), using(pgv_value::proofs::Text::whole_text))]
 pub fn name_in_front(bytes: &[u8]) -> Result<(&str, &[u8]), CodecError>
-    ensures found { IfOk result (λ x. name_in bytes.now ≡ Ok (x.0.now, x.1.now)) }
-    ensures refused { IfErr result (λ e. name_in bytes.now ≡ Err e) }
+    ensures exact { GivesExactly (λ x. (x.0.now, x.1.now)) (name_front bytes.now) result }
+    ensures shorter { IfOk result (λ x. length x.1.now < length bytes.now) }
 {
     let (name, rest) = ended_in_front(bytes)?;
     match str::from_utf8(name) {

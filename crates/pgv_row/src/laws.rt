@@ -1,19 +1,14 @@
 //! Laws of rows and columns: each is the contract of a function that does nothing.
 
 ghost use Rattle.pgv_row.specs.DataRow.{DataRowIsRead};
-ghost use Rattle.pgv_row.specs.Description.{DescriptionIsRead, ReadIsDescription};
+ghost use Rattle.pgv_row.specs.Description.{DescriptionIsRead};
 
 /// The body of a DataRow is read as a row exactly where it is that row: the number of columns, a frame for each and nothing else.
 pub fn data_row_is_read()
     ensures { DataRowIsRead }
 {}
 
-/// Whatever is the body of a RowDescription is read as its columns: for each its name and its numbers, and nothing else.
+/// The body of a RowDescription is read as columns exactly where it is their number, for each its name and its numbers, and nothing else.
 pub fn description_is_read()
     ensures { DescriptionIsRead }
-{}
-
-/// What is read as columns is the body of a RowDescription with exactly these columns.
-pub fn read_is_description()
-    ensures { ReadIsDescription }
 {}

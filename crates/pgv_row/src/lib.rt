@@ -1,10 +1,9 @@
-//! Rows of a statement's result, as a server sends them: the columns that a RowDescription tells of, and the values of each DataRow.
+//! Rows of a statement's result, as a server sends them: the columns that a RowDescription describes, and the values of each DataRow.
 #![tactic(auto)]
 
 pub mod catalog;
 pub mod column;
-pub mod example;
-mod front;
+pub mod front;
 pub mod laws;
 mod place;
 pub mod row;

@@ -1,11 +1,14 @@
 //! Where the parts of a row stand in its bytes.
 
-ghost use Rattle.std.specs.Prelude.{◌≡◌, ◌+◌, ◌<◌, ◌≤◌, List, [], length, drop, Ok, Err, Some, None, IfOk, IfErr, OnOk, OnErr, MatchResult};
-ghost use Rattle.pgv_value.specs.FrameBinary.{Part, front, frame_fault};
+ghost use Rattle.std.specs.Prelude.{◌≡◌, ◌≢◌, ◌+◌, ◌<◌, ◌≤◌, List, [], length, drop, IfOk, IfErr, OnOk, MatchResult, vec_capacity};
+ghost use Rattle.pgv_value.specs.FrameBinary.{Part};
 ghost use Rattle.pgv_value.specs.declared.error.CodecError.TheVariants.{Memory};
-ghost use Rattle.pgv_value.specs.Reading.{Refuses};
-ghost use Rattle.pgv_row.specs.DataRow.{columns_after, parts, data_row, IsDataRow};
+ghost use Rattle.pgv_row.specs.DataRow.{data_row, IsDataRow};
+ghost use Rattle.pgv_row.specs.Fronts.{frames_front, one_part, part_front};
+ghost use Rattle.pgv_row.specs.Outcome.{Gives};
+ghost use Rattle.pgv_row.specs.Parsed.{GivesExactly};
 ghost use Rattle.pgv_row.specs.Places.{part_at, parts_at, IsWithin, AreWithin};
+ghost use Rattle.pgv_row.specs.Several.{several};
 
 use pgv_value::{CodecError, part_in_front};
 
@@ -21,10 +24,9 @@ pub struct Place {
 /// That the number of columns in front is this one: C15 where no number is there, and C12 where it is another. The frames come after
 /// its two bytes.
 #[inline(always)]
-#[tactic(auto, unfolding(crate::specs::DataRow::columns_after, crate::specs::Numbers::two))]
+#[tactic(auto, unfolding(crate::specs::Fronts::frames_front, crate::specs::Fronts::u16_front))]
 fn check_count(bytes: &[u8], width: usize) -> Result<(), CodecError>
-    ensures found { OnOk result (columns_after width bytes.now ≡ Ok (drop 2 bytes.now)) }
-    ensures refused { IfErr result (λ e. columns_after width bytes.now ≡ Err e) }
+    ensures exact { GivesExactly (λ _. drop 2 bytes.now) (frames_front width bytes.now) result }
     ensures long { OnOk result (2 ≤ length bytes.now) }
 {
     if bytes.len() < 2 {
@@ -41,11 +43,9 @@ fn check_count(bytes: &[u8], width: usize) -> Result<(), CodecError>
 #[inline(always)]
 fn place_at(bytes: &[u8], at: usize) -> Result<(Option<Place>, usize), CodecError>
     requires { at ≤ length bytes.now }
-    ensures found { IfOk result (λ p. front (drop at bytes.now) ≡ Some (part_at bytes.now p.0, drop p.1 bytes.now)) }
+    ensures exact { GivesExactly (λ p. (part_at bytes.now p.0, drop p.1 bytes.now)) (part_front (drop at bytes.now)) result }
     ensures within { IfOk result (λ p. IsWithin bytes.now p.0) }
     ensures next { IfOk result (λ p. p.1 ≤ length bytes.now) }
-    ensures none { OnErr result (front (drop at bytes.now) ≡ None) }
-    ensures fault { IfErr result (λ e. e ≡ frame_fault (drop at bytes.now)) }
 {
     let (_read, left) = bytes.split_at(at);
     let (part, rest) = part_in_front(left)?;
@@ -67,12 +67,11 @@ fn note_places(
     width: usize,
 ) -> Result<usize, CodecError>
     requires empty { places.old.items ≡ [] }
+    requires room { width ≤ vec_capacity places.old }
     requires within { at ≤ length bytes.now }
-    ensures found { IfOk result (λ end. parts width (drop at bytes.now) ≡ Ok (parts_at bytes.now places.new.items, drop end bytes.now)) }
+    ensures exact { Gives (λ end. (parts_at bytes.now places.new.items, drop end bytes.now)) (several one_part width (drop at bytes.now)) result }
     ensures places { OnOk result (AreWithin bytes.now places.new.items) }
-    ensures many { OnOk result (length places.new.items ≡ width) }
     ensures end { IfOk result (λ end. end ≤ length bytes.now) }
-    ensures refused { IfErr result (λ e. Refuses e (parts width (drop at bytes.now) ≡ Err e)) }
 {
     let mut next = at;
     for _ in 0..width {
@@ -87,12 +86,12 @@ fn note_places(
 #[inline(always)]
 #[tactic(auto, unfolding(crate::specs::DataRow::data_row))]
 fn note_row(places: &mut Vec<Option<Place>>, bytes: &[u8], width: usize) -> Result<(), CodecError>
-    ensures found { OnOk result (data_row width bytes.now ≡ Ok (parts_at bytes.now places.new.items)) }
+    ensures exact { Gives (λ _. parts_at bytes.now places.new.items) (data_row (vec_capacity places.old) width bytes.now) result }
     ensures places { OnOk result (AreWithin bytes.now places.new.items) }
-    ensures refused { IfErr result (λ e. Refuses e (data_row width bytes.now ≡ Err e)) }
 {
     places.clear();
     check_count(bytes, width)?;
+    places.reserve(width)?;
     let end = note_places(places, bytes, 2, width)?;
     if end != bytes.len() {
         return Err(CodecError::WrongLength(bytes.len()));
@@ -107,10 +106,11 @@ pub fn find_places(
     bytes: &[u8],
     width: usize,
 ) -> Result<(), CodecError>
+    ensures read { Gives (λ _. parts_at bytes.now places.new.items) (data_row (vec_capacity places.old) width bytes.now) result }
     ensures exact { OnOk result (IsDataRow width bytes.now (parts_at bytes.now places.new.items)) }
-    ensures only { (parts : List Part) → IsDataRow width bytes.now parts → MatchResult result (λ _. parts_at bytes.now places.new.items ≡ parts) (λ e. e ≡ Memory) }
+    ensures only { (parts : List Part) → IsDataRow width bytes.now parts → MatchResult result (λ _. parts_at bytes.now places.new.items ≡ parts) (λ e. (e ≡ Memory) × (vec_capacity places.old < width)) }
+    ensures memory { width ≤ vec_capacity places.old → IfErr result (λ e. e ≢ Memory) }
     ensures places { OnOk result (AreWithin bytes.now places.new.items) }
-    ensures refused { IfErr result (λ e. Refuses e (data_row width bytes.now ≡ Err e)) }
 {
     note_row(places, bytes, width)
 }

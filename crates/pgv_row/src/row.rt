@@ -1,6 +1,6 @@
 //! Rows: the values of the columns, one DataRow after another.
 
-ghost use Rattle.std.specs.Prelude.{◌≡◌, List, false, length, Ok, Err, None, Some, IfOk, IfErr, OnErr, MatchResult, option_map, slice_get, position};
+ghost use Rattle.std.specs.Prelude.{◌≡◌, ◌≢◌, ◌<◌, ◌≤◌, List, false, length, Ok, Err, None, Some, IfOk, IfErr, OnErr, MatchResult, option_map, slice_get, position};
 ghost use Rattle.std.specs.Option.{option_copied};
 ghost use Rattle.std.specs.Str.{bytes_eq};
 ghost use Rattle.pgv_codec.specs.Refusing.{RefusedExactly, RefusedFor};
@@ -8,6 +8,7 @@ ghost use Rattle.pgv_value.specs.Reading.{Answers, AnswersExactly, Refuses};
 ghost use Rattle.pgv_value.specs.declared.error.CodecError.TheVariants.{Memory, NoField};
 ghost use Rattle.pgv_value.specs.FrameBinary.{Part};
 ghost use Rattle.pgv_row.specs.DataRow.{data_row, IsDataRow};
+ghost use Rattle.pgv_row.specs.Outcome.{Gives};
 ghost use Rattle.pgv_row.specs.Places.{parts_at, AreWithin};
 ghost use Rattle.pgv_row.specs.RowView.{value_at, place_named, value_named, place_or_end};
 ghost use Rattle.pgv_row.specs.Values.{value_is_custom, value_refusal, value_reading, value_takes};
@@ -16,7 +17,7 @@ use crate::column::{PgColumn, PgColumns};
 use crate::place::{Place, find_places};
 use pgv_codec::{Decode, Type};
 use pgv_value::{CodecError, PgValueRef};
-use std::alloc::Global;
+use std::alloc::{AllocError, Global};
 use std::marker::Model;
 
 /// Room for the places of a row's parts, which serves one row after another.
@@ -25,12 +26,33 @@ pub struct PgPlaces {
     list: Vec<Option<Place>>,
 }
 
+impl Model for PgPlaces {
+    ghost use Rattle.std.specs.Prelude.{ℕ, vec_capacity};
+    ghost use Rattle.std.specs.Coded.{coded_ℕ};
+
+    ghost Value = { ℕ };
+
+    ghost coded = { coded_ℕ };
+
+    ghost view = { λ p. vec_capacity p.list };
+}
+
 impl PgPlaces {
     /// Room for no place. It takes no memory yet.
-    pub fn new(alloc: Global) -> PgPlaces {
+    pub fn new(alloc: Global) -> PgPlaces
+        ensures { result ≡ 0 }
+    {
         PgPlaces {
             list: Vec::new(alloc),
         }
+    }
+
+    /// Room for the places of rows of these columns, so that no row is refused for memory. C1 where that can't be had.
+    pub fn with_columns(alloc: Global, columns: &PgColumns<'_>) -> Result<PgPlaces, AllocError>
+        ensures { IfOk result (λ room. length columns.now ≤ room) }
+    {
+        let list = Vec::with_capacity(alloc, columns.len())?;
+        Ok(PgPlaces { list })
     }
 }
 
@@ -44,6 +66,7 @@ pub struct PgRow<'a> {
 
 impl<'a> Model for PgRow<'a> {
     ghost use Rattle.std.specs.Prelude.{◌≡◌, length};
+    ghost use Rattle.pgv_row.specs.Outcome.{Gives};
     ghost use Rattle.pgv_row.specs.Places.{parts_at, AreWithin};
     ghost use Rattle.pgv_row.specs.RowView.{Row, row_code};
 
@@ -79,10 +102,11 @@ impl<'a> PgRow<'a> {
         body: &'a [u8],
     ) -> Result<Self, CodecError>
         ensures columns { IfOk result (λ row. row.columns ≡ columns.now) }
+        ensures read { Gives (λ row. row.parts) (data_row room.old (length columns.now) body.now) result }
         // What is answered is the row that the body is, and nothing but memory keeps such a row from being answered.
         ensures exact { IfOk result (λ row. IsDataRow (length columns.now) body.now row.parts) }
-        ensures only { (parts : List Part) → IsDataRow (length columns.now) body.now parts → MatchResult result (λ row. row.parts ≡ parts) (λ e. e ≡ Memory) }
-        ensures refused { IfErr result (λ e. Refuses e (data_row (length columns.now) body.now ≡ Err e)) }
+        ensures only { (parts : List Part) → IsDataRow (length columns.now) body.now parts → MatchResult result (λ row. row.parts ≡ parts) (λ e. (e ≡ Memory) × (room.old < length columns.now)) }
+        ensures memory { length columns.now ≤ room.old → IfErr result (λ e. e ≢ Memory) }
     {
         let columns = columns.as_slice();
         find_places(&mut room.list, body, columns.len())?;

@@ -1,29 +1,38 @@
-use Rattle.std.proofs.Common.{◌<◌, [], ◌∷◌, Err, sym, ap, ◌∙◌, arith, add-one, length-append}
+use Rattle.std.proofs.Common.{◌≡◌, ◌<◌, ◌-◌, suc, List, [], ◌∷◌, Ok, drop, ap, ◌∙◌, sym, arith, add-one, inl}
+use Rattle.std.proofs.lemmas.List.{map-append}
 use Rattle.std.proofs.lemmas.Result.{err_from_is_err_and}
-use Rattle.pgv_value.specs.declared.error.CodecError.{CodecError}
-use Rattle.pgv_value.proofs.Refusals.{Refuses-from}
-use Rattle.pgv_row.specs.Places.{parts_at}
-use Rattle.pgv_row.proofs.PartLoop.{Row, nothing_left, goes_on, ends, one_within}
+use Rattle.pgv_value.specs.FrameBinary.{Part}
+use Rattle.pgv_row.specs.Fronts.{one_part}
+use Rattle.pgv_row.specs.Outcome.{stated}
+use Rattle.pgv_row.specs.Places.{part_at, parts_at}
+use Rattle.pgv_row.specs.Several.{several}
+use Rattle.pgv_row.proofs.Places.{one_within}
+use Rattle.pgv_row.proofs.Several.{with_front, is_done, goes_on, ends}
 use Rattle.pgv_row.proofs.place.note_places.Goals as goal
 
 pub loop-preserved : goal.loop-preserved
 loop-preserved c =
     let body = c.args.bytes.now in
     let places = c.loop.places.items in
+    let place = c.in_ok-place.place in
     let lt : c.loop.counter < c.args.width = c.loop-test.true in
+    let found : (one_part (drop c.loop.next body)).answer ≡ Ok (part_at body place, drop c.in_ok-place.end body) = ap stated c.in_ok-place.ensures.exact in
     rw (c.in_ok-push.ensures.items, add-one) (record {
-      told = goes_on body places c.args.width c.loop.counter c.loop.next c.in_ok-place.end c.in_ok-place.place _ lt c.in_ok-place.ensures.found c.loop.invariant.told;
-      within = one_within body places c.in_ok-place.place c.loop.invariant.within c.in_ok-place.ensures.within;
-      many = omega (arith, length-append places (c.in_ok-place.place ∷ []), c.loop.invariant.many);
+      read =
+          ap (λ (ps : List Part). with_front ps (several one_part (c.args.width - suc c.loop.counter) (drop c.in_ok-place.end body)).answer) (map-append (part_at body) places (place ∷ []))
+          ∙ goes_on one_part (parts_at body places) c.args.width c.loop.counter (drop c.loop.next body) (part_at body place) (drop c.in_ok-place.end body) _ lt found c.loop.invariant.read;
+      within = one_within body places place c.loop.invariant.within c.in_ok-place.ensures.within;
+      many = omega (arith, c.in_ok-push.ensures.len, c.loop.invariant.many);
+      room = omega (arith, c.in_ok-push.ensures.capacity, c.loop.invariant.room);
       next = c.in_ok-place.ensures.next;
     })
 
-pub returns-in_err-place-clause-refused : goal.returns-in_err-place-clause-refused
-returns-in_err-place-clause-refused c =
+pub returns-in_err-place-clause-exact : goal.returns-in_err-place-clause-exact
+returns-in_err-place-clause-exact c =
     let p = err_from_is_err_and c.from_residual.result c.from_residual.ensures.1 in
     let lt : c.loop.counter < c.args.width = c.loop-test.true in
-    let none = ends (parts_at c.args.bytes.now c.loop.places.items) c.args.width c.loop.counter _ _ lt c.in_err-place.ensures.none c.loop.invariant.told in
-    rw (p.1, p.2) (Refuses-from c.in_err-place.field-0.0 (none ∙ ap (λ (e : CodecError). let row : Row = Err e in row) (sym c.in_err-place.ensures.fault)))
+    rw (p.1, p.2)
+    (inl (ends one_part (parts_at c.args.bytes.now c.loop.places.items) c.args.width c.loop.counter (drop c.loop.next c.args.bytes.now) _ _ lt (ap stated c.in_err-place.ensures.exact) c.loop.invariant.read))
 
-pub returns-clause-found : goal.returns-clause-found
-returns-clause-found c = nothing_left (parts_at c.args.bytes.now c.loop.places.items) c.args.width c.loop.counter _ _ c.loop-test.false c.loop.invariant.told
+pub returns-clause-exact : goal.returns-clause-exact
+returns-clause-exact c = is_done one_part (parts_at c.args.bytes.now c.loop.places.items) c.args.width c.loop.counter (drop c.loop.next c.args.bytes.now) _ c.loop-test.false c.loop.invariant.read

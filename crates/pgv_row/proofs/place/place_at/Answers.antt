@@ -1,4 +1,4 @@
-use Rattle.std.proofs.Common.{arith}
+use Rattle.std.proofs.Common.{refl, arith}
 use Rattle.std.specs.Prelude.{Some}
 use Rattle.pgv_row.proofs.Cut.{front_at, null_found, part_found}
 use Rattle.pgv_row.proofs.place.place_at.Goals as goal
@@ -9,12 +9,12 @@ overflow_sub-start c =
     let cut = front_at c.args.bytes.now c.args.at (Some c.in-Some.part.now) c.in_ok-part.rest.now c.requires found in
     omega (arith, cut.0, cut.3)
 
-pub returns-in-None-clause-found : goal.returns-in-None-clause-found
-returns-in-None-clause-found c =
+pub returns-in-None-clause-exact : goal.returns-in-None-clause-exact
+returns-in-None-clause-exact c =
     let found = rw (c.split_at.ensures.back, c.in-None.is) at c.in_ok-part.ensures.found in
-    null_found c.args.bytes.now c.args.at c.in_ok-part.rest.now c.requires found
+    rw (null_found c.args.bytes.now c.args.at c.in_ok-part.rest.now c.requires found) refl
 
-pub returns-in-Some-clause-found : goal.returns-in-Some-clause-found
-returns-in-Some-clause-found c =
+pub returns-in-Some-clause-exact : goal.returns-in-Some-clause-exact
+returns-in-Some-clause-exact c =
     let found = rw (c.split_at.ensures.back, c.in-Some.is) at c.in_ok-part.ensures.found in
-    part_found c.args.bytes.now c.args.at c.in-Some.part.now c.in_ok-part.rest.now c.requires found
+    rw (part_found c.args.bytes.now c.args.at c.in-Some.part.now c.in_ok-part.rest.now c.requires found) refl

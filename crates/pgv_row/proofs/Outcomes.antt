@@ -1,0 +1,80 @@
+-- How an outcome goes from step to step.
+use Rattle.std.proofs.Common.{◌≡◌, ◌≢◌, Bool, true, false, Option, Some, None, Result, Ok, Err, refl, sym, ap, ◌∙◌, subst, inl, inr}
+use Rattle.std.specs.Prelude.{ok_or, IfErr}
+use Rattle.std.proofs.lemmas.Bool.{false≢true}
+use Rattle.pgv_value.specs.declared.error.CodecError.{CodecError}
+use Rattle.pgv_value.specs.declared.error.CodecError.TheVariants.{Memory}
+use Rattle.pgv_row.specs.Outcome.{Outcome, Fails, Gives, fails_if, stated, exactly, bind_by, ◌>>=◌, ◌>>◌}
+use Rattle.pgv_row.specs.Parsed.{Parsed, GivesExactly}
+
+pub answer_is : {A : Type 0} (x y : A) → (let r : Result A (Option CodecError) = Ok x in r) ≡ Ok y → x ≡ y
+answer_is x y e = cc
+
+pub ok_is : {A : Type 0} (x y : A) → (let r : Parsed A = Ok x in r) ≡ Ok y → x ≡ y
+ok_is x y e = cc
+
+pub gives_exactly : {V M : Type 0} (view : V → M) (p : Parsed M) (r : Result V CodecError) → GivesExactly view p r → Gives view (exactly p) r
+gives_exactly view p (Ok v) h = ap stated h
+gives_exactly view p (Err e) h = inl (ap stated h)
+
+-- ---- what is read at the end was read step by step
+
+module _ {A B : Type 0} where
+  taken_by : (r : Result A (Option CodecError)) (b : Bool) (next : A → Outcome B) (y : B) → (bind_by r b next).answer ≡ Ok y → (x : A) × (r ≡ Ok x) × ((next x).answer ≡ Ok y)
+  taken_by (Ok x) b next y e = (x, refl, e)
+  taken_by (Err why) b next y e = absurd cc
+
+  pub taken : (o : Outcome A) (next : A → Outcome B) (y : B) → (o >>= next).answer ≡ Ok y → (x : A) × (o.answer ≡ Ok x) × ((next x).answer ≡ Ok y)
+  taken o next y e = taken_by o.answer o.may_alloc next y e
+
+  pub taken_exactly : (p : Parsed A) (next : A → Outcome B) (y : B) → (exactly p >>= next).answer ≡ Ok y → (x : A) × (p ≡ Ok x) × ((next x).answer ≡ Ok y)
+  taken_exactly (Ok x) next y e = (x, refl, e)
+  taken_exactly (Err d) next y e = absurd cc
+
+pub tested : {B : Type 0} (b : Bool) (e : CodecError) (o : Outcome B) (y : B) → (fails_if b e >> o).answer ≡ Ok y → (b ≡ false) × (o.answer ≡ Ok y)
+tested true e o y is = absurd cc
+tested false e o y is = (refl, is)
+
+pub found_or : {A : Type 0} (o : Option A) (e : CodecError) (x : A) → (let p : Parsed A = ok_or o e in p) ≡ Ok x → o ≡ Some x
+found_or None e x is = absurd cc
+found_or (Some y) e x is = cc
+
+pub stated_is : {A : Type 0} (p : Parsed A) (x : A) → stated p ≡ Ok x → p ≡ Ok x
+stated_is (Ok y) x e = cc
+stated_is (Err d) x e = absurd cc
+
+-- ---- what is never asked for or answered
+
+-- the error, if one is stated, is another than out of memory
+abbrev pub IsOther : {M : Type 0} → Result M (Option CodecError) → Type 0
+IsOther r = IfErr r (λ why. why ≢ Some Memory)
+
+module _ {A B : Type 0} where
+  free_by : (r : Result A (Option CodecError)) (b : Bool) (next : A → Outcome B) → b ≡ false → ((x : A) → (next x).may_alloc ≡ false) → (bind_by r b next).may_alloc ≡ false
+  free_by (Ok x) b next free then_free = rw free (then_free x)
+  free_by (Err why) b next free then_free = free
+
+  pub free_then : (o : Outcome A) (next : A → Outcome B) → o.may_alloc ≡ false → ((x : A) → (next x).may_alloc ≡ false) → (o >>= next).may_alloc ≡ false
+  free_then o next free then_free = free_by o.answer o.may_alloc next free then_free
+
+  other_by : (r : Result A (Option CodecError)) (b : Bool) (next : A → Outcome B) → IsOther r → ((x : A) → IsOther (next x).answer) → IsOther (bind_by r b next).answer
+  other_by (Ok x) b next other then_other = then_other x
+  other_by (Err why) b next other then_other = other
+
+  pub other_then : (o : Outcome A) (next : A → Outcome B) → IsOther o.answer → ((x : A) → IsOther (next x).answer) → IsOther (o >>= next).answer
+  other_then o next other then_other = other_by o.answer o.may_alloc next other then_other
+
+-- ---- what a caller knows of an error
+
+module _ {M : Type 0} (o : Outcome M) where
+  -- where something is read, only memory was wanting
+  pub only_memory : (e : CodecError) (m : M) → o.answer ≡ Ok m → Fails e o → (e ≡ Memory) × (o.may_alloc ≡ true)
+  only_memory e m is (inl h) = absurd (let no : (let r : Result M (Option CodecError) = Ok m in r) ≡ Err (Some e) = sym is ∙ h in cc)
+  only_memory e m is (inr (inl h)) = absurd (let no : (let r : Result M (Option CodecError) = Ok m in r) ≡ Err None = sym is ∙ h.0 in cc)
+  only_memory e m is (inr (inr h)) = h
+
+  -- where no memory is asked for, the error is another
+  pub another : (e : CodecError) → IsOther o.answer → o.may_alloc ≡ false → Fails e o → e ≢ Memory
+  another e other free (inl h) is = subst IsOther h other (ap Some is)
+  another e other free (inr (inl h)) is = h.1 is
+  another e other free (inr (inr h)) is = false≢true (sym free ∙ h.1)

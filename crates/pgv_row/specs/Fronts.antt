@@ -1,0 +1,42 @@
+-- What stands in front of bytes: numbers, the highest byte first, texts that a zero byte ends, and parts; each is read with the rest,
+-- without memory. What isn't there is C15, and a text that isn't UTF-8 C14.
+use Rattle.std.specs.Prelude.{ℕ, ℤ, ◌+◌, ◌==◌, nat_eq, nat_lt, List, length, take, drop, option_map, ok_or, Ok, Err, if◌then◌else◌}
+use Rattle.std.specs.List.{position}
+use Rattle.std.specs.Int.{w16, from_be_bytes}
+use Rattle.pgv_value.specs.FrameBinary.{Part, front, frame_fault}
+use Rattle.pgv_value.specs.Steps.{number, signed_two}
+use Rattle.pgv_value.specs.Utf8.{is_utf8}
+use Rattle.pgv_value.specs.declared.error.CodecError.TheVariants.{FieldCount, Short, Utf8}
+use Rattle.pgv_row.specs.Outcome.{Outcome, exactly}
+use Rattle.pgv_row.specs.Parsed.{Parsed, ◌>>=◌}
+
+-- the unsigned number of 16 bits
+unfoldable pub u16_front : List ℕ → Parsed (ℕ × List ℕ)
+u16_front bytes = if nat_lt (length bytes) 2 then Err Short else Ok (from_be_bytes w16 (take 2 bytes), drop 2 bytes)
+
+-- the signed number of 16 bits
+abbrev pub i16_front : List ℕ → Parsed (ℤ × List ℕ)
+i16_front bytes = ok_or (signed_two bytes) Short
+
+-- the unsigned number of 32 bits
+abbrev pub u32_front : List ℕ → Parsed (ℕ × List ℕ)
+u32_front bytes = ok_or (number bytes) Short
+
+-- the bytes before the first zero byte, and the rest after that
+unfoldable pub ended_front : List ℕ → Parsed (List ℕ × List ℕ)
+ended_front bytes = ok_or (option_map (λ i. (take i bytes, drop (i + 1) bytes)) (position (λ b. b == 0) bytes)) Short
+
+-- the text before the first zero byte, and the rest after that
+unfoldable pub name_front : List ℕ → Parsed (List ℕ × List ℕ)
+name_front bytes = ended_front bytes >>= λ name. if is_utf8 name.0 then Ok name else Err Utf8
+
+-- the part of a frame
+abbrev pub part_front : List ℕ → Parsed (Part × List ℕ)
+part_front bytes = ok_or (front bytes) (frame_fault bytes)
+
+abbrev pub one_part : List ℕ → Outcome (Part × List ℕ)
+one_part bytes = exactly (part_front bytes)
+
+-- the frames of a row, where there are as many as columns, else C12
+unfoldable pub frames_front : ℕ → List ℕ → Parsed (List ℕ)
+frames_front width bytes = u16_front bytes >>= λ count. if nat_eq count.0 width then Ok count.1 else Err FieldCount

@@ -1,0 +1,71 @@
+-- What a reader gives: a view of the value or the error, and whether memory may have been asked for by then.
+-- A grammar is one function into an outcome, written step by step with `do`: the first step that fails says why, and memory may
+-- have been asked for where one of the steps that were taken may ask for it. A step that never asks for memory is `exactly` a
+-- `Parsed`. What a reader promises is then one clause, `Gives`, and of one that asks for no memory `GivesExactly`.
+use Rattle.std.specs.Prelude.{◌≡◌, ◌≢◌, ◌⊎◌, Bool, true, false, ◌||◌, Option, Some, None, Result, Ok, Err, ok_or, if◌then◌else◌, ⊤}
+use Rattle.pgv_value.specs.declared.error.CodecError.{CodecError}
+use Rattle.pgv_value.specs.declared.error.CodecError.TheVariants.{Memory}
+use Rattle.pgv_row.specs.Parsed.{Parsed}
+
+-- what is read or the error, where it is stated, and whether memory may have been asked for by then
+pub record Outcome (M : Type 0) : Type 0 where
+  pub answer : Result M (Option CodecError)
+  pub may_alloc : Bool
+
+-- The error is the one that is stated; or any but out of memory, where none is; or out of memory, where it may be asked for.
+abbrev pub Fails : {M : Type 0} → CodecError → Outcome M → Type 0
+Fails e o = (o.answer ≡ Err (Some e)) ⊎ (((o.answer ≡ Err None) × (e ≢ Memory)) ⊎ ((e ≡ Memory) × (o.may_alloc ≡ true)))
+
+-- what was returned, seen by view, is the outcome, unless memory ran out where it may have been asked for
+abbrev pub Gives : {V M : Type 0} → (V → M) → Outcome M → Result V CodecError → Type 0
+Gives view o (Ok v) = o.answer ≡ Ok (view v)
+Gives view o (Err e) = Fails e o
+
+-- ---- steps
+
+abbrev pub done : {M : Type 0} → M → Outcome M
+done m = record { answer = Ok m; may_alloc = false }
+
+abbrev pub fails : {M : Type 0} → CodecError → Outcome M
+fails e = record { answer = Err (Some e); may_alloc = false }
+
+-- refused, and with which error isn't said
+abbrev pub unstated : {M : Type 0} → Outcome M
+unstated = record { answer = Err None; may_alloc = false }
+
+-- memory is asked for, if this holds
+abbrev pub allocates : Bool → Outcome ⊤
+allocates b = record { answer = Ok tt; may_alloc = b }
+
+abbrev pub stated : {M : Type 0} → Parsed M → Result M (Option CodecError)
+stated (Ok m) = Ok m
+stated (Err e) = Err (Some e)
+
+-- what is read without memory
+abbrev pub exactly : {M : Type 0} → Parsed M → Outcome M
+exactly parsed = record { answer = stated parsed; may_alloc = false }
+
+-- refused with this error, if this holds
+abbrev pub fails_if : Bool → CodecError → Outcome ⊤
+fails_if b e = exactly (if b then Err e else Ok tt)
+
+-- refused with this error, if nothing is there
+abbrev pub or_fail : {M : Type 0} → Option M → CodecError → Outcome M
+or_fail found e = exactly (ok_or found e)
+
+-- an outcome after memory may have been asked for
+abbrev pub after : {M : Type 0} → Bool → Outcome M → Outcome M
+after b o = record { answer = o.answer; may_alloc = b || o.may_alloc }
+
+abbrev pub bind_by : {A B : Type 0} → Result A (Option CodecError) → Bool → (A → Outcome B) → Outcome B
+bind_by (Ok x) b next = after b (next x)
+bind_by (Err why) b next = record { answer = Err why; may_alloc = b }
+
+-- one step after the other, unless it fails
+infixl 10 ◌>>=◌
+abbrev pub ◌>>=◌ : {A B : Type 0} → Outcome A → (A → Outcome B) → Outcome B
+o >>= next = bind_by o.answer o.may_alloc next
+
+infixl 10 ◌>>◌
+abbrev pub ◌>>◌ : {B : Type 0} → Outcome ⊤ → Outcome B → Outcome B
+o >> next = o >>= λ _. next

@@ -1,0 +1,18 @@
+-- What a reader that asks for no memory gives: what it read, or why it reads nothing.
+use Rattle.std.specs.Prelude.{◌≡◌, Result, Ok, Err}
+use Rattle.pgv_value.specs.declared.error.CodecError.{CodecError}
+
+-- what is read, or why nothing is
+abbrev pub Parsed : Type 0 → Type 0
+Parsed M = Result M CodecError
+
+-- one step after the other, unless it fails
+infixl 10 ◌>>=◌
+abbrev pub ◌>>=◌ : {A B : Type 0} → Parsed A → (A → Parsed B) → Parsed B
+(Ok x) >>= next = next x
+(Err e) >>= next = Err e
+
+-- what was returned, seen by view, is exactly what is read
+abbrev pub GivesExactly : {V M : Type 0} → (V → M) → Parsed M → Result V CodecError → Type 0
+GivesExactly view parsed (Ok v) = parsed ≡ Ok (view v)
+GivesExactly view parsed (Err e) = parsed ≡ Err e
