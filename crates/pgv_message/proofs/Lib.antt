@@ -2,3 +2,5 @@ mod Sizes
 mod Frames
 mod InFront
 mod ExchangeLaws
+mod Counted
+mod Notices

@@ -7,3 +7,6 @@ pub mod Tags
 pub mod Exchange
 pub mod ExchangeLaws
 pub mod Startup
+pub mod Counted
+pub mod Bodies
+pub mod Notice

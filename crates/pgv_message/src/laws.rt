@@ -5,6 +5,7 @@ ghost use Rattle.pgv_buf.specs.Tokens.{shown};
 ghost use Rattle.pgv_wire.specs.Arguments.{all_tokens};
 ghost use Rattle.pgv_message.specs.ExchangeLaws.{AnswersEndTheExchange, AsyncChangesNothing, ErrorSkipsToSync, OnlyReadyEndsSkipping, RequestsDoNotEndSkipping};
 ghost use Rattle.pgv_message.specs.Frames.{ParametersAreArguments};
+ghost use Rattle.pgv_message.specs.Notice.{NoticeIsRead};
 ghost use Rattle.pgv_message.specs.Received.{MessageIsFound, FoundIsMessage, CutIsNotFound};
 
 use pgv_wire::PgArguments;
@@ -61,4 +62,9 @@ pub fn error_skips_to_sync()
 pub fn only_ready_ends_skipping()
     ensures messages { OnlyReadyEndsSkipping }
     ensures requests { RequestsDoNotEndSkipping }
+{}
+
+/// The body of an error or a notice is read as fields exactly where it is these fields, a zero byte and nothing else.
+pub fn notice_is_read()
+    ensures { NoticeIsRead }
 {}
