@@ -6,3 +6,4 @@ pub mod Places
 pub mod DataRows
 pub mod Descriptions
 pub mod Formats
+pub mod Values

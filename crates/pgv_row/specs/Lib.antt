@@ -6,6 +6,8 @@ pub mod DataRow
 pub mod Places
 pub mod ColumnView
 pub mod Catalog
+pub mod Errors
 pub mod Description
 pub mod RowView
 pub mod Values
+pub mod Tuples

@@ -1,33 +1,40 @@
 -- What is read of a value of a row. Null is read whatever the type of its column is; any other value only where the column's type is
--- one that the values of the Rust type are read under, else it is C27. There is no value, C25, where the row has no such column.
-use Rattle.std.specs.Prelude.{ℕ, Bool, false, ◌||◌, ◌&&◌, is_none, Option, Some, None, if◌then◌else◌}
+-- one that the values of the Rust type are read under, else it is C27. There is no value, C25, where the row has no such column. A
+-- custom type is copied, and so may ask for memory.
+use Rattle.std.specs.Prelude.{ℕ, Bool, ◌||◌, not, is_none, Option, ok_or}
 use Rattle.pgv_types.specs.Ty.{Ty}
 use Rattle.pgv_types.specs.Facts.{is_custom}
 use Rattle.pgv_value.specs.Reading.{Reading}
 use Rattle.pgv_value.specs.ValueView.{Given}
-use Rattle.pgv_value.specs.declared.error.CodecError.{CodecError}
 use Rattle.pgv_value.specs.declared.error.CodecError.TheVariants.{NoField, MismatchedTypes}
 use Rattle.pgv_nest.specs.NestRefusals.{Refusal, Taking}
+use Rattle.pgv_row.specs.Outcome.{Outcome, or_fail, fails_if, allocates, done, ◌>>=◌, ◌>>◌}
+use Rattle.pgv_row.specs.RowView.{Row, value_at}
+
+-- what a type reads of a value, from what it states of itself
+abbrev pub parse_by : {M : Type 0} → Reading M → Refusal → Taking → Given → Outcome M
+parse_by reading refusal takes v = record { answer = ok_or (reading v.type_info v.format v.bytes) (refusal v.type_info v.format v.bytes); may_alloc = takes v.type_info v.format v.bytes }
 
 -- whether a value may be read
 abbrev pub may_read : (Ty → Bool) → Given → Bool
 may_read accepts v = is_none v.bytes || accepts v.type_info
 
-abbrev pub value_reading : {M : Type 0} → (Ty → Bool) → Reading M → Option Given → Option M
-value_reading accepts reading None = None
-value_reading accepts reading (Some v) = if may_read accepts v then reading v.type_info v.format v.bytes else None
+-- the value of the column at a place
+unfoldable pub raw_value : Row → ℕ → Outcome Given
+raw_value row place = do
+  value ← or_fail (value_at row place) (NoField place)
+  allocates (is_custom value.type_info)
+  done value
 
--- which refusal is answered, out of memory aside, where it is stated
-abbrev pub value_refusal : (Ty → Bool) → Refusal → ℕ → Option Given → Option CodecError
-value_refusal accepts refusal place None = Some (NoField place)
-value_refusal accepts refusal place (Some v) = if may_read accepts v then refusal v.type_info v.format v.bytes else Some MismatchedTypes
+-- what is read of it, whatever the column's type is
+unfoldable pub unchecked_value : {M : Type 0} → (Given → Outcome M) → Row → ℕ → Outcome M
+unchecked_value parse row place = do
+  value ← raw_value row place
+  parse value
 
--- whether the column is of a custom type, which is copied
-abbrev pub value_is_custom : Option Given → Bool
-value_is_custom None = false
-value_is_custom (Some v) = is_custom v.type_info
-
--- whether reading may ask for memory
-abbrev pub value_takes : (Ty → Bool) → Taking → Option Given → Bool
-value_takes accepts takes None = false
-value_takes accepts takes (Some v) = is_custom v.type_info || (may_read accepts v && takes v.type_info v.format v.bytes)
+-- what is read of it under the column's type
+unfoldable pub column_value : {M : Type 0} → (Ty → Bool) → (Given → Outcome M) → Row → ℕ → Outcome M
+column_value accepts parse row place = do
+  value ← raw_value row place
+  fails_if (not (may_read accepts value)) MismatchedTypes
+  parse value

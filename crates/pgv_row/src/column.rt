@@ -1,17 +1,18 @@
 //! The columns of a statement's result, as a RowDescription tells of them.
 
-ghost use Rattle.std.specs.Prelude.{◌≡◌, ◌==◌, true, List, length, map, IfOk, MatchResult, slice_get, position};
+ghost use Rattle.std.specs.Prelude.{◌≡◌, ◌==◌, true, List, length, map, IfOk, MatchResult};
 ghost use Rattle.std.specs.Option.{option_copied};
-ghost use Rattle.std.specs.Str.{bytes_eq};
 ghost use Rattle.pgv_value.specs.declared.error.CodecError.TheVariants.{Memory};
 ghost use Rattle.pgv_row.specs.ColumnView.{Column};
 ghost use Rattle.pgv_row.specs.Description.{format_of as format_by, column_front, description, in_format, IsDescription};
 ghost use Rattle.pgv_row.specs.Outcome.{Gives, after};
 ghost use Rattle.pgv_row.specs.Parsed.{GivesExactly};
+ghost use Rattle.pgv_row.specs.RowView.{column_at};
 ghost use Rattle.pgv_row.specs.Several.{several};
 
 use crate::catalog::{PgCatalog, type_of_oid};
 use crate::front::{name_in_front, u16_in_front};
+use crate::index::ColumnIndex;
 use pgv_types::{Oid, PgTypeInfo};
 use pgv_value::{CodecError, PgValueFormat, i16_in_front, u32_in_front};
 use std::alloc::Global;
@@ -240,18 +241,18 @@ impl<'d> PgColumns<'d> {
         self.list.as_slice()
     }
 
-    /// The column at a place.
-    pub fn get(&self, place: usize) -> Option<&PgColumn<'d>>
-        ensures { option_copied result ≡ slice_get self.now place }
+    /// The column at a place or of a name; `None` where there is none.
+    pub fn get<I: ColumnIndex>(&self, index: I) -> Option<&PgColumn<'d>>
+        ensures { option_copied result ≡ column_at self.now (I.place index self.now) }
     {
-        self.list.get(place)
+        self.list.get(self.find(index)?)
     }
 
-    /// The place of the first column that has a name.
-    pub fn find(&self, name: &str) -> Option<usize>
-        ensures { result ≡ position (λ c. bytes_eq c.name name.now) self.now }
+    /// The place of the column that is meant by an index: the first one that has a name.
+    pub fn find<I: ColumnIndex>(&self, index: I) -> Option<usize>
+        ensures { result ≡ I.place index self.now }
     {
-        self.list.iter().position(|column| column.name == name)
+        index.index(self.list.as_slice())
     }
 
     /// Says in which format all values are: that which was asked for in Bind. A description that comes before Bind says text.

@@ -3,11 +3,17 @@
 
 pub mod catalog;
 pub mod column;
+pub mod error;
 pub mod front;
+pub mod index;
 pub mod laws;
 mod place;
 pub mod row;
+pub mod tuple;
 
 pub use catalog::PgCatalog;
 pub use column::{PgColumn, PgColumns};
+pub use error::ColumnError;
+pub use index::ColumnIndex;
 pub use row::{PgPlaces, PgRow};
+pub use tuple::{ColumnList, FromRow};

@@ -1,20 +1,23 @@
 //! Rows: the values of the columns, one DataRow after another.
 
-ghost use Rattle.std.specs.Prelude.{◌≡◌, ◌≢◌, ◌<◌, ◌≤◌, List, false, length, Ok, Err, None, Some, IfOk, IfErr, OnErr, MatchResult, option_map, slice_get, position};
+ghost use Rattle.std.specs.Prelude.{◌≡◌, ◌≢◌, ◌<◌, ◌≤◌, List, length, IfOk, IfErr, MatchResult, option_map, slice_get};
 ghost use Rattle.std.specs.Option.{option_copied};
-ghost use Rattle.std.specs.Str.{bytes_eq};
-ghost use Rattle.pgv_codec.specs.Refusing.{RefusedExactly, RefusedFor};
-ghost use Rattle.pgv_value.specs.Reading.{Answers, AnswersExactly, Refuses};
-ghost use Rattle.pgv_value.specs.declared.error.CodecError.TheVariants.{Memory, NoField};
 ghost use Rattle.pgv_value.specs.FrameBinary.{Part};
+ghost use Rattle.pgv_value.specs.declared.error.CodecError.TheVariants.{Memory};
 ghost use Rattle.pgv_row.specs.DataRow.{data_row, IsDataRow};
+ghost use Rattle.pgv_row.specs.Errors.{GivesAt};
+ghost use Rattle.pgv_row.specs.declared.error.ColumnError.TheVariants.{NotFound};
 ghost use Rattle.pgv_row.specs.Outcome.{Gives};
 ghost use Rattle.pgv_row.specs.Places.{parts_at, AreWithin};
-ghost use Rattle.pgv_row.specs.RowView.{value_at, place_named, value_named, place_or_end};
-ghost use Rattle.pgv_row.specs.Values.{value_is_custom, value_refusal, value_reading, value_takes};
+ghost use Rattle.pgv_row.specs.RowView.{column_there};
+ghost use Rattle.pgv_row.specs.Tuples.{or_codec};
+ghost use Rattle.pgv_row.specs.Values.{column_value, parse_by, raw_value, unchecked_value};
 
 use crate::column::{PgColumn, PgColumns};
+use crate::error::ColumnError;
+use crate::index::ColumnIndex;
 use crate::place::{Place, find_places};
+use crate::tuple::FromRow;
 use pgv_codec::{Decode, Type};
 use pgv_value::{CodecError, PgValueRef};
 use std::alloc::{AllocError, Global};
@@ -132,12 +135,37 @@ impl<'a> PgRow<'a> {
         self.columns
     }
 
-    /// The value of the column at a place, as it stands in the row. C25 where there is no such column. C1 comes only of a custom type,
-    /// which is copied.
-    pub fn get(&self, place: usize) -> Result<PgValueRef<'a>, CodecError>
-        ensures found { IfOk result (λ v. value_at self.now place ≡ Some v) }
-        ensures none { IfErr result (λ e. Refuses e ((e ≡ NoField place) × (value_at self.now place ≡ None))) }
-        ensures none_exactly { value_is_custom (value_at self.now place) ≡ false → IfErr result (λ e. (e ≡ NoField place) × (value_at self.now place ≡ None)) }
+    /// The column at a place or of a name.
+    pub fn try_column<I: ColumnIndex>(&self, index: I) -> Result<&'a PgColumn<'a>, ColumnError<I>>
+        ensures { GivesAt (λ column. column.now) index (I.place index self.now.columns) (I.missing index self.now.columns) (column_there self.now.columns) result }
+    {
+        let Some(place) = index.index(self.columns) else {
+            return Err(self.not_found(index));
+        };
+        match self.columns.get(place) {
+            Some(column) => Ok(column),
+            None => Err(ColumnError::Decode {
+                index,
+                place,
+                source: CodecError::NoField(place),
+            }),
+        }
+    }
+
+    /// The refusal of an index that no column is meant by.
+    fn not_found<I: ColumnIndex>(&self, index: I) -> ColumnError<I>
+        ensures { result ≡ NotFound index (I.missing index self.now.columns) }
+    {
+        ColumnError::NotFound {
+            index,
+            place: index.missing_place(self.columns),
+        }
+    }
+
+    /// The value of the column at a place, as it stands in the row.
+    #[tactic(auto, unfolding(crate::specs::Values::raw_value))]
+    fn raw_at(&self, place: usize) -> Result<PgValueRef<'a>, CodecError>
+        ensures { Gives (λ value. value) (raw_value self.now place) result }
     {
         let Some(column) = self.columns.get(place) else {
             return Err(CodecError::NoField(place));
@@ -148,43 +176,104 @@ impl<'a> PgRow<'a> {
         Ok(PgValueRef::new(part, column.type_info().clone()?, column.format()))
     }
 
-    /// The value of the column at a place: what `T` reads of it. C25 where there is no such column, and where the value isn't null C27
-    /// where `T` isn't read under the column's type; else what `T` refuses it with.
-    pub fn try_get<T: Type + Decode>(&self, alloc: Global, place: usize) -> Result<T, CodecError>
-        ensures exact { Answers T.meaning (value_reading T.accepts T.reading (value_at self.now place)) result }
-        ensures exactly { value_takes T.accepts T.takes_memory (value_at self.now place) ≡ false → AnswersExactly T.meaning (value_reading T.accepts T.reading (value_at self.now place)) result }
-        ensures refused { RefusedFor (value_refusal T.accepts T.refusal place (value_at self.now place)) result }
-        ensures refused_exactly { value_takes T.accepts T.takes_memory (value_at self.now place) ≡ false → RefusedExactly (value_refusal T.accepts T.refusal place (value_at self.now place)) result }
+    /// What `T` reads of the column at a place, whatever its type is.
+    #[tactic(auto, unfolding(crate::specs::Values::unchecked_value))]
+    fn unchecked_at<T: Decode>(&self, alloc: Global, place: usize) -> Result<T, CodecError>
+        ensures { Gives T.meaning (unchecked_value (parse_by T.reading T.refusal T.takes_memory) self.now place) result }
     {
-        let value = self.get(place)?;
+        decode_value(alloc, self.raw_at(place)?)
+    }
+
+    /// What `T` reads of the column at a place under its type.
+    #[tactic(auto, unfolding(crate::specs::Values::column_value))]
+    pub(crate) fn value_at<T: Type + Decode>(
+        &self,
+        alloc: Global,
+        place: usize,
+    ) -> Result<T, CodecError>
+        ensures { Gives T.meaning (column_value T.accepts (parse_by T.reading T.refusal T.takes_memory) self.now place) result }
+    {
+        let value = self.raw_at(place)?;
         if !value.is_null() && !T::compatible(value.type_info()) {
             return Err(CodecError::MismatchedTypes);
         }
-        T::decode(alloc, value)
+        decode_value(alloc, value)
     }
 
-    /// The place of the first column that has a name.
-    pub fn place_of(&self, name: &str) -> Option<usize>
-        ensures { result ≡ place_named self.now name.now }
+    /// The value of a column, as it stands in the row. C1 comes only of a custom type, which is copied.
+    pub fn try_get_raw<I: ColumnIndex>(&self, index: I) -> Result<PgValueRef<'a>, ColumnError<I>>
+        ensures { GivesAt (λ value. value) index (I.place index self.now.columns) (I.missing index self.now.columns) (raw_value self.now) result }
     {
-        self.columns.iter().position(|column| column.name() == name)
-    }
-
-    /// The value of the first column that has a name, as [`PgRow::try_get`] reads it. Where none has it, it is C25 with the number of
-    /// columns for the place.
-    pub fn try_get_by_name<T: Type + Decode>(
-        &self,
-        alloc: Global,
-        name: &str,
-    ) -> Result<T, CodecError>
-        ensures exact { Answers T.meaning (value_reading T.accepts T.reading (value_named self.now name.now)) result }
-        ensures exactly { value_takes T.accepts T.takes_memory (value_named self.now name.now) ≡ false → AnswersExactly T.meaning (value_reading T.accepts T.reading (value_named self.now name.now)) result }
-        ensures refused { RefusedFor (value_refusal T.accepts T.refusal (place_or_end self.now (place_named self.now name.now)) (value_named self.now name.now)) result }
-        ensures refused_exactly { value_takes T.accepts T.takes_memory (value_named self.now name.now) ≡ false → RefusedExactly (value_refusal T.accepts T.refusal (place_or_end self.now (place_named self.now name.now)) (value_named self.now name.now)) result }
-    {
-        match self.place_of(name) {
-            Some(place) => self.try_get(alloc, place),
-            None => Err(CodecError::NoField(self.len())),
+        let Some(place) = index.index(self.columns) else {
+            return Err(self.not_found(index));
+        };
+        match self.raw_at(place) {
+            Ok(value) => Ok(value),
+            Err(source) => Err(ColumnError::Decode {
+                index,
+                place,
+                source,
+            }),
         }
     }
+
+    /// The value of a column: what `T` reads of it. Null is read or refused by `T` whatever the column's type is, where
+    /// [`pgv_codec::PgRecordDecoder`] asks for the type of null too. Any other value is refused with C27 where `T` isn't read under the
+    /// column's type, and else with what `T` refuses it with.
+    pub fn try_get<T: Type + Decode, I: ColumnIndex>(
+        &self,
+        alloc: Global,
+        index: I,
+    ) -> Result<T, ColumnError<I>>
+        ensures { GivesAt T.meaning index (I.place index self.now.columns) (I.missing index self.now.columns) (column_value T.accepts (parse_by T.reading T.refusal T.takes_memory) self.now) result }
+    {
+        let Some(place) = index.index(self.columns) else {
+            return Err(self.not_found(index));
+        };
+        match self.value_at(alloc, place) {
+            Ok(value) => Ok(value),
+            Err(source) => Err(ColumnError::Decode {
+                index,
+                place,
+                source,
+            }),
+        }
+    }
+
+    /// The value of a column: what `T` reads of it, whatever the column's type is.
+    pub fn try_get_unchecked<T: Decode, I: ColumnIndex>(
+        &self,
+        alloc: Global,
+        index: I,
+    ) -> Result<T, ColumnError<I>>
+        ensures { GivesAt T.meaning index (I.place index self.now.columns) (I.missing index self.now.columns) (unchecked_value (parse_by T.reading T.refusal T.takes_memory) self.now) result }
+    {
+        let Some(place) = index.index(self.columns) else {
+            return Err(self.not_found(index));
+        };
+        match self.unchecked_at(alloc, place) {
+            Ok(value) => Ok(value),
+            Err(source) => Err(ColumnError::Decode {
+                index,
+                place,
+                source,
+            }),
+        }
+    }
+
+    /// The columns in order as the fields of a tuple of one to nine, each read as [`PgRow::try_get`] reads it. Further columns are
+    /// ignored, as in sqlx. The first column that is refused refuses the tuple, and the error names its place.
+    pub fn as_tuple<T: FromRow>(&self, alloc: Global) -> Result<T, ColumnError<usize>>
+        ensures read { Gives T.meaning (T.parse self.now) (or_codec result) }
+        ensures first { IfErr result (T.refused self.now) }
+    {
+        T::from_row(alloc, self)
+    }
+}
+
+/// What `T` reads of a value.
+fn decode_value<T: Decode>(alloc: Global, value: PgValueRef<'_>) -> Result<T, CodecError>
+    ensures { Gives T.meaning (parse_by T.reading T.refusal T.takes_memory value.entry) result }
+{
+    T::decode(alloc, value)
 }
