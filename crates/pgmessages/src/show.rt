@@ -4,7 +4,7 @@ use crate::fault::Fault;
 use jiff::civil::Date;
 use pgv::row::PgRow;
 use pgv::{Decode, Oid, PgCopyReader, PgTypeInfo, PgValueFormat, PgValueRef};
-use pgv_examples::Mood;
+use pgv_examples::mood::Mood;
 use std::alloc::Global;
 
 /// An item of an order: its name, its count and the moods of those who bought it.

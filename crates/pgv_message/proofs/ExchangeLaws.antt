@@ -1,0 +1,140 @@
+-- Laws of the extended query.
+use Rattle.std.proofs.Common.{◌≡◌, ℕ, zero, suc, Bool, true, false, List, [], ◌∷◌, ◌++◌, map, Option, Some, None, refl, sym, ap, ◌∙◌, subst, append_assoc, append-nil, inl, inr}
+use Rattle.std.specs.Prelude.{not, ◌&&◌, ◌==◌, length, replicate, if◌then◌else◌, ◌⊎◌}
+use Rattle.pgv_message.specs.declared.exchange.PgRequest.{PgRequest}
+use Rattle.pgv_message.specs.declared.exchange.PgRequest.TheVariants as request
+use Rattle.pgv_message.specs.declared.exchange.PgAwaited.{PgAwaited}
+use Rattle.pgv_message.specs.declared.exchange.PgAwaited.TheVariants as awaited
+use Rattle.pgv_message.specs.declared.tag.PgTag.{PgTag}
+use Rattle.pgv_message.specs.declared.tag.PgTag.TheVariants as tag
+use Rattle.pgv_message.specs.Exchange.{Exchange, idle, sent, step, answer, stage_of, is_async, is_sync, until_sync}
+use Rattle.pgv_message.specs.ExchangeLaws.{run, all_sent, DescribesRows, EndsRows, copied_out, IsAnswer, AreAnswers, without_async, AnswersEndTheExchange, AsyncChangesNothing, ErrorSkipsToSync, OnlyReadyEndsSkipping, RequestsDoNotEndSkipping}
+
+-- ---- asynchronous messages
+
+async_stays : (x : Exchange) (t : PgTag) → is_async t ≡ true → step x t ≡ Some x
+unfolding step
+async_stays x t e = rw e refl
+
+async_by : (b : Bool) (x : Exchange) (t : PgTag) (ts : List PgTag) → is_async t ≡ b → ((y : Exchange) → run y ts ≡ run y (without_async ts)) → run x (t ∷ ts) ≡ run x (if b then without_async ts else t ∷ without_async ts)
+async_by true x t ts e more = rw (async_stays x t e) (more x)
+async_by false x t ts e more = by_step (step x t)
+  where
+    by_step : (o : Option Exchange) → Rattle.std.specs.Prelude.option_and_then (λ y. run y ts) o ≡ Rattle.std.specs.Prelude.option_and_then (λ y. run y (without_async ts)) o
+    by_step None = refl
+    by_step (Some y) = more y
+
+pub async_changes_nothing : AsyncChangesNothing
+async_changes_nothing x [] = refl
+async_changes_nothing x (t ∷ ts) = async_by (is_async t) x t ts refl (λ y. async_changes_nothing y ts)
+
+-- ---- errors
+
+same_some : {A : Type 0} (x y : A) → (let o : Option A = Some x in o) ≡ Some y → x ≡ y
+same_some x y h = cc
+
+by_skipping : (b : Bool) (z y : Exchange) → (if b then None else Some z) ≡ Some y → z ≡ y
+by_skipping true z y e = absurd cc
+by_skipping false z y e = same_some z y e
+
+pub error_skips_to_sync : ErrorSkipsToSync
+unfolding step
+error_skips_to_sync x y e =
+    let z : Exchange = record { waiting = until_sync x.waiting; skipping = true } in
+    let same : z ≡ y = by_skipping x.skipping z y e in
+    (ap (λ (w : Exchange). w.waiting) (sym same), ap (λ (w : Exchange). w.skipping) (sym same))
+
+-- ---- requests
+
+request_by : (b : Bool) (x z : Exchange) → z.skipping ≡ x.skipping → (if b then x else z).skipping ≡ x.skipping
+request_by true x z e = refl
+request_by false x z e = e
+
+pub requests_do_not_end_skipping : RequestsDoNotEndSkipping
+unfolding sent
+requests_do_not_end_skipping x r = request_by (x.skipping && (length x.waiting == 0) && not (is_sync r)) x (record { waiting = x.waiting ++ stage_of r ∷ []; skipping = x.skipping }) refl
+
+abbrev awaiting : List PgAwaited → Exchange
+awaiting ws = record { waiting = ws; skipping = false }
+
+one_sent : (ws : List PgAwaited) (r : PgRequest) → sent (awaiting ws) r ≡ awaiting (ws ++ stage_of r ∷ [])
+unfolding sent
+one_sent ws r = refl
+
+all_are : (ws : List PgAwaited) (rs : List PgRequest) → all_sent (awaiting ws) rs ≡ awaiting (ws ++ map stage_of rs)
+all_are ws [] = ap awaiting (sym (append-nil ws))
+all_are ws (r ∷ rs) =
+    ap (λ (x : Exchange). all_sent x rs) (one_sent ws r) ∙ all_are (ws ++ stage_of r ∷ []) rs ∙ ap awaiting (append_assoc ws (stage_of r ∷ []) (map stage_of rs))
+
+-- ---- answers
+
+describes : (rest : List PgAwaited) (ts more : List PgTag) → DescribesRows ts → run (awaiting (awaited.Columns ∷ rest)) (ts ++ more) ≡ run (awaiting rest) more
+unfolding step
+describes rest ts more (inl e) = rw e refl
+describes rest ts more (inr e) = rw e refl
+
+parameters : (rest : List PgAwaited) (ts : List PgTag) → run (awaiting (awaited.Parameters ∷ rest)) (tag.ParameterDescription ∷ ts) ≡ run (awaiting (awaited.Columns ∷ rest)) ts
+unfolding step
+parameters rest ts = refl
+
+copied : (rest : List PgAwaited) (n : ℕ) (more : List PgTag) → run (awaiting (awaited.CopyData ∷ rest)) ((replicate n tag.CopyData ++ tag.CopyDone ∷ tag.CommandComplete ∷ []) ++ more) ≡ run (awaiting rest) more
+unfolding step
+copied rest zero more = refl
+copied rest (suc n) more = copied rest n more
+
+copy_begins : (rest : List PgAwaited) (ts : List PgTag) → run (awaiting (awaited.Rows ∷ rest)) (tag.CopyOutResponse ∷ ts) ≡ run (awaiting (awaited.CopyData ∷ rest)) ts
+unfolding step
+copy_begins rest ts = refl
+
+rows_end : (rest : List PgAwaited) (ts more : List PgTag) → EndsRows ts → run (awaiting (awaited.Rows ∷ rest)) (ts ++ more) ≡ run (awaiting rest) more
+unfolding step
+rows_end rest ts more (inl e) = rw e refl
+rows_end rest ts more (inr (inl e)) = rw e refl
+rows_end rest ts more (inr (inr (inl e))) = rw e refl
+rows_end rest ts more (inr (inr (inr (inl e)))) = rw e refl
+rows_end rest ts more (inr (inr (inr (inr e)))) = rw e.1 (copy_begins rest ((replicate e.0 tag.CopyData ++ tag.CopyDone ∷ tag.CommandComplete ∷ []) ++ more) ∙ copied rest e.0 more)
+
+row_comes : (rest : List PgAwaited) (ts : List PgTag) → run (awaiting (awaited.Rows ∷ rest)) (tag.DataRow ∷ ts) ≡ run (awaiting (awaited.Rows ∷ rest)) ts
+unfolding step
+row_comes rest ts = refl
+
+rows : (rest : List PgAwaited) (n : ℕ) (last more : List PgTag) → EndsRows last → run (awaiting (awaited.Rows ∷ rest)) ((replicate n tag.DataRow ++ last) ++ more) ≡ run (awaiting rest) more
+rows rest zero last more e = rows_end rest last more e
+rows rest (suc n) last more e = row_comes rest ((replicate n tag.DataRow ++ last) ++ more) ∙ rows rest n last more e
+
+answered : (rest : List PgAwaited) (r : PgRequest) (ts more : List PgTag) → IsAnswer r ts → run (awaiting (stage_of r ∷ rest)) (ts ++ more) ≡ run (awaiting rest) more
+unfolding step
+answered rest request.Parse ts more e = rw e refl
+answered rest request.Bind ts more e = rw e refl
+answered rest request.DescribeStatement ts more e = rw e.1 (parameters rest (e.0 ++ more) ∙ describes rest e.0 more e.2)
+answered rest request.DescribePortal ts more e = describes rest ts more e
+answered rest request.Execute ts more e = rw e.2 (rows rest e.0 e.1 more e.3)
+answered rest request.Close ts more e = rw e refl
+answered rest request.Sync ts more e = rw e refl
+
+all_answered : (rs : List PgRequest) (ts : List PgTag) → AreAnswers rs ts → run (awaiting (map stage_of rs)) ts ≡ Some idle
+all_answered [] ts e = rw e refl
+all_answered (r ∷ rs) ts e = rw e.2 (answered (map stage_of rs) r e.0 e.1 e.3 ∙ all_answered rs e.1 e.4)
+
+pub answers_end_the_exchange : AnswersEndTheExchange
+answers_end_the_exchange rs ts e = ap (λ (x : Exchange). run x ts) (all_are [] rs) ∙ all_answered rs ts e
+
+-- ---- after an error
+
+ready_alone : (x y : Exchange) → answer x tag.ReadyForQuery ≡ Some y → y.skipping ≡ false
+ready_alone x y e = by_left (Rattle.pgv_message.specs.Exchange.after_first x.waiting tag.ReadyForQuery) y e
+  where
+    by_left : (o : Option (List PgAwaited)) (y : Exchange) → Rattle.std.specs.Prelude.option_map (λ left. record { waiting = left; skipping = false }) o ≡ Some y → y.skipping ≡ false
+    by_left None y e = absurd cc
+    by_left (Some left) y e = ap (λ (w : Exchange). w.skipping) (sym (same_some {A = Exchange} _ y e))
+
+only_by : (x y : Exchange) (t : PgTag) → true ≡ true → x.skipping ≡ true → step x t ≡ Some y → ((is_async t ≡ true) × (y ≡ x)) ⊎ ((t ≡ tag.ReadyForQuery) × (y.skipping ≡ false))
+unfolding step
+only_by x y tag.NoticeResponse u s e = inl (refl, sym (same_some {A = Exchange} x y e))
+only_by x y tag.ParameterStatus u s e = inl (refl, sym (same_some {A = Exchange} x y e))
+only_by x y tag.NotificationResponse u s e = inl (refl, sym (same_some {A = Exchange} x y e))
+only_by x y tag.ReadyForQuery u s e = inr (refl, ready_alone x y (rw s at e))
+only_by x y _ u s e = absurd cc
+
+pub only_ready_ends_skipping : OnlyReadyEndsSkipping
+only_ready_ends_skipping x y t s e = only_by x y t refl s e

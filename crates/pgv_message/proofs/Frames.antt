@@ -1,0 +1,88 @@
+-- Frames that are read one after another are the bytes of their parts, and so the parameters of a Bind.
+use Rattle.std.proofs.Common.{◌≡◌, ℕ, suc, ◌<◌, Bool, true, false, nat_lt, List, [], ◌∷◌, ◌++◌, length, get_or, Some, None, Ok, Err, Result, refl, sym, ap, ◌∙◌, subst, append_assoc, append-nil}
+use Rattle.std.specs.Prelude.{flat_map, if◌then◌else◌}
+use Rattle.std.specs.List.{AllByRecursion}
+use Rattle.std.specs.Int.{w16, w32, to_be_bytes}
+use Rattle.pgv_value.specs.FrameBinary.{Part, IsFrame}
+use Rattle.pgv_value.specs.Laws.{AreBytes}
+use Rattle.pgv_value.specs.declared.value.PgValueFormat.{PgValueFormat}
+use Rattle.pgv_value.proofs.Fronts.{front_exactly}
+use Rattle.pgv_value.proofs.Numbers.{bytes_after}
+use Rattle.pgv_buf.specs.Tokens.{shown}
+use Rattle.pgv_copy.specs.CopyStream.{field_bytes, IsField}
+use Rattle.pgv_wire.specs.Arguments.{Argument, all_tokens}
+use Rattle.pgv_wire.specs.Parts.{ReadAs, AllRead, parts_in}
+use Rattle.pgv_message.specs.declared.error.MessageError.{MessageError}
+use Rattle.pgv_message.specs.Messages.{bind}
+use Rattle.pgv_message.specs.Writing.{Writing, ◌>>=◌, text, text_of, count_of, joined, measured, whole, has_zero, max_body}
+use Rattle.pgv_message.specs.Received.{message}
+use Rattle.pgv_message.specs.Pieces.{format_bytes}
+use Rattle.pgv_message.specs.Frames.{bind_of, BindsArguments, ParametersAreArguments}
+
+pub are_bytes : (xs : List ℕ) → ((i : ℕ) → get_or xs i 0 < 256) → AreBytes xs
+are_bytes [] h = tt
+are_bytes (x ∷ xs) h = (h 0, are_bytes xs (λ i. h (suc i)))
+
+frame_bytes : (bytes : List ℕ) (part : Part) (rest : List ℕ) → IsFrame bytes part rest → IsField part × (bytes ≡ field_bytes part ++ rest)
+frame_bytes bytes None rest e = (tt, e)
+frame_bytes bytes (Some part) rest e = (e.0, e.1 ∙ sym (append_assoc (to_be_bytes w32 (length part)) part rest))
+
+pub frames_are : (bytes : List ℕ) (parts : List Part) (rest : List ℕ) → AreBytes bytes → ReadAs bytes parts rest → (bytes ≡ flat_map field_bytes parts ++ rest) × AllByRecursion IsField parts
+frames_are bytes [] rest h e = (e, tt)
+frames_are bytes (p ∷ parts) rest h r =
+    let frame = frame_bytes bytes p r.0 ((front_exactly bytes p r.0 h).0 r.1) in
+    let more = frames_are r.0 parts rest (bytes_after (field_bytes p) r.0 (subst AreBytes frame.1 h)) r.2 in (
+      frame.1 ∙ ap (λ (xs : List ℕ). field_bytes p ++ xs) more.0 ∙ sym (append_assoc (field_bytes p) (flat_map field_bytes parts) rest),
+      (frame.0, more.1),
+    )
+
+-- ---- what is sent
+
+step_is : {A : Type 0} (r : Writing (List ℕ)) (next : List ℕ → Writing A) (x : A) → r >>= next ≡ Ok x → (bytes : List ℕ) × (r ≡ Ok bytes) × (next bytes ≡ Ok x)
+step_is (Ok bytes) next x e = (bytes, refl, e)
+step_is (Err d) next x e = absurd cc
+
+chosen : (b : Bool) (d : MessageError) (y x : List ℕ) → (let r : Writing (List ℕ) = if b then Err d else Ok y in r) ≡ Ok x → y ≡ x
+chosen true d y x e = absurd cc
+chosen false d y x e = cc
+
+text_is : (name bytes : List ℕ) → text_of name ≡ Ok bytes → text name ≡ bytes
+unfolding text_of
+text_is name bytes e = chosen (has_zero name) _ (text name) bytes e
+
+count_is : (n : ℕ) (bytes : List ℕ) → count_of n ≡ Ok bytes → to_be_bytes w16 n ≡ bytes
+unfolding count_of
+count_is n bytes e = chosen (nat_lt 65535 n) _ (to_be_bytes w16 n) bytes e
+
+whole_is : (tag body bytes : List ℕ) → whole tag body ≡ Ok bytes → tag ++ measured body ≡ bytes
+unfolding whole
+whole_is tag body bytes e = chosen (nat_lt max_body (length body)) _ (tag ++ measured body) bytes e
+
+same_four : (f : List ℕ → List ℕ → List ℕ → List ℕ → List ℕ) (a a' b b' c c' d d' : List ℕ) → a ≡ a' → b ≡ b' → c ≡ c' → d ≡ d' → f a b c d ≡ f a' b' c' d'
+same_four f a a' b b' c c' d d' p q r s = ap (λ (x : List ℕ). f x b c d) p ∙ ap (λ (x : List ℕ). f a' x c d) q ∙ ap (λ (x : List ℕ). f a' b' x d) r ∙ ap (λ (x : List ℕ). f a' b' c' x) s
+
+-- Bind with these texts and numbers
+abbrev bind_with : List Argument → List PgValueFormat → List ℕ → List ℕ → List ℕ → List ℕ → List ℕ
+bind_with arguments results portal statement many formats =
+    message 66 (joined (portal ∷ statement ∷ to_be_bytes w16 1 ∷ to_be_bytes w16 1 ∷ many ∷ shown (all_tokens arguments) ∷ formats ∷ flat_map format_bytes results ∷ []))
+
+pub bind_is : (portal statement sent : List ℕ) (arguments : List Argument) (results : List PgValueFormat) → bind portal statement arguments results ≡ Ok sent →
+    bind_with arguments results (text portal) (text statement) (to_be_bytes w16 (length arguments)) (to_be_bytes w16 (length results)) ≡ sent
+unfolding bind
+bind_is portal statement sent arguments results e =
+    let p = step_is {A = List ℕ} (text_of portal) _ sent e in
+    let s = step_is {A = List ℕ} (text_of statement) _ sent p.2 in
+    let n = step_is {A = List ℕ} (count_of (length arguments)) _ sent s.2 in
+    let m = step_is {A = List ℕ} (count_of (length results)) _ sent n.2 in
+    same_four (bind_with arguments results) (text portal) p.0 (text statement) s.0 (to_be_bytes w16 (length arguments)) n.0 (to_be_bytes w16 (length results)) m.0
+    (text_is portal p.0 p.1) (text_is statement s.0 s.1) (count_is (length arguments) n.0 n.1) (count_is (length results) m.0 m.1)
+    ∙ whole_is (66 ∷ []) _ sent m.2
+
+pub parameters_are : (arguments : List Argument) (bytes : List ℕ) → ((i : ℕ) → get_or bytes i 0 < 256) → bytes ≡ shown (all_tokens arguments) → AllRead arguments → ParametersAreArguments arguments
+parameters_are arguments bytes h is read portal statement sent results e =
+    let parts = parts_in read.0 arguments in
+    let frames = frames_are bytes parts [] (are_bytes bytes h) (subst (λ (xs : List ℕ). ReadAs xs parts []) (sym is) read.2) in
+    let shown_is : shown (all_tokens arguments) ≡ flat_map field_bytes parts = sym is ∙ frames.0 ∙ append-nil (flat_map field_bytes parts) in
+    let many : length parts ≡ length arguments = read.3 in
+    let same : bind_of portal statement parts results ≡ sent = rw (← shown_is, many) (bind_is portal statement sent arguments results e) in
+    record { images = read.0; of_images = read.1; many = many; each = frames.1; sent_is = sym same }

@@ -1,0 +1,6 @@
+mod Sizes
+mod Frames
+mod InFront
+mod ExchangeLaws
+mod Counted
+mod Notices

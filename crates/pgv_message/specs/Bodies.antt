@@ -1,0 +1,54 @@
+-- Bodies of messages that a server sends (PostgreSQL: "Message Formats"), each read exactly: bytes that end too early are C15, a text that
+-- isn't UTF-8 is C14, bytes after the last field are C17, and a code that isn't one of its field's is C30.
+use Rattle.std.specs.Prelude.{ℕ, nat_eq, ◌==◌, List, [], ◌∷◌, length, Ok, Err, if◌then◌else◌}
+use Rattle.pgv_value.specs.declared.error.CodecError.TheVariants.{Short, WrongLength, OutOfRange}
+use Rattle.pgv_row.specs.Fronts.{u32_front, name_front}
+use Rattle.pgv_row.specs.Parsed.{Parsed, ◌>>=◌}
+use Rattle.pgv_message.specs.declared.ready_for_query.PgTransactionStatus.{PgTransactionStatus}
+use Rattle.pgv_message.specs.declared.ready_for_query.PgTransactionStatus.TheVariants.{Idle, Transaction, Failed}
+
+-- what was read, where nothing of the body is left
+abbrev pub ended : {A : Type 0} → List ℕ → A → List ℕ → Parsed A
+ended bytes x rest = if nat_eq (length rest) 0 then Ok x else Err (WrongLength (length bytes))
+
+-- CommandComplete: a text
+unfoldable pub command_complete : List ℕ → Parsed (List ℕ)
+command_complete bytes = do
+  text ← name_front bytes
+  ended bytes text.0 text.1
+
+-- ReadyForQuery: `I` no transaction, `T` in a transaction, `E` in one that failed
+abbrev pub status_of : ℕ → Parsed PgTransactionStatus
+status_of code = if code == 73 then Ok Idle else if code == 84 then Ok Transaction else if code == 69 then Ok Failed else Err OutOfRange
+
+unfoldable pub ready_for_query : List ℕ → Parsed PgTransactionStatus
+ready_for_query [] = Err Short
+ready_for_query (code ∷ rest) = status_of code >>= λ status. ended (code ∷ rest) status rest
+
+-- ParameterStatus: a name and a value
+unfoldable pub parameter_status : List ℕ → Parsed (List ℕ × List ℕ)
+parameter_status bytes = do
+  name ← name_front bytes
+  value ← name_front name.1
+  ended bytes (name.0, value.0) value.1
+
+-- BackendKeyData: the process and the secret
+unfoldable pub backend_key_data : List ℕ → Parsed (ℕ × ℕ)
+backend_key_data bytes = do
+  process ← u32_front bytes
+  secret ← u32_front process.1
+  ended bytes (process.0, secret.0) secret.1
+
+-- NotificationResponse: the process, the channel and the payload
+unfoldable pub notification : List ℕ → Parsed (ℕ × (List ℕ × List ℕ))
+notification bytes = do
+  process ← u32_front bytes
+  channel ← name_front process.1
+  payload ← name_front channel.1
+  ended bytes (process.0, (channel.0, payload.0)) payload.1
+
+-- Authentication: a code, and what the code has; nothing after 0, which is Ok
+unfoldable pub authentication : List ℕ → Parsed (ℕ × List ℕ)
+authentication bytes = do
+  code ← u32_front bytes
+  if nat_eq code.0 0 then ended bytes code code.1 else Ok code

@@ -1,0 +1,41 @@
+-- A body that is a list: the number of its things in two bytes, and these, one after another; nothing comes after them.
+-- How it is read (`counted`): what isn't there is C15, and bytes after the last thing are C17. It is read exactly where it is that list
+-- (`CountedIsRead`).
+use Rattle.std.specs.Prelude.{◌≡◌, ◌↔◌, ℕ, ◌<◌, ◌^◌, nat_eq, not, true, List, ◌++◌, length, flat_map, Ok}
+use Rattle.std.specs.Int.{w16, to_be_bytes}
+use Rattle.std.specs.List.{AllByRecursion}
+use Rattle.pgv_types.specs.declared.oid.Oid.{Oid}
+use Rattle.pgv_value.specs.Laws.{AreBytes}
+use Rattle.pgv_value.specs.declared.error.CodecError.TheVariants.{WrongLength}
+use Rattle.pgv_row.specs.Fronts.{u16_front, u32_front}
+use Rattle.pgv_row.specs.Outcome.{Outcome, exactly, allocates, fails_if, done, ◌>>=◌, ◌>>◌}
+use Rattle.pgv_row.specs.Parsed.{Parsed, ◌>>=◌ as ◌and_then◌}
+use Rattle.pgv_row.specs.Several.{several}
+use Rattle.pgv_message.specs.Pieces.{oid_bytes}
+
+unfoldable pub counted : {A : Type 0} → (List ℕ → Outcome (A × List ℕ)) → List ℕ → Outcome (List A)
+counted one bytes = do
+  count ← exactly (u16_front bytes)
+  allocates true
+  list ← several one count.0 count.1
+  fails_if (not (nat_eq (length list.1) 0)) (WrongLength (length bytes))
+  done list.0
+
+pub record IsCounted {A : Type 0} (Is : A → Type 0) (encode : A → List ℕ) (bytes : List ℕ) (list : List A) : Type 0 where
+  pub whole : bytes ≡ to_be_bytes w16 (length list) ++ flat_map encode list
+  pub many : length list < 2 ^ 16
+  pub each : AllByRecursion Is list
+
+-- ---- ParameterDescription (PostgreSQL: "Message Formats", ParameterDescription): the OIDs of a statement's parameters, of four bytes each
+
+unfoldable pub oid_front : List ℕ → Outcome (Oid × List ℕ)
+oid_front bytes = exactly (u32_front bytes) >>= λ o. done (record { 0 = o.0 }, o.1)
+
+abbrev pub parameters : List ℕ → Outcome (List Oid)
+parameters = counted oid_front
+
+abbrev pub IsOid : Oid → Type 0
+IsOid o = o.0 < 2 ^ 32
+
+abbrev pub AreParameters : List ℕ → List Oid → Type 0
+AreParameters = IsCounted IsOid oid_bytes

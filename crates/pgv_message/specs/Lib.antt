@@ -1,0 +1,12 @@
+pub mod Writing
+pub mod Pieces
+pub mod Messages
+pub mod Frames
+pub mod Received
+pub mod Tags
+pub mod Exchange
+pub mod ExchangeLaws
+pub mod Startup
+pub mod Counted
+pub mod Bodies
+pub mod Notice

@@ -1,0 +1,50 @@
+//! Bind: a statement and its parameters become a portal.
+
+ghost use Rattle.std.specs.Prelude.{◌≡◌};
+ghost use Rattle.pgv_buf.specs.Tokens.{shown};
+ghost use Rattle.pgv_wire.specs.Arguments.{all_tokens};
+ghost use Rattle.pgv_message.specs.Messages.{bind};
+ghost use Rattle.pgv_message.specs.Writing.{Sends};
+
+use crate::error::MessageError;
+use crate::pieces::{Piece, count_piece, push_message, text_piece};
+use pgv_value::PgValueFormat;
+use pgv_wire::PgArguments;
+
+/// Appends Bind (PostgreSQL: "Message Formats", Bind): the arguments become the parameters of a portal, all in binary. The formats of
+/// the result's columns are none where all are text, one for all, or one for each.
+///
+/// A zero byte in a name, more than 65535 arguments or formats, and a body of more than 2147483643 bytes are refused. A refused call
+/// leaves the buffer as it was. No memory is asked for but what the buffer takes.
+///
+/// The unnamed portal of the unnamed statement with one argument, `int4` 7, and results in binary:
+/// `42 00000018 00 00 0001 0001 0001 00000004 00000007 0001 0001`.
+#[tactic(auto, unfolding(crate::specs::Messages::bind))]
+pub fn write_bind<'a>(
+    out: &mut Vec<u8>,
+    portal: &'a str,
+    statement: &'a str,
+    arguments: &'a PgArguments,
+    results: &'a [PgValueFormat],
+) -> Result<(), MessageError>
+    ensures { Sends (bind portal.now statement.now arguments.now results.now) out.old.items out.new.items result }
+{
+    let portal = text_piece(portal)?;
+    let statement = text_piece(statement)?;
+    let parameters = count_piece(arguments.len())?;
+    let formats = count_piece(results.len())?;
+    push_message(
+        out,
+        b"B",
+        &[
+            portal,
+            statement,
+            Piece::Count(1),
+            Piece::Count(1),
+            parameters,
+            Piece::Bytes(arguments.buffer().as_slice()),
+            formats,
+            Piece::Formats(results),
+        ],
+    )
+}

@@ -1,0 +1,70 @@
+//! Laws of messages: each is the contract of a function that does nothing.
+
+ghost use Rattle.std.specs.Prelude.{◌≡◌};
+ghost use Rattle.pgv_buf.specs.Tokens.{shown};
+ghost use Rattle.pgv_wire.specs.Arguments.{all_tokens};
+ghost use Rattle.pgv_message.specs.ExchangeLaws.{AnswersEndTheExchange, AsyncChangesNothing, ErrorSkipsToSync, OnlyReadyEndsSkipping, RequestsDoNotEndSkipping};
+ghost use Rattle.pgv_message.specs.Frames.{ParametersAreArguments};
+ghost use Rattle.pgv_message.specs.Notice.{NoticeIsRead};
+ghost use Rattle.pgv_message.specs.Received.{MessageIsFound, FoundIsMessage, CutIsNotFound};
+
+use pgv_wire::PgArguments;
+use pgv_wire::laws::arguments_read;
+
+/// A message in front is found, whatever follows it: its tag, its body, and what comes after it.
+pub fn message_is_found()
+    ensures { MessageIsFound }
+{}
+
+/// What is found in front is a message: the bytes are its tag, its length and its body, and then what comes after it.
+pub fn found_is_message()
+    ensures { FoundIsMessage }
+{}
+
+/// Of a message that is cut off anywhere nothing is found yet, and it is not refused.
+pub fn cut_is_not_found()
+    ensures { CutIsNotFound }
+{}
+
+/// The parameters of a Bind are the arguments: for each, in order, the frame of its part, null where its image is null and else what
+/// the argument shows.
+pub fn parameters_are_arguments(arguments: &PgArguments)
+    ensures { ParametersAreArguments arguments.now }
+{
+    frames_are_parameters(arguments.buffer().as_slice(), arguments);
+}
+
+/// That bytes which are the buffer of arguments are the parameters of a Bind.
+fn frames_are_parameters(frames: &[u8], arguments: &PgArguments)
+    requires { frames.now ≡ shown (all_tokens arguments.now) }
+    ensures { ParametersAreArguments arguments.now }
+{
+    arguments_read(arguments);
+}
+
+/// When the answers to all requests have come, in order, nothing is awaited.
+pub fn answers_end_the_exchange()
+    ensures { AnswersEndTheExchange }
+{}
+
+/// Messages that come at any time change nothing, wherever they stand among the others.
+pub fn async_changes_nothing()
+    ensures { AsyncChangesNothing }
+{}
+
+/// An error ends all requests before the next Sync, and the server then passes over requests.
+pub fn error_skips_to_sync()
+    ensures { ErrorSkipsToSync }
+{}
+
+/// After an error only the ReadyForQuery may come, which ends the passing over, and messages that may come at any time; and no request
+/// ends it.
+pub fn only_ready_ends_skipping()
+    ensures messages { OnlyReadyEndsSkipping }
+    ensures requests { RequestsDoNotEndSkipping }
+{}
+
+/// The body of an error or a notice is read as fields exactly where it is these fields, a zero byte and nothing else.
+pub fn notice_is_read()
+    ensures { NoticeIsRead }
+{}

@@ -1,0 +1,39 @@
+//! NotificationResponse: another session has notified this one.
+
+ghost use Rattle.std.specs.Prelude.{◌≡◌};
+ghost use Rattle.pgv_row.specs.Parsed.{GivesExactly};
+ghost use Rattle.pgv_message.specs.Bodies.{notification};
+
+use crate::end::check_end;
+use pgv_row::front::name_in_front;
+use pgv_value::{CodecError, u32_in_front};
+
+/// A notification.
+#[derive(Clone, Copy)]
+pub struct PgNotification<'a> {
+    /// The process of the session that sent it.
+    pub process: u32,
+    /// The channel.
+    pub channel: &'a str,
+    /// The text that came with it, which may be empty.
+    pub payload: &'a str,
+}
+
+/// The notification in a NotificationResponse's body (PostgreSQL: "Message Formats", NotificationResponse). Bytes that end too early are
+/// refused with C15, a text that isn't UTF-8 with C14, and bytes after the payload with C17.
+///
+/// `00000007 6100 00` is one of the process 7 on the channel `a`.
+#[tactic(auto, unfolding(crate::specs::Bodies::notification))]
+pub fn notification_of(body: &[u8]) -> Result<PgNotification<'_>, CodecError>
+    ensures { GivesExactly (λ n. (n.process, (n.channel.now, n.payload.now))) (notification body.now) result }
+{
+    let (process, rest) = u32_in_front(body)?;
+    let (channel, rest) = name_in_front(rest)?;
+    let (payload, rest) = name_in_front(rest)?;
+    check_end(body, rest)?;
+    Ok(PgNotification {
+        process,
+        channel,
+        payload,
+    })
+}
