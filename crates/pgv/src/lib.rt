@@ -49,7 +49,7 @@ pub mod text {
 /// Rows of a statement's result, by the columns that a RowDescription has.
 pub mod row {
     pub use pgv_row::{
-        ColumnError, ColumnIndex, ColumnList, FromRow, PgCatalog, PgColumn, PgColumns, PgPlaces, PgRow, type_of_oid,
+        ColumnError, ColumnIndex, ColumnList, FromRow, PgCatalog, PgColumn, PgColumns, PgOwnedRow, PgPlaces, PgRow,
     };
 }
 
