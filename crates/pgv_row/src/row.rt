@@ -1,12 +1,11 @@
 //! Rows: the values of the columns, one DataRow after another.
 
-ghost use Rattle.std.specs.Prelude.{◌≡◌, ◌≢◌, ◌<◌, ◌≤◌, List, length, IfOk, IfErr, MatchResult};
-ghost use Rattle.pgv_value.specs.FrameBinary.{Part};
+ghost use Rattle.std.specs.Prelude.{◌≡◌, ◌≢◌, ◌≤◌, length, IfOk, IfErr};
 ghost use Rattle.pgv_value.specs.declared.error.CodecError.TheVariants.{FieldCount, Memory};
 ghost use Rattle.pgv_row.specs.DataRow.{data_row, IsDataRow};
-ghost use Rattle.pgv_row.specs.Errors.{GivesAt};
+ghost use Rattle.pgv_row.specs.Errors.{GivesColumn};
 ghost use Rattle.pgv_row.specs.declared.error.ColumnError.TheVariants.{NotFound};
-ghost use Rattle.pgv_row.specs.Outcome.{Gives};
+ghost use Rattle.pgv_row.specs.Outcome.{Gives, IsRead};
 ghost use Rattle.pgv_row.specs.Places.{part_at, IsWithin};
 ghost use Rattle.pgv_row.specs.RowBytesView.{body_of};
 ghost use Rattle.pgv_row.specs.RowView.{column_there};
@@ -100,7 +99,9 @@ fn value_in<'a>(
     format: PgValueFormat,
 ) -> PgValueRef<'a>
     requires { IsWithin (body_of bytes) place }
-    ensures { result ≡ record { bytes = part_at (body_of bytes.entry) place; type_info = type_info; format = format } }
+    ensures bytes { result.bytes ≡ part_at (body_of bytes.entry) place }
+    ensures type_info { result.type_info ≡ type_info }
+    ensures format { result.format ≡ format }
 {
     let Some(place) = place else {
         return PgValueRef::new(None, type_info, format);
@@ -116,10 +117,12 @@ fn value_in<'a>(
 }
 
 impl<'a> PgRow<'a> {
-    /// The row that is the body of a DataRow, under these columns. It lasts until the next one is read with the same room.
+    /// The row that is the body of a DataRow (PostgreSQL, "Message Formats", DataRow), under these columns. It lasts until the next one
+    /// is read with the same room. `0002 00000001 37 ffffffff` is a row of two columns, `7` and null.
     ///
     /// Another number of columns is refused with C12, bytes that end too early with C15, a negative length but the -1 of null with C16,
-    /// and bytes after the last column with C17. C1 comes only where the room grows, and so of no row but the first of a statement.
+    /// and bytes after the last column with C17. C1 comes only where the
+    /// room has fewer places than there are columns, and so never in a room of [`PgPlaces::with_columns`].
     #[inline(always)]
     pub fn read(
         columns: &'a PgColumns<'a>,
@@ -129,8 +132,7 @@ impl<'a> PgRow<'a> {
         ensures columns { IfOk result (λ row. row.columns ≡ columns.now) }
         ensures read { Gives (λ row. row.parts) (data_row room.old (length columns.now) body.now) result }
         // What is answered is the row that the body is, and nothing but memory keeps such a row from being answered.
-        ensures exact { IfOk result (λ row. IsDataRow (length columns.now) body.now row.parts) }
-        ensures only { (parts : List Part) → IsDataRow (length columns.now) body.now parts → MatchResult result (λ row. row.parts ≡ parts) (λ e. (e ≡ Memory) × (room.old < length columns.now)) }
+        ensures exact { IsRead (λ row. row.parts) (IsDataRow (length columns.now) body.now) result }
         ensures memory { length columns.now ≤ room.old → IfErr result (λ e. e ≢ Memory) }
     {
         let columns = columns.as_slice();
@@ -152,8 +154,8 @@ impl<'a> PgRow<'a> {
     ) -> Result<Self, CodecError>
         ensures columns { IfOk result (λ row. row.columns ≡ columns.now) }
         ensures read { Gives (λ row. row.parts) (data_row room.old (length columns.now) body.now) result }
-        ensures exact { IfOk result (λ row. IsDataRow (length columns.now) body.now row.parts) }
-        ensures only { (parts : List Part) → IsDataRow (length columns.now) body.now parts → MatchResult result (λ row. row.parts ≡ parts) (λ e. (e ≡ Memory) × (room.old < length columns.now)) }
+        // What is answered is the row that the body is, and nothing but memory keeps such a row from being answered.
+        ensures exact { IsRead (λ row. row.parts) (IsDataRow (length columns.now) body.now) result }
         ensures memory { length columns.now ≤ room.old → IfErr result (λ e. e ≢ Memory) }
     {
         let columns = columns.as_slice();
@@ -195,7 +197,7 @@ impl<'a> PgRow<'a> {
 
     /// The column at a place or of a name.
     pub fn try_column<I: ColumnIndex>(&self, index: I) -> Result<&'a PgColumn<'a>, ColumnError<I>>
-        ensures { GivesAt (λ column. column.now) index (I.place index self.now.columns) (I.missing index self.now.columns) (column_there self.now.columns) result }
+        ensures { GivesColumn (λ c. c.now) I.place I.missing index self.now column_there result }
     {
         let Some(place) = index.index(self.columns) else {
             return Err(self.not_found(index));
@@ -238,7 +240,8 @@ impl<'a> PgRow<'a> {
     /// What `T` reads of the column at a place, whatever its type is.
     #[tactic(auto, unfolding(crate::specs::Values::unchecked_value))]
     fn unchecked_at<T: Decode>(&self, alloc: Global, place: usize) -> Result<T, CodecError>
-        ensures { Gives T.meaning (unchecked_value (parse_by T.reading T.refusal T.takes_memory) self.now place) result }
+        ensures { let parse = parse_by T.reading T.refusal T.takes_memory in
+            Gives T.meaning (unchecked_value parse self.now place) result }
     {
         decode_value(alloc, self.raw_at(place)?)
     }
@@ -250,7 +253,8 @@ impl<'a> PgRow<'a> {
         alloc: Global,
         place: usize,
     ) -> Result<T, CodecError>
-        ensures { Gives T.meaning (column_value T.accepts (parse_by T.reading T.refusal T.takes_memory) self.now place) result }
+        ensures { let parse = parse_by T.reading T.refusal T.takes_memory in
+            Gives T.meaning (column_value T.accepts parse self.now place) result }
     {
         let value = self.raw_at(place)?;
         if !value.is_null() && !T::compatible(value.type_info()) {
@@ -261,7 +265,7 @@ impl<'a> PgRow<'a> {
 
     /// The value of a column, as it stands in the row. C1 comes only of a custom type, which is copied.
     pub fn try_get_raw<I: ColumnIndex>(&self, index: I) -> Result<PgValueRef<'a>, ColumnError<I>>
-        ensures { GivesAt (λ value. value) index (I.place index self.now.columns) (I.missing index self.now.columns) (raw_value self.now) result }
+        ensures { GivesColumn (λ value. value) I.place I.missing index self.now raw_value result }
     {
         let Some(place) = index.index(self.columns) else {
             return Err(self.not_found(index));
@@ -284,7 +288,8 @@ impl<'a> PgRow<'a> {
         alloc: Global,
         index: I,
     ) -> Result<T, ColumnError<I>>
-        ensures { GivesAt T.meaning index (I.place index self.now.columns) (I.missing index self.now.columns) (column_value T.accepts (parse_by T.reading T.refusal T.takes_memory) self.now) result }
+        ensures { let parse = parse_by T.reading T.refusal T.takes_memory in
+            GivesColumn T.meaning I.place I.missing index self.now (column_value T.accepts parse) result }
     {
         let Some(place) = index.index(self.columns) else {
             return Err(self.not_found(index));
@@ -305,7 +310,8 @@ impl<'a> PgRow<'a> {
         alloc: Global,
         index: I,
     ) -> Result<T, ColumnError<I>>
-        ensures { GivesAt T.meaning index (I.place index self.now.columns) (I.missing index self.now.columns) (unchecked_value (parse_by T.reading T.refusal T.takes_memory) self.now) result }
+        ensures { let parse = parse_by T.reading T.refusal T.takes_memory in
+            GivesColumn T.meaning I.place I.missing index self.now (unchecked_value parse) result }
     {
         let Some(place) = index.index(self.columns) else {
             return Err(self.not_found(index));
