@@ -200,7 +200,7 @@ fn keep_row(
 fn show_status(body: &[u8], out: &mut String) -> Result<(), Fault> {
     let text = match transaction_status(body)? {
         PgTransactionStatus::Idle => "ready",
-        PgTransactionStatus::InTransaction => "ready in a transaction",
+        PgTransactionStatus::Transaction => "ready in a transaction",
         PgTransactionStatus::Failed => "ready in a failed transaction",
     };
     Ok(out.push_str(text)?)
