@@ -65,7 +65,7 @@ module _ {A M : Type 0} (hint : A → ℕ) (image : A → Option Image) (accepts
       let read : ReadAs (shown (all_tokens arguments)) held.parts [] = subst (λ (xs : List Argument). ReadAs (shown (all_tokens xs)) held.parts []) (sym after_is) held.read in
       let frames = frames_are bytes held.parts [] (are_bytes bytes below) (subst (λ (xs : List ℕ). ReadAs xs held.parts []) (sym is) read) in
       let shown_is : shown (all_tokens arguments) ≡ flat_map field_bytes held.parts = sym is ∙ frames.0 ∙ append-nil (flat_map field_bytes held.parts) in
-      let many : length held.parts ≡ length arguments = held.as_many ∙ ap length (sym added) ∙ length-map _ arguments in
+      let many : length held.parts ≡ length arguments = held.as_many ∙ ap length (sym added) ∙ length-map arguments _ in
       let fit : length arguments ≤ 65535 = arguments_fit portal statement sent arguments results sent_by in
       let same : bind_of portal statement held.parts results ≡ sent = rw (← shown_is, many) (bind_is portal statement sent arguments results sent_by) in
       record {
