@@ -1,8 +1,9 @@
 -- Frames that are read one after another are the bytes of their parts, and so the parameters of a Bind.
-use Rattle.std.proofs.Common.{◌≡◌, ℕ, suc, ◌<◌, Bool, true, false, nat_lt, List, [], ◌∷◌, ◌++◌, length, get_or, Some, None, Ok, Err, Result, refl, sym, ap, ◌∙◌, subst, append_assoc, append-nil}
+use Rattle.std.proofs.Common.{◌≡◌, ℕ, suc, ◌<◌, ◌≤◌, Bool, true, false, nat_lt, List, [], ◌∷◌, ◌++◌, length, get_or, Some, None, Ok, Err, Result, refl, sym, ap, ◌∙◌, subst, append_assoc, append-nil}
 use Rattle.std.specs.Prelude.{flat_map, if◌then◌else◌}
 use Rattle.std.specs.List.{AllByRecursion}
 use Rattle.std.specs.Int.{w16, w32, to_be_bytes}
+use Rattle.std.proofs.lemmas.Bool.{ltb-false}
 use Rattle.pgv_value.specs.FrameBinary.{Part, IsFrame}
 use Rattle.pgv_value.specs.Laws.{AreBytes}
 use Rattle.pgv_value.specs.declared.value.PgValueFormat.{PgValueFormat}
@@ -77,6 +78,23 @@ bind_is portal statement sent arguments results e =
     same_four (bind_with arguments results) (text portal) p.0 (text statement) s.0 (to_be_bytes w16 (length arguments)) n.0 (to_be_bytes w16 (length results)) m.0
     (text_is portal p.0 p.1) (text_is statement s.0 s.1) (count_is (length arguments) n.0 n.1) (count_is (length results) m.0 m.1)
     ∙ whole_is (66 ∷ []) _ sent m.2
+
+few_enough : (b : Bool) (d : MessageError) (y x : List ℕ) → (let r : Writing (List ℕ) = if b then Err d else Ok y in r) ≡ Ok x → b ≡ false
+few_enough true d y x e = absurd cc
+few_enough false d y x e = refl
+
+count_fits : (n : ℕ) (bytes : List ℕ) → count_of n ≡ Ok bytes → n ≤ 65535
+unfolding count_of
+count_fits n bytes e = ltb-false 65535 n (few_enough (nat_lt 65535 n) _ (to_be_bytes w16 n) bytes e)
+
+-- no more arguments are sent than their number can say
+pub arguments_fit : (portal statement sent : List ℕ) (arguments : List Argument) (results : List PgValueFormat) → bind portal statement arguments results ≡ Ok sent → length arguments ≤ 65535
+unfolding bind
+arguments_fit portal statement sent arguments results e =
+    let p = step_is {A = List ℕ} (text_of portal) _ sent e in
+    let s = step_is {A = List ℕ} (text_of statement) _ sent p.2 in
+    let n = step_is {A = List ℕ} (count_of (length arguments)) _ sent s.2 in
+    count_fits (length arguments) n.0 n.1
 
 pub parameters_are : (arguments : List Argument) (bytes : List ℕ) → ((i : ℕ) → get_or bytes i 0 < 256) → bytes ≡ shown (all_tokens arguments) → AllRead arguments → ParametersAreArguments arguments
 parameters_are arguments bytes h is read portal statement sent results e =

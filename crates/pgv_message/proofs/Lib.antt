@@ -4,3 +4,4 @@ mod InFront
 mod ExchangeLaws
 mod Counted
 mod Notices
+mod Echoes

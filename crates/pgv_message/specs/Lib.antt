@@ -10,3 +10,6 @@ pub mod Startup
 pub mod Counted
 pub mod Bodies
 pub mod Notice
+pub mod Echo
+pub mod Rows
+pub mod CopyFormats

@@ -3,13 +3,15 @@
 ghost use Rattle.std.specs.Prelude.{◌≡◌};
 ghost use Rattle.pgv_buf.specs.Tokens.{shown};
 ghost use Rattle.pgv_wire.specs.Arguments.{all_tokens};
+ghost use Rattle.pgv_message.specs.Echo.{ParametersComeBack};
 ghost use Rattle.pgv_message.specs.ExchangeLaws.{AnswersEndTheExchange, AsyncChangesNothing, ErrorSkipsToSync, OnlyReadyEndsSkipping, RequestsDoNotEndSkipping};
 ghost use Rattle.pgv_message.specs.Frames.{ParametersAreArguments};
 ghost use Rattle.pgv_message.specs.Notice.{NoticeIsRead};
 ghost use Rattle.pgv_message.specs.Received.{MessageIsFound, FoundIsMessage, CutIsNotFound};
 
+use pgv_codec::{ReadBack, Type};
 use pgv_wire::PgArguments;
-use pgv_wire::laws::arguments_read;
+use pgv_wire::laws::{arguments_read, main_sentence, only_additions_count};
 
 /// A message in front is found, whatever follows it: its tag, its body, and what comes after it.
 pub fn message_is_found()
@@ -32,6 +34,28 @@ pub fn parameters_are_arguments(arguments: &PgArguments)
     ensures { ParametersAreArguments arguments.now }
 {
     frames_are_parameters(arguments.buffer().as_slice(), arguments);
+}
+
+/// A server that sends the parameters of a Bind back as a row sends a DataRow, and what was added as an argument for a value of `T` is
+/// read from its column by [`PgRow::try_get`](pgv_row::PgRow::try_get), in binary, as what the value keeps, under each type that fits.
+///
+/// Whatever was added, refused and filled, in any order: `calls` is any list of calls that leaves these arguments. That OIDs are numbers
+/// of 32 bits [`oids_fit`](pgv_codec::laws::oids_fit) says.
+pub fn parameters_come_back<T: Type + ReadBack>(arguments: &PgArguments)
+    ensures { ParametersComeBack T.hint T.image T.accepts T.reading T.refusal T.takes_memory (λ v. T.meaning (T.kept v)) T.fits arguments.now }
+{
+    frames_come_back::<T>(arguments.buffer().as_slice(), arguments);
+}
+
+/// The same, of bytes that are the buffer of arguments.
+fn frames_come_back<T: Type + ReadBack>(frames: &[u8], arguments: &PgArguments)
+    requires { frames.now ≡ shown (all_tokens arguments.now) }
+    ensures { ParametersComeBack T.hint T.image T.accepts T.reading T.refusal T.takes_memory (λ v. T.meaning (T.kept v)) T.fits arguments.now }
+{
+    main_sentence::<T>();
+    only_additions_count();
+    let buffer = arguments.buffer();
+    let _bytes = buffer.as_slice();
 }
 
 /// That bytes which are the buffer of arguments are the parameters of a Bind.

@@ -1,0 +1,25 @@
+use Rattle.std.proofs.Common.{◌<◌, ◌-◌, suc, true, List, refl, ap, ◌∙◌, add-one}
+use Rattle.std.proofs.lemmas.Result.{err_from_is_err_and}
+use Rattle.pgv_value.specs.declared.value.PgValueFormat.{PgValueFormat}
+use Rattle.pgv_row.specs.Outcome.{after}
+use Rattle.pgv_row.specs.Several.{several}
+use Rattle.pgv_row.proofs.Several.{with_front, is_done, goes_on, ends_with}
+use Rattle.pgv_message.specs.CopyFormats.{format_front}
+use Rattle.pgv_message.proofs.copy_response.formats_in_front.Goals as goal
+
+pub loop-preserved : goal.loop-preserved
+loop-preserved c =
+    let lt : c.loop.counter < c.args.count = c.loop-test.true in
+    rw add-one
+    (ap (λ (fs : List PgValueFormat). with_front fs (several format_front (c.args.count - suc c.loop.counter) c.in_ok-format.after.now).answer) c.in_ok-push.ensures.items
+    ∙ goes_on format_front c.loop.formats.items c.args.count c.loop.counter c.loop.rest.now c.in_ok-format.format c.in_ok-format.after.now _ lt c.in_ok-format.ensures c.loop.invariant)
+
+pub returns-in_err-format : goal.returns-in_err-format
+returns-in_err-format c =
+    let p = err_from_is_err_and c.from_residual.result c.from_residual.ensures.1 in
+    let lt : c.loop.counter < c.args.count = c.loop-test.true in
+    rw (p.1, p.2)
+    (ends_with format_front c.loop.formats.items c.args.count c.loop.counter c.loop.rest.now c.in_err-format.field-0.0 (after true (several format_front c.args.count c.args.bytes.now)) lt c.in_err-format.ensures c.loop.invariant refl)
+
+pub returns : goal.returns
+returns c = is_done format_front c.loop.formats.items c.args.count c.loop.counter c.loop.rest.now _ c.loop-test.false c.loop.invariant

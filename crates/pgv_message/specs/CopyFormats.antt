@@ -1,0 +1,25 @@
+-- The body of a CopyOutResponse or a CopyInResponse (PostgreSQL: "Message Formats", CopyInResponse): a format for all in one byte, the
+-- number of columns in two, and a format for each column in two; nothing comes after them.
+use Rattle.std.specs.Prelude.{ℕ, true, List, [], ◌∷◌}
+use Rattle.pgv_value.specs.declared.error.CodecError.TheVariants.{Short}
+use Rattle.pgv_value.specs.declared.value.PgValueFormat.{PgValueFormat}
+use Rattle.pgv_row.specs.Description.{format_of}
+use Rattle.pgv_row.specs.Fronts.{u16_front}
+use Rattle.pgv_row.specs.Outcome.{Outcome, exactly, fails, allocates, done, ◌>>=◌, ◌>>◌}
+use Rattle.pgv_row.specs.Several.{several}
+use Rattle.pgv_message.specs.Bodies.{ended}
+
+unfoldable pub format_front : List ℕ → Outcome (PgValueFormat × List ℕ)
+format_front bytes = do
+  code ← exactly (u16_front bytes)
+  format ← exactly (format_of code.0)
+  done (format, code.1)
+
+unfoldable pub copy_formats : List ℕ → Outcome (PgValueFormat × List PgValueFormat)
+copy_formats [] = fails Short
+copy_formats (code ∷ rest) = do
+  format ← exactly (format_of code)
+  count ← exactly (u16_front rest)
+  allocates true
+  columns ← several format_front count.0 count.1
+  exactly (ended (code ∷ rest) (format, columns.0) columns.1)
