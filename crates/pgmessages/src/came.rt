@@ -2,14 +2,14 @@
 
 use crate::fault::Fault;
 use crate::show::{show_copy, show_row};
+use pgv::PgValueFormat;
 use pgv::catalog::{PgCatalogRows, PgFieldRow, PgLabelRow, PgServerTypes, PgTypeRow};
 use pgv::message::{
     PgExchange, PgMessage, PgNotice, PgTransactionStatus, authentication_of, backend_key,
-    changed_setting, command_tag, message_in_front, notification_of, parameter_oids,
-    transaction_status,
+    changed_setting, command_tag, copy_formats_of, message_in_front, notification_of,
+    parameter_oids, transaction_status,
 };
 use pgv::row::{PgColumns, PgPlaces, PgRow};
-use pgv::{CodecError, PgValueFormat};
 use std::alloc::{AllocError, Global};
 
 /// What is known of the server's types.
@@ -102,7 +102,7 @@ impl Came {
         match message.tag {
             b'T' => self.show_columns(alloc, message.body, known, out),
             b'D' => self.show_values(alloc, message.body, known, out),
-            b'H' => self.begin_copy(message.body, out),
+            b'H' => self.begin_copy(alloc, message.body, out),
             b'd' => {
                 self.stream.extend_from_slice(message.body)?;
                 Ok(out.push_str("data of a copy")?)
@@ -163,13 +163,12 @@ impl Came {
         Ok(())
     }
 
-    /// A COPY begins: its format, and the number of its columns.
-    fn begin_copy(&mut self, body: &[u8], out: &mut String) -> Result<(), Fault> {
-        let [_, high, low, ..] = body else {
-            return Err(Fault::Codec(CodecError::Short));
-        };
-        self.width = usize::from(u16::from_be_bytes([*high, *low]));
-        Ok(out.push_str("copy out")?)
+    /// Appends the format of a COPY, and keeps the number of its columns.
+    fn begin_copy(&mut self, alloc: Global, body: &[u8], out: &mut String) -> Result<(), Fault> {
+        let formats = copy_formats_of(alloc, body)?;
+        self.width = formats.columns.len();
+        let text = format!(in alloc; "copy {:?} of {} columns", formats.format, self.width)?;
+        Ok(out.push_str(text.as_str())?)
     }
 
     /// Makes the types of the catalogue's rows, where these were its rows.
@@ -216,7 +215,13 @@ fn show_other(alloc: Global, message: &PgMessage<'_>, out: &mut String) -> Resul
             format!(in alloc; "setting {} = {}", setting.name, setting.value)?
         }
         b'K' => format!(in alloc; "process {}", backend_key(body)?.process)?,
-        b'C' => format!(in alloc; "complete {}", command_tag(body)?)?,
+        b'C' => {
+            let tag = command_tag(body)?;
+            match tag.rows() {
+                Some(rows) => format!(in alloc; "complete {}: {rows} rows", tag.text)?,
+                None => format!(in alloc; "complete {}", tag.text)?,
+            }
+        }
         b'A' => {
             let told = notification_of(body)?;
             format!(in alloc; "notification {} {}", told.channel, told.payload)?

@@ -57,7 +57,11 @@ fn show_line(
             let ours = written(alloc, name)?;
             let is_same = ours.as_slice() == bytes.as_slice();
             out.push_str(name)?;
-            out.push_str(if is_same { ": sent as written here\n" } else { ": sent otherwise\n" })?;
+            out.push_str(if is_same {
+                ": sent as written here\n"
+            } else {
+                ": sent otherwise\n"
+            })?;
             *exchange = PgExchange::new(alloc);
             requests_of(bytes.as_slice(), exchange)
         }

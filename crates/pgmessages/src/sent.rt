@@ -11,10 +11,22 @@ use std::alloc::Global;
 
 /// The settings of each session.
 const SETTINGS: [PgSetting<'static>; 4] = [
-    PgSetting { name: "user", value: "postgres" },
-    PgSetting { name: "database", value: "postgres" },
-    PgSetting { name: "client_encoding", value: "UTF8" },
-    PgSetting { name: "DateStyle", value: "ISO" },
+    PgSetting {
+        name: "user",
+        value: "postgres",
+    },
+    PgSetting {
+        name: "database",
+        value: "postgres",
+    },
+    PgSetting {
+        name: "client_encoding",
+        value: "UTF8",
+    },
+    PgSetting {
+        name: "DateStyle",
+        value: "ISO",
+    },
 ];
 
 /// Appends what prepares a statement without a name, and asks what it is.

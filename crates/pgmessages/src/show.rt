@@ -35,7 +35,10 @@ fn value_text(alloc: Global, row: &PgRow<'_>, place: usize) -> Result<String, Fa
         Some(Oid(20)) => format!(in alloc; "{}", row.try_get::<i64, _>(alloc, place)?)?,
         Some(Oid(23)) => format!(in alloc; "{}", row.try_get::<i32, _>(alloc, place)?)?,
         Some(Oid(26)) => format!(in alloc; "{}", row.try_get::<Oid, _>(alloc, place)?.0)?,
-        Some(Oid(1007)) => format!(in alloc; "{:?}", row.try_get::<Vec<Option<i32>>, _>(alloc, place)?)?,
+        Some(Oid(1007)) => format!(in alloc;
+            "{:?}",
+            row.try_get::<Vec<Option<i32>>, _>(alloc, place)?
+        )?,
         Some(Oid(1082)) => format!(in alloc; "{}", row.try_get::<Date, _>(alloc, place)?)?,
         _ => other_text(alloc, row, place, &value)?,
     })
@@ -52,13 +55,21 @@ fn other_text(
     Ok(match name.as_str() {
         "mood" => format!(in alloc; "{:?}", row.try_get::<Mood, _>(alloc, place)?)?,
         "item" => format!(in alloc; "{:?}", row.try_get_unchecked::<Item, _>(alloc, place)?)?,
-        "_item" => format!(in alloc; "{:?}", row.try_get_unchecked::<Vec<Option<Item>>, _>(alloc, place)?)?,
+        "_item" => format!(in alloc;
+            "{:?}",
+            row.try_get_unchecked::<Vec<Option<Item>>, _>(alloc, place)?
+        )?,
         _ => String::from_str(alloc, value.as_str()?)?,
     })
 }
 
 /// Appends the rows of a stream of COPY with as many columns: null, or the bytes of each field in hex.
-pub fn show_copy(alloc: Global, stream: &[u8], width: usize, out: &mut String) -> Result<(), Fault> {
+pub fn show_copy(
+    alloc: Global,
+    stream: &[u8],
+    width: usize,
+    out: &mut String,
+) -> Result<(), Fault> {
     let mut types = Vec::new(alloc);
     for _ in 0..width {
         types.push(PgTypeInfo::with_oid(Oid(0)))?;

@@ -49,24 +49,29 @@ pub mod text {
 /// Rows of a statement's result, by the columns that a RowDescription has.
 pub mod row {
     pub use pgv_row::{
-        ColumnError, ColumnIndex, ColumnList, FromRow, PgCatalog, PgColumn, PgColumns, PgOwnedRow, PgPlaces, PgRow,
+        ColumnError, ColumnIndex, ColumnList, FromRow, PgCatalog, PgColumn, PgColumns, PgOwnedRow,
+        PgPlaces, PgRow,
     };
 }
 
 /// Messages of PostgreSQL's protocol: those that a driver sends, those that it reads, and which may come next.
 pub mod message {
     pub use pgv_message::{
-        MessageError, PgAuthentication, PgAwaited, PgBackendKey, PgExchange, PgField, PgMessage, PgNotice, PgNotification, PgRequest, PgSetting,
-        PgTag, PgTransactionStatus, Prepared, UnexpectedMessage, authentication_of, backend_key, changed_setting, command_tag, message_in_front,
-        notification_of, parameter_oids, transaction_status, write_bind, write_close, write_copy_data, write_copy_done, write_copy_fail,
-        write_describe, write_execute, write_flush, write_parse, write_query, write_startup, write_sync, write_terminate,
+        MessageError, PgAuthentication, PgAwaited, PgBackendKey, PgCommandTag, PgCopyFormats,
+        PgExchange, PgField, PgMessage, PgNotice, PgNotification, PgRequest, PgSetting, PgTag,
+        PgTransactionStatus, Prepared, UnexpectedMessage, authentication_of, backend_key,
+        changed_setting, command_tag, copy_formats_of, message_in_front, notification_of,
+        parameter_oids, transaction_status, write_bind, write_close, write_copy_data,
+        write_copy_done, write_copy_fail, write_describe, write_execute, write_flush, write_parse,
+        write_query, write_startup, write_sync, write_terminate,
     };
 }
 
 /// The types of a server that are not built in, made of rows of its catalogue.
 pub mod catalog {
     pub use pgv_catalog::{
-        CatalogError, FIELDS, LABELS, PgCatalogRows, PgFieldRow, PgLabelRow, PgNames, PgServerTypes, PgTypeClass, PgTypeRow, TYPES, fill,
+        CatalogError, FIELDS, LABELS, PgCatalogRows, PgFieldRow, PgLabelRow, PgNames,
+        PgServerTypes, PgTypeClass, PgTypeRow, TYPES, fill,
     };
 }
 

@@ -69,7 +69,11 @@ fn fields_of_type(
 }
 
 /// The labels of an enumeration.
-fn labels_of_type(alloc: Global, rows: &[PgLabelRow], oid: Oid) -> Result<RcSlice<RcStr>, AllocError>
+fn labels_of_type(
+    alloc: Global,
+    rows: &[PgLabelRow],
+    oid: Oid,
+) -> Result<RcSlice<RcStr>, AllocError>
     ensures { IfOk result (λ labels. map rc_str_bytes (rc_slice_items labels) ≡ label_rows oid.0 rows.now) }
 {
     let mut labels = Vec::new(alloc);
@@ -128,11 +132,7 @@ fn full_name(alloc: Global, row: &PgTypeRow) -> Result<String, AllocError>
 }
 
 /// The type of a row, of this kind.
-fn server_type(
-    alloc: Global,
-    row: &PgTypeRow,
-    kind: PgTypeKind,
-) -> Result<PgServerType, AllocError>
+fn server_type(alloc: Global, row: &PgTypeRow, kind: PgTypeKind) -> Result<PgServerType, AllocError>
     ensures name { IfOk result (λ made. made.full_name ≡ full_name_of row.now) }
     ensures visible { IfOk result (λ made. made.is_visible ≡ row.now.is_visible) }
     ensures of_kind { IfOk result (λ made. made.ty ≡ custom row.now.oid.0 (string_bytes row.now.name) (kind_shown kind)) }

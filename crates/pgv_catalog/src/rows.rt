@@ -67,8 +67,9 @@ impl PgTypeRow {
         ensures read { IfOk result (ReadsType (⟦<(Oid, String, String, bool, i8, Oid) as FromRow>⟧.parse row.now)) }
         ensures refused { IfErr result (⟦<(Oid, String, String, bool, i8, Oid) as FromRow>⟧.refused row.now) }
     {
-        let (oid, schema, name, is_visible, letter, part) =
-            row.as_tuple::<(Oid, String, String, bool, i8, Oid)>(alloc)?;
+        let (oid, schema, name, is_visible, letter, part) = row.as_tuple::<
+            (Oid, String, String, bool, i8, Oid),
+        >(alloc)?;
         Ok(PgTypeRow {
             oid,
             schema,

@@ -11,9 +11,11 @@ pub const TYPES: &str = "select t.oid, n.nspname, t.typname, pg_type_is_visible(
 
 /// The fields of composite types, those of one type in their order: OID of the type, name and type of the field (PostgreSQL,
 /// "pg_attribute"). [`PgFieldRow::read`](crate::PgFieldRow::read) reads a row of it.
-pub const FIELDS: &str = "select t.oid, a.attname, a.atttypid from pg_attribute a join pg_type t on t.typrelid = a.attrelid \
+pub const FIELDS: &str =
+    "select t.oid, a.attname, a.atttypid from pg_attribute a join pg_type t on t.typrelid = a.attrelid \
      where t.typtype = 'c' and t.oid >= 16384 and a.attnum > 0 and not a.attisdropped order by t.oid, a.attnum";
 
 /// The labels of enumerations, those of one type in their order: OID of the type, and label (PostgreSQL, "pg_enum").
 /// [`PgLabelRow::read`](crate::PgLabelRow::read) reads a row of it.
-pub const LABELS: &str = "select enumtypid, enumlabel from pg_enum order by enumtypid, enumsortorder";
+pub const LABELS: &str =
+    "select enumtypid, enumlabel from pg_enum order by enumtypid, enumsortorder";
