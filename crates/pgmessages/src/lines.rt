@@ -69,11 +69,19 @@ fn show_line(
             out.push_str(name)?;
             out.push('\n')?;
             let mut came = Came::new(alloc, name == "catalog");
-            came.show(alloc, bytes.as_slice(), known, exchange, out)?;
-            if !exchange.is_idle() {
-                out.push_str("  answers are still awaited\n")?;
+            match came.show(alloc, bytes.as_slice(), known, exchange, out) {
+                Ok(()) => {
+                    if !exchange.is_idle() {
+                        out.push_str("  answers are still awaited\n")?;
+                    }
+                    came.finish(alloc, known)
+                }
+                Err(Fault::Memory) => Err(Fault::Memory),
+                Err(fault) => {
+                    let text = format!(in alloc; "\n  refused: {fault}\n")?;
+                    Ok(out.push_str(text.as_str())?)
+                }
             }
-            came.finish(alloc, known)
         }
         _ => Err(Fault::Line),
     }
