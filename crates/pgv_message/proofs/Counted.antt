@@ -1,20 +1,20 @@
 -- A body is read as a list exactly where it is that list.
-use Rattle.std.proofs.Common.{◌≡◌, ℕ, ◌<◌, ◌^◌, nat_eq, true, false, List, [], ◌++◌, length, Ok, Err, Result, refl, sym, ap, ◌∙◌, subst, append-nil}
-use Rattle.std.specs.Prelude.{flat_map, not, IfOk, MatchResult, ◌↔◌}
-use Rattle.std.specs.Int.{w16, w32, to_be_bytes}
+use Rattle.std.proofs.Common.{◌≡◌, ℕ, ◌<◌, ◌^◌, nat_eq, List, [], ◌++◌, length, Ok, Err, Result, refl, sym, ap, ◌∙◌, subst, append-nil}
+use Rattle.std.specs.Prelude.{flat_map, not, IfOk, MatchResult}
+use Rattle.std.specs.Int.{w16, to_be_bytes}
 use Rattle.pgv_types.specs.declared.oid.Oid.{Oid}
 use Rattle.pgv_value.specs.Laws.{AreBytes}
 use Rattle.pgv_value.specs.declared.error.CodecError.{CodecError}
 use Rattle.pgv_value.specs.declared.error.CodecError.TheVariants.{Memory, WrongLength}
 use Rattle.pgv_value.proofs.Numbers.{bytes_after}
 use Rattle.pgv_row.specs.Fronts.{u16_front, u32_front}
-use Rattle.pgv_row.specs.Outcome.{Outcome, Gives, exactly, allocates, fails_if, done, ◌>>=◌, ◌>>◌}
+use Rattle.pgv_row.specs.Outcome.{Outcome, Gives, done}
 use Rattle.pgv_row.specs.Several.{several, ReadsOne}
 use Rattle.pgv_row.proofs.Fronts.{u16_there, u16_is, u32_there, u32_is, nothing_is}
 use Rattle.pgv_row.proofs.Outcomes.{answer_is, taken, taken_exactly, tested, only_memory}
 use Rattle.pgv_row.proofs.Several.{are_several, several_read}
 use Rattle.pgv_message.specs.Pieces.{oid_bytes}
-use Rattle.pgv_message.specs.Counted.{counted, IsCounted, oid_front, parameters, IsOid, AreParameters}
+use Rattle.pgv_message.specs.Counted.{counted, IsCounted, oid_front, IsOid}
 
 module _ {A : Type 0} (Is : A → Type 0) (encode : A → List ℕ) (one : List ℕ → Outcome (A × List ℕ)) (reads : ReadsOne Is encode one) where
   counted_by : (bytes rest : List ℕ) (n : ℕ) (list : List A) → u16_front bytes ≡ Ok (n, rest) → (several one n rest).answer ≡ Ok (list, []) → (counted one bytes).answer ≡ Ok list

@@ -1,5 +1,5 @@
 -- Laws of the extended query.
-use Rattle.std.proofs.Common.{◌≡◌, ℕ, zero, suc, Bool, true, false, List, [], ◌∷◌, ◌++◌, map, Option, Some, None, refl, sym, ap, ◌∙◌, subst, append_assoc, append-nil, inl, inr}
+use Rattle.std.proofs.Common.{◌≡◌, ℕ, zero, suc, Bool, true, false, List, [], ◌∷◌, ◌++◌, map, Option, Some, None, refl, sym, ap, ◌∙◌, append_assoc, append-nil, inl, inr}
 use Rattle.std.specs.Prelude.{not, ◌&&◌, ◌==◌, length, replicate, if◌then◌else◌, ◌⊎◌}
 use Rattle.pgv_message.specs.declared.exchange.PgRequest.{PgRequest}
 use Rattle.pgv_message.specs.declared.exchange.PgRequest.TheVariants as request
@@ -8,7 +8,7 @@ use Rattle.pgv_message.specs.declared.exchange.PgAwaited.TheVariants as awaited
 use Rattle.pgv_message.specs.declared.tag.PgTag.{PgTag}
 use Rattle.pgv_message.specs.declared.tag.PgTag.TheVariants as tag
 use Rattle.pgv_message.specs.Exchange.{Exchange, idle, sent, step, answer, stage_of, is_async, is_sync, until_sync}
-use Rattle.pgv_message.specs.ExchangeLaws.{run, all_sent, DescribesRows, EndsRows, copied_out, IsAnswer, AreAnswers, without_async, AnswersEndTheExchange, AsyncChangesNothing, ErrorSkipsToSync, OnlyReadyEndsSkipping, RequestsDoNotEndSkipping}
+use Rattle.pgv_message.specs.ExchangeLaws.{run, all_sent, DescribesRows, EndsRows, IsAnswer, AreAnswers, without_async, AnswersEndTheExchange, AsyncChangesNothing, ErrorSkipsToSync, OnlyReadyEndsSkipping, RequestsDoNotEndSkipping}
 
 -- ---- asynchronous messages
 

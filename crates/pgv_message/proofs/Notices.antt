@@ -1,16 +1,15 @@
 -- The body of an error or a notice is read as fields exactly where it is these fields; and how a loop reads them.
-use Rattle.std.proofs.Common.{◌≡◌, ℕ, zero, suc, ◌+◌, ◌-◌, ◌<◌, ◌≤◌, Bool, true, false, nat_eq, List, [], ◌∷◌, ◌++◌, length, Option, Some, None, Ok, Err, Result, refl, sym, ap, ◌∙◌, subst, append_assoc, append-nil, arith, length-append}
+use Rattle.std.proofs.Common.{◌≡◌, ℕ, zero, suc, ◌≤◌, Bool, true, false, nat_eq, List, [], ◌∷◌, ◌++◌, length, Ok, Err, Result, refl, sym, ap, ◌∙◌, subst, append_assoc, append-nil, arith, length-append}
 use Rattle.std.specs.Prelude.{◌==◌, flat_map, IfOk, MatchResult, if◌then◌else◌}
 use Rattle.std.specs.List.{AllByRecursion}
 use Rattle.std.proofs.lemmas.Bool.{eqb-true}
-use Rattle.pgv_value.specs.Utf8.{is_utf8}
 use Rattle.pgv_value.specs.declared.error.CodecError.{CodecError}
 use Rattle.pgv_value.specs.declared.error.CodecError.TheVariants.{Memory, Short, WrongLength}
 use Rattle.pgv_row.specs.Fronts.{name_front}
 use Rattle.pgv_row.specs.Outcome.{Gives}
 use Rattle.pgv_row.specs.Parsed.{Parsed, ◌>>=◌}
 use Rattle.pgv_row.proofs.Fronts.{name_there, name_is}
-use Rattle.pgv_row.proofs.Outcomes.{answer_is, only_memory, ok_is, stated_is}
+use Rattle.pgv_row.proofs.Outcomes.{only_memory, ok_is, stated_is}
 use Rattle.pgv_row.specs.Outcome.{stated}
 use Rattle.pgv_message.specs.Bodies.{ended}
 use Rattle.pgv_message.specs.Notice.{Field, field_bytes, IsField, IsNotice, fields_in, notice_fields, notice, NoticeIsRead}

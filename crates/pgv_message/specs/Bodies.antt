@@ -1,11 +1,19 @@
 -- Bodies of messages that a server sends (PostgreSQL: "Message Formats"), each read exactly: bytes that end too early are C15, a text that
 -- isn't UTF-8 is C14, bytes after the last field are C17, and a code that isn't one of its field's is C30.
-use Rattle.std.specs.Prelude.{ℕ, nat_eq, ◌==◌, List, [], ◌∷◌, length, Ok, Err, if◌then◌else◌}
-use Rattle.pgv_value.specs.declared.error.CodecError.TheVariants.{Short, WrongLength, OutOfRange}
+use Rattle.std.specs.Prelude.{◌≡◌, ℕ, nat_eq, ◌==◌, List, [], ◌∷◌, length, Result, Ok, Err, if◌then◌else◌}
+use Rattle.pgv_value.specs.declared.error.CodecError.{CodecError}
+use Rattle.pgv_value.specs.declared.error.CodecError.TheVariants.{Memory, Short, WrongLength, OutOfRange}
 use Rattle.pgv_row.specs.Fronts.{u32_front, name_front}
 use Rattle.pgv_row.specs.Parsed.{Parsed, ◌>>=◌}
+use Rattle.pgv_message.specs.declared.notification.PgNotification.{PgNotification}
 use Rattle.pgv_message.specs.declared.ready_for_query.PgTransactionStatus.{PgTransactionStatus}
+use Rattle.pgv_message.specs.declared.notification.PgNotification.{PgNotification}
 use Rattle.pgv_message.specs.declared.ready_for_query.PgTransactionStatus.TheVariants.{Idle, Transaction, Failed}
+
+-- this is answered, or memory ran out
+abbrev pub OrMemory : {V M : Type 0} → (V → M) → M → Result V CodecError → Type 0
+OrMemory view wanted (Ok v) = view v ≡ wanted
+OrMemory view wanted (Err e) = e ≡ Memory
 
 -- what was read, where nothing of the body is left
 abbrev pub ended : {A : Type 0} → List ℕ → A → List ℕ → Parsed A
@@ -38,6 +46,9 @@ backend_key_data bytes = do
   process ← u32_front bytes
   secret ← u32_front process.1
   ended bytes (process.0, secret.0) secret.1
+
+abbrev pub notification_view : PgNotification → ℕ × (List ℕ × List ℕ)
+notification_view n = (n.process, (n.channel.now, n.payload.now))
 
 -- NotificationResponse: the process, the channel and the payload
 unfoldable pub notification : List ℕ → Parsed (ℕ × (List ℕ × List ℕ))

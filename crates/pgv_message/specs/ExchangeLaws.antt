@@ -1,5 +1,5 @@
 -- Laws of the extended query, over every list of requests and messages.
-use Rattle.std.specs.Prelude.{◌≡◌, ℕ, Bool, true, false, not, ◌⊎◌, List, [], ◌∷◌, ◌++◌, replicate, Option, Some, None, option_and_then, ⊤, if◌then◌else◌}
+use Rattle.std.specs.Prelude.{◌≡◌, ℕ, true, false, ◌⊎◌, List, [], ◌∷◌, ◌++◌, replicate, Option, Some, option_and_then, if◌then◌else◌}
 use Rattle.pgv_message.specs.declared.exchange.PgRequest.{PgRequest}
 use Rattle.pgv_message.specs.declared.exchange.PgRequest.TheVariants as request
 use Rattle.pgv_message.specs.declared.tag.PgTag.{PgTag}

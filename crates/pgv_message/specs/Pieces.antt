@@ -1,5 +1,5 @@
 -- The bytes of the pieces that a message is made of.
-use Rattle.std.specs.Prelude.{ℕ, List, [], ◌∷◌, ◌++◌, flat_map}
+use Rattle.std.specs.Prelude.{ℕ, List, [], ◌∷◌, flat_map}
 use Rattle.std.specs.Int.{w16, w32, to_be_bytes}
 use Rattle.pgv_types.specs.declared.oid.Oid.{Oid}
 use Rattle.pgv_value.specs.declared.value.PgValueFormat.{PgValueFormat}
@@ -25,3 +25,7 @@ piece_bytes (piece.Text s) = text s.now
 piece_bytes (piece.Bytes bytes) = bytes.now
 piece_bytes (piece.Oids oids) = flat_map oid_bytes oids.now
 piece_bytes (piece.Formats formats) = flat_map format_bytes formats.now
+
+-- pieces one after another
+abbrev pub joined_pieces : List Piece → List ℕ
+joined_pieces = flat_map piece_bytes
