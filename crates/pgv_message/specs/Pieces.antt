@@ -13,6 +13,9 @@ abbrev pub format_bytes : PgValueFormat → List ℕ
 format_bytes Text = 0 ∷ 0 ∷ []
 format_bytes Binary = 0 ∷ 1 ∷ []
 
+abbrev pub format_codes : List PgValueFormat → List ℕ
+format_codes = flat_map format_bytes
+
 -- an OID in four bytes
 abbrev pub oid_bytes : Oid → List ℕ
 oid_bytes o = to_be_bytes w32 o.0

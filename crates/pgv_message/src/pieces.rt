@@ -3,7 +3,7 @@
 ghost use Rattle.std.specs.Prelude.{◌≡◌, ◌<◌, ◌≤◌, ◌++◌, [], ◌∷◌, length, flat_map, is_ok, IfOk, IfErr, OnErr};
 ghost use Rattle.std.specs.Int.{w16, to_be_bytes};
 ghost use Rattle.pgv_message.specs.Writing.{Gives, Sends, appended, text_of, count_of, whole, max_body};
-ghost use Rattle.pgv_message.specs.Pieces.{piece_bytes, joined_pieces, format_bytes, oid_bytes};
+ghost use Rattle.pgv_message.specs.Pieces.{piece_bytes, joined_pieces, format_bytes, format_codes, oid_bytes};
 ghost use Rattle.pgv_message.specs.declared.error.MessageError.TheVariants.{TooLong};
 
 use crate::error::MessageError;
@@ -115,7 +115,7 @@ fn format_code(format: PgValueFormat) -> [u8; 2]
 
 /// Appends formats. A refused call leaves all as it was.
 fn push_formats(out: &mut Vec<u8>, formats: &[PgValueFormat]) -> Result<(), AllocError>
-    ensures { out.new.items ≡ appended (is_ok result) out.old.items (flat_map format_bytes formats.now) }
+    ensures { out.new.items ≡ appended (is_ok result) out.old.items (format_codes formats.now) }
 {
     let mark = out.len();
     for format in formats {
@@ -157,7 +157,7 @@ fn push_piece(out: &mut Vec<u8>, piece: &Piece<'_>) -> Result<(), AllocError>
 
 /// Appends pieces one after another. A refused call leaves all as it was.
 fn push_pieces(out: &mut Vec<u8>, pieces: &[Piece<'_>]) -> Result<(), AllocError>
-    ensures { out.new.items ≡ appended (is_ok result) out.old.items (flat_map piece_bytes pieces.now) }
+    ensures { out.new.items ≡ appended (is_ok result) out.old.items (joined_pieces pieces.now) }
 {
     let mark = out.len();
     for piece in pieces {
