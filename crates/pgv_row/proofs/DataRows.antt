@@ -1,19 +1,19 @@
 -- The body of a DataRow is read as a row exactly where it is that row.
-use Rattle.std.proofs.Common.{◌≡◌, ◌≢◌, ℕ, ℤ, ◌<◌, ◌≤◌, ◌^◌, Bool, true, false, cond, nat_lt, nat_eq, List, [], ◌++◌, length, take, drop, Option, Some, None, Result, Ok, Err, refl, sym, ap, ◌∙◌, subst, append-nil}
-use Rattle.std.specs.Prelude.{flat_map, not, ok_or, IfOk, IfErr, MatchResult}
+use Rattle.std.proofs.Common.{◌≡◌, ◌≢◌, ℕ, ℤ, ◌≤◌, Bool, true, false, cond, nat_lt, nat_eq, List, [], ◌++◌, length, take, drop, Option, Some, None, Result, Ok, Err, refl, sym, ap, ◌∙◌, subst, append-nil}
+use Rattle.std.specs.Prelude.{flat_map, not, ok_or, IfErr}
 use Rattle.std.specs.Int.{w16, w32, to_be_bytes, from_be_bytes, cast_signed}
-use Rattle.std.proofs.lemmas.Bool.{false≢true, ltb-true, le-ltb}
+use Rattle.std.proofs.lemmas.Bool.{le-ltb}
 use Rattle.pgv_value.specs.FrameBinary.{Part, front, front_length, frame_fault}
 use Rattle.pgv_value.specs.Laws.{AreBytes}
 use Rattle.pgv_value.specs.declared.error.CodecError.{CodecError}
 use Rattle.pgv_value.specs.declared.error.CodecError.TheVariants.{Memory, FieldCount, NegativeLength, Short, WrongLength}
 use Rattle.pgv_value.proofs.Numbers.{bytes_after}
-use Rattle.pgv_copy.specs.CopyStream.{field_bytes, row_bytes, IsField}
+use Rattle.pgv_copy.specs.CopyStream.{field_bytes, IsField}
 use Rattle.pgv_row.specs.DataRow.{IsDataRow, data_row, DataRowIsRead}
 use Rattle.pgv_row.specs.Fronts.{frames_front, one_part, part_front, u16_front}
-use Rattle.pgv_row.specs.Outcome.{Outcome, Gives, stated, exactly, allocates, fails_if, done, ◌>>=◌, ◌>>◌}
+use Rattle.pgv_row.specs.Outcome.{Outcome, Gives, IsRead, stated, exactly, allocates, fails_if, done, ◌>>=◌, ◌>>◌}
 use Rattle.pgv_row.specs.Parsed.{Parsed, ◌>>=◌ as ◌and_then◌}
-use Rattle.pgv_row.specs.Several.{several, AreSeveral}
+use Rattle.pgv_row.specs.Several.{several}
 use Rattle.pgv_row.proofs.Fronts.{reads_part, frames_read, frames_are, nothing_is}
 use Rattle.pgv_row.proofs.Outcomes.{answer_is, taken, taken_exactly, tested, IsOther, free_then, other_then, only_memory, another}
 use Rattle.pgv_row.proofs.Several.{are_several, several_read, never_allocate, never_out_of_memory}
@@ -123,18 +123,9 @@ row_is_free room width bytes enough =
 -- ---- as a reader answers
 
 module _ {V : Type 0} (view : V → List Part) (room width : ℕ) (bytes : List ℕ) where
-  pub exactly_row : (result : Result V CodecError) → AreBytes bytes → Gives view (data_row room width bytes) result → IfOk result (λ v. IsDataRow width bytes (view v))
-  exactly_row (Ok v) h gives = is_row room width bytes (view v) h gives
-  exactly_row (Err e) h gives = tt
-
-  wanting : (b : Bool) → nat_lt room width ≡ b → (data_row room width bytes).may_alloc ≡ true → room < width
-  wanting true is may = ltb-true room width is
-  wanting false is may = absurd (false≢true (sym (row_is_free room width bytes is) ∙ may))
-
-  pub only_row : (result : Result V CodecError) (row : List Part) → AreBytes bytes → Gives view (data_row room width bytes) result → IsDataRow width bytes row →
-      MatchResult result (λ v. view v ≡ row) (λ e. (e ≡ Memory) × (room < width))
-  only_row (Ok v) row h gives s = answer_is {A = List Part} (view v) row (sym gives ∙ is_read room width bytes row h s)
-  only_row (Err e) row h gives s = let m = only_memory (data_row room width bytes) e row (is_read room width bytes row h s) gives in (m.0, wanting _ refl m.1)
+  pub row_read : (result : Result V CodecError) → AreBytes bytes → Gives view (data_row room width bytes) result → IsRead view (IsDataRow width bytes) result
+  row_read (Ok v) h gives = (is_row room width bytes (view v) h gives, λ row s. answer_is {A = List Part} (view v) row (sym gives ∙ is_read room width bytes row h s))
+  row_read (Err e) h gives = λ row s. (only_memory (data_row room width bytes) e row (is_read room width bytes row h s) gives).0
 
   pub enough_room : (result : Result V CodecError) → Gives view (data_row room width bytes) result → width ≤ room → IfErr result (λ e. e ≢ Memory)
   enough_room (Ok v) gives le = tt

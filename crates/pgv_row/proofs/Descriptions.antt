@@ -1,12 +1,12 @@
 -- The body of a RowDescription is read as columns exactly where it is a description of them.
-use Rattle.std.proofs.Common.{◌≡◌, ℕ, ℤ, ◌<◌, ◌^◌, Bool, true, false, nat_eq, List, [], ◌∷◌, ◌++◌, length, Result, Ok, Err, refl, sym, ap, ◌∙◌, subst, append_assoc, append-nil, arith}
-use Rattle.std.specs.Prelude.{FitsSigned, flat_map, not, ◌==◌, IfOk, MatchResult}
+use Rattle.std.proofs.Common.{◌≡◌, ℕ, ℤ, ◌<◌, ◌^◌, Bool, nat_eq, List, [], ◌∷◌, ◌++◌, length, Result, Ok, Err, refl, sym, ap, ◌∙◌, subst, append_assoc, append-nil, arith}
+use Rattle.std.specs.Prelude.{FitsSigned, flat_map, not}
 use Rattle.std.specs.Int.{w16, w32, to_be_bytes, cast_signed, cast_unsigned}
 use Rattle.std.proofs.Math.Facts.{sfits_to_z, Fits-of_z, of_z-to_z, to_z-of_z}
 use Rattle.pgv_types.specs.Ty.{Ty}
 use Rattle.pgv_types.specs.Facts.{is_custom}
 use Rattle.pgv_value.specs.Laws.{AreBytes}
-use Rattle.pgv_value.specs.declared.error.CodecError.TheVariants.{Memory, WrongLength}
+use Rattle.pgv_value.specs.declared.error.CodecError.TheVariants.{WrongLength}
 use Rattle.pgv_value.specs.declared.error.CodecError.{CodecError}
 use Rattle.pgv_value.specs.declared.value.PgValueFormat.{PgValueFormat}
 use Rattle.pgv_value.specs.declared.value.PgValueFormat.TheVariants.{Text, Binary}
@@ -14,8 +14,8 @@ use Rattle.pgv_value.proofs.Numbers.{bytes_after}
 use Rattle.pgv_row.specs.ColumnView.{Column}
 use Rattle.pgv_row.specs.Description.{KnownTypes, type_by, format_of, format_number, column_front, description, column_bytes, IsColumn, IsDescription, DescriptionIsRead}
 use Rattle.pgv_row.specs.Fronts.{i16_front, u16_front, u32_front, name_front}
-use Rattle.pgv_row.specs.Outcome.{Outcome, Gives, exactly, allocates, done, ◌>>=◌, ◌>>◌}
-use Rattle.pgv_row.specs.Several.{several, ReadsOne, AreSeveral}
+use Rattle.pgv_row.specs.Outcome.{Outcome, Gives, IsRead, exactly, allocates, done, ◌>>=◌, ◌>>◌}
+use Rattle.pgv_row.specs.Several.{several, ReadsOne}
 use Rattle.pgv_row.proofs.Fronts.{u16_there, u16_is, i16_there, i16_is, u32_there, u32_is, IsName, name_there, name_is, format_there, format_is, nothing_is}
 use Rattle.pgv_row.proofs.Outcomes.{answer_is, taken, taken_exactly, tested, only_memory}
 use Rattle.pgv_row.proofs.Several.{are_several, several_read}
@@ -199,11 +199,6 @@ description_is_read known bytes columns h = (is_description known bytes columns 
 -- ---- as a reader answers
 
 module _ {V : Type 0} (view : V → List Column) (known : KnownTypes) (bytes : List ℕ) where
-  pub exactly_columns : (result : Result V CodecError) → AreBytes bytes → Gives view (description known bytes) result → IfOk result (λ v. IsDescription known bytes (view v))
-  exactly_columns (Ok v) h gives = is_description known bytes (view v) h gives
-  exactly_columns (Err e) h gives = tt
-
-  pub only_columns : (result : Result V CodecError) (columns : List Column) → AreBytes bytes → Gives view (description known bytes) result → IsDescription known bytes columns →
-      MatchResult result (λ v. view v ≡ columns) (λ e. e ≡ Memory)
-  only_columns (Ok v) columns h gives s = answer_is {A = List Column} (view v) columns (sym gives ∙ is_read known bytes columns h s)
-  only_columns (Err e) columns h gives s = (only_memory (description known bytes) e columns (is_read known bytes columns h s) gives).0
+  pub columns_read : (result : Result V CodecError) → AreBytes bytes → Gives view (description known bytes) result → IsRead view (IsDescription known bytes) result
+  columns_read (Ok v) h gives = (is_description known bytes (view v) h gives, λ columns s. answer_is {A = List Column} (view v) columns (sym gives ∙ is_read known bytes columns h s))
+  columns_read (Err e) h gives = λ columns s. (only_memory (description known bytes) e columns (is_read known bytes columns h s) gives).0

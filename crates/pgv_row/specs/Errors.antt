@@ -1,8 +1,10 @@
 -- Why a column was not read, and what a call gives that is asked for a column by an index.
-use Rattle.std.specs.Prelude.{◌≡◌, ℕ, Option, Some, None, Result, Ok, Err}
+use Rattle.std.specs.Prelude.{◌≡◌, ℕ, List, Option, Some, None, Result, Ok, Err}
 use Rattle.pgv_value.specs.declared.error.CodecError.{CodecError}
 use Rattle.pgv_value.specs.declared.error.CodecError.TheVariants.{NoField as NoSuchField}
+use Rattle.pgv_row.specs.ColumnView.{Column}
 use Rattle.pgv_row.specs.Outcome.{Outcome, Fails}
+use Rattle.pgv_row.specs.RowView.{Row}
 use Rattle.pgv_row.specs.declared.error.ColumnError.{ColumnError}
 use Rattle.pgv_row.specs.declared.error.ColumnError.TheVariants.{NotFound, Decode}
 
@@ -19,3 +21,7 @@ GivesAt view index (Some place) missing outcome (Err (NotFound i p)) = ⊥
 GivesAt view index None missing outcome (Ok v) = ⊥
 GivesAt view index None missing outcome (Err (Decode i p source)) = ⊥
 GivesAt view index None missing outcome (Err (NotFound i p)) = (i ≡ index) × (p ≡ missing)
+
+-- the same of a column of a row, where the index says its place and what a refusal has for a place
+abbrev pub GivesColumn : {I V M : Type 0} → (V → M) → (I → List Column → Option ℕ) → (I → List Column → ℕ) → I → Row → (Row → ℕ → Outcome M) → Result V (ColumnError I) → Type 0
+GivesColumn view place missing index row outcome result = GivesAt view index (place index row.columns) (missing index row.columns) (outcome row) result

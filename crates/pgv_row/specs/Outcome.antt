@@ -69,3 +69,10 @@ o >>= next = bind_by o.answer o.may_alloc next
 infixl 10 ◌>>◌
 abbrev pub ◌>>◌ : {B : Type 0} → Outcome ⊤ → Outcome B → Outcome B
 o >> next = o >>= λ _. next
+
+-- ---- what bytes are, and what is read of them
+
+-- What was returned is what is there, and whatever is there is what was returned, unless memory ran out.
+abbrev pub IsRead : {V M : Type 0} → (V → M) → (M → Type 0) → Result V CodecError → Type 0
+IsRead view Is (Ok v) = Is (view v) × ((m : _) → Is m → view v ≡ m)
+IsRead view Is (Err e) = (m : _) → Is m → e ≡ Memory

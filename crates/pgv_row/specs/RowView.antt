@@ -26,8 +26,8 @@ column_at columns None = None
 column_at columns (Some place) = slice_get columns place
 
 -- the column at a place, else C25
-abbrev pub column_there : List Column → ℕ → Outcome Column
-column_there columns place = or_fail (slice_get columns place) (NoField place)
+abbrev pub column_there : Row → ℕ → Outcome Column
+column_there row place = or_fail (slice_get row.columns place) (NoField place)
 
 -- the value of a column: its part, under its type and in its format
 abbrev pub value_of : Option Column → Option Part → Option Given

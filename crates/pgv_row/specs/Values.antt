@@ -1,7 +1,7 @@
 -- What is read of a value of a row. Null is read whatever the type of its column is; any other value only where the column's type is
 -- one that the values of the Rust type are read under, else it is C27. There is no value, C25, where the row has no such column. A
 -- custom type is copied, and so may ask for memory.
-use Rattle.std.specs.Prelude.{ℕ, Bool, ◌||◌, not, is_none, Option, ok_or}
+use Rattle.std.specs.Prelude.{ℕ, Bool, ◌||◌, not, is_none, ok_or}
 use Rattle.pgv_types.specs.Ty.{Ty}
 use Rattle.pgv_types.specs.Facts.{is_custom}
 use Rattle.pgv_value.specs.Reading.{Reading}

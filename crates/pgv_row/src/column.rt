@@ -1,11 +1,9 @@
-//! The columns of a statement's result, as a RowDescription tells of them.
+//! The columns of a statement's result, as a RowDescription describes them.
 
-ghost use Rattle.std.specs.Prelude.{◌≡◌, ◌==◌, true, List, length, map, IfOk, MatchResult};
+ghost use Rattle.std.specs.Prelude.{◌≡◌, ◌==◌, true, length, map};
 ghost use Rattle.std.specs.Option.{option_copied};
-ghost use Rattle.pgv_value.specs.declared.error.CodecError.TheVariants.{Memory};
-ghost use Rattle.pgv_row.specs.ColumnView.{Column};
 ghost use Rattle.pgv_row.specs.Description.{format_of as format_by, column_front, description, in_format, IsDescription};
-ghost use Rattle.pgv_row.specs.Outcome.{Gives, after};
+ghost use Rattle.pgv_row.specs.Outcome.{Gives, IsRead, after};
 ghost use Rattle.pgv_row.specs.Parsed.{GivesExactly};
 ghost use Rattle.pgv_row.specs.RowView.{column_at};
 ghost use Rattle.pgv_row.specs.Several.{several};
@@ -42,56 +40,56 @@ impl<'d> Model for PgColumn<'d> {
 }
 
 impl<'d> PgColumn<'d> {
-    /// The name.
+    /// The name of the column (PostgreSQL, "Message Formats", RowDescription: "The field name"), borrowed from the description.
     pub fn name(&self) -> &'d str
         ensures { result.now ≡ self.now.name }
     {
         self.name
     }
 
-    /// The OID of the table that the column is of, or 0 where it is of none.
+    /// The OID of the table that the column is of (`pg_class.oid`), where it is known to be of one; otherwise 0.
     pub fn table(&self) -> Oid
         ensures { result.0 ≡ self.now.table }
     {
         self.table
     }
 
-    /// The number of the column in its table, or 0.
+    /// The attribute number of the column in its table (`pg_attribute.attnum`), from 1 on, where it is of one; otherwise 0.
     pub fn attribute(&self) -> i16
         ensures { result ≡ self.now.attribute }
     {
         self.attribute
     }
 
-    /// The OID of the type.
+    /// The OID of the column's data type (`pg_type.oid`): 23 for `int4`.
     pub fn type_oid(&self) -> Oid
         ensures { result.0 ≡ self.now.type_oid }
     {
         self.type_oid
     }
 
-    /// The type.
+    /// The column's data type: the built-in one of the OID, or else what the catalogue has of it, or else known by its OID alone.
     pub fn type_info(&self) -> &PgTypeInfo
         ensures { result.now ≡ self.now.type_info }
     {
         &self.type_info
     }
 
-    /// The size of the type's values in bytes, where it is positive.
+    /// The data type size in bytes (`pg_type.typlen`): 4 for `int4`. A negative one is of a type of variable width, as -1 for `text`.
     pub fn size(&self) -> i16
         ensures { result ≡ self.now.size }
     {
         self.size
     }
 
-    /// The modifier of the type, or -1.
+    /// The type modifier (`pg_attribute.atttypmod`), whose meaning is the type's own, as 14 for `varchar(10)`; -1 where there is none.
     pub fn modifier(&self) -> i32
         ensures { result ≡ self.now.modifier }
     {
         self.modifier
     }
 
-    /// The format of the values.
+    /// The format of the values: text (code 0) or binary (code 1). In a description that comes before Bind it is not known, and text.
     pub fn format(&self) -> PgValueFormat
         ensures { result ≡ self.now.format }
     {
@@ -154,7 +152,8 @@ fn columns_in_front<'d, C: PgCatalog>(
     count: u16,
     catalog: &C,
 ) -> Result<(Vec<PgColumn<'d>>, &'d [u8]), CodecError>
-    ensures { Gives (λ x. (x.0.items, x.1.now)) (after true (several (column_front (C.known catalog.now)) count bytes.now)) result }
+    ensures { let columns = several (column_front (C.known catalog.now)) count bytes.now in
+        Gives (λ x. (x.0.items, x.1.now)) (after true columns) result }
 {
     let mut columns = Vec::new(alloc);
     let mut rest = bytes;
@@ -202,7 +201,7 @@ impl<'d> Model for PgColumns<'d> {
 }
 
 impl<'d> PgColumns<'d> {
-    /// The columns that the body of a RowDescription tells of. A type that isn't built in is looked up in the catalogue.
+    /// The columns that the body of a RowDescription describes (PostgreSQL, "Message Formats", RowDescription). A type that isn't built in is looked up in the catalogue.
     ///
     /// Bytes that end too early are refused with C15, a name that isn't UTF-8 with C14, another format than 0 and 1 with C30, and bytes
     /// after the last column with C17.
@@ -213,8 +212,7 @@ impl<'d> PgColumns<'d> {
     ) -> Result<Self, CodecError>
         ensures read { Gives (λ columns. columns) (description (C.known catalog.now) body.now) result }
         // What is answered is what the body describes, and nothing but memory keeps a description from being answered.
-        ensures exact { IfOk result (λ columns. IsDescription (C.known catalog.now) body.now columns) }
-        ensures only { (columns : List Column) → IsDescription (C.known catalog.now) body.now columns → MatchResult result (λ found. found ≡ columns) (λ e. e ≡ Memory) }
+        ensures exact { IsRead (λ columns. columns) (IsDescription (C.known catalog.now) body.now) result }
     {
         let list = described(alloc, body, catalog)?;
         Ok(PgColumns { list })

@@ -15,5 +15,5 @@ pub use catalog::PgCatalog;
 pub use column::{PgColumn, PgColumns};
 pub use error::ColumnError;
 pub use index::ColumnIndex;
-pub use row::{PgPlaces, PgRow};
+pub use row::{PgOwnedRow, PgPlaces, PgRow};
 pub use tuple::{ColumnList, FromRow};

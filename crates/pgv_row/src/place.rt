@@ -1,11 +1,10 @@
 //! Where the parts of a row stand in its bytes.
 
-ghost use Rattle.std.specs.Prelude.{◌≡◌, ◌≢◌, ◌+◌, ◌<◌, ◌≤◌, List, [], length, drop, IfOk, IfErr, OnOk, MatchResult, vec_capacity};
-ghost use Rattle.pgv_value.specs.FrameBinary.{Part};
+ghost use Rattle.std.specs.Prelude.{◌≡◌, ◌≢◌, ◌≤◌, [], length, drop, IfOk, IfErr, OnOk, vec_capacity};
 ghost use Rattle.pgv_value.specs.declared.error.CodecError.TheVariants.{Memory};
 ghost use Rattle.pgv_row.specs.DataRow.{data_row, IsDataRow};
 ghost use Rattle.pgv_row.specs.Fronts.{frames_front, one_part, part_front};
-ghost use Rattle.pgv_row.specs.Outcome.{Gives};
+ghost use Rattle.pgv_row.specs.Outcome.{Gives, IsRead};
 ghost use Rattle.pgv_row.specs.Parsed.{GivesExactly};
 ghost use Rattle.pgv_row.specs.Places.{part_at, parts_at, IsWithin, AreWithin};
 ghost use Rattle.pgv_row.specs.Several.{several};
@@ -43,7 +42,8 @@ fn check_count(bytes: &[u8], width: usize) -> Result<(), CodecError>
 #[inline(always)]
 fn place_at(bytes: &[u8], at: usize) -> Result<(Option<Place>, usize), CodecError>
     requires { at ≤ length bytes.now }
-    ensures exact { GivesExactly (λ p. (part_at bytes.now p.0, drop p.1 bytes.now)) (part_front (drop at bytes.now)) result }
+    ensures exact { let part = part_front (drop at bytes.now) in
+        GivesExactly (λ p. (part_at bytes.now p.0, drop p.1 bytes.now)) part result }
     ensures within { IfOk result (λ p. IsWithin bytes.now p.0) }
     ensures next { IfOk result (λ p. p.1 ≤ length bytes.now) }
 {
@@ -69,7 +69,8 @@ fn note_places(
     requires empty { places.old.items ≡ [] }
     requires room { width ≤ vec_capacity places.old }
     requires within { at ≤ length bytes.now }
-    ensures exact { Gives (λ end. (parts_at bytes.now places.new.items, drop end bytes.now)) (several one_part width (drop at bytes.now)) result }
+    ensures exact { let parts = several one_part width (drop at bytes.now) in
+        Gives (λ end. (parts_at bytes.now places.new.items, drop end bytes.now)) parts result }
     ensures places { OnOk result (AreWithin bytes.now places.new.items) }
     ensures end { IfOk result (λ end. end ≤ length bytes.now) }
 {
@@ -86,7 +87,8 @@ fn note_places(
 #[inline(always)]
 #[tactic(auto, unfolding(crate::specs::DataRow::data_row))]
 fn note_row(places: &mut Vec<Option<Place>>, bytes: &[u8], width: usize) -> Result<(), CodecError>
-    ensures exact { Gives (λ _. parts_at bytes.now places.new.items) (data_row (vec_capacity places.old) width bytes.now) result }
+    ensures read { let row = data_row (vec_capacity places.old) width bytes.now in
+        Gives (λ _. parts_at bytes.now places.new.items) row result }
     ensures places { OnOk result (AreWithin bytes.now places.new.items) }
 {
     places.clear();
@@ -106,9 +108,9 @@ pub fn find_places(
     bytes: &[u8],
     width: usize,
 ) -> Result<(), CodecError>
-    ensures read { Gives (λ _. parts_at bytes.now places.new.items) (data_row (vec_capacity places.old) width bytes.now) result }
-    ensures exact { OnOk result (IsDataRow width bytes.now (parts_at bytes.now places.new.items)) }
-    ensures only { (parts : List Part) → IsDataRow width bytes.now parts → MatchResult result (λ _. parts_at bytes.now places.new.items ≡ parts) (λ e. (e ≡ Memory) × (vec_capacity places.old < width)) }
+    ensures read { let row = data_row (vec_capacity places.old) width bytes.now in
+        Gives (λ _. parts_at bytes.now places.new.items) row result }
+    ensures exact { IsRead (λ _. parts_at bytes.now places.new.items) (IsDataRow width bytes.now) result }
     ensures memory { width ≤ vec_capacity places.old → IfErr result (λ e. e ≢ Memory) }
     ensures places { OnOk result (AreWithin bytes.now places.new.items) }
 {

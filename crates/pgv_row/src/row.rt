@@ -1,14 +1,13 @@
 //! Rows: the values of the columns, one DataRow after another.
 
-ghost use Rattle.std.specs.Prelude.{◌≡◌, ◌≢◌, ◌<◌, ◌≤◌, List, length, IfOk, IfErr, MatchResult, option_map, slice_get};
-ghost use Rattle.std.specs.Option.{option_copied};
-ghost use Rattle.pgv_value.specs.FrameBinary.{Part};
-ghost use Rattle.pgv_value.specs.declared.error.CodecError.TheVariants.{Memory};
+ghost use Rattle.std.specs.Prelude.{◌≡◌, ◌≢◌, ◌≤◌, length, IfOk, IfErr};
+ghost use Rattle.pgv_value.specs.declared.error.CodecError.TheVariants.{FieldCount, Memory};
 ghost use Rattle.pgv_row.specs.DataRow.{data_row, IsDataRow};
-ghost use Rattle.pgv_row.specs.Errors.{GivesAt};
+ghost use Rattle.pgv_row.specs.Errors.{GivesColumn};
 ghost use Rattle.pgv_row.specs.declared.error.ColumnError.TheVariants.{NotFound};
-ghost use Rattle.pgv_row.specs.Outcome.{Gives};
-ghost use Rattle.pgv_row.specs.Places.{parts_at, AreWithin};
+ghost use Rattle.pgv_row.specs.Outcome.{Gives, IsRead};
+ghost use Rattle.pgv_row.specs.Places.{part_at, IsWithin};
+ghost use Rattle.pgv_row.specs.RowBytesView.{body_of};
 ghost use Rattle.pgv_row.specs.RowView.{column_there};
 ghost use Rattle.pgv_row.specs.Tuples.{or_codec};
 ghost use Rattle.pgv_row.specs.Values.{column_value, parse_by, raw_value, unchecked_value};
@@ -18,8 +17,10 @@ use crate::error::ColumnError;
 use crate::index::ColumnIndex;
 use crate::place::{Place, find_places};
 use crate::tuple::FromRow;
+use bytes::Bytes;
 use pgv_codec::{Decode, Type};
-use pgv_value::{CodecError, PgValueRef};
+use pgv_types::PgTypeInfo;
+use pgv_value::{CodecError, PgValueFormat, PgValueRef};
 use std::alloc::{AllocError, Global};
 use std::marker::Model;
 
@@ -63,41 +64,65 @@ impl PgPlaces {
 #[derive(Drop)]
 pub struct PgRow<'a> {
     columns: &'a [PgColumn<'a>],
-    bytes: &'a [u8],
+    bytes: RowBytes<'a>,
     places: &'a [Option<Place>],
 }
 
+/// The bytes of a row.
+#[derive(Clone, Copy, Drop)]
+enum RowBytes<'a> {
+    /// They are borrowed from the message.
+    Borrowed(&'a [u8]),
+    /// They are shared with the values that are kept of them.
+    Shared(&'a Bytes),
+}
+
 impl<'a> Model for PgRow<'a> {
-    ghost use Rattle.std.specs.Prelude.{◌≡◌, length};
-    ghost use Rattle.pgv_row.specs.Outcome.{Gives};
     ghost use Rattle.pgv_row.specs.Places.{parts_at, AreWithin};
+    ghost use Rattle.pgv_row.specs.RowBytesView.{body_of};
     ghost use Rattle.pgv_row.specs.RowView.{Row, row_code};
 
     ghost Value = { Row };
 
     ghost coded = { row_code };
 
-    ghost view = { λ r. record { columns = r.columns.now; parts = parts_at r.bytes.now r.places.now } };
+    ghost view = { λ r. record { columns = r.columns.now; parts = parts_at (body_of r.bytes) r.places.now } };
 
-    ghost invariant = { λ r. AreWithin r.bytes.now r.places.now };
+    ghost invariant = { λ r. AreWithin (body_of r.bytes) r.places.now };
 }
 
-/// The part at a place of a row.
-fn part_of<'a>(bytes: &'a [u8], places: &[Option<Place>], place: usize) -> Option<Option<&'a [u8]>>
-    requires { AreWithin bytes.now places.now }
-    ensures { option_map option_copied result ≡ slice_get (parts_at bytes.now places.now) place }
+/// The value whose part stands at a place in the bytes of a row, or null.
+fn value_in<'a>(
+    bytes: RowBytes<'a>,
+    place: Option<Place>,
+    type_info: PgTypeInfo,
+    format: PgValueFormat,
+) -> PgValueRef<'a>
+    requires { IsWithin (body_of bytes) place }
+    ensures bytes { result.bytes ≡ part_at (body_of bytes.entry) place }
+    ensures type_info { result.type_info ≡ type_info }
+    ensures format { result.format ≡ format }
 {
-    match places.get(place)? {
-        None => Some(None),
-        Some(p) => Some(Some(&bytes[p.start..p.end])),
+    let Some(place) = place else {
+        return PgValueRef::new(None, type_info, format);
+    };
+    match bytes {
+        RowBytes::Borrowed(bytes) => {
+            PgValueRef::new(Some(&bytes[place.start..place.end]), type_info, format)
+        }
+        RowBytes::Shared(bytes) => {
+            PgValueRef::from_row(bytes, place.start, place.end, type_info, format)
+        }
     }
 }
 
 impl<'a> PgRow<'a> {
-    /// The row that is the body of a DataRow, under these columns. It lasts until the next one is read with the same room.
+    /// The row that is the body of a DataRow (PostgreSQL, "Message Formats", DataRow), under these columns. It lasts until the next one
+    /// is read with the same room. `0002 00000001 37 ffffffff` is a row of two columns, `7` and null.
     ///
     /// Another number of columns is refused with C12, bytes that end too early with C15, a negative length but the -1 of null with C16,
-    /// and bytes after the last column with C17. C1 comes only where the room grows, and so of no row but the first of a statement.
+    /// and bytes after the last column with C17. C1 comes only where the
+    /// room has fewer places than there are columns, and so never in a room of [`PgPlaces::with_columns`].
     #[inline(always)]
     pub fn read(
         columns: &'a PgColumns<'a>,
@@ -107,8 +132,7 @@ impl<'a> PgRow<'a> {
         ensures columns { IfOk result (λ row. row.columns ≡ columns.now) }
         ensures read { Gives (λ row. row.parts) (data_row room.old (length columns.now) body.now) result }
         // What is answered is the row that the body is, and nothing but memory keeps such a row from being answered.
-        ensures exact { IfOk result (λ row. IsDataRow (length columns.now) body.now row.parts) }
-        ensures only { (parts : List Part) → IsDataRow (length columns.now) body.now parts → MatchResult result (λ row. row.parts ≡ parts) (λ e. (e ≡ Memory) × (room.old < length columns.now)) }
+        ensures exact { IsRead (λ row. row.parts) (IsDataRow (length columns.now) body.now) result }
         ensures memory { length columns.now ≤ room.old → IfErr result (λ e. e ≢ Memory) }
     {
         let columns = columns.as_slice();
@@ -116,9 +140,45 @@ impl<'a> PgRow<'a> {
         let places = room.list.as_slice();
         Ok(PgRow {
             columns,
-            bytes: body,
+            bytes: RowBytes::Borrowed(body),
             places,
         })
+    }
+
+    /// The same of a body that is shared: the values that are kept of the row ([`PgValueRef::to_owned`]) share its bytes.
+    #[inline(always)]
+    pub fn read_shared(
+        columns: &'a PgColumns<'a>,
+        room: &'a mut PgPlaces,
+        body: &'a Bytes,
+    ) -> Result<Self, CodecError>
+        ensures columns { IfOk result (λ row. row.columns ≡ columns.now) }
+        ensures read { Gives (λ row. row.parts) (data_row room.old (length columns.now) body.now) result }
+        // What is answered is the row that the body is, and nothing but memory keeps such a row from being answered.
+        ensures exact { IsRead (λ row. row.parts) (IsDataRow (length columns.now) body.now) result }
+        ensures memory { length columns.now ≤ room.old → IfErr result (λ e. e ≢ Memory) }
+    {
+        let columns = columns.as_slice();
+        find_places(&mut room.list, body.as_slice(), columns.len())?;
+        let places = room.list.as_slice();
+        Ok(PgRow {
+            columns,
+            bytes: RowBytes::Shared(body),
+            places,
+        })
+    }
+
+    /// The row with bytes of its own, or with those that it shares, which outlives the message and the room. C1 where memory runs out.
+    pub fn to_owned(&self, alloc: Global) -> Result<PgOwnedRow, CodecError>
+        ensures same { IfOk result (λ row. row ≡ self.now.parts) }
+        ensures memory { IfErr result (λ e. e ≡ Memory) }
+    {
+        let body = match self.bytes {
+            RowBytes::Borrowed(bytes) => Bytes::copy_from_slice(alloc, bytes)?,
+            RowBytes::Shared(bytes) => bytes.clone()?,
+        };
+        let places = Vec::from_slice(alloc, self.places)?;
+        Ok(PgOwnedRow { body, places })
     }
 
     /// How many columns there are.
@@ -137,7 +197,7 @@ impl<'a> PgRow<'a> {
 
     /// The column at a place or of a name.
     pub fn try_column<I: ColumnIndex>(&self, index: I) -> Result<&'a PgColumn<'a>, ColumnError<I>>
-        ensures { GivesAt (λ column. column.now) index (I.place index self.now.columns) (I.missing index self.now.columns) (column_there self.now.columns) result }
+        ensures { GivesColumn (λ c. c.now) I.place I.missing index self.now column_there result }
     {
         let Some(place) = index.index(self.columns) else {
             return Err(self.not_found(index));
@@ -170,16 +230,18 @@ impl<'a> PgRow<'a> {
         let Some(column) = self.columns.get(place) else {
             return Err(CodecError::NoField(place));
         };
-        let Some(part) = part_of(self.bytes, self.places, place) else {
+        let Some(part) = self.places.get(place) else {
             return Err(CodecError::NoField(place));
         };
-        Ok(PgValueRef::new(part, column.type_info().clone()?, column.format()))
+        let type_info = column.type_info().clone()?;
+        Ok(value_in(self.bytes, *part, type_info, column.format()))
     }
 
     /// What `T` reads of the column at a place, whatever its type is.
     #[tactic(auto, unfolding(crate::specs::Values::unchecked_value))]
     fn unchecked_at<T: Decode>(&self, alloc: Global, place: usize) -> Result<T, CodecError>
-        ensures { Gives T.meaning (unchecked_value (parse_by T.reading T.refusal T.takes_memory) self.now place) result }
+        ensures { let parse = parse_by T.reading T.refusal T.takes_memory in
+            Gives T.meaning (unchecked_value parse self.now place) result }
     {
         decode_value(alloc, self.raw_at(place)?)
     }
@@ -191,7 +253,8 @@ impl<'a> PgRow<'a> {
         alloc: Global,
         place: usize,
     ) -> Result<T, CodecError>
-        ensures { Gives T.meaning (column_value T.accepts (parse_by T.reading T.refusal T.takes_memory) self.now place) result }
+        ensures { let parse = parse_by T.reading T.refusal T.takes_memory in
+            Gives T.meaning (column_value T.accepts parse self.now place) result }
     {
         let value = self.raw_at(place)?;
         if !value.is_null() && !T::compatible(value.type_info()) {
@@ -202,7 +265,7 @@ impl<'a> PgRow<'a> {
 
     /// The value of a column, as it stands in the row. C1 comes only of a custom type, which is copied.
     pub fn try_get_raw<I: ColumnIndex>(&self, index: I) -> Result<PgValueRef<'a>, ColumnError<I>>
-        ensures { GivesAt (λ value. value) index (I.place index self.now.columns) (I.missing index self.now.columns) (raw_value self.now) result }
+        ensures { GivesColumn (λ value. value) I.place I.missing index self.now raw_value result }
     {
         let Some(place) = index.index(self.columns) else {
             return Err(self.not_found(index));
@@ -225,7 +288,8 @@ impl<'a> PgRow<'a> {
         alloc: Global,
         index: I,
     ) -> Result<T, ColumnError<I>>
-        ensures { GivesAt T.meaning index (I.place index self.now.columns) (I.missing index self.now.columns) (column_value T.accepts (parse_by T.reading T.refusal T.takes_memory) self.now) result }
+        ensures { let parse = parse_by T.reading T.refusal T.takes_memory in
+            GivesColumn T.meaning I.place I.missing index self.now (column_value T.accepts parse) result }
     {
         let Some(place) = index.index(self.columns) else {
             return Err(self.not_found(index));
@@ -246,7 +310,8 @@ impl<'a> PgRow<'a> {
         alloc: Global,
         index: I,
     ) -> Result<T, ColumnError<I>>
-        ensures { GivesAt T.meaning index (I.place index self.now.columns) (I.missing index self.now.columns) (unchecked_value (parse_by T.reading T.refusal T.takes_memory) self.now) result }
+        ensures { let parse = parse_by T.reading T.refusal T.takes_memory in
+            GivesColumn T.meaning I.place I.missing index self.now (unchecked_value parse) result }
     {
         let Some(place) = index.index(self.columns) else {
             return Err(self.not_found(index));
@@ -268,6 +333,47 @@ impl<'a> PgRow<'a> {
         ensures first { IfErr result (T.refused self.now) }
     {
         T::from_row(alloc, self)
+    }
+}
+
+/// A row that has its bytes, and so outlives the message that it was read from.
+#[derive(Drop)]
+pub struct PgOwnedRow {
+    body: Bytes,
+    places: Vec<Option<Place>>,
+}
+
+impl Model for PgOwnedRow {
+    ghost use Rattle.std.specs.Prelude.{ℕ, List};
+    ghost use Rattle.std.specs.Coded.{coded_list, coded_option, coded_ℕ};
+    ghost use Rattle.pgv_value.specs.FrameBinary.{Part};
+    ghost use Rattle.pgv_row.specs.Places.{parts_at, AreWithin};
+
+    ghost Value = { List Part };
+
+    ghost coded = { coded_list (coded_option (coded_list coded_ℕ)) };
+
+    ghost view = { λ r. parts_at r.body r.places.items };
+
+    ghost invariant = { λ r. AreWithin r.body r.places.items };
+}
+
+impl PgOwnedRow {
+    /// The row under its columns. Another number of columns is refused with C12. Values that are kept of it share its bytes.
+    pub fn as_row<'a>(&'a self, columns: &'a PgColumns<'a>) -> Result<PgRow<'a>, CodecError>
+        ensures row { IfOk result (λ row. row ≡ record { columns = columns.now; parts = self.now }) }
+        ensures refused { IfErr result (λ e. (e ≡ FieldCount) × (length columns.now ≢ length self.now)) }
+    {
+        let columns = columns.as_slice();
+        let places = self.places.as_slice();
+        if columns.len() != places.len() {
+            return Err(CodecError::FieldCount);
+        }
+        Ok(PgRow {
+            columns,
+            bytes: RowBytes::Shared(&self.body),
+            places,
+        })
     }
 }
 

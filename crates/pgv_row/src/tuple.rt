@@ -60,8 +60,10 @@ fn next_column<T: Type + Decode>(
     row: &PgRow<'_>,
     place: usize,
 ) -> Result<(T, usize), ColumnError<usize>>
-    ensures read { Gives (λ x. T.meaning x.0) (column_parse T.accepts (parse_by T.reading T.refusal T.takes_memory) row.now place) (or_codec result) }
-    ensures first { IfErr result (IsRefused (column_parse T.accepts (parse_by T.reading T.refusal T.takes_memory)) row.now place) }
+    ensures read { let parse = parse_by T.reading T.refusal T.takes_memory in
+        Gives (λ x. T.meaning x.0) (column_parse T.accepts parse row.now place) (or_codec result) }
+    ensures first { let parse = parse_by T.reading T.refusal T.takes_memory in
+        IfErr result (IsRefused (column_parse T.accepts parse) row.now place) }
     ensures next { IfOk result (λ x. x.1 ≡ place + 1) }
 {
     if place >= row.len() {
@@ -104,9 +106,9 @@ impl<A: Type + Decode, Rest: ColumnList> ColumnList for (A, Rest) {
 
     ghost meaning = { λ list. (A.meaning list.0, Rest.meaning list.1) };
 
-    ghost parse = { columns_parse (column_parse A.accepts (parse_by A.reading A.refusal A.takes_memory)) Rest.parse };
+    ghost parse = { columns_parse ⟦<(A,) as ColumnList>⟧.parse Rest.parse };
 
-    ghost refused = { IsFirstRefused (column_parse A.accepts (parse_by A.reading A.refusal A.takes_memory)) Rest.refused };
+    ghost refused = { IsFirstRefused ⟦<(A,) as ColumnList>⟧.parse Rest.refused };
 
     #[tactic(auto, unfolding(crate::specs::Tuples::columns_parse))]
     fn read(alloc: Global, row: &PgRow<'_>, place: usize) -> Result<(A, Rest), ColumnError<usize>> {

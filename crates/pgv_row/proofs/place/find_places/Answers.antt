@@ -1,20 +1,15 @@
 use Rattle.std.proofs.Common.{arith}
 use Rattle.std.specs.Prelude.{vec_capacity}
 use Rattle.pgv_row.specs.Places.{parts_at}
-use Rattle.pgv_row.proofs.DataRows.{exactly_row, only_row, enough_room}
+use Rattle.pgv_row.proofs.DataRows.{row_read, enough_room}
 use Rattle.pgv_row.proofs.Fronts.{are_bytes}
 use Rattle.pgv_row.proofs.place.find_places.Goals as goal
 
 pub returns-clause-exact : goal.returns-clause-exact
 returns-clause-exact c =
     let h = are_bytes c.args.bytes.now (λ i. omega (arith, c.type_inv.bytes i)) in
-    exactly_row (λ _. parts_at c.args.bytes.now c.note_row.new.places.items) (vec_capacity c.args.places.now) c.args.width c.args.bytes.now c.note_row.result h c.note_row.ensures.exact
-
-pub returns-clause-only : goal.returns-clause-only
-returns-clause-only c parts =
-    let h = are_bytes c.args.bytes.now (λ i. omega (arith, c.type_inv.bytes i)) in
-    only_row (λ _. parts_at c.args.bytes.now c.note_row.new.places.items) (vec_capacity c.args.places.now) c.args.width c.args.bytes.now c.note_row.result parts h c.note_row.ensures.exact
+    row_read (λ _. parts_at c.args.bytes.now c.note_row.new.places.items) (vec_capacity c.args.places.now) c.args.width c.args.bytes.now c.note_row.result h c.note_row.ensures.read
 
 pub returns-clause-memory : goal.returns-clause-memory
 returns-clause-memory c =
-    enough_room (λ _. parts_at c.args.bytes.now c.note_row.new.places.items) (vec_capacity c.args.places.now) c.args.width c.args.bytes.now c.note_row.result c.note_row.ensures.exact
+    enough_room (λ _. parts_at c.args.bytes.now c.note_row.new.places.items) (vec_capacity c.args.places.now) c.args.width c.args.bytes.now c.note_row.result c.note_row.ensures.read
