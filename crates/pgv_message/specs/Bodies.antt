@@ -10,11 +10,6 @@ use Rattle.pgv_message.specs.declared.ready_for_query.PgTransactionStatus.{PgTra
 use Rattle.pgv_message.specs.declared.notification.PgNotification.{PgNotification}
 use Rattle.pgv_message.specs.declared.ready_for_query.PgTransactionStatus.TheVariants.{Idle, Transaction, Failed}
 
--- this is answered, or memory ran out
-abbrev pub OrMemory : {V M : Type 0} → (V → M) → M → Result V CodecError → Type 0
-OrMemory view wanted (Ok v) = view v ≡ wanted
-OrMemory view wanted (Err e) = e ≡ Memory
-
 -- what was read, where nothing of the body is left
 abbrev pub ended : {A : Type 0} → List ℕ → A → List ℕ → Parsed A
 ended bytes x rest = if nat_eq (length rest) 0 then Ok x else Err (WrongLength (length bytes))

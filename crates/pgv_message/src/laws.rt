@@ -4,7 +4,7 @@ ghost use Rattle.std.specs.Prelude.{◌≡◌};
 ghost use Rattle.pgv_buf.specs.Tokens.{shown};
 ghost use Rattle.pgv_wire.specs.Arguments.{all_tokens};
 ghost use Rattle.pgv_message.specs.Echo.{ComeBack};
-ghost use Rattle.pgv_message.specs.ExchangeLaws.{AnswersEndTheExchange, AsyncChangesNothing, ErrorSkipsToSync, OnlyReadyEndsSkipping, RequestsDoNotEndSkipping};
+ghost use Rattle.pgv_message.specs.ExchangeLaws.{AnswersEndTheExchange, OnlyAnswersEndTheExchange, AsyncChangesNothing, ErrorSkipsToSync, OnlyReadyEndsSkipping, RequestsDoNotEndSkipping};
 ghost use Rattle.pgv_message.specs.Frames.{ParametersAreArguments};
 ghost use Rattle.pgv_message.specs.Notice.{NoticeIsRead};
 ghost use Rattle.pgv_message.specs.Received.{MessageIsFound, FoundIsMessage, CutIsNotFound};
@@ -71,6 +71,12 @@ fn frames_are_parameters(frames: &[u8], arguments: &PgArguments)
 /// When the answers to all requests have come, in order, nothing is awaited.
 pub fn answers_end_the_exchange()
     ensures { AnswersEndTheExchange }
+{}
+
+/// Where nothing is awaited after messages of which none is an error or may come at any time, they are the answers to all requests, in
+/// order.
+pub fn only_answers_end_the_exchange()
+    ensures { OnlyAnswersEndTheExchange }
 {}
 
 /// Messages that come at any time change nothing, wherever they stand among the others.

@@ -1,9 +1,7 @@
 //! ParameterDescription: the types of a statement's parameters.
 
 ghost use Rattle.std.specs.Prelude.{◌≡◌, true, List, IfOk};
-ghost use Rattle.pgv_types.specs.declared.oid.Oid.{Oid as PgOid};
-ghost use Rattle.pgv_row.specs.Outcome.{Gives};
-ghost use Rattle.pgv_message.specs.Bodies.{OrMemory};
+ghost use Rattle.pgv_row.specs.Outcome.{Gives, IsRead};
 ghost use Rattle.pgv_message.specs.Counted.{oid_front, parameters, AreParameters, oids_front};
 
 use pgv_row::front::u16_in_front;
@@ -55,8 +53,7 @@ fn all_oids(alloc: Global, body: &[u8]) -> Result<Vec<Oid>, CodecError>
 pub fn parameter_oids(alloc: Global, body: &[u8]) -> Result<Vec<Oid>, CodecError>
     ensures read { Gives (λ oids. oids.items) (parameters body.now) result }
     // What is answered is what the body describes, and nothing but memory keeps a description from being answered.
-    ensures exact { IfOk result (λ oids. AreParameters body.now oids.items) }
-    ensures only { (os : List PgOid) → AreParameters body.now os → OrMemory (λ v. v.items) os result }
+    ensures exact { IsRead (λ oids. oids.items) (AreParameters body.now) result }
 {
     let oids = all_oids(alloc, body)?;
     Ok(oids)

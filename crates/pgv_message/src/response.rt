@@ -1,8 +1,7 @@
 //! ErrorResponse and NoticeResponse: what a server reports.
 
 ghost use Rattle.std.specs.Prelude.{◌≡◌, List, map, option_map, IfOk};
-ghost use Rattle.pgv_row.specs.Outcome.{Gives};
-ghost use Rattle.pgv_message.specs.Bodies.{OrMemory};
+ghost use Rattle.pgv_row.specs.Outcome.{Gives, IsRead};
 ghost use Rattle.pgv_message.specs.Notice.{Field, field_view, fields_of, fields_front, notice, IsNotice, text_by};
 
 use crate::end::check_end;
@@ -64,8 +63,7 @@ impl<'a> PgNotice<'a> {
     pub fn read(alloc: Global, body: &'a [u8]) -> Result<PgNotice<'a>, CodecError>
         ensures read { Gives fields_of (notice body.now) result }
         // What is answered is what the body has, and nothing but memory keeps fields from being answered.
-        ensures exact { IfOk result (λ n. IsNotice body.now (fields_of n)) }
-        ensures only { (fs : List Field) → IsNotice body.now fs → OrMemory fields_of fs result }
+        ensures exact { IsRead fields_of (IsNotice body.now) result }
     {
         let fields = all_fields(alloc, body)?;
         Ok(PgNotice { fields })
