@@ -1,11 +1,11 @@
 -- A body is read as a list exactly where it is that list.
 use Rattle.std.proofs.Common.{◌≡◌, ℕ, ◌<◌, ◌^◌, nat_eq, List, [], ◌++◌, length, Ok, Err, Result, refl, sym, ap, ◌∙◌, subst, append-nil}
-use Rattle.std.specs.Prelude.{flat_map, not, IfOk, MatchResult}
+use Rattle.std.specs.Prelude.{flat_map, not}
 use Rattle.std.specs.Int.{w16, to_be_bytes}
 use Rattle.pgv_types.specs.declared.oid.Oid.{Oid}
 use Rattle.pgv_value.specs.Laws.{AreBytes}
 use Rattle.pgv_value.specs.declared.error.CodecError.{CodecError}
-use Rattle.pgv_value.specs.declared.error.CodecError.TheVariants.{Memory, WrongLength}
+use Rattle.pgv_value.specs.declared.error.CodecError.TheVariants.{WrongLength}
 use Rattle.pgv_value.proofs.Numbers.{bytes_after}
 use Rattle.pgv_row.specs.Fronts.{u16_front, u32_front}
 use Rattle.pgv_row.specs.Outcome.{Outcome, Gives, IsRead, done}

@@ -1,10 +1,10 @@
 -- The body of an error or a notice is read as fields exactly where it is these fields; and how a loop reads them.
 use Rattle.std.proofs.Common.{◌≡◌, ℕ, zero, suc, ◌≤◌, Bool, true, false, nat_eq, List, [], ◌∷◌, ◌++◌, length, Ok, Err, Result, refl, sym, ap, ◌∙◌, subst, append_assoc, append-nil, arith, length-append}
-use Rattle.std.specs.Prelude.{◌==◌, flat_map, IfOk, MatchResult, if◌then◌else◌}
+use Rattle.std.specs.Prelude.{◌==◌, flat_map, if◌then◌else◌}
 use Rattle.std.specs.List.{AllByRecursion}
 use Rattle.std.proofs.lemmas.Bool.{eqb-true}
 use Rattle.pgv_value.specs.declared.error.CodecError.{CodecError}
-use Rattle.pgv_value.specs.declared.error.CodecError.TheVariants.{Memory, Short, WrongLength}
+use Rattle.pgv_value.specs.declared.error.CodecError.TheVariants.{Short, WrongLength}
 use Rattle.pgv_row.specs.Fronts.{name_front}
 use Rattle.pgv_row.specs.Outcome.{Gives, IsRead}
 use Rattle.pgv_row.specs.Parsed.{Parsed, ◌>>=◌}
