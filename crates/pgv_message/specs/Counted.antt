@@ -1,6 +1,6 @@
 -- A body that is a list: the number of its things in two bytes, and these, one after another; nothing comes after them.
 -- How it is read (`counted`): what isn't there is C15, and bytes after the last thing are C17. It is read exactly where it is that list
--- (`CountedIsRead`).
+-- (`IsCounted`).
 use Rattle.std.specs.Prelude.{◌≡◌, ℕ, ◌<◌, ◌^◌, nat_eq, not, true, List, ◌++◌, length, flat_map}
 use Rattle.std.specs.Int.{w16, to_be_bytes}
 use Rattle.std.specs.List.{AllByRecursion}
