@@ -1,20 +1,20 @@
 -- A body is read as a list exactly where it is that list.
-use Rattle.std.proofs.Common.{◌≡◌, ℕ, ◌<◌, ◌^◌, nat_eq, true, false, List, [], ◌++◌, length, Ok, Err, Result, refl, sym, ap, ◌∙◌, subst, append-nil}
-use Rattle.std.specs.Prelude.{flat_map, not, IfOk, MatchResult, ◌↔◌}
-use Rattle.std.specs.Int.{w16, w32, to_be_bytes}
+use Rattle.std.proofs.Common.{◌≡◌, ℕ, ◌<◌, ◌^◌, nat_eq, List, [], ◌++◌, length, Ok, Err, Result, refl, sym, ap, ◌∙◌, subst, append-nil}
+use Rattle.std.specs.Prelude.{flat_map, not}
+use Rattle.std.specs.Int.{w16, to_be_bytes}
 use Rattle.pgv_types.specs.declared.oid.Oid.{Oid}
 use Rattle.pgv_value.specs.Laws.{AreBytes}
 use Rattle.pgv_value.specs.declared.error.CodecError.{CodecError}
-use Rattle.pgv_value.specs.declared.error.CodecError.TheVariants.{Memory, WrongLength}
+use Rattle.pgv_value.specs.declared.error.CodecError.TheVariants.{WrongLength}
 use Rattle.pgv_value.proofs.Numbers.{bytes_after}
 use Rattle.pgv_row.specs.Fronts.{u16_front, u32_front}
-use Rattle.pgv_row.specs.Outcome.{Outcome, Gives, exactly, allocates, fails_if, done, ◌>>=◌, ◌>>◌}
+use Rattle.pgv_row.specs.Outcome.{Outcome, Gives, IsRead, done}
 use Rattle.pgv_row.specs.Several.{several, ReadsOne}
 use Rattle.pgv_row.proofs.Fronts.{u16_there, u16_is, u32_there, u32_is, nothing_is}
 use Rattle.pgv_row.proofs.Outcomes.{answer_is, taken, taken_exactly, tested, only_memory}
 use Rattle.pgv_row.proofs.Several.{are_several, several_read}
 use Rattle.pgv_message.specs.Pieces.{oid_bytes}
-use Rattle.pgv_message.specs.Counted.{counted, IsCounted, oid_front, parameters, IsOid, AreParameters}
+use Rattle.pgv_message.specs.Counted.{counted, IsCounted, oid_front, IsOid}
 
 module _ {A : Type 0} (Is : A → Type 0) (encode : A → List ℕ) (one : List ℕ → Outcome (A × List ℕ)) (reads : ReadsOne Is encode one) where
   counted_by : (bytes rest : List ℕ) (n : ℕ) (list : List A) → u16_front bytes ≡ Ok (n, rest) → (several one n rest).answer ≡ Ok (list, []) → (counted one bytes).answer ≡ Ok list
@@ -46,13 +46,9 @@ module _ {A : Type 0} (Is : A → Type 0) (encode : A → List ℕ) (one : List 
 
   -- as a reader answers
   module _ {V : Type 0} (view : V → List A) (bytes : List ℕ) where
-    pub exactly_counted : (result : Result V CodecError) → AreBytes bytes → Gives view (counted one bytes) result → IfOk result (λ v. IsCounted Is encode bytes (view v))
-    exactly_counted (Ok v) h gives = is_counted bytes (view v) h gives
-    exactly_counted (Err e) h gives = tt
-
-    pub only_counted : (result : Result V CodecError) (list : List A) → AreBytes bytes → Gives view (counted one bytes) result → IsCounted Is encode bytes list → MatchResult result (λ v. view v ≡ list) (λ e. e ≡ Memory)
-    only_counted (Ok v) list h gives s = answer_is {A = List A} (view v) list (sym gives ∙ is_read bytes list h s)
-    only_counted (Err e) list h gives s = (only_memory (counted one bytes) e list (is_read bytes list h s) gives).0
+    pub reads_counted : (result : Result V CodecError) → AreBytes bytes → Gives view (counted one bytes) result → IsRead view (IsCounted Is encode bytes) result
+    reads_counted (Ok v) h gives = (is_counted bytes (view v) h gives, λ list s. answer_is {A = List A} (view v) list (sym gives ∙ is_read bytes list h s))
+    reads_counted (Err e) h gives = λ list s. (only_memory (counted one bytes) e list (is_read bytes list h s) gives).0
 
 -- ---- OIDs
 

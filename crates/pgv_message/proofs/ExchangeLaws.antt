@@ -1,6 +1,7 @@
 -- Laws of the extended query.
-use Rattle.std.proofs.Common.{◌≡◌, ℕ, zero, suc, Bool, true, false, List, [], ◌∷◌, ◌++◌, map, Option, Some, None, refl, sym, ap, ◌∙◌, subst, append_assoc, append-nil, inl, inr}
+use Rattle.std.proofs.Common.{◌≡◌, ℕ, zero, suc, Bool, true, false, List, [], ◌∷◌, ◌++◌, map, Option, Some, None, refl, sym, ap, ◌∙◌, append_assoc, append-nil, inl, inr}
 use Rattle.std.specs.Prelude.{not, ◌&&◌, ◌==◌, length, replicate, if◌then◌else◌, ◌⊎◌}
+use Rattle.std.specs.List.{AllByRecursion}
 use Rattle.pgv_message.specs.declared.exchange.PgRequest.{PgRequest}
 use Rattle.pgv_message.specs.declared.exchange.PgRequest.TheVariants as request
 use Rattle.pgv_message.specs.declared.exchange.PgAwaited.{PgAwaited}
@@ -8,7 +9,7 @@ use Rattle.pgv_message.specs.declared.exchange.PgAwaited.TheVariants as awaited
 use Rattle.pgv_message.specs.declared.tag.PgTag.{PgTag}
 use Rattle.pgv_message.specs.declared.tag.PgTag.TheVariants as tag
 use Rattle.pgv_message.specs.Exchange.{Exchange, idle, sent, step, answer, stage_of, is_async, is_sync, until_sync}
-use Rattle.pgv_message.specs.ExchangeLaws.{run, all_sent, DescribesRows, EndsRows, copied_out, IsAnswer, AreAnswers, without_async, AnswersEndTheExchange, AsyncChangesNothing, ErrorSkipsToSync, OnlyReadyEndsSkipping, RequestsDoNotEndSkipping}
+use Rattle.pgv_message.specs.ExchangeLaws.{run, all_sent, DescribesRows, EndsRows, IsAnswer, AreAnswers, without_async, is_of_answer, AnswersEndTheExchange, OnlyAnswersEndTheExchange, AsyncChangesNothing, ErrorSkipsToSync, OnlyReadyEndsSkipping, RequestsDoNotEndSkipping}
 
 -- ---- asynchronous messages
 
@@ -138,3 +139,85 @@ only_by x y _ u s e = absurd cc
 
 pub only_ready_ends_skipping : OnlyReadyEndsSkipping
 only_ready_ends_skipping x y t s e = only_by x y t refl s e
+
+-- ---- what ends the exchange are answers
+
+-- the messages that answer a request from here on
+abbrev IsRest : PgAwaited → List PgTag → Type 0
+IsRest awaited.Parsed ts = ts ≡ tag.ParseComplete ∷ []
+IsRest awaited.Bound ts = ts ≡ tag.BindComplete ∷ []
+IsRest awaited.Parameters ts = (rest : List PgTag) × (ts ≡ tag.ParameterDescription ∷ rest) × DescribesRows rest
+IsRest awaited.Columns ts = DescribesRows ts
+IsRest awaited.Rows ts = (n : ℕ) × (last : List PgTag) × (ts ≡ replicate n tag.DataRow ++ last) × EndsRows last
+IsRest awaited.CopyData ts = (n : ℕ) × (ts ≡ replicate n tag.CopyData ++ tag.CopyDone ∷ tag.CommandComplete ∷ [])
+IsRest awaited.Completion ts = ts ≡ tag.CommandComplete ∷ []
+IsRest awaited.Closed ts = ts ≡ tag.CloseComplete ∷ []
+IsRest awaited.Ready ts = ts ≡ tag.ReadyForQuery ∷ []
+
+abbrev AreRests : List PgAwaited → List PgTag → Type 0
+AreRests [] ts = ts ≡ []
+AreRests (a ∷ ws) ts = (first : List PgTag) × (more : List PgTag) × (ts ≡ first ++ more) × IsRest a first × AreRests ws more
+
+none_awaited : (t : PgTag) (ts : List PgTag) → is_of_answer t ≡ true → run (awaiting []) (t ∷ ts) ≡ None
+unfolding step
+none_awaited tag.NoticeResponse ts h = absurd cc
+none_awaited tag.ParameterStatus ts h = absurd cc
+none_awaited tag.NotificationResponse ts h = absurd cc
+none_awaited tag.ErrorResponse ts h = absurd cc
+none_awaited _ ts h = refl
+
+belong : (ws : List PgAwaited) (ts : List PgTag) → AllByRecursion (λ t. is_of_answer t ≡ true) ts → run (awaiting ws) ts ≡ Some idle → AreRests ws ts
+unfolding step
+belong [] [] h e = refl
+belong [] (t ∷ ts) h e = absurd (let no : (let o : Option Exchange = None in o) ≡ Some idle = sym (none_awaited t ts h.0) ∙ e in cc)
+belong (a ∷ ws) [] h e = absurd (let no : a ∷ ws ≡ [] = ap (λ (x : Exchange). x.waiting) (same_some {A = Exchange} _ _ e) in cc)
+belong (awaited.Parsed ∷ ws) (tag.ParseComplete ∷ ts) h e = (tag.ParseComplete ∷ [], ts, refl, refl, belong ws ts h.1 e)
+belong (awaited.Bound ∷ ws) (tag.BindComplete ∷ ts) h e = (tag.BindComplete ∷ [], ts, refl, refl, belong ws ts h.1 e)
+belong (awaited.Closed ∷ ws) (tag.CloseComplete ∷ ts) h e = (tag.CloseComplete ∷ [], ts, refl, refl, belong ws ts h.1 e)
+belong (awaited.Ready ∷ ws) (tag.ReadyForQuery ∷ ts) h e = (tag.ReadyForQuery ∷ [], ts, refl, refl, belong ws ts h.1 e)
+belong (awaited.Completion ∷ ws) (tag.CommandComplete ∷ ts) h e = (tag.CommandComplete ∷ [], ts, refl, refl, belong ws ts h.1 e)
+belong (awaited.Columns ∷ ws) (tag.RowDescription ∷ ts) h e = (tag.RowDescription ∷ [], ts, refl, inl refl, belong ws ts h.1 e)
+belong (awaited.Columns ∷ ws) (tag.NoData ∷ ts) h e = (tag.NoData ∷ [], ts, refl, inr refl, belong ws ts h.1 e)
+belong (awaited.Parameters ∷ ws) (tag.ParameterDescription ∷ ts) h e =
+    let b = belong (awaited.Columns ∷ ws) ts h.1 e in
+    (tag.ParameterDescription ∷ b.0, b.1, ap (λ (xs : List PgTag). tag.ParameterDescription ∷ xs) b.2, (b.0, refl, b.3), b.4)
+belong (awaited.Rows ∷ ws) (tag.DataRow ∷ ts) h e =
+    let b = belong (awaited.Rows ∷ ws) ts h.1 e in
+    let longer = λ (xs : List PgTag). tag.DataRow ∷ xs in
+    (tag.DataRow ∷ b.0, b.1, ap longer b.2, (suc b.3.0, b.3.1, ap longer b.3.2, b.3.3), b.4)
+belong (awaited.Rows ∷ ws) (tag.CommandComplete ∷ ts) h e = (tag.CommandComplete ∷ [], ts, refl, (0, tag.CommandComplete ∷ [], refl, inl refl), belong ws ts h.1 e)
+belong (awaited.Rows ∷ ws) (tag.EmptyQueryResponse ∷ ts) h e = (tag.EmptyQueryResponse ∷ [], ts, refl, (0, tag.EmptyQueryResponse ∷ [], refl, inr (inl refl)), belong ws ts h.1 e)
+belong (awaited.Rows ∷ ws) (tag.PortalSuspended ∷ ts) h e = (tag.PortalSuspended ∷ [], ts, refl, (0, tag.PortalSuspended ∷ [], refl, inr (inr (inl refl))), belong ws ts h.1 e)
+belong (awaited.Rows ∷ ws) (tag.CopyInResponse ∷ ts) h e =
+    let b = belong (awaited.Completion ∷ ws) ts h.1 e in
+    let longer = λ (xs : List PgTag). tag.CopyInResponse ∷ xs in
+    (tag.CopyInResponse ∷ b.0, b.1, ap longer b.2, (0, tag.CopyInResponse ∷ b.0, refl, inr (inr (inr (inl (ap longer b.3))))), b.4)
+belong (awaited.Rows ∷ ws) (tag.CopyOutResponse ∷ ts) h e =
+    let b = belong (awaited.CopyData ∷ ws) ts h.1 e in
+    let longer = λ (xs : List PgTag). tag.CopyOutResponse ∷ xs in
+    (tag.CopyOutResponse ∷ b.0, b.1, ap longer b.2, (0, tag.CopyOutResponse ∷ b.0, refl, inr (inr (inr (inr (b.3.0, ap longer b.3.1))))), b.4)
+belong (awaited.CopyData ∷ ws) (tag.CopyData ∷ ts) h e =
+    let b = belong (awaited.CopyData ∷ ws) ts h.1 e in
+    let longer = λ (xs : List PgTag). tag.CopyData ∷ xs in
+    (tag.CopyData ∷ b.0, b.1, ap longer b.2, (suc b.3.0, ap longer b.3.1), b.4)
+belong (awaited.CopyData ∷ ws) (tag.CopyDone ∷ ts) h e =
+    let b = belong (awaited.Completion ∷ ws) ts h.1 e in
+    let longer = λ (xs : List PgTag). tag.CopyDone ∷ xs in
+    (tag.CopyDone ∷ b.0, b.1, ap longer b.2, (0, ap longer b.3), b.4)
+belong (_ ∷ ws) (_ ∷ ts) h e = absurd cc
+
+rest_is : (r : PgRequest) (ts : List PgTag) → IsRest (stage_of r) ts → IsAnswer r ts
+rest_is request.Parse ts h = h
+rest_is request.Bind ts h = h
+rest_is request.DescribeStatement ts h = h
+rest_is request.DescribePortal ts h = h
+rest_is request.Execute ts h = h
+rest_is request.Close ts h = h
+rest_is request.Sync ts h = h
+
+rests_are : (rs : List PgRequest) (ts : List PgTag) → AreRests (map stage_of rs) ts → AreAnswers rs ts
+rests_are [] ts h = h
+rests_are (r ∷ rs) ts h = (h.0, h.1, h.2, rest_is r h.0 h.3, rests_are rs h.1 h.4)
+
+pub only_answers_end_the_exchange : OnlyAnswersEndTheExchange
+only_answers_end_the_exchange rs ts h e = rests_are rs ts (belong (map stage_of rs) ts h (ap (λ (x : Exchange). run x ts) (sym (all_are [] rs)) ∙ e))

@@ -1,5 +1,5 @@
 -- Frames that are read one after another are the bytes of their parts, and so the parameters of a Bind.
-use Rattle.std.proofs.Common.{◌≡◌, ℕ, suc, ◌<◌, ◌≤◌, Bool, true, false, nat_lt, List, [], ◌∷◌, ◌++◌, length, get_or, Some, None, Ok, Err, Result, refl, sym, ap, ◌∙◌, subst, append_assoc, append-nil}
+use Rattle.std.proofs.Common.{◌≡◌, ℕ, suc, ◌<◌, ◌≤◌, Bool, true, false, nat_lt, List, [], ◌∷◌, ◌++◌, length, get_or, Some, None, Ok, Err, refl, sym, ap, ◌∙◌, subst, append_assoc, append-nil}
 use Rattle.std.specs.Prelude.{flat_map, if◌then◌else◌}
 use Rattle.std.specs.List.{AllByRecursion}
 use Rattle.std.specs.Int.{w16, w32, to_be_bytes}
@@ -18,7 +18,7 @@ use Rattle.pgv_message.specs.Messages.{bind}
 use Rattle.pgv_message.specs.Writing.{Writing, ◌>>=◌, text, text_of, count_of, joined, measured, whole, has_zero, max_body}
 use Rattle.pgv_message.specs.Received.{message}
 use Rattle.pgv_message.specs.Pieces.{format_bytes}
-use Rattle.pgv_message.specs.Frames.{bind_of, BindsArguments, ParametersAreArguments}
+use Rattle.pgv_message.specs.Frames.{bind_of, ParametersAreArguments}
 
 pub are_bytes : (xs : List ℕ) → ((i : ℕ) → get_or xs i 0 < 256) → AreBytes xs
 are_bytes [] h = tt

@@ -1,5 +1,5 @@
 -- A message in front is found, what is found is a message, and a message that is cut off is not found.
-use Rattle.std.proofs.Common.{◌≡◌, ℕ, zero, suc, ◌+◌, ◌-◌, ◌<◌, ◌≤◌, ◌^◌, Bool, true, false, nat_lt, List, [], ◌∷◌, ◌++◌, length, take, drop, Option, Some, None, Ok, Err, Result, refl, sym, ap, ◌∙◌, subst, append_assoc, arith, length-append}
+use Rattle.std.proofs.Common.{◌≡◌, ℕ, zero, suc, ◌+◌, ◌-◌, ◌<◌, ◌≤◌, Bool, true, false, nat_lt, List, [], ◌∷◌, ◌++◌, length, take, drop, Option, Some, None, Ok, Err, Result, refl, sym, ap, ◌∙◌, subst, append_assoc, arith, length-append}
 use Rattle.std.specs.Prelude.{if◌then◌else◌}
 use Rattle.std.specs.Int.{w32, to_be_bytes}
 use Rattle.std.proofs.lemmas.Bool.{le-ltb, lt-ltb, ltb-false}
@@ -10,7 +10,7 @@ use Rattle.pgv_value.proofs.Numbers.{number_there, number_is}
 use Rattle.pgv_message.specs.declared.error.MessageError.{MessageError}
 use Rattle.pgv_message.specs.declared.error.MessageError.TheVariants.{BadLength}
 use Rattle.pgv_message.specs.Writing.{measured, max_body}
-use Rattle.pgv_message.specs.Received.{Message, with_body, with_length, in_front, message, found, MessageIsFound, FoundIsMessage, CutIsNotFound}
+use Rattle.pgv_message.specs.Received.{Message, with_body, with_length, in_front, MessageIsFound, FoundIsMessage, CutIsNotFound}
 
 abbrev Answer : Type 0
 Answer = Result (Option Message) MessageError

@@ -1,16 +1,15 @@
 -- The body of an error or a notice is read as fields exactly where it is these fields; and how a loop reads them.
-use Rattle.std.proofs.Common.{◌≡◌, ℕ, zero, suc, ◌+◌, ◌-◌, ◌<◌, ◌≤◌, Bool, true, false, nat_eq, List, [], ◌∷◌, ◌++◌, length, Option, Some, None, Ok, Err, Result, refl, sym, ap, ◌∙◌, subst, append_assoc, append-nil, arith, length-append}
-use Rattle.std.specs.Prelude.{◌==◌, flat_map, IfOk, MatchResult, if◌then◌else◌}
+use Rattle.std.proofs.Common.{◌≡◌, ℕ, zero, suc, ◌≤◌, Bool, true, false, nat_eq, List, [], ◌∷◌, ◌++◌, length, Ok, Err, Result, refl, sym, ap, ◌∙◌, subst, append_assoc, append-nil, arith, length-append}
+use Rattle.std.specs.Prelude.{◌==◌, flat_map, if◌then◌else◌}
 use Rattle.std.specs.List.{AllByRecursion}
 use Rattle.std.proofs.lemmas.Bool.{eqb-true}
-use Rattle.pgv_value.specs.Utf8.{is_utf8}
 use Rattle.pgv_value.specs.declared.error.CodecError.{CodecError}
-use Rattle.pgv_value.specs.declared.error.CodecError.TheVariants.{Memory, Short, WrongLength}
+use Rattle.pgv_value.specs.declared.error.CodecError.TheVariants.{Short, WrongLength}
 use Rattle.pgv_row.specs.Fronts.{name_front}
-use Rattle.pgv_row.specs.Outcome.{Gives}
+use Rattle.pgv_row.specs.Outcome.{Gives, IsRead}
 use Rattle.pgv_row.specs.Parsed.{Parsed, ◌>>=◌}
 use Rattle.pgv_row.proofs.Fronts.{name_there, name_is}
-use Rattle.pgv_row.proofs.Outcomes.{answer_is, only_memory, ok_is, stated_is}
+use Rattle.pgv_row.proofs.Outcomes.{only_memory, ok_is, stated_is}
 use Rattle.pgv_row.specs.Outcome.{stated}
 use Rattle.pgv_message.specs.Bodies.{ended}
 use Rattle.pgv_message.specs.Notice.{Field, field_bytes, IsField, IsNotice, fields_in, notice_fields, notice, NoticeIsRead}
@@ -134,13 +133,11 @@ notice_is_read bytes fields = (is_notice bytes fields, is_read bytes fields)
 -- ---- as a reader answers
 
 module _ {V : Type 0} (view : V → List Field) (bytes : List ℕ) where
-  pub exactly_fields : (result : Result V CodecError) → Gives view (notice bytes) result → IfOk result (λ v. IsNotice bytes (view v))
-  exactly_fields (Ok v) gives = is_notice bytes (view v) (stated_is (notice_fields bytes) (view v) gives)
-  exactly_fields (Err e) gives = tt
-
-  pub only_fields : (result : Result V CodecError) (fields : List Field) → Gives view (notice bytes) result → IsNotice bytes fields → MatchResult result (λ v. view v ≡ fields) (λ e. e ≡ Memory)
-  only_fields (Ok v) fields gives s = ok_is {A = List Field} (view v) fields (sym (stated_is (notice_fields bytes) (view v) gives) ∙ is_read bytes fields s)
-  only_fields (Err e) fields gives s = (only_memory (notice bytes) e fields (ap stated (is_read bytes fields s)) gives).0
+  pub reads_fields : (result : Result V CodecError) → Gives view (notice bytes) result → IsRead view (IsNotice bytes) result
+  reads_fields (Ok v) gives =
+      let found = stated_is (notice_fields bytes) (view v) gives in
+      (is_notice bytes (view v) found, λ fields s. ok_is {A = List Field} (view v) fields (sym found ∙ is_read bytes fields s))
+  reads_fields (Err e) gives = λ fields s. (only_memory (notice bytes) e fields (ap stated (is_read bytes fields s)) gives).0
 
 -- ---- as a loop reads them
 

@@ -4,7 +4,9 @@ use Rattle.std.specs.Prelude.{ℕ, nat_eq, ◌==◌, List, [], ◌∷◌, length
 use Rattle.pgv_value.specs.declared.error.CodecError.TheVariants.{Short, WrongLength, OutOfRange}
 use Rattle.pgv_row.specs.Fronts.{u32_front, name_front}
 use Rattle.pgv_row.specs.Parsed.{Parsed, ◌>>=◌}
+use Rattle.pgv_message.specs.declared.notification.PgNotification.{PgNotification}
 use Rattle.pgv_message.specs.declared.ready_for_query.PgTransactionStatus.{PgTransactionStatus}
+use Rattle.pgv_message.specs.declared.notification.PgNotification.{PgNotification}
 use Rattle.pgv_message.specs.declared.ready_for_query.PgTransactionStatus.TheVariants.{Idle, Transaction, Failed}
 
 -- what was read, where nothing of the body is left
@@ -38,6 +40,9 @@ backend_key_data bytes = do
   process ← u32_front bytes
   secret ← u32_front process.1
   ended bytes (process.0, secret.0) secret.1
+
+abbrev pub notification_view : PgNotification → ℕ × (List ℕ × List ℕ)
+notification_view n = (n.process, (n.channel.now, n.payload.now))
 
 -- NotificationResponse: the process, the channel and the payload
 unfoldable pub notification : List ℕ → Parsed (ℕ × (List ℕ × List ℕ))

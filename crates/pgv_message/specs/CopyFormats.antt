@@ -5,7 +5,7 @@ use Rattle.pgv_value.specs.declared.error.CodecError.TheVariants.{Short}
 use Rattle.pgv_value.specs.declared.value.PgValueFormat.{PgValueFormat}
 use Rattle.pgv_row.specs.Description.{format_of}
 use Rattle.pgv_row.specs.Fronts.{u16_front}
-use Rattle.pgv_row.specs.Outcome.{Outcome, exactly, fails, allocates, done, ◌>>=◌, ◌>>◌}
+use Rattle.pgv_row.specs.Outcome.{Outcome, after, exactly, fails, allocates, done, ◌>>=◌, ◌>>◌}
 use Rattle.pgv_row.specs.Several.{several}
 use Rattle.pgv_message.specs.Bodies.{ended}
 
@@ -14,6 +14,10 @@ format_front bytes = do
   code ← exactly (u16_front bytes)
   format ← exactly (format_of code.0)
   done (format, code.1)
+
+-- as many formats, where memory may have been asked for
+abbrev pub formats_front : ℕ → List ℕ → Outcome (List PgValueFormat × List ℕ)
+formats_front count bytes = after true (several format_front count bytes)
 
 unfoldable pub copy_formats : List ℕ → Outcome (PgValueFormat × List PgValueFormat)
 copy_formats [] = fails Short

@@ -1,15 +1,13 @@
 -- A body that is a list: the number of its things in two bytes, and these, one after another; nothing comes after them.
 -- How it is read (`counted`): what isn't there is C15, and bytes after the last thing are C17. It is read exactly where it is that list
--- (`CountedIsRead`).
-use Rattle.std.specs.Prelude.{◌≡◌, ◌↔◌, ℕ, ◌<◌, ◌^◌, nat_eq, not, true, List, ◌++◌, length, flat_map, Ok}
+-- (`IsCounted`).
+use Rattle.std.specs.Prelude.{◌≡◌, ℕ, ◌<◌, ◌^◌, nat_eq, not, true, List, ◌++◌, length, flat_map}
 use Rattle.std.specs.Int.{w16, to_be_bytes}
 use Rattle.std.specs.List.{AllByRecursion}
 use Rattle.pgv_types.specs.declared.oid.Oid.{Oid}
-use Rattle.pgv_value.specs.Laws.{AreBytes}
 use Rattle.pgv_value.specs.declared.error.CodecError.TheVariants.{WrongLength}
 use Rattle.pgv_row.specs.Fronts.{u16_front, u32_front}
-use Rattle.pgv_row.specs.Outcome.{Outcome, exactly, allocates, fails_if, done, ◌>>=◌, ◌>>◌}
-use Rattle.pgv_row.specs.Parsed.{Parsed, ◌>>=◌ as ◌and_then◌}
+use Rattle.pgv_row.specs.Outcome.{Outcome, after, exactly, allocates, fails_if, done, ◌>>=◌, ◌>>◌}
 use Rattle.pgv_row.specs.Several.{several}
 use Rattle.pgv_message.specs.Pieces.{oid_bytes}
 
@@ -30,6 +28,10 @@ pub record IsCounted {A : Type 0} (Is : A → Type 0) (encode : A → List ℕ) 
 
 unfoldable pub oid_front : List ℕ → Outcome (Oid × List ℕ)
 oid_front bytes = exactly (u32_front bytes) >>= λ o. done (record { 0 = o.0 }, o.1)
+
+-- as many OIDs, where memory may have been asked for
+abbrev pub oids_front : ℕ → List ℕ → Outcome (List Oid × List ℕ)
+oids_front count bytes = after true (several oid_front count bytes)
 
 abbrev pub parameters : List ℕ → Outcome (List Oid)
 parameters = counted oid_front

@@ -14,7 +14,6 @@ use Rattle.pgv_copy.specs.CopyStream.{row_bytes}
 use Rattle.pgv_nest.specs.NestRefusals.{Refusal, Taking}
 use Rattle.pgv_row.specs.ColumnView.{Column}
 use Rattle.pgv_row.specs.DataRow.{IsDataRow}
-use Rattle.pgv_row.specs.RowView.{Row}
 use Rattle.pgv_row.specs.Values.{parse_by, column_value}
 use Rattle.pgv_wire.specs.Arguments.{Argument, Framed}
 use Rattle.pgv_wire.specs.Given.{Given, given_in}
@@ -22,11 +21,11 @@ use Rattle.pgv_wire.specs.History.{Call, added_in, after, last_filling}
 use Rattle.pgv_message.specs.Frames.{bind_of}
 use Rattle.pgv_message.specs.Messages.{bind}
 
-module _ {A M : Type 0} (hint : A → ℕ) (image : A → Option Image) (accepts : Ty → Bool) (reading : Reading M) (refusal : Refusal) (takes : Taking) (kept : A → M) (fits : A → Ty → List Oid → Type 0) where
+module _ {A M : Type 0} (hint : A → ℕ) (image : A → Option Image) (accepts : Ty → Bool) (reading : Reading M) (kept : A → M) (fits : A → Ty → List Oid → Type 0) where
   -- The argument that was added for a value at a place comes back from the column at that place of a row of these parts.
   abbrev pub ColumnsComeBack : List Call → List Part → Type 0
   ColumnsComeBack calls parts =
-      (columns : List Column) (c : Column) (place : ℕ) (a : Framed) (g : Given) (v : A) →
+      (refusal : Refusal) (takes : Taking) (columns : List Column) (c : Column) (place : ℕ) (a : Framed) (g : Given) (v : A) →
       slice_get (added_in calls) place ≡ Some a → frame (hint v) (image v) ≡ Some a.1 → slice_get (given_in (last_filling calls)) place ≡ Some g →
       slice_get columns place ≡ Some c → c.format ≡ Binary → accepts c.type_info ≡ true → fits v c.type_info g.oids →
       (column_value accepts (parse_by reading refusal takes) (record { columns = columns; parts = parts }) place).answer ≡ Ok (kept v)
@@ -40,8 +39,8 @@ module _ {A M : Type 0} (hint : A → ℕ) (image : A → Option Image) (accepts
     pub come_back : ColumnsComeBack calls parts
 
   -- Whatever was added to the arguments, refused and filled, in any order.
-  abbrev pub ParametersComeBack : List Argument → Type 0
-  ParametersComeBack arguments =
+  abbrev pub ComeBack : List Argument → Type 0
+  ComeBack arguments =
       (calls : List Call) (portal statement sent : List ℕ) (results : List PgValueFormat) →
       arguments ≡ after [] calls → AreOids (last_filling calls).oids → bind portal statement arguments results ≡ Ok sent →
       Echoes calls portal statement sent results

@@ -124,6 +124,12 @@ TakesBy next old new false = (next ≡ None) × (new ≡ old)
 abbrev pub Takes : Exchange → PgTag → Exchange → Bool → Type 0
 Takes old t new taken = TakesBy (step old t) old new taken
 
+abbrev pub TakesError : Exchange → Exchange → Bool → Type 0
+TakesError old new taken = TakesBy (error old) old new taken
+
+abbrev pub TakesAnswer : Exchange → PgTag → Exchange → Bool → Type 0
+TakesAnswer old t new taken = TakesBy (answer old t) old new taken
+
 -- a message that a byte names may come
 abbrev pub step_by : Exchange → ℕ → Option (PgTag × Exchange)
 step_by x byte = option_and_then (λ t. option_map (λ y. (t, y)) (step x t)) (tag_of byte)

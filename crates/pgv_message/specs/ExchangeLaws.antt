@@ -1,10 +1,11 @@
 -- Laws of the extended query, over every list of requests and messages.
-use Rattle.std.specs.Prelude.{◌≡◌, ℕ, Bool, true, false, not, ◌⊎◌, List, [], ◌∷◌, ◌++◌, replicate, Option, Some, None, option_and_then, ⊤, if◌then◌else◌}
+use Rattle.std.specs.Prelude.{Bool, ◌≡◌, ℕ, true, false, ◌⊎◌, List, [], ◌∷◌, ◌++◌, replicate, Option, Some, option_and_then, if◌then◌else◌, ◌||◌, not}
+use Rattle.std.specs.List.{AllByRecursion}
 use Rattle.pgv_message.specs.declared.exchange.PgRequest.{PgRequest}
 use Rattle.pgv_message.specs.declared.exchange.PgRequest.TheVariants as request
 use Rattle.pgv_message.specs.declared.tag.PgTag.{PgTag}
 use Rattle.pgv_message.specs.declared.tag.PgTag.TheVariants as tag
-use Rattle.pgv_message.specs.Exchange.{Exchange, idle, sent, step, is_async, until_sync}
+use Rattle.pgv_message.specs.Exchange.{Exchange, idle, sent, step, is_async, is_error, until_sync}
 
 -- messages that come one after another
 abbrev pub run : Exchange → List PgTag → Option Exchange
@@ -56,6 +57,14 @@ without_async (t ∷ ts) = if is_async t then without_async ts else t ∷ withou
 -- When the answers to all requests have come, in order, nothing is awaited.
 abbrev pub AnswersEndTheExchange : Type 0
 AnswersEndTheExchange = (rs : List PgRequest) (ts : List PgTag) → AreAnswers rs ts → run (all_sent idle rs) ts ≡ Some idle
+
+-- a message that belongs to an answer: it neither comes at any time nor is an error
+abbrev pub is_of_answer : PgTag → Bool
+is_of_answer t = not (is_async t || is_error t)
+
+-- Where nothing is awaited after messages that belong to answers, they are the answers to all requests, in order.
+abbrev pub OnlyAnswersEndTheExchange : Type 0
+OnlyAnswersEndTheExchange = (rs : List PgRequest) (ts : List PgTag) → AllByRecursion (λ t. is_of_answer t ≡ true) ts → run (all_sent idle rs) ts ≡ Some idle → AreAnswers rs ts
 
 -- Messages that come at any time change nothing.
 abbrev pub AsyncChangesNothing : Type 0

@@ -3,12 +3,12 @@
 -- after it.
 -- How it is read (`notice`): bytes that end too early are C15, a text that isn't UTF-8 is C14, and bytes after the last zero byte are C17.
 -- It is read exactly where it is these fields (`NoticeIsRead`).
-use Rattle.std.specs.Prelude.{◌≡◌, ◌≢◌, ◌↔◌, ℕ, zero, suc, ◌==◌, Bool, true, false, List, [], ◌∷◌, ◌++◌, map, flat_map, length, Option, Some, None, option_map, Ok, Err, if◌then◌else◌}
+use Rattle.std.specs.Prelude.{◌≡◌, ◌↔◌, ℕ, zero, suc, ◌==◌, true, false, List, [], ◌∷◌, ◌++◌, map, flat_map, length, Option, Some, None, Ok, Err, if◌then◌else◌}
 use Rattle.std.specs.List.{AllByRecursion}
 use Rattle.pgv_value.specs.Utf8.{is_utf8}
 use Rattle.pgv_value.specs.declared.error.CodecError.TheVariants.{Short}
 use Rattle.pgv_row.specs.Fronts.{name_front}
-use Rattle.pgv_row.specs.Outcome.{Outcome, exactly, allocates, ◌>>◌}
+use Rattle.pgv_row.specs.Outcome.{Outcome, after, exactly, allocates, ◌>>◌}
 use Rattle.pgv_row.specs.Parsed.{Parsed, ◌>>=◌}
 use Rattle.pgv_message.specs.declared.response.PgField.{PgField}
 use Rattle.pgv_message.specs.declared.response.PgNotice.{PgNotice}
@@ -49,6 +49,10 @@ fields_in zero (code ∷ rest) = if code == 0 then Ok ([], rest) else Err Short
 fields_in (suc n) (code ∷ rest) =
     if code == 0 then Ok ([], rest) else
     name_front rest >>= λ text. fields_in n text.1 >>= λ more. Ok (record { code = code; text = text.0 } ∷ more.0, more.1)
+
+-- the fields up to a zero byte, where memory may have been asked for
+abbrev pub fields_front : List ℕ → Outcome (List Field × List ℕ)
+fields_front bytes = after true (exactly (fields_in (length bytes) bytes))
 
 -- each field takes bytes, so there are no more of them than bytes
 unfoldable pub notice_fields : List ℕ → Parsed (List Field)

@@ -1,5 +1,5 @@
 -- The bytes of the pieces that a message is made of.
-use Rattle.std.specs.Prelude.{ℕ, List, [], ◌∷◌, ◌++◌, flat_map}
+use Rattle.std.specs.Prelude.{ℕ, List, [], ◌∷◌, flat_map}
 use Rattle.std.specs.Int.{w16, w32, to_be_bytes}
 use Rattle.pgv_types.specs.declared.oid.Oid.{Oid}
 use Rattle.pgv_value.specs.declared.value.PgValueFormat.{PgValueFormat}
@@ -13,6 +13,9 @@ abbrev pub format_bytes : PgValueFormat → List ℕ
 format_bytes Text = 0 ∷ 0 ∷ []
 format_bytes Binary = 0 ∷ 1 ∷ []
 
+abbrev pub format_codes : List PgValueFormat → List ℕ
+format_codes = flat_map format_bytes
+
 -- an OID in four bytes
 abbrev pub oid_bytes : Oid → List ℕ
 oid_bytes o = to_be_bytes w32 o.0
@@ -25,3 +28,7 @@ piece_bytes (piece.Text s) = text s.now
 piece_bytes (piece.Bytes bytes) = bytes.now
 piece_bytes (piece.Oids oids) = flat_map oid_bytes oids.now
 piece_bytes (piece.Formats formats) = flat_map format_bytes formats.now
+
+-- pieces one after another
+abbrev pub joined_pieces : List Piece → List ℕ
+joined_pieces = flat_map piece_bytes

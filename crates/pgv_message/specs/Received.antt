@@ -3,7 +3,6 @@
 -- A message is found, whatever follows it (`MessageIsFound`), and what is found is a message (`FoundIsMessage`). Of a message that is
 -- cut off anywhere nothing is found yet (`CutIsNotFound`).
 use Rattle.std.specs.Prelude.{◌≡◌, ℕ, ◌-◌, ◌<◌, ◌≤◌, nat_lt, List, [], ◌∷◌, ◌++◌, length, take, drop, Option, Some, None, option_map, Result, Ok, Err, if◌then◌else◌}
-use Rattle.std.specs.Result.{MatchResult}
 use Rattle.pgv_value.specs.Laws.{AreBytes}
 use Rattle.pgv_value.specs.Steps.{number}
 use Rattle.pgv_message.specs.declared.error.MessageError.{MessageError}

@@ -49,6 +49,10 @@ whole tag body = if nat_lt max_body (length body) then Err TooLong else Ok (tag 
 
 -- ---- what a call leaves
 
+-- the bytes after a call that appends these, or is refused and leaves all as it was
+abbrev pub appended : Bool → List ℕ → List ℕ → List ℕ
+appended taken old bytes = if taken then old ++ bytes else old
+
 -- what was made of a part of a message, or why it is refused
 abbrev pub Gives : {V : Type 0} → (V → List ℕ) → Writing (List ℕ) → Result V MessageError → Type 0
 Gives view part (Ok v) = part ≡ Ok (view v)

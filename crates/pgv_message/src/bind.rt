@@ -11,6 +11,9 @@ use crate::pieces::{Piece, count_piece, push_message, text_piece};
 use pgv_value::PgValueFormat;
 use pgv_wire::PgArguments;
 
+/// The code of the binary format.
+const BINARY: u16 = 1;
+
 /// Appends Bind (PostgreSQL: "Message Formats", Bind): the arguments become the parameters of a portal, all in binary. The formats of
 /// the result's columns are none where all are text, one for all, or one for each.
 ///
@@ -27,12 +30,14 @@ pub fn write_bind<'a>(
     arguments: &'a PgArguments,
     results: &'a [PgValueFormat],
 ) -> Result<(), MessageError>
-    ensures { Sends (bind portal.now statement.now arguments.now results.now) out.old.items out.new.items result }
+    ensures { Sends (bind portal.now statement.now arguments.now results.now)
+        out.old.items out.new.items result }
 {
     let portal = text_piece(portal)?;
     let statement = text_piece(statement)?;
     let parameters = count_piece(arguments.len())?;
     let formats = count_piece(results.len())?;
+    let frames = arguments.buffer().as_slice();
     push_message(
         out,
         b"B",
@@ -40,9 +45,9 @@ pub fn write_bind<'a>(
             portal,
             statement,
             Piece::Count(1),
-            Piece::Count(1),
+            Piece::Count(BINARY),
             parameters,
-            Piece::Bytes(arguments.buffer().as_slice()),
+            Piece::Bytes(frames),
             formats,
             Piece::Formats(results),
         ],

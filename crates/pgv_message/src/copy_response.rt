@@ -1,11 +1,9 @@
 //! CopyOutResponse and CopyInResponse: the formats of a COPY.
 
-ghost use Rattle.std.specs.Prelude.{true};
-ghost use Rattle.pgv_row.specs.Outcome.{Gives, after};
+ghost use Rattle.pgv_row.specs.Outcome.{Gives};
 ghost use Rattle.pgv_row.specs.Parsed.{GivesExactly};
-ghost use Rattle.pgv_row.specs.Several.{several};
 ghost use Rattle.pgv_row.specs.Description.{format_of as format_by};
-ghost use Rattle.pgv_message.specs.CopyFormats.{format_front, copy_formats};
+ghost use Rattle.pgv_message.specs.CopyFormats.{format_front, formats_front, copy_formats};
 
 use crate::end::check_end;
 use pgv_row::front::u16_in_front;
@@ -48,7 +46,7 @@ fn formats_in_front(
     bytes: &[u8],
     count: u16,
 ) -> Result<(Vec<PgValueFormat>, &[u8]), CodecError>
-    ensures { Gives (λ x. (x.0.items, x.1.now)) (after true (several format_front count bytes.now)) result }
+    ensures { Gives (λ x. (x.0.items, x.1.now)) (formats_front count bytes.now) result }
 {
     let mut formats = Vec::new(alloc);
     let mut rest = bytes;

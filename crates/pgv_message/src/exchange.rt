@@ -2,7 +2,7 @@
 
 ghost use Rattle.std.specs.Prelude.{◌≡◌, ◌<◌, ◌==◌, length, drop, OnOk, OnErr};
 ghost use Rattle.std.specs.VecDeque.{deque_len};
-ghost use Rattle.pgv_message.specs.Exchange.{idle, stage_of, is_async, after_front, with_rest, until_sync, sent, error, answer, Takes, TakesBy, Steps, exchange_of};
+ghost use Rattle.pgv_message.specs.Exchange.{idle, stage_of, is_async, after_front, with_rest, until_sync, sent, Takes, TakesError, TakesAnswer, Steps, exchange_of};
 
 use crate::tag::PgTag;
 use std::alloc::{AllocError, Global};
@@ -219,7 +219,7 @@ impl PgExchange {
 
     /// Takes an ErrorResponse, where it may come.
     fn fails(&mut self) -> bool
-        ensures { TakesBy (error (exchange_of self.old)) (exchange_of self.old) (exchange_of self.new) result }
+        ensures { TakesError (exchange_of self.old) (exchange_of self.new) result }
     {
         if self.skipping {
             return false;
@@ -231,7 +231,7 @@ impl PgExchange {
 
     /// Takes a message of the first request's answer.
     fn answers(&mut self, tag: PgTag) -> bool
-        ensures { TakesBy (answer (exchange_of self.old) tag) (exchange_of self.old) (exchange_of self.new) result }
+        ensures { TakesAnswer (exchange_of self.old) tag (exchange_of self.new) result }
     {
         let Some(first) = self.waiting.front() else {
             return false;

@@ -3,8 +3,8 @@
 ghost use Rattle.std.specs.Prelude.{◌≡◌};
 ghost use Rattle.pgv_buf.specs.Tokens.{shown};
 ghost use Rattle.pgv_wire.specs.Arguments.{all_tokens};
-ghost use Rattle.pgv_message.specs.Echo.{ParametersComeBack};
-ghost use Rattle.pgv_message.specs.ExchangeLaws.{AnswersEndTheExchange, AsyncChangesNothing, ErrorSkipsToSync, OnlyReadyEndsSkipping, RequestsDoNotEndSkipping};
+ghost use Rattle.pgv_message.specs.Echo.{ComeBack};
+ghost use Rattle.pgv_message.specs.ExchangeLaws.{AnswersEndTheExchange, OnlyAnswersEndTheExchange, AsyncChangesNothing, ErrorSkipsToSync, OnlyReadyEndsSkipping, RequestsDoNotEndSkipping};
 ghost use Rattle.pgv_message.specs.Frames.{ParametersAreArguments};
 ghost use Rattle.pgv_message.specs.Notice.{NoticeIsRead};
 ghost use Rattle.pgv_message.specs.Received.{MessageIsFound, FoundIsMessage, CutIsNotFound};
@@ -42,7 +42,8 @@ pub fn parameters_are_arguments(arguments: &PgArguments)
 /// Whatever was added, refused and filled, in any order: `calls` is any list of calls that leaves these arguments. That OIDs are numbers
 /// of 32 bits [`oids_fit`](pgv_codec::laws::oids_fit) says.
 pub fn parameters_come_back<T: Type + ReadBack>(arguments: &PgArguments)
-    ensures { ParametersComeBack T.hint T.image T.accepts T.reading T.refusal T.takes_memory (λ v. T.meaning (T.kept v)) T.fits arguments.now }
+    ensures { ComeBack T.hint T.image T.accepts T.reading (λ v. T.meaning (T.kept v)) T.fits
+        arguments.now }
 {
     frames_come_back::<T>(arguments.buffer().as_slice(), arguments);
 }
@@ -50,7 +51,8 @@ pub fn parameters_come_back<T: Type + ReadBack>(arguments: &PgArguments)
 /// The same, of bytes that are the buffer of arguments.
 fn frames_come_back<T: Type + ReadBack>(frames: &[u8], arguments: &PgArguments)
     requires { frames.now ≡ shown (all_tokens arguments.now) }
-    ensures { ParametersComeBack T.hint T.image T.accepts T.reading T.refusal T.takes_memory (λ v. T.meaning (T.kept v)) T.fits arguments.now }
+    ensures { ComeBack T.hint T.image T.accepts T.reading (λ v. T.meaning (T.kept v)) T.fits
+        arguments.now }
 {
     main_sentence::<T>();
     only_additions_count();
@@ -69,6 +71,12 @@ fn frames_are_parameters(frames: &[u8], arguments: &PgArguments)
 /// When the answers to all requests have come, in order, nothing is awaited.
 pub fn answers_end_the_exchange()
     ensures { AnswersEndTheExchange }
+{}
+
+/// Where nothing is awaited after messages of which none is an error or may come at any time, they are the answers to all requests, in
+/// order.
+pub fn only_answers_end_the_exchange()
+    ensures { OnlyAnswersEndTheExchange }
 {}
 
 /// Messages that come at any time change nothing, wherever they stand among the others.

@@ -2,7 +2,7 @@
 
 ghost use Rattle.std.specs.Prelude.{◌≡◌};
 ghost use Rattle.pgv_row.specs.Parsed.{GivesExactly};
-ghost use Rattle.pgv_message.specs.Bodies.{notification};
+ghost use Rattle.pgv_message.specs.Bodies.{notification, notification_view};
 
 use crate::end::check_end;
 use pgv_row::front::name_in_front;
@@ -25,7 +25,7 @@ pub struct PgNotification<'a> {
 /// `00000007 6100 00` is one of the process 7 on the channel `a`.
 #[tactic(auto, unfolding(crate::specs::Bodies::notification))]
 pub fn notification_of(body: &[u8]) -> Result<PgNotification<'_>, CodecError>
-    ensures { GivesExactly (λ n. (n.process, (n.channel.now, n.payload.now))) (notification body.now) result }
+    ensures { GivesExactly notification_view (notification body.now) result }
 {
     let (process, rest) = u32_in_front(body)?;
     let (channel, rest) = name_in_front(rest)?;

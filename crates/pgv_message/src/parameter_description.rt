@@ -1,11 +1,8 @@
 //! ParameterDescription: the types of a statement's parameters.
 
-ghost use Rattle.std.specs.Prelude.{◌≡◌, true, List, IfOk, MatchResult};
-ghost use Rattle.pgv_types.specs.declared.oid.Oid.{Oid as PgOid};
-ghost use Rattle.pgv_value.specs.declared.error.CodecError.TheVariants.{Memory};
-ghost use Rattle.pgv_row.specs.Outcome.{Gives, after};
-ghost use Rattle.pgv_row.specs.Several.{several};
-ghost use Rattle.pgv_message.specs.Counted.{oid_front, parameters, AreParameters};
+ghost use Rattle.std.specs.Prelude.{◌≡◌, true, List, IfOk};
+ghost use Rattle.pgv_row.specs.Outcome.{Gives, IsRead};
+ghost use Rattle.pgv_message.specs.Counted.{oid_front, parameters, AreParameters, oids_front};
 
 use pgv_row::front::u16_in_front;
 use pgv_types::Oid;
@@ -23,7 +20,7 @@ fn oid_in_front(bytes: &[u8]) -> Result<(Oid, &[u8]), CodecError>
 
 /// As many OIDs, and the rest.
 fn oids_in_front(alloc: Global, bytes: &[u8], count: u16) -> Result<(Vec<Oid>, &[u8]), CodecError>
-    ensures { Gives (λ x. (x.0.items, x.1.now)) (after true (several oid_front count bytes.now)) result }
+    ensures { Gives (λ x. (x.0.items, x.1.now)) (oids_front count bytes.now) result }
 {
     let mut oids = Vec::new(alloc);
     let mut rest = bytes;
@@ -56,8 +53,7 @@ fn all_oids(alloc: Global, body: &[u8]) -> Result<Vec<Oid>, CodecError>
 pub fn parameter_oids(alloc: Global, body: &[u8]) -> Result<Vec<Oid>, CodecError>
     ensures read { Gives (λ oids. oids.items) (parameters body.now) result }
     // What is answered is what the body describes, and nothing but memory keeps a description from being answered.
-    ensures exact { IfOk result (λ oids. AreParameters body.now oids.items) }
-    ensures only { (oids : List PgOid) → AreParameters body.now oids → MatchResult result (λ found. found.items ≡ oids) (λ e. e ≡ Memory) }
+    ensures exact { IsRead (λ oids. oids.items) (AreParameters body.now) result }
 {
     let oids = all_oids(alloc, body)?;
     Ok(oids)

@@ -1,9 +1,9 @@
 //! Messages as pieces that are appended one after another.
 
-ghost use Rattle.std.specs.Prelude.{◌≡◌, ◌<◌, ◌≤◌, ◌++◌, [], ◌∷◌, length, flat_map, is_ok, if◌then◌else◌, IfOk, IfErr};
+ghost use Rattle.std.specs.Prelude.{◌≡◌, ◌<◌, ◌≤◌, ◌++◌, [], ◌∷◌, length, flat_map, is_ok, IfOk, IfErr, OnErr};
 ghost use Rattle.std.specs.Int.{w16, to_be_bytes};
-ghost use Rattle.pgv_message.specs.Writing.{Gives, Sends, text_of, count_of, whole, max_body};
-ghost use Rattle.pgv_message.specs.Pieces.{piece_bytes, format_bytes, oid_bytes};
+ghost use Rattle.pgv_message.specs.Writing.{Gives, Sends, appended, text_of, count_of, whole, max_body};
+ghost use Rattle.pgv_message.specs.Pieces.{piece_bytes, joined_pieces, format_bytes, format_codes, oid_bytes};
 ghost use Rattle.pgv_message.specs.declared.error.MessageError.TheVariants.{TooLong};
 
 use crate::error::MessageError;
@@ -75,7 +75,8 @@ fn piece_size(piece: &Piece<'_>) -> usize
 fn body_size(pieces: &[Piece<'_>]) -> Result<usize, MessageError>
     ensures ok { IfOk result (λ n. n ≡ length (flat_map piece_bytes pieces.now)) }
     ensures fits { IfOk result (λ n. n ≤ max_body) }
-    ensures err { IfErr result (λ e. (e ≡ TooLong) × (max_body < length (flat_map piece_bytes pieces.now))) }
+    ensures err { IfErr result (λ e. e ≡ TooLong) }
+    ensures long { OnErr result (max_body < length (flat_map piece_bytes pieces.now)) }
 {
     let mut size: usize = 0;
     for piece in pieces {
@@ -90,7 +91,7 @@ fn body_size(pieces: &[Piece<'_>]) -> Result<usize, MessageError>
 
 /// Appends OIDs. A refused call leaves all as it was.
 fn push_oids(out: &mut Vec<u8>, oids: &[Oid]) -> Result<(), AllocError>
-    ensures { out.new.items ≡ (if is_ok result then out.old.items ++ flat_map oid_bytes oids.now else out.old.items) }
+    ensures { out.new.items ≡ appended (is_ok result) out.old.items (flat_map oid_bytes oids.now) }
 {
     let mark = out.len();
     for oid in oids {
@@ -114,7 +115,7 @@ fn format_code(format: PgValueFormat) -> [u8; 2]
 
 /// Appends formats. A refused call leaves all as it was.
 fn push_formats(out: &mut Vec<u8>, formats: &[PgValueFormat]) -> Result<(), AllocError>
-    ensures { out.new.items ≡ (if is_ok result then out.old.items ++ flat_map format_bytes formats.now else out.old.items) }
+    ensures { out.new.items ≡ appended (is_ok result) out.old.items (format_codes formats.now) }
 {
     let mark = out.len();
     for format in formats {
@@ -128,7 +129,7 @@ fn push_formats(out: &mut Vec<u8>, formats: &[PgValueFormat]) -> Result<(), Allo
 
 /// Appends a text and a zero byte. A refused call leaves all as it was.
 fn push_text(out: &mut Vec<u8>, text: &str) -> Result<(), AllocError>
-    ensures { out.new.items ≡ (if is_ok result then out.old.items ++ (text.now ++ 0 ∷ []) else out.old.items) }
+    ensures { out.new.items ≡ appended (is_ok result) out.old.items (text.now ++ 0 ∷ []) }
 {
     let mark = out.len();
     out.extend_from_slice(text.as_bytes())?;
@@ -141,7 +142,7 @@ fn push_text(out: &mut Vec<u8>, text: &str) -> Result<(), AllocError>
 
 /// Appends a piece. A refused call leaves all as it was.
 fn push_piece(out: &mut Vec<u8>, piece: &Piece<'_>) -> Result<(), AllocError>
-    ensures { out.new.items ≡ (if is_ok result then out.old.items ++ piece_bytes piece.now else out.old.items) }
+    ensures { out.new.items ≡ appended (is_ok result) out.old.items (piece_bytes piece.now) }
 {
     match piece {
         Piece::Byte(byte) => out.extend_from_slice(&[*byte]),
@@ -156,7 +157,7 @@ fn push_piece(out: &mut Vec<u8>, piece: &Piece<'_>) -> Result<(), AllocError>
 
 /// Appends pieces one after another. A refused call leaves all as it was.
 fn push_pieces(out: &mut Vec<u8>, pieces: &[Piece<'_>]) -> Result<(), AllocError>
-    ensures { out.new.items ≡ (if is_ok result then out.old.items ++ flat_map piece_bytes pieces.now else out.old.items) }
+    ensures { out.new.items ≡ appended (is_ok result) out.old.items (joined_pieces pieces.now) }
 {
     let mark = out.len();
     for piece in pieces {
@@ -171,7 +172,7 @@ fn push_pieces(out: &mut Vec<u8>, pieces: &[Piece<'_>]) -> Result<(), AllocError
 /// Appends the message under a tag whose body is these pieces. A refused call leaves all as it was.
 #[tactic(auto, unfolding(crate::specs::Writing::whole))]
 pub fn push_message(out: &mut Vec<u8>, tag: &[u8], pieces: &[Piece<'_>]) -> Result<(), MessageError>
-    ensures { Sends (whole tag.now (flat_map piece_bytes pieces.now)) out.old.items out.new.items result }
+    ensures { Sends (whole tag.now (joined_pieces pieces.now)) out.old.items out.new.items result }
 {
     let length = body_size(pieces)? + 4;
     let mark = out.len();

@@ -30,7 +30,7 @@ pub struct PgMessage<'a> {
 pub fn message_in_front(bytes: &[u8]) -> Result<Option<PgMessage<'_>>, MessageError>
     ensures exact { Finds bytes.now result }
     // Each message takes bytes, so a loop over them ends.
-    ensures shorter { IfOk result (λ found. IfSome found (λ m. length m.rest.now < length bytes.now)) }
+    ensures shorter { IfOk result (λ o. IfSome o (λ m. length m.rest.now < length bytes.now)) }
 {
     let Some((tag, after)) = bytes.split_first() else {
         return Ok(None);

@@ -1,9 +1,8 @@
 //! ErrorResponse and NoticeResponse: what a server reports.
 
-ghost use Rattle.std.specs.Prelude.{◌≡◌, true, List, length, map, option_map, IfOk, MatchResult};
-ghost use Rattle.pgv_value.specs.declared.error.CodecError.TheVariants.{Memory};
-ghost use Rattle.pgv_row.specs.Outcome.{Gives, after, exactly};
-ghost use Rattle.pgv_message.specs.Notice.{Field, field_view, fields_of, fields_in, notice, IsNotice, text_by};
+ghost use Rattle.std.specs.Prelude.{◌≡◌, List, map, option_map, IfOk};
+ghost use Rattle.pgv_row.specs.Outcome.{Gives, IsRead};
+ghost use Rattle.pgv_message.specs.Notice.{Field, field_view, fields_of, fields_front, notice, IsNotice, text_by};
 
 use crate::end::check_end;
 use pgv_row::front::name_in_front;
@@ -30,7 +29,7 @@ fn fields_in_front<'a>(
     alloc: Global,
     bytes: &'a [u8],
 ) -> Result<(Vec<PgField<'a>>, &'a [u8]), CodecError>
-    ensures { Gives (λ x. (map field_view x.0.items, x.1.now)) (after true (exactly (fields_in (length bytes.now) bytes.now))) result }
+    ensures { Gives (λ x. (map field_view x.0.items, x.1.now)) (fields_front bytes.now) result }
 {
     let mut fields = Vec::new(alloc);
     let mut rest = bytes;
@@ -64,8 +63,7 @@ impl<'a> PgNotice<'a> {
     pub fn read(alloc: Global, body: &'a [u8]) -> Result<PgNotice<'a>, CodecError>
         ensures read { Gives fields_of (notice body.now) result }
         // What is answered is what the body has, and nothing but memory keeps fields from being answered.
-        ensures exact { IfOk result (λ n. IsNotice body.now (fields_of n)) }
-        ensures only { (fields : List Field) → IsNotice body.now fields → MatchResult result (λ n. fields_of n ≡ fields) (λ e. e ≡ Memory) }
+        ensures exact { IsRead fields_of (IsNotice body.now) result }
     {
         let fields = all_fields(alloc, body)?;
         Ok(PgNotice { fields })

@@ -4,21 +4,16 @@ use Rattle.pgv_types.specs.declared.oid.Oid.{Oid}
 use Rattle.pgv_row.proofs.Fronts.{are_bytes}
 use Rattle.pgv_message.specs.Pieces.{oid_bytes}
 use Rattle.pgv_message.specs.Counted.{oid_front, IsOid}
-use Rattle.pgv_message.proofs.Counted.{exactly_counted, only_counted, reads_oid}
+use Rattle.pgv_message.proofs.Counted.{reads_counted, reads_oid}
 use Rattle.pgv_message.proofs.parameter_description.parameter_oids.Goals as goal
 
 pub returns-clause-exact : goal.returns-clause-exact
 returns-clause-exact c =
     let h = are_bytes c.args.body.now (λ i. omega (arith, c.type_inv.body i)) in
-    exactly_counted IsOid oid_bytes oid_front reads_oid (λ (xs : List Oid). xs) c.args.body.now (Ok c.in_ok-oids.oids.items) h c.in_ok-oids.ensures
+    reads_counted IsOid oid_bytes oid_front reads_oid (λ (xs : List Oid). xs) c.args.body.now (Ok c.in_ok-oids.oids.items) h c.in_ok-oids.ensures
 
-pub returns-clause-only : goal.returns-clause-only
-returns-clause-only c oids s =
-    let h = are_bytes c.args.body.now (λ i. omega (arith, c.type_inv.body i)) in
-    only_counted IsOid oid_bytes oid_front reads_oid (λ (xs : List Oid). xs) c.args.body.now (Ok c.in_ok-oids.oids.items) oids h c.in_ok-oids.ensures s
-
-pub returns-in_err-oids-clause-only : goal.returns-in_err-oids-clause-only
-returns-in_err-oids-clause-only c oids s =
+pub returns-in_err-oids-clause-exact : goal.returns-in_err-oids-clause-exact
+returns-in_err-oids-clause-exact c =
     let h = are_bytes c.args.body.now (λ i. omega (arith, c.type_inv.body i)) in
     let p = err_from_is_err_and c.from_residual.result c.from_residual.ensures.1 in
-    rw (p.1, p.2) (only_counted IsOid oid_bytes oid_front reads_oid (λ (xs : List Oid). xs) c.args.body.now (Err c.in_err-oids.field-0.0) oids h c.in_err-oids.ensures s)
+    rw (p.1, p.2) (reads_counted IsOid oid_bytes oid_front reads_oid (λ (xs : List Oid). xs) c.args.body.now (Err c.in_err-oids.field-0.0) h c.in_err-oids.ensures)
