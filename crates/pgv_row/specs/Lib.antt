@@ -9,6 +9,6 @@ pub mod Catalog
 pub mod Errors
 pub mod Description
 pub mod RowView
-pub mod RowBytesView
+pub mod RowParts
 pub mod Values
 pub mod Tuples

@@ -1,13 +1,13 @@
 //! Rows: the values of the columns, one DataRow after another.
 
-ghost use Rattle.std.specs.Prelude.{◌≡◌, ◌≢◌, ◌≤◌, length, IfOk, IfErr};
+ghost use Rattle.std.specs.Prelude.{◌≡◌, ◌≢◌, ◌≤◌, ◌==◌, length, IfOk, IfErr};
 ghost use Rattle.pgv_value.specs.declared.error.CodecError.TheVariants.{FieldCount, Memory};
 ghost use Rattle.pgv_row.specs.DataRow.{data_row, IsDataRow};
 ghost use Rattle.pgv_row.specs.Errors.{GivesColumn};
 ghost use Rattle.pgv_row.specs.declared.error.ColumnError.TheVariants.{NotFound};
 ghost use Rattle.pgv_row.specs.Outcome.{Gives, IsRead};
 ghost use Rattle.pgv_row.specs.Places.{part_at, IsWithin};
-ghost use Rattle.pgv_row.specs.RowBytesView.{body_of};
+ghost use Rattle.pgv_row.specs.RowParts.{body_of, capacity};
 ghost use Rattle.pgv_row.specs.RowView.{column_there};
 ghost use Rattle.pgv_row.specs.Tuples.{or_codec};
 ghost use Rattle.pgv_row.specs.Values.{column_value, parse_by, raw_value, unchecked_value};
@@ -30,30 +30,19 @@ pub struct PgPlaces {
     list: Vec<Option<Place>>,
 }
 
-impl Model for PgPlaces {
-    ghost use Rattle.std.specs.Prelude.{ℕ, vec_capacity};
-    ghost use Rattle.std.specs.Coded.{coded_ℕ};
-
-    ghost Value = { ℕ };
-
-    ghost coded = { coded_ℕ };
-
-    ghost view = { λ p. vec_capacity p.list };
-}
-
 impl PgPlaces {
     /// Room for no place. It takes no memory yet.
     pub fn new(alloc: Global) -> PgPlaces
-        ensures { result ≡ 0 }
+        ensures { capacity result ≡ 0 }
     {
         PgPlaces {
             list: Vec::new(alloc),
         }
     }
 
-    /// Room for the places of rows of these columns, so that no row is refused for memory. C1 where that can't be had.
+    /// Room for as many places as there are columns, so that reading a row in it asks for no memory. C1 where that can't be had.
     pub fn with_columns(alloc: Global, columns: &PgColumns<'_>) -> Result<PgPlaces, AllocError>
-        ensures { IfOk result (λ room. length columns.now ≤ room) }
+        ensures { IfOk result (λ room. length columns.now ≤ capacity room) }
     {
         let list = Vec::with_capacity(alloc, columns.len())?;
         Ok(PgPlaces { list })
@@ -79,7 +68,7 @@ enum RowBytes<'a> {
 
 impl<'a> Model for PgRow<'a> {
     ghost use Rattle.pgv_row.specs.Places.{parts_at, AreWithin};
-    ghost use Rattle.pgv_row.specs.RowBytesView.{body_of};
+    ghost use Rattle.pgv_row.specs.RowParts.{body_of};
     ghost use Rattle.pgv_row.specs.RowView.{Row, row_code};
 
     ghost Value = { Row };
@@ -121,8 +110,7 @@ impl<'a> PgRow<'a> {
     /// is read with the same room. `0002 00000001 37 ffffffff` is a row of two columns, `7` and null.
     ///
     /// Another number of columns is refused with C12, bytes that end too early with C15, a negative length but the -1 of null with C16,
-    /// and bytes after the last column with C17. C1 comes only where the
-    /// room has fewer places than there are columns, and so never in a room of [`PgPlaces::with_columns`].
+    /// and bytes after the last column with C17. C1 comes only where the room has fewer places than there are columns.
     #[inline(always)]
     pub fn read(
         columns: &'a PgColumns<'a>,
@@ -130,10 +118,11 @@ impl<'a> PgRow<'a> {
         body: &'a [u8],
     ) -> Result<Self, CodecError>
         ensures columns { IfOk result (λ row. row.columns ≡ columns.now) }
-        ensures read { Gives (λ row. row.parts) (data_row room.old (length columns.now) body.now) result }
+        ensures read { let row = data_row (capacity room.old) (length columns.now) body.now in
+            Gives (λ r. r.parts) row result }
         // What is answered is the row that the body is, and nothing but memory keeps such a row from being answered.
         ensures exact { IsRead (λ row. row.parts) (IsDataRow (length columns.now) body.now) result }
-        ensures memory { length columns.now ≤ room.old → IfErr result (λ e. e ≢ Memory) }
+        ensures memory { length columns.now ≤ capacity room.old → IfErr result (λ e. e ≢ Memory) }
     {
         let columns = columns.as_slice();
         find_places(&mut room.list, body, columns.len())?;
@@ -153,10 +142,11 @@ impl<'a> PgRow<'a> {
         body: &'a Bytes,
     ) -> Result<Self, CodecError>
         ensures columns { IfOk result (λ row. row.columns ≡ columns.now) }
-        ensures read { Gives (λ row. row.parts) (data_row room.old (length columns.now) body.now) result }
+        ensures read { let row = data_row (capacity room.old) (length columns.now) body.now in
+            Gives (λ r. r.parts) row result }
         // What is answered is the row that the body is, and nothing but memory keeps such a row from being answered.
         ensures exact { IsRead (λ row. row.parts) (IsDataRow (length columns.now) body.now) result }
-        ensures memory { length columns.now ≤ room.old → IfErr result (λ e. e ≢ Memory) }
+        ensures memory { length columns.now ≤ capacity room.old → IfErr result (λ e. e ≢ Memory) }
     {
         let columns = columns.as_slice();
         find_places(&mut room.list, body.as_slice(), columns.len())?;
@@ -186,6 +176,13 @@ impl<'a> PgRow<'a> {
         ensures { result ≡ length self.now.columns }
     {
         self.columns.len()
+    }
+
+    /// Whether there is no column.
+    pub fn is_empty(&self) -> bool
+        ensures { result ≡ (length self.now.columns == 0) }
+    {
+        self.columns.is_empty()
     }
 
     /// The columns.
