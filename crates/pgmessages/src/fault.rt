@@ -69,7 +69,14 @@ impl From<CodecError> for Fault {
 
 impl From<ColumnError<usize>> for Fault {
     fn from(error: ColumnError<usize>) -> Fault {
-        Fault::Codec(error.into())
+        match error {
+            ColumnError::NotFound { index: _, place } => Fault::Codec(CodecError::NoField(place)),
+            ColumnError::Decode {
+                index: _,
+                place: _,
+                source,
+            } => Fault::Codec(source),
+        }
     }
 }
 
