@@ -101,7 +101,16 @@ impl Came {
     ) -> Result<(), Fault> {
         match message.tag {
             b'T' => self.show_columns(alloc, message.body, known, out),
-            b'D' => self.show_values(alloc, message.body, known, out),
+            b'D' => show_values(
+                alloc,
+                self.description.as_slice(),
+                self.is_bound,
+                message.body,
+                known,
+                self.is_catalog.then_some(self.statements),
+                &mut self.rows,
+                out,
+            ),
             b'H' => self.begin_copy(alloc, message.body, out),
             b'd' => {
                 self.stream.extend_from_slice(message.body)?;
@@ -128,7 +137,7 @@ impl Came {
         known: &Known,
         out: &mut String,
     ) -> Result<(), Fault> {
-        self.statements += 1;
+        self.statements = self.statements.saturating_add(1);
         self.is_bound = false;
         self.description.clear();
         self.description.extend_from_slice(body)?;
@@ -137,28 +146,6 @@ impl Came {
         for column in columns.as_slice() {
             let text = format!(in alloc; " {}:{}", column.name(), column.type_info())?;
             out.push_str(text.as_str())?;
-        }
-        Ok(())
-    }
-
-    /// Appends the values of a row, and keeps it where it is one of the catalogue.
-    fn show_values(
-        &mut self,
-        alloc: Global,
-        body: &[u8],
-        known: &Known,
-        out: &mut String,
-    ) -> Result<(), Fault> {
-        let mut columns = PgColumns::read(alloc, self.description.as_slice(), &known.types)?;
-        if self.is_bound {
-            columns.set_format(PgValueFormat::Binary);
-        }
-        let mut room = PgPlaces::with_columns(alloc, &columns)?;
-        let row = PgRow::read(&columns, &mut room, body)?;
-        out.push_str("row")?;
-        show_row(alloc, &row, out)?;
-        if self.is_catalog {
-            keep_row(alloc, &row, self.statements, &mut self.rows)?;
         }
         Ok(())
     }
@@ -177,6 +164,44 @@ impl Came {
             known.types = PgServerTypes::resolve(alloc, &self.rows)?;
         }
         Ok(())
+    }
+}
+
+/// Appends the values of a row under a description, in binary where parameters were bound, and keeps it where it is one of a statement of the catalogue.
+fn show_values(
+    alloc: Global,
+    description: &[u8],
+    is_bound: bool,
+    body: &[u8],
+    known: &Known,
+    statement: Option<usize>,
+    rows: &mut PgCatalogRows,
+    out: &mut String,
+) -> Result<(), Fault> {
+    let mut columns = PgColumns::read(alloc, description, &known.types)?;
+    if is_bound {
+        columns.set_format(PgValueFormat::Binary);
+    }
+    let mut room = PgPlaces::with_columns(alloc, &columns)?;
+    show_one(alloc, &columns, &mut room, body, statement, rows, out)
+}
+
+/// The same under these columns.
+fn show_one(
+    alloc: Global,
+    columns: &PgColumns<'_>,
+    room: &mut PgPlaces,
+    body: &[u8],
+    statement: Option<usize>,
+    rows: &mut PgCatalogRows,
+    out: &mut String,
+) -> Result<(), Fault> {
+    let row = PgRow::read(columns, room, body)?;
+    out.push_str("row")?;
+    show_row(alloc, &row, out)?;
+    match statement {
+        Some(statement) => keep_row(alloc, &row, statement, rows),
+        None => Ok(()),
     }
 }
 
