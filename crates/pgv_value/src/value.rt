@@ -4,6 +4,8 @@ ghost use Rattle.std.specs.Prelude.{◌≡◌, ◌<◌, ◌≤◌, slice_range, 
 ghost use Rattle.std.specs.Option.{option_copied};
 ghost use Rattle.pgv_types.specs.Facts.{IsNotCustom};
 ghost use Rattle.pgv_value.specs.FrameBinary.{front, frame_fault};
+ghost use Rattle.pgv_value.specs.Fronts.{format_of};
+ghost use Rattle.pgv_value.specs.Parsed.{GivesExactly};
 ghost use Rattle.pgv_value.specs.RowView.{held_bytes};
 ghost use Rattle.pgv_value.specs.Utf8.{is_utf8, RefusesText};
 ghost use Rattle.pgv_value.specs.declared.error.CodecError.TheVariants.{UnexpectedNull, Memory};
@@ -27,6 +29,19 @@ pub enum PgValueFormat {
 
 /// A message has a format as this number (PostgreSQL, "Message Formats", Bind).
 const _: () = prove!(PgValueFormat::Text as u8 == 0 && PgValueFormat::Binary as u8 == 1);
+
+impl PgValueFormat {
+    /// The format of a code in a message: 0 is text and 1 binary. Any other is refused with C30.
+    pub fn from_code(code: u16) -> Result<PgValueFormat, CodecError>
+        ensures { GivesExactly (λ format. format) (format_of code) result }
+    {
+        match code {
+            0 => Ok(PgValueFormat::Text),
+            1 => Ok(PgValueFormat::Binary),
+            _ => Err(CodecError::OutOfRange),
+        }
+    }
+}
 
 /// A value that has its own bytes, or shares those of its row, and so outlives the reference that it was made
 /// from. It is made by [`PgValueRef::to_owned`] and read through [`PgValue::as_ref`].
