@@ -1,4 +1,4 @@
-//! What networks and addresses are, as [`rows`](super::rows) has it of other types.
+//! Laws that say what networks and addresses are, as [`rows`](super::rows) does for other types.
 
 ghost use Rattle.std.specs.Prelude.{◌≡◌, None};
 ghost use Rattle.pgv_types.specs.Ty.{Ty, builtin};
