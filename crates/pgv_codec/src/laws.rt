@@ -1,5 +1,5 @@
-//! Laws of codecs: what tuples and `()` read, and what a written value is read back as. Each is the contract of a function
-//! that does nothing.
+//! Laws of codecs: what tuples and `()` read, and what a written value is read back as. Each is the contract of a
+//! function that does nothing.
 
 ghost use Rattle.std.specs.Prelude.{◌≡◌, ◌↔◌, ◌<◌, ◌^◌, ℕ, List, ◌∷◌, Option, Some, None};
 ghost use Rattle.pgv_types.specs.Ty.{Ty, builtin};

@@ -69,11 +69,11 @@ pub trait Encode {
     /// The type of this value, where it isn't the one that its Rust type has.
     ghost produced: { Self → Option Ty } = { λ _. None };
 
-    /// Which refusal is answered where a value has no image, out of memory aside: none where the type doesn't state it.
+    /// The refusal of a value that has no image, unless memory runs out; `None` if the type doesn't state it.
     ghost unwritable: { Self → Option CodecError } = { λ _. None };
 
-    /// Whether memory may be asked for before a value without an image is refused. Where it isn't, it is refused with what `unwritable`
-    /// states, and where that is none, with anything but out of memory (C1).
+    /// Whether memory may be asked for before a value without an image is refused. If `false`, the refusal is
+    /// `unwritable`, or, if that is `None`, any but [`Memory`](CodecError::Memory) (C1).
     ghost asks_first: { Self → Bool } = { λ _. true };
 
     /// Appends the value's image. `Yes` says that it is null, and then nothing was appended.
@@ -93,9 +93,9 @@ pub trait Encode {
         ensures ok { IfOk result (λ t. t ≡ produced self.now) }
         ensures err { OnErr result (is_copied (produced self.now) ≡ true) };
 
-    /// Appends the value's frame, where its length is known before its image is written. `false` says that nothing was appended, and
-    /// [`PgArgumentBuffer::encode`] then writes the frame by [`encode_by_ref`](Encode::encode_by_ref). C1 may have appended
-    /// something. It is for speed alone.
+    /// Appends the value's frame, where its length is known before its image is written. `false` says that nothing was
+    /// appended, and [`PgArgumentBuffer::encode`] then writes the frame by [`encode_by_ref`](Encode::encode_by_ref). C1
+    /// may have appended something. It is for speed alone.
     #[inline(always)]
     fn encode_at_once(&self, out: &mut PgArgumentBuffer) -> Result<bool, CodecError>
         ensures ok { IfOk result (λ done. AtOnce done (frame (hint self.now) (image self.now)) out.old out.new) }
@@ -109,8 +109,8 @@ pub trait Encode {
 
 /// A value that can be read from null or bytes.
 ///
-/// A decoder answers a value exactly where the grammar that it states gives it one, and it refuses, but for want
-/// of memory (C1), exactly where the grammar gives none.
+/// A decoder returns a value exactly where the grammar that it states has one, and it refuses, unless memory runs
+/// out (C1), exactly where the grammar has none.
 pub trait Decode: Sized + Drop {
     /// What a value says, without where it lies in memory.
     ghost Meaning: { Type 0 };
@@ -124,13 +124,14 @@ pub trait Decode: Sized + Drop {
     /// What is written of a meaning under a type, where values are written too (see [`Codec`]), and else no image.
     ghost written: { Ty → Meaning → Saying };
 
-    /// Whether reading may ask for memory, by type, format and bytes. Where it doesn't, it is refused only where nothing is read, and
-    /// with what `refusal` states, and where that is none, with anything but out of memory (C1): what is seen before the first request
-    /// is answered as itself.
+    /// Whether reading may ask for memory, by type, format and bytes. If `false`, it is refused only where nothing is
+    /// read, with `refusal`, or, if that is `None`, with any but [`Memory`](CodecError::Memory) (C1): a fault that is
+    /// seen before the first request for memory is returned as itself.
     ghost takes_memory: { Ty → Format → Option (List ℕ) → Bool } = { λ _ _ _. true };
 
-    /// Which refusal is answered, out of memory aside, by type, format and bytes: none where the type doesn't state it. A plain type
-    /// that was given bytes never answers that it was given null (C13); a nest passes on what a part of it is refused with.
+    /// The refusal of what can't be read, unless memory runs out, by type, format and bytes; `None` if the type doesn't
+    /// state it. A plain type that is given bytes never returns [`UnexpectedNull`](CodecError::UnexpectedNull) (C13);
+    /// an array, a range or a record passes on the refusal of its part.
     ghost refusal: { Ty → Format → Option (List ℕ) → Option CodecError } = { λ _ _ _. None };
 
     /// The value that is read. Null is refused with C13, exactly where the type doesn't read null.
@@ -163,8 +164,8 @@ pub trait Codec: Type + Encode + Decode {
     ghost agrees: { (v : Self) → said Self.hint Self.image Self.produced Self.info v ≡ Self.written Self.info (Self.meaning v) };
 }
 
-/// A value that is not made of others, as a number, a text or a date: it is read under whatever type it is given, and what
-/// was written comes back under every type. From this one impl it has [`Decode`], [`ReadBack`] and [`Codec`].
+/// A value that is not made of others, as a number, a text or a date: it is read under whatever type it is given, and
+/// what was written comes back under every type. From this one impl it has [`Decode`], [`ReadBack`] and [`Codec`].
 pub trait Plain: Type + Encode + Sized + Drop {
     /// What a value says, without where it lies in memory.
     ghost Meaning: { Type 0 };
@@ -178,7 +179,8 @@ pub trait Plain: Type + Encode + Sized + Drop {
     /// What is written of a meaning under a type.
     ghost written: { Ty → Meaning → Saying };
 
-    /// Whether reading may ask for memory, by type, format and bytes. Where it doesn't, it is never refused as out of memory.
+    /// Whether reading may ask for memory, by type, format and bytes. Where it doesn't, it is never refused as out of
+    /// memory.
     ghost takes_memory: { Ty → Format → Option (List ℕ) → Bool } = { λ _ _ _. false };
 
     /// Which refusal is answered, out of memory aside, by the format and the bytes.
@@ -234,14 +236,16 @@ impl<T: Plain> Codec for T {
     ghost agrees = { T.agrees };
 }
 
-/// What a [`BuiltIn`] is said of, in place of `T`: so that what follows from it stands beside the impls for references, which have none.
+/// Carries the [`BuiltIn`] of `T`. If `T` itself had it, the impls that follow from it would overlap with those for
+/// `&T`.
 pub struct Of<T>(PhantomData<T>);
 
-/// That an `Of<Self>` has a [`BuiltIn`]. No crate above this one can say so of its own types: there all impls are written out.
+/// Marks that `Of<Self>` has a [`BuiltIn`]. Crates above this one can't mark their own types: there all impls are
+/// written out.
 pub trait HasBuiltIn {}
 
-/// The built-in type that the values of `T` have, and the type of their arrays, said of an `Of<T>`: each is read under it and domains
-/// over it. From this one impl `T` has [`Type`] and [`PgHasArrayType`].
+/// The built-in type that the values of `T` have, and the type of their arrays, said of an `Of<T>`: each is read under
+/// it and domains over it. From this one impl `T` has [`Type`] and [`PgHasArrayType`].
 pub trait BuiltIn {
     /// The type of the values.
     ghost INFO: { Ty };
@@ -256,7 +260,8 @@ pub trait BuiltIn {
     const ARRAY_INFO: PgTypeInfo;
 }
 
-/// A value of a [`BuiltIn`] type that is written with one size hint and never as of another type. From this one impl it has [`Encode`].
+/// A value of a [`BuiltIn`] type that is written with one size hint and never as of another type. From this one impl it
+/// has [`Encode`].
 pub trait Scalar {
     /// A number of bytes that a value says to need.
     ghost SIZE: { ℕ };
@@ -264,7 +269,7 @@ pub trait Scalar {
     /// What a value is written as.
     ghost form: { Self → Option Image };
 
-    /// Which refusal is answered where a value has no image, out of memory aside: none where the type doesn't state it.
+    /// The refusal of a value that has no image, unless memory runs out; `None` if the type doesn't state it.
     ghost formless: { Self → Option CodecError } = { λ _. None };
 
     /// A number of bytes that a value says to need.

@@ -1,5 +1,5 @@
-//! Laws of COPY streams in binary: each is the contract of a function that does nothing. They speak of `step`; the contract
-//! of [`PgCopyReader::next_row`](crate::PgCopyReader::next_row) says that a call is one step.
+//! Laws of COPY streams in binary: each is the contract of a function that does nothing. They speak of `step`; the
+//! contract of [`PgCopyReader::next_row`](crate::PgCopyReader::next_row) says that a call is one step.
 
 ghost use Rattle.std.specs.Prelude.{◌≡◌, Ok, Err, IfOk, IfErr};
 ghost use Rattle.pgv_copy.specs.CopyStream.{CopyIsItsRows, RowsAreOfACopy, CutCopyIsShort, CutHeaderIsShort};

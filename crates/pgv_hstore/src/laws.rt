@@ -1,4 +1,4 @@
-//! What is proved of maps and of the definitions that say what they are. Each law is the contract of a function that does nothing.
+//! Laws of hstore's maps and of their binary form. Each is the contract of a function that does nothing.
 
 ghost use Rattle.std.specs.Prelude.{◌≡◌, codes, List};
 ghost use Rattle.pgv_types.specs.Ty.{array_of, named, Ty};

@@ -1,5 +1,5 @@
-//! Laws that say what dates, times, date-times and instants are, as [`rows`](super::rows) does for other types. Dates and
-//! moments count from 2000-01-01.
+//! Laws that say what dates, times, date-times and instants are, as [`rows`](super::rows) does for other types. Dates
+//! and moments count from 2000-01-01.
 
 ghost use Rattle.std.specs.Prelude.{◌≡◌, ◌*◌, ◌/◌, None};
 ghost use Rattle.jiff.specs.Words.{civil_nanos, epoch_day, time_nanos};

@@ -12,8 +12,8 @@ use pgv_codec::{Decode, Encode, PgHasArrayType, Type};
 use pgv_value::PgInterval;
 use std::time::Duration;
 
-/// A `PgInterval` is an interval (OID 1186): microseconds, days and months, as `00000000d693a4000000000000000000` for an hour.
-/// Its arrays are `interval[]` (1187).
+/// A `PgInterval` is an interval (OID 1186): microseconds, days and months, as `00000000d693a4000000000000000000` for
+/// an hour. Its arrays are `interval[]` (1187).
 pub fn pg_interval_is_an_interval()
     ensures types { IsBuiltIn 1186 ⟦<PgInterval as Type>⟧.info ⟦<PgInterval as Type>⟧.accepts }
     ensures arrays { IsBuiltIn 1187 ⟦<PgInterval as PgHasArrayType>⟧.array_info ⟦<PgInterval as PgHasArrayType>⟧.accepts_array }

@@ -1,9 +1,9 @@
-//! Laws that say what each type is: the type that its values and its arrays have, the types under which they are read, what
-//! they are written as and what is read. PostgreSQL lists the OIDs in `pg_type`; the binary forms are those of its send
-//! functions.
+//! Laws that say what each type is: the type that its values and its arrays have, the types under which they are read,
+//! what they are written as and what is read. PostgreSQL lists the OIDs in `pg_type`; the binary forms are those of its
+//! send functions.
 //!
-//! Each is the contract of a function that does nothing. A codec that reads nothing, or writes nothing, meets its trait's
-//! contract; it does not meet its row.
+//! Each is the contract of a function that does nothing. A codec that reads nothing, or writes nothing, meets its
+//! trait's contract; it does not meet its row.
 
 ghost use Rattle.std.specs.Prelude.{◌≡◌, option_map, string_bytes, map};
 ghost use Rattle.std.specs.Int.{w8, w16, w32, w64};

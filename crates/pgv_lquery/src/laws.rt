@@ -1,5 +1,5 @@
-//! What is proved of queries of label trees and of the definitions that say what they are. Each law is the contract of a function that
-//! does nothing.
+//! Laws of queries of label trees and of their text. Each is the contract of a function that does nothing but look at a
+//! query.
 
 ghost use Rattle.std.specs.Prelude.{◌≡◌, ◌↔◌, ◌&&◌, List, true, None};
 ghost use Rattle.std.specs.List.{list_all};

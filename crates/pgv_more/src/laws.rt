@@ -1,5 +1,5 @@
-//! What is proved of these types and of the definitions that say what they are. Each law is the contract of a function that does
-//! nothing.
+//! Laws of bits, MAC addresses, times with offsets, bytes and texts without case. Each is the contract of a function
+//! that does nothing.
 
 ghost use Rattle.std.specs.Prelude.{◌≡◌, ◌↔◌, ℕ, Bool, false, true, List, Some, None, codes, string_bytes};
 ghost use Rattle.jiff.specs.Words.{time_nanos};
@@ -51,8 +51,8 @@ pub fn mac_address_is_a_macaddr()
     ensures refused { IsRefusedAs mac_refusal ⟦<crate::MacAddress as Decode>⟧.refusal × TakesNone ⟦<crate::MacAddress as Decode>⟧.takes_memory }
 {}
 
-/// A `PgTimeTz` is a timetz (OID 1266), the microseconds of the day and the seconds west of UTC, as `0000000a7a358200ffffe3e0` for
-/// 12:30 two hours east. Its arrays are `timetz[]` (1270).
+/// A `PgTimeTz` is a timetz (OID 1266), the microseconds of the day and the seconds west of UTC, as
+/// `0000000a7a358200ffffe3e0` for 12:30 two hours east. Its arrays are `timetz[]` (1270).
 pub fn time_tz_is_a_timetz()
     ensures types { IsBuiltIn 1266 ⟦<crate::PgTimeTz as Type>⟧.info ⟦<crate::PgTimeTz as Type>⟧.accepts }
     ensures arrays { IsBuiltIn 1270 ⟦<crate::PgTimeTz as PgHasArrayType>⟧.array_info ⟦<crate::PgTimeTz as PgHasArrayType>⟧.accepts_array }

@@ -1,5 +1,4 @@
-//! What is proved of these types and of the definitions that say what they are. Each law is the contract of a function that does
-//! nothing.
+//! Laws of numerics and of amounts of money. Each is the contract of a function that does nothing.
 
 ghost use Rattle.std.specs.Prelude.{◌≡◌, ◌↔◌, true, List};
 ghost use Rattle.std.specs.Int.{w64};

@@ -1,5 +1,5 @@
-//! Laws of ranges: what they are in binary and in text, what they are read back as, and what each type of this crate is.
-//! Each is the contract of a function that does nothing.
+//! Laws of ranges: what they are in binary and in text, what they are read back as, and what each type of this crate
+//! is. Each is the contract of a function that does nothing.
 
 ghost use Rattle.std.specs.Prelude.{◌≡◌, ◌↔◌, ℕ, false, true, List, Some, None};
 ghost use Rattle.std.specs.Range.{range_inclusive_start, range_inclusive_end};
@@ -73,8 +73,10 @@ pub fn null_is_no_range<T: Type + Decode>()
     ensures text { (t : Ty) → ⟦<PgRange<T> as Decode>⟧.reading t Text None ≡ None }
 {}
 
-/// Of a range of any bounds, what is written is a flag byte and the frames of its bounds, its meaning and what it keeps
-/// are those of its bounds, included or excluded as they were, and the empty range is a flag byte and is kept.
+/// A range is written as a flag byte and the frames of its bounds, and its meaning, what is read as it, its refusals
+/// and what it keeps are made of those of its bounds, included or excluded as they were.
+///
+/// The empty range is a flag byte, and is kept.
 pub fn ranges_are_their_bounds<T: ReadBack + Type>()
     ensures written { IsWrittenAs (range_image T.hint T.image) ⟦<PgRange<T> as Encode>⟧.hint ⟦<PgRange<T> as Encode>⟧.image ⟦<PgRange<T> as Encode>⟧.produced }
     ensures means { ⟦<PgRange<T> as Decode>⟧.meaning ≡ range_meaning T.meaning }

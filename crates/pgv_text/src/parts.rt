@@ -243,7 +243,7 @@ impl<'a> Parts<'a> {
         }
     }
 
-    /// The parts of a text between brackets, said of its bytes.
+    /// As [`new`](Parts::new), for a text between brackets; the contract speaks of bytes.
     fn begun(form: TextForm, text: &'a str) -> Option<Self>
         ensures exact { option_map nest result ≡ nest_read (form_of form) text.now }
         ensures bounded { IfSome result (λ p. is_of_empty p ≡ false) }
@@ -331,10 +331,10 @@ impl<'a> Parts<'a> {
         Ok(Some(present))
     }
 
-    /// The next part: borrowed where its bytes stand in the text one after another, alone or in quotes, else put into a text that is
-    /// handed in. `None` after the last part. Out of memory it leaves the parts as they were; no memory
-    /// is asked for a part that is borrowed.
-    /// Of the array `{a,"b c"}` they are `a` and `b c`, both borrowed, and then there is none.
+    /// The next part: borrowed where its bytes stand in the text one after another, alone or in quotes, else put into a
+    /// text that is handed in. `None` after the last part. Out of memory it leaves the parts as they were; no memory is
+    /// asked for a part that is borrowed. Of the array `{a,"b c"}` they are `a` and `b c`, both borrowed, and then
+    /// there is none.
     #[inline(always)]
     pub fn next_borrowed(&mut self, text: &mut String) -> Result<Option<Part<'a>>, AllocError>
         ensures next { IfOk result (λ found. MatchOption found (((nest self.old).values ≡ []) × (self.new ≡ self.old)) (λ part. (nest self.old).values ≡ part_value part (string_bytes text.new) ∷ (nest self.new).values)) }

@@ -52,15 +52,15 @@ pub enum Place {
 /// What a byte does.
 #[derive(Clone, Copy, PartialEq, Eq, Drop)]
 pub enum Cell {
-    /// It belongs to the part's text.
+    /// It belongs to the part's text, and the part continues.
     Keep(Place),
-    /// It doesn't, and the part goes on.
+    /// It is dropped (a quote or a backslash), and the part continues.
     Pass(Place),
     /// The part ends, and another begins.
     Part,
-    /// The part ends, and the text.
+    /// The part ends, and the text with it.
     End,
-    /// No text goes on so.
+    /// No valid text continues with this byte.
     Refuse,
 }
 

@@ -43,10 +43,10 @@ pub enum CodecError {
     /// C9: a number of pairs, or the length of a key or a value, that an hstore can't have.
     #[error("an hstore length of {0}")]
     HstoreLength(i64),
-    /// C10: as many parameter types as arguments are wanted.
+    /// C10: there is not exactly one parameter type for each argument.
     #[error("not one parameter type for each argument")]
     ParameterCount,
-    /// C11: as many OIDs as holes are wanted.
+    /// C11: there is not exactly one OID for each hole.
     #[error("not one OID for each hole")]
     HoleCount,
     /// C12: more fields than a record can have, or a row of another width.
@@ -121,10 +121,10 @@ pub enum CodecError {
     /// C35: an hstore key is null.
     #[error("an hstore key is null")]
     HstoreNullKey,
-    /// C36: a label tree that is none.
+    /// C36: not a valid label tree.
     #[error("not a label tree: {0}")]
     LTree(PgLTreeParseError),
-    /// C37: a query of label trees that is none.
+    /// C37: not a valid query of label trees.
     #[error("not a query of label trees: {0}")]
     LQuery(PgLQueryParseError),
     /// C38: refused by a caller's own codec.

@@ -1,5 +1,5 @@
-//! Laws of what buffers and arguments hold, and of what is read back from them: each is the contract of a function that does
-//! nothing. The laws of codecs are in `pgv_codec`, those of arrays and records in binary in `pgv_nest`.
+//! Laws of what buffers and arguments hold, and of what is read back from them: each is the contract of a function that
+//! does nothing. The laws of codecs are in `pgv_codec`, those of arrays and records in binary in `pgv_nest`.
 
 ghost use Rattle.std.specs.Prelude.{◌≡◌, ℕ, List, [], length, Some};
 ghost use Rattle.pgv_types.specs.Ty.{Ty};
@@ -34,7 +34,7 @@ pub fn main_sentence<T: ReadBack>()
     ensures { MainSentence T.hint T.image T.reading (λ v. T.meaning (T.kept v)) T.fits }
 {}
 
-/// A call of which its contract's clause holds is a step of the lists of calls of which [`main_sentence`] speaks.
+/// Each call that meets its contract is a step in the lists of calls of [`main_sentence`].
 ///
 /// The clause `ok` of [`PgArguments::add`] and [`add_by_ref`](PgArguments::add_by_ref) makes the call the addition of
 /// the value's frame; a refusal with anything but out of memory is the step of a value without a frame; a call that
