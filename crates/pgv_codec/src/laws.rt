@@ -181,7 +181,7 @@ pub fn plain_types_fit()
 {}
 
 /// `None` fits every type and `Some` fits where its value does; lists, arrays and fields fit where the types of their
-/// parts are found by the OIDs that were written.
+/// parts are found by the OIDs that were written, and the parts fit these types.
 ///
 /// A list or an array fits exactly where the type of its elements is found by the OID that was written (the built-in
 /// type of this OID, or, if there is none, the element of the array's type), and each element fits that type; so it
