@@ -21,8 +21,8 @@ ghost use Rattle.pgv_codec.specs.TypeRow.{TakesNone};
 use crate::traits::{Codec, Decode, Plain, ReadBack, Type};
 use crate::types::field_list::{FieldList, KeptList};
 
-/// A tuple reads, means, refuses and asks for memory as a record does whose fields are the tuple's, as a list: `(A, (B,
-/// (C,)))` for `(A, B, C)`.
+/// A tuple reads, means, refuses and asks for memory as a record does whose fields are the tuple's, as a list:
+/// `(A, (B, (C,)))` for `(A, B, C)`.
 ///
 /// A record that can't be begun is refused first, and else the first field that can't be read. Memory is asked for only
 /// where there is a record.

@@ -1,6 +1,6 @@
 //! The codecs of values: what a value is written as and what is read from bytes, for std's types, for `Uuid`, and for
 //! what is made of them. A value's [`Type`] names its type, [`Encode`] writes it into a [`PgArgumentBuffer`],
-//! [`Decode`] reads it, and [`ReadBack`] says what comes back of what was written. The module [`laws`] holds what is
+//! [`Decode`] reads it, and [`ReadBack`] says what a written value is read back as. The module [`laws`] has what is
 //! proved of all of them.
 //!
 //! A caller's record writes its fields by a [`PgRecordEncoder`], each by reference: `record.encode(&self.id)?` also where the field could be

@@ -25,7 +25,7 @@ pub fn cut_header_is_short()
 {}
 
 /// A stream that is cut off anywhere is refused with [`Short`](CodecError::Short) (C15) in its header, or rows of it
-/// are returned, from the first on, and each call after them is refused with C15.
+/// are returned, from the first on, and each call after them is refused with [`Short`](CodecError::Short) (C15).
 pub fn cut_copy_is_short()
     ensures { CutCopyIsShort }
 {}

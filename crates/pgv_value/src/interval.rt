@@ -6,8 +6,8 @@ use crate::error::CodecError;
 use jiff::SignedDuration;
 use std::time::Duration;
 
-/// An interval: months, days and microseconds, each with a sign of its own. `1 month` isn't a number of days, nor `1
-/// day` one of hours.
+/// An interval: months, days and microseconds, each with a sign of its own. `1 month` isn't a number of days, nor
+/// `1 day` one of hours.
 #[derive(Clone, Copy, Debug, PartialEq, Eq, Hash)]
 pub struct PgInterval {
     /// Months, of which twelve are a year.
@@ -53,7 +53,8 @@ impl TryFrom<Duration> for PgInterval {
     }
 }
 
-/// The same of a duration with a sign: C5 past -9223372036854775808 and 9223372036854775807 microseconds.
+/// The same for a duration with a sign: [`IntervalOverflow`](CodecError::IntervalOverflow) (C5) past
+/// -9223372036854775808 and 9223372036854775807 microseconds.
 impl TryFrom<SignedDuration> for PgInterval {
     ghost use Rattle.std.specs.Prelude.{◌≡◌};
     ghost use Rattle.jiff.specs.Words.{signed_nanos};
