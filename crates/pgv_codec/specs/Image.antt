@@ -72,7 +72,7 @@ array_of_frames t n (Some fs) = cond (nat_le n limit) (array_after (header t n) 
 abbrev pub array_image : {X : Type 0} → (X → ℕ) → (X → Option Image) → (X → Option Ty) → Ty → List X → Option Image
 array_image hint image produced info xs = array_of_frames (written_element_type produced info xs) (length xs) (written_frames hint image xs)
 
--- an array of n elements; a list of another number is none
+-- an array of n elements; a list of another length has no image
 abbrev pub sized_image : {X : Type 0} → ℕ → (X → ℕ) → (X → Option Image) → (X → Option Ty) → Ty → List X → Option Image
 sized_image n hint image produced info xs = cond (nat_eq (length xs) n) (array_image hint image produced info xs) None
 

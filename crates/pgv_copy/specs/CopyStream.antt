@@ -73,14 +73,14 @@ row_answers types rows = map (λ row. Ok (Some (values types row))) rows
 
 -- ---- a stream is read as its rows
 
--- The header is passed over. The calls after it answer the rows, and from then on that there is none.
+-- The header is passed over. The calls after it return the rows, and then that there is no further row.
 abbrev pub CopyIsItsRows : Type 0
 CopyIsItsRows =
     (types : List Ty) (bytes : List ℕ) (rows : List (List Part)) (follows : List ℕ) → IsCopy (length types) bytes rows follows →
     (rest : List ℕ) × (header bytes ≡ Ok rest) ×
     ((n : ℕ) → answers (length rows + n) (before types rest) ≡ row_answers types rows ++ replicate n (Ok None))
 
--- What bytes are read as rows and an end are a stream of these rows.
+-- Bytes that are read as rows and then an end are a stream of these rows.
 abbrev pub RowsAreOfACopy : Type 0
 RowsAreOfACopy =
     (types : List Ty) (bytes rest : List ℕ) (rows : List (List Given)) → AreBytes bytes → header bytes ≡ Ok rest →

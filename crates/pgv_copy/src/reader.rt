@@ -45,8 +45,10 @@ impl<'r> PgCopyReader<'r> {
     /// A reader of the rows of a stream whose columns have these types. The header is read: its flags 0 to 15 and its extension
     /// are passed over.
     ///
-    /// A wrong signature, also one that is cut off, and a set flag of 16 to 31 (16 means that rows have OIDs) are refused with C29,
-    /// bytes that end within a header with C15, and a negative length of the extension with C16.
+    /// A wrong signature, also one that is cut off, and a set flag of 16 to 31 (16 means that rows have OIDs) are
+    /// refused with [`Syntax`](CodecError::Syntax) (C29), bytes that end within a header with
+    /// [`Short`](CodecError::Short) (C15), and a negative length of the extension with
+    /// [`NegativeLength`](CodecError::NegativeLength) (C16).
     pub fn new(bytes: &'r [u8], types: Vec<PgTypeInfo>) -> Result<Self, CodecError>
         ensures found { IfOk result (λ r. (rest : _) × (header bytes.now ≡ Ok rest) × (r ≡ before types.items rest)) }
         ensures refused { IfErr result (λ e. header bytes.now ≡ Err e) }
@@ -61,10 +63,12 @@ impl<'r> PgCopyReader<'r> {
     /// The next row, a value in binary format for each column, or none at the end of the stream and ever after; bytes after the
     /// end are ignored. The values live as long as the bytes of the stream.
     ///
-    /// Where the bytes end before the stream does it is C15, a negative number of fields but the -1 of the end C16, another
-    /// number than that of the columns C12, and a negative length of a field but the -1 of null C16. A refused call leaves the
-    /// reader as it was. The list is all that takes memory (C1), from the allocator of the types, beside a custom type, which is
-    /// copied: so C1 comes only where the fields of a row are read, and not at the trailer or after it.
+    /// Where the bytes end before the stream does it is [`Short`](CodecError::Short) (C15), a negative number of fields
+    /// but the -1 of the end [`NegativeLength`](CodecError::NegativeLength) (C16), another number than that of the
+    /// columns [`FieldCount`](CodecError::FieldCount) (C12), and a negative length of a field but the -1 of null
+    /// [`NegativeLength`](CodecError::NegativeLength) (C16). A refused call leaves the reader as it was. The list is
+    /// all that takes memory (C1), from the allocator of the types, beside a custom type, which is copied: so C1 comes
+    /// only where the fields of a row are read, and not at the trailer or after it.
     #[inline(always)]
     #[tactic(auto, unfolding(crate::specs::CopyBinary::step))]
     pub fn next_row(&mut self) -> Result<Option<Vec<PgValueRef<'r>>>, CodecError>

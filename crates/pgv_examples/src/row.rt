@@ -20,7 +20,7 @@ pub fn column<'r, T: Decode>(
     T::decode(alloc, value)
 }
 
-/// What is read of a row.
+/// What is read from a row.
 #[derive(Drop)]
 pub struct Person {
     /// The first column, an `int4`.

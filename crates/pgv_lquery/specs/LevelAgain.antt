@@ -1,4 +1,4 @@
--- Variants, levels and queries are read of their texts.
+-- Variants, levels and queries are read from their texts.
 use Rattle.std.specs.Prelude.{◌≡◌, ◌≢◌, ℕ, ◌+◌, ◌<◌, nat_lt, not, ◌==◌, Bool, true, false, cond, codes, List, [], ◌∷◌, ◌++◌, length, map, Option, Some, None, Result, Ok, ⊤, refl}
 use Rattle.std.specs.Char.{is_ascii_digit}
 use Rattle.std.specs.Fmt.{decimal}

@@ -60,7 +60,7 @@ impl PgLQuery {
         PgLQuery { levels }
     }
 
-    /// The query of the levels of these texts, up to the first that is none, which refuses them all.
+    /// The query whose levels are these texts. It fails at the first that is not a valid level.
     pub fn try_from_iter<'a, I: IntoIterator<Item = &'a str>>(
         alloc: Global,
         levels: I,

@@ -54,7 +54,7 @@ impl PgLTree {
         PgLTree { labels }
     }
 
-    /// The tree of the labels of these texts, up to the first that is none, which refuses them all.
+    /// The tree whose labels are these texts. It fails at the first that is not a valid label.
     pub fn try_from_iter<I: IntoIterator<Item = String>>(
         alloc: Global,
         labels: I,

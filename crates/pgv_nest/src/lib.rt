@@ -1,5 +1,5 @@
-//! What is read of arrays and records in binary without knowing what their parts are: the head of an array, and the type of a
-//! record's field. The crate of codecs reads the parts.
+//! What is read from arrays and records in binary without knowing what their parts are: the head of an array, and the
+//! type of a record's field. The crate of codecs reads the parts.
 //!
 //! The module [`laws`] ties these readers to what the bytes of a whole array or record are.
 #![tactic(auto)]

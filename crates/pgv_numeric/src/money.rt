@@ -30,8 +30,7 @@ impl Default for PgMoney {
 }
 
 impl PgMoney {
-    /// The sum, where it is a number of 64 bits.
-    /// Of the greatest amount and one more there is none.
+    /// The sum, or `None` if it does not fit in 64 bits, as `i64::MAX` and one more.
     pub fn checked_add(self, rhs: PgMoney) -> Option<PgMoney>
         ensures found { IsSome result ↔ FitsSigned w64 (self.0 +ℤ rhs.0) }
         ensures value { IfSome result (λ sum. sum.0 ≡ self.0 +ℤ rhs.0) }
@@ -39,7 +38,7 @@ impl PgMoney {
         self.0.checked_add(rhs.0).map(PgMoney)
     }
 
-    /// The difference, where it is a number of 64 bits.
+    /// The difference, or `None` if it does not fit in 64 bits.
     pub fn checked_sub(self, rhs: PgMoney) -> Option<PgMoney>
         ensures found { IsSome result ↔ FitsSigned w64 (self.0 -ℤ rhs.0) }
         ensures value { IfSome result (λ difference. difference.0 ≡ self.0 -ℤ rhs.0) }

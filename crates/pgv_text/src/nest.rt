@@ -15,7 +15,7 @@ use super::parts::Parts;
 use super::scanner::TextForm;
 use std::alloc::{AllocError, Global};
 
-/// The elements of an array text of one dimension, as `{a,"b c",NULL}`; `None` where the text is none.
+/// The elements of an array text of one dimension, as `{a,"b c",NULL}`; `None` if it is not an array text.
 pub fn array_elements(alloc: Global, text: &str) -> Result<Option<Vec<Option<String>>>, AllocError>
     // What is read is an array text of these values.
     ensures found { IfOk result (λ found. IfSome found (λ v. IsArrayText (chars text.now) (map part_bytes v.items))) }
@@ -32,7 +32,7 @@ pub fn array_elements(alloc: Global, text: &str) -> Result<Option<Vec<Option<Str
     }
 }
 
-/// The fields of a record text, as `(a,"b c",)`; `None` where the text is none.
+/// The fields of a record text, as `(a,"b c",)`; `None` if it is not a record text.
 pub fn record_fields(alloc: Global, text: &str) -> Result<Option<Vec<Option<String>>>, AllocError>
     // What is read is a record text of these values.
     ensures found { IfOk result (λ found. IfSome found (λ v. IsRecordText (chars text.now) (map part_bytes v.items))) }
@@ -49,7 +49,7 @@ pub fn record_fields(alloc: Global, text: &str) -> Result<Option<Vec<Option<Stri
     }
 }
 
-/// What a range text is of.
+/// The range that a text denotes.
 #[derive(Drop)]
 pub enum RangeText {
     /// No value at all: the text is `empty`, in upper or lower case.
@@ -67,8 +67,8 @@ pub enum RangeText {
     },
 }
 
-/// The bounds of a range text, as `["a b",)`, and whether its brackets include them, or that the range is empty; `None` where the
-/// text is none.
+/// The bounds of a range text, as `["a b",)`, and whether its brackets include them, or that the range is empty; `None`
+/// if it is not a range text.
 #[tactic(auto, using(crate::proofs::Lists::two_bounds))]
 pub fn range_parts(alloc: Global, text: &str) -> Result<Option<RangeText>, AllocError>
     // What is read is what the range text is of.

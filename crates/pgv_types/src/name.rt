@@ -1,5 +1,5 @@
-//! Names of types, and when two agree: as identifiers do, whose quotes keep the case of what stands
-//! between them (PostgreSQL, "Lexical Structure", "Identifiers and Key Words").
+//! Names of types, and when two agree: as identifiers do, whose quotes keep the case of what is between them
+//! (PostgreSQL, "Lexical Structure", "Identifiers and Key Words").
 ghost use Rattle.std.specs.Prelude.{◌≡◌, ℕ, List, ◌∷◌, ◌++◌, codes, option_to_list, Decides};
 ghost use Rattle.std.specs.Option.{option_map};
 ghost use Rattle.std.specs.Str.{chars, bytes_eq};
@@ -163,7 +163,7 @@ fn begins_unicode(name: &str) -> bool
     matches!(name.as_bytes(), [b'U', b'&', ..])
 }
 
-/// The name of a type: a text, and `[]` after it or nothing. It is printed as it is, and never padded.
+/// The name of a type: a text, with `[]` after it or not. It is printed as it is, and never padded.
 #[derive(Clone, Copy)]
 pub struct PgTypeName<'a> {
     text: &'a str,

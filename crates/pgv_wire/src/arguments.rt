@@ -107,10 +107,10 @@ impl PgArguments {
         &self.buffer
     }
 
-    /// Adds a value, and remembers what it produces or else its type's info. It is accepted, out of memory (C1)
-    /// aside, exactly where the value has a frame; a refused one leaves all as it was. C2 where the size hint or the
-    /// image is above 2147483647, and else what the value's own encoder says.
-    /// 7 added to empty arguments is `00000004 00000007`, and the value stays yours.
+    /// Adds a value, and remembers what it produces or else its type's info. It is accepted, unless memory runs out
+    /// (C1), exactly where the value has a frame; a refused one leaves all as it was. It is refused with
+    /// [`ValueSize`](CodecError::ValueSize) (C2) if the size hint or the image is above 2147483647, and else with what
+    /// the value's own encoder says. 7 added to empty arguments is `00000004 00000007`, and the value stays yours.
     #[inline(always)]
     pub fn add_by_ref<T: Encode + Type>(&mut self, value: &T) -> Result<(), CodecError>
         ensures ok { OnOk result (Added (frame (T.hint value.now) (T.image value.now)) (or_else (T.produced value.now) T.info) self.old self.new) }
@@ -168,9 +168,8 @@ impl PgArguments {
         Ok(outcomes)
     }
 
-    /// Appends the placeholder of the last argument, `$` and [`len`](PgArguments::len) in decimal. C1 leaves the
-    /// text as it was.
-    /// With one argument it is `$1`.
+    /// Appends the placeholder of the last argument, `$` and [`len`](PgArguments::len) in decimal. Out of memory (C1)
+    /// leaves the text as it was. With one argument it is `$1`.
     pub fn format_placeholder(&self, out: &mut String) -> Result<(), CodecError>
         ensures ok { OnOk result (string_bytes out.new ≡ string_bytes out.old ++ 36 ∷ decimal (length self.now)) }
         ensures err { IfErr result (λ e. (e ≡ Memory) × (string_bytes out.new ≡ string_bytes out.old)) }
