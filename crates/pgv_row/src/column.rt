@@ -11,7 +11,9 @@ ghost use Rattle.pgv_value.specs.Several.{several};
 use crate::catalog::{PgCatalog, type_of_oid};
 use crate::index::ColumnIndex;
 use pgv_types::{Oid, PgTypeInfo};
-use pgv_value::{CodecError, PgValueFormat, i16_in_front, name_in_front, u16_in_front, u32_in_front};
+use pgv_value::{
+    CodecError, PgValueFormat, i16_in_front, name_in_front, u16_in_front, u32_in_front,
+};
 use std::alloc::Global;
 use std::marker::Model;
 
