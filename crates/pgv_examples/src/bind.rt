@@ -26,8 +26,8 @@ pub fn arguments_of_search(
     Ok(arguments)
 }
 
-/// Fills every hole by the types that the server told of: the OID of a type is looked up by its name. C38(1) where a type is not
-/// among them, and C10 where there are not as many parameters as arguments; then nothing was changed.
+/// Fills every hole by the types that the server described: the OID of a type is looked up by its name. C38(1) where a
+/// type is not among them, and C10 where there are not as many parameters as arguments; then nothing was changed.
 pub fn fill(
     alloc: Global,
     arguments: &mut PgArguments,

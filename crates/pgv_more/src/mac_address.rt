@@ -41,7 +41,7 @@ impl MacAddress {
     }
 
     /// The address of a text: six pairs of hex digits of either case, with `:` between each two pairs or with `-`, as
-    /// `08:00:2b:01:02:03` and `08-00-2B-01-02-03`. `08-00-2b:01-02-03` is none.
+    /// `08:00:2b:01:02:03` and `08-00-2B-01-02-03`. `08-00-2b:01-02-03` is invalid.
     #[inline(always)]
     pub fn from_str(text: &str) -> Option<MacAddress>
         // The address that the text is, or that it is none.

@@ -13,12 +13,12 @@ use std::ops::{Add, AddAssign, Sub, SubAssign};
 
 /// An amount of money, as a number of the smallest unit of its currency (a cent, where there are two places after the point).
 ///
-/// The operators want that the result is a number of 64 bits; [`checked_add`](PgMoney::checked_add) and
+/// The operators need a result that fits in 64 bits; [`checked_add`](PgMoney::checked_add) and
 /// [`checked_sub`](PgMoney::checked_sub) test it.
 #[derive(Clone, Copy, PartialEq, Eq, Debug)]
 pub struct PgMoney(pub i64);
 
-/// Nothing.
+/// The amount 0.
 impl Default for PgMoney {
     ghost use Rattle.std.specs.Prelude.{◌≡◌, pos};
 

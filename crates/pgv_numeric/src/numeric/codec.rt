@@ -244,12 +244,12 @@ fn of_bytes(alloc: Global, form: &[u8]) -> Result<PgNumeric, CodecError>
     })
 }
 
-/// Read of words as they are written, with digits of any value, and whatever comes after them. The sign `c000` is
+/// Read from words as they are written, with digits of any value, and whatever comes after them. The sign `c000` is
 /// `NaN`, whatever the other words are; another sign is refused with [`NumericSign`](CodecError::NumericSign) (C34),
 /// and bytes that end too early with [`Short`](CodecError::Short) (C15). A text is refused with
 /// [`TextUnsupported`](CodecError::TextUnsupported) (C18), and null with [`UnexpectedNull`](CodecError::UnexpectedNull)
 /// (C13). Memory is asked for only by the digits: `NaN`, and a number without digits, are never refused as out of
-/// memory. A number comes back as it is.
+/// memory. A number is read back as it is.
 impl Plain for PgNumeric {
     ghost use Rattle.pgv_numeric.specs.NumericBack.{numeric_back};
 
