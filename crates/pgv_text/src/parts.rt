@@ -101,7 +101,7 @@ fn usual_part_count(form: TextForm, bytes: &[u8]) -> Option<(usize, u8)>
 pub(crate) fn one_run(form: TextForm, text: &str) -> Option<Stop<'_>>
     ensures part { IfSome result (IsPartFrom form Start text.now) }
     ensures shorter { IfSome result (λ stop. length stop.rest.now < length text.now) }
-    // It is none exactly where the part doesn't stand in the text as it is.
+    // It is `None` iff the part isn't in the text as it is.
     ensures as_it_is { is_some result ≡ as_it_is (form_of form) text.now }
     ensures copies { IfSome result (λ stop. copies_after (form_of form) Start text.now ≡ copies_from (form_of form) stop.rest.now) }
 {
