@@ -14,7 +14,7 @@ use pgv_types::{Oid, PgTypeInfo};
 use std::alloc::{AllocError, Global};
 use std::marker::Model;
 
-/// A list of bytes, holes and slots (tokens), each with the bytes that stand in its place now.
+/// A list of bytes, holes and slots (tokens), each with the bytes that are in its place now.
 ///
 /// A call that runs out of memory leaves the list as it was. [`mark`](Tokens::mark), [`back`](Tokens::back),
 /// [`put_u32`](Tokens::put_u32) and [`fill`](Tokens::fill) take no memory.

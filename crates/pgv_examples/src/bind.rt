@@ -9,8 +9,8 @@ use crate::mood::Mood;
 use pgv::{CodecError, Encode, Oid, PgArguments, PgTypeInfo};
 use std::alloc::Global;
 
-/// The arguments of `select .. where id = $1 and name = $2 and mood = any($3)`: the three frames. Their types are `int4`, `text` and `mood[]`; of the
-/// last only the name is known here, so there is a hole where its element's OID is to stand.
+/// The arguments of `select .. where id = $1 and name = $2 and mood = any($3)`: the three frames. Their types are
+/// `int4`, `text` and `mood[]`; of the last only the name is known here, so there is a hole for its element's OID.
 pub fn arguments_of_search(
     alloc: Global,
     id: i32,

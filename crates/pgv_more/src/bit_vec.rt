@@ -199,7 +199,7 @@ fn first_of_byte(byte: u8, many: usize) -> u8
     byte & 0xff << (8 - many)
 }
 
-/// What stands for a bit: a truth value, or a digit, which is set where it is `1`.
+/// A value that represents a bit: a truth value, or a digit, which is set if it is `1`.
 trait Bit: Copy {
     /// Whether the bit is set.
     ghost set: { Self → Bool };

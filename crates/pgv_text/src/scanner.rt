@@ -162,7 +162,7 @@ pub fn is_never_special(byte: u8) -> bool
     matches!(byte, b'-'..=b'Z' | b'^'..=b'z' | 128..)
 }
 
-/// How many usual bytes stand in front. Outside and inside quotes they belong to the part's text.
+/// How many usual bytes are in front. Outside and inside quotes they belong to the part's text.
 #[inline(always)]
 fn usual_in_front(bytes: &[u8]) -> usize
     ensures within { result ≤ length bytes.now }

@@ -231,7 +231,7 @@ impl<'r> PgValueRef<'r> {
         ensures kind { IfOk result (λ v. v.type_info ≡ type_info) }
         ensures format { IfOk result (λ v. v.format ≡ format) }
         ensures shorter { OnOk result (length bytes.new.now < length bytes.old.now) }
-        // It refuses only where no frame stands in front, and then the slice stays.
+        // It refuses only if no frame is in front, and then the slice stays.
         ensures none { OnErr result (front bytes.old.now ≡ None) }
         ensures fault { IfErr result (λ e. e ≡ frame_fault bytes.old.now) }
         ensures unmoved { OnErr result (bytes.new.now ≡ bytes.old.now) }

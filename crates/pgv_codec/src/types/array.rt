@@ -71,7 +71,7 @@ pub fn type_of_value<T: Encode + Type>(value: &T) -> Result<PgTypeInfo, AllocErr
     }
 }
 
-/// What stands before the elements: one dimension and no flags, their type, their number and the lower bound 1.
+/// What comes before the elements: one dimension and no flags, their type, their number and the lower bound 1.
 fn write_header(
     out: &mut PgArgumentBuffer,
     element: PgTypeInfo,

@@ -26,7 +26,7 @@ const POSITIVE: u16 = 0;
 /// The sign of a number below zero.
 const NEGATIVE: u16 = 0x4000;
 
-/// What stands for the sign where there is no number.
+/// The word in place of the sign for NaN.
 const NOT_A_NUMBER: u16 = 0xc000;
 
 /// `numeric` (OID 1700), read under `numeric` and domains over it.
