@@ -95,7 +95,7 @@ impl SubAssign for PgMoney {
     }
 }
 
-/// So many of the smallest unit.
+/// The amount of this number of the smallest unit.
 impl From<i64> for PgMoney {
     ghost from_gives = { λ number amount. amount.0 ≡ number };
 
@@ -104,7 +104,7 @@ impl From<i64> for PgMoney {
     }
 }
 
-/// So many of the smallest unit.
+/// The amount of this number of the smallest unit.
 impl From<i32> for PgMoney {
     ghost from_gives = { λ number amount. amount.0 ≡ number };
 
@@ -113,7 +113,7 @@ impl From<i32> for PgMoney {
     }
 }
 
-/// So many of the smallest unit.
+/// The amount of this number of the smallest unit.
 impl From<i16> for PgMoney {
     ghost from_gives = { λ number amount. amount.0 ≡ number };
 
@@ -122,7 +122,7 @@ impl From<i16> for PgMoney {
     }
 }
 
-/// So many of the smallest unit.
+/// The amount of this number of the smallest unit.
 impl From<i8> for PgMoney {
     ghost from_gives = { λ number amount. amount.0 ≡ number };
 
@@ -131,7 +131,7 @@ impl From<i8> for PgMoney {
     }
 }
 
-/// So many of the smallest unit.
+/// The amount of this number of the smallest unit.
 impl From<u32> for PgMoney {
     ghost use Rattle.std.specs.Prelude.{pos};
 
@@ -142,7 +142,7 @@ impl From<u32> for PgMoney {
     }
 }
 
-/// So many of the smallest unit.
+/// The amount of this number of the smallest unit.
 impl From<u16> for PgMoney {
     ghost use Rattle.std.specs.Prelude.{pos};
 
@@ -153,7 +153,7 @@ impl From<u16> for PgMoney {
     }
 }
 
-/// So many of the smallest unit.
+/// The amount of this number of the smallest unit.
 impl From<u8> for PgMoney {
     ghost use Rattle.std.specs.Prelude.{pos};
 

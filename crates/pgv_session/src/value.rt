@@ -262,7 +262,7 @@ pub fn refusal(alloc: Global, error: &CodecError) -> Result<String, AllocError>
     format!(in alloc; "refused C{number}")
 }
 
-/// The same, as what is told of a value.
+/// The same, as the response to what is asked of a value.
 fn told_refusal(alloc: Global, error: &CodecError) -> Result<Told, AllocError>
     ensures refused { IfOk result (λ told. IsRefusal (told_text told)) }
     ensures told { IfOk result (λ _. error.now ≢ Memory) }

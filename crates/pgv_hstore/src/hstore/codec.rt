@@ -196,7 +196,7 @@ fn value_in_front(alloc: Global, form: &[u8]) -> Result<(Option<String>, &[u8]),
     }
 }
 
-/// So many pairs, each put into the map. Room is taken pair by pair, whatever the number says.
+/// This number of pairs, each put into the map. Room is taken pair by pair, whatever the number says.
 fn read_pairs(alloc: Global, count: u32, form: &[u8]) -> Result<PgHstore, CodecError>
     ensures exact { Answers pairs_of (put_read [] count form.now) result }
     ensures exactly { pairs_take count form.now ≡ false → AnswersExactly pairs_of (put_read [] count form.now) result }

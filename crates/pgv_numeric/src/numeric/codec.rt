@@ -187,7 +187,7 @@ fn signed_at(form: &[u8], place: usize) -> i16
     BigEndian::read_i16(&form[place..])
 }
 
-/// So many digits, of any value, whatever comes after them.
+/// This number of digits, of any value, whatever comes after them.
 #[inline(always)]
 fn read_digits(alloc: Global, count: u16, form: &[u8]) -> Result<Vec<i16>, CodecError>
     ensures exact { Answers (λ v. v.items) (digits_after count form.now) result }
