@@ -154,7 +154,7 @@ fn class_of(form: TextForm, byte: u8) -> Class
     }
 }
 
-/// Whether a byte is a letter, a digit or not ASCII, so that it means nothing in any form.
+/// Whether a byte is known to mean nothing in any form, as letters, digits and bytes outside ASCII are.
 #[inline(always)]
 pub fn is_never_special(byte: u8) -> bool
     ensures { result ≡ true → (form : TextForm) → class (form_of form) byte ≡ Other }

@@ -214,7 +214,7 @@ impl<'r> PgValueRef<'r> {
         }
     }
 
-    /// Reads the frame at the front of a slice, returns its part and moves the slice after it (PostgreSQL, "Message
+    /// Reads the frame at the front of a slice, returns its part and moves the slice past it (PostgreSQL, "Message
     /// Formats", DataRow: a signed length of four bytes, the highest first, and that many bytes; -1 is null). A slice
     /// that ends too early is refused with [`Short`](CodecError::Short) (C15) and any other negative length with
     /// [`NegativeLength`](CodecError::NegativeLength) (C16); the slice then stays where it was.
