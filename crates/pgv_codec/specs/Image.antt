@@ -1,10 +1,10 @@
--- What a value is written as: its image, its frame (PostgreSQL: "Message Formats", 55.7, Bind), and the binary forms of arrays,
--- nulls and records ("Arrays", "Composite Types").
--- A value has an image: none, null, or a list of tokens. A value without an image has no frame. Neither has one whose size hint
--- or width is above 2147483647. A null's frame is `ffffffff`. Every other frame is the width in four bytes, then the image.
--- `typed t` is the four bytes of t's OID where it has one, else a hole. An array's image (`array_image`): 1, 0, `typed` of what
--- the first element produces or else of the elements' type, the number of elements, 1, and the elements' frames. A record's
--- image (`record_image`): the number of fields, and for each its type and its frame. Either is none where a part has no frame.
+-- What a value is written as: its image, its frame (PostgreSQL: "Message Formats", 55.7, Bind), and the binary forms of
+-- arrays, nulls and records ("Arrays", "Composite Types"). A value has an image: none, null, or a list of tokens. A
+-- value without an image has no frame. Neither has one whose size hint or width is above 2147483647. A null's frame is
+-- `ffffffff`. Every other frame is the width in four bytes, then the image. `typed t` is the four bytes of t's OID
+-- where it has one, else a hole. An array's image (`array_image`): 1, 0, `typed` of what the first element produces or
+-- else of the elements' type, the number of elements, 1, and the elements' frames. A record's image (`record_image`):
+-- the number of fields, and for each its type and its frame. There is no image if a part has no frame.
 use Rattle.std.specs.Prelude.{ℕ, List, [], ◌∷◌, ◌++◌, length, Option, Some, None, cond, nat_le, nat_lt, nat_eq, ◌+◌}
 use Rattle.pgv_types.specs.Ty.{Ty}
 use Rattle.pgv_types.specs.Facts.{oid_of}

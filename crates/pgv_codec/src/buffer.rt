@@ -21,7 +21,7 @@ use std::marker::Model;
 /// The largest length of a value, and the largest number of elements.
 pub(crate) const LENGTH_LIMIT: usize = 2147483647;
 
-/// The length that stands for null: -1.
+/// The length that means null: -1.
 const NULL_LENGTH: u32 = 4294967295;
 
 /// Whether the value that an encoder wrote is null.

@@ -30,7 +30,7 @@ pub fn cut_copy_is_short()
     ensures { CutCopyIsShort }
 {}
 
-/// A call of [`PgValueRef::get`] returns the part in front and moves the slice after it, or refuses and leaves the
+/// A call of [`PgValueRef::get`] returns the part in front and moves the slice past it, or refuses and leaves the
 /// slice, exactly as `got` says.
 ///
 /// The law about calls one after another is stated with `got`.

@@ -60,8 +60,8 @@ impl<'r> PgCopyReader<'r> {
         })
     }
 
-    /// The next row, a value in binary format for each column, or none at the end of the stream and ever after; bytes after the
-    /// end are ignored. The values live as long as the bytes of the stream.
+    /// The next row, a value in binary format for each column; `None` at the end of the stream and from then on; bytes
+    /// after the end are ignored. The values live as long as the bytes of the stream.
     ///
     /// Where the bytes end before the stream does it is [`Short`](CodecError::Short) (C15), a negative number of fields
     /// but the -1 of the end [`NegativeLength`](CodecError::NegativeLength) (C16), another number than that of the

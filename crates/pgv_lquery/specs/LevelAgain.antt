@@ -87,7 +87,7 @@ variants_again v vs e =
 
 -- ---- stars
 
--- exactly so many
+-- exactly this number
 pub exact_there : (count : List ℕ) (n : ℕ) → all_ascii_digits count ≡ true → count_read count ≡ Ok n → inner_read (Some count) ≡ Ok (star (Some n) (Some n))
 exact_there count n d e = rw (cut_lacks 44 count (digits_lack 44 refl count d), e) refl
 

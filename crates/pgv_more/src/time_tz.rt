@@ -162,8 +162,8 @@ impl Encode for PgTimeTz {
     }
 }
 
-/// Read in binary of the first twelve bytes, where fewer are refused with [`Short`](CodecError::Short) (C15): the time
-/// round the clock, and an offset of less than a day, else [`OffsetRange`](CodecError::OffsetRange) (C6) with the
+/// Read in binary from the first twelve bytes, where fewer are refused with [`Short`](CodecError::Short) (C15): the
+/// time round the clock, and an offset of less than a day, else [`OffsetRange`](CodecError::OffsetRange) (C6) with the
 /// seconds that the bytes have. A text is a time and an offset, as [`time_tz`] reads it, else
 /// [`Syntax`](CodecError::Syntax) (C29). Null is refused with [`UnexpectedNull`](CodecError::UnexpectedNull) (C13).
 /// `0000000a7a358200ffffe3e0` and the text `12:30:00+02` are 12:30 two hours east. The time comes back in whole

@@ -26,7 +26,7 @@ pub struct ArrayHead<'a> {
     pub frames: &'a [u8],
 }
 
-/// The head of an array, or none where it has no dimensions and so no elements. Bytes that end too early are refused
+/// The head of an array; `None` if the array has no dimensions and so no elements. Bytes that end too early are refused
 /// with [`Short`](CodecError::Short) (C15), a negative number of elements with
 /// [`NegativeLength`](CodecError::NegativeLength) (C16), more dimensions than one with
 /// [`Dimensions`](CodecError::Dimensions) (C19), a lower bound other than 1 with [`LowerBound`](CodecError::LowerBound)

@@ -17,7 +17,7 @@ const RECORD: Oid = Oid(2249);
 /// composite type has no field at this place, it is refused with [`NoField`](CodecError::NoField) (C25), bytes that end
 /// too early with [`Short`](CodecError::Short) (C15), another OID than the composite's field has with
 /// [`FieldOid`](CodecError::FieldOid) (C26), an OID that is no built-in type's under `record` with
-/// [`FieldTypeUnknown`](CodecError::FieldTypeUnknown) (C28), and a type that is no record with
+/// [`FieldTypeUnknown`](CodecError::FieldTypeUnknown) (C28), and a type that is not a record with
 /// [`NotARecord`](CodecError::NotARecord) (C24). Out of memory (C1) comes only from a field of a custom type, which is
 /// copied.
 #[tactic(auto, unfolding(crate::specs::RecordGrammar::field_head))]

@@ -112,7 +112,7 @@ fn encode_bound<T: Encode>(bound: &Bound<T>, out: &mut PgArgumentBuffer) -> Resu
 /// isn't a range in binary with [`NotARange`](CodecError::NotARange) (C23), bytes that end too early with
 /// [`Short`](CodecError::Short) (C15), and what a bound is refused with. Out of memory (C1) is answered only where the
 /// value of a bound asks for memory, or for a copy: in binary of a custom type that the range is over, in text of a
-/// part, only where a quote or a backslash stands anywhere in it.
+/// part, only if a quote or a backslash is anywhere in it.
 impl<T: Decode + Type> Decode for PgRange<T> {
     ghost use Rattle.pgv_range.specs.RangeGrammar.{range};
     ghost use Rattle.pgv_range.specs.RangeOf.{RangeOf};
@@ -311,8 +311,8 @@ fn side_of<T>(included: bool, value: T) -> Bound<T>
     }
 }
 
-/// A range comes back under a type of kind range, where each bound's value comes back under the type that it is a range over; the
-/// empty one under every type of kind range.
+/// A range is read back under a type of kind range, if each bound's value is read back under the type that it is a
+/// range over; the empty range under every type of kind range.
 impl<T: ReadBack + Type> ReadBack for PgRange<T> {
     ghost use Rattle.pgv_range.specs.RangeBack.{range_back};
     ghost use Rattle.pgv_range.specs.RangeFits.{RangeFits, range_kept};

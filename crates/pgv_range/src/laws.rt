@@ -40,9 +40,11 @@ type Ranges<T> = Vec<PgRange<T>>;
 /// A range of arrays.
 type OfLists<T> = PgRange<Vec<T>>;
 
-/// A range is decoded from bytes in binary iff the type is of kind range and the bytes are this range: a flag byte, a
-/// frame for each bound that there is, and anything after them; or a flag byte with 01, and anything after it
-/// (PostgreSQL, "Range Types"; range_send).
+/// A range is decoded from bytes in binary iff the type is of kind range and the bytes are this range (PostgreSQL,
+/// "Range Types"; range_send).
+///
+/// The bytes are a flag byte and a frame for each bound that there is, or a flag byte with 01; anything may come after
+/// them.
 pub fn range_is_its_bounds<T: Type + Decode>()
     ensures { (t : Ty) (bytes : List ℕ) (m : RangeOf T.Meaning) → AreBytes bytes → (⟦<PgRange<T> as Decode>⟧.reading t Binary (Some bytes) ≡ Some m) ↔ IsRange (λ u. T.reading u Binary) t bytes m }
 {}

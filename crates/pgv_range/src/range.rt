@@ -8,9 +8,9 @@ ghost use Rattle.pgv_range.specs.declared.range.PgRange.TheVariants.{Bounds, Emp
 use std::fmt;
 use std::ops::{Bound, Range, RangeFrom, RangeInclusive, RangeTo, RangeToInclusive};
 
-/// A range of PostgreSQL ("Range Types"): no value at all, or all from a lower to an upper bound. Nothing is asked of
-/// the bounds, so the lower one may be above the upper one, and `10..10` is a range of bounds, although a server reads
-/// no value in it.
+/// A range of PostgreSQL ("Range Types"): no value at all, or all from a lower to an upper bound. The bounds may be
+/// any, so the lower one may be above the upper one, and `10..10` is a range of bounds, although for a server it has no
+/// value.
 #[derive(Clone, Copy, PartialEq, Eq, Debug)]
 pub enum PgRange<T> {
     /// The empty range, which has no bounds.
@@ -34,7 +34,7 @@ impl<T> PgRange<T> {
         PgRange::Empty
     }
 
-    /// Whether the range is the empty one. One of bounds is not, whatever lies between them.
+    /// Whether the range is the empty one. A range of bounds is not, whatever values are between them.
     pub fn is_empty(&self) -> bool
         ensures { result ≡ is_empty_range self.now }
     {
@@ -44,7 +44,7 @@ impl<T> PgRange<T> {
         }
     }
 
-    /// The lower bound and the upper one, with their values lent; `None` for the empty range.
+    /// The lower and the upper bound, by reference; `None` for the empty range.
     pub fn bounds(&self) -> Option<(Bound<&T>, Bound<&T>)>
         ensures { option_map (λ b. (bound_map (λ x. x.now) b.0, bound_map (λ x. x.now) b.1)) result ≡ bounds_of self.now }
     {

@@ -19,7 +19,7 @@ use std::alloc::{AllocError, Global};
 pub fn array_elements(alloc: Global, text: &str) -> Result<Option<Vec<Option<String>>>, AllocError>
     // What is read is an array text of these values.
     ensures found { IfOk result (λ found. IfSome found (λ v. IsArrayText (chars text.now) (map part_bytes v.items))) }
-    // Where nothing is read, the text is none.
+    // Where nothing is read, the text is not an array text.
     ensures none { IfOk result (λ found. IfNone found ((values : List (Option (List ℕ))) → IsArrayText (chars text.now) values → ⊥)) }
     // The same by the computed values.
     ensures computed { IfOk result (λ found. option_map values_of found ≡ array_values text.now) }
@@ -36,7 +36,7 @@ pub fn array_elements(alloc: Global, text: &str) -> Result<Option<Vec<Option<Str
 pub fn record_fields(alloc: Global, text: &str) -> Result<Option<Vec<Option<String>>>, AllocError>
     // What is read is a record text of these values.
     ensures found { IfOk result (λ found. IfSome found (λ v. IsRecordText (chars text.now) (map part_bytes v.items))) }
-    // Where nothing is read, the text is none.
+    // Where nothing is read, the text is not a record text.
     ensures none { IfOk result (λ found. IfNone found ((values : List (Option (List ℕ))) → IsRecordText (chars text.now) values → ⊥)) }
     // The same by the computed values.
     ensures computed { IfOk result (λ found. option_map values_of found ≡ record_values text.now) }
@@ -73,7 +73,7 @@ pub enum RangeText {
 pub fn range_parts(alloc: Global, text: &str) -> Result<Option<RangeText>, AllocError>
     // What is read is what the range text is of.
     ensures found { IfOk result (λ found. IfSome found (λ r. IsRangeOf (chars text.now) (range_of r))) }
-    // Where nothing is read, the text is none.
+    // Where nothing is read, the text is not a range text.
     ensures none { IfOk result (λ found. IfNone found ((other : RangeContent) → IsRangeOf (chars text.now) other → ⊥)) }
     // The same, computed.
     ensures computed { IfOk result (λ found. option_map range_of found ≡ range_content (chars text.now)) }

@@ -137,7 +137,7 @@ impl IpNetwork {
     /// The network of a text: an address, and perhaps `/` and a decimal number of bits without leading zeros; without
     /// it all bits of the address.
     pub fn from_str(text: &str) -> Option<IpNetwork>
-        // The network that the text is, or that it is none.
+        // The network that the text denotes, or that it denotes none.
         ensures reads { IsValueOf IsNetworkText text.now result }
         // The same by the computed address and number.
         ensures computed { option_map network_of result ≡ network_value text.now }

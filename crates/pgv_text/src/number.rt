@@ -60,7 +60,7 @@ fn fault_of(is_number: bool) -> NumberFault
 /// refusal says whether the text is not a number, or a number that does not fit in 64 bits.
 #[inline(always)]
 pub fn number_of(text: &str) -> Result<i64, NumberFault>
-    // The number that the text is, and why it is none that fits.
+    // The number that the text denotes, or why it denotes none of 64 bits.
     ensures reads { IsRead text.now result }
     // The same by the computed number.
     ensures computed { IsComputed text.now result }
@@ -74,7 +74,7 @@ pub fn number_of(text: &str) -> Result<i64, NumberFault>
 /// The number of a text without a minus: perhaps `+`, and one or more digits, as PostgreSQL writes `oid`. A refusal
 /// says whether the text is not such a number, or one that does not fit in 64 bits.
 pub fn unsigned_number_of(text: &str) -> Result<u64, NumberFault>
-    // The number that the text is, and why it is none that fits.
+    // The number that the text denotes, or why it denotes none of 64 bits.
     ensures reads { IsUnsignedRead text.now result }
     // The same by the computed number.
     ensures computed { IsUnsignedComputed text.now result }

@@ -38,7 +38,7 @@ pub(crate) fn after_opening(form: TextForm, text: &str) -> Option<(u8, &str)>
     }
 }
 
-/// Whether the closing bracket of an array stands in front.
+/// Whether the closing bracket of an array is in front.
 #[inline(always)]
 pub(crate) fn closes_here(text: &str) -> bool
     ensures { result ≡ spec_closes_here array_form text.now }
@@ -74,7 +74,7 @@ fn part_count(form: TextForm, text: &str) -> Option<(usize, u8)>
     None
 }
 
-/// The same where nothing but usual bytes and commas stand before the bracket, else `None`.
+/// The same if only usual bytes and commas come before the bracket, else `None`.
 fn usual_part_count(form: TextForm, bytes: &[u8]) -> Option<(usize, u8)>
     ensures { IfSome result (λ found. Some found ≡ numbered 1 (read (form_of form) Start bytes.now)) }
 {
@@ -96,12 +96,12 @@ fn usual_part_count(form: TextForm, bytes: &[u8]) -> Option<(usize, u8)>
     None
 }
 
-/// The part in front where it is one run of bytes as they stand in the text, alone or in quotes, and where it ends.
+/// The part in front and where it ends, if it is one run of the text's bytes, alone or in quotes.
 #[inline(always)]
 pub(crate) fn one_run(form: TextForm, text: &str) -> Option<Stop<'_>>
     ensures part { IfSome result (IsPartFrom form Start text.now) }
     ensures shorter { IfSome result (λ stop. length stop.rest.now < length text.now) }
-    // It is none exactly where the part doesn't stand in the text as it is.
+    // It is `None` iff the part isn't in the text as it is.
     ensures as_it_is { is_some result ≡ as_it_is (form_of form) text.now }
     ensures copies { IfSome result (λ stop. copies_after (form_of form) Start text.now ≡ copies_from (form_of form) stop.rest.now) }
 {

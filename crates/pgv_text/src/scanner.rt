@@ -154,7 +154,7 @@ fn class_of(form: TextForm, byte: u8) -> Class
     }
 }
 
-/// Whether a byte is a letter, a digit or not ASCII, so that it means nothing in any form.
+/// Whether a byte is known to mean nothing in any form, as letters, digits and bytes outside ASCII are.
 #[inline(always)]
 pub fn is_never_special(byte: u8) -> bool
     ensures { result ≡ true → (form : TextForm) → class (form_of form) byte ≡ Other }
@@ -162,7 +162,7 @@ pub fn is_never_special(byte: u8) -> bool
     matches!(byte, b'-'..=b'Z' | b'^'..=b'z' | 128..)
 }
 
-/// How many usual bytes stand in front. Outside and inside quotes they belong to the part's text.
+/// How many usual bytes are in front. Outside and inside quotes they belong to the part's text.
 #[inline(always)]
 fn usual_in_front(bytes: &[u8]) -> usize
     ensures within { result ≤ length bytes.now }

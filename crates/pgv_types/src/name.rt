@@ -18,13 +18,12 @@ use std::fmt::{Alignment, Display, Formatter, Result, Write};
 pub struct IdentifierChar {
     /// The character.
     pub ch: char,
-    /// Whether it stands between quotes, where its case counts.
+    /// Whether it is between quotes, where its case counts.
     pub case_sensitive: bool,
 }
 
 impl IdentifierChar {
-    /// Whether two characters are equal, or, where neither stands between quotes, equal but for
-    /// ASCII case.
+    /// Whether two characters are equal, or, if neither is between quotes, equal but for ASCII case.
     fn is_like(self, other: IdentifierChar) -> bool
         ensures { result ≡ alike (char_seen self) (char_seen other) }
     {

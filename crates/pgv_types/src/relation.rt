@@ -57,8 +57,8 @@ impl PgTypeInfo {
         self.0.name().agrees(&other.0.name())
     }
 
-    /// Whether the two are softly, or else exactly, the same. However many elements stand within one another, it takes no more of
-    /// the stack.
+    /// Whether the two are softly, or else exactly, the same. It takes no more of the stack for elements within
+    /// elements.
     fn is_related(&self, other: &PgTypeInfo, soft: bool) -> bool
         ensures { result ≡ related soft (levels self.now) (levels other.now) }
     {

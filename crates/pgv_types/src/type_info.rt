@@ -230,7 +230,7 @@ impl PgType {
         PgTypeName::new(self.display_text(), self.shows_brackets())
     }
 
-    /// Whether `[]` stands after the name that is shown.
+    /// Whether `[]` comes after the name that is shown.
     fn shows_brackets(&self) -> bool
         ensures { result ≡ shows_brackets (type_of self.now) }
     {

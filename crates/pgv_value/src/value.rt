@@ -229,7 +229,7 @@ impl<'r> PgValueRef<'r> {
         }
     }
 
-    /// Reads the frame at the front of a slice, returns its part and moves the slice after it (PostgreSQL, "Message
+    /// Reads the frame at the front of a slice, returns its part and moves the slice past it (PostgreSQL, "Message
     /// Formats", DataRow: a signed length of four bytes, the highest first, and that many bytes; -1 is null). A slice
     /// that ends too early is refused with [`Short`](CodecError::Short) (C15) and any other negative length with
     /// [`NegativeLength`](CodecError::NegativeLength) (C16); the slice then stays where it was.
@@ -246,7 +246,7 @@ impl<'r> PgValueRef<'r> {
         ensures kind { IfOk result (λ v. v.type_info ≡ type_info) }
         ensures format { IfOk result (λ v. v.format ≡ format) }
         ensures shorter { OnOk result (length bytes.new.now < length bytes.old.now) }
-        // It refuses only where no frame stands in front, and then the slice stays.
+        // It refuses only if no frame is in front, and then the slice stays.
         ensures none { OnErr result (front bytes.old.now ≡ None) }
         ensures fault { IfErr result (λ e. e ≡ frame_fault bytes.old.now) }
         ensures unmoved { OnErr result (bytes.new.now ≡ bytes.old.now) }

@@ -100,9 +100,10 @@ pub fn frames_read()
     ensures many { (args : List Argument) (is : List Image) → AreFrames is (framed args) → length (parts_in is args) ≡ length args }
 {}
 
-/// Arguments at run time, whatever was added, refused and filled, are frames of images, and read from their buffer one
-/// after another, as [`PgValueRef::get`](crate::PgValueRef::get) does, they give one part for each argument, null if
-/// its image is null and else what it shows, and leave nothing.
+/// Arguments at run time are frames of images, and read from their buffer one after another, as
+/// [`PgValueRef::get`](crate::PgValueRef::get) does, they give one part for each argument and leave nothing.
+///
+/// A part is null if its image is null, and else what the image shows. It holds whatever was added, refused and filled.
 pub fn arguments_read(arguments: &PgArguments)
     ensures { AllRead arguments.now }
 {

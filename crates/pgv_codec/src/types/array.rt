@@ -71,7 +71,7 @@ pub fn type_of_value<T: Encode + Type>(value: &T) -> Result<PgTypeInfo, AllocErr
     }
 }
 
-/// What stands before the elements: one dimension and no flags, their type, their number and the lower bound 1.
+/// What comes before the elements: one dimension and no flags, their type, their number and the lower bound 1.
 fn write_header(
     out: &mut PgArgumentBuffer,
     element: PgTypeInfo,
@@ -313,8 +313,8 @@ fn read_in_room<T: Decode>(
     Ok(items)
 }
 
-/// An array in text. That a text is none (C29) goes before why a part is refused, or that memory is. One without elements asks for
-/// none.
+/// An array in text. An invalid text (C29) comes before the refusal of a part, or out of memory. A text without
+/// elements asks for no memory.
 #[tactic(auto, unfolding(pgv_nest::specs::ArrayGrammar::each))]
 fn read_text<T: Decode + Type>(alloc: Global, text: &str) -> Result<Vec<T>, CodecError>
     ensures exact { Answers (λ v. map T.meaning v.items) (array_in_text (T.reading T.info Text) text.now) result }

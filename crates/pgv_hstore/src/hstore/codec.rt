@@ -196,7 +196,7 @@ fn value_in_front(alloc: Global, form: &[u8]) -> Result<(Option<String>, &[u8]),
     }
 }
 
-/// So many pairs, each put into the map. Room is taken pair by pair, whatever the number says.
+/// This number of pairs, each put into the map. Room is taken pair by pair, whatever the number says.
 fn read_pairs(alloc: Global, count: u32, form: &[u8]) -> Result<PgHstore, CodecError>
     ensures exact { Answers pairs_of (put_read [] count form.now) result }
     ensures exactly { pairs_take count form.now ≡ false → AnswersExactly pairs_of (put_read [] count form.now) result }
@@ -234,7 +234,7 @@ fn of_bytes(alloc: Global, form: &[u8]) -> Result<PgHstore, CodecError>
 /// null value with [`NegativeLength`](CodecError::NegativeLength) (C16), a null key with
 /// [`HstoreNullKey`](CodecError::HstoreNullKey) (C35), and a key or value that isn't UTF-8 with
 /// [`Utf8`](CodecError::Utf8) (C14). A text is refused with [`TextUnsupported`](CodecError::TextUnsupported) (C18), and
-/// null with [`UnexpectedNull`](CodecError::UnexpectedNull) (C13). A map comes back as it was written.
+/// null with [`UnexpectedNull`](CodecError::UnexpectedNull) (C13). A map is read back as it was written.
 impl Plain for PgHstore {
     ghost use Rattle.pgv_hstore.specs.HstoreBack.{hstore_back};
 

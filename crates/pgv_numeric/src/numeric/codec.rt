@@ -26,7 +26,7 @@ const POSITIVE: u16 = 0;
 /// The sign of a number below zero.
 const NEGATIVE: u16 = 0x4000;
 
-/// What stands for the sign where there is no number.
+/// The word in place of the sign for NaN.
 const NOT_A_NUMBER: u16 = 0xc000;
 
 /// `numeric` (OID 1700), read under `numeric` and domains over it.
@@ -187,7 +187,7 @@ fn signed_at(form: &[u8], place: usize) -> i16
     BigEndian::read_i16(&form[place..])
 }
 
-/// So many digits, of any value, whatever comes after them.
+/// This number of digits, of any value, whatever comes after them.
 #[inline(always)]
 fn read_digits(alloc: Global, count: u16, form: &[u8]) -> Result<Vec<i16>, CodecError>
     ensures exact { Answers (λ v. v.items) (digits_after count form.now) result }
@@ -244,12 +244,12 @@ fn of_bytes(alloc: Global, form: &[u8]) -> Result<PgNumeric, CodecError>
     })
 }
 
-/// Read of words as they are written, with digits of any value, and whatever comes after them. The sign `c000` is
+/// Read from words as they are written, with digits of any value, and whatever comes after them. The sign `c000` is
 /// `NaN`, whatever the other words are; another sign is refused with [`NumericSign`](CodecError::NumericSign) (C34),
 /// and bytes that end too early with [`Short`](CodecError::Short) (C15). A text is refused with
 /// [`TextUnsupported`](CodecError::TextUnsupported) (C18), and null with [`UnexpectedNull`](CodecError::UnexpectedNull)
 /// (C13). Memory is asked for only by the digits: `NaN`, and a number without digits, are never refused as out of
-/// memory. A number comes back as it is.
+/// memory. A number is read back as it is.
 impl Plain for PgNumeric {
     ghost use Rattle.pgv_numeric.specs.NumericBack.{numeric_back};
 
