@@ -7,4 +7,4 @@
 pub mod laws;
 pub mod reader;
 
-pub use reader::PgCopyReader;
+pub use reader::{PgCopyReader, after_count, after_header, read_fields};
