@@ -38,7 +38,7 @@ pub field_missing : (t : Ty) (ts : List Ty) (bytes : List ℕ) → front bytes �
 unfolding fields
 field_missing t ts bytes none = rw none refl
 
-field_of : (t : Ty) (ts : List Ty) (i : ℕ) → i < length ts → t ≡ get_or ts i t → drop i ts ≡ t ∷ drop (suc i) ts
+pub field_of : (t : Ty) (ts : List Ty) (i : ℕ) → i < length ts → t ≡ get_or ts i t → drop i ts ≡ t ∷ drop (suc i) ts
 field_of t ts i lt is = drop-cons ts i t lt ∙ ap (λ (u : Ty). u ∷ drop (suc i) ts) (sym is)
 
 all_read : (done : List Given) (bytes : List ℕ) → continued done (fields [] bytes) ≡ Ok (done, bytes)

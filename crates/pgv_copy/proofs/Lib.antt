@@ -4,3 +4,6 @@ mod Rows
 mod Cuts
 mod Streams
 mod CutFrames
+mod Stays
+mod PieceRows
+mod Ends

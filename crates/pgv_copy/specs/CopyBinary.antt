@@ -2,14 +2,13 @@
 -- trailer. That this is what a stream's bytes are, is a law (CopyStream).
 -- `step` is what a reader's next call answers, in the order of the format: a number of fields below -1 is C16 before another
 -- number is C12, and that before any field is read.
-use Rattle.std.specs.Prelude.{ℕ, nat_lt, pos, negsuc, int_lt, ◌&&◌, Bool, true, false, List, [], ◌∷◌, length, take, drop, bytes_eq, Option, Some, None, ok_or, Result, Ok, Err, if◌then◌else◌}
+use Rattle.std.specs.Prelude.{ℕ, nat_lt, pos, negsuc, int_lt, ◌&&◌, Bool, true, false, List, [], ◌∷◌, length, take, drop, bytes_eq, Option, Some, None, Ok, Err, if◌then◌else◌}
 use Rattle.std.specs.Int.{w32, cast_signed}
 use Rattle.std.specs.Ordering.{int_eq}
 use Rattle.pgv_types.specs.Ty.{Ty}
 use Rattle.pgv_value.specs.Fronts.{i16_front, u32_front, part_front}
 use Rattle.pgv_value.specs.Parsed.{Parsed, ◌>>=◌}
 use Rattle.pgv_value.specs.ValueView.{Given}
-use Rattle.pgv_value.specs.declared.error.CodecError.{CodecError}
 use Rattle.pgv_value.specs.declared.error.CodecError.TheVariants.{Short, NegativeLength, FieldCount, Syntax}
 use Rattle.pgv_value.specs.declared.value.PgValueFormat.TheVariants.{Binary}
 use Rattle.pgv_copy.specs.CopyView.{Copying}

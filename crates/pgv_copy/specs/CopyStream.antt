@@ -3,8 +3,8 @@
 -- The header is the signature `PGCOPY\n\377\r\n\0`, 32 flags of which 16 to 31 are clear, the length of an extension, and the
 -- extension (`IsHeader`). A row is the number of its fields in two bytes, which is that of the columns, and a frame for each
 -- (`IsRow`, `row_bytes`). The trailer is the number -1. Laws: a stream is read as its rows.
-use Rattle.std.specs.Prelude.{◌≡◌, ℕ, zero, suc, ◌+◌, ◌<◌, ◌≤◌, ◌^◌, ◌⊎◌, List, [], ◌∷◌, ◌++◌, map, flat_map, length, take, replicate, Option, Some, None, Ok, Err, ⊤}
-use Rattle.std.specs.Int.{w16, w32, to_be_bytes}
+use Rattle.std.specs.Prelude.{◌≡◌, ℕ, zero, suc, ◌+◌, ◌<◌, ◌≤◌, ◌^◌, ◌⊎◌, List, [], ◌∷◌, ◌++◌, map, flat_map, length, take, replicate, Option, Some, None, Ok, Err}
+use Rattle.std.specs.Int.{w32, to_be_bytes}
 use Rattle.std.specs.List.{AllByRecursion}
 use Rattle.pgv_types.specs.Ty.{Ty}
 use Rattle.pgv_value.specs.FrameBinary.{Part, row_bytes, IsField}

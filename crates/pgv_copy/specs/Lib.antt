@@ -2,3 +2,4 @@ pub mod CopyView
 pub mod CopyBinary
 pub mod CopyStream
 pub mod CutFrames
+pub mod CopyPieces

@@ -2,6 +2,7 @@
 //! contract of [`PgCopyReader::next_row`](crate::PgCopyReader::next_row) says that a call is one step.
 
 ghost use Rattle.std.specs.Prelude.{◌≡◌, Ok, Err, IfOk, IfErr};
+ghost use Rattle.pgv_copy.specs.CopyPieces.{WhatCameStays, PiecesAreOneStream, CopyInPiecesIsItsRows};
 ghost use Rattle.pgv_copy.specs.CopyStream.{CopyIsItsRows, RowsAreOfACopy, CutCopyIsShort, CutHeaderIsShort};
 ghost use Rattle.pgv_copy.specs.CutFrames.{got, CutFramesAreShort};
 
@@ -49,4 +50,21 @@ pub fn get_is_got<'r>(
 /// after them is refused with [`Short`](CodecError::Short) (C15).
 pub fn cut_frames_are_short()
     ensures { CutFramesAreShort }
+{}
+
+/// What [`PgCopyPieces::advance`](crate::PgCopyPieces::advance) finds in the bytes that have come, a row, the end, or a
+/// refusal other than `Short` (C15), it would find there whatever comes after them.
+pub fn what_came_stays()
+    ensures { WhatCameStays }
+{}
+
+/// Rows that are read after each piece of a stream, in whatever pieces it comes, are the rows of the joined pieces.
+pub fn pieces_are_one_stream()
+    ensures { PiecesAreOneStream }
+{}
+
+/// A stream that comes in pieces, in whatever pieces, is read as exactly its rows and then its end, where after each piece
+/// the rows are read that are there.
+pub fn copy_in_pieces_is_its_rows()
+    ensures { CopyInPiecesIsItsRows }
 {}

@@ -5,6 +5,8 @@
 #![tactic(auto)]
 
 pub mod laws;
+pub mod pieces;
 pub mod reader;
 
+pub use pieces::{PgCopyNext, PgCopyPieces};
 pub use reader::{PgCopyReader, after_count, after_header, read_fields};
