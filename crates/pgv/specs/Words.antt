@@ -42,6 +42,8 @@ pub use Rattle.pgv_codec.specs.Saying.{plainly, unwritten, field_written}
 -- `step reader` is what the next `next_row` of a `PgCopyReader` answers: `Ok (Some row, after)`, `Ok (None, after)` at the end, or
 -- `Err` why it is refused. `bytes_left reader` falls with each row, and `row_takes reader` says whether the call may ask for memory.
 pub use Rattle.pgv_copy.specs.CopyBinary.{step, bytes_left, row_takes}
+-- `Advances old answer new`: what `advance` of a `PgCopyPieces` answers, and the reader after it, by `next_of`, what the bytes that
+-- came begin with. `with_more old piece` is the reader that has taken a piece.
 pub use Rattle.pgv_copy.specs.CopyPieces.{Advances, next_of, with_more}
 -- Of arguments: their buffer, their types, and type and frame of each. `early (framed a) types oids` are the bytes of these frames,
 -- written with types and OIDs from the start. `Added frame type old new`: what an accepted `add` has put after what was there.
