@@ -21,6 +21,7 @@ use Rattle.pgv_wire.specs.MainSentence.{MainSentence, HoldsAfter}
 use Rattle.pgv_wire.specs.Parts.{AreFrames, ReadAs, OfImages}
 use Rattle.pgv_message.specs.Frames.{bind_of}
 use Rattle.pgv_message.specs.Echo.{ColumnsComeBack, ComeBack}
+use Rattle.pgv_value.proofs.ReadFronts.{are_bytes}
 use Rattle.pgv_message.proofs.Frames.{frames_are, bind_is, arguments_fit}
 
 accepted : (b c : Bool) → c ≡ true → not (b || c) ≡ false

@@ -9,7 +9,7 @@ use Rattle.pgv_value.specs.Laws.{AreBytes}
 use Rattle.pgv_value.specs.declared.value.PgValueFormat.{PgValueFormat}
 use Rattle.pgv_value.proofs.Fronts.{front_exactly}
 use Rattle.pgv_value.proofs.Numbers.{bytes_after}
-use Rattle.pgv_value.proofs.ReadFronts.{frame_bytes}
+use Rattle.pgv_value.proofs.ReadFronts.{are_bytes, frame_bytes}
 use Rattle.pgv_buf.specs.Tokens.{shown}
 use Rattle.pgv_wire.specs.Arguments.{Argument, all_tokens}
 use Rattle.pgv_wire.specs.Parts.{ReadAs, AllRead, parts_in}
