@@ -1,11 +1,11 @@
-//! PostgreSQL's value codec, as `sqlx-postgres` has it, proved: one crate to depend on. It holds no code; each name is handed on from
-//! the crate that has it.
+//! PostgreSQL's value codec, as `sqlx-postgres` has it, proved: one crate to depend on. It holds no code; each name is
+//! re-exported from the crate that has it.
 //!
 //! - At the top what a binder and a reader of rows need: [`PgArguments`], [`PgValueRef`], types and the traits.
 //! - [`types`]: the Rust types of values, beside those of std, `jiff` and `uuid`.
 //! - [`text`]: readers of whole texts.
-//! - [`row`], [`message`], [`catalog`]: rows of a statement's result, the messages around parameters and rows, and the types of a server that are not built
-//!   in: what a driver stands on.
+//! - [`row`], [`message`], [`catalog`]: rows of a statement's result, the messages around parameters and rows, and the
+//!   types of a server that are not built in: what a driver stands on.
 //! - [`laws`]: what is proved of all of it, each law the contract of a function that does nothing.
 #![tactic(auto)]
 
@@ -15,7 +15,7 @@ pub use pgv_codec::{
     PgRecordDecoder, PgRecordEncoder, Plain, ReadBack, Type, encode_array, encode_text,
     type_of_value,
 };
-pub use pgv_copy::PgCopyReader;
+pub use pgv_copy::{PgCopyNext, PgCopyPieces, PgCopyReader};
 pub use pgv_range::range_compatible;
 pub use pgv_types::{
     IdentifierChar, IdentifierChars, Oid, PgArrayOf, PgCustomType, PgType, PgTypeInfo, PgTypeKind,

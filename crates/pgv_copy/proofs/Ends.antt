@@ -1,5 +1,5 @@
 -- What is read in front leaves the end of the bytes.
-use Rattle.std.proofs.Common.{◌≡◌, ℕ, ◌+◌, ◌-◌, ◌≤◌, Bool, true, false, cond, nat_lt, List, [], ◌∷◌, length, take, drop, Option, Some, None, Ok, Err, refl, sym, ap, ◌∙◌, subst, arith}
+use Rattle.std.proofs.Common.{◌≡◌, ℕ, ◌+◌, ◌-◌, ◌<◌, ◌≤◌, Bool, true, false, cond, nat_lt, List, [], ◌∷◌, length, take, drop, Option, Some, None, Ok, Err, refl, sym, ap, ◌∙◌, subst, arith}
 use Rattle.std.specs.Prelude.{ℤ, bytes_eq}
 use Rattle.std.proofs.lemmas.Bool.{ltb-false}
 use Rattle.std.proofs.lemmas.List.{drop-drop, length-drop, take_all}
@@ -127,6 +127,19 @@ count_end width bytes rest e =
     let a = and_then_taken {A = ℤ × List ℕ} (i16_front bytes) _ (Some rest) e in
     subst (IsEnd bytes) (counted _ _ _ _ a.0.1 rest a.2) (two_end bytes a.0.1 a.0.0 a.1)
 
+two_shorter : (bytes rest : List ℕ) (n : ℤ) → i16_front bytes ≡ Ok (n, rest) → length rest < length bytes
+unfolding signed_two
+two_shorter bytes rest n e =
+    let t = test_failed (nat_lt (length bytes) 2) _ (n, rest) (found_or (signed_two bytes) Short (n, rest) e) in
+    let is : drop 2 bytes ≡ rest = ap (λ (p : ℤ × List ℕ). p.1) (same_Some {A = ℤ × List ℕ} _ _ t.1) in
+    omega (arith, ltb-false (length bytes) 2 t.0, ap length is, length-drop 2 bytes)
+
+count_shorter : (width : ℕ) (bytes rest : List ℕ) → after_count width bytes ≡ Ok (Some rest) → length rest < length bytes
+unfolding after_count
+count_shorter width bytes rest e =
+    let a = and_then_taken {A = ℤ × List ℕ} (i16_front bytes) _ (Some rest) e in
+    subst (λ (xs : List ℕ). length xs < length bytes) (counted _ _ _ _ a.0.1 rest a.2) (two_shorter bytes a.0.1 a.0.0 a.1)
+
 -- ---- the next row
 
 module _ (types : List Ty) (in_header : Bool) (bytes rest : List ℕ) (begun : after_begin in_header bytes ≡ Ok rest) where
@@ -164,6 +177,7 @@ module _ (types : List Ty) (in_header : Bool) (bytes rest : List ℕ) (begun : a
         rest_end = end_of_end bytes row after row_is (fields_end types row after f.0.0 read);
         found = read;
         read = a_row row after f.0.0 counts read;
+        shorter = omega (arith, end_within row after (fields_end types row after f.0.0 read), count_shorter (length types) rest row counts, end_within bytes rest (begin_end in_header bytes rest begun));
       }
 
 pub not_begun : (types : List Ty) (in_header : Bool) (bytes : List ℕ) (e : CodecError) → after_begin in_header bytes ≡ Err e → next_of types in_header bytes ≡ Err e
@@ -213,6 +227,7 @@ pub record Advanced (types : List Ty) (in_header : Bool) (bytes left : List ℕ)
   pub given : List Given
   pub read : next_of types in_header bytes ≡ Ok (Some given, before types left)
   pub row_is : row ≡ Some given
+  pub shorter : length left < length bytes
 
 pub advanced : (types : List Ty) (in_header : Bool) (next : ℕ) (held row rest : List ℕ) (size again : ℕ) → next ≤ length held → size ≡ length held → again ≡ length held → IsRowIn types in_header (drop next held) row rest →
     Advanced types in_header (drop next held) (drop (again - length rest) held) (row_at true types (drop (size - length row) held))
@@ -223,6 +238,7 @@ advanced types in_header next held row rest size again le is is_again r =
       given = r.given;
       read = r.read ∙ ap (λ (xs : List ℕ). let s : Step = Ok (Some r.given, before types xs) in s) (sym rest_is.1);
       row_is = ap (λ (xs : List ℕ). row_by (fields types xs)) row_is.1 ∙ ap row_by r.found;
+      shorter = subst (λ (xs : List ℕ). length xs < length (drop next held)) (sym rest_is.1) r.shorter;
     })
 
 -- what a range up to the end gives

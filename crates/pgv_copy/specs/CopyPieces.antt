@@ -3,7 +3,7 @@
 -- `Advances` is what a call of a reader of pieces answers, and the reader after it.
 -- Laws: what is said of bytes is said whatever comes after them (`WhatCameStays`); rows that are read after each piece are the rows
 -- of the joined bytes (`PiecesAreOneStream`), and of a whole stream all of its rows (`CopyInPiecesIsItsRows`).
-use Rattle.std.specs.Prelude.{◌≡◌, ◌≢◌, ◌⊎◌, ◌≤◌, ℕ, Bool, true, false, List, [], ◌∷◌, ◌++◌, map, flat_map, length, drop, option_map, Option, Some, None, Result, Ok, Err, refl, if◌then◌else◌}
+use Rattle.std.specs.Prelude.{◌≡◌, ◌≢◌, ◌⊎◌, ◌≤◌, ◌<◌, ℕ, Bool, true, false, List, [], ◌∷◌, ◌++◌, map, flat_map, length, drop, option_map, Option, Some, None, Result, Ok, Err, refl, if◌then◌else◌}
 use Rattle.std.specs.Coded.{Coded, code_by, coded×, coded_bool, coded_ℕ, coded_list, coded_option}
 use Rattle.pgv_types.specs.Ty.{Ty, ty_code}
 use Rattle.pgv_value.specs.FrameBinary.{Part}
@@ -137,6 +137,7 @@ pub record IsRowIn (types : List Ty) (in_header : Bool) (bytes row rest : List �
   pub rest_end : IsEnd bytes rest
   pub found : fields types row ≡ Ok (given, rest)
   pub read : next_of types in_header bytes ≡ Ok (Some given, before types rest)
+  pub shorter : length rest < length bytes
 
 -- what comes after the fields of a row
 abbrev pub rest_after : Parsed (List Given × List ℕ) → Parsed (List ℕ)

@@ -1,9 +1,10 @@
 //! Rows of a COPY stream that comes in pieces.
 
-ghost use Rattle.std.specs.Prelude.{◌≡◌, ◌≤◌, Ok, Err, None, IfOk, IfErr, IfSome, OnErr, drop, length, option_map};
+ghost use Rattle.std.specs.Prelude.{◌≡◌, ◌<◌, ◌≤◌, Ok, Err, None, IfOk, IfErr, IfSome, OnErr, drop, length, option_map};
 ghost use Rattle.pgv_value.specs.Parsed.{GivesExactly};
 ghost use Rattle.pgv_value.specs.declared.error.CodecError.TheVariants.{Memory};
 ghost use Rattle.pgv_copy.specs.CopyBinary.{ended, fields};
+ghost use Rattle.pgv_copy.specs.declared.pieces.PgCopyNext.TheVariants.{Row};
 ghost use Rattle.pgv_copy.specs.CopyPieces.{Advances, IsRowIn, after_begin, next_of, nothing_came, rest_after, with_more};
 
 use crate::reader::{after_count, after_header, read_fields};
@@ -146,7 +147,9 @@ impl PgCopyPieces {
     /// from then on. A header or a row that is refused is refused as by [`PgCopyReader`](crate::PgCopyReader), and the reader
     /// is as it was.
     pub fn advance(&mut self) -> Result<PgCopyNext, CodecError>
-        ensures { Advances self.old result self.new }
+        ensures found { Advances self.old result self.new }
+        // Each row takes bytes, so a loop over the rows ends.
+        ensures shorter { IfOk result (λ next. next ≡ Row → length self.new.left < length self.old.left) }
     {
         if self.is_ended {
             return Ok(PgCopyNext::End);
