@@ -1,11 +1,12 @@
 -- Types that are made one after another, of the parts that their rows name.
-use Rattle.std.proofs.Common.{◌≡◌, ◌∙◌, ℕ, Bool, true, false, cond, List, [], ◌∷◌, ◌++◌, map, Option, Some, None, refl, sym, ap, subst, append_assoc, append-nil}
-use Rattle.std.specs.Prelude.{◌==◌, option_map, string_bytes}
+use Rattle.std.proofs.Common.{◌≡◌, ℕ, true, false, List, [], ◌∷◌, ◌++◌, map, Option, Some, None, refl, sym, ap, subst, append_assoc, append-nil}
+use Rattle.std.specs.Prelude.{◌==◌, string_bytes}
+use Rattle.std.specs.List.{AllByRecursion}
 use Rattle.std.specs.Rc.{rc_str_bytes}
 use Rattle.std.specs.declared.alloc.Global.{Global}
 use Rattle.std.specs.declared.rc.RcStr.{RcStr}
 use Rattle.pgv_types.specs.Shown.{fields_of}
-use Rattle.pgv_types.specs.Ty.{Ty, Fields, field}
+use Rattle.pgv_types.specs.Ty.{Ty, field}
 use Rattle.pgv_value.specs.Steps.{◌>>=◌}
 use Rattle.pgv_catalog.specs.Entries.{Entry}
 use Rattle.pgv_catalog.specs.Rows.{AreMade, IsOfRows, fields_from, fields_in, named_type, part_in}
@@ -52,3 +53,7 @@ pub one_more_made : (rows : PgCatalogRows) (before entries : List Entry) (e : En
 one_more_made rows before [] e are is = (subst (λ (list : List Entry). IsOfRows rows list e) (append-nil before) is, tt)
 one_more_made rows before (x ∷ entries) e are is =
     (are.0, one_more_made rows (before ++ x ∷ []) entries e are.1 (subst (λ (list : List Entry). IsOfRows rows list e) (sym (append_assoc before (x ∷ []) entries)) is))
+
+pub all_more : {X : Type 0} (P : X → Type 0) (xs : List X) (x : X) → AllByRecursion P xs → P x → AllByRecursion P (xs ++ x ∷ [])
+all_more P [] x each is = (is, tt)
+all_more P (y ∷ xs) x each is = (each.0, all_more P xs x each.1 is)

@@ -2,7 +2,7 @@
 use Rattle.std.proofs.Common.{◌≡◌, ◌⊎◌, ◌<◌, ◌≤◌, ℕ, zero, suc, Bool, true, false, cond, List, [], ◌∷◌, ◌++◌, length, get_or, Option, Some, None, refl, sym, ap, ◌∙◌, subst, inl, inr, arith}
 use Rattle.std.specs.Prelude.{◌==◌, ◌||◌, flat_map, is_none, option_map, string_bytes}
 use Rattle.std.specs.List.{AllByRecursion}
-use Rattle.std.proofs.lemmas.Bool.{eqb-true}
+use Rattle.std.proofs.lemmas.Bool.{eq-eqb, eqb-true}
 use Rattle.pgv_types.specs.Facts.{built_in}
 use Rattle.pgv_types.specs.Ty.{Ty, by_oid}
 use Rattle.pgv_value.specs.Steps.{◌>>=◌}
@@ -45,7 +45,7 @@ record IsToCome (rows : List PgTypeRow) (known : List Entry) (oid : ℕ) : Type 
   there : has_row rows oid ≡ true
 
 -- a part is still to come
-Awaits : List PgTypeRow → List Entry → List ℕ → Type 0
+abbrev Awaits : List PgTypeRow → List Entry → List ℕ → Type 0
 Awaits rows known parts = (oid : ℕ) × IsIn oid parts × IsToCome rows known oid
 
 to_come_by : (rows : List PgTypeRow) (known : List Entry) (oid : ℕ) (a b : Option Ty) (c : Bool) → built_in oid ≡ a → with_oid oid known ≡ b → has_row rows oid ≡ c →
@@ -167,21 +167,34 @@ record IsRowOf (rows : List PgTypeRow) (oid : ℕ) : Type 0 where
 
 row_of : (rows : List PgTypeRow) (oid : ℕ) → has_row rows oid ≡ true → IsRowOf rows oid
 row_of [] oid e = absurd cc
-row_of (r ∷ rows) oid e = by (either (r.oid.0 == oid) (has_row rows oid) e)
+row_of (r ∷ rows) oid e = by (row_of rows oid) (either (r.oid.0 == oid) (has_row rows oid) e)
   where
-    by : ((r.oid.0 == oid) ≡ true) ⊎ (has_row rows oid ≡ true) → IsRowOf (r ∷ rows) oid
-    by (inl same) = record { row = r; there = inl refl; own = eqb-true r.oid.0 oid same }
-    by (inr more) = let next = row_of rows oid more in record { row = next.row; there = inr next.there; own = next.own }
+    by : (has_row rows oid ≡ true → IsRowOf rows oid) → ((r.oid.0 == oid) ≡ true) ⊎ (has_row rows oid ≡ true) → IsRowOf (r ∷ rows) oid
+    by next (inl same) = record { row = r; there = inl refl; own = eqb-true r.oid.0 oid same }
+    by next (inr more) = let found = next more in record { row = found.row; there = inr found.there; own = found.own }
 
 pub endless : (rows : PgCatalogRows) (known : List Entry) → AllAwait rows known rows.types.items → (row : PgTypeRow) → IsIn row rows.types.items → with_oid row.oid.0 known ≡ None →
     (n : ℕ) → HasParts rows row.oid.0 n
 endless rows known all row there none zero = tt
-endless rows known all row there none (suc n) = by (each_is _ rows.types.items row all there)
+endless rows known all row there none (suc n) = by (λ next is_in waits. endless rows known all next is_in waits n) (each_is _ rows.types.items row all there)
   where
-    by : ((with_oid row.oid.0 known ≡ None → ⊥) ⊎ (entry_in rows known row ≡ None)) → HasParts rows row.oid.0 (suc n)
-    by (inl made) = absurd (made none)
-    by (inr waits) =
+    by : ((next : PgTypeRow) → IsIn next rows.types.items → with_oid next.oid.0 known ≡ None → HasParts rows next.oid.0 n) →
+        ((with_oid row.oid.0 known ≡ None → ⊥) ⊎ (entry_in rows known row ≡ None)) → HasParts rows row.oid.0 (suc n)
+    by more (inl made) = absurd (made none)
+    by more (inr waits) =
         let a = entry_awaits rows known row waits in
         let next = row_of rows.types.items a.0 a.2.there in
         let not_made : with_oid next.row.oid.0 known ≡ None = ap (λ (o : ℕ). with_oid o known) next.own ∙ a.2.not_made in
-        (row, there, refl, (a.0, a.1, a.2.not_built_in, subst (λ (o : ℕ). HasParts rows o n) next.own (endless rows known all next.row next.there not_made n)))
+        (row, there, refl, (a.0, a.1, a.2.not_built_in, subst (λ (o : ℕ). HasParts rows o n) next.own (more next.row next.there not_made)))
+
+-- ---- the type of a row
+
+mapped_some : {A B : Type 0} (f : A → B) (o : Option A) (y : B) → option_map f o ≡ Some y → (x : A) × (f x ≡ y)
+mapped_some f None y e = absurd cc
+mapped_some f (Some x) y e = (x, cc)
+
+-- it has the row's OID
+pub entry_oid : (rows : PgCatalogRows) (known : List Entry) (row : PgTypeRow) (e : Entry) → entry_in rows known row ≡ Some e → has_oid row.oid.0 e.ty ≡ true
+entry_oid rows known row e is =
+    let made = mapped_some (entry_of row) (kind_in rows known row) e is in
+    subst (λ (x : Entry). has_oid row.oid.0 x.ty ≡ true) made.1 (eq-eqb row.oid.0 row.oid.0 refl)

@@ -2,7 +2,7 @@
 -- `entry_in` is the type that a row shows, of parts that are known already: a part is the built-in type of its OID; else the one of the
 -- catalogue that has it; else, where it has no row, known by its OID alone. Where a part is still to come there is none yet.
 -- `AreMade`: each type is shown by a row, of parts that come before it. `HasEndlessParts`: a type is among its own parts' parts.
-use Rattle.std.specs.Prelude.{◌≡◌, ◌≢◌, ◌==◌, ◌⊎◌, ℕ, zero, suc, Bool, true, List, [], ◌∷◌, ◌++◌, flat_map, is_none, option_map, string_bytes, Option, Some, None, ⊤, if◌then◌else◌}
+use Rattle.std.specs.Prelude.{◌≡◌, ◌≢◌, ◌==◌, ◌⊎◌, ℕ, zero, suc, Bool, List, [], ◌∷◌, ◌++◌, flat_map, is_none, option_map, string_bytes, Option, Some, None, ⊤, if◌then◌else◌}
 use Rattle.std.specs.List.{AllByRecursion, list_any}
 use Rattle.std.specs.Rc.{rc_str_bytes}
 use Rattle.std.specs.declared.alloc.Global.{Global}

@@ -182,6 +182,19 @@ fn add_ready(
     Ok(added)
 }
 
+/// The types of all rows whose parts can be made.
+fn make_all(alloc: Global, rows: &PgCatalogRows) -> Result<PgServerTypes, AllocError>
+    ensures each { IfOk result (AreMade rows.now []) }
+    ensures waiting { IfOk result (λ types. AllAwait rows.now types rows.now.types.items) }
+{
+    let mut known = PgServerTypes::new(alloc);
+    loop {
+        if !add_ready(alloc, rows, &mut known)? {
+            return Ok(known);
+        }
+    }
+}
+
 /// The first row whose type was not made.
 fn missing(rows: &[PgTypeRow], known: &PgServerTypes) -> Option<Oid>
     ensures missing { IfSome result (λ oid. with_oid oid.0 known.now ≡ None) }
@@ -217,12 +230,7 @@ impl PgServerTypes {
         ensures refused { IfErr result (λ e.
             (e ≡ Memory) ⊎ ((oid : OidValue) × (e ≡ Cycle oid) × HasEndlessParts rows.now oid.0)) }
     {
-        let mut known = PgServerTypes::new(alloc);
-        loop {
-            if !add_ready(alloc, rows, &mut known)? {
-                break;
-            }
-        }
+        let known = make_all(alloc, rows)?;
         match missing(rows.types.as_slice(), &known) {
             Some(oid) => Err(CatalogError::Cycle(oid)),
             None => Ok(known),
