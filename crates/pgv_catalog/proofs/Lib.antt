@@ -1,3 +1,3 @@
 mod Holes
-mod Found
-mod Passed
+mod Made
+mod Waiting

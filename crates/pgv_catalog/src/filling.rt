@@ -1,10 +1,7 @@
 //! OIDs of a catalogue, put into the holes of arguments.
 
-ghost use Rattle.std.specs.Prelude.{◌≡◌, ◌≢◌, ◌<◌, List, length, map, Some, None, IfOk, IfErr, OnOk, OnErr};
-ghost use Rattle.pgv_types.specs.declared.oid.Oid.{Oid as OidValue};
-ghost use Rattle.pgv_buf.specs.Tokens.{hole_types_of, shown};
-ghost use Rattle.pgv_wire.specs.Arguments.{all_tokens, early, framed};
-ghost use Rattle.pgv_catalog.specs.Filling.{AreNamed, FillRefused, OidsRefused};
+ghost use Rattle.std.specs.Prelude.{◌≡◌, IfOk, IfErr, OnOk, OnErr};
+ghost use Rattle.pgv_catalog.specs.Filling.{AreNamed, FillRefused, IsFilled, OidsRefused};
 
 use crate::error::CatalogError;
 use crate::names::PgNames;
@@ -13,18 +10,19 @@ use pgv_value::CodecError;
 use pgv_wire::PgArguments;
 use std::alloc::Global;
 
-/// Puts into each hole of arguments the OID that the catalogue has for its type, and fills each slot by the parameter types that the server named, one for each argument.
+/// Puts into each hole of arguments the OID that the catalogue has for its type, and fills each slot by the parameter
+/// types that the server named, one for each argument.
 ///
-/// C10 where there are not as many types as arguments, and [`CatalogError::Unknown`] where a hole's type is not in the catalogue; then nothing was changed.
+/// C10 where there are not as many types as arguments, else [`CatalogError::Unknown`] of the first hole whose type is not
+/// in the catalogue. A refusal changes nothing.
 pub fn fill<N: PgNames>(
     alloc: Global,
     arguments: &mut PgArguments,
     parameters: &[PgTypeInfo],
     catalog: &N,
 ) -> Result<(), CatalogError>
-    // The bytes are the frames written early with these types, and with the OIDs that the catalogue has for the types of the holes.
-    ensures written { OnOk result ((oids : List OidValue) × AreNamed (N.named catalog.now) (hole_types_of (all_tokens arguments.old)) oids × (shown (all_tokens arguments.new) ≡ early (framed arguments.old) parameters.now oids)) }
-    ensures refused { IfErr result (FillRefused (N.named catalog.now) (hole_types_of (all_tokens arguments.old)) (length parameters.now) (length arguments.old)) }
+    ensures written { OnOk result (IsFilled (N.named catalog.now) arguments.old parameters.now arguments.new) }
+    ensures refused { IfErr result (FillRefused (N.named catalog.now) arguments.old parameters.now) }
     ensures unchanged { OnErr result (arguments.new ≡ arguments.old) }
 {
     if parameters.len() != arguments.len() {

@@ -1,15 +1,13 @@
 //! Types made of the rows of a catalogue, parts before wholes.
 
-ghost use Rattle.std.specs.Prelude.{◌≡◌, ◌⊎◌, List, [], Some, None, IfOk, IfErr, IfSome, OnOk, map, string_bytes};
+ghost use Rattle.std.specs.Prelude.{◌≡◌, ◌<◌, ◌⊎◌, List, [], true, false, Some, None, IfOk, IfErr, IfSome, OnOk, map, option_map, string_bytes};
 ghost use Rattle.std.specs.Rc.{rc_slice_items, rc_str_bytes};
-ghost use Rattle.std.specs.List.{AllByRecursion};
-ghost use Rattle.pgv_types.specs.Facts.{oid_of};
-ghost use Rattle.pgv_types.specs.Shown.{kind_of as kind_shown, fields_of};
-ghost use Rattle.pgv_types.specs.Ty.{custom};
+ghost use Rattle.pgv_types.specs.Shown.{kind_of as kind_shown};
 ghost use Rattle.pgv_types.specs.declared.oid.Oid.{Oid as OidValue};
-ghost use Rattle.pgv_catalog.specs.Rows.{AreAllKnown, IsKindOf, IsOfRows, IsTypeOf, field_list, field_rows, full_name_of, has_row, label_rows};
+ghost use Rattle.pgv_catalog.specs.Rows.{AllAwait, AreAllKnown, AreMade, HasEndlessParts, IsIn, entry_in, entry_of, fields_in, full_name_of, has_row, kind_in, label_rows, named_type, part_in, unmade};
 ghost use Rattle.pgv_catalog.specs.Entries.{with_oid};
 ghost use Rattle.pgv_catalog.specs.declared.error.CatalogError.TheVariants.{Memory, Cycle};
+ghost use Rattle.pgv_catalog.specs.declared.rows.PgTypeRow.{PgTypeRow as TypeRow};
 
 use crate::error::CatalogError;
 use crate::rows::{PgCatalogRows, PgFieldRow, PgLabelRow, PgTypeClass, PgTypeRow};
@@ -26,14 +24,14 @@ fn has_type(rows: &[PgTypeRow], oid: Oid) -> bool
     rows.iter().any(|row| row.oid == oid)
 }
 
-/// The type with this OID as a part of another: the built-in one, or the one that was made of its row. One that has no row is known by its OID
-/// alone. None where its row is still to come.
+/// The type with this OID as a part of another: the built-in one, or the one that was made of its row. One that has no
+/// row is known by its OID alone. None where its row is still to come.
 fn part_of(
     rows: &[PgTypeRow],
     oid: Oid,
     known: &PgServerTypes,
 ) -> Result<Option<PgTypeInfo>, AllocError>
-    ensures { IfOk result (λ part. IfSome part (λ t. oid_of t ≡ Some oid.0)) }
+    ensures { IfOk result (λ part. part ≡ part_in rows.now known.now oid.0) }
 {
     if let Some(built_in) = PgTypeInfo::try_from_oid(oid) {
         return Ok(Some(built_in));
@@ -54,7 +52,8 @@ fn fields_of_type(
     oid: Oid,
     known: &PgServerTypes,
 ) -> Result<Option<Vec<(RcStr, PgTypeInfo)>>, AllocError>
-    ensures { IfOk result (λ found. IfSome found (λ fields. field_list (fields_of fields.items) ≡ field_rows oid.0 rows.now.fields.items)) }
+    ensures { IfOk result (λ found. option_map (λ fields. map named_type fields.items) found
+        ≡ fields_in rows.now.types.items known.now oid.0 rows.now.fields.items) }
 {
     let mut fields = Vec::new(alloc);
     for row in rows.fields.as_slice() {
@@ -92,7 +91,7 @@ fn kind_of(
     row: &PgTypeRow,
     known: &PgServerTypes,
 ) -> Result<Option<PgTypeKind>, AllocError>
-    ensures { IfOk result (λ found. IfSome found (λ kind. IsKindOf rows.now.fields.items rows.now.labels.items row.now (kind_shown kind))) }
+    ensures { IfOk result (λ found. option_map kind_shown found ≡ kind_in rows.now known.now row.now) }
 {
     let types = rows.types.as_slice();
     match row.class {
@@ -133,9 +132,7 @@ fn full_name(alloc: Global, row: &PgTypeRow) -> Result<String, AllocError>
 
 /// The type of a row, of this kind.
 fn server_type(alloc: Global, row: &PgTypeRow, kind: PgTypeKind) -> Result<PgServerType, AllocError>
-    ensures name { IfOk result (λ made. made.full_name ≡ full_name_of row.now) }
-    ensures visible { IfOk result (λ made. made.is_visible ≡ row.now.is_visible) }
-    ensures of_kind { IfOk result (λ made. made.ty ≡ custom row.now.oid.0 (string_bytes row.now.name) (kind_shown kind)) }
+    ensures { IfOk result (λ made. made ≡ entry_of row.now (kind_shown kind)) }
 {
     let full_name = full_name(alloc, row)?;
     let type_info = PgTypeInfo::custom(alloc, row.oid, row.name.as_str(), kind)?;
@@ -153,7 +150,7 @@ fn ready_type(
     row: &PgTypeRow,
     known: &PgServerTypes,
 ) -> Result<Option<PgServerType>, AllocError>
-    ensures { IfOk result (λ found. IfSome found (IsTypeOf rows.now.fields.items rows.now.labels.items row.now)) }
+    ensures { IfOk result (λ found. found ≡ entry_in rows.now known.now row.now) }
 {
     match kind_of(alloc, rows, row, known)? {
         Some(kind) => Ok(Some(server_type(alloc, row, kind)?)),
@@ -161,28 +158,47 @@ fn ready_type(
     }
 }
 
-/// Makes the types of all rows whose parts are known, in the order of the rows.
+/// Makes the types of all rows whose parts are known, in the order of the rows. Whether there was one.
 fn add_ready(
     alloc: Global,
     rows: &PgCatalogRows,
     known: &mut PgServerTypes,
-) -> Result<(), AllocError>
-    requires { AllByRecursion (IsOfRows rows.now) known.old }
-    ensures { OnOk result (AllByRecursion (IsOfRows rows.now) known.new) }
+) -> Result<bool, AllocError>
+    requires { AreMade rows.now [] known.old }
+    ensures each { OnOk result (AreMade rows.now [] known.new) }
+    ensures fewer { IfOk result (λ added. added ≡ true →
+        unmade known.new rows.now.types.items < unmade known.old rows.now.types.items) }
+    ensures waiting { IfOk result (λ added. added ≡ false → AllAwait rows.now known.new rows.now.types.items) }
 {
+    let mut added = false;
     for row in rows.types.as_slice() {
         if known.type_of(row.oid).is_none() {
             if let Some(made) = ready_type(alloc, rows, row, known)? {
                 known.list.push(made)?;
+                added = true;
             }
         }
     }
-    Ok(())
+    Ok(added)
+}
+
+/// The types of all rows whose parts can be made.
+fn make_all(alloc: Global, rows: &PgCatalogRows) -> Result<PgServerTypes, AllocError>
+    ensures each { IfOk result (AreMade rows.now []) }
+    ensures waiting { IfOk result (λ types. AllAwait rows.now types rows.now.types.items) }
+{
+    let mut known = PgServerTypes::new(alloc);
+    loop {
+        if !add_ready(alloc, rows, &mut known)? {
+            return Ok(known);
+        }
+    }
 }
 
 /// The first row whose type was not made.
 fn missing(rows: &[PgTypeRow], known: &PgServerTypes) -> Option<Oid>
     ensures missing { IfSome result (λ oid. with_oid oid.0 known.now ≡ None) }
+    ensures there { IfSome result (λ oid. (row : TypeRow) × IsIn row rows.now × (row.oid.0 ≡ oid.0)) }
     ensures none { result ≡ None → AreAllKnown rows.now known.now }
 {
     for row in rows {
@@ -203,22 +219,18 @@ impl PgServerTypes {
         }
     }
 
-    /// The types that the rows of a server's catalogue show: each has the OID, the name and the kind that its rows have, and its parts come before it.
+    /// The types that the rows of a server's catalogue show: each has the OID, the name and the kind that its rows have, and
+    /// its parts are the types that come before it.
     ///
-    /// [`CatalogError::Cycle`] where a type is a part of itself. A part that is neither built in nor has a row is known by its OID alone.
+    /// [`CatalogError::Cycle`] of a type whose parts can be followed without end, since one of them is a part of itself. A
+    /// part that is neither built in nor has a row is known by its OID alone.
     pub fn resolve(alloc: Global, rows: &PgCatalogRows) -> Result<PgServerTypes, CatalogError>
-        ensures each { IfOk result (λ types. AllByRecursion (IsOfRows rows.now) types) }
+        ensures each { IfOk result (AreMade rows.now []) }
         ensures all { IfOk result (λ types. AreAllKnown rows.now.types.items types) }
-        ensures refused { IfErr result (λ e. (e ≡ Memory) ⊎ ((oid : OidValue) × (e ≡ Cycle oid))) }
+        ensures refused { IfErr result (λ e.
+            (e ≡ Memory) ⊎ ((oid : OidValue) × (e ≡ Cycle oid) × HasEndlessParts rows.now oid.0)) }
     {
-        let mut known = PgServerTypes::new(alloc);
-        for _ in 0..rows.types.len() {
-            let before = known.len();
-            add_ready(alloc, rows, &mut known)?;
-            if known.len() == before {
-                break;
-            }
-        }
+        let known = make_all(alloc, rows)?;
         match missing(rows.types.as_slice(), &known) {
             Some(oid) => Err(CatalogError::Cycle(oid)),
             None => Ok(known),

@@ -1,6 +1,5 @@
-use Rattle.std.proofs.Common.{rules, sym, ap, ◌∙◌, length}
+use Rattle.std.proofs.Common.{rules, ap, length}
 use Rattle.pgv_buf.specs.Proper.{length-hole_types_of}
-use Rattle.pgv_buf.specs.Tokens.{hole_types_of}
 use Rattle.pgv_wire.specs.Arguments.{all_tokens}
 use Rattle.pgv_catalog.proofs.Holes.{as_many}
 use Rattle.pgv_catalog.proofs.filling.fill.Goals as goal

@@ -1,8 +1,10 @@
-use Rattle.std.proofs.Common.{◌≡◌, map, take}
-use Rattle.pgv_catalog.specs.Rows.{field_rows}
-use Rattle.pgv_catalog.proofs.Passed.{shown_field}
+use Rattle.std.proofs.Common.{◌≡◌, drop, map}
+use Rattle.pgv_catalog.specs.Rows.{fields_in, named_type}
+use Rattle.pgv_catalog.proofs.Made.{with_before}
 use Rattle.pgv_catalog.proofs.resolve.fields_of_type.Given as goal
 
--- the fields so far
+-- the fields so far, before those of the rows that are left, are all fields
 abbrev pub invariant-loop-row : goal.invariant-loop-row
-invariant-loop-row l = map shown_field l.fields.items ≡ field_rows l.oid.0 (take l.row-index l.row-items)
+invariant-loop-row l =
+    with_before (map named_type l.fields.items) (fields_in l.rows.types.items l.known l.oid.0 (drop l.row-index l.row-items))
+    ≡ fields_in l.rows.types.items l.known l.oid.0 l.row-items
