@@ -4,6 +4,7 @@
 //! refused ends its session, with the refusal on a line of its own.
 #![tactic(auto)]
 
+mod body;
 mod came;
 mod fault;
 mod lines;
