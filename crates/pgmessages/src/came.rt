@@ -75,12 +75,23 @@ impl Came {
             if self.is_started && !is_simple {
                 exchange.step(message.tag)?;
             }
-            out.push_str("  ")?;
-            self.show_message(alloc, &message, known, out)?;
-            out.push('\n')?;
+            self.show_line(alloc, &message, known, out)?;
             rest = message.rest;
         }
         Ok(())
+    }
+
+    /// Appends a line for a message.
+    fn show_line(
+        &mut self,
+        alloc: Global,
+        message: &PgMessage<'_>,
+        known: &PgServerTypes,
+        out: &mut String,
+    ) -> Result<(), Fault> {
+        out.push_str("  ")?;
+        self.show_message(alloc, message, known, out)?;
+        Ok(out.push('\n')?)
     }
 
     /// Appends what a message is.

@@ -2,24 +2,23 @@
 
 ghost use Rattle.std.specs.Prelude.{◌≡◌, Ok, IfOk};
 
-use pgv::message::{MessageError, Prepared, message_in_front};
-use pgv::message::{write_bind, write_describe, write_execute, write_parse, write_sync};
+use pgv::message::{self, MessageError, Prepared};
 use pgv::row::{FromRow, PgColumns, PgPlaces, PgRow};
-use pgv::{CodecError, Decode, PgArguments, PgTypeInfo, PgValueFormat};
+use pgv::{CodecError, PgArguments, PgTypeInfo, PgValueFormat};
 use std::alloc::Global;
 
 /// Appends what asks for the description of a statement.
 pub fn ask(out: &mut Vec<u8>, sql: &str) -> Result<(), MessageError> {
-    write_parse(out, "", sql, &[])?;
-    write_describe(out, Prepared::Statement, "")?;
-    write_sync(out)
+    message::write_parse(out, "", sql, &[])?;
+    message::write_describe(out, Prepared::Statement, "")?;
+    message::write_sync(out)
 }
 
 /// Appends what runs it with these arguments, for all rows in binary.
 pub fn run(out: &mut Vec<u8>, arguments: &PgArguments) -> Result<(), MessageError> {
-    write_bind(out, "", "", arguments, &[PgValueFormat::Binary])?;
-    write_execute(out, "", 0)?;
-    write_sync(out)
+    message::write_bind(out, "", "", arguments, &[PgValueFormat::Binary])?;
+    message::write_execute(out, "", 0)?;
+    message::write_sync(out)
 }
 
 /// The columns of a RowDescription, which comes before Bind and so says text.
@@ -32,7 +31,8 @@ pub fn columns_of(alloc: Global, body: &[u8]) -> Result<PgColumns<'_>, CodecErro
 
 /// The first two columns of a row: an `int4`, and a `text` that may be null.
 pub fn person(alloc: Global, row: &PgRow<'_>) -> Result<(i32, Option<String>), CodecError>
-    ensures { IfOk result (λ person. (⟦<(i32, Option<String>) as FromRow>⟧.parse row.now).answer ≡ Ok (⟦<i32 as Decode>⟧.meaning person.0, ⟦<Option<String> as Decode>⟧.meaning person.1)) }
+    ensures { let read = ⟦<(i32, Option<String>) as FromRow>⟧.parse row.now in
+        IfOk result (λ p. read.answer ≡ Ok (⟦<(i32, Option<String>) as FromRow>⟧.meaning p)) }
 {
     Ok(row.as_tuple::<(i32, Option<String>)>(alloc)?)
 }
@@ -47,14 +47,14 @@ pub fn people(
     let mut people = Vec::new(alloc);
     let mut rest = came;
     for _ in 0..came.len() {
-        let Ok(Some(message)) = message_in_front(rest) else {
+        let Ok(Some(found)) = message::message_in_front(rest) else {
             return Ok(people);
         };
-        if message.tag == b'D' {
-            let row = PgRow::read(columns, &mut room, message.body)?;
+        if found.tag == b'D' {
+            let row = PgRow::read(columns, &mut room, found.body)?;
             people.push(person(alloc, &row)?)?;
         }
-        rest = message.rest;
+        rest = found.rest;
     }
     Ok(people)
 }
