@@ -89,12 +89,13 @@ fn fill_moods(
 ) -> Result<(), CodecError> {
     let before = arguments.buffer().as_slice().to_vec(alloc)?;
     let parameters = [PgTypeInfo::array_of("mood")];
-    match fill(alloc, arguments, &parameters, types) {
-        Ok(()) => Ok(()),
-        Err(error) if arguments.buffer().as_slice() == before.as_slice() => {
-            Err(codec_error(error))
-        }
-        Err(_) => Err(CodecError::Caller(2)),
+    let Err(error) = fill(alloc, arguments, &parameters, types) else {
+        return Ok(());
+    };
+    if arguments.buffer().as_slice() == before.as_slice() {
+        Err(codec_error(error))
+    } else {
+        Err(CodecError::Caller(2))
     }
 }
 
