@@ -200,8 +200,8 @@ fn columns_of<'d>(
     Ok(columns)
 }
 
-/// Appends the values of a row under a description, in binary where parameters were bound, and keeps it where it is one of a statement
-/// of the catalogue.
+/// Appends the values of a row under a description, in binary where parameters were bound, and keeps it where it is one
+/// of a statement of the catalogue.
 fn show_values(
     alloc: Global,
     description: &[u8],

@@ -1,5 +1,5 @@
-//! Rows of an `int4`, a `text`, an `int8`, a `bool` and a `date` by their description, the same fields as one frame after another, and
-//! the message Bind.
+//! Rows of an `int4`, a `text`, an `int8`, a `bool` and a `date` by their description, the same fields as one frame
+//! after another, and the message Bind.
 
 use crate::seen::Seen;
 use jiff::civil::Date;

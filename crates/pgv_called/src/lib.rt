@@ -1,5 +1,5 @@
-//! What `pgv_calls`, `pgv_value_calls` and `pgv_row_calls` share: rows of calls, the blocks that they stand in, and what is said of an
-//! answer. It promises nothing but to be safe.
+//! What `pgv_calls`, `pgv_value_calls` and `pgv_row_calls` share: rows of calls, the blocks that they stand in, and
+//! what is said of an answer. It promises nothing but to be safe.
 #![tactic(auto)]
 
 mod again;

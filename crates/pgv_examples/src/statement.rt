@@ -1,4 +1,4 @@
-//! A statement from its description to its rows: it is described, its arguments are bound, and its rows are read by their columns.
+//! A statement is described, its arguments are bound, and its rows are read by their columns.
 
 ghost use Rattle.std.specs.Prelude.{◌≡◌, Ok, IfOk};
 

@@ -1,5 +1,5 @@
-//! `pgv_row_calls`: makes the calls of the rows of standard input on rows of a server, messages and its catalogue, as `pgv_calls` makes
-//! those on arguments. See there for the form of the rows.
+//! `pgv_row_calls`: makes the calls of the rows of standard input on rows of a server, messages and its catalogue, as
+//! `pgv_calls` makes those on arguments. See there for the form of the rows.
 #![tactic(auto)]
 
 mod bodies;

@@ -1,4 +1,5 @@
-//! What is asked of a row: `get NAME`, `unchecked NAME`, `raw NAME`, `column NAME`, `tuple NUMBER` of so many numbers, or `catalog KIND`.
+//! What is asked of a row: `get NAME`, `unchecked NAME`, `raw NAME`, `column NAME`, `tuple NUMBER` of so many numbers,
+//! or `catalog KIND`.
 
 use pgv::catalog::{PgFieldRow, PgLabelRow, PgTypeRow};
 use pgv::row::{FromRow, PgRow};

@@ -1,5 +1,6 @@
-//! Rows of calls that read a row. `describe HEX` and `body HEX` keep the bodies of a RowDescription and of a DataRow; any other row is
-//! `WAY CALL => ANSWER`, where WAY says how the row is read: in `new` room, in `room` for all columns, from `shared` bytes, or `kept`.
+//! Rows of calls that read a row. `describe HEX` and `body HEX` keep the bodies of a RowDescription and of a DataRow;
+//! any other row is `WAY CALL => ANSWER`, where WAY says how the row is read: in `new` room, in `room` for all columns,
+//! from `shared` bytes, or `kept`.
 
 use crate::reading::asked;
 use bytes::Bytes;
