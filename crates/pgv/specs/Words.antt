@@ -26,9 +26,10 @@ pub use Rattle.pgv_value.specs.declared.value.PgValueFormat.{PgValueFormat}
 pub use Rattle.pgv_value.specs.declared.value.PgValueFormat.TheVariants.{Binary, Text}
 -- The readings of plain types (`int_reading w32`); `scalar` and `binary_alone` make one of a grammar for each format, or for binary.
 pub use Rattle.pgv_value.specs.ScalarGrammar.{scalar, binary_alone, bool_reading, int_reading, oid_reading, uuid_reading, text_reading}
--- For `refusal`: why numbers of a width are refused, and texts; `text_refusal_or why` of what is read of a text, the same in both
--- formats: null is C13, what isn't UTF-8 C14, and another text `why`. `refusal_or why read after` is `why` where nothing was read,
--- and else what comes after it. `UnexpectedNull` is C13, `Syntax` C29, and `Caller n` an error of your own.
+-- For `refusal`: why numbers of a width are refused, and texts; `text_refusal_or why` of what is read from a text, the
+-- same in both formats: null is C13, what isn't UTF-8 C14, and another text `why`. `refusal_or why read after` is `why`
+-- where nothing was read, and else what comes after it. `UnexpectedNull` is C13, `Syntax` C29, and `Caller n` an error
+-- of your own.
 pub use Rattle.pgv_value.specs.ScalarGrammar.{int_refusal}
 pub use Rattle.pgv_value.specs.Utf8.{text_refusal}
 pub use Rattle.pgv_codec.specs.Refusing.{text_refusal_or}

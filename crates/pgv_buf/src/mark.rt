@@ -1,4 +1,4 @@
-//! Marks: how far a list of tokens has come.
+//! Marks: how many bytes, holes and slots a list of tokens has at one moment.
 
 ghost use Rattle.std.specs.Prelude.{◌≡◌};
 

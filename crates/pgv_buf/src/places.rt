@@ -92,7 +92,7 @@ impl Clone for Places {
     }
 }
 
-/// The place that stands before these gaps, where `last` is the place after them.
+/// The place before these gaps, where `last` is the place after them.
 fn take_off(last: usize, gaps: &[usize]) -> usize
     requires { sum gaps.now ≤ last }
     ensures { result + sum gaps.now ≡ last }

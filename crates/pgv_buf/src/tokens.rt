@@ -14,10 +14,10 @@ use pgv_types::{Oid, PgTypeInfo};
 use std::alloc::{AllocError, Global};
 use std::marker::Model;
 
-/// A list of tokens with the bytes that they show.
+/// A list of bytes, holes and slots (tokens), each with the bytes that are in its place now.
 ///
-/// A call that is refused, out of memory, leaves the list as it was. [`mark`](Tokens::mark),
-/// [`back`](Tokens::back), [`put_u32`](Tokens::put_u32) and [`fill`](Tokens::fill) take no memory.
+/// A call that runs out of memory leaves the list as it was. [`mark`](Tokens::mark), [`back`](Tokens::back),
+/// [`put_u32`](Tokens::put_u32) and [`fill`](Tokens::fill) take no memory.
 #[derive(Drop)]
 pub struct Tokens {
     bytes: Vec<u8>,
@@ -180,7 +180,7 @@ impl Clone for Tokens {
 }
 
 impl Tokens {
-    /// How far the list has come.
+    /// The numbers of bytes, holes and slots so far, to go back to.
     #[inline(always)]
     pub fn mark(&self) -> Mark
         ensures { result ≡ mark_of self.now }

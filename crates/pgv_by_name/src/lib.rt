@@ -1,5 +1,5 @@
-//! What tests and benches share: types by the names that their rows have for them, and types of a caller's own that no example has.
-//! It promises nothing but to be safe.
+//! What tests and benches share: types by the names that their rows have for them, and types of a caller's own that no
+//! example has. Its functions have no contracts: the checker proves that they are safe.
 #![tactic(auto)]
 
 mod own;

@@ -20,7 +20,7 @@ fn composite(
     PgTypeInfo::custom(alloc, Oid(16700), name, PgTypeKind::Composite(fields))
 }
 
-/// A type that a server told of, with its OID.
+/// A type that a server described, with its OID.
 fn told(alloc: Global, oid: u32, name: &str, kind: PgTypeKind) -> Result<PgTypeInfo, AllocError> {
     PgTypeInfo::custom(alloc, Oid(oid), name, kind)
 }
@@ -49,7 +49,7 @@ fn size_ranges(alloc: Global) -> Result<PgTypeInfo, AllocError> {
     told(alloc, 16801, "_sizerange", PgTypeKind::Array(range))
 }
 
-/// The type of a row that a server told of, by its name.
+/// The type of a row that a server described, by its name.
 fn custom(alloc: Global, name: &str) -> Result<PgTypeInfo, AllocError> {
     match name {
         "(int4,text)" => pair(alloc, PgType::Int4),

@@ -1,4 +1,4 @@
-//! What is read of the first argument.
+//! What is read from the first argument.
 
 use jiff::civil::Date;
 use pgv::PgValueRef;
@@ -11,7 +11,7 @@ use pgv_examples::page::Page;
 use pgv_examples::pair::Pair;
 use std::alloc::Global;
 
-/// What is read of a value at the Rust type of this name.
+/// What is read from a value at the Rust type of this name.
 pub fn shown(alloc: Global, name: &str, value: PgValueRef<'_>) -> Result<String, Again> {
     match name {
         "EmptyObject" => read_again::<EmptyObject>(alloc, value),

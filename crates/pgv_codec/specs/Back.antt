@@ -134,7 +134,7 @@ FieldReadsBack {A} info produced hint image accepts reading kept fits =
     field hint image produced info x ≡ Some g → SlotsFit g → AreOids os → FieldFits info produced image accepts fits x t place os →
     next accepts reading (binary_fields t place (write p os (g ++ after))) ≡ Some (kept x, binary_fields t (suc place) (write p (drop (tokens_holes g) os) after))
 
--- the fields of a record are what is left of it where none was read
+-- before the first field of a written record is read, all its fields are left
 abbrev pub RecordFieldsFollow : Type 0
 RecordFieldsFollow =
     (fs : List (Option (List Token))) (i : Image) (t : Ty) (p : Option Ty) (os : List Oid) → record_image fs ≡ Some i →

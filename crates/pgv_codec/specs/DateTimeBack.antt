@@ -28,7 +28,7 @@ use Rattle.pgv_codec.specs.Image.{Image, image_of}
 use Rattle.pgv_codec.specs.ScalarBinary.{signed_image}
 use Rattle.pgv_codec.specs.Writing.{written_part}
 
--- a number that was written in the bytes of its width is the part, and is read of it
+-- a number that was written in the bytes of its width is the part, and is read from it
 record IsNumberPart (w : Width) (v : ℤ) (i : Image) (p : Option Ty) (os : List Oid) : Type 0 where
   its_bytes : List ℕ
   part : written_part i p os ≡ Some its_bytes

@@ -1,10 +1,10 @@
--- What a value is written as: its image, its frame (PostgreSQL: "Message Formats", 55.7, Bind), and the binary forms of arrays,
--- nulls and records ("Arrays", "Composite Types").
--- A value has an image: none, null, or a list of tokens. A value without an image has no frame. Neither has one whose size hint
--- or width is above 2147483647. A null's frame is `ffffffff`. Every other frame is the width in four bytes, then the image.
--- `typed t` is the four bytes of t's OID where it has one, else a hole. An array's image (`array_image`): 1, 0, `typed` of what
--- the first element produces or else of the elements' type, the number of elements, 1, and the elements' frames. A record's
--- image (`record_image`): the number of fields, and for each its type and its frame. Either is none where a part has no frame.
+-- What a value is written as: its image, its frame (PostgreSQL: "Message Formats", 55.7, Bind), and the binary forms of
+-- arrays, nulls and records ("Arrays", "Composite Types"). A value has an image: none, null, or a list of tokens. A
+-- value without an image has no frame. Neither has one whose size hint or width is above 2147483647. A null's frame is
+-- `ffffffff`. Every other frame is the width in four bytes, then the image. `typed t` is the four bytes of t's OID
+-- where it has one, else a hole. An array's image (`array_image`): 1, 0, `typed` of what the first element produces or
+-- else of the elements' type, the number of elements, 1, and the elements' frames. A record's image (`record_image`):
+-- the number of fields, and for each its type and its frame. There is no image if a part has no frame.
 use Rattle.std.specs.Prelude.{ℕ, List, [], ◌∷◌, ◌++◌, length, Option, Some, None, cond, nat_le, nat_lt, nat_eq, ◌+◌}
 use Rattle.pgv_types.specs.Ty.{Ty}
 use Rattle.pgv_types.specs.Facts.{oid_of}
@@ -72,7 +72,7 @@ array_of_frames t n (Some fs) = cond (nat_le n limit) (array_after (header t n) 
 abbrev pub array_image : {X : Type 0} → (X → ℕ) → (X → Option Image) → (X → Option Ty) → Ty → List X → Option Image
 array_image hint image produced info xs = array_of_frames (written_element_type produced info xs) (length xs) (written_frames hint image xs)
 
--- an array of n elements; a list of another number is none
+-- an array of n elements; a list of another length has no image
 abbrev pub sized_image : {X : Type 0} → ℕ → (X → ℕ) → (X → Option Image) → (X → Option Ty) → Ty → List X → Option Image
 sized_image n hint image produced info xs = cond (nat_eq (length xs) n) (array_image hint image produced info xs) None
 

@@ -1,5 +1,4 @@
--- Which refusal is answered, out of memory aside. What a type states of itself it states as one refusal or none (`None`: it says
--- nothing).
+-- Which refusal is answered, apart from out of memory (C1). Of itself a type states one refusal, or nothing (`None`).
 -- Written: a frame whose size hint is above 2147483647 is C2 before anything else, a value without an image is what it says
 -- itself, and an image above 2147483647 bytes is C2. A list of more than 2147483647 elements is C3, and another is what its first
 -- element without a frame is refused with. A field after 4294967295 others is C12.
@@ -80,7 +79,8 @@ first_type_copied produced (x ∷ xs) = is_copied (produced x)
 
 -- ---- read
 
--- of a type that is read of texts, the same in both formats: null is C13, what isn't UTF-8 C14, and another text what is said
+-- of a type that is read from texts, the same in both formats: null is C13, what isn't UTF-8 C14, and another text what
+-- is said
 abbrev pub text_refusal_or : CodecError → PgValueFormat → Option (List ℕ) → CodecError
 text_refusal_or other f None = UnexpectedNull
 text_refusal_or other f (Some text) = if is_utf8 text then other else Utf8

@@ -18,10 +18,10 @@ IsBuiltIn oid info accepts = (info ≡ builtin oid) × ((t : Ty) → accepts t �
 abbrev pub IsWrittenAs : {A : Type 0} → (A → Option Image) → (A → ℕ) → (A → Option Image) → (A → Option Ty) → Type 0
 IsWrittenAs {A} wanted hint image produced = (v : A) → (image v ≡ wanted v) × (hint v ≡ 0) × (produced v ≡ None)
 
--- what isn't read is refused so, under every type
+-- what can't be read is refused with this, under every type
 abbrev pub IsRefusedAs : (PgValueFormat → Option (List ℕ) → CodecError) → Refusal → Type 0
 IsRefusedAs wanted refusal = (t : Ty) (f : PgValueFormat) (bytes : Option (List ℕ)) → refusal t f bytes ≡ Some (wanted f bytes)
 
--- no memory is asked for, so that none is answered to be lacking
+-- it never asks for memory, so it is never refused with C1
 abbrev pub TakesNone : Taking → Type 0
 TakesNone takes = (t : Ty) (f : PgValueFormat) (bytes : Option (List ℕ)) → takes t f bytes ≡ false

@@ -21,10 +21,10 @@ use std::marker::Model;
 /// The largest length of a value, and the largest number of elements.
 pub(crate) const LENGTH_LIMIT: usize = 2147483647;
 
-/// The length that stands for null: -1.
+/// The length that means null: -1.
 const NULL_LENGTH: u32 = 4294967295;
 
-/// Whether an encoder was given null.
+/// Whether the value that an encoder wrote is null.
 #[derive(Clone, Copy, Debug, PartialEq, Eq)]
 pub enum IsNull {
     /// The value is null: nothing was appended.
@@ -95,7 +95,7 @@ impl PgArgumentBuffer {
         self.tokens.hole_types()
     }
 
-    /// Appends a byte. C1 leaves the buffer as it was.
+    /// Appends a byte. Out of memory (C1) leaves the buffer as it was.
     #[inline(always)]
     pub fn push(&mut self, value: u8) -> Result<(), CodecError>
         ensures ok { OnOk result (self.new ≡ self.old ++ blank (byte value ∷ [])) }
@@ -105,7 +105,7 @@ impl PgArgumentBuffer {
         Ok(())
     }
 
-    /// Appends bytes. C1 leaves the buffer as it was.
+    /// Appends bytes. Out of memory (C1) leaves the buffer as it was.
     #[inline(always)]
     pub fn extend_from_slice(&mut self, values: &[u8]) -> Result<(), CodecError>
         ensures ok { OnOk result (self.new ≡ self.old ++ blank (bytes values.now)) }
@@ -115,7 +115,8 @@ impl PgArgumentBuffer {
         Ok(())
     }
 
-    /// Appends a hole: four bytes for the OID of a type, which are zeros for now. C1 leaves the buffer as it was.
+    /// Appends a hole: four bytes for the OID of a type, which are zeros for now. Out of memory (C1) leaves the buffer
+    /// as it was.
     pub fn push_hole(&mut self, hole_type: PgTypeInfo) -> Result<(), CodecError>
         ensures ok { OnOk result (self.new ≡ self.old ++ blank (hole hole_type ∷ [])) }
         ensures err { IfErr result (λ e. (e ≡ Memory) × (self.new ≡ self.old)) }
@@ -124,9 +125,9 @@ impl PgArgumentBuffer {
         Ok(())
     }
 
-    /// Appends a slot: bytes that depend on the type of the parameter that they are part of. A filling shows the
-    /// first case whose type is softly equal to it, else the default. C1 leaves the buffer as it was.
-    /// A space with a case `01` for `jsonb` shows `20` until it is filled.
+    /// Appends a slot: bytes that depend on the type of the parameter that they are part of. A filling shows the first
+    /// case whose type is softly equal to it, else the default. Out of memory (C1) leaves the buffer as it was. A space
+    /// with a case `01` for `jsonb` shows `20` until it is filled.
     pub fn push_slot(
         &mut self,
         standard: &[u8],
@@ -147,9 +148,10 @@ impl PgArgumentBuffer {
         self.tokens.clear();
     }
 
-    /// Appends one frame: a length of four bytes, and that many bytes of the value; the length -1 for null, as `0000000400000007`
-    /// for 7 and `ffffffff` for None. A size hint above 2147483647 is refused with C2 before anything is written; a value that is refused
-    /// later may have appended something.
+    /// Appends one frame: a length of four bytes, and that many bytes of the value; the length -1 for null, as
+    /// `0000000400000007` for 7 and `ffffffff` for `None`. A size hint above 2147483647 is refused with
+    /// [`ValueSize`](CodecError::ValueSize) (C2) before anything is written; a value that is refused later may have
+    /// appended something.
     #[inline(always)]
     pub fn encode<T: Encode>(&mut self, value: &T) -> Result<(), CodecError>
         ensures ok { OnOk result (AppendedAll (frame (T.hint value.now) (T.image value.now)) self.old self.new) }
@@ -208,7 +210,7 @@ impl Clone for PgArgumentBuffer {
 }
 
 impl PgArgumentBuffer {
-    /// Makes room for `additional` more bytes. Nothing is appended, also where it is refused (C1).
+    /// Makes room for `additional` more bytes. It appends nothing, also if it is refused (C1).
     pub fn reserve(&mut self, additional: usize) -> Result<(), CodecError>
         ensures same { self.new ≡ self.old }
         ensures err { IfErr result (λ e. e ≡ Memory) }
@@ -307,8 +309,9 @@ impl PgArgumentBuffer {
         self.tokens.put_u32(mark, value);
     }
 
-    /// Writes the OIDs into the holes, in order, and fills each slot by the parameter type of its argument; `counts` has the number of slots of
-    /// each argument; arguments after the last count have none. Who keeps the arguments counts them.
+    /// Writes the OIDs into the holes, in order, and fills each slot by the parameter type of its argument; `counts`
+    /// has the number of slots of each argument; arguments after the last count have none. The owner of the arguments
+    /// counts them.
     pub fn fill(&mut self, types: &[PgTypeInfo], counts: &[usize], oids: &[Oid])
         requires arguments { length counts.now ≤ length types.now }
         requires slots { sum counts.now ≡ slot_count self.old }

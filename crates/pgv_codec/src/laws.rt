@@ -1,5 +1,5 @@
-//! Laws of codecs: what tuples and `()` read, and what is read back of what was written. Each is the contract of a function that does
-//! nothing.
+//! Laws of codecs: what tuples and `()` read, and what a written value is read back as. Each is the contract of a
+//! function that does nothing.
 
 ghost use Rattle.std.specs.Prelude.{◌≡◌, ◌↔◌, ◌<◌, ◌^◌, ℕ, List, ◌∷◌, Option, Some, None};
 ghost use Rattle.pgv_types.specs.Ty.{Ty, builtin};
@@ -21,8 +21,11 @@ ghost use Rattle.pgv_codec.specs.TypeRow.{TakesNone};
 use crate::traits::{Codec, Decode, Plain, ReadBack, Type};
 use crate::types::field_list::{FieldList, KeptList};
 
-/// A tuple is read as the list of its fields is, and means what the list means. It is refused with what refuses the record, and else with what its first field that
-/// isn't read is refused with. Memory is asked for only where there is a record.
+/// A tuple reads, means, refuses and asks for memory as a record does whose fields are the tuple's, as a list:
+/// `(A, (B, (C,)))` for `(A, B, C)`.
+///
+/// A record that can't be begun is refused first, and else the first field that can't be read. Memory is asked for only
+/// where there is a record.
 pub fn tuple_is_its_list<
     A: Type + Decode,
     B: Type + Decode,
@@ -72,8 +75,10 @@ pub fn tuple_is_its_list<
     ensures nine_takes { ⟦<(A, B, C, D, E, F, G, H, I) as Decode>⟧.takes_memory ≡ record_takes ⟦<(A, (B, (C, (D, (E, (F, (G, (H, (I,))))))))) as FieldList>⟧.takes }
 {}
 
-/// What a list of fields is: a field, or a field and then the rest. So it is for what its bytes and texts are, for what it means, for
-/// why it is refused, and where it asks for memory, also of fields that are only read, as tuples and `()`.
+/// A list of fields is one field, or one field and then a shorter list: in its bytes and texts, in its meaning, in its
+/// refusals and in where it asks for memory.
+///
+/// It holds also of fields that can only be read, as tuples and `()`.
 pub fn lists_are_their_fields<A: Decode + Type, Rest: FieldList>()
     ensures one { SameFields ⟦<(A,) as FieldList>⟧.in_binary (IsField A.accepts A.reading) × SameParts ⟦<(A,) as FieldList>⟧.in_text (IsTextField A.reading) }
     ensures one_means { (a : _) → ⟦<(A,) as FieldList>⟧.meaning a ≡ A.meaning a.0 }
@@ -85,7 +90,7 @@ pub fn lists_are_their_fields<A: Decode + Type, Rest: FieldList>()
     ensures more_take { ⟦<(A, Rest) as FieldList>⟧.takes ≡ takes_then A.accepts A.reading A.takes_memory Rest.takes }
 {}
 
-/// What is written and kept of a list of fields that are read back, and what it fits: as of a field, or of a field and then the rest.
+/// What a list of fields writes, keeps and fits is what its one field does, or its first field and then the rest.
 pub fn kept_lists_are_their_fields<A: ReadBack + Type, Rest: KeptList>()
     ensures one_written { (a : _) (further : List (Option (List Token))) → ⟦<(A,) as KeptList>⟧.written a further ≡ field A.hint A.image A.produced A.info a.0 ∷ further }
     ensures one_kept { (a : _) → ⟦<(A,) as FieldList>⟧.meaning (⟦<(A,) as KeptList>⟧.kept a) ≡ A.meaning (A.kept a.0) }
@@ -95,33 +100,33 @@ pub fn kept_lists_are_their_fields<A: ReadBack + Type, Rest: KeptList>()
     ensures more_fit { (l : _) (t : Ty) (place : ℕ) (oids : List Oid) → ⟦<(A, Rest) as KeptList>⟧.fits l t place oids ↔ FieldsFit A.info A.produced A.hint A.image A.accepts A.fits l.0 (Rest.fits l.1) t place oids }
 {}
 
-/// The tuple that is decoded from bytes in binary is the one that they are a record of, whatever its fields are: as a list of these,
-/// by [`tuple_is_its_list`].
+/// Fields are decoded from bytes in binary as a tuple iff the bytes are a record of these fields, taken as a list
+/// ([`tuple_is_its_list`]).
 pub fn tuple_is_its_fields<Fields: FieldList>()
     ensures { RecordIsItsFields (record_of Fields.step) Fields.in_binary }
 {}
 
-/// Whatever a record encoder accepted and refused, in any order, and then was given `finish`: the buffer is what stood before
-/// [`PgRecordEncoder::new`](crate::PgRecordEncoder::new), and after it the record of the accepted fields.
+/// After any calls of a record encoder, accepted and refused in any order, and then `finish`, the buffer holds what was
+/// there before [`PgRecordEncoder::new`](crate::PgRecordEncoder::new), and after it the record of the accepted fields.
 #[tactic(auto, using(crate::specs::RecordCalls::record_is_its_accepted))]
 pub fn record_is_its_accepted_fields()
     ensures { RecordIsItsAccepted }
 {}
 
-/// What is written of a value is read back, in binary by its own type, as what it keeps: for every parameter type, or none
-/// with each slot at its default, under every type and with all OIDs in the holes that fit.
+/// A value that was written is read back in binary by its own type, as what it keeps: whatever the parameter type, or
+/// with each slot at its default, and under every type that fits with the OIDs in the holes.
 pub fn read_back<T: ReadBack>()
     ensures { ReadsBack T.image T.reading (λ v. T.meaning (T.kept v)) T.fits }
 {}
 
-/// An OID is a number of 32 bits.
+/// Every OID is below 2^32.
 fn oid_fits(oid: pgv_types::Oid)
     ensures { oid.0 < 2 ^ 32 }
 {
     let _number = oid.0;
 }
 
-/// The OIDs that a filling is given are numbers of 32 bits.
+/// Every OID that is given to a filling is below 2^32.
 pub fn oids_fit(oids: &[pgv_types::Oid])
     ensures { AreOids oids.now }
 {
@@ -130,30 +135,33 @@ pub fn oids_fit(oids: &[pgv_types::Oid])
     }
 }
 
-/// A field of a record that was written is read back by its own type, under each type that fits; and what comes after it is
-/// left, with the OIDs that it leaves. So it is for every list of fields, one after the other.
+/// A field of a written record is read back by its own type, under each type that fits, and what comes after it is
+/// left, with the OIDs of the holes there.
+///
+/// Applied to one field after another, it reads back every list of fields.
 pub fn field_reads_back<T: ReadBack + Type>()
     ensures { FieldReadsBack T.info T.produced T.hint T.image T.accepts T.reading (λ v. T.meaning (T.kept v)) T.fits }
 {}
 
-/// The fields of a record that was written come after its first four bytes, one after another.
+/// The fields of a written record follow its first four bytes, one after another.
 #[tactic(auto, using(crate::specs::BackRecords::fields_back))]
 pub fn record_fields_follow()
     ensures { RecordFieldsFollow }
 {}
 
-/// A record that was written is read back by a tuple of its first fields, as a list of these ([`tuple_is_its_list`]), under each type
-/// that they fit, each with the OIDs that those before it leave.
+/// A tuple of the first fields of a written record, as a list ([`tuple_is_its_list`]), is read back from it under each
+/// type that these fields fit, each with the OIDs that those before it leave.
 pub fn tuple_reads_back<Fields: KeptList>()
     ensures { (fields : Fields) (further : List (Option (List Token))) → RecordReadsBack (record_of Fields.step) (Fields.written fields further) (Fields.meaning (Fields.kept fields)) (Fields.fits fields) }
 {}
 
-/// A plain value comes back under every type: no type chooses under which.
+/// A plain value fits every type, so that it is read back under each.
 pub fn plain_values_fit<T: Plain>()
     ensures { (v : T) (t : Ty) (oids : List Oid) → ⟦<T as ReadBack>⟧.fits v t oids }
 {}
 
-/// These types are plain.
+/// A value of one of these types fits every type: `bool`, `i8`, `i16`, `i32`, `i64`, `Oid`, `String`, `Uuid`, `Date`,
+/// `Time`, `DateTime`, `Timestamp`, `PgInterval`, `IpNetwork`, `IpAddr`.
 pub fn plain_types_fit()
     ensures bool { (v : _) (t : Ty) (oids : List Oid) → ⟦<bool as ReadBack>⟧.fits v t oids }
     ensures i8 { (v : _) (t : Ty) (oids : List Oid) → ⟦<i8 as ReadBack>⟧.fits v t oids }
@@ -172,13 +180,16 @@ pub fn plain_types_fit()
     ensures address { (v : _) (t : Ty) (oids : List Oid) → ⟦<std::net::IpAddr as ReadBack>⟧.fits v t oids }
 {}
 
-/// None comes back under every type, and Some where its value does. A list or an array comes back exactly where the type of its
-/// elements is found by the OID that was written (the built-in type of this OID, and where there is none the element of the
-/// array's type), and each element comes back under that; so it does under an array whose element's own OID was written. A field comes back under a composite type, a domain of one or
-/// `record`, where the OID of the type at its place was written, that type is accepted, and the value comes back under it.
+/// `None` fits every type and `Some` fits where its value does; lists, arrays and fields fit where the types of their
+/// parts are found by the OIDs that were written, and the parts fit these types.
 ///
-/// Applied at each place, this says that a nest comes back under a type that is resolved and of its shape at every place,
-/// where each OID that was written is that of the type there, and no custom type has a built-in's.
+/// A list or an array fits exactly where the type of its elements is found by the OID that was written (the built-in
+/// type of this OID, or, if there is none, the element of the array's type), and each element fits that type; so it
+/// fits an array whose element has the OID that was written. A field fits a composite type, a domain over one or
+/// `record`, if the type at its place has the OID that was written and is accepted, and the value fits it.
+///
+/// Applied at each place, a value made of others fits a type that is resolved and has its shape at every place, if each
+/// OID that was written is that of the type there, and no custom type has a built-in's.
 pub fn nests_fit<T: ReadBack + Type, const N: usize>()
     ensures none { (t : Ty) (oids : List Oid) → ⟦<Option<T> as ReadBack>⟧.fits None t oids }
     ensures some { (v : T) (t : Ty) (oids : List Oid) → ⟦<Option<T> as ReadBack>⟧.fits (Some v) t oids ↔ T.fits v t oids }
@@ -189,13 +200,15 @@ pub fn nests_fit<T: ReadBack + Type, const N: usize>()
     ensures field { (v : T) (t : Ty) (place : ℕ) (oids : List Oid) → FieldIsPlain T.info T.produced T.image T.accepts T.fits v t place oids → FieldFits T.info T.produced T.image T.accepts T.fits v t place oids }
 {}
 
-/// What an encoder says of a value is what is written of its meaning, so that values of one meaning are written alike.
+/// The hint, the image and the type that an encoder gives for a value depend on the value's meaning alone, so that
+/// values of one meaning are written alike.
 pub fn written_as_read<T: Codec>(value: &T)
     ensures { said T.hint T.image T.produced T.info value.now ≡ T.written T.info (T.meaning value.now) }
 {}
 
-/// `()` is a void (OID 2278), read under void and record, of whatever is there, null too. It is never written. What each other type is,
-/// the laws of `pgv_laws` say.
+/// `()` is a void (OID 2278), read under void and record from any bytes and from null, without a request for memory.
+///
+/// It is never written. The laws of `pgv_laws` say what each other type is.
 pub fn unit_is_a_void()
     ensures types { ⟦<() as Type>⟧.info ≡ builtin 2278 }
     ensures accepts { (t : Ty) → ⟦<() as Type>⟧.accepts t ≡ is_void_or_record t }

@@ -1,6 +1,7 @@
-//! The codecs of values: what a value is written as and what is read of bytes, for std's types, for `Uuid`, and for what is made of
-//! them. A value's [`Type`] names its type, [`Encode`] writes it into a [`PgArgumentBuffer`], [`Decode`] reads it, and [`ReadBack`] says what
-//! comes back of what was written. The module [`laws`] holds what is proved of all of them.
+//! The codecs of values: what a value is written as and what is read from bytes, for std's types, for `Uuid`, and for
+//! what is made of them. A value's [`Type`] names its type, [`Encode`] writes it into a [`PgArgumentBuffer`],
+//! [`Decode`] reads it, and [`ReadBack`] says what a written value is read back as. The module [`laws`] has what is
+//! proved of all of them.
 //!
 //! A caller's record writes its fields by a [`PgRecordEncoder`], each by reference: `record.encode(&self.id)?` also where the field could be
 //! copied, since by value its range is lost to the proof. The crate `pgv_examples` has such records and other types of users, with their

@@ -1,4 +1,4 @@
-//! What can be written and read, and of which type it is.
+//! The traits of values that can be written and read, and of their types.
 
 ghost use Rattle.std.specs.Prelude.{◌≡◌, ℕ, Bool, true, false, List, Option, Some, None, IfOk, IfErr, OnErr, IsErrOf};
 ghost use Rattle.pgv_types.specs.Relations.{softly};
@@ -21,15 +21,15 @@ use pgv_value::{CodecError, PgValueRef};
 use std::alloc::{AllocError, Global};
 use std::marker::PhantomData;
 
-/// A Rust type that stands for a type of PostgreSQL.
+/// A Rust type whose values have a type of PostgreSQL.
 pub trait Type {
-    /// The type that its values have where they say nothing else.
+    /// The type of its values, unless a value produces another.
     ghost info: { Ty };
 
     /// The types under which its values are read.
     ghost accepts: { Ty → Bool };
 
-    /// The type that its values have where they say nothing else.
+    /// The type of its values, unless a value produces another.
     fn type_info() -> PgTypeInfo
         ensures { result ≡ info };
 
@@ -57,23 +57,23 @@ pub trait PgHasArrayType {
 
 /// A value that can be written.
 ///
-/// An encoder appends exactly the image that it states, says that the value is null, or refuses exactly where
-/// it has no image. A refused one may have appended something: whoever called it goes back.
+/// An encoder appends exactly the image that it states, says that the value is null, or refuses exactly where it has no
+/// image. If it refuses, it may have appended something: the caller goes back to its mark.
 pub trait Encode {
-    /// What a value is written as: null, tokens, or none where it can't be written.
+    /// What a value is written as: null or tokens; `None` if it can't be written.
     ghost image: { Self → Option Image };
 
-    /// A number of bytes that the value says to need. A frame is refused where it is above 2147483647.
+    /// A number of bytes that the value says it needs. A frame is refused if it is above 2147483647.
     ghost hint: { Self → ℕ } = { λ _. 0 };
 
     /// The type of this value, where it isn't the one that its Rust type has.
     ghost produced: { Self → Option Ty } = { λ _. None };
 
-    /// Which refusal is answered where a value has no image, out of memory aside: none where the type doesn't state it.
+    /// The refusal of a value that has no image, unless memory runs out; `None` if the type doesn't state it.
     ghost unwritable: { Self → Option CodecError } = { λ _. None };
 
-    /// Whether memory may be asked for before a value without an image is refused. Where it isn't, it is refused with what `unwritable`
-    /// states, and where that is none, with anything but out of memory (C1).
+    /// Whether memory may be asked for before a value without an image is refused. If `false`, the refusal is
+    /// `unwritable`, or, if that is `None`, any but [`Memory`](CodecError::Memory) (C1).
     ghost asks_first: { Self → Bool } = { λ _. true };
 
     /// Appends the value's image. `Yes` says that it is null, and then nothing was appended.
@@ -84,7 +84,7 @@ pub trait Encode {
         ensures refused_exactly { asks_first self.now ≡ false → image self.now ≡ None → RefusedExactly (unwritable self.now) result }
         ensures appended { OnErr result (Appended out.old out.new) };
 
-    /// A number of bytes that the value says to need; 0 where it doesn't say.
+    /// A number of bytes that the value says it needs; 0 if it doesn't say.
     fn size_hint(&self) -> usize
         ensures { result ≡ hint self.now };
 
@@ -93,9 +93,9 @@ pub trait Encode {
         ensures ok { IfOk result (λ t. t ≡ produced self.now) }
         ensures err { OnErr result (is_copied (produced self.now) ≡ true) };
 
-    /// Appends the value's frame, where its length is known before its image is written. `false` says that nothing was appended, and
-    /// [`PgArgumentBuffer::encode`] then writes the frame by [`encode_by_ref`](Encode::encode_by_ref). C1 may have appended
-    /// something. It is for speed alone.
+    /// Appends the value's frame, where its length is known before its image is written. `false` says that nothing was
+    /// appended, and [`PgArgumentBuffer::encode`] then writes the frame by [`encode_by_ref`](Encode::encode_by_ref).
+    /// Out of memory (C1) may have appended something. It is for speed alone.
     #[inline(always)]
     fn encode_at_once(&self, out: &mut PgArgumentBuffer) -> Result<bool, CodecError>
         ensures ok { IfOk result (λ done. AtOnce done (frame (hint self.now) (image self.now)) out.old out.new) }
@@ -109,8 +109,8 @@ pub trait Encode {
 
 /// A value that can be read from null or bytes.
 ///
-/// A decoder answers a value exactly where the grammar that it states gives it one, and it refuses, but for want
-/// of memory (C1), exactly where the grammar gives none.
+/// A decoder returns a value exactly where the grammar that it states has one, and it refuses, unless memory runs
+/// out (C1), exactly where the grammar has none.
 pub trait Decode: Sized + Drop {
     /// What a value says, without where it lies in memory.
     ghost Meaning: { Type 0 };
@@ -124,16 +124,18 @@ pub trait Decode: Sized + Drop {
     /// What is written of a meaning under a type, where values are written too (see [`Codec`]), and else no image.
     ghost written: { Ty → Meaning → Saying };
 
-    /// Whether reading may ask for memory, by type, format and bytes. Where it doesn't, it is refused only where nothing is read, and
-    /// with what `refusal` states, and where that is none, with anything but out of memory (C1): what is seen before the first request
-    /// is answered as itself.
+    /// Whether reading may ask for memory, by type, format and bytes. If `false`, it is refused only where nothing is
+    /// read, with `refusal`, or, if that is `None`, with any but [`Memory`](CodecError::Memory) (C1): a fault that is
+    /// seen before the first request for memory is returned as itself.
     ghost takes_memory: { Ty → Format → Option (List ℕ) → Bool } = { λ _ _ _. true };
 
-    /// Which refusal is answered, out of memory aside, by type, format and bytes: none where the type doesn't state it. A plain type
-    /// that was given bytes never answers that it was given null (C13); a nest passes on what a part of it is refused with.
+    /// The refusal of what can't be read, unless memory runs out, by type, format and bytes; `None` if the type doesn't
+    /// state it. A plain type that is given bytes never returns [`UnexpectedNull`](CodecError::UnexpectedNull) (C13);
+    /// an array, a range or a record passes on the refusal of its part.
     ghost refusal: { Ty → Format → Option (List ℕ) → Option CodecError } = { λ _ _ _. None };
 
-    /// The value that is read. Null is refused with C13, exactly where the type doesn't read null.
+    /// The value that is read. Null is refused with [`UnexpectedNull`](CodecError::UnexpectedNull) (C13), exactly where
+    /// the type doesn't read null.
     fn decode(alloc: Global, value: PgValueRef<'_>) -> Result<Self, CodecError>
         ensures exact { Answers meaning (reading value.entry.type_info value.entry.format value.entry.bytes) result }
         ensures exactly { takes_memory value.entry.type_info value.entry.format value.entry.bytes ≡ false → AnswersExactly meaning (reading value.entry.type_info value.entry.format value.entry.bytes) result }
@@ -142,29 +144,30 @@ pub trait Decode: Sized + Drop {
         ensures null { value.entry.bytes ≡ None → reading value.entry.type_info value.entry.format None ≡ None → IsErrOf result UnexpectedNull };
 }
 
-/// A value that is read back as it was written.
+/// A value that is read back as what it keeps.
 ///
-/// What the law says holds whatever the type of the parameter is and before a filling, when each slot is at its
-/// default, and with all OIDs in the holes. A value of a type that is made of others reads back by their laws.
+/// The law holds whatever the type of the parameter, also before a filling, when each slot is at its default, and with
+/// all OIDs in the holes. A value of a type that is made of others is read back by their laws.
 pub trait ReadBack: Encode + Decode {
-    /// The value as it comes back.
+    /// The value as it is read back.
     ghost kept: { Self → Self };
 
-    /// Whether a value comes back under a type, where these OIDs are in its holes, in order.
+    /// Whether a value is read back under a type, with these OIDs in its holes, in order.
     ghost fits: { Self → Ty → List Oid → Type 0 };
 
     /// What is written of a value is read in binary as what it keeps, under each type that fits.
     ghost reads_back: { ReadsBack Self.image Self.reading (λ v. Self.meaning (kept v)) fits };
 }
 
-/// A value that can be written and read. It is written as what it says: two values of one meaning are written alike.
+/// A value that can be written and read, and is written by its meaning alone: two values of one meaning are written
+/// alike.
 pub trait Codec: Type + Encode + Decode {
     /// What an encoder says of a value is what is written of its meaning.
     ghost agrees: { (v : Self) → said Self.hint Self.image Self.produced Self.info v ≡ Self.written Self.info (Self.meaning v) };
 }
 
-/// A value that is not made of others, as a number, a text or a date: it is read under whatever type it is given, and what
-/// was written comes back under every type. From this one impl it has [`Decode`], [`ReadBack`] and [`Codec`].
+/// A value that is not made of others, as a number, a text or a date: it is read in the same way under every type, and
+/// what was written is read back under every type. From this one impl it has [`Decode`], [`ReadBack`] and [`Codec`].
 pub trait Plain: Type + Encode + Sized + Drop {
     /// What a value says, without where it lies in memory.
     ghost Meaning: { Type 0 };
@@ -178,13 +181,14 @@ pub trait Plain: Type + Encode + Sized + Drop {
     /// What is written of a meaning under a type.
     ghost written: { Ty → Meaning → Saying };
 
-    /// Whether reading may ask for memory, by type, format and bytes. Where it doesn't, it is never refused as out of memory.
+    /// Whether reading may ask for memory, by type, format and bytes. Where it doesn't, it is never refused as out of
+    /// memory.
     ghost takes_memory: { Ty → Format → Option (List ℕ) → Bool } = { λ _ _ _. false };
 
-    /// Which refusal is answered, out of memory aside, by the format and the bytes.
+    /// The refusal of what can't be read, unless memory runs out, by format and bytes.
     ghost refusal: { Format → Option (List ℕ) → CodecError };
 
-    /// The value as it comes back: where it says nothing else, as it is.
+    /// The value as it is read back: by default, as it is.
     ghost kept: { Self → Self } = { λ v. v };
 
     /// The value that is read: what [`Decode::decode`] answers.
@@ -221,7 +225,7 @@ impl<T: Plain> Decode for T {
     }
 }
 
-/// It comes back under every type.
+/// A plain value is read back under every type.
 impl<T: Plain> ReadBack for T {
     ghost kept = { T.kept };
 
@@ -234,14 +238,16 @@ impl<T: Plain> Codec for T {
     ghost agrees = { T.agrees };
 }
 
-/// What a [`BuiltIn`] is said of, in place of `T`: so that what follows from it stands beside the impls for references, which have none.
+/// Carries the [`BuiltIn`] of `T`. If `T` itself had it, the impls that follow from it would overlap with those for
+/// `&T`.
 pub struct Of<T>(PhantomData<T>);
 
-/// That an `Of<Self>` has a [`BuiltIn`]. No crate above this one can say so of its own types: there all impls are written out.
+/// Marks that `Of<Self>` has a [`BuiltIn`]. Crates above this one can't mark their own types: there all impls are
+/// written out.
 pub trait HasBuiltIn {}
 
-/// The built-in type that the values of `T` have, and the type of their arrays, said of an `Of<T>`: each is read under it and domains
-/// over it. From this one impl `T` has [`Type`] and [`PgHasArrayType`].
+/// The built-in type of the values of `T`, and the type of their arrays, for an `Of<T>`: each is read under it and
+/// domains over it. From this one impl `T` has [`Type`] and [`PgHasArrayType`].
 pub trait BuiltIn {
     /// The type of the values.
     ghost INFO: { Ty };
@@ -256,18 +262,19 @@ pub trait BuiltIn {
     const ARRAY_INFO: PgTypeInfo;
 }
 
-/// A value of a [`BuiltIn`] type that is written with one size hint and never as of another type. From this one impl it has [`Encode`].
+/// A value of a [`BuiltIn`] type that is written with one size hint and never as of another type. From this one impl it
+/// has [`Encode`].
 pub trait Scalar {
-    /// A number of bytes that a value says to need.
+    /// A number of bytes that a value says it needs.
     ghost SIZE: { ℕ };
 
     /// What a value is written as.
     ghost form: { Self → Option Image };
 
-    /// Which refusal is answered where a value has no image, out of memory aside: none where the type doesn't state it.
+    /// The refusal of a value that has no image, unless memory runs out; `None` if the type doesn't state it.
     ghost formless: { Self → Option CodecError } = { λ _. None };
 
-    /// A number of bytes that a value says to need.
+    /// A number of bytes that a value says it needs.
     const SIZE: usize;
 
     /// Appends the value's image: what [`Encode::encode_by_ref`] does.

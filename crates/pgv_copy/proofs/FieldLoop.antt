@@ -5,14 +5,15 @@ use Rattle.pgv_types.specs.Ty.{Ty}
 use Rattle.pgv_value.specs.FrameBinary.{front, frame_fault}
 use Rattle.pgv_value.specs.ValueView.{Given}
 use Rattle.pgv_value.specs.declared.value.PgValueFormat.TheVariants.{Binary}
-use Rattle.pgv_copy.specs.CopyBinary.{Read, ◌>>◌, fields}
+use Rattle.pgv_value.specs.Parsed.{Parsed, ◌>>=◌}
+use Rattle.pgv_copy.specs.CopyBinary.{fields}
 
 abbrev pub Row : Type 0
-Row = Read (List Given × List ℕ)
+Row = Parsed (List Given × List ℕ)
 
 -- what was read, and what is read after it
 abbrev pub continued : List Given → Row → Row
-continued done r = r >> λ more. Ok (done ++ more.0, more.1)
+continued done r = r >>= λ more. Ok (done ++ more.0, more.1)
 
 pub nothing_done : (r whole : Row) → r ≡ whole → continued [] r ≡ whole
 nothing_done (Ok x) whole e = e
@@ -20,7 +21,7 @@ nothing_done (Err x) whole e = e
 
 -- one more field in front
 abbrev pub with_first : Given → Row → Row
-with_first v r = r >> λ more. Ok (v ∷ more.0, more.1)
+with_first v r = r >>= λ more. Ok (v ∷ more.0, more.1)
 
 one_more : (done : List Given) (v : Given) (r : Row) → continued (done ++ v ∷ []) r ≡ continued done (with_first v r)
 one_more done v (Ok x) = ap (λ (vs : List Given). let row : Row = Ok (vs, x.1) in row) (append_assoc done (v ∷ []) x.0)

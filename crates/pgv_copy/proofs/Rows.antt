@@ -4,21 +4,18 @@ use Rattle.std.specs.Prelude.{flat_map}
 use Rattle.std.specs.List.{AllByRecursion}
 use Rattle.std.specs.Int.{w16, w32, to_be_bytes}
 use Rattle.pgv_types.specs.Ty.{Ty}
-use Rattle.pgv_value.specs.FrameBinary.{Part, IsFrame, front}
+use Rattle.pgv_value.specs.FrameBinary.{Part, IsFrame, front, field_bytes, row_bytes, IsField}
 use Rattle.pgv_value.specs.ValueView.{Given}
 use Rattle.pgv_value.specs.declared.value.PgValueFormat.TheVariants.{Binary}
 use Rattle.pgv_value.proofs.Fronts.{frame_in_front}
+use Rattle.pgv_value.proofs.ReadFronts.{framed}
 use Rattle.pgv_copy.specs.CopyBinary.{Step, header, after_count, fields, before, ended, step}
-use Rattle.pgv_copy.specs.CopyStream.{field_bytes, row_bytes, trailer, IsField, IsRow, Answer, called, answers, values, row_answers, CopyIsItsRows}
+use Rattle.pgv_copy.specs.CopyStream.{trailer, IsRow, Answer, called, answers, values, row_answers, CopyIsItsRows}
 use Rattle.pgv_copy.specs.CopyView.{Copying}
 use Rattle.pgv_copy.proofs.FieldLoop.{with_first, field_there}
 use Rattle.pgv_copy.proofs.Headers.{header_there, count_there, end_there}
 
 -- ---- a row
-
-pub framed : (part : Part) (rest : List ℕ) → IsField part → IsFrame (field_bytes part ++ rest) part rest
-framed None rest h = refl
-framed (Some part) rest h = (h, append_assoc (to_be_bytes w32 (length part)) part rest)
 
 no_fields : (rest : List ℕ) → fields [] rest ≡ Ok ([], rest)
 unfolding fields

@@ -10,7 +10,7 @@ use Rattle.std.proofs.lemmas.Slice.Eq.{bytes_eq-Decides}
 use Rattle.std.proofs.lemmas.Nat.{be_bytes_2}
 use Rattle.std.proofs.lemmas.List.{take-append-drop, length-take-le}
 use Rattle.pgv_types.specs.Ty.{Ty}
-use Rattle.pgv_value.specs.FrameBinary.{Part, IsFrame, front, frame_fault}
+use Rattle.pgv_value.specs.FrameBinary.{Part, IsFrame, front, frame_fault, field_bytes, row_bytes, IsField}
 use Rattle.pgv_value.specs.Laws.{AreBytes}
 use Rattle.pgv_value.specs.Steps.{number, signed_two}
 use Rattle.pgv_value.specs.ValueView.{Given}
@@ -19,34 +19,17 @@ use Rattle.pgv_value.specs.declared.error.CodecError.TheVariants.{Short, Negativ
 use Rattle.pgv_value.specs.declared.value.PgValueFormat.TheVariants.{Binary}
 use Rattle.pgv_value.proofs.Fronts.{front_exactly}
 use Rattle.pgv_value.proofs.Numbers.{bytes_below, bytes_after, number_is}
-use Rattle.pgv_copy.specs.CopyBinary.{Read, ◌>>◌, Step, signature, after_signature, after_flags, after_extension, after_count, header, field, fields, before, ended, row_or_end, step}
-use Rattle.pgv_copy.specs.CopyStream.{IsHeader, field_bytes, row_bytes, trailer, IsField, IsRow, Answer, called, call, answers, values, RowsAreOfACopy}
+use Rattle.pgv_value.specs.Parsed.{Parsed, ◌>>=◌}
+use Rattle.pgv_value.proofs.Outcomes.{and_then_taken as taken, found_or as there, held, failed, ok_is}
+use Rattle.pgv_copy.specs.CopyBinary.{Step, signature, after_signature, after_flags, after_extension, after_count, header, field, fields, before, ended, row_or_end, step}
+use Rattle.pgv_copy.specs.CopyStream.{IsHeader, trailer, IsRow, Answer, called, call, answers, values, RowsAreOfACopy}
 use Rattle.pgv_copy.specs.CopyView.{Copying}
 
 -- ---- steps and tests
 
-taken : {A B : Type 0} (r : Read A) (f : A → Read B) (y : B) → r >> f ≡ Ok y → (x : A) × (r ≡ Ok x) × (f x ≡ Ok y)
-taken (Ok x) f y e = (x, refl, e)
-taken (Err d) f y e = absurd cc
-
-there : {A : Type 0} (o : Option A) (d : CodecError) (x : A) → ok_or o d ≡ Ok x → o ≡ Some x
-there None d x e = absurd cc
-there (Some y) d x e = cc
-
-failed : {A : Type 0} (b : Bool) (d : CodecError) (r : Read A) (y : A) → cond {A = Read A} b (Err d) r ≡ Ok y → (b ≡ false) × (r ≡ Ok y)
-failed true d r y e = absurd cc
-failed false d r y e = (refl, e)
-
-held : {A : Type 0} (b : Bool) (d : CodecError) (r : Read A) (y : A) → cond {A = Read A} b r (Err d) ≡ Ok y → (b ≡ true) × (r ≡ Ok y)
-held true d r y e = (refl, e)
-held false d r y e = absurd cc
-
 is_there : {A : Type 0} (b : Bool) (p q : A) → cond {A = Option A} b None (Some p) ≡ Some q → (b ≡ false) × (p ≡ q)
 is_there true p q e = absurd cc
 is_there false p q e = (refl, cc)
-
-ok_is : {A : Type 0} (x y : A) → (let r : Read A = Ok x in r) ≡ Ok y → x ≡ y
-ok_is x y e = cc
 
 some_is : {A : Type 0} (x y : A) → (let o : Option A = Some x in o) ≡ Some y → x ≡ y
 some_is x y e = cc
@@ -118,7 +101,7 @@ extension_is bytes rest h e =
 
 pub header_is : (bytes rest : List ℕ) → AreBytes bytes → header bytes ≡ Ok rest → (head : List ℕ) × IsHeader head × (bytes ≡ head ++ rest)
 header_is bytes rest h e =
-    let c = taken (after_signature bytes >> after_flags) after_extension rest e in
+    let c = taken (after_signature bytes >>= after_flags) after_extension rest e in
     let b = taken (after_signature bytes) after_flags c.0 c.1 in
     let first = signature_is bytes b.0 b.1 in
     let h1 : AreBytes b.0 = bytes_after signature b.0 (subst AreBytes first h) in
@@ -158,13 +141,13 @@ signed_end : (n : ℕ) → n < 65536 → cast_signed w16 n ≡ negsuc 0 → n �
 signed_end n fits e = end_by n (nat_lt n 32768) fits e
 
 -- the three tests of a number of fields
-counted_row : (end negative same : Bool) (d : CodecError) (rest x : List ℕ) → cond {A = Read (Option (List ℕ))} end (Ok None) (cond negative (Err d) (cond same (Ok (Some rest)) (Err FieldCount))) ≡ Ok (Some x) → (same ≡ true) × (rest ≡ x)
+counted_row : (end negative same : Bool) (d : CodecError) (rest x : List ℕ) → cond {A = Parsed (Option (List ℕ))} end (Ok None) (cond negative (Err d) (cond same (Ok (Some rest)) (Err FieldCount))) ≡ Ok (Some x) → (same ≡ true) × (rest ≡ x)
 counted_row true negative same d rest x e = absurd cc
 counted_row false true same d rest x e = absurd cc
 counted_row false false true d rest x e = (refl, cc)
 counted_row false false false d rest x e = absurd cc
 
-counted_end : (end negative same : Bool) (d : CodecError) (rest : List ℕ) → cond {A = Read (Option (List ℕ))} end (Ok None) (cond negative (Err d) (cond same (Ok (Some rest)) (Err FieldCount))) ≡ Ok None → end ≡ true
+counted_end : (end negative same : Bool) (d : CodecError) (rest : List ℕ) → cond {A = Parsed (Option (List ℕ))} end (Ok None) (cond negative (Err d) (cond same (Ok (Some rest)) (Err FieldCount))) ≡ Ok None → end ≡ true
 counted_end true negative same d rest e = refl
 counted_end false true same d rest e = absurd cc
 counted_end false false true d rest e = absurd cc

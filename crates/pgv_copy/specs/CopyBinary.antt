@@ -6,23 +6,13 @@ use Rattle.std.specs.Prelude.{ℕ, nat_lt, pos, negsuc, int_lt, ◌&&◌, Bool, 
 use Rattle.std.specs.Int.{w32, cast_signed}
 use Rattle.std.specs.Ordering.{int_eq}
 use Rattle.pgv_types.specs.Ty.{Ty}
-use Rattle.pgv_value.specs.FrameBinary.{front, frame_fault}
-use Rattle.pgv_value.specs.Steps.{number, signed_two}
+use Rattle.pgv_value.specs.Fronts.{i16_front, u32_front, part_front}
+use Rattle.pgv_value.specs.Parsed.{Parsed, ◌>>=◌}
 use Rattle.pgv_value.specs.ValueView.{Given}
 use Rattle.pgv_value.specs.declared.error.CodecError.{CodecError}
 use Rattle.pgv_value.specs.declared.error.CodecError.TheVariants.{Short, NegativeLength, FieldCount, Syntax}
 use Rattle.pgv_value.specs.declared.value.PgValueFormat.TheVariants.{Binary}
 use Rattle.pgv_copy.specs.CopyView.{Copying}
-
--- what is read, or why it is refused
-abbrev pub Read : Type 0 → Type 0
-Read A = Result A CodecError
-
--- one step after the other, where neither is refused
-infixl 10 ◌>>◌
-abbrev pub ◌>>◌ : {A B : Type 0} → Read A → (A → Read B) → Read B
-(Ok x) >> next = next x
-(Err e) >> next = Err e
 
 -- ---- the header
 
@@ -31,46 +21,46 @@ abbrev pub signature : List ℕ
 signature = 80 ∷ 71 ∷ 67 ∷ 79 ∷ 80 ∷ 89 ∷ 10 ∷ 255 ∷ 13 ∷ 10 ∷ 0 ∷ []
 
 -- what comes after the signature: bytes that end within it are C15, and any others are C29
-unfoldable pub after_signature : List ℕ → Read (List ℕ)
+unfoldable pub after_signature : List ℕ → Parsed (List ℕ)
 after_signature bytes =
     if nat_lt (length bytes) 11 then Err (if bytes_eq bytes (take (length bytes) signature) then Short else Syntax) else
     if bytes_eq (take 11 bytes) signature then Ok (drop 11 bytes) else Err Syntax
 
 -- what comes after the flags, of which the upper 16 have to be clear
-unfoldable pub after_flags : List ℕ → Read (List ℕ)
-after_flags bytes = ok_or (number bytes) Short >> λ flags. if nat_lt 65535 flags.0 then Err Syntax else Ok flags.1
+unfoldable pub after_flags : List ℕ → Parsed (List ℕ)
+after_flags bytes = u32_front bytes >>= λ flags. if nat_lt 65535 flags.0 then Err Syntax else Ok flags.1
 
 -- what comes after the extension: its length, and that many bytes
-unfoldable pub after_extension : List ℕ → Read (List ℕ)
+unfoldable pub after_extension : List ℕ → Parsed (List ℕ)
 after_extension bytes =
-    ok_or (number bytes) Short >> λ size.
+    u32_front bytes >>= λ size.
     if nat_lt 2147483647 size.0 then Err (NegativeLength (cast_signed w32 size.0)) else
     if nat_lt (length size.1) size.0 then Err Short else Ok (drop size.0 size.1)
 
 -- what comes after the header
-abbrev pub header : List ℕ → Read (List ℕ)
-header bytes = after_signature bytes >> after_flags >> after_extension
+abbrev pub header : List ℕ → Parsed (List ℕ)
+header bytes = after_signature bytes >>= after_flags >>= after_extension
 
 -- ---- rows
 
 -- what comes after the number of fields, which has to be this one; at -1, the trailer, nothing does
-unfoldable pub after_count : ℕ → List ℕ → Read (Option (List ℕ))
+unfoldable pub after_count : ℕ → List ℕ → Parsed (Option (List ℕ))
 after_count width bytes =
-    ok_or (signed_two bytes) Short >> λ count.
+    i16_front bytes >>= λ count.
     if int_eq count.0 (negsuc 0) then Ok None else
     if int_lt count.0 (pos 0) then Err (NegativeLength count.0) else
     if int_eq count.0 (pos width) then Ok (Some count.1) else Err FieldCount
 
 -- the frame in front, as a field of this type, and what comes after it
-abbrev pub field : Ty → List ℕ → Read (Given × List ℕ)
+abbrev pub field : Ty → List ℕ → Parsed (Given × List ℕ)
 field t bytes =
-    ok_or (front bytes) (frame_fault bytes) >> λ p.
+    part_front bytes >>= λ p.
     Ok (record { bytes = p.0; type_info = t; format = Binary }, p.1)
 
 -- a field of each type, and what comes after them
-unfoldable pub fields : List Ty → List ℕ → Read (List Given × List ℕ)
+unfoldable pub fields : List Ty → List ℕ → Parsed (List Given × List ℕ)
 fields [] bytes = Ok ([], bytes)
-fields (t ∷ ts) bytes = field t bytes >> λ first. fields ts first.1 >> λ more. Ok (first.0 ∷ more.0, more.1)
+fields (t ∷ ts) bytes = field t bytes >>= λ first. fields ts first.1 >>= λ more. Ok (first.0 ∷ more.0, more.1)
 
 -- ---- a reader's calls
 
@@ -91,15 +81,15 @@ bytes_left reader = length_left reader.left
 
 -- what a call answers, and the reader after it
 abbrev pub Step : Type 0
-Step = Read (Option (List Given) × Copying)
+Step = Parsed (Option (List Given) × Copying)
 
 abbrev pub row_or_end : List Ty → Option (List ℕ) → Step
 row_or_end types None = Ok (None, ended types)
-row_or_end types (Some bytes) = fields types bytes >> λ row. Ok (Some row.0, before types row.1)
+row_or_end types (Some bytes) = fields types bytes >>= λ row. Ok (Some row.0, before types row.1)
 
 abbrev pub step_from : List Ty → Option (List ℕ) → Step
 step_from types None = Ok (None, ended types)
-step_from types (Some bytes) = after_count (length types) bytes >> row_or_end types
+step_from types (Some bytes) = after_count (length types) bytes >>= row_or_end types
 
 -- The next row, or none at the trailer and after it.
 unfoldable pub step : Copying → Step
@@ -108,7 +98,7 @@ step reader = step_from reader.types reader.left
 -- ---- memory
 
 -- whether bytes are left after the number of fields, so that a row begins there
-abbrev pub begins_row : Read (Option (List ℕ)) → Bool
+abbrev pub begins_row : Parsed (Option (List ℕ)) → Bool
 begins_row (Err e) = false
 begins_row (Ok None) = false
 begins_row (Ok (Some bytes)) = true

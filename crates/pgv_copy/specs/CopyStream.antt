@@ -7,12 +7,13 @@ use Rattle.std.specs.Prelude.{◌≡◌, ℕ, zero, suc, ◌+◌, ◌<◌, ◌�
 use Rattle.std.specs.Int.{w16, w32, to_be_bytes}
 use Rattle.std.specs.List.{AllByRecursion}
 use Rattle.pgv_types.specs.Ty.{Ty}
-use Rattle.pgv_value.specs.FrameBinary.{Part}
+use Rattle.pgv_value.specs.FrameBinary.{Part, row_bytes, IsField}
 use Rattle.pgv_value.specs.Laws.{AreBytes}
+use Rattle.pgv_value.specs.Parsed.{Parsed}
 use Rattle.pgv_value.specs.ValueView.{Given}
 use Rattle.pgv_value.specs.declared.error.CodecError.TheVariants.{Short}
 use Rattle.pgv_value.specs.declared.value.PgValueFormat.TheVariants.{Binary}
-use Rattle.pgv_copy.specs.CopyBinary.{Read, Step, signature, header, before, step}
+use Rattle.pgv_copy.specs.CopyBinary.{Step, signature, header, before, step}
 use Rattle.pgv_copy.specs.CopyView.{Copying}
 
 -- ---- what a stream is
@@ -25,23 +26,9 @@ pub record IsHeader (bytes : List ℕ) : Type 0 where
   pub none_critical : flags < 2 ^ 16
   pub length_fits : length extension < 2 ^ 31
 
--- a field: a length and that many bytes, or for null the length -1
-abbrev pub field_bytes : Part → List ℕ
-field_bytes None = to_be_bytes w32 4294967295
-field_bytes (Some part) = to_be_bytes w32 (length part) ++ part
-
--- a row: the number of its fields, and these
-abbrev pub row_bytes : List Part → List ℕ
-row_bytes row = to_be_bytes w16 (length row) ++ flat_map field_bytes row
-
 -- the number -1, after the last row
 abbrev pub trailer : List ℕ
 trailer = 255 ∷ 255 ∷ []
-
--- a field's length fits its four bytes
-abbrev pub IsField : Part → Type 0
-IsField None = ⊤
-IsField (Some part) = length part < 2 ^ 31
 
 -- a row of this many fields, a number that fits its two bytes
 pub record IsRow (width : ℕ) (row : List Part) : Type 0 where
@@ -60,7 +47,7 @@ pub record IsCopy (width : ℕ) (bytes : List ℕ) (rows : List (List Part)) (fo
 
 -- what a call answers: a row, none, or why it is refused
 abbrev pub Answer : Type 0
-Answer = Read (Option (List Given))
+Answer = Parsed (Option (List Given))
 
 -- the answer of a call and the reader after it, which a refusal leaves as it was
 abbrev pub called : Step → Copying → Answer × Copying
@@ -86,14 +73,14 @@ row_answers types rows = map (λ row. Ok (Some (values types row))) rows
 
 -- ---- a stream is read as its rows
 
--- The header is passed over. The calls after it answer the rows, and from then on that there is none.
+-- The header is passed over. The calls after it return the rows, and then that there is no further row.
 abbrev pub CopyIsItsRows : Type 0
 CopyIsItsRows =
     (types : List Ty) (bytes : List ℕ) (rows : List (List Part)) (follows : List ℕ) → IsCopy (length types) bytes rows follows →
     (rest : List ℕ) × (header bytes ≡ Ok rest) ×
     ((n : ℕ) → answers (length rows + n) (before types rest) ≡ row_answers types rows ++ replicate n (Ok None))
 
--- What bytes are read as rows and an end are a stream of these rows.
+-- Bytes that are read as rows and then an end are a stream of these rows.
 abbrev pub RowsAreOfACopy : Type 0
 RowsAreOfACopy =
     (types : List Ty) (bytes rest : List ℕ) (rows : List (List Given)) → AreBytes bytes → header bytes ≡ Ok rest →

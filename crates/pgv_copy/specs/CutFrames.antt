@@ -4,14 +4,13 @@
 -- C15 (`StopsAtTheFrame`).
 use Rattle.std.specs.Prelude.{◌≡◌, ℕ, zero, suc, ◌+◌, ◌<◌, List, [], ◌∷◌, ◌++◌, map, flat_map, length, take, replicate, Option, Some, None, Ok, Err}
 use Rattle.std.specs.List.{AllByRecursion}
-use Rattle.pgv_value.specs.FrameBinary.{Part, front, frame_fault}
+use Rattle.pgv_value.specs.FrameBinary.{Part, front, frame_fault, field_bytes, IsField}
 use Rattle.pgv_value.specs.declared.error.CodecError.TheVariants.{Short}
-use Rattle.pgv_copy.specs.CopyBinary.{Read}
-use Rattle.pgv_copy.specs.CopyStream.{field_bytes, IsField}
+use Rattle.pgv_value.specs.Parsed.{Parsed}
 
 -- what a call of `get` answers of a slice, and the slice after it, which a refusal leaves as it was
 abbrev pub Got : Type 0
-Got = Read Part × List ℕ
+Got = Parsed Part × List ℕ
 
 abbrev pub got_of : List ℕ → Option (Part × List ℕ) → Got
 got_of bytes (Some x) = (Ok x.0, x.1)
@@ -21,7 +20,7 @@ abbrev pub got : List ℕ → Got
 got bytes = got_of bytes (front bytes)
 
 -- the answers of calls one after another
-abbrev pub all_got : ℕ → List ℕ → List (Read Part)
+abbrev pub all_got : ℕ → List ℕ → List (Parsed Part)
 all_got zero bytes = []
 all_got (suc n) bytes = (got bytes).0 ∷ all_got n (got bytes).1
 

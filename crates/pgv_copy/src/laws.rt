@@ -1,5 +1,5 @@
-//! Laws of COPY streams in binary: each is the contract of a function that does nothing. They speak of `step`, which the contract of
-//! [`PgCopyReader::next_row`](crate::PgCopyReader::next_row) says a call to be.
+//! Laws of COPY streams in binary: each is the contract of a function that does nothing. They speak of `step`; the
+//! contract of [`PgCopyReader::next_row`](crate::PgCopyReader::next_row) says that a call is one step.
 
 ghost use Rattle.std.specs.Prelude.{◌≡◌, Ok, Err, IfOk, IfErr};
 ghost use Rattle.pgv_copy.specs.CopyStream.{CopyIsItsRows, RowsAreOfACopy, CutCopyIsShort, CutHeaderIsShort};
@@ -8,28 +8,32 @@ ghost use Rattle.pgv_copy.specs.CutFrames.{got, CutFramesAreShort};
 use pgv_types::PgTypeInfo;
 use pgv_value::{CodecError, PgValueFormat, PgValueRef};
 
-/// A stream, of whatever rows, extension and bytes after its end, is read as exactly these rows, and then as no more for ever.
+/// A stream, whatever its rows, its extension and the bytes after its end, is read as exactly its rows, and each later
+/// call returns that there is none.
 pub fn copy_is_its_rows()
     ensures { CopyIsItsRows }
 {}
 
-/// What bytes are read as rows and an end are a stream of exactly these rows.
+/// Bytes from which a reader returns rows and then the end are a stream of exactly these rows.
 pub fn rows_are_of_a_copy()
     ensures { RowsAreOfACopy }
 {}
 
-/// A header that is cut off is refused with C15.
+/// A header that is cut off anywhere is refused with [`Short`](CodecError::Short) (C15).
 pub fn cut_header_is_short()
     ensures { CutHeaderIsShort }
 {}
 
-/// A stream that is cut off anywhere is refused where it ends (C15), as often as it is asked, and the rows before are answered.
+/// A stream that is cut off anywhere is refused with [`Short`](CodecError::Short) (C15) in its header, or rows of it
+/// are returned, from the first on, and each call after them is refused with [`Short`](CodecError::Short) (C15).
 pub fn cut_copy_is_short()
     ensures { CutCopyIsShort }
 {}
 
-/// What a call of [`PgValueRef::get`] is, for the law about calls one after another: the part that is found in front and the slice after
-/// it, or the refusal and the slice as it was.
+/// A call of [`PgValueRef::get`] returns the part in front and moves the slice past it, or refuses and leaves the
+/// slice, exactly as `got` says.
+///
+/// The law about calls one after another is stated with `got`.
 pub fn get_is_got<'r>(
     bytes: &mut &'r [u8],
     format: PgValueFormat,
@@ -41,7 +45,8 @@ pub fn get_is_got<'r>(
     PgValueRef::get(bytes, format, type_info)
 }
 
-/// Frames that are cut off anywhere: the whole ones are answered, and from then on each call is refused with C15, as often as it is asked.
+/// From frames that are cut off anywhere, the parts of some first frames, and not of all, are returned, and each call
+/// after them is refused with [`Short`](CodecError::Short) (C15).
 pub fn cut_frames_are_short()
     ensures { CutFramesAreShort }
 {}

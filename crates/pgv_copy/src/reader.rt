@@ -2,6 +2,7 @@
 
 ghost use Rattle.std.specs.Prelude.{◌≡◌, ◌<◌, ◌≤◌, false, length, Ok, Err, IfOk, IfErr, OnOk, OnErr, IfSome, OnSome, option_map};
 ghost use Rattle.std.specs.Option.{option_copied};
+ghost use Rattle.pgv_value.specs.Parsed.{GivesExactly};
 ghost use Rattle.pgv_value.specs.Reading.{Refuses};
 ghost use Rattle.pgv_copy.specs.CopyBinary.{header, after_signature as signature_passed, after_flags as flags_passed, after_extension as extension_passed, after_count as count_passed, fields, before, has_columns, row_takes, step, bytes_left};
 
@@ -45,26 +46,30 @@ impl<'r> PgCopyReader<'r> {
     /// A reader of the rows of a stream whose columns have these types. The header is read: its flags 0 to 15 and its extension
     /// are passed over.
     ///
-    /// A wrong signature, also one that is cut off, and a set flag of 16 to 31 (16 means that rows have OIDs) are refused with C29,
-    /// bytes that end within a header with C15, and a negative length of the extension with C16.
+    /// A wrong signature, also one that is cut off, and a set flag of 16 to 31 (16 means that rows have OIDs) are
+    /// refused with [`Syntax`](CodecError::Syntax) (C29), bytes that end within a header with
+    /// [`Short`](CodecError::Short) (C15), and a negative length of the extension with
+    /// [`NegativeLength`](CodecError::NegativeLength) (C16).
     pub fn new(bytes: &'r [u8], types: Vec<PgTypeInfo>) -> Result<Self, CodecError>
         ensures found { IfOk result (λ r. (rest : _) × (header bytes.now ≡ Ok rest) × (r ≡ before types.items rest)) }
         ensures refused { IfErr result (λ e. header bytes.now ≡ Err e) }
     {
-        let left = after_extension(after_flags(after_signature(bytes)?)?)?;
+        let left = after_header(bytes)?;
         Ok(PgCopyReader {
             types,
             left: Some(left),
         })
     }
 
-    /// The next row, a value in binary format for each column, or none at the end of the stream and ever after; bytes after the
-    /// end are ignored. The values live as long as the bytes of the stream.
+    /// The next row, a value in binary format for each column; `None` at the end of the stream and from then on; bytes
+    /// after the end are ignored. The values live as long as the bytes of the stream.
     ///
-    /// Where the bytes end before the stream does it is C15, a negative number of fields but the -1 of the end C16, another
-    /// number than that of the columns C12, and a negative length of a field but the -1 of null C16. A refused call leaves the
-    /// reader as it was. The list is all that takes memory (C1), from the allocator of the types, beside a custom type, which is
-    /// copied: so C1 comes only where the fields of a row are read, and not at the trailer or after it.
+    /// Where the bytes end before the stream does it is [`Short`](CodecError::Short) (C15), a negative number of fields
+    /// but the -1 of the end [`NegativeLength`](CodecError::NegativeLength) (C16), another number than that of the
+    /// columns [`FieldCount`](CodecError::FieldCount) (C12), and a negative length of a field but the -1 of null
+    /// [`NegativeLength`](CodecError::NegativeLength) (C16). A refused call leaves the reader as it was. The list is
+    /// all that takes memory (C1), from the allocator of the types, beside a custom type, which is copied: so C1 comes
+    /// only where the fields of a row are read, and not at the trailer or after it.
     #[inline(always)]
     #[tactic(auto, unfolding(crate::specs::CopyBinary::step))]
     pub fn next_row(&mut self) -> Result<Option<Vec<PgValueRef<'r>>>, CodecError>
@@ -88,11 +93,17 @@ impl<'r> PgCopyReader<'r> {
     }
 }
 
+/// What comes after the header of a stream: the signature, the flags, and the extension, which is passed over.
+pub fn after_header(bytes: &[u8]) -> Result<&[u8], CodecError>
+    ensures { GivesExactly (λ rest. rest.now) (header bytes.now) result }
+{
+    after_extension(after_flags(after_signature(bytes)?)?)
+}
+
 /// What comes after the signature.
 #[tactic(auto, unfolding(crate::specs::CopyBinary::after_signature))]
 fn after_signature(bytes: &[u8]) -> Result<&[u8], CodecError>
-    ensures found { IfOk result (λ rest. signature_passed bytes.now ≡ Ok rest.now) }
-    ensures refused { IfErr result (λ e. signature_passed bytes.now ≡ Err e) }
+    ensures { GivesExactly (λ rest. rest.now) (signature_passed bytes.now) result }
 {
     if bytes.len() < SIGNATURE.len() {
         return Err(if bytes == &SIGNATURE[..bytes.len()] {
@@ -111,8 +122,7 @@ fn after_signature(bytes: &[u8]) -> Result<&[u8], CodecError>
 /// What comes after the flags.
 #[tactic(auto, unfolding(crate::specs::CopyBinary::after_flags))]
 fn after_flags(bytes: &[u8]) -> Result<&[u8], CodecError>
-    ensures found { IfOk result (λ rest. flags_passed bytes.now ≡ Ok rest.now) }
-    ensures refused { IfErr result (λ e. flags_passed bytes.now ≡ Err e) }
+    ensures { GivesExactly (λ rest. rest.now) (flags_passed bytes.now) result }
 {
     let (flags, rest) = u32_in_front(bytes)?;
     if flags > MAX_FLAGS {
@@ -124,8 +134,7 @@ fn after_flags(bytes: &[u8]) -> Result<&[u8], CodecError>
 /// What comes after the extension, which is passed over.
 #[tactic(auto, unfolding(crate::specs::CopyBinary::after_extension))]
 fn after_extension(bytes: &[u8]) -> Result<&[u8], CodecError>
-    ensures found { IfOk result (λ rest. extension_passed bytes.now ≡ Ok rest.now) }
-    ensures refused { IfErr result (λ e. extension_passed bytes.now ≡ Err e) }
+    ensures { GivesExactly (λ rest. rest.now) (extension_passed bytes.now) result }
 {
     let (length, rest) = u32_in_front(bytes)?;
     if length > MAX_LENGTH {
@@ -138,12 +147,11 @@ fn after_extension(bytes: &[u8]) -> Result<&[u8], CodecError>
     Ok(&rest[length..])
 }
 
-/// What comes after the number of a row's fields, or none at the trailer.
+/// What comes after the number of a row's fields, which has to be this one, or none at the trailer.
 #[inline(always)]
 #[tactic(auto, unfolding(crate::specs::CopyBinary::after_count))]
-fn after_count(bytes: &[u8], width: usize) -> Result<Option<&[u8]>, CodecError>
-    ensures found { IfOk result (λ rest. count_passed width bytes.now ≡ Ok (option_copied rest)) }
-    ensures refused { IfErr result (λ e. count_passed width bytes.now ≡ Err e) }
+pub fn after_count(bytes: &[u8], width: usize) -> Result<Option<&[u8]>, CodecError>
+    ensures exact { GivesExactly option_copied (count_passed width bytes.now) result }
     ensures shorter { IfOk result (λ found. IfSome found (λ rest. length rest.now < length bytes.now)) }
 {
     let (count, rest) = i16_in_front(bytes)?;
@@ -161,7 +169,7 @@ fn after_count(bytes: &[u8], width: usize) -> Result<Option<&[u8]>, CodecError>
 
 /// A field of each type. The bytes are moved on after those that were read.
 #[inline(always)]
-fn read_fields<'r>(
+pub fn read_fields<'r>(
     alloc: Global,
     types: &[PgTypeInfo],
     bytes: &mut &'r [u8],

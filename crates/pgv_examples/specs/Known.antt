@@ -1,4 +1,4 @@
--- OIDs that are looked up among the types that a server told of.
+-- OIDs that are looked up among the types that a server described.
 use Rattle.std.specs.Prelude.{◌≡◌, ℕ, ◌<◌, true, List, [], ◌∷◌, ◌++◌, length, get_or, Some, ⊤}
 use Rattle.pgv.specs.Words.{Oid, Ty, oid_of, softly}
 

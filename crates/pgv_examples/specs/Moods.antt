@@ -23,7 +23,7 @@ labelled (Some text) = mood_of text
 abbrev pub mood_reading : Reading Mood
 mood_reading t f part = labelled (text_reading t f part)
 
--- each mood is read of its own label
+-- each mood is read from its own label
 label_again : (mood : Mood) → mood_of (label_of mood) ≡ Some mood
 label_again Sad = refl
 label_again Fine = refl

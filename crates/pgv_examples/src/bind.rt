@@ -9,8 +9,8 @@ use crate::mood::Mood;
 use pgv::{CodecError, Encode, Oid, PgArguments, PgTypeInfo};
 use std::alloc::Global;
 
-/// The arguments of `select .. where id = $1 and name = $2 and mood = any($3)`: the three frames. Their types are `int4`, `text` and `mood[]`; of the
-/// last only the name is known here, so there is a hole where its element's OID is to stand.
+/// The arguments of `select .. where id = $1 and name = $2 and mood = any($3)`: the three frames. Their types are
+/// `int4`, `text` and `mood[]`; of the last only the name is known here, so there is a hole for its element's OID.
 pub fn arguments_of_search(
     alloc: Global,
     id: i32,
@@ -26,8 +26,8 @@ pub fn arguments_of_search(
     Ok(arguments)
 }
 
-/// Fills every hole by the types that the server told of: the OID of a type is looked up by its name. C38(1) where a type is not
-/// among them, and C10 where there are not as many parameters as arguments; then nothing was changed.
+/// Fills every hole by the types that the server described: the OID of a type is looked up by its name. C38(1) where a
+/// type is not among them, and C10 where there are not as many parameters as arguments; then nothing was changed.
 pub fn fill(
     alloc: Global,
     arguments: &mut PgArguments,

@@ -1,4 +1,4 @@
-//! Examples for who binds values, reads rows or brings types of their own: each a file, short and proved.
+//! Examples for callers who bind parameters, read rows or define their own codecs: each a file, short and proved.
 //! `pgv_tests` has a short test of each that does something by itself, and `pgv_calls` rows of the types.
 //!
 //! 1. [`bind`] adds the values of a statement, fills their holes, and gives the bytes that are sent.

@@ -42,7 +42,8 @@ impl Type for Percent {
     }
 }
 
-/// Written as its number. Another number than 0 to 100 is refused with C38(9), and whoever called the encoder goes back.
+/// Written as its number. Another number than 0 to 100 is refused with C38(9), and the caller of the encoder goes back
+/// to its mark.
 impl Encode for Percent {
     ghost use Rattle.std.specs.Prelude.{Some};
     ghost use Rattle.pgv.specs.Words.{Caller};

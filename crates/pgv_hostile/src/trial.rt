@@ -80,7 +80,7 @@ pub fn read_again<T: Decode + Encode + Type>(
     }
 }
 
-/// Whether the frame of what was read of a frame is the same.
+/// Whether the frame of what was read from a frame is the same.
 fn compared(frame: &Vec<u8>, again: Result<Vec<u8>, CodecError>) -> Outcome {
     if again.is_ok_and(|again| again.as_slice() == frame.as_slice()) {
         Outcome::Read
@@ -89,7 +89,7 @@ fn compared(frame: &Vec<u8>, again: Result<Vec<u8>, CodecError>) -> Outcome {
     }
 }
 
-/// The frame of what is read of a value of a Rust type without a type of its own.
+/// The frame of what is read from a value of a Rust type without a type of its own.
 fn part_frame<T: Decode + Encode>(
     alloc: Global,
     value: PgValueRef<'_>,

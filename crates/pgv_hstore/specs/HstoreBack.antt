@@ -26,7 +26,7 @@ use Rattle.pgv_codec.specs.Image.{image_of, limit}
 use Rattle.pgv_hstore.specs.Hstore.{Pair, pair_of, pairs_of, order, part_form, pair_form, hstore_form, part_fits, pair_fits, hstore_image, key_front, value_front, pair_front, pairs, put_all, hstore_in_binary, hstore_reading}
 use Rattle.pgv_hstore.specs.declared.hstore.PgHstore.{PgHstore}
 
--- ---- a pair is read of its form, whatever comes after it
+-- ---- a pair is read from its form, whatever comes after it
 
 -- a part that is UTF-8 and has room in a frame
 pub record IsText (part : List ℕ) : Type 0 where

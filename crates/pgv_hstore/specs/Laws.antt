@@ -34,6 +34,6 @@ HstoreIsRead = (form : List ℕ) (ps : List Pair) → AreBytes form → (hstore_
 abbrev pub OneHstore : Type 0
 OneHstore = (form : List ℕ) (first second : List Pair) → AreBytes form → IsHstore form first → IsHstore form second → first ≡ second
 
--- equal maps have the same pairs, and so the same image
+-- two maps are equal iff they have the same pairs
 abbrev pub HstoresAreEqual : (PgHstore → PgHstore → Bool) → Type 0
 HstoresAreEqual eq = (a b : PgHstore) → (eq a b ≡ true) ↔ (pairs_of a ≡ pairs_of b)

@@ -26,7 +26,7 @@ impl PgHstore {
         PgHstore(BTreeMap::new(alloc))
     }
 
-    /// The map of pairs, whose values may be null. Where one key comes again, the later pair wins. The iterator ends.
+    /// The map of pairs, whose values may be null. If a key comes again, the later pair wins. The iterator must end.
     pub fn try_from_iter<I: IntoIterator<Item = (String, Option<String>)>>(
         alloc: Global,
         pairs: I,
@@ -43,7 +43,8 @@ impl PgHstore {
         Ok(PgHstore(map))
     }
 
-    /// The map of pairs, none of whose values is null. Where one key comes again, the later pair wins. The iterator ends.
+    /// The map of pairs, none of whose values is null. If a key comes again, the later pair wins. The iterator must
+    /// end.
     pub fn try_from_pairs<I: IntoIterator<Item = (String, String)>>(
         alloc: Global,
         pairs: I,

@@ -1,4 +1,4 @@
-//! What is proved of maps and of the definitions that say what they are. Each law is the contract of a function that does nothing.
+//! Laws of hstore's maps and of their binary form. Each is the contract of a function that does nothing.
 
 ghost use Rattle.std.specs.Prelude.{◌≡◌, codes, List};
 ghost use Rattle.pgv_types.specs.Ty.{array_of, named, Ty};
@@ -13,7 +13,8 @@ ghost use Rattle.pgv_types.specs.declared.oid.Oid.{Oid};
 use pgv_codec::{Decode, Encode, PgHasArrayType, ReadBack, Type};
 use std::collections::btree_map;
 
-/// A `PgHstore` is an hstore, by its name, its pairs in the order of the keys. Its arrays are arrays of the type of this name.
+/// A `PgHstore` is an hstore, known by its name, with its pairs in the order of the keys. Its arrays are arrays of the
+/// type of this name.
 pub fn hstore_is_an_hstore()
     ensures types { ⟦<crate::PgHstore as Type>⟧.info ≡ named (codes "hstore") }
     ensures accepts { (t : Ty) → ⟦<crate::PgHstore as Type>⟧.accepts t ≡ softly t (named (codes "hstore")) }
@@ -27,28 +28,28 @@ pub fn hstore_is_an_hstore()
     ensures takes_memory { ⟦<crate::PgHstore as Decode>⟧.takes_memory ≡ hstore_takes }
 {}
 
-/// Bytes are the form of a map exactly where it is read of them.
+/// `hstore_in_binary` reads a map from bytes iff the bytes begin with a binary form of this map.
 pub fn hstore_is_read()
     ensures { HstoreIsRead }
 {}
 
-/// No bytes are the forms of two maps.
+/// Bytes begin with the binary form of at most one map.
 pub fn one_hstore()
     ensures { OneHstore }
 {}
 
-/// Maps are equal exactly where they have the same pairs, and so they are written alike.
+/// Two maps are equal iff they have the same pairs, and maps with the same pairs are written alike.
 pub fn equal_hstores()
     ensures equal { HstoresAreEqual ⟦<crate::PgHstore as PartialEq>⟧.eq }
     ensures written_alike { (a b : _) → pairs_of a ≡ pairs_of b → ⟦<crate::PgHstore as Encode>⟧.image a ≡ ⟦<crate::PgHstore as Encode>⟧.image b }
 {}
 
-/// The iterator of a map gives its pairs in the order of the keys, and ends then.
+/// The iterator of a map gives its pairs in the order of the keys and then ends.
 pub fn hstore_gives_its_pairs()
     ensures { (h : _) (pairs : _) → ⟦<crate::PgHstore as IntoIterator>⟧.into_iter_gives h pairs → AlwaysYields ⟦<btree_map::IntoIter<String, Option<String>> as Iterator>⟧.next_gives (λ pair. pair) pairs h.0.entries }
 {}
 
-/// A map comes back under every type.
+/// A map fits every type, so that it is read back under each.
 pub fn plain_hstores_fit()
     ensures { (v : _) (t : Ty) (oids : List Oid) → ⟦<crate::PgHstore as ReadBack>⟧.fits v t oids }
 {}

@@ -1,4 +1,5 @@
-//! What dates, times, date-times and instants are, as [`rows`](super::rows) has it of other types. All count from 2000-01-01.
+//! Laws that say what dates, times, date-times and instants are, as [`rows`](super::rows) does for other types. Dates
+//! and moments count from 2000-01-01.
 
 ghost use Rattle.std.specs.Prelude.{◌≡◌, ◌*◌, ◌/◌, None};
 ghost use Rattle.jiff.specs.Words.{civil_nanos, epoch_day, time_nanos};
@@ -23,8 +24,8 @@ pub fn date_is_a_date()
     ensures refused { IsRefusedAs whole_or_syntax_refusal ⟦<Date as Decode>⟧.refusal × TakesNone ⟦<Date as Decode>⟧.takes_memory }
 {}
 
-/// A `Time` is a time (OID 1083), its microseconds in eight bytes, as `0000000a7a358200` for 12:30. Its arrays are `time[]` (1183).
-/// It comes back in whole microseconds.
+/// A `Time` is a time (OID 1083), its microseconds in eight bytes, as `0000000a7a358200` for 12:30. Its arrays are
+/// `time[]` (1183). It is read back cut to whole microseconds.
 #[tactic(auto, using(pgv_codec::specs::DateTimeKept::time_kept_cut))]
 pub fn time_is_a_time()
     ensures types { IsBuiltIn 1083 ⟦<Time as Type>⟧.info ⟦<Time as Type>⟧.accepts }
@@ -38,8 +39,8 @@ pub fn time_is_a_time()
     ensures kept { (v : Time) → time_nanos (⟦<Time as ReadBack>⟧.kept v) ≡ time_nanos v / 1000 * 1000 }
 {}
 
-/// A `DateTime` is a timestamp (OID 1114), its microseconds in eight bytes. Its arrays are `timestamp[]` (1115). It comes back as the
-/// moment of its microseconds.
+/// A `DateTime` is a timestamp (OID 1114), its microseconds in eight bytes. Its arrays are `timestamp[]` (1115). It is
+/// read back as the moment of its microseconds.
 #[tactic(auto, using(pgv_codec::specs::DateTimeKept::date_time_kept_cut))]
 pub fn date_time_is_a_timestamp()
     ensures types { IsBuiltIn 1114 ⟦<DateTime as Type>⟧.info ⟦<DateTime as Type>⟧.accepts }
@@ -53,8 +54,8 @@ pub fn date_time_is_a_timestamp()
     ensures kept { (v : DateTime) → nanos_after (micros_of (civil_nanos v)) ≡ civil_nanos (⟦<DateTime as ReadBack>⟧.kept v) }
 {}
 
-/// A `Timestamp` is a timestamptz (OID 1184), its microseconds in eight bytes. Its arrays are `timestamptz[]` (1185). It comes back as
-/// the moment of its microseconds.
+/// A `Timestamp` is a timestamptz (OID 1184), its microseconds in eight bytes. Its arrays are `timestamptz[]` (1185).
+/// It is read back as the moment of its microseconds.
 pub fn timestamp_is_a_timestamptz()
     ensures types { IsBuiltIn 1184 ⟦<Timestamp as Type>⟧.info ⟦<Timestamp as Type>⟧.accepts }
     ensures arrays { IsBuiltIn 1185 ⟦<Timestamp as PgHasArrayType>⟧.array_info ⟦<Timestamp as PgHasArrayType>⟧.accepts_array }

@@ -1,4 +1,4 @@
-//! What intervals and durations are, as [`rows`](super::rows) has it of other types.
+//! Laws that say what intervals and durations are, as [`rows`](super::rows) does for other types.
 
 ghost use Rattle.std.specs.Prelude.{◌≡◌, false, pos, Some, None};
 ghost use Rattle.std.specs.Duration.{as_nanos};
@@ -12,8 +12,8 @@ use pgv_codec::{Decode, Encode, PgHasArrayType, Type};
 use pgv_value::PgInterval;
 use std::time::Duration;
 
-/// A `PgInterval` is an interval (OID 1186): microseconds, days and months, as `00000000d693a4000000000000000000` for an hour.
-/// Its arrays are `interval[]` (1187).
+/// A `PgInterval` is an interval (OID 1186): microseconds, days and months, as `00000000d693a4000000000000000000` for
+/// an hour. Its arrays are `interval[]` (1187).
 pub fn pg_interval_is_an_interval()
     ensures types { IsBuiltIn 1186 ⟦<PgInterval as Type>⟧.info ⟦<PgInterval as Type>⟧.accepts }
     ensures arrays { IsBuiltIn 1187 ⟦<PgInterval as PgHasArrayType>⟧.array_info ⟦<PgInterval as PgHasArrayType>⟧.accepts_array }
@@ -25,8 +25,8 @@ pub fn pg_interval_is_an_interval()
     ensures refused { IsRefusedAs short_refusal ⟦<PgInterval as Decode>⟧.refusal × TakesNone ⟦<PgInterval as Decode>⟧.takes_memory }
 {}
 
-/// A `Duration` is an interval, and is written as that of its microseconds, where it is whole microseconds and 64 bits have
-/// their number; else it is refused with C4 or C5.
+/// A `Duration` is an interval (OID 1186) of its microseconds, if they are whole and fit in 64 bits; else it is refused
+/// with `IntervalPrecision` (C4) or `IntervalOverflow` (C5).
 pub fn duration_is_an_interval()
     ensures types { IsBuiltIn 1186 ⟦<Duration as Type>⟧.info ⟦<Duration as Type>⟧.accepts }
     ensures arrays { IsBuiltIn 1187 ⟦<Duration as PgHasArrayType>⟧.array_info ⟦<Duration as PgHasArrayType>⟧.accepts_array }
@@ -36,7 +36,7 @@ pub fn duration_is_an_interval()
     ensures unwritten { (⟦<Duration as Encode>⟧.unwritable ≡ (λ v. Some (duration_refused (pos (as_nanos v))))) × (⟦<Duration as Encode>⟧.asks_first ≡ (λ _. false)) }
 {}
 
-/// A `SignedDuration` is an interval, and is written as a `Duration` is.
+/// A `SignedDuration` is an interval (OID 1186), and is written or refused as a `Duration` is.
 pub fn signed_duration_is_an_interval()
     ensures types { IsBuiltIn 1186 ⟦<SignedDuration as Type>⟧.info ⟦<SignedDuration as Type>⟧.accepts }
     ensures arrays { IsBuiltIn 1187 ⟦<SignedDuration as PgHasArrayType>⟧.array_info ⟦<SignedDuration as PgHasArrayType>⟧.accepts_array }

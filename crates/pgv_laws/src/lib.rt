@@ -1,4 +1,4 @@
-//! What each type of `pgv_codec` is, and what lists, arrays and tuples in text are.
+//! Laws that say what each type of `pgv_codec` is, and what lists, arrays and tuples in text are.
 //! Each is the contract of a function that does nothing.
 #![tactic(auto)]
 

@@ -1,4 +1,4 @@
-//! What networks and addresses are, as [`rows`](super::rows) has it of other types.
+//! Laws that say what networks and addresses are, as [`rows`](super::rows) does for other types.
 
 ghost use Rattle.std.specs.Prelude.{◌≡◌, None};
 ghost use Rattle.pgv_types.specs.Ty.{Ty, builtin};
@@ -11,8 +11,8 @@ use pgv_codec::{Decode, Encode, PgHasArrayType, Type};
 use pgv_text::IpNetwork;
 use std::net::IpAddr;
 
-/// An `IpNetwork` is an inet (OID 869), as `020800040a000000` for `10.0.0.0/8`. It is read under cidr and inet. Its arrays are
-/// `inet[]` (1041), read under the arrays of both.
+/// An `IpNetwork` is an inet (OID 869), as `020800040a000000` for `10.0.0.0/8`. It is read under cidr and inet. Its
+/// arrays are `inet[]` (1041), read under the arrays of both.
 pub fn network_is_an_inet()
     ensures types { ⟦<IpNetwork as Type>⟧.info ≡ builtin 869 }
     ensures accepts { (t : Ty) → ⟦<IpNetwork as Type>⟧.accepts t ≡ is_network t }
@@ -26,8 +26,8 @@ pub fn network_is_an_inet()
     ensures refused { IsRefusedAs network_refusal ⟦<IpNetwork as Decode>⟧.refusal × TakesNone ⟦<IpNetwork as Decode>⟧.takes_memory }
 {}
 
-/// An `IpAddr` is an inet of all its bits, as `022000040a000001` for `10.0.0.1`. It is read under cidr and inet. Its arrays
-/// are `inet[]`, read under the arrays of both.
+/// An `IpAddr` is an inet of all its bits, as `022000040a000001` for `10.0.0.1`. It is read under cidr and inet. Its
+/// arrays are `inet[]`, read under the arrays of both.
 pub fn address_is_an_inet()
     ensures types { ⟦<IpAddr as Type>⟧.info ≡ builtin 869 }
     ensures accepts { (t : Ty) → ⟦<IpAddr as Type>⟧.accepts t ≡ is_network t }

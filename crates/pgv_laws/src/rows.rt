@@ -1,8 +1,9 @@
-//! What each type is: the type that its values and its arrays have, the types under which they are read, what they are
-//! written as and what is read. PostgreSQL lists the OIDs in `pg_type`; the binary forms are those of its send functions.
+//! Laws that say what each type is: the type that its values and its arrays have, the types under which they are read,
+//! what they are written as and what is read. PostgreSQL lists the OIDs in `pg_type`; the binary forms are those of its
+//! send functions.
 //!
-//! Each is the contract of a function that does nothing. A codec that reads nothing, or writes nothing, meets its trait's
-//! contract; it does not meet its row.
+//! Each is the contract of a function that does nothing. A codec that reads nothing, or writes nothing, meets its
+//! trait's contract; it does not meet its row.
 
 ghost use Rattle.std.specs.Prelude.{◌≡◌, option_map, string_bytes, map};
 ghost use Rattle.std.specs.Int.{w8, w16, w32, w64};
@@ -118,7 +119,7 @@ pub fn option_may_be_null<T: Type + Encode + Decode + PgHasArrayType>()
     ensures refused { (⟦<Option<T> as Decode>⟧.refusal ≡ nullable_refusal T.refusal) × (⟦<Option<T> as Decode>⟧.takes_memory ≡ nullable_takes T.takes_memory) }
 {}
 
-/// A `&T` is all that the value behind it is.
+/// A `&T` has the types of `T`, and is written or refused as the value that it refers to.
 pub fn reference_is_its_value<'a, T: Type + Encode + PgHasArrayType>()
     ensures types { (⟦<&'a T as Type>⟧.info ≡ T.info) × (⟦<&'a T as Type>⟧.accepts ≡ T.accepts) }
     ensures arrays { (⟦<&'a T as PgHasArrayType>⟧.array_info ≡ T.array_info) × (⟦<&'a T as PgHasArrayType>⟧.accepts_array ≡ T.accepts_array) }
@@ -146,8 +147,8 @@ pub fn sized_array_is_an_array<T: Type + Encode + Decode + PgHasArrayType, const
     ensures refused { (⟦<[T; N] as Decode>⟧.refusal ≡ array_of_length_refusal T.info T.reading T.refusal) × (⟦<[T; N] as Decode>⟧.takes_memory ≡ array_takes) }
 {}
 
-/// A tuple is a record (OID 2249), and its arrays are `record[]` (2287). What it reads is
-/// [`tuple_is_its_fields`](pgv_codec::laws::tuple_is_its_fields).
+/// A tuple is a record (OID 2249), and its arrays are `record[]` (2287). The law
+/// [`tuple_is_its_fields`](pgv_codec::laws::tuple_is_its_fields) says what it reads.
 pub fn tuple_is_a_record<A, B, C, D, E, F, G, H, I>()
     ensures one { IsBuiltIn 2249 ⟦<(A,) as Type>⟧.info ⟦<(A,) as Type>⟧.accepts × IsBuiltIn 2287 ⟦<(A,) as PgHasArrayType>⟧.array_info ⟦<(A,) as PgHasArrayType>⟧.accepts_array }
     ensures two { IsBuiltIn 2249 ⟦<(A, B) as Type>⟧.info ⟦<(A, B) as Type>⟧.accepts × IsBuiltIn 2287 ⟦<(A, B) as PgHasArrayType>⟧.array_info ⟦<(A, B) as PgHasArrayType>⟧.accepts_array }

@@ -7,8 +7,8 @@ ghost use Rattle.pgv_value.specs.declared.value.PgValueFormat.TheVariants.{Text}
 use pgv_codec::{Decode, FieldList, Type};
 use pgv_text::laws::{array_is_its_values, record_is_its_values};
 
-/// The list that is decoded from a text is the one of which the text is an array, each element read under its own type; and so
-/// is an array, of as many elements as it has (PostgreSQL: "Array Input and Output Syntax").
+/// Elements are decoded from a text as a list iff the text is an array of them, each read under their own type, and as
+/// an array of `N` elements iff there are also `N` of them (PostgreSQL: "Array Input and Output Syntax").
 pub fn array_text_is_its_elements<T: Type + Decode, const N: usize>()
     ensures list { TextIs ⟦<Vec<T> as Decode>⟧.reading (IsArrayInText (T.reading T.info Text)) }
     ensures array { TextIs ⟦<[T; N] as Decode>⟧.reading (IsSizedInText N (T.reading T.info Text)) }
@@ -16,8 +16,8 @@ pub fn array_text_is_its_elements<T: Type + Decode, const N: usize>()
     array_is_its_values();
 }
 
-/// The tuple that is decoded from a text is the one that the text is a record of, whatever its fields are: as a list of these, by
-/// `tuple_is_its_list` of `pgv_codec`.
+/// Fields are decoded from a text as a tuple iff the text is a record that begins with these fields, taken as a list
+/// (`tuple_is_its_list` of `pgv_codec`).
 pub fn tuple_text_is_its_fields<Fields: FieldList>()
     ensures { TextIs (record_of Fields.step) (IsRecordInText Fields.in_text) }
 {

@@ -1,4 +1,4 @@
--- Numbers of levels are read of their printed digits.
+-- Numbers of levels are read from their printed digits.
 use Rattle.std.specs.Prelude.{◌≡◌, ℕ, ◌<◌, ◌^◌, nat_lt, not, ◌&&◌, ◌==◌, true, false, List, [], ◌∷◌, length, Some, Ok, refl}
 use Rattle.std.specs.Char.{is_ascii_digit}
 use Rattle.std.specs.Fmt.{decimal}

@@ -1,4 +1,4 @@
--- Variants, levels and queries are read of their texts.
+-- Variants, levels and queries are read from their texts.
 use Rattle.std.specs.Prelude.{◌≡◌, ◌≢◌, ℕ, ◌+◌, ◌<◌, nat_lt, not, ◌==◌, Bool, true, false, cond, codes, List, [], ◌∷◌, ◌++◌, length, map, Option, Some, None, Result, Ok, ⊤, refl}
 use Rattle.std.specs.Char.{is_ascii_digit}
 use Rattle.std.specs.Fmt.{decimal}
@@ -87,7 +87,7 @@ variants_again v vs e =
 
 -- ---- stars
 
--- exactly so many
+-- exactly this number
 pub exact_there : (count : List ℕ) (n : ℕ) → all_ascii_digits count ≡ true → count_read count ≡ Ok n → inner_read (Some count) ≡ Ok (star (Some n) (Some n))
 exact_there count n d e = rw (cut_lacks 44 count (digits_lack 44 refl count d), e) refl
 

@@ -1,6 +1,6 @@
--- What queries are written as and read of (PostgreSQL: appendix F, "ltree"; lquery_send, lquery_recv): the version 1 in one
--- byte, and then the printed text. In text they are read of their text alone. In binary the text is UTF-8. There is no image
--- where a label in the query is none.
+-- What queries are written as and read from (PostgreSQL: appendix F, "ltree"; lquery_send, lquery_recv): the version 1
+-- in one byte, and then the printed text. In text they are read from their text alone. In binary the text is UTF-8.
+-- There is no image if a label in the query is invalid.
 use Rattle.std.specs.Prelude.{ℕ, Bool, false, ◌&&◌, codes, if◌then◌else◌, List, ◌∷◌, Option, Some, None, Result, Ok, Err}
 use Rattle.std.specs.Option.{option_and_then}
 use Rattle.std.specs.Result.{result_ok}

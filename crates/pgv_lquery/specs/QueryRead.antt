@@ -1,4 +1,4 @@
--- What is read of the texts of queries, or why nothing is.
+-- What is read from the texts of queries, or why nothing is.
 use Rattle.std.specs.Prelude.{ℕ, nat_lt, ◌==◌, ◌&&◌, ◌||◌, Bool, true, false, if◌then◌else◌, List, [], ◌∷◌, length, take, drop, Option, Some, None, option_map, Result, Ok, Err, is_ok}
 use Rattle.std.specs.List.{list_all, position_or_len, slice_split}
 use Rattle.std.specs.Str.{all_ascii_digits}

@@ -55,11 +55,11 @@ IsBoundText text (Some n) = IsCountText text n
 abbrev pub IsFreeStar : List ℕ → Option ℕ → Option ℕ → Type 0
 IsFreeStar text low high = (text ≡ codes "*") × (low ≡ None) × (high ≡ None)
 
--- a star of exactly so many levels
+-- a star of exactly this number of levels
 abbrev pub IsExactStar : List ℕ → Option ℕ → Option ℕ → Type 0
 IsExactStar text low high = (n : ℕ) × (count : List ℕ) × IsCountText count n × (text ≡ codes "*{" ++ count ++ codes "}") × (low ≡ Some n) × (high ≡ Some n)
 
--- a star of at least and at most so many; one of the two numbers may be missing
+-- a star of at least and at most these numbers of levels, of which one may be missing
 abbrev pub IsBoundedStar : List ℕ → Option ℕ → Option ℕ → Type 0
 IsBoundedStar text low high =
     (least : List ℕ) × (most : List ℕ) × IsBoundText least low × IsBoundText most high × ((least ≡ []) × (most ≡ []) → ⊥)

@@ -1,5 +1,5 @@
-//! What is proved of queries of label trees and of the definitions that say what they are. Each law is the contract of a function that
-//! does nothing.
+//! Laws of queries of label trees and of their text. Each is the contract of a function that does nothing but look at a
+//! query.
 
 ghost use Rattle.std.specs.Prelude.{◌≡◌, ◌↔◌, ◌&&◌, List, true, None};
 ghost use Rattle.std.specs.List.{list_all};
@@ -16,8 +16,9 @@ ghost use Rattle.pgv_lquery.specs.QueryCodec.{lquery, lquery_array, query_image,
 
 use pgv_codec::{Decode, Encode, PgHasArrayType, ReadBack, Type};
 
-/// A `PgLQuery` is an `lquery`, by its name: the version 1 and its text, as `01612a40` for `a*@`. Its arrays are `_lquery`, by their
-/// name. It comes back where it has a level, each level that is no star has a variant, and no `NonStar` begins with an empty label.
+/// A `PgLQuery` is an `lquery`, known by its name: the version 1 and its text, as `01612a40` for `a*@`. Its arrays are
+/// `_lquery`, known by their name. It is read back if it has a level, each level that is not a star has a variant, and
+/// no `NonStar` begins with an empty label.
 pub fn lquery_is_an_lquery()
     ensures types { ⟦<crate::PgLQuery as Type>⟧.info ≡ lquery }
     ensures accepts { (t : Ty) → ⟦<crate::PgLQuery as Type>⟧.accepts t ≡ softly t lquery }
@@ -34,53 +35,54 @@ pub fn lquery_is_an_lquery()
     ensures fits { (v : List Level) (t : Ty) (os : List Oid) → query_fits v t os → ⟦<crate::PgLQuery as ReadBack>⟧.fits v t os }
 {}
 
-/// A variant is read of a text exactly where it is the text's.
+/// `variant_read` reads a variant from a text iff the grammar of lquery assigns this variant to the text.
 pub fn variant_is_read()
     ensures { VariantIsRead }
 {}
 
-/// No text is two variants.
+/// A text denotes at most one variant.
 pub fn one_variant()
     ensures { OneVariant }
 {}
 
-/// A level is read of a text exactly where it is the text's.
+/// `level_read` reads a level from a text iff the grammar of lquery assigns this level to the text.
 pub fn level_is_read()
     ensures { LevelIsRead }
 {}
 
-/// No text is two levels.
+/// A text denotes at most one level.
 pub fn one_level()
     ensures { OneLevel }
 {}
 
-/// A query is read of a text exactly where it is the text's.
+/// `query_read` reads a query from a text iff the grammar of lquery assigns this query to the text.
 pub fn query_is_read()
     ensures { QueryIsRead }
 {}
 
-/// No text is two queries.
+/// A text denotes at most one query.
 pub fn one_query()
     ensures { OneQuery }
 {}
 
-/// A query that has a level, in which each level that is no star has a variant and no `NonStar` begins with an empty label, is read of its
-/// printed text.
+/// A query that has a level, in which each level that is not a star has a variant and no `NonStar` begins with an empty
+/// label, is read back from its printed text.
 pub fn printed_query_is_read()
     ensures { PrintedQueryIsRead }
 {}
 
-/// A query that is read of a text, in which no `NonStar` begins with an empty label that carries `*`, is read of its printed text.
+/// A query that was read from a text, in which no `NonStar` begins with an empty label that carries `*`, is read back
+/// from its printed text.
 pub fn read_query_is_read_again()
     ensures { ReadQueryIsReadAgain }
 {}
 
-/// Queries are equal exactly where they have the same levels.
+/// Two queries are equal iff they have the same levels in the same order.
 pub fn equal_queries()
     ensures { (a b : List Level) → (⟦<crate::PgLQuery as PartialEq>⟧.eq a b ≡ true) ↔ (a ≡ b) }
 {}
 
-/// The levels of a query are levels: their labels are labels, and their numbers have sixteen bits.
+/// Every level in a `PgLQuery` at run time is valid: its labels are valid labels, and its counts fit in 16 bits.
 pub fn levels_are_levels(query: &crate::PgLQuery)
     ensures { is_query query.now ≡ true }
 {
@@ -90,7 +92,7 @@ pub fn levels_are_levels(query: &crate::PgLQuery)
     }
 }
 
-/// A level is one.
+/// Every level at run time is valid.
 fn level_is_a_level(level: &crate::PgLQueryLevel)
     ensures { is_level (level_of level.now) ≡ true }
 {
@@ -101,7 +103,7 @@ fn level_is_a_level(level: &crate::PgLQueryLevel)
     }
 }
 
-/// Numbers of a star have sixteen bits.
+/// The counts of a star fit in 16 bits.
 fn counts_are_counts(low: Option<u16>, high: Option<u16>)
     ensures { (is_count low && is_count high) ≡ true }
 {
@@ -109,7 +111,7 @@ fn counts_are_counts(low: Option<u16>, high: Option<u16>)
     let _high = high.unwrap_or(0);
 }
 
-/// The labels of variants are labels.
+/// Every variant in a slice at run time is valid.
 fn variants_are_variants(variants: &[crate::PgLQueryVariant])
     ensures { list_all is_variant variants.now ≡ true }
 {
@@ -118,7 +120,7 @@ fn variants_are_variants(variants: &[crate::PgLQueryVariant])
     }
 }
 
-/// The iterator of a query gives its levels in order, and ends then.
+/// The iterator of a query gives its levels in order and then ends.
 pub fn query_gives_its_levels()
     ensures { (query : List Level) (levels : _) → ⟦<crate::PgLQuery as IntoIterator>⟧.into_iter_gives query levels → AlwaysYields ⟦<std::vec::IntoIter<crate::PgLQueryLevel> as Iterator>⟧.next_gives level_of levels query }
 {}

@@ -17,7 +17,7 @@ use std::fmt;
 /// A level of a query.
 #[derive(Debug, Drop)]
 pub enum PgLQueryLevel {
-    /// `*`: any labels, at least and at most so many, where these numbers are given.
+    /// `*`: any labels, at least and at most as many as the numbers say, if they are given.
     Star(Option<u16>, Option<u16>),
     /// A label of one of the variants, as `a|b*`.
     NonStar(Vec<PgLQueryVariant>),
@@ -110,10 +110,11 @@ fn variants_of(alloc: Global, text: &str) -> Result<Vec<PgLQueryVariant>, PgLQue
 }
 
 impl PgLQueryLevel {
-    /// The level of a text: a star, perhaps with one or two numbers in braces, as `*{2}`, `*{2,}`, `*{,3}` and `*{2,3}`; or variants, joined
-    /// by `|`, perhaps after `!`. The empty text is refused with EmptyString; another that begins with `*` with UnexpectedCharacter, or with
-    /// ParseIntError where a number is not digits up to 65535; and a variant that is none with LTreeParrseError. A text that begins with
-    /// `*` takes no memory, whether it is a star or not, and a first variant that is none is refused before memory is asked for.
+    /// The level of a text: a star, perhaps with one or two numbers in braces, as `*{2}`, `*{2,}`, `*{,3}` and
+    /// `*{2,3}`; or variants, joined by `|`, perhaps after `!`. The empty text is refused with EmptyString; another
+    /// that begins with `*` with UnexpectedCharacter, or with ParseIntError where a number is not digits up to 65535;
+    /// and an invalid variant with LTreeParrseError. A text that begins with `*` takes no memory, whether it is a star
+    /// or not, and an invalid first variant is refused before memory is asked for.
     pub fn from_str(alloc: Global, text: &str) -> Result<PgLQueryLevel, PgLQueryParseError>
         ensures ok { IfOk result (λ l. level_read text.now ≡ Ok (level_of l)) }
         ensures err { IfErr result (λ e. (level_read text.now ≡ Err e) ⊎ (e ≡ Memory)) }
@@ -133,7 +134,7 @@ impl PgLQueryLevel {
     }
 }
 
-/// Levels are equal where they are of one kind and have the same numbers, or the same variants in the same order.
+/// Two levels are equal iff they are of one kind and have the same numbers, or the same variants in the same order.
 impl PartialEq for PgLQueryLevel {
     ghost use Rattle.pgv_lquery.specs.SameLevels.{mean_the_same, mean_the_same_per};
 

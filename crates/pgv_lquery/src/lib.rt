@@ -1,5 +1,5 @@
-//! Queries of label trees (PostgreSQL, "ltree", lquery): levels, the variants of a level and their texts, and what queries are
-//! written as and read of.
+//! Queries of label trees (PostgreSQL, "ltree", lquery): levels, the variants of a level and their texts, and what
+//! queries are written as and read from.
 #![tactic(auto)]
 
 pub mod flag;

@@ -23,7 +23,8 @@ use std::marker::Model;
 
 /// A query of label trees, level after level, such as `Top.*{0,2}.sport*@.!football|tennis`.
 ///
-/// A contract sees it as the list of its levels. A query of a server has one level or more; one that is made here may have none.
+/// A contract sees it as the list of its levels. A query from a server has one level or more; a query that is made here
+/// may have none.
 #[derive(Debug, Drop)]
 pub struct PgLQuery {
     levels: Vec<PgLQueryLevel>,
@@ -60,7 +61,7 @@ impl PgLQuery {
         PgLQuery { levels }
     }
 
-    /// The query of the levels of these texts, up to the first that is none, which refuses them all.
+    /// The query whose levels are these texts. It fails at the first that is not a valid level.
     pub fn try_from_iter<'a, I: IntoIterator<Item = &'a str>>(
         alloc: Global,
         levels: I,
@@ -95,8 +96,8 @@ impl PgLQuery {
         Ok(query)
     }
 
-    /// The query of a text: levels joined by `.`. It is refused as its first level that is none is, and where that is the first level and
-    /// doesn't begin as one before memory is asked for.
+    /// The query of a text: levels joined by `.`. It is refused as its first invalid level is, before memory is asked
+    /// for if that is the first level and its beginning is invalid.
     pub fn from_str(alloc: Global, text: &str) -> Result<PgLQuery, PgLQueryParseError>
         ensures ok { IfOk result (λ query. query_read text.now ≡ Ok query) }
         ensures err { IfErr result (λ e. (query_read text.now ≡ Err e) ⊎ (e ≡ Memory)) }
@@ -109,7 +110,7 @@ impl PgLQuery {
         Ok(PgLQuery { levels })
     }
 
-    /// Appends a level. A refused one leaves the query as it was.
+    /// Appends a level. If memory runs out, the query stays as it was.
     pub fn push(&mut self, level: PgLQueryLevel) -> Result<(), AllocError>
         ensures ok { OnOk result (self.new ≡ self.old ++ level_of level ∷ []) }
         ensures err { OnErr result (self.new ≡ self.old) }
@@ -118,7 +119,7 @@ impl PgLQuery {
         Ok(())
     }
 
-    /// Takes the last level off, where there is one.
+    /// Removes the last level and returns it, if there is one.
     pub fn pop(&mut self) -> Option<PgLQueryLevel>
         ensures levels { self.old ≡ self.new ++ option_to_list (option_map level_of result) }
         ensures variant { IsSome result ↔ (0 < length self.old) }
@@ -147,7 +148,7 @@ impl IntoIterator for PgLQuery {
     }
 }
 
-/// Queries are equal where they have the same levels.
+/// Two queries are equal iff they have the same levels.
 impl PartialEq for PgLQuery {
     ghost use Rattle.pgv_lquery.specs.SameQueries.{same_query, same_query_per};
 

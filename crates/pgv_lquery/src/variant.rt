@@ -91,8 +91,8 @@ fn flags_of(any_end: bool, in_case: bool, sublexeme: bool) -> PgLQueryVariantFla
 }
 
 impl PgLQueryVariant {
-    /// The variant of a text: a label and, at its end, `*`, `@` and `%` in any order and number. Another text is refused with
-    /// LTreeParrseError, before memory is asked for.
+    /// The variant of a text: a label and, at its end, `*`, `@` and `%` in any order and number. An invalid text is
+    /// refused with LTreeParrseError, before memory is asked for.
     pub fn from_str(alloc: Global, text: &str) -> Result<PgLQueryVariant, PgLQueryParseError>
         ensures ok { IfOk result (λ v. variant_read text.now ≡ Ok v) }
         ensures err { IfErr result (λ e. (variant_read text.now ≡ Err e) ⊎ (e ≡ Memory)) }
@@ -138,7 +138,7 @@ impl PgLQueryVariant {
     }
 }
 
-/// Variants are equal where they have the same label and the same modifiers.
+/// Two variants are equal iff they have the same label and the same modifiers.
 impl PartialEq for PgLQueryVariant {
     ghost use Rattle.pgv_lquery.specs.SameQueries.{same_variant, same_variant_per};
 

@@ -1,4 +1,4 @@
--- A tree is read of its printed text.
+-- A tree is read from its printed text.
 use Rattle.std.specs.Prelude.{◌≡◌, ℕ, nat_le, true, List, [], ◌∷◌, length, Ok, refl}
 use Rattle.std.specs.List.{list_all}
 use Rattle.std.proofs.Common.{ap, ◌∙◌}

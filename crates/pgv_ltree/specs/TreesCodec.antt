@@ -1,6 +1,6 @@
--- What trees of labels are written as and read of (PostgreSQL: appendix F, "ltree"; ltree_send, ltree_recv): the version 1 in
--- one byte, and then the printed text. In text they are read of their text alone. In binary the text is UTF-8. There is no
--- image where a label in the tree is none.
+-- What trees of labels are written as and read from (PostgreSQL: appendix F, "ltree"; ltree_send, ltree_recv): the
+-- version 1 in one byte, and then the printed text. In text they are read from their text alone. In binary the text is
+-- UTF-8. There is no image if a label in the tree is invalid.
 use Rattle.std.specs.Prelude.{ℕ, Bool, false, ◌&&◌, ◌==◌, codes, if◌then◌else◌, List, [], ◌∷◌, Option, Some, None, is_some}
 use Rattle.std.specs.List.{list_all}
 use Rattle.std.specs.Option.{option_and_then}
@@ -26,7 +26,7 @@ ltree = named (codes "ltree")
 abbrev pub ltree_array : Ty
 ltree_array = named (codes "_ltree")
 
--- what is written; labels that are none have no image
+-- what is written; invalid labels have no image
 abbrev pub tree_image : List (List ℕ) → Option Image
 tree_image labels = if list_all is_label labels then Some (image_of (bytes (1 ∷ printed_tree labels))) else None
 
@@ -50,7 +50,7 @@ abbrev pub version_fault : CodecError → List ℕ → CodecError
 version_fault wrong_version [] = Short
 version_fault wrong_version (version ∷ text) = if version == 1 then Utf8 else wrong_version
 
--- another version is C36, and else a label is none: C36 too
+-- another version is C36, and else a label is invalid: C36 too
 abbrev pub tree_binary_refusal : List ℕ → CodecError
 tree_binary_refusal form = if is_some (versioned form) then LTree InvalidLtreeLabel else version_fault (LTree InvalidLtreeVersion) form
 

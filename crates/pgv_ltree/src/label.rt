@@ -54,7 +54,7 @@ impl Model for PgLTreeLabel {
 }
 
 impl PgLTreeLabel {
-    /// The label of a text, which takes no memory. Another text is refused with InvalidLtreeLabel.
+    /// The label of a text, which takes no memory. A text that is not a valid label is refused with InvalidLtreeLabel.
     pub fn new(label: String) -> Result<PgLTreeLabel, PgLTreeParseError>
         ensures { result ≡ label_read (string_bytes label) }
     {
@@ -64,7 +64,8 @@ impl PgLTreeLabel {
         Ok(PgLTreeLabel { text: label })
     }
 
-    /// The label of a text, copied. Another text is refused with InvalidLtreeLabel before memory is asked for.
+    /// The label of a text, copied. A text that is not a valid label is refused with InvalidLtreeLabel before memory is
+    /// asked for.
     pub fn from_str(alloc: Global, text: &str) -> Result<PgLTreeLabel, PgLTreeParseError>
         ensures ok { IfOk result (λ label. label_read text.now ≡ Ok label) }
         ensures err { IfErr result (λ e. (label_read text.now ≡ Err e) ⊎ (e ≡ Memory)) }
@@ -88,7 +89,7 @@ impl PgLTreeLabel {
     }
 }
 
-/// Labels are equal where they have the same characters, in the same case.
+/// Two labels are equal iff they have the same characters, in the same case.
 impl PartialEq for PgLTreeLabel {
     ghost use Rattle.pgv_ltree.specs.SameLabels.{same_label, same_label_per};
 

@@ -1,5 +1,4 @@
-//! What is proved of label trees and of the definitions that say what they are. Each law is the contract of a function that does
-//! nothing.
+//! Laws of label trees and of their text. Each is the contract of a function that does nothing but look at a tree.
 
 ghost use Rattle.std.specs.Prelude.{◌≡◌, ◌↔◌, ℕ, List, true, None};
 ghost use Rattle.std.specs.List.{list_all};
@@ -15,8 +14,8 @@ ghost use Rattle.pgv_ltree.specs.TreesCodec.{ltree, ltree_array, tree_image, tre
 
 use pgv_codec::{Decode, Encode, PgHasArrayType, ReadBack, Type};
 
-/// A `PgLTree` is an `ltree`, by its name: the version 1 and its text, as `01612e62` for `a.b`. Its arrays are `_ltree`, by their
-/// name. A tree without labels comes back as one empty label.
+/// A `PgLTree` is an `ltree`, known by its name: the version 1 and its text, as `01612e62` for `a.b`. Its arrays are
+/// `_ltree`, known by their name. A tree without labels is read back as one empty label.
 pub fn ltree_is_an_ltree()
     ensures types { ⟦<crate::PgLTree as Type>⟧.info ≡ ltree }
     ensures accepts { (t : Ty) → ⟦<crate::PgLTree as Type>⟧.accepts t ≡ softly t ltree }
@@ -33,22 +32,22 @@ pub fn ltree_is_an_ltree()
     ensures fits { (v : List (List ℕ)) (t : Ty) (os : List Oid) → ⟦<crate::PgLTree as ReadBack>⟧.fits v t os }
 {}
 
-/// Labels are read of a text exactly where it is the text of their tree.
+/// `tree_read` reads labels from a text iff the grammar of label trees assigns these labels to the text.
 pub fn tree_is_read()
     ensures { TreeIsRead }
 {}
 
-/// No text is two trees.
+/// A text denotes at most one label tree.
 pub fn one_tree()
     ensures { OneTree }
 {}
 
-/// A tree is read of its printed text exactly where it has a label.
+/// A label tree is read back from its printed text iff it has a label.
 pub fn printed_tree_is_read()
     ensures { PrintedTreeIsRead }
 {}
 
-/// The labels of a tree are labels.
+/// Every label in a `PgLTree` at run time is a valid label.
 pub fn labels_are_labels(tree: &crate::PgLTree)
     ensures { list_all is_label tree.now ≡ true }
 {
@@ -58,12 +57,12 @@ pub fn labels_are_labels(tree: &crate::PgLTree)
     }
 }
 
-/// Trees are equal exactly where they have the same labels.
+/// Two trees are equal iff they have the same labels in the same order.
 pub fn equal_trees()
     ensures { (a b : List (List ℕ)) → (⟦<crate::PgLTree as PartialEq>⟧.eq a b ≡ true) ↔ (a ≡ b) }
 {}
 
-/// The iterator of a tree gives its labels in order, and ends then.
+/// The iterator of a tree gives its labels in order and then ends.
 pub fn tree_gives_its_labels()
     ensures { (tree : List (List ℕ)) (labels : _) → ⟦<crate::PgLTree as IntoIterator>⟧.into_iter_gives tree labels → AlwaysYields ⟦<std::vec::IntoIter<crate::PgLTreeLabel> as Iterator>⟧.next_gives (λ label. label) labels tree }
 {}

@@ -1,4 +1,5 @@
-//! Label trees (PostgreSQL, "ltree"): labels, trees of labels and their texts, and what trees are written as and read of.
+//! Label trees (PostgreSQL, "ltree"): labels, trees of labels and their texts, and what trees are written as and read
+//! from.
 #![tactic(auto)]
 
 pub mod label;

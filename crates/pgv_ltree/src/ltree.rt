@@ -22,7 +22,8 @@ use std::marker::Model;
 
 /// A tree of labels, from the root down, such as `Top.Science.Astronomy`.
 ///
-/// A contract sees it as the list of its labels. A tree of a server has one label or more; one that is made here may have none.
+/// A contract sees it as the list of its labels. A tree from a server has one label or more; a tree that is made here
+/// may have none.
 #[derive(Debug, Drop)]
 pub struct PgLTree {
     labels: Vec<PgLTreeLabel>,
@@ -54,7 +55,7 @@ impl PgLTree {
         PgLTree { labels }
     }
 
-    /// The tree of the labels of these texts, up to the first that is none, which refuses them all.
+    /// The tree whose labels are these texts. It fails at the first that is not a valid label.
     pub fn try_from_iter<I: IntoIterator<Item = String>>(
         alloc: Global,
         labels: I,
@@ -89,8 +90,8 @@ impl PgLTree {
         Ok(tree)
     }
 
-    /// The tree of a text: labels joined by `.`. The empty text is one empty label. Another text is refused with InvalidLtreeLabel,
-    /// and where its first label is none before memory is asked for.
+    /// The tree of a text: labels joined by `.`. The empty text is one empty label. A text with an invalid label is
+    /// refused with InvalidLtreeLabel, before memory is asked for if it is the first label.
     pub fn from_str(alloc: Global, text: &str) -> Result<PgLTree, PgLTreeParseError>
         ensures ok { IfOk result (λ tree. tree_read text.now ≡ Ok tree) }
         ensures err { IfErr result (λ e. (tree_read text.now ≡ Err e) ⊎ (e ≡ Memory)) }
@@ -104,7 +105,7 @@ impl PgLTree {
         Ok(PgLTree { labels })
     }
 
-    /// Appends a label. A refused one leaves the tree as it was.
+    /// Appends a label. If memory runs out, the tree stays as it was.
     pub fn push(&mut self, label: PgLTreeLabel) -> Result<(), AllocError>
         ensures ok { OnOk result (self.new ≡ self.old ++ label ∷ []) }
         ensures err { OnErr result (self.new ≡ self.old) }
@@ -113,7 +114,7 @@ impl PgLTree {
         Ok(())
     }
 
-    /// Takes the last label off, where there is one.
+    /// Removes the last label and returns it, if there is one.
     pub fn pop(&mut self) -> Option<PgLTreeLabel>
         ensures labels { self.old ≡ self.new ++ option_to_list result }
         ensures variant { IsSome result ↔ (0 < length self.old) }
@@ -151,7 +152,7 @@ impl IntoIterator for PgLTree {
     }
 }
 
-/// Trees are equal where they have the same labels.
+/// Two trees are equal iff they have the same labels.
 impl PartialEq for PgLTree {
     ghost use Rattle.pgv_ltree.specs.SameLabels.{same_tree, same_tree_per};
 

@@ -1,4 +1,4 @@
-//! What a text is printed to.
+//! Where a text is printed to.
 
 ghost use Rattle.std.specs.Prelude.{⊤, ◌≡◌, ◌++◌, [], List, ℕ, IfErr, OnOk, OnErr};
 ghost use Rattle.std.specs.Fmt.{HasWritten, IsPlainFormatter};
@@ -10,7 +10,7 @@ use pgv_codec::PgArgumentBuffer;
 use pgv_value::CodecError;
 use std::fmt;
 
-/// What takes texts one after another: a formatter, or the buffer of arguments. One printer serves both.
+/// A receiver of texts one after another: a formatter, or the buffer of arguments. One printer serves both.
 pub trait Sink {
     /// What a refused text is answered with.
     type Error;
@@ -64,7 +64,7 @@ impl<W: fmt::Write> Sink for fmt::Formatter<W> {
     ghost left_after = { λ _ _ _ _ _ _. tt };
 }
 
-/// The buffer appends them. An error is C1, and leaves at the beginning what was there.
+/// The buffer appends them. An error is out of memory (C1); the old bytes stay, and more may come after them.
 impl Sink for PgArgumentBuffer {
     ghost use Rattle.pgv_codec.specs.PlainBytes.{appended_parts};
     ghost use Rattle.pgv_ltree.specs.Sinks.{appended_none, appended_after};

@@ -7,12 +7,12 @@ use Rattle.pgv_value.specs.Laws.{AreBytes}
 use Rattle.pgv_value.specs.declared.error.CodecError.{CodecError}
 use Rattle.pgv_value.specs.declared.error.CodecError.TheVariants.{WrongLength}
 use Rattle.pgv_value.proofs.Numbers.{bytes_after}
-use Rattle.pgv_row.specs.Fronts.{u16_front, u32_front}
-use Rattle.pgv_row.specs.Outcome.{Outcome, Gives, IsRead, done}
-use Rattle.pgv_row.specs.Several.{several, ReadsOne}
-use Rattle.pgv_row.proofs.Fronts.{u16_there, u16_is, u32_there, u32_is, nothing_is}
-use Rattle.pgv_row.proofs.Outcomes.{answer_is, taken, taken_exactly, tested, only_memory}
-use Rattle.pgv_row.proofs.Several.{are_several, several_read}
+use Rattle.pgv_value.specs.Fronts.{u16_front, u32_front}
+use Rattle.pgv_value.specs.Outcome.{Outcome, Gives, IsRead, done}
+use Rattle.pgv_value.specs.Several.{several, ReadsOne}
+use Rattle.pgv_value.proofs.ReadFronts.{u16_there, u16_is, u32_there, u32_is, nothing_is}
+use Rattle.pgv_value.proofs.Outcomes.{answer_is, taken, taken_exactly, tested, only_memory}
+use Rattle.pgv_value.proofs.Several.{are_several, several_read}
 use Rattle.pgv_message.specs.Pieces.{oid_bytes}
 use Rattle.pgv_message.specs.Counted.{counted, IsCounted, oid_front, IsOid}
 

@@ -7,11 +7,10 @@ use Rattle.pgv_types.specs.Ty.{Ty}
 use Rattle.pgv_types.specs.declared.oid.Oid.{Oid}
 use Rattle.pgv_buf.specs.Proper.{Proper}
 use Rattle.pgv_buf.specs.Tokens.{shown}
-use Rattle.pgv_value.specs.FrameBinary.{Part}
+use Rattle.pgv_value.specs.FrameBinary.{Part, field_bytes}
 use Rattle.pgv_value.specs.Reading.{Reading}
 use Rattle.pgv_value.specs.ValueView.{Given as Value}
 use Rattle.pgv_codec.specs.Image.{Image}
-use Rattle.pgv_copy.specs.CopyStream.{field_bytes}
 use Rattle.pgv_nest.specs.NestRefusals.{Refusal, Taking}
 use Rattle.pgv_row.specs.ColumnView.{Column}
 use Rattle.pgv_row.specs.RowView.{Row, value_at}
@@ -22,7 +21,7 @@ use Rattle.pgv_wire.specs.MainSentence.{MainSentence, HoldsAfter}
 use Rattle.pgv_wire.specs.Parts.{AreFrames, ReadAs, OfImages}
 use Rattle.pgv_message.specs.Frames.{bind_of}
 use Rattle.pgv_message.specs.Echo.{ColumnsComeBack, ComeBack}
-use Rattle.pgv_message.proofs.Frames.{frames_are, bind_is, arguments_fit, are_bytes}
+use Rattle.pgv_message.proofs.Frames.{frames_are, bind_is, arguments_fit}
 
 accepted : (b c : Bool) → c ≡ true → not (b || c) ≡ false
 accepted true c e = refl

@@ -4,13 +4,13 @@ use Rattle.std.specs.Prelude.{flat_map, if◌then◌else◌}
 use Rattle.std.specs.List.{AllByRecursion}
 use Rattle.std.specs.Int.{w16, w32, to_be_bytes}
 use Rattle.std.proofs.lemmas.Bool.{ltb-false}
-use Rattle.pgv_value.specs.FrameBinary.{Part, IsFrame}
+use Rattle.pgv_value.specs.FrameBinary.{Part, IsFrame, field_bytes, IsField}
 use Rattle.pgv_value.specs.Laws.{AreBytes}
 use Rattle.pgv_value.specs.declared.value.PgValueFormat.{PgValueFormat}
 use Rattle.pgv_value.proofs.Fronts.{front_exactly}
 use Rattle.pgv_value.proofs.Numbers.{bytes_after}
+use Rattle.pgv_value.proofs.ReadFronts.{frame_bytes}
 use Rattle.pgv_buf.specs.Tokens.{shown}
-use Rattle.pgv_copy.specs.CopyStream.{field_bytes, IsField}
 use Rattle.pgv_wire.specs.Arguments.{Argument, all_tokens}
 use Rattle.pgv_wire.specs.Parts.{ReadAs, AllRead, parts_in}
 use Rattle.pgv_message.specs.declared.error.MessageError.{MessageError}
@@ -19,14 +19,6 @@ use Rattle.pgv_message.specs.Writing.{Writing, ◌>>=◌, text, text_of, count_o
 use Rattle.pgv_message.specs.Received.{message}
 use Rattle.pgv_message.specs.Pieces.{format_bytes}
 use Rattle.pgv_message.specs.Frames.{bind_of, ParametersAreArguments}
-
-pub are_bytes : (xs : List ℕ) → ((i : ℕ) → get_or xs i 0 < 256) → AreBytes xs
-are_bytes [] h = tt
-are_bytes (x ∷ xs) h = (h 0, are_bytes xs (λ i. h (suc i)))
-
-frame_bytes : (bytes : List ℕ) (part : Part) (rest : List ℕ) → IsFrame bytes part rest → IsField part × (bytes ≡ field_bytes part ++ rest)
-frame_bytes bytes None rest e = (tt, e)
-frame_bytes bytes (Some part) rest e = (e.0, e.1 ∙ sym (append_assoc (to_be_bytes w32 (length part)) part rest))
 
 pub frames_are : (bytes : List ℕ) (parts : List Part) (rest : List ℕ) → AreBytes bytes → ReadAs bytes parts rest → (bytes ≡ flat_map field_bytes parts ++ rest) × AllByRecursion IsField parts
 frames_are bytes [] rest h e = (e, tt)

@@ -5,12 +5,12 @@ use Rattle.std.specs.List.{AllByRecursion}
 use Rattle.std.proofs.lemmas.Bool.{eqb-true}
 use Rattle.pgv_value.specs.declared.error.CodecError.{CodecError}
 use Rattle.pgv_value.specs.declared.error.CodecError.TheVariants.{Short, WrongLength}
-use Rattle.pgv_row.specs.Fronts.{name_front}
-use Rattle.pgv_row.specs.Outcome.{Gives, IsRead}
-use Rattle.pgv_row.specs.Parsed.{Parsed, ◌>>=◌}
-use Rattle.pgv_row.proofs.Fronts.{name_there, name_is}
-use Rattle.pgv_row.proofs.Outcomes.{only_memory, ok_is, stated_is}
-use Rattle.pgv_row.specs.Outcome.{stated}
+use Rattle.pgv_value.specs.Fronts.{name_front}
+use Rattle.pgv_value.specs.Outcome.{Gives, IsRead}
+use Rattle.pgv_value.specs.Parsed.{Parsed, ◌>>=◌}
+use Rattle.pgv_value.proofs.ReadFronts.{name_there, name_is}
+use Rattle.pgv_value.proofs.Outcomes.{only_memory, ok_is, stated_is}
+use Rattle.pgv_value.specs.Outcome.{stated}
 use Rattle.pgv_message.specs.Bodies.{ended}
 use Rattle.pgv_message.specs.Notice.{Field, field_bytes, IsField, IsNotice, fields_in, notice_fields, notice, NoticeIsRead}
 

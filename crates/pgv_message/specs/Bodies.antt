@@ -2,8 +2,8 @@
 -- isn't UTF-8 is C14, bytes after the last field are C17, and a code that isn't one of its field's is C30.
 use Rattle.std.specs.Prelude.{ℕ, nat_eq, ◌==◌, List, [], ◌∷◌, length, Ok, Err, if◌then◌else◌}
 use Rattle.pgv_value.specs.declared.error.CodecError.TheVariants.{Short, WrongLength, OutOfRange}
-use Rattle.pgv_row.specs.Fronts.{u32_front, name_front}
-use Rattle.pgv_row.specs.Parsed.{Parsed, ◌>>=◌}
+use Rattle.pgv_value.specs.Fronts.{u32_front, name_front}
+use Rattle.pgv_value.specs.Parsed.{Parsed, ◌>>=◌}
 use Rattle.pgv_message.specs.declared.notification.PgNotification.{PgNotification}
 use Rattle.pgv_message.specs.declared.ready_for_query.PgTransactionStatus.{PgTransactionStatus}
 use Rattle.pgv_message.specs.declared.notification.PgNotification.{PgNotification}

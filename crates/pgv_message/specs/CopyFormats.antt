@@ -3,10 +3,9 @@
 use Rattle.std.specs.Prelude.{ℕ, true, List, [], ◌∷◌}
 use Rattle.pgv_value.specs.declared.error.CodecError.TheVariants.{Short}
 use Rattle.pgv_value.specs.declared.value.PgValueFormat.{PgValueFormat}
-use Rattle.pgv_row.specs.Description.{format_of}
-use Rattle.pgv_row.specs.Fronts.{u16_front}
-use Rattle.pgv_row.specs.Outcome.{Outcome, after, exactly, fails, allocates, done, ◌>>=◌, ◌>>◌}
-use Rattle.pgv_row.specs.Several.{several}
+use Rattle.pgv_value.specs.Fronts.{u16_front, format_of}
+use Rattle.pgv_value.specs.Outcome.{Outcome, after, exactly, fails, allocates, done, ◌>>=◌, ◌>>◌}
+use Rattle.pgv_value.specs.Several.{several}
 use Rattle.pgv_message.specs.Bodies.{ended}
 
 unfoldable pub format_front : List ℕ → Outcome (PgValueFormat × List ℕ)

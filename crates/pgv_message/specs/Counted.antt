@@ -6,9 +6,9 @@ use Rattle.std.specs.Int.{w16, to_be_bytes}
 use Rattle.std.specs.List.{AllByRecursion}
 use Rattle.pgv_types.specs.declared.oid.Oid.{Oid}
 use Rattle.pgv_value.specs.declared.error.CodecError.TheVariants.{WrongLength}
-use Rattle.pgv_row.specs.Fronts.{u16_front, u32_front}
-use Rattle.pgv_row.specs.Outcome.{Outcome, after, exactly, allocates, fails_if, done, ◌>>=◌, ◌>>◌}
-use Rattle.pgv_row.specs.Several.{several}
+use Rattle.pgv_value.specs.Fronts.{u16_front, u32_front}
+use Rattle.pgv_value.specs.Outcome.{Outcome, after, exactly, allocates, fails_if, done, ◌>>=◌, ◌>>◌}
+use Rattle.pgv_value.specs.Several.{several}
 use Rattle.pgv_message.specs.Pieces.{oid_bytes}
 
 unfoldable pub counted : {A : Type 0} → (List ℕ → Outcome (A × List ℕ)) → List ℕ → Outcome (List A)

@@ -4,13 +4,12 @@ use Rattle.std.specs.Prelude.{◌≡◌, ℕ, Bool, true, List, [], length, Ok, 
 use Rattle.std.specs.List.{slice_get}
 use Rattle.pgv_types.specs.Ty.{Ty}
 use Rattle.pgv_types.specs.declared.oid.Oid.{Oid}
-use Rattle.pgv_value.specs.FrameBinary.{Part}
+use Rattle.pgv_value.specs.FrameBinary.{Part, row_bytes}
 use Rattle.pgv_value.specs.Reading.{Reading}
 use Rattle.pgv_value.specs.declared.value.PgValueFormat.{PgValueFormat}
 use Rattle.pgv_value.specs.declared.value.PgValueFormat.TheVariants.{Binary}
 use Rattle.pgv_codec.specs.Back.{AreOids}
 use Rattle.pgv_codec.specs.Image.{Image, frame}
-use Rattle.pgv_copy.specs.CopyStream.{row_bytes}
 use Rattle.pgv_nest.specs.NestRefusals.{Refusal, Taking}
 use Rattle.pgv_row.specs.ColumnView.{Column}
 use Rattle.pgv_row.specs.DataRow.{IsDataRow}

@@ -2,9 +2,8 @@
 use Rattle.std.specs.Prelude.{◌≡◌, ℕ, List, [], ◌∷◌, length, flat_map, Ok}
 use Rattle.std.specs.Int.{w16, to_be_bytes}
 use Rattle.std.specs.List.{AllByRecursion}
-use Rattle.pgv_value.specs.FrameBinary.{Part}
+use Rattle.pgv_value.specs.FrameBinary.{Part, field_bytes, IsField}
 use Rattle.pgv_value.specs.declared.value.PgValueFormat.{PgValueFormat}
-use Rattle.pgv_copy.specs.CopyStream.{field_bytes, IsField}
 use Rattle.pgv_codec.specs.Image.{Image}
 use Rattle.pgv_wire.specs.Arguments.{Argument, framed}
 use Rattle.pgv_wire.specs.Parts.{AreFrames, parts_in}

@@ -7,9 +7,9 @@ use Rattle.std.specs.Prelude.{◌≡◌, ◌↔◌, ℕ, zero, suc, ◌==◌, tr
 use Rattle.std.specs.List.{AllByRecursion}
 use Rattle.pgv_value.specs.Utf8.{is_utf8}
 use Rattle.pgv_value.specs.declared.error.CodecError.TheVariants.{Short}
-use Rattle.pgv_row.specs.Fronts.{name_front}
-use Rattle.pgv_row.specs.Outcome.{Outcome, after, exactly, allocates, ◌>>◌}
-use Rattle.pgv_row.specs.Parsed.{Parsed, ◌>>=◌}
+use Rattle.pgv_value.specs.Fronts.{name_front}
+use Rattle.pgv_value.specs.Outcome.{Outcome, after, exactly, allocates, ◌>>◌}
+use Rattle.pgv_value.specs.Parsed.{Parsed, ◌>>=◌}
 use Rattle.pgv_message.specs.declared.response.PgField.{PgField}
 use Rattle.pgv_message.specs.declared.response.PgNotice.{PgNotice}
 use Rattle.pgv_message.specs.Bodies.{ended}

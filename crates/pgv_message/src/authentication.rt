@@ -1,7 +1,7 @@
 //! Authentication: what a server asks for before a session starts.
 
 ghost use Rattle.std.specs.Prelude.{◌≡◌};
-ghost use Rattle.pgv_row.specs.Parsed.{GivesExactly};
+ghost use Rattle.pgv_value.specs.Parsed.{GivesExactly};
 ghost use Rattle.pgv_message.specs.Bodies.{authentication};
 
 use crate::end::check_end;

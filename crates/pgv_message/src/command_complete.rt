@@ -1,13 +1,13 @@
 //! CommandComplete: a command has run to its end.
 
 ghost use Rattle.std.specs.Prelude.{◌≡◌, option_map};
-ghost use Rattle.pgv_row.specs.Parsed.{GivesExactly};
+ghost use Rattle.pgv_value.specs.Parsed.{GivesExactly};
 ghost use Rattle.pgv_text.specs.NumberText.{unsigned_value};
 ghost use Rattle.pgv_message.specs.Bodies.{command_complete};
 ghost use Rattle.pgv_message.specs.Rows.{after_last_space, within_64, row_count};
 
 use crate::end::check_end;
-use pgv_row::front::name_in_front;
+use pgv_value::name_in_front;
 use pgv_text::{NumberFault, unsigned_number_of};
 use pgv_value::CodecError;
 

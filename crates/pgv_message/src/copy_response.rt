@@ -1,13 +1,11 @@
 //! CopyOutResponse and CopyInResponse: the formats of a COPY.
 
-ghost use Rattle.pgv_row.specs.Outcome.{Gives};
-ghost use Rattle.pgv_row.specs.Parsed.{GivesExactly};
-ghost use Rattle.pgv_row.specs.Description.{format_of as format_by};
+ghost use Rattle.pgv_value.specs.Outcome.{Gives};
+ghost use Rattle.pgv_value.specs.Parsed.{GivesExactly};
 ghost use Rattle.pgv_message.specs.CopyFormats.{format_front, formats_front, copy_formats};
 
 use crate::end::check_end;
-use pgv_row::front::u16_in_front;
-use pgv_value::{CodecError, PgValueFormat};
+use pgv_value::{CodecError, PgValueFormat, u16_in_front};
 use std::alloc::Global;
 
 /// The formats of a COPY.
@@ -19,24 +17,13 @@ pub struct PgCopyFormats {
     pub columns: Vec<PgValueFormat>,
 }
 
-/// The format of a code. Another code than 0 and 1 is refused with C30.
-fn format_of(code: u16) -> Result<PgValueFormat, CodecError>
-    ensures { GivesExactly (λ format. format) (format_by code) result }
-{
-    match code {
-        0 => Ok(PgValueFormat::Text),
-        1 => Ok(PgValueFormat::Binary),
-        _ => Err(CodecError::OutOfRange),
-    }
-}
-
 /// The format in front, in two bytes, and the rest.
 #[tactic(auto, unfolding(crate::specs::CopyFormats::format_front))]
 fn format_in_front(bytes: &[u8]) -> Result<(PgValueFormat, &[u8]), CodecError>
     ensures { Gives (λ x. (x.0, x.1.now)) (format_front bytes.now) result }
 {
     let (code, rest) = u16_in_front(bytes)?;
-    let format = format_of(code)?;
+    let format = PgValueFormat::from_code(code)?;
     Ok((format, rest))
 }
 
@@ -70,7 +57,7 @@ pub fn copy_formats_of(alloc: Global, body: &[u8]) -> Result<PgCopyFormats, Code
     let Some((code, rest)) = body.split_first() else {
         return Err(CodecError::Short);
     };
-    let format = format_of(u16::from(*code))?;
+    let format = PgValueFormat::from_code(u16::from(*code))?;
     let (count, rest) = u16_in_front(rest)?;
     let (columns, rest) = formats_in_front(alloc, rest, count)?;
     check_end(body, rest)?;

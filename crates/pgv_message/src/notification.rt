@@ -1,11 +1,11 @@
 //! NotificationResponse: another session has notified this one.
 
 ghost use Rattle.std.specs.Prelude.{◌≡◌};
-ghost use Rattle.pgv_row.specs.Parsed.{GivesExactly};
+ghost use Rattle.pgv_value.specs.Parsed.{GivesExactly};
 ghost use Rattle.pgv_message.specs.Bodies.{notification, notification_view};
 
 use crate::end::check_end;
-use pgv_row::front::name_in_front;
+use pgv_value::name_in_front;
 use pgv_value::{CodecError, u32_in_front};
 
 /// A notification.

@@ -1,10 +1,10 @@
 //! ParameterDescription: the types of a statement's parameters.
 
 ghost use Rattle.std.specs.Prelude.{◌≡◌, true, List, IfOk};
-ghost use Rattle.pgv_row.specs.Outcome.{Gives, IsRead};
+ghost use Rattle.pgv_value.specs.Outcome.{Gives, IsRead};
 ghost use Rattle.pgv_message.specs.Counted.{oid_front, parameters, AreParameters, oids_front};
 
-use pgv_row::front::u16_in_front;
+use pgv_value::u16_in_front;
 use pgv_types::Oid;
 use pgv_value::{CodecError, u32_in_front};
 use std::alloc::Global;

@@ -1,12 +1,12 @@
 //! ParameterStatus: a parameter of the session.
 
 ghost use Rattle.std.specs.Prelude.{◌≡◌};
-ghost use Rattle.pgv_row.specs.Parsed.{GivesExactly};
+ghost use Rattle.pgv_value.specs.Parsed.{GivesExactly};
 ghost use Rattle.pgv_message.specs.Bodies.{parameter_status};
 
 use crate::end::check_end;
 use crate::startup::PgSetting;
-use pgv_row::front::name_in_front;
+use pgv_value::name_in_front;
 use pgv_value::CodecError;
 
 /// The name and the value in a ParameterStatus' body (PostgreSQL: "Message Formats", ParameterStatus). Without a zero byte after each

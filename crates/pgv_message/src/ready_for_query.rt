@@ -1,7 +1,7 @@
 //! ReadyForQuery: the server is ready for the next query.
 
 ghost use Rattle.std.specs.Prelude.{◌≡◌};
-ghost use Rattle.pgv_row.specs.Parsed.{GivesExactly};
+ghost use Rattle.pgv_value.specs.Parsed.{GivesExactly};
 ghost use Rattle.pgv_message.specs.Bodies.{ready_for_query, status_of};
 
 use crate::end::check_end;

@@ -1,11 +1,11 @@
 //! ErrorResponse and NoticeResponse: what a server reports.
 
 ghost use Rattle.std.specs.Prelude.{◌≡◌, List, map, option_map, IfOk};
-ghost use Rattle.pgv_row.specs.Outcome.{Gives, IsRead};
+ghost use Rattle.pgv_value.specs.Outcome.{Gives, IsRead};
 ghost use Rattle.pgv_message.specs.Notice.{Field, field_view, fields_of, fields_front, notice, IsNotice, text_by};
 
 use crate::end::check_end;
-use pgv_row::front::name_in_front;
+use pgv_value::name_in_front;
 use pgv_value::CodecError;
 use std::alloc::Global;
 

@@ -47,10 +47,10 @@ bits_binary_refusal form =
     if nat_lt 2147483647 (bit_count form) then NegativeLength (cast_signed w32 (bit_count form)) else
     WrongLength (length form)
 
--- bytes are the form of bits exactly where these are read of them
+-- bits are read from bytes iff the bytes are a form of these bits
 abbrev pub BitsAreRead : Type 0
 BitsAreRead = (form : List ℕ) (bits : List Bool) → AreBytes form → (bits_in_binary form ≡ Some bits) ↔ IsBits form bits
 
--- and of no others
+-- bytes are the form of at most one list of bits
 abbrev pub OneListOfBits : Type 0
 OneListOfBits = (form : List ℕ) (first second : List Bool) → AreBytes form → IsBits form first → IsBits form second → first ≡ second

@@ -71,7 +71,7 @@ sized_refusal f None = UnexpectedNull
 sized_refusal Text (Some text) = length_refusal (bytea_in_text text)
 sized_refusal Binary (Some value) = WrongLength (length value)
 
--- a list of another length is none of their values
+-- a list of another length is not one of their values
 abbrev pub sized_image : ℕ → List ℕ → Option Image
 sized_image n value = if nat_eq (length value) n then Some (image_of (bytes value)) else None
 

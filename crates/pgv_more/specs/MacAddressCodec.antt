@@ -1,5 +1,5 @@
--- What MAC addresses are written as and read of (PostgreSQL: "Network Address Types", 8.9, macaddr): their six bytes. The size
--- hint is 6.
+-- What MAC addresses are written as and read from (PostgreSQL: "Network Address Types", 8.9, macaddr): their six bytes.
+-- The size hint is 6.
 use Rattle.std.specs.Prelude.{ℕ, ◌==◌, nat_eq, List, length, Option, Some, None, if◌then◌else◌}
 use Rattle.pgv_buf.specs.Tokens.{bytes}
 use Rattle.pgv_codec.specs.Image.{Image, image_of}

@@ -29,7 +29,7 @@ IsSeparator c = (c ≡ 58) ⊎ (c ≡ 45)
 abbrev pub IsMacAddress : List ℕ → List ℕ → Type 0
 IsMacAddress text bytes = (separator : ℕ) × IsSeparator separator × (length bytes ≡ 6) × ArePairsAfter separator bytes (separator ∷ text)
 
--- ---- what is read of a text
+-- ---- what is read from a text
 
 abbrev pub hex_value : ℕ → Option ℕ
 hex_value c = if nat_lt (digit_value c) 16 then Some (digit_value c) else None
@@ -79,10 +79,10 @@ mac_value (high ∷ low ∷ []) = None
 mac_value (high ∷ low ∷ separator ∷ rest) =
     if is_separator separator then before (with_rest (pair_value high low) (separator ∷ rest)) (pairs_after separator 5) else None
 
--- a text is an address exactly where its bytes are read of it
+-- the bytes of an address are read from a text iff the text is this address
 abbrev pub MacAddressIsRead : Type 0
 MacAddressIsRead = (text bytes : List ℕ) → (mac_value text ≡ Some bytes) ↔ IsMacAddress text bytes
 
--- and of no other
+-- a text is at most one address
 abbrev pub OneMacAddress : Type 0
 OneMacAddress = (text first second : List ℕ) → IsMacAddress text first → IsMacAddress text second → first ≡ second

@@ -1,4 +1,4 @@
--- What is packed is had back (PostgreSQL: "Bit String Types").
+-- Unpacking inverts packing (PostgreSQL: "Bit String Types").
 use Rattle.std.specs.Prelude.{◌≡◌, ℕ, zero, suc, ◌+◌, ◌*◌, ◌/◌, ◌%◌, ◌^◌, ◌<◌, ◌≤◌, ◌==◌, Bool, false, true, List, [], ◌∷◌, ◌++◌, length, take, drop, refl, if◌then◌else◌}
 use Rattle.std.specs.Int.{bit_at}
 use Rattle.std.proofs.Common.{sym, ap, ◌∙◌, arith, append_assoc, get_or}

@@ -44,7 +44,7 @@ offset_room : (s : ℤ) → nat_lt (unsigned_abs s) 86_400 ≡ true → fits_sig
 offset_room (pos n) h = let lt = ltb-true n 86_400 h in lt-ltb n 2_147_483_648 (omega (arith, lt))
 offset_room (negsuc n) h = let lt = ltb-true (suc n) 86_400 h in lt-ltb n 2_147_483_648 (omega (arith, lt))
 
--- ---- the two numbers are read of their bytes
+-- ---- the two numbers are read from their bytes
 
 numbers_again : (micros west : ℤ) → fits_signed w64 micros ≡ true → fits_signed w32 west ≡ true → two_numbers (bytes_of_numbers micros west) ≡ Some (micros, west)
 numbers_again micros west a b = rw (eight_again micros a, four_again west b) refl

@@ -44,8 +44,7 @@ impl BitVec {
         }
     }
 
-    /// These bits, the first of them first. Where there is none, no memory is asked for.
-    /// `[true, false, true]` is `101`.
+    /// The list of these bits, in their order: `[true, false, true]` is `101`. For no bits no memory is asked for.
     pub fn from_bits(alloc: Global, bits: Vec<bool>) -> Result<BitVec, AllocError>
         ensures ok { IfOk result (λ b. b ≡ bits.items) }
         ensures succeeds { bits.items ≡ [] → IsOk result }
@@ -56,7 +55,7 @@ impl BitVec {
         })
     }
 
-    /// All bits of these bytes, as `11111111 10000000` of `ff80`. Where there is none, no memory is asked for.
+    /// All bits of these bytes: `ff80` gives `11111111 10000000`. For no bytes no memory is asked for.
     pub fn from_bytes(alloc: Global, bytes: &[u8]) -> Result<BitVec, AllocError>
         ensures ok { IfOk result (λ b. b ≡ bits_of bytes.now) }
         ensures succeeds { bytes.now ≡ [] → IsOk result }
@@ -127,8 +126,7 @@ impl BitVec {
         self.count == 0
     }
 
-    /// The bit at this place, from 0 on, where there is one.
-    /// Of `101` the bit at 1 is false, and at 3 there is none.
+    /// The bit at this place, from 0 on; `None` after the last. In `101` the bit at 1 is false, and at 3 it is `None`.
     pub fn get(&self, index: usize) -> Option<bool>
         ensures { result ≡ slice_get self.now index }
     {
@@ -138,7 +136,8 @@ impl BitVec {
         Some(self.bytes[index / 8] >> (7 - index % 8) & 1 == 1)
     }
 
-    /// Appends a bit. A refused one leaves the bits as they were. Only the first bit of a new byte may ask for memory.
+    /// Appends a bit. If memory runs out, the bits stay as they were. Only the first bit of a new byte may ask for
+    /// memory.
     pub fn push(&mut self, bit: bool) -> Result<(), AllocError>
         ensures ok { OnOk result (self.new ≡ self.old ++ bit ∷ []) }
         ensures err { OnErr result (self.new ≡ self.old) }
@@ -152,7 +151,7 @@ impl BitVec {
         Ok(())
     }
 
-    /// Takes the last bit off, where there is one.
+    /// Removes the last bit and returns it, if there is one.
     pub fn pop(&mut self) -> Option<bool>
         ensures bits { self.old ≡ self.new ++ option_to_list result }
         ensures variant { IsSome result ↔ (0 < length self.old) }
@@ -165,7 +164,7 @@ impl BitVec {
     }
 }
 
-/// Lists of bits are equal where they have the same bits.
+/// Two lists of bits are equal iff they have the same bits.
 impl PartialEq for BitVec {
     ghost use Rattle.pgv_more.specs.SameBits.{same_bits, same_bits_per};
 
@@ -200,7 +199,7 @@ fn first_of_byte(byte: u8, many: usize) -> u8
     byte & 0xff << (8 - many)
 }
 
-/// What stands for a bit: a truth value, or a digit, which is set where it is `1`.
+/// A value that represents a bit: a truth value, or a digit, which is set if it is `1`.
 trait Bit: Copy {
     /// Whether the bit is set.
     ghost set: { Self → Bool };

@@ -17,7 +17,7 @@ use std::alloc::{AllocError, Global};
 #[derive(Debug, Drop, PartialEq)]
 pub struct PgBytea(pub Vec<u8>);
 
-/// Bytes of their own. Where there is none, no memory is asked for.
+/// A copy of bytes. For no bytes no memory is asked for.
 #[inline(always)]
 pub(crate) fn copy_of(alloc: Global, bytes: &[u8]) -> Result<Vec<u8>, AllocError>
     ensures ok { IfOk result (λ copy. copy.items ≡ bytes.now) }

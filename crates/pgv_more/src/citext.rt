@@ -9,8 +9,8 @@ use std::fmt;
 
 /// A text of the extension type `citext`.
 ///
-/// `==` compares bytes: which letters are the same is the server's to say. A [`String`] is read under `citext` too; this type is for
-/// where the server wants to be told `citext`, as in an array of them.
+/// `==` compares bytes: which letters are the same, the server decides. A [`String`] is read under `citext` too; this
+/// type is for places where the server must see the type `citext`, as in an array of them.
 #[derive(Debug, Drop, PartialEq, Eq)]
 pub struct PgCiText(pub String);
 

@@ -1,5 +1,5 @@
-//! What is proved of these types and of the definitions that say what they are. Each law is the contract of a function that does
-//! nothing.
+//! Laws of bits, MAC addresses, times with offsets, bytes and texts without case. Each is the contract of a function
+//! that does nothing.
 
 ghost use Rattle.std.specs.Prelude.{◌≡◌, ◌↔◌, ℕ, Bool, false, true, List, Some, None, codes, string_bytes};
 ghost use Rattle.jiff.specs.Words.{time_nanos};
@@ -22,8 +22,8 @@ ghost use Rattle.pgv_types.specs.declared.oid.Oid.{Oid};
 use crate::{PgBytea, PgCiText, PgTimeTz};
 use pgv_codec::{Decode, Encode, PgHasArrayType, ReadBack, Type};
 
-/// A `BitVec` is a varbit (OID 1562), the number of bits and then its bytes, as `00000003a0` for `101`. It is read under bit
-/// and varbit. Its arrays are `varbit[]` (1563), read under arrays of these.
+/// A `BitVec` is a varbit (OID 1562), the number of bits and then its bytes, as `00000003a0` for `101`. It is read
+/// under bit and varbit. Its arrays are `varbit[]` (1563), read under arrays of these two.
 pub fn bit_vec_is_a_varbit()
     ensures types { ⟦<crate::BitVec as Type>⟧.info ≡ builtin 1562 }
     ensures accepts { (t : Ty) → ⟦<crate::BitVec as Type>⟧.accepts t ≡ is_bits t }
@@ -51,8 +51,8 @@ pub fn mac_address_is_a_macaddr()
     ensures refused { IsRefusedAs mac_refusal ⟦<crate::MacAddress as Decode>⟧.refusal × TakesNone ⟦<crate::MacAddress as Decode>⟧.takes_memory }
 {}
 
-/// A `PgTimeTz` is a timetz (OID 1266), the microseconds of the day and the seconds west of UTC, as `0000000a7a358200ffffe3e0` for
-/// 12:30 two hours east. Its arrays are `timetz[]` (1270).
+/// A `PgTimeTz` is a timetz (OID 1266), the microseconds of the day and the seconds west of UTC, as
+/// `0000000a7a358200ffffe3e0` for 12:30 two hours east. Its arrays are `timetz[]` (1270).
 pub fn time_tz_is_a_timetz()
     ensures types { IsBuiltIn 1266 ⟦<crate::PgTimeTz as Type>⟧.info ⟦<crate::PgTimeTz as Type>⟧.accepts }
     ensures arrays { IsBuiltIn 1270 ⟦<crate::PgTimeTz as PgHasArrayType>⟧.array_info ⟦<crate::PgTimeTz as PgHasArrayType>⟧.accepts_array }
@@ -66,32 +66,32 @@ pub fn time_tz_is_a_timetz()
     ensures kept { ⟦<crate::PgTimeTz as ReadBack>⟧.kept ≡ (λ v. record { time = time_kept v.time; offset = v.offset }) }
 {}
 
-/// Bits are packed into exactly the bytes whose bits they are, with less than eight zeros after them.
+/// `packed` turns bits into bytes iff the bits of these bytes are the given ones and then fewer than eight zeros.
 pub fn packed_is_one()
     ensures { PackedIsOne }
 {}
 
-/// Bytes are the form of bits exactly where these are read of them, whatever fills the last byte.
+/// `bits_in_binary` reads bits from bytes iff the bytes are a binary form of these bits, whatever fills the last byte.
 pub fn bits_are_read()
     ensures { BitsAreRead }
 {}
 
-/// No bytes are the form of two lists of bits.
+/// Bytes are the binary form of at most one list of bits.
 pub fn one_list_of_bits()
     ensures { OneListOfBits }
 {}
 
-/// A text has the digits of bits exactly where these are read of it.
+/// `bits_in_text` reads bits from a text iff the text is the digit `0` or `1` of each bit in turn.
 pub fn bits_are_read_of_text()
     ensures { BitsAreReadOfText }
 {}
 
-/// A text is a MAC address exactly where its bytes are read of it.
+/// `mac_value` reads six bytes from a text iff the grammar of MAC addresses assigns these bytes to the text.
 pub fn mac_address_is_read()
     ensures { MacAddressIsRead }
 {}
 
-/// No text is two MAC addresses.
+/// A text denotes at most one MAC address.
 pub fn one_mac_address()
     ensures { OneMacAddress }
 {}
@@ -107,7 +107,7 @@ pub fn bytea_is_a_bytea()
     ensures takes_memory { ⟦<crate::PgBytea as Decode>⟧.takes_memory ≡ (λ t f bytes. has_items (bytea_reading t f bytes)) }
 {}
 
-/// A `PgByteaArray` of `N` bytes is a bytea (OID 17) of so many.
+/// A `PgByteaArray<N>` is a bytea (OID 17) of `N` bytes. Its arrays are `bytea[]` (1001).
 pub fn bytea_array_is_a_bytea<const N: usize>()
     ensures types { IsBuiltIn 17 ⟦<crate::PgByteaArray<N> as Type>⟧.info ⟦<crate::PgByteaArray<N> as Type>⟧.accepts }
     ensures arrays { IsBuiltIn 1001 ⟦<crate::PgByteaArray<N> as PgHasArrayType>⟧.array_info ⟦<crate::PgByteaArray<N> as PgHasArrayType>⟧.accepts_array }
@@ -117,7 +117,7 @@ pub fn bytea_array_is_a_bytea<const N: usize>()
     ensures refused { IsRefusedAs sized_refusal ⟦<crate::PgByteaArray<N> as Decode>⟧.refusal × TakesNone ⟦<crate::PgByteaArray<N> as Decode>⟧.takes_memory }
 {}
 
-/// A `PgCiText` is a citext, by its name, its bytes; it is read as a `String` is.
+/// A `PgCiText` is a citext, known by its name, written as its bytes and read as a `String` is.
 pub fn ci_text_is_a_citext()
     ensures types { ⟦<crate::PgCiText as Type>⟧.info ≡ named (codes "citext") }
     ensures accepts { ⟦<crate::PgCiText as Type>⟧.accepts ≡ ⟦<String as Type>⟧.accepts }
@@ -129,8 +129,8 @@ pub fn ci_text_is_a_citext()
     ensures refused { (⟦<crate::PgCiText as Decode>⟧.refusal ≡ ⟦<String as Decode>⟧.refusal) × (⟦<crate::PgCiText as Decode>⟧.takes_memory ≡ ⟦<String as Decode>⟧.takes_memory) }
 {}
 
-/// Times with offsets, hardware addresses, and texts and bytes of these types are equal exactly where their parts are: of a time the
-/// time of day and the offset, of a text the bytes of its characters, whatever their case.
+/// Two values of one of these types are equal iff their parts are: the time of day and the offset, the bytes of the
+/// address, the bytes of the text (case counts), or the bytes.
 pub fn equal_values<const N: usize>()
     ensures times { (a b : PgTimeTz) → (⟦<PgTimeTz as PartialEq>⟧.eq a b ≡ true) ↔ ((time_nanos a.time ≡ time_nanos b.time) × (a.offset.seconds ≡ b.offset.seconds)) }
     ensures addresses { (a b : List ℕ) → (⟦<crate::MacAddress as PartialEq>⟧.eq a b ≡ true) ↔ (a ≡ b) }
@@ -139,22 +139,22 @@ pub fn equal_values<const N: usize>()
     ensures arrays { (a b : _) → (⟦<crate::PgByteaArray<N> as PartialEq>⟧.eq a b ≡ true) ↔ (a.0 ≡ b.0) }
 {}
 
-/// Lists of bits are equal exactly where they have the same bits.
+/// Two lists of bits are equal iff they have the same bits.
 pub fn equal_bits()
     ensures { (a b : List Bool) → (⟦<crate::BitVec as PartialEq>⟧.eq a b ≡ true) ↔ (a ≡ b) }
 {}
 
-/// A text is `\x` and two hex digits for each byte exactly where these bytes are read of it.
+/// `bytea_in_text` reads bytes from a text iff the text is `\x` and then two hex digits for each of these bytes.
 pub fn bytea_text_is_read()
     ensures { ByteaTextIsRead }
 {}
 
-/// No text is that of two strings of bytes.
+/// A text denotes at most one string of bytes.
 pub fn one_bytea_text()
     ensures { OneByteaText }
 {}
 
-/// A value of these types comes back under every type.
+/// A value of one of these types fits every type, so that it is read back under each.
 pub fn plain_types_fit<const N: usize>()
     ensures bits { (v : _) (t : Ty) (oids : List Oid) → ⟦<crate::BitVec as ReadBack>⟧.fits v t oids }
     ensures mac_address { (v : _) (t : Ty) (oids : List Oid) → ⟦<crate::MacAddress as ReadBack>⟧.fits v t oids }

@@ -1,5 +1,5 @@
-//! Value types of the project's own: lists of bits, strings of bytes, text without case, MAC addresses, and times of day with an
-//! offset, with what they are written as and read of.
+//! Value types of the project's own: lists of bits, strings of bytes, text without case, MAC addresses, and times of
+//! day with an offset, with what they are written as and read from.
 #![tactic(auto)]
 
 pub mod bit_vec;

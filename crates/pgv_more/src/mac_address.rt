@@ -41,10 +41,10 @@ impl MacAddress {
     }
 
     /// The address of a text: six pairs of hex digits of either case, with `:` between each two pairs or with `-`, as
-    /// `08:00:2b:01:02:03` and `08-00-2B-01-02-03`. `08-00-2b:01-02-03` is none.
+    /// `08:00:2b:01:02:03` and `08-00-2B-01-02-03`. `08-00-2b:01-02-03` is invalid.
     #[inline(always)]
     pub fn from_str(text: &str) -> Option<MacAddress>
-        // The address that the text is, or that it is none.
+        // The address that the text denotes, or that it denotes none.
         ensures reads { IsValueOf IsMacAddress text.now result }
         // The same by the computed bytes.
         ensures computed { result ≡ mac_value text.now }

@@ -135,7 +135,8 @@ impl PgHasArrayType for PgTimeTz {
 }
 
 /// Written as twelve bytes, the microseconds of the day and the seconds west of UTC: 12:30 two hours east as
-/// `0000000a7a358200ffffe3e0`. An offset of a day or more in size is refused with C6.
+/// `0000000a7a358200ffffe3e0`. An offset of a day or more in size is refused with
+/// [`OffsetRange`](CodecError::OffsetRange) (C6).
 impl Encode for PgTimeTz {
     ghost image = { λ v. time_tz_image (time_tz_numbers v) };
 
@@ -161,10 +162,12 @@ impl Encode for PgTimeTz {
     }
 }
 
-/// Read in binary of the first twelve bytes, where fewer are refused with C15: the time round the clock, and an offset of less than
-/// a day, else C6 with the seconds that the bytes have. A text is a time and an offset, as [`time_tz`] reads it, else C29. Null is
-/// refused with C13. `0000000a7a358200ffffe3e0` and the text `12:30:00+02` are 12:30 two hours east.
-/// The time comes back in whole microseconds, where what is less is cut off, and the offset as it is.
+/// Read in binary from the first twelve bytes, where fewer are refused with [`Short`](CodecError::Short) (C15): the
+/// time round the clock, and an offset of less than a day, else [`OffsetRange`](CodecError::OffsetRange) (C6) with the
+/// seconds that the bytes have. A text is a time and an offset, as [`time_tz`] reads it, else
+/// [`Syntax`](CodecError::Syntax) (C29). Null is refused with [`UnexpectedNull`](CodecError::UnexpectedNull) (C13).
+/// `0000000a7a358200ffffe3e0` and the text `12:30:00+02` are 12:30 two hours east. The time comes back in whole
+/// microseconds, where what is less is cut off, and the offset as it is.
 impl Plain for PgTimeTz {
     ghost use Rattle.pgv_more.specs.TimeTzBack.{time_tz_back, time_tz_kept};
 

@@ -112,7 +112,7 @@ OneField {M} accepts reading =
 abbrev pub RecordBegins : Type 0
 RecordBegins = (t : Ty) (bytes rest : List ℕ) → (fields_of t Binary (Some bytes) ≡ Some (binary_fields t 0 rest)) ↔ ((count : List ℕ) × (bytes ≡ count ++ rest) × (length count ≡ 4))
 
--- what is read of bytes in binary under a type is what they are a record of
+-- a meaning is read from bytes in binary under a type iff the bytes are a record of it
 abbrev pub RecordIsItsFields : {M : Type 0} → Reading M → Stretch M → Type 0
 RecordIsItsFields {M} reading fields = (t : Ty) (bytes : List ℕ) (m : M) → AreBytes bytes → (reading t Binary (Some bytes) ≡ Some m) ↔ IsRecord fields t bytes m
 

@@ -57,7 +57,7 @@ pub record IsRecordInText {M : Type 0} (fields : TextStretch M) (bytes : List �
 
 -- ---- what is computed is what the text is
 
--- what is read of bytes in text, under any type, is what they are
+-- a meaning is read from bytes in text, under any type, iff the bytes are it
 abbrev pub TextIs : {M : Type 0} → Reading M → (List ℕ → M → Type 0) → Type 0
 TextIs {M} reading Is = (t : Ty) (bytes : List ℕ) (m : M) → (reading t Text (Some bytes) ≡ Some m) ↔ Is bytes m
 

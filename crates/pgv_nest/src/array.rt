@@ -26,10 +26,13 @@ pub struct ArrayHead<'a> {
     pub frames: &'a [u8],
 }
 
-/// The head of an array, or none where it has no dimensions and so no elements. Bytes that end too early are refused with
-/// C15, a negative number of elements with C16, more dimensions than one with C19, a lower bound other than 1 with C20, and elements of
-/// a type that neither the OID nor the array's type gives with C21. C1 comes only where the
-/// elements are of a custom type, which is copied.
+/// The head of an array; `None` if the array has no dimensions and so no elements. Bytes that end too early are refused
+/// with [`Short`](CodecError::Short) (C15), a negative number of elements with
+/// [`NegativeLength`](CodecError::NegativeLength) (C16), more dimensions than one with
+/// [`Dimensions`](CodecError::Dimensions) (C19), a lower bound other than 1 with [`LowerBound`](CodecError::LowerBound)
+/// (C20), and elements of a type that neither the OID nor the array's type gives with
+/// [`ElementType`](CodecError::ElementType) (C21). Out of memory (C1) comes only where the elements are of a custom
+/// type, which is copied.
 #[tactic(auto, unfolding(crate::specs::ArrayGrammar::head))]
 pub fn array_head_of<'a>(
     type_info: &PgTypeInfo,

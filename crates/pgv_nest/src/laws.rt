@@ -1,4 +1,4 @@
-//! Laws of what arrays and records are, in binary and in text: each is the contract of a function that does nothing.
+//! Laws of arrays and records, in binary and in text: each is the contract of a function that does nothing.
 
 ghost use Rattle.std.specs.Prelude.{Bool, Option};
 ghost use Rattle.pgv_types.specs.Ty.{Ty};
@@ -9,53 +9,56 @@ ghost use Rattle.pgv_nest.specs.NestBinary.{ArrayIsItsElements, FewElements, One
 
 use pgv_text::laws::record_is_its_values;
 
-/// The elements that are read of bytes in binary are those that the bytes are an array of, whatever reads the elements
-/// (PostgreSQL: "Arrays"; array_send).
+/// `array_of` reads elements from bytes in binary iff the bytes are an array of these elements, whatever reads each of
+/// them (PostgreSQL: "Arrays"; array_send).
 pub fn array_is_its_elements<M>()
     ensures { (read : Ty → Part → Option M) → ArrayIsItsElements read }
 {}
 
-/// An array has at most a quarter as many elements as bytes: each takes four bytes or more. So it is for lists and for arrays of
-/// any number.
+/// An array in binary has at most a quarter as many elements as bytes.
+///
+/// Each element takes four bytes or more. So it is for lists and for arrays of a fixed number of elements.
 pub fn few_elements<M>()
     ensures { (read : Ty → Part → Option M) → FewElements read }
 {}
 
-/// No bytes are an array of two lists of elements.
+/// Under a type, bytes in binary are an array of at most one list of elements.
 pub fn one_array<M>()
     ensures { (read : Ty → Part → Option M) → OneArray read }
 {}
 
-/// The type that is found for the field of a record is the one that it has.
+/// `field_type` finds a type for a place and an OID iff the field of a record at this place, with this OID, has this
+/// type.
 pub fn field_type_is_found()
     ensures { FieldTypeIsFound }
 {}
 
-/// The value that is read of a record's next field in binary, and the rest of the bytes, are those of the field that the
-/// bytes begin with, whatever reads it (PostgreSQL: "Composite Types"; record_send).
+/// `field_in` reads a value from bytes in binary and leaves a rest iff the bytes begin with a record's field of this
+/// value and go on with this rest, whatever reads the value (PostgreSQL: "Composite Types"; record_send).
 pub fn field_is_its_value<M>()
     ensures { (accepts : Ty → Bool) (reading : Reading M) → FieldIsItsValue accepts reading }
 {}
 
-/// No bytes begin with a field of two values.
+/// The field with which bytes in binary begin has one value and one rest.
 pub fn one_field<M>()
     ensures { (accepts : Ty → Bool) (reading : Reading M) → OneField accepts reading }
 {}
 
-/// The fields of a record in binary come after four bytes.
+/// The fields of a record in binary are the bytes after its first four.
 pub fn record_begins()
     ensures { RecordBegins }
 {}
 
-/// The fields that a record's decoder has at first are those that the text is a record of (PostgreSQL: "Composite Type Input
-/// and Output Syntax").
+/// Reading a record in text begins iff the bytes are UTF-8 and a record text, and then all fields of the text are left
+/// (PostgreSQL: "Composite Type Input and Output Syntax").
 pub fn record_text_begins()
     ensures { RecordTextBegins }
 {
     record_is_its_values();
 }
 
-/// The field that is read next in text is the first of those that are left, and the others are left, whatever reads it.
+/// `next` reads a value from the fields that are left of a record text iff the first of them has this value, and leaves
+/// the others, whatever reads the value.
 pub fn text_field_is_its_value<M>()
     ensures { (accepts : Ty → Bool) (reading : Reading M) → TextFieldIsItsValue accepts reading }
 {}

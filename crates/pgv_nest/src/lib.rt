@@ -1,7 +1,7 @@
-//! What is read of arrays and records in binary without knowing what their parts are: the head of an array, and the type of a
-//! record's field. The crate of codecs reads the parts.
+//! What is read from arrays and records in binary without knowing what their parts are: the head of an array, and the
+//! type of a record's field. The crate of codecs reads the parts.
 //!
-//! The module [`laws`] ties these readers to what the bytes of a whole array or record are.
+//! The module [`laws`] proves that these readers follow the grammar of whole arrays and records.
 #![tactic(auto)]
 
 pub mod array;

@@ -13,10 +13,13 @@ use std::rc::RcStr;
 /// The OID of the type `record`.
 const RECORD: Oid = Oid(2249);
 
-/// The type of the next field of a record, the one at `place`, and the bytes after its OID. Where no byte is left, or a composite
-/// type has no field at this place, it is refused with C25, bytes that end too early with C15, another OID than the composite's field
-/// has with C26, an OID that is no built-in type's under `record` with C28, and a type that is no record with C24. C1 comes only of
-/// a field of a custom type, which is copied.
+/// The type of the next field of a record, the one at `place`, and the bytes after its OID. Where no byte is left, or a
+/// composite type has no field at this place, it is refused with [`NoField`](CodecError::NoField) (C25), bytes that end
+/// too early with [`Short`](CodecError::Short) (C15), another OID than the composite's field has with
+/// [`FieldOid`](CodecError::FieldOid) (C26), an OID that is no built-in type's under `record` with
+/// [`FieldTypeUnknown`](CodecError::FieldTypeUnknown) (C28), and a type that is not a record with
+/// [`NotARecord`](CodecError::NotARecord) (C24). Out of memory (C1) comes only from a field of a custom type, which is
+/// copied.
 #[tactic(auto, unfolding(crate::specs::RecordGrammar::field_head))]
 pub fn field_head_of<'r>(
     type_info: &PgTypeInfo,

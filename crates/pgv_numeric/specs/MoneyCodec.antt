@@ -1,6 +1,6 @@
--- What amounts of money are written as and read of (PostgreSQL: "Monetary Types", 8.2): a signed number of the smallest unit of
--- the currency, in eight bytes, the highest first. An amount is seen as that number. The first eight bytes are read, in binary
--- alone (`IsMoney`).
+-- What amounts of money are written as and read from (PostgreSQL: "Monetary Types", 8.2): a signed number of the
+-- smallest unit of the currency, in eight bytes, the highest first. An amount is seen as that number. The first eight
+-- bytes are read, in binary alone (`IsMoney`).
 use Rattle.std.specs.Prelude.{◌≡◌, ◌↔◌, ℕ, ◌++◌, nat_lt, if◌then◌else◌, ℤ, FitsSigned, List, length, Option, Some, None}
 use Rattle.std.specs.Int.{w64, cast_unsigned, to_be_bytes}
 use Rattle.pgv_value.specs.Interval.{eight_bytes}
@@ -19,6 +19,6 @@ money_in_binary bytes = if nat_lt (length bytes) 8 then None else Some (eight_by
 abbrev pub money_reading : Reading ℤ
 money_reading = binary_alone money_in_binary
 
--- bytes are an amount exactly where it is read of them
+-- an amount is read from bytes iff the bytes begin with its form
 abbrev pub MoneyIsRead : Type 0
 MoneyIsRead = (bytes : List ℕ) (amount : ℤ) → AreBytes bytes → (money_in_binary bytes ≡ Some amount) ↔ IsMoney bytes amount

@@ -39,7 +39,7 @@ digits_there ds rest e =
     let long : nat_lt (length (flat_map word ds ++ rest)) (2 * length ds) ≡ false = le-ltb _ _ (omega (arith, length-words ds, length-append (flat_map word ds) rest)) in
     rw (long, words_again ds rest e) refl
 
--- ---- a number is read of its form, whatever comes after it
+-- ---- a number is read from its form, whatever comes after it
 
 opened : (form : List ℕ) (sign : PgNumericSign) → nat_lt (length form) 8 ≡ false → said_sign form ≡ sign_word sign → numeric_in_binary form ≡ signed_number form sign
 opened form Positive long said = rw (long, said) refl

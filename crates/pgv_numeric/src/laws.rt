@@ -1,5 +1,4 @@
-//! What is proved of these types and of the definitions that say what they are. Each law is the contract of a function that does
-//! nothing.
+//! Laws of numerics and of amounts of money. Each is the contract of a function that does nothing.
 
 ghost use Rattle.std.specs.Prelude.{◌≡◌, ◌↔◌, true, List};
 ghost use Rattle.std.specs.Int.{w64};
@@ -25,7 +24,7 @@ pub fn money_is_a_money()
     ensures refused { IsRefusedAs short_refusal ⟦<crate::PgMoney as Decode>⟧.refusal × TakesNone ⟦<crate::PgMoney as Decode>⟧.takes_memory }
 {}
 
-/// A `PgNumeric` is a numeric (OID 1700), words of two bytes. Its arrays are `numeric[]` (1231).
+/// A `PgNumeric` is a numeric (OID 1700), a list of words of two bytes. Its arrays are `numeric[]` (1231).
 pub fn numeric_is_a_numeric()
     ensures types { IsBuiltIn 1700 ⟦<crate::PgNumeric as Type>⟧.info ⟦<crate::PgNumeric as Type>⟧.accepts }
     ensures arrays { IsBuiltIn 1231 ⟦<crate::PgNumeric as PgHasArrayType>⟧.array_info ⟦<crate::PgNumeric as PgHasArrayType>⟧.accepts_array }
@@ -37,37 +36,37 @@ pub fn numeric_is_a_numeric()
     ensures takes_memory { ⟦<crate::PgNumeric as Decode>⟧.takes_memory ≡ numeric_takes }
 {}
 
-/// Bytes begin with the form of an amount exactly where it is read of them.
+/// `money_in_binary` reads an amount from bytes iff the bytes begin with the eight bytes of this amount.
 pub fn money_is_read()
     ensures { MoneyIsRead }
 {}
 
-/// No bytes begin with the forms of two amounts.
+/// Bytes begin with the eight bytes of at most one amount.
 pub fn one_money()
     ensures { OneMoney }
 {}
 
-/// Bytes begin with the form of a number exactly where it is read of them.
+/// `numeric_in_binary` reads a number or NaN from bytes iff the bytes begin with its binary form.
 pub fn numeric_is_read()
     ensures { NumericIsRead }
 {}
 
-/// No bytes begin with the forms of two numbers.
+/// Bytes begin with the binary form of at most one number or NaN.
 pub fn one_numeric()
     ensures { OneNumeric }
 {}
 
-/// Amounts are equal exactly where they are one number.
+/// Two amounts are equal iff they are the same number.
 pub fn equal_amounts()
     ensures { (a b : PgMoney) → (⟦<PgMoney as PartialEq>⟧.eq a b ≡ true) ↔ (a ≡ b) }
 {}
 
-/// Numbers are equal exactly where they have the same sign, digits, weight and scale, and no numbers are equal.
+/// Two numerics are equal iff both are NaN, or their sign, digits, weight and scale are equal.
 pub fn equal_numerics()
     ensures { NumericsAreEqual ⟦<crate::PgNumeric as PartialEq>⟧.eq }
 {}
 
-/// A value of these types comes back under every type.
+/// A `PgMoney` and a `PgNumeric` fit every type, so that they are read back under each.
 pub fn plain_types_fit()
     ensures money { (v : _) (t : Ty) (oids : List Oid) → ⟦<crate::PgMoney as ReadBack>⟧.fits v t oids }
     ensures numeric { (v : _) (t : Ty) (oids : List Oid) → ⟦<crate::PgNumeric as ReadBack>⟧.fits v t oids }

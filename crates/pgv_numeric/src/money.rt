@@ -13,12 +13,12 @@ use std::ops::{Add, AddAssign, Sub, SubAssign};
 
 /// An amount of money, as a number of the smallest unit of its currency (a cent, where there are two places after the point).
 ///
-/// The operators want that the result is a number of 64 bits; [`checked_add`](PgMoney::checked_add) and
+/// The operators need a result that fits in 64 bits; [`checked_add`](PgMoney::checked_add) and
 /// [`checked_sub`](PgMoney::checked_sub) test it.
 #[derive(Clone, Copy, PartialEq, Eq, Debug)]
 pub struct PgMoney(pub i64);
 
-/// Nothing.
+/// The amount 0.
 impl Default for PgMoney {
     ghost use Rattle.std.specs.Prelude.{◌≡◌, pos};
 
@@ -30,8 +30,7 @@ impl Default for PgMoney {
 }
 
 impl PgMoney {
-    /// The sum, where it is a number of 64 bits.
-    /// Of the greatest amount and one more there is none.
+    /// The sum, or `None` if it does not fit in 64 bits, as `i64::MAX` and one more.
     pub fn checked_add(self, rhs: PgMoney) -> Option<PgMoney>
         ensures found { IsSome result ↔ FitsSigned w64 (self.0 +ℤ rhs.0) }
         ensures value { IfSome result (λ sum. sum.0 ≡ self.0 +ℤ rhs.0) }
@@ -39,7 +38,7 @@ impl PgMoney {
         self.0.checked_add(rhs.0).map(PgMoney)
     }
 
-    /// The difference, where it is a number of 64 bits.
+    /// The difference, or `None` if it does not fit in 64 bits.
     pub fn checked_sub(self, rhs: PgMoney) -> Option<PgMoney>
         ensures found { IsSome result ↔ FitsSigned w64 (self.0 -ℤ rhs.0) }
         ensures value { IfSome result (λ difference. difference.0 ≡ self.0 -ℤ rhs.0) }
@@ -96,7 +95,7 @@ impl SubAssign for PgMoney {
     }
 }
 
-/// So many of the smallest unit.
+/// The amount of this number of the smallest unit.
 impl From<i64> for PgMoney {
     ghost from_gives = { λ number amount. amount.0 ≡ number };
 
@@ -105,7 +104,7 @@ impl From<i64> for PgMoney {
     }
 }
 
-/// So many of the smallest unit.
+/// The amount of this number of the smallest unit.
 impl From<i32> for PgMoney {
     ghost from_gives = { λ number amount. amount.0 ≡ number };
 
@@ -114,7 +113,7 @@ impl From<i32> for PgMoney {
     }
 }
 
-/// So many of the smallest unit.
+/// The amount of this number of the smallest unit.
 impl From<i16> for PgMoney {
     ghost from_gives = { λ number amount. amount.0 ≡ number };
 
@@ -123,7 +122,7 @@ impl From<i16> for PgMoney {
     }
 }
 
-/// So many of the smallest unit.
+/// The amount of this number of the smallest unit.
 impl From<i8> for PgMoney {
     ghost from_gives = { λ number amount. amount.0 ≡ number };
 
@@ -132,7 +131,7 @@ impl From<i8> for PgMoney {
     }
 }
 
-/// So many of the smallest unit.
+/// The amount of this number of the smallest unit.
 impl From<u32> for PgMoney {
     ghost use Rattle.std.specs.Prelude.{pos};
 
@@ -143,7 +142,7 @@ impl From<u32> for PgMoney {
     }
 }
 
-/// So many of the smallest unit.
+/// The amount of this number of the smallest unit.
 impl From<u16> for PgMoney {
     ghost use Rattle.std.specs.Prelude.{pos};
 
@@ -154,7 +153,7 @@ impl From<u16> for PgMoney {
     }
 }
 
-/// So many of the smallest unit.
+/// The amount of this number of the smallest unit.
 impl From<u8> for PgMoney {
     ghost use Rattle.std.specs.Prelude.{pos};
 

@@ -17,12 +17,12 @@ pub enum PgNumericSign {
     Negative,
 }
 
-/// A number as its digits, or none.
+/// A number as its digits, or NaN.
 ///
 /// The digits are of base 10000, the highest first: 123.45 has the digits 123 and 4500, the weight 0 and the scale 2.
 #[derive(Debug, Drop, PartialEq)]
 pub enum PgNumeric {
-    /// `NaN`: no number.
+    /// `NaN`, not a number.
     NotANumber,
     /// The sum of `digits[i] * 10000 ^ (weight - i)`, with its sign.
     Number {

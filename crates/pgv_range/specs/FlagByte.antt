@@ -30,7 +30,7 @@ flags_of lower upper = bit_or (lower_flag lower) (upper_flag upper)
 
 -- ---- what is read
 
--- what is said of a bound: that there is none goes before that it is included
+-- what two flags say of a bound; if there is no bound, it does not matter whether it is included
 abbrev pub side_by : Bool → Bool → Side
 side_by true included = Infinite
 side_by false true = Inclusive

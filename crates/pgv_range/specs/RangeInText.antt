@@ -15,7 +15,7 @@ use Rattle.pgv_range.specs.RangeOf.{RangeOf, empty, bounds}
 abbrev pub IsValue : {M : Type 0} → (Part → Option M) → Part → M → Type 0
 IsValue read part m = (text : List ℕ) × (part ≡ Some text) × (read part ≡ Some m)
 
--- This part, at a bracket that includes or doesn't, is this bound. A part that is absent is none, whatever the bracket.
+-- This part, at a bracket that includes or doesn't, is this bound. An absent part is no bound, whatever the bracket.
 abbrev pub IsTextBound : {M : Type 0} → (Part → Option M) → Bool → Part → Bound M → Type 0
 IsTextBound read included part Unbounded = part ≡ None
 IsTextBound read included part (Included m) = (included ≡ true) × IsValue read part m

@@ -1,4 +1,4 @@
--- Why ranges are refused, out of memory aside.
+-- Why ranges are refused, apart from out of memory (C1).
 -- Written: what its first bound without a frame is refused with, the lower one before the upper one.
 -- Read in binary: a type that isn't a range is C23, no flag byte C15, and then what the first bound that isn't read is refused with:
 -- its frame, or its value. Read in text: C14 where it isn't UTF-8, C29 where it isn't a range, and then the first bound that isn't

@@ -107,10 +107,12 @@ fn encode_bound<T: Encode>(bound: &Bound<T>, out: &mut PgArgumentBuffer) -> Resu
 /// In text the bounds are read under `T`'s own type, as `[1,10)` from 1 to 10 without 10; `empty`, in upper or lower case and without
 /// white space, is the empty range.
 ///
-/// Null is refused with C13, a text that is not UTF-8 with C14 and one outside the grammar with C29, a type that isn't a range in
-/// binary with C23, bytes that end too early with C15, and what a bound is refused with. Out of memory (C1) is answered only where the
-/// value of a bound asks for memory, or for a copy: in binary of a custom type that the range is over, in text of a part, only where a
-/// quote or a backslash stands anywhere in it.
+/// Null is refused with [`UnexpectedNull`](CodecError::UnexpectedNull) (C13), a text that is not UTF-8 with
+/// [`Utf8`](CodecError::Utf8) (C14) and one outside the grammar with [`Syntax`](CodecError::Syntax) (C29), a type that
+/// isn't a range in binary with [`NotARange`](CodecError::NotARange) (C23), bytes that end too early with
+/// [`Short`](CodecError::Short) (C15), and what a bound is refused with. Out of memory (C1) is answered only where the
+/// value of a bound asks for memory, or for a copy: in binary of a custom type that the range is over, in text of a
+/// part, only if a quote or a backslash is anywhere in it.
 impl<T: Decode + Type> Decode for PgRange<T> {
     ghost use Rattle.pgv_range.specs.RangeGrammar.{range};
     ghost use Rattle.pgv_range.specs.RangeOf.{RangeOf};
@@ -160,7 +162,7 @@ fn read_binary<T: Decode>(
     }
 }
 
-/// What a type is a range over; one that isn't a range is refused with C23.
+/// What a type is a range over; one that isn't a range is refused with [`NotARange`](CodecError::NotARange) (C23).
 fn element_of_range(type_info: &PgTypeInfo) -> Result<PgTypeRef<'_>, CodecError>
     ensures found { IfOk result (λ element. range_element type_info.now ≡ Some (ref_type element)) }
     ensures refused { IfErr result (λ e. (range_element type_info.now ≡ None) × (e ≡ NotARange)) }
@@ -309,8 +311,8 @@ fn side_of<T>(included: bool, value: T) -> Bound<T>
     }
 }
 
-/// A range comes back under a type of kind range, where each bound's value comes back under the type that it is a range over; the
-/// empty one under every type of kind range.
+/// A range is read back under a type of kind range, if each bound's value is read back under the type that it is a
+/// range over; the empty range under every type of kind range.
 impl<T: ReadBack + Type> ReadBack for PgRange<T> {
     ghost use Rattle.pgv_range.specs.RangeBack.{range_back};
     ghost use Rattle.pgv_range.specs.RangeFits.{RangeFits, range_kept};

@@ -99,7 +99,7 @@ impl RangeFlags {
         }
     }
 
-    /// What the flags say of the range. That it is empty goes before all else.
+    /// What the flags say of the range. The flag of the empty range comes before all others.
     pub(crate) fn form(self) -> RangeForm
         ensures { result ≡ form_of self.0 }
     {
@@ -112,7 +112,7 @@ impl RangeFlags {
         )
     }
 
-    /// What two flags say of a bound. That there is none goes before that it is included.
+    /// What two flags say of a bound. If there is no bound, it does not matter whether it is included.
     fn side(self, infinite: RangeFlags, included: RangeFlags) -> Side
         ensures { result ≡ side_of self.0 infinite.0 included.0 }
     {

@@ -1,5 +1,5 @@
-//! Laws of ranges: what they are in binary and in text, what is read back of them, and what each type of this crate is. Each is the
-//! contract of a function that does nothing.
+//! Laws of ranges: what they are in binary and in text, what they are read back as, and what each type of this crate
+//! is. Each is the contract of a function that does nothing.
 
 ghost use Rattle.std.specs.Prelude.{◌≡◌, ◌↔◌, ℕ, false, true, List, Some, None};
 ghost use Rattle.std.specs.Range.{range_inclusive_start, range_inclusive_end};
@@ -40,40 +40,45 @@ type Ranges<T> = Vec<PgRange<T>>;
 /// A range of arrays.
 type OfLists<T> = PgRange<Vec<T>>;
 
-/// The range that is decoded from bytes in binary is the one that they are, under a type of kind range: a flag byte, a frame for each
-/// bound that there is, and anything after them; or a flag byte with 01, and anything (PostgreSQL, "Range Types"; range_send).
+/// A range is decoded from bytes in binary iff the type is of kind range and the bytes are this range (PostgreSQL,
+/// "Range Types"; range_send).
+///
+/// The bytes are a flag byte and a frame for each bound that there is, or a flag byte with 01; anything may come after
+/// them.
 pub fn range_is_its_bounds<T: Type + Decode>()
     ensures { (t : Ty) (bytes : List ℕ) (m : RangeOf T.Meaning) → AreBytes bytes → (⟦<PgRange<T> as Decode>⟧.reading t Binary (Some bytes) ≡ Some m) ↔ IsRange (λ u. T.reading u Binary) t bytes m }
 {}
 
-/// No bytes are two ranges.
+/// Under a type, bytes in binary are at most one range.
 pub fn one_range<T: Decode>()
     ensures { OneRange (λ u. T.reading u Binary) }
 {}
 
-/// The range that is decoded from a text is the one that the text is: the empty one, or one of two bounds, each read under its own
-/// type (PostgreSQL, "Range Input/Output").
+/// A range is decoded from a text iff the grammar of ranges assigns it to the text: the empty range, or one of two
+/// bounds, each read under the bounds' own type (PostgreSQL, "Range Input/Output").
 pub fn range_text_is_its_bounds<T: Type + Decode>()
     ensures { TextIs ⟦<PgRange<T> as Decode>⟧.reading (IsRangeInText (T.reading T.info Text)) }
 {
     range_is_computed();
 }
 
-/// No text is two ranges.
+/// A text denotes at most one range.
 pub fn one_range_in_text<T: Type + Decode>()
     ensures { OneRangeInText (T.reading T.info Text) }
 {
     range_is_computed();
 }
 
-/// Null is no range.
+/// Null is never decoded as a range, in either format.
 pub fn null_is_no_range<T: Type + Decode>()
     ensures binary { (t : Ty) → ⟦<PgRange<T> as Decode>⟧.reading t Binary None ≡ None }
     ensures text { (t : Ty) → ⟦<PgRange<T> as Decode>⟧.reading t Text None ≡ None }
 {}
 
-/// What a range is written as, what it says, and what it keeps, whatever its bounds are: a flag byte and the frames of the bounds; what
-/// the bounds' values say; what they keep, included and excluded as they were. The empty range is a flag byte, and kept.
+/// A range is written as a flag byte and the frames of its bounds, and its meaning, what is read as it, its refusals
+/// and what it keeps are made of those of its bounds, included or excluded as they were.
+///
+/// The empty range is a flag byte, and is kept.
 pub fn ranges_are_their_bounds<T: ReadBack + Type>()
     ensures written { IsWrittenAs (range_image T.hint T.image) ⟦<PgRange<T> as Encode>⟧.hint ⟦<PgRange<T> as Encode>⟧.image ⟦<PgRange<T> as Encode>⟧.produced }
     ensures means { ⟦<PgRange<T> as Decode>⟧.meaning ≡ range_meaning T.meaning }
@@ -83,13 +88,13 @@ pub fn ranges_are_their_bounds<T: ReadBack + Type>()
     ensures kept { ⟦<PgRange<T> as ReadBack>⟧.kept ≡ range_kept T.kept }
 {}
 
-/// Where reading a bound never asks for memory, reading a range asks only for copies: in binary of a custom type that the range is over,
-/// in text of a part that doesn't stand in it as it is.
+/// If reading a bound never asks for memory, reading a range asks only for copies: in binary of a custom type that the
+/// range is over, in text of a part that is not one run of the text's bytes.
 pub fn ranges_take_only_for_copies<T: Decode + Type>()
     ensures { ((t : Ty) (f : Format) (bytes : Part) → T.takes_memory t f bytes ≡ false) → TakesOnlyForCopies ⟦<PgRange<T> as Decode>⟧.takes_memory }
 {}
 
-/// So do the ranges over a type of this project.
+/// Reading a range of `i32`, `i64`, `Date`, `DateTime` or `Timestamp` asks for memory only for these copies.
 pub fn own_ranges_take_only_for_copies()
     ensures int4 { TakesOnlyForCopies ⟦<PgRange<i32> as Decode>⟧.takes_memory }
     ensures int8 { TakesOnlyForCopies ⟦<PgRange<i64> as Decode>⟧.takes_memory }
@@ -104,16 +109,17 @@ pub fn own_ranges_take_only_for_copies()
     ranges_take_only_for_copies::<Timestamp>();
 }
 
-/// A range comes back under a type of kind range, where the value of each bound comes back under the type that it is a range over, with
-/// the OIDs of its own holes, those of the lower bound first; and so where every value comes back under it. The empty range comes back
-/// under every type of kind range.
+/// A range fits a type of kind range if the value of each bound fits the type that it is a range over, with the OIDs of
+/// its own holes, those of the lower bound first.
+///
+/// So it does if every value fits that type. The empty range fits every type of kind range.
 pub fn ranges_fit<T: ReadBack + Type>()
     ensures empty { (t u : Ty) (oids : List Oid) → IsRangeOver t u → ⟦<PgRange<T> as ReadBack>⟧.fits Empty t oids }
     ensures bounds { (lower upper : _) (t u : Ty) (oids : List Oid) → IsRangeOver t u → BoundsFit T.image T.fits u lower upper oids → ⟦<PgRange<T> as ReadBack>⟧.fits (Bounds lower upper) t oids }
     ensures always { (r : _) (t u : Ty) (oids : List Oid) → IsRangeOver t u → ((v : T) (own : List Oid) → T.fits v u own) → ⟦<PgRange<T> as ReadBack>⟧.fits r t oids }
 {}
 
-/// Each range over a type of this project comes back under every type of kind range.
+/// A range of `i32`, `i64`, `Date`, `DateTime` or `Timestamp` fits every type of kind range.
 pub fn own_ranges_fit()
     ensures int4 { ComesBackUnderRanges ⟦<PgRange<i32> as ReadBack>⟧.fits }
     ensures int8 { ComesBackUnderRanges ⟦<PgRange<i64> as ReadBack>⟧.fits }
@@ -122,7 +128,8 @@ pub fn own_ranges_fit()
     ensures timestamp { ComesBackUnderRanges ⟦<PgRange<Timestamp> as ReadBack>⟧.fits }
 {}
 
-/// What was written of a range is read back; and so are an array of ranges, a range of arrays, and a range in a record.
+/// A range that was written is read back as what it keeps, under each type that fits, and so are a list of ranges, a
+/// range of lists and a range that is a field of a record.
 pub fn ranges_read_back<T: ReadBack + Type + PgHasArrayType>()
 where
     PgRange<T>: Type + PgHasArrayType,
@@ -137,7 +144,8 @@ where
     field_reads_back::<PgRange<T>>();
 }
 
-/// What the conversions give: the bounds that the ranges of Rust have, and never the empty range.
+/// The conversion of a pair of bounds, or of a range of Rust, gives the range with exactly its bounds, and never the
+/// empty range.
 pub fn conversions<T>()
     ensures pair { (from : _) (r : _) → ⟦<PgRange<T> as From<(Bound<T>, Bound<T>)>>⟧.from_gives from r ↔ (r ≡ Bounds from.0 from.1) }
     ensures range { (from : _) (r : _) → ⟦<PgRange<T> as From<Range<T>>>⟧.from_gives from r ↔ (r ≡ Bounds (Included from.start) (Excluded from.end)) }
@@ -147,17 +155,18 @@ pub fn conversions<T>()
     ensures to_inclusive { (from : _) (r : _) → ⟦<PgRange<T> as From<RangeToInclusive<T>>>⟧.from_gives from r ↔ (r ≡ Bounds Unbounded (Included from.end)) }
 {}
 
-/// What the conversion of an array of two bounds gives: these bounds.
+/// The conversion of an array of two bounds gives the range with these bounds, and never the empty range.
 pub fn conversion_of_array<T: Copy>()
     ensures { (from : _) (r : _) → ⟦<PgRange<T> as From<[Bound<T>; 2]>>⟧.from_gives from r ↔ IsOfBounds from r }
 {}
 
-/// What a range prints: `empty`, or brackets and the texts of its bounds' values, where these are promised.
+/// A range is printed as `empty`, or as its brackets around the printed values of its bounds, so far as `Display` of
+/// the bounds promises what it prints.
 pub fn printed<T: fmt::Display>()
     ensures { ⟦<PgRange<T> as fmt::Display>⟧.output ≡ range_text T.output }
 {}
 
-/// Two ranges are equal where both are empty, or their bounds are of one form and equal.
+/// Two ranges are equal iff both are empty, or their bounds are of the same kind and have equal values.
 pub fn equal_by_bounds<T: PartialEq>()
     ensures { (a : _) (b : _) → ⟦<PgRange<T> as PartialEq>⟧.eq a b ≡ range_eq T.eq a b }
 {}

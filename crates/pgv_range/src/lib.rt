@@ -1,5 +1,5 @@
-//! Ranges: the empty one, or two bounds of a type, each included, excluded or missing, with what they are written as and read of.
-//! Every type that can be written or read can be the type of the bounds.
+//! Ranges: the empty one, or two bounds of a type, each included, excluded or missing, with what they are written as
+//! and read from. Every type that can be written or read can be the type of the bounds.
 #![tactic(auto)]
 
 mod codec;

@@ -8,8 +8,9 @@ ghost use Rattle.pgv_range.specs.declared.range.PgRange.TheVariants.{Bounds, Emp
 use std::fmt;
 use std::ops::{Bound, Range, RangeFrom, RangeInclusive, RangeTo, RangeToInclusive};
 
-/// A range of PostgreSQL ("Range Types"): no value at all, or all from a lower to an upper bound. Nothing is asked of the bounds, so
-/// the lower one may be above the upper one, and `10..10` is a range of bounds, although a server reads no value in it.
+/// A range of PostgreSQL ("Range Types"): no value at all, or all from a lower to an upper bound. The bounds may be
+/// any, so the lower one may be above the upper one, and `10..10` is a range of bounds, although for a server it has no
+/// value.
 #[derive(Clone, Copy, PartialEq, Eq, Debug)]
 pub enum PgRange<T> {
     /// The empty range, which has no bounds.
@@ -33,7 +34,7 @@ impl<T> PgRange<T> {
         PgRange::Empty
     }
 
-    /// Whether the range is the empty one. One of bounds is not, whatever lies between them.
+    /// Whether the range is the empty one. A range of bounds is not, whatever values are between them.
     pub fn is_empty(&self) -> bool
         ensures { result ≡ is_empty_range self.now }
     {
@@ -43,7 +44,7 @@ impl<T> PgRange<T> {
         }
     }
 
-    /// The lower bound and the upper one, with their values lent; `None` for the empty range.
+    /// The lower and the upper bound, by reference; `None` for the empty range.
     pub fn bounds(&self) -> Option<(Bound<&T>, Bound<&T>)>
         ensures { option_map (λ b. (bound_map (λ x. x.now) b.0, bound_map (λ x. x.now) b.1)) result ≡ bounds_of self.now }
     {
@@ -53,7 +54,7 @@ impl<T> PgRange<T> {
         }
     }
 
-    /// The lower bound, with its value lent. The empty range has none: `is_empty` is the test.
+    /// The lower bound, by reference. It must not be called on the empty range, which has none: test with `is_empty`.
     pub fn start_bound(&self) -> Bound<&T>
         requires { is_empty_range self.now ≡ false }
         ensures { lower_of self.now ≡ Some (bound_map (λ x. x.now) result) }
@@ -64,7 +65,7 @@ impl<T> PgRange<T> {
         }
     }
 
-    /// The upper bound, with its value lent. The empty range has none: `is_empty` is the test.
+    /// The upper bound, by reference. It must not be called on the empty range, which has none: test with `is_empty`.
     pub fn end_bound(&self) -> Bound<&T>
         requires { is_empty_range self.now ≡ false }
         ensures { upper_of self.now ≡ Some (bound_map (λ x. x.now) result) }
@@ -172,8 +173,9 @@ impl<T> From<RangeToInclusive<T>> for PgRange<T> {
     }
 }
 
-/// `empty`; or `(` or `[`, the lower bound, `,`, the upper bound, `)` or `]`: square where the bound is included. A bound that is missing
-/// prints nothing, and a round bracket. `1..10` prints `[1,10)`. Values are printed as they are, without quotes.
+/// `empty`; or `(` or `[`, the lower bound, `,`, the upper bound, `)` or `]`: square where the bound is included. A
+/// bound that is missing prints nothing, and a round bracket. `1..10` prints `[1,10)`. Values are printed as they are,
+/// without quotes.
 impl<T: fmt::Display> fmt::Display for PgRange<T> {
     ghost use Rattle.pgv_range.specs.RangeShown.{range_text};
 

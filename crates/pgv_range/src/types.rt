@@ -23,7 +23,7 @@ pub(crate) fn element_of(type_info: &PgTypeInfo) -> Option<PgTypeRef<'_>>
     }
 }
 
-/// Whether a type is a range over one under which values of `T` are read. No type that is only declared is one.
+/// Whether a type is a range over a type under which values of `T` are read. A type that is only declared is not.
 pub fn range_compatible<T: Type>(type_info: &PgTypeInfo) -> bool
     ensures { result ≡ range_accepts T.accepts type_info.now }
 {

@@ -3,20 +3,20 @@ use Rattle.std.proofs.Common.{◌≡◌, ◌≢◌, ℕ, ℤ, ◌≤◌, Bool, t
 use Rattle.std.specs.Prelude.{flat_map, not, ok_or, IfErr}
 use Rattle.std.specs.Int.{w16, w32, to_be_bytes, from_be_bytes, cast_signed}
 use Rattle.std.proofs.lemmas.Bool.{le-ltb}
-use Rattle.pgv_value.specs.FrameBinary.{Part, front, front_length, frame_fault}
+use Rattle.pgv_value.specs.FrameBinary.{Part, front, front_length, frame_fault, field_bytes, IsField}
 use Rattle.pgv_value.specs.Laws.{AreBytes}
 use Rattle.pgv_value.specs.declared.error.CodecError.{CodecError}
 use Rattle.pgv_value.specs.declared.error.CodecError.TheVariants.{Memory, FieldCount, NegativeLength, Short, WrongLength}
 use Rattle.pgv_value.proofs.Numbers.{bytes_after}
-use Rattle.pgv_copy.specs.CopyStream.{field_bytes, IsField}
-use Rattle.pgv_row.specs.DataRow.{IsDataRow, data_row, DataRowIsRead}
-use Rattle.pgv_row.specs.Fronts.{frames_front, one_part, part_front, u16_front}
-use Rattle.pgv_row.specs.Outcome.{Outcome, Gives, IsRead, stated, exactly, allocates, fails_if, done, ◌>>=◌, ◌>>◌}
-use Rattle.pgv_row.specs.Parsed.{Parsed, ◌>>=◌ as ◌and_then◌}
-use Rattle.pgv_row.specs.Several.{several}
-use Rattle.pgv_row.proofs.Fronts.{reads_part, frames_read, frames_are, nothing_is}
-use Rattle.pgv_row.proofs.Outcomes.{answer_is, taken, taken_exactly, tested, IsOther, free_then, other_then, only_memory, another}
-use Rattle.pgv_row.proofs.Several.{are_several, several_read, never_allocate, never_out_of_memory}
+use Rattle.pgv_row.proofs.FrameCounts.{frames_read, frames_are}
+use Rattle.pgv_row.specs.DataRow.{IsDataRow, data_row, DataRowIsRead, frames_front}
+use Rattle.pgv_value.specs.Fronts.{one_part, part_front, u16_front}
+use Rattle.pgv_value.specs.Outcome.{Outcome, Gives, IsRead, stated, exactly, allocates, fails_if, done, ◌>>=◌, ◌>>◌}
+use Rattle.pgv_value.specs.Parsed.{Parsed, ◌>>=◌ as ◌and_then◌}
+use Rattle.pgv_value.specs.Several.{several}
+use Rattle.pgv_value.proofs.ReadFronts.{reads_part, nothing_is}
+use Rattle.pgv_value.proofs.Outcomes.{answer_is, taken, taken_exactly, tested, IsOther, free_then, other_then, only_memory, another}
+use Rattle.pgv_value.proofs.Several.{are_several, several_read, never_allocate, never_out_of_memory}
 
 row_by : (room width : ℕ) (bytes frames : List ℕ) (row : List Part) → frames_front width bytes ≡ Ok frames → (several one_part width frames).answer ≡ Ok (row, []) → (data_row room width bytes).answer ≡ Ok row
 unfolding data_row

@@ -12,13 +12,13 @@ use Rattle.pgv_value.specs.declared.value.PgValueFormat.{PgValueFormat}
 use Rattle.pgv_value.specs.declared.value.PgValueFormat.TheVariants.{Text, Binary}
 use Rattle.pgv_value.proofs.Numbers.{bytes_after}
 use Rattle.pgv_row.specs.ColumnView.{Column}
-use Rattle.pgv_row.specs.Description.{KnownTypes, type_by, format_of, format_number, column_front, description, column_bytes, IsColumn, IsDescription, DescriptionIsRead}
-use Rattle.pgv_row.specs.Fronts.{i16_front, u16_front, u32_front, name_front}
-use Rattle.pgv_row.specs.Outcome.{Outcome, Gives, IsRead, exactly, allocates, done, ◌>>=◌, ◌>>◌}
-use Rattle.pgv_row.specs.Several.{several, ReadsOne}
-use Rattle.pgv_row.proofs.Fronts.{u16_there, u16_is, i16_there, i16_is, u32_there, u32_is, IsName, name_there, name_is, format_there, format_is, nothing_is}
-use Rattle.pgv_row.proofs.Outcomes.{answer_is, taken, taken_exactly, tested, only_memory}
-use Rattle.pgv_row.proofs.Several.{are_several, several_read}
+use Rattle.pgv_row.specs.Description.{KnownTypes, type_by, column_front, description, column_bytes, IsColumn, IsDescription, DescriptionIsRead}
+use Rattle.pgv_value.specs.Fronts.{i16_front, u16_front, u32_front, name_front, format_of, format_number}
+use Rattle.pgv_value.specs.Outcome.{Outcome, Gives, IsRead, exactly, allocates, done, ◌>>=◌, ◌>>◌}
+use Rattle.pgv_value.specs.Several.{several, ReadsOne}
+use Rattle.pgv_value.proofs.ReadFronts.{u16_there, u16_is, i16_there, i16_is, u32_there, u32_is, IsName, name_there, name_is, format_there, format_is, nothing_is}
+use Rattle.pgv_value.proofs.Outcomes.{answer_is, taken, taken_exactly, tested, only_memory}
+use Rattle.pgv_value.proofs.Several.{are_several, several_read}
 
 -- ---- a column is read
 

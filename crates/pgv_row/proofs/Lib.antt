@@ -1,6 +1,4 @@
-pub mod Outcomes
-pub mod Several
-pub mod Fronts
+pub mod FrameCounts
 pub mod Cut
 pub mod Places
 pub mod DataRows

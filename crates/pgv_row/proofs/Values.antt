@@ -5,7 +5,7 @@ use Rattle.pgv_codec.specs.Refusing.{RefusedBy, ExactlyBy, RefusedExactly, Refus
 use Rattle.pgv_value.specs.Reading.{Refuses, Answers, AnswersExactly}
 use Rattle.pgv_value.specs.declared.error.CodecError.{CodecError}
 use Rattle.pgv_value.specs.declared.error.CodecError.TheVariants.{Memory}
-use Rattle.pgv_row.specs.Outcome.{Outcome, Fails, Gives}
+use Rattle.pgv_value.specs.Outcome.{Outcome, Fails, Gives}
 
 or_memory : (e : CodecError) {P : Type 0} → Refuses e P → (e ≡ Memory) ⊎ ((e ≢ Memory) × P)
 or_memory Memory r = inl refl

@@ -3,15 +3,15 @@
 -- A body is a row (`IsDataRow`) of as many columns as the description has. How it is read (`data_row`): a number of columns that
 -- isn't there is C15, another than the description's C12, a frame that isn't there C15 or C16, and bytes after the last frame C17.
 -- Memory is asked for only where the room for places is smaller than the row.
-use Rattle.std.specs.Prelude.{◌≡◌, ◌↔◌, ℕ, ◌<◌, ◌^◌, nat_eq, nat_lt, not, List, length, Ok}
+use Rattle.std.specs.Prelude.{◌≡◌, ◌↔◌, ℕ, ◌<◌, ◌^◌, nat_eq, nat_lt, not, List, length, Ok, Err, if◌then◌else◌}
 use Rattle.std.specs.List.{AllByRecursion}
-use Rattle.pgv_value.specs.FrameBinary.{Part}
+use Rattle.pgv_value.specs.FrameBinary.{Part, row_bytes, IsField}
 use Rattle.pgv_value.specs.Laws.{AreBytes}
-use Rattle.pgv_value.specs.declared.error.CodecError.TheVariants.{WrongLength}
-use Rattle.pgv_copy.specs.CopyStream.{row_bytes, IsField}
-use Rattle.pgv_row.specs.Fronts.{frames_front, one_part}
-use Rattle.pgv_row.specs.Outcome.{Outcome, exactly, allocates, fails_if, done, ◌>>=◌, ◌>>◌}
-use Rattle.pgv_row.specs.Several.{several}
+use Rattle.pgv_value.specs.declared.error.CodecError.TheVariants.{FieldCount, WrongLength}
+use Rattle.pgv_value.specs.Fronts.{u16_front, one_part}
+use Rattle.pgv_value.specs.Outcome.{Outcome, exactly, allocates, fails_if, done, ◌>>=◌, ◌>>◌}
+use Rattle.pgv_value.specs.Parsed.{Parsed, ◌>>=◌ as ◌and_then◌}
+use Rattle.pgv_value.specs.Several.{several}
 
 -- ---- what a body is
 
@@ -23,6 +23,10 @@ pub record IsDataRow (width : ℕ) (bytes : List ℕ) (row : List Part) : Type 0
   pub each : AllByRecursion IsField row
 
 -- ---- how it is read
+
+-- the frames of a row, where there are as many as columns, else C12
+unfoldable pub frames_front : ℕ → List ℕ → Parsed (List ℕ)
+frames_front width bytes = u16_front bytes and_then λ count. if nat_eq count.0 width then Ok count.1 else Err FieldCount
 
 -- the parts of a row, where there is room for so many places
 unfoldable pub data_row : ℕ → ℕ → List ℕ → Outcome (List Part)

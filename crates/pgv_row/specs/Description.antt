@@ -14,10 +14,10 @@ use Rattle.pgv_value.specs.declared.error.CodecError.TheVariants.{OutOfRange, Wr
 use Rattle.pgv_value.specs.declared.value.PgValueFormat.{PgValueFormat}
 use Rattle.pgv_value.specs.declared.value.PgValueFormat.TheVariants.{Text, Binary}
 use Rattle.pgv_row.specs.ColumnView.{Column}
-use Rattle.pgv_row.specs.Fronts.{i16_front, u16_front, u32_front, name_front}
-use Rattle.pgv_row.specs.Outcome.{Outcome, exactly, allocates, fails_if, done, ◌>>=◌, ◌>>◌}
-use Rattle.pgv_row.specs.Parsed.{Parsed}
-use Rattle.pgv_row.specs.Several.{several}
+use Rattle.pgv_value.specs.Fronts.{i16_front, u16_front, u32_front, name_front, format_of, format_number}
+use Rattle.pgv_value.specs.Outcome.{Outcome, exactly, allocates, fails_if, done, ◌>>=◌, ◌>>◌}
+use Rattle.pgv_value.specs.Parsed.{Parsed}
+use Rattle.pgv_value.specs.Several.{several}
 
 -- ---- the type of a column
 
@@ -33,9 +33,6 @@ unfoldable pub type_by : KnownTypes → ℕ → Ty
 type_by known oid = type_or (built_in oid) (type_or (known oid) (by_oid oid))
 
 -- ---- how a column is read
-
-abbrev pub format_of : ℕ → Parsed PgValueFormat
-format_of code = if nat_eq code 0 then Ok Text else if nat_eq code 1 then Ok Binary else Err OutOfRange
 
 unfoldable pub column_front : KnownTypes → List ℕ → Outcome (Column × List ℕ)
 column_front known bytes = do
@@ -63,10 +60,6 @@ abbrev pub in_format : PgValueFormat → Column → Column
 in_format format c = record c { format = format }
 
 -- ---- what a body is
-
-abbrev pub format_number : PgValueFormat → ℕ
-format_number Text = 0
-format_number Binary = 1
 
 -- its name, which a zero byte ends, and its numbers
 abbrev pub column_bytes : Column → List ℕ

@@ -3,7 +3,7 @@ use Rattle.std.specs.Prelude.{◌≡◌, ℕ, List, Option, Some, None, Result, 
 use Rattle.pgv_value.specs.declared.error.CodecError.{CodecError}
 use Rattle.pgv_value.specs.declared.error.CodecError.TheVariants.{NoField as NoSuchField}
 use Rattle.pgv_row.specs.ColumnView.{Column}
-use Rattle.pgv_row.specs.Outcome.{Outcome, Fails}
+use Rattle.pgv_value.specs.Outcome.{Outcome, Fails}
 use Rattle.pgv_row.specs.RowView.{Row}
 use Rattle.pgv_row.specs.declared.error.ColumnError.{ColumnError}
 use Rattle.pgv_row.specs.declared.error.ColumnError.TheVariants.{NotFound, Decode}

@@ -1,7 +1,3 @@
-pub mod Parsed
-pub mod Outcome
-pub mod Fronts
-pub mod Several
 pub mod DataRow
 pub mod Places
 pub mod ColumnView

@@ -6,7 +6,7 @@ use Rattle.pgv_value.specs.FrameBinary.{Part}
 use Rattle.pgv_value.specs.ValueView.{Given}
 use Rattle.pgv_value.specs.declared.error.CodecError.TheVariants.{NoField}
 use Rattle.pgv_row.specs.ColumnView.{Column, column_code}
-use Rattle.pgv_row.specs.Outcome.{Outcome, or_fail}
+use Rattle.pgv_value.specs.Outcome.{Outcome, or_fail}
 
 pub record Row : Type 0 where
   pub columns : List Column

@@ -7,7 +7,7 @@ use Rattle.pgv_value.specs.declared.error.CodecError.TheVariants.{NoField}
 use Rattle.pgv_row.specs.declared.error.ColumnError.{ColumnError}
 use Rattle.pgv_row.specs.declared.error.ColumnError.TheVariants.{NotFound, Decode}
 use Rattle.pgv_row.specs.Errors.{codec_error}
-use Rattle.pgv_row.specs.Outcome.{Outcome, Fails, or_fail, done, ◌>>=◌}
+use Rattle.pgv_value.specs.Outcome.{Outcome, Fails, or_fail, done, ◌>>=◌}
 use Rattle.pgv_row.specs.RowView.{Row, place_at}
 use Rattle.pgv_row.specs.Values.{column_value}
 

@@ -8,7 +8,7 @@ use Rattle.pgv_value.specs.Reading.{Reading}
 use Rattle.pgv_value.specs.ValueView.{Given}
 use Rattle.pgv_value.specs.declared.error.CodecError.TheVariants.{NoField, MismatchedTypes}
 use Rattle.pgv_nest.specs.NestRefusals.{Refusal, Taking}
-use Rattle.pgv_row.specs.Outcome.{Outcome, or_fail, fails_if, allocates, done, ◌>>=◌, ◌>>◌}
+use Rattle.pgv_value.specs.Outcome.{Outcome, or_fail, fails_if, allocates, done, ◌>>=◌, ◌>>◌}
 use Rattle.pgv_row.specs.RowView.{Row, value_at}
 
 -- what a type reads of a value, from what it states of itself

@@ -2,17 +2,18 @@
 
 ghost use Rattle.std.specs.Prelude.{◌≡◌, ◌==◌, true, length, map};
 ghost use Rattle.std.specs.Option.{option_copied};
-ghost use Rattle.pgv_row.specs.Description.{format_of as format_by, column_front, description, in_format, IsDescription};
-ghost use Rattle.pgv_row.specs.Outcome.{Gives, IsRead, after};
-ghost use Rattle.pgv_row.specs.Parsed.{GivesExactly};
+ghost use Rattle.pgv_row.specs.Description.{column_front, description, in_format, IsDescription};
+ghost use Rattle.pgv_value.specs.Outcome.{Gives, IsRead, after};
+ghost use Rattle.pgv_value.specs.Parsed.{GivesExactly};
 ghost use Rattle.pgv_row.specs.RowView.{column_at};
-ghost use Rattle.pgv_row.specs.Several.{several};
+ghost use Rattle.pgv_value.specs.Several.{several};
 
 use crate::catalog::{PgCatalog, type_of_oid};
-use crate::front::{name_in_front, u16_in_front};
 use crate::index::ColumnIndex;
 use pgv_types::{Oid, PgTypeInfo};
-use pgv_value::{CodecError, PgValueFormat, i16_in_front, u32_in_front};
+use pgv_value::{
+    CodecError, PgValueFormat, i16_in_front, name_in_front, u16_in_front, u32_in_front,
+};
 use std::alloc::Global;
 use std::marker::Model;
 
@@ -104,17 +105,6 @@ impl<'d> PgColumn<'d> {
     }
 }
 
-/// The format of a code: 0 is text and 1 binary. Any other is refused with C30.
-fn format_of(code: u16) -> Result<PgValueFormat, CodecError>
-    ensures { GivesExactly (λ format. format) (format_by code) result }
-{
-    match code {
-        0 => Ok(PgValueFormat::Text),
-        1 => Ok(PgValueFormat::Binary),
-        _ => Err(CodecError::OutOfRange),
-    }
-}
-
 /// The column in front, and the rest.
 #[tactic(auto, unfolding(crate::specs::Description::column_front))]
 fn column_in_front<'d, C: PgCatalog>(
@@ -130,7 +120,7 @@ fn column_in_front<'d, C: PgCatalog>(
     let (size, rest) = i16_in_front(rest)?;
     let (modifier, rest) = u32_in_front(rest)?;
     let (code, rest) = u16_in_front(rest)?;
-    let format = format_of(code)?;
+    let format = PgValueFormat::from_code(code)?;
     let type_oid = Oid(oid);
     let column = PgColumn {
         name,

@@ -4,7 +4,6 @@
 pub mod catalog;
 pub mod column;
 pub mod error;
-pub mod front;
 pub mod index;
 pub mod laws;
 mod place;

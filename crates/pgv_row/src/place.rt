@@ -2,12 +2,12 @@
 
 ghost use Rattle.std.specs.Prelude.{◌≡◌, ◌≢◌, ◌≤◌, [], length, drop, IfOk, IfErr, OnOk, vec_capacity};
 ghost use Rattle.pgv_value.specs.declared.error.CodecError.TheVariants.{Memory};
-ghost use Rattle.pgv_row.specs.DataRow.{data_row, IsDataRow};
-ghost use Rattle.pgv_row.specs.Fronts.{frames_front, one_part, part_front};
-ghost use Rattle.pgv_row.specs.Outcome.{Gives, IsRead};
-ghost use Rattle.pgv_row.specs.Parsed.{GivesExactly};
+ghost use Rattle.pgv_row.specs.DataRow.{data_row, IsDataRow, frames_front};
+ghost use Rattle.pgv_value.specs.Fronts.{one_part, part_front};
+ghost use Rattle.pgv_value.specs.Outcome.{Gives, IsRead};
+ghost use Rattle.pgv_value.specs.Parsed.{GivesExactly};
 ghost use Rattle.pgv_row.specs.Places.{part_at, parts_at, IsWithin, AreWithin};
-ghost use Rattle.pgv_row.specs.Several.{several};
+ghost use Rattle.pgv_value.specs.Several.{several};
 
 use pgv_value::{CodecError, part_in_front};
 
@@ -23,7 +23,7 @@ pub struct Place {
 /// That the number of columns in front is this one: C15 where no number is there, and C12 where it is another. The frames come after
 /// its two bytes.
 #[inline(always)]
-#[tactic(auto, unfolding(crate::specs::Fronts::frames_front, crate::specs::Fronts::u16_front))]
+#[tactic(auto, unfolding(crate::specs::DataRow::frames_front, pgv_value::specs::Fronts::u16_front))]
 fn check_count(bytes: &[u8], width: usize) -> Result<(), CodecError>
     ensures exact { GivesExactly (λ _. drop 2 bytes.now) (frames_front width bytes.now) result }
     ensures long { OnOk result (2 ≤ length bytes.now) }

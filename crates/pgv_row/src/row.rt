@@ -5,7 +5,7 @@ ghost use Rattle.pgv_value.specs.declared.error.CodecError.TheVariants.{FieldCou
 ghost use Rattle.pgv_row.specs.DataRow.{data_row, IsDataRow};
 ghost use Rattle.pgv_row.specs.Errors.{GivesColumn};
 ghost use Rattle.pgv_row.specs.declared.error.ColumnError.TheVariants.{NotFound};
-ghost use Rattle.pgv_row.specs.Outcome.{Gives, IsRead};
+ghost use Rattle.pgv_value.specs.Outcome.{Gives, IsRead};
 ghost use Rattle.pgv_row.specs.Places.{part_at, IsWithin};
 ghost use Rattle.pgv_row.specs.RowParts.{body_of, capacity};
 ghost use Rattle.pgv_row.specs.RowView.{column_there};

@@ -1,7 +1,7 @@
 //! Rows as tuples: each column in order is a field.
 
 ghost use Rattle.std.specs.Prelude.{◌≡◌, ◌+◌, ℕ, IfOk, IfErr};
-ghost use Rattle.pgv_row.specs.Outcome.{Gives, Outcome};
+ghost use Rattle.pgv_value.specs.Outcome.{Gives, Outcome};
 ghost use Rattle.pgv_row.specs.RowView.{Row};
 ghost use Rattle.pgv_row.specs.Tuples.{column_parse, columns_parse, or_codec, IsFirstRefused, IsRefused};
 ghost use Rattle.pgv_row.specs.Values.{parse_by};

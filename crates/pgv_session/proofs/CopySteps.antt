@@ -14,7 +14,8 @@ use Rattle.pgv_value.specs.ValueView.{Given}
 use Rattle.pgv_value.specs.declared.error.CodecError.{CodecError}
 use Rattle.pgv_value.specs.declared.error.CodecError.TheVariants.{Memory}
 use Rattle.pgv_value.specs.declared.value.PgValueFormat.TheVariants.{Binary as InBinary}
-use Rattle.pgv_copy.specs.CopyBinary.{Read, Step, header, before, step}
+use Rattle.pgv_value.specs.Parsed.{Parsed}
+use Rattle.pgv_copy.specs.CopyBinary.{Step, header, before, step}
 use Rattle.pgv_copy.specs.CopyView.{Copying}
 use Rattle.pgv_session.specs.CopiedView.{infos, ShowsField, FieldsFrom, ShowsRow, CopiesIn, YieldsIn}
 use Rattle.pgv_session.specs.Lines.{before as before_mark, rest_after, words, with_first}
@@ -104,7 +105,7 @@ ends : (w : Option (List Row)) (types : List Ty) (bytes rest : List ℕ) (texts 
     ((columns : List Row) → w ≡ Some columns → EndsWith columns texts (step reader) answer) → CopiesIn w types (header bytes) answer
 ends None column_types bytes rest texts reader answer hd y a = tt
 ends (Some columns) column_types bytes rest texts reader answer hd y a =
-    λ e. subst (λ (r : Read (List ℕ)). CopiesFrom columns r answer) (sym hd) (texts, reader, y e, a columns refl)
+    λ e. subst (λ (r : Parsed (List ℕ)). CopiesFrom columns r answer) (sym hd) (texts, reader, y e, a columns refl)
 
 refused_here : (w : Option (List Row)) (columns : List Row) (row : List Given) (text : Text) → w ≡ Some columns → ShowsRow w row (Refused text) → ShowsRow (Some columns) row (Refused text)
 refused_here w columns row text e h = subst (λ (x : Option (List Row)). ShowsRow x row (Refused text)) e h

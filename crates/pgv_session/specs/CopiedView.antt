@@ -5,7 +5,8 @@ use Rattle.std.specs.declared.alloc.Global.{Global}
 use Rattle.pgv_types.specs.Ty.{Ty}
 use Rattle.pgv_value.specs.ValueView.{Given}
 use Rattle.pgv_value.specs.declared.value.PgValueFormat.TheVariants.{Binary as InBinary}
-use Rattle.pgv_copy.specs.CopyBinary.{Read, before}
+use Rattle.pgv_value.specs.Parsed.{Parsed}
+use Rattle.pgv_copy.specs.CopyBinary.{before}
 use Rattle.pgv_copy.specs.CopyView.{Copying}
 use Rattle.pgv_session.specs.Session.{field_shown, fields_shown, row_shown, row_refused, Yields, CopiesFrom, RefusedAs}
 use Rattle.pgv_session.specs.Types.{Row}
@@ -40,7 +41,7 @@ ShowsRow (Some columns) row (Said text) = row_shown columns row ≡ Some (string
 ShowsRow (Some columns) row (Refused text) = (row_shown columns row ≡ None) × RefusedAs (row_refused columns row) (string_bytes text)
 
 -- what is answered to a stream of columns of these types
-abbrev pub CopiesIn : Option (List Row) → List Ty → Read (List ℕ) → List ℕ → Type 0
+abbrev pub CopiesIn : Option (List Row) → List Ty → Parsed (List ℕ) → List ℕ → Type 0
 CopiesIn None types rest answer = ⊤
 CopiesIn (Some columns) types rest answer = types ≡ infos columns → CopiesFrom columns rest answer
 

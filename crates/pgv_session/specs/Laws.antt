@@ -4,14 +4,14 @@ use Rattle.pgv_session.specs.Lines.{request}
 use Rattle.pgv_session.specs.Session.{lines_of, AreLines}
 use Rattle.pgv_session.specs.Spelled.{Request, Asks}
 
--- What is computed of a line is what it asks for.
+-- The computed request, or none, is what the line asks for, and the other way round.
 abbrev pub RequestIsItsSpelling : Type 0
 RequestIsItsSpelling = (line : List ℕ) (asked : Option Request) → (request line ≡ asked) ↔ Asks line asked
 
--- A line asks for one thing only.
+-- A line asks for at most one request.
 abbrev pub OneRequest : Type 0
 OneRequest = (line : List ℕ) (asked other : Option Request) → Asks line asked → Asks line other → asked ≡ other
 
--- The lines that are computed of an input are those that it is put together of.
+-- The computed lines of an input are those that it is put together from.
 abbrev pub InputIsItsLines : Type 0
 InputIsItsLines = (input : List ℕ) (lines : List (List ℕ)) → (lines_of input ≡ lines) ↔ AreLines input lines

@@ -18,7 +18,8 @@ use Rattle.pgv_value.specs.Codes.{code_of}
 use Rattle.pgv_value.specs.ValueView.{Given}
 use Rattle.pgv_value.specs.declared.error.CodecError.{CodecError}
 use Rattle.pgv_nest.specs.NestRefusals.{refusal_or}
-use Rattle.pgv_copy.specs.CopyBinary.{Read, Step, header, before, step}
+use Rattle.pgv_value.specs.Parsed.{Parsed}
+use Rattle.pgv_copy.specs.CopyBinary.{Step, header, before, step}
 use Rattle.pgv_copy.specs.CopyView.{Copying}
 use Rattle.pgv_value.specs.declared.value.PgValueFormat.TheVariants.{Text as InText, Binary as InBinary}
 use Rattle.pgv_wire.specs.Arguments.{Argument, Framed, all_tokens, types_in, filled_arguments}
@@ -149,7 +150,7 @@ EndsWith columns texts (Err e) answer = answer ≡ refused (code_of e)
 EndsWith columns texts (Ok (None, next)) answer = answer ≡ rows_told texts
 EndsWith columns texts (Ok (Some row, next)) answer = (row_shown columns row ≡ None) × RefusedAs (row_refused columns row) answer
 
-abbrev pub CopiesFrom : List Row → Read (List ℕ) → List ℕ → Type 0
+abbrev pub CopiesFrom : List Row → Parsed (List ℕ) → List ℕ → Type 0
 CopiesFrom columns (Err e) answer = answer ≡ refused (code_of e)
 CopiesFrom columns (Ok rest) answer =
     (texts : List (List ℕ)) × (last : Copying) × Yields columns (before (map (λ c. c.info) columns) rest) texts last × EndsWith columns texts (step last) answer

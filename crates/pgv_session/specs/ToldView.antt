@@ -1,4 +1,4 @@
--- What is told of a value: a text, or why it is refused.
+-- What is reported of a value: a text, or why it is refused.
 use Rattle.std.specs.Prelude.{◌≡◌, ℕ, Bool, true, false, List, Option, Some, None, IsSome, string_bytes, ⊤}
 use Rattle.pgv_value.specs.declared.value.PgValueFormat.TheVariants.{Binary}
 use Rattle.pgv_session.specs.Spelled.{Ask, to_read}

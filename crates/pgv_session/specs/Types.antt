@@ -1,6 +1,6 @@
--- The TYPEs of the lines, one table of the names that there are: for each its type, what is read under it, what is written, and
--- which refusal is answered of what is not read and of what is read and has no frame, out of memory aside.
--- A name that is not in the table is answered as a line that asks for nothing.
+-- The TYPEs of the lines, one table of the names that there are: for each its type, what is read under it, what is
+-- written, and which refusal is answered, apart from out of memory, if a value is not read, or is read and has no
+-- frame. A name that is not in the table is answered as a line that asks for nothing.
 use Rattle.std.specs.Prelude.{ℕ, codes, bytes_eq, List, [], ◌∷◌, Option, Some, None, option_map, if◌then◌else◌}
 use Rattle.std.specs.Int.{w8, w16, w32, w64}
 use Rattle.pgv_types.specs.Ty.{Ty, builtin, named}

@@ -1,18 +1,19 @@
-//! Laws of the definitions: what holds of every line and of every input, with nothing to run.
+//! Laws of lines and inputs: each is the contract of a function that does nothing.
 
 ghost use Rattle.pgv_session.specs.Laws.{InputIsItsLines, OneRequest, RequestIsItsSpelling};
 
-/// The request that is computed of a line is the one that it spells, and a line that spells one is found.
+/// `request` computes a request, or that there is none, from a line iff the line asks for this.
 pub fn request_is_its_spelling()
     ensures { RequestIsItsSpelling }
 {}
 
-/// No line asks for two things.
+/// A line asks for at most one request.
 pub fn one_request()
     ensures { OneRequest }
 {}
 
-/// The lines of an input are those that it is put together of: each with its line feed, which the last may lack.
+/// `lines_of` splits an input into lines iff the input is put together from these lines, each with its line feed, which
+/// the last may lack.
 pub fn input_is_its_lines()
     ensures { InputIsItsLines }
 {}

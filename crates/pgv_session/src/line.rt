@@ -41,7 +41,7 @@ pub enum Request<'a> {
     Copy(Vec<u8>, &'a [u8]),
 }
 
-/// What stands before the first byte of a kind, and after it, where there is one.
+/// The bytes before the first `mark`, and those after it, if there is one.
 pub fn split_at_byte(line: &[u8], mark: u8) -> (&[u8], Option<&[u8]>)
     ensures before { result.0.now ≡ before mark line.now }
     ensures rest { option_copied result.1 ≡ rest_after mark line.now }

@@ -12,7 +12,7 @@ use pgv_wire::PgArguments;
 use std::alloc::Global;
 use std::io::{BufRead, Error, ErrorKind, Write};
 
-/// Why a session ended before its input did. What was written before is not said.
+/// Why a session ended before its input did. It does not say what was written before.
 #[derive(Clone, Copy, PartialEq, Eq, Debug)]
 pub enum RunFault {
     /// Reading failed.

@@ -15,7 +15,7 @@ use pgv_value::CodecError;
 use pgv_wire::PgArguments;
 use std::alloc::{AllocError, Global};
 
-/// Answers a line. Only out of memory is an error; what the arguments are then is not said.
+/// Answers a line. Only out of memory is an error, and then nothing is promised of the arguments.
 pub fn answer(alloc: Global, arguments: &mut PgArguments, line: &[u8]) -> Result<String, AllocError>
     ensures { IfOk result (λ text. Answers line.now arguments.old (string_bytes text) arguments.new) }
 {

@@ -32,12 +32,12 @@ use pgv_wire::PgArguments;
 use std::alloc::{AllocError, Global};
 use uuid::Uuid;
 
-/// What is told of a value.
+/// The response of a TYPE to what is asked of a value.
 #[derive(Drop)]
 pub enum Told {
     /// What was asked for.
     Said(String),
-    /// Why there is none.
+    /// Why it is refused.
     Refused(String),
 }
 
@@ -249,7 +249,7 @@ fn frame_text<T: Encode + Type>(alloc: Global, value: &T) -> Result<Told, AllocE
     }
 }
 
-/// `refused Cn`. Out of memory (C1) is none of a session's refusals.
+/// `refused Cn`. Out of memory (C1) is not a refusal of a session.
 pub fn refusal(alloc: Global, error: &CodecError) -> Result<String, AllocError>
     ensures refused { IfOk result (λ text. IsRefusal (string_bytes text)) }
     ensures told { IfOk result (λ _. error.now ≢ Memory) }
@@ -262,7 +262,7 @@ pub fn refusal(alloc: Global, error: &CodecError) -> Result<String, AllocError>
     format!(in alloc; "refused C{number}")
 }
 
-/// The same, as what is told of a value.
+/// The same, as the response to what is asked of a value.
 fn told_refusal(alloc: Global, error: &CodecError) -> Result<Told, AllocError>
     ensures refused { IfOk result (λ told. IsRefusal (told_text told)) }
     ensures told { IfOk result (λ _. error.now ≢ Memory) }

@@ -42,7 +42,7 @@ fn lists_are_read_and_written(rt: HostRuntime) -> Result<(), CodecError> {
     Ok(())
 }
 
-/// Fills the arguments of a search with what a server told.
+/// Fills the arguments of a search with what a server reported.
 fn fill_search(
     alloc: Global,
     arguments: &mut PgArguments,

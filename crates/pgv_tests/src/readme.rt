@@ -3,7 +3,7 @@
 use pgv::{CodecError, Decode, PgArguments, PgType, PgTypeInfo, PgValueFormat, PgValueRef};
 use std::alloc::Global;
 
-/// What a statement with a number and a text is bound with: two frames.
+/// The parameters of a statement, a number and a text: two frames.
 fn bound(alloc: Global) -> Result<PgArguments, CodecError> {
     let mut arguments = PgArguments::new(alloc);
     arguments.add(7)?;

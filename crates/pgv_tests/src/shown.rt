@@ -39,7 +39,7 @@ pub fn push_line(out: &mut String, line: &str) -> Result<(), AllocError> {
     out.push('\n')
 }
 
-/// Answers, each on a line. Want of memory is told at the end, so that a line needs no `?`.
+/// Answers, each on a line. Out of memory is reported at the end, so that a line needs no `?`.
 #[derive(Drop)]
 pub struct Lines {
     alloc: Global,

@@ -55,7 +55,7 @@ fn domain(alloc: Global) -> Result<PgTypeInfo, AllocError> {
     PgTypeInfo::custom(alloc, Oid(16400), "id", int4)
 }
 
-/// A type that a server told of, by its name here.
+/// A type that a server described, by its name here.
 fn told(alloc: Global, name: &str) -> Result<PgTypeInfo, AllocError> {
     match name {
         "foo 16500" => PgTypeInfo::custom(alloc, Oid(16500), "foo", PgTypeKind::Simple),

@@ -38,6 +38,6 @@ prefix_value _ = None
 
 -- ---- the law
 
--- An address is computed of a text exactly where the text writes it, in the grammar of `parse`.
+-- An address is computed from a text iff the grammar of `parse` assigns it to the text.
 abbrev pub AddressIsItsValue : Type 0
 AddressIsItsValue = (text : List ℕ) (address : IpAddr) → (address_value text ≡ Some address) ↔ IsIpText text address

@@ -10,9 +10,9 @@
 --   says nothing.
 -- - An instant (`IsInstantText`) is the same with an offset of either sign, which is taken off. It is an instant of jiff.
 -- - A time with its offset (`IsTimeTzText`) is a time and an offset.
--- Numbers are computed of them: a date's day from 1970-01-01, a time's nanoseconds, nanoseconds from 1970 of a date-time and of
--- an instant, seconds of an offset. Laws: the number is computed exactly where the text is a value with that number
--- (`date_is_its_value` and its like); no text is two values (`one_date` and its like).
+-- Numbers are computed from them: a date's day from 1970-01-01, a time's nanoseconds, nanoseconds from 1970 of a
+-- date-time and of an instant, seconds of an offset. Laws: the number is computed exactly where the text is a value
+-- with that number (`date_is_its_value` and its like); no text is two values (`one_date` and its like).
 use Rattle.std.specs.Prelude.{◌≡◌, ◌↔◌, ℕ, ◌+◌, ◌*◌, ◌<◌, ◌⊎◌, Bool, nat_lt, nat_le, ◌==◌, ◌&&◌, if◌then◌else◌, ℤ, pos, neg_ℤ, true, ◌+ℤ◌, ◌-ℤ◌, ◌*ℤ◌, int_le, List, [], ◌∷◌, ◌++◌, Option, Some, None, option_map, codes}
 use Rattle.std.specs.Option.{is_some}
 use Rattle.jiff_core.specs.Calendar.{days_in_month, days_from_civil}
@@ -214,18 +214,18 @@ time_tz_value text = do
 
 -- ---- what a reader answers, and the laws
 
--- The value that the text is, or that it is none.
+-- The value that the text denotes, or that it denotes none.
 abbrev pub IsValueOf : {A : Type 0} → (List ℕ → A → Type 0) → List ℕ → Option A → Type 0
 IsValueOf Is text (Some value) = Is text value
 IsValueOf {A} Is text None = (value : A) → ¬ (Is text value)
 
--- A text is a value exactly where that value's number is computed of it, and each number that is computed is a value's.
+-- The number of a value is computed from a text iff the text denotes this value, and each computed number is a value's.
 abbrev pub IsComputedAs : {A B : Type 0} → (List ℕ → A → Type 0) → (A → B) → (List ℕ → Option B) → Type 0
 IsComputedAs {A} {B} Is view value =
     ((text : List ℕ) (a : A) → (value text ≡ Some (view a)) ↔ Is text a)
     × ((text : List ℕ) (b : B) → value text ≡ Some b → (a : A) × (view a ≡ b))
 
--- A text is one value at most.
+-- A text denotes at most one value.
 abbrev pub IsOne : {A : Type 0} → (List ℕ → A → Type 0) → Type 0
 IsOne {A} Is = (text : List ℕ) (a b : A) → Is text a → Is text b → a ≡ b
 

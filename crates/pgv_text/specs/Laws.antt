@@ -12,22 +12,22 @@ use Rattle.pgv_text.specs.NestText.{Pairwise, Nest, IsNestText}
 use Rattle.pgv_text.specs.Parsed.{nest_of}
 use Rattle.pgv_text.specs.Values.{array_values, record_values}
 
--- What is computed of a text is what it is of.
+-- Values and brackets are computed from a text iff the grammar assigns them to the text.
 abbrev pub NestIsComputed : Type 0
 NestIsComputed = (form : TextForm) (text : List ℕ) (nest : Nest) → (nest_of (form_of form) text ≡ Some nest) ↔ IsNestText (form_of form) text nest
 
--- No text is of two lists, nor of two readings of its brackets.
+-- A text denotes at most one list of values, with one reading of its brackets.
 abbrev pub OneNest : Type 0
 OneNest = (form : TextForm) (text : List ℕ) (nest other : Nest) → IsNestText (form_of form) text nest → IsNestText (form_of form) text other → nest ≡ other
 
--- The computed values are those that the text is of.
+-- Values are computed from a text iff the grammar of arrays, or of records, assigns them to the text.
 abbrev pub ArrayIsItsValues : Type 0
 ArrayIsItsValues = (text : List ℕ) (values : List (Option (List ℕ))) → (array_values text ≡ Some values) ↔ IsArrayText (chars text) values
 
 abbrev pub RecordIsItsValues : Type 0
 RecordIsItsValues = (text : List ℕ) (values : List (Option (List ℕ))) → (record_values text ≡ Some values) ↔ IsRecordText (chars text) values
 
--- However the values are spelled, the text is of them.
+-- Every spelling of values, between brackets of the form, is UTF-8 and denotes these values.
 abbrev pub SpelledReadsBack : Type 0
 SpelledReadsBack = (form : TextForm) (opening closing : ℕ) (values : List (Option (List ℕ))) (spellings : List (List ℕ)) →
     (form_of form).opens opening ≡ true → (form_of form).closes closing ≡ true → AreEnough (form_of form).count values → AllByRecursion IsOptionalText values → Pairwise (IsSpelled (form_of form)) values spellings →
@@ -39,11 +39,12 @@ EveryListHasAText = (form : TextForm) (opening closing : ℕ) (values : List (Op
     (form_of form).opens opening ≡ true → (form_of form).closes closing ≡ true → AreEnough (form_of form).count values → AllByRecursion IsOptionalText values →
     (text : List ℕ) × IsUtf8 text × IsNestText (form_of form) (chars text) (record { values = values; lower = opening == 91; upper = closing == 93 })
 
--- The values of a text are texts themselves.
+-- The values of a text in UTF-8 are null or UTF-8.
 abbrev pub ValuesAreTexts : Type 0
 ValuesAreTexts = (form : TextForm) (text : List ℕ) (nest : Nest) → IsUtf8 text → IsNestText (form_of form) (chars text) nest → AllByRecursion IsOptionalText nest.values
 
--- What is computed of a range text is what it is of, and so it is of one only: of the empty range, or of one reading of two bounds.
+-- What is computed from a range text is what it is of, and so it is of one only: of the empty range, or of one reading
+-- of two bounds.
 abbrev pub RangeIsComputed : Type 0
 RangeIsComputed = (text : List ℕ) (content : RangeContent) → (range_content text ≡ Some content) ↔ IsRangeOf text content
 

@@ -47,7 +47,7 @@ pub record IsUnsignedNumber (text : List ℕ) (n : ℕ) : Type 0 where
   pub whole : text ≡ plus_text plus ++ map (λ d. 48 + d) digits
   pub value : n ≡ number_from_digits 10 digits
 
--- The number of a text, that 64 bits do not have it, or that the text is none.
+-- The number of a text, that it does not fit in 64 bits, or that the text is not a number.
 abbrev pub IsRead : List ℕ → Result ℤ NumberFault → Type 0
 IsRead text (Ok n) = IsNumber text n × FitsSigned w64 n
 IsRead text (Err OutOfRange) = (n : ℤ) × IsNumber text n × ¬ (FitsSigned w64 n)

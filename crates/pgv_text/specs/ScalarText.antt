@@ -1,7 +1,7 @@
--- The texts of "char" and of truth values (PostgreSQL: "Character Types", 8.3; "Boolean Type", 8.6).
--- A "char" (`char_value`): the empty text is 0, `\` alone is 92, and `\` and three octal digits up to 377 are that byte,
--- wrapped. Other texts that begin with `\` are none. Any other text is its first byte, wrapped. A truth value (`bool_value`) is
--- `t` or `f`.
+-- The texts of "char" and of truth values (PostgreSQL: "Character Types", 8.3; "Boolean Type", 8.6). A "char"
+-- (`char_value`): the empty text is 0, `\` alone is 92, and `\` and three octal digits up to 377 are that byte,
+-- wrapped. Other texts that begin with `\` are invalid. Any other text is its first byte, wrapped. A truth value
+-- (`bool_value`) is `t` or `f`.
 use mir.Syntax.{w8}
 use Rattle.std.specs.Prelude.{ℕ, ◌+◌, ◌-◌, ◌*◌, ℤ, pos, Bool, true, false, cond, ◌&&◌, nat_le, ◌==◌, List, [], ◌∷◌, Option, Some, None}
 use Rattle.std.specs.Option.{option_map}

@@ -150,7 +150,7 @@ fn whole_time_tz(text: &[u8]) -> Option<(Time, Offset)>
 
 /// The date of a text: `YYYY-MM-DD`, a day that exists.
 pub fn date(text: &str) -> Option<Date>
-    // The date that the text is, or that it is none.
+    // The date that the text denotes, or that it denotes none.
     ensures reads { IsValueOf IsDateText text.now result }
     // The same by the computed day number.
     ensures computed { option_map epoch_day result ≡ spec.date_value text.now }
@@ -160,7 +160,7 @@ pub fn date(text: &str) -> Option<Date>
 
 /// The time of a text: `HH:MM:SS`, perhaps with `.` and one to six digits, or exactly `24:00:00`, which is midnight.
 pub fn time(text: &str) -> Option<Time>
-    // The time that the text is, or that it is none.
+    // The time that the text denotes, or that it denotes none.
     ensures reads { IsValueOf IsTimeText text.now result }
     // The same by the computed nanoseconds.
     ensures computed { option_map time_nanos result ≡ spec.time_value text.now }
@@ -171,7 +171,7 @@ pub fn time(text: &str) -> Option<Time>
 /// The date-time of a text: a date, a space and a time, which is never `24:00:00`. An offset that begins with `+` may
 /// follow, and is ignored.
 pub fn date_time(text: &str) -> Option<DateTime>
-    // The date-time that the text is, or that it is none.
+    // The date-time that the text denotes, or that it denotes none.
     ensures reads { IsValueOf IsDateTimeText text.now result }
     // The same by the computed nanoseconds.
     ensures computed { option_map civil_nanos result ≡ spec.date_time_value text.now }
@@ -181,7 +181,7 @@ pub fn date_time(text: &str) -> Option<DateTime>
 
 /// The instant of a text: a date, a space, a time, which is never `24:00:00`, and the offset of the clock that shows them.
 pub fn instant(text: &str) -> Option<Timestamp>
-    // The instant that the text is, or that it is none.
+    // The instant that the text denotes, or that it denotes none.
     ensures reads { IsValueOf IsInstantText text.now result }
     // The same by the computed nanoseconds.
     ensures computed { option_map (λ at. at.nanosecond) result ≡ spec.instant_value text.now }
@@ -191,7 +191,7 @@ pub fn instant(text: &str) -> Option<Timestamp>
 
 /// The time of a text and its offset: the one and then the other.
 pub fn time_tz(text: &str) -> Option<(Time, Offset)>
-    // The time and the offset that the text is, or that it is none.
+    // The time and the offset that the text denotes, or that it denotes none.
     ensures reads { IsValueOf IsTimeTzText text.now result }
     // The same by the computed numbers.
     ensures computed { option_map spec.zoned_numbers result ≡ spec.time_tz_value text.now }

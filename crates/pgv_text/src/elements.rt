@@ -13,8 +13,8 @@ use super::parts::{Part, after_opening, closes_here, one_run, unquote};
 use super::scanner::{Cell, Stop, TextForm, is_nothing};
 use std::alloc::AllocError;
 
-/// The elements of an array text that are still to come. The text isn't tested before, so that a reader sees each byte once: it is an
-/// array text where the reader comes to the end. It takes no memory of its own.
+/// The elements of an array text that are still to come. The text isn't tested first, so that a reader sees each byte
+/// once: it is an array text iff the reader comes to the end. It takes no memory of its own.
 #[derive(Clone, Copy, Drop)]
 pub struct Elements<'a> {
     /// These elements and the closing bracket.
@@ -30,12 +30,12 @@ pub enum Next<'a> {
     Element(Part<'a>),
     /// The closing bracket, and nothing after it.
     End,
-    /// What no array text has there.
+    /// The text is not an array text.
     Fault,
 }
 
 impl<'a> Elements<'a> {
-    /// The elements of a text; `None` where it begins as no array text does.
+    /// The elements of a text; `None` if no array text begins like it.
     #[inline(always)]
     pub fn of_text(text: &'a str) -> Option<Self>
         ensures { MatchOption result (array_values text.now ≡ None) (λ elements. array_values text.now ≡ ahead elements) }
@@ -79,9 +79,9 @@ impl<'a> Elements<'a> {
         }
     }
 
-    /// The next element: borrowed where its bytes stand in the text one after another, alone or in quotes, else put into a text that
-    /// is handed in. Out of memory it leaves the elements as they were; none is asked for an element that is borrowed.
-    /// Of the array `{a,"b c"}` they are `a` and `b c`, both borrowed, and then there is the end.
+    /// The next element: borrowed if its bytes are one run of the text, alone or in quotes, else put into the given
+    /// text. If memory runs out, the elements stay as they were; a borrowed element asks for none. From `{a,"b c"}`
+    /// come `a` and `b c`, both borrowed, and then the end.
     #[inline(always)]
     pub fn next_borrowed(&mut self, text: &mut String) -> Result<Next<'a>, AllocError>
         ensures next { IfOk result (λ next. Follows next (string_bytes text.new) self.old self.new) }

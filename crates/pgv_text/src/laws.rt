@@ -1,4 +1,4 @@
-//! Laws of the definitions: what holds of every text, with nothing to run.
+//! Laws of the text forms: each is the contract of a function that does nothing, and holds of every text.
 
 ghost use Rattle.std.specs.Prelude.{◌≡◌, ◌↔◌, true};
 ghost use Rattle.pgv_text.specs.AddressText.{AddressIsItsValue};
@@ -10,144 +10,150 @@ ghost use Rattle.pgv_text.specs.NumberText.{NumberIsItsValue, OneNumber, OneUnsi
 
 use crate::{IpNetwork, Ipv4Network, Ipv6Network};
 
-/// A text is a number exactly where one is computed of it, and it is that one.
+/// `number_value` computes a number from a text iff the grammar of whole numbers assigns this number to the text.
 pub fn number_is_its_value()
     ensures { NumberIsItsValue }
 {}
 
-/// A text is an unsigned number exactly where one is computed of it, and it is that one.
+/// `unsigned_value` computes a number from a text iff the grammar of unsigned numbers assigns this number to the text.
 pub fn unsigned_number_is_its_value()
     ensures { UnsignedIsItsValue }
 {}
 
-/// No text is two numbers.
+/// A text denotes at most one whole number.
 pub fn one_number()
     ensures { OneNumber }
 {}
 
-/// No text is two unsigned numbers.
+/// A text denotes at most one unsigned number.
 pub fn one_unsigned_number()
     ensures { OneUnsignedNumber }
 {}
 
-/// What is computed of a text of any form is what it is of.
+/// For arrays, ranges and records, `nest_of` computes values and brackets from a text iff the grammar assigns them to
+/// the text.
 pub fn nest_is_computed()
     ensures { NestIsComputed }
 {}
 
-/// No text of any form is of two lists.
+/// In each form, a text denotes at most one list of values, with one reading of its brackets.
 pub fn one_nest()
     ensures { OneNest }
 {}
 
-/// What is computed of a range text is what it is of: the empty range, or its bounds.
+/// `range_content` computes the empty range, or two bounds, from a text iff the grammar of ranges assigns this to the
+/// text.
 pub fn range_is_computed()
     ensures { RangeIsComputed }
 {}
 
-/// No text is of two ranges: none of bounds is that of the empty range.
+/// A text denotes at most one range, so that no text of two bounds also denotes the empty range.
 pub fn one_range()
     ensures { OneRange }
 {}
 
-/// No part of a text without quotes and backslashes is copied when it is read.
+/// No part of a well-formed text without quotes and backslashes is copied when it is read.
 #[tactic(auto, using(crate::proofs::Plain::unquoted_is_not_copied))]
 pub fn unquoted_is_not_copied()
     ensures { UnquotedIsNotCopied }
 {}
 
-/// The computed elements of a text are those that it is an array text of.
+/// `array_values` computes elements from a text iff the grammar of arrays assigns these elements to the text.
 pub fn array_is_its_values()
     ensures { ArrayIsItsValues }
 {}
 
-/// The computed fields of a text are those that it is a record text of.
+/// `record_values` computes fields from a text iff the grammar of records assigns these fields to the text.
 pub fn record_is_its_values()
     ensures { RecordIsItsValues }
 {}
 
-/// The values of a text in UTF-8 are UTF-8.
+/// Each value of a well-formed text in UTF-8 is null or itself UTF-8.
 pub fn values_are_texts()
     ensures { ValuesAreTexts }
 {}
 
-/// However the values are spelled, the text is of them, and so is read back as them.
+/// Every spelling of as many optional texts as the form takes, between any brackets of the form, is UTF-8 and denotes
+/// exactly these texts.
 pub fn spelled_reads_back()
     ensures { SpelledReadsBack }
 {}
 
-/// Every list of optional texts has an array text, every one that isn't empty a record text, and every
-/// two a range text with any bracket at each end.
+/// Every list of optional texts has an array text, every list that is not empty has a record text, and every two have a
+/// range text with any bracket at each end.
 pub fn every_list_has_a_text()
     ensures { EveryListHasAText }
 {}
 
-/// A text is a date exactly where that date's day number is computed of it.
+/// `date_value` computes the day number of a date from a text iff the grammar of dates assigns this date to the text.
 pub fn date_is_its_value()
     ensures { DateIsItsValue }
 {}
 
-/// A text is a time exactly where its nanoseconds are computed of it.
+/// `time_value` computes the nanoseconds of a time from a text iff the grammar of times assigns this time to the text.
 pub fn time_is_its_value()
     ensures { TimeIsItsValue }
 {}
 
-/// A text is a date-time exactly where its nanoseconds are computed of it.
+/// `date_time_value` computes the nanoseconds of a date-time from a text iff the grammar assigns this date-time to the
+/// text.
 pub fn date_time_is_its_value()
     ensures { DateTimeIsItsValue }
 {}
 
-/// A text is an instant exactly where its nanoseconds are computed of it.
+/// `instant_value` computes the nanoseconds of an instant from a text iff the grammar assigns this instant to the text.
 pub fn instant_is_its_value()
     ensures { InstantIsItsValue }
 {}
 
-/// A text is a time with its offset exactly where their numbers are computed of it.
+/// `time_tz_value` computes the nanoseconds of a time and the seconds of its offset from a text iff the grammar assigns
+/// this time and offset to the text.
 pub fn time_tz_is_its_value()
     ensures { TimeTzIsItsValue }
 {}
 
-/// A text is a network exactly where that network's address and prefix are computed of it.
+/// `network_value` computes the address and prefix of a network from a text iff the grammar assigns this network to the
+/// text.
 pub fn network_is_its_value()
     ensures { NetworkIsItsValue }
 {}
 
-/// No text is two dates.
+/// A text denotes at most one date.
 pub fn one_date()
     ensures { OneDate }
 {}
 
-/// No text is two times.
+/// A text denotes at most one time.
 pub fn one_time()
     ensures { OneTime }
 {}
 
-/// No text is two date-times.
+/// A text denotes at most one date-time.
 pub fn one_date_time()
     ensures { OneDateTime }
 {}
 
-/// No text is two instants.
+/// A text denotes at most one instant.
 pub fn one_instant()
     ensures { OneInstant }
 {}
 
-/// No text is two times with offsets.
+/// A text denotes at most one time with its offset.
 pub fn one_time_tz()
     ensures { OneTimeTz }
 {}
 
-/// No text is two networks.
+/// A text denotes at most one network.
 pub fn one_network()
     ensures { OneNetwork }
 {}
 
-/// A text writes an address exactly where that address is computed of it.
+/// `address_value` computes an IP address from a text iff the grammar assigns this address to the text.
 pub fn address_is_its_value()
     ensures { AddressIsItsValue }
 {}
 
-/// Networks are equal exactly where they have the same address and prefix: one of version 4 is no one of version 6.
+/// Two networks are equal iff they have the same IP version, address and prefix.
 pub fn equal_networks()
     ensures four { (a b : Ipv4Network) → (⟦<Ipv4Network as PartialEq>⟧.eq a b ≡ true) ↔ ((a.ip ≡ b.ip) × (a.prefix ≡ b.prefix)) }
     ensures six { (a b : Ipv6Network) → (⟦<Ipv6Network as PartialEq>⟧.eq a b ≡ true) ↔ ((a.ip ≡ b.ip) × (a.prefix ≡ b.prefix)) }

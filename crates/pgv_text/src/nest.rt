@@ -15,11 +15,11 @@ use super::parts::Parts;
 use super::scanner::TextForm;
 use std::alloc::{AllocError, Global};
 
-/// The elements of an array text of one dimension, as `{a,"b c",NULL}`; `None` where the text is none.
+/// The elements of an array text of one dimension, as `{a,"b c",NULL}`; `None` if it is not an array text.
 pub fn array_elements(alloc: Global, text: &str) -> Result<Option<Vec<Option<String>>>, AllocError>
     // What is read is an array text of these values.
     ensures found { IfOk result (λ found. IfSome found (λ v. IsArrayText (chars text.now) (map part_bytes v.items))) }
-    // Where nothing is read, the text is none.
+    // Where nothing is read, the text is not an array text.
     ensures none { IfOk result (λ found. IfNone found ((values : List (Option (List ℕ))) → IsArrayText (chars text.now) values → ⊥)) }
     // The same by the computed values.
     ensures computed { IfOk result (λ found. option_map values_of found ≡ array_values text.now) }
@@ -32,11 +32,11 @@ pub fn array_elements(alloc: Global, text: &str) -> Result<Option<Vec<Option<Str
     }
 }
 
-/// The fields of a record text, as `(a,"b c",)`; `None` where the text is none.
+/// The fields of a record text, as `(a,"b c",)`; `None` if it is not a record text.
 pub fn record_fields(alloc: Global, text: &str) -> Result<Option<Vec<Option<String>>>, AllocError>
     // What is read is a record text of these values.
     ensures found { IfOk result (λ found. IfSome found (λ v. IsRecordText (chars text.now) (map part_bytes v.items))) }
-    // Where nothing is read, the text is none.
+    // Where nothing is read, the text is not a record text.
     ensures none { IfOk result (λ found. IfNone found ((values : List (Option (List ℕ))) → IsRecordText (chars text.now) values → ⊥)) }
     // The same by the computed values.
     ensures computed { IfOk result (λ found. option_map values_of found ≡ record_values text.now) }
@@ -49,7 +49,7 @@ pub fn record_fields(alloc: Global, text: &str) -> Result<Option<Vec<Option<Stri
     }
 }
 
-/// What a range text is of.
+/// The range that a text denotes.
 #[derive(Drop)]
 pub enum RangeText {
     /// No value at all: the text is `empty`, in upper or lower case.
@@ -67,13 +67,13 @@ pub enum RangeText {
     },
 }
 
-/// The bounds of a range text, as `["a b",)`, and whether its brackets include them, or that the range is empty; `None` where the
-/// text is none.
+/// The bounds of a range text, as `["a b",)`, and whether its brackets include them, or that the range is empty; `None`
+/// if it is not a range text.
 #[tactic(auto, using(crate::proofs::Lists::two_bounds))]
 pub fn range_parts(alloc: Global, text: &str) -> Result<Option<RangeText>, AllocError>
     // What is read is what the range text is of.
     ensures found { IfOk result (λ found. IfSome found (λ r. IsRangeOf (chars text.now) (range_of r))) }
-    // Where nothing is read, the text is none.
+    // Where nothing is read, the text is not a range text.
     ensures none { IfOk result (λ found. IfNone found ((other : RangeContent) → IsRangeOf (chars text.now) other → ⊥)) }
     // The same, computed.
     ensures computed { IfOk result (λ found. option_map range_of found ≡ range_content (chars text.now)) }

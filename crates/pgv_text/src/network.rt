@@ -15,8 +15,8 @@ pub struct Ipv4Network {
 }
 
 impl Ipv4Network {
-    /// The network of an address and a prefix, which is at most 32.
-    /// `192.168.0.0` and 24 are `192.168.0.0/24`; with 33 there is none.
+    /// The network of an address and a prefix; `None` if the prefix is above 32. `192.168.0.0` and 24 are
+    /// `192.168.0.0/24`; with 33 it is `None`.
     pub fn new(ip: Ipv4Addr, prefix: u8) -> Option<Ipv4Network>
         ensures found { IsSome result ↔ (prefix ≤ 32) }
         ensures value { IfSome result (λ network. (network.ip ≡ ip) × (network.prefix ≡ prefix)) }
@@ -51,7 +51,7 @@ pub struct Ipv6Network {
 }
 
 impl Ipv6Network {
-    /// The network of an address and a prefix, which is at most 128.
+    /// The network of an address and a prefix; `None` if the prefix is above 128.
     pub fn new(ip: Ipv6Addr, prefix: u8) -> Option<Ipv6Network>
         ensures found { IsSome result ↔ (prefix ≤ 128) }
         ensures value { IfSome result (λ network. (network.ip ≡ ip) × (network.prefix ≡ prefix)) }
@@ -90,7 +90,7 @@ impl IpNetwork {
     ghost use Rattle.pgv_text.specs.DateTimeText.{IsValueOf};
     ghost use Rattle.pgv_text.specs.NetworkText.{is_ipv4, is_ipv6, network_of, network_value, network_with, IsNetworkText};
 
-    /// The network of an address and a prefix, which is at most the number of the address's bits.
+    /// The network of an address and a prefix; `None` if the prefix is above the number of the address's bits.
     pub fn new(ip: IpAddr, prefix: u8) -> Option<IpNetwork>
         ensures { option_map network_of result ≡ network_with ip prefix }
     {
@@ -137,7 +137,7 @@ impl IpNetwork {
     /// The network of a text: an address, and perhaps `/` and a decimal number of bits without leading zeros; without
     /// it all bits of the address.
     pub fn from_str(text: &str) -> Option<IpNetwork>
-        // The network that the text is, or that it is none.
+        // The network that the text denotes, or that it denotes none.
         ensures reads { IsValueOf IsNetworkText text.now result }
         // The same by the computed address and number.
         ensures computed { option_map network_of result ≡ network_value text.now }

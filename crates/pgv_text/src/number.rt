@@ -6,12 +6,12 @@ ghost use Rattle.std.specs.Str.Parse.{IsNumeral, without_leading_plus, without_l
 ghost use Rattle.pgv_text.specs.NumberText.{IsComputed, IsRead, IsUnsignedComputed, IsUnsignedRead};
 ghost use Rattle.pgv_text.specs.ScalarText.{bool_value, char_value, octal_byte};
 
-/// Why a text is no number of its type.
+/// Why a text is not a number of its type.
 #[derive(Debug, Clone, Copy, PartialEq, Eq, Drop)]
 pub enum NumberFault {
     /// It is not written as a number.
     Syntax,
-    /// It is a number that the type does not have.
+    /// It is a number outside the type.
     OutOfRange,
 }
 
@@ -56,11 +56,11 @@ fn fault_of(is_number: bool) -> NumberFault
     }
 }
 
-/// The number of a text: perhaps `+` or `-`, and one or more digits, as PostgreSQL writes `int2`,
-/// `int4` and `int8`. A refusal says whether the text is no number, or one outside 64 bits.
+/// The number of a text: perhaps `+` or `-`, and one or more digits, as PostgreSQL writes `int2`, `int4` and `int8`. A
+/// refusal says whether the text is not a number, or a number that does not fit in 64 bits.
 #[inline(always)]
 pub fn number_of(text: &str) -> Result<i64, NumberFault>
-    // The number that the text is, and why it is none that fits.
+    // The number that the text denotes, or why it denotes none of 64 bits.
     ensures reads { IsRead text.now result }
     // The same by the computed number.
     ensures computed { IsComputed text.now result }
@@ -71,10 +71,10 @@ pub fn number_of(text: &str) -> Result<i64, NumberFault>
     }
 }
 
-/// The number of a text without a minus: perhaps `+`, and one or more digits, as PostgreSQL writes
-/// `oid`. A refusal says whether the text is no such number, or one outside 64 bits.
+/// The number of a text without a minus: perhaps `+`, and one or more digits, as PostgreSQL writes `oid`. A refusal
+/// says whether the text is not such a number, or one that does not fit in 64 bits.
 pub fn unsigned_number_of(text: &str) -> Result<u64, NumberFault>
-    // The number that the text is, and why it is none that fits.
+    // The number that the text denotes, or why it denotes none of 64 bits.
     ensures reads { IsUnsignedRead text.now result }
     // The same by the computed number.
     ensures computed { IsUnsignedComputed text.now result }

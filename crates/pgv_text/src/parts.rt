@@ -38,7 +38,7 @@ pub(crate) fn after_opening(form: TextForm, text: &str) -> Option<(u8, &str)>
     }
 }
 
-/// Whether the closing bracket of an array stands in front.
+/// Whether the closing bracket of an array is in front.
 #[inline(always)]
 pub(crate) fn closes_here(text: &str) -> bool
     ensures { result ≡ spec_closes_here array_form text.now }
@@ -74,7 +74,7 @@ fn part_count(form: TextForm, text: &str) -> Option<(usize, u8)>
     None
 }
 
-/// The same where nothing but usual bytes and commas stand before the bracket, else `None`.
+/// The same if only usual bytes and commas come before the bracket, else `None`.
 fn usual_part_count(form: TextForm, bytes: &[u8]) -> Option<(usize, u8)>
     ensures { IfSome result (λ found. Some found ≡ numbered 1 (read (form_of form) Start bytes.now)) }
 {
@@ -96,12 +96,12 @@ fn usual_part_count(form: TextForm, bytes: &[u8]) -> Option<(usize, u8)>
     None
 }
 
-/// The part in front where it is one run of bytes as they stand in the text, alone or in quotes, and where it ends.
+/// The part in front and where it ends, if it is one run of the text's bytes, alone or in quotes.
 #[inline(always)]
 pub(crate) fn one_run(form: TextForm, text: &str) -> Option<Stop<'_>>
     ensures part { IfSome result (IsPartFrom form Start text.now) }
     ensures shorter { IfSome result (λ stop. length stop.rest.now < length text.now) }
-    // It is none exactly where the part doesn't stand in the text as it is.
+    // It is `None` iff the part isn't in the text as it is.
     ensures as_it_is { is_some result ≡ as_it_is (form_of form) text.now }
     ensures copies { IfSome result (λ stop. copies_after (form_of form) Start text.now ≡ copies_from (form_of form) stop.rest.now) }
 {
@@ -168,14 +168,14 @@ pub(crate) fn unquote<'a>(
 pub enum Part<'a> {
     /// It is null or absent.
     Nothing,
-    /// These bytes, as they stand in the text.
+    /// These bytes, which are one run of the text.
     Plain(&'a str),
-    /// What was put into the text that was handed in.
+    /// The bytes that were put into the given text.
     Unquoted,
 }
 
 impl<'a> Part<'a> {
-    /// The part, where this is the text that was handed in; `None` where it is null or absent.
+    /// The part, if `text` is the one that was given; `None` if it is null or absent.
     #[inline(always)]
     pub fn in_text<'t>(self, text: &'t str) -> Option<&'t str>
     where
@@ -208,7 +208,7 @@ pub struct Parts<'a> {
 impl<'a> Parts<'a> {
     ghost use Rattle.pgv_text.specs.PartsView.{content, copies, is_of_empty, nest};
 
-    /// The parts of a text; `None` where it isn't in the form. The empty range has none.
+    /// The parts of a text; `None` if the text isn't in the form. The empty range has no parts.
     pub fn new(form: TextForm, text: &'a str) -> Option<Self>
         // The parts to come and the brackets, or the empty range, are what the text is of.
         ensures found { IfSome result (λ p. IsTextOf form (chars text.now) (content form p)) }
@@ -243,7 +243,7 @@ impl<'a> Parts<'a> {
         }
     }
 
-    /// The parts of a text between brackets, said of its bytes.
+    /// As [`new`](Parts::new), for a text between brackets; the contract speaks of bytes.
     fn begun(form: TextForm, text: &'a str) -> Option<Self>
         ensures exact { option_map nest result ≡ nest_read (form_of form) text.now }
         ensures bounded { IfSome result (λ p. is_of_empty p ≡ false) }
@@ -266,14 +266,14 @@ impl<'a> Parts<'a> {
         })
     }
 
-    /// Whether the text is that of the empty range, before and after its parts were taken.
+    /// Whether the text is that of the empty range; taking parts does not change it.
     pub fn is_empty_range(&self) -> bool
         ensures { result ≡ is_of_empty self.now }
     {
         self.of_empty
     }
 
-    /// Whether the lower and the upper bracket include the bound: no but for ranges with square ones.
+    /// Whether the lower and the upper bracket include the bound: only square brackets of a range do.
     pub fn includes(&self) -> (bool, bool)
         ensures { result ≡ ((nest self.now).lower, (nest self.now).upper) }
     {
@@ -294,8 +294,8 @@ impl<'a> Parts<'a> {
         self.count == 0
     }
 
-    /// Puts the next part into a text, and says whether it is present: one that is null or absent
-    /// leaves the text empty. `None` after the last part.
+    /// Puts the next part into a text, and returns whether it is present: a part that is null or absent leaves the text
+    /// empty. `None` after the last part.
     #[inline(always)]
     pub fn next_into(&mut self, text: &mut String) -> Result<Option<bool>, AllocError>
         ensures next { IfOk result (λ found. MatchOption found
@@ -331,10 +331,9 @@ impl<'a> Parts<'a> {
         Ok(Some(present))
     }
 
-    /// The next part: borrowed where its bytes stand in the text one after another, alone or in quotes, else put into a text that is
-    /// handed in. `None` after the last part. Out of memory it leaves the parts as they were; no memory
-    /// is asked for a part that is borrowed.
-    /// Of the array `{a,"b c"}` they are `a` and `b c`, both borrowed, and then there is none.
+    /// The next part: borrowed if its bytes are one run of the text, alone or in quotes, else put into the given text.
+    /// `None` after the last part. If memory runs out, the parts stay as they were; a borrowed part asks for none. From
+    /// the array `{a,"b c"}` come `a` and `b c`, both borrowed, and then `None`.
     #[inline(always)]
     pub fn next_borrowed(&mut self, text: &mut String) -> Result<Option<Part<'a>>, AllocError>
         ensures next { IfOk result (λ found. MatchOption found (((nest self.old).values ≡ []) × (self.new ≡ self.old)) (λ part. (nest self.old).values ≡ part_value part (string_bytes text.new) ∷ (nest self.new).values)) }
@@ -369,8 +368,8 @@ impl<'a> Parts<'a> {
         }
     }
 
-    /// The next part, in a text of its own. Out of memory it leaves the parts as they were.
-    /// Of the array `{a,NULL}` they are `a` and null, and then there is none.
+    /// The next part, in a text of its own. If memory runs out, the parts stay as they were. From the array `{a,NULL}`
+    /// come `a` and null, and then `None`.
     pub fn next_part(&mut self, alloc: Global) -> Result<Option<Option<String>>, AllocError>
         ensures next { IfOk result (λ found. MatchOption found (((nest self.old).values ≡ []) × (self.new ≡ self.old)) (λ part. (nest self.old).values ≡ part_bytes part ∷ (nest self.new).values)) }
         ensures err { OnErr result (self.new ≡ self.old) }

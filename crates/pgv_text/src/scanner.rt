@@ -21,7 +21,7 @@ pub enum TextForm {
     Record,
 }
 
-/// What a byte is to the scanner.
+/// The class of a byte, by what it may mean in a text.
 #[derive(Clone, Copy, PartialEq, Eq, Drop)]
 pub enum Class {
     Quote,
@@ -32,7 +32,7 @@ pub enum Class {
     Other,
 }
 
-/// Where the scanner stands in a part.
+/// The state of the scanner within a part.
 #[derive(Clone, Copy, PartialEq, Eq, Drop)]
 pub enum Place {
     /// At its start.
@@ -52,15 +52,15 @@ pub enum Place {
 /// What a byte does.
 #[derive(Clone, Copy, PartialEq, Eq, Drop)]
 pub enum Cell {
-    /// It belongs to the part's text.
+    /// It belongs to the part's text, and the part continues.
     Keep(Place),
-    /// It doesn't, and the part goes on.
+    /// It is dropped (a quote or a backslash), and the part continues.
     Pass(Place),
     /// The part ends, and another begins.
     Part,
-    /// The part ends, and the text.
+    /// The part ends, and the text with it.
     End,
-    /// No text goes on so.
+    /// No valid text continues with this byte.
     Refuse,
 }
 
@@ -154,7 +154,7 @@ fn class_of(form: TextForm, byte: u8) -> Class
     }
 }
 
-/// Whether a byte is one of the usual ones, letters, digits and no ASCII, that mean nothing in any form.
+/// Whether a byte is known to mean nothing in any form, as letters, digits and bytes outside ASCII are.
 #[inline(always)]
 pub fn is_never_special(byte: u8) -> bool
     ensures { result ≡ true → (form : TextForm) → class (form_of form) byte ≡ Other }
@@ -162,7 +162,7 @@ pub fn is_never_special(byte: u8) -> bool
     matches!(byte, b'-'..=b'Z' | b'^'..=b'z' | 128..)
 }
 
-/// How many usual bytes stand in front. Outside and inside quotes they belong to the part's text.
+/// How many usual bytes are in front. Outside and inside quotes they belong to the part's text.
 #[inline(always)]
 fn usual_in_front(bytes: &[u8]) -> usize
     ensures within { result ≤ length bytes.now }
@@ -178,7 +178,7 @@ fn usual_in_front(bytes: &[u8]) -> usize
     count
 }
 
-/// Whether the part that is null or absent stands here, and ends.
+/// Whether the part that begins here is null or absent.
 #[inline(always)]
 pub fn is_nothing(form: TextForm, text: &str) -> bool
     ensures { result ≡ stands (form_of form) (form_of form).nothing text.now }
@@ -200,7 +200,7 @@ pub struct Stop<'a> {
     pub rest: &'a str,
 }
 
-/// The next byte that isn't kept; `None` where there is none, and so no text of the form.
+/// The next byte that isn't kept; `None` if there is none, so that the text isn't in the form.
 #[inline(always)]
 pub fn next_stop(form: TextForm, place: Place, text: &str) -> Option<Stop<'_>>
     ensures whole { MatchOption result (read (form_of form) place text.now ≡ None) (λ s. text.now ≡ s.run.now ++ s.byte ∷ s.rest.now) }

@@ -81,7 +81,7 @@ softly a b = related true (levels a) (levels b)
 abbrev pub exactly : Ty → Ty → Bool
 exactly a b = related false (levels a) (levels b)
 
--- The rules as they read, with the relation of the elements handed in.
+-- The rules as they read, with the relation of the elements given.
 abbrev pub elements_or : (Ty → Ty → Bool) → Bool → Option Ty → Option Ty → Bool
 elements_or same names None n = names
 elements_or same names (Some x) None = names

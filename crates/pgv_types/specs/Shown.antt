@@ -25,7 +25,7 @@ kind_of (Array t) = array t
 kind_of (Enum labels) = enumeration (map rc_str_bytes (rc_slice_items labels))
 kind_of (Range t) = range t
 
--- what the server told of a custom type
+-- how the server describes a custom type
 abbrev pub custom_oid : PgCustomType → ℕ
 custom_oid c = c.oid.0
 

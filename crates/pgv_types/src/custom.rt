@@ -1,4 +1,4 @@
-//! Types that the server told of, and arrays that are declared by their element's name.
+//! Types that the server described, and arrays that are declared by their element's name.
 ghost use Rattle.std.specs.Prelude.{◌≡◌};
 ghost use Rattle.pgv_types.specs.Shown.{custom_oid, custom_name, custom_kind, element_name_of};
 ghost use Rattle.pgv_types.specs.Parts.{kind_lent};
@@ -7,7 +7,7 @@ use crate::{Oid, PgTypeKind, PgTypeKindRef, StaticText};
 use std::alloc::AllocError;
 use std::rc::RcStr;
 
-/// A type that the server told of, as its catalogue has it (PostgreSQL, "pg_type").
+/// A type that the server described, as its catalogue has it (PostgreSQL, "pg_type").
 #[derive(Drop)]
 #[cycle(types)]
 pub struct PgCustomType {
@@ -17,22 +17,21 @@ pub struct PgCustomType {
 }
 
 impl PgCustomType {
-    /// The type's own OID, of a domain too.
-    /// Of the type that `custom(alloc, Oid(16600), "mood", ..)` made it is 16600.
+    /// The type's own OID, of a domain too. For the type that `custom(alloc, Oid(16600), "mood", ..)` made it is 16600.
     pub fn oid(&self) -> Oid
         ensures { result.0 ≡ custom_oid self.now }
     {
         self.oid
     }
 
-    /// The name, as it stands in the catalogue.
+    /// The name, as the catalogue has it.
     pub fn name(&self) -> &str
         ensures { result.now ≡ custom_name self.now }
     {
         self.name.as_str()
     }
 
-    /// The kind, with its parts lent.
+    /// The kind, with its parts by reference.
     pub fn kind(&self) -> PgTypeKindRef<'_>
         ensures { kind_lent result ≡ custom_kind self.now }
     {
@@ -40,7 +39,7 @@ impl PgCustomType {
     }
 }
 
-/// Custom types are equal where their OIDs are, whatever their names and kinds.
+/// Two custom types are equal iff their OIDs are, whatever their names and kinds.
 impl PartialEq for PgCustomType {
     ghost use Rattle.pgv_types.specs.SameOid.{same_oid, same_oid_per};
 

@@ -8,7 +8,7 @@ use crate::PgTypeInfo;
 use std::alloc::AllocError;
 use std::rc::{RcSlice, RcStr};
 
-/// What kind of type it is (PostgreSQL, "pg_type", column `typtype`).
+/// The kind of a type, with the types of its parts (PostgreSQL, "pg_type", column `typtype`).
 #[derive(Drop)]
 #[cycle(types)]
 pub enum PgTypeKind {
@@ -29,7 +29,7 @@ pub enum PgTypeKind {
 }
 
 impl PgTypeKind {
-    /// The kind, with its parts lent.
+    /// The kind, with its parts by reference.
     pub(crate) fn lend(&self) -> PgTypeKindRef<'_>
         ensures { kind_lent result ≡ kind_of self.now }
     {
@@ -98,7 +98,7 @@ impl<'a> PgTypeRef<'a> {
     }
 }
 
-/// A `PgTypeKind` whose parts are lent. The parts of a built-in type are made here.
+/// A `PgTypeKind` whose parts are references. The parts of a built-in type are made here.
 #[derive(Drop)]
 pub enum PgTypeKindRef<'a> {
     /// A base type.

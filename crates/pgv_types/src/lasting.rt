@@ -1,4 +1,4 @@
-//! The right to read bytes that lie in the program for ever.
+//! The right to read bytes that last as long as the program.
 ghost use Rattle.std.specs.Prelude.{◌≡◌, ℕ, ◌^◌, ◌<◌, List, length};
 ghost use denote.RawPtr.{Ptr};
 ghost use Rattle.pgv_types.specs.Ownership.{IsPlaced, lasting_owns};

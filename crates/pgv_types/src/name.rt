@@ -1,5 +1,5 @@
-//! Names of types, and when two agree: as identifiers do, whose quotes keep the case of what stands
-//! between them (PostgreSQL, "Lexical Structure", "Identifiers and Key Words").
+//! Names of types, and when two agree: as identifiers do, whose quotes keep the case of what is between them
+//! (PostgreSQL, "Lexical Structure", "Identifiers and Key Words").
 ghost use Rattle.std.specs.Prelude.{◌≡◌, ℕ, List, ◌∷◌, ◌++◌, codes, option_to_list, Decides};
 ghost use Rattle.std.specs.Option.{option_map};
 ghost use Rattle.std.specs.Str.{chars, bytes_eq};
@@ -18,13 +18,12 @@ use std::fmt::{Alignment, Display, Formatter, Result, Write};
 pub struct IdentifierChar {
     /// The character.
     pub ch: char,
-    /// Whether it stands between quotes, where its case counts.
+    /// Whether it is between quotes, where its case counts.
     pub case_sensitive: bool,
 }
 
 impl IdentifierChar {
-    /// Whether two characters are equal, or, where neither stands between quotes, equal but for
-    /// ASCII case.
+    /// Whether two characters are equal, or, if neither is between quotes, equal but for ASCII case.
     fn is_like(self, other: IdentifierChar) -> bool
         ensures { result ≡ alike (char_seen self) (char_seen other) }
     {
@@ -163,7 +162,7 @@ fn begins_unicode(name: &str) -> bool
     matches!(name.as_bytes(), [b'U', b'&', ..])
 }
 
-/// The name of a type: a text, and `[]` after it or nothing. It is printed as it is, and never padded.
+/// The name of a type: a text, with `[]` after it or not. It is printed as it is, and never padded.
 #[derive(Clone, Copy)]
 pub struct PgTypeName<'a> {
     text: &'a str,

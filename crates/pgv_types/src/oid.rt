@@ -7,7 +7,7 @@
 #[derive(Clone, Copy, PartialEq, Eq, Hash, Debug)]
 pub struct Oid(pub u32);
 
-/// 0, which is no type's OID.
+/// The OID 0, which no type has.
 impl Default for Oid {
     ghost use Rattle.std.specs.Prelude.{◌≡◌};
 

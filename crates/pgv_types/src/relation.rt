@@ -57,8 +57,8 @@ impl PgTypeInfo {
         self.0.name().agrees(&other.0.name())
     }
 
-    /// Whether the two are softly, or else exactly, the same. However many elements stand within one another, it takes no more of
-    /// the stack.
+    /// Whether the two are softly, or else exactly, the same. It takes no more of the stack for elements within
+    /// elements.
     fn is_related(&self, other: &PgTypeInfo, soft: bool) -> bool
         ensures { result ≡ related soft (levels self.now) (levels other.now) }
     {
@@ -82,11 +82,11 @@ impl PgTypeInfo {
         }
     }
 
-    /// Whether a value of one type may stand for one of the other: the soft relation.
+    /// Whether the two types are softly the same: a value of the one is then accepted where the other is expected.
     ///
-    /// By the first rule that applies: two base OIDs, a domain's being that of the type under it,
-    /// are equal or not; yes where either type is declared by its OID; two elements, softly; else
-    /// whether the catalogue names agree. It takes no memory.
+    /// The first rule that applies decides: two known base OIDs must be equal, where a domain's is that of the type
+    /// under it; a type that is declared by its OID is the same as any other; two elements must be softly the same;
+    /// else the catalogue names must agree. It takes no memory.
     #[inline(always)]
     pub fn type_compatible(&self, other: &PgTypeInfo) -> bool
         ensures { result ≡ softly self.now other.now }
@@ -100,10 +100,10 @@ impl PgTypeInfo {
         self.is_related(other, true)
     }
 
-    /// Whether the two are one type, as far as is known: the exact relation.
+    /// Whether the two types are exactly the same, as far as is known.
     ///
-    /// As `type_compatible`, but a type that is declared by its OID has no rule of its own, and
-    /// elements are asked exactly. It takes no memory.
+    /// It decides as [`type_compatible`](PgTypeInfo::type_compatible) does, but a type that is declared by its OID has
+    /// no rule of its own, and elements must be exactly the same. It takes no memory.
     pub fn type_eq(&self, other: &PgTypeInfo) -> bool
         ensures { result ≡ exactly self.now other.now }
     {

@@ -140,7 +140,7 @@ pub enum PgType {
     Int8RangeArray,
     Jsonpath,
     JsonpathArray,
-    /// A type that the server told of. Its copies share it.
+    /// A type that the server described. Its copies share it.
     Custom(Rc<PgCustomType>),
     /// A type of which only the name is known.
     DeclareWithName(StaticText),
@@ -230,7 +230,7 @@ impl PgType {
         PgTypeName::new(self.display_text(), self.shows_brackets())
     }
 
-    /// Whether `[]` stands after the name that is shown.
+    /// Whether `[]` comes after the name that is shown.
     fn shows_brackets(&self) -> bool
         ensures { result ≡ shows_brackets (type_of self.now) }
     {
@@ -401,8 +401,7 @@ impl Clone for PgTypeInfo {
 }
 
 impl PgTypeInfo {
-    /// A type that is declared by its name. The name of an array may be written with a `_` in front.
-    /// It takes no memory.
+    /// A type that is declared by its name, which may be that of an array with a `_` in front. It takes no memory.
     pub fn with_name(name: &'static str) -> PgTypeInfo
         ensures { result ≡ named name.now }
     {
@@ -431,8 +430,8 @@ impl PgTypeInfo {
         Some(PgTypeInfo(PgType::try_from_oid(oid)?))
     }
 
-    /// A type that the server told of: its own OID, its name and its kind. An error means that there
-    /// was no memory; `kind` is dropped then.
+    /// A type that the server described, by its own OID, its name and its kind. An error means that there was no
+    /// memory; then `kind` is dropped.
     pub fn custom(
         alloc: Global,
         oid: Oid,
@@ -481,8 +480,8 @@ impl PgTypeInfo {
         }
     }
 
-    /// The type under all domains: of a domain over a domain over `int4` it is `int4`. A type that is no domain is its own.
-    /// It takes no memory, and no more of the stack for more domains.
+    /// The type under all domains: for a domain over a domain over `int4` it is `int4`, and for a type that is not a
+    /// domain the type itself. It takes no memory, and no more of the stack for more domains.
     pub fn under_domains(&self) -> &PgTypeInfo
         ensures under { result.now ≡ under_domains self.now }
         ensures last { domain_base result.now ≡ None }
@@ -516,8 +515,8 @@ impl PgTypeInfo {
     }
 }
 
-/// The display name. A width, a fill, an alignment and a precision are met as [`Formatter::pad`] meets them. The contract says so of
-/// all types but those that are shown with `[]` after a name.
+/// Prints the display name, with width, fill, alignment and precision as [`Formatter::pad`] applies them. The contract
+/// says so for all types but those that are shown with `[]` after a name.
 impl Display for PgTypeInfo {
     ghost use Rattle.std.specs.Prelude.{Some, None, if◌then◌else◌};
     ghost use Rattle.std.specs.Fmt.{styled_text};

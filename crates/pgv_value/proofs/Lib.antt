@@ -4,3 +4,6 @@ pub mod Fronts
 pub mod NetworkBytes
 pub mod Numbers
 pub mod Refusals
+pub mod Outcomes
+pub mod Several
+pub mod ReadFronts

@@ -2,8 +2,8 @@
 -- length -1 (`ffffffff`) is null.
 -- A frame at the front (`IsFrame`, `front`) is null and the rest; or a length that is not negative, that many bytes, and the
 -- rest.
-use Rattle.std.specs.Prelude.{◌≡◌, ℕ, ◌<◌, ◌^◌, nat_lt, nat_eq, List, ◌∷◌, ◌++◌, length, take, drop, Option, Some, None, if◌then◌else◌}
-use Rattle.std.specs.Int.{w32, from_be_bytes, to_be_bytes, cast_signed}
+use Rattle.std.specs.Prelude.{◌≡◌, ℕ, ◌<◌, ◌^◌, nat_lt, nat_eq, List, ◌∷◌, ◌++◌, flat_map, length, take, drop, Option, Some, None, ⊤, if◌then◌else◌}
+use Rattle.std.specs.Int.{w16, w32, from_be_bytes, to_be_bytes, cast_signed}
 use Rattle.pgv_value.specs.declared.error.CodecError.{CodecError}
 use Rattle.pgv_value.specs.declared.error.CodecError.TheVariants.{Short, NegativeLength}
 
@@ -15,6 +15,20 @@ Part = Option (List ℕ)
 abbrev pub IsFrame : List ℕ → Part → List ℕ → Type 0
 IsFrame bytes None rest = bytes ≡ 255 ∷ 255 ∷ 255 ∷ 255 ∷ rest
 IsFrame bytes (Some part) rest = (length part < 2 ^ 31) × (bytes ≡ to_be_bytes w32 (length part) ++ (part ++ rest))
+
+-- the frame of a part: a length and that many bytes, or for null the length -1
+abbrev pub field_bytes : Part → List ℕ
+field_bytes None = to_be_bytes w32 4294967295
+field_bytes (Some part) = to_be_bytes w32 (length part) ++ part
+
+-- a row: the number of its parts, and their frames
+abbrev pub row_bytes : List Part → List ℕ
+row_bytes row = to_be_bytes w16 (length row) ++ flat_map field_bytes row
+
+-- a part's length fits its four bytes
+abbrev pub IsField : Part → Type 0
+IsField None = ⊤
+IsField (Some part) = length part < 2 ^ 31
 
 -- the length that stands in front
 abbrev pub front_length : List ℕ → ℕ

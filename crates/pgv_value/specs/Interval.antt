@@ -1,4 +1,5 @@
--- Intervals (PostgreSQL: "Date/Time Types", 8.5.4, interval), and what is read of them: the first sixteen bytes, and no text.
+-- Intervals (PostgreSQL: "Date/Time Types", 8.5.4, interval), and what is read from them: the first sixteen bytes, and
+-- no text.
 use mir.Val.{SFits}
 use lib.IntN.{◌*ℤ◌}
 use Rattle.std.specs.Prelude.{◌≡◌, ◌↔◌, ℕ, nat_lt, ℤ, pos, List, length, take, drop, Option, Some, None, Result, Ok, Err, if◌then◌else◌}
@@ -48,7 +49,7 @@ interval_in_binary bytes =
     if nat_lt (length bytes) 16 then None else
     Some (record { months = signed_four_bytes (drop 12 bytes); days = signed_four_bytes (drop 8 bytes); microseconds = eight_bytes bytes })
 
--- intervals are not read of text
+-- intervals are not read from text
 abbrev pub interval_reading : Reading PgInterval
 interval_reading = binary_alone interval_in_binary
 

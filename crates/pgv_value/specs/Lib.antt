@@ -5,6 +5,10 @@ pub mod RowView
 pub mod Utf8
 pub mod FrameBinary
 pub mod Steps
+pub mod Parsed
+pub mod Outcome
+pub mod Fronts
+pub mod Several
 pub mod NumberBinary
 pub mod ScalarGrammar
 pub mod DateTimeBinary

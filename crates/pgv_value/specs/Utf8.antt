@@ -9,7 +9,7 @@ use Rattle.pgv_value.specs.declared.value.PgValueFormat.{PgValueFormat}
 abbrev pub is_utf8 : List ℕ → Bool
 is_utf8 bytes = nat_eq (utf8_valid_len bytes) (length bytes)
 
--- why no text is had: null is C13, and other bytes than UTF-8 are C14
+-- why there is no text: null is C13, and other bytes than UTF-8 are C14
 abbrev pub RefusesText : Option (List ℕ) → CodecError → Type 0
 RefusesText None e = e ≡ UnexpectedNull
 RefusesText (Some bytes) e = (e ≡ Utf8) × (is_utf8 bytes ≡ false)

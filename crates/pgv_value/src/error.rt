@@ -40,13 +40,13 @@ pub enum CodecError {
     /// C8: a digit to be written is not from 0 to 9999.
     #[error("the digit {0} is not from 0 to 9999")]
     NumericDigit(i16),
-    /// C9: a number of pairs, or the length of a key or a value, that an hstore can't have.
+    /// C9: an hstore can't have this number of pairs, or this length of a key or a value.
     #[error("an hstore length of {0}")]
     HstoreLength(i64),
-    /// C10: as many parameter types as arguments are wanted.
+    /// C10: there is not exactly one parameter type for each argument.
     #[error("not one parameter type for each argument")]
     ParameterCount,
-    /// C11: as many OIDs as holes are wanted.
+    /// C11: there is not exactly one OID for each hole.
     #[error("not one OID for each hole")]
     HoleCount,
     /// C12: more fields than a record can have, or a row of another width.
@@ -70,7 +70,7 @@ pub enum CodecError {
     /// C18: the type is not read from text.
     #[error("the type is not read from text")]
     TextUnsupported,
-    /// C19: an array of other than no or one dimension.
+    /// C19: an array of more than one dimension, or of a negative number.
     #[error("an array of {0} dimensions")]
     Dimensions(i32),
     /// C20: an array whose lower bound is not 1.
@@ -79,7 +79,7 @@ pub enum CodecError {
     /// C21: the type of an array's elements can't be found.
     #[error("the element type with the OID {} is not known", .0.0)]
     ElementType(Oid),
-    /// C22: an array of another length is wanted.
+    /// C22: an array does not have the number of elements that the Rust type has.
     #[error("an array of {0} elements")]
     ElementCount(usize),
     /// C23: the type is not a range.
@@ -94,7 +94,7 @@ pub enum CodecError {
     /// C26: a field's OID is not that of the composite's field.
     #[error("the OID of a field is not that of the composite type")]
     FieldOid,
-    /// C27: the type of a field is not compatible.
+    /// C27: the type of a field or column is not compatible with the Rust type.
     #[error("mismatched types")]
     MismatchedTypes,
     /// C28: a field of a record has an OID that is no built-in type's.
@@ -115,16 +115,16 @@ pub enum CodecError {
     /// C33: an address from a prefix that is not full.
     #[error("an address whose prefix is not full")]
     LossyAddress,
-    /// C34: a sign that a number does not have.
+    /// C34: an invalid sign of a number.
     #[error("the sign {0} of a number")]
     NumericSign(u16),
     /// C35: an hstore key is null.
     #[error("an hstore key is null")]
     HstoreNullKey,
-    /// C36: a label tree that is none.
+    /// C36: not a valid label tree.
     #[error("not a label tree: {0}")]
     LTree(PgLTreeParseError),
-    /// C37: a query of label trees that is none.
+    /// C37: not a valid query of label trees.
     #[error("not a query of label trees: {0}")]
     LQuery(PgLQueryParseError),
     /// C38: refused by a caller's own codec.
@@ -133,8 +133,7 @@ pub enum CodecError {
 }
 
 impl CodecError {
-    /// The public number of a refusal: n of Cn.
-    /// `CodecError::UnexpectedNull` is 13.
+    /// The public number of a refusal: for Cn it is n. `CodecError::UnexpectedNull` is 13.
     pub fn code(&self) -> u8
         ensures { result ≡ code_of self.now }
     {

@@ -11,8 +11,9 @@ const NULL_LENGTH: u32 = 0xffff_ffff;
 /// The largest length of a part.
 const MAX_LENGTH: u32 = 0x7fff_ffff;
 
-/// The part of the frame in front, null or bytes, and the rest: of `0000000161ff` it is `61`, and the rest is `ff`. Bytes that end
-/// too early are refused with C15, and a negative length but -1, which is null, with C16.
+/// The part of the frame in front, null or bytes, and the rest: of `0000000161ff` it is `61`, and the rest is `ff`.
+/// Bytes that end too early are refused with [`Short`](CodecError::Short) (C15), and a negative length but -1, which is
+/// null, with [`NegativeLength`](CodecError::NegativeLength) (C16).
 #[inline(always)]
 #[tactic(auto, unfolding(crate::specs::FrameBinary::front))]
 pub fn part_in_front(bytes: &[u8]) -> Result<(Option<&[u8]>, &[u8]), CodecError>

@@ -6,8 +6,8 @@ use crate::error::CodecError;
 use jiff::SignedDuration;
 use std::time::Duration;
 
-/// An interval: months, days and microseconds, each with a sign of its own. `1 month` isn't a number of days, nor `1 day` one of
-/// hours.
+/// An interval: months, days and microseconds, each with a sign of its own. `1 month` isn't a number of days, nor
+/// `1 day` one of hours.
 #[derive(Clone, Copy, Debug, PartialEq, Eq, Hash)]
 pub struct PgInterval {
     /// Months, of which twelve are a year.
@@ -29,8 +29,9 @@ impl Default for PgInterval {
     }
 }
 
-/// As many microseconds, no days and no months. A duration that isn't whole microseconds is refused with C4, and another of more
-/// than 9223372036854775807 microseconds with C5.
+/// The interval of the duration's microseconds, with no days and no months. A duration that isn't whole microseconds is
+/// refused with [`IntervalPrecision`](CodecError::IntervalPrecision) (C4), another one of more than 9223372036854775807
+/// microseconds with [`IntervalOverflow`](CodecError::IntervalOverflow) (C5).
 impl TryFrom<Duration> for PgInterval {
     ghost use Rattle.std.specs.Prelude.{◌≡◌, pos};
     ghost use Rattle.std.specs.Duration.{as_nanos};
@@ -52,7 +53,8 @@ impl TryFrom<Duration> for PgInterval {
     }
 }
 
-/// The same of a duration with a sign: C5 past -9223372036854775808 and 9223372036854775807 microseconds.
+/// The same for a duration with a sign: [`IntervalOverflow`](CodecError::IntervalOverflow) (C5) past
+/// -9223372036854775808 and 9223372036854775807 microseconds.
 impl TryFrom<SignedDuration> for PgInterval {
     ghost use Rattle.std.specs.Prelude.{◌≡◌};
     ghost use Rattle.jiff.specs.Words.{signed_nanos};

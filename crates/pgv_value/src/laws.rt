@@ -1,4 +1,4 @@
-//! Laws of the definitions: what holds of all bytes, with nothing to run.
+//! Laws of frames, intervals and identifiers. Each is the contract of a function that does nothing, or only hashes.
 
 ghost use Rattle.std.specs.Prelude.{◌≡◌, ◌↔◌, fold, true};
 ghost use Rattle.pgv_value.specs.Interval.{IntervalIsItsMicroseconds};
@@ -8,17 +8,17 @@ use crate::interval::PgInterval;
 use std::hash::{Hash, Hasher};
 use uuid::Uuid;
 
-/// What is found at the front of bytes is a frame of that part, followed by that rest, and every frame is found.
+/// `front` splits bytes into a part and a rest iff the bytes are a frame of this part followed by this rest.
 pub fn front_is_frame()
     ensures { FrontIsFrame }
 {}
 
-/// Nothing is found at the front of a frame that is cut off, and the fault is that the bytes end too early.
+/// Nothing is found at the front of a frame that is cut off, and its fault is `Short` (C15).
 pub fn cut_frame_is_short()
     ensures { CutFrameIsShort }
 {}
 
-/// Equal identifiers have equal hashes: from one state of a hasher they lead to one state.
+/// Two hashers in the same state that are fed equal identifiers end in the same state.
 pub fn equal_ids_hash_alike<H: Hasher>(a: &Uuid, b: &Uuid, first: &mut H, second: &mut H)
     requires state { first.old ≡ second.old }
     requires equal { a.now ≡ b.now }
@@ -30,12 +30,12 @@ pub fn equal_ids_hash_alike<H: Hasher>(a: &Uuid, b: &Uuid, first: &mut H, second
     b.hash(second);
 }
 
-/// Intervals are equal exactly where they have the same months, days and microseconds.
+/// Two intervals are equal iff they have the same months, days and microseconds.
 pub fn equal_intervals()
     ensures { (a b : PgInterval) → (⟦<PgInterval as PartialEq>⟧.eq a b ≡ true) ↔ (a ≡ b) }
 {}
 
-/// Equal intervals have equal hashes: from one state of a hasher they lead to one state.
+/// Two hashers in the same state that are fed equal intervals end in the same state.
 pub fn equal_intervals_hash_alike<H: Hasher>(
     one: &PgInterval,
     other: &PgInterval,
@@ -52,7 +52,8 @@ pub fn equal_intervals_hash_alike<H: Hasher>(
     other.hash(second);
 }
 
-/// A number of nanoseconds is an interval exactly where it is that of whole microseconds, of which 64 bits have the number.
+/// `interval_of` turns nanoseconds into an interval iff the interval has no months and no days, and its microseconds,
+/// which fit in 64 bits, are exactly these nanoseconds.
 pub fn interval_is_its_microseconds()
     ensures { IntervalIsItsMicroseconds }
 {}

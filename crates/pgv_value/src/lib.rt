@@ -3,6 +3,7 @@
 
 pub mod error;
 mod frame;
+mod front;
 pub mod interval;
 pub mod laws;
 mod number;
@@ -12,6 +13,7 @@ pub mod value;
 
 pub use error::CodecError;
 pub use frame::part_in_front;
+pub use front::{name_in_front, u16_in_front};
 pub use interval::PgInterval;
 pub use number::{i16_in_front, number_of_eight, number_of_four, u32_in_front};
 pub use read::{

@@ -9,8 +9,8 @@ ghost use Rattle.pgv_value.specs.Steps.{number, signed_two};
 use crate::error::CodecError;
 use byteorder::{BigEndian, ByteOrder};
 
-/// The number of 32 bits in front, the highest byte first, and the rest: of `00000007ff` it is 7, and the rest is `ff`. Fewer
-/// than four bytes are refused with C15.
+/// The number of 32 bits in front, the highest byte first, and the rest: of `00000007ff` it is 7, and the rest is `ff`.
+/// Fewer than four bytes are refused with [`Short`](CodecError::Short) (C15).
 #[inline(always)]
 #[tactic(auto, unfolding(crate::specs::Steps::number))]
 pub fn u32_in_front(bytes: &[u8]) -> Result<(u32, &[u8]), CodecError>
@@ -28,8 +28,8 @@ pub fn u32_in_front(bytes: &[u8]) -> Result<(u32, &[u8]), CodecError>
     ))
 }
 
-/// The signed number of 16 bits in front, the highest byte first, and the rest: of `ffff00` it is -1, and the rest is `00`. Fewer
-/// than two bytes are refused with C15.
+/// The signed number of 16 bits in front, the highest byte first, and the rest: of `ffff00` it is -1, and the rest is
+/// `00`. Fewer than two bytes are refused with [`Short`](CodecError::Short) (C15).
 #[inline(always)]
 #[tactic(auto, unfolding(crate::specs::Steps::signed_two))]
 pub fn i16_in_front(bytes: &[u8]) -> Result<(i16, &[u8]), CodecError>

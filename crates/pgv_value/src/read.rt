@@ -1,5 +1,5 @@
-//! Readers of the plain types. Each takes a value as it stands in a row and answers what its bytes mean in the
-//! value's format; null is refused with C13, and a text that is not UTF-8 with C14. No reader takes memory.
+//! Readers of the plain types. Each takes a value of a row and returns what its bytes mean in the value's format; null
+//! is refused with C13, and a text that is not UTF-8 with C14. No reader takes memory.
 
 mod bool;
 mod date_time;

@@ -1,4 +1,4 @@
-//! Why a label tree or a query is no such text (PostgreSQL, "ltree").
+//! Why a text or binary form is not a valid label tree or query (PostgreSQL, "ltree").
 
 ghost use Rattle.std.specs.Prelude.{◌≡◌};
 ghost use Rattle.pgv_value.specs.TreeErrors.{query_refusal};
@@ -8,7 +8,7 @@ ghost use Rattle.pgv_value.specs.declared.tree_error.PgLQueryParseError.TheVaria
 use std::alloc::{AllocError, AllocFailed};
 use thiserror::Error;
 
-/// Why a text is no label, or no tree of labels.
+/// Why a text is not a valid label or label tree.
 #[derive(Clone, Copy, Debug, PartialEq, Eq, Drop, Error)]
 pub enum PgLTreeParseError {
     /// A label is too long, or has another character than it may have.
@@ -22,7 +22,7 @@ pub enum PgLTreeParseError {
     Memory,
 }
 
-/// Why a text is no query.
+/// Why a text is not a valid query of label trees.
 #[derive(Clone, Copy, Debug, PartialEq, Eq, Drop, Error)]
 pub enum PgLQueryParseError {
     /// A level is empty.
@@ -34,7 +34,7 @@ pub enum PgLQueryParseError {
     /// A number of levels is not digits, or is above 65535.
     #[error("a number of levels that is not digits up to 65535")]
     ParseIntError,
-    /// A label of a level is none.
+    /// A level contains an invalid label.
     #[error("error parsing integer: {0}")]
     LTreeParrseError(PgLTreeParseError),
     /// The binary form does not begin with the version 1.

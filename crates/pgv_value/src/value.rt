@@ -1,9 +1,11 @@
-//! A value as it stands in a row: null or bytes, with its type and its format.
+//! A value of a row: null or bytes, with its type and its format.
 
 ghost use Rattle.std.specs.Prelude.{◌≡◌, ◌<◌, ◌≤◌, slice_range, length, Some, None, IfOk, OnOk, OnErr, IfErr, IsErrOf, IsOk, IsTrue, is_none};
 ghost use Rattle.std.specs.Option.{option_copied};
 ghost use Rattle.pgv_types.specs.Facts.{IsNotCustom};
 ghost use Rattle.pgv_value.specs.FrameBinary.{front, frame_fault};
+ghost use Rattle.pgv_value.specs.Fronts.{format_of};
+ghost use Rattle.pgv_value.specs.Parsed.{GivesExactly};
 ghost use Rattle.pgv_value.specs.RowView.{held_bytes};
 ghost use Rattle.pgv_value.specs.Utf8.{is_utf8, RefusesText};
 ghost use Rattle.pgv_value.specs.declared.error.CodecError.TheVariants.{UnexpectedNull, Memory};
@@ -28,6 +30,19 @@ pub enum PgValueFormat {
 /// A message has a format as this number (PostgreSQL, "Message Formats", Bind).
 const _: () = prove!(PgValueFormat::Text as u8 == 0 && PgValueFormat::Binary as u8 == 1);
 
+impl PgValueFormat {
+    /// The format of a code in a message: 0 is text and 1 binary. Any other is refused with C30.
+    pub fn from_code(code: u16) -> Result<PgValueFormat, CodecError>
+        ensures { GivesExactly (λ format. format) (format_of code) result }
+    {
+        match code {
+            0 => Ok(PgValueFormat::Text),
+            1 => Ok(PgValueFormat::Binary),
+            _ => Err(CodecError::OutOfRange),
+        }
+    }
+}
+
 /// A value that has its own bytes, or shares those of its row, and so outlives the reference that it was made
 /// from. It is made by [`PgValueRef::to_owned`] and read through [`PgValue::as_ref`].
 #[derive(Drop)]
@@ -48,8 +63,8 @@ impl Model for PgValue {
 }
 
 impl PgValue {
-    /// The value as a reader takes it. It is refused only for memory (C1), and only where its type is a custom one: the type is
-    /// cloned.
+    /// The value by reference, as decoders take it. It clones the type, so it is refused only for memory (C1), and only
+    /// if the type is a custom one.
     pub fn as_ref(&self) -> Result<PgValueRef<'_>, CodecError>
         ensures same { IfOk result (λ v. v ≡ self.now) }
         ensures memory { IfErr result (λ e. e ≡ Memory) }
@@ -131,8 +146,8 @@ impl<'r> Held<'r> {
     }
 }
 
-/// A value as it stands in a row: null or bytes, its type and its format. The bytes are borrowed from the row, and
-/// what [`PgValueRef::as_bytes`] and [`PgValueRef::as_str`] hand out lives as long as the row does.
+/// A value of a row: null or bytes, its type and its format. The bytes are borrowed from the row, and what
+/// [`PgValueRef::as_bytes`] and [`PgValueRef::as_str`] return lives as long as the row.
 #[derive(Drop)]
 pub struct PgValueRef<'r> {
     row: Option<RowPart<'r>>,
@@ -172,7 +187,7 @@ impl<'r> PgValueRef<'r> {
         }
     }
 
-    /// A value in text of this text, or null. [`PgValueRef::as_str`] answers the text without a test of its bytes.
+    /// A value in text format of this text, or null. [`PgValueRef::as_str`] returns the text without testing its bytes.
     #[inline(always)]
     pub fn of_text(text: Option<&'r str>, type_info: PgTypeInfo) -> Self
         ensures { result ≡ record { bytes = option_copied text.entry; type_info = type_info; format = Text } }
@@ -189,8 +204,8 @@ impl<'r> PgValueRef<'r> {
         }
     }
 
-    /// The value whose bytes are those of a row from `start` to `end`. Kept by [`PgValueRef::to_owned`], it shares
-    /// the row's bytes.
+    /// The value whose bytes are those of a row from `start` to `end`. [`PgValueRef::to_owned`] then shares the row's
+    /// bytes.
     pub fn from_row(
         row: &'r Bytes,
         start: usize,
@@ -214,10 +229,10 @@ impl<'r> PgValueRef<'r> {
         }
     }
 
-    /// Reads the frame at the front of a slice, hands out its part and moves the slice on after it (PostgreSQL,
-    /// "Message Formats", DataRow: a signed length of four bytes, the highest first, and that many bytes; -1 is
-    /// null). A slice that ends too early is refused with C15 and any other negative length with C16; the slice then
-    /// stays where it was.
+    /// Reads the frame at the front of a slice, returns its part and moves the slice past it (PostgreSQL, "Message
+    /// Formats", DataRow: a signed length of four bytes, the highest first, and that many bytes; -1 is null). A slice
+    /// that ends too early is refused with [`Short`](CodecError::Short) (C15) and any other negative length with
+    /// [`NegativeLength`](CodecError::NegativeLength) (C16); the slice then stays where it was.
     ///
     /// Of `00000004 00000007 ff` the part is `00000007`, and `ff` is left; `ffffffff` is null.
     #[inline(always)]
@@ -231,7 +246,7 @@ impl<'r> PgValueRef<'r> {
         ensures kind { IfOk result (λ v. v.type_info ≡ type_info) }
         ensures format { IfOk result (λ v. v.format ≡ format) }
         ensures shorter { OnOk result (length bytes.new.now < length bytes.old.now) }
-        // It refuses only where no frame stands in front, and then the slice stays.
+        // It refuses only if no frame is in front, and then the slice stays.
         ensures none { OnErr result (front bytes.old.now ≡ None) }
         ensures fault { IfErr result (λ e. e ≡ frame_fault bytes.old.now) }
         ensures unmoved { OnErr result (bytes.new.now ≡ bytes.old.now) }
@@ -258,7 +273,7 @@ impl<'r> PgValueRef<'r> {
         &self.type_info
     }
 
-    /// The type alone, which is moved out of the value: a reader of parts keeps it without a clone.
+    /// The type, moved out of the value, so that a reader of parts keeps it without a clone.
     pub fn into_type_info(self) -> PgTypeInfo
         ensures { result ≡ self.entry.type_info }
     {
@@ -273,7 +288,8 @@ impl<'r> PgValueRef<'r> {
         self.held.bytes().is_none()
     }
 
-    /// The bytes, in either format, which live as long as the row. Null is refused with C13.
+    /// The bytes, in either format, which live as long as the row. Null is refused with
+    /// [`UnexpectedNull`](CodecError::UnexpectedNull) (C13).
     #[inline(always)]
     pub fn as_bytes(&self) -> Result<&'r [u8], CodecError>
         ensures found { IfOk result (λ b. self.now.bytes ≡ Some b.now) }
@@ -285,8 +301,9 @@ impl<'r> PgValueRef<'r> {
         }
     }
 
-    /// The bytes as text, in either format, which lives as long as the row. Null is refused with C13, and bytes
-    /// that are not UTF-8 with C14.
+    /// The bytes as text, in either format, which lives as long as the row. Null is refused with
+    /// [`UnexpectedNull`](CodecError::UnexpectedNull) (C13), and bytes that are not UTF-8 with
+    /// [`Utf8`](CodecError::Utf8) (C14).
     #[inline(always)]
     #[tactic(auto, using(crate::proofs::Text::whole_text))]
     pub fn as_str(&self) -> Result<&'r str, CodecError>
@@ -305,8 +322,9 @@ impl<'r> PgValueRef<'r> {
         }
     }
 
-    /// The value without a borrow: of a row, it shares that part of the row's bytes; else its bytes are copied.
-    /// It is refused only for memory (C1), and only where it has bytes or its type is a custom one.
+    /// The value without a borrow. If it was made by [`from_row`](PgValueRef::from_row), it shares that part of the
+    /// row's bytes; else its bytes are copied. It is refused only for memory (C1), and only if it has bytes or its type
+    /// is a custom one.
     pub fn to_owned(&self, alloc: Global) -> Result<PgValue, CodecError>
         ensures same { IfOk result (λ v. v ≡ self.now) }
         ensures memory { IfErr result (λ e. e ≡ Memory) }

@@ -21,7 +21,7 @@ use std::alloc::Global;
 use std::net::IpAddr;
 use uuid::Uuid;
 
-/// What is read of a value at the Rust type of this name.
+/// What is read from a value at the Rust type of this name.
 fn shown(alloc: Global, name: &str, value: PgValueRef<'_>) -> Result<String, Again> {
     if name.starts_with("Vec") {
         return lists(alloc, name, value);
@@ -135,7 +135,7 @@ fn numbers(alloc: Global, name: &str, value: PgValueRef<'_>) -> Result<String, A
     }
 }
 
-/// What is read of bytes under a type.
+/// What is read from bytes under a type.
 fn shown_of(
     alloc: Global,
     name: &str,
@@ -146,7 +146,7 @@ fn shown_of(
     shown(alloc, name, PgValueRef::new(bytes, type_info, format))
 }
 
-/// What is read of a part of a row.
+/// What is read from a part of a row.
 fn shown_part(
     alloc: Global,
     name: &str,

@@ -61,7 +61,7 @@ impl PgArguments {
         }
     }
 
-    /// Makes room for `additional` more arguments and `size` more bytes. Nothing is added, also where it is refused (C1).
+    /// Makes room for `additional` more arguments and `size` more bytes. It adds nothing, also if it is refused (C1).
     pub fn reserve(&mut self, additional: usize, size: usize) -> Result<(), CodecError>
         ensures same { self.new ≡ self.old }
         ensures err { IfErr result (λ e. e ≡ Memory) }
@@ -107,10 +107,10 @@ impl PgArguments {
         &self.buffer
     }
 
-    /// Adds a value, and remembers what it produces or else its type's info. It is accepted, out of memory (C1)
-    /// aside, exactly where the value has a frame; a refused one leaves all as it was. C2 where the size hint or the
-    /// image is above 2147483647, and else what the value's own encoder says.
-    /// 7 added to empty arguments is `00000004 00000007`, and the value stays yours.
+    /// Adds a value, and remembers what it produces or else its type's info. It is accepted, unless memory runs out
+    /// (C1), exactly where the value has a frame; a refused one leaves all as it was. It is refused with
+    /// [`ValueSize`](CodecError::ValueSize) (C2) if the size hint or the image is above 2147483647, and else with what
+    /// the value's own encoder says. 7 added to empty arguments is `00000004 00000007`, and the value stays yours.
     #[inline(always)]
     pub fn add_by_ref<T: Encode + Type>(&mut self, value: &T) -> Result<(), CodecError>
         ensures ok { OnOk result (Added (frame (T.hint value.now) (T.image value.now)) (or_else (T.produced value.now) T.info) self.old self.new) }
@@ -145,9 +145,9 @@ impl PgArguments {
         self.add_by_ref(&value)
     }
 
-    /// Adds each value in order, and answers an outcome for each. The list of outcomes is reserved first: where that
-    /// is refused (C1), nothing was added. For no values no memory is asked for.
-    /// Of 2, a value that refuses and 4, the outcomes are Ok, an error and Ok, and the bytes `00000004 00000002 00000004 00000004`.
+    /// Adds each value in order, and returns an outcome for each. The list of outcomes is reserved first: if that is
+    /// refused (C1), nothing was added. For no values no memory is asked for. With 2, a value that refuses and 4, the
+    /// outcomes are Ok, an error and Ok, and the bytes `00000004 00000002 00000004 00000004`.
     pub fn add_each<T: Encode + Type>(
         &mut self,
         alloc: Global,
@@ -168,9 +168,8 @@ impl PgArguments {
         Ok(outcomes)
     }
 
-    /// Appends the placeholder of the last argument, `$` and [`len`](PgArguments::len) in decimal. C1 leaves the
-    /// text as it was.
-    /// With one argument it is `$1`.
+    /// Appends the placeholder of the last argument, `$` and [`len`](PgArguments::len) in decimal. Out of memory (C1)
+    /// leaves the text as it was. With one argument it is `$1`.
     pub fn format_placeholder(&self, out: &mut String) -> Result<(), CodecError>
         ensures ok { OnOk result (string_bytes out.new ≡ string_bytes out.old ++ 36 ∷ decimal (length self.now)) }
         ensures err { IfErr result (λ e. (e ≡ Memory) × (string_bytes out.new ≡ string_bytes out.old)) }
@@ -197,10 +196,11 @@ impl PgArguments {
     }
 
     /// Writes the OIDs into the holes, in order, and fills each slot by the parameter type of its own argument: with
-    /// the first case whose type is softly equal to it, else with the default. As many types as arguments are
-    /// wanted (C10), and as many OIDs as holes (C11); a refusal changes nothing, and with the right numbers there is
-    /// none. It takes no memory and may be called again, also with additions between: each call fills all anew, and
-    /// the bytes are the frames written early with these types and OIDs.
+    /// the first case whose type is softly equal to it, else with the default. Without exactly one type for each
+    /// argument it is refused with [`ParameterCount`](CodecError::ParameterCount) (C10), and else without exactly one
+    /// OID for each hole with [`HoleCount`](CodecError::HoleCount) (C11); a refusal changes nothing, and with the right
+    /// numbers there is none. It takes no memory and may be called again, also with additions between: each call fills
+    /// all anew, and the bytes are the frames written early with these types and OIDs.
     ///
     /// The list `{ok}` of that type is `0000001a 00000001 00000000 00000000 00000001 00000001 00000002 6f6b`; with the OID 16600 the four bytes
     /// of its third number are `000040d8`, and after a second call with 16601 `000040d9`.

@@ -24,8 +24,8 @@ use pgv_types::PgTypeInfo;
 use pgv_value::{CodecError, PgValueFormat, PgValueRef};
 use std::alloc::{AllocError, Global};
 
-/// Appends the elements as an array of one dimension, for a caller's own encoder. C3 where there are more than
-/// 2147483647. A refused one may have appended something.
+/// Appends the elements as an array of one dimension, for a caller's own encoder. More than 2147483647 are refused with
+/// [`ArrayLength`](CodecError::ArrayLength) (C3). A refusal may have appended something.
 pub fn encode_array<T: Encode + Type>(
     values: &[T],
     out: &mut PgArgumentBuffer,
@@ -71,7 +71,7 @@ pub fn type_of_value<T: Encode + Type>(value: &T) -> Result<PgTypeInfo, AllocErr
     }
 }
 
-/// What stands before the elements: one dimension and no flags, their type, their number and the lower bound 1.
+/// What comes before the elements: one dimension and no flags, their type, their number and the lower bound 1.
 fn write_header(
     out: &mut PgArgumentBuffer,
     element: PgTypeInfo,
@@ -176,14 +176,17 @@ impl<T: Encode + Type, const N: usize> Encode for [T; N] {
     }
 }
 
-/// An array of no or one dimension, of elements that `T` reads (PostgreSQL, "Arrays"). The type of the elements is the
-/// built-in type of the OID that stands in the bytes, else the element of the value's type.
+/// An array of no or one dimension, whose elements `T` reads (PostgreSQL, "Arrays"). The type of the elements is the
+/// built-in type of the OID in the bytes, else the element of the value's type.
 ///
 /// In text the elements are read under `T`'s own type.
 ///
-/// Null is refused with C13, a text that is not UTF-8 with C14 and one outside the grammar with C29, bytes that end too
-/// early with C15, a negative number of elements or length with C16, other dimensions with C19, a lower bound other than
-/// 1 with C20, elements of an unknown type with C21, and what an element is refused with.
+/// Null is refused with [`UnexpectedNull`](CodecError::UnexpectedNull) (C13), a text that is not UTF-8 with
+/// [`Utf8`](CodecError::Utf8) (C14) and one outside the grammar with [`Syntax`](CodecError::Syntax) (C29), bytes that
+/// end too early with [`Short`](CodecError::Short) (C15), a negative number of elements or length with
+/// [`NegativeLength`](CodecError::NegativeLength) (C16), other dimensions with [`Dimensions`](CodecError::Dimensions)
+/// (C19), a lower bound other than 1 with [`LowerBound`](CodecError::LowerBound) (C20), elements of an unknown type
+/// with [`ElementType`](CodecError::ElementType) (C21), and what an element is refused with.
 /// `00000001 00000000 00000017 00000001 00000001 00000004 00000007` and `{7}` are a list of one 7.
 impl<T: Decode + Type> Decode for Vec<T> {
     ghost Meaning = { List T.Meaning };
@@ -214,7 +217,8 @@ impl<T: Decode + Type> Decode for Vec<T> {
     }
 }
 
-/// An array of `N` elements, read as a list; another number of elements is refused with C22.
+/// An array of `N` elements, read as a list; another number of elements is refused with
+/// [`ElementCount`](CodecError::ElementCount) (C22).
 impl<T: Decode + Type, const N: usize> Decode for [T; N] {
     ghost Meaning = { List T.Meaning };
 
@@ -309,8 +313,8 @@ fn read_in_room<T: Decode>(
     Ok(items)
 }
 
-/// An array in text. That a text is none (C29) goes before why a part is refused, or that memory is. One without elements asks for
-/// none.
+/// An array in text. An invalid text (C29) comes before the refusal of a part, or out of memory. A text without
+/// elements asks for no memory.
 #[tactic(auto, unfolding(pgv_nest::specs::ArrayGrammar::each))]
 fn read_text<T: Decode + Type>(alloc: Global, text: &str) -> Result<Vec<T>, CodecError>
     ensures exact { Answers (λ v. map T.meaning v.items) (array_in_text (T.reading T.info Text) text.now) result }
@@ -371,7 +375,7 @@ fn read_elements<T: Decode + Type>(alloc: Global, text: &str) -> Result<Vec<T>, 
     }
 }
 
-/// A list comes back where each element does, under the type that is found by the OID that was written.
+/// A list is read back if each element is, under the type that is found by the OID that was written.
 impl<T: ReadBack + Type> ReadBack for Vec<T> {
     ghost kept = { λ v. with_items v (map T.kept v.items) };
 
@@ -380,7 +384,7 @@ impl<T: ReadBack + Type> ReadBack for Vec<T> {
     ghost reads_back = { vec_back T.info T.produced T.hint T.image T.reading T.meaning T.kept T.fits T.reads_back };
 }
 
-/// An array comes back as a list of its elements does.
+/// An array is read back as the list of its elements is.
 impl<T: ReadBack + Type, const N: usize> ReadBack for [T; N] {
     ghost kept = { map T.kept };
 

@@ -27,8 +27,9 @@ impl BuiltIn for Of<Duration> {
     const ARRAY_INFO: PgTypeInfo = PgTypeInfo(PgType::IntervalArray);
 }
 
-/// A duration is written as the interval of its microseconds, with no days and no months. One that isn't whole microseconds is
-/// refused with C4, and another whose number of microseconds 64 bits don't have with C5.
+/// A duration is written as the interval of its microseconds, with no days and no months. One that isn't whole
+/// microseconds is refused with [`IntervalPrecision`](CodecError::IntervalPrecision) (C4), and another whose number of
+/// microseconds 64 bits don't have with [`IntervalOverflow`](CodecError::IntervalOverflow) (C5).
 impl Scalar for Duration {
     ghost SIZE = { 16 };
 

@@ -42,7 +42,7 @@ pub trait FieldList: Sized + Drop {
     /// What the parts of a text are that are such fields.
     ghost in_text: { TextStretch Meaning };
 
-    /// Which refusal is answered, out of memory aside: none where a field doesn't state it.
+    /// The refusal of what can't be read, unless memory runs out; `None` if a field doesn't state it.
     ghost why: { Left → Option Error };
 
     /// Whether memory may be asked for.

@@ -113,7 +113,7 @@ impl<T: Decode> Decode for Option<T> {
     }
 }
 
-/// `None` comes back, and so does `Some` where its value does; but a value that is written as null comes back as `None`.
+/// `None` is read back, and so is `Some` if its value is; but a value that is written as null is read back as `None`.
 impl<T: ReadBack + Type> ReadBack for Option<T> {
     ghost kept = { option_kept T.image T.kept };
 

@@ -40,8 +40,8 @@ pub struct PgRecordEncoder<'a> {
 impl<'a> PgRecordEncoder<'a> {
     ghost use Rattle.pgv_codec.specs.WrittenView.{buffer, written};
 
-    /// Begins a record after what the buffer has. C1 leaves the buffer as it was.
-    /// The number of fields comes first: `00000000` as long as there is none.
+    /// Begins a record after what the buffer has. Out of memory (C1) leaves the buffer as it was. The number of fields
+    /// comes first: `00000000` as long as there are none.
     pub fn new(out: &'a mut PgArgumentBuffer) -> Result<PgRecordEncoder<'a>, CodecError>
         ensures same_reference { IfOk result (λ e. e.out.ghost_name ≡ out.entry.ghost_name) }
         ensures begun { IfOk result (λ e. written e ≡ begun out.old) }
@@ -58,7 +58,8 @@ impl<'a> PgRecordEncoder<'a> {
         })
     }
 
-    /// Writes a field: its type and its frame. A refused one is taken back; C12 after 4294967295 fields.
+    /// Writes a field: its type and its frame. A refused one is taken back; [`FieldCount`](CodecError::FieldCount)
+    /// (C12) after 4294967295 fields.
     pub fn encode<T: Encode + Type + Drop>(&mut self, value: T) -> Result<(), CodecError>
         ensures same_reference { self.new.out.ghost_name ≡ self.old.out.ghost_name }
         ensures ok { OnOk result (AddsField (counted_field (written self.old).count (field T.hint T.image T.produced T.info value)) (written self.old) (written self.new)) }
@@ -150,8 +151,10 @@ struct TextFields<'r> {
 }
 
 impl<'r> PgRecordDecoder<'r> {
-    /// The fields of a record. In binary the number of fields is passed over (C15 where it isn't there); a text is
-    /// read whole (C14 where it is not UTF-8, C29 where it is no record text). Null is refused with C13, and nothing else is.
+    /// The fields of a record. In binary the number of fields is passed over, or refused with
+    /// [`Short`](CodecError::Short) (C15) if it isn't there; a text is read whole ([`Utf8`](CodecError::Utf8) (C14) if
+    /// it is not UTF-8, [`Syntax`](CodecError::Syntax) (C29) if it is not a record text). Null is refused with
+    /// [`UnexpectedNull`](CodecError::UnexpectedNull) (C13), and nothing else is.
     #[inline(always)]
     pub fn new(alloc: Global, value: PgValueRef<'r>) -> Result<Self, CodecError>
         ensures exact { AnswersExactly (λ d. d) (fields_of value.entry.type_info value.entry.format value.entry.bytes) result }
@@ -175,10 +178,13 @@ impl<'r> PgRecordDecoder<'r> {
 
     /// The next field. Where it is refused the decoder is as before.
     ///
-    /// In binary: without a byte left, or without a field at this place of a composite type, it is C25, bytes that
-    /// end too early are C15, a field of another OID than that of the composite's field C26, an OID that is no
-    /// built-in type's under `record` C28, a type that is no record C24, and a field's type that isn't compatible
-    /// with `T` C27. In text a field is read without a type, and without a field left it is C25.
+    /// In binary: without a byte left, or without a field at this place of a composite type, it is
+    /// [`NoField`](CodecError::NoField) (C25), bytes that end too early are [`Short`](CodecError::Short) (C15), a field
+    /// of another OID than that of the composite's field [`FieldOid`](CodecError::FieldOid) (C26), an OID that is no
+    /// built-in type's under `record` [`FieldTypeUnknown`](CodecError::FieldTypeUnknown) (C28), a type that is no
+    /// record [`NotARecord`](CodecError::NotARecord) (C24), and a field's type that isn't compatible with `T`
+    /// [`MismatchedTypes`](CodecError::MismatchedTypes) (C27). In text a field is read without a type, and without a
+    /// field left it is [`NoField`](CodecError::NoField) (C25).
     #[inline(always)]
     pub fn try_decode<T: Type + Decode>(&mut self) -> Result<T, CodecError>
         ensures exact { Takes T.meaning self.old self.new (next T.accepts T.reading self.old) result }

@@ -41,8 +41,9 @@ impl Encode for String {
     }
 }
 
-/// A text (PostgreSQL, "Character Types"), the same in either format: bytes that are UTF-8, else C14: `6869` is `hi`. Null is refused
-/// with C13. An empty text asks for no memory.
+/// A text (PostgreSQL, "Character Types"), the same in either format: bytes that are UTF-8, else
+/// [`Utf8`](CodecError::Utf8) (C14): `6869` is `hi`. Null is refused with
+/// [`UnexpectedNull`](CodecError::UnexpectedNull) (C13). An empty text asks for no memory.
 impl Plain for String {
     ghost use Rattle.pgv_value.specs.Reading.{has_items};
     ghost use Rattle.pgv_value.specs.Utf8.{text_refusal};

@@ -11,7 +11,8 @@ use crate::traits::{PgHasArrayType, Type};
 use pgv_types::{PgType, PgTypeInfo, PgTypeKindRef};
 use pgv_value::CodecError;
 
-/// Appends a text, for a caller's own encoder, as the encoder of `String` does. C1 leaves the buffer as it was.
+/// Appends a text, for a caller's own encoder, as the encoder of `String` does. Out of memory (C1) leaves the buffer as
+/// it was.
 #[inline(always)]
 pub fn encode_text(text: &str, out: &mut PgArgumentBuffer) -> Result<IsNull, CodecError>
     ensures ok { IfOk result (λ n. Encoded n (spec.text_image text.now) out.old out.new) }

@@ -16,7 +16,8 @@ use pgv_types::{PgType, PgTypeInfo};
 use pgv_value::{CodecError, FIRST_NANOSECOND, PgValueRef, read_instant};
 use std::alloc::Global;
 
-/// The microseconds from 2000-01-01 00:00 to so many nanoseconds after 1970-01-01 00:00; what is less is cut off, towards the former.
+/// The microseconds from 2000-01-01 00:00 to this number of nanoseconds after 1970-01-01 00:00; what is less is cut
+/// off, towards the former.
 #[inline(always)]
 pub(crate) fn micros_from_2000(nanos: i128) -> i64
     requires { FitsSigned w64 (micros_of nanos) }

@@ -24,7 +24,7 @@ impl Type for () {
     }
 }
 
-/// Nothing (PostgreSQL, "Pseudo-Types", void): whatever is there, null too, is passed over.
+/// Decodes any value, null too, to `()`; the bytes are ignored (PostgreSQL, "Pseudo-Types", void).
 impl Decode for () {
     ghost use Rattle.std.specs.Prelude.{⊤, false};
     ghost use Rattle.pgv_codec.specs.Nothing.{anything};

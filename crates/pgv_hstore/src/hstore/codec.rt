@@ -58,7 +58,8 @@ impl PgHasArrayType for PgHstore {
     }
 }
 
-/// A number of pairs, or a length, in four bytes. More than 2147483647 are refused with C9.
+/// A number of pairs, or a length, in four bytes. More than 2147483647 are refused with
+/// [`HstoreLength`](CodecError::HstoreLength) (C9).
 #[inline(always)]
 fn number_of(count: usize) -> Result<[u8; 4], CodecError>
     ensures ok { IfOk result (λ number. (nat_le count limit ≡ true) × (number ≡ be4 count)) }
@@ -70,7 +71,8 @@ fn number_of(count: usize) -> Result<[u8; 4], CodecError>
     Ok((count as u32).to_be_bytes())
 }
 
-/// Appends a key, or a value that isn't null: its length and its bytes. A longer one is refused with C9.
+/// Appends a key, or a value that isn't null: its length and its bytes. A longer one is refused with
+/// [`HstoreLength`](CodecError::HstoreLength) (C9).
 #[inline(always)]
 fn write_text(text: &String, out: &mut PgArgumentBuffer) -> Result<(), CodecError>
     ensures ok { OnOk result (AppendedAll (part_written (Some (string_bytes text.now))) out.old out.new) }
@@ -132,8 +134,9 @@ fn write_pairs(
     Ok(())
 }
 
-/// Written as the number of pairs, and for each in the order of the keys its key and its value, each with its length in front, -1 for
-/// null: `a => null` as `00000001 00000001 61 ffffffff`. More than 2147483647 pairs, or bytes of a key or value, are refused with C9.
+/// Written as the number of pairs, and for each in the order of the keys its key and its value, each with its length in
+/// front, -1 for null: `a => null` as `00000001 00000001 61 ffffffff`. More than 2147483647 pairs, or bytes of a key or
+/// value, are refused with [`HstoreLength`](CodecError::HstoreLength) (C9).
 impl Encode for PgHstore {
     ghost image = { λ h. hstore_image (pairs_of h) };
 
@@ -157,7 +160,7 @@ impl Encode for PgHstore {
     }
 }
 
-/// A text of bytes, where they are UTF-8, else C14.
+/// A text of bytes, where they are UTF-8, else [`Utf8`](CodecError::Utf8) (C14).
 #[tactic(auto, using(pgv_value::proofs::Text::whole_text))]
 fn text_of(alloc: Global, form: &[u8]) -> Result<String, CodecError>
     ensures exact { Answers (λ text. string_bytes text) (if is_utf8 form.now then Some form.now else None) result }
@@ -170,7 +173,7 @@ fn text_of(alloc: Global, form: &[u8]) -> Result<String, CodecError>
     }
 }
 
-/// The key in front, and the rest. Null is refused with C35.
+/// The key in front, and the rest. Null is refused with [`HstoreNullKey`](CodecError::HstoreNullKey) (C35).
 fn key_in_front(alloc: Global, form: &[u8]) -> Result<(String, &[u8]), CodecError>
     ensures exact { Answers (λ p. (string_bytes p.0, p.1.now)) (key_front form.now) result }
     ensures refused { IfErr result (λ e. Refuses e (e ≡ key_refusal form.now)) }
@@ -193,7 +196,7 @@ fn value_in_front(alloc: Global, form: &[u8]) -> Result<(Option<String>, &[u8]),
     }
 }
 
-/// So many pairs, each put into the map. Room is taken pair by pair, whatever the number says.
+/// This number of pairs, each put into the map. Room is taken pair by pair, whatever the number says.
 fn read_pairs(alloc: Global, count: u32, form: &[u8]) -> Result<PgHstore, CodecError>
     ensures exact { Answers pairs_of (put_read [] count form.now) result }
     ensures exactly { pairs_take count form.now ≡ false → AnswersExactly pairs_of (put_read [] count form.now) result }
@@ -225,11 +228,13 @@ fn of_bytes(alloc: Global, form: &[u8]) -> Result<PgHstore, CodecError>
     read_pairs(alloc, count, rest)
 }
 
-/// Read as it is written, with pairs in any order and whatever comes after them; at a repeated key the last value is kept. Fewer than
-/// four bytes, or pairs that end too early, are refused with C15, a negative number of pairs with C9, a negative length but the -1 of
-/// a null value with C16, a null key with C35, and a key or value that isn't UTF-8 with C14. A text is refused with C18, and null with
-/// C13.
-/// A map comes back as it was written.
+/// Read as it is written, with pairs in any order and whatever comes after them; at a repeated key the last value is
+/// kept. Fewer than four bytes, or pairs that end too early, are refused with [`Short`](CodecError::Short) (C15), a
+/// negative number of pairs with [`HstoreLength`](CodecError::HstoreLength) (C9), a negative length but the -1 of a
+/// null value with [`NegativeLength`](CodecError::NegativeLength) (C16), a null key with
+/// [`HstoreNullKey`](CodecError::HstoreNullKey) (C35), and a key or value that isn't UTF-8 with
+/// [`Utf8`](CodecError::Utf8) (C14). A text is refused with [`TextUnsupported`](CodecError::TextUnsupported) (C18), and
+/// null with [`UnexpectedNull`](CodecError::UnexpectedNull) (C13). A map is read back as it was written.
 impl Plain for PgHstore {
     ghost use Rattle.pgv_hstore.specs.HstoreBack.{hstore_back};
 

@@ -17,8 +17,8 @@ use pgv_types::PgTypeInfo;
 use pgv_value::{CodecError, PgLQueryParseError, PgValueFormat, PgValueRef};
 use std::alloc::{AllocError, Global};
 
-/// `lquery`, of which only the name is known until its OID is handed in. Read under each type of this name, and
-/// under one declared by its OID.
+/// `lquery`, of which only the name is known until its OID is given. It is read under each type of this name, and under
+/// a type declared by its OID.
 impl Type for PgLQuery {
     ghost info = { lquery };
 
@@ -67,7 +67,7 @@ impl Encode for PgLQuery {
     }
 }
 
-/// The query of a text. Another text is refused with C37.
+/// The query of a text. Another text is refused with [`LQuery`](CodecError::LQuery) (C37).
 fn read_text(alloc: Global, text: &str) -> Result<PgLQuery, CodecError>
     ensures exact { Answers (λ query. query) (query_in_text text.now) result }
     ensures exactly { begins_with_level text.now ≡ false → AnswersExactly (λ query. query) (query_in_text text.now) result }
@@ -89,8 +89,10 @@ fn read_binary(alloc: Global, form: &[u8]) -> Result<PgLQuery, CodecError>
     read_text(alloc, text)
 }
 
-/// Read in binary of the byte 01 and a text: no bytes are refused with C15, another first byte with C37, what isn't UTF-8 with C14,
-/// and a text that is no query's with C37. In text the bytes are the query's text. Null is refused with C13.
+/// Read in binary from the byte 01 and a text: no bytes are refused with [`Short`](CodecError::Short) (C15), another
+/// first byte with [`LQuery`](CodecError::LQuery) (C37), what isn't UTF-8 with [`Utf8`](CodecError::Utf8) (C14), and an
+/// invalid text of a query with [`LQuery`](CodecError::LQuery) (C37). In text the bytes are the query's text. Null is
+/// refused with [`UnexpectedNull`](CodecError::UnexpectedNull) (C13).
 impl Decode for PgLQuery {
     ghost Meaning = { List Level };
 
@@ -116,8 +118,8 @@ impl Codec for PgLQuery {
     ghost agrees = { λ _. refl };
 }
 
-/// A query comes back as it was written, where it has a level, each level that is no star has a variant, and no `NonStar` begins with an
-/// empty label. Others print what is read as something else, or not at all.
+/// A query is read back as it was written if it has a level, each level that is not a star has a variant, and no
+/// `NonStar` begins with an empty label. Others print a text that is read as something else, or not at all.
 impl ReadBack for PgLQuery {
     ghost use Rattle.pgv_lquery.specs.QueryBack.{query_back, query_fits};
 

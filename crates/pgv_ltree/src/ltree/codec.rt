@@ -16,8 +16,8 @@ use pgv_types::PgTypeInfo;
 use pgv_value::{CodecError, PgLTreeParseError, PgValueFormat, PgValueRef};
 use std::alloc::{AllocError, Global};
 
-/// `ltree`, of which only the name is known until its OID is handed in. Read under each type of this name, and
-/// under one declared by its OID.
+/// `ltree`, of which only the name is known until its OID is given. It is read under each type of this name, and under
+/// a type declared by its OID.
 impl Type for PgLTree {
     ghost info = { ltree };
 
@@ -66,7 +66,7 @@ impl Encode for PgLTree {
     }
 }
 
-/// The tree of a text. Another text is refused with C36.
+/// The tree of a text. Another text is refused with [`LTree`](CodecError::LTree) (C36).
 fn read_text(alloc: Global, text: &str) -> Result<PgLTree, CodecError>
     ensures exact { Answers (λ tree. tree) (tree_in_text text.now) result }
     ensures exactly { begins_with_label text.now ≡ false → AnswersExactly (λ tree. tree) (tree_in_text text.now) result }
@@ -88,9 +88,11 @@ fn read_binary(alloc: Global, form: &[u8]) -> Result<PgLTree, CodecError>
     read_text(alloc, text)
 }
 
-/// Read in binary of the byte 01 and a text: no bytes are refused with C15, another first byte with C36, what isn't UTF-8 with C14,
-/// and a text that is no tree's with C36. In text the bytes are the tree's text. Null is refused with C13.
-/// A tree comes back as it was written, and one without labels as one empty label.
+/// Read in binary from the byte 01 and a text: no bytes are refused with [`Short`](CodecError::Short) (C15), another
+/// first byte with [`LTree`](CodecError::LTree) (C36), what isn't UTF-8 with [`Utf8`](CodecError::Utf8) (C14), and an
+/// invalid text of a tree with [`LTree`](CodecError::LTree) (C36). In text the bytes are the tree's text. Null is
+/// refused with [`UnexpectedNull`](CodecError::UnexpectedNull) (C13). A tree is read back as it was written, and a tree
+/// without labels as one empty label.
 impl Plain for PgLTree {
     ghost use Rattle.pgv_ltree.specs.TreesBack.{tree_back, tree_kept};
 

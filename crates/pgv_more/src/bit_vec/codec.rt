@@ -47,8 +47,8 @@ impl PgHasArrayType for BitVec {
     }
 }
 
-/// Bits are written as their number, in four bytes, and then in bytes, the first bit highest, with zeros after the last: `101`
-/// is `00000003a0`. More than 2147483647 are refused with C2.
+/// Bits are written as their number, in four bytes, and then in bytes, the first bit highest, with zeros after the
+/// last: `101` is `00000003a0`. More than 2147483647 are refused with [`ValueSize`](CodecError::ValueSize) (C2).
 impl Encode for BitVec {
     ghost image = { bits_image };
 
@@ -96,7 +96,7 @@ fn read_binary(alloc: Global, form: &[u8]) -> Result<BitVec, CodecError>
     Ok(BitVec::from_packed(alloc, body, count)?)
 }
 
-/// The bits of digits `0` and `1`. Another text is refused with C29.
+/// The bits of digits `0` and `1`. Another text is refused with [`Syntax`](CodecError::Syntax) (C29).
 fn read_text(alloc: Global, text: &str) -> Result<BitVec, CodecError>
     ensures exact { Answers (λ bits. bits) (bits_in_text text.now) result }
     ensures exactly { has_items (bits_in_text text.now) ≡ false → AnswersExactly (λ bits. bits) (bits_in_text text.now) result }
@@ -109,10 +109,12 @@ fn read_text(alloc: Global, text: &str) -> Result<BitVec, CodecError>
     }
 }
 
-/// Bits are read in binary as they are written, whatever fills the last byte after them: fewer than four bytes are refused with
-/// C15, a negative number with C16, and another number of bytes than the bits need with C17. A text is digits `0` and `1`,
-/// perhaps none, else C29. Null is refused with C13. `00000003a0` and the text `101` are `101`. For no bits no memory is asked for.
-/// Bits come back as they were written.
+/// Bits are read in binary as they are written, whatever fills the last byte after them: fewer than four bytes are
+/// refused with [`Short`](CodecError::Short) (C15), a negative number with
+/// [`NegativeLength`](CodecError::NegativeLength) (C16), and another number of bytes than the bits need with
+/// [`WrongLength`](CodecError::WrongLength) (C17). A text is digits `0` and `1`, perhaps none, else
+/// [`Syntax`](CodecError::Syntax) (C29). Null is refused with [`UnexpectedNull`](CodecError::UnexpectedNull) (C13).
+/// `00000003a0` and the text `101` are `101`. For no bits no memory is asked for. Bits come back as they were written.
 impl Plain for BitVec {
     ghost use Rattle.pgv_more.specs.BitsBack.{bits_back};
 

@@ -94,9 +94,10 @@ impl<const N: usize> Encode for PgByteaArray<N> {
     }
 }
 
-/// Read as [`PgBytea`](super::PgBytea) is, of `N` bytes: another number of bytes, or of pairs of digits, is refused with C17, and another
-/// text with C29. Null is refused with C13. It takes no memory.
-/// Bytes come back as they were written.
+/// Read as [`PgBytea`](super::PgBytea) is, of `N` bytes: another number of bytes, or of pairs of digits, is refused
+/// with [`WrongLength`](CodecError::WrongLength) (C17), and another text with [`Syntax`](CodecError::Syntax) (C29).
+/// Null is refused with [`UnexpectedNull`](CodecError::UnexpectedNull) (C13). It takes no memory. Bytes come back as
+/// they were written.
 impl<const N: usize> Plain for PgByteaArray<N> {
     ghost use Rattle.pgv_more.specs.ByteaBack.{sized_back};
 

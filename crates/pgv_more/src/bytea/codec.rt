@@ -63,10 +63,10 @@ impl Encode for PgBytea {
     }
 }
 
-/// In binary the bytes, and in text `\x` and two hex digits of either case for each, as `\x00ff`; another text is refused with C29,
-/// one that isn't UTF-8 too. Null is refused with C13. (A server that writes the older escape format is not read.) For no bytes no memory
-/// is asked for.
-/// Bytes come back as they were written.
+/// In binary the bytes, and in text `\x` and two hex digits of either case for each, as `\x00ff`; another text is
+/// refused with [`Syntax`](CodecError::Syntax) (C29), one that isn't UTF-8 too. Null is refused with
+/// [`UnexpectedNull`](CodecError::UnexpectedNull) (C13). (A server that writes the older escape format is not read.)
+/// For no bytes no memory is asked for. Bytes come back as they were written.
 impl Plain for PgBytea {
     ghost use Rattle.pgv_more.specs.ByteaBack.{bytea_back};
 

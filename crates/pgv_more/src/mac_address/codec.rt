@@ -63,9 +63,10 @@ impl Encode for MacAddress {
     }
 }
 
-/// An address is read in binary of its six bytes, where another number of bytes is refused with C17, and in text as
-/// [`from_str`](MacAddress::from_str) reads it, else C29. Null is refused with C13. `08002b010203` and the text `08:00:2b:01:02:03` are one address.
-/// An address comes back as it was written.
+/// An address is read in binary from its six bytes, where another number of bytes is refused with
+/// [`WrongLength`](CodecError::WrongLength) (C17), and in text as [`from_str`](MacAddress::from_str) reads it, else
+/// [`Syntax`](CodecError::Syntax) (C29). Null is refused with [`UnexpectedNull`](CodecError::UnexpectedNull) (C13).
+/// `08002b010203` and the text `08:00:2b:01:02:03` are one address. An address comes back as it was written.
 impl Plain for MacAddress {
     ghost use Rattle.pgv_more.specs.MacAddressBack.{mac_back};
 

@@ -62,9 +62,10 @@ impl Encode for PgMoney {
     }
 }
 
-/// Read of the first eight bytes, whatever comes after them; fewer are refused with C15, a text with C18, and null with C13.
-/// (The text depends on the settings of the server, `lc_monetary`.)
-/// An amount comes back as it is.
+/// Read from the first eight bytes, whatever comes after them; fewer are refused with [`Short`](CodecError::Short)
+/// (C15), a text with [`TextUnsupported`](CodecError::TextUnsupported) (C18), and null with
+/// [`UnexpectedNull`](CodecError::UnexpectedNull) (C13). (The text depends on the settings of the server,
+/// `lc_monetary`.) An amount is read back as it is.
 impl Plain for PgMoney {
     ghost use Rattle.pgv_numeric.specs.MoneyBack.{money_back};
 

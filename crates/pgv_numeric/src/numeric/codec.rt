@@ -26,7 +26,7 @@ const POSITIVE: u16 = 0;
 /// The sign of a number below zero.
 const NEGATIVE: u16 = 0x4000;
 
-/// What stands for the sign where there is no number.
+/// The word in place of the sign for NaN.
 const NOT_A_NUMBER: u16 = 0xc000;
 
 /// `numeric` (OID 1700), read under `numeric` and domains over it.
@@ -59,7 +59,8 @@ impl PgHasArrayType for PgNumeric {
     }
 }
 
-/// Appends a digit, as a word of two bytes. One outside 0 to 9999 is refused with C8.
+/// Appends a digit, as a word of two bytes. One outside 0 to 9999 is refused with
+/// [`NumericDigit`](CodecError::NumericDigit) (C8).
 fn write_digit(digit: &i16, out: &mut PgArgumentBuffer) -> Result<(), CodecError>
     ensures ok { OnOk result (AppendedAll (digit_written digit.now) out.old out.new) }
     ensures err { IfErr result (λ e. Refused e (digit_written digit.now)) }
@@ -74,7 +75,8 @@ fn write_digit(digit: &i16, out: &mut PgArgumentBuffer) -> Result<(), CodecError
     Ok(())
 }
 
-/// Appends the digits, a word each. One outside 0 to 9999 is refused with C8.
+/// Appends the digits, a word each. One outside 0 to 9999 is refused with [`NumericDigit`](CodecError::NumericDigit)
+/// (C8).
 fn write_digits(digits: &[i16], out: &mut PgArgumentBuffer) -> Result<(), CodecError>
     ensures ok { OnOk result (AppendedAll (digits_written digits.now) out.old out.new) }
     ensures err { IfErr result (λ e. Refused e (digits_written digits.now)) }
@@ -99,7 +101,7 @@ fn head_of(count: u16, weight: i16, sign: u16, scale: i16) -> [u8; 8]
     head
 }
 
-/// Appends a number. More than 32767 digits are refused with C7.
+/// Appends a number. More than 32767 digits are refused with [`NumericDigits`](CodecError::NumericDigits) (C7).
 fn write_number(
     sign: PgNumericSign,
     digits: &[i16],
@@ -135,8 +137,9 @@ fn sign_word(sign: PgNumericSign) -> u16
 }
 
 /// Written as words of two bytes: the number of digits, the weight, the sign, the scale, and the digits: 123.45 as
-/// `0002 0000 0000 0002 007b 1194`, and `NaN` as `0000 0000 c000 0000`. More than 32767 digits are refused with C7, and a digit outside
-/// 0 to 9999 with C8.
+/// `0002 0000 0000 0002 007b 1194`, and `NaN` as `0000 0000 c000 0000`. More than 32767 digits are refused with
+/// [`NumericDigits`](CodecError::NumericDigits) (C7), and a digit outside 0 to 9999 with
+/// [`NumericDigit`](CodecError::NumericDigit) (C8).
 impl Encode for PgNumeric {
     ghost image = { λ n. numeric_image (numeric_of n) };
 
@@ -184,7 +187,7 @@ fn signed_at(form: &[u8], place: usize) -> i16
     BigEndian::read_i16(&form[place..])
 }
 
-/// So many digits, of any value, whatever comes after them.
+/// This number of digits, of any value, whatever comes after them.
 #[inline(always)]
 fn read_digits(alloc: Global, count: u16, form: &[u8]) -> Result<Vec<i16>, CodecError>
     ensures exact { Answers (λ v. v.items) (digits_after count form.now) result }
@@ -241,11 +244,12 @@ fn of_bytes(alloc: Global, form: &[u8]) -> Result<PgNumeric, CodecError>
     })
 }
 
-/// Read of words as they are written, with digits of any value, and whatever comes after them. The sign `c000` is `NaN`, whatever the
-/// other words are; another sign is refused with C34, and bytes that end too early with C15. A text is refused with C18, and null with
-/// C13.
-/// Memory is asked for only by the digits: `NaN`, and a number without digits, are never refused as out of memory.
-/// A number comes back as it is.
+/// Read from words as they are written, with digits of any value, and whatever comes after them. The sign `c000` is
+/// `NaN`, whatever the other words are; another sign is refused with [`NumericSign`](CodecError::NumericSign) (C34),
+/// and bytes that end too early with [`Short`](CodecError::Short) (C15). A text is refused with
+/// [`TextUnsupported`](CodecError::TextUnsupported) (C18), and null with [`UnexpectedNull`](CodecError::UnexpectedNull)
+/// (C13). Memory is asked for only by the digits: `NaN`, and a number without digits, are never refused as out of
+/// memory. A number is read back as it is.
 impl Plain for PgNumeric {
     ghost use Rattle.pgv_numeric.specs.NumericBack.{numeric_back};
 

@@ -9,8 +9,9 @@ use crate::error::CodecError;
 use crate::value::{PgValueFormat, PgValueRef};
 use pgv_text::bool_of;
 
-/// Reads a `bool`: in binary whether the first byte is other than zero, whatever comes after it, and in text `t`
-/// or `f`. No byte is refused with C15, and another text with C29. `01` and `t` are `true`.
+/// Reads a `bool`: in binary whether the first byte is other than zero, whatever comes after it, and in text `t` or
+/// `f`. No byte is refused with [`Short`](CodecError::Short) (C15), and another text with
+/// [`Syntax`](CodecError::Syntax) (C29). `01` and `t` are `true`.
 pub fn read_bool(value: &PgValueRef<'_>) -> Result<bool, CodecError>
     ensures exact { AnswersExactly (λ truth. truth) (bool_reading value.now.type_info value.now.format value.now.bytes) result }
     ensures refused { IfErr result (λ e. e ≡ bool_refusal value.now.format value.now.bytes) }

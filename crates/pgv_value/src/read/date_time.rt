@@ -33,7 +33,8 @@ fn date_after(days: i32) -> Option<Date>
     plain.ok().map(Date::from_plain)
 }
 
-/// The time that many microseconds after midnight, round the clock: of 86400000001 it is one microsecond after midnight.
+/// The time that is this many microseconds after midnight, round the clock: for 86400000001 it is one microsecond after
+/// midnight.
 pub fn time_at(micros: i64) -> Time
     ensures { time_nanos result ≡ time_after micros }
 {
@@ -64,9 +65,9 @@ fn instant_after(micros: i64) -> Option<Timestamp>
 }
 
 /// Reads a `date`: in binary the days from 2000-01-01, in one to eight bytes of two's complement, and in text
-/// `YYYY-MM-DD`. Another number of bytes is refused with C17, a day outside the years -9999 to 9999 with C30, and
-/// another text with C29.
-/// `00000001` and `2000-01-02` are the same day.
+/// `YYYY-MM-DD`. Another number of bytes is refused with [`WrongLength`](CodecError::WrongLength) (C17), a day outside
+/// the years -9999 to 9999 with [`OutOfRange`](CodecError::OutOfRange) (C30), and another text with
+/// [`Syntax`](CodecError::Syntax) (C29). `00000001` and `2000-01-02` are the same day.
 pub fn read_date(value: &PgValueRef<'_>) -> Result<Date, CodecError>
     ensures exact { AnswersExactly epoch_day (date_reading value.now.type_info value.now.format value.now.bytes) result }
     ensures refused { IfErr result (λ e. e ≡ whole_or_syntax_refusal value.now.format value.now.bytes) }
@@ -81,10 +82,10 @@ pub fn read_date(value: &PgValueRef<'_>) -> Result<Date, CodecError>
     }
 }
 
-/// Reads a `time`: in binary the microseconds of the day, in one to eight bytes of two's complement and round the clock,
-/// and in text `HH:MM:SS`, perhaps with a fraction of up to six digits, or `24:00:00` for midnight. Another number of bytes
-/// is refused with C17, and another text with C29.
-/// `00000000000f4240` and `00:00:01` are the first second.
+/// Reads a `time`: in binary the microseconds of the day, in one to eight bytes of two's complement and round the
+/// clock, and in text `HH:MM:SS`, perhaps with a fraction of up to six digits, or `24:00:00` for midnight. Another
+/// number of bytes is refused with [`WrongLength`](CodecError::WrongLength) (C17), and another text with
+/// [`Syntax`](CodecError::Syntax) (C29). `00000000000f4240` and `00:00:01` are the first second.
 pub fn read_time(value: &PgValueRef<'_>) -> Result<Time, CodecError>
     ensures exact { AnswersExactly time_nanos (time_reading value.now.type_info value.now.format value.now.bytes) result }
     ensures refused { IfErr result (λ e. e ≡ whole_or_syntax_refusal value.now.format value.now.bytes) }
@@ -96,9 +97,10 @@ pub fn read_time(value: &PgValueRef<'_>) -> Result<Time, CodecError>
     }
 }
 
-/// Reads a `timestamp`: in binary the microseconds from 2000-01-01 00:00, in one to eight bytes of two's complement, and
-/// in text a date, a space, a time, and perhaps an offset with `+`, which is ignored. Another number of bytes is refused
-/// with C17, a date-time outside the years -9999 to 9999 with C30, and another text with C29.
+/// Reads a `timestamp`: in binary the microseconds from 2000-01-01 00:00, in one to eight bytes of two's complement,
+/// and in text a date, a space, a time, and perhaps an offset with `+`, which is ignored. Another number of bytes is
+/// refused with [`WrongLength`](CodecError::WrongLength) (C17), a date-time outside the years -9999 to 9999 with
+/// [`OutOfRange`](CodecError::OutOfRange) (C30), and another text with [`Syntax`](CodecError::Syntax) (C29).
 /// `00000000000f4240` and `2000-01-01 00:00:01` are the same.
 pub fn read_date_time(value: &PgValueRef<'_>) -> Result<DateTime, CodecError>
     ensures exact { AnswersExactly civil_nanos (date_time_reading value.now.type_info value.now.format value.now.bytes) result }
@@ -113,9 +115,10 @@ pub fn read_date_time(value: &PgValueRef<'_>) -> Result<DateTime, CodecError>
     }
 }
 
-/// Reads a `timestamptz`: in binary the microseconds from 2000-01-01 00:00 UTC, in one to eight bytes of two's complement,
-/// and in text a date, a space, a time and an offset. Another number of bytes is refused with C17, an instant outside
-/// those of `jiff` with C30 in binary, and another text with C29.
+/// Reads a `timestamptz`: in binary the microseconds from 2000-01-01 00:00 UTC, in one to eight bytes of two's
+/// complement, and in text a date, a space, a time and an offset. Another number of bytes is refused with
+/// [`WrongLength`](CodecError::WrongLength) (C17), an instant outside those of `jiff` with
+/// [`OutOfRange`](CodecError::OutOfRange) (C30) in binary, and another text with [`Syntax`](CodecError::Syntax) (C29).
 /// `00000000000f4240` and `2000-01-01 02:00:01+02` are the same instant.
 pub fn read_instant(value: &PgValueRef<'_>) -> Result<Timestamp, CodecError>
     ensures exact { AnswersExactly (λ at. at.nanosecond) (instant_reading value.now.type_info value.now.format value.now.bytes) result }

@@ -13,7 +13,8 @@ use byteorder::{BigEndian, ByteOrder};
 use pgv_text::{char_of, number_of};
 use std::num::TryFromIntError;
 
-/// A number that was made one of another type: C30 where that type doesn't have it.
+/// A number that was made one of another type: [`OutOfRange`](CodecError::OutOfRange) (C30) where that type doesn't
+/// have it.
 #[inline(always)]
 pub(crate) fn in_type<T: Drop>(number: Result<T, TryFromIntError>) -> Result<T, CodecError>
     ensures { MatchResult number (λ n. result ≡ Ok n) (λ _. result ≡ Err OutOfRange) }
@@ -24,7 +25,8 @@ pub(crate) fn in_type<T: Drop>(number: Result<T, TryFromIntError>) -> Result<T, 
     }
 }
 
-/// The number in one to eight bytes of two's complement, the highest first. Another length is refused with C17.
+/// The number in one to eight bytes of two's complement, the highest first. Another length is refused with
+/// [`WrongLength`](CodecError::WrongLength) (C17).
 #[inline(always)]
 pub(crate) fn whole_number_of(bytes: &[u8]) -> Result<i64, CodecError>
     ensures exact { AnswersExactly (λ number. number) (whole_number bytes.now) result }
@@ -67,9 +69,10 @@ fn integer(value: &PgValueRef<'_>) -> Result<i64, CodecError>
 }
 
 /// Reads a `"char"` as a signed number: in binary one to eight bytes of two's complement, in text nothing for 0, `\`
-/// for 92, `\` and three octal digits up to 377 for their byte, and else the first byte, where a text that begins
-/// with `\` otherwise is refused with C29. Another number of bytes is refused with C17, and a number that is outside
-/// 8 bits with C30. `ff` and `\\377` are -1.
+/// for 92, `\` and three octal digits up to 377 for their byte, and else the first byte, where a text that begins with
+/// `\` otherwise is refused with [`Syntax`](CodecError::Syntax) (C29). Another number of bytes is refused with
+/// [`WrongLength`](CodecError::WrongLength) (C17), and a number that is outside 8 bits with
+/// [`OutOfRange`](CodecError::OutOfRange) (C30). `ff` and `\\377` are -1.
 #[inline(always)]
 pub fn read_i8(value: &PgValueRef<'_>) -> Result<i8, CodecError>
     ensures exact { AnswersExactly (λ number. number) (char_reading value.now.type_info value.now.format value.now.bytes) result }
@@ -83,8 +86,9 @@ pub fn read_i8(value: &PgValueRef<'_>) -> Result<i8, CodecError>
 }
 
 /// Reads an `int2`: in binary one to eight bytes of two's complement, in text perhaps `+` or `-` and one or more
-/// digits. Another number of bytes is refused with C17, another text with C29, and a number outside 16 bits with C30. `0007`,
-/// `07` and `+7` are 7.
+/// digits. Another number of bytes is refused with [`WrongLength`](CodecError::WrongLength) (C17), another text with
+/// [`Syntax`](CodecError::Syntax) (C29), and a number outside 16 bits with [`OutOfRange`](CodecError::OutOfRange)
+/// (C30). `0007`, `07` and `+7` are 7.
 #[inline(always)]
 pub fn read_i16(value: &PgValueRef<'_>) -> Result<i16, CodecError>
     ensures exact { AnswersExactly (λ number. number) (int_reading w16 value.now.type_info value.now.format value.now.bytes) result }
@@ -94,7 +98,8 @@ pub fn read_i16(value: &PgValueRef<'_>) -> Result<i16, CodecError>
     in_type(i16::try_from(integer(value)?))
 }
 
-/// Reads an `int4`, as [`read_i16`] reads an `int2`; a number outside 32 bits is refused with C30. `00000007` is 7.
+/// Reads an `int4`, as [`read_i16`] reads an `int2`; a number outside 32 bits is refused with
+/// [`OutOfRange`](CodecError::OutOfRange) (C30). `00000007` is 7.
 #[inline(always)]
 pub fn read_i32(value: &PgValueRef<'_>) -> Result<i32, CodecError>
     ensures exact { AnswersExactly (λ number. number) (int_reading w32 value.now.type_info value.now.format value.now.bytes) result }
@@ -107,7 +112,8 @@ pub fn read_i32(value: &PgValueRef<'_>) -> Result<i32, CodecError>
     }
 }
 
-/// Reads an `int8`, as [`read_i16`] reads an `int2`; a number outside 64 bits is refused with C30. `fffffffffffffff9` is -7.
+/// Reads an `int8`, as [`read_i16`] reads an `int2`; a number outside 64 bits is refused with
+/// [`OutOfRange`](CodecError::OutOfRange) (C30). `fffffffffffffff9` is -7.
 #[inline(always)]
 pub fn read_i64(value: &PgValueRef<'_>) -> Result<i64, CodecError>
     ensures exact { AnswersExactly (λ number. number) (int_reading w64 value.now.type_info value.now.format value.now.bytes) result }

@@ -27,9 +27,10 @@ fn interval_of_bytes(bytes: &[u8]) -> Result<PgInterval, CodecError>
     })
 }
 
-/// Reads an `interval`, in binary alone: the microseconds in eight bytes, the days in four and the months in four, each signed,
-/// the highest byte first, whatever comes after them. Fewer bytes are refused with C15, and a text with C18.
-/// `00000000d693a400 00000000 00000000` is an hour.
+/// Reads an `interval`, in binary alone: the microseconds in eight bytes, the days in four and the months in four, each
+/// signed, the highest byte first, whatever comes after them. Fewer bytes are refused with [`Short`](CodecError::Short)
+/// (C15), and a text with [`TextUnsupported`](CodecError::TextUnsupported) (C18). `00000000d693a400 00000000 00000000`
+/// is an hour.
 pub fn read_interval(value: &PgValueRef<'_>) -> Result<PgInterval, CodecError>
     ensures exact { AnswersExactly (λ interval. interval) (interval_reading value.now.type_info value.now.format value.now.bytes) result }
     ensures refused { IfErr result (λ e. e ≡ short_refusal value.now.format value.now.bytes) }

@@ -40,7 +40,8 @@ fn address_fault(family: u8, len: usize) -> CodecError
     }
 }
 
-/// The network of an address and a prefix. A prefix above the number of the address's bits is refused with C32.
+/// The network of an address and a prefix. A prefix above the number of the address's bits is refused with
+/// [`InetPrefix`](CodecError::InetPrefix) (C32).
 fn network_with(address: IpAddr, prefix: u8) -> Result<IpNetwork, CodecError>
     ensures exact { AnswersExactly network_of (spec.network_with address prefix) result }
     ensures refused { IfErr result (λ e. e ≡ InetPrefix prefix) }
@@ -64,8 +65,10 @@ fn network_of_octets(
     network_with(address, prefix)
 }
 
-/// The network of bytes. Fewer than eight bytes, or others than the family has, are refused with C17, a family other than
-/// 2 and 3 with C31, and a prefix above the number of the address's bits with C32.
+/// The network of bytes. Fewer than eight bytes, or others than the family has, are refused with
+/// [`WrongLength`](CodecError::WrongLength) (C17), a family other than 2 and 3 with
+/// [`InetFamily`](CodecError::InetFamily) (C31), and a prefix above the number of the address's bits with
+/// [`InetPrefix`](CodecError::InetPrefix) (C32).
 fn network_of_bytes(bytes: &[u8]) -> Result<IpNetwork, CodecError>
     ensures exact { AnswersExactly network_of (network_binary bytes.now) result }
     ensures refused { IfErr result (λ e. e ≡ network_refused bytes.now) }
@@ -78,7 +81,7 @@ fn network_of_bytes(bytes: &[u8]) -> Result<IpNetwork, CodecError>
     }
 }
 
-/// The network of a text. Another text is refused with C29.
+/// The network of a text. Another text is refused with [`Syntax`](CodecError::Syntax) (C29).
 fn network_of_text(text: &str) -> Result<IpNetwork, CodecError>
     ensures exact { AnswersExactly network_of (network_value text.now) result }
     ensures refused { IfErr result (λ e. e ≡ Syntax) }
@@ -86,7 +89,8 @@ fn network_of_text(text: &str) -> Result<IpNetwork, CodecError>
     IpNetwork::from_str(text).ok_or(CodecError::Syntax)
 }
 
-/// The address of a network whose prefix is full. Another prefix is refused with C33.
+/// The address of a network whose prefix is full. Another prefix is refused with
+/// [`LossyAddress`](CodecError::LossyAddress) (C33).
 fn address_alone(network: IpNetwork) -> Result<IpAddr, CodecError>
     ensures exact { AnswersExactly (λ address. address) (full_address (network_of network)) result }
     ensures refused { IfErr result (λ e. e ≡ LossyAddress) }
@@ -99,9 +103,10 @@ fn address_alone(network: IpNetwork) -> Result<IpAddr, CodecError>
 }
 
 /// Reads an `inet` or a `cidr`: in binary the family, the prefix, a byte that is ignored, the number of octets and the
-/// octets, and in text an address, and perhaps `/` and the prefix. Refused are a wrong length with C17, another family with
-/// C31, a prefix that is too long with C32, and another text with C29.
-/// `02180004c0a80000` and `192.168.0.0/24` are the same network.
+/// octets, and in text an address, and perhaps `/` and the prefix. Refused are a wrong length with
+/// [`WrongLength`](CodecError::WrongLength) (C17), another family with [`InetFamily`](CodecError::InetFamily) (C31), a
+/// prefix that is too long with [`InetPrefix`](CodecError::InetPrefix) (C32), and another text with
+/// [`Syntax`](CodecError::Syntax) (C29). `02180004c0a80000` and `192.168.0.0/24` are the same network.
 #[inline(always)]
 pub fn read_ip_network(value: &PgValueRef<'_>) -> Result<IpNetwork, CodecError>
     ensures exact { AnswersExactly network_of (network_reading value.now.type_info value.now.format value.now.bytes) result }
@@ -114,9 +119,8 @@ pub fn read_ip_network(value: &PgValueRef<'_>) -> Result<IpNetwork, CodecError>
     }
 }
 
-/// Reads an `inet` or a `cidr` as an address, as [`read_ip_network`] reads them; a prefix that is not full is refused with
-/// C33.
-/// `02200004c0a80001` and `192.168.0.1` are the same address.
+/// Reads an `inet` or a `cidr` as an address, as [`read_ip_network`] reads them; a prefix that is not full is refused
+/// with [`LossyAddress`](CodecError::LossyAddress) (C33). `02200004c0a80001` and `192.168.0.1` are the same address.
 pub fn read_ip_address(value: &PgValueRef<'_>) -> Result<IpAddr, CodecError>
     ensures exact { AnswersExactly (λ address. address) (address_reading value.now.type_info value.now.format value.now.bytes) result }
     ensures refused { IfErr result (λ e. e ≡ address_refusal value.now.format value.now.bytes) }

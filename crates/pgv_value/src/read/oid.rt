@@ -12,9 +12,10 @@ use crate::value::{PgValueFormat, PgValueRef};
 use pgv_text::unsigned_number_of;
 use pgv_types::Oid;
 
-/// Reads an `oid`: in binary the first four bytes, the highest first, whatever comes after them, and in text
-/// perhaps `+` and one or more digits. Fewer bytes are refused with C15, another text with C29, and a number above
-/// 4294967295 with C30. `00000019` and `25` are the OID of `text`.
+/// Reads an `oid`: in binary the first four bytes, the highest first, whatever comes after them, and in text perhaps
+/// `+` and one or more digits. Fewer bytes are refused with [`Short`](CodecError::Short) (C15), another text with
+/// [`Syntax`](CodecError::Syntax) (C29), and a number above 4294967295 with [`OutOfRange`](CodecError::OutOfRange)
+/// (C30). `00000019` and `25` are the OID of `text`.
 pub fn read_oid(value: &PgValueRef<'_>) -> Result<Oid, CodecError>
     ensures exact { AnswersExactly (λ oid. oid.0) (oid_reading value.now.type_info value.now.format value.now.bytes) result }
     ensures refused { IfErr result (λ e. e ≡ oid_refusal value.now.format value.now.bytes) }

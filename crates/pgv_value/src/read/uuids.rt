@@ -10,7 +10,7 @@ use crate::error::CodecError;
 use crate::value::{PgValueFormat, PgValueRef};
 use uuid::Uuid;
 
-/// The identifier of a text. Another text is refused with C29.
+/// The identifier of a text. Another text is refused with [`Syntax`](CodecError::Syntax) (C29).
 fn uuid_of(text: &str) -> Result<Uuid, CodecError>
     ensures exact { AnswersExactly (λ id. id) (parsed text.now) result }
     ensures refused { IfErr result (λ e. e ≡ Syntax) }
@@ -22,8 +22,9 @@ fn uuid_of(text: &str) -> Result<Uuid, CodecError>
 }
 
 /// Reads a `uuid`: in binary its sixteen bytes, and in text its 32 hex digits of either case, also hyphenated, in
-/// braces or after `urn:uuid:`. Another number of bytes is refused with C17, and another text with C29.
-/// `550e8400e29b41d4a716446655440000` is read in either format, as bytes and as digits.
+/// braces or after `urn:uuid:`. Another number of bytes is refused with [`WrongLength`](CodecError::WrongLength) (C17),
+/// and another text with [`Syntax`](CodecError::Syntax) (C29). `550e8400e29b41d4a716446655440000` is read in either
+/// format, as bytes and as digits.
 pub fn read_uuid(value: &PgValueRef<'_>) -> Result<Uuid, CodecError>
     ensures exact { AnswersExactly (λ id. id) (uuid_reading value.now.type_info value.now.format value.now.bytes) result }
     ensures refused { IfErr result (λ e. e ≡ uuid_refusal value.now.format value.now.bytes) }

@@ -1,9 +1,9 @@
 use Rattle.std.proofs.Common.{◌<◌, ◌-◌, suc, true, List, refl, ap, ◌∙◌, add-one}
 use Rattle.std.proofs.lemmas.Result.{err_from_is_err_and}
 use Rattle.pgv_value.specs.declared.value.PgValueFormat.{PgValueFormat}
-use Rattle.pgv_row.specs.Outcome.{after}
-use Rattle.pgv_row.specs.Several.{several}
-use Rattle.pgv_row.proofs.Several.{with_front, is_done, goes_on, ends_with}
+use Rattle.pgv_value.specs.Outcome.{after}
+use Rattle.pgv_value.specs.Several.{several}
+use Rattle.pgv_value.proofs.Several.{with_front, is_done, goes_on, ends_with}
 use Rattle.pgv_message.specs.CopyFormats.{format_front}
 use Rattle.pgv_message.proofs.copy_response.formats_in_front.Goals as goal
 

@@ -1,6 +1,6 @@
 use Rattle.std.proofs.Common.{◌≡◌, ◌-◌}
-use Rattle.pgv_row.specs.Several.{several}
-use Rattle.pgv_row.proofs.Several.{with_front}
+use Rattle.pgv_value.specs.Several.{several}
+use Rattle.pgv_value.proofs.Several.{with_front}
 use Rattle.pgv_message.specs.Counted.{oid_front}
 use Rattle.pgv_message.proofs.parameter_description.oids_in_front.Given as goal
 

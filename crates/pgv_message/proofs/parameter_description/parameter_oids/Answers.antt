@@ -1,7 +1,7 @@
 use Rattle.std.proofs.Common.{List, Ok, Err, arith}
 use Rattle.std.proofs.lemmas.Result.{err_from_is_err_and}
 use Rattle.pgv_types.specs.declared.oid.Oid.{Oid}
-use Rattle.pgv_row.proofs.Fronts.{are_bytes}
+use Rattle.pgv_value.proofs.ReadFronts.{are_bytes}
 use Rattle.pgv_message.specs.Pieces.{oid_bytes}
 use Rattle.pgv_message.specs.Counted.{oid_front, IsOid}
 use Rattle.pgv_message.proofs.Counted.{reads_counted, reads_oid}

@@ -3,7 +3,7 @@ use Rattle.std.specs.Prelude.{vec_len}
 use Rattle.std.proofs.lemmas.Bool.{eq-eqb, ne_eqb}
 use Rattle.std.proofs.lemmas.List.{map-append}
 use Rattle.std.proofs.lemmas.Result.{err_from_is_err_and}
-use Rattle.pgv_row.specs.Outcome.{stated}
+use Rattle.pgv_value.specs.Outcome.{stated}
 use Rattle.pgv_message.specs.declared.response.PgField.{PgField}
 use Rattle.pgv_message.specs.Notice.{Field, field_view, fields_in}
 use Rattle.pgv_message.proofs.Notices.{continued, is_done, goes_on, ends, runs_out, empty_is}

@@ -2,9 +2,9 @@ use Rattle.std.proofs.Common.{◌<◌, ◌-◌, suc, true, List, refl, ap, ◌�
 use Rattle.std.proofs.lemmas.Result.{err_from_is_err_and}
 use Rattle.pgv_row.specs.ColumnView.{Column}
 use Rattle.pgv_row.specs.Description.{column_front}
-use Rattle.pgv_row.specs.Outcome.{after}
-use Rattle.pgv_row.specs.Several.{several}
-use Rattle.pgv_row.proofs.Several.{with_front, is_done, goes_on, ends_with}
+use Rattle.pgv_value.specs.Outcome.{after}
+use Rattle.pgv_value.specs.Several.{several}
+use Rattle.pgv_value.proofs.Several.{with_front, is_done, goes_on, ends_with}
 use Rattle.pgv_row.proofs.column.columns_in_front.Goals as goal
 
 pub loop-preserved : goal.loop-preserved

@@ -1,7 +1,7 @@
 use Rattle.std.proofs.Common.{◌≡◌, ◌-◌}
 use Rattle.pgv_row.specs.Description.{column_front}
-use Rattle.pgv_row.specs.Several.{several}
-use Rattle.pgv_row.proofs.Several.{with_front}
+use Rattle.pgv_value.specs.Several.{several}
+use Rattle.pgv_value.proofs.Several.{with_front}
 use Rattle.pgv_row.proofs.column.columns_in_front.Given as goal
 
 -- what was read and what is left to read are the columns

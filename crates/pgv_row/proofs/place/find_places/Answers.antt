@@ -2,7 +2,7 @@ use Rattle.std.proofs.Common.{arith}
 use Rattle.std.specs.Prelude.{vec_capacity}
 use Rattle.pgv_row.specs.Places.{parts_at}
 use Rattle.pgv_row.proofs.DataRows.{row_read, enough_room}
-use Rattle.pgv_row.proofs.Fronts.{are_bytes}
+use Rattle.pgv_value.proofs.ReadFronts.{are_bytes}
 use Rattle.pgv_row.proofs.place.find_places.Goals as goal
 
 pub returns-clause-exact : goal.returns-clause-exact

@@ -2,12 +2,12 @@ use Rattle.std.proofs.Common.{◌≡◌, ◌<◌, ◌-◌, suc, List, [], ◌∷
 use Rattle.std.proofs.lemmas.List.{map-append}
 use Rattle.std.proofs.lemmas.Result.{err_from_is_err_and}
 use Rattle.pgv_value.specs.FrameBinary.{Part}
-use Rattle.pgv_row.specs.Fronts.{one_part}
-use Rattle.pgv_row.specs.Outcome.{stated}
+use Rattle.pgv_value.specs.Fronts.{one_part}
+use Rattle.pgv_value.specs.Outcome.{stated}
 use Rattle.pgv_row.specs.Places.{part_at, parts_at}
-use Rattle.pgv_row.specs.Several.{several}
+use Rattle.pgv_value.specs.Several.{several}
 use Rattle.pgv_row.proofs.Places.{one_within}
-use Rattle.pgv_row.proofs.Several.{with_front, is_done, goes_on, ends}
+use Rattle.pgv_value.proofs.Several.{with_front, is_done, goes_on, ends}
 use Rattle.pgv_row.proofs.place.note_places.Goals as goal
 
 pub loop-preserved : goal.loop-preserved

@@ -1,9 +1,9 @@
 use Rattle.std.proofs.Common.{◌≡◌, ◌-◌, ◌≤◌, drop, length}
 use Rattle.std.specs.Prelude.{vec_len, vec_capacity}
-use Rattle.pgv_row.specs.Fronts.{one_part}
+use Rattle.pgv_value.specs.Fronts.{one_part}
 use Rattle.pgv_row.specs.Places.{parts_at, AreWithin}
-use Rattle.pgv_row.specs.Several.{several}
-use Rattle.pgv_row.proofs.Several.{with_front}
+use Rattle.pgv_value.specs.Several.{several}
+use Rattle.pgv_value.proofs.Several.{with_front}
 use Rattle.pgv_row.proofs.place.note_places.Given as goal
 
 -- what was read and what is left to read are the parts of the row

@@ -2,7 +2,7 @@ use Rattle.std.proofs.Common.{List, Ok, Err, arith}
 use Rattle.std.proofs.lemmas.Result.{err_from_is_err_and}
 use Rattle.pgv_row.specs.ColumnView.{Column}
 use Rattle.pgv_row.proofs.Descriptions.{columns_read}
-use Rattle.pgv_row.proofs.Fronts.{are_bytes}
+use Rattle.pgv_value.proofs.ReadFronts.{are_bytes}
 use Rattle.pgv_row.proofs.column.PgColumns.read.Goals as goal
 
 pub returns-clause-exact : goal.returns-clause-exact

@@ -4,7 +4,7 @@
 use Rattle.std.specs.Prelude.{◌≡◌, ◌↔◌, ℕ, zero, suc, List, [], ◌∷◌, ◌++◌, length, flat_map, Ok}
 use Rattle.std.specs.List.{AllByRecursion}
 use Rattle.pgv_value.specs.Laws.{AreBytes}
-use Rattle.pgv_row.specs.Outcome.{Outcome, done, ◌>>=◌}
+use Rattle.pgv_value.specs.Outcome.{Outcome, done, ◌>>=◌}
 
 -- as many things as n, and the rest
 unfoldable pub several : {A : Type 0} → (List ℕ → Outcome (A × List ℕ)) → ℕ → List ℕ → Outcome (List A × List ℕ)

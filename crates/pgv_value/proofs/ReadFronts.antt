@@ -9,7 +9,7 @@ use Rattle.std.proofs.lemmas.List.Quantifiers.{position-Some}
 use Rattle.std.proofs.lemmas.Nat.{be_bytes_2, from_be_bytes-to_be_bytes_2}
 use Rattle.std.proofs.lemmas.Option.{same_Some}
 use Rattle.std.proofs.Math.Facts.{sfits_to_z, Fits-of_z, of_z-to_z, to_z-of_z}
-use Rattle.pgv_value.specs.FrameBinary.{Part, IsFrame, front, frame_fault}
+use Rattle.pgv_value.specs.FrameBinary.{Part, IsFrame, front, frame_fault, field_bytes, IsField}
 use Rattle.pgv_value.specs.Laws.{AreBytes}
 use Rattle.pgv_value.specs.Steps.{number, signed_two}
 use Rattle.pgv_value.specs.Utf8.{is_utf8}
@@ -19,26 +19,10 @@ use Rattle.pgv_value.specs.declared.value.PgValueFormat.{PgValueFormat}
 use Rattle.pgv_value.specs.declared.value.PgValueFormat.TheVariants.{Text, Binary}
 use Rattle.pgv_value.proofs.Fronts.{front_exactly, frame_in_front}
 use Rattle.pgv_value.proofs.Numbers.{bytes_below, test_failed, number_is, number_there}
-use Rattle.pgv_copy.specs.CopyStream.{field_bytes, IsField}
-use Rattle.pgv_row.specs.Description.{format_of, format_number}
-use Rattle.pgv_row.specs.Fronts.{u16_front, i16_front, u32_front, ended_front, name_front, part_front, one_part, frames_front}
-use Rattle.pgv_row.specs.Parsed.{Parsed, ◌>>=◌}
-use Rattle.pgv_row.specs.Several.{ReadsOne}
-use Rattle.pgv_row.proofs.Outcomes.{ok_is, found_or, stated_is}
-
--- ---- steps that never ask for memory
-
-and_then_taken : {A B : Type 0} (p : Parsed A) (f : A → Parsed B) (y : B) → p >>= f ≡ Ok y → (x : A) × (p ≡ Ok x) × (f x ≡ Ok y)
-and_then_taken (Ok x) f y e = (x, refl, e)
-and_then_taken (Err d) f y e = absurd cc
-
-pub held : {A : Type 0} (b : Bool) (d : CodecError) (r : Parsed A) (y : A) → cond {A = Parsed A} b r (Err d) ≡ Ok y → (b ≡ true) × (r ≡ Ok y)
-held true d r y e = (refl, e)
-held false d r y e = absurd cc
-
-failed : {A : Type 0} (b : Bool) (d : CodecError) (r : Parsed A) (y : A) → cond {A = Parsed A} b (Err d) r ≡ Ok y → (b ≡ false) × (r ≡ Ok y)
-failed true d r y e = absurd cc
-failed false d r y e = (refl, e)
+use Rattle.pgv_value.specs.Fronts.{u16_front, i16_front, u32_front, ended_front, name_front, part_front, one_part, format_of, format_number}
+use Rattle.pgv_value.specs.Parsed.{Parsed, ◌>>=◌}
+use Rattle.pgv_value.specs.Several.{ReadsOne}
+use Rattle.pgv_value.proofs.Outcomes.{ok_is, found_or, stated_is, and_then_taken, held, failed}
 
 -- ---- numbers
 
@@ -184,11 +168,11 @@ format_is code f e = format_by _ _ code f refl refl e
 
 -- ---- frames
 
-framed : (part : Part) (rest : List ℕ) → IsField part → IsFrame (field_bytes part ++ rest) part rest
+pub framed : (part : Part) (rest : List ℕ) → IsField part → IsFrame (field_bytes part ++ rest) part rest
 framed None rest h = refl
 framed (Some part) rest h = (h, append_assoc (to_be_bytes w32 (length part)) part rest)
 
-frame_bytes : (bytes : List ℕ) (part : Part) (rest : List ℕ) → IsFrame bytes part rest → IsField part × (bytes ≡ field_bytes part ++ rest)
+pub frame_bytes : (bytes : List ℕ) (part : Part) (rest : List ℕ) → IsFrame bytes part rest → IsField part × (bytes ≡ field_bytes part ++ rest)
 frame_bytes bytes None rest e = (tt, e)
 frame_bytes bytes (Some part) rest e = (e.0, e.1 ∙ sym (append_assoc (to_be_bytes w32 (length part)) part rest))
 
@@ -203,24 +187,6 @@ reads_part bytes part rest h = (to, from)
     from s =
         let found : front bytes ≡ Some (part, rest) = ap front s.1 ∙ frame_in_front (field_bytes part ++ rest) part rest (framed part rest s.0) in
         rw found refl
-
-frames_there : (width : ℕ) (rest : List ℕ) → width < 2 ^ 16 → frames_front width (to_be_bytes w16 width ++ rest) ≡ Ok rest
-unfolding frames_front
-frames_there width rest lt = let same : nat_eq width width ≡ true = eq-eqb width width refl in rw (u16_there width rest lt, same) refl
-
-pub frames_read : (width : ℕ) (bytes rest : List ℕ) → width < 2 ^ 16 → bytes ≡ to_be_bytes w16 width ++ rest → frames_front width bytes ≡ Ok rest
-frames_read width bytes rest lt e = ap (frames_front width) e ∙ frames_there width rest lt
-
-pub frames_are : (width : ℕ) (bytes rest : List ℕ) → AreBytes bytes → frames_front width bytes ≡ Ok rest → (width < 2 ^ 16) × (bytes ≡ to_be_bytes w16 width ++ rest)
-unfolding frames_front
-frames_are width bytes rest h e =
-    let a = and_then_taken {A = ℕ × List ℕ} (u16_front bytes) _ rest e in
-    let t = held (nat_eq a.0.0 width) FieldCount (Ok a.0.1) rest a.2 in
-    let n_is : a.0.0 ≡ width = eqb-true a.0.0 width t.0 in
-    let k = u16_is bytes a.0.1 a.0.0 h a.1 in (
-      subst (λ (n : ℕ). n < 2 ^ 16) n_is k.0,
-      k.1 ∙ ap (λ (n : ℕ). to_be_bytes w16 n ++ a.0.1) n_is ∙ ap (λ (xs : List ℕ). to_be_bytes w16 width ++ xs) (ok_is {A = List ℕ} a.0.1 rest t.1),
-    )
 
 -- ---- the end
 

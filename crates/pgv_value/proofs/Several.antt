@@ -5,9 +5,9 @@ use Rattle.std.specs.List.{AllByRecursion}
 use Rattle.pgv_value.specs.Laws.{AreBytes}
 use Rattle.pgv_value.specs.declared.error.CodecError.{CodecError}
 use Rattle.pgv_value.proofs.Numbers.{bytes_after}
-use Rattle.pgv_row.specs.Outcome.{Outcome, Fails, done, bind_by}
-use Rattle.pgv_row.specs.Several.{several, ReadsOne, AreSeveral}
-use Rattle.pgv_row.proofs.Outcomes.{taken, answer_is, IsOther, free_then, other_then}
+use Rattle.pgv_value.specs.Outcome.{Outcome, Fails, done, bind_by}
+use Rattle.pgv_value.specs.Several.{several, ReadsOne, AreSeveral}
+use Rattle.pgv_value.proofs.Outcomes.{taken, answer_is, IsOther, free_then, other_then}
 
 -- ---- as a loop reads them
 

@@ -1,10 +1,10 @@
 //! What stands in front of bytes.
 
 ghost use Rattle.std.specs.Prelude.{◌≡◌, ◌+◌, ◌<◌, ◌==◌, length, IfOk, IfSome, position};
-ghost use Rattle.pgv_row.specs.Fronts.{u16_front, ended_front, name_front};
-ghost use Rattle.pgv_row.specs.Parsed.{GivesExactly};
+ghost use Rattle.pgv_value.specs.Fronts.{u16_front, ended_front, name_front};
+ghost use Rattle.pgv_value.specs.Parsed.{GivesExactly};
 
-use pgv_value::CodecError;
+use crate::error::CodecError;
 
 /// The unsigned number of 16 bits in front, the highest byte first, and the rest: of `ffff00` it is 65535, and the rest is `00`. Fewer
 /// than two bytes are refused with C15.
@@ -45,7 +45,7 @@ fn ended_in_front(bytes: &[u8]) -> Result<(&[u8], &[u8]), CodecError>
 
 /// The text that a zero byte ends, and the rest: of `696400ff` it is `id`, and the rest is `ff` (PostgreSQL, "Message Data Types",
 /// String). Without a zero byte it is refused with C15, and where it isn't UTF-8 with C14.
-#[tactic(auto, unfolding(crate::specs::Fronts::name_front), using(pgv_value::proofs::Text::whole_text))]
+#[tactic(auto, unfolding(crate::specs::Fronts::name_front), using(crate::proofs::Text::whole_text))]
 pub fn name_in_front(bytes: &[u8]) -> Result<(&str, &[u8]), CodecError>
     ensures exact { GivesExactly (λ x. (x.0.now, x.1.now)) (name_front bytes.now) result }
     ensures shorter { IfOk result (λ x. length x.1.now < length bytes.now) }

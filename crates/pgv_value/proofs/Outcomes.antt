@@ -1,11 +1,11 @@
 -- How an outcome goes from step to step.
-use Rattle.std.proofs.Common.{◌≡◌, ◌≢◌, Bool, true, false, Option, Some, None, Result, Ok, Err, refl, sym, ap, ◌∙◌, subst, inl, inr}
+use Rattle.std.proofs.Common.{◌≡◌, ◌≢◌, Bool, true, false, cond, Option, Some, None, Result, Ok, Err, refl, sym, ap, ◌∙◌, subst, inl, inr}
 use Rattle.std.specs.Prelude.{ok_or, IfErr}
 use Rattle.std.proofs.lemmas.Bool.{false≢true}
 use Rattle.pgv_value.specs.declared.error.CodecError.{CodecError}
 use Rattle.pgv_value.specs.declared.error.CodecError.TheVariants.{Memory}
-use Rattle.pgv_row.specs.Outcome.{Outcome, Fails, Gives, fails_if, stated, exactly, bind_by, ◌>>=◌, ◌>>◌}
-use Rattle.pgv_row.specs.Parsed.{Parsed, GivesExactly}
+use Rattle.pgv_value.specs.Outcome.{Outcome, Fails, Gives, fails_if, stated, exactly, bind_by, ◌>>=◌, ◌>>◌}
+use Rattle.pgv_value.specs.Parsed.{Parsed, GivesExactly, ◌>>=◌ as ◌and_then◌}
 
 pub answer_is : {A : Type 0} (x y : A) → (let r : Result A (Option CodecError) = Ok x in r) ≡ Ok y → x ≡ y
 answer_is x y e = cc
@@ -16,6 +16,20 @@ ok_is x y e = cc
 pub gives_exactly : {V M : Type 0} (view : V → M) (p : Parsed M) (r : Result V CodecError) → GivesExactly view p r → Gives view (exactly p) r
 gives_exactly view p (Ok v) h = ap stated h
 gives_exactly view p (Err e) h = inl (ap stated h)
+
+-- ---- steps that never ask for memory
+
+pub and_then_taken : {A B : Type 0} (p : Parsed A) (f : A → Parsed B) (y : B) → p and_then f ≡ Ok y → (x : A) × (p ≡ Ok x) × (f x ≡ Ok y)
+and_then_taken (Ok x) f y e = (x, refl, e)
+and_then_taken (Err d) f y e = absurd cc
+
+pub held : {A : Type 0} (b : Bool) (d : CodecError) (r : Parsed A) (y : A) → cond {A = Parsed A} b r (Err d) ≡ Ok y → (b ≡ true) × (r ≡ Ok y)
+held true d r y e = (refl, e)
+held false d r y e = absurd cc
+
+pub failed : {A : Type 0} (b : Bool) (d : CodecError) (r : Parsed A) (y : A) → cond {A = Parsed A} b (Err d) r ≡ Ok y → (b ≡ false) × (r ≡ Ok y)
+failed true d r y e = absurd cc
+failed false d r y e = (refl, e)
 
 -- ---- what is read at the end was read step by step
 

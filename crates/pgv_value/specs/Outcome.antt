@@ -5,7 +5,7 @@
 use Rattle.std.specs.Prelude.{◌≡◌, ◌≢◌, ◌⊎◌, Bool, true, false, ◌||◌, Option, Some, None, Result, Ok, Err, ok_or, if◌then◌else◌, ⊤}
 use Rattle.pgv_value.specs.declared.error.CodecError.{CodecError}
 use Rattle.pgv_value.specs.declared.error.CodecError.TheVariants.{Memory}
-use Rattle.pgv_row.specs.Parsed.{Parsed}
+use Rattle.pgv_value.specs.Parsed.{Parsed}
 
 -- what is read or the error, where it is stated, and whether memory may have been asked for by then
 pub record Outcome (M : Type 0) : Type 0 where

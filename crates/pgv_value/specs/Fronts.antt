@@ -6,9 +6,11 @@ use Rattle.std.specs.Int.{w16, from_be_bytes}
 use Rattle.pgv_value.specs.FrameBinary.{Part, front, frame_fault}
 use Rattle.pgv_value.specs.Steps.{number, signed_two}
 use Rattle.pgv_value.specs.Utf8.{is_utf8}
-use Rattle.pgv_value.specs.declared.error.CodecError.TheVariants.{FieldCount, Short, Utf8}
-use Rattle.pgv_row.specs.Outcome.{Outcome, exactly}
-use Rattle.pgv_row.specs.Parsed.{Parsed, ◌>>=◌}
+use Rattle.pgv_value.specs.declared.error.CodecError.TheVariants.{Short, OutOfRange, Utf8}
+use Rattle.pgv_value.specs.declared.value.PgValueFormat.{PgValueFormat}
+use Rattle.pgv_value.specs.declared.value.PgValueFormat.TheVariants.{Text, Binary}
+use Rattle.pgv_value.specs.Outcome.{Outcome, exactly}
+use Rattle.pgv_value.specs.Parsed.{Parsed, ◌>>=◌}
 
 -- the unsigned number of 16 bits
 unfoldable pub u16_front : List ℕ → Parsed (ℕ × List ℕ)
@@ -37,6 +39,11 @@ part_front bytes = ok_or (front bytes) (frame_fault bytes)
 abbrev pub one_part : List ℕ → Outcome (Part × List ℕ)
 one_part bytes = exactly (part_front bytes)
 
--- the frames of a row, where there are as many as columns, else C12
-unfoldable pub frames_front : ℕ → List ℕ → Parsed (List ℕ)
-frames_front width bytes = u16_front bytes >>= λ count. if nat_eq count.0 width then Ok count.1 else Err FieldCount
+-- the format of a code: 0 is text and 1 binary, and any other is C30
+abbrev pub format_of : ℕ → Parsed PgValueFormat
+format_of code = if nat_eq code 0 then Ok Text else if nat_eq code 1 then Ok Binary else Err OutOfRange
+
+-- the code of a format
+abbrev pub format_number : PgValueFormat → ℕ
+format_number Text = 0
+format_number Binary = 1
