@@ -1,10 +1,5 @@
-<<<<<<< HEAD
-//! What `pgv_calls`, `pgv_value_calls` and `pgv_row_calls` share: rows of calls, the blocks that they stand in, and
-//! what is said of an answer. It promises nothing but to be safe.
-=======
-//! What `pgv_calls` and `pgv_value_calls` share: rows of calls, the blocks that they are in, and how an answer is
-//! printed. The checker proves that its functions are safe.
->>>>>>> move
+//! What `pgv_calls`, `pgv_value_calls` and `pgv_row_calls` share: rows of calls, the blocks that they are in, and how
+//! an answer is printed. The checker proves that its functions are safe.
 #![tactic(auto)]
 
 mod again;
