@@ -73,12 +73,7 @@ pub fn show_copy_formats(alloc: Global, body: &[u8], out: &mut String) -> Result
 }
 
 /// Appends an error or a notice.
-pub fn show_notice(
-    alloc: Global,
-    kind: &str,
-    body: &[u8],
-    out: &mut String,
-) -> Result<(), Fault> {
+pub fn show_notice(alloc: Global, kind: &str, body: &[u8], out: &mut String) -> Result<(), Fault> {
     let notice = PgNotice::read(alloc, body)?;
     out.push_str(kind)?;
     Ok(push_notice(&notice, out)?)

@@ -34,7 +34,8 @@ const SETTINGS: [PgSetting<'static>; 4] = [
 ];
 
 /// The statement of the session `people`.
-const PEOPLE: &str = "select id, name, mood, sizes, born from people where id >= $1 and name is distinct from $2 \
+const PEOPLE: &str =
+    "select id, name, mood, sizes, born from people where id >= $1 and name is distinct from $2 \
      order by id";
 
 /// The statement of the session `orders`.
@@ -44,7 +45,8 @@ const ORDERS: &str = "select id, items, first from orders where id = any($1) ord
 const COPY: &str = "copy people to stdout (format binary)";
 
 /// The simple query of the session `asynchronous`.
-const ASYNCHRONOUS: &str = "listen news; notify news, 'today'; do $$ begin raise notice 'look: %', 7; end $$; \
+const ASYNCHRONOUS: &str =
+    "listen news; notify news, 'today'; do $$ begin raise notice 'look: %', 7; end $$; \
      set timezone to 'Europe/Paris'; select";
 
 /// Appends what prepares a statement without a name, and asks what it is.

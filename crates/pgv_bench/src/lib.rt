@@ -408,11 +408,6 @@ pub extern "C" fn pgv_bench_rows(
 
 /// Adds the four arguments of a statement to new arguments, and writes their Bind.
 #[unsafe(no_mangle)]
-pub extern "C" fn pgv_bench_binds(
-    alloc: Global,
-    blob: &[u8],
-    lens: &[u32],
-    rounds: u32,
-) -> usize {
+pub extern "C" fn pgv_bench_binds(alloc: Global, blob: &[u8], lens: &[u32], rounds: u32) -> usize {
     sum_of(bindings(alloc, blob, lens, rounds))
 }

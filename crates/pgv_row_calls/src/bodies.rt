@@ -1,10 +1,10 @@
 //! Rows of calls that read the body of a message: `NAME HEX => ANSWER`.
 
+use pgv::CodecError;
 use pgv::message::{
     PgNotice, authentication_of, backend_key, changed_setting, command_tag, copy_formats_of,
     message_in_front, notification_of, parameter_oids, transaction_status,
 };
-use pgv::CodecError;
 use pgv_called::{Again, Called, bytes_of, same};
 use std::alloc::{AllocError, Global};
 

@@ -31,9 +31,12 @@ fn type_row(
 fn rows(alloc: Global) -> Result<PgCatalogRows, AllocError> {
     let mut rows = PgCatalogRows::new(alloc);
     rows.types.push(type_row(alloc, 16601, "_mood", PgTypeClass::Array, 16600)?)?;
-    rows.types.push(type_row(alloc, 16600, "mood", PgTypeClass::Enum, 0)?)?;
-    rows.types.push(type_row(alloc, 16602, "item", PgTypeClass::Composite, 0)?)?;
-    rows.types.push(type_row(alloc, 16604, "span", PgTypeClass::Range, 16603)?)?;
+    rows.types
+        .push(type_row(alloc, 16600, "mood", PgTypeClass::Enum, 0)?)?;
+    rows.types
+        .push(type_row(alloc, 16602, "item", PgTypeClass::Composite, 0)?)?;
+    rows.types
+        .push(type_row(alloc, 16604, "span", PgTypeClass::Range, 16603)?)?;
     rows.types.push(type_row(alloc, 16603, "positive", PgTypeClass::Domain, 23)?)?;
     rows.fields.push(PgFieldRow {
         of: Oid(16602),

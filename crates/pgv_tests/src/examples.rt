@@ -256,6 +256,9 @@ fn a_statement_is_run(rt: HostRuntime) -> Result<(), Fail> {
         "50000000110073656c65637420243100000044000000065300530000000442000000180000000100010001000000040000000700010001450000000900000000005300000004"
     );
     let shown = people_shown(rt.alloc())?;
-    assert_eq!(rt; shown.as_str(), "1 Some(\"Ann\")\n2 None\n7 Some(\"Béa\")\n");
+    assert_eq!(rt;
+        shown.as_str(),
+        "1 Some(\"Ann\")\n2 None\n7 Some(\"Béa\")\n"
+    );
     Ok(())
 }
