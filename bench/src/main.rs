@@ -15,5 +15,6 @@ fn main() -> ExitCode {
     rows::reading(&mut bench);
     rows::moments(&mut bench);
     rows::others(&mut bench);
+    rows::messages(&mut bench);
     if bench.differing() { ExitCode::FAILURE } else { ExitCode::SUCCESS }
 }

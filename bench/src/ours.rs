@@ -21,12 +21,16 @@ extern "C" {
     fn pgv_bench_write_i32s(values: *const i32, length: usize, per: u32, rounds: u32, how: u32) -> usize;
     fn pgv_bench_write_options(values: *const i32, length: usize, per: u32, rounds: u32, how: u32) -> usize;
     fn pgv_bench_write_text(blob: *const u8, length: usize, lengths: *const u32, count: usize, rounds: u32, how: u32) -> usize;
+    fn pgv_bench_rows(blob: *const u8, length: usize, lengths: *const u32, count: usize, rounds: u32, how: u32) -> usize;
+    fn pgv_bench_binds(blob: *const u8, length: usize, lengths: *const u32, count: usize, rounds: u32) -> usize;
     fn pgv_bench_write_textss(blob: *const u8, length: usize, lengths: *const u32, count: usize, per: u32, rounds: u32, how: u32) -> usize;
 }
 
 pub const ENCODE: u32 = 1;
 pub const DECODE: u32 = 2;
 pub const BINARY: u32 = 0;
+pub const BY_COLUMNS: u32 = 0;
+pub const AS_FRAMES: u32 = 1;
 
 pub fn framed(export: Framed, bytes: &[u8], how: u32) -> Work<'_> {
     Box::new(move |rounds| unsafe { export(bytes.as_ptr(), bytes.len(), rounds, how) })
@@ -55,18 +59,32 @@ pub fn options(values: &[i32], per: u32) -> Work<'_> {
     Box::new(move |rounds| unsafe { pgv_bench_write_options(values.as_ptr(), values.len(), per, rounds, ENCODE) })
 }
 
-/// Texts one after another, and their lengths.
+/// Texts or bodies of rows one after another, and their lengths.
 pub struct Texts {
     blob: Vec<u8>,
     lengths: Vec<u32>,
 }
 
 impl Texts {
-    pub fn new(texts: &[String]) -> Texts {
+    pub fn new<T: AsRef<[u8]>>(texts: &[T]) -> Texts {
         Texts {
-            blob: texts.iter().flat_map(|text| text.bytes()).collect(),
-            lengths: texts.iter().map(|text| text.len() as u32).collect(),
+            blob: texts.iter().flat_map(|text| text.as_ref().iter().copied()).collect(),
+            lengths: texts.iter().map(|text| text.as_ref().len() as u32).collect(),
         }
+    }
+
+    /// Rows of five columns, read by their columns or as frames.
+    pub fn rows(&self, how: u32) -> Work<'_> {
+        Box::new(move |rounds| unsafe {
+            pgv_bench_rows(self.blob.as_ptr(), self.blob.len(), self.lengths.as_ptr(), self.lengths.len(), rounds, how)
+        })
+    }
+
+    /// A Bind for each.
+    pub fn bound(&self) -> Work<'_> {
+        Box::new(|rounds| unsafe {
+            pgv_bench_binds(self.blob.as_ptr(), self.blob.len(), self.lengths.as_ptr(), self.lengths.len(), rounds)
+        })
     }
 
     pub fn written(&self) -> Work<'_> {

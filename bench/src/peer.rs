@@ -1,7 +1,8 @@
-//! The same work by postgres-types, with the lengths in front as tokio-postgres writes and reads them.
+//! The same work by postgres-types, with the lengths in front as tokio-postgres writes and reads them, and messages by postgres-protocol.
 use crate::turns::Work;
 use bytes::{BufMut, BytesMut};
 use chrono::{DateTime, Datelike, NaiveDate, NaiveDateTime, NaiveTime, Timelike, Utc};
+use postgres_protocol::message::frontend;
 use postgres_types::{to_sql_checked, FromSql, IsNull, ToSql, Type};
 use std::collections::HashMap;
 use std::error::Error;
@@ -140,6 +141,33 @@ pub fn decoded<'a, T: for<'b> FromSql<'b> + Seen + 'a>(frames: &'a [u8], ty: Typ
             let mut rest = black_box(frames);
             while !rest.is_empty() {
                 sum = sum.wrapping_add(read::<T>(&mut rest, &ty).seen());
+            }
+        }
+        sum
+    })
+}
+
+fn bind(name: &String) -> usize {
+    let values: [(&(dyn ToSql + Sync), Type); 4] = [(&7i32, Type::INT4), (name, Type::TEXT), (&true, Type::BOOL), (&9i64, Type::INT8)];
+    let mut out = BytesMut::new();
+    let write = |(value, ty): (&(dyn ToSql + Sync), Type), out: &mut BytesMut| {
+        value.to_sql_checked(&ty, out).map(|null| match null {
+            IsNull::Yes => postgres_protocol::IsNull::Yes,
+            IsNull::No => postgres_protocol::IsNull::No,
+        })
+    };
+    assert!(frontend::bind("", "", [1], values, write, [1], &mut out).is_ok());
+    black_box(&out).len()
+}
+
+/// Writes the Bind of a number, each text, a truth value and a long number, all in binary.
+pub fn bound(names: &[String]) -> Work<'_> {
+    Box::new(move |rounds| {
+        let names = black_box(names).to_vec();
+        let mut sum = 0usize;
+        for _ in 0..rounds {
+            for name in black_box(&names) {
+                sum = sum.wrapping_add(bind(name));
             }
         }
         sum

@@ -1,6 +1,6 @@
 //! The rows that both sides have.
 use crate::ours::*;
-use crate::peer::{decoded, frames, written, written_again, Octets, Seen};
+use crate::peer::{bound, decoded, frames, written, written_again, Octets, Seen};
 use crate::turns::Bench;
 use crate::values::{in_lists, many};
 use chrono::{DateTime, NaiveDate, NaiveDateTime, NaiveTime, Utc};
@@ -103,4 +103,25 @@ pub fn others(bench: &mut Bench) {
     both(bench, "varbit", &bits, pgv_bench_varbit, &Type::VARBIT);
     both(bench, "bytea", &octets, pgv_bench_bytea, &Type::BYTEA);
     both(bench, "hstore of 5", &maps, pgv_bench_hstore, &hstore);
+}
+
+/// The body of a row of an `int4`, a `text`, an `int8`, a `bool` and a `date`.
+fn row_body(number: i32, text: &String, day: NaiveDate) -> Vec<u8> {
+    let mut body = vec![0, 5];
+    body.extend(frames(&[number], &Type::INT4));
+    body.extend(frames(&[text], &Type::TEXT));
+    body.extend(frames(&[i64::from(number) << 20], &Type::INT8));
+    body.extend(frames(&[number > 0], &Type::BOOL));
+    body.extend(frames(&[day], &Type::DATE));
+    body
+}
+
+/// Messages. The first row is ours on both sides: rows by their columns, beside `get` and `decode` of the same fields without a row.
+pub fn messages(bench: &mut Bench) {
+    let (numbers, texts) = (numbers_of(COUNT), texts_of(COUNT));
+    let days = many(COUNT, 4, |numbers| numbers.moment().date_naive());
+    let bodies: Vec<Vec<u8>> = (0..COUNT).map(|at| row_body(numbers[at], &texts[at], days[at])).collect();
+    let bodies = Texts::new(&bodies);
+    bench.row("row of 5 columns, beside its get+decode", COUNT, bodies.rows(BY_COLUMNS), bodies.rows(AS_FRAMES));
+    bench.row("Bind of 4", COUNT, Texts::new(&texts).bound(), bound(&texts));
 }

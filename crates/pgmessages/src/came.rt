@@ -1,32 +1,16 @@
 //! What a server sends.
 
+use crate::body::{
+    show_authentication, show_command, show_copy_formats, show_notice, show_notification,
+    show_parameters, show_process, show_setting, show_status,
+};
 use crate::fault::Fault;
 use crate::show::{show_copy, show_row};
 use pgv::PgValueFormat;
 use pgv::catalog::{PgCatalogRows, PgFieldRow, PgLabelRow, PgServerTypes, PgTypeRow};
-use pgv::message::{
-    PgExchange, PgMessage, PgNotice, PgTransactionStatus, authentication_of, backend_key,
-    changed_setting, command_tag, copy_formats_of, message_in_front, notification_of,
-    parameter_oids, transaction_status,
-};
-use pgv::row::{PgColumns, PgPlaces, PgRow};
+use pgv::message::{PgExchange, PgMessage, message_in_front};
+use pgv::row::{PgColumn, PgColumns, PgPlaces, PgRow};
 use std::alloc::{AllocError, Global};
-
-/// What is known of the server's types.
-#[derive(Drop)]
-pub struct Known {
-    /// The types that are not built in.
-    pub types: PgServerTypes,
-}
-
-impl Known {
-    /// Nothing yet.
-    pub fn new(alloc: Global) -> Known {
-        Known {
-            types: PgServerTypes::new(alloc),
-        }
-    }
-}
 
 /// What came of a session so far.
 #[derive(Drop)]
@@ -49,6 +33,14 @@ pub struct Came {
     rows: PgCatalogRows,
 }
 
+/// The message in front, all of which has to be there.
+pub fn whole_message(bytes: &[u8]) -> Result<PgMessage<'_>, Fault> {
+    match message_in_front(bytes)? {
+        Some(message) => Ok(message),
+        None => Err(Fault::Cut),
+    }
+}
+
 impl Came {
     /// Nothing yet.
     pub fn new(alloc: Global, is_catalog: bool) -> Came {
@@ -69,7 +61,7 @@ impl Came {
         &mut self,
         alloc: Global,
         bytes: &[u8],
-        known: &Known,
+        known: &PgServerTypes,
         exchange: &mut PgExchange,
         out: &mut String,
     ) -> Result<(), Fault> {
@@ -79,16 +71,27 @@ impl Came {
             if rest.is_empty() {
                 return Ok(());
             }
-            let message = message_in_front(rest)?.ok_or(Fault::Cut)?;
+            let message = whole_message(rest)?;
             if self.is_started && !is_simple {
                 exchange.step(message.tag)?;
             }
-            out.push_str("  ")?;
-            self.show_message(alloc, &message, known, out)?;
-            out.push('\n')?;
+            self.show_line(alloc, &message, known, out)?;
             rest = message.rest;
         }
         Ok(())
+    }
+
+    /// Appends a line for a message.
+    fn show_line(
+        &mut self,
+        alloc: Global,
+        message: &PgMessage<'_>,
+        known: &PgServerTypes,
+        out: &mut String,
+    ) -> Result<(), Fault> {
+        out.push_str("  ")?;
+        self.show_message(alloc, message, known, out)?;
+        Ok(out.push('\n')?)
     }
 
     /// Appends what a message is.
@@ -96,22 +99,31 @@ impl Came {
         &mut self,
         alloc: Global,
         message: &PgMessage<'_>,
-        known: &Known,
+        known: &PgServerTypes,
         out: &mut String,
     ) -> Result<(), Fault> {
         match message.tag {
-            b'T' => self.show_columns(alloc, message.body, known, out),
-            b'D' => show_values(
-                alloc,
-                self.description.as_slice(),
-                self.is_bound,
-                message.body,
-                known,
-                self.is_catalog.then_some(self.statements),
-                &mut self.rows,
-                out,
-            ),
-            b'H' => self.begin_copy(alloc, message.body, out),
+            b'T' => {
+                self.keep_description(message.body)?;
+                show_columns(alloc, message.body, known, out)
+            }
+            b'D' => {
+                let statement = self.statement();
+                show_values(
+                    alloc,
+                    self.description.as_slice(),
+                    self.is_bound,
+                    message.body,
+                    known,
+                    statement,
+                    &mut self.rows,
+                    out,
+                )
+            }
+            b'H' => {
+                self.width = show_copy_formats(alloc, message.body, out)?;
+                Ok(())
+            }
             b'd' => {
                 self.stream.extend_from_slice(message.body)?;
                 Ok(out.push_str("data of a copy")?)
@@ -129,147 +141,146 @@ impl Came {
         }
     }
 
-    /// Keeps a description, and appends its columns.
-    fn show_columns(
-        &mut self,
-        alloc: Global,
-        body: &[u8],
-        known: &Known,
-        out: &mut String,
-    ) -> Result<(), Fault> {
+    /// Keeps a description.
+    fn keep_description(&mut self, body: &[u8]) -> Result<(), AllocError> {
         self.statements = self.statements.saturating_add(1);
         self.is_bound = false;
         self.description.clear();
-        self.description.extend_from_slice(body)?;
-        let columns = PgColumns::read(alloc, body, &known.types)?;
-        out.push_str("columns")?;
-        for column in columns.as_slice() {
-            let text = format!(in alloc; " {}:{}", column.name(), column.type_info())?;
-            out.push_str(text.as_str())?;
-        }
-        Ok(())
+        self.description.extend_from_slice(body)
     }
 
-    /// Appends the format of a COPY, and keeps the number of its columns.
-    fn begin_copy(&mut self, alloc: Global, body: &[u8], out: &mut String) -> Result<(), Fault> {
-        let formats = copy_formats_of(alloc, body)?;
-        self.width = formats.columns.len();
-        let text = format!(in alloc; "copy {:?} of {} columns", formats.format, self.width)?;
-        Ok(out.push_str(text.as_str())?)
+    /// Which statement of the catalogue a row is of, counted from 1; 0 where it is of none.
+    fn statement(&self) -> usize {
+        if self.is_catalog { self.statements } else { 0 }
     }
 
     /// Makes the types of the catalogue's rows, where these were its rows.
-    pub fn finish(&mut self, alloc: Global, known: &mut Known) -> Result<(), Fault> {
+    pub fn finish(&self, alloc: Global, known: &mut PgServerTypes) -> Result<(), Fault> {
         if self.is_catalog {
-            known.types = PgServerTypes::resolve(alloc, &self.rows)?;
+            *known = PgServerTypes::resolve(alloc, &self.rows)?;
         }
         Ok(())
     }
 }
 
-/// Appends the values of a row under a description, in binary where parameters were bound, and keeps it where it is one of a statement of the catalogue.
+/// Appends the name and the type of a column.
+fn show_column(column: &PgColumn<'_>, out: &mut String) -> Result<(), AllocError> {
+    out.push(' ')?;
+    out.push_str(column.name())?;
+    out.push(':')?;
+    write!(out, "{}", column.type_info())
+}
+
+/// Appends the columns of a description.
+fn show_columns(
+    alloc: Global,
+    body: &[u8],
+    known: &PgServerTypes,
+    out: &mut String,
+) -> Result<(), Fault> {
+    let columns = PgColumns::read(alloc, body, known)?;
+    out.push_str("columns")?;
+    for column in columns.as_slice() {
+        show_column(column, out)?;
+    }
+    Ok(())
+}
+
+/// The columns of a description, in binary where parameters were bound.
+fn columns_of<'d>(
+    alloc: Global,
+    description: &'d [u8],
+    is_bound: bool,
+    known: &PgServerTypes,
+) -> Result<PgColumns<'d>, Fault> {
+    let mut columns = PgColumns::read(alloc, description, known)?;
+    if is_bound {
+        columns.set_format(PgValueFormat::Binary);
+    }
+    Ok(columns)
+}
+
+/// Appends the values of a row under a description, in binary where parameters were bound, and keeps it where it is one
+/// of a statement of the catalogue.
 fn show_values(
     alloc: Global,
     description: &[u8],
     is_bound: bool,
     body: &[u8],
-    known: &Known,
-    statement: Option<usize>,
+    known: &PgServerTypes,
+    statement: usize,
     rows: &mut PgCatalogRows,
     out: &mut String,
 ) -> Result<(), Fault> {
-    let mut columns = PgColumns::read(alloc, description, &known.types)?;
-    if is_bound {
-        columns.set_format(PgValueFormat::Binary);
-    }
+    let columns = columns_of(alloc, description, is_bound, known)?;
     let mut room = PgPlaces::with_columns(alloc, &columns)?;
-    show_one(alloc, &columns, &mut room, body, statement, rows, out)
+    show_under(alloc, &columns, &mut room, body, statement, rows, out)
 }
 
 /// The same under these columns.
-fn show_one(
+fn show_under(
     alloc: Global,
     columns: &PgColumns<'_>,
     room: &mut PgPlaces,
     body: &[u8],
-    statement: Option<usize>,
+    statement: usize,
     rows: &mut PgCatalogRows,
     out: &mut String,
 ) -> Result<(), Fault> {
     let row = PgRow::read(columns, room, body)?;
-    out.push_str("row")?;
-    show_row(alloc, &row, out)?;
-    match statement {
-        Some(statement) => keep_row(alloc, &row, statement, rows),
-        None => Ok(()),
-    }
+    show_and_keep(alloc, &row, statement, rows, out)
 }
 
-/// Keeps a row of one of the three statements of the catalogue.
-fn keep_row(
+/// The same of a row.
+fn show_and_keep(
     alloc: Global,
     row: &PgRow<'_>,
     statement: usize,
     rows: &mut PgCatalogRows,
+    out: &mut String,
 ) -> Result<(), Fault> {
+    out.push_str("row")?;
+    show_row(alloc, row, out)?;
     match statement {
-        1 => rows.types.push(PgTypeRow::read(alloc, row)?)?,
-        2 => rows.fields.push(PgFieldRow::read(alloc, row)?)?,
-        _ => rows.labels.push(PgLabelRow::read(alloc, row)?)?,
+        0 => Ok(()),
+        1 => keep_type(alloc, row, rows),
+        2 => keep_field(alloc, row, rows),
+        _ => keep_label(alloc, row, rows),
     }
-    Ok(())
 }
 
-/// Appends whether the server is ready.
-fn show_status(body: &[u8], out: &mut String) -> Result<(), Fault> {
-    let text = match transaction_status(body)? {
-        PgTransactionStatus::Idle => "ready",
-        PgTransactionStatus::Transaction => "ready in a transaction",
-        PgTransactionStatus::Failed => "ready in a failed transaction",
-    };
-    Ok(out.push_str(text)?)
+/// Keeps a row of the first statement of the catalogue.
+fn keep_type(alloc: Global, row: &PgRow<'_>, rows: &mut PgCatalogRows) -> Result<(), Fault> {
+    let read = PgTypeRow::read(alloc, row)?;
+    Ok(rows.types.push(read)?)
 }
 
-/// Appends a message without rows.
+/// Keeps a row of the second.
+fn keep_field(alloc: Global, row: &PgRow<'_>, rows: &mut PgCatalogRows) -> Result<(), Fault> {
+    let read = PgFieldRow::read(alloc, row)?;
+    Ok(rows.fields.push(read)?)
+}
+
+/// Keeps a row of the third.
+fn keep_label(alloc: Global, row: &PgRow<'_>, rows: &mut PgCatalogRows) -> Result<(), Fault> {
+    let read = PgLabelRow::read(alloc, row)?;
+    Ok(rows.labels.push(read)?)
+}
+
+/// Appends a message that changes nothing here.
 fn show_other(alloc: Global, message: &PgMessage<'_>, out: &mut String) -> Result<(), Fault> {
     let body = message.body;
-    let text = match message.tag {
-        b'R' => format!(in alloc; "authentication {}", authentication_of(body)?.code)?,
-        b'S' => {
-            let setting = changed_setting(body)?;
-            format!(in alloc; "setting {} = {}", setting.name, setting.value)?
-        }
-        b'K' => format!(in alloc; "process {}", backend_key(body)?.process)?,
-        b'C' => {
-            let tag = command_tag(body)?;
-            match tag.rows() {
-                Some(rows) => format!(in alloc; "complete {}: {rows} rows", tag.text)?,
-                None => format!(in alloc; "complete {}", tag.text)?,
-            }
-        }
-        b'A' => {
-            let told = notification_of(body)?;
-            format!(in alloc; "notification {} {}", told.channel, told.payload)?
-        }
-        b't' => format!(in alloc; "parameters {:?}", parameter_oids(alloc, body)?)?,
-        b'E' => notice_text(alloc, "error", body)?,
-        b'N' => notice_text(alloc, "notice", body)?,
-        b'1' => String::from_str(alloc, "parsed")?,
-        b'n' => String::from_str(alloc, "no rows")?,
-        tag => format!(in alloc; "message {tag}")?,
-    };
-    Ok(out.push_str(text.as_str())?)
-}
-
-/// The text of an error or a notice.
-fn notice_text(alloc: Global, kind: &str, body: &[u8]) -> Result<String, Fault> {
-    let notice = PgNotice::read(alloc, body)?;
-    let code = notice.code().unwrap_or("");
-    let message = notice.message().unwrap_or("");
-    let mut text = format!(in alloc; "{kind} {code}: {message}")?;
-    if let Some(position) = notice.position() {
-        text.push_str(" at ")?;
-        text.push_str(position)?;
+    match message.tag {
+        b'R' => show_authentication(body, out),
+        b'S' => show_setting(body, out),
+        b'K' => show_process(body, out),
+        b'C' => show_command(body, out),
+        b'A' => show_notification(body, out),
+        b't' => show_parameters(alloc, body, out),
+        b'E' => show_notice(alloc, "error ", body, out),
+        b'N' => show_notice(alloc, "notice ", body, out),
+        b'1' => Ok(out.push_str("parsed")?),
+        b'n' => Ok(out.push_str("no rows")?),
+        tag => Ok(write!(out, "message {tag}")?),
     }
-    Ok(text)
 }

@@ -8,7 +8,7 @@ use std::alloc::{AllocError, AllocFailed};
 use std::fmt;
 
 /// What keeps the program from its answer.
-#[derive(Debug, Drop)]
+#[derive(Drop)]
 pub enum Fault {
     /// A request for memory was refused.
     Memory,
@@ -22,6 +22,8 @@ pub enum Fault {
     Cut,
     /// A message came that may not come.
     Unexpected(u8),
+    /// A type of the catalogue is a part of itself.
+    Cycle,
     /// A value was not read, or not written.
     Codec(CodecError),
     /// A message was not written, or has a bad length.
@@ -37,6 +39,7 @@ impl fmt::Display for Fault {
             Fault::Line => f.write_str("a line has no such form"),
             Fault::Cut => f.write_str("a message is cut off"),
             Fault::Unexpected(tag) => write!(f, "an unexpected message {tag}"),
+            Fault::Cycle => f.write_str("a type is a part of itself"),
             Fault::Codec(error) => write!(f, "C{}: {error}", error.code()),
             Fault::Message(error) => write!(f, "{error}"),
         }
@@ -51,12 +54,6 @@ impl From<AllocError> for Fault {
 
 impl<T: Drop> From<AllocFailed<T>> for Fault {
     fn from(_: AllocFailed<T>) -> Fault {
-        Fault::Memory
-    }
-}
-
-impl From<fmt::Error> for Fault {
-    fn from(_: fmt::Error) -> Fault {
         Fault::Memory
     }
 }
@@ -83,8 +80,9 @@ impl From<ColumnError<usize>> for Fault {
 impl From<CatalogError> for Fault {
     fn from(error: CatalogError) -> Fault {
         match error {
+            CatalogError::Memory => Fault::Memory,
             CatalogError::Codec(error) => Fault::Codec(error),
-            _ => Fault::Line,
+            _ => Fault::Cycle,
         }
     }
 }

@@ -1,9 +1,11 @@
-//! `pgmessages`: shows what recorded sessions with a server are. A line of standard input is `NAME sent HEX`, what a driver sent, or `NAME came HEX`, what the server
-//! sent. Each message is shown on a line of its own: of what was sent whether this library writes the same bytes, of what came its parts, and of rows each
-//! value under its column's type. The rows of the session `catalog` are those of the server's catalogue: they make the types of the sessions after it. What is
-//! refused ends its session, with the refusal on a line of its own.
+//! `pgmessages`: shows what recorded sessions with a server are. A line of standard input is `NAME sent HEX`, what a
+//! driver sent, or `NAME came HEX`, what the server sent. Each message is shown on a line of its own: of what was sent
+//! whether this library writes the same bytes, of what came its parts, and of rows each value under its column's type.
+//! The rows of the session `catalog` are those of the server's catalogue: they make the types of the sessions after it.
+//! What is refused ends its session, with the refusal on a line of its own.
 #![tactic(auto)]
 
+mod body;
 mod came;
 mod fault;
 mod lines;

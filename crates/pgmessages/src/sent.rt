@@ -1,13 +1,17 @@
 //! What a driver sends.
 
+use crate::came::whole_message;
 use crate::fault::Fault;
 use pgv::catalog::{FIELDS, LABELS, TYPES};
 use pgv::message::{
-    PgExchange, PgMessage, PgRequest, PgSetting, Prepared, message_in_front, write_bind,
+    MessageError, PgExchange, PgMessage, PgRequest, PgSetting, Prepared, write_bind,
     write_describe, write_execute, write_parse, write_query, write_startup, write_sync,
 };
-use pgv::{Oid, PgArguments, PgValueFormat};
+use pgv::{CodecError, Oid, PgArguments, PgValueFormat};
 use std::alloc::Global;
+
+/// How many bytes the message of start-up has.
+const STARTUP: usize = 76;
 
 /// The settings of each session.
 const SETTINGS: [PgSetting<'static>; 4] = [
@@ -29,78 +33,114 @@ const SETTINGS: [PgSetting<'static>; 4] = [
     },
 ];
 
+/// The statement of the session `people`.
+const PEOPLE: &str =
+    "select id, name, mood, sizes, born from people where id >= $1 and name is distinct from $2 \
+     order by id";
+
+/// The statement of the session `orders`.
+const ORDERS: &str = "select id, items, first from orders where id = any($1) order by id";
+
+/// The simple query of the session `copy`.
+const COPY: &str = "copy people to stdout (format binary)";
+
+/// The simple query of the session `asynchronous`.
+const ASYNCHRONOUS: &str =
+    "listen news; notify news, 'today'; do $$ begin raise notice 'look: %', 7; end $$; \
+     set timezone to 'Europe/Paris'; select";
+
 /// Appends what prepares a statement without a name, and asks what it is.
-fn prepare(out: &mut Vec<u8>, query: &str, oids: &[Oid]) -> Result<(), Fault> {
+fn prepare(out: &mut Vec<u8>, query: &str, oids: &[Oid]) -> Result<(), MessageError> {
     write_parse(out, "", query, oids)?;
     write_describe(out, Prepared::Statement, "")?;
-    write_sync(out)?;
-    Ok(())
+    write_sync(out)
 }
 
 /// Appends what runs it, its results in binary.
-fn run(out: &mut Vec<u8>, arguments: &PgArguments) -> Result<(), Fault> {
+fn run(out: &mut Vec<u8>, arguments: &PgArguments) -> Result<(), MessageError> {
     write_bind(out, "", "", arguments, &[PgValueFormat::Binary])?;
     write_execute(out, "", 0)?;
-    write_sync(out)?;
+    write_sync(out)
+}
+
+/// The arguments of the session `people`.
+fn people_arguments(alloc: Global) -> Result<PgArguments, CodecError> {
+    let mut arguments = PgArguments::new(alloc);
+    arguments.add(1)?;
+    arguments.add(String::from_str(alloc, "x")?)?;
+    Ok(arguments)
+}
+
+/// The arguments of the session `orders`.
+fn orders_arguments(alloc: Global) -> Result<PgArguments, CodecError> {
+    let mut arguments = PgArguments::new(alloc);
+    arguments.add(Vec::from_slice(alloc, &[5i64, 6])?)?;
+    Ok(arguments)
+}
+
+/// The arguments of the session `errors`.
+fn errors_arguments(alloc: Global) -> Result<PgArguments, CodecError> {
+    let mut arguments = PgArguments::new(alloc);
+    arguments.add(0)?;
+    Ok(arguments)
+}
+
+/// Appends the three statements of the catalogue.
+fn write_catalog(alloc: Global, out: &mut Vec<u8>) -> Result<(), MessageError> {
+    let arguments = PgArguments::new(alloc);
+    for query in [TYPES, FIELDS, LABELS] {
+        prepare(out, query, &[])?;
+        run(out, &arguments)?;
+    }
     Ok(())
+}
+
+/// Appends a statement that is run once.
+fn write_statement(
+    out: &mut Vec<u8>,
+    query: &str,
+    oids: &[Oid],
+    arguments: &PgArguments,
+) -> Result<(), MessageError> {
+    prepare(out, query, oids)?;
+    run(out, arguments)
+}
+
+/// Appends a statement that is refused, and one that fails.
+fn write_errors(out: &mut Vec<u8>, arguments: &PgArguments) -> Result<(), MessageError> {
+    prepare(out, "select 1 / nothing", &[])?;
+    write_statement(out, "select 1 / $1::int4", &[], arguments)
+}
+
+/// Appends what follows the start of the session of a name.
+fn write_session(alloc: Global, name: &str, out: &mut Vec<u8>) -> Result<(), Fault> {
+    match name {
+        "catalog" => Ok(write_catalog(alloc, out)?),
+        "people" => Ok(write_statement(out, PEOPLE, &[], &people_arguments(alloc)?)?),
+        "orders" => Ok(write_statement(out, ORDERS, &[Oid(1016)], &orders_arguments(alloc)?)?),
+        "errors" => Ok(write_errors(out, &errors_arguments(alloc)?)?),
+        "copy" => Ok(write_query(out, COPY)?),
+        "asynchronous" => Ok(write_query(out, ASYNCHRONOUS)?),
+        _ => Ok(()),
+    }
 }
 
 /// What this library writes in the session of a name.
 pub fn written(alloc: Global, name: &str) -> Result<Vec<u8>, Fault> {
     let mut out = Vec::new(alloc);
     write_startup(&mut out, &SETTINGS)?;
-    let mut arguments = PgArguments::new(alloc);
-    match name {
-        "catalog" => {
-            for query in [TYPES, FIELDS, LABELS] {
-                prepare(&mut out, query, &[])?;
-                run(&mut out, &arguments)?;
-            }
-        }
-        "people" => {
-            prepare(
-                &mut out,
-                "select id, name, mood, sizes, born from people where id >= $1 and name is distinct from $2 order by id",
-                &[],
-            )?;
-            arguments.add(1)?;
-            arguments.add(String::from_str(alloc, "x")?)?;
-            run(&mut out, &arguments)?;
-        }
-        "orders" => {
-            let wanted = Vec::from_slice(alloc, &[5i64, 6])?;
-            prepare(
-                &mut out,
-                "select id, items, first from orders where id = any($1) order by id",
-                &[Oid(1016)],
-            )?;
-            arguments.add(wanted)?;
-            run(&mut out, &arguments)?;
-        }
-        "errors" => {
-            prepare(&mut out, "select 1 / nothing", &[])?;
-            prepare(&mut out, "select 1 / $1::int4", &[])?;
-            arguments.add(0)?;
-            run(&mut out, &arguments)?;
-        }
-        "copy" => write_query(&mut out, "copy people to stdout (format binary)")?,
-        "asynchronous" => write_query(
-            &mut out,
-            "listen news; notify news, 'today'; do $$ begin raise notice 'look: %', 7; end $$; set timezone to 'Europe/Paris'; select",
-        )?,
-        _ => {}
-    }
+    write_session(alloc, name, &mut out)?;
     Ok(out)
 }
 
 /// Notes the requests of a session, which begins with the message of start-up. Of a simple query nothing is noted.
 pub fn requests_of(bytes: &[u8], exchange: &mut PgExchange) -> Result<(), Fault> {
-    let mut rest = bytes.get(76..).ok_or(Fault::Cut)?;
+    let mut rest = bytes.get(STARTUP..).ok_or(Fault::Cut)?;
     for _ in 0..bytes.len() {
         if rest.is_empty() {
             return Ok(());
         }
-        let message = message_in_front(rest)?.ok_or(Fault::Cut)?;
+        let message = whole_message(rest)?;
         if let Some(request) = request_of(&message) {
             exchange.sent(request)?;
         }

@@ -3,9 +3,10 @@
 use crate::fault::Fault;
 use jiff::civil::Date;
 use pgv::row::PgRow;
-use pgv::{Decode, Oid, PgCopyReader, PgTypeInfo, PgValueFormat, PgValueRef};
+use pgv::{Decode, Oid, PgCopyReader, PgTypeInfo, PgValueFormat, PgValueRef, Type};
 use pgv_examples::mood::Mood;
-use std::alloc::Global;
+use std::alloc::{AllocError, Global};
+use std::fmt::{Debug, Display};
 
 /// An item of an order: its name, its count and the moods of those who bought it.
 type Item = (Option<String>, Option<i32>, Option<Vec<Option<Mood>>>);
@@ -14,82 +15,154 @@ type Item = (Option<String>, Option<i32>, Option<Vec<Option<Mood>>>);
 pub fn show_row(alloc: Global, row: &PgRow<'_>, out: &mut String) -> Result<(), Fault> {
     for place in 0..row.len() {
         out.push_str(" | ")?;
-        let text = value_text(alloc, row, place)?;
-        out.push_str(text.as_str())?;
+        show_value(alloc, row, place, out)?;
     }
     Ok(())
 }
 
-/// A value of a row.
-fn value_text(alloc: Global, row: &PgRow<'_>, place: usize) -> Result<String, Fault> {
+/// Appends a value of a row: null, its text, or what is read of it in binary.
+fn show_value(alloc: Global, row: &PgRow<'_>, place: usize, out: &mut String) -> Result<(), Fault> {
     let value = row.try_get_raw(place)?;
     if value.is_null() {
-        return Ok(String::from_str(alloc, "null")?);
+        return Ok(out.push_str("null")?);
     }
     if value.format() == PgValueFormat::Text {
-        return Ok(String::from_str(alloc, value.as_str()?)?);
+        return show_text(&value, out);
     }
-    Ok(match value.type_info().oid() {
-        Some(Oid(16)) => format!(in alloc; "{}", row.try_get::<bool, _>(alloc, place)?)?,
-        Some(Oid(18)) => format!(in alloc; "{}", row.try_get::<i8, _>(alloc, place)?)?,
-        Some(Oid(20)) => format!(in alloc; "{}", row.try_get::<i64, _>(alloc, place)?)?,
-        Some(Oid(23)) => format!(in alloc; "{}", row.try_get::<i32, _>(alloc, place)?)?,
-        Some(Oid(26)) => format!(in alloc; "{}", row.try_get::<Oid, _>(alloc, place)?.0)?,
-        Some(Oid(1007)) => format!(in alloc;
-            "{:?}",
-            row.try_get::<Vec<Option<i32>>, _>(alloc, place)?
-        )?,
-        Some(Oid(1082)) => format!(in alloc; "{}", row.try_get::<Date, _>(alloc, place)?)?,
-        _ => other_text(alloc, row, place, &value)?,
-    })
+    show_binary(alloc, row, place, &value, out)
 }
 
-/// A value of a type that is not built in, or a text.
-fn other_text(
+/// Appends the text of a value.
+fn show_text(value: &PgValueRef<'_>, out: &mut String) -> Result<(), Fault> {
+    let text = value.as_str()?;
+    Ok(out.push_str(text)?)
+}
+
+/// Appends a value in binary.
+fn show_binary(
     alloc: Global,
     row: &PgRow<'_>,
     place: usize,
     value: &PgValueRef<'_>,
-) -> Result<String, Fault> {
-    let name = format!(in alloc; "{}", value.type_info())?;
-    Ok(match name.as_str() {
-        "mood" => format!(in alloc; "{:?}", row.try_get::<Mood, _>(alloc, place)?)?,
-        "item" => format!(in alloc; "{:?}", row.try_get_unchecked::<Item, _>(alloc, place)?)?,
-        "_item" => format!(in alloc;
-            "{:?}",
-            row.try_get_unchecked::<Vec<Option<Item>>, _>(alloc, place)?
-        )?,
-        _ => String::from_str(alloc, value.as_str()?)?,
-    })
+    out: &mut String,
+) -> Result<(), Fault> {
+    match value.type_info().oid() {
+        Some(Oid(16)) => show_displayed::<bool>(alloc, row, place, out),
+        Some(Oid(18)) => show_displayed::<i8>(alloc, row, place, out),
+        Some(Oid(20)) => show_displayed::<i64>(alloc, row, place, out),
+        Some(Oid(23)) => show_displayed::<i32>(alloc, row, place, out),
+        Some(Oid(26)) => show_oid(alloc, row, place, out),
+        Some(Oid(1007)) => show_debugged::<Vec<Option<i32>>>(alloc, row, place, out),
+        Some(Oid(1082)) => show_displayed::<Date>(alloc, row, place, out),
+        _ => show_named(alloc, row, place, value, out),
+    }
 }
 
-/// Appends the rows of a stream of COPY with as many columns: null, or the bytes of each field in hex.
+/// Appends a value of a type that is not built in, or a text.
+fn show_named(
+    alloc: Global,
+    row: &PgRow<'_>,
+    place: usize,
+    value: &PgValueRef<'_>,
+    out: &mut String,
+) -> Result<(), Fault> {
+    match value.type_info().name().text() {
+        "mood" => show_debugged::<Mood>(alloc, row, place, out),
+        "item" => show_unchecked::<Item>(alloc, row, place, out),
+        "_item" => show_unchecked::<Vec<Option<Item>>>(alloc, row, place, out),
+        _ => show_text(value, out),
+    }
+}
+
+/// Appends what `T` reads of a column, as `Display` shows it.
+fn show_displayed<T: Type + Decode + Display>(
+    alloc: Global,
+    row: &PgRow<'_>,
+    place: usize,
+    out: &mut String,
+) -> Result<(), Fault> {
+    match row.try_get::<T, _>(alloc, place) {
+        Ok(value) => Ok(write!(out, "{value}")?),
+        Err(error) => Err(Fault::from(error)),
+    }
+}
+
+/// Appends what `T` reads of a column, as `Debug` shows it.
+fn show_debugged<T: Type + Decode + Debug>(
+    alloc: Global,
+    row: &PgRow<'_>,
+    place: usize,
+    out: &mut String,
+) -> Result<(), Fault> {
+    match row.try_get::<T, _>(alloc, place) {
+        Ok(value) => Ok(write!(out, "{value:?}")?),
+        Err(error) => Err(Fault::from(error)),
+    }
+}
+
+/// Appends what `T` reads of a column whatever its type is, as `Debug` shows it.
+fn show_unchecked<T: Decode + Debug>(
+    alloc: Global,
+    row: &PgRow<'_>,
+    place: usize,
+    out: &mut String,
+) -> Result<(), Fault> {
+    match row.try_get_unchecked::<T, _>(alloc, place) {
+        Ok(value) => Ok(write!(out, "{value:?}")?),
+        Err(error) => Err(Fault::from(error)),
+    }
+}
+
+/// Appends the number of an OID.
+fn show_oid(alloc: Global, row: &PgRow<'_>, place: usize, out: &mut String) -> Result<(), Fault> {
+    match row.try_get::<Oid, _>(alloc, place) {
+        Ok(oid) => Ok(write!(out, "{}", oid.0)?),
+        Err(error) => Err(Fault::from(error)),
+    }
+}
+
+/// As many types of which nothing is known.
+fn unknown_types(alloc: Global, width: usize) -> Result<Vec<PgTypeInfo>, AllocError> {
+    let mut types = Vec::new(alloc);
+    for _ in 0..width {
+        types.push(PgTypeInfo::with_oid(Oid(0)))?;
+    }
+    Ok(types)
+}
+
+/// Appends a field of a COPY: null, or its bytes in hex.
+fn show_field(alloc: Global, value: &PgValueRef<'_>, out: &mut String) -> Result<(), Fault> {
+    out.push(' ')?;
+    if value.is_null() {
+        return Ok(out.push_str("null")?);
+    }
+    let digits = hex::encode(alloc, value.as_bytes()?)?;
+    Ok(out.push_str(digits.as_str())?)
+}
+
+/// Appends the fields of a row of a COPY.
+fn show_fields(alloc: Global, row: &[PgValueRef<'_>], out: &mut String) -> Result<(), Fault> {
+    out.push_str("\n   ")?;
+    for value in row {
+        show_field(alloc, value, out)?;
+    }
+    Ok(())
+}
+
+/// Appends the rows of a stream of COPY with as many columns.
 pub fn show_copy(
     alloc: Global,
     stream: &[u8],
     width: usize,
     out: &mut String,
 ) -> Result<(), Fault> {
-    let mut types = Vec::new(alloc);
-    for _ in 0..width {
-        types.push(PgTypeInfo::with_oid(Oid(0)))?;
-    }
-    let mut reader = PgCopyReader::new(stream, types)?;
+    let mut reader = PgCopyReader::new(stream, unknown_types(alloc, width)?)?;
     out.push_str("copied")?;
     for _ in 0..stream.len() {
         let Some(row) = reader.next_row()? else {
             return Ok(());
         };
-        out.push_str("\n   ")?;
-        for value in row.as_slice() {
-            out.push(' ')?;
-            let text = if value.is_null() {
-                String::from_str(alloc, "null")?
-            } else {
-                hex::encode(alloc, value.as_bytes()?)?
-            };
-            out.push_str(text.as_str())?;
-        }
+        show_fields(alloc, row.as_slice(), out)?;
     }
     Ok(())
 }

@@ -1,11 +1,13 @@
-//! Loops over the codec's public calls, for a comparison with other codecs. Each export works `rounds` times over the values
-//! that it is given and answers a checksum, by which two codecs that are timed over the same values are compared; where a call is refused, it
-//! answers the number of the refusal. `docs/performance.md` has what was measured by them.
+//! Loops over the codec's public calls, for a comparison with other codecs. Each export works `rounds` times over the
+//! values that it is given and answers a checksum, by which two codecs that are timed over the same values are
+//! compared; where a call is refused, it answers the number of the refusal. `docs/performance.md` has what was measured
+//! by them.
 #![tactic(auto)]
 
 mod copying;
 mod framed;
 mod reading;
+mod rows;
 mod seen;
 mod triple;
 mod types;
@@ -24,12 +26,13 @@ use pgv_range::PgRange;
 use pgv_text::IpNetwork;
 use pgv_value::{CodecError, PgInterval};
 use reading::read_all;
+use rows::read_rows;
 use std::alloc::Global;
 use types::{compatible, names, size_of_which};
 use uuid::Uuid;
 use writing::{
-    patches, slots, statements, write_all, write_bools, write_ids, write_lists, write_options,
-    write_records, write_text_lists, write_texts,
+    bindings, patches, slots, statements, write_all, write_bools, write_ids, write_lists,
+    write_options, write_records, write_text_lists, write_texts,
 };
 
 /// The checksum, or the number of a refusal.
@@ -275,7 +278,8 @@ pub extern "C" fn pgv_bench_size(which: u32) -> usize {
     size_of_which(which)
 }
 
-/// Works on frames of `date`: `how` is 0 to add their values, 1 to encode them, 2 to read the frames in binary, and 3 in text.
+/// Works on frames of `date`: `how` is 0 to add their values, 1 to encode them, 2 to read the frames in binary, and 3
+/// in text.
 #[unsafe(no_mangle)]
 pub extern "C" fn pgv_bench_date(alloc: Global, bytes: &[u8], rounds: u32, how: u32) -> usize {
     sum_of(work::<Date>(alloc, bytes, rounds, how))
@@ -382,8 +386,28 @@ pub extern "C" fn pgv_bench_lquery(alloc: Global, bytes: &[u8], rounds: u32, how
     sum_of(work::<PgLQuery>(alloc, bytes, rounds, how))
 }
 
-/// Reads the rows of a COPY stream of an `int4`, a `text` and an `int8` where `how` is 0, and else the same fields as frames.
+/// Reads the rows of a COPY stream of an `int4`, a `text` and an `int8` where `how` is 0, and else the same fields as
+/// frames.
 #[unsafe(no_mangle)]
 pub extern "C" fn pgv_bench_copy(alloc: Global, bytes: &[u8], rounds: u32, how: u32) -> usize {
     sum_of(copies(alloc, bytes, rounds, how))
+}
+
+/// Reads rows of an `int4`, a `text`, an `int8`, a `bool` and a `date`, the pieces of `blob` of these lengths: by their
+/// columns where `how` is 0, and else the same fields as frames.
+#[unsafe(no_mangle)]
+pub extern "C" fn pgv_bench_rows(
+    alloc: Global,
+    blob: &[u8],
+    lens: &[u32],
+    rounds: u32,
+    how: u32,
+) -> usize {
+    sum_of(read_rows(alloc, blob, lens, rounds, how))
+}
+
+/// Adds the four arguments of a statement to new arguments, and writes their Bind.
+#[unsafe(no_mangle)]
+pub extern "C" fn pgv_bench_binds(alloc: Global, blob: &[u8], lens: &[u32], rounds: u32) -> usize {
+    sum_of(bindings(alloc, blob, lens, rounds))
 }

@@ -1,5 +1,6 @@
 //! Values that are written.
 
+use crate::rows::binds;
 use crate::triple::Triple;
 use pgv_codec::{Encode, PgArgumentBuffer, Type};
 use pgv_examples::empty_object::EmptyObject;
@@ -189,6 +190,16 @@ pub fn statements(
         }
     }
     Ok(sum)
+}
+
+pub fn bindings(
+    alloc: Global,
+    blob: &[u8],
+    lens: &[u32],
+    rounds: u32,
+) -> Result<usize, CodecError> {
+    let names = texts_of(alloc, blob, lens)?;
+    binds(alloc, names.as_slice(), rounds)
 }
 
 fn own_types(alloc: Global, arguments: &PgArguments) -> Result<Vec<PgTypeInfo>, CodecError> {

@@ -1,5 +1,5 @@
-//! What `pgv_calls` and `pgv_value_calls` share: rows of calls, the blocks that they are in, and how an answer is
-//! printed. The checker proves that its functions are safe.
+//! What `pgv_calls`, `pgv_value_calls` and `pgv_row_calls` share: rows of calls, the blocks that they are in, and how
+//! an answer is printed. The checker proves that its functions are safe.
 #![tactic(auto)]
 
 mod again;

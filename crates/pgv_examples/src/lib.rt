@@ -12,6 +12,7 @@
 //! 9. [`percent`] is a codec that refuses.
 //! 10. [`read_back`] says that what was sent comes back, and proves it by the laws.
 //! 11. [`copied`] reads the stream of a COPY in binary, row by row.
+//! 12. [`statement`] describes a statement, binds its arguments, and reads its rows by their columns.
 //!
 //! All of them name the crate `pgv` alone, in code and in contracts; `docs/proving.md` has a line on each word of
 //! `Rattle.pgv.specs.Words`.
@@ -29,4 +30,5 @@ pub mod pair;
 pub mod percent;
 pub mod read_back;
 pub mod row;
+pub mod statement;
 pub mod user_id;

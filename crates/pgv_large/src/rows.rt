@@ -10,13 +10,18 @@ use std::rc::RcStr;
 /// The number of fields.
 const FIELDS: i32 = 1_700;
 
-/// A composite type of numbers.
-fn composite_type(alloc: Global) -> Result<PgTypeInfo, CodecError> {
+/// Fields of numbers.
+fn fields(alloc: Global) -> Result<Vec<(RcStr, PgTypeInfo)>, CodecError> {
     let mut fields = Vec::new(alloc);
     for _ in 0..FIELDS {
         fields.push((RcStr::from_str(alloc, "number")?, PgTypeInfo(PgType::Int4)))?;
     }
-    let kind = PgTypeKind::Composite(fields);
+    Ok(fields)
+}
+
+/// A composite type of numbers.
+fn composite_type(alloc: Global) -> Result<PgTypeInfo, CodecError> {
+    let kind = PgTypeKind::Composite(fields(alloc)?);
     Ok(PgTypeInfo::custom(alloc, Oid(16600), "numbers", kind.clone()?)?)
 }
 
@@ -48,25 +53,37 @@ pub fn composite(alloc: Global) -> Result<bool, CodecError> {
     Ok(true)
 }
 
-/// A record text whose first field is quoted, and so is copied.
-pub fn in_text(alloc: Global) -> Result<bool, CodecError> {
+/// A record text whose first field is quoted.
+fn record_text(alloc: Global) -> Result<String, CodecError> {
     let mut text = String::from_str(alloc, "(\"7\"\"\"")?;
     for _ in 1..FIELDS {
         text.push_str(",7")?;
     }
     text.push(')')?;
-    let record = PgTypeInfo(PgType::Record);
-    let value = PgValueRef::new(Some(text.as_bytes()), record, PgValueFormat::Text);
-    let mut fields = PgRecordDecoder::new(alloc, value)?;
-    if fields.try_decode::<String>()?.as_str() != "7\"" {
-        return Ok(false);
-    }
+    Ok(text)
+}
+
+/// Whether all other fields are 7.
+fn others_are_seven(fields: &mut PgRecordDecoder<'_>) -> Result<bool, CodecError> {
     for _ in 1..FIELDS {
         if fields.try_decode::<i32>()? != 7 {
             return Ok(false);
         }
     }
     Ok(true)
+}
+
+/// A record text whose first field is quoted, and so is copied.
+pub fn in_text(alloc: Global) -> Result<bool, CodecError> {
+    let text = record_text(alloc)?;
+    let record = PgTypeInfo(PgType::Record);
+    let value = PgValueRef::new(Some(text.as_bytes()), record, PgValueFormat::Text);
+    let mut fields = PgRecordDecoder::new(alloc, value)?;
+    let first = fields.try_decode::<String>()?;
+    if first.as_str() != "7\"" {
+        return Ok(false);
+    }
+    others_are_seven(&mut fields)
 }
 
 /// A stream of COPY with one row of the number 7.
@@ -80,22 +97,33 @@ fn stream(alloc: Global) -> Result<Vec<u8>, CodecError> {
     Ok(bytes)
 }
 
-/// The row of a stream, and its end.
-pub fn copied(alloc: Global) -> Result<bool, CodecError> {
-    let bytes = stream(alloc)?;
+/// The types of the columns.
+fn columns(alloc: Global) -> Result<Vec<PgTypeInfo>, CodecError> {
     let mut types = Vec::new(alloc);
     for _ in 0..FIELDS {
         types.push(PgTypeInfo(PgType::Int4))?;
     }
-    let mut reader = PgCopyReader::new(bytes.as_slice(), types)?;
-    let Some(row) = reader.next_row()? else {
-        return Ok(false);
-    };
-    let len = row.len();
+    Ok(types)
+}
+
+/// Whether all values are 7.
+fn are_seven(alloc: Global, row: Vec<PgValueRef<'_>>) -> Result<bool, CodecError> {
     for value in row {
         if i32::decode(alloc, value)? != 7 {
             return Ok(false);
         }
     }
-    Ok(len == 1_700 && reader.next_row()?.is_none())
+    Ok(true)
+}
+
+/// The row of a stream, and its end.
+pub fn copied(alloc: Global) -> Result<bool, CodecError> {
+    let bytes = stream(alloc)?;
+    let mut reader = PgCopyReader::new(bytes.as_slice(), columns(alloc)?)?;
+    let Some(row) = reader.next_row()? else {
+        return Ok(false);
+    };
+    let len = row.len();
+    let are_seven = are_seven(alloc, row)?;
+    Ok(len == 1_700 && are_seven && reader.next_row()?.is_none())
 }

@@ -3,17 +3,22 @@
 use crate::back::{comes_back, read_text, repeated};
 use pgv::CodecError;
 use pgv::types::{PgHstore, PgLQuery, PgLTree, PgNumeric, PgNumericSign};
-use std::alloc::Global;
+use std::alloc::{AllocError, Global};
+
+/// As many digits as the form of a number can have.
+fn nines(alloc: Global) -> Result<Vec<i16>, CodecError> {
+    let mut digits = Vec::new(alloc);
+    for _ in 0..32_767 {
+        digits.push(9_999i16)?;
+    }
+    Ok(digits)
+}
 
 /// A number of as many digits as its form can have.
 pub fn digits(alloc: Global) -> Result<bool, CodecError> {
-    let mut digits = Vec::new(alloc);
-    for _ in 0..32_767 {
-        digits.push(9_999)?;
-    }
     let number = PgNumeric::Number {
         sign: PgNumericSign::Negative,
-        digits,
+        digits: nines(alloc)?,
         weight: 32_766,
         scale: 0,
     };
@@ -29,22 +34,34 @@ fn labels(alloc: Global) -> Result<String, CodecError> {
 
 /// A tree of its text.
 pub fn tree(alloc: Global) -> Result<bool, CodecError> {
-    let tree = read_text::<PgLTree>(alloc, labels(alloc)?.as_str())?;
+    let labels = labels(alloc)?;
+    let tree = read_text::<PgLTree>(alloc, labels.as_str())?;
     Ok(tree.as_slice().len() == 65_535 && comes_back(alloc, &tree)?)
 }
 
 /// A query of its text.
 pub fn query(alloc: Global) -> Result<bool, CodecError> {
-    let query = read_text::<PgLQuery>(alloc, labels(alloc)?.as_str())?;
+    let levels = labels(alloc)?;
+    let query = read_text::<PgLQuery>(alloc, levels.as_str())?;
     Ok(query.as_slice().len() == 65_535 && comes_back(alloc, &query)?)
+}
+
+/// The text of a number.
+fn key(alloc: Global, number: u32) -> Result<String, AllocError> {
+    format!(in alloc; "{number}")
+}
+
+/// Numbers with null.
+fn pairs(alloc: Global) -> Result<Vec<(String, Option<String>)>, AllocError> {
+    let mut pairs = Vec::new(alloc);
+    for number in 0..100_000 {
+        pairs.push((key(alloc, number)?, None))?;
+    }
+    Ok(pairs)
 }
 
 /// A map of numbers to null.
 pub fn map(alloc: Global) -> Result<bool, CodecError> {
-    let mut pairs = Vec::new(alloc);
-    for number in 0..100_000 {
-        pairs.push((format!(in alloc; "{number}")?, None))?;
-    }
-    let map = PgHstore::try_from_iter(alloc, pairs)?;
+    let map = PgHstore::try_from_iter(alloc, pairs(alloc)?)?;
     comes_back(alloc, &map)
 }

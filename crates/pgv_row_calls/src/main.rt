@@ -1,0 +1,53 @@
+//! `pgv_row_calls`: makes the calls of the rows of standard input on rows of a server, messages and its catalogue, as
+//! `pgv_calls` makes those on arguments. See there for the form of the rows.
+#![tactic(auto)]
+
+mod bodies;
+mod catalog;
+mod exchange;
+mod messages;
+mod reading;
+mod rows;
+
+use crate::bodies::Bodies;
+use crate::catalog::Catalog;
+use crate::exchange::Exchange;
+use crate::messages::Messages;
+use crate::rows::Rows;
+use pgv::message::PgExchange;
+use pgv_called::{Blocks, Tries, compared, differing};
+use std::alloc::Global;
+use std::process::ExitCode;
+
+/// Calls on rows and messages.
+struct Calls;
+
+impl Blocks for Calls {
+    fn first_differing<'a>(
+        &self,
+        alloc: Global,
+        tries: &Tries,
+        kind: &'a str,
+        rows: &'a str,
+    ) -> Option<&'a str> {
+        match kind {
+            "rows" => differing(alloc, tries, Rows::new(alloc), rows),
+            "messages" => differing(alloc, tries, Messages(Vec::new(alloc)), rows),
+            "bodies" => differing(alloc, tries, Bodies, rows),
+            "exchange" => differing(alloc, tries, Exchange(PgExchange::new(alloc)), rows),
+            "catalog" => differing(alloc, tries, Catalog, rows),
+            _ => Some(kind),
+        }
+    }
+}
+
+fn main(rt: HostRuntime) -> ExitCode {
+    match compared(&Calls, &rt) {
+        Ok(true) => ExitCode::SUCCESS,
+        Ok(false) => ExitCode::FAILURE,
+        Err(fault) => {
+            let _told = eprintln!(rt; "pgv_row_calls: {}", fault.text());
+            ExitCode::FAILURE
+        }
+    }
+}
