@@ -6,6 +6,7 @@ mod bodies;
 mod catalog;
 mod exchange;
 mod messages;
+mod pieces;
 mod reading;
 mod rows;
 
@@ -13,6 +14,7 @@ use crate::bodies::Bodies;
 use crate::catalog::Catalog;
 use crate::exchange::Exchange;
 use crate::messages::Messages;
+use crate::pieces::Pieces;
 use crate::rows::Rows;
 use pgv::message::PgExchange;
 use pgv_called::{Blocks, Tries, compared, differing};
@@ -36,6 +38,10 @@ impl Blocks for Calls {
             "bodies" => differing(alloc, tries, Bodies, rows),
             "exchange" => differing(alloc, tries, Exchange(PgExchange::new(alloc)), rows),
             "catalog" => differing(alloc, tries, Catalog, rows),
+            "pieces" => match pieces::reader(alloc) {
+                Ok(reader) => differing(alloc, tries, Pieces(reader), rows),
+                Err(_) => Some(kind),
+            },
             _ => Some(kind),
         }
     }
