@@ -89,14 +89,12 @@ pub mod laws {
     pub use pgv_numeric::laws as numeric;
     pub use pgv_range::laws as range;
     pub use pgv_row::laws as row;
-    pub use pgv_session::laws as session;
     pub use pgv_text::laws as text;
     pub use pgv_types::laws as types;
     pub use pgv_value::laws as value;
     pub use pgv_wire::laws as wire;
 }
 
-pub use pgv_session::{RunFault, fault_text, run};
 pub use pgv_types::{identifier_chars, name_eq};
 pub use pgv_value::{
     read_bool, read_date, read_date_time, read_i8, read_i16, read_i32, read_i64, read_instant,

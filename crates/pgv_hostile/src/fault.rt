@@ -1,6 +1,6 @@
 //! Why the program ends early.
 
-use pgv::RunFault;
+use pgv_session::RunFault;
 use std::alloc::AllocError;
 
 /// What keeps the program from its answer.

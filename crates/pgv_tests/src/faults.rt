@@ -1,6 +1,6 @@
 //! Readers and writers that fail at a call, and what `run` answers then.
 
-use pgv::{RunFault, fault_text, run};
+use pgv_session::{RunFault, fault_text, run};
 use std::alloc::Global;
 use std::io::{self, BufRead, Error, ErrorKind, Read, Write};
 
