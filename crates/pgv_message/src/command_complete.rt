@@ -7,9 +7,8 @@ ghost use Rattle.pgv_message.specs.Bodies.{command_complete};
 ghost use Rattle.pgv_message.specs.Rows.{after_last_space, within_64, row_count};
 
 use crate::end::check_end;
-use pgv_value::name_in_front;
 use pgv_text::{NumberFault, unsigned_number_of};
-use pgv_value::CodecError;
+use pgv_value::{CodecError, name_in_front};
 
 /// What a command did.
 #[derive(Clone, Copy)]

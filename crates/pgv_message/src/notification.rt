@@ -5,8 +5,7 @@ ghost use Rattle.pgv_value.specs.Parsed.{GivesExactly};
 ghost use Rattle.pgv_message.specs.Bodies.{notification, notification_view};
 
 use crate::end::check_end;
-use pgv_value::name_in_front;
-use pgv_value::{CodecError, u32_in_front};
+use pgv_value::{CodecError, name_in_front, u32_in_front};
 
 /// A notification.
 #[derive(Clone, Copy)]

@@ -4,9 +4,8 @@ ghost use Rattle.std.specs.Prelude.{◌≡◌, true, List, IfOk};
 ghost use Rattle.pgv_value.specs.Outcome.{Gives, IsRead};
 ghost use Rattle.pgv_message.specs.Counted.{oid_front, parameters, AreParameters, oids_front};
 
-use pgv_value::u16_in_front;
 use pgv_types::Oid;
-use pgv_value::{CodecError, u32_in_front};
+use pgv_value::{CodecError, u16_in_front, u32_in_front};
 use std::alloc::Global;
 
 /// The OID in front, and the rest.

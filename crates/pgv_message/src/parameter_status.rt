@@ -6,8 +6,7 @@ ghost use Rattle.pgv_message.specs.Bodies.{parameter_status};
 
 use crate::end::check_end;
 use crate::startup::PgSetting;
-use pgv_value::name_in_front;
-use pgv_value::CodecError;
+use pgv_value::{CodecError, name_in_front};
 
 /// The name and the value in a ParameterStatus' body (PostgreSQL: "Message Formats", ParameterStatus). Without a zero byte after each
 /// it is refused with C15, where one isn't UTF-8 with C14, and with bytes after them with C17.

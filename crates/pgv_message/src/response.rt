@@ -5,8 +5,7 @@ ghost use Rattle.pgv_value.specs.Outcome.{Gives, IsRead};
 ghost use Rattle.pgv_message.specs.Notice.{Field, field_view, fields_of, fields_front, notice, IsNotice, text_by};
 
 use crate::end::check_end;
-use pgv_value::name_in_front;
-use pgv_value::CodecError;
+use pgv_value::{CodecError, name_in_front};
 use std::alloc::Global;
 
 /// A field of an error or a notice (PostgreSQL: "Error and Notice Message Fields").

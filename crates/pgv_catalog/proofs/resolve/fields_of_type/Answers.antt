@@ -24,7 +24,7 @@ loop-row-preserved c =
           let name : rc_str_bytes w.in_ok-from_str.field-0 ≡ string_bytes row.name = search (rules, w.in_ok-from_str.ensures.ok, w.as_str.ensures.value) in
           let pushed = ap (λ fs. fs.items) w.fields-is ∙ w.in_ok-push.ensures.items in
           rw (add-one, pushed, map-append named_type c.loop-row.fields.items ((w.in_ok-from_str.field-0, t) ∷ []), name) (
-            sym (one_field types c.args.known.now c.args.oid.0 (map named_type c.loop-row.fields.items) row (drop (suc i) items) t (search (rules, w.if-eq.true, c.eq.ensures)) part)
-            ∙ so_far)
+          sym (one_field types c.args.known.now c.args.oid.0 (map named_type c.loop-row.fields.items) row (drop (suc i) items) t (search (rules, w.if-eq.true, c.eq.ensures)) part)
+          ∙ so_far)
       | else-eq w ↦ rw (add-one, w.fields-is) (sym (other_type types c.args.known.now c.args.oid.0 (map named_type c.loop-row.fields.items) row (drop (suc i) items) (search (rules, w.if-eq.false, c.eq.ensures))) ∙ so_far)
     ]
