@@ -72,8 +72,8 @@ fn oid_among(known: &[PgTypeInfo], wanted: &PgTypeInfo) -> Result<Oid, CodecErro
     Err(CodecError::Caller(1))
 }
 
-/// What the message Bind has of its parameters (PostgreSQL, "Message Formats"): their number in two bytes, and their frames. C10 where
-/// there are more than 65535.
+/// What the message Bind has of its parameters (PostgreSQL, "Message Formats"): their number in two bytes, and their
+/// frames. C10 where there are more than 65535.
 pub fn parameters_of_bind(alloc: Global, arguments: &PgArguments) -> Result<Vec<u8>, CodecError>
     ensures ok { IfOk result (λ message. message.items ≡ to_be_bytes w16 (length arguments.now) ++ shown (all_tokens arguments.now)) }
     ensures err { IfErr result (λ e. (e ≡ CodecError.Memory) ⊎ ((e ≡ CodecError.ParameterCount) × (65535 < length arguments.now))) }

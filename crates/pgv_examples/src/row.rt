@@ -7,7 +7,7 @@ ghost use Rattle.pgv.specs.Words.{Part, Binary, front, int_reading, builtin};
 use pgv::{CodecError, Decode, PgType, PgTypeInfo, PgValue, PgValueFormat, PgValueRef};
 use std::alloc::Global;
 
-/// The next column of a row in binary. If no frame is there (C15, C16) the row stays where it was; else the row goes on.
+/// The next column of a row in binary. If no frame is there (C15, C16) the row stays where it was; else it goes on.
 pub fn column<'r, T: Decode>(
     alloc: Global,
     row: &mut &'r [u8],

@@ -1,5 +1,5 @@
-//! What the examples bind, read and keep, a short test each. They stand here since a crate with tests is proved once more for them. The
-//! examples' types are tested by the rows of `pgv_calls` too.
+//! What the examples bind, read and keep, a short test each. They stand here since a crate with tests is proved once
+//! more for them. The examples' types are tested by the rows of `pgv_calls` too.
 
 use hex::{decode, encode};
 use pgv::{
@@ -203,7 +203,8 @@ fn rows_of_persons(rt: HostRuntime) -> Result<(), CodecError> {
     Ok(())
 }
 
-/// What PostgreSQL 15.18 sent of `select id, name, mood, sizes, born from people ..`, in hex: the body of its RowDescription.
+/// What PostgreSQL 15.18 sent of `select id, name, mood, sizes, born from people ..`, in hex: the body of its
+/// RowDescription.
 const DESCRIBED: &[u8] = b"\
     00056964000000403d0001000000170004ffffffff00006e616d65000000403d000200000019ffffffffffff00006d6f6f64000000403d0003000040260004\
     ffffffff000073697a6573000000403d0004000003efffffffffffff0000626f726e000000403d00050000043a0004ffffffff0000";
