@@ -38,9 +38,9 @@ impl Blocks for Calls {
             "bodies" => differing(alloc, tries, Bodies, rows),
             "exchange" => differing(alloc, tries, Exchange(PgExchange::new(alloc)), rows),
             "catalog" => differing(alloc, tries, Catalog, rows),
-            "pieces" => match pieces::reader(alloc) {
-                Ok(reader) => differing(alloc, tries, Pieces(reader), rows),
-                Err(_) => Some(kind),
+            "pieces" => match pieces::reader_again(alloc) {
+                Some(reader) => differing(alloc, tries, Pieces(reader), rows),
+                None => Some(kind),
             },
             _ => Some(kind),
         }

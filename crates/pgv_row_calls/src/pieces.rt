@@ -7,11 +7,22 @@ use pgv_called::{Again, Called, bytes_of, same, told};
 use std::alloc::{AllocError, Global};
 
 /// A reader of a stream with the two columns.
-pub fn reader(alloc: Global) -> Result<PgCopyPieces, AllocError> {
+fn reader(alloc: Global) -> Result<PgCopyPieces, AllocError> {
     let mut types = Vec::new(alloc);
     types.push(PgTypeInfo(PgType::Int4))?;
     types.push(PgTypeInfo(PgType::Text))?;
     Ok(PgCopyPieces::new(types))
+}
+
+/// The same, asked for once more where its memory was refused.
+pub fn reader_again(alloc: Global) -> Option<PgCopyPieces> {
+    match reader(alloc) {
+        Ok(made) => Some(made),
+        Err(_) => match reader(alloc) {
+            Ok(made) => Some(made),
+            Err(_) => None,
+        },
+    }
 }
 
 /// Appends the bytes of a value, or `null`, and a comma.
