@@ -38,9 +38,13 @@ abbrev pub softly_one_of : List Ty → Ty → Bool
 softly_one_of [] t = false
 softly_one_of (u ∷ us) t = softly t u || softly_one_of us t
 
--- text, name, bpchar, varchar, unknown and citext
+-- name, bpchar, varchar, unknown and citext
+abbrev pub is_other_text : Ty → Bool
+is_other_text t = softly_one_of (builtin 19 ∷ builtin 1042 ∷ builtin 1043 ∷ builtin 705 ∷ named (codes "citext") ∷ []) t
+
+-- these and text
 abbrev pub is_text : Ty → Bool
-is_text t = softly_one_of (builtin 25 ∷ builtin 19 ∷ builtin 1042 ∷ builtin 1043 ∷ builtin 705 ∷ named (codes "citext") ∷ []) t
+is_text t = softly t (builtin 25) || is_other_text t
 
 abbrev pub is_text_elements : Option Kind → Bool
 is_text_elements None = false

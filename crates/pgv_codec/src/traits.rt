@@ -310,6 +310,7 @@ where
         Of::<T>::INFO
     }
 
+    #[inline(always)]
     fn compatible(type_info: &PgTypeInfo) -> bool {
         type_info.type_compatible(&Of::<T>::INFO)
     }

@@ -70,6 +70,7 @@ impl<'d> PgColumn<'d> {
     }
 
     /// The column's data type: the built-in one of the OID, or else what the catalogue has of it, or else known by its OID alone.
+    #[inline(always)]
     pub fn type_info(&self) -> &PgTypeInfo
         ensures { result.now ≡ self.now.type_info }
     {
@@ -91,6 +92,7 @@ impl<'d> PgColumn<'d> {
     }
 
     /// The format of the values: text (code 0) or binary (code 1). In a description that comes before Bind it is not known, and text.
+    #[inline(always)]
     pub fn format(&self) -> PgValueFormat
         ensures { result ≡ self.now.format }
     {

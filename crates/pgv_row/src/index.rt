@@ -29,6 +29,7 @@ impl ColumnIndex for usize {
 
     ghost missing = { λ place columns. place };
 
+    #[inline(always)]
     fn index(&self, columns: &[PgColumn<'_>]) -> Option<usize> {
         let place = *self;
         if place < columns.len() {

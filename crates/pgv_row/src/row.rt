@@ -81,6 +81,7 @@ impl<'a> Model for PgRow<'a> {
 }
 
 /// The value whose part stands at a place in the bytes of a row, or null.
+#[inline(always)]
 fn value_in<'a>(
     bytes: RowBytes<'a>,
     place: Option<Place>,
@@ -193,6 +194,7 @@ impl<'a> PgRow<'a> {
     }
 
     /// The column at a place or of a name.
+    #[inline(always)]
     pub fn try_column<I: ColumnIndex>(&self, index: I) -> Result<&'a PgColumn<'a>, ColumnError<I>>
         ensures { GivesColumn (λ c. c.now) I.place I.missing index self.now column_there result }
     {
@@ -220,6 +222,7 @@ impl<'a> PgRow<'a> {
     }
 
     /// The value of the column at a place, as it stands in the row.
+    #[inline(always)]
     #[tactic(auto, unfolding(crate::specs::Values::raw_value))]
     fn raw_at(&self, place: usize) -> Result<PgValueRef<'a>, CodecError>
         ensures { Gives (λ value. value) (raw_value self.now place) result }
@@ -235,6 +238,7 @@ impl<'a> PgRow<'a> {
     }
 
     /// What `T` reads of the column at a place, whatever its type is.
+    #[inline(always)]
     #[tactic(auto, unfolding(crate::specs::Values::unchecked_value))]
     fn unchecked_at<T: Decode>(&self, alloc: Global, place: usize) -> Result<T, CodecError>
         ensures { let parse = parse_by T.reading T.refusal T.takes_memory in
@@ -244,6 +248,7 @@ impl<'a> PgRow<'a> {
     }
 
     /// What `T` reads of the column at a place under its type.
+    #[inline(always)]
     #[tactic(auto, unfolding(crate::specs::Values::column_value))]
     pub(crate) fn value_at<T: Type + Decode>(
         &self,
@@ -261,6 +266,7 @@ impl<'a> PgRow<'a> {
     }
 
     /// The value of a column, as it stands in the row. C1 comes only of a custom type, which is copied.
+    #[inline(always)]
     pub fn try_get_raw<I: ColumnIndex>(&self, index: I) -> Result<PgValueRef<'a>, ColumnError<I>>
         ensures { GivesColumn (λ value. value) I.place I.missing index self.now raw_value result }
     {
@@ -280,6 +286,7 @@ impl<'a> PgRow<'a> {
     /// The value of a column: what `T` reads of it. Null is read or refused by `T` whatever the column's type is, where
     /// [`pgv_codec::PgRecordDecoder`] asks for the type of null too. Any other value is refused with C27 where `T` isn't read under the
     /// column's type, and else with what `T` refuses it with.
+    #[inline(always)]
     pub fn try_get<T: Type + Decode, I: ColumnIndex>(
         &self,
         alloc: Global,
@@ -302,6 +309,7 @@ impl<'a> PgRow<'a> {
     }
 
     /// The value of a column: what `T` reads of it, whatever the column's type is.
+    #[inline(always)]
     pub fn try_get_unchecked<T: Decode, I: ColumnIndex>(
         &self,
         alloc: Global,
@@ -375,6 +383,7 @@ impl PgOwnedRow {
 }
 
 /// What `T` reads of a value.
+#[inline(always)]
 fn decode_value<T: Decode>(alloc: Global, value: PgValueRef<'_>) -> Result<T, CodecError>
     ensures { Gives T.meaning (parse_by T.reading T.refusal T.takes_memory value.entry) result }
 {

@@ -206,6 +206,7 @@ impl<'r> PgValueRef<'r> {
 
     /// The value whose bytes are those of a row from `start` to `end`. [`PgValueRef::to_owned`] then shares the row's
     /// bytes.
+    #[inline(always)]
     pub fn from_row(
         row: &'r Bytes,
         start: usize,

@@ -25,6 +25,7 @@ impl<T: Type> Type for Option<T> {
         T::type_info()
     }
 
+    #[inline(always)]
     fn compatible(type_info: &PgTypeInfo) -> bool {
         T::compatible(type_info)
     }

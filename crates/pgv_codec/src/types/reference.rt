@@ -16,6 +16,7 @@ impl<T: Type> Type for &T {
         T::type_info()
     }
 
+    #[inline(always)]
     fn compatible(type_info: &PgTypeInfo) -> bool {
         T::compatible(type_info)
     }

@@ -24,11 +24,18 @@ pub fn encode_text(text: &str, out: &mut PgArgumentBuffer) -> Result<IsNull, Cod
 }
 
 /// Whether values of this type are read as texts.
+#[inline(always)]
 fn is_text(type_info: &PgTypeInfo) -> bool
     ensures { result ≡ spec.is_text type_info.now }
 {
-    type_info.type_compatible(&PgTypeInfo(PgType::Text))
-        || type_info.type_compatible(&PgTypeInfo(PgType::Name))
+    type_info.type_compatible(&PgTypeInfo(PgType::Text)) || is_other_text(type_info)
+}
+
+/// Whether it is one of the types under which texts are read beside `text` itself.
+fn is_other_text(type_info: &PgTypeInfo) -> bool
+    ensures { result ≡ spec.is_other_text type_info.now }
+{
+    type_info.type_compatible(&PgTypeInfo(PgType::Name))
         || type_info.type_compatible(&PgTypeInfo(PgType::Bpchar))
         || type_info.type_compatible(&PgTypeInfo(PgType::Varchar))
         || type_info.type_compatible(&PgTypeInfo(PgType::Unknown))
@@ -57,6 +64,7 @@ impl Type for String {
         PgTypeInfo(PgType::Text)
     }
 
+    #[inline(always)]
     fn compatible(type_info: &PgTypeInfo) -> bool {
         is_text(type_info)
     }
