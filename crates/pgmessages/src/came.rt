@@ -7,9 +7,10 @@ use crate::body::{
 use crate::fault::Fault;
 use crate::show::{show_copy, show_row};
 use pgv::PgValueFormat;
-use pgv::catalog::{PgCatalogRows, PgFieldRow, PgLabelRow, PgServerTypes, PgTypeRow};
+use pgv::catalog::{PgCatalogRows, PgServerTypes};
 use pgv::message::{PgExchange, PgMessage, message_in_front};
 use pgv::row::{PgColumn, PgColumns, PgPlaces, PgRow};
+use pgv_examples::server_types::{keep, types_of};
 use std::alloc::{AllocError, Global};
 
 /// What came of a session so far.
@@ -157,7 +158,7 @@ impl Came {
     /// Makes the types of the catalogue's rows, where these were its rows.
     pub fn finish(&self, alloc: Global, known: &mut PgServerTypes) -> Result<(), Fault> {
         if self.is_catalog {
-            *known = PgServerTypes::resolve(alloc, &self.rows)?;
+            *known = types_of(alloc, &self.rows)?;
         }
         Ok(())
     }
@@ -241,30 +242,10 @@ fn show_and_keep(
 ) -> Result<(), Fault> {
     out.push_str("row")?;
     show_row(alloc, row, out)?;
-    match statement {
-        0 => Ok(()),
-        1 => keep_type(alloc, row, rows),
-        2 => keep_field(alloc, row, rows),
-        _ => keep_label(alloc, row, rows),
+    match statement.checked_sub(1) {
+        Some(place) => Ok(keep(alloc, place, row, rows)?),
+        None => Ok(()),
     }
-}
-
-/// Keeps a row of the first statement of the catalogue.
-fn keep_type(alloc: Global, row: &PgRow<'_>, rows: &mut PgCatalogRows) -> Result<(), Fault> {
-    let read = PgTypeRow::read(alloc, row)?;
-    Ok(rows.types.push(read)?)
-}
-
-/// Keeps a row of the second.
-fn keep_field(alloc: Global, row: &PgRow<'_>, rows: &mut PgCatalogRows) -> Result<(), Fault> {
-    let read = PgFieldRow::read(alloc, row)?;
-    Ok(rows.fields.push(read)?)
-}
-
-/// Keeps a row of the third.
-fn keep_label(alloc: Global, row: &PgRow<'_>, rows: &mut PgCatalogRows) -> Result<(), Fault> {
-    let read = PgLabelRow::read(alloc, row)?;
-    Ok(rows.labels.push(read)?)
 }
 
 /// Appends a message that changes nothing here.

@@ -2,12 +2,12 @@
 
 use crate::came::whole_message;
 use crate::fault::Fault;
-use pgv::catalog::{FIELDS, LABELS, TYPES};
 use pgv::message::{
     MessageError, PgExchange, PgMessage, PgRequest, PgSetting, Prepared, write_bind,
     write_describe, write_execute, write_parse, write_query, write_startup, write_sync,
 };
 use pgv::{CodecError, Oid, PgArguments, PgValueFormat};
+use pgv_examples::server_types::STATEMENTS;
 use std::alloc::Global;
 
 /// How many bytes the message of start-up has.
@@ -88,7 +88,7 @@ fn errors_arguments(alloc: Global) -> Result<PgArguments, CodecError> {
 /// Appends the three statements of the catalogue.
 fn write_catalog(alloc: Global, out: &mut Vec<u8>) -> Result<(), MessageError> {
     let arguments = PgArguments::new(alloc);
-    for query in [TYPES, FIELDS, LABELS] {
+    for query in STATEMENTS {
         prepare(out, query, &[])?;
         run(out, &arguments)?;
     }

@@ -28,14 +28,15 @@ pub use Rattle.pgv_value.specs.declared.value.PgValueFormat.TheVariants.{Binary,
 pub use Rattle.pgv_value.specs.ScalarGrammar.{scalar, binary_alone, bool_reading, int_reading, oid_reading, uuid_reading, text_reading}
 -- For `refusal`: why numbers of a width are refused, and texts; `text_refusal_or why` of what is read from a text, the
 -- same in both formats: null is C13, what isn't UTF-8 C14, and another text `why`. `refusal_or why read after` is `why`
--- where nothing was read, and else what comes after it. `UnexpectedNull` is C13, `Syntax` C29, and `Caller n` an error
--- of your own.
+-- where nothing was read, and else what comes after it. `UnexpectedNull` is C13, `TextUnsupported` C18, `Syntax` C29, and
+-- `Caller n` an error of your own. `code_of error` is the number of any.
 pub use Rattle.pgv_value.specs.ScalarGrammar.{int_refusal}
 pub use Rattle.pgv_value.specs.Utf8.{text_refusal}
 pub use Rattle.pgv_codec.specs.Refusing.{text_refusal_or}
 pub use Rattle.pgv_nest.specs.NestRefusals.{refusal_or}
 pub use Rattle.pgv_value.specs.declared.error.CodecError.{CodecError}
-pub use Rattle.pgv_value.specs.declared.error.CodecError.TheVariants.{Caller, Syntax, UnexpectedNull}
+pub use Rattle.pgv_value.specs.Codes.{code_of}
+pub use Rattle.pgv_value.specs.declared.error.CodecError.TheVariants.{Caller, Syntax, TextUnsupported, UnexpectedNull}
 -- For `written` of `Decode`: `plainly image` is what is written of a meaning, `unwritten` says nothing, and
 -- `field_written info written m` is the same for a field.
 pub use Rattle.pgv_codec.specs.Saying.{plainly, unwritten, field_written}
@@ -59,9 +60,9 @@ pub use Rattle.pgv_wire.specs.Given.{ArgumentReadsBack}
 -- field of a composite fits, `FieldsFit` where one and those after it do; `Followed` and `FieldIsPlain` say so in plain words.
 pub use Rattle.pgv_codec.specs.Back.{ReadsBack, always, FieldFits, FieldsFit, Followed}
 -- Steps of such a proof: a value that has an image has passed the test before it (`guarded`), and bytes are written as they are
--- (`part_is`). Then the law for `i32` and for `String`.
+-- (`part_is`). Then the law for `i32`, `i64` and `String`.
 pub use Rattle.pgv_codec.specs.BackParts.{guarded}
-pub use Rattle.pgv_codec.specs.BackScalars.{part_is, int4_back, text_back}
+pub use Rattle.pgv_codec.specs.BackScalars.{part_is, int4_back, int8_back, text_back}
 -- The three steps for a composite.
 pub use Rattle.pgv_codec.specs.BackRecords.{further_back, last_back, record_back}
 pub use Rattle.pgv_codec.specs.Plain.{FieldIsPlain}
@@ -81,3 +82,8 @@ pub use Rattle.pgv_codec.proofs.Refusing.{refused_here, refused_after}
 pub use Rattle.pgv_codec.specs.Saying.{field_agrees, same_none, same_fields, record_agrees}
 -- A field that is plain fits.
 pub use Rattle.pgv_codec.proofs.PlainFits.{field_fits}
+-- Why a column of a row was not read: `NotFound index place`, or `Decode index place source`.
+pub use Rattle.pgv_row.specs.declared.error.ColumnError.{ColumnError}
+pub use Rattle.pgv_row.specs.declared.error.ColumnError.TheVariants.{NotFound, Decode}
+-- `AreMade rows before types`: types that rows of a server's catalogue show, each of parts that come before it.
+pub use Rattle.pgv_catalog.specs.Rows.{AreMade}

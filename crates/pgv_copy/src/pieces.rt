@@ -1,6 +1,6 @@
 //! Rows of a COPY stream that comes in pieces.
 
-ghost use Rattle.std.specs.Prelude.{◌≡◌, ◌<◌, ◌≤◌, Ok, Err, None, IfOk, IfErr, IfSome, OnErr, drop, length, option_map};
+ghost use Rattle.std.specs.Prelude.{◌≡◌, ◌<◌, ◌≤◌, Ok, Err, None, IfOk, IfErr, IfSome, IsOk, OnErr, drop, length, option_map, true};
 ghost use Rattle.pgv_value.specs.Parsed.{GivesExactly};
 ghost use Rattle.pgv_value.specs.declared.error.CodecError.TheVariants.{Memory};
 ghost use Rattle.pgv_copy.specs.CopyBinary.{ended, fields};
@@ -124,10 +124,11 @@ impl PgCopyPieces {
 
     /// Takes a piece of the stream. The row that was read last can't be lent any more, and its bytes are forgotten.
     ///
-    /// Where the bytes can't be kept it is C1, and the reader is as it was.
+    /// Where the bytes can't be kept it is C1, and the reader is as it was. After the end bytes don't count, and it asks for no memory.
     pub fn feed(&mut self, piece: &[u8]) -> Result<(), CodecError>
         ensures taken { IfOk result (λ _. self.new ≡ with_more self.old piece.now) }
         ensures refused { IfErr result (λ e. e ≡ Memory) }
+        ensures ended { self.old.is_ended ≡ true → IsOk result }
         ensures unchanged { OnErr result (self.new ≡ self.old) }
     {
         if self.is_ended {
@@ -181,10 +182,11 @@ impl PgCopyPieces {
     /// The values of the row that was read last, or none where none was read since bytes came. They borrow from the bytes
     /// that are kept.
     ///
-    /// The list takes memory, and each custom type, which is copied: C1.
+    /// The list takes memory, and each custom type, which is copied: C1. Where there is no row it asks for none.
     pub fn row(&self) -> Result<Option<Vec<PgValueRef<'_>>>, CodecError>
         ensures found { IfOk result (λ found. option_map (λ row. row.items) found ≡ self.now.row) }
         ensures refused { IfErr result (λ e. e ≡ Memory) }
+        ensures none { self.now.row ≡ None → IsOk result }
     {
         if !self.has_row {
             return Ok(None);

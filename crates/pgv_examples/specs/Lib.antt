@@ -2,3 +2,5 @@ pub mod Moods
 pub mod Objects
 pub mod Percents
 pub mod Known
+pub mod Reasons
+pub mod Floats

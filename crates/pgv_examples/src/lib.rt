@@ -13,9 +13,13 @@
 //! 10. [`read_back`] says that what was sent comes back, and proves it by the laws.
 //! 11. [`copied`] reads the stream of a COPY in binary, row by row.
 //! 12. [`statement`] describes a statement, binds its arguments, and reads its rows by their columns.
+//! 13. [`server_types`] makes a server's own types of the rows of its catalogue.
+//! 14. [`errors`] turns a refusal into an error of one's own, by column and number.
+//! 15. [`in_list`] has as many parameters as there are keys.
+//! 16. [`float8`] is a type that the library doesn't have, by its bytes.
 //!
-//! All of them name the crate `pgv` alone, in code and in contracts; `docs/proving.md` has a line on each word of
-//! `Rattle.pgv.specs.Words`.
+//! All of them name the crate `pgv` alone, in code and in contracts, whose words are those of `Rattle.pgv.specs.Words`: that file says
+//! what each is.
 #![tactic(auto)]
 
 pub mod arrays;
@@ -23,12 +27,16 @@ pub mod bind;
 pub mod copied;
 pub mod email;
 pub mod empty_object;
+pub mod errors;
+pub mod float8;
 pub mod household;
+pub mod in_list;
 pub mod mood;
 pub mod page;
 pub mod pair;
 pub mod percent;
 pub mod read_back;
 pub mod row;
+pub mod server_types;
 pub mod statement;
 pub mod user_id;

@@ -247,9 +247,9 @@ impl<'a> PgRow<'a> {
         decode_value(alloc, self.raw_at(place)?)
     }
 
-    /// What `T` reads of the column at a place under its type.
+    /// What `T` reads of the column at a place under its type. The type is tested where it stands, before it is copied.
     #[inline(always)]
-    #[tactic(auto, unfolding(crate::specs::Values::column_value))]
+    #[tactic(auto, unfolding(crate::specs::Values::column_value, crate::specs::Values::raw_value))]
     pub(crate) fn value_at<T: Type + Decode>(
         &self,
         alloc: Global,
@@ -258,11 +258,17 @@ impl<'a> PgRow<'a> {
         ensures { let parse = parse_by T.reading T.refusal T.takes_memory in
             Gives T.meaning (column_value T.accepts parse self.now place) result }
     {
-        let value = self.raw_at(place)?;
-        if !value.is_null() && !T::compatible(value.type_info()) {
+        let Some(column) = self.columns.get(place) else {
+            return Err(CodecError::NoField(place));
+        };
+        let Some(part) = self.places.get(place) else {
+            return Err(CodecError::NoField(place));
+        };
+        if part.is_some() && !T::compatible(column.type_info()) {
             return Err(CodecError::MismatchedTypes);
         }
-        decode_value(alloc, value)
+        let type_info = column.type_info().clone()?;
+        decode_value(alloc, value_in(self.bytes, *part, type_info, column.format()))
     }
 
     /// The value of a column, as it stands in the row. C1 comes only of a custom type, which is copied.

@@ -1,7 +1,7 @@
 -- What a session has read and written so far.
 use Rattle.std.proofs.Common.{◌≡◌, ◌≢◌, ◌++◌, ◌∙◌, sym, ap, subst, List, ℕ, [], ◌∷◌, refl, append_assoc, append-nil}
 use Rattle.std.specs.Prelude.{Option, Some, None, IfSome, ⊤}
-use Rattle.std.specs.Io.KnownBytes.{Appends, IsAtEnd}
+use Rattle.std.specs.Io.KnownBytes.{Appends, IsAtEnd, Keeps}
 use Rattle.std.specs.Io.BufRead.{take_through, drop_through, DropsThrough}
 use Rattle.pgv_session.specs.Lines.{before}
 use Rattle.pgv_session.specs.Session.{State, Answers, IsSession, lines_of}
@@ -40,6 +40,15 @@ so_far (Some xs) (Some (y ∷ ys)) c o w v was now line text h n t d r p =
           (ap (λ (out : List ℕ). h.0 ++ out) (sym (append_assoc text (10 ∷ []) rest)) ∙ sym (append_assoc h.0 (text ++ 10 ∷ []) rest))
           (h.2 (text ++ 10 ∷ rest) (with_line was now y ys line text rest t r s)),
     )
+
+-- the writer has the same bytes as before
+pub kept : (a b o w v : Option (List ℕ)) (now : State) → IsSoFar a b o w now → Keeps w v → IsSoFar a b o v now
+kept None b o w v now h k = tt
+kept (Some xs) None o w v now h k = absurd h
+kept (Some xs) (Some ys) None w v now h k = (h.0, tt, h.2)
+kept (Some xs) (Some ys) (Some os) None v now h k = absurd h.1
+kept (Some xs) (Some ys) (Some os) (Some ws) None now h k = absurd k
+kept (Some xs) (Some ys) (Some os) (Some ws) (Some vs) now h k = (h.0, k ∙ h.1, h.2)
 
 -- the input was read to its end
 pub whole : (a b o w : Option (List ℕ)) (now : State) → IsSoFar a b o w now → IsAtEnd b →

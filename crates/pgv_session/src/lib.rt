@@ -13,5 +13,5 @@ mod session;
 mod standard;
 mod value;
 
-pub use runner::{RunFault, fault_text, run};
+pub use runner::{MayWait, RunFault, fault_text, run};
 pub use standard::serve;

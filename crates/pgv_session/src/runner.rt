@@ -1,7 +1,7 @@
 //! A session over a reader and a writer.
 
 ghost use Rattle.std.specs.Prelude.{◌≡◌, ◌++◌, ◌∷◌, [], List, ℕ, IfSome, OnOk};
-ghost use Rattle.std.specs.Io.KnownBytes.{Appends, IsAtEnd};
+ghost use Rattle.std.specs.Io.KnownBytes.{Appends, IsAtEnd, Keeps};
 ghost use Rattle.pgv_session.specs.Session.{Answers, IsSession, lines_of};
 ghost use Rattle.pgv_session.specs.Lines.{before};
 ghost use Rattle.pgv_session.specs.Faults.{text_of_fault};
@@ -9,8 +9,8 @@ ghost use Rattle.pgv_session.specs.Faults.{text_of_fault};
 use crate::line::split_at_byte;
 use crate::session::answer;
 use pgv_wire::PgArguments;
-use std::alloc::Global;
-use std::io::{BufRead, Error, ErrorKind, Write};
+use std::alloc::{Allocator, Global};
+use std::io::{BufRead, BufReader, Error, ErrorKind, Read, Write};
 
 /// Why a session ended before its input did. It does not say what was written before.
 #[derive(Clone, Copy, PartialEq, Eq, Debug)]
@@ -21,6 +21,26 @@ pub enum RunFault {
     Write,
     /// A request for memory was refused.
     Memory,
+}
+
+/// A reader that says whether reading on may have to wait for whoever writes the lines.
+pub trait MayWait {
+    /// Whether no byte that has come is still to be read.
+    fn may_wait(&self) -> bool;
+}
+
+/// All bytes are there.
+impl MayWait for &[u8] {
+    fn may_wait(&self) -> bool {
+        false
+    }
+}
+
+/// It waits where its buffer is empty.
+impl<R: Read, A: Allocator> MayWait for BufReader<R, A> {
+    fn may_wait(&self) -> bool {
+        self.buffer().is_empty()
+    }
 }
 
 /// What the program says of a fault.
@@ -34,9 +54,10 @@ pub fn fault_text(fault: &RunFault) -> &'static str
     }
 }
 
-/// Reads lines to the end of the input, and writes one answer for each. The writer is flushed at the end, and at a fault too, so that
-/// what was answered before it is written.
-pub fn run<R: BufRead, W: Write>(
+/// Reads lines to the end of the input, and writes one answer for each. The writer is flushed where the reader may have to wait, so
+/// that each answer is seen before the next line is asked for; at the end; and at a fault, so that what was answered before it is
+/// written.
+pub fn run<R: BufRead + MayWait, W: Write>(
     alloc: Global,
     reader: &mut R,
     writer: &mut W,
@@ -53,7 +74,7 @@ pub fn run<R: BufRead, W: Write>(
 }
 
 /// The answers of all lines, which a writer may still hold.
-fn answer_lines<R: BufRead, W: Write>(
+fn answer_lines<R: BufRead + MayWait, W: Write>(
     alloc: Global,
     reader: &mut R,
     writer: &mut W,
@@ -65,6 +86,7 @@ fn answer_lines<R: BufRead, W: Write>(
     let mut arguments = PgArguments::new(alloc);
     let mut line = Vec::new(alloc);
     for _ in 0..u64::MAX {
+        show_answers(reader, writer)?;
         line.clear();
         match reader.read_until(b'\n', &mut line) {
             Ok(0) => return Ok(()),
@@ -74,6 +96,16 @@ fn answer_lines<R: BufRead, W: Write>(
         respond(alloc, &mut arguments, line.as_slice(), writer)?;
     }
     Err(RunFault::Read)
+}
+
+/// Writes what the writer still holds, where the reader may have to wait.
+fn show_answers<R: MayWait, W: Write>(reader: &R, writer: &mut W) -> Result<(), RunFault>
+    ensures { OnOk result (Keeps (W.contents writer.old) (W.contents writer.new)) }
+{
+    if reader.may_wait() && writer.flush().is_err() {
+        return Err(RunFault::Write);
+    }
+    Ok(())
 }
 
 fn read_fault(error: &Error) -> RunFault {

@@ -2,6 +2,7 @@
 //! more for them. The examples' types are tested by the rows of `pgv_calls` too.
 
 use hex::{decode, encode};
+use pgv::row::{PgPlaces, PgRow};
 use pgv::{
     CodecError, Decode, Oid, PgArguments, PgCopyReader, PgType, PgTypeInfo, PgTypeKind,
     PgValueFormat, PgValueRef,
@@ -10,6 +11,9 @@ use pgv_examples::arrays::{add_lists, scores};
 use pgv_examples::bind::{arguments_of_search, fill, parameters_of_bind};
 use pgv_examples::copied::{columns, read_item, read_items};
 use pgv_examples::email::Email;
+use pgv_examples::errors::{Reason, name_in};
+use pgv_examples::float8::Float8;
+use pgv_examples::in_list::{add_all, push_in};
 use pgv_examples::mood::Mood;
 use pgv_examples::row::{column, keep, read_person};
 use pgv_examples::statement::{ask, columns_of, people, run};
@@ -261,5 +265,74 @@ fn a_statement_is_run(rt: HostRuntime) -> Result<(), Fail> {
         shown.as_str(),
         "1 Some(\"Ann\")\n2 None\n7 Some(\"Béa\")\n"
     );
+    Ok(())
+}
+
+/// A query for these keys, its arguments in hex, and how many keys more were refused.
+fn listed(alloc: Global, keys: &[i64]) -> Result<String, CodecError> {
+    let mut arguments = PgArguments::new(alloc);
+    let mut query = String::from_str(alloc, "where id")?;
+    push_in(&mut arguments, &mut query, keys)?;
+    let refused = add_all(alloc, &mut arguments, keys)?;
+    let sent = encode(alloc, arguments.buffer().as_slice())?;
+    Ok(format!(in alloc; "{query} {sent} {refused}")?)
+}
+
+#[test]
+fn keys_are_listed(rt: HostRuntime) -> Result<(), CodecError> {
+    let two = listed(rt.alloc(), &[5, -1])?;
+    assert_eq!(rt;
+        two.as_str(),
+        "where id in ($1, $2) 00000008000000000000000500000008ffffffffffffffff00000008000000000000000500000008ffffffffffffffff 0"
+    );
+    let none = listed(rt.alloc(), &[])?;
+    assert_eq!(rt; none.as_str(), "where id in (null)  0");
+    Ok(())
+}
+
+/// The bits of a `float8` in this format, or the number of its refusal.
+fn float_read(
+    alloc: Global,
+    bytes: Option<&[u8]>,
+    format: PgValueFormat,
+) -> Result<i64, u8> {
+    let value = PgValueRef::new(bytes, PgTypeInfo(PgType::Float8), format);
+    match Float8::decode(alloc, value) {
+        Ok(number) => Ok(number.0),
+        Err(error) => Err(error.code()),
+    }
+}
+
+#[test]
+fn floats_by_their_bits(rt: HostRuntime) -> Result<(), CodecError> {
+    let mut arguments = PgArguments::new(rt.alloc());
+    arguments.add(Float8(4_607_182_418_800_017_408))?;
+    let one = b"\x3f\xf0\0\0\0\0\0\0".as_slice();
+    assert_eq!(rt; arguments.buffer().as_slice().strip_prefix(b"\0\0\0\x08".as_slice()), Some(one));
+    let found = [
+        float_read(rt.alloc(), Some(one), PgValueFormat::Binary),
+        float_read(rt.alloc(), Some(&one[1..]), PgValueFormat::Binary),
+        float_read(rt.alloc(), Some(b"1"), PgValueFormat::Text),
+        float_read(rt.alloc(), None, PgValueFormat::Text),
+    ];
+    assert_eq!(rt; found, [Ok(4_607_182_418_800_017_408), Err(17), Err(18), Err(13)]);
+    Ok(())
+}
+
+/// Why the name in a row of one null is not read, under this description.
+fn unnamed(alloc: Global, described: &[u8]) -> Result<Option<Reason<&'static str>>, CodecError> {
+    let described = bytes_of(alloc, described)?;
+    let columns = columns_of(alloc, described.as_slice())?;
+    let mut room = PgPlaces::new(alloc);
+    let row = PgRow::read(&columns, &mut room, b"\0\x01\xff\xff\xff\xff")?;
+    Ok(name_in(alloc, &row).err())
+}
+
+#[test]
+fn reasons_name_the_column(rt: HostRuntime) -> Result<(), CodecError> {
+    let null = unnamed(rt.alloc(), b"00016e616d6500000000000000000000190000000000000000")?;
+    assert_eq!(rt; null, Some(Reason::Null("name")));
+    let missing = unnamed(rt.alloc(), b"00016c616d6500000000000000000000190000000000000000")?;
+    assert_eq!(rt; missing, Some(Reason::Missing("name")));
     Ok(())
 }

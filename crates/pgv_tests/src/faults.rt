@@ -1,6 +1,6 @@
 //! Readers and writers that fail at a call, and what `run` answers then.
 
-use pgv_session::{RunFault, fault_text, run};
+use pgv_session::{MayWait, RunFault, fault_text, run};
 use std::alloc::Global;
 use std::io::{self, BufRead, Error, ErrorKind, Read, Write};
 
@@ -68,6 +68,13 @@ impl BufRead for FailingReader<'_> {
         if amount <= self.bytes.len() {
             self.bytes = &self.bytes[amount..];
         }
+    }
+}
+
+/// Every read may have to wait, so answers are flushed line by line.
+impl MayWait for FailingReader<'_> {
+    fn may_wait(&self) -> bool {
+        true
     }
 }
 

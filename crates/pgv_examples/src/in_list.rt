@@ -1,0 +1,52 @@
+//! `in ($1, $2, ..)`: as many parameters as there are keys. (With one parameter, `= any($1)` takes a list: `arrays`.)
+
+ghost use Rattle.std.specs.Prelude.{◌≡◌, ◌+◌, length, OnOk};
+
+use pgv::{CodecError, PgArguments};
+use std::alloc::Global;
+
+/// Adds each key as an argument, and appends their placeholders to a query, as ` in ($1, $2)`; of no keys ` in (null)`, which no row
+/// matches. A refusal leaves what was added and appended before.
+pub fn push_in(
+    arguments: &mut PgArguments,
+    query: &mut String,
+    keys: &[i64],
+) -> Result<(), CodecError>
+    ensures { OnOk result (length arguments.new ≡ length arguments.old + length keys.now) }
+{
+    query.push_str(if keys.is_empty() {
+        " in (null"
+    } else {
+        " in ("
+    })?;
+    push_keys(arguments, query, keys)?;
+    Ok(query.push(')')?)
+}
+
+/// Adds each key, and appends its placeholder, after the first with a comma in front.
+fn push_keys(
+    arguments: &mut PgArguments,
+    query: &mut String,
+    keys: &[i64],
+) -> Result<(), CodecError>
+    ensures { OnOk result (length arguments.new ≡ length arguments.old + length keys.now) }
+{
+    let mut between = "";
+    for key in keys {
+        arguments.add(*key)?;
+        query.push_str(between)?;
+        arguments.format_placeholder(query)?;
+        between = ", ";
+    }
+    Ok(())
+}
+
+/// Adds those keys that can be written, and answers how many could not. A key that is refused changes nothing.
+pub fn add_all(
+    alloc: Global,
+    arguments: &mut PgArguments,
+    keys: &[i64],
+) -> Result<usize, CodecError> {
+    let outcomes = arguments.add_each(alloc, keys)?;
+    Ok(outcomes.iter().filter(|outcome| outcome.is_err()).count())
+}
