@@ -223,12 +223,6 @@ held_row types in_header next held row rest size again le is is_again r =
       row_whole = λ _. ((r.given, rest), ap (fields types) row_at.1 ∙ r.found);
     })
 
--- where a row was read, it is lent
-pub row_is_there : (types : List Ty) (row next : ℕ) (held : List ℕ) → AreHeld true types row next held → row_at true types (drop row held) ≡ None → ⊥
-row_is_there types row next held h none =
-    let x = h.row_whole refl in
-    let no : (let o : Option (List Given) = Some x.0.0 in o) ≡ None = sym (ap row_by x.1) ∙ none in absurd cc
-
 pub record Advanced (types : List Ty) (in_header : Bool) (bytes left : List ℕ) (row : Option (List Given)) : Type 0 where
   pub given : List Given
   pub read : next_of types in_header bytes ≡ Ok (Some given, before types left)
