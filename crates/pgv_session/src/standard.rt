@@ -1,7 +1,7 @@
 //! A session over standard input and output, which is all that a program over this crate is.
 
 use crate::runner::{RunFault, fault_text, run};
-use std::env;
+use std::env::{self, Env};
 use std::io::{self, BufReader, BufWriter, ErrorKind};
 use std::process::ExitCode;
 
