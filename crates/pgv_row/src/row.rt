@@ -268,7 +268,10 @@ impl<'a> PgRow<'a> {
             return Err(CodecError::MismatchedTypes);
         }
         let type_info = column.type_info().clone()?;
-        decode_value(alloc, value_in(self.bytes, *part, type_info, column.format()))
+        decode_value(
+            alloc,
+            value_in(self.bytes, *part, type_info, column.format()),
+        )
     }
 
     /// The value of a column, as it stands in the row. C1 comes only of a custom type, which is copied.

@@ -291,11 +291,7 @@ fn keys_are_listed(rt: HostRuntime) -> Result<(), CodecError> {
 }
 
 /// The bits of a `float8` in this format, or the number of its refusal.
-fn float_read(
-    alloc: Global,
-    bytes: Option<&[u8]>,
-    format: PgValueFormat,
-) -> Result<i64, u8> {
+fn float_read(alloc: Global, bytes: Option<&[u8]>, format: PgValueFormat) -> Result<i64, u8> {
     let value = PgValueRef::new(bytes, PgTypeInfo(PgType::Float8), format);
     match Float8::decode(alloc, value) {
         Ok(number) => Ok(number.0),
@@ -308,14 +304,23 @@ fn floats_by_their_bits(rt: HostRuntime) -> Result<(), CodecError> {
     let mut arguments = PgArguments::new(rt.alloc());
     arguments.add(Float8(4_607_182_418_800_017_408))?;
     let one = b"\x3f\xf0\0\0\0\0\0\0".as_slice();
-    assert_eq!(rt; arguments.buffer().as_slice().strip_prefix(b"\0\0\0\x08".as_slice()), Some(one));
+    assert_eq!(rt;
+        arguments
+            .buffer()
+            .as_slice()
+            .strip_prefix(b"\0\0\0\x08".as_slice()),
+        Some(one)
+    );
     let found = [
         float_read(rt.alloc(), Some(one), PgValueFormat::Binary),
         float_read(rt.alloc(), Some(&one[1..]), PgValueFormat::Binary),
         float_read(rt.alloc(), Some(b"1"), PgValueFormat::Text),
         float_read(rt.alloc(), None, PgValueFormat::Text),
     ];
-    assert_eq!(rt; found, [Ok(4_607_182_418_800_017_408), Err(17), Err(18), Err(13)]);
+    assert_eq!(rt;
+        found,
+        [Ok(4_607_182_418_800_017_408), Err(17), Err(18), Err(13)]
+    );
     Ok(())
 }
 
@@ -330,9 +335,15 @@ fn unnamed(alloc: Global, described: &[u8]) -> Result<Option<Reason<&'static str
 
 #[test]
 fn reasons_name_the_column(rt: HostRuntime) -> Result<(), CodecError> {
-    let null = unnamed(rt.alloc(), b"00016e616d6500000000000000000000190000000000000000")?;
+    let null = unnamed(
+        rt.alloc(),
+        b"00016e616d6500000000000000000000190000000000000000",
+    )?;
     assert_eq!(rt; null, Some(Reason::Null("name")));
-    let missing = unnamed(rt.alloc(), b"00016c616d6500000000000000000000190000000000000000")?;
+    let missing = unnamed(
+        rt.alloc(),
+        b"00016c616d6500000000000000000000190000000000000000",
+    )?;
     assert_eq!(rt; missing, Some(Reason::Missing("name")));
     Ok(())
 }
