@@ -4,6 +4,7 @@ use crate::fault::Fault;
 use crate::input::read_all;
 use crate::tries::Tries;
 use std::alloc::Global;
+use std::process::ExitCode;
 
 /// What the blocks of a program are.
 pub trait Blocks {
@@ -32,10 +33,7 @@ fn first_of<'a, B: Blocks>(
 
 /// Compares all blocks of standard input, and prints what differs. Where nothing does, it prints `ok`, and behind it how many calls were
 /// made again, if any.
-pub fn compared<B: Blocks>(
-    blocks: &B,
-    rt: &(impl AllocGlobal + Input + Print),
-) -> Result<bool, Fault> {
+fn compared<B: Blocks>(blocks: &B, rt: &(impl AllocGlobal + Input + Print)) -> Result<bool, Fault> {
     let tries = Tries::new();
     let read = read_all(rt.alloc(), &tries, &mut rt.reader())?;
     let mut all = true;
@@ -51,4 +49,20 @@ pub fn compared<B: Blocks>(
         again => println!(rt; "ok again {again}").or(Err(Fault::Write))?,
     }
     Ok(all)
+}
+
+/// All that a program of rows does: it compares them, and its status is 1 where one doesn't hold. A fault is named on standard error.
+pub fn serve<B: Blocks>(
+    blocks: &B,
+    name: &str,
+    rt: &(impl AllocGlobal + Input + Print + Eprint),
+) -> ExitCode {
+    match compared(blocks, rt) {
+        Ok(true) => ExitCode::SUCCESS,
+        Ok(false) => ExitCode::FAILURE,
+        Err(fault) => {
+            let _told = eprintln!(rt; "{name}: {}", fault.text());
+            ExitCode::FAILURE
+        }
+    }
 }

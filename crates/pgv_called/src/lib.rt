@@ -11,7 +11,7 @@ mod tries;
 mod values;
 
 pub use again::{Again, refused, same, told};
-pub use blocks::{Blocks, compared};
+pub use blocks::{Blocks, serve};
 pub use called::{Called, differing};
 pub use fault::Fault;
 pub use tries::Tries;

@@ -22,7 +22,7 @@ use crate::arguments::Arguments;
 use crate::buffers::Buffer;
 use crate::still::Still;
 use pgv::{PgArgumentBuffer, PgArguments};
-use pgv_called::{Blocks, Tries, compared, differing};
+use pgv_called::{Blocks, Tries, differing, serve};
 use std::alloc::Global;
 use std::process::ExitCode;
 
@@ -49,12 +49,5 @@ impl Blocks for Calls {
 }
 
 fn main(rt: HostRuntime) -> ExitCode {
-    match compared(&Calls, &rt) {
-        Ok(true) => ExitCode::SUCCESS,
-        Ok(false) => ExitCode::FAILURE,
-        Err(fault) => {
-            let _told = eprintln!(rt; "pgv_calls: {}", fault.text());
-            ExitCode::FAILURE
-        }
-    }
+    serve(&Calls, "pgv_calls", &rt)
 }

@@ -17,7 +17,7 @@ use crate::messages::Messages;
 use crate::pieces::Pieces;
 use crate::rows::Rows;
 use pgv::message::PgExchange;
-use pgv_called::{Blocks, Tries, compared, differing};
+use pgv_called::{Blocks, Tries, differing, serve};
 use std::alloc::Global;
 use std::process::ExitCode;
 
@@ -48,12 +48,5 @@ impl Blocks for Calls {
 }
 
 fn main(rt: HostRuntime) -> ExitCode {
-    match compared(&Calls, &rt) {
-        Ok(true) => ExitCode::SUCCESS,
-        Ok(false) => ExitCode::FAILURE,
-        Err(fault) => {
-            let _told = eprintln!(rt; "pgv_row_calls: {}", fault.text());
-            ExitCode::FAILURE
-        }
-    }
+    serve(&Calls, "pgv_row_calls", &rt)
 }

@@ -18,7 +18,7 @@ use crate::texts::Texts;
 use crate::trees::Tree;
 use crate::values::Values;
 use pgv::types::{BitVec, PgHstore, PgLQuery, PgLTree};
-use pgv_called::{Blocks, Tries, compared, differing};
+use pgv_called::{Blocks, Tries, differing, serve};
 use std::alloc::Global;
 use std::process::ExitCode;
 
@@ -47,12 +47,5 @@ impl Blocks for Calls {
 }
 
 fn main(rt: HostRuntime) -> ExitCode {
-    match compared(&Calls, &rt) {
-        Ok(true) => ExitCode::SUCCESS,
-        Ok(false) => ExitCode::FAILURE,
-        Err(fault) => {
-            let _told = eprintln!(rt; "pgv_value_calls: {}", fault.text());
-            ExitCode::FAILURE
-        }
-    }
+    serve(&Calls, "pgv_value_calls", &rt)
 }
