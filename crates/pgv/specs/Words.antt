@@ -28,15 +28,15 @@ pub use Rattle.pgv_value.specs.declared.value.PgValueFormat.TheVariants.{Binary,
 pub use Rattle.pgv_value.specs.ScalarGrammar.{scalar, binary_alone, bool_reading, int_reading, oid_reading, uuid_reading, text_reading}
 -- For `refusal`: why numbers of a width are refused, and texts; `text_refusal_or why` of what is read from a text, the
 -- same in both formats: null is C13, what isn't UTF-8 C14, and another text `why`. `refusal_or why read after` is `why`
--- where nothing was read, and else what comes after it. `UnexpectedNull` is C13, `TextUnsupported` C18, `Syntax` C29, and
--- `Caller n` an error of your own. `code_of error` is the number of any.
+-- where nothing was read, and else what comes after it. `UnexpectedNull` is C13, `WrongLength n` C17,
+-- `TextUnsupported` C18, `Syntax` C29, and `Caller n` an error of your own. `code_of error` is the number of any.
 pub use Rattle.pgv_value.specs.ScalarGrammar.{int_refusal}
 pub use Rattle.pgv_value.specs.Utf8.{text_refusal}
 pub use Rattle.pgv_codec.specs.Refusing.{text_refusal_or}
 pub use Rattle.pgv_nest.specs.NestRefusals.{refusal_or}
 pub use Rattle.pgv_value.specs.declared.error.CodecError.{CodecError}
 pub use Rattle.pgv_value.specs.Codes.{code_of}
-pub use Rattle.pgv_value.specs.declared.error.CodecError.TheVariants.{Caller, Syntax, TextUnsupported, UnexpectedNull}
+pub use Rattle.pgv_value.specs.declared.error.CodecError.TheVariants.{Caller, Syntax, TextUnsupported, UnexpectedNull, WrongLength}
 -- For `written` of `Decode`: `plainly image` is what is written of a meaning, `unwritten` says nothing, and
 -- `field_written info written m` is the same for a field.
 pub use Rattle.pgv_codec.specs.Saying.{plainly, unwritten, field_written}

@@ -60,7 +60,13 @@ impl Plain for Float8 {
 
     fn read(alloc: Global, value: PgValueRef<'_>) -> Result<Float8, CodecError> {
         match value.format() {
-            PgValueFormat::Binary => Ok(Float8(i64::decode(alloc, value)?)),
+            PgValueFormat::Binary => {
+                let length = value.as_bytes()?.len();
+                if length != 8 {
+                    return Err(CodecError::WrongLength(length));
+                }
+                Ok(Float8(i64::decode(alloc, value)?))
+            }
             PgValueFormat::Text => {
                 value.as_bytes()?;
                 Err(CodecError::TextUnsupported)
