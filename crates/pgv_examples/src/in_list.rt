@@ -23,7 +23,7 @@ pub fn push_in(
     Ok(query.push(')')?)
 }
 
-/// Adds each key, and appends its placeholder, after the first with a comma in front.
+/// Adds each key, and appends their placeholders with a comma between two.
 fn push_keys(
     arguments: &mut PgArguments,
     query: &mut String,
@@ -31,14 +31,28 @@ fn push_keys(
 ) -> Result<(), CodecError>
     ensures { OnOk result (length arguments.new ≡ length arguments.old + length keys.now) }
 {
-    let mut between = "";
+    let mut is_first = true;
     for key in keys {
-        arguments.add(*key)?;
-        query.push_str(between)?;
-        arguments.format_placeholder(query)?;
-        between = ", ";
+        push_key(arguments, query, *key, is_first)?;
+        is_first = false;
     }
     Ok(())
+}
+
+/// Adds a key, and appends its placeholder, after the first with a comma in front.
+fn push_key(
+    arguments: &mut PgArguments,
+    query: &mut String,
+    key: i64,
+    is_first: bool,
+) -> Result<(), CodecError>
+    ensures { OnOk result (length arguments.new ≡ length arguments.old + 1) }
+{
+    arguments.add(key)?;
+    if !is_first {
+        query.push_str(", ")?;
+    }
+    arguments.format_placeholder(query)
 }
 
 /// Adds those keys that can be written, and answers how many could not. A key that is refused changes nothing.
