@@ -2,7 +2,7 @@
 //! more for them. The examples' types are tested by the rows of `pgv_calls` too.
 
 use hex::{decode, encode};
-use pgv::row::{PgPlaces, PgRow};
+use pgv::row::{PgColumns, PgPlaces, PgRow};
 use pgv::{
     CodecError, Decode, Oid, PgArguments, PgCopyReader, PgType, PgTypeInfo, PgTypeKind,
     PgValueFormat, PgValueRef,
@@ -324,13 +324,23 @@ fn floats_by_their_bits(rt: HostRuntime) -> Result<(), CodecError> {
     Ok(())
 }
 
+/// Why the name in the row of a body is not read.
+fn reason_in(
+    alloc: Global,
+    columns: &PgColumns<'_>,
+    room: &mut PgPlaces,
+    body: &[u8],
+) -> Result<Option<Reason<&'static str>>, CodecError> {
+    let row = PgRow::read(columns, room, body)?;
+    Ok(name_in(alloc, &row).err())
+}
+
 /// Why the name in a row of one null is not read, under this description.
 fn unnamed(alloc: Global, described: &[u8]) -> Result<Option<Reason<&'static str>>, CodecError> {
     let described = bytes_of(alloc, described)?;
     let columns = columns_of(alloc, described.as_slice())?;
     let mut room = PgPlaces::new(alloc);
-    let row = PgRow::read(&columns, &mut room, b"\0\x01\xff\xff\xff\xff")?;
-    Ok(name_in(alloc, &row).err())
+    reason_in(alloc, &columns, &mut room, b"\0\x01\xff\xff\xff\xff")
 }
 
 #[test]
