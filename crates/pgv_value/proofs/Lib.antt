@@ -1,5 +1,4 @@
 pub mod Text
-mod Narrower
 pub mod Fronts
 pub mod NetworkBytes
 pub mod Numbers
@@ -7,3 +6,4 @@ pub mod Refusals
 pub mod Outcomes
 pub mod Several
 pub mod ReadFronts
+pub mod SameScalars

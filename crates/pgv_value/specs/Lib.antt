@@ -13,7 +13,9 @@ pub mod NumberBinary
 pub mod ScalarGrammar
 pub mod DateTimeBinary
 pub mod NetworkBinary
+pub mod Interval
+pub mod Parse
+pub mod Promises
 pub mod Laws
 pub mod OwnBytes
-pub mod Interval
 pub mod TreeErrors

@@ -1,9 +1,7 @@
 //! Truth values.
 
-ghost use Rattle.std.specs.Prelude.{◌≡◌, None, IfErr, IsErrOf};
-ghost use Rattle.pgv_value.specs.Reading.{AnswersExactly};
-ghost use Rattle.pgv_value.specs.ScalarGrammar.{bool_reading, bool_refusal};
-ghost use Rattle.pgv_value.specs.declared.error.CodecError.TheVariants.{UnexpectedNull};
+ghost use Rattle.pgv_value.specs.Parse.{parse_bool};
+ghost use Rattle.pgv_value.specs.Parsed.{GivesExactly};
 
 use crate::error::CodecError;
 use crate::value::{PgValueFormat, PgValueRef};
@@ -13,9 +11,7 @@ use pgv_text::bool_of;
 /// `f`. No byte is refused with [`Short`](CodecError::Short) (C15), and another text with
 /// [`Syntax`](CodecError::Syntax) (C29). `01` and `t` are `true`.
 pub fn read_bool(value: &PgValueRef<'_>) -> Result<bool, CodecError>
-    ensures exact { AnswersExactly (λ truth. truth) (bool_reading value.now.type_info value.now.format value.now.bytes) result }
-    ensures refused { IfErr result (λ e. e ≡ bool_refusal value.now.format value.now.bytes) }
-    ensures null { value.now.bytes ≡ None → IsErrOf result UnexpectedNull }
+    ensures { GivesExactly (λ truth. truth) (parse_bool value.now) result }
 {
     match value.format() {
         PgValueFormat::Binary => match value.as_bytes()? {

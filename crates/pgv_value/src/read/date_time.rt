@@ -1,13 +1,12 @@
 //! Dates, times of day, date-times and instants.
 
-ghost use Rattle.std.specs.Prelude.{◌≡◌, None, IfErr, IsErrOf};
+ghost use Rattle.std.specs.Prelude.{◌≡◌};
 ghost use Rattle.std.specs.Option.{option_map};
 ghost use Rattle.jiff.specs.Words.{civil_nanos, epoch_day, time_nanos};
 ghost use Rattle.pgv_text.specs.DateTimeText.{instant_nanos};
-ghost use Rattle.pgv_value.specs.DateTimeBinary.{civil_at, date_reading, date_time_reading, day_after, instant_reading, nanos_after, time_after, time_reading};
-ghost use Rattle.pgv_value.specs.Reading.{AnswersExactly};
-ghost use Rattle.pgv_value.specs.declared.error.CodecError.TheVariants.{UnexpectedNull};
-ghost use Rattle.pgv_value.specs.ScalarGrammar.{whole_or_syntax_refusal};
+ghost use Rattle.pgv_value.specs.DateTimeBinary.{civil_at, day_after, nanos_after, time_after};
+ghost use Rattle.pgv_value.specs.Parse.{parse_date, parse_date_time, parse_instant, parse_time};
+ghost use Rattle.pgv_value.specs.Parsed.{GivesExactly};
 
 use super::int::whole_number_of;
 use crate::error::CodecError;
@@ -69,9 +68,7 @@ fn instant_after(micros: i64) -> Option<Timestamp>
 /// the years -9999 to 9999 with [`OutOfRange`](CodecError::OutOfRange) (C30), and another text with
 /// [`Syntax`](CodecError::Syntax) (C29). `00000001` and `2000-01-02` are the same day.
 pub fn read_date(value: &PgValueRef<'_>) -> Result<Date, CodecError>
-    ensures exact { AnswersExactly epoch_day (date_reading value.now.type_info value.now.format value.now.bytes) result }
-    ensures refused { IfErr result (λ e. e ≡ whole_or_syntax_refusal value.now.format value.now.bytes) }
-    ensures null { value.now.bytes ≡ None → IsErrOf result UnexpectedNull }
+    ensures { GivesExactly epoch_day (parse_date value.now) result }
 {
     match value.format() {
         PgValueFormat::Binary => match i32::try_from(whole_number_of(value.as_bytes()?)?) {
@@ -87,9 +84,7 @@ pub fn read_date(value: &PgValueRef<'_>) -> Result<Date, CodecError>
 /// number of bytes is refused with [`WrongLength`](CodecError::WrongLength) (C17), and another text with
 /// [`Syntax`](CodecError::Syntax) (C29). `00000000000f4240` and `00:00:01` are the first second.
 pub fn read_time(value: &PgValueRef<'_>) -> Result<Time, CodecError>
-    ensures exact { AnswersExactly time_nanos (time_reading value.now.type_info value.now.format value.now.bytes) result }
-    ensures refused { IfErr result (λ e. e ≡ whole_or_syntax_refusal value.now.format value.now.bytes) }
-    ensures null { value.now.bytes ≡ None → IsErrOf result UnexpectedNull }
+    ensures { GivesExactly time_nanos (parse_time value.now) result }
 {
     match value.format() {
         PgValueFormat::Binary => Ok(time_at(whole_number_of(value.as_bytes()?)?)),
@@ -103,9 +98,7 @@ pub fn read_time(value: &PgValueRef<'_>) -> Result<Time, CodecError>
 /// [`OutOfRange`](CodecError::OutOfRange) (C30), and another text with [`Syntax`](CodecError::Syntax) (C29).
 /// `00000000000f4240` and `2000-01-01 00:00:01` are the same.
 pub fn read_date_time(value: &PgValueRef<'_>) -> Result<DateTime, CodecError>
-    ensures exact { AnswersExactly civil_nanos (date_time_reading value.now.type_info value.now.format value.now.bytes) result }
-    ensures refused { IfErr result (λ e. e ≡ whole_or_syntax_refusal value.now.format value.now.bytes) }
-    ensures null { value.now.bytes ≡ None → IsErrOf result UnexpectedNull }
+    ensures { GivesExactly civil_nanos (parse_date_time value.now) result }
 {
     match value.format() {
         PgValueFormat::Binary => {
@@ -121,9 +114,7 @@ pub fn read_date_time(value: &PgValueRef<'_>) -> Result<DateTime, CodecError>
 /// [`OutOfRange`](CodecError::OutOfRange) (C30) in binary, and another text with [`Syntax`](CodecError::Syntax) (C29).
 /// `00000000000f4240` and `2000-01-01 02:00:01+02` are the same instant.
 pub fn read_instant(value: &PgValueRef<'_>) -> Result<Timestamp, CodecError>
-    ensures exact { AnswersExactly (λ at. at.nanosecond) (instant_reading value.now.type_info value.now.format value.now.bytes) result }
-    ensures refused { IfErr result (λ e. e ≡ whole_or_syntax_refusal value.now.format value.now.bytes) }
-    ensures null { value.now.bytes ≡ None → IsErrOf result UnexpectedNull }
+    ensures { GivesExactly (λ at. at.nanosecond) (parse_instant value.now) result }
 {
     match value.format() {
         PgValueFormat::Binary => {

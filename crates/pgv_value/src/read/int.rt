@@ -1,11 +1,10 @@
 //! Whole numbers of 8, 16, 32 and 64 bits.
 
-ghost use Rattle.std.specs.Prelude.{◌≡◌, None, IfErr, IsErrOf, MatchResult};
+ghost use Rattle.std.specs.Prelude.{◌≡◌, MatchResult};
 ghost use Rattle.std.specs.Int.{w16, w32, w64};
-ghost use Rattle.pgv_value.specs.Reading.{AnswersExactly};
-ghost use Rattle.pgv_value.specs.NumberBinary.{in_range, whole_number, whole_refusal};
-ghost use Rattle.pgv_value.specs.ScalarGrammar.{char_reading, int_reading, int_refusal, whole_or_syntax_refusal};
-ghost use Rattle.pgv_value.specs.declared.error.CodecError.TheVariants.{OutOfRange, UnexpectedNull};
+ghost use Rattle.pgv_value.specs.Parse.{int_in_binary, parse_char, parse_int, whole_number};
+ghost use Rattle.pgv_value.specs.Parsed.{GivesExactly};
+ghost use Rattle.pgv_value.specs.declared.error.CodecError.TheVariants.{OutOfRange};
 
 use crate::error::CodecError;
 use crate::value::{PgValueFormat, PgValueRef};
@@ -29,8 +28,7 @@ pub(crate) fn in_type<T: Drop>(number: Result<T, TryFromIntError>) -> Result<T, 
 /// [`WrongLength`](CodecError::WrongLength) (C17).
 #[inline(always)]
 pub(crate) fn whole_number_of(bytes: &[u8]) -> Result<i64, CodecError>
-    ensures exact { AnswersExactly (λ number. number) (whole_number bytes.now) result }
-    ensures refused { IfErr result (λ e. e ≡ whole_refusal bytes.now) }
+    ensures { GivesExactly (λ number. number) (whole_number bytes.now) result }
 {
     if bytes.is_empty() || bytes.len() > 8 {
         return Err(CodecError::WrongLength(bytes.len()));
@@ -46,26 +44,12 @@ pub(crate) fn whole_number_of(bytes: &[u8]) -> Result<i64, CodecError>
 /// The number in one to eight bytes, if 32 bits have it: of four bytes, as nearly all are, in one read.
 #[inline(always)]
 fn number_of_32(bytes: &[u8]) -> Result<i32, CodecError>
-    ensures exact { AnswersExactly (λ number. number) (in_range w32 (whole_number bytes.now)) result }
-    ensures refused { IfErr result (λ e. e ≡ whole_refusal bytes.now) }
+    ensures { GivesExactly (λ number. number) (int_in_binary w32 bytes.now) result }
 {
     if bytes.len() == 4 {
         return Ok(BigEndian::read_i32(bytes));
     }
     in_type(i32::try_from(whole_number_of(bytes)?))
-}
-
-/// The number in either format, if 64 bits have it.
-#[inline(always)]
-fn integer(value: &PgValueRef<'_>) -> Result<i64, CodecError>
-    ensures exact { AnswersExactly (λ number. number) (int_reading w64 value.now.type_info value.now.format value.now.bytes) result }
-    ensures refused { IfErr result (λ e. e ≡ int_refusal value.now.format value.now.bytes) }
-    ensures null { value.now.bytes ≡ None → IsErrOf result UnexpectedNull }
-{
-    match value.format() {
-        PgValueFormat::Binary => whole_number_of(value.as_bytes()?),
-        PgValueFormat::Text => Ok(number_of(value.as_str()?)?),
-    }
 }
 
 /// Reads a `"char"` as a signed number: in binary one to eight bytes of two's complement, in text nothing for 0, `\`
@@ -75,9 +59,7 @@ fn integer(value: &PgValueRef<'_>) -> Result<i64, CodecError>
 /// [`OutOfRange`](CodecError::OutOfRange) (C30). `ff` and `\\377` are -1.
 #[inline(always)]
 pub fn read_i8(value: &PgValueRef<'_>) -> Result<i8, CodecError>
-    ensures exact { AnswersExactly (λ number. number) (char_reading value.now.type_info value.now.format value.now.bytes) result }
-    ensures refused { IfErr result (λ e. e ≡ whole_or_syntax_refusal value.now.format value.now.bytes) }
-    ensures null { value.now.bytes ≡ None → IsErrOf result UnexpectedNull }
+    ensures { GivesExactly (λ number. number) (parse_char value.now) result }
 {
     match value.format() {
         PgValueFormat::Binary => in_type(i8::try_from(whole_number_of(value.as_bytes()?)?)),
@@ -91,20 +73,19 @@ pub fn read_i8(value: &PgValueRef<'_>) -> Result<i8, CodecError>
 /// (C30). `0007`, `07` and `+7` are 7.
 #[inline(always)]
 pub fn read_i16(value: &PgValueRef<'_>) -> Result<i16, CodecError>
-    ensures exact { AnswersExactly (λ number. number) (int_reading w16 value.now.type_info value.now.format value.now.bytes) result }
-    ensures refused { IfErr result (λ e. e ≡ int_refusal value.now.format value.now.bytes) }
-    ensures null { value.now.bytes ≡ None → IsErrOf result UnexpectedNull }
+    ensures { GivesExactly (λ number. number) (parse_int w16 value.now) result }
 {
-    in_type(i16::try_from(integer(value)?))
+    match value.format() {
+        PgValueFormat::Binary => in_type(i16::try_from(whole_number_of(value.as_bytes()?)?)),
+        PgValueFormat::Text => in_type(i16::try_from(number_of(value.as_str()?)?)),
+    }
 }
 
 /// Reads an `int4`, as [`read_i16`] reads an `int2`; a number outside 32 bits is refused with
 /// [`OutOfRange`](CodecError::OutOfRange) (C30). `00000007` is 7.
 #[inline(always)]
 pub fn read_i32(value: &PgValueRef<'_>) -> Result<i32, CodecError>
-    ensures exact { AnswersExactly (λ number. number) (int_reading w32 value.now.type_info value.now.format value.now.bytes) result }
-    ensures refused { IfErr result (λ e. e ≡ int_refusal value.now.format value.now.bytes) }
-    ensures null { value.now.bytes ≡ None → IsErrOf result UnexpectedNull }
+    ensures { GivesExactly (λ number. number) (parse_int w32 value.now) result }
 {
     match value.format() {
         PgValueFormat::Binary => number_of_32(value.as_bytes()?),
@@ -116,9 +97,10 @@ pub fn read_i32(value: &PgValueRef<'_>) -> Result<i32, CodecError>
 /// [`OutOfRange`](CodecError::OutOfRange) (C30). `fffffffffffffff9` is -7.
 #[inline(always)]
 pub fn read_i64(value: &PgValueRef<'_>) -> Result<i64, CodecError>
-    ensures exact { AnswersExactly (λ number. number) (int_reading w64 value.now.type_info value.now.format value.now.bytes) result }
-    ensures refused { IfErr result (λ e. e ≡ int_refusal value.now.format value.now.bytes) }
-    ensures null { value.now.bytes ≡ None → IsErrOf result UnexpectedNull }
+    ensures { GivesExactly (λ number. number) (parse_int w64 value.now) result }
 {
-    integer(value)
+    match value.format() {
+        PgValueFormat::Binary => whole_number_of(value.as_bytes()?),
+        PgValueFormat::Text => Ok(number_of(value.as_str()?)?),
+    }
 }

@@ -1,9 +1,7 @@
 //! Intervals.
 
-ghost use Rattle.std.specs.Prelude.{◌≡◌, None, IfErr, IsErrOf};
-ghost use Rattle.pgv_value.specs.Reading.{AnswersExactly};
-ghost use Rattle.pgv_value.specs.Interval.{interval_in_binary, interval_reading, short_refusal};
-ghost use Rattle.pgv_value.specs.declared.error.CodecError.TheVariants.{Short, UnexpectedNull};
+ghost use Rattle.pgv_value.specs.Parse.{interval_in_binary, parse_interval};
+ghost use Rattle.pgv_value.specs.Parsed.{GivesExactly};
 
 use crate::error::CodecError;
 use crate::interval::PgInterval;
@@ -12,8 +10,7 @@ use crate::value::{PgValueFormat, PgValueRef};
 
 /// The interval of sixteen bytes, whatever comes after them.
 fn interval_of_bytes(bytes: &[u8]) -> Result<PgInterval, CodecError>
-    ensures exact { AnswersExactly (λ interval. interval) (interval_in_binary bytes.now) result }
-    ensures refused { IfErr result (λ e. e ≡ Short) }
+    ensures { GivesExactly (λ interval. interval) (interval_in_binary bytes.now) result }
 {
     if bytes.len() < 16 {
         return Err(CodecError::Short);
@@ -32,9 +29,7 @@ fn interval_of_bytes(bytes: &[u8]) -> Result<PgInterval, CodecError>
 /// (C15), and a text with [`TextUnsupported`](CodecError::TextUnsupported) (C18). `00000000d693a400 00000000 00000000`
 /// is an hour.
 pub fn read_interval(value: &PgValueRef<'_>) -> Result<PgInterval, CodecError>
-    ensures exact { AnswersExactly (λ interval. interval) (interval_reading value.now.type_info value.now.format value.now.bytes) result }
-    ensures refused { IfErr result (λ e. e ≡ short_refusal value.now.format value.now.bytes) }
-    ensures null { value.now.bytes ≡ None → IsErrOf result UnexpectedNull }
+    ensures { GivesExactly (λ interval. interval) (parse_interval value.now) result }
 {
     let bytes = value.as_bytes()?;
     match value.format() {

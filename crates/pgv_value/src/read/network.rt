@@ -1,11 +1,11 @@
 //! Networks and addresses.
 
-ghost use Rattle.std.specs.Prelude.{◌≡◌, ℕ, ◌∷◌, None, IfErr, IsErrOf};
-ghost use Rattle.pgv_text.specs.NetworkText.{network_of, network_value};
-ghost use Rattle.pgv_text.specs.NetworkText as spec;
-ghost use Rattle.pgv_value.specs.NetworkBinary.{address_binary, address_reading, address_refusal, address_refused, full_address, network_binary, network_reading, network_refusal, network_refused};
-ghost use Rattle.pgv_value.specs.Reading.{AnswersExactly};
-ghost use Rattle.pgv_value.specs.declared.error.CodecError.TheVariants.{InetPrefix, LossyAddress, Syntax, UnexpectedNull};
+ghost use Rattle.std.specs.Prelude.{◌≡◌, ℕ, ◌∷◌};
+ghost use Rattle.pgv_text.specs.NetworkText.{network_of};
+ghost use Rattle.pgv_value.specs.NetworkBinary.{address_binary, address_refused};
+ghost use Rattle.pgv_value.specs.Parse.{network_in_binary, network_in_text, parse_address, parse_network, with_prefix};
+ghost use Rattle.pgv_value.specs.Parse as spec;
+ghost use Rattle.pgv_value.specs.Parsed.{GivesExactly};
 
 use crate::error::CodecError;
 use crate::value::{PgValueFormat, PgValueRef};
@@ -43,8 +43,7 @@ fn address_fault(family: u8, len: usize) -> CodecError
 /// The network of an address and a prefix. A prefix above the number of the address's bits is refused with
 /// [`InetPrefix`](CodecError::InetPrefix) (C32).
 fn network_with(address: IpAddr, prefix: u8) -> Result<IpNetwork, CodecError>
-    ensures exact { AnswersExactly network_of (spec.network_with address prefix) result }
-    ensures refused { IfErr result (λ e. e ≡ InetPrefix prefix) }
+    ensures { GivesExactly network_of (with_prefix address prefix) result }
 {
     IpNetwork::new(address, prefix).ok_or(CodecError::InetPrefix(prefix))
 }
@@ -56,8 +55,7 @@ fn network_of_octets(
     count: u8,
     octets: &[u8],
 ) -> Result<IpNetwork, CodecError>
-    ensures exact { (ignored : ℕ) → AnswersExactly network_of (network_binary (family ∷ prefix ∷ ignored ∷ count ∷ octets.now)) result }
-    ensures refused { (ignored : ℕ) → IfErr result (λ e. e ≡ network_refused (family ∷ prefix ∷ ignored ∷ count ∷ octets.now)) }
+    ensures { (ignored : ℕ) → GivesExactly network_of (network_in_binary (family ∷ prefix ∷ ignored ∷ count ∷ octets.now)) result }
 {
     let Some(address) = address_of(family, count, octets) else {
         return Err(address_fault(family, 4 + octets.len()));
@@ -70,8 +68,7 @@ fn network_of_octets(
 /// [`InetFamily`](CodecError::InetFamily) (C31), and a prefix above the number of the address's bits with
 /// [`InetPrefix`](CodecError::InetPrefix) (C32).
 fn network_of_bytes(bytes: &[u8]) -> Result<IpNetwork, CodecError>
-    ensures exact { AnswersExactly network_of (network_binary bytes.now) result }
-    ensures refused { IfErr result (λ e. e ≡ network_refused bytes.now) }
+    ensures { GivesExactly network_of (network_in_binary bytes.now) result }
 {
     match bytes {
         [family, prefix, _, count, octets @ ..] => {
@@ -83,8 +80,7 @@ fn network_of_bytes(bytes: &[u8]) -> Result<IpNetwork, CodecError>
 
 /// The network of a text. Another text is refused with [`Syntax`](CodecError::Syntax) (C29).
 fn network_of_text(text: &str) -> Result<IpNetwork, CodecError>
-    ensures exact { AnswersExactly network_of (network_value text.now) result }
-    ensures refused { IfErr result (λ e. e ≡ Syntax) }
+    ensures { GivesExactly network_of (network_in_text text.now) result }
 {
     IpNetwork::from_str(text).ok_or(CodecError::Syntax)
 }
@@ -92,8 +88,7 @@ fn network_of_text(text: &str) -> Result<IpNetwork, CodecError>
 /// The address of a network whose prefix is full. Another prefix is refused with
 /// [`LossyAddress`](CodecError::LossyAddress) (C33).
 fn address_alone(network: IpNetwork) -> Result<IpAddr, CodecError>
-    ensures exact { AnswersExactly (λ address. address) (full_address (network_of network)) result }
-    ensures refused { IfErr result (λ e. e ≡ LossyAddress) }
+    ensures { GivesExactly (λ address. address) (spec.address_alone (network_of network)) result }
 {
     match network {
         IpNetwork::V4(network) if network.prefix() == 32 => Ok(IpAddr::V4(network.ip())),
@@ -109,9 +104,7 @@ fn address_alone(network: IpNetwork) -> Result<IpAddr, CodecError>
 /// [`Syntax`](CodecError::Syntax) (C29). `02180004c0a80000` and `192.168.0.0/24` are the same network.
 #[inline(always)]
 pub fn read_ip_network(value: &PgValueRef<'_>) -> Result<IpNetwork, CodecError>
-    ensures exact { AnswersExactly network_of (network_reading value.now.type_info value.now.format value.now.bytes) result }
-    ensures refused { IfErr result (λ e. e ≡ network_refusal value.now.format value.now.bytes) }
-    ensures null { value.now.bytes ≡ None → IsErrOf result UnexpectedNull }
+    ensures { GivesExactly network_of (parse_network value.now) result }
 {
     match value.format() {
         PgValueFormat::Binary => network_of_bytes(value.as_bytes()?),
@@ -122,9 +115,7 @@ pub fn read_ip_network(value: &PgValueRef<'_>) -> Result<IpNetwork, CodecError>
 /// Reads an `inet` or a `cidr` as an address, as [`read_ip_network`] reads them; a prefix that is not full is refused
 /// with [`LossyAddress`](CodecError::LossyAddress) (C33). `02200004c0a80001` and `192.168.0.1` are the same address.
 pub fn read_ip_address(value: &PgValueRef<'_>) -> Result<IpAddr, CodecError>
-    ensures exact { AnswersExactly (λ address. address) (address_reading value.now.type_info value.now.format value.now.bytes) result }
-    ensures refused { IfErr result (λ e. e ≡ address_refusal value.now.format value.now.bytes) }
-    ensures null { value.now.bytes ≡ None → IsErrOf result UnexpectedNull }
+    ensures { GivesExactly (λ address. address) (parse_address value.now) result }
 {
     match value.format() {
         PgValueFormat::Binary => address_alone(network_of_bytes(value.as_bytes()?)?),

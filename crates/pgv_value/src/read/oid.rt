@@ -1,9 +1,7 @@
 //! Object identifiers.
 
-ghost use Rattle.std.specs.Prelude.{◌≡◌, None, IfErr, IsErrOf};
-ghost use Rattle.pgv_value.specs.Reading.{AnswersExactly};
-ghost use Rattle.pgv_value.specs.ScalarGrammar.{oid_reading, oid_refusal};
-ghost use Rattle.pgv_value.specs.declared.error.CodecError.TheVariants.{UnexpectedNull};
+ghost use Rattle.pgv_value.specs.Parse.{parse_oid};
+ghost use Rattle.pgv_value.specs.Parsed.{GivesExactly};
 
 use crate::error::CodecError;
 use crate::number::u32_in_front;
@@ -17,9 +15,7 @@ use pgv_types::Oid;
 /// [`Syntax`](CodecError::Syntax) (C29), and a number above 4294967295 with [`OutOfRange`](CodecError::OutOfRange)
 /// (C30). `00000019` and `25` are the OID of `text`.
 pub fn read_oid(value: &PgValueRef<'_>) -> Result<Oid, CodecError>
-    ensures exact { AnswersExactly (λ oid. oid.0) (oid_reading value.now.type_info value.now.format value.now.bytes) result }
-    ensures refused { IfErr result (λ e. e ≡ oid_refusal value.now.format value.now.bytes) }
-    ensures null { value.now.bytes ≡ None → IsErrOf result UnexpectedNull }
+    ensures { GivesExactly (λ oid. oid.0) (parse_oid value.now) result }
 {
     match value.format() {
         PgValueFormat::Binary => {

@@ -1,9 +1,9 @@
 //! Universally unique identifiers.
 
-ghost use Rattle.std.specs.Prelude.{◌≡◌, None, IfErr, IsErrOf};
-ghost use Rattle.pgv_value.specs.Reading.{AnswersExactly};
-ghost use Rattle.pgv_value.specs.ScalarGrammar.{uuid_reading, uuid_refusal};
-ghost use Rattle.pgv_value.specs.declared.error.CodecError.TheVariants.{Syntax, UnexpectedNull};
+ghost use Rattle.std.specs.Prelude.{ok_or};
+ghost use Rattle.pgv_value.specs.Parse.{parse_uuid};
+ghost use Rattle.pgv_value.specs.Parsed.{GivesExactly};
+ghost use Rattle.pgv_value.specs.declared.error.CodecError.TheVariants.{Syntax};
 ghost use Rattle.uuid.specs.Text.{parsed};
 
 use crate::error::CodecError;
@@ -12,8 +12,7 @@ use uuid::Uuid;
 
 /// The identifier of a text. Another text is refused with [`Syntax`](CodecError::Syntax) (C29).
 fn uuid_of(text: &str) -> Result<Uuid, CodecError>
-    ensures exact { AnswersExactly (λ id. id) (parsed text.now) result }
-    ensures refused { IfErr result (λ e. e ≡ Syntax) }
+    ensures { GivesExactly (λ id. id) (ok_or (parsed text.now) Syntax) result }
 {
     match Uuid::parse_str(text) {
         Ok(id) => Ok(id),
@@ -26,9 +25,7 @@ fn uuid_of(text: &str) -> Result<Uuid, CodecError>
 /// and another text with [`Syntax`](CodecError::Syntax) (C29). `550e8400e29b41d4a716446655440000` is read in either
 /// format, as bytes and as digits.
 pub fn read_uuid(value: &PgValueRef<'_>) -> Result<Uuid, CodecError>
-    ensures exact { AnswersExactly (λ id. id) (uuid_reading value.now.type_info value.now.format value.now.bytes) result }
-    ensures refused { IfErr result (λ e. e ≡ uuid_refusal value.now.format value.now.bytes) }
-    ensures null { value.now.bytes ≡ None → IsErrOf result UnexpectedNull }
+    ensures { GivesExactly (λ id. id) (parse_uuid value.now) result }
 {
     match value.format() {
         PgValueFormat::Binary => {

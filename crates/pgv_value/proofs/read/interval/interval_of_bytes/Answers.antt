@@ -8,8 +8,8 @@ use Rattle.pgv_value.specs.Interval.{eight_bytes, signed_four_bytes}
 use Rattle.pgv_value.proofs.Numbers.{front_of_eight, front_of_four}
 use Rattle.pgv_value.proofs.read.interval.interval_of_bytes.Goals as goal
 
-pub returns-clause-exact : goal.returns-clause-exact
-returns-clause-exact c =
+pub returns : goal.returns
+returns c =
     let bytes = c.args.bytes.now in
     let months_fit : SFits w32 c.number_of_four.result = search rules in
     let days_fit : SFits w32 c.number_of_four-2.result = search rules in
