@@ -1,5 +1,5 @@
 -- The laws of plain types: what they write is what they read.
-use Rattle.std.specs.Prelude.{◌≡◌, ℕ, ◌^◌, nat_lt, nat_eq, Bool, true, false, cond, ℤ, List, length, Option, Some, None, refl, string_bytes}
+use Rattle.std.specs.Prelude.{◌≡◌, ℕ, ◌^◌, nat_lt, nat_eq, Bool, true, false, cond, ℤ, List, length, Option, Some, None, Ok, refl, string_bytes}
 use Rattle.std.specs.Int.{Width, w8, w16, w32, w64, cast_unsigned, to_be_bytes}
 use Rattle.std.specs.Str.{IsUtf8}
 use Rattle.std.specs.declared.string.String.{String}
@@ -14,8 +14,10 @@ use Rattle.pgv_buf.specs.Tokens.{bytes, be4}
 use Rattle.pgv_value.specs.FrameBinary.{Part}
 use Rattle.pgv_value.specs.NumberBinary.{fits_signed, whole_number}
 use Rattle.pgv_value.specs.OwnBytes.{own_byte, own_two_bytes, own_four_bytes, own_eight_bytes}
+use Rattle.pgv_value.specs.Outcome.{reading_of, without_memory}
 use Rattle.pgv_value.specs.Steps.{number}
-use Rattle.pgv_value.specs.ScalarGrammar.{bool_reading, int_reading, char_reading, oid_reading, uuid_reading, text_reading}
+use Rattle.pgv_value.specs.ScalarGrammar.{parse_bool, parse_int, parse_char, parse_oid, parse_uuid}
+use Rattle.pgv_value.specs.Utf8.{parse_text}
 use Rattle.pgv_value.specs.declared.value.PgValueFormat.TheVariants.{Binary}
 use Rattle.pgv_codec.specs.Back.{ReadsBack, always}
 use Rattle.pgv_codec.specs.BackParts.{guarded, write-bytes}
@@ -27,35 +29,35 @@ use Rattle.pgv_codec.specs.ScalarBinary.{signed_image, unsigned_image, bool_imag
 pub part_is : (xs : List ℕ) (i : Image) (p : Option Ty) (os : List Oid) → (let o : Option Image = Some (image_of (bytes xs)) in o) ≡ Some i → written_part i p os ≡ Some xs
 part_is xs i p os e = rw (← same_Some (image_of (bytes xs)) i e) (ap (λ (ys : List ℕ). let q : Part = Some ys in q) (write-bytes p os xs))
 
-pub bool_back : ReadsBack bool_image bool_reading (λ v. v) always
+pub bool_back : ReadsBack bool_image (reading_of (without_memory parse_bool)) (λ v. v) always
 bool_back true i t p os e whole small fit = rw (← same_Some _ i e) refl
 bool_back false i t p os e whole small fit = rw (← same_Some _ i e) refl
 
 -- ---- numbers
 
 -- a number that is read from its own bytes, where it is in the range of its width
-own_number : (w : Width) (v : ℤ) (b : Bool) → fits_signed w v ≡ b → (fits_signed w v ≡ true → whole_number (to_be_bytes w (cast_unsigned w v)) ≡ Some v) →
-    (i : Image) (t : Ty) (p : Option Ty) (os : List Oid) → cond b (Some (image_of (bytes (to_be_bytes w (cast_unsigned w v))))) None ≡ Some i → int_reading w t Binary (written_part i p os) ≡ Some v
+own_number : (w : Width) (v : ℤ) (b : Bool) → fits_signed w v ≡ b → (fits_signed w v ≡ true → whole_number (to_be_bytes w (cast_unsigned w v)) ≡ Ok v) →
+    (i : Image) (t : Ty) (p : Option Ty) (os : List Oid) → cond b (Some (image_of (bytes (to_be_bytes w (cast_unsigned w v))))) None ≡ Some i → reading_of (without_memory (parse_int w)) t Binary (written_part i p os) ≡ Some v
 own_number w v false room own i t p os e = absurd cc
 own_number w v true room own i t p os e = rw (part_is (to_be_bytes w (cast_unsigned w v)) i p os e, own room, room) refl
 
-pub int2_back : ReadsBack (signed_image w16) (int_reading w16) (λ v. v) always
+pub int2_back : ReadsBack (signed_image w16) (reading_of (without_memory (parse_int w16))) (λ v. v) always
 int2_back v i t p os e whole small fit = own_number w16 v _ refl (own_two_bytes v) i t p os e
 
-pub int4_back : ReadsBack (signed_image w32) (int_reading w32) (λ v. v) always
+pub int4_back : ReadsBack (signed_image w32) (reading_of (without_memory (parse_int w32))) (λ v. v) always
 int4_back v i t p os e whole small fit = own_number w32 v _ refl (own_four_bytes v) i t p os e
 
-pub int8_back : ReadsBack (signed_image w64) (int_reading w64) (λ v. v) always
+pub int8_back : ReadsBack (signed_image w64) (reading_of (without_memory (parse_int w64))) (λ v. v) always
 int8_back v i t p os e whole small fit = own_number w64 v _ refl (own_eight_bytes v) i t p os e
 
-char_is_int : (t : Ty) (part : Part) → char_reading t Binary part ≡ int_reading w8 t Binary part
+char_is_int : (t : Ty) (part : Part) → reading_of (without_memory parse_char) t Binary part ≡ reading_of (without_memory (parse_int w8)) t Binary part
 char_is_int t None = refl
 char_is_int t (Some bytes) = refl
 
-pub char_back : ReadsBack (signed_image w8) char_reading (λ v. v) always
+pub char_back : ReadsBack (signed_image w8) (reading_of (without_memory parse_char)) (λ v. v) always
 char_back v i t p os e whole small fit = char_is_int t (written_part i p os) ∙ own_number w8 v _ refl (own_byte v) i t p os e
 
-pub oid_back : ReadsBack {A = Oid} (λ o. unsigned_image w32 o.0) oid_reading (λ o. o.0) always
+pub oid_back : ReadsBack {A = Oid} (λ o. unsigned_image w32 o.0) (reading_of (without_memory parse_oid)) (λ o. o.0) always
 unfolding number
 oid_back o i t p os e whole small fit =
     let g = guarded (nat_lt o.0 (2 ^ 32)) (Some (image_of (bytes (be4 o.0)))) i e in
@@ -63,14 +65,14 @@ oid_back o i t p os e whole small fit =
 
 -- ---- texts and identifiers
 
-pub uuid_back : ReadsBack uuid_image uuid_reading (λ id. id) always
+pub uuid_back : ReadsBack uuid_image (reading_of (without_memory parse_uuid)) (λ id. id) always
 uuid_back id i t p os e whole small fit =
     let g = guarded (nat_eq (length id) 16) (Some (image_of (bytes id))) i e in
     rw (part_is id i p os g.1, g.0) refl
 
-text_again : (text : List ℕ) (t : Ty) → IsUtf8 text → text_reading t Binary (Some text) ≡ Some text
+text_again : (text : List ℕ) (t : Ty) → IsUtf8 text → reading_of parse_text t Binary (Some text) ≡ Some text
 text_again text t whole = rw (eq-eqb _ _ (utf8_valid_len-IsUtf8 text whole)) refl
 
-pub text_back : {Z : Type 0} → ReadsBack {A = String Z} (λ s. text_image (string_bytes s)) text_reading (λ s. string_bytes s) always
+pub text_back : {Z : Type 0} → ReadsBack {A = String Z} (λ s. text_image (string_bytes s)) (reading_of parse_text) (λ s. string_bytes s) always
 text_back s i t p os e whole small fit =
-    ap (λ (part : Part). text_reading t Binary part) (part_is (string_bytes s) i p os e) ∙ text_again (string_bytes s) t (IsUtf8-had (string_bytes s) s.ok)
+    ap (λ (part : Part). reading_of parse_text t Binary part) (part_is (string_bytes s) i p os e) ∙ text_again (string_bytes s) t (IsUtf8-had (string_bytes s) s.ok)

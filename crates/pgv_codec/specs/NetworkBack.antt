@@ -1,5 +1,5 @@
 -- What is written of networks and addresses is read back as it is.
-use Rattle.std.specs.Prelude.{◌≡◌, ℕ, ◌+◌, ◌*◌, ◌/◌, ◌%◌, ◌==◌, nat_le, true, List, [], ◌∷◌, length, Option, Some, refl}
+use Rattle.std.specs.Prelude.{◌≡◌, ℕ, ◌+◌, ◌*◌, ◌/◌, ◌%◌, ◌==◌, nat_le, true, List, [], ◌∷◌, length, Option, Some, Ok, refl}
 use Rattle.std.specs.Net.Addr.{ipv4_octets, ipv6_octets, octets_of, segments_of}
 use Rattle.std.specs.declared.net.ip_addr.IpAddr.{IpAddr}
 use Rattle.std.specs.declared.net.ip_addr.IpAddr.TheVariants.{V4, V6}
@@ -12,7 +12,8 @@ use Rattle.pgv_text.specs.AddressText.{full_prefix}
 use Rattle.pgv_text.specs.NetworkText.{Network, network_of}
 use Rattle.pgv_text.specs.declared.network.IpNetwork.{IpNetwork}
 use Rattle.pgv_text.specs.declared.network.IpNetwork.TheVariants as Versions
-use Rattle.pgv_value.specs.NetworkBinary.{address_reading, network_binary, network_reading}
+use Rattle.pgv_value.specs.NetworkBinary.{network_in_binary, parse_address, parse_network}
+use Rattle.pgv_value.specs.Outcome.{reading_of, without_memory}
 use Rattle.pgv_codec.specs.Back.{ReadsBack, always}
 use Rattle.pgv_codec.specs.BackParts.{guarded}
 use Rattle.pgv_codec.specs.BackScalars.{part_is}
@@ -31,7 +32,7 @@ segments_again (x ∷ segments) =
 record IsNetworkPart (network : Network) (i : Image) (p : Option Ty) (os : List Oid) : Type 0 where
   its_bytes : List ℕ
   part : written_part i p os ≡ Some its_bytes
-  said : network_binary its_bytes ≡ Some network
+  said : network_in_binary its_bytes ≡ Ok network
 
 network_part : (a : IpAddr) (n : ℕ) (i : Image) (p : Option Ty) (os : List Oid) → nat_le n (full_prefix a) ≡ true → image_with a n ≡ Some i → IsNetworkPart (record { address = a; prefix = n }) i p os
 network_part (V4 ip) n i p os room e =
@@ -47,10 +48,10 @@ room_of : (v : IpNetwork) → nat_le (network_of v).prefix (full_prefix (network
 room_of (Versions.V4 network) = le-leb network.prefix 32 network.prefix_in
 room_of (Versions.V6 network) = le-leb network.prefix 128 network.prefix_in
 
-pub network_back : ReadsBack {A = IpNetwork} (λ v. network_image (network_of v)) network_reading network_of always
+pub network_back : ReadsBack {A = IpNetwork} (λ v. network_image (network_of v)) (reading_of (without_memory parse_network)) network_of always
 network_back v i t p os e whole small fit =
     let n = network_part (network_of v).address (network_of v).prefix i p os (room_of v) e in
-    rw n.part n.said
+    rw (n.part, n.said) refl
 
 full_room : (a : IpAddr) → nat_le (full_prefix a) (full_prefix a) ≡ true
 full_room (V4 ip) = refl
@@ -60,7 +61,7 @@ full_test : (a : IpAddr) → (full_prefix a == full_prefix a) ≡ true
 full_test (V4 ip) = refl
 full_test (V6 ip) = refl
 
-pub address_back : ReadsBack address_image address_reading (λ a. a) always
+pub address_back : ReadsBack address_image (reading_of (without_memory parse_address)) (λ a. a) always
 address_back a i t p os e whole small fit =
     let n = network_part a (full_prefix a) i p os (full_room a) e in
     rw (n.part, n.said, full_test a) refl

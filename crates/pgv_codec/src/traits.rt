@@ -3,7 +3,9 @@
 ghost use Rattle.std.specs.Prelude.{◌≡◌, ℕ, Bool, true, false, List, Option, Some, None, IfOk, IfErr, OnErr, IsErrOf};
 ghost use Rattle.pgv_types.specs.Relations.{softly};
 ghost use Rattle.pgv_types.specs.Ty.{Ty};
+ghost use Rattle.pgv_value.specs.Outcome.{Outcome, Gives, fails, reading_of, error_of, takes_of};
 ghost use Rattle.pgv_value.specs.Reading.{Answers, AnswersExactly};
+ghost use Rattle.pgv_value.specs.ValueView.{Given, given};
 ghost use Rattle.pgv_nest.specs.NestRefusals.{is_copied};
 ghost use Rattle.pgv_codec.specs.Refusing.{RefusedExactly, RefusedFor};
 ghost use Rattle.pgv_value.specs.declared.error.CodecError.{CodecError};
@@ -170,54 +172,47 @@ pub trait Codec: Type + Encode + Decode {
 /// what was written is read back under every type. From this one impl it has [`Decode`], [`ReadBack`] and [`Codec`].
 pub trait Plain: Type + Encode + Sized + Drop {
     /// What a value says, without where it lies in memory.
-    ghost Meaning: { Type 0 };
+    ghost View: { Type 0 };
 
     /// What a value says.
-    ghost meaning: { Self → Meaning };
+    ghost view: { Self → View };
 
-    /// What null or bytes mean under a type and in a format, where they mean anything.
-    ghost reading: { Ty → Format → Option (List ℕ) → Option Meaning };
+    /// What null or bytes are read as under a type and in a format, or why they are refused, and whether memory may be
+    /// asked for by then.
+    ghost parse: { Given → Outcome View };
 
-    /// What is written of a meaning under a type.
-    ghost written: { Ty → Meaning → Saying };
+    /// Null is refused with [`UnexpectedNull`](CodecError::UnexpectedNull) (C13), and without memory.
+    ghost null: { (t : Ty) (format : Format) → parse (given t format None) ≡ fails UnexpectedNull };
 
-    /// Whether reading may ask for memory, by type, format and bytes. Where it doesn't, it is never refused as out of
-    /// memory.
-    ghost takes_memory: { Ty → Format → Option (List ℕ) → Bool } = { λ _ _ _. false };
-
-    /// The refusal of what can't be read, unless memory runs out, by format and bytes.
-    ghost refusal: { Format → Option (List ℕ) → CodecError };
+    /// What is written of what a value says, under a type.
+    ghost written: { Ty → View → Saying };
 
     /// The value as it is read back: by default, as it is.
     ghost kept: { Self → Self } = { λ v. v };
 
     /// The value that is read: what [`Decode::decode`] answers.
     fn read(alloc: Global, value: PgValueRef<'_>) -> Result<Self, CodecError>
-        ensures exact { Answers meaning (reading value.entry.type_info value.entry.format value.entry.bytes) result }
-        ensures exactly { takes_memory value.entry.type_info value.entry.format value.entry.bytes ≡ false → AnswersExactly meaning (reading value.entry.type_info value.entry.format value.entry.bytes) result }
-        ensures refused { RefusedFor (Some (refusal value.entry.format value.entry.bytes)) result }
-        ensures refused_exactly { takes_memory value.entry.type_info value.entry.format value.entry.bytes ≡ false → RefusedExactly (Some (refusal value.entry.format value.entry.bytes)) result }
-        ensures null { value.entry.bytes ≡ None → reading value.entry.type_info value.entry.format None ≡ None → IsErrOf result UnexpectedNull };
+        ensures { Gives view (parse value.entry) result };
 
     /// What is written of a value is read in binary as what it keeps, under every type.
-    ghost reads_back: { ReadsBack Self.image reading (λ v. meaning (kept v)) always };
+    ghost reads_back: { ReadsBack Self.image (reading_of parse) (λ v. view (kept v)) always };
 
-    /// What an encoder says of a value is what is written of its meaning.
-    ghost agrees: { (v : Self) → said Self.hint Self.image Self.produced Self.info v ≡ written Self.info (meaning v) };
+    /// What an encoder says of a value is what is written of what it says.
+    ghost agrees: { (v : Self) → said Self.hint Self.image Self.produced Self.info v ≡ written Self.info (view v) };
 }
 
 impl<T: Plain> Decode for T {
-    ghost Meaning = { T.Meaning };
+    ghost Meaning = { T.View };
 
-    ghost meaning = { T.meaning };
+    ghost meaning = { T.view };
 
-    ghost reading = { T.reading };
+    ghost reading = { reading_of T.parse };
 
     ghost written = { T.written };
 
-    ghost takes_memory = { T.takes_memory };
+    ghost takes_memory = { takes_of T.parse };
 
-    ghost refusal = { λ _ format bytes. Some (T.refusal format bytes) };
+    ghost refusal = { error_of T.parse };
 
     #[inline(always)]
     fn decode(alloc: Global, value: PgValueRef<'_>) -> Result<T, CodecError> {

@@ -6,4 +6,3 @@ pub mod Refusals
 pub mod Outcomes
 pub mod Several
 pub mod ReadFronts
-pub mod SameScalars

@@ -2,15 +2,16 @@
 -- 1970-01-01, a time as its nanoseconds, and a date-time and an instant as their nanoseconds from 1970.
 -- One to eight bytes, sign extended, are days from 2000-01-01 of a date, within four bytes; microseconds of the day of a time,
 -- taken round the clock; microseconds from 2000-01-01 00:00 of a date-time, and of an instant in UTC. Outside the dates,
--- date-times and instants of jiff nothing is read.
+-- date-times and instants of jiff they are C30.
 use mir.Syntax.{w32}
-use Rattle.std.specs.Prelude.{ℕ, ◌*◌, ◌&&◌, if◌then◌else◌, ℤ, pos, neg_ℤ, ◌+ℤ◌, ◌*ℤ◌, int_le, unsigned_abs, Option, Some, None}
-use Rattle.std.specs.Option.{option_map, option_and_then}
+use Rattle.std.specs.Prelude.{ℕ, ◌*◌, ◌&&◌, if◌then◌else◌, ℤ, pos, neg_ℤ, ◌+ℤ◌, ◌*ℤ◌, int_le, unsigned_abs, Option, Some, None, Ok, ok_or}
 use Rattle.std.specs.Int.{int_rem_euclid}
 use Rattle.pgv_text.specs.DateTimeText.{date_value, time_value, date_time_value, instant_value, instant_nanos}
-use Rattle.pgv_value.specs.NumberBinary.{in_range, whole_number}
-use Rattle.pgv_value.specs.Reading.{Reading}
-use Rattle.pgv_value.specs.ScalarGrammar.{scalar}
+use Rattle.pgv_value.specs.NumberBinary.{whole_number}
+use Rattle.pgv_value.specs.Parsed.{Parsed, ◌>>=◌}
+use Rattle.pgv_value.specs.ScalarGrammar.{int_in_binary, scalar}
+use Rattle.pgv_value.specs.ValueView.{Given}
+use Rattle.pgv_value.specs.declared.error.CodecError.TheVariants.{Syntax, OutOfRange}
 
 -- 2000-01-01, as its day number and as its first nanosecond
 abbrev pub first_day : ℤ
@@ -39,17 +40,23 @@ civil_at nanos =
     if int_le (neg_ℤ (pos 377_705_116_800_000_000_000)) nanos && int_le nanos (pos 253_402_300_799_999_999_999) then Some nanos else None
 
 -- date: whole days from 2000-01-01
-abbrev pub date_reading : Reading ℤ
-date_reading = scalar (λ bytes. option_and_then day_after (in_range w32 (whole_number bytes))) date_value
+abbrev pub parse_date : Given → Parsed ℤ
+parse_date =
+    scalar (λ bytes. int_in_binary w32 bytes >>= λ days. ok_or (day_after days) OutOfRange)
+    (λ text. ok_or (date_value text) Syntax)
 
--- time: microseconds of the day
-abbrev pub time_reading : Reading ℕ
-time_reading = scalar (λ bytes. option_map time_after (whole_number bytes)) time_value
+-- time: microseconds of the day, round the clock
+abbrev pub parse_time : Given → Parsed ℕ
+parse_time = scalar (λ bytes. whole_number bytes >>= λ micros. Ok (time_after micros)) (λ text. ok_or (time_value text) Syntax)
 
 -- timestamp: microseconds from 2000-01-01 00:00
-abbrev pub date_time_reading : Reading ℤ
-date_time_reading = scalar (λ bytes. option_and_then (λ micros. civil_at (nanos_after micros)) (whole_number bytes)) date_time_value
+abbrev pub parse_date_time : Given → Parsed ℤ
+parse_date_time =
+    scalar (λ bytes. whole_number bytes >>= λ micros. ok_or (civil_at (nanos_after micros)) OutOfRange)
+    (λ text. ok_or (date_time_value text) Syntax)
 
 -- timestamptz: microseconds from 2000-01-01 00:00 UTC
-abbrev pub instant_reading : Reading ℤ
-instant_reading = scalar (λ bytes. option_and_then (λ micros. instant_nanos (nanos_after micros)) (whole_number bytes)) instant_value
+abbrev pub parse_instant : Given → Parsed ℤ
+parse_instant =
+    scalar (λ bytes. whole_number bytes >>= λ micros. ok_or (instant_nanos (nanos_after micros)) OutOfRange)
+    (λ text. ok_or (instant_value text) Syntax)

@@ -2,17 +2,17 @@
 -- no text.
 use mir.Val.{SFits}
 use lib.IntN.{◌*ℤ◌}
-use Rattle.std.specs.Prelude.{◌≡◌, ◌↔◌, ℕ, nat_lt, ℤ, pos, List, length, take, drop, Option, Some, None, Result, Ok, Err, if◌then◌else◌}
+use Rattle.std.specs.Prelude.{◌≡◌, ◌↔◌, ℕ, nat_lt, ℤ, pos, List, length, take, drop, Result, Ok, Err, if◌then◌else◌}
 use Rattle.std.specs.Int.{w32, w64, from_be_bytes, cast_signed}
 use Rattle.std.specs.Int.RustNames.{int_div, int_rem}
 use Rattle.std.specs.Ordering.{int_eq}
 use Rattle.pgv_value.specs.NumberBinary.{fits_signed}
-use Rattle.pgv_value.specs.Reading.{Reading}
-use Rattle.pgv_value.specs.ScalarGrammar.{binary_alone, refusal_alone}
+use Rattle.pgv_value.specs.Parsed.{Parsed}
+use Rattle.pgv_value.specs.ScalarGrammar.{binary_alone}
+use Rattle.pgv_value.specs.ValueView.{Given}
 use Rattle.pgv_value.specs.declared.interval.PgInterval.{PgInterval}
 use Rattle.pgv_value.specs.declared.error.CodecError.{CodecError}
 use Rattle.pgv_value.specs.declared.error.CodecError.TheVariants.{IntervalPrecision, IntervalOverflow, Short}
-use Rattle.pgv_value.specs.declared.value.PgValueFormat.{PgValueFormat}
 
 -- ---- of durations
 
@@ -43,16 +43,12 @@ eight_bytes bytes = cast_signed w64 (from_be_bytes w64 (take 8 bytes))
 abbrev pub signed_four_bytes : List ℕ → ℤ
 signed_four_bytes bytes = cast_signed w32 (from_be_bytes w32 (take 4 bytes))
 
--- microseconds, days and months, and anything after them
-abbrev pub interval_in_binary : List ℕ → Option PgInterval
+-- microseconds, days and months, and anything after them; fewer than sixteen bytes are C15
+abbrev pub interval_in_binary : List ℕ → Parsed PgInterval
 interval_in_binary bytes =
-    if nat_lt (length bytes) 16 then None else
-    Some (record { months = signed_four_bytes (drop 12 bytes); days = signed_four_bytes (drop 8 bytes); microseconds = eight_bytes bytes })
+    if nat_lt (length bytes) 16 then Err Short else
+    Ok (record { months = signed_four_bytes (drop 12 bytes); days = signed_four_bytes (drop 8 bytes); microseconds = eight_bytes bytes })
 
 -- intervals are not read from text
-abbrev pub interval_reading : Reading PgInterval
-interval_reading = binary_alone interval_in_binary
-
--- Why none is read, nor an amount of money: too few bytes are C15.
-abbrev pub short_refusal : PgValueFormat → Option (List ℕ) → CodecError
-short_refusal = refusal_alone (λ _. Short)
+abbrev pub parse_interval : Given → Parsed PgInterval
+parse_interval = binary_alone interval_in_binary

@@ -14,8 +14,6 @@ pub mod ScalarGrammar
 pub mod DateTimeBinary
 pub mod NetworkBinary
 pub mod Interval
-pub mod Parse
-pub mod Promises
 pub mod Laws
 pub mod OwnBytes
 pub mod TreeErrors

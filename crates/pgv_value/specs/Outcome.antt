@@ -2,10 +2,14 @@
 -- A grammar is one function into an outcome, written step by step with `do`: the first step that fails says why, and memory may
 -- have been asked for where one of the steps that were taken may ask for it. A step that never asks for memory is `exactly` a
 -- `Parsed`. What a reader promises is then one clause, `Gives`, and of one that asks for no memory `GivesExactly`.
-use Rattle.std.specs.Prelude.{◌≡◌, ◌≢◌, ◌⊎◌, Bool, true, false, ◌||◌, Option, Some, None, Result, Ok, Err, ok_or, if◌then◌else◌, ⊤}
+use Rattle.std.specs.Prelude.{◌≡◌, ◌≢◌, ◌⊎◌, ℕ, Bool, true, false, ◌||◌, List, Option, Some, None, Result, Ok, Err, ok_or, if◌then◌else◌, ⊤}
+use Rattle.pgv_types.specs.Ty.{Ty}
 use Rattle.pgv_value.specs.declared.error.CodecError.{CodecError}
 use Rattle.pgv_value.specs.declared.error.CodecError.TheVariants.{Memory}
 use Rattle.pgv_value.specs.Parsed.{Parsed}
+use Rattle.pgv_value.specs.Reading.{Reading}
+use Rattle.pgv_value.specs.ValueView.{Given, given}
+use Rattle.pgv_value.specs.declared.value.PgValueFormat.{PgValueFormat}
 
 -- what is read or the error, where it is stated, and whether memory may have been asked for by then
 pub record Outcome (M : Type 0) : Type 0 where
@@ -45,6 +49,10 @@ stated (Err e) = Err (Some e)
 abbrev pub exactly : {M : Type 0} → Parsed M → Outcome M
 exactly parsed = record { answer = stated parsed; may_alloc = false }
 
+-- the same of a value of a row
+abbrev pub without_memory : {M : Type 0} → (Given → Parsed M) → Given → Outcome M
+without_memory parse v = exactly (parse v)
+
 -- refused with this error, if this holds
 abbrev pub fails_if : Bool → CodecError → Outcome ⊤
 fails_if b e = exactly (if b then Err e else Ok tt)
@@ -69,6 +77,33 @@ o >>= next = bind_by o.answer o.may_alloc next
 infixl 10 ◌>>◌
 abbrev pub ◌>>◌ : {B : Type 0} → Outcome ⊤ → Outcome B → Outcome B
 o >> next = o >>= λ _. next
+
+-- ---- the parts of an outcome
+
+abbrev pub ok_of : {M E : Type 0} → Result M E → Option M
+ok_of (Ok m) = Some m
+ok_of (Err e) = None
+
+abbrev pub why_of : {M : Type 0} → Result M (Option CodecError) → Option CodecError
+why_of (Ok m) = None
+why_of (Err why) = why
+
+-- what a grammar reads, where it reads something
+abbrev pub reading_of : {M : Type 0} → (Given → Outcome M) → Reading M
+reading_of parse t format bytes = ok_of (parse (given t format bytes)).answer
+
+-- the error that it states, where it reads nothing and states one
+abbrev pub error_of : {M : Type 0} → (Given → Outcome M) → Ty → PgValueFormat → Option (List ℕ) → Option CodecError
+error_of parse t format bytes = why_of (parse (given t format bytes)).answer
+
+-- whether memory may be asked for by then
+abbrev pub takes_of : {M : Type 0} → (Given → Outcome M) → Ty → PgValueFormat → Option (List ℕ) → Bool
+takes_of parse t format bytes = (parse (given t format bytes)).may_alloc
+
+-- what is read, or else why nothing is, by functions of their own
+abbrev pub parse_by : {M : Type 0} → Reading M → (Ty → PgValueFormat → Option (List ℕ) → Option CodecError) → (Ty → PgValueFormat → Option (List ℕ) → Bool) → Given → Outcome M
+parse_by reading refusal takes v =
+    record { answer = ok_or (reading v.type_info v.format v.bytes) (refusal v.type_info v.format v.bytes); may_alloc = takes v.type_info v.format v.bytes }
 
 -- ---- what bytes are, and what is read of them
 

@@ -1,9 +1,12 @@
 -- Texts in UTF-8 (PostgreSQL: "Character Set Support", 24.3).
-use Rattle.std.specs.Prelude.{◌≡◌, ℕ, List, length, Option, Some, None, Bool, false, nat_eq}
+use Rattle.std.specs.Prelude.{◌≡◌, ℕ, List, length, Option, Some, None, Ok, Err, Bool, false, nat_eq, if◌then◌else◌}
 use Rattle.std.specs.Str.Lossy.{utf8_valid_len}
+use Rattle.pgv_value.specs.Outcome.{Outcome, exactly, allocates, done, ◌>>=◌, ◌>>◌}
+use Rattle.pgv_value.specs.Parsed.{Parsed}
+use Rattle.pgv_value.specs.Reading.{has_items}
+use Rattle.pgv_value.specs.ValueView.{Given}
 use Rattle.pgv_value.specs.declared.error.CodecError.{CodecError}
 use Rattle.pgv_value.specs.declared.error.CodecError.TheVariants.{UnexpectedNull, Utf8}
-use Rattle.pgv_value.specs.declared.value.PgValueFormat.{PgValueFormat}
 
 -- whether the bytes are UTF-8 to their end
 abbrev pub is_utf8 : List ℕ → Bool
@@ -14,7 +17,14 @@ abbrev pub RefusesText : Option (List ℕ) → CodecError → Type 0
 RefusesText None e = e ≡ UnexpectedNull
 RefusesText (Some bytes) e = (e ≡ Utf8) × (is_utf8 bytes ≡ false)
 
--- the same as the refusal of a type that reads any text
-abbrev pub text_refusal : PgValueFormat → Option (List ℕ) → CodecError
-text_refusal f None = UnexpectedNull
-text_refusal f (Some bytes) = Utf8
+-- the bytes, if they are UTF-8
+abbrev pub utf8_part : Option (List ℕ) → Parsed (List ℕ)
+utf8_part None = Err UnexpectedNull
+utf8_part (Some bytes) = if is_utf8 bytes then Ok bytes else Err Utf8
+
+-- A text, in either format. Memory is asked for where it isn't empty.
+abbrev pub parse_text : Given → Outcome (List ℕ)
+parse_text v = do
+  text ← exactly (utf8_part v.bytes)
+  allocates (has_items (Some text))
+  done text

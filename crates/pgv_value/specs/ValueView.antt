@@ -11,6 +11,9 @@ pub record Given : Type 0 where
   pub type_info : Ty
   pub format : PgValueFormat
 
+abbrev pub given : Ty → PgValueFormat → Option (List ℕ) → Given
+given t format bytes = record { bytes = bytes; type_info = t; format = format }
+
 -- ---- how the logic stores it
 
 abbrev pub is_binary : PgValueFormat → Bool

@@ -3,7 +3,8 @@
 ghost use Rattle.pgv_types.specs.Ty.{builtin};
 ghost use Rattle.pgv_codec.specs.ScalarBinary.{bool_image};
 ghost use Rattle.std.specs.Prelude.{Bool, refl};
-ghost use Rattle.pgv_value.specs.ScalarGrammar.{bool_reading, bool_refusal};
+ghost use Rattle.pgv_value.specs.Outcome.{without_memory};
+ghost use Rattle.pgv_value.specs.ScalarGrammar.{parse_bool};
 ghost use Rattle.pgv_codec.specs.Saying.{plainly};
 
 use crate::buffer::{IsNull, PgArgumentBuffer};
@@ -48,15 +49,15 @@ impl Scalar for bool {
 impl Plain for bool {
     ghost use Rattle.pgv_codec.specs.BackScalars.{bool_back};
 
-    ghost Meaning = { Bool };
+    ghost View = { Bool };
 
-    ghost meaning = { λ truth. truth };
+    ghost view = { λ truth. truth };
 
-    ghost reading = { bool_reading };
+    ghost parse = { without_memory parse_bool };
+
+    ghost null = { λ _ _. refl };
 
     ghost written = { plainly bool_image };
-
-    ghost refusal = { bool_refusal };
 
     #[inline(always)]
     fn read(_alloc: Global, value: PgValueRef<'_>) -> Result<bool, CodecError> {

@@ -3,8 +3,8 @@
 ghost use Rattle.pgv_types.specs.Ty.{builtin};
 ghost use Rattle.std.specs.Prelude.{◌≡◌, ℤ, refl};
 ghost use Rattle.jiff.specs.Words.{epoch_day};
-ghost use Rattle.pgv_value.specs.DateTimeBinary.{date_reading};
-ghost use Rattle.pgv_value.specs.ScalarGrammar.{whole_or_syntax_refusal};
+ghost use Rattle.pgv_value.specs.Outcome.{without_memory};
+ghost use Rattle.pgv_value.specs.DateTimeBinary.{parse_date};
 ghost use Rattle.pgv_codec.specs.DateTimeBinary.{days_of, date_image};
 ghost use Rattle.pgv_codec.specs.WithHint.{with_hint};
 
@@ -54,15 +54,15 @@ impl Scalar for Date {
 impl Plain for Date {
     ghost use Rattle.pgv_codec.specs.DateTimeBack.{date_back};
 
-    ghost Meaning = { ℤ };
+    ghost View = { ℤ };
 
-    ghost meaning = { epoch_day };
+    ghost view = { epoch_day };
 
-    ghost reading = { date_reading };
+    ghost parse = { without_memory parse_date };
+
+    ghost null = { λ _ _. refl };
 
     ghost written = { with_hint (λ _. 4) date_image };
-
-    ghost refusal = { whole_or_syntax_refusal };
 
     fn read(_alloc: Global, value: PgValueRef<'_>) -> Result<Date, CodecError> {
         read_date(&value)

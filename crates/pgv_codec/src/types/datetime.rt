@@ -3,8 +3,8 @@
 ghost use Rattle.pgv_types.specs.Ty.{builtin};
 ghost use Rattle.std.specs.Prelude.{ℤ, refl};
 ghost use Rattle.jiff.specs.Words.{civil_nanos};
-ghost use Rattle.pgv_value.specs.DateTimeBinary.{date_time_reading};
-ghost use Rattle.pgv_value.specs.ScalarGrammar.{whole_or_syntax_refusal};
+ghost use Rattle.pgv_value.specs.Outcome.{without_memory};
+ghost use Rattle.pgv_value.specs.DateTimeBinary.{parse_date_time};
 ghost use Rattle.pgv_codec.specs.DateTimeBinary.{moment_image};
 ghost use Rattle.pgv_codec.specs.WithHint.{with_hint};
 
@@ -50,15 +50,15 @@ impl Plain for DateTime {
     ghost use Rattle.pgv_codec.specs.DateTimeBack.{date_time_back};
     ghost use Rattle.pgv_codec.specs.DateTimeKept.{date_time_kept};
 
-    ghost Meaning = { ℤ };
+    ghost View = { ℤ };
 
-    ghost meaning = { civil_nanos };
+    ghost view = { civil_nanos };
 
-    ghost reading = { date_time_reading };
+    ghost parse = { without_memory parse_date_time };
+
+    ghost null = { λ _ _. refl };
 
     ghost written = { with_hint (λ _. 8) moment_image };
-
-    ghost refusal = { whole_or_syntax_refusal };
 
     ghost kept = { date_time_kept };
 

@@ -2,8 +2,9 @@
 
 ghost use Rattle.std.specs.Prelude.{◌≡◌, ◌≢◌, None, IfOk, IfErr, OnErr, refl};
 ghost use Rattle.pgv_types.specs.Ty.{builtin};
+ghost use Rattle.pgv_value.specs.Outcome.{without_memory};
 ghost use Rattle.pgv_value.specs.declared.error.CodecError.TheVariants.{Memory};
-ghost use Rattle.pgv_value.specs.Interval.{interval_reading, short_refusal};
+ghost use Rattle.pgv_value.specs.Interval.{parse_interval};
 ghost use Rattle.pgv_value.specs.declared.interval.PgInterval.{PgInterval as Interval};
 ghost use Rattle.pgv_codec.specs.Intervals.{interval_image};
 ghost use Rattle.pgv_codec.specs.Outcome.{Encoded, Appended};
@@ -59,15 +60,15 @@ impl Scalar for PgInterval {
 
 /// An `interval`, as [`read_interval`] reads it: `00000000d693a4000000000000000000` is an hour. It has no text (C18). It comes back as it is.
 impl Plain for PgInterval {
-    ghost Meaning = { Interval };
+    ghost View = { Interval };
 
-    ghost meaning = { λ interval. interval };
+    ghost view = { λ interval. interval };
 
-    ghost reading = { interval_reading };
+    ghost parse = { without_memory parse_interval };
+
+    ghost null = { λ _ _. refl };
 
     ghost written = { with_hint (λ _. 16) interval_image };
-
-    ghost refusal = { short_refusal };
 
     fn read(_alloc: Global, value: PgValueRef<'_>) -> Result<PgInterval, CodecError> {
         read_interval(&value)

@@ -3,7 +3,8 @@
 ghost use Rattle.std.specs.Prelude.{◌≡◌, refl};
 ghost use Rattle.std.specs.declared.net.ip_addr.IpAddr.{IpAddr as Address};
 ghost use Rattle.pgv_text.specs.AddressText as text;
-ghost use Rattle.pgv_value.specs.NetworkBinary.{address_reading, address_refusal};
+ghost use Rattle.pgv_value.specs.Outcome.{without_memory};
+ghost use Rattle.pgv_value.specs.NetworkBinary.{parse_address};
 ghost use Rattle.pgv_codec.specs.NetworkBinary.{address_hint, address_image};
 ghost use Rattle.pgv_codec.specs.WithHint.{with_hint};
 
@@ -50,15 +51,15 @@ impl Encode for IpAddr {
 impl Plain for IpAddr {
     ghost use Rattle.pgv_codec.specs.NetworkBack.{address_back};
 
-    ghost Meaning = { Address };
+    ghost View = { Address };
 
-    ghost meaning = { λ address. address };
+    ghost view = { λ address. address };
 
-    ghost reading = { address_reading };
+    ghost parse = { without_memory parse_address };
+
+    ghost null = { λ _ _. refl };
 
     ghost written = { with_hint address_hint address_image };
-
-    ghost refusal = { address_refusal };
 
     fn read(_alloc: Global, value: PgValueRef<'_>) -> Result<IpAddr, CodecError> {
         read_ip_address(&value)

@@ -2,7 +2,8 @@
 
 ghost use Rattle.std.specs.Prelude.{refl};
 ghost use Rattle.pgv_text.specs.NetworkText.{Network, network_of};
-ghost use Rattle.pgv_value.specs.NetworkBinary.{network_reading, network_refusal};
+ghost use Rattle.pgv_value.specs.Outcome.{without_memory};
+ghost use Rattle.pgv_value.specs.NetworkBinary.{parse_network};
 ghost use Rattle.pgv_codec.specs.NetworkBinary.{network_hint, network_image};
 ghost use Rattle.pgv_codec.specs.WithHint.{with_hint};
 
@@ -41,15 +42,15 @@ impl Encode for IpNetwork {
 impl Plain for IpNetwork {
     ghost use Rattle.pgv_codec.specs.NetworkBack.{network_back};
 
-    ghost Meaning = { Network };
+    ghost View = { Network };
 
-    ghost meaning = { network_of };
+    ghost view = { network_of };
 
-    ghost reading = { network_reading };
+    ghost parse = { without_memory parse_network };
+
+    ghost null = { λ _ _. refl };
 
     ghost written = { with_hint network_hint network_image };
-
-    ghost refusal = { network_refusal };
 
     #[inline(always)]
     fn read(_alloc: Global, value: PgValueRef<'_>) -> Result<IpNetwork, CodecError> {

@@ -4,7 +4,8 @@ ghost use Rattle.pgv_types.specs.Ty.{builtin};
 ghost use Rattle.std.specs.Int.{w32};
 ghost use Rattle.pgv_codec.specs.ScalarBinary.{unsigned_image};
 ghost use Rattle.std.specs.Prelude.{ℕ, refl};
-ghost use Rattle.pgv_value.specs.ScalarGrammar.{oid_reading, oid_refusal};
+ghost use Rattle.pgv_value.specs.Outcome.{without_memory};
+ghost use Rattle.pgv_value.specs.ScalarGrammar.{parse_oid};
 ghost use Rattle.pgv_codec.specs.Saying.{plainly};
 
 use crate::buffer::{IsNull, PgArgumentBuffer};
@@ -49,15 +50,15 @@ impl Scalar for Oid {
 impl Plain for Oid {
     ghost use Rattle.pgv_codec.specs.BackScalars.{oid_back};
 
-    ghost Meaning = { ℕ };
+    ghost View = { ℕ };
 
-    ghost meaning = { λ oid. oid.0 };
+    ghost view = { λ oid. oid.0 };
 
-    ghost reading = { oid_reading };
+    ghost parse = { without_memory parse_oid };
+
+    ghost null = { λ _ _. refl };
 
     ghost written = { plainly (unsigned_image w32) };
-
-    ghost refusal = { oid_refusal };
 
     #[inline(always)]
     fn read(_alloc: Global, value: PgValueRef<'_>) -> Result<Oid, CodecError> {

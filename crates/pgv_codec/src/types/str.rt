@@ -45,23 +45,19 @@ impl Encode for String {
 /// [`Utf8`](CodecError::Utf8) (C14): `6869` is `hi`. Null is refused with
 /// [`UnexpectedNull`](CodecError::UnexpectedNull) (C13). An empty text asks for no memory.
 impl Plain for String {
-    ghost use Rattle.pgv_value.specs.Reading.{has_items};
-    ghost use Rattle.pgv_value.specs.Utf8.{text_refusal};
-    ghost use Rattle.pgv_value.specs.ScalarGrammar.{text_reading};
+    ghost use Rattle.pgv_value.specs.Utf8.{parse_text};
     ghost use Rattle.pgv_codec.specs.Saying.{plainly};
     ghost use Rattle.pgv_codec.specs.BackScalars.{text_back};
 
-    ghost Meaning = { List ℕ };
+    ghost View = { List ℕ };
 
-    ghost meaning = { λ text. string_bytes text };
+    ghost view = { λ text. string_bytes text };
 
-    ghost reading = { text_reading };
+    ghost parse = { parse_text };
+
+    ghost null = { λ _ _. refl };
 
     ghost written = { plainly text_image };
-
-    ghost takes_memory = { λ t format bytes. has_items (text_reading t format bytes) };
-
-    ghost refusal = { text_refusal };
 
     #[inline(always)]
     fn read(alloc: Global, value: PgValueRef<'_>) -> Result<String, CodecError> {

@@ -3,8 +3,8 @@
 ghost use Rattle.pgv_types.specs.Ty.{builtin};
 ghost use Rattle.std.specs.Prelude.{◌≡◌, ◌/◌, pos, ℕ, refl};
 ghost use Rattle.jiff.specs.Words.{time_nanos};
-ghost use Rattle.pgv_value.specs.DateTimeBinary.{time_reading};
-ghost use Rattle.pgv_value.specs.ScalarGrammar.{whole_or_syntax_refusal};
+ghost use Rattle.pgv_value.specs.Outcome.{without_memory};
+ghost use Rattle.pgv_value.specs.DateTimeBinary.{parse_time};
 ghost use Rattle.pgv_codec.specs.DateTimeBinary.{time_image};
 ghost use Rattle.pgv_codec.specs.WithHint.{with_hint};
 
@@ -55,15 +55,15 @@ impl Plain for Time {
     ghost use Rattle.pgv_codec.specs.DateTimeBack.{time_back};
     ghost use Rattle.pgv_codec.specs.DateTimeKept.{time_kept};
 
-    ghost Meaning = { ℕ };
+    ghost View = { ℕ };
 
-    ghost meaning = { time_nanos };
+    ghost view = { time_nanos };
 
-    ghost reading = { time_reading };
+    ghost parse = { without_memory parse_time };
+
+    ghost null = { λ _ _. refl };
 
     ghost written = { with_hint (λ _. 8) time_image };
-
-    ghost refusal = { whole_or_syntax_refusal };
 
     ghost kept = { time_kept };
 

@@ -3,8 +3,8 @@
 ghost use Rattle.pgv_types.specs.Ty.{builtin};
 ghost use Rattle.std.specs.Int.{w64};
 ghost use Rattle.std.specs.Prelude.{◌≡◌, FitsSigned, ℤ, refl};
-ghost use Rattle.pgv_value.specs.DateTimeBinary.{instant_reading};
-ghost use Rattle.pgv_value.specs.ScalarGrammar.{whole_or_syntax_refusal};
+ghost use Rattle.pgv_value.specs.Outcome.{without_memory};
+ghost use Rattle.pgv_value.specs.DateTimeBinary.{parse_instant};
 ghost use Rattle.pgv_codec.specs.DateTimeBinary.{micros_of, moment_image};
 ghost use Rattle.pgv_codec.specs.WithHint.{with_hint};
 
@@ -58,15 +58,15 @@ impl Plain for Timestamp {
     ghost use Rattle.pgv_codec.specs.DateTimeBack.{instant_back};
     ghost use Rattle.pgv_codec.specs.DateTimeKept.{instant_kept};
 
-    ghost Meaning = { ℤ };
+    ghost View = { ℤ };
 
-    ghost meaning = { λ at. at.nanosecond };
+    ghost view = { λ at. at.nanosecond };
 
-    ghost reading = { instant_reading };
+    ghost parse = { without_memory parse_instant };
+
+    ghost null = { λ _ _. refl };
 
     ghost written = { with_hint (λ _. 8) moment_image };
-
-    ghost refusal = { whole_or_syntax_refusal };
 
     ghost kept = { instant_kept };
 

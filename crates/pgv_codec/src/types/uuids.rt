@@ -3,7 +3,8 @@
 ghost use Rattle.pgv_types.specs.Ty.{builtin};
 ghost use Rattle.pgv_codec.specs.ScalarBinary.{uuid_image};
 ghost use Rattle.std.specs.Prelude.{ℕ, List, refl};
-ghost use Rattle.pgv_value.specs.ScalarGrammar.{uuid_reading, uuid_refusal};
+ghost use Rattle.pgv_value.specs.Outcome.{without_memory};
+ghost use Rattle.pgv_value.specs.ScalarGrammar.{parse_uuid};
 ghost use Rattle.pgv_codec.specs.Saying.{plainly};
 
 use crate::buffer::{IsNull, PgArgumentBuffer};
@@ -51,15 +52,15 @@ impl Scalar for Uuid {
 impl Plain for Uuid {
     ghost use Rattle.pgv_codec.specs.BackScalars.{uuid_back};
 
-    ghost Meaning = { List ℕ };
+    ghost View = { List ℕ };
 
-    ghost meaning = { λ id. id };
+    ghost view = { λ id. id };
 
-    ghost reading = { uuid_reading };
+    ghost parse = { without_memory parse_uuid };
+
+    ghost null = { λ _ _. refl };
 
     ghost written = { plainly uuid_image };
-
-    ghost refusal = { uuid_refusal };
 
     #[inline(always)]
     fn read(_alloc: Global, value: PgValueRef<'_>) -> Result<Uuid, CodecError> {

@@ -1,6 +1,6 @@
 //! Truth values.
 
-ghost use Rattle.pgv_value.specs.Parse.{parse_bool};
+ghost use Rattle.pgv_value.specs.ScalarGrammar.{parse_bool};
 ghost use Rattle.pgv_value.specs.Parsed.{GivesExactly};
 
 use crate::error::CodecError;

@@ -5,7 +5,7 @@ ghost use Rattle.std.specs.Option.{option_map};
 ghost use Rattle.jiff.specs.Words.{civil_nanos, epoch_day, time_nanos};
 ghost use Rattle.pgv_text.specs.DateTimeText.{instant_nanos};
 ghost use Rattle.pgv_value.specs.DateTimeBinary.{civil_at, day_after, nanos_after, time_after};
-ghost use Rattle.pgv_value.specs.Parse.{parse_date, parse_date_time, parse_instant, parse_time};
+ghost use Rattle.pgv_value.specs.DateTimeBinary.{parse_date, parse_date_time, parse_instant, parse_time};
 ghost use Rattle.pgv_value.specs.Parsed.{GivesExactly};
 
 use super::int::whole_number_of;

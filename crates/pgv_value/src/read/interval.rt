@@ -1,6 +1,6 @@
 //! Intervals.
 
-ghost use Rattle.pgv_value.specs.Parse.{interval_in_binary, parse_interval};
+ghost use Rattle.pgv_value.specs.Interval.{interval_in_binary, parse_interval};
 ghost use Rattle.pgv_value.specs.Parsed.{GivesExactly};
 
 use crate::error::CodecError;

@@ -3,8 +3,8 @@
 ghost use Rattle.std.specs.Prelude.{◌≡◌, ℕ, ◌∷◌};
 ghost use Rattle.pgv_text.specs.NetworkText.{network_of};
 ghost use Rattle.pgv_value.specs.NetworkBinary.{address_binary, address_refused};
-ghost use Rattle.pgv_value.specs.Parse.{network_in_binary, network_in_text, parse_address, parse_network, with_prefix};
-ghost use Rattle.pgv_value.specs.Parse as spec;
+ghost use Rattle.pgv_value.specs.NetworkBinary.{network_in_binary, network_in_text, parse_address, parse_network, with_prefix};
+ghost use Rattle.pgv_value.specs.NetworkBinary as spec;
 ghost use Rattle.pgv_value.specs.Parsed.{GivesExactly};
 
 use crate::error::CodecError;

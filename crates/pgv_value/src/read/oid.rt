@@ -1,6 +1,6 @@
 //! Object identifiers.
 
-ghost use Rattle.pgv_value.specs.Parse.{parse_oid};
+ghost use Rattle.pgv_value.specs.ScalarGrammar.{parse_oid};
 ghost use Rattle.pgv_value.specs.Parsed.{GivesExactly};
 
 use crate::error::CodecError;

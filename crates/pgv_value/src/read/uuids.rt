@@ -1,7 +1,7 @@
 //! Universally unique identifiers.
 
 ghost use Rattle.std.specs.Prelude.{ok_or};
-ghost use Rattle.pgv_value.specs.Parse.{parse_uuid};
+ghost use Rattle.pgv_value.specs.ScalarGrammar.{parse_uuid};
 ghost use Rattle.pgv_value.specs.Parsed.{GivesExactly};
 ghost use Rattle.pgv_value.specs.declared.error.CodecError.TheVariants.{Syntax};
 ghost use Rattle.uuid.specs.Text.{parsed};

@@ -3,7 +3,8 @@
 ghost use Rattle.std.specs.Int.{w8};
 ghost use Rattle.std.specs.Prelude.{ℤ, refl};
 ghost use Rattle.pgv_types.specs.Ty.{builtin};
-ghost use Rattle.pgv_value.specs.ScalarGrammar.{char_reading, whole_or_syntax_refusal};
+ghost use Rattle.pgv_value.specs.Outcome.{without_memory};
+ghost use Rattle.pgv_value.specs.ScalarGrammar.{parse_char};
 ghost use Rattle.pgv_codec.specs.Saying.{plainly};
 ghost use Rattle.pgv_codec.specs.ScalarBinary.{signed_image};
 
@@ -49,15 +50,15 @@ impl Scalar for i8 {
 impl Plain for i8 {
     ghost use Rattle.pgv_codec.specs.BackScalars.{char_back};
 
-    ghost Meaning = { ℤ };
+    ghost View = { ℤ };
 
-    ghost meaning = { λ number. number };
+    ghost view = { λ number. number };
 
-    ghost reading = { char_reading };
+    ghost parse = { without_memory parse_char };
+
+    ghost null = { λ _ _. refl };
 
     ghost written = { plainly (signed_image w8) };
-
-    ghost refusal = { whole_or_syntax_refusal };
 
     #[inline(always)]
     fn read(_alloc: Global, value: PgValueRef<'_>) -> Result<i8, CodecError> {

@@ -3,7 +3,8 @@
 ghost use Rattle.std.specs.Int.{w64};
 ghost use Rattle.std.specs.Prelude.{ℤ, refl};
 ghost use Rattle.pgv_types.specs.Ty.{builtin};
-ghost use Rattle.pgv_value.specs.ScalarGrammar.{int_reading, int_refusal};
+ghost use Rattle.pgv_value.specs.Outcome.{without_memory};
+ghost use Rattle.pgv_value.specs.ScalarGrammar.{parse_int};
 ghost use Rattle.pgv_codec.specs.Saying.{plainly};
 ghost use Rattle.pgv_codec.specs.ScalarBinary.{signed_image};
 
@@ -49,15 +50,15 @@ impl Scalar for i64 {
 impl Plain for i64 {
     ghost use Rattle.pgv_codec.specs.BackScalars.{int8_back};
 
-    ghost Meaning = { ℤ };
+    ghost View = { ℤ };
 
-    ghost meaning = { λ number. number };
+    ghost view = { λ number. number };
 
-    ghost reading = { int_reading w64 };
+    ghost parse = { without_memory (parse_int w64) };
+
+    ghost null = { λ _ _. refl };
 
     ghost written = { plainly (signed_image w64) };
-
-    ghost refusal = { int_refusal };
 
     #[inline(always)]
     fn read(_alloc: Global, value: PgValueRef<'_>) -> Result<i64, CodecError> {
