@@ -24,16 +24,25 @@ pub use Rattle.pgv_value.specs.FrameBinary.{Part, front}
 pub use Rattle.pgv_value.specs.Reading.{Reading, Answers}
 pub use Rattle.pgv_value.specs.declared.value.PgValueFormat.{PgValueFormat}
 pub use Rattle.pgv_value.specs.declared.value.PgValueFormat.TheVariants.{Binary, Text}
--- The readings of plain types (`int_reading w32`); `scalar` and `binary_alone` make one of a grammar for each format, or for binary.
-pub use Rattle.pgv_value.specs.ScalarGrammar.{scalar, binary_alone, bool_reading, int_reading, oid_reading, uuid_reading, text_reading}
--- For `refusal`: why numbers of a width are refused, and texts; `text_refusal_or why` of what is read from a text, the
--- same in both formats: null is C13, what isn't UTF-8 C14, and another text `why`. `refusal_or why read after` is `why`
--- where nothing was read, and else what comes after it. `UnexpectedNull` is C13, `WrongLength n` C17,
--- `TextUnsupported` C18, `Syntax` C29, and `Caller n` an error of your own. `code_of error` is the number of any.
-pub use Rattle.pgv_value.specs.ScalarGrammar.{int_refusal}
-pub use Rattle.pgv_value.specs.Utf8.{text_refusal}
-pub use Rattle.pgv_codec.specs.Refusing.{text_refusal_or}
-pub use Rattle.pgv_nest.specs.NestRefusals.{refusal_or}
+-- For `parse` of `Plain`. `Given` is a value of a row: its part, its type and its format. `Parsed M` is what is read without memory:
+-- `Ok` of a view, or `Err` why not, and `>>=` goes on where something was read. `without_memory` makes a `parse` of such a grammar.
+-- `Outcome M` says too whether memory may be asked for by then: `copied parsed` is a list of which memory is asked for where it isn't
+-- empty, and `read_or read why takes` what was read, or else `why`. `Gives view outcome result` is what a reader answers.
+pub use Rattle.pgv_value.specs.ValueView.{Given, given}
+pub use Rattle.pgv_value.specs.Parsed.{Parsed, ◌>>=◌, GivesExactly}
+pub use Rattle.pgv_value.specs.Outcome.{Outcome, Gives, without_memory, copied, read_or}
+-- `scalar` and `binary_alone` make a grammar of one for each format, or for binary; `in_both_formats` and `in_binary_alone` do so where
+-- memory may be asked for. `utf8_part` is a text in either format.
+pub use Rattle.pgv_value.specs.ScalarGrammar.{scalar, binary_alone}
+pub use Rattle.pgv_value.specs.Formats.{in_both_formats, in_binary_alone}
+-- The grammars of truth values, numbers of a width (`parse_int w32`; in binary `int_in_binary w32`), OIDs, UUIDs and texts.
+pub use Rattle.pgv_value.specs.ScalarGrammar.{parse_bool, parse_int, int_in_binary, parse_oid, parse_uuid}
+pub use Rattle.pgv_value.specs.Utf8.{utf8_part, parse_text}
+-- `reading_of parse`, `error_of parse` and `takes_of parse` are its three parts: the reading, why nothing is read, and whether memory may
+-- be asked for.
+pub use Rattle.pgv_value.specs.Outcome.{reading_of, error_of, takes_of}
+-- `UnexpectedNull` is C13, `WrongLength n` C17, `TextUnsupported` C18, `Syntax` C29, and `Caller n` an error of your own. `code_of error`
+-- is the number of any.
 pub use Rattle.pgv_value.specs.declared.error.CodecError.{CodecError}
 pub use Rattle.pgv_value.specs.Codes.{code_of}
 pub use Rattle.pgv_value.specs.declared.error.CodecError.TheVariants.{Caller, Syntax, TextUnsupported, UnexpectedNull, WrongLength}
@@ -60,9 +69,9 @@ pub use Rattle.pgv_wire.specs.Given.{ArgumentReadsBack}
 -- field of a composite fits, `FieldsFit` where one and those after it do; `Followed` and `FieldIsPlain` say so in plain words.
 pub use Rattle.pgv_codec.specs.Back.{ReadsBack, always, FieldFits, FieldsFit, Followed}
 -- Steps of such a proof: a value that has an image has passed the test before it (`guarded`), and bytes are written as they are
--- (`part_is`). Then the law for `i32`, `i64` and `String`.
+-- (`part_is`); what has a reading was parsed (`parsed_as`). Then the law for `i32`, `i64` and `String`.
 pub use Rattle.pgv_codec.specs.BackParts.{guarded}
-pub use Rattle.pgv_codec.specs.BackScalars.{part_is, int4_back, int8_back, text_back}
+pub use Rattle.pgv_codec.specs.BackScalars.{part_is, parsed_as, int4_back, int8_back, text_back}
 -- The three steps for a composite.
 pub use Rattle.pgv_codec.specs.BackRecords.{further_back, last_back, record_back}
 pub use Rattle.pgv_codec.specs.Plain.{FieldIsPlain}

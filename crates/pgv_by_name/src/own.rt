@@ -89,14 +89,13 @@ impl Encode for Size {
 
 impl Decode for Size {
     ghost use Rattle.std.specs.Prelude.{ℤ};
-    ghost use Rattle.std.specs.Int.{w32};
-    ghost use Rattle.pgv.specs.Words.{int_reading, unwritten};
+    ghost use Rattle.pgv.specs.Words.{unwritten};
 
     ghost Meaning = { ℤ };
 
     ghost meaning = { λ size. size.number };
 
-    ghost reading = { int_reading w32 };
+    ghost reading = { ⟦<i32 as Decode>⟧.reading };
 
     ghost written = { unwritten };
 

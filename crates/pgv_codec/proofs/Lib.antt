@@ -5,5 +5,6 @@ pub mod Records
 pub mod FrameLoop
 pub mod PartLoop
 pub mod PlainFits
+pub mod Outcomes
 pub mod Refusing
 pub mod Taking

@@ -14,10 +14,12 @@ use Rattle.pgv_buf.specs.Tokens.{bytes, be4}
 use Rattle.pgv_value.specs.FrameBinary.{Part}
 use Rattle.pgv_value.specs.NumberBinary.{fits_signed, whole_number}
 use Rattle.pgv_value.specs.OwnBytes.{own_byte, own_two_bytes, own_four_bytes, own_eight_bytes}
-use Rattle.pgv_value.specs.Outcome.{reading_of, without_memory}
+use Rattle.pgv_value.specs.Outcome.{ok_of, read_or, reading_of, stated, without_memory}
+use Rattle.pgv_value.specs.Parsed.{Parsed}
 use Rattle.pgv_value.specs.Steps.{number}
 use Rattle.pgv_value.specs.ScalarGrammar.{parse_bool, parse_int, parse_char, parse_oid, parse_uuid}
 use Rattle.pgv_value.specs.Utf8.{parse_text}
+use Rattle.pgv_value.specs.declared.error.CodecError.{CodecError}
 use Rattle.pgv_value.specs.declared.value.PgValueFormat.TheVariants.{Binary}
 use Rattle.pgv_codec.specs.Back.{ReadsBack, always}
 use Rattle.pgv_codec.specs.BackParts.{guarded, write-bytes}
@@ -28,6 +30,15 @@ use Rattle.pgv_codec.specs.ScalarBinary.{signed_image, unsigned_image, bool_imag
 -- plain bytes are written as they are
 pub part_is : (xs : List ℕ) (i : Image) (p : Option Ty) (os : List Oid) → (let o : Option Image = Some (image_of (bytes xs)) in o) ≡ Some i → written_part i p os ≡ Some xs
 part_is xs i p os e = rw (← same_Some (image_of (bytes xs)) i e) (ap (λ (ys : List ℕ). let q : Part = Some ys in q) (write-bytes p os xs))
+
+-- what is read, where something is
+pub is_read : {M : Type 0} (read : Option M) (m : M) (why : CodecError) (takes : Bool) → read ≡ Some m → ok_of (read_or read why takes).answer ≡ Some m
+is_read read m why takes e = rw e refl
+
+-- what has a reading was parsed
+pub parsed_as : {M : Type 0} (p : Parsed M) (m : M) → ok_of (stated p) ≡ Some m → p ≡ Ok m
+parsed_as (Ok n) m e = cc
+parsed_as (Err d) m e = absurd cc
 
 pub bool_back : ReadsBack bool_image (reading_of (without_memory parse_bool)) (λ v. v) always
 bool_back true i t p os e whole small fit = rw (← same_Some _ i e) refl

@@ -2,14 +2,12 @@
 -- Written: a frame whose size hint is above 2147483647 is C2 before anything else, a value without an image is what it says
 -- itself, and an image above 2147483647 bytes is C2. A list of more than 2147483647 elements is C3, and another is what its first
 -- element without a frame is refused with. A field after 4294967295 others is C12.
-use Rattle.std.specs.Prelude.{◌≡◌, ◌≢◌, ℕ, Bool, true, false, nat_eq, nat_le, List, [], ◌∷◌, length, Option, Some, None, IfSome, IfErr, Result, cond, if◌then◌else◌}
+use Rattle.std.specs.Prelude.{◌≡◌, ◌≢◌, ℕ, Bool, true, false, nat_eq, nat_le, List, [], ◌∷◌, length, Option, Some, None, IfSome, IfErr, Result, cond}
 use Rattle.pgv_types.specs.Ty.{Ty}
 use Rattle.pgv_buf.specs.Tokens.{Token, tokens_width}
 use Rattle.pgv_value.specs.Reading.{Refuses}
-use Rattle.pgv_value.specs.Utf8.{is_utf8}
 use Rattle.pgv_value.specs.declared.error.CodecError.{CodecError}
-use Rattle.pgv_value.specs.declared.error.CodecError.TheVariants.{Memory, ValueSize, ArrayLength, FieldCount, UnexpectedNull, Utf8}
-use Rattle.pgv_value.specs.declared.value.PgValueFormat.{PgValueFormat}
+use Rattle.pgv_value.specs.declared.error.CodecError.TheVariants.{Memory, ValueSize, ArrayLength, FieldCount}
 use Rattle.pgv_nest.specs.NestRefusals.{Refusal, Taking, is_copied}
 use Rattle.pgv_codec.specs.Image.{Image, null_image, image_of, field, frame, limit}
 
@@ -78,12 +76,6 @@ first_type_copied produced [] = false
 first_type_copied produced (x ∷ xs) = is_copied (produced x)
 
 -- ---- read
-
--- of a type that is read from texts, the same in both formats: null is C13, what isn't UTF-8 C14, and another text what
--- is said
-abbrev pub text_refusal_or : CodecError → PgValueFormat → Option (List ℕ) → CodecError
-text_refusal_or other f None = UnexpectedNull
-text_refusal_or other f (Some text) = if is_utf8 text then other else Utf8
 
 -- null is never refused, and anything else as the type says
 abbrev pub nullable_refusal : Refusal → Refusal

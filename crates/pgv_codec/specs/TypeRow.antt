@@ -1,13 +1,12 @@
 -- What one type is, in the words of the table of types: the type that its values have, the types under which they are read, and
 -- what they are written as. The laws of `laws::rows` give each type's row by these: the PostgreSQL type of its values and of
 -- their arrays, the types under which both are read (`IsBuiltIn`: those that are softly equal to it), its image, with size hint
--- 0 and no other type (`IsWrittenAs`), what it reads, and what it is refused with (`IsRefusedAs`).
+-- 0 and no other type (`IsWrittenAs`), and the grammar that it is read by (`parse`).
 use Rattle.std.specs.Prelude.{◌≡◌, ℕ, Bool, false, List, Option, Some, None}
 use Rattle.pgv_types.specs.Ty.{Ty, builtin}
 use Rattle.pgv_types.specs.Relations.{softly}
-use Rattle.pgv_value.specs.declared.error.CodecError.{CodecError}
 use Rattle.pgv_value.specs.declared.value.PgValueFormat.{PgValueFormat}
-use Rattle.pgv_nest.specs.NestRefusals.{Refusal, Taking}
+use Rattle.pgv_nest.specs.NestRefusals.{Taking}
 use Rattle.pgv_codec.specs.Image.{Image}
 
 -- values have the built-in type of this OID, and are read under each type that is softly equal to it
@@ -17,10 +16,6 @@ IsBuiltIn oid info accepts = (info ≡ builtin oid) × ((t : Ty) → accepts t �
 -- values are written as this image, with the size hint 0, and produce no other type
 abbrev pub IsWrittenAs : {A : Type 0} → (A → Option Image) → (A → ℕ) → (A → Option Image) → (A → Option Ty) → Type 0
 IsWrittenAs {A} wanted hint image produced = (v : A) → (image v ≡ wanted v) × (hint v ≡ 0) × (produced v ≡ None)
-
--- what can't be read is refused with this, under every type
-abbrev pub IsRefusedAs : (PgValueFormat → Option (List ℕ) → CodecError) → Refusal → Type 0
-IsRefusedAs wanted refusal = (t : Ty) (f : PgValueFormat) (bytes : Option (List ℕ)) → refusal t f bytes ≡ Some (wanted f bytes)
 
 -- it never asks for memory, so it is never refused with C1
 abbrev pub TakesNone : Taking → Type 0

@@ -1,6 +1,6 @@
 -- The labels of moods (PostgreSQL: "Enumerated Types", 8.7: a label is written and read as its text, in both formats).
-use Rattle.std.specs.Prelude.{◌≡◌, ℕ, List, codes, bytes_eq, true, Option, Some, None, if◌then◌else◌, refl}
-use Rattle.pgv.specs.Words.{Reading, ReadsBack, always, part_is, are_ascii, ascii_is_utf8, text_image, text_reading}
+use Rattle.std.specs.Prelude.{◌≡◌, ℕ, List, codes, bytes_eq, true, Option, Some, None, ok_or, if◌then◌else◌, refl}
+use Rattle.pgv.specs.Words.{Caller, Given, Parsed, ◌>>=◌, ReadsBack, always, part_is, are_ascii, ascii_is_utf8, reading_of, text_image, utf8_part, without_memory}
 use Rattle.pgv_examples.specs.declared.mood.Mood.{Mood}
 use Rattle.pgv_examples.specs.declared.mood.Mood.TheVariants.{Sad, Fine, Happy}
 
@@ -15,13 +15,9 @@ mood_of label =
     if bytes_eq label (codes "ok") then Some Fine else
     if bytes_eq label (codes "happy") then Some Happy else None
 
-abbrev pub labelled : Option (List ℕ) → Option Mood
-labelled None = None
-labelled (Some text) = mood_of text
-
--- a text that is a label, in either format
-abbrev pub mood_reading : Reading Mood
-mood_reading t f part = labelled (text_reading t f part)
+-- a text that is a label, in either format; another is refused with C38(5)
+abbrev pub parse_mood : Given → Parsed Mood
+parse_mood v = utf8_part v.bytes >>= λ text. ok_or (mood_of text) (Caller 5)
 
 -- each mood is read from its own label
 label_again : (mood : Mood) → mood_of (label_of mood) ≡ Some mood
@@ -34,6 +30,6 @@ label_is_ascii Sad = refl
 label_is_ascii Fine = refl
 label_is_ascii Happy = refl
 
-pub mood_back : ReadsBack (λ mood. text_image (label_of mood)) mood_reading (λ mood. mood) always
+pub mood_back : ReadsBack (λ mood. text_image (label_of mood)) (reading_of (without_memory parse_mood)) (λ mood. mood) always
 mood_back mood i t p oids e whole small fit =
-    rw (part_is (label_of mood) i p oids e, ascii_is_utf8 (label_of mood) (label_is_ascii mood)) (label_again mood)
+    rw (part_is (label_of mood) i p oids e, ascii_is_utf8 (label_of mood) (label_is_ascii mood), label_again mood) refl

@@ -1,8 +1,8 @@
 //! A domain: `create domain email as text`, known by its name and read as the text that it is over.
 
 use pgv::{
-    CodecError, Decode, Encode, IsNull, PgArgumentBuffer, PgHasArrayType, PgType, PgTypeInfo,
-    PgValueRef, Plain, Type, encode_text,
+    CodecError, Encode, IsNull, PgArgumentBuffer, PgHasArrayType, PgType, PgTypeInfo, PgValueRef,
+    Plain, Type, encode_text,
 };
 use std::alloc::{AllocError, Global};
 
@@ -72,23 +72,21 @@ impl Encode for Email {
 /// Read as its text, and comes back as its text does.
 impl Plain for Email {
     ghost use Rattle.std.specs.Prelude.{ℕ, List, string_bytes, refl};
-    ghost use Rattle.pgv.specs.Words.{plainly, text_back, text_image, text_reading, text_refusal};
+    ghost use Rattle.pgv.specs.Words.{plainly, text_back, text_image, parse_text};
 
-    ghost Meaning = { List ℕ };
+    ghost View = { List ℕ };
 
-    ghost meaning = { λ email. string_bytes email.address };
+    ghost view = { λ email. string_bytes email.address };
 
-    ghost reading = { text_reading };
+    ghost parse = { parse_text };
+
+    ghost null = { λ _ _. refl };
 
     ghost written = { plainly text_image };
 
-    ghost takes_memory = { ⟦<String as Decode>⟧.takes_memory };
-
-    ghost refusal = { text_refusal };
-
     fn read(alloc: Global, value: PgValueRef<'_>) -> Result<Email, CodecError> {
         Ok(Email {
-            address: String::decode(alloc, value)?,
+            address: String::read(alloc, value)?,
         })
     }
 

@@ -72,18 +72,18 @@ impl Encode for EmptyObject {
 /// null with C13. An object comes back, whichever case its slot shows.
 impl Plain for EmptyObject {
     ghost use Rattle.std.specs.Prelude.{⊤, Some, refl};
-    ghost use Rattle.pgv.specs.Words.{image_of, plainly};
-    ghost use Rattle.pgv_examples.specs.Objects.{object_back, object_image, object_reading, object_refusal};
+    ghost use Rattle.pgv.specs.Words.{image_of, plainly, without_memory};
+    ghost use Rattle.pgv_examples.specs.Objects.{object_back, object_image, parse_object};
 
-    ghost Meaning = { ⊤ };
+    ghost View = { ⊤ };
 
-    ghost meaning = { λ _. tt };
+    ghost view = { λ _. tt };
 
-    ghost reading = { object_reading };
+    ghost parse = { without_memory parse_object };
+
+    ghost null = { λ _ _. refl };
 
     ghost written = { plainly (λ _. Some (image_of object_image)) };
-
-    ghost refusal = { object_refusal };
 
     fn read(alloc: Global, value: PgValueRef<'_>) -> Result<EmptyObject, CodecError> {
         let bytes = value.as_bytes()?;

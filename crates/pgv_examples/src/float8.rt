@@ -1,8 +1,8 @@
 //! A type that the library doesn't have, by its bytes: `float8` (PostgreSQL, "Floating-Point Types").
 
 use pgv::{
-    CodecError, Decode, Encode, IsNull, PgArgumentBuffer, PgType, PgTypeInfo, PgValueFormat,
-    PgValueRef, Plain, Type,
+    CodecError, Encode, IsNull, PgArgumentBuffer, PgType, PgTypeInfo, PgValueFormat, PgValueRef,
+    Plain, Type,
 };
 use std::alloc::{AllocError, Global};
 
@@ -46,17 +46,18 @@ impl Encode for Float8 {
 /// Read of eight bytes. Others are refused with C17, a text with C18, and null with C13. Every number comes back.
 impl Plain for Float8 {
     ghost use Rattle.std.specs.Prelude.{ℤ, refl};
-    ghost use Rattle.pgv_examples.specs.Floats.{float_back, float_reading, float_refusal};
+    ghost use Rattle.pgv.specs.Words.{without_memory};
+    ghost use Rattle.pgv_examples.specs.Floats.{float_back, parse_float};
 
-    ghost Meaning = { ℤ };
+    ghost View = { ℤ };
 
-    ghost meaning = { λ number. number.0 };
+    ghost view = { λ number. number.0 };
 
-    ghost reading = { float_reading };
+    ghost parse = { without_memory parse_float };
 
-    ghost written = { ⟦<i64 as Decode>⟧.written };
+    ghost null = { λ _ _. refl };
 
-    ghost refusal = { float_refusal };
+    ghost written = { ⟦<i64 as Plain>⟧.written };
 
     fn read(alloc: Global, value: PgValueRef<'_>) -> Result<Float8, CodecError> {
         match value.format() {
@@ -65,7 +66,7 @@ impl Plain for Float8 {
                 if length != 8 {
                     return Err(CodecError::WrongLength(length));
                 }
-                Ok(Float8(i64::decode(alloc, value)?))
+                Ok(Float8(i64::read(alloc, value)?))
             }
             PgValueFormat::Text => {
                 value.as_bytes()?;

@@ -102,19 +102,19 @@ impl Encode for Mood {
 /// Read by its label, which is the same in both formats. Another text is refused with C38(5), and null with C13. Each mood comes back.
 impl Plain for Mood {
     ghost use Rattle.std.specs.Prelude.{refl};
-    ghost use Rattle.pgv.specs.Words.{Caller, plainly, text_image, text_refusal_or};
-    ghost use Rattle.pgv_examples.specs.Moods.{mood_back, mood_reading};
+    ghost use Rattle.pgv.specs.Words.{plainly, text_image, without_memory};
+    ghost use Rattle.pgv_examples.specs.Moods.{mood_back, parse_mood};
     ghost use Rattle.pgv_examples.specs.declared.mood.Mood.{Mood};
 
-    ghost Meaning = { Mood };
+    ghost View = { Mood };
 
-    ghost meaning = { λ mood. mood };
+    ghost view = { λ mood. mood };
 
-    ghost reading = { mood_reading };
+    ghost parse = { without_memory parse_mood };
+
+    ghost null = { λ _ _. refl };
 
     ghost written = { plainly (λ mood. text_image (label_of mood)) };
-
-    ghost refusal = { text_refusal_or (Caller 5) };
 
     fn read(_alloc: Global, value: PgValueRef<'_>) -> Result<Mood, CodecError> {
         Mood::from_label(value.as_str()?)

@@ -3,9 +3,7 @@
 ghost use Rattle.std.specs.Prelude.{◌≡◌, true, false, IsOk, IsErrOf};
 ghost use Rattle.pgv_examples.specs.Percents.{is_percent};
 
-use pgv::{
-    CodecError, Decode, Encode, IsNull, PgArgumentBuffer, PgTypeInfo, PgValueRef, Plain, Type,
-};
+use pgv::{CodecError, Encode, IsNull, PgArgumentBuffer, PgTypeInfo, PgValueRef, Plain, Type};
 use std::alloc::{AllocError, Global};
 
 /// A share in percent, an `int4`.
@@ -73,22 +71,22 @@ impl Encode for Percent {
 /// back.
 impl Plain for Percent {
     ghost use Rattle.std.specs.Prelude.{ℤ, refl};
-    ghost use Rattle.pgv.specs.Words.{plainly};
-    ghost use Rattle.pgv_examples.specs.Percents.{percent_back, percent_image, percent_reading, percent_refusal};
+    ghost use Rattle.pgv.specs.Words.{plainly, without_memory};
+    ghost use Rattle.pgv_examples.specs.Percents.{parse_percent, percent_back, percent_image};
 
-    ghost Meaning = { ℤ };
+    ghost View = { ℤ };
 
-    ghost meaning = { λ percent. percent.number };
+    ghost view = { λ percent. percent.number };
 
-    ghost reading = { percent_reading };
+    ghost parse = { without_memory parse_percent };
+
+    ghost null = { λ _ _. refl };
 
     ghost written = { plainly percent_image };
 
-    ghost refusal = { percent_refusal };
-
     fn read(alloc: Global, value: PgValueRef<'_>) -> Result<Percent, CodecError> {
         let percent = Percent {
-            number: i32::decode(alloc, value)?,
+            number: i32::read(alloc, value)?,
         };
         percent.check()?;
         Ok(percent)

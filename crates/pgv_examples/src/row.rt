@@ -1,8 +1,7 @@
 //! Reads a row column by column: values, values that may be null, and one that is kept after the row is gone.
 
 ghost use Rattle.std.specs.Prelude.{◌≡◌, ℕ, List, Some, None, IfOk};
-ghost use Rattle.std.specs.Int.{w32};
-ghost use Rattle.pgv.specs.Words.{Part, Binary, front, int_reading, builtin};
+ghost use Rattle.pgv.specs.Words.{Part, Binary, front, builtin};
 
 use pgv::{CodecError, Decode, PgType, PgTypeInfo, PgValue, PgValueFormat, PgValueRef};
 use std::alloc::Global;
@@ -31,7 +30,7 @@ pub struct Person {
 
 /// A row of an `int4` and a `text` that may be null; more columns may follow.
 pub fn read_person(alloc: Global, row: &[u8]) -> Result<Person, CodecError>
-    ensures first { IfOk result (λ person. (id : Part) × (rest : List ℕ) × (front row.now ≡ Some (id, rest)) × (int_reading w32 (builtin 23) Binary id ≡ Some person.id)) }
+    ensures first { IfOk result (λ person. (id : Part) × (rest : List ℕ) × (front row.now ≡ Some (id, rest)) × (⟦<i32 as Decode>⟧.reading (builtin 23) Binary id ≡ Some person.id)) }
     ensures second { IfOk result (λ person. (id : Part) × (rest : List ℕ) × (name : Part) × (more : List ℕ) × (front row.now ≡ Some (id, rest)) × (front rest ≡ Some (name, more)) × (⟦<Option<String> as Decode>⟧.reading (builtin 25) Binary name ≡ Some (⟦<Option<String> as Decode>⟧.meaning person.name))) }
 {
     let mut rest = row;

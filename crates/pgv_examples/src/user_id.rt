@@ -1,8 +1,8 @@
 //! A newtype over a number: each impl is that of `i32`.
 
 use pgv::{
-    CodecError, Decode, Encode, IsNull, PgArgumentBuffer, PgHasArrayType, PgTypeInfo, PgValueRef,
-    Plain, Type,
+    CodecError, Encode, IsNull, PgArgumentBuffer, PgHasArrayType, PgTypeInfo, PgValueRef, Plain,
+    Type,
 };
 use std::alloc::{AllocError, Global};
 
@@ -58,20 +58,20 @@ impl Encode for UserId {
 /// Read as its number, and what is written of it comes back under every type.
 impl Plain for UserId {
     ghost use Rattle.std.specs.Prelude.{refl};
-    ghost use Rattle.pgv.specs.Words.{int4_back, int_refusal};
+    ghost use Rattle.pgv.specs.Words.{int4_back};
 
-    ghost Meaning = { ⟦<i32 as Decode>⟧.Meaning };
+    ghost View = { ⟦<i32 as Plain>⟧.View };
 
-    ghost meaning = { λ id. ⟦<i32 as Decode>⟧.meaning id.0 };
+    ghost view = { λ id. ⟦<i32 as Plain>⟧.view id.0 };
 
-    ghost reading = { ⟦<i32 as Decode>⟧.reading };
+    ghost parse = { ⟦<i32 as Plain>⟧.parse };
 
-    ghost written = { ⟦<i32 as Decode>⟧.written };
+    ghost null = { λ _ _. refl };
 
-    ghost refusal = { int_refusal };
+    ghost written = { ⟦<i32 as Plain>⟧.written };
 
     fn read(alloc: Global, value: PgValueRef<'_>) -> Result<UserId, CodecError> {
-        Ok(UserId(i32::decode(alloc, value)?))
+        Ok(UserId(i32::read(alloc, value)?))
     }
 
     ghost reads_back = { λ id. int4_back id.0 };

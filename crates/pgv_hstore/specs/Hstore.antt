@@ -17,8 +17,6 @@ use Rattle.std.specs.Ordering.{nat_cmp}
 use Rattle.pgv_buf.specs.Tokens.{Token, bytes, be4}
 use Rattle.pgv_codec.specs.Image.{Image, image_of, limit}
 use Rattle.pgv_value.specs.FrameBinary.{Part, front}
-use Rattle.pgv_value.specs.Reading.{Reading}
-use Rattle.pgv_value.specs.ScalarGrammar.{binary_alone}
 use Rattle.pgv_value.specs.Steps.{◌>>=◌, number}
 use Rattle.pgv_value.specs.Utf8.{is_utf8}
 use Rattle.pgv_value.specs.declared.error.CodecError.{CodecError}
@@ -142,6 +140,3 @@ put_read into n form = pairs n form >>= λ ps. Some (put_all into ps)
 
 abbrev pub hstore_in_binary : List ℕ → Option (List Pair)
 hstore_in_binary form = number form >>= λ count. if nat_lt limit count.0 then None else put_read [] count.0 count.1
-
-abbrev pub hstore_reading : Reading (List Pair)
-hstore_reading = binary_alone hstore_in_binary

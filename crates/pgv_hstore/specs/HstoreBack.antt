@@ -16,14 +16,16 @@ use Rattle.std.proofs.lemmas.Str.{IsUtf8-had, utf8_valid_len-IsUtf8}
 use Rattle.pgv_buf.specs.Tokens.{bytes, be4}
 use Rattle.pgv_value.proofs.Fronts.{frame_in_front}
 use Rattle.pgv_value.specs.FrameBinary.{Part, front}
+use Rattle.pgv_value.specs.Outcome.{reading_of}
 use Rattle.pgv_value.specs.Utf8.{is_utf8}
 use Rattle.pgv_value.specs.declared.value.PgValueFormat.TheVariants.{Binary}
 use Rattle.pgv_value.proofs.Numbers.{number_there}
 use Rattle.pgv_codec.specs.Back.{ReadsBack, always}
 use Rattle.pgv_codec.specs.BackParts.{guarded}
-use Rattle.pgv_codec.specs.BackScalars.{part_is}
+use Rattle.pgv_codec.specs.BackScalars.{is_read, part_is}
 use Rattle.pgv_codec.specs.Image.{image_of, limit}
-use Rattle.pgv_hstore.specs.Hstore.{Pair, pair_of, pairs_of, order, part_form, pair_form, hstore_form, part_fits, pair_fits, hstore_image, key_front, value_front, pair_front, pairs, put_all, hstore_in_binary, hstore_reading}
+use Rattle.pgv_hstore.specs.Hstore.{Pair, pair_of, pairs_of, order, part_form, pair_form, hstore_form, part_fits, pair_fits, hstore_image, key_front, value_front, pair_front, pairs, put_all, hstore_in_binary}
+use Rattle.pgv_hstore.specs.HstoreRefusal.{parse_hstore}
 use Rattle.pgv_hstore.specs.declared.hstore.PgHstore.{PgHstore}
 
 -- ---- a pair is read from its form, whatever comes after it
@@ -121,7 +123,7 @@ are_pairs (e ∷ es) fits =
 few_pairs : (n : ℕ) → nat_le n limit ≡ true → n < 2 ^ 31
 few_pairs n e = grind (arith, nat_tests)
 
-pub hstore_back : ReadsBack {A = PgHstore} (λ h. hstore_image (pairs_of h)) hstore_reading pairs_of always
+pub hstore_back : ReadsBack {A = PgHstore} (λ h. hstore_image (pairs_of h)) (reading_of parse_hstore) pairs_of always
 hstore_back h i t p os e whole small fit =
     let ps = pairs_of h in
     let form = hstore_form ps in
@@ -129,6 +131,7 @@ hstore_back h i t p os e whole small fit =
     let sorted = and_parts (is_sorted order ps) (nat_le (length ps) limit && list_all pair_fits ps) g.0 in
     let lengths = and_parts (nat_le (length ps) limit) (list_all pair_fits ps) sorted.1 in
     let read = hstore_there ps [] (few_pairs (length ps) lengths.0) (are_pairs h.0.entries lengths.1) in
-    ap (λ (part : Part). hstore_reading t Binary part) (part_is form i p os g.1)
-    ∙ ap (λ (rest : List ℕ). hstore_in_binary (be4 (length ps) ++ rest)) (sym (append-nil (flat_map pair_form ps))) ∙ read
-    ∙ ap (λ (qs : List Pair). Some qs) (put_after [] ps sorted.0)
+    let again =
+    ap (λ (rest : List ℕ). hstore_in_binary (be4 (length ps) ++ rest)) (sym (append-nil (flat_map pair_form ps))) ∙ read
+    ∙ ap (λ (qs : List Pair). Some qs) (put_after [] ps sorted.0) in
+    ap (λ (part : Part). reading_of parse_hstore t Binary part) (part_is form i p os g.1) ∙ is_read _ _ _ _ again

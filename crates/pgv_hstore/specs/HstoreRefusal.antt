@@ -6,15 +6,14 @@ use Rattle.std.specs.Prelude.{ℕ, zero, suc, nat_lt, Bool, false, if◌then◌e
 use Rattle.std.specs.Int.{w32, cast_signed}
 use Rattle.pgv_codec.specs.Image.{limit}
 use Rattle.pgv_value.specs.FrameBinary.{Part, front, frame_fault}
-use Rattle.pgv_value.specs.ScalarGrammar.{refusal_alone}
+use Rattle.pgv_value.specs.Formats.{in_binary_alone}
+use Rattle.pgv_value.specs.Outcome.{Outcome, read_or}
+use Rattle.pgv_value.specs.ValueView.{Given}
 use Rattle.pgv_value.specs.Steps.{number}
 use Rattle.pgv_value.specs.declared.error.CodecError.{CodecError}
 use Rattle.pgv_value.specs.declared.error.CodecError.TheVariants.{Utf8, Short, HstoreLength, HstoreNullKey}
-use Rattle.pgv_value.specs.declared.value.PgValueFormat.{PgValueFormat}
-use Rattle.pgv_value.specs.declared.value.PgValueFormat.TheVariants.{Text, Binary}
-use Rattle.pgv_types.specs.Ty.{Ty}
 use Rattle.pgv_nest.specs.NestRefusals.{refusal_or}
-use Rattle.pgv_hstore.specs.Hstore.{key_front, value_front}
+use Rattle.pgv_hstore.specs.Hstore.{Pair, hstore_in_binary, key_front, value_front}
 
 -- a frame that is no key: null is C35, and bytes that aren't UTF-8 are C14
 abbrev pub key_refusal_of : Part × List ℕ → CodecError
@@ -40,9 +39,6 @@ abbrev pub hstore_binary_refusal : List ℕ → CodecError
 hstore_binary_refusal form =
     refusal_or Short (number form) (λ count. if nat_lt limit count.0 then HstoreLength (cast_signed w32 count.0) else pairs_refusal count.0 count.1)
 
-abbrev pub hstore_refusal : PgValueFormat → Option (List ℕ) → CodecError
-hstore_refusal = refusal_alone hstore_binary_refusal
-
 -- Where memory is asked for: after the first key was there.
 abbrev pub pairs_take : ℕ → List ℕ → Bool
 pairs_take zero form = false
@@ -51,7 +47,6 @@ pairs_take (suc n) form = is_some (key_front form)
 abbrev pub hstore_binary_takes : List ℕ → Bool
 hstore_binary_takes form = refusal_or false (number form) (λ count. if nat_lt limit count.0 then false else pairs_take count.0 count.1)
 
-abbrev pub hstore_takes : Ty → PgValueFormat → Option (List ℕ) → Bool
-hstore_takes t f None = false
-hstore_takes t Text (Some bytes) = false
-hstore_takes t Binary (Some bytes) = hstore_binary_takes bytes
+-- a map, in binary alone
+abbrev pub parse_hstore : Given → Outcome (List Pair)
+parse_hstore = in_binary_alone (λ form. read_or (hstore_in_binary form) (hstore_binary_refusal form) (hstore_binary_takes form))

@@ -4,13 +4,13 @@ ghost use Rattle.std.specs.Prelude.{◌≡◌, codes, List};
 ghost use Rattle.pgv_types.specs.Ty.{array_of, named, Ty};
 ghost use Rattle.pgv_types.specs.Relations.{softly};
 ghost use Rattle.std.specs.Iterator.{AlwaysYields};
-ghost use Rattle.pgv_codec.specs.TypeRow.{IsRefusedAs, IsWrittenAs};
-ghost use Rattle.pgv_hstore.specs.Hstore.{hstore_asks_first, hstore_image, hstore_reading, hstore_refused, pairs_of};
-ghost use Rattle.pgv_hstore.specs.HstoreRefusal.{hstore_refusal, hstore_takes};
+ghost use Rattle.pgv_codec.specs.TypeRow.{IsWrittenAs};
+ghost use Rattle.pgv_hstore.specs.Hstore.{hstore_asks_first, hstore_image, hstore_refused, pairs_of};
+ghost use Rattle.pgv_hstore.specs.HstoreRefusal.{parse_hstore};
 ghost use Rattle.pgv_hstore.specs.Laws.{HstoreIsRead, HstoresAreEqual, OneHstore};
 ghost use Rattle.pgv_types.specs.declared.oid.Oid.{Oid};
 
-use pgv_codec::{Decode, Encode, PgHasArrayType, ReadBack, Type};
+use pgv_codec::{Decode, Encode, PgHasArrayType, Plain, ReadBack, Type};
 use std::collections::btree_map;
 
 /// A `PgHstore` is an hstore, known by its name, with its pairs in the order of the keys. Its arrays are arrays of the
@@ -22,10 +22,8 @@ pub fn hstore_is_an_hstore()
     ensures accepts_arrays { (t : Ty) → ⟦<crate::PgHstore as PgHasArrayType>⟧.accepts_array t ≡ softly t (array_of (codes "hstore")) }
     ensures written { IsWrittenAs (λ h. hstore_image (pairs_of h)) ⟦<crate::PgHstore as Encode>⟧.hint ⟦<crate::PgHstore as Encode>⟧.image ⟦<crate::PgHstore as Encode>⟧.produced }
     ensures means { ⟦<crate::PgHstore as Decode>⟧.meaning ≡ pairs_of }
-    ensures read { ⟦<crate::PgHstore as Decode>⟧.reading ≡ hstore_reading }
+    ensures parsed { ⟦<crate::PgHstore as Plain>⟧.parse ≡ parse_hstore }
     ensures unwritten { (⟦<crate::PgHstore as Encode>⟧.unwritable ≡ (λ h. hstore_refused (pairs_of h))) × (⟦<crate::PgHstore as Encode>⟧.asks_first ≡ (λ h. hstore_asks_first (pairs_of h))) }
-    ensures refused { IsRefusedAs hstore_refusal ⟦<crate::PgHstore as Decode>⟧.refusal }
-    ensures takes_memory { ⟦<crate::PgHstore as Decode>⟧.takes_memory ≡ hstore_takes }
 {}
 
 /// `hstore_in_binary` reads a map from bytes iff the bytes begin with a binary form of this map.

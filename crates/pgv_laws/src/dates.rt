@@ -3,14 +3,14 @@
 
 ghost use Rattle.std.specs.Prelude.{◌≡◌, ◌*◌, ◌/◌, None};
 ghost use Rattle.jiff.specs.Words.{civil_nanos, epoch_day, time_nanos};
-ghost use Rattle.pgv_value.specs.DateTimeBinary.{date_reading, date_time_reading, instant_reading, nanos_after, time_reading};
-ghost use Rattle.pgv_value.specs.ScalarGrammar.{whole_or_syntax_refusal};
+ghost use Rattle.pgv_value.specs.Outcome.{without_memory};
+ghost use Rattle.pgv_value.specs.DateTimeBinary.{parse_date, parse_date_time, parse_instant, nanos_after, parse_time};
 ghost use Rattle.pgv_codec.specs.DateTimeBinary.{date_image, micros_of, moment_image, time_image};
-ghost use Rattle.pgv_codec.specs.TypeRow.{IsBuiltIn, IsRefusedAs, TakesNone};
+ghost use Rattle.pgv_codec.specs.TypeRow.{IsBuiltIn};
 
 use jiff::Timestamp;
 use jiff::civil::{Date, DateTime, Time};
-use pgv_codec::{Decode, Encode, PgHasArrayType, ReadBack, Type};
+use pgv_codec::{Decode, Encode, PgHasArrayType, Plain, ReadBack, Type};
 
 /// A `Date` is a date (OID 1082), its days in four bytes, as `00002279` for 2024-02-29. Its arrays are `date[]` (1182).
 pub fn date_is_a_date()
@@ -20,8 +20,7 @@ pub fn date_is_a_date()
     ensures hint { ⟦<Date as Encode>⟧.hint ≡ (λ _. 4) }
     ensures produced { ⟦<Date as Encode>⟧.produced ≡ (λ _. None) }
     ensures means { ⟦<Date as Decode>⟧.meaning ≡ (λ v. epoch_day v) }
-    ensures read { ⟦<Date as Decode>⟧.reading ≡ date_reading }
-    ensures refused { IsRefusedAs whole_or_syntax_refusal ⟦<Date as Decode>⟧.refusal × TakesNone ⟦<Date as Decode>⟧.takes_memory }
+    ensures parsed { ⟦<Date as Plain>⟧.parse ≡ without_memory parse_date }
 {}
 
 /// A `Time` is a time (OID 1083), its microseconds in eight bytes, as `0000000a7a358200` for 12:30. Its arrays are
@@ -34,8 +33,7 @@ pub fn time_is_a_time()
     ensures hint { ⟦<Time as Encode>⟧.hint ≡ (λ _. 8) }
     ensures produced { ⟦<Time as Encode>⟧.produced ≡ (λ _. None) }
     ensures means { ⟦<Time as Decode>⟧.meaning ≡ (λ v. time_nanos v) }
-    ensures read { ⟦<Time as Decode>⟧.reading ≡ time_reading }
-    ensures refused { IsRefusedAs whole_or_syntax_refusal ⟦<Time as Decode>⟧.refusal × TakesNone ⟦<Time as Decode>⟧.takes_memory }
+    ensures parsed { ⟦<Time as Plain>⟧.parse ≡ without_memory parse_time }
     ensures kept { (v : Time) → time_nanos (⟦<Time as ReadBack>⟧.kept v) ≡ time_nanos v / 1000 * 1000 }
 {}
 
@@ -49,8 +47,7 @@ pub fn date_time_is_a_timestamp()
     ensures hint { ⟦<DateTime as Encode>⟧.hint ≡ (λ _. 8) }
     ensures produced { ⟦<DateTime as Encode>⟧.produced ≡ (λ _. None) }
     ensures means { ⟦<DateTime as Decode>⟧.meaning ≡ (λ v. civil_nanos v) }
-    ensures read { ⟦<DateTime as Decode>⟧.reading ≡ date_time_reading }
-    ensures refused { IsRefusedAs whole_or_syntax_refusal ⟦<DateTime as Decode>⟧.refusal × TakesNone ⟦<DateTime as Decode>⟧.takes_memory }
+    ensures parsed { ⟦<DateTime as Plain>⟧.parse ≡ without_memory parse_date_time }
     ensures kept { (v : DateTime) → nanos_after (micros_of (civil_nanos v)) ≡ civil_nanos (⟦<DateTime as ReadBack>⟧.kept v) }
 {}
 
@@ -63,7 +60,6 @@ pub fn timestamp_is_a_timestamptz()
     ensures hint { ⟦<Timestamp as Encode>⟧.hint ≡ (λ _. 8) }
     ensures produced { ⟦<Timestamp as Encode>⟧.produced ≡ (λ _. None) }
     ensures means { ⟦<Timestamp as Decode>⟧.meaning ≡ (λ v. v.nanosecond) }
-    ensures read { ⟦<Timestamp as Decode>⟧.reading ≡ instant_reading }
-    ensures refused { IsRefusedAs whole_or_syntax_refusal ⟦<Timestamp as Decode>⟧.refusal × TakesNone ⟦<Timestamp as Decode>⟧.takes_memory }
+    ensures parsed { ⟦<Timestamp as Plain>⟧.parse ≡ without_memory parse_instant }
     ensures kept { (v : Timestamp) → (⟦<Timestamp as ReadBack>⟧.kept v).nanosecond ≡ nanos_after (micros_of v.nanosecond) }
 {}

@@ -3,12 +3,13 @@
 ghost use Rattle.std.specs.Prelude.{◌≡◌, false, pos, Some, None};
 ghost use Rattle.std.specs.Duration.{as_nanos};
 ghost use Rattle.jiff.specs.Words.{signed_nanos};
-ghost use Rattle.pgv_value.specs.Interval.{interval_reading, short_refusal};
+ghost use Rattle.pgv_value.specs.Outcome.{without_memory};
+ghost use Rattle.pgv_value.specs.Interval.{parse_interval};
 ghost use Rattle.pgv_codec.specs.Intervals.{interval_image, duration_image, duration_refused};
-ghost use Rattle.pgv_codec.specs.TypeRow.{IsBuiltIn, IsRefusedAs, TakesNone};
+ghost use Rattle.pgv_codec.specs.TypeRow.{IsBuiltIn};
 
 use jiff::SignedDuration;
-use pgv_codec::{Decode, Encode, PgHasArrayType, Type};
+use pgv_codec::{Decode, Encode, PgHasArrayType, Plain, Type};
 use pgv_value::PgInterval;
 use std::time::Duration;
 
@@ -21,8 +22,7 @@ pub fn pg_interval_is_an_interval()
     ensures hint { ⟦<PgInterval as Encode>⟧.hint ≡ (λ _. 16) }
     ensures produced { ⟦<PgInterval as Encode>⟧.produced ≡ (λ _. None) }
     ensures means { ⟦<PgInterval as Decode>⟧.meaning ≡ (λ v. v) }
-    ensures read { ⟦<PgInterval as Decode>⟧.reading ≡ interval_reading }
-    ensures refused { IsRefusedAs short_refusal ⟦<PgInterval as Decode>⟧.refusal × TakesNone ⟦<PgInterval as Decode>⟧.takes_memory }
+    ensures parsed { ⟦<PgInterval as Plain>⟧.parse ≡ without_memory parse_interval }
 {}
 
 /// A `Duration` is an interval (OID 1186) of its microseconds, if they are whole and fit in 64 bits; else it is refused

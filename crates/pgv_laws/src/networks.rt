@@ -3,11 +3,11 @@
 ghost use Rattle.std.specs.Prelude.{◌≡◌, None};
 ghost use Rattle.pgv_types.specs.Ty.{Ty, builtin};
 ghost use Rattle.pgv_text.specs.NetworkText.{network_of};
-ghost use Rattle.pgv_value.specs.NetworkBinary.{address_reading, address_refusal, network_reading, network_refusal};
-ghost use Rattle.pgv_codec.specs.TypeRow.{IsRefusedAs, TakesNone};
+ghost use Rattle.pgv_value.specs.Outcome.{without_memory};
+ghost use Rattle.pgv_value.specs.NetworkBinary.{parse_address, parse_network};
 ghost use Rattle.pgv_codec.specs.NetworkBinary.{address_hint, address_image, is_network, is_network_array, network_hint, network_image};
 
-use pgv_codec::{Decode, Encode, PgHasArrayType, Type};
+use pgv_codec::{Decode, Encode, PgHasArrayType, Plain, Type};
 use pgv_text::IpNetwork;
 use std::net::IpAddr;
 
@@ -22,8 +22,7 @@ pub fn network_is_an_inet()
     ensures hint { ⟦<IpNetwork as Encode>⟧.hint ≡ (λ v. network_hint (network_of v)) }
     ensures produced { ⟦<IpNetwork as Encode>⟧.produced ≡ (λ _. None) }
     ensures means { ⟦<IpNetwork as Decode>⟧.meaning ≡ network_of }
-    ensures read { ⟦<IpNetwork as Decode>⟧.reading ≡ network_reading }
-    ensures refused { IsRefusedAs network_refusal ⟦<IpNetwork as Decode>⟧.refusal × TakesNone ⟦<IpNetwork as Decode>⟧.takes_memory }
+    ensures parsed { ⟦<IpNetwork as Plain>⟧.parse ≡ without_memory parse_network }
 {}
 
 /// An `IpAddr` is an inet of all its bits, as `022000040a000001` for `10.0.0.1`. It is read under cidr and inet. Its
@@ -37,6 +36,5 @@ pub fn address_is_an_inet()
     ensures hint { ⟦<IpAddr as Encode>⟧.hint ≡ address_hint }
     ensures produced { ⟦<IpAddr as Encode>⟧.produced ≡ (λ _. None) }
     ensures means { ⟦<IpAddr as Decode>⟧.meaning ≡ (λ v. v) }
-    ensures read { ⟦<IpAddr as Decode>⟧.reading ≡ address_reading }
-    ensures refused { IsRefusedAs address_refusal ⟦<IpAddr as Decode>⟧.refusal × TakesNone ⟦<IpAddr as Decode>⟧.takes_memory }
+    ensures parsed { ⟦<IpAddr as Plain>⟧.parse ≡ without_memory parse_address }
 {}

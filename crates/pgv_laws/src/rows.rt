@@ -9,18 +9,18 @@ ghost use Rattle.std.specs.Prelude.{◌≡◌, option_map, string_bytes, map};
 ghost use Rattle.std.specs.Int.{w8, w16, w32, w64};
 ghost use Rattle.pgv_types.specs.Ty.{Ty, builtin};
 ghost use Rattle.pgv_types.specs.declared.oid.Oid.{Oid};
-ghost use Rattle.pgv_value.specs.Reading.{has_items};
-ghost use Rattle.pgv_value.specs.ScalarGrammar.{bool_reading, bool_refusal, char_reading, int_reading, int_refusal, oid_reading, oid_refusal, text_reading, uuid_reading, uuid_refusal, whole_or_syntax_refusal};
-ghost use Rattle.pgv_value.specs.Utf8.{text_refusal};
+ghost use Rattle.pgv_value.specs.Outcome.{error_of, reading_of, takes_of, without_memory};
+ghost use Rattle.pgv_value.specs.ScalarGrammar.{parse_bool, parse_char, parse_int, parse_oid, parse_uuid};
+ghost use Rattle.pgv_value.specs.Utf8.{parse_text};
 ghost use Rattle.pgv_nest.specs.ArrayGrammar.{array, array_of_length};
 ghost use Rattle.pgv_codec.specs.Image.{array_image, sized_image, option_image, option_hint, option_produced};
 ghost use Rattle.pgv_codec.specs.Nullable.{nullable};
 ghost use Rattle.pgv_nest.specs.NestRefusals.{array_of_length_refusal, array_refusal, array_takes};
 ghost use Rattle.pgv_codec.specs.Refusing.{array_asks_first, array_refused, nullable_refusal, nullable_takes, option_asks_first, option_unwritable};
-ghost use Rattle.pgv_codec.specs.TypeRow.{IsBuiltIn, IsRefusedAs, IsWrittenAs, TakesNone};
+ghost use Rattle.pgv_codec.specs.TypeRow.{IsBuiltIn, IsWrittenAs};
 ghost use Rattle.pgv_codec.specs.ScalarBinary.{bool_image, signed_image, unsigned_image, text_image, uuid_image, is_text, is_text_array};
 
-use pgv_codec::{Decode, Encode, PgHasArrayType, Type};
+use pgv_codec::{Decode, Encode, PgHasArrayType, Plain, Type};
 
 /// A `bool` is a boolean (OID 16), written as the byte 00 or 01, as `01` for true. Its arrays are `bool[]` (1000).
 pub fn bool_is_a_boolean()
@@ -28,8 +28,7 @@ pub fn bool_is_a_boolean()
     ensures arrays { IsBuiltIn 1000 ⟦<bool as PgHasArrayType>⟧.array_info ⟦<bool as PgHasArrayType>⟧.accepts_array }
     ensures written { IsWrittenAs bool_image ⟦<bool as Encode>⟧.hint ⟦<bool as Encode>⟧.image ⟦<bool as Encode>⟧.produced }
     ensures means { ⟦<bool as Decode>⟧.meaning ≡ (λ v. v) }
-    ensures read { ⟦<bool as Decode>⟧.reading ≡ bool_reading }
-    ensures refused { IsRefusedAs bool_refusal ⟦<bool as Decode>⟧.refusal × TakesNone ⟦<bool as Decode>⟧.takes_memory }
+    ensures parsed { ⟦<bool as Plain>⟧.parse ≡ without_memory parse_bool }
 {}
 
 /// An `i8` is a `"char"` (OID 18), one byte in two's complement, as `ff` for -1. Its arrays are `"char"[]` (1002).
@@ -38,8 +37,7 @@ pub fn i8_is_a_char()
     ensures arrays { IsBuiltIn 1002 ⟦<i8 as PgHasArrayType>⟧.array_info ⟦<i8 as PgHasArrayType>⟧.accepts_array }
     ensures written { IsWrittenAs (signed_image w8) ⟦<i8 as Encode>⟧.hint ⟦<i8 as Encode>⟧.image ⟦<i8 as Encode>⟧.produced }
     ensures means { ⟦<i8 as Decode>⟧.meaning ≡ (λ v. v) }
-    ensures read { ⟦<i8 as Decode>⟧.reading ≡ char_reading }
-    ensures refused { IsRefusedAs whole_or_syntax_refusal ⟦<i8 as Decode>⟧.refusal × TakesNone ⟦<i8 as Decode>⟧.takes_memory }
+    ensures parsed { ⟦<i8 as Plain>⟧.parse ≡ without_memory parse_char }
 {}
 
 /// An `i16` is an int2 (OID 21), two bytes, as `0007` for 7. Its arrays are `int2[]` (1005).
@@ -48,8 +46,7 @@ pub fn i16_is_an_int2()
     ensures arrays { IsBuiltIn 1005 ⟦<i16 as PgHasArrayType>⟧.array_info ⟦<i16 as PgHasArrayType>⟧.accepts_array }
     ensures written { IsWrittenAs (signed_image w16) ⟦<i16 as Encode>⟧.hint ⟦<i16 as Encode>⟧.image ⟦<i16 as Encode>⟧.produced }
     ensures means { ⟦<i16 as Decode>⟧.meaning ≡ (λ v. v) }
-    ensures read { ⟦<i16 as Decode>⟧.reading ≡ int_reading w16 }
-    ensures refused { IsRefusedAs int_refusal ⟦<i16 as Decode>⟧.refusal × TakesNone ⟦<i16 as Decode>⟧.takes_memory }
+    ensures parsed { ⟦<i16 as Plain>⟧.parse ≡ without_memory (parse_int w16) }
 {}
 
 /// An `i32` is an int4 (OID 23), four bytes, as `00000007` for 7. Its arrays are `int4[]` (1007).
@@ -58,8 +55,7 @@ pub fn i32_is_an_int4()
     ensures arrays { IsBuiltIn 1007 ⟦<i32 as PgHasArrayType>⟧.array_info ⟦<i32 as PgHasArrayType>⟧.accepts_array }
     ensures written { IsWrittenAs (signed_image w32) ⟦<i32 as Encode>⟧.hint ⟦<i32 as Encode>⟧.image ⟦<i32 as Encode>⟧.produced }
     ensures means { ⟦<i32 as Decode>⟧.meaning ≡ (λ v. v) }
-    ensures read { ⟦<i32 as Decode>⟧.reading ≡ int_reading w32 }
-    ensures refused { IsRefusedAs int_refusal ⟦<i32 as Decode>⟧.refusal × TakesNone ⟦<i32 as Decode>⟧.takes_memory }
+    ensures parsed { ⟦<i32 as Plain>⟧.parse ≡ without_memory (parse_int w32) }
 {}
 
 /// An `i64` is an int8 (OID 20), eight bytes, as `0000000000000007` for 7. Its arrays are `int8[]` (1016).
@@ -68,8 +64,7 @@ pub fn i64_is_an_int8()
     ensures arrays { IsBuiltIn 1016 ⟦<i64 as PgHasArrayType>⟧.array_info ⟦<i64 as PgHasArrayType>⟧.accepts_array }
     ensures written { IsWrittenAs (signed_image w64) ⟦<i64 as Encode>⟧.hint ⟦<i64 as Encode>⟧.image ⟦<i64 as Encode>⟧.produced }
     ensures means { ⟦<i64 as Decode>⟧.meaning ≡ (λ v. v) }
-    ensures read { ⟦<i64 as Decode>⟧.reading ≡ int_reading w64 }
-    ensures refused { IsRefusedAs int_refusal ⟦<i64 as Decode>⟧.refusal × TakesNone ⟦<i64 as Decode>⟧.takes_memory }
+    ensures parsed { ⟦<i64 as Plain>⟧.parse ≡ without_memory (parse_int w64) }
 {}
 
 /// An `Oid` is an oid (OID 26), four bytes, as `00000019` for that of text. Its arrays are `oid[]` (1028).
@@ -78,8 +73,7 @@ pub fn oid_is_an_oid()
     ensures arrays { IsBuiltIn 1028 ⟦<pgv_types::Oid as PgHasArrayType>⟧.array_info ⟦<pgv_types::Oid as PgHasArrayType>⟧.accepts_array }
     ensures written { IsWrittenAs (λ o. unsigned_image w32 o.0) ⟦<pgv_types::Oid as Encode>⟧.hint ⟦<pgv_types::Oid as Encode>⟧.image ⟦<pgv_types::Oid as Encode>⟧.produced }
     ensures means { ⟦<pgv_types::Oid as Decode>⟧.meaning ≡ (λ o. o.0) }
-    ensures read { ⟦<pgv_types::Oid as Decode>⟧.reading ≡ oid_reading }
-    ensures refused { IsRefusedAs oid_refusal ⟦<pgv_types::Oid as Decode>⟧.refusal × TakesNone ⟦<pgv_types::Oid as Decode>⟧.takes_memory }
+    ensures parsed { ⟦<pgv_types::Oid as Plain>⟧.parse ≡ without_memory parse_oid }
 {}
 
 /// A `Uuid` is a uuid (OID 2950), its sixteen bytes. Its arrays are `uuid[]` (2951).
@@ -88,8 +82,7 @@ pub fn uuid_is_a_uuid()
     ensures arrays { IsBuiltIn 2951 ⟦<uuid::Uuid as PgHasArrayType>⟧.array_info ⟦<uuid::Uuid as PgHasArrayType>⟧.accepts_array }
     ensures written { IsWrittenAs uuid_image ⟦<uuid::Uuid as Encode>⟧.hint ⟦<uuid::Uuid as Encode>⟧.image ⟦<uuid::Uuid as Encode>⟧.produced }
     ensures means { ⟦<uuid::Uuid as Decode>⟧.meaning ≡ (λ v. v) }
-    ensures read { ⟦<uuid::Uuid as Decode>⟧.reading ≡ uuid_reading }
-    ensures refused { IsRefusedAs uuid_refusal ⟦<uuid::Uuid as Decode>⟧.refusal × TakesNone ⟦<uuid::Uuid as Decode>⟧.takes_memory }
+    ensures parsed { ⟦<uuid::Uuid as Plain>⟧.parse ≡ without_memory parse_uuid }
 {}
 
 /// A `String` is a text (OID 25), its bytes in UTF-8, as `6869` for `hi`. It is read under text, name, bpchar, varchar,
@@ -101,9 +94,16 @@ pub fn string_is_a_text()
     ensures accepts_arrays { (t : Ty) → ⟦<String as PgHasArrayType>⟧.accepts_array t ≡ is_text_array t }
     ensures written { IsWrittenAs (λ s. text_image (string_bytes s)) ⟦<String as Encode>⟧.hint ⟦<String as Encode>⟧.image ⟦<String as Encode>⟧.produced }
     ensures means { ⟦<String as Decode>⟧.meaning ≡ (λ s. string_bytes s) }
-    ensures read { ⟦<String as Decode>⟧.reading ≡ text_reading }
-    ensures refused { IsRefusedAs text_refusal ⟦<String as Decode>⟧.refusal }
-    ensures takes_memory { ⟦<String as Decode>⟧.takes_memory ≡ (λ t f bytes. has_items (text_reading t f bytes)) }
+    ensures parsed { ⟦<String as Plain>⟧.parse ≡ parse_text }
+{}
+
+/// What the decoder of a plain type reads, what it refuses with and where it may ask for memory are the three parts of
+/// the type's one grammar.
+pub fn plain_types_are_parsed<T: Plain>()
+    ensures means { ⟦<T as Decode>⟧.meaning ≡ T.view }
+    ensures read { ⟦<T as Decode>⟧.reading ≡ reading_of T.parse }
+    ensures refused { ⟦<T as Decode>⟧.refusal ≡ error_of T.parse }
+    ensures takes_memory { ⟦<T as Decode>⟧.takes_memory ≡ takes_of T.parse }
 {}
 
 /// An `Option<T>` has the types of `T`. None is null, Some is written as its value, and null is read as None.

@@ -9,10 +9,11 @@ use Rattle.pgv_types.specs.Ty.{Ty}
 use Rattle.pgv_types.specs.declared.oid.Oid.{Oid}
 use Rattle.pgv_buf.specs.Tokens.{bytes}
 use Rattle.pgv_value.specs.FrameBinary.{Part}
+use Rattle.pgv_value.specs.Outcome.{reading_of}
 use Rattle.pgv_value.specs.declared.value.PgValueFormat.TheVariants.{Binary}
 use Rattle.pgv_codec.specs.Back.{ReadsBack}
 use Rattle.pgv_codec.specs.BackParts.{guarded}
-use Rattle.pgv_codec.specs.BackScalars.{part_is}
+use Rattle.pgv_codec.specs.BackScalars.{is_read, part_is}
 use Rattle.pgv_codec.specs.Image.{image_of}
 use Rattle.pgv_ltree.specs.Ascii.{ascii_is_utf8}
 use Rattle.pgv_ltree.specs.Joins.{other_char}
@@ -21,7 +22,7 @@ use Rattle.pgv_ltree.specs.PrintedAgain.{label_chars}
 use Rattle.pgv_lquery.specs.LevelAgain.{BeginsPlainly, EachNeeds, NeedsFirst, query_again}
 use Rattle.pgv_lquery.specs.PrintedAscii.{query_ascii}
 use Rattle.pgv_lquery.specs.Queries.{Variant, Level, star, one_of, none_of, is_level, is_query, is_variant}
-use Rattle.pgv_lquery.specs.QueryCodec.{query_image, query_in_binary, query_reading}
+use Rattle.pgv_lquery.specs.QueryCodec.{query_image, query_in_binary, parse_query}
 use Rattle.pgv_lquery.specs.QueryPrinted.{printed_marks, printed_query, printed_variant}
 use Rattle.pgv_lquery.specs.QueryRead.{is_nil, query_read}
 
@@ -72,7 +73,7 @@ printed_again (l ∷ levels) e c = query_again l levels e (each_needs (l ∷ lev
 binary_again : (levels : List Level) → is_query levels ≡ true → comes_back levels ≡ true → query_in_binary (1 ∷ printed_query levels) ≡ Some levels
 binary_again levels e c = rw (ascii_is_utf8 (printed_query levels) (query_ascii levels e)) (ap result_ok (printed_again levels e c))
 
-pub query_back : ReadsBack query_image query_reading (λ levels. levels) query_fits
+pub query_back : ReadsBack query_image (reading_of parse_query) (λ levels. levels) query_fits
 query_back levels i t p os e whole small fit =
     let g = guarded (is_query levels) (Some (image_of (bytes (1 ∷ printed_query levels)))) i e in
-    ap (λ (part : Part). query_reading t Binary part) (part_is (1 ∷ printed_query levels) i p os g.1) ∙ binary_again levels g.0 fit
+    ap (λ (part : Part). reading_of parse_query t Binary part) (part_is (1 ∷ printed_query levels) i p os g.1) ∙ is_read _ _ _ _ (binary_again levels g.0 fit)

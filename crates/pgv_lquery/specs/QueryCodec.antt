@@ -1,21 +1,19 @@
 -- What queries are written as and read from (PostgreSQL: appendix F, "ltree"; lquery_send, lquery_recv): the version 1
 -- in one byte, and then the printed text. In text they are read from their text alone. In binary the text is UTF-8.
 -- There is no image if a label in the query is invalid.
-use Rattle.std.specs.Prelude.{ℕ, Bool, false, ◌&&◌, codes, if◌then◌else◌, List, ◌∷◌, Option, Some, None, Result, Ok, Err}
+use Rattle.std.specs.Prelude.{ℕ, Bool, false, codes, if◌then◌else◌, List, ◌∷◌, Option, Some, None, Result, Ok, Err}
 use Rattle.std.specs.Option.{option_and_then}
 use Rattle.std.specs.Result.{result_ok}
 use Rattle.pgv_types.specs.Ty.{Ty, named}
 use Rattle.pgv_buf.specs.Tokens.{bytes}
 use Rattle.pgv_codec.specs.Image.{Image, image_of}
-use Rattle.pgv_value.specs.Reading.{Reading}
-use Rattle.pgv_value.specs.ScalarGrammar.{scalar, refusal}
+use Rattle.pgv_value.specs.Formats.{in_both_formats}
+use Rattle.pgv_value.specs.Outcome.{Outcome, read_or}
+use Rattle.pgv_value.specs.ValueView.{Given}
 use Rattle.pgv_value.specs.declared.error.CodecError.{CodecError}
 use Rattle.pgv_value.specs.declared.error.CodecError.TheVariants.{LQuery}
 use Rattle.pgv_value.specs.declared.tree_error.PgLQueryParseError.{PgLQueryParseError}
 use Rattle.pgv_value.specs.declared.tree_error.PgLQueryParseError.TheVariants.{EmptyString, InvalidLqueryVersion}
-use Rattle.pgv_value.specs.declared.value.PgValueFormat.{PgValueFormat}
-use Rattle.pgv_value.specs.declared.value.PgValueFormat.TheVariants.{Text, Binary}
-use Rattle.pgv_value.specs.Utf8.{is_utf8}
 use Rattle.pgv_ltree.specs.TreesCodec.{version_fault, versioned}
 use Rattle.pgv_lquery.specs.Queries.{Level, is_query}
 use Rattle.pgv_lquery.specs.QueryPrinted.{printed_query}
@@ -39,9 +37,6 @@ query_in_text text = result_ok (query_read text)
 abbrev pub query_in_binary : List ℕ → Option (List Level)
 query_in_binary form = option_and_then query_in_text (versioned form)
 
-abbrev pub query_reading : Reading (List Level)
-query_reading = scalar query_in_binary query_in_text
-
 -- why a text is refused; of one that is read this says nothing
 abbrev pub query_fault : Result (List Level) PgLQueryParseError → CodecError
 query_fault (Ok levels) = LQuery EmptyString
@@ -55,15 +50,13 @@ fault_after_version form (Some text) = query_fault (query_read text)
 abbrev pub query_binary_refusal : List ℕ → CodecError
 query_binary_refusal form = fault_after_version form (versioned form)
 
-abbrev pub query_refusal : PgValueFormat → Option (List ℕ) → CodecError
-query_refusal = refusal query_binary_refusal (λ text. query_fault (query_read text))
-
 -- Where memory is asked for: of a text that begins with a level, as far as its first variant says.
 abbrev pub text_takes : Option (List ℕ) → Bool
 text_takes None = false
 text_takes (Some text) = begins_with_level text
 
-abbrev pub query_takes : Ty → PgValueFormat → Option (List ℕ) → Bool
-query_takes t f None = false
-query_takes t Text (Some text) = is_utf8 text && begins_with_level text
-query_takes t Binary (Some form) = text_takes (versioned form)
+-- a query in either format
+abbrev pub parse_query : Given → Outcome (List Level)
+parse_query =
+    in_both_formats (λ form. read_or (query_in_binary form) (query_binary_refusal form) (text_takes (versioned form)))
+    (λ text. read_or (query_in_text text) (query_fault (query_read text)) (begins_with_level text))

@@ -7,12 +7,12 @@ ghost use Rattle.std.specs.Iterator.{AlwaysYields};
 ghost use Rattle.pgv_types.specs.Ty.{Ty};
 ghost use Rattle.pgv_types.specs.Relations.{softly};
 ghost use Rattle.pgv_types.specs.declared.oid.Oid.{Oid};
-ghost use Rattle.pgv_codec.specs.TypeRow.{IsRefusedAs};
+ghost use Rattle.pgv_value.specs.Outcome.{reading_of, error_of, takes_of};
 ghost use Rattle.pgv_lquery.specs.Laws.{LevelIsRead, OneLevel, OneQuery, OneVariant, PrintedQueryIsRead, QueryIsRead, ReadQueryIsReadAgain, VariantIsRead};
 ghost use Rattle.pgv_lquery.specs.LevelView.{level_of};
 ghost use Rattle.pgv_lquery.specs.Queries.{Level, is_count, is_level, is_query, is_variant};
 ghost use Rattle.pgv_lquery.specs.QueryBack.{query_fits};
-ghost use Rattle.pgv_lquery.specs.QueryCodec.{lquery, lquery_array, query_image, query_reading, query_refusal, query_takes};
+ghost use Rattle.pgv_lquery.specs.QueryCodec.{lquery, lquery_array, query_image, parse_query};
 
 use pgv_codec::{Decode, Encode, PgHasArrayType, ReadBack, Type};
 
@@ -28,9 +28,9 @@ pub fn lquery_is_an_lquery()
     ensures hint { (v : List Level) → ⟦<crate::PgLQuery as Encode>⟧.hint v ≡ 0 }
     ensures produced { (v : List Level) → ⟦<crate::PgLQuery as Encode>⟧.produced v ≡ None }
     ensures means { ⟦<crate::PgLQuery as Decode>⟧.meaning ≡ (λ v. v) }
-    ensures read { ⟦<crate::PgLQuery as Decode>⟧.reading ≡ query_reading }
-    ensures refused { IsRefusedAs query_refusal ⟦<crate::PgLQuery as Decode>⟧.refusal }
-    ensures takes_memory { ⟦<crate::PgLQuery as Decode>⟧.takes_memory ≡ query_takes }
+    ensures read { ⟦<crate::PgLQuery as Decode>⟧.reading ≡ reading_of parse_query }
+    ensures refused { ⟦<crate::PgLQuery as Decode>⟧.refusal ≡ error_of parse_query }
+    ensures takes_memory { ⟦<crate::PgLQuery as Decode>⟧.takes_memory ≡ takes_of parse_query }
     ensures kept { ⟦<crate::PgLQuery as ReadBack>⟧.kept ≡ (λ v. v) }
     ensures fits { (v : List Level) (t : Ty) (os : List Oid) → query_fits v t os → ⟦<crate::PgLQuery as ReadBack>⟧.fits v t os }
 {}

@@ -5,10 +5,11 @@ use Rattle.std.specs.Result.{result_ok}
 use Rattle.std.proofs.Common.{ap, ◌∙◌}
 use Rattle.pgv_buf.specs.Tokens.{bytes}
 use Rattle.pgv_value.specs.FrameBinary.{Part}
+use Rattle.pgv_value.specs.Outcome.{reading_of}
 use Rattle.pgv_value.specs.declared.value.PgValueFormat.TheVariants.{Binary}
 use Rattle.pgv_codec.specs.Back.{ReadsBack, always}
 use Rattle.pgv_codec.specs.BackParts.{guarded}
-use Rattle.pgv_codec.specs.BackScalars.{part_is}
+use Rattle.pgv_codec.specs.BackScalars.{is_read, part_is}
 use Rattle.pgv_codec.specs.Image.{image_of}
 use Rattle.pgv_ltree.specs.Ascii.{are_ascii, ascii_is_utf8, ascii_joined, is_ascii}
 use Rattle.pgv_ltree.specs.Joins.{wider}
@@ -16,7 +17,7 @@ use Rattle.pgv_ltree.specs.Labels.{is_label, is_label_char}
 use Rattle.pgv_ltree.specs.LabelChars.{char_is_ascii}
 use Rattle.pgv_ltree.specs.PrintedAgain.{label_chars, tree_again}
 use Rattle.pgv_ltree.specs.Trees.{printed_tree}
-use Rattle.pgv_ltree.specs.TreesCodec.{tree_image, tree_in_binary, tree_in_text, tree_reading}
+use Rattle.pgv_ltree.specs.TreesCodec.{parse_tree, tree_image, tree_in_binary, tree_in_text}
 
 -- the labels that come back
 abbrev pub tree_kept : List (List ℕ) → List (List ℕ)
@@ -34,7 +35,7 @@ binary_again : (labels : List (List ℕ)) → list_all is_label labels ≡ true 
 binary_again labels e =
     rw (ascii_is_utf8 (printed_tree labels) (ascii_joined 46 refl labels (wider is_label are_ascii label_is_ascii labels e))) (text_again labels e)
 
-pub tree_back : ReadsBack tree_image tree_reading tree_kept always
+pub tree_back : ReadsBack tree_image (reading_of parse_tree) tree_kept always
 tree_back labels i t p os e whole small fit =
     let g = guarded (list_all is_label labels) (Some (image_of (bytes (1 ∷ printed_tree labels)))) i e in
-    ap (λ (part : Part). tree_reading t Binary part) (part_is (1 ∷ printed_tree labels) i p os g.1) ∙ binary_again labels g.0
+    ap (λ (part : Part). reading_of parse_tree t Binary part) (part_is (1 ∷ printed_tree labels) i p os g.1) ∙ is_read _ _ _ _ (binary_again labels g.0)

@@ -1,21 +1,20 @@
 -- What trees of labels are written as and read from (PostgreSQL: appendix F, "ltree"; ltree_send, ltree_recv): the
 -- version 1 in one byte, and then the printed text. In text they are read from their text alone. In binary the text is
 -- UTF-8. There is no image if a label in the tree is invalid.
-use Rattle.std.specs.Prelude.{ℕ, Bool, false, ◌&&◌, ◌==◌, codes, if◌then◌else◌, List, [], ◌∷◌, Option, Some, None, is_some}
+use Rattle.std.specs.Prelude.{ℕ, Bool, false, ◌==◌, codes, if◌then◌else◌, List, [], ◌∷◌, Option, Some, None, is_some}
 use Rattle.std.specs.List.{list_all}
 use Rattle.std.specs.Option.{option_and_then}
 use Rattle.std.specs.Result.{result_ok}
 use Rattle.pgv_types.specs.Ty.{Ty, named}
 use Rattle.pgv_buf.specs.Tokens.{bytes}
 use Rattle.pgv_codec.specs.Image.{Image, image_of}
-use Rattle.pgv_value.specs.Reading.{Reading}
-use Rattle.pgv_value.specs.ScalarGrammar.{scalar, refusal}
+use Rattle.pgv_value.specs.Formats.{in_both_formats}
+use Rattle.pgv_value.specs.Outcome.{Outcome, read_or}
+use Rattle.pgv_value.specs.ValueView.{Given}
 use Rattle.pgv_value.specs.Utf8.{is_utf8}
 use Rattle.pgv_value.specs.declared.error.CodecError.{CodecError}
 use Rattle.pgv_value.specs.declared.error.CodecError.TheVariants.{Short, Utf8, LTree}
 use Rattle.pgv_value.specs.declared.tree_error.PgLTreeParseError.TheVariants.{InvalidLtreeLabel, InvalidLtreeVersion}
-use Rattle.pgv_value.specs.declared.value.PgValueFormat.{PgValueFormat}
-use Rattle.pgv_value.specs.declared.value.PgValueFormat.TheVariants.{Text, Binary}
 use Rattle.pgv_ltree.specs.Labels.{is_label}
 use Rattle.pgv_ltree.specs.Trees.{begins_with_label, printed_tree, tree_read}
 
@@ -42,9 +41,6 @@ tree_in_text text = result_ok (tree_read text)
 abbrev pub tree_in_binary : List ℕ → Option (List (List ℕ))
 tree_in_binary form = option_and_then tree_in_text (versioned form)
 
-abbrev pub tree_reading : Reading (List (List ℕ))
-tree_reading = scalar tree_in_binary tree_in_text
-
 -- why there is no text: no bytes at all are C15, another version is what is given, and other bytes than UTF-8 are C14
 abbrev pub version_fault : CodecError → List ℕ → CodecError
 version_fault wrong_version [] = Short
@@ -54,15 +50,13 @@ version_fault wrong_version (version ∷ text) = if version == 1 then Utf8 else 
 abbrev pub tree_binary_refusal : List ℕ → CodecError
 tree_binary_refusal form = if is_some (versioned form) then LTree InvalidLtreeLabel else version_fault (LTree InvalidLtreeVersion) form
 
-abbrev pub tree_refusal : PgValueFormat → Option (List ℕ) → CodecError
-tree_refusal = refusal tree_binary_refusal (λ _. LTree InvalidLtreeLabel)
-
 -- Where memory is asked for: of a text whose first label is one.
 abbrev pub text_takes : Option (List ℕ) → Bool
 text_takes None = false
 text_takes (Some text) = begins_with_label text
 
-abbrev pub tree_takes : Ty → PgValueFormat → Option (List ℕ) → Bool
-tree_takes t f None = false
-tree_takes t Text (Some text) = is_utf8 text && begins_with_label text
-tree_takes t Binary (Some form) = text_takes (versioned form)
+-- a tree in either format
+abbrev pub parse_tree : Given → Outcome (List (List ℕ))
+parse_tree =
+    in_both_formats (λ form. read_or (tree_in_binary form) (tree_binary_refusal form) (text_takes (versioned form)))
+    (λ text. read_or (tree_in_text text) (LTree InvalidLtreeLabel) (begins_with_label text))

@@ -6,13 +6,12 @@ ghost use Rattle.std.specs.Iterator.{AlwaysYields};
 ghost use Rattle.pgv_types.specs.Ty.{Ty};
 ghost use Rattle.pgv_types.specs.Relations.{softly};
 ghost use Rattle.pgv_types.specs.declared.oid.Oid.{Oid};
-ghost use Rattle.pgv_codec.specs.TypeRow.{IsRefusedAs};
 ghost use Rattle.pgv_ltree.specs.Labels.{is_label};
 ghost use Rattle.pgv_ltree.specs.Laws.{OneTree, PrintedTreeIsRead, TreeIsRead};
 ghost use Rattle.pgv_ltree.specs.TreesBack.{tree_kept};
-ghost use Rattle.pgv_ltree.specs.TreesCodec.{ltree, ltree_array, tree_image, tree_reading, tree_refusal, tree_takes};
+ghost use Rattle.pgv_ltree.specs.TreesCodec.{ltree, ltree_array, parse_tree, tree_image};
 
-use pgv_codec::{Decode, Encode, PgHasArrayType, ReadBack, Type};
+use pgv_codec::{Decode, Encode, PgHasArrayType, Plain, ReadBack, Type};
 
 /// A `PgLTree` is an `ltree`, known by its name: the version 1 and its text, as `01612e62` for `a.b`. Its arrays are
 /// `_ltree`, known by their name. A tree without labels is read back as one empty label.
@@ -25,9 +24,7 @@ pub fn ltree_is_an_ltree()
     ensures hint { (v : List (List ℕ)) → ⟦<crate::PgLTree as Encode>⟧.hint v ≡ 0 }
     ensures produced { (v : List (List ℕ)) → ⟦<crate::PgLTree as Encode>⟧.produced v ≡ None }
     ensures means { ⟦<crate::PgLTree as Decode>⟧.meaning ≡ (λ v. v) }
-    ensures read { ⟦<crate::PgLTree as Decode>⟧.reading ≡ tree_reading }
-    ensures refused { IsRefusedAs tree_refusal ⟦<crate::PgLTree as Decode>⟧.refusal }
-    ensures takes_memory { ⟦<crate::PgLTree as Decode>⟧.takes_memory ≡ tree_takes }
+    ensures parsed { ⟦<crate::PgLTree as Plain>⟧.parse ≡ parse_tree }
     ensures kept { ⟦<crate::PgLTree as ReadBack>⟧.kept ≡ tree_kept }
     ensures fits { (v : List (List ℕ)) (t : Ty) (os : List Oid) → ⟦<crate::PgLTree as ReadBack>⟧.fits v t os }
 {}

@@ -8,13 +8,14 @@ use Rattle.std.proofs.lemmas.Nat.{from_be_bytes-to_be_bytes_4}
 use Rattle.pgv_buf.specs.Tokens.{bytes, be4}
 use Rattle.pgv_codec.specs.Back.{ReadsBack, always}
 use Rattle.pgv_codec.specs.BackParts.{guarded}
-use Rattle.pgv_codec.specs.BackScalars.{part_is}
+use Rattle.pgv_codec.specs.BackScalars.{is_read, part_is}
 use Rattle.pgv_codec.specs.Image.{image_of}
+use Rattle.pgv_value.specs.Outcome.{reading_of}
 use Rattle.pgv_value.specs.FrameBinary.{Part}
 use Rattle.pgv_value.specs.declared.value.PgValueFormat.TheVariants.{Binary}
 use Rattle.pgv_more.specs.Bits.{bits_of, byte_count, packed}
 use Rattle.pgv_more.specs.BitsBinary.{bits_image, bits_in_binary, bit_count}
-use Rattle.pgv_more.specs.BitsCodec.{bits_reading}
+use Rattle.pgv_more.specs.BitsCodec.{parse_bits}
 use Rattle.pgv_more.specs.Packing.{length-bits_of, length-bytes_of, packed_again}
 
 -- the bits of a number and of bytes that begin with them
@@ -35,7 +36,8 @@ binary_again bits few =
     let parts : all ≡ bits ++ drop n all = sym (take-append-drop n all) ∙ ap (λ (bs : List Bool). bs ++ drop n all) (packed_again bits) in
     binary_there bits (drop n all) (packed bits) (omega arith) (omega (arith, room, length-drop n all)) parts
 
-pub bits_back : ReadsBack bits_image bits_reading (λ bits. bits) always
+pub bits_back : ReadsBack bits_image (reading_of parse_bits) (λ bits. bits) always
 bits_back bits i t p os e whole small fit =
     let g = guarded (nat_le (length bits) 2147483647) (Some (image_of (bytes (be4 (length bits) ++ packed bits)))) i e in
-    ap (λ (part : Part). bits_reading t Binary part) (part_is (be4 (length bits) ++ packed bits) i p os g.1) ∙ binary_again bits (leb-true (length bits) 2147483647 g.0)
+    ap (λ (part : Part). reading_of parse_bits t Binary part) (part_is (be4 (length bits) ++ packed bits) i p os g.1)
+    ∙ is_read _ _ _ _ (binary_again bits (leb-true (length bits) 2147483647 g.0))

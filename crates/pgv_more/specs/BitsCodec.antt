@@ -1,12 +1,12 @@
 -- What lists of bits are (PostgreSQL: "Bit String Types"): their types, and what is read in either format.
-use Rattle.std.specs.Prelude.{ℕ, Bool, List, [], ◌∷◌, Option}
+use Rattle.std.specs.Prelude.{Bool, List, [], ◌∷◌}
 use Rattle.pgv_types.specs.Ty.{Ty, builtin}
 use Rattle.pgv_codec.specs.ScalarBinary.{softly_one_of}
-use Rattle.pgv_value.specs.Reading.{Reading}
-use Rattle.pgv_value.specs.ScalarGrammar.{scalar, refusal}
-use Rattle.pgv_value.specs.declared.error.CodecError.{CodecError}
+use Rattle.pgv_value.specs.Formats.{in_both_formats}
+use Rattle.pgv_value.specs.Outcome.{Outcome, read_or}
+use Rattle.pgv_value.specs.Reading.{has_items}
+use Rattle.pgv_value.specs.ValueView.{Given}
 use Rattle.pgv_value.specs.declared.error.CodecError.TheVariants.{Syntax}
-use Rattle.pgv_value.specs.declared.value.PgValueFormat.{PgValueFormat}
 use Rattle.pgv_more.specs.BitsBinary.{bits_in_binary, bits_binary_refusal}
 use Rattle.pgv_more.specs.BitsText.{bits_in_text}
 
@@ -18,8 +18,8 @@ is_bits t = softly_one_of (builtin 1560 ∷ builtin 1562 ∷ []) t
 abbrev pub is_bits_array : Ty → Bool
 is_bits_array t = softly_one_of (builtin 1561 ∷ builtin 1563 ∷ []) t
 
-abbrev pub bits_reading : Reading (List Bool)
-bits_reading = scalar bits_in_binary bits_in_text
-
-abbrev pub bits_refusal : PgValueFormat → Option (List ℕ) → CodecError
-bits_refusal = refusal bits_binary_refusal (λ _. Syntax)
+-- memory is asked for where there are bits
+abbrev pub parse_bits : Given → Outcome (List Bool)
+parse_bits =
+    in_both_formats (λ form. read_or (bits_in_binary form) (bits_binary_refusal form) (has_items (bits_in_binary form)))
+    (λ text. read_or (bits_in_text text) Syntax (has_items (bits_in_text text)))

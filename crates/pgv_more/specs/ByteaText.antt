@@ -3,14 +3,15 @@
 -- Read: in binary any bytes. A text is `\x` and two hex digits of either case for each byte, the high one first
 -- (`IsByteaText`). Of N bytes another number is refused with C17, and a text that stands for no bytes with C29. Text without
 -- case is read as `text` is. Law: `bytea_text_is_read`.
-use Rattle.std.specs.Prelude.{◌≡◌, ◌↔◌, ℕ, ◌==◌, ◌&&◌, nat_eq, Bool, List, [], ◌∷◌, length, Option, Some, None, Result, Ok, Err, if◌then◌else◌}
+use Rattle.std.specs.Prelude.{◌≡◌, ◌↔◌, ℕ, ◌==◌, ◌&&◌, nat_eq, Bool, List, [], ◌∷◌, length, Option, Some, None, Result, Ok, Err, ok_or, if◌then◌else◌}
 use Rattle.std.specs.Option.{option_and_then}
 use Rattle.std.specs.List.{list_all}
 use Rattle.hex.specs.Hex.{decode_of, is_hex_digit}
 use Rattle.pgv_buf.specs.Tokens.{bytes}
 use Rattle.pgv_codec.specs.Image.{Image, image_of}
-use Rattle.pgv_value.specs.Reading.{Reading}
-use Rattle.pgv_value.specs.declared.error.CodecError.{CodecError}
+use Rattle.pgv_value.specs.Outcome.{Outcome, copied}
+use Rattle.pgv_value.specs.Parsed.{Parsed, ◌>>=◌}
+use Rattle.pgv_value.specs.ValueView.{Given}
 use Rattle.pgv_value.specs.declared.error.CodecError.TheVariants.{UnexpectedNull, Syntax, WrongLength}
 use Rattle.pgv_value.specs.declared.value.PgValueFormat.{PgValueFormat}
 use Rattle.pgv_value.specs.declared.value.PgValueFormat.TheVariants.{Text, Binary}
@@ -42,34 +43,26 @@ where_ok (Err e) = None
 abbrev pub bytea_in_text : List ℕ → Option (List ℕ)
 bytea_in_text text = option_and_then (λ digits. where_ok (decode_of digits)) (digits_after text)
 
--- in binary the bytes as they are; a text isn't tested for UTF-8
-abbrev pub bytea_reading : Reading (List ℕ)
-bytea_reading t f None = None
-bytea_reading t Text (Some text) = bytea_in_text text
-bytea_reading t Binary (Some value) = Some value
+-- in binary the bytes as they are; a text isn't tested for UTF-8, and one that stands for no bytes is C29
+abbrev pub bytea_part : PgValueFormat → Option (List ℕ) → Parsed (List ℕ)
+bytea_part f None = Err UnexpectedNull
+bytea_part Text (Some text) = ok_or (bytea_in_text text) Syntax
+bytea_part Binary (Some value) = Ok value
 
-abbrev pub bytea_refusal : PgValueFormat → Option (List ℕ) → CodecError
-bytea_refusal f None = UnexpectedNull
-bytea_refusal f (Some text) = Syntax
+abbrev pub parse_bytea : Given → Outcome (List ℕ)
+parse_bytea v = copied (bytea_part v.format v.bytes)
 
 -- ---- strings of n bytes
 
-abbrev pub of_length : ℕ → Option (List ℕ) → Option (List ℕ)
-of_length n None = None
-of_length n (Some value) = if nat_eq (length value) n then Some value else None
+-- another number of them is C17
+abbrev pub of_length : ℕ → List ℕ → Parsed (List ℕ)
+of_length n value = if nat_eq (length value) n then Ok value else Err (WrongLength (length value))
 
-abbrev pub sized_reading : ℕ → Reading (List ℕ)
-sized_reading n t f part = of_length n (bytea_reading t f part)
+abbrev pub sized_in_text : ℕ → List ℕ → Parsed (List ℕ)
+sized_in_text n text = ok_or (bytea_in_text text) Syntax >>= of_length n
 
--- a text that stands for no bytes is C29, and bytes of another length are C17
-abbrev pub length_refusal : Option (List ℕ) → CodecError
-length_refusal None = Syntax
-length_refusal (Some value) = WrongLength (length value)
-
-abbrev pub sized_refusal : PgValueFormat → Option (List ℕ) → CodecError
-sized_refusal f None = UnexpectedNull
-sized_refusal Text (Some text) = length_refusal (bytea_in_text text)
-sized_refusal Binary (Some value) = WrongLength (length value)
+abbrev pub parse_sized : ℕ → Given → Parsed (List ℕ)
+parse_sized n v = bytea_part v.format v.bytes >>= of_length n
 
 -- a list of another length is not one of their values
 abbrev pub sized_image : ℕ → List ℕ → Option Image

@@ -1,7 +1,6 @@
 -- What is written of a time of day with an offset is read back, in whole microseconds; its offset comes back as it is
 -- (`time_tz_kept`).
-use Rattle.std.specs.Prelude.{◌≡◌, zero, suc, ◌/◌, nat_lt, Bool, true, false, if◌then◌else◌, ℤ, pos, negsuc, neg_ℤ, unsigned_abs, List, Option, Some, None, refl}
-use Rattle.std.specs.Option.{option_and_then}
+use Rattle.std.specs.Prelude.{◌≡◌, ℕ, zero, suc, ◌/◌, nat_lt, Bool, true, false, if◌then◌else◌, ℤ, pos, negsuc, neg_ℤ, unsigned_abs, List, Option, Some, None, Ok, ok_or, refl}
 use Rattle.std.specs.Int.{w32, w64}
 use Rattle.std.proofs.Common.{ap, ◌∙◌, arith}
 use Rattle.std.proofs.lemmas.Bool.{ltb-true, lt-ltb}
@@ -11,7 +10,10 @@ use Rattle.pgv_types.specs.declared.oid.Oid.{Oid}
 use Rattle.pgv_buf.specs.Tokens.{bytes}
 use Rattle.pgv_value.specs.FrameBinary.{Part}
 use Rattle.pgv_value.specs.NumberBinary.{fits_signed}
+use Rattle.pgv_value.specs.Outcome.{ok_of, reading_of, stated, without_memory}
+use Rattle.pgv_value.specs.Parsed.{Parsed, ◌>>=◌}
 use Rattle.pgv_value.specs.OwnBytes.{eight_again, four_again}
+use Rattle.pgv_value.specs.declared.error.CodecError.TheVariants.{Short}
 use Rattle.pgv_value.specs.declared.value.PgValueFormat.TheVariants.{Binary}
 use Rattle.pgv_codec.specs.Back.{ReadsBack, always}
 use Rattle.pgv_codec.specs.BackParts.{guarded}
@@ -20,7 +22,7 @@ use Rattle.pgv_codec.specs.DateTimeBack.{time_again}
 use Rattle.pgv_codec.specs.DateTimeKept.{time_kept}
 use Rattle.pgv_codec.specs.Image.{Image, image_of}
 use Rattle.pgv_codec.specs.Writing.{written_part}
-use Rattle.pgv_more.specs.TimeTzCodec.{time_tz_numbers, time_tz_image, time_tz_reading, image_of_numbers, bytes_of_numbers, other_way, two_numbers, time_tz_of, time_tz_in_binary}
+use Rattle.pgv_more.specs.TimeTzCodec.{time_tz_numbers, time_tz_image, parse_time_tz, image_of_numbers, bytes_of_numbers, other_way, two_numbers, time_tz_of, time_tz_in_binary}
 use Rattle.pgv_more.specs.declared.time_tz.PgTimeTz.{PgTimeTz}
 
 -- the time is cut to microseconds, and the offset is kept
@@ -70,14 +72,14 @@ written micros seconds i p os e =
 -- ---- read back
 
 again : (v : PgTimeTz) → fits_signed w64 (pos (time_nanos v.time / 1000)) ≡ true → nat_lt (unsigned_abs v.offset.seconds) 86_400 ≡ true →
-    time_tz_in_binary (bytes_of_numbers (pos (time_nanos v.time / 1000)) (neg_ℤ v.offset.seconds)) ≡ Some (time_tz_numbers (time_tz_kept v))
+    time_tz_in_binary (bytes_of_numbers (pos (time_nanos v.time / 1000)) (neg_ℤ v.offset.seconds)) ≡ Ok (time_tz_numbers (time_tz_kept v))
 again v room small =
     let west = neg_ℤ v.offset.seconds in
     let less = turned_small v.offset.seconds small in
-    ap (option_and_then time_tz_of) (numbers_again (pos (time_nanos v.time / 1000)) west room (offset_room west less))
+    ap (λ (o : Option (ℤ × ℤ)). (let p : Parsed (ℤ × ℤ) = ok_or o Short in p) >>= time_tz_of) (numbers_again (pos (time_nanos v.time / 1000)) west room (offset_room west less))
     ∙ rw (less, turned_again v.offset.seconds, time_again v.time) refl
 
-pub time_tz_back : ReadsBack {A = PgTimeTz} (λ v. time_tz_image (time_tz_numbers v)) time_tz_reading (λ v. time_tz_numbers (time_tz_kept v)) always
+pub time_tz_back : ReadsBack {A = PgTimeTz} (λ v. time_tz_image (time_tz_numbers v)) (reading_of (without_memory parse_time_tz)) (λ v. time_tz_numbers (time_tz_kept v)) always
 time_tz_back v i t p os e whole small fit =
     let w = written (pos (time_nanos v.time / 1000)) v.offset.seconds i p os e in
-    ap (λ (part : Part). time_tz_reading t Binary part) w.part ∙ again v w.room w.small
+    ap (λ (part : Part). reading_of (without_memory parse_time_tz) t Binary part) w.part ∙ ap (λ (p : Parsed (ℕ × ℤ)). ok_of (stated p)) (again v w.room w.small)

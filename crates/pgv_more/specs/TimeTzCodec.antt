@@ -5,8 +5,7 @@
 -- Read in binary: the first twelve bytes (C15), whatever comes after them. They are the microseconds of the day, taken round
 -- the clock, and the seconds west of UTC, less than 86400 in size (C6, with the seconds that the bytes have). In text: a time
 -- and an offset (`time_tz_value`).
-use Rattle.std.specs.Prelude.{ℕ, ◌/◌, nat_lt, if◌then◌else◌, ℤ, pos, neg_ℤ, unsigned_abs, List, ◌++◌, length, drop, Option, Some, None}
-use Rattle.std.specs.Option.{option_map, option_and_then}
+use Rattle.std.specs.Prelude.{ℕ, ◌/◌, nat_lt, if◌then◌else◌, ℤ, pos, neg_ℤ, unsigned_abs, List, ◌++◌, length, drop, Option, Some, None, Ok, ok_or}
 use Rattle.std.specs.Int.{w32, w64, cast_unsigned, to_be_bytes}
 use Rattle.pgv_text.specs.DateTimeText.{time_tz_value, zoned_numbers}
 use Rattle.pgv_buf.specs.Tokens.{bytes}
@@ -14,11 +13,10 @@ use Rattle.pgv_codec.specs.Image.{Image, image_of}
 use Rattle.pgv_value.specs.DateTimeBinary.{time_after}
 use Rattle.pgv_value.specs.Interval.{eight_bytes, signed_four_bytes}
 use Rattle.pgv_value.specs.NumberBinary.{fits_signed}
-use Rattle.pgv_value.specs.Reading.{Reading}
-use Rattle.pgv_value.specs.ScalarGrammar.{scalar, refusal}
-use Rattle.pgv_value.specs.declared.error.CodecError.{CodecError}
+use Rattle.pgv_value.specs.Parsed.{Parsed, ◌>>=◌}
+use Rattle.pgv_value.specs.ScalarGrammar.{scalar}
+use Rattle.pgv_value.specs.ValueView.{Given}
 use Rattle.pgv_value.specs.declared.error.CodecError.TheVariants.{Short, Syntax, OffsetRange}
-use Rattle.pgv_value.specs.declared.value.PgValueFormat.{PgValueFormat}
 use Rattle.pgv_more.specs.declared.time_tz.PgTimeTz.{PgTimeTz}
 
 -- the nanoseconds of the day, and the seconds east of UTC
@@ -49,21 +47,13 @@ time_tz_image zoned = image_of_numbers (pos (zoned.0 / 1000)) (other_way zoned.1
 abbrev pub two_numbers : List ℕ → Option (ℤ × ℤ)
 two_numbers form = if nat_lt (length form) 12 then None else Some (eight_bytes form, signed_four_bytes (drop 8 form))
 
-abbrev pub time_tz_of : ℤ × ℤ → Option (ℕ × ℤ)
-time_tz_of numbers = option_map (λ east. (time_after numbers.0, east)) (other_way numbers.1)
+-- an offset of a day or more in size is C6
+abbrev pub time_tz_of : ℤ × ℤ → Parsed (ℕ × ℤ)
+time_tz_of numbers = ok_or (other_way numbers.1) (OffsetRange numbers.1) >>= λ east. Ok (time_after numbers.0, east)
 
-abbrev pub time_tz_in_binary : List ℕ → Option (ℕ × ℤ)
-time_tz_in_binary form = option_and_then time_tz_of (two_numbers form)
+-- fewer than twelve bytes are C15
+abbrev pub time_tz_in_binary : List ℕ → Parsed (ℕ × ℤ)
+time_tz_in_binary form = ok_or (two_numbers form) Short >>= time_tz_of
 
-abbrev pub time_tz_reading : Reading (ℕ × ℤ)
-time_tz_reading = scalar time_tz_in_binary time_tz_value
-
--- ---- refused
-
--- fewer than twelve bytes are C15, and else the offset is C6
-abbrev pub offset_refusal : Option (ℤ × ℤ) → CodecError
-offset_refusal None = Short
-offset_refusal (Some numbers) = OffsetRange numbers.1
-
-abbrev pub time_tz_refusal : PgValueFormat → Option (List ℕ) → CodecError
-time_tz_refusal = refusal (λ form. offset_refusal (two_numbers form)) (λ _. Syntax)
+abbrev pub parse_time_tz : Given → Parsed (ℕ × ℤ)
+parse_time_tz = scalar time_tz_in_binary (λ text. ok_or (time_tz_value text) Syntax)

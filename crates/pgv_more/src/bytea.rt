@@ -1,7 +1,7 @@
 //! Strings of bytes (PostgreSQL, "Binary Data Types", bytea).
 
-ghost use Rattle.std.specs.Prelude.{◌≡◌, ◌%◌, ◌==◌, ◌&&◌, [], IfOk, IfErr, IsOk, false, length};
-ghost use Rattle.pgv_value.specs.Reading.{Answers, AnswersExactly, Refuses, has_items};
+ghost use Rattle.std.specs.Prelude.{◌≡◌, ◌%◌, ◌==◌, ◌&&◌, [], IfOk, IsOk, length, ok_or};
+ghost use Rattle.pgv_value.specs.Outcome.{Gives, copied};
 ghost use Rattle.pgv_value.specs.declared.error.CodecError.TheVariants.{Syntax};
 ghost use Rattle.pgv_more.specs.ByteaText.{all_digits, bytea_in_text, digits_after};
 ghost use Rattle.std.specs.Option.{option_copied};
@@ -54,10 +54,7 @@ fn are_pairs(digits: &[u8]) -> bool
 
 /// The bytes of a text `\x00ff`. Pairs of digits are refused only where there is no memory for their bytes, and `\x` needs none.
 fn of_text(alloc: Global, text: &[u8]) -> Result<PgBytea, CodecError>
-    ensures exact { Answers (λ b. b.0.items) (bytea_in_text text.now) result }
-    ensures exactly { has_items (bytea_in_text text.now) ≡ false → AnswersExactly (λ b. b.0.items) (bytea_in_text text.now) result }
-    ensures refused { IfErr result (λ e. Refuses e (e ≡ Syntax)) }
-    ensures refused_exactly { has_items (bytea_in_text text.now) ≡ false → IfErr result (λ e. e ≡ Syntax) }
+    ensures { Gives (λ b. b.0.items) (copied (ok_or (bytea_in_text text.now) Syntax)) result }
 {
     let Some(digits) = digits_of(text) else {
         return Err(CodecError::Syntax);

@@ -5,22 +5,22 @@ ghost use Rattle.std.specs.Prelude.{◌≡◌, ◌↔◌, ℕ, Bool, false, true
 ghost use Rattle.jiff.specs.Words.{time_nanos};
 ghost use Rattle.pgv_types.specs.Ty.{Ty, builtin, named};
 ghost use Rattle.pgv_codec.specs.ScalarBinary.{text_image};
-ghost use Rattle.pgv_codec.specs.TypeRow.{IsBuiltIn, IsRefusedAs, IsWrittenAs, TakesNone};
-ghost use Rattle.pgv_value.specs.Reading.{has_items};
+ghost use Rattle.pgv_codec.specs.TypeRow.{IsBuiltIn, IsWrittenAs};
+ghost use Rattle.pgv_value.specs.Outcome.{without_memory};
 ghost use Rattle.pgv_value.specs.declared.error.CodecError.TheVariants.{OffsetRange};
-ghost use Rattle.pgv_more.specs.ByteaText.{bytea_reading, bytea_refusal, sized_image, sized_reading, sized_refusal, ByteaTextIsRead, OneByteaText};
+ghost use Rattle.pgv_more.specs.ByteaText.{parse_bytea, parse_sized, sized_image, ByteaTextIsRead, OneByteaText};
 ghost use Rattle.pgv_more.specs.BitsBinary.{bits_image, bits_hint, bits_refused, BitsAreRead, OneListOfBits};
 ghost use Rattle.pgv_more.specs.BitsText.{BitsAreReadOfText};
-ghost use Rattle.pgv_more.specs.BitsCodec.{is_bits, is_bits_array, bits_reading, bits_refusal};
+ghost use Rattle.pgv_more.specs.BitsCodec.{is_bits, is_bits_array, parse_bits};
 ghost use Rattle.pgv_more.specs.Laws.{PackedIsOne};
-ghost use Rattle.pgv_more.specs.MacAddressCodec.{mac_image, mac_reading, mac_refusal};
+ghost use Rattle.pgv_more.specs.MacAddressCodec.{mac_image, parse_mac};
 ghost use Rattle.pgv_more.specs.MacAddressText.{MacAddressIsRead, OneMacAddress};
-ghost use Rattle.pgv_more.specs.TimeTzCodec.{time_tz_numbers, time_tz_image, time_tz_reading, time_tz_refusal};
+ghost use Rattle.pgv_more.specs.TimeTzCodec.{time_tz_numbers, time_tz_image, parse_time_tz};
 ghost use Rattle.pgv_codec.specs.DateTimeKept.{time_kept};
 ghost use Rattle.pgv_types.specs.declared.oid.Oid.{Oid};
 
 use crate::{PgBytea, PgCiText, PgTimeTz};
-use pgv_codec::{Decode, Encode, PgHasArrayType, ReadBack, Type};
+use pgv_codec::{Decode, Encode, PgHasArrayType, Plain, ReadBack, Type};
 
 /// A `BitVec` is a varbit (OID 1562), the number of bits and then its bytes, as `00000003a0` for `101`. It is read
 /// under bit and varbit. Its arrays are `varbit[]` (1563), read under arrays of these two.
@@ -33,10 +33,8 @@ pub fn bit_vec_is_a_varbit()
     ensures hint { (v : List Bool) → ⟦<crate::BitVec as Encode>⟧.hint v ≡ bits_hint v }
     ensures produced { (v : List Bool) → ⟦<crate::BitVec as Encode>⟧.produced v ≡ None }
     ensures means { ⟦<crate::BitVec as Decode>⟧.meaning ≡ (λ v. v) }
-    ensures read { ⟦<crate::BitVec as Decode>⟧.reading ≡ bits_reading }
+    ensures parsed { ⟦<crate::BitVec as Plain>⟧.parse ≡ parse_bits }
     ensures unwritten { (v : List Bool) → (⟦<crate::BitVec as Encode>⟧.unwritable v ≡ bits_refused v) × (⟦<crate::BitVec as Encode>⟧.asks_first v ≡ false) }
-    ensures refused { IsRefusedAs bits_refusal ⟦<crate::BitVec as Decode>⟧.refusal }
-    ensures takes_memory { ⟦<crate::BitVec as Decode>⟧.takes_memory ≡ (λ t f bytes. has_items (bits_reading t f bytes)) }
 {}
 
 /// A `MacAddress` is a macaddr (OID 829), its six bytes, as `08002b010203`. Its arrays are `macaddr[]` (1040).
@@ -47,8 +45,7 @@ pub fn mac_address_is_a_macaddr()
     ensures hint { (v : List ℕ) → ⟦<crate::MacAddress as Encode>⟧.hint v ≡ 6 }
     ensures produced { (v : List ℕ) → ⟦<crate::MacAddress as Encode>⟧.produced v ≡ None }
     ensures means { ⟦<crate::MacAddress as Decode>⟧.meaning ≡ (λ v. v) }
-    ensures read { ⟦<crate::MacAddress as Decode>⟧.reading ≡ mac_reading }
-    ensures refused { IsRefusedAs mac_refusal ⟦<crate::MacAddress as Decode>⟧.refusal × TakesNone ⟦<crate::MacAddress as Decode>⟧.takes_memory }
+    ensures parsed { ⟦<crate::MacAddress as Plain>⟧.parse ≡ without_memory parse_mac }
 {}
 
 /// A `PgTimeTz` is a timetz (OID 1266), the microseconds of the day and the seconds west of UTC, as
@@ -60,9 +57,8 @@ pub fn time_tz_is_a_timetz()
     ensures hint { ⟦<crate::PgTimeTz as Encode>⟧.hint ≡ (λ _. 12) }
     ensures produced { ⟦<crate::PgTimeTz as Encode>⟧.produced ≡ (λ _. None) }
     ensures means { ⟦<crate::PgTimeTz as Decode>⟧.meaning ≡ time_tz_numbers }
-    ensures read { ⟦<crate::PgTimeTz as Decode>⟧.reading ≡ time_tz_reading }
+    ensures parsed { ⟦<crate::PgTimeTz as Plain>⟧.parse ≡ without_memory parse_time_tz }
     ensures unwritten { (⟦<crate::PgTimeTz as Encode>⟧.unwritable ≡ (λ v. Some (OffsetRange v.offset.seconds))) × (⟦<crate::PgTimeTz as Encode>⟧.asks_first ≡ (λ _. false)) }
-    ensures refused { IsRefusedAs time_tz_refusal ⟦<crate::PgTimeTz as Decode>⟧.refusal × TakesNone ⟦<crate::PgTimeTz as Decode>⟧.takes_memory }
     ensures kept { ⟦<crate::PgTimeTz as ReadBack>⟧.kept ≡ (λ v. record { time = time_kept v.time; offset = v.offset }) }
 {}
 
@@ -102,9 +98,7 @@ pub fn bytea_is_a_bytea()
     ensures arrays { IsBuiltIn 1001 ⟦<crate::PgBytea as PgHasArrayType>⟧.array_info ⟦<crate::PgBytea as PgHasArrayType>⟧.accepts_array }
     ensures written { IsWrittenAs (λ b. text_image b.0.items) ⟦<crate::PgBytea as Encode>⟧.hint ⟦<crate::PgBytea as Encode>⟧.image ⟦<crate::PgBytea as Encode>⟧.produced }
     ensures means { ⟦<crate::PgBytea as Decode>⟧.meaning ≡ (λ b. b.0.items) }
-    ensures read { ⟦<crate::PgBytea as Decode>⟧.reading ≡ bytea_reading }
-    ensures refused { IsRefusedAs bytea_refusal ⟦<crate::PgBytea as Decode>⟧.refusal }
-    ensures takes_memory { ⟦<crate::PgBytea as Decode>⟧.takes_memory ≡ (λ t f bytes. has_items (bytea_reading t f bytes)) }
+    ensures parsed { ⟦<crate::PgBytea as Plain>⟧.parse ≡ parse_bytea }
 {}
 
 /// A `PgByteaArray<N>` is a bytea (OID 17) of `N` bytes. Its arrays are `bytea[]` (1001).
@@ -113,8 +107,7 @@ pub fn bytea_array_is_a_bytea<const N: usize>()
     ensures arrays { IsBuiltIn 1001 ⟦<crate::PgByteaArray<N> as PgHasArrayType>⟧.array_info ⟦<crate::PgByteaArray<N> as PgHasArrayType>⟧.accepts_array }
     ensures written { IsWrittenAs (λ b. sized_image N b.0) ⟦<crate::PgByteaArray<N> as Encode>⟧.hint ⟦<crate::PgByteaArray<N> as Encode>⟧.image ⟦<crate::PgByteaArray<N> as Encode>⟧.produced }
     ensures means { ⟦<crate::PgByteaArray<N> as Decode>⟧.meaning ≡ (λ b. b.0) }
-    ensures read { ⟦<crate::PgByteaArray<N> as Decode>⟧.reading ≡ sized_reading N }
-    ensures refused { IsRefusedAs sized_refusal ⟦<crate::PgByteaArray<N> as Decode>⟧.refusal × TakesNone ⟦<crate::PgByteaArray<N> as Decode>⟧.takes_memory }
+    ensures parsed { ⟦<crate::PgByteaArray<N> as Plain>⟧.parse ≡ without_memory (parse_sized N) }
 {}
 
 /// A `PgCiText` is a citext, known by its name, written as its bytes and read as a `String` is.
@@ -125,8 +118,7 @@ pub fn ci_text_is_a_citext()
     ensures accepts_arrays { ⟦<crate::PgCiText as PgHasArrayType>⟧.accepts_array ≡ ⟦<String as PgHasArrayType>⟧.accepts_array }
     ensures written { IsWrittenAs (λ text. text_image (string_bytes text.0)) ⟦<crate::PgCiText as Encode>⟧.hint ⟦<crate::PgCiText as Encode>⟧.image ⟦<crate::PgCiText as Encode>⟧.produced }
     ensures means { ⟦<crate::PgCiText as Decode>⟧.meaning ≡ (λ text. string_bytes text.0) }
-    ensures read { ⟦<crate::PgCiText as Decode>⟧.reading ≡ ⟦<String as Decode>⟧.reading }
-    ensures refused { (⟦<crate::PgCiText as Decode>⟧.refusal ≡ ⟦<String as Decode>⟧.refusal) × (⟦<crate::PgCiText as Decode>⟧.takes_memory ≡ ⟦<String as Decode>⟧.takes_memory) }
+    ensures parsed { ⟦<crate::PgCiText as Plain>⟧.parse ≡ ⟦<String as Plain>⟧.parse }
 {}
 
 /// Two values of one of these types are equal iff their parts are: the time of day and the offset, the bytes of the

@@ -7,9 +7,10 @@ ghost use Rattle.pgv_codec.specs.WithHint.{with_hint};
 ghost use Rattle.pgv_types.specs.Relations.{softly};
 ghost use Rattle.pgv_types.specs.Ty.{builtin};
 ghost use Rattle.pgv_text.specs.DateTimeText.{time_tz_value};
-ghost use Rattle.pgv_value.specs.Reading.{AnswersExactly};
+ghost use Rattle.pgv_value.specs.Outcome.{without_memory};
+ghost use Rattle.pgv_value.specs.Parsed.{GivesExactly};
 ghost use Rattle.pgv_value.specs.declared.error.CodecError.TheVariants.{Memory, OffsetRange};
-ghost use Rattle.pgv_more.specs.TimeTzCodec.{time_tz_numbers, time_tz_image, time_tz_in_binary, time_tz_reading, time_tz_refusal, two_numbers, offset_refusal, other_way, image_of_numbers};
+ghost use Rattle.pgv_more.specs.TimeTzCodec.{time_tz_numbers, time_tz_image, time_tz_in_binary, parse_time_tz, two_numbers, other_way, image_of_numbers};
 
 use jiff::civil::Time;
 use jiff::tz::Offset;
@@ -68,8 +69,7 @@ fn numbers_of(form: &[u8]) -> Option<(i64, i32)>
 /// The time and the offset of bytes.
 #[inline(always)]
 fn of_bytes(form: &[u8]) -> Result<PgTimeTz, CodecError>
-    ensures exact { AnswersExactly time_tz_numbers (time_tz_in_binary form.now) result }
-    ensures refused { IfErr result (λ e. e ≡ offset_refusal (two_numbers form.now)) }
+    ensures { GivesExactly time_tz_numbers (time_tz_in_binary form.now) result }
 {
     let Some((micros, west)) = numbers_of(form) else {
         return Err(CodecError::Short);
@@ -171,15 +171,15 @@ impl Encode for PgTimeTz {
 impl Plain for PgTimeTz {
     ghost use Rattle.pgv_more.specs.TimeTzBack.{time_tz_back, time_tz_kept};
 
-    ghost Meaning = { ℕ × ℤ };
+    ghost View = { ℕ × ℤ };
 
-    ghost meaning = { time_tz_numbers };
+    ghost view = { time_tz_numbers };
 
-    ghost reading = { time_tz_reading };
+    ghost parse = { without_memory parse_time_tz };
+
+    ghost null = { λ _ _. refl };
 
     ghost written = { with_hint (λ _. 12) time_tz_image };
-
-    ghost refusal = { time_tz_refusal };
 
     ghost kept = { time_tz_kept };
 

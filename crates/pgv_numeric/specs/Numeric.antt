@@ -9,14 +9,13 @@ use Rattle.std.specs.Int.{w16, cast_signed, cast_unsigned, from_be_bytes, to_be_
 use Rattle.std.specs.List.{flat_map, list_all}
 use Rattle.pgv_buf.specs.Tokens.{Token, bytes}
 use Rattle.pgv_codec.specs.Image.{Image, image_of}
-use Rattle.pgv_types.specs.Ty.{Ty}
 use Rattle.pgv_value.specs.NumberBinary.{fits_signed}
-use Rattle.pgv_value.specs.Reading.{Reading}
-use Rattle.pgv_value.specs.ScalarGrammar.{binary_alone, refusal_alone}
+use Rattle.pgv_value.specs.Formats.{in_binary_alone}
+use Rattle.pgv_value.specs.Outcome.{Outcome, read_or}
+use Rattle.pgv_value.specs.ValueView.{Given}
 use Rattle.pgv_value.specs.Steps.{◌>>=◌}
 use Rattle.pgv_value.specs.declared.error.CodecError.{CodecError}
 use Rattle.pgv_value.specs.declared.error.CodecError.TheVariants.{NumericDigits, NumericDigit, Short, NumericSign}
-use Rattle.pgv_value.specs.declared.value.PgValueFormat.{PgValueFormat}
 use Rattle.pgv_numeric.specs.declared.numeric.PgNumericSign.{PgNumericSign}
 use Rattle.pgv_numeric.specs.declared.numeric.PgNumericSign.TheVariants.{Positive, Negative}
 use Rattle.pgv_numeric.specs.declared.numeric.PgNumeric.{PgNumeric}
@@ -122,12 +121,9 @@ numeric_in_binary form =
     if said_sign form == no_number then Some not_a_number else
     (sign_of (said_sign form) >>= signed_number form)
 
-abbrev pub numeric_reading : Reading Numeric
-numeric_reading = binary_alone numeric_in_binary
-
 -- ---- memory
 
--- digits ask for memory where there is one
+-- only a number with a digit asks for memory
 abbrev pub digits_take : Option (List ℤ) → Bool
 digits_take None = false
 digits_take (Some []) = false
@@ -137,10 +133,6 @@ abbrev pub number_takes : Option Numeric → Bool
 number_takes None = false
 number_takes (Some not_a_number) = false
 number_takes (Some (number sign ds weight scale)) = digits_take (Some ds)
-
--- Whether reading asks for memory: only of a number with a digit.
-abbrev pub numeric_takes : Ty → PgValueFormat → Option (List ℕ) → Bool
-numeric_takes t format bytes = number_takes (numeric_reading t format bytes)
 
 -- ---- refused
 
@@ -152,5 +144,6 @@ sign_refusal said (Some sign) = Short
 abbrev pub numeric_binary_refusal : List ℕ → CodecError
 numeric_binary_refusal form = if nat_lt (length form) 8 then Short else sign_refusal (said_sign form) (sign_of (said_sign form))
 
-abbrev pub numeric_refusal : PgValueFormat → Option (List ℕ) → CodecError
-numeric_refusal = refusal_alone numeric_binary_refusal
+-- a number, in binary alone
+abbrev pub parse_numeric : Given → Outcome Numeric
+parse_numeric = in_binary_alone (λ form. read_or (numeric_in_binary form) (numeric_binary_refusal form) (number_takes (numeric_in_binary form)))

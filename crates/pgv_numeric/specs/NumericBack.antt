@@ -9,14 +9,15 @@ use Rattle.std.proofs.lemmas.List.{length-append}
 use Rattle.std.proofs.lemmas.Nat.{from_be_bytes-to_be_bytes_2}
 use Rattle.pgv_buf.specs.Tokens.{bytes}
 use Rattle.pgv_value.specs.FrameBinary.{Part}
+use Rattle.pgv_value.specs.Outcome.{reading_of}
 use Rattle.pgv_value.specs.NumberBinary.{fits_signed}
 use Rattle.pgv_value.specs.OwnBytes.{two_again}
 use Rattle.pgv_value.specs.declared.value.PgValueFormat.TheVariants.{Binary}
 use Rattle.pgv_codec.specs.Back.{ReadsBack, always}
 use Rattle.pgv_codec.specs.BackParts.{guarded}
-use Rattle.pgv_codec.specs.BackScalars.{part_is}
+use Rattle.pgv_codec.specs.BackScalars.{is_read, part_is}
 use Rattle.pgv_codec.specs.Image.{image_of}
-use Rattle.pgv_numeric.specs.Numeric.{number, numeric_of, word, sign_word, number_form, is_digit, has_form, numeric_image, digits, digits_after, said_sign, signed_word, unsigned_word, signed_number, numeric_in_binary, numeric_reading}
+use Rattle.pgv_numeric.specs.Numeric.{number, numeric_of, word, sign_word, number_form, is_digit, has_form, numeric_image, digits, digits_after, said_sign, signed_word, unsigned_word, signed_number, numeric_in_binary, parse_numeric}
 use Rattle.pgv_numeric.specs.declared.numeric.PgNumericSign.{PgNumericSign}
 use Rattle.pgv_numeric.specs.declared.numeric.PgNumericSign.TheVariants.{Positive, Negative}
 use Rattle.pgv_numeric.specs.declared.numeric.PgNumeric.{PgNumeric}
@@ -80,9 +81,9 @@ nothing_after : (xs : List ℕ) → xs ++ [] ≡ xs
 nothing_after [] = refl
 nothing_after (x ∷ xs) = ap (λ (ys : List ℕ). x ∷ ys) (nothing_after xs)
 
-pub numeric_back : ReadsBack {A = PgNumeric} (λ n. numeric_image (numeric_of n)) numeric_reading numeric_of always
+pub numeric_back : ReadsBack {A = PgNumeric} (λ n. numeric_image (numeric_of n)) (reading_of parse_numeric) numeric_of always
 numeric_back NotANumber i t p os e whole small fit =
-    ap (λ (part : Part). numeric_reading t Binary part) (part_is (0 ∷ 0 ∷ 0 ∷ 0 ∷ 192 ∷ 0 ∷ 0 ∷ 0 ∷ []) i p os e)
+    ap (λ (part : Part). reading_of parse_numeric t Binary part) (part_is (0 ∷ 0 ∷ 0 ∷ 0 ∷ 192 ∷ 0 ∷ 0 ∷ 0 ∷ []) i p os e)
 numeric_back (Number sign v weight scale) i t p os e whole small fit =
     let ds = v.items in
     let form = number_form sign ds weight scale in
@@ -90,6 +91,7 @@ numeric_back (Number sign v weight scale) i t p os e whole small fit =
     let few = and_parts (nat_le (length ds) 32767) (list_all is_digit ds && (fits_signed w16 weight && fits_signed w16 scale)) g.0 in
     let fit = and_parts (list_all is_digit ds) (fits_signed w16 weight && fits_signed w16 scale) few.1 in
     let words = and_parts (fits_signed w16 weight) (fits_signed w16 scale) fit.1 in
-    ap (λ (part : Part). numeric_reading t Binary part) (part_is form i p os g.1)
-    ∙ ap numeric_in_binary (sym (nothing_after form))
-    ∙ number_there [] sign ds weight scale (few_digits (length ds) few.0) (digits_fit ds fit.0) words.0 words.1
+    ap (λ (part : Part). reading_of parse_numeric t Binary part) (part_is form i p os g.1)
+    ∙ is_read _ _ _ _ (
+    ap numeric_in_binary (sym (nothing_after form))
+    ∙ number_there [] sign ds weight scale (few_digits (length ds) few.0) (digits_fit ds fit.0) words.0 words.1)

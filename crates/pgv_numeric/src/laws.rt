@@ -2,17 +2,17 @@
 
 ghost use Rattle.std.specs.Prelude.{◌≡◌, ◌↔◌, true, List};
 ghost use Rattle.std.specs.Int.{w64};
-ghost use Rattle.pgv_codec.specs.TypeRow.{IsBuiltIn, IsRefusedAs, IsWrittenAs, TakesNone};
+ghost use Rattle.pgv_codec.specs.TypeRow.{IsBuiltIn, IsWrittenAs};
 ghost use Rattle.pgv_codec.specs.ScalarBinary.{signed_image};
 ghost use Rattle.pgv_numeric.specs.Laws.{NumericIsRead, OneNumeric, OneMoney, NumericsAreEqual};
-ghost use Rattle.pgv_numeric.specs.MoneyCodec.{money_reading, MoneyIsRead};
-ghost use Rattle.pgv_numeric.specs.Numeric.{numeric_asks_first, numeric_image, numeric_of, numeric_reading, numeric_refusal, numeric_refused, numeric_takes};
+ghost use Rattle.pgv_numeric.specs.MoneyCodec.{parse_money, MoneyIsRead};
+ghost use Rattle.pgv_numeric.specs.Numeric.{numeric_asks_first, numeric_image, numeric_of, numeric_refused, parse_numeric};
 ghost use Rattle.pgv_types.specs.declared.oid.Oid.{Oid};
 ghost use Rattle.pgv_types.specs.Ty.{Ty};
-ghost use Rattle.pgv_value.specs.Interval.{short_refusal};
+ghost use Rattle.pgv_value.specs.Outcome.{without_memory};
 
 use crate::PgMoney;
-use pgv_codec::{Decode, Encode, PgHasArrayType, ReadBack, Type};
+use pgv_codec::{Decode, Encode, PgHasArrayType, Plain, ReadBack, Type};
 
 /// A `PgMoney` is a money (OID 790), eight bytes in two's complement. Its arrays are `money[]` (791).
 pub fn money_is_a_money()
@@ -20,8 +20,7 @@ pub fn money_is_a_money()
     ensures arrays { IsBuiltIn 791 ⟦<crate::PgMoney as PgHasArrayType>⟧.array_info ⟦<crate::PgMoney as PgHasArrayType>⟧.accepts_array }
     ensures written { IsWrittenAs (λ amount. signed_image w64 amount.0) ⟦<crate::PgMoney as Encode>⟧.hint ⟦<crate::PgMoney as Encode>⟧.image ⟦<crate::PgMoney as Encode>⟧.produced }
     ensures means { ⟦<crate::PgMoney as Decode>⟧.meaning ≡ (λ amount. amount.0) }
-    ensures read { ⟦<crate::PgMoney as Decode>⟧.reading ≡ money_reading }
-    ensures refused { IsRefusedAs short_refusal ⟦<crate::PgMoney as Decode>⟧.refusal × TakesNone ⟦<crate::PgMoney as Decode>⟧.takes_memory }
+    ensures parsed { ⟦<crate::PgMoney as Plain>⟧.parse ≡ without_memory parse_money }
 {}
 
 /// A `PgNumeric` is a numeric (OID 1700), a list of words of two bytes. Its arrays are `numeric[]` (1231).
@@ -30,10 +29,8 @@ pub fn numeric_is_a_numeric()
     ensures arrays { IsBuiltIn 1231 ⟦<crate::PgNumeric as PgHasArrayType>⟧.array_info ⟦<crate::PgNumeric as PgHasArrayType>⟧.accepts_array }
     ensures written { IsWrittenAs (λ n. numeric_image (numeric_of n)) ⟦<crate::PgNumeric as Encode>⟧.hint ⟦<crate::PgNumeric as Encode>⟧.image ⟦<crate::PgNumeric as Encode>⟧.produced }
     ensures means { ⟦<crate::PgNumeric as Decode>⟧.meaning ≡ numeric_of }
-    ensures read { ⟦<crate::PgNumeric as Decode>⟧.reading ≡ numeric_reading }
+    ensures parsed { ⟦<crate::PgNumeric as Plain>⟧.parse ≡ parse_numeric }
     ensures unwritten { (⟦<crate::PgNumeric as Encode>⟧.unwritable ≡ (λ n. numeric_refused (numeric_of n))) × (⟦<crate::PgNumeric as Encode>⟧.asks_first ≡ (λ n. numeric_asks_first (numeric_of n))) }
-    ensures refused { IsRefusedAs numeric_refusal ⟦<crate::PgNumeric as Decode>⟧.refusal }
-    ensures takes_memory { ⟦<crate::PgNumeric as Decode>⟧.takes_memory ≡ numeric_takes }
 {}
 
 /// `money_in_binary` reads an amount from bytes iff the bytes begin with the eight bytes of this amount.

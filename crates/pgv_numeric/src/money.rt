@@ -1,8 +1,8 @@
 //! Amounts of money (PostgreSQL, "Monetary Types", money).
 
-ghost use Rattle.std.specs.Prelude.{◌≡◌, ◌↔◌, ◌+ℤ◌, ◌-ℤ◌, FitsSigned, IfErr, IfSome, IsSome};
+ghost use Rattle.std.specs.Prelude.{◌≡◌, ◌↔◌, ◌+ℤ◌, ◌-ℤ◌, FitsSigned, IfSome, IsSome, ok_or};
 ghost use Rattle.std.specs.Int.{w64};
-ghost use Rattle.pgv_value.specs.Reading.{AnswersExactly};
+ghost use Rattle.pgv_value.specs.Parsed.{GivesExactly};
 ghost use Rattle.pgv_value.specs.declared.error.CodecError.TheVariants.{Short};
 ghost use Rattle.pgv_numeric.specs.MoneyCodec.{money_in_binary};
 
@@ -166,8 +166,7 @@ impl From<u8> for PgMoney {
 
 /// The amount of the first eight bytes, whatever comes after them.
 fn of_bytes(bytes: &[u8]) -> Result<PgMoney, CodecError>
-    ensures exact { AnswersExactly (λ amount. amount.0) (money_in_binary bytes.now) result }
-    ensures refused { IfErr result (λ e. e ≡ Short) }
+    ensures { GivesExactly (λ amount. amount.0) (ok_or (money_in_binary bytes.now) Short) result }
 {
     if bytes.len() < 8 {
         return Err(CodecError::Short);

@@ -4,4 +4,3 @@ pub mod Places
 pub mod DataRows
 pub mod Descriptions
 pub mod Formats
-pub mod Values

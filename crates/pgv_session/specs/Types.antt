@@ -5,11 +5,13 @@ use Rattle.std.specs.Prelude.{ℕ, codes, bytes_eq, List, [], ◌∷◌, Option,
 use Rattle.std.specs.Int.{w8, w16, w32, w64}
 use Rattle.pgv_types.specs.Ty.{Ty, builtin, named}
 use Rattle.pgv_value.specs.Reading.{Reading}
-use Rattle.pgv_value.specs.ScalarGrammar.{bool_reading, int_reading, char_reading, oid_reading, text_reading, uuid_reading, bool_refusal, int_refusal, whole_or_syntax_refusal, oid_refusal, uuid_refusal}
-use Rattle.pgv_value.specs.Utf8.{text_refusal}
-use Rattle.pgv_value.specs.DateTimeBinary.{date_reading, time_reading, date_time_reading, instant_reading}
-use Rattle.pgv_value.specs.Interval.{interval_reading, short_refusal}
-use Rattle.pgv_value.specs.NetworkBinary.{network_reading, network_refusal}
+use Rattle.pgv_value.specs.ScalarGrammar.{parse_bool, parse_int, parse_char, parse_oid, parse_uuid}
+use Rattle.pgv_value.specs.Utf8.{parse_text}
+use Rattle.pgv_value.specs.DateTimeBinary.{parse_date, parse_time, parse_date_time, parse_instant}
+use Rattle.pgv_value.specs.Interval.{parse_interval}
+use Rattle.pgv_value.specs.NetworkBinary.{parse_network}
+use Rattle.pgv_value.specs.Outcome.{Outcome, without_memory, reading_of, error_of}
+use Rattle.pgv_value.specs.ValueView.{Given}
 use Rattle.pgv_value.specs.declared.error.CodecError.{CodecError}
 use Rattle.pgv_value.specs.declared.error.CodecError.TheVariants.{OffsetRange}
 use Rattle.pgv_value.specs.declared.value.PgValueFormat.{PgValueFormat}
@@ -25,17 +27,17 @@ use Rattle.pgv_codec.specs.Refusing.{frame_refused, nullable_refusal, option_unw
 use Rattle.pgv_codec.specs.Saying.{Saying, plainly, option_written, array_written}
 use Rattle.pgv_codec.specs.ScalarBinary.{bool_image, signed_image, unsigned_image, text_image, uuid_image}
 use Rattle.pgv_codec.specs.WithHint.{with_hint}
-use Rattle.pgv_ltree.specs.TreesCodec.{ltree, ltree_array, tree_image, tree_reading, tree_refusal}
-use Rattle.pgv_lquery.specs.QueryCodec.{lquery, query_image, query_reading, query_refusal}
-use Rattle.pgv_hstore.specs.Hstore.{hstore_image, hstore_reading, hstore_refused}
-use Rattle.pgv_hstore.specs.HstoreRefusal.{hstore_refusal}
+use Rattle.pgv_ltree.specs.TreesCodec.{ltree, ltree_array, parse_tree, tree_image}
+use Rattle.pgv_lquery.specs.QueryCodec.{lquery, parse_query, query_image}
+use Rattle.pgv_hstore.specs.Hstore.{hstore_image, hstore_refused}
+use Rattle.pgv_hstore.specs.HstoreRefusal.{parse_hstore}
 use Rattle.pgv_more.specs.BitsBinary.{bits_image, bits_hint, bits_refused}
-use Rattle.pgv_more.specs.BitsCodec.{bits_reading, bits_refusal}
-use Rattle.pgv_more.specs.ByteaText.{bytea_reading, bytea_refusal}
-use Rattle.pgv_more.specs.MacAddressCodec.{mac_image, mac_reading, mac_refusal}
-use Rattle.pgv_more.specs.TimeTzCodec.{time_tz_image, time_tz_reading, time_tz_refusal}
-use Rattle.pgv_numeric.specs.MoneyCodec.{money_reading}
-use Rattle.pgv_numeric.specs.Numeric.{numeric_image, numeric_reading, numeric_refused, numeric_refusal}
+use Rattle.pgv_more.specs.BitsCodec.{parse_bits}
+use Rattle.pgv_more.specs.ByteaText.{parse_bytea}
+use Rattle.pgv_more.specs.MacAddressCodec.{mac_image, parse_mac}
+use Rattle.pgv_more.specs.TimeTzCodec.{time_tz_image, parse_time_tz}
+use Rattle.pgv_numeric.specs.MoneyCodec.{parse_money}
+use Rattle.pgv_numeric.specs.Numeric.{numeric_image, numeric_refused, parse_numeric}
 use Rattle.pgv_range.specs.RangeGrammar.{range}
 use Rattle.pgv_range.specs.RangeRefusals.{range_refusal}
 use Rattle.pgv_range.specs.RangeSaying.{range_written}
@@ -71,58 +73,60 @@ row info reading written unread unwritten = record {
   refusal = λ f part. refused_by info written unwritten (unread info f part) (reading info f part);
 }
 
--- a refusal that does not depend on the type
-abbrev pub plain : (PgValueFormat → Option (List ℕ) → CodecError) → Refusal
-plain refusal t f part = Some (refusal f part)
-
 -- nothing is stated: no value that is read under these TYPEs is known to have no image
 abbrev pub unstated : {M : Type 0} → M → Option CodecError
 unstated m = None
 
+-- values of a plain type
+abbrev pub plain_row : {M : Type 0} → Ty → (Given → Outcome M) → (Ty → M → Saying) → (M → Option CodecError) → Row
+plain_row info parse written unwritten = row info (reading_of parse) written (error_of parse) unwritten
+
 -- lists of such values, which may be null, of elements of this type
-abbrev pub list_row : {M : Type 0} → Ty → Ty → Reading M → (Ty → M → Saying) → Refusal → (M → Option CodecError) → Row
-list_row info element reading written unread unwritten =
-    row info (array element (nullable reading)) (array_written element (option_written written)) (array_refusal element (nullable reading) (nullable_refusal unread))
+abbrev pub list_row : {M : Type 0} → Ty → Ty → (Given → Outcome M) → (Ty → M → Saying) → (M → Option CodecError) → Row
+list_row info element parse written unwritten =
+    row info (array element (nullable (reading_of parse))) (array_written element (option_written written))
+    (array_refusal element (nullable (reading_of parse)) (nullable_refusal (error_of parse)))
     (array_unwritten element (option_written written) (option_unwritable unwritten))
 
 -- ranges of such values
-abbrev pub range_row : {M : Type 0} → Ty → Ty → Reading M → (Ty → M → Saying) → Refusal → (M → Option CodecError) → Row
-range_row info element reading written unread unwritten =
-    row info (range element reading) (range_written element written) (range_refusal element reading unread) (range_unwritten element written unwritten)
+abbrev pub range_row : {M : Type 0} → Ty → Ty → (Given → Outcome M) → (Ty → M → Saying) → (M → Option CodecError) → Row
+range_row info element parse written unwritten =
+    row info (range element (reading_of parse)) (range_written element written) (range_refusal element (reading_of parse) (error_of parse))
+    (range_unwritten element written unwritten)
 
 abbrev pub types : List (List ℕ × Row)
 types =
-    (codes "bool", row (builtin 16) bool_reading (plainly bool_image) (plain bool_refusal) unstated) ∷
-    (codes "char", row (builtin 18) char_reading (plainly (signed_image w8)) (plain whole_or_syntax_refusal) unstated) ∷
-    (codes "int2", row (builtin 21) (int_reading w16) (plainly (signed_image w16)) (plain int_refusal) unstated) ∷
-    (codes "int4", row (builtin 23) (int_reading w32) (plainly (signed_image w32)) (plain int_refusal) unstated) ∷
-    (codes "int8", row (builtin 20) (int_reading w64) (plainly (signed_image w64)) (plain int_refusal) unstated) ∷
-    (codes "oid", row (builtin 26) oid_reading (plainly (unsigned_image w32)) (plain oid_refusal) unstated) ∷
-    (codes "text", row (builtin 25) text_reading (plainly text_image) (plain text_refusal) unstated) ∷
-    (codes "uuid", row (builtin 2950) uuid_reading (plainly uuid_image) (plain uuid_refusal) unstated) ∷
-    (codes "date", row (builtin 1082) date_reading (with_hint (λ _. 4) date_image) (plain whole_or_syntax_refusal) unstated) ∷
-    (codes "time", row (builtin 1083) time_reading (with_hint (λ _. 8) time_image) (plain whole_or_syntax_refusal) unstated) ∷
-    (codes "timestamp", row (builtin 1114) date_time_reading (with_hint (λ _. 8) moment_image) (plain whole_or_syntax_refusal) unstated) ∷
-    (codes "timestamptz", row (builtin 1184) instant_reading (with_hint (λ _. 8) moment_image) (plain whole_or_syntax_refusal) unstated) ∷
-    (codes "timetz", row (builtin 1266) time_tz_reading (with_hint (λ _. 12) time_tz_image) (plain time_tz_refusal) (λ zoned. Some (OffsetRange zoned.1))) ∷
-    (codes "interval", row (builtin 1186) interval_reading (with_hint (λ _. 16) interval_image) (plain short_refusal) unstated) ∷
-    (codes "varbit", row (builtin 1562) bits_reading (with_hint bits_hint bits_image) (plain bits_refusal) bits_refused) ∷
-    (codes "inet", row (builtin 869) network_reading (with_hint network_hint network_image) (plain network_refusal) unstated) ∷
-    (codes "macaddr", row (builtin 829) mac_reading (with_hint (λ _. 6) mac_image) (plain mac_refusal) unstated) ∷
-    (codes "bytea", row (builtin 17) bytea_reading (plainly text_image) (plain bytea_refusal) unstated) ∷
-    (codes "citext", row (named (codes "citext")) text_reading (plainly text_image) (plain text_refusal) unstated) ∷
-    (codes "money", row (builtin 790) money_reading (plainly (signed_image w64)) (plain short_refusal) unstated) ∷
-    (codes "numeric", row (builtin 1700) numeric_reading (plainly numeric_image) (plain numeric_refusal) numeric_refused) ∷
-    (codes "hstore", row (named (codes "hstore")) hstore_reading (plainly hstore_image) (plain hstore_refusal) hstore_refused) ∷
-    (codes "int4range", range_row (builtin 3904) (builtin 23) (int_reading w32) (plainly (signed_image w32)) (plain int_refusal) unstated) ∷
-    (codes "int8range", range_row (builtin 3926) (builtin 20) (int_reading w64) (plainly (signed_image w64)) (plain int_refusal) unstated) ∷
-    (codes "daterange", range_row (builtin 3912) (builtin 1082) date_reading (with_hint (λ _. 4) date_image) (plain whole_or_syntax_refusal) unstated) ∷
-    (codes "ltree", row ltree tree_reading (plainly tree_image) (plain tree_refusal) unstated) ∷
-    (codes "lquery", row lquery query_reading (plainly query_image) (plain query_refusal) unstated) ∷
-    (codes "int4[]", list_row (builtin 1007) (builtin 23) (int_reading w32) (plainly (signed_image w32)) (plain int_refusal) unstated) ∷
-    (codes "text[]", list_row (builtin 1009) (builtin 25) text_reading (plainly text_image) (plain text_refusal) unstated) ∷
-    (codes "date[]", list_row (builtin 1182) (builtin 1082) date_reading (with_hint (λ _. 4) date_image) (plain whole_or_syntax_refusal) unstated) ∷
-    (codes "ltree[]", list_row ltree_array ltree tree_reading (plainly tree_image) (plain tree_refusal) unstated) ∷
+    (codes "bool", plain_row (builtin 16) (without_memory parse_bool) (plainly bool_image) unstated) ∷
+    (codes "char", plain_row (builtin 18) (without_memory parse_char) (plainly (signed_image w8)) unstated) ∷
+    (codes "int2", plain_row (builtin 21) (without_memory (parse_int w16)) (plainly (signed_image w16)) unstated) ∷
+    (codes "int4", plain_row (builtin 23) (without_memory (parse_int w32)) (plainly (signed_image w32)) unstated) ∷
+    (codes "int8", plain_row (builtin 20) (without_memory (parse_int w64)) (plainly (signed_image w64)) unstated) ∷
+    (codes "oid", plain_row (builtin 26) (without_memory parse_oid) (plainly (unsigned_image w32)) unstated) ∷
+    (codes "text", plain_row (builtin 25) parse_text (plainly text_image) unstated) ∷
+    (codes "uuid", plain_row (builtin 2950) (without_memory parse_uuid) (plainly uuid_image) unstated) ∷
+    (codes "date", plain_row (builtin 1082) (without_memory parse_date) (with_hint (λ _. 4) date_image) unstated) ∷
+    (codes "time", plain_row (builtin 1083) (without_memory parse_time) (with_hint (λ _. 8) time_image) unstated) ∷
+    (codes "timestamp", plain_row (builtin 1114) (without_memory parse_date_time) (with_hint (λ _. 8) moment_image) unstated) ∷
+    (codes "timestamptz", plain_row (builtin 1184) (without_memory parse_instant) (with_hint (λ _. 8) moment_image) unstated) ∷
+    (codes "timetz", plain_row (builtin 1266) (without_memory parse_time_tz) (with_hint (λ _. 12) time_tz_image) (λ zoned. Some (OffsetRange zoned.1))) ∷
+    (codes "interval", plain_row (builtin 1186) (without_memory parse_interval) (with_hint (λ _. 16) interval_image) unstated) ∷
+    (codes "varbit", plain_row (builtin 1562) parse_bits (with_hint bits_hint bits_image) bits_refused) ∷
+    (codes "inet", plain_row (builtin 869) (without_memory parse_network) (with_hint network_hint network_image) unstated) ∷
+    (codes "macaddr", plain_row (builtin 829) (without_memory parse_mac) (with_hint (λ _. 6) mac_image) unstated) ∷
+    (codes "bytea", plain_row (builtin 17) parse_bytea (plainly text_image) unstated) ∷
+    (codes "citext", plain_row (named (codes "citext")) parse_text (plainly text_image) unstated) ∷
+    (codes "money", plain_row (builtin 790) (without_memory parse_money) (plainly (signed_image w64)) unstated) ∷
+    (codes "numeric", plain_row (builtin 1700) parse_numeric (plainly numeric_image) numeric_refused) ∷
+    (codes "hstore", plain_row (named (codes "hstore")) parse_hstore (plainly hstore_image) hstore_refused) ∷
+    (codes "int4range", range_row (builtin 3904) (builtin 23) (without_memory (parse_int w32)) (plainly (signed_image w32)) unstated) ∷
+    (codes "int8range", range_row (builtin 3926) (builtin 20) (without_memory (parse_int w64)) (plainly (signed_image w64)) unstated) ∷
+    (codes "daterange", range_row (builtin 3912) (builtin 1082) (without_memory parse_date) (with_hint (λ _. 4) date_image) unstated) ∷
+    (codes "ltree", plain_row ltree parse_tree (plainly tree_image) unstated) ∷
+    (codes "lquery", plain_row lquery parse_query (plainly query_image) unstated) ∷
+    (codes "int4[]", list_row (builtin 1007) (builtin 23) (without_memory (parse_int w32)) (plainly (signed_image w32)) unstated) ∷
+    (codes "text[]", list_row (builtin 1009) (builtin 25) parse_text (plainly text_image) unstated) ∷
+    (codes "date[]", list_row (builtin 1182) (builtin 1082) (without_memory parse_date) (with_hint (λ _. 4) date_image) unstated) ∷
+    (codes "ltree[]", list_row ltree_array ltree parse_tree (plainly tree_image) unstated) ∷
     []
 
 -- the row of a name, where it has one

@@ -7,6 +7,7 @@ pub mod FrameBinary
 pub mod Steps
 pub mod Parsed
 pub mod Outcome
+pub mod Formats
 pub mod Fronts
 pub mod Several
 pub mod NumberBinary

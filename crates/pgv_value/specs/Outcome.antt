@@ -7,7 +7,7 @@ use Rattle.pgv_types.specs.Ty.{Ty}
 use Rattle.pgv_value.specs.declared.error.CodecError.{CodecError}
 use Rattle.pgv_value.specs.declared.error.CodecError.TheVariants.{Memory}
 use Rattle.pgv_value.specs.Parsed.{Parsed}
-use Rattle.pgv_value.specs.Reading.{Reading}
+use Rattle.pgv_value.specs.Reading.{Reading, has_items}
 use Rattle.pgv_value.specs.ValueView.{Given, given}
 use Rattle.pgv_value.specs.declared.value.PgValueFormat.{PgValueFormat}
 
@@ -100,10 +100,16 @@ error_of parse t format bytes = why_of (parse (given t format bytes)).answer
 abbrev pub takes_of : {M : Type 0} → (Given → Outcome M) → Ty → PgValueFormat → Option (List ℕ) → Bool
 takes_of parse t format bytes = (parse (given t format bytes)).may_alloc
 
--- what is read, or else why nothing is, by functions of their own
-abbrev pub parse_by : {M : Type 0} → Reading M → (Ty → PgValueFormat → Option (List ℕ) → Option CodecError) → (Ty → PgValueFormat → Option (List ℕ) → Bool) → Given → Outcome M
-parse_by reading refusal takes v =
-    record { answer = ok_or (reading v.type_info v.format v.bytes) (refusal v.type_info v.format v.bytes); may_alloc = takes v.type_info v.format v.bytes }
+-- a list that is copied: memory is asked for where it isn't empty
+abbrev pub copied : {X : Type 0} → Parsed (List X) → Outcome (List X)
+copied parsed = do
+  items ← exactly parsed
+  allocates (has_items (Some items))
+  done items
+
+-- what is read, or else this error, and whether memory may be asked for by then
+abbrev pub read_or : {M : Type 0} → Option M → CodecError → Bool → Outcome M
+read_or read why takes = record { answer = ok_or read (Some why); may_alloc = takes }
 
 -- ---- what bytes are, and what is read of them
 

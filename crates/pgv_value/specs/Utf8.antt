@@ -1,9 +1,8 @@
 -- Texts in UTF-8 (PostgreSQL: "Character Set Support", 24.3).
 use Rattle.std.specs.Prelude.{◌≡◌, ℕ, List, length, Option, Some, None, Ok, Err, Bool, false, nat_eq, if◌then◌else◌}
 use Rattle.std.specs.Str.Lossy.{utf8_valid_len}
-use Rattle.pgv_value.specs.Outcome.{Outcome, exactly, allocates, done, ◌>>=◌, ◌>>◌}
+use Rattle.pgv_value.specs.Outcome.{Outcome, copied}
 use Rattle.pgv_value.specs.Parsed.{Parsed}
-use Rattle.pgv_value.specs.Reading.{has_items}
 use Rattle.pgv_value.specs.ValueView.{Given}
 use Rattle.pgv_value.specs.declared.error.CodecError.{CodecError}
 use Rattle.pgv_value.specs.declared.error.CodecError.TheVariants.{UnexpectedNull, Utf8}
@@ -22,9 +21,6 @@ abbrev pub utf8_part : Option (List ℕ) → Parsed (List ℕ)
 utf8_part None = Err UnexpectedNull
 utf8_part (Some bytes) = if is_utf8 bytes then Ok bytes else Err Utf8
 
--- A text, in either format. Memory is asked for where it isn't empty.
+-- a text, in either format
 abbrev pub parse_text : Given → Outcome (List ℕ)
-parse_text v = do
-  text ← exactly (utf8_part v.bytes)
-  allocates (has_items (Some text))
-  done text
+parse_text v = copied (utf8_part v.bytes)

@@ -11,8 +11,8 @@ ghost use Rattle.pgv_codec.specs.Image.{limit};
 ghost use Rattle.pgv_codec.specs.Outcome.{Refused, Appended, AppendedAll};
 ghost use Rattle.pgv_codec.specs.Refusing.{RefusedFor};
 ghost use Rattle.pgv_codec.specs.Saying.{plainly};
-ghost use Rattle.pgv_hstore.specs.Hstore.{Pair, pair_of, pairs_of, hstore_image, hstore_in_binary, hstore_reading, key_front, value_front, hstore_asks_first, hstore_refused, pair_refused, pairs_refused, part_written, pair_written, pairs_written, put_read, value_refused};
-ghost use Rattle.pgv_hstore.specs.HstoreRefusal.{hstore_binary_refusal, hstore_binary_takes, hstore_refusal, hstore_takes, key_refusal, pairs_refusal, pairs_take, value_refusal};
+ghost use Rattle.pgv_hstore.specs.Hstore.{Pair, pair_of, pairs_of, hstore_image, hstore_in_binary, key_front, value_front, hstore_asks_first, hstore_refused, pair_refused, pairs_refused, part_written, pair_written, pairs_written, put_read, value_refused};
+ghost use Rattle.pgv_hstore.specs.HstoreRefusal.{hstore_binary_refusal, hstore_binary_takes, key_refusal, pairs_refusal, pairs_take, parse_hstore, value_refusal};
 ghost use Rattle.pgv_value.specs.Utf8.{is_utf8};
 
 use super::{PgHstore, put_pair};
@@ -238,17 +238,15 @@ fn of_bytes(alloc: Global, form: &[u8]) -> Result<PgHstore, CodecError>
 impl Plain for PgHstore {
     ghost use Rattle.pgv_hstore.specs.HstoreBack.{hstore_back};
 
-    ghost Meaning = { List Pair };
+    ghost View = { List Pair };
 
-    ghost meaning = { pairs_of };
+    ghost view = { pairs_of };
 
-    ghost reading = { hstore_reading };
+    ghost parse = { parse_hstore };
+
+    ghost null = { λ _ _. refl };
 
     ghost written = { plainly hstore_image };
-
-    ghost takes_memory = { hstore_takes };
-
-    ghost refusal = { hstore_refusal };
 
     fn read(alloc: Global, value: PgValueRef<'_>) -> Result<PgHstore, CodecError> {
         let bytes = value.as_bytes()?;

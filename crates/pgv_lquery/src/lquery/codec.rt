@@ -1,12 +1,13 @@
 //! Queries of label trees, written and read (PostgreSQL, "ltree", lquery).
 
-ghost use Rattle.std.specs.Prelude.{◌≡◌, List, false, IfErr, Some, refl};
+ghost use Rattle.std.specs.Prelude.{◌≡◌, List, false, IfErr, refl};
 ghost use Rattle.pgv_types.specs.Relations.{softly};
+ghost use Rattle.pgv_value.specs.Outcome.{Gives, reading_of, error_of, takes_of};
 ghost use Rattle.pgv_value.specs.Reading.{Answers, AnswersExactly, Refuses};
 ghost use Rattle.pgv_codec.specs.Saying.{plainly};
 ghost use Rattle.pgv_ltree.specs.TreesCodec.{versioned};
 ghost use Rattle.pgv_lquery.specs.Queries.{Level};
-ghost use Rattle.pgv_lquery.specs.QueryCodec.{lquery, lquery_array, query_binary_refusal, query_fault, query_image, query_in_binary, query_in_text, query_reading, query_refusal, query_takes, text_takes};
+ghost use Rattle.pgv_lquery.specs.QueryCodec.{lquery, lquery_array, query_binary_refusal, query_fault, query_image, query_in_binary, query_in_text, parse_query, text_takes};
 ghost use Rattle.pgv_lquery.specs.QueryRead.{begins_with_level, query_read};
 
 use super::{PgLQuery, print_levels};
@@ -89,6 +90,17 @@ fn read_binary(alloc: Global, form: &[u8]) -> Result<PgLQuery, CodecError>
     read_text(alloc, text)
 }
 
+/// The query in either format.
+#[inline(always)]
+fn read_query(alloc: Global, value: &PgValueRef<'_>) -> Result<PgLQuery, CodecError>
+    ensures { Gives (λ query. query) (parse_query value.now) result }
+{
+    match value.format() {
+        PgValueFormat::Binary => read_binary(alloc, value.as_bytes()?),
+        PgValueFormat::Text => read_text(alloc, value.as_str()?),
+    }
+}
+
 /// Read in binary from the byte 01 and a text: no bytes are refused with [`Short`](CodecError::Short) (C15), another
 /// first byte with [`LQuery`](CodecError::LQuery) (C37), what isn't UTF-8 with [`Utf8`](CodecError::Utf8) (C14), and an
 /// invalid text of a query with [`LQuery`](CodecError::LQuery) (C37). In text the bytes are the query's text. Null is
@@ -98,19 +110,16 @@ impl Decode for PgLQuery {
 
     ghost meaning = { λ query. query };
 
-    ghost reading = { query_reading };
+    ghost reading = { reading_of parse_query };
 
     ghost written = { plainly query_image };
 
-    ghost takes_memory = { query_takes };
+    ghost takes_memory = { takes_of parse_query };
 
-    ghost refusal = { λ _ format bytes. Some (query_refusal format bytes) };
+    ghost refusal = { error_of parse_query };
 
     fn decode(alloc: Global, value: PgValueRef<'_>) -> Result<PgLQuery, CodecError> {
-        match value.format() {
-            PgValueFormat::Binary => read_binary(alloc, value.as_bytes()?),
-            PgValueFormat::Text => read_text(alloc, value.as_str()?),
-        }
+        read_query(alloc, &value)
     }
 }
 

@@ -7,7 +7,7 @@ ghost use Rattle.pgv_value.specs.declared.error.CodecError.TheVariants.{LTree};
 ghost use Rattle.pgv_value.specs.declared.tree_error.PgLTreeParseError.TheVariants.{InvalidLtreeLabel};
 ghost use Rattle.pgv_codec.specs.Saying.{plainly};
 ghost use Rattle.pgv_ltree.specs.Trees.{begins_with_label};
-ghost use Rattle.pgv_ltree.specs.TreesCodec.{ltree, ltree_array, tree_image, tree_in_binary, tree_in_text, tree_reading, tree_binary_refusal, tree_refusal, tree_takes, text_takes, versioned};
+ghost use Rattle.pgv_ltree.specs.TreesCodec.{ltree, ltree_array, tree_image, tree_in_binary, tree_in_text, tree_binary_refusal, parse_tree, text_takes, versioned};
 
 use super::{PgLTree, print_labels};
 use crate::version::{VERSION, text_after_version};
@@ -96,17 +96,15 @@ fn read_binary(alloc: Global, form: &[u8]) -> Result<PgLTree, CodecError>
 impl Plain for PgLTree {
     ghost use Rattle.pgv_ltree.specs.TreesBack.{tree_back, tree_kept};
 
-    ghost Meaning = { List (List ℕ) };
+    ghost View = { List (List ℕ) };
 
-    ghost meaning = { λ tree. tree };
+    ghost view = { λ tree. tree };
 
-    ghost reading = { tree_reading };
+    ghost parse = { parse_tree };
+
+    ghost null = { λ _ _. refl };
 
     ghost written = { plainly tree_image };
-
-    ghost takes_memory = { tree_takes };
-
-    ghost refusal = { tree_refusal };
 
     ghost kept = { tree_kept };
 

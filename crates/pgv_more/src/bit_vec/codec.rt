@@ -6,7 +6,7 @@ ghost use Rattle.pgv_value.specs.Reading.{Answers, AnswersExactly, Refuses, has_
 ghost use Rattle.pgv_value.specs.declared.error.CodecError.TheVariants.{Syntax};
 ghost use Rattle.pgv_more.specs.BitsBinary.{bits_image, bits_hint, bits_in_binary, bits_binary_refusal, bits_refused};
 ghost use Rattle.pgv_more.specs.BitsText.{bits_in_text};
-ghost use Rattle.pgv_more.specs.BitsCodec.{is_bits, is_bits_array, bits_reading, bits_refusal};
+ghost use Rattle.pgv_more.specs.BitsCodec.{is_bits, is_bits_array, parse_bits};
 ghost use Rattle.pgv_codec.specs.WithHint.{with_hint};
 
 use super::BitVec;
@@ -118,17 +118,15 @@ fn read_text(alloc: Global, text: &str) -> Result<BitVec, CodecError>
 impl Plain for BitVec {
     ghost use Rattle.pgv_more.specs.BitsBack.{bits_back};
 
-    ghost Meaning = { List Bool };
+    ghost View = { List Bool };
 
-    ghost meaning = { λ bits. bits };
+    ghost view = { λ bits. bits };
 
-    ghost reading = { bits_reading };
+    ghost parse = { parse_bits };
+
+    ghost null = { λ _ _. refl };
 
     ghost written = { with_hint bits_hint bits_image };
-
-    ghost takes_memory = { λ t format bytes. has_items (bits_reading t format bytes) };
-
-    ghost refusal = { bits_refusal };
 
     fn read(alloc: Global, value: PgValueRef<'_>) -> Result<BitVec, CodecError> {
         match value.format() {

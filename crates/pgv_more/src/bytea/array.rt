@@ -1,12 +1,12 @@
 //! Strings of a number of bytes that is known (PostgreSQL, "Binary Data Types", bytea).
 
-ghost use Rattle.std.specs.Prelude.{◌≡◌, ℕ, List, Some, IfErr, length, refl};
+ghost use Rattle.std.specs.Prelude.{ℕ, List, refl};
 ghost use Rattle.pgv_types.specs.Ty.{builtin};
 ghost use Rattle.pgv_types.specs.Relations.{softly};
 ghost use Rattle.pgv_codec.specs.Saying.{plainly};
-ghost use Rattle.pgv_value.specs.Reading.{AnswersExactly};
-ghost use Rattle.pgv_value.specs.declared.error.CodecError.TheVariants.{WrongLength};
-ghost use Rattle.pgv_more.specs.ByteaText.{bytea_in_text, length_refusal, of_length, sized_image, sized_reading, sized_refusal};
+ghost use Rattle.pgv_value.specs.Outcome.{without_memory};
+ghost use Rattle.pgv_value.specs.Parsed.{GivesExactly};
+ghost use Rattle.pgv_more.specs.ByteaText.{of_length, parse_sized, sized_image, sized_in_text};
 
 use super::{are_pairs, digits_of};
 use hex::FromHex;
@@ -21,8 +21,7 @@ pub struct PgByteaArray<const N: usize>(pub [u8; N]);
 
 /// The bytes of a text `\x00ff`, of `N` bytes.
 fn of_text<const N: usize>(text: &[u8]) -> Result<PgByteaArray<N>, CodecError>
-    ensures exact { AnswersExactly (λ b. b.0) (of_length N (bytea_in_text text.now)) result }
-    ensures refused { IfErr result (λ e. e ≡ length_refusal (bytea_in_text text.now)) }
+    ensures { GivesExactly (λ b. b.0) (sized_in_text N text.now) result }
 {
     let Some(digits) = digits_of(text) else {
         return Err(CodecError::Syntax);
@@ -36,8 +35,7 @@ fn of_text<const N: usize>(text: &[u8]) -> Result<PgByteaArray<N>, CodecError>
 
 /// The bytes, where there are `N`.
 fn of_bytes<const N: usize>(bytes: &[u8]) -> Result<PgByteaArray<N>, CodecError>
-    ensures exact { AnswersExactly (λ b. b.0) (of_length N (Some bytes.now)) result }
-    ensures refused { IfErr result (λ e. e ≡ WrongLength (length bytes.now)) }
+    ensures { GivesExactly (λ b. b.0) (of_length N bytes.now) result }
 {
     match <[u8; N]>::try_from(bytes) {
         Ok(bytes) => Ok(PgByteaArray(bytes)),
@@ -101,15 +99,15 @@ impl<const N: usize> Encode for PgByteaArray<N> {
 impl<const N: usize> Plain for PgByteaArray<N> {
     ghost use Rattle.pgv_more.specs.ByteaBack.{sized_back};
 
-    ghost Meaning = { List ℕ };
+    ghost View = { List ℕ };
 
-    ghost meaning = { λ b. b.0 };
+    ghost view = { λ b. b.0 };
 
-    ghost reading = { sized_reading N };
+    ghost parse = { without_memory (parse_sized N) };
+
+    ghost null = { λ _ _. refl };
 
     ghost written = { plainly (sized_image N) };
-
-    ghost refusal = { sized_refusal };
 
     fn read(_alloc: Global, value: PgValueRef<'_>) -> Result<PgByteaArray<N>, CodecError> {
         let bytes = value.as_bytes()?;

@@ -3,10 +3,9 @@
 ghost use Rattle.std.specs.Prelude.{ℕ, List, refl};
 ghost use Rattle.pgv_types.specs.Ty.{builtin};
 ghost use Rattle.pgv_types.specs.Relations.{softly};
-ghost use Rattle.pgv_value.specs.Reading.{has_items};
 ghost use Rattle.pgv_codec.specs.Saying.{plainly};
 ghost use Rattle.pgv_codec.specs.ScalarBinary.{text_image as plain_image};
-ghost use Rattle.pgv_more.specs.ByteaText.{bytea_reading, bytea_refusal};
+ghost use Rattle.pgv_more.specs.ByteaText.{parse_bytea};
 
 use super::{PgBytea, copy_of, of_text};
 use pgv_codec::{Encode, IsNull, PgArgumentBuffer, PgHasArrayType, Plain, Type};
@@ -70,17 +69,15 @@ impl Encode for PgBytea {
 impl Plain for PgBytea {
     ghost use Rattle.pgv_more.specs.ByteaBack.{bytea_back};
 
-    ghost Meaning = { List ℕ };
+    ghost View = { List ℕ };
 
-    ghost meaning = { λ b. b.0.items };
+    ghost view = { λ b. b.0.items };
 
-    ghost reading = { bytea_reading };
+    ghost parse = { parse_bytea };
+
+    ghost null = { λ _ _. refl };
 
     ghost written = { plainly plain_image };
-
-    ghost takes_memory = { λ t format bytes. has_items (bytea_reading t format bytes) };
-
-    ghost refusal = { bytea_refusal };
 
     #[inline(always)]
     fn read(alloc: Global, value: PgValueRef<'_>) -> Result<PgBytea, CodecError> {

@@ -2,8 +2,7 @@
 
 ghost use Rattle.std.specs.Prelude.{ℕ, List, refl, codes, string_bytes};
 ghost use Rattle.pgv_types.specs.Ty.{named};
-ghost use Rattle.pgv_value.specs.ScalarGrammar.{text_reading};
-ghost use Rattle.pgv_value.specs.Utf8.{text_refusal};
+ghost use Rattle.pgv_value.specs.Utf8.{parse_text};
 ghost use Rattle.pgv_codec.specs.Saying.{plainly};
 ghost use Rattle.pgv_codec.specs.ScalarBinary.{is_text, is_text_array, text_image};
 
@@ -68,20 +67,18 @@ impl Encode for PgCiText {
 impl Plain for PgCiText {
     ghost use Rattle.pgv_codec.specs.BackScalars.{text_back};
 
-    ghost Meaning = { List ℕ };
+    ghost View = { List ℕ };
 
-    ghost meaning = { λ text. string_bytes text.0 };
+    ghost view = { λ text. string_bytes text.0 };
 
-    ghost reading = { text_reading };
+    ghost parse = { parse_text };
+
+    ghost null = { λ _ _. refl };
 
     ghost written = { plainly text_image };
 
-    ghost takes_memory = { ⟦<String as Decode>⟧.takes_memory };
-
-    ghost refusal = { text_refusal };
-
     fn read(alloc: Global, value: PgValueRef<'_>) -> Result<PgCiText, CodecError> {
-        Ok(PgCiText(String::decode(alloc, value)?))
+        Ok(PgCiText(String::read(alloc, value)?))
     }
 
     ghost reads_back = { λ text. text_back text.0 };

@@ -3,7 +3,8 @@
 ghost use Rattle.std.specs.Prelude.{ℕ, List, refl};
 ghost use Rattle.pgv_types.specs.Ty.{builtin};
 ghost use Rattle.pgv_types.specs.Relations.{softly};
-ghost use Rattle.pgv_more.specs.MacAddressCodec.{mac_image, mac_reading, mac_refusal};
+ghost use Rattle.pgv_value.specs.Outcome.{without_memory};
+ghost use Rattle.pgv_more.specs.MacAddressCodec.{mac_image, parse_mac};
 ghost use Rattle.pgv_codec.specs.WithHint.{with_hint};
 
 use super::MacAddress;
@@ -70,15 +71,15 @@ impl Encode for MacAddress {
 impl Plain for MacAddress {
     ghost use Rattle.pgv_more.specs.MacAddressBack.{mac_back};
 
-    ghost Meaning = { List ℕ };
+    ghost View = { List ℕ };
 
-    ghost meaning = { λ address. address };
+    ghost view = { λ address. address };
 
-    ghost reading = { mac_reading };
+    ghost parse = { without_memory parse_mac };
+
+    ghost null = { λ _ _. refl };
 
     ghost written = { with_hint (λ _. 6) mac_image };
-
-    ghost refusal = { mac_refusal };
 
     #[inline(always)]
     fn read(_alloc: Global, value: PgValueRef<'_>) -> Result<MacAddress, CodecError> {

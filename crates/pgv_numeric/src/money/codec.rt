@@ -6,8 +6,8 @@ ghost use Rattle.pgv_types.specs.Ty.{builtin};
 ghost use Rattle.pgv_types.specs.Relations.{softly};
 ghost use Rattle.pgv_codec.specs.ScalarBinary.{signed_image};
 ghost use Rattle.pgv_codec.specs.Saying.{plainly};
-ghost use Rattle.pgv_numeric.specs.MoneyCodec.{money_reading};
-ghost use Rattle.pgv_value.specs.Interval.{short_refusal};
+ghost use Rattle.pgv_numeric.specs.MoneyCodec.{parse_money};
+ghost use Rattle.pgv_value.specs.Outcome.{without_memory};
 
 use super::{PgMoney, of_bytes};
 use pgv_codec::{Encode, IsNull, PgArgumentBuffer, PgHasArrayType, Plain, Type};
@@ -69,15 +69,15 @@ impl Encode for PgMoney {
 impl Plain for PgMoney {
     ghost use Rattle.pgv_numeric.specs.MoneyBack.{money_back};
 
-    ghost Meaning = { ℤ };
+    ghost View = { ℤ };
 
-    ghost meaning = { λ amount. amount.0 };
+    ghost view = { λ amount. amount.0 };
 
-    ghost reading = { money_reading };
+    ghost parse = { without_memory parse_money };
+
+    ghost null = { λ _ _. refl };
 
     ghost written = { plainly (signed_image w64) };
-
-    ghost refusal = { short_refusal };
 
     fn read(_alloc: Global, value: PgValueRef<'_>) -> Result<PgMoney, CodecError> {
         let bytes = value.as_bytes()?;

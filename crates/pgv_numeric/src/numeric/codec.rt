@@ -8,7 +8,7 @@ ghost use Rattle.pgv_value.specs.declared.error.CodecError.TheVariants.{NumericD
 ghost use Rattle.pgv_codec.specs.Outcome.{Encoded, Refused, Appended, AppendedAll};
 ghost use Rattle.pgv_codec.specs.Refusing.{RefusedExactly, RefusedFor};
 ghost use Rattle.pgv_codec.specs.Saying.{plainly};
-ghost use Rattle.pgv_numeric.specs.Numeric.{Numeric, digit_written, digits_after, digits_refused, digits_take, digits_written, head_form, is_digit, number, number_takes, numeric_asks_first, numeric_binary_refusal, numeric_image, numeric_in_binary, numeric_of, numeric_reading, numeric_refusal, numeric_refused, numeric_takes, sign_of as sign_of_word, sign_word as sign_as_word, signed_word, unsigned_word};
+ghost use Rattle.pgv_numeric.specs.Numeric.{Numeric, digit_written, digits_after, digits_refused, digits_take, digits_written, head_form, is_digit, number, number_takes, numeric_asks_first, numeric_binary_refusal, numeric_image, numeric_in_binary, numeric_of, numeric_refused, parse_numeric, sign_of as sign_of_word, sign_word as sign_as_word, signed_word, unsigned_word};
 
 use super::{PgNumeric, PgNumericSign};
 use byteorder::{BigEndian, ByteOrder};
@@ -253,17 +253,15 @@ fn of_bytes(alloc: Global, form: &[u8]) -> Result<PgNumeric, CodecError>
 impl Plain for PgNumeric {
     ghost use Rattle.pgv_numeric.specs.NumericBack.{numeric_back};
 
-    ghost Meaning = { Numeric };
+    ghost View = { Numeric };
 
-    ghost meaning = { numeric_of };
+    ghost view = { numeric_of };
 
-    ghost reading = { numeric_reading };
+    ghost parse = { parse_numeric };
+
+    ghost null = { λ _ _. refl };
 
     ghost written = { plainly numeric_image };
-
-    ghost takes_memory = { numeric_takes };
-
-    ghost refusal = { numeric_refusal };
 
     #[inline(always)]
     fn read(alloc: Global, value: PgValueRef<'_>) -> Result<PgNumeric, CodecError> {

@@ -1,4 +1,4 @@
-use Rattle.pgv_row.proofs.Values.{gives_by}
+use Rattle.pgv_codec.proofs.Outcomes.{gives_by}
 use Rattle.pgv_row.proofs.row.decode_value.Goals as goal
 
 pub returns : goal.returns

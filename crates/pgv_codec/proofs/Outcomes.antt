@@ -1,22 +1,21 @@
--- What a type states of itself is what it reads of a value.
-use Rattle.std.proofs.Common.{◌≡◌, ◌≢◌, Bool, true, false, Option, Some, None, Result, Ok, Err, refl, sym, ap, inl, inr}
+-- What is said of a reading, of why nothing is read and of memory is one clause `Gives`.
+use Rattle.std.proofs.Common.{◌≡◌, ◌≢◌, Bool, true, false, Option, Some, None, IfSome, List, [], ◌∷◌, Result, Ok, Err, IfErr, IsErrOf, refl, sym, ap, ◌∙◌, subst, inl, inr}
 use Rattle.std.specs.Prelude.{◌⊎◌, ok_or}
-use Rattle.pgv_codec.specs.Refusing.{RefusedBy, ExactlyBy, RefusedExactly, RefusedFor}
-use Rattle.pgv_value.specs.Reading.{Refuses, Answers, AnswersExactly}
+use Rattle.std.proofs.lemmas.Bool.{false≢true}
+use Rattle.pgv_codec.specs.Refusing.{RefusedBy, ExactlyBy, RefusedFor, RefusedExactly}
+use Rattle.pgv_value.specs.Outcome.{Outcome, Fails, Gives, copied, fails, ok_of, why_of}
+use Rattle.pgv_value.specs.Reading.{Refuses, Answers, AnswersExactly, has_items}
 use Rattle.pgv_value.specs.declared.error.CodecError.{CodecError}
 use Rattle.pgv_value.specs.declared.error.CodecError.TheVariants.{Memory}
-use Rattle.pgv_value.specs.Outcome.{Outcome, Fails, Gives}
+use Rattle.pgv_value.proofs.Refusals.{Refuses-from}
 
 or_memory : (e : CodecError) {P : Type 0} → Refuses e P → (e ≡ Memory) ⊎ ((e ≢ Memory) × P)
 or_memory Memory r = inl refl
 or_memory _ r = inr ((λ is. absurd cc), r)
 
-module _ {V M : Type 0} (meaning : V → M) where
+module _ {V M : Type 0} (view : V → M) where
   abbrev outcome : Option M → Option CodecError → Bool → Outcome M
   outcome read why takes = record { answer = ok_or read why; may_alloc = takes }
-
-  nothing_read : (read : Option M) (why : Option CodecError) → read ≡ None → (outcome read why true).answer ≡ Err why
-  nothing_read read why none = rw none refl
 
   exactly_fails : (read : Option M) (why : Option CodecError) (takes : Bool) (e : CodecError) → read ≡ None → ExactlyBy why e → Fails e (outcome read why takes)
   exactly_fails read None takes e none other = inr (inl (rw none refl, other))
@@ -32,7 +31,7 @@ module _ {V M : Type 0} (meaning : V → M) where
       by (inr m) = exactly_fails read (Some d) takes e n.1 m.1
 
   pub gives_by : (read : Option M) (why : Option CodecError) (takes : Bool) (r : Result V CodecError) →
-      Answers meaning read r → (takes ≡ false → AnswersExactly meaning read r) → RefusedFor why r → (takes ≡ false → RefusedExactly why r) → Gives meaning (outcome read why takes) r
+      Answers view read r → (takes ≡ false → AnswersExactly view read r) → RefusedFor why r → (takes ≡ false → RefusedExactly why r) → Gives view (outcome read why takes) r
   gives_by read why takes (Ok v) answers exactly refused refused_exactly = rw answers refl
   gives_by read why false (Err e) answers exactly refused refused_exactly = exactly_fails read why false e (exactly refl) (refused_exactly refl)
   gives_by read why true (Err e) answers exactly refused refused_exactly = fails_by read why true e refl (or_memory e answers) refused
