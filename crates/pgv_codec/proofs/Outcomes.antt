@@ -1,13 +1,11 @@
 -- What is said of a reading, of why nothing is read and of memory is one clause `Gives`.
-use Rattle.std.proofs.Common.{◌≡◌, ◌≢◌, Bool, true, false, Option, Some, None, IfSome, List, [], ◌∷◌, Result, Ok, Err, IfErr, IsErrOf, refl, sym, ap, ◌∙◌, subst, inl, inr}
+use Rattle.std.proofs.Common.{◌≡◌, ◌≢◌, Bool, true, false, Option, Some, None, Result, Ok, Err, refl, sym, ap, inl, inr}
 use Rattle.std.specs.Prelude.{◌⊎◌, ok_or}
-use Rattle.std.proofs.lemmas.Bool.{false≢true}
 use Rattle.pgv_codec.specs.Refusing.{RefusedBy, ExactlyBy, RefusedFor, RefusedExactly}
-use Rattle.pgv_value.specs.Outcome.{Outcome, Fails, Gives, copied, fails, ok_of, why_of}
-use Rattle.pgv_value.specs.Reading.{Refuses, Answers, AnswersExactly, has_items}
+use Rattle.pgv_value.specs.Outcome.{Outcome, Fails, Gives}
+use Rattle.pgv_value.specs.Reading.{Refuses, Answers, AnswersExactly}
 use Rattle.pgv_value.specs.declared.error.CodecError.{CodecError}
 use Rattle.pgv_value.specs.declared.error.CodecError.TheVariants.{Memory}
-use Rattle.pgv_value.proofs.Refusals.{Refuses-from}
 
 or_memory : (e : CodecError) {P : Type 0} → Refuses e P → (e ≡ Memory) ⊎ ((e ≢ Memory) × P)
 or_memory Memory r = inl refl

@@ -1,5 +1,5 @@
 -- The laws of plain types: what they write is what they read.
-use Rattle.std.specs.Prelude.{◌≡◌, ℕ, ◌^◌, nat_lt, nat_eq, Bool, true, false, cond, ℤ, List, length, Option, Some, None, Ok, refl, string_bytes}
+use Rattle.std.specs.Prelude.{◌≡◌, ℕ, ◌^◌, nat_lt, nat_eq, Bool, true, false, cond, ℤ, List, length, Option, Some, None, Result, Ok, Err, ok_or, refl, string_bytes}
 use Rattle.std.specs.Int.{Width, w8, w16, w32, w64, cast_unsigned, to_be_bytes}
 use Rattle.std.specs.Str.{IsUtf8}
 use Rattle.std.specs.declared.string.String.{String}
@@ -14,7 +14,7 @@ use Rattle.pgv_buf.specs.Tokens.{bytes, be4}
 use Rattle.pgv_value.specs.FrameBinary.{Part}
 use Rattle.pgv_value.specs.NumberBinary.{fits_signed, whole_number}
 use Rattle.pgv_value.specs.OwnBytes.{own_byte, own_two_bytes, own_four_bytes, own_eight_bytes}
-use Rattle.pgv_value.specs.Outcome.{ok_of, read_or, reading_of, stated, without_memory}
+use Rattle.pgv_value.specs.Outcome.{ok_of, reading_of, stated, without_memory}
 use Rattle.pgv_value.specs.Parsed.{Parsed}
 use Rattle.pgv_value.specs.Steps.{number}
 use Rattle.pgv_value.specs.ScalarGrammar.{parse_bool, parse_int, parse_char, parse_oid, parse_uuid}
@@ -32,8 +32,8 @@ pub part_is : (xs : List ℕ) (i : Image) (p : Option Ty) (os : List Oid) → (l
 part_is xs i p os e = rw (← same_Some (image_of (bytes xs)) i e) (ap (λ (ys : List ℕ). let q : Part = Some ys in q) (write-bytes p os xs))
 
 -- what is read, where something is
-pub is_read : {M : Type 0} (read : Option M) (m : M) (why : CodecError) (takes : Bool) → read ≡ Some m → ok_of (read_or read why takes).answer ≡ Some m
-is_read read m why takes e = rw e refl
+pub is_read : {M : Type 0} (read : Option M) (m : M) (why : Option CodecError) → read ≡ Some m → ok_of (let r : Result M (Option CodecError) = ok_or read why in r) ≡ Some m
+is_read read m why e = rw e refl
 
 -- what has a reading was parsed
 pub parsed_as : {M : Type 0} (p : Parsed M) (m : M) → ok_of (stated p) ≡ Some m → p ≡ Ok m

@@ -2,7 +2,7 @@
 -- what they are written as. The laws of `laws::rows` give each type's row by these: the PostgreSQL type of its values and of
 -- their arrays, the types under which both are read (`IsBuiltIn`: those that are softly equal to it), its image, with size hint
 -- 0 and no other type (`IsWrittenAs`), and the grammar that it is read by (`parse`).
-use Rattle.std.specs.Prelude.{◌≡◌, ℕ, Bool, false, List, Option, Some, None}
+use Rattle.std.specs.Prelude.{◌≡◌, ℕ, Bool, false, List, Option, None}
 use Rattle.pgv_types.specs.Ty.{Ty, builtin}
 use Rattle.pgv_types.specs.Relations.{softly}
 use Rattle.pgv_value.specs.declared.value.PgValueFormat.{PgValueFormat}

@@ -134,4 +134,4 @@ hstore_back h i t p os e whole small fit =
     let again =
     ap (λ (rest : List ℕ). hstore_in_binary (be4 (length ps) ++ rest)) (sym (append-nil (flat_map pair_form ps))) ∙ read
     ∙ ap (λ (qs : List Pair). Some qs) (put_after [] ps sorted.0) in
-    ap (λ (part : Part). reading_of parse_hstore t Binary part) (part_is form i p os g.1) ∙ is_read _ _ _ _ again
+    ap (λ (part : Part). reading_of parse_hstore t Binary part) (part_is form i p os g.1) ∙ is_read _ _ _ again

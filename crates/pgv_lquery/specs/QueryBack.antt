@@ -76,4 +76,4 @@ binary_again levels e c = rw (ascii_is_utf8 (printed_query levels) (query_ascii 
 pub query_back : ReadsBack query_image (reading_of parse_query) (λ levels. levels) query_fits
 query_back levels i t p os e whole small fit =
     let g = guarded (is_query levels) (Some (image_of (bytes (1 ∷ printed_query levels)))) i e in
-    ap (λ (part : Part). reading_of parse_query t Binary part) (part_is (1 ∷ printed_query levels) i p os g.1) ∙ is_read _ _ _ _ (binary_again levels g.0 fit)
+    ap (λ (part : Part). reading_of parse_query t Binary part) (part_is (1 ∷ printed_query levels) i p os g.1) ∙ is_read _ _ _ (binary_again levels g.0 fit)

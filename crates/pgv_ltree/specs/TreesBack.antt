@@ -38,4 +38,4 @@ binary_again labels e =
 pub tree_back : ReadsBack tree_image (reading_of parse_tree) tree_kept always
 tree_back labels i t p os e whole small fit =
     let g = guarded (list_all is_label labels) (Some (image_of (bytes (1 ∷ printed_tree labels)))) i e in
-    ap (λ (part : Part). reading_of parse_tree t Binary part) (part_is (1 ∷ printed_tree labels) i p os g.1) ∙ is_read _ _ _ _ (binary_again labels g.0)
+    ap (λ (part : Part). reading_of parse_tree t Binary part) (part_is (1 ∷ printed_tree labels) i p os g.1) ∙ is_read _ _ _ (binary_again labels g.0)

@@ -11,7 +11,12 @@ use Rattle.pgv_value.specs.Reading.{has_items}
 use Rattle.pgv_value.specs.declared.error.CodecError.TheVariants.{Syntax, WrongLength}
 use Rattle.pgv_more.specs.ByteaText.{all_digits, bytea_in_text, digits_after, of_length, sized_in_text, where_ok}
 
-value_-- some are read of some
+value_of_pairs : (digits : List ℕ) → (length digits % 2 == 0 && all_digits digits) ≡ true → (value : List ℕ) × (decode_of digits ≡ Ok value)
+value_of_pairs digits pairs =
+    let parts = and_parts (length digits % 2 == 0) (all_digits digits) pairs in
+    decode_of-digits digits (eqb-true (length digits % 2) 0 parts.0) (AllPass-from_list_all is_hex_digit digits parts.1)
+
+-- some are read of some
 held : (digits value : List ℕ) → 0 < length digits → decode_of digits ≡ Ok value → has_items (where_ok (decode_of digits)) ≡ true
 held digits [] some is = absurd (omega (arith, some, (decode_of-ok digits [] is).2))
 held digits (byte ∷ value) some is = rw is refl

@@ -40,4 +40,4 @@ pub bits_back : ReadsBack bits_image (reading_of parse_bits) (λ bits. bits) alw
 bits_back bits i t p os e whole small fit =
     let g = guarded (nat_le (length bits) 2147483647) (Some (image_of (bytes (be4 (length bits) ++ packed bits)))) i e in
     ap (λ (part : Part). reading_of parse_bits t Binary part) (part_is (be4 (length bits) ++ packed bits) i p os g.1)
-    ∙ is_read _ _ _ _ (binary_again bits (leb-true (length bits) 2147483647 g.0))
+    ∙ is_read _ _ _ (binary_again bits (leb-true (length bits) 2147483647 g.0))

@@ -92,6 +92,6 @@ numeric_back (Number sign v weight scale) i t p os e whole small fit =
     let fit = and_parts (list_all is_digit ds) (fits_signed w16 weight && fits_signed w16 scale) few.1 in
     let words = and_parts (fits_signed w16 weight) (fits_signed w16 scale) fit.1 in
     ap (λ (part : Part). reading_of parse_numeric t Binary part) (part_is form i p os g.1)
-    ∙ is_read _ _ _ _ (
+    ∙ is_read _ _ _ (
     ap numeric_in_binary (sym (nothing_after form))
     ∙ number_there [] sign ds weight scale (few_digits (length ds) few.0) (digits_fit ds fit.0) words.0 words.1)
