@@ -3,7 +3,7 @@ use Rattle.std.proofs.Common.{◌≡◌, ℕ, ℤ, zero, suc, ◌+◌, ◌<◌, 
 use Rattle.std.specs.Prelude.{FitsSigned, ◌==◌, not, option_map, ok_or}
 use Rattle.std.specs.List.{AllByRecursion, position, position_or_len}
 use Rattle.std.specs.Int.{w16, w32, to_be_bytes, from_be_bytes, cast_signed, cast_unsigned}
-use Rattle.std.proofs.lemmas.Bool.{le-ltb, lt-ltb, eqb-true, eq-eqb, false≢true}
+use Rattle.std.proofs.lemmas.Bool.{le-ltb, lt-ltb, eqb-true, false≢true}
 use Rattle.std.proofs.lemmas.List.{take_at, drop_at, length-append, take-append-drop}
 use Rattle.std.proofs.lemmas.List.Quantifiers.{position-Some}
 use Rattle.std.proofs.lemmas.Nat.{be_bytes_2, from_be_bytes-to_be_bytes_2}
@@ -13,14 +13,13 @@ use Rattle.pgv_value.specs.FrameBinary.{Part, IsFrame, front, frame_fault, field
 use Rattle.pgv_value.specs.Laws.{AreBytes}
 use Rattle.pgv_value.specs.Steps.{number, signed_two}
 use Rattle.pgv_value.specs.Utf8.{is_utf8}
-use Rattle.pgv_value.specs.declared.error.CodecError.{CodecError}
-use Rattle.pgv_value.specs.declared.error.CodecError.TheVariants.{FieldCount, Short, Utf8, OutOfRange}
+use Rattle.pgv_value.specs.declared.error.CodecError.TheVariants.{Short, Utf8, OutOfRange}
 use Rattle.pgv_value.specs.declared.value.PgValueFormat.{PgValueFormat}
 use Rattle.pgv_value.specs.declared.value.PgValueFormat.TheVariants.{Text, Binary}
 use Rattle.pgv_value.proofs.Fronts.{front_exactly, frame_in_front}
 use Rattle.pgv_value.proofs.Numbers.{bytes_below, test_failed, number_is, number_there}
 use Rattle.pgv_value.specs.Fronts.{u16_front, i16_front, u32_front, ended_front, name_front, part_front, one_part, format_of, format_number}
-use Rattle.pgv_value.specs.Parsed.{Parsed, ◌>>=◌}
+use Rattle.pgv_value.specs.Parsed.{Parsed}
 use Rattle.pgv_value.specs.Several.{ReadsOne}
 use Rattle.pgv_value.proofs.Outcomes.{ok_is, found_or, stated_is, and_then_taken, held, failed}
 
