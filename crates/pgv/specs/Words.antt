@@ -69,14 +69,16 @@ pub use Rattle.pgv_wire.specs.Given.{ArgumentReadsBack}
 -- field of a composite fits, `FieldsFit` where one and those after it do; `Followed` and `FieldIsPlain` say so in plain words.
 pub use Rattle.pgv_codec.specs.Back.{ReadsBack, always, FieldFits, FieldsFit, Followed}
 -- Steps of such a proof: a value that has an image has passed the test before it (`guarded`), and bytes are written as they are
--- (`part_is`); what has a reading was parsed (`parsed_as`). Then the law for `i32`, `i64` and `String`.
-pub use Rattle.pgv_codec.specs.BackParts.{guarded}
+-- (`part_is`, `write-bytes`); what has a reading was parsed (`parsed_as`). Then the law for `i32`, `i64` and `String`.
+pub use Rattle.pgv_codec.specs.BackParts.{guarded, write-bytes}
 pub use Rattle.pgv_codec.specs.BackScalars.{part_is, parsed_as, int4_back, int8_back, text_back}
 -- The three steps for a composite.
 pub use Rattle.pgv_codec.specs.BackRecords.{further_back, last_back, record_back}
 pub use Rattle.pgv_codec.specs.Plain.{FieldIsPlain}
--- `written_part i p oids` is the part that an image is written as.
-pub use Rattle.pgv_codec.specs.Writing.{written_part}
+-- `written_part i p oids` is the part that an image is written as, and `write p oids tokens` the bytes of tokens. `ImageFits i`: each
+-- case of a slot has as many bytes as its default.
+pub use Rattle.pgv_codec.specs.Writing.{write, written_part}
+pub use Rattle.pgv_codec.specs.Back.{ImageFits}
 -- A text of ASCII alone is UTF-8.
 pub use Rattle.pgv_ltree.specs.Ascii.{are_ascii, ascii_is_utf8}
 -- The law for `PgLTree`, and what comes back of a tree.

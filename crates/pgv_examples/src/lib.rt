@@ -16,7 +16,9 @@
 //! 13. [`server_types`] makes a server's own types of the rows of its catalogue.
 //! 14. [`errors`] turns a refusal into an error of one's own, by column and number.
 //! 15. [`in_list`] has as many parameters as there are keys.
-//! 16. [`float8`] is a type that the library doesn't have, by its bytes.
+//! 16. [`float8`] is a type that the library doesn't have, by its bytes, and [`float_range`] a range over it.
+//! 17. [`json`] has the documents of `json` and `jsonb`.
+//! 18. [`shipment`] is a composite with a composite in it, and a field that may be null.
 //!
 //! All of them name the crate `pgv` alone, in code and in contracts, whose words are those of `Rattle.pgv.specs.Words`: that file says
 //! what each is.
@@ -29,8 +31,10 @@ pub mod email;
 pub mod empty_object;
 pub mod errors;
 pub mod float8;
+pub mod float_range;
 pub mod household;
 pub mod in_list;
+pub mod json;
 pub mod mood;
 pub mod page;
 pub mod pair;
@@ -38,5 +42,6 @@ pub mod percent;
 pub mod read_back;
 pub mod row;
 pub mod server_types;
+pub mod shipment;
 pub mod statement;
 pub mod user_id;

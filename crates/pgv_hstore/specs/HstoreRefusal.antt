@@ -2,7 +2,7 @@
 -- or value that can't be read gives the reason.
 -- Fewer than four bytes are C15, and a negative number of pairs C9. Else the first key or value that doesn't stand there says
 -- why: its frame ends too early (C15) or has a negative length (C16), a key is null (C35), or a text isn't UTF-8 (C14).
-use Rattle.std.specs.Prelude.{ℕ, zero, suc, nat_lt, Bool, false, if◌then◌else◌, List, Option, Some, None, is_some}
+use Rattle.std.specs.Prelude.{ℕ, zero, suc, nat_lt, Bool, false, if◌then◌else◌, List, Some, None, is_some}
 use Rattle.std.specs.Int.{w32, cast_signed}
 use Rattle.pgv_codec.specs.Image.{limit}
 use Rattle.pgv_value.specs.FrameBinary.{Part, front, frame_fault}

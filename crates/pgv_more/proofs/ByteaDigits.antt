@@ -56,12 +56,10 @@ others_not_read text digits after others = rw (← after) (others_are_none digit
 wrong_length : (digits value : List ℕ) (n : ℕ) (e : FromHexError) → decode_of digits ≡ Ok value → decode_sized digits n ≡ Err e → of_length n value ≡ Err (WrongLength (length digits / 2))
 wrong_length digits value n e is refused = by (nat_eq (length value) n) refl
   where
-    twice = (decode_of-ok digits value is).2
-
     by : (b : Bool) → nat_eq (length value) n ≡ b → of_length n value ≡ Err (WrongLength (length digits / 2))
-    by false test = let half : length value ≡ length digits / 2 = omega (arith, twice) in rw (test, half) refl
+    by false test = let half : length value ≡ length digits / 2 = omega (arith, (decode_of-ok digits value is).2) in rw (test, half) refl
     by true test =
-        let size : length digits ≡ 2 * n = omega (arith, eqb-true (length value) n test, twice) in
+        let size : length digits ≡ 2 * n = omega (arith, eqb-true (length value) n test, (decode_of-ok digits value is).2) in
         let both : Ok value ≡ Err e = sym is ∙ sym (decode_sized-twice digits n size) ∙ refused in
         absurd (cc)
 

@@ -3,19 +3,24 @@
 
 use hex::{decode, encode};
 use pgv::row::{PgColumns, PgPlaces, PgRow};
+use pgv::types::{PgLTree, PgRange};
 use pgv::{
     CodecError, Decode, Oid, PgArguments, PgCopyReader, PgType, PgTypeInfo, PgTypeKind,
-    PgValueFormat, PgValueRef,
+    PgValueFormat, PgValueRef, Type,
 };
 use pgv_examples::arrays::{add_lists, scores};
 use pgv_examples::bind::{arguments_of_search, fill, parameters_of_bind};
 use pgv_examples::copied::{columns, read_item, read_items};
 use pgv_examples::email::Email;
 use pgv_examples::errors::{Reason, name_in};
+use pgv_examples::float_range::FloatRange;
 use pgv_examples::float8::Float8;
 use pgv_examples::in_list::{add_all, push_in};
+use pgv_examples::json::Json;
 use pgv_examples::mood::Mood;
+use pgv_examples::page::Page;
 use pgv_examples::row::{column, keep, read_person};
+use pgv_examples::shipment::Shipment;
 use pgv_examples::statement::{ask, columns_of, people, run};
 use pgv_examples::user_id::UserId;
 use std::alloc::{AllocError, Global};
@@ -355,5 +360,68 @@ fn reasons_name_the_column(rt: HostRuntime) -> Result<(), CodecError> {
         b"00016c616d6500000000000000000000190000000000000000",
     )?;
     assert_eq!(rt; missing, Some(Reason::Missing("name")));
+    Ok(())
+}
+
+/// What is sent of the document `{}` to a parameter of this type, in hex, and what is read from it.
+fn document_shown(alloc: Global, parameter: PgType) -> Result<String, CodecError> {
+    let mut arguments = PgArguments::new(alloc);
+    let text = String::from_str(alloc, "{}")?;
+    arguments.add(Json { alloc, text })?;
+    arguments.apply_patches(&[PgTypeInfo(parameter)], &[])?;
+    let sent = arguments.buffer().as_slice();
+    let column = PgTypeInfo(PgType::Jsonb);
+    let value = PgValueRef::new(Some(&sent[4..]), column, PgValueFormat::Binary);
+    let read = Json::decode(alloc, value)?;
+    Ok(format!(in alloc; "{} {}", encode(alloc, sent)?, read.text)?)
+}
+
+/// What is sent of a shipment without a note, in hex, its holes open, and the text `(,"(1,a.b)")` read as one.
+fn shipment_shown(alloc: Global) -> Result<String, CodecError> {
+    let mut arguments = PgArguments::new(alloc);
+    let path = PgLTree::from_str(alloc, "a.b")?;
+    let page = Page { id: 1, path };
+    arguments.add(Shipment { note: None, page })?;
+    let sent = encode(alloc, arguments.buffer().as_slice())?;
+    let text = b"(,\"(1,a.b)\")".as_slice();
+    let value = PgValueRef::new(Some(text), Shipment::type_info(), PgValueFormat::Text);
+    let read = Shipment::decode(alloc, value)?;
+    Ok(format!(in alloc;
+        "{sent} {:?} {} {}",
+        read.note, read.page.id, read.page.path
+    )?)
+}
+
+/// What is sent of the range from one number of bits to another, in hex, and its bounds as read from that.
+fn range_shown(alloc: Global) -> Result<String, CodecError> {
+    let mut arguments = PgArguments::new(alloc);
+    let range = PgRange::from(Float8(1)..Float8(2));
+    arguments.add(FloatRange { range })?;
+    let sent = arguments.buffer().as_slice();
+    let over = PgTypeKind::Range(PgTypeInfo(PgType::Float8));
+    let column = PgTypeInfo::custom(alloc, Oid(16700), "floatrange", over)?;
+    let value = PgValueRef::new(Some(&sent[4..]), column, PgValueFormat::Binary);
+    let read = FloatRange::decode(alloc, value)?;
+    Ok(format!(in alloc; "{} {:?}", encode(alloc, sent)?, read.range)?)
+}
+
+#[test]
+fn types_of_ones_own(rt: HostRuntime) -> Result<(), CodecError> {
+    let shown = [
+        document_shown(rt.alloc(), PgType::Json)?,
+        document_shown(rt.alloc(), PgType::Jsonb)?,
+        shipment_shown(rt.alloc())?,
+        range_shown(rt.alloc())?,
+    ];
+    let expected = [
+        "00000003207b7d {}",
+        "00000003017b7d {}",
+        "000000300000000200000019ffffffff000000000000001c00000002000000170000000400000001000000000000000401612e62 None 1 a.b",
+        "00000019020000000800000000000000010000000800000000000000\
+         02 Bounds { start: Included(Float8(1)), end: Excluded(Float8(2)) }",
+    ];
+    for (found, expected) in shown.iter().zip(expected) {
+        assert_eq!(rt; found.as_str(), expected);
+    }
     Ok(())
 }

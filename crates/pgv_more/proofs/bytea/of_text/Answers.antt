@@ -1,4 +1,4 @@
-use Rattle.std.proofs.Common.{◌≡◌, ◌<◌, ℕ, List, Some, length, refl, sym, ◌∙◌, arith, inl, inr}
+use Rattle.std.proofs.Common.{◌<◌, length, refl, sym, ◌∙◌, arith, inl, inr}
 use Rattle.std.proofs.lemmas.Bool.Decides.{nat_tests}
 use Rattle.pgv_more.proofs.ByteaDigits.{nothing_is_read, others_not_read, pairs_ask}
 use Rattle.pgv_more.proofs.bytea.of_text.Goals as goal

@@ -1,0 +1,80 @@
+//! A composite in a composite, with a field that may be null: `create type shipment as (note text, page page)`.
+//!
+//! The answer of `encode_by_ref` is `proofs/shipment/ShipmentEncode/encode_by_ref/Answers.antt`.
+
+use crate::page::Page;
+use pgv::{
+    CodecError, Decode, Encode, IsNull, PgArgumentBuffer, PgRecordEncoder, PgTypeInfo, PgValueRef,
+    Type,
+};
+use std::alloc::{AllocError, Global};
+
+/// What is sent: a note, or null, and a page.
+#[derive(Drop)]
+pub struct Shipment {
+    /// The first field, a `text` that may be null.
+    pub note: Option<String>,
+    /// The second field, a composite.
+    pub page: Page,
+}
+
+impl Type for Shipment {
+    ghost use Rattle.std.specs.Prelude.{codes};
+    ghost use Rattle.pgv.specs.Words.{named, softly};
+
+    ghost info = { named (codes "shipment") };
+
+    ghost accepts = { λ t. softly t (named (codes "shipment")) };
+
+    fn type_info() -> PgTypeInfo {
+        PgTypeInfo::with_name("shipment")
+    }
+
+    fn compatible(type_info: &PgTypeInfo) -> bool {
+        type_info.type_compatible(&Self::type_info())
+    }
+}
+
+impl Encode for Shipment {
+    ghost use Rattle.std.specs.Prelude.{[], ◌∷◌};
+    ghost use Rattle.pgv.specs.Words.{field, record_image};
+
+    ghost image = { λ v. record_image (
+        field ⟦<Option<String> as Encode>⟧.hint ⟦<Option<String> as Encode>⟧.image ⟦<Option<String> as Encode>⟧.produced ⟦<Option<String> as Type>⟧.info v.note
+        ∷ field ⟦<Page as Encode>⟧.hint ⟦<Page as Encode>⟧.image ⟦<Page as Encode>⟧.produced ⟦<Page as Type>⟧.info v.page
+        ∷ []) };
+
+    fn encode_by_ref(&self, out: &mut PgArgumentBuffer) -> Result<IsNull, CodecError> {
+        let mut record = PgRecordEncoder::new(out)?;
+        record.encode(&self.note)?;
+        record.encode(&self.page)?;
+        record.finish();
+        Ok(IsNull::No)
+    }
+
+    fn size_hint(&self) -> usize {
+        0
+    }
+
+    fn produces(&self) -> Result<Option<PgTypeInfo>, AllocError> {
+        Ok(None)
+    }
+}
+
+/// Read as the first two fields of a record.
+impl Decode for Shipment {
+    ghost use Rattle.pgv.specs.Words.{unwritten};
+
+    ghost Meaning = { ⟦<(Option<String>, Page) as Decode>⟧.Meaning };
+
+    ghost meaning = { λ v. ⟦<(Option<String>, Page) as Decode>⟧.meaning (v.note, v.page) };
+
+    ghost reading = { ⟦<(Option<String>, Page) as Decode>⟧.reading };
+
+    ghost written = { unwritten };
+
+    fn decode(alloc: Global, value: PgValueRef<'_>) -> Result<Shipment, CodecError> {
+        let (note, page) = <(Option<String>, Page) as Decode>::decode(alloc, value)?;
+        Ok(Shipment { note, page })
+    }
+}
