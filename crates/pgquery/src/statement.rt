@@ -65,12 +65,12 @@ fn say_texts(bind: &mut [u8]) {
 fn execute<R: BufRead, W: Write>(
     alloc: Global,
     connection: &mut Connection<R, W>,
-    bound: &Bindings,
+    bindings: &Bindings,
     format: PgValueFormat,
 ) -> Result<(), Fault> {
     let mut out = Vec::new(alloc);
-    message::write_bind(&mut out, "", "", &bound.arguments, &[format])?;
-    if bound.format == PgValueFormat::Text {
+    message::write_bind(&mut out, "", "", &bindings.arguments, &[format])?;
+    if bindings.format == PgValueFormat::Text {
         say_texts(out.as_mut_slice());
     }
     message::write_execute(&mut out, "", 0)?;
@@ -164,14 +164,14 @@ pub fn run<R: BufRead, W: Write, S: Write>(
     if !are_built_in(described.parameters.as_slice()) {
         described = prepare(alloc, connection, sql)?;
     }
-    let bound = bound(alloc, described.parameters.as_slice(), options, &known)?;
+    let bindings = bound(alloc, described.parameters.as_slice(), options, &known)?;
     let mut columns = PgColumns::read(alloc, described.rows.as_slice(), &known)?;
     let format = match options.shown {
         Shown::Frames => PgValueFormat::Binary,
         _ => PgValueFormat::Text,
     };
     columns.set_format(format);
-    execute(alloc, connection, &bound, format)?;
+    execute(alloc, connection, &bindings, format)?;
     show_rows(alloc, connection, &columns, &known, options.shown, lines)
 }
 
