@@ -1,8 +1,9 @@
 //! `pgquery`: runs a statement on a PostgreSQL server that reads its standard output and writes its standard input, as
 //! `tools/with_server` ties them to a server's socket. Rows go to standard error, a line each, and so does an error.
 //!
-//! `pgquery [--json | --copy] SQL [PARAMETER ..]`: a parameter is a text of the type that the server says it has, and `\N` is null. A row
-//! is its values with a tab between two, as `COPY` writes them in text (PostgreSQL, "COPY", "Text Format"), or with `--json` an object.
+//! `pgquery [--json | --binary | --copy] SQL [PARAMETER ..]`: a parameter is a text of the type that the server says it has, and `\N` is
+//! null. A row is its values with a tab between two, as `COPY` writes them in text (PostgreSQL, "COPY", "Text Format"), or with `--json` an
+//! object. With `--binary` a parameter is the bytes of a value in hex, and a row the frames that the codec writes of what it read.
 //! `--copy` runs a `COPY .. TO STDOUT (FORMAT binary)`, and shows the bytes of each field in hex. The user and the database are
 //! `PGUSER` and `PGDATABASE`, or `postgres`.
 #![tactic(auto)]
@@ -13,19 +14,21 @@ mod fault;
 mod options;
 mod parameter;
 mod show;
+mod source;
 mod statement;
 
 use crate::connection::Connection;
 use crate::fault::Fault;
-use crate::options::{Asked, Options, variable_or};
+use crate::options::{Asked, Options, Shown, variable_or};
 use std::io::{self, BufReader, BufWriter, Write};
 use std::process::ExitCode;
 
 /// What `--help` says.
-const HELP: &str = "usage: pgquery [--json | --copy] SQL [PARAMETER ..]\n\
+const HELP: &str = "usage: pgquery [--json | --binary | --copy] SQL [PARAMETER ..]\n\
     Runs a statement on the PostgreSQL server that standard input and output are tied to:\n\
     tools/with_server crates/pgquery/out/pgquery 'select $1::int4[] || 4' '{1,2,3}'\n\
     A parameter is a text of its type, and \\N is null. Rows go to standard error, tab-separated, or with --json an object each.\n\
+    With --binary parameters and rows are bytes in hex, as the codec reads and writes them.\n\
     --copy runs a COPY .. TO STDOUT (FORMAT binary), and shows its fields in hex.\n\
     PGUSER and PGDATABASE name the user and the database, else postgres.";
 
@@ -61,10 +64,9 @@ fn run(rt: &HostRuntime, options: &Options) -> Result<(), Fault> {
     let database = variable_or(rt, "PGDATABASE", "postgres")?;
     let mut connection = Connection::new(alloc, reader, io::writer(rt));
     connection.start(alloc, user.as_str(), database.as_str())?;
-    let done = if options.is_copy {
-        copied::run(alloc, &mut connection, options.sql.as_str(), &mut rows)
-    } else {
-        statement::run(alloc, &mut connection, options, &mut rows)
+    let done = match options.shown {
+        Shown::Copied => copied::run(alloc, &mut connection, options.sql.as_str(), &mut rows),
+        _ => statement::run(alloc, &mut connection, options, &mut rows),
     };
     rows.flush().or(Err(Fault::Write))?;
     done?;

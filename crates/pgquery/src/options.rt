@@ -4,16 +4,27 @@ use crate::fault::Fault;
 use std::alloc::Global;
 use std::env::{self, Env, VarError};
 
+/// How rows are shown.
+#[derive(Clone, Copy)]
+pub enum Shown {
+    /// As texts with a tab between two.
+    Texts,
+    /// As objects.
+    Objects,
+    /// As the frames that the codec writes of their values. Parameters are bytes too.
+    Frames,
+    /// As the fields of a COPY.
+    Copied,
+}
+
 /// A statement and how its rows are shown.
 #[derive(Drop)]
 pub struct Options {
-    /// Whether a row is shown as an object.
-    pub is_json: bool,
-    /// Whether the statement is a COPY.
-    pub is_copy: bool,
+    /// How rows are shown.
+    pub shown: Shown,
     /// The statement.
     pub sql: String,
-    /// The texts of its parameters, `None` for null.
+    /// The words of its parameters, `None` for null.
     pub parameters: Vec<Option<String>>,
 }
 
@@ -41,15 +52,16 @@ impl Options {
     pub fn read(rt: &(impl AllocGlobal + Env)) -> Result<Asked, Fault> {
         let mut words = env::args(rt).or(Err(Fault::Usage))?;
         let _name = words.next();
-        let (mut is_json, mut is_copy) = (false, false);
+        let mut shown = Shown::Texts;
         for word in words.by_ref() {
             match word.as_str() {
                 "--help" => return Ok(Asked::Help),
                 "--version" => return Ok(Asked::Version),
-                "--json" => is_json = true,
-                "--copy" => is_copy = true,
+                "--json" => shown = Shown::Objects,
+                "--binary" => shown = Shown::Frames,
+                "--copy" => shown = Shown::Copied,
                 text if text.starts_with("--") => return Err(Fault::Usage),
-                _ => return Options::with_words(rt.alloc(), is_json, is_copy, word, words),
+                _ => return Options::with_words(rt.alloc(), shown, word, words),
             }
         }
         Err(Fault::Usage)
@@ -58,8 +70,7 @@ impl Options {
     /// The same, with the statement and the words after it.
     fn with_words(
         alloc: Global,
-        is_json: bool,
-        is_copy: bool,
+        shown: Shown,
         sql: String,
         words: env::Args,
     ) -> Result<Asked, Fault> {
@@ -68,8 +79,7 @@ impl Options {
             parameters.push(parameter_of(word))?;
         }
         Ok(Asked::Run(Options {
-            is_json,
-            is_copy,
+            shown,
             sql,
             parameters,
         }))

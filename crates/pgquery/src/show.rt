@@ -1,8 +1,12 @@
 //! Rows as lines of text.
 
 use crate::fault::Fault;
+use crate::parameter::add_value;
+use crate::source::Source;
+use pgv::PgArguments;
+use pgv::catalog::{PgServerTypes, fill};
 use pgv::row::PgRow;
-use std::alloc::AllocError;
+use std::alloc::{AllocError, Global};
 
 /// Appends a text with its tabs, line ends and backslashes as COPY escapes them (PostgreSQL, "COPY", "Text Format").
 fn push_escaped(text: &str, line: &mut String) -> Result<(), AllocError> {
@@ -67,4 +71,24 @@ pub fn push_object(row: &PgRow<'_>, line: &mut String) -> Result<(), Fault> {
         line.push('{')?;
     }
     Ok(line.push_str("}\n")?)
+}
+
+/// Appends the frames that the codec writes of a row's values, as it reads them, in hex, and a line feed.
+pub fn push_frames(
+    alloc: Global,
+    row: &PgRow<'_>,
+    known: &PgServerTypes,
+    line: &mut String,
+) -> Result<(), Fault> {
+    let mut arguments = PgArguments::new(alloc);
+    let mut types = Vec::new(alloc);
+    for (place, column) in row.columns().iter().enumerate() {
+        let type_info = column.type_info();
+        add_value(alloc, &mut arguments, type_info, Source::Column(row, place))?;
+        types.push(type_info.clone()?)?;
+    }
+    fill(alloc, &mut arguments, types.as_slice(), known)?;
+    let digits = hex::encode(alloc, arguments.buffer().as_slice())?;
+    line.push_str(digits.as_str())?;
+    Ok(line.push('\n')?)
 }

@@ -2,9 +2,9 @@
 
 use crate::connection::Connection;
 use crate::fault::Fault;
-use crate::options::Options;
-use crate::parameter::{are_built_in, bound};
-use crate::show::{push_object, push_values};
+use crate::options::{Options, Shown};
+use crate::parameter::{Bindings, are_built_in, bound};
+use crate::show::{push_frames, push_object, push_values};
 use pgv::catalog::{PgCatalogRows, PgServerTypes};
 use pgv::message::{self, PgRequest, Prepared};
 use pgv::row::{PgColumns, PgPlaces, PgRow};
@@ -53,15 +53,26 @@ fn prepare<R: BufRead, W: Write>(
     Err(Fault::End)
 }
 
+/// Says in a Bind of the statement without a name that its parameters are texts: their one format code stands after the tag, the length,
+/// two empty names and the number of codes.
+fn say_texts(bind: &mut [u8]) {
+    if let Some(code) = bind.get_mut(10) {
+        *code = 0;
+    }
+}
+
 /// Binds the prepared statement, and has all its rows sent in a format.
 fn execute<R: BufRead, W: Write>(
     alloc: Global,
     connection: &mut Connection<R, W>,
-    arguments: &PgArguments,
+    bindings: &Bindings,
     format: PgValueFormat,
 ) -> Result<(), Fault> {
     let mut out = Vec::new(alloc);
-    message::write_bind(&mut out, "", "", arguments, &[format])?;
+    message::write_bind(&mut out, "", "", &bindings.arguments, &[format])?;
+    if bindings.format == PgValueFormat::Text {
+        say_texts(out.as_mut_slice());
+    }
     message::write_execute(&mut out, "", 0)?;
     message::write_sync(&mut out)?;
     let requests = [PgRequest::Bind, PgRequest::Execute, PgRequest::Sync];
@@ -77,15 +88,14 @@ fn keep_rows<R: BufRead, W: Write>(
     rows: &mut PgCatalogRows,
 ) -> Result<(), Fault> {
     let described = prepare(alloc, connection, sql)?;
-    let none: &[PgTypeInfo] = &[];
-    let mut columns = PgColumns::read(alloc, described.rows.as_slice(), &none)?;
+    let no_types: &[PgTypeInfo] = &[];
+    let mut columns = PgColumns::read(alloc, described.rows.as_slice(), &no_types)?;
     columns.set_format(PgValueFormat::Binary);
-    execute(
-        alloc,
-        connection,
-        &PgArguments::new(alloc),
-        PgValueFormat::Binary,
-    )?;
+    let none = Bindings {
+        arguments: PgArguments::new(alloc),
+        format: PgValueFormat::Binary,
+    };
+    execute(alloc, connection, &none, PgValueFormat::Binary)?;
     let mut room = PgPlaces::with_columns(alloc, &columns)?;
     for _ in 0..u64::MAX {
         match connection.answer(alloc)? {
@@ -154,15 +164,15 @@ pub fn run<R: BufRead, W: Write, S: Write>(
     if !are_built_in(described.parameters.as_slice()) {
         described = prepare(alloc, connection, sql)?;
     }
-    let arguments = bound(
-        alloc,
-        described.parameters.as_slice(),
-        options.parameters.as_slice(),
-        &known,
-    )?;
-    let columns = PgColumns::read(alloc, described.rows.as_slice(), &known)?;
-    execute(alloc, connection, &arguments, PgValueFormat::Text)?;
-    show_rows(alloc, connection, &columns, options.is_json, lines)
+    let bindings = bound(alloc, described.parameters.as_slice(), options, &known)?;
+    let mut columns = PgColumns::read(alloc, described.rows.as_slice(), &known)?;
+    let format = match options.shown {
+        Shown::Frames => PgValueFormat::Binary,
+        _ => PgValueFormat::Text,
+    };
+    columns.set_format(format);
+    execute(alloc, connection, &bindings, format)?;
+    show_rows(alloc, connection, &columns, &known, options.shown, lines)
 }
 
 /// Writes a line for each row that comes.
@@ -170,7 +180,8 @@ fn show_rows<R: BufRead, W: Write, S: Write>(
     alloc: Global,
     connection: &mut Connection<R, W>,
     columns: &PgColumns<'_>,
-    is_json: bool,
+    known: &PgServerTypes,
+    shown: Shown,
     lines: &mut S,
 ) -> Result<(), Fault> {
     let mut room = PgPlaces::with_columns(alloc, columns)?;
@@ -179,13 +190,8 @@ fn show_rows<R: BufRead, W: Write, S: Write>(
         match connection.answer(alloc)? {
             b'D' => {
                 line.clear();
-                push_row(
-                    columns,
-                    &mut room,
-                    connection.last()?.body,
-                    is_json,
-                    &mut line,
-                )?;
+                let body = connection.last()?.body;
+                push_row(alloc, columns, known, shown, &mut room, body, &mut line)?;
                 lines.write_all(line.as_bytes()).or(Err(Fault::Write))?;
             }
             b'Z' => return Ok(()),
@@ -197,16 +203,18 @@ fn show_rows<R: BufRead, W: Write, S: Write>(
 
 /// Appends the line of the row of a body.
 fn push_row(
+    alloc: Global,
     columns: &PgColumns<'_>,
+    known: &PgServerTypes,
+    shown: Shown,
     room: &mut PgPlaces,
     body: &[u8],
-    is_json: bool,
     line: &mut String,
 ) -> Result<(), Fault> {
     let row = PgRow::read(columns, room, body)?;
-    if is_json {
-        push_object(&row, line)
-    } else {
-        push_values(&row, line)
+    match shown {
+        Shown::Objects => push_object(&row, line),
+        Shown::Frames => push_frames(alloc, &row, known, line),
+        _ => push_values(&row, line),
     }
 }
