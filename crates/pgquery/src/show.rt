@@ -1,5 +1,9 @@
 //! Rows as lines of text.
 
+ghost use Rattle.std.specs.Prelude.{◌≡◌, ◌++◌, OnOk};
+ghost use Rattle.pgv_row.specs.RowView.{value_at};
+ghost use Rattle.pgquery.specs.Lines.{escape, escaped, line_of, value_shown};
+
 use crate::fault::Fault;
 use crate::parameter::add_value;
 use crate::source::Source;
@@ -8,69 +12,100 @@ use pgv::catalog::{PgServerTypes, fill};
 use pgv::row::PgRow;
 use std::alloc::{AllocError, Global};
 
-/// Appends a text with its tabs, line ends and backslashes as COPY escapes them (PostgreSQL, "COPY", "Text Format").
-fn push_escaped(text: &str, line: &mut String) -> Result<(), AllocError> {
-    for letter in text.chars() {
-        match letter {
-            '\t' => line.push_str("\\t")?,
-            '\n' => line.push_str("\\n")?,
-            '\r' => line.push_str("\\r")?,
-            '\\' => line.push_str("\\\\")?,
-            _ => line.push(letter)?,
-        }
+/// The digits of hex.
+const HEX_DIGITS: [u8; 16] = *b"0123456789abcdef";
+
+/// Appends a byte as COPY escapes it (PostgreSQL, "COPY", "Text Format").
+fn push_byte(byte: u8, line: &mut Vec<u8>) -> Result<(), AllocError>
+    ensures { OnOk result (line.new.items ≡ line.old.items ++ escape byte) }
+{
+    match byte {
+        b'\t' => line.extend_from_slice(b"\\t"),
+        b'\n' => line.extend_from_slice(b"\\n"),
+        b'\r' => line.extend_from_slice(b"\\r"),
+        b'\\' => line.extend_from_slice(b"\\\\"),
+        _ => Ok(line.push(byte)?),
+    }
+}
+
+/// Appends a text with its tabs, line ends and backslashes escaped.
+fn push_escaped(text: &[u8], line: &mut Vec<u8>) -> Result<(), AllocError>
+    ensures { OnOk result (line.new.items ≡ line.old.items ++ escaped text.now) }
+{
+    for byte in text {
+        push_byte(*byte, line)?;
     }
     Ok(())
 }
 
-/// Appends a text as a string of JSON (RFC 8259).
-fn push_string(text: &str, line: &mut String) -> Result<(), AllocError> {
-    line.push('"')?;
-    for letter in text.chars() {
-        match letter {
-            '"' => line.push_str("\\\"")?,
-            '\\' => line.push_str("\\\\")?,
-            '\u{0}'..='\u{1f}' => write!(line, "\\u{:04x}", letter as u32)?,
-            _ => line.push(letter)?,
+/// Appends a byte as a string of JSON has it (RFC 8259).
+fn push_string_byte(byte: u8, line: &mut Vec<u8>) -> Result<(), AllocError> {
+    match byte {
+        b'"' => line.extend_from_slice(b"\\\""),
+        b'\\' => line.extend_from_slice(b"\\\\"),
+        0..=0x1f => {
+            line.extend_from_slice(b"\\u00")?;
+            for digit in [byte / 16, byte % 16] {
+                line.push(HEX_DIGITS[usize::from(digit) % 16])?;
+            }
+            Ok(())
         }
+        _ => Ok(line.push(byte)?),
     }
-    line.push('"')
 }
 
-/// Appends the values of a row with a tab between two, null as `\N`, and a line feed.
-pub fn push_values(row: &PgRow<'_>, line: &mut String) -> Result<(), Fault> {
+/// Appends a text as a string of JSON.
+fn push_string(text: &[u8], line: &mut Vec<u8>) -> Result<(), AllocError> {
+    line.push(b'"')?;
+    for byte in text {
+        push_string_byte(*byte, line)?;
+    }
+    Ok(line.push(b'"')?)
+}
+
+/// Appends the value of a column: null as `\N`, and else its text.
+fn push_value(row: &PgRow<'_>, place: usize, line: &mut Vec<u8>) -> Result<(), Fault>
+    ensures { OnOk result (line.new.items ≡ line.old.items ++ value_shown (value_at row.now place)) }
+{
+    let value = row.try_get_raw(place)?;
+    if value.is_null() {
+        return Ok(line.extend_from_slice(b"\\N")?);
+    }
+    Ok(push_escaped(value.as_str()?.as_bytes(), line)?)
+}
+
+/// Appends the line of a row: its values with a tab between two, and a line feed.
+pub fn push_values(row: &PgRow<'_>, line: &mut Vec<u8>) -> Result<(), Fault>
+    ensures { OnOk result (line.new.items ≡ line.old.items ++ line_of row.now) }
+{
     for place in 0..row.len() {
         if place > 0 {
-            line.push('\t')?;
+            line.push(b'\t')?;
         }
-        let value = row.try_get_raw(place)?;
-        if value.is_null() {
-            line.push_str("\\N")?;
-        } else {
-            push_escaped(value.as_str()?, line)?;
-        }
+        push_value(row, place, line)?;
     }
-    Ok(line.push('\n')?)
+    Ok(line.push(b'\n')?)
 }
 
 /// Appends a row as an object, a string or null for each column, and a line feed.
-pub fn push_object(row: &PgRow<'_>, line: &mut String) -> Result<(), Fault> {
-    let mut between = '{';
+pub fn push_object(row: &PgRow<'_>, line: &mut Vec<u8>) -> Result<(), Fault> {
+    let mut between = b'{';
     for (place, column) in row.columns().iter().enumerate() {
         line.push(between)?;
-        between = ',';
-        push_string(column.name(), line)?;
-        line.push(':')?;
+        between = b',';
+        push_string(column.name().as_bytes(), line)?;
+        line.push(b':')?;
         let value = row.try_get_raw(place)?;
         if value.is_null() {
-            line.push_str("null")?;
+            line.extend_from_slice(b"null")?;
         } else {
-            push_string(value.as_str()?, line)?;
+            push_string(value.as_str()?.as_bytes(), line)?;
         }
     }
-    if between == '{' {
-        line.push('{')?;
+    if between == b'{' {
+        line.push(b'{')?;
     }
-    Ok(line.push_str("}\n")?)
+    Ok(line.extend_from_slice(b"}\n")?)
 }
 
 /// Appends the frames that the codec writes of a row's values, as it reads them, in hex, and a line feed.
@@ -78,7 +113,7 @@ pub fn push_frames(
     alloc: Global,
     row: &PgRow<'_>,
     known: &PgServerTypes,
-    line: &mut String,
+    line: &mut Vec<u8>,
 ) -> Result<(), Fault> {
     let mut arguments = PgArguments::new(alloc);
     let mut types = Vec::new(alloc);
@@ -89,6 +124,6 @@ pub fn push_frames(
     }
     fill(alloc, &mut arguments, types.as_slice(), known)?;
     let digits = hex::encode(alloc, arguments.buffer().as_slice())?;
-    line.push_str(digits.as_str())?;
-    Ok(line.push('\n')?)
+    line.extend_from_slice(digits.as_bytes())?;
+    Ok(line.push(b'\n')?)
 }

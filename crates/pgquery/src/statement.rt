@@ -185,14 +185,14 @@ fn show_rows<R: BufRead, W: Write, S: Write>(
     lines: &mut S,
 ) -> Result<(), Fault> {
     let mut room = PgPlaces::with_columns(alloc, columns)?;
-    let mut line = String::new(alloc);
+    let mut line = Vec::new(alloc);
     for _ in 0..u64::MAX {
         match connection.answer(alloc)? {
             b'D' => {
                 line.clear();
                 let body = connection.last()?.body;
                 push_row(alloc, columns, known, shown, &mut room, body, &mut line)?;
-                lines.write_all(line.as_bytes()).or(Err(Fault::Write))?;
+                lines.write_all(line.as_slice()).or(Err(Fault::Write))?;
             }
             b'Z' => return Ok(()),
             _ => {}
@@ -209,7 +209,7 @@ fn push_row(
     shown: Shown,
     room: &mut PgPlaces,
     body: &[u8],
-    line: &mut String,
+    line: &mut Vec<u8>,
 ) -> Result<(), Fault> {
     let row = PgRow::read(columns, room, body)?;
     match shown {
