@@ -2,9 +2,7 @@
 
 use crate::float8::Float8;
 use pgv::types::PgRange;
-use pgv::{
-    CodecError, Decode, Encode, IsNull, PgArgumentBuffer, PgTypeInfo, PgValueRef, ReadBack, Type,
-};
+use pgv::{CodecError, Decode, Encode, IsNull, PgArgumentBuffer, PgTypeInfo, PgValueRef, Type};
 use std::alloc::{AllocError, Global};
 
 /// A range of numbers by their bits. It is a type of its own, since `PgRange` has a type for PostgreSQL's own ranges alone.
@@ -65,13 +63,4 @@ impl Decode for FloatRange {
             range: PgRange::decode(alloc, value)?,
         })
     }
-}
-
-/// It comes back where its range does.
-impl ReadBack for FloatRange {
-    ghost kept = { λ v. record { range = ⟦<PgRange<Float8> as ReadBack>⟧.kept v.range } };
-
-    ghost fits = { λ v. ⟦<PgRange<Float8> as ReadBack>⟧.fits v.range };
-
-    ghost reads_back = { λ v. ⟦<PgRange<Float8> as ReadBack>⟧.reads_back v.range };
 }
