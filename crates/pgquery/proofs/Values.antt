@@ -1,6 +1,6 @@
--- What is shown of a column whose value was read: `\N`, or its text escaped.
+-- What is shown of a column whose value was read: null, or its text.
 use Rattle.std.proofs.Common.{◌≡◌, ℕ, Bool, true, false, cond, nat_lt, List, [], ◌∷◌, length, Option, Some, None, is_none, Result, Ok, refl, ap, ◌∙◌}
-use Rattle.pgquery.specs.Lines.{escaped, part_shown, value_shown}
+use Rattle.pgquery.specs.Lines.{escaped, json_part, json_value, part_shown, string_of, value_shown}
 use Rattle.pgv.specs.Words.{Given, Part}
 use Rattle.pgv_row.specs.Errors.{GivesAt}
 use Rattle.pgv_row.specs.RowView.{Row, place_at, value_at}
@@ -38,3 +38,13 @@ null_shown row place v read is = ap value_shown (read_there row place v read) �
 
 pub text_shown : (row : Row) (place : ℕ) (v : Given) (text : List ℕ) → Read row place v → v.bytes ≡ Some text → value_shown (value_at row place) ≡ escaped text
 text_shown row place v text read is = ap value_shown (read_there row place v read) ∙ ap part_shown is
+
+null_member : (part : Part) → is_none part ≡ true → json_part part ≡ 110 ∷ 117 ∷ 108 ∷ 108 ∷ []
+null_member None is = refl
+null_member (Some text) is = absurd cc
+
+pub null_in_object : (row : Row) (place : ℕ) (v : Given) → Read row place v → is_none v.bytes ≡ true → json_value (value_at row place) ≡ 110 ∷ 117 ∷ 108 ∷ 108 ∷ []
+null_in_object row place v read is = ap json_value (read_there row place v read) ∙ null_member v.bytes is
+
+pub text_in_object : (row : Row) (place : ℕ) (v : Given) (text : List ℕ) → Read row place v → v.bytes ≡ Some text → json_value (value_at row place) ≡ string_of text
+text_in_object row place v text read is = ap json_value (read_there row place v read) ∙ ap json_part is

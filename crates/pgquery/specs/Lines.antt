@@ -1,9 +1,13 @@
--- The line that is printed for a row (PostgreSQL, "COPY", "Text Format"): its values in order, a tab between two; null as `\N`, and in a
--- text tabs, line feeds, carriage returns and backslashes escaped.
-use Rattle.std.specs.Prelude.{ℕ, zero, suc, ◌==◌, if◌then◌else◌, List, [], ◌∷◌, ◌++◌, length, Option, Some, None}
-use Rattle.std.specs.List.{flat_map}
+-- The line that is printed for a row. As texts (PostgreSQL, "COPY", "Text Format"): its values in order, a tab between two; null as `\N`,
+-- and in a text tabs, line feeds, carriage returns and backslashes escaped. As an object of JSON (RFC 8259): the name of each column, and
+-- its value as a string or null; in a string quotes and backslashes escaped, and controls by their number.
+use Rattle.std.specs.Prelude.{ℕ, zero, suc, ◌+◌, ◌/◌, ◌%◌, ◌==◌, nat_lt, if◌then◌else◌, List, [], ◌∷◌, ◌++◌, length, Option, Some, None}
+use Rattle.std.specs.List.{flat_map, slice_get}
 use Rattle.pgv.specs.Words.{Given, Part}
+use Rattle.pgv_row.specs.ColumnView.{Column}
 use Rattle.pgv_row.specs.RowView.{Row, value_at}
+
+-- ---- as texts
 
 -- 9 is the tab, 10 the line feed, 13 the carriage return, 92 the backslash
 abbrev pub escape : ℕ → List ℕ
@@ -25,15 +29,59 @@ abbrev pub value_shown : Option Given → List ℕ
 value_shown None = []
 value_shown (Some value) = part_shown value.bytes
 
--- a tab, but before the first value
-abbrev pub before_value : ℕ → List ℕ
-before_value zero = []
-before_value (suc n) = 9 ∷ []
+-- this byte, but before the first value
+abbrev pub between : ℕ → ℕ → List ℕ
+between byte zero = []
+between byte (suc n) = byte ∷ []
 
 -- the first n values
 abbrev pub values_shown : Row → ℕ → List ℕ
 values_shown row zero = []
-values_shown row (suc n) = values_shown row n ++ (before_value n ++ value_shown (value_at row n))
+values_shown row (suc n) = values_shown row n ++ (between 9 n ++ value_shown (value_at row n))
 
 abbrev pub line_of : Row → List ℕ
 line_of row = values_shown row (length row.columns) ++ 10 ∷ []
+
+-- ---- as an object
+
+abbrev pub hex_digit : ℕ → ℕ
+hex_digit n = if nat_lt n 10 then 48 + n else 87 + n
+
+-- 34 is the quote; a control is `\u00` and two digits
+abbrev pub json_escape : ℕ → List ℕ
+json_escape byte =
+    if byte == 34 then 92 ∷ 34 ∷ [] else
+    if byte == 92 then 92 ∷ 92 ∷ [] else
+    if nat_lt byte 32 then 92 ∷ 117 ∷ 48 ∷ 48 ∷ hex_digit (byte / 16) ∷ hex_digit (byte % 16) ∷ [] else
+    byte ∷ []
+
+abbrev pub json_escaped : List ℕ → List ℕ
+json_escaped text = flat_map json_escape text
+
+abbrev pub string_of : List ℕ → List ℕ
+string_of text = 34 ∷ (json_escaped text ++ 34 ∷ [])
+
+-- `null`, or a string
+abbrev pub json_part : Part → List ℕ
+json_part None = 110 ∷ 117 ∷ 108 ∷ 108 ∷ []
+json_part (Some text) = string_of text
+
+abbrev pub json_value : Option Given → List ℕ
+json_value None = []
+json_value (Some value) = json_part value.bytes
+
+abbrev pub name_of : Option Column → List ℕ
+name_of None = []
+name_of (Some column) = string_of column.name
+
+-- the name, a colon and the value of a column
+abbrev pub member : Row → ℕ → List ℕ
+member row place = name_of (slice_get row.columns place) ++ 58 ∷ json_value (value_at row place)
+
+-- the first n columns, a comma between two
+abbrev pub members : Row → ℕ → List ℕ
+members row zero = []
+members row (suc n) = members row n ++ (between 44 n ++ member row n)
+
+abbrev pub object_of : Row → List ℕ
+object_of row = 123 ∷ (members row (length row.columns) ++ 125 ∷ 10 ∷ [])

@@ -1,19 +1,17 @@
 //! Rows as lines of text.
 
-ghost use Rattle.std.specs.Prelude.{◌≡◌, ◌++◌, OnOk};
+ghost use Rattle.std.specs.Prelude.{◌≡◌, ◌++◌, ◌<◌, OnOk};
 ghost use Rattle.pgv_row.specs.RowView.{value_at};
-ghost use Rattle.pgquery.specs.Lines.{escape, escaped, line_of, value_shown};
+ghost use Rattle.pgquery.specs.Lines.{escape, escaped, json_escape, json_escaped, json_value, line_of, member, object_of, string_of, value_shown};
+ghost use Rattle.pgquery.specs.Lines as lines;
 
 use crate::fault::Fault;
 use crate::parameter::add_value;
 use crate::source::Source;
-use pgv::PgArguments;
 use pgv::catalog::{PgServerTypes, fill};
 use pgv::row::PgRow;
+use pgv::{CodecError, PgArguments};
 use std::alloc::{AllocError, Global};
-
-/// The digits of hex.
-const HEX_DIGITS: [u8; 16] = *b"0123456789abcdef";
 
 /// Appends a byte as COPY escapes it (PostgreSQL, "COPY", "Text Format").
 fn push_byte(byte: u8, line: &mut Vec<u8>) -> Result<(), AllocError>
@@ -38,28 +36,49 @@ fn push_escaped(text: &[u8], line: &mut Vec<u8>) -> Result<(), AllocError>
     Ok(())
 }
 
+/// The digit of a number below 16.
+fn hex_digit(number: u8) -> u8
+    requires { number < 16 }
+    ensures { result ≡ lines.hex_digit number }
+{
+    if number < 10 {
+        b'0' + number
+    } else {
+        b'a' + (number - 10)
+    }
+}
+
 /// Appends a byte as a string of JSON has it (RFC 8259).
-fn push_string_byte(byte: u8, line: &mut Vec<u8>) -> Result<(), AllocError> {
+fn push_string_byte(byte: u8, line: &mut Vec<u8>) -> Result<(), AllocError>
+    ensures { OnOk result (line.new.items ≡ line.old.items ++ json_escape byte) }
+{
     match byte {
         b'"' => line.extend_from_slice(b"\\\""),
         b'\\' => line.extend_from_slice(b"\\\\"),
         0..=0x1f => {
-            line.extend_from_slice(b"\\u00")?;
-            for digit in [byte / 16, byte % 16] {
-                line.push(HEX_DIGITS[usize::from(digit) % 16])?;
-            }
-            Ok(())
+            let (high, low) = (hex_digit(byte / 16), hex_digit(byte % 16));
+            line.extend_from_slice(&[b'\\', b'u', b'0', b'0', high, low])
         }
         _ => Ok(line.push(byte)?),
     }
 }
 
-/// Appends a text as a string of JSON.
-fn push_string(text: &[u8], line: &mut Vec<u8>) -> Result<(), AllocError> {
-    line.push(b'"')?;
+/// Appends a text with its quotes, backslashes and controls escaped.
+fn push_string_bytes(text: &[u8], line: &mut Vec<u8>) -> Result<(), AllocError>
+    ensures { OnOk result (line.new.items ≡ line.old.items ++ json_escaped text.now) }
+{
     for byte in text {
         push_string_byte(*byte, line)?;
     }
+    Ok(())
+}
+
+/// Appends a text as a string of JSON.
+fn push_string(text: &[u8], line: &mut Vec<u8>) -> Result<(), AllocError>
+    ensures { OnOk result (line.new.items ≡ line.old.items ++ string_of text.now) }
+{
+    line.push(b'"')?;
+    push_string_bytes(text, line)?;
     Ok(line.push(b'"')?)
 }
 
@@ -87,23 +106,39 @@ pub fn push_values(row: &PgRow<'_>, line: &mut Vec<u8>) -> Result<(), Fault>
     Ok(line.push(b'\n')?)
 }
 
-/// Appends a row as an object, a string or null for each column, and a line feed.
-pub fn push_object(row: &PgRow<'_>, line: &mut Vec<u8>) -> Result<(), Fault> {
-    let mut between = b'{';
-    for (place, column) in row.columns().iter().enumerate() {
-        line.push(between)?;
-        between = b',';
-        push_string(column.name().as_bytes(), line)?;
-        line.push(b':')?;
-        let value = row.try_get_raw(place)?;
-        if value.is_null() {
-            line.extend_from_slice(b"null")?;
-        } else {
-            push_string(value.as_str()?.as_bytes(), line)?;
-        }
+/// Appends the value of a column: `null`, or its text as a string.
+fn push_json_value(row: &PgRow<'_>, place: usize, line: &mut Vec<u8>) -> Result<(), Fault>
+    ensures { OnOk result (line.new.items ≡ line.old.items ++ json_value (value_at row.now place)) }
+{
+    let value = row.try_get_raw(place)?;
+    if value.is_null() {
+        return Ok(line.extend_from_slice(b"null")?);
     }
-    if between == b'{' {
-        line.push(b'{')?;
+    Ok(push_string(value.as_str()?.as_bytes(), line)?)
+}
+
+/// Appends the name of a column and its value.
+fn push_member(row: &PgRow<'_>, place: usize, line: &mut Vec<u8>) -> Result<(), Fault>
+    ensures { OnOk result (line.new.items ≡ line.old.items ++ member row.now place) }
+{
+    let Some(column) = row.columns().get(place) else {
+        return Err(Fault::Codec(CodecError::NoField(place)));
+    };
+    push_string(column.name().as_bytes(), line)?;
+    line.push(b':')?;
+    push_json_value(row, place, line)
+}
+
+/// Appends a row as an object, a string or null for each column, and a line feed.
+pub fn push_object(row: &PgRow<'_>, line: &mut Vec<u8>) -> Result<(), Fault>
+    ensures { OnOk result (line.new.items ≡ line.old.items ++ object_of row.now) }
+{
+    line.push(b'{')?;
+    for place in 0..row.len() {
+        if place > 0 {
+            line.push(b',')?;
+        }
+        push_member(row, place, line)?;
     }
     Ok(line.extend_from_slice(b"}\n")?)
 }
