@@ -1,11 +1,14 @@
 -- The line that is printed for a row. As texts (PostgreSQL, "COPY", "Text Format"): its values in order, a tab between two; null as `\N`,
 -- and in a text tabs, line feeds, carriage returns and backslashes escaped. As an object of JSON (RFC 8259): the name of each column, and
 -- its value as a string or null; in a string quotes and backslashes escaped, and controls by their number.
-use Rattle.std.specs.Prelude.{ℕ, zero, suc, ◌+◌, ◌/◌, ◌%◌, ◌==◌, nat_lt, if◌then◌else◌, List, [], ◌∷◌, ◌++◌, length, Option, Some, None}
+use Rattle.std.specs.Prelude.{◌≡◌, ℕ, zero, suc, ◌+◌, ◌/◌, ◌%◌, ◌==◌, nat_lt, if◌then◌else◌, List, [], ◌∷◌, ◌++◌, length, Option, Some, None, ⊤}
 use Rattle.std.specs.List.{flat_map, slice_get}
 use Rattle.pgv.specs.Words.{Given, Part}
 use Rattle.pgv_row.specs.ColumnView.{Column}
+use Rattle.pgv_row.specs.DataRow.{IsDataRow}
 use Rattle.pgv_row.specs.RowView.{Row, value_at}
+use Rattle.pgquery.specs.declared.options.Shown.{Shown}
+use Rattle.pgquery.specs.declared.options.Shown.TheVariants.{Texts, Objects, Frames, Copied}
 
 -- ---- as texts
 
@@ -85,3 +88,17 @@ members row (suc n) = members row n ++ (between 44 n ++ member row n)
 
 abbrev pub object_of : Row → List ℕ
 object_of row = 123 ∷ (members row (length row.columns) ++ 125 ∷ 10 ∷ [])
+
+-- ---- of a body
+
+-- after these bytes comes the line of a row; of frames nothing is said
+abbrev pub Shows : Shown → Row → List ℕ → List ℕ → Type 0
+Shows Texts row was now = now ≡ was ++ line_of row
+Shows Objects row was now = now ≡ was ++ object_of row
+Shows Frames row was now = ⊤
+Shows Copied row was now = now ≡ was ++ line_of row
+
+-- the same of the row that the body of a DataRow is
+abbrev pub ShowsBody : Shown → List Column → List ℕ → List ℕ → List ℕ → Type 0
+ShowsBody shown columns body was now =
+    (row : Row) × (row.columns ≡ columns) × IsDataRow (length columns) body row.parts × Shows shown row was now

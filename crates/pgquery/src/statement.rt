@@ -1,5 +1,8 @@
 //! A statement: it is prepared, its parameters are bound, and its rows are shown.
 
+ghost use Rattle.std.specs.Prelude.{OnOk};
+ghost use Rattle.pgquery.specs.Lines.{ShowsBody};
+
 use crate::connection::Connection;
 use crate::fault::Fault;
 use crate::options::{Options, Shown};
@@ -210,7 +213,9 @@ fn push_row(
     room: &mut PgPlaces,
     body: &[u8],
     line: &mut Vec<u8>,
-) -> Result<(), Fault> {
+) -> Result<(), Fault>
+    ensures { OnOk result (ShowsBody shown columns.now body.now line.old.items line.new.items) }
+{
     let row = PgRow::read(columns, room, body)?;
     match shown {
         Shown::Objects => push_object(&row, line),
