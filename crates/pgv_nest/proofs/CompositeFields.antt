@@ -5,8 +5,7 @@ use Rattle.std.specs.declared.rc.RcStr.{RcStr}
 use Rattle.std.specs.declared.alloc.Global.{Global}
 use Rattle.pgv_types.specs.Ty.{Ty, Kind, composite}
 use Rattle.pgv_types.specs.Shown.{fields_of}
-use Rattle.pgv_nest.specs.NestRefusals.{composite_refusal, field_type_refusal_in}
-use Rattle.pgv_nest.specs.RecordGrammar.{field_at, field_type_in, if_oid}
+use Rattle.pgv_nest.specs.RecordGrammar.{field_at, field_type_in, composite_field}
 
 pub field_at-list : (fields : List (RcStr Global × Ty)) (place : ℕ) → field_at (fields_of fields) place ≡ option_map (λ (x : RcStr Global × Ty). x.1) (slice_get fields place)
 field_at-list [] zero = refl
@@ -16,10 +15,5 @@ field_at-list (f ∷ fields) (suc place) = field_at-list fields place
 
 -- the type of a composite type's field
 pub composite_type : (own : ℕ) (kind : Kind) (fields : List (RcStr Global × Ty)) (place oid : ℕ) → kind ≡ composite (fields_of fields) →
-    field_type_in own kind place oid ≡ if_oid (option_map (λ (x : RcStr Global × Ty). x.1) (slice_get fields place)) oid
+    field_type_in own kind place oid ≡ composite_field place (option_map (λ (x : RcStr Global × Ty). x.1) (slice_get fields place)) oid
 composite_type own kind fields place oid e = rw (e, field_at-list fields place) refl
-
--- why it is refused
-pub composite_why : (own : ℕ) (kind : Kind) (fields : List (RcStr Global × Ty)) (place oid : ℕ) → kind ≡ composite (fields_of fields) →
-    field_type_refusal_in own kind place oid ≡ composite_refusal place (option_map (λ (x : RcStr Global × Ty). x.1) (slice_get fields place))
-composite_why own kind fields place oid e = rw (e, field_at-list fields place) refl

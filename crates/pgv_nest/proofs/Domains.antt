@@ -2,7 +2,6 @@
 use Rattle.std.proofs.Common.{◌≡◌, ℕ, List, refl}
 use Rattle.pgv_types.specs.Ty.{Ty, builtin, custom, named, by_oid, array_of, Kind, simple, pseudo, domain, composite, array, enumeration, range}
 use Rattle.pgv_types.specs.Facts.{under_domains, under_domains_in}
-use Rattle.pgv_nest.specs.NestRefusals.{field_type_refusal, field_type_refusal_in}
 use Rattle.pgv_nest.specs.RecordGrammar.{field_type, field_type_in}
 
 module _ (place oid : ℕ) where
@@ -22,20 +21,3 @@ module _ (place oid : ℕ) where
     type_under_in own name (array element) = refl
     type_under_in own name (enumeration labels) = refl
     type_under_in own name (range element) = refl
-
-  mutual
-    pub refusal_under : (t : Ty) → field_type_refusal (under_domains t) place oid ≡ field_type_refusal t place oid
-    refusal_under (builtin own) = refl
-    refusal_under (custom own name kind) = refusal_under_in own name kind
-    refusal_under (named name) = refl
-    refusal_under (by_oid own) = refl
-    refusal_under (array_of name) = refl
-
-    refusal_under_in : (own : ℕ) (name : List ℕ) (kind : Kind) → field_type_refusal (under_domains_in (custom own name kind) kind) place oid ≡ field_type_refusal_in own kind place oid
-    refusal_under_in own name simple = refl
-    refusal_under_in own name pseudo = refl
-    refusal_under_in own name (domain base) = refusal_under base
-    refusal_under_in own name (composite _) = refl
-    refusal_under_in own name (array element) = refl
-    refusal_under_in own name (enumeration labels) = refl
-    refusal_under_in own name (range element) = refl

@@ -1,19 +1,23 @@
--- Arrays (PostgreSQL: "Arrays", 8.15; the binary form is that of its source, array_send): the number of dimensions, flags, the
--- OID of the elements' type, and for the one dimension that is read the number of elements and the lower bound; then a frame
--- for each element. In text the values of an array text.
--- In binary no dimensions and anything after it is no elements. Else it is one dimension, four bytes, an OID, a count that is
--- not negative, lower bound 1, that many frames, and anything after. The element's type is the built-in of the OID, else the
--- element of the value's type; it must exist, also for no elements. The decoders' contracts name the function `array_of`, which
--- computes it.
-use Rattle.std.specs.Prelude.{ℕ, zero, suc, nat_lt, nat_eq, List, [], ◌∷◌, length, Option, Some, None, if◌then◌else◌}
+-- Arrays (PostgreSQL: "Arrays", 8.15; the binary form is that of its source, array_send): what is read, why it is refused and where
+-- memory is asked for.
+-- In binary: the number of dimensions, flags, the OID of the elements' type, and for the one dimension that is read the number of
+-- elements and the lower bound; then a frame for each element. No dimensions and anything after it is no elements. The element's
+-- type is the built-in of the OID, else the element of the value's type; it must exist, also for no elements. Anything may come
+-- after the last frame. In text the values of an array text, each read under the elements' own type.
+use Rattle.std.specs.Prelude.{ℕ, zero, suc, nat_lt, nat_eq, not, ◌&&◌, Bool, List, [], ◌∷◌, length, Option, Some, None, if◌then◌else◌}
+use Rattle.std.specs.Int.{w32, cast_signed}
 use Rattle.pgv_types.specs.Ty.{Ty}
-use Rattle.pgv_types.specs.Facts.{built_in, element_of}
+use Rattle.pgv_types.specs.Facts.{built_in, element_of, is_custom}
 use Rattle.pgv_text.specs.Values.{array_values}
-use Rattle.pgv_value.specs.FrameBinary.{Part, front}
-use Rattle.pgv_value.specs.Reading.{Reading}
+use Rattle.pgv_value.specs.FrameBinary.{Part}
+use Rattle.pgv_value.specs.Fronts.{u32_at, value_at}
+use Rattle.pgv_value.specs.Outcome.{Outcome, done, fails, fails_if, or_fail, allocates, ◌>>=◌, ◌>>◌}
+use Rattle.pgv_value.specs.Reading.{has_items}
 use Rattle.pgv_value.specs.Utf8.{is_utf8}
+use Rattle.pgv_value.specs.ValueView.{Given, given}
+use Rattle.pgv_value.specs.declared.error.CodecError.TheVariants.{UnexpectedNull, Utf8, Syntax, NegativeLength, Dimensions, LowerBound, ElementType, ElementCount}
+use Rattle.pgv_value.specs.declared.value.PgValueFormat.{PgValueFormat}
 use Rattle.pgv_value.specs.declared.value.PgValueFormat.TheVariants.{Text, Binary}
-use Rattle.pgv_value.specs.Steps.{◌>>=◌, number}
 
 -- the type of the elements: the built-in type of the OID that stands there, else the element of the array's type
 abbrev pub element_type : Ty → ℕ → Option Ty
@@ -25,58 +29,81 @@ pub record Head : Type 0 where
   pub count : ℕ
   pub frames : List ℕ
 
--- after the number of dimensions, which is one: flags, which say nothing here, OID, count, lower bound
-unfoldable pub one_dimension : Ty → List ℕ → Option Head
-one_dimension t bytes =
-    number bytes >>= λ flags.
-    number flags.1 >>= λ oid.
-    element_type t oid.0 >>= λ element.
-    number oid.1 >>= λ count.
-    if nat_lt 2147483647 count.0 then None else
-    (number count.1 >>= λ lower_bound.
-    if nat_eq lower_bound.0 1 then Some (record { element = element; count = count.0; frames = lower_bound.1 }) else None)
+-- after the number of dimensions, which is one; the elements' type is copied, which asks for memory of a custom one alone
+unfoldable pub one_dimension : Ty → List ℕ → Outcome Head
+one_dimension t bytes = do
+  flags ← u32_at bytes
+  oid ← u32_at flags.1
+  element ← or_fail (element_type t oid.0) (ElementType (record { 0 = oid.0 }))
+  count ← u32_at oid.1
+  fails_if (nat_lt 2147483647 count.0) (NegativeLength (cast_signed w32 count.0))
+  bound ← u32_at count.1
+  fails_if (not (nat_eq bound.0 1)) (LowerBound (cast_signed w32 bound.0))
+  allocates (is_custom element)
+  done (record { element = element; count = count.0; frames = bound.1 })
 
 -- the head of an array, where it has elements at all: of no dimensions it has none, and nothing more is looked at
-unfoldable pub head : Ty → List ℕ → Option (Option Head)
-head t bytes =
-    number bytes >>= λ dimensions.
-    if nat_eq dimensions.0 0 then Some None else
-    if nat_eq dimensions.0 1 then (one_dimension t dimensions.1 >>= λ h. Some (Some h)) else None
+unfoldable pub head : Ty → List ℕ → Outcome (Option Head)
+head t bytes = do
+  dimensions ← u32_at bytes
+  if nat_eq dimensions.0 0 then done None else
+      if nat_eq dimensions.0 1 then (one_dimension t dimensions.1 >>= λ h. done (Some h))
+      else fails (Dimensions (cast_signed w32 dimensions.0))
 
--- n frames, each read; anything may come after them
-unfoldable pub frames : {M : Type 0} → (Part → Option M) → ℕ → List ℕ → Option (List M)
-frames read zero bytes = Some []
-frames read (suc n) bytes = front bytes >>= λ p. read p.0 >>= λ m. frames read n p.1 >>= λ ms. Some (m ∷ ms)
+-- n frames of values of a type, each read; anything may come after them
+unfoldable pub frames : {M : Type 0} → (Given → Outcome M) → Ty → ℕ → List ℕ → Outcome (List M)
+frames parse t zero bytes = done []
+frames parse t (suc n) bytes = do
+  value ← value_at t bytes
+  m ← parse value.0
+  ms ← frames parse t n value.1
+  done (m ∷ ms)
+
+-- parts in text, each read
+unfoldable pub each : {M : Type 0} → (Given → Outcome M) → Ty → List Part → Outcome (List M)
+each parse t [] = done []
+each parse t (part ∷ parts) = do
+  m ← parse (given t Text part)
+  ms ← each parse t parts
+  done (m ∷ ms)
+
+-- The list has room for as many elements as the bytes can hold; where that is none, it asks for no memory.
+abbrev pub has_room : ℕ → List ℕ → Bool
+has_room count bytes = nat_lt 0 count && nat_lt 3 (length bytes)
+
+unfoldable pub elements : {M : Type 0} → (Given → Outcome M) → Ty → ℕ → List ℕ → Outcome (List M)
+elements parse t count bytes = do
+  allocates (has_room count bytes)
+  frames parse t count bytes
 
 -- the elements after a head
-abbrev pub elements : {M : Type 0} → (Ty → Part → Option M) → Option Head → Option (List M)
-elements read None = Some []
-elements read (Some h) = frames (read h.element) h.count h.frames
+abbrev pub elements_after : {M : Type 0} → (Given → Outcome M) → Option Head → Outcome (List M)
+elements_after parse None = done []
+elements_after parse (Some h) = elements parse h.element h.count h.frames
 
 -- an array in binary
-abbrev pub array_of : {M : Type 0} → (Ty → Part → Option M) → Ty → List ℕ → Option (List M)
-array_of read t bytes = head t bytes >>= elements read
+unfoldable pub array_in_binary : {M : Type 0} → (Given → Outcome M) → Ty → List ℕ → Outcome (List M)
+array_in_binary parse t bytes = head t bytes >>= elements_after parse
 
--- parts, each read
-unfoldable pub each : {M : Type 0} → (Part → Option M) → List Part → Option (List M)
-each read [] = Some []
-each read (part ∷ parts) = read part >>= λ m. each read parts >>= λ ms. Some (m ∷ ms)
+-- an array in text, of elements under a type
+unfoldable pub array_in_text : {M : Type 0} → (Given → Outcome M) → Ty → List ℕ → Outcome (List M)
+array_in_text parse t text = do
+  parts ← or_fail (array_values text) Syntax
+  allocates (has_items (array_values text))
+  each parse t parts
 
--- an array in text
-abbrev pub array_in_text : {M : Type 0} → (Part → Option M) → List ℕ → Option (List M)
-array_in_text read text = array_values text >>= each read
+abbrev pub array_by : {M : Type 0} → Ty → (Given → Outcome M) → Ty → PgValueFormat → Option (List ℕ) → Outcome (List M)
+array_by info parse t format None = fails UnexpectedNull
+array_by info parse t Text (Some bytes) = if is_utf8 bytes then array_in_text parse info bytes else fails Utf8
+array_by info parse t Binary (Some bytes) = array_in_binary parse t bytes
 
--- an array of elements that are read so; in text each is read under the elements' own type, `info`
-abbrev pub array : {M : Type 0} → Ty → Reading M → Reading (List M)
-array info reading t f None = None
-array info reading t Text (Some bytes) = if is_utf8 bytes then array_in_text (reading info Text) bytes else None
-array info reading t Binary (Some bytes) = array_of (λ u. reading u Binary) t bytes
+-- an array of elements that are read so, in text under the elements' own type, `info`
+abbrev pub parse_array : {M : Type 0} → Ty → (Given → Outcome M) → Given → Outcome (List M)
+parse_array info parse v = array_by info parse v.type_info v.format v.bytes
 
--- a list of this length
-abbrev pub of_length : {M : Type 0} → ℕ → Option (List M) → Option (List M)
-of_length n None = None
-of_length n (Some ms) = if nat_eq (length ms) n then Some ms else None
-
--- an array of this length
-abbrev pub array_of_length : {M : Type 0} → ℕ → Ty → Reading M → Reading (List M)
-array_of_length n info reading t f bytes = of_length n (array info reading t f bytes)
+-- an array of n elements; a list of another length is C22
+abbrev pub parse_sized : {M : Type 0} → ℕ → Ty → (Given → Outcome M) → Given → Outcome (List M)
+parse_sized n info parse v = do
+  ms ← parse_array info parse v
+  fails_if (not (nat_eq (length ms) n)) (ElementCount (length ms))
+  done ms

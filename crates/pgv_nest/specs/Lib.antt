@@ -3,6 +3,4 @@ pub mod HeadsView
 pub mod RecordGrammar
 pub mod NestBinary
 pub mod Found
-pub mod TupleGrammar
 pub mod NestText
-pub mod NestRefusals

@@ -5,23 +5,24 @@
 -- A record (`IsRecord`) is four bytes, and fields joined by `and`. Each field (`IsField`) is an OID and a frame of a value
 -- under the type that `HasFieldType` names. Laws: the decoders of tuples compute it (`tuple_is_its_fields`), and so do their
 -- parts (`field_is_its_value`, `record_begins`, `field_type_is_found`).
-use Rattle.std.specs.Prelude.{◌≡◌, ◌↔◌, ◌⊎◌, ℕ, suc, ◌<◌, ◌^◌, Bool, true, List, [], ◌∷◌, ◌++◌, length, Option, Some, ⊤, ◌*◌, ◌≤◌}
+use Rattle.std.specs.Prelude.{◌≡◌, ◌↔◌, ◌⊎◌, ℕ, suc, ◌<◌, ◌^◌, Bool, true, List, [], ◌∷◌, ◌++◌, length, Option, Some, Ok, ⊤, ◌*◌, ◌≤◌}
 use Rattle.std.specs.Int.{w32, to_be_bytes}
 use Rattle.pgv_types.specs.Ty.{Ty, builtin, custom, simple, domain, composite, Fields}
 use Rattle.pgv_types.specs.Facts.{built_in, oid_of}
 use Rattle.pgv_value.specs.FrameBinary.{Part, IsFrame}
 use Rattle.pgv_value.specs.Laws.{AreBytes}
-use Rattle.pgv_value.specs.Reading.{Reading}
+use Rattle.pgv_value.specs.Outcome.{Outcome, Reads}
+use Rattle.pgv_value.specs.ValueView.{Given, given}
 use Rattle.pgv_value.specs.declared.value.PgValueFormat.TheVariants.{Binary}
-use Rattle.pgv_nest.specs.ArrayGrammar.{element_type, array_of}
-use Rattle.pgv_nest.specs.RecordGrammar.{Left, field_at, field_type, field_in, binary_fields, fields_of}
+use Rattle.pgv_nest.specs.ArrayGrammar.{element_type, array_in_binary}
+use Rattle.pgv_nest.specs.RecordGrammar.{Left, field_at, field_type, field_in_binary, binary_fields, fields_of}
 
 -- ---- arrays
 
--- The bytes begin with a frame of each of these values, one after another. Anything may come after them.
-abbrev pub BeginWithFrames : {M : Type 0} → (Part → Option M) → List ℕ → List M → Type 0
-BeginWithFrames read bytes [] = ⊤
-BeginWithFrames read bytes (m ∷ ms) = (part : Part) × (rest : List ℕ) × IsFrame bytes part rest × (read part ≡ Some m) × BeginWithFrames read rest ms
+-- The bytes begin with a frame of each of these values of a type, one after another. Anything may come after them.
+abbrev pub BeginWithFrames : {M : Type 0} → (Given → Outcome M) → Ty → List ℕ → List M → Type 0
+BeginWithFrames parse t bytes [] = ⊤
+BeginWithFrames parse t bytes (m ∷ ms) = (part : Part) × (rest : List ℕ) × IsFrame bytes part rest × Reads parse (given t Binary part) m × BeginWithFrames parse t rest ms
 
 -- An array of no dimensions has no elements. After the 0 nothing is looked at.
 abbrev pub IsWithoutDimensions : {M : Type 0} → List ℕ → List M → Type 0
@@ -29,7 +30,7 @@ IsWithoutDimensions bytes ms = (rest_after : List ℕ) × (bytes ≡ to_be_bytes
 
 -- An array of one dimension: flags, the OID of the elements' type, how many there are, the lower bound 1, and a frame
 -- for each.
-pub record IsOneDimension {M : Type 0} (read : Ty → Part → Option M) (t : Ty) (bytes : List ℕ) (ms : List M) : Type 0 where
+pub record IsOneDimension {M : Type 0} (parse : Given → Outcome M) (t : Ty) (bytes : List ℕ) (ms : List M) : Type 0 where
   pub flags : List ℕ
   pub oid : ℕ
   pub element : Ty
@@ -39,11 +40,11 @@ pub record IsOneDimension {M : Type 0} (read : Ty → Part → Option M) (t : Ty
   pub oid_fits : oid < 2 ^ 32
   pub count_fits : length ms < 2 ^ 31
   pub typed : element_type t oid ≡ Some element
-  pub framed : BeginWithFrames (read element) frames ms
+  pub framed : BeginWithFrames parse element frames ms
 
 -- the bytes are an array of these elements, under a type
-abbrev pub IsArray : {M : Type 0} → (Ty → Part → Option M) → Ty → List ℕ → List M → Type 0
-IsArray read t bytes ms = IsWithoutDimensions bytes ms ⊎ IsOneDimension read t bytes ms
+abbrev pub IsArray : {M : Type 0} → (Given → Outcome M) → Ty → List ℕ → List M → Type 0
+IsArray parse t bytes ms = IsWithoutDimensions bytes ms ⊎ IsOneDimension parse t bytes ms
 
 -- ---- the fields of records
 
@@ -63,7 +64,7 @@ abbrev pub Stretch : Type 0 → Type 1
 Stretch M = Ty → ℕ → List ℕ → M → List ℕ → Type 0
 
 -- One field: the OID of its type, which the reader accepts, and a frame that has the meaning under this type.
-pub record IsField {M : Type 0} (accepts : Ty → Bool) (reading : Reading M) (t : Ty) (place : ℕ) (bytes : List ℕ) (m : M) (rest : List ℕ) : Type 0 where
+pub record IsField {M : Type 0} (accepts : Ty → Bool) (parse : Given → Outcome M) (t : Ty) (place : ℕ) (bytes : List ℕ) (m : M) (rest : List ℕ) : Type 0 where
   pub oid : ℕ
   pub own : Ty
   pub part : Part
@@ -73,7 +74,7 @@ pub record IsField {M : Type 0} (accepts : Ty → Bool) (reading : Reading M) (t
   pub oid_fits : oid < 2 ^ 32
   pub typed : HasFieldType place oid own t
   pub accepted : accepts own ≡ true
-  pub read : reading own Binary part ≡ Some m
+  pub read : Reads parse (given own Binary part) m
 
 -- one field, and further ones from the next place on
 infixr 12 ◌and◌
@@ -86,41 +87,43 @@ IsRecord fields t bytes m = (count : List ℕ) × (rest_after : List ℕ) × (re
 
 -- ---- what is computed is what the bytes are
 
-abbrev pub ArrayIsItsElements : {M : Type 0} → (Ty → Part → Option M) → Type 0
-ArrayIsItsElements {M} read = (t : Ty) (bytes : List ℕ) (ms : List M) → AreBytes bytes → (array_of read t bytes ≡ Some ms) ↔ IsArray read t bytes ms
+abbrev pub ArrayIsItsElements : {M : Type 0} → (Given → Outcome M) → Type 0
+ArrayIsItsElements {M} parse = (t : Ty) (bytes : List ℕ) (ms : List M) → AreBytes bytes → ((array_in_binary parse t bytes).answer ≡ Ok ms) ↔ IsArray parse t bytes ms
 
 -- an array has at most a quarter as many elements as bytes
-abbrev pub FewElements : {M : Type 0} → (Ty → Part → Option M) → Type 0
-FewElements {M} read = (t : Ty) (bytes : List ℕ) (ms : List M) → IsArray read t bytes ms → 4 * length ms ≤ length bytes
+abbrev pub FewElements : {M : Type 0} → (Given → Outcome M) → Type 0
+FewElements {M} parse = (t : Ty) (bytes : List ℕ) (ms : List M) → IsArray parse t bytes ms → 4 * length ms ≤ length bytes
 
-abbrev pub OneArray : {M : Type 0} → (Ty → Part → Option M) → Type 0
-OneArray {M} read = (t : Ty) (bytes : List ℕ) (ms others : List M) → IsArray read t bytes ms → IsArray read t bytes others → ms ≡ others
+abbrev pub OneArray : {M : Type 0} → (Given → Outcome M) → Type 0
+OneArray {M} parse = (t : Ty) (bytes : List ℕ) (ms others : List M) → IsArray parse t bytes ms → IsArray parse t bytes others → ms ≡ others
 
 abbrev pub FieldTypeIsFound : Type 0
-FieldTypeIsFound = (t : Ty) (place oid : ℕ) (found : Ty) → (field_type t place oid ≡ Some found) ↔ HasFieldType place oid found t
+FieldTypeIsFound = (t : Ty) (place oid : ℕ) (found : Ty) → ((field_type t place oid).answer ≡ Ok found) ↔ HasFieldType place oid found t
 
-abbrev pub FieldIsItsValue : {M : Type 0} → (Ty → Bool) → Reading M → Type 0
-FieldIsItsValue {M} accepts reading =
+abbrev pub FieldIsItsValue : {M : Type 0} → (Ty → Bool) → (Given → Outcome M) → Type 0
+FieldIsItsValue {M} accepts parse =
     (t : Ty) (place : ℕ) (bytes : List ℕ) (m : M) (rest : List ℕ) → AreBytes bytes →
-    (field_in accepts reading t place bytes ≡ Some (m, rest)) ↔ IsField accepts reading t place bytes m rest
+    ((field_in_binary accepts parse t place bytes).answer ≡ Ok (m, rest)) ↔ IsField accepts parse t place bytes m rest
 
-abbrev pub OneField : {M : Type 0} → (Ty → Bool) → Reading M → Type 0
-OneField {M} accepts reading =
+abbrev pub OneField : {M : Type 0} → (Ty → Bool) → (Given → Outcome M) → Type 0
+OneField {M} accepts parse =
     (t : Ty) (place : ℕ) (bytes : List ℕ) (m n : M) (rest others : List ℕ) →
-    IsField accepts reading t place bytes m rest → IsField accepts reading t place bytes n others → (m ≡ n) × (rest ≡ others)
+    IsField accepts parse t place bytes m rest → IsField accepts parse t place bytes n others → (m ≡ n) × (rest ≡ others)
 
 abbrev pub RecordBegins : Type 0
-RecordBegins = (t : Ty) (bytes rest : List ℕ) → (fields_of t Binary (Some bytes) ≡ Some (binary_fields t 0 rest)) ↔ ((count : List ℕ) × (bytes ≡ count ++ rest) × (length count ≡ 4))
+RecordBegins =
+    (t : Ty) (bytes rest : List ℕ) →
+    ((fields_of (given t Binary (Some bytes))).answer ≡ Ok (binary_fields t 0 rest)) ↔ ((count : List ℕ) × (bytes ≡ count ++ rest) × (length count ≡ 4))
 
--- a meaning is read from bytes in binary under a type iff the bytes are a record of it
-abbrev pub RecordIsItsFields : {M : Type 0} → Reading M → Stretch M → Type 0
-RecordIsItsFields {M} reading fields = (t : Ty) (bytes : List ℕ) (m : M) → AreBytes bytes → (reading t Binary (Some bytes) ≡ Some m) ↔ IsRecord fields t bytes m
+-- something is read from bytes in binary under a type iff the bytes are a record of it
+abbrev pub RecordIsItsFields : {M : Type 0} → (Given → Outcome M) → Stretch M → Type 0
+RecordIsItsFields {M} parse fields = (t : Ty) (bytes : List ℕ) (m : M) → AreBytes bytes → Reads parse (given t Binary (Some bytes)) m ↔ IsRecord fields t bytes m
 
 -- Steps that read fields from the bytes that are left find exactly such fields.
-abbrev pub FindExactly : {M : Type 0} → (Left → Option (M × Left)) → Stretch M → Type 0
+abbrev pub FindExactly : {M : Type 0} → (Left → Outcome (M × Left)) → Stretch M → Type 0
 FindExactly {M} steps fields =
     (t : Ty) (place : ℕ) (bytes : List ℕ) (m : M) → AreBytes bytes →
-    ((left : Left) × (steps (binary_fields t place bytes) ≡ Some (m, left))) ↔ ((rest : List ℕ) × fields t place bytes m rest)
+    ((left : Left) × ((steps (binary_fields t place bytes)).answer ≡ Ok (m, left))) ↔ ((rest : List ℕ) × fields t place bytes m rest)
 
 -- two relations hold of the same fields
 abbrev pub SameFields : {M : Type 0} → Stretch M → Stretch M → Type 0

@@ -1,13 +1,13 @@
 //! The heads of arrays in binary (PostgreSQL, "Arrays"; array_send).
 
-ghost use Rattle.std.specs.Prelude.{◌≡◌, ◌≤◌, false, true, length, IfOk, IfErr, IfSome, option_map};
+ghost use Rattle.std.specs.Prelude.{◌≡◌, ◌≤◌, true, length, IfOk, IfErr, IfSome, option_map};
 ghost use Rattle.pgv_types.specs.Facts.{is_custom};
 ghost use Rattle.pgv_types.specs.Parts.{ref_type};
-ghost use Rattle.pgv_value.specs.Reading.{Answers, AnswersExactly, Refuses};
+ghost use Rattle.pgv_value.specs.Outcome.{Gives};
+ghost use Rattle.pgv_value.specs.Parsed.{GivesOr};
 ghost use Rattle.pgv_value.specs.declared.error.CodecError.TheVariants.{ElementType, Memory};
 ghost use Rattle.pgv_nest.specs.ArrayGrammar.{element_type, head, one_dimension};
 ghost use Rattle.pgv_nest.specs.HeadsView.{head_shown};
-ghost use Rattle.pgv_nest.specs.NestRefusals.{copies_element, head_refusal, one_dimension_refusal, one_copies, where_dimension};
 
 use pgv_types::{Oid, PgTypeInfo, PgTypeRef};
 use pgv_value::{CodecError, u32_in_front};
@@ -38,10 +38,7 @@ pub fn array_head_of<'a>(
     type_info: &PgTypeInfo,
     bytes: &'a [u8],
 ) -> Result<Option<ArrayHead<'a>>, CodecError>
-    ensures exact { Answers (option_map head_shown) (head type_info.now bytes.now) result }
-    ensures exactly { where_dimension copies_element (head type_info.now bytes.now) ≡ false → AnswersExactly (option_map head_shown) (head type_info.now bytes.now) result }
-    ensures refused { IfErr result (λ e. Refuses e (e ≡ head_refusal type_info.now bytes.now)) }
-    ensures refused_exactly { where_dimension copies_element (head type_info.now bytes.now) ≡ false → IfErr result (λ e. e ≡ head_refusal type_info.now bytes.now) }
+    ensures exact { Gives (option_map head_shown) (head type_info.now bytes.now) result }
     ensures within { IfOk result (λ found. IfSome found (λ h. length h.frames.now ≤ length bytes.now)) }
 {
     let (dimensions, rest) = u32_in_front(bytes)?;
@@ -58,10 +55,7 @@ fn one_dimension_of<'a>(
     type_info: &PgTypeInfo,
     bytes: &'a [u8],
 ) -> Result<ArrayHead<'a>, CodecError>
-    ensures exact { Answers head_shown (one_dimension type_info.now bytes.now) result }
-    ensures exactly { one_copies (one_dimension type_info.now bytes.now) ≡ false → AnswersExactly head_shown (one_dimension type_info.now bytes.now) result }
-    ensures refused { IfErr result (λ e. Refuses e (e ≡ one_dimension_refusal type_info.now bytes.now)) }
-    ensures refused_exactly { one_copies (one_dimension type_info.now bytes.now) ≡ false → IfErr result (λ e. e ≡ one_dimension_refusal type_info.now bytes.now) }
+    ensures exact { Gives head_shown (one_dimension type_info.now bytes.now) result }
     ensures within { IfOk result (λ h. length h.frames.now ≤ length bytes.now) }
 {
     let (_flags, rest) = u32_in_front(bytes)?;
@@ -84,8 +78,7 @@ fn one_dimension_of<'a>(
 
 /// The type of the elements: the built-in type of the OID, else the element of the array's type.
 fn element_type_of(type_info: &PgTypeInfo, oid: Oid) -> Result<PgTypeRef<'_>, CodecError>
-    ensures exact { AnswersExactly ref_type (element_type type_info.now oid.0) result }
-    ensures refused { IfErr result (λ e. e ≡ ElementType oid) }
+    ensures { GivesOr ref_type (element_type type_info.now oid.0) (ElementType oid) result }
 {
     if let Some(element) = PgTypeInfo::try_from_oid(oid) {
         return Ok(PgTypeRef::Owned(element));

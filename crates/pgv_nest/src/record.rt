@@ -1,10 +1,10 @@
 //! The fields of records in binary, up to their frames (PostgreSQL, "Composite Types"; record_send).
 
-ghost use Rattle.std.specs.Prelude.{◌≡◌, ◌+◌, None, false, length, slice_get, IfOk, IfErr, option_map};
+ghost use Rattle.std.specs.Prelude.{◌≡◌, ◌+◌, None, length, slice_get, IfOk, option_map};
 ghost use Rattle.pgv_types.specs.Facts.{domain_base, oid_of};
-ghost use Rattle.pgv_value.specs.Reading.{Answers, AnswersExactly, Refuses};
-ghost use Rattle.pgv_nest.specs.NestRefusals.{by_own_oid_refusal, composite_refusal, copies_field, field_head_refusal, field_type_refusal, is_copied};
-ghost use Rattle.pgv_nest.specs.RecordGrammar.{by_own_oid, field_head, field_type, if_oid, is_oid};
+ghost use Rattle.pgv_value.specs.Outcome.{Gives};
+ghost use Rattle.pgv_nest.specs.RecordGrammar.{by_own_oid, field_head, field_type, is_oid};
+ghost use Rattle.pgv_nest.specs.RecordGrammar as spec;
 
 use pgv_types::{Oid, PgType, PgTypeInfo, PgTypeKindRef};
 use pgv_value::{CodecError, u32_in_front};
@@ -26,10 +26,7 @@ pub fn field_head_of<'r>(
     place: usize,
     bytes: &'r [u8],
 ) -> Result<(PgTypeInfo, &'r [u8]), CodecError>
-    ensures exact { Answers (λ h. (h.0, h.1.now)) (field_head type_info.now place bytes.now) result }
-    ensures exactly { copies_field (field_head type_info.now place bytes.now) ≡ false → AnswersExactly (λ h. (h.0, h.1.now)) (field_head type_info.now place bytes.now) result }
-    ensures refused { IfErr result (λ e. Refuses e (e ≡ field_head_refusal type_info.now place bytes.now)) }
-    ensures refused_exactly { copies_field (field_head type_info.now place bytes.now) ≡ false → IfErr result (λ e. e ≡ field_head_refusal type_info.now place bytes.now) }
+    ensures exact { Gives (λ h. (h.0, h.1.now)) (field_head type_info.now place bytes.now) result }
     ensures shorter { IfOk result (λ h. length h.1.now + 4 ≡ length bytes.now) }
 {
     if bytes.is_empty() {
@@ -41,10 +38,7 @@ pub fn field_head_of<'r>(
 
 /// The type of the field at a place that has this OID.
 fn field_type_of(type_info: &PgTypeInfo, place: usize, oid: Oid) -> Result<PgTypeInfo, CodecError>
-    ensures exact { Answers (λ t. t) (field_type type_info.now place oid.0) result }
-    ensures exactly { is_copied (field_type type_info.now place oid.0) ≡ false → AnswersExactly (λ t. t) (field_type type_info.now place oid.0) result }
-    ensures refused { IfErr result (λ e. Refuses e (e ≡ field_type_refusal type_info.now place oid.0)) }
-    ensures refused_exactly { is_copied (field_type type_info.now place oid.0) ≡ false → IfErr result (λ e. e ≡ field_type_refusal type_info.now place oid.0) }
+    ensures { Gives (λ t. t) (field_type type_info.now place oid.0) result }
 {
     field_type_under(type_info.under_domains(), place, oid)
 }
@@ -52,10 +46,7 @@ fn field_type_of(type_info: &PgTypeInfo, place: usize, oid: Oid) -> Result<PgTyp
 /// The same of a type that is no domain.
 fn field_type_under(base: &PgTypeInfo, place: usize, oid: Oid) -> Result<PgTypeInfo, CodecError>
     requires { domain_base base.now ≡ None }
-    ensures exact { Answers (λ t. t) (field_type base.now place oid.0) result }
-    ensures exactly { is_copied (field_type base.now place oid.0) ≡ false → AnswersExactly (λ t. t) (field_type base.now place oid.0) result }
-    ensures refused { IfErr result (λ e. Refuses e (e ≡ field_type_refusal base.now place oid.0)) }
-    ensures refused_exactly { is_copied (field_type base.now place oid.0) ≡ false → IfErr result (λ e. e ≡ field_type_refusal base.now place oid.0) }
+    ensures { Gives (λ t. t) (field_type base.now place oid.0) result }
 {
     match &base.0 {
         PgType::Record => by_own_oid_of(RECORD, oid),
@@ -72,8 +63,7 @@ fn field_type_under(base: &PgTypeInfo, place: usize, oid: Oid) -> Result<PgTypeI
 
 /// The type of a field of a record whose type says nothing of its fields.
 fn by_own_oid_of(own: Oid, oid: Oid) -> Result<PgTypeInfo, CodecError>
-    ensures exact { AnswersExactly (λ t. t) (by_own_oid own.0 oid.0) result }
-    ensures refused { IfErr result (λ e. e ≡ by_own_oid_refusal own.0 oid.0) }
+    ensures { Gives (λ t. t) (by_own_oid own.0 oid.0) result }
 {
     if own != RECORD {
         return Err(CodecError::NotARecord);
@@ -90,10 +80,8 @@ fn composite_field(
     place: usize,
     oid: Oid,
 ) -> Result<PgTypeInfo, CodecError>
-    ensures exact { Answers (λ t. t) (if_oid (option_map (λ field. field.1) (slice_get fields.now place)) oid.0) result }
-    ensures exactly { is_copied (if_oid (option_map (λ field. field.1) (slice_get fields.now place)) oid.0) ≡ false → AnswersExactly (λ t. t) (if_oid (option_map (λ field. field.1) (slice_get fields.now place)) oid.0) result }
-    ensures refused { IfErr result (λ e. Refuses e (e ≡ composite_refusal place (option_map (λ field. field.1) (slice_get fields.now place)))) }
-    ensures refused_exactly { is_copied (if_oid (option_map (λ field. field.1) (slice_get fields.now place)) oid.0) ≡ false → IfErr result (λ e. e ≡ composite_refusal place (option_map (λ field. field.1) (slice_get fields.now place))) }
+    ensures { let named = option_map (λ field. field.1) (slice_get fields.now place) in
+        Gives (λ t. t) (spec.composite_field place named oid.0) result }
 {
     let Some((_name, type_info)) = fields.get(place) else {
         return Err(CodecError::NoField(place));

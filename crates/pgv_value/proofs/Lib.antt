@@ -4,5 +4,6 @@ pub mod NetworkBytes
 pub mod Numbers
 pub mod Refusals
 pub mod Outcomes
+pub mod ValueFronts
 pub mod Several
 pub mod ReadFronts

@@ -10,6 +10,11 @@ use Rattle.pgv_value.specs.Parsed.{Parsed, GivesExactly, ◌>>=◌ as ◌and_the
 pub answer_is : {A : Type 0} (x y : A) → (let r : Result A (Option CodecError) = Ok x in r) ≡ Ok y → x ≡ y
 answer_is x y e = cc
 
+pub answers_are : {A B : Type 0} (a c : A) (b d : B) → (let r : Result (A × B) (Option CodecError) = Ok (a, b) in r) ≡ Ok (c, d) → (a ≡ c) × (b ≡ d)
+answers_are {A} {B} a c b d e =
+    let p = answer_is {A = A × B} (a, b) (c, d) e in
+    (ap (λ (x : A × B). x.0) p, ap (λ (x : A × B). x.1) p)
+
 pub ok_is : {A : Type 0} (x y : A) → (let r : Parsed A = Ok x in r) ≡ Ok y → x ≡ y
 ok_is x y e = cc
 

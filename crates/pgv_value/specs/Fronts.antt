@@ -3,6 +3,7 @@
 use Rattle.std.specs.Prelude.{ℕ, ℤ, ◌+◌, ◌==◌, nat_eq, nat_lt, List, length, take, drop, option_map, ok_or, Ok, Err, if◌then◌else◌}
 use Rattle.std.specs.List.{position}
 use Rattle.std.specs.Int.{w16, from_be_bytes}
+use Rattle.pgv_types.specs.Ty.{Ty}
 use Rattle.pgv_value.specs.FrameBinary.{Part, front, frame_fault}
 use Rattle.pgv_value.specs.Steps.{number, signed_two}
 use Rattle.pgv_value.specs.Utf8.{is_utf8}
@@ -11,6 +12,7 @@ use Rattle.pgv_value.specs.declared.value.PgValueFormat.{PgValueFormat}
 use Rattle.pgv_value.specs.declared.value.PgValueFormat.TheVariants.{Text, Binary}
 use Rattle.pgv_value.specs.Outcome.{Outcome, exactly}
 use Rattle.pgv_value.specs.Parsed.{Parsed, ◌>>=◌}
+use Rattle.pgv_value.specs.ValueView.{Given, given}
 
 -- the unsigned number of 16 bits
 unfoldable pub u16_front : List ℕ → Parsed (ℕ × List ℕ)
@@ -38,6 +40,19 @@ part_front bytes = ok_or (front bytes) (frame_fault bytes)
 
 abbrev pub one_part : List ℕ → Outcome (Part × List ℕ)
 one_part bytes = exactly (part_front bytes)
+
+-- the part of a frame as a value of a type and in a format
+abbrev pub value_front : Ty → PgValueFormat → List ℕ → Parsed (Given × List ℕ)
+value_front t format bytes = part_front bytes >>= λ p. Ok (given t format p.0, p.1)
+
+-- ---- the same as steps of an outcome
+
+abbrev pub u32_at : List ℕ → Outcome (ℕ × List ℕ)
+u32_at bytes = exactly (u32_front bytes)
+
+-- the part of a frame as a value in binary
+abbrev pub value_at : Ty → List ℕ → Outcome (Given × List ℕ)
+value_at t bytes = exactly (value_front t Binary bytes)
 
 -- the format of a code: 0 is text and 1 binary, and any other is C30
 abbrev pub format_of : ℕ → Parsed PgValueFormat

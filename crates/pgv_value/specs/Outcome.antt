@@ -45,6 +45,10 @@ abbrev pub stated : {M : Type 0} → Parsed M → Result M (Option CodecError)
 stated (Ok m) = Ok m
 stated (Err e) = Err (Some e)
 
+-- of a value of a row this is read
+abbrev pub Reads : {M : Type 0} → (Given → Outcome M) → Given → M → Type 0
+Reads parse v m = (parse v).answer ≡ Ok m
+
 -- what is read without memory
 abbrev pub exactly : {M : Type 0} → Parsed M → Outcome M
 exactly parsed = record { answer = stated parsed; may_alloc = false }

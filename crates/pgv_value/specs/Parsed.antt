@@ -1,5 +1,5 @@
 -- What a reader that asks for no memory gives: what it read, or why it reads nothing.
-use Rattle.std.specs.Prelude.{◌≡◌, Result, Ok, Err}
+use Rattle.std.specs.Prelude.{◌≡◌, Option, Some, None, Result, Ok, Err}
 use Rattle.pgv_value.specs.declared.error.CodecError.{CodecError}
 
 -- what is read, or why nothing is
@@ -16,3 +16,8 @@ abbrev pub ◌>>=◌ : {A B : Type 0} → Parsed A → (A → Parsed B) → Pars
 abbrev pub GivesExactly : {V M : Type 0} → (V → M) → Parsed M → Result V CodecError → Type 0
 GivesExactly view parsed (Ok v) = parsed ≡ Ok (view v)
 GivesExactly view parsed (Err e) = parsed ≡ Err e
+
+-- what was returned, seen by view, is what is there, or exactly this error where nothing is
+abbrev pub GivesOr : {V M : Type 0} → (V → M) → Option M → CodecError → Result V CodecError → Type 0
+GivesOr view found why (Ok v) = found ≡ Some (view v)
+GivesOr view found why (Err e) = (e ≡ why) × (found ≡ None)

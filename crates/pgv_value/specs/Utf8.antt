@@ -1,5 +1,5 @@
 -- Texts in UTF-8 (PostgreSQL: "Character Set Support", 24.3).
-use Rattle.std.specs.Prelude.{◌≡◌, ℕ, List, length, Option, Some, None, Ok, Err, Bool, false, nat_eq, if◌then◌else◌}
+use Rattle.std.specs.Prelude.{◌≡◌, ℕ, List, length, Option, Some, None, Result, Ok, Err, Bool, true, false, nat_eq, if◌then◌else◌}
 use Rattle.std.specs.Str.Lossy.{utf8_valid_len}
 use Rattle.pgv_value.specs.Outcome.{Outcome, copied}
 use Rattle.pgv_value.specs.Parsed.{Parsed}
@@ -15,6 +15,11 @@ is_utf8 bytes = nat_eq (utf8_valid_len bytes) (length bytes)
 abbrev pub RefusesText : Option (List ℕ) → CodecError → Type 0
 RefusesText None e = e ≡ UnexpectedNull
 RefusesText (Some bytes) e = (e ≡ Utf8) × (is_utf8 bytes ≡ false)
+
+-- what was returned, seen by view, is the text of these bytes, or exactly why they have none
+abbrev pub GivesText : {V : Type 0} → (V → List ℕ) → Option (List ℕ) → Result V CodecError → Type 0
+GivesText view bytes (Ok v) = (bytes ≡ Some (view v)) × (is_utf8 (view v) ≡ true)
+GivesText view bytes (Err e) = RefusesText bytes e
 
 -- the bytes, if they are UTF-8
 abbrev pub utf8_part : Option (List ℕ) → Parsed (List ℕ)

@@ -1,8 +1,9 @@
 //! Frames: a length and that many bytes, or null.
 
-ghost use Rattle.std.specs.Prelude.{◌≡◌, ◌<◌, length, Some, None, IfOk, OnErr, IfErr};
+ghost use Rattle.std.specs.Prelude.{◌<◌, length, IfOk};
 ghost use Rattle.std.specs.Option.{option_copied};
 ghost use Rattle.pgv_value.specs.FrameBinary.{front, frame_fault};
+ghost use Rattle.pgv_value.specs.Parsed.{GivesOr};
 
 use crate::error::CodecError;
 
@@ -17,10 +18,8 @@ const MAX_LENGTH: u32 = 0x7fff_ffff;
 #[inline(always)]
 #[tactic(auto, unfolding(crate::specs::FrameBinary::front))]
 pub fn part_in_front(bytes: &[u8]) -> Result<(Option<&[u8]>, &[u8]), CodecError>
-    ensures found { IfOk result (λ p. front bytes.now ≡ Some (option_copied p.0, p.1.now)) }
+    ensures exact { GivesOr (λ p. (option_copied p.0, p.1.now)) (front bytes.now) (frame_fault bytes.now) result }
     ensures shorter { IfOk result (λ p. length p.1.now < length bytes.now) }
-    ensures none { OnErr result (front bytes.now ≡ None) }
-    ensures fault { IfErr result (λ e. e ≡ frame_fault bytes.now) }
 {
     if bytes.len() < 4 {
         return Err(CodecError::Short);

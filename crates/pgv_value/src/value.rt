@@ -3,11 +3,10 @@
 ghost use Rattle.std.specs.Prelude.{◌≡◌, ◌<◌, ◌≤◌, slice_range, length, Some, None, IfOk, OnOk, OnErr, IfErr, IsErrOf, IsOk, IsTrue, is_none};
 ghost use Rattle.std.specs.Option.{option_copied};
 ghost use Rattle.pgv_types.specs.Facts.{IsNotCustom};
-ghost use Rattle.pgv_value.specs.FrameBinary.{front, frame_fault};
-ghost use Rattle.pgv_value.specs.Fronts.{format_of};
-ghost use Rattle.pgv_value.specs.Parsed.{GivesExactly};
+ghost use Rattle.pgv_value.specs.Fronts.{format_of, value_front};
+ghost use Rattle.pgv_value.specs.Parsed.{GivesExactly, GivesOr};
 ghost use Rattle.pgv_value.specs.RowView.{held_bytes};
-ghost use Rattle.pgv_value.specs.Utf8.{is_utf8, RefusesText};
+ghost use Rattle.pgv_value.specs.Utf8.{GivesText};
 ghost use Rattle.pgv_value.specs.declared.error.CodecError.TheVariants.{UnexpectedNull, Memory};
 ghost use Rattle.pgv_value.specs.declared.value.PgValueFormat.TheVariants.{Text};
 
@@ -242,14 +241,9 @@ impl<'r> PgValueRef<'r> {
         format: PgValueFormat,
         type_info: PgTypeInfo,
     ) -> Result<Self, CodecError>
-        // What is answered is the part of the frame in front, and the slice goes on after it.
-        ensures found { IfOk result (λ v. front bytes.old.now ≡ Some (v.bytes, bytes.new.now)) }
-        ensures kind { IfOk result (λ v. v.type_info ≡ type_info) }
-        ensures format { IfOk result (λ v. v.format ≡ format) }
+        // What is answered is the part of the frame in front, and the slice goes on after it; refused, it stays.
+        ensures exact { GivesExactly (λ v. (v, bytes.new.now)) (value_front type_info format bytes.old.now) result }
         ensures shorter { OnOk result (length bytes.new.now < length bytes.old.now) }
-        // It refuses only if no frame is in front, and then the slice stays.
-        ensures none { OnErr result (front bytes.old.now ≡ None) }
-        ensures fault { IfErr result (λ e. e ≡ frame_fault bytes.old.now) }
         ensures unmoved { OnErr result (bytes.new.now ≡ bytes.old.now) }
     {
         let all: &'r [u8] = *bytes;
@@ -293,8 +287,7 @@ impl<'r> PgValueRef<'r> {
     /// [`UnexpectedNull`](CodecError::UnexpectedNull) (C13).
     #[inline(always)]
     pub fn as_bytes(&self) -> Result<&'r [u8], CodecError>
-        ensures found { IfOk result (λ b. self.now.bytes ≡ Some b.now) }
-        ensures null { IfErr result (λ e. (e ≡ UnexpectedNull) × (self.now.bytes ≡ None)) }
+        ensures { GivesOr (λ b. b.now) self.now.bytes UnexpectedNull result }
     {
         match self.held.bytes() {
             Some(bytes) => Ok(bytes),
@@ -308,10 +301,7 @@ impl<'r> PgValueRef<'r> {
     #[inline(always)]
     #[tactic(auto, using(crate::proofs::Text::whole_text))]
     pub fn as_str(&self) -> Result<&'r str, CodecError>
-        ensures found { IfOk result (λ s. self.now.bytes ≡ Some s.now) }
-        ensures text { IfOk result (λ s. IsTrue (is_utf8 s.now)) }
-        ensures null { self.now.bytes ≡ None → IsErrOf result UnexpectedNull }
-        ensures refused { IfErr result (RefusesText self.now.bytes) }
+        ensures { GivesText (λ s. s.now) self.now.bytes result }
     {
         if let Held::Text(text) = self.held {
             return Ok(text);

@@ -2,7 +2,7 @@ use Rattle.std.proofs.Common.{◌≡◌, ap, sym, ◌∙◌}
 use Rattle.pgv_types.specs.Parts.{kind_lent}
 use Rattle.pgv_types.specs.Shown.{kind_of, fields_of}
 use Rattle.pgv_types.specs.Ty.{composite}
-use Rattle.pgv_nest.proofs.CompositeFields.{composite_type, composite_why}
+use Rattle.pgv_nest.proofs.CompositeFields.{composite_type}
 use Rattle.pgv_nest.proofs.record.field_type_under.Goals as goal
 
 pub returns-in-Composite : goal.returns-in-Composite
@@ -10,10 +10,4 @@ returns-in-Composite c =
     let custom = c.in-Custom.custom.value in
     let kind : kind_of custom.kind ≡ composite (fields_of c.in-Composite.fields.now) = rw (← c.deref.ensures) (sym c.kind.ensures ∙ ap kind_lent c.in-Composite.is) in
     let same = composite_type custom.oid.0 (kind_of custom.kind) c.in-Composite.fields.now c.args.place c.args.oid.0 kind in
-    let why = composite_why custom.oid.0 (kind_of custom.kind) c.in-Composite.fields.now c.args.place c.args.oid.0 kind in
-    record {
-      exact = rw (← c.base.view_is, c.in-Custom.is, same) c.composite_field.ensures.exact;
-      exactly = rw (← c.base.view_is, c.in-Custom.is, same) c.composite_field.ensures.exactly;
-      refused = rw (← c.base.view_is, c.in-Custom.is, why) c.composite_field.ensures.refused;
-      refused_exactly = rw (← c.base.view_is, c.in-Custom.is, same, why) c.composite_field.ensures.refused_exactly;
-    }
+    rw (← c.base.view_is, c.in-Custom.is, same) c.composite_field.ensures
