@@ -7,4 +7,3 @@ pub mod PartLoop
 pub mod PlainFits
 pub mod Outcomes
 pub mod Refusing
-pub mod Taking

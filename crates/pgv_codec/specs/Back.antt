@@ -9,21 +9,23 @@
 -- and each element fits it (`ArrayFits`). A field of a record fits where the type at its place exists, by the OID that was
 -- written, the reader accepts it and the value fits it (`FieldFits`). Each part takes the OIDs of its own holes, in order
 -- (`FitEach`, `FieldsFit`).
-use Rattle.std.specs.Prelude.{◌≡◌, ℕ, suc, ◌<◌, ◌^◌, Bool, true, false, cond, List, [], ◌∷◌, ◌++◌, length, take, drop, Option, Some, None, ⊤}
+use Rattle.std.specs.Prelude.{◌≡◌, ℕ, suc, ◌<◌, ◌^◌, Bool, true, false, cond, List, [], ◌∷◌, ◌++◌, length, take, drop, Option, Some, None, Ok, ⊤}
 use Rattle.pgv_types.specs.Ty.{Ty}
 use Rattle.pgv_types.specs.Facts.{oid_of}
 use Rattle.pgv_types.specs.declared.oid.Oid.{Oid}
 use Rattle.pgv_buf.specs.Fill.{first_number}
 use Rattle.pgv_buf.specs.Proper.{rest_of}
 use Rattle.pgv_buf.specs.Tokens.{Token, byte, hole, slot, bytes, be4, tokens_holes, CasesFit}
+use Rattle.pgv_value.specs.Outcome.{Outcome}
 use Rattle.pgv_value.specs.Reading.{Reading}
+use Rattle.pgv_value.specs.ValueView.{Given, given}
 use Rattle.pgv_value.specs.declared.value.PgValueFormat.TheVariants.{Binary}
 use Rattle.pgv_codec.specs.Writing.{write}
 use Rattle.pgv_nest.specs.ArrayGrammar.{element_type}
 use Rattle.pgv_nest.specs.NestBinary.{HasFieldType}
 use Rattle.pgv_codec.specs.Image.{Image, null_image, image_of, or_else, join, field, record_image, written_element_type as written_type}
 use Rattle.pgv_codec.specs.Writing.{image_holes, written_part}
-use Rattle.pgv_nest.specs.RecordGrammar.{Left, binary_fields, next, fields_of}
+use Rattle.pgv_nest.specs.RecordGrammar.{Left, binary_fields, next_field, fields_of}
 
 -- OIDs are numbers of 32 bits
 abbrev pub AreOids : List Oid → Type 0
@@ -128,23 +130,23 @@ in_order (f ∷ fs) = join f (in_order fs)
 
 -- A field that was written is the next that is read, whatever comes after it, under each type that fits; and what
 -- comes after it is left, with the OIDs that are left.
-abbrev pub FieldReadsBack : {A M : Type 0} → Ty → (A → Option Ty) → (A → ℕ) → (A → Option Image) → (Ty → Bool) → Reading M → (A → M) → (A → Ty → List Oid → Type 0) → Type 0
-FieldReadsBack {A} info produced hint image accepts reading kept fits =
+abbrev pub FieldReadsBack : {A M : Type 0} → Ty → (A → Option Ty) → (A → ℕ) → (A → Option Image) → (Ty → Bool) → (Given → Outcome M) → (A → M) → (A → Ty → List Oid → Type 0) → Type 0
+FieldReadsBack {A} info produced hint image accepts parse kept fits =
     (x : A) (g after : List Token) (t : Ty) (place : ℕ) (p : Option Ty) (os : List Oid) →
     field hint image produced info x ≡ Some g → SlotsFit g → AreOids os → FieldFits info produced image accepts fits x t place os →
-    next accepts reading (binary_fields t place (write p os (g ++ after))) ≡ Some (kept x, binary_fields t (suc place) (write p (drop (tokens_holes g) os) after))
+    (next_field accepts parse (binary_fields t place (write p os (g ++ after)))).answer ≡ Ok (kept x, binary_fields t (suc place) (write p (drop (tokens_holes g) os) after))
 
 -- before the first field of a written record is read, all its fields are left
 abbrev pub RecordFieldsFollow : Type 0
 RecordFieldsFollow =
     (fs : List (Option (List Token))) (i : Image) (t : Ty) (p : Option Ty) (os : List Oid) → record_image fs ≡ Some i →
-    (gs : List Token) × (in_order fs ≡ Some gs) × (image_of (bytes (be4 (length fs)) ++ gs) ≡ i) × (fields_of t Binary (written_part i p os) ≡ Some (binary_fields t 0 (write p os gs)))
+    (gs : List Token) × (in_order fs ≡ Some gs) × (image_of (bytes (be4 (length fs)) ++ gs) ≡ i) × ((fields_of (given t Binary (written_part i p os))).answer ≡ Ok (binary_fields t 0 (write p os gs)))
 
 -- Steps that read back fields that are written one after another. Further fields may come after those that are read.
-pub record FieldsBack {M : Type 0} (steps : Left → Option (M × Left)) (fs : List (Option (List Token))) (kept : M) (fit : Ty → ℕ → List Oid → Type 0) : Type 0 where
+pub record FieldsBack {M : Type 0} (steps : Left → Outcome (M × Left)) (fs : List (Option (List Token))) (kept : M) (fit : Ty → ℕ → List Oid → Type 0) : Type 0 where
   pub back :
       (t : Ty) (place : ℕ) (p : Option Ty) (os : List Oid) (gs : List Token) → in_order fs ≡ Some gs → SlotsFit gs → AreOids os → fit t place os →
-      (left : Left) × (steps (binary_fields t place (write p os gs)) ≡ Some (kept, left))
+      (left : Left) × ((steps (binary_fields t place (write p os gs))).answer ≡ Ok (kept, left))
 
 -- what is written as a record of these fields is read in binary as what is kept of those that are read
 abbrev pub RecordReadsBack : {M : Type 0} → Reading M → List (Option (List Token)) → M → (Ty → ℕ → List Oid → Type 0) → Type 0

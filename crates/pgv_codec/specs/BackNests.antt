@@ -1,5 +1,5 @@
 -- The laws of optional values and of arrays, over the law of what they are made of.
-use Rattle.std.specs.Prelude.{◌≡◌, ℕ, nat_le, nat_eq, true, cond, List, [], ◌∷◌, ◌++◌, length, map, Option, Some, None, option_map, refl}
+use Rattle.std.specs.Prelude.{◌≡◌, ℕ, nat_le, nat_eq, true, cond, List, [], ◌∷◌, ◌++◌, length, map, Option, Some, None, Ok, option_map, refl}
 use Rattle.std.proofs.Common.{sym, ap, ◌∙◌, subst, arith, append_assoc, inr}
 use Rattle.std.proofs.lemmas.Bool.{leb-true, eq-eqb, eqb-true}
 use Rattle.std.proofs.lemmas.List.{take_at, length-map}
@@ -10,13 +10,15 @@ use Rattle.pgv_types.specs.Ty.{Ty}
 use Rattle.pgv_types.specs.Facts.{oid_of}
 use Rattle.pgv_types.specs.declared.oid.Oid.{Oid}
 use Rattle.pgv_buf.specs.Tokens.{Token, bytes, be4}
-use Rattle.pgv_value.specs.Reading.{Reading}
+use Rattle.pgv_value.specs.Outcome.{Outcome, ok_of, reading_of}
+use Rattle.pgv_value.specs.ValueView.{Given, given}
 use Rattle.pgv_value.specs.declared.value.PgValueFormat.TheVariants.{Binary}
 use Rattle.pgv_codec.specs.Writing.{write}
-use Rattle.pgv_nest.specs.ArrayGrammar.{array, array_of_length}
+use Rattle.pgv_nest.specs.ArrayGrammar.{parse_array, parse_sized}
 use Rattle.pgv_codec.specs.Back.{AreOids, SlotsFit, ImageFits, ReadsBack, is_null, option_kept, option_fits, written_oid, oids_after, ArrayFits}
 use Rattle.pgv_codec.specs.BackParts.{guarded, joined_parts, type_written, SlotsFit-back, AreOids-after, frames_back}
 use Rattle.pgv_nest.specs.Found.{array_there}
+use Rattle.pgv_value.proofs.Outcomes.{answer_of}
 use Rattle.pgv_nest.specs.NestBinary.{IsArray}
 use Rattle.pgv_codec.specs.Image.{Image, null_image, image_of, limit, written_frames, join, typed, header, array_after, array_of_frames, array_image, sized_image, option_image, written_element_type as written_type}
 use Rattle.pgv_codec.specs.Nullable.{nullable}
@@ -24,14 +26,15 @@ use Rattle.pgv_codec.specs.Writing.{written_part}
 
 -- ---- optional values
 
-module _ {A M : Type 0} (image : A → Option Image) (reading : Reading M) (meaning : A → M) (kept : A → A) (fits : A → Ty → List Oid → Type 0) (law : ReadsBack image reading (λ v. meaning (kept v)) fits) where
+module _ {A M : Type 0} (image : A → Option Image) (parse : Given → Outcome M) (view : A → M) (kept : A → A) (fits : A → Ty → List Oid → Type 0) (law : ReadsBack image (reading_of parse) (λ v. view (kept v)) fits) where
   some_back : (x : A) (j i : Image) (t : Ty) (p : Option Ty) (os : List Oid) → image x ≡ Some j → j ≡ i → ImageFits i → AreOids os → fits x t os →
-      nullable reading t Binary (written_part i p os) ≡ Some (option_map meaning (cond (is_null (Some j)) None (Some (kept x))))
+      reading_of (nullable parse) t Binary (written_part i p os) ≡ Some (option_map view (cond (is_null (Some j)) None (Some (kept x))))
   some_back x null_image i t p os is same whole small fit = rw (← same) refl
   some_back x (image_of ts) i t p os is same whole small fit =
-      rw (← same, law x (image_of ts) t p os is (subst ImageFits (sym same) whole) small fit) refl
+      let read = answer_of (parse (given t Binary (Some (write p os ts)))).answer (view (kept x)) (law x (image_of ts) t p os is (subst ImageFits (sym same) whole) small fit) in
+      rw (← same, read) refl
 
-  pub option_back : ReadsBack (option_image image) (nullable reading) (λ v. option_map meaning (option_kept image kept v)) (option_fits fits)
+  pub option_back : ReadsBack (option_image image) (reading_of (nullable parse)) (λ v. option_map view (option_kept image kept v)) (option_fits fits)
   option_back None i t p os e whole small fit = rw (← same_Some null_image i e) refl
   option_back (Some x) i t p os e whole small fit = rw e (some_back x i i t p os e refl whole small fit)
 
@@ -59,11 +62,11 @@ array_parts w n (Some fs) i e =
         = ap (λ (r : List Token). (r ++ b.1) ++ (bytes (be4 n) ++ bytes (be4 1))) first ∙ (ap (λ (r : List Token). (b.0 ++ b.1) ++ r) last ∙ (ap (λ (r : List Token). r ++ a.1) b.4 ∙ a.4)) in
         (b.1, fs, b.3, refl, g.0, ap (λ (r : List Token). image_of (r ++ fs)) whole ∙ same_Some (image_of (h ++ fs)) i g.1)
 
-module _ {A M : Type 0} (info : Ty) (produced : A → Option Ty) (hint : A → ℕ) (image : A → Option Image) (reading : Reading M) (kept : A → M) (fits : A → Ty → List Oid → Type 0) (law : ReadsBack image reading kept fits) where
+module _ {A M : Type 0} (info : Ty) (produced : A → Option Ty) (hint : A → ℕ) (image : A → Option Image) (parse : Given → Outcome M) (kept : A → M) (fits : A → Ty → List Oid → Type 0) (law : ReadsBack image (reading_of parse) kept fits) where
   -- what is written of elements is an array of what they keep
   is_array : (xs : List A) (fs ys : List Token) (t : Ty) (p : Option Ty) (os : List Oid) → typed (written_type produced info xs) ≡ Some ys → written_frames hint image xs ≡ Some fs → nat_le (length xs) limit ≡ true →
       SlotsFit fs → AreOids os → ArrayFits info produced image fits xs t os →
-      IsArray (λ u. reading u Binary) t (write p os ((((bytes (be4 1) ++ bytes (be4 0)) ++ ys) ++ (bytes (be4 (length xs)) ++ bytes (be4 1))) ++ fs)) (map kept xs)
+      IsArray parse t (write p os ((((bytes (be4 1) ++ bytes (be4 0)) ++ ys) ++ (bytes (be4 (length xs)) ++ bytes (be4 1))) ++ fs)) (map kept xs)
   is_array xs fs ys t p os e f few whole small fit =
       let w = written_type produced info xs in
       let n = length xs in
@@ -85,36 +88,36 @@ module _ {A M : Type 0} (info : Ty) (produced : A → Option Ty) (hint : A → �
         oid_fits = type_is.0;
         count_fits = omega (arith, count_is, le);
         typed = fit.1;
-        framed = frames_back image reading kept fits law hint xs fs fit.0 p left f whole (AreOids-after (oid_of w) os small) fit.2;
+        framed = frames_back image parse kept fits law hint xs fs fit.0 p left f whole (AreOids-after (oid_of w) os small) fit.2;
       })
 
   pub array_back : (xs : List A) (i : Image) (t : Ty) (p : Option Ty) (os : List Oid) → array_image hint image produced info xs ≡ Some i → ImageFits i → AreOids os → ArrayFits info produced image fits xs t os →
-      array info reading t Binary (written_part i p os) ≡ Some (map kept xs)
+      (parse_array info parse (given t Binary (written_part i p os))).answer ≡ Ok (map kept xs)
   array_back xs i t p os e whole small fit =
       let a = array_parts (written_type produced info xs) (length xs) (written_frames hint image xs) i e in
       let fs_fit : SlotsFit a.1 = SlotsFit-back ((((bytes (be4 1) ++ bytes (be4 0)) ++ a.0) ++ (bytes (be4 (length xs)) ++ bytes (be4 1)))) a.1 (subst ImageFits (sym a.5) whole) in
-      rw (← a.5) (array_there (λ u. reading u Binary) t _ (map kept xs) (is_array xs a.1 a.0 t p os a.2 a.3 a.4 fs_fit small fit))
+      rw (← a.5) (array_there parse t _ (map kept xs) (is_array xs a.1 a.0 t p os a.2 a.3 a.4 fs_fit small fit))
 
 -- ---- lists and arrays of a length
 
-kept_items : {X Z M : Type 0} (v : Vec X Z) (ws : List X) (meaning : X → M) → length ws ≡ length v.items → map meaning (with_items v ws).items ≡ map meaning ws
-kept_items v ws meaning e = ap (map meaning) (take_at ws _ v.len (e ∙ sym v.ok.0))
+kept_items : {X Z M : Type 0} (v : Vec X Z) (ws : List X) (view : X → M) → length ws ≡ length v.items → map view (with_items v ws).items ≡ map view ws
+kept_items v ws view e = ap (map view) (take_at ws _ v.len (e ∙ sym v.ok.0))
 
 map_both : {X Y W : Type 0} (f : Y → W) (g : X → Y) (xs : List X) → map (λ x. f (g x)) xs ≡ map f (map g xs)
 map_both f g [] = refl
 map_both f g (x ∷ xs) = ap (λ ys. f (g x) ∷ ys) (map_both f g xs)
 
-module _ {A M : Type 0} (info : Ty) (produced : A → Option Ty) (hint : A → ℕ) (image : A → Option Image) (reading : Reading M) (meaning : A → M) (kept : A → A) (fits : A → Ty → List Oid → Type 0)
-    (law : ReadsBack image reading (λ v. meaning (kept v)) fits) where
-  pub vec_back : {Z : Type 0} → ReadsBack {A = Vec A Z} (λ v. array_image hint image produced info v.items) (array info reading) (λ v. map meaning (with_items v (map kept v.items)).items) (λ v t os. ArrayFits info produced image fits v.items t os)
+module _ {A M : Type 0} (info : Ty) (produced : A → Option Ty) (hint : A → ℕ) (image : A → Option Image) (parse : Given → Outcome M) (view : A → M) (kept : A → A) (fits : A → Ty → List Oid → Type 0)
+    (law : ReadsBack image (reading_of parse) (λ v. view (kept v)) fits) where
+  pub vec_back : {Z : Type 0} → ReadsBack {A = Vec A Z} (λ v. array_image hint image produced info v.items) (reading_of (parse_array info parse)) (λ v. map view (with_items v (map kept v.items)).items) (λ v t os. ArrayFits info produced image fits v.items t os)
   vec_back v i t p os e whole small fit =
-      array_back info produced hint image reading (λ x. meaning (kept x)) fits law v.items i t p os e whole small fit
-      ∙ ap (λ ms. Some ms) (map_both meaning kept v.items ∙ sym (kept_items v (map kept v.items) meaning (length-map v.items kept)))
+      ap ok_of (array_back info produced hint image parse (λ x. view (kept x)) fits law v.items i t p os e whole small fit)
+      ∙ ap (λ ms. Some ms) (map_both view kept v.items ∙ sym (kept_items v (map kept v.items) view (length-map v.items kept)))
 
   -- a list of `n` is read as an array of `n`
-  pub sized_back : (n : ℕ) → ReadsBack (sized_image n hint image produced info) (array_of_length n info reading) (λ xs. map meaning (map kept xs)) (ArrayFits info produced image fits)
+  pub sized_back : (n : ℕ) → ReadsBack (sized_image n hint image produced info) (reading_of (parse_sized n info parse)) (λ xs. map view (map kept xs)) (ArrayFits info produced image fits)
   sized_back n xs i t p os e whole small fit =
       let g = guarded (nat_eq (length xs) n) (array_image hint image produced info xs) i e in
-      let count : nat_eq (length (map (λ x. meaning (kept x)) xs)) n ≡ true = eq-eqb _ _ (length-map xs (λ x. meaning (kept x)) ∙ eqb-true (length xs) n g.0) in
-      rw (array_back info produced hint image reading (λ x. meaning (kept x)) fits law xs i t p os g.1 whole small fit, count)
-      (ap (λ ms. Some ms) (map_both meaning kept xs))
+      let count : nat_eq (length (map (λ x. view (kept x)) xs)) n ≡ true = eq-eqb _ _ (length-map xs (λ x. view (kept x)) ∙ eqb-true (length xs) n g.0) in
+      rw (array_back info produced hint image parse (λ x. view (kept x)) fits law xs i t p os g.1 whole small fit, count)
+      (ap (λ ms. Some ms) (map_both view kept xs))

@@ -14,7 +14,9 @@ use Rattle.pgv_buf.specs.Proper.{rest_of}
 use Rattle.pgv_buf.specs.Tokens.{Token, byte, hole, slot, bytes, be4, tokens_width, tokens_holes, CasesFit}
 use Rattle.pgv_buf.proofs.Patches.{chosen_fits}
 use Rattle.pgv_value.specs.FrameBinary.{Part, IsFrame}
-use Rattle.pgv_value.specs.Reading.{Reading}
+use Rattle.pgv_value.specs.Outcome.{Outcome, Reads, reading_of}
+use Rattle.pgv_value.specs.ValueView.{Given, given}
+use Rattle.pgv_value.proofs.Outcomes.{answer_of}
 use Rattle.pgv_value.specs.declared.value.PgValueFormat.TheVariants.{Binary}
 use Rattle.pgv_codec.specs.Writing.{write, chosen_for}
 use Rattle.pgv_codec.specs.Back.{AreOids, SlotsFit, ReadsBack, FitEach, holes_of, written_oid, oids_after}
@@ -132,14 +134,14 @@ oids_left w None ys (o ∷ os) e =
 
 -- ---- frames
 
-module _ {A M : Type 0} (image : A → Option Image) (reading : Reading M) (kept : A → M) (fits : A → Ty → List Oid → Type 0) (law : ReadsBack image reading kept fits) where
+module _ {A M : Type 0} (image : A → Option Image) (parse : Given → Outcome M) (kept : A → M) (fits : A → Ty → List Oid → Type 0) (law : ReadsBack image (reading_of parse) kept fits) where
   -- the frame of one value, with anything after it
   pub frame_back : (x : A) (i : Option Image) (f after : List Token) (u : Ty) (p : Option Ty) (os : List Oid) → image x ≡ i → frame_of i ≡ Some f → SlotsFit f → AreOids os → fits x u (take (holes_of i) os) →
-      (part : Part) × IsFrame (write p os (f ++ after)) part (write p (drop (holes_of i) os) after) × (reading u Binary part ≡ Some (kept x))
+      (part : Part) × IsFrame (write p os (f ++ after)) part (write p (drop (holes_of i) os) after) × Reads parse (given u Binary part) (kept x)
   frame_back x None f after u p os is e whole small fit = absurd cc
   frame_back x (Some null_image) f after u p os is e whole small fit =
       let f_is : bytes (be4 4294967295) ≡ f = same_Some _ _ e in
-      (None, rw (← f_is) refl, law x null_image u p (take 0 os) is tt tt fit)
+      (None, rw (← f_is) refl, answer_of (parse (given u Binary None)).answer (kept x) (law x null_image u p (take 0 os) is tt tt fit))
   frame_back x (Some (image_of ts)) f after u p os is e whole small fit =
       let g = guarded (nat_le (tokens_width ts) limit) (Some (bytes (be4 (tokens_width ts)) ++ ts)) f e in
       let f_is : bytes (be4 (tokens_width ts)) ++ ts ≡ f = same_Some _ _ g.1 in
@@ -152,12 +154,12 @@ module _ {A M : Type 0} (image : A → Option Image) (reading : Reading M) (kept
       = rw (← f_is) (ap (λ (xs : List ℕ). be4 (tokens_width ts) ++ xs) (write-append p os ts after)) in (
         Some (write p mine ts),
         (omega (arith, len, narrow), parts ∙ ap (λ (n : ℕ). to_be_bytes w32 n ++ (write p mine ts ++ rest)) (sym len)),
-        law x (image_of ts) u p mine is ts_fit (AreOids-take (tokens_holes ts) os small) fit,
+        answer_of (parse (given u Binary (Some (write p mine ts)))).answer (kept x) (law x (image_of ts) u p mine is ts_fit (AreOids-take (tokens_holes ts) os small) fit),
       )
 
   -- the frames of values, one after another
   pub frames_back : (hint : A → ℕ) (xs : List A) (fs : List Token) (u : Ty) (p : Option Ty) (os : List Oid) → written_frames hint image xs ≡ Some fs → SlotsFit fs → AreOids os → FitEach image fits u xs os →
-      BeginWithFrames (reading u Binary) (write p os fs) (map kept xs)
+      BeginWithFrames parse u (write p os fs) (map kept xs)
   frames_back hint [] fs u p os e whole small fit = tt
   frames_back hint (x ∷ xs) fs u p os e whole small fit =
       let a = joined_parts (frame (hint x) (image x)) (written_frames hint image xs) fs e in
@@ -165,4 +167,4 @@ module _ {A M : Type 0} (image : A → Option Image) (reading : Reading M) (kept
       let both : SlotsFit (a.0 ++ a.1) = subst SlotsFit (sym a.4) whole in
       let one = frame_back x (image x) a.0 a.1 u p os refl g.1 (SlotsFit-front a.0 a.1 both) small fit.0 in
       let rest = frames_back hint xs a.1 u p (drop (holes_of (image x)) os) a.3 (SlotsFit-back a.0 a.1 both) (AreOids-drop (holes_of (image x)) os small) fit.1 in
-      subst (λ (ts : List Token). BeginWithFrames (reading u Binary) (write p os ts) (map kept (x ∷ xs))) a.4 (one.0, write p (drop (holes_of (image x)) os) a.1, one.1, one.2, rest)
+      subst (λ (ts : List Token). BeginWithFrames parse u (write p os ts) (map kept (x ∷ xs))) a.4 (one.0, write p (drop (holes_of (image x)) os) a.1, one.1, one.2, rest)

@@ -1,5 +1,5 @@
 -- The laws of a record's fields, over the law of each field's value.
-use Rattle.std.specs.Prelude.{◌≡◌, ℕ, ◌+◌, suc, nat_eq, nat_le, Bool, true, false, List, [], ◌∷◌, ◌++◌, length, drop, Option, Some, None, refl}
+use Rattle.std.specs.Prelude.{◌≡◌, ℕ, ◌+◌, suc, nat_eq, nat_le, Bool, true, false, List, [], ◌∷◌, ◌++◌, length, drop, Option, Some, None, Ok, refl}
 use Rattle.std.proofs.Common.{sym, ap, ◌∙◌, subst, append_assoc}
 use Rattle.std.proofs.lemmas.List.{append-nil, drop-drop}
 use Rattle.std.proofs.lemmas.Option.{same_Some}
@@ -7,7 +7,8 @@ use Rattle.pgv_types.specs.Ty.{Ty}
 use Rattle.pgv_types.specs.Facts.{oid_of}
 use Rattle.pgv_types.specs.declared.oid.Oid.{Oid}
 use Rattle.pgv_buf.specs.Tokens.{Token, bytes, be4, tokens_width, tokens_holes}
-use Rattle.pgv_value.specs.Reading.{Reading}
+use Rattle.pgv_value.specs.Outcome.{Outcome, ok_of, reading_of}
+use Rattle.pgv_value.specs.ValueView.{Given, given}
 use Rattle.pgv_value.specs.declared.value.PgValueFormat.TheVariants.{Binary}
 use Rattle.pgv_codec.specs.Writing.{write}
 use Rattle.pgv_codec.specs.Back.{AreOids, SlotsFit, ImageFits, ReadsBack, holes_of, written_oid, oids_after, field_holes, FieldFits, Followed, in_order, FieldReadsBack, FieldsBack, RecordReadsBack, RecordFieldsFollow}
@@ -18,8 +19,7 @@ use Rattle.pgv_nest.specs.NestBinary.{IsField}
 use Rattle.pgv_value.specs.FrameBinary.{IsFrame}
 use Rattle.pgv_codec.specs.Image.{Image, null_image, image_of, limit, frame, frame_of, join, typed, or_else, field, field_of, counted_field, joined_fields, record_of_fields, record_image}
 use Rattle.pgv_codec.specs.Writing.{written_part}
-use Rattle.pgv_nest.specs.RecordGrammar.{Left, binary_fields, next, fields_of}
-use Rattle.pgv_nest.specs.TupleGrammar.{record_of, ◌then◌}
+use Rattle.pgv_nest.specs.RecordGrammar.{Left, binary_fields, next_field, fields_of, parse_record, ◌then◌}
 
 -- ---- the tokens of a record
 
@@ -57,7 +57,7 @@ record_parts fs i e = by_joined (joined_fields 0 (Some []) fs) refl e
 
 -- ---- one field
 
-module _ {A M : Type 0} (info : Ty) (produced : A → Option Ty) (hint : A → ℕ) (image : A → Option Image) (accepts : Ty → Bool) (reading : Reading M) (kept : A → M) (fits : A → Ty → List Oid → Type 0) (law : ReadsBack image reading kept fits) where
+module _ {A M : Type 0} (info : Ty) (produced : A → Option Ty) (hint : A → ℕ) (image : A → Option Image) (accepts : Ty → Bool) (parse : Given → Outcome M) (kept : A → M) (fits : A → Ty → List Oid → Type 0) (law : ReadsBack image (reading_of parse) kept fits) where
   field_parts : (x : A) (g : List Token) → field hint image produced info x ≡ Some g → (ys : List Token) × (f : List Token) × (typed (or_else (produced x) info) ≡ Some ys) × (frame (hint x) (image x) ≡ Some f) × (ys ++ f ≡ g)
   field_parts x g e = by_frame (frame (hint x) (image x)) refl e
     where
@@ -79,7 +79,7 @@ module _ {A M : Type 0} (info : Ty) (produced : A → Option Ty) (hint : A → �
 
   -- a field is read, and what comes after it is left, with the OIDs that are left
   pub is_field : (x : A) (g after : List Token) (t : Ty) (place : ℕ) (p : Option Ty) (os : List Oid) → field hint image produced info x ≡ Some g → SlotsFit g → AreOids os → FieldFits info produced image accepts fits x t place os →
-      IsField accepts reading t place (write p os (g ++ after)) (kept x) (write p (drop (tokens_holes g) os) after)
+      IsField accepts parse t place (write p os (g ++ after)) (kept x) (write p (drop (tokens_holes g) os) after)
   is_field x g after t place p os e whole small fit =
       let a = field_parts x g e in
       let w = or_else (produced x) info in
@@ -87,7 +87,7 @@ module _ {A M : Type 0} (info : Ty) (produced : A → Option Ty) (hint : A → �
       let both : SlotsFit (a.0 ++ a.1) = subst SlotsFit (sym a.4) whole in
       let type_is = type_written w (oid_of w) a.0 (a.1 ++ after) p os small a.2 in
       let h = guarded (nat_le (hint x) limit) (frame_of (image x)) a.1 a.3 in
-      let one = frame_back image reading kept fits law x (image x) a.1 after fit.0 p left refl h.1 (SlotsFit-back a.0 a.1 both) (AreOids-after (oid_of w) os small) fit.3 in
+      let one = frame_back image parse kept fits law x (image x) a.1 after fit.0 p left refl h.1 (SlotsFit-back a.0 a.1 both) (AreOids-after (oid_of w) os small) fit.3 in
       let taken : drop (holes_of (image x)) left ≡ drop (tokens_holes g) os =
       ap (λ (r : List Oid). drop (holes_of (image x)) r) (sym (oids_left w (oid_of w) a.0 os a.2))
       ∙ (drop-drop _ _ os
@@ -106,38 +106,38 @@ module _ {A M : Type 0} (info : Ty) (produced : A → Option Ty) (hint : A → �
       }
 
   -- the next step reads it, and leaves what comes after it
-  pub next_back : FieldReadsBack info produced hint image accepts reading kept fits
+  pub next_back : FieldReadsBack info produced hint image accepts parse kept fits
   next_back x g after t place p os e whole small fit =
-      next_there accepts reading t place (write p os (g ++ after)) (kept x) (write p (drop (tokens_holes g) os) after) (is_field x g after t place p os e whole small fit)
+      next_there accepts parse t place (write p os (g ++ after)) (kept x) (write p (drop (tokens_holes g) os) after) (is_field x g after t place p os e whole small fit)
 
 -- ---- fields, one after another
 
-module _ {A M : Type 0} (info : Ty) (produced : A → Option Ty) (hint : A → ℕ) (image : A → Option Image) (accepts : Ty → Bool) (reading : Reading M) (kept : A → M) (fits : A → Ty → List Oid → Type 0) (law : ReadsBack image reading kept fits) where
+module _ {A M : Type 0} (info : Ty) (produced : A → Option Ty) (hint : A → ℕ) (image : A → Option Image) (accepts : Ty → Bool) (parse : Given → Outcome M) (kept : A → M) (fits : A → Ty → List Oid → Type 0) (law : ReadsBack image (reading_of parse) kept fits) where
   -- the last field that is read
-  pub last_back : (x : A) (fs : List (Option (List Token))) → FieldsBack (next accepts reading) (field hint image produced info x ∷ fs) (kept x) (FieldFits info produced image accepts fits x)
+  pub last_back : (x : A) (fs : List (Option (List Token))) → FieldsBack (next_field accepts parse) (field hint image produced info x ∷ fs) (kept x) (FieldFits info produced image accepts fits x)
   last_back x fs = record {
     back = λ t place p os gs e whole small fit.
         let a = joined_parts (field hint image produced info x) (in_order fs) gs e in
         let both : SlotsFit (a.0 ++ a.1) = subst SlotsFit (sym a.4) whole in
-        let one = next_back info produced hint image accepts reading kept fits law x a.0 a.1 t place p os a.2 (SlotsFit-front a.0 a.1 both) small fit in
-        (binary_fields t (suc place) (write p (drop (tokens_holes a.0) os) a.1), ap (λ (r : List Token). next accepts reading (binary_fields t place (write p os r))) (sym a.4) ∙ one);
+        let one = next_back info produced hint image accepts parse kept fits law x a.0 a.1 t place p os a.2 (SlotsFit-front a.0 a.1 both) small fit in
+        (binary_fields t (suc place) (write p (drop (tokens_holes a.0) os) a.1), ap (λ (r : List Token). (next_field accepts parse (binary_fields t place (write p os r))).answer) (sym a.4) ∙ one);
   }
 
   -- a field, and further ones
-  pub further_back : (x : A) {B : Type 0} {steps : Left → Option (B × Left)} {fs : List (Option (List Token))} {others : B} {fit : Ty → ℕ → List Oid → Type 0} → FieldsBack steps fs others fit →
-      FieldsBack (next accepts reading then steps) (field hint image produced info x ∷ fs) (kept x, others) (Followed (FieldFits info produced image accepts fits x) (field hint image produced info x) fit)
+  pub further_back : (x : A) {B : Type 0} {steps : Left → Outcome (B × Left)} {fs : List (Option (List Token))} {others : B} {fit : Ty → ℕ → List Oid → Type 0} → FieldsBack steps fs others fit →
+      FieldsBack (next_field accepts parse then steps) (field hint image produced info x ∷ fs) (kept x, others) (Followed (FieldFits info produced image accepts fits x) (field hint image produced info x) fit)
   further_back x {B} {steps} {fs} {others} {fit} further = record {
     back = λ t place p os gs e whole small fits_there.
         let a = joined_parts (field hint image produced info x) (in_order fs) gs e in
         let both : SlotsFit (a.0 ++ a.1) = subst SlotsFit (sym a.4) whole in
-        let one = next_back info produced hint image accepts reading kept fits law x a.0 a.1 t place p os a.2 (SlotsFit-front a.0 a.1 both) small fits_there.0 in
+        let one = next_back info produced hint image accepts parse kept fits law x a.0 a.1 t place p os a.2 (SlotsFit-front a.0 a.1 both) small fits_there.0 in
         let left : List Oid = drop (tokens_holes a.0) os in
         let rest = further.back t (suc place) p left a.1 a.3 (SlotsFit-back a.0 a.1 both) (AreOids-drop (tokens_holes a.0) os small) (subst (λ (o : Option (List Token)). fit t (suc place) (drop (field_holes o) os)) a.2 fits_there.1) in
-        (rest.0, ap (λ (r : List Token). (next accepts reading then steps) (binary_fields t place (write p os r))) (sym a.4) ∙ rw (one, rest.1) refl);
+        (rest.0, ap (λ (r : List Token). ((next_field accepts parse then steps) (binary_fields t place (write p os r))).answer) (sym a.4) ∙ rw (one, rest.1) refl);
   }
 
 -- a record of fields, the first of which are read
-pub record_back : {M : Type 0} {steps : Left → Option (M × Left)} {fs : List (Option (List Token))} {kept : M} {fit : Ty → ℕ → List Oid → Type 0} → FieldsBack steps fs kept fit → RecordReadsBack (record_of steps) fs kept fit
+pub record_back : {M : Type 0} {steps : Left → Outcome (M × Left)} {fs : List (Option (List Token))} {kept : M} {fit : Ty → ℕ → List Oid → Type 0} → FieldsBack steps fs kept fit → RecordReadsBack (reading_of (parse_record steps)) fs kept fit
 record_back {M} {steps} {fs} {kept} {fit} fields i t p os e whole small fits_there =
     let a = record_parts fs i e in
     let gs_fit : SlotsFit a.0 = SlotsFit-back (bytes (be4 (length fs))) a.0 (subst ImageFits (sym a.2) whole) in
@@ -148,5 +148,5 @@ record_back {M} {steps} {fs} {kept} {fit} fields i t p os e whole small fits_the
 pub fields_back : RecordFieldsFollow
 fields_back fs i t p os e =
     let a = record_parts fs i e in
-    let there : fields_of t Binary (written_part (image_of (bytes (be4 (length fs)) ++ a.0)) p os) ≡ Some (binary_fields t 0 (write p os a.0)) = rw (number_of_four (be4 (length fs)) (write p os a.0) refl) refl in
-    (a.0, a.1, a.2, subst (λ (j : Image). fields_of t Binary (written_part j p os) ≡ Some (binary_fields t 0 (write p os a.0))) a.2 there)
+    let there : (fields_of (given t Binary (written_part (image_of (bytes (be4 (length fs)) ++ a.0)) p os))).answer ≡ Ok (binary_fields t 0 (write p os a.0)) = rw (number_of_four (be4 (length fs)) (write p os a.0) refl) refl in
+    (a.0, a.1, a.2, subst (λ (j : Image). (fields_of (given t Binary (written_part j p os))).answer ≡ Ok (binary_fields t 0 (write p os a.0))) a.2 there)

@@ -7,7 +7,6 @@ pub mod WrittenView
 pub mod Fronts
 pub mod Fields
 pub mod Nullable
-pub mod Nothing
 pub mod FieldsLeftView
 pub mod Saying
 pub mod TypeRow

@@ -1,8 +1,25 @@
--- Values that may be null (PostgreSQL: "Message Formats", DataRow). Null is read by `Option` (as None) and by `()` alone.
-use Rattle.std.specs.Prelude.{Option, Some, None, option_map}
-use Rattle.pgv_value.specs.Reading.{Reading}
+-- Null (PostgreSQL: "Message Formats", DataRow). It is read by `Option` (as None) and by `()` alone.
+use Rattle.std.specs.Prelude.{◌≡◌, Bool, false, Option, Some, None, Result, Ok, Err, is_none, if◌then◌else◌, ⊤, refl}
+use Rattle.pgv_value.specs.Outcome.{Outcome, done, fails, ◌>>=◌}
+use Rattle.pgv_value.specs.ValueView.{Given}
+use Rattle.pgv_value.specs.declared.error.CodecError.{CodecError}
+use Rattle.pgv_value.specs.declared.error.CodecError.TheVariants.{UnexpectedNull}
 
--- null is None, and anything else is what the type reads
-abbrev pub nullable : {M : Type 0} → Reading M → Reading (Option M)
-nullable reading t f None = Some None
-nullable reading t f (Some bytes) = option_map (λ m. Some m) (reading t f (Some bytes))
+-- what may be null: null is None, and anything else is what the type reads
+abbrev pub nullable : {M : Type 0} → (Given → Outcome M) → Given → Outcome (Option M)
+nullable parse v = if is_none v.bytes then done None else (parse v >>= λ m. done (Some m))
+
+-- anything is read as the same, null too, and without memory
+abbrev pub anything : Given → Outcome ⊤
+anything v = done tt
+
+abbrev pub ReadsNull : {M : Type 0} → Result M (Option CodecError) → Bool → Type 0
+ReadsNull (Ok m) may_alloc = ⊤
+ReadsNull (Err why) may_alloc = (why ≡ Some UnexpectedNull) × (may_alloc ≡ false)
+
+-- what an outcome of null is: something is read, or it is refused with C13 and without memory
+abbrev pub RefusesNull : {M : Type 0} → Outcome M → Type 0
+RefusesNull o = ReadsNull o.answer o.may_alloc
+
+pub refused_null : {M : Type 0} (o : Outcome M) → o ≡ fails UnexpectedNull → RefusesNull o
+refused_null o e = rw e (refl, refl)

@@ -4,11 +4,11 @@
 -- element without a frame is refused with. A field after 4294967295 others is C12.
 use Rattle.std.specs.Prelude.{◌≡◌, ◌≢◌, ℕ, Bool, true, false, nat_eq, nat_le, List, [], ◌∷◌, length, Option, Some, None, IfSome, IfErr, Result, cond}
 use Rattle.pgv_types.specs.Ty.{Ty}
+use Rattle.pgv_types.specs.Facts.{is_custom}
 use Rattle.pgv_buf.specs.Tokens.{Token, tokens_width}
 use Rattle.pgv_value.specs.Reading.{Refuses}
 use Rattle.pgv_value.specs.declared.error.CodecError.{CodecError}
 use Rattle.pgv_value.specs.declared.error.CodecError.TheVariants.{Memory, ValueSize, ArrayLength, FieldCount}
-use Rattle.pgv_nest.specs.NestRefusals.{Refusal, Taking, is_copied}
 use Rattle.pgv_codec.specs.Image.{Image, null_image, image_of, field, frame, limit}
 
 -- an error is the refusal that is stated, or out of memory
@@ -70,18 +70,12 @@ abbrev pub option_asks_first : {X : Type 0} → (X → Bool) → Option X → Bo
 option_asks_first asks_first None = true
 option_asks_first asks_first (Some x) = asks_first x
 
+-- whether a type is copied that asks for memory: where there is one and it is a custom one
+abbrev pub is_copied : Option Ty → Bool
+is_copied None = false
+is_copied (Some t) = is_custom t
+
 -- whether the type of a list's elements is copied, which may be refused: where the first one produces a custom type
 abbrev pub first_type_copied : {X : Type 0} → (X → Option Ty) → List X → Bool
 first_type_copied produced [] = false
 first_type_copied produced (x ∷ xs) = is_copied (produced x)
-
--- ---- read
-
--- null is never refused, and anything else as the type says
-abbrev pub nullable_refusal : Refusal → Refusal
-nullable_refusal refusal t f None = None
-nullable_refusal refusal t f (Some bytes) = refusal t f (Some bytes)
-
-abbrev pub nullable_takes : Taking → Taking
-nullable_takes takes t f None = false
-nullable_takes takes t f (Some bytes) = takes t f (Some bytes)

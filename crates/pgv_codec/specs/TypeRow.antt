@@ -2,11 +2,9 @@
 -- what they are written as. The laws of `laws::rows` give each type's row by these: the PostgreSQL type of its values and of
 -- their arrays, the types under which both are read (`IsBuiltIn`: those that are softly equal to it), its image, with size hint
 -- 0 and no other type (`IsWrittenAs`), and the grammar that it is read by (`parse`).
-use Rattle.std.specs.Prelude.{◌≡◌, ℕ, Bool, false, List, Option, None}
+use Rattle.std.specs.Prelude.{◌≡◌, ℕ, Bool, Option, None}
 use Rattle.pgv_types.specs.Ty.{Ty, builtin}
 use Rattle.pgv_types.specs.Relations.{softly}
-use Rattle.pgv_value.specs.declared.value.PgValueFormat.{PgValueFormat}
-use Rattle.pgv_nest.specs.NestRefusals.{Taking}
 use Rattle.pgv_codec.specs.Image.{Image}
 
 -- values have the built-in type of this OID, and are read under each type that is softly equal to it
@@ -16,7 +14,3 @@ IsBuiltIn oid info accepts = (info ≡ builtin oid) × ((t : Ty) → accepts t �
 -- values are written as this image, with the size hint 0, and produce no other type
 abbrev pub IsWrittenAs : {A : Type 0} → (A → Option Image) → (A → ℕ) → (A → Option Image) → (A → Option Ty) → Type 0
 IsWrittenAs {A} wanted hint image produced = (v : A) → (image v ≡ wanted v) × (hint v ≡ 0) × (produced v ≡ None)
-
--- it never asks for memory, so it is never refused with C1
-abbrev pub TakesNone : Taking → Type 0
-TakesNone takes = (t : Ty) (f : PgValueFormat) (bytes : Option (List ℕ)) → takes t f bytes ≡ false

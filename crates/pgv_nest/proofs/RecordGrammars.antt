@@ -1,14 +1,14 @@
 -- What is read of a record in binary is what its bytes are.
-use Rattle.std.proofs.Common.{◌≡◌, ℕ, suc, Bool, true, false, nat_eq, List, [], ◌∷◌, ◌++◌, length, Option, Some, None, Result, Ok, Err, refl, sym, ◌∙◌, ap, subst}
+use Rattle.std.proofs.Common.{◌≡◌, ℕ, suc, Bool, true, false, nat_eq, List, ◌++◌, length, Option, Some, None, Result, Ok, refl, sym, ◌∙◌, ap, subst}
 use Rattle.std.specs.Int.{w32, to_be_bytes}
 use Rattle.std.specs.Prelude.{◌↔◌, ◌==◌, not, ok_or, if◌then◌else◌}
 use Rattle.std.proofs.lemmas.Bool.{eqb-true}
 use Rattle.pgv_types.specs.Ty.{Ty, builtin, custom, named, by_oid, array_of, Kind, simple, pseudo, domain, composite, array, enumeration, range}
-use Rattle.pgv_types.specs.Facts.{built_in, oid_of, is_custom}
+use Rattle.pgv_types.specs.Facts.{built_in, oid_of}
 use Rattle.pgv_value.specs.FrameBinary.{IsFrame}
 use Rattle.pgv_value.specs.Fronts.{u32_front, value_front}
 use Rattle.pgv_value.specs.Laws.{AreBytes}
-use Rattle.pgv_value.specs.Outcome.{Outcome, Reads, allocates, done, fails, or_fail}
+use Rattle.pgv_value.specs.Outcome.{Outcome, done, fails, or_fail}
 use Rattle.pgv_value.specs.ValueView.{Given, given}
 use Rattle.pgv_value.specs.declared.error.CodecError.{CodecError}
 use Rattle.pgv_value.specs.declared.error.CodecError.TheVariants.{NotARecord, NoField, FieldOid, FieldTypeUnknown, MismatchedTypes}
@@ -18,7 +18,7 @@ use Rattle.pgv_value.proofs.Outcomes.{answer_is, answers_are, taken, taken_exact
 use Rattle.pgv_value.proofs.ValueFronts.{u32_is, u32_splits, value_is}
 use Rattle.pgv_nest.specs.Found.{field_type_there, field_there, next_there}
 use Rattle.pgv_nest.specs.NestBinary.{FindExactly, HasFieldType, of_record, of_custom_record, of_composite, of_domain, Stretch, IsField, ◌and◌, RecordIsItsFields}
-use Rattle.pgv_nest.specs.RecordGrammar.{is_oid, field_at, by_own_oid, composite_field, field_type, field_type_in, field_head, field_in_binary, Left, binary_fields, next_field, fields_of, parse_record, ◌then◌}
+use Rattle.pgv_nest.specs.RecordGrammar.{is_oid, field_at, composite_field, field_type, field_type_in, field_head, field_in_binary, Left, binary_fields, next_field, fields_of, parse_record, ◌then◌}
 
 -- ---- the types of fields
 

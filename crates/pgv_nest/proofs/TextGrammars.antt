@@ -1,16 +1,15 @@
 -- What is read of an array or a record in text is what its characters are.
-use Rattle.std.proofs.Common.{◌≡◌, ℕ, Bool, true, false, nat_eq, List, [], ◌∷◌, drop, length, Option, Some, None, Result, Ok, Err, refl, sym, ◌∙◌, ap, subst}
+use Rattle.std.proofs.Common.{◌≡◌, ℕ, Bool, true, false, nat_eq, List, [], ◌∷◌, drop, length, Option, Some, Result, Ok, refl, sym, ◌∙◌, ap, subst}
 use Rattle.std.specs.Prelude.{not, ok_or, if◌then◌else◌}
 use Rattle.std.proofs.lemmas.Bool.{eq-eqb, eqb-true}
 use Rattle.pgv_types.specs.Ty.{Ty, by_oid}
 use Rattle.pgv_text.specs.Laws.{ArrayIsItsValues, RecordIsItsValues}
 use Rattle.pgv_text.specs.NestText.{Pairwise}
-use Rattle.pgv_text.specs.Copies.{copies_of, first_copied}
+use Rattle.pgv_text.specs.Copies.{copies_of}
 use Rattle.pgv_text.specs.Values.{array_values, record_values}
 use Rattle.pgv_text.specs.declared.scanner.TextForm.TheVariants.{Record}
 use Rattle.pgv_value.specs.FrameBinary.{Part}
-use Rattle.pgv_value.specs.Outcome.{Outcome, Reads, allocates, done, fails}
-use Rattle.pgv_value.specs.Reading.{has_items}
+use Rattle.pgv_value.specs.Outcome.{Outcome, Reads, done, fails}
 use Rattle.pgv_value.specs.Utf8.{is_utf8}
 use Rattle.pgv_value.specs.ValueView.{Given, given}
 use Rattle.pgv_value.specs.declared.error.CodecError.{CodecError}
@@ -54,8 +53,7 @@ module _ (law : ArrayIsItsValues) {M : Type 0} (info : Ty) (parse : Given → Ou
     λ e.
         let u = whole_text (is_utf8 bytes) (array_in_text parse info bytes) ms e in
         let v = taken_exactly (ok_or (array_values bytes) Syntax) _ ms u.1 in
-        let w = taken (allocates (has_items (array_values bytes))) _ ms v.2 in
-        record { elements = v.0; utf8 = u.0; whole = (law bytes v.0).0 (found_or (array_values bytes) Syntax v.0 v.1); each = each_is parse info v.0 ms w.2 },
+        record { elements = v.0; utf8 = u.0; whole = (law bytes v.0).0 (found_or (array_values bytes) Syntax v.0 v.1); each = each_is parse info v.0 ms v.2 },
     λ h. rw (h.utf8, (law bytes h.elements).1 h.whole, each_there parse info h.elements ms h.each) refl,
   )
 
@@ -85,8 +83,7 @@ pub text_field : {M : Type 0} (accepts : Ty → Bool) (parse : Given → Outcome
 text_field accepts parse n copied [] m left = (λ e. absurd cc, λ h. absurd cc)
 text_field {M} accepts parse n copied (part ∷ parts) m left = (
   λ e.
-      let a = taken (allocates (first_copied copied)) _ (m, left) e in
-      let b = taken (parse (given (by_oid 0) Text part)) _ (m, left) a.2 in
+      let b = taken (parse (given (by_oid 0) Text part)) (λ (x : M). done (x, text_fields n (drop 1 copied) parts)) (m, left) e in
       let k = answers_are b.0 m (text_fields n (drop 1 copied) parts) left b.2 in
       (parts, sym k.1, (part, refl, b.1 ∙ ap (λ (x : M). let r : Result M (Option CodecError) = Ok x in r) k.0)),
   λ h.

@@ -1,8 +1,9 @@
 -- What stands in bytes is found there: numbers, arrays and the fields of records.
-use Rattle.std.specs.Prelude.{◌≡◌, ◌==◌, ℕ, suc, ◌<◌, ◌^◌, Bool, false, nat_lt, List, [], ◌∷◌, ◌++◌, length, Ok, refl}
+use Rattle.std.specs.Prelude.{◌≡◌, ◌==◌, ℕ, suc, ◌<◌, ◌^◌, Bool, false, nat_lt, List, [], ◌∷◌, ◌++◌, length, Some, Ok, refl}
 use Rattle.std.specs.Int.{w32, to_be_bytes}
 use Rattle.std.proofs.Common.{inl, inr, arith}
 use Rattle.std.proofs.lemmas.Bool.{le-ltb, eq-eqb}
+use Rattle.std.proofs.lemmas.Bool.Decides.{nat_tests}
 use Rattle.pgv_types.specs.Ty.{Ty}
 use Rattle.pgv_value.specs.Outcome.{Outcome}
 use Rattle.pgv_value.specs.ValueView.{Given}
@@ -47,7 +48,7 @@ field_type_there place oid found t (of_domain own name base h) = field_type_ther
 
 -- bytes that begin with a number are some
 begun : (n : ℕ) (rest : List ℕ) → length (to_be_bytes w32 n ++ rest) == 0 ≡ false
-begun n rest = refl
+begun n rest = grind (arith, nat_tests)
 
 module _ {M : Type 0} (accepts : Ty → Bool) (parse : Given → Outcome M) (t : Ty) (place : ℕ) where
   pub field_there : (bytes : List ℕ) (m : M) (rest : List ℕ) → IsField accepts parse t place bytes m rest → (field_in_binary accepts parse t place bytes).answer ≡ Ok (m, rest)

@@ -5,7 +5,7 @@
 -- A record (`IsRecord`) is four bytes, and fields joined by `and`. Each field (`IsField`) is an OID and a frame of a value
 -- under the type that `HasFieldType` names. Laws: the decoders of tuples compute it (`tuple_is_its_fields`), and so do their
 -- parts (`field_is_its_value`, `record_begins`, `field_type_is_found`).
-use Rattle.std.specs.Prelude.{◌≡◌, ◌↔◌, ◌⊎◌, ℕ, suc, ◌<◌, ◌^◌, Bool, true, List, [], ◌∷◌, ◌++◌, length, Option, Some, Ok, ⊤, ◌*◌, ◌≤◌}
+use Rattle.std.specs.Prelude.{◌≡◌, ◌↔◌, ◌⊎◌, ℕ, suc, ◌<◌, ◌^◌, Bool, true, List, [], ◌∷◌, ◌++◌, length, Some, Ok, ⊤, ◌*◌, ◌≤◌}
 use Rattle.std.specs.Int.{w32, to_be_bytes}
 use Rattle.pgv_types.specs.Ty.{Ty, builtin, custom, simple, domain, composite, Fields}
 use Rattle.pgv_types.specs.Facts.{built_in, oid_of}

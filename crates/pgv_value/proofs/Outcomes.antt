@@ -4,11 +4,16 @@ use Rattle.std.specs.Prelude.{ok_or, IfErr}
 use Rattle.std.proofs.lemmas.Bool.{false≢true}
 use Rattle.pgv_value.specs.declared.error.CodecError.{CodecError}
 use Rattle.pgv_value.specs.declared.error.CodecError.TheVariants.{Memory}
-use Rattle.pgv_value.specs.Outcome.{Outcome, Fails, Gives, fails_if, stated, exactly, bind_by, ◌>>=◌, ◌>>◌}
+use Rattle.pgv_value.specs.Outcome.{Outcome, Fails, Gives, fails_if, stated, exactly, bind_by, ok_of, ◌>>=◌, ◌>>◌}
 use Rattle.pgv_value.specs.Parsed.{Parsed, GivesExactly, ◌>>=◌ as ◌and_then◌}
 
 pub answer_is : {A : Type 0} (x y : A) → (let r : Result A (Option CodecError) = Ok x in r) ≡ Ok y → x ≡ y
 answer_is x y e = cc
+
+-- what an answer reads is the answer
+pub answer_of : {A : Type 0} (r : Result A (Option CodecError)) (x : A) → ok_of r ≡ Some x → r ≡ Ok x
+answer_of (Ok y) x e = cc
+answer_of (Err why) x e = absurd cc
 
 pub answers_are : {A B : Type 0} (a c : A) (b d : B) → (let r : Result (A × B) (Option CodecError) = Ok (a, b) in r) ≡ Ok (c, d) → (a ≡ c) × (b ≡ d)
 answers_are {A} {B} a c b d e =

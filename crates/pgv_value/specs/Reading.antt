@@ -30,3 +30,8 @@ Answers meaning read (Err e) = Refuses e (read ≡ None)
 abbrev pub AnswersExactly : {V M : Type 0} → (V → M) → Option M → Result V CodecError → Type 0
 AnswersExactly meaning read (Ok v) = read ≡ Some (meaning v)
 AnswersExactly meaning read (Err e) = read ≡ None
+
+-- the reason that is given where nothing was read, else the reason of what comes after
+abbrev pub refusal_or : {A B : Type 0} → B → Option A → (A → B) → B
+refusal_or why None after = why
+refusal_or why (Some read) after = after read
