@@ -1,1 +1,2 @@
+pub mod Steps
 pub mod Words

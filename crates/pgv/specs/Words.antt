@@ -17,20 +17,22 @@ pub use Rattle.pgv_codec.specs.ScalarBinary.{signed_image, unsigned_image, bool_
 -- `blank tokens` are tokens in a buffer that is not filled yet: what a call that appends has put after `out.old`. `shown cells` are
 -- the bytes that a buffer shows.
 pub use Rattle.pgv_buf.specs.Tokens.{blank, shown}
--- `Part` is what a frame holds: `None` for null, or `Some` bytes. `front bytes` is the frame in front: `Some (part, rest)`, or `None`.
+-- `Part` is what a frame holds: `None` for null, or `Some` bytes. `front bytes` is the frame in front: `Some (part, rest)`, or `None`;
+-- `value_front type format bytes` is it as a value: `Ok (value, rest)`, or `Err` why there is none.
 pub use Rattle.pgv_value.specs.FrameBinary.{Part, front}
--- `Reading M` is a grammar: for a type, a format and a part, `Some` meaning or `None`. `Answers meaning read result` is what a decoder
--- answers: a value of exactly this meaning; refused, but for memory, only where there is none.
-pub use Rattle.pgv_value.specs.Reading.{Reading, Answers}
+pub use Rattle.pgv_value.specs.Fronts.{value_front}
 pub use Rattle.pgv_value.specs.declared.value.PgValueFormat.{PgValueFormat}
 pub use Rattle.pgv_value.specs.declared.value.PgValueFormat.TheVariants.{Binary, Text}
--- For `parse` of `Plain`. `Given` is a value of a row: its part, its type and its format. `Parsed M` is what is read without memory:
--- `Ok` of a view, or `Err` why not, and `>>=` goes on where something was read. `without_memory` makes a `parse` of such a grammar.
--- `Outcome M` says too whether memory may be asked for by then: `copied parsed` is a list of which memory is asked for where it isn't
--- empty, and `read_or read why takes` what was read, or else `why`. `Gives view outcome result` is what a reader answers.
+-- For `parse` of `Plain` and `Decode`. `Given` is a value of a row: its part, its type and its format. `Parsed M` is what is read
+-- without memory: `Ok` of a view, or `Err` why not, and `>>=` goes on where something was read. `without_memory` makes a `parse` of
+-- such a grammar. `Outcome M` says too whether memory may be asked for by then: `copied parsed` is a list of which memory is asked for
+-- where it isn't empty, and `read_or read why takes` what was read, or else `why`. A grammar that is read step by step is written with
+-- the words of `Steps`. `Gives view outcome result` is what a reader answers, and `Reads parse value view` that it reads this.
 pub use Rattle.pgv_value.specs.ValueView.{Given, given}
 pub use Rattle.pgv_value.specs.Parsed.{Parsed, ◌>>=◌, GivesExactly}
-pub use Rattle.pgv_value.specs.Outcome.{Outcome, Gives, without_memory, copied, read_or}
+pub use Rattle.pgv_value.specs.Outcome.{Outcome, Gives, Reads, without_memory, copied, read_or}
+-- What the elements of an array are read as, and of an array of n: in text under the elements' own type.
+pub use Rattle.pgv_nest.specs.ArrayGrammar.{parse_array, parse_sized}
 -- `scalar` and `binary_alone` make a grammar of one for each format, or for binary; `in_both_formats` and `in_binary_alone` do so where
 -- memory may be asked for. `utf8_part` is a text in either format.
 pub use Rattle.pgv_value.specs.ScalarGrammar.{scalar, binary_alone}
@@ -46,12 +48,13 @@ pub use Rattle.pgv_value.specs.Outcome.{reading_of, error_of, takes_of}
 pub use Rattle.pgv_value.specs.declared.error.CodecError.{CodecError}
 pub use Rattle.pgv_value.specs.Codes.{code_of}
 pub use Rattle.pgv_value.specs.declared.error.CodecError.TheVariants.{Caller, Syntax, TextUnsupported, UnexpectedNull, WrongLength}
--- For `written` of `Decode`: `plainly image` is what is written of a meaning, `unwritten` says nothing, and
+-- For `written` of `Decode`: `plainly image` is what is written of a view, `unwritten` says nothing, and
 -- `field_written info written m` is the same for a field.
 pub use Rattle.pgv_codec.specs.Saying.{plainly, unwritten, field_written}
--- `step reader` is what the next `next_row` of a `PgCopyReader` answers: `Ok (Some row, after)`, `Ok (None, after)` at the end, or
--- `Err` why it is refused. `bytes_left reader` falls with each row, and `row_takes reader` says whether the call may ask for memory.
-pub use Rattle.pgv_copy.specs.CopyBinary.{step, bytes_left, row_takes}
+-- `next_row reader` is what the next call of a `PgCopyReader` gives: a row or the end, and the reader after it; `step reader` is the
+-- same but for memory: `Ok (Some row, after)`, `Ok (None, after)` at the end, or `Err` why it is refused. `bytes_left reader` falls with
+-- each row.
+pub use Rattle.pgv_copy.specs.CopyBinary.{next_row, step, bytes_left}
 -- `Advances old answer new`: what `advance` of a `PgCopyPieces` answers, and the reader after it, by `next_of`, what the bytes that
 -- came begin with. `with_more old piece` is the reader that has taken a piece.
 pub use Rattle.pgv_copy.specs.CopyPieces.{Advances, next_of, with_more}

@@ -88,16 +88,18 @@ impl Encode for Size {
 }
 
 impl Decode for Size {
-    ghost use Rattle.std.specs.Prelude.{ℤ};
+    ghost use Rattle.std.specs.Prelude.{ℤ, refl};
     ghost use Rattle.pgv.specs.Words.{unwritten};
 
-    ghost Meaning = { ℤ };
+    ghost View = { ℤ };
 
-    ghost meaning = { λ size. size.number };
+    ghost view = { λ size. size.number };
 
-    ghost reading = { ⟦<i32 as Decode>⟧.reading };
+    ghost parse = { ⟦<i32 as Decode>⟧.parse };
 
     ghost written = { unwritten };
+
+    ghost null = { λ _ _. (refl, refl) };
 
     fn decode(alloc: Global, value: PgValueRef<'_>) -> Result<Size, CodecError> {
         Ok(Size {
@@ -177,13 +179,15 @@ impl Encode for SizeRange {
 impl Decode for SizeRange {
     ghost use Rattle.pgv.specs.Words.{unwritten};
 
-    ghost Meaning = { ⟦<PgRange<Vec<Size>> as Decode>⟧.Meaning };
+    ghost View = { ⟦<PgRange<Vec<Size>> as Decode>⟧.View };
 
-    ghost meaning = { λ v. ⟦<PgRange<Vec<Size>> as Decode>⟧.meaning v.range };
+    ghost view = { λ v. ⟦<PgRange<Vec<Size>> as Decode>⟧.view v.range };
 
-    ghost reading = { ⟦<PgRange<Vec<Size>> as Decode>⟧.reading };
+    ghost parse = { ⟦<PgRange<Vec<Size>> as Decode>⟧.parse };
 
     ghost written = { unwritten };
+
+    ghost null = { ⟦<PgRange<Vec<Size>> as Decode>⟧.null };
 
     fn decode(alloc: Global, value: PgValueRef<'_>) -> Result<SizeRange, CodecError> {
         Ok(SizeRange {

@@ -1,99 +1,86 @@
 -- Frames that are read one after the other.
-use Rattle.std.proofs.Common.{◌≡◌, ℕ, suc, ◌+◌, ◌-◌, ◌<◌, ◌≤◌, List, [], ◌∷◌, ◌++◌, Option, Some, None, refl, sym, ap, ◌∙◌, append_assoc, arith}
+use Rattle.std.proofs.Common.{◌≡◌, ◌≢◌, ℕ, zero, suc, ◌+◌, ◌-◌, ◌<◌, ◌≤◌, Bool, true, List, [], ◌∷◌, ◌++◌, length, Option, Some, None, Result, Ok, Err, refl, sym, ap, ◌∙◌, append_assoc, arith, inl, inr}
+use Rattle.std.proofs.lemmas.Bool.{lt-ltb}
 use Rattle.std.proofs.lemmas.List.{append-nil}
-use Rattle.pgv_value.specs.FrameBinary.{Part, front, frame_fault}
+use Rattle.pgv_types.specs.Ty.{Ty}
+use Rattle.pgv_value.specs.Fronts.{value_front}
+use Rattle.pgv_value.specs.Outcome.{Outcome, Fails, done, bind_by}
+use Rattle.pgv_value.specs.ValueView.{Given}
 use Rattle.pgv_value.specs.declared.error.CodecError.{CodecError}
-use Rattle.pgv_nest.specs.ArrayGrammar.{frames}
-use Rattle.pgv_nest.specs.NestRefusals.{frames_refusal}
-use Rattle.pgv_value.specs.Steps.{◌>>=◌}
+use Rattle.pgv_value.specs.declared.error.CodecError.TheVariants.{Short}
+use Rattle.pgv_value.specs.FrameBinary.{front}
+use Rattle.pgv_value.specs.declared.value.PgValueFormat.TheVariants.{Binary}
+use Rattle.pgv_nest.specs.ArrayGrammar.{elements, frames}
 
 module _ {M : Type 0} where
   -- what was read before, and what is still read
-  abbrev pub with_front : List M → Option (List M) → Option (List M)
-  with_front ms None = None
-  with_front ms (Some ns) = Some (ms ++ ns)
+  abbrev pub with_front : List M → Result (List M) (Option CodecError) → Result (List M) (Option CodecError)
+  with_front ms (Ok ns) = Ok (ms ++ ns)
+  with_front ms (Err why) = Err why
 
-  pub regroup : (ms : List M) (m : M) (r : Option (List M)) → with_front ms (r >>= λ ns. Some (m ∷ ns)) ≡ with_front (ms ++ m ∷ []) r
-  regroup ms m None = refl
-  regroup ms m (Some ns) = ap (λ (xs : List M). Some xs) (sym (append_assoc ms (m ∷ []) ns))
+  pub regroup : (ms : List M) (m : M) (r : Result (List M) (Option CodecError)) (b : Bool) → with_front ms (bind_by r b (λ (ns : List M). done (m ∷ ns))).answer ≡ with_front (ms ++ m ∷ []) r
+  regroup ms m (Ok ns) b = ap (λ (xs : List M). let r : Result (List M) (Option CodecError) = Ok xs in r) (sym (append_assoc ms (m ∷ []) ns))
+  regroup ms m (Err why) b = refl
 
-  -- one more frame is read
-  pub frames_more : (read : Part → Option M) (ms : List M) (k : ℕ) (bytes : List ℕ) (part : Part) (rest : List ℕ) (m : M) →
-      front bytes ≡ Some (part, rest) → read part ≡ Some m → with_front ms (frames read (suc k) bytes) ≡ with_front (ms ++ m ∷ []) (frames read k rest)
+module _ {M : Type 0} (parse : Given → Outcome M) (t : Ty) where
+  abbrev Answer : Type 0
+  Answer = Result (List M) (Option CodecError)
+
+  -- one step: a value is read, none stands in front, one isn't read
+  step_read : (ms : List M) (k : ℕ) (bytes : List ℕ) (v : Given) (rest : List ℕ) (m : M) → value_front t Binary bytes ≡ Ok (v, rest) → (parse v).answer ≡ Ok m →
+      with_front ms (frames parse t (suc k) bytes).answer ≡ with_front (ms ++ m ∷ []) (frames parse t k rest).answer
   unfolding frames
-  frames_more read ms k bytes part rest m f r = rw (f, r) (regroup ms m (frames read k rest))
+  step_read ms k bytes v rest m f r = rw (f, r) (regroup ms m (frames parse t k rest).answer (frames parse t k rest).may_alloc)
 
-  -- no frame stands in front
-  pub frames_no_front : (read : Part → Option M) (k : ℕ) (bytes : List ℕ) → front bytes ≡ None → frames read (suc k) bytes ≡ None
+  step_short : (k : ℕ) (bytes : List ℕ) (e : CodecError) → value_front t Binary bytes ≡ Err e → (frames parse t (suc k) bytes).answer ≡ Err (Some e)
   unfolding frames
-  frames_no_front read k bytes f = rw f refl
+  step_short k bytes e f = rw f refl
 
-  -- the frame in front isn't read
-  pub frames_unread : (read : Part → Option M) (k : ℕ) (bytes : List ℕ) (part : Part) (rest : List ℕ) → front bytes ≡ Some (part, rest) → read part ≡ None → frames read (suc k) bytes ≡ None
+  step_unread : (k : ℕ) (bytes : List ℕ) (v : Given) (rest : List ℕ) (why : Option CodecError) → value_front t Binary bytes ≡ Ok (v, rest) → (parse v).answer ≡ Err why →
+      (frames parse t (suc k) bytes).answer ≡ Err why
   unfolding frames
-  frames_unread read k bytes part rest f r = rw (f, r) refl
+  step_unread k bytes v rest why f r = rw (f, r) refl
 
-  pub frames_none_left : (read : Part → Option M) (bytes : List ℕ) → frames read 0 bytes ≡ Some []
+  -- where not even a length stands in front of the first one
+  pub too_short : (n : ℕ) (bytes : List ℕ) → n ≢ 0 → length bytes < 4 → Fails Short (elements parse t n bytes)
+  unfolding elements frames front
+  too_short zero bytes some short = absurd (some refl)
+  too_short (suc n) bytes some short = inl (rw (lt-ltb (length bytes) 4 short) refl)
+
+  none_left : (bytes : List ℕ) → (frames parse t 0 bytes).answer ≡ Ok []
   unfolding frames
-  frames_none_left read bytes = refl
+  none_left bytes = refl
 
-  -- a loop over the frames: it is done, it goes on, no frame stands in front, a frame isn't read
-  pub is_done : (read : Part → Option M) (ms : List M) (count i : ℕ) (bytes : List ℕ) (total : Option (List M)) → count ≤ i →
-      with_front ms (frames read (count - i) bytes) ≡ total → total ≡ Some ms
-  is_done read ms count i bytes total le so_far =
+  -- the loop over the frames: it is done, it goes on, no frame stands in front, a frame isn't read
+  pub is_done : (ms : List M) (count i : ℕ) (bytes : List ℕ) (total : Answer) → count ≤ i → with_front ms (frames parse t (count - i) bytes).answer ≡ total → total ≡ Ok ms
+  is_done ms count i bytes total le so_far =
       let k : count - i ≡ 0 = omega arith in
-      let one : with_front ms (frames read (count - i) bytes) ≡ Some ms = rw (k, frames_none_left read bytes) (ap (λ (xs : List M). Some xs) (append-nil ms)) in
+      let one : with_front ms (frames parse t (count - i) bytes).answer ≡ Ok ms = rw (k, none_left bytes) (ap (λ (xs : List M). let r : Answer = Ok xs in r) (append-nil ms)) in
       sym so_far ∙ one
 
-  pub goes_on : (read : Part → Option M) (ms : List M) (count i : ℕ) (bytes : List ℕ) (part : Part) (rest : List ℕ) (m : M) (total : Option (List M)) → i < count →
-      front bytes ≡ Some (part, rest) → read part ≡ Some m → with_front ms (frames read (count - i) bytes) ≡ total → with_front (ms ++ m ∷ []) (frames read (count - (i + 1)) rest) ≡ total
-  goes_on read ms count i bytes part rest m total lt f r so_far =
+  pub goes_on : (ms : List M) (count i : ℕ) (bytes : List ℕ) (v : Given) (rest : List ℕ) (m : M) (total : Answer) → i < count → value_front t Binary bytes ≡ Ok (v, rest) → (parse v).answer ≡ Ok m →
+      with_front ms (frames parse t (count - i) bytes).answer ≡ total → with_front (ms ++ m ∷ []) (frames parse t (count - (i + 1)) rest).answer ≡ total
+  goes_on ms count i bytes v rest m total lt f r so_far =
       let k : count - i ≡ suc (count - (i + 1)) = omega arith in
-      let one : with_front ms (frames read (count - i) bytes) ≡ with_front (ms ++ m ∷ []) (frames read (count - (i + 1)) rest) = rw k (frames_more read ms (count - (i + 1)) bytes part rest m f r) in
+      let one : with_front ms (frames parse t (count - i) bytes).answer ≡ with_front (ms ++ m ∷ []) (frames parse t (count - (i + 1)) rest).answer = rw k (step_read ms (count - (i + 1)) bytes v rest m f r) in
       sym one ∙ so_far
 
-  pub ends_short : (read : Part → Option M) (ms : List M) (count i : ℕ) (bytes : List ℕ) (total : Option (List M)) → i < count →
-      front bytes ≡ None → with_front ms (frames read (count - i) bytes) ≡ total → total ≡ None
-  ends_short read ms count i bytes total lt f so_far =
+  pub ends_short : (ms : List M) (count i : ℕ) (bytes : List ℕ) (e : CodecError) (total : Answer) → i < count → value_front t Binary bytes ≡ Err e →
+      with_front ms (frames parse t (count - i) bytes).answer ≡ total → total ≡ Err (Some e)
+  ends_short ms count i bytes e total lt f so_far =
       let k : count - i ≡ suc (count - (i + 1)) = omega arith in
-      let one : with_front ms (frames read (count - i) bytes) ≡ None = rw (k, frames_no_front read (count - (i + 1)) bytes f) refl in
+      let one : with_front ms (frames parse t (count - i) bytes).answer ≡ Err (Some e) = rw (k, step_short (count - (i + 1)) bytes e f) refl in
       sym so_far ∙ one
 
-  pub ends_unread : (read : Part → Option M) (ms : List M) (count i : ℕ) (bytes : List ℕ) (part : Part) (rest : List ℕ) (total : Option (List M)) → i < count →
-      front bytes ≡ Some (part, rest) → with_front ms (frames read (count - i) bytes) ≡ total → read part ≡ None → total ≡ None
-  ends_unread read ms count i bytes part rest total lt f so_far r =
+  ends_why : (ms : List M) (count i : ℕ) (bytes : List ℕ) (v : Given) (rest : List ℕ) (why : Option CodecError) (total : Answer) → i < count → value_front t Binary bytes ≡ Ok (v, rest) →
+      (parse v).answer ≡ Err why → with_front ms (frames parse t (count - i) bytes).answer ≡ total → total ≡ Err why
+  ends_why ms count i bytes v rest why total lt f r so_far =
       let k : count - i ≡ suc (count - (i + 1)) = omega arith in
-      let one : with_front ms (frames read (count - i) bytes) ≡ None = rw (k, frames_unread read (count - (i + 1)) bytes part rest f r) refl in
+      let one : with_front ms (frames parse t (count - i) bytes).answer ≡ Err why = rw (k, step_unread (count - (i + 1)) bytes v rest why f r) refl in
       sym so_far ∙ one
 
-module _ {M : Type 0} (read : Part → Option M) (why : Part → Option CodecError) where
-  -- why the frames are refused, step by step
-  refused_more : (k : ℕ) (bytes : List ℕ) (part : Part) (rest : List ℕ) (m : M) → front bytes ≡ Some (part, rest) → read part ≡ Some m → frames_refusal read why (suc k) bytes ≡ frames_refusal read why k rest
-  unfolding frames_refusal
-  refused_more k bytes part rest m f r = rw (f, r) refl
-
-  refused_front : (k : ℕ) (bytes : List ℕ) → front bytes ≡ None → frames_refusal read why (suc k) bytes ≡ Some (frame_fault bytes)
-  unfolding frames_refusal
-  refused_front k bytes f = rw f refl
-
-  refused_part : (k : ℕ) (bytes : List ℕ) (part : Part) (rest : List ℕ) → front bytes ≡ Some (part, rest) → read part ≡ None → frames_refusal read why (suc k) bytes ≡ why part
-  unfolding frames_refusal
-  refused_part k bytes part rest f r = rw (f, r) refl
-
-  -- in the loop: a frame is read, no frame stands in front, a frame isn't read
-  pub refused_later : (count i : ℕ) (bytes : List ℕ) (part : Part) (rest : List ℕ) (m : M) (total : Option CodecError) → i < count → front bytes ≡ Some (part, rest) → read part ≡ Some m →
-      frames_refusal read why (count - i) bytes ≡ total → frames_refusal read why (count - (i + 1)) rest ≡ total
-  refused_later count i bytes part rest m total lt f r so_far =
-      let k : count - i ≡ suc (count - (i + 1)) = omega arith in
-      sym (refused_more (count - (i + 1)) bytes part rest m f r) ∙ (ap (λ (n : ℕ). frames_refusal read why n bytes) (sym k) ∙ so_far)
-
-  pub refused_short : (count i : ℕ) (bytes : List ℕ) (total : Option CodecError) → i < count → front bytes ≡ None → frames_refusal read why (count - i) bytes ≡ total → total ≡ Some (frame_fault bytes)
-  refused_short count i bytes total lt f so_far =
-      let k : count - i ≡ suc (count - (i + 1)) = omega arith in
-      sym so_far ∙ (ap (λ (n : ℕ). frames_refusal read why n bytes) k ∙ refused_front (count - (i + 1)) bytes f)
-
-  pub refused_unread : (count i : ℕ) (bytes : List ℕ) (part : Part) (rest : List ℕ) (total : Option CodecError) → i < count → front bytes ≡ Some (part, rest) →
-      frames_refusal read why (count - i) bytes ≡ total → read part ≡ None → total ≡ why part
-  refused_unread count i bytes part rest total lt f so_far r =
-      let k : count - i ≡ suc (count - (i + 1)) = omega arith in
-      sym so_far ∙ (ap (λ (n : ℕ). frames_refusal read why n bytes) k ∙ refused_part (count - (i + 1)) bytes part rest f r)
+  pub ends_unread : (ms : List M) (count i : ℕ) (bytes : List ℕ) (v : Given) (rest : List ℕ) (e : CodecError) (total : Outcome (List M)) → i < count → value_front t Binary bytes ≡ Ok (v, rest) →
+      Fails e (parse v) → with_front ms (frames parse t (count - i) bytes).answer ≡ total.answer → total.may_alloc ≡ true → Fails e total
+  ends_unread ms count i bytes v rest e total lt f (inl h) so_far free = inl (ends_why ms count i bytes v rest (Some e) total.answer lt f h so_far)
+  ends_unread ms count i bytes v rest e total lt f (inr (inl h)) so_far free = inr (inl (ends_why ms count i bytes v rest None total.answer lt f h.0 so_far, h.1))
+  ends_unread ms count i bytes v rest e total lt f (inr (inr h)) so_far free = inr (inr (h.0, free))

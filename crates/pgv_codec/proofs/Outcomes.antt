@@ -1,35 +1,29 @@
--- What is said of a reading, of why nothing is read and of memory is one clause `Gives`.
-use Rattle.std.proofs.Common.{◌≡◌, ◌≢◌, Bool, true, false, Option, Some, None, Result, Ok, Err, refl, sym, ap, inl, inr}
-use Rattle.std.specs.Prelude.{◌⊎◌, ok_or}
-use Rattle.pgv_codec.specs.Refusing.{RefusedBy, ExactlyBy, RefusedFor, RefusedExactly}
-use Rattle.pgv_value.specs.Outcome.{Outcome, Fails, Gives}
-use Rattle.pgv_value.specs.Reading.{Refuses, Answers, AnswersExactly}
+-- How an outcome fails: at a step, or after one that was taken.
+use Rattle.std.proofs.Common.{◌≡◌, Bool, true, false, ◌||◌, Option, Result, Ok, Err, refl, inl, inr}
+use Rattle.pgv_value.specs.Outcome.{Outcome, Fails, bind_by, ◌>>=◌}
 use Rattle.pgv_value.specs.declared.error.CodecError.{CodecError}
-use Rattle.pgv_value.specs.declared.error.CodecError.TheVariants.{Memory}
 
-or_memory : (e : CodecError) {P : Type 0} → Refuses e P → (e ≡ Memory) ⊎ ((e ≢ Memory) × P)
-or_memory Memory r = inl refl
-or_memory _ r = inr ((λ is. absurd cc), r)
-
-module _ {V M : Type 0} (view : V → M) where
-  abbrev outcome : Option M → Option CodecError → Bool → Outcome M
-  outcome read why takes = record { answer = ok_or read why; may_alloc = takes }
-
-  exactly_fails : (read : Option M) (why : Option CodecError) (takes : Bool) (e : CodecError) → read ≡ None → ExactlyBy why e → Fails e (outcome read why takes)
-  exactly_fails read None takes e none other = inr (inl (rw none refl, other))
-  exactly_fails read (Some d) takes e none is = inl (rw none (ap (λ (c : CodecError). let r : Result M (Option CodecError) = Err (Some c) in r) (sym is)))
-
-  fails_by : (read : Option M) (why : Option CodecError) (takes : Bool) (e : CodecError) → takes ≡ true → (e ≡ Memory) ⊎ ((e ≢ Memory) × (read ≡ None)) → RefusedBy why e → Fails e (outcome read why takes)
-  fails_by read why takes e may (inl is) refused = inr (inr (is, may))
-  fails_by read None takes e may (inr n) refused = exactly_fails read None takes e n.1 n.0
-  fails_by read (Some d) takes e may (inr n) refused = by (or_memory e refused)
+module _ {A B : Type 0} (o : Outcome A) (next : A → Outcome B) where
+  -- memory that may be asked for stays so
+  alloc_here : o.may_alloc ≡ true → (o >>= next).may_alloc ≡ true
+  alloc_here is = by o.answer o.may_alloc is
     where
-      by : (e ≡ Memory) ⊎ ((e ≢ Memory) × (e ≡ d)) → Fails e (outcome read (Some d) takes)
-      by (inl is) = inr (inr (is, may))
-      by (inr m) = exactly_fails read (Some d) takes e n.1 m.1
+      by : (r : Result A (Option CodecError)) (b : Bool) → b ≡ true → (bind_by r b next).may_alloc ≡ true
+      by (Ok x) b is = rw is refl
+      by (Err why) b is = is
 
-  pub gives_by : (read : Option M) (why : Option CodecError) (takes : Bool) (r : Result V CodecError) →
-      Answers view read r → (takes ≡ false → AnswersExactly view read r) → RefusedFor why r → (takes ≡ false → RefusedExactly why r) → Gives view (outcome read why takes) r
-  gives_by read why takes (Ok v) answers exactly refused refused_exactly = rw answers refl
-  gives_by read why false (Err e) answers exactly refused refused_exactly = exactly_fails read why false e (exactly refl) (refused_exactly refl)
-  gives_by read why true (Err e) answers exactly refused refused_exactly = fails_by read why true e refl (or_memory e answers) refused
+  -- a step that fails fails them all
+  pub fails_here : (e : CodecError) → Fails e o → Fails e (o >>= next)
+  fails_here e (inl h) = inl (rw h refl)
+  fails_here e (inr (inl h)) = inr (inl (rw h.0 refl, h.1))
+  fails_here e (inr (inr h)) = inr (inr (h.0, alloc_here h.1))
+
+  -- so does one after a step that is taken
+  or_true : (a b : Bool) → b ≡ true → a || b ≡ true
+  or_true true b is = refl
+  or_true false b is = is
+
+  pub fails_then : (x : A) (e : CodecError) → o.answer ≡ Ok x → Fails e (next x) → Fails e (o >>= next)
+  fails_then x e is (inl h) = inl (rw is h)
+  fails_then x e is (inr (inl h)) = inr (inl (rw is h.0, h.1))
+  fails_then x e is (inr (inr h)) = inr (inr (h.0, rw is (or_true o.may_alloc (next x).may_alloc h.1)))

@@ -1,90 +1,113 @@
 -- Parts that are read one after the other.
-use Rattle.std.proofs.Common.{◌≡◌, ℕ, List, [], ◌∷◌, ◌++◌, Option, Some, None, true, is_some, refl, sym, ap, ◌∙◌}
-use Rattle.std.proofs.lemmas.List.{append-nil}
+use Rattle.std.proofs.Common.{◌≡◌, ℕ, Bool, true, List, [], ◌∷◌, ◌++◌, drop, Option, Some, None, is_some, Result, Ok, Err, refl, sym, ap, ◌∙◌, inl, inr}
+use Rattle.std.specs.Option.{option_map}
+use Rattle.std.specs.Prelude.{⊤}
 use Rattle.std.proofs.lemmas.Bool.{false≢true}
+use Rattle.std.proofs.lemmas.List.{append-nil}
+use Rattle.pgv_types.specs.Ty.{Ty, by_oid}
+use Rattle.pgv_text.specs.Copies.{first_copied}
+use Rattle.pgv_text.specs.PartFound.{part_value}
+use Rattle.pgv_text.specs.Values.{array_values}
+use Rattle.pgv_text.specs.declared.parts.Part.{Part as Found}
 use Rattle.pgv_value.specs.FrameBinary.{Part}
+use Rattle.pgv_value.specs.ValueView.{given}
+use Rattle.pgv_value.specs.Outcome.{Outcome, Fails, done, allocates, or_fail, ◌>>=◌, ◌>>◌}
+use Rattle.pgv_value.specs.Reading.{has_items}
+use Rattle.pgv_value.specs.ValueView.{Given}
 use Rattle.pgv_value.specs.declared.error.CodecError.{CodecError}
 use Rattle.pgv_value.specs.declared.error.CodecError.TheVariants.{Syntax}
-use Rattle.std.specs.Option.{option_map}
-use Rattle.pgv_text.specs.PartFound.{part_value}
-use Rattle.pgv_text.specs.declared.parts.Part.{Part as Found}
-use Rattle.pgv_value.specs.Steps.{◌>>=◌}
-use Rattle.pgv_nest.specs.ArrayGrammar.{each}
-use Rattle.pgv_nest.specs.NestRefusals.{each_refusal, refusal_or}
+use Rattle.pgv_value.specs.declared.value.PgValueFormat.TheVariants.{Text}
+use Rattle.pgv_codec.proofs.Outcomes.{fails_here, fails_then}
+use Rattle.pgv_nest.specs.ArrayGrammar.{array_in_text, each}
+use Rattle.pgv_nest.specs.RecordGrammar.{Left, text_fields}
+use Rattle.pgv_nest.specs.RecordGrammar.{next_field}
 use Rattle.pgv_codec.proofs.FrameLoop.{with_front, regroup}
 
-module _ {M : Type 0} (read : Part → Option M) where
-  -- a loop over parts: it goes on, it is done, a part isn't read
-  pub part_read : (ms : List M) (here : List Part) (part : Part) (rest_after : List Part) (m : M) (total : Option (List M)) → here ≡ part ∷ rest_after →
-      read part ≡ Some m → with_front ms (each read here) ≡ total → with_front (ms ++ m ∷ []) (each read rest_after) ≡ total
+module _ {M : Type 0} (parse : Given → Outcome M) (t : Ty) where
+  abbrev Answer : Type 0
+  Answer = Result (List M) (Option CodecError)
+
+  -- the parts that are still read, where the text is none before its end
+  abbrev pub read_ahead : Option (List Part) → Answer
+  read_ahead None = Err (Some Syntax)
+  read_ahead (Some parts) = (each parse t parts).answer
+
+  by_values : (o : Option (List Part)) (b : Bool) → (or_fail o Syntax >>= λ parts. allocates b >> each parse t parts).answer ≡ read_ahead o
+  by_values None b = refl
+  by_values (Some parts) b = refl
+
+  pub in_text : (text : List ℕ) → (array_in_text parse t text).answer ≡ read_ahead (array_values text)
+  unfolding array_in_text
+  in_text text = by_values (array_values text) (has_items (array_values text))
+
+  -- a text with elements asks for memory
+  asks : (o : Option (List Part)) → has_items o ≡ true → (or_fail o Syntax >>= λ parts. allocates (has_items o) >> each parse t parts).may_alloc ≡ true
+  asks None some = absurd (false≢true some)
+  asks (Some []) some = absurd (false≢true some)
+  asks (Some (part ∷ parts)) some = refl
+
+  pub alloc_in_text : (text : List ℕ) → has_items (array_values text) ≡ true → (array_in_text parse t text).may_alloc ≡ true
+  unfolding array_in_text
+  alloc_in_text text some = asks (array_values text) some
+
+  -- one step
+  each_read : (ms : List M) (part : Part) (parts : List Part) (m : M) → (parse (given t Text part)).answer ≡ Ok m → with_front ms (each parse t (part ∷ parts)).answer ≡ with_front (ms ++ m ∷ []) (each parse t parts).answer
   unfolding each
-  part_read ms here part rest_after m total split r so_far =
-      let one : with_front ms (each read here) ≡ with_front (ms ++ m ∷ []) (each read rest_after) = rw (split, r) (regroup ms m (each read rest_after)) in
-      sym one ∙ so_far
+  each_read ms part parts m r = rw r (regroup ms m (each parse t parts).answer (each parse t parts).may_alloc)
 
-  pub part_unread : (ms : List M) (here : List Part) (part : Part) (rest_after : List Part) (total : Option (List M)) → here ≡ part ∷ rest_after →
-      with_front ms (each read here) ≡ total → read part ≡ None → total ≡ None
+  each_unread : (part : Part) (parts : List Part) (why : Option CodecError) → (parse (given t Text part)).answer ≡ Err why → (each parse t (part ∷ parts)).answer ≡ Err why
   unfolding each
-  part_unread ms here part rest_after total split so_far r =
-      let one : with_front ms (each read here) ≡ None = rw (split, r) refl in
-      sym so_far ∙ one
+  each_unread part parts why r = rw r refl
 
-  pub parts_done : (ms : List M) (here : List Part) (total : Option (List M)) → here ≡ [] → with_front ms (each read here) ≡ total → total ≡ Some ms
+  none_left : (each parse t []).answer ≡ Ok []
   unfolding each
-  parts_done ms here total none so_far =
-      let one : with_front ms (each read here) ≡ Some ms = rw none (ap (λ (xs : List M). Some xs) (append-nil ms)) in
-      sym so_far ∙ one
+  none_left = refl
 
-  -- the same of parts that are read as they come
-  pub part_read_ahead : (ms : List M) (here rest_after : Option (List Part)) (part : Part) (m : M) (total : Option (List M)) → here ≡ option_map (λ parts. part ∷ parts) rest_after →
-      read part ≡ Some m → with_front ms (here >>= each read) ≡ total → with_front (ms ++ m ∷ []) (rest_after >>= each read) ≡ total
-  part_read_ahead ms here None part m total e r so_far = sym (ap (λ o. with_front ms (o >>= each read)) e) ∙ so_far
-  part_read_ahead ms here (Some parts) part m total e r so_far = part_read ms (part ∷ parts) part parts m total refl r (sym (ap (λ o. with_front ms (o >>= each read)) e) ∙ so_far)
+  -- a loop over parts that are read as they come: it goes on, it is done, a part isn't read
+  pub part_read : (ms : List M) (here rest_after : Option (List Part)) (part : Part) (m : M) (total : Answer) → here ≡ option_map (λ parts. part ∷ parts) rest_after →
+      (parse (given t Text part)).answer ≡ Ok m → with_front ms (read_ahead here) ≡ total → with_front (ms ++ m ∷ []) (read_ahead rest_after) ≡ total
+  part_read ms here None part m total e r so_far = sym (ap (λ o. with_front ms (read_ahead o)) e) ∙ so_far
+  part_read ms here (Some parts) part m total e r so_far = sym (each_read ms part parts m r) ∙ (sym (ap (λ o. with_front ms (read_ahead o)) e) ∙ so_far)
 
-  pub part_unread_ahead : (ms : List M) (here rest_after : Option (List Part)) (part : Part) (total : Option (List M)) → here ≡ option_map (λ parts. part ∷ parts) rest_after →
-      with_front ms (here >>= each read) ≡ total → read part ≡ None → total ≡ None
-  part_unread_ahead ms here None part total e so_far r = sym so_far ∙ ap (λ o. with_front ms (o >>= each read)) e
-  part_unread_ahead ms here (Some parts) part total e so_far r = part_unread ms (part ∷ parts) part parts total refl (sym (ap (λ o. with_front ms (o >>= each read)) e) ∙ so_far) r
+  part_why : (ms : List M) (here rest_after : Option (List Part)) (part : Part) (why : Option CodecError) (total : Answer) → here ≡ option_map (λ parts. part ∷ parts) rest_after → is_some here ≡ true →
+      (parse (given t Text part)).answer ≡ Err why → with_front ms (read_ahead here) ≡ total → total ≡ Err why
+  part_why ms here None part why total e some r so_far = absurd (false≢true (ap is_some (sym e) ∙ some))
+  part_why ms here (Some parts) part why total e some r so_far = sym so_far ∙ (ap (λ o. with_front ms (read_ahead o)) e ∙ ap (with_front ms) (each_unread part parts why r))
 
-  pub parts_done_ahead : (ms : List M) (here : Option (List Part)) (total : Option (List M)) → here ≡ Some [] → with_front ms (here >>= each read) ≡ total → total ≡ Some ms
-  parts_done_ahead ms here total e so_far = parts_done ms [] total refl (sym (ap (λ o. with_front ms (o >>= each read)) e) ∙ so_far)
+  pub part_unread : (ms : List M) (here rest_after : Option (List Part)) (part : Part) (e : CodecError) (total : Outcome (List M)) → here ≡ option_map (λ parts. part ∷ parts) rest_after → is_some here ≡ true →
+      Fails e (parse (given t Text part)) → with_front ms (read_ahead here) ≡ total.answer → total.may_alloc ≡ true → Fails e total
+  part_unread ms here rest_after part e total split some (inl h) so_far free = inl (part_why ms here rest_after part (Some e) total.answer split some h so_far)
+  part_unread ms here rest_after part e total split some (inr (inl h)) so_far free = inr (inl (part_why ms here rest_after part None total.answer split some h.0 so_far, h.1))
+  part_unread ms here rest_after part e total split some (inr (inr h)) so_far free = inr (inr (h.0, free))
+
+  nothing_before : (r : Answer) → with_front [] r ≡ r
+  nothing_before (Ok ns) = refl
+  nothing_before (Err why) = refl
+
+  pub begins : (here : Option (List Part)) (text : List ℕ) → here ≡ array_values text → with_front [] (read_ahead here) ≡ (array_in_text parse t text).answer
+  begins here text e = nothing_before (read_ahead here) ∙ (ap read_ahead e ∙ sym (in_text text))
+
+  pub parts_done : (ms : List M) (here : Option (List Part)) (total : Answer) → here ≡ Some [] → with_front ms (read_ahead here) ≡ total → total ≡ Ok ms
+  parts_done ms here total e so_far =
+      sym so_far ∙ (ap (λ o. with_front ms (read_ahead o)) e ∙ (ap (with_front ms) none_left ∙ ap (λ (xs : List M). let r : Answer = Ok xs in r) (append-nil ms)))
+
+-- elements are there only where the text is an array text
+pub some_values : (o : Option (List Part)) → has_items o ≡ true → is_some o ≡ true
+some_values None some = some
+some_values (Some ps) some = refl
+
+pub still_some : (here rest_after : Option (List Part)) (part : Part) → here ≡ option_map (λ parts. part ∷ parts) rest_after → is_some rest_after ≡ is_some here
+still_some here None part e = ap is_some (sym e)
+still_some here (Some parts) part e = ap is_some (sym e)
 
 -- the parts that are left begin with the one that was found, in a text that may have been written
 pub found_first : (here rest : Option (List Part)) (found : Found) (written text : List ℕ) (part : Part) → here ≡ option_map (λ parts. part_value found written ∷ parts) rest →
     text ≡ written → part ≡ part_value found text → here ≡ option_map (λ parts. part ∷ parts) rest
 found_first here rest found written text part e same is = e ∙ ap (λ (v : Part). option_map (λ parts. v ∷ parts) rest) (sym (is ∙ ap (part_value found) same))
 
--- whether there are parts, without the first of them
-pub still_some : (here rest_after : Option (List Part)) (part : Part) → here ≡ option_map (λ parts. part ∷ parts) rest_after → is_some rest_after ≡ is_some here
-still_some here None part e = ap is_some (sym e)
-still_some here (Some parts) part e = ap is_some (sym e)
-
-module _ {M : Type 0} (read : Part → Option M) (why : Part → Option CodecError) where
-  -- why the parts are refused: one was read, one isn't read
-  pub part_refused_later : (here : List Part) (part : Part) (rest_after : List Part) (m : M) (total : Option CodecError) → here ≡ part ∷ rest_after → read part ≡ Some m →
-      each_refusal read why here ≡ total → each_refusal read why rest_after ≡ total
-  unfolding each_refusal
-  part_refused_later here part rest_after m total split r so_far =
-      let one : each_refusal read why here ≡ each_refusal read why rest_after = rw (split, r) refl in
-      sym one ∙ so_far
-
-  pub part_refused : (here : List Part) (part : Part) (rest_after : List Part) (total : Option CodecError) → here ≡ part ∷ rest_after →
-      each_refusal read why here ≡ total → read part ≡ None → total ≡ why part
-  unfolding each_refusal
-  part_refused here part rest_after total split so_far r =
-      let one : each_refusal read why here ≡ why part = rw (split, r) refl in
-      sym so_far ∙ one
-
-  -- the same of parts that are read as they come
-  abbrev pub ahead_refusal : Option (List Part) → Option CodecError
-  ahead_refusal here = refusal_or (Some Syntax) here (each_refusal read why)
-
-  pub part_refused_later_ahead : (here rest_after : Option (List Part)) (part : Part) (m : M) (total : Option CodecError) → here ≡ option_map (λ parts. part ∷ parts) rest_after → read part ≡ Some m →
-      ahead_refusal here ≡ total → ahead_refusal rest_after ≡ total
-  part_refused_later_ahead here None part m total e r so_far = sym (ap ahead_refusal e) ∙ so_far
-  part_refused_later_ahead here (Some parts) part m total e r so_far = part_refused_later (part ∷ parts) part parts m total refl r (sym (ap ahead_refusal e) ∙ so_far)
-
-  pub part_refused_ahead : (here rest_after : Option (List Part)) (part : Part) (total : Option CodecError) → here ≡ option_map (λ parts. part ∷ parts) rest_after → is_some here ≡ true →
-      ahead_refusal here ≡ total → read part ≡ None → total ≡ why part
-  part_refused_ahead here None part total e some so_far r = absurd (false≢true (ap is_some (sym e) ∙ some))
-  part_refused_ahead here (Some parts) part total e some so_far r = part_refused (part ∷ parts) part parts total refl (sym (ap ahead_refusal e) ∙ so_far) r
+-- a field in text that isn't read
+pub text_unread : {M : Type 0} (accepts : Ty → Bool) (parse : Given → Outcome M) (n : ℕ) (copied : List Bool) (part : Part) (parts : List Part) (e : CodecError) →
+    Fails e (parse (given (by_oid 0) Text part)) → Fails e (next_field accepts parse (text_fields n copied (part ∷ parts)))
+text_unread {M} accepts parse n copied part parts e h =
+    let last = λ (m : M). let o : Outcome (M × Left) = done (m, text_fields n (drop 1 copied) parts) in o in
+    fails_then (allocates (first_copied copied)) (λ (x : ⊤). parse (given (by_oid 0) Text part) >>= last) tt e refl (fails_here (parse (given (by_oid 0) Text part)) last e h)

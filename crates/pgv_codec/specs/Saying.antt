@@ -1,6 +1,6 @@
 -- What an encoder says of a value: how many bytes it may need (a size hint), what it is written as (an image), and its type.
 -- The lemmas are what the laws of arrays and of callers' records need.
--- A decoder states what is said of a meaning (`written`). In a `Codec` the two agree, so what is written depends on what a
+-- A decoder states what is said of a view (`written`). In a `Codec` the two agree, so what is written depends on what a
 -- value says alone.
 use Rattle.std.specs.Prelude.{◌≡◌, ℕ, List, [], ◌∷◌, map, Option, Some, None, refl}
 use Rattle.std.proofs.Common.{ap}
@@ -45,25 +45,25 @@ sized_written n element written =
 abbrev pub field_written : {M : Type 0} → Ty → (Ty → M → Saying) → M → Option (List Token)
 field_written info written m = field_of (written info m).value_type (frame (written info m).hint (written info m).image)
 
--- An array is written as its elements' meanings are, where its elements are.
-module _ {X M : Type 0} (hint : X → ℕ) (image : X → Option Image) (produced : X → Option Ty) (info : Ty) (meaning : X → M) (written : Ty → M → Saying)
-    (agrees : (x : X) → said hint image produced info x ≡ written info (meaning x)) where
-  frames_agree : (xs : List X) → written_frames hint image xs ≡ written_frames (λ m. (written info m).hint) (λ m. (written info m).image) (map meaning xs)
+-- An array is written as its elements' views are, where its elements are.
+module _ {X M : Type 0} (hint : X → ℕ) (image : X → Option Image) (produced : X → Option Ty) (info : Ty) (view : X → M) (written : Ty → M → Saying)
+    (agrees : (x : X) → said hint image produced info x ≡ written info (view x)) where
+  frames_agree : (xs : List X) → written_frames hint image xs ≡ written_frames (λ m. (written info m).hint) (λ m. (written info m).image) (map view xs)
   frames_agree [] = refl
-  frames_agree (x ∷ xs) = rw (frames_agree xs) (ap (λ (s : Saying). join (frame s.hint s.image) (written_frames (λ m. (written info m).hint) (λ m. (written info m).image) (map meaning xs))) (agrees x))
+  frames_agree (x ∷ xs) = rw (frames_agree xs) (ap (λ (s : Saying). join (frame s.hint s.image) (written_frames (λ m. (written info m).hint) (λ m. (written info m).image) (map view xs))) (agrees x))
 
-  type_agrees : (xs : List X) → written_element_type produced info xs ≡ written_element_type (λ m. Some (written info m).value_type) info (map meaning xs)
+  type_agrees : (xs : List X) → written_element_type produced info xs ≡ written_element_type (λ m. Some (written info m).value_type) info (map view xs)
   type_agrees [] = refl
   type_agrees (x ∷ xs) = ap (λ (s : Saying). s.value_type) (agrees x)
 
-  pub array_agrees : (array : Ty) (xs : List X) → said (λ (v : List X). 0) (array_image hint image produced info) (λ v. None) array xs ≡ array_written info written array (map meaning xs)
-  array_agrees array xs = rw (frames_agree xs, type_agrees xs, length-map xs meaning) refl
+  pub array_agrees : (array : Ty) (xs : List X) → said (λ (v : List X). 0) (array_image hint image produced info) (λ v. None) array xs ≡ array_written info written array (map view xs)
+  array_agrees array xs = rw (frames_agree xs, type_agrees xs, length-map xs view) refl
 
-  pub sized_agrees : (n : ℕ) (array : Ty) (xs : List X) → said (λ (v : List X). 0) (sized_image n hint image produced info) (λ v. None) array xs ≡ sized_written n info written array (map meaning xs)
-  sized_agrees n array xs = rw (frames_agree xs, type_agrees xs, length-map xs meaning) refl
+  pub sized_agrees : (n : ℕ) (array : Ty) (xs : List X) → said (λ (v : List X). 0) (sized_image n hint image produced info) (λ v. None) array xs ≡ sized_written n info written array (map view xs)
+  sized_agrees n array xs = rw (frames_agree xs, type_agrees xs, length-map xs view) refl
 
   -- and a field as its value's
-  pub field_agrees : (x : X) → field hint image produced info x ≡ field_written info written (meaning x)
+  pub field_agrees : (x : X) → field hint image produced info x ≡ field_written info written (view x)
   field_agrees x = ap (λ (s : Saying). field_of s.value_type (frame s.hint s.image)) (agrees x)
 
 -- Fields are alike one by one, and records by their fields.

@@ -1,13 +1,12 @@
 //! The traits of values that can be written and read, and of their types.
 
-ghost use Rattle.std.specs.Prelude.{◌≡◌, ℕ, Bool, true, false, List, Option, Some, None, IfOk, IfErr, OnErr, IsErrOf};
+ghost use Rattle.std.specs.Prelude.{◌≡◌, ℕ, Bool, true, false, List, Option, Some, None, IfOk, IfErr, OnErr};
 ghost use Rattle.pgv_types.specs.Relations.{softly};
 ghost use Rattle.pgv_types.specs.Ty.{Ty};
-ghost use Rattle.pgv_value.specs.Outcome.{Outcome, Gives, fails, reading_of, error_of, takes_of};
-ghost use Rattle.pgv_value.specs.Reading.{Answers, AnswersExactly};
+ghost use Rattle.pgv_value.specs.Outcome.{Outcome, Gives, fails, reading_of};
 ghost use Rattle.pgv_value.specs.ValueView.{Given, given};
-ghost use Rattle.pgv_nest.specs.NestRefusals.{is_copied};
-ghost use Rattle.pgv_codec.specs.Refusing.{RefusedExactly, RefusedFor};
+ghost use Rattle.pgv_codec.specs.Nullable.{RefusesNull, refused_null};
+ghost use Rattle.pgv_codec.specs.Refusing.{RefusedExactly, RefusedFor, is_copied};
 ghost use Rattle.pgv_value.specs.declared.error.CodecError.{CodecError};
 ghost use Rattle.pgv_value.specs.declared.error.CodecError.TheVariants.{Memory, UnexpectedNull};
 ghost use Rattle.pgv_value.specs.declared.value.PgValueFormat.{PgValueFormat as Format};
@@ -115,35 +114,27 @@ pub trait Encode {
 /// out (C1), exactly where the grammar has none.
 pub trait Decode: Sized + Drop {
     /// What a value says, without where it lies in memory.
-    ghost Meaning: { Type 0 };
+    ghost View: { Type 0 };
 
     /// What a value says.
-    ghost meaning: { Self → Meaning };
+    ghost view: { Self → View };
 
-    /// What null or bytes mean under a type and in a format, where they mean anything.
-    ghost reading: { Ty → Format → Option (List ℕ) → Option Meaning };
+    /// What null or bytes are read as under a type and in a format, or why they are refused, and whether memory may be
+    /// asked for by then: a fault that is seen before the first request for memory is returned as itself. A plain type
+    /// that is given bytes never returns [`UnexpectedNull`](CodecError::UnexpectedNull) (C13); an array, a range or a
+    /// record passes on the refusal of its part.
+    ghost parse: { Given → Outcome View };
 
-    /// What is written of a meaning under a type, where values are written too (see [`Codec`]), and else no image.
-    ghost written: { Ty → Meaning → Saying };
+    /// What is written of what a value says, under a type, where values are written too (see [`Codec`]), and else no
+    /// image.
+    ghost written: { Ty → View → Saying };
 
-    /// Whether reading may ask for memory, by type, format and bytes. If `false`, it is refused only where nothing is
-    /// read, with `refusal`, or, if that is `None`, with any but [`Memory`](CodecError::Memory) (C1): a fault that is
-    /// seen before the first request for memory is returned as itself.
-    ghost takes_memory: { Ty → Format → Option (List ℕ) → Bool } = { λ _ _ _. true };
+    /// Null is read, or refused with [`UnexpectedNull`](CodecError::UnexpectedNull) (C13) and without memory.
+    ghost null: { (t : Ty) (format : Format) → RefusesNull (parse (given t format None)) };
 
-    /// The refusal of what can't be read, unless memory runs out, by type, format and bytes; `None` if the type doesn't
-    /// state it. A plain type that is given bytes never returns [`UnexpectedNull`](CodecError::UnexpectedNull) (C13);
-    /// an array, a range or a record passes on the refusal of its part.
-    ghost refusal: { Ty → Format → Option (List ℕ) → Option CodecError } = { λ _ _ _. None };
-
-    /// The value that is read. Null is refused with [`UnexpectedNull`](CodecError::UnexpectedNull) (C13), exactly where
-    /// the type doesn't read null.
+    /// The value that is read.
     fn decode(alloc: Global, value: PgValueRef<'_>) -> Result<Self, CodecError>
-        ensures exact { Answers meaning (reading value.entry.type_info value.entry.format value.entry.bytes) result }
-        ensures exactly { takes_memory value.entry.type_info value.entry.format value.entry.bytes ≡ false → AnswersExactly meaning (reading value.entry.type_info value.entry.format value.entry.bytes) result }
-        ensures refused { RefusedFor (refusal value.entry.type_info value.entry.format value.entry.bytes) result }
-        ensures refused_exactly { takes_memory value.entry.type_info value.entry.format value.entry.bytes ≡ false → RefusedExactly (refusal value.entry.type_info value.entry.format value.entry.bytes) result }
-        ensures null { value.entry.bytes ≡ None → reading value.entry.type_info value.entry.format None ≡ None → IsErrOf result UnexpectedNull };
+        ensures { Gives view (parse value.entry) result };
 }
 
 /// A value that is read back as what it keeps.
@@ -158,14 +149,13 @@ pub trait ReadBack: Encode + Decode {
     ghost fits: { Self → Ty → List Oid → Type 0 };
 
     /// What is written of a value is read in binary as what it keeps, under each type that fits.
-    ghost reads_back: { ReadsBack Self.image Self.reading (λ v. Self.meaning (kept v)) fits };
+    ghost reads_back: { ReadsBack Self.image (reading_of Self.parse) (λ v. Self.view (kept v)) fits };
 }
 
-/// A value that can be written and read, and is written by its meaning alone: two values of one meaning are written
-/// alike.
+/// A value that can be written and read, and is written by what it says alone: two values of one view are written alike.
 pub trait Codec: Type + Encode + Decode {
-    /// What an encoder says of a value is what is written of its meaning.
-    ghost agrees: { (v : Self) → said Self.hint Self.image Self.produced Self.info v ≡ Self.written Self.info (Self.meaning v) };
+    /// What an encoder says of a value is what is written of what the value says.
+    ghost agrees: { (v : Self) → said Self.hint Self.image Self.produced Self.info v ≡ Self.written Self.info (Self.view v) };
 }
 
 /// A value that is not made of others, as a number, a text or a date: it is read in the same way under every type, and
@@ -202,17 +192,15 @@ pub trait Plain: Type + Encode + Sized + Drop {
 }
 
 impl<T: Plain> Decode for T {
-    ghost Meaning = { T.View };
+    ghost View = { T.View };
 
-    ghost meaning = { T.view };
+    ghost view = { T.view };
 
-    ghost reading = { reading_of T.parse };
+    ghost parse = { T.parse };
 
     ghost written = { T.written };
 
-    ghost takes_memory = { takes_of T.parse };
-
-    ghost refusal = { error_of T.parse };
+    ghost null = { λ t format. refused_null (T.parse (given t format None)) (T.null t format) };
 
     #[inline(always)]
     fn decode(alloc: Global, value: PgValueRef<'_>) -> Result<T, CodecError> {

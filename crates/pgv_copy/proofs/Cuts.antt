@@ -107,7 +107,7 @@ field_cut : (t : Ty) (types : List Ty) (part : Part) (bytes m : List ℕ) → Is
 field_cut t types part bytes m h e more =
     let frame : IsFrame (bytes ++ m) part [] = subst (λ (xs : List ℕ). IsFrame xs part []) (append-nil (field_bytes part) ∙ e) (framed part [] h) in
     let short = cut_is_short bytes m part more frame in
-    field_missing t types bytes short.0 ∙ ap (λ (f : CodecError). let row : Row = Err f in row) short.1
+    field_missing t types bytes Short (rw (short.0, short.1) refl)
 
 pub fields_cut : (types : List Ty) (row : List Part) (bytes m : List ℕ) → length row ≡ length types → AllByRecursion IsField row → flat_map field_bytes row ≡ bytes ++ m → 0 < length m → fields types bytes ≡ Err Short
 fields_cut [] [] bytes m len each e more = absurd (no_bytes bytes m (sym e) more)
@@ -119,7 +119,7 @@ fields_cut (t ∷ types) (part ∷ row) bytes m len each e more =
       | inl l ↦
           let v : Given = record { bytes = part; type_info = t; format = Binary } in
           let found : front (field_bytes part ++ l.0) ≡ Some (part, l.0) = frame_in_front (field_bytes part ++ l.0) part l.0 (framed part l.0 each.0) in
-          ap (fields (t ∷ types)) l.1 ∙ field_there t types (field_bytes part ++ l.0) v l.0 found refl refl ∙ ap (with_first v) (fields_cut types row l.0 m same each.1 (sym l.2) more)
+          ap (fields (t ∷ types)) l.1 ∙ field_there t types (field_bytes part ++ l.0) v l.0 (rw found refl) ∙ ap (with_first v) (fields_cut types row l.0 m same each.1 (sym l.2) more)
       | inr r ↦ field_cut t types part bytes r.0 each.0 r.1 r.2
     ]
 

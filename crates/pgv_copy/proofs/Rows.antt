@@ -31,7 +31,7 @@ fields_there (t ∷ types) (part ∷ row) rest len each =
     let same : length row ≡ length types = omega (arith, len) in
     let found : front (field_bytes part ++ more) ≡ Some (part, more) = frame_in_front (field_bytes part ++ more) part more (framed part more each.0) in
     ap (fields (t ∷ types)) (append_assoc (field_bytes part) (flat_map field_bytes row) rest)
-    ∙ field_there t types (field_bytes part ++ more) v more found refl refl
+    ∙ field_there t types (field_bytes part ++ more) v more (rw found refl)
     ∙ ap (with_first v) (fields_there types row rest same each.1)
 
 step_by : (types : List Ty) (bytes rest after : List ℕ) (row : List Given) → after_count (length types) bytes ≡ Ok (Some rest) → fields types rest ≡ Ok (row, after) → step (before types bytes) ≡ Ok (Some row, before types after)

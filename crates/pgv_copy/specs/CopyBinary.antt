@@ -6,7 +6,8 @@ use Rattle.std.specs.Prelude.{ℕ, nat_lt, pos, negsuc, int_lt, ◌&&◌, Bool, 
 use Rattle.std.specs.Int.{w32, cast_signed}
 use Rattle.std.specs.Ordering.{int_eq}
 use Rattle.pgv_types.specs.Ty.{Ty}
-use Rattle.pgv_value.specs.Fronts.{i16_front, u32_front, part_front}
+use Rattle.pgv_value.specs.Fronts.{i16_front, u32_front, value_front}
+use Rattle.pgv_value.specs.Outcome.{Outcome, after, exactly}
 use Rattle.pgv_value.specs.Parsed.{Parsed, ◌>>=◌}
 use Rattle.pgv_value.specs.ValueView.{Given}
 use Rattle.pgv_value.specs.declared.error.CodecError.TheVariants.{Short, NegativeLength, FieldCount, Syntax}
@@ -52,14 +53,20 @@ after_count width bytes =
 
 -- the frame in front, as a field of this type, and what comes after it
 abbrev pub field : Ty → List ℕ → Parsed (Given × List ℕ)
-field t bytes =
-    part_front bytes >>= λ p.
-    Ok (record { bytes = p.0; type_info = t; format = Binary }, p.1)
+field t bytes = value_front t Binary bytes
+
+abbrev pub has_columns : List Ty → Bool
+has_columns [] = false
+has_columns (t ∷ ts) = true
 
 -- a field of each type, and what comes after them
 unfoldable pub fields : List Ty → List ℕ → Parsed (List Given × List ℕ)
 fields [] bytes = Ok ([], bytes)
 fields (t ∷ ts) bytes = field t bytes >>= λ first. fields ts first.1 >>= λ more. Ok (first.0 ∷ more.0, more.1)
+
+-- the same as a list, which asks for memory where it has a column
+abbrev pub listed : List Ty → List ℕ → Outcome (List Given × List ℕ)
+listed types bytes = after (has_columns types) (exactly (fields types bytes))
 
 -- ---- a reader's calls
 
@@ -69,6 +76,10 @@ before types bytes = record { types = types; left = Some bytes }
 
 abbrev pub ended : List Ty → Copying
 ended types = record { types = types; left = None }
+
+-- a reader of a stream, after its header
+abbrev pub opened : List Ty → List ℕ → Parsed Copying
+opened types bytes = header bytes >>= λ rest. Ok (before types rest)
 
 -- how many bytes are still to be read
 abbrev pub length_left : Option (List ℕ) → ℕ
@@ -102,10 +113,6 @@ begins_row (Err e) = false
 begins_row (Ok None) = false
 begins_row (Ok (Some bytes)) = true
 
-abbrev pub has_columns : List Ty → Bool
-has_columns [] = false
-has_columns (t ∷ ts) = true
-
 abbrev pub row_takes_from : List Ty → Option (List ℕ) → Bool
 row_takes_from types None = false
 row_takes_from types (Some bytes) = has_columns types && begins_row (after_count (length types) bytes)
@@ -113,3 +120,7 @@ row_takes_from types (Some bytes) = has_columns types && begins_row (after_count
 -- Whether a call asks for memory: only where a row of one field or more begins, and its fields are read.
 abbrev pub row_takes : Copying → Bool
 row_takes reader = row_takes_from reader.types reader.left
+
+-- what a call gives, and the reader after it
+abbrev pub next_row : Copying → Outcome (Option (List Given) × Copying)
+next_row reader = after (row_takes reader) (exactly (step reader))

@@ -1,10 +1,10 @@
 //! A reader of rows.
 
-ghost use Rattle.std.specs.Prelude.{◌≡◌, ◌<◌, ◌≤◌, false, length, Ok, Err, IfOk, IfErr, OnOk, OnErr, IfSome, OnSome, option_map};
+ghost use Rattle.std.specs.Prelude.{◌≡◌, ◌<◌, ◌≤◌, length, IfOk, OnOk, OnErr, IfSome, OnSome, option_map};
 ghost use Rattle.std.specs.Option.{option_copied};
 ghost use Rattle.pgv_value.specs.Parsed.{GivesExactly};
-ghost use Rattle.pgv_value.specs.Reading.{Refuses};
-ghost use Rattle.pgv_copy.specs.CopyBinary.{header, after_signature as signature_passed, after_flags as flags_passed, after_extension as extension_passed, after_count as count_passed, fields, before, has_columns, row_takes, step, bytes_left};
+ghost use Rattle.pgv_value.specs.Outcome.{Gives};
+ghost use Rattle.pgv_copy.specs.CopyBinary.{header, after_signature as signature_passed, after_flags as flags_passed, after_extension as extension_passed, after_count as count_passed, listed, next_row as next_row_of, opened, bytes_left};
 
 use pgv_types::PgTypeInfo;
 use pgv_value::{CodecError, PgValueFormat, PgValueRef, i16_in_front, u32_in_front};
@@ -51,8 +51,7 @@ impl<'r> PgCopyReader<'r> {
     /// [`Short`](CodecError::Short) (C15), and a negative length of the extension with
     /// [`NegativeLength`](CodecError::NegativeLength) (C16).
     pub fn new(bytes: &'r [u8], types: Vec<PgTypeInfo>) -> Result<Self, CodecError>
-        ensures found { IfOk result (λ r. (rest : _) × (header bytes.now ≡ Ok rest) × (r ≡ before types.items rest)) }
-        ensures refused { IfErr result (λ e. header bytes.now ≡ Err e) }
+        ensures { GivesExactly (λ reader. reader) (opened types.items bytes.now) result }
     {
         let left = after_header(bytes)?;
         Ok(PgCopyReader {
@@ -73,9 +72,7 @@ impl<'r> PgCopyReader<'r> {
     #[inline(always)]
     #[tactic(auto, unfolding(crate::specs::CopyBinary::step))]
     pub fn next_row(&mut self) -> Result<Option<Vec<PgValueRef<'r>>>, CodecError>
-        ensures answered { IfOk result (λ found. step self.old ≡ Ok (option_map (λ row. row.items) found, self.new)) }
-        ensures refused { IfErr result (λ e. Refuses e (step self.old ≡ Err e)) }
-        ensures refused_exactly { row_takes self.old ≡ false → IfErr result (λ e. step self.old ≡ Err e) }
+        ensures exact { Gives (λ found. (option_map (λ row. row.items) found, self.new)) (next_row_of self.old) result }
         ensures unmoved { OnErr result (self.new ≡ self.old) }
         // Each row takes bytes, so a loop over the rows ends.
         ensures shorter { IfOk result (λ found. OnSome found (bytes_left self.new < bytes_left self.old)) }
@@ -174,9 +171,7 @@ pub fn read_fields<'r>(
     types: &[PgTypeInfo],
     bytes: &mut &'r [u8],
 ) -> Result<Vec<PgValueRef<'r>>, CodecError>
-    ensures found { IfOk result (λ row. fields types.now bytes.old.now ≡ Ok (row.items, bytes.new.now)) }
-    ensures refused { IfErr result (λ e. Refuses e (fields types.now bytes.old.now ≡ Err e)) }
-    ensures refused_exactly { has_columns types.now ≡ false → IfErr result (λ e. fields types.now bytes.old.now ≡ Err e) }
+    ensures exact { Gives (λ row. (row.items, bytes.new.now)) (listed types.now bytes.old.now) result }
     ensures within { OnOk result (length bytes.new.now ≤ length bytes.old.now) }
 {
     let mut row = Vec::with_capacity(alloc, types.len())?;

@@ -1,7 +1,7 @@
 //! Arrays, and arrays with nulls in them, written and read.
 
 ghost use Rattle.std.specs.Prelude.{List, OnOk};
-ghost use Rattle.pgv.specs.Words.{Added, Answers, Argument, builtin, frame};
+ghost use Rattle.pgv.specs.Words.{Added, Argument, Gives, builtin, frame};
 
 use pgv::{CodecError, Decode, Encode, PgArguments, PgValueRef};
 use std::alloc::Global;
@@ -21,7 +21,7 @@ pub fn add_lists(
 
 /// The scores of a column, each a number or null. A null in place of the list is refused with C13.
 pub fn scores(alloc: Global, column: PgValueRef<'_>) -> Result<Vec<Option<i32>>, CodecError>
-    ensures { Answers (λ v. ⟦<Vec<Option<i32>> as Decode>⟧.meaning v) (⟦<Vec<Option<i32>> as Decode>⟧.reading column.entry.type_info column.entry.format column.entry.bytes) result }
+    ensures { Gives ⟦<Vec<Option<i32>> as Decode>⟧.view (⟦<Vec<Option<i32>> as Decode>⟧.parse column.entry) result }
 {
     Vec::decode(alloc, column)
 }

@@ -50,13 +50,15 @@ impl Encode for FloatRange {
 impl Decode for FloatRange {
     ghost use Rattle.pgv.specs.Words.{unwritten};
 
-    ghost Meaning = { ⟦<PgRange<Float8> as Decode>⟧.Meaning };
+    ghost View = { ⟦<PgRange<Float8> as Decode>⟧.View };
 
-    ghost meaning = { λ v. ⟦<PgRange<Float8> as Decode>⟧.meaning v.range };
+    ghost view = { λ v. ⟦<PgRange<Float8> as Decode>⟧.view v.range };
 
-    ghost reading = { ⟦<PgRange<Float8> as Decode>⟧.reading };
+    ghost parse = { ⟦<PgRange<Float8> as Decode>⟧.parse };
 
     ghost written = { unwritten };
+
+    ghost null = { ⟦<PgRange<Float8> as Decode>⟧.null };
 
     fn decode(alloc: Global, value: PgValueRef<'_>) -> Result<FloatRange, CodecError> {
         Ok(FloatRange {

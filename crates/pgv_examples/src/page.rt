@@ -88,20 +88,18 @@ impl Decode for Page {
     ghost use Rattle.std.specs.Prelude.{[], ◌∷◌};
     ghost use Rattle.pgv.specs.Words.{record_image, plainly, field_written};
 
-    ghost Meaning = { ⟦<(i32, PgLTree) as Decode>⟧.Meaning };
+    ghost View = { ⟦<(i32, PgLTree) as Decode>⟧.View };
 
-    ghost meaning = { λ v. ⟦<(i32, PgLTree) as Decode>⟧.meaning (v.id, v.path) };
+    ghost view = { λ v. ⟦<(i32, PgLTree) as Decode>⟧.view (v.id, v.path) };
 
-    ghost reading = { ⟦<(i32, PgLTree) as Decode>⟧.reading };
+    ghost parse = { ⟦<(i32, PgLTree) as Decode>⟧.parse };
 
     ghost written = { plainly (λ m. record_image (
         field_written ⟦<i32 as Type>⟧.info ⟦<i32 as Decode>⟧.written m.0
         ∷ field_written ⟦<PgLTree as Type>⟧.info ⟦<PgLTree as Decode>⟧.written m.1
         ∷ [])) };
 
-    ghost takes_memory = { ⟦<(i32, PgLTree) as Decode>⟧.takes_memory };
-
-    ghost refusal = { ⟦<(i32, PgLTree) as Decode>⟧.refusal };
+    ghost null = { ⟦<(i32, PgLTree) as Decode>⟧.null };
 
     fn decode(alloc: Global, value: PgValueRef<'_>) -> Result<Page, CodecError> {
         let (id, path) = <(i32, PgLTree) as Decode>::decode(alloc, value)?;
@@ -120,9 +118,9 @@ impl ReadBack for Page {
 
     ghost reads_back = { λ v. record_back
         (further_back ⟦<i32 as Type>⟧.info ⟦<i32 as Encode>⟧.produced ⟦<i32 as Encode>⟧.hint ⟦<i32 as Encode>⟧.image ⟦<i32 as Type>⟧.accepts
-        ⟦<i32 as Decode>⟧.reading ⟦<i32 as Decode>⟧.meaning ⟦<i32 as ReadBack>⟧.fits int4_back v.id
+        ⟦<i32 as Decode>⟧.parse ⟦<i32 as Decode>⟧.view ⟦<i32 as ReadBack>⟧.fits int4_back v.id
         (last_back ⟦<PgLTree as Type>⟧.info ⟦<PgLTree as Encode>⟧.produced ⟦<PgLTree as Encode>⟧.hint ⟦<PgLTree as Encode>⟧.image ⟦<PgLTree as Type>⟧.accepts
-        ⟦<PgLTree as Decode>⟧.reading tree_kept ⟦<PgLTree as ReadBack>⟧.fits tree_back v.path [])) };
+        ⟦<PgLTree as Decode>⟧.parse tree_kept ⟦<PgLTree as ReadBack>⟧.fits tree_back v.path [])) };
 }
 
 impl Codec for Page {
@@ -130,6 +128,6 @@ impl Codec for Page {
     ghost use Rattle.pgv.specs.Words.{named, field_agrees, same_none, same_fields, record_agrees};
 
     ghost agrees = { λ v. record_agrees (named (codes "page")) v
-        (same_fields (field_agrees ⟦<i32 as Encode>⟧.hint ⟦<i32 as Encode>⟧.image ⟦<i32 as Encode>⟧.produced ⟦<i32 as Type>⟧.info ⟦<i32 as Decode>⟧.meaning ⟦<i32 as Decode>⟧.written (λ _. refl) v.id)
-        (same_fields (field_agrees ⟦<PgLTree as Encode>⟧.hint ⟦<PgLTree as Encode>⟧.image ⟦<PgLTree as Encode>⟧.produced ⟦<PgLTree as Type>⟧.info ⟦<PgLTree as Decode>⟧.meaning ⟦<PgLTree as Decode>⟧.written (λ _. refl) v.path) same_none)) };
+        (same_fields (field_agrees ⟦<i32 as Encode>⟧.hint ⟦<i32 as Encode>⟧.image ⟦<i32 as Encode>⟧.produced ⟦<i32 as Type>⟧.info ⟦<i32 as Decode>⟧.view ⟦<i32 as Decode>⟧.written (λ _. refl) v.id)
+        (same_fields (field_agrees ⟦<PgLTree as Encode>⟧.hint ⟦<PgLTree as Encode>⟧.image ⟦<PgLTree as Encode>⟧.produced ⟦<PgLTree as Type>⟧.info ⟦<PgLTree as Decode>⟧.view ⟦<PgLTree as Decode>⟧.written (λ _. refl) v.path) same_none)) };
 }

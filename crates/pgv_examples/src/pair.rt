@@ -66,17 +66,15 @@ impl<A: Type + Decode, B: Type + Decode> Decode for Pair<A, B> {
     ghost use Rattle.std.specs.Prelude.{[], ◌∷◌};
     ghost use Rattle.pgv.specs.Words.{record_image, plainly, field_written};
 
-    ghost Meaning = { ⟦<(A, B) as Decode>⟧.Meaning };
+    ghost View = { ⟦<(A, B) as Decode>⟧.View };
 
-    ghost meaning = { λ v. ⟦<(A, B) as Decode>⟧.meaning (v.first, v.second) };
+    ghost view = { λ v. ⟦<(A, B) as Decode>⟧.view (v.first, v.second) };
 
-    ghost reading = { ⟦<(A, B) as Decode>⟧.reading };
+    ghost parse = { ⟦<(A, B) as Decode>⟧.parse };
 
     ghost written = { plainly (λ m. record_image (field_written A.info A.written m.0 ∷ field_written B.info B.written m.1 ∷ [])) };
 
-    ghost takes_memory = { ⟦<(A, B) as Decode>⟧.takes_memory };
-
-    ghost refusal = { ⟦<(A, B) as Decode>⟧.refusal };
+    ghost null = { ⟦<(A, B) as Decode>⟧.null };
 
     fn decode(alloc: Global, value: PgValueRef<'_>) -> Result<Pair<A, B>, CodecError> {
         let (first, second) = <(A, B) as Decode>::decode(alloc, value)?;
@@ -94,8 +92,8 @@ impl<A: ReadBack + Type, B: ReadBack + Type> ReadBack for Pair<A, B> {
     ghost fits = { λ v t oids. ⟦<(A, (B,)) as KeptList>⟧.fits (v.first, record { 0 = v.second }) t 0 oids };
 
     ghost reads_back = { λ v. record_back
-        (further_back A.info A.produced A.hint A.image A.accepts A.reading (λ x. A.meaning (A.kept x)) A.fits A.reads_back v.first
-        (last_back B.info B.produced B.hint B.image B.accepts B.reading (λ x. B.meaning (B.kept x)) B.fits B.reads_back v.second [])) };
+        (further_back A.info A.produced A.hint A.image A.accepts A.parse (λ x. A.view (A.kept x)) A.fits A.reads_back v.first
+        (last_back B.info B.produced B.hint B.image B.accepts B.parse (λ x. B.view (B.kept x)) B.fits B.reads_back v.second [])) };
 }
 
 /// A pair comes back under a composite type, a domain of one or `record`, where the OID of the type at each place was written,
@@ -108,6 +106,6 @@ impl<A: Codec, B: Codec> Codec for Pair<A, B> {
     ghost use Rattle.pgv.specs.Words.{builtin, field_agrees, same_none, same_fields, record_agrees};
 
     ghost agrees = { λ v. record_agrees (builtin 2249) v
-        (same_fields (field_agrees A.hint A.image A.produced A.info A.meaning A.written A.agrees v.first)
-        (same_fields (field_agrees B.hint B.image B.produced B.info B.meaning B.written B.agrees v.second) same_none)) };
+        (same_fields (field_agrees A.hint A.image A.produced A.info A.view A.written A.agrees v.first)
+        (same_fields (field_agrees B.hint B.image B.produced B.info B.view B.written B.agrees v.second) same_none)) };
 }

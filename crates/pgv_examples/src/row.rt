@@ -1,7 +1,7 @@
 //! Reads a row column by column: values, values that may be null, and one that is kept after the row is gone.
 
-ghost use Rattle.std.specs.Prelude.{◌≡◌, ℕ, List, Some, None, IfOk};
-ghost use Rattle.pgv.specs.Words.{Part, Binary, front, builtin};
+ghost use Rattle.std.specs.Prelude.{◌≡◌, ℕ, List, None, Ok, IfOk};
+ghost use Rattle.pgv.specs.Words.{Binary, Given, Reads, builtin, front, value_front};
 
 use pgv::{CodecError, Decode, PgType, PgTypeInfo, PgValue, PgValueFormat, PgValueRef};
 use std::alloc::Global;
@@ -12,7 +12,8 @@ pub fn column<'r, T: Decode>(
     row: &mut &'r [u8],
     type_info: PgTypeInfo,
 ) -> Result<T, CodecError>
-    ensures ok { IfOk result (λ v. (part : Part) × (front row.old.now ≡ Some (part, row.new.now)) × (T.reading type_info Binary part ≡ Some (T.meaning v))) }
+    ensures ok { IfOk result (λ v.
+        (given : Given) × (value_front type_info Binary row.old.now ≡ Ok (given, row.new.now)) × Reads T.parse given (T.view v)) }
     ensures stays { front row.old.now ≡ None → row.new.now ≡ row.old.now }
 {
     let value = PgValueRef::get(row, PgValueFormat::Binary, type_info)?;
@@ -30,8 +31,11 @@ pub struct Person {
 
 /// A row of an `int4` and a `text` that may be null; more columns may follow.
 pub fn read_person(alloc: Global, row: &[u8]) -> Result<Person, CodecError>
-    ensures first { IfOk result (λ person. (id : Part) × (rest : List ℕ) × (front row.now ≡ Some (id, rest)) × (⟦<i32 as Decode>⟧.reading (builtin 23) Binary id ≡ Some person.id)) }
-    ensures second { IfOk result (λ person. (id : Part) × (rest : List ℕ) × (name : Part) × (more : List ℕ) × (front row.now ≡ Some (id, rest)) × (front rest ≡ Some (name, more)) × (⟦<Option<String> as Decode>⟧.reading (builtin 25) Binary name ≡ Some (⟦<Option<String> as Decode>⟧.meaning person.name))) }
+    ensures { IfOk result (λ person.
+        (id : Given) × (rest : List ℕ) × (name : Given) × (more : List ℕ)
+        × (value_front (builtin 23) Binary row.now ≡ Ok (id, rest)) × Reads ⟦<i32 as Decode>⟧.parse id person.id
+        × (value_front (builtin 25) Binary rest ≡ Ok (name, more))
+        × Reads ⟦<Option<String> as Decode>⟧.parse name (⟦<Option<String> as Decode>⟧.view person.name)) }
 {
     let mut rest = row;
     let id: i32 = column(alloc, &mut rest, PgTypeInfo(PgType::Int4))?;
@@ -41,8 +45,7 @@ pub fn read_person(alloc: Global, row: &[u8]) -> Result<Person, CodecError>
 
 /// The next column of a row, kept as it is after the row is gone.
 pub fn keep(alloc: Global, row: &mut &[u8], type_info: PgTypeInfo) -> Result<PgValue, CodecError>
-    ensures bytes { IfOk result (λ value. front row.old.now ≡ Some (value.bytes, row.new.now)) }
-    ensures kind { IfOk result (λ value. (value.type_info ≡ type_info) × (value.format ≡ Binary)) }
+    ensures { IfOk result (λ value. value_front type_info Binary row.old.now ≡ Ok (value, row.new.now)) }
 {
     let value = PgValueRef::get(row, PgValueFormat::Binary, type_info)?;
     value.to_owned(alloc)

@@ -65,13 +65,15 @@ impl Encode for Shipment {
 impl Decode for Shipment {
     ghost use Rattle.pgv.specs.Words.{unwritten};
 
-    ghost Meaning = { ⟦<(Option<String>, Page) as Decode>⟧.Meaning };
+    ghost View = { ⟦<(Option<String>, Page) as Decode>⟧.View };
 
-    ghost meaning = { λ v. ⟦<(Option<String>, Page) as Decode>⟧.meaning (v.note, v.page) };
+    ghost view = { λ v. ⟦<(Option<String>, Page) as Decode>⟧.view (v.note, v.page) };
 
-    ghost reading = { ⟦<(Option<String>, Page) as Decode>⟧.reading };
+    ghost parse = { ⟦<(Option<String>, Page) as Decode>⟧.parse };
 
     ghost written = { unwritten };
+
+    ghost null = { ⟦<(Option<String>, Page) as Decode>⟧.null };
 
     fn decode(alloc: Global, value: PgValueRef<'_>) -> Result<Shipment, CodecError> {
         let (note, page) = <(Option<String>, Page) as Decode>::decode(alloc, value)?;

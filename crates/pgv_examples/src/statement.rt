@@ -32,7 +32,7 @@ pub fn columns_of(alloc: Global, body: &[u8]) -> Result<PgColumns<'_>, CodecErro
 /// The first two columns of a row: an `int4`, and a `text` that may be null.
 pub fn person(alloc: Global, row: &PgRow<'_>) -> Result<(i32, Option<String>), CodecError>
     ensures { let read = ⟦<(i32, Option<String>) as FromRow>⟧.parse row.now in
-        IfOk result (λ p. read.answer ≡ Ok (⟦<(i32, Option<String>) as FromRow>⟧.meaning p)) }
+        IfOk result (λ p. read.answer ≡ Ok (⟦<(i32, Option<String>) as FromRow>⟧.view p)) }
 {
     Ok(row.as_tuple::<(i32, Option<String>)>(alloc)?)
 }

@@ -12,7 +12,7 @@ use Rattle.pgv_value.specs.ValueView.{Given}
 use Rattle.pgv_value.specs.Steps.{number}
 use Rattle.pgv_value.specs.declared.error.CodecError.{CodecError}
 use Rattle.pgv_value.specs.declared.error.CodecError.TheVariants.{Utf8, Short, HstoreLength, HstoreNullKey}
-use Rattle.pgv_nest.specs.NestRefusals.{refusal_or}
+use Rattle.pgv_value.specs.Reading.{refusal_or}
 use Rattle.pgv_hstore.specs.Hstore.{Pair, hstore_in_binary, key_front, value_front}
 
 -- a frame that is no key: null is C35, and bytes that aren't UTF-8 are C14

@@ -21,7 +21,7 @@ pub fn hstore_is_an_hstore()
     ensures arrays { ⟦<crate::PgHstore as PgHasArrayType>⟧.array_info ≡ array_of (codes "hstore") }
     ensures accepts_arrays { (t : Ty) → ⟦<crate::PgHstore as PgHasArrayType>⟧.accepts_array t ≡ softly t (array_of (codes "hstore")) }
     ensures written { IsWrittenAs (λ h. hstore_image (pairs_of h)) ⟦<crate::PgHstore as Encode>⟧.hint ⟦<crate::PgHstore as Encode>⟧.image ⟦<crate::PgHstore as Encode>⟧.produced }
-    ensures means { ⟦<crate::PgHstore as Decode>⟧.meaning ≡ pairs_of }
+    ensures view { ⟦<crate::PgHstore as Decode>⟧.view ≡ pairs_of }
     ensures parsed { ⟦<crate::PgHstore as Plain>⟧.parse ≡ parse_hstore }
     ensures unwritten { (⟦<crate::PgHstore as Encode>⟧.unwritable ≡ (λ h. hstore_refused (pairs_of h))) × (⟦<crate::PgHstore as Encode>⟧.asks_first ≡ (λ h. hstore_asks_first (pairs_of h))) }
 {}

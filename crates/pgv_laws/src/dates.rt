@@ -19,7 +19,7 @@ pub fn date_is_a_date()
     ensures written { ⟦<Date as Encode>⟧.image ≡ (λ v. date_image (epoch_day v)) }
     ensures hint { ⟦<Date as Encode>⟧.hint ≡ (λ _. 4) }
     ensures produced { ⟦<Date as Encode>⟧.produced ≡ (λ _. None) }
-    ensures means { ⟦<Date as Decode>⟧.meaning ≡ (λ v. epoch_day v) }
+    ensures view { ⟦<Date as Decode>⟧.view ≡ (λ v. epoch_day v) }
     ensures parsed { ⟦<Date as Plain>⟧.parse ≡ without_memory parse_date }
 {}
 
@@ -32,7 +32,7 @@ pub fn time_is_a_time()
     ensures written { ⟦<Time as Encode>⟧.image ≡ (λ v. time_image (time_nanos v)) }
     ensures hint { ⟦<Time as Encode>⟧.hint ≡ (λ _. 8) }
     ensures produced { ⟦<Time as Encode>⟧.produced ≡ (λ _. None) }
-    ensures means { ⟦<Time as Decode>⟧.meaning ≡ (λ v. time_nanos v) }
+    ensures view { ⟦<Time as Decode>⟧.view ≡ (λ v. time_nanos v) }
     ensures parsed { ⟦<Time as Plain>⟧.parse ≡ without_memory parse_time }
     ensures kept { (v : Time) → time_nanos (⟦<Time as ReadBack>⟧.kept v) ≡ time_nanos v / 1000 * 1000 }
 {}
@@ -46,7 +46,7 @@ pub fn date_time_is_a_timestamp()
     ensures written { ⟦<DateTime as Encode>⟧.image ≡ (λ v. moment_image (civil_nanos v)) }
     ensures hint { ⟦<DateTime as Encode>⟧.hint ≡ (λ _. 8) }
     ensures produced { ⟦<DateTime as Encode>⟧.produced ≡ (λ _. None) }
-    ensures means { ⟦<DateTime as Decode>⟧.meaning ≡ (λ v. civil_nanos v) }
+    ensures view { ⟦<DateTime as Decode>⟧.view ≡ (λ v. civil_nanos v) }
     ensures parsed { ⟦<DateTime as Plain>⟧.parse ≡ without_memory parse_date_time }
     ensures kept { (v : DateTime) → nanos_after (micros_of (civil_nanos v)) ≡ civil_nanos (⟦<DateTime as ReadBack>⟧.kept v) }
 {}
@@ -59,7 +59,7 @@ pub fn timestamp_is_a_timestamptz()
     ensures written { ⟦<Timestamp as Encode>⟧.image ≡ (λ v. moment_image v.nanosecond) }
     ensures hint { ⟦<Timestamp as Encode>⟧.hint ≡ (λ _. 8) }
     ensures produced { ⟦<Timestamp as Encode>⟧.produced ≡ (λ _. None) }
-    ensures means { ⟦<Timestamp as Decode>⟧.meaning ≡ (λ v. v.nanosecond) }
+    ensures view { ⟦<Timestamp as Decode>⟧.view ≡ (λ v. v.nanosecond) }
     ensures parsed { ⟦<Timestamp as Plain>⟧.parse ≡ without_memory parse_instant }
     ensures kept { (v : Timestamp) → (⟦<Timestamp as ReadBack>⟧.kept v).nanosecond ≡ nanos_after (micros_of v.nanosecond) }
 {}

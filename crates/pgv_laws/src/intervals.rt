@@ -21,7 +21,7 @@ pub fn pg_interval_is_an_interval()
     ensures written { ⟦<PgInterval as Encode>⟧.image ≡ interval_image }
     ensures hint { ⟦<PgInterval as Encode>⟧.hint ≡ (λ _. 16) }
     ensures produced { ⟦<PgInterval as Encode>⟧.produced ≡ (λ _. None) }
-    ensures means { ⟦<PgInterval as Decode>⟧.meaning ≡ (λ v. v) }
+    ensures view { ⟦<PgInterval as Decode>⟧.view ≡ (λ v. v) }
     ensures parsed { ⟦<PgInterval as Plain>⟧.parse ≡ without_memory parse_interval }
 {}
 

@@ -21,7 +21,7 @@ pub fn network_is_an_inet()
     ensures written { ⟦<IpNetwork as Encode>⟧.image ≡ (λ v. network_image (network_of v)) }
     ensures hint { ⟦<IpNetwork as Encode>⟧.hint ≡ (λ v. network_hint (network_of v)) }
     ensures produced { ⟦<IpNetwork as Encode>⟧.produced ≡ (λ _. None) }
-    ensures means { ⟦<IpNetwork as Decode>⟧.meaning ≡ network_of }
+    ensures view { ⟦<IpNetwork as Decode>⟧.view ≡ network_of }
     ensures parsed { ⟦<IpNetwork as Plain>⟧.parse ≡ without_memory parse_network }
 {}
 
@@ -35,6 +35,6 @@ pub fn address_is_an_inet()
     ensures written { ⟦<IpAddr as Encode>⟧.image ≡ address_image }
     ensures hint { ⟦<IpAddr as Encode>⟧.hint ≡ address_hint }
     ensures produced { ⟦<IpAddr as Encode>⟧.produced ≡ (λ _. None) }
-    ensures means { ⟦<IpAddr as Decode>⟧.meaning ≡ (λ v. v) }
+    ensures view { ⟦<IpAddr as Decode>⟧.view ≡ (λ v. v) }
     ensures parsed { ⟦<IpAddr as Plain>⟧.parse ≡ without_memory parse_address }
 {}

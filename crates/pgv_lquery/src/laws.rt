@@ -27,10 +27,8 @@ pub fn lquery_is_an_lquery()
     ensures written { (v : List Level) → ⟦<crate::PgLQuery as Encode>⟧.image v ≡ query_image v }
     ensures hint { (v : List Level) → ⟦<crate::PgLQuery as Encode>⟧.hint v ≡ 0 }
     ensures produced { (v : List Level) → ⟦<crate::PgLQuery as Encode>⟧.produced v ≡ None }
-    ensures means { ⟦<crate::PgLQuery as Decode>⟧.meaning ≡ (λ v. v) }
-    ensures read { ⟦<crate::PgLQuery as Decode>⟧.reading ≡ reading_of parse_query }
-    ensures refused { ⟦<crate::PgLQuery as Decode>⟧.refusal ≡ error_of parse_query }
-    ensures takes_memory { ⟦<crate::PgLQuery as Decode>⟧.takes_memory ≡ takes_of parse_query }
+    ensures view { ⟦<crate::PgLQuery as Decode>⟧.view ≡ (λ v. v) }
+    ensures parsed { ⟦<crate::PgLQuery as Decode>⟧.parse ≡ parse_query }
     ensures kept { ⟦<crate::PgLQuery as ReadBack>⟧.kept ≡ (λ v. v) }
     ensures fits { (v : List Level) (t : Ty) (os : List Oid) → query_fits v t os → ⟦<crate::PgLQuery as ReadBack>⟧.fits v t os }
 {}

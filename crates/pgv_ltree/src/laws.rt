@@ -23,7 +23,7 @@ pub fn ltree_is_an_ltree()
     ensures written { (v : List (List ℕ)) → ⟦<crate::PgLTree as Encode>⟧.image v ≡ tree_image v }
     ensures hint { (v : List (List ℕ)) → ⟦<crate::PgLTree as Encode>⟧.hint v ≡ 0 }
     ensures produced { (v : List (List ℕ)) → ⟦<crate::PgLTree as Encode>⟧.produced v ≡ None }
-    ensures means { ⟦<crate::PgLTree as Decode>⟧.meaning ≡ (λ v. v) }
+    ensures view { ⟦<crate::PgLTree as Decode>⟧.view ≡ (λ v. v) }
     ensures parsed { ⟦<crate::PgLTree as Plain>⟧.parse ≡ parse_tree }
     ensures kept { ⟦<crate::PgLTree as ReadBack>⟧.kept ≡ tree_kept }
     ensures fits { (v : List (List ℕ)) (t : Ty) (os : List Oid) → ⟦<crate::PgLTree as ReadBack>⟧.fits v t os }

@@ -8,13 +8,14 @@ use Rattle.pgv_types.specs.declared.oid.Oid.{Oid}
 use Rattle.pgv_buf.specs.Proper.{Proper}
 use Rattle.pgv_buf.specs.Tokens.{shown}
 use Rattle.pgv_value.specs.FrameBinary.{Part, field_bytes}
-use Rattle.pgv_value.specs.Reading.{Reading}
+use Rattle.pgv_value.specs.Outcome.{Outcome, reading_of}
+use Rattle.pgv_value.proofs.Outcomes.{answer_of}
 use Rattle.pgv_value.specs.ValueView.{Given as Value}
+use Rattle.pgv_value.specs.declared.value.PgValueFormat.TheVariants.{Binary}
 use Rattle.pgv_codec.specs.Image.{Image}
-use Rattle.pgv_nest.specs.NestRefusals.{Refusal, Taking}
 use Rattle.pgv_row.specs.ColumnView.{Column}
 use Rattle.pgv_row.specs.RowView.{Row, value_at}
-use Rattle.pgv_row.specs.Values.{parse_by, may_read, raw_value, column_value}
+use Rattle.pgv_row.specs.Values.{may_read, raw_value, column_value}
 use Rattle.pgv_wire.specs.Arguments.{Argument, framed, all_tokens}
 use Rattle.pgv_wire.specs.History.{Call, added_in, after}
 use Rattle.pgv_wire.specs.MainSentence.{MainSentence, HoldsAfter}
@@ -28,12 +29,11 @@ accepted : (b c : Bool) → c ≡ true → not (b || c) ≡ false
 accepted true c e = refl
 accepted false c e = rw e refl
 
-module _ {A M : Type 0} (hint : A → ℕ) (image : A → Option Image) (accepts : Ty → Bool) (reading : Reading M) (kept : A → M) (fits : A → Ty → List Oid → Type 0) where
+module _ {A M : Type 0} (hint : A → ℕ) (image : A → Option Image) (accepts : Ty → Bool) (parse : Value → Outcome M) (kept : A → M) (fits : A → Ty → List Oid → Type 0) where
   -- what is read of the value at a place
-  value_read : (refusal : Refusal) (takes : Taking) (row : Row) (place : ℕ) (v : Value) (m : M) → value_at row place ≡ Some v → accepts v.type_info ≡ true → reading v.type_info v.format v.bytes ≡ Some m →
-      (column_value accepts (parse_by reading refusal takes) row place).answer ≡ Ok m
+  value_read : (row : Row) (place : ℕ) (v : Value) (m : M) → value_at row place ≡ Some v → accepts v.type_info ≡ true → (parse v).answer ≡ Ok m → (column_value accepts parse row place).answer ≡ Ok m
   unfolding column_value raw_value
-  value_read refusal takes row place v m there accepted_is read =
+  value_read row place v m there accepted_is read =
       let may : not (may_read accepts v) ≡ false = accepted (is_none v.bytes) (accepts v.type_info) accepted_is in
       rw (there, may, read) refl
 
@@ -41,14 +41,14 @@ module _ {A M : Type 0} (hint : A → ℕ) (image : A → Option Image) (accepts
       value_at (record { columns = columns; parts = parts }) place ≡ Some (record { bytes = part; type_info = c.type_info; format = c.format })
   there columns parts place c part column_is part_is = rw (column_is, part_is) refl
 
-  come_back : (calls : List Call) (held : HoldsAfter hint image reading kept fits calls) → ColumnsComeBack hint image accepts reading kept fits calls held.parts
-  come_back calls held refusal takes columns c place a g v added framed_is given_is column_is binary accepts_is fits_is =
+  come_back : (calls : List Call) (held : HoldsAfter hint image (reading_of parse) kept fits calls) → ColumnsComeBack hint image accepts parse kept fits calls held.parts
+  come_back calls held columns c place a g v added framed_is given_is column_is binary accepts_is fits_is =
       let back = held.come_back place a g v c.type_info added framed_is given_is fits_is in
-      value_read refusal takes (record { columns = columns; parts = held.parts }) place (record { bytes = back.0; type_info = c.type_info; format = c.format }) (kept v)
-      (there columns held.parts place c back.0 column_is back.1) accepts_is (rw binary back.2)
+      value_read (record { columns = columns; parts = held.parts }) place (record { bytes = back.0; type_info = c.type_info; format = c.format }) (kept v)
+      (there columns held.parts place c back.0 column_is back.1) accepts_is (rw binary (answer_of (parse (record { bytes = back.0; type_info = c.type_info; format = Binary })).answer (kept v) back.2))
 
-  pub comes_back : (arguments : List Argument) (bytes : List ℕ) → MainSentence hint image reading kept fits → ((calls : List Call) → framed (after [] calls) ≡ added_in calls) →
-      ((i : ℕ) → get_or bytes i 0 < 256) → bytes ≡ shown (all_tokens arguments) → Proper (all_tokens arguments) → OfImages arguments → ComeBack hint image accepts reading kept fits arguments
+  pub comes_back : (arguments : List Argument) (bytes : List ℕ) → MainSentence hint image (reading_of parse) kept fits → ((calls : List Call) → framed (after [] calls) ≡ added_in calls) →
+      ((i : ℕ) → get_or bytes i 0 < 256) → bytes ≡ shown (all_tokens arguments) → Proper (all_tokens arguments) → OfImages arguments → ComeBack hint image accepts parse kept fits arguments
   comes_back arguments bytes main only_added below is proper images calls portal statement sent results after_is oids_fit sent_by =
       let added : framed arguments ≡ added_in calls = ap framed after_is ∙ only_added calls in
       let held = main calls images.0 (subst (AreFrames images.0) added images.1) (subst (λ (xs : List Argument). Proper (all_tokens xs)) after_is proper) oids_fit in

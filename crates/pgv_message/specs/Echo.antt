@@ -5,29 +5,29 @@ use Rattle.std.specs.List.{slice_get}
 use Rattle.pgv_types.specs.Ty.{Ty}
 use Rattle.pgv_types.specs.declared.oid.Oid.{Oid}
 use Rattle.pgv_value.specs.FrameBinary.{Part, row_bytes}
-use Rattle.pgv_value.specs.Reading.{Reading}
+use Rattle.pgv_value.specs.Outcome.{Outcome}
+use Rattle.pgv_value.specs.ValueView.{Given as Value}
 use Rattle.pgv_value.specs.declared.value.PgValueFormat.{PgValueFormat}
 use Rattle.pgv_value.specs.declared.value.PgValueFormat.TheVariants.{Binary}
 use Rattle.pgv_codec.specs.Back.{AreOids}
 use Rattle.pgv_codec.specs.Image.{Image, frame}
-use Rattle.pgv_nest.specs.NestRefusals.{Refusal, Taking}
 use Rattle.pgv_row.specs.ColumnView.{Column}
 use Rattle.pgv_row.specs.DataRow.{IsDataRow}
-use Rattle.pgv_row.specs.Values.{parse_by, column_value}
+use Rattle.pgv_row.specs.Values.{column_value}
 use Rattle.pgv_wire.specs.Arguments.{Argument, Framed}
 use Rattle.pgv_wire.specs.Given.{Given, given_in}
 use Rattle.pgv_wire.specs.History.{Call, added_in, after, last_filling}
 use Rattle.pgv_message.specs.Frames.{bind_of}
 use Rattle.pgv_message.specs.Messages.{bind}
 
-module _ {A M : Type 0} (hint : A → ℕ) (image : A → Option Image) (accepts : Ty → Bool) (reading : Reading M) (kept : A → M) (fits : A → Ty → List Oid → Type 0) where
+module _ {A M : Type 0} (hint : A → ℕ) (image : A → Option Image) (accepts : Ty → Bool) (parse : Value → Outcome M) (kept : A → M) (fits : A → Ty → List Oid → Type 0) where
   -- The argument that was added for a value at a place comes back from the column at that place of a row of these parts.
   abbrev pub ColumnsComeBack : List Call → List Part → Type 0
   ColumnsComeBack calls parts =
-      (refusal : Refusal) (takes : Taking) (columns : List Column) (c : Column) (place : ℕ) (a : Framed) (g : Given) (v : A) →
+      (columns : List Column) (c : Column) (place : ℕ) (a : Framed) (g : Given) (v : A) →
       slice_get (added_in calls) place ≡ Some a → frame (hint v) (image v) ≡ Some a.1 → slice_get (given_in (last_filling calls)) place ≡ Some g →
       slice_get columns place ≡ Some c → c.format ≡ Binary → accepts c.type_info ≡ true → fits v c.type_info g.oids →
-      (column_value accepts (parse_by reading refusal takes) (record { columns = columns; parts = parts }) place).answer ≡ Ok (kept v)
+      (column_value accepts parse (record { columns = columns; parts = parts }) place).answer ≡ Ok (kept v)
 
   -- What Bind sends are parts, one for each argument; as a row they are a DataRow, and each is read back from it.
   pub record Echoes (calls : List Call) (portal statement sent : List ℕ) (results : List PgValueFormat) : Type 0 where

@@ -32,7 +32,7 @@ pub fn bit_vec_is_a_varbit()
     ensures written { (v : List Bool) → ⟦<crate::BitVec as Encode>⟧.image v ≡ bits_image v }
     ensures hint { (v : List Bool) → ⟦<crate::BitVec as Encode>⟧.hint v ≡ bits_hint v }
     ensures produced { (v : List Bool) → ⟦<crate::BitVec as Encode>⟧.produced v ≡ None }
-    ensures means { ⟦<crate::BitVec as Decode>⟧.meaning ≡ (λ v. v) }
+    ensures view { ⟦<crate::BitVec as Decode>⟧.view ≡ (λ v. v) }
     ensures parsed { ⟦<crate::BitVec as Plain>⟧.parse ≡ parse_bits }
     ensures unwritten { (v : List Bool) → (⟦<crate::BitVec as Encode>⟧.unwritable v ≡ bits_refused v) × (⟦<crate::BitVec as Encode>⟧.asks_first v ≡ false) }
 {}
@@ -44,7 +44,7 @@ pub fn mac_address_is_a_macaddr()
     ensures written { (v : List ℕ) → ⟦<crate::MacAddress as Encode>⟧.image v ≡ mac_image v }
     ensures hint { (v : List ℕ) → ⟦<crate::MacAddress as Encode>⟧.hint v ≡ 6 }
     ensures produced { (v : List ℕ) → ⟦<crate::MacAddress as Encode>⟧.produced v ≡ None }
-    ensures means { ⟦<crate::MacAddress as Decode>⟧.meaning ≡ (λ v. v) }
+    ensures view { ⟦<crate::MacAddress as Decode>⟧.view ≡ (λ v. v) }
     ensures parsed { ⟦<crate::MacAddress as Plain>⟧.parse ≡ without_memory parse_mac }
 {}
 
@@ -56,7 +56,7 @@ pub fn time_tz_is_a_timetz()
     ensures written { ⟦<crate::PgTimeTz as Encode>⟧.image ≡ (λ v. time_tz_image (time_tz_numbers v)) }
     ensures hint { ⟦<crate::PgTimeTz as Encode>⟧.hint ≡ (λ _. 12) }
     ensures produced { ⟦<crate::PgTimeTz as Encode>⟧.produced ≡ (λ _. None) }
-    ensures means { ⟦<crate::PgTimeTz as Decode>⟧.meaning ≡ time_tz_numbers }
+    ensures view { ⟦<crate::PgTimeTz as Decode>⟧.view ≡ time_tz_numbers }
     ensures parsed { ⟦<crate::PgTimeTz as Plain>⟧.parse ≡ without_memory parse_time_tz }
     ensures unwritten { (⟦<crate::PgTimeTz as Encode>⟧.unwritable ≡ (λ v. Some (OffsetRange v.offset.seconds))) × (⟦<crate::PgTimeTz as Encode>⟧.asks_first ≡ (λ _. false)) }
     ensures kept { ⟦<crate::PgTimeTz as ReadBack>⟧.kept ≡ (λ v. record { time = time_kept v.time; offset = v.offset }) }
@@ -97,7 +97,7 @@ pub fn bytea_is_a_bytea()
     ensures types { IsBuiltIn 17 ⟦<crate::PgBytea as Type>⟧.info ⟦<crate::PgBytea as Type>⟧.accepts }
     ensures arrays { IsBuiltIn 1001 ⟦<crate::PgBytea as PgHasArrayType>⟧.array_info ⟦<crate::PgBytea as PgHasArrayType>⟧.accepts_array }
     ensures written { IsWrittenAs (λ b. text_image b.0.items) ⟦<crate::PgBytea as Encode>⟧.hint ⟦<crate::PgBytea as Encode>⟧.image ⟦<crate::PgBytea as Encode>⟧.produced }
-    ensures means { ⟦<crate::PgBytea as Decode>⟧.meaning ≡ (λ b. b.0.items) }
+    ensures view { ⟦<crate::PgBytea as Decode>⟧.view ≡ (λ b. b.0.items) }
     ensures parsed { ⟦<crate::PgBytea as Plain>⟧.parse ≡ parse_bytea }
 {}
 
@@ -106,7 +106,7 @@ pub fn bytea_array_is_a_bytea<const N: usize>()
     ensures types { IsBuiltIn 17 ⟦<crate::PgByteaArray<N> as Type>⟧.info ⟦<crate::PgByteaArray<N> as Type>⟧.accepts }
     ensures arrays { IsBuiltIn 1001 ⟦<crate::PgByteaArray<N> as PgHasArrayType>⟧.array_info ⟦<crate::PgByteaArray<N> as PgHasArrayType>⟧.accepts_array }
     ensures written { IsWrittenAs (λ b. sized_image N b.0) ⟦<crate::PgByteaArray<N> as Encode>⟧.hint ⟦<crate::PgByteaArray<N> as Encode>⟧.image ⟦<crate::PgByteaArray<N> as Encode>⟧.produced }
-    ensures means { ⟦<crate::PgByteaArray<N> as Decode>⟧.meaning ≡ (λ b. b.0) }
+    ensures view { ⟦<crate::PgByteaArray<N> as Decode>⟧.view ≡ (λ b. b.0) }
     ensures parsed { ⟦<crate::PgByteaArray<N> as Plain>⟧.parse ≡ without_memory (parse_sized N) }
 {}
 
@@ -117,7 +117,7 @@ pub fn ci_text_is_a_citext()
     ensures arrays { ⟦<crate::PgCiText as PgHasArrayType>⟧.array_info ≡ named (codes "_citext") }
     ensures accepts_arrays { ⟦<crate::PgCiText as PgHasArrayType>⟧.accepts_array ≡ ⟦<String as PgHasArrayType>⟧.accepts_array }
     ensures written { IsWrittenAs (λ text. text_image (string_bytes text.0)) ⟦<crate::PgCiText as Encode>⟧.hint ⟦<crate::PgCiText as Encode>⟧.image ⟦<crate::PgCiText as Encode>⟧.produced }
-    ensures means { ⟦<crate::PgCiText as Decode>⟧.meaning ≡ (λ text. string_bytes text.0) }
+    ensures view { ⟦<crate::PgCiText as Decode>⟧.view ≡ (λ text. string_bytes text.0) }
     ensures parsed { ⟦<crate::PgCiText as Plain>⟧.parse ≡ ⟦<String as Plain>⟧.parse }
 {}
 

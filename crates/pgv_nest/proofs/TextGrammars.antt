@@ -42,7 +42,7 @@ module _ {M : Type 0} (parse : Given → Outcome M) (t : Ty) where
   each_there (part ∷ parts) [] h = absurd h
   each_there (part ∷ parts) (m ∷ ms) h = rw (h.0, each_there parts ms h.1) refl
 
-whole_text : {A : Type 0} (b : Bool) (o : Outcome A) (y : A) → (if b then o else fails Utf8).answer ≡ Ok y → (b ≡ true) × (o.answer ≡ Ok y)
+pub whole_text : {A : Type 0} (b : Bool) (o : Outcome A) (y : A) → (if b then o else fails Utf8).answer ≡ Ok y → (b ≡ true) × (o.answer ≡ Ok y)
 whole_text true o y e = (refl, e)
 whole_text false o y e = absurd cc
 

@@ -19,7 +19,7 @@ pub fn money_is_a_money()
     ensures types { IsBuiltIn 790 ⟦<crate::PgMoney as Type>⟧.info ⟦<crate::PgMoney as Type>⟧.accepts }
     ensures arrays { IsBuiltIn 791 ⟦<crate::PgMoney as PgHasArrayType>⟧.array_info ⟦<crate::PgMoney as PgHasArrayType>⟧.accepts_array }
     ensures written { IsWrittenAs (λ amount. signed_image w64 amount.0) ⟦<crate::PgMoney as Encode>⟧.hint ⟦<crate::PgMoney as Encode>⟧.image ⟦<crate::PgMoney as Encode>⟧.produced }
-    ensures means { ⟦<crate::PgMoney as Decode>⟧.meaning ≡ (λ amount. amount.0) }
+    ensures view { ⟦<crate::PgMoney as Decode>⟧.view ≡ (λ amount. amount.0) }
     ensures parsed { ⟦<crate::PgMoney as Plain>⟧.parse ≡ without_memory parse_money }
 {}
 
@@ -28,7 +28,7 @@ pub fn numeric_is_a_numeric()
     ensures types { IsBuiltIn 1700 ⟦<crate::PgNumeric as Type>⟧.info ⟦<crate::PgNumeric as Type>⟧.accepts }
     ensures arrays { IsBuiltIn 1231 ⟦<crate::PgNumeric as PgHasArrayType>⟧.array_info ⟦<crate::PgNumeric as PgHasArrayType>⟧.accepts_array }
     ensures written { IsWrittenAs (λ n. numeric_image (numeric_of n)) ⟦<crate::PgNumeric as Encode>⟧.hint ⟦<crate::PgNumeric as Encode>⟧.image ⟦<crate::PgNumeric as Encode>⟧.produced }
-    ensures means { ⟦<crate::PgNumeric as Decode>⟧.meaning ≡ numeric_of }
+    ensures view { ⟦<crate::PgNumeric as Decode>⟧.view ≡ numeric_of }
     ensures parsed { ⟦<crate::PgNumeric as Plain>⟧.parse ≡ parse_numeric }
     ensures unwritten { (⟦<crate::PgNumeric as Encode>⟧.unwritable ≡ (λ n. numeric_refused (numeric_of n))) × (⟦<crate::PgNumeric as Encode>⟧.asks_first ≡ (λ n. numeric_asks_first (numeric_of n))) }
 {}

@@ -1,6 +1,6 @@
 -- Ranges read back: the law of ranges over the law of their bounds.
-use Rattle.std.specs.Prelude.{◌≡◌, ℕ, List, [], ◌∷◌, ◌++◌, take, drop, nat_le, Option, Some, None, refl}
-use Rattle.std.proofs.Common.{sym, ◌∙◌, subst, append-nil}
+use Rattle.std.specs.Prelude.{◌≡◌, ℕ, List, [], ◌∷◌, ◌++◌, take, drop, nat_le, Option, Some, None, Ok, refl}
+use Rattle.std.proofs.Common.{sym, ap, ◌∙◌, subst, append-nil}
 use Rattle.std.proofs.lemmas.Option.{same_Some}
 use Rattle.std.specs.Range.Bound.{bound_map}
 use Rattle.std.specs.declared.ops.Bound.{Bound}
@@ -9,16 +9,17 @@ use Rattle.pgv_types.specs.Ty.{Ty}
 use Rattle.pgv_types.specs.declared.oid.Oid.{Oid}
 use Rattle.pgv_buf.specs.Tokens.{Token, byte}
 use Rattle.pgv_value.proofs.Fronts.{frame_in_front}
-use Rattle.pgv_value.specs.Reading.{Reading}
+use Rattle.pgv_value.specs.Outcome.{Outcome, ok_of, reading_of}
+use Rattle.pgv_value.specs.ValueView.{Given, given}
 use Rattle.pgv_value.specs.declared.value.PgValueFormat.TheVariants.{Binary}
 use Rattle.pgv_codec.specs.Back.{AreOids, SlotsFit, ImageFits, ReadsBack, holes_of}
 use Rattle.pgv_codec.specs.BackParts.{guarded, joined_parts, SlotsFit-front, SlotsFit-back, AreOids-drop, frame_back}
 use Rattle.pgv_codec.specs.Image.{Image, image_of, limit, frame_of, join}
 use Rattle.pgv_codec.specs.Writing.{write, written_part}
-use Rattle.pgv_range.specs.RangeOf.{empty, bounds, range_meaning}
+use Rattle.pgv_range.specs.RangeOf.{empty, bounds, range_view}
 use Rattle.pgv_range.specs.FlagByte.{flags_of, form_of}
 use Rattle.pgv_range.specs.RangeImage.{bound_frame, bounds_image, flagged, range_image}
-use Rattle.pgv_range.specs.RangeGrammar.{value_in_front, bound_in, range}
+use Rattle.pgv_range.specs.RangeGrammar.{value_in_front, bound_in, bounds_in, parse_range}
 use Rattle.pgv_range.specs.RangeBinary.{IsRangeOver}
 use Rattle.pgv_range.specs.RangeFits.{bound_holes, BoundFits, RangeFits, range_kept}
 use Rattle.pgv_range.specs.declared.flags.Side.{Side}
@@ -53,17 +54,17 @@ image_parts flags (Some ts) i e = (ts, refl, same_Some (image_of (byte flags ∷
 
 -- ---- the bounds
 
-module _ {A M : Type 0} (hint : A → ℕ) (image : A → Option Image) (reading : Reading M) (kept : A → M) (fits : A → Ty → List Oid → Type 0) (law : ReadsBack image reading kept fits) where
+module _ {A M : Type 0} (hint : A → ℕ) (image : A → Option Image) (parse : Given → Outcome M) (kept : A → M) (fits : A → Ty → List Oid → Type 0) (law : ReadsBack image (reading_of parse) kept fits) where
   -- the value of a bound, with anything after its frame
   value_back : (x : A) (f after : List Token) (u : Ty) (p : Option Ty) (os : List Oid) → bound_frame hint image (Included x) ≡ Some f → SlotsFit f → AreOids os → fits x u (take (holes_of (image x)) os) →
-      value_in_front (reading u Binary) (write p os (f ++ after)) ≡ Some (kept x, write p (drop (holes_of (image x)) os) after)
+      (value_in_front parse u (write p os (f ++ after))).answer ≡ Ok (kept x, write p (drop (holes_of (image x)) os) after)
   value_back x f after u p os e whole small fit =
       let g = guarded (nat_le (hint x) limit) (frame_of (image x)) f e in
-      let b = frame_back image reading kept fits law x (image x) f after u p os refl g.1 whole small fit in
+      let b = frame_back image parse kept fits law x (image x) f after u p os refl g.1 whole small fit in
       rw (frame_in_front (write p os (f ++ after)) b.0 (write p (drop (holes_of (image x)) os) after) b.1, b.2) refl
 
   bound_back : (b : Bound A) (f after : List Token) (u : Ty) (p : Option Ty) (os : List Oid) → bound_frame hint image b ≡ Some f → SlotsFit f → AreOids os → BoundFits fits u b (take (bound_holes image b) os) →
-      bound_in (reading u Binary) (side_of_bound b) (write p os (f ++ after)) ≡ Some (bound_map kept b, write p (drop (bound_holes image b) os) after)
+      (bound_in parse u (side_of_bound b) (write p os (f ++ after))).answer ≡ Ok (bound_map kept b, write p (drop (bound_holes image b) os) after)
   bound_back (Included x) f after u p os e whole small fit = rw (value_back x f after u p os e whole small fit) refl
   bound_back (Excluded x) f after u p os e whole small fit = rw (value_back x f after u p os e whole small fit) refl
   bound_back Unbounded f after u p os e whole small fit =
@@ -72,7 +73,8 @@ module _ {A M : Type 0} (hint : A → ℕ) (image : A → Option Image) (reading
 
   -- both bounds, after their flag byte
   pub bounds_back : (info : Ty) (lower upper : Bound A) (i : Image) (t : Ty) (p : Option Ty) (os : List Oid) → bounds_image hint image lower upper ≡ Some i → ImageFits i → AreOids os → RangeFits image fits (Bounds lower upper) t os →
-      range info reading t Binary (written_part i p os) ≡ Some (bounds (bound_map kept lower) (bound_map kept upper))
+      (parse_range info parse (given t Binary (written_part i p os))).answer ≡ Ok (bounds (bound_map kept lower) (bound_map kept upper))
+  unfolding bounds_in
   bounds_back info lower upper i t p os e whole small fit =
       let a = image_parts (flags_of lower upper) (join (bound_frame hint image lower) (bound_frame hint image upper)) i e in
       let b = joined_parts (bound_frame hint image lower) (bound_frame hint image upper) a.0 a.1 in
@@ -80,15 +82,15 @@ module _ {A M : Type 0} (hint : A → ℕ) (image : A → Option Image) (reading
       let rest : List Oid = drop (bound_holes image lower) os in
       let below = bound_back lower b.0 b.1 fit.0 p os b.2 (SlotsFit-front b.0 b.1 tokens_fit) small fit.2.0 in
       let above = bound_back upper b.1 [] fit.0 p rest b.3 (SlotsFit-back b.0 b.1 tokens_fit) (AreOids-drop (bound_holes image lower) os small) fit.2.1 in
-      let above_alone : bound_in (reading fit.0 Binary) (side_of_bound upper) (write p rest b.1) ≡ Some (bound_map kept upper, [])
-      = subst (λ (ts : List Token). bound_in (reading fit.0 Binary) (side_of_bound upper) (write p rest ts) ≡ Some (bound_map kept upper, [])) (append-nil b.1) above in
+      let above_alone : (bound_in parse fit.0 (side_of_bound upper) (write p rest b.1)).answer ≡ Ok (bound_map kept upper, [])
+      = subst (λ (ts : List Token). (bound_in parse fit.0 (side_of_bound upper) (write p rest ts)).answer ≡ Ok (bound_map kept upper, [])) (append-nil b.1) above in
       rw (← a.2, ← b.4, fit.1, flags_back lower upper, below, above_alone) refl
 
 -- ---- the empty range
 
-empty_back : {M : Type 0} (info : Ty) (reading : Reading M) (i : Image) (t : Ty) (p : Option Ty) (os : List Oid) → flagged 1 (Some []) ≡ Some i → (u : Ty) → IsRangeOver t u →
-    range info reading t Binary (written_part i p os) ≡ Some empty
-empty_back info reading i t p os e u over =
+empty_back : {M : Type 0} (info : Ty) (parse : Given → Outcome M) (i : Image) (t : Ty) (p : Option Ty) (os : List Oid) → flagged 1 (Some []) ≡ Some i → (u : Ty) → IsRangeOver t u →
+    (parse_range info parse (given t Binary (written_part i p os))).answer ≡ Ok empty
+empty_back info parse i t p os e u over =
     let a = image_parts 1 (Some []) i e in
     rw (← a.2, over) refl
 
@@ -99,10 +101,10 @@ bound_both f g (Included x) = refl
 bound_both f g (Excluded x) = refl
 bound_both f g Unbounded = refl
 
-module _ {A M : Type 0} (info : Ty) (hint : A → ℕ) (image : A → Option Image) (reading : Reading M) (meaning : A → M) (kept : A → A) (fits : A → Ty → List Oid → Type 0)
-    (law : ReadsBack image reading (λ v. meaning (kept v)) fits) where
-  pub range_back : ReadsBack {A = PgRange A} (range_image hint image) (range info reading) (λ r. range_meaning meaning (range_kept kept r)) (RangeFits image fits)
-  range_back Empty i t p os e whole small fit = empty_back info reading i t p os e fit.0 fit.1
+module _ {A M : Type 0} (info : Ty) (hint : A → ℕ) (image : A → Option Image) (parse : Given → Outcome M) (view : A → M) (kept : A → A) (fits : A → Ty → List Oid → Type 0)
+    (law : ReadsBack image (reading_of parse) (λ v. view (kept v)) fits) where
+  pub range_back : ReadsBack {A = PgRange A} (range_image hint image) (reading_of (parse_range info parse)) (λ r. range_view view (range_kept kept r)) (RangeFits image fits)
+  range_back Empty i t p os e whole small fit = ap ok_of (empty_back info parse i t p os e fit.0 fit.1)
   range_back (Bounds lower upper) i t p os e whole small fit =
-      bounds_back hint image reading (λ x. meaning (kept x)) fits law info lower upper i t p os e whole small fit
-      ∙ rw (bound_both meaning kept lower, bound_both meaning kept upper) refl
+      ap ok_of (bounds_back hint image parse (λ x. view (kept x)) fits law info lower upper i t p os e whole small fit)
+      ∙ rw (bound_both view kept lower, bound_both view kept upper) refl

@@ -3,13 +3,16 @@
 -- A range (`IsRange`) is a flag byte, a frame for each bound of which the flags don't say that there is none, read under the
 -- type that it is a range over, and anything after them. A flag byte with 1 is the empty range, whatever other flags it has and
 -- whatever comes after it (`IsEmptyRange`). Law: `range_is_its_bounds`.
-use Rattle.std.specs.Prelude.{◌≡◌, ◌↔◌, ℕ, true, false, List, ◌∷◌, Option, Some}
+use Rattle.std.specs.Prelude.{◌≡◌, ◌↔◌, ℕ, true, false, List, ◌∷◌, Some, Ok}
 use Rattle.std.specs.declared.ops.Bound.{Bound}
 use Rattle.std.specs.declared.ops.Bound.TheVariants.{Included, Excluded, Unbounded}
 use Rattle.pgv_types.specs.Ty.{Ty, range as range_over}
 use Rattle.pgv_types.specs.Facts.{kind_at}
 use Rattle.pgv_value.specs.FrameBinary.{Part, IsFrame}
 use Rattle.pgv_value.specs.Laws.{AreBytes}
+use Rattle.pgv_value.specs.Outcome.{Outcome, Reads}
+use Rattle.pgv_value.specs.ValueView.{Given, given}
+use Rattle.pgv_value.specs.declared.value.PgValueFormat.TheVariants.{Binary}
 use Rattle.pgv_range.specs.RangeOf.{RangeOf, empty, bounds}
 use Rattle.pgv_range.specs.FlagByte.{has}
 use Rattle.pgv_range.specs.RangeGrammar.{range_in_binary}
@@ -25,44 +28,44 @@ abbrev pub IsClear : ℕ → ℕ → Type 0
 IsClear flags flag = has flags flag ≡ false
 
 -- The bytes begin with a frame of this value, and this comes after it.
-abbrev pub BeginsWith : {M : Type 0} → (Part → Option M) → M → List ℕ → List ℕ → Type 0
-BeginsWith read m bytes rest = (part : Part) × IsFrame bytes part rest × (read part ≡ Some m)
+abbrev pub BeginsWith : {M : Type 0} → (Given → Outcome M) → Ty → M → List ℕ → List ℕ → Type 0
+BeginsWith parse u m bytes rest = (part : Part) × IsFrame bytes part rest × Reads parse (given u Binary part) m
 
 -- The bytes begin with this bound, of which these two flags speak. Where there is none, they begin with nothing; a bound that
 -- is there has a frame.
-abbrev pub IsBound : {M : Type 0} → (Part → Option M) → (flags infinite included : ℕ) → Bound M → List ℕ → List ℕ → Type 0
-IsBound read flags infinite included Unbounded bytes rest = IsSet flags infinite × (bytes ≡ rest)
-IsBound read flags infinite included (Included m) bytes rest = IsClear flags infinite × IsSet flags included × BeginsWith read m bytes rest
-IsBound read flags infinite included (Excluded m) bytes rest = IsClear flags infinite × IsClear flags included × BeginsWith read m bytes rest
+abbrev pub IsBound : {M : Type 0} → (Given → Outcome M) → Ty → (flags infinite included : ℕ) → Bound M → List ℕ → List ℕ → Type 0
+IsBound parse u flags infinite included Unbounded bytes rest = IsSet flags infinite × (bytes ≡ rest)
+IsBound parse u flags infinite included (Included m) bytes rest = IsClear flags infinite × IsSet flags included × BeginsWith parse u m bytes rest
+IsBound parse u flags infinite included (Excluded m) bytes rest = IsClear flags infinite × IsClear flags included × BeginsWith parse u m bytes rest
 
 -- The empty range: a flag byte with 1, whatever other flags it has, and anything.
 abbrev pub IsEmptyRange : List ℕ → Type 0
 IsEmptyRange bytes = (flags : ℕ) × (rest : List ℕ) × (bytes ≡ flags ∷ rest) × IsSet flags 1
 
 -- A range of these bounds: the flag byte, the lower bound, the upper one, and anything after them.
-pub record IsOfBounds {M : Type 0} (read : Part → Option M) (bytes : List ℕ) (lower upper : Bound M) : Type 0 where
+pub record IsOfBounds {M : Type 0} (parse : Given → Outcome M) (u : Ty) (bytes : List ℕ) (lower upper : Bound M) : Type 0 where
   pub flags : ℕ
   pub frames : List ℕ
   pub between : List ℕ
   pub rest : List ℕ
   pub whole : bytes ≡ flags ∷ frames
   pub not_empty : IsClear flags 1
-  pub below : IsBound read flags 8 2 lower frames between
-  pub above : IsBound read flags 16 4 upper between rest
+  pub below : IsBound parse u flags 8 2 lower frames between
+  pub above : IsBound parse u flags 16 4 upper between rest
 
 -- The bytes are this range, of whose bounds the values are read so.
-abbrev pub IsRangeBytes : {M : Type 0} → (Part → Option M) → List ℕ → RangeOf M → Type 0
-IsRangeBytes read bytes empty = IsEmptyRange bytes
-IsRangeBytes read bytes (bounds lower upper) = IsOfBounds read bytes lower upper
+abbrev pub IsRangeBytes : {M : Type 0} → (Given → Outcome M) → Ty → List ℕ → RangeOf M → Type 0
+IsRangeBytes parse u bytes empty = IsEmptyRange bytes
+IsRangeBytes parse u bytes (bounds lower upper) = IsOfBounds parse u bytes lower upper
 
 -- the bytes are this range, under a type
-abbrev pub IsRange : {M : Type 0} → (Ty → Part → Option M) → Ty → List ℕ → RangeOf M → Type 0
-IsRange read t bytes m = (u : Ty) × IsRangeOver t u × IsRangeBytes (read u) bytes m
+abbrev pub IsRange : {M : Type 0} → (Given → Outcome M) → Ty → List ℕ → RangeOf M → Type 0
+IsRange parse t bytes m = (u : Ty) × IsRangeOver t u × IsRangeBytes parse u bytes m
 
 -- ---- what is computed is what the bytes are
 
-abbrev pub RangeIsItsBounds : {M : Type 0} → (Ty → Part → Option M) → Type 0
-RangeIsItsBounds {M} read = (t : Ty) (bytes : List ℕ) (m : RangeOf M) → AreBytes bytes → (range_in_binary read t bytes ≡ Some m) ↔ IsRange read t bytes m
+abbrev pub RangeIsItsBounds : {M : Type 0} → (Given → Outcome M) → Type 0
+RangeIsItsBounds {M} parse = (t : Ty) (bytes : List ℕ) (m : RangeOf M) → AreBytes bytes → ((range_in_binary parse t bytes).answer ≡ Ok m) ↔ IsRange parse t bytes m
 
-abbrev pub OneRange : {M : Type 0} → (Ty → Part → Option M) → Type 0
-OneRange {M} read = (t : Ty) (bytes : List ℕ) (m other : RangeOf M) → IsRange read t bytes m → IsRange read t bytes other → m ≡ other
+abbrev pub OneRange : {M : Type 0} → (Given → Outcome M) → Type 0
+OneRange {M} parse = (t : Ty) (bytes : List ℕ) (m other : RangeOf M) → IsRange parse t bytes m → IsRange parse t bytes other → m ≡ other

@@ -6,31 +6,31 @@ use Rattle.pgv_types.specs.declared.oid.Oid.{Oid}
 use Rattle.pgv_text.specs.Copies.{copies_of, none_copied}
 use Rattle.pgv_text.specs.declared.scanner.TextForm.TheVariants.{Range}
 use Rattle.pgv_value.specs.FrameBinary.{Part}
-use Rattle.pgv_value.specs.Reading.{Reading}
+use Rattle.pgv_value.specs.Outcome.{Outcome, reading_of}
+use Rattle.pgv_value.specs.ValueView.{Given, given}
 use Rattle.pgv_value.specs.declared.value.PgValueFormat.TheVariants.{Text, Binary}
-use Rattle.pgv_nest.specs.NestRefusals.{Taking}
 use Rattle.pgv_codec.specs.Back.{ReadsBack, FieldReadsBack}
 use Rattle.pgv_codec.specs.Image.{Image}
 use Rattle.pgv_range.specs.RangeBinary.{IsRangeOver}
 use Rattle.pgv_range.specs.RangeFits.{range_kept}
-use Rattle.pgv_range.specs.RangeGrammar.{range}
+use Rattle.pgv_range.specs.RangeGrammar.{parse_range}
 use Rattle.pgv_range.specs.RangeImage.{range_image}
-use Rattle.pgv_range.specs.RangeOf.{range_meaning}
+use Rattle.pgv_range.specs.RangeOf.{range_view}
 use Rattle.pgv_range.specs.declared.range.PgRange.{PgRange}
 
 -- what was written of a value is read back as what it keeps
-abbrev pub ComesBack : {A M : Type 0} → (A → Option Image) → Reading M → (A → M) → (A → A) → (A → Ty → List Oid → Type 0) → Type 0
-ComesBack image reading meaning kept fits = ReadsBack image reading (λ v. meaning (kept v)) fits
+abbrev pub ComesBack : {A M : Type 0} → (A → Option Image) → (Given → Outcome M) → (A → M) → (A → A) → (A → Ty → List Oid → Type 0) → Type 0
+ComesBack image parse view kept fits = ReadsBack image (reading_of parse) (λ v. view (kept v)) fits
 
--- and so is a range that is a field of a record: of the bounds' hint, image, type, reading, meaning and what they keep, and of the
+-- and so is a range that is a field of a record: of the bounds' hint, image, type, grammar, view and what they keep, and of the
 -- ranges' type, the types under which they are read, and where they fit
-abbrev pub RangeFieldComesBack : {X M : Type 0} → (X → ℕ) → (X → Option Image) → Ty → Reading M → (X → M) → (X → X) → Ty → (Ty → Bool) → (PgRange X → Ty → List Oid → Type 0) → Type 0
-RangeFieldComesBack hint image element reading meaning kept info accepts fits =
-    FieldReadsBack info (λ r. None) (λ r. 0) (range_image hint image) accepts (range element reading) (λ r. range_meaning meaning (range_kept kept r)) fits
+abbrev pub RangeFieldComesBack : {X M : Type 0} → (X → ℕ) → (X → Option Image) → Ty → (Given → Outcome M) → (X → M) → (X → X) → Ty → (Ty → Bool) → (PgRange X → Ty → List Oid → Type 0) → Type 0
+RangeFieldComesBack hint image element parse view kept info accepts fits =
+    FieldReadsBack info (λ r. None) (λ r. 0) (range_image hint image) accepts (parse_range element parse) (λ r. range_view view (range_kept kept r)) fits
 
 -- memory may be asked for only to copy: in binary a custom type that the range is over, in text a part that doesn't stand in it as
 -- it is
-abbrev pub TakesOnlyForCopies : Taking → Type 0
-TakesOnlyForCopies takes =
-    ((t u : Ty) (bytes : Part) → IsRangeOver t u → is_custom u ≡ false → takes t Binary bytes ≡ false)
-    × ((t : Ty) (text : List ℕ) → none_copied (copies_of Range text) ≡ true → takes t Text (Some text) ≡ false)
+abbrev pub TakesOnlyForCopies : {M : Type 0} → (Given → Outcome M) → Type 0
+TakesOnlyForCopies parse =
+    ((t u : Ty) (bytes : Part) → IsRangeOver t u → is_custom u ≡ false → (parse (given t Binary bytes)).may_alloc ≡ false)
+    × ((t : Ty) (text : List ℕ) → none_copied (copies_of Range text) ≡ true → (parse (given t Text (Some text))).may_alloc ≡ false)

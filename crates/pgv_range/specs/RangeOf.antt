@@ -10,6 +10,6 @@ pub data RangeOf (M : Type 0) : Type 0 where
   bounds : Bound M → Bound M → RangeOf M
 
 -- what a range says, by what its bounds' values say
-abbrev pub range_meaning : {T M : Type 0} → (T → M) → PgRange T → RangeOf M
-range_meaning meaning Empty = empty
-range_meaning meaning (Bounds lower upper) = bounds (bound_map meaning lower) (bound_map meaning upper)
+abbrev pub range_view : {T M : Type 0} → (T → M) → PgRange T → RangeOf M
+range_view view Empty = empty
+range_view view (Bounds lower upper) = bounds (bound_map view lower) (bound_map view upper)

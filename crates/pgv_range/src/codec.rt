@@ -1,20 +1,19 @@
 //! What ranges are written as and read of, whatever their bounds are (PostgreSQL, "Range Types"; the binary form is that of its source,
 //! range_send).
 
-ghost use Rattle.std.specs.Prelude.{◌≡◌, IfOk, IfErr, OnOk, OnErr, Some, None, drop, false};
+ghost use Rattle.std.specs.Prelude.{◌≡◌, IfOk, IfErr, OnOk, OnErr, Some, drop};
 ghost use Rattle.std.specs.Range.Bound.{bound_map};
 ghost use Rattle.pgv_types.specs.Parts.{ref_type};
 ghost use Rattle.pgv_text.specs.PartsView.{copies, nest};
-ghost use Rattle.pgv_value.specs.Reading.{Answers, AnswersExactly, Refuses};
+ghost use Rattle.pgv_value.specs.Outcome.{Gives};
+ghost use Rattle.pgv_value.specs.Parsed.{GivesOr};
 ghost use Rattle.pgv_value.specs.declared.error.CodecError.TheVariants.{NotARange};
-ghost use Rattle.pgv_value.specs.declared.value.PgValueFormat.TheVariants.{Binary, Text};
 ghost use Rattle.pgv_codec.specs.Outcome.{Appended, AppendedAll, Encoded, Refused};
+ghost use Rattle.pgv_codec.specs.Refusing.{RefusedFor};
 ghost use Rattle.pgv_range.specs.RangeGrammar.{bound_in, bound_in_text, bounds_in, bounds_in_text, next_bound, range_element, range_in_binary, range_in_text, side_in_text, value_in_front};
 ghost use Rattle.pgv_range.specs.RangeImage.{bound_frame, bounds_image, empty_image};
-ghost use Rattle.pgv_codec.specs.Refusing.{RefusedExactly, RefusedFor};
-ghost use Rattle.pgv_range.specs.RangeOf.{range_meaning};
-ghost use Rattle.pgv_nest.specs.NestRefusals.{front_takes};
-ghost use Rattle.pgv_range.specs.RangeRefusals.{bound_refusal, bound_refused, bound_takes, bounds_refusal, bounds_refused, bounds_take, bounds_text_refusal, bounds_text_take, next_bound_refusal, next_bound_takes, part_takes, range_binary_refusal, range_binary_takes, range_text_refusal, range_text_takes, value_refusal};
+ghost use Rattle.pgv_range.specs.RangeOf.{range_view};
+ghost use Rattle.pgv_range.specs.RangeRefusals.{bound_refused, bounds_refused};
 
 use crate::flags::{RangeFlags, RangeForm, Side};
 use crate::range::PgRange;
@@ -114,22 +113,20 @@ fn encode_bound<T: Encode>(bound: &Bound<T>, out: &mut PgArgumentBuffer) -> Resu
 /// value of a bound asks for memory, or for a copy: in binary of a custom type that the range is over, in text of a
 /// part, only if a quote or a backslash is anywhere in it.
 impl<T: Decode + Type> Decode for PgRange<T> {
-    ghost use Rattle.pgv_range.specs.RangeGrammar.{range};
+    ghost use Rattle.std.specs.Prelude.{refl};
+    ghost use Rattle.pgv_range.specs.RangeGrammar.{parse_range};
     ghost use Rattle.pgv_range.specs.RangeOf.{RangeOf};
-    ghost use Rattle.pgv_range.specs.RangeRefusals.{range_refusal, range_takes};
     ghost use Rattle.pgv_range.specs.RangeSaying.{range_written};
 
-    ghost Meaning = { RangeOf T.Meaning };
+    ghost View = { RangeOf T.View };
 
-    ghost meaning = { range_meaning T.meaning };
+    ghost view = { range_view T.view };
 
-    ghost reading = { range T.info T.reading };
+    ghost parse = { parse_range T.info T.parse };
 
     ghost written = { range_written T.info T.written };
 
-    ghost takes_memory = { range_takes T.info T.reading T.takes_memory };
-
-    ghost refusal = { range_refusal T.info T.reading T.refusal };
+    ghost null = { λ _ _. (refl, refl) };
 
     fn decode(alloc: Global, value: PgValueRef<'_>) -> Result<PgRange<T>, CodecError> {
         match value.format() {
@@ -145,10 +142,7 @@ fn read_binary<T: Decode>(
     type_info: &PgTypeInfo,
     bytes: &[u8],
 ) -> Result<PgRange<T>, CodecError>
-    ensures exact { Answers (range_meaning T.meaning) (range_in_binary (λ u. T.reading u Binary) type_info.now bytes.now) result }
-    ensures exactly { range_binary_takes (λ u. T.reading u Binary) (part_takes T.takes_memory) type_info.now bytes.now ≡ false → AnswersExactly (range_meaning T.meaning) (range_in_binary (λ u. T.reading u Binary) type_info.now bytes.now) result }
-    ensures refused { RefusedFor (range_binary_refusal (λ u. T.reading u Binary) (λ u. T.refusal u Binary) type_info.now bytes.now) result }
-    ensures refused_exactly { range_binary_takes (λ u. T.reading u Binary) (part_takes T.takes_memory) type_info.now bytes.now ≡ false → RefusedExactly (range_binary_refusal (λ u. T.reading u Binary) (λ u. T.refusal u Binary) type_info.now bytes.now) result }
+    ensures { Gives (range_view T.view) (range_in_binary T.parse type_info.now bytes.now) result }
 {
     let element = element_of_range(type_info)?;
     let Some((flags, frames)) = bytes.split_first() else {
@@ -164,8 +158,7 @@ fn read_binary<T: Decode>(
 
 /// What a type is a range over; one that isn't a range is refused with [`NotARange`](CodecError::NotARange) (C23).
 fn element_of_range(type_info: &PgTypeInfo) -> Result<PgTypeRef<'_>, CodecError>
-    ensures found { IfOk result (λ element. range_element type_info.now ≡ Some (ref_type element)) }
-    ensures refused { IfErr result (λ e. (range_element type_info.now ≡ None) × (e ≡ NotARange)) }
+    ensures { GivesOr ref_type (range_element type_info.now) NotARange result }
 {
     match element_of(type_info) {
         Some(element) => Ok(element),
@@ -174,6 +167,7 @@ fn element_of_range(type_info: &PgTypeInfo) -> Result<PgTypeRef<'_>, CodecError>
 }
 
 /// The lower bound and the upper one.
+#[tactic(auto, unfolding(crate::specs::RangeGrammar::bounds_in))]
 fn read_bounds<T: Decode>(
     alloc: Global,
     element: &PgTypeInfo,
@@ -181,10 +175,7 @@ fn read_bounds<T: Decode>(
     above: Side,
     bytes: &[u8],
 ) -> Result<PgRange<T>, CodecError>
-    ensures exact { Answers (range_meaning T.meaning) (bounds_in (T.reading element.now Binary) below above bytes.now) result }
-    ensures exactly { bounds_take (T.reading element.now Binary) (part_takes T.takes_memory element.now) below above bytes.now ≡ false → AnswersExactly (range_meaning T.meaning) (bounds_in (T.reading element.now Binary) below above bytes.now) result }
-    ensures refused { RefusedFor (bounds_refusal (T.reading element.now Binary) (T.refusal element.now Binary) below above bytes.now) result }
-    ensures refused_exactly { bounds_take (T.reading element.now Binary) (part_takes T.takes_memory element.now) below above bytes.now ≡ false → RefusedExactly (bounds_refusal (T.reading element.now Binary) (T.refusal element.now Binary) below above bytes.now) result }
+    ensures { Gives (range_view T.view) (bounds_in T.parse element.now below above bytes.now) result }
 {
     let mut rest = bytes;
     let start = read_bound(alloc, element, below, &mut rest)?;
@@ -199,11 +190,7 @@ fn read_bound<'a, T: Decode>(
     side: Side,
     bytes: &mut &'a [u8],
 ) -> Result<Bound<T>, CodecError>
-    ensures ok { IfOk result (λ b. bound_in (T.reading element.now Binary) side bytes.old.now ≡ Some (bound_map T.meaning b, bytes.new.now)) }
-    ensures err { IfErr result (λ e. Refuses e (bound_in (T.reading element.now Binary) side bytes.old.now ≡ None)) }
-    ensures exactly { bound_takes (part_takes T.takes_memory element.now) side bytes.old.now ≡ false → IfErr result (λ e. bound_in (T.reading element.now Binary) side bytes.old.now ≡ None) }
-    ensures refused { RefusedFor (bound_refusal (T.reading element.now Binary) (T.refusal element.now Binary) side bytes.old.now) result }
-    ensures refused_exactly { bound_takes (part_takes T.takes_memory element.now) side bytes.old.now ≡ false → RefusedExactly (bound_refusal (T.reading element.now Binary) (T.refusal element.now Binary) side bytes.old.now) result }
+    ensures { Gives (λ bound. (bound_map T.view bound, bytes.new.now)) (bound_in T.parse element.now side bytes.old.now) result }
 {
     match side {
         Side::Infinite => Ok(Bound::Unbounded),
@@ -219,11 +206,7 @@ fn read_value<'a, T: Decode>(
     element: &PgTypeInfo,
     bytes: &mut &'a [u8],
 ) -> Result<T, CodecError>
-    ensures ok { IfOk result (λ v. value_in_front (T.reading element.now Binary) bytes.old.now ≡ Some (T.meaning v, bytes.new.now)) }
-    ensures err { IfErr result (λ e. Refuses e (value_in_front (T.reading element.now Binary) bytes.old.now ≡ None)) }
-    ensures refused { RefusedFor (value_refusal (T.reading element.now Binary) (T.refusal element.now Binary) bytes.old.now) result }
-    ensures exactly { front_takes (part_takes T.takes_memory element.now) bytes.old.now ≡ false → IfErr result (λ e. value_in_front (T.reading element.now Binary) bytes.old.now ≡ None) }
-    ensures refused_exactly { front_takes (part_takes T.takes_memory element.now) bytes.old.now ≡ false → RefusedExactly (value_refusal (T.reading element.now Binary) (T.refusal element.now Binary) bytes.old.now) result }
+    ensures { Gives (λ value. (T.view value, bytes.new.now)) (value_in_front T.parse element.now bytes.old.now) result }
 {
     let all: &'a [u8] = *bytes;
     let (part, rest) = part_in_front(all)?;
@@ -233,11 +216,9 @@ fn read_value<'a, T: Decode>(
 }
 
 /// A range in text.
+#[tactic(auto, unfolding(crate::specs::RangeGrammar::range_in_text))]
 fn read_text<T: Decode + Type>(alloc: Global, text: &str) -> Result<PgRange<T>, CodecError>
-    ensures exact { Answers (range_meaning T.meaning) (range_in_text (T.reading T.info Text) text.now) result }
-    ensures exactly { range_text_takes (T.reading T.info Text) (T.takes_memory T.info Text) text.now ≡ false → AnswersExactly (range_meaning T.meaning) (range_in_text (T.reading T.info Text) text.now) result }
-    ensures refused { RefusedFor (range_text_refusal (T.reading T.info Text) (T.refusal T.info Text) text.now) result }
-    ensures refused_exactly { range_text_takes (T.reading T.info Text) (T.takes_memory T.info Text) text.now ≡ false → RefusedExactly (range_text_refusal (T.reading T.info Text) (T.refusal T.info Text) text.now) result }
+    ensures { Gives (range_view T.view) (range_in_text T.parse T.info text.now) result }
 {
     match Parts::new(TextForm::Range, text) {
         None => Err(CodecError::Syntax),
@@ -247,11 +228,9 @@ fn read_text<T: Decode + Type>(alloc: Global, text: &str) -> Result<PgRange<T>, 
 }
 
 /// The two parts of a range, each read under the own type of `T`.
+#[tactic(auto, unfolding(crate::specs::RangeGrammar::bounds_in_text))]
 fn read_parts<T: Decode + Type>(alloc: Global, parts: Parts<'_>) -> Result<PgRange<T>, CodecError>
-    ensures exact { Answers (range_meaning T.meaning) (bounds_in_text (T.reading T.info Text) (nest parts.entry)) result }
-    ensures exactly { bounds_text_take (T.reading T.info Text) (T.takes_memory T.info Text) (copies parts.entry) (nest parts.entry) ≡ false → AnswersExactly (range_meaning T.meaning) (bounds_in_text (T.reading T.info Text) (nest parts.entry)) result }
-    ensures refused { RefusedFor (bounds_text_refusal (T.reading T.info Text) (T.refusal T.info Text) (nest parts.entry)) result }
-    ensures refused_exactly { bounds_text_take (T.reading T.info Text) (T.takes_memory T.info Text) (copies parts.entry) (nest parts.entry) ≡ false → RefusedExactly (bounds_text_refusal (T.reading T.info Text) (T.refusal T.info Text) (nest parts.entry)) result }
+    ensures { Gives (range_view T.view) (bounds_in_text T.parse T.info (copies parts.entry) (nest parts.entry)) result }
 {
     let (lower_included, upper_included) = parts.includes();
     let mut parts = parts;
@@ -268,11 +247,7 @@ fn next_bound_of<T: Decode + Type>(
     included: bool,
     text: &mut String,
 ) -> Result<Bound<T>, CodecError>
-    ensures ok { IfOk result (λ b. next_bound (T.reading T.info Text) included (nest parts.old).values ≡ Some (bound_map T.meaning b, (nest parts.new).values)) }
-    ensures err { IfErr result (λ e. Refuses e (next_bound (T.reading T.info Text) included (nest parts.old).values ≡ None)) }
-    ensures exactly { next_bound_takes (T.takes_memory T.info Text) (copies parts.old) (nest parts.old).values ≡ false → IfErr result (λ e. next_bound (T.reading T.info Text) included (nest parts.old).values ≡ None) }
-    ensures refused { RefusedFor (next_bound_refusal (T.reading T.info Text) (T.refusal T.info Text) (nest parts.old).values) result }
-    ensures refused_exactly { next_bound_takes (T.takes_memory T.info Text) (copies parts.old) (nest parts.old).values ≡ false → RefusedExactly (next_bound_refusal (T.reading T.info Text) (T.refusal T.info Text) (nest parts.old).values) result }
+    ensures exact { Gives (λ bound. (bound_map T.view bound, (nest parts.new).values)) (next_bound T.parse T.info included (copies parts.old) (nest parts.old).values) result }
     ensures copies { OnOk result (copies parts.new ≡ drop 1 (copies parts.old)) }
 {
     let Some(part) = parts.next_borrowed(text)? else {
@@ -290,10 +265,7 @@ fn bound_of_text<T: Decode + Type>(
     included: bool,
     text: &str,
 ) -> Result<Bound<T>, CodecError>
-    ensures exact { Answers (bound_map T.meaning) (bound_in_text (T.reading T.info Text) included (Some text.now)) result }
-    ensures exactly { T.takes_memory T.info Text (Some text.now) ≡ false → AnswersExactly (bound_map T.meaning) (bound_in_text (T.reading T.info Text) included (Some text.now)) result }
-    ensures refused { RefusedFor (T.refusal T.info Text (Some text.now)) result }
-    ensures refused_exactly { T.takes_memory T.info Text (Some text.now) ≡ false → RefusedExactly (T.refusal T.info Text (Some text.now)) result }
+    ensures { Gives (bound_map T.view) (bound_in_text T.parse T.info included (Some text.now)) result }
 {
     let part = PgValueRef::of_text(Some(text), T::type_info());
     let value = T::decode(alloc, part)?;
@@ -321,7 +293,7 @@ impl<T: ReadBack + Type> ReadBack for PgRange<T> {
 
     ghost fits = { RangeFits T.image T.fits };
 
-    ghost reads_back = { range_back T.info T.hint T.image T.reading T.meaning T.kept T.fits T.reads_back };
+    ghost reads_back = { range_back T.info T.hint T.image T.parse T.view T.kept T.fits T.reads_back };
 }
 
 impl<T: Codec> Codec for PgRange<T>
@@ -330,5 +302,5 @@ where
 {
     ghost use Rattle.pgv_range.specs.RangeSaying.{range_agrees};
 
-    ghost agrees = { range_agrees T.hint T.image T.produced T.info T.meaning T.written T.agrees Self.info };
+    ghost agrees = { range_agrees T.hint T.image T.produced T.info T.view T.written T.agrees Self.info };
 }

@@ -6,20 +6,22 @@ ghost use Rattle.std.specs.Range.{range_inclusive_start, range_inclusive_end};
 ghost use Rattle.std.specs.declared.ops.Bound.TheVariants.{Included, Excluded, Unbounded};
 ghost use Rattle.pgv_types.specs.Ty.{Ty};
 ghost use Rattle.pgv_types.specs.declared.oid.Oid.{Oid};
-ghost use Rattle.pgv_value.specs.FrameBinary.{Part};
 ghost use Rattle.pgv_value.specs.Laws.{AreBytes};
+ghost use Rattle.pgv_value.specs.Outcome.{Reads, fails};
+ghost use Rattle.pgv_value.specs.ValueView.{Given, given};
+ghost use Rattle.pgv_value.specs.declared.error.CodecError.TheVariants.{UnexpectedNull};
 ghost use Rattle.pgv_value.specs.declared.value.PgValueFormat.{PgValueFormat as Format};
-ghost use Rattle.pgv_value.specs.declared.value.PgValueFormat.TheVariants.{Binary, Text};
+ghost use Rattle.pgv_value.specs.declared.value.PgValueFormat.TheVariants.{Binary};
 ghost use Rattle.pgv_nest.specs.NestText.{TextIs};
 ghost use Rattle.pgv_codec.specs.TypeRow.{IsBuiltIn, IsWrittenAs};
 ghost use Rattle.pgv_range.specs.RangeBinary.{IsRange, IsRangeOver, OneRange};
 ghost use Rattle.pgv_range.specs.RangeFits.{BoundsFit, range_kept};
-ghost use Rattle.pgv_range.specs.RangeGrammar.{range};
+ghost use Rattle.pgv_range.specs.RangeGrammar.{parse_range};
 ghost use Rattle.pgv_range.specs.RangeImage.{range_image};
 ghost use Rattle.pgv_range.specs.RangeInText.{IsRangeInText, OneRangeInText};
 ghost use Rattle.pgv_range.specs.RangeLaws.{ComesBack, RangeFieldComesBack, TakesOnlyForCopies};
-ghost use Rattle.pgv_range.specs.RangeOf.{RangeOf, range_meaning};
-ghost use Rattle.pgv_range.specs.RangeRefusals.{range_refusal, range_refused, range_takes};
+ghost use Rattle.pgv_range.specs.RangeOf.{RangeOf, range_view};
+ghost use Rattle.pgv_range.specs.RangeRefusals.{range_refused};
 ghost use Rattle.pgv_range.specs.RangeRow.{ComesBackUnderRanges, IsBuiltInRange};
 ghost use Rattle.pgv_range.specs.RangeShown.{range_eq, range_text};
 ghost use Rattle.pgv_range.specs.RangeView.{IsOfBounds};
@@ -46,61 +48,59 @@ type OfLists<T> = PgRange<Vec<T>>;
 /// The bytes are a flag byte and a frame for each bound that there is, or a flag byte with 01; anything may come after
 /// them.
 pub fn range_is_its_bounds<T: Type + Decode>()
-    ensures { (t : Ty) (bytes : List ℕ) (m : RangeOf T.Meaning) → AreBytes bytes → (⟦<PgRange<T> as Decode>⟧.reading t Binary (Some bytes) ≡ Some m) ↔ IsRange (λ u. T.reading u Binary) t bytes m }
+    ensures { (t : Ty) (bytes : List ℕ) (m : RangeOf T.View) → AreBytes bytes → Reads ⟦<PgRange<T> as Decode>⟧.parse (given t Binary (Some bytes)) m ↔ IsRange T.parse t bytes m }
 {}
 
 /// Under a type, bytes in binary are at most one range.
 pub fn one_range<T: Decode>()
-    ensures { OneRange (λ u. T.reading u Binary) }
+    ensures { OneRange T.parse }
 {}
 
 /// A range is decoded from a text iff the grammar of ranges assigns it to the text: the empty range, or one of two
 /// bounds, each read under the bounds' own type (PostgreSQL, "Range Input/Output").
 pub fn range_text_is_its_bounds<T: Type + Decode>()
-    ensures { TextIs ⟦<PgRange<T> as Decode>⟧.reading (IsRangeInText (T.reading T.info Text)) }
+    ensures { TextIs ⟦<PgRange<T> as Decode>⟧.parse (IsRangeInText T.parse T.info) }
 {
     range_is_computed();
 }
 
 /// A text denotes at most one range.
 pub fn one_range_in_text<T: Type + Decode>()
-    ensures { OneRangeInText (T.reading T.info Text) }
+    ensures { OneRangeInText T.parse T.info }
 {
     range_is_computed();
 }
 
 /// Null is never decoded as a range, in either format.
 pub fn null_is_no_range<T: Type + Decode>()
-    ensures binary { (t : Ty) → ⟦<PgRange<T> as Decode>⟧.reading t Binary None ≡ None }
-    ensures text { (t : Ty) → ⟦<PgRange<T> as Decode>⟧.reading t Text None ≡ None }
+    ensures { (t : Ty) (format : Format) → ⟦<PgRange<T> as Decode>⟧.parse (given t format None) ≡ fails UnexpectedNull }
 {}
 
-/// A range is written as a flag byte and the frames of its bounds, and its meaning, what is read as it, its refusals
-/// and what it keeps are made of those of its bounds, included or excluded as they were.
+/// A range is written as a flag byte and the frames of its bounds, and what it says, its grammar and what it keeps are
+/// made of those of its bounds, included or excluded as they were.
 ///
 /// The empty range is a flag byte, and is kept.
 pub fn ranges_are_their_bounds<T: ReadBack + Type>()
     ensures written { IsWrittenAs (range_image T.hint T.image) ⟦<PgRange<T> as Encode>⟧.hint ⟦<PgRange<T> as Encode>⟧.image ⟦<PgRange<T> as Encode>⟧.produced }
-    ensures means { ⟦<PgRange<T> as Decode>⟧.meaning ≡ range_meaning T.meaning }
-    ensures read { ⟦<PgRange<T> as Decode>⟧.reading ≡ range T.info T.reading }
+    ensures view { ⟦<PgRange<T> as Decode>⟧.view ≡ range_view T.view }
+    ensures parsed { ⟦<PgRange<T> as Decode>⟧.parse ≡ parse_range T.info T.parse }
     ensures unwritten { (⟦<PgRange<T> as Encode>⟧.unwritable ≡ range_refused T.hint T.image T.unwritable) × (⟦<PgRange<T> as Encode>⟧.asks_first ≡ (λ _. true)) }
-    ensures refused { (⟦<PgRange<T> as Decode>⟧.refusal ≡ range_refusal T.info T.reading T.refusal) × (⟦<PgRange<T> as Decode>⟧.takes_memory ≡ range_takes T.info T.reading T.takes_memory) }
     ensures kept { ⟦<PgRange<T> as ReadBack>⟧.kept ≡ range_kept T.kept }
 {}
 
 /// If reading a bound never asks for memory, reading a range asks only for copies: in binary of a custom type that the
 /// range is over, in text of a part that is not one run of the text's bytes.
 pub fn ranges_take_only_for_copies<T: Decode + Type>()
-    ensures { ((t : Ty) (f : Format) (bytes : Part) → T.takes_memory t f bytes ≡ false) → TakesOnlyForCopies ⟦<PgRange<T> as Decode>⟧.takes_memory }
+    ensures { ((value : Given) → (T.parse value).may_alloc ≡ false) → TakesOnlyForCopies ⟦<PgRange<T> as Decode>⟧.parse }
 {}
 
 /// Reading a range of `i32`, `i64`, `Date`, `DateTime` or `Timestamp` asks for memory only for these copies.
 pub fn own_ranges_take_only_for_copies()
-    ensures int4 { TakesOnlyForCopies ⟦<PgRange<i32> as Decode>⟧.takes_memory }
-    ensures int8 { TakesOnlyForCopies ⟦<PgRange<i64> as Decode>⟧.takes_memory }
-    ensures date { TakesOnlyForCopies ⟦<PgRange<Date> as Decode>⟧.takes_memory }
-    ensures date_time { TakesOnlyForCopies ⟦<PgRange<DateTime> as Decode>⟧.takes_memory }
-    ensures timestamp { TakesOnlyForCopies ⟦<PgRange<Timestamp> as Decode>⟧.takes_memory }
+    ensures int4 { TakesOnlyForCopies ⟦<PgRange<i32> as Decode>⟧.parse }
+    ensures int8 { TakesOnlyForCopies ⟦<PgRange<i64> as Decode>⟧.parse }
+    ensures date { TakesOnlyForCopies ⟦<PgRange<Date> as Decode>⟧.parse }
+    ensures date_time { TakesOnlyForCopies ⟦<PgRange<DateTime> as Decode>⟧.parse }
+    ensures timestamp { TakesOnlyForCopies ⟦<PgRange<Timestamp> as Decode>⟧.parse }
 {
     ranges_take_only_for_copies::<i32>();
     ranges_take_only_for_copies::<i64>();
@@ -133,10 +133,10 @@ pub fn own_ranges_fit()
 pub fn ranges_read_back<T: ReadBack + Type + PgHasArrayType>()
 where
     PgRange<T>: Type + PgHasArrayType,
-    ensures range { ComesBack ⟦<PgRange<T> as Encode>⟧.image ⟦<PgRange<T> as Decode>⟧.reading ⟦<PgRange<T> as Decode>⟧.meaning ⟦<PgRange<T> as ReadBack>⟧.kept ⟦<PgRange<T> as ReadBack>⟧.fits }
-    ensures ranges { ComesBack ⟦<Ranges<T> as Encode>⟧.image ⟦<Ranges<T> as Decode>⟧.reading ⟦<Ranges<T> as Decode>⟧.meaning ⟦<Ranges<T> as ReadBack>⟧.kept ⟦<Ranges<T> as ReadBack>⟧.fits }
-    ensures of_lists { ComesBack ⟦<OfLists<T> as Encode>⟧.image ⟦<OfLists<T> as Decode>⟧.reading ⟦<OfLists<T> as Decode>⟧.meaning ⟦<OfLists<T> as ReadBack>⟧.kept ⟦<OfLists<T> as ReadBack>⟧.fits }
-    ensures field { RangeFieldComesBack T.hint T.image T.info T.reading T.meaning T.kept ⟦<PgRange<T> as Type>⟧.info ⟦<PgRange<T> as Type>⟧.accepts ⟦<PgRange<T> as ReadBack>⟧.fits }
+    ensures range { ComesBack ⟦<PgRange<T> as Encode>⟧.image ⟦<PgRange<T> as Decode>⟧.parse ⟦<PgRange<T> as Decode>⟧.view ⟦<PgRange<T> as ReadBack>⟧.kept ⟦<PgRange<T> as ReadBack>⟧.fits }
+    ensures ranges { ComesBack ⟦<Ranges<T> as Encode>⟧.image ⟦<Ranges<T> as Decode>⟧.parse ⟦<Ranges<T> as Decode>⟧.view ⟦<Ranges<T> as ReadBack>⟧.kept ⟦<Ranges<T> as ReadBack>⟧.fits }
+    ensures of_lists { ComesBack ⟦<OfLists<T> as Encode>⟧.image ⟦<OfLists<T> as Decode>⟧.parse ⟦<OfLists<T> as Decode>⟧.view ⟦<OfLists<T> as ReadBack>⟧.kept ⟦<OfLists<T> as ReadBack>⟧.fits }
+    ensures field { RangeFieldComesBack T.hint T.image T.info T.parse T.view T.kept ⟦<PgRange<T> as Type>⟧.info ⟦<PgRange<T> as Type>⟧.accepts ⟦<PgRange<T> as ReadBack>⟧.fits }
 {
     read_back::<PgRange<T>>();
     read_back::<Ranges<T>>();

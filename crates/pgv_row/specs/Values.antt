@@ -1,19 +1,13 @@
 -- What is read of a value of a row. Null is read whatever the type of its column is; any other value only where the column's type is
 -- one that the values of the Rust type are read under, else it is C27. There is no value, C25, where the row has no such column. A
 -- custom type is copied, and so may ask for memory.
-use Rattle.std.specs.Prelude.{ℕ, Bool, ◌||◌, not, is_none, ok_or}
+use Rattle.std.specs.Prelude.{ℕ, Bool, ◌||◌, not, is_none}
 use Rattle.pgv_types.specs.Ty.{Ty}
 use Rattle.pgv_types.specs.Facts.{is_custom}
-use Rattle.pgv_value.specs.Reading.{Reading}
 use Rattle.pgv_value.specs.ValueView.{Given}
 use Rattle.pgv_value.specs.declared.error.CodecError.TheVariants.{NoField, MismatchedTypes}
-use Rattle.pgv_nest.specs.NestRefusals.{Refusal, Taking}
 use Rattle.pgv_value.specs.Outcome.{Outcome, or_fail, fails_if, allocates, done, ◌>>=◌, ◌>>◌}
 use Rattle.pgv_row.specs.RowView.{Row, value_at}
-
--- what a type reads of a value, from what it states of itself
-abbrev pub parse_by : {M : Type 0} → Reading M → Refusal → Taking → Given → Outcome M
-parse_by reading refusal takes v = record { answer = ok_or (reading v.type_info v.format v.bytes) (refusal v.type_info v.format v.bytes); may_alloc = takes v.type_info v.format v.bytes }
 
 -- whether a value may be read
 abbrev pub may_read : (Ty → Bool) → Given → Bool

@@ -10,7 +10,7 @@ ghost use Rattle.pgv_row.specs.Places.{part_at, IsWithin};
 ghost use Rattle.pgv_row.specs.RowParts.{body_of, capacity};
 ghost use Rattle.pgv_row.specs.RowView.{column_there};
 ghost use Rattle.pgv_row.specs.Tuples.{or_codec};
-ghost use Rattle.pgv_row.specs.Values.{column_value, parse_by, raw_value, unchecked_value};
+ghost use Rattle.pgv_row.specs.Values.{column_value, raw_value, unchecked_value};
 
 use crate::column::{PgColumn, PgColumns};
 use crate::error::ColumnError;
@@ -241,10 +241,9 @@ impl<'a> PgRow<'a> {
     #[inline(always)]
     #[tactic(auto, unfolding(crate::specs::Values::unchecked_value))]
     fn unchecked_at<T: Decode>(&self, alloc: Global, place: usize) -> Result<T, CodecError>
-        ensures { let parse = parse_by T.reading T.refusal T.takes_memory in
-            Gives T.meaning (unchecked_value parse self.now place) result }
+        ensures { Gives T.view (unchecked_value T.parse self.now place) result }
     {
-        decode_value(alloc, self.raw_at(place)?)
+        T::decode(alloc, self.raw_at(place)?)
     }
 
     /// What `T` reads of the column at a place under its type. The type is tested where it stands, before it is copied.
@@ -255,8 +254,7 @@ impl<'a> PgRow<'a> {
         alloc: Global,
         place: usize,
     ) -> Result<T, CodecError>
-        ensures { let parse = parse_by T.reading T.refusal T.takes_memory in
-            Gives T.meaning (column_value T.accepts parse self.now place) result }
+        ensures { Gives T.view (column_value T.accepts T.parse self.now place) result }
     {
         let Some(column) = self.columns.get(place) else {
             return Err(CodecError::NoField(place));
@@ -268,7 +266,7 @@ impl<'a> PgRow<'a> {
             return Err(CodecError::MismatchedTypes);
         }
         let type_info = column.type_info().clone()?;
-        decode_value(
+        T::decode(
             alloc,
             value_in(self.bytes, *part, type_info, column.format()),
         )
@@ -301,8 +299,7 @@ impl<'a> PgRow<'a> {
         alloc: Global,
         index: I,
     ) -> Result<T, ColumnError<I>>
-        ensures { let parse = parse_by T.reading T.refusal T.takes_memory in
-            GivesColumn T.meaning I.place I.missing index self.now (column_value T.accepts parse) result }
+        ensures { GivesColumn T.view I.place I.missing index self.now (column_value T.accepts T.parse) result }
     {
         let Some(place) = index.index(self.columns) else {
             return Err(self.not_found(index));
@@ -324,8 +321,7 @@ impl<'a> PgRow<'a> {
         alloc: Global,
         index: I,
     ) -> Result<T, ColumnError<I>>
-        ensures { let parse = parse_by T.reading T.refusal T.takes_memory in
-            GivesColumn T.meaning I.place I.missing index self.now (unchecked_value parse) result }
+        ensures { GivesColumn T.view I.place I.missing index self.now (unchecked_value T.parse) result }
     {
         let Some(place) = index.index(self.columns) else {
             return Err(self.not_found(index));
@@ -343,7 +339,7 @@ impl<'a> PgRow<'a> {
     /// The columns in order as the fields of a tuple of one to nine, each read as [`PgRow::try_get`] reads it. Further columns are
     /// ignored, as in sqlx. The first column that is refused refuses the tuple, and the error names its place.
     pub fn as_tuple<T: FromRow>(&self, alloc: Global) -> Result<T, ColumnError<usize>>
-        ensures read { Gives T.meaning (T.parse self.now) (or_codec result) }
+        ensures read { Gives T.view (T.parse self.now) (or_codec result) }
         ensures first { IfErr result (T.refused self.now) }
     {
         T::from_row(alloc, self)
@@ -389,12 +385,4 @@ impl PgOwnedRow {
             places,
         })
     }
-}
-
-/// What `T` reads of a value.
-#[inline(always)]
-fn decode_value<T: Decode>(alloc: Global, value: PgValueRef<'_>) -> Result<T, CodecError>
-    ensures { Gives T.meaning (parse_by T.reading T.refusal T.takes_memory value.entry) result }
-{
-    T::decode(alloc, value)
 }

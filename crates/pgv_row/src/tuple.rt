@@ -4,7 +4,6 @@ ghost use Rattle.std.specs.Prelude.{◌≡◌, ◌+◌, ℕ, IfOk, IfErr};
 ghost use Rattle.pgv_value.specs.Outcome.{Gives, Outcome};
 ghost use Rattle.pgv_row.specs.RowView.{Row};
 ghost use Rattle.pgv_row.specs.Tuples.{column_parse, columns_parse, or_codec, IsFirstRefused, IsRefused};
-ghost use Rattle.pgv_row.specs.Values.{parse_by};
 ghost use Rattle.pgv_row.specs.declared.error.ColumnError.{ColumnError as Error};
 
 use crate::error::ColumnError;
@@ -15,20 +14,20 @@ use std::alloc::Global;
 /// A value that is read from a row. Tuples are: of n fields the first n columns are read, and further ones are ignored.
 pub trait FromRow: Sized + Drop {
     /// What the fields say.
-    ghost Meaning: { Type 0 };
+    ghost View: { Type 0 };
 
     /// What the fields say.
-    ghost meaning: { Self → Meaning };
+    ghost view: { Self → View };
 
     /// What is read of a row.
-    ghost parse: { Row → Outcome Meaning };
+    ghost parse: { Row → Outcome View };
 
     /// The errors that a row may be refused with.
     ghost refused: { Row → Error ℕ → Type 0 };
 
     /// The value that a row is read as. The first column that is refused refuses it, and the error names its place.
     fn from_row(alloc: Global, row: &PgRow<'_>) -> Result<Self, ColumnError<usize>>
-        ensures read { Gives meaning (parse row.now) (or_codec result) }
+        ensures read { Gives view (parse row.now) (or_codec result) }
         ensures first { IfErr result (refused row.now) };
 }
 
@@ -36,20 +35,20 @@ pub trait FromRow: Sized + Drop {
 /// that what is proved of one column and of the rest holds for tuples of any length.
 pub trait ColumnList: Sized + Drop {
     /// What the values say.
-    ghost Meaning: { Type 0 };
+    ghost View: { Type 0 };
 
     /// What the values say.
-    ghost meaning: { Self → Meaning };
+    ghost view: { Self → View };
 
     /// What is read of the columns from a place on.
-    ghost parse: { Row → ℕ → Outcome Meaning };
+    ghost parse: { Row → ℕ → Outcome View };
 
     /// The errors that these columns may be refused with.
     ghost refused: { Row → ℕ → Error ℕ → Type 0 };
 
     /// The values of the columns from a place on.
     fn read(alloc: Global, row: &PgRow<'_>, place: usize) -> Result<Self, ColumnError<usize>>
-        ensures read { Gives meaning (parse row.now place) (or_codec result) }
+        ensures read { Gives view (parse row.now place) (or_codec result) }
         ensures first { IfErr result (refused row.now place) };
 }
 
@@ -60,10 +59,8 @@ fn next_column<T: Type + Decode>(
     row: &PgRow<'_>,
     place: usize,
 ) -> Result<(T, usize), ColumnError<usize>>
-    ensures read { let parse = parse_by T.reading T.refusal T.takes_memory in
-        Gives (λ x. T.meaning x.0) (column_parse T.accepts parse row.now place) (or_codec result) }
-    ensures first { let parse = parse_by T.reading T.refusal T.takes_memory in
-        IfErr result (IsRefused (column_parse T.accepts parse) row.now place) }
+    ensures read { Gives (λ x. T.view x.0) (column_parse T.accepts T.parse row.now place) (or_codec result) }
+    ensures first { IfErr result (IsRefused (column_parse T.accepts T.parse) row.now place) }
     ensures next { IfOk result (λ x. x.1 ≡ place + 1) }
 {
     if place >= row.len() {
@@ -84,13 +81,13 @@ fn next_column<T: Type + Decode>(
 
 /// The last column.
 impl<A: Type + Decode> ColumnList for (A,) {
-    ghost Meaning = { A.Meaning };
+    ghost View = { A.View };
 
-    ghost meaning = { λ list. A.meaning list.0 };
+    ghost view = { λ list. A.view list.0 };
 
-    ghost parse = { column_parse A.accepts (parse_by A.reading A.refusal A.takes_memory) };
+    ghost parse = { column_parse A.accepts A.parse };
 
-    ghost refused = { IsRefused (column_parse A.accepts (parse_by A.reading A.refusal A.takes_memory)) };
+    ghost refused = { IsRefused (column_parse A.accepts A.parse) };
 
     fn read(alloc: Global, row: &PgRow<'_>, place: usize) -> Result<(A,), ColumnError<usize>> {
         match next_column(alloc, row, place) {
@@ -102,9 +99,9 @@ impl<A: Type + Decode> ColumnList for (A,) {
 
 /// A column and the rest.
 impl<A: Type + Decode, Rest: ColumnList> ColumnList for (A, Rest) {
-    ghost Meaning = { A.Meaning × Rest.Meaning };
+    ghost View = { A.View × Rest.View };
 
-    ghost meaning = { λ list. (A.meaning list.0, Rest.meaning list.1) };
+    ghost view = { λ list. (A.view list.0, Rest.view list.1) };
 
     ghost parse = { columns_parse ⟦<(A,) as ColumnList>⟧.parse Rest.parse };
 
@@ -124,9 +121,9 @@ impl<A: Type + Decode, Rest: ColumnList> ColumnList for (A, Rest) {
 
 /// The first column.
 impl<A: Type + Decode> FromRow for (A,) {
-    ghost Meaning = { A.Meaning };
+    ghost View = { A.View };
 
-    ghost meaning = { λ v. A.meaning v.0 };
+    ghost view = { λ v. A.view v.0 };
 
     ghost parse = { λ row. ⟦<(A,) as ColumnList>⟧.parse row 0 };
 
@@ -142,9 +139,9 @@ impl<A: Type + Decode> FromRow for (A,) {
 
 /// The first two columns.
 impl<A: Type + Decode, B: Type + Decode> FromRow for (A, B) {
-    ghost Meaning = { A.Meaning × B.Meaning };
+    ghost View = { A.View × B.View };
 
-    ghost meaning = { λ v. (A.meaning v.0, B.meaning v.1) };
+    ghost view = { λ v. (A.view v.0, B.view v.1) };
 
     ghost parse = { λ row. ⟦<(A, (B,)) as ColumnList>⟧.parse row 0 };
 
@@ -160,9 +157,9 @@ impl<A: Type + Decode, B: Type + Decode> FromRow for (A, B) {
 
 /// The first three columns.
 impl<A: Type + Decode, B: Type + Decode, C: Type + Decode> FromRow for (A, B, C) {
-    ghost Meaning = { A.Meaning × (B.Meaning × C.Meaning) };
+    ghost View = { A.View × (B.View × C.View) };
 
-    ghost meaning = { λ v. (A.meaning v.0, (B.meaning v.1, C.meaning v.2)) };
+    ghost view = { λ v. (A.view v.0, (B.view v.1, C.view v.2)) };
 
     ghost parse = { λ row. ⟦<(A, (B, (C,))) as ColumnList>⟧.parse row 0 };
 
@@ -179,9 +176,9 @@ impl<A: Type + Decode, B: Type + Decode, C: Type + Decode> FromRow for (A, B, C)
 /// The first four columns.
 impl<A: Type + Decode, B: Type + Decode, C: Type + Decode, D: Type + Decode> FromRow
     for (A, B, C, D) {
-    ghost Meaning = { A.Meaning × (B.Meaning × (C.Meaning × D.Meaning)) };
+    ghost View = { A.View × (B.View × (C.View × D.View)) };
 
-    ghost meaning = { λ v. (A.meaning v.0, (B.meaning v.1, (C.meaning v.2, D.meaning v.3))) };
+    ghost view = { λ v. (A.view v.0, (B.view v.1, (C.view v.2, D.view v.3))) };
 
     ghost parse = { λ row. ⟦<(A, (B, (C, (D,)))) as ColumnList>⟧.parse row 0 };
 
@@ -203,9 +200,9 @@ impl<
     D: Type + Decode,
     E: Type + Decode,
 > FromRow for (A, B, C, D, E) {
-    ghost Meaning = { A.Meaning × (B.Meaning × (C.Meaning × (D.Meaning × E.Meaning))) };
+    ghost View = { A.View × (B.View × (C.View × (D.View × E.View))) };
 
-    ghost meaning = { λ v. (A.meaning v.0, (B.meaning v.1, (C.meaning v.2, (D.meaning v.3, E.meaning v.4)))) };
+    ghost view = { λ v. (A.view v.0, (B.view v.1, (C.view v.2, (D.view v.3, E.view v.4)))) };
 
     ghost parse = { λ row. ⟦<(A, (B, (C, (D, (E,))))) as ColumnList>⟧.parse row 0 };
 
@@ -228,9 +225,9 @@ impl<
     E: Type + Decode,
     F: Type + Decode,
 > FromRow for (A, B, C, D, E, F) {
-    ghost Meaning = { A.Meaning × (B.Meaning × (C.Meaning × (D.Meaning × (E.Meaning × F.Meaning)))) };
+    ghost View = { A.View × (B.View × (C.View × (D.View × (E.View × F.View)))) };
 
-    ghost meaning = { λ v. (A.meaning v.0, (B.meaning v.1, (C.meaning v.2, (D.meaning v.3, (E.meaning v.4, F.meaning v.5))))) };
+    ghost view = { λ v. (A.view v.0, (B.view v.1, (C.view v.2, (D.view v.3, (E.view v.4, F.view v.5))))) };
 
     ghost parse = { λ row. ⟦<(A, (B, (C, (D, (E, (F,)))))) as ColumnList>⟧.parse row 0 };
 
@@ -254,9 +251,9 @@ impl<
     F: Type + Decode,
     G: Type + Decode,
 > FromRow for (A, B, C, D, E, F, G) {
-    ghost Meaning = { A.Meaning × (B.Meaning × (C.Meaning × (D.Meaning × (E.Meaning × (F.Meaning × G.Meaning))))) };
+    ghost View = { A.View × (B.View × (C.View × (D.View × (E.View × (F.View × G.View))))) };
 
-    ghost meaning = { λ v. (A.meaning v.0, (B.meaning v.1, (C.meaning v.2, (D.meaning v.3, (E.meaning v.4, (F.meaning v.5, G.meaning v.6)))))) };
+    ghost view = { λ v. (A.view v.0, (B.view v.1, (C.view v.2, (D.view v.3, (E.view v.4, (F.view v.5, G.view v.6)))))) };
 
     ghost parse = { λ row. ⟦<(A, (B, (C, (D, (E, (F, (G,))))))) as ColumnList>⟧.parse row 0 };
 
@@ -281,9 +278,9 @@ impl<
     G: Type + Decode,
     H: Type + Decode,
 > FromRow for (A, B, C, D, E, F, G, H) {
-    ghost Meaning = { A.Meaning × (B.Meaning × (C.Meaning × (D.Meaning × (E.Meaning × (F.Meaning × (G.Meaning × H.Meaning)))))) };
+    ghost View = { A.View × (B.View × (C.View × (D.View × (E.View × (F.View × (G.View × H.View)))))) };
 
-    ghost meaning = { λ v. (A.meaning v.0, (B.meaning v.1, (C.meaning v.2, (D.meaning v.3, (E.meaning v.4, (F.meaning v.5, (G.meaning v.6, H.meaning v.7))))))) };
+    ghost view = { λ v. (A.view v.0, (B.view v.1, (C.view v.2, (D.view v.3, (E.view v.4, (F.view v.5, (G.view v.6, H.view v.7))))))) };
 
     ghost parse = { λ row. ⟦<(A, (B, (C, (D, (E, (F, (G, (H,)))))))) as ColumnList>⟧.parse row 0 };
 
@@ -309,9 +306,9 @@ impl<
     H: Type + Decode,
     I: Type + Decode,
 > FromRow for (A, B, C, D, E, F, G, H, I) {
-    ghost Meaning = { A.Meaning × (B.Meaning × (C.Meaning × (D.Meaning × (E.Meaning × (F.Meaning × (G.Meaning × (H.Meaning × I.Meaning))))))) };
+    ghost View = { A.View × (B.View × (C.View × (D.View × (E.View × (F.View × (G.View × (H.View × I.View))))))) };
 
-    ghost meaning = { λ v. (A.meaning v.0, (B.meaning v.1, (C.meaning v.2, (D.meaning v.3, (E.meaning v.4, (F.meaning v.5, (G.meaning v.6, (H.meaning v.7, I.meaning v.8)))))))) };
+    ghost view = { λ v. (A.view v.0, (B.view v.1, (C.view v.2, (D.view v.3, (E.view v.4, (F.view v.5, (G.view v.6, (H.view v.7, I.view v.8)))))))) };
 
     ghost parse = { λ row. ⟦<(A, (B, (C, (D, (E, (F, (G, (H, (I,))))))))) as ColumnList>⟧.parse row 0 };
 

@@ -17,7 +17,7 @@ use Rattle.pgv_buf.specs.Tokens.{bytes, be4, blank, shown, hole_count, hole_type
 use Rattle.pgv_value.specs.Codes.{code_of}
 use Rattle.pgv_value.specs.ValueView.{Given}
 use Rattle.pgv_value.specs.declared.error.CodecError.{CodecError}
-use Rattle.pgv_nest.specs.NestRefusals.{refusal_or}
+use Rattle.pgv_value.specs.Reading.{refusal_or}
 use Rattle.pgv_value.specs.Parsed.{Parsed}
 use Rattle.pgv_copy.specs.CopyBinary.{Step, header, before, step}
 use Rattle.pgv_copy.specs.CopyView.{Copying}

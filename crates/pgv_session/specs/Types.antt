@@ -16,14 +16,13 @@ use Rattle.pgv_value.specs.declared.error.CodecError.{CodecError}
 use Rattle.pgv_value.specs.declared.error.CodecError.TheVariants.{OffsetRange}
 use Rattle.pgv_value.specs.declared.value.PgValueFormat.{PgValueFormat}
 use Rattle.pgv_wire.specs.Arguments.{Framed}
-use Rattle.pgv_nest.specs.ArrayGrammar.{array}
-use Rattle.pgv_nest.specs.NestRefusals.{Refusal, array_refusal}
+use Rattle.pgv_nest.specs.ArrayGrammar.{parse_array}
 use Rattle.pgv_codec.specs.Image.{frame}
 use Rattle.pgv_codec.specs.DateTimeBinary.{date_image, time_image, moment_image}
 use Rattle.pgv_codec.specs.Intervals.{interval_image}
 use Rattle.pgv_codec.specs.NetworkBinary.{network_image, network_hint}
 use Rattle.pgv_codec.specs.Nullable.{nullable}
-use Rattle.pgv_codec.specs.Refusing.{frame_refused, nullable_refusal, option_unwritable}
+use Rattle.pgv_codec.specs.Refusing.{frame_refused, option_unwritable}
 use Rattle.pgv_codec.specs.Saying.{Saying, plainly, option_written, array_written}
 use Rattle.pgv_codec.specs.ScalarBinary.{bool_image, signed_image, unsigned_image, text_image, uuid_image}
 use Rattle.pgv_codec.specs.WithHint.{with_hint}
@@ -65,64 +64,57 @@ pub record Row : Type 0 where
   pub value : PgValueFormat → Option (List ℕ) → Option Framed
   pub refusal : PgValueFormat → Option (List ℕ) → Option CodecError
 
--- values that are read and written so, and refused with these where they are not read and where they have no image
-abbrev pub row : {M : Type 0} → Ty → Reading M → (Ty → M → Saying) → Refusal → (M → Option CodecError) → Row
-row info reading written unread unwritten = record {
+-- values that are read and written so, and refused with these where they have no image
+abbrev pub row : {M : Type 0} → Ty → (Given → Outcome M) → (Ty → M → Saying) → (M → Option CodecError) → Row
+row info parse written unwritten = record {
   info = info;
-  value = λ f part. framed_by info written (reading info f part);
-  refusal = λ f part. refused_by info written unwritten (unread info f part) (reading info f part);
+  value = λ f part. framed_by info written (reading_of parse info f part);
+  refusal = λ f part. refused_by info written unwritten (error_of parse info f part) (reading_of parse info f part);
 }
 
 -- nothing is stated: no value that is read under these TYPEs is known to have no image
 abbrev pub unstated : {M : Type 0} → M → Option CodecError
 unstated m = None
 
--- values of a plain type
-abbrev pub plain_row : {M : Type 0} → Ty → (Given → Outcome M) → (Ty → M → Saying) → (M → Option CodecError) → Row
-plain_row info parse written unwritten = row info (reading_of parse) written (error_of parse) unwritten
-
 -- lists of such values, which may be null, of elements of this type
 abbrev pub list_row : {M : Type 0} → Ty → Ty → (Given → Outcome M) → (Ty → M → Saying) → (M → Option CodecError) → Row
 list_row info element parse written unwritten =
-    row info (array element (nullable (reading_of parse))) (array_written element (option_written written))
-    (array_refusal element (nullable (reading_of parse)) (nullable_refusal (error_of parse)))
+    row info (parse_array element (nullable parse)) (array_written element (option_written written))
     (array_unwritten element (option_written written) (option_unwritable unwritten))
 
 -- ranges of such values
 abbrev pub range_row : {M : Type 0} → Ty → Ty → (Given → Outcome M) → (Ty → M → Saying) → (M → Option CodecError) → Row
-range_row info element parse written unwritten =
-    row info (range element (reading_of parse)) (range_written element written) (range_refusal element (reading_of parse) (error_of parse))
-    (range_unwritten element written unwritten)
+range_row info element parse written unwritten = row info (parse_range element parse) (range_written element written) (range_unwritten element written unwritten)
 
 abbrev pub types : List (List ℕ × Row)
 types =
-    (codes "bool", plain_row (builtin 16) (without_memory parse_bool) (plainly bool_image) unstated) ∷
-    (codes "char", plain_row (builtin 18) (without_memory parse_char) (plainly (signed_image w8)) unstated) ∷
-    (codes "int2", plain_row (builtin 21) (without_memory (parse_int w16)) (plainly (signed_image w16)) unstated) ∷
-    (codes "int4", plain_row (builtin 23) (without_memory (parse_int w32)) (plainly (signed_image w32)) unstated) ∷
-    (codes "int8", plain_row (builtin 20) (without_memory (parse_int w64)) (plainly (signed_image w64)) unstated) ∷
-    (codes "oid", plain_row (builtin 26) (without_memory parse_oid) (plainly (unsigned_image w32)) unstated) ∷
-    (codes "text", plain_row (builtin 25) parse_text (plainly text_image) unstated) ∷
-    (codes "uuid", plain_row (builtin 2950) (without_memory parse_uuid) (plainly uuid_image) unstated) ∷
-    (codes "date", plain_row (builtin 1082) (without_memory parse_date) (with_hint (λ _. 4) date_image) unstated) ∷
-    (codes "time", plain_row (builtin 1083) (without_memory parse_time) (with_hint (λ _. 8) time_image) unstated) ∷
-    (codes "timestamp", plain_row (builtin 1114) (without_memory parse_date_time) (with_hint (λ _. 8) moment_image) unstated) ∷
-    (codes "timestamptz", plain_row (builtin 1184) (without_memory parse_instant) (with_hint (λ _. 8) moment_image) unstated) ∷
-    (codes "timetz", plain_row (builtin 1266) (without_memory parse_time_tz) (with_hint (λ _. 12) time_tz_image) (λ zoned. Some (OffsetRange zoned.1))) ∷
-    (codes "interval", plain_row (builtin 1186) (without_memory parse_interval) (with_hint (λ _. 16) interval_image) unstated) ∷
-    (codes "varbit", plain_row (builtin 1562) parse_bits (with_hint bits_hint bits_image) bits_refused) ∷
-    (codes "inet", plain_row (builtin 869) (without_memory parse_network) (with_hint network_hint network_image) unstated) ∷
-    (codes "macaddr", plain_row (builtin 829) (without_memory parse_mac) (with_hint (λ _. 6) mac_image) unstated) ∷
-    (codes "bytea", plain_row (builtin 17) parse_bytea (plainly text_image) unstated) ∷
-    (codes "citext", plain_row (named (codes "citext")) parse_text (plainly text_image) unstated) ∷
-    (codes "money", plain_row (builtin 790) (without_memory parse_money) (plainly (signed_image w64)) unstated) ∷
-    (codes "numeric", plain_row (builtin 1700) parse_numeric (plainly numeric_image) numeric_refused) ∷
-    (codes "hstore", plain_row (named (codes "hstore")) parse_hstore (plainly hstore_image) hstore_refused) ∷
+    (codes "bool", row (builtin 16) (without_memory parse_bool) (plainly bool_image) unstated) ∷
+    (codes "char", row (builtin 18) (without_memory parse_char) (plainly (signed_image w8)) unstated) ∷
+    (codes "int2", row (builtin 21) (without_memory (parse_int w16)) (plainly (signed_image w16)) unstated) ∷
+    (codes "int4", row (builtin 23) (without_memory (parse_int w32)) (plainly (signed_image w32)) unstated) ∷
+    (codes "int8", row (builtin 20) (without_memory (parse_int w64)) (plainly (signed_image w64)) unstated) ∷
+    (codes "oid", row (builtin 26) (without_memory parse_oid) (plainly (unsigned_image w32)) unstated) ∷
+    (codes "text", row (builtin 25) parse_text (plainly text_image) unstated) ∷
+    (codes "uuid", row (builtin 2950) (without_memory parse_uuid) (plainly uuid_image) unstated) ∷
+    (codes "date", row (builtin 1082) (without_memory parse_date) (with_hint (λ _. 4) date_image) unstated) ∷
+    (codes "time", row (builtin 1083) (without_memory parse_time) (with_hint (λ _. 8) time_image) unstated) ∷
+    (codes "timestamp", row (builtin 1114) (without_memory parse_date_time) (with_hint (λ _. 8) moment_image) unstated) ∷
+    (codes "timestamptz", row (builtin 1184) (without_memory parse_instant) (with_hint (λ _. 8) moment_image) unstated) ∷
+    (codes "timetz", row (builtin 1266) (without_memory parse_time_tz) (with_hint (λ _. 12) time_tz_image) (λ zoned. Some (OffsetRange zoned.1))) ∷
+    (codes "interval", row (builtin 1186) (without_memory parse_interval) (with_hint (λ _. 16) interval_image) unstated) ∷
+    (codes "varbit", row (builtin 1562) parse_bits (with_hint bits_hint bits_image) bits_refused) ∷
+    (codes "inet", row (builtin 869) (without_memory parse_network) (with_hint network_hint network_image) unstated) ∷
+    (codes "macaddr", row (builtin 829) (without_memory parse_mac) (with_hint (λ _. 6) mac_image) unstated) ∷
+    (codes "bytea", row (builtin 17) parse_bytea (plainly text_image) unstated) ∷
+    (codes "citext", row (named (codes "citext")) parse_text (plainly text_image) unstated) ∷
+    (codes "money", row (builtin 790) (without_memory parse_money) (plainly (signed_image w64)) unstated) ∷
+    (codes "numeric", row (builtin 1700) parse_numeric (plainly numeric_image) numeric_refused) ∷
+    (codes "hstore", row (named (codes "hstore")) parse_hstore (plainly hstore_image) hstore_refused) ∷
     (codes "int4range", range_row (builtin 3904) (builtin 23) (without_memory (parse_int w32)) (plainly (signed_image w32)) unstated) ∷
     (codes "int8range", range_row (builtin 3926) (builtin 20) (without_memory (parse_int w64)) (plainly (signed_image w64)) unstated) ∷
     (codes "daterange", range_row (builtin 3912) (builtin 1082) (without_memory parse_date) (with_hint (λ _. 4) date_image) unstated) ∷
-    (codes "ltree", plain_row ltree parse_tree (plainly tree_image) unstated) ∷
-    (codes "lquery", plain_row lquery parse_query (plainly query_image) unstated) ∷
+    (codes "ltree", row ltree parse_tree (plainly tree_image) unstated) ∷
+    (codes "lquery", row lquery parse_query (plainly query_image) unstated) ∷
     (codes "int4[]", list_row (builtin 1007) (builtin 23) (without_memory (parse_int w32)) (plainly (signed_image w32)) unstated) ∷
     (codes "text[]", list_row (builtin 1009) (builtin 25) parse_text (plainly text_image) unstated) ∷
     (codes "date[]", list_row (builtin 1182) (builtin 1082) (without_memory parse_date) (with_hint (λ _. 4) date_image) unstated) ∷

@@ -147,13 +147,13 @@ fn respond_as<T: Codec>(
     arguments: &mut PgArguments,
     ask: Ask,
 ) -> Result<Told, AllocError>
-    requires { T.reading T.info InBinary None ≡ None }
-    ensures answer { (unwritten : T.Meaning → Option CodecError) →
-        Explains T.unwritable T.meaning unwritten → IfOk result (λ told.
-        RespondsBy (Some (row T.info T.reading T.written T.refusal unwritten)) (ask_seen ask.entry)
+    requires { reading_of T.parse T.info InBinary None ≡ None }
+    ensures answer { (unwritten : T.View → Option CodecError) →
+        Explains T.unwritable T.view unwritten → IfOk result (λ told.
+        RespondsBy (Some (row T.info T.parse T.written unwritten)) (ask_seen ask.entry)
         arguments.old (told_text told) arguments.new) }
     ensures exact { IfOk result (λ told.
-        TellsOf (Some (row T.info T.reading T.written T.refusal unstated)) (ask_seen ask.entry) told) }
+        TellsOf (Some (row T.info T.parse T.written unstated)) (ask_seen ask.entry) told) }
 {
     match ask {
         Ask::Add(text) => Ok(Told::Said(add::<T>(alloc, arguments, text)?)),
@@ -172,9 +172,9 @@ fn add<T: Codec>(
     arguments: &mut PgArguments,
     text: &[u8],
 ) -> Result<String, AllocError>
-    ensures { (unwritten : T.Meaning → Option CodecError) →
-        Explains T.unwritable T.meaning unwritten → IfOk result (λ answer.
-        AddsText (row T.info T.reading T.written T.refusal unwritten) text.now
+    ensures { (unwritten : T.View → Option CodecError) →
+        Explains T.unwritable T.view unwritten → IfOk result (λ answer.
+        AddsText (row T.info T.parse T.written unwritten) text.now
         arguments.old (string_bytes answer) arguments.new) }
 {
     match T::decode(
@@ -216,13 +216,13 @@ fn placeholder(alloc: Global, arguments: &PgArguments) -> Result<String, AllocEr
 
 /// The frame that the value of null or bytes writes, in hex.
 fn read<T: Codec>(alloc: Global, part: Option<&[u8]>) -> Result<Told, AllocError>
-    requires { T.reading T.info InBinary None ≡ None }
-    ensures answer { (unwritten : T.Meaning → Option CodecError) →
-        Explains T.unwritable T.meaning unwritten → IfOk result (λ told.
-        ReadsPart (row T.info T.reading T.written T.refusal unwritten) (option_copied part.entry)
+    requires { reading_of T.parse T.info InBinary None ≡ None }
+    ensures answer { (unwritten : T.View → Option CodecError) →
+        Explains T.unwritable T.view unwritten → IfOk result (λ told.
+        ReadsPart (row T.info T.parse T.written unwritten) (option_copied part.entry)
         (told_text told)) }
     ensures exact { IfOk result (λ told.
-        TellsOf (Some (row T.info T.reading T.written T.refusal unstated))
+        TellsOf (Some (row T.info T.parse T.written unstated))
         (to_read (option_copied part.entry)) told) }
 {
     match T::decode(

@@ -31,7 +31,7 @@ use pgv_codec::{Encode, ReadBack, Type};
 /// [`PgArgumentBuffer::as_slice`](crate::PgArgumentBuffer::as_slice) says; and that OIDs are numbers of 32 bits, what
 /// [`oids_fit`] says.
 pub fn main_sentence<T: ReadBack>()
-    ensures { MainSentence T.hint T.image T.reading (λ v. T.meaning (T.kept v)) T.fits }
+    ensures { MainSentence T.hint T.image (reading_of T.parse) (λ v. T.view (T.kept v)) T.fits }
 {}
 
 /// Each call that meets its contract is a step in the lists of calls of [`main_sentence`].
@@ -145,5 +145,5 @@ pub fn parts_after()
 /// running buffer; that each addition is the frame of an image, what [`PgArguments::buffer`] says; and that OIDs are
 /// numbers of 32 bits, what [`oids_fit`] says.
 pub fn argument_reads_back<T: ReadBack>()
-    ensures { ArgumentReadsBack T.hint T.image T.reading (λ v. T.meaning (T.kept v)) T.fits }
+    ensures { ArgumentReadsBack T.hint T.image (reading_of T.parse) (λ v. T.view (T.kept v)) T.fits }
 {}

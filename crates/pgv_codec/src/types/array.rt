@@ -1,16 +1,16 @@
 //! Arrays of one dimension (PostgreSQL, "Arrays").
 
-ghost use Rattle.std.specs.Prelude.{◌≡◌, IfOk, IfErr, OnOk, OnErr, ◌*◌, ◌≤◌, false, true, length, map, Some, None, [], IfSome, is_some, IsErrOf, List};
+ghost use Rattle.std.specs.Prelude.{◌≡◌, IfOk, IfErr, OnOk, OnErr, ◌*◌, ◌≤◌, false, true, length, map, Ok, Some, [], IfSome, is_some, List, refl};
 ghost use Rattle.std.specs.Vec.{with_items};
 ghost use Rattle.pgv_text.specs.Values.{array_values};
-ghost use Rattle.pgv_value.specs.Reading.{Answers, AnswersExactly, has_items};
-ghost use Rattle.pgv_value.specs.declared.error.CodecError.TheVariants.{Memory, UnexpectedNull};
-ghost use Rattle.pgv_value.specs.declared.value.PgValueFormat.TheVariants.{Binary, Text};
-ghost use Rattle.pgv_nest.specs.ArrayGrammar.{array, array_in_text, array_of, frames, head, array_of_length};
-ghost use Rattle.pgv_nest.specs.NestRefusals.{array_bytes_refusal, array_refusal, array_takes, array_text_refusal, frames_refusal as frames_read_refusal, has_room, head_takes, is_copied, where_dimension, array_of_length_refusal};
+ghost use Rattle.pgv_value.specs.Outcome.{Gives, after};
+ghost use Rattle.pgv_value.specs.Reading.{has_items};
+ghost use Rattle.pgv_value.specs.declared.error.CodecError.TheVariants.{Memory};
+ghost use Rattle.pgv_value.specs.declared.value.PgValueFormat.TheVariants.{Binary};
+ghost use Rattle.pgv_nest.specs.ArrayGrammar.{array_in_binary, array_in_text, elements, frames, parse_array, parse_sized};
 ghost use Rattle.pgv_codec.specs.Image.{array_image, or_else, header, written_frames, written_element_type, sized_image};
 ghost use Rattle.pgv_codec.specs.Outcome.{Encoded, Refused, Appended, AppendedAll};
-ghost use Rattle.pgv_codec.specs.Refusing.{RefusedExactly, RefusedFor, array_asks_first, array_refused, first_type_copied, frames_refused};
+ghost use Rattle.pgv_codec.specs.Refusing.{RefusedExactly, RefusedFor, array_asks_first, array_refused, first_type_copied, frames_refused, is_copied};
 ghost use Rattle.pgv_codec.specs.Saying.{array_written, sized_written, array_agrees, sized_agrees};
 ghost use Rattle.pgv_codec.specs.Back.{ArrayFits};
 ghost use Rattle.pgv_codec.specs.BackNests.{vec_back, sized_back};
@@ -189,24 +189,18 @@ impl<T: Encode + Type, const N: usize> Encode for [T; N] {
 /// with [`ElementType`](CodecError::ElementType) (C21), and what an element is refused with.
 /// `00000001 00000000 00000017 00000001 00000001 00000004 00000007` and `{7}` are a list of one 7.
 impl<T: Decode + Type> Decode for Vec<T> {
-    ghost Meaning = { List T.Meaning };
+    ghost View = { List T.View };
 
-    ghost meaning = { λ v. map T.meaning v.items };
+    ghost view = { λ v. map T.view v.items };
 
-    ghost reading = { array T.info T.reading };
+    ghost parse = { parse_array T.info T.parse };
 
     ghost written = { array_written T.info T.written };
 
-    ghost takes_memory = { array_takes };
-
-    ghost refusal = { array_refusal T.info T.reading T.refusal };
+    ghost null = { λ _ _. (refl, refl) };
 
     fn decode(alloc: Global, value: PgValueRef<'_>) -> Result<Vec<T>, CodecError>
-        ensures exact { Answers (λ v. map T.meaning v.items) (array T.info T.reading value.entry.type_info value.entry.format value.entry.bytes) result }
-        ensures exactly { array_takes value.entry.type_info value.entry.format value.entry.bytes ≡ false → AnswersExactly (λ v. map T.meaning v.items) (array T.info T.reading value.entry.type_info value.entry.format value.entry.bytes) result }
-        ensures refused { RefusedFor (array_refusal T.info T.reading T.refusal value.entry.type_info value.entry.format value.entry.bytes) result }
-        ensures refused_exactly { array_takes value.entry.type_info value.entry.format value.entry.bytes ≡ false → RefusedExactly (array_refusal T.info T.reading T.refusal value.entry.type_info value.entry.format value.entry.bytes) result }
-        ensures null { value.entry.bytes ≡ None → IsErrOf result UnexpectedNull }
+        ensures exact { Gives (λ v. map T.view v.items) (parse_array T.info T.parse value.entry) result }
         // In binary each element takes four bytes or more.
         ensures few { value.entry.format ≡ Binary → IfOk result (λ v. IfSome value.entry.bytes (λ bytes. 4 * length v.items ≤ length bytes)) }
     {
@@ -220,17 +214,15 @@ impl<T: Decode + Type> Decode for Vec<T> {
 /// An array of `N` elements, read as a list; another number of elements is refused with
 /// [`ElementCount`](CodecError::ElementCount) (C22).
 impl<T: Decode + Type, const N: usize> Decode for [T; N] {
-    ghost Meaning = { List T.Meaning };
+    ghost View = { List T.View };
 
-    ghost meaning = { map T.meaning };
+    ghost view = { map T.view };
 
-    ghost reading = { array_of_length N T.info T.reading };
+    ghost parse = { parse_sized N T.info T.parse };
 
     ghost written = { sized_written N T.info T.written };
 
-    ghost takes_memory = { array_takes };
-
-    ghost refusal = { array_of_length_refusal T.info T.reading T.refusal };
+    ghost null = { λ _ _. (refl, refl) };
 
     fn decode(alloc: Global, value: PgValueRef<'_>) -> Result<[T; N], CodecError> {
         let items = Vec::<T>::decode(alloc, value)?;
@@ -243,24 +235,21 @@ impl<T: Decode + Type, const N: usize> Decode for [T; N] {
 }
 
 impl<T: Codec + PgHasArrayType> Codec for Vec<T> {
-    ghost agrees = { λ v. array_agrees T.hint T.image T.produced T.info T.meaning T.written T.agrees T.array_info v.items };
+    ghost agrees = { λ v. array_agrees T.hint T.image T.produced T.info T.view T.written T.agrees T.array_info v.items };
 }
 
 impl<T: Codec + PgHasArrayType, const N: usize> Codec for [T; N] {
-    ghost agrees = { λ v. sized_agrees T.hint T.image T.produced T.info T.meaning T.written T.agrees N T.array_info v };
+    ghost agrees = { λ v. sized_agrees T.hint T.image T.produced T.info T.view T.written T.agrees N T.array_info v };
 }
 
 /// An array in binary.
-#[tactic(auto, using(crate::proofs::Taking::head_free))]
+#[tactic(auto, unfolding(pgv_nest::specs::ArrayGrammar::array_in_binary))]
 fn read_array<T: Decode>(
     alloc: Global,
     type_info: &PgTypeInfo,
     bytes: &[u8],
 ) -> Result<Vec<T>, CodecError>
-    ensures exact { Answers (λ v. map T.meaning v.items) (array_of (λ u. T.reading u Binary) type_info.now bytes.now) result }
-    ensures exactly { where_dimension head_takes (head type_info.now bytes.now) ≡ false → AnswersExactly (λ v. map T.meaning v.items) (array_of (λ u. T.reading u Binary) type_info.now bytes.now) result }
-    ensures refused { RefusedFor (array_bytes_refusal (λ u. T.reading u Binary) (λ u. T.refusal u Binary) type_info.now bytes.now) result }
-    ensures refused_exactly { where_dimension head_takes (head type_info.now bytes.now) ≡ false → RefusedExactly (array_bytes_refusal (λ u. T.reading u Binary) (λ u. T.refusal u Binary) type_info.now bytes.now) result }
+    ensures exact { Gives (λ v. map T.view v.items) (array_in_binary T.parse type_info.now bytes.now) result }
     ensures few { IfOk result (λ v. 4 * length v.items ≤ length bytes.now) }
 {
     match array_head_of(type_info, bytes)? {
@@ -270,17 +259,14 @@ fn read_array<T: Decode>(
 }
 
 /// As many frames as the head says. Without one, or without the length of one, no memory is asked for.
-#[tactic(auto, unfolding(pgv_nest::specs::ArrayGrammar::frames, pgv_nest::specs::NestRefusals::frames_refusal, pgv_value::specs::FrameBinary::front))]
+#[tactic(auto, unfolding(pgv_nest::specs::ArrayGrammar::elements, pgv_nest::specs::ArrayGrammar::frames, pgv_value::specs::FrameBinary::front))]
 fn read_frames<T: Decode>(
     alloc: Global,
     element: &PgTypeInfo,
     count: u32,
     bytes: &[u8],
 ) -> Result<Vec<T>, CodecError>
-    ensures exact { Answers (λ v. map T.meaning v.items) (frames (T.reading element.now Binary) count bytes.now) result }
-    ensures exactly { has_room count bytes.now ≡ false → AnswersExactly (λ v. map T.meaning v.items) (frames (T.reading element.now Binary) count bytes.now) result }
-    ensures refused { RefusedFor (frames_read_refusal (T.reading element.now Binary) (T.refusal element.now Binary) count bytes.now) result }
-    ensures refused_exactly { has_room count bytes.now ≡ false → RefusedExactly (frames_read_refusal (T.reading element.now Binary) (T.refusal element.now Binary) count bytes.now) result }
+    ensures exact { Gives (λ v. map T.view v.items) (elements T.parse element.now count bytes.now) result }
     ensures few { IfOk result (λ v. 4 * length v.items ≤ length bytes.now) }
 {
     if count == 0 {
@@ -299,8 +285,7 @@ fn read_in_room<T: Decode>(
     count: u32,
     bytes: &[u8],
 ) -> Result<Vec<T>, CodecError>
-    ensures exact { Answers (λ v. map T.meaning v.items) (frames (T.reading element.now Binary) count bytes.now) result }
-    ensures refused { RefusedFor (frames_read_refusal (T.reading element.now Binary) (T.refusal element.now Binary) count bytes.now) result }
+    ensures exact { Gives (λ v. map T.view v.items) (after true (frames T.parse element.now count bytes.now)) result }
     ensures few { IfOk result (λ v. 4 * length v.items ≤ length bytes.now) }
 {
     let room = (count as usize).min(bytes.len() / 4);
@@ -315,12 +300,9 @@ fn read_in_room<T: Decode>(
 
 /// An array in text. An invalid text (C29) comes before the refusal of a part, or out of memory. A text without
 /// elements asks for no memory.
-#[tactic(auto, unfolding(pgv_nest::specs::ArrayGrammar::each))]
+#[tactic(auto, unfolding(pgv_nest::specs::ArrayGrammar::array_in_text, pgv_nest::specs::ArrayGrammar::each))]
 fn read_text<T: Decode + Type>(alloc: Global, text: &str) -> Result<Vec<T>, CodecError>
-    ensures exact { Answers (λ v. map T.meaning v.items) (array_in_text (T.reading T.info Text) text.now) result }
-    ensures exactly { has_items (array_values text.now) ≡ false → AnswersExactly (λ v. map T.meaning v.items) (array_in_text (T.reading T.info Text) text.now) result }
-    ensures refused { RefusedFor (array_text_refusal (T.reading T.info Text) (T.refusal T.info Text) text.now) result }
-    ensures refused_exactly { has_items (array_values text.now) ≡ false → RefusedExactly (array_text_refusal (T.reading T.info Text) (T.refusal T.info Text) text.now) result }
+    ensures { Gives (λ v. map T.view v.items) (array_in_text T.parse T.info text.now) result }
 {
     if is_empty_array(text) {
         return Ok(Vec::new(alloc));
@@ -353,9 +335,10 @@ fn is_array_text(text: &str) -> bool
 
 /// The elements of a text, each read under the own type of `T` as it comes: the text is not tested before. Room for the first four is
 /// asked for before any is read.
+#[tactic(auto, using(crate::proofs::PartLoop::alloc_in_text))]
 fn read_elements<T: Decode + Type>(alloc: Global, text: &str) -> Result<Vec<T>, CodecError>
-    ensures exact { Answers (λ v. map T.meaning v.items) (array_in_text (T.reading T.info Text) text.now) result }
-    ensures refused { is_some (array_values text.now) ≡ true → RefusedFor (array_text_refusal (T.reading T.info Text) (T.refusal T.info Text) text.now) result }
+    ensures read { IfOk result (λ v. (array_in_text T.parse T.info text.now).answer ≡ Ok (map T.view v.items)) }
+    ensures given { has_items (array_values text.now) ≡ true → Gives (λ v. map T.view v.items) (array_in_text T.parse T.info text.now) result }
 {
     let Some(mut elements) = Elements::of_text(text) else {
         return Err(CodecError::Syntax);
@@ -381,7 +364,7 @@ impl<T: ReadBack + Type> ReadBack for Vec<T> {
 
     ghost fits = { λ v t os. ArrayFits T.info T.produced T.image T.fits v.items t os };
 
-    ghost reads_back = { vec_back T.info T.produced T.hint T.image T.reading T.meaning T.kept T.fits T.reads_back };
+    ghost reads_back = { vec_back T.info T.produced T.hint T.image T.parse T.view T.kept T.fits T.reads_back };
 }
 
 /// An array is read back as the list of its elements is.
@@ -390,5 +373,5 @@ impl<T: ReadBack + Type, const N: usize> ReadBack for [T; N] {
 
     ghost fits = { ArrayFits T.info T.produced T.image T.fits };
 
-    ghost reads_back = { sized_back T.info T.produced T.hint T.image T.reading T.meaning T.kept T.fits T.reads_back N };
+    ghost reads_back = { sized_back T.info T.produced T.hint T.image T.parse T.view T.kept T.fits T.reads_back N };
 }

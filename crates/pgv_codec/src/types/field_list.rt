@@ -1,23 +1,18 @@
 //! The fields of a record, read one after another into a list of values of any types.
 
-ghost use Rattle.std.specs.Prelude.{◌≡◌, ℕ, Bool, List, ◌∷◌, Option, IfOk, IfErr, OnErr, None, IsErrOf, false};
-ghost use Rattle.pgv_value.specs.Reading.{Answers, AnswersExactly, Refuses};
-ghost use Rattle.pgv_value.specs.declared.error.CodecError.{CodecError as Error};
-ghost use Rattle.pgv_value.specs.declared.error.CodecError.TheVariants.{UnexpectedNull};
+ghost use Rattle.std.specs.Prelude.{ℕ, List, ◌∷◌, Option};
+ghost use Rattle.pgv_value.specs.Outcome.{Gives, Outcome};
 ghost use Rattle.pgv_nest.proofs.RecordGrammars.{one_found, further_found};
 ghost use Rattle.pgv_nest.proofs.TextGrammars.{one_text, further_text};
 ghost use Rattle.pgv_nest.specs.NestBinary.{FindExactly, Stretch, IsField, ◌and◌};
 ghost use Rattle.pgv_nest.specs.NestText.{FindInText, TextStretch, IsTextField, ◌before◌};
-ghost use Rattle.pgv_nest.specs.RecordGrammar.{Left, next};
-ghost use Rattle.pgv_nest.specs.TupleGrammar.{record_of, ◌then◌};
-ghost use Rattle.pgv_nest.specs.NestRefusals.{field_then, next_refusal, next_takes, record_refusal, record_takes, takes_then};
+ghost use Rattle.pgv_nest.specs.RecordGrammar.{Left, next_field, parse_record, ◌then◌};
 ghost use Rattle.pgv_buf.specs.Tokens.{Token};
 ghost use Rattle.pgv_types.specs.Ty.{Ty};
 ghost use Rattle.pgv_types.specs.declared.oid.Oid.{Oid};
 ghost use Rattle.pgv_codec.specs.Back.{FieldFits, FieldsFit, FieldsBack};
 ghost use Rattle.pgv_codec.specs.BackRecords.{last_back, further_back};
 ghost use Rattle.pgv_codec.specs.Image.{field};
-ghost use Rattle.pgv_codec.specs.Refusing.{RefusedExactly, RefusedFor};
 
 use super::record::PgRecordDecoder;
 use crate::traits::{Decode, ReadBack, Type};
@@ -28,33 +23,23 @@ use std::alloc::Global;
 /// a list, so that what is proved of one field and of the rest holds for tuples of any length.
 pub trait FieldList: Sized + Drop {
     /// What the values say.
-    ghost Meaning: { Type 0 };
+    ghost View: { Type 0 };
 
     /// What the values say.
-    ghost meaning: { Self → Meaning };
+    ghost view: { Self → View };
 
-    /// The fields that are read, and what is left after them.
-    ghost step: { Left → Option (Meaning × Left) };
+    /// The fields that are read, and what is left after them, or why one isn't.
+    ghost step: { Left → Outcome (View × Left) };
 
     /// What the bytes of such fields are.
-    ghost in_binary: { Stretch Meaning };
+    ghost in_binary: { Stretch View };
 
     /// What the parts of a text are that are such fields.
-    ghost in_text: { TextStretch Meaning };
-
-    /// The refusal of what can't be read, unless memory runs out; `None` if a field doesn't state it.
-    ghost why: { Left → Option Error };
-
-    /// Whether memory may be asked for.
-    ghost takes: { Left → Bool };
+    ghost in_text: { TextStretch View };
 
     /// Reads the next fields. What a refusal leaves of the decoder is left open.
     fn read(fields: &mut PgRecordDecoder<'_>) -> Result<Self, CodecError>
-        ensures ok { IfOk result (λ list. step fields.old ≡ Some (meaning list, fields.new)) }
-        ensures err { IfErr result (λ e. Refuses e (step fields.old ≡ None)) }
-        ensures exactly { takes fields.old ≡ false → OnErr result (step fields.old ≡ None) }
-        ensures refused { RefusedFor (why fields.old) result }
-        ensures refused_exactly { takes fields.old ≡ false → RefusedExactly (why fields.old) result };
+        ensures { Gives (λ list. (view list, fields.new)) (step fields.old) result };
 
     /// Such fields are read, and nothing else is.
     ghost found: { FindExactly step in_binary };
@@ -65,57 +50,48 @@ pub trait FieldList: Sized + Drop {
 
 /// The last field.
 impl<A: Type + Decode> FieldList for (A,) {
-    ghost Meaning = { A.Meaning };
+    ghost View = { A.View };
 
-    ghost meaning = { λ list. A.meaning list.0 };
+    ghost view = { λ list. A.view list.0 };
 
-    ghost step = { next A.accepts A.reading };
+    ghost step = { next_field A.accepts A.parse };
 
-    ghost in_binary = { IsField A.accepts A.reading };
+    ghost in_binary = { IsField A.accepts A.parse };
 
-    ghost in_text = { IsTextField A.reading };
-
-    ghost why = { next_refusal A.accepts A.refusal };
-
-    ghost takes = { next_takes A.accepts A.takes_memory };
+    ghost in_text = { IsTextField A.parse };
 
     #[inline(always)]
     fn read(fields: &mut PgRecordDecoder<'_>) -> Result<(A,), CodecError> {
         Ok((fields.try_decode::<A>()?,))
     }
 
-    ghost found = { one_found A.accepts A.reading };
+    ghost found = { one_found A.accepts A.parse };
 
-    ghost found_in_text = { one_text A.accepts A.reading };
+    ghost found_in_text = { one_text A.accepts A.parse };
 }
 
 /// A field and the rest.
 impl<A: Type + Decode, Rest: FieldList> FieldList for (A, Rest) {
-    ghost Meaning = { A.Meaning × Rest.Meaning };
+    ghost View = { A.View × Rest.View };
 
-    ghost meaning = { λ list. (A.meaning list.0, Rest.meaning list.1) };
+    ghost view = { λ list. (A.view list.0, Rest.view list.1) };
 
-    ghost step = { next A.accepts A.reading then Rest.step };
+    ghost step = { next_field A.accepts A.parse then Rest.step };
 
-    ghost in_binary = { IsField A.accepts A.reading and Rest.in_binary };
+    ghost in_binary = { IsField A.accepts A.parse and Rest.in_binary };
 
-    ghost in_text = { IsTextField A.reading before Rest.in_text };
-
-    ghost why = { field_then A.accepts A.reading A.refusal Rest.why };
-
-    ghost takes = { takes_then A.accepts A.reading A.takes_memory Rest.takes };
+    ghost in_text = { IsTextField A.parse before Rest.in_text };
 
     #[inline(always)]
-    #[tactic(auto, unfolding(pgv_nest::specs::NestRefusals::field_then, pgv_nest::specs::NestRefusals::takes_then))]
     fn read(fields: &mut PgRecordDecoder<'_>) -> Result<(A, Rest), CodecError> {
         let first = fields.try_decode::<A>()?;
         let rest = Rest::read(fields)?;
         Ok((first, rest))
     }
 
-    ghost found = { further_found A.accepts A.reading Rest.step Rest.in_binary Rest.found };
+    ghost found = { further_found A.accepts A.parse Rest.step Rest.in_binary Rest.found };
 
-    ghost found_in_text = { further_text A.accepts A.reading Rest.step Rest.in_text Rest.found_in_text };
+    ghost found_in_text = { further_text A.accepts A.parse Rest.step Rest.in_text Rest.found_in_text };
 }
 
 /// Such a list of values that can be written and read back.
@@ -130,7 +106,7 @@ pub trait KeptList: FieldList {
     ghost fits: { Self → Ty → ℕ → List Oid → Type 0 };
 
     /// The fields that are written are read back, whatever comes after them.
-    ghost reads_back: { (list : Self) (further : List (Option (List Token))) → FieldsBack Self.step (written list further) (Self.meaning (kept list)) (fits list) };
+    ghost reads_back: { (list : Self) (further : List (Option (List Token))) → FieldsBack Self.step (written list further) (Self.view (kept list)) (fits list) };
 }
 
 /// The last field.
@@ -141,7 +117,7 @@ impl<A: ReadBack + Type> KeptList for (A,) {
 
     ghost fits = { λ list. FieldFits A.info A.produced A.image A.accepts A.fits list.0 };
 
-    ghost reads_back = { λ list. last_back A.info A.produced A.hint A.image A.accepts A.reading (λ v. A.meaning (A.kept v)) A.fits A.reads_back list.0 };
+    ghost reads_back = { λ list. last_back A.info A.produced A.hint A.image A.accepts A.parse (λ v. A.view (A.kept v)) A.fits A.reads_back list.0 };
 }
 
 /// A field and the rest.
@@ -152,21 +128,16 @@ impl<A: ReadBack + Type, Rest: KeptList> KeptList for (A, Rest) {
 
     ghost fits = { λ list. FieldsFit A.info A.produced A.hint A.image A.accepts A.fits list.0 (Rest.fits list.1) };
 
-    ghost reads_back = { λ list further. further_back A.info A.produced A.hint A.image A.accepts A.reading (λ v. A.meaning (A.kept v)) A.fits A.reads_back list.0 (Rest.reads_back list.1 further) };
+    ghost reads_back = { λ list further. further_back A.info A.produced A.hint A.image A.accepts A.parse (λ v. A.view (A.kept v)) A.fits A.reads_back list.0 (Rest.reads_back list.1 further) };
 }
 
 /// The first fields of a record, as [`PgRecordDecoder`] reads them; further fields are ignored.
 #[inline(always)]
-#[tactic(auto, unfolding(pgv_nest::specs::NestRefusals::record_takes))]
 pub fn first_fields<List: FieldList>(
     alloc: Global,
     value: PgValueRef<'_>,
 ) -> Result<List, CodecError>
-    ensures exact { Answers List.meaning (record_of List.step value.entry.type_info value.entry.format value.entry.bytes) result }
-    ensures exactly { record_takes List.takes value.entry.type_info value.entry.format value.entry.bytes ≡ false → AnswersExactly List.meaning (record_of List.step value.entry.type_info value.entry.format value.entry.bytes) result }
-    ensures refused { RefusedFor (record_refusal List.why value.entry.type_info value.entry.format value.entry.bytes) result }
-    ensures refused_exactly { record_takes List.takes value.entry.type_info value.entry.format value.entry.bytes ≡ false → RefusedExactly (record_refusal List.why value.entry.type_info value.entry.format value.entry.bytes) result }
-    ensures null { value.entry.bytes ≡ None → IsErrOf result UnexpectedNull }
+    ensures { Gives List.view (parse_record List.step value.entry) result }
 {
     let mut fields = PgRecordDecoder::new(alloc, value)?;
     List::read(&mut fields)

@@ -2,7 +2,7 @@
 
 ghost use Rattle.std.specs.Prelude.{Option, option_map, Some, None, refl};
 ghost use Rattle.pgv_codec.specs.Image.{option_image, option_hint, option_produced};
-ghost use Rattle.pgv_codec.specs.Refusing.{option_asks_first, option_unwritable, nullable_refusal, nullable_takes};
+ghost use Rattle.pgv_codec.specs.Refusing.{option_asks_first, option_unwritable};
 ghost use Rattle.pgv_codec.specs.Nullable.{nullable};
 ghost use Rattle.pgv_codec.specs.Saying.{option_written};
 ghost use Rattle.pgv_codec.specs.Back.{option_kept, option_fits};
@@ -93,17 +93,15 @@ impl<T: Encode + Type> Encode for Option<T> {
 
 /// Null is read as `None`, and anything else as `Some` of what the type reads.
 impl<T: Decode> Decode for Option<T> {
-    ghost Meaning = { Option T.Meaning };
+    ghost View = { Option T.View };
 
-    ghost meaning = { option_map T.meaning };
+    ghost view = { option_map T.view };
 
-    ghost reading = { nullable T.reading };
+    ghost parse = { nullable T.parse };
 
     ghost written = { option_written T.written };
 
-    ghost takes_memory = { nullable_takes T.takes_memory };
-
-    ghost refusal = { nullable_refusal T.refusal };
+    ghost null = { λ _ _. tt };
 
     #[inline(always)]
     fn decode(alloc: Global, value: PgValueRef<'_>) -> Result<Option<T>, CodecError> {
@@ -120,7 +118,7 @@ impl<T: ReadBack + Type> ReadBack for Option<T> {
 
     ghost fits = { option_fits T.fits };
 
-    ghost reads_back = { option_back T.image T.reading T.meaning T.kept T.fits T.reads_back };
+    ghost reads_back = { option_back T.image T.parse T.view T.kept T.fits T.reads_back };
 }
 
 impl<T: Codec> Codec for Option<T> {

@@ -1,19 +1,19 @@
 //! Records: composite types, field by field.
 
-ghost use Rattle.std.specs.Prelude.{IfErr, OnOk, OnErr, ◌≡◌, ◌≢◌, ◌<◌, length, false, None, IfOk, IsErrOf};
+ghost use Rattle.std.specs.Prelude.{IfErr, OnOk, OnErr, ◌≡◌, ◌<◌, length, IfOk, IsErrOf};
 ghost use Rattle.std.specs.Borrow.{sem, RestsIfErr};
 ghost use Rattle.pgv_text.specs.Copies.{copies_of};
 ghost use Rattle.pgv_text.specs.PartsView.{copies, nest};
 ghost use Rattle.pgv_text.specs.Values.{record_values};
 ghost use Rattle.pgv_text.specs.declared.scanner.TextForm.TheVariants.{Record};
-ghost use Rattle.pgv_value.specs.Reading.{Answers, AnswersExactly};
-ghost use Rattle.pgv_value.specs.declared.error.CodecError.TheVariants.{UnexpectedNull, Syntax, Memory, FieldCount};
-ghost use Rattle.pgv_nest.specs.NestRefusals.{field_refusal, field_takes, fields_refusal, next_refusal, next_takes};
-ghost use Rattle.pgv_nest.specs.RecordGrammar.{field_head, field_in, fields_of, next, Takes};
+ghost use Rattle.pgv_value.specs.Outcome.{Gives};
+ghost use Rattle.pgv_value.specs.Parsed.{GivesOr};
+ghost use Rattle.pgv_value.specs.declared.error.CodecError.TheVariants.{Syntax, Memory, FieldCount};
+ghost use Rattle.pgv_nest.specs.RecordGrammar.{field_in_binary, fields_of, next_field};
 ghost use Rattle.pgv_codec.specs.Image.{field, counted_field};
 ghost use Rattle.pgv_codec.specs.Outcome.{Refused, Appended, AppendedAll};
 ghost use Rattle.pgv_codec.specs.Record.{IsOpen, begun, so_far, AddsField};
-ghost use Rattle.pgv_codec.specs.Refusing.{RefusedExactly, RefusedFor, frame_refused, field_refused};
+ghost use Rattle.pgv_codec.specs.Refusing.{RefusedFor, frame_refused, field_refused};
 ghost use Rattle.pgv_codec.specs.contracts.buffer.PgArgumentBuffer.{the_row};
 
 use super::part::read_part;
@@ -157,10 +157,7 @@ impl<'r> PgRecordDecoder<'r> {
     /// [`UnexpectedNull`](CodecError::UnexpectedNull) (C13), and nothing else is.
     #[inline(always)]
     pub fn new(alloc: Global, value: PgValueRef<'r>) -> Result<Self, CodecError>
-        ensures exact { AnswersExactly (λ d. d) (fields_of value.entry.type_info value.entry.format value.entry.bytes) result }
-        ensures refused { IfErr result (λ e. e ≡ fields_refusal value.entry.type_info value.entry.format value.entry.bytes) }
-        ensures null { value.entry.bytes ≡ None → IsErrOf result UnexpectedNull }
-        ensures present { value.entry.bytes ≢ None → IfErr result (λ e. e ≢ UnexpectedNull) }
+        ensures { Gives (λ d. d) (fields_of value.entry) result }
     {
         let left = match value.format() {
             PgValueFormat::Text => FieldsLeft::Text(text_fields_of(alloc, value.as_str()?)?),
@@ -187,10 +184,8 @@ impl<'r> PgRecordDecoder<'r> {
     /// field left it is [`NoField`](CodecError::NoField) (C25).
     #[inline(always)]
     pub fn try_decode<T: Type + Decode>(&mut self) -> Result<T, CodecError>
-        ensures exact { Takes T.meaning self.old self.new (next T.accepts T.reading self.old) result }
-        ensures exactly { next_takes T.accepts T.takes_memory self.old ≡ false → OnErr result (next T.accepts T.reading self.old ≡ None) }
-        ensures refused { RefusedFor (next_refusal T.accepts T.refusal self.old) result }
-        ensures refused_exactly { next_takes T.accepts T.takes_memory self.old ≡ false → RefusedExactly (next_refusal T.accepts T.refusal self.old) result }
+        ensures exact { Gives (λ v. (T.view v, self.new)) (next_field T.accepts T.parse self.old) result }
+        ensures unmoved { OnErr result (self.new ≡ self.old) }
     {
         match &mut self.left {
             FieldsLeft::Binary(fields) => {
@@ -224,10 +219,9 @@ impl<'r> PgRecordDecoder<'r> {
 /// The fields of a record text.
 #[inline(always)]
 fn text_fields_of(alloc: Global, text: &str) -> Result<TextFields<'_>, CodecError>
-    ensures exact { AnswersExactly (λ fields. (nest fields.parts).values) (record_values text.now) result }
+    ensures exact { GivesOr (λ fields. (nest fields.parts).values) (record_values text.now) Syntax result }
     ensures copies { IfOk result (λ fields. copies fields.parts ≡ copies_of Record text.now) }
     ensures count { IfOk result (λ fields. fields.count ≡ length (nest fields.parts).values) }
-    ensures refused { IfErr result (λ e. e ≡ Syntax) }
 {
     match Parts::new(TextForm::Record, text) {
         None => Err(CodecError::Syntax),
@@ -240,16 +234,14 @@ fn text_fields_of(alloc: Global, text: &str) -> Result<TextFields<'_>, CodecErro
 }
 
 /// The next field in binary, and the bytes after it.
+#[tactic(auto, unfolding(pgv_nest::specs::RecordGrammar::field_in_binary))]
 fn read_field<'r, T: Type + Decode>(
     alloc: Global,
     type_info: &PgTypeInfo,
     place: usize,
     bytes: &'r [u8],
 ) -> Result<(T, &'r [u8]), CodecError>
-    ensures exact { Answers (λ x. (T.meaning x.0, x.1.now)) (field_in T.accepts T.reading type_info.now place bytes.now) result }
-    ensures exactly { field_takes T.accepts T.takes_memory (field_head type_info.now place bytes.now) ≡ false → AnswersExactly (λ x. (T.meaning x.0, x.1.now)) (field_in T.accepts T.reading type_info.now place bytes.now) result }
-    ensures refused { RefusedFor (field_refusal T.accepts T.refusal type_info.now place bytes.now) result }
-    ensures refused_exactly { field_takes T.accepts T.takes_memory (field_head type_info.now place bytes.now) ≡ false → RefusedExactly (field_refusal T.accepts T.refusal type_info.now place bytes.now) result }
+    ensures exact { Gives (λ x. (T.view x.0, x.1.now)) (field_in_binary T.accepts T.parse type_info.now place bytes.now) result }
     ensures shorter { IfOk result (λ x. length x.1.now < length bytes.now) }
 {
     let (type_info, mut rest) = field_head_of(type_info, place, bytes)?;

@@ -1,9 +1,9 @@
 //! Tuples of one to nine, which are read from records (PostgreSQL, "Composite Types"). Their fields are read from the
 //! front; further fields are ignored.
 
+ghost use Rattle.std.specs.Prelude.{refl};
 ghost use Rattle.pgv_types.specs.Ty.{builtin};
-ghost use Rattle.pgv_nest.specs.NestRefusals.{record_refusal, record_takes};
-ghost use Rattle.pgv_nest.specs.TupleGrammar.{record_of};
+ghost use Rattle.pgv_nest.specs.RecordGrammar.{parse_record};
 ghost use Rattle.pgv_codec.specs.Saying.{unwritten};
 
 use super::field_list::{FieldList, first_fields};
@@ -14,17 +14,15 @@ use std::alloc::Global;
 
 /// The first field of a record. Further fields are ignored. `00000001 00000017 00000004 00000007` is `(7,)`, and so is the text `(7)`.
 impl<A: Type + Decode> Decode for (A,) {
-    ghost Meaning = { A.Meaning };
+    ghost View = { A.View };
 
-    ghost meaning = { λ v. A.meaning v.0 };
+    ghost view = { λ v. A.view v.0 };
 
-    ghost reading = { record_of ⟦<(A,) as FieldList>⟧.step };
+    ghost parse = { parse_record ⟦<(A,) as FieldList>⟧.step };
 
     ghost written = { unwritten };
 
-    ghost takes_memory = { record_takes ⟦<(A,) as FieldList>⟧.takes };
-
-    ghost refusal = { record_refusal ⟦<(A,) as FieldList>⟧.why };
+    ghost null = { λ _ _. (refl, refl) };
 
     fn decode(alloc: Global, value: PgValueRef<'_>) -> Result<Self, CodecError> {
         first_fields(alloc, value)
@@ -46,17 +44,15 @@ impl<A> BuiltIn for Of<(A,)> {
 /// The first two fields of a record. Further fields are ignored. `00000002 00000017 00000004 00000001 00000019 00000001 61` is `(1, "a")`,
 /// and so is the text `(1,a)`.
 impl<A: Type + Decode, B: Type + Decode> Decode for (A, B) {
-    ghost Meaning = { A.Meaning × B.Meaning };
+    ghost View = { A.View × B.View };
 
-    ghost meaning = { λ v. (A.meaning v.0, B.meaning v.1) };
+    ghost view = { λ v. (A.view v.0, B.view v.1) };
 
-    ghost reading = { record_of ⟦<(A, (B,)) as FieldList>⟧.step };
+    ghost parse = { parse_record ⟦<(A, (B,)) as FieldList>⟧.step };
 
     ghost written = { unwritten };
 
-    ghost takes_memory = { record_takes ⟦<(A, (B,)) as FieldList>⟧.takes };
-
-    ghost refusal = { record_refusal ⟦<(A, (B,)) as FieldList>⟧.why };
+    ghost null = { λ _ _. (refl, refl) };
 
     fn decode(alloc: Global, value: PgValueRef<'_>) -> Result<Self, CodecError> {
         match first_fields(alloc, value) {
@@ -80,17 +76,15 @@ impl<A, B> BuiltIn for Of<(A, B)> {
 
 /// The first three fields of a record. Further fields are ignored.
 impl<A: Type + Decode, B: Type + Decode, C: Type + Decode> Decode for (A, B, C) {
-    ghost Meaning = { A.Meaning × (B.Meaning × C.Meaning) };
+    ghost View = { A.View × (B.View × C.View) };
 
-    ghost meaning = { λ v. (A.meaning v.0, (B.meaning v.1, C.meaning v.2)) };
+    ghost view = { λ v. (A.view v.0, (B.view v.1, C.view v.2)) };
 
-    ghost reading = { record_of ⟦<(A, (B, (C,))) as FieldList>⟧.step };
+    ghost parse = { parse_record ⟦<(A, (B, (C,))) as FieldList>⟧.step };
 
     ghost written = { unwritten };
 
-    ghost takes_memory = { record_takes ⟦<(A, (B, (C,))) as FieldList>⟧.takes };
-
-    ghost refusal = { record_refusal ⟦<(A, (B, (C,))) as FieldList>⟧.why };
+    ghost null = { λ _ _. (refl, refl) };
 
     fn decode(alloc: Global, value: PgValueRef<'_>) -> Result<Self, CodecError> {
         match first_fields(alloc, value) {
@@ -115,17 +109,15 @@ impl<A, B, C> BuiltIn for Of<(A, B, C)> {
 /// The first four fields of a record. Further fields are ignored.
 impl<A: Type + Decode, B: Type + Decode, C: Type + Decode, D: Type + Decode> Decode
     for (A, B, C, D) {
-    ghost Meaning = { A.Meaning × (B.Meaning × (C.Meaning × D.Meaning)) };
+    ghost View = { A.View × (B.View × (C.View × D.View)) };
 
-    ghost meaning = { λ v. (A.meaning v.0, (B.meaning v.1, (C.meaning v.2, D.meaning v.3))) };
+    ghost view = { λ v. (A.view v.0, (B.view v.1, (C.view v.2, D.view v.3))) };
 
-    ghost reading = { record_of ⟦<(A, (B, (C, (D,)))) as FieldList>⟧.step };
+    ghost parse = { parse_record ⟦<(A, (B, (C, (D,)))) as FieldList>⟧.step };
 
     ghost written = { unwritten };
 
-    ghost takes_memory = { record_takes ⟦<(A, (B, (C, (D,)))) as FieldList>⟧.takes };
-
-    ghost refusal = { record_refusal ⟦<(A, (B, (C, (D,)))) as FieldList>⟧.why };
+    ghost null = { λ _ _. (refl, refl) };
 
     fn decode(alloc: Global, value: PgValueRef<'_>) -> Result<Self, CodecError> {
         match first_fields(alloc, value) {
@@ -155,17 +147,15 @@ impl<
     D: Type + Decode,
     E: Type + Decode,
 > Decode for (A, B, C, D, E) {
-    ghost Meaning = { A.Meaning × (B.Meaning × (C.Meaning × (D.Meaning × E.Meaning))) };
+    ghost View = { A.View × (B.View × (C.View × (D.View × E.View))) };
 
-    ghost meaning = { λ v. (A.meaning v.0, (B.meaning v.1, (C.meaning v.2, (D.meaning v.3, E.meaning v.4)))) };
+    ghost view = { λ v. (A.view v.0, (B.view v.1, (C.view v.2, (D.view v.3, E.view v.4)))) };
 
-    ghost reading = { record_of ⟦<(A, (B, (C, (D, (E,))))) as FieldList>⟧.step };
+    ghost parse = { parse_record ⟦<(A, (B, (C, (D, (E,))))) as FieldList>⟧.step };
 
     ghost written = { unwritten };
 
-    ghost takes_memory = { record_takes ⟦<(A, (B, (C, (D, (E,))))) as FieldList>⟧.takes };
-
-    ghost refusal = { record_refusal ⟦<(A, (B, (C, (D, (E,))))) as FieldList>⟧.why };
+    ghost null = { λ _ _. (refl, refl) };
 
     fn decode(alloc: Global, value: PgValueRef<'_>) -> Result<Self, CodecError> {
         match first_fields(alloc, value) {
@@ -196,17 +186,15 @@ impl<
     E: Type + Decode,
     F: Type + Decode,
 > Decode for (A, B, C, D, E, F) {
-    ghost Meaning = { A.Meaning × (B.Meaning × (C.Meaning × (D.Meaning × (E.Meaning × F.Meaning)))) };
+    ghost View = { A.View × (B.View × (C.View × (D.View × (E.View × F.View)))) };
 
-    ghost meaning = { λ v. (A.meaning v.0, (B.meaning v.1, (C.meaning v.2, (D.meaning v.3, (E.meaning v.4, F.meaning v.5))))) };
+    ghost view = { λ v. (A.view v.0, (B.view v.1, (C.view v.2, (D.view v.3, (E.view v.4, F.view v.5))))) };
 
-    ghost reading = { record_of ⟦<(A, (B, (C, (D, (E, (F,)))))) as FieldList>⟧.step };
+    ghost parse = { parse_record ⟦<(A, (B, (C, (D, (E, (F,)))))) as FieldList>⟧.step };
 
     ghost written = { unwritten };
 
-    ghost takes_memory = { record_takes ⟦<(A, (B, (C, (D, (E, (F,)))))) as FieldList>⟧.takes };
-
-    ghost refusal = { record_refusal ⟦<(A, (B, (C, (D, (E, (F,)))))) as FieldList>⟧.why };
+    ghost null = { λ _ _. (refl, refl) };
 
     fn decode(alloc: Global, value: PgValueRef<'_>) -> Result<Self, CodecError> {
         match first_fields(alloc, value) {
@@ -238,17 +226,15 @@ impl<
     F: Type + Decode,
     G: Type + Decode,
 > Decode for (A, B, C, D, E, F, G) {
-    ghost Meaning = { A.Meaning × (B.Meaning × (C.Meaning × (D.Meaning × (E.Meaning × (F.Meaning × G.Meaning))))) };
+    ghost View = { A.View × (B.View × (C.View × (D.View × (E.View × (F.View × G.View))))) };
 
-    ghost meaning = { λ v. (A.meaning v.0, (B.meaning v.1, (C.meaning v.2, (D.meaning v.3, (E.meaning v.4, (F.meaning v.5, G.meaning v.6)))))) };
+    ghost view = { λ v. (A.view v.0, (B.view v.1, (C.view v.2, (D.view v.3, (E.view v.4, (F.view v.5, G.view v.6)))))) };
 
-    ghost reading = { record_of ⟦<(A, (B, (C, (D, (E, (F, (G,))))))) as FieldList>⟧.step };
+    ghost parse = { parse_record ⟦<(A, (B, (C, (D, (E, (F, (G,))))))) as FieldList>⟧.step };
 
     ghost written = { unwritten };
 
-    ghost takes_memory = { record_takes ⟦<(A, (B, (C, (D, (E, (F, (G,))))))) as FieldList>⟧.takes };
-
-    ghost refusal = { record_refusal ⟦<(A, (B, (C, (D, (E, (F, (G,))))))) as FieldList>⟧.why };
+    ghost null = { λ _ _. (refl, refl) };
 
     fn decode(alloc: Global, value: PgValueRef<'_>) -> Result<Self, CodecError> {
         match first_fields(alloc, value) {
@@ -281,17 +267,15 @@ impl<
     G: Type + Decode,
     H: Type + Decode,
 > Decode for (A, B, C, D, E, F, G, H) {
-    ghost Meaning = { A.Meaning × (B.Meaning × (C.Meaning × (D.Meaning × (E.Meaning × (F.Meaning × (G.Meaning × H.Meaning)))))) };
+    ghost View = { A.View × (B.View × (C.View × (D.View × (E.View × (F.View × (G.View × H.View)))))) };
 
-    ghost meaning = { λ v. (A.meaning v.0, (B.meaning v.1, (C.meaning v.2, (D.meaning v.3, (E.meaning v.4, (F.meaning v.5, (G.meaning v.6, H.meaning v.7))))))) };
+    ghost view = { λ v. (A.view v.0, (B.view v.1, (C.view v.2, (D.view v.3, (E.view v.4, (F.view v.5, (G.view v.6, H.view v.7))))))) };
 
-    ghost reading = { record_of ⟦<(A, (B, (C, (D, (E, (F, (G, (H,)))))))) as FieldList>⟧.step };
+    ghost parse = { parse_record ⟦<(A, (B, (C, (D, (E, (F, (G, (H,)))))))) as FieldList>⟧.step };
 
     ghost written = { unwritten };
 
-    ghost takes_memory = { record_takes ⟦<(A, (B, (C, (D, (E, (F, (G, (H,)))))))) as FieldList>⟧.takes };
-
-    ghost refusal = { record_refusal ⟦<(A, (B, (C, (D, (E, (F, (G, (H,)))))))) as FieldList>⟧.why };
+    ghost null = { λ _ _. (refl, refl) };
 
     fn decode(alloc: Global, value: PgValueRef<'_>) -> Result<Self, CodecError> {
         match first_fields(alloc, value) {
@@ -325,17 +309,15 @@ impl<
     H: Type + Decode,
     I: Type + Decode,
 > Decode for (A, B, C, D, E, F, G, H, I) {
-    ghost Meaning = { A.Meaning × (B.Meaning × (C.Meaning × (D.Meaning × (E.Meaning × (F.Meaning × (G.Meaning × (H.Meaning × I.Meaning))))))) };
+    ghost View = { A.View × (B.View × (C.View × (D.View × (E.View × (F.View × (G.View × (H.View × I.View))))))) };
 
-    ghost meaning = { λ v. (A.meaning v.0, (B.meaning v.1, (C.meaning v.2, (D.meaning v.3, (E.meaning v.4, (F.meaning v.5, (G.meaning v.6, (H.meaning v.7, I.meaning v.8)))))))) };
+    ghost view = { λ v. (A.view v.0, (B.view v.1, (C.view v.2, (D.view v.3, (E.view v.4, (F.view v.5, (G.view v.6, (H.view v.7, I.view v.8)))))))) };
 
-    ghost reading = { record_of ⟦<(A, (B, (C, (D, (E, (F, (G, (H, (I,))))))))) as FieldList>⟧.step };
+    ghost parse = { parse_record ⟦<(A, (B, (C, (D, (E, (F, (G, (H, (I,))))))))) as FieldList>⟧.step };
 
     ghost written = { unwritten };
 
-    ghost takes_memory = { record_takes ⟦<(A, (B, (C, (D, (E, (F, (G, (H, (I,))))))))) as FieldList>⟧.takes };
-
-    ghost refusal = { record_refusal ⟦<(A, (B, (C, (D, (E, (F, (G, (H, (I,))))))))) as FieldList>⟧.why };
+    ghost null = { λ _ _. (refl, refl) };
 
     fn decode(alloc: Global, value: PgValueRef<'_>) -> Result<Self, CodecError> {
         match first_fields(alloc, value) {

@@ -26,19 +26,19 @@ impl Type for () {
 
 /// Decodes any value, null too, to `()`; the bytes are ignored (PostgreSQL, "Pseudo-Types", void).
 impl Decode for () {
-    ghost use Rattle.std.specs.Prelude.{⊤, false};
-    ghost use Rattle.pgv_codec.specs.Nothing.{anything};
+    ghost use Rattle.std.specs.Prelude.{⊤};
+    ghost use Rattle.pgv_codec.specs.Nullable.{anything};
     ghost use Rattle.pgv_codec.specs.Saying.{unwritten};
 
-    ghost Meaning = { ⊤ };
+    ghost View = { ⊤ };
 
-    ghost meaning = { λ _. tt };
+    ghost view = { λ _. tt };
 
-    ghost reading = { anything };
+    ghost parse = { anything };
 
     ghost written = { unwritten };
 
-    ghost takes_memory = { λ _ _ _. false };
+    ghost null = { λ _ _. tt };
 
     fn decode(_alloc: Global, value: PgValueRef<'_>) -> Result<(), CodecError> {
         Ok(())

@@ -106,17 +106,15 @@ fn read_query(alloc: Global, value: &PgValueRef<'_>) -> Result<PgLQuery, CodecEr
 /// invalid text of a query with [`LQuery`](CodecError::LQuery) (C37). In text the bytes are the query's text. Null is
 /// refused with [`UnexpectedNull`](CodecError::UnexpectedNull) (C13).
 impl Decode for PgLQuery {
-    ghost Meaning = { List Level };
+    ghost View = { List Level };
 
-    ghost meaning = { λ query. query };
+    ghost view = { λ query. query };
 
-    ghost reading = { reading_of parse_query };
+    ghost parse = { parse_query };
 
     ghost written = { plainly query_image };
 
-    ghost takes_memory = { takes_of parse_query };
-
-    ghost refusal = { error_of parse_query };
+    ghost null = { λ _ _. (refl, refl) };
 
     fn decode(alloc: Global, value: PgValueRef<'_>) -> Result<PgLQuery, CodecError> {
         read_query(alloc, &value)

@@ -19,8 +19,8 @@ returns-in_err-_part c =
     rw (p.1, p.2) (
     sym c.loop-type_info.invariant
     ∙ ap (λ (us : List Ty). rest_after (fields us bytes)) (field_of t types i c.loop-type_info-test.true c._type_info-item.is)
-    ∙ no_front t (drop (suc i) types) bytes c.in_err-_part.ensures.none
-    ∙ ap (λ (e : CodecError). let r : Rest = Err e in r) (sym c.in_err-_part.ensures.fault))
+    ∙ no_front t (drop (suc i) types) bytes c.in_err-_part.ensures.exact.1
+    ∙ ap (λ (e : CodecError). let r : Rest = Err e in r) (sym c.in_err-_part.ensures.exact.0))
 
 pub loop-type_info-preserved : goal.loop-type_info-preserved
 loop-type_info-preserved c =
@@ -29,7 +29,7 @@ loop-type_info-preserved c =
     let bytes = c.loop-type_info.rest.now in
     let t : Ty = c._type_info-item.result in
     rw add-one (
-    sym (one_field t (drop (suc i) types) bytes c.in_ok-_part.after.now _ c.in_ok-_part.ensures.found)
+    sym (one_field t (drop (suc i) types) bytes c.in_ok-_part.after.now _ c.in_ok-_part.ensures.exact)
     ∙ ap (λ (us : List Ty). rest_after (fields us bytes)) (sym (field_of t types i c.loop-type_info-test.true c._type_info-item.is))
     ∙ c.loop-type_info.invariant)
 

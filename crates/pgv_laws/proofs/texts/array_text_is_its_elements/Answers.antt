@@ -3,6 +3,6 @@ use Rattle.pgv_laws.proofs.texts.array_text_is_its_elements.Goals as goal
 
 pub returns : goal.returns
 returns g c = record {
-  list = array_text c.array_is_its_values.ensures g.T.Type.info g.T.Decode.reading;
-  array = sized_text c.array_is_its_values.ensures g.T.Type.info g.T.Decode.reading _;
+  list = array_text c.array_is_its_values.ensures g.T.Type.info g.T.Decode.parse;
+  array = sized_text c.array_is_its_values.ensures g.T.Type.info g.T.Decode.parse _;
 }

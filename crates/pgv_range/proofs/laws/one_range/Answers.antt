@@ -1,6 +1,5 @@
-use Rattle.pgv_value.specs.declared.value.PgValueFormat.TheVariants.{Binary}
 use Rattle.pgv_range.proofs.BinaryGrammars as binary
 use Rattle.pgv_range.proofs.laws.one_range.Goals as goal
 
 pub returns : goal.returns
-returns g c = binary.one_range (λ u. g.T.Decode.reading u Binary)
+returns g c = binary.one_range g.T.Decode.parse

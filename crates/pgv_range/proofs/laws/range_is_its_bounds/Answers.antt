@@ -1,6 +1,5 @@
-use Rattle.pgv_value.specs.declared.value.PgValueFormat.TheVariants.{Binary}
 use Rattle.pgv_range.proofs.BinaryGrammars.{range_exactly}
 use Rattle.pgv_range.proofs.laws.range_is_its_bounds.Goals as goal
 
 pub returns : goal.returns
-returns g c = range_exactly (λ u. g.T.Decode.reading u Binary)
+returns g c = range_exactly g.T.Decode.parse
