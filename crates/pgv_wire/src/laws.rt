@@ -6,6 +6,7 @@ ghost use Rattle.pgv_types.specs.Ty.{Ty};
 ghost use Rattle.pgv_types.specs.declared.oid.Oid.{Oid};
 ghost use Rattle.pgv_buf.specs.Proper.{Proper};
 ghost use Rattle.pgv_buf.specs.Tokens.{tokens_hole_types, Token, Cell, shown, width, tokens_width, hole_types_of};
+ghost use Rattle.pgv_value.specs.Outcome.{reading_of};
 ghost use Rattle.pgv_wire.specs.Arguments.{Argument, Framed, all_tokens, types_in, framed, filled_arguments};
 ghost use Rattle.pgv_wire.specs.Given.{ArgumentReadsBack, given_in, parts_given};
 ghost use Rattle.pgv_wire.specs.History.{Call, after, last_filling, bytes_by, added_in, joined_frames, framed_types, lengths_in, ArePlain, joined_bytes};
