@@ -1,6 +1,6 @@
 //! Why the program ends early.
 
-use pgv_session::RunFault;
+use pgv_runner::RunFault;
 use std::alloc::AllocError;
 
 /// What keeps the program from its answer.

@@ -3,7 +3,7 @@
 use crate::fault::Fault;
 use crate::mutants::{fronts, mutants};
 use crate::tally::{Outcome, Tally};
-use pgv_session::run;
+use pgv_runner::run;
 use std::alloc::{AllocError, Global};
 
 /// What a session answers to lines.

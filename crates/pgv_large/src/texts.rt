@@ -3,7 +3,7 @@
 use crate::back::{comes_back, read_text, repeated};
 use pgv::types::{BitVec, PgBytea};
 use pgv::{CodecError, Oid, PgTypeInfo, PgTypeKind};
-use pgv_session::run;
+use pgv_runner::run;
 use std::alloc::Global;
 
 /// Eight characters, of which 524,288 are 4 MB.

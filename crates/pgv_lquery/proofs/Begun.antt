@@ -1,8 +1,9 @@
 -- What is seen of levels and variants before memory is asked for.
-use Rattle.std.proofs.Common.{◌≡◌, ◌⊎◌, inl, inr, ℕ, Bool, true, false, List, [], ◌∷◌, take, drop, Option, Some, None, refl}
+use Rattle.std.proofs.Common.{◌≡◌, ◌⊎◌, inl, inr, ℕ, Bool, true, false, List, [], ◌∷◌, take, drop, Option, Some, None, refl, ap}
+use Rattle.std.proofs.lemmas.Bool.{and_parts}
 use Rattle.std.specs.List.{list_all, slice_split}
 use Rattle.std.specs.Str.Parse.{digits_value}
-use Rattle.std.specs.Prelude.{◌==◌, ◌&&◌, ◌||◌, if◌then◌else◌, Result, Ok, Err, is_ok}
+use Rattle.std.specs.Prelude.{not, ◌==◌, ◌&&◌, ◌||◌, if◌then◌else◌, Result, Ok, Err, is_ok}
 use Rattle.pgv_value.specs.declared.tree_error.PgLQueryParseError.{PgLQueryParseError}
 use Rattle.pgv_value.specs.declared.tree_error.PgLQueryParseError.TheVariants.{LTreeParrseError, Memory, ParseIntError, UnexpectedCharacter}
 use Rattle.pgv_value.specs.declared.tree_error.PgLTreeParseError.TheVariants.{InvalidLtreeLabel}
@@ -11,14 +12,10 @@ use Rattle.pgv_ltree.specs.Each.{and_others, read_each}
 use Rattle.pgv_ltree.specs.Labels.{is_label}
 use Rattle.pgv_ltree.proofs.EachRead.{first_passes}
 use Rattle.pgv_lquery.specs.Queries.{Variant, Level, one_of, none_of, star}
-use Rattle.pgv_lquery.specs.QueryCodec.{query_fault}
-use Rattle.pgv_lquery.specs.QueryText.{has_mark, is_mark}
-use Rattle.pgv_lquery.specs.QueryRead.{begins_level, begins_with_variant, bound_read, braced, count_read, counts_read, cut, inner_read, is_count_text, is_nil, is_variant_text, label_length, level_read, marked, query_read, read_as, star_of, star_read, variant_read, variants_read}
-
--- why something isn't read
-pub error_of : {A E : Type 0} (r : Result A E) → is_ok r ≡ false → (e : E) × (r ≡ Err e)
-error_of (Ok a) h = absurd (cc)
-error_of (Err e) h = (e, refl)
+use Rattle.pgv_value.specs.Outcome.{Fails, stated}
+use Rattle.pgv_lquery.specs.QueryCodec.{query_in_text, query_parsed}
+use Rattle.pgv_lquery.specs.QueryText.{begins_with_star, has_mark, is_mark}
+use Rattle.pgv_lquery.specs.QueryRead.{begins_level, begins_with_level, begins_with_variant, bound_read, braced, count_read, counts_read, cut, inner_read, is_count_text, level_allocates, is_nil, is_variant_text, label_length, level_read, marked, query_read, read_as, star_of, star_read, variant_read, variants_read}
 
 was_ok : {A E : Type 0} (r : Result A E) (a : A) → r ≡ Ok a → is_ok r ≡ true
 was_ok r a e = rw e refl
@@ -46,15 +43,14 @@ level_passes (c ∷ text) l e = by (c == 42) (c == 33) e
     by false true e = let m = made_of (λ vs. none_of vs) (variants_read text) l e in variants_pass text m.0 m.1
     by false false e = let m = made_of (λ vs. one_of vs) (variants_read (c ∷ text)) l e in variants_pass (c ∷ text) m.0 m.1
 
+-- what asks for memory begins as a level
+pub begins_first : (text : List ℕ) → level_allocates text ≡ true → begins_level text ≡ true
+begins_first text e = (and_parts (not (begins_with_star text)) (begins_level text) e).1
+
 -- a text that is refused is no level, or there was no memory for one that begins as one
-pub begun_or_refused : (text : List ℕ) (e : PgLQueryParseError) → (level_read text ≡ Err e) ⊎ (e ≡ Memory) → (begins_level text ≡ false → level_read text ≡ Err e) →
-    (level_read text ≡ Err e) ⊎ ((e ≡ Memory) × (begins_level text ≡ true))
-begun_or_refused text e (inl r) exactly = inl r
-begun_or_refused text e (inr m) exactly = by (begins_level text) refl
-  where
-    by : (b : Bool) → begins_level text ≡ b → (level_read text ≡ Err e) ⊎ ((e ≡ Memory) × (begins_level text ≡ true))
-    by true is = inr (m, is)
-    by false isnt = inl (exactly isnt)
+pub begun_or_refused : (text : List ℕ) (e : PgLQueryParseError) → (level_read text ≡ Err e) ⊎ ((e ≡ Memory) × (level_allocates text ≡ true)) → (level_read text ≡ Err e) ⊎ ((e ≡ Memory) × (begins_level text ≡ true))
+begun_or_refused text e (inl r) = inl r
+begun_or_refused text e (inr m) = inr (m.0, begins_first text m.1)
 
 -- ---- out of memory is nothing that a text is refused with
 
@@ -115,6 +111,10 @@ of_level (c ∷ text) h =
     (of_made (λ vs. none_of vs) (variants_read text) (of_variants text)) (of_made (λ vs. one_of vs) (variants_read (c ∷ text)) (of_variants (c ∷ text)))) h
 
 -- what a decoder answers where a text is refused
-pub fault_of : (text : List ℕ) (e : PgLQueryParseError) → query_read text ≡ Err e → query_refused e ≡ query_fault (query_read text)
-fault_of text Memory h = absurd (of_each level_read of_level (slice_split (λ c. c == 46) text) h)
-fault_of text _ h = rw h refl
+refused_query : (text : List ℕ) (e : PgLQueryParseError) → query_read text ≡ Err e → query_parsed (query_read text) ≡ Err (query_refused e)
+refused_query text Memory h = absurd (of_each level_read of_level (slice_split (λ c. c == 46) text) h)
+refused_query text _ h = rw h refl
+
+pub query_fails : (text : List ℕ) (e : PgLQueryParseError) → (query_read text ≡ Err e) ⊎ ((e ≡ Memory) × (begins_with_level text ≡ true)) → Fails (query_refused e) (query_in_text text)
+query_fails text e (inl r) = inl (ap stated (refused_query text e r))
+query_fails text e (inr m) = inr (inr (ap query_refused m.0, rw m.1 refl))

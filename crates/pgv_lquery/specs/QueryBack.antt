@@ -9,11 +9,11 @@ use Rattle.pgv_types.specs.Ty.{Ty}
 use Rattle.pgv_types.specs.declared.oid.Oid.{Oid}
 use Rattle.pgv_buf.specs.Tokens.{bytes}
 use Rattle.pgv_value.specs.FrameBinary.{Part}
-use Rattle.pgv_value.specs.Outcome.{reading_of}
+use Rattle.pgv_value.specs.Outcome.{ok_of, reading_of}
 use Rattle.pgv_value.specs.declared.value.PgValueFormat.TheVariants.{Binary}
 use Rattle.pgv_codec.specs.Back.{ReadsBack}
 use Rattle.pgv_codec.specs.BackParts.{guarded}
-use Rattle.pgv_codec.specs.BackScalars.{is_read, part_is}
+use Rattle.pgv_codec.specs.BackScalars.{part_is}
 use Rattle.pgv_codec.specs.Image.{image_of}
 use Rattle.pgv_ltree.specs.Ascii.{ascii_is_utf8}
 use Rattle.pgv_ltree.specs.Joins.{other_char}
@@ -70,10 +70,10 @@ pub printed_again : (levels : List Level) → is_query levels ≡ true → comes
 printed_again [] e c = absurd (false≢true c)
 printed_again (l ∷ levels) e c = query_again l levels e (each_needs (l ∷ levels) e (and_parts true (list_all level_comes_back (l ∷ levels)) c).1)
 
-binary_again : (levels : List Level) → is_query levels ≡ true → comes_back levels ≡ true → query_in_binary (1 ∷ printed_query levels) ≡ Some levels
-binary_again levels e c = rw (ascii_is_utf8 (printed_query levels) (query_ascii levels e)) (ap result_ok (printed_again levels e c))
+binary_again : (levels : List Level) → is_query levels ≡ true → comes_back levels ≡ true → (query_in_binary (1 ∷ printed_query levels)).answer ≡ Ok levels
+binary_again levels e c = rw (ascii_is_utf8 (printed_query levels) (query_ascii levels e)) (rw (printed_again levels e c) refl)
 
 pub query_back : ReadsBack query_image (reading_of parse_query) (λ levels. levels) query_fits
 query_back levels i t p os e whole small fit =
     let g = guarded (is_query levels) (Some (image_of (bytes (1 ∷ printed_query levels)))) i e in
-    ap (λ (part : Part). reading_of parse_query t Binary part) (part_is (1 ∷ printed_query levels) i p os g.1) ∙ is_read _ _ _ (binary_again levels g.0 fit)
+    ap (λ (part : Part). reading_of parse_query t Binary part) (part_is (1 ∷ printed_query levels) i p os g.1) ∙ ap ok_of (binary_again levels g.0 fit)

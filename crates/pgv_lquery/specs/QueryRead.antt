@@ -1,5 +1,5 @@
 -- What is read from the texts of queries, or why nothing is.
-use Rattle.std.specs.Prelude.{ℕ, nat_lt, ◌==◌, ◌&&◌, ◌||◌, Bool, true, false, if◌then◌else◌, List, [], ◌∷◌, length, take, drop, Option, Some, None, option_map, Result, Ok, Err, is_ok}
+use Rattle.std.specs.Prelude.{ℕ, nat_lt, not, ◌==◌, ◌&&◌, ◌||◌, Bool, true, false, if◌then◌else◌, List, [], ◌∷◌, length, take, drop, Option, Some, None, option_map, Result, Ok, Err, is_ok}
 use Rattle.std.specs.List.{list_all, position_or_len, slice_split}
 use Rattle.std.specs.Str.{all_ascii_digits}
 use Rattle.std.specs.Str.Parse.{digits_value}
@@ -9,7 +9,7 @@ use Rattle.pgv_value.specs.declared.tree_error.PgLQueryParseError.TheVariants.{E
 use Rattle.pgv_ltree.specs.Each.{first_is, read_each}
 use Rattle.pgv_ltree.specs.Labels.{is_label}
 use Rattle.pgv_lquery.specs.Queries.{Variant, Level, star, one_of, none_of}
-use Rattle.pgv_lquery.specs.QueryText.{has_mark, is_mark}
+use Rattle.pgv_lquery.specs.QueryText.{begins_with_star, has_mark, is_mark}
 
 -- what is made of what is read
 abbrev pub read_as : {A B : Type 0} → (A → B) → Result A PgLQueryParseError → Result B PgLQueryParseError
@@ -121,6 +121,10 @@ begins_level (c ∷ text) =
     if c == 33 then begins_with_variant text else
     begins_with_variant (c ∷ text)
 
--- and whether the first part does
+-- where memory may be asked for: a text that begins with a star takes none, whether it is a star or not
+abbrev pub level_allocates : List ℕ → Bool
+level_allocates text = not (begins_with_star text) && begins_level text
+
+-- whether the first part is a star, or begins with a variant
 abbrev pub begins_with_level : List ℕ → Bool
 begins_with_level text = first_is begins_level (slice_split (λ c. c == 46) text)

@@ -2,10 +2,10 @@
 
 ghost use Rattle.std.specs.Prelude.{◌≡◌, ◌⊎◌, false, true, IfOk, IfErr, Ok, Err, Some, option_map};
 ghost use Rattle.pgv_value.specs.declared.tree_error.PgLQueryParseError.TheVariants.{Memory};
+ghost use Rattle.pgv_ltree.specs.Each.{GivesRead};
 ghost use Rattle.pgv_lquery.specs.LevelView.{level_of};
 ghost use Rattle.pgv_lquery.specs.QueryPrinted.{printed_level};
-ghost use Rattle.pgv_lquery.specs.QueryRead.{begins_level, begins_with_variant, between_read, bound_read, braced, count_read, inner_read, level_read, star_read, variants_read};
-ghost use Rattle.pgv_lquery.specs.QueryText.{begins_with_star};
+ghost use Rattle.pgv_lquery.specs.QueryRead.{begins_with_variant, between_read, bound_read, braced, count_read, inner_read, level_allocates, level_read, star_read, variants_read};
 
 mod print;
 
@@ -98,9 +98,7 @@ fn star_of(text: &str) -> Result<PgLQueryLevel, PgLQueryParseError>
 
 /// The variants of a text.
 fn variants_of(alloc: Global, text: &str) -> Result<Vec<PgLQueryVariant>, PgLQueryParseError>
-    ensures ok { IfOk result (λ vs. variants_read text.now ≡ Ok vs.items) }
-    ensures err { IfErr result (λ e. (variants_read text.now ≡ Err e) ⊎ (e ≡ Memory)) }
-    ensures refused_exactly { begins_with_variant text.now ≡ false → IfErr result (λ e. variants_read text.now ≡ Err e) }
+    ensures { GivesRead (λ variants. variants.items) Memory (begins_with_variant text.now) (variants_read text.now) result }
 {
     let mut variants = Vec::new(alloc);
     for variant in text.split('|') {
@@ -116,10 +114,7 @@ impl PgLQueryLevel {
     /// and an invalid variant with LTreeParrseError. A text that begins with `*` takes no memory, whether it is a star
     /// or not, and an invalid first variant is refused before memory is asked for.
     pub fn from_str(alloc: Global, text: &str) -> Result<PgLQueryLevel, PgLQueryParseError>
-        ensures ok { IfOk result (λ l. level_read text.now ≡ Ok (level_of l)) }
-        ensures err { IfErr result (λ e. (level_read text.now ≡ Err e) ⊎ (e ≡ Memory)) }
-        ensures refused_exactly { begins_level text.now ≡ false → IfErr result (λ e. level_read text.now ≡ Err e) }
-        ensures star { begins_with_star text.now ≡ true → IfErr result (λ e. level_read text.now ≡ Err e) }
+        ensures { GivesRead level_of Memory (level_allocates text.now) (level_read text.now) result }
     {
         if text.is_empty() {
             return Err(PgLQueryParseError::EmptyString);

@@ -5,7 +5,7 @@ ghost use Rattle.std.specs.Iterator.{Drains, IsFinite, YieldsThen};
 ghost use Rattle.std.specs.Option.{option_to_list};
 ghost use Rattle.std.specs.Vec.Iter.{into_iter_items, into_iter_len};
 ghost use Rattle.pgv_value.specs.declared.tree_error.PgLQueryParseError.TheVariants.{Memory};
-ghost use Rattle.pgv_ltree.specs.Each.{read_each};
+ghost use Rattle.pgv_ltree.specs.Each.{GivesRead, read_each};
 ghost use Rattle.pgv_lquery.specs.LevelView.{level_of};
 ghost use Rattle.pgv_lquery.specs.Queries.{is_query};
 ghost use Rattle.pgv_lquery.specs.QueryPrinted.{printed_query};
@@ -99,9 +99,7 @@ impl PgLQuery {
     /// The query of a text: levels joined by `.`. It is refused as its first invalid level is, before memory is asked
     /// for if that is the first level and its beginning is invalid.
     pub fn from_str(alloc: Global, text: &str) -> Result<PgLQuery, PgLQueryParseError>
-        ensures ok { IfOk result (λ query. query_read text.now ≡ Ok query) }
-        ensures err { IfErr result (λ e. (query_read text.now ≡ Err e) ⊎ (e ≡ Memory)) }
-        ensures refused_exactly { begins_with_level text.now ≡ false → IfErr result (λ e. query_read text.now ≡ Err e) }
+        ensures { GivesRead (λ query. query) Memory (begins_with_level text.now) (query_read text.now) result }
     {
         let mut levels = Vec::new(alloc);
         for level in text.split('.') {

@@ -3,10 +3,11 @@
 ghost use Rattle.std.specs.Prelude.{◌≡◌, ◌+◌, ◌⊎◌, IfOk, IfErr, OnOk, OnErr, Ok, Err, Some, take, drop, true};
 ghost use Rattle.std.specs.List.{list_all, position};
 ghost use Rattle.pgv_value.specs.declared.tree_error.PgLQueryParseError.TheVariants.{Memory};
+ghost use Rattle.pgv_ltree.specs.Each.{GivesRead};
 ghost use Rattle.pgv_lquery.specs.Flags.{bit, modifier_bits};
 ghost use Rattle.pgv_lquery.specs.Queries.{is_variant};
 ghost use Rattle.pgv_lquery.specs.QueryPrinted.{printed_variant};
-ghost use Rattle.pgv_lquery.specs.QueryRead.{label_length as label_length_of, variant_read};
+ghost use Rattle.pgv_lquery.specs.QueryRead.{is_variant_text, label_length as label_length_of, variant_read};
 ghost use Rattle.pgv_lquery.specs.QueryText.{is_mark as is_mark_of};
 
 use crate::flag::{PgLQueryVariantFlag, print_marks};
@@ -94,9 +95,7 @@ impl PgLQueryVariant {
     /// The variant of a text: a label and, at its end, `*`, `@` and `%` in any order and number. An invalid text is
     /// refused with LTreeParrseError, before memory is asked for.
     pub fn from_str(alloc: Global, text: &str) -> Result<PgLQueryVariant, PgLQueryParseError>
-        ensures ok { IfOk result (λ v. variant_read text.now ≡ Ok v) }
-        ensures err { IfErr result (λ e. (variant_read text.now ≡ Err e) ⊎ (e ≡ Memory)) }
-        ensures refused_exactly { (why : _) → variant_read text.now ≡ Err why → IfErr result (λ e. e ≡ why) }
+        ensures { GivesRead (λ variant. variant) Memory (is_variant_text text.now) (variant_read text.now) result }
     {
         let (label, marks) = split_marks(text);
         let marks = marks.as_bytes();

@@ -47,11 +47,6 @@ pub refused_by_one : {X M E : Type 0} (read : X → Result M E) (all done : List
 refused_by_one read all done ms n x e d l at h f =
     ap (read_each read) (at_element all n x l at) ∙ each-fault read (take n all) ms x e (drop (suc n) all) (ap (read_each read) (sym d) ∙ h) f
 
-pub each-refused : {X M E : Type 0} (read : X → Result M E) (memory : E) (all done : List X) (ms : List M) (n : ℕ) (x : X) (e : E) →
-    done ≡ take n all → n < length all → x ≡ get_or all n x → read_each read done ≡ Ok ms → (read x ≡ Err e) ⊎ (e ≡ memory) → (read_each read all ≡ Err e) ⊎ (e ≡ memory)
-each-refused read memory all done ms n x e d l at h (inr m) = inr m
-each-refused read memory all done ms n x e d l at h (inl f) = inl (refused_by_one read all done ms n x e d l at h f)
-
 -- a text that is no label isn't read
 pub unread_label : {A : Type 0} (text m : List ℕ) → is_label text ≡ false → label_read text ≡ Ok m → A
 unread_label text m isnt e = by (rw isnt at e)
@@ -69,6 +64,20 @@ module _ {X M E : Type 0} (read : X → Result M E) (good : X → Bool) (passes 
       let g = first_of (read y) (read_each read (take n all)) ms (ap (read_each read) (sym d) ∙ h) in
       absurd (not_both (good y) (passes y g.value g.is) isnt)
 
+  -- where the text that is read now passes, the first did
+  pub first_passed : (all done : List X) (ms : List M) (n : ℕ) (x : X) → done ≡ take n all → n < length all → x ≡ get_or all n x → read_each read done ≡ Ok ms → good x ≡ true → first_is good all ≡ true
+  first_passed all done ms n x d l at h is = by (first_is good all) refl
+    where
+      by : (b : Bool) → first_is good all ≡ b → first_is good all ≡ true
+      by true first = first
+      by false first = absurd (not_both (good x) is (first_now all done ms n x d l at h first))
+
+  -- what refuses the text that is read now refuses them all, or memory ran out after the first passed
+  pub each_gives : (memory : E) (all done : List X) (ms : List M) (n : ℕ) (x : X) (e : E) → done ≡ take n all → n < length all → x ≡ get_or all n x → read_each read done ≡ Ok ms →
+      (read x ≡ Err e) ⊎ ((e ≡ memory) × (good x ≡ true)) → (read_each read all ≡ Err e) ⊎ ((e ≡ memory) × (first_is good all ≡ true))
+  each_gives memory all done ms n x e d l at h (inl f) = inl (refused_by_one read all done ms n x e d l at h f)
+  each_gives memory all done ms n x e d l at h (inr m) = inr (m.0, first_passed all done ms n x d l at h m.1)
+
   -- where all are read, the first passes it
   pub first_passes : (all : List X) (ms : List M) → read_each read all ≡ Ok ms → first_is good all ≡ true
   first_passes [] ms h = refl
@@ -80,3 +89,28 @@ read_is_label text m e = by (is_label text) refl
     by : (b : Bool) → is_label text ≡ b → is_label text ≡ true
     by true is = is
     by false is = unread_label text m is e
+
+-- ---- why texts are no labels
+
+label_fault : (text : List ℕ) (e : PgLTreeParseError) → label_read text ≡ Err e → e ≡ InvalidLtreeLabel
+label_fault text e r = by (is_label text) refl
+  where
+    same : (let s : Result (List ℕ) PgLTreeParseError = Err InvalidLtreeLabel in s) ≡ Err e → e ≡ InvalidLtreeLabel
+    same f = cc
+
+    other : {A : Type 0} → (let s : Result (List ℕ) PgLTreeParseError = Ok text in s) ≡ Err e → A
+    other f = absurd (cc)
+
+    by : (b : Bool) → is_label text ≡ b → e ≡ InvalidLtreeLabel
+    by true is = other (rw is at r)
+    by false isnt = same (rw isnt at r)
+
+pub labels_fault : (texts : List (List ℕ)) (e : PgLTreeParseError) → read_each label_read texts ≡ Err e → e ≡ InvalidLtreeLabel
+labels_fault [] e r = absurd (cc)
+labels_fault (text ∷ texts) e r = by (label_read text) (read_each label_read texts) (label_fault text e) (labels_fault texts e) r
+  where
+    by : (first : Result (List ℕ) PgLTreeParseError) (others : Result (List (List ℕ)) PgLTreeParseError) → (first ≡ Err e → e ≡ InvalidLtreeLabel) → (others ≡ Err e → e ≡ InvalidLtreeLabel) →
+        and_others first others ≡ Err e → e ≡ InvalidLtreeLabel
+    by (Err d) others f g h = let d_is : d ≡ e = cc in f (ap (λ (c : PgLTreeParseError). let s : Result (List ℕ) PgLTreeParseError = Err c in s) d_is)
+    by (Ok m) (Err d) f g h = let d_is : d ≡ e = cc in g (ap (λ (c : PgLTreeParseError). let s : Result (List (List ℕ)) PgLTreeParseError = Err c in s) d_is)
+    by (Ok m) (Ok ms) f g h = absurd (cc)

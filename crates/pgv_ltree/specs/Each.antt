@@ -1,5 +1,5 @@
 -- Texts that are read one after another: the first that is refused refuses them all.
-use Rattle.std.specs.Prelude.{Bool, true, List, [], ◌∷◌, Result, Ok, Err}
+use Rattle.std.specs.Prelude.{◌≡◌, ◌⊎◌, Bool, true, List, [], ◌∷◌, Result, Ok, Err}
 
 -- what is read first, and then the others
 abbrev pub and_others : {M E : Type 0} → Result M E → Result (List M) E → Result (List M) E
@@ -15,3 +15,8 @@ read_each read (x ∷ xs) = and_others (read x) (read_each read xs)
 abbrev pub first_is : {X : Type 0} → (X → Bool) → List X → Bool
 first_is good [] = true
 first_is good (x ∷ xs) = good x
+
+-- what was returned, seen by view, is what a text is read as, unless memory ran out where it may have been asked for
+abbrev pub GivesRead : {V M E : Type 0} → (V → M) → E → Bool → Result M E → Result V E → Type 0
+GivesRead view memory may_alloc read (Ok v) = read ≡ Ok (view v)
+GivesRead view memory may_alloc read (Err e) = (read ≡ Err e) ⊎ ((e ≡ memory) × (may_alloc ≡ true))

@@ -1,15 +1,15 @@
 -- What is written of a tree is read back as it; a tree without labels comes back as one empty label (`tree_kept`).
-use Rattle.std.specs.Prelude.{◌≡◌, ℕ, true, List, [], ◌∷◌, Some, refl}
+use Rattle.std.specs.Prelude.{◌≡◌, ℕ, true, List, [], ◌∷◌, Some, Ok, refl}
 use Rattle.std.specs.List.{list_all}
 use Rattle.std.specs.Result.{result_ok}
 use Rattle.std.proofs.Common.{ap, ◌∙◌}
 use Rattle.pgv_buf.specs.Tokens.{bytes}
 use Rattle.pgv_value.specs.FrameBinary.{Part}
-use Rattle.pgv_value.specs.Outcome.{reading_of}
+use Rattle.pgv_value.specs.Outcome.{ok_of, reading_of}
 use Rattle.pgv_value.specs.declared.value.PgValueFormat.TheVariants.{Binary}
 use Rattle.pgv_codec.specs.Back.{ReadsBack, always}
 use Rattle.pgv_codec.specs.BackParts.{guarded}
-use Rattle.pgv_codec.specs.BackScalars.{is_read, part_is}
+use Rattle.pgv_codec.specs.BackScalars.{part_is}
 use Rattle.pgv_codec.specs.Image.{image_of}
 use Rattle.pgv_ltree.specs.Ascii.{are_ascii, ascii_is_utf8, ascii_joined, is_ascii}
 use Rattle.pgv_ltree.specs.Joins.{wider}
@@ -27,15 +27,15 @@ tree_kept (label ∷ labels) = label ∷ labels
 pub label_is_ascii : (label : List ℕ) → is_label label ≡ true → are_ascii label ≡ true
 label_is_ascii label e = wider is_label_char is_ascii char_is_ascii label (label_chars label e)
 
-text_again : (labels : List (List ℕ)) → list_all is_label labels ≡ true → tree_in_text (printed_tree labels) ≡ Some (tree_kept labels)
+text_again : (labels : List (List ℕ)) → list_all is_label labels ≡ true → (tree_in_text (printed_tree labels)).answer ≡ Ok (tree_kept labels)
 text_again [] e = refl
-text_again (label ∷ labels) e = ap result_ok (tree_again label labels e)
+text_again (label ∷ labels) e = rw (tree_again label labels e) refl
 
-binary_again : (labels : List (List ℕ)) → list_all is_label labels ≡ true → tree_in_binary (1 ∷ printed_tree labels) ≡ Some (tree_kept labels)
+binary_again : (labels : List (List ℕ)) → list_all is_label labels ≡ true → (tree_in_binary (1 ∷ printed_tree labels)).answer ≡ Ok (tree_kept labels)
 binary_again labels e =
     rw (ascii_is_utf8 (printed_tree labels) (ascii_joined 46 refl labels (wider is_label are_ascii label_is_ascii labels e))) (text_again labels e)
 
 pub tree_back : ReadsBack tree_image (reading_of parse_tree) tree_kept always
 tree_back labels i t p os e whole small fit =
     let g = guarded (list_all is_label labels) (Some (image_of (bytes (1 ∷ printed_tree labels)))) i e in
-    ap (λ (part : Part). reading_of parse_tree t Binary part) (part_is (1 ∷ printed_tree labels) i p os g.1) ∙ is_read _ _ _ (binary_again labels g.0)
+    ap (λ (part : Part). reading_of parse_tree t Binary part) (part_is (1 ∷ printed_tree labels) i p os g.1) ∙ ap ok_of (binary_again labels g.0)

@@ -3,6 +3,7 @@
 ghost use Rattle.std.specs.Prelude.{◌≡◌, ◌⊎◌, IfOk, IfErr, Ok, Err, Some, true, false, string_bytes};
 ghost use Rattle.std.specs.List.{list_all};
 ghost use Rattle.pgv_value.specs.declared.tree_error.PgLTreeParseError.TheVariants.{InvalidLtreeLabel, Memory};
+ghost use Rattle.pgv_ltree.specs.Each.{GivesRead};
 ghost use Rattle.pgv_ltree.specs.Labels.{is_label_char as is_label_char_of, is_label as is_label_of, label_read};
 
 use pgv_value::PgLTreeParseError;
@@ -67,10 +68,7 @@ impl PgLTreeLabel {
     /// The label of a text, copied. A text that is not a valid label is refused with InvalidLtreeLabel before memory is
     /// asked for.
     pub fn from_str(alloc: Global, text: &str) -> Result<PgLTreeLabel, PgLTreeParseError>
-        ensures ok { IfOk result (λ label. label_read text.now ≡ Ok label) }
-        ensures err { IfErr result (λ e. (label_read text.now ≡ Err e) ⊎ (e ≡ Memory)) }
-        ensures refused { IfErr result (λ e. (e ≡ InvalidLtreeLabel) ⊎ (e ≡ Memory)) }
-        ensures refused_exactly { is_label_of text.now ≡ false → IfErr result (λ e. e ≡ InvalidLtreeLabel) }
+        ensures { GivesRead (λ label. label) Memory (is_label_of text.now) (label_read text.now) result }
     {
         if !is_label(text) {
             return Err(PgLTreeParseError::InvalidLtreeLabel);

@@ -6,7 +6,7 @@ ghost use Rattle.std.specs.List.{list_all};
 ghost use Rattle.std.specs.Option.{option_to_list};
 ghost use Rattle.std.specs.Vec.Iter.{into_iter_items, into_iter_len};
 ghost use Rattle.pgv_value.specs.declared.tree_error.PgLTreeParseError.TheVariants.{InvalidLtreeLabel, Memory};
-ghost use Rattle.pgv_ltree.specs.Each.{read_each};
+ghost use Rattle.pgv_ltree.specs.Each.{GivesRead, read_each};
 ghost use Rattle.pgv_ltree.specs.Labels.{is_label, label_read};
 ghost use Rattle.pgv_ltree.specs.Taken.{GivesAfterRead, GivesTexts};
 ghost use Rattle.pgv_ltree.specs.Trees.{begins_with_label, printed_tree, tree_read};
@@ -93,10 +93,7 @@ impl PgLTree {
     /// The tree of a text: labels joined by `.`. The empty text is one empty label. A text with an invalid label is
     /// refused with InvalidLtreeLabel, before memory is asked for if it is the first label.
     pub fn from_str(alloc: Global, text: &str) -> Result<PgLTree, PgLTreeParseError>
-        ensures ok { IfOk result (λ tree. tree_read text.now ≡ Ok tree) }
-        ensures err { IfErr result (λ e. (tree_read text.now ≡ Err e) ⊎ (e ≡ Memory)) }
-        ensures refused { IfErr result (λ e. (e ≡ InvalidLtreeLabel) ⊎ (e ≡ Memory)) }
-        ensures refused_exactly { begins_with_label text.now ≡ false → IfErr result (λ e. e ≡ InvalidLtreeLabel) }
+        ensures { GivesRead (λ tree. tree) Memory (begins_with_label text.now) (tree_read text.now) result }
     {
         let mut labels = Vec::new(alloc);
         for label in text.split('.') {

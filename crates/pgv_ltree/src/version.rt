@@ -1,7 +1,7 @@
 //! The version that a text is written after, of trees and of their queries (PostgreSQL, "ltree").
 
-ghost use Rattle.std.specs.Prelude.{◌≡◌, IfOk, IfErr, None, Some};
-ghost use Rattle.pgv_ltree.specs.TreesCodec.{versioned, version_fault};
+ghost use Rattle.pgv_value.specs.Parsed.{GivesExactly};
+ghost use Rattle.pgv_ltree.specs.TreesCodec.{versioned};
 
 use pgv_value::CodecError;
 
@@ -12,8 +12,7 @@ pub const VERSION: u8 = 1;
 /// here, and other bytes than UTF-8 with [`Utf8`](CodecError::Utf8) (C14).
 #[tactic(auto, using(pgv_value::proofs::Text::whole_text))]
 pub fn text_after_version(form: &[u8], wrong_version: CodecError) -> Result<&str, CodecError>
-    ensures found { IfOk result (λ text. versioned form.now ≡ Some text.now) }
-    ensures none { IfErr result (λ e. (versioned form.now ≡ None) × (e ≡ version_fault wrong_version form.now)) }
+    ensures { GivesExactly (λ text. text.now) (versioned wrong_version form.now) result }
 {
     let Some((version, text)) = form.split_first() else {
         return Err(CodecError::Short);

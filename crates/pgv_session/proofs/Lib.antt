@@ -7,6 +7,5 @@ pub mod CopySteps
 pub mod Spellings
 pub mod InputLines
 pub mod Feeds
-pub mod SoFar
 pub mod Refusals
 pub mod Explaining

@@ -5,6 +5,5 @@ pub mod RequestsView
 pub mod Session
 pub mod Explained
 pub mod Types
-pub mod Faults
 pub mod ToldView
 pub mod CopiedView

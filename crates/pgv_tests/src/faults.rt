@@ -1,6 +1,6 @@
 //! Readers and writers that fail at a call, and what `run` answers then.
 
-use pgv_session::{MayWait, RunFault, fault_text, run};
+use pgv_runner::{MayWait, RunFault, fault_text, run};
 use std::alloc::Global;
 use std::io::{self, BufRead, Error, ErrorKind, Read, Write};
 

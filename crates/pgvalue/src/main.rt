@@ -1,7 +1,7 @@
 //! `pgvalue`: reads lines of standard input, and shows what the codec writes and reads.
 #![tactic(auto)]
 
-use pgv_session::serve;
+use pgv_runner::serve;
 use std::process::ExitCode;
 
 fn main(rt: HostRuntime) -> ExitCode {

@@ -2,7 +2,7 @@
 //! documents speak of. `tools/server_session` makes the run of three tables.
 #![tactic(auto)]
 
-use pgv_session::serve;
+use pgv_runner::serve;
 use std::process::ExitCode;
 
 fn main(rt: HostRuntime) -> ExitCode {

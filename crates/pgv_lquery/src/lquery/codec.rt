@@ -1,14 +1,11 @@
 //! Queries of label trees, written and read (PostgreSQL, "ltree", lquery).
 
-ghost use Rattle.std.specs.Prelude.{◌≡◌, List, false, IfErr, refl};
+ghost use Rattle.std.specs.Prelude.{List, refl};
 ghost use Rattle.pgv_types.specs.Relations.{softly};
-ghost use Rattle.pgv_value.specs.Outcome.{Gives, reading_of, error_of, takes_of};
-ghost use Rattle.pgv_value.specs.Reading.{Answers, AnswersExactly, Refuses};
+ghost use Rattle.pgv_value.specs.Outcome.{Gives};
 ghost use Rattle.pgv_codec.specs.Saying.{plainly};
-ghost use Rattle.pgv_ltree.specs.TreesCodec.{versioned};
 ghost use Rattle.pgv_lquery.specs.Queries.{Level};
-ghost use Rattle.pgv_lquery.specs.QueryCodec.{lquery, lquery_array, query_binary_refusal, query_fault, query_image, query_in_binary, query_in_text, parse_query, text_takes};
-ghost use Rattle.pgv_lquery.specs.QueryRead.{begins_with_level, query_read};
+ghost use Rattle.pgv_lquery.specs.QueryCodec.{lquery, lquery_array, query_image, query_in_binary, query_in_text, parse_query};
 
 use super::{PgLQuery, print_levels};
 use pgv_codec::{Codec, Decode, Encode, IsNull, PgArgumentBuffer, PgHasArrayType, ReadBack, Type};
@@ -70,20 +67,14 @@ impl Encode for PgLQuery {
 
 /// The query of a text. Another text is refused with [`LQuery`](CodecError::LQuery) (C37).
 fn read_text(alloc: Global, text: &str) -> Result<PgLQuery, CodecError>
-    ensures exact { Answers (λ query. query) (query_in_text text.now) result }
-    ensures exactly { begins_with_level text.now ≡ false → AnswersExactly (λ query. query) (query_in_text text.now) result }
-    ensures refused { IfErr result (λ e. Refuses e (e ≡ query_fault (query_read text.now))) }
-    ensures refused_exactly { begins_with_level text.now ≡ false → IfErr result (λ e. e ≡ query_fault (query_read text.now)) }
+    ensures { Gives (λ query. query) (query_in_text text.now) result }
 {
     Ok(PgLQuery::from_str(alloc, text)?)
 }
 
 /// The query of a version and a text.
 fn read_binary(alloc: Global, form: &[u8]) -> Result<PgLQuery, CodecError>
-    ensures exact { Answers (λ query. query) (query_in_binary form.now) result }
-    ensures exactly { text_takes (versioned form.now) ≡ false → AnswersExactly (λ query. query) (query_in_binary form.now) result }
-    ensures refused { IfErr result (λ e. Refuses e (e ≡ query_binary_refusal form.now)) }
-    ensures refused_exactly { text_takes (versioned form.now) ≡ false → IfErr result (λ e. e ≡ query_binary_refusal form.now) }
+    ensures { Gives (λ query. query) (query_in_binary form.now) result }
 {
     let wrong_version = CodecError::LQuery(PgLQueryParseError::InvalidLqueryVersion);
     let text = text_after_version(form, wrong_version)?;

@@ -1,13 +1,10 @@
 //! Trees of labels, written and read (PostgreSQL, "ltree").
 
-ghost use Rattle.std.specs.Prelude.{◌≡◌, ℕ, List, false, IfErr, refl};
+ghost use Rattle.std.specs.Prelude.{ℕ, List, refl};
 ghost use Rattle.pgv_types.specs.Relations.{softly};
-ghost use Rattle.pgv_value.specs.Reading.{Answers, AnswersExactly, Refuses};
-ghost use Rattle.pgv_value.specs.declared.error.CodecError.TheVariants.{LTree};
-ghost use Rattle.pgv_value.specs.declared.tree_error.PgLTreeParseError.TheVariants.{InvalidLtreeLabel};
+ghost use Rattle.pgv_value.specs.Outcome.{Gives};
 ghost use Rattle.pgv_codec.specs.Saying.{plainly};
-ghost use Rattle.pgv_ltree.specs.Trees.{begins_with_label};
-ghost use Rattle.pgv_ltree.specs.TreesCodec.{ltree, ltree_array, tree_image, tree_in_binary, tree_in_text, tree_binary_refusal, parse_tree, text_takes, versioned};
+ghost use Rattle.pgv_ltree.specs.TreesCodec.{ltree, ltree_array, tree_image, tree_in_binary, tree_in_text, parse_tree};
 
 use super::{PgLTree, print_labels};
 use crate::version::{VERSION, text_after_version};
@@ -68,20 +65,14 @@ impl Encode for PgLTree {
 
 /// The tree of a text. Another text is refused with [`LTree`](CodecError::LTree) (C36).
 fn read_text(alloc: Global, text: &str) -> Result<PgLTree, CodecError>
-    ensures exact { Answers (λ tree. tree) (tree_in_text text.now) result }
-    ensures exactly { begins_with_label text.now ≡ false → AnswersExactly (λ tree. tree) (tree_in_text text.now) result }
-    ensures refused { IfErr result (λ e. Refuses e (e ≡ LTree InvalidLtreeLabel)) }
-    ensures refused_exactly { begins_with_label text.now ≡ false → IfErr result (λ e. e ≡ LTree InvalidLtreeLabel) }
+    ensures { Gives (λ tree. tree) (tree_in_text text.now) result }
 {
     Ok(PgLTree::from_str(alloc, text)?)
 }
 
 /// The tree of a version and a text.
 fn read_binary(alloc: Global, form: &[u8]) -> Result<PgLTree, CodecError>
-    ensures exact { Answers (λ tree. tree) (tree_in_binary form.now) result }
-    ensures exactly { text_takes (versioned form.now) ≡ false → AnswersExactly (λ tree. tree) (tree_in_binary form.now) result }
-    ensures refused { IfErr result (λ e. Refuses e (e ≡ tree_binary_refusal form.now)) }
-    ensures refused_exactly { text_takes (versioned form.now) ≡ false → IfErr result (λ e. e ≡ tree_binary_refusal form.now) }
+    ensures { Gives (λ tree. tree) (tree_in_binary form.now) result }
 {
     let wrong_version = CodecError::LTree(PgLTreeParseError::InvalidLtreeVersion);
     let text = text_after_version(form, wrong_version)?;

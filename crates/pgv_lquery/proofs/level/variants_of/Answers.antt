@@ -1,52 +1,43 @@
-use Rattle.std.proofs.Common.{◌∙◌, List, ℕ, ap, map, length, lit<, Bor, refl}
+use Rattle.std.proofs.Common.{◌∙◌, List, ℕ, ap, inr, map, length, lit<, Bor, refl}
 use Rattle.std.proofs.lemmas.Result.{err_from_is_err_and}
 use Rattle.std.proofs.lemmas.Iterator.Consumers.{YieldsList-turn, YieldsList-so_far, YieldsList-end}
 use Rattle.std.proofs.lemmas.Iterator.Splits.{YieldsList-from_str_split}
 use Rattle.std.proofs.lemmas.List.{map_push}
 use Rattle.std.specs.List.{slice_split}
 use Rattle.std.specs.Prelude.{◌==◌}
-use Rattle.pgv_codec.proofs.Refusing.{not_both}
 use Rattle.pgv_value.specs.declared.tree_error.PgLQueryParseError.TheVariants.{Memory}
 use Rattle.pgv_ltree.specs.Each.{read_each}
-use Rattle.pgv_ltree.proofs.EachRead.{each-push, each-refused, first_now, refused_by_one}
+use Rattle.pgv_ltree.proofs.EachRead.{each-push, each_gives, first_passed}
 use Rattle.pgv_lquery.specs.QueryRead.{is_variant_text, variant_read}
-use Rattle.pgv_lquery.proofs.Begun.{error_of, variant_passes}
+use Rattle.pgv_lquery.proofs.Begun.{variant_passes}
 use Rattle.pgv_lquery.proofs.level.variants_of.Goals as goal
 
-pub returns-in_err-from_str-clause-err : goal.returns-in_err-from_str-clause-err
-returns-in_err-from_str-clause-err c =
+pub returns-in_err-from_str : goal.returns-in_err-from_str
+returns-in_err-from_str c =
     let chain = YieldsList-from_str_split 124 c.args.text.now (lit< tt) (cc) (cc) (cc) in
     let t = YieldsList-turn chain c.loop-variant.yielded _ c.loop-variant.yielded_by _ _ c.in-Some.variant c.in-Some.is c.next.ensures.steps in
     let so_far = YieldsList-so_far chain c.loop-variant.yielded _ c.loop-variant.yielded_by in
     let p = err_from_is_err_and c.from_residual.result c.from_residual.ensures.1 in
-    rw (p.1, p.2) (each-refused variant_read Memory (slice_split (λ c. c == 124) c.args.text.now) _ c.loop-variant.variants.items (length c.loop-variant.yielded) c.in-Some.variant.now c.in_err-from_str.field-0.0 so_far t.0 t.1 c.loop-variant.invariant.2 c.in_err-from_str.ensures.err)
+    rw (p.1, p.2)
+    (each_gives variant_read is_variant_text variant_passes Memory (slice_split (λ c. c == 124) c.args.text.now) _ c.loop-variant.variants.items (length c.loop-variant.yielded) c.in-Some.variant.now c.in_err-from_str.field-0.0 so_far t.0 t.1 c.loop-variant.invariant.2 c.in_err-from_str.ensures)
 
-pub returns-in_err-from_str-clause-refused_exactly : goal.returns-in_err-from_str-clause-refused_exactly
-returns-in_err-from_str-clause-refused_exactly c isnt =
+-- one was there before memory for the list was asked for
+pub returns-in_err-push : goal.returns-in_err-push
+returns-in_err-push c =
     let chain = YieldsList-from_str_split 124 c.args.text.now (lit< tt) (cc) (cc) (cc) in
     let t = YieldsList-turn chain c.loop-variant.yielded _ c.loop-variant.yielded_by _ _ c.in-Some.variant c.in-Some.is c.next.ensures.steps in
     let so_far = YieldsList-so_far chain c.loop-variant.yielded _ c.loop-variant.yielded_by in
-    let none = first_now variant_read is_variant_text variant_passes (slice_split (λ c. c == 124) c.args.text.now) _ c.loop-variant.variants.items (length c.loop-variant.yielded) c.in-Some.variant.now so_far t.0 t.1 c.loop-variant.invariant.2 isnt in
-    let why = error_of (variant_read c.in-Some.variant.now) none in
-    let same = c.in_err-from_str.ensures.refused_exactly why.0 why.1 in
-    let p = err_from_is_err_and c.from_residual.result c.from_residual.ensures.1 in
-    rw (p.1, p.2) (refused_by_one variant_read (slice_split (λ c. c == 124) c.args.text.now) _ c.loop-variant.variants.items (length c.loop-variant.yielded) c.in-Some.variant.now c.in_err-from_str.field-0.0 so_far t.0 t.1 c.loop-variant.invariant.2 (rw same why.1))
-
-pub returns-in_err-push-clause-refused_exactly : goal.returns-in_err-push-clause-refused_exactly
-returns-in_err-push-clause-refused_exactly c isnt =
-    let chain = YieldsList-from_str_split 124 c.args.text.now (lit< tt) (cc) (cc) (cc) in
-    let t = YieldsList-turn chain c.loop-variant.yielded _ c.loop-variant.yielded_by _ _ c.in-Some.variant c.in-Some.is c.next.ensures.steps in
-    let so_far = YieldsList-so_far chain c.loop-variant.yielded _ c.loop-variant.yielded_by in
-    let none = first_now variant_read is_variant_text variant_passes (slice_split (λ c. c == 124) c.args.text.now) _ c.loop-variant.variants.items (length c.loop-variant.yielded) c.in-Some.variant.now so_far t.0 t.1 c.loop-variant.invariant.2 isnt in
-    absurd (not_both (is_variant_text c.in-Some.variant.now) (variant_passes c.in-Some.variant.now c.in_ok-from_str.field-0 c.in_ok-from_str.ensures.ok) none)
+    let passed = variant_passes c.in-Some.variant.now c.in_ok-from_str.field-0 c.in_ok-from_str.ensures in
+    let p = err_from_is_err_and c.from_residual-in_err-push.result c.from_residual-in_err-push.ensures.1 in
+    rw (p.1, p.2) (inr (refl, first_passed variant_read is_variant_text variant_passes (slice_split (λ c. c == 124) c.args.text.now) _ c.loop-variant.variants.items (length c.loop-variant.yielded) c.in-Some.variant.now so_far t.0 t.1 c.loop-variant.invariant.2 passed))
 
 pub loop-variant-preserved : goal.loop-variant-preserved
 loop-variant-preserved c =
-    let more = each-push variant_read (map (λ (x : Bor (List ℕ)). x.now) c.loop-variant.yielded) c.loop-variant.variants.items c.in-Some.variant.now c.in_ok-from_str.field-0 c.loop-variant.invariant.2 c.in_ok-from_str.ensures.ok in
+    let more = each-push variant_read (map (λ (x : Bor (List ℕ)). x.now) c.loop-variant.yielded) c.loop-variant.variants.items c.in-Some.variant.now c.in_ok-from_str.field-0 c.loop-variant.invariant.2 c.in_ok-from_str.ensures in
     (tt, tt, ap (read_each variant_read) (map_push (λ (x : Bor (List ℕ)). x.now) c.loop-variant.yielded c.in-Some.variant) ∙ more ∙ rw c.in_ok-push.ensures.items refl)
 
-pub returns-clause-ok : goal.returns-clause-ok
-returns-clause-ok c =
+pub returns : goal.returns
+returns c =
     let chain = YieldsList-from_str_split 124 c.args.text.now (lit< tt) (cc) (cc) (cc) in
     let all = YieldsList-end chain c.loop-variant.yielded _ c.loop-variant.yielded_by _ _ c.in-None.is c.next.ensures.steps in
     rw (← all.0) c.loop-variant.invariant.2

@@ -16,7 +16,7 @@ returns-in_err-from_str-clause-err g c =
       c.in-Some.level.now,
       c.into_iter-level-iterator.ensures.into_iter_gives,
       (c.loop-level.yielded, c.in-Some.level, c.next.new.self, c.loop-level.query, (c.loop-level.level-iterator, c.loop-level.yielded_by, c.in-Some.ensures.steps), refl, c.loop-level.invariant),
-      begun_or_refused c.in-Some.level.now c.in_err-from_str.field-0.0 c.in_err-from_str.ensures.err c.in_err-from_str.ensures.refused_exactly,
+      begun_or_refused c.in-Some.level.now c.in_err-from_str.field-0.0 c.in_err-from_str.ensures,
     )
 
 pub returns-in_err-push-clause-err : goal.returns-in_err-push-clause-err
@@ -27,11 +27,11 @@ returns-in_err-push-clause-err g c =
       c.in-Some.level.now,
       c.into_iter-level-iterator.ensures.into_iter_gives,
       (c.loop-level.yielded, c.in-Some.level, c.next.new.self, c.loop-level.query, (c.loop-level.level-iterator, c.loop-level.yielded_by, c.in-Some.ensures.steps), refl, c.loop-level.invariant),
-      inr (refl, level_passes c.in-Some.level.now (level_of c.in_ok-from_str.field-0) c.in_ok-from_str.ensures.ok),
+      inr (refl, level_passes c.in-Some.level.now (level_of c.in_ok-from_str.field-0) c.in_ok-from_str.ensures),
     )
 
 pub loop-level-preserved : goal.loop-level-preserved
 loop-level-preserved g c =
     ap (read_each level_read) (map_push (λ (x : Bor (List ℕ)). x.now) c.loop-level.yielded c.in-Some.level)
-    ∙ each-push level_read (map (λ (x : Bor (List ℕ)). x.now) c.loop-level.yielded) c.loop-level.query c.in-Some.level.now (level_of c.in_ok-from_str.field-0) c.loop-level.invariant c.in_ok-from_str.ensures.ok
+    ∙ each-push level_read (map (λ (x : Bor (List ℕ)). x.now) c.loop-level.yielded) c.loop-level.query c.in-Some.level.now (level_of c.in_ok-from_str.field-0) c.loop-level.invariant c.in_ok-from_str.ensures
     ∙ rw c.in_ok-push.ensures.ok refl

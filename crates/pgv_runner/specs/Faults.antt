@@ -1,7 +1,7 @@
 -- What the program says of a fault.
 use Rattle.std.specs.Prelude.{ℕ, List, codes}
-use Rattle.pgv_session.specs.declared.runner.RunFault.{RunFault}
-use Rattle.pgv_session.specs.declared.runner.RunFault.TheVariants.{Read, Write, Memory}
+use Rattle.pgv_runner.specs.declared.runner.RunFault.{RunFault}
+use Rattle.pgv_runner.specs.declared.runner.RunFault.TheVariants.{Read, Write, Memory}
 
 abbrev pub text_of_fault : RunFault → List ℕ
 text_of_fault Read = codes "pgvalue: read failed"

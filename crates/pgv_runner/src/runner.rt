@@ -4,10 +4,9 @@ ghost use Rattle.std.specs.Prelude.{◌≡◌, ◌++◌, ◌∷◌, [], List, �
 ghost use Rattle.std.specs.Io.KnownBytes.{Appends, IsAtEnd, Keeps};
 ghost use Rattle.pgv_session.specs.Session.{Answers, IsSession, lines_of};
 ghost use Rattle.pgv_session.specs.Lines.{before};
-ghost use Rattle.pgv_session.specs.Faults.{text_of_fault};
+ghost use Rattle.pgv_runner.specs.Faults.{text_of_fault};
 
-use crate::line::split_at_byte;
-use crate::session::answer;
+use pgv_session::{answer, split_at_byte};
 use pgv_wire::PgArguments;
 use std::alloc::{Allocator, Global};
 use std::io::{BufRead, BufReader, Error, ErrorKind, Read, Write};

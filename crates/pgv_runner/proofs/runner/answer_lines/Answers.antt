@@ -4,8 +4,8 @@ use Rattle.std.specs.Io.KnownBytes.{Appends}
 use Rattle.std.specs.Io.BufRead.{take_through, DropsThrough}
 use Rattle.pgv_session.specs.Lines.{before}
 use Rattle.pgv_session.specs.Session.{Answers}
-use Rattle.pgv_session.proofs.SoFar.{kept, so_far, whole}
-use Rattle.pgv_session.proofs.runner.answer_lines.Goals as goal
+use Rattle.pgv_runner.proofs.SoFar.{kept, so_far, whole}
+use Rattle.pgv_runner.proofs.runner.answer_lines.Goals as goal
 
 pub returns-in-Ok-eq0-clause-session : goal.returns-in-Ok-eq0-clause-session
 returns-in-Ok-eq0-clause-session g c =
