@@ -4,23 +4,28 @@
 -- Written: for each pair the length and the bytes of its key and of its value, where the length -1 is null. There is no image
 -- where a number is above 2147483647 (C9).
 -- Read in binary alone: a number that isn't negative, so many pairs, each a key that isn't null and a value or null, all UTF-8,
--- and anything after them. The pairs are put into the map in turn, so that a later one of a key wins.
-use Rattle.std.specs.Prelude.{ℕ, zero, suc, nat_le, nat_lt, ◌&&◌, Bool, true, List, [], ◌∷◌, ◌++◌, length, map, Option, Some, None, option_map, if◌then◌else◌, string_bytes}
+-- and anything after them. The pairs are put into the map in turn, so that a later one of a key wins. The first number, key or
+-- value that can't be read says why: bytes that end too early are C15, a negative number of pairs C9, a negative length C16, a key
+-- that is null C35, and a text that isn't UTF-8 C14. Memory is asked for only after the first key was there.
+use Rattle.std.specs.Prelude.{ℕ, zero, suc, nat_le, nat_lt, ◌&&◌, Bool, true, List, [], ◌∷◌, ◌++◌, length, map, Option, Some, None, Ok, Err, option_map, if◌then◌else◌, string_bytes}
 use Rattle.std.specs.declared.cmp.Ordering.{Ordering}
 use Rattle.std.specs.declared.alloc.Global.{Global}
 use Rattle.std.specs.declared.string.String.{String}
 use Rattle.std.specs.Cmp.Lexicographic.{slice_cmp}
-use Rattle.std.specs.Int.{w64, cast_signed}
+use Rattle.std.specs.Int.{w32, w64, cast_signed}
 use Rattle.std.specs.FinMap.{is_sorted, put}
 use Rattle.std.specs.List.{flat_map, list_all}
 use Rattle.std.specs.Ordering.{nat_cmp}
 use Rattle.pgv_buf.specs.Tokens.{Token, bytes, be4}
 use Rattle.pgv_codec.specs.Image.{Image, image_of, limit}
-use Rattle.pgv_value.specs.FrameBinary.{Part, front}
-use Rattle.pgv_value.specs.Steps.{◌>>=◌, number}
+use Rattle.pgv_value.specs.Formats.{in_binary_alone}
+use Rattle.pgv_value.specs.FrameBinary.{Part}
+use Rattle.pgv_value.specs.Fronts.{one_part, u32_at}
+use Rattle.pgv_value.specs.Outcome.{Outcome, done, fails, exactly, fails_if, allocates, ◌>>=◌, ◌>>◌}
 use Rattle.pgv_value.specs.Utf8.{is_utf8}
+use Rattle.pgv_value.specs.ValueView.{Given}
 use Rattle.pgv_value.specs.declared.error.CodecError.{CodecError}
-use Rattle.pgv_value.specs.declared.error.CodecError.TheVariants.{HstoreLength}
+use Rattle.pgv_value.specs.declared.error.CodecError.TheVariants.{HstoreLength, HstoreNullKey, Utf8}
 use Rattle.pgv_hstore.specs.declared.hstore.PgHstore.{PgHstore}
 
 -- a key, and a value or null
@@ -105,29 +110,45 @@ hstore_asks_first ps = nat_le (length ps) limit
 
 -- ---- read
 
--- a text is UTF-8; a key is never null
-abbrev pub as_key : Part × List ℕ → Option (List ℕ × List ℕ)
-as_key (None, rest) = None
-as_key (Some key, rest) = if is_utf8 key then Some (key, rest) else None
+-- a text is UTF-8 (C14), and is copied
+abbrev pub text_at : List ℕ → Outcome (List ℕ)
+text_at form = do
+  text ← exactly (if is_utf8 form then Ok form else Err Utf8)
+  allocates true
+  done text
 
-abbrev pub as_value : Part × List ℕ → Option (Part × List ℕ)
-as_value (None, rest) = Some (None, rest)
-as_value (Some value, rest) = if is_utf8 value then Some (Some value, rest) else None
+-- a key is never null (C35)
+abbrev pub as_key : Part → Outcome (List ℕ)
+as_key None = fails HstoreNullKey
+as_key (Some key) = text_at key
 
--- the key, the value and the pair in front, and the rest
-abbrev pub key_front : List ℕ → Option (List ℕ × List ℕ)
-key_front form = front form >>= as_key
+-- null is a value, and asks for no memory
+abbrev pub as_value : Part → Outcome Part
+as_value None = done None
+as_value (Some value) = text_at value >>= λ text. done (Some text)
 
-abbrev pub value_front : List ℕ → Option (Part × List ℕ)
-value_front form = front form >>= as_value
+-- the key in front, and the rest
+abbrev pub key_at : List ℕ → Outcome (List ℕ × List ℕ)
+key_at form = do
+  part ← one_part form
+  key ← as_key part.0
+  done (key, part.1)
 
-unfoldable pub pair_front : List ℕ → Option (Pair × List ℕ)
-pair_front form = key_front form >>= λ k. value_front k.1 >>= λ v. Some ((k.0, v.0), v.1)
+-- the value in front, and the rest
+abbrev pub value_at : List ℕ → Outcome (Part × List ℕ)
+value_at form = do
+  part ← one_part form
+  value ← as_value part.0
+  done (value, part.1)
 
 -- n pairs in the order in which they stand; anything may come after them
-unfoldable pub pairs : ℕ → List ℕ → Option (List Pair)
-pairs zero form = Some []
-pairs (suc n) form = pair_front form >>= λ p. pairs n p.1 >>= λ ps. Some (p.0 ∷ ps)
+unfoldable pub pairs : ℕ → List ℕ → Outcome (List Pair)
+pairs zero form = done []
+pairs (suc n) form = do
+  key ← key_at form
+  value ← value_at key.1
+  ps ← pairs n value.1
+  done ((key.0, value.0) ∷ ps)
 
 -- pairs put into a map in turn: each at its place in the order, and at a key that is there the new value
 abbrev pub put_all : List Pair → List Pair → List Pair
@@ -135,8 +156,18 @@ put_all into [] = into
 put_all into (p ∷ ps) = put_all (put order p.0 p.1 into) ps
 
 -- n pairs that stand there, put into a map
-abbrev pub put_read : List Pair → ℕ → List ℕ → Option (List Pair)
-put_read into n form = pairs n form >>= λ ps. Some (put_all into ps)
+abbrev pub put_read : List Pair → ℕ → List ℕ → Outcome (List Pair)
+put_read into n form = do
+  ps ← pairs n form
+  done (put_all into ps)
 
-abbrev pub hstore_in_binary : List ℕ → Option (List Pair)
-hstore_in_binary form = number form >>= λ count. if nat_lt limit count.0 then None else put_read [] count.0 count.1
+-- the number of pairs, which isn't negative (C9), and the pairs, put into a map
+abbrev pub hstore_in_binary : List ℕ → Outcome (List Pair)
+hstore_in_binary form = do
+  count ← u32_at form
+  fails_if (nat_lt limit count.0) (HstoreLength (cast_signed w32 count.0))
+  put_read [] count.0 count.1
+
+-- a map, in binary alone
+abbrev pub parse_hstore : Given → Outcome (List Pair)
+parse_hstore = in_binary_alone hstore_in_binary

@@ -1,5 +1,5 @@
 -- What is written of a map is read back as it.
-use Rattle.std.specs.Prelude.{◌≡◌, ℕ, ◌<◌, ◌^◌, nat_le, nat_lt, true, false, ◌&&◌, List, [], ◌∷◌, ◌++◌, length, map, Option, Some, None, option_map, refl, string_bytes}
+use Rattle.std.specs.Prelude.{◌≡◌, ℕ, suc, ◌<◌, ◌^◌, nat_le, nat_lt, true, false, ◌&&◌, List, [], ◌∷◌, ◌++◌, length, map, Option, Some, None, Result, Ok, option_map, refl, string_bytes}
 use Rattle.std.specs.declared.cmp.Ordering.{Ordering}
 use Rattle.std.specs.declared.cmp.Ordering.TheVariants.{Less, Equal, Greater}
 use Rattle.std.specs.declared.string.String.{String}
@@ -16,16 +16,16 @@ use Rattle.std.proofs.lemmas.Str.{IsUtf8-had, utf8_valid_len-IsUtf8}
 use Rattle.pgv_buf.specs.Tokens.{bytes, be4}
 use Rattle.pgv_value.proofs.Fronts.{frame_in_front}
 use Rattle.pgv_value.specs.FrameBinary.{Part, front}
-use Rattle.pgv_value.specs.Outcome.{reading_of}
+use Rattle.pgv_value.specs.Outcome.{ok_of, reading_of}
 use Rattle.pgv_value.specs.Utf8.{is_utf8}
+use Rattle.pgv_value.specs.declared.error.CodecError.{CodecError}
 use Rattle.pgv_value.specs.declared.value.PgValueFormat.TheVariants.{Binary}
 use Rattle.pgv_value.proofs.Numbers.{number_there}
 use Rattle.pgv_codec.specs.Back.{ReadsBack, always}
 use Rattle.pgv_codec.specs.BackParts.{guarded}
-use Rattle.pgv_codec.specs.BackScalars.{is_read, part_is}
+use Rattle.pgv_codec.specs.BackScalars.{part_is}
 use Rattle.pgv_codec.specs.Image.{image_of, limit}
-use Rattle.pgv_hstore.specs.Hstore.{Pair, pair_of, pairs_of, order, part_form, pair_form, hstore_form, part_fits, pair_fits, hstore_image, key_front, value_front, pair_front, pairs, put_all, hstore_in_binary}
-use Rattle.pgv_hstore.specs.HstoreRefusal.{parse_hstore}
+use Rattle.pgv_hstore.specs.Hstore.{Pair, pair_of, pairs_of, order, part_form, pair_form, hstore_form, part_fits, pair_fits, hstore_image, key_at, value_at, pairs, put_all, hstore_in_binary, parse_hstore}
 use Rattle.pgv_hstore.specs.declared.hstore.PgHstore.{PgHstore}
 
 -- ---- a pair is read from its form, whatever comes after it
@@ -49,28 +49,30 @@ ArePairs (p ∷ ps) = IsPair p × ArePairs ps
 framed : (part : List ℕ) (rest : List ℕ) → IsText part → front (part_form (Some part) ++ rest) ≡ Some (Some part, rest)
 framed part rest is = frame_in_front (part_form (Some part) ++ rest) (Some part) rest (is.room, append_assoc (be4 (length part)) part rest)
 
-pub key_there : (key rest : List ℕ) → IsText key → key_front (part_form (Some key) ++ rest) ≡ Some (key, rest)
+pub key_there : (key rest : List ℕ) → IsText key → (key_at (part_form (Some key) ++ rest)).answer ≡ Ok (key, rest)
 key_there key rest is = rw (framed key rest is, is.utf8) refl
 
-pub value_there : (value : Part) (rest : List ℕ) → IsValue value → value_front (part_form value ++ rest) ≡ Some (value, rest)
+pub value_there : (value : Part) (rest : List ℕ) → IsValue value → (value_at (part_form value ++ rest)).answer ≡ Ok (value, rest)
 value_there None rest is = rw (frame_in_front (part_form None ++ rest) None rest refl) refl
 value_there (Some value) rest is = rw (framed value rest is, is.utf8) refl
 
-pub pair_there : (p : Pair) (rest : List ℕ) → IsPair p → pair_front (pair_form p ++ rest) ≡ Some (p, rest)
-unfolding pair_front
-pair_there p rest is =
-    let form : pair_form p ++ rest ≡ part_form (Some p.0) ++ (part_form p.1 ++ rest) = append_assoc (part_form (Some p.0)) (part_form p.1) rest in
-    rw (form, key_there p.0 (part_form p.1 ++ rest) is.0, value_there p.1 rest is.1) refl
+pair_then : (n : ℕ) (form between later : List ℕ) (key : List ℕ) (value : Part) (ps : List Pair) → (key_at form).answer ≡ Ok (key, between) → (value_at between).answer ≡ Ok (value, later) →
+    (pairs n later).answer ≡ Ok ps → (pairs (suc n) form).answer ≡ Ok ((key, value) ∷ ps)
+unfolding pairs
+pair_then n form between later key value ps f g h = rw (f, g, h) refl
 
-pub pairs_there : (ps : List Pair) (rest : List ℕ) → ArePairs ps → pairs (length ps) (flat_map pair_form ps ++ rest) ≡ Some ps
+pub pairs_there : (ps : List Pair) (rest : List ℕ) → ArePairs ps → (pairs (length ps) (flat_map pair_form ps ++ rest)).answer ≡ Ok ps
 unfolding pairs
 pairs_there [] rest is = refl
 pairs_there (p ∷ ps) rest is =
-    let form : flat_map pair_form (p ∷ ps) ++ rest ≡ pair_form p ++ (flat_map pair_form ps ++ rest) = append_assoc (pair_form p) (flat_map pair_form ps) rest in
-    rw (form, pair_there p (flat_map pair_form ps ++ rest) is.0, pairs_there ps rest is.1) refl
+    let later = flat_map pair_form ps ++ rest in
+    let form : flat_map pair_form (p ∷ ps) ++ rest ≡ part_form (Some p.0) ++ (part_form p.1 ++ later) =
+    append_assoc (pair_form p) (flat_map pair_form ps) rest ∙ append_assoc (part_form (Some p.0)) (part_form p.1) later in
+    ap (λ (bytes : List ℕ). (pairs (suc (length ps)) bytes).answer) form
+    ∙ pair_then (length ps) _ (part_form p.1 ++ later) later p.0 p.1 ps (key_there p.0 (part_form p.1 ++ later) is.0.0) (value_there p.1 later is.0.1) (pairs_there ps rest is.1)
 
 -- what stands after its number is put into a map
-pub hstore_there : (ps : List Pair) (rest : List ℕ) → length ps < 2 ^ 31 → ArePairs ps → hstore_in_binary (be4 (length ps) ++ (flat_map pair_form ps ++ rest)) ≡ Some (put_all [] ps)
+pub hstore_there : (ps : List Pair) (rest : List ℕ) → length ps < 2 ^ 31 → ArePairs ps → (hstore_in_binary (be4 (length ps) ++ (flat_map pair_form ps ++ rest))).answer ≡ Ok (put_all [] ps)
 hstore_there ps rest few are =
     let small : nat_lt limit (length ps) ≡ false = le-ltb _ _ (omega (arith, few)) in
     rw (number_there (length ps) (flat_map pair_form ps ++ rest) (omega (arith, few)), small, pairs_there ps rest are) refl
@@ -132,6 +134,6 @@ hstore_back h i t p os e whole small fit =
     let lengths = and_parts (nat_le (length ps) limit) (list_all pair_fits ps) sorted.1 in
     let read = hstore_there ps [] (few_pairs (length ps) lengths.0) (are_pairs h.0.entries lengths.1) in
     let again =
-    ap (λ (rest : List ℕ). hstore_in_binary (be4 (length ps) ++ rest)) (sym (append-nil (flat_map pair_form ps))) ∙ read
-    ∙ ap (λ (qs : List Pair). Some qs) (put_after [] ps sorted.0) in
-    ap (λ (part : Part). reading_of parse_hstore t Binary part) (part_is form i p os g.1) ∙ is_read _ _ _ again
+    ap (λ (rest : List ℕ). (hstore_in_binary (be4 (length ps) ++ rest)).answer) (sym (append-nil (flat_map pair_form ps))) ∙ read
+    ∙ ap (λ (qs : List Pair). let r : Result (List Pair) (Option CodecError) = Ok qs in r) (put_after [] ps sorted.0) in
+    ap (λ (part : Part). reading_of parse_hstore t Binary part) (part_is form i p os g.1) ∙ ap ok_of again

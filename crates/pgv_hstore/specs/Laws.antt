@@ -1,5 +1,5 @@
 -- What bytes are maps of texts, as what the bytes are and not as how they are read (PostgreSQL: appendix F, hstore).
-use Rattle.std.specs.Prelude.{◌≡◌, ◌↔◌, ℕ, ◌<◌, ◌^◌, Bool, true, List, [], ◌∷◌, ◌++◌, length, Option, Some, None}
+use Rattle.std.specs.Prelude.{◌≡◌, ◌↔◌, ℕ, ◌<◌, ◌^◌, Bool, true, List, [], ◌∷◌, ◌++◌, length, Option, Some, None, Ok}
 use Rattle.std.specs.FinMap.{find, is_sorted}
 use Rattle.std.specs.List.{flat_map}
 use Rattle.pgv_buf.specs.Tokens.{be4}
@@ -29,7 +29,7 @@ pub record IsHstore (form : List ℕ) (ps : List Pair) : Type 0 where
   pub map : IsMapOf stood ps
 
 abbrev pub HstoreIsRead : Type 0
-HstoreIsRead = (form : List ℕ) (ps : List Pair) → AreBytes form → (hstore_in_binary form ≡ Some ps) ↔ IsHstore form ps
+HstoreIsRead = (form : List ℕ) (ps : List Pair) → AreBytes form → ((hstore_in_binary form).answer ≡ Ok ps) ↔ IsHstore form ps
 
 abbrev pub OneHstore : Type 0
 OneHstore = (form : List ℕ) (first second : List Pair) → AreBytes form → IsHstore form first → IsHstore form second → first ≡ second

@@ -1,4 +1,3 @@
 pub mod Hstore
-pub mod HstoreRefusal
 pub mod HstoreBack
 pub mod Laws

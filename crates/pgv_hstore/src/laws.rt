@@ -5,8 +5,7 @@ ghost use Rattle.pgv_types.specs.Ty.{array_of, named, Ty};
 ghost use Rattle.pgv_types.specs.Relations.{softly};
 ghost use Rattle.std.specs.Iterator.{AlwaysYields};
 ghost use Rattle.pgv_codec.specs.TypeRow.{IsWrittenAs};
-ghost use Rattle.pgv_hstore.specs.Hstore.{hstore_asks_first, hstore_image, hstore_refused, pairs_of};
-ghost use Rattle.pgv_hstore.specs.HstoreRefusal.{parse_hstore};
+ghost use Rattle.pgv_hstore.specs.Hstore.{hstore_asks_first, hstore_image, hstore_refused, pairs_of, parse_hstore};
 ghost use Rattle.pgv_hstore.specs.Laws.{HstoreIsRead, HstoresAreEqual, OneHstore};
 ghost use Rattle.pgv_types.specs.declared.oid.Oid.{Oid};
 

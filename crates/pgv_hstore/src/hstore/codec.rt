@@ -1,19 +1,17 @@
 //! Maps of texts, written and read (PostgreSQL, appendix F, hstore).
 
-ghost use Rattle.std.specs.Prelude.{◌≡◌, nat_le, true, List, IfOk, IfErr, OnOk, OnErr, Some, false, is_some, refl, string_bytes, option_map, [], codes, map, if◌then◌else◌};
+ghost use Rattle.std.specs.Prelude.{◌≡◌, nat_le, true, List, IfOk, IfErr, OnOk, OnErr, Some, false, refl, string_bytes, option_map, [], codes, map};
 ghost use Rattle.std.specs.Int.{w64, cast_signed};
 ghost use Rattle.pgv_types.specs.Ty.{array_of, named};
 ghost use Rattle.pgv_types.specs.Relations.{softly};
 ghost use Rattle.pgv_buf.specs.Tokens.{be4};
-ghost use Rattle.pgv_value.specs.Reading.{Answers, AnswersExactly, Refuses};
-ghost use Rattle.pgv_value.specs.declared.error.CodecError.TheVariants.{HstoreLength, Utf8};
+ghost use Rattle.pgv_value.specs.Outcome.{Gives};
+ghost use Rattle.pgv_value.specs.declared.error.CodecError.TheVariants.{HstoreLength};
 ghost use Rattle.pgv_codec.specs.Image.{limit};
 ghost use Rattle.pgv_codec.specs.Outcome.{Refused, Appended, AppendedAll};
 ghost use Rattle.pgv_codec.specs.Refusing.{RefusedFor};
 ghost use Rattle.pgv_codec.specs.Saying.{plainly};
-ghost use Rattle.pgv_hstore.specs.Hstore.{Pair, pair_of, pairs_of, hstore_image, hstore_in_binary, key_front, value_front, hstore_asks_first, hstore_refused, pair_refused, pairs_refused, part_written, pair_written, pairs_written, put_read, value_refused};
-ghost use Rattle.pgv_hstore.specs.HstoreRefusal.{hstore_binary_refusal, hstore_binary_takes, key_refusal, pairs_refusal, pairs_take, parse_hstore, value_refusal};
-ghost use Rattle.pgv_value.specs.Utf8.{is_utf8};
+ghost use Rattle.pgv_hstore.specs.Hstore.{Pair, pair_of, pairs_of, hstore_image, hstore_in_binary, hstore_asks_first, hstore_refused, key_at, pair_refused, pairs_refused, part_written, pair_written, pairs_written, parse_hstore, put_read, text_at, value_at, value_refused};
 
 use super::{PgHstore, put_pair};
 use pgv_codec::{Encode, IsNull, PgArgumentBuffer, PgHasArrayType, Plain, Type};
@@ -163,9 +161,7 @@ impl Encode for PgHstore {
 /// A text of bytes, where they are UTF-8, else [`Utf8`](CodecError::Utf8) (C14).
 #[tactic(auto, using(pgv_value::proofs::Text::whole_text))]
 fn text_of(alloc: Global, form: &[u8]) -> Result<String, CodecError>
-    ensures exact { Answers (λ text. string_bytes text) (if is_utf8 form.now then Some form.now else None) result }
-    ensures refused { IfErr result (λ e. Refuses e (e ≡ Utf8)) }
-    ensures refused_exactly { is_utf8 form.now ≡ false → IfErr result (λ e. e ≡ Utf8) }
+    ensures { Gives (λ text. string_bytes text) (text_at form.now) result }
 {
     match str::from_utf8(form) {
         Ok(text) => Ok(String::from_str(alloc, text)?),
@@ -175,9 +171,7 @@ fn text_of(alloc: Global, form: &[u8]) -> Result<String, CodecError>
 
 /// The key in front, and the rest. Null is refused with [`HstoreNullKey`](CodecError::HstoreNullKey) (C35).
 fn key_in_front(alloc: Global, form: &[u8]) -> Result<(String, &[u8]), CodecError>
-    ensures exact { Answers (λ p. (string_bytes p.0, p.1.now)) (key_front form.now) result }
-    ensures refused { IfErr result (λ e. Refuses e (e ≡ key_refusal form.now)) }
-    ensures refused_exactly { is_some (key_front form.now) ≡ false → IfErr result (λ e. e ≡ key_refusal form.now) }
+    ensures { Gives (λ p. (string_bytes p.0, p.1.now)) (key_at form.now) result }
 {
     match part_in_front(form)? {
         (Some(part), rest) => Ok((text_of(alloc, part)?, rest)),
@@ -187,8 +181,7 @@ fn key_in_front(alloc: Global, form: &[u8]) -> Result<(String, &[u8]), CodecErro
 
 /// The value in front, and the rest.
 fn value_in_front(alloc: Global, form: &[u8]) -> Result<(Option<String>, &[u8]), CodecError>
-    ensures exact { Answers (λ p. (option_map string_bytes p.0, p.1.now)) (value_front form.now) result }
-    ensures refused { IfErr result (λ e. Refuses e (e ≡ value_refusal form.now)) }
+    ensures { Gives (λ p. (option_map string_bytes p.0, p.1.now)) (value_at form.now) result }
 {
     match part_in_front(form)? {
         (Some(part), rest) => Ok((Some(text_of(alloc, part)?), rest)),
@@ -198,10 +191,7 @@ fn value_in_front(alloc: Global, form: &[u8]) -> Result<(Option<String>, &[u8]),
 
 /// This number of pairs, each put into the map. Room is taken pair by pair, whatever the number says.
 fn read_pairs(alloc: Global, count: u32, form: &[u8]) -> Result<PgHstore, CodecError>
-    ensures exact { Answers pairs_of (put_read [] count form.now) result }
-    ensures exactly { pairs_take count form.now ≡ false → AnswersExactly pairs_of (put_read [] count form.now) result }
-    ensures refused { IfErr result (λ e. Refuses e (e ≡ pairs_refusal count form.now)) }
-    ensures refused_exactly { pairs_take count form.now ≡ false → IfErr result (λ e. e ≡ pairs_refusal count form.now) }
+    ensures { Gives pairs_of (put_read [] count form.now) result }
 {
     let mut map = BTreeMap::new(alloc);
     let mut rest = form;
@@ -216,10 +206,7 @@ fn read_pairs(alloc: Global, count: u32, form: &[u8]) -> Result<PgHstore, CodecE
 
 /// The map of bytes.
 fn of_bytes(alloc: Global, form: &[u8]) -> Result<PgHstore, CodecError>
-    ensures exact { Answers pairs_of (hstore_in_binary form.now) result }
-    ensures exactly { hstore_binary_takes form.now ≡ false → AnswersExactly pairs_of (hstore_in_binary form.now) result }
-    ensures refused { IfErr result (λ e. Refuses e (e ≡ hstore_binary_refusal form.now)) }
-    ensures refused_exactly { hstore_binary_takes form.now ≡ false → IfErr result (λ e. e ≡ hstore_binary_refusal form.now) }
+    ensures { Gives pairs_of (hstore_in_binary form.now) result }
 {
     let (count, rest) = u32_in_front(form)?;
     if count as usize > LENGTH_LIMIT {
