@@ -1,5 +1,5 @@
 -- The steps of the line `copy`.
-use Rattle.std.proofs.Common.{◌≡◌, ◌≢◌, ◌++◌, ◌∙◌, sym, ap, subst, ℕ, List, [], ◌∷◌, refl, Option, Some, None, append_assoc, append-nil, length, arith}
+use Rattle.std.proofs.Common.{◌≡◌, ◌≢◌, ◌++◌, ◌∙◌, sym, ap, subst, Bool, ℕ, List, [], ◌∷◌, inl, inr, refl, Option, Some, None, append_assoc, append-nil, length, arith}
 use Rattle.std.specs.Prelude.{option_map, zip, string_bytes, Result, Ok, Err, IfOk, IsSome}
 use Rattle.std.specs.declared.alloc.AllocError.{AllocError}
 use Rattle.hex.specs.Hex.{encode_lower}
@@ -9,13 +9,13 @@ use Rattle.std.specs.declared.string.String.{String}
 use Rattle.std.specs.declared.alloc.Global.{Global}
 use Rattle.pgv_types.specs.Ty.{Ty}
 use Rattle.pgv_value.specs.Codes.{code_of}
-use Rattle.pgv_value.specs.Reading.{Refuses}
+use Rattle.pgv_value.specs.Outcome.{Fails, after, exactly}
 use Rattle.pgv_value.specs.ValueView.{Given}
 use Rattle.pgv_value.specs.declared.error.CodecError.{CodecError}
 use Rattle.pgv_value.specs.declared.error.CodecError.TheVariants.{Memory}
 use Rattle.pgv_value.specs.declared.value.PgValueFormat.TheVariants.{Binary as InBinary}
 use Rattle.pgv_value.specs.Parsed.{Parsed}
-use Rattle.pgv_copy.specs.CopyBinary.{Step, header, before, step}
+use Rattle.pgv_copy.specs.CopyBinary.{Step, header, before, step, next_row, row_takes}
 use Rattle.pgv_copy.specs.CopyView.{Copying}
 use Rattle.pgv_session.specs.CopiedView.{infos, ShowsField, FieldsFrom, ShowsRow, CopiesIn, YieldsIn}
 use Rattle.pgv_session.specs.Lines.{before as before_mark, rest_after, words, with_first}
@@ -25,7 +25,6 @@ use Rattle.pgv_session.specs.ToldView.{told_text, TellsOf}
 use Rattle.pgv_session.specs.Types.{Row, types, row_named}
 use Rattle.pgv_session.specs.declared.value.Told.{Told}
 use Rattle.pgv_session.specs.declared.value.Told.TheVariants.{Said, Refused}
-use Rattle.pgv_session.proofs.Refusals.{no_memory}
 use Rattle.pgv_session.proofs.Wording.{words_after, words_split}
 
 abbrev pub Text : Type 0
@@ -115,14 +114,23 @@ pub row_stops : (w : Option (List Row)) (types : List Ty) (bytes rest : List ℕ
 row_stops w types bytes rest texts reader next row text hd y s t =
     ends w types bytes rest texts reader (string_bytes text) hd y (λ columns e. subst (λ (x : Step). EndsWith columns texts x (string_bytes text)) (sym s) (refused_here w columns row text e t))
 
+-- an error of a call that is not out of memory is the step's
+step_fails : (s : Step) (takes : Bool) (e : CodecError) → Fails e (after takes (exactly s)) → e ≢ Memory → s ≡ Err e
+step_fails (Ok x) takes e (inl h) n = absurd cc
+step_fails (Err d) takes e (inl h) n = cc
+step_fails (Ok x) takes e (inr (inl h)) n = absurd (let no : ◌≡◌ {A = Result (Option (List Given) × Copying) (Option CodecError)} (Ok x) (Err None) = h.0 in cc)
+step_fails (Err d) takes e (inr (inl h)) n = absurd (let no : ◌≡◌ {A = Result (Option (List Given) × Copying) (Option CodecError)} (Err (Some d)) (Err None) = h.0 in cc)
+step_fails s takes e (inr (inr h)) n = absurd (n h.0)
+
 stream_stops : (w : Option (List Row)) (types : List Ty) (bytes rest : List ℕ) (texts : List (List ℕ)) (reader : Copying) (e : CodecError) (answer : List ℕ) → header bytes ≡ Ok rest → YieldsIn w types rest texts reader →
-    Refuses e (step reader ≡ Err e) → e ≢ Memory → answer ≡ refused (code_of e) → CopiesIn w types (header bytes) answer
-stream_stops w types bytes rest texts reader e answer hd y s n t =
-    ends w types bytes rest texts reader answer hd y (λ columns q. subst (λ (x : Step). EndsWith columns texts x answer) (sym (no_memory e n s)) t)
+    step reader ≡ Err e → answer ≡ refused (code_of e) → CopiesIn w types (header bytes) answer
+stream_stops w types bytes rest texts reader e answer hd y s t =
+    ends w types bytes rest texts reader answer hd y (λ columns q. subst (λ (x : Step). EndsWith columns texts x answer) (sym s) t)
 
 pub stream_refused : (w : Option (List Row)) (types : List Ty) (bytes rest : List ℕ) (texts : List (List ℕ)) (reader : Copying) (e : CodecError) (r : Result Text AllocError) → header bytes ≡ Ok rest → YieldsIn w types rest texts reader →
-    Refuses e (step reader ≡ Err e) → IfOk r (λ text. e ≢ Memory) → IfOk r (λ text. string_bytes text ≡ refused (code_of e)) → IfOk r (λ text. CopiesIn w types (header bytes) (string_bytes text))
+    Fails e (next_row reader) → IfOk r (λ text. e ≢ Memory) → IfOk r (λ text. string_bytes text ≡ refused (code_of e)) → IfOk r (λ text. CopiesIn w types (header bytes) (string_bytes text))
 stream_refused w column_types bytes rest texts reader e (Err x) hd y s n t = tt
-stream_refused w column_types bytes rest texts reader e (Ok text) hd y s n t = stream_stops w column_types bytes rest texts reader e (string_bytes text) hd y s n t
+stream_refused w column_types bytes rest texts reader e (Ok text) hd y s n t =
+    stream_stops w column_types bytes rest texts reader e (string_bytes text) hd y (step_fails (step reader) (row_takes reader) e s n) t
 
 -- ---- the line

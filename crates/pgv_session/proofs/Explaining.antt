@@ -11,7 +11,7 @@ use Rattle.pgv_codec.specs.Image.{Image, frame, option_hint, option_image, optio
 use Rattle.pgv_codec.specs.Refusing.{array_refused, frame_refused, frames_refused, option_unwritable}
 use Rattle.pgv_codec.specs.Saying.{Saying, said, option_written}
 use Rattle.pgv_range.specs.RangeImage.{bound_frame}
-use Rattle.pgv_range.specs.RangeOf.{range_meaning}
+use Rattle.pgv_range.specs.RangeOf.{range_view}
 use Rattle.pgv_range.specs.RangeRefusals.{bound_refused, range_refused}
 use Rattle.pgv_range.specs.declared.range.PgRange.{PgRange}
 use Rattle.pgv_range.specs.declared.range.PgRange.TheVariants.{Empty, Bounds}
@@ -42,7 +42,7 @@ module _ {X M : Type 0} (hint : X → ℕ) (image : X → Option Image) (produce
   bound_explains (Excluded x) = frame_explains x
   bound_explains Unbounded = refl
 
-  pub range_explains : (r : PgRange X) → range_refused hint image unwritable r ≡ range_unwritten info written unwritten (range_meaning meaning r)
+  pub range_explains : (r : PgRange X) → range_refused hint image unwritable r ≡ range_unwritten info written unwritten (range_view meaning r)
   range_explains Empty = refl
   range_explains (Bounds lower upper) = rw (bound_frame_agrees lower, bound_explains lower, bound_explains upper) refl
 

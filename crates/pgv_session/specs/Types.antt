@@ -28,8 +28,7 @@ use Rattle.pgv_codec.specs.ScalarBinary.{bool_image, signed_image, unsigned_imag
 use Rattle.pgv_codec.specs.WithHint.{with_hint}
 use Rattle.pgv_ltree.specs.TreesCodec.{ltree, ltree_array, parse_tree, tree_image}
 use Rattle.pgv_lquery.specs.QueryCodec.{lquery, parse_query, query_image}
-use Rattle.pgv_hstore.specs.Hstore.{hstore_image, hstore_refused}
-use Rattle.pgv_hstore.specs.HstoreRefusal.{parse_hstore}
+use Rattle.pgv_hstore.specs.Hstore.{hstore_image, hstore_refused, parse_hstore}
 use Rattle.pgv_more.specs.BitsBinary.{bits_image, bits_hint, bits_refused}
 use Rattle.pgv_more.specs.BitsCodec.{parse_bits}
 use Rattle.pgv_more.specs.ByteaText.{parse_bytea}
@@ -37,8 +36,7 @@ use Rattle.pgv_more.specs.MacAddressCodec.{mac_image, parse_mac}
 use Rattle.pgv_more.specs.TimeTzCodec.{time_tz_image, parse_time_tz}
 use Rattle.pgv_numeric.specs.MoneyCodec.{parse_money}
 use Rattle.pgv_numeric.specs.Numeric.{numeric_image, numeric_refused, parse_numeric}
-use Rattle.pgv_range.specs.RangeGrammar.{range}
-use Rattle.pgv_range.specs.RangeRefusals.{range_refusal}
+use Rattle.pgv_range.specs.RangeGrammar.{parse_range}
 use Rattle.pgv_range.specs.RangeSaying.{range_written}
 use Rattle.pgv_session.specs.Explained.{array_unwritten, range_unwritten}
 

@@ -12,4 +12,4 @@ pub returns : goal.returns
 returns c =
     c.in_ok-push_escaped.ensures
     ∙ ap (λ (xs : List ℕ). c.args.line.now.items ++ xs)
-    (ap escaped c.as_bytes.ensures.value ∙ sym (text_shown c.args.row.now c.args.place c.in_ok-value.value _ c.in_ok-value.ensures c.in_ok-as_str.ensures.found))
+    (ap escaped c.as_bytes.ensures.value ∙ sym (text_shown c.args.row.now c.args.place c.in_ok-value.value _ c.in_ok-value.ensures c.in_ok-as_str.ensures.0))

@@ -6,7 +6,7 @@ use Rattle.pgv_session.proofs.copied.rows.Goals as goal
 
 pub returns-in-Err-next_row : goal.returns-in-Err-next_row
 returns-in-Err-next_row c =
-    stream_refused _ _ c.args.bytes.now c.loop.invariant.0 _ c.loop.reader c.in-Err-next_row.error c.refusal-in-Err-next_row.result c.loop.invariant.1 c.loop.invariant.2 c.in-Err-next_row.ensures.refused
+    stream_refused _ _ c.args.bytes.now c.loop.invariant.0 _ c.loop.reader c.in-Err-next_row.error c.refusal-in-Err-next_row.result c.loop.invariant.1 c.loop.invariant.2 c.in-Err-next_row.ensures.exact
     c.refusal-in-Err-next_row.ensures.told c.refusal-in-Err-next_row.ensures.number
 
 pub returns-in-Refused : goal.returns-in-Refused
