@@ -1,7 +1,7 @@
 -- The laws of bits.
-use Rattle.std.proofs.Common.{◌≡◌, ℕ, zero, suc, ◌+◌, ◌-◌, ◌*◌, ◌≤◌, eqb, ltb, Bool, true, false, cond, List, [], ◌∷◌, ◌++◌, length, take, drop, refl, sym, ap, ◌∙◌, arith, Some, None}
+use Rattle.std.proofs.Common.{◌≡◌, ℕ, zero, suc, ◌+◌, ◌-◌, ◌*◌, ◌≤◌, eqb, ltb, Bool, true, false, cond, List, [], ◌∷◌, ◌++◌, length, take, drop, refl, sym, ap, ◌∙◌, arith, Some, None, Ok, Err}
 use Rattle.std.specs.Prelude.{map, replicate}
-use Rattle.std.specs.Int.{w32, to_be_bytes}
+use Rattle.std.specs.Int.{w32, cast_signed, to_be_bytes}
 use Rattle.std.specs.List.{list_all}
 use Rattle.std.proofs.lemmas.Bool.{eqb-true, and_parts}
 use Rattle.std.proofs.lemmas.Bool.Decides.{nat_tests}
@@ -9,6 +9,10 @@ use Rattle.std.proofs.lemmas.List.{length-append, length-drop, length-take-le, l
 use Rattle.std.proofs.lemmas.Nat.{be_bytes_4}
 use Rattle.std.proofs.lemmas.Option.{same_Some}
 use Rattle.pgv_value.specs.Laws.{AreBytes}
+use Rattle.pgv_value.specs.Parsed.{Parsed}
+use Rattle.pgv_value.specs.declared.error.CodecError.{CodecError}
+use Rattle.pgv_value.specs.declared.error.CodecError.TheVariants.{Short, NegativeLength, WrongLength}
+use Rattle.pgv_value.proofs.Outcomes.{ok_is}
 use Rattle.pgv_more.specs.Bits.{bits_of, byte_count, bytes_of, packed}
 use Rattle.pgv_more.specs.BitsBinary.{IsBits, BitsAreRead, OneListOfBits, bits_in_binary, bit_count}
 use Rattle.pgv_more.specs.BitsText.{BitsAreReadOfText, digit_of, is_digit, is_one}
@@ -53,11 +57,11 @@ packed_is_one bits bytes small = (
       (bits_of-bytes_of (byte_count (length bits)) bits ∙ filled bits (8 * byte_count (length bits)) h.0 count ∙ sym h.2),
 )
 
-found : (a b c : Bool) (x y : List Bool) → cond a None (cond b None (cond c (Some x) None)) ≡ Some y → (a ≡ false) × (b ≡ false) × (c ≡ true) × (x ≡ y)
-found true b c x y e = absurd (cc)
-found false true c x y e = absurd (cc)
-found false false false x y e = absurd (cc)
-found false false true x y e = (refl, refl, refl, same_Some x y e)
+found : (a b c : Bool) (d e f : CodecError) (x y : List Bool) → cond {A = Parsed (List Bool)} a (Err d) (cond b (Err e) (cond c (Ok x) (Err f))) ≡ Ok y → (a ≡ false) × (b ≡ false) × (c ≡ true) × (x ≡ y)
+found true b c d e f x y is = absurd (cc)
+found false true c d e f x y is = absurd (cc)
+found false false false d e f x y is = absurd (cc)
+found false false true d e f x y is = (refl, refl, refl, ok_is x y is)
 
 front_small : (n : ℕ) (form : List ℕ) → AreByteNumbers form → AreByteNumbers (take n form)
 front_small zero form small i = omega arith
@@ -68,11 +72,11 @@ front_small (suc n) (byte ∷ form) small (suc i) = front_small n form (λ j. sm
 not_less : (a b : ℕ) → ltb a b ≡ false → b ≤ a
 not_less a b t = grind (arith, nat_tests)
 
-is_bits : (form : List ℕ) (bits : List Bool) → AreBytes form → bits_in_binary form ≡ Some bits → IsBits form bits
+is_bits : (form : List ℕ) (bits : List Bool) → AreBytes form → bits_in_binary form ≡ Ok bits → IsBits form bits
 is_bits form bits small e =
     let n = bit_count form in
     let body = drop 4 form in
-    let f = found (ltb (length form) 4) (ltb 2147483647 n) (eqb (length body) (byte_count n)) (take n (bits_of body)) bits e in
+    let f = found (ltb (length form) 4) (ltb 2147483647 n) (eqb (length body) (byte_count n)) Short (NegativeLength (cast_signed w32 n)) (WrongLength (length form)) (take n (bits_of body)) bits e in
     let long : 4 ≤ length form = not_less (length form) 4 f.0 in
     let few : n ≤ 2147483647 = not_less 2147483647 n f.1 in
     let size : length body ≡ byte_count n = eqb-true (length body) (byte_count n) f.2 in
@@ -94,7 +98,7 @@ bits_are_read form bits small = (
 )
 
 pub one_list_of_bits : OneListOfBits
-one_list_of_bits form first second small a b = same_Some first second (sym ((bits_are_read form first small).1 a) ∙ (bits_are_read form second small).1 b)
+one_list_of_bits form first second small a b = ok_is first second (sym ((bits_are_read form first small).1 a) ∙ (bits_are_read form second small).1 b)
 
 -- ---- texts
 

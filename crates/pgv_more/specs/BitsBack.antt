@@ -1,5 +1,5 @@
 -- What is written of bits is read back as them.
-use Rattle.std.specs.Prelude.{◌≡◌, ℕ, ◌*◌, ◌<◌, ◌≤◌, ◌^◌, ◌==◌, nat_le, nat_lt, Bool, true, false, List, ◌++◌, length, drop, Some, refl}
+use Rattle.std.specs.Prelude.{◌≡◌, ℕ, ◌*◌, ◌<◌, ◌≤◌, ◌^◌, ◌==◌, nat_le, nat_lt, Bool, true, false, List, ◌++◌, length, drop, Some, Ok, refl}
 use Rattle.std.specs.Int.{w32, to_be_bytes}
 use Rattle.std.proofs.Common.{sym, ap, ◌∙◌, arith}
 use Rattle.std.proofs.lemmas.Bool.{leb-true, le-ltb, eq-eqb}
@@ -8,9 +8,10 @@ use Rattle.std.proofs.lemmas.Nat.{from_be_bytes-to_be_bytes_4}
 use Rattle.pgv_buf.specs.Tokens.{bytes, be4}
 use Rattle.pgv_codec.specs.Back.{ReadsBack, always}
 use Rattle.pgv_codec.specs.BackParts.{guarded}
-use Rattle.pgv_codec.specs.BackScalars.{is_read, part_is}
+use Rattle.pgv_codec.specs.BackScalars.{part_is}
 use Rattle.pgv_codec.specs.Image.{image_of}
-use Rattle.pgv_value.specs.Outcome.{reading_of}
+use Rattle.pgv_value.specs.Outcome.{copied, ok_of, reading_of}
+use Rattle.pgv_value.specs.Parsed.{Parsed}
 use Rattle.pgv_value.specs.FrameBinary.{Part}
 use Rattle.pgv_value.specs.declared.value.PgValueFormat.TheVariants.{Binary}
 use Rattle.pgv_more.specs.Bits.{bits_of, byte_count, packed}
@@ -19,16 +20,16 @@ use Rattle.pgv_more.specs.BitsCodec.{parse_bits}
 use Rattle.pgv_more.specs.Packing.{length-bits_of, length-bytes_of, packed_again}
 
 -- the bits of a number and of bytes that begin with them
-pub binary_there : (bits padding : List Bool) (body : List ℕ) → length bits < 2 ^ 31 → length padding < 8 → bits_of body ≡ bits ++ padding → bits_in_binary (to_be_bytes w32 (length bits) ++ body) ≡ Some bits
+pub binary_there : (bits padding : List Bool) (body : List ℕ) → length bits < 2 ^ 31 → length padding < 8 → bits_of body ≡ bits ++ padding → bits_in_binary (to_be_bytes w32 (length bits) ++ body) ≡ Ok bits
 binary_there bits padding body few rest e =
     let form = to_be_bytes w32 (length bits) ++ body in
     let long : nat_lt (length form) 4 ≡ false = le-ltb (length form) 4 (omega (arith, length-append (to_be_bytes w32 (length bits)) body)) in
     let count : bit_count form ≡ length bits = from_be_bytes-to_be_bytes_4 (length bits) (omega arith) in
     let positive : nat_lt 2147483647 (length bits) ≡ false = le-ltb 2147483647 (length bits) (omega arith) in
     let size : (length body == byte_count (length bits)) ≡ true = eq-eqb (length body) (byte_count (length bits)) (omega (arith, length-bits_of body, ap length e, length-append bits padding)) in
-    rw (long, count, positive, size, e) (ap (λ (bs : List Bool). Some bs) (take_at bits padding (length bits) refl))
+    rw (long, count, positive, size, e) (ap (λ (bs : List Bool). let p : Parsed (List Bool) = Ok bs in p) (take_at bits padding (length bits) refl))
 
-binary_again : (bits : List Bool) → length bits ≤ 2147483647 → bits_in_binary (be4 (length bits) ++ packed bits) ≡ Some bits
+binary_again : (bits : List Bool) → length bits ≤ 2147483647 → bits_in_binary (be4 (length bits) ++ packed bits) ≡ Ok bits
 binary_again bits few =
     let n = length bits in
     let all = bits_of (packed bits) in
@@ -40,4 +41,4 @@ pub bits_back : ReadsBack bits_image (reading_of parse_bits) (λ bits. bits) alw
 bits_back bits i t p os e whole small fit =
     let g = guarded (nat_le (length bits) 2147483647) (Some (image_of (bytes (be4 (length bits) ++ packed bits)))) i e in
     ap (λ (part : Part). reading_of parse_bits t Binary part) (part_is (be4 (length bits) ++ packed bits) i p os g.1)
-    ∙ is_read _ _ _ (binary_again bits (leb-true (length bits) 2147483647 g.0))
+    ∙ ap (λ (p : Parsed (List Bool)). ok_of (copied p).answer) (binary_again bits (leb-true (length bits) 2147483647 g.0))

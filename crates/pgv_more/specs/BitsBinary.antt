@@ -3,11 +3,12 @@
 -- number of bits.
 -- Read (`IsBits`): a number that is not negative, and as many bytes as it needs, whatever fills the last. Laws: what is
 -- computed is exactly this.
-use Rattle.std.specs.Prelude.{◌≡◌, ◌↔◌, ℕ, ◌+◌, ◌<◌, ◌^◌, ◌==◌, min, nat_le, nat_lt, Bool, List, ◌++◌, length, take, drop, Option, Some, None, if◌then◌else◌}
+use Rattle.std.specs.Prelude.{◌≡◌, ◌↔◌, ℕ, ◌+◌, ◌<◌, ◌^◌, ◌==◌, min, nat_le, nat_lt, Bool, List, ◌++◌, length, take, drop, Option, Some, None, Ok, Err, if◌then◌else◌}
 use Rattle.std.specs.Int.{w32, from_be_bytes, to_be_bytes, cast_signed}
 use Rattle.pgv_buf.specs.Tokens.{bytes, be4}
 use Rattle.pgv_codec.specs.Image.{Image, image_of}
 use Rattle.pgv_value.specs.Laws.{AreBytes}
+use Rattle.pgv_value.specs.Parsed.{Parsed}
 use Rattle.pgv_value.specs.declared.error.CodecError.{CodecError}
 use Rattle.pgv_value.specs.declared.error.CodecError.TheVariants.{ValueSize, Short, NegativeLength, WrongLength}
 use Rattle.pgv_more.specs.Bits.{bits_of, byte_count, packed}
@@ -33,23 +34,17 @@ bits_hint bits = min (length bits + 4) 18446744073709551615
 abbrev pub bit_count : List ℕ → ℕ
 bit_count form = from_be_bytes w32 (take 4 form)
 
--- the bits that are read
-abbrev pub bits_in_binary : List ℕ → Option (List Bool)
+-- The bits that are read. Too few bytes for the number are C15, a negative number is C16, and another number of bytes after it
+-- than the bits need is C17.
+abbrev pub bits_in_binary : List ℕ → Parsed (List Bool)
 bits_in_binary form =
-    if nat_lt (length form) 4 then None else
-    if nat_lt 2147483647 (bit_count form) then None else
-    if length (drop 4 form) == byte_count (bit_count form) then Some (take (bit_count form) (bits_of (drop 4 form))) else None
-
--- why none are: too few bytes for the number, a negative number, or another number of bytes after it
-abbrev pub bits_binary_refusal : List ℕ → CodecError
-bits_binary_refusal form =
-    if nat_lt (length form) 4 then Short else
-    if nat_lt 2147483647 (bit_count form) then NegativeLength (cast_signed w32 (bit_count form)) else
-    WrongLength (length form)
+    if nat_lt (length form) 4 then Err Short else
+    if nat_lt 2147483647 (bit_count form) then Err (NegativeLength (cast_signed w32 (bit_count form))) else
+    if length (drop 4 form) == byte_count (bit_count form) then Ok (take (bit_count form) (bits_of (drop 4 form))) else Err (WrongLength (length form))
 
 -- bits are read from bytes iff the bytes are a form of these bits
 abbrev pub BitsAreRead : Type 0
-BitsAreRead = (form : List ℕ) (bits : List Bool) → AreBytes form → (bits_in_binary form ≡ Some bits) ↔ IsBits form bits
+BitsAreRead = (form : List ℕ) (bits : List Bool) → AreBytes form → (bits_in_binary form ≡ Ok bits) ↔ IsBits form bits
 
 -- bytes are the form of at most one list of bits
 abbrev pub OneListOfBits : Type 0

@@ -1,5 +1,5 @@
 -- Digits that are read one after another, and numbers that are read of their parts.
-use Rattle.std.proofs.Common.{◌≡◌, ℕ, zero, suc, ◌+◌, ◌*◌, List, [], ◌∷◌, ◌++◌, length, drop, false, Some, refl, sym, ap, ◌∙◌, arith}
+use Rattle.std.proofs.Common.{◌≡◌, ℕ, zero, suc, ◌+◌, ◌*◌, List, [], ◌∷◌, ◌++◌, length, drop, false, Some, Ok, refl, sym, ap, ◌∙◌, arith}
 use Rattle.std.proofs.lemmas.List.{drop-drop}
 use Rattle.std.specs.Prelude.{ℤ, nat_lt, ◌==◌}
 use Rattle.pgv_numeric.specs.Numeric.{number, digits, digits_after, sign_of, said_sign, no_number, signed_word, unsigned_word, numeric_in_binary}
@@ -18,6 +18,6 @@ digit_read i form was now x so_far pushed is =
 
 pub number_is_read :
     (form : List ℕ) (sign : PgNumericSign) (ds : List ℤ) (weight scale : ℤ) → nat_lt (length form) 8 ≡ false → (said_sign form == no_number) ≡ false →
-    sign_of (said_sign form) ≡ Some sign → digits_after (unsigned_word form) (drop 8 form) ≡ Some ds → signed_word (drop 2 form) ≡ weight → signed_word (drop 6 form) ≡ scale →
-    numeric_in_binary form ≡ Some (number sign ds weight scale)
+    sign_of (said_sign form) ≡ Some sign → (digits_after (unsigned_word form) (drop 8 form)).answer ≡ Ok ds → signed_word (drop 2 form) ≡ weight → signed_word (drop 6 form) ≡ scale →
+    (numeric_in_binary form).answer ≡ Ok (number sign ds weight scale)
 number_is_read form sign ds weight scale long said signed after first second = rw (long, said, signed, after, first, second) refl

@@ -3,7 +3,7 @@
 -- A number (`IsNumber`) is the words of its form, digits of any value, and anything after them. No number (`IsNoNumber`) is any
 -- two words, the sign c000 and one word more. Laws: what is computed is exactly this (`money_is_read`, `numeric_is_read` and
 -- their like).
-use Rattle.std.specs.Prelude.{◌≡◌, ◌↔◌, ℕ, ◌<◌, ◌≤◌, ◌^◌, Bool, true, ℤ, List, ◌++◌, length, Some}
+use Rattle.std.specs.Prelude.{◌≡◌, ◌↔◌, ℕ, ◌<◌, ◌≤◌, ◌^◌, Bool, true, ℤ, List, ◌++◌, length, Ok}
 use Rattle.std.specs.Int.{w16, to_be_bytes}
 use Rattle.std.specs.List.{list_all}
 use Rattle.pgv_value.specs.Laws.{AreBytes}
@@ -35,7 +35,7 @@ IsNumeric form not_a_number = IsNoNumber form
 IsNumeric form (number sign digits weight scale) = IsNumber form sign digits weight scale
 
 abbrev pub NumericIsRead : Type 0
-NumericIsRead = (form : List ℕ) (n : Numeric) → AreBytes form → (numeric_in_binary form ≡ Some n) ↔ IsNumeric form n
+NumericIsRead = (form : List ℕ) (n : Numeric) → AreBytes form → ((numeric_in_binary form).answer ≡ Ok n) ↔ IsNumeric form n
 
 abbrev pub OneNumeric : Type 0
 OneNumeric = (form : List ℕ) (first second : Numeric) → AreBytes form → IsNumeric form first → IsNumeric form second → first ≡ second

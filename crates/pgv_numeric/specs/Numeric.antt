@@ -4,16 +4,15 @@
 -- Written: words of two bytes: the number of digits, the weight, the sign (0000, or 4000 below zero), the scale, and the
 -- digits. There is no image where there are more than 32767 digits (C7), or one that isn't from 0 to 9999 (C8). The value that
 -- is no number is `0000 0000 c000 0000`.
-use Rattle.std.specs.Prelude.{ℕ, zero, suc, nat_lt, nat_le, ◌*◌, Bool, true, false, ◌&&◌, ◌==◌, if◌then◌else◌, ℤ, pos, int_le, List, [], ◌∷◌, ◌++◌, length, take, drop, Option, Some, None}
+use Rattle.std.specs.Prelude.{ℕ, zero, suc, nat_lt, nat_le, ◌*◌, Bool, true, ◌&&◌, ◌==◌, if◌then◌else◌, ℤ, pos, int_le, List, [], ◌∷◌, ◌++◌, length, take, drop, Option, Some, None}
 use Rattle.std.specs.Int.{w16, cast_signed, cast_unsigned, from_be_bytes, to_be_bytes}
 use Rattle.std.specs.List.{flat_map, list_all}
 use Rattle.pgv_buf.specs.Tokens.{Token, bytes}
 use Rattle.pgv_codec.specs.Image.{Image, image_of}
 use Rattle.pgv_value.specs.NumberBinary.{fits_signed}
 use Rattle.pgv_value.specs.Formats.{in_binary_alone}
-use Rattle.pgv_value.specs.Outcome.{Outcome, read_or}
+use Rattle.pgv_value.specs.Outcome.{Outcome, done, fails_if, or_fail, allocates, ◌>>=◌, ◌>>◌}
 use Rattle.pgv_value.specs.ValueView.{Given}
-use Rattle.pgv_value.specs.Steps.{◌>>=◌}
 use Rattle.pgv_value.specs.declared.error.CodecError.{CodecError}
 use Rattle.pgv_value.specs.declared.error.CodecError.TheVariants.{NumericDigits, NumericDigit, Short, NumericSign}
 use Rattle.pgv_numeric.specs.declared.numeric.PgNumericSign.{PgNumericSign}
@@ -101,8 +100,12 @@ abbrev pub digits : ℕ → List ℕ → List ℤ
 digits zero form = []
 digits (suc n) form = signed_word form ∷ digits n (drop 2 form)
 
-abbrev pub digits_after : ℕ → List ℕ → Option (List ℤ)
-digits_after n form = if nat_lt (length form) (2 * n) then None else Some (digits n form)
+-- the same where there are bytes enough for them; fewer are C15, and memory is asked for where there is a digit
+abbrev pub digits_after : ℕ → List ℕ → Outcome (List ℤ)
+digits_after n form = do
+  fails_if (nat_lt (length form) (2 * n)) Short
+  allocates (nat_lt 0 n)
+  done (digits n form)
 
 abbrev pub sign_of : ℕ → Option PgNumericSign
 sign_of said = if said == 0 then Some Positive else if said == 16384 then Some Negative else None
@@ -111,39 +114,24 @@ sign_of said = if said == 0 then Some Positive else if said == 16384 then Some N
 abbrev pub said_sign : List ℕ → ℕ
 said_sign form = unsigned_word (drop 4 form)
 
-abbrev pub signed_number : List ℕ → PgNumericSign → Option Numeric
-signed_number form sign = digits_after (unsigned_word form) (drop 8 form) >>= λ ds. Some (number sign ds (signed_word (drop 2 form)) (signed_word (drop 6 form)))
+-- the number that has this sign
+abbrev pub signed_number : List ℕ → PgNumericSign → Outcome Numeric
+signed_number form sign = do
+  ds ← digits_after (unsigned_word form) (drop 8 form)
+  done (number sign ds (signed_word (drop 2 form)) (signed_word (drop 6 form)))
 
--- anything may come after it; where there is no number, the other words say nothing
-abbrev pub numeric_in_binary : List ℕ → Option Numeric
-numeric_in_binary form =
-    if nat_lt (length form) 8 then None else
-    if said_sign form == no_number then Some not_a_number else
-    (sign_of (said_sign form) >>= signed_number form)
+-- a sign that is neither of them is C34
+abbrev pub number_in_binary : List ℕ → Outcome Numeric
+number_in_binary form = do
+  sign ← or_fail (sign_of (said_sign form)) (NumericSign (said_sign form))
+  signed_number form sign
 
--- ---- memory
-
--- only a number with a digit asks for memory
-abbrev pub digits_take : Option (List ℤ) → Bool
-digits_take None = false
-digits_take (Some []) = false
-digits_take (Some (d ∷ ds)) = true
-
-abbrev pub number_takes : Option Numeric → Bool
-number_takes None = false
-number_takes (Some not_a_number) = false
-number_takes (Some (number sign ds weight scale)) = digits_take (Some ds)
-
--- ---- refused
-
--- another sign is C34, and bytes that end too early are C15
-abbrev pub sign_refusal : ℕ → Option PgNumericSign → CodecError
-sign_refusal said None = NumericSign said
-sign_refusal said (Some sign) = Short
-
-abbrev pub numeric_binary_refusal : List ℕ → CodecError
-numeric_binary_refusal form = if nat_lt (length form) 8 then Short else sign_refusal (said_sign form) (sign_of (said_sign form))
+-- Fewer than eight bytes are C15. Anything may come after it. Where there is no number, the other words say nothing.
+abbrev pub numeric_in_binary : List ℕ → Outcome Numeric
+numeric_in_binary form = do
+  fails_if (nat_lt (length form) 8) Short
+  if said_sign form == no_number then done not_a_number else number_in_binary form
 
 -- a number, in binary alone
 abbrev pub parse_numeric : Given → Outcome Numeric
-parse_numeric = in_binary_alone (λ form. read_or (numeric_in_binary form) (numeric_binary_refusal form) (number_takes (numeric_in_binary form)))
+parse_numeric = in_binary_alone numeric_in_binary

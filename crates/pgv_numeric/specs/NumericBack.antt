@@ -1,5 +1,5 @@
 -- What is written of a number is read back as it.
-use Rattle.std.specs.Prelude.{◌≡◌, ℕ, ◌*◌, ◌<◌, ◌^◌, nat_lt, nat_le, true, false, ◌&&◌, ℤ, pos, negsuc, List, [], ◌∷◌, ◌++◌, length, drop, Some, refl}
+use Rattle.std.specs.Prelude.{◌≡◌, ℕ, ◌*◌, ◌<◌, ◌^◌, nat_lt, nat_le, true, false, ◌&&◌, ℤ, pos, negsuc, List, [], ◌∷◌, ◌++◌, length, drop, Some, Ok, refl}
 use Rattle.std.specs.Int.{w16, from_be_bytes, to_be_bytes}
 use Rattle.std.specs.List.{flat_map, list_all}
 use Rattle.std.proofs.Common.{ap, sym, ◌∙◌, arith}
@@ -9,13 +9,13 @@ use Rattle.std.proofs.lemmas.List.{length-append}
 use Rattle.std.proofs.lemmas.Nat.{from_be_bytes-to_be_bytes_2}
 use Rattle.pgv_buf.specs.Tokens.{bytes}
 use Rattle.pgv_value.specs.FrameBinary.{Part}
-use Rattle.pgv_value.specs.Outcome.{reading_of}
+use Rattle.pgv_value.specs.Outcome.{ok_of, reading_of}
 use Rattle.pgv_value.specs.NumberBinary.{fits_signed}
 use Rattle.pgv_value.specs.OwnBytes.{two_again}
 use Rattle.pgv_value.specs.declared.value.PgValueFormat.TheVariants.{Binary}
 use Rattle.pgv_codec.specs.Back.{ReadsBack, always}
 use Rattle.pgv_codec.specs.BackParts.{guarded}
-use Rattle.pgv_codec.specs.BackScalars.{is_read, part_is}
+use Rattle.pgv_codec.specs.BackScalars.{part_is}
 use Rattle.pgv_codec.specs.Image.{image_of}
 use Rattle.pgv_numeric.specs.Numeric.{number, numeric_of, word, sign_word, number_form, is_digit, has_form, numeric_image, digits, digits_after, said_sign, signed_word, unsigned_word, signed_number, numeric_in_binary, parse_numeric}
 use Rattle.pgv_numeric.specs.declared.numeric.PgNumericSign.{PgNumericSign}
@@ -35,19 +35,19 @@ words_again (d ∷ ds) rest e =
     let b = and_parts (fits_signed w16 d) (list_all (fits_signed w16) ds) e in
     rw (two_again d b.0, words_again ds rest b.1) refl
 
-digits_there : (ds : List ℤ) (rest : List ℕ) → list_all (fits_signed w16) ds ≡ true → digits_after (length ds) (flat_map word ds ++ rest) ≡ Some ds
+digits_there : (ds : List ℤ) (rest : List ℕ) → list_all (fits_signed w16) ds ≡ true → (digits_after (length ds) (flat_map word ds ++ rest)).answer ≡ Ok ds
 digits_there ds rest e =
     let long : nat_lt (length (flat_map word ds ++ rest)) (2 * length ds) ≡ false = le-ltb _ _ (omega (arith, length-words ds, length-append (flat_map word ds) rest)) in
     rw (long, words_again ds rest e) refl
 
 -- ---- a number is read from its form, whatever comes after it
 
-opened : (form : List ℕ) (sign : PgNumericSign) → nat_lt (length form) 8 ≡ false → said_sign form ≡ sign_word sign → numeric_in_binary form ≡ signed_number form sign
+opened : (form : List ℕ) (sign : PgNumericSign) → nat_lt (length form) 8 ≡ false → said_sign form ≡ sign_word sign → (numeric_in_binary form).answer ≡ (signed_number form sign).answer
 opened form Positive long said = rw (long, said) refl
 opened form Negative long said = rw (long, said) refl
 
-numbered : (form : List ℕ) (sign : PgNumericSign) (n : ℕ) (ds : List ℤ) (weight scale : ℤ) → unsigned_word form ≡ n → digits_after n (drop 8 form) ≡ Some ds →
-    signed_word (drop 2 form) ≡ weight → signed_word (drop 6 form) ≡ scale → signed_number form sign ≡ Some (number sign ds weight scale)
+numbered : (form : List ℕ) (sign : PgNumericSign) (n : ℕ) (ds : List ℤ) (weight scale : ℤ) → unsigned_word form ≡ n → (digits_after n (drop 8 form)).answer ≡ Ok ds →
+    signed_word (drop 2 form) ≡ weight → signed_word (drop 6 form) ≡ scale → (signed_number form sign).answer ≡ Ok (number sign ds weight scale)
 numbered form sign n ds weight scale count after first second = rw (count, after, first, second) refl
 
 said_again : (sign : PgNumericSign) → from_be_bytes w16 (to_be_bytes w16 (sign_word sign)) ≡ sign_word sign
@@ -55,7 +55,7 @@ said_again Positive = refl
 said_again Negative = refl
 
 pub number_there : (rest : List ℕ) (sign : PgNumericSign) (ds : List ℤ) (weight scale : ℤ) → length ds < 2 ^ 16 → list_all (fits_signed w16) ds ≡ true → fits_signed w16 weight ≡ true →
-    fits_signed w16 scale ≡ true → numeric_in_binary (number_form sign ds weight scale ++ rest) ≡ Some (number sign ds weight scale)
+    fits_signed w16 scale ≡ true → (numeric_in_binary (number_form sign ds weight scale ++ rest)).answer ≡ Ok (number sign ds weight scale)
 number_there rest sign ds weight scale few fit weight_fits scale_fits =
     let form = number_form sign ds weight scale ++ rest in
     let long : nat_lt (length form) 8 ≡ false = le-ltb _ 8 (omega arith) in
@@ -92,6 +92,6 @@ numeric_back (Number sign v weight scale) i t p os e whole small fit =
     let fit = and_parts (list_all is_digit ds) (fits_signed w16 weight && fits_signed w16 scale) few.1 in
     let words = and_parts (fits_signed w16 weight) (fits_signed w16 scale) fit.1 in
     ap (λ (part : Part). reading_of parse_numeric t Binary part) (part_is form i p os g.1)
-    ∙ is_read _ _ _ (
-    ap numeric_in_binary (sym (nothing_after form))
+    ∙ ap ok_of (
+    ap (λ (xs : List ℕ). (numeric_in_binary xs).answer) (sym (nothing_after form))
     ∙ number_there [] sign ds weight scale (few_digits (length ds) few.0) (digits_fit ds fit.0) words.0 words.1)

@@ -1,10 +1,10 @@
 //! Lists of bits, written and read (PostgreSQL, "Bit String Types").
 
-ghost use Rattle.std.specs.Prelude.{◌≡◌, Bool, List, IfErr, false, refl};
+ghost use Rattle.std.specs.Prelude.{Bool, List, false, ok_or, refl};
 ghost use Rattle.pgv_types.specs.Ty.{builtin};
-ghost use Rattle.pgv_value.specs.Reading.{Answers, AnswersExactly, Refuses, has_items};
+ghost use Rattle.pgv_value.specs.Outcome.{Gives, copied};
 ghost use Rattle.pgv_value.specs.declared.error.CodecError.TheVariants.{Syntax};
-ghost use Rattle.pgv_more.specs.BitsBinary.{bits_image, bits_hint, bits_in_binary, bits_binary_refusal, bits_refused};
+ghost use Rattle.pgv_more.specs.BitsBinary.{bits_image, bits_hint, bits_in_binary, bits_refused};
 ghost use Rattle.pgv_more.specs.BitsText.{bits_in_text};
 ghost use Rattle.pgv_more.specs.BitsCodec.{is_bits, is_bits_array, parse_bits};
 ghost use Rattle.pgv_codec.specs.WithHint.{with_hint};
@@ -80,10 +80,7 @@ impl Encode for BitVec {
 /// The bits of a number and of bytes after it.
 #[tactic(auto, unfolding(pgv_value::specs::Steps::number))]
 fn read_binary(alloc: Global, form: &[u8]) -> Result<BitVec, CodecError>
-    ensures exact { Answers (λ bits. bits) (bits_in_binary form.now) result }
-    ensures exactly { has_items (bits_in_binary form.now) ≡ false → AnswersExactly (λ bits. bits) (bits_in_binary form.now) result }
-    ensures refused { IfErr result (λ e. Refuses e (e ≡ bits_binary_refusal form.now)) }
-    ensures refused_exactly { has_items (bits_in_binary form.now) ≡ false → IfErr result (λ e. e ≡ bits_binary_refusal form.now) }
+    ensures { Gives (λ bits. bits) (copied (bits_in_binary form.now)) result }
 {
     let (count, body) = u32_in_front(form)?;
     if count > 2147483647 {
@@ -98,10 +95,7 @@ fn read_binary(alloc: Global, form: &[u8]) -> Result<BitVec, CodecError>
 
 /// The bits of digits `0` and `1`. Another text is refused with [`Syntax`](CodecError::Syntax) (C29).
 fn read_text(alloc: Global, text: &str) -> Result<BitVec, CodecError>
-    ensures exact { Answers (λ bits. bits) (bits_in_text text.now) result }
-    ensures exactly { has_items (bits_in_text text.now) ≡ false → AnswersExactly (λ bits. bits) (bits_in_text text.now) result }
-    ensures refused { IfErr result (λ e. Refuses e (e ≡ Syntax)) }
-    ensures refused_exactly { has_items (bits_in_text text.now) ≡ false → IfErr result (λ e. e ≡ Syntax) }
+    ensures { Gives (λ bits. bits) (copied (ok_or (bits_in_text text.now) Syntax)) result }
 {
     match BitVec::from_digits(alloc, text.as_bytes())? {
         Some(bits) => Ok(bits),

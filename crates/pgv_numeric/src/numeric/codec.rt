@@ -3,12 +3,13 @@
 ghost use Rattle.std.specs.Prelude.{◌≡◌, ◌+◌, ◌≤◌, false, length, drop, IfOk, IfErr, OnOk, OnErr, refl};
 ghost use Rattle.pgv_types.specs.Ty.{builtin};
 ghost use Rattle.pgv_types.specs.Relations.{softly};
-ghost use Rattle.pgv_value.specs.Reading.{Answers, AnswersExactly, Refuses};
-ghost use Rattle.pgv_value.specs.declared.error.CodecError.TheVariants.{NumericDigit, Short};
+ghost use Rattle.pgv_value.specs.Outcome.{Gives};
+ghost use Rattle.pgv_value.specs.Reading.{Refuses};
+ghost use Rattle.pgv_value.specs.declared.error.CodecError.TheVariants.{NumericDigit};
 ghost use Rattle.pgv_codec.specs.Outcome.{Encoded, Refused, Appended, AppendedAll};
 ghost use Rattle.pgv_codec.specs.Refusing.{RefusedExactly, RefusedFor};
 ghost use Rattle.pgv_codec.specs.Saying.{plainly};
-ghost use Rattle.pgv_numeric.specs.Numeric.{Numeric, digit_written, digits_after, digits_refused, digits_take, digits_written, head_form, is_digit, number, number_takes, numeric_asks_first, numeric_binary_refusal, numeric_image, numeric_in_binary, numeric_of, numeric_refused, parse_numeric, sign_of as sign_of_word, sign_word as sign_as_word, signed_word, unsigned_word};
+ghost use Rattle.pgv_numeric.specs.Numeric.{Numeric, digit_written, digits_after, digits_refused, digits_written, head_form, is_digit, number, numeric_asks_first, numeric_image, numeric_in_binary, numeric_of, numeric_refused, parse_numeric, sign_of as sign_of_word, sign_word as sign_as_word, signed_word, unsigned_word};
 
 use super::{PgNumeric, PgNumericSign};
 use byteorder::{BigEndian, ByteOrder};
@@ -190,10 +191,7 @@ fn signed_at(form: &[u8], place: usize) -> i16
 /// This number of digits, of any value, whatever comes after them.
 #[inline(always)]
 fn read_digits(alloc: Global, count: u16, form: &[u8]) -> Result<Vec<i16>, CodecError>
-    ensures exact { Answers (λ v. v.items) (digits_after count form.now) result }
-    ensures exactly { digits_take (digits_after count form.now) ≡ false → AnswersExactly (λ v. v.items) (digits_after count form.now) result }
-    ensures refused { IfErr result (λ e. Refuses e (e ≡ Short)) }
-    ensures refused_exactly { digits_take (digits_after count form.now) ≡ false → IfErr result (λ e. e ≡ Short) }
+    ensures { Gives (λ v. v.items) (digits_after count form.now) result }
 {
     let count = count as usize;
     if form.len() < 2 * count {
@@ -220,10 +218,7 @@ fn sign_of(word: u16) -> Option<PgNumericSign>
 /// The number of bytes.
 #[inline(always)]
 fn of_bytes(alloc: Global, form: &[u8]) -> Result<PgNumeric, CodecError>
-    ensures exact { Answers numeric_of (numeric_in_binary form.now) result }
-    ensures exactly { number_takes (numeric_in_binary form.now) ≡ false → AnswersExactly numeric_of (numeric_in_binary form.now) result }
-    ensures refused { IfErr result (λ e. Refuses e (e ≡ numeric_binary_refusal form.now)) }
-    ensures refused_exactly { number_takes (numeric_in_binary form.now) ≡ false → IfErr result (λ e. e ≡ numeric_binary_refusal form.now) }
+    ensures { Gives numeric_of (numeric_in_binary form.now) result }
 {
     if form.len() < 8 {
         return Err(CodecError::Short);

@@ -1,10 +1,11 @@
-use Rattle.std.proofs.Common.{◌≡◌, ◌<◌, ◌≤◌, ℕ, zero, suc, Bool, true, false, List, [], ◌∷◌, length, take, drop, Option, Some, None, refl, ap, arith}
+use Rattle.std.proofs.Common.{◌≡◌, ◌<◌, ◌≤◌, ℕ, zero, suc, Bool, true, false, List, [], ◌∷◌, length, take, drop, Option, Some, None, Ok, refl, ap, arith, inr}
 use Rattle.std.specs.Prelude.{◌==◌, cond, nat_lt}
 use Rattle.std.specs.Int.{w32, from_be_bytes}
 use Rattle.std.proofs.lemmas.Bool.{false≢true}
 use Rattle.std.proofs.lemmas.Bool.Decides.{nat_tests}
 use Rattle.std.proofs.lemmas.Option.{same_Some}
-use Rattle.pgv_value.specs.Reading.{has_items}
+use Rattle.std.proofs.lemmas.Result.{err_from_is_err_and}
+use Rattle.pgv_value.specs.Outcome.{copied}
 use Rattle.pgv_value.specs.Steps.{number}
 use Rattle.pgv_more.specs.Bits.{bits_of, byte_count}
 use Rattle.pgv_more.specs.BitsBinary.{bits_in_binary, bit_count}
@@ -15,12 +16,12 @@ positive : (n : ℕ) → (n ≡ 0 → false ≡ true) → 0 < n
 positive zero none = absurd (false≢true (none refl))
 positive (suc n) none = omega arith
 
-there : (bits : List Bool) → 0 < length bits → has_items (Some bits) ≡ true
+there : (bits : List Bool) → 0 < length bits → (copied {X = Bool} (Ok bits)).may_alloc ≡ true
 there [] l = absurd (omega (arith, l))
 there (bit ∷ bits) l = refl
 
 by_number : (short : Bool) (form body : List ℕ) (count : ℕ) → nat_lt (length form) 4 ≡ short → cond {A = Option (ℕ × List ℕ)} short None (Some (from_be_bytes w32 (take 4 form), drop 4 form)) ≡ Some (count, body) →
-    0 < count → count ≤ 2147483647 → length body ≡ byte_count count → has_items (bits_in_binary form) ≡ true
+    0 < count → count ≤ 2147483647 → length body ≡ byte_count count → (copied (bits_in_binary form)).may_alloc ≡ true
 by_number true form body count is e some few size = absurd (cc)
 by_number false form body count is e some few size =
     let parts = same_Some {A = ℕ × List ℕ} (from_be_bytes w32 (take 4 form), drop 4 form) (count, body) e in
@@ -30,19 +31,14 @@ by_number false form body count is e some few size =
     let fits : (length body == byte_count count) ≡ true = grind (arith, nat_tests, size) in
     rw (is, first, positive_number, rest, fits) (there (take count (bits_of body)) (omega (arith, kept_count body count (omega (arith, size)), some)))
 
--- of a number that isn't zero, bits are read
-some_bits : (form body : List ℕ) (count : ℕ) → number form ≡ Some (count, body) → 0 < count → count ≤ 2147483647 → length body ≡ byte_count count → has_items (bits_in_binary form) ≡ true
+-- of a number that isn't zero bits are read, and so memory is asked for
+some_bits : (form body : List ℕ) (count : ℕ) → number form ≡ Some (count, body) → 0 < count → count ≤ 2147483647 → length body ≡ byte_count count → (copied (bits_in_binary form)).may_alloc ≡ true
 unfolding number
 some_bits form body count e some few size = by_number (nat_lt (length form) 4) form body count refl e some few size
 
-pub returns-in_err-from_packed-clause-exactly : goal.returns-in_err-from_packed-clause-exactly
-returns-in_err-from_packed-clause-exactly c = λ none.
+pub returns-in_err-from_packed : goal.returns-in_err-from_packed
+returns-in_err-from_packed c =
+    let p = err_from_is_err_and c.from_residual-in_err-from_packed.result c.from_residual-in_err-from_packed.ensures.1 in
     let some = positive c.in_ok-count.count (λ is. rw c.in_err-from_packed.was at (c.from_packed.ensures.succeeds is)) in
-    let read = some_bits c.args.form.now c.in_ok-count.body.now c.in_ok-count.count c.in_ok-count.ensures.exact some c.if-count-gt2147483647.false (omega (arith, c.if-body-div_ceil.false, c.div_ceil.ensures)) in
-    absurd (cc)
-
-pub returns-in_err-from_packed-clause-refused_exactly : goal.returns-in_err-from_packed-clause-refused_exactly
-returns-in_err-from_packed-clause-refused_exactly c = λ none.
-    let some = positive c.in_ok-count.count (λ is. rw c.in_err-from_packed.was at (c.from_packed.ensures.succeeds is)) in
-    let read = some_bits c.args.form.now c.in_ok-count.body.now c.in_ok-count.count c.in_ok-count.ensures.exact some c.if-count-gt2147483647.false (omega (arith, c.if-body-div_ceil.false, c.div_ceil.ensures)) in
-    absurd (cc)
+    let asked = some_bits c.args.form.now c.in_ok-count.body.now c.in_ok-count.count c.in_ok-count.ensures.exact some c.if-count-gt2147483647.false (omega (arith, c.if-body-div_ceil.false, c.div_ceil.ensures)) in
+    rw (p.1, p.2) (inr (inr (refl, asked)))
