@@ -76,6 +76,17 @@ fields_step ns n ns' vs v vs' text was mid now (Ok refused) e f s m h =
     subst (λ (l : List (List ℕ)). FieldsFrom (rows_named l) vs refused was now) (sym e)
     (subst (λ (l : List Given). FieldsFrom (rows_named (n ∷ ns')) l refused was now) (sym f) (fields_more (row_named types n) (rows_named ns') v vs' text refused was mid now s m h))
 
+fields_refuse : (a : Option Row) (w : Option (List Row)) (v : Given) (row : List Given) (text : Text) (was now : List (List ℕ)) → ShowsField a v.bytes (Refused text) → FieldsFrom (with_first a w) (v ∷ row) (Some text) was now
+fields_refuse None w v row text was now f = tt
+fields_refuse (Some r) None v row text was now f = tt
+fields_refuse (Some r) (Some columns) v row text was now f = (rw f.0 refl, rw f.0 f.1)
+
+pub fields_stop : (ns : List (List ℕ)) (n : List ℕ) (ns' : List (List ℕ)) (vs : List Given) (v : Given) (vs' : List Given) (text : Text) (was now : List (List ℕ)) → ns ≡ n ∷ ns' → vs ≡ v ∷ vs' →
+    ShowsField (row_named types n) v.bytes (Refused text) → FieldsFrom (rows_named ns) vs (Some text) was now
+fields_stop ns n ns' vs v vs' text was now e f s =
+    subst (λ (l : List (List ℕ)). FieldsFrom (rows_named l) vs (Some text) was now) (sym e)
+    (subst (λ (l : List Given). FieldsFrom (rows_named (n ∷ ns')) l (Some text) was now) (sym f) (fields_refuse (row_named types n) (rows_named ns') v vs' text was now s))
+
 zip_nothing : (columns : List Row) → ◌≡◌ {A = List (Row × Given)} (zip columns []) []
 zip_nothing [] = refl
 zip_nothing (c ∷ cs) = refl
