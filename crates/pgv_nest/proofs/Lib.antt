@@ -4,3 +4,4 @@ mod ArrayGrammars
 pub mod RecordGrammars
 pub mod FewElements
 pub mod TextGrammars
+mod SameNests
