@@ -4,4 +4,3 @@ mod ArrayGrammars
 pub mod RecordGrammars
 pub mod FewElements
 pub mod TextGrammars
-mod SameNests

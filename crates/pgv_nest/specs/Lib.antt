@@ -4,7 +4,3 @@ pub mod RecordGrammar
 pub mod NestBinary
 pub mod Found
 pub mod NestText
-pub mod OldArrays
-pub mod OldRecords
-pub mod OldTuples
-pub mod OldRefusals
