@@ -8,10 +8,11 @@ pub use Rattle.pgv_types.specs.Relations.{softly, exactly}
 pub use Rattle.pgv_types.specs.declared.oid.Oid.{Oid}
 -- Tokens, which values are written as: `byte 97`, `hole t`, `slot default cases`; `bytes` of a list, `be4` of a number.
 pub use Rattle.pgv_buf.specs.Tokens.{Token, byte, hole, slot, bytes, be4}
--- `image_of tokens` and `null_image` are images; a value has `Some` of one, or `None` where it can't be written. `frame hint image`
--- is the length and the image, where there is one. `field hint image produced info x` is a field of a record, and
--- `record_image fields` the image of all.
-pub use Rattle.pgv_codec.specs.Image.{Image, null_image, image_of, frame, field, record_image}
+-- `image_of tokens` and `null_image` are images. An `Encoding` is what an encoder says of a value: a size hint, the type that it
+-- produces, and an outcome of an image. `plainly image` has neither a hint nor a type, `with_hint n image` a hint, and `unwritten` no
+-- image; `writes o` appends the image where o is `Some`. `frame encoding` is the length and the image, or why there is none. `field info
+-- encoding` is a field of a record, and `record_image fields` the image of all.
+pub use Rattle.pgv_codec.specs.Encoding.{Encoding, Image, null_image, image_of, plainly, with_hint, writes, unwritten, frame, field, record_image, value_type}
 -- The images of numbers of a width (`signed_image w32`), of truth values, texts and UUIDs.
 pub use Rattle.pgv_codec.specs.ScalarBinary.{signed_image, unsigned_image, bool_image, text_image, uuid_image}
 -- `blank tokens` are tokens in a buffer that is not filled yet: what a call that appends has put after `out.old`. `shown cells` are
@@ -26,11 +27,11 @@ pub use Rattle.pgv_value.specs.declared.value.PgValueFormat.TheVariants.{Binary,
 -- For `parse` of `Plain` and `Decode`. `Given` is a value of a row: its part, its type and its format. `Parsed M` is what is read
 -- without memory: `Ok` of a view, or `Err` why not, and `>>=` goes on where something was read. `without_memory` makes a `parse` of
 -- such a grammar. `Outcome M` says too whether memory may be asked for by then: `copied parsed` is a list of which memory is asked for
--- where it isn't empty, and `read_or read why takes` what was read, or else `why`. A grammar that is read step by step is written with
--- the words of `Steps`. `Gives view outcome result` is what a reader answers, and `Reads parse value view` that it reads this.
+-- where it isn't empty. A grammar that is read step by step is written with the words of `Steps`. `Gives view outcome result` is what a
+-- reader answers, and `Reads parse value view` that it reads this.
 pub use Rattle.pgv_value.specs.ValueView.{Given, given}
 pub use Rattle.pgv_value.specs.Parsed.{Parsed, ◌>>=◌, GivesExactly}
-pub use Rattle.pgv_value.specs.Outcome.{Outcome, Gives, Reads, without_memory, copied, read_or}
+pub use Rattle.pgv_value.specs.Outcome.{Outcome, Gives, Reads, without_memory, copied, ok_of}
 -- What the elements of an array are read as, and of an array of n: in text under the elements' own type.
 pub use Rattle.pgv_nest.specs.ArrayGrammar.{parse_array, parse_sized}
 -- `scalar` and `binary_alone` make a grammar of one for each format, or for binary; `in_both_formats` and `in_binary_alone` do so where
@@ -48,9 +49,6 @@ pub use Rattle.pgv_value.specs.Outcome.{reading_of, error_of, takes_of}
 pub use Rattle.pgv_value.specs.declared.error.CodecError.{CodecError}
 pub use Rattle.pgv_value.specs.Codes.{code_of}
 pub use Rattle.pgv_value.specs.declared.error.CodecError.TheVariants.{Caller, Syntax, TextUnsupported, UnexpectedNull, WrongLength}
--- For `written` of `Decode`: `plainly image` is what is written of a view, `unwritten` says nothing, and
--- `field_written info written m` is the same for a field.
-pub use Rattle.pgv_codec.specs.Saying.{plainly, unwritten, field_written}
 -- `next_row reader` is what the next call of a `PgCopyReader` gives: a row or the end, and the reader after it; `step reader` is the
 -- same but for memory: `Ok (Some row, after)`, `Ok (None, after)` at the end, or `Err` why it is refused. `bytes_left reader` falls with
 -- each row.
@@ -59,20 +57,23 @@ pub use Rattle.pgv_copy.specs.CopyBinary.{next_row, step, bytes_left}
 -- came begin with. `with_more old piece` is the reader that has taken a piece.
 pub use Rattle.pgv_copy.specs.CopyPieces.{Advances, next_of, with_more}
 -- Of arguments: their buffer, their types, and type and frame of each. `early (framed a) types oids` are the bytes of these frames,
--- written with types and OIDs from the start. `Added frame type old new`: what an accepted `add` has put after what was there.
-pub use Rattle.pgv_wire.specs.Arguments.{Added, Argument, all_tokens, types_in, framed, early}
+-- written with types and OIDs from the start. `Adds frame type old new result`: what `add` has put after what was there (`Added`), or why
+-- not; `argument_frame encoding` is the frame of an argument.
+pub use Rattle.pgv_wire.specs.Arguments.{Added, Adds, Argument, argument_frame, all_tokens, types_in, framed, early}
 -- `hole_types_of cells` are the types whose OIDs are missing, and `oid_of type` is the OID that a type has.
 pub use Rattle.pgv_buf.specs.Tokens.{hole_types_of}
 pub use Rattle.pgv_types.specs.Facts.{oid_of}
 -- `ReadAs bytes parts rest`: frames one after another, with a rest.
 pub use Rattle.pgv_wire.specs.Parts.{ReadAs}
--- `ArgumentReadsBack hint image reading kept fits`: an argument is read back, whatever else was added and filled.
+-- `ArgumentReadsBack encoding reading kept fits`: an argument is read back, whatever else was added and filled.
 pub use Rattle.pgv_wire.specs.Given.{ArgumentReadsBack}
--- `ReadsBack image reading kept fits` is the law of `ReadBack`; `always` for `fits` is every type. `FieldFits` says where the last
+-- `ReadsBack encoding reading kept fits` is the law of `ReadBack`; `always` for `fits` is every type. `FieldFits` says where the last
 -- field of a composite fits, `FieldsFit` where one and those after it do; `Followed` and `FieldIsPlain` say so in plain words.
 pub use Rattle.pgv_codec.specs.Back.{ReadsBack, always, FieldFits, FieldsFit, Followed}
--- Steps of such a proof: a value that has an image has passed the test before it (`guarded`), and bytes are written as they are
--- (`part_is`, `write-bytes`); what has a reading was parsed (`parsed_as`). Then the law for `i32`, `i64` and `String`.
+-- Steps of such a proof: what is written has an image (`image_is`), a value that has one has passed the test before it (`guarded`), and
+-- bytes are written as they are (`part_is`, `write-bytes`); what has a reading was parsed (`parsed_as`). Then the law for `i32`, `i64` and
+-- `String`.
+pub use Rattle.pgv_codec.specs.Back.{image_is}
 pub use Rattle.pgv_codec.specs.BackParts.{guarded, write-bytes}
 pub use Rattle.pgv_codec.specs.BackScalars.{part_is, parsed_as, int4_back, int8_back, text_back}
 -- The three steps for a composite.
@@ -86,14 +87,8 @@ pub use Rattle.pgv_codec.specs.Back.{ImageFits}
 pub use Rattle.pgv_ltree.specs.Ascii.{are_ascii, ascii_is_utf8}
 -- The law for `PgLTree`, and what comes back of a tree.
 pub use Rattle.pgv_ltree.specs.TreesBack.{tree_back, tree_kept}
--- For the answer of a composite's encoder, one `more_fields` for each field. `field_unwritable hint image produced info unwritable x
--- later` is for its `unwritable`: what the field x is refused with, or else `later`; the field that is refused is answered by
--- `refused_here`, and each before it by `refused_after`.
+-- For a record that is written field by field, one `more_fields` for each.
 pub use Rattle.pgv_codec.specs.Fields.{no_fields, more_fields, all_fields}
-pub use Rattle.pgv_codec.specs.Refusing.{field_unwritable}
-pub use Rattle.pgv_codec.proofs.Refusing.{refused_here, refused_after}
--- For a composite's `Codec`.
-pub use Rattle.pgv_codec.specs.Saying.{field_agrees, same_none, same_fields, record_agrees}
 -- A field that is plain fits.
 pub use Rattle.pgv_codec.proofs.PlainFits.{field_fits}
 -- Why a column of a row was not read: `NotFound index place`, or `Decode index place source`.

@@ -12,8 +12,8 @@
 pub use pgv_buf::{Mark, Tokens};
 pub use pgv_codec::{
     Codec, Decode, Encode, FieldList, IsNull, KeptList, PgArgumentBuffer, PgHasArrayType,
-    PgRecordDecoder, PgRecordEncoder, Plain, ReadBack, Type, encode_array, encode_text,
-    type_of_value,
+    PgRecordDecoder, PgRecordEncoder, Plain, ReadBack, Type, WrittenList, encode_array,
+    encode_record, encode_text, type_of_value,
 };
 pub use pgv_copy::{PgCopyNext, PgCopyPieces, PgCopyReader};
 pub use pgv_range::range_compatible;

@@ -1,6 +1,6 @@
 //! A composite type of three fields.
 
-use pgv_codec::{Encode, IsNull, PgArgumentBuffer, PgRecordEncoder, Type};
+use pgv_codec::{Encode, IsNull, PgArgumentBuffer, Type, WrittenList, encode_record};
 use pgv_types::PgTypeInfo;
 use pgv_value::CodecError;
 use std::alloc::AllocError;
@@ -35,22 +35,12 @@ impl Type for Triple {
 }
 
 impl Encode for Triple {
-    ghost use Rattle.std.specs.Prelude.{[], ◌∷◌};
-    ghost use Rattle.pgv_codec.specs.Image.{field, record_image};
+    ghost use Rattle.pgv_codec.specs.Encoding.{plainly, record_image};
 
-    ghost image = { λ v. record_image (
-        field ⟦<i32 as Encode>⟧.hint ⟦<i32 as Encode>⟧.image ⟦<i32 as Encode>⟧.produced ⟦<i32 as Type>⟧.info v.id
-        ∷ field ⟦<String as Encode>⟧.hint ⟦<String as Encode>⟧.image ⟦<String as Encode>⟧.produced ⟦<String as Type>⟧.info v.name
-        ∷ field ⟦<bool as Encode>⟧.hint ⟦<bool as Encode>⟧.image ⟦<bool as Encode>⟧.produced ⟦<bool as Type>⟧.info v.on
-        ∷ []) };
+    ghost encoding = { λ v. plainly (record_image (⟦<(i32, (String, (bool,))) as WrittenList>⟧.fields (v.id, (v.name, record { 0 = v.on })))) };
 
     fn encode_by_ref(&self, out: &mut PgArgumentBuffer) -> Result<IsNull, CodecError> {
-        let mut record = PgRecordEncoder::new(out)?;
-        record.encode(&self.id)?;
-        record.encode(&self.name)?;
-        record.encode(&self.on)?;
-        record.finish();
-        Ok(IsNull::No)
+        encode_record(&(&self.id, (&self.name, (&self.on,))), out)
     }
 
     fn size_hint(&self) -> usize {

@@ -64,9 +64,9 @@ impl Encode for Size {
     ghost use Rattle.std.specs.Prelude.{cond, pos, None};
     ghost use Rattle.std.specs.Ordering.{int_eq};
     ghost use Rattle.std.specs.Int.{w32};
-    ghost use Rattle.pgv.specs.Words.{signed_image};
+    ghost use Rattle.pgv.specs.Words.{plainly, signed_image, writes};
 
-    ghost image = { λ size. cond (int_eq size.number (pos 0)) None (signed_image w32 size.number) };
+    ghost encoding = { λ size. plainly (writes (cond (int_eq size.number (pos 0)) None (signed_image w32 size.number))) };
 
     fn encode_by_ref(&self, out: &mut PgArgumentBuffer) -> Result<IsNull, CodecError> {
         if self.number == 0 {
@@ -97,7 +97,7 @@ impl Decode for Size {
 
     ghost parse = { ⟦<i32 as Decode>⟧.parse };
 
-    ghost written = { unwritten };
+    ghost written = { λ _ _. unwritten };
 
     ghost null = { λ _ _. (refl, refl) };
 
@@ -161,7 +161,7 @@ impl PgHasArrayType for SizeRange {
 }
 
 impl Encode for SizeRange {
-    ghost image = { λ v. ⟦<PgRange<Vec<Size>> as Encode>⟧.image v.range };
+    ghost encoding = { λ v. ⟦<PgRange<Vec<Size>> as Encode>⟧.encoding v.range };
 
     fn encode_by_ref(&self, out: &mut PgArgumentBuffer) -> Result<IsNull, CodecError> {
         self.range.encode_by_ref(out)
@@ -185,7 +185,7 @@ impl Decode for SizeRange {
 
     ghost parse = { ⟦<PgRange<Vec<Size>> as Decode>⟧.parse };
 
-    ghost written = { unwritten };
+    ghost written = { λ _ _. unwritten };
 
     ghost null = { ⟦<PgRange<Vec<Size>> as Decode>⟧.null };
 
@@ -218,11 +218,9 @@ impl Type for Huge {
 
 impl Encode for Huge {
     ghost use Rattle.std.specs.Prelude.{Some, [], ◌∷◌};
-    ghost use Rattle.pgv.specs.Words.{byte, image_of};
+    ghost use Rattle.pgv.specs.Words.{byte, image_of, with_hint, writes};
 
-    ghost image = { λ _. Some (image_of (byte 97 ∷ [])) };
-
-    ghost hint = { λ _. 2147483648 };
+    ghost encoding = { λ _. with_hint 2147483648 (writes (Some (image_of (byte 97 ∷ [])))) };
 
     fn encode_by_ref(&self, out: &mut PgArgumentBuffer) -> Result<IsNull, CodecError> {
         out.push(97)?;
@@ -279,12 +277,10 @@ impl PgHasArrayType for MoodText {
 
 impl Encode for MoodText {
     ghost use Rattle.std.specs.Prelude.{Some, codes};
-    ghost use Rattle.pgv.specs.Words.{named, text_image};
+    ghost use Rattle.pgv.specs.Words.{named, text_image, writes};
     ghost use Rattle.pgv_examples.specs.Moods.{label_of};
 
-    ghost image = { λ text. text_image (label_of text.mood) };
-
-    ghost produced = { λ _. Some (named (codes "mood")) };
+    ghost encoding = { λ text. record { size_hint = 0; produced = Some (named (codes "mood")); image = writes (text_image (label_of text.mood)) } };
 
     fn encode_by_ref(&self, out: &mut PgArgumentBuffer) -> Result<IsNull, CodecError> {
         self.mood.encode_by_ref(out)

@@ -31,7 +31,7 @@ impl<T> Type for Bounds<T> {
 }
 
 impl<T: Encode> Encode for Bounds<T> {
-    ghost image = { λ v. ⟦<PgRange<T> as Encode>⟧.image v.range };
+    ghost encoding = { λ v. ⟦<PgRange<T> as Encode>⟧.encoding v.range };
 
     fn encode_by_ref(&self, out: &mut PgArgumentBuffer) -> Result<IsNull, CodecError> {
         self.range.encode_by_ref(out)
@@ -88,7 +88,7 @@ impl<T> PgHasArrayType for Listed<T> {
 }
 
 impl<T: Encode + Type> Encode for Listed<T> {
-    ghost image = { λ v. ⟦<Pair<EmptyObject, T> as Encode>⟧.image v.pair };
+    ghost encoding = { λ v. ⟦<Pair<EmptyObject, T> as Encode>⟧.encoding v.pair };
 
     fn encode_by_ref(&self, out: &mut PgArgumentBuffer) -> Result<IsNull, CodecError> {
         self.pair.encode_by_ref(out)
@@ -148,8 +148,9 @@ impl PgHasArrayType for Stop {
 
 impl Encode for Stop {
     ghost use Rattle.std.specs.Prelude.{None};
+    ghost use Rattle.pgv.specs.Words.{plainly, writes};
 
-    ghost image = { λ _. None };
+    ghost encoding = { λ _. plainly (writes None) };
 
     fn encode_by_ref(&self, out: &mut PgArgumentBuffer) -> Result<IsNull, CodecError> {
         out.push(0)?;

@@ -41,9 +41,6 @@ module _ (types : List PgTypeRow) (known : List Entry) (oid : ℕ) where
       with_before xs (fields_in types known oid (row ∷ rows)) ≡ with_before (xs ++ (string_bytes row.name, t) ∷ []) (fields_in types known oid rows)
   one_field xs row rows t same part = rw (same, part) (regroup xs (string_bytes row.name, t) (fields_in types known oid rows))
 
-  pub no_part : (xs : List (List ℕ × Ty)) (row : PgFieldRow) (rows : List PgFieldRow) → (row.of.0 == oid) ≡ true → part_in types known row.field_type.0 ≡ None → with_before xs (fields_in types known oid (row ∷ rows)) ≡ None
-  no_part xs row rows same part = rw (same, part) refl
-
   pub other_type : (xs : List (List ℕ × Ty)) (row : PgFieldRow) (rows : List PgFieldRow) → (row.of.0 == oid) ≡ false → with_before xs (fields_in types known oid (row ∷ rows)) ≡ with_before xs (fields_in types known oid rows)
   other_type xs row rows other = rw other refl
 

@@ -1,6 +1,6 @@
 //! Types made of the rows of a catalogue, parts before wholes.
 
-ghost use Rattle.std.specs.Prelude.{◌≡◌, ◌<◌, ◌⊎◌, List, [], true, false, Some, None, IfOk, IfErr, IfSome, OnOk, map, option_map, string_bytes};
+ghost use Rattle.std.specs.Prelude.{◌≡◌, ◌<◌, ◌⊎◌, [], true, false, Some, None, IfOk, IfErr, IfSome, OnOk, map, option_map, string_bytes};
 ghost use Rattle.std.specs.Rc.{rc_slice_items, rc_str_bytes};
 ghost use Rattle.pgv_types.specs.Shown.{kind_of as kind_shown};
 ghost use Rattle.pgv_types.specs.declared.oid.Oid.{Oid as OidValue};

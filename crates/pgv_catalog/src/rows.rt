@@ -1,6 +1,6 @@
 //! Rows of the catalogue.
 
-ghost use Rattle.std.specs.Prelude.{◌≡◌, ℕ, ℤ, Bool, List, Ok, IfOk, IfErr, string_bytes};
+ghost use Rattle.std.specs.Prelude.{◌≡◌, Ok, IfOk, IfErr};
 ghost use Rattle.pgv_catalog.specs.Classes.{class_of, ReadsField, ReadsLabel, ReadsType};
 
 use pgv_row::{ColumnError, FromRow, PgRow};

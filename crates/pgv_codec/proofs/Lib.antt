@@ -6,4 +6,3 @@ pub mod FrameLoop
 pub mod PartLoop
 pub mod PlainFits
 pub mod Outcomes
-pub mod Refusing

@@ -1,81 +1,101 @@
 -- The frames of a list.
-use Rattle.std.proofs.Common.{◌≡◌, ℕ, ◌+◌, ◌<◌, ◌≤◌, arith, Result, Ok, Err, OnOk, List, [], ◌∷◌, ◌++◌, length, Option, Some, None, get_or, take, drop, refl, sym, ◌∙◌, ap, append_assoc, append-nil, inl, inr}
-use Rattle.std.proofs.lemmas.List.{take_more, drop_more, take-append-drop}
+use Rattle.std.proofs.Common.{◌≡◌, ℕ, suc, ◌+◌, ◌<◌, ◌≤◌, Bool, true, false, nat_lt, Result, Ok, Err, OnOk, List, [], ◌∷◌, ◌++◌, length, map, Option, Some, None, get_or, drop, refl, sym, ◌∙◌, ap, append_assoc, append-nil, drop-cons, inl, inr}
+use Rattle.std.proofs.lemmas.Bool.{le-ltb, lt-ltb}
+use Rattle.std.proofs.lemmas.List.{drop_all, length-map}
+use Rattle.pgv_types.specs.Ty.{Ty}
 use Rattle.pgv_types.specs.Facts.{oid_of}
 use Rattle.pgv_buf.specs.Tokens.{Token, Cell, hole, bytes, be4, blank}
 use Rattle.pgv_buf.specs.Blank.{blank-append}
-use Rattle.pgv_codec.specs.Image.{Image, frame, written_frames, join, image_of, typed, header, array_of_frames, field_of}
-use Rattle.pgv_types.specs.Ty.{Ty}
-use Rattle.std.proofs.lemmas.Bool.Decides.{nat_tests}
-use Rattle.pgv_codec.specs.Outcome.{AppendedAll, Refused}
+use Rattle.pgv_value.specs.Outcome.{Outcome, Fails, bind_by, done}
 use Rattle.pgv_value.specs.declared.error.CodecError.{CodecError}
+use Rattle.pgv_codec.specs.Encoding.{Encoding, image_of, frame, frames, typed, header, array_image, element_type, field, value_type}
+use Rattle.pgv_codec.specs.Appending.{Appended}
 
 -- tokens after tokens
 pub both : (was mid now : List Cell) (a b : List Token) → mid ≡ was ++ blank a → now ≡ mid ++ blank b → now ≡ was ++ blank (a ++ b)
 both was mid now a b e f = f ∙ (ap (λ r. r ++ blank b) e ∙ (append_assoc was (blank a) (blank b) ∙ ap (λ r. was ++ r) (sym (blank-append a b))))
 
-pub join-none : (a : Option (List Token)) → join a None ≡ None
-join-none None = refl
-join-none (Some a) = refl
-
-pub join_assoc : (a b c : Option (List Token)) → join (join a b) c ≡ join a (join b c)
-join_assoc None b c = refl
-join_assoc (Some a) None c = refl
-join_assoc (Some a) (Some b) None = refl
-join_assoc (Some a) (Some b) (Some c) = ap Some (append_assoc a b c)
-
-pub join_nothing : (a : Option (List Token)) → join (Some []) a ≡ a
-join_nothing None = refl
-join_nothing (Some a) = refl
-
-pub array_there :
-    (t : Ty) (n : ℕ) (fs : Option (List Token)) (hs ts : List Token) → n ≤ 2147483647 → header t n ≡ Some hs → fs ≡ Some ts → array_of_frames t n fs ≡ Some (image_of (hs ++ ts))
-array_there t n fs hs ts l h e = rw (e, h) (grind (arith, nat_tests))
-
--- one list after the other, each where it is there
-pub appended_both : (f g : Option (List Token)) (was mid now : List Cell) → AppendedAll f was mid → AppendedAll g mid now → AppendedAll (join f g) was now
-appended_both f g was mid now a b = (a.0 ++ b.0, rw (a.1, b.1) refl, both was mid now a.0 b.0 a.2 b.2)
-
--- a type, and after it a frame
-pub field_written : (t : Ty) (f : Option (List Token)) (was mid now : List Cell) → AppendedAll (typed t) was mid → AppendedAll f mid now → AppendedAll (field_of t f) was now
-field_written t f was mid now a b = (a.0 ++ b.0, rw (b.1, a.1) refl, both was mid now a.0 b.0 a.2 b.2)
-
 -- a type that is written by its OID, or as a hole
-pub typed_known : (t : Ty) (o : ℕ) → Some o ≡ oid_of t → o < 4294967296 → typed t ≡ Some (bytes (be4 o))
-typed_known t o e l = rw (← e) (grind (arith, nat_tests))
+pub typed_known : (t : Ty) (o : ℕ) → Some o ≡ oid_of t → o < 4294967296 → (typed t).answer ≡ Ok (bytes (be4 o))
+typed_known t o e l = let small : nat_lt o 4294967296 ≡ true = lt-ltb _ _ l in rw (← e, small) refl
 
-pub typed_unknown : (t : Ty) → None ≡ oid_of t → typed t ≡ Some (hole t ∷ [])
+pub typed_unknown : (t : Ty) → None ≡ oid_of t → (typed t).answer ≡ Ok (hole t ∷ [])
 typed_unknown t e = rw (← e) refl
 
-module _ {X : Type 0} (hint : X → ℕ) (image : X → Option Image) where
-  pub frames-append : (xs ys : List X) → written_frames hint image (xs ++ ys) ≡ join (written_frames hint image xs) (written_frames hint image ys)
-  frames-append [] ys = sym (join_nothing (written_frames hint image ys))
-  frames-append (x ∷ xs) ys =
-      ap (λ r. join (frame (hint x) (image x)) r) (frames-append xs ys) ∙ sym (join_assoc (frame (hint x) (image x)) (written_frames hint image xs) (written_frames hint image ys))
-
-  pub frames_more :
-      (xs : List X) (i : ℕ) (x : X) (start now next : List Cell) → i < length xs → x ≡ get_or xs i x →
-      AppendedAll (written_frames hint image (take i xs)) start now → AppendedAll (frame (hint x) (image x)) now next →
-      AppendedAll (written_frames hint image (take (i + 1) xs)) start next
-  frames_more xs i x start now next l e a b = (
-    a.0 ++ b.0,
-    rw (take_more xs i x l, ← e) (frames-append (take i xs) (x ∷ []) ∙ rw (a.1, b.1, append-nil)),
-    both start now next a.0 b.0 a.2 b.2,
-  )
-
-  pub frames_none :
-      (xs : List X) (i : ℕ) (x : X) → i < length xs → x ≡ get_or xs i x → frame (hint x) (image x) ≡ None → written_frames hint image xs ≡ None
-  frames_none xs i x l e n =
-      let split : xs ≡ take i xs ++ (x ∷ drop (i + 1) xs) = sym (take-append-drop i xs) ∙ ap (λ r. take i xs ++ r) (drop_more xs i x l ∙ ap (λ y. y ∷ drop (i + 1) xs) (sym e)) in
-      ap (λ ys. written_frames hint image ys) split ∙ (frames-append (take i xs) (x ∷ drop (i + 1) xs) ∙ (ap (λ f. join (written_frames hint image (take i xs)) (join f (written_frames hint image (drop (i + 1) xs)))) n ∙ join-none (written_frames hint image (take i xs))))
-
-  pub frames_refused :
-      (xs : List X) (i : ℕ) (x : X) (error : CodecError) → i < length xs → x ≡ get_or xs i x →
-      Refused error (frame (hint x) (image x)) → Refused error (written_frames hint image xs)
-  frames_refused xs i x error l e (inl n) = inl (frames_none xs i x l e n)
-  frames_refused xs i x error l e (inr m) = inr m
-
 -- where it is Ok, exactly what is written is appended
-pub written_if_ok : {E : Type 0} (r : Result (Unit {0}) E) (f : Option (List Token)) (ts : List Token) (was now : List Cell) → f ≡ Some ts → OnOk r (now ≡ was ++ blank ts) → OnOk r (AppendedAll f was now)
+pub written_if_ok : {E : Type 0} (r : Result (Unit {0}) E) (f : Outcome (List Token)) (ts : List Token) (was now : List Cell) → f.answer ≡ Ok ts → OnOk r (now ≡ was ++ blank ts) → OnOk r (Appended f was now)
 written_if_ok (Ok u) f ts was now e h = (ts, e, h)
 written_if_ok (Err e) f ts was now p h = tt
+
+-- ---- frames
+
+abbrev pub Answer : Type 0
+Answer = Result (List Token) (Option CodecError)
+
+-- what was written before, and what is still written
+abbrev pub with_front : List Token → Answer → Answer
+with_front ts (Ok us) = Ok (ts ++ us)
+with_front ts (Err why) = Err why
+
+regroup : (ts f : List Token) (r : Answer) (b : Bool) → with_front ts (bind_by r b (λ (us : List Token). done (f ++ us))).answer ≡ with_front (ts ++ f) r
+regroup ts f (Ok us) b = ap (λ (xs : List Token). let r : Answer = Ok xs in r) (sym (append_assoc ts f us))
+regroup ts f (Err why) b = refl
+
+pub nothing_before : (r : Answer) → with_front [] r ≡ r
+nothing_before (Ok us) = refl
+nothing_before (Err why) = refl
+
+module _ {X : Type 0} (encoding : X → Encoding) where
+  abbrev pub still : List X → Outcome (List Token)
+  still xs = frames (map encoding xs)
+
+  written : (ts : List Token) (x : X) (xs : List X) (f : List Token) → (frame (encoding x)).answer ≡ Ok f → with_front ts (still (x ∷ xs)).answer ≡ with_front (ts ++ f) (still xs).answer
+  unfolding frames
+  written ts x xs f e = rw e (regroup ts f (still xs).answer (still xs).may_alloc)
+
+  unwritten : (x : X) (xs : List X) (why : Option CodecError) → (frame (encoding x)).answer ≡ Err why → (still (x ∷ xs)).answer ≡ Err why
+  unfolding frames
+  unwritten x xs why e = rw e refl
+
+  none_left : (still []).answer ≡ Ok []
+  unfolding frames
+  none_left = refl
+
+  left_is : (xs : List X) (i : ℕ) (x : X) → i < length xs → x ≡ get_or xs i x → drop i xs ≡ x ∷ drop (suc i) xs
+  left_is xs i x lt is = drop-cons xs i x lt ∙ ap (λ (y : X). y ∷ drop (suc i) xs) (sym is)
+
+  pub frames_more : (ts : List Token) (xs : List X) (i : ℕ) (x : X) (f : List Token) (total : Answer) → i < length xs → x ≡ get_or xs i x → (frame (encoding x)).answer ≡ Ok f →
+      with_front ts (still (drop i xs)).answer ≡ total → with_front (ts ++ f) (still (drop (suc i) xs)).answer ≡ total
+  frames_more ts xs i x f total lt is e so_far =
+      sym (written ts x (drop (suc i) xs) f e) ∙ (ap (λ (ys : List X). with_front ts (still ys).answer) (sym (left_is xs i x lt is)) ∙ so_far)
+
+  pub frames_done : (ts : List Token) (xs : List X) (i : ℕ) (total : Answer) → length xs ≤ i → with_front ts (still (drop i xs)).answer ≡ total → total ≡ Ok ts
+  frames_done ts xs i total le so_far =
+      sym so_far ∙ (ap (λ (ys : List X). with_front ts (still ys).answer) (drop_all i xs le) ∙ (ap (with_front ts) none_left ∙ ap (λ (us : List Token). let r : Answer = Ok us in r) (append-nil ts)))
+
+  why_is : (ts : List Token) (xs : List X) (i : ℕ) (x : X) (why : Option CodecError) (total : Answer) → i < length xs → x ≡ get_or xs i x → (frame (encoding x)).answer ≡ Err why →
+      with_front ts (still (drop i xs)).answer ≡ total → total ≡ Err why
+  why_is ts xs i x why total lt is e so_far =
+      sym so_far ∙ (ap (λ (ys : List X). with_front ts (still ys).answer) (left_is xs i x lt is) ∙ ap (with_front ts) (unwritten x (drop (suc i) xs) why e))
+
+  pub frames_fail : (ts : List Token) (xs : List X) (i : ℕ) (x : X) (e : CodecError) (total : Outcome (List Token)) → i < length xs → x ≡ get_or xs i x → Fails e (frame (encoding x)) →
+      with_front ts (still (drop i xs)).answer ≡ total.answer → total.may_alloc ≡ true → Fails e total
+  frames_fail ts xs i x e total lt is (inl h) so_far free = inl (why_is ts xs i x (Some e) total.answer lt is h so_far)
+  frames_fail ts xs i x e total lt is (inr (inl h)) so_far free = inr (inl (why_is ts xs i x None total.answer lt is h.0 so_far, h.1))
+  frames_fail ts xs i x e total lt is (inr (inr h)) so_far free = inr (inr (h.0, free))
+
+  -- ---- arrays
+
+  pub array_there : (info : Ty) (xs : List X) (head parts : List Token) → length xs ≤ 2147483647 → (header (element_type info (map encoding xs)) (length xs)).answer ≡ Ok head → (still xs).answer ≡ Ok parts →
+      (array_image info (map encoding xs)).answer ≡ Ok (image_of (head ++ parts))
+  unfolding array_image
+  array_there info xs head parts le head_is parts_are =
+      let many : length (map encoding xs) ≡ length xs = length-map xs encoding in
+      let small : nat_lt 2147483647 (length xs) ≡ false = le-ltb _ _ le in
+      rw (many, small, head_is, parts_are) refl
+
+-- ---- fields
+
+pub field_there : (info : Ty) (e : Encoding) (oid part : List Token) → (typed (value_type info e)).answer ≡ Ok oid → (frame e).answer ≡ Ok part → (field info e).answer ≡ Ok (oid ++ part)
+unfolding field
+field_there info e oid part a b = rw (a, b) refl

@@ -1,12 +1,14 @@
 -- A record that is being written.
-use Rattle.std.proofs.Common.{◌≡◌, ◌≢◌, ℕ, List, ◌++◌, Option, Some, None, refl, sym, ◌∙◌, ap, append_assoc}
+use Rattle.std.proofs.Common.{◌≡◌, ◌≢◌, ℕ, List, ◌++◌, refl, sym, ◌∙◌, ap, append_assoc, inl}
 use Rattle.std.proofs.lemmas.Bool.{ne_eqb}
 use Rattle.pgv_buf.specs.declared.Mark.{Mark}
 use Rattle.pgv_buf.specs.Tokens.{Token, Cell, bytes, be4, blank, fixed_bytes, width, hole_count, slot_count}
 use Rattle.pgv_buf.specs.Blank.{blank-append, plain-blank}
 use Rattle.pgv_buf.specs.Marks.{mark_of}
 use Rattle.pgv_codec.specs.Fronts.{front_is, rest_after_is}
-use Rattle.pgv_codec.specs.Image.{counted_field}
+use Rattle.pgv_value.specs.Outcome.{Outcome, Fails}
+use Rattle.pgv_value.specs.declared.error.CodecError.TheVariants.{FieldCount}
+use Rattle.pgv_codec.specs.Encoding.{counted_field}
 use Rattle.pgv_codec.specs.Record.{Writing, writing_at, IsOpen}
 
 -- what is being written, where the buffer is known
@@ -30,8 +32,8 @@ parts m n was now ts o e =
 pub counted : (n : ℕ) (before next : List Cell) (fs : List Token) → next ≡ before ++ fixed_bytes (be4 n) ++ blank fs → next ≡ before ++ blank (bytes (be4 n) ++ fs)
 counted n before next fs e = e ∙ append_assoc before (fixed_bytes (be4 n)) (blank fs)
 
-pub field_there : (n : ℕ) (f : Option (List Token)) (ts : List Token) → n ≢ 4294967295 → f ≡ Some ts → counted_field n f ≡ Some ts
-field_there n f ts l e = rw (e, ne_eqb n 4294967295 l) refl
+pub field_counted : (n : ℕ) (f : Outcome (List Token)) → n ≢ 4294967295 → counted_field n f ≡ f
+field_counted n f l = rw (ne_eqb n 4294967295 l) refl
 
-pub field_too_many : (n : ℕ) (f : Option (List Token)) → n ≡ 4294967295 → counted_field n f ≡ None
-field_too_many n f e = rw e refl
+pub full_field : (n : ℕ) (f : Outcome (List Token)) → n ≡ 4294967295 → Fails FieldCount (counted_field n f)
+full_field n f e = rw e (inl refl)

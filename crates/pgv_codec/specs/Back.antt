@@ -9,21 +9,21 @@
 -- and each element fits it (`ArrayFits`). A field of a record fits where the type at its place exists, by the OID that was
 -- written, the reader accepts it and the value fits it (`FieldFits`). Each part takes the OIDs of its own holes, in order
 -- (`FitEach`, `FieldsFit`).
-use Rattle.std.specs.Prelude.{◌≡◌, ℕ, suc, ◌<◌, ◌^◌, Bool, true, false, cond, List, [], ◌∷◌, ◌++◌, length, take, drop, Option, Some, None, Ok, ⊤}
+use Rattle.std.specs.Prelude.{◌≡◌, ℕ, suc, ◌<◌, ◌^◌, Bool, true, false, cond, List, [], ◌∷◌, ◌++◌, length, map, take, drop, Option, Some, None, Ok, ⊤}
 use Rattle.pgv_types.specs.Ty.{Ty}
 use Rattle.pgv_types.specs.Facts.{oid_of}
 use Rattle.pgv_types.specs.declared.oid.Oid.{Oid}
 use Rattle.pgv_buf.specs.Fill.{first_number}
 use Rattle.pgv_buf.specs.Proper.{rest_of}
 use Rattle.pgv_buf.specs.Tokens.{Token, byte, hole, slot, bytes, be4, tokens_holes, CasesFit}
-use Rattle.pgv_value.specs.Outcome.{Outcome}
+use Rattle.pgv_value.specs.Outcome.{Outcome, ok_of}
 use Rattle.pgv_value.specs.Reading.{Reading}
 use Rattle.pgv_value.specs.ValueView.{Given, given}
 use Rattle.pgv_value.specs.declared.value.PgValueFormat.TheVariants.{Binary}
 use Rattle.pgv_codec.specs.Writing.{write}
 use Rattle.pgv_nest.specs.ArrayGrammar.{element_type}
 use Rattle.pgv_nest.specs.NestBinary.{HasFieldType}
-use Rattle.pgv_codec.specs.Image.{Image, null_image, image_of, or_else, join, field, record_image, written_element_type as written_type}
+use Rattle.pgv_codec.specs.Encoding.{Encoding, Image, null_image, image_of, value_type, writes, field, fields_from, record_image, element_type as written_type}
 use Rattle.pgv_codec.specs.Writing.{image_holes, written_part}
 use Rattle.pgv_nest.specs.RecordGrammar.{Left, binary_fields, next_field, fields_of}
 
@@ -45,9 +45,14 @@ ImageFits (image_of ts) = SlotsFit ts
 
 -- The law: for a value with an image, for every parameter type, or none with each slot at its default, under every type
 -- and with all OIDs in the holes that fit, the part that is written so is read in binary as what the value keeps.
-abbrev pub ReadsBack : {A M : Type 0} → (A → Option Image) → Reading M → (A → M) → (A → Ty → List Oid → Type 0) → Type 0
-ReadsBack {A} image reading kept fits =
-    (v : A) (i : Image) (t : Ty) (p : Option Ty) (os : List Oid) → image v ≡ Some i → ImageFits i → AreOids os → fits v t os → reading t Binary (written_part i p os) ≡ Some (kept v)
+abbrev pub ReadsBack : {A M : Type 0} → (A → Encoding) → Reading M → (A → M) → (A → Ty → List Oid → Type 0) → Type 0
+ReadsBack {A} encoding reading kept fits =
+    (v : A) (i : Image) (t : Ty) (p : Option Ty) (os : List Oid) → ok_of (encoding v).image.answer ≡ Some i → ImageFits i → AreOids os → fits v t os → reading t Binary (written_part i p os) ≡ Some (kept v)
+
+-- the image that is written, where there is one
+pub image_is : (o : Option Image) (i : Image) → ok_of (writes o).answer ≡ Some i → o ≡ Some i
+image_is None i e = absurd cc
+image_is (Some j) i e = e
 
 -- ---- plain types fit every type
 
@@ -62,9 +67,9 @@ is_null (Some null_image) = true
 is_null (Some (image_of ts)) = false
 
 -- a value that is written as null comes back as None
-abbrev pub option_kept : {A : Type 0} → (A → Option Image) → (A → A) → Option A → Option A
-option_kept image kept None = None
-option_kept image kept (Some x) = cond (is_null (image x)) None (Some (kept x))
+abbrev pub option_kept : {A : Type 0} → (A → Encoding) → (A → A) → Option A → Option A
+option_kept encoding kept None = None
+option_kept encoding kept (Some x) = cond (is_null (ok_of (encoding x).image.answer)) None (Some (kept x))
 
 abbrev pub option_fits : {A : Type 0} → (A → Ty → List Oid → Type 0) → Option A → Ty → List Oid → Type 0
 option_fits fits None t os = ⊤
@@ -82,73 +87,75 @@ abbrev pub oids_after : Option ℕ → List Oid → List Oid
 oids_after (Some o) os = os
 oids_after None os = rest_of os
 
+-- how many OIDs an image takes, where there is one
+abbrev pub holes_in : Option Image → ℕ
+holes_in None = 0
+holes_in (Some i) = image_holes i
+
 -- how many OIDs a value takes
-abbrev pub holes_of : Option Image → ℕ
-holes_of None = 0
-holes_of (Some i) = image_holes i
+abbrev pub holes_of : Encoding → ℕ
+holes_of e = holes_in (ok_of e.image.answer)
 
 -- ---- arrays
 
 -- each element fits the type, with the OIDs of its own holes
-abbrev pub FitEach : {A : Type 0} → (A → Option Image) → (A → Ty → List Oid → Type 0) → Ty → List A → List Oid → Type 0
-FitEach image fits u [] os = ⊤
-FitEach image fits u (x ∷ xs) os = fits x u (take (holes_of (image x)) os) × FitEach image fits u xs (drop (holes_of (image x)) os)
+abbrev pub FitEach : {A : Type 0} → (A → Encoding) → (A → Ty → List Oid → Type 0) → Ty → List A → List Oid → Type 0
+FitEach encoding fits u [] os = ⊤
+FitEach encoding fits u (x ∷ xs) os = fits x u (take (holes_of (encoding x)) os) × FitEach encoding fits u xs (drop (holes_of (encoding x)) os)
 
 -- elements fit the type of their array where the type of the elements exists, by the OID that is written and by the
 -- array's type, and each fits that
-abbrev pub ArrayFits : {A : Type 0} → Ty → (A → Option Ty) → (A → Option Image) → (A → Ty → List Oid → Type 0) → List A → Ty → List Oid → Type 0
-ArrayFits info produced image fits xs t os =
-    let own = oid_of (written_type produced info xs) in
-    (u : Ty) × (element_type t (written_oid own os) ≡ Some u) × FitEach image fits u xs (oids_after own os)
+abbrev pub ArrayFits : {A : Type 0} → Ty → (A → Encoding) → (A → Ty → List Oid → Type 0) → List A → Ty → List Oid → Type 0
+ArrayFits info encoding fits xs t os =
+    let own = oid_of (written_type info (map encoding xs)) in
+    (u : Ty) × (element_type t (written_oid own os) ≡ Some u) × FitEach encoding fits u xs (oids_after own os)
 
 -- ---- the fields of records
 
 -- how many OIDs a field takes, its type's among them
-abbrev pub field_holes : Option (List Token) → ℕ
-field_holes None = 0
-field_holes (Some ts) = tokens_holes ts
+abbrev pub holes_among : Option (List Token) → ℕ
+holes_among None = 0
+holes_among (Some ts) = tokens_holes ts
+
+abbrev pub field_holes : Outcome (List Token) → ℕ
+field_holes f = holes_among (ok_of f.answer)
 
 -- A field fits a record's type at a place where the type of the field there exists, by the OID that is written, the reader
 -- accepts it, and the value fits it.
-abbrev pub FieldFits : {A : Type 0} → Ty → (A → Option Ty) → (A → Option Image) → (Ty → Bool) → (A → Ty → List Oid → Type 0) → A → Ty → ℕ → List Oid → Type 0
-FieldFits info produced image accepts fits x t place os =
-    let own = oid_of (or_else (produced x) info) in
-    (u : Ty) × HasFieldType place (written_oid own os) u t × (accepts u ≡ true) × fits x u (take (holes_of (image x)) (oids_after own os))
+abbrev pub FieldFits : {A : Type 0} → Ty → (A → Encoding) → (Ty → Bool) → (A → Ty → List Oid → Type 0) → A → Ty → ℕ → List Oid → Type 0
+FieldFits info encoding accepts fits x t place os =
+    let own = oid_of (value_type info (encoding x)) in
+    (u : Ty) × HasFieldType place (written_oid own os) u t × (accepts u ≡ true) × fits x u (take (holes_of (encoding x)) (oids_after own os))
 
 -- fields fit from a place on: the first, which is written so, and the further ones with the OIDs that it leaves
-abbrev pub Followed : (Ty → ℕ → List Oid → Type 0) → Option (List Token) → (Ty → ℕ → List Oid → Type 0) → Ty → ℕ → List Oid → Type 0
+abbrev pub Followed : (Ty → ℕ → List Oid → Type 0) → Outcome (List Token) → (Ty → ℕ → List Oid → Type 0) → Ty → ℕ → List Oid → Type 0
 Followed one written further t place os = one t place os × further t (suc place) (drop (field_holes written) os)
 
 -- a field that is read fits, and so do the further ones
-abbrev pub FieldsFit : {A : Type 0} → Ty → (A → Option Ty) → (A → ℕ) → (A → Option Image) → (Ty → Bool) → (A → Ty → List Oid → Type 0) → A → (Ty → ℕ → List Oid → Type 0) → Ty → ℕ → List Oid → Type 0
-FieldsFit info produced hint image accepts fits x further = Followed (FieldFits info produced image accepts fits x) (field hint image produced info x) further
-
--- the tokens of fields, from the first on
-abbrev pub in_order : List (Option (List Token)) → Option (List Token)
-in_order [] = Some []
-in_order (f ∷ fs) = join f (in_order fs)
+abbrev pub FieldsFit : {A : Type 0} → Ty → (A → Encoding) → (Ty → Bool) → (A → Ty → List Oid → Type 0) → A → (Ty → ℕ → List Oid → Type 0) → Ty → ℕ → List Oid → Type 0
+FieldsFit info encoding accepts fits x further = Followed (FieldFits info encoding accepts fits x) (field info (encoding x)) further
 
 -- A field that was written is the next that is read, whatever comes after it, under each type that fits; and what
 -- comes after it is left, with the OIDs that are left.
-abbrev pub FieldReadsBack : {A M : Type 0} → Ty → (A → Option Ty) → (A → ℕ) → (A → Option Image) → (Ty → Bool) → (Given → Outcome M) → (A → M) → (A → Ty → List Oid → Type 0) → Type 0
-FieldReadsBack {A} info produced hint image accepts parse kept fits =
+abbrev pub FieldReadsBack : {A M : Type 0} → Ty → (A → Encoding) → (Ty → Bool) → (Given → Outcome M) → (A → M) → (A → Ty → List Oid → Type 0) → Type 0
+FieldReadsBack {A} info encoding accepts parse kept fits =
     (x : A) (g after : List Token) (t : Ty) (place : ℕ) (p : Option Ty) (os : List Oid) →
-    field hint image produced info x ≡ Some g → SlotsFit g → AreOids os → FieldFits info produced image accepts fits x t place os →
+    (field info (encoding x)).answer ≡ Ok g → SlotsFit g → AreOids os → FieldFits info encoding accepts fits x t place os →
     (next_field accepts parse (binary_fields t place (write p os (g ++ after)))).answer ≡ Ok (kept x, binary_fields t (suc place) (write p (drop (tokens_holes g) os) after))
 
 -- before the first field of a written record is read, all its fields are left
 abbrev pub RecordFieldsFollow : Type 0
 RecordFieldsFollow =
-    (fs : List (Option (List Token))) (i : Image) (t : Ty) (p : Option Ty) (os : List Oid) → record_image fs ≡ Some i →
-    (gs : List Token) × (in_order fs ≡ Some gs) × (image_of (bytes (be4 (length fs)) ++ gs) ≡ i) × ((fields_of (given t Binary (written_part i p os))).answer ≡ Ok (binary_fields t 0 (write p os gs)))
+    (fs : List (Outcome (List Token))) (i : Image) (t : Ty) (p : Option Ty) (os : List Oid) → (record_image fs).answer ≡ Ok i →
+    (gs : List Token) × ((fields_from 0 fs).answer ≡ Ok gs) × (image_of (bytes (be4 (length fs)) ++ gs) ≡ i) × ((fields_of (given t Binary (written_part i p os))).answer ≡ Ok (binary_fields t 0 (write p os gs)))
 
--- Steps that read back fields that are written one after another. Further fields may come after those that are read.
-pub record FieldsBack {M : Type 0} (steps : Left → Outcome (M × Left)) (fs : List (Option (List Token))) (kept : M) (fit : Ty → ℕ → List Oid → Type 0) : Type 0 where
+-- Steps that read back fields that are written one after another. Further fields may come after those that are read, and others before.
+pub record FieldsBack {M : Type 0} (steps : Left → Outcome (M × Left)) (fs : List (Outcome (List Token))) (kept : M) (fit : Ty → ℕ → List Oid → Type 0) : Type 0 where
   pub back :
-      (t : Ty) (place : ℕ) (p : Option Ty) (os : List Oid) (gs : List Token) → in_order fs ≡ Some gs → SlotsFit gs → AreOids os → fit t place os →
+      (n : ℕ) (t : Ty) (place : ℕ) (p : Option Ty) (os : List Oid) (gs : List Token) → (fields_from n fs).answer ≡ Ok gs → SlotsFit gs → AreOids os → fit t place os →
       (left : Left) × ((steps (binary_fields t place (write p os gs))).answer ≡ Ok (kept, left))
 
 -- what is written as a record of these fields is read in binary as what is kept of those that are read
-abbrev pub RecordReadsBack : {M : Type 0} → Reading M → List (Option (List Token)) → M → (Ty → ℕ → List Oid → Type 0) → Type 0
+abbrev pub RecordReadsBack : {M : Type 0} → Reading M → List (Outcome (List Token)) → M → (Ty → ℕ → List Oid → Type 0) → Type 0
 RecordReadsBack reading fs kept fit =
-    (i : Image) (t : Ty) (p : Option Ty) (os : List Oid) → record_image fs ≡ Some i → ImageFits i → AreOids os → fit t 0 os → reading t Binary (written_part i p os) ≡ Some kept
+    (i : Image) (t : Ty) (p : Option Ty) (os : List Oid) → (record_image fs).answer ≡ Ok i → ImageFits i → AreOids os → fit t 0 os → reading t Binary (written_part i p os) ≡ Some kept

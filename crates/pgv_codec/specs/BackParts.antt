@@ -1,12 +1,11 @@
 -- What tokens write, one after another, and the frames that are found in it.
-use Rattle.std.specs.Prelude.{◌≡◌, ℕ, ◌+◌, zero, suc, ◌<◌, ◌≤◌, ◌^◌, nat_le, nat_lt, Bool, true, false, cond, List, [], ◌∷◌, ◌++◌, length, take, drop, map, Option, Some, None, refl}
+use Rattle.std.specs.Prelude.{◌≡◌, ℕ, ◌+◌, zero, suc, ◌<◌, ◌≤◌, ◌^◌, nat_lt, Bool, true, false, cond, if◌then◌else◌, List, [], ◌∷◌, ◌++◌, length, take, drop, map, Option, Some, None, Ok, refl}
 use Rattle.std.specs.Int.{w32, to_be_bytes}
 use Rattle.std.proofs.Common.{sym, ap, ◌∙◌, subst, arith, append_assoc}
 use Rattle.std.proofs.Math.Numerals.{one-add}
 use Rattle.std.proofs.Math.Seq.{take-nil, drop-nil}
-use Rattle.std.proofs.lemmas.Bool.{leb-true, ltb-true}
+use Rattle.std.proofs.lemmas.Bool.{ltb-false, ltb-true}
 use Rattle.std.proofs.lemmas.List.{length-append}
-use Rattle.std.proofs.lemmas.Option.{same_Some}
 use Rattle.pgv_types.specs.Ty.{Ty}
 use Rattle.pgv_types.specs.declared.oid.Oid.{Oid}
 use Rattle.pgv_buf.specs.Fill.{first_number}
@@ -14,14 +13,15 @@ use Rattle.pgv_buf.specs.Proper.{rest_of}
 use Rattle.pgv_buf.specs.Tokens.{Token, byte, hole, slot, bytes, be4, tokens_width, tokens_holes, CasesFit}
 use Rattle.pgv_buf.proofs.Patches.{chosen_fits}
 use Rattle.pgv_value.specs.FrameBinary.{Part, IsFrame}
-use Rattle.pgv_value.specs.Outcome.{Outcome, Reads, reading_of}
+use Rattle.pgv_value.specs.Outcome.{Outcome, Reads, ok_of, reading_of, done, unstated, allocates, ◌>>=◌, ◌>>◌}
 use Rattle.pgv_value.specs.ValueView.{Given, given}
-use Rattle.pgv_value.proofs.Outcomes.{answer_of}
+use Rattle.pgv_value.proofs.Outcomes.{answer_is, answer_of, taken, tested}
+use Rattle.pgv_value.specs.declared.error.CodecError.TheVariants.{ValueSize}
 use Rattle.pgv_value.specs.declared.value.PgValueFormat.TheVariants.{Binary}
-use Rattle.pgv_codec.specs.Writing.{write, chosen_for}
-use Rattle.pgv_codec.specs.Back.{AreOids, SlotsFit, ReadsBack, FitEach, holes_of, written_oid, oids_after}
+use Rattle.pgv_codec.specs.Writing.{write, chosen_for, image_holes}
+use Rattle.pgv_codec.specs.Back.{AreOids, SlotsFit, ReadsBack, FitEach, holes_in, holes_of, written_oid, oids_after}
 use Rattle.pgv_nest.specs.NestBinary.{BeginWithFrames}
-use Rattle.pgv_codec.specs.Image.{Image, null_image, image_of, limit, frame, frame_of, written_frames, join, typed_oid}
+use Rattle.pgv_codec.specs.Encoding.{Encoding, Image, null_image, image_of, limit, frame, frame_of, frames, typed_oid}
 
 -- ---- writing
 
@@ -98,73 +98,82 @@ pub guarded : {B : Type 0} (b : Bool) (o : Option B) (y : B) → cond b o None �
 guarded true o y e = (refl, e)
 guarded false o y e = absurd cc
 
-pub joined_parts : (a b : Option (List Token)) (ts : List Token) → join a b ≡ Some ts → (f : List Token) × (fs : List Token) × (a ≡ Some f) × (b ≡ Some fs) × (f ++ fs ≡ ts)
-joined_parts None b ts e = absurd cc
-joined_parts (Some f) None ts e = absurd cc
-joined_parts (Some f) (Some fs) ts e = (f, fs, refl, refl, same_Some (f ++ fs) ts e)
-
 -- ---- a type, with anything after it
 
 first_fits : (os : List Oid) → AreOids os → first_number os < 2 ^ 32
 first_fits [] h = omega arith
 first_fits (o ∷ os) h = h.0
 
-pub type_written : (w : Ty) (o : Option ℕ) (ys after : List Token) (p : Option Ty) (os : List Oid) → AreOids os → typed_oid w o ≡ Some ys →
+oid_written : {A : Type 0} (b : Bool) (xs ys : A) → (if b then done xs else unstated).answer ≡ Ok ys → (b ≡ true) × (xs ≡ ys)
+oid_written true xs ys e = (refl, answer_is xs ys e)
+oid_written false xs ys e = absurd cc
+
+pub type_written : (w : Ty) (o : Option ℕ) (ys after : List Token) (p : Option Ty) (os : List Oid) → AreOids os → (typed_oid w o).answer ≡ Ok ys →
     (written_oid o os < 2 ^ 32) × (write p os (ys ++ after) ≡ be4 (written_oid o os) ++ write p (oids_after o os) after)
 type_written w (Some o) ys after p os small e =
-    let g = guarded (nat_lt o 4294967296) (Some (bytes (be4 o))) ys e in
-    let ys_are : bytes (be4 o) ≡ ys = same_Some _ _ g.1 in
-    (ltb-true o (2 ^ 32) g.0, rw (← ys_are) refl)
-type_written w None ys after p os small e =
-    let ys_are : hole w ∷ [] ≡ ys = same_Some _ _ e in
-    (first_fits os small, rw (← ys_are) refl)
+    let g = oid_written (nat_lt o 4294967296) (bytes (be4 o)) ys e in
+    (ltb-true o (2 ^ 32) g.0, rw (← g.1) refl)
+type_written w None ys after p os small e = (first_fits os small, rw (← answer_is (hole w ∷ []) ys e) refl)
 
 -- the OIDs after a type are those that its holes leave
-pub oids_left : (w : Ty) (o : Option ℕ) (ys : List Token) (os : List Oid) → typed_oid w o ≡ Some ys → drop (tokens_holes ys) os ≡ oids_after o os
-oids_left w (Some o) ys os e =
-    let g = guarded (nat_lt o 4294967296) (Some (bytes (be4 o))) ys e in
-    let ys_are : bytes (be4 o) ≡ ys = same_Some _ _ g.1 in
-    rw (← ys_are) refl
-oids_left w None ys [] e =
-    let ys_are : hole w ∷ [] ≡ ys = same_Some _ _ e in
-    rw (← ys_are) refl
-oids_left w None ys (o ∷ os) e =
-    let ys_are : hole w ∷ [] ≡ ys = same_Some _ _ e in
-    rw (← ys_are) refl
+pub oids_left : (w : Ty) (o : Option ℕ) (ys : List Token) (os : List Oid) → (typed_oid w o).answer ≡ Ok ys → drop (tokens_holes ys) os ≡ oids_after o os
+oids_left w (Some o) ys os e = rw (← (oid_written (nat_lt o 4294967296) (bytes (be4 o)) ys e).1) refl
+oids_left w None ys [] e = rw (← answer_is (hole w ∷ []) ys e) refl
+oids_left w None ys (o ∷ os) e = rw (← answer_is (hole w ∷ []) ys e) refl
 
 -- ---- frames
 
-module _ {A M : Type 0} (image : A → Option Image) (parse : Given → Outcome M) (kept : A → M) (fits : A → Ty → List Oid → Type 0) (law : ReadsBack image (reading_of parse) kept fits) where
-  -- the frame of one value, with anything after it
-  pub frame_back : (x : A) (i : Option Image) (f after : List Token) (u : Ty) (p : Option Ty) (os : List Oid) → image x ≡ i → frame_of i ≡ Some f → SlotsFit f → AreOids os → fits x u (take (holes_of i) os) →
-      (part : Part) × IsFrame (write p os (f ++ after)) part (write p (drop (holes_of i) os) after) × Reads parse (given u Binary part) (kept x)
-  frame_back x None f after u p os is e whole small fit = absurd cc
-  frame_back x (Some null_image) f after u p os is e whole small fit =
-      let f_is : bytes (be4 4294967295) ≡ f = same_Some _ _ e in
-      (None, rw (← f_is) refl, answer_of (parse (given u Binary None)).answer (kept x) (law x null_image u p (take 0 os) is tt tt fit))
-  frame_back x (Some (image_of ts)) f after u p os is e whole small fit =
-      let g = guarded (nat_le (tokens_width ts) limit) (Some (bytes (be4 (tokens_width ts)) ++ ts)) f e in
-      let f_is : bytes (be4 (tokens_width ts)) ++ ts ≡ f = same_Some _ _ g.1 in
+-- a frame is that of an image
+pub frame_parts : (e : Encoding) (f : List Token) → (frame e).answer ≡ Ok f → (i : Image) × (e.image.answer ≡ Ok i) × ((frame_of i).answer ≡ Ok f)
+unfolding frame
+frame_parts e f is = taken e.image frame_of f (tested (nat_lt limit e.size_hint) (ValueSize e.size_hint) (allocates true >> (e.image >>= frame_of)) f is).1
+
+-- which is narrow enough
+pub image_parts : (ts f : List Token) → (frame_of (image_of ts)).answer ≡ Ok f → (tokens_width ts ≤ limit) × (bytes (be4 (tokens_width ts)) ++ ts ≡ f)
+image_parts ts f is =
+    let g = tested (nat_lt limit (tokens_width ts)) (ValueSize (tokens_width ts)) (done (bytes (be4 (tokens_width ts)) ++ ts)) f is in
+    (ltb-false limit (tokens_width ts) g.0, answer_is _ f g.1)
+
+module _ {A M : Type 0} (encoding : A → Encoding) (parse : Given → Outcome M) (kept : A → M) (fits : A → Ty → List Oid → Type 0) (law : ReadsBack encoding (reading_of parse) kept fits) where
+  image_back : (x : A) (i : Image) (f after : List Token) (u : Ty) (p : Option Ty) (os : List Oid) → (encoding x).image.answer ≡ Ok i → (frame_of i).answer ≡ Ok f → SlotsFit f → AreOids os → fits x u (take (image_holes i) os) →
+      (part : Part) × IsFrame (write p os (f ++ after)) part (write p (drop (image_holes i) os) after) × Reads parse (given u Binary part) (kept x)
+  image_back x null_image f after u p os is e whole small fit =
+      let f_is : bytes (be4 4294967295) ≡ f = answer_is _ _ e in
+      (None, rw (← f_is) refl, answer_of (parse (given u Binary None)).answer (kept x) (law x null_image u p (take 0 os) (ap ok_of is) tt tt fit))
+  image_back x (image_of ts) f after u p os is e whole small fit =
+      let g = image_parts ts f e in
+      let f_is : bytes (be4 (tokens_width ts)) ++ ts ≡ f = g.1 in
       let mine : List Oid = take (tokens_holes ts) os in
       let rest : List ℕ = write p (drop (tokens_holes ts) os) after in
       let ts_fit : SlotsFit ts = SlotsFit-back (bytes (be4 (tokens_width ts))) ts (subst SlotsFit (sym f_is) whole) in
       let len : length (write p mine ts) ≡ tokens_width ts = length-write p mine ts ts_fit in
-      let narrow : tokens_width ts ≤ limit = leb-true _ _ g.0 in
       let parts : write p os (f ++ after) ≡ be4 (tokens_width ts) ++ (write p mine ts ++ rest)
       = rw (← f_is) (ap (λ (xs : List ℕ). be4 (tokens_width ts) ++ xs) (write-append p os ts after)) in (
         Some (write p mine ts),
-        (omega (arith, len, narrow), parts ∙ ap (λ (n : ℕ). to_be_bytes w32 n ++ (write p mine ts ++ rest)) (sym len)),
-        answer_of (parse (given u Binary (Some (write p mine ts)))).answer (kept x) (law x (image_of ts) u p mine is ts_fit (AreOids-take (tokens_holes ts) os small) fit),
+        (omega (arith, len, g.0), parts ∙ ap (λ (n : ℕ). to_be_bytes w32 n ++ (write p mine ts ++ rest)) (sym len)),
+        answer_of (parse (given u Binary (Some (write p mine ts)))).answer (kept x) (law x (image_of ts) u p mine (ap ok_of is) ts_fit (AreOids-take (tokens_holes ts) os small) fit),
       )
 
+  -- the frame of one value, with anything after it
+  pub frame_back : (x : A) (f after : List Token) (u : Ty) (p : Option Ty) (os : List Oid) → (frame (encoding x)).answer ≡ Ok f → SlotsFit f → AreOids os → fits x u (take (holes_of (encoding x)) os) →
+      (part : Part) × IsFrame (write p os (f ++ after)) part (write p (drop (holes_of (encoding x)) os) after) × Reads parse (given u Binary part) (kept x)
+  frame_back x f after u p os e whole small fit =
+      let a = frame_parts (encoding x) f e in
+      let holes : image_holes a.0 ≡ holes_of (encoding x) = sym (ap (λ r. holes_in (ok_of r)) a.1) in
+      subst (λ (n : ℕ). (part : Part) × IsFrame (write p os (f ++ after)) part (write p (drop n os) after) × Reads parse (given u Binary part) (kept x)) holes
+      (image_back x a.0 f after u p os a.1 a.2 whole small (subst (λ (n : ℕ). fits x u (take n os)) (sym holes) fit))
+
   -- the frames of values, one after another
-  pub frames_back : (hint : A → ℕ) (xs : List A) (fs : List Token) (u : Ty) (p : Option Ty) (os : List Oid) → written_frames hint image xs ≡ Some fs → SlotsFit fs → AreOids os → FitEach image fits u xs os →
+  pub frames_back : (xs : List A) (fs : List Token) (u : Ty) (p : Option Ty) (os : List Oid) → (frames (map encoding xs)).answer ≡ Ok fs → SlotsFit fs → AreOids os → FitEach encoding fits u xs os →
       BeginWithFrames parse u (write p os fs) (map kept xs)
-  frames_back hint [] fs u p os e whole small fit = tt
-  frames_back hint (x ∷ xs) fs u p os e whole small fit =
-      let a = joined_parts (frame (hint x) (image x)) (written_frames hint image xs) fs e in
-      let g = guarded (nat_le (hint x) limit) (frame_of (image x)) a.0 a.2 in
-      let both : SlotsFit (a.0 ++ a.1) = subst SlotsFit (sym a.4) whole in
-      let one = frame_back x (image x) a.0 a.1 u p os refl g.1 (SlotsFit-front a.0 a.1 both) small fit.0 in
-      let rest = frames_back hint xs a.1 u p (drop (holes_of (image x)) os) a.3 (SlotsFit-back a.0 a.1 both) (AreOids-drop (holes_of (image x)) os small) fit.1 in
-      subst (λ (ts : List Token). BeginWithFrames parse u (write p os ts) (map kept (x ∷ xs))) a.4 (one.0, write p (drop (holes_of (image x)) os) a.1, one.1, one.2, rest)
+  unfolding frames
+  frames_back [] fs u p os e whole small fit = tt
+  frames_back (x ∷ xs) fs u p os e whole small fit =
+      let a = taken (frame (encoding x)) (λ first. frames (map encoding xs) >>= λ others. done (first ++ others)) fs e in
+      let b = taken (frames (map encoding xs)) (λ others. done (a.0 ++ others)) fs a.2 in
+      let whole_is : a.0 ++ b.0 ≡ fs = answer_is _ _ b.2 in
+      let both : SlotsFit (a.0 ++ b.0) = subst SlotsFit (sym whole_is) whole in
+      let left : List Oid = drop (holes_of (encoding x)) os in
+      let one = frame_back x a.0 b.0 u p os a.1 (SlotsFit-front a.0 b.0 both) small fit.0 in
+      let rest = frames_back xs b.0 u p left b.1 (SlotsFit-back a.0 b.0 both) (AreOids-drop (holes_of (encoding x)) os small) fit.1 in
+      subst (λ (ts : List Token). BeginWithFrames parse u (write p os ts) (map kept (x ∷ xs))) whole_is (one.0, write p left b.0, one.1, one.2, rest)

@@ -20,12 +20,12 @@ use Rattle.pgv_value.specs.DateTimeBinary.{day_after, time_after, nanos_after, c
 use Rattle.pgv_value.specs.NumberBinary.{fits_signed, whole_number}
 use Rattle.pgv_value.specs.Outcome.{reading_of, without_memory}
 use Rattle.pgv_value.specs.OwnBytes.{own_four_bytes, own_eight_bytes}
-use Rattle.pgv_codec.specs.Back.{ReadsBack, always}
+use Rattle.pgv_codec.specs.Back.{ReadsBack, always, image_is}
 use Rattle.pgv_codec.specs.BackParts.{guarded}
 use Rattle.pgv_codec.specs.BackScalars.{part_is}
 use Rattle.pgv_codec.specs.DateTimeBinary.{days_of, date_image, time_image, micros_of, moment_image}
 use Rattle.pgv_codec.specs.DateTimeKept.{time_kept, date_time_kept, date_time_kept_cut, instant_kept}
-use Rattle.pgv_codec.specs.Image.{Image, image_of}
+use Rattle.pgv_codec.specs.Encoding.{Image, image_of, with_hint, writes}
 use Rattle.pgv_codec.specs.ScalarBinary.{signed_image}
 use Rattle.pgv_codec.specs.Writing.{written_part}
 
@@ -53,17 +53,17 @@ day_again d =
     let r = epoch_day_range d in
     between _ _ (days_of (epoch_day d) +ℤ pos 10_957) (epoch_day d) (λ n. n) (omega (arith, ints)) r.0 r.1
 
-pub date_back : ReadsBack {A = Date} (λ d. date_image (epoch_day d)) (reading_of (without_memory parse_date)) epoch_day always
+pub date_back : ReadsBack {A = Date} (λ d. with_hint 4 (writes (date_image (epoch_day d)))) (reading_of (without_memory parse_date)) epoch_day always
 date_back d i t p os e whole small fit =
-    let n = number_part w32 (days_of (epoch_day d)) i p os (own_four_bytes (days_of (epoch_day d))) e in
+    let n = number_part w32 (days_of (epoch_day d)) i p os (own_four_bytes (days_of (epoch_day d))) (image_is (date_image (epoch_day d)) i e) in
     rw (n.part, n.said, n.room, day_again d) refl
 
 pub time_again : (t : Time) → time_after (pos (time_nanos t / 1000)) ≡ time_nanos (time_kept t)
 time_again t = let lt = time_nanos_bound t in omega (arith, lt)
 
-pub time_back : ReadsBack {A = Time} (λ v. time_image (time_nanos v)) (reading_of (without_memory parse_time)) (λ v. time_nanos (time_kept v)) always
+pub time_back : ReadsBack {A = Time} (λ v. with_hint 8 (writes (time_image (time_nanos v)))) (reading_of (without_memory parse_time)) (λ v. time_nanos (time_kept v)) always
 time_back v i t p os e whole small fit =
-    let n = number_part w64 (pos (time_nanos v / 1000)) i p os (own_eight_bytes (pos (time_nanos v / 1000))) e in
+    let n = number_part w64 (pos (time_nanos v / 1000)) i p os (own_eight_bytes (pos (time_nanos v / 1000))) (image_is (time_image (time_nanos v)) i e) in
     rw (n.part, n.said) (ap (λ (k : ℕ). Some k) (time_again v))
 
 instant_again : (at : Timestamp) → instant_nanos (nanos_after (micros_of at.nanosecond)) ≡ Some (instant_kept at).nanosecond
@@ -71,9 +71,9 @@ instant_again at =
     let r = (instant_kept at).in_range in
     between _ _ (nanos_after (micros_of at.nanosecond)) (nanos_after (micros_of at.nanosecond)) (λ n. n) refl r.0 r.1
 
-pub instant_back : ReadsBack {A = Timestamp} (λ at. moment_image at.nanosecond) (reading_of (without_memory parse_instant)) (λ at. (instant_kept at).nanosecond) always
+pub instant_back : ReadsBack {A = Timestamp} (λ at. with_hint 8 (writes (moment_image at.nanosecond))) (reading_of (without_memory parse_instant)) (λ at. (instant_kept at).nanosecond) always
 instant_back at i t p os e whole small fit =
-    let n = number_part w64 (micros_of at.nanosecond) i p os (own_eight_bytes (micros_of at.nanosecond)) e in
+    let n = number_part w64 (micros_of at.nanosecond) i p os (own_eight_bytes (micros_of at.nanosecond)) (image_is (moment_image at.nanosecond) i e) in
     rw (n.part, n.said, instant_again at) refl
 
 moment_again : (at : DateTime) → civil_at (nanos_after (micros_of (civil_nanos at))) ≡ Some (civil_nanos (date_time_kept at))
@@ -81,7 +81,7 @@ moment_again at =
     let r = civil_nanos_range (date_time_kept at) in
     between _ _ (nanos_after (micros_of (civil_nanos at))) (civil_nanos (date_time_kept at)) (λ n. n) (date_time_kept_cut at) r.0 r.1
 
-pub date_time_back : ReadsBack {A = DateTime} (λ at. moment_image (civil_nanos at)) (reading_of (without_memory parse_date_time)) (λ at. civil_nanos (date_time_kept at)) always
+pub date_time_back : ReadsBack {A = DateTime} (λ at. with_hint 8 (writes (moment_image (civil_nanos at)))) (reading_of (without_memory parse_date_time)) (λ at. civil_nanos (date_time_kept at)) always
 date_time_back at i t p os e whole small fit =
-    let n = number_part w64 (micros_of (civil_nanos at)) i p os (own_eight_bytes (micros_of (civil_nanos at))) e in
+    let n = number_part w64 (micros_of (civil_nanos at)) i p os (own_eight_bytes (micros_of (civil_nanos at))) (image_is (moment_image (civil_nanos at)) i e) in
     rw (n.part, n.said, moment_again at) refl

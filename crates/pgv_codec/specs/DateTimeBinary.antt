@@ -8,7 +8,7 @@
 use Rattle.std.specs.Prelude.{ℕ, ◌/◌, ℤ, pos, ◌-ℤ◌, int_div, Option}
 use Rattle.std.specs.Int.{w32, w64}
 use Rattle.pgv_value.specs.DateTimeBinary.{first_day, first_nanosecond}
-use Rattle.pgv_codec.specs.Image.{Image}
+use Rattle.pgv_codec.specs.Encoding.{Image}
 use Rattle.pgv_codec.specs.ScalarBinary.{signed_image}
 
 -- a day, as days from 2000-01-01

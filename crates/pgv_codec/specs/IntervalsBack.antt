@@ -10,10 +10,10 @@ use Rattle.pgv_value.specs.Outcome.{ok_of, reading_of, stated, without_memory}
 use Rattle.pgv_value.specs.Parsed.{Parsed}
 use Rattle.pgv_value.specs.declared.interval.PgInterval.{PgInterval}
 use Rattle.pgv_value.specs.declared.value.PgValueFormat.TheVariants.{Binary}
-use Rattle.pgv_codec.specs.Back.{ReadsBack, always}
+use Rattle.pgv_codec.specs.Back.{ReadsBack, always, image_is}
 use Rattle.pgv_codec.specs.BackParts.{guarded}
 use Rattle.pgv_codec.specs.BackScalars.{part_is}
-use Rattle.pgv_codec.specs.Image.{image_of}
+use Rattle.pgv_codec.specs.Encoding.{image_of, with_hint, writes}
 use Rattle.pgv_codec.specs.Intervals.{interval_image}
 use Rattle.pgv_value.specs.NumberBinary.{fits_signed}
 use Rattle.pgv_value.specs.OwnBytes.{eight_again, four_again}
@@ -25,10 +25,10 @@ interval_again : (i : PgInterval) → fits_signed w64 i.microseconds ≡ true �
 unfolding form
 interval_again i a b c = rw (eight_again i.microseconds a, four_again i.days b, four_again i.months c) refl
 
-pub interval_back : ReadsBack interval_image (reading_of (without_memory parse_interval)) (λ i. i) always
+pub interval_back : ReadsBack (λ i. with_hint 16 (writes (interval_image i))) (reading_of (without_memory parse_interval)) (λ i. i) always
 unfolding form
 interval_back v i t p os e whole small fit =
-    let g = guarded (fits_signed w64 v.microseconds && (fits_signed w32 v.days && fits_signed w32 v.months)) (Some (image_of (bytes (form v)))) i e in
+    let g = guarded (fits_signed w64 v.microseconds && (fits_signed w32 v.days && fits_signed w32 v.months)) (Some (image_of (bytes (form v)))) i (image_is (interval_image v) i e) in
     let h = and_parts (fits_signed w64 v.microseconds) (fits_signed w32 v.days && fits_signed w32 v.months) g.0 in
     let k = and_parts (fits_signed w32 v.days) (fits_signed w32 v.months) h.1 in
     ap (λ (part : Part). reading_of (without_memory parse_interval) t Binary part) (part_is (form v) i p os g.1)

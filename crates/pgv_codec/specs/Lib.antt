@@ -1,14 +1,14 @@
-pub mod Image
+pub mod Encoding
 pub mod Writing
 pub mod ScalarBinary
-pub mod Outcome
+pub mod Appending
 pub mod Record
 pub mod WrittenView
 pub mod Fronts
 pub mod Fields
 pub mod Nullable
 pub mod FieldsLeftView
-pub mod Saying
+pub mod Agreeing
 pub mod TypeRow
 pub mod Back
 pub mod BackParts
@@ -17,7 +17,6 @@ pub mod BackScalars
 pub mod BackRecords
 pub mod Plain
 pub mod RecordCalls
-pub mod WithHint
 pub mod DateTimeBinary
 pub mod DateTimeFound
 pub mod DateTimeKept
@@ -27,5 +26,4 @@ pub mod IntervalsBack
 pub mod PlainBytes
 pub mod NetworkBinary
 pub mod NetworkBack
-pub mod Refusing
 pub mod TimeOfDay

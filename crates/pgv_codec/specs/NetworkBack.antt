@@ -14,11 +14,11 @@ use Rattle.pgv_text.specs.declared.network.IpNetwork.{IpNetwork}
 use Rattle.pgv_text.specs.declared.network.IpNetwork.TheVariants as Versions
 use Rattle.pgv_value.specs.NetworkBinary.{network_in_binary, parse_address, parse_network}
 use Rattle.pgv_value.specs.Outcome.{reading_of, without_memory}
-use Rattle.pgv_codec.specs.Back.{ReadsBack, always}
+use Rattle.pgv_codec.specs.Back.{ReadsBack, always, image_is}
 use Rattle.pgv_codec.specs.BackParts.{guarded}
 use Rattle.pgv_codec.specs.BackScalars.{part_is}
-use Rattle.pgv_codec.specs.Image.{Image, image_of}
-use Rattle.pgv_codec.specs.NetworkBinary.{image_with, network_image, address_image}
+use Rattle.pgv_codec.specs.Encoding.{Image, image_of, with_hint, writes}
+use Rattle.pgv_codec.specs.NetworkBinary.{image_with, network_image, network_hint, address_image, address_hint}
 use Rattle.pgv_codec.specs.Writing.{written_part}
 
 -- segments come back from their octets
@@ -48,9 +48,9 @@ room_of : (v : IpNetwork) → nat_le (network_of v).prefix (full_prefix (network
 room_of (Versions.V4 network) = le-leb network.prefix 32 network.prefix_in
 room_of (Versions.V6 network) = le-leb network.prefix 128 network.prefix_in
 
-pub network_back : ReadsBack {A = IpNetwork} (λ v. network_image (network_of v)) (reading_of (without_memory parse_network)) network_of always
+pub network_back : ReadsBack {A = IpNetwork} (λ v. with_hint (network_hint (network_of v)) (writes (network_image (network_of v)))) (reading_of (without_memory parse_network)) network_of always
 network_back v i t p os e whole small fit =
-    let n = network_part (network_of v).address (network_of v).prefix i p os (room_of v) e in
+    let n = network_part (network_of v).address (network_of v).prefix i p os (room_of v) (image_is (network_image (network_of v)) i e) in
     rw (n.part, n.said) refl
 
 full_room : (a : IpAddr) → nat_le (full_prefix a) (full_prefix a) ≡ true
@@ -61,7 +61,7 @@ full_test : (a : IpAddr) → (full_prefix a == full_prefix a) ≡ true
 full_test (V4 ip) = refl
 full_test (V6 ip) = refl
 
-pub address_back : ReadsBack address_image (reading_of (without_memory parse_address)) (λ a. a) always
+pub address_back : ReadsBack (λ a. with_hint (address_hint a) (writes (address_image a))) (reading_of (without_memory parse_address)) (λ a. a) always
 address_back a i t p os e whole small fit =
-    let n = network_part a (full_prefix a) i p os (full_room a) e in
+    let n = network_part a (full_prefix a) i p os (full_room a) (image_is (address_image a) i e) in
     rw (n.part, n.said, full_test a) refl

@@ -10,7 +10,7 @@ use Rattle.pgv_types.specs.Ty.{Ty, builtin}
 use Rattle.pgv_buf.specs.Tokens.{bytes}
 use Rattle.pgv_text.specs.AddressText.{full_prefix}
 use Rattle.pgv_text.specs.NetworkText.{Network}
-use Rattle.pgv_codec.specs.Image.{Image, image_of}
+use Rattle.pgv_codec.specs.Encoding.{Image, image_of}
 use Rattle.pgv_codec.specs.ScalarBinary.{softly_one_of}
 
 -- four bytes, and octets of this number after them

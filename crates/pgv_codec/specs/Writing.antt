@@ -10,7 +10,7 @@ use Rattle.pgv_buf.specs.Fill.{first_number}
 use Rattle.pgv_buf.specs.Proper.{rest_of}
 use Rattle.pgv_buf.specs.Tokens.{Token, byte, hole, slot, be4, chosen, tokens_holes}
 use Rattle.pgv_value.specs.FrameBinary.{Part}
-use Rattle.pgv_codec.specs.Image.{Image, null_image, image_of}
+use Rattle.pgv_codec.specs.Encoding.{Image, null_image, image_of}
 
 -- what a slot shows for a parameter type, and without one: its default
 abbrev pub chosen_for : Option Ty → List ℕ → List (Ty × List ℕ) → List ℕ

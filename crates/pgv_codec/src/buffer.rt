@@ -1,15 +1,14 @@
 //! The buffer that encoders append to.
 
-ghost use Rattle.std.specs.Prelude.{◌≡◌, ◌==◌, ◌<◌, ◌≤◌, ◌++◌, ℕ, List, [], ◌∷◌, length, true, Some, OnOk, OnErr, IfOk, IfErr, Err, sum};
+ghost use Rattle.std.specs.Prelude.{◌≡◌, ◌==◌, ◌<◌, ◌≤◌, ◌++◌, ℕ, List, [], ◌∷◌, length, true, Some, OnOk, OnErr, IfOk, IfErr, sum};
 ghost use Rattle.pgv_buf.specs.Tokens.{byte, hole, slot, bytes, Cell, blank, fixed_bytes, shown, width, be4, hole_types_of, hole_count, slot_count, CasesFit};
 ghost use Rattle.pgv_buf.specs.CasesView.{cases_of};
 ghost use Rattle.pgv_buf.specs.Marks.{mark_of};
 ghost use Rattle.pgv_buf.specs.Proper.{Proper};
 ghost use Rattle.pgv_buf.specs.Fill.{fill_holes, fill_slots, slot_types};
-ghost use Rattle.pgv_value.specs.declared.error.CodecError.TheVariants.{Memory, ValueSize};
-ghost use Rattle.pgv_codec.specs.Image.{frame, image_of, null_image, typed};
-ghost use Rattle.pgv_codec.specs.Refusing.{RefusedFor, frame_refused};
-ghost use Rattle.pgv_codec.specs.Outcome.{Refused, Appended, AppendedAll};
+ghost use Rattle.pgv_value.specs.declared.error.CodecError.TheVariants.{Memory};
+ghost use Rattle.pgv_codec.specs.Encoding.{frame, image_of, plainly, typed, writes};
+ghost use Rattle.pgv_codec.specs.Appending.{Appended, Appends, Extends};
 
 use crate::traits::Encode;
 use pgv_buf::{Mark, Tokens};
@@ -153,12 +152,11 @@ impl PgArgumentBuffer {
     /// [`ValueSize`](CodecError::ValueSize) (C2) before anything is written; a value that is refused later may have
     /// appended something.
     #[inline(always)]
+    #[tactic(auto, unfolding(crate::specs::Encoding::frame))]
     pub fn encode<T: Encode>(&mut self, value: &T) -> Result<(), CodecError>
-        ensures ok { OnOk result (AppendedAll (frame (T.hint value.now) (T.image value.now)) self.old self.new) }
-        ensures err { IfErr result (λ e. Refused e (frame (T.hint value.now) (T.image value.now))) }
-        ensures appended { OnErr result (Appended self.old self.new) }
-        ensures refused { RefusedFor (frame_refused (T.hint value.now) (T.image value.now) (T.unwritable value.now)) result }
-        ensures hint { 2147483647 < T.hint value.now → (result ≡ Err (ValueSize (T.hint value.now))) × (self.new ≡ self.old) }
+        ensures exact { Appends (frame (T.encoding value.now)) self.old self.new result }
+        ensures appended { OnErr result (Extends self.old self.new) }
+        ensures hint { 2147483647 < (T.encoding value.now).size_hint → self.new ≡ self.old }
     {
         let hint = value.size_hint();
         if hint > LENGTH_LIMIT {
@@ -172,12 +170,11 @@ impl PgArgumentBuffer {
 
     /// Appends one frame: a length of 0, the value, and then the length that it has.
     #[inline(always)]
+    #[tactic(auto, unfolding(crate::specs::Encoding::frame))]
     fn encode_in_steps<T: Encode>(&mut self, value: &T) -> Result<(), CodecError>
-        requires { T.hint value.now ≤ 2147483647 }
-        ensures ok { OnOk result (AppendedAll (frame (T.hint value.now) (T.image value.now)) self.old self.new) }
-        ensures err { IfErr result (λ e. Refused e (frame (T.hint value.now) (T.image value.now))) }
-        ensures appended { OnErr result (Appended self.old self.new) }
-        ensures refused { RefusedFor (frame_refused (T.hint value.now) (T.image value.now) (T.unwritable value.now)) result }
+        requires { (T.encoding value.now).size_hint ≤ 2147483647 }
+        ensures exact { Appends (frame (T.encoding value.now)) self.old self.new result }
+        ensures appended { OnErr result (Extends self.old self.new) }
     {
         let mark = self.tokens.mark();
         self.push_u32(0)?;
@@ -249,9 +246,9 @@ impl PgArgumentBuffer {
     #[inline(always)]
     pub(crate) fn push_frame(&mut self, value: &[u8]) -> Result<bool, CodecError>
         requires { length value.now ≤ 16 }
-        ensures ok { IfOk result (λ done. (done ≡ true) × AppendedAll (frame 0 (Some (image_of (bytes value.now)))) self.old self.new) }
+        ensures ok { IfOk result (λ done. (done ≡ true) × Appended (frame (plainly (writes (Some (image_of (bytes value.now)))))) self.old self.new) }
         ensures err { IfErr result (λ e. e ≡ Memory) }
-        ensures appended { OnErr result (Appended self.old self.new) }
+        ensures appended { OnErr result (Extends self.old self.new) }
     {
         if value.len() == 4 {
             self.push_counted(value)?;
@@ -265,7 +262,7 @@ impl PgArgumentBuffer {
     /// Appends the frame of null, and answers `true`.
     #[inline(always)]
     pub(crate) fn push_null(&mut self) -> Result<bool, CodecError>
-        ensures ok { IfOk result (λ done. (done ≡ true) × AppendedAll (frame 0 (Some null_image)) self.old self.new) }
+        ensures ok { IfOk result (λ done. (done ≡ true) × (self.new ≡ self.old ++ blank (bytes (be4 4294967295)))) }
         ensures err { IfErr result (λ e. (e ≡ Memory) × (self.new ≡ self.old)) }
     {
         self.push_u32(NULL_LENGTH)?;
@@ -275,7 +272,7 @@ impl PgArgumentBuffer {
     /// A type, as an element's or a field's is written.
     #[inline(always)]
     pub(crate) fn push_type(&mut self, written: PgTypeInfo) -> Result<(), CodecError>
-        ensures ok { OnOk result (AppendedAll (typed written) self.old self.new) }
+        ensures ok { OnOk result (Appended (typed written) self.old self.new) }
         ensures err { IfErr result (λ e. (e ≡ Memory) × (self.new ≡ self.old)) }
     {
         match written.oid() {

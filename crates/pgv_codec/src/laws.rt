@@ -1,24 +1,23 @@
 //! Laws of codecs: what tuples and `()` read, and what a written value is read back as. Each is the contract of a
 //! function that does nothing.
 
-ghost use Rattle.std.specs.Prelude.{◌≡◌, ◌↔◌, ◌<◌, ◌^◌, ℕ, List, ◌∷◌, Option, Some, None};
+ghost use Rattle.std.specs.Prelude.{◌≡◌, ◌↔◌, ◌<◌, ◌^◌, ℕ, List, [], ◌∷◌, ◌++◌, Some, None};
 ghost use Rattle.pgv_types.specs.Ty.{Ty, builtin};
 ghost use Rattle.pgv_types.specs.declared.oid.Oid.{Oid};
 ghost use Rattle.pgv_buf.specs.Tokens.{Token};
-ghost use Rattle.pgv_value.specs.Outcome.{done, reading_of};
+ghost use Rattle.pgv_value.specs.Outcome.{Outcome, done, reading_of};
 ghost use Rattle.pgv_value.specs.ValueView.{Given};
 ghost use Rattle.pgv_nest.specs.NestBinary.{RecordIsItsFields, IsField, SameFields, ◌and◌};
 ghost use Rattle.pgv_nest.specs.NestText.{IsTextField, SameParts, ◌before◌};
 ghost use Rattle.pgv_nest.specs.RecordGrammar.{next_field, parse_record, ◌then◌};
 ghost use Rattle.pgv_codec.specs.Back.{AreOids, ArrayFits, ReadsBack, FieldFits, FieldsFit, FieldReadsBack, RecordFieldsFollow, RecordReadsBack};
-ghost use Rattle.pgv_codec.specs.Image.{field};
+ghost use Rattle.pgv_codec.specs.Encoding.{field};
 ghost use Rattle.pgv_codec.specs.Plain.{ArrayIsPlain, FieldIsPlain};
 ghost use Rattle.pgv_codec.specs.RecordCalls.{RecordIsItsAccepted};
-ghost use Rattle.pgv_codec.specs.Saying.{said};
 ghost use Rattle.pgv_codec.specs.ScalarBinary.{is_void_or_record};
 
 use crate::traits::{Codec, Decode, Plain, ReadBack, Type};
-use crate::types::field_list::{FieldList, KeptList};
+use crate::types::field_list::{FieldList, KeptList, WrittenList};
 
 /// A tuple says, reads, refuses and asks memory for what a record does whose fields are the tuple's, as a list:
 /// `(A, (B, (C,)))` for `(A, B, C)`.
@@ -71,12 +70,12 @@ pub fn lists_are_their_fields<A: Decode + Type, Rest: FieldList>()
 
 /// What a list of fields writes, keeps and fits is what its one field does, or its first field and then the rest.
 pub fn kept_lists_are_their_fields<A: ReadBack + Type, Rest: KeptList>()
-    ensures one_written { (a : _) (further : List (Option (List Token))) → ⟦<(A,) as KeptList>⟧.written a further ≡ field A.hint A.image A.produced A.info a.0 ∷ further }
+    ensures one_written { (a : _) → ⟦<(A,) as WrittenList>⟧.fields a ≡ field A.info (A.encoding a.0) ∷ [] }
     ensures one_kept { (a : _) → ⟦<(A,) as FieldList>⟧.view (⟦<(A,) as KeptList>⟧.kept a) ≡ A.view (A.kept a.0) }
-    ensures one_fits { (a : _) (t : Ty) (place : ℕ) (oids : List Oid) → ⟦<(A,) as KeptList>⟧.fits a t place oids ↔ FieldFits A.info A.produced A.image A.accepts A.fits a.0 t place oids }
-    ensures more_written { (l : _) (further : List (Option (List Token))) → ⟦<(A, Rest) as KeptList>⟧.written l further ≡ field A.hint A.image A.produced A.info l.0 ∷ Rest.written l.1 further }
+    ensures one_fits { (a : _) (t : Ty) (place : ℕ) (oids : List Oid) → ⟦<(A,) as KeptList>⟧.fits a t place oids ↔ FieldFits A.info A.encoding A.accepts A.fits a.0 t place oids }
+    ensures more_written { (l : _) → ⟦<(A, Rest) as WrittenList>⟧.fields l ≡ field A.info (A.encoding l.0) ∷ Rest.fields l.1 }
     ensures more_kept { (l : _) → ⟦<(A, Rest) as FieldList>⟧.view (⟦<(A, Rest) as KeptList>⟧.kept l) ≡ (let both : A.View × Rest.View = (A.view (A.kept l.0), Rest.view (Rest.kept l.1)) in both) }
-    ensures more_fit { (l : _) (t : Ty) (place : ℕ) (oids : List Oid) → ⟦<(A, Rest) as KeptList>⟧.fits l t place oids ↔ FieldsFit A.info A.produced A.hint A.image A.accepts A.fits l.0 (Rest.fits l.1) t place oids }
+    ensures more_fit { (l : _) (t : Ty) (place : ℕ) (oids : List Oid) → ⟦<(A, Rest) as KeptList>⟧.fits l t place oids ↔ FieldsFit A.info A.encoding A.accepts A.fits l.0 (Rest.fits l.1) t place oids }
 {}
 
 /// Fields are decoded from bytes in binary as a tuple iff the bytes are a record of these fields, taken as a list
@@ -95,7 +94,7 @@ pub fn record_is_its_accepted_fields()
 /// A value that was written is read back in binary by its own type, as what it keeps: whatever the parameter type, or
 /// with each slot at its default, and under every type that fits with the OIDs in the holes.
 pub fn read_back<T: ReadBack>()
-    ensures { ReadsBack T.image (reading_of T.parse) (λ v. T.view (T.kept v)) T.fits }
+    ensures { ReadsBack T.encoding (reading_of T.parse) (λ v. T.view (T.kept v)) T.fits }
 {}
 
 /// Every OID is below 2^32.
@@ -119,7 +118,7 @@ pub fn oids_fit(oids: &[pgv_types::Oid])
 ///
 /// Applied to one field after another, it reads back every list of fields.
 pub fn field_reads_back<T: ReadBack + Type>()
-    ensures { FieldReadsBack T.info T.produced T.hint T.image T.accepts T.parse (λ v. T.view (T.kept v)) T.fits }
+    ensures { FieldReadsBack T.info T.encoding T.accepts T.parse (λ v. T.view (T.kept v)) T.fits }
 {}
 
 /// The fields of a written record follow its first four bytes, one after another.
@@ -131,7 +130,7 @@ pub fn record_fields_follow()
 /// A tuple of the first fields of a written record, as a list ([`tuple_is_its_list`]), is read back from it under each
 /// type that these fields fit, each with the OIDs that those before it leave.
 pub fn tuple_reads_back<Fields: KeptList>()
-    ensures { (fields : Fields) (further : List (Option (List Token))) → RecordReadsBack (reading_of (parse_record Fields.step)) (Fields.written fields further) (Fields.view (Fields.kept fields)) (Fields.fits fields) }
+    ensures { (fields : Fields) (further : List (Outcome (List Token))) → RecordReadsBack (reading_of (parse_record Fields.step)) (Fields.fields fields ++ further) (Fields.view (Fields.kept fields)) (Fields.fits fields) }
 {}
 
 /// A plain value fits every type, so that it is read back under each.
@@ -172,17 +171,17 @@ pub fn plain_types_fit()
 pub fn nests_fit<T: ReadBack + Type, const N: usize>()
     ensures none { (t : Ty) (oids : List Oid) → ⟦<Option<T> as ReadBack>⟧.fits None t oids }
     ensures some { (v : T) (t : Ty) (oids : List Oid) → ⟦<Option<T> as ReadBack>⟧.fits (Some v) t oids ↔ T.fits v t oids }
-    ensures list_exactly { (v : _) (t : Ty) (oids : List Oid) → ⟦<Vec<T> as ReadBack>⟧.fits v t oids ↔ ArrayFits T.info T.produced T.image T.fits v.items t oids }
-    ensures array_exactly { (v : _) (t : Ty) (oids : List Oid) → ⟦<[T; N] as ReadBack>⟧.fits v t oids ↔ ArrayFits T.info T.produced T.image T.fits v t oids }
-    ensures list { (v : _) (t : Ty) (oids : List Oid) → ArrayIsPlain T.info T.produced T.image T.fits v.items t oids → ⟦<Vec<T> as ReadBack>⟧.fits v t oids }
-    ensures array { (v : _) (t : Ty) (oids : List Oid) → ArrayIsPlain T.info T.produced T.image T.fits v t oids → ⟦<[T; N] as ReadBack>⟧.fits v t oids }
-    ensures field { (v : T) (t : Ty) (place : ℕ) (oids : List Oid) → FieldIsPlain T.info T.produced T.image T.accepts T.fits v t place oids → FieldFits T.info T.produced T.image T.accepts T.fits v t place oids }
+    ensures list_exactly { (v : _) (t : Ty) (oids : List Oid) → ⟦<Vec<T> as ReadBack>⟧.fits v t oids ↔ ArrayFits T.info T.encoding T.fits v.items t oids }
+    ensures array_exactly { (v : _) (t : Ty) (oids : List Oid) → ⟦<[T; N] as ReadBack>⟧.fits v t oids ↔ ArrayFits T.info T.encoding T.fits v t oids }
+    ensures list { (v : _) (t : Ty) (oids : List Oid) → ArrayIsPlain T.info T.encoding T.fits v.items t oids → ⟦<Vec<T> as ReadBack>⟧.fits v t oids }
+    ensures array { (v : _) (t : Ty) (oids : List Oid) → ArrayIsPlain T.info T.encoding T.fits v t oids → ⟦<[T; N] as ReadBack>⟧.fits v t oids }
+    ensures field { (v : T) (t : Ty) (place : ℕ) (oids : List Oid) → FieldIsPlain T.info T.encoding T.accepts T.fits v t place oids → FieldFits T.info T.encoding T.accepts T.fits v t place oids }
 {}
 
 /// The hint, the image and the type that an encoder gives for a value depend on what the value says alone, so that
 /// values of one view are written alike.
 pub fn written_as_read<T: Codec>(value: &T)
-    ensures { said T.hint T.image T.produced T.info value.now ≡ T.written T.info (T.view value.now) }
+    ensures { T.encoding value.now ≡ T.written T.info (T.view value.now) }
 {}
 
 /// `()` is a void (OID 2278), read under void and record from any bytes and from null, without a request for memory.

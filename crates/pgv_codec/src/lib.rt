@@ -3,9 +3,10 @@
 //! [`Decode`] reads it, and [`ReadBack`] says what a written value is read back as. The module [`laws`] has what is
 //! proved of all of them.
 //!
-//! A caller's record writes its fields by a [`PgRecordEncoder`], each by reference: `record.encode(&self.id)?` also where the field could be
-//! copied, since by value its range is lost to the proof. The crate `pgv_examples` has such records and other types of users, with their
-//! proofs. A type that a buffer holds, at any depth, holds no reference.
+//! A caller's record is written by [`encode_record`], as a list of references to its fields, or field by field by a [`PgRecordEncoder`],
+//! each by reference: `record.encode(&self.id)?` also where the field could be copied, since by value its range is lost to the proof. The
+//! crate `pgv_examples` has such records and other types of users, with their proofs. A type that a buffer holds, at any depth, holds no
+//! reference.
 #![tactic(auto)]
 
 pub mod buffer;
@@ -16,7 +17,7 @@ pub mod types;
 pub use buffer::{IsNull, PgArgumentBuffer};
 pub use traits::{Codec, Decode, Encode, PgHasArrayType, Plain, ReadBack, Type};
 pub use types::array::{encode_array, type_of_value};
-pub use types::field_list::{FieldList, KeptList};
+pub use types::field_list::{FieldList, KeptList, WrittenList, encode_record};
 pub use types::record::{PgRecordDecoder, PgRecordEncoder};
 pub use types::text::encode_text;
 pub use types::time::micros_of_day;

@@ -1,20 +1,18 @@
 //! The traits of values that can be written and read, and of their types.
 
-ghost use Rattle.std.specs.Prelude.{◌≡◌, ℕ, Bool, true, false, List, Option, Some, None, IfOk, IfErr, OnErr};
+ghost use Rattle.std.specs.Prelude.{◌≡◌, ℕ, Bool, true, List, None, IfOk, IfErr, OnErr};
 ghost use Rattle.pgv_types.specs.Relations.{softly};
 ghost use Rattle.pgv_types.specs.Ty.{Ty};
 ghost use Rattle.pgv_value.specs.Outcome.{Outcome, Gives, fails, reading_of};
 ghost use Rattle.pgv_value.specs.ValueView.{Given, given};
 ghost use Rattle.pgv_codec.specs.Nullable.{RefusesNull, refused_null};
-ghost use Rattle.pgv_codec.specs.Refusing.{RefusedExactly, RefusedFor, is_copied};
 ghost use Rattle.pgv_value.specs.declared.error.CodecError.{CodecError};
 ghost use Rattle.pgv_value.specs.declared.error.CodecError.TheVariants.{Memory, UnexpectedNull};
 ghost use Rattle.pgv_value.specs.declared.value.PgValueFormat.{PgValueFormat as Format};
 ghost use Rattle.pgv_types.specs.declared.oid.Oid.{Oid};
 ghost use Rattle.pgv_codec.specs.Back.{ReadsBack, always};
-ghost use Rattle.pgv_codec.specs.Image.{Image, frame};
-ghost use Rattle.pgv_codec.specs.Outcome.{AtOnce, Encoded, Refused, Appended};
-ghost use Rattle.pgv_codec.specs.Saying.{Saying, said};
+ghost use Rattle.pgv_codec.specs.Encoding.{Encoding, Image, frame, is_copied, with_hint};
+ghost use Rattle.pgv_codec.specs.Appending.{AtOnce, Encodes, Extends};
 
 use crate::buffer::{IsNull, PgArgumentBuffer};
 use pgv_types::PgTypeInfo;
@@ -58,50 +56,36 @@ pub trait PgHasArrayType {
 
 /// A value that can be written.
 ///
-/// An encoder appends exactly the image that it states, says that the value is null, or refuses exactly where it has no
-/// image. If it refuses, it may have appended something: the caller goes back to its mark.
+/// An encoder appends exactly the image that it states, says that the value is null, or refuses as it states. If it
+/// refuses, it may have appended something: the caller goes back to its mark.
 pub trait Encode {
-    /// What a value is written as: null or tokens; `None` if it can't be written.
-    ghost image: { Self → Option Image };
-
-    /// A number of bytes that the value says it needs. A frame is refused if it is above 2147483647.
-    ghost hint: { Self → ℕ } = { λ _. 0 };
-
-    /// The type of this value, where it isn't the one that its Rust type has.
-    ghost produced: { Self → Option Ty } = { λ _. None };
-
-    /// The refusal of a value that has no image, unless memory runs out; `None` if the type doesn't state it.
-    ghost unwritable: { Self → Option CodecError } = { λ _. None };
-
-    /// Whether memory may be asked for before a value without an image is refused. If `false`, the refusal is
-    /// `unwritable`, or, if that is `None`, any but [`Memory`](CodecError::Memory) (C1).
-    ghost asks_first: { Self → Bool } = { λ _. true };
+    /// What a value is written as: a number of bytes that it says it needs (a frame is refused if that is above
+    /// 2147483647), the type of this value, where it isn't the one that its Rust type has, and its image, or why it has
+    /// none and whether memory may be asked for by then.
+    ghost encoding: { Self → Encoding };
 
     /// Appends the value's image. `Yes` says that it is null, and then nothing was appended.
     fn encode_by_ref(&self, out: &mut PgArgumentBuffer) -> Result<IsNull, CodecError>
-        ensures ok { IfOk result (λ n. Encoded n (image self.now) out.old out.new) }
-        ensures err { IfErr result (λ e. Refused e (image self.now)) }
-        ensures refused { RefusedFor (unwritable self.now) result }
-        ensures refused_exactly { asks_first self.now ≡ false → image self.now ≡ None → RefusedExactly (unwritable self.now) result }
-        ensures appended { OnErr result (Appended out.old out.new) };
+        ensures encodes { Encodes (encoding self.now).image out.old out.new result }
+        ensures appended { OnErr result (Extends out.old out.new) };
 
     /// A number of bytes that the value says it needs; 0 if it doesn't say.
     fn size_hint(&self) -> usize
-        ensures { result ≡ hint self.now };
+        ensures { result ≡ (encoding self.now).size_hint };
 
     /// The type of this value, where it isn't the one that its Rust type has. Only the copy of a custom type may fail.
     fn produces(&self) -> Result<Option<PgTypeInfo>, AllocError>
-        ensures ok { IfOk result (λ t. t ≡ produced self.now) }
-        ensures err { OnErr result (is_copied (produced self.now) ≡ true) };
+        ensures ok { IfOk result (λ t. t ≡ (encoding self.now).produced) }
+        ensures err { OnErr result (is_copied (encoding self.now).produced ≡ true) };
 
     /// Appends the value's frame, where its length is known before its image is written. `false` says that nothing was
     /// appended, and [`PgArgumentBuffer::encode`] then writes the frame by [`encode_by_ref`](Encode::encode_by_ref).
     /// Out of memory (C1) may have appended something. It is for speed alone.
     #[inline(always)]
     fn encode_at_once(&self, out: &mut PgArgumentBuffer) -> Result<bool, CodecError>
-        ensures ok { IfOk result (λ done. AtOnce done (frame (hint self.now) (image self.now)) out.old out.new) }
+        ensures ok { IfOk result (λ done. AtOnce done (frame (encoding self.now)) out.old out.new) }
         ensures err { IfErr result (λ e. e ≡ Memory) }
-        ensures appended { OnErr result (Appended out.old out.new) }
+        ensures appended { OnErr result (Extends out.old out.new) }
     {
         let _ = out;
         Ok(false)
@@ -125,9 +109,9 @@ pub trait Decode: Sized + Drop {
     /// record passes on the refusal of its part.
     ghost parse: { Given → Outcome View };
 
-    /// What is written of what a value says, under a type, where values are written too (see [`Codec`]), and else no
-    /// image.
-    ghost written: { Ty → View → Saying };
+    /// What is written of what a value says, by a Rust type of this type, where values are written too (see [`Codec`]),
+    /// and else no image.
+    ghost written: { Ty → View → Encoding };
 
     /// Null is read, or refused with [`UnexpectedNull`](CodecError::UnexpectedNull) (C13) and without memory.
     ghost null: { (t : Ty) (format : Format) → RefusesNull (parse (given t format None)) };
@@ -149,13 +133,13 @@ pub trait ReadBack: Encode + Decode {
     ghost fits: { Self → Ty → List Oid → Type 0 };
 
     /// What is written of a value is read in binary as what it keeps, under each type that fits.
-    ghost reads_back: { ReadsBack Self.image (reading_of Self.parse) (λ v. Self.view (kept v)) fits };
+    ghost reads_back: { ReadsBack Self.encoding (reading_of Self.parse) (λ v. Self.view (kept v)) fits };
 }
 
 /// A value that can be written and read, and is written by what it says alone: two values of one view are written alike.
 pub trait Codec: Type + Encode + Decode {
     /// What an encoder says of a value is what is written of what the value says.
-    ghost agrees: { (v : Self) → said Self.hint Self.image Self.produced Self.info v ≡ Self.written Self.info (Self.view v) };
+    ghost agrees: { (v : Self) → Self.encoding v ≡ Self.written Self.info (Self.view v) };
 }
 
 /// A value that is not made of others, as a number, a text or a date: it is read in the same way under every type, and
@@ -174,8 +158,8 @@ pub trait Plain: Type + Encode + Sized + Drop {
     /// Null is refused with [`UnexpectedNull`](CodecError::UnexpectedNull) (C13), and without memory.
     ghost null: { (t : Ty) (format : Format) → parse (given t format None) ≡ fails UnexpectedNull };
 
-    /// What is written of what a value says, under a type.
-    ghost written: { Ty → View → Saying };
+    /// What is written of what a value says, by a Rust type of this type.
+    ghost written: { Ty → View → Encoding };
 
     /// The value as it is read back: by default, as it is.
     ghost kept: { Self → Self } = { λ v. v };
@@ -185,10 +169,10 @@ pub trait Plain: Type + Encode + Sized + Drop {
         ensures { Gives view (parse value.entry) result };
 
     /// What is written of a value is read in binary as what it keeps, under every type.
-    ghost reads_back: { ReadsBack Self.image (reading_of parse) (λ v. view (kept v)) always };
+    ghost reads_back: { ReadsBack Self.encoding (reading_of parse) (λ v. view (kept v)) always };
 
     /// What an encoder says of a value is what is written of what it says.
-    ghost agrees: { (v : Self) → said Self.hint Self.image Self.produced Self.info v ≡ written Self.info (view v) };
+    ghost agrees: { (v : Self) → Self.encoding v ≡ written Self.info (view v) };
 }
 
 impl<T: Plain> Decode for T {
@@ -251,29 +235,23 @@ pub trait Scalar {
     /// A number of bytes that a value says it needs.
     ghost SIZE: { ℕ };
 
-    /// What a value is written as.
-    ghost form: { Self → Option Image };
-
-    /// The refusal of a value that has no image, unless memory runs out; `None` if the type doesn't state it.
-    ghost formless: { Self → Option CodecError } = { λ _. None };
+    /// A value's image, or why it has none and whether memory may be asked for by then.
+    ghost image: { Self → Outcome Image };
 
     /// A number of bytes that a value says it needs.
     const SIZE: usize;
 
     /// Appends the value's image: what [`Encode::encode_by_ref`] does.
     fn write(&self, out: &mut PgArgumentBuffer) -> Result<IsNull, CodecError>
-        ensures ok { IfOk result (λ n. Encoded n (form self.now) out.old out.new) }
-        ensures err { IfErr result (λ e. Refused e (form self.now)) }
-        ensures refused { RefusedFor (formless self.now) result }
-        ensures refused_exactly { form self.now ≡ None → RefusedExactly (formless self.now) result }
-        ensures appended { OnErr result (Appended out.old out.new) };
+        ensures encodes { Encodes (image self.now) out.old out.new result }
+        ensures appended { OnErr result (Extends out.old out.new) };
 
     /// Appends the value's frame, or nothing: what [`Encode::encode_at_once`] does.
     #[inline(always)]
     fn write_at_once(&self, out: &mut PgArgumentBuffer) -> Result<bool, CodecError>
-        ensures ok { IfOk result (λ done. AtOnce done (frame SIZE (form self.now)) out.old out.new) }
+        ensures ok { IfOk result (λ done. AtOnce done (frame (with_hint SIZE (image self.now))) out.old out.new) }
         ensures err { IfErr result (λ e. e ≡ Memory) }
-        ensures appended { OnErr result (Appended out.old out.new) }
+        ensures appended { OnErr result (Extends out.old out.new) }
     {
         let _ = out;
         Ok(false)
@@ -320,13 +298,7 @@ impl<T: Scalar> Encode for T
 where
     Of<T>: BuiltIn,
 {
-    ghost image = { T.form };
-
-    ghost hint = { λ _. T.SIZE };
-
-    ghost unwritable = { T.formless };
-
-    ghost asks_first = { λ _. false };
+    ghost encoding = { λ v. with_hint T.SIZE (T.image v) };
 
     #[inline(always)]
     fn encode_by_ref(&self, out: &mut PgArgumentBuffer) -> Result<IsNull, CodecError> {

@@ -9,7 +9,6 @@ use Rattle.pgv_types.specs.Ty.{Ty}
 use Rattle.pgv_value.specs.FrameBinary.{Part, IsFrame, front, field_bytes, row_bytes, IsField}
 use Rattle.pgv_value.specs.Steps.{number, signed_two}
 use Rattle.pgv_value.specs.ValueView.{Given}
-use Rattle.pgv_value.specs.declared.error.CodecError.{CodecError}
 use Rattle.pgv_value.specs.declared.error.CodecError.TheVariants.{Short}
 use Rattle.pgv_value.specs.declared.value.PgValueFormat.TheVariants.{Binary}
 use Rattle.pgv_value.proofs.Fronts.{frame_in_front, cut_is_short}
@@ -17,7 +16,7 @@ use Rattle.pgv_value.proofs.ReadFronts.{framed}
 use Rattle.pgv_copy.specs.CopyBinary.{Step, signature, after_signature, after_flags, after_extension, after_count, header, fields, before, step}
 use Rattle.pgv_copy.specs.CopyStream.{IsHeader, trailer, IsRow, Answer, called, answers, row_answers, StopsAtTheCut, CutCopyIsShort, CutHeaderIsShort}
 use Rattle.pgv_copy.specs.CopyView.{Copying}
-use Rattle.pgv_copy.proofs.FieldLoop.{Row, with_first, field_there, field_missing}
+use Rattle.pgv_copy.proofs.FieldLoop.{with_first, field_there, field_missing}
 use Rattle.pgv_value.proofs.Numbers.{number_there}
 use Rattle.pgv_copy.proofs.Headers.{signature_there, flags_there, header_there, count_there}
 use Rattle.pgv_copy.proofs.Rows.{rows_there}

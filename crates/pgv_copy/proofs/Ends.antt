@@ -18,9 +18,6 @@ use Rattle.pgv_copy.specs.CopyBinary.{Step, signature, after_signature, after_fl
 use Rattle.pgv_copy.specs.CopyPieces.{AreHeld, IsEnd, IsRowIn, after_begin, next_of, rest_after, row_at, row_by}
 use Rattle.pgv_copy.proofs.FieldLoop.{with_first}
 
-all_of : (bytes : List ℕ) → IsEnd bytes bytes
-all_of bytes = (0, omega arith, refl)
-
 cut : (n : ℕ) (bytes rest : List ℕ) → n ≤ length bytes → drop n bytes ≡ rest → IsEnd bytes rest
 cut n bytes rest le e = (n, le, sym e)
 
@@ -179,9 +176,6 @@ module _ (types : List Ty) (in_header : Bool) (bytes rest : List ℕ) (begun : a
         read = a_row row after f.0.0 counts read;
         shorter = omega (arith, end_within row after (fields_end types row after f.0.0 read), count_shorter (length types) rest row counts, end_within bytes rest (begin_end in_header bytes rest begun));
       }
-
-pub not_begun : (types : List Ty) (in_header : Bool) (bytes : List ℕ) (e : CodecError) → after_begin in_header bytes ≡ Err e → next_of types in_header bytes ≡ Err e
-not_begun types in_header bytes e is = rw is refl
 
 -- ---- the loop over the fields
 

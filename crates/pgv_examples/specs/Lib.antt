@@ -5,3 +5,4 @@ pub mod Known
 pub mod Reasons
 pub mod Floats
 pub mod Jsons
+pub mod Pairs

@@ -1,6 +1,6 @@
 -- The labels of moods (PostgreSQL: "Enumerated Types", 8.7: a label is written and read as its text, in both formats).
 use Rattle.std.specs.Prelude.{◌≡◌, ℕ, List, codes, bytes_eq, true, Option, Some, None, ok_or, if◌then◌else◌, refl}
-use Rattle.pgv.specs.Words.{Caller, Given, Parsed, ◌>>=◌, ReadsBack, always, part_is, are_ascii, ascii_is_utf8, reading_of, text_image, utf8_part, without_memory}
+use Rattle.pgv.specs.Words.{Caller, Given, Parsed, ◌>>=◌, ReadsBack, always, image_is, part_is, plainly, are_ascii, ascii_is_utf8, reading_of, text_image, utf8_part, without_memory, writes}
 use Rattle.pgv_examples.specs.declared.mood.Mood.{Mood}
 use Rattle.pgv_examples.specs.declared.mood.Mood.TheVariants.{Sad, Fine, Happy}
 
@@ -30,6 +30,6 @@ label_is_ascii Sad = refl
 label_is_ascii Fine = refl
 label_is_ascii Happy = refl
 
-pub mood_back : ReadsBack (λ mood. text_image (label_of mood)) (reading_of (without_memory parse_mood)) (λ mood. mood) always
+pub mood_back : ReadsBack (λ mood. plainly (writes (text_image (label_of mood)))) (reading_of (without_memory parse_mood)) (λ mood. mood) always
 mood_back mood i t p oids e whole small fit =
-    rw (part_is (label_of mood) i p oids e, ascii_is_utf8 (label_of mood) (label_is_ascii mood), label_again mood) refl
+    rw (part_is (label_of mood) i p oids (image_is (text_image (label_of mood)) i e), ascii_is_utf8 (label_of mood) (label_is_ascii mood), label_again mood) refl

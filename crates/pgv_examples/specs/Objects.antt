@@ -1,7 +1,7 @@
 -- Empty objects of json and jsonb (PostgreSQL: "JSON Types", 8.14): a version, or a space, and two braces.
 use Rattle.std.specs.Prelude.{◌≡◌, ℕ, nat_eq, Bool, true, false, cond, if◌then◌else◌, List, [], ◌∷◌, ◌++◌, length, get_or, Option, Some, None, Ok, Err, ⊤, refl}
 use Rattle.std.proofs.lemmas.Option.{same_Some}
-use Rattle.pgv.specs.Words.{Ty, builtin, softly, Token, byte, slot, Part, Given, Parsed, Binary, UnexpectedNull, Syntax, ReadsBack, reading_of, without_memory, always, image_of, written_part}
+use Rattle.pgv.specs.Words.{Ty, builtin, softly, Token, byte, slot, Part, Given, Parsed, Binary, UnexpectedNull, Syntax, ReadsBack, reading_of, without_memory, always, image_of, plainly, writes, written_part}
 
 -- a byte of any value, which is the slot's, and the braces; other bytes are C29
 abbrev pub braces : List ℕ → Parsed ⊤
@@ -20,7 +20,7 @@ abbrev pub object_image : List Token
 object_image = slot (32 ∷ []) ((builtin 3802, 1 ∷ []) ∷ []) ∷ byte 123 ∷ byte 125 ∷ []
 
 -- whichever case the slot shows
-pub object_back : {A : Type 0} → ReadsBack {A = A} (λ _. Some (image_of object_image)) (reading_of (without_memory parse_object)) (λ _. tt) always
+pub object_back : {A : Type 0} → ReadsBack {A = A} (λ _. plainly (writes (Some (image_of object_image)))) (reading_of (without_memory parse_object)) (λ _. tt) always
 object_back v i t p os e whole small fit = rw (← same_Some _ i e) (by_parameter p)
   where
     by_case : (b : Bool) → reading_of (without_memory parse_object) t Binary (Some (cond b (1 ∷ []) (32 ∷ []) ++ (123 ∷ 125 ∷ []))) ≡ Some tt

@@ -1,7 +1,7 @@
 //! Arrays, and arrays with nulls in them, written and read.
 
 ghost use Rattle.std.specs.Prelude.{List, OnOk};
-ghost use Rattle.pgv.specs.Words.{Added, Argument, Gives, builtin, frame};
+ghost use Rattle.pgv.specs.Words.{Added, Argument, Gives, argument_frame, builtin};
 
 use pgv::{CodecError, Decode, Encode, PgArguments, PgValueRef};
 use std::alloc::Global;
@@ -12,7 +12,7 @@ pub fn add_lists(
     places: Vec<i32>,
     scores: Vec<Option<i32>>,
 ) -> Result<(), CodecError>
-    ensures { OnOk result ((one : List Argument) × Added (frame 0 (⟦<Vec<i32> as Encode>⟧.image places)) (builtin 1007) arguments.old one × Added (frame 0 (⟦<Vec<Option<i32>> as Encode>⟧.image scores)) (builtin 1007) one arguments.new) }
+    ensures { OnOk result ((one : List Argument) × Added (argument_frame (⟦<Vec<i32> as Encode>⟧.encoding places)) (builtin 1007) arguments.old one × Added (argument_frame (⟦<Vec<Option<i32>> as Encode>⟧.encoding scores)) (builtin 1007) one arguments.new) }
 {
     arguments.add(places)?;
     arguments.add(scores)?;

@@ -2,7 +2,7 @@
 
 ghost use Rattle.std.specs.Prelude.{◌≡◌, ◌++◌, ◌<◌, ◌⊎◌, List, [], length, IfOk, IfErr, OnOk, OnErr, codes};
 ghost use Rattle.std.specs.Int.{w16, to_be_bytes};
-ghost use Rattle.pgv.specs.Words.{Added, Argument, Oid, builtin, array_of, frame, hole_types_of, shown, all_tokens, framed, early};
+ghost use Rattle.pgv.specs.Words.{Added, Argument, Oid, builtin, argument_frame, array_of, hole_types_of, shown, all_tokens, framed, early};
 ghost use Rattle.pgv_examples.specs.Known.{AreKnownOids, IsKnownOid};
 
 use crate::mood::Mood;
@@ -17,7 +17,7 @@ pub fn arguments_of_search(
     name: String,
     moods: Vec<Mood>,
 ) -> Result<PgArguments, CodecError>
-    ensures { IfOk result (λ arguments. (one : List Argument) × (two : List Argument) × Added (frame 0 (⟦<i32 as Encode>⟧.image id)) (builtin 23) [] one × Added (frame 0 (⟦<String as Encode>⟧.image name)) (builtin 25) one two × Added (frame 0 (⟦<Vec<Mood> as Encode>⟧.image moods)) (array_of (codes "mood")) two arguments) }
+    ensures { IfOk result (λ arguments. (one : List Argument) × (two : List Argument) × Added (argument_frame (⟦<i32 as Encode>⟧.encoding id)) (builtin 23) [] one × Added (argument_frame (⟦<String as Encode>⟧.encoding name)) (builtin 25) one two × Added (argument_frame (⟦<Vec<Mood> as Encode>⟧.encoding moods)) (array_of (codes "mood")) two arguments) }
 {
     let mut arguments = PgArguments::new(alloc);
     arguments.add(id)?;

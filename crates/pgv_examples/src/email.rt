@@ -52,9 +52,9 @@ impl PgHasArrayType for Email {
 /// Written as its text.
 impl Encode for Email {
     ghost use Rattle.std.specs.Prelude.{string_bytes};
-    ghost use Rattle.pgv.specs.Words.{text_image};
+    ghost use Rattle.pgv.specs.Words.{plainly, text_image, writes};
 
-    ghost image = { λ email. text_image (string_bytes email.address) };
+    ghost encoding = { λ email. plainly (writes (text_image (string_bytes email.address))) };
 
     fn encode_by_ref(&self, out: &mut PgArgumentBuffer) -> Result<IsNull, CodecError> {
         encode_text(self.address.as_str(), out)
@@ -72,7 +72,7 @@ impl Encode for Email {
 /// Read as its text, and comes back as its text does.
 impl Plain for Email {
     ghost use Rattle.std.specs.Prelude.{ℕ, List, string_bytes, refl};
-    ghost use Rattle.pgv.specs.Words.{plainly, text_back, text_image, parse_text};
+    ghost use Rattle.pgv.specs.Words.{plainly, text_back, text_image, parse_text, writes};
 
     ghost View = { List ℕ };
 
@@ -82,7 +82,7 @@ impl Plain for Email {
 
     ghost null = { λ _ _. refl };
 
-    ghost written = { plainly text_image };
+    ghost written = { λ _ text. plainly (writes (text_image text)) };
 
     fn read(alloc: Global, value: PgValueRef<'_>) -> Result<Email, CodecError> {
         Ok(Email {

@@ -48,10 +48,10 @@ impl Type for EmptyObject {
 
 impl Encode for EmptyObject {
     ghost use Rattle.std.specs.Prelude.{Some};
-    ghost use Rattle.pgv.specs.Words.{image_of};
+    ghost use Rattle.pgv.specs.Words.{image_of, plainly, writes};
     ghost use Rattle.pgv_examples.specs.Objects.{object_image};
 
-    ghost image = { λ _. Some (image_of object_image) };
+    ghost encoding = { λ _. plainly (writes (Some (image_of object_image))) };
 
     fn encode_by_ref(&self, out: &mut PgArgumentBuffer) -> Result<IsNull, CodecError> {
         push_version(self.alloc, out)?;
@@ -72,7 +72,7 @@ impl Encode for EmptyObject {
 /// null with C13. An object comes back, whichever case its slot shows.
 impl Plain for EmptyObject {
     ghost use Rattle.std.specs.Prelude.{⊤, Some, refl};
-    ghost use Rattle.pgv.specs.Words.{image_of, plainly, without_memory};
+    ghost use Rattle.pgv.specs.Words.{image_of, plainly, without_memory, writes};
     ghost use Rattle.pgv_examples.specs.Objects.{object_back, object_image, parse_object};
 
     ghost View = { ⊤ };
@@ -83,7 +83,7 @@ impl Plain for EmptyObject {
 
     ghost null = { λ _ _. refl };
 
-    ghost written = { plainly (λ _. Some (image_of object_image)) };
+    ghost written = { λ _ _. plainly (writes (Some (image_of object_image))) };
 
     fn read(alloc: Global, value: PgValueRef<'_>) -> Result<EmptyObject, CodecError> {
         let bytes = value.as_bytes()?;

@@ -28,7 +28,7 @@ impl Type for Float8 {
 
 /// Written as its eight bytes, the highest first, as an `int8` is.
 impl Encode for Float8 {
-    ghost image = { λ number. ⟦<i64 as Encode>⟧.image number.0 };
+    ghost encoding = { λ number. ⟦<i64 as Encode>⟧.encoding number.0 };
 
     fn encode_by_ref(&self, out: &mut PgArgumentBuffer) -> Result<IsNull, CodecError> {
         self.0.encode_by_ref(out)

@@ -31,7 +31,7 @@ impl Type for FloatRange {
 
 /// Written as its range.
 impl Encode for FloatRange {
-    ghost image = { λ v. ⟦<PgRange<Float8> as Encode>⟧.image v.range };
+    ghost encoding = { λ v. ⟦<PgRange<Float8> as Encode>⟧.encoding v.range };
 
     fn encode_by_ref(&self, out: &mut PgArgumentBuffer) -> Result<IsNull, CodecError> {
         self.range.encode_by_ref(out)
@@ -56,7 +56,7 @@ impl Decode for FloatRange {
 
     ghost parse = { ⟦<PgRange<Float8> as Decode>⟧.parse };
 
-    ghost written = { unwritten };
+    ghost written = { λ _ _. unwritten };
 
     ghost null = { ⟦<PgRange<Float8> as Decode>⟧.null };
 

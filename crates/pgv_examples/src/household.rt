@@ -3,7 +3,9 @@
 //! The answer of `encode_by_ref` is `proofs/household/HouseholdEncode/encode_by_ref/Answers.antt`.
 
 use crate::mood::Mood;
-use pgv::{CodecError, Encode, IsNull, PgArgumentBuffer, PgRecordEncoder, PgTypeInfo, Type};
+use pgv::{
+    CodecError, Encode, IsNull, PgArgumentBuffer, PgTypeInfo, Type, WrittenList, encode_record,
+};
 use std::alloc::AllocError;
 
 /// A number and moods: the type of the elements has no OID, and neither has that of their array.
@@ -33,24 +35,12 @@ impl Type for Household {
 }
 
 impl Encode for Household {
-    ghost use Rattle.std.specs.Prelude.{[], ◌∷◌, None};
-    ghost use Rattle.pgv.specs.Words.{field, field_unwritable, record_image};
+    ghost use Rattle.pgv.specs.Words.{plainly, record_image};
 
-    ghost image = { λ v. record_image (
-        field ⟦<i32 as Encode>⟧.hint ⟦<i32 as Encode>⟧.image ⟦<i32 as Encode>⟧.produced ⟦<i32 as Type>⟧.info v.number
-        ∷ field ⟦<Vec<Mood> as Encode>⟧.hint ⟦<Vec<Mood> as Encode>⟧.image ⟦<Vec<Mood> as Encode>⟧.produced ⟦<Vec<Mood> as Type>⟧.info v.moods
-        ∷ []) };
-
-    ghost unwritable = { λ v.
-        field_unwritable ⟦<i32 as Encode>⟧.hint ⟦<i32 as Encode>⟧.image ⟦<i32 as Encode>⟧.produced ⟦<i32 as Type>⟧.info ⟦<i32 as Encode>⟧.unwritable v.number
-        (field_unwritable ⟦<Vec<Mood> as Encode>⟧.hint ⟦<Vec<Mood> as Encode>⟧.image ⟦<Vec<Mood> as Encode>⟧.produced ⟦<Vec<Mood> as Type>⟧.info ⟦<Vec<Mood> as Encode>⟧.unwritable v.moods None) };
+    ghost encoding = { λ v. plainly (record_image (⟦<(i32, (Vec<Mood>,)) as WrittenList>⟧.fields (v.number, record { 0 = v.moods }))) };
 
     fn encode_by_ref(&self, out: &mut PgArgumentBuffer) -> Result<IsNull, CodecError> {
-        let mut record = PgRecordEncoder::new(out)?;
-        record.encode(&self.number)?;
-        record.encode(&self.moods)?;
-        record.finish();
-        Ok(IsNull::No)
+        encode_record(&(&self.number, (&self.moods,)), out)
     }
 
     fn size_hint(&self) -> usize {

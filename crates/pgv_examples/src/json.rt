@@ -44,10 +44,10 @@ impl Type for Json {
 /// Written as its text behind a slot: `{}` to a parameter of `jsonb` as `017b7d`.
 impl Encode for Json {
     ghost use Rattle.std.specs.Prelude.{Some, string_bytes};
-    ghost use Rattle.pgv.specs.Words.{image_of};
+    ghost use Rattle.pgv.specs.Words.{image_of, plainly, writes};
     ghost use Rattle.pgv_examples.specs.Jsons.{json_tokens};
 
-    ghost image = { λ json. Some (image_of (json_tokens (string_bytes json.text))) };
+    ghost encoding = { λ json. plainly (writes (Some (image_of (json_tokens (string_bytes json.text))))) };
 
     fn encode_by_ref(&self, out: &mut PgArgumentBuffer) -> Result<IsNull, CodecError> {
         push_version(self.alloc, out)?;
@@ -77,7 +77,7 @@ fn after_version(bytes: &[u8]) -> &[u8]
 /// Read in either format; what isn't UTF-8 is refused with C14, and null with C13. It comes back under each type.
 impl Plain for Json {
     ghost use Rattle.std.specs.Prelude.{ℕ, List, Some, string_bytes, refl};
-    ghost use Rattle.pgv.specs.Words.{image_of, plainly};
+    ghost use Rattle.pgv.specs.Words.{image_of, plainly, writes};
     ghost use Rattle.pgv_examples.specs.Jsons.{json_back, json_tokens, parse_json};
 
     ghost View = { List ℕ };
@@ -88,7 +88,7 @@ impl Plain for Json {
 
     ghost null = { λ _ _. refl };
 
-    ghost written = { plainly (λ text. Some (image_of (json_tokens text))) };
+    ghost written = { λ _ text. plainly (writes (Some (image_of (json_tokens text)))) };
 
     fn read(alloc: Global, value: PgValueRef<'_>) -> Result<Json, CodecError> {
         let bytes = after_version(value.as_bytes()?);

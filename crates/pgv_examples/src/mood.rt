@@ -82,9 +82,9 @@ impl PgHasArrayType for Mood {
 
 /// Written as its label.
 impl Encode for Mood {
-    ghost use Rattle.pgv.specs.Words.{text_image};
+    ghost use Rattle.pgv.specs.Words.{plainly, text_image, writes};
 
-    ghost image = { λ mood. text_image (label_of mood) };
+    ghost encoding = { λ mood. plainly (writes (text_image (label_of mood))) };
 
     fn encode_by_ref(&self, out: &mut PgArgumentBuffer) -> Result<IsNull, CodecError> {
         encode_text(self.label(), out)
@@ -102,7 +102,7 @@ impl Encode for Mood {
 /// Read by its label, which is the same in both formats. Another text is refused with C38(5), and null with C13. Each mood comes back.
 impl Plain for Mood {
     ghost use Rattle.std.specs.Prelude.{refl};
-    ghost use Rattle.pgv.specs.Words.{plainly, text_image, without_memory};
+    ghost use Rattle.pgv.specs.Words.{plainly, text_image, without_memory, writes};
     ghost use Rattle.pgv_examples.specs.Moods.{mood_back, parse_mood};
     ghost use Rattle.pgv_examples.specs.declared.mood.Mood.{Mood};
 
@@ -114,7 +114,7 @@ impl Plain for Mood {
 
     ghost null = { λ _ _. refl };
 
-    ghost written = { plainly (λ mood. text_image (label_of mood)) };
+    ghost written = { λ _ mood. plainly (writes (text_image (label_of mood))) };
 
     fn read(_alloc: Global, value: PgValueRef<'_>) -> Result<Mood, CodecError> {
         Mood::from_label(value.as_str()?)

@@ -1,12 +1,9 @@
 //! A composite type of fixed fields, written and read: `create type page as (id int4, path ltree)`.
-//!
-//! The answer of `encode_by_ref` is `proofs/page/PageEncode/encode_by_ref/Answers.antt`, with one `more_fields` for each field, and an
-//! answer for the refusal of each.
 
 use pgv::types::PgLTree;
 use pgv::{
     Codec, CodecError, Decode, Encode, IsNull, KeptList, PgArgumentBuffer, PgHasArrayType,
-    PgRecordEncoder, PgTypeInfo, PgValueRef, ReadBack, Type,
+    PgTypeInfo, PgValueRef, ReadBack, Type, WrittenList, encode_record,
 };
 use std::alloc::{AllocError, Global};
 
@@ -53,25 +50,14 @@ impl PgHasArrayType for Page {
     }
 }
 
+/// Written as a record of its fields, and refused as the first that can't be written.
 impl Encode for Page {
-    ghost use Rattle.std.specs.Prelude.{[], ◌∷◌, None};
-    ghost use Rattle.pgv.specs.Words.{field, field_unwritable, record_image};
+    ghost use Rattle.pgv.specs.Words.{plainly, record_image};
 
-    ghost image = { λ v. record_image (
-        field ⟦<i32 as Encode>⟧.hint ⟦<i32 as Encode>⟧.image ⟦<i32 as Encode>⟧.produced ⟦<i32 as Type>⟧.info v.id
-        ∷ field ⟦<PgLTree as Encode>⟧.hint ⟦<PgLTree as Encode>⟧.image ⟦<PgLTree as Encode>⟧.produced ⟦<PgLTree as Type>⟧.info v.path
-        ∷ []) };
-
-    ghost unwritable = { λ v.
-        field_unwritable ⟦<i32 as Encode>⟧.hint ⟦<i32 as Encode>⟧.image ⟦<i32 as Encode>⟧.produced ⟦<i32 as Type>⟧.info ⟦<i32 as Encode>⟧.unwritable v.id
-        (field_unwritable ⟦<PgLTree as Encode>⟧.hint ⟦<PgLTree as Encode>⟧.image ⟦<PgLTree as Encode>⟧.produced ⟦<PgLTree as Type>⟧.info ⟦<PgLTree as Encode>⟧.unwritable v.path None) };
+    ghost encoding = { λ v. plainly (record_image (⟦<(i32, (PgLTree,)) as WrittenList>⟧.fields (v.id, record { 0 = v.path }))) };
 
     fn encode_by_ref(&self, out: &mut PgArgumentBuffer) -> Result<IsNull, CodecError> {
-        let mut record = PgRecordEncoder::new(out)?;
-        record.encode(&self.id)?;
-        record.encode(&self.path)?;
-        record.finish();
-        Ok(IsNull::No)
+        encode_record(&(&self.id, (&self.path,)), out)
     }
 
     fn size_hint(&self) -> usize {
@@ -86,7 +72,7 @@ impl Encode for Page {
 /// A page is read, and refused, as a record of two fields, under each type that names a field for each.
 impl Decode for Page {
     ghost use Rattle.std.specs.Prelude.{[], ◌∷◌};
-    ghost use Rattle.pgv.specs.Words.{record_image, plainly, field_written};
+    ghost use Rattle.pgv.specs.Words.{field, plainly, record_image};
 
     ghost View = { ⟦<(i32, PgLTree) as Decode>⟧.View };
 
@@ -94,9 +80,9 @@ impl Decode for Page {
 
     ghost parse = { ⟦<(i32, PgLTree) as Decode>⟧.parse };
 
-    ghost written = { plainly (λ m. record_image (
-        field_written ⟦<i32 as Type>⟧.info ⟦<i32 as Decode>⟧.written m.0
-        ∷ field_written ⟦<PgLTree as Type>⟧.info ⟦<PgLTree as Decode>⟧.written m.1
+    ghost written = { λ _ m. plainly (record_image (
+        field ⟦<i32 as Type>⟧.info (⟦<i32 as Decode>⟧.written ⟦<i32 as Type>⟧.info m.0)
+        ∷ field ⟦<PgLTree as Type>⟧.info (⟦<PgLTree as Decode>⟧.written ⟦<PgLTree as Type>⟧.info m.1)
         ∷ [])) };
 
     ghost null = { ⟦<(i32, PgLTree) as Decode>⟧.null };
@@ -111,23 +97,20 @@ impl Decode for Page {
 impl ReadBack for Page {
     ghost use Rattle.std.specs.Prelude.{[]};
     ghost use Rattle.pgv.specs.Words.{last_back, further_back, record_back, int4_back, tree_back, tree_kept};
+    ghost use Rattle.pgv_examples.specs.Pairs.{answer_is};
 
     ghost kept = { λ v. record { id = v.id; path = tree_kept v.path } };
 
     ghost fits = { λ v t oids. ⟦<(i32, (PgLTree,)) as KeptList>⟧.fits (v.id, record { 0 = v.path }) t 0 oids };
 
-    ghost reads_back = { λ v. record_back
-        (further_back ⟦<i32 as Type>⟧.info ⟦<i32 as Encode>⟧.produced ⟦<i32 as Encode>⟧.hint ⟦<i32 as Encode>⟧.image ⟦<i32 as Type>⟧.accepts
-        ⟦<i32 as Decode>⟧.parse ⟦<i32 as Decode>⟧.view ⟦<i32 as ReadBack>⟧.fits int4_back v.id
-        (last_back ⟦<PgLTree as Type>⟧.info ⟦<PgLTree as Encode>⟧.produced ⟦<PgLTree as Encode>⟧.hint ⟦<PgLTree as Encode>⟧.image ⟦<PgLTree as Type>⟧.accepts
-        ⟦<PgLTree as Decode>⟧.parse tree_kept ⟦<PgLTree as ReadBack>⟧.fits tree_back v.path [])) };
+    ghost reads_back = { λ v i t p oids e. record_back
+        (further_back ⟦<i32 as Type>⟧.info ⟦<i32 as Encode>⟧.encoding ⟦<i32 as Type>⟧.accepts ⟦<i32 as Decode>⟧.parse ⟦<i32 as Decode>⟧.view ⟦<i32 as ReadBack>⟧.fits int4_back v.id
+        (last_back ⟦<PgLTree as Type>⟧.info ⟦<PgLTree as Encode>⟧.encoding ⟦<PgLTree as Type>⟧.accepts ⟦<PgLTree as Decode>⟧.parse tree_kept ⟦<PgLTree as ReadBack>⟧.fits tree_back v.path []))
+        i t p oids (answer_is _ i e) };
 }
 
 impl Codec for Page {
-    ghost use Rattle.std.specs.Prelude.{codes, refl};
-    ghost use Rattle.pgv.specs.Words.{named, field_agrees, same_none, same_fields, record_agrees};
+    ghost use Rattle.std.specs.Prelude.{refl};
 
-    ghost agrees = { λ v. record_agrees (named (codes "page")) v
-        (same_fields (field_agrees ⟦<i32 as Encode>⟧.hint ⟦<i32 as Encode>⟧.image ⟦<i32 as Encode>⟧.produced ⟦<i32 as Type>⟧.info ⟦<i32 as Decode>⟧.view ⟦<i32 as Decode>⟧.written (λ _. refl) v.id)
-        (same_fields (field_agrees ⟦<PgLTree as Encode>⟧.hint ⟦<PgLTree as Encode>⟧.image ⟦<PgLTree as Encode>⟧.produced ⟦<PgLTree as Type>⟧.info ⟦<PgLTree as Decode>⟧.view ⟦<PgLTree as Decode>⟧.written (λ _. refl) v.path) same_none)) };
+    ghost agrees = { λ _. refl };
 }

@@ -6,8 +6,8 @@ ghost use Rattle.std.specs.Prelude.{List};
 ghost use Rattle.pgv.specs.Words.{Ty, Oid, Followed, field, FieldIsPlain};
 
 use pgv::{
-    Codec, CodecError, Decode, Encode, IsNull, KeptList, PgArgumentBuffer, PgRecordEncoder, PgType,
-    PgTypeInfo, PgValueRef, ReadBack, Type,
+    Codec, CodecError, Decode, Encode, IsNull, KeptList, PgArgumentBuffer, PgType, PgTypeInfo,
+    PgValueRef, ReadBack, Type, WrittenList, encode_record,
 };
 use std::alloc::{AllocError, Global};
 
@@ -37,19 +37,12 @@ impl<A, B> Type for Pair<A, B> {
 }
 
 impl<A: Encode + Type, B: Encode + Type> Encode for Pair<A, B> {
-    ghost use Rattle.std.specs.Prelude.{[], ◌∷◌, None};
-    ghost use Rattle.pgv.specs.Words.{field, field_unwritable, record_image};
+    ghost use Rattle.pgv.specs.Words.{plainly, record_image};
 
-    ghost image = { λ v. record_image (field A.hint A.image A.produced A.info v.first ∷ field B.hint B.image B.produced B.info v.second ∷ []) };
-
-    ghost unwritable = { λ v. field_unwritable A.hint A.image A.produced A.info A.unwritable v.first (field_unwritable B.hint B.image B.produced B.info B.unwritable v.second None) };
+    ghost encoding = { λ v. plainly (record_image (⟦<(A, (B,)) as WrittenList>⟧.fields (v.first, record { 0 = v.second }))) };
 
     fn encode_by_ref(&self, out: &mut PgArgumentBuffer) -> Result<IsNull, CodecError> {
-        let mut record = PgRecordEncoder::new(out)?;
-        record.encode(&self.first)?;
-        record.encode(&self.second)?;
-        record.finish();
-        Ok(IsNull::No)
+        encode_record(&(&self.first, (&self.second,)), out)
     }
 
     fn size_hint(&self) -> usize {
@@ -64,7 +57,7 @@ impl<A: Encode + Type, B: Encode + Type> Encode for Pair<A, B> {
 /// A pair is read and refused as the first two fields of a record.
 impl<A: Type + Decode, B: Type + Decode> Decode for Pair<A, B> {
     ghost use Rattle.std.specs.Prelude.{[], ◌∷◌};
-    ghost use Rattle.pgv.specs.Words.{record_image, plainly, field_written};
+    ghost use Rattle.pgv.specs.Words.{field, plainly, record_image};
 
     ghost View = { ⟦<(A, B) as Decode>⟧.View };
 
@@ -72,7 +65,7 @@ impl<A: Type + Decode, B: Type + Decode> Decode for Pair<A, B> {
 
     ghost parse = { ⟦<(A, B) as Decode>⟧.parse };
 
-    ghost written = { plainly (λ m. record_image (field_written A.info A.written m.0 ∷ field_written B.info B.written m.1 ∷ [])) };
+    ghost written = { λ _ m. plainly (record_image (field A.info (A.written A.info m.0) ∷ field B.info (B.written B.info m.1) ∷ [])) };
 
     ghost null = { ⟦<(A, B) as Decode>⟧.null };
 
@@ -86,26 +79,26 @@ impl<A: Type + Decode, B: Type + Decode> Decode for Pair<A, B> {
 impl<A: ReadBack + Type, B: ReadBack + Type> ReadBack for Pair<A, B> {
     ghost use Rattle.std.specs.Prelude.{[]};
     ghost use Rattle.pgv.specs.Words.{last_back, further_back, record_back};
+    ghost use Rattle.pgv_examples.specs.Pairs.{answer_is};
 
     ghost kept = { λ v. record { first = A.kept v.first; second = B.kept v.second } };
 
     ghost fits = { λ v t oids. ⟦<(A, (B,)) as KeptList>⟧.fits (v.first, record { 0 = v.second }) t 0 oids };
 
-    ghost reads_back = { λ v. record_back
-        (further_back A.info A.produced A.hint A.image A.accepts A.parse (λ x. A.view (A.kept x)) A.fits A.reads_back v.first
-        (last_back B.info B.produced B.hint B.image B.accepts B.parse (λ x. B.view (B.kept x)) B.fits B.reads_back v.second [])) };
+    ghost reads_back = { λ v i t p oids e. record_back
+        (further_back A.info A.encoding A.accepts A.parse (λ x. A.view (A.kept x)) A.fits A.reads_back v.first
+        (last_back B.info B.encoding B.accepts B.parse (λ x. B.view (B.kept x)) B.fits B.reads_back v.second []))
+        i t p oids (answer_is _ i e) };
 }
 
 /// A pair comes back under a composite type, a domain of one or `record`, where the OID of the type at each place was written,
 /// that type is accepted, and the field comes back under it.
 pub fn pair_fits<A: ReadBack + Type, B: ReadBack + Type>()
-    ensures { (v : _) (t : Ty) (oids : List Oid) → Followed (FieldIsPlain A.info A.produced A.image A.accepts A.fits v.first) (field A.hint A.image A.produced A.info v.first) (FieldIsPlain B.info B.produced B.image B.accepts B.fits v.second) t 0 oids → ⟦<Pair<A, B> as ReadBack>⟧.fits v t oids }
+    ensures { (v : _) (t : Ty) (oids : List Oid) → Followed (FieldIsPlain A.info A.encoding A.accepts A.fits v.first) (field A.info (A.encoding v.first)) (FieldIsPlain B.info B.encoding B.accepts B.fits v.second) t 0 oids → ⟦<Pair<A, B> as ReadBack>⟧.fits v t oids }
 {}
 
 impl<A: Codec, B: Codec> Codec for Pair<A, B> {
-    ghost use Rattle.pgv.specs.Words.{builtin, field_agrees, same_none, same_fields, record_agrees};
+    ghost use Rattle.pgv_examples.specs.Pairs.{pair_agrees};
 
-    ghost agrees = { λ v. record_agrees (builtin 2249) v
-        (same_fields (field_agrees A.hint A.image A.produced A.info A.view A.written A.agrees v.first)
-        (same_fields (field_agrees B.hint B.image B.produced B.info B.view B.written B.agrees v.second) same_none)) };
+    ghost agrees = { λ v. pair_agrees A.info B.info (A.agrees v.first) (B.agrees v.second) };
 }

@@ -43,15 +43,10 @@ impl Type for Percent {
 /// Written as its number. Another number than 0 to 100 is refused with C38(9), and the caller of the encoder goes back
 /// to its mark.
 impl Encode for Percent {
-    ghost use Rattle.std.specs.Prelude.{Some};
-    ghost use Rattle.pgv.specs.Words.{Caller};
+    ghost use Rattle.pgv.specs.Words.{plainly};
     ghost use Rattle.pgv_examples.specs.Percents.{percent_image};
 
-    ghost image = { λ percent. percent_image percent.number };
-
-    ghost unwritable = { λ _. Some (Caller 9) };
-
-    ghost asks_first = { λ _. false };
+    ghost encoding = { λ percent. plainly (percent_image percent.number) };
 
     fn encode_by_ref(&self, out: &mut PgArgumentBuffer) -> Result<IsNull, CodecError> {
         self.check()?;
@@ -82,7 +77,7 @@ impl Plain for Percent {
 
     ghost null = { λ _ _. refl };
 
-    ghost written = { plainly percent_image };
+    ghost written = { λ _ number. plainly (percent_image number) };
 
     fn read(alloc: Global, value: PgValueRef<'_>) -> Result<Percent, CodecError> {
         let percent = Percent {

@@ -4,8 +4,8 @@
 
 use crate::page::Page;
 use pgv::{
-    CodecError, Decode, Encode, IsNull, PgArgumentBuffer, PgRecordEncoder, PgTypeInfo, PgValueRef,
-    Type,
+    CodecError, Decode, Encode, IsNull, PgArgumentBuffer, PgTypeInfo, PgValueRef, Type,
+    WrittenList, encode_record,
 };
 use std::alloc::{AllocError, Global};
 
@@ -36,20 +36,12 @@ impl Type for Shipment {
 }
 
 impl Encode for Shipment {
-    ghost use Rattle.std.specs.Prelude.{[], ◌∷◌};
-    ghost use Rattle.pgv.specs.Words.{field, record_image};
+    ghost use Rattle.pgv.specs.Words.{plainly, record_image};
 
-    ghost image = { λ v. record_image (
-        field ⟦<Option<String> as Encode>⟧.hint ⟦<Option<String> as Encode>⟧.image ⟦<Option<String> as Encode>⟧.produced ⟦<Option<String> as Type>⟧.info v.note
-        ∷ field ⟦<Page as Encode>⟧.hint ⟦<Page as Encode>⟧.image ⟦<Page as Encode>⟧.produced ⟦<Page as Type>⟧.info v.page
-        ∷ []) };
+    ghost encoding = { λ v. plainly (record_image (⟦<(Option<String>, (Page,)) as WrittenList>⟧.fields (v.note, record { 0 = v.page }))) };
 
     fn encode_by_ref(&self, out: &mut PgArgumentBuffer) -> Result<IsNull, CodecError> {
-        let mut record = PgRecordEncoder::new(out)?;
-        record.encode(&self.note)?;
-        record.encode(&self.page)?;
-        record.finish();
-        Ok(IsNull::No)
+        encode_record(&(&self.note, (&self.page,)), out)
     }
 
     fn size_hint(&self) -> usize {
@@ -71,7 +63,7 @@ impl Decode for Shipment {
 
     ghost parse = { ⟦<(Option<String>, Page) as Decode>⟧.parse };
 
-    ghost written = { unwritten };
+    ghost written = { λ _ _. unwritten };
 
     ghost null = { ⟦<(Option<String>, Page) as Decode>⟧.null };
 

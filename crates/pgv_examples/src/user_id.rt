@@ -40,7 +40,7 @@ impl PgHasArrayType for UserId {
 
 /// Written as its number.
 impl Encode for UserId {
-    ghost image = { λ id. ⟦<i32 as Encode>⟧.image id.0 };
+    ghost encoding = { λ id. ⟦<i32 as Encode>⟧.encoding id.0 };
 
     fn encode_by_ref(&self, out: &mut PgArgumentBuffer) -> Result<IsNull, CodecError> {
         self.0.encode_by_ref(out)

@@ -20,7 +20,7 @@ use Rattle.pgv_value.specs.declared.error.CodecError.{CodecError}
 use Rattle.pgv_value.specs.declared.error.CodecError.TheVariants.{HstoreLength, Short, Utf8}
 use Rattle.pgv_value.proofs.Numbers.{number_is, bytes_after, after_four}
 use Rattle.pgv_value.proofs.Outcomes.{answer_is, answers_are, ok_is, held, taken, taken_exactly, tested, found_or}
-use Rattle.pgv_codec.specs.Image.{limit}
+use Rattle.pgv_codec.specs.Encoding.{limit}
 use Rattle.pgv_hstore.specs.Hstore.{Pair, order, part_form, pair_form, text_at, as_key, as_value, key_at, value_at, pairs, put_all, put_read, hstore_in_binary}
 use Rattle.pgv_hstore.specs.HstoreBack.{IsText, IsValue, ArePairs, hstore_there}
 use Rattle.pgv_hstore.specs.Laws.{last_value, IsMapOf, IsHstore, HstoreIsRead, OneHstore}

@@ -1,82 +1,56 @@
--- Texts, pairs and maps that are written part after part.
-use Rattle.std.proofs.Common.{◌≡◌, ℕ, suc, Bool, true, false, cond, List, [], ◌∷◌, ◌++◌, length, map, Option, Some, None, refl, sym, ap, ◌∙◌, append_assoc, inl, inr}
+-- Pairs and maps that are written part after part.
+use Rattle.std.proofs.Common.{◌≡◌, ℕ, suc, List, [], ◌∷◌, ◌++◌, length, map, Option, Some, None, Result, Ok, Err, true, refl, sym, ap, ◌∙◌, append_assoc, subst, inl, inr}
 use Rattle.std.proofs.lemmas.List.{append-nil}
-use Rattle.std.proofs.lemmas.List.Folds.{list_all-append}
-use Rattle.std.proofs.lemmas.Option.{cond_some}
-use Rattle.std.specs.Prelude.{nat_le, ◌&&◌, string_bytes}
+use Rattle.std.specs.Prelude.{string_bytes}
 use Rattle.std.specs.FinMap.{is_sorted}
 use Rattle.std.specs.FinMap.Entries.{below_all}
-use Rattle.std.specs.List.{AllByRecursion, flat_map, list_all}
+use Rattle.std.specs.List.{AllByRecursion}
 use Rattle.std.specs.List.Sorted.{IsStrictlySortedBy}
 use Rattle.std.specs.String.{string_cmp}
 use Rattle.std.specs.declared.cmp.Ordering.TheVariants.{Less}
 use Rattle.std.specs.declared.string.String.{String}
-use Rattle.std.proofs.lemmas.Bool.{and_parts}
-use Rattle.pgv_buf.specs.Tokens.{Token, Cell, bytes, be4, blank}
+use Rattle.pgv_buf.specs.Tokens.{Token, Cell, blank, bytes}
+use Rattle.pgv_value.specs.Outcome.{Outcome, Fails, after, allocates, done, exactly, stated, ◌>>=◌, ◌>>◌}
 use Rattle.pgv_value.specs.declared.error.CodecError.{CodecError}
-use Rattle.pgv_codec.proofs.Refusing.{out_of_memory}
-use Rattle.pgv_codec.specs.Outcome.{AppendedAll, Refused}
-use Rattle.pgv_codec.specs.Refusing.{RefusedBy}
-use Rattle.pgv_codec.specs.Image.{image_of, limit}
-use Rattle.pgv_codec.specs.PlainBytes.{appended_parts}
-use Rattle.pgv_hstore.specs.Hstore.{Pair, pair_of, order, part_form, pair_form, hstore_form, part_fits, pair_fits, part_written, pair_refused, pair_written, pairs_refused, pairs_written, hstore_image}
-
-there : (b : Bool) (form : List ℕ) → b ≡ true → cond b (Some (bytes form)) None ≡ Some (bytes form)
-there b form e = rw e refl
-
--- one form after another, where each was written under a test
-joined : (a b c : Bool) (first second : List ℕ) (start mid now : List Cell) → (a ≡ true → b ≡ true → c ≡ true) →
-    AppendedAll (cond a (Some (bytes first)) None) start mid → AppendedAll (cond b (Some (bytes second)) None) mid now → AppendedAll (cond c (Some (bytes (first ++ second))) None) start now
-joined a b c first second start mid now both x y =
-    let p = cond_some a (bytes first) x.0 x.1 in
-    let q = cond_some b (bytes second) y.0 y.1 in (
-      bytes (first ++ second),
-      there c (first ++ second) (both p.0 q.0),
-      appended_parts start mid now first second (x.2 ∙ ap (λ (ts : List Token). start ++ blank ts) (sym p.1)) (y.2 ∙ ap (λ (ts : List Token). mid ++ blank ts) (sym q.1)),
-    )
-
-pub text_appended : (part : List ℕ) (start mid now : List Cell) → nat_le (length part) limit ≡ true → mid ≡ start ++ blank (bytes (be4 (length part))) → now ≡ mid ++ blank (bytes part) →
-    (ts : List Token) × (part_written (Some part) ≡ Some ts) × (now ≡ start ++ blank ts)
-text_appended part start mid now le first second =
-    (bytes (part_form (Some part)), there (part_fits (Some part)) (part_form (Some part)) le, appended_parts start mid now (be4 (length part)) part first second)
-
-pub pair_appended : (p : Pair) (start mid now : List Cell) → AppendedAll (part_written (Some p.0)) start mid → AppendedAll (part_written p.1) mid now → AppendedAll (pair_written p) start now
-pair_appended p start mid now = joined (part_fits (Some p.0)) (part_fits p.1) (pair_fits p) (part_form (Some p.0)) (part_form p.1) start mid now (λ a b. rw (a, b) refl)
-
-forms-more : (ps : List Pair) (p : Pair) → flat_map pair_form (ps ++ p ∷ []) ≡ flat_map pair_form ps ++ pair_form p
-forms-more [] p = append-nil (pair_form p)
-forms-more (q ∷ ps) p = ap (λ (r : List ℕ). pair_form q ++ r) (forms-more ps p) ∙ sym (append_assoc (pair_form q) (flat_map pair_form ps) (pair_form p))
-
-pub pairs_more : (ps : List Pair) (p : Pair) (start mid now : List Cell) → AppendedAll (pairs_written ps) start mid → AppendedAll (pair_written p) mid now → AppendedAll (pairs_written (ps ++ p ∷ [])) start now
-pairs_more ps p start mid now x y =
-    let whole = joined (list_all pair_fits ps) (pair_fits p) (list_all pair_fits (ps ++ p ∷ [])) (flat_map pair_form ps) (pair_form p) start mid now
-    (λ a b. list_all-append pair_fits ps (p ∷ []) ∙ rw (a, b) refl) x y in
-    (whole.0, ap (λ (form : List ℕ). cond (list_all pair_fits (ps ++ p ∷ [])) (Some (bytes form)) None) (forms-more ps p) ∙ whole.1, whole.2)
-
-pub none_where : (ps : List Pair) (p : Pair) (qs : List Pair) → pair_written p ≡ None → pairs_written (ps ++ p ∷ qs) ≡ None
-none_where ps p qs none = rw (list_all-append pair_fits ps (p ∷ qs)) (by (pair_fits p) refl none)
-  where
-    by : (b : Bool) → pair_fits p ≡ b → cond b (Some (bytes (pair_form p))) None ≡ None → cond (list_all pair_fits ps && (pair_fits p && list_all pair_fits qs)) (Some (bytes (flat_map pair_form (ps ++ p ∷ qs)))) None ≡ None
-    by true is e = absurd (cc)
-    by false is e = rw is (ends (list_all pair_fits ps))
-      where
-        ends : (a : Bool) → cond (a && false) (Some (bytes (flat_map pair_form (ps ++ p ∷ qs)))) None ≡ None
-        ends true = refl
-        ends false = refl
+use Rattle.pgv_value.specs.declared.error.CodecError.TheVariants.{Memory}
+use Rattle.pgv_codec.specs.Appending.{Appended, Encoded}
+use Rattle.pgv_codec.specs.Encoding.{Image, image_of}
+use Rattle.pgv_codec.specs.declared.buffer.IsNull.TheVariants.{No}
+use Rattle.pgv_codec.proofs.Outcomes.{fails_here, fails_then}
+use Rattle.pgv_codec.proofs.Lists.{both}
+use Rattle.pgv_hstore.specs.Hstore.{Pair, pair_of, order, in_order, number_form, pair_written, pairs_written, hstore_image}
 
 -- ---- pairs of a map, one after another
 
--- the first of the pairs that are left
-pub next_pair : (all so_far : List Pair) (left more : List Pair) (p : Pair) → all ≡ so_far ++ left → left ≡ p ∷ more → all ≡ (so_far ++ p ∷ []) ++ more
-next_pair all so_far left more p e f = e ∙ ap (λ (ps : List Pair). so_far ++ ps) f ∙ sym (append_assoc so_far (p ∷ []) more)
+-- these tokens are written, and what is written of the pairs that are left comes after them
+pub record Before (all left : List Pair) (ts : List Token) : Type 0 where
+  pub whole : (us : List Token) → (pairs_written left).answer ≡ Ok us → (pairs_written all).answer ≡ Ok (ts ++ us)
+  pub fault : (why : Option CodecError) → (pairs_written left).answer ≡ Err why → (pairs_written all).answer ≡ Err why
 
-pub pair_unwritten : (all so_far left more : List Pair) (p : Pair) (error : CodecError) → all ≡ so_far ++ left → left ≡ p ∷ more → Refused error (pair_written p) → Refused error (pairs_written all)
-pair_unwritten all so_far left more p error e f (inl none) = inl (ap pairs_written (e ∙ ap (λ (ps : List Pair). so_far ++ ps) f) ∙ none_where so_far p more none)
-pair_unwritten all so_far left more p error e f (inr memory) = inr memory
+pub none_before : (all : List Pair) → Before all all []
+none_before all = record { whole = λ us e. e; fault = λ why e. e }
 
-pub all_pairs : (all so_far left : List Pair) (start now : List Cell) → all ≡ so_far ++ left → left ≡ [] → AppendedAll (pairs_written so_far) start now → AppendedAll (pairs_written all) start now
-all_pairs all so_far left start now e f written =
-    (written.0, ap pairs_written (e ∙ ap (λ (ps : List Pair). so_far ++ ps) f ∙ append-nil so_far) ∙ written.1, written.2)
+-- one more pair
+pub more_before : (all left more : List Pair) (p : Pair) (ts f : List Token) → left ≡ p ∷ more → (pair_written p).answer ≡ Ok f → Before all left ts → Before all more (ts ++ f)
+unfolding pairs_written
+more_before all left more p ts f is written before = record {
+  whole = λ us e. before.whole (f ++ us) (rw (is, written, e) refl) ∙ ap (λ (r : List Token). let o : Result (List Token) (Option CodecError) = Ok r in o) (sym (append_assoc ts f us));
+  fault = λ why e. before.fault why (rw (is, written, e) refl);
+}
+
+pub all_before : (all left : List Pair) (ts : List Token) → left ≡ [] → Before all left ts → (pairs_written all).answer ≡ Ok ts
+unfolding pairs_written
+all_before all left ts is before = before.whole [] (rw is refl) ∙ ap (λ (r : List Token). let o : Result (List Token) (Option CodecError) = Ok r in o) (append-nil ts)
+
+fault_here : (all left more : List Pair) (p : Pair) (ts : List Token) (why : Option CodecError) → left ≡ p ∷ more → (pair_written p).answer ≡ Err why → Before all left ts → (pairs_written all).answer ≡ Err why
+unfolding pairs_written
+fault_here all left more p ts why is h before = before.fault why (rw (is, h) refl)
+
+-- a pair that isn't written refuses them all
+pub fails_before : (all left more : List Pair) (p : Pair) (ts : List Token) (e : CodecError) → left ≡ p ∷ more → Fails e (pair_written p) → Before all left ts → Fails e (after true (pairs_written all))
+fails_before all left more p ts e is (inl h) before = inl (fault_here all left more p ts (Some e) is h before)
+fails_before all left more p ts e is (inr (inl h)) before = inr (inl (fault_here all left more p ts None is h.0 before, h.1))
+fails_before all left more p ts e is (inr (inr h)) before = inr (inr (h.0, refl))
 
 -- ---- a whole map
 
@@ -93,34 +67,38 @@ same_length : {Z : Type 0} (es : List (String Z × Option (String Z))) → lengt
 same_length [] = refl
 same_length (e ∷ es) = ap suc (same_length es)
 
--- the number of pairs, and the pairs
-pub map_appended : {Z : Type 0} (es : List (String Z × Option (String Z))) (start mid now : List Cell) → IsStrictlySortedBy string_cmp (map (λ e. e.0) es) → nat_le (length es) limit ≡ true →
-    mid ≡ start ++ blank (bytes (be4 (length es))) → AppendedAll (pairs_written (map pair_of es)) mid now → (ts : List Token) × (hstore_image (map pair_of es) ≡ Some (image_of ts)) × (now ≡ start ++ blank ts)
-map_appended es start mid now ordered le first written =
-    let ps = map pair_of es in
-    let count = same_length es in
-    let g = cond_some (list_all pair_fits ps) (bytes (flat_map pair_form ps)) written.0 written.1 in (
-      bytes (hstore_form ps),
-      rw (sorted_pairs es ordered, ap (λ (n : ℕ). nat_le n limit) count ∙ le, g.0) refl,
-      appended_parts start mid now (be4 (length ps)) (flat_map pair_form ps) (first ∙ ap (λ (n : ℕ). start ++ blank (bytes (be4 n))) (sym count)) (written.2 ∙ ap (λ (ts : List Token). mid ++ blank ts) (sym g.1)),
-    )
+-- ---- its encoder
 
--- ---- which of them is too long
+module _ {Z : Type 0} (es : List (String Z × Option (String Z))) where
+  -- what comes after the number of pairs
+  abbrev pub pairs_after : List ℕ → Outcome Image
+  pairs_after number = allocates true >> (pairs_written (map pair_of es) >>= λ all. in_order (map pair_of es) >> done (image_of (bytes number ++ all)))
 
--- the first pair that can't be written refuses them all
-refused_from : (so_far : List Pair) (p : Pair) (more : List Pair) → list_all pair_fits so_far ≡ true → pair_written p ≡ None → pairs_refused (so_far ++ p ∷ more) ≡ pair_refused p
-refused_from [] p more fits none = by (pair_fits p) refl none
-  where
-    by : (b : Bool) → pair_fits p ≡ b → cond b (Some (bytes (pair_form p))) None ≡ None → cond (pair_fits p) (pairs_refused more) (pair_refused p) ≡ pair_refused p
-    by true is e = absurd (cc)
-    by false is e = rw is refl
-refused_from (q ∷ so_far) p more fits none =
-    let all = and_parts (pair_fits q) (list_all pair_fits so_far) fits in
-    rw all.0 (refused_from so_far p more all.1 none)
+  image_by : (n : ℕ) → n ≡ length es → exactly (number_form n) >>= pairs_after ≡ hstore_image (map pair_of es)
+  unfolding hstore_image
+  image_by n e = rw (e, same_length es) refl
 
-pub pairs_unwritten : (all so_far left more : List Pair) (p : Pair) (e : CodecError) (start now : List Cell) → all ≡ so_far ++ left → left ≡ p ∷ more →
-    AppendedAll (pairs_written so_far) start now → Refused e (pair_written p) → RefusedBy (pair_refused p) e → RefusedBy (pairs_refused all) e
-pairs_unwritten all so_far left more p e start now is are there (inl none) r =
-    let fits = cond_some (list_all pair_fits so_far) (bytes (flat_map pair_form so_far)) there.0 there.1 in
-    rw (is, are, refused_from so_far p more fits.0 none) r
-pairs_unwritten all so_far left more p e start now is are there (inr m) r = out_of_memory (pairs_refused all) e m
+  pub number_fails : (n : ℕ) (e : CodecError) → n ≡ length es → number_form n ≡ Err e → Fails e (hstore_image (map pair_of es))
+  number_fails n e count is = subst (Fails e) (image_by n count) (fails_here (exactly (number_form n)) pairs_after e (inl (ap stated is)))
+
+  pub memory_fails : (n : ℕ) (number : List ℕ) (e : CodecError) → n ≡ length es → number_form n ≡ Ok number → e ≡ Memory → Fails e (hstore_image (map pair_of es))
+  memory_fails n number e count is memory = subst (Fails e) (image_by n count) (fails_then (exactly (number_form n)) pairs_after number e (ap stated is) (inr (inr (memory, refl))))
+
+  part_fails : {A B : Type 0} (o : Outcome A) (next : A → Outcome B) (e : CodecError) → Fails e (after true o) → Fails e (allocates true >> (o >>= next))
+  part_fails o next e (inl h) = inl (rw h refl)
+  part_fails o next e (inr (inl h)) = inr (inl (rw h.0 refl, h.1))
+  part_fails o next e (inr (inr h)) = inr (inr (h.0, refl))
+
+  pub pairs_fail : (n : ℕ) (number : List ℕ) (e : CodecError) → n ≡ length es → number_form n ≡ Ok number → Fails e (after true (pairs_written (map pair_of es))) → Fails e (hstore_image (map pair_of es))
+  pairs_fail n number e count is fault =
+      subst (Fails e) (image_by n count) (fails_then (exactly (number_form n)) pairs_after number e (ap stated is)
+      (part_fails (pairs_written (map pair_of es)) (λ all. in_order (map pair_of es) >> done (image_of (bytes number ++ all))) e fault))
+
+  -- the number of pairs, and the pairs
+  pub map_appended : (n : ℕ) (number : List ℕ) (start mid now : List Cell) → n ≡ length es → number_form n ≡ Ok number → IsStrictlySortedBy string_cmp (map (λ e. e.0) es) →
+      mid ≡ start ++ blank (bytes number) → Appended (after true (pairs_written (map pair_of es))) mid now → Encoded No (hstore_image (map pair_of es)) start now
+  map_appended n number start mid now count is sorted first all = (
+    bytes number ++ all.0,
+    ap (λ (o : Outcome Image). o.answer) (sym (image_by n count)) ∙ rw (is, all.1, sorted_pairs es sorted) refl,
+    both start mid now (bytes number) all.0 first all.2,
+  )

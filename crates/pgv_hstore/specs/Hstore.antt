@@ -2,29 +2,29 @@
 -- for each the frame of its key and that of its value, which may be null. A map is seen as its pairs in the order of the keys'
 -- bytes.
 -- Written: for each pair the length and the bytes of its key and of its value, where the length -1 is null. There is no image
--- where a number is above 2147483647 (C9).
+-- where a number is above 2147483647: the first such says why (C9).
 -- Read in binary alone: a number that isn't negative, so many pairs, each a key that isn't null and a value or null, all UTF-8,
 -- and anything after them. The pairs are put into the map in turn, so that a later one of a key wins. The first number, key or
 -- value that can't be read says why: bytes that end too early are C15, a negative number of pairs C9, a negative length C16, a key
 -- that is null C35, and a text that isn't UTF-8 C14. Memory is asked for only after the first key was there.
-use Rattle.std.specs.Prelude.{ℕ, zero, suc, nat_le, nat_lt, ◌&&◌, Bool, true, List, [], ◌∷◌, ◌++◌, length, map, Option, Some, None, Ok, Err, option_map, if◌then◌else◌, string_bytes}
+use Rattle.std.specs.Prelude.{ℕ, zero, suc, nat_le, nat_lt, ◌&&◌, Bool, true, false, List, [], ◌∷◌, ◌++◌, length, map, Option, Some, None, Ok, Err, option_map, if◌then◌else◌, string_bytes, ⊤}
 use Rattle.std.specs.declared.cmp.Ordering.{Ordering}
 use Rattle.std.specs.declared.alloc.Global.{Global}
 use Rattle.std.specs.declared.string.String.{String}
 use Rattle.std.specs.Cmp.Lexicographic.{slice_cmp}
 use Rattle.std.specs.Int.{w32, w64, cast_signed}
 use Rattle.std.specs.FinMap.{is_sorted, put}
-use Rattle.std.specs.List.{flat_map, list_all}
+use Rattle.std.specs.List.{flat_map}
 use Rattle.std.specs.Ordering.{nat_cmp}
 use Rattle.pgv_buf.specs.Tokens.{Token, bytes, be4}
-use Rattle.pgv_codec.specs.Image.{Image, image_of, limit}
+use Rattle.pgv_codec.specs.Encoding.{Image, image_of, limit}
 use Rattle.pgv_value.specs.Formats.{in_binary_alone}
 use Rattle.pgv_value.specs.FrameBinary.{Part}
 use Rattle.pgv_value.specs.Fronts.{one_part, u32_at}
+use Rattle.pgv_value.specs.Parsed.{Parsed}
 use Rattle.pgv_value.specs.Outcome.{Outcome, done, fails, exactly, fails_if, allocates, ◌>>=◌, ◌>>◌}
 use Rattle.pgv_value.specs.Utf8.{is_utf8}
 use Rattle.pgv_value.specs.ValueView.{Given}
-use Rattle.pgv_value.specs.declared.error.CodecError.{CodecError}
 use Rattle.pgv_value.specs.declared.error.CodecError.TheVariants.{HstoreLength, HstoreNullKey, Utf8}
 use Rattle.pgv_hstore.specs.declared.hstore.PgHstore.{PgHstore}
 
@@ -72,41 +72,43 @@ part_fits (Some part) = nat_le (length part) limit
 abbrev pub pair_fits : Pair → Bool
 pair_fits p = part_fits (Some p.0) && part_fits p.1
 
--- a key or a value, a pair, and pairs one after another, where their lengths have room
-abbrev pub part_written : Part → Option (List Token)
-part_written part = if part_fits part then Some (bytes (part_form part)) else None
+-- a number of pairs or a length in four bytes, where it has room (C9)
+unfoldable pub number_form : ℕ → Parsed (List ℕ)
+number_form n = if nat_lt limit n then Err (HstoreLength (cast_signed w64 n)) else Ok (be4 n)
 
-abbrev pub pair_written : Pair → Option (List Token)
-pair_written p = if pair_fits p then Some (bytes (pair_form p)) else None
+-- a key or a value, a pair, and pairs one after another
+unfoldable pub part_written : Part → Outcome (List Token)
+part_written None = allocates true >> done (bytes (be4 4294967295))
+part_written (Some part) = do
+  number ← exactly (number_form (length part))
+  allocates true
+  done (bytes (number ++ part))
 
-abbrev pub pairs_written : List Pair → Option (List Token)
-pairs_written ps = if list_all pair_fits ps then Some (bytes (flat_map pair_form ps)) else None
+unfoldable pub pair_written : Pair → Outcome (List Token)
+pair_written p = do
+  key ← part_written (Some p.0)
+  value ← part_written p.1
+  done (key ++ value)
 
--- pairs in the order of their keys, where all lengths have room; a list of another order is no map
-abbrev pub hstore_image : List Pair → Option Image
-hstore_image ps = if is_sorted order ps && (nat_le (length ps) limit && list_all pair_fits ps) then Some (image_of (bytes (hstore_form ps))) else None
+unfoldable pub pairs_written : List Pair → Outcome (List Token)
+pairs_written [] = done []
+pairs_written (p ∷ ps) = do
+  first ← pair_written p
+  others ← pairs_written ps
+  done (first ++ others)
 
--- which of them is too long (C9): the first key or value, or the map
-abbrev pub too_long : List ℕ → CodecError
-too_long part = HstoreLength (cast_signed w64 (length part))
+-- a list of pairs in another order than that of their keys is no map
+abbrev pub in_order : List Pair → Outcome ⊤
+in_order ps = record { answer = if is_sorted order ps then Ok tt else Err None; may_alloc = false }
 
-abbrev pub value_refused : Part → Option CodecError
-value_refused None = None
-value_refused (Some part) = if nat_le (length part) limit then None else Some (too_long part)
-
-abbrev pub pair_refused : Pair → Option CodecError
-pair_refused p = if nat_le (length p.0) limit then value_refused p.1 else Some (too_long p.0)
-
-abbrev pub pairs_refused : List Pair → Option CodecError
-pairs_refused [] = None
-pairs_refused (p ∷ ps) = if pair_fits p then pairs_refused ps else pair_refused p
-
-abbrev pub hstore_refused : List Pair → Option CodecError
-hstore_refused ps = if nat_le (length ps) limit then pairs_refused ps else Some (HstoreLength (cast_signed w64 (length ps)))
-
--- whether memory may be asked for before that: not before the pairs are counted
-abbrev pub hstore_asks_first : List Pair → Bool
-hstore_asks_first ps = nat_le (length ps) limit
+-- the number of pairs, and the pairs in the order of their keys
+unfoldable pub hstore_image : List Pair → Outcome Image
+hstore_image ps = do
+  number ← exactly (number_form (length ps))
+  allocates true
+  all ← pairs_written ps
+  in_order ps
+  done (image_of (bytes number ++ all))
 
 -- ---- read
 

@@ -1,5 +1,5 @@
 -- What is written of a map is read back as it.
-use Rattle.std.specs.Prelude.{◌≡◌, ℕ, suc, ◌<◌, ◌^◌, nat_le, nat_lt, true, false, ◌&&◌, List, [], ◌∷◌, ◌++◌, length, map, Option, Some, None, Result, Ok, option_map, refl, string_bytes}
+use Rattle.std.specs.Prelude.{◌≡◌, ℕ, suc, ◌<◌, ◌^◌, nat_le, nat_lt, Bool, true, false, if◌then◌else◌, List, [], ◌∷◌, ◌++◌, length, map, Option, Some, None, Result, Ok, Err, option_map, refl, string_bytes, ⊤}
 use Rattle.std.specs.declared.cmp.Ordering.{Ordering}
 use Rattle.std.specs.declared.cmp.Ordering.TheVariants.{Less, Equal, Greater}
 use Rattle.std.specs.declared.string.String.{String}
@@ -9,23 +9,26 @@ use Rattle.std.specs.FinMap.Entries.{below_all}
 use Rattle.std.specs.Ordering.{is_lt, ordering_reverse}
 use Rattle.std.specs.List.{flat_map, list_all}
 use Rattle.std.proofs.Common.{ap, sym, ◌∙◌, arith, append_assoc}
-use Rattle.std.proofs.lemmas.Bool.{le-ltb, eq-eqb, and_parts}
+use Rattle.std.proofs.lemmas.Bool.{le-leb, le-ltb, ltb-false, eq-eqb, and_parts}
+use Rattle.std.specs.Int.{w64, cast_signed}
 use Rattle.std.proofs.lemmas.Bool.Decides.{nat_tests}
 use Rattle.std.proofs.lemmas.List.{append-nil}
 use Rattle.std.proofs.lemmas.Str.{IsUtf8-had, utf8_valid_len-IsUtf8}
-use Rattle.pgv_buf.specs.Tokens.{bytes, be4}
+use Rattle.pgv_buf.specs.Tokens.{Token, bytes, be4}
 use Rattle.pgv_value.proofs.Fronts.{frame_in_front}
 use Rattle.pgv_value.specs.FrameBinary.{Part, front}
-use Rattle.pgv_value.specs.Outcome.{ok_of, reading_of}
+use Rattle.pgv_value.specs.Outcome.{ok_of, reading_of, done, exactly, allocates, ◌>>=◌, ◌>>◌}
+use Rattle.pgv_value.proofs.Outcomes.{answer_is, answer_of, failed, ok_is, taken, taken_exactly}
+use Rattle.pgv_value.specs.declared.error.CodecError.TheVariants.{HstoreLength}
 use Rattle.pgv_value.specs.Utf8.{is_utf8}
 use Rattle.pgv_value.specs.declared.error.CodecError.{CodecError}
 use Rattle.pgv_value.specs.declared.value.PgValueFormat.TheVariants.{Binary}
 use Rattle.pgv_value.proofs.Numbers.{number_there}
 use Rattle.pgv_codec.specs.Back.{ReadsBack, always}
-use Rattle.pgv_codec.specs.BackParts.{guarded}
 use Rattle.pgv_codec.specs.BackScalars.{part_is}
-use Rattle.pgv_codec.specs.Image.{image_of, limit}
-use Rattle.pgv_hstore.specs.Hstore.{Pair, pair_of, pairs_of, order, part_form, pair_form, hstore_form, part_fits, pair_fits, hstore_image, key_at, value_at, pairs, put_all, hstore_in_binary, parse_hstore}
+use Rattle.pgv_codec.specs.Encoding.{Image, image_of, limit, plainly}
+use Rattle.pgv_codec.specs.PlainBytes.{bytes-append}
+use Rattle.pgv_hstore.specs.Hstore.{Pair, pair_of, pairs_of, order, part_form, pair_form, hstore_form, part_fits, pair_fits, number_form, part_written, pair_written, pairs_written, in_order, hstore_image, key_at, value_at, pairs, put_all, hstore_in_binary, parse_hstore}
 use Rattle.pgv_hstore.specs.declared.hstore.PgHstore.{PgHstore}
 
 -- ---- a pair is read from its form, whatever comes after it
@@ -125,15 +128,69 @@ are_pairs (e ∷ es) fits =
 few_pairs : (n : ℕ) → nat_le n limit ≡ true → n < 2 ^ 31
 few_pairs n e = grind (arith, nat_tests)
 
-pub hstore_back : ReadsBack {A = PgHstore} (λ h. hstore_image (pairs_of h)) (reading_of parse_hstore) pairs_of always
+part_parts : (part : Part) (ts : List Token) → (part_written part).answer ≡ Ok ts → (part_fits part ≡ true) × (bytes (part_form part) ≡ ts)
+unfolding part_written number_form
+part_parts None ts e = (refl, answer_is _ ts e)
+part_parts (Some part) ts e =
+    let a = taken_exactly (number_form (length part)) (λ number. allocates true >> done (bytes (number ++ part))) ts e in
+    let k = failed (nat_lt limit (length part)) (HstoreLength (cast_signed w64 (length part))) (Ok (be4 (length part))) a.0 a.1 in
+    (le-leb _ _ (ltb-false limit (length part) k.0), ap (λ (number : List ℕ). bytes (number ++ part)) (ok_is (be4 (length part)) a.0 k.1) ∙ answer_is _ ts a.2)
+
+pair_parts : (p : Pair) (ts : List Token) → (pair_written p).answer ≡ Ok ts → (pair_fits p ≡ true) × (bytes (pair_form p) ≡ ts)
+unfolding pair_written
+pair_parts p ts e =
+    let a = taken (part_written (Some p.0)) (λ key. part_written p.1 >>= λ value. done (key ++ value)) ts e in
+    let b = taken (part_written p.1) (λ value. done (a.0 ++ value)) ts a.2 in
+    let key = part_parts (Some p.0) a.0 a.1 in
+    let value = part_parts p.1 b.0 b.1 in
+    (rw (key.0, value.0) refl, bytes-append (part_form (Some p.0)) (part_form p.1) ∙ (ap (λ (us : List Token). us ++ bytes (part_form p.1)) key.1 ∙ (ap (λ (us : List Token). a.0 ++ us) value.1 ∙ answer_is _ ts b.2)))
+
+pairs_parts : (ps : List Pair) (ts : List Token) → (pairs_written ps).answer ≡ Ok ts → (list_all pair_fits ps ≡ true) × (bytes (flat_map pair_form ps) ≡ ts)
+unfolding pairs_written
+pairs_parts [] ts e = (refl, answer_is [] ts e)
+pairs_parts (p ∷ ps) ts e =
+    let a = taken (pair_written p) (λ first. pairs_written ps >>= λ others. done (first ++ others)) ts e in
+    let b = taken (pairs_written ps) (λ others. done (a.0 ++ others)) ts a.2 in
+    let first = pair_parts p a.0 a.1 in
+    let others = pairs_parts ps b.0 b.1 in
+    (rw (first.0, others.0) refl, bytes-append (pair_form p) (flat_map pair_form ps) ∙ (ap (λ (us : List Token). us ++ bytes (flat_map pair_form ps)) first.1 ∙ (ap (λ (us : List Token). a.0 ++ us) others.1 ∙ answer_is _ ts b.2)))
+
+-- what is written of a map that is written
+record IsMap (ps : List Pair) (i : Image) : Type 0 where
+  sorted : is_sorted order ps ≡ true
+  few : nat_le (length ps) limit ≡ true
+  fit : list_all pair_fits ps ≡ true
+  whole : image_of (bytes (hstore_form ps)) ≡ i
+
+is_in_order : (b : Bool) (u : ⊤) → (let r : Result ⊤ (Option CodecError) = if b then Ok tt else Err None in r) ≡ Ok u → b ≡ true
+is_in_order true u e = refl
+is_in_order false u e = absurd cc
+
+map_parts : (ps : List Pair) (i : Image) → (hstore_image ps).answer ≡ Ok i → IsMap ps i
+unfolding hstore_image number_form
+map_parts ps i e =
+    let a = taken_exactly (number_form (length ps)) (λ number. allocates true >> (pairs_written ps >>= λ all. in_order ps >> done (image_of (bytes number ++ all)))) i e in
+    let k = failed (nat_lt limit (length ps)) (HstoreLength (cast_signed w64 (length ps))) (Ok (be4 (length ps))) a.0 a.1 in
+    let b = taken (pairs_written ps) (λ all. in_order ps >> done (image_of (bytes a.0 ++ all))) i a.2 in
+    let c = taken (in_order ps) (λ _. done (image_of (bytes a.0 ++ b.0))) i b.2 in
+    let all = pairs_parts ps b.0 b.1 in
+    let number : be4 (length ps) ≡ a.0 = ok_is (be4 (length ps)) a.0 k.1 in
+    record {
+      sorted = is_in_order (is_sorted order ps) c.0 c.1;
+      few = le-leb _ _ (ltb-false limit (length ps) k.0);
+      fit = all.0;
+      whole =
+          ap image_of (bytes-append (be4 (length ps)) (flat_map pair_form ps) ∙ (ap (λ (ts : List Token). bytes (be4 (length ps)) ++ ts) all.1 ∙ ap (λ (n : List ℕ). bytes n ++ b.0) number))
+          ∙ answer_is _ i c.2;
+    }
+
+pub hstore_back : ReadsBack {A = PgHstore} (λ h. plainly (hstore_image (pairs_of h))) (reading_of parse_hstore) pairs_of always
 hstore_back h i t p os e whole small fit =
     let ps = pairs_of h in
     let form = hstore_form ps in
-    let g = guarded (is_sorted order ps && (nat_le (length ps) limit && list_all pair_fits ps)) (Some (image_of (bytes form))) i e in
-    let sorted = and_parts (is_sorted order ps) (nat_le (length ps) limit && list_all pair_fits ps) g.0 in
-    let lengths = and_parts (nat_le (length ps) limit) (list_all pair_fits ps) sorted.1 in
-    let read = hstore_there ps [] (few_pairs (length ps) lengths.0) (are_pairs h.0.entries lengths.1) in
+    let m = map_parts ps i (answer_of (hstore_image ps).answer i e) in
+    let read = hstore_there ps [] (few_pairs (length ps) m.few) (are_pairs h.0.entries m.fit) in
     let again =
     ap (λ (rest : List ℕ). (hstore_in_binary (be4 (length ps) ++ rest)).answer) (sym (append-nil (flat_map pair_form ps))) ∙ read
-    ∙ ap (λ (qs : List Pair). let r : Result (List Pair) (Option CodecError) = Ok qs in r) (put_after [] ps sorted.0) in
-    ap (λ (part : Part). reading_of parse_hstore t Binary part) (part_is form i p os g.1) ∙ ap ok_of again
+    ∙ ap (λ (qs : List Pair). let r : Result (List Pair) (Option CodecError) = Ok qs in r) (put_after [] ps m.sorted) in
+    ap (λ (part : Part). reading_of parse_hstore t Binary part) (part_is form i p os (ap (λ (j : Image). let o : Option Image = Some j in o) m.whole)) ∙ ap ok_of again

@@ -5,7 +5,7 @@ ghost use Rattle.pgv_types.specs.Ty.{array_of, named, Ty};
 ghost use Rattle.pgv_types.specs.Relations.{softly};
 ghost use Rattle.std.specs.Iterator.{AlwaysYields};
 ghost use Rattle.pgv_codec.specs.TypeRow.{IsWrittenAs};
-ghost use Rattle.pgv_hstore.specs.Hstore.{hstore_asks_first, hstore_image, hstore_refused, pairs_of, parse_hstore};
+ghost use Rattle.pgv_hstore.specs.Hstore.{hstore_image, pairs_of, parse_hstore};
 ghost use Rattle.pgv_hstore.specs.Laws.{HstoreIsRead, HstoresAreEqual, OneHstore};
 ghost use Rattle.pgv_types.specs.declared.oid.Oid.{Oid};
 
@@ -19,10 +19,9 @@ pub fn hstore_is_an_hstore()
     ensures accepts { (t : Ty) → ⟦<crate::PgHstore as Type>⟧.accepts t ≡ softly t (named (codes "hstore")) }
     ensures arrays { ⟦<crate::PgHstore as PgHasArrayType>⟧.array_info ≡ array_of (codes "hstore") }
     ensures accepts_arrays { (t : Ty) → ⟦<crate::PgHstore as PgHasArrayType>⟧.accepts_array t ≡ softly t (array_of (codes "hstore")) }
-    ensures written { IsWrittenAs (λ h. hstore_image (pairs_of h)) ⟦<crate::PgHstore as Encode>⟧.hint ⟦<crate::PgHstore as Encode>⟧.image ⟦<crate::PgHstore as Encode>⟧.produced }
+    ensures written { IsWrittenAs (λ h. hstore_image (pairs_of h)) ⟦<crate::PgHstore as Encode>⟧.encoding }
     ensures view { ⟦<crate::PgHstore as Decode>⟧.view ≡ pairs_of }
     ensures parsed { ⟦<crate::PgHstore as Plain>⟧.parse ≡ parse_hstore }
-    ensures unwritten { (⟦<crate::PgHstore as Encode>⟧.unwritable ≡ (λ h. hstore_refused (pairs_of h))) × (⟦<crate::PgHstore as Encode>⟧.asks_first ≡ (λ h. hstore_asks_first (pairs_of h))) }
 {}
 
 /// `hstore_in_binary` reads a map from bytes iff the bytes begin with a binary form of this map.
@@ -38,7 +37,7 @@ pub fn one_hstore()
 /// Two maps are equal iff they have the same pairs, and maps with the same pairs are written alike.
 pub fn equal_hstores()
     ensures equal { HstoresAreEqual ⟦<crate::PgHstore as PartialEq>⟧.eq }
-    ensures written_alike { (a b : _) → pairs_of a ≡ pairs_of b → ⟦<crate::PgHstore as Encode>⟧.image a ≡ ⟦<crate::PgHstore as Encode>⟧.image b }
+    ensures written_alike { (a b : _) → pairs_of a ≡ pairs_of b → ⟦<crate::PgHstore as Encode>⟧.encoding a ≡ ⟦<crate::PgHstore as Encode>⟧.encoding b }
 {}
 
 /// The iterator of a map gives its pairs in the order of the keys and then ends.

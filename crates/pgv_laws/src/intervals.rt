@@ -1,11 +1,12 @@
 //! Laws that say what intervals and durations are, as [`rows`](super::rows) does for other types.
 
-ghost use Rattle.std.specs.Prelude.{◌≡◌, false, pos, Some, None};
+ghost use Rattle.std.specs.Prelude.{◌≡◌, pos};
 ghost use Rattle.std.specs.Duration.{as_nanos};
 ghost use Rattle.jiff.specs.Words.{signed_nanos};
 ghost use Rattle.pgv_value.specs.Outcome.{without_memory};
 ghost use Rattle.pgv_value.specs.Interval.{parse_interval};
-ghost use Rattle.pgv_codec.specs.Intervals.{interval_image, duration_image, duration_refused};
+ghost use Rattle.pgv_codec.specs.Encoding.{with_hint, writes};
+ghost use Rattle.pgv_codec.specs.Intervals.{interval_image, duration_image};
 ghost use Rattle.pgv_codec.specs.TypeRow.{IsBuiltIn};
 
 use jiff::SignedDuration;
@@ -18,9 +19,7 @@ use std::time::Duration;
 pub fn pg_interval_is_an_interval()
     ensures types { IsBuiltIn 1186 ⟦<PgInterval as Type>⟧.info ⟦<PgInterval as Type>⟧.accepts }
     ensures arrays { IsBuiltIn 1187 ⟦<PgInterval as PgHasArrayType>⟧.array_info ⟦<PgInterval as PgHasArrayType>⟧.accepts_array }
-    ensures written { ⟦<PgInterval as Encode>⟧.image ≡ interval_image }
-    ensures hint { ⟦<PgInterval as Encode>⟧.hint ≡ (λ _. 16) }
-    ensures produced { ⟦<PgInterval as Encode>⟧.produced ≡ (λ _. None) }
+    ensures written { ⟦<PgInterval as Encode>⟧.encoding ≡ (λ v. with_hint 16 (writes (interval_image v))) }
     ensures view { ⟦<PgInterval as Decode>⟧.view ≡ (λ v. v) }
     ensures parsed { ⟦<PgInterval as Plain>⟧.parse ≡ without_memory parse_interval }
 {}
@@ -30,18 +29,12 @@ pub fn pg_interval_is_an_interval()
 pub fn duration_is_an_interval()
     ensures types { IsBuiltIn 1186 ⟦<Duration as Type>⟧.info ⟦<Duration as Type>⟧.accepts }
     ensures arrays { IsBuiltIn 1187 ⟦<Duration as PgHasArrayType>⟧.array_info ⟦<Duration as PgHasArrayType>⟧.accepts_array }
-    ensures written { ⟦<Duration as Encode>⟧.image ≡ (λ v. duration_image (pos (as_nanos v))) }
-    ensures hint { ⟦<Duration as Encode>⟧.hint ≡ (λ _. 16) }
-    ensures produced { ⟦<Duration as Encode>⟧.produced ≡ (λ _. None) }
-    ensures unwritten { (⟦<Duration as Encode>⟧.unwritable ≡ (λ v. Some (duration_refused (pos (as_nanos v))))) × (⟦<Duration as Encode>⟧.asks_first ≡ (λ _. false)) }
+    ensures written { ⟦<Duration as Encode>⟧.encoding ≡ (λ v. with_hint 16 (duration_image (pos (as_nanos v)))) }
 {}
 
 /// A `SignedDuration` is an interval (OID 1186), and is written or refused as a `Duration` is.
 pub fn signed_duration_is_an_interval()
     ensures types { IsBuiltIn 1186 ⟦<SignedDuration as Type>⟧.info ⟦<SignedDuration as Type>⟧.accepts }
     ensures arrays { IsBuiltIn 1187 ⟦<SignedDuration as PgHasArrayType>⟧.array_info ⟦<SignedDuration as PgHasArrayType>⟧.accepts_array }
-    ensures written { ⟦<SignedDuration as Encode>⟧.image ≡ (λ v. duration_image (signed_nanos v)) }
-    ensures hint { ⟦<SignedDuration as Encode>⟧.hint ≡ (λ _. 16) }
-    ensures produced { ⟦<SignedDuration as Encode>⟧.produced ≡ (λ _. None) }
-    ensures unwritten { (⟦<SignedDuration as Encode>⟧.unwritable ≡ (λ v. Some (duration_refused (signed_nanos v)))) × (⟦<SignedDuration as Encode>⟧.asks_first ≡ (λ _. false)) }
+    ensures written { ⟦<SignedDuration as Encode>⟧.encoding ≡ (λ v. with_hint 16 (duration_image (signed_nanos v))) }
 {}

@@ -1,10 +1,11 @@
 //! Laws that say what networks and addresses are, as [`rows`](super::rows) does for other types.
 
-ghost use Rattle.std.specs.Prelude.{◌≡◌, None};
+ghost use Rattle.std.specs.Prelude.{◌≡◌};
 ghost use Rattle.pgv_types.specs.Ty.{Ty, builtin};
 ghost use Rattle.pgv_text.specs.NetworkText.{network_of};
 ghost use Rattle.pgv_value.specs.Outcome.{without_memory};
 ghost use Rattle.pgv_value.specs.NetworkBinary.{parse_address, parse_network};
+ghost use Rattle.pgv_codec.specs.Encoding.{with_hint, writes};
 ghost use Rattle.pgv_codec.specs.NetworkBinary.{address_hint, address_image, is_network, is_network_array, network_hint, network_image};
 
 use pgv_codec::{Decode, Encode, PgHasArrayType, Plain, Type};
@@ -18,9 +19,7 @@ pub fn network_is_an_inet()
     ensures accepts { (t : Ty) → ⟦<IpNetwork as Type>⟧.accepts t ≡ is_network t }
     ensures arrays { ⟦<IpNetwork as PgHasArrayType>⟧.array_info ≡ builtin 1041 }
     ensures accepts_arrays { (t : Ty) → ⟦<IpNetwork as PgHasArrayType>⟧.accepts_array t ≡ is_network_array t }
-    ensures written { ⟦<IpNetwork as Encode>⟧.image ≡ (λ v. network_image (network_of v)) }
-    ensures hint { ⟦<IpNetwork as Encode>⟧.hint ≡ (λ v. network_hint (network_of v)) }
-    ensures produced { ⟦<IpNetwork as Encode>⟧.produced ≡ (λ _. None) }
+    ensures written { ⟦<IpNetwork as Encode>⟧.encoding ≡ (λ v. with_hint (network_hint (network_of v)) (writes (network_image (network_of v)))) }
     ensures view { ⟦<IpNetwork as Decode>⟧.view ≡ network_of }
     ensures parsed { ⟦<IpNetwork as Plain>⟧.parse ≡ without_memory parse_network }
 {}
@@ -32,9 +31,7 @@ pub fn address_is_an_inet()
     ensures accepts { (t : Ty) → ⟦<IpAddr as Type>⟧.accepts t ≡ is_network t }
     ensures arrays { ⟦<IpAddr as PgHasArrayType>⟧.array_info ≡ builtin 1041 }
     ensures accepts_arrays { (t : Ty) → ⟦<IpAddr as PgHasArrayType>⟧.accepts_array t ≡ is_network_array t }
-    ensures written { ⟦<IpAddr as Encode>⟧.image ≡ address_image }
-    ensures hint { ⟦<IpAddr as Encode>⟧.hint ≡ address_hint }
-    ensures produced { ⟦<IpAddr as Encode>⟧.produced ≡ (λ _. None) }
+    ensures written { ⟦<IpAddr as Encode>⟧.encoding ≡ (λ v. with_hint (address_hint v) (writes (address_image v))) }
     ensures view { ⟦<IpAddr as Decode>⟧.view ≡ (λ v. v) }
     ensures parsed { ⟦<IpAddr as Plain>⟧.parse ≡ without_memory parse_address }
 {}

@@ -9,13 +9,12 @@ ghost use Rattle.std.specs.Prelude.{◌≡◌, option_map, string_bytes, map};
 ghost use Rattle.std.specs.Int.{w8, w16, w32, w64};
 ghost use Rattle.pgv_types.specs.Ty.{Ty, builtin};
 ghost use Rattle.pgv_types.specs.declared.oid.Oid.{Oid};
-ghost use Rattle.pgv_value.specs.Outcome.{error_of, reading_of, takes_of, without_memory};
+ghost use Rattle.pgv_value.specs.Outcome.{without_memory};
 ghost use Rattle.pgv_value.specs.ScalarGrammar.{parse_bool, parse_char, parse_int, parse_oid, parse_uuid};
 ghost use Rattle.pgv_value.specs.Utf8.{parse_text};
 ghost use Rattle.pgv_nest.specs.ArrayGrammar.{parse_array, parse_sized};
-ghost use Rattle.pgv_codec.specs.Image.{array_image, sized_image, option_image, option_hint, option_produced};
+ghost use Rattle.pgv_codec.specs.Encoding.{array_image, option_encoding, plainly, sized_image, writes};
 ghost use Rattle.pgv_codec.specs.Nullable.{nullable};
-ghost use Rattle.pgv_codec.specs.Refusing.{array_asks_first, array_refused, option_asks_first, option_unwritable};
 ghost use Rattle.pgv_codec.specs.TypeRow.{IsBuiltIn, IsWrittenAs};
 ghost use Rattle.pgv_codec.specs.ScalarBinary.{bool_image, signed_image, unsigned_image, text_image, uuid_image, is_text, is_text_array};
 
@@ -25,7 +24,7 @@ use pgv_codec::{Decode, Encode, PgHasArrayType, Plain, Type};
 pub fn bool_is_a_boolean()
     ensures types { IsBuiltIn 16 ⟦<bool as Type>⟧.info ⟦<bool as Type>⟧.accepts }
     ensures arrays { IsBuiltIn 1000 ⟦<bool as PgHasArrayType>⟧.array_info ⟦<bool as PgHasArrayType>⟧.accepts_array }
-    ensures written { IsWrittenAs bool_image ⟦<bool as Encode>⟧.hint ⟦<bool as Encode>⟧.image ⟦<bool as Encode>⟧.produced }
+    ensures written { IsWrittenAs (λ v. writes (bool_image v)) ⟦<bool as Encode>⟧.encoding }
     ensures view { ⟦<bool as Decode>⟧.view ≡ (λ v. v) }
     ensures parsed { ⟦<bool as Plain>⟧.parse ≡ without_memory parse_bool }
 {}
@@ -34,7 +33,7 @@ pub fn bool_is_a_boolean()
 pub fn i8_is_a_char()
     ensures types { IsBuiltIn 18 ⟦<i8 as Type>⟧.info ⟦<i8 as Type>⟧.accepts }
     ensures arrays { IsBuiltIn 1002 ⟦<i8 as PgHasArrayType>⟧.array_info ⟦<i8 as PgHasArrayType>⟧.accepts_array }
-    ensures written { IsWrittenAs (signed_image w8) ⟦<i8 as Encode>⟧.hint ⟦<i8 as Encode>⟧.image ⟦<i8 as Encode>⟧.produced }
+    ensures written { IsWrittenAs (λ v. writes (signed_image w8 v)) ⟦<i8 as Encode>⟧.encoding }
     ensures view { ⟦<i8 as Decode>⟧.view ≡ (λ v. v) }
     ensures parsed { ⟦<i8 as Plain>⟧.parse ≡ without_memory parse_char }
 {}
@@ -43,7 +42,7 @@ pub fn i8_is_a_char()
 pub fn i16_is_an_int2()
     ensures types { IsBuiltIn 21 ⟦<i16 as Type>⟧.info ⟦<i16 as Type>⟧.accepts }
     ensures arrays { IsBuiltIn 1005 ⟦<i16 as PgHasArrayType>⟧.array_info ⟦<i16 as PgHasArrayType>⟧.accepts_array }
-    ensures written { IsWrittenAs (signed_image w16) ⟦<i16 as Encode>⟧.hint ⟦<i16 as Encode>⟧.image ⟦<i16 as Encode>⟧.produced }
+    ensures written { IsWrittenAs (λ v. writes (signed_image w16 v)) ⟦<i16 as Encode>⟧.encoding }
     ensures view { ⟦<i16 as Decode>⟧.view ≡ (λ v. v) }
     ensures parsed { ⟦<i16 as Plain>⟧.parse ≡ without_memory (parse_int w16) }
 {}
@@ -52,7 +51,7 @@ pub fn i16_is_an_int2()
 pub fn i32_is_an_int4()
     ensures types { IsBuiltIn 23 ⟦<i32 as Type>⟧.info ⟦<i32 as Type>⟧.accepts }
     ensures arrays { IsBuiltIn 1007 ⟦<i32 as PgHasArrayType>⟧.array_info ⟦<i32 as PgHasArrayType>⟧.accepts_array }
-    ensures written { IsWrittenAs (signed_image w32) ⟦<i32 as Encode>⟧.hint ⟦<i32 as Encode>⟧.image ⟦<i32 as Encode>⟧.produced }
+    ensures written { IsWrittenAs (λ v. writes (signed_image w32 v)) ⟦<i32 as Encode>⟧.encoding }
     ensures view { ⟦<i32 as Decode>⟧.view ≡ (λ v. v) }
     ensures parsed { ⟦<i32 as Plain>⟧.parse ≡ without_memory (parse_int w32) }
 {}
@@ -61,7 +60,7 @@ pub fn i32_is_an_int4()
 pub fn i64_is_an_int8()
     ensures types { IsBuiltIn 20 ⟦<i64 as Type>⟧.info ⟦<i64 as Type>⟧.accepts }
     ensures arrays { IsBuiltIn 1016 ⟦<i64 as PgHasArrayType>⟧.array_info ⟦<i64 as PgHasArrayType>⟧.accepts_array }
-    ensures written { IsWrittenAs (signed_image w64) ⟦<i64 as Encode>⟧.hint ⟦<i64 as Encode>⟧.image ⟦<i64 as Encode>⟧.produced }
+    ensures written { IsWrittenAs (λ v. writes (signed_image w64 v)) ⟦<i64 as Encode>⟧.encoding }
     ensures view { ⟦<i64 as Decode>⟧.view ≡ (λ v. v) }
     ensures parsed { ⟦<i64 as Plain>⟧.parse ≡ without_memory (parse_int w64) }
 {}
@@ -70,7 +69,7 @@ pub fn i64_is_an_int8()
 pub fn oid_is_an_oid()
     ensures types { IsBuiltIn 26 ⟦<pgv_types::Oid as Type>⟧.info ⟦<pgv_types::Oid as Type>⟧.accepts }
     ensures arrays { IsBuiltIn 1028 ⟦<pgv_types::Oid as PgHasArrayType>⟧.array_info ⟦<pgv_types::Oid as PgHasArrayType>⟧.accepts_array }
-    ensures written { IsWrittenAs (λ o. unsigned_image w32 o.0) ⟦<pgv_types::Oid as Encode>⟧.hint ⟦<pgv_types::Oid as Encode>⟧.image ⟦<pgv_types::Oid as Encode>⟧.produced }
+    ensures written { IsWrittenAs (λ o. writes (unsigned_image w32 o.0)) ⟦<pgv_types::Oid as Encode>⟧.encoding }
     ensures view { ⟦<pgv_types::Oid as Decode>⟧.view ≡ (λ o. o.0) }
     ensures parsed { ⟦<pgv_types::Oid as Plain>⟧.parse ≡ without_memory parse_oid }
 {}
@@ -79,7 +78,7 @@ pub fn oid_is_an_oid()
 pub fn uuid_is_a_uuid()
     ensures types { IsBuiltIn 2950 ⟦<uuid::Uuid as Type>⟧.info ⟦<uuid::Uuid as Type>⟧.accepts }
     ensures arrays { IsBuiltIn 2951 ⟦<uuid::Uuid as PgHasArrayType>⟧.array_info ⟦<uuid::Uuid as PgHasArrayType>⟧.accepts_array }
-    ensures written { IsWrittenAs uuid_image ⟦<uuid::Uuid as Encode>⟧.hint ⟦<uuid::Uuid as Encode>⟧.image ⟦<uuid::Uuid as Encode>⟧.produced }
+    ensures written { IsWrittenAs (λ v. writes (uuid_image v)) ⟦<uuid::Uuid as Encode>⟧.encoding }
     ensures view { ⟦<uuid::Uuid as Decode>⟧.view ≡ (λ v. v) }
     ensures parsed { ⟦<uuid::Uuid as Plain>⟧.parse ≡ without_memory parse_uuid }
 {}
@@ -91,7 +90,7 @@ pub fn string_is_a_text()
     ensures accepts { (t : Ty) → ⟦<String as Type>⟧.accepts t ≡ is_text t }
     ensures arrays { ⟦<String as PgHasArrayType>⟧.array_info ≡ builtin 1009 }
     ensures accepts_arrays { (t : Ty) → ⟦<String as PgHasArrayType>⟧.accepts_array t ≡ is_text_array t }
-    ensures written { IsWrittenAs (λ s. text_image (string_bytes s)) ⟦<String as Encode>⟧.hint ⟦<String as Encode>⟧.image ⟦<String as Encode>⟧.produced }
+    ensures written { IsWrittenAs (λ s. writes (text_image (string_bytes s))) ⟦<String as Encode>⟧.encoding }
     ensures view { ⟦<String as Decode>⟧.view ≡ (λ s. string_bytes s) }
     ensures parsed { ⟦<String as Plain>⟧.parse ≡ parse_text }
 {}
@@ -107,38 +106,32 @@ pub fn plain_types_are_parsed<T: Plain>()
 pub fn option_may_be_null<T: Type + Encode + Decode + PgHasArrayType>()
     ensures types { (⟦<Option<T> as Type>⟧.info ≡ T.info) × (⟦<Option<T> as Type>⟧.accepts ≡ T.accepts) }
     ensures arrays { (⟦<Option<T> as PgHasArrayType>⟧.array_info ≡ T.array_info) × (⟦<Option<T> as PgHasArrayType>⟧.accepts_array ≡ T.accepts_array) }
-    ensures written { ⟦<Option<T> as Encode>⟧.image ≡ option_image T.image }
-    ensures hint { ⟦<Option<T> as Encode>⟧.hint ≡ option_hint T.hint }
-    ensures produced { ⟦<Option<T> as Encode>⟧.produced ≡ option_produced T.produced T.info }
+    ensures written { ⟦<Option<T> as Encode>⟧.encoding ≡ option_encoding T.info T.encoding }
     ensures view { ⟦<Option<T> as Decode>⟧.view ≡ option_map T.view }
     ensures parsed { ⟦<Option<T> as Decode>⟧.parse ≡ nullable T.parse }
-    ensures unwritten { (⟦<Option<T> as Encode>⟧.unwritable ≡ option_unwritable T.unwritable) × (⟦<Option<T> as Encode>⟧.asks_first ≡ option_asks_first T.asks_first) }
 {}
 
 /// A `&T` has the types of `T`, and is written or refused as the value that it refers to.
 pub fn reference_is_its_value<'a, T: Type + Encode + PgHasArrayType>()
     ensures types { (⟦<&'a T as Type>⟧.info ≡ T.info) × (⟦<&'a T as Type>⟧.accepts ≡ T.accepts) }
     ensures arrays { (⟦<&'a T as PgHasArrayType>⟧.array_info ≡ T.array_info) × (⟦<&'a T as PgHasArrayType>⟧.accepts_array ≡ T.accepts_array) }
-    ensures written { (⟦<&'a T as Encode>⟧.image ≡ (λ r. T.image r.now)) × (⟦<&'a T as Encode>⟧.hint ≡ (λ r. T.hint r.now)) × (⟦<&'a T as Encode>⟧.produced ≡ (λ r. T.produced r.now)) }
-    ensures unwritten { (⟦<&'a T as Encode>⟧.unwritable ≡ (λ r. T.unwritable r.now)) × (⟦<&'a T as Encode>⟧.asks_first ≡ (λ r. T.asks_first r.now)) }
+    ensures written { ⟦<&'a T as Encode>⟧.encoding ≡ (λ r. T.encoding r.now) }
 {}
 
 /// A `Vec<T>` has the type of `T`'s arrays, and is written and read as an array of one dimension.
 pub fn list_is_an_array<T: Type + Encode + Decode + PgHasArrayType>()
     ensures types { (⟦<Vec<T> as Type>⟧.info ≡ T.array_info) × (⟦<Vec<T> as Type>⟧.accepts ≡ T.accepts_array) }
-    ensures written { IsWrittenAs (λ v. array_image T.hint T.image T.produced T.info v.items) ⟦<Vec<T> as Encode>⟧.hint ⟦<Vec<T> as Encode>⟧.image ⟦<Vec<T> as Encode>⟧.produced }
+    ensures written { ⟦<Vec<T> as Encode>⟧.encoding ≡ (λ v. plainly (array_image T.info (map T.encoding v.items))) }
     ensures view { ⟦<Vec<T> as Decode>⟧.view ≡ (λ v. map T.view v.items) }
     ensures parsed { ⟦<Vec<T> as Decode>⟧.parse ≡ parse_array T.info T.parse }
-    ensures unwritten { (⟦<Vec<T> as Encode>⟧.unwritable ≡ (λ v. array_refused T.hint T.image T.unwritable v.items)) × (⟦<Vec<T> as Encode>⟧.asks_first ≡ (λ v. array_asks_first v.items)) }
 {}
 
 /// A `[T; N]` has the type of `T`'s arrays, and is written and read as an array of `N` elements.
 pub fn sized_array_is_an_array<T: Type + Encode + Decode + PgHasArrayType, const N: usize>()
     ensures types { (⟦<[T; N] as Type>⟧.info ≡ T.array_info) × (⟦<[T; N] as Type>⟧.accepts ≡ T.accepts_array) }
-    ensures written { IsWrittenAs (sized_image N T.hint T.image T.produced T.info) ⟦<[T; N] as Encode>⟧.hint ⟦<[T; N] as Encode>⟧.image ⟦<[T; N] as Encode>⟧.produced }
+    ensures written { ⟦<[T; N] as Encode>⟧.encoding ≡ (λ v. plainly (sized_image N T.info (map T.encoding v))) }
     ensures view { ⟦<[T; N] as Decode>⟧.view ≡ map T.view }
     ensures parsed { ⟦<[T; N] as Decode>⟧.parse ≡ parse_sized N T.info T.parse }
-    ensures unwritten { (⟦<[T; N] as Encode>⟧.unwritable ≡ array_refused T.hint T.image T.unwritable) × (⟦<[T; N] as Encode>⟧.asks_first ≡ array_asks_first) }
 {}
 
 /// A tuple is a record (OID 2249), and its arrays are `record[]` (2287). The law

@@ -2,7 +2,6 @@
 
 ghost use Rattle.pgv_nest.specs.NestText.{IsArrayInText, IsRecordInText, IsSizedInText, TextIs};
 ghost use Rattle.pgv_nest.specs.RecordGrammar.{parse_record};
-ghost use Rattle.pgv_value.specs.declared.value.PgValueFormat.TheVariants.{Text};
 
 use pgv_codec::{Decode, FieldList, Type};
 use pgv_text::laws::{array_is_its_values, record_is_its_values};

@@ -1,5 +1,5 @@
 -- Levels that are neither stars nor begin with `!`.
-use Rattle.std.proofs.Common.{◌≡◌, ◌≢◌, ◌⊎◌, inl, inr, ◌∙◌, ap, ℕ, Bool, false, true, List, [], ◌∷◌, length, refl, sym}
+use Rattle.std.proofs.Common.{◌≡◌, ◌≢◌, ◌⊎◌, inl, inr, ◌∙◌, ap, ℕ, Bool, false, true, List, [], ◌∷◌, length, refl}
 use Rattle.std.specs.Prelude.{◌==◌, Ok, Err}
 use Rattle.std.proofs.lemmas.Bool.{ne_eqb}
 use Rattle.pgv_value.specs.declared.tree_error.PgLQueryParseError.{PgLQueryParseError}

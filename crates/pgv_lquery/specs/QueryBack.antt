@@ -2,7 +2,6 @@
 -- and no level of some variants begins with an empty label.
 use Rattle.std.specs.Prelude.{◌≡◌, ℕ, not, ◌&&◌, ◌==◌, Bool, true, false, List, [], ◌∷◌, ◌++◌, map, Some, Ok, refl}
 use Rattle.std.specs.List.{join_with_byte, list_all}
-use Rattle.std.specs.Result.{result_ok}
 use Rattle.std.proofs.Common.{ap, ◌∙◌}
 use Rattle.std.proofs.lemmas.Bool.{false≢true, not-true, and_parts}
 use Rattle.pgv_types.specs.Ty.{Ty}
@@ -11,10 +10,10 @@ use Rattle.pgv_buf.specs.Tokens.{bytes}
 use Rattle.pgv_value.specs.FrameBinary.{Part}
 use Rattle.pgv_value.specs.Outcome.{ok_of, reading_of}
 use Rattle.pgv_value.specs.declared.value.PgValueFormat.TheVariants.{Binary}
-use Rattle.pgv_codec.specs.Back.{ReadsBack}
+use Rattle.pgv_codec.specs.Back.{ReadsBack, image_is}
 use Rattle.pgv_codec.specs.BackParts.{guarded}
 use Rattle.pgv_codec.specs.BackScalars.{part_is}
-use Rattle.pgv_codec.specs.Image.{image_of}
+use Rattle.pgv_codec.specs.Encoding.{image_of, plainly, writes}
 use Rattle.pgv_ltree.specs.Ascii.{ascii_is_utf8}
 use Rattle.pgv_ltree.specs.Joins.{other_char}
 use Rattle.pgv_ltree.specs.Labels.{is_label, is_label_char}
@@ -73,7 +72,7 @@ printed_again (l ∷ levels) e c = query_again l levels e (each_needs (l ∷ lev
 binary_again : (levels : List Level) → is_query levels ≡ true → comes_back levels ≡ true → (query_in_binary (1 ∷ printed_query levels)).answer ≡ Ok levels
 binary_again levels e c = rw (ascii_is_utf8 (printed_query levels) (query_ascii levels e)) (rw (printed_again levels e c) refl)
 
-pub query_back : ReadsBack query_image (reading_of parse_query) (λ levels. levels) query_fits
+pub query_back : ReadsBack (λ levels. plainly (writes (query_image levels))) (reading_of parse_query) (λ levels. levels) query_fits
 query_back levels i t p os e whole small fit =
-    let g = guarded (is_query levels) (Some (image_of (bytes (1 ∷ printed_query levels)))) i e in
+    let g = guarded (is_query levels) (Some (image_of (bytes (1 ∷ printed_query levels)))) i (image_is (query_image levels) i e) in
     ap (λ (part : Part). reading_of parse_query t Binary part) (part_is (1 ∷ printed_query levels) i p os g.1) ∙ ap ok_of (binary_again levels g.0 fit)

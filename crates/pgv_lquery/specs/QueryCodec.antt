@@ -4,7 +4,7 @@
 use Rattle.std.specs.Prelude.{ℕ, codes, if◌then◌else◌, List, ◌∷◌, Option, Some, None, Result, Ok, Err}
 use Rattle.pgv_types.specs.Ty.{Ty, named}
 use Rattle.pgv_buf.specs.Tokens.{bytes}
-use Rattle.pgv_codec.specs.Image.{Image, image_of}
+use Rattle.pgv_codec.specs.Encoding.{Image, image_of}
 use Rattle.pgv_value.specs.Formats.{in_both_formats}
 use Rattle.pgv_value.specs.Outcome.{Outcome, after, exactly, ◌>>=◌}
 use Rattle.pgv_value.specs.Parsed.{Parsed}

@@ -1,13 +1,13 @@
 //! Laws of queries of label trees and of their text. Each is the contract of a function that does nothing but look at a
 //! query.
 
-ghost use Rattle.std.specs.Prelude.{◌≡◌, ◌↔◌, ◌&&◌, List, true, None};
+ghost use Rattle.std.specs.Prelude.{◌≡◌, ◌↔◌, ◌&&◌, List, true};
 ghost use Rattle.std.specs.List.{list_all};
 ghost use Rattle.std.specs.Iterator.{AlwaysYields};
 ghost use Rattle.pgv_types.specs.Ty.{Ty};
 ghost use Rattle.pgv_types.specs.Relations.{softly};
 ghost use Rattle.pgv_types.specs.declared.oid.Oid.{Oid};
-ghost use Rattle.pgv_value.specs.Outcome.{reading_of, error_of, takes_of};
+ghost use Rattle.pgv_codec.specs.Encoding.{plainly, writes};
 ghost use Rattle.pgv_lquery.specs.Laws.{LevelIsRead, OneLevel, OneQuery, OneVariant, PrintedQueryIsRead, QueryIsRead, ReadQueryIsReadAgain, VariantIsRead};
 ghost use Rattle.pgv_lquery.specs.LevelView.{level_of};
 ghost use Rattle.pgv_lquery.specs.Queries.{Level, is_count, is_level, is_query, is_variant};
@@ -24,9 +24,7 @@ pub fn lquery_is_an_lquery()
     ensures accepts { (t : Ty) → ⟦<crate::PgLQuery as Type>⟧.accepts t ≡ softly t lquery }
     ensures arrays { ⟦<crate::PgLQuery as PgHasArrayType>⟧.array_info ≡ lquery_array }
     ensures accepts_arrays { (t : Ty) → ⟦<crate::PgLQuery as PgHasArrayType>⟧.accepts_array t ≡ softly t lquery_array }
-    ensures written { (v : List Level) → ⟦<crate::PgLQuery as Encode>⟧.image v ≡ query_image v }
-    ensures hint { (v : List Level) → ⟦<crate::PgLQuery as Encode>⟧.hint v ≡ 0 }
-    ensures produced { (v : List Level) → ⟦<crate::PgLQuery as Encode>⟧.produced v ≡ None }
+    ensures written { (v : List Level) → ⟦<crate::PgLQuery as Encode>⟧.encoding v ≡ plainly (writes (query_image v)) }
     ensures view { ⟦<crate::PgLQuery as Decode>⟧.view ≡ (λ v. v) }
     ensures parsed { ⟦<crate::PgLQuery as Decode>⟧.parse ≡ parse_query }
     ensures kept { ⟦<crate::PgLQuery as ReadBack>⟧.kept ≡ (λ v. v) }

@@ -1,6 +1,6 @@
 //! The levels of a query (PostgreSQL, "ltree", lquery).
 
-ghost use Rattle.std.specs.Prelude.{◌≡◌, ◌⊎◌, false, true, IfOk, IfErr, Ok, Err, Some, option_map};
+ghost use Rattle.std.specs.Prelude.{◌≡◌, false, IfOk, IfErr, Ok, Err, Some, option_map};
 ghost use Rattle.pgv_value.specs.declared.tree_error.PgLQueryParseError.TheVariants.{Memory};
 ghost use Rattle.pgv_ltree.specs.Each.{GivesRead};
 ghost use Rattle.pgv_lquery.specs.LevelView.{level_of};

@@ -1,6 +1,6 @@
 //! Queries of label trees (PostgreSQL, "ltree", lquery).
 
-ghost use Rattle.std.specs.Prelude.{◌≡◌, ◌⊎◌, ◌↔◌, ◌<◌, ◌++◌, ◌∷◌, [], List, ℕ, length, map, IfOk, IfErr, OnOk, OnErr, IsSome, Ok, Err, Some, option_map, true, false};
+ghost use Rattle.std.specs.Prelude.{◌≡◌, ◌⊎◌, ◌↔◌, ◌<◌, ◌++◌, ◌∷◌, [], List, ℕ, length, map, IfOk, IfErr, OnOk, OnErr, IsSome, Ok, Err, Some, option_map, true};
 ghost use Rattle.std.specs.Iterator.{Drains, IsFinite, YieldsThen};
 ghost use Rattle.std.specs.Option.{option_to_list};
 ghost use Rattle.std.specs.Vec.Iter.{into_iter_items, into_iter_len};

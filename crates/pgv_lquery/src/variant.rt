@@ -1,6 +1,6 @@
 //! The variants of a level (PostgreSQL, "ltree", lquery).
 
-ghost use Rattle.std.specs.Prelude.{◌≡◌, ◌+◌, ◌⊎◌, IfOk, IfErr, OnOk, OnErr, Ok, Err, Some, take, drop, true};
+ghost use Rattle.std.specs.Prelude.{◌≡◌, ◌+◌, IfErr, OnOk, OnErr, Ok, Err, Some, take, drop, true};
 ghost use Rattle.std.specs.List.{list_all, position};
 ghost use Rattle.pgv_value.specs.declared.tree_error.PgLQueryParseError.TheVariants.{Memory};
 ghost use Rattle.pgv_ltree.specs.Each.{GivesRead};

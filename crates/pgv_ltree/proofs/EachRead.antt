@@ -1,7 +1,7 @@
 -- Texts that are read one after another.
 use Rattle.std.proofs.Common.{◌≡◌, ◌⊎◌, inl, inr, ◌∙◌, ap, ℕ, zero, suc, ◌<◌, List, [], ◌∷◌, ◌++◌, length, get_or, take, drop, sym, refl, arith}
 use Rattle.std.specs.Prelude.{Bool, true, false, Result, Ok, Err}
-use Rattle.pgv_codec.proofs.Refusing.{not_both}
+use Rattle.std.proofs.lemmas.Bool.{false≢true}
 use Rattle.pgv_value.specs.declared.tree_error.PgLTreeParseError.{PgLTreeParseError}
 use Rattle.pgv_value.specs.declared.tree_error.PgLTreeParseError.TheVariants.{InvalidLtreeLabel}
 use Rattle.pgv_ltree.specs.Labels.{is_label, label_read}
@@ -62,7 +62,7 @@ module _ {X M E : Type 0} (read : X → Result M E) (good : X → Bool) (passes 
   first_now (y ∷ all) done ms zero x d l at h isnt = rw at isnt
   first_now (y ∷ all) done ms (suc n) x d l at h isnt =
       let g = first_of (read y) (read_each read (take n all)) ms (ap (read_each read) (sym d) ∙ h) in
-      absurd (not_both (good y) (passes y g.value g.is) isnt)
+      absurd (false≢true (sym isnt ∙ passes y g.value g.is))
 
   -- where the text that is read now passes, the first did
   pub first_passed : (all done : List X) (ms : List M) (n : ℕ) (x : X) → done ≡ take n all → n < length all → x ≡ get_or all n x → read_each read done ≡ Ok ms → good x ≡ true → first_is good all ≡ true
@@ -70,7 +70,7 @@ module _ {X M E : Type 0} (read : X → Result M E) (good : X → Bool) (passes 
     where
       by : (b : Bool) → first_is good all ≡ b → first_is good all ≡ true
       by true first = first
-      by false first = absurd (not_both (good x) is (first_now all done ms n x d l at h first))
+      by false first = absurd (false≢true (sym (first_now all done ms n x d l at h first) ∙ is))
 
   -- what refuses the text that is read now refuses them all, or memory ran out after the first passed
   pub each_gives : (memory : E) (all done : List X) (ms : List M) (n : ℕ) (x : X) (e : E) → done ≡ take n all → n < length all → x ≡ get_or all n x → read_each read done ≡ Ok ms →

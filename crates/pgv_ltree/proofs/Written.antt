@@ -1,11 +1,11 @@
 -- What is appended of a tree.
-use Rattle.std.proofs.Common.{◌≡◌, ◌∙◌, ◌+◌, ◌<◌, ℕ, List, [], ◌∷◌, ◌++◌, length, get_or, take, ap, sym, refl, Bool, true, Some}
+use Rattle.std.proofs.Common.{◌≡◌, ◌∙◌, ◌+◌, ◌<◌, ℕ, List, [], ◌∷◌, ◌++◌, length, get_or, take, ap, sym, refl, Bool, true, Ok}
 use Rattle.std.proofs.lemmas.List.{take_more}
 use Rattle.std.proofs.lemmas.List.Folds.{list_all-append}
 use Rattle.std.specs.List.{list_all}
 use Rattle.std.proofs.lemmas.Bool.{and_from}
 use Rattle.pgv_buf.specs.Tokens.{Token, Cell, blank, byte, bytes}
-use Rattle.pgv_codec.specs.Image.{image_of}
+use Rattle.pgv_codec.specs.Encoding.{image_of, writes}
 use Rattle.pgv_codec.specs.PlainBytes.{appended_parts}
 use Rattle.pgv_ltree.specs.Labels.{is_label}
 use Rattle.pgv_ltree.specs.Trees.{printed_tree}
@@ -22,7 +22,7 @@ more_pass p xs i first x l e h k =
 
 -- the version and all labels
 pub written_tree : (was between now : List Cell) (tree labels : List (List ℕ)) → labels ≡ tree → list_all is_label labels ≡ true → between ≡ was ++ blank (byte 1 ∷ []) → now ≡ between ++ blank (bytes (printed_tree labels)) →
-    (ts : List Token) × (tree_image tree ≡ Some (image_of ts)) × (now ≡ was ++ blank ts)
+    (ts : List Token) × ((writes (tree_image tree)).answer ≡ Ok (image_of ts)) × (now ≡ was ++ blank ts)
 written_tree was between now tree labels same each first second =
     let test : list_all is_label tree ≡ true = ap (list_all is_label) (sym same) ∙ each in
     let all = appended_parts was between now (1 ∷ []) (printed_tree labels) first second in

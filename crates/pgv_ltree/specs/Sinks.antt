@@ -5,7 +5,7 @@ use Rattle.std.specs.declared.fmt.Formatter.{Formatter}
 use Rattle.std.proofs.lemmas.Grind.{put_two}
 use Rattle.std.proofs.Common.{sym, ap, ◌∙◌, append_assoc, append-nil}
 use Rattle.pgv_buf.specs.Tokens.{Cell, blank, bytes}
-use Rattle.pgv_codec.specs.Outcome.{Appended}
+use Rattle.pgv_codec.specs.Appending.{Extends}
 
 -- ---- a formatter
 
@@ -23,6 +23,6 @@ module _ {W : Type 0} (took : W → List ℕ → W → Type 0) where
 pub appended_none : (was : List Cell) → was ≡ was ++ blank (bytes [])
 appended_none was = sym (append-nil was)
 
-pub appended_after : (was between now : List Cell) (x : List ℕ) → between ≡ was ++ blank (bytes x) → Appended between now → Appended was now
+pub appended_after : (was between now : List Cell) (x : List ℕ) → between ≡ was ++ blank (bytes x) → Extends between now → Extends was now
 appended_after was between now x first left =
     (blank (bytes x) ++ left.0, left.1 ∙ ap (λ (xs : List Cell). xs ++ left.0) first ∙ append_assoc was (blank (bytes x)) left.0)

@@ -1,16 +1,15 @@
 -- What is written of a tree is read back as it; a tree without labels comes back as one empty label (`tree_kept`).
 use Rattle.std.specs.Prelude.{◌≡◌, ℕ, true, List, [], ◌∷◌, Some, Ok, refl}
 use Rattle.std.specs.List.{list_all}
-use Rattle.std.specs.Result.{result_ok}
 use Rattle.std.proofs.Common.{ap, ◌∙◌}
 use Rattle.pgv_buf.specs.Tokens.{bytes}
 use Rattle.pgv_value.specs.FrameBinary.{Part}
 use Rattle.pgv_value.specs.Outcome.{ok_of, reading_of}
 use Rattle.pgv_value.specs.declared.value.PgValueFormat.TheVariants.{Binary}
-use Rattle.pgv_codec.specs.Back.{ReadsBack, always}
+use Rattle.pgv_codec.specs.Back.{ReadsBack, always, image_is}
 use Rattle.pgv_codec.specs.BackParts.{guarded}
 use Rattle.pgv_codec.specs.BackScalars.{part_is}
-use Rattle.pgv_codec.specs.Image.{image_of}
+use Rattle.pgv_codec.specs.Encoding.{image_of, plainly, writes}
 use Rattle.pgv_ltree.specs.Ascii.{are_ascii, ascii_is_utf8, ascii_joined, is_ascii}
 use Rattle.pgv_ltree.specs.Joins.{wider}
 use Rattle.pgv_ltree.specs.Labels.{is_label, is_label_char}
@@ -35,7 +34,7 @@ binary_again : (labels : List (List ℕ)) → list_all is_label labels ≡ true 
 binary_again labels e =
     rw (ascii_is_utf8 (printed_tree labels) (ascii_joined 46 refl labels (wider is_label are_ascii label_is_ascii labels e))) (text_again labels e)
 
-pub tree_back : ReadsBack tree_image (reading_of parse_tree) tree_kept always
+pub tree_back : ReadsBack (λ tree. plainly (writes (tree_image tree))) (reading_of parse_tree) tree_kept always
 tree_back labels i t p os e whole small fit =
-    let g = guarded (list_all is_label labels) (Some (image_of (bytes (1 ∷ printed_tree labels)))) i e in
+    let g = guarded (list_all is_label labels) (Some (image_of (bytes (1 ∷ printed_tree labels)))) i (image_is (tree_image labels) i e) in
     ap (λ (part : Part). reading_of parse_tree t Binary part) (part_is (1 ∷ printed_tree labels) i p os g.1) ∙ ap ok_of (binary_again labels g.0)

@@ -6,7 +6,7 @@ use Rattle.std.specs.List.{list_all}
 use Rattle.std.specs.Result.{result_ok}
 use Rattle.pgv_types.specs.Ty.{Ty, named}
 use Rattle.pgv_buf.specs.Tokens.{bytes}
-use Rattle.pgv_codec.specs.Image.{Image, image_of}
+use Rattle.pgv_codec.specs.Encoding.{Image, image_of}
 use Rattle.pgv_value.specs.Formats.{in_both_formats}
 use Rattle.pgv_value.specs.Outcome.{Outcome, after, exactly, or_fail, ◌>>=◌}
 use Rattle.pgv_value.specs.Parsed.{Parsed}

@@ -1,6 +1,6 @@
 //! Labels (PostgreSQL, "ltree", Definitions).
 
-ghost use Rattle.std.specs.Prelude.{◌≡◌, ◌⊎◌, IfOk, IfErr, Ok, Err, Some, true, false, string_bytes};
+ghost use Rattle.std.specs.Prelude.{◌≡◌, Ok, Err, Some, true, string_bytes};
 ghost use Rattle.std.specs.List.{list_all};
 ghost use Rattle.pgv_value.specs.declared.tree_error.PgLTreeParseError.TheVariants.{InvalidLtreeLabel, Memory};
 ghost use Rattle.pgv_ltree.specs.Each.{GivesRead};

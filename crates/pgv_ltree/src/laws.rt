@@ -1,11 +1,12 @@
 //! Laws of label trees and of their text. Each is the contract of a function that does nothing but look at a tree.
 
-ghost use Rattle.std.specs.Prelude.{◌≡◌, ◌↔◌, ℕ, List, true, None};
+ghost use Rattle.std.specs.Prelude.{◌≡◌, ◌↔◌, ℕ, List, true};
 ghost use Rattle.std.specs.List.{list_all};
 ghost use Rattle.std.specs.Iterator.{AlwaysYields};
 ghost use Rattle.pgv_types.specs.Ty.{Ty};
 ghost use Rattle.pgv_types.specs.Relations.{softly};
 ghost use Rattle.pgv_types.specs.declared.oid.Oid.{Oid};
+ghost use Rattle.pgv_codec.specs.Encoding.{plainly, writes};
 ghost use Rattle.pgv_ltree.specs.Labels.{is_label};
 ghost use Rattle.pgv_ltree.specs.Laws.{OneTree, PrintedTreeIsRead, TreeIsRead};
 ghost use Rattle.pgv_ltree.specs.TreesBack.{tree_kept};
@@ -20,9 +21,7 @@ pub fn ltree_is_an_ltree()
     ensures accepts { (t : Ty) → ⟦<crate::PgLTree as Type>⟧.accepts t ≡ softly t ltree }
     ensures arrays { ⟦<crate::PgLTree as PgHasArrayType>⟧.array_info ≡ ltree_array }
     ensures accepts_arrays { (t : Ty) → ⟦<crate::PgLTree as PgHasArrayType>⟧.accepts_array t ≡ softly t ltree_array }
-    ensures written { (v : List (List ℕ)) → ⟦<crate::PgLTree as Encode>⟧.image v ≡ tree_image v }
-    ensures hint { (v : List (List ℕ)) → ⟦<crate::PgLTree as Encode>⟧.hint v ≡ 0 }
-    ensures produced { (v : List (List ℕ)) → ⟦<crate::PgLTree as Encode>⟧.produced v ≡ None }
+    ensures written { (v : List (List ℕ)) → ⟦<crate::PgLTree as Encode>⟧.encoding v ≡ plainly (writes (tree_image v)) }
     ensures view { ⟦<crate::PgLTree as Decode>⟧.view ≡ (λ v. v) }
     ensures parsed { ⟦<crate::PgLTree as Plain>⟧.parse ≡ parse_tree }
     ensures kept { ⟦<crate::PgLTree as ReadBack>⟧.kept ≡ tree_kept }

@@ -1,11 +1,11 @@
 //! Trees of labels (PostgreSQL, "ltree", Definitions).
 
-ghost use Rattle.std.specs.Prelude.{◌≡◌, ◌⊎◌, ◌↔◌, ◌<◌, ◌++◌, ◌∷◌, [], List, ℕ, length, IfOk, IfErr, OnOk, OnErr, IsSome, Ok, Err, Some, true, false};
+ghost use Rattle.std.specs.Prelude.{◌≡◌, ◌⊎◌, ◌↔◌, ◌<◌, ◌++◌, ◌∷◌, [], List, ℕ, length, IfOk, IfErr, OnOk, OnErr, IsSome, Ok, Err, Some, true};
 ghost use Rattle.std.specs.Iterator.{Drains, IsFinite, YieldsThen};
 ghost use Rattle.std.specs.List.{list_all};
 ghost use Rattle.std.specs.Option.{option_to_list};
 ghost use Rattle.std.specs.Vec.Iter.{into_iter_items, into_iter_len};
-ghost use Rattle.pgv_value.specs.declared.tree_error.PgLTreeParseError.TheVariants.{InvalidLtreeLabel, Memory};
+ghost use Rattle.pgv_value.specs.declared.tree_error.PgLTreeParseError.TheVariants.{Memory};
 ghost use Rattle.pgv_ltree.specs.Each.{GivesRead, read_each};
 ghost use Rattle.pgv_ltree.specs.Labels.{is_label, label_read};
 ghost use Rattle.pgv_ltree.specs.Taken.{GivesAfterRead, GivesTexts};

@@ -4,7 +4,7 @@ ghost use Rattle.std.specs.Prelude.{⊤, ◌≡◌, ◌++◌, [], List, ℕ, IfE
 ghost use Rattle.std.specs.Fmt.{HasWritten, IsPlainFormatter};
 ghost use Rattle.pgv_buf.specs.Tokens.{blank, bytes};
 ghost use Rattle.pgv_value.specs.declared.error.CodecError.TheVariants.{Memory};
-ghost use Rattle.pgv_codec.specs.Outcome.{Appended};
+ghost use Rattle.pgv_codec.specs.Appending.{Extends};
 
 use pgv_codec::PgArgumentBuffer;
 use pgv_value::CodecError;
@@ -73,7 +73,7 @@ impl Sink for PgArgumentBuffer {
 
     ghost took = { λ was text now. now ≡ was ++ blank (bytes text) };
 
-    ghost left = { Appended };
+    ghost left = { Extends };
 
     ghost refuses = { λ e. e ≡ Memory };
 

@@ -1,5 +1,5 @@
 -- Parameters that are sent back as a row are read back from it.
-use Rattle.std.proofs.Common.{◌≡◌, ℕ, ◌<◌, ◌≤◌, Bool, true, false, List, [], length, get_or, Option, Some, Ok, refl, sym, ap, ◌∙◌, subst, append-nil, arith}
+use Rattle.std.proofs.Common.{◌≡◌, ℕ, ◌<◌, ◌≤◌, Bool, true, false, List, [], length, get_or, Some, Ok, refl, sym, ap, ◌∙◌, subst, append-nil, arith}
 use Rattle.std.specs.Prelude.{◌||◌, not, is_none, flat_map}
 use Rattle.std.specs.List.{slice_get}
 use Rattle.std.proofs.lemmas.List.{length-map}
@@ -12,7 +12,7 @@ use Rattle.pgv_value.specs.Outcome.{Outcome, reading_of}
 use Rattle.pgv_value.proofs.Outcomes.{answer_of}
 use Rattle.pgv_value.specs.ValueView.{Given as Value}
 use Rattle.pgv_value.specs.declared.value.PgValueFormat.TheVariants.{Binary}
-use Rattle.pgv_codec.specs.Image.{Image}
+use Rattle.pgv_codec.specs.Encoding.{Encoding}
 use Rattle.pgv_row.specs.ColumnView.{Column}
 use Rattle.pgv_row.specs.RowView.{Row, value_at}
 use Rattle.pgv_row.specs.Values.{may_read, raw_value, column_value}
@@ -29,7 +29,7 @@ accepted : (b c : Bool) → c ≡ true → not (b || c) ≡ false
 accepted true c e = refl
 accepted false c e = rw e refl
 
-module _ {A M : Type 0} (hint : A → ℕ) (image : A → Option Image) (accepts : Ty → Bool) (parse : Value → Outcome M) (kept : A → M) (fits : A → Ty → List Oid → Type 0) where
+module _ {A M : Type 0} (encoding : A → Encoding) (accepts : Ty → Bool) (parse : Value → Outcome M) (kept : A → M) (fits : A → Ty → List Oid → Type 0) where
   -- what is read of the value at a place
   value_read : (row : Row) (place : ℕ) (v : Value) (m : M) → value_at row place ≡ Some v → accepts v.type_info ≡ true → (parse v).answer ≡ Ok m → (column_value accepts parse row place).answer ≡ Ok m
   unfolding column_value raw_value
@@ -41,14 +41,14 @@ module _ {A M : Type 0} (hint : A → ℕ) (image : A → Option Image) (accepts
       value_at (record { columns = columns; parts = parts }) place ≡ Some (record { bytes = part; type_info = c.type_info; format = c.format })
   there columns parts place c part column_is part_is = rw (column_is, part_is) refl
 
-  come_back : (calls : List Call) (held : HoldsAfter hint image (reading_of parse) kept fits calls) → ColumnsComeBack hint image accepts parse kept fits calls held.parts
+  come_back : (calls : List Call) (held : HoldsAfter encoding (reading_of parse) kept fits calls) → ColumnsComeBack encoding accepts parse kept fits calls held.parts
   come_back calls held columns c place a g v added framed_is given_is column_is binary accepts_is fits_is =
       let back = held.come_back place a g v c.type_info added framed_is given_is fits_is in
       value_read (record { columns = columns; parts = held.parts }) place (record { bytes = back.0; type_info = c.type_info; format = c.format }) (kept v)
       (there columns held.parts place c back.0 column_is back.1) accepts_is (rw binary (answer_of (parse (record { bytes = back.0; type_info = c.type_info; format = Binary })).answer (kept v) back.2))
 
-  pub comes_back : (arguments : List Argument) (bytes : List ℕ) → MainSentence hint image (reading_of parse) kept fits → ((calls : List Call) → framed (after [] calls) ≡ added_in calls) →
-      ((i : ℕ) → get_or bytes i 0 < 256) → bytes ≡ shown (all_tokens arguments) → Proper (all_tokens arguments) → OfImages arguments → ComeBack hint image accepts parse kept fits arguments
+  pub comes_back : (arguments : List Argument) (bytes : List ℕ) → MainSentence encoding (reading_of parse) kept fits → ((calls : List Call) → framed (after [] calls) ≡ added_in calls) →
+      ((i : ℕ) → get_or bytes i 0 < 256) → bytes ≡ shown (all_tokens arguments) → Proper (all_tokens arguments) → OfImages arguments → ComeBack encoding accepts parse kept fits arguments
   comes_back arguments bytes main only_added below is proper images calls portal statement sent results after_is oids_fit sent_by =
       let added : framed arguments ≡ added_in calls = ap framed after_is ∙ only_added calls in
       let held = main calls images.0 (subst (AreFrames images.0) added images.1) (subst (λ (xs : List Argument). Proper (all_tokens xs)) after_is proper) oids_fit in

@@ -1,10 +1,10 @@
 -- Frames that are read one after another are the bytes of their parts, and so the parameters of a Bind.
-use Rattle.std.proofs.Common.{◌≡◌, ℕ, suc, ◌<◌, ◌≤◌, Bool, true, false, nat_lt, List, [], ◌∷◌, ◌++◌, length, get_or, Some, None, Ok, Err, refl, sym, ap, ◌∙◌, subst, append_assoc, append-nil}
+use Rattle.std.proofs.Common.{◌≡◌, ℕ, ◌<◌, ◌≤◌, Bool, true, false, nat_lt, List, [], ◌∷◌, ◌++◌, length, get_or, Ok, Err, refl, sym, ap, ◌∙◌, subst, append_assoc, append-nil}
 use Rattle.std.specs.Prelude.{flat_map, if◌then◌else◌}
 use Rattle.std.specs.List.{AllByRecursion}
-use Rattle.std.specs.Int.{w16, w32, to_be_bytes}
+use Rattle.std.specs.Int.{w16, to_be_bytes}
 use Rattle.std.proofs.lemmas.Bool.{ltb-false}
-use Rattle.pgv_value.specs.FrameBinary.{Part, IsFrame, field_bytes, IsField}
+use Rattle.pgv_value.specs.FrameBinary.{Part, field_bytes, IsField}
 use Rattle.pgv_value.specs.Laws.{AreBytes}
 use Rattle.pgv_value.specs.declared.value.PgValueFormat.{PgValueFormat}
 use Rattle.pgv_value.proofs.Fronts.{front_exactly}

@@ -4,7 +4,7 @@ use Rattle.std.specs.Int.{w16, to_be_bytes}
 use Rattle.std.specs.List.{AllByRecursion}
 use Rattle.pgv_value.specs.FrameBinary.{Part, field_bytes, IsField}
 use Rattle.pgv_value.specs.declared.value.PgValueFormat.{PgValueFormat}
-use Rattle.pgv_codec.specs.Image.{Image}
+use Rattle.pgv_codec.specs.Encoding.{Image}
 use Rattle.pgv_wire.specs.Arguments.{Argument, framed}
 use Rattle.pgv_wire.specs.Parts.{AreFrames, parts_in}
 use Rattle.pgv_message.specs.Messages.{bind}

@@ -1,6 +1,5 @@
 //! Authentication: what a server asks for before a session starts.
 
-ghost use Rattle.std.specs.Prelude.{◌≡◌};
 ghost use Rattle.pgv_value.specs.Parsed.{GivesExactly};
 ghost use Rattle.pgv_message.specs.Bodies.{authentication};
 

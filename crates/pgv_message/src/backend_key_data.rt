@@ -1,6 +1,5 @@
 //! BackendKeyData: what a request to cancel needs.
 
-ghost use Rattle.std.specs.Prelude.{◌≡◌};
 ghost use Rattle.pgv_value.specs.Parsed.{GivesExactly};
 ghost use Rattle.pgv_message.specs.Bodies.{backend_key_data};
 

@@ -1,8 +1,5 @@
 //! Bind: a statement and its parameters become a portal.
 
-ghost use Rattle.std.specs.Prelude.{◌≡◌};
-ghost use Rattle.pgv_buf.specs.Tokens.{shown};
-ghost use Rattle.pgv_wire.specs.Arguments.{all_tokens};
 ghost use Rattle.pgv_message.specs.Messages.{bind};
 ghost use Rattle.pgv_message.specs.Writing.{Sends};
 

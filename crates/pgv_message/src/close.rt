@@ -1,6 +1,5 @@
 //! Close: a statement or a portal is given up.
 
-ghost use Rattle.std.specs.Prelude.{◌≡◌};
 ghost use Rattle.pgv_message.specs.Messages.{close};
 ghost use Rattle.pgv_message.specs.Writing.{Sends};
 

@@ -1,6 +1,5 @@
 //! COPY: its data, its end and its failure.
 
-ghost use Rattle.std.specs.Prelude.{◌≡◌};
 ghost use Rattle.pgv_message.specs.Messages.{bare, copy_data, copy_fail};
 ghost use Rattle.pgv_message.specs.Writing.{Sends};
 

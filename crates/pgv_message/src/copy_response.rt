@@ -1,7 +1,6 @@
 //! CopyOutResponse and CopyInResponse: the formats of a COPY.
 
 ghost use Rattle.pgv_value.specs.Outcome.{Gives};
-ghost use Rattle.pgv_value.specs.Parsed.{GivesExactly};
 ghost use Rattle.pgv_message.specs.CopyFormats.{format_front, formats_front, copy_formats};
 
 use crate::end::check_end;

@@ -1,6 +1,5 @@
 //! Execute: a portal is run.
 
-ghost use Rattle.std.specs.Prelude.{◌≡◌};
 ghost use Rattle.pgv_message.specs.Messages.{execute};
 ghost use Rattle.pgv_message.specs.Writing.{Sends};
 

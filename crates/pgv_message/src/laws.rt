@@ -42,7 +42,7 @@ pub fn parameters_are_arguments(arguments: &PgArguments)
 /// Whatever was added, refused and filled, in any order: `calls` is any list of calls that leaves these arguments. That OIDs are numbers
 /// of 32 bits [`oids_fit`](pgv_codec::laws::oids_fit) says.
 pub fn parameters_come_back<T: Type + ReadBack>(arguments: &PgArguments)
-    ensures { ComeBack T.hint T.image T.accepts T.parse (λ v. T.view (T.kept v)) T.fits
+    ensures { ComeBack T.encoding T.accepts T.parse (λ v. T.view (T.kept v)) T.fits
         arguments.now }
 {
     frames_come_back::<T>(arguments.buffer().as_slice(), arguments);
@@ -51,7 +51,7 @@ pub fn parameters_come_back<T: Type + ReadBack>(arguments: &PgArguments)
 /// The same, of bytes that are the buffer of arguments.
 fn frames_come_back<T: Type + ReadBack>(frames: &[u8], arguments: &PgArguments)
     requires { frames.now ≡ shown (all_tokens arguments.now) }
-    ensures { ComeBack T.hint T.image T.accepts T.parse (λ v. T.view (T.kept v)) T.fits
+    ensures { ComeBack T.encoding T.accepts T.parse (λ v. T.view (T.kept v)) T.fits
         arguments.now }
 {
     main_sentence::<T>();

@@ -1,6 +1,5 @@
 //! NotificationResponse: another session has notified this one.
 
-ghost use Rattle.std.specs.Prelude.{◌≡◌};
 ghost use Rattle.pgv_value.specs.Parsed.{GivesExactly};
 ghost use Rattle.pgv_message.specs.Bodies.{notification, notification_view};
 

@@ -1,6 +1,5 @@
 //! ParameterDescription: the types of a statement's parameters.
 
-ghost use Rattle.std.specs.Prelude.{◌≡◌, true, List, IfOk};
 ghost use Rattle.pgv_value.specs.Outcome.{Gives, IsRead};
 ghost use Rattle.pgv_message.specs.Counted.{oid_front, parameters, AreParameters, oids_front};
 

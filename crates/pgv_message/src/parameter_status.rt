@@ -1,6 +1,5 @@
 //! ParameterStatus: a parameter of the session.
 
-ghost use Rattle.std.specs.Prelude.{◌≡◌};
 ghost use Rattle.pgv_value.specs.Parsed.{GivesExactly};
 ghost use Rattle.pgv_message.specs.Bodies.{parameter_status};
 

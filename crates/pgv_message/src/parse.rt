@@ -1,6 +1,5 @@
 //! Parse: a query becomes a prepared statement.
 
-ghost use Rattle.std.specs.Prelude.{◌≡◌};
 ghost use Rattle.pgv_message.specs.Messages.{parse};
 ghost use Rattle.pgv_message.specs.Writing.{Sends};
 

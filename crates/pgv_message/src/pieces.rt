@@ -1,7 +1,7 @@
 //! Messages as pieces that are appended one after another.
 
 ghost use Rattle.std.specs.Prelude.{◌≡◌, ◌<◌, ◌≤◌, ◌++◌, [], ◌∷◌, length, flat_map, is_ok, IfOk, IfErr, OnErr};
-ghost use Rattle.std.specs.Int.{w16, to_be_bytes};
+ghost use Rattle.std.specs.Int.{to_be_bytes};
 ghost use Rattle.pgv_message.specs.Writing.{Gives, Sends, appended, text_of, count_of, whole, max_body};
 ghost use Rattle.pgv_message.specs.Pieces.{piece_bytes, joined_pieces, format_bytes, format_codes, oid_bytes};
 ghost use Rattle.pgv_message.specs.declared.error.MessageError.TheVariants.{TooLong};

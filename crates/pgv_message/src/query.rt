@@ -1,6 +1,5 @@
 //! Query: the simple query.
 
-ghost use Rattle.std.specs.Prelude.{◌≡◌};
 ghost use Rattle.pgv_message.specs.Messages.{one_text, query};
 ghost use Rattle.pgv_message.specs.Writing.{Sends};
 

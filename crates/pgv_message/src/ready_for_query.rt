@@ -1,6 +1,5 @@
 //! ReadyForQuery: the server is ready for the next query.
 
-ghost use Rattle.std.specs.Prelude.{◌≡◌};
 ghost use Rattle.pgv_value.specs.Parsed.{GivesExactly};
 ghost use Rattle.pgv_message.specs.Bodies.{ready_for_query, status_of};
 

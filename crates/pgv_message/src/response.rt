@@ -1,8 +1,8 @@
 //! ErrorResponse and NoticeResponse: what a server reports.
 
-ghost use Rattle.std.specs.Prelude.{◌≡◌, List, map, option_map, IfOk};
+ghost use Rattle.std.specs.Prelude.{◌≡◌, map, option_map};
 ghost use Rattle.pgv_value.specs.Outcome.{Gives, IsRead};
-ghost use Rattle.pgv_message.specs.Notice.{Field, field_view, fields_of, fields_front, notice, IsNotice, text_by};
+ghost use Rattle.pgv_message.specs.Notice.{field_view, fields_of, fields_front, notice, IsNotice, text_by};
 
 use crate::end::check_end;
 use pgv_value::{CodecError, name_in_front};

@@ -1,6 +1,6 @@
 //! The message that starts a session.
 
-ghost use Rattle.std.specs.Prelude.{◌≡◌, ◌||◌, true, false};
+ghost use Rattle.std.specs.Prelude.{◌≡◌, ◌||◌};
 ghost use Rattle.std.specs.List.{list_any};
 ghost use Rattle.pgv_message.specs.Startup.{startup, setting_has_zero};
 ghost use Rattle.pgv_message.specs.Writing.{Sends, has_zero};

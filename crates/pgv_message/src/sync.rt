@@ -1,6 +1,5 @@
 //! Messages without a body: Sync, Flush and Terminate.
 
-ghost use Rattle.std.specs.Prelude.{◌≡◌};
 ghost use Rattle.pgv_message.specs.Messages.{bare};
 ghost use Rattle.pgv_message.specs.Writing.{Sends};
 

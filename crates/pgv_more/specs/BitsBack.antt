@@ -1,21 +1,22 @@
 -- What is written of bits is read back as them.
-use Rattle.std.specs.Prelude.{◌≡◌, ℕ, ◌*◌, ◌<◌, ◌≤◌, ◌^◌, ◌==◌, nat_le, nat_lt, Bool, true, false, List, ◌++◌, length, drop, Some, Ok, refl}
+use Rattle.std.specs.Prelude.{◌≡◌, ℕ, ◌*◌, ◌<◌, ◌≤◌, ◌^◌, ◌==◌, nat_lt, Bool, true, false, List, ◌++◌, length, drop, Ok, refl}
 use Rattle.std.specs.Int.{w32, to_be_bytes}
 use Rattle.std.proofs.Common.{sym, ap, ◌∙◌, arith}
-use Rattle.std.proofs.lemmas.Bool.{leb-true, le-ltb, eq-eqb}
+use Rattle.std.proofs.lemmas.Bool.{le-ltb, ltb-false, eq-eqb}
 use Rattle.std.proofs.lemmas.List.{length-append, length-drop, take-append-drop, take_at}
 use Rattle.std.proofs.lemmas.Nat.{from_be_bytes-to_be_bytes_4}
 use Rattle.pgv_buf.specs.Tokens.{bytes, be4}
 use Rattle.pgv_codec.specs.Back.{ReadsBack, always}
-use Rattle.pgv_codec.specs.BackParts.{guarded}
 use Rattle.pgv_codec.specs.BackScalars.{part_is}
-use Rattle.pgv_codec.specs.Image.{image_of}
-use Rattle.pgv_value.specs.Outcome.{copied, ok_of, reading_of}
+use Rattle.pgv_codec.specs.Encoding.{image_of, with_hint}
+use Rattle.pgv_value.specs.Outcome.{allocates, copied, done, ok_of, reading_of, ◌>>◌}
 use Rattle.pgv_value.specs.Parsed.{Parsed}
+use Rattle.pgv_value.specs.declared.error.CodecError.TheVariants.{ValueSize}
+use Rattle.pgv_value.proofs.Outcomes.{answer_of, tested}
 use Rattle.pgv_value.specs.FrameBinary.{Part}
 use Rattle.pgv_value.specs.declared.value.PgValueFormat.TheVariants.{Binary}
 use Rattle.pgv_more.specs.Bits.{bits_of, byte_count, packed}
-use Rattle.pgv_more.specs.BitsBinary.{bits_image, bits_in_binary, bit_count}
+use Rattle.pgv_more.specs.BitsBinary.{bits_image, bits_hint, bits_in_binary, bit_count}
 use Rattle.pgv_more.specs.BitsCodec.{parse_bits}
 use Rattle.pgv_more.specs.Packing.{length-bits_of, length-bytes_of, packed_again}
 
@@ -37,8 +38,9 @@ binary_again bits few =
     let parts : all ≡ bits ++ drop n all = sym (take-append-drop n all) ∙ ap (λ (bs : List Bool). bs ++ drop n all) (packed_again bits) in
     binary_there bits (drop n all) (packed bits) (omega arith) (omega (arith, room, length-drop n all)) parts
 
-pub bits_back : ReadsBack bits_image (reading_of parse_bits) (λ bits. bits) always
+pub bits_back : ReadsBack (λ bits. with_hint (bits_hint bits) (bits_image bits)) (reading_of parse_bits) (λ bits. bits) always
 bits_back bits i t p os e whole small fit =
-    let g = guarded (nat_le (length bits) 2147483647) (Some (image_of (bytes (be4 (length bits) ++ packed bits)))) i e in
-    ap (λ (part : Part). reading_of parse_bits t Binary part) (part_is (be4 (length bits) ++ packed bits) i p os g.1)
-    ∙ ap (λ (p : Parsed (List Bool)). ok_of (copied p).answer) (binary_again bits (leb-true (length bits) 2147483647 g.0))
+    let whole = image_of (bytes (be4 (length bits) ++ packed bits)) in
+    let g = tested (nat_lt 2147483647 (length bits)) (ValueSize (length bits)) (allocates true >> done whole) i (answer_of (bits_image bits).answer i e) in
+    ap (λ (part : Part). reading_of parse_bits t Binary part) (part_is (be4 (length bits) ++ packed bits) i p os (ap ok_of g.1))
+    ∙ ap (λ (p : Parsed (List Bool)). ok_of (copied p).answer) (binary_again bits (ltb-false 2147483647 (length bits) g.0))

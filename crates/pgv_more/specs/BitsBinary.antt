@@ -1,15 +1,15 @@
 -- The binary form of lists of bits (PostgreSQL: "Bit String Types", 8.10): the number of bits, signed, in four bytes, the
--- highest first, and then the bits in bytes. A list of more than 2147483647 bits isn't written. The size hint is 4 and the
--- number of bits.
+-- highest first, and then the bits in bytes. A list of more than 2147483647 bits isn't written (C2). The size hint is 4
+-- and the number of bits.
 -- Read (`IsBits`): a number that is not negative, and as many bytes as it needs, whatever fills the last. Laws: what is
 -- computed is exactly this.
-use Rattle.std.specs.Prelude.{◌≡◌, ◌↔◌, ℕ, ◌+◌, ◌<◌, ◌^◌, ◌==◌, min, nat_le, nat_lt, Bool, List, ◌++◌, length, take, drop, Option, Some, None, Ok, Err, if◌then◌else◌}
+use Rattle.std.specs.Prelude.{◌≡◌, ◌↔◌, ℕ, ◌+◌, ◌<◌, ◌^◌, ◌==◌, min, nat_lt, Bool, true, List, ◌++◌, length, take, drop, Ok, Err, if◌then◌else◌}
 use Rattle.std.specs.Int.{w32, from_be_bytes, to_be_bytes, cast_signed}
 use Rattle.pgv_buf.specs.Tokens.{bytes, be4}
-use Rattle.pgv_codec.specs.Image.{Image, image_of}
+use Rattle.pgv_codec.specs.Encoding.{Image, image_of}
 use Rattle.pgv_value.specs.Laws.{AreBytes}
+use Rattle.pgv_value.specs.Outcome.{Outcome, allocates, done, fails_if, ◌>>◌}
 use Rattle.pgv_value.specs.Parsed.{Parsed}
-use Rattle.pgv_value.specs.declared.error.CodecError.{CodecError}
 use Rattle.pgv_value.specs.declared.error.CodecError.TheVariants.{ValueSize, Short, NegativeLength, WrongLength}
 use Rattle.pgv_more.specs.Bits.{bits_of, byte_count, packed}
 
@@ -18,13 +18,12 @@ abbrev pub IsBits : List ℕ → List Bool → Type 0
 IsBits form bits =
     (body : List ℕ) × (padding : List Bool) × (length bits < 2 ^ 31) × (form ≡ to_be_bytes w32 (length bits) ++ body) × (length padding < 8) × (bits_of body ≡ bits ++ padding)
 
--- what is written: zeros fill the last byte; more than 2147483647 bits have no image
-abbrev pub bits_image : List Bool → Option Image
-bits_image bits = if nat_le (length bits) 2147483647 then Some (image_of (bytes (be4 (length bits) ++ packed bits))) else None
-
--- they are C2, with their number
-abbrev pub bits_refused : List Bool → Option CodecError
-bits_refused bits = Some (ValueSize (length bits))
+-- what is written: zeros fill the last byte; more than 2147483647 bits are C2, with their number, and without memory
+abbrev pub bits_image : List Bool → Outcome Image
+bits_image bits = do
+  fails_if (nat_lt 2147483647 (length bits)) (ValueSize (length bits))
+  allocates true
+  done (image_of (bytes (be4 (length bits) ++ packed bits)))
 
 -- four bytes and one for each bit, as many as a number of 64 bits can say
 abbrev pub bits_hint : List Bool → ℕ

@@ -2,7 +2,7 @@
 -- The size hint is 6.
 use Rattle.std.specs.Prelude.{ℕ, ◌==◌, nat_eq, List, length, Option, Some, None, Ok, Err, ok_or, if◌then◌else◌}
 use Rattle.pgv_buf.specs.Tokens.{bytes}
-use Rattle.pgv_codec.specs.Image.{Image, image_of}
+use Rattle.pgv_codec.specs.Encoding.{Image, image_of}
 use Rattle.pgv_value.specs.Parsed.{Parsed}
 use Rattle.pgv_value.specs.ScalarGrammar.{scalar}
 use Rattle.pgv_value.specs.ValueView.{Given}

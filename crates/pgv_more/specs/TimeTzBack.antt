@@ -10,17 +10,18 @@ use Rattle.pgv_types.specs.declared.oid.Oid.{Oid}
 use Rattle.pgv_buf.specs.Tokens.{bytes}
 use Rattle.pgv_value.specs.FrameBinary.{Part}
 use Rattle.pgv_value.specs.NumberBinary.{fits_signed}
-use Rattle.pgv_value.specs.Outcome.{ok_of, reading_of, stated, without_memory}
-use Rattle.pgv_value.specs.Parsed.{Parsed, ◌>>=◌}
+use Rattle.pgv_value.specs.Outcome.{ok_of, or_fail, reading_of, stated, without_memory, ◌>>=◌}
+use Rattle.pgv_value.specs.Parsed.{Parsed, ◌>>=◌ as ◌and_then◌}
 use Rattle.pgv_value.specs.OwnBytes.{eight_again, four_again}
-use Rattle.pgv_value.specs.declared.error.CodecError.TheVariants.{Short}
+use Rattle.pgv_value.specs.declared.error.CodecError.{CodecError}
+use Rattle.pgv_value.specs.declared.error.CodecError.TheVariants.{OffsetRange, Short}
 use Rattle.pgv_value.specs.declared.value.PgValueFormat.TheVariants.{Binary}
-use Rattle.pgv_codec.specs.Back.{ReadsBack, always}
+use Rattle.pgv_codec.specs.Back.{ReadsBack, always, image_is}
 use Rattle.pgv_codec.specs.BackParts.{guarded}
 use Rattle.pgv_codec.specs.BackScalars.{part_is}
 use Rattle.pgv_codec.specs.DateTimeBack.{time_again}
 use Rattle.pgv_codec.specs.DateTimeKept.{time_kept}
-use Rattle.pgv_codec.specs.Image.{Image, image_of}
+use Rattle.pgv_codec.specs.Encoding.{Image, image_of, with_hint, writes}
 use Rattle.pgv_codec.specs.Writing.{written_part}
 use Rattle.pgv_more.specs.TimeTzCodec.{time_tz_numbers, time_tz_image, parse_time_tz, image_of_numbers, bytes_of_numbers, other_way, two_numbers, time_tz_of, time_tz_in_binary}
 use Rattle.pgv_more.specs.declared.time_tz.PgTimeTz.{PgTimeTz}
@@ -59,13 +60,13 @@ record IsWritten (micros seconds : ℤ) (i : Image) (p : Option Ty) (os : List O
   room : fits_signed w64 micros ≡ true
   small : nat_lt (unsigned_abs seconds) 86_400 ≡ true
 
-turned : (micros west : ℤ) (b : Bool) (i : Image) → image_of_numbers micros (if b then Some west else None) ≡ Some i → (b ≡ true) × (image_of_numbers micros (Some west) ≡ Some i)
-turned micros west true i e = (refl, e)
-turned micros west false i e = absurd cc
+turned : (micros west : ℤ) (why : CodecError) (b : Bool) (i : Image) → ok_of (or_fail (if b then Some west else None) why >>= λ w. writes (image_of_numbers micros w)).answer ≡ Some i → (b ≡ true) × (image_of_numbers micros west ≡ Some i)
+turned micros west why true i e = (refl, image_is (image_of_numbers micros west) i e)
+turned micros west why false i e = absurd cc
 
-written : (micros seconds : ℤ) (i : Image) (p : Option Ty) (os : List Oid) → image_of_numbers micros (other_way seconds) ≡ Some i → IsWritten micros seconds i p os
+written : (micros seconds : ℤ) (i : Image) (p : Option Ty) (os : List Oid) → ok_of (or_fail (other_way seconds) (OffsetRange seconds) >>= λ west. writes (image_of_numbers micros west)).answer ≡ Some i → IsWritten micros seconds i p os
 written micros seconds i p os e =
-    let t = turned micros (neg_ℤ seconds) (nat_lt (unsigned_abs seconds) 86_400) i e in
+    let t = turned micros (neg_ℤ seconds) (OffsetRange seconds) (nat_lt (unsigned_abs seconds) 86_400) i e in
     let g = guarded (fits_signed w64 micros) (Some (image_of (bytes (bytes_of_numbers micros (neg_ℤ seconds))))) i t.1 in
     record { part = part_is (bytes_of_numbers micros (neg_ℤ seconds)) i p os g.1; room = g.0; small = t.0 }
 
@@ -76,10 +77,10 @@ again : (v : PgTimeTz) → fits_signed w64 (pos (time_nanos v.time / 1000)) ≡ 
 again v room small =
     let west = neg_ℤ v.offset.seconds in
     let less = turned_small v.offset.seconds small in
-    ap (λ (o : Option (ℤ × ℤ)). (let p : Parsed (ℤ × ℤ) = ok_or o Short in p) >>= time_tz_of) (numbers_again (pos (time_nanos v.time / 1000)) west room (offset_room west less))
+    ap (λ (o : Option (ℤ × ℤ)). (let p : Parsed (ℤ × ℤ) = ok_or o Short in p) and_then time_tz_of) (numbers_again (pos (time_nanos v.time / 1000)) west room (offset_room west less))
     ∙ rw (less, turned_again v.offset.seconds, time_again v.time) refl
 
-pub time_tz_back : ReadsBack {A = PgTimeTz} (λ v. time_tz_image (time_tz_numbers v)) (reading_of (without_memory parse_time_tz)) (λ v. time_tz_numbers (time_tz_kept v)) always
+pub time_tz_back : ReadsBack {A = PgTimeTz} (λ v. with_hint 12 (time_tz_image (time_tz_numbers v))) (reading_of (without_memory parse_time_tz)) (λ v. time_tz_numbers (time_tz_kept v)) always
 time_tz_back v i t p os e whole small fit =
     let w = written (pos (time_nanos v.time / 1000)) v.offset.seconds i p os e in
     ap (λ (part : Part). reading_of (without_memory parse_time_tz) t Binary part) w.part ∙ ap (λ (p : Parsed (ℕ × ℤ)). ok_of (stated p)) (again v w.room w.small)

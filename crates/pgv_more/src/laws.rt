@@ -1,15 +1,15 @@
 //! Laws of bits, MAC addresses, times with offsets, bytes and texts without case. Each is the contract of a function
 //! that does nothing.
 
-ghost use Rattle.std.specs.Prelude.{◌≡◌, ◌↔◌, ℕ, Bool, false, true, List, Some, None, codes, string_bytes};
+ghost use Rattle.std.specs.Prelude.{◌≡◌, ◌↔◌, ℕ, Bool, true, List, codes, string_bytes};
 ghost use Rattle.jiff.specs.Words.{time_nanos};
 ghost use Rattle.pgv_types.specs.Ty.{Ty, builtin, named};
+ghost use Rattle.pgv_codec.specs.Encoding.{with_hint, writes};
 ghost use Rattle.pgv_codec.specs.ScalarBinary.{text_image};
 ghost use Rattle.pgv_codec.specs.TypeRow.{IsBuiltIn, IsWrittenAs};
 ghost use Rattle.pgv_value.specs.Outcome.{without_memory};
-ghost use Rattle.pgv_value.specs.declared.error.CodecError.TheVariants.{OffsetRange};
 ghost use Rattle.pgv_more.specs.ByteaText.{parse_bytea, parse_sized, sized_image, ByteaTextIsRead, OneByteaText};
-ghost use Rattle.pgv_more.specs.BitsBinary.{bits_image, bits_hint, bits_refused, BitsAreRead, OneListOfBits};
+ghost use Rattle.pgv_more.specs.BitsBinary.{bits_image, bits_hint, BitsAreRead, OneListOfBits};
 ghost use Rattle.pgv_more.specs.BitsText.{BitsAreReadOfText};
 ghost use Rattle.pgv_more.specs.BitsCodec.{is_bits, is_bits_array, parse_bits};
 ghost use Rattle.pgv_more.specs.Laws.{PackedIsOne};
@@ -29,21 +29,16 @@ pub fn bit_vec_is_a_varbit()
     ensures accepts { (t : Ty) → ⟦<crate::BitVec as Type>⟧.accepts t ≡ is_bits t }
     ensures arrays { ⟦<crate::BitVec as PgHasArrayType>⟧.array_info ≡ builtin 1563 }
     ensures accepts_arrays { (t : Ty) → ⟦<crate::BitVec as PgHasArrayType>⟧.accepts_array t ≡ is_bits_array t }
-    ensures written { (v : List Bool) → ⟦<crate::BitVec as Encode>⟧.image v ≡ bits_image v }
-    ensures hint { (v : List Bool) → ⟦<crate::BitVec as Encode>⟧.hint v ≡ bits_hint v }
-    ensures produced { (v : List Bool) → ⟦<crate::BitVec as Encode>⟧.produced v ≡ None }
+    ensures written { (v : List Bool) → ⟦<crate::BitVec as Encode>⟧.encoding v ≡ with_hint (bits_hint v) (bits_image v) }
     ensures view { ⟦<crate::BitVec as Decode>⟧.view ≡ (λ v. v) }
     ensures parsed { ⟦<crate::BitVec as Plain>⟧.parse ≡ parse_bits }
-    ensures unwritten { (v : List Bool) → (⟦<crate::BitVec as Encode>⟧.unwritable v ≡ bits_refused v) × (⟦<crate::BitVec as Encode>⟧.asks_first v ≡ false) }
 {}
 
 /// A `MacAddress` is a macaddr (OID 829), its six bytes, as `08002b010203`. Its arrays are `macaddr[]` (1040).
 pub fn mac_address_is_a_macaddr()
     ensures types { IsBuiltIn 829 ⟦<crate::MacAddress as Type>⟧.info ⟦<crate::MacAddress as Type>⟧.accepts }
     ensures arrays { IsBuiltIn 1040 ⟦<crate::MacAddress as PgHasArrayType>⟧.array_info ⟦<crate::MacAddress as PgHasArrayType>⟧.accepts_array }
-    ensures written { (v : List ℕ) → ⟦<crate::MacAddress as Encode>⟧.image v ≡ mac_image v }
-    ensures hint { (v : List ℕ) → ⟦<crate::MacAddress as Encode>⟧.hint v ≡ 6 }
-    ensures produced { (v : List ℕ) → ⟦<crate::MacAddress as Encode>⟧.produced v ≡ None }
+    ensures written { (v : List ℕ) → ⟦<crate::MacAddress as Encode>⟧.encoding v ≡ with_hint 6 (writes (mac_image v)) }
     ensures view { ⟦<crate::MacAddress as Decode>⟧.view ≡ (λ v. v) }
     ensures parsed { ⟦<crate::MacAddress as Plain>⟧.parse ≡ without_memory parse_mac }
 {}
@@ -53,12 +48,9 @@ pub fn mac_address_is_a_macaddr()
 pub fn time_tz_is_a_timetz()
     ensures types { IsBuiltIn 1266 ⟦<crate::PgTimeTz as Type>⟧.info ⟦<crate::PgTimeTz as Type>⟧.accepts }
     ensures arrays { IsBuiltIn 1270 ⟦<crate::PgTimeTz as PgHasArrayType>⟧.array_info ⟦<crate::PgTimeTz as PgHasArrayType>⟧.accepts_array }
-    ensures written { ⟦<crate::PgTimeTz as Encode>⟧.image ≡ (λ v. time_tz_image (time_tz_numbers v)) }
-    ensures hint { ⟦<crate::PgTimeTz as Encode>⟧.hint ≡ (λ _. 12) }
-    ensures produced { ⟦<crate::PgTimeTz as Encode>⟧.produced ≡ (λ _. None) }
+    ensures written { ⟦<crate::PgTimeTz as Encode>⟧.encoding ≡ (λ v. with_hint 12 (time_tz_image (time_tz_numbers v))) }
     ensures view { ⟦<crate::PgTimeTz as Decode>⟧.view ≡ time_tz_numbers }
     ensures parsed { ⟦<crate::PgTimeTz as Plain>⟧.parse ≡ without_memory parse_time_tz }
-    ensures unwritten { (⟦<crate::PgTimeTz as Encode>⟧.unwritable ≡ (λ v. Some (OffsetRange v.offset.seconds))) × (⟦<crate::PgTimeTz as Encode>⟧.asks_first ≡ (λ _. false)) }
     ensures kept { ⟦<crate::PgTimeTz as ReadBack>⟧.kept ≡ (λ v. record { time = time_kept v.time; offset = v.offset }) }
 {}
 
@@ -96,7 +88,7 @@ pub fn one_mac_address()
 pub fn bytea_is_a_bytea()
     ensures types { IsBuiltIn 17 ⟦<crate::PgBytea as Type>⟧.info ⟦<crate::PgBytea as Type>⟧.accepts }
     ensures arrays { IsBuiltIn 1001 ⟦<crate::PgBytea as PgHasArrayType>⟧.array_info ⟦<crate::PgBytea as PgHasArrayType>⟧.accepts_array }
-    ensures written { IsWrittenAs (λ b. text_image b.0.items) ⟦<crate::PgBytea as Encode>⟧.hint ⟦<crate::PgBytea as Encode>⟧.image ⟦<crate::PgBytea as Encode>⟧.produced }
+    ensures written { IsWrittenAs (λ b. writes (text_image b.0.items)) ⟦<crate::PgBytea as Encode>⟧.encoding }
     ensures view { ⟦<crate::PgBytea as Decode>⟧.view ≡ (λ b. b.0.items) }
     ensures parsed { ⟦<crate::PgBytea as Plain>⟧.parse ≡ parse_bytea }
 {}
@@ -105,7 +97,7 @@ pub fn bytea_is_a_bytea()
 pub fn bytea_array_is_a_bytea<const N: usize>()
     ensures types { IsBuiltIn 17 ⟦<crate::PgByteaArray<N> as Type>⟧.info ⟦<crate::PgByteaArray<N> as Type>⟧.accepts }
     ensures arrays { IsBuiltIn 1001 ⟦<crate::PgByteaArray<N> as PgHasArrayType>⟧.array_info ⟦<crate::PgByteaArray<N> as PgHasArrayType>⟧.accepts_array }
-    ensures written { IsWrittenAs (λ b. sized_image N b.0) ⟦<crate::PgByteaArray<N> as Encode>⟧.hint ⟦<crate::PgByteaArray<N> as Encode>⟧.image ⟦<crate::PgByteaArray<N> as Encode>⟧.produced }
+    ensures written { IsWrittenAs (λ b. writes (sized_image N b.0)) ⟦<crate::PgByteaArray<N> as Encode>⟧.encoding }
     ensures view { ⟦<crate::PgByteaArray<N> as Decode>⟧.view ≡ (λ b. b.0) }
     ensures parsed { ⟦<crate::PgByteaArray<N> as Plain>⟧.parse ≡ without_memory (parse_sized N) }
 {}
@@ -116,7 +108,7 @@ pub fn ci_text_is_a_citext()
     ensures accepts { ⟦<crate::PgCiText as Type>⟧.accepts ≡ ⟦<String as Type>⟧.accepts }
     ensures arrays { ⟦<crate::PgCiText as PgHasArrayType>⟧.array_info ≡ named (codes "_citext") }
     ensures accepts_arrays { ⟦<crate::PgCiText as PgHasArrayType>⟧.accepts_array ≡ ⟦<String as PgHasArrayType>⟧.accepts_array }
-    ensures written { IsWrittenAs (λ text. text_image (string_bytes text.0)) ⟦<crate::PgCiText as Encode>⟧.hint ⟦<crate::PgCiText as Encode>⟧.image ⟦<crate::PgCiText as Encode>⟧.produced }
+    ensures written { IsWrittenAs (λ text. writes (text_image (string_bytes text.0))) ⟦<crate::PgCiText as Encode>⟧.encoding }
     ensures view { ⟦<crate::PgCiText as Decode>⟧.view ≡ (λ text. string_bytes text.0) }
     ensures parsed { ⟦<crate::PgCiText as Plain>⟧.parse ≡ ⟦<String as Plain>⟧.parse }
 {}

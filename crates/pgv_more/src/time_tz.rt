@@ -1,15 +1,14 @@
 //! Times of day with an offset from UTC (PostgreSQL, "Date/Time Types", timetz).
 
-ghost use Rattle.std.specs.Prelude.{◌≡◌, ℕ, ℤ, false, Some, IfErr, IfOk, OnErr, refl};
+ghost use Rattle.std.specs.Prelude.{◌≡◌, ℕ, ℤ, OnErr, refl};
 ghost use Rattle.std.specs.Option.{option_map};
-ghost use Rattle.pgv_codec.specs.Outcome.{Appended, Encoded};
-ghost use Rattle.pgv_codec.specs.WithHint.{with_hint};
+ghost use Rattle.pgv_codec.specs.Appending.{Encodes, Extends};
+ghost use Rattle.pgv_codec.specs.Encoding.{with_hint, writes};
 ghost use Rattle.pgv_types.specs.Relations.{softly};
 ghost use Rattle.pgv_types.specs.Ty.{builtin};
 ghost use Rattle.pgv_text.specs.DateTimeText.{time_tz_value};
 ghost use Rattle.pgv_value.specs.Outcome.{without_memory};
 ghost use Rattle.pgv_value.specs.Parsed.{GivesExactly};
-ghost use Rattle.pgv_value.specs.declared.error.CodecError.TheVariants.{Memory, OffsetRange};
 ghost use Rattle.pgv_more.specs.TimeTzCodec.{time_tz_numbers, time_tz_image, time_tz_in_binary, parse_time_tz, two_numbers, other_way, image_of_numbers};
 
 use jiff::civil::Time;
@@ -93,9 +92,8 @@ fn of_text(text: &str) -> Option<PgTimeTz>
 
 /// Appends the microseconds of the day and the seconds west of UTC.
 fn write_numbers(micros: i64, west: i32, out: &mut PgArgumentBuffer) -> Result<IsNull, CodecError>
-    ensures ok { IfOk result (λ n. Encoded n (image_of_numbers micros (Some west)) out.old out.new) }
-    ensures err { IfErr result (λ e. e ≡ Memory) }
-    ensures appended { OnErr result (Appended out.old out.new) }
+    ensures encodes { Encodes (writes (image_of_numbers micros west)) out.old out.new result }
+    ensures appended { OnErr result (Extends out.old out.new) }
 {
     let micros = micros.to_be_bytes();
     let west = west.to_be_bytes();
@@ -138,13 +136,7 @@ impl PgHasArrayType for PgTimeTz {
 /// `0000000a7a358200ffffe3e0`. An offset of a day or more in size is refused with
 /// [`OffsetRange`](CodecError::OffsetRange) (C6).
 impl Encode for PgTimeTz {
-    ghost image = { λ v. time_tz_image (time_tz_numbers v) };
-
-    ghost hint = { λ _. 12 };
-
-    ghost unwritable = { λ v. Some (OffsetRange v.offset.seconds) };
-
-    ghost asks_first = { λ _. false };
+    ghost encoding = { λ v. with_hint 12 (time_tz_image (time_tz_numbers v)) };
 
     fn encode_by_ref(&self, out: &mut PgArgumentBuffer) -> Result<IsNull, CodecError> {
         match seconds_west(self.offset) {
@@ -179,7 +171,7 @@ impl Plain for PgTimeTz {
 
     ghost null = { λ _ _. refl };
 
-    ghost written = { with_hint (λ _. 12) time_tz_image };
+    ghost written = { λ _ m. with_hint 12 (time_tz_image m) };
 
     ghost kept = { time_tz_kept };
 

@@ -2,18 +2,18 @@
 -- four decimal places each, where the weight of the first is a power of 10000, and the scale is how many decimal places are
 -- shown.
 -- Written: words of two bytes: the number of digits, the weight, the sign (0000, or 4000 below zero), the scale, and the
--- digits. There is no image where there are more than 32767 digits (C7), or one that isn't from 0 to 9999 (C8). The value that
--- is no number is `0000 0000 c000 0000`.
-use Rattle.std.specs.Prelude.{ℕ, zero, suc, nat_lt, nat_le, ◌*◌, Bool, true, ◌&&◌, ◌==◌, if◌then◌else◌, ℤ, pos, int_le, List, [], ◌∷◌, ◌++◌, length, take, drop, Option, Some, None}
+-- digits. More than 32767 digits are refused with C7, before memory is asked for, and else the first digit that isn't
+-- from 0 to 9999 with C8. The value that is no number is `0000 0000 c000 0000`.
+use Rattle.std.specs.Prelude.{ℕ, zero, suc, nat_lt, ◌*◌, not, Bool, true, ◌&&◌, ◌==◌, if◌then◌else◌, ℤ, pos, int_le, List, [], ◌∷◌, ◌++◌, length, take, drop, Option, Some, None, Ok, Err, ⊤}
 use Rattle.std.specs.Int.{w16, cast_signed, cast_unsigned, from_be_bytes, to_be_bytes}
-use Rattle.std.specs.List.{flat_map, list_all}
+use Rattle.std.specs.List.{flat_map}
 use Rattle.pgv_buf.specs.Tokens.{Token, bytes}
-use Rattle.pgv_codec.specs.Image.{Image, image_of}
+use Rattle.pgv_codec.specs.Encoding.{Image, image_of, writes}
 use Rattle.pgv_value.specs.NumberBinary.{fits_signed}
 use Rattle.pgv_value.specs.Formats.{in_binary_alone}
-use Rattle.pgv_value.specs.Outcome.{Outcome, done, fails_if, or_fail, allocates, ◌>>=◌, ◌>>◌}
+use Rattle.pgv_value.specs.Outcome.{Outcome, done, exactly, fails_if, or_fail, allocates, ◌>>=◌, ◌>>◌}
+use Rattle.pgv_value.specs.Parsed.{Parsed}
 use Rattle.pgv_value.specs.ValueView.{Given}
-use Rattle.pgv_value.specs.declared.error.CodecError.{CodecError}
 use Rattle.pgv_value.specs.declared.error.CodecError.TheVariants.{NumericDigits, NumericDigit, Short, NumericSign}
 use Rattle.pgv_numeric.specs.declared.numeric.PgNumericSign.{PgNumericSign}
 use Rattle.pgv_numeric.specs.declared.numeric.PgNumericSign.TheVariants.{Positive, Negative}
@@ -63,35 +63,37 @@ number_form sign digits weight scale = head_form (length digits) weight (sign_wo
 abbrev pub is_digit : ℤ → Bool
 is_digit d = int_le (pos 0) d && int_le d (pos 9999)
 
--- a digit, and digits one after another; none where one isn't from 0 to 9999
-abbrev pub digit_written : ℤ → Option (List Token)
-digit_written d = if is_digit d then Some (bytes (word d)) else None
-
-abbrev pub digits_written : List ℤ → Option (List Token)
-digits_written ds = if list_all is_digit ds then Some (bytes (flat_map word ds)) else None
-
-abbrev pub has_form : List ℤ → ℤ → ℤ → Bool
-has_form digits weight scale = nat_le (length digits) 32767 && (list_all is_digit digits && (fits_signed w16 weight && fits_signed w16 scale))
-
--- no image where there are more than 32767 digits, or one that isn't from 0 to 9999
-abbrev pub numeric_image : Numeric → Option Image
-numeric_image not_a_number = Some (image_of (bytes (0 ∷ 0 ∷ 0 ∷ 0 ∷ 192 ∷ 0 ∷ 0 ∷ 0 ∷ [])))
-numeric_image (number sign digits weight scale) = if has_form digits weight scale then Some (image_of (bytes (number_form sign digits weight scale))) else None
+-- a digit; one that isn't from 0 to 9999 is C8, without memory
+abbrev pub digit_written : ℤ → Outcome (List Token)
+digit_written d = do
+  fails_if (not (is_digit d)) (NumericDigit d)
+  allocates true
+  done (bytes (word d))
 
 -- the first digit that isn't from 0 to 9999 is C8
-abbrev pub digits_refused : List ℤ → Option CodecError
-digits_refused [] = None
-digits_refused (d ∷ ds) = if is_digit d then digits_refused ds else Some (NumericDigit d)
+abbrev pub digits_tested : List ℤ → Parsed ⊤
+digits_tested [] = Ok tt
+digits_tested (d ∷ ds) = if is_digit d then digits_tested ds else Err (NumericDigit d)
 
--- more than 32767 digits are C7
-abbrev pub numeric_refused : Numeric → Option CodecError
-numeric_refused not_a_number = None
-numeric_refused (number sign digits weight scale) = if nat_le (length digits) 32767 then digits_refused digits else Some (NumericDigits (length digits))
+-- digits one after another
+abbrev pub digits_written : List ℤ → Outcome (List Token)
+digits_written ds = do
+  allocates true
+  exactly (digits_tested ds)
+  done (bytes (flat_map word ds))
 
--- whether memory may be asked for before that: not before the digits are counted
-abbrev pub numeric_asks_first : Numeric → Bool
-numeric_asks_first not_a_number = true
-numeric_asks_first (number sign digits weight scale) = nat_le (length digits) 32767
+-- where the weight and the scale have room
+abbrev pub number_image : PgNumericSign → List ℤ → ℤ → ℤ → Option Image
+number_image sign digits weight scale = if fits_signed w16 weight && fits_signed w16 scale then Some (image_of (bytes (number_form sign digits weight scale))) else None
+
+-- more than 32767 digits are C7, before memory is asked for
+abbrev pub numeric_image : Numeric → Outcome Image
+numeric_image not_a_number = writes (Some (image_of (bytes (0 ∷ 0 ∷ 0 ∷ 0 ∷ 192 ∷ 0 ∷ 0 ∷ 0 ∷ []))))
+numeric_image (number sign digits weight scale) = do
+  fails_if (nat_lt 32767 (length digits)) (NumericDigits (length digits))
+  allocates true
+  exactly (digits_tested digits)
+  writes (number_image sign digits weight scale)
 
 -- ---- read
 

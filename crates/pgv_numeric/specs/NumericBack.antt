@@ -1,5 +1,5 @@
 -- What is written of a number is read back as it.
-use Rattle.std.specs.Prelude.{◌≡◌, ℕ, ◌*◌, ◌<◌, ◌^◌, nat_lt, nat_le, true, false, ◌&&◌, ℤ, pos, negsuc, List, [], ◌∷◌, ◌++◌, length, drop, Some, Ok, refl}
+use Rattle.std.specs.Prelude.{◌≡◌, ℕ, ◌*◌, ◌<◌, ◌^◌, nat_lt, true, false, ◌&&◌, ℤ, pos, negsuc, List, [], ◌∷◌, ◌++◌, length, drop, Some, Ok, refl, ⊤}
 use Rattle.std.specs.Int.{w16, from_be_bytes, to_be_bytes}
 use Rattle.std.specs.List.{flat_map, list_all}
 use Rattle.std.proofs.Common.{ap, sym, ◌∙◌, arith}
@@ -9,15 +9,17 @@ use Rattle.std.proofs.lemmas.List.{length-append}
 use Rattle.std.proofs.lemmas.Nat.{from_be_bytes-to_be_bytes_2}
 use Rattle.pgv_buf.specs.Tokens.{bytes}
 use Rattle.pgv_value.specs.FrameBinary.{Part}
-use Rattle.pgv_value.specs.Outcome.{ok_of, reading_of}
+use Rattle.pgv_value.specs.Outcome.{ok_of, reading_of, allocates, exactly, ◌>>◌}
+use Rattle.pgv_value.proofs.Outcomes.{answer_of, held, taken_exactly, tested}
 use Rattle.pgv_value.specs.NumberBinary.{fits_signed}
 use Rattle.pgv_value.specs.OwnBytes.{two_again}
+use Rattle.pgv_value.specs.declared.error.CodecError.TheVariants.{NumericDigits, NumericDigit}
 use Rattle.pgv_value.specs.declared.value.PgValueFormat.TheVariants.{Binary}
-use Rattle.pgv_codec.specs.Back.{ReadsBack, always}
+use Rattle.pgv_codec.specs.Back.{ReadsBack, always, image_is}
 use Rattle.pgv_codec.specs.BackParts.{guarded}
 use Rattle.pgv_codec.specs.BackScalars.{part_is}
-use Rattle.pgv_codec.specs.Image.{image_of}
-use Rattle.pgv_numeric.specs.Numeric.{number, numeric_of, word, sign_word, number_form, is_digit, has_form, numeric_image, digits, digits_after, said_sign, signed_word, unsigned_word, signed_number, numeric_in_binary, parse_numeric}
+use Rattle.pgv_codec.specs.Encoding.{image_of, plainly, writes}
+use Rattle.pgv_numeric.specs.Numeric.{number, numeric_of, word, sign_word, number_form, is_digit, digits_tested, number_image, numeric_image, digits, digits_after, said_sign, signed_word, unsigned_word, signed_number, numeric_in_binary, parse_numeric}
 use Rattle.pgv_numeric.specs.declared.numeric.PgNumericSign.{PgNumericSign}
 use Rattle.pgv_numeric.specs.declared.numeric.PgNumericSign.TheVariants.{Positive, Negative}
 use Rattle.pgv_numeric.specs.declared.numeric.PgNumeric.{PgNumeric}
@@ -68,30 +70,31 @@ digit_fits : (d : ℤ) → is_digit d ≡ true → fits_signed w16 d ≡ true
 digit_fits (pos n) e = grind (arith, nat_tests)
 digit_fits (negsuc n) e = absurd (cc)
 
-digits_fit : (ds : List ℤ) → list_all is_digit ds ≡ true → list_all (fits_signed w16) ds ≡ true
-digits_fit [] e = refl
-digits_fit (d ∷ ds) e =
-    let b = and_parts (is_digit d) (list_all is_digit ds) e in
-    rw (digit_fits d b.0, digits_fit ds b.1) refl
+digits_fit : (ds : List ℤ) (all : ⊤) → digits_tested ds ≡ Ok all → list_all (fits_signed w16) ds ≡ true
+digits_fit [] all e = refl
+digits_fit (d ∷ ds) all e =
+    let h = held (is_digit d) (NumericDigit d) (digits_tested ds) all e in
+    rw (digit_fits d h.0, digits_fit ds all h.1) refl
 
-few_digits : (n : ℕ) → nat_le n 32767 ≡ true → n < 2 ^ 16
+few_digits : (n : ℕ) → nat_lt 32767 n ≡ false → n < 2 ^ 16
 few_digits n e = grind (arith, nat_tests)
 
 nothing_after : (xs : List ℕ) → xs ++ [] ≡ xs
 nothing_after [] = refl
 nothing_after (x ∷ xs) = ap (λ (ys : List ℕ). x ∷ ys) (nothing_after xs)
 
-pub numeric_back : ReadsBack {A = PgNumeric} (λ n. numeric_image (numeric_of n)) (reading_of parse_numeric) numeric_of always
+pub numeric_back : ReadsBack {A = PgNumeric} (λ n. plainly (numeric_image (numeric_of n))) (reading_of parse_numeric) numeric_of always
 numeric_back NotANumber i t p os e whole small fit =
     ap (λ (part : Part). reading_of parse_numeric t Binary part) (part_is (0 ∷ 0 ∷ 0 ∷ 0 ∷ 192 ∷ 0 ∷ 0 ∷ 0 ∷ []) i p os e)
 numeric_back (Number sign v weight scale) i t p os e whole small fit =
     let ds = v.items in
     let form = number_form sign ds weight scale in
-    let g = guarded (has_form ds weight scale) (Some (image_of (bytes form))) i e in
-    let few = and_parts (nat_le (length ds) 32767) (list_all is_digit ds && (fits_signed w16 weight && fits_signed w16 scale)) g.0 in
-    let fit = and_parts (list_all is_digit ds) (fits_signed w16 weight && fits_signed w16 scale) few.1 in
-    let words = and_parts (fits_signed w16 weight) (fits_signed w16 scale) fit.1 in
+    let image = number_image sign ds weight scale in
+    let few = tested (nat_lt 32767 (length ds)) (NumericDigits (length ds)) (allocates true >> (exactly (digits_tested ds) >> writes image)) i (answer_of (numeric_image (number sign ds weight scale)).answer i e) in
+    let fit = taken_exactly (digits_tested ds) (λ _. writes image) i few.1 in
+    let g = guarded (fits_signed w16 weight && fits_signed w16 scale) (Some (image_of (bytes form))) i (image_is image i (ap ok_of fit.2)) in
+    let words = and_parts (fits_signed w16 weight) (fits_signed w16 scale) g.0 in
     ap (λ (part : Part). reading_of parse_numeric t Binary part) (part_is form i p os g.1)
     ∙ ap ok_of (
     ap (λ (xs : List ℕ). (numeric_in_binary xs).answer) (sym (nothing_after form))
-    ∙ number_there [] sign ds weight scale (few_digits (length ds) few.0) (digits_fit ds fit.0) words.0 words.1)
+    ∙ number_there [] sign ds weight scale (few_digits (length ds) few.0) (digits_fit ds fit.0 fit.1) words.0 words.1)

@@ -2,11 +2,12 @@
 
 ghost use Rattle.std.specs.Prelude.{◌≡◌, ◌↔◌, true, List};
 ghost use Rattle.std.specs.Int.{w64};
+ghost use Rattle.pgv_codec.specs.Encoding.{writes};
 ghost use Rattle.pgv_codec.specs.TypeRow.{IsBuiltIn, IsWrittenAs};
 ghost use Rattle.pgv_codec.specs.ScalarBinary.{signed_image};
 ghost use Rattle.pgv_numeric.specs.Laws.{NumericIsRead, OneNumeric, OneMoney, NumericsAreEqual};
 ghost use Rattle.pgv_numeric.specs.MoneyCodec.{parse_money, MoneyIsRead};
-ghost use Rattle.pgv_numeric.specs.Numeric.{numeric_asks_first, numeric_image, numeric_of, numeric_refused, parse_numeric};
+ghost use Rattle.pgv_numeric.specs.Numeric.{numeric_image, numeric_of, parse_numeric};
 ghost use Rattle.pgv_types.specs.declared.oid.Oid.{Oid};
 ghost use Rattle.pgv_types.specs.Ty.{Ty};
 ghost use Rattle.pgv_value.specs.Outcome.{without_memory};
@@ -18,19 +19,19 @@ use pgv_codec::{Decode, Encode, PgHasArrayType, Plain, ReadBack, Type};
 pub fn money_is_a_money()
     ensures types { IsBuiltIn 790 ⟦<crate::PgMoney as Type>⟧.info ⟦<crate::PgMoney as Type>⟧.accepts }
     ensures arrays { IsBuiltIn 791 ⟦<crate::PgMoney as PgHasArrayType>⟧.array_info ⟦<crate::PgMoney as PgHasArrayType>⟧.accepts_array }
-    ensures written { IsWrittenAs (λ amount. signed_image w64 amount.0) ⟦<crate::PgMoney as Encode>⟧.hint ⟦<crate::PgMoney as Encode>⟧.image ⟦<crate::PgMoney as Encode>⟧.produced }
+    ensures written { IsWrittenAs (λ amount. writes (signed_image w64 amount.0)) ⟦<crate::PgMoney as Encode>⟧.encoding }
     ensures view { ⟦<crate::PgMoney as Decode>⟧.view ≡ (λ amount. amount.0) }
     ensures parsed { ⟦<crate::PgMoney as Plain>⟧.parse ≡ without_memory parse_money }
 {}
 
-/// A `PgNumeric` is a numeric (OID 1700), a list of words of two bytes. Its arrays are `numeric[]` (1231).
+/// A `PgNumeric` is a numeric (OID 1700), a list of words of two bytes. Its arrays are `numeric[]` (1231). More than
+/// 32767 digits are refused before memory is asked for, and else the first digit that isn't from 0 to 9999.
 pub fn numeric_is_a_numeric()
     ensures types { IsBuiltIn 1700 ⟦<crate::PgNumeric as Type>⟧.info ⟦<crate::PgNumeric as Type>⟧.accepts }
     ensures arrays { IsBuiltIn 1231 ⟦<crate::PgNumeric as PgHasArrayType>⟧.array_info ⟦<crate::PgNumeric as PgHasArrayType>⟧.accepts_array }
-    ensures written { IsWrittenAs (λ n. numeric_image (numeric_of n)) ⟦<crate::PgNumeric as Encode>⟧.hint ⟦<crate::PgNumeric as Encode>⟧.image ⟦<crate::PgNumeric as Encode>⟧.produced }
+    ensures written { IsWrittenAs (λ n. numeric_image (numeric_of n)) ⟦<crate::PgNumeric as Encode>⟧.encoding }
     ensures view { ⟦<crate::PgNumeric as Decode>⟧.view ≡ numeric_of }
     ensures parsed { ⟦<crate::PgNumeric as Plain>⟧.parse ≡ parse_numeric }
-    ensures unwritten { (⟦<crate::PgNumeric as Encode>⟧.unwritable ≡ (λ n. numeric_refused (numeric_of n))) × (⟦<crate::PgNumeric as Encode>⟧.asks_first ≡ (λ n. numeric_asks_first (numeric_of n))) }
 {}
 
 /// `money_in_binary` reads an amount from bytes iff the bytes begin with the eight bytes of this amount.

@@ -1,12 +1,12 @@
 -- What is read of a range in binary is what its bytes are.
-use Rattle.std.proofs.Common.{◌≡◌, ℕ, Bool, true, false, cond, List, [], ◌∷◌, Option, Some, None, Result, Ok, Err, refl, sym, ◌∙◌, ap, subst}
+use Rattle.std.proofs.Common.{◌≡◌, ℕ, Bool, true, false, cond, List, [], ◌∷◌, Option, Some, None, Result, Ok, refl, sym, ◌∙◌, ap, subst}
 use Rattle.std.specs.Prelude.{ok_or}
 use Rattle.std.specs.declared.ops.Bound.{Bound}
 use Rattle.std.specs.declared.ops.Bound.TheVariants.{Included, Excluded, Unbounded}
 use Rattle.std.proofs.lemmas.Option.{same_Some}
 use Rattle.pgv_types.specs.Ty.{Ty, Kind, simple, domain, composite, array, pseudo, enumeration, range as range_over}
 use Rattle.pgv_types.specs.Facts.{kind_at}
-use Rattle.pgv_value.specs.FrameBinary.{Part, IsFrame, front, frame_fault}
+use Rattle.pgv_value.specs.FrameBinary.{IsFrame, front, frame_fault}
 use Rattle.pgv_value.specs.Fronts.{part_front}
 use Rattle.pgv_value.specs.Laws.{AreBytes}
 use Rattle.pgv_value.specs.Outcome.{Outcome, done}

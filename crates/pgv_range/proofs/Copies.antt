@@ -1,6 +1,6 @@
 -- Where reading a bound never asks for memory, reading a range asks only for copies.
-use Rattle.std.proofs.Common.{◌≡◌, ◌∙◌, ℕ, Bool, true, false, List, [], ◌∷◌, drop, Option, Some, None, refl, ap}
-use Rattle.std.specs.Prelude.{ok_or, if◌then◌else◌}
+use Rattle.std.proofs.Common.{◌≡◌, ℕ, Bool, true, false, List, [], ◌∷◌, drop, Some, None, refl}
+use Rattle.std.specs.Prelude.{if◌then◌else◌}
 use Rattle.std.proofs.lemmas.Bool.{false≢true}
 use Rattle.std.specs.Str.{chars}
 use Rattle.pgv_types.specs.Ty.{Ty}
@@ -10,17 +10,16 @@ use Rattle.pgv_text.specs.Copies.{copies_of, first_copied, none_copied}
 use Rattle.pgv_text.specs.declared.scanner.TextForm.TheVariants.{Range}
 use Rattle.pgv_value.specs.FrameBinary.{Part}
 use Rattle.pgv_value.specs.Fronts.{one_part}
-use Rattle.pgv_value.specs.Outcome.{Outcome, allocates, done, fails, or_fail}
+use Rattle.pgv_value.specs.Outcome.{Outcome, done, fails, or_fail}
 use Rattle.pgv_value.specs.Utf8.{is_utf8}
 use Rattle.pgv_value.specs.ValueView.{Given, given}
-use Rattle.pgv_value.specs.declared.error.CodecError.TheVariants.{NotARange, Syntax, Utf8}
+use Rattle.pgv_value.specs.declared.error.CodecError.TheVariants.{Syntax, Utf8}
 use Rattle.pgv_value.specs.declared.value.PgValueFormat.TheVariants.{Text, Binary}
 use Rattle.pgv_value.proofs.Outcomes.{free_then}
 use Rattle.pgv_range.specs.FlagByte.{form_of}
 use Rattle.pgv_range.specs.RangeBinary.{IsRangeOver}
-use Rattle.pgv_range.specs.RangeGrammar.{bound_in, bounds_in, bound_in_text, bounds_in_text, content_in_text, element_in_kind, next_bound, range_by, range_bytes, range_element, range_in_binary, range_in_text, parse_range, side_in_text, value_in_front}
+use Rattle.pgv_range.specs.RangeGrammar.{bound_in, bounds_in, bound_in_text, bounds_in_text, content_in_text, next_bound, range_by, range_bytes, range_in_text, parse_range, side_in_text, value_in_front}
 use Rattle.pgv_range.specs.RangeLaws.{TakesOnlyForCopies}
-use Rattle.pgv_range.specs.RangeOf.{RangeOf, bounds}
 use Rattle.pgv_range.specs.declared.flags.Side.{Side}
 use Rattle.pgv_range.specs.declared.flags.Side.TheVariants.{Infinite, Inclusive, Exclusive}
 use Rattle.pgv_range.specs.declared.flags.RangeForm.{RangeForm}

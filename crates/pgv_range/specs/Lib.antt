@@ -3,7 +3,6 @@ pub mod RangeView
 pub mod FlagByte
 pub mod RangeImage
 pub mod RangeGrammar
-pub mod RangeRefusals
 pub mod RangeBinary
 pub mod RangeInText
 pub mod RangeSaying

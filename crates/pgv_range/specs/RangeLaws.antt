@@ -1,5 +1,5 @@
 -- The laws of ranges in short words: what was written is read back, and where memory may be asked for.
-use Rattle.std.specs.Prelude.{◌≡◌, ℕ, Bool, true, false, List, Option, Some, None}
+use Rattle.std.specs.Prelude.{◌≡◌, ℕ, Bool, true, false, List, Some}
 use Rattle.pgv_types.specs.Ty.{Ty}
 use Rattle.pgv_types.specs.Facts.{is_custom}
 use Rattle.pgv_types.specs.declared.oid.Oid.{Oid}
@@ -10,7 +10,7 @@ use Rattle.pgv_value.specs.Outcome.{Outcome, reading_of}
 use Rattle.pgv_value.specs.ValueView.{Given, given}
 use Rattle.pgv_value.specs.declared.value.PgValueFormat.TheVariants.{Text, Binary}
 use Rattle.pgv_codec.specs.Back.{ReadsBack, FieldReadsBack}
-use Rattle.pgv_codec.specs.Image.{Image}
+use Rattle.pgv_codec.specs.Encoding.{Encoding, plainly}
 use Rattle.pgv_range.specs.RangeBinary.{IsRangeOver}
 use Rattle.pgv_range.specs.RangeFits.{range_kept}
 use Rattle.pgv_range.specs.RangeGrammar.{parse_range}
@@ -19,14 +19,14 @@ use Rattle.pgv_range.specs.RangeOf.{range_view}
 use Rattle.pgv_range.specs.declared.range.PgRange.{PgRange}
 
 -- what was written of a value is read back as what it keeps
-abbrev pub ComesBack : {A M : Type 0} → (A → Option Image) → (Given → Outcome M) → (A → M) → (A → A) → (A → Ty → List Oid → Type 0) → Type 0
-ComesBack image parse view kept fits = ReadsBack image (reading_of parse) (λ v. view (kept v)) fits
+abbrev pub ComesBack : {A M : Type 0} → (A → Encoding) → (Given → Outcome M) → (A → M) → (A → A) → (A → Ty → List Oid → Type 0) → Type 0
+ComesBack encoding parse view kept fits = ReadsBack encoding (reading_of parse) (λ v. view (kept v)) fits
 
--- and so is a range that is a field of a record: of the bounds' hint, image, type, grammar, view and what they keep, and of the
+-- and so is a range that is a field of a record: of the bounds' encoding, type, grammar, view and what they keep, and of the
 -- ranges' type, the types under which they are read, and where they fit
-abbrev pub RangeFieldComesBack : {X M : Type 0} → (X → ℕ) → (X → Option Image) → Ty → (Given → Outcome M) → (X → M) → (X → X) → Ty → (Ty → Bool) → (PgRange X → Ty → List Oid → Type 0) → Type 0
-RangeFieldComesBack hint image element parse view kept info accepts fits =
-    FieldReadsBack info (λ r. None) (λ r. 0) (range_image hint image) accepts (parse_range element parse) (λ r. range_view view (range_kept kept r)) fits
+abbrev pub RangeFieldComesBack : {X M : Type 0} → (X → Encoding) → Ty → (Given → Outcome M) → (X → M) → (X → X) → Ty → (Ty → Bool) → (PgRange X → Ty → List Oid → Type 0) → Type 0
+RangeFieldComesBack encoding element parse view kept info accepts fits =
+    FieldReadsBack info (λ r. plainly (range_image (range_view encoding r))) accepts (parse_range element parse) (λ r. range_view view (range_kept kept r)) fits
 
 -- memory may be asked for only to copy: in binary a custom type that the range is over, in text a part that doesn't stand in it as
 -- it is

@@ -1,44 +1,30 @@
 -- What is written of what a range says, and that it is what is written of the range.
-use Rattle.std.specs.Prelude.{◌≡◌, ℕ, Option, refl}
+use Rattle.std.specs.Prelude.{◌≡◌, refl}
 use Rattle.std.proofs.Common.{ap}
 use Rattle.std.specs.Range.Bound.{bound_map}
 use Rattle.std.specs.declared.ops.Bound.{Bound}
 use Rattle.std.specs.declared.ops.Bound.TheVariants.{Included, Excluded, Unbounded}
-use Rattle.pgv_types.specs.Ty.{Ty}
-use Rattle.pgv_codec.specs.Image.{Image, frame}
-use Rattle.pgv_codec.specs.Saying.{Saying, said, plainly}
+use Rattle.pgv_codec.specs.Encoding.{Encoding, plainly}
 use Rattle.pgv_range.specs.RangeOf.{RangeOf, empty, bounds, range_view}
-use Rattle.pgv_range.specs.FlagByte.{lower_flag, upper_flag}
-use Rattle.pgv_range.specs.RangeImage.{bound_frame, bounds_image, empty_image, range_image}
+use Rattle.pgv_range.specs.RangeImage.{range_image}
 use Rattle.pgv_range.specs.declared.range.PgRange.{PgRange}
 use Rattle.pgv_range.specs.declared.range.PgRange.TheVariants.{Empty, Bounds}
 
-abbrev pub view_image : {M : Type 0} → (M → ℕ) → (M → Option Image) → RangeOf M → Option Image
-view_image hint image empty = empty_image
-view_image hint image (bounds lower upper) = bounds_image hint image lower upper
+abbrev pub bounds_said : {M N : Type 0} → (M → N) → RangeOf M → RangeOf N
+bounds_said said empty = empty
+bounds_said said (bounds lower upper) = bounds (bound_map said lower) (bound_map said upper)
 
--- a range over values of this type
-abbrev pub range_written : {M : Type 0} → Ty → (Ty → M → Saying) → Ty → RangeOf M → Saying
-range_written element written = plainly (view_image (λ m. (written element m).hint) (λ m. (written element m).image))
+-- a range over values that are written so
+abbrev pub range_written : {M : Type 0} → (M → Encoding) → RangeOf M → Encoding
+range_written written m = plainly (range_image (bounds_said written m))
 
 -- A range is written as what its bounds' values say, where these are.
-module _ {X M : Type 0} (hint : X → ℕ) (image : X → Option Image) (produced : X → Option Ty) (info : Ty) (view : X → M) (written : Ty → M → Saying)
-    (agrees : (x : X) → said hint image produced info x ≡ written info (view x)) where
-  frame_agrees : (b : Bound X) → bound_frame hint image b ≡ bound_frame (λ m. (written info m).hint) (λ m. (written info m).image) (bound_map view b)
-  frame_agrees (Included x) = ap (λ (s : Saying). frame s.hint s.image) (agrees x)
-  frame_agrees (Excluded x) = ap (λ (s : Saying). frame s.hint s.image) (agrees x)
-  frame_agrees Unbounded = refl
+module _ {X M : Type 0} (encoding : X → Encoding) (view : X → M) (written : M → Encoding) (agrees : (x : X) → encoding x ≡ written (view x)) where
+  bound_agrees : (b : Bound X) → bound_map encoding b ≡ bound_map written (bound_map view b)
+  bound_agrees (Included x) = ap Included (agrees x)
+  bound_agrees (Excluded x) = ap Excluded (agrees x)
+  bound_agrees Unbounded = refl
 
-  lower_agrees : (b : Bound X) → lower_flag b ≡ lower_flag (bound_map view b)
-  lower_agrees (Included x) = refl
-  lower_agrees (Excluded x) = refl
-  lower_agrees Unbounded = refl
-
-  upper_agrees : (b : Bound X) → upper_flag b ≡ upper_flag (bound_map view b)
-  upper_agrees (Included x) = refl
-  upper_agrees (Excluded x) = refl
-  upper_agrees Unbounded = refl
-
-  pub range_agrees : (range : Ty) (r : PgRange X) → plainly (range_image hint image) range r ≡ range_written info written range (range_view view r)
-  range_agrees range Empty = refl
-  range_agrees range (Bounds lower upper) = rw (frame_agrees lower, frame_agrees upper, lower_agrees lower, upper_agrees upper) refl
+  pub range_agrees : (r : PgRange X) → plainly (range_image (range_view encoding r)) ≡ range_written written (range_view view r)
+  range_agrees Empty = refl
+  range_agrees (Bounds lower upper) = rw (bound_agrees lower, bound_agrees upper) refl

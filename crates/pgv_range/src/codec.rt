@@ -1,19 +1,17 @@
 //! What ranges are written as and read of, whatever their bounds are (PostgreSQL, "Range Types"; the binary form is that of its source,
 //! range_send).
 
-ghost use Rattle.std.specs.Prelude.{◌≡◌, IfOk, IfErr, OnOk, OnErr, Some, drop};
+ghost use Rattle.std.specs.Prelude.{◌≡◌, OnOk, OnErr, Some, drop};
 ghost use Rattle.std.specs.Range.Bound.{bound_map};
 ghost use Rattle.pgv_types.specs.Parts.{ref_type};
 ghost use Rattle.pgv_text.specs.PartsView.{copies, nest};
 ghost use Rattle.pgv_value.specs.Outcome.{Gives};
 ghost use Rattle.pgv_value.specs.Parsed.{GivesOr};
 ghost use Rattle.pgv_value.specs.declared.error.CodecError.TheVariants.{NotARange};
-ghost use Rattle.pgv_codec.specs.Outcome.{Appended, AppendedAll, Encoded, Refused};
-ghost use Rattle.pgv_codec.specs.Refusing.{RefusedFor};
+ghost use Rattle.pgv_codec.specs.Appending.{Appends, Encodes, Extends};
 ghost use Rattle.pgv_range.specs.RangeGrammar.{bound_in, bound_in_text, bounds_in, bounds_in_text, next_bound, range_element, range_in_binary, range_in_text, side_in_text, value_in_front};
 ghost use Rattle.pgv_range.specs.RangeImage.{bound_frame, bounds_image, empty_image};
 ghost use Rattle.pgv_range.specs.RangeOf.{range_view};
-ghost use Rattle.pgv_range.specs.RangeRefusals.{bound_refused, bounds_refused};
 
 use crate::flags::{RangeFlags, RangeForm, Side};
 use crate::range::PgRange;
@@ -30,12 +28,10 @@ use std::ops::Bound;
 /// bound that there is, the lower first. From 1 to 10 without 10, of `int4`, is `02 00000004 00000001 00000004 0000000a`. The empty
 /// range is the flag byte 01 alone.
 impl<T: Encode> Encode for PgRange<T> {
+    ghost use Rattle.pgv_codec.specs.Encoding.{plainly};
     ghost use Rattle.pgv_range.specs.RangeImage.{range_image};
-    ghost use Rattle.pgv_range.specs.RangeRefusals.{range_refused};
 
-    ghost image = { range_image T.hint T.image };
-
-    ghost unwritable = { range_refused T.hint T.image T.unwritable };
+    ghost encoding = { λ r. plainly (range_image (range_view T.encoding r)) };
 
     #[inline(always)]
     fn encode_by_ref(&self, out: &mut PgArgumentBuffer) -> Result<IsNull, CodecError> {
@@ -57,9 +53,8 @@ impl<T: Encode> Encode for PgRange<T> {
 /// The flag byte of an empty range.
 #[inline(always)]
 fn encode_empty(out: &mut PgArgumentBuffer) -> Result<IsNull, CodecError>
-    ensures ok { IfOk result (λ n. Encoded n empty_image out.old out.new) }
-    ensures err { IfErr result (λ e. Refused e empty_image) }
-    ensures appended { OnErr result (Appended out.old out.new) }
+    ensures encodes { Encodes empty_image out.old out.new result }
+    ensures appended { OnErr result (Extends out.old out.new) }
 {
     out.push(RangeFlags::EMPTY.bits())?;
     Ok(IsNull::No)
@@ -67,15 +62,14 @@ fn encode_empty(out: &mut PgArgumentBuffer) -> Result<IsNull, CodecError>
 
 /// The flag byte of these bounds, and their frames.
 #[inline(always)]
+#[tactic(auto, unfolding(crate::specs::RangeImage::bounds_image))]
 fn encode_bounds<T: Encode>(
     start: &Bound<T>,
     end: &Bound<T>,
     out: &mut PgArgumentBuffer,
 ) -> Result<IsNull, CodecError>
-    ensures ok { IfOk result (λ n. Encoded n (bounds_image T.hint T.image start.now end.now) out.old out.new) }
-    ensures err { IfErr result (λ e. Refused e (bounds_image T.hint T.image start.now end.now)) }
-    ensures refused { RefusedFor (bounds_refused T.hint T.image T.unwritable start.now end.now) result }
-    ensures appended { OnErr result (Appended out.old out.new) }
+    ensures encodes { Encodes (bounds_image (bound_map T.encoding start.now) (bound_map T.encoding end.now)) out.old out.new result }
+    ensures appended { OnErr result (Extends out.old out.new) }
 {
     out.push(RangeFlags::of(start, end).bits())?;
     encode_bound(start, out)?;
@@ -86,10 +80,8 @@ fn encode_bounds<T: Encode>(
 /// The frame of a bound, and nothing where there is none.
 #[inline(always)]
 fn encode_bound<T: Encode>(bound: &Bound<T>, out: &mut PgArgumentBuffer) -> Result<(), CodecError>
-    ensures ok { OnOk result (AppendedAll (bound_frame T.hint T.image bound.now) out.old out.new) }
-    ensures err { IfErr result (λ e. Refused e (bound_frame T.hint T.image bound.now)) }
-    ensures refused { RefusedFor (bound_refused T.hint T.image T.unwritable bound.now) result }
-    ensures appended { OnErr result (Appended out.old out.new) }
+    ensures exact { Appends (bound_frame (bound_map T.encoding bound.now)) out.old out.new result }
+    ensures appended { OnErr result (Extends out.old out.new) }
 {
     match bound {
         Bound::Included(value) | Bound::Excluded(value) => out.encode(value),
@@ -124,7 +116,7 @@ impl<T: Decode + Type> Decode for PgRange<T> {
 
     ghost parse = { parse_range T.info T.parse };
 
-    ghost written = { range_written T.info T.written };
+    ghost written = { λ _ m. range_written (T.written T.info) m };
 
     ghost null = { λ _ _. (refl, refl) };
 
@@ -291,9 +283,9 @@ impl<T: ReadBack + Type> ReadBack for PgRange<T> {
 
     ghost kept = { range_kept T.kept };
 
-    ghost fits = { RangeFits T.image T.fits };
+    ghost fits = { RangeFits T.encoding T.fits };
 
-    ghost reads_back = { range_back T.info T.hint T.image T.parse T.view T.kept T.fits T.reads_back };
+    ghost reads_back = { range_back T.info T.encoding T.parse T.view T.kept T.fits T.reads_back };
 }
 
 impl<T: Codec> Codec for PgRange<T>
@@ -302,5 +294,5 @@ where
 {
     ghost use Rattle.pgv_range.specs.RangeSaying.{range_agrees};
 
-    ghost agrees = { range_agrees T.hint T.image T.produced T.info T.view T.written T.agrees Self.info };
+    ghost agrees = { range_agrees T.encoding T.view (T.written T.info) T.agrees };
 }

@@ -1,7 +1,7 @@
 //! Laws of ranges: what they are in binary and in text, what they are read back as, and what each type of this crate
 //! is. Each is the contract of a function that does nothing.
 
-ghost use Rattle.std.specs.Prelude.{◌≡◌, ◌↔◌, ℕ, false, true, List, Some, None};
+ghost use Rattle.std.specs.Prelude.{◌≡◌, ◌↔◌, ℕ, false, List, Some, None};
 ghost use Rattle.std.specs.Range.{range_inclusive_start, range_inclusive_end};
 ghost use Rattle.std.specs.declared.ops.Bound.TheVariants.{Included, Excluded, Unbounded};
 ghost use Rattle.pgv_types.specs.Ty.{Ty};
@@ -13,15 +13,15 @@ ghost use Rattle.pgv_value.specs.declared.error.CodecError.TheVariants.{Unexpect
 ghost use Rattle.pgv_value.specs.declared.value.PgValueFormat.{PgValueFormat as Format};
 ghost use Rattle.pgv_value.specs.declared.value.PgValueFormat.TheVariants.{Binary};
 ghost use Rattle.pgv_nest.specs.NestText.{TextIs};
-ghost use Rattle.pgv_codec.specs.TypeRow.{IsBuiltIn, IsWrittenAs};
+ghost use Rattle.pgv_codec.specs.TypeRow.{IsBuiltIn};
 ghost use Rattle.pgv_range.specs.RangeBinary.{IsRange, IsRangeOver, OneRange};
 ghost use Rattle.pgv_range.specs.RangeFits.{BoundsFit, range_kept};
 ghost use Rattle.pgv_range.specs.RangeGrammar.{parse_range};
+ghost use Rattle.pgv_codec.specs.Encoding.{plainly};
 ghost use Rattle.pgv_range.specs.RangeImage.{range_image};
 ghost use Rattle.pgv_range.specs.RangeInText.{IsRangeInText, OneRangeInText};
 ghost use Rattle.pgv_range.specs.RangeLaws.{ComesBack, RangeFieldComesBack, TakesOnlyForCopies};
 ghost use Rattle.pgv_range.specs.RangeOf.{RangeOf, range_view};
-ghost use Rattle.pgv_range.specs.RangeRefusals.{range_refused};
 ghost use Rattle.pgv_range.specs.RangeRow.{ComesBackUnderRanges, IsBuiltInRange};
 ghost use Rattle.pgv_range.specs.RangeShown.{range_eq, range_text};
 ghost use Rattle.pgv_range.specs.RangeView.{IsOfBounds};
@@ -81,10 +81,9 @@ pub fn null_is_no_range<T: Type + Decode>()
 ///
 /// The empty range is a flag byte, and is kept.
 pub fn ranges_are_their_bounds<T: ReadBack + Type>()
-    ensures written { IsWrittenAs (range_image T.hint T.image) ⟦<PgRange<T> as Encode>⟧.hint ⟦<PgRange<T> as Encode>⟧.image ⟦<PgRange<T> as Encode>⟧.produced }
+    ensures written { ⟦<PgRange<T> as Encode>⟧.encoding ≡ (λ r. plainly (range_image (range_view T.encoding r))) }
     ensures view { ⟦<PgRange<T> as Decode>⟧.view ≡ range_view T.view }
     ensures parsed { ⟦<PgRange<T> as Decode>⟧.parse ≡ parse_range T.info T.parse }
-    ensures unwritten { (⟦<PgRange<T> as Encode>⟧.unwritable ≡ range_refused T.hint T.image T.unwritable) × (⟦<PgRange<T> as Encode>⟧.asks_first ≡ (λ _. true)) }
     ensures kept { ⟦<PgRange<T> as ReadBack>⟧.kept ≡ range_kept T.kept }
 {}
 
@@ -115,7 +114,7 @@ pub fn own_ranges_take_only_for_copies()
 /// So it does if every value fits that type. The empty range fits every type of kind range.
 pub fn ranges_fit<T: ReadBack + Type>()
     ensures empty { (t u : Ty) (oids : List Oid) → IsRangeOver t u → ⟦<PgRange<T> as ReadBack>⟧.fits Empty t oids }
-    ensures bounds { (lower upper : _) (t u : Ty) (oids : List Oid) → IsRangeOver t u → BoundsFit T.image T.fits u lower upper oids → ⟦<PgRange<T> as ReadBack>⟧.fits (Bounds lower upper) t oids }
+    ensures bounds { (lower upper : _) (t u : Ty) (oids : List Oid) → IsRangeOver t u → BoundsFit T.encoding T.fits u lower upper oids → ⟦<PgRange<T> as ReadBack>⟧.fits (Bounds lower upper) t oids }
     ensures always { (r : _) (t u : Ty) (oids : List Oid) → IsRangeOver t u → ((v : T) (own : List Oid) → T.fits v u own) → ⟦<PgRange<T> as ReadBack>⟧.fits r t oids }
 {}
 
@@ -133,10 +132,10 @@ pub fn own_ranges_fit()
 pub fn ranges_read_back<T: ReadBack + Type + PgHasArrayType>()
 where
     PgRange<T>: Type + PgHasArrayType,
-    ensures range { ComesBack ⟦<PgRange<T> as Encode>⟧.image ⟦<PgRange<T> as Decode>⟧.parse ⟦<PgRange<T> as Decode>⟧.view ⟦<PgRange<T> as ReadBack>⟧.kept ⟦<PgRange<T> as ReadBack>⟧.fits }
-    ensures ranges { ComesBack ⟦<Ranges<T> as Encode>⟧.image ⟦<Ranges<T> as Decode>⟧.parse ⟦<Ranges<T> as Decode>⟧.view ⟦<Ranges<T> as ReadBack>⟧.kept ⟦<Ranges<T> as ReadBack>⟧.fits }
-    ensures of_lists { ComesBack ⟦<OfLists<T> as Encode>⟧.image ⟦<OfLists<T> as Decode>⟧.parse ⟦<OfLists<T> as Decode>⟧.view ⟦<OfLists<T> as ReadBack>⟧.kept ⟦<OfLists<T> as ReadBack>⟧.fits }
-    ensures field { RangeFieldComesBack T.hint T.image T.info T.parse T.view T.kept ⟦<PgRange<T> as Type>⟧.info ⟦<PgRange<T> as Type>⟧.accepts ⟦<PgRange<T> as ReadBack>⟧.fits }
+    ensures range { ComesBack ⟦<PgRange<T> as Encode>⟧.encoding ⟦<PgRange<T> as Decode>⟧.parse ⟦<PgRange<T> as Decode>⟧.view ⟦<PgRange<T> as ReadBack>⟧.kept ⟦<PgRange<T> as ReadBack>⟧.fits }
+    ensures ranges { ComesBack ⟦<Ranges<T> as Encode>⟧.encoding ⟦<Ranges<T> as Decode>⟧.parse ⟦<Ranges<T> as Decode>⟧.view ⟦<Ranges<T> as ReadBack>⟧.kept ⟦<Ranges<T> as ReadBack>⟧.fits }
+    ensures of_lists { ComesBack ⟦<OfLists<T> as Encode>⟧.encoding ⟦<OfLists<T> as Decode>⟧.parse ⟦<OfLists<T> as Decode>⟧.view ⟦<OfLists<T> as ReadBack>⟧.kept ⟦<OfLists<T> as ReadBack>⟧.fits }
+    ensures field { RangeFieldComesBack T.encoding T.info T.parse T.view T.kept ⟦<PgRange<T> as Type>⟧.info ⟦<PgRange<T> as Type>⟧.accepts ⟦<PgRange<T> as ReadBack>⟧.fits }
 {
     read_back::<PgRange<T>>();
     read_back::<Ranges<T>>();

@@ -3,20 +3,18 @@
 -- four, the size of the type in two and its modifier in four, and the format of its values in two; nothing comes after them.
 -- How it is read: what isn't there is C15, a name that isn't UTF-8 C14, another format than 0 and 1 C30, and bytes after the last
 -- column C17. The type of a column is the built-in of its OID, or else what a catalogue has of it, or else known by its OID alone.
-use Rattle.std.specs.Prelude.{FitsSigned, ◌≡◌, ◌==◌, ◌↔◌, ℕ, ◌<◌, ◌^◌, nat_eq, not, true, false, List, ◌∷◌, ◌++◌, length, flat_map, Option, Some, None, Ok, Err, if◌then◌else◌}
+use Rattle.std.specs.Prelude.{FitsSigned, ◌≡◌, ◌==◌, ◌↔◌, ℕ, ◌<◌, ◌^◌, nat_eq, not, true, false, List, ◌∷◌, ◌++◌, length, flat_map, Option, Some, None, Ok}
 use Rattle.std.specs.Int.{w16, w32, cast_signed, cast_unsigned, to_be_bytes}
 use Rattle.std.specs.List.{AllByRecursion}
 use Rattle.pgv_types.specs.Ty.{Ty, by_oid}
 use Rattle.pgv_types.specs.Facts.{built_in, is_custom}
 use Rattle.pgv_value.specs.Laws.{AreBytes}
 use Rattle.pgv_value.specs.Utf8.{is_utf8}
-use Rattle.pgv_value.specs.declared.error.CodecError.TheVariants.{OutOfRange, WrongLength}
+use Rattle.pgv_value.specs.declared.error.CodecError.TheVariants.{WrongLength}
 use Rattle.pgv_value.specs.declared.value.PgValueFormat.{PgValueFormat}
-use Rattle.pgv_value.specs.declared.value.PgValueFormat.TheVariants.{Text, Binary}
 use Rattle.pgv_row.specs.ColumnView.{Column}
 use Rattle.pgv_value.specs.Fronts.{i16_front, u16_front, u32_front, name_front, format_of, format_number}
 use Rattle.pgv_value.specs.Outcome.{Outcome, exactly, allocates, fails_if, done, ◌>>=◌, ◌>>◌}
-use Rattle.pgv_value.specs.Parsed.{Parsed}
 use Rattle.pgv_value.specs.Several.{several}
 
 -- ---- the type of a column

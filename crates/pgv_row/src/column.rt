@@ -4,7 +4,6 @@ ghost use Rattle.std.specs.Prelude.{◌≡◌, ◌==◌, true, length, map};
 ghost use Rattle.std.specs.Option.{option_copied};
 ghost use Rattle.pgv_row.specs.Description.{column_front, description, in_format, IsDescription};
 ghost use Rattle.pgv_value.specs.Outcome.{Gives, IsRead, after};
-ghost use Rattle.pgv_value.specs.Parsed.{GivesExactly};
 ghost use Rattle.pgv_row.specs.RowView.{column_at};
 ghost use Rattle.pgv_value.specs.Several.{several};
 

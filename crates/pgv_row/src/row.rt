@@ -354,7 +354,7 @@ pub struct PgOwnedRow {
 }
 
 impl Model for PgOwnedRow {
-    ghost use Rattle.std.specs.Prelude.{ℕ, List};
+    ghost use Rattle.std.specs.Prelude.{List};
     ghost use Rattle.std.specs.Coded.{coded_list, coded_option, coded_ℕ};
     ghost use Rattle.pgv_value.specs.FrameBinary.{Part};
     ghost use Rattle.pgv_row.specs.Places.{parts_at, AreWithin};

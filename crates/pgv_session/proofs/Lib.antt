@@ -8,4 +8,3 @@ pub mod Spellings
 pub mod InputLines
 pub mod Feeds
 pub mod Refusals
-pub mod Explaining

@@ -8,45 +8,31 @@ use Rattle.std.proofs.lemmas.Bool.{false≢true}
 use Rattle.std.proofs.lemmas.Bool.Decides.{nat_tests}
 use Rattle.pgv_types.specs.Ty.{Ty}
 use Rattle.pgv_types.specs.declared.oid.Oid.{Oid}
-use Rattle.pgv_buf.specs.Tokens.{Token}
 use Rattle.pgv_value.specs.Codes.{code_of}
 use Rattle.pgv_value.specs.declared.error.CodecError.{CodecError}
-use Rattle.pgv_value.specs.Reading.{Refuses}
 use Rattle.pgv_value.specs.declared.error.CodecError.TheVariants.{Memory, HoleCount}
-use Rattle.pgv_wire.specs.Arguments.{Framed}
-use Rattle.pgv_codec.specs.Outcome.{Refused}
-use Rattle.pgv_codec.specs.Refusing.{RefusedBy}
+use Rattle.pgv_wire.specs.Arguments.{argument_frame}
+use Rattle.pgv_codec.specs.Encoding.{Encoding, frame, value_type}
+use Rattle.pgv_value.specs.Outcome.{Outcome, Fails, ok_of, why_of}
+use Rattle.pgv_session.specs.Types.{framed_as}
 use Rattle.pgv_session.specs.Session.{State, Adds, Resolves, refused, IsRefusal, RefusedAs}
 
 abbrev pub Text : Type 0
 Text = String Global
 
-abbrev pub framed_with : Ty → Option (List Token) → Option Framed
-framed_with t f = option_map (λ ts. (t, ts)) f
-
--- an error that is not out of memory holds what it says
-pub no_memory : (e : CodecError) {P : Type 0} → e ≢ Memory → Refuses e P → P
-no_memory Memory n h = absurd (n refl)
-no_memory _ n h = h
-
 -- it is told with the number of the refusal that is stated
-pub refused_as : (why : Option CodecError) (e : CodecError) (answer : List ℕ) → RefusedBy why e → e ≢ Memory → IsRefusal answer → answer ≡ refused (code_of e) → RefusedAs why answer
-refused_as None e answer r n refusal told = (refusal, tt)
-refused_as (Some stated) e answer r n refusal told = (refusal, told ∙ ap (λ (g : CodecError). refused (code_of g)) (no_memory e n r))
-
-no_frame : (f : Option (List Token)) (e : CodecError) → Refused e f → e ≢ Memory → f ≡ None
-no_frame f e (inl none) n = none
-no_frame f e (inr memory) n = absurd (n memory)
-
-framed_none : (t : Ty) (f : Option (List Token)) → f ≡ None → ◌≡◌ {A = Option Framed} None (framed_with t f)
-framed_none t f none = sym (ap (λ (g : Option (List Token)). framed_with t g) none)
+pub refused_as : {M : Type 0} (o : Outcome M) (e : CodecError) (answer : List ℕ) → Fails e o → e ≢ Memory → IsRefusal answer → answer ≡ refused (code_of e) → (ok_of o.answer ≡ None) × RefusedAs (why_of o.answer) answer
+refused_as o e answer (inl h) n refusal told = rw h (refl, (refusal, told))
+refused_as o e answer (inr (inl h)) n refusal told = rw h.0 (refl, (refusal, tt))
+refused_as o e answer (inr (inr h)) n refusal told = absurd (n h.0)
 
 -- what is refused is not added
-pub not_added : (t : Ty) (f : Option (List Token)) (why : Option CodecError) (e : CodecError) (was now : State) (r : Result Text AllocError) → Refused e f → RefusedBy why e → now ≡ was →
-    IfOk r (λ text. IsRefusal (string_bytes text)) → IfOk r (λ text. e ≢ Memory) → IfOk r (λ text. string_bytes text ≡ refused (code_of e)) → IfOk r (λ text. Adds (framed_with t f) why was (string_bytes text) now)
-not_added t f why e was now (Ok text) none stated same refusal n told =
-    subst (λ g. Adds g why was (string_bytes text) now) (framed_none t f (no_frame f e none n)) (refused_as why e (string_bytes text) stated n refusal told, same)
-not_added t f why e was now (Err x) none stated same refusal n told = tt
+pub not_added : (info : Ty) (v : Encoding) (e : CodecError) (was now : State) (r : Result Text AllocError) → Fails e (argument_frame v) → now ≡ was →
+    IfOk r (λ text. IsRefusal (string_bytes text)) → IfOk r (λ text. e ≢ Memory) → IfOk r (λ text. string_bytes text ≡ refused (code_of e)) → IfOk r (λ text. Adds (framed_as info v) (why_of (frame v).answer) was (string_bytes text) now)
+not_added info v e was now (Ok text) fault same refusal n told =
+    let h = refused_as (argument_frame v) e (string_bytes text) fault n refusal told in
+    subst (λ g. Adds g (why_of (frame v).answer) was (string_bytes text) now) (sym (ap (option_map (λ ts. (value_type info v, ts))) h.0)) (h.1, same)
+not_added info v e was now (Err x) fault same refusal n told = tt
 
 -- `refused Cn`, of an error
 abbrev pub IsTold : CodecError → Text → Type 0

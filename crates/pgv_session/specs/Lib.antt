@@ -3,7 +3,6 @@ pub mod Lines
 pub mod Laws
 pub mod RequestsView
 pub mod Session
-pub mod Explained
 pub mod Types
 pub mod ToldView
 pub mod CopiedView

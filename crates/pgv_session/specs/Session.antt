@@ -17,7 +17,6 @@ use Rattle.pgv_buf.specs.Tokens.{bytes, be4, blank, shown, hole_count, hole_type
 use Rattle.pgv_value.specs.Codes.{code_of}
 use Rattle.pgv_value.specs.ValueView.{Given}
 use Rattle.pgv_value.specs.declared.error.CodecError.{CodecError}
-use Rattle.pgv_value.specs.Reading.{refusal_or}
 use Rattle.pgv_value.specs.Parsed.{Parsed}
 use Rattle.pgv_copy.specs.CopyBinary.{Step, header, before, step}
 use Rattle.pgv_copy.specs.CopyView.{Copying}
@@ -113,6 +112,11 @@ field_shown row (Some bytes) = option_map (λ f. encode_lower (shown (blank f.1)
 abbrev pub fields_shown : List (Row × Given) → Option (List (List ℕ))
 fields_shown [] = Some []
 fields_shown (f ∷ fs) = with_first (field_shown f.0 f.1.bytes) (fields_shown fs)
+
+-- the reason that is given where nothing was read, else the reason of what comes after
+abbrev pub refusal_or : {A B : Type 0} → B → Option A → (A → B) → B
+refusal_or why None after = why
+refusal_or why (Some read) after = after read
 
 -- and else the refusal of the first that is not shown, where it is stated
 abbrev pub fields_refused : List (Row × Given) → Option CodecError

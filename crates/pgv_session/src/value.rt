@@ -1,20 +1,17 @@
 //! What is asked of a value of a TYPE.
 
-ghost use Rattle.std.specs.Prelude.{◌≡◌, ◌≢◌, Option, Some, None, IfOk, option_map, is_some, false, string_bytes};
+ghost use Rattle.std.specs.Prelude.{◌≡◌, ◌≢◌, Some, None, IfOk, option_map, is_some, false, string_bytes};
 ghost use Rattle.std.specs.Option.{option_copied};
 ghost use Rattle.pgv_value.specs.Codes.{code_of};
-ghost use Rattle.pgv_value.specs.Outcome.{reading_of};
-ghost use Rattle.pgv_value.specs.declared.error.CodecError.{CodecError};
+ghost use Rattle.pgv_value.specs.Outcome.{reading_of, why_of};
 ghost use Rattle.pgv_value.specs.declared.error.CodecError.TheVariants.{Memory};
-ghost use Rattle.pgv_value.specs.declared.value.PgValueFormat.TheVariants.{Text as InText, Binary as InBinary};
-ghost use Rattle.pgv_codec.specs.Refusing.{frame_refused};
-ghost use Rattle.pgv_codec.specs.Saying.{said};
+ghost use Rattle.pgv_value.specs.declared.value.PgValueFormat.TheVariants.{Binary as InBinary};
+ghost use Rattle.pgv_codec.specs.Encoding.{frame};
 ghost use Rattle.pgv_session.specs.RequestsView.{ask_seen};
 ghost use Rattle.pgv_session.specs.Session.{RespondsBy, Adds, AddsText, ReadsPart, Shows, IsRefusal, refused, placeholder as placeholder_of};
 ghost use Rattle.pgv_session.specs.Spelled.{to_read};
 ghost use Rattle.pgv_session.specs.ToldView.{told_text, is_said, TellsOf};
-ghost use Rattle.pgv_session.specs.Types.{framed_as, row, row_named, types, unstated};
-ghost use Rattle.pgv_session.specs.Explained.{Explains};
+ghost use Rattle.pgv_session.specs.Types.{framed_as, row, row_named, types};
 
 use crate::line::{Ask, is};
 use jiff::Timestamp;
@@ -141,20 +138,18 @@ pub fn respond_by(
     }
 }
 
-/// Answers what is asked of a value of a Rust type, of which null is none. What explains the refusals that its encoder states may be any
-/// function of what a value says.
+/// Answers what is asked of a value of a Rust type, of which null is none.
 fn respond_as<T: Codec>(
     alloc: Global,
     arguments: &mut PgArguments,
     ask: Ask,
 ) -> Result<Told, AllocError>
     requires { reading_of T.parse T.info InBinary None ≡ None }
-    ensures answer { (unwritten : T.View → Option CodecError) →
-        Explains T.unwritable T.view unwritten → IfOk result (λ told.
-        RespondsBy (Some (row T.info T.parse T.written unwritten)) (ask_seen ask.entry)
+    ensures answer { IfOk result (λ told.
+        RespondsBy (Some (row T.info T.parse T.written)) (ask_seen ask.entry)
         arguments.old (told_text told) arguments.new) }
     ensures exact { IfOk result (λ told.
-        TellsOf (Some (row T.info T.parse T.written unstated)) (ask_seen ask.entry) told) }
+        TellsOf (Some (row T.info T.parse T.written)) (ask_seen ask.entry) told) }
 {
     match ask {
         Ask::Add(text) => Ok(Told::Said(add::<T>(alloc, arguments, text)?)),
@@ -173,9 +168,8 @@ fn add<T: Codec>(
     arguments: &mut PgArguments,
     text: &[u8],
 ) -> Result<String, AllocError>
-    ensures { (unwritten : T.View → Option CodecError) →
-        Explains T.unwritable T.view unwritten → IfOk result (λ answer.
-        AddsText (row T.info T.parse T.written unwritten) text.now
+    ensures { IfOk result (λ answer.
+        AddsText (row T.info T.parse T.written) text.now
         arguments.old (string_bytes answer) arguments.new) }
 {
     match T::decode(
@@ -194,8 +188,7 @@ fn add_value<T: Encode + Type>(
     value: &T,
 ) -> Result<String, AllocError>
     ensures { IfOk result (λ answer.
-        Adds (framed_as (said T.hint T.image T.produced T.info value.now))
-        (frame_refused (T.hint value.now) (T.image value.now) (T.unwritable value.now))
+        Adds (framed_as T.info (T.encoding value.now)) (why_of (frame (T.encoding value.now)).answer)
         arguments.old (string_bytes answer) arguments.new) }
 {
     match arguments.add_by_ref(value) {
@@ -218,13 +211,11 @@ fn placeholder(alloc: Global, arguments: &PgArguments) -> Result<String, AllocEr
 /// The frame that the value of null or bytes writes, in hex.
 fn read<T: Codec>(alloc: Global, part: Option<&[u8]>) -> Result<Told, AllocError>
     requires { reading_of T.parse T.info InBinary None ≡ None }
-    ensures answer { (unwritten : T.View → Option CodecError) →
-        Explains T.unwritable T.view unwritten → IfOk result (λ told.
-        ReadsPart (row T.info T.parse T.written unwritten) (option_copied part.entry)
+    ensures answer { IfOk result (λ told.
+        ReadsPart (row T.info T.parse T.written) (option_copied part.entry)
         (told_text told)) }
     ensures exact { IfOk result (λ told.
-        TellsOf (Some (row T.info T.parse T.written unstated))
-        (to_read (option_copied part.entry)) told) }
+        TellsOf (Some (row T.info T.parse T.written)) (to_read (option_copied part.entry)) told) }
 {
     match T::decode(
         alloc,
@@ -238,10 +229,10 @@ fn read<T: Codec>(alloc: Global, part: Option<&[u8]>) -> Result<Told, AllocError
 /// The frame that a value writes, in hex, or why it is refused.
 fn frame_text<T: Encode + Type>(alloc: Global, value: &T) -> Result<Told, AllocError>
     ensures answer { IfOk result (λ told.
-        Shows (framed_as (said T.hint T.image T.produced T.info value.now))
-        (frame_refused (T.hint value.now) (T.image value.now) (T.unwritable value.now)) (told_text told)) }
+        Shows (framed_as T.info (T.encoding value.now)) (why_of (frame (T.encoding value.now)).answer)
+        (told_text told)) }
     ensures exact { IfOk result (λ told.
-        is_said told ≡ is_some (framed_as (said T.hint T.image T.produced T.info value.now))) }
+        is_said told ≡ is_some (framed_as T.info (T.encoding value.now))) }
 {
     let mut buffer = PgArgumentBuffer::new(alloc);
     match buffer.encode(value) {

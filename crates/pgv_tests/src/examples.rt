@@ -371,7 +371,7 @@ fn document_shown(alloc: Global, parameter: PgType) -> Result<String, CodecError
     arguments.apply_patches(&[PgTypeInfo(parameter)], &[])?;
     let sent = arguments.buffer().as_slice();
     let column = PgTypeInfo(PgType::Jsonb);
-    let value = PgValueRef::new(Some(&sent[4..]), column, PgValueFormat::Binary);
+    let value = PgValueRef::new(sent.get(4..), column, PgValueFormat::Binary);
     let read = Json::decode(alloc, value)?;
     Ok(format!(in alloc; "{} {}", encode(alloc, sent)?, read.text)?)
 }
@@ -400,7 +400,7 @@ fn range_shown(alloc: Global) -> Result<String, CodecError> {
     let sent = arguments.buffer().as_slice();
     let over = PgTypeKind::Range(PgTypeInfo(PgType::Float8));
     let column = PgTypeInfo::custom(alloc, Oid(16700), "floatrange", over)?;
-    let value = PgValueRef::new(Some(&sent[4..]), column, PgValueFormat::Binary);
+    let value = PgValueRef::new(sent.get(4..), column, PgValueFormat::Binary);
     let read = FloatRange::decode(alloc, value)?;
     Ok(format!(in alloc; "{} {:?}", encode(alloc, sent)?, read.range)?)
 }

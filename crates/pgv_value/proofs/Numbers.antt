@@ -21,10 +21,6 @@ pub test_failed : {A : Type 0} (b : Bool) (o : Option A) (y : A) → (if b then 
 test_failed true o y e = absurd cc
 test_failed false o y e = (refl, e)
 
-pub test_held : {A : Type 0} (b : Bool) (o : Option A) (y : A) → (if b then o else None) ≡ Some y → (b ≡ true) × (o ≡ Some y)
-test_held true o y e = (refl, e)
-test_held false o y e = absurd cc
-
 pub pair_is : {A B : Type 0} (a c : A) (b d : B) → (let o : Option (A × B) = Some (a, b) in o) ≡ Some (c, d) → (a ≡ c) × (b ≡ d)
 pair_is {A} {B} a c b d e =
     let p = same_Some {A = A × B} (a, b) (c, d) e in

@@ -4,8 +4,8 @@ use Rattle.std.specs.Prelude.{ok_or, IfErr}
 use Rattle.std.proofs.lemmas.Bool.{false≢true}
 use Rattle.pgv_value.specs.declared.error.CodecError.{CodecError}
 use Rattle.pgv_value.specs.declared.error.CodecError.TheVariants.{Memory}
-use Rattle.pgv_value.specs.Outcome.{Outcome, Fails, Gives, fails_if, stated, exactly, bind_by, ok_of, ◌>>=◌, ◌>>◌}
-use Rattle.pgv_value.specs.Parsed.{Parsed, GivesExactly, ◌>>=◌ as ◌and_then◌}
+use Rattle.pgv_value.specs.Outcome.{Outcome, Fails, fails_if, stated, exactly, bind_by, ok_of, ◌>>=◌, ◌>>◌}
+use Rattle.pgv_value.specs.Parsed.{Parsed, ◌>>=◌ as ◌and_then◌}
 
 pub answer_is : {A : Type 0} (x y : A) → (let r : Result A (Option CodecError) = Ok x in r) ≡ Ok y → x ≡ y
 answer_is x y e = cc
@@ -22,10 +22,6 @@ answers_are {A} {B} a c b d e =
 
 pub ok_is : {A : Type 0} (x y : A) → (let r : Parsed A = Ok x in r) ≡ Ok y → x ≡ y
 ok_is x y e = cc
-
-pub gives_exactly : {V M : Type 0} (view : V → M) (p : Parsed M) (r : Result V CodecError) → GivesExactly view p r → Gives view (exactly p) r
-gives_exactly view p (Ok v) h = ap stated h
-gives_exactly view p (Err e) h = inl (ap stated h)
 
 -- ---- steps that never ask for memory
 

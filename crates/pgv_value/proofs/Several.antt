@@ -1,6 +1,6 @@
 -- Things one after another, as a loop reads them, and what their bytes are.
 use Rattle.std.proofs.Common.{◌≡◌, ℕ, zero, suc, ◌-◌, ◌<◌, ◌≤◌, true, false, List, [], ◌∷◌, ◌++◌, length, Option, Some, None, Ok, Err, Result, refl, sym, ap, ◌∙◌, subst, append_assoc, append-nil, arith, inl, inr}
-use Rattle.std.specs.Prelude.{◌↔◌, flat_map}
+use Rattle.std.specs.Prelude.{flat_map}
 use Rattle.std.specs.List.{AllByRecursion}
 use Rattle.pgv_value.specs.Laws.{AreBytes}
 use Rattle.pgv_value.specs.declared.error.CodecError.{CodecError}
@@ -117,7 +117,3 @@ module _ {A : Type 0} (Is : A → Type 0) (encode : A → List ℕ) (one : List 
   several_read n bytes list rest h s =
       ap (λ (k : ℕ). (several one k bytes).answer) (sym s.many) ∙ ap (λ (xs : List ℕ). (several one (length list) xs).answer) s.whole
       ∙ several_by list rest s.each (subst AreBytes s.whole h)
-
-  -- Several are read exactly from their encodings, one after another, and the rest.
-  pub reads_several : (n : ℕ) (bytes : List ℕ) (list : List A) (rest : List ℕ) → AreBytes bytes → ((several one n bytes).answer ≡ Ok (list, rest)) ↔ AreSeveral Is encode n bytes list rest
-  reads_several n bytes list rest h = (are_several n bytes list rest h, several_read n bytes list rest h)

@@ -111,10 +111,6 @@ copied parsed = do
   allocates (has_items (Some items))
   done items
 
--- what is read, or else this error, and whether memory may be asked for by then
-abbrev pub read_or : {M : Type 0} → Option M → CodecError → Bool → Outcome M
-read_or read why takes = record { answer = ok_or read (Some why); may_alloc = takes }
-
 -- ---- what bytes are, and what is read of them
 
 -- What was returned is what is there, and whatever is there is what was returned, unless memory ran out.

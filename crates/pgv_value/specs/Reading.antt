@@ -1,5 +1,5 @@
 -- What a type reads, and what a reader answers.
-use Rattle.std.specs.Prelude.{◌≡◌, ℕ, Bool, true, false, List, [], ◌∷◌, Option, Some, None, Result, Ok, Err, ⊤}
+use Rattle.std.specs.Prelude.{ℕ, Bool, true, false, List, [], ◌∷◌, Option, Some, None, ⊤}
 use Rattle.pgv_types.specs.Ty.{Ty}
 use Rattle.pgv_value.specs.declared.error.CodecError.{CodecError}
 use Rattle.pgv_value.specs.declared.error.CodecError.TheVariants.{Memory}
@@ -19,19 +19,3 @@ has_items (Some (x ∷ xs)) = true
 abbrev pub Refuses : CodecError → Type 0 → Type 0
 Refuses Memory p = ⊤
 Refuses _ p = p
-
--- A value is answered exactly where its meaning is what was read: it is refused, other than for memory,
--- only where nothing is read.
-abbrev pub Answers : {V M : Type 0} → (V → M) → Option M → Result V CodecError → Type 0
-Answers meaning read (Ok v) = read ≡ Some (meaning v)
-Answers meaning read (Err e) = Refuses e (read ≡ None)
-
--- the same of a reader that takes no memory: refused only where nothing is read
-abbrev pub AnswersExactly : {V M : Type 0} → (V → M) → Option M → Result V CodecError → Type 0
-AnswersExactly meaning read (Ok v) = read ≡ Some (meaning v)
-AnswersExactly meaning read (Err e) = read ≡ None
-
--- the reason that is given where nothing was read, else the reason of what comes after
-abbrev pub refusal_or : {A B : Type 0} → B → Option A → (A → B) → B
-refusal_or why None after = why
-refusal_or why (Some read) after = after read

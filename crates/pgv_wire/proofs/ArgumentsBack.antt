@@ -1,5 +1,5 @@
 -- The parts of arguments after any list of calls, and that they are read back.
-use Rattle.std.proofs.Common.{◌≡◌, ℕ, zero, suc, nat_le, List, [], ◌∷◌, ◌++◌, length, take, drop, Option, Some, None, refl, sym, ◌∙◌, ap, subst, arith}
+use Rattle.std.proofs.Common.{◌≡◌, ℕ, zero, suc, List, [], ◌∷◌, ◌++◌, length, take, drop, Option, Some, None, Result, Ok, refl, sym, ◌∙◌, ap, subst, arith}
 use Rattle.std.specs.List.{slice_get}
 use Rattle.std.proofs.lemmas.List.{length-map}
 use Rattle.std.proofs.lemmas.Option.{same_Some}
@@ -10,15 +10,16 @@ use Rattle.pgv_buf.specs.Proper.{Proper, Proper-front, Proper-back, first_type, 
 use Rattle.pgv_buf.specs.Tokens.{Token, byte, hole, slot, bytes, be4, tokens_width, tokens_holes, Cell, fixed, hole_cell, slot_cell, blank, plain, shown, hole_count}
 use Rattle.pgv_value.specs.FrameBinary.{Part}
 use Rattle.pgv_value.specs.Reading.{Reading}
-use Rattle.pgv_value.specs.declared.value.PgValueFormat.TheVariants.{Binary}
 use Rattle.pgv_wire.specs.Arguments.{Argument, Framed, framed, all_tokens, filled_arguments}
+use Rattle.pgv_value.specs.Outcome.{ok_of}
+use Rattle.pgv_value.specs.declared.error.CodecError.{CodecError}
 use Rattle.pgv_codec.specs.Writing.{write}
 use Rattle.pgv_codec.specs.Back.{AreOids, SlotsFit, ImageFits, ReadsBack}
-use Rattle.pgv_codec.specs.BackParts.{guarded, SlotsFit-back, AreOids-take, AreOids-drop}
+use Rattle.pgv_codec.specs.BackParts.{frame_parts, SlotsFit-back, AreOids-take, AreOids-drop}
 use Rattle.pgv_wire.specs.Given.{Given, zeros, given_by, given_none, given_in, parts_given, ArgumentReadsBack}
 use Rattle.pgv_wire.specs.History.{Call, last_filling, after, added_in, blanks}
 use Rattle.pgv_wire.specs.MainSentence.{ComeBackIn, MainSentence}
-use Rattle.pgv_codec.specs.Image.{Image, null_image, image_of, limit, frame_of}
+use Rattle.pgv_codec.specs.Encoding.{Encoding, Image, null_image, image_of, frame_of}
 use Rattle.pgv_wire.specs.Parts.{AreFrames, part_in, parts_in}
 use Rattle.pgv_codec.specs.Writing.{written_part}
 use Rattle.pgv_wire.proofs.Framed.{framed-left}
@@ -36,10 +37,10 @@ shown-blank zero (hole t ∷ ts) = ap (λ (r : List ℕ). be4 0 ++ r) (shown-bla
 shown-blank (suc n) (hole t ∷ ts) = ap (λ (r : List ℕ). be4 0 ++ r) (shown-blank n ts)
 shown-blank n (slot d cs ∷ ts) = ap (λ (r : List ℕ). d ++ r) (shown-blank n ts)
 
-part_blank : (i : Image) (f : List Token) → frame_of (Some i) ≡ Some f → part_in i (blank f) ≡ written_part i None (zeros (tokens_holes f))
+part_blank : (i : Image) (f : List Token) → (frame_of i).answer ≡ Ok f → part_in i (blank f) ≡ written_part i None (zeros (tokens_holes f))
 part_blank null_image f e = refl
 part_blank (image_of ts) f e =
-    let k = cut ts f _ refl e in
+    let k = cut ts f e in
     ap (λ (r : List Token). let q : Part = Some (drop 4 (shown (blank r))) in q) k.1 ∙ ap (λ (r : List ℕ). let q : Part = Some r in q) (shown-blank (tokens_holes f) ts)
 
 parts_since : (fs : List Framed) (is : List Image) → AreFrames is fs → parts_in is (blanks fs) ≡ parts_given is (given_none fs)
@@ -55,7 +56,7 @@ parts_left (f ∷ fs) since [] ps os h = absurd h
 parts_left (f ∷ fs) since (i ∷ is) ps os h =
     let c : List Cell = blank f.1 in
     let same : plain c ≡ f.1 = plain-blank f.1 in
-    let there : frame_of (Some i) ≡ Some (plain c) = h.0 ∙ ap (λ (r : List Token). let o : Option (List Token) = Some r in o) (sym same) in
+    let there : (frame_of i).answer ≡ Ok (plain c) = h.0 ∙ ap (λ (r : List Token). let o : Result (List Token) (Option CodecError) = Ok r in o) (sym same) in
     let many : hole_count c ≡ tokens_holes f.1 = sym (holes-plain c) ∙ ap tokens_holes same in
     let rest : ℕ → List Part = λ n. parts_in is (filled_arguments (blanks fs) (rest_of ps) (drop n os) ++ blanks since) in
     ap (λ (p : Part). p ∷ rest (hole_count c)) (part_filled i c (first_type ps) (take (hole_count c) os) there)
@@ -77,12 +78,12 @@ part_at (j ∷ is) [] k i g e f = absurd cc
 part_at (j ∷ is) (x ∷ gs) zero i g e f = rw (same_Some j i e, same_Some x g f) refl
 part_at (j ∷ is) (x ∷ gs) (suc k) i g e f = part_at is gs k i g e f
 
-image_at : (is : List Image) (fs : List Framed) (k : ℕ) (a : Framed) (j : Image) → AreFrames is fs → slice_get fs k ≡ Some a → frame_of (Some j) ≡ Some a.1 → slice_get is k ≡ Some j
+image_at : (is : List Image) (fs : List Framed) (k : ℕ) (a : Framed) (j : Image) → AreFrames is fs → slice_get fs k ≡ Some a → (frame_of j).answer ≡ Ok a.1 → slice_get is k ≡ Some j
 image_at [] [] k a j h e f = absurd cc
 image_at [] (x ∷ fs) k a j h e f = absurd h
 image_at (i ∷ is) [] k a j h e f = absurd h
 image_at (i ∷ is) (x ∷ fs) zero a j h e f =
-    let there : frame_of (Some i) ≡ Some a.1 = h.0 ∙ ap (λ (r : Framed). let o : Option (List Token) = Some r.1 in o) (same_Some x a e) in
+    let there : (frame_of i).answer ≡ Ok a.1 = h.0 ∙ ap (λ (r : Framed). let o : Result (List Token) (Option CodecError) = Ok r.1 in o) (same_Some x a e) in
     ap (λ (r : Image). let o : Option Image = Some r in o) (one_image i j a.1 there f)
 image_at (i ∷ is) (x ∷ fs) (suc k) a j h e f = image_at is fs k a j h.1 e f
 
@@ -98,10 +99,10 @@ slots_fit_at [] k a h e = absurd cc
 slots_fit_at (x ∷ args) zero a h e = subst (λ (f : Framed). SlotsFit f.1) (same_Some (x.0, plain x.1) a e) (slots_fit x.1 (Proper-front x.1 (all_tokens args) h))
 slots_fit_at (x ∷ args) (suc k) a h e = slots_fit_at args k a (Proper-back x.1 (all_tokens args) h) e
 
-image_fits : (i : Image) (f : List Token) → frame_of (Some i) ≡ Some f → SlotsFit f → ImageFits i
+image_fits : (i : Image) (f : List Token) → (frame_of i).answer ≡ Ok f → SlotsFit f → ImageFits i
 image_fits null_image f e h = tt
 image_fits (image_of ts) f e h =
-    let k = cut ts f _ refl e in
+    let k = cut ts f e in
     SlotsFit-back (bytes (be4 (tokens_width ts))) ts (subst SlotsFit k.1 h)
 
 zeros_fit : (n : ℕ) → AreOids (zeros n)
@@ -118,26 +119,21 @@ oids_fit [] since ps os k g h e = since_fit since k g e
 oids_fit (f ∷ fs) since ps os zero g h e = subst (λ (x : Given). AreOids x.oids) (same_Some _ g e) (AreOids-take (tokens_holes f.1) os h)
 oids_fit (f ∷ fs) since ps os (suc k) g h e = oids_fit fs since (rest_of ps) (drop (tokens_holes f.1) os) k g (AreOids-drop (tokens_holes f.1) os h) e
 
-module _ {A M : Type 0} (hint : A → ℕ) (image : A → Option Image) (reading : Reading M) (kept : A → M) (fits : A → Ty → List Oid → Type 0) (law : ReadsBack image reading kept fits) where
+module _ {A M : Type 0} (encoding : A → Encoding) (reading : Reading M) (kept : A → M) (fits : A → Ty → List Oid → Type 0) (law : ReadsBack encoding reading kept fits) where
   come_back : (calls : List Call) (is : List Image) → AreFrames is (added_in calls) → Proper (all_tokens (after [] calls)) → AreOids (last_filling calls).oids →
-      ComeBackIn hint image reading kept fits calls (parts_in is (after [] calls))
-  come_back calls is frames proper small place a g v t there framed_as given fit = by_image (image v) refl (guarded (nat_le (hint v) limit) (frame_of (image v)) a.1 framed_as).1
-    where
-      by_image : (o : Option Image) → image v ≡ o → frame_of (image v) ≡ Some a.1 →
-          (part : Part) × (slice_get (parts_in is (after [] calls)) place ≡ Some part) × (reading t Binary part ≡ Some (kept v))
-      by_image None o_is e = absurd (let none : frame_of None ≡ Some a.1 = ap frame_of (sym o_is) ∙ e in cc)
-      by_image (Some j) o_is e =
-          let frame_is : frame_of (Some j) ≡ Some a.1 = ap frame_of (sym o_is) ∙ e in
-          let j_there = image_at is (added_in calls) place a j frames there frame_is in
-          let a_there : slice_get (framed (after [] calls)) place ≡ Some a = ap (λ (fs : List Framed). slice_get fs place) (only_added calls) ∙ there in
-          let whole = image_fits j a.1 frame_is (slots_fit_at (after [] calls) place a proper a_there) in
-          let own = oids_fit (last_filling calls).filled (last_filling calls).since (last_filling calls).types (last_filling calls).oids place g small given in (
-            written_part j g.parameter g.oids,
-            ap (λ (ps : List Part). slice_get ps place) (parts_told calls is frames) ∙ part_at is (given_in (last_filling calls)) place j g j_there given,
-            law v j t g.parameter g.oids o_is whole own fit,
-          )
+      ComeBackIn encoding reading kept fits calls (parts_in is (after [] calls))
+  come_back calls is frames proper small place a g v t there framed_as given fit =
+      let f = frame_parts (encoding v) a.1 framed_as in
+      let j_there = image_at is (added_in calls) place a f.0 frames there f.2 in
+      let a_there : slice_get (framed (after [] calls)) place ≡ Some a = ap (λ (fs : List Framed). slice_get fs place) (only_added calls) ∙ there in
+      let whole = image_fits f.0 a.1 f.2 (slots_fit_at (after [] calls) place a proper a_there) in
+      let own = oids_fit (last_filling calls).filled (last_filling calls).since (last_filling calls).types (last_filling calls).oids place g small given in (
+        written_part f.0 g.parameter g.oids,
+        ap (λ (ps : List Part). slice_get ps place) (parts_told calls is frames) ∙ part_at is (given_in (last_filling calls)) place f.0 g j_there given,
+        law v f.0 t g.parameter g.oids (ap ok_of f.1) whole own fit,
+      )
 
-  pub main_sentence : MainSentence hint image reading kept fits
+  pub main_sentence : MainSentence encoding reading kept fits
   main_sentence calls is frames proper small =
       let framed_too : AreFrames is (framed (after [] calls)) = subst (λ (fs : List Framed). AreFrames is fs) (sym (only_added calls)) frames in
       record {
@@ -148,7 +144,7 @@ module _ {A M : Type 0} (hint : A → ℕ) (image : A → Option Image) (reading
         come_back = come_back calls is frames proper small;
       }
 
-  pub argument_back : ArgumentReadsBack hint image reading kept fits
+  pub argument_back : ArgumentReadsBack encoding reading kept fits
   argument_back calls is place a g v t frames proper small there framed_as given fit =
       let all = main_sentence calls is frames proper small in
       let back = all.come_back place a g v t there framed_as given fit in

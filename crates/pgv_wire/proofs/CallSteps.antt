@@ -2,19 +2,23 @@
 use Rattle.std.proofs.Common.{◌≡◌, List, [], ◌∷◌, ◌++◌, Option, Some, None, Ok, Err, inl, inr, refl, sym, ◌∙◌, ap, append_assoc, append-nil}
 use Rattle.pgv_types.specs.Ty.{Ty}
 use Rattle.pgv_buf.specs.Tokens.{Token, blank}
+use Rattle.pgv_value.specs.Outcome.{Outcome, ok_of}
+use Rattle.pgv_value.specs.declared.error.CodecError.{CodecError}
 use Rattle.pgv_wire.specs.Arguments.{Argument, filled_arguments}
 use Rattle.pgv_wire.specs.Each.{argument_by, added_by, accepted}
 use Rattle.pgv_wire.specs.History.{Call, adds, fills, is_refused, after}
-use Rattle.pgv_wire.specs.MainSentence.{call_of, calls_of, AdditionIsAStep, RefusalIsAStep, EachOutcomeIsAStep, CallsAreJoined}
+use Rattle.pgv_wire.specs.MainSentence.{call_by, call_of, calls_of, AdditionIsAStep, RefusalIsAStep, EachOutcomeIsAStep, CallsAreJoined}
 
 pub addition_step : AdditionIsAStep
-addition_step None t was now a = absurd (let none = a.1 in cc)
-addition_step (Some ts) t was now a = rw (a.2) (let same : a.0 ≡ ts = cc in rw same refl)
+addition_step f t was now a = a.2 ∙ sym (ap (λ r. after was (call_by t (ok_of r) ∷ [])) a.1)
+
+refused_step : (f : Outcome (List Token)) (why : Option CodecError) (t : Ty) (was now : List Argument) → f.answer ≡ Err why → now ≡ was → now ≡ after was (call_of t f ∷ [])
+refused_step f why t was now is same = same ∙ sym (ap (λ r. after was (call_by t (ok_of r) ∷ [])) is)
 
 pub refusal_step : RefusalIsAStep
-refusal_step e None t was now r n same = same
-refusal_step e (Some ts) t was now (inl none) n same = absurd cc
-refusal_step e (Some ts) t was now (inr memory) n same = absurd (n memory)
+refusal_step e f t was now (inl h) n same = refused_step f (Some e) t was now h same
+refusal_step e f t was now (inr (inl h)) n same = refused_step f None t was now h.0 same
+refusal_step e f t was now (inr (inr h)) n same = absurd (n h.0)
 
 pub calls_joined : CallsAreJoined
 calls_joined was [] more = refl
@@ -22,8 +26,8 @@ calls_joined was (adds f ∷ calls) more = calls_joined (was ++ (f.0, blank f.1)
 calls_joined was (fills ps os ∷ calls) more = calls_joined (filled_arguments was ps os) calls more
 calls_joined was (is_refused ∷ calls) more = calls_joined was calls more
 
-module _ {X : Type 0} (framed_as : X → Option (List Token)) (typed_as : X → Ty) where
-  call_step : (t : Ty) (f : Option (List Token)) (calls : List Call) (was : List Argument) → after was (call_of t f ∷ calls) ≡ after (was ++ argument_by framed_as typed_as t f) calls
+module _ {X : Type 0} (framed_as : X → Outcome (List Token)) (typed_as : X → Ty) where
+  call_step : (t : Ty) (f : Option (List Token)) (calls : List Call) (was : List Argument) → after was (call_by t f ∷ calls) ≡ after (was ++ argument_by framed_as typed_as t f) calls
   call_step t None calls was = ap (λ (args : List Argument). after args calls) (sym (append-nil was))
   call_step t (Some ts) calls was = refl
 
@@ -32,5 +36,5 @@ module _ {X : Type 0} (framed_as : X → Option (List Token)) (typed_as : X → 
   each_step (x ∷ xs) [] was = append-nil was
   each_step (x ∷ xs) (Ok u ∷ rs) was =
       sym (append_assoc was (added_by framed_as typed_as x (Ok u)) (accepted framed_as typed_as xs rs))
-      ∙ (each_step xs rs (was ++ added_by framed_as typed_as x (Ok u)) ∙ sym (call_step (typed_as x) (framed_as x) (calls_of framed_as typed_as xs rs) was))
+      ∙ (each_step xs rs (was ++ added_by framed_as typed_as x (Ok u)) ∙ sym (call_step (typed_as x) (ok_of (framed_as x).answer) (calls_of framed_as typed_as xs rs) was))
   each_step (x ∷ xs) (Err e ∷ rs) was = each_step xs rs was

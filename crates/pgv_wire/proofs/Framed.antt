@@ -1,6 +1,6 @@
 -- What additions and fillings keep of arguments: their frames without what these show, that each is the frame of an
 -- image, and that each shows what some types and OIDs write, or is not filled yet.
-use Rattle.std.proofs.Common.{◌≡◌, ℕ, ◌+◌, Bool, true, false, cond, List, [], ◌∷◌, ◌++◌, length, drop, take, replicate, Option, Some, None, refl, sym, ◌∙◌, ap, subst, append_assoc, append-nil}
+use Rattle.std.proofs.Common.{◌≡◌, ℕ, ◌+◌, List, [], ◌∷◌, ◌++◌, length, drop, take, replicate, Ok, refl, sym, ◌∙◌, ap, subst, append_assoc, append-nil}
 use Rattle.std.proofs.lemmas.List.{length-map, map-append}
 use Rattle.pgv_types.specs.Ty.{Ty}
 use Rattle.pgv_types.specs.declared.oid.Oid.{Oid}
@@ -11,7 +11,8 @@ use Rattle.pgv_buf.specs.Proper.{first_type, rest_of}
 use Rattle.pgv_buf.proofs.Patches.{holes_plain, slots_plain}
 use Rattle.pgv_wire.specs.Arguments.{Argument, Framed, framed, all_tokens, filled_frame, filled_arguments}
 use Rattle.pgv_wire.specs.History.{blanks, LastFilling, with_added, with_filled, left_by, joined_frames, LeftBySome}
-use Rattle.pgv_codec.specs.Image.{Image, frame_of, frame}
+use Rattle.pgv_codec.specs.Encoding.{Encoding, Image, frame_of, frame}
+use Rattle.pgv_codec.specs.BackParts.{frame_parts}
 use Rattle.pgv_wire.specs.Parts.{AreFrames, OfImages}
 
 pub framed-filled : (args : List Argument) (ps : List Ty) (os : List Oid) → framed (filled_arguments args ps os) ≡ framed args
@@ -110,19 +111,14 @@ left_filled args ps os n m l =
 
 -- a token list is the frame of an image
 abbrev pub OfImage : List Token → Type 0
-OfImage f = (i : Image) × (frame_of (Some i) ≡ Some f)
-
-image_within : (b : Bool) (i : Option Image) (f : List Token) → cond b (frame_of i) None ≡ Some f → OfImage f
-image_within true None f e = absurd cc
-image_within true (Some i) f e = (i, e)
-image_within false i f e = absurd cc
+OfImage f = (i : Image) × ((frame_of i).answer ≡ Ok f)
 
 -- the frame of a value is that of its image
-pub of_image : (hint : ℕ) (i : Option Image) (f : List Token) → frame hint i ≡ Some f → OfImage f
-of_image hint i f e = image_within _ i f e
+pub of_image : (e : Encoding) (f : List Token) → (frame e).answer ≡ Ok f → OfImage f
+of_image e f is = let p = frame_parts e f is in (p.0, p.2)
 
 -- one more after the others
-are-more : (is : List Image) (fs : List Framed) (i : Image) (f : Framed) → AreFrames is fs → frame_of (Some i) ≡ Some f.1 → AreFrames (is ++ i ∷ []) (fs ++ f ∷ [])
+are-more : (is : List Image) (fs : List Framed) (i : Image) (f : Framed) → AreFrames is fs → (frame_of i).answer ≡ Ok f.1 → AreFrames (is ++ i ∷ []) (fs ++ f ∷ [])
 are-more [] [] i f h e = (e, tt)
 are-more [] (g ∷ fs) i f h e = absurd h
 are-more (j ∷ is) [] i f h e = absurd h

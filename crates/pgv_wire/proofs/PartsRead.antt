@@ -1,5 +1,5 @@
 -- The frames of arguments, read one after another.
-use Rattle.std.proofs.Common.{◌≡◌, ℕ, suc, arith, List, [], ◌∷◌, ◌++◌, length, take, drop, Some, None, refl, sym, ◌∙◌, ap, subst}
+use Rattle.std.proofs.Common.{◌≡◌, ℕ, suc, arith, List, [], ◌∷◌, ◌++◌, length, take, drop, Some, None, Ok, refl, sym, ◌∙◌, ap, subst}
 use Rattle.std.specs.Int.{w32, to_be_bytes}
 use Rattle.pgv_types.specs.Ty.{Ty}
 use Rattle.pgv_types.specs.declared.oid.Oid.{Oid}
@@ -8,9 +8,10 @@ use Rattle.pgv_buf.specs.Proper.{Proper, Proper-front, Proper-back, first_type, 
 use Rattle.pgv_buf.specs.Tokens.{Token, bytes, be4, tokens_width, tokens_holes, Cell, plain, shown, hole_count, slot_count}
 use Rattle.pgv_value.specs.FrameBinary.{Part, front}
 use Rattle.pgv_value.proofs.Fronts.{frame_in_front}
+use Rattle.pgv_value.proofs.Outcomes.{answer_is}
 use Rattle.pgv_wire.specs.Arguments.{Argument, Framed, framed, all_tokens, filled_frame, filled_arguments}
 use Rattle.pgv_codec.specs.Writing.{write}
-use Rattle.pgv_codec.specs.Image.{Image, null_image, image_of, frame_of}
+use Rattle.pgv_codec.specs.Encoding.{Image, null_image, image_of, frame_of}
 use Rattle.pgv_wire.specs.Parts.{ReadAs, AreFrames, OfImages, AllRead, part_in, parts_in, written_parts}
 use Rattle.pgv_codec.specs.Writing.{written_part, image_holes}
 use Rattle.pgv_wire.proofs.ArgumentLists.{shown-frame}
@@ -19,12 +20,12 @@ use Rattle.pgv_wire.proofs.Histories.{shown_plain}
 use Rattle.pgv_wire.proofs.Split.{after_bytes, cut}
 
 -- one frame is found in front
-frame_found : (i : Image) (c : List Cell) (rest : List ℕ) → frame_of (Some i) ≡ Some (plain c) → Proper c → front (shown c ++ rest) ≡ Some (part_in i c, rest)
+frame_found : (i : Image) (c : List Cell) (rest : List ℕ) → (frame_of i).answer ≡ Ok (plain c) → Proper c → front (shown c ++ rest) ≡ Some (part_in i c, rest)
 frame_found null_image c rest e p =
-    let tokens : plain c ≡ bytes (255 ∷ 255 ∷ 255 ∷ 255 ∷ []) = cc in
+    let tokens : plain c ≡ bytes (255 ∷ 255 ∷ 255 ∷ 255 ∷ []) = sym (answer_is (bytes (be4 4294967295)) (plain c) e) in
     frame_in_front (shown c ++ rest) None rest (ap (λ (r : List ℕ). r ++ rest) (shown_plain c (255 ∷ 255 ∷ 255 ∷ 255 ∷ []) tokens))
 frame_found (image_of ts) c rest e p =
-    let k = cut ts (plain c) _ refl e in
+    let k = cut ts (plain c) e in
     let b = after_bytes (be4 (tokens_width ts)) ts c k.1 in
     let q : Proper b.cells = subst (λ (r : List Cell). Proper r) b.whole p in
     let len : length (shown b.cells) ≡ tokens_width ts = length-shown b.cells q ∙ (sym (width-plain b.cells) ∙ ap tokens_width b.tokens) in
@@ -63,16 +64,16 @@ not_null : (us : List Token) → bytes (be4 4294967295) ≡ bytes (be4 (tokens_w
 not_null [] e = absurd cc
 not_null (u ∷ us) e = absurd cc
 
-pub one_image : (i j : Image) (f : List Token) → frame_of (Some i) ≡ Some f → frame_of (Some j) ≡ Some f → i ≡ j
+pub one_image : (i j : Image) (f : List Token) → (frame_of i).answer ≡ Ok f → (frame_of j).answer ≡ Ok f → i ≡ j
 one_image null_image null_image f d e = refl
 one_image null_image (image_of us) f d e =
-    let null : bytes (be4 4294967295) ≡ f = cc in
-    absurd (not_null us (null ∙ (cut us f _ refl e).1))
+    let null : bytes (be4 4294967295) ≡ f = answer_is (bytes (be4 4294967295)) f d in
+    absurd (not_null us (null ∙ (cut us f e).1))
 one_image (image_of ts) null_image f d e =
-    let null : bytes (be4 4294967295) ≡ f = cc in
-    absurd (not_null ts (null ∙ (cut ts f _ refl d).1))
+    let null : bytes (be4 4294967295) ≡ f = answer_is (bytes (be4 4294967295)) f e in
+    absurd (not_null ts (null ∙ (cut ts f d).1))
 one_image (image_of ts) (image_of us) f d e =
-    let both : bytes (be4 (tokens_width ts)) ++ ts ≡ bytes (be4 (tokens_width us)) ++ us = sym (cut ts f _ refl d).1 ∙ (cut us f _ refl e).1 in
+    let both : bytes (be4 (tokens_width ts)) ++ ts ≡ bytes (be4 (tokens_width us)) ++ us = sym (cut ts f d).1 ∙ (cut us f e).1 in
     let same : ts ≡ us = cc in
     ap image_of same
 
@@ -88,18 +89,18 @@ same_images (i ∷ is) (j ∷ js) (f ∷ fs) h k = ap (λ n. n ∷ is) (one_imag
 
 -- ---- after a filling
 
-pub part_filled : (i : Image) (c : List Cell) (p : Ty) (os : List Oid) → frame_of (Some i) ≡ Some (plain c) → part_in i (filled_frame p os c) ≡ written_part i (Some p) os
+pub part_filled : (i : Image) (c : List Cell) (p : Ty) (os : List Oid) → (frame_of i).answer ≡ Ok (plain c) → part_in i (filled_frame p os c) ≡ written_part i (Some p) os
 part_filled null_image c p os e = refl
 part_filled (image_of ts) c p os e =
-    let k = cut ts (plain c) _ refl e in
+    let k = cut ts (plain c) e in
     ap (λ (r : List ℕ). let q : Part = Some (drop 4 r) in q) (shown-frame (slot_count c) p os c refl ∙ ap (λ (r : List Token). write (Some p) os r) k.1)
 
-holes_are : (i : Image) (c : List Cell) → frame_of (Some i) ≡ Some (plain c) → hole_count c ≡ image_holes i
+holes_are : (i : Image) (c : List Cell) → (frame_of i).answer ≡ Ok (plain c) → hole_count c ≡ image_holes i
 holes_are null_image c e =
-    let tokens : plain c ≡ bytes (255 ∷ 255 ∷ 255 ∷ 255 ∷ []) = cc in
+    let tokens : plain c ≡ bytes (255 ∷ 255 ∷ 255 ∷ 255 ∷ []) = sym (answer_is (bytes (be4 4294967295)) (plain c) e) in
     sym (holes-plain c) ∙ ap tokens_holes tokens
 holes_are (image_of ts) c e =
-    let k = cut ts (plain c) _ refl e in
+    let k = cut ts (plain c) e in
     sym (holes-plain c) ∙ ap tokens_holes k.1
 
 pub parts_filled : (args : List Argument) (is : List Image) (ps : List Ty) (os : List Oid) → AreFrames is (framed args) → parts_in is (filled_arguments args ps os) ≡ written_parts is ps os

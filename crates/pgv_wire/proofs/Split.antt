@@ -1,11 +1,13 @@
 -- Frames of images one after another are told apart by their lengths.
-use Rattle.std.proofs.Common.{◌≡◌, ℕ, ◌+◌, ◌-◌, ◌≤◌, ◌<◌, ◌^◌, nat_le, nat_eq, Bool, true, false, cond, arith, List, [], ◌∷◌, ◌++◌, Some, None, refl, sym, ◌∙◌, ap, subst}
+use Rattle.std.proofs.Common.{◌≡◌, ℕ, ◌+◌, ◌-◌, ◌≤◌, ◌<◌, ◌^◌, nat_le, nat_eq, true, false, arith, List, [], ◌∷◌, ◌++◌, Ok, refl, sym, ◌∙◌, ap, subst}
 use Rattle.std.specs.Prelude.{⊤}
-use Rattle.std.proofs.lemmas.Bool.{leb-true, le-leb, ne_eqb}
+use Rattle.std.proofs.lemmas.Bool.{le-leb, ne_eqb}
 use Rattle.std.proofs.lemmas.Nat.{from_be_bytes-to_be_bytes_4}
 use Rattle.pgv_buf.specs.Tokens.{Token, bytes, be4, tokens_width, Cell, fixed, hole_cell, slot_cell, fixed_bytes, cell_width, plain, width}
 use Rattle.pgv_wire.specs.Arguments.{Argument, framed, all_tokens, types_in}
-use Rattle.pgv_codec.specs.Image.{Image, null_image, image_of, frame_of}
+use Rattle.pgv_codec.specs.Encoding.{Image, null_image, image_of, frame_of}
+use Rattle.pgv_codec.specs.BackParts.{image_parts}
+use Rattle.pgv_value.proofs.Outcomes.{answer_is}
 use Rattle.pgv_wire.specs.Parts.{AreFrames}
 use Rattle.pgv_wire.specs.Split.{as_wide, after_wide, bytes_by_length, frame_width, split}
 use Rattle.pgv_buf.proofs.Layouts.{width-plain}
@@ -34,9 +36,8 @@ after_bytes (x ∷ xs) ts (hole_cell t s ∷ c) e = absurd cc
 after_bytes (x ∷ xs) ts (slot_cell d cs s ∷ c) e = absurd cc
 
 -- the image's width is small enough, and its frame is its width and its tokens
-pub cut : (ts us : List Token) (b : Bool) → nat_le (tokens_width ts) 2147483647 ≡ b → cond b (Some (bytes (be4 (tokens_width ts)) ++ ts)) None ≡ Some us → (tokens_width ts ≤ 2147483647) × (us ≡ bytes (be4 (tokens_width ts)) ++ ts)
-cut ts us true e f = (leb-true (tokens_width ts) 2147483647 e, cc)
-cut ts us false e f = absurd cc
+pub cut : (ts us : List Token) → (frame_of (image_of ts)).answer ≡ Ok us → (tokens_width ts ≤ 2147483647) × (us ≡ bytes (be4 (tokens_width ts)) ++ ts)
+cut ts us e = let g = image_parts ts us e in (g.0, sym g.1)
 
 -- cells that begin with a length, which says how wide they are
 record Headed (c : List Cell) : Type 0 where
@@ -49,13 +50,13 @@ record Headed (c : List Cell) : Type 0 where
 nothing_there : (c : List Cell) → plain c ≡ [] → width c ≡ 0
 nothing_there c e = sym (width-plain c) ∙ ap tokens_width e
 
-headed : (i : Image) (c : List Cell) → frame_of (Some i) ≡ Some (plain c) → Headed c
+headed : (i : Image) (c : List Cell) → (frame_of i).answer ≡ Ok (plain c) → Headed c
 headed null_image c e =
-    let tokens : plain c ≡ bytes (be4 4294967295) ++ [] = cc in
+    let tokens : plain c ≡ bytes (be4 4294967295) ++ [] = sym (answer_is (bytes (be4 4294967295)) (plain c) e) in
     let b = after_bytes (be4 4294967295) [] c tokens in
     record { number = 4294967295; cells = b.cells; whole = b.whole; fits = omega arith; wide = ap (λ n. 4 + n) (sym (nothing_there b.cells b.tokens)) }
 headed (image_of ts) c e =
-    let k = cut ts (plain c) _ refl e in
+    let k = cut ts (plain c) e in
     let b = after_bytes (be4 (tokens_width ts)) ts c k.1 in
     let other : nat_eq (tokens_width ts) 4294967295 ≡ false = ne_eqb (tokens_width ts) 4294967295 (λ same. omega (arith, k.0, same)) in
     let as_many : width b.cells ≡ tokens_width ts = sym (width-plain b.cells) ∙ ap tokens_width b.tokens in

@@ -1,13 +1,16 @@
 -- A list of arguments, each a type and the cells of its frame, and what it is written as with parameter types and OIDs
 -- (PostgreSQL: "Message Formats", Bind; "Extended Query").
 -- Early writing (`early`): each frame is written with its own parameter type and its share of the OIDs, in order.
-use Rattle.std.specs.Prelude.{◌≡◌, ℕ, List, [], ◌∷◌, ◌++◌, map, take, drop, replicate, Option, Some}
+use Rattle.std.specs.Prelude.{◌≡◌, ℕ, List, [], ◌∷◌, ◌++◌, map, take, drop, replicate, true, Some, Result, Ok, Err, ⊤}
 use Rattle.std.specs.List.{flat_map}
 use Rattle.pgv_types.specs.Ty.{Ty}
 use Rattle.pgv_types.specs.declared.oid.Oid.{Oid}
 use Rattle.pgv_buf.specs.Tokens.{Token, tokens_holes, Cell, blank, plain, hole_count, slot_count}
 use Rattle.pgv_buf.specs.Fill.{fill_holes, fill_slots}
 use Rattle.pgv_buf.specs.Proper.{first_type, rest_of}
+use Rattle.pgv_value.specs.Outcome.{Outcome, Fails, after}
+use Rattle.pgv_value.specs.declared.error.CodecError.{CodecError}
+use Rattle.pgv_codec.specs.Encoding.{Encoding, frame}
 use Rattle.pgv_codec.specs.Writing.{write}
 
 abbrev pub Argument : Type 0
@@ -45,5 +48,14 @@ filled_arguments [] ps os = []
 filled_arguments (a ∷ args) ps os = (a.0, filled_frame (first_type ps) (take (hole_count a.1) os) a.1) ∷ filled_arguments args (rest_of ps) (drop (hole_count a.1) os)
 
 -- an argument is added at the end, not yet filled
-abbrev pub Added : Option (List Token) → Ty → List Argument → List Argument → Type 0
-Added f t was now = (ts : List Token) × (f ≡ Some ts) × (now ≡ was ++ (t, blank ts) ∷ [])
+abbrev pub Added : Outcome (List Token) → Ty → List Argument → List Argument → Type 0
+Added f t was now = (ts : List Token) × (f.answer ≡ Ok ts) × (now ≡ was ++ (t, blank ts) ∷ [])
+
+-- so it is, or it is refused as stated
+abbrev pub Adds : Outcome (List Token) → Ty → List Argument → List Argument → Result ⊤ CodecError → Type 0
+Adds f t was now (Ok done) = Added f t was now
+Adds f t was now (Err e) = Fails e f
+
+-- the frame of a value, for which memory may be asked for from the start
+abbrev pub argument_frame : Encoding → Outcome (List Token)
+argument_frame e = after true (frame e)

@@ -3,7 +3,7 @@
 -- Laws: the parts of all arguments are written with these, after any list of calls (`parts_after`). The buffer is read frame by
 -- frame, and each part by its own type as what its value keeps, where the value fits (`argument_reads_back`,
 -- `ArgumentReadsBack`).
-use Rattle.std.specs.Prelude.{◌≡◌, ℕ, List, [], ◌∷◌, ◌++◌, map, take, drop, replicate, Option, Some, None}
+use Rattle.std.specs.Prelude.{◌≡◌, ℕ, List, [], ◌∷◌, ◌++◌, map, take, drop, replicate, Option, Some, None, Ok}
 use Rattle.std.specs.List.{slice_get}
 use Rattle.pgv_types.specs.Ty.{Ty}
 use Rattle.pgv_types.specs.declared.oid.Oid.{Oid}
@@ -15,7 +15,7 @@ use Rattle.pgv_value.specs.declared.value.PgValueFormat.TheVariants.{Binary}
 use Rattle.pgv_wire.specs.Arguments.{Framed, all_tokens}
 use Rattle.pgv_codec.specs.Back.{AreOids}
 use Rattle.pgv_wire.specs.History.{Call, LastFilling, last_filling, after, added_in}
-use Rattle.pgv_codec.specs.Image.{Image, frame}
+use Rattle.pgv_codec.specs.Encoding.{Encoding, Image, frame}
 use Rattle.pgv_wire.specs.Parts.{AreFrames, ReadAs}
 use Rattle.pgv_codec.specs.Writing.{written_part}
 
@@ -48,9 +48,9 @@ parts_given (i ∷ is) (g ∷ gs) = written_part i g.parameter g.oids ∷ parts_
 -- Whatever was added, refused and filled: the bytes are frames, one after another, with nothing left; and where the argument
 -- at a place was added for a value, the part of its frame is read in binary as what the value keeps, under each type that
 -- fits with the OIDs that the argument was given.
-abbrev pub ArgumentReadsBack : {A M : Type 0} → (A → ℕ) → (A → Option Image) → Reading M → (A → M) → (A → Ty → List Oid → Type 0) → Type 0
-ArgumentReadsBack {A} hint image reading kept fits =
+abbrev pub ArgumentReadsBack : {A M : Type 0} → (A → Encoding) → Reading M → (A → M) → (A → Ty → List Oid → Type 0) → Type 0
+ArgumentReadsBack {A} encoding reading kept fits =
     (calls : List Call) (is : List Image) (place : ℕ) (a : Framed) (g : Given) (v : A) (t : Ty) →
     AreFrames is (added_in calls) → Proper (all_tokens (after [] calls)) → AreOids (last_filling calls).oids →
-    slice_get (added_in calls) place ≡ Some a → frame (hint v) (image v) ≡ Some a.1 → slice_get (given_in (last_filling calls)) place ≡ Some g → fits v t g.oids →
+    slice_get (added_in calls) place ≡ Some a → (frame (encoding v)).answer ≡ Ok a.1 → slice_get (given_in (last_filling calls)) place ≡ Some g → fits v t g.oids →
     (parts : List Part) × (part : Part) × ReadAs (shown (all_tokens (after [] calls))) parts [] × (slice_get parts place ≡ Some part) × (reading t Binary part ≡ Some (kept v))

@@ -12,15 +12,15 @@ use Rattle.pgv_types.specs.declared.oid.Oid.{Oid}
 use Rattle.pgv_buf.specs.Proper.{Proper}
 use Rattle.pgv_buf.specs.Tokens.{Token, shown}
 use Rattle.pgv_value.specs.FrameBinary.{Part}
+use Rattle.pgv_value.specs.Outcome.{Outcome, Fails, ok_of}
 use Rattle.pgv_value.specs.Reading.{Reading}
 use Rattle.pgv_value.specs.declared.error.CodecError.{CodecError}
 use Rattle.pgv_value.specs.declared.error.CodecError.TheVariants.{Memory}
 use Rattle.pgv_value.specs.declared.value.PgValueFormat.TheVariants.{Binary}
 use Rattle.pgv_codec.specs.Back.{AreOids}
-use Rattle.pgv_codec.specs.Image.{Image, frame, or_else}
-use Rattle.pgv_codec.specs.Outcome.{Refused}
-use Rattle.pgv_wire.specs.Arguments.{Argument, Framed, Added, all_tokens, filled_arguments}
-use Rattle.pgv_wire.specs.Each.{Outcome, accepted}
+use Rattle.pgv_codec.specs.Encoding.{Encoding, Image, frame, value_type}
+use Rattle.pgv_wire.specs.Arguments.{Argument, Framed, Added, argument_frame, all_tokens, filled_arguments}
+use Rattle.pgv_wire.specs.Each.{Answered, accepted}
 use Rattle.pgv_wire.specs.Given.{Given, given_in}
 use Rattle.pgv_wire.specs.History.{Call, adds, fills, is_refused, added_in, after, bytes_by, last_filling}
 use Rattle.pgv_wire.specs.Parts.{AreFrames, ReadAs}
@@ -28,16 +28,19 @@ use Rattle.pgv_wire.specs.Parts.{AreFrames, ReadAs}
 -- ---- steps
 
 -- an addition of a value of this type and with this frame, where memory is there
-abbrev pub call_of : Ty → Option (List Token) → Call
-call_of t None = is_refused
-call_of t (Some ts) = adds (t, ts)
+abbrev pub call_by : Ty → Option (List Token) → Call
+call_by t None = is_refused
+call_by t (Some ts) = adds (t, ts)
+
+abbrev pub call_of : Ty → Outcome (List Token) → Call
+call_of t f = call_by t (ok_of f.answer)
 
 abbrev pub AdditionIsAStep : Type 0
-AdditionIsAStep = (f : Option (List Token)) (t : Ty) (was now : List Argument) → Added f t was now → now ≡ after was (call_of t f ∷ [])
+AdditionIsAStep = (f : Outcome (List Token)) (t : Ty) (was now : List Argument) → Added f t was now → now ≡ after was (call_of t f ∷ [])
 
 abbrev pub RefusalIsAStep : Type 0
 RefusalIsAStep =
-    (e : CodecError) (f : Option (List Token)) (t : Ty) (was now : List Argument) → Refused e f → e ≢ Memory → now ≡ was → now ≡ after was (call_of t f ∷ [])
+    (e : CodecError) (f : Outcome (List Token)) (t : Ty) (was now : List Argument) → Fails e f → e ≢ Memory → now ≡ was → now ≡ after was (call_of t f ∷ [])
 
 abbrev pub UnchangedIsAStep : Type 0
 UnchangedIsAStep = (was now : List Argument) → now ≡ was → now ≡ after was (is_refused ∷ [])
@@ -45,32 +48,32 @@ UnchangedIsAStep = (was now : List Argument) → now ≡ was → now ≡ after w
 abbrev pub FillingIsAStep : Type 0
 FillingIsAStep = (was : List Argument) (ps : List Ty) (os : List Oid) → filled_arguments was ps os ≡ after was (fills ps os ∷ [])
 
-module _ {X : Type 0} (framed_as : X → Option (List Token)) (typed_as : X → Ty) where
+module _ {X : Type 0} (framed_as : X → Outcome (List Token)) (typed_as : X → Ty) where
   -- an addition of each value, with its outcome
-  abbrev pub calls_of : List X → List Outcome → List Call
+  abbrev pub calls_of : List X → List Answered → List Call
   calls_of [] rs = []
   calls_of (x ∷ xs) [] = []
   calls_of (x ∷ xs) (Ok u ∷ rs) = call_of (typed_as x) (framed_as x) ∷ calls_of xs rs
   calls_of (x ∷ xs) (Err e ∷ rs) = is_refused ∷ calls_of xs rs
 
   abbrev pub EachOutcomeIsAStep : Type 0
-  EachOutcomeIsAStep = (xs : List X) (rs : List Outcome) (was : List Argument) → was ++ accepted framed_as typed_as xs rs ≡ after was (calls_of xs rs)
+  EachOutcomeIsAStep = (xs : List X) (rs : List Answered) (was : List Argument) → was ++ accepted framed_as typed_as xs rs ≡ after was (calls_of xs rs)
 
 -- the same by what a type states of its values
-abbrev pub EachAdditionIsAStep : {X : Type 0} → (X → ℕ) → (X → Option Image) → (X → Option Ty) → Ty → Type 0
-EachAdditionIsAStep hint image produced info = EachOutcomeIsAStep (λ x. frame (hint x) (image x)) (λ x. or_else (produced x) info)
+abbrev pub EachAdditionIsAStep : {X : Type 0} → Ty → (X → Encoding) → Type 0
+EachAdditionIsAStep info encoding = EachOutcomeIsAStep (λ x. argument_frame (encoding x)) (λ x. value_type info (encoding x))
 
 abbrev pub CallsAreJoined : Type 0
 CallsAreJoined = (was : List Argument) (calls more : List Call) → after (after was calls) more ≡ after was (calls ++ more)
 
 -- ---- what any list of calls leaves
 
-module _ {A M : Type 0} (hint : A → ℕ) (image : A → Option Image) (reading : Reading M) (kept : A → M) (fits : A → Ty → List Oid → Type 0) where
+module _ {A M : Type 0} (encoding : A → Encoding) (reading : Reading M) (kept : A → M) (fits : A → Ty → List Oid → Type 0) where
   -- the part of the argument that was added for a value, among these, is read as what the value keeps, under each type that fits with
   -- the OIDs that the argument was given
   abbrev pub ComeBackIn : List Call → List Part → Type 0
   ComeBackIn calls parts =
-      (place : ℕ) (a : Framed) (g : Given) (v : A) (t : Ty) → slice_get (added_in calls) place ≡ Some a → frame (hint v) (image v) ≡ Some a.1 →
+      (place : ℕ) (a : Framed) (g : Given) (v : A) (t : Ty) → slice_get (added_in calls) place ≡ Some a → (frame (encoding v)).answer ≡ Ok a.1 →
       slice_get (given_in (last_filling calls)) place ≡ Some g → fits v t g.oids →
       (part : Part) × (slice_get parts place ≡ Some part) × (reading t Binary part ≡ Some (kept v))
 

@@ -3,13 +3,13 @@
 -- Frame after frame is found at the front (`ReadAs`), and nothing is left (`AllRead`): a part for each argument, null where its
 -- image is null, and else what it shows after its length (`parts_in`). Each argument is the frame of an image (`OfImages`), and
 -- of one only.
-use Rattle.std.specs.Prelude.{◌≡◌, ℕ, List, [], ◌∷◌, length, take, drop, Some, None, ⊤}
+use Rattle.std.specs.Prelude.{◌≡◌, ℕ, List, [], ◌∷◌, length, take, drop, Some, None, Ok, ⊤}
 use Rattle.pgv_types.specs.Ty.{Ty}
 use Rattle.pgv_types.specs.declared.oid.Oid.{Oid}
 use Rattle.pgv_buf.specs.Proper.{first_type, rest_of}
 use Rattle.pgv_buf.specs.Tokens.{Cell, shown}
 use Rattle.pgv_value.specs.FrameBinary.{Part, front}
-use Rattle.pgv_codec.specs.Image.{Image, null_image, image_of, frame_of}
+use Rattle.pgv_codec.specs.Encoding.{Image, null_image, image_of, frame_of}
 use Rattle.pgv_codec.specs.Writing.{written_part, image_holes}
 use Rattle.pgv_wire.specs.Arguments.{Argument, Framed, framed, all_tokens}
 
@@ -23,7 +23,7 @@ abbrev pub AreFrames : List Image → List Framed → Type 0
 AreFrames [] [] = ⊤
 AreFrames [] (f ∷ fs) = ⊥
 AreFrames (i ∷ is) [] = ⊥
-AreFrames (i ∷ is) (f ∷ fs) = (frame_of (Some i) ≡ Some f.1) × AreFrames is fs
+AreFrames (i ∷ is) (f ∷ fs) = ((frame_of i).answer ≡ Ok f.1) × AreFrames is fs
 
 -- each argument is the frame of an image
 abbrev pub OfImages : List Argument → Type 0

@@ -3,13 +3,11 @@
 ghost use Rattle.std.specs.Prelude.{◌≡◌, ◌≢◌, ◌==◌, ◌+◌, ◌-◌, ◌≤◌, ◌++◌, ℕ, List, [], ◌∷◌, length, OnOk, OnErr, IfOk, IfErr, IsOk, IsErrOf, string_bytes, decimal, replicate};
 ghost use Rattle.pgv_buf.specs.Tokens.{shown, hole_count, hole_types_of};
 ghost use Rattle.pgv_value.specs.declared.error.CodecError.TheVariants.{Memory, ParameterCount, HoleCount};
-ghost use Rattle.pgv_wire.specs.Arguments.{types_in, all_tokens, Added, filled_arguments, framed, early};
+ghost use Rattle.pgv_wire.specs.Arguments.{types_in, all_tokens, Adds, argument_frame, filled_arguments, framed, early};
 ghost use Rattle.pgv_wire.specs.Counts.{AreCounts};
-ghost use Rattle.pgv_wire.specs.Each.{AreOutcomes, EachRefusedFor, accepted};
+ghost use Rattle.pgv_wire.specs.Each.{AreOutcomes, accepted};
 ghost use Rattle.pgv_wire.specs.History.{WrittenEarly};
-ghost use Rattle.pgv_codec.specs.Image.{frame, or_else};
-ghost use Rattle.pgv_codec.specs.Outcome.{Refused};
-ghost use Rattle.pgv_codec.specs.Refusing.{RefusedFor, frame_refused};
+ghost use Rattle.pgv_codec.specs.Encoding.{value_type};
 ghost use Rattle.pgv_wire.specs.Parts.{OfImages};
 
 use pgv_codec::{Encode, PgArgumentBuffer, Type, type_of_value};
@@ -113,9 +111,7 @@ impl PgArguments {
     /// the value's own encoder says. 7 added to empty arguments is `00000004 00000007`, and the value stays yours.
     #[inline(always)]
     pub fn add_by_ref<T: Encode + Type>(&mut self, value: &T) -> Result<(), CodecError>
-        ensures ok { OnOk result (Added (frame (T.hint value.now) (T.image value.now)) (or_else (T.produced value.now) T.info) self.old self.new) }
-        ensures err { IfErr result (λ e. Refused e (frame (T.hint value.now) (T.image value.now))) }
-        ensures refused { RefusedFor (frame_refused (T.hint value.now) (T.image value.now) (T.unwritable value.now)) result }
+        ensures exact { Adds (argument_frame (T.encoding value.now)) (value_type T.info (T.encoding value.now)) self.old self.new result }
         ensures unchanged { OnErr result (self.new ≡ self.old) }
     {
         self.types.reserve(1)?;
@@ -137,9 +133,7 @@ impl PgArguments {
     /// Adds a value, as [`add_by_ref`](PgArguments::add_by_ref) does.
     /// 7 is `00000004 00000007`, and `None::<i32>` is `ffffffff`.
     pub fn add<T: Encode + Type + Drop>(&mut self, value: T) -> Result<(), CodecError>
-        ensures ok { OnOk result (Added (frame (T.hint value) (T.image value)) (or_else (T.produced value) T.info) self.old self.new) }
-        ensures err { IfErr result (λ e. Refused e (frame (T.hint value) (T.image value))) }
-        ensures refused { RefusedFor (frame_refused (T.hint value) (T.image value) (T.unwritable value)) result }
+        ensures exact { Adds (argument_frame (T.encoding value)) (value_type T.info (T.encoding value)) self.old self.new result }
         ensures unchanged { OnErr result (self.new ≡ self.old) }
     {
         self.add_by_ref(&value)
@@ -153,9 +147,8 @@ impl PgArguments {
         alloc: Global,
         values: &[T],
     ) -> Result<Vec<Result<(), CodecError>>, CodecError>
-        ensures outcomes { IfOk result (λ rs. AreOutcomes (λ x. frame (T.hint x) (T.image x)) (λ x. or_else (T.produced x) T.info) values.now rs.items) }
-        ensures refused { IfOk result (λ rs. EachRefusedFor (λ x. frame_refused (T.hint x) (T.image x) (T.unwritable x)) values.now rs.items) }
-        ensures added { IfOk result (λ rs. self.new ≡ self.old ++ accepted (λ x. frame (T.hint x) (T.image x)) (λ x. or_else (T.produced x) T.info) values.now rs.items) }
+        ensures outcomes { IfOk result (λ rs. AreOutcomes (λ x. argument_frame (T.encoding x)) (λ x. value_type T.info (T.encoding x)) values.now rs.items) }
+        ensures added { IfOk result (λ rs. self.new ≡ self.old ++ accepted (λ x. argument_frame (T.encoding x)) (λ x. value_type T.info (T.encoding x)) values.now rs.items) }
         ensures err { IfErr result (λ e. e ≡ Memory) }
         ensures succeeds { values.now ≡ [] → IsOk result }
         ensures unchanged { OnErr result (self.new ≡ self.old) }

@@ -1,7 +1,7 @@
 //! Laws of what buffers and arguments hold, and of what is read back from them: each is the contract of a function that
 //! does nothing. The laws of codecs are in `pgv_codec`, those of arrays and records in binary in `pgv_nest`.
 
-ghost use Rattle.std.specs.Prelude.{◌≡◌, ℕ, List, [], length, Some};
+ghost use Rattle.std.specs.Prelude.{◌≡◌, ℕ, List, [], length, Ok};
 ghost use Rattle.pgv_types.specs.Ty.{Ty};
 ghost use Rattle.pgv_types.specs.declared.oid.Oid.{Oid};
 ghost use Rattle.pgv_buf.specs.Proper.{Proper};
@@ -11,7 +11,7 @@ ghost use Rattle.pgv_wire.specs.Arguments.{Argument, Framed, all_tokens, types_i
 ghost use Rattle.pgv_wire.specs.Given.{ArgumentReadsBack, given_in, parts_given};
 ghost use Rattle.pgv_wire.specs.History.{Call, after, last_filling, bytes_by, added_in, joined_frames, framed_types, lengths_in, ArePlain, joined_bytes};
 ghost use Rattle.pgv_wire.specs.MainSentence.{MainSentence, AdditionIsAStep, RefusalIsAStep, UnchangedIsAStep, EachAdditionIsAStep, FillingIsAStep, CallsAreJoined};
-ghost use Rattle.pgv_codec.specs.Image.{Image, frame_of};
+ghost use Rattle.pgv_codec.specs.Encoding.{Image, frame_of};
 ghost use Rattle.pgv_wire.specs.Parts.{ReadAs, AreFrames, AllRead, parts_in, written_parts};
 
 use crate::arguments::PgArguments;
@@ -32,12 +32,12 @@ use pgv_codec::{Encode, ReadBack, Type};
 /// [`PgArgumentBuffer::as_slice`](crate::PgArgumentBuffer::as_slice) says; and that OIDs are numbers of 32 bits, what
 /// [`oids_fit`] says.
 pub fn main_sentence<T: ReadBack>()
-    ensures { MainSentence T.hint T.image (reading_of T.parse) (λ v. T.view (T.kept v)) T.fits }
+    ensures { MainSentence T.encoding (reading_of T.parse) (λ v. T.view (T.kept v)) T.fits }
 {}
 
 /// Each call that meets its contract is a step in the lists of calls of [`main_sentence`].
 ///
-/// The clause `ok` of [`PgArguments::add`] and [`add_by_ref`](PgArguments::add_by_ref) makes the call the addition of
+/// The clause `exact` of [`PgArguments::add`] and [`add_by_ref`](PgArguments::add_by_ref) makes the call the addition of
 /// the value's frame; a refusal with anything but out of memory is the step of a value without a frame; a call that
 /// leaves all `unchanged` is a refused one; `added` of [`add_each`](PgArguments::add_each) is a step for each outcome;
 /// `filled` of [`apply_patches`](PgArguments::apply_patches) is a filling; and calls after calls are one list.
@@ -45,7 +45,7 @@ pub fn call_is_a_step<T: Encode + Type>()
     ensures added { AdditionIsAStep }
     ensures refused { RefusalIsAStep }
     ensures unchanged { UnchangedIsAStep }
-    ensures each { EachAdditionIsAStep T.hint T.image T.produced T.info }
+    ensures each { EachAdditionIsAStep T.info T.encoding }
     ensures filled { FillingIsAStep }
     ensures joined { CallsAreJoined }
 {}
@@ -114,7 +114,7 @@ pub fn arguments_read(arguments: &PgArguments)
 /// A frame is the frame of at most one image, so that the images of arguments are those that were added.
 #[tactic(auto, using(crate::proofs::PartsRead::one_image, crate::proofs::PartsRead::same_images))]
 pub fn one_image()
-    ensures frame { (i j : Image) (f : List Token) → frame_of (Some i) ≡ Some f → frame_of (Some j) ≡ Some f → i ≡ j }
+    ensures frame { (i j : Image) (f : List Token) → (frame_of i).answer ≡ Ok f → (frame_of j).answer ≡ Ok f → i ≡ j }
     ensures frames { (is js : List Image) (fs : List Framed) → AreFrames is fs → AreFrames js fs → is ≡ js }
 {}
 
@@ -146,5 +146,5 @@ pub fn parts_after()
 /// running buffer; that each addition is the frame of an image, what [`PgArguments::buffer`] says; and that OIDs are
 /// numbers of 32 bits, what [`oids_fit`] says.
 pub fn argument_reads_back<T: ReadBack>()
-    ensures { ArgumentReadsBack T.hint T.image (reading_of T.parse) (λ v. T.view (T.kept v)) T.fits }
+    ensures { ArgumentReadsBack T.encoding (reading_of T.parse) (λ v. T.view (T.kept v)) T.fits }
 {}

@@ -8,10 +8,9 @@ ghost use Rattle.pgv_value.specs.Reading.{has_items};
 ghost use Rattle.pgv_value.specs.declared.error.CodecError.TheVariants.{Memory};
 ghost use Rattle.pgv_value.specs.declared.value.PgValueFormat.TheVariants.{Binary};
 ghost use Rattle.pgv_nest.specs.ArrayGrammar.{array_in_binary, array_in_text, elements, frames, parse_array, parse_sized};
-ghost use Rattle.pgv_codec.specs.Image.{array_image, or_else, header, written_frames, written_element_type, sized_image};
-ghost use Rattle.pgv_codec.specs.Outcome.{Encoded, Refused, Appended, AppendedAll};
-ghost use Rattle.pgv_codec.specs.Refusing.{RefusedExactly, RefusedFor, array_asks_first, array_refused, first_type_copied, frames_refused, is_copied};
-ghost use Rattle.pgv_codec.specs.Saying.{array_written, sized_written, array_agrees, sized_agrees};
+ghost use Rattle.pgv_codec.specs.Encoding.{array_image, element_type, frames as frames_of, header, is_copied, plainly, sized_image, value_type};
+ghost use Rattle.pgv_codec.specs.Appending.{Appended, Appends, Encodes, Extends};
+ghost use Rattle.pgv_codec.specs.Agreeing.{array_agrees, sized_agrees};
 ghost use Rattle.pgv_codec.specs.Back.{ArrayFits};
 ghost use Rattle.pgv_codec.specs.BackNests.{vec_back, sized_back};
 
@@ -26,15 +25,13 @@ use std::alloc::{AllocError, Global};
 
 /// Appends the elements as an array of one dimension, for a caller's own encoder. More than 2147483647 are refused with
 /// [`ArrayLength`](CodecError::ArrayLength) (C3). A refusal may have appended something.
+#[tactic(auto, unfolding(crate::specs::Encoding::array_image))]
 pub fn encode_array<T: Encode + Type>(
     values: &[T],
     out: &mut PgArgumentBuffer,
 ) -> Result<IsNull, CodecError>
-    ensures ok { IfOk result (λ n. Encoded n (array_image T.hint T.image T.produced T.info values.now) out.old out.new) }
-    ensures err { IfErr result (λ e. Refused e (array_image T.hint T.image T.produced T.info values.now)) }
-    ensures refused { RefusedFor (array_refused T.hint T.image T.unwritable values.now) result }
-    ensures refused_exactly { array_asks_first values.now ≡ false → RefusedExactly (array_refused T.hint T.image T.unwritable values.now) result }
-    ensures appended { OnErr result (Appended out.old out.new) }
+    ensures encodes { Encodes (array_image T.info (map T.encoding values.now)) out.old out.new result }
+    ensures appended { OnErr result (Extends out.old out.new) }
 {
     let count = values.len();
     if count > LENGTH_LIMIT {
@@ -50,8 +47,7 @@ pub fn encode_array<T: Encode + Type>(
 /// The type of the elements, as an array writes it.
 #[inline(always)]
 fn type_of_elements<T: Encode + Type>(values: &[T]) -> Result<PgTypeInfo, AllocError>
-    ensures ok { IfOk result (λ t. t ≡ written_element_type T.produced T.info values.now) }
-    ensures err { OnErr result (first_type_copied T.produced values.now ≡ true) }
+    ensures { IfOk result (λ t. t ≡ element_type T.info (map T.encoding values.now)) }
 {
     match values.first() {
         None => Ok(T::type_info()),
@@ -62,8 +58,8 @@ fn type_of_elements<T: Encode + Type>(values: &[T]) -> Result<PgTypeInfo, AllocE
 /// The type that a value has: what it produces, or else its Rust type's own.
 #[inline(always)]
 pub fn type_of_value<T: Encode + Type>(value: &T) -> Result<PgTypeInfo, AllocError>
-    ensures ok { IfOk result (λ t. t ≡ or_else (T.produced value.now) T.info) }
-    ensures err { OnErr result (is_copied (T.produced value.now) ≡ true) }
+    ensures ok { IfOk result (λ t. t ≡ value_type T.info (T.encoding value.now)) }
+    ensures err { OnErr result (is_copied (T.encoding value.now).produced ≡ true) }
 {
     match value.produces()? {
         Some(produced) => Ok(produced),
@@ -77,9 +73,9 @@ fn write_header(
     element: PgTypeInfo,
     count: u32,
 ) -> Result<(), CodecError>
-    ensures ok { OnOk result (AppendedAll (header element count) out.old out.new) }
+    ensures ok { OnOk result (Appended (header element count) out.old out.new) }
     ensures err { IfErr result (λ e. e ≡ Memory) }
-    ensures appended { OnErr result (Appended out.old out.new) }
+    ensures appended { OnErr result (Extends out.old out.new) }
 {
     let [a, b, c, d] = count.to_be_bytes();
     out.extend_from_slice(&[0, 0, 0, 1, 0, 0, 0, 0])?;
@@ -91,10 +87,8 @@ fn write_header(
 /// A frame for each element.
 #[inline(always)]
 fn write_frames<T: Encode>(values: &[T], out: &mut PgArgumentBuffer) -> Result<(), CodecError>
-    ensures ok { OnOk result (AppendedAll (written_frames T.hint T.image values.now) out.old out.new) }
-    ensures err { IfErr result (λ e. Refused e (written_frames T.hint T.image values.now)) }
-    ensures refused { RefusedFor (frames_refused T.hint T.image T.unwritable values.now) result }
-    ensures appended { OnErr result (Appended out.old out.new) }
+    ensures exact { Appends (after true (frames_of (map T.encoding values.now))) out.old out.new result }
+    ensures appended { OnErr result (Extends out.old out.new) }
 {
     for value in values {
         out.encode(value)?;
@@ -121,11 +115,7 @@ impl<T: PgHasArrayType> Type for Vec<T> {
 /// their number; the lower bound, 1; and the frame of each. One `7` of `int4` is
 /// `00000001 00000000 00000017 00000001 00000001 00000004 00000007`.
 impl<T: Encode + Type> Encode for Vec<T> {
-    ghost image = { λ v. array_image T.hint T.image T.produced T.info v.items };
-
-    ghost unwritable = { λ v. array_refused T.hint T.image T.unwritable v.items };
-
-    ghost asks_first = { λ v. array_asks_first v.items };
+    ghost encoding = { λ v. plainly (array_image T.info (map T.encoding v.items)) };
 
     fn encode_by_ref(&self, out: &mut PgArgumentBuffer) -> Result<IsNull, CodecError> {
         encode_array(self.as_slice(), out)
@@ -157,11 +147,7 @@ impl<T: PgHasArrayType, const N: usize> Type for [T; N] {
 
 /// Written as the list of its elements is.
 impl<T: Encode + Type, const N: usize> Encode for [T; N] {
-    ghost image = { sized_image N T.hint T.image T.produced T.info };
-
-    ghost unwritable = { array_refused T.hint T.image T.unwritable };
-
-    ghost asks_first = { array_asks_first };
+    ghost encoding = { λ v. plainly (sized_image N T.info (map T.encoding v)) };
 
     fn encode_by_ref(&self, out: &mut PgArgumentBuffer) -> Result<IsNull, CodecError> {
         encode_array(self.as_slice(), out)
@@ -195,7 +181,7 @@ impl<T: Decode + Type> Decode for Vec<T> {
 
     ghost parse = { parse_array T.info T.parse };
 
-    ghost written = { array_written T.info T.written };
+    ghost written = { λ _ ms. plainly (array_image T.info (map (T.written T.info) ms)) };
 
     ghost null = { λ _ _. (refl, refl) };
 
@@ -220,7 +206,7 @@ impl<T: Decode + Type, const N: usize> Decode for [T; N] {
 
     ghost parse = { parse_sized N T.info T.parse };
 
-    ghost written = { sized_written N T.info T.written };
+    ghost written = { λ _ ms. plainly (sized_image N T.info (map (T.written T.info) ms)) };
 
     ghost null = { λ _ _. (refl, refl) };
 
@@ -235,11 +221,11 @@ impl<T: Decode + Type, const N: usize> Decode for [T; N] {
 }
 
 impl<T: Codec + PgHasArrayType> Codec for Vec<T> {
-    ghost agrees = { λ v. array_agrees T.hint T.image T.produced T.info T.view T.written T.agrees T.array_info v.items };
+    ghost agrees = { λ v. array_agrees T.encoding T.view (T.written T.info) T.agrees T.info v.items };
 }
 
 impl<T: Codec + PgHasArrayType, const N: usize> Codec for [T; N] {
-    ghost agrees = { λ v. sized_agrees T.hint T.image T.produced T.info T.view T.written T.agrees N T.array_info v };
+    ghost agrees = { λ v. sized_agrees T.encoding T.view (T.written T.info) T.agrees N T.info v };
 }
 
 /// An array in binary.
@@ -362,16 +348,16 @@ fn read_elements<T: Decode + Type>(alloc: Global, text: &str) -> Result<Vec<T>, 
 impl<T: ReadBack + Type> ReadBack for Vec<T> {
     ghost kept = { λ v. with_items v (map T.kept v.items) };
 
-    ghost fits = { λ v t os. ArrayFits T.info T.produced T.image T.fits v.items t os };
+    ghost fits = { λ v t os. ArrayFits T.info T.encoding T.fits v.items t os };
 
-    ghost reads_back = { vec_back T.info T.produced T.hint T.image T.parse T.view T.kept T.fits T.reads_back };
+    ghost reads_back = { vec_back T.info T.encoding T.parse T.view T.kept T.fits T.reads_back };
 }
 
 /// An array is read back as the list of its elements is.
 impl<T: ReadBack + Type, const N: usize> ReadBack for [T; N] {
     ghost kept = { map T.kept };
 
-    ghost fits = { ArrayFits T.info T.produced T.image T.fits };
+    ghost fits = { ArrayFits T.info T.encoding T.fits };
 
-    ghost reads_back = { sized_back T.info T.produced T.hint T.image T.parse T.view T.kept T.fits T.reads_back N };
+    ghost reads_back = { sized_back T.info T.encoding T.parse T.view T.kept T.fits T.reads_back N };
 }

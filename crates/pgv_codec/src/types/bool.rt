@@ -5,7 +5,7 @@ ghost use Rattle.pgv_codec.specs.ScalarBinary.{bool_image};
 ghost use Rattle.std.specs.Prelude.{Bool, refl};
 ghost use Rattle.pgv_value.specs.Outcome.{without_memory};
 ghost use Rattle.pgv_value.specs.ScalarGrammar.{parse_bool};
-ghost use Rattle.pgv_codec.specs.Saying.{plainly};
+ghost use Rattle.pgv_codec.specs.Encoding.{plainly, writes};
 
 use crate::buffer::{IsNull, PgArgumentBuffer};
 use crate::traits::{BuiltIn, HasBuiltIn, Of, Plain, Scalar};
@@ -29,7 +29,7 @@ impl BuiltIn for Of<bool> {
 impl Scalar for bool {
     ghost SIZE = { 0 };
 
-    ghost form = { bool_image };
+    ghost image = { λ value. writes (bool_image value) };
 
     const SIZE: usize = 0;
 
@@ -57,7 +57,7 @@ impl Plain for bool {
 
     ghost null = { λ _ _. refl };
 
-    ghost written = { plainly bool_image };
+    ghost written = { λ _ m. plainly (writes (bool_image m)) };
 
     #[inline(always)]
     fn read(_alloc: Global, value: PgValueRef<'_>) -> Result<bool, CodecError> {

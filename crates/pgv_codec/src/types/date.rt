@@ -6,7 +6,7 @@ ghost use Rattle.jiff.specs.Words.{epoch_day};
 ghost use Rattle.pgv_value.specs.Outcome.{without_memory};
 ghost use Rattle.pgv_value.specs.DateTimeBinary.{parse_date};
 ghost use Rattle.pgv_codec.specs.DateTimeBinary.{days_of, date_image};
-ghost use Rattle.pgv_codec.specs.WithHint.{with_hint};
+ghost use Rattle.pgv_codec.specs.Encoding.{with_hint, writes};
 
 use super::int::write_i32;
 use crate::buffer::{IsNull, PgArgumentBuffer};
@@ -39,7 +39,7 @@ impl BuiltIn for Of<Date> {
 impl Scalar for Date {
     ghost SIZE = { 4 };
 
-    ghost form = { λ v. date_image (epoch_day v) };
+    ghost image = { λ v. writes (date_image (epoch_day v)) };
 
     const SIZE: usize = 4;
 
@@ -62,7 +62,7 @@ impl Plain for Date {
 
     ghost null = { λ _ _. refl };
 
-    ghost written = { with_hint (λ _. 4) date_image };
+    ghost written = { λ _ m. with_hint 4 (writes (date_image m)) };
 
     fn read(_alloc: Global, value: PgValueRef<'_>) -> Result<Date, CodecError> {
         read_date(&value)

@@ -6,7 +6,7 @@ ghost use Rattle.jiff.specs.Words.{civil_nanos};
 ghost use Rattle.pgv_value.specs.Outcome.{without_memory};
 ghost use Rattle.pgv_value.specs.DateTimeBinary.{parse_date_time};
 ghost use Rattle.pgv_codec.specs.DateTimeBinary.{moment_image};
-ghost use Rattle.pgv_codec.specs.WithHint.{with_hint};
+ghost use Rattle.pgv_codec.specs.Encoding.{with_hint, writes};
 
 use super::int::write_i64;
 use super::timestamp::micros_from_2000;
@@ -33,7 +33,7 @@ impl BuiltIn for Of<DateTime> {
 impl Scalar for DateTime {
     ghost SIZE = { 8 };
 
-    ghost form = { λ v. moment_image (civil_nanos v) };
+    ghost image = { λ v. writes (moment_image (civil_nanos v)) };
 
     const SIZE: usize = 8;
 
@@ -58,7 +58,7 @@ impl Plain for DateTime {
 
     ghost null = { λ _ _. refl };
 
-    ghost written = { with_hint (λ _. 8) moment_image };
+    ghost written = { λ _ m. with_hint 8 (writes (moment_image m)) };
 
     ghost kept = { date_time_kept };
 

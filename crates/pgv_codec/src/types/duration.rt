@@ -1,10 +1,10 @@
 //! Durations, which are written as intervals (PostgreSQL, "Date/Time Types", interval) and not read.
 
 ghost use Rattle.std.specs.Duration.{as_nanos};
-ghost use Rattle.std.specs.Prelude.{Some, pos};
+ghost use Rattle.std.specs.Prelude.{pos};
 ghost use Rattle.jiff.specs.Words.{signed_nanos};
 ghost use Rattle.pgv_types.specs.Ty.{builtin};
-ghost use Rattle.pgv_codec.specs.Intervals.{duration_image, duration_refused};
+ghost use Rattle.pgv_codec.specs.Intervals.{duration_image};
 
 use super::interval::write_interval;
 use crate::buffer::{IsNull, PgArgumentBuffer};
@@ -33,9 +33,7 @@ impl BuiltIn for Of<Duration> {
 impl Scalar for Duration {
     ghost SIZE = { 16 };
 
-    ghost form = { λ duration. duration_image (pos (as_nanos duration)) };
-
-    ghost formless = { λ duration. Some (duration_refused (pos (as_nanos duration))) };
+    ghost image = { λ duration. duration_image (pos (as_nanos duration)) };
 
     const SIZE: usize = 16;
 
@@ -62,9 +60,7 @@ impl BuiltIn for Of<SignedDuration> {
 impl Scalar for SignedDuration {
     ghost SIZE = { 16 };
 
-    ghost form = { λ duration. duration_image (signed_nanos duration) };
-
-    ghost formless = { λ duration. Some (duration_refused (signed_nanos duration)) };
+    ghost image = { λ duration. duration_image (signed_nanos duration) };
 
     const SIZE: usize = 16;
 

@@ -1,6 +1,6 @@
 //! The fields of a record, read one after another into a list of values of any types.
 
-ghost use Rattle.std.specs.Prelude.{ℕ, List, ◌∷◌, Option};
+ghost use Rattle.std.specs.Prelude.{◌≡◌, ℕ, List, [], ◌∷◌, ◌++◌, OnErr};
 ghost use Rattle.pgv_value.specs.Outcome.{Gives, Outcome};
 ghost use Rattle.pgv_nest.proofs.RecordGrammars.{one_found, further_found};
 ghost use Rattle.pgv_nest.proofs.TextGrammars.{one_text, further_text};
@@ -12,10 +12,14 @@ ghost use Rattle.pgv_types.specs.Ty.{Ty};
 ghost use Rattle.pgv_types.specs.declared.oid.Oid.{Oid};
 ghost use Rattle.pgv_codec.specs.Back.{FieldFits, FieldsFit, FieldsBack};
 ghost use Rattle.pgv_codec.specs.BackRecords.{last_back, further_back};
-ghost use Rattle.pgv_codec.specs.Image.{field};
+ghost use Rattle.pgv_codec.specs.Appending.{Encodes, Extends};
+ghost use Rattle.pgv_codec.specs.Encoding.{field, record_image};
+ghost use Rattle.pgv_codec.specs.Record.{WritesFields, so_far};
+ghost use Rattle.pgv_codec.specs.WrittenView.{buffer, written};
 
-use super::record::PgRecordDecoder;
-use crate::traits::{Decode, ReadBack, Type};
+use super::record::{PgRecordDecoder, PgRecordEncoder};
+use crate::buffer::{IsNull, PgArgumentBuffer};
+use crate::traits::{Decode, Encode, ReadBack, Type};
 use pgv_value::{CodecError, PgValueRef};
 use std::alloc::Global;
 
@@ -94,11 +98,58 @@ impl<A: Type + Decode, Rest: FieldList> FieldList for (A, Rest) {
     ghost found_in_text = { further_text A.accepts A.parse Rest.step Rest.in_text Rest.found_in_text };
 }
 
-/// Such a list of values that can be written and read back.
-pub trait KeptList: FieldList {
-    /// The fields that are written of the values, and further ones after them.
-    ghost written: { Self → List (Option (List Token)) → List (Option (List Token)) };
+/// Such a list of values, or of references to them, that is written as the fields of a record.
+pub trait WrittenList {
+    /// The fields that are written, or why one isn't.
+    ghost fields: { Self → List (Outcome (List Token)) };
 
+    /// Writes the fields. What a refusal leaves of the record is left open.
+    fn write(&self, to: &mut PgRecordEncoder<'_>) -> Result<(), CodecError>
+        ensures same_reference { to.new.out.ghost_name ≡ to.old.out.ghost_name }
+        ensures exact { WritesFields (fields self.now) (written to.old) (written to.new) result }
+        ensures before { (written to.new).before ≡ (written to.old).before }
+        ensures so_far { buffer to.new ≡ so_far (written to.new) };
+}
+
+/// The last field.
+impl<A: Encode + Type> WrittenList for (A,) {
+    ghost fields = { λ list. field A.info (A.encoding list.0) ∷ [] };
+
+    #[inline(always)]
+    fn write(&self, to: &mut PgRecordEncoder<'_>) -> Result<(), CodecError> {
+        to.encode(&self.0)
+    }
+}
+
+/// A field and the rest.
+impl<A: Encode + Type, Rest: WrittenList> WrittenList for (A, Rest) {
+    ghost fields = { λ list. field A.info (A.encoding list.0) ∷ Rest.fields list.1 };
+
+    #[inline(always)]
+    fn write(&self, to: &mut PgRecordEncoder<'_>) -> Result<(), CodecError> {
+        to.encode(&self.0)?;
+        self.1.write(to)
+    }
+}
+
+/// Appends a record of a list of fields, for a caller's own encoder: `encode_record(&(&self.id, (&self.path,)), out)`.
+/// A refusal may have appended something.
+#[tactic(auto, unfolding(crate::specs::Encoding::record_image))]
+pub fn encode_record<Fields: WrittenList>(
+    fields: &Fields,
+    out: &mut PgArgumentBuffer,
+) -> Result<IsNull, CodecError>
+    ensures encodes { Encodes (record_image (Fields.fields fields.now)) out.old out.new result }
+    ensures appended { OnErr result (Extends out.old out.new) }
+{
+    let mut record = PgRecordEncoder::new(out)?;
+    fields.write(&mut record)?;
+    record.finish();
+    Ok(IsNull::No)
+}
+
+/// Such a list of values that can be written and read back.
+pub trait KeptList: FieldList + WrittenList {
     /// The values as they come back.
     ghost kept: { Self → Self };
 
@@ -106,29 +157,25 @@ pub trait KeptList: FieldList {
     ghost fits: { Self → Ty → ℕ → List Oid → Type 0 };
 
     /// The fields that are written are read back, whatever comes after them.
-    ghost reads_back: { (list : Self) (further : List (Option (List Token))) → FieldsBack Self.step (written list further) (Self.view (kept list)) (fits list) };
+    ghost reads_back: { (list : Self) (further : List (Outcome (List Token))) → FieldsBack Self.step (Self.fields list ++ further) (Self.view (kept list)) (fits list) };
 }
 
 /// The last field.
 impl<A: ReadBack + Type> KeptList for (A,) {
-    ghost written = { λ list further. field A.hint A.image A.produced A.info list.0 ∷ further };
-
     ghost kept = { λ list. record { 0 = A.kept list.0 } };
 
-    ghost fits = { λ list. FieldFits A.info A.produced A.image A.accepts A.fits list.0 };
+    ghost fits = { λ list. FieldFits A.info A.encoding A.accepts A.fits list.0 };
 
-    ghost reads_back = { λ list. last_back A.info A.produced A.hint A.image A.accepts A.parse (λ v. A.view (A.kept v)) A.fits A.reads_back list.0 };
+    ghost reads_back = { λ list. last_back A.info A.encoding A.accepts A.parse (λ v. A.view (A.kept v)) A.fits A.reads_back list.0 };
 }
 
 /// A field and the rest.
 impl<A: ReadBack + Type, Rest: KeptList> KeptList for (A, Rest) {
-    ghost written = { λ list further. field A.hint A.image A.produced A.info list.0 ∷ Rest.written list.1 further };
-
     ghost kept = { λ list. (A.kept list.0, Rest.kept list.1) };
 
-    ghost fits = { λ list. FieldsFit A.info A.produced A.hint A.image A.accepts A.fits list.0 (Rest.fits list.1) };
+    ghost fits = { λ list. FieldsFit A.info A.encoding A.accepts A.fits list.0 (Rest.fits list.1) };
 
-    ghost reads_back = { λ list further. further_back A.info A.produced A.hint A.image A.accepts A.parse (λ v. A.view (A.kept v)) A.fits A.reads_back list.0 (Rest.reads_back list.1 further) };
+    ghost reads_back = { λ list further. further_back A.info A.encoding A.accepts A.parse (λ v. A.view (A.kept v)) A.fits A.reads_back list.0 (Rest.reads_back list.1 further) };
 }
 
 /// The first fields of a record, as [`PgRecordDecoder`] reads them; further fields are ignored.

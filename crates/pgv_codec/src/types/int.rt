@@ -2,8 +2,9 @@
 //! complement, the highest byte first.
 
 ghost use Rattle.std.specs.Int.{w32, w64};
-ghost use Rattle.std.specs.Prelude.{IfOk, IfErr, OnErr};
-ghost use Rattle.pgv_codec.specs.Outcome.{Encoded, Refused, Appended};
+ghost use Rattle.std.specs.Prelude.{OnErr};
+ghost use Rattle.pgv_codec.specs.Appending.{Encodes, Extends};
+ghost use Rattle.pgv_codec.specs.Encoding.{writes};
 ghost use Rattle.pgv_codec.specs.ScalarBinary.{signed_image};
 
 pub mod char;
@@ -17,9 +18,8 @@ use pgv_value::CodecError;
 /// Appends a number in four bytes, the highest first.
 #[inline(always)]
 pub(crate) fn write_i32(number: i32, out: &mut PgArgumentBuffer) -> Result<IsNull, CodecError>
-    ensures ok { IfOk result (λ n. Encoded n (signed_image w32 number) out.old out.new) }
-    ensures err { IfErr result (λ e. Refused e (signed_image w32 number)) }
-    ensures appended { OnErr result (Appended out.old out.new) }
+    ensures encodes { Encodes (writes (signed_image w32 number)) out.old out.new result }
+    ensures appended { OnErr result (Extends out.old out.new) }
 {
     out.extend_from_slice(&number.to_be_bytes())?;
     Ok(IsNull::No)
@@ -28,9 +28,8 @@ pub(crate) fn write_i32(number: i32, out: &mut PgArgumentBuffer) -> Result<IsNul
 /// Appends a number in eight bytes, the highest first.
 #[inline(always)]
 pub(crate) fn write_i64(number: i64, out: &mut PgArgumentBuffer) -> Result<IsNull, CodecError>
-    ensures ok { IfOk result (λ n. Encoded n (signed_image w64 number) out.old out.new) }
-    ensures err { IfErr result (λ e. Refused e (signed_image w64 number)) }
-    ensures appended { OnErr result (Appended out.old out.new) }
+    ensures encodes { Encodes (writes (signed_image w64 number)) out.old out.new result }
+    ensures appended { OnErr result (Extends out.old out.new) }
 {
     out.extend_from_slice(&number.to_be_bytes())?;
     Ok(IsNull::No)

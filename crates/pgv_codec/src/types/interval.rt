@@ -1,15 +1,14 @@
 //! Intervals (PostgreSQL, "Date/Time Types", interval).
 
-ghost use Rattle.std.specs.Prelude.{◌≡◌, ◌≢◌, None, IfOk, IfErr, OnErr, refl};
+ghost use Rattle.std.specs.Prelude.{OnErr, refl};
 ghost use Rattle.pgv_types.specs.Ty.{builtin};
 ghost use Rattle.pgv_value.specs.Outcome.{without_memory};
-ghost use Rattle.pgv_value.specs.declared.error.CodecError.TheVariants.{Memory};
 ghost use Rattle.pgv_value.specs.Interval.{parse_interval};
 ghost use Rattle.pgv_value.specs.declared.interval.PgInterval.{PgInterval as Interval};
 ghost use Rattle.pgv_codec.specs.Intervals.{interval_image};
-ghost use Rattle.pgv_codec.specs.Outcome.{Encoded, Appended};
-ghost use Rattle.pgv_codec.specs.WithHint.{with_hint};
+ghost use Rattle.pgv_codec.specs.Appending.{Encodes, Extends};
 ghost use Rattle.pgv_codec.specs.IntervalsBack.{interval_back};
+ghost use Rattle.pgv_codec.specs.Encoding.{with_hint, writes};
 
 use crate::buffer::{IsNull, PgArgumentBuffer};
 use crate::traits::{BuiltIn, HasBuiltIn, Of, Plain, Scalar};
@@ -22,10 +21,8 @@ pub(super) fn write_interval(
     interval: PgInterval,
     out: &mut PgArgumentBuffer,
 ) -> Result<IsNull, CodecError>
-    ensures there { interval_image interval ≢ None }
-    ensures ok { IfOk result (λ n. Encoded n (interval_image interval) out.old out.new) }
-    ensures err { IfErr result (λ e. e ≡ Memory) }
-    ensures appended { OnErr result (Appended out.old out.new) }
+    ensures encodes { Encodes (writes (interval_image interval)) out.old out.new result }
+    ensures appended { OnErr result (Extends out.old out.new) }
 {
     out.extend_from_slice(&interval.microseconds.to_be_bytes())?;
     out.extend_from_slice(&interval.days.to_be_bytes())?;
@@ -49,7 +46,7 @@ impl BuiltIn for Of<PgInterval> {
 impl Scalar for PgInterval {
     ghost SIZE = { 16 };
 
-    ghost form = { interval_image };
+    ghost image = { λ value. writes (interval_image value) };
 
     const SIZE: usize = 16;
 
@@ -68,7 +65,7 @@ impl Plain for PgInterval {
 
     ghost null = { λ _ _. refl };
 
-    ghost written = { with_hint (λ _. 16) interval_image };
+    ghost written = { λ _ m. with_hint 16 (writes (interval_image m)) };
 
     fn read(_alloc: Global, value: PgValueRef<'_>) -> Result<PgInterval, CodecError> {
         read_interval(&value)

@@ -6,7 +6,7 @@ ghost use Rattle.pgv_text.specs.AddressText as text;
 ghost use Rattle.pgv_value.specs.Outcome.{without_memory};
 ghost use Rattle.pgv_value.specs.NetworkBinary.{parse_address};
 ghost use Rattle.pgv_codec.specs.NetworkBinary.{address_hint, address_image};
-ghost use Rattle.pgv_codec.specs.WithHint.{with_hint};
+ghost use Rattle.pgv_codec.specs.Encoding.{with_hint, writes};
 
 use super::network::{write_network, written_size};
 use crate::buffer::{IsNull, PgArgumentBuffer};
@@ -26,9 +26,7 @@ fn full_prefix(address: IpAddr) -> u8
 
 /// Written as the network of all its bits: `10.0.0.1` as `022000040a000001`.
 impl Encode for IpAddr {
-    ghost image = { address_image };
-
-    ghost hint = { address_hint };
+    ghost encoding = { λ address. with_hint (address_hint address) (writes (address_image address)) };
 
     #[inline(always)]
     fn encode_by_ref(&self, out: &mut PgArgumentBuffer) -> Result<IsNull, CodecError> {
@@ -59,7 +57,7 @@ impl Plain for IpAddr {
 
     ghost null = { λ _ _. refl };
 
-    ghost written = { with_hint address_hint address_image };
+    ghost written = { λ _ m. with_hint (address_hint m) (writes (address_image m)) };
 
     fn read(_alloc: Global, value: PgValueRef<'_>) -> Result<IpAddr, CodecError> {
         read_ip_address(&value)

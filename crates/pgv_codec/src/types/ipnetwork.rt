@@ -5,7 +5,7 @@ ghost use Rattle.pgv_text.specs.NetworkText.{Network, network_of};
 ghost use Rattle.pgv_value.specs.Outcome.{without_memory};
 ghost use Rattle.pgv_value.specs.NetworkBinary.{parse_network};
 ghost use Rattle.pgv_codec.specs.NetworkBinary.{network_hint, network_image};
-ghost use Rattle.pgv_codec.specs.WithHint.{with_hint};
+ghost use Rattle.pgv_codec.specs.Encoding.{with_hint, writes};
 
 use super::network::{write_network, written_size};
 use crate::buffer::{IsNull, PgArgumentBuffer};
@@ -17,9 +17,7 @@ use std::alloc::{AllocError, Global};
 
 /// Written as the family, the number of bits, a zero, the number of octets, and the octets: `10.0.0.0/8` as `020800040a000000`.
 impl Encode for IpNetwork {
-    ghost image = { λ v. network_image (network_of v) };
-
-    ghost hint = { λ v. network_hint (network_of v) };
+    ghost encoding = { λ v. with_hint (network_hint (network_of v)) (writes (network_image (network_of v))) };
 
     #[inline(always)]
     fn encode_by_ref(&self, out: &mut PgArgumentBuffer) -> Result<IsNull, CodecError> {
@@ -50,7 +48,7 @@ impl Plain for IpNetwork {
 
     ghost null = { λ _ _. refl };
 
-    ghost written = { with_hint network_hint network_image };
+    ghost written = { λ _ m. with_hint (network_hint m) (writes (network_image m)) };
 
     #[inline(always)]
     fn read(_alloc: Global, value: PgValueRef<'_>) -> Result<IpNetwork, CodecError> {

@@ -1,12 +1,11 @@
 //! What networks and addresses have in common: under which types they are read, and what they are written as.
 
-ghost use Rattle.std.specs.Prelude.{◌≡◌, ◌++◌, Some, IfOk, IfErr, OnErr};
+ghost use Rattle.std.specs.Prelude.{◌≡◌, ◌++◌, Some, OnErr};
 ghost use Rattle.pgv_buf.specs.Tokens.{bytes};
-ghost use Rattle.pgv_value.specs.declared.error.CodecError.TheVariants.{Memory};
-ghost use Rattle.pgv_codec.specs.Image.{image_of};
+ghost use Rattle.pgv_codec.specs.Encoding.{image_of, writes};
 ghost use Rattle.pgv_codec.specs.NetworkBinary.{address_hint, image_with};
 ghost use Rattle.pgv_codec.specs.NetworkBinary as spec;
-ghost use Rattle.pgv_codec.specs.Outcome.{Encoded, Refused, Appended};
+ghost use Rattle.pgv_codec.specs.Appending.{Encodes, Extends};
 
 use crate::buffer::{IsNull, PgArgumentBuffer};
 use pgv_types::{PgType, PgTypeInfo};
@@ -47,9 +46,8 @@ fn write_octets(
     octets: &[u8],
     out: &mut PgArgumentBuffer,
 ) -> Result<IsNull, CodecError>
-    ensures ok { IfOk result (λ n. Encoded n (Some (image_of (bytes (front.now ++ octets.now)))) out.old out.new) }
-    ensures err { IfErr result (λ e. e ≡ Memory) }
-    ensures appended { OnErr result (Appended out.old out.new) }
+    ensures encodes { Encodes (writes (Some (image_of (bytes (front.now ++ octets.now))))) out.old out.new result }
+    ensures appended { OnErr result (Extends out.old out.new) }
 {
     out.extend_from_slice(front)?;
     out.extend_from_slice(octets)?;
@@ -63,9 +61,8 @@ pub(crate) fn write_network(
     prefix: u8,
     out: &mut PgArgumentBuffer,
 ) -> Result<IsNull, CodecError>
-    ensures ok { IfOk result (λ n. Encoded n (image_with address prefix) out.old out.new) }
-    ensures err { IfErr result (λ e. Refused e (image_with address prefix)) }
-    ensures appended { OnErr result (Appended out.old out.new) }
+    ensures encodes { Encodes (writes (image_with address prefix)) out.old out.new result }
+    ensures appended { OnErr result (Extends out.old out.new) }
 {
     match address {
         IpAddr::V4(ip) => {

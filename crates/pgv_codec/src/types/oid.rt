@@ -6,7 +6,7 @@ ghost use Rattle.pgv_codec.specs.ScalarBinary.{unsigned_image};
 ghost use Rattle.std.specs.Prelude.{ℕ, refl};
 ghost use Rattle.pgv_value.specs.Outcome.{without_memory};
 ghost use Rattle.pgv_value.specs.ScalarGrammar.{parse_oid};
-ghost use Rattle.pgv_codec.specs.Saying.{plainly};
+ghost use Rattle.pgv_codec.specs.Encoding.{plainly, writes};
 
 use crate::buffer::{IsNull, PgArgumentBuffer};
 use crate::traits::{BuiltIn, HasBuiltIn, Of, Plain, Scalar};
@@ -30,7 +30,7 @@ impl BuiltIn for Of<Oid> {
 impl Scalar for Oid {
     ghost SIZE = { 0 };
 
-    ghost form = { λ o. unsigned_image w32 o.0 };
+    ghost image = { λ o. writes (unsigned_image w32 o.0) };
 
     const SIZE: usize = 0;
 
@@ -58,7 +58,7 @@ impl Plain for Oid {
 
     ghost null = { λ _ _. refl };
 
-    ghost written = { plainly (unsigned_image w32) };
+    ghost written = { λ _ m. plainly (writes (unsigned_image w32 m)) };
 
     #[inline(always)]
     fn read(_alloc: Global, value: PgValueRef<'_>) -> Result<Oid, CodecError> {

@@ -1,10 +1,8 @@
 //! Values that may be null.
 
 ghost use Rattle.std.specs.Prelude.{Option, option_map, Some, None, refl};
-ghost use Rattle.pgv_codec.specs.Image.{option_image, option_hint, option_produced};
-ghost use Rattle.pgv_codec.specs.Refusing.{option_asks_first, option_unwritable};
+ghost use Rattle.pgv_codec.specs.Encoding.{option_encoding};
 ghost use Rattle.pgv_codec.specs.Nullable.{nullable};
-ghost use Rattle.pgv_codec.specs.Saying.{option_written};
 ghost use Rattle.pgv_codec.specs.Back.{option_kept, option_fits};
 ghost use Rattle.pgv_codec.specs.BackNests.{option_back};
 
@@ -48,15 +46,7 @@ impl<T: PgHasArrayType> PgHasArrayType for Option<T> {
 
 /// `None` is written as null, the length `ffffffff` without bytes after it, and `Some` as its value.
 impl<T: Encode + Type> Encode for Option<T> {
-    ghost image = { option_image T.image };
-
-    ghost hint = { option_hint T.hint };
-
-    ghost produced = { option_produced T.produced T.info };
-
-    ghost unwritable = { option_unwritable T.unwritable };
-
-    ghost asks_first = { option_asks_first T.asks_first };
+    ghost encoding = { option_encoding T.info T.encoding };
 
     #[inline(always)]
     fn encode_by_ref(&self, out: &mut PgArgumentBuffer) -> Result<IsNull, CodecError> {
@@ -99,7 +89,7 @@ impl<T: Decode> Decode for Option<T> {
 
     ghost parse = { nullable T.parse };
 
-    ghost written = { option_written T.written };
+    ghost written = { λ info. option_encoding info (T.written info) };
 
     ghost null = { λ _ _. tt };
 
@@ -114,11 +104,11 @@ impl<T: Decode> Decode for Option<T> {
 
 /// `None` is read back, and so is `Some` if its value is; but a value that is written as null is read back as `None`.
 impl<T: ReadBack + Type> ReadBack for Option<T> {
-    ghost kept = { option_kept T.image T.kept };
+    ghost kept = { option_kept T.encoding T.kept };
 
     ghost fits = { option_fits T.fits };
 
-    ghost reads_back = { option_back T.image T.parse T.view T.kept T.fits T.reads_back };
+    ghost reads_back = { option_back T.info T.encoding T.parse T.view T.kept T.fits T.reads_back };
 }
 
 impl<T: Codec> Codec for Option<T> {

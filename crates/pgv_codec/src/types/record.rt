@@ -1,6 +1,6 @@
 //! Records: composite types, field by field.
 
-ghost use Rattle.std.specs.Prelude.{IfErr, OnOk, OnErr, ◌≡◌, ◌<◌, length, IfOk, IsErrOf};
+ghost use Rattle.std.specs.Prelude.{IfErr, OnErr, ◌≡◌, ◌<◌, length, IfOk};
 ghost use Rattle.std.specs.Borrow.{sem, RestsIfErr};
 ghost use Rattle.pgv_text.specs.Copies.{copies_of};
 ghost use Rattle.pgv_text.specs.PartsView.{copies, nest};
@@ -8,12 +8,11 @@ ghost use Rattle.pgv_text.specs.Values.{record_values};
 ghost use Rattle.pgv_text.specs.declared.scanner.TextForm.TheVariants.{Record};
 ghost use Rattle.pgv_value.specs.Outcome.{Gives};
 ghost use Rattle.pgv_value.specs.Parsed.{GivesOr};
-ghost use Rattle.pgv_value.specs.declared.error.CodecError.TheVariants.{Syntax, Memory, FieldCount};
+ghost use Rattle.pgv_value.specs.declared.error.CodecError.TheVariants.{Syntax, Memory};
 ghost use Rattle.pgv_nest.specs.RecordGrammar.{field_in_binary, fields_of, next_field};
-ghost use Rattle.pgv_codec.specs.Image.{field, counted_field};
-ghost use Rattle.pgv_codec.specs.Outcome.{Refused, Appended, AppendedAll};
-ghost use Rattle.pgv_codec.specs.Record.{IsOpen, begun, so_far, AddsField};
-ghost use Rattle.pgv_codec.specs.Refusing.{RefusedFor, frame_refused, field_refused};
+ghost use Rattle.pgv_codec.specs.Encoding.{field, counted_field};
+ghost use Rattle.pgv_codec.specs.Appending.{Appends, Extends};
+ghost use Rattle.pgv_codec.specs.Record.{IsOpen, begun, so_far, WritesField};
 ghost use Rattle.pgv_codec.specs.contracts.buffer.PgArgumentBuffer.{the_row};
 
 use super::part::read_part;
@@ -62,10 +61,7 @@ impl<'a> PgRecordEncoder<'a> {
     /// (C12) after 4294967295 fields.
     pub fn encode<T: Encode + Type + Drop>(&mut self, value: T) -> Result<(), CodecError>
         ensures same_reference { self.new.out.ghost_name ≡ self.old.out.ghost_name }
-        ensures ok { OnOk result (AddsField (counted_field (written self.old).count (field T.hint T.image T.produced T.info value)) (written self.old) (written self.new)) }
-        ensures err { IfErr result (λ e. Refused e (counted_field (written self.old).count (field T.hint T.image T.produced T.info value))) }
-        ensures refused { RefusedFor (field_refused T.hint T.image T.unwritable (written self.old).count value) result }
-        ensures full { (written self.old).count ≡ 4294967295 → IsErrOf result FieldCount }
+        ensures exact { WritesField (counted_field (written self.old).count (field T.info (T.encoding value))) (written self.old) (written self.new) result }
         ensures unchanged { OnErr result (written self.new ≡ written self.old) }
         ensures so_far { buffer self.new ≡ so_far (written self.new) }
     {
@@ -95,11 +91,10 @@ impl<'a> PgRecordEncoder<'a> {
 }
 
 /// One field: its type, and its frame.
+#[tactic(auto, unfolding(crate::specs::Encoding::field))]
 fn encode_field<T: Encode + Type>(out: &mut PgArgumentBuffer, value: &T) -> Result<(), CodecError>
-    ensures ok { OnOk result (AppendedAll (field T.hint T.image T.produced T.info value.now) out.old out.new) }
-    ensures err { IfErr result (λ e. Refused e (field T.hint T.image T.produced T.info value.now)) }
-    ensures refused { RefusedFor (frame_refused (T.hint value.now) (T.image value.now) (T.unwritable value.now)) result }
-    ensures appended { OnErr result (Appended out.old out.new) }
+    ensures exact { Appends (field T.info (T.encoding value.now)) out.old out.new result }
+    ensures appended { OnErr result (Extends out.old out.new) }
 {
     let field_type = type_of_value(value)?;
     out.push_type(field_type)?;

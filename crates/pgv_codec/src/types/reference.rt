@@ -39,15 +39,7 @@ impl<T: PgHasArrayType> PgHasArrayType for &T {
 
 /// Written as what it refers to.
 impl<T: Encode> Encode for &T {
-    ghost image = { λ r. T.image r.now };
-
-    ghost hint = { λ r. T.hint r.now };
-
-    ghost produced = { λ r. T.produced r.now };
-
-    ghost unwritable = { λ r. T.unwritable r.now };
-
-    ghost asks_first = { λ r. T.asks_first r.now };
+    ghost encoding = { λ r. T.encoding r.now };
 
     fn encode_by_ref(&self, out: &mut PgArgumentBuffer) -> Result<IsNull, CodecError> {
         (**self).encode_by_ref(out)

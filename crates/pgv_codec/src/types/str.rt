@@ -2,6 +2,7 @@
 
 ghost use Rattle.std.specs.Prelude.{◌≡◌, ℕ, List, [], refl, string_bytes, IfOk, IsOk};
 ghost use Rattle.pgv_codec.specs.ScalarBinary.{text_image};
+ghost use Rattle.pgv_codec.specs.Encoding.{plainly, writes};
 
 use super::text::encode_text;
 use crate::buffer::{IsNull, PgArgumentBuffer};
@@ -23,7 +24,7 @@ fn copy_of(alloc: Global, text: &str) -> Result<String, AllocError>
 
 /// Written as its bytes: `hi` as `6869`.
 impl Encode for String {
-    ghost image = { λ s. text_image (string_bytes s) };
+    ghost encoding = { λ s. plainly (writes (text_image (string_bytes s))) };
 
     #[inline(always)]
     fn encode_by_ref(&self, out: &mut PgArgumentBuffer) -> Result<IsNull, CodecError> {
@@ -46,7 +47,6 @@ impl Encode for String {
 /// [`UnexpectedNull`](CodecError::UnexpectedNull) (C13). An empty text asks for no memory.
 impl Plain for String {
     ghost use Rattle.pgv_value.specs.Utf8.{parse_text};
-    ghost use Rattle.pgv_codec.specs.Saying.{plainly};
     ghost use Rattle.pgv_codec.specs.BackScalars.{text_back};
 
     ghost View = { List ℕ };
@@ -57,7 +57,7 @@ impl Plain for String {
 
     ghost null = { λ _ _. refl };
 
-    ghost written = { plainly text_image };
+    ghost written = { λ _ m. plainly (writes (text_image m)) };
 
     #[inline(always)]
     fn read(alloc: Global, value: PgValueRef<'_>) -> Result<String, CodecError> {

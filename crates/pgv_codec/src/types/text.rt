@@ -1,9 +1,9 @@
 //! Which types are read as texts (PostgreSQL, "Character Types"), and how a text is appended.
 
-ghost use Rattle.std.specs.Prelude.{◌≡◌, IfOk, IfErr, OnErr};
+ghost use Rattle.std.specs.Prelude.{◌≡◌, OnErr};
 ghost use Rattle.pgv_types.specs.Ty.{builtin};
-ghost use Rattle.pgv_value.specs.declared.error.CodecError.TheVariants.{Memory};
-ghost use Rattle.pgv_codec.specs.Outcome.{Encoded};
+ghost use Rattle.pgv_codec.specs.Appending.{Encodes};
+ghost use Rattle.pgv_codec.specs.Encoding.{writes};
 ghost use Rattle.pgv_codec.specs.ScalarBinary as spec;
 
 use crate::buffer::{IsNull, PgArgumentBuffer};
@@ -15,9 +15,8 @@ use pgv_value::CodecError;
 /// it was.
 #[inline(always)]
 pub fn encode_text(text: &str, out: &mut PgArgumentBuffer) -> Result<IsNull, CodecError>
-    ensures ok { IfOk result (λ n. Encoded n (spec.text_image text.now) out.old out.new) }
+    ensures encodes { Encodes (writes (spec.text_image text.now)) out.old out.new result }
     ensures err { OnErr result (out.new ≡ out.old) }
-    ensures refused { IfErr result (λ e. e ≡ Memory) }
 {
     out.extend_from_slice(text.as_bytes())?;
     Ok(IsNull::No)

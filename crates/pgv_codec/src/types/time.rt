@@ -6,7 +6,7 @@ ghost use Rattle.jiff.specs.Words.{time_nanos};
 ghost use Rattle.pgv_value.specs.Outcome.{without_memory};
 ghost use Rattle.pgv_value.specs.DateTimeBinary.{parse_time};
 ghost use Rattle.pgv_codec.specs.DateTimeBinary.{time_image};
-ghost use Rattle.pgv_codec.specs.WithHint.{with_hint};
+ghost use Rattle.pgv_codec.specs.Encoding.{with_hint, writes};
 
 use super::int::write_i64;
 use crate::buffer::{IsNull, PgArgumentBuffer};
@@ -39,7 +39,7 @@ impl BuiltIn for Of<Time> {
 impl Scalar for Time {
     ghost SIZE = { 8 };
 
-    ghost form = { λ v. time_image (time_nanos v) };
+    ghost image = { λ v. writes (time_image (time_nanos v)) };
 
     const SIZE: usize = 8;
 
@@ -63,7 +63,7 @@ impl Plain for Time {
 
     ghost null = { λ _ _. refl };
 
-    ghost written = { with_hint (λ _. 8) time_image };
+    ghost written = { λ _ m. with_hint 8 (writes (time_image m)) };
 
     ghost kept = { time_kept };
 

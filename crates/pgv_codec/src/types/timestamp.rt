@@ -6,7 +6,7 @@ ghost use Rattle.std.specs.Prelude.{◌≡◌, FitsSigned, ℤ, refl};
 ghost use Rattle.pgv_value.specs.Outcome.{without_memory};
 ghost use Rattle.pgv_value.specs.DateTimeBinary.{parse_instant};
 ghost use Rattle.pgv_codec.specs.DateTimeBinary.{micros_of, moment_image};
-ghost use Rattle.pgv_codec.specs.WithHint.{with_hint};
+ghost use Rattle.pgv_codec.specs.Encoding.{with_hint, writes};
 
 use super::int::write_i64;
 use crate::buffer::{IsNull, PgArgumentBuffer};
@@ -42,7 +42,7 @@ impl BuiltIn for Of<Timestamp> {
 impl Scalar for Timestamp {
     ghost SIZE = { 8 };
 
-    ghost form = { λ v. moment_image v.nanosecond };
+    ghost image = { λ v. writes (moment_image v.nanosecond) };
 
     const SIZE: usize = 8;
 
@@ -66,7 +66,7 @@ impl Plain for Timestamp {
 
     ghost null = { λ _ _. refl };
 
-    ghost written = { with_hint (λ _. 8) moment_image };
+    ghost written = { λ _ m. with_hint 8 (writes (moment_image m)) };
 
     ghost kept = { instant_kept };
 

@@ -4,7 +4,7 @@
 ghost use Rattle.std.specs.Prelude.{refl};
 ghost use Rattle.pgv_types.specs.Ty.{builtin};
 ghost use Rattle.pgv_nest.specs.RecordGrammar.{parse_record};
-ghost use Rattle.pgv_codec.specs.Saying.{unwritten};
+ghost use Rattle.pgv_codec.specs.Encoding.{unwritten};
 
 use super::field_list::{FieldList, first_fields};
 use crate::traits::{BuiltIn, Decode, HasBuiltIn, Of, Type};
@@ -20,7 +20,7 @@ impl<A: Type + Decode> Decode for (A,) {
 
     ghost parse = { parse_record ⟦<(A,) as FieldList>⟧.step };
 
-    ghost written = { unwritten };
+    ghost written = { λ _ _. unwritten };
 
     ghost null = { λ _ _. (refl, refl) };
 
@@ -50,7 +50,7 @@ impl<A: Type + Decode, B: Type + Decode> Decode for (A, B) {
 
     ghost parse = { parse_record ⟦<(A, (B,)) as FieldList>⟧.step };
 
-    ghost written = { unwritten };
+    ghost written = { λ _ _. unwritten };
 
     ghost null = { λ _ _. (refl, refl) };
 
@@ -82,7 +82,7 @@ impl<A: Type + Decode, B: Type + Decode, C: Type + Decode> Decode for (A, B, C) 
 
     ghost parse = { parse_record ⟦<(A, (B, (C,))) as FieldList>⟧.step };
 
-    ghost written = { unwritten };
+    ghost written = { λ _ _. unwritten };
 
     ghost null = { λ _ _. (refl, refl) };
 
@@ -115,7 +115,7 @@ impl<A: Type + Decode, B: Type + Decode, C: Type + Decode, D: Type + Decode> Dec
 
     ghost parse = { parse_record ⟦<(A, (B, (C, (D,)))) as FieldList>⟧.step };
 
-    ghost written = { unwritten };
+    ghost written = { λ _ _. unwritten };
 
     ghost null = { λ _ _. (refl, refl) };
 
@@ -153,7 +153,7 @@ impl<
 
     ghost parse = { parse_record ⟦<(A, (B, (C, (D, (E,))))) as FieldList>⟧.step };
 
-    ghost written = { unwritten };
+    ghost written = { λ _ _. unwritten };
 
     ghost null = { λ _ _. (refl, refl) };
 
@@ -192,7 +192,7 @@ impl<
 
     ghost parse = { parse_record ⟦<(A, (B, (C, (D, (E, (F,)))))) as FieldList>⟧.step };
 
-    ghost written = { unwritten };
+    ghost written = { λ _ _. unwritten };
 
     ghost null = { λ _ _. (refl, refl) };
 
@@ -232,7 +232,7 @@ impl<
 
     ghost parse = { parse_record ⟦<(A, (B, (C, (D, (E, (F, (G,))))))) as FieldList>⟧.step };
 
-    ghost written = { unwritten };
+    ghost written = { λ _ _. unwritten };
 
     ghost null = { λ _ _. (refl, refl) };
 
@@ -273,7 +273,7 @@ impl<
 
     ghost parse = { parse_record ⟦<(A, (B, (C, (D, (E, (F, (G, (H,)))))))) as FieldList>⟧.step };
 
-    ghost written = { unwritten };
+    ghost written = { λ _ _. unwritten };
 
     ghost null = { λ _ _. (refl, refl) };
 
@@ -315,7 +315,7 @@ impl<
 
     ghost parse = { parse_record ⟦<(A, (B, (C, (D, (E, (F, (G, (H, (I,))))))))) as FieldList>⟧.step };
 
-    ghost written = { unwritten };
+    ghost written = { λ _ _. unwritten };
 
     ghost null = { λ _ _. (refl, refl) };
 

@@ -5,7 +5,7 @@ ghost use Rattle.pgv_codec.specs.ScalarBinary.{uuid_image};
 ghost use Rattle.std.specs.Prelude.{ℕ, List, refl};
 ghost use Rattle.pgv_value.specs.Outcome.{without_memory};
 ghost use Rattle.pgv_value.specs.ScalarGrammar.{parse_uuid};
-ghost use Rattle.pgv_codec.specs.Saying.{plainly};
+ghost use Rattle.pgv_codec.specs.Encoding.{plainly, writes};
 
 use crate::buffer::{IsNull, PgArgumentBuffer};
 use crate::traits::{BuiltIn, HasBuiltIn, Of, Plain, Scalar};
@@ -31,7 +31,7 @@ impl BuiltIn for Of<Uuid> {
 impl Scalar for Uuid {
     ghost SIZE = { 0 };
 
-    ghost form = { uuid_image };
+    ghost image = { λ value. writes (uuid_image value) };
 
     const SIZE: usize = 0;
 
@@ -60,7 +60,7 @@ impl Plain for Uuid {
 
     ghost null = { λ _ _. refl };
 
-    ghost written = { plainly uuid_image };
+    ghost written = { λ _ m. plainly (writes (uuid_image m)) };
 
     #[inline(always)]
     fn read(_alloc: Global, value: PgValueRef<'_>) -> Result<Uuid, CodecError> {

@@ -1,5 +1,7 @@
 //! Nothing: the type of a call that answers no value (PostgreSQL, "Pseudo-Types", void). It isn't written.
 
+ghost use Rattle.pgv_codec.specs.Encoding.{unwritten};
+
 use crate::traits::{Decode, Type};
 use pgv_types::{PgType, PgTypeInfo};
 use pgv_value::{CodecError, PgValueRef};
@@ -28,7 +30,6 @@ impl Type for () {
 impl Decode for () {
     ghost use Rattle.std.specs.Prelude.{⊤};
     ghost use Rattle.pgv_codec.specs.Nullable.{anything};
-    ghost use Rattle.pgv_codec.specs.Saying.{unwritten};
 
     ghost View = { ⊤ };
 
@@ -36,7 +37,7 @@ impl Decode for () {
 
     ghost parse = { anything };
 
-    ghost written = { unwritten };
+    ghost written = { λ _ _. unwritten };
 
     ghost null = { λ _ _. tt };
 

@@ -1,17 +1,13 @@
 //! Maps of texts, written and read (PostgreSQL, appendix F, hstore).
 
-ghost use Rattle.std.specs.Prelude.{◌≡◌, nat_le, true, List, IfOk, IfErr, OnOk, OnErr, Some, false, refl, string_bytes, option_map, [], codes, map};
-ghost use Rattle.std.specs.Int.{w64, cast_signed};
+ghost use Rattle.std.specs.Prelude.{◌≡◌, true, List, OnErr, Some, refl, string_bytes, option_map, [], codes, map};
 ghost use Rattle.pgv_types.specs.Ty.{array_of, named};
 ghost use Rattle.pgv_types.specs.Relations.{softly};
-ghost use Rattle.pgv_buf.specs.Tokens.{be4};
-ghost use Rattle.pgv_value.specs.Outcome.{Gives};
-ghost use Rattle.pgv_value.specs.declared.error.CodecError.TheVariants.{HstoreLength};
-ghost use Rattle.pgv_codec.specs.Image.{limit};
-ghost use Rattle.pgv_codec.specs.Outcome.{Refused, Appended, AppendedAll};
-ghost use Rattle.pgv_codec.specs.Refusing.{RefusedFor};
-ghost use Rattle.pgv_codec.specs.Saying.{plainly};
-ghost use Rattle.pgv_hstore.specs.Hstore.{Pair, pair_of, pairs_of, hstore_image, hstore_in_binary, hstore_asks_first, hstore_refused, key_at, pair_refused, pairs_refused, part_written, pair_written, pairs_written, parse_hstore, put_read, text_at, value_at, value_refused};
+ghost use Rattle.pgv_value.specs.Outcome.{Gives, after};
+ghost use Rattle.pgv_value.specs.Parsed.{GivesExactly};
+ghost use Rattle.pgv_codec.specs.Appending.{Appends, Extends};
+ghost use Rattle.pgv_codec.specs.Encoding.{plainly};
+ghost use Rattle.pgv_hstore.specs.Hstore.{Pair, pair_of, pairs_of, hstore_image, hstore_in_binary, key_at, number_form, part_written, pair_written, pairs_written, parse_hstore, put_read, text_at, value_at};
 
 use super::{PgHstore, put_pair};
 use pgv_codec::{Encode, IsNull, PgArgumentBuffer, PgHasArrayType, Plain, Type};
@@ -59,9 +55,9 @@ impl PgHasArrayType for PgHstore {
 /// A number of pairs, or a length, in four bytes. More than 2147483647 are refused with
 /// [`HstoreLength`](CodecError::HstoreLength) (C9).
 #[inline(always)]
+#[tactic(auto, unfolding(crate::specs::Hstore::number_form))]
 fn number_of(count: usize) -> Result<[u8; 4], CodecError>
-    ensures ok { IfOk result (λ number. (nat_le count limit ≡ true) × (number ≡ be4 count)) }
-    ensures err { IfErr result (λ e. (nat_le count limit ≡ false) × (e ≡ HstoreLength (cast_signed w64 count))) }
+    ensures { GivesExactly (λ number. number) (number_form count) result }
 {
     if count > LENGTH_LIMIT {
         return Err(CodecError::HstoreLength((count as u64).cast_signed()));
@@ -72,11 +68,10 @@ fn number_of(count: usize) -> Result<[u8; 4], CodecError>
 /// Appends a key, or a value that isn't null: its length and its bytes. A longer one is refused with
 /// [`HstoreLength`](CodecError::HstoreLength) (C9).
 #[inline(always)]
+#[tactic(auto, unfolding(crate::specs::Hstore::part_written))]
 fn write_text(text: &String, out: &mut PgArgumentBuffer) -> Result<(), CodecError>
-    ensures ok { OnOk result (AppendedAll (part_written (Some (string_bytes text.now))) out.old out.new) }
-    ensures err { IfErr result (λ e. Refused e (part_written (Some (string_bytes text.now)))) }
-    ensures refused { RefusedFor (value_refused (Some (string_bytes text.now))) result }
-    ensures appended { OnErr result (Appended out.old out.new) }
+    ensures exact { Appends (part_written (Some (string_bytes text.now))) out.old out.new result }
+    ensures appended { OnErr result (Extends out.old out.new) }
 {
     let text = text.as_bytes();
     let number = number_of(text.len())?;
@@ -87,11 +82,10 @@ fn write_text(text: &String, out: &mut PgArgumentBuffer) -> Result<(), CodecErro
 
 /// Appends a value, or null.
 #[inline(always)]
+#[tactic(auto, unfolding(crate::specs::Hstore::part_written))]
 fn write_value(value: &Option<String>, out: &mut PgArgumentBuffer) -> Result<(), CodecError>
-    ensures ok { OnOk result (AppendedAll (part_written (option_map string_bytes value.now)) out.old out.new) }
-    ensures err { IfErr result (λ e. Refused e (part_written (option_map string_bytes value.now))) }
-    ensures refused { RefusedFor (value_refused (option_map string_bytes value.now)) result }
-    ensures appended { OnErr result (Appended out.old out.new) }
+    ensures exact { Appends (part_written (option_map string_bytes value.now)) out.old out.new result }
+    ensures appended { OnErr result (Extends out.old out.new) }
 {
     match value {
         Some(text) => write_text(text, out),
@@ -101,15 +95,14 @@ fn write_value(value: &Option<String>, out: &mut PgArgumentBuffer) -> Result<(),
 
 /// Appends a key and its value.
 #[inline(always)]
+#[tactic(auto, unfolding(crate::specs::Hstore::pair_written))]
 fn write_pair(
     key: &String,
     value: &Option<String>,
     out: &mut PgArgumentBuffer,
 ) -> Result<(), CodecError>
-    ensures ok { OnOk result (AppendedAll (pair_written (pair_of (key.now, value.now))) out.old out.new) }
-    ensures err { IfErr result (λ e. Refused e (pair_written (pair_of (key.now, value.now)))) }
-    ensures refused { RefusedFor (pair_refused (pair_of (key.now, value.now))) result }
-    ensures appended { OnErr result (Appended out.old out.new) }
+    ensures exact { Appends (pair_written (pair_of (key.now, value.now))) out.old out.new result }
+    ensures appended { OnErr result (Extends out.old out.new) }
 {
     write_text(key, out)?;
     write_value(value, out)?;
@@ -121,10 +114,8 @@ fn write_pairs(
     hstore: &BTreeMap<String, Option<String>>,
     out: &mut PgArgumentBuffer,
 ) -> Result<(), CodecError>
-    ensures ok { OnOk result (AppendedAll (pairs_written (map pair_of hstore.now.entries)) out.old out.new) }
-    ensures err { IfErr result (λ e. Refused e (pairs_written (map pair_of hstore.now.entries))) }
-    ensures refused { RefusedFor (pairs_refused (map pair_of hstore.now.entries)) result }
-    ensures appended { OnErr result (Appended out.old out.new) }
+    ensures exact { Appends (after true (pairs_written (map pair_of hstore.now.entries))) out.old out.new result }
+    ensures appended { OnErr result (Extends out.old out.new) }
 {
     for (key, value) in hstore {
         write_pair(key, value, out)?;
@@ -136,12 +127,9 @@ fn write_pairs(
 /// front, -1 for null: `a => null` as `00000001 00000001 61 ffffffff`. More than 2147483647 pairs, or bytes of a key or
 /// value, are refused with [`HstoreLength`](CodecError::HstoreLength) (C9).
 impl Encode for PgHstore {
-    ghost image = { λ h. hstore_image (pairs_of h) };
+    ghost encoding = { λ h. plainly (hstore_image (pairs_of h)) };
 
-    ghost unwritable = { λ h. hstore_refused (pairs_of h) };
-
-    ghost asks_first = { λ h. hstore_asks_first (pairs_of h) };
-
+    #[tactic(auto, unfolding(crate::specs::Hstore::hstore_image))]
     fn encode_by_ref(&self, out: &mut PgArgumentBuffer) -> Result<IsNull, CodecError> {
         let number = number_of(self.0.len())?;
         out.extend_from_slice(&number)?;
@@ -233,7 +221,7 @@ impl Plain for PgHstore {
 
     ghost null = { λ _ _. refl };
 
-    ghost written = { plainly hstore_image };
+    ghost written = { λ _ ps. plainly (hstore_image ps) };
 
     fn read(alloc: Global, value: PgValueRef<'_>) -> Result<PgHstore, CodecError> {
         let bytes = value.as_bytes()?;

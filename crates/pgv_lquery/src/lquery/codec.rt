@@ -3,7 +3,7 @@
 ghost use Rattle.std.specs.Prelude.{List, refl};
 ghost use Rattle.pgv_types.specs.Relations.{softly};
 ghost use Rattle.pgv_value.specs.Outcome.{Gives};
-ghost use Rattle.pgv_codec.specs.Saying.{plainly};
+ghost use Rattle.pgv_codec.specs.Encoding.{plainly, writes};
 ghost use Rattle.pgv_lquery.specs.Queries.{Level};
 ghost use Rattle.pgv_lquery.specs.QueryCodec.{lquery, lquery_array, query_image, query_in_binary, query_in_text, parse_query};
 
@@ -48,7 +48,7 @@ impl PgHasArrayType for PgLQuery {
 
 /// Written as the byte 01 and the printed text, piece after piece: `a@*` is `01612a40`.
 impl Encode for PgLQuery {
-    ghost image = { query_image };
+    ghost encoding = { λ query. plainly (writes (query_image query)) };
 
     fn encode_by_ref(&self, out: &mut PgArgumentBuffer) -> Result<IsNull, CodecError> {
         out.push(VERSION)?;
@@ -103,7 +103,7 @@ impl Decode for PgLQuery {
 
     ghost parse = { parse_query };
 
-    ghost written = { plainly query_image };
+    ghost written = { λ _ m. plainly (writes (query_image m)) };
 
     ghost null = { λ _ _. (refl, refl) };
 

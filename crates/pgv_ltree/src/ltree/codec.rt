@@ -3,7 +3,7 @@
 ghost use Rattle.std.specs.Prelude.{ℕ, List, refl};
 ghost use Rattle.pgv_types.specs.Relations.{softly};
 ghost use Rattle.pgv_value.specs.Outcome.{Gives};
-ghost use Rattle.pgv_codec.specs.Saying.{plainly};
+ghost use Rattle.pgv_codec.specs.Encoding.{plainly, writes};
 ghost use Rattle.pgv_ltree.specs.TreesCodec.{ltree, ltree_array, tree_image, tree_in_binary, tree_in_text, parse_tree};
 
 use super::{PgLTree, print_labels};
@@ -46,7 +46,7 @@ impl PgHasArrayType for PgLTree {
 
 /// Written as the byte 01 and the text, label after label: `a.b` is `01612e62`.
 impl Encode for PgLTree {
-    ghost image = { tree_image };
+    ghost encoding = { λ tree. plainly (writes (tree_image tree)) };
 
     fn encode_by_ref(&self, out: &mut PgArgumentBuffer) -> Result<IsNull, CodecError> {
         out.push(VERSION)?;
@@ -95,7 +95,7 @@ impl Plain for PgLTree {
 
     ghost null = { λ _ _. refl };
 
-    ghost written = { plainly tree_image };
+    ghost written = { λ _ m. plainly (writes (tree_image m)) };
 
     ghost kept = { tree_kept };
 

@@ -1,13 +1,13 @@
 //! Lists of bits, written and read (PostgreSQL, "Bit String Types").
 
-ghost use Rattle.std.specs.Prelude.{Bool, List, false, ok_or, refl};
+ghost use Rattle.std.specs.Prelude.{Bool, List, ok_or, refl};
 ghost use Rattle.pgv_types.specs.Ty.{builtin};
 ghost use Rattle.pgv_value.specs.Outcome.{Gives, copied};
 ghost use Rattle.pgv_value.specs.declared.error.CodecError.TheVariants.{Syntax};
-ghost use Rattle.pgv_more.specs.BitsBinary.{bits_image, bits_hint, bits_in_binary, bits_refused};
+ghost use Rattle.pgv_more.specs.BitsBinary.{bits_image, bits_hint, bits_in_binary};
 ghost use Rattle.pgv_more.specs.BitsText.{bits_in_text};
 ghost use Rattle.pgv_more.specs.BitsCodec.{is_bits, is_bits_array, parse_bits};
-ghost use Rattle.pgv_codec.specs.WithHint.{with_hint};
+ghost use Rattle.pgv_codec.specs.Encoding.{with_hint};
 
 use super::BitVec;
 use pgv_codec::{Encode, IsNull, PgArgumentBuffer, PgHasArrayType, Plain, Type};
@@ -50,13 +50,7 @@ impl PgHasArrayType for BitVec {
 /// Bits are written as their number, in four bytes, and then in bytes, the first bit highest, with zeros after the
 /// last: `101` is `00000003a0`. More than 2147483647 are refused with [`ValueSize`](CodecError::ValueSize) (C2).
 impl Encode for BitVec {
-    ghost image = { bits_image };
-
-    ghost hint = { bits_hint };
-
-    ghost unwritable = { bits_refused };
-
-    ghost asks_first = { λ _. false };
+    ghost encoding = { λ bits. with_hint (bits_hint bits) (bits_image bits) };
 
     fn encode_by_ref(&self, out: &mut PgArgumentBuffer) -> Result<IsNull, CodecError> {
         let count = self.len();
@@ -120,7 +114,7 @@ impl Plain for BitVec {
 
     ghost null = { λ _ _. refl };
 
-    ghost written = { with_hint bits_hint bits_image };
+    ghost written = { λ _ m. with_hint (bits_hint m) (bits_image m) };
 
     fn read(alloc: Global, value: PgValueRef<'_>) -> Result<BitVec, CodecError> {
         match value.format() {

@@ -3,7 +3,7 @@
 ghost use Rattle.std.specs.Prelude.{ℕ, List, refl};
 ghost use Rattle.pgv_types.specs.Ty.{builtin};
 ghost use Rattle.pgv_types.specs.Relations.{softly};
-ghost use Rattle.pgv_codec.specs.Saying.{plainly};
+ghost use Rattle.pgv_codec.specs.Encoding.{plainly, writes};
 ghost use Rattle.pgv_codec.specs.ScalarBinary.{text_image as plain_image};
 ghost use Rattle.pgv_more.specs.ByteaText.{parse_bytea};
 
@@ -46,7 +46,7 @@ impl PgHasArrayType for PgBytea {
 /// Written as the bytes.
 /// The bytes 1 and 255 are `01ff`.
 impl Encode for PgBytea {
-    ghost image = { λ b. plain_image b.0.items };
+    ghost encoding = { λ b. plainly (writes (plain_image b.0.items)) };
 
     fn encode_by_ref(&self, out: &mut PgArgumentBuffer) -> Result<IsNull, CodecError> {
         out.extend_from_slice(self.0.as_slice())?;
@@ -77,7 +77,7 @@ impl Plain for PgBytea {
 
     ghost null = { λ _ _. refl };
 
-    ghost written = { plainly plain_image };
+    ghost written = { λ _ m. plainly (writes (plain_image m)) };
 
     #[inline(always)]
     fn read(alloc: Global, value: PgValueRef<'_>) -> Result<PgBytea, CodecError> {

@@ -3,7 +3,7 @@
 ghost use Rattle.std.specs.Prelude.{ℕ, List, refl, codes, string_bytes};
 ghost use Rattle.pgv_types.specs.Ty.{named};
 ghost use Rattle.pgv_value.specs.Utf8.{parse_text};
-ghost use Rattle.pgv_codec.specs.Saying.{plainly};
+ghost use Rattle.pgv_codec.specs.Encoding.{plainly, writes};
 ghost use Rattle.pgv_codec.specs.ScalarBinary.{is_text, is_text_array, text_image};
 
 use super::PgCiText;
@@ -47,7 +47,7 @@ impl PgHasArrayType for PgCiText {
 /// Written as its bytes.
 /// `Ab` is `4162`.
 impl Encode for PgCiText {
-    ghost image = { λ text. text_image (string_bytes text.0) };
+    ghost encoding = { λ text. plainly (writes (text_image (string_bytes text.0))) };
 
     fn encode_by_ref(&self, out: &mut PgArgumentBuffer) -> Result<IsNull, CodecError> {
         encode_text(self.as_str(), out)
@@ -75,7 +75,7 @@ impl Plain for PgCiText {
 
     ghost null = { λ _ _. refl };
 
-    ghost written = { plainly text_image };
+    ghost written = { λ _ m. plainly (writes (text_image m)) };
 
     fn read(alloc: Global, value: PgValueRef<'_>) -> Result<PgCiText, CodecError> {
         Ok(PgCiText(String::read(alloc, value)?))

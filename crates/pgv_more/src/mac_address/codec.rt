@@ -5,7 +5,7 @@ ghost use Rattle.pgv_types.specs.Ty.{builtin};
 ghost use Rattle.pgv_types.specs.Relations.{softly};
 ghost use Rattle.pgv_value.specs.Outcome.{without_memory};
 ghost use Rattle.pgv_more.specs.MacAddressCodec.{mac_image, parse_mac};
-ghost use Rattle.pgv_codec.specs.WithHint.{with_hint};
+ghost use Rattle.pgv_codec.specs.Encoding.{with_hint, writes};
 
 use super::MacAddress;
 use pgv_codec::{Encode, IsNull, PgArgumentBuffer, PgHasArrayType, Plain, Type};
@@ -46,9 +46,7 @@ impl PgHasArrayType for MacAddress {
 /// An address is written as its six bytes.
 /// `08:00:2b:01:02:03` is `08002b010203`.
 impl Encode for MacAddress {
-    ghost image = { mac_image };
-
-    ghost hint = { λ _. 6 };
+    ghost encoding = { λ address. with_hint 6 (writes (mac_image address)) };
 
     fn encode_by_ref(&self, out: &mut PgArgumentBuffer) -> Result<IsNull, CodecError> {
         out.extend_from_slice(&self.bytes())?;
@@ -79,7 +77,7 @@ impl Plain for MacAddress {
 
     ghost null = { λ _ _. refl };
 
-    ghost written = { with_hint (λ _. 6) mac_image };
+    ghost written = { λ _ m. with_hint 6 (writes (mac_image m)) };
 
     #[inline(always)]
     fn read(_alloc: Global, value: PgValueRef<'_>) -> Result<MacAddress, CodecError> {

@@ -5,7 +5,7 @@ ghost use Rattle.std.specs.Int.{w64};
 ghost use Rattle.pgv_types.specs.Ty.{builtin};
 ghost use Rattle.pgv_types.specs.Relations.{softly};
 ghost use Rattle.pgv_codec.specs.ScalarBinary.{signed_image};
-ghost use Rattle.pgv_codec.specs.Saying.{plainly};
+ghost use Rattle.pgv_codec.specs.Encoding.{plainly, writes};
 ghost use Rattle.pgv_numeric.specs.MoneyCodec.{parse_money};
 ghost use Rattle.pgv_value.specs.Outcome.{without_memory};
 
@@ -47,7 +47,7 @@ impl PgHasArrayType for PgMoney {
 
 /// Written as eight bytes in two's complement, the highest first: 123.45 as `0000000000003039`.
 impl Encode for PgMoney {
-    ghost image = { λ amount. signed_image w64 amount.0 };
+    ghost encoding = { λ amount. plainly (writes (signed_image w64 amount.0)) };
 
     fn encode_by_ref(&self, out: &mut PgArgumentBuffer) -> Result<IsNull, CodecError> {
         self.0.encode_by_ref(out)
@@ -77,7 +77,7 @@ impl Plain for PgMoney {
 
     ghost null = { λ _ _. refl };
 
-    ghost written = { plainly (signed_image w64) };
+    ghost written = { λ _ m. plainly (writes (signed_image w64 m)) };
 
     fn read(_alloc: Global, value: PgValueRef<'_>) -> Result<PgMoney, CodecError> {
         let bytes = value.as_bytes()?;

@@ -1,15 +1,12 @@
 //! Numbers with any number of digits, written and read (PostgreSQL, "Numeric Types", numeric).
 
-ghost use Rattle.std.specs.Prelude.{◌≡◌, ◌+◌, ◌≤◌, false, length, drop, IfOk, IfErr, OnOk, OnErr, refl};
+ghost use Rattle.std.specs.Prelude.{◌≡◌, ◌+◌, ◌≤◌, length, drop, OnErr, refl};
 ghost use Rattle.pgv_types.specs.Ty.{builtin};
 ghost use Rattle.pgv_types.specs.Relations.{softly};
 ghost use Rattle.pgv_value.specs.Outcome.{Gives};
-ghost use Rattle.pgv_value.specs.Reading.{Refuses};
-ghost use Rattle.pgv_value.specs.declared.error.CodecError.TheVariants.{NumericDigit};
-ghost use Rattle.pgv_codec.specs.Outcome.{Encoded, Refused, Appended, AppendedAll};
-ghost use Rattle.pgv_codec.specs.Refusing.{RefusedExactly, RefusedFor};
-ghost use Rattle.pgv_codec.specs.Saying.{plainly};
-ghost use Rattle.pgv_numeric.specs.Numeric.{Numeric, digit_written, digits_after, digits_refused, digits_written, head_form, is_digit, number, numeric_asks_first, numeric_image, numeric_in_binary, numeric_of, numeric_refused, parse_numeric, sign_of as sign_of_word, sign_word as sign_as_word, signed_word, unsigned_word};
+ghost use Rattle.pgv_codec.specs.Appending.{Appends, Encodes, Extends};
+ghost use Rattle.pgv_codec.specs.Encoding.{plainly};
+ghost use Rattle.pgv_numeric.specs.Numeric.{Numeric, digit_written, digits_after, digits_written, head_form, number, numeric_image, numeric_in_binary, numeric_of, parse_numeric, sign_of as sign_of_word, sign_word as sign_as_word, signed_word, unsigned_word};
 
 use super::{PgNumeric, PgNumericSign};
 use byteorder::{BigEndian, ByteOrder};
@@ -63,10 +60,8 @@ impl PgHasArrayType for PgNumeric {
 /// Appends a digit, as a word of two bytes. One outside 0 to 9999 is refused with
 /// [`NumericDigit`](CodecError::NumericDigit) (C8).
 fn write_digit(digit: &i16, out: &mut PgArgumentBuffer) -> Result<(), CodecError>
-    ensures ok { OnOk result (AppendedAll (digit_written digit.now) out.old out.new) }
-    ensures err { IfErr result (λ e. Refused e (digit_written digit.now)) }
-    ensures refused { IfErr result (λ e. Refuses e ((is_digit digit.now ≡ false) × (e ≡ NumericDigit digit.now))) }
-    ensures appended { OnErr result (Appended out.old out.new) }
+    ensures exact { Appends (digit_written digit.now) out.old out.new result }
+    ensures appended { OnErr result (Extends out.old out.new) }
 {
     if !PgNumeric::is_valid_digit(*digit) {
         return Err(CodecError::NumericDigit(*digit));
@@ -79,10 +74,8 @@ fn write_digit(digit: &i16, out: &mut PgArgumentBuffer) -> Result<(), CodecError
 /// Appends the digits, a word each. One outside 0 to 9999 is refused with [`NumericDigit`](CodecError::NumericDigit)
 /// (C8).
 fn write_digits(digits: &[i16], out: &mut PgArgumentBuffer) -> Result<(), CodecError>
-    ensures ok { OnOk result (AppendedAll (digits_written digits.now) out.old out.new) }
-    ensures err { IfErr result (λ e. Refused e (digits_written digits.now)) }
-    ensures refused { RefusedFor (digits_refused digits.now) result }
-    ensures appended { OnErr result (Appended out.old out.new) }
+    ensures exact { Appends (digits_written digits.now) out.old out.new result }
+    ensures appended { OnErr result (Extends out.old out.new) }
 {
     for digit in digits {
         write_digit(digit, out)?;
@@ -110,11 +103,8 @@ fn write_number(
     scale: i16,
     out: &mut PgArgumentBuffer,
 ) -> Result<IsNull, CodecError>
-    ensures ok { IfOk result (λ n. Encoded n (numeric_image (number sign digits.now weight scale)) out.old out.new) }
-    ensures err { IfErr result (λ e. Refused e (numeric_image (number sign digits.now weight scale))) }
-    ensures refused { RefusedFor (numeric_refused (number sign digits.now weight scale)) result }
-    ensures refused_exactly { numeric_asks_first (number sign digits.now weight scale) ≡ false → RefusedExactly (numeric_refused (number sign digits.now weight scale)) result }
-    ensures appended { OnErr result (Appended out.old out.new) }
+    ensures encodes { Encodes (numeric_image (number sign digits.now weight scale)) out.old out.new result }
+    ensures appended { OnErr result (Extends out.old out.new) }
 {
     let count = digits.len();
     if count > DIGIT_LIMIT {
@@ -142,11 +132,7 @@ fn sign_word(sign: PgNumericSign) -> u16
 /// [`NumericDigits`](CodecError::NumericDigits) (C7), and a digit outside 0 to 9999 with
 /// [`NumericDigit`](CodecError::NumericDigit) (C8).
 impl Encode for PgNumeric {
-    ghost image = { λ n. numeric_image (numeric_of n) };
-
-    ghost unwritable = { λ n. numeric_refused (numeric_of n) };
-
-    ghost asks_first = { λ n. numeric_asks_first (numeric_of n) };
+    ghost encoding = { λ n. plainly (numeric_image (numeric_of n)) };
 
     fn encode_by_ref(&self, out: &mut PgArgumentBuffer) -> Result<IsNull, CodecError> {
         match self {
@@ -256,7 +242,7 @@ impl Plain for PgNumeric {
 
     ghost null = { λ _ _. refl };
 
-    ghost written = { plainly numeric_image };
+    ghost written = { λ _ m. plainly (numeric_image m) };
 
     #[inline(always)]
     fn read(alloc: Global, value: PgValueRef<'_>) -> Result<PgNumeric, CodecError> {

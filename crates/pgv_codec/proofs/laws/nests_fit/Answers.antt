@@ -7,7 +7,7 @@ returns g c = record {
   some = λ v t os. (λ fit. fit, λ fit. fit);
   list_exactly = λ v t os. (λ fit. fit, λ fit. fit);
   array_exactly = λ v t os. (λ fit. fit, λ fit. fit);
-  list = λ v t os h. array_fits g.T.Type.info g.T.Encode.produced g.T.Encode.image g.T.ReadBack.fits v.items t os h;
-  array = λ v t os h. array_fits g.T.Type.info g.T.Encode.produced g.T.Encode.image g.T.ReadBack.fits v t os h;
-  field = λ v t place os h. field_fits g.T.Type.info g.T.Encode.produced g.T.Encode.image g.T.ReadBack.fits g.T.Type.accepts v t place os h;
+  list = λ v t os h. array_fits g.T.Type.info g.T.Encode.encoding g.T.ReadBack.fits v.items t os h;
+  array = λ v t os h. array_fits g.T.Type.info g.T.Encode.encoding g.T.ReadBack.fits v t os h;
+  field = λ v t place os h. field_fits g.T.Type.info g.T.Encode.encoding g.T.ReadBack.fits g.T.Type.accepts v t place os h;
 }

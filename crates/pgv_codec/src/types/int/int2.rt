@@ -5,8 +5,8 @@ ghost use Rattle.std.specs.Prelude.{ℤ, refl};
 ghost use Rattle.pgv_types.specs.Ty.{builtin};
 ghost use Rattle.pgv_value.specs.Outcome.{without_memory};
 ghost use Rattle.pgv_value.specs.ScalarGrammar.{parse_int};
-ghost use Rattle.pgv_codec.specs.Saying.{plainly};
 ghost use Rattle.pgv_codec.specs.ScalarBinary.{signed_image};
+ghost use Rattle.pgv_codec.specs.Encoding.{plainly, writes};
 
 use crate::buffer::{IsNull, PgArgumentBuffer};
 use crate::traits::{BuiltIn, HasBuiltIn, Of, Plain, Scalar};
@@ -30,7 +30,7 @@ impl BuiltIn for Of<i16> {
 impl Scalar for i16 {
     ghost SIZE = { 0 };
 
-    ghost form = { signed_image w16 };
+    ghost image = { λ value. writes (signed_image w16 value) };
 
     const SIZE: usize = 0;
 
@@ -58,7 +58,7 @@ impl Plain for i16 {
 
     ghost null = { λ _ _. refl };
 
-    ghost written = { plainly (signed_image w16) };
+    ghost written = { λ _ m. plainly (writes (signed_image w16 m)) };
 
     #[inline(always)]
     fn read(_alloc: Global, value: PgValueRef<'_>) -> Result<i16, CodecError> {

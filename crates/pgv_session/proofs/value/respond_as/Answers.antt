@@ -1,11 +1,13 @@
-use Rattle.std.proofs.Common.{rules}
+use Rattle.std.proofs.Common.{◌≡◌, None, Ok, arith, refl, rules}
+use Rattle.pgv_buf.specs.Tokens.{bytes, be4}
+use Rattle.pgv_codec.specs.Encoding.{frame, option_encoding}
+use Rattle.pgv_codec.proofs.Frames.{null_frame}
 use Rattle.pgv_session.proofs.value.respond_as.Goals as goal
 
-pub returns-in-Show-clause-answer : goal.returns-in-Show-clause-answer
-returns-in-Show-clause-answer g c = λ unwritten explained. let told = c.read.ensures.answer unwritten explained in search (rules, told)
-
-pub returns-in-Some-clause-answer : goal.returns-in-Some-clause-answer
-returns-in-Some-clause-answer g c = λ unwritten explained. let told = c.read-in-Some.ensures.answer unwritten explained in search (rules, told)
-
-pub returns-clause-answer : goal.returns-clause-answer
-returns-clause-answer g c = λ unwritten explained. let told = c.read-in-None.ensures.answer unwritten explained in search (rules, told)
+-- null has a frame
+pub returns-in-Null-clause-answer : goal.returns-in-Null-clause-answer
+returns-in-Null-clause-answer g c =
+    let e = option_encoding g.T.Type.info g.T.Encode.encoding None in
+    let is : (frame e).answer ≡ Ok (bytes (be4 4294967295)) = null_frame e (omega arith) refl in
+    let told = rw is at c.add_value.ensures in
+    search (rules, told)

@@ -1,6 +1,6 @@
 use Rattle.std.proofs.Common.{[], ◌∷◌}
 use Rattle.pgv_buf.specs.Tokens.{hole, bytes, be4}
-use Rattle.pgv_codec.specs.Image.{typed}
+use Rattle.pgv_codec.specs.Encoding.{typed}
 use Rattle.pgv_codec.proofs.Lists.{typed_known, typed_unknown, written_if_ok}
 use Rattle.pgv_codec.proofs.buffer.PgArgumentBuffer.push_type.Goals as goal
 

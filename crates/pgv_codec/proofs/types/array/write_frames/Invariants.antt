@@ -1,8 +1,9 @@
-use Rattle.std.proofs.Common.{take}
-use Rattle.pgv_codec.specs.Image.{written_frames}
-use Rattle.pgv_codec.specs.Outcome.{AppendedAll}
+use Rattle.std.proofs.Common.{◌≡◌, List, ◌++◌, drop}
+use Rattle.pgv_buf.specs.Tokens.{Token, blank}
+use Rattle.pgv_codec.proofs.Lists.{still, with_front}
 use Rattle.pgv_codec.proofs.types.array.write_frames.Given as goal
 
--- the frames of the values so far
+-- what was written, and that with what is still written it is all
 abbrev pub invariant-loop-value : goal.invariant-loop-value
-invariant-loop-value g l = AppendedAll (written_frames g.T.Encode.hint g.T.Encode.image (take l.value-index l.values)) l.initial.out l.out
+invariant-loop-value g l =
+    (ts : List Token) × (l.out ≡ l.initial.out ++ blank ts) × (with_front ts (still g.T.Encode.encoding (drop l.value-index l.values)).answer ≡ (still g.T.Encode.encoding l.values).answer)

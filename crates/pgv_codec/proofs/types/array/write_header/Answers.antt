@@ -1,10 +1,9 @@
-use Rattle.std.specs.Prelude.{◌≡◌, ℕ, List, ◌++◌, refl, length, Some}
+use Rattle.std.specs.Prelude.{◌≡◌, ℕ, List, ◌++◌, refl, length}
 use Rattle.std.proofs.Common.{sym, ap, ◌∙◌, rules}
 use Rattle.pgv_buf.specs.Tokens.{bytes, be4, blank}
-use Rattle.pgv_codec.specs.Image.{typed, join}
 use Rattle.pgv_codec.specs.PlainBytes.{bytes-append}
 use Rattle.pgv_codec.proofs.Fours.{four}
-use Rattle.pgv_codec.proofs.Lists.{appended_both}
+use Rattle.pgv_codec.proofs.Lists.{both}
 use Rattle.pgv_codec.proofs.types.array.write_header.Goals as goal
 
 -- one append after the other
@@ -20,5 +19,8 @@ returns-clause-ok c =
     let long : length c.to_be_bytes.result ≡ 4 = search rules in
     let last = c.in_ok-extend_from_slice-2.ensures.ok ∙ ap (λ (xs : List ℕ). after-type ++ blank (bytes (xs ++ be4 1))) (sym (four c.to_be_bytes.result long)) in
     let bounds : now ≡ after-type ++ blank rest_after = last ∙ ap (λ (xs : List ℕ). after-type ++ blank (bytes (xs ++ be4 1))) c.to_be_bytes.ensures ∙ ap (λ xs. after-type ++ blank xs) (bytes-append (be4 c.args.count) (be4 1)) in
-    let element = appended_both (Some before) (typed c.args.element) was after-flags after-type (before, refl, flags) c.in_ok-push_type.ensures.ok in
-    appended_both (join (Some before) (typed c.args.element)) (Some rest_after) was after-type now element (rest_after, refl, bounds)
+    let oid = c.in_ok-push_type.ensures.ok in (
+      before ++ (oid.0 ++ rest_after),
+      rw oid.1 refl,
+      both was after-flags now before (oid.0 ++ rest_after) flags (both after-flags after-type now oid.0 rest_after oid.2 bounds),
+    )

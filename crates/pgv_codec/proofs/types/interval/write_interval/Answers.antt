@@ -5,7 +5,7 @@ use Rattle.std.proofs.lemmas.Int.{to_z-of_z}
 use Rattle.pgv_buf.specs.Tokens.{bytes}
 use Rattle.pgv_value.specs.declared.interval.PgInterval.{PgInterval}
 use Rattle.pgv_value.specs.OwnBytes.{signed_fits}
-use Rattle.pgv_codec.specs.Image.{image_of}
+use Rattle.pgv_codec.specs.Encoding.{image_of}
 use Rattle.pgv_codec.specs.Intervals.{interval_image}
 use Rattle.pgv_codec.specs.PlainBytes.{appended_parts}
 use Rattle.pgv_codec.proofs.types.interval.write_interval.Goals as goal
@@ -20,18 +20,12 @@ image_is i a b d f g h e k l =
     let third = l ∙ ap (λ (z : ℤ). to_be_bytes w32 (cast_unsigned w32 z)) (to_z-of_z w32 i.months h) in
     rw (signed_fits w64 i.microseconds f, signed_fits w32 i.days g, signed_fits w32 i.months h, first, second, third) refl
 
-pub returns-clause-there : goal.returns-clause-there
-returns-clause-there c none =
-    let i = c.args.interval in
-    let is = image_is i c.to_be_bytes.result c.to_be_bytes-2.result c.to_be_bytes-3.result (search rules) (search rules) (search rules) c.to_be_bytes.ensures c.to_be_bytes-2.ensures c.to_be_bytes-3.ensures in
-    absurd (cc)
-
-pub returns-clause-ok : goal.returns-clause-ok
-returns-clause-ok c =
+pub returns-clause-encodes : goal.returns-clause-encodes
+returns-clause-encodes c =
     let i = c.args.interval in
     let a = c.to_be_bytes.result in
     let b = c.to_be_bytes-2.result in
     let d = c.to_be_bytes-3.result in
     let two = appended_parts c.extend_from_slice.new.self c.extend_from_slice-2.new.self c.extend_from_slice-3.new.self b d c.in_ok-extend_from_slice-2.ensures.ok c.in_ok-extend_from_slice-3.ensures.ok in
     let all = appended_parts c.args.out.now c.extend_from_slice.new.self c.extend_from_slice-3.new.self a (b ++ d) c.in_ok-extend_from_slice.ensures.ok two in
-    (bytes (a ++ (b ++ d)), image_is i a b d (search rules) (search rules) (search rules) c.to_be_bytes.ensures c.to_be_bytes-2.ensures c.to_be_bytes-3.ensures, all)
+    (bytes (a ++ (b ++ d)), rw (image_is i a b d (search rules) (search rules) (search rules) c.to_be_bytes.ensures c.to_be_bytes-2.ensures c.to_be_bytes-3.ensures) refl, all)

@@ -4,7 +4,7 @@ use Rattle.pgv_types.specs.Ty.{Ty}
 use Rattle.pgv_buf.specs.declared.Mark.{Mark}
 use Rattle.pgv_buf.specs.Tokens.{Cell, blank, slot_count}
 use Rattle.pgv_buf.specs.Marks.{mark_of}
-use Rattle.pgv_codec.specs.Image.{or_else}
+use Rattle.pgv_codec.specs.Encoding.{value_type}
 use Rattle.pgv_wire.specs.Arguments.{Argument, counts_in}
 use Rattle.pgv_wire.specs.Counts.{AreCounts}
 use Rattle.pgv_wire.specs.KeptView.{Stands}
@@ -32,7 +32,7 @@ pushed was room now x y e f g = e ∙ rw (f, g) refl
 
 pub overflow_sub-slots : goal.overflow_sub-slots
 overflow_sub-slots g c =
-    let a = c.in_default.ensures.ok in
+    let a = c.in_default.ensures.exact in
     let more = counted c.mark-mark.result c.mark.result c.slots-2.result c.slots.result c.self.inside.buffer c.encode.new.self (blank a.0) c.mark-mark.ensures c.mark.ensures a.2 c.slots-2.ensures c.slots.ensures in
     omega (arith, more)
 
@@ -48,26 +48,26 @@ note_slots-requires g c =
 
 pub invariant_of-self-2 : goal.invariant_of-self-2
 invariant_of-self-2 g c =
-    let a = c.in_default.ensures.ok in
+    let a = c.in_default.ensures.exact in
     let s = held c.args.self.now c.self.invariant c.self.view_is in
     let more = counted c.mark-mark.result c.mark.result c.slots-2.result c.slots.result c.self.inside.buffer c.encode.new.self (blank a.0) c.mark-mark.ensures c.mark.ensures a.2 c.slots-2.ensures c.slots.ensures in
     let n : c.len.result ≡ length c.self.inside.types.items = omega (arith, c.len.ensures, c.reserve.ensures.len, c.self.inside.types.ok.0) in
     let noted = where_ok c.note_slots.result c.note_slots.ensures.ok (sym c.is_err.ensures.value ∙ c.if-is_err.false) (counts_in c.args.self.now) s.counts_are (as_many s c.len.result n) in
-    stands (one_more s (or_else (g.T.Encode.produced c.args.value.now) g.T.Type.info, a.0) (of_image (g.T.Encode.hint c.args.value.now) (g.T.Encode.image c.args.value.now) a.0 a.1) _ _ _
+    stands (one_more s (value_type g.T.Type.info (g.T.Encode.encoding c.args.value.now), a.0) (of_image (g.T.Encode.encoding c.args.value.now) a.0 a.1) _ _ _
     (pushed _ _ _ _ _ c.in_ok-push.ensures.items c.reserve.ensures.items c.in_ok-argument_type.ensures.ok)
     (subst (λ x. AreCounts (counts_in c.args.self.now ++ x ∷ []) c.note_slots.new.counts.items) (slots_are c.slots-2.result c.slots.result (blank a.0) more) noted)
     a.2)
 
-pub returns-clause-ok : goal.returns-clause-ok
-returns-clause-ok g c =
-    let a = c.in_default.ensures.ok in
+pub returns-clause-exact : goal.returns-clause-exact
+returns-clause-exact g c =
+    let a = c.in_default.ensures.exact in
     let s = held c.args.self.now c.self.invariant c.self.view_is in
     let more = counted c.mark-mark.result c.mark.result c.slots-2.result c.slots.result c.self.inside.buffer c.encode.new.self (blank a.0) c.mark-mark.ensures c.mark.ensures a.2 c.slots-2.ensures c.slots.ensures in
     let n : c.len.result ≡ length c.self.inside.types.items = omega (arith, c.len.ensures, c.reserve.ensures.len, c.self.inside.types.ok.0) in
     let noted = where_ok c.note_slots.result c.note_slots.ensures.ok (sym c.is_err.ensures.value ∙ c.if-is_err.false) (counts_in c.args.self.now) s.counts_are (as_many s c.len.result n) in (
       a.0,
       a.1,
-      arguments_are (one_more s (or_else (g.T.Encode.produced c.args.value.now) g.T.Type.info, a.0) (of_image (g.T.Encode.hint c.args.value.now) (g.T.Encode.image c.args.value.now) a.0 a.1) _ _ _
+      arguments_are (one_more s (value_type g.T.Type.info (g.T.Encode.encoding c.args.value.now), a.0) (of_image (g.T.Encode.encoding c.args.value.now) a.0 a.1) _ _ _
           (pushed _ _ _ _ _ c.in_ok-push.ensures.items c.reserve.ensures.items c.in_ok-argument_type.ensures.ok)
           (subst (λ x. AreCounts (counts_in c.args.self.now ++ x ∷ []) c.note_slots.new.counts.items) (slots_are c.slots-2.result c.slots.result (blank a.0) more) noted)
           a.2),

@@ -1,13 +1,23 @@
-use Rattle.std.proofs.Common.{◌≡◌, ◌++◌, ◌∙◌, ap, sym, length, true}
-use Rattle.std.specs.Prelude.{nat_le}
-use Rattle.pgv_buf.specs.Tokens.{bytes, be4, blank}
-use Rattle.pgv_codec.specs.Image.{limit}
-use Rattle.pgv_hstore.proofs.Written.{map_appended}
+use Rattle.std.proofs.lemmas.Result.{err_from_is_err_and}
+use Rattle.pgv_hstore.proofs.Written.{map_appended, memory_fails, number_fails, pairs_fail}
 use Rattle.pgv_hstore.proofs.hstore.codec.PgHstoreEncode.encode_by_ref.Goals as goal
 
-pub returns-clause-ok : goal.returns-clause-ok
-returns-clause-ok c =
-    let es = c.args.self.now.0.entries in
-    let first : c.extend_from_slice.new.self ≡ c.args.out.now ++ blank (bytes (be4 (length es))) = c.in_ok-extend_from_slice.ensures.ok ∙ ap (λ n. c.args.out.now ++ blank (bytes n)) (c.in_ok-number.ensures.ok.1 ∙ ap be4 c.len.ensures.len) in
-    let le : nat_le (length es) limit ≡ true = ap (λ n. nat_le n limit) (sym c.len.ensures.len) ∙ c.in_ok-number.ensures.ok.0 in
-    map_appended es c.args.out.now c.extend_from_slice.new.self c.write_pairs.new.out c.len.ensures.ordered le first c.in_ok-write_pairs.ensures.ok
+pub returns-in_err-number-clause-encodes : goal.returns-in_err-number-clause-encodes
+returns-in_err-number-clause-encodes c =
+    let p = err_from_is_err_and c.from_residual.result c.from_residual.ensures.1 in
+    rw (p.1, p.2) (number_fails c.args.self.now.0.entries c.len.result c.in_err-number.field-0.0 c.len.ensures.len c.in_err-number.ensures)
+
+pub returns-in_err-extend_from_slice-clause-encodes : goal.returns-in_err-extend_from_slice-clause-encodes
+returns-in_err-extend_from_slice-clause-encodes c =
+    let p = err_from_is_err_and c.from_residual-in_err-extend_from_slice.result c.from_residual-in_err-extend_from_slice.ensures.1 in
+    rw (p.1, p.2) (memory_fails c.args.self.now.0.entries c.len.result c.in_ok-number.number c.in_err-extend_from_slice.field-0.0 c.len.ensures.len c.in_ok-number.ensures c.in_err-extend_from_slice.ensures.err.0)
+
+pub returns-in_err-write_pairs-clause-encodes : goal.returns-in_err-write_pairs-clause-encodes
+returns-in_err-write_pairs-clause-encodes c =
+    let p = err_from_is_err_and c.from_residual-in_err-write_pairs.result c.from_residual-in_err-write_pairs.ensures.1 in
+    rw (p.1, p.2) (pairs_fail c.args.self.now.0.entries c.len.result c.in_ok-number.number c.in_err-write_pairs.field-0.0 c.len.ensures.len c.in_ok-number.ensures c.in_err-write_pairs.ensures.exact)
+
+pub returns-clause-encodes : goal.returns-clause-encodes
+returns-clause-encodes c =
+    map_appended c.args.self.now.0.entries c.len.result c.in_ok-number.number c.args.out.now c.extend_from_slice.new.self c.write_pairs.new.out c.len.ensures.len c.in_ok-number.ensures c.len.ensures.ordered
+    c.in_ok-extend_from_slice.ensures.ok c.in_ok-write_pairs.ensures.exact

@@ -4,8 +4,8 @@ use Rattle.pgv_buf.specs.Tokens.{be4}
 use Rattle.pgv_more.proofs.Written.{written_bits}
 use Rattle.pgv_more.proofs.bit_vec.codec.BitVecEncode.encode_by_ref.Goals as goal
 
-pub returns-clause-ok : goal.returns-clause-ok
-returns-clause-ok c =
+pub returns-clause-encodes : goal.returns-clause-encodes
+returns-clause-encodes c =
     let few : length c.args.self.now ≤ 2147483647 = grind (arith, ints, c.try_from.ensures, c.in-Ok.is, c.len-count.ensures) in
     let number : c.in-Ok.number ≡ pos (length c.args.self.now) = search rules in
     let form : c.to_be_bytes.result ≡ be4 (length c.args.self.now) = search rules in
