@@ -1,1 +1,4 @@
+pub mod Fronts
+pub mod Rows
+pub mod Talking
 pub mod Values

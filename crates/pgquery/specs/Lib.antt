@@ -1,1 +1,4 @@
+pub mod Incoming
 pub mod Lines
+pub mod Statement
+pub mod Talks

@@ -1,12 +1,13 @@
 -- The line that is printed for a row. As texts (PostgreSQL, "COPY", "Text Format"): its values in order, a tab between two; null as `\N`,
 -- and in a text tabs, line feeds, carriage returns and backslashes escaped. As an object of JSON (RFC 8259): the name of each column, and
 -- its value as a string or null; in a string quotes and backslashes escaped, and controls by their number.
-use Rattle.std.specs.Prelude.{◌≡◌, ℕ, zero, suc, ◌+◌, ◌/◌, ◌%◌, ◌==◌, nat_lt, if◌then◌else◌, List, [], ◌∷◌, ◌++◌, length, Option, Some, None, ⊤}
+use Rattle.std.specs.Prelude.{◌≡◌, ℕ, Bool, true, false, zero, suc, ◌+◌, ◌/◌, ◌%◌, ◌==◌, nat_lt, if◌then◌else◌, List, [], ◌∷◌, ◌++◌, length, Option, Some, None, ⊤}
 use Rattle.std.specs.List.{flat_map, slice_get}
 use Rattle.pgv.specs.Words.{Given, Part}
 use Rattle.pgv_row.specs.ColumnView.{Column}
 use Rattle.pgv_row.specs.DataRow.{IsDataRow}
 use Rattle.pgv_row.specs.RowView.{Row, value_at}
+use Rattle.pgquery.specs.Incoming.{Incoming}
 use Rattle.pgquery.specs.declared.options.Shown.{Shown}
 use Rattle.pgquery.specs.declared.options.Shown.TheVariants.{Texts, Objects, Frames, Copied}
 
@@ -102,3 +103,16 @@ Shows Copied row was now = now ≡ was ++ line_of row
 abbrev pub ShowsBody : Shown → List Column → List ℕ → List ℕ → List ℕ → Type 0
 ShowsBody shown columns body was now =
     (row : Row) × (row.columns ≡ columns) × IsDataRow (length columns) body row.parts × Shows shown row was now
+
+-- ---- of messages
+
+-- the line of a DataRow, whose tag is 68; of any other message nothing
+abbrev pub ShowsAnswer : Bool → Shown → List Column → List ℕ → List ℕ → Type 0
+ShowsAnswer true shown columns body text = ShowsBody shown columns body [] text
+ShowsAnswer false shown columns body text = text ≡ []
+
+-- This text is the line of each DataRow among answers, in order.
+abbrev pub ShowsRows : Shown → List Column → List Incoming → List ℕ → Type 0
+ShowsRows shown columns [] text = text ≡ []
+ShowsRows shown columns (m ∷ ms) text =
+    (line : List ℕ) × (rest : List ℕ) × (text ≡ line ++ rest) × ShowsAnswer (m.tag == 68) shown columns m.body line × ShowsRows shown columns ms rest

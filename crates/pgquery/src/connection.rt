@@ -1,120 +1,102 @@
 //! A session with a server, over any reader and writer.
 
+ghost use Rattle.std.specs.Prelude.{◌≡◌, ℕ, List, [], ◌∷◌, Ok, OnOk, IfOk};
+ghost use Rattle.pgv_message.specs.Writing.{Sends};
+ghost use Rattle.pgv_message.specs.Startup.{startup};
+ghost use Rattle.pgv_message.specs.Messages.{bare};
+ghost use Rattle.pgquery.specs.Incoming.{Incoming, IsLast};
+ghost use Rattle.pgquery.specs.Talks.{Answers, Starts, Talks};
+ghost use Rattle.pgquery.specs.Talks as talks;
+
 use crate::fault::Fault;
+use crate::inbox::Inbox;
 use pgv::message::{
     self, PgExchange, PgMessage, PgNotice, PgRequest, PgSetting, authentication_of,
-    message_in_front,
 };
 use std::alloc::Global;
-use std::io::{BufRead, Write};
+use std::io::{Read, Write};
 
-/// A session: what the server writes, what it reads, the bytes that came, and where in them the last message stands.
-pub struct Connection<R: BufRead, W: Write> {
-    reader: R,
+/// A session: what the server writes, and what it reads.
+#[derive(Drop)]
+pub struct Connection<R, W> {
+    inbox: Inbox<R>,
     writer: W,
-    came: Vec<u8>,
-    start: usize,
-    end: usize,
     exchange: PgExchange,
 }
 
-impl<R: BufRead + Drop, W: Write + Drop> Drop for Connection<R, W> {
-    fn drop(self) {
-        let Connection {
-            reader: _,
-            writer: _,
-            came: _,
-            start: _,
-            end: _,
-            exchange: _,
-        } = self;
-    }
+/// Whether a message is no answer: a notice, a setting, the key that cancels, or a notification.
+fn is_passed_over(tag: u8) -> bool
+    ensures { result ≡ talks.is_passed_over tag }
+{
+    matches!(tag, b'N' | b'S' | b'K' | b'A')
 }
 
-impl<R: BufRead, W: Write> Connection<R, W> {
+impl<R: Read, W: Write> Connection<R, W> {
     /// A session in which nothing was sent.
     pub fn new(alloc: Global, reader: R, writer: W) -> Self {
         Connection {
-            reader,
+            inbox: Inbox::new(alloc, reader),
             writer,
-            came: Vec::new(alloc),
-            start: 0,
-            end: 0,
             exchange: PgExchange::new(alloc),
         }
     }
 
     /// Sends messages, and notes what they ask for.
-    pub fn send(&mut self, messages: &[u8], requests: &[PgRequest]) -> Result<(), Fault> {
-        for request in requests {
-            self.exchange.sent(*request)?;
-        }
+    pub fn send(&mut self, messages: &[u8], requests: &[PgRequest]) -> Result<(), Fault>
+        ensures { OnOk result (Talks R.remaining W.contents self.old self.new messages.now []) }
+    {
+        self.note(requests)?;
         self.writer.write_all(messages).or(Err(Fault::Write))?;
         self.writer.flush().or(Err(Fault::Write))
     }
 
-    /// Waits for more bytes, and forgets those before the last message.
-    fn read_more(&mut self) -> Result<(), Fault> {
-        let left = self.came.len().saturating_sub(self.start);
-        self.came.rotate_left(self.came.len() - left);
-        self.came.truncate(left);
-        self.end = self.end.saturating_sub(self.start);
-        self.start = 0;
-        let chunk = self.reader.fill_buf().or(Err(Fault::Read))?;
-        if chunk.is_empty() {
-            return Err(Fault::End);
+    /// Notes what messages ask for.
+    fn note(&mut self, requests: &[PgRequest]) -> Result<(), Fault>
+        ensures inbox { self.new.inbox ≡ self.old.inbox }
+        ensures writer { self.new.writer ≡ self.old.writer }
+    {
+        for request in requests {
+            self.exchange.sent(*request)?;
         }
-        let size = chunk.len();
-        self.came.extend_from_slice(chunk)?;
-        self.reader.consume(size);
         Ok(())
     }
 
-    /// Waits for the next message, which is the last one then, and answers its tag.
-    fn receive(&mut self) -> Result<u8, Fault> {
-        self.start = self.end;
-        for _ in 0..u64::MAX {
-            let came = self.came.as_slice().get(self.start..).ok_or(Fault::End)?;
-            if let Some(message) = message_in_front(came)? {
-                let end = self.came.len().saturating_sub(message.rest.len());
-                let tag = message.tag;
-                self.end = end;
-                return Ok(tag);
-            }
-            self.read_more()?;
-        }
-        Err(Fault::End)
-    }
-
     /// The last message.
-    pub fn last(&self) -> Result<PgMessage<'_>, Fault> {
-        let came = self.came.as_slice().get(self.start..).ok_or(Fault::End)?;
-        message_in_front(came)?.ok_or(Fault::End)
+    pub fn last(&self) -> Result<PgMessage<'_>, Fault>
+        ensures { IfOk result (λ m. (tag : ℕ) (body : List ℕ) → IsLast tag body self.now.inbox → (m.tag ≡ tag) × (m.body.now ≡ body)) }
+    {
+        self.inbox.last()
     }
 
-    /// Waits for the next message that is neither a notice, a setting nor a notification, and answers its tag. An error of the server
-    /// ends the session.
-    pub fn next(&mut self, alloc: Global) -> Result<u8, Fault> {
+    /// Waits for the next message that is not passed over, and answers its tag. An error of the server ends the session.
+    pub fn next(&mut self, alloc: Global) -> Result<u8, Fault>
+        ensures { IfOk result (Answers R.remaining W.contents self.old self.new) }
+    {
         for _ in 0..u64::MAX {
-            let tag = self.receive()?;
-            match tag {
-                b'N' | b'S' | b'K' | b'A' => {}
-                b'E' => return Err(Fault::Server(error_text(alloc, self.last()?.body)?)),
-                _ => return Ok(tag),
+            let tag = self.inbox.receive()?;
+            if tag == b'E' {
+                return Err(Fault::Server(error_text(alloc, self.last()?.body)?));
+            }
+            if !is_passed_over(tag) {
+                return Ok(tag);
             }
         }
         Err(Fault::End)
     }
 
     /// The same of an answer to a request, which has to be one that may come.
-    pub fn answer(&mut self, alloc: Global) -> Result<u8, Fault> {
+    pub fn answer(&mut self, alloc: Global) -> Result<u8, Fault>
+        ensures { IfOk result (Answers R.remaining W.contents self.old self.new) }
+    {
         let tag = self.next(alloc)?;
         self.exchange.step(tag)?;
         Ok(tag)
     }
 
     /// Starts the session of a user, as a server wants it that trusts him.
-    pub fn start(&mut self, alloc: Global, user: &str, database: &str) -> Result<(), Fault> {
+    pub fn start(&mut self, alloc: Global, user: &str, database: &str) -> Result<(), Fault>
+        ensures { OnOk result (Starts R.remaining W.contents user.now database.now self.old self.new) }
+    {
         let mut out = Vec::new(alloc);
         message::write_startup(
             &mut out,
@@ -126,6 +108,13 @@ impl<R: BufRead, W: Write> Connection<R, W> {
             ],
         )?;
         self.send(out.as_slice(), &[])?;
+        self.admit(alloc)
+    }
+
+    /// Waits until the server is ready for the first request.
+    fn admit(&mut self, alloc: Global) -> Result<(), Fault>
+        ensures { OnOk result ((answers : List Incoming) × Talks R.remaining W.contents self.old self.new [] answers) }
+    {
         for _ in 0..u64::MAX {
             match self.next(alloc)? {
                 b'R' => admitted(self.last()?.body)?,
@@ -137,7 +126,9 @@ impl<R: BufRead, W: Write> Connection<R, W> {
     }
 
     /// Ends the session.
-    pub fn end(&mut self, alloc: Global) -> Result<(), Fault> {
+    pub fn end(&mut self, alloc: Global) -> Result<(), Fault>
+        ensures { OnOk result ((sent : List ℕ) × (bare 88 ≡ Ok sent) × Talks R.remaining W.contents self.old self.new sent []) }
+    {
         let mut out = Vec::new(alloc);
         message::write_terminate(&mut out)?;
         self.send(out.as_slice(), &[])
@@ -145,7 +136,10 @@ impl<R: BufRead, W: Write> Connection<R, W> {
 }
 
 /// A setting of the session.
-fn setting<'a>(name: &'a str, value: &'a str) -> PgSetting<'a> {
+fn setting<'a>(name: &'a str, value: &'a str) -> PgSetting<'a>
+    ensures name { result.name.now ≡ name.now }
+    ensures value { result.value.now ≡ value.now }
+{
     PgSetting { name, value }
 }
 

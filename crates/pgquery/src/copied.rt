@@ -5,7 +5,7 @@ use crate::fault::Fault;
 use pgv::message::{copy_formats_of, write_query};
 use pgv::{Oid, PgCopyNext, PgCopyPieces, PgTypeInfo, PgValueFormat, PgValueRef};
 use std::alloc::{AllocError, Global};
-use std::io::{BufRead, Write};
+use std::io::{Read, Write};
 
 /// A reader of rows of as many columns, of whose types nothing is known.
 fn reader_of(alloc: Global, width: usize) -> Result<PgCopyPieces, AllocError> {
@@ -68,7 +68,7 @@ fn show_whole<S: Write>(
 }
 
 /// Runs a COPY, and writes a line for each row.
-pub fn run<R: BufRead, W: Write, S: Write>(
+pub fn run<R: Read, W: Write, S: Write>(
     alloc: Global,
     connection: &mut Connection<R, W>,
     sql: &str,

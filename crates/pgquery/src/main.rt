@@ -11,6 +11,7 @@
 mod connection;
 mod copied;
 mod fault;
+mod inbox;
 mod options;
 mod parameter;
 mod show;
@@ -20,7 +21,7 @@ mod statement;
 use crate::connection::Connection;
 use crate::fault::Fault;
 use crate::options::{Asked, Options, Shown, variable_or};
-use std::io::{self, BufReader, BufWriter, Write};
+use std::io::{self, BufWriter, Write};
 use std::process::ExitCode;
 
 /// What `--help` says.
@@ -58,11 +59,10 @@ fn asked(rt: &HostRuntime) -> Result<ExitCode, Fault> {
 /// Starts a session, and runs the statement.
 fn run(rt: &HostRuntime, options: &Options) -> Result<(), Fault> {
     let alloc = rt.alloc();
-    let reader = BufReader::new(alloc, rt.reader()).or(Err(Fault::Memory))?;
     let mut rows = BufWriter::new(alloc, rt.stderr()).or(Err(Fault::Memory))?;
     let user = variable_or(rt, "PGUSER", "postgres")?;
     let database = variable_or(rt, "PGDATABASE", "postgres")?;
-    let mut connection = Connection::new(alloc, reader, io::writer(rt));
+    let mut connection = Connection::new(alloc, rt.reader(), io::writer(rt));
     connection.start(alloc, user.as_str(), database.as_str())?;
     let done = match options.shown {
         Shown::Copied => copied::run(alloc, &mut connection, options.sql.as_str(), &mut rows),

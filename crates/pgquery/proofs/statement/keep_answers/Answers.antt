@@ -1,0 +1,10 @@
+use Rattle.std.proofs.Common.{◌++◌, ◌∷◌, []}
+use Rattle.pgquery.specs.Incoming.{Incoming}
+use Rattle.pgquery.proofs.Talking.{converses_on}
+use Rattle.pgquery.proofs.statement.keep_answers.Goals as goal
+
+pub loop-preserved : goal.loop-preserved
+loop-preserved g c = converses_on g.R.Read.remaining g.W.Write.contents c.args.connection.now c.loop.connection c.answer.new.self c.loop.invariant ([], _, c.in_ok-tag.ensures.2)
+
+pub returns-then-tag-eq90 : goal.returns-then-tag-eq90
+returns-then-tag-eq90 g c = converses_on g.R.Read.remaining g.W.Write.contents c.args.connection.now c.loop.connection c.answer.new.self c.loop.invariant ([], _, c.in_ok-tag.ensures.2)

@@ -1,0 +1,32 @@
+-- The messages of a server, one after another, in the bytes that a session has not read yet.
+use Rattle.std.specs.Prelude.{◌≡◌, ℕ, List, [], ◌∷◌, drop, Option, Some, None, Ok, ⊤}
+use Rattle.std.specs.Io.KnownBytes.{prepend_known}
+use Rattle.pgv_message.specs.Received.{in_front, found}
+use Rattle.pgquery.specs.declared.inbox.Inbox.{Inbox}
+
+pub record Incoming : Type 0 where
+  pub tag : ℕ
+  pub body : List ℕ
+
+-- These messages are in front of the bytes, one after another; after them comes the rest.
+abbrev pub AreInFront : List Incoming → List ℕ → List ℕ → Type 0
+AreInFront [] bytes rest = rest ≡ bytes
+AreInFront (m ∷ ms) bytes rest = (after : List ℕ) × (in_front bytes ≡ found m.tag m.body after) × AreInFront ms after rest
+
+-- These messages came: the bytes that were not read yet begin with them, and no longer do. Of bytes that are not known nothing is said.
+abbrev pub Come : List Incoming → Option (List ℕ) → Option (List ℕ) → Type 0
+Come ms None new = ⊤
+Come ms (Some xs) None = ⊥
+Come ms (Some xs) (Some ys) = AreInFront ms xs ys
+
+-- what was not read yet from this place on of what has come: this, and what the reader has left
+abbrev pub unread_from : {R : Type 0} → (R → Option (List ℕ)) → ℕ → Inbox R → Option (List ℕ)
+unread_from remaining place inbox = prepend_known (drop place inbox.came.items) (remaining inbox.reader)
+
+-- what was not read yet
+abbrev pub unread : {R : Type 0} → (R → Option (List ℕ)) → Inbox R → Option (List ℕ)
+unread remaining inbox = unread_from remaining inbox.end inbox
+
+-- The last message is this one.
+abbrev pub IsLast : {R : Type 0} → ℕ → List ℕ → Inbox R → Type 0
+IsLast tag body inbox = in_front (drop inbox.start inbox.came.items) ≡ found tag body (drop inbox.end inbox.came.items)

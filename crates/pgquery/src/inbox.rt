@@ -1,0 +1,93 @@
+//! The messages that a server sends, as they come from a reader.
+
+ghost use Rattle.std.specs.Prelude.{◌≡◌, ℕ, List, [], ◌∷◌, drop, Ok, Some, OnOk, IfOk, IfSome};
+ghost use Rattle.std.specs.Io.KnownBytes.{Keeps};
+ghost use Rattle.pgv_message.specs.Received.{in_front, message_view};
+ghost use Rattle.pgquery.specs.Incoming.{Come, IsLast, Incoming, unread, unread_from};
+
+use crate::fault::Fault;
+use pgv::message::{PgMessage, message_in_front};
+use std::alloc::Global;
+use std::io::Read;
+
+/// How many bytes are asked for at once.
+const CHUNK: usize = 8192;
+
+/// What has come of a server's messages, and which of it the last message is.
+#[derive(Drop)]
+pub struct Inbox<R> {
+    reader: R,
+    came: Vec<u8>,
+    start: usize,
+    end: usize,
+}
+
+impl<R: Read> Inbox<R> {
+    /// A reader of which nothing was read.
+    pub fn new(alloc: Global, reader: R) -> Self
+        ensures { Keeps (R.remaining reader) (unread R.remaining result) }
+    {
+        Inbox {
+            reader,
+            came: Vec::new(alloc),
+            start: 0,
+            end: 0,
+        }
+    }
+
+    /// Forgets what came before the last message.
+    fn forget(&mut self)
+        ensures came { self.new.came.items ≡ drop self.old.start self.old.came.items }
+        ensures reader { self.new.reader ≡ self.old.reader }
+        ensures start { self.new.start ≡ 0 }
+    {
+        let left = self.came.len().saturating_sub(self.start);
+        self.came.rotate_left(self.came.len() - left);
+        self.came.truncate(left);
+        self.start = 0;
+    }
+
+    /// Waits for more bytes.
+    fn read_more(&mut self) -> Result<(), Fault>
+        ensures came { OnOk result (Keeps (unread_from R.remaining self.old.start self.old) (unread_from R.remaining self.new.start self.new)) }
+    {
+        self.forget();
+        let mut chunk = [0; CHUNK];
+        let count = self.reader.read(&mut chunk).or(Err(Fault::Read))?;
+        if count == 0 {
+            return Err(Fault::End);
+        }
+        Ok(self.came.extend_from_slice(&chunk[..count])?)
+    }
+
+    /// The last message, where it has come; or the next one, where that is asked for.
+    fn front(&self) -> Result<Option<PgMessage<'_>>, Fault>
+        ensures { IfOk result (λ found. IfSome found (λ m. in_front (drop self.now.start self.now.came.items) ≡ Ok (Some (message_view m)))) }
+    {
+        let came = self.came.as_slice().get(self.start..).ok_or(Fault::End)?;
+        Ok(message_in_front(came)?)
+    }
+
+    /// Waits for the next message, which is the last one then, and answers its tag.
+    pub fn receive(&mut self) -> Result<u8, Fault>
+        ensures { IfOk result (λ tag. (body : List ℕ) × IsLast tag body self.new × Come (record { tag = tag; body = body } ∷ []) (unread R.remaining self.old) (unread R.remaining self.new)) }
+    {
+        self.start = self.end;
+        for _ in 0..u64::MAX {
+            if let Some(message) = self.front()? {
+                let (tag, after) = (message.tag, message.rest.len());
+                self.end = self.came.len().saturating_sub(after);
+                return Ok(tag);
+            }
+            self.read_more()?;
+        }
+        Err(Fault::End)
+    }
+
+    /// The last message.
+    pub fn last(&self) -> Result<PgMessage<'_>, Fault>
+        ensures { IfOk result (λ m. (tag : ℕ) (body : List ℕ) → IsLast tag body self.now → (m.tag ≡ tag) × (m.body.now ≡ body)) }
+    {
+        self.front()?.ok_or(Fault::End)
+    }
+}
