@@ -1,3 +1,4 @@
+pub mod Copies
 pub mod Fronts
 pub mod Rows
 pub mod Talking

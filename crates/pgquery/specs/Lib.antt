@@ -1,3 +1,4 @@
+pub mod Copying
 pub mod Incoming
 pub mod Lines
 pub mod Statement

@@ -1,14 +1,28 @@
 //! COPY in binary.
 
+ghost use Rattle.std.specs.Prelude.{◌≡◌, ◌≢◌, ◌<◌, ◌==◌, ◌++◌, [], List, ℕ, Ok, OnOk, IfOk, length, replicate};
+ghost use Rattle.std.specs.List.{flat_map};
+ghost use Rattle.std.specs.Io.KnownBytes.{Appends};
+ghost use Rattle.pgv.specs.Words.{Given};
+ghost use Rattle.pgv_types.specs.Ty.{by_oid};
+ghost use Rattle.pgv_copy.specs.CopyPieces.{Advances, Pieces, nothing_came, with_more};
+ghost use Rattle.pgv_copy.specs.declared.pieces.PgCopyNext.{PgCopyNext};
+ghost use Rattle.pgv_copy.specs.declared.pieces.PgCopyNext.TheVariants.{Row};
+ghost use Rattle.pgquery.specs.Copying.{CopiesAnswer, CopiesAnswers, OpensCopy, ReadsRows, RunsCopy, ShowsPiece, copied_line, in_hex};
+ghost use Rattle.pgquery.specs.Incoming.{Incoming};
+ghost use Rattle.pgquery.specs.Talks.{Talks, UpToReady};
+
 use crate::connection::Connection;
 use crate::fault::Fault;
-use pgv::message::{copy_formats_of, write_query};
+use pgv::message::{PgMessage, copy_formats_of, write_query};
 use pgv::{Oid, PgCopyNext, PgCopyPieces, PgTypeInfo, PgValueFormat, PgValueRef};
 use std::alloc::{AllocError, Global};
 use std::io::{Read, Write};
 
 /// A reader of rows of as many columns, of whose types nothing is known.
-fn reader_of(alloc: Global, width: usize) -> Result<PgCopyPieces, AllocError> {
+fn reader_of(alloc: Global, width: usize) -> Result<PgCopyPieces, AllocError>
+    ensures { IfOk result (λ reader. reader ≡ nothing_came (replicate width (by_oid 0))) }
+{
     let mut types = Vec::new(alloc);
     for _ in 0..width {
         types.push(PgTypeInfo::with_oid(Oid(0)))?;
@@ -17,7 +31,9 @@ fn reader_of(alloc: Global, width: usize) -> Result<PgCopyPieces, AllocError> {
 }
 
 /// The reader of the rows of a COPY, by the body of its CopyOutResponse.
-fn reader_for(alloc: Global, body: &[u8]) -> Result<PgCopyPieces, Fault> {
+fn reader_for(alloc: Global, body: &[u8]) -> Result<PgCopyPieces, Fault>
+    ensures { IfOk result (OpensCopy body.now) }
+{
     let formats = copy_formats_of(alloc, body)?;
     if formats.format != PgValueFormat::Binary {
         return Err(Fault::Unexpected(b'H'));
@@ -26,45 +42,73 @@ fn reader_for(alloc: Global, body: &[u8]) -> Result<PgCopyPieces, Fault> {
 }
 
 /// Appends the bytes of a field in hex, null as `\N`.
-fn push_field(alloc: Global, value: &PgValueRef<'_>, line: &mut String) -> Result<(), Fault> {
+fn push_field(alloc: Global, value: &PgValueRef<'_>, line: &mut Vec<u8>) -> Result<(), Fault>
+    ensures { OnOk result (line.new.items ≡ line.old.items ++ in_hex value.now.bytes) }
+{
     if value.is_null() {
-        return Ok(line.push_str("\\N")?);
+        return Ok(line.extend_from_slice(b"\\N")?);
     }
     let digits = hex::encode(alloc, value.as_bytes()?)?;
-    Ok(line.push_str(digits.as_str())?)
+    Ok(line.extend_from_slice(digits.as_bytes())?)
 }
 
 /// Appends the fields of a row with a tab between two, and a line feed.
-fn push_fields(alloc: Global, row: &[PgValueRef<'_>], line: &mut String) -> Result<(), Fault> {
-    for (place, value) in row.iter().enumerate() {
+fn push_fields(alloc: Global, row: &[PgValueRef<'_>], line: &mut Vec<u8>) -> Result<(), Fault>
+    ensures { OnOk result (line.new.items ≡ line.old.items ++ copied_line row.now) }
+{
+    for place in 0..row.len() {
         if place > 0 {
-            line.push('\t')?;
+            line.push(b'\t')?;
         }
-        push_field(alloc, value, line)?;
+        push_field(alloc, &row[place], line)?;
     }
-    Ok(line.push('\n')?)
+    Ok(line.push(b'\n')?)
 }
 
-/// Writes a line for each row that is whole.
-fn show_whole<S: Write>(
+/// Appends the line of the row that was read last.
+fn push_row(alloc: Global, reader: &PgCopyPieces, line: &mut Vec<u8>) -> Result<(), Fault>
+    ensures { OnOk result ((row : List Given) → reader.now.row ≡ Some row → line.new.items ≡ line.old.items ++ copied_line row) }
+{
+    match reader.row()? {
+        Some(row) => push_fields(alloc, row.as_slice(), line),
+        None => Ok(()),
+    }
+}
+
+/// Appends a line for each row that is whole, once more bytes have come.
+fn push_rows(
     alloc: Global,
     reader: &mut PgCopyPieces,
     data: &[u8],
-    lines: &mut S,
-) -> Result<(), Fault> {
+    line: &mut Vec<u8>,
+) -> Result<(), Fault>
+    ensures { OnOk result ((text : List ℕ) × ShowsPiece data.now reader.old reader.new text × (line.new.items ≡ line.old.items ++ text)) }
+{
     reader.feed(data)?;
-    let mut line = String::new(alloc);
     for _ in 0..u64::MAX {
         if reader.advance()? != PgCopyNext::Row {
             return Ok(());
         }
-        line.clear();
-        if let Some(row) = reader.row()? {
-            push_fields(alloc, row.as_slice(), &mut line)?;
-        }
-        lines.write_all(line.as_bytes()).or(Err(Fault::Write))?;
+        push_row(alloc, reader, line)?;
     }
     Err(Fault::End)
+}
+
+/// Appends what an answer of the server shows.
+fn push_answer(
+    alloc: Global,
+    answer: &PgMessage<'_>,
+    reader: &mut PgCopyPieces,
+    line: &mut Vec<u8>,
+) -> Result<(), Fault>
+    ensures { OnOk result ((text : List ℕ) × CopiesAnswer (record { tag = answer.now.tag; body = answer.now.body.now }) reader.old reader.new text × (line.new.items ≡ line.old.items ++ text)) }
+{
+    match answer.tag {
+        b'H' => *reader = reader_for(alloc, answer.body)?,
+        b'd' => push_rows(alloc, reader, answer.body, line)?,
+        _ => {}
+    }
+    Ok(())
 }
 
 /// Runs a COPY, and writes a line for each row.
@@ -73,18 +117,34 @@ pub fn run<R: Read, W: Write, S: Write>(
     connection: &mut Connection<R, W>,
     sql: &str,
     lines: &mut S,
-) -> Result<(), Fault> {
+) -> Result<(), Fault>
+    ensures { OnOk result ((text : List ℕ) × Appends (S.contents lines.old) (S.contents lines.new) text × RunsCopy R.remaining W.contents sql.now connection.old connection.new text) }
+{
     let mut out = Vec::new(alloc);
     write_query(&mut out, sql)?;
     connection.send(out.as_slice(), &[])?;
+    show_answers(alloc, connection, lines)
+}
+
+/// Writes a line for each row that comes.
+fn show_answers<R: Read, W: Write, S: Write>(
+    alloc: Global,
+    connection: &mut Connection<R, W>,
+    lines: &mut S,
+) -> Result<(), Fault>
+    ensures { OnOk result ((text : List ℕ) × (answers : List Incoming) × (after : Pieces) × Appends (S.contents lines.old) (S.contents lines.new) text × UpToReady answers
+        × Talks R.remaining W.contents connection.old connection.new [] answers × CopiesAnswers (nothing_came []) answers after text) }
+{
     let mut reader = reader_of(alloc, 0)?;
+    let mut line = Vec::new(alloc);
     for _ in 0..u64::MAX {
-        match connection.next(alloc)? {
-            b'H' => reader = reader_for(alloc, connection.last()?.body)?,
-            b'd' => show_whole(alloc, &mut reader, connection.last()?.body, lines)?,
-            b'Z' => return Ok(()),
-            _ => {}
+        let tag = connection.next(alloc)?;
+        if tag == b'Z' {
+            return Ok(());
         }
+        line.clear();
+        push_answer(alloc, &connection.last()?, &mut reader, &mut line)?;
+        lines.write_all(line.as_slice()).or(Err(Fault::Write))?;
     }
     Err(Fault::End)
 }
