@@ -11,11 +11,14 @@ use Rattle.pgquery.specs.Incoming.{Incoming}
 -- ---- rows
 
 -- where a row was read, it is there
+other : (let r : Result PgCopyNext CodecError = Ok Row in r) ≡ Ok End → ⊥
+other h = absurd cc
+
 pub row_there : (reader next : Pieces) → Advances reader (Ok Row) next → (row : List Given) × (next.row ≡ Some row)
 row_there reader next h = by reader.is_ended h
   where
     by : (ended : Bool) → AdvancesFrom ended reader (Ok Row) next → (row : List Given) × (next.row ≡ Some row)
-    by true k = absurd k.0
+    by true k = absurd (other k.0)
     by false k = (k.0, ap (λ (p : Pieces). p.row) k.2)
 
 pub one_more_row : (reader mid next : Pieces) (rows : List (List Given)) (row : List Given) → ReadsRows reader rows mid → Advances mid (Ok Row) next → next.row ≡ Some row → ReadsRows reader (rows ++ row ∷ []) next

@@ -1,14 +1,14 @@
 //! COPY in binary.
 
 ghost use Rattle.std.specs.Prelude.{◌≡◌, ◌≢◌, ◌<◌, ◌==◌, ◌++◌, [], List, ℕ, Ok, OnOk, IfOk, length, replicate};
-ghost use Rattle.std.specs.List.{flat_map};
+ghost use Rattle.std.specs.List.{flat_map, slice_get};
 ghost use Rattle.std.specs.Io.KnownBytes.{Appends};
 ghost use Rattle.pgv.specs.Words.{Given};
 ghost use Rattle.pgv_types.specs.Ty.{by_oid};
 ghost use Rattle.pgv_copy.specs.CopyPieces.{Advances, Pieces, nothing_came, with_more};
 ghost use Rattle.pgv_copy.specs.declared.pieces.PgCopyNext.{PgCopyNext};
 ghost use Rattle.pgv_copy.specs.declared.pieces.PgCopyNext.TheVariants.{Row};
-ghost use Rattle.pgquery.specs.Copying.{CopiesAnswer, CopiesAnswers, OpensCopy, ReadsRows, RunsCopy, ShowsPiece, copied_line, in_hex};
+ghost use Rattle.pgquery.specs.Copying.{CopiesAnswer, CopiesAnswers, OpensCopy, ReadsRows, RunsCopy, ShowsPiece, copied_line, field_in_hex};
 ghost use Rattle.pgquery.specs.Incoming.{Incoming};
 ghost use Rattle.pgquery.specs.Talks.{Talks, UpToReady};
 
@@ -42,9 +42,17 @@ fn reader_for(alloc: Global, body: &[u8]) -> Result<PgCopyPieces, Fault>
 }
 
 /// Appends the bytes of a field in hex, null as `\N`.
-fn push_field(alloc: Global, value: &PgValueRef<'_>, line: &mut Vec<u8>) -> Result<(), Fault>
-    ensures { OnOk result (line.new.items ≡ line.old.items ++ in_hex value.now.bytes) }
+fn push_field(
+    alloc: Global,
+    row: &[PgValueRef<'_>],
+    place: usize,
+    line: &mut Vec<u8>,
+) -> Result<(), Fault>
+    ensures { OnOk result (line.new.items ≡ line.old.items ++ field_in_hex (slice_get row.now place)) }
 {
+    let Some(value) = row.get(place) else {
+        return Ok(());
+    };
     if value.is_null() {
         return Ok(line.extend_from_slice(b"\\N")?);
     }
@@ -60,7 +68,7 @@ fn push_fields(alloc: Global, row: &[PgValueRef<'_>], line: &mut Vec<u8>) -> Res
         if place > 0 {
             line.push(b'\t')?;
         }
-        push_field(alloc, &row[place], line)?;
+        push_field(alloc, row, place, line)?;
     }
     Ok(line.push(b'\n')?)
 }
