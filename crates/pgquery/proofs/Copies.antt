@@ -1,5 +1,5 @@
 -- Rows of a COPY that are read one after another, and answers that come one after another.
-use Rattle.std.proofs.Common.{◌≡◌, ℕ, Bool, true, false, List, [], ◌∷◌, ◌++◌, Option, Some, None, Result, Ok, Err, refl, sym, ap, ◌∙◌, append_assoc, append-nil, subst}
+use Rattle.std.proofs.Common.{◌≡◌, ℕ, Bool, true, false, List, [], ◌∷◌, ◌++◌, Some, Result, Ok, refl, sym, ap, ◌∙◌, append_assoc, append-nil, subst}
 use Rattle.std.specs.List.{flat_map}
 use Rattle.pgv.specs.Words.{CodecError, Given}
 use Rattle.pgv_copy.specs.CopyPieces.{Advances, AdvancesFrom, Pieces}

@@ -1,5 +1,5 @@
 -- Messages one after another, and what answers show.
-use Rattle.std.proofs.Common.{◌≡◌, ℕ, Bool, List, [], ◌∷◌, ◌++◌, Result, Ok, Err, refl, sym, ap, ◌∙◌, append_assoc, append-nil, subst}
+use Rattle.std.proofs.Common.{◌≡◌, ℕ, List, [], ◌∷◌, ◌++◌, Result, Ok, Err, refl, sym, ap, ◌∙◌, append_assoc, append-nil, subst}
 use Rattle.std.specs.Prelude.{◌==◌}
 use Rattle.pgv_row.specs.ColumnView.{Column}
 use Rattle.pgv_message.specs.Writing.{Writing, ◌>>=◌, with_message}

@@ -1,5 +1,5 @@
 -- The messages of a server, one after another, in the bytes that a session has not read yet.
-use Rattle.std.specs.Prelude.{◌≡◌, ℕ, List, [], ◌∷◌, drop, Option, Some, None, Ok, ⊤}
+use Rattle.std.specs.Prelude.{◌≡◌, ℕ, List, [], ◌∷◌, drop, Option, Some, None, ⊤}
 use Rattle.std.specs.Io.KnownBytes.{prepend_known}
 use Rattle.pgv_message.specs.Received.{in_front, found}
 use Rattle.pgquery.specs.declared.inbox.Inbox.{Inbox}

@@ -1,8 +1,6 @@
 //! A session with a server, over any reader and writer.
 
-ghost use Rattle.std.specs.Prelude.{◌≡◌, ℕ, List, [], ◌∷◌, Ok, OnOk, IfOk};
-ghost use Rattle.pgv_message.specs.Writing.{Sends};
-ghost use Rattle.pgv_message.specs.Startup.{startup};
+ghost use Rattle.std.specs.Prelude.{◌≡◌, ℕ, List, [], Ok, OnOk, IfOk};
 ghost use Rattle.pgv_message.specs.Messages.{bare};
 ghost use Rattle.pgquery.specs.Incoming.{Incoming, IsLast};
 ghost use Rattle.pgquery.specs.Talks.{Answers, Starts, Talks};

@@ -1,14 +1,11 @@
 //! COPY in binary.
 
-ghost use Rattle.std.specs.Prelude.{◌≡◌, ◌≢◌, ◌<◌, ◌==◌, ◌++◌, [], List, ℕ, Ok, OnOk, IfOk, length, replicate};
-ghost use Rattle.std.specs.List.{flat_map, slice_get};
+ghost use Rattle.std.specs.Prelude.{◌≡◌, ◌++◌, [], List, ℕ, OnOk, IfOk, replicate};
+ghost use Rattle.std.specs.List.{slice_get};
 ghost use Rattle.std.specs.Io.KnownBytes.{Appends};
-ghost use Rattle.pgv.specs.Words.{Given};
 ghost use Rattle.pgv_types.specs.Ty.{by_oid};
-ghost use Rattle.pgv_copy.specs.CopyPieces.{Advances, Pieces, nothing_came, with_more};
-ghost use Rattle.pgv_copy.specs.declared.pieces.PgCopyNext.{PgCopyNext};
-ghost use Rattle.pgv_copy.specs.declared.pieces.PgCopyNext.TheVariants.{Row};
-ghost use Rattle.pgquery.specs.Copying.{CopiesAnswer, CopiesAnswers, OpensCopy, ReadsRows, RunsCopy, ShowsPiece, copied_line, field_in_hex};
+ghost use Rattle.pgv_copy.specs.CopyPieces.{Pieces, nothing_came};
+ghost use Rattle.pgquery.specs.Copying.{CopiesAnswer, CopiesAnswers, OpensCopy, RunsCopy, ShowsPiece, copied_line, field_in_hex};
 ghost use Rattle.pgquery.specs.Incoming.{Incoming};
 ghost use Rattle.pgquery.specs.Talks.{Talks, UpToReady};
 

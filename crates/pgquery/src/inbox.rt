@@ -3,7 +3,7 @@
 ghost use Rattle.std.specs.Prelude.{◌≡◌, ℕ, List, [], ◌∷◌, drop, Ok, Some, OnOk, IfOk, IfSome};
 ghost use Rattle.std.specs.Io.KnownBytes.{Keeps};
 ghost use Rattle.pgv_message.specs.Received.{in_front, message_view};
-ghost use Rattle.pgquery.specs.Incoming.{Come, IsLast, Incoming, unread, unread_from};
+ghost use Rattle.pgquery.specs.Incoming.{Come, IsLast, unread, unread_from};
 
 use crate::fault::Fault;
 use pgv::message::{PgMessage, message_in_front};

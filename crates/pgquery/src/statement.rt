@@ -1,8 +1,7 @@
 //! A statement: it is prepared, its parameters are bound, and its rows are shown.
 
-ghost use Rattle.std.specs.Prelude.{◌≡◌, ◌==◌, ◌++◌, [], ◌∷◌, List, ℕ, Option, OnOk, IfOk, map, slice_set, string_bytes, if◌then◌else◌};
+ghost use Rattle.std.specs.Prelude.{◌≡◌, ◌==◌, [], ◌∷◌, List, ℕ, OnOk, IfOk, string_bytes};
 ghost use Rattle.std.specs.Io.KnownBytes.{Appends};
-ghost use Rattle.pgv_row.specs.Description.{in_format};
 ghost use Rattle.pgquery.specs.Incoming.{Incoming};
 ghost use Rattle.pgquery.specs.Lines.{ShowsAnswer, ShowsBody};
 ghost use Rattle.pgquery.specs.Statement.{Executes, Prepares, PreparesAtLast, Runs, ShowsAnswers, described, results_of};

@@ -1,5 +1,4 @@
-use Rattle.std.proofs.Common.{◌++◌, ◌∷◌, []}
-use Rattle.pgquery.specs.Incoming.{Incoming}
+use Rattle.std.proofs.Common.{[]}
 use Rattle.pgquery.proofs.Talking.{converses_on, silent}
 use Rattle.pgquery.proofs.statement.keep_answers.Goals as goal
 

@@ -1,5 +1,5 @@
 use Rattle.std.proofs.Common.{rules, ◌≡◌, Ok}
-use Rattle.pgquery.specs.Statement.{Prepares, preparing}
+use Rattle.pgquery.specs.Statement.{preparing}
 use Rattle.pgquery.proofs.Talking.{after_sending, if_ok}
 use Rattle.pgquery.proofs.statement.prepare.Goals as goal
 
