@@ -31,14 +31,14 @@ one_more_line (r ∷ rows) row = ap (λ (xs : List ℕ). copied_line r ++ xs) (o
 
 -- ---- answers
 
-pub one_more_answer : (reader mid next : Pieces) (ms : List Incoming) (m : Incoming) (text lines : List ℕ) → CopiesAnswers reader ms mid text → CopiesAnswer m mid next lines →
+pub one_more_answer : (reader mid next : Pieces) (ms : List Incoming) (m : Incoming) (text lines : List ℕ) → CopiesAnswers reader ms mid text → CopiesAnswer m.tag m.body mid next lines →
     CopiesAnswers reader (ms ++ m ∷ []) next (text ++ lines)
 one_more_answer reader mid next [] m text lines none is =
-    (next, lines, [], ap (λ (xs : List ℕ). xs ++ lines) none.1 ∙ sym (append-nil lines), subst (λ (p : Pieces). CopiesAnswer m p next lines) none.0 is, (refl, refl))
+    (next, lines, [], ap (λ (xs : List ℕ). xs ++ lines) none.1 ∙ sym (append-nil lines), subst (λ (p : Pieces). CopiesAnswer m.tag m.body p next lines) none.0 is, (refl, refl))
 one_more_answer reader mid next (n ∷ ms) m text lines copies is =
     (copies.0, copies.1, copies.2 ++ lines, ap (λ (xs : List ℕ). xs ++ lines) copies.3 ∙ append_assoc copies.1 copies.2 lines, copies.4, one_more_answer copies.0 mid next ms m copies.2 lines copies.5 is)
 
 pub ready_copies_nothing : (reader mid : Pieces) (ms : List Incoming) (m : Incoming) (text : List ℕ) → CopiesAnswers reader ms mid text → m.tag ≡ 90 → CopiesAnswers reader (ms ++ m ∷ []) mid text
 ready_copies_nothing reader mid ms m text copies is =
-    let none : CopiesAnswer m mid mid [] = rw is (refl, refl) in
+    let none : CopiesAnswer m.tag m.body mid mid [] = rw is (refl, refl) in
     subst (CopiesAnswers reader (ms ++ m ∷ []) mid) (append-nil text) (one_more_answer reader mid mid ms m text [] copies none)

@@ -13,7 +13,7 @@ use Rattle.pgv_message.specs.CopyFormats.{copy_formats}
 use Rattle.pgv_message.specs.Messages.{query}
 use Rattle.pgquery.specs.Incoming.{Incoming}
 use Rattle.pgquery.specs.Lines.{between}
-use Rattle.pgquery.specs.Talks.{Talks, UpToReady}
+use Rattle.pgquery.specs.Talks.{Sends, Talks, UpToReady}
 use Rattle.pgquery.specs.declared.connection.Connection.{Connection}
 
 -- ---- the line of a row
@@ -62,21 +62,28 @@ CopiesBy true is_data body reader after text = OpensCopy body after × (text ≡
 CopiesBy false true body reader after text = ShowsPiece body reader after text
 CopiesBy false false body reader after text = (after ≡ reader) × (text ≡ [])
 
-abbrev pub CopiesAnswer : Incoming → Pieces → Pieces → List ℕ → Type 0
-CopiesAnswer m reader after text = CopiesBy (m.tag == 72) (m.tag == 100) m.body reader after text
+abbrev pub CopiesAnswer : ℕ → List ℕ → Pieces → Pieces → List ℕ → Type 0
+CopiesAnswer tag body reader after text = CopiesBy (tag == 72) (tag == 100) body reader after text
 
 -- This text is the lines of the rows that come in answers, in order.
 abbrev pub CopiesAnswers : Pieces → List Incoming → Pieces → List ℕ → Type 0
 CopiesAnswers reader [] after text = (after ≡ reader) × (text ≡ [])
 CopiesAnswers reader (m ∷ ms) after text =
-    (next : Pieces) × (lines : List ℕ) × (rest : List ℕ) × (text ≡ lines ++ rest) × CopiesAnswer m reader next lines × CopiesAnswers next ms after rest
+    (next : Pieces) × (lines : List ℕ) × (rest : List ℕ) × (text ≡ lines ++ rest) × CopiesAnswer m.tag m.body reader next lines × CopiesAnswers next ms after rest
 
--- The statement was sent, and this text is the lines of the rows that came up to the message that says that the server is ready.
-pub record RunsCopy {R W : Type 0} (remaining : R → Option (List ℕ)) (contents : W → Option (List ℕ)) (sql : List ℕ) (old new : Connection R W) (text : List ℕ) : Type 0 where
-  pub sent : List ℕ
+-- The rows that came up to the message that says that the server is ready are this text.
+pub record ShowsCopy {R W : Type 0} (remaining : R → Option (List ℕ)) (contents : W → Option (List ℕ)) (old new : Connection R W) (text : List ℕ) : Type 0 where
   pub answers : List Incoming
   pub after : Pieces
-  pub is_sent : query sql ≡ Ok sent
   pub ready : UpToReady answers
-  pub talks : Talks remaining contents old new sent answers
+  pub talks : Talks remaining contents old new [] answers
   pub copies : CopiesAnswers (nothing_came []) answers after text
+
+-- The statement was sent, and this text is the rows that came of it.
+abbrev pub RunsCopy : {R W : Type 0} → (R → Option (List ℕ)) → (W → Option (List ℕ)) → List ℕ → Connection R W → Connection R W → List ℕ → Type 0
+RunsCopy {R} {W} remaining contents sql old new text =
+    (asked : Connection R W) × Sends remaining contents (query sql) old asked × ShowsCopy remaining contents asked new text
+
+-- bytes to which a text of which this holds was appended
+abbrev pub Grows : List ℕ → List ℕ → (List ℕ → Type 0) → Type 0
+Grows old new Is = (text : List ℕ) × Is text × (new ≡ old ++ text)

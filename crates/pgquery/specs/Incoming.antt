@@ -2,6 +2,7 @@
 use Rattle.std.specs.Prelude.{◌≡◌, ℕ, List, [], ◌∷◌, drop, Option, Some, None, ⊤}
 use Rattle.std.specs.Io.KnownBytes.{prepend_known}
 use Rattle.pgv_message.specs.Received.{in_front, found}
+use Rattle.pgv_message.specs.declared.received.PgMessage.{PgMessage}
 use Rattle.pgquery.specs.declared.inbox.Inbox.{Inbox}
 
 pub record Incoming : Type 0 where
@@ -30,3 +31,12 @@ unread remaining inbox = unread_from remaining inbox.end inbox
 -- The last message is this one.
 abbrev pub IsLast : {R : Type 0} → ℕ → List ℕ → Inbox R → Type 0
 IsLast tag body inbox = in_front (drop inbox.start inbox.came.items) ≡ found tag body (drop inbox.end inbox.came.items)
+
+-- One message came, and it is the last one.
+abbrev pub Receives : {R : Type 0} → (R → Option (List ℕ)) → Inbox R → Inbox R → ℕ → Type 0
+Receives remaining old new tag =
+    (body : List ℕ) × IsLast tag body new × Come (record { tag = tag; body = body } ∷ []) (unread remaining old) (unread remaining new)
+
+-- What is lent is the last message.
+abbrev pub Lends : {R : Type 0} → Inbox R → PgMessage → Type 0
+Lends inbox m = (tag : ℕ) (body : List ℕ) → IsLast tag body inbox → (m.tag ≡ tag) × (m.body.now ≡ body)

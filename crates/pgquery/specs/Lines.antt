@@ -3,6 +3,7 @@
 -- its value as a string or null; in a string quotes and backslashes escaped, and controls by their number.
 use Rattle.std.specs.Prelude.{◌≡◌, ℕ, Bool, true, false, zero, suc, ◌+◌, ◌/◌, ◌%◌, ◌==◌, nat_lt, if◌then◌else◌, List, [], ◌∷◌, ◌++◌, length, Option, Some, None, ⊤}
 use Rattle.std.specs.List.{flat_map, slice_get}
+use Rattle.std.specs.Io.KnownBytes.{Appends}
 use Rattle.pgv.specs.Words.{Given, Part}
 use Rattle.pgv_row.specs.ColumnView.{Column}
 use Rattle.pgv_row.specs.DataRow.{IsDataRow}
@@ -116,3 +117,7 @@ abbrev pub ShowsRows : Shown → List Column → List Incoming → List ℕ → 
 ShowsRows shown columns [] text = text ≡ []
 ShowsRows shown columns (m ∷ ms) text =
     (line : List ℕ) × (rest : List ℕ) × (text ≡ line ++ rest) × ShowsAnswer (m.tag == 68) shown columns m.body line × ShowsRows shown columns ms rest
+
+-- A writer was given a text of which this holds.
+abbrev pub Writes : Option (List ℕ) → Option (List ℕ) → (List ℕ → Type 0) → Type 0
+Writes old new Is = (text : List ℕ) × Appends old new text × Is text

@@ -11,7 +11,7 @@ use Rattle.pgv_message.specs.Writing.{Writing, ◌>>=◌}
 use Rattle.pgv_message.specs.declared.describe.Prepared.TheVariants.{Statement}
 use Rattle.pgquery.specs.Incoming.{Incoming}
 use Rattle.pgquery.specs.Lines.{ShowsRows}
-use Rattle.pgquery.specs.Talks.{Converses, Talks, UpToReady}
+use Rattle.pgquery.specs.Talks.{Converses, Sends, Talks, UpToReady}
 use Rattle.pgquery.specs.declared.connection.Connection.{Connection}
 use Rattle.pgquery.specs.declared.options.Shown.{Shown}
 use Rattle.pgquery.specs.declared.options.Shown.TheVariants.{Texts, Objects, Frames, Copied}
@@ -73,10 +73,10 @@ pub record Prepares {R W : Type 0} (remaining : R → Option (List ℕ)) (conten
 abbrev pub PreparesAtLast : {R W : Type 0} → (R → Option (List ℕ)) → (W → Option (List ℕ)) → List ℕ → Connection R W → Connection R W → List ℕ → Type 0
 PreparesAtLast {R} {W} remaining contents sql old new body = (begun : Connection R W) × Converses remaining contents old begun × Prepares remaining contents sql begun new body
 
--- The arguments were bound, and the statement is executed.
-abbrev pub Executes : {R W : Type 0} → (R → Option (List ℕ)) → (W → Option (List ℕ)) → List Argument → PgValueFormat → PgValueFormat → Connection R W → Connection R W → Type 0
-Executes remaining contents arguments parameters results old new =
-    (sent : List ℕ) × (executing arguments parameters results ≡ Ok sent) × Talks remaining contents old new sent []
+-- What a server answered to a statement that is prepared, and the body that describes its rows.
+abbrev pub Describes : {R W : Type 0} → (R → Option (List ℕ)) → (W → Option (List ℕ)) → Connection R W → Connection R W → List ℕ → Type 0
+Describes remaining contents old new body =
+    (answers : List Incoming) × UpToReady answers × Talks remaining contents old new [] answers × (description_among (0 ∷ 0 ∷ []) answers ≡ body)
 
 -- The rows that came up to the message that says that the server is ready are this text.
 abbrev pub ShowsAnswers : {R W : Type 0} → (R → Option (List ℕ)) → (W → Option (List ℕ)) → Shown → List Column → Connection R W → Connection R W → List ℕ → Type 0
@@ -94,5 +94,5 @@ pub record Runs {R W : Type 0} (remaining : R → Option (List ℕ)) (contents :
   pub parameters : PgValueFormat
   pub prepares : PreparesAtLast remaining contents sql old prepared body
   pub is_description : IsDescription known body columns
-  pub executes : Executes remaining contents arguments parameters (results_of shown) prepared executed
+  pub executes : Sends remaining contents (executing arguments parameters (results_of shown)) prepared executed
   pub shows : ShowsAnswers remaining contents shown (map (in_format (results_of shown)) columns) executed new text

@@ -2,6 +2,7 @@
 use Rattle.std.specs.Prelude.{◌≡◌, ℕ, Bool, false, ◌||◌, ◌==◌, List, [], ◌∷◌, map, if◌then◌else◌, Option, Ok, codes}
 use Rattle.std.specs.Io.KnownBytes.{Appends}
 use Rattle.pgv_message.specs.Startup.{startup}
+use Rattle.pgv_message.specs.Writing.{Writing}
 use Rattle.pgv_message.specs.declared.startup.PgSetting.{PgSetting}
 use Rattle.pgquery.specs.Incoming.{Come, Incoming, IsLast, unread}
 use Rattle.pgquery.specs.declared.connection.Connection.{Connection}
@@ -18,6 +19,14 @@ answers_among (m ∷ ms) = if is_passed_over m.tag then answers_among ms else m 
 abbrev pub Talks : {R W : Type 0} → (R → Option (List ℕ)) → (W → Option (List ℕ)) → Connection R W → Connection R W → List ℕ → List Incoming → Type 0
 Talks remaining contents old new sent answers =
     (came : List Incoming) × (answers_among came ≡ answers) × Appends (contents old.writer) (contents new.writer) sent × Come came (unread remaining old.inbox) (unread remaining new.inbox)
+
+-- A message was sent, or several.
+abbrev pub Sends : {R W : Type 0} → (R → Option (List ℕ)) → (W → Option (List ℕ)) → Writing (List ℕ) → Connection R W → Connection R W → Type 0
+Sends remaining contents messages old new = (sent : List ℕ) × (messages ≡ Ok sent) × Talks remaining contents old new sent []
+
+-- Something was answered.
+abbrev pub Hears : {R W : Type 0} → (R → Option (List ℕ)) → (W → Option (List ℕ)) → Connection R W → Connection R W → Type 0
+Hears remaining contents old new = (answers : List Incoming) × Talks remaining contents old new [] answers
 
 -- Something was sent and answered.
 abbrev pub Converses : {R W : Type 0} → (R → Option (List ℕ)) → (W → Option (List ℕ)) → Connection R W → Connection R W → Type 0

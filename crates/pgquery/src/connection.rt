@@ -1,9 +1,9 @@
 //! A session with a server, over any reader and writer.
 
-ghost use Rattle.std.specs.Prelude.{◌≡◌, ℕ, List, [], Ok, OnOk, IfOk};
+ghost use Rattle.std.specs.Prelude.{◌≡◌, [], OnOk, IfOk};
 ghost use Rattle.pgv_message.specs.Messages.{bare};
-ghost use Rattle.pgquery.specs.Incoming.{Incoming, IsLast};
-ghost use Rattle.pgquery.specs.Talks.{Answers, Starts, Talks};
+ghost use Rattle.pgquery.specs.Incoming.{Lends};
+ghost use Rattle.pgquery.specs.Talks.{Answers, Hears, Sends, Starts, Talks};
 ghost use Rattle.pgquery.specs.Talks as talks;
 
 use crate::fault::Fault;
@@ -61,7 +61,7 @@ impl<R: Read, W: Write> Connection<R, W> {
 
     /// The last message.
     pub fn last(&self) -> Result<PgMessage<'_>, Fault>
-        ensures { IfOk result (λ m. (tag : ℕ) (body : List ℕ) → IsLast tag body self.now.inbox → (m.tag ≡ tag) × (m.body.now ≡ body)) }
+        ensures { IfOk result (Lends self.now.inbox) }
     {
         self.inbox.last()
     }
@@ -111,7 +111,7 @@ impl<R: Read, W: Write> Connection<R, W> {
 
     /// Waits until the server is ready for the first request.
     fn admit(&mut self, alloc: Global) -> Result<(), Fault>
-        ensures { OnOk result ((answers : List Incoming) × Talks R.remaining W.contents self.old self.new [] answers) }
+        ensures { OnOk result (Hears R.remaining W.contents self.old self.new) }
     {
         for _ in 0..u64::MAX {
             match self.next(alloc)? {
@@ -125,7 +125,7 @@ impl<R: Read, W: Write> Connection<R, W> {
 
     /// Ends the session.
     pub fn end(&mut self, alloc: Global) -> Result<(), Fault>
-        ensures { OnOk result ((sent : List ℕ) × (bare 88 ≡ Ok sent) × Talks R.remaining W.contents self.old self.new sent []) }
+        ensures { OnOk result (Sends R.remaining W.contents (bare 88) self.old self.new) }
     {
         let mut out = Vec::new(alloc);
         message::write_terminate(&mut out)?;

@@ -1,13 +1,12 @@
 //! COPY in binary.
 
-ghost use Rattle.std.specs.Prelude.{◌≡◌, ◌++◌, [], List, ℕ, OnOk, IfOk, replicate};
+ghost use Rattle.std.specs.Prelude.{◌≡◌, ◌++◌, List, OnOk, IfOk, replicate};
 ghost use Rattle.std.specs.List.{slice_get};
-ghost use Rattle.std.specs.Io.KnownBytes.{Appends};
+ghost use Rattle.pgv.specs.Words.{Given};
 ghost use Rattle.pgv_types.specs.Ty.{by_oid};
-ghost use Rattle.pgv_copy.specs.CopyPieces.{Pieces, nothing_came};
-ghost use Rattle.pgquery.specs.Copying.{CopiesAnswer, CopiesAnswers, OpensCopy, RunsCopy, ShowsPiece, copied_line, field_in_hex};
-ghost use Rattle.pgquery.specs.Incoming.{Incoming};
-ghost use Rattle.pgquery.specs.Talks.{Talks, UpToReady};
+ghost use Rattle.pgv_copy.specs.CopyPieces.{nothing_came};
+ghost use Rattle.pgquery.specs.Copying.{CopiesAnswer, Grows, OpensCopy, RunsCopy, ShowsCopy, ShowsPiece, copied_line, field_in_hex};
+ghost use Rattle.pgquery.specs.Lines.{Writes};
 
 use crate::connection::Connection;
 use crate::fault::Fault;
@@ -45,7 +44,8 @@ fn push_field(
     place: usize,
     line: &mut Vec<u8>,
 ) -> Result<(), Fault>
-    ensures { OnOk result (line.new.items ≡ line.old.items ++ field_in_hex (slice_get row.now place)) }
+    ensures { OnOk result (line.new.items
+        ≡ line.old.items ++ field_in_hex (slice_get row.now place)) }
 {
     let Some(value) = row.get(place) else {
         return Ok(());
@@ -72,7 +72,8 @@ fn push_fields(alloc: Global, row: &[PgValueRef<'_>], line: &mut Vec<u8>) -> Res
 
 /// Appends the line of the row that was read last.
 fn push_row(alloc: Global, reader: &PgCopyPieces, line: &mut Vec<u8>) -> Result<(), Fault>
-    ensures { OnOk result ((row : List Given) → reader.now.row ≡ Some row → line.new.items ≡ line.old.items ++ copied_line row) }
+    ensures { OnOk result ((row : List Given) → reader.now.row ≡ Some row
+        → line.new.items ≡ line.old.items ++ copied_line row) }
 {
     match reader.row()? {
         Some(row) => push_fields(alloc, row.as_slice(), line),
@@ -87,7 +88,8 @@ fn push_rows(
     data: &[u8],
     line: &mut Vec<u8>,
 ) -> Result<(), Fault>
-    ensures { OnOk result ((text : List ℕ) × ShowsPiece data.now reader.old reader.new text × (line.new.items ≡ line.old.items ++ text)) }
+    ensures { OnOk result (Grows line.old.items line.new.items
+        (ShowsPiece data.now reader.old reader.new)) }
 {
     reader.feed(data)?;
     for _ in 0..u64::MAX {
@@ -106,7 +108,8 @@ fn push_answer(
     reader: &mut PgCopyPieces,
     line: &mut Vec<u8>,
 ) -> Result<(), Fault>
-    ensures { OnOk result ((text : List ℕ) × CopiesAnswer (record { tag = answer.now.tag; body = answer.now.body.now }) reader.old reader.new text × (line.new.items ≡ line.old.items ++ text)) }
+    ensures { OnOk result (Grows line.old.items line.new.items
+        (CopiesAnswer answer.now.tag answer.now.body.now reader.old reader.new)) }
 {
     match answer.tag {
         b'H' => *reader = reader_for(alloc, answer.body)?,
@@ -123,7 +126,8 @@ pub fn run<R: Read, W: Write, S: Write>(
     sql: &str,
     lines: &mut S,
 ) -> Result<(), Fault>
-    ensures { OnOk result ((text : List ℕ) × Appends (S.contents lines.old) (S.contents lines.new) text × RunsCopy R.remaining W.contents sql.now connection.old connection.new text) }
+    ensures { OnOk result (Writes (S.contents lines.old) (S.contents lines.new)
+        (RunsCopy R.remaining W.contents sql.now connection.old connection.new)) }
 {
     let mut out = Vec::new(alloc);
     write_query(&mut out, sql)?;
@@ -137,8 +141,8 @@ fn show_answers<R: Read, W: Write, S: Write>(
     connection: &mut Connection<R, W>,
     lines: &mut S,
 ) -> Result<(), Fault>
-    ensures { OnOk result ((text : List ℕ) × (answers : List Incoming) × (after : Pieces) × Appends (S.contents lines.old) (S.contents lines.new) text × UpToReady answers
-        × Talks R.remaining W.contents connection.old connection.new [] answers × CopiesAnswers (nothing_came []) answers after text) }
+    ensures { OnOk result (Writes (S.contents lines.old) (S.contents lines.new)
+        (ShowsCopy R.remaining W.contents connection.old connection.new)) }
 {
     let mut reader = reader_of(alloc, 0)?;
     let mut line = Vec::new(alloc);

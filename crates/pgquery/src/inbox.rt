@@ -1,9 +1,9 @@
 //! The messages that a server sends, as they come from a reader.
 
-ghost use Rattle.std.specs.Prelude.{◌≡◌, ℕ, List, [], ◌∷◌, drop, Ok, Some, OnOk, IfOk, IfSome};
+ghost use Rattle.std.specs.Prelude.{◌≡◌, drop, Ok, Some, OnOk, IfOk, IfSome};
 ghost use Rattle.std.specs.Io.KnownBytes.{Keeps};
 ghost use Rattle.pgv_message.specs.Received.{in_front, message_view};
-ghost use Rattle.pgquery.specs.Incoming.{Come, IsLast, unread, unread_from};
+ghost use Rattle.pgquery.specs.Incoming.{Lends, Receives, unread, unread_from};
 
 use crate::fault::Fault;
 use pgv::message::{PgMessage, message_in_front};
@@ -49,7 +49,8 @@ impl<R: Read> Inbox<R> {
 
     /// Waits for more bytes.
     fn read_more(&mut self) -> Result<(), Fault>
-        ensures came { OnOk result (Keeps (unread_from R.remaining self.old.start self.old) (unread_from R.remaining self.new.start self.new)) }
+        ensures { OnOk result (Keeps (unread_from R.remaining self.old.start self.old)
+            (unread_from R.remaining self.new.start self.new)) }
     {
         self.forget();
         let mut chunk = [0; CHUNK];
@@ -62,7 +63,8 @@ impl<R: Read> Inbox<R> {
 
     /// The last message, where it has come; or the next one, where that is asked for.
     fn front(&self) -> Result<Option<PgMessage<'_>>, Fault>
-        ensures { IfOk result (λ found. IfSome found (λ m. in_front (drop self.now.start self.now.came.items) ≡ Ok (Some (message_view m)))) }
+        ensures { IfOk result (λ found. IfSome found (λ m.
+            in_front (drop self.now.start self.now.came.items) ≡ Ok (Some (message_view m)))) }
     {
         let came = self.came.as_slice().get(self.start..).ok_or(Fault::End)?;
         Ok(message_in_front(came)?)
@@ -70,7 +72,7 @@ impl<R: Read> Inbox<R> {
 
     /// Waits for the next message, which is the last one then, and answers its tag.
     pub fn receive(&mut self) -> Result<u8, Fault>
-        ensures { IfOk result (λ tag. (body : List ℕ) × IsLast tag body self.new × Come (record { tag = tag; body = body } ∷ []) (unread R.remaining self.old) (unread R.remaining self.new)) }
+        ensures { IfOk result (Receives R.remaining self.old self.new) }
     {
         self.start = self.end;
         for _ in 0..u64::MAX {
@@ -86,7 +88,7 @@ impl<R: Read> Inbox<R> {
 
     /// The last message.
     pub fn last(&self) -> Result<PgMessage<'_>, Fault>
-        ensures { IfOk result (λ m. (tag : ℕ) (body : List ℕ) → IsLast tag body self.now → (m.tag ≡ tag) × (m.body.now ≡ body)) }
+        ensures { IfOk result (Lends self.now) }
     {
         self.front()?.ok_or(Fault::End)
     }

@@ -1,12 +1,10 @@
 //! A statement: it is prepared, its parameters are bound, and its rows are shown.
 
-ghost use Rattle.std.specs.Prelude.{◌≡◌, ◌==◌, [], ◌∷◌, List, ℕ, OnOk, IfOk, string_bytes};
-ghost use Rattle.std.specs.Io.KnownBytes.{Appends};
-ghost use Rattle.pgquery.specs.Incoming.{Incoming};
-ghost use Rattle.pgquery.specs.Lines.{ShowsAnswer, ShowsBody};
-ghost use Rattle.pgquery.specs.Statement.{Executes, Prepares, PreparesAtLast, Runs, ShowsAnswers, described, results_of};
+ghost use Rattle.std.specs.Prelude.{◌≡◌, ◌==◌, OnOk, IfOk, string_bytes};
+ghost use Rattle.pgquery.specs.Lines.{ShowsAnswer, ShowsBody, Writes};
+ghost use Rattle.pgquery.specs.Statement.{Describes, Prepares, PreparesAtLast, Runs, ShowsAnswers, described, executing};
 ghost use Rattle.pgquery.specs.Statement as statement;
-ghost use Rattle.pgquery.specs.Talks.{Converses, Talks, UpToReady};
+ghost use Rattle.pgquery.specs.Talks.{Converses, Sends};
 
 use crate::connection::Connection;
 use crate::fault::Fault;
@@ -33,7 +31,8 @@ struct Described {
 impl Described {
     /// Notes what an answer says.
     fn note(&mut self, alloc: Global, tag: u8, body: &[u8]) -> Result<(), Fault>
-        ensures { OnOk result (self.new.rows.items ≡ described self.old.rows.items (record { tag = tag; body = body.now })) }
+        ensures { OnOk result (self.new.rows.items
+            ≡ described self.old.rows.items (record { tag = tag; body = body.now })) }
     {
         match tag {
             b't' => self.parameters = message::parameter_oids(alloc, body)?,
@@ -50,7 +49,8 @@ fn prepare<R: Read, W: Write>(
     connection: &mut Connection<R, W>,
     sql: &str,
 ) -> Result<Described, Fault>
-    ensures { IfOk result (λ d. Prepares R.remaining W.contents sql.now connection.old connection.new d.rows.items) }
+    ensures { IfOk result (λ d. Prepares R.remaining W.contents sql.now
+        connection.old connection.new d.rows.items) }
 {
     let mut out = Vec::new(alloc);
     message::write_parse(&mut out, "", sql, &[])?;
@@ -70,7 +70,8 @@ fn description<R: Read, W: Write>(
     alloc: Global,
     connection: &mut Connection<R, W>,
 ) -> Result<Described, Fault>
-    ensures { IfOk result (λ d. (answers : List Incoming) × UpToReady answers × Talks R.remaining W.contents connection.old connection.new [] answers × (statement.description_among (0 ∷ 0 ∷ []) answers ≡ d.rows.items)) }
+    ensures { IfOk result (λ d. Describes R.remaining W.contents connection.old connection.new
+        d.rows.items) }
 {
     let mut described = Described {
         parameters: Vec::new(alloc),
@@ -103,7 +104,8 @@ fn execute<R: Read, W: Write>(
     bindings: &Bindings,
     format: PgValueFormat,
 ) -> Result<(), Fault>
-    ensures { OnOk result (Executes R.remaining W.contents bindings.now.arguments bindings.now.format format connection.old connection.new) }
+    ensures { OnOk result (Sends R.remaining W.contents
+        (executing bindings.now.arguments bindings.now.format format) connection.old connection.new) }
 {
     let mut out = Vec::new(alloc);
     message::write_bind(&mut out, "", "", &bindings.arguments, &[format])?;
@@ -181,7 +183,8 @@ fn prepare_at_last<R: Read, W: Write>(
     connection: &mut Connection<R, W>,
     sql: &str,
 ) -> Result<(Described, PgServerTypes), Fault>
-    ensures { IfOk result (λ d. PreparesAtLast R.remaining W.contents sql.now connection.old connection.new d.0.rows.items) }
+    ensures { IfOk result (λ d. PreparesAtLast R.remaining W.contents sql.now
+        connection.old connection.new d.0.rows.items) }
 {
     let described = prepare(alloc, connection, sql)?;
     if are_built_in(described.parameters.as_slice()) {
@@ -209,7 +212,9 @@ pub fn run<R: Read, W: Write, S: Write>(
     options: &Options,
     lines: &mut S,
 ) -> Result<(), Fault>
-    ensures { OnOk result ((text : List ℕ) × Appends (S.contents lines.old) (S.contents lines.new) text × Runs R.remaining W.contents (string_bytes options.now.sql) options.now.shown connection.old connection.new text) }
+    ensures { OnOk result (Writes (S.contents lines.old) (S.contents lines.new)
+        (Runs R.remaining W.contents (string_bytes options.now.sql) options.now.shown
+            connection.old connection.new)) }
 {
     let (described, known) = prepare_at_last(alloc, connection, options.sql.as_str())?;
     let bindings = bound(alloc, described.parameters.as_slice(), options, &known)?;
@@ -229,7 +234,8 @@ fn show_rows<R: Read, W: Write, S: Write>(
     shown: Shown,
     lines: &mut S,
 ) -> Result<(), Fault>
-    ensures { OnOk result ((text : List ℕ) × Appends (S.contents lines.old) (S.contents lines.new) text × ShowsAnswers R.remaining W.contents shown columns.now connection.old connection.new text) }
+    ensures { OnOk result (Writes (S.contents lines.old) (S.contents lines.new)
+        (ShowsAnswers R.remaining W.contents shown columns.now connection.old connection.new)) }
 {
     let mut room = PgPlaces::with_columns(alloc, columns)?;
     let mut line = Vec::new(alloc);
@@ -255,7 +261,8 @@ fn set_line(
     answer: &PgMessage<'_>,
     line: &mut Vec<u8>,
 ) -> Result<(), Fault>
-    ensures { OnOk result (ShowsAnswer (answer.now.tag == 68) shown columns.now answer.now.body.now line.new.items) }
+    ensures { OnOk result (ShowsAnswer (answer.now.tag == 68) shown columns.now
+        answer.now.body.now line.new.items) }
 {
     line.clear();
     if answer.tag != b'D' {

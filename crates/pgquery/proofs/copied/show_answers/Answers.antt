@@ -2,6 +2,7 @@ use Rattle.std.proofs.Common.{rules, ◌≡◌, ℕ, List, ◌++◌, ◌∷◌, 
 use Rattle.std.specs.Io.KnownBytes.{Appends}
 use Rattle.std.proofs.KnownBytes.{Appends-nil, Appends-trans}
 use Rattle.std.proofs.lemmas.Bool.{ne_eqb}
+use Rattle.pgv_copy.specs.CopyPieces.{nothing_came}
 use Rattle.pgquery.specs.Incoming.{Incoming}
 use Rattle.pgquery.proofs.Copies.{one_more_answer, ready_copies_nothing}
 use Rattle.pgquery.proofs.Talking.{none_more, silent, talks_on, up_to_ready}
@@ -25,7 +26,7 @@ loop-preserved g c =
       none_more so_far.0 m so_far.2 (ne_eqb _ _ c.if-tag-eq90.false),
       talks_on g.R.Read.remaining g.W.Write.contents c.args.connection.now c.loop.connection c.next.new.self [] [] so_far.0 (m ∷ []) so_far.3 came.2,
       Appends-trans _ _ _ so_far.1 shown.0 so_far.4 (subst (Appends (g.S.Write.contents c.loop.lines) (g.S.Write.contents c.write_all.new.self)) line written),
-      one_more_answer _ c.loop.reader c.push_answer.new.reader so_far.0 m so_far.1 shown.0 so_far.5 shown.1,
+      one_more_answer (nothing_came []) c.loop.reader c.push_answer.new.reader so_far.0 m so_far.1 shown.0 so_far.5 shown.1,
     )
 
 pub returns-then-tag-eq90 : goal.returns-then-tag-eq90
@@ -35,10 +36,12 @@ returns-then-tag-eq90 g c =
     let m : Incoming = record { tag = c.in_ok-tag.tag; body = came.0 } in
     (
       so_far.1,
-      so_far.0 ++ m ∷ [],
-      c.loop.reader,
       so_far.4,
-      up_to_ready so_far.0 m so_far.2 c.if-tag-eq90.true,
-      talks_on g.R.Read.remaining g.W.Write.contents c.args.connection.now c.loop.connection c.next.new.self [] [] so_far.0 (m ∷ []) so_far.3 came.2,
-      ready_copies_nothing _ c.loop.reader so_far.0 m so_far.1 so_far.5 c.if-tag-eq90.true,
+      record {
+        answers = so_far.0 ++ m ∷ [];
+        after = c.loop.reader;
+        ready = up_to_ready so_far.0 m so_far.2 c.if-tag-eq90.true;
+        talks = talks_on g.R.Read.remaining g.W.Write.contents c.args.connection.now c.loop.connection c.next.new.self [] [] so_far.0 (m ∷ []) so_far.3 came.2;
+        copies = ready_copies_nothing (nothing_came []) c.loop.reader so_far.0 m so_far.1 so_far.5 c.if-tag-eq90.true;
+      },
     )
