@@ -13,7 +13,7 @@ use std::io::Read;
 /// How many bytes are asked for at once.
 const CHUNK: usize = 8192;
 
-/// What has come of a server's messages, and which of it the last message is.
+/// The bytes that have come of a server's messages, and the place of the last message among them.
 #[derive(Drop)]
 pub struct Inbox<R> {
     reader: R,
@@ -61,7 +61,7 @@ impl<R: Read> Inbox<R> {
         Ok(self.came.extend_from_slice(&chunk[..count])?)
     }
 
-    /// The last message, where it has come; or the next one, where that is asked for.
+    /// The message at the place of the last one, or `None` where not all of it has come.
     fn front(&self) -> Result<Option<PgMessage<'_>>, Fault>
         ensures { IfOk result (λ found. IfSome found (λ m.
             in_front (drop self.now.start self.now.came.items) ≡ Ok (Some (message_view m)))) }
