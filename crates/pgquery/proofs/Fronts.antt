@@ -89,8 +89,7 @@ after_it (tag ∷ bytes) m h = by (number bytes) refl h
         let after_length : drop 4 bytes ≡ p.1 = ap (λ (q : ℕ × List ℕ). q.1) (number_is bytes p e).1 in
         let after_body : drop size p.1 ≡ m.rest = ap (λ (n : Message). n.rest) (body_is tag size p.1 m (length_is tag p m k).2).1 in
         let body : take size p.1 ++ m.rest ≡ p.1 = ap (λ (xs : List ℕ). take size p.1 ++ xs) (sym after_body) ∙ take-append-drop size p.1 in
-        let whole : take 4 bytes ++ p.1 ≡ bytes = ap (λ (xs : List ℕ). take 4 bytes ++ xs) (sym after_length) ∙ take-append-drop 4 bytes in
-        (
+        let whole : take 4 bytes ++ p.1 ≡ bytes = ap (λ (xs : List ℕ). take 4 bytes ++ xs) (sym after_length) ∙ take-append-drop 4 bytes in (
           tag ∷ (take 4 bytes ++ take size p.1),
           ap (λ (xs : List ℕ). tag ∷ xs) (sym whole ∙ ap (λ (xs : List ℕ). take 4 bytes ++ xs) (sym body) ∙ sym (append_assoc (take 4 bytes) (take size p.1) m.rest)),
         )

@@ -70,11 +70,11 @@ module _ {R W : Type 0} (remaining : R → Option (List ℕ)) (contents : W → 
 
   pub talks_on : (a b c : Connection R W) (s t : List ℕ) (ms ns : List Incoming) → Talks remaining contents a b s ms → Talks remaining contents b c t ns → Talks remaining contents a c (s ++ t) (ms ++ ns)
   talks_on a b c s t ms ns p q = (
-      p.0 ++ q.0,
-      among_both p.0 q.0 ∙ ap (λ (l : List Incoming). l ++ answers_among q.0) p.1 ∙ ap (λ (l : List Incoming). ms ++ l) q.1,
-      Appends-trans _ _ _ s t p.2 q.2,
-      come_on p.0 q.0 _ _ _ p.3 q.3,
-    )
+    p.0 ++ q.0,
+    among_both p.0 q.0 ∙ ap (λ (l : List Incoming). l ++ answers_among q.0) p.1 ∙ ap (λ (l : List Incoming). ms ++ l) q.1,
+    Appends-trans _ _ _ s t p.2 q.2,
+    come_on p.0 q.0 _ _ _ p.3 q.3,
+  )
 
   came_one : (a b : Connection R W) (m : Incoming) (answers : List Incoming) → Come (m ∷ []) (unread remaining a.inbox) (unread remaining b.inbox) → b.writer ≡ a.writer → answers_among (m ∷ []) ≡ answers → Talks remaining contents a b [] answers
   came_one a b m answers p same is = (m ∷ [], is, subst (λ writer. Appends (contents a.writer) (contents writer) []) (sym same) (Appends-nil (contents a.writer)), p)

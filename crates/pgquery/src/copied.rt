@@ -85,13 +85,13 @@ fn push_row(alloc: Global, reader: &PgCopyPieces, line: &mut Vec<u8>) -> Result<
 fn push_rows(
     alloc: Global,
     reader: &mut PgCopyPieces,
-    data: &[u8],
+    piece: &[u8],
     line: &mut Vec<u8>,
 ) -> Result<(), Fault>
     ensures { OnOk result (Grows line.old.items line.new.items
-        (ShowsPiece data.now reader.old reader.new)) }
+        (ShowsPiece piece.now reader.old reader.new)) }
 {
-    reader.feed(data)?;
+    reader.feed(piece)?;
     for _ in 0..u64::MAX {
         if reader.advance()? != PgCopyNext::Row {
             return Ok(());

@@ -214,7 +214,7 @@ pub fn run<R: Read, W: Write, S: Write>(
 ) -> Result<(), Fault>
     ensures { OnOk result (Writes (S.contents lines.old) (S.contents lines.new)
         (Runs R.remaining W.contents (string_bytes options.now.sql) options.now.shown
-            connection.old connection.new)) }
+        connection.old connection.new)) }
 {
     let (described, known) = prepare_at_last(alloc, connection, options.sql.as_str())?;
     let bindings = bound(alloc, described.parameters.as_slice(), options, &known)?;

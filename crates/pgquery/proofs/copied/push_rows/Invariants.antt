@@ -7,4 +7,4 @@ use Rattle.pgquery.proofs.copied.push_rows.Given as goal
 
 -- the rows so far
 abbrev pub invariant-loop : goal.invariant-loop
-invariant-loop l = (rows : List (List Given)) × ReadsRows (with_more l.fn.reader l.fn.data) rows l.reader × (l.line.items ≡ l.fn.line.items ++ flat_map copied_line rows)
+invariant-loop l = (rows : List (List Given)) × ReadsRows (with_more l.fn.reader l.fn.piece) rows l.reader × (l.line.items ≡ l.fn.line.items ++ flat_map copied_line rows)

@@ -19,8 +19,7 @@ loop-preserved g c =
     let last = c.in_ok-last.ensures m.tag m.body came.1 in
     let shown = rw (last.0, last.1) at c.in_ok-push_answer.ensures in
     let line : c.push_answer.new.line.items ≡ shown.0 = shown.2 ∙ ap (λ (xs : List ℕ). xs ++ shown.0) c.clear.ensures.items in
-    let written : Appends (g.S.Write.contents c.loop.lines) (g.S.Write.contents c.write_all.new.self) c.push_answer.new.line.items = search rules in
-    (
+    let written : Appends (g.S.Write.contents c.loop.lines) (g.S.Write.contents c.write_all.new.self) c.push_answer.new.line.items = search rules in (
       so_far.0 ++ m ∷ [],
       so_far.1 ++ shown.0,
       none_more so_far.0 m so_far.2 (ne_eqb _ _ c.if-tag-eq90.false),
@@ -33,8 +32,7 @@ pub returns-then-tag-eq90 : goal.returns-then-tag-eq90
 returns-then-tag-eq90 g c =
     let so_far = c.loop.invariant in
     let came = c.in_ok-tag.ensures in
-    let m : Incoming = record { tag = c.in_ok-tag.tag; body = came.0 } in
-    (
+    let m : Incoming = record { tag = c.in_ok-tag.tag; body = came.0 } in (
       so_far.1,
       so_far.4,
       record {

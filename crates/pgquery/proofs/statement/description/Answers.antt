@@ -14,21 +14,19 @@ loop-preserved g c =
     let so_far = c.loop.invariant in
     let came = c.in_ok-tag.ensures in
     let m : Incoming = record { tag = c.in_ok-tag.tag; body = came.0 } in
-    let last = c.in_ok-last.ensures m.tag m.body came.1 in
-    (
+    let last = c.in_ok-last.ensures m.tag m.body came.1 in (
       so_far.0 ++ m ∷ [],
       none_more so_far.0 m so_far.1 (ne_eqb _ _ c.if-tag-eq90.false),
       talks_on g.R.Read.remaining g.W.Write.contents c.args.connection.now c.loop.connection c.answer.new.self [] [] so_far.0 (m ∷ []) so_far.2 came.2,
-      description_more (0 ∷ 0 ∷ []) so_far.0 m ∙ ap (λ body. described body m) so_far.3 
-      ∙ ap (λ body. described c.loop.described.rows.items (record { tag = m.tag; body = body })) (sym last.1) ∙ sym c.in_ok-note.ensures,
+      description_more (0 ∷ 0 ∷ []) so_far.0 m ∙ ap (λ body. described body m) so_far.3
+          ∙ ap (λ body. described c.loop.described.rows.items (record { tag = m.tag; body = body })) (sym last.1) ∙ sym c.in_ok-note.ensures,
     )
 
 pub returns-then-tag-eq90 : goal.returns-then-tag-eq90
 returns-then-tag-eq90 g c =
     let so_far = c.loop.invariant in
     let came = c.in_ok-tag.ensures in
-    let m : Incoming = record { tag = c.in_ok-tag.tag; body = came.0 } in
-    (
+    let m : Incoming = record { tag = c.in_ok-tag.tag; body = came.0 } in (
       so_far.0 ++ m ∷ [],
       up_to_ready so_far.0 m so_far.1 c.if-tag-eq90.true,
       talks_on g.R.Read.remaining g.W.Write.contents c.args.connection.now c.loop.connection c.answer.new.self [] [] so_far.0 (m ∷ []) so_far.2 came.2,

@@ -8,8 +8,7 @@ returns-then-are_built_in g c = (c.args.connection.now, ([], [], silent g.R.Read
 pub returns : goal.returns
 returns g c =
     let p = c.in_ok-described.ensures in
-    let begun = c.server_types.new.connection in
-    (
+    let begun = c.server_types.new.connection in (
       begun,
       converses_on g.R.Read.remaining g.W.Write.contents c.args.connection.now c.prepare.new.connection begun (p.sent, p.answers, p.talks) c.in_ok-known.ensures,
       c.in_ok-described-2.ensures,

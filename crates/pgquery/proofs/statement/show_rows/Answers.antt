@@ -17,8 +17,7 @@ loop-preserved g c =
     let m : Incoming = record { tag = c.in_ok-tag.tag; body = came.0 } in
     let last = c.in_ok-answer.ensures m.tag m.body came.1 in
     let written : Appends (g.S.Write.contents c.loop.lines) (g.S.Write.contents c.write_all.new.self) c.set_line.new.line.items = search rules in
-    let line = rw (last.0, last.1) at c.in_ok-set_line.ensures in
-    (
+    let line = rw (last.0, last.1) at c.in_ok-set_line.ensures in (
       so_far.0 ++ m ∷ [],
       so_far.1 ++ c.set_line.new.line.items,
       none_more so_far.0 m so_far.2 (ne_eqb _ _ c.if-tag-eq90.false),
@@ -31,8 +30,7 @@ pub returns-then-tag-eq90 : goal.returns-then-tag-eq90
 returns-then-tag-eq90 g c =
     let so_far = c.loop.invariant in
     let came = c.in_ok-tag.ensures in
-    let m : Incoming = record { tag = c.in_ok-tag.tag; body = came.0 } in
-    (
+    let m : Incoming = record { tag = c.in_ok-tag.tag; body = came.0 } in (
       so_far.1,
       so_far.4,
       (

@@ -18,10 +18,9 @@ pub returns-then-not-is_passed_over : goal.returns-then-not-is_passed_over
 returns-then-not-is_passed_over g c =
     let came = c.in_ok-tag.ensures in
     let m : Incoming = record { tag = c.in_ok-tag.tag; body = came.0 } in
-    let after = record c.loop.self { inbox = c.receive.new.self } in
-    (
+    let after = record c.loop.self { inbox = c.receive.new.self } in (
       came.0,
       came.1,
       talks_on g.R.Read.remaining g.W.Write.contents c.args.self.now c.loop.self after [] [] [] (m ∷ []) c.loop.invariant
-      (answers g.R.Read.remaining g.W.Write.contents c.loop.self after m came.2 refl (sym c.is_passed_over.ensures ∙ c.if-not-is_passed_over.true)),
+          (answers g.R.Read.remaining g.W.Write.contents c.loop.self after m came.2 refl (sym c.is_passed_over.ensures ∙ c.if-not-is_passed_over.true)),
     )
