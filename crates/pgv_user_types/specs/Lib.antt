@@ -1,0 +1,3 @@
+pub mod Composites
+pub mod Labels
+pub mod Newtypes

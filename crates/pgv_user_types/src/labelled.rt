@@ -1,0 +1,127 @@
+//! An enum by its labels (PostgreSQL, "Enumerated Types").
+
+ghost use Rattle.std.specs.Prelude.{◌≡◌, true, Some, List, ℕ, Option};
+ghost use Rattle.pgv_value.specs.Utf8.{is_utf8};
+
+use pgv_codec::{Encode, IsNull, PgArgumentBuffer, PgHasArrayType, Plain, Type, encode_text};
+use pgv_types::PgTypeInfo;
+use pgv_value::{CodecError, PgValueRef};
+use std::alloc::{AllocError, Global};
+
+/// A Rust enum whose values are the labels of an enum of the server, which is known by its name.
+pub trait Labelled: Sized + Drop {
+    /// The name of the type.
+    ghost name: { List ℕ };
+
+    /// The label of a value.
+    ghost label_of: { Self → List ℕ };
+
+    /// The value of a label.
+    ghost of_label: { List ℕ → Option Self };
+
+    /// Each value has its own label.
+    ghost again: { (v : Self) → of_label (label_of v) ≡ Some v };
+
+    /// A label is UTF-8.
+    ghost utf8: { (v : Self) → is_utf8 (label_of v) ≡ true };
+
+    /// The name of the type, as the server has it.
+    fn name() -> &'static str
+        ensures { result.now ≡ name };
+
+    /// The label of the value.
+    fn label(&self) -> &'static str
+        ensures { result.now ≡ label_of self.now };
+
+    /// The value of a label, or `None` where no value has it.
+    fn from_label(label: &str) -> Option<Self>
+        ensures { result ≡ of_label label.now };
+}
+
+/// A value of an enum, written and read as its label.
+#[derive(Drop)]
+pub struct PgEnum<T>(pub T);
+
+/// The type of this name.
+impl<T: Labelled> Type for PgEnum<T> {
+    ghost use Rattle.pgv_types.specs.Ty.{named};
+    ghost use Rattle.pgv_types.specs.Relations.{softly};
+
+    ghost info = { named T.name };
+
+    ghost accepts = { λ t. softly t (named T.name) };
+
+    fn type_info() -> PgTypeInfo {
+        PgTypeInfo::with_name(T::name())
+    }
+
+    fn compatible(type_info: &PgTypeInfo) -> bool {
+        type_info.type_compatible(&Self::type_info())
+    }
+}
+
+/// The array of the type of this name.
+impl<T: Labelled> PgHasArrayType for PgEnum<T> {
+    ghost use Rattle.pgv_types.specs.Ty.{array_of};
+    ghost use Rattle.pgv_types.specs.Relations.{softly};
+
+    ghost array_info = { array_of T.name };
+
+    ghost accepts_array = { λ t. softly t (array_of T.name) };
+
+    fn array_type_info() -> PgTypeInfo {
+        PgTypeInfo::array_of(T::name())
+    }
+
+    fn array_compatible(type_info: &PgTypeInfo) -> bool {
+        type_info.type_compatible(&Self::array_type_info())
+    }
+}
+
+/// Written as its label.
+impl<T: Labelled> Encode for PgEnum<T> {
+    ghost use Rattle.pgv_user_types.specs.Labels.{label_written};
+
+    ghost encoding = { λ v. label_written (T.label_of v.0) };
+
+    fn encode_by_ref(&self, out: &mut PgArgumentBuffer) -> Result<IsNull, CodecError> {
+        encode_text(self.0.label(), out)
+    }
+
+    fn size_hint(&self) -> usize {
+        0
+    }
+
+    fn produces(&self) -> Result<Option<PgTypeInfo>, AllocError> {
+        Ok(None)
+    }
+}
+
+/// Read by its label, which is the same in both formats, and read back under every type. A text that is no label is refused with
+/// [`Syntax`](CodecError::Syntax) (C29), and null with C13. No memory is asked for.
+impl<T: Labelled> Plain for PgEnum<T> {
+    ghost use Rattle.std.specs.Prelude.{refl};
+    ghost use Rattle.pgv_value.specs.Outcome.{without_memory};
+    ghost use Rattle.pgv_user_types.specs.Labels.{label_back, label_written, parse_label};
+
+    ghost View = { List ℕ };
+
+    ghost view = { λ v. T.label_of v.0 };
+
+    ghost parse = { without_memory (parse_label T.label_of T.of_label) };
+
+    ghost null = { λ _ _. refl };
+
+    ghost written = { λ _ label. label_written label };
+
+    fn read(_alloc: Global, value: PgValueRef<'_>) -> Result<PgEnum<T>, CodecError> {
+        match T::from_label(value.as_str()?) {
+            Some(known) => Ok(PgEnum(known)),
+            None => Err(CodecError::Syntax),
+        }
+    }
+
+    ghost reads_back = { λ v. label_back T.label_of T.of_label T.again T.utf8 v.0 };
+
+    ghost agrees = { λ _. refl };
+}

@@ -1,0 +1,108 @@
+//! A newtype by what it holds.
+
+ghost use Rattle.std.specs.Prelude.{◌≡◌};
+
+use pgv_codec::{Encode, IsNull, PgArgumentBuffer, PgHasArrayType, Plain, Type};
+use pgv_types::PgTypeInfo;
+use pgv_value::{CodecError, PgValueRef};
+use std::alloc::{AllocError, Global};
+
+/// A Rust type that holds one value of a plain type, and is that type on the server.
+pub trait Newtype: Sized + Drop {
+    /// The type that it holds.
+    type Base: Plain + PgHasArrayType;
+
+    /// What a value holds.
+    ghost base: { Self → Self.Base };
+
+    /// The value that holds this.
+    ghost made: { Self.Base → Self };
+
+    /// A value that is made of this holds it.
+    ghost made_of: { (held : Self.Base) → base (made held) ≡ held };
+
+    /// What the value holds.
+    fn as_base(&self) -> &Self::Base
+        ensures { result.now ≡ base self.now };
+
+    /// The value that holds this.
+    fn from_base(held: Self::Base) -> Self
+        ensures { base result ≡ held };
+}
+
+/// A newtype's value, written and read as what it holds.
+#[derive(Drop)]
+pub struct PgNewtype<T>(pub T);
+
+/// The type of what it holds.
+impl<T: Newtype> Type for PgNewtype<T> {
+    ghost info = { T.Base.info };
+
+    ghost accepts = { T.Base.accepts };
+
+    fn type_info() -> PgTypeInfo {
+        T::Base::type_info()
+    }
+
+    fn compatible(type_info: &PgTypeInfo) -> bool {
+        T::Base::compatible(type_info)
+    }
+}
+
+/// The array type of what it holds.
+impl<T: Newtype> PgHasArrayType for PgNewtype<T> {
+    ghost array_info = { T.Base.array_info };
+
+    ghost accepts_array = { T.Base.accepts_array };
+
+    fn array_type_info() -> PgTypeInfo {
+        T::Base::array_type_info()
+    }
+
+    fn array_compatible(type_info: &PgTypeInfo) -> bool {
+        T::Base::array_compatible(type_info)
+    }
+}
+
+/// Written as what it holds.
+impl<T: Newtype> Encode for PgNewtype<T> {
+    ghost encoding = { λ v. T.Base.encoding (T.base v.0) };
+
+    fn encode_by_ref(&self, out: &mut PgArgumentBuffer) -> Result<IsNull, CodecError> {
+        self.0.as_base().encode_by_ref(out)
+    }
+
+    fn size_hint(&self) -> usize {
+        self.0.as_base().size_hint()
+    }
+
+    fn produces(&self) -> Result<Option<PgTypeInfo>, AllocError> {
+        self.0.as_base().produces()
+    }
+}
+
+/// Read, and read back, as what it holds.
+impl<T: Newtype> Plain for PgNewtype<T> {
+    ghost use Rattle.pgv_user_types.specs.Newtypes.{newtype_back};
+
+    ghost View = { T.Base.View };
+
+    ghost view = { λ v. T.Base.view (T.base v.0) };
+
+    ghost parse = { T.Base.parse };
+
+    ghost null = { T.Base.null };
+
+    ghost written = { T.Base.written };
+
+    ghost kept = { λ v. record { 0 = T.made (T.Base.kept (T.base v.0)) } };
+
+    fn read(alloc: Global, value: PgValueRef<'_>) -> Result<PgNewtype<T>, CodecError> {
+        Ok(PgNewtype(T::from_base(T::Base::read(alloc, value)?)))
+    }
+
+    ghost reads_back = { λ v. newtype_back T.base T.made T.Base.encoding T.Base.parse T.Base.view
+        T.Base.kept T.made_of T.Base.reads_back v.0 };
+
+    ghost agrees = { λ v. T.Base.agrees (T.base v.0) };
+}
