@@ -38,8 +38,8 @@ pub trait Labelled: Sized + Drop {
         ensures { result ≡ of_label label.now };
 }
 
-/// A value of an enum, written and read as its label.
-#[derive(Drop)]
+/// A value of an enum, written and read as its label, which is the same in both formats: one with the label `ok` is `6f6b`.
+#[derive(Clone, Copy, Debug, PartialEq, Eq)]
 pub struct PgEnum<T>(pub T);
 
 /// The type of this name.

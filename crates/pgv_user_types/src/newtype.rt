@@ -30,8 +30,8 @@ pub trait Newtype: Sized + Drop {
         ensures { base result ≡ held };
 }
 
-/// A newtype's value, written and read as what it holds.
-#[derive(Drop)]
+/// A newtype's value, written and read as what it holds: one that holds the `int4` 7 is `00000007`.
+#[derive(Clone, Copy, Debug, PartialEq, Eq)]
 pub struct PgNewtype<T>(pub T);
 
 /// The type of what it holds.
