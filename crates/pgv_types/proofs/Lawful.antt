@@ -5,8 +5,8 @@ use Rattle.pgv_types.specs.Agree.{agree}
 use Rattle.pgv_types.proofs.Tells.{agree-refl, agree-sym}
 use Rattle.pgv_types.specs.Ty.{Ty, builtin, custom, named, by_oid, simple, domain}
 use Rattle.pgv_types.specs.Facts.{base_oid, name_of, element_of, type_size}
-use Rattle.pgv_types.specs.Relations.{Level, level, Levels, last, over, levels, related, decide, known_or, common_base, softly, exactly, by_rules, elements_or}
-use Rattle.pgv_types.proofs.Related.{related_is, rest_at, by_bases}
+use Rattle.pgv_types.specs.Relations.{Level, level, Levels, last, over, levels, related, decide, known_or, common_base, softly, exactly, by_rules, elements_or, rest_related, is_by_oid}
+use Rattle.pgv_types.proofs.Related.{related_is, rest_at, by_bases, past_open}
 
 -- ---- the rules
 
@@ -17,6 +17,9 @@ same_rest soft a b (Some x) (Some y) = refl
 
 pub rules : (soft : Bool) (a b : Ty) → related soft (levels a) (levels b) ≡ by_rules soft (λ x y. related soft (levels x) (levels y)) a b
 rules soft a b = related_is soft a b ∙ ap (decide soft (level a) (level b)) (same_rest soft a b (element_of a) (element_of b))
+
+pub by_rest : (soft : Bool) (a b : Ty) → common_base (base_oid a) (base_oid b) ≡ None → (soft && (is_by_oid a || is_by_oid b)) ≡ false → rest_related soft a b ≡ related soft (levels a) (levels b)
+by_rest soft a b e h = sym (same_rest soft a b (element_of a) (element_of b)) ∙ past_open soft a b e h
 
 -- ---- reflexive
 

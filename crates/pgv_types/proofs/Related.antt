@@ -70,7 +70,7 @@ module _ (soft : Bool) (a b : Ty) where
   pub when_open : common_base (base_oid a) (base_oid b) ≡ None → is_open ≡ true → true ≡ related soft (levels a) (levels b)
   when_open e h = ap (λ t. cond t true the_rest) (sym h) ∙ past_bases e
 
-  past_open : common_base (base_oid a) (base_oid b) ≡ None → is_open ≡ false → the_rest ≡ related soft (levels a) (levels b)
+  pub past_open : common_base (base_oid a) (base_oid b) ≡ None → is_open ≡ false → the_rest ≡ related soft (levels a) (levels b)
   past_open e h = ap (λ t. cond t true the_rest) (sym h) ∙ past_bases e
 
   pub by_names_first : common_base (base_oid a) (base_oid b) ≡ None → is_open ≡ false → element_of a ≡ None → agree (name_of a) (name_of b) ≡ related soft (levels a) (levels b)

@@ -90,3 +90,7 @@ elements_or same names (Some x) (Some y) = same x y
 abbrev pub by_rules : Bool → (Ty → Ty → Bool) → Ty → Ty → Bool
 by_rules soft same a b =
     decide soft (level a) (level b) (elements_or same (agree (name_of a) (name_of b)) (element_of a) (element_of b))
+
+abbrev pub rest_related : Bool → Ty → Ty → Bool
+rest_related soft a b =
+    elements_or (λ x y. related soft (levels x) (levels y)) (agree (name_of a) (name_of b)) (element_of a) (element_of b)

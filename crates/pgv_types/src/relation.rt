@@ -2,7 +2,8 @@
 ghost use Rattle.std.specs.Prelude.{◌≡◌, ◌&&◌, ◌||◌, option_map};
 ghost use Rattle.pgv_types.specs.Agree.{agree};
 ghost use Rattle.pgv_types.specs.Facts.{base_oid, name_of};
-ghost use Rattle.pgv_types.specs.Relations.{softly, exactly, related, levels, common_base, is_by_oid};
+ghost use Rattle.pgv_types.specs.Parts.{ref_type, IsHeld};
+ghost use Rattle.pgv_types.specs.Relations.{softly, exactly, related, rest_related, levels, common_base, is_by_oid};
 ghost use Rattle.pgv_types.specs.Shown.{type_of};
 
 use crate::{Oid, PgType, PgTypeInfo, PgTypeKind, PgTypeRef};
@@ -57,29 +58,31 @@ impl PgTypeInfo {
         self.0.name().agrees(&other.0.name())
     }
 
-    /// Whether the two are softly, or else exactly, the same. It takes no more of the stack for elements within
-    /// elements.
+    /// The last rule: two elements in the same way, else the catalogue names.
+    fn rest_related(&self, other: &PgTypeInfo, soft: bool) -> bool
+        ensures { result ≡ rest_related soft self.now other.now }
+    {
+        let Some(first) = self.0.array_element() else {
+            return self.names_agree(other);
+        };
+        let Some(second) = other.0.array_element() else {
+            return self.names_agree(other);
+        };
+        elements_related(first, second, soft)
+    }
+
+    /// Whether the two are softly, or else exactly, the same.
+    #[inline(always)]
     fn is_related(&self, other: &PgTypeInfo, soft: bool) -> bool
         ensures { result ≡ related soft (levels self.now) (levels other.now) }
     {
-        let mut first = PgTypeRef::Borrowed(self);
-        let mut second = PgTypeRef::Borrowed(other);
-        loop {
-            if let Some(same) = first.as_ref().same_base(second.as_ref()) {
-                return same;
-            }
-            if first.as_ref().is_open(second.as_ref(), soft) {
-                return true;
-            }
-            let Some(first_element) = first.element() else {
-                return first.as_ref().names_agree(second.as_ref());
-            };
-            let Some(second_element) = second.element() else {
-                return first.as_ref().names_agree(second.as_ref());
-            };
-            first = first_element;
-            second = second_element;
+        if let Some(same) = self.same_base(other) {
+            return same;
         }
+        if self.is_open(other, soft) {
+            return true;
+        }
+        self.rest_related(other, soft)
     }
 
     /// Whether the two types are softly the same: a value of the one is then accepted where the other is expected.
@@ -91,12 +94,6 @@ impl PgTypeInfo {
     pub fn type_compatible(&self, other: &PgTypeInfo) -> bool
         ensures { result ≡ softly self.now other.now }
     {
-        if let Some(same) = self.same_base(other) {
-            return same;
-        }
-        if self.is_open(other, true) {
-            return true;
-        }
         self.is_related(other, true)
     }
 
@@ -108,5 +105,31 @@ impl PgTypeInfo {
         ensures { result ≡ exactly self.now other.now }
     {
         self.is_related(other, false)
+    }
+}
+
+/// Whether two elements are softly, or else exactly, the same. It takes no more of the stack for elements within elements.
+fn elements_related(first: PgTypeRef<'_>, second: PgTypeRef<'_>, soft: bool) -> bool
+    requires first { IsHeld first }
+    requires second { IsHeld second }
+    ensures { result ≡ related soft (levels (ref_type first.entry)) (levels (ref_type second.entry)) }
+{
+    let mut left = first;
+    let mut right = second;
+    loop {
+        if let Some(same) = left.as_ref().same_base(right.as_ref()) {
+            return same;
+        }
+        if left.as_ref().is_open(right.as_ref(), soft) {
+            return true;
+        }
+        let Some(left_element) = left.element() else {
+            return left.as_ref().names_agree(right.as_ref());
+        };
+        let Some(right_element) = right.element() else {
+            return left.as_ref().names_agree(right.as_ref());
+        };
+        left = left_element;
+        right = right_element;
     }
 }

@@ -1,51 +1,17 @@
-use Rattle.std.proofs.Common.{ap, sym, ◌∙◌, option_map, arith}
-use Rattle.pgv_types.specs.Parts.{ref_type}
-use Rattle.pgv_types.proofs.Elements.{element_size}
-use Rattle.pgv_types.proofs.Related.{by_bases, when_open, by_names_first, by_names_second, by_elements}
+use Rattle.std.proofs.Common.{sym, ◌∙◌}
+use Rattle.pgv_types.proofs.Lawful.{by_rest}
+use Rattle.pgv_types.proofs.Related.{by_bases, when_open}
 use Rattle.pgv_types.proofs.type_info.PgTypeInfo.is_related.Goals as goal
 
 pub returns-in-Some : goal.returns-in-Some
 returns-in-Some c =
-    let bases = rw (c.as_ref.ensures, c.as_ref-in-loop-same.ensures) at (sym c.same_base.ensures ∙ c.in-Some.is) in
-    by_bases c.args.soft (ref_type c.loop-same.first) (ref_type c.loop-same.second) c.in-Some.same bases ∙ c.loop-same.invariant.2
+    by_bases c.args.soft c.args.self.now c.args.other.now c.in-Some.same (sym c.same_base.ensures ∙ c.in-Some.is)
 
 pub returns-then-is_open : goal.returns-then-is_open
 returns-then-is_open c =
-    let none = rw (c.as_ref.ensures, c.as_ref-in-loop-same.ensures) at (sym c.same_base.ensures ∙ c.in_default.is) in
-    let is_open = rw (c.as_ref-in-loop-same-2.ensures, c.as_ref-in-loop-same-3.ensures) at (sym c.is_open.ensures ∙ c.if-is_open.true) in
-    when_open c.args.soft (ref_type c.loop-same.first) (ref_type c.loop-same.second) none is_open ∙ c.loop-same.invariant.2
+    when_open c.args.soft c.args.self.now c.args.other.now (sym c.same_base.ensures ∙ c.in_default.is) (sym c.is_open.ensures ∙ c.if-is_open.true)
 
-pub returns-in_default-element : goal.returns-in_default-element
-returns-in_default-element c =
-    let none = rw (c.as_ref.ensures, c.as_ref-in-loop-same.ensures) at (sym c.same_base.ensures ∙ c.in_default.is) in
-    let is_open = rw (c.as_ref-in-loop-same-2.ensures, c.as_ref-in-loop-same-3.ensures) at (sym c.is_open.ensures ∙ c.if-is_open.false) in
-    let agree = rw (c.as_ref-in_default-element.ensures, c.as_ref-in_default-element-2.ensures) at c.names_agree.ensures in
-    agree
-    ∙ by_names_first c.args.soft (ref_type c.loop-same.first) (ref_type c.loop-same.second) none is_open (sym c.element.ensures.element ∙ ap (option_map ref_type) c.in_default-element.is)
-    ∙ c.loop-same.invariant.2
-
-pub returns-in_default-element-2 : goal.returns-in_default-element-2
-returns-in_default-element-2 c =
-    let none = rw (c.as_ref.ensures, c.as_ref-in-loop-same.ensures) at (sym c.same_base.ensures ∙ c.in_default.is) in
-    let is_open = rw (c.as_ref-in-loop-same-2.ensures, c.as_ref-in-loop-same-3.ensures) at (sym c.is_open.ensures ∙ c.if-is_open.false) in
-    let agree = rw (c.as_ref-in_default-element-2-2.ensures, c.as_ref-in_default-element-2-3.ensures) at c.names_agree-in_default-element-2.ensures in
-    agree
-    ∙ by_names_second c.args.soft (ref_type c.loop-same.first) (ref_type c.loop-same.second) none is_open (sym c.element-in-loop-same.ensures.element ∙ ap (option_map ref_type) c.in_default-element-2.is)
-    ∙ c.loop-same.invariant.2
-
-pub loop-same-smaller : goal.loop-same-smaller
-loop-same-smaller c =
-    let e = element_size (ref_type c.loop-same.first) (ref_type c.in-Some-element.first_element) (sym c.element.ensures.element ∙ ap (option_map ref_type) c.in-Some-element.is) in
-    omega (arith, e)
-
-pub loop-same-preserved : goal.loop-same-preserved
-loop-same-preserved c =
-    let none = rw (c.as_ref.ensures, c.as_ref-in-loop-same.ensures) at (sym c.same_base.ensures ∙ c.in_default.is) in
-    let is_open = rw (c.as_ref-in-loop-same-2.ensures, c.as_ref-in-loop-same-3.ensures) at (sym c.is_open.ensures ∙ c.if-is_open.false) in
-    let first = sym c.element.ensures.element ∙ ap (option_map ref_type) c.in-Some-element.is in
-    let second = sym c.element-in-loop-same.ensures.element ∙ ap (option_map ref_type) c.in-Some-element-2.is in (
-      c.in-Some-element.ensures.held,
-      c.in-Some-element-2.ensures.held,
-      by_elements c.args.soft (ref_type c.loop-same.first) (ref_type c.loop-same.second) (ref_type c.in-Some-element.first_element) (ref_type c.in-Some-element-2.second_element) none is_open first second
-          ∙ c.loop-same.invariant.2,
-    )
+pub returns : goal.returns
+returns c =
+    c.rest_related.ensures
+    ∙ by_rest c.args.soft c.args.self.now c.args.other.now (sym c.same_base.ensures ∙ c.in_default.is) (sym c.is_open.ensures ∙ c.if-is_open.false)
