@@ -15,6 +15,7 @@ ghost use Rattle.pgv_codec.specs.Encoding.{field};
 ghost use Rattle.pgv_codec.specs.Plain.{ArrayIsPlain, FieldIsPlain};
 ghost use Rattle.pgv_codec.specs.RecordCalls.{RecordIsItsAccepted};
 ghost use Rattle.pgv_codec.specs.ScalarBinary.{is_void_or_record};
+ghost use Rattle.pgv_codec.specs.TypeRow.{FitsAlways};
 
 use crate::traits::{Codec, Decode, Plain, ReadBack, Type};
 use crate::types::field_list::{FieldList, KeptList, WrittenList};
@@ -141,21 +142,21 @@ pub fn plain_values_fit<T: Plain>()
 /// A value of one of these types fits every type: `bool`, `i8`, `i16`, `i32`, `i64`, `Oid`, `String`, `Uuid`, `Date`,
 /// `Time`, `DateTime`, `Timestamp`, `PgInterval`, `IpNetwork`, `IpAddr`.
 pub fn plain_types_fit()
-    ensures bool { (v : _) (t : Ty) (oids : List Oid) → ⟦<bool as ReadBack>⟧.fits v t oids }
-    ensures i8 { (v : _) (t : Ty) (oids : List Oid) → ⟦<i8 as ReadBack>⟧.fits v t oids }
-    ensures i16 { (v : _) (t : Ty) (oids : List Oid) → ⟦<i16 as ReadBack>⟧.fits v t oids }
-    ensures i32 { (v : _) (t : Ty) (oids : List Oid) → ⟦<i32 as ReadBack>⟧.fits v t oids }
-    ensures i64 { (v : _) (t : Ty) (oids : List Oid) → ⟦<i64 as ReadBack>⟧.fits v t oids }
-    ensures oid { (v : _) (t : Ty) (oids : List Oid) → ⟦<pgv_types::Oid as ReadBack>⟧.fits v t oids }
-    ensures string { (v : _) (t : Ty) (oids : List Oid) → ⟦<String as ReadBack>⟧.fits v t oids }
-    ensures uuid { (v : _) (t : Ty) (oids : List Oid) → ⟦<uuid::Uuid as ReadBack>⟧.fits v t oids }
-    ensures date { (v : _) (t : Ty) (oids : List Oid) → ⟦<jiff::civil::Date as ReadBack>⟧.fits v t oids }
-    ensures time { (v : _) (t : Ty) (oids : List Oid) → ⟦<jiff::civil::Time as ReadBack>⟧.fits v t oids }
-    ensures date_time { (v : _) (t : Ty) (oids : List Oid) → ⟦<jiff::civil::DateTime as ReadBack>⟧.fits v t oids }
-    ensures timestamp { (v : _) (t : Ty) (oids : List Oid) → ⟦<jiff::Timestamp as ReadBack>⟧.fits v t oids }
-    ensures interval { (v : _) (t : Ty) (oids : List Oid) → ⟦<pgv_value::PgInterval as ReadBack>⟧.fits v t oids }
-    ensures network { (v : _) (t : Ty) (oids : List Oid) → ⟦<pgv_text::IpNetwork as ReadBack>⟧.fits v t oids }
-    ensures address { (v : _) (t : Ty) (oids : List Oid) → ⟦<std::net::IpAddr as ReadBack>⟧.fits v t oids }
+    ensures bool { FitsAlways ⟦<bool as ReadBack>⟧.fits }
+    ensures i8 { FitsAlways ⟦<i8 as ReadBack>⟧.fits }
+    ensures i16 { FitsAlways ⟦<i16 as ReadBack>⟧.fits }
+    ensures i32 { FitsAlways ⟦<i32 as ReadBack>⟧.fits }
+    ensures i64 { FitsAlways ⟦<i64 as ReadBack>⟧.fits }
+    ensures oid { FitsAlways ⟦<pgv_types::Oid as ReadBack>⟧.fits }
+    ensures string { FitsAlways ⟦<String as ReadBack>⟧.fits }
+    ensures uuid { FitsAlways ⟦<uuid::Uuid as ReadBack>⟧.fits }
+    ensures date { FitsAlways ⟦<jiff::civil::Date as ReadBack>⟧.fits }
+    ensures time { FitsAlways ⟦<jiff::civil::Time as ReadBack>⟧.fits }
+    ensures date_time { FitsAlways ⟦<jiff::civil::DateTime as ReadBack>⟧.fits }
+    ensures timestamp { FitsAlways ⟦<jiff::Timestamp as ReadBack>⟧.fits }
+    ensures interval { FitsAlways ⟦<pgv_value::PgInterval as ReadBack>⟧.fits }
+    ensures network { FitsAlways ⟦<pgv_text::IpNetwork as ReadBack>⟧.fits }
+    ensures address { FitsAlways ⟦<std::net::IpAddr as ReadBack>⟧.fits }
 {}
 
 /// `None` fits every type and `Some` fits where its value does; lists, arrays and fields fit where the types of their

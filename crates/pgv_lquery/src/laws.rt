@@ -5,9 +5,9 @@ ghost use Rattle.std.specs.Prelude.{◌≡◌, ◌↔◌, ◌&&◌, List, true};
 ghost use Rattle.std.specs.List.{list_all};
 ghost use Rattle.std.specs.Iterator.{AlwaysYields};
 ghost use Rattle.pgv_types.specs.Ty.{Ty};
-ghost use Rattle.pgv_types.specs.Relations.{softly};
 ghost use Rattle.pgv_types.specs.declared.oid.Oid.{Oid};
 ghost use Rattle.pgv_codec.specs.Encoding.{plainly, writes};
+ghost use Rattle.pgv_codec.specs.TypeRow.{IsCodecRow};
 ghost use Rattle.pgv_lquery.specs.Laws.{LevelIsRead, OneLevel, OneQuery, OneVariant, PrintedQueryIsRead, QueryIsRead, ReadQueryIsReadAgain, VariantIsRead};
 ghost use Rattle.pgv_lquery.specs.LevelView.{level_of};
 ghost use Rattle.pgv_lquery.specs.Queries.{Level, is_count, is_level, is_query, is_variant};
@@ -20,14 +20,10 @@ use pgv_codec::{Decode, Encode, PgHasArrayType, ReadBack, Type};
 /// `_lquery`, known by their name. It is read back if it has a level, each level that is not a star has a variant, and
 /// no `NonStar` begins with an empty label.
 pub fn lquery_is_an_lquery()
-    ensures types { ⟦<crate::PgLQuery as Type>⟧.info ≡ lquery }
-    ensures accepts { (t : Ty) → ⟦<crate::PgLQuery as Type>⟧.accepts t ≡ softly t lquery }
-    ensures arrays { ⟦<crate::PgLQuery as PgHasArrayType>⟧.array_info ≡ lquery_array }
-    ensures accepts_arrays { (t : Ty) → ⟦<crate::PgLQuery as PgHasArrayType>⟧.accepts_array t ≡ softly t lquery_array }
-    ensures written { (v : List Level) → ⟦<crate::PgLQuery as Encode>⟧.encoding v ≡ plainly (writes (query_image v)) }
-    ensures view { ⟦<crate::PgLQuery as Decode>⟧.view ≡ (λ v. v) }
-    ensures parsed { ⟦<crate::PgLQuery as Decode>⟧.parse ≡ parse_query }
-    ensures kept { ⟦<crate::PgLQuery as ReadBack>⟧.kept ≡ (λ v. v) }
+    ensures row { IsCodecRow ⟦<crate::PgLQuery as Type>⟧ ⟦<crate::PgLQuery as PgHasArrayType>⟧ ⟦<crate::PgLQuery as Encode>⟧
+        ⟦<crate::PgLQuery as Decode>⟧ ⟦<crate::PgLQuery as ReadBack>⟧.kept (record { info = lquery; array = lquery_array;
+        encoding = λ v. plainly (writes (query_image v));
+        view = λ v. v; parse = parse_query; kept = λ v. v }) }
     ensures fits { (v : List Level) (t : Ty) (os : List Oid) → query_fits v t os → ⟦<crate::PgLQuery as ReadBack>⟧.fits v t os }
 {}
 

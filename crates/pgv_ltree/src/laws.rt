@@ -3,29 +3,23 @@
 ghost use Rattle.std.specs.Prelude.{◌≡◌, ◌↔◌, ℕ, List, true};
 ghost use Rattle.std.specs.List.{list_all};
 ghost use Rattle.std.specs.Iterator.{AlwaysYields};
-ghost use Rattle.pgv_types.specs.Ty.{Ty};
-ghost use Rattle.pgv_types.specs.Relations.{softly};
-ghost use Rattle.pgv_types.specs.declared.oid.Oid.{Oid};
 ghost use Rattle.pgv_codec.specs.Encoding.{plainly, writes};
+ghost use Rattle.pgv_codec.specs.TypeRow.{FitsAlways, IsCodecRow};
 ghost use Rattle.pgv_ltree.specs.Labels.{is_label};
 ghost use Rattle.pgv_ltree.specs.Laws.{OneTree, PrintedTreeIsRead, TreeIsRead};
 ghost use Rattle.pgv_ltree.specs.TreesBack.{tree_kept};
 ghost use Rattle.pgv_ltree.specs.TreesCodec.{ltree, ltree_array, parse_tree, tree_image};
 
-use pgv_codec::{Decode, Encode, PgHasArrayType, Plain, ReadBack, Type};
+use pgv_codec::{Decode, Encode, PgHasArrayType, ReadBack, Type};
 
 /// A `PgLTree` is an `ltree`, known by its name: the version 1 and its text, as `01612e62` for `a.b`. Its arrays are
 /// `_ltree`, known by their name. A tree without labels is read back as one empty label.
 pub fn ltree_is_an_ltree()
-    ensures types { ⟦<crate::PgLTree as Type>⟧.info ≡ ltree }
-    ensures accepts { (t : Ty) → ⟦<crate::PgLTree as Type>⟧.accepts t ≡ softly t ltree }
-    ensures arrays { ⟦<crate::PgLTree as PgHasArrayType>⟧.array_info ≡ ltree_array }
-    ensures accepts_arrays { (t : Ty) → ⟦<crate::PgLTree as PgHasArrayType>⟧.accepts_array t ≡ softly t ltree_array }
-    ensures written { (v : List (List ℕ)) → ⟦<crate::PgLTree as Encode>⟧.encoding v ≡ plainly (writes (tree_image v)) }
-    ensures view { ⟦<crate::PgLTree as Decode>⟧.view ≡ (λ v. v) }
-    ensures parsed { ⟦<crate::PgLTree as Plain>⟧.parse ≡ parse_tree }
-    ensures kept { ⟦<crate::PgLTree as ReadBack>⟧.kept ≡ tree_kept }
-    ensures fits { (v : List (List ℕ)) (t : Ty) (os : List Oid) → ⟦<crate::PgLTree as ReadBack>⟧.fits v t os }
+    ensures row { IsCodecRow ⟦<crate::PgLTree as Type>⟧ ⟦<crate::PgLTree as PgHasArrayType>⟧ ⟦<crate::PgLTree as Encode>⟧
+        ⟦<crate::PgLTree as Decode>⟧ ⟦<crate::PgLTree as ReadBack>⟧.kept (record { info = ltree; array = ltree_array;
+        encoding = λ v. plainly (writes (tree_image v));
+        view = λ v. v; parse = parse_tree; kept = tree_kept }) }
+    ensures fits { FitsAlways ⟦<crate::PgLTree as ReadBack>⟧.fits }
 {}
 
 /// `tree_read` reads labels from a text iff the grammar of label trees assigns these labels to the text.

@@ -1,37 +1,34 @@
 //! Laws of numerics and of amounts of money. Each is the contract of a function that does nothing.
 
-ghost use Rattle.std.specs.Prelude.{◌≡◌, ◌↔◌, true, List};
+ghost use Rattle.std.specs.Prelude.{◌≡◌, ◌↔◌, true};
 ghost use Rattle.std.specs.Int.{w64};
-ghost use Rattle.pgv_codec.specs.Encoding.{writes};
-ghost use Rattle.pgv_codec.specs.TypeRow.{IsBuiltIn, IsWrittenAs};
+ghost use Rattle.pgv_types.specs.Ty.{builtin};
+ghost use Rattle.pgv_codec.specs.Encoding.{plainly, writes};
+ghost use Rattle.pgv_codec.specs.TypeRow.{FitsAlways, IsCodecRow};
 ghost use Rattle.pgv_codec.specs.ScalarBinary.{signed_image};
 ghost use Rattle.pgv_numeric.specs.Laws.{NumericIsRead, OneNumeric, OneMoney, NumericsAreEqual};
 ghost use Rattle.pgv_numeric.specs.MoneyCodec.{parse_money, MoneyIsRead};
 ghost use Rattle.pgv_numeric.specs.Numeric.{numeric_image, numeric_of, parse_numeric};
-ghost use Rattle.pgv_types.specs.declared.oid.Oid.{Oid};
-ghost use Rattle.pgv_types.specs.Ty.{Ty};
 ghost use Rattle.pgv_value.specs.Outcome.{without_memory};
 
 use crate::PgMoney;
-use pgv_codec::{Decode, Encode, PgHasArrayType, Plain, ReadBack, Type};
+use pgv_codec::{Decode, Encode, PgHasArrayType, ReadBack, Type};
 
 /// A `PgMoney` is a money (OID 790), eight bytes in two's complement. Its arrays are `money[]` (791).
 pub fn money_is_a_money()
-    ensures types { IsBuiltIn 790 ⟦<crate::PgMoney as Type>⟧.info ⟦<crate::PgMoney as Type>⟧.accepts }
-    ensures arrays { IsBuiltIn 791 ⟦<crate::PgMoney as PgHasArrayType>⟧.array_info ⟦<crate::PgMoney as PgHasArrayType>⟧.accepts_array }
-    ensures written { IsWrittenAs (λ amount. writes (signed_image w64 amount.0)) ⟦<crate::PgMoney as Encode>⟧.encoding }
-    ensures view { ⟦<crate::PgMoney as Decode>⟧.view ≡ (λ amount. amount.0) }
-    ensures parsed { ⟦<crate::PgMoney as Plain>⟧.parse ≡ without_memory parse_money }
+    ensures { IsCodecRow ⟦<PgMoney as Type>⟧ ⟦<PgMoney as PgHasArrayType>⟧ ⟦<PgMoney as Encode>⟧
+        ⟦<PgMoney as Decode>⟧ ⟦<PgMoney as ReadBack>⟧.kept (record { info = builtin 790; array = builtin 791;
+        encoding = λ amount. plainly (writes (signed_image w64 amount.0));
+        view = λ amount. amount.0; parse = without_memory parse_money; kept = λ amount. amount.0 }) }
 {}
 
 /// A `PgNumeric` is a numeric (OID 1700), a list of words of two bytes. Its arrays are `numeric[]` (1231). More than
 /// 32767 digits are refused before memory is asked for, and else the first digit that isn't from 0 to 9999.
 pub fn numeric_is_a_numeric()
-    ensures types { IsBuiltIn 1700 ⟦<crate::PgNumeric as Type>⟧.info ⟦<crate::PgNumeric as Type>⟧.accepts }
-    ensures arrays { IsBuiltIn 1231 ⟦<crate::PgNumeric as PgHasArrayType>⟧.array_info ⟦<crate::PgNumeric as PgHasArrayType>⟧.accepts_array }
-    ensures written { IsWrittenAs (λ n. numeric_image (numeric_of n)) ⟦<crate::PgNumeric as Encode>⟧.encoding }
-    ensures view { ⟦<crate::PgNumeric as Decode>⟧.view ≡ numeric_of }
-    ensures parsed { ⟦<crate::PgNumeric as Plain>⟧.parse ≡ parse_numeric }
+    ensures { IsCodecRow ⟦<crate::PgNumeric as Type>⟧ ⟦<crate::PgNumeric as PgHasArrayType>⟧ ⟦<crate::PgNumeric as Encode>⟧
+        ⟦<crate::PgNumeric as Decode>⟧ ⟦<crate::PgNumeric as ReadBack>⟧.kept (record { info = builtin 1700; array = builtin 1231;
+        encoding = λ n. plainly (numeric_image (numeric_of n));
+        view = numeric_of; parse = parse_numeric; kept = numeric_of }) }
 {}
 
 /// `money_in_binary` reads an amount from bytes iff the bytes begin with the eight bytes of this amount.
@@ -66,6 +63,6 @@ pub fn equal_numerics()
 
 /// A `PgMoney` and a `PgNumeric` fit every type, so that they are read back under each.
 pub fn plain_types_fit()
-    ensures money { (v : _) (t : Ty) (oids : List Oid) → ⟦<crate::PgMoney as ReadBack>⟧.fits v t oids }
-    ensures numeric { (v : _) (t : Ty) (oids : List Oid) → ⟦<crate::PgNumeric as ReadBack>⟧.fits v t oids }
+    ensures money { FitsAlways ⟦<PgMoney as ReadBack>⟧.fits }
+    ensures numeric { FitsAlways ⟦<crate::PgNumeric as ReadBack>⟧.fits }
 {}

@@ -13,16 +13,16 @@ ghost use Rattle.pgv_value.specs.declared.error.CodecError.TheVariants.{Unexpect
 ghost use Rattle.pgv_value.specs.declared.value.PgValueFormat.{PgValueFormat as Format};
 ghost use Rattle.pgv_value.specs.declared.value.PgValueFormat.TheVariants.{Binary};
 ghost use Rattle.pgv_nest.specs.NestText.{TextIs};
-ghost use Rattle.pgv_codec.specs.TypeRow.{IsBuiltIn};
+ghost use Rattle.pgv_codec.specs.TypeRow.{ComesBack, IsReadAs, IsWrittenAs};
 ghost use Rattle.pgv_range.specs.RangeBinary.{IsRange, IsRangeOver, OneRange};
 ghost use Rattle.pgv_range.specs.RangeFits.{BoundsFit, range_kept};
 ghost use Rattle.pgv_range.specs.RangeGrammar.{parse_range};
 ghost use Rattle.pgv_codec.specs.Encoding.{plainly};
 ghost use Rattle.pgv_range.specs.RangeImage.{range_image};
 ghost use Rattle.pgv_range.specs.RangeInText.{IsRangeInText, OneRangeInText};
-ghost use Rattle.pgv_range.specs.RangeLaws.{ComesBack, RangeFieldComesBack, TakesOnlyForCopies};
+ghost use Rattle.pgv_range.specs.RangeLaws.{Converts, RangeFieldComesBack, TakesOnlyForCopies};
 ghost use Rattle.pgv_range.specs.RangeOf.{RangeOf, range_view};
-ghost use Rattle.pgv_range.specs.RangeRow.{ComesBackUnderRanges, IsBuiltInRange};
+ghost use Rattle.pgv_range.specs.RangeRow.{ComesBackUnderRanges, IsRangeRow};
 ghost use Rattle.pgv_range.specs.RangeShown.{range_eq, range_text};
 ghost use Rattle.pgv_range.specs.RangeView.{IsOfBounds};
 ghost use Rattle.pgv_range.specs.declared.range.PgRange.TheVariants.{Bounds, Empty};
@@ -81,9 +81,8 @@ pub fn null_is_no_range<T: Type + Decode>()
 ///
 /// The empty range is a flag byte, and is kept.
 pub fn ranges_are_their_bounds<T: ReadBack + Type>()
-    ensures written { ⟦<PgRange<T> as Encode>⟧.encoding ≡ (λ r. plainly (range_image (range_view T.encoding r))) }
-    ensures view { ⟦<PgRange<T> as Decode>⟧.view ≡ range_view T.view }
-    ensures parsed { ⟦<PgRange<T> as Decode>⟧.parse ≡ parse_range T.info T.parse }
+    ensures written { IsWrittenAs ⟦<PgRange<T> as Encode>⟧ (λ r. plainly (range_image (range_view T.encoding r))) }
+    ensures read { IsReadAs ⟦<PgRange<T> as Decode>⟧ (range_view T.view) (parse_range T.info T.parse) }
     ensures kept { ⟦<PgRange<T> as ReadBack>⟧.kept ≡ range_kept T.kept }
 {}
 
@@ -132,10 +131,14 @@ pub fn own_ranges_fit()
 pub fn ranges_read_back<T: ReadBack + Type + PgHasArrayType>()
 where
     PgRange<T>: Type + PgHasArrayType,
-    ensures range { ComesBack ⟦<PgRange<T> as Encode>⟧.encoding ⟦<PgRange<T> as Decode>⟧.parse ⟦<PgRange<T> as Decode>⟧.view ⟦<PgRange<T> as ReadBack>⟧.kept ⟦<PgRange<T> as ReadBack>⟧.fits }
-    ensures ranges { ComesBack ⟦<Ranges<T> as Encode>⟧.encoding ⟦<Ranges<T> as Decode>⟧.parse ⟦<Ranges<T> as Decode>⟧.view ⟦<Ranges<T> as ReadBack>⟧.kept ⟦<Ranges<T> as ReadBack>⟧.fits }
-    ensures of_lists { ComesBack ⟦<OfLists<T> as Encode>⟧.encoding ⟦<OfLists<T> as Decode>⟧.parse ⟦<OfLists<T> as Decode>⟧.view ⟦<OfLists<T> as ReadBack>⟧.kept ⟦<OfLists<T> as ReadBack>⟧.fits }
-    ensures field { RangeFieldComesBack T.encoding T.info T.parse T.view T.kept ⟦<PgRange<T> as Type>⟧.info ⟦<PgRange<T> as Type>⟧.accepts ⟦<PgRange<T> as ReadBack>⟧.fits }
+    ensures range { ComesBack ⟦<PgRange<T> as Encode>⟧ ⟦<PgRange<T> as Decode>⟧ ⟦<PgRange<T> as ReadBack>⟧.kept
+        ⟦<PgRange<T> as ReadBack>⟧.fits }
+    ensures ranges { ComesBack ⟦<Ranges<T> as Encode>⟧ ⟦<Ranges<T> as Decode>⟧ ⟦<Ranges<T> as ReadBack>⟧.kept
+        ⟦<Ranges<T> as ReadBack>⟧.fits }
+    ensures of_lists { ComesBack ⟦<OfLists<T> as Encode>⟧ ⟦<OfLists<T> as Decode>⟧ ⟦<OfLists<T> as ReadBack>⟧.kept
+        ⟦<OfLists<T> as ReadBack>⟧.fits }
+    ensures field { RangeFieldComesBack T.encoding T.info T.parse T.view T.kept
+        ⟦<PgRange<T> as Type>⟧.info ⟦<PgRange<T> as Type>⟧.accepts ⟦<PgRange<T> as ReadBack>⟧.fits }
 {
     read_back::<PgRange<T>>();
     read_back::<Ranges<T>>();
@@ -146,12 +149,12 @@ where
 /// The conversion of a pair of bounds, or of a range of Rust, gives the range with exactly its bounds, and never the
 /// empty range.
 pub fn conversions<T>()
-    ensures pair { (from : _) (r : _) → ⟦<PgRange<T> as From<(Bound<T>, Bound<T>)>>⟧.from_gives from r ↔ (r ≡ Bounds from.0 from.1) }
-    ensures range { (from : _) (r : _) → ⟦<PgRange<T> as From<Range<T>>>⟧.from_gives from r ↔ (r ≡ Bounds (Included from.start) (Excluded from.end)) }
-    ensures range_from { (from : _) (r : _) → ⟦<PgRange<T> as From<RangeFrom<T>>>⟧.from_gives from r ↔ (r ≡ Bounds (Included from.start) Unbounded) }
-    ensures inclusive { (from : _) (r : _) → ⟦<PgRange<T> as From<RangeInclusive<T>>>⟧.from_gives from r ↔ (r ≡ Bounds (Included (range_inclusive_start from)) (Included (range_inclusive_end from))) }
-    ensures range_to { (from : _) (r : _) → ⟦<PgRange<T> as From<RangeTo<T>>>⟧.from_gives from r ↔ (r ≡ Bounds Unbounded (Excluded from.end)) }
-    ensures to_inclusive { (from : _) (r : _) → ⟦<PgRange<T> as From<RangeToInclusive<T>>>⟧.from_gives from r ↔ (r ≡ Bounds Unbounded (Included from.end)) }
+    ensures pair { Converts ⟦<PgRange<T> as From<(Bound<T>, Bound<T>)>>⟧.from_gives (λ from. Bounds from.0 from.1) }
+    ensures range { Converts ⟦<PgRange<T> as From<Range<T>>>⟧.from_gives (λ from. Bounds (Included from.start) (Excluded from.end)) }
+    ensures range_from { Converts ⟦<PgRange<T> as From<RangeFrom<T>>>⟧.from_gives (λ from. Bounds (Included from.start) Unbounded) }
+    ensures inclusive { Converts ⟦<PgRange<T> as From<RangeInclusive<T>>>⟧.from_gives (λ from. Bounds (Included (range_inclusive_start from)) (Included (range_inclusive_end from))) }
+    ensures range_to { Converts ⟦<PgRange<T> as From<RangeTo<T>>>⟧.from_gives (λ from. Bounds Unbounded (Excluded from.end)) }
+    ensures to_inclusive { Converts ⟦<PgRange<T> as From<RangeToInclusive<T>>>⟧.from_gives (λ from. Bounds Unbounded (Included from.end)) }
 {}
 
 /// The conversion of an array of two bounds gives the range with these bounds, and never the empty range.
@@ -172,30 +175,30 @@ pub fn equal_by_bounds<T: PartialEq>()
 
 /// A `PgRange<i32>` is an int4range (OID 3904). Its arrays are `int4range[]` (3905).
 pub fn i32_range_is_an_int4range()
-    ensures types { IsBuiltInRange 3904 23 ⟦<i32 as Type>⟧.accepts ⟦<PgRange<i32> as Type>⟧.info ⟦<PgRange<i32> as Type>⟧.accepts }
-    ensures arrays { IsBuiltIn 3905 ⟦<PgRange<i32> as PgHasArrayType>⟧.array_info ⟦<PgRange<i32> as PgHasArrayType>⟧.accepts_array }
+    ensures { IsRangeRow ⟦<i32 as Type>⟧ ⟦<PgRange<i32> as Type>⟧ ⟦<PgRange<i32> as PgHasArrayType>⟧
+        3904 23 3905 }
 {}
 
 /// A `PgRange<i64>` is an int8range (OID 3926). Its arrays are `int8range[]` (3927).
 pub fn i64_range_is_an_int8range()
-    ensures types { IsBuiltInRange 3926 20 ⟦<i64 as Type>⟧.accepts ⟦<PgRange<i64> as Type>⟧.info ⟦<PgRange<i64> as Type>⟧.accepts }
-    ensures arrays { IsBuiltIn 3927 ⟦<PgRange<i64> as PgHasArrayType>⟧.array_info ⟦<PgRange<i64> as PgHasArrayType>⟧.accepts_array }
+    ensures { IsRangeRow ⟦<i64 as Type>⟧ ⟦<PgRange<i64> as Type>⟧ ⟦<PgRange<i64> as PgHasArrayType>⟧
+        3926 20 3927 }
 {}
 
 /// A `PgRange<Date>` is a daterange (OID 3912). Its arrays are `daterange[]` (3913).
 pub fn date_range_is_a_daterange()
-    ensures types { IsBuiltInRange 3912 1082 ⟦<Date as Type>⟧.accepts ⟦<PgRange<Date> as Type>⟧.info ⟦<PgRange<Date> as Type>⟧.accepts }
-    ensures arrays { IsBuiltIn 3913 ⟦<PgRange<Date> as PgHasArrayType>⟧.array_info ⟦<PgRange<Date> as PgHasArrayType>⟧.accepts_array }
+    ensures { IsRangeRow ⟦<Date as Type>⟧ ⟦<PgRange<Date> as Type>⟧ ⟦<PgRange<Date> as PgHasArrayType>⟧
+        3912 1082 3913 }
 {}
 
 /// A `PgRange<DateTime>` is a tsrange (OID 3908). Its arrays are `tsrange[]` (3909).
 pub fn date_time_range_is_a_tsrange()
-    ensures types { IsBuiltInRange 3908 1114 ⟦<DateTime as Type>⟧.accepts ⟦<PgRange<DateTime> as Type>⟧.info ⟦<PgRange<DateTime> as Type>⟧.accepts }
-    ensures arrays { IsBuiltIn 3909 ⟦<PgRange<DateTime> as PgHasArrayType>⟧.array_info ⟦<PgRange<DateTime> as PgHasArrayType>⟧.accepts_array }
+    ensures { IsRangeRow ⟦<DateTime as Type>⟧ ⟦<PgRange<DateTime> as Type>⟧ ⟦<PgRange<DateTime> as PgHasArrayType>⟧
+        3908 1114 3909 }
 {}
 
 /// A `PgRange<Timestamp>` is a tstzrange (OID 3910). Its arrays are `tstzrange[]` (3911).
 pub fn timestamp_range_is_a_tstzrange()
-    ensures types { IsBuiltInRange 3910 1184 ⟦<Timestamp as Type>⟧.accepts ⟦<PgRange<Timestamp> as Type>⟧.info ⟦<PgRange<Timestamp> as Type>⟧.accepts }
-    ensures arrays { IsBuiltIn 3911 ⟦<PgRange<Timestamp> as PgHasArrayType>⟧.array_info ⟦<PgRange<Timestamp> as PgHasArrayType>⟧.accepts_array }
+    ensures { IsRangeRow ⟦<Timestamp as Type>⟧ ⟦<PgRange<Timestamp> as Type>⟧ ⟦<PgRange<Timestamp> as PgHasArrayType>⟧
+        3910 1184 3911 }
 {}
