@@ -93,7 +93,8 @@ impl<R: Read, W: Write> Connection<R, W> {
 
     /// Starts the session of a user, as a server wants it that trusts him.
     pub fn start(&mut self, alloc: Global, user: &str, database: &str) -> Result<(), Fault>
-        ensures { OnOk result (Starts R.remaining W.contents user.now database.now self.old self.new) }
+        ensures { OnOk result (Starts R.remaining W.contents user.now database.now
+            self.old self.new) }
     {
         let mut out = Vec::new(alloc);
         message::write_startup(

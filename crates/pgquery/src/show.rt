@@ -84,7 +84,8 @@ fn push_string(text: &[u8], line: &mut Vec<u8>) -> Result<(), AllocError>
 
 /// Appends the value of a column: null as `\N`, and else its text.
 fn push_value(row: &PgRow<'_>, place: usize, line: &mut Vec<u8>) -> Result<(), Fault>
-    ensures { OnOk result (line.new.items ≡ line.old.items ++ value_shown (value_at row.now place)) }
+    ensures { OnOk result (line.new.items ≡ line.old.items
+        ++ value_shown (value_at row.now place)) }
 {
     let value = row.try_get_raw(place)?;
     if value.is_null() {

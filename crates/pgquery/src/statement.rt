@@ -105,7 +105,8 @@ fn execute<R: Read, W: Write>(
     format: PgValueFormat,
 ) -> Result<(), Fault>
     ensures { OnOk result (Sends R.remaining W.contents
-        (executing bindings.now.arguments bindings.now.format format) connection.old connection.new) }
+        (executing bindings.now.arguments bindings.now.format format)
+        connection.old connection.new) }
 {
     let mut out = Vec::new(alloc);
     message::write_bind(&mut out, "", "", &bindings.arguments, &[format])?;

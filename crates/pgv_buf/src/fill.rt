@@ -55,7 +55,8 @@ pub(crate) fn put_number(bytes: &mut Vec<u8>, place: usize, value: u32)
 pub(crate) fn write_oids(bytes: &mut Vec<u8>, gaps: &[usize], oids: &[Oid])
     requires many { length oids.now ≡ length gaps.now }
     requires within { Within (length bytes.old.items) (places_after 0 gaps.now) (numbers oids.now) }
-    ensures { bytes.new.items ≡ written (places_after 0 gaps.now) (numbers oids.now) bytes.old.items }
+    ensures { bytes.new.items ≡ written (places_after 0 gaps.now)
+        (numbers oids.now) bytes.old.items }
 {
     let mut place = 0;
     for (i, gap) in gaps.iter().enumerate() {
@@ -66,7 +67,8 @@ pub(crate) fn write_oids(bytes: &mut Vec<u8>, gaps: &[usize], oids: &[Oid])
 
 /// What a slot shows for a parameter type: its first case whose type is softly equal to it, else its default.
 fn choose<'a>(slot: &'a Slot, parameter: &PgTypeInfo) -> &'a [u8]
-    ensures { result.now ≡ chosen parameter.now (kept_of slot.now).standard (kept_of slot.now).cases }
+    ensures { result.now ≡ chosen parameter.now (kept_of slot.now).standard
+        (kept_of slot.now).cases }
 {
     for case in &slot.cases {
         if case.0.type_compatible(parameter) {
@@ -85,8 +87,11 @@ fn write_run(
     parameter: &PgTypeInfo,
 ) -> usize
     requires many { length gaps.now ≡ length slots.now }
-    requires within { Within (length bytes.old.items) (places_after before gaps.now) (choices (replicate (length slots.now) parameter.now) (map kept_of slots.now)) }
-    ensures items { bytes.new.items ≡ written (places_after before gaps.now) (choices (replicate (length slots.now) parameter.now) (map kept_of slots.now)) bytes.old.items }
+    requires within { Within (length bytes.old.items) (places_after before gaps.now)
+        (choices (replicate (length slots.now) parameter.now) (map kept_of slots.now)) }
+    ensures items { bytes.new.items ≡ written (places_after before gaps.now)
+        (choices (replicate (length slots.now) parameter.now)
+        (map kept_of slots.now)) bytes.old.items }
     ensures len { length bytes.new.items ≡ length bytes.old.items }
     ensures last { result ≡ before + sum gaps.now }
 {
@@ -109,8 +114,10 @@ pub(crate) fn write_slots(
     requires arguments { length counts.now ≤ length types.now }
     requires slots { sum counts.now ≡ length slots.now }
     requires gaps { length gaps.now ≡ length slots.now }
-    requires within { Within (length bytes.old.items) (places_after 0 gaps.now) (choices (slot_types types.now counts.now) (map kept_of slots.now)) }
-    ensures { bytes.new.items ≡ written (places_after 0 gaps.now) (choices (slot_types types.now counts.now) (map kept_of slots.now)) bytes.old.items }
+    requires within { Within (length bytes.old.items) (places_after 0 gaps.now)
+        (choices (slot_types types.now counts.now) (map kept_of slots.now)) }
+    ensures { bytes.new.items ≡ written (places_after 0 gaps.now)
+        (choices (slot_types types.now counts.now) (map kept_of slots.now)) bytes.old.items }
 {
     if slots.is_empty() {
         return;

@@ -138,7 +138,8 @@ impl Tokens {
         cases: Vec<(PgTypeInfo, Vec<u8>)>,
     ) -> Result<(), AllocError>
         requires { CasesFit (length default.now) (cases_of cases.items) }
-        ensures ok { OnOk result (self.new ≡ self.old ++ blank (slot default.now (cases_of cases.items) ∷ [])) }
+        ensures ok { OnOk result (self.new ≡ self.old
+            ++ blank (slot default.now (cases_of cases.items) ∷ [])) }
         ensures err { OnErr result (self.new ≡ self.old) }
     {
         let place = self.bytes.len();
@@ -194,8 +195,10 @@ impl Tokens {
 
     /// Goes back to the beginning of the list that has the numbers of a mark.
     pub fn back(&mut self, mark: Mark)
-        requires { (front : List Cell) × (rest : List Cell) × (self.old ≡ front ++ rest) × (mark ≡ mark_of front) }
-        ensures { (front : List Cell) (rest : List Cell) → self.old ≡ front ++ rest → mark ≡ mark_of front → self.new ≡ front }
+        requires { (front : List Cell) × (rest : List Cell) × (self.old ≡ front ++ rest)
+            × (mark ≡ mark_of front) }
+        ensures { (front : List Cell) (rest : List Cell) → self.old ≡ front ++ rest
+            → mark ≡ mark_of front → self.new ≡ front }
     {
         self.bytes.truncate(mark.bytes);
         self.holes.truncate(mark.holes);
@@ -207,8 +210,12 @@ impl Tokens {
     /// Puts a number, the highest byte first, in place of the four bytes after a mark.
     #[inline(always)]
     pub fn put_u32(&mut self, mark: Mark, value: u32)
-        requires { (front : List Cell) × (xs : List ℕ) × (rest : List Cell) × (self.old ≡ front ++ fixed_bytes xs ++ rest) × (length xs ≡ 4) × (mark ≡ mark_of front) }
-        ensures { (front : List Cell) (xs : List ℕ) (rest : List Cell) → self.old ≡ front ++ fixed_bytes xs ++ rest → length xs ≡ 4 → mark ≡ mark_of front → self.new ≡ front ++ fixed_bytes (be4 value) ++ rest }
+        requires { (front : List Cell) × (xs : List ℕ) × (rest : List Cell)
+            × (self.old ≡ front ++ fixed_bytes xs ++ rest) × (length xs ≡ 4)
+            × (mark ≡ mark_of front) }
+        ensures { (front : List Cell) (xs : List ℕ) (rest : List Cell)
+            → self.old ≡ front ++ fixed_bytes xs ++ rest → length xs ≡ 4 → mark ≡ mark_of front
+            → self.new ≡ front ++ fixed_bytes (be4 value) ++ rest }
     {
         put_number(&mut self.bytes, mark.bytes, value);
     }
@@ -220,7 +227,8 @@ impl Tokens {
         requires arguments { length counts.now ≤ length types.now }
         requires slots { sum counts.now ≡ slot_count self.old }
         requires holes { length oids.now ≡ hole_count self.old }
-        ensures { self.new ≡ fill_slots (slot_types types.now counts.now) (fill_holes oids.now self.old) }
+        ensures { self.new ≡ fill_slots (slot_types types.now counts.now)
+            (fill_holes oids.now self.old) }
     {
         self.fill_oids(oids);
         self.fill_types(types, counts);

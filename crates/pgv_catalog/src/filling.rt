@@ -21,8 +21,10 @@ pub fn fill<N: PgNames>(
     parameters: &[PgTypeInfo],
     catalog: &N,
 ) -> Result<(), CatalogError>
-    ensures written { OnOk result (IsFilled (N.named catalog.now) arguments.old parameters.now arguments.new) }
-    ensures refused { IfErr result (FillRefused (N.named catalog.now) arguments.old parameters.now) }
+    ensures written { OnOk result (IsFilled (N.named catalog.now) arguments.old
+        parameters.now arguments.new) }
+    ensures refused { IfErr result (FillRefused (N.named catalog.now)
+        arguments.old parameters.now) }
     ensures unchanged { OnErr result (arguments.new ≡ arguments.old) }
 {
     if parameters.len() != arguments.len() {

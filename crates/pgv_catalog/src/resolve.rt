@@ -73,7 +73,8 @@ fn labels_of_type(
     rows: &[PgLabelRow],
     oid: Oid,
 ) -> Result<RcSlice<RcStr>, AllocError>
-    ensures { IfOk result (λ labels. map rc_str_bytes (rc_slice_items labels) ≡ label_rows oid.0 rows.now) }
+    ensures { IfOk result (λ labels. map rc_str_bytes (rc_slice_items labels)
+        ≡ label_rows oid.0 rows.now) }
 {
     let mut labels = Vec::new(alloc);
     for row in rows {
@@ -91,7 +92,8 @@ fn kind_of(
     row: &PgTypeRow,
     known: &PgServerTypes,
 ) -> Result<Option<PgTypeKind>, AllocError>
-    ensures { IfOk result (λ found. option_map kind_shown found ≡ kind_in rows.now known.now row.now) }
+    ensures { IfOk result (λ found. option_map kind_shown found
+        ≡ kind_in rows.now known.now row.now) }
 {
     let types = rows.types.as_slice();
     match row.class {
@@ -168,7 +170,8 @@ fn add_ready(
     ensures each { OnOk result (AreMade rows.now [] known.new) }
     ensures fewer { IfOk result (λ added. added ≡ true →
         unmade known.new rows.now.types.items < unmade known.old rows.now.types.items) }
-    ensures waiting { IfOk result (λ added. added ≡ false → AllAwait rows.now known.new rows.now.types.items) }
+    ensures waiting { IfOk result (λ added. added ≡ false
+        → AllAwait rows.now known.new rows.now.types.items) }
 {
     let mut added = false;
     for row in rows.types.as_slice() {
@@ -198,7 +201,8 @@ fn make_all(alloc: Global, rows: &PgCatalogRows) -> Result<PgServerTypes, AllocE
 /// The first row whose type was not made.
 fn missing(rows: &[PgTypeRow], known: &PgServerTypes) -> Option<Oid>
     ensures missing { IfSome result (λ oid. with_oid oid.0 known.now ≡ None) }
-    ensures there { IfSome result (λ oid. (row : TypeRow) × IsIn row rows.now × (row.oid.0 ≡ oid.0)) }
+    ensures there { IfSome result (λ oid. (row : TypeRow) × IsIn row rows.now
+        × (row.oid.0 ≡ oid.0)) }
     ensures none { result ≡ None → AreAllKnown rows.now known.now }
 {
     for row in rows {

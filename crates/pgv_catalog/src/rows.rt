@@ -64,8 +64,10 @@ pub struct PgTypeRow {
 impl PgTypeRow {
     /// The type in a row of [`TYPES`](crate::TYPES).
     pub fn read(alloc: Global, row: &PgRow<'_>) -> Result<PgTypeRow, ColumnError<usize>>
-        ensures read { IfOk result (ReadsType (⟦<(Oid, String, String, bool, i8, Oid) as FromRow>⟧.parse row.now)) }
-        ensures refused { IfErr result (⟦<(Oid, String, String, bool, i8, Oid) as FromRow>⟧.refused row.now) }
+        ensures read { IfOk result
+            (ReadsType (⟦<(Oid, String, String, bool, i8, Oid) as FromRow>⟧.parse row.now)) }
+        ensures refused { IfErr result (⟦<(Oid, String, String, bool, i8, Oid) as FromRow>⟧.refused
+            row.now) }
     {
         let (oid, schema, name, is_visible, letter, part) = row.as_tuple::<
             (Oid, String, String, bool, i8, Oid),

@@ -133,7 +133,8 @@ impl PgArgumentBuffer {
         cases: Vec<(PgTypeInfo, Vec<u8>)>,
     ) -> Result<(), CodecError>
         requires { CasesFit (length standard.now) (cases_of cases.items) }
-        ensures ok { OnOk result (self.new ≡ self.old ++ blank (slot standard.now (cases_of cases.items) ∷ [])) }
+        ensures ok { OnOk result (self.new ≡ self.old
+            ++ blank (slot standard.now (cases_of cases.items) ∷ [])) }
         ensures err { IfErr result (λ e. (e ≡ Memory) × (self.new ≡ self.old)) }
     {
         self.tokens.push_slot(standard, cases)?;
@@ -230,7 +231,8 @@ impl PgArgumentBuffer {
     #[inline(always)]
     fn push_counted(&mut self, value: &[u8]) -> Result<(), CodecError>
         requires { length value.now ≤ 16 }
-        ensures ok { OnOk result (self.new ≡ self.old ++ blank (bytes (be4 (length value.now) ++ value.now))) }
+        ensures ok { OnOk result (self.new ≡ self.old
+            ++ blank (bytes (be4 (length value.now) ++ value.now))) }
         ensures err { IfErr result (λ e. (e ≡ Memory) × (self.new ≡ self.old)) }
     {
         let after = 4 + value.len();
@@ -246,7 +248,9 @@ impl PgArgumentBuffer {
     #[inline(always)]
     pub(crate) fn push_frame(&mut self, value: &[u8]) -> Result<bool, CodecError>
         requires { length value.now ≤ 16 }
-        ensures ok { IfOk result (λ done. (done ≡ true) × Appended (frame (plainly (writes (Some (image_of (bytes value.now)))))) self.old self.new) }
+        ensures ok { IfOk result (λ done. (done ≡ true)
+            × Appended (frame (plainly (writes (Some (image_of (bytes value.now))))))
+            self.old self.new) }
         ensures err { IfErr result (λ e. e ≡ Memory) }
         ensures appended { OnErr result (Extends self.old self.new) }
     {
@@ -262,7 +266,8 @@ impl PgArgumentBuffer {
     /// Appends the frame of null, and answers `true`.
     #[inline(always)]
     pub(crate) fn push_null(&mut self) -> Result<bool, CodecError>
-        ensures ok { IfOk result (λ done. (done ≡ true) × (self.new ≡ self.old ++ blank (bytes (be4 4294967295)))) }
+        ensures ok { IfOk result (λ done. (done ≡ true)
+            × (self.new ≡ self.old ++ blank (bytes (be4 4294967295)))) }
         ensures err { IfErr result (λ e. (e ≡ Memory) × (self.new ≡ self.old)) }
     {
         self.push_u32(NULL_LENGTH)?;
@@ -291,8 +296,10 @@ impl PgArgumentBuffer {
 
     /// Goes back to where `mark` was taken: what was appended since is gone, its holes and slots too.
     pub fn back(&mut self, mark: Mark)
-        requires { (front : List Cell) × (rest : List Cell) × (self.old ≡ front ++ rest) × (mark ≡ mark_of front) }
-        ensures { (front : List Cell) (rest : List Cell) → self.old ≡ front ++ rest → mark ≡ mark_of front → self.new ≡ front }
+        requires { (front : List Cell) × (rest : List Cell) × (self.old ≡ front ++ rest)
+            × (mark ≡ mark_of front) }
+        ensures { (front : List Cell) (rest : List Cell) → self.old ≡ front ++ rest
+            → mark ≡ mark_of front → self.new ≡ front }
     {
         self.tokens.back(mark);
     }
@@ -300,8 +307,12 @@ impl PgArgumentBuffer {
     /// A number in place of four bytes.
     #[inline(always)]
     pub(crate) fn put_u32(&mut self, mark: Mark, value: u32)
-        requires { (front : List Cell) × (xs : List ℕ) × (rest : List Cell) × (self.old ≡ front ++ fixed_bytes xs ++ rest) × (length xs ≡ 4) × (mark ≡ mark_of front) }
-        ensures { (front : List Cell) (xs : List ℕ) (rest : List Cell) → self.old ≡ front ++ fixed_bytes xs ++ rest → length xs ≡ 4 → mark ≡ mark_of front → self.new ≡ front ++ fixed_bytes (be4 value) ++ rest }
+        requires { (front : List Cell) × (xs : List ℕ) × (rest : List Cell)
+            × (self.old ≡ front ++ fixed_bytes xs ++ rest) × (length xs ≡ 4)
+            × (mark ≡ mark_of front) }
+        ensures { (front : List Cell) (xs : List ℕ) (rest : List Cell)
+            → self.old ≡ front ++ fixed_bytes xs ++ rest → length xs ≡ 4 → mark ≡ mark_of front
+            → self.new ≡ front ++ fixed_bytes (be4 value) ++ rest }
     {
         self.tokens.put_u32(mark, value);
     }
@@ -313,7 +324,8 @@ impl PgArgumentBuffer {
         requires arguments { length counts.now ≤ length types.now }
         requires slots { sum counts.now ≡ slot_count self.old }
         requires holes { length oids.now ≡ hole_count self.old }
-        ensures { self.new ≡ fill_slots (slot_types types.now counts.now) (fill_holes oids.now self.old) }
+        ensures { self.new ≡ fill_slots (slot_types types.now counts.now)
+            (fill_holes oids.now self.old) }
     {
         self.tokens.fill(types, counts, oids);
     }

@@ -39,21 +39,41 @@ pub fn tuple_is_its_list<
     ensures one { ⟦<(A,) as Decode>⟧.parse ≡ parse_record ⟦<(A,) as FieldList>⟧.step }
     ensures one_view { (v : _) → ⟦<(A,) as Decode>⟧.view v ≡ ⟦<(A,) as FieldList>⟧.view v }
     ensures two { ⟦<(A, B) as Decode>⟧.parse ≡ parse_record ⟦<(A, (B,)) as FieldList>⟧.step }
-    ensures two_view { (v : _) → ⟦<(A, B) as Decode>⟧.view v ≡ ⟦<(A, (B,)) as FieldList>⟧.view (v.0, record { 0 = v.1 }) }
-    ensures three { ⟦<(A, B, C) as Decode>⟧.parse ≡ parse_record ⟦<(A, (B, (C,))) as FieldList>⟧.step }
-    ensures three_view { (v : _) → ⟦<(A, B, C) as Decode>⟧.view v ≡ ⟦<(A, (B, (C,))) as FieldList>⟧.view (v.0, (v.1, record { 0 = v.2 })) }
-    ensures four { ⟦<(A, B, C, D) as Decode>⟧.parse ≡ parse_record ⟦<(A, (B, (C, (D,)))) as FieldList>⟧.step }
-    ensures four_view { (v : _) → ⟦<(A, B, C, D) as Decode>⟧.view v ≡ ⟦<(A, (B, (C, (D,)))) as FieldList>⟧.view (v.0, (v.1, (v.2, record { 0 = v.3 }))) }
-    ensures five { ⟦<(A, B, C, D, E) as Decode>⟧.parse ≡ parse_record ⟦<(A, (B, (C, (D, (E,))))) as FieldList>⟧.step }
-    ensures five_view { (v : _) → ⟦<(A, B, C, D, E) as Decode>⟧.view v ≡ ⟦<(A, (B, (C, (D, (E,))))) as FieldList>⟧.view (v.0, (v.1, (v.2, (v.3, record { 0 = v.4 })))) }
-    ensures six { ⟦<(A, B, C, D, E, F) as Decode>⟧.parse ≡ parse_record ⟦<(A, (B, (C, (D, (E, (F,)))))) as FieldList>⟧.step }
-    ensures six_view { (v : _) → ⟦<(A, B, C, D, E, F) as Decode>⟧.view v ≡ ⟦<(A, (B, (C, (D, (E, (F,)))))) as FieldList>⟧.view (v.0, (v.1, (v.2, (v.3, (v.4, record { 0 = v.5 }))))) }
-    ensures seven { ⟦<(A, B, C, D, E, F, G) as Decode>⟧.parse ≡ parse_record ⟦<(A, (B, (C, (D, (E, (F, (G,))))))) as FieldList>⟧.step }
-    ensures seven_view { (v : _) → ⟦<(A, B, C, D, E, F, G) as Decode>⟧.view v ≡ ⟦<(A, (B, (C, (D, (E, (F, (G,))))))) as FieldList>⟧.view (v.0, (v.1, (v.2, (v.3, (v.4, (v.5, record { 0 = v.6 })))))) }
-    ensures eight { ⟦<(A, B, C, D, E, F, G, H) as Decode>⟧.parse ≡ parse_record ⟦<(A, (B, (C, (D, (E, (F, (G, (H,)))))))) as FieldList>⟧.step }
-    ensures eight_view { (v : _) → ⟦<(A, B, C, D, E, F, G, H) as Decode>⟧.view v ≡ ⟦<(A, (B, (C, (D, (E, (F, (G, (H,)))))))) as FieldList>⟧.view (v.0, (v.1, (v.2, (v.3, (v.4, (v.5, (v.6, record { 0 = v.7 }))))))) }
-    ensures nine { ⟦<(A, B, C, D, E, F, G, H, I) as Decode>⟧.parse ≡ parse_record ⟦<(A, (B, (C, (D, (E, (F, (G, (H, (I,))))))))) as FieldList>⟧.step }
-    ensures nine_view { (v : _) → ⟦<(A, B, C, D, E, F, G, H, I) as Decode>⟧.view v ≡ ⟦<(A, (B, (C, (D, (E, (F, (G, (H, (I,))))))))) as FieldList>⟧.view (v.0, (v.1, (v.2, (v.3, (v.4, (v.5, (v.6, (v.7, record { 0 = v.8 })))))))) }
+    ensures two_view { (v : _) → ⟦<(A, B) as Decode>⟧.view v
+        ≡ ⟦<(A, (B,)) as FieldList>⟧.view (v.0, record { 0 = v.1 }) }
+    ensures three { ⟦<(A, B, C) as Decode>⟧.parse
+        ≡ parse_record ⟦<(A, (B, (C,))) as FieldList>⟧.step }
+    ensures three_view { (v : _) → ⟦<(A, B, C) as Decode>⟧.view v
+        ≡ ⟦<(A, (B, (C,))) as FieldList>⟧.view (v.0, (v.1, record { 0 = v.2 })) }
+    ensures four { ⟦<(A, B, C, D) as Decode>⟧.parse
+        ≡ parse_record ⟦<(A, (B, (C, (D,)))) as FieldList>⟧.step }
+    ensures four_view { (v : _) → ⟦<(A, B, C, D) as Decode>⟧.view v
+        ≡ ⟦<(A, (B, (C, (D,)))) as FieldList>⟧.view (v.0, (v.1, (v.2, record { 0 = v.3 }))) }
+    ensures five { ⟦<(A, B, C, D, E) as Decode>⟧.parse
+        ≡ parse_record ⟦<(A, (B, (C, (D, (E,))))) as FieldList>⟧.step }
+    ensures five_view { (v : _) → ⟦<(A, B, C, D, E) as Decode>⟧.view v
+        ≡ ⟦<(A, (B, (C, (D, (E,))))) as FieldList>⟧.view
+        (v.0, (v.1, (v.2, (v.3, record { 0 = v.4 })))) }
+    ensures six { ⟦<(A, B, C, D, E, F) as Decode>⟧.parse
+        ≡ parse_record ⟦<(A, (B, (C, (D, (E, (F,)))))) as FieldList>⟧.step }
+    ensures six_view { (v : _) → ⟦<(A, B, C, D, E, F) as Decode>⟧.view v
+        ≡ ⟦<(A, (B, (C, (D, (E, (F,)))))) as FieldList>⟧.view
+        (v.0, (v.1, (v.2, (v.3, (v.4, record { 0 = v.5 }))))) }
+    ensures seven { ⟦<(A, B, C, D, E, F, G) as Decode>⟧.parse
+        ≡ parse_record ⟦<(A, (B, (C, (D, (E, (F, (G,))))))) as FieldList>⟧.step }
+    ensures seven_view { (v : _) → ⟦<(A, B, C, D, E, F, G) as Decode>⟧.view v
+        ≡ ⟦<(A, (B, (C, (D, (E, (F, (G,))))))) as FieldList>⟧.view
+        (v.0, (v.1, (v.2, (v.3, (v.4, (v.5, record { 0 = v.6 })))))) }
+    ensures eight { ⟦<(A, B, C, D, E, F, G, H) as Decode>⟧.parse
+        ≡ parse_record ⟦<(A, (B, (C, (D, (E, (F, (G, (H,)))))))) as FieldList>⟧.step }
+    ensures eight_view { (v : _) → ⟦<(A, B, C, D, E, F, G, H) as Decode>⟧.view v
+        ≡ ⟦<(A, (B, (C, (D, (E, (F, (G, (H,)))))))) as FieldList>⟧.view
+        (v.0, (v.1, (v.2, (v.3, (v.4, (v.5, (v.6, record { 0 = v.7 }))))))) }
+    ensures nine { ⟦<(A, B, C, D, E, F, G, H, I) as Decode>⟧.parse
+        ≡ parse_record ⟦<(A, (B, (C, (D, (E, (F, (G, (H, (I,))))))))) as FieldList>⟧.step }
+    ensures nine_view { (v : _) → ⟦<(A, B, C, D, E, F, G, H, I) as Decode>⟧.view v
+        ≡ ⟦<(A, (B, (C, (D, (E, (F, (G, (H, (I,))))))))) as FieldList>⟧.view
+        (v.0, (v.1, (v.2, (v.3, (v.4, (v.5, (v.6, (v.7, record { 0 = v.8 })))))))) }
 {}
 
 /// A list of fields is one field, or one field and then a shorter list: in its bytes and texts, in what it says, and in what
@@ -61,22 +81,36 @@ pub fn tuple_is_its_list<
 ///
 /// It holds also of fields that can only be read, as tuples and `()`.
 pub fn lists_are_their_fields<A: Decode + Type, Rest: FieldList>()
-    ensures one { SameFields ⟦<(A,) as FieldList>⟧.in_binary (IsField A.accepts A.parse) × SameParts ⟦<(A,) as FieldList>⟧.in_text (IsTextField A.parse) }
+    ensures one { SameFields ⟦<(A,) as FieldList>⟧.in_binary (IsField A.accepts A.parse)
+        × SameParts ⟦<(A,) as FieldList>⟧.in_text (IsTextField A.parse) }
     ensures one_view { (a : _) → ⟦<(A,) as FieldList>⟧.view a ≡ A.view a.0 }
     ensures one_step { ⟦<(A,) as FieldList>⟧.step ≡ next_field A.accepts A.parse }
-    ensures more { SameFields ⟦<(A, Rest) as FieldList>⟧.in_binary (IsField A.accepts A.parse and Rest.in_binary) × SameParts ⟦<(A, Rest) as FieldList>⟧.in_text (IsTextField A.parse before Rest.in_text) }
-    ensures more_view { (l : _) → ⟦<(A, Rest) as FieldList>⟧.view l ≡ (let both : A.View × Rest.View = (A.view l.0, Rest.view l.1) in both) }
-    ensures more_steps { ⟦<(A, Rest) as FieldList>⟧.step ≡ (next_field A.accepts A.parse then Rest.step) }
+    ensures more { SameFields ⟦<(A, Rest) as FieldList>⟧.in_binary
+        (IsField A.accepts A.parse and Rest.in_binary)
+        × SameParts ⟦<(A, Rest) as FieldList>⟧.in_text (IsTextField A.parse before Rest.in_text) }
+    ensures more_view { (l : _) → ⟦<(A, Rest) as FieldList>⟧.view l
+        ≡ (let both : A.View × Rest.View = (A.view l.0, Rest.view l.1) in both) }
+    ensures more_steps { ⟦<(A, Rest) as FieldList>⟧.step
+        ≡ (next_field A.accepts A.parse then Rest.step) }
 {}
 
 /// What a list of fields writes, keeps and fits is what its one field does, or its first field and then the rest.
 pub fn kept_lists_are_their_fields<A: ReadBack + Type, Rest: KeptList>()
-    ensures one_written { (a : _) → ⟦<(A,) as WrittenList>⟧.fields a ≡ field A.info (A.encoding a.0) ∷ [] }
-    ensures one_kept { (a : _) → ⟦<(A,) as FieldList>⟧.view (⟦<(A,) as KeptList>⟧.kept a) ≡ A.view (A.kept a.0) }
-    ensures one_fits { (a : _) (t : Ty) (place : ℕ) (oids : List Oid) → ⟦<(A,) as KeptList>⟧.fits a t place oids ↔ FieldFits A.info A.encoding A.accepts A.fits a.0 t place oids }
-    ensures more_written { (l : _) → ⟦<(A, Rest) as WrittenList>⟧.fields l ≡ field A.info (A.encoding l.0) ∷ Rest.fields l.1 }
-    ensures more_kept { (l : _) → ⟦<(A, Rest) as FieldList>⟧.view (⟦<(A, Rest) as KeptList>⟧.kept l) ≡ (let both : A.View × Rest.View = (A.view (A.kept l.0), Rest.view (Rest.kept l.1)) in both) }
-    ensures more_fit { (l : _) (t : Ty) (place : ℕ) (oids : List Oid) → ⟦<(A, Rest) as KeptList>⟧.fits l t place oids ↔ FieldsFit A.info A.encoding A.accepts A.fits l.0 (Rest.fits l.1) t place oids }
+    ensures one_written { (a : _) → ⟦<(A,) as WrittenList>⟧.fields a
+        ≡ field A.info (A.encoding a.0) ∷ [] }
+    ensures one_kept { (a : _) → ⟦<(A,) as FieldList>⟧.view (⟦<(A,) as KeptList>⟧.kept a)
+        ≡ A.view (A.kept a.0) }
+    ensures one_fits { (a : _) (t : Ty) (place : ℕ) (oids : List Oid)
+        → ⟦<(A,) as KeptList>⟧.fits a t place oids
+        ↔ FieldFits A.info A.encoding A.accepts A.fits a.0 t place oids }
+    ensures more_written { (l : _) → ⟦<(A, Rest) as WrittenList>⟧.fields l
+        ≡ field A.info (A.encoding l.0) ∷ Rest.fields l.1 }
+    ensures more_kept { (l : _) → ⟦<(A, Rest) as FieldList>⟧.view
+        (⟦<(A, Rest) as KeptList>⟧.kept l) ≡ (let both : A.View
+        × Rest.View = (A.view (A.kept l.0), Rest.view (Rest.kept l.1)) in both) }
+    ensures more_fit { (l : _) (t : Ty) (place : ℕ) (oids : List Oid)
+        → ⟦<(A, Rest) as KeptList>⟧.fits l t place oids
+        ↔ FieldsFit A.info A.encoding A.accepts A.fits l.0 (Rest.fits l.1) t place oids }
 {}
 
 /// Fields are decoded from bytes in binary as a tuple iff the bytes are a record of these fields, taken as a list
@@ -131,7 +165,9 @@ pub fn record_fields_follow()
 /// A tuple of the first fields of a written record, as a list ([`tuple_is_its_list`]), is read back from it under each
 /// type that these fields fit, each with the OIDs that those before it leave.
 pub fn tuple_reads_back<Fields: KeptList>()
-    ensures { (fields : Fields) (further : List (Outcome (List Token))) → RecordReadsBack (reading_of (parse_record Fields.step)) (Fields.fields fields ++ further) (Fields.view (Fields.kept fields)) (Fields.fits fields) }
+    ensures { (fields : Fields) (further : List (Outcome (List Token)))
+        → RecordReadsBack (reading_of (parse_record Fields.step)) (Fields.fields fields ++ further)
+        (Fields.view (Fields.kept fields)) (Fields.fits fields) }
 {}
 
 /// A plain value fits every type, so that it is read back under each.
@@ -171,12 +207,20 @@ pub fn plain_types_fit()
 /// OID that was written is that of the type there, and no custom type has a built-in's.
 pub fn nests_fit<T: ReadBack + Type, const N: usize>()
     ensures none { (t : Ty) (oids : List Oid) → ⟦<Option<T> as ReadBack>⟧.fits None t oids }
-    ensures some { (v : T) (t : Ty) (oids : List Oid) → ⟦<Option<T> as ReadBack>⟧.fits (Some v) t oids ↔ T.fits v t oids }
-    ensures list_exactly { (v : _) (t : Ty) (oids : List Oid) → ⟦<Vec<T> as ReadBack>⟧.fits v t oids ↔ ArrayFits T.info T.encoding T.fits v.items t oids }
-    ensures array_exactly { (v : _) (t : Ty) (oids : List Oid) → ⟦<[T; N] as ReadBack>⟧.fits v t oids ↔ ArrayFits T.info T.encoding T.fits v t oids }
-    ensures list { (v : _) (t : Ty) (oids : List Oid) → ArrayIsPlain T.info T.encoding T.fits v.items t oids → ⟦<Vec<T> as ReadBack>⟧.fits v t oids }
-    ensures array { (v : _) (t : Ty) (oids : List Oid) → ArrayIsPlain T.info T.encoding T.fits v t oids → ⟦<[T; N] as ReadBack>⟧.fits v t oids }
-    ensures field { (v : T) (t : Ty) (place : ℕ) (oids : List Oid) → FieldIsPlain T.info T.encoding T.accepts T.fits v t place oids → FieldFits T.info T.encoding T.accepts T.fits v t place oids }
+    ensures some { (v : T) (t : Ty) (oids : List Oid)
+        → ⟦<Option<T> as ReadBack>⟧.fits (Some v) t oids ↔ T.fits v t oids }
+    ensures list_exactly { (v : _) (t : Ty) (oids : List Oid) → ⟦<Vec<T> as ReadBack>⟧.fits v t oids
+        ↔ ArrayFits T.info T.encoding T.fits v.items t oids }
+    ensures array_exactly { (v : _) (t : Ty) (oids : List Oid)
+        → ⟦<[T; N] as ReadBack>⟧.fits v t oids ↔ ArrayFits T.info T.encoding T.fits v t oids }
+    ensures list { (v : _) (t : Ty) (oids : List Oid)
+        → ArrayIsPlain T.info T.encoding T.fits v.items t oids
+        → ⟦<Vec<T> as ReadBack>⟧.fits v t oids }
+    ensures array { (v : _) (t : Ty) (oids : List Oid)
+        → ArrayIsPlain T.info T.encoding T.fits v t oids → ⟦<[T; N] as ReadBack>⟧.fits v t oids }
+    ensures field { (v : T) (t : Ty) (place : ℕ) (oids : List Oid)
+        → FieldIsPlain T.info T.encoding T.accepts T.fits v t place oids
+        → FieldFits T.info T.encoding T.accepts T.fits v t place oids }
 {}
 
 /// The hint, the image and the type that an encoder gives for a value depend on what the value says alone, so that

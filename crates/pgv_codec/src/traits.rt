@@ -249,7 +249,8 @@ pub trait Scalar {
     /// Appends the value's frame, or nothing: what [`Encode::encode_at_once`] does.
     #[inline(always)]
     fn write_at_once(&self, out: &mut PgArgumentBuffer) -> Result<bool, CodecError>
-        ensures ok { IfOk result (λ done. AtOnce done (frame (with_hint SIZE (image self.now))) out.old out.new) }
+        ensures ok { IfOk result (λ done. AtOnce done
+            (frame (with_hint SIZE (image self.now))) out.old out.new) }
         ensures err { IfErr result (λ e. e ≡ Memory) }
         ensures appended { OnErr result (Extends out.old out.new) }
     {

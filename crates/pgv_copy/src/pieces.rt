@@ -83,8 +83,10 @@ fn next_row_in<'r>(
     bytes: &'r [u8],
     in_header: bool,
 ) -> Result<Option<(&'r [u8], &'r [u8])>, CodecError>
-    ensures row { IfOk result (λ found. IfSome found (λ p. IsRowIn types.now in_header bytes.now p.0.now p.1.now)) }
-    ensures end { IfOk result (λ found. found ≡ None → next_of types.now in_header bytes.now ≡ Ok (None, ended types.now)) }
+    ensures row { IfOk result (λ found. IfSome found
+        (λ p. IsRowIn types.now in_header bytes.now p.0.now p.1.now)) }
+    ensures end { IfOk result (λ found. found ≡ None
+        → next_of types.now in_header bytes.now ≡ Ok (None, ended types.now)) }
     ensures refused { IfErr result (λ e. next_of types.now in_header bytes.now ≡ Err e) }
 {
     let rest = after_beginning(bytes, in_header)?;
@@ -150,7 +152,8 @@ impl PgCopyPieces {
     pub fn advance(&mut self) -> Result<PgCopyNext, CodecError>
         ensures found { Advances self.old result self.new }
         // Each row takes bytes, so a loop over the rows ends.
-        ensures shorter { IfOk result (λ next. next ≡ Row → length self.new.left < length self.old.left) }
+        ensures shorter { IfOk result (λ next. next ≡ Row
+            → length self.new.left < length self.old.left) }
     {
         if self.is_ended {
             return Ok(PgCopyNext::End);

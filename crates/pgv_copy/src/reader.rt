@@ -72,10 +72,12 @@ impl<'r> PgCopyReader<'r> {
     #[inline(always)]
     #[tactic(auto, unfolding(crate::specs::CopyBinary::step))]
     pub fn next_row(&mut self) -> Result<Option<Vec<PgValueRef<'r>>>, CodecError>
-        ensures exact { Gives (λ found. (option_map (λ row. row.items) found, self.new)) (next_row_of self.old) result }
+        ensures exact { Gives (λ found. (option_map (λ row. row.items) found, self.new))
+            (next_row_of self.old) result }
         ensures unmoved { OnErr result (self.new ≡ self.old) }
         // Each row takes bytes, so a loop over the rows ends.
-        ensures shorter { IfOk result (λ found. OnSome found (bytes_left self.new < bytes_left self.old)) }
+        ensures shorter { IfOk result (λ found. OnSome found
+            (bytes_left self.new < bytes_left self.old)) }
     {
         let Some(bytes) = self.left else {
             return Ok(None);
@@ -149,7 +151,8 @@ fn after_extension(bytes: &[u8]) -> Result<&[u8], CodecError>
 #[tactic(auto, unfolding(crate::specs::CopyBinary::after_count))]
 pub fn after_count(bytes: &[u8], width: usize) -> Result<Option<&[u8]>, CodecError>
     ensures exact { GivesExactly option_copied (count_passed width bytes.now) result }
-    ensures shorter { IfOk result (λ found. IfSome found (λ rest. length rest.now < length bytes.now)) }
+    ensures shorter { IfOk result (λ found. IfSome found
+        (λ rest. length rest.now < length bytes.now)) }
 {
     let (count, rest) = i16_in_front(bytes)?;
     if count == TRAILER {
@@ -171,7 +174,8 @@ pub fn read_fields<'r>(
     types: &[PgTypeInfo],
     bytes: &mut &'r [u8],
 ) -> Result<Vec<PgValueRef<'r>>, CodecError>
-    ensures exact { Gives (λ row. (row.items, bytes.new.now)) (listed types.now bytes.old.now) result }
+    ensures exact { Gives (λ row. (row.items, bytes.new.now))
+        (listed types.now bytes.old.now) result }
     ensures within { OnOk result (length bytes.new.now ≤ length bytes.old.now) }
 {
     let mut row = Vec::with_capacity(alloc, types.len())?;

@@ -12,7 +12,10 @@ pub fn add_lists(
     places: Vec<i32>,
     scores: Vec<Option<i32>>,
 ) -> Result<(), CodecError>
-    ensures { OnOk result ((one : List Argument) × Added (argument_frame (⟦<Vec<i32> as Encode>⟧.encoding places)) (builtin 1007) arguments.old one × Added (argument_frame (⟦<Vec<Option<i32>> as Encode>⟧.encoding scores)) (builtin 1007) one arguments.new) }
+    ensures { OnOk result ((one : List Argument)
+        × Added (argument_frame (⟦<Vec<i32> as Encode>⟧.encoding places)) (builtin 1007)
+        arguments.old one × Added (argument_frame (⟦<Vec<Option<i32>> as Encode>⟧.encoding scores))
+        (builtin 1007) one arguments.new) }
 {
     arguments.add(places)?;
     arguments.add(scores)?;
@@ -21,7 +24,8 @@ pub fn add_lists(
 
 /// The scores of a column, each a number or null. A null in place of the list is refused with C13.
 pub fn scores(alloc: Global, column: PgValueRef<'_>) -> Result<Vec<Option<i32>>, CodecError>
-    ensures { Gives ⟦<Vec<Option<i32>> as Decode>⟧.view (⟦<Vec<Option<i32>> as Decode>⟧.parse column.entry) result }
+    ensures { Gives ⟦<Vec<Option<i32>> as Decode>⟧.view
+        (⟦<Vec<Option<i32>> as Decode>⟧.parse column.entry) result }
 {
     Vec::decode(alloc, column)
 }

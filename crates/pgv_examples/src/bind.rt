@@ -17,7 +17,11 @@ pub fn arguments_of_search(
     name: String,
     moods: Vec<Mood>,
 ) -> Result<PgArguments, CodecError>
-    ensures { IfOk result (λ arguments. (one : List Argument) × (two : List Argument) × Added (argument_frame (⟦<i32 as Encode>⟧.encoding id)) (builtin 23) [] one × Added (argument_frame (⟦<String as Encode>⟧.encoding name)) (builtin 25) one two × Added (argument_frame (⟦<Vec<Mood> as Encode>⟧.encoding moods)) (array_of (codes "mood")) two arguments) }
+    ensures { IfOk result (λ arguments. (one : List Argument) × (two : List Argument)
+        × Added (argument_frame (⟦<i32 as Encode>⟧.encoding id)) (builtin 23) [] one
+        × Added (argument_frame (⟦<String as Encode>⟧.encoding name)) (builtin 25) one two
+        × Added (argument_frame (⟦<Vec<Mood> as Encode>⟧.encoding moods))
+        (array_of (codes "mood")) two arguments) }
 {
     let mut arguments = PgArguments::new(alloc);
     arguments.add(id)?;
@@ -35,7 +39,9 @@ pub fn fill(
     known: &[PgTypeInfo],
 ) -> Result<(), CodecError>
     // Each OID is that of a known type which its hole's is softly equal to.
-    ensures written { OnOk result ((oids : List Oid) × AreKnownOids known.now (hole_types_of (all_tokens arguments.old)) oids × (shown (all_tokens arguments.new) ≡ early (framed arguments.old) parameters.now oids)) }
+    ensures written { OnOk result ((oids : List Oid)
+        × AreKnownOids known.now (hole_types_of (all_tokens arguments.old)) oids
+        × (shown (all_tokens arguments.new) ≡ early (framed arguments.old) parameters.now oids)) }
     ensures unchanged { OnErr result (arguments.new ≡ arguments.old) }
 {
     let oids = oids_among(alloc, known, arguments.hole_types())?;
@@ -75,8 +81,10 @@ fn oid_among(known: &[PgTypeInfo], wanted: &PgTypeInfo) -> Result<Oid, CodecErro
 /// What the message Bind has of its parameters (PostgreSQL, "Message Formats"): their number in two bytes, and their
 /// frames. C10 where there are more than 65535.
 pub fn parameters_of_bind(alloc: Global, arguments: &PgArguments) -> Result<Vec<u8>, CodecError>
-    ensures ok { IfOk result (λ message. message.items ≡ to_be_bytes w16 (length arguments.now) ++ shown (all_tokens arguments.now)) }
-    ensures err { IfErr result (λ e. (e ≡ CodecError.Memory) ⊎ ((e ≡ CodecError.ParameterCount) × (65535 < length arguments.now))) }
+    ensures ok { IfOk result (λ message. message.items
+        ≡ to_be_bytes w16 (length arguments.now) ++ shown (all_tokens arguments.now)) }
+    ensures err { IfErr result (λ e. (e ≡ CodecError.Memory)
+        ⊎ ((e ≡ CodecError.ParameterCount) × (65535 < length arguments.now))) }
 {
     let Ok(count) = u16::try_from(arguments.len()) else {
         return Err(CodecError::ParameterCount);

@@ -13,7 +13,8 @@ use std::alloc::{AllocError, Global};
 
 /// Appends a slot: a version where the parameter is `jsonb`, and else a space. A refusal leaves the buffer.
 pub fn push_version(alloc: Global, out: &mut PgArgumentBuffer) -> Result<(), CodecError>
-    ensures ok { OnOk result (out.new ≡ out.old ++ blank (slot (32 ∷ []) ((builtin 3802, 1 ∷ []) ∷ []) ∷ [])) }
+    ensures ok { OnOk result (out.new ≡ out.old
+        ++ blank (slot (32 ∷ []) ((builtin 3802, 1 ∷ []) ∷ []) ∷ [])) }
     ensures err { IfErr result (λ e. (e ≡ CodecError.Memory) × (out.new ≡ out.old)) }
 {
     let mut version = Vec::new(alloc);

@@ -94,7 +94,10 @@ impl<A: ReadBack + Type, B: ReadBack + Type> ReadBack for Pair<A, B> {
 /// A pair comes back under a composite type, a domain of one or `record`, where the OID of the type at each place was written,
 /// that type is accepted, and the field comes back under it.
 pub fn pair_fits<A: ReadBack + Type, B: ReadBack + Type>()
-    ensures { (v : _) (t : Ty) (oids : List Oid) → Followed (FieldIsPlain A.info A.encoding A.accepts A.fits v.first) (field A.info (A.encoding v.first)) (FieldIsPlain B.info B.encoding B.accepts B.fits v.second) t 0 oids → ⟦<Pair<A, B> as ReadBack>⟧.fits v t oids }
+    ensures { (v : _) (t : Ty) (oids : List Oid)
+        → Followed (FieldIsPlain A.info A.encoding A.accepts A.fits v.first)
+        (field A.info (A.encoding v.first)) (FieldIsPlain B.info B.encoding B.accepts B.fits
+        v.second) t 0 oids → ⟦<Pair<A, B> as ReadBack>⟧.fits v t oids }
 {}
 
 impl<A: Codec, B: Codec> Codec for Pair<A, B> {

@@ -13,7 +13,8 @@ pub fn column<'r, T: Decode>(
     type_info: PgTypeInfo,
 ) -> Result<T, CodecError>
     ensures ok { IfOk result (λ v.
-        (given : Given) × (value_front type_info Binary row.old.now ≡ Ok (given, row.new.now)) × Reads T.parse given (T.view v)) }
+        (given : Given) × (value_front type_info Binary row.old.now ≡ Ok (given, row.new.now))
+        × Reads T.parse given (T.view v)) }
     ensures stays { front row.old.now ≡ None → row.new.now ≡ row.old.now }
 {
     let value = PgValueRef::get(row, PgValueFormat::Binary, type_info)?;
@@ -32,11 +33,15 @@ pub struct Person {
 /// A row of an `int4` and a `text` that may be null; more columns may follow.
 pub fn read_person(alloc: Global, row: &[u8]) -> Result<Person, CodecError>
     ensures first { IfOk result (λ person.
-        (id : Given) × (rest : List ℕ) × (value_front (builtin 23) Binary row.now ≡ Ok (id, rest)) × Reads ⟦<i32 as Decode>⟧.parse id person.id) }
+        (id : Given) × (rest : List ℕ)
+        × (value_front (builtin 23) Binary row.now ≡ Ok (id, rest))
+        × Reads ⟦<i32 as Decode>⟧.parse id person.id) }
     ensures second { IfOk result (λ person.
         (id : Given) × (rest : List ℕ) × (name : Given) × (more : List ℕ)
-        × (value_front (builtin 23) Binary row.now ≡ Ok (id, rest)) × (value_front (builtin 25) Binary rest ≡ Ok (name, more))
-        × Reads ⟦<Option<String> as Decode>⟧.parse name (⟦<Option<String> as Decode>⟧.view person.name)) }
+        × (value_front (builtin 23) Binary row.now ≡ Ok (id, rest))
+        × (value_front (builtin 25) Binary rest ≡ Ok (name, more))
+        × Reads ⟦<Option<String> as Decode>⟧.parse name
+        (⟦<Option<String> as Decode>⟧.view person.name)) }
 {
     let mut rest = row;
     let id: i32 = column(alloc, &mut rest, PgTypeInfo(PgType::Int4))?;
@@ -46,7 +51,8 @@ pub fn read_person(alloc: Global, row: &[u8]) -> Result<Person, CodecError>
 
 /// The next column of a row, kept as it is after the row is gone.
 pub fn keep(alloc: Global, row: &mut &[u8], type_info: PgTypeInfo) -> Result<PgValue, CodecError>
-    ensures { IfOk result (λ value. value_front type_info Binary row.old.now ≡ Ok (value, row.new.now)) }
+    ensures { IfOk result (λ value. value_front type_info Binary row.old.now
+        ≡ Ok (value, row.new.now)) }
 {
     let value = PgValueRef::get(row, PgValueFormat::Binary, type_info)?;
     value.to_owned(alloc)

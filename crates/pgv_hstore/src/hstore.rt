@@ -31,10 +31,15 @@ impl PgHstore {
         alloc: Global,
         pairs: I,
     ) -> Result<PgHstore, AllocError>
-        requires { IsFiniteIterable I.into_iter_gives I.IntoIter.can_next I.IntoIter.remaining pairs }
-        ensures ok { IfOk result (λ h. (it : I.IntoIter) × (xs : List _) × I.into_iter_gives pairs it × Drains I.IntoIter.next_gives it xs × IsMapOf (map pair_of xs) (pairs_of h)) }
+        requires { IsFiniteIterable I.into_iter_gives I.IntoIter.can_next
+            I.IntoIter.remaining pairs }
+        ensures ok { IfOk result (λ h. (it : I.IntoIter) × (xs : List _)
+            × I.into_iter_gives pairs it × Drains I.IntoIter.next_gives it xs
+            × IsMapOf (map pair_of xs) (pairs_of h)) }
         // Memory was asked for a pair.
-        ensures err { OnErr result ((it : I.IntoIter) × (taken : List _) × (last : _) × (after : I.IntoIter) × I.into_iter_gives pairs it × YieldsThen I.IntoIter.next_gives it taken (Some last) after) }
+        ensures err { OnErr result ((it : I.IntoIter) × (taken : List _) × (last : _)
+            × (after : I.IntoIter) × I.into_iter_gives pairs it
+            × YieldsThen I.IntoIter.next_gives it taken (Some last) after) }
     {
         let mut map = BTreeMap::new(alloc);
         for (key, value) in pairs {
@@ -49,10 +54,15 @@ impl PgHstore {
         alloc: Global,
         pairs: I,
     ) -> Result<PgHstore, AllocError>
-        requires { IsFiniteIterable I.into_iter_gives I.IntoIter.can_next I.IntoIter.remaining pairs }
-        ensures ok { IfOk result (λ h. (it : I.IntoIter) × (xs : List _) × I.into_iter_gives pairs it × Drains I.IntoIter.next_gives it xs × IsMapOf (map text_pair_of xs) (pairs_of h)) }
+        requires { IsFiniteIterable I.into_iter_gives I.IntoIter.can_next
+            I.IntoIter.remaining pairs }
+        ensures ok { IfOk result (λ h. (it : I.IntoIter) × (xs : List _)
+            × I.into_iter_gives pairs it × Drains I.IntoIter.next_gives it xs
+            × IsMapOf (map text_pair_of xs) (pairs_of h)) }
         // Memory was asked for a pair.
-        ensures err { OnErr result ((it : I.IntoIter) × (taken : List _) × (last : _) × (after : I.IntoIter) × I.into_iter_gives pairs it × YieldsThen I.IntoIter.next_gives it taken (Some last) after) }
+        ensures err { OnErr result ((it : I.IntoIter) × (taken : List _) × (last : _)
+            × (after : I.IntoIter) × I.into_iter_gives pairs it
+            × YieldsThen I.IntoIter.next_gives it taken (Some last) after) }
     {
         let mut map = BTreeMap::new(alloc);
         for (key, value) in pairs {

@@ -15,10 +15,15 @@ use std::collections::btree_map;
 /// A `PgHstore` is an hstore, known by its name, with its pairs in the order of the keys. Its arrays are arrays of the
 /// type of this name.
 pub fn hstore_is_an_hstore()
-    ensures { IsCodecRow ⟦<PgHstore as Type>⟧ ⟦<PgHstore as PgHasArrayType>⟧ ⟦<PgHstore as Encode>⟧
-        ⟦<PgHstore as Decode>⟧ ⟦<PgHstore as ReadBack>⟧.kept (record { info = named (codes "hstore"); array = array_of (codes "hstore");
-        encoding = λ h. plainly (hstore_image (pairs_of h));
-        view = pairs_of; parse = parse_hstore; kept = pairs_of }) }
+    ensures { IsCodecRow ⟦<PgHstore as Type>⟧ ⟦<PgHstore as PgHasArrayType>⟧
+        ⟦<PgHstore as Encode>⟧ ⟦<PgHstore as Decode>⟧ ⟦<PgHstore as ReadBack>⟧.kept (record {
+          info = named (codes "hstore");
+          array = array_of (codes "hstore");
+          encoding = λ h. plainly (hstore_image (pairs_of h));
+          view = pairs_of;
+          parse = parse_hstore;
+          kept = pairs_of;
+        }) }
 {}
 
 /// `hstore_in_binary` reads a map from bytes iff the bytes begin with a binary form of this map.
@@ -34,12 +39,15 @@ pub fn one_hstore()
 /// Two maps are equal iff they have the same pairs, and maps with the same pairs are written alike.
 pub fn equal_hstores()
     ensures equal { HstoresAreEqual ⟦<PgHstore as PartialEq>⟧.eq }
-    ensures written_alike { (a b : _) → pairs_of a ≡ pairs_of b → ⟦<PgHstore as Encode>⟧.encoding a ≡ ⟦<PgHstore as Encode>⟧.encoding b }
+    ensures written_alike { (a b : _) → pairs_of a ≡ pairs_of b
+        → ⟦<PgHstore as Encode>⟧.encoding a ≡ ⟦<PgHstore as Encode>⟧.encoding b }
 {}
 
 /// The iterator of a map gives its pairs in the order of the keys and then ends.
 pub fn hstore_gives_its_pairs()
-    ensures { (h : _) (pairs : _) → ⟦<PgHstore as IntoIterator>⟧.into_iter_gives h pairs → AlwaysYields ⟦<btree_map::IntoIter<String, Option<String>> as Iterator>⟧.next_gives (λ pair. pair) pairs h.0.entries }
+    ensures { (h : _) (pairs : _) → ⟦<PgHstore as IntoIterator>⟧.into_iter_gives h pairs
+        → AlwaysYields ⟦<btree_map::IntoIter<String, Option<String>> as Iterator>⟧.next_gives
+        (λ pair. pair) pairs h.0.entries }
 {}
 
 /// A map fits every type, so that it is read back under each.

@@ -17,7 +17,8 @@ use std::net::IpAddr;
 pub fn network_is_an_inet()
     ensures types { HasType ⟦<IpNetwork as Type>⟧ (builtin 869) is_network }
     ensures arrays { HasArrayType ⟦<IpNetwork as PgHasArrayType>⟧ (builtin 1041) is_network_array }
-    ensures written { IsWrittenAs ⟦<IpNetwork as Encode>⟧ (λ v. with_hint (network_hint (network_of v)) (writes (network_image (network_of v)))) }
+    ensures written { IsWrittenAs ⟦<IpNetwork as Encode>⟧
+        (λ v. with_hint (network_hint (network_of v)) (writes (network_image (network_of v)))) }
     ensures read { IsReadAs ⟦<IpNetwork as Decode>⟧ (network_of) (without_memory parse_network) }
 {}
 
@@ -26,6 +27,7 @@ pub fn network_is_an_inet()
 pub fn address_is_an_inet()
     ensures types { HasType ⟦<IpAddr as Type>⟧ (builtin 869) is_network }
     ensures arrays { HasArrayType ⟦<IpAddr as PgHasArrayType>⟧ (builtin 1041) is_network_array }
-    ensures written { IsWrittenAs ⟦<IpAddr as Encode>⟧ (λ v. with_hint (address_hint v) (writes (address_image v))) }
+    ensures written { IsWrittenAs ⟦<IpAddr as Encode>⟧
+        (λ v. with_hint (address_hint v) (writes (address_image v))) }
     ensures read { IsReadAs ⟦<IpAddr as Decode>⟧ (λ v. v) (without_memory parse_address) }
 {}

@@ -20,11 +20,18 @@ use pgv_codec::{Decode, Encode, PgHasArrayType, ReadBack, Type};
 /// `_lquery`, known by their name. It is read back if it has a level, each level that is not a star has a variant, and
 /// no `NonStar` begins with an empty label.
 pub fn lquery_is_an_lquery()
-    ensures row { IsCodecRow ⟦<crate::PgLQuery as Type>⟧ ⟦<crate::PgLQuery as PgHasArrayType>⟧ ⟦<crate::PgLQuery as Encode>⟧
-        ⟦<crate::PgLQuery as Decode>⟧ ⟦<crate::PgLQuery as ReadBack>⟧.kept (record { info = lquery; array = lquery_array;
-        encoding = λ v. plainly (writes (query_image v));
-        view = λ v. v; parse = parse_query; kept = λ v. v }) }
-    ensures fits { (v : List Level) (t : Ty) (os : List Oid) → query_fits v t os → ⟦<crate::PgLQuery as ReadBack>⟧.fits v t os }
+    ensures row { IsCodecRow ⟦<crate::PgLQuery as Type>⟧ ⟦<crate::PgLQuery as PgHasArrayType>⟧
+        ⟦<crate::PgLQuery as Encode>⟧ ⟦<crate::PgLQuery as Decode>⟧
+        ⟦<crate::PgLQuery as ReadBack>⟧.kept (record {
+          info = lquery;
+          array = lquery_array;
+          encoding = λ v. plainly (writes (query_image v));
+          view = λ v. v;
+          parse = parse_query;
+          kept = λ v. v;
+        }) }
+    ensures fits { (v : List Level) (t : Ty) (os : List Oid) → query_fits v t os
+        → ⟦<crate::PgLQuery as ReadBack>⟧.fits v t os }
 {}
 
 /// `variant_read` reads a variant from a text iff the grammar of lquery assigns this variant to the text.
@@ -114,5 +121,8 @@ fn variants_are_variants(variants: &[crate::PgLQueryVariant])
 
 /// The iterator of a query gives its levels in order and then ends.
 pub fn query_gives_its_levels()
-    ensures { (query : List Level) (levels : _) → ⟦<crate::PgLQuery as IntoIterator>⟧.into_iter_gives query levels → AlwaysYields ⟦<std::vec::IntoIter<crate::PgLQueryLevel> as Iterator>⟧.next_gives level_of levels query }
+    ensures { (query : List Level) (levels : _)
+        → ⟦<crate::PgLQuery as IntoIterator>⟧.into_iter_gives query levels
+        → AlwaysYields ⟦<std::vec::IntoIter<crate::PgLQueryLevel> as Iterator>⟧.next_gives
+        level_of levels query }
 {}

@@ -98,7 +98,8 @@ fn star_of(text: &str) -> Result<PgLQueryLevel, PgLQueryParseError>
 
 /// The variants of a text.
 fn variants_of(alloc: Global, text: &str) -> Result<Vec<PgLQueryVariant>, PgLQueryParseError>
-    ensures { GivesRead (λ variants. variants.items) Memory (begins_with_variant text.now) (variants_read text.now) result }
+    ensures { GivesRead (λ variants. variants.items) Memory (begins_with_variant text.now)
+        (variants_read text.now) result }
 {
     let mut variants = Vec::new(alloc);
     for variant in text.split('|') {
@@ -114,7 +115,8 @@ impl PgLQueryLevel {
     /// and an invalid variant with LTreeParrseError. A text that begins with `*` takes no memory, whether it is a star
     /// or not, and an invalid first variant is refused before memory is asked for.
     pub fn from_str(alloc: Global, text: &str) -> Result<PgLQueryLevel, PgLQueryParseError>
-        ensures { GivesRead level_of Memory (level_allocates text.now) (level_read text.now) result }
+        ensures { GivesRead level_of Memory (level_allocates text.now)
+            (level_read text.now) result }
     {
         if text.is_empty() {
             return Err(PgLQueryParseError::EmptyString);

@@ -66,11 +66,16 @@ impl PgLQuery {
         alloc: Global,
         levels: I,
     ) -> Result<PgLQuery, PgLQueryParseError>
-        requires { (it : I.IntoIter) → I.into_iter_gives levels it → I.IntoIter.can_next it × IsFinite (I.IntoIter.remaining it) }
+        requires { (it : I.IntoIter) → I.into_iter_gives levels it → I.IntoIter.can_next it
+            × IsFinite (I.IntoIter.remaining it) }
         // Every text was taken, and is the level at its place.
-        ensures ok { IfOk result (λ query. (it : I.IntoIter) × (texts : List (List ℕ)) × I.into_iter_gives levels it × GivesTexts I.IntoIter.next_gives it texts × (read_each level_read texts ≡ Ok query)) }
+        ensures ok { IfOk result (λ query. (it : I.IntoIter) × (texts : List (List ℕ))
+            × I.into_iter_gives levels it × GivesTexts I.IntoIter.next_gives it texts
+            × (read_each level_read texts ≡ Ok query)) }
         // The text that was taken last, after levels, is no level; or it begins as one, and there was no memory for it.
-        ensures err { IfErr result (λ e. (it : I.IntoIter) × (text : List ℕ) × I.into_iter_gives levels it × GivesAfterRead level_read I.IntoIter.next_gives it text × ((level_read text ≡ Err e) ⊎ ((e ≡ Memory) × (begins_level text ≡ true)))) }
+        ensures err { IfErr result (λ e. (it : I.IntoIter) × (text : List ℕ)
+            × I.into_iter_gives levels it × GivesAfterRead level_read I.IntoIter.next_gives it text
+            × ((level_read text ≡ Err e) ⊎ ((e ≡ Memory) × (begins_level text ≡ true)))) }
     {
         let mut query = PgLQuery::new(alloc);
         for level in levels {
@@ -84,10 +89,15 @@ impl PgLQuery {
         alloc: Global,
         levels: I,
     ) -> Result<PgLQuery, AllocError>
-        requires { (it : I.IntoIter) → I.into_iter_gives levels it → I.IntoIter.can_next it × IsFinite (I.IntoIter.remaining it) }
-        ensures ok { IfOk result (λ query. (it : I.IntoIter) × (taken : List PgLQueryLevel) × I.into_iter_gives levels it × Drains I.IntoIter.next_gives it taken × (query ≡ map level_of taken)) }
+        requires { (it : I.IntoIter) → I.into_iter_gives levels it → I.IntoIter.can_next it
+            × IsFinite (I.IntoIter.remaining it) }
+        ensures ok { IfOk result (λ query. (it : I.IntoIter) × (taken : List PgLQueryLevel)
+            × I.into_iter_gives levels it × Drains I.IntoIter.next_gives it taken
+            × (query ≡ map level_of taken)) }
         // Memory was asked for a level.
-        ensures err { OnErr result ((it : I.IntoIter) × (taken : List _) × (last : _) × (after : I.IntoIter) × I.into_iter_gives levels it × YieldsThen I.IntoIter.next_gives it taken (Some last) after) }
+        ensures err { OnErr result ((it : I.IntoIter) × (taken : List _) × (last : _)
+            × (after : I.IntoIter) × I.into_iter_gives levels it
+            × YieldsThen I.IntoIter.next_gives it taken (Some last) after) }
     {
         let mut query = PgLQuery::new(alloc);
         for level in levels {
@@ -99,7 +109,8 @@ impl PgLQuery {
     /// The query of a text: levels joined by `.`. It is refused as its first invalid level is, before memory is asked
     /// for if that is the first level and its beginning is invalid.
     pub fn from_str(alloc: Global, text: &str) -> Result<PgLQuery, PgLQueryParseError>
-        ensures { GivesRead (λ query. query) Memory (begins_with_level text.now) (query_read text.now) result }
+        ensures { GivesRead (λ query. query) Memory (begins_with_level text.now)
+            (query_read text.now) result }
     {
         let mut levels = Vec::new(alloc);
         for level in text.split('.') {

@@ -95,7 +95,8 @@ impl PgLQueryVariant {
     /// The variant of a text: a label and, at its end, `*`, `@` and `%` in any order and number. An invalid text is
     /// refused with LTreeParrseError, before memory is asked for.
     pub fn from_str(alloc: Global, text: &str) -> Result<PgLQueryVariant, PgLQueryParseError>
-        ensures { GivesRead (λ variant. variant) Memory (is_variant_text text.now) (variant_read text.now) result }
+        ensures { GivesRead (λ variant. variant) Memory (is_variant_text text.now)
+            (variant_read text.now) result }
     {
         let (label, marks) = split_marks(text);
         let marks = marks.as_bytes();

@@ -68,7 +68,8 @@ impl PgLTreeLabel {
     /// The label of a text, copied. A text that is not a valid label is refused with InvalidLtreeLabel before memory is
     /// asked for.
     pub fn from_str(alloc: Global, text: &str) -> Result<PgLTreeLabel, PgLTreeParseError>
-        ensures { GivesRead (λ label. label) Memory (is_label_of text.now) (label_read text.now) result }
+        ensures { GivesRead (λ label. label) Memory (is_label_of text.now)
+            (label_read text.now) result }
     {
         if !is_label(text) {
             return Err(PgLTreeParseError::InvalidLtreeLabel);

@@ -15,10 +15,16 @@ use pgv_codec::{Decode, Encode, PgHasArrayType, ReadBack, Type};
 /// A `PgLTree` is an `ltree`, known by its name: the version 1 and its text, as `01612e62` for `a.b`. Its arrays are
 /// `_ltree`, known by their name. A tree without labels is read back as one empty label.
 pub fn ltree_is_an_ltree()
-    ensures row { IsCodecRow ⟦<crate::PgLTree as Type>⟧ ⟦<crate::PgLTree as PgHasArrayType>⟧ ⟦<crate::PgLTree as Encode>⟧
-        ⟦<crate::PgLTree as Decode>⟧ ⟦<crate::PgLTree as ReadBack>⟧.kept (record { info = ltree; array = ltree_array;
-        encoding = λ v. plainly (writes (tree_image v));
-        view = λ v. v; parse = parse_tree; kept = tree_kept }) }
+    ensures row { IsCodecRow ⟦<crate::PgLTree as Type>⟧ ⟦<crate::PgLTree as PgHasArrayType>⟧
+        ⟦<crate::PgLTree as Encode>⟧ ⟦<crate::PgLTree as Decode>⟧
+        ⟦<crate::PgLTree as ReadBack>⟧.kept (record {
+          info = ltree;
+          array = ltree_array;
+          encoding = λ v. plainly (writes (tree_image v));
+          view = λ v. v;
+          parse = parse_tree;
+          kept = tree_kept;
+        }) }
     ensures fits { FitsAlways ⟦<crate::PgLTree as ReadBack>⟧.fits }
 {}
 
@@ -54,5 +60,8 @@ pub fn equal_trees()
 
 /// The iterator of a tree gives its labels in order and then ends.
 pub fn tree_gives_its_labels()
-    ensures { (tree : List (List ℕ)) (labels : _) → ⟦<crate::PgLTree as IntoIterator>⟧.into_iter_gives tree labels → AlwaysYields ⟦<std::vec::IntoIter<crate::PgLTreeLabel> as Iterator>⟧.next_gives (λ label. label) labels tree }
+    ensures { (tree : List (List ℕ)) (labels : _)
+        → ⟦<crate::PgLTree as IntoIterator>⟧.into_iter_gives tree labels
+        → AlwaysYields ⟦<std::vec::IntoIter<crate::PgLTreeLabel> as Iterator>⟧.next_gives
+        (λ label. label) labels tree }
 {}

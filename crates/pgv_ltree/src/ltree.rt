@@ -60,11 +60,16 @@ impl PgLTree {
         alloc: Global,
         labels: I,
     ) -> Result<PgLTree, PgLTreeParseError>
-        requires { (it : I.IntoIter) → I.into_iter_gives labels it → I.IntoIter.can_next it × IsFinite (I.IntoIter.remaining it) }
+        requires { (it : I.IntoIter) → I.into_iter_gives labels it → I.IntoIter.can_next it
+            × IsFinite (I.IntoIter.remaining it) }
         // Every text was taken, and is the label at its place.
-        ensures ok { IfOk result (λ tree. (it : I.IntoIter) × (texts : List (List ℕ)) × I.into_iter_gives labels it × GivesTexts I.IntoIter.next_gives it texts × (read_each label_read texts ≡ Ok tree)) }
+        ensures ok { IfOk result (λ tree. (it : I.IntoIter) × (texts : List (List ℕ))
+            × I.into_iter_gives labels it × GivesTexts I.IntoIter.next_gives it texts
+            × (read_each label_read texts ≡ Ok tree)) }
         // The text that was taken last, after labels, is no label; or it is one, and there was no memory for it.
-        ensures err { IfErr result (λ e. (it : I.IntoIter) × (text : List ℕ) × I.into_iter_gives labels it × GivesAfterRead label_read I.IntoIter.next_gives it text × ((label_read text ≡ Err e) ⊎ ((e ≡ Memory) × (is_label text ≡ true)))) }
+        ensures err { IfErr result (λ e. (it : I.IntoIter) × (text : List ℕ)
+            × I.into_iter_gives labels it × GivesAfterRead label_read I.IntoIter.next_gives it text
+            × ((label_read text ≡ Err e) ⊎ ((e ≡ Memory) × (is_label text ≡ true)))) }
     {
         let mut tree = PgLTree::new(alloc);
         for label in labels {
@@ -78,10 +83,14 @@ impl PgLTree {
         alloc: Global,
         labels: I,
     ) -> Result<PgLTree, AllocError>
-        requires { (it : I.IntoIter) → I.into_iter_gives labels it → I.IntoIter.can_next it × IsFinite (I.IntoIter.remaining it) }
-        ensures ok { IfOk result (λ tree. (it : I.IntoIter) × I.into_iter_gives labels it × Drains I.IntoIter.next_gives it tree) }
+        requires { (it : I.IntoIter) → I.into_iter_gives labels it → I.IntoIter.can_next it
+            × IsFinite (I.IntoIter.remaining it) }
+        ensures ok { IfOk result (λ tree. (it : I.IntoIter) × I.into_iter_gives labels it
+            × Drains I.IntoIter.next_gives it tree) }
         // Memory was asked for a label.
-        ensures err { OnErr result ((it : I.IntoIter) × (taken : List _) × (last : _) × (after : I.IntoIter) × I.into_iter_gives labels it × YieldsThen I.IntoIter.next_gives it taken (Some last) after) }
+        ensures err { OnErr result ((it : I.IntoIter) × (taken : List _) × (last : _)
+            × (after : I.IntoIter) × I.into_iter_gives labels it
+            × YieldsThen I.IntoIter.next_gives it taken (Some last) after) }
     {
         let mut tree = PgLTree::new(alloc);
         for label in labels {
@@ -93,7 +102,8 @@ impl PgLTree {
     /// The tree of a text: labels joined by `.`. The empty text is one empty label. A text with an invalid label is
     /// refused with InvalidLtreeLabel, before memory is asked for if it is the first label.
     pub fn from_str(alloc: Global, text: &str) -> Result<PgLTree, PgLTreeParseError>
-        ensures { GivesRead (λ tree. tree) Memory (begins_with_label text.now) (tree_read text.now) result }
+        ensures { GivesRead (λ tree. tree) Memory (begins_with_label text.now)
+            (tree_read text.now) result }
     {
         let mut labels = Vec::new(alloc);
         for label in text.split('.') {

@@ -141,7 +141,8 @@ impl BitVec {
     pub fn push(&mut self, bit: bool) -> Result<(), AllocError>
         ensures ok { OnOk result (self.new ≡ self.old ++ bit ∷ []) }
         ensures err { OnErr result (self.new ≡ self.old) }
-        ensures in_begun_byte { 0 < length self.old % 8 → length self.old + 1 < 2 ^ 64 → IsOk result }
+        ensures in_begun_byte { 0 < length self.old % 8
+            → length self.old + 1 < 2 ^ 64 → IsOk result }
     {
         let Some(more) = self.count.checked_add(1) else {
             return Err(AllocError);
@@ -186,7 +187,8 @@ impl Eq for BitVec {
 /// The byte with one more bit, at this place from the front.
 fn with_bit(byte: u8, place: usize, bit: bool) -> u8
     requires { place < 8 }
-    ensures { (bits : List Bool) → length bits ≡ place → byte ≡ number_of 8 bits → result ≡ number_of 8 (bits ++ bit ∷ []) }
+    ensures { (bits : List Bool) → length bits ≡ place → byte ≡ number_of 8 bits
+        → result ≡ number_of 8 (bits ++ bit ∷ []) }
 {
     if bit { byte | 0x80 >> place } else { byte }
 }
@@ -259,7 +261,8 @@ fn are_digits(text: &[u8]) -> bool
 /// Appends a bit to the bytes of `count` bits. Refused, it leaves them.
 fn append_bit(bytes: &mut Vec<u8>, count: usize, bit: bool) -> Result<(), AllocError>
     requires { length bytes.old.items ≡ byte_count count }
-    ensures ok { OnOk result ((bits : List Bool) → count ≡ length bits → bytes.old.items ≡ packed bits → bytes.new.items ≡ packed (bits ++ bit ∷ [])) }
+    ensures ok { OnOk result ((bits : List Bool) → count ≡ length bits
+        → bytes.old.items ≡ packed bits → bytes.new.items ≡ packed (bits ++ bit ∷ [])) }
     ensures err { OnErr result (bytes.new.items ≡ bytes.old.items) }
     ensures in_begun_byte { 0 < count % 8 → IsOk result }
 {

@@ -26,25 +26,37 @@ use pgv_codec::{Decode, Encode, PgHasArrayType, ReadBack, Type};
 pub fn bit_vec_is_a_varbit()
     ensures types { HasType ⟦<crate::BitVec as Type>⟧ (builtin 1562) is_bits }
     ensures arrays { HasArrayType ⟦<crate::BitVec as PgHasArrayType>⟧ (builtin 1563) is_bits_array }
-    ensures written { IsWrittenAs ⟦<crate::BitVec as Encode>⟧ (λ v. with_hint (bits_hint v) (bits_image v)) }
+    ensures written { IsWrittenAs ⟦<crate::BitVec as Encode>⟧
+        (λ v. with_hint (bits_hint v) (bits_image v)) }
     ensures read { IsReadAs ⟦<crate::BitVec as Decode>⟧ (λ v. v) parse_bits }
 {}
 
 /// A `MacAddress` is a macaddr (OID 829), its six bytes, as `08002b010203`. Its arrays are `macaddr[]` (1040).
 pub fn mac_address_is_a_macaddr()
-    ensures { IsCodecRow ⟦<crate::MacAddress as Type>⟧ ⟦<crate::MacAddress as PgHasArrayType>⟧ ⟦<crate::MacAddress as Encode>⟧
-        ⟦<crate::MacAddress as Decode>⟧ ⟦<crate::MacAddress as ReadBack>⟧.kept (record { info = builtin 829; array = builtin 1040;
-        encoding = λ v. with_hint 6 (writes (mac_image v));
-        view = λ v. v; parse = without_memory parse_mac; kept = λ v. v }) }
+    ensures { IsCodecRow ⟦<crate::MacAddress as Type>⟧ ⟦<crate::MacAddress as PgHasArrayType>⟧
+        ⟦<crate::MacAddress as Encode>⟧ ⟦<crate::MacAddress as Decode>⟧
+        ⟦<crate::MacAddress as ReadBack>⟧.kept (record {
+          info = builtin 829;
+          array = builtin 1040;
+          encoding = λ v. with_hint 6 (writes (mac_image v));
+          view = λ v. v;
+          parse = without_memory parse_mac;
+          kept = λ v. v;
+        }) }
 {}
 
 /// A `PgTimeTz` is a timetz (OID 1266), the microseconds of the day and the seconds west of UTC, as
 /// `0000000a7a358200ffffe3e0` for 12:30 two hours east. Its arrays are `timetz[]` (1270).
 pub fn time_tz_is_a_timetz()
-    ensures { IsCodecRow ⟦<PgTimeTz as Type>⟧ ⟦<PgTimeTz as PgHasArrayType>⟧ ⟦<PgTimeTz as Encode>⟧
-        ⟦<PgTimeTz as Decode>⟧ ⟦<PgTimeTz as ReadBack>⟧.kept (record { info = builtin 1266; array = builtin 1270;
-        encoding = λ v. with_hint 12 (time_tz_image (time_tz_numbers v));
-        view = time_tz_numbers; parse = without_memory parse_time_tz; kept = λ v. time_tz_numbers (record { time = time_kept v.time; offset = v.offset }) }) }
+    ensures { IsCodecRow ⟦<PgTimeTz as Type>⟧ ⟦<PgTimeTz as PgHasArrayType>⟧
+        ⟦<PgTimeTz as Encode>⟧ ⟦<PgTimeTz as Decode>⟧ ⟦<PgTimeTz as ReadBack>⟧.kept (record {
+          info = builtin 1266;
+          array = builtin 1270;
+          encoding = λ v. with_hint 12 (time_tz_image (time_tz_numbers v));
+          view = time_tz_numbers;
+          parse = without_memory parse_time_tz;
+          kept = λ v. time_tz_numbers (record { time = time_kept v.time; offset = v.offset });
+        }) }
 {}
 
 /// `packed` turns bits into bytes iff the bits of these bytes are the given ones and then fewer than eight zeros.
@@ -79,35 +91,54 @@ pub fn one_mac_address()
 
 /// A `PgBytea` is a bytea (OID 17), its bytes. Its arrays are `bytea[]` (1001).
 pub fn bytea_is_a_bytea()
-    ensures { IsCodecRow ⟦<PgBytea as Type>⟧ ⟦<PgBytea as PgHasArrayType>⟧ ⟦<PgBytea as Encode>⟧
-        ⟦<PgBytea as Decode>⟧ ⟦<PgBytea as ReadBack>⟧.kept (record { info = builtin 17; array = builtin 1001;
-        encoding = λ b. plainly (writes (text_image b.0.items));
-        view = λ b. b.0.items; parse = parse_bytea; kept = λ b. b.0.items }) }
+    ensures { IsCodecRow ⟦<PgBytea as Type>⟧ ⟦<PgBytea as PgHasArrayType>⟧
+        ⟦<PgBytea as Encode>⟧ ⟦<PgBytea as Decode>⟧ ⟦<PgBytea as ReadBack>⟧.kept (record {
+          info = builtin 17;
+          array = builtin 1001;
+          encoding = λ b. plainly (writes (text_image b.0.items));
+          view = λ b. b.0.items;
+          parse = parse_bytea;
+          kept = λ b. b.0.items;
+        }) }
 {}
 
 /// A `PgByteaArray<N>` is a bytea (OID 17) of `N` bytes. Its arrays are `bytea[]` (1001).
 pub fn bytea_array_is_a_bytea<const N: usize>()
-    ensures { IsCodecRow ⟦<PgByteaArray<N> as Type>⟧ ⟦<PgByteaArray<N> as PgHasArrayType>⟧ ⟦<PgByteaArray<N> as Encode>⟧
-        ⟦<PgByteaArray<N> as Decode>⟧ ⟦<PgByteaArray<N> as ReadBack>⟧.kept (record { info = builtin 17; array = builtin 1001;
-        encoding = λ b. plainly (writes (sized_image N b.0));
-        view = λ b. b.0; parse = without_memory (parse_sized N); kept = λ b. b.0 }) }
+    ensures { IsCodecRow ⟦<PgByteaArray<N> as Type>⟧ ⟦<PgByteaArray<N> as PgHasArrayType>⟧
+        ⟦<PgByteaArray<N> as Encode>⟧ ⟦<PgByteaArray<N> as Decode>⟧
+        ⟦<PgByteaArray<N> as ReadBack>⟧.kept (record {
+          info = builtin 17;
+          array = builtin 1001;
+          encoding = λ b. plainly (writes (sized_image N b.0));
+          view = λ b. b.0;
+          parse = without_memory (parse_sized N);
+          kept = λ b. b.0;
+        }) }
 {}
 
 /// A `PgCiText` is a citext, known by its name, written as its bytes and read as a `String` is.
 pub fn ci_text_is_a_citext()
-    ensures types { HasType ⟦<PgCiText as Type>⟧ (named (codes "citext")) ⟦<String as Type>⟧.accepts }
-    ensures arrays { HasArrayType ⟦<PgCiText as PgHasArrayType>⟧ (named (codes "_citext")) ⟦<String as PgHasArrayType>⟧.accepts_array }
-    ensures written { IsWrittenAs ⟦<PgCiText as Encode>⟧ (λ text. plainly (writes (text_image (string_bytes text.0)))) }
-    ensures read { IsReadAs ⟦<PgCiText as Decode>⟧ (λ text. string_bytes text.0) ⟦<String as Decode>⟧.parse }
+    ensures types { HasType ⟦<PgCiText as Type>⟧ (named (codes "citext"))
+        ⟦<String as Type>⟧.accepts }
+    ensures arrays { HasArrayType ⟦<PgCiText as PgHasArrayType>⟧ (named (codes "_citext"))
+        ⟦<String as PgHasArrayType>⟧.accepts_array }
+    ensures written { IsWrittenAs ⟦<PgCiText as Encode>⟧
+        (λ text. plainly (writes (text_image (string_bytes text.0)))) }
+    ensures read { IsReadAs ⟦<PgCiText as Decode>⟧ (λ text. string_bytes text.0)
+        ⟦<String as Decode>⟧.parse }
 {}
 
 /// Two values of one of these types are equal iff their parts are: the time of day and the offset, the bytes of the
 /// address, the bytes of the text (case counts), or the bytes.
 pub fn equal_values<const N: usize>()
-    ensures times { (a b : PgTimeTz) → (⟦<PgTimeTz as PartialEq>⟧.eq a b ≡ true) ↔ ((time_nanos a.time ≡ time_nanos b.time) × (a.offset.seconds ≡ b.offset.seconds)) }
-    ensures addresses { (a b : List ℕ) → (⟦<crate::MacAddress as PartialEq>⟧.eq a b ≡ true) ↔ (a ≡ b) }
-    ensures texts { (a b : PgCiText) → (⟦<PgCiText as PartialEq>⟧.eq a b ≡ true) ↔ (string_bytes a.0 ≡ string_bytes b.0) }
-    ensures bytes { (a b : PgBytea) → (⟦<PgBytea as PartialEq>⟧.eq a b ≡ true) ↔ (a.0.items ≡ b.0.items) }
+    ensures times { (a b : PgTimeTz) → (⟦<PgTimeTz as PartialEq>⟧.eq a b ≡ true)
+        ↔ ((time_nanos a.time ≡ time_nanos b.time) × (a.offset.seconds ≡ b.offset.seconds)) }
+    ensures addresses { (a b : List ℕ) → (⟦<crate::MacAddress as PartialEq>⟧.eq a b ≡ true)
+        ↔ (a ≡ b) }
+    ensures texts { (a b : PgCiText) → (⟦<PgCiText as PartialEq>⟧.eq a b ≡ true)
+        ↔ (string_bytes a.0 ≡ string_bytes b.0) }
+    ensures bytes { (a b : PgBytea) → (⟦<PgBytea as PartialEq>⟧.eq a b ≡ true)
+        ↔ (a.0.items ≡ b.0.items) }
     ensures arrays { (a b : _) → (⟦<PgByteaArray<N> as PartialEq>⟧.eq a b ≡ true) ↔ (a.0 ≡ b.0) }
 {}
 

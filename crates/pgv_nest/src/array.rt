@@ -39,7 +39,8 @@ pub fn array_head_of<'a>(
     bytes: &'a [u8],
 ) -> Result<Option<ArrayHead<'a>>, CodecError>
     ensures exact { Gives (option_map head_shown) (head type_info.now bytes.now) result }
-    ensures within { IfOk result (λ found. IfSome found (λ h. length h.frames.now ≤ length bytes.now)) }
+    ensures within { IfOk result (λ found. IfSome found
+        (λ h. length h.frames.now ≤ length bytes.now)) }
 {
     let (dimensions, rest) = u32_in_front(bytes)?;
     match dimensions {

@@ -60,5 +60,6 @@ pub fn record_text_begins()
 /// `next_field` reads a value from the fields that are left of a record text iff the first of them has this value, and leaves
 /// the others, whatever reads the value.
 pub fn text_field_is_its_value<M>()
-    ensures { (accepts : Ty → Bool) (parse : Given → Outcome M) → TextFieldIsItsValue accepts parse }
+    ensures { (accepts : Ty → Bool) (parse : Given → Outcome M)
+        → TextFieldIsItsValue accepts parse }
 {}

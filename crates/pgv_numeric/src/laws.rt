@@ -16,19 +16,30 @@ use pgv_codec::{Decode, Encode, PgHasArrayType, ReadBack, Type};
 
 /// A `PgMoney` is a money (OID 790), eight bytes in two's complement. Its arrays are `money[]` (791).
 pub fn money_is_a_money()
-    ensures { IsCodecRow ⟦<PgMoney as Type>⟧ ⟦<PgMoney as PgHasArrayType>⟧ ⟦<PgMoney as Encode>⟧
-        ⟦<PgMoney as Decode>⟧ ⟦<PgMoney as ReadBack>⟧.kept (record { info = builtin 790; array = builtin 791;
-        encoding = λ amount. plainly (writes (signed_image w64 amount.0));
-        view = λ amount. amount.0; parse = without_memory parse_money; kept = λ amount. amount.0 }) }
+    ensures { IsCodecRow ⟦<PgMoney as Type>⟧ ⟦<PgMoney as PgHasArrayType>⟧
+        ⟦<PgMoney as Encode>⟧ ⟦<PgMoney as Decode>⟧ ⟦<PgMoney as ReadBack>⟧.kept (record {
+          info = builtin 790;
+          array = builtin 791;
+          encoding = λ amount. plainly (writes (signed_image w64 amount.0));
+          view = λ amount. amount.0;
+          parse = without_memory parse_money;
+          kept = λ amount. amount.0;
+        }) }
 {}
 
 /// A `PgNumeric` is a numeric (OID 1700), a list of words of two bytes. Its arrays are `numeric[]` (1231). More than
 /// 32767 digits are refused before memory is asked for, and else the first digit that isn't from 0 to 9999.
 pub fn numeric_is_a_numeric()
-    ensures { IsCodecRow ⟦<crate::PgNumeric as Type>⟧ ⟦<crate::PgNumeric as PgHasArrayType>⟧ ⟦<crate::PgNumeric as Encode>⟧
-        ⟦<crate::PgNumeric as Decode>⟧ ⟦<crate::PgNumeric as ReadBack>⟧.kept (record { info = builtin 1700; array = builtin 1231;
-        encoding = λ n. plainly (numeric_image (numeric_of n));
-        view = numeric_of; parse = parse_numeric; kept = numeric_of }) }
+    ensures { IsCodecRow ⟦<crate::PgNumeric as Type>⟧ ⟦<crate::PgNumeric as PgHasArrayType>⟧
+        ⟦<crate::PgNumeric as Encode>⟧ ⟦<crate::PgNumeric as Decode>⟧
+        ⟦<crate::PgNumeric as ReadBack>⟧.kept (record {
+          info = builtin 1700;
+          array = builtin 1231;
+          encoding = λ n. plainly (numeric_image (numeric_of n));
+          view = numeric_of;
+          parse = parse_numeric;
+          kept = numeric_of;
+        }) }
 {}
 
 /// `money_in_binary` reads an amount from bytes iff the bytes begin with the eight bytes of this amount.

@@ -68,7 +68,8 @@ fn encode_bounds<T: Encode>(
     end: &Bound<T>,
     out: &mut PgArgumentBuffer,
 ) -> Result<IsNull, CodecError>
-    ensures encodes { Encodes (bounds_image (bound_map T.encoding start.now) (bound_map T.encoding end.now)) out.old out.new result }
+    ensures encodes { Encodes (bounds_image (bound_map T.encoding start.now)
+        (bound_map T.encoding end.now)) out.old out.new result }
     ensures appended { OnErr result (Extends out.old out.new) }
 {
     out.push(RangeFlags::of(start, end).bits())?;
@@ -167,7 +168,8 @@ fn read_bounds<T: Decode>(
     above: Side,
     bytes: &[u8],
 ) -> Result<PgRange<T>, CodecError>
-    ensures { Gives (range_view T.view) (bounds_in T.parse element.now below above bytes.now) result }
+    ensures { Gives (range_view T.view) (bounds_in T.parse element.now below
+        above bytes.now) result }
 {
     let mut rest = bytes;
     let start = read_bound(alloc, element, below, &mut rest)?;
@@ -182,7 +184,8 @@ fn read_bound<'a, T: Decode>(
     side: Side,
     bytes: &mut &'a [u8],
 ) -> Result<Bound<T>, CodecError>
-    ensures { Gives (λ bound. (bound_map T.view bound, bytes.new.now)) (bound_in T.parse element.now side bytes.old.now) result }
+    ensures { Gives (λ bound. (bound_map T.view bound, bytes.new.now))
+        (bound_in T.parse element.now side bytes.old.now) result }
 {
     match side {
         Side::Infinite => Ok(Bound::Unbounded),
@@ -198,7 +201,8 @@ fn read_value<'a, T: Decode>(
     element: &PgTypeInfo,
     bytes: &mut &'a [u8],
 ) -> Result<T, CodecError>
-    ensures { Gives (λ value. (T.view value, bytes.new.now)) (value_in_front T.parse element.now bytes.old.now) result }
+    ensures { Gives (λ value. (T.view value, bytes.new.now))
+        (value_in_front T.parse element.now bytes.old.now) result }
 {
     let all: &'a [u8] = *bytes;
     let (part, rest) = part_in_front(all)?;
@@ -222,7 +226,8 @@ fn read_text<T: Decode + Type>(alloc: Global, text: &str) -> Result<PgRange<T>, 
 /// The two parts of a range, each read under the own type of `T`.
 #[tactic(auto, unfolding(crate::specs::RangeGrammar::bounds_in_text))]
 fn read_parts<T: Decode + Type>(alloc: Global, parts: Parts<'_>) -> Result<PgRange<T>, CodecError>
-    ensures { Gives (range_view T.view) (bounds_in_text T.parse T.info (copies parts.entry) (nest parts.entry)) result }
+    ensures { Gives (range_view T.view) (bounds_in_text T.parse T.info (copies parts.entry)
+        (nest parts.entry)) result }
 {
     let (lower_included, upper_included) = parts.includes();
     let mut parts = parts;
@@ -239,7 +244,8 @@ fn next_bound_of<T: Decode + Type>(
     included: bool,
     text: &mut String,
 ) -> Result<Bound<T>, CodecError>
-    ensures exact { Gives (λ bound. (bound_map T.view bound, (nest parts.new).values)) (next_bound T.parse T.info included (copies parts.old) (nest parts.old).values) result }
+    ensures exact { Gives (λ bound. (bound_map T.view bound, (nest parts.new).values))
+        (next_bound T.parse T.info included (copies parts.old) (nest parts.old).values) result }
     ensures copies { OnOk result (copies parts.new ≡ drop 1 (copies parts.old)) }
 {
     let Some(part) = parts.next_borrowed(text)? else {
@@ -257,7 +263,8 @@ fn bound_of_text<T: Decode + Type>(
     included: bool,
     text: &str,
 ) -> Result<Bound<T>, CodecError>
-    ensures { Gives (bound_map T.view) (bound_in_text T.parse T.info included (Some text.now)) result }
+    ensures { Gives (bound_map T.view) (bound_in_text T.parse T.info included
+        (Some text.now)) result }
 {
     let part = PgValueRef::of_text(Some(text), T::type_info());
     let value = T::decode(alloc, part)?;

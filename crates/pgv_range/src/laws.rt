@@ -48,7 +48,9 @@ type OfLists<T> = PgRange<Vec<T>>;
 /// The bytes are a flag byte and a frame for each bound that there is, or a flag byte with 01; anything may come after
 /// them.
 pub fn range_is_its_bounds<T: Type + Decode>()
-    ensures { (t : Ty) (bytes : List ℕ) (m : RangeOf T.View) → AreBytes bytes → Reads ⟦<PgRange<T> as Decode>⟧.parse (given t Binary (Some bytes)) m ↔ IsRange T.parse t bytes m }
+    ensures { (t : Ty) (bytes : List ℕ) (m : RangeOf T.View) → AreBytes bytes
+        → Reads ⟦<PgRange<T> as Decode>⟧.parse (given t Binary (Some bytes)) m
+        ↔ IsRange T.parse t bytes m }
 {}
 
 /// Under a type, bytes in binary are at most one range.
@@ -73,7 +75,8 @@ pub fn one_range_in_text<T: Type + Decode>()
 
 /// Null is never decoded as a range, in either format.
 pub fn null_is_no_range<T: Type + Decode>()
-    ensures { (t : Ty) (format : Format) → ⟦<PgRange<T> as Decode>⟧.parse (given t format None) ≡ fails UnexpectedNull }
+    ensures { (t : Ty) (format : Format) → ⟦<PgRange<T> as Decode>⟧.parse (given t format None)
+        ≡ fails UnexpectedNull }
 {}
 
 /// A range is written as a flag byte and the frames of its bounds, and what it says, its grammar and what it keeps are
@@ -81,15 +84,18 @@ pub fn null_is_no_range<T: Type + Decode>()
 ///
 /// The empty range is a flag byte, and is kept.
 pub fn ranges_are_their_bounds<T: ReadBack + Type>()
-    ensures written { IsWrittenAs ⟦<PgRange<T> as Encode>⟧ (λ r. plainly (range_image (range_view T.encoding r))) }
-    ensures read { IsReadAs ⟦<PgRange<T> as Decode>⟧ (range_view T.view) (parse_range T.info T.parse) }
+    ensures written { IsWrittenAs ⟦<PgRange<T> as Encode>⟧
+        (λ r. plainly (range_image (range_view T.encoding r))) }
+    ensures read { IsReadAs ⟦<PgRange<T> as Decode>⟧ (range_view T.view)
+        (parse_range T.info T.parse) }
     ensures kept { ⟦<PgRange<T> as ReadBack>⟧.kept ≡ range_kept T.kept }
 {}
 
 /// If reading a bound never asks for memory, reading a range asks only for copies: in binary of a custom type that the
 /// range is over, in text of a part that is not one run of the text's bytes.
 pub fn ranges_take_only_for_copies<T: Decode + Type>()
-    ensures { ((value : Given) → (T.parse value).may_alloc ≡ false) → TakesOnlyForCopies ⟦<PgRange<T> as Decode>⟧.parse }
+    ensures { ((value : Given) → (T.parse value).may_alloc ≡ false)
+        → TakesOnlyForCopies ⟦<PgRange<T> as Decode>⟧.parse }
 {}
 
 /// Reading a range of `i32`, `i64`, `Date`, `DateTime` or `Timestamp` asks for memory only for these copies.
@@ -112,9 +118,13 @@ pub fn own_ranges_take_only_for_copies()
 ///
 /// So it does if every value fits that type. The empty range fits every type of kind range.
 pub fn ranges_fit<T: ReadBack + Type>()
-    ensures empty { (t u : Ty) (oids : List Oid) → IsRangeOver t u → ⟦<PgRange<T> as ReadBack>⟧.fits Empty t oids }
-    ensures bounds { (lower upper : _) (t u : Ty) (oids : List Oid) → IsRangeOver t u → BoundsFit T.encoding T.fits u lower upper oids → ⟦<PgRange<T> as ReadBack>⟧.fits (Bounds lower upper) t oids }
-    ensures always { (r : _) (t u : Ty) (oids : List Oid) → IsRangeOver t u → ((v : T) (own : List Oid) → T.fits v u own) → ⟦<PgRange<T> as ReadBack>⟧.fits r t oids }
+    ensures empty { (t u : Ty) (oids : List Oid) → IsRangeOver t u
+        → ⟦<PgRange<T> as ReadBack>⟧.fits Empty t oids }
+    ensures bounds { (lower upper : _) (t u : Ty) (oids : List Oid) → IsRangeOver t u
+        → BoundsFit T.encoding T.fits u lower upper oids
+        → ⟦<PgRange<T> as ReadBack>⟧.fits (Bounds lower upper) t oids }
+    ensures always { (r : _) (t u : Ty) (oids : List Oid) → IsRangeOver t u
+        → ((v : T) (own : List Oid) → T.fits v u own) → ⟦<PgRange<T> as ReadBack>⟧.fits r t oids }
 {}
 
 /// A range of `i32`, `i64`, `Date`, `DateTime` or `Timestamp` fits every type of kind range.
@@ -131,12 +141,12 @@ pub fn own_ranges_fit()
 pub fn ranges_read_back<T: ReadBack + Type + PgHasArrayType>()
 where
     PgRange<T>: Type + PgHasArrayType,
-    ensures range { ComesBack ⟦<PgRange<T> as Encode>⟧ ⟦<PgRange<T> as Decode>⟧ ⟦<PgRange<T> as ReadBack>⟧.kept
-        ⟦<PgRange<T> as ReadBack>⟧.fits }
-    ensures ranges { ComesBack ⟦<Ranges<T> as Encode>⟧ ⟦<Ranges<T> as Decode>⟧ ⟦<Ranges<T> as ReadBack>⟧.kept
-        ⟦<Ranges<T> as ReadBack>⟧.fits }
-    ensures of_lists { ComesBack ⟦<OfLists<T> as Encode>⟧ ⟦<OfLists<T> as Decode>⟧ ⟦<OfLists<T> as ReadBack>⟧.kept
-        ⟦<OfLists<T> as ReadBack>⟧.fits }
+    ensures range { ComesBack ⟦<PgRange<T> as Encode>⟧ ⟦<PgRange<T> as Decode>⟧
+        ⟦<PgRange<T> as ReadBack>⟧.kept ⟦<PgRange<T> as ReadBack>⟧.fits }
+    ensures ranges { ComesBack ⟦<Ranges<T> as Encode>⟧ ⟦<Ranges<T> as Decode>⟧
+        ⟦<Ranges<T> as ReadBack>⟧.kept ⟦<Ranges<T> as ReadBack>⟧.fits }
+    ensures of_lists { ComesBack ⟦<OfLists<T> as Encode>⟧ ⟦<OfLists<T> as Decode>⟧
+        ⟦<OfLists<T> as ReadBack>⟧.kept ⟦<OfLists<T> as ReadBack>⟧.fits }
     ensures field { RangeFieldComesBack T.encoding T.info T.parse T.view T.kept
         ⟦<PgRange<T> as Type>⟧.info ⟦<PgRange<T> as Type>⟧.accepts ⟦<PgRange<T> as ReadBack>⟧.fits }
 {
@@ -149,17 +159,25 @@ where
 /// The conversion of a pair of bounds, or of a range of Rust, gives the range with exactly its bounds, and never the
 /// empty range.
 pub fn conversions<T>()
-    ensures pair { Converts ⟦<PgRange<T> as From<(Bound<T>, Bound<T>)>>⟧.from_gives (λ from. Bounds from.0 from.1) }
-    ensures range { Converts ⟦<PgRange<T> as From<Range<T>>>⟧.from_gives (λ from. Bounds (Included from.start) (Excluded from.end)) }
-    ensures range_from { Converts ⟦<PgRange<T> as From<RangeFrom<T>>>⟧.from_gives (λ from. Bounds (Included from.start) Unbounded) }
-    ensures inclusive { Converts ⟦<PgRange<T> as From<RangeInclusive<T>>>⟧.from_gives (λ from. Bounds (Included (range_inclusive_start from)) (Included (range_inclusive_end from))) }
-    ensures range_to { Converts ⟦<PgRange<T> as From<RangeTo<T>>>⟧.from_gives (λ from. Bounds Unbounded (Excluded from.end)) }
-    ensures to_inclusive { Converts ⟦<PgRange<T> as From<RangeToInclusive<T>>>⟧.from_gives (λ from. Bounds Unbounded (Included from.end)) }
+    ensures pair { Converts ⟦<PgRange<T> as From<(Bound<T>, Bound<T>)>>⟧.from_gives
+        (λ from. Bounds from.0 from.1) }
+    ensures range { Converts ⟦<PgRange<T> as From<Range<T>>>⟧.from_gives
+        (λ from. Bounds (Included from.start) (Excluded from.end)) }
+    ensures range_from { Converts ⟦<PgRange<T> as From<RangeFrom<T>>>⟧.from_gives
+        (λ from. Bounds (Included from.start) Unbounded) }
+    ensures inclusive { Converts ⟦<PgRange<T> as From<RangeInclusive<T>>>⟧.from_gives
+        (λ from. Bounds (Included (range_inclusive_start from))
+        (Included (range_inclusive_end from))) }
+    ensures range_to { Converts ⟦<PgRange<T> as From<RangeTo<T>>>⟧.from_gives
+        (λ from. Bounds Unbounded (Excluded from.end)) }
+    ensures to_inclusive { Converts ⟦<PgRange<T> as From<RangeToInclusive<T>>>⟧.from_gives
+        (λ from. Bounds Unbounded (Included from.end)) }
 {}
 
 /// The conversion of an array of two bounds gives the range with these bounds, and never the empty range.
 pub fn conversion_of_array<T: Copy>()
-    ensures { (from : _) (r : _) → ⟦<PgRange<T> as From<[Bound<T>; 2]>>⟧.from_gives from r ↔ IsOfBounds from r }
+    ensures { (from : _) (r : _) → ⟦<PgRange<T> as From<[Bound<T>; 2]>>⟧.from_gives from r
+        ↔ IsOfBounds from r }
 {}
 
 /// A range is printed as `empty`, or as its brackets around the printed values of its bounds, so far as `Display` of
@@ -175,30 +193,30 @@ pub fn equal_by_bounds<T: PartialEq>()
 
 /// A `PgRange<i32>` is an int4range (OID 3904). Its arrays are `int4range[]` (3905).
 pub fn i32_range_is_an_int4range()
-    ensures { IsRangeRow ⟦<i32 as Type>⟧ ⟦<PgRange<i32> as Type>⟧ ⟦<PgRange<i32> as PgHasArrayType>⟧
-        3904 23 3905 }
+    ensures { IsRangeRow ⟦<i32 as Type>⟧ ⟦<PgRange<i32> as Type>⟧
+        ⟦<PgRange<i32> as PgHasArrayType>⟧ 3904 23 3905 }
 {}
 
 /// A `PgRange<i64>` is an int8range (OID 3926). Its arrays are `int8range[]` (3927).
 pub fn i64_range_is_an_int8range()
-    ensures { IsRangeRow ⟦<i64 as Type>⟧ ⟦<PgRange<i64> as Type>⟧ ⟦<PgRange<i64> as PgHasArrayType>⟧
-        3926 20 3927 }
+    ensures { IsRangeRow ⟦<i64 as Type>⟧ ⟦<PgRange<i64> as Type>⟧
+        ⟦<PgRange<i64> as PgHasArrayType>⟧ 3926 20 3927 }
 {}
 
 /// A `PgRange<Date>` is a daterange (OID 3912). Its arrays are `daterange[]` (3913).
 pub fn date_range_is_a_daterange()
-    ensures { IsRangeRow ⟦<Date as Type>⟧ ⟦<PgRange<Date> as Type>⟧ ⟦<PgRange<Date> as PgHasArrayType>⟧
-        3912 1082 3913 }
+    ensures { IsRangeRow ⟦<Date as Type>⟧ ⟦<PgRange<Date> as Type>⟧
+        ⟦<PgRange<Date> as PgHasArrayType>⟧ 3912 1082 3913 }
 {}
 
 /// A `PgRange<DateTime>` is a tsrange (OID 3908). Its arrays are `tsrange[]` (3909).
 pub fn date_time_range_is_a_tsrange()
-    ensures { IsRangeRow ⟦<DateTime as Type>⟧ ⟦<PgRange<DateTime> as Type>⟧ ⟦<PgRange<DateTime> as PgHasArrayType>⟧
-        3908 1114 3909 }
+    ensures { IsRangeRow ⟦<DateTime as Type>⟧ ⟦<PgRange<DateTime> as Type>⟧
+        ⟦<PgRange<DateTime> as PgHasArrayType>⟧ 3908 1114 3909 }
 {}
 
 /// A `PgRange<Timestamp>` is a tstzrange (OID 3910). Its arrays are `tstzrange[]` (3911).
 pub fn timestamp_range_is_a_tstzrange()
-    ensures { IsRangeRow ⟦<Timestamp as Type>⟧ ⟦<PgRange<Timestamp> as Type>⟧ ⟦<PgRange<Timestamp> as PgHasArrayType>⟧
-        3910 1184 3911 }
+    ensures { IsRangeRow ⟦<Timestamp as Type>⟧ ⟦<PgRange<Timestamp> as Type>⟧
+        ⟦<PgRange<Timestamp> as PgHasArrayType>⟧ 3910 1184 3911 }
 {}

@@ -46,7 +46,8 @@ impl<T> PgRange<T> {
 
     /// The lower and the upper bound, by reference; `None` for the empty range.
     pub fn bounds(&self) -> Option<(Bound<&T>, Bound<&T>)>
-        ensures { option_map (λ b. (bound_map (λ x. x.now) b.0, bound_map (λ x. x.now) b.1)) result ≡ bounds_of self.now }
+        ensures { option_map (λ b. (bound_map (λ x. x.now) b.0, bound_map (λ x. x.now) b.1)) result
+            ≡ bounds_of self.now }
     {
         match self {
             PgRange::Empty => None,

@@ -201,9 +201,11 @@ impl<'d> PgColumns<'d> {
         body: &'d [u8],
         catalog: &C,
     ) -> Result<Self, CodecError>
-        ensures read { Gives (λ columns. columns) (description (C.known catalog.now) body.now) result }
+        ensures read { Gives (λ columns. columns)
+            (description (C.known catalog.now) body.now) result }
         // What is answered is what the body describes, and nothing but memory keeps a description from being answered.
-        ensures exact { IsRead (λ columns. columns) (IsDescription (C.known catalog.now) body.now) result }
+        ensures exact { IsRead (λ columns. columns)
+            (IsDescription (C.known catalog.now) body.now) result }
     {
         let list = described(alloc, body, catalog)?;
         Ok(PgColumns { list })

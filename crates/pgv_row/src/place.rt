@@ -110,7 +110,8 @@ pub fn find_places(
 ) -> Result<(), CodecError>
     ensures read { let row = data_row (vec_capacity places.old) width bytes.now in
         Gives (λ _. parts_at bytes.now places.new.items) row result }
-    ensures exact { IsRead (λ _. parts_at bytes.now places.new.items) (IsDataRow width bytes.now) result }
+    ensures exact { IsRead (λ _. parts_at bytes.now places.new.items)
+        (IsDataRow width bytes.now) result }
     ensures memory { width ≤ vec_capacity places.old → IfErr result (λ e. e ≢ Memory) }
     ensures places { OnOk result (AreWithin bytes.now places.new.items) }
 {

@@ -299,7 +299,8 @@ impl<'a> PgRow<'a> {
         alloc: Global,
         index: I,
     ) -> Result<T, ColumnError<I>>
-        ensures { GivesColumn T.view I.place I.missing index self.now (column_value T.accepts T.parse) result }
+        ensures { GivesColumn T.view I.place I.missing index self.now
+            (column_value T.accepts T.parse) result }
     {
         let Some(place) = index.index(self.columns) else {
             return Err(self.not_found(index));
@@ -321,7 +322,8 @@ impl<'a> PgRow<'a> {
         alloc: Global,
         index: I,
     ) -> Result<T, ColumnError<I>>
-        ensures { GivesColumn T.view I.place I.missing index self.now (unchecked_value T.parse) result }
+        ensures { GivesColumn T.view I.place I.missing index self.now
+            (unchecked_value T.parse) result }
     {
         let Some(place) = index.index(self.columns) else {
             return Err(self.not_found(index));
@@ -371,8 +373,10 @@ impl Model for PgOwnedRow {
 impl PgOwnedRow {
     /// The row under its columns. Another number of columns is refused with C12. Values that are kept of it share its bytes.
     pub fn as_row<'a>(&'a self, columns: &'a PgColumns<'a>) -> Result<PgRow<'a>, CodecError>
-        ensures row { IfOk result (λ row. row ≡ record { columns = columns.now; parts = self.now }) }
-        ensures refused { IfErr result (λ e. (e ≡ FieldCount) × (length columns.now ≢ length self.now)) }
+        ensures row { IfOk result (λ row. row ≡ record
+            { columns = columns.now; parts = self.now }) }
+        ensures refused { IfErr result (λ e. (e ≡ FieldCount)
+            × (length columns.now ≢ length self.now)) }
     {
         let columns = columns.as_slice();
         let places = self.places.as_slice();

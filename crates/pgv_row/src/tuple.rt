@@ -59,7 +59,8 @@ fn next_column<T: Type + Decode>(
     row: &PgRow<'_>,
     place: usize,
 ) -> Result<(T, usize), ColumnError<usize>>
-    ensures read { Gives (λ x. T.view x.0) (column_parse T.accepts T.parse row.now place) (or_codec result) }
+    ensures read { Gives (λ x. T.view x.0) (column_parse T.accepts T.parse row.now
+        place) (or_codec result) }
     ensures first { IfErr result (IsRefused (column_parse T.accepts T.parse) row.now place) }
     ensures next { IfOk result (λ x. x.1 ≡ place + 1) }
 {

@@ -61,9 +61,11 @@ pub fn run<R: BufRead + MayWait, W: Write>(
     reader: &mut R,
     writer: &mut W,
 ) -> Result<(), RunFault>
-    ensures end { OnOk result (IfSome (R.remaining reader.old) (λ input. IsAtEnd (R.remaining reader.new))) }
+    ensures end { OnOk result (IfSome (R.remaining reader.old)
+        (λ input. IsAtEnd (R.remaining reader.new))) }
     ensures session { OnOk result (IfSome (R.remaining reader.old) (λ input.
-        (output : List ℕ) × Appends (W.contents writer.old) (W.contents writer.new) output × IsSession [] (lines_of input) output)) }
+        (output : List ℕ) × Appends (W.contents writer.old) (W.contents writer.new) output
+        × IsSession [] (lines_of input) output)) }
 {
     let done = answer_lines(alloc, reader, writer);
     match writer.flush() {
@@ -78,9 +80,11 @@ fn answer_lines<R: BufRead + MayWait, W: Write>(
     reader: &mut R,
     writer: &mut W,
 ) -> Result<(), RunFault>
-    ensures end { OnOk result (IfSome (R.remaining reader.old) (λ input. IsAtEnd (R.remaining reader.new))) }
+    ensures end { OnOk result (IfSome (R.remaining reader.old)
+        (λ input. IsAtEnd (R.remaining reader.new))) }
     ensures session { OnOk result (IfSome (R.remaining reader.old) (λ input.
-        (output : List ℕ) × Appends (W.contents writer.old) (W.contents writer.new) output × IsSession [] (lines_of input) output)) }
+        (output : List ℕ) × Appends (W.contents writer.old) (W.contents writer.new) output
+        × IsSession [] (lines_of input) output)) }
 {
     let mut arguments = PgArguments::new(alloc);
     let mut line = Vec::new(alloc);
@@ -121,7 +125,8 @@ fn respond<W: Write>(
     line: &[u8],
     writer: &mut W,
 ) -> Result<(), RunFault>
-    ensures { OnOk result ((text : List ℕ) × Answers (before 10 line.now) arguments.old text arguments.new × Appends (W.contents writer.old) (W.contents writer.new) (text ++ 10 ∷ [])) }
+    ensures { OnOk result ((text : List ℕ) × Answers (before 10 line.now) arguments.old text
+        arguments.new × Appends (W.contents writer.old) (W.contents writer.new) (text ++ 10 ∷ [])) }
 {
     let (line, _) = split_at_byte(line, b'\n');
     let Ok(mut text) = answer(alloc, arguments, line) else {

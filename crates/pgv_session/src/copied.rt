@@ -17,7 +17,8 @@ use std::alloc::{AllocError, Global};
 
 /// The rows of a stream whose columns have the TYPEs of these names, or the first refusal alone.
 pub fn copied(alloc: Global, bytes: &[u8], names: &[u8]) -> Result<String, AllocError>
-    ensures { IfOk result (λ text. Copies (rows_named (words names.now)) bytes.now (string_bytes text)) }
+    ensures { IfOk result (λ text. Copies (rows_named (words names.now)) bytes.now
+        (string_bytes text)) }
 {
     let names = names_in(alloc, names)?;
     let mut types = Vec::new(alloc);
@@ -43,7 +44,8 @@ fn names_in<'a>(alloc: Global, text: &'a [u8]) -> Result<Vec<&'a [u8]>, AllocErr
 
 /// Appends the types of the TYPEs of these names; whether each has one.
 fn push_types(names: &[&[u8]], types: &mut Vec<PgTypeInfo>) -> Result<bool, AllocError>
-    ensures { IfOk result (λ known. TypesFrom (rows_named (map (λ name. name.now) names.now)) known types.old.items types.new.items) }
+    ensures { IfOk result (λ known. TypesFrom (rows_named (map (λ name. name.now) names.now)) known
+        types.old.items types.new.items) }
 {
     let Some((name, names)) = names.split_first() else {
         return Ok(true);
@@ -62,7 +64,8 @@ fn rows(
     names: &[&[u8]],
     types: Vec<PgTypeInfo>,
 ) -> Result<String, AllocError>
-    ensures { IfOk result (λ answer. CopiesIn (rows_named (map (λ name. name.now) names.now)) types.items (header bytes.now) (string_bytes answer)) }
+    ensures { IfOk result (λ answer. CopiesIn (rows_named (map (λ name. name.now) names.now))
+        types.items (header bytes.now) (string_bytes answer)) }
 {
     let mut reader = match PgCopyReader::new(bytes, types) {
         Ok(reader) => reader,
@@ -85,7 +88,8 @@ fn rows(
 
 /// The texts of all rows, or `none`.
 fn all_rows(alloc: Global, texts: &[String]) -> Result<String, AllocError>
-    ensures { IfOk result (λ answer. string_bytes answer ≡ rows_told (map (λ text. string_bytes text) texts.now)) }
+    ensures { IfOk result (λ answer. string_bytes answer
+        ≡ rows_told (map (λ text. string_bytes text) texts.now)) }
 {
     if texts.is_empty() {
         return String::from_str(alloc, "none");
@@ -111,7 +115,9 @@ fn push_fields(
     row: &[PgValueRef<'_>],
     texts: &mut Vec<String>,
 ) -> Result<Option<String>, AllocError>
-    ensures { IfOk result (λ refused. FieldsFrom (rows_named (map (λ name. name.now) names.now)) row.now refused (map (λ text. string_bytes text) texts.old.items) (map (λ text. string_bytes text) texts.new.items)) }
+    ensures { IfOk result (λ refused. FieldsFrom (rows_named (map (λ name. name.now) names.now))
+        row.now refused (map (λ text. string_bytes text) texts.old.items)
+        (map (λ text. string_bytes text) texts.new.items)) }
 {
     let Some((name, names)) = names.split_first() else {
         return Ok(None);
@@ -138,7 +144,8 @@ fn field(alloc: Global, name: &[u8], value: &PgValueRef<'_>) -> Result<Told, All
 
 /// Texts with this between each two.
 fn joined(alloc: Global, texts: &[String], between: &str) -> Result<String, AllocError>
-    ensures { IfOk result (λ text. string_bytes text ≡ all_with between.now (map (λ text. string_bytes text) texts.now)) }
+    ensures { IfOk result (λ text. string_bytes text
+        ≡ all_with between.now (map (λ text. string_bytes text) texts.now)) }
 {
     let mut joined = String::new(alloc);
     let Some((first, rest)) = texts.split_first() else {

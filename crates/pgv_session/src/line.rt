@@ -118,7 +118,8 @@ fn oids(alloc: Global, text: &[u8]) -> Result<Option<Vec<Oid>>, AllocError>
 
 /// Hex digits.
 fn hex_bytes(alloc: Global, text: &[u8]) -> Result<Option<Vec<u8>>, AllocError>
-    ensures { IfOk result (λ found. option_map (λ v. v.items) found ≡ hex_given (decode_of text.now)) }
+    ensures { IfOk result (λ found. option_map (λ v. v.items) found
+        ≡ hex_given (decode_of text.now)) }
 {
     match hex::decode(alloc, text) {
         Ok(bytes) => Ok(Some(bytes)),
@@ -129,7 +130,8 @@ fn hex_bytes(alloc: Global, text: &[u8]) -> Result<Option<Vec<u8>>, AllocError>
 
 /// `null`, or hex digits.
 fn given_bytes(alloc: Global, text: &[u8]) -> Result<Option<Option<Vec<u8>>>, AllocError>
-    ensures { IfOk result (λ found. option_map (option_map (λ v. v.items)) found ≡ bytes_given text.now) }
+    ensures { IfOk result (λ found. option_map (option_map (λ v. v.items)) found
+        ≡ bytes_given text.now) }
 {
     if is(text, "null") {
         return Ok(Some(None));
@@ -171,7 +173,8 @@ pub fn parse<'a>(alloc: Global, line: &'a [u8]) -> Result<Option<Request<'a>>, A
 }
 
 fn alone<'a>(request: Request<'a>, rest: Option<&[u8]>) -> Option<Request<'a>>
-    ensures { option_map request_seen result ≡ alone_by (request_seen request.entry) (option_copied rest.entry) }
+    ensures { option_map request_seen result ≡ alone_by (request_seen request.entry)
+        (option_copied rest.entry) }
 {
     match rest {
         None => Some(request),
@@ -197,7 +200,8 @@ fn resolve_line<'a>(
     alloc: Global,
     rest: Option<&'a [u8]>,
 ) -> Result<Option<Request<'a>>, AllocError>
-    ensures { IfOk result (λ found. option_map request_seen found ≡ resolve_by (option_copied rest.entry)) }
+    ensures { IfOk result (λ found. option_map request_seen found
+        ≡ resolve_by (option_copied rest.entry)) }
 {
     let Some(rest) = rest else {
         return Ok(Some(Request::Resolve(Vec::new(alloc))));
@@ -209,7 +213,8 @@ fn resolve_line<'a>(
 }
 
 fn read_line<'a>(alloc: Global, rest: Option<&'a [u8]>) -> Result<Option<Request<'a>>, AllocError>
-    ensures { IfOk result (λ found. option_map request_seen found ≡ read_by (option_copied rest.entry)) }
+    ensures { IfOk result (λ found. option_map request_seen found
+        ≡ read_by (option_copied rest.entry)) }
 {
     let Some(rest) = rest else {
         return Ok(None);
@@ -225,7 +230,8 @@ fn read_line<'a>(alloc: Global, rest: Option<&'a [u8]>) -> Result<Option<Request
 }
 
 fn copy_line<'a>(alloc: Global, rest: Option<&'a [u8]>) -> Result<Option<Request<'a>>, AllocError>
-    ensures { IfOk result (λ found. option_map request_seen found ≡ copy_by (option_copied rest.entry)) }
+    ensures { IfOk result (λ found. option_map request_seen found
+        ≡ copy_by (option_copied rest.entry)) }
 {
     let Some(rest) = rest else {
         return Ok(None);

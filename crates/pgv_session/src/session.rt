@@ -17,7 +17,8 @@ use std::alloc::{AllocError, Global};
 
 /// Answers a line. Only out of memory is an error, and then nothing is promised of the arguments.
 pub fn answer(alloc: Global, arguments: &mut PgArguments, line: &[u8]) -> Result<String, AllocError>
-    ensures { IfOk result (λ text. Answers line.now arguments.old (string_bytes text) arguments.new) }
+    ensures { IfOk result (λ text. Answers line.now arguments.old
+        (string_bytes text) arguments.new) }
 {
     let request = parse(alloc, line)?;
     respond_to(alloc, arguments, request)
@@ -29,7 +30,8 @@ fn respond_to(
     arguments: &mut PgArguments,
     request: Option<Request>,
 ) -> Result<String, AllocError>
-    ensures { IfOk result (λ text. RespondsTo (option_map request_seen request.entry) arguments.old (string_bytes text) arguments.new) }
+    ensures { IfOk result (λ text. RespondsTo (option_map request_seen request.entry) arguments.old
+        (string_bytes text) arguments.new) }
 {
     let Some(request) = request else {
         return String::from_str(alloc, "refused line");
@@ -45,7 +47,9 @@ fn respond_to(
 
 /// Fills the holes. Each argument's parameter type is its own. The number of OIDs is tested before the types are copied.
 fn resolve(alloc: Global, arguments: &mut PgArguments, oids: &[Oid]) -> Result<String, AllocError>
-    ensures { IfOk result (λ answer. Resolves (length oids.now == hole_count (all_tokens arguments.old)) oids.now arguments.old (string_bytes answer) arguments.new) }
+    ensures { IfOk result (λ answer. Resolves
+        (length oids.now == hole_count (all_tokens arguments.old)) oids.now arguments.old
+        (string_bytes answer) arguments.new) }
 {
     if oids.len() != arguments.hole_types().len() {
         return refusal(alloc, &CodecError::HoleCount);
@@ -74,7 +78,8 @@ fn names(alloc: Global, types: &[PgTypeInfo]) -> Result<String, AllocError>
 }
 
 fn push_name(text: &mut String, hole_type: &PgTypeInfo) -> Result<(), AllocError>
-    ensures { OnOk result (string_bytes text.new ≡ string_bytes text.old ++ display_of hole_type.now) }
+    ensures { OnOk result (string_bytes text.new
+        ≡ string_bytes text.old ++ display_of hole_type.now) }
 {
     let name = hole_type.name();
     text.push_str(name.text())?;

@@ -188,8 +188,8 @@ fn add_value<T: Encode + Type>(
     value: &T,
 ) -> Result<String, AllocError>
     ensures { IfOk result (λ answer.
-        Adds (framed_as T.info (T.encoding value.now)) (why_of (frame (T.encoding value.now)).answer)
-        arguments.old (string_bytes answer) arguments.new) }
+        Adds (framed_as T.info (T.encoding value.now))
+        (why_of (frame (T.encoding value.now)).answer) arguments.old (string_bytes answer) arguments.new) }
 {
     match arguments.add_by_ref(value) {
         Ok(()) => placeholder(alloc, arguments),
@@ -229,8 +229,8 @@ fn read<T: Codec>(alloc: Global, part: Option<&[u8]>) -> Result<Told, AllocError
 /// The frame that a value writes, in hex, or why it is refused.
 fn frame_text<T: Encode + Type>(alloc: Global, value: &T) -> Result<Told, AllocError>
     ensures answer { IfOk result (λ told.
-        Shows (framed_as T.info (T.encoding value.now)) (why_of (frame (T.encoding value.now)).answer)
-        (told_text told)) }
+        Shows (framed_as T.info (T.encoding value.now))
+        (why_of (frame (T.encoding value.now)).answer) (told_text told)) }
     ensures exact { IfOk result (λ told.
         is_said told ≡ is_some (framed_as T.info (T.encoding value.now))) }
 {

@@ -38,7 +38,8 @@ impl<'a> Elements<'a> {
     /// The elements of a text; `None` if no array text begins like it.
     #[inline(always)]
     pub fn of_text(text: &'a str) -> Option<Self>
-        ensures { MatchOption result (array_values text.now ≡ None) (λ elements. array_values text.now ≡ ahead elements) }
+        ensures { MatchOption result (array_values text.now ≡ None)
+            (λ elements. array_values text.now ≡ ahead elements) }
     {
         let Some((_, rest)) = after_opening(TextForm::Array, text) else {
             return None;
@@ -64,7 +65,11 @@ impl<'a> Elements<'a> {
     /// Goes on after the part that ends at this stop.
     #[inline(always)]
     fn step(&mut self, part: Part<'a>, stop: Stop<'a>) -> Next<'a>
-        ensures { (bytes text : List ℕ) → self.old.ended ≡ false → IsEndOf Array self.old.rest.now bytes stop.entry → halts stop.entry.cell ≡ true → length stop.entry.rest.now < length self.old.rest.now → part_value part.entry text ≡ value_here array_form self.old.rest.now bytes → Follows result text self.old self.new }
+        ensures { (bytes text : List ℕ) → self.old.ended ≡ false
+            → IsEndOf Array self.old.rest.now bytes stop.entry → halts stop.entry.cell ≡ true
+            → length stop.entry.rest.now < length self.old.rest.now
+            → part_value part.entry text ≡ value_here array_form self.old.rest.now bytes
+            → Follows result text self.old self.new }
     {
         match stop.cell {
             Cell::Part => {
@@ -84,7 +89,8 @@ impl<'a> Elements<'a> {
     /// come `a` and `b c`, both borrowed, and then the end.
     #[inline(always)]
     pub fn next_borrowed(&mut self, text: &mut String) -> Result<Next<'a>, AllocError>
-        ensures next { IfOk result (λ next. Follows next (string_bytes text.new) self.old self.new) }
+        ensures next { IfOk result (λ next. Follows next (string_bytes text.new)
+            self.old self.new) }
         ensures err { OnErr result (self.new ≡ self.old) }
         // Only for an element that is copied memory is asked for.
         ensures copied { OnErr result (element_copied self.old ≡ true) }

@@ -155,7 +155,10 @@ pub fn address_is_its_value()
 
 /// Two networks are equal iff they have the same IP version, address and prefix.
 pub fn equal_networks()
-    ensures four { (a b : Ipv4Network) → (⟦<Ipv4Network as PartialEq>⟧.eq a b ≡ true) ↔ ((a.ip ≡ b.ip) × (a.prefix ≡ b.prefix)) }
-    ensures six { (a b : Ipv6Network) → (⟦<Ipv6Network as PartialEq>⟧.eq a b ≡ true) ↔ ((a.ip ≡ b.ip) × (a.prefix ≡ b.prefix)) }
-    ensures either { (a b : IpNetwork) → (⟦<IpNetwork as PartialEq>⟧.eq a b ≡ true) ↔ (network_of a ≡ network_of b) }
+    ensures four { (a b : Ipv4Network) → (⟦<Ipv4Network as PartialEq>⟧.eq a b ≡ true)
+        ↔ ((a.ip ≡ b.ip) × (a.prefix ≡ b.prefix)) }
+    ensures six { (a b : Ipv6Network) → (⟦<Ipv6Network as PartialEq>⟧.eq a b ≡ true)
+        ↔ ((a.ip ≡ b.ip) × (a.prefix ≡ b.prefix)) }
+    ensures either { (a b : IpNetwork) → (⟦<IpNetwork as PartialEq>⟧.eq a b ≡ true)
+        ↔ (network_of a ≡ network_of b) }
 {}

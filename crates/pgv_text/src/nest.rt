@@ -18,9 +18,11 @@ use std::alloc::{AllocError, Global};
 /// The elements of an array text of one dimension, as `{a,"b c",NULL}`; `None` if it is not an array text.
 pub fn array_elements(alloc: Global, text: &str) -> Result<Option<Vec<Option<String>>>, AllocError>
     // What is read is an array text of these values.
-    ensures found { IfOk result (λ found. IfSome found (λ v. IsArrayText (chars text.now) (map part_bytes v.items))) }
+    ensures found { IfOk result (λ found. IfSome found
+        (λ v. IsArrayText (chars text.now) (map part_bytes v.items))) }
     // Where nothing is read, the text is not an array text.
-    ensures none { IfOk result (λ found. IfNone found ((values : List (Option (List ℕ))) → IsArrayText (chars text.now) values → ⊥)) }
+    ensures none { IfOk result (λ found. IfNone found
+        ((values : List (Option (List ℕ))) → IsArrayText (chars text.now) values → ⊥)) }
     // The same by the computed values.
     ensures computed { IfOk result (λ found. option_map values_of found ≡ array_values text.now) }
     // Memory is asked for only where there are elements.
@@ -35,9 +37,11 @@ pub fn array_elements(alloc: Global, text: &str) -> Result<Option<Vec<Option<Str
 /// The fields of a record text, as `(a,"b c",)`; `None` if it is not a record text.
 pub fn record_fields(alloc: Global, text: &str) -> Result<Option<Vec<Option<String>>>, AllocError>
     // What is read is a record text of these values.
-    ensures found { IfOk result (λ found. IfSome found (λ v. IsRecordText (chars text.now) (map part_bytes v.items))) }
+    ensures found { IfOk result (λ found. IfSome found
+        (λ v. IsRecordText (chars text.now) (map part_bytes v.items))) }
     // Where nothing is read, the text is not a record text.
-    ensures none { IfOk result (λ found. IfNone found ((values : List (Option (List ℕ))) → IsRecordText (chars text.now) values → ⊥)) }
+    ensures none { IfOk result (λ found. IfNone found
+        ((values : List (Option (List ℕ))) → IsRecordText (chars text.now) values → ⊥)) }
     // The same by the computed values.
     ensures computed { IfOk result (λ found. option_map values_of found ≡ record_values text.now) }
     // Memory is asked for only where there are fields.
@@ -72,13 +76,17 @@ pub enum RangeText {
 #[tactic(auto, using(crate::proofs::Lists::two_bounds))]
 pub fn range_parts(alloc: Global, text: &str) -> Result<Option<RangeText>, AllocError>
     // What is read is what the range text is of.
-    ensures found { IfOk result (λ found. IfSome found (λ r. IsRangeOf (chars text.now) (range_of r))) }
+    ensures found { IfOk result (λ found. IfSome found
+        (λ r. IsRangeOf (chars text.now) (range_of r))) }
     // Where nothing is read, the text is not a range text.
-    ensures none { IfOk result (λ found. IfNone found ((other : RangeContent) → IsRangeOf (chars text.now) other → ⊥)) }
+    ensures none { IfOk result (λ found. IfNone found
+        ((other : RangeContent) → IsRangeOf (chars text.now) other → ⊥)) }
     // The same, computed.
-    ensures computed { IfOk result (λ found. option_map range_of found ≡ range_content (chars text.now)) }
+    ensures computed { IfOk result (λ found. option_map range_of found
+        ≡ range_content (chars text.now)) }
     // Memory is asked for only where there are bounds.
-    ensures asks { OnErr result ((is_some (range_content (chars text.now)) ≡ true) × (range_content (chars text.now) ≢ Some empty)) }
+    ensures asks { OnErr result ((is_some (range_content (chars text.now)) ≡ true)
+        × (range_content (chars text.now) ≢ Some empty)) }
 {
     let Some(parts) = Parts::new(TextForm::Range, text) else {
         return Ok(None);
@@ -91,7 +99,8 @@ pub fn range_parts(alloc: Global, text: &str) -> Result<Option<RangeText>, Alloc
 
 /// The two bounds of these parts; `None` where there are fewer.
 fn bounds_of(alloc: Global, parts: Parts<'_>) -> Result<Option<RangeText>, AllocError>
-    ensures two { IfOk result (λ found. length (nest parts.entry).values ≡ 2 → option_map range_of found ≡ Some (parts_of (nest parts.entry))) }
+    ensures two { IfOk result (λ found. length (nest parts.entry).values ≡ 2
+        → option_map range_of found ≡ Some (parts_of (nest parts.entry))) }
 {
     let (lower_included, upper_included) = parts.includes();
     let mut parts = parts;

@@ -30,7 +30,8 @@ fn is_empty_range(form: TextForm, text: &str) -> bool
 
 /// The opening bracket, and what is after it; `None` where there is none.
 pub(crate) fn after_opening(form: TextForm, text: &str) -> Option<(u8, &str)>
-    ensures { MatchOption result (nest_read (form_of form) text.now ≡ None) (λ p. (text.now ≡ p.0 ∷ p.1.now) × ((form_of form).opens p.0 ≡ true)) }
+    ensures { MatchOption result (nest_read (form_of form) text.now ≡ None)
+        (λ p. (text.now ≡ p.0 ∷ p.1.now) × ((form_of form).opens p.0 ≡ true)) }
 {
     match text.as_bytes() {
         [opening, ..] if opens(form, *opening) => Some((*opening, &text[1..])),
@@ -76,7 +77,8 @@ fn part_count(form: TextForm, text: &str) -> Option<(usize, u8)>
 
 /// The same if only usual bytes and commas come before the bracket, else `None`.
 fn usual_part_count(form: TextForm, bytes: &[u8]) -> Option<(usize, u8)>
-    ensures { IfSome result (λ found. Some found ≡ numbered 1 (read (form_of form) Start bytes.now)) }
+    ensures { IfSome result (λ found. Some found
+        ≡ numbered 1 (read (form_of form) Start bytes.now)) }
 {
     let mut count = 1;
     let mut left = bytes;
@@ -103,7 +105,8 @@ pub(crate) fn one_run(form: TextForm, text: &str) -> Option<Stop<'_>>
     ensures shorter { IfSome result (λ stop. length stop.rest.now < length text.now) }
     // It is `None` iff the part isn't in the text as it is.
     ensures as_it_is { is_some result ≡ as_it_is (form_of form) text.now }
-    ensures copies { IfSome result (λ stop. copies_after (form_of form) Start text.now ≡ copies_from (form_of form) stop.rest.now) }
+    ensures copies { IfSome result (λ stop. copies_after (form_of form) Start text.now
+        ≡ copies_from (form_of form) stop.rest.now) }
 {
     let first = next_stop(form, Place::Start, text)?;
     match first.cell {
@@ -119,7 +122,8 @@ fn run_in_quotes(form: TextForm, text: &str) -> Option<Stop<'_>>
     ensures part { IfSome result (IsPartFrom form Quoted text.now) }
     ensures shorter { IfSome result (λ stop. length stop.rest.now < length text.now) }
     ensures in_quotes { is_some result ≡ in_quotes (form_of form) text.now }
-    ensures copies { IfSome result (λ stop. copies_after (form_of form) Quoted text.now ≡ copies_from (form_of form) stop.rest.now) }
+    ensures copies { IfSome result (λ stop. copies_after (form_of form) Quoted text.now
+        ≡ copies_from (form_of form) stop.rest.now) }
 {
     let inside = next_stop(form, Place::Quoted, text)?;
     let Cell::Pass(Place::AfterQuote) = inside.cell else {
@@ -141,11 +145,16 @@ pub(crate) fn unquote<'a>(
     text: &'a str,
     out: &mut String,
 ) -> Result<Option<Stop<'a>>, AllocError>
-    ensures part { IfOk result (λ found. IfSome found (IsEndOf form text.now (string_bytes out.new))) }
-    ensures shorter { IfOk result (λ found. IfSome found (λ stop. length stop.rest.now < length text.now)) }
+    ensures part { IfOk result (λ found. IfSome found
+        (IsEndOf form text.now (string_bytes out.new))) }
+    ensures shorter { IfOk result (λ found. IfSome found
+        (λ stop. length stop.rest.now < length text.now)) }
     ensures halts { IfOk result (λ found. IfSome found (λ stop. halts stop.cell ≡ true)) }
     ensures none { IfOk result (λ found. IfNone found (read (form_of form) Start text.now ≡ None)) }
-    ensures copies { IfOk result (λ found. IfSome found (λ stop. copies_after (form_of form) Start text.now ≡ copies_by (form_of form) stop.rest.now (λ q. copies_after (form_of form) q stop.rest.now) stop.cell)) }
+    ensures copies { IfOk result (λ found. IfSome found
+        (λ stop. copies_after (form_of form) Start text.now
+        ≡ copies_by (form_of form) stop.rest.now (λ q. copies_after (form_of form) q
+        stop.rest.now) stop.cell)) }
 {
     out.clear();
     let mut place = Place::Start;
@@ -213,14 +222,16 @@ impl<'a> Parts<'a> {
         // The parts to come and the brackets, or the empty range, are what the text is of.
         ensures found { IfSome result (λ p. IsTextOf form (chars text.now) (content form p)) }
         // Where there are none, the text is not in the form.
-        ensures none { IfNone result ((other : Content form) → IsTextOf form (chars text.now) other → ⊥) }
+        ensures none { IfNone result ((other : Content form)
+            → IsTextOf form (chars text.now) other → ⊥) }
         // The same, computed.
         ensures computed { option_map (content form) result ≡ content_of form (chars text.now) }
         // The empty range has no parts, and its brackets include nothing.
         ensures nothing { IfSome result (λ p. is_of_empty p ≡ true → nest p ≡ no_parts) }
         ensures of_empty { IfSome result (λ p. is_of_empty p ≡ is_empty_in form text.now) }
         // Which parts are copied, of a text between brackets.
-        ensures copies { IfSome result (λ p. is_of_empty p ≡ false → copies p ≡ copies_of form text.now) }
+        ensures copies { IfSome result (λ p. is_of_empty p ≡ false
+            → copies p ≡ copies_of form text.now) }
     {
         if is_empty_range(form, text) {
             return Some(Parts::of_empty_range());
@@ -300,10 +311,13 @@ impl<'a> Parts<'a> {
     pub fn next_into(&mut self, text: &mut String) -> Result<Option<bool>, AllocError>
         ensures next { IfOk result (λ found. MatchOption found
             (((nest self.old).values ≡ []) × (self.new ≡ self.old) × (string_bytes text.new ≡ []))
-            (λ present. ((nest self.old).values ≡ cond present (Some (string_bytes text.new)) None ∷ (nest self.new).values) × (present ≡ false → string_bytes text.new ≡ []))) }
+            (λ present. ((nest self.old).values
+            ≡ cond present (Some (string_bytes text.new)) None ∷ (nest self.new).values)
+            × (present ≡ false → string_bytes text.new ≡ []))) }
         ensures err { OnErr result ((self.new ≡ self.old) × (string_bytes text.new ≡ [])) }
         ensures at_end { (nest self.old).values ≡ [] → IfErr result (λ e. ⊥) }
-        ensures copies { (nest self.old).values ≢ [] → OnOk result (copies self.new ≡ drop 1 (copies self.old)) }
+        ensures copies { (nest self.old).values ≢ []
+            → OnOk result (copies self.new ≡ drop 1 (copies self.old)) }
         ensures lower { (nest self.new).lower ≡ (nest self.old).lower }
         ensures upper { (nest self.new).upper ≡ (nest self.old).upper }
         ensures empty { is_of_empty self.new ≡ is_of_empty self.old }
@@ -336,7 +350,10 @@ impl<'a> Parts<'a> {
     /// the array `{a,"b c"}` come `a` and `b c`, both borrowed, and then `None`.
     #[inline(always)]
     pub fn next_borrowed(&mut self, text: &mut String) -> Result<Option<Part<'a>>, AllocError>
-        ensures next { IfOk result (λ found. MatchOption found (((nest self.old).values ≡ []) × (self.new ≡ self.old)) (λ part. (nest self.old).values ≡ part_value part (string_bytes text.new) ∷ (nest self.new).values)) }
+        ensures next { IfOk result (λ found. MatchOption found
+            (((nest self.old).values ≡ []) × (self.new ≡ self.old))
+            (λ part. (nest self.old).values ≡ part_value part (string_bytes text.new) ∷
+            (nest self.new).values)) }
         ensures err { OnErr result (self.new ≡ self.old) }
         ensures lower { (nest self.new).lower ≡ (nest self.old).lower }
         ensures upper { (nest self.new).upper ≡ (nest self.old).upper }
@@ -344,7 +361,8 @@ impl<'a> Parts<'a> {
         ensures at_end { (nest self.old).values ≡ [] → IfErr result (λ e. ⊥) }
         // Only for a part that is copied memory is asked for.
         ensures copied { OnErr result (first_copied (copies self.old) ≡ true) }
-        ensures copies { (nest self.old).values ≢ [] → OnOk result (copies self.new ≡ drop 1 (copies self.old)) }
+        ensures copies { (nest self.old).values ≢ []
+            → OnOk result (copies self.new ≡ drop 1 (copies self.old)) }
     {
         if self.count == 0 {
             return Ok(None);
@@ -371,7 +389,9 @@ impl<'a> Parts<'a> {
     /// The next part, in a text of its own. If memory runs out, the parts stay as they were. From the array `{a,NULL}`
     /// come `a` and null, and then `None`.
     pub fn next_part(&mut self, alloc: Global) -> Result<Option<Option<String>>, AllocError>
-        ensures next { IfOk result (λ found. MatchOption found (((nest self.old).values ≡ []) × (self.new ≡ self.old)) (λ part. (nest self.old).values ≡ part_bytes part ∷ (nest self.new).values)) }
+        ensures next { IfOk result (λ found. MatchOption found
+            (((nest self.old).values ≡ []) × (self.new ≡ self.old))
+            (λ part. (nest self.old).values ≡ part_bytes part ∷ (nest self.new).values)) }
         ensures err { OnErr result (self.new ≡ self.old) }
         ensures at_end { (nest self.old).values ≡ [] → IfErr result (λ e. ⊥) }
         ensures lower { (nest self.new).lower ≡ (nest self.old).lower }

@@ -109,7 +109,9 @@ impl<'a> IdentifierChars<'a> {
     /// What the next character of the text is, if it is significant at once.
     fn seen(&mut self, ch: char) -> Option<IdentifierChar>
         ensures letters { self.new.letters ≡ self.old.letters }
-        ensures goes { (cs : List ℕ) → walk self.old.case_sensitive self.old.last_char_quote (ch ∷ cs) ≡ option_to_list (option_map char_seen result) ++ walk self.new.case_sensitive self.new.last_char_quote cs }
+        ensures goes { (cs : List ℕ) → walk self.old.case_sensitive self.old.last_char_quote
+            (ch ∷ cs) ≡ option_to_list (option_map char_seen result)
+            ++ walk self.new.case_sensitive self.new.last_char_quote cs }
     {
         if ch == '"' {
             if !self.last_char_quote {

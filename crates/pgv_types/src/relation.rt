@@ -112,7 +112,8 @@ impl PgTypeInfo {
 fn elements_related(first: PgTypeRef<'_>, second: PgTypeRef<'_>, soft: bool) -> bool
     requires first { IsHeld first }
     requires second { IsHeld second }
-    ensures { result ≡ related soft (levels (ref_type first.entry)) (levels (ref_type second.entry)) }
+    ensures { result ≡ related soft (levels (ref_type first.entry))
+        (levels (ref_type second.entry)) }
 {
     let mut left = first;
     let mut right = second;

@@ -168,7 +168,8 @@ impl PgType {
 
     /// The element of a type that is not custom, which is made here.
     pub(crate) fn made_element(&self) -> Option<PgTypeInfo>
-        ensures element { is_custom (type_of self.now) ≡ false → result ≡ element_of (type_of self.now) }
+        ensures element { is_custom (type_of self.now) ≡ false
+            → result ≡ element_of (type_of self.now) }
         ensures made { IfSome result IsNotCustom }
     {
         match self {
@@ -207,7 +208,8 @@ impl PgType {
     /// The kind of a built-in type that is no array.
     #[tactic(auto, using(crate::proofs::KindParts::kind_of_range, crate::proofs::KindParts::kind_of_pseudo, crate::proofs::KindParts::kind_of_simple))]
     fn row_kind(&self) -> PgTypeKindRef<'_>
-        ensures { element_built_in (type_of self.now) ≡ None → kind_lent result ≡ kind_when_built_in (type_of self.now) }
+        ensures { element_built_in (type_of self.now) ≡ None
+            → kind_lent result ≡ kind_when_built_in (type_of self.now) }
     {
         match self.built_in_range() {
             Some(element) => PgTypeKindRef::Range(PgTypeRef::Owned(PgTypeInfo(element))),

@@ -18,7 +18,8 @@ const MAX_LENGTH: u32 = 0x7fff_ffff;
 #[inline(always)]
 #[tactic(auto, unfolding(crate::specs::FrameBinary::front))]
 pub fn part_in_front(bytes: &[u8]) -> Result<(Option<&[u8]>, &[u8]), CodecError>
-    ensures exact { GivesOr (λ p. (option_copied p.0, p.1.now)) (front bytes.now) (frame_fault bytes.now) result }
+    ensures exact { GivesOr (λ p. (option_copied p.0, p.1.now)) (front bytes.now)
+        (frame_fault bytes.now) result }
     ensures shorter { IfOk result (λ p. length p.1.now < length bytes.now) }
 {
     if bytes.len() < 4 {

@@ -45,7 +45,8 @@ pub fn equal_intervals_hash_alike<H: Hasher>(
     requires state { first.old ≡ second.old }
     requires equal { ⟦<PgInterval as PartialEq>⟧.eq one.now other.now ≡ true }
     // Each hasher took in what the interval's hash is made of.
-    ensures hashed { first.new ≡ fold H.write first.old (⟦<PgInterval as Hash>⟧.hash_input one.now) }
+    ensures hashed { first.new ≡ fold H.write first.old
+        (⟦<PgInterval as Hash>⟧.hash_input one.now) }
     ensures alike { first.new ≡ second.new }
 {
     one.hash(first);

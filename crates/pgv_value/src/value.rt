@@ -172,7 +172,11 @@ impl<'r> PgValueRef<'r> {
     /// A value of these bytes, or null.
     #[inline(always)]
     pub fn new(value: Option<&'r [u8]>, type_info: PgTypeInfo, format: PgValueFormat) -> Self
-        ensures { result ≡ record { bytes = option_copied value.entry; type_info = type_info; format = format } }
+        ensures { result ≡ record {
+          bytes = option_copied value.entry;
+          type_info = type_info;
+          format = format;
+        } }
     {
         let held = match value {
             Some(bytes) => Held::Bytes(bytes),
@@ -189,7 +193,11 @@ impl<'r> PgValueRef<'r> {
     /// A value in text format of this text, or null. [`PgValueRef::as_str`] returns the text without testing its bytes.
     #[inline(always)]
     pub fn of_text(text: Option<&'r str>, type_info: PgTypeInfo) -> Self
-        ensures { result ≡ record { bytes = option_copied text.entry; type_info = type_info; format = Text } }
+        ensures { result ≡ record {
+          bytes = option_copied text.entry;
+          type_info = type_info;
+          format = Text;
+        } }
     {
         let held = match text {
             Some(text) => Held::Text(text),
@@ -215,7 +223,11 @@ impl<'r> PgValueRef<'r> {
     ) -> Self
         requires start_le_end { start ≤ end }
         requires in_row { end ≤ length row.now }
-        ensures { result ≡ record { bytes = Some (slice_range row.now start end); type_info = type_info; format = format } }
+        ensures { result ≡ record {
+          bytes = Some (slice_range row.now start end);
+          type_info = type_info;
+          format = format;
+        } }
     {
         PgValueRef {
             row: Some(RowPart {
@@ -242,7 +254,8 @@ impl<'r> PgValueRef<'r> {
         type_info: PgTypeInfo,
     ) -> Result<Self, CodecError>
         // What is answered is the part of the frame in front, and the slice goes on after it; refused, it stays.
-        ensures exact { GivesExactly (λ v. (v, bytes.new.now)) (value_front type_info format bytes.old.now) result }
+        ensures exact { GivesExactly (λ v. (v, bytes.new.now))
+            (value_front type_info format bytes.old.now) result }
         ensures shorter { OnOk result (length bytes.new.now < length bytes.old.now) }
         ensures unmoved { OnErr result (bytes.new.now ≡ bytes.old.now) }
     {

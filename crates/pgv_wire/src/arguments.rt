@@ -111,7 +111,8 @@ impl PgArguments {
     /// the value's own encoder says. 7 added to empty arguments is `00000004 00000007`, and the value stays yours.
     #[inline(always)]
     pub fn add_by_ref<T: Encode + Type>(&mut self, value: &T) -> Result<(), CodecError>
-        ensures exact { Adds (argument_frame (T.encoding value.now)) (value_type T.info (T.encoding value.now)) self.old self.new result }
+        ensures exact { Adds (argument_frame (T.encoding value.now))
+            (value_type T.info (T.encoding value.now)) self.old self.new result }
         ensures unchanged { OnErr result (self.new ≡ self.old) }
     {
         self.types.reserve(1)?;
@@ -133,7 +134,8 @@ impl PgArguments {
     /// Adds a value, as [`add_by_ref`](PgArguments::add_by_ref) does.
     /// 7 is `00000004 00000007`, and `None::<i32>` is `ffffffff`.
     pub fn add<T: Encode + Type + Drop>(&mut self, value: T) -> Result<(), CodecError>
-        ensures exact { Adds (argument_frame (T.encoding value)) (value_type T.info (T.encoding value)) self.old self.new result }
+        ensures exact { Adds (argument_frame (T.encoding value))
+            (value_type T.info (T.encoding value)) self.old self.new result }
         ensures unchanged { OnErr result (self.new ≡ self.old) }
     {
         self.add_by_ref(&value)
@@ -147,8 +149,11 @@ impl PgArguments {
         alloc: Global,
         values: &[T],
     ) -> Result<Vec<Result<(), CodecError>>, CodecError>
-        ensures outcomes { IfOk result (λ rs. AreOutcomes (λ x. argument_frame (T.encoding x)) (λ x. value_type T.info (T.encoding x)) values.now rs.items) }
-        ensures added { IfOk result (λ rs. self.new ≡ self.old ++ accepted (λ x. argument_frame (T.encoding x)) (λ x. value_type T.info (T.encoding x)) values.now rs.items) }
+        ensures outcomes { IfOk result (λ rs. AreOutcomes (λ x. argument_frame (T.encoding x))
+            (λ x. value_type T.info (T.encoding x)) values.now rs.items) }
+        ensures added { IfOk result (λ rs. self.new
+            ≡ self.old ++ accepted (λ x. argument_frame (T.encoding x))
+            (λ x. value_type T.info (T.encoding x)) values.now rs.items) }
         ensures err { IfErr result (λ e. e ≡ Memory) }
         ensures succeeds { values.now ≡ [] → IsOk result }
         ensures unchanged { OnErr result (self.new ≡ self.old) }
@@ -164,8 +169,10 @@ impl PgArguments {
     /// Appends the placeholder of the last argument, `$` and [`len`](PgArguments::len) in decimal. Out of memory (C1)
     /// leaves the text as it was. With one argument it is `$1`.
     pub fn format_placeholder(&self, out: &mut String) -> Result<(), CodecError>
-        ensures ok { OnOk result (string_bytes out.new ≡ string_bytes out.old ++ 36 ∷ decimal (length self.now)) }
-        ensures err { IfErr result (λ e. (e ≡ Memory) × (string_bytes out.new ≡ string_bytes out.old)) }
+        ensures ok { OnOk result (string_bytes out.new
+            ≡ string_bytes out.old ++ 36 ∷ decimal (length self.now)) }
+        ensures err { IfErr result (λ e. (e ≡ Memory)
+            × (string_bytes out.new ≡ string_bytes out.old)) }
     {
         let count = self.len();
         let text = format!(in *out.allocator(); "${count}")?;
@@ -198,11 +205,14 @@ impl PgArguments {
     /// The list `{ok}` of that type is `0000001a 00000001 00000000 00000000 00000001 00000001 00000002 6f6b`; with the OID 16600 the four bytes
     /// of its third number are `000040d8`, and after a second call with 16601 `000040d9`.
     pub fn apply_patches(&mut self, types: &[PgTypeInfo], oids: &[Oid]) -> Result<(), CodecError>
-        ensures ok { length types.now ≡ length self.old → length oids.now ≡ hole_count (all_tokens self.old) → IsOk result }
+        ensures ok { length types.now ≡ length self.old
+            → length oids.now ≡ hole_count (all_tokens self.old) → IsOk result }
         ensures parameters { length types.now ≢ length self.old → IsErrOf result ParameterCount }
-        ensures holes { length types.now ≡ length self.old → length oids.now ≢ hole_count (all_tokens self.old) → IsErrOf result HoleCount }
+        ensures holes { length types.now ≡ length self.old
+            → length oids.now ≢ hole_count (all_tokens self.old) → IsErrOf result HoleCount }
         ensures filled { OnOk result (self.new ≡ filled_arguments self.old types.now oids.now) }
-        ensures written { OnOk result (shown (all_tokens self.new) ≡ early (framed self.old) types.now oids.now) }
+        ensures written { OnOk result (shown (all_tokens self.new)
+            ≡ early (framed self.old) types.now oids.now) }
         ensures unchanged { OnErr result (self.new ≡ self.old) }
     {
         if types.len() != self.len() {
@@ -232,7 +242,8 @@ impl Clone for PgArguments {
 #[inline(always)]
 fn note_slots(counts: &mut Vec<usize>, before: usize, slots: usize) -> Result<(), AllocError>
     requires { length counts.old.items ≤ before }
-    ensures ok { OnOk result ((all : List ℕ) → AreCounts all counts.old.items → length all ≡ before → AreCounts (all ++ slots ∷ []) counts.new.items) }
+    ensures ok { OnOk result ((all : List ℕ) → AreCounts all counts.old.items → length all ≡ before
+        → AreCounts (all ++ slots ∷ []) counts.new.items) }
     ensures err { OnErr result (counts.new.items ≡ counts.old.items) }
 {
     if slots == 0 {
@@ -245,7 +256,8 @@ fn note_slots(counts: &mut Vec<usize>, before: usize, slots: usize) -> Result<()
 #[inline(never)]
 fn push_slots(counts: &mut Vec<usize>, before: usize, slots: usize) -> Result<(), AllocError>
     requires { length counts.old.items ≤ before }
-    ensures ok { OnOk result (counts.new.items ≡ counts.old.items ++ replicate (before - length counts.old.items) 0 ++ slots ∷ []) }
+    ensures ok { OnOk result (counts.new.items
+        ≡ counts.old.items ++ replicate (before - length counts.old.items) 0 ++ slots ∷ []) }
     ensures err { OnErr result (counts.new.items ≡ counts.old.items) }
 {
     let len = counts.len();

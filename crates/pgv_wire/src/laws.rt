@@ -54,19 +54,22 @@ pub fn call_is_a_step<T: Encode + Type>()
 /// written as with its types and OIDs, and then the arguments added since, with zeros and defaults.
 #[tactic(auto, using(crate::proofs::Histories::history_told))]
 pub fn history()
-    ensures { (calls : List Call) → shown (all_tokens (after [] calls)) ≡ bytes_by (last_filling calls) }
+    ensures { (calls : List Call) → shown (all_tokens (after [] calls))
+        ≡ bytes_by (last_filling calls) }
 {}
 
 /// A second filling leaves the same arguments as if it were the only one.
 #[tactic(auto, using(crate::proofs::Histories::filled_over))]
 pub fn filled_again()
-    ensures { (args : List Argument) (ps ps' : List Ty) (os os' : List Oid) → filled_arguments (filled_arguments args ps os) ps' os' ≡ filled_arguments args ps' os' }
+    ensures { (args : List Argument) (ps ps' : List Ty) (os os' : List Oid)
+        → filled_arguments (filled_arguments args ps os) ps' os' ≡ filled_arguments args ps' os' }
 {}
 
 /// A filling changes the length of no frame.
 #[tactic(auto, using(crate::proofs::Histories::lengths_kept))]
 pub fn lengths_stay()
-    ensures { (args : List Argument) (ps : List Ty) (os : List Oid) → lengths_in (filled_arguments args ps os) ≡ lengths_in args }
+    ensures { (args : List Argument) (ps : List Ty) (os : List Oid)
+        → lengths_in (filled_arguments args ps os) ≡ lengths_in args }
 {}
 
 /// After any calls, the frames, the types, the holes and the length of the bytes are those of the accepted additions in
@@ -74,9 +77,12 @@ pub fn lengths_stay()
 #[tactic(auto, using(crate::proofs::Histories::only_added, crate::proofs::Histories::types_told, crate::proofs::Histories::holes_told, crate::proofs::Histories::width_told))]
 pub fn only_additions_count()
     ensures frames { (calls : List Call) → framed (after [] calls) ≡ added_in calls }
-    ensures types { (calls : List Call) → types_in (after [] calls) ≡ framed_types (added_in calls) }
-    ensures holes { (calls : List Call) → hole_types_of (all_tokens (after [] calls)) ≡ tokens_hole_types (joined_frames (added_in calls)) }
-    ensures length { (calls : List Call) → width (all_tokens (after [] calls)) ≡ tokens_width (joined_frames (added_in calls)) }
+    ensures types { (calls : List Call) → types_in (after [] calls)
+        ≡ framed_types (added_in calls) }
+    ensures holes { (calls : List Call) → hole_types_of (all_tokens (after [] calls))
+        ≡ tokens_hole_types (joined_frames (added_in calls)) }
+    ensures length { (calls : List Call) → width (all_tokens (after [] calls))
+        ≡ tokens_width (joined_frames (added_in calls)) }
 {}
 
 /// Proper cells show exactly as many bytes as `width` counts.
@@ -88,7 +94,8 @@ pub fn all_counted()
 /// was refused or filled in between.
 #[tactic(auto, using(crate::proofs::Histories::plain_told))]
 pub fn frames_joined()
-    ensures { (calls : List Call) (xss : List (List ℕ)) → ArePlain (added_in calls) xss → shown (all_tokens (after [] calls)) ≡ joined_bytes xss }
+    ensures { (calls : List Call) (xss : List (List ℕ)) → ArePlain (added_in calls) xss
+        → shown (all_tokens (after [] calls)) ≡ joined_bytes xss }
 {}
 
 /// The frames of arguments, read from the buffer one after another as [`PgValueRef::get`](crate::PgValueRef::get) does,
@@ -97,8 +104,10 @@ pub fn frames_joined()
 /// [`PgArgumentBuffer::as_slice`](crate::PgArgumentBuffer::as_slice) says that its cells are proper.
 #[tactic(auto, using(crate::proofs::PartsRead::frames_read, crate::proofs::PartsRead::as_many))]
 pub fn frames_read()
-    ensures parts { (args : List Argument) (is : List Image) → AreFrames is (framed args) → Proper (all_tokens args) → ReadAs (shown (all_tokens args)) (parts_in is args) [] }
-    ensures many { (args : List Argument) (is : List Image) → AreFrames is (framed args) → length (parts_in is args) ≡ length args }
+    ensures parts { (args : List Argument) (is : List Image) → AreFrames is (framed args)
+        → Proper (all_tokens args) → ReadAs (shown (all_tokens args)) (parts_in is args) [] }
+    ensures many { (args : List Argument) (is : List Image) → AreFrames is (framed args)
+        → length (parts_in is args) ≡ length args }
 {}
 
 /// Arguments at run time are frames of images, and read from their buffer one after another, as
@@ -114,15 +123,19 @@ pub fn arguments_read(arguments: &PgArguments)
 /// A frame is the frame of at most one image, so that the images of arguments are those that were added.
 #[tactic(auto, using(crate::proofs::PartsRead::one_image, crate::proofs::PartsRead::same_images))]
 pub fn one_image()
-    ensures frame { (i j : Image) (f : List Token) → (frame_of i).answer ≡ Ok f → (frame_of j).answer ≡ Ok f → i ≡ j }
-    ensures frames { (is js : List Image) (fs : List Framed) → AreFrames is fs → AreFrames js fs → is ≡ js }
+    ensures frame { (i j : Image) (f : List Token) → (frame_of i).answer ≡ Ok f
+        → (frame_of j).answer ≡ Ok f → i ≡ j }
+    ensures frames { (is js : List Image) (fs : List Framed) → AreFrames is fs
+        → AreFrames js fs → is ≡ js }
 {}
 
 /// After a filling, the parts of arguments are what their images are written as, each for its own parameter type and
 /// with the OIDs of its own holes.
 #[tactic(auto, using(crate::proofs::PartsRead::parts_filled))]
 pub fn parts_written()
-    ensures { (args : List Argument) (is : List Image) (ps : List Ty) (os : List Oid) → AreFrames is (framed args) → parts_in is (filled_arguments args ps os) ≡ written_parts is ps os }
+    ensures { (args : List Argument) (is : List Image) (ps : List Ty) (os : List Oid)
+        → AreFrames is (framed args) → parts_in is (filled_arguments args ps os)
+        ≡ written_parts is ps os }
 {}
 
 /// After any calls, the parts of the arguments are what their images are written as, each with what its argument was
@@ -132,7 +145,8 @@ pub fn parts_written()
 /// since was given neither: it has zeros and defaults.
 #[tactic(auto, using(crate::proofs::ArgumentsBack::parts_told))]
 pub fn parts_after()
-    ensures { (calls : List Call) (is : List Image) → AreFrames is (added_in calls) → parts_in is (after [] calls) ≡ parts_given is (given_in (last_filling calls)) }
+    ensures { (calls : List Call) (is : List Image) → AreFrames is (added_in calls)
+        → parts_in is (after [] calls) ≡ parts_given is (given_in (last_filling calls)) }
 {}
 
 /// After any additions, refusals and fillings, in any order, the buffer's bytes are read frame by frame with nothing

@@ -30,7 +30,8 @@ pub fn encode_array<T: Encode + Type>(
     values: &[T],
     out: &mut PgArgumentBuffer,
 ) -> Result<IsNull, CodecError>
-    ensures encodes { Encodes (array_image T.info (map T.encoding values.now)) out.old out.new result }
+    ensures encodes { Encodes (array_image T.info (map T.encoding values.now))
+        out.old out.new result }
     ensures appended { OnErr result (Extends out.old out.new) }
 {
     let count = values.len();
@@ -87,7 +88,8 @@ fn write_header(
 /// A frame for each element.
 #[inline(always)]
 fn write_frames<T: Encode>(values: &[T], out: &mut PgArgumentBuffer) -> Result<(), CodecError>
-    ensures exact { Appends (after true (frames_of (map T.encoding values.now))) out.old out.new result }
+    ensures exact { Appends (after true (frames_of (map T.encoding values.now)))
+        out.old out.new result }
     ensures appended { OnErr result (Extends out.old out.new) }
 {
     for value in values {
@@ -186,9 +188,12 @@ impl<T: Decode + Type> Decode for Vec<T> {
     ghost null = { λ _ _. (refl, refl) };
 
     fn decode(alloc: Global, value: PgValueRef<'_>) -> Result<Vec<T>, CodecError>
-        ensures exact { Gives (λ v. map T.view v.items) (parse_array T.info T.parse value.entry) result }
+        ensures exact { Gives (λ v. map T.view v.items)
+            (parse_array T.info T.parse value.entry) result }
         // In binary each element takes four bytes or more.
-        ensures few { value.entry.format ≡ Binary → IfOk result (λ v. IfSome value.entry.bytes (λ bytes. 4 * length v.items ≤ length bytes)) }
+        ensures few { value.entry.format ≡ Binary
+            → IfOk result (λ v. IfSome value.entry.bytes
+            (λ bytes. 4 * length v.items ≤ length bytes)) }
     {
         match value.format() {
             PgValueFormat::Text => read_text(alloc, value.as_str()?),
@@ -235,7 +240,8 @@ fn read_array<T: Decode>(
     type_info: &PgTypeInfo,
     bytes: &[u8],
 ) -> Result<Vec<T>, CodecError>
-    ensures exact { Gives (λ v. map T.view v.items) (array_in_binary T.parse type_info.now bytes.now) result }
+    ensures exact { Gives (λ v. map T.view v.items)
+        (array_in_binary T.parse type_info.now bytes.now) result }
     ensures few { IfOk result (λ v. 4 * length v.items ≤ length bytes.now) }
 {
     match array_head_of(type_info, bytes)? {
@@ -252,7 +258,8 @@ fn read_frames<T: Decode>(
     count: u32,
     bytes: &[u8],
 ) -> Result<Vec<T>, CodecError>
-    ensures exact { Gives (λ v. map T.view v.items) (elements T.parse element.now count bytes.now) result }
+    ensures exact { Gives (λ v. map T.view v.items)
+        (elements T.parse element.now count bytes.now) result }
     ensures few { IfOk result (λ v. 4 * length v.items ≤ length bytes.now) }
 {
     if count == 0 {
@@ -271,7 +278,8 @@ fn read_in_room<T: Decode>(
     count: u32,
     bytes: &[u8],
 ) -> Result<Vec<T>, CodecError>
-    ensures exact { Gives (λ v. map T.view v.items) (after true (frames T.parse element.now count bytes.now)) result }
+    ensures exact { Gives (λ v. map T.view v.items)
+        (after true (frames T.parse element.now count bytes.now)) result }
     ensures few { IfOk result (λ v. 4 * length v.items ≤ length bytes.now) }
 {
     let room = (count as usize).min(bytes.len() / 4);
@@ -304,7 +312,8 @@ fn read_text<T: Decode + Type>(alloc: Global, text: &str) -> Result<Vec<T>, Code
 #[inline(always)]
 fn is_empty_array(text: &str) -> bool
     ensures empty { result ≡ true → array_values text.now ≡ Some [] }
-    ensures others { result ≡ false → has_items (array_values text.now) ≡ is_some (array_values text.now) }
+    ensures others { result ≡ false → has_items (array_values text.now)
+        ≡ is_some (array_values text.now) }
 {
     match Elements::of_text(text) {
         Some(elements) => elements.is_at_end(),
@@ -323,8 +332,10 @@ fn is_array_text(text: &str) -> bool
 /// asked for before any is read.
 #[tactic(auto, using(crate::proofs::PartLoop::alloc_in_text))]
 fn read_elements<T: Decode + Type>(alloc: Global, text: &str) -> Result<Vec<T>, CodecError>
-    ensures read { IfOk result (λ v. (array_in_text T.parse T.info text.now).answer ≡ Ok (map T.view v.items)) }
-    ensures given { has_items (array_values text.now) ≡ true → Gives (λ v. map T.view v.items) (array_in_text T.parse T.info text.now) result }
+    ensures read { IfOk result (λ v. (array_in_text T.parse T.info text.now).answer
+        ≡ Ok (map T.view v.items)) }
+    ensures given { has_items (array_values text.now) ≡ true
+        → Gives (λ v. map T.view v.items) (array_in_text T.parse T.info text.now) result }
 {
     let Some(mut elements) = Elements::of_text(text) else {
         return Err(CodecError::Syntax);

@@ -46,7 +46,8 @@ fn write_octets(
     octets: &[u8],
     out: &mut PgArgumentBuffer,
 ) -> Result<IsNull, CodecError>
-    ensures encodes { Encodes (writes (Some (image_of (bytes (front.now ++ octets.now))))) out.old out.new result }
+    ensures encodes { Encodes (writes (Some (image_of (bytes (front.now ++ octets.now)))))
+        out.old out.new result }
     ensures appended { OnErr result (Extends out.old out.new) }
 {
     out.extend_from_slice(front)?;

@@ -46,7 +46,8 @@ impl<'a> PgRecordEncoder<'a> {
         ensures begun { IfOk result (λ e. written e ≡ begun out.old) }
         ensures so_far { IfOk result (λ e. buffer e ≡ so_far (written e)) }
         ensures err { IfErr result (λ e. e ≡ Memory) }
-        ensures* refused { sem 𝓛 (RestsIfErr the_row out.entry (λ e. e.out.ghost_name) result (λ n. n ≡ out.old)) }
+        ensures* refused { sem 𝓛 (RestsIfErr the_row out.entry (λ e. e.out.ghost_name) result
+            (λ n. n ≡ out.old)) }
     {
         let mark = out.mark();
         out.push_u32(0)?;
@@ -61,7 +62,8 @@ impl<'a> PgRecordEncoder<'a> {
     /// (C12) after 4294967295 fields.
     pub fn encode<T: Encode + Type + Drop>(&mut self, value: T) -> Result<(), CodecError>
         ensures same_reference { self.new.out.ghost_name ≡ self.old.out.ghost_name }
-        ensures exact { WritesField (counted_field (written self.old).count (field T.info (T.encoding value))) (written self.old) (written self.new) result }
+        ensures exact { WritesField (counted_field (written self.old).count
+            (field T.info (T.encoding value))) (written self.old) (written self.new) result }
         ensures unchanged { OnErr result (written self.new ≡ written self.old) }
         ensures so_far { buffer self.new ≡ so_far (written self.new) }
     {
@@ -179,7 +181,8 @@ impl<'r> PgRecordDecoder<'r> {
     /// field left it is [`NoField`](CodecError::NoField) (C25).
     #[inline(always)]
     pub fn try_decode<T: Type + Decode>(&mut self) -> Result<T, CodecError>
-        ensures exact { Gives (λ v. (T.view v, self.new)) (next_field T.accepts T.parse self.old) result }
+        ensures exact { Gives (λ v. (T.view v, self.new))
+            (next_field T.accepts T.parse self.old) result }
         ensures unmoved { OnErr result (self.new ≡ self.old) }
     {
         match &mut self.left {
@@ -214,7 +217,8 @@ impl<'r> PgRecordDecoder<'r> {
 /// The fields of a record text.
 #[inline(always)]
 fn text_fields_of(alloc: Global, text: &str) -> Result<TextFields<'_>, CodecError>
-    ensures exact { GivesOr (λ fields. (nest fields.parts).values) (record_values text.now) Syntax result }
+    ensures exact { GivesOr (λ fields. (nest fields.parts).values)
+        (record_values text.now) Syntax result }
     ensures copies { IfOk result (λ fields. copies fields.parts ≡ copies_of Record text.now) }
     ensures count { IfOk result (λ fields. fields.count ≡ length (nest fields.parts).values) }
 {
@@ -236,7 +240,8 @@ fn read_field<'r, T: Type + Decode>(
     place: usize,
     bytes: &'r [u8],
 ) -> Result<(T, &'r [u8]), CodecError>
-    ensures exact { Gives (λ x. (T.view x.0, x.1.now)) (field_in_binary T.accepts T.parse type_info.now place bytes.now) result }
+    ensures exact { Gives (λ x. (T.view x.0, x.1.now))
+        (field_in_binary T.accepts T.parse type_info.now place bytes.now) result }
     ensures shorter { IfOk result (λ x. length x.1.now < length bytes.now) }
 {
     let (type_info, mut rest) = field_head_of(type_info, place, bytes)?;

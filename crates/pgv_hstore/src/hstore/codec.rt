@@ -84,7 +84,8 @@ fn write_text(text: &String, out: &mut PgArgumentBuffer) -> Result<(), CodecErro
 #[inline(always)]
 #[tactic(auto, unfolding(crate::specs::Hstore::part_written))]
 fn write_value(value: &Option<String>, out: &mut PgArgumentBuffer) -> Result<(), CodecError>
-    ensures exact { Appends (part_written (option_map string_bytes value.now)) out.old out.new result }
+    ensures exact { Appends (part_written (option_map string_bytes value.now))
+        out.old out.new result }
     ensures appended { OnErr result (Extends out.old out.new) }
 {
     match value {
@@ -114,7 +115,8 @@ fn write_pairs(
     hstore: &BTreeMap<String, Option<String>>,
     out: &mut PgArgumentBuffer,
 ) -> Result<(), CodecError>
-    ensures exact { Appends (after true (pairs_written (map pair_of hstore.now.entries))) out.old out.new result }
+    ensures exact { Appends (after true (pairs_written (map pair_of hstore.now.entries)))
+        out.old out.new result }
     ensures appended { OnErr result (Extends out.old out.new) }
 {
     for (key, value) in hstore {

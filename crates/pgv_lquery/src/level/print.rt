@@ -26,7 +26,8 @@ fn print_count<S: Sink>(before: &str, count: u16, after: &str, out: &mut S) -> R
 
 /// Prints a star of two different numbers.
 fn print_both<S: Sink>(low: u16, high: u16, out: &mut S) -> Result<(), S::Error>
-    ensures ok { OnOk result (S.took out.old (codes "*{" ++ decimal low ++ codes "," ++ decimal high ++ codes "}") out.new) }
+    ensures ok { OnOk result (S.took out.old (codes "*{" ++ decimal low ++ codes "," ++ decimal high
+        ++ codes "}") out.new) }
     ensures err { IfErr result S.refuses }
     ensures left { OnErr result (S.left out.old out.new) }
 {

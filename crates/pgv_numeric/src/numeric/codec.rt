@@ -103,7 +103,8 @@ fn write_number(
     scale: i16,
     out: &mut PgArgumentBuffer,
 ) -> Result<IsNull, CodecError>
-    ensures encodes { Encodes (numeric_image (number sign digits.now weight scale)) out.old out.new result }
+    ensures encodes { Encodes (numeric_image (number sign digits.now weight scale))
+        out.old out.new result }
     ensures appended { OnErr result (Extends out.old out.new) }
 {
     let count = digits.len();

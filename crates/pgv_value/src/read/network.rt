@@ -55,7 +55,8 @@ fn network_of_octets(
     count: u8,
     octets: &[u8],
 ) -> Result<IpNetwork, CodecError>
-    ensures { (ignored : ℕ) → GivesExactly network_of (network_in_binary (family ∷ prefix ∷ ignored ∷ count ∷ octets.now)) result }
+    ensures { (ignored : ℕ) → GivesExactly network_of
+        (network_in_binary (family ∷ prefix ∷ ignored ∷ count ∷ octets.now)) result }
 {
     let Some(address) = address_of(family, count, octets) else {
         return Err(address_fault(family, 4 + octets.len()));
