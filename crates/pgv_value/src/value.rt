@@ -7,6 +7,7 @@ ghost use Rattle.pgv_value.specs.Fronts.{format_of, value_front};
 ghost use Rattle.pgv_value.specs.Parsed.{GivesExactly, GivesOr};
 ghost use Rattle.pgv_value.specs.RowView.{held_bytes};
 ghost use Rattle.pgv_value.specs.Utf8.{GivesText};
+ghost use Rattle.pgv_value.specs.ValueView.{given};
 ghost use Rattle.pgv_value.specs.declared.error.CodecError.TheVariants.{UnexpectedNull, Memory};
 ghost use Rattle.pgv_value.specs.declared.value.PgValueFormat.TheVariants.{Text};
 
@@ -172,11 +173,7 @@ impl<'r> PgValueRef<'r> {
     /// A value of these bytes, or null.
     #[inline(always)]
     pub fn new(value: Option<&'r [u8]>, type_info: PgTypeInfo, format: PgValueFormat) -> Self
-        ensures { result ≡ record {
-          bytes = option_copied value.entry;
-          type_info = type_info;
-          format = format;
-        } }
+        ensures { result ≡ given type_info format (option_copied value.entry) }
     {
         let held = match value {
             Some(bytes) => Held::Bytes(bytes),
@@ -193,11 +190,7 @@ impl<'r> PgValueRef<'r> {
     /// A value in text format of this text, or null. [`PgValueRef::as_str`] returns the text without testing its bytes.
     #[inline(always)]
     pub fn of_text(text: Option<&'r str>, type_info: PgTypeInfo) -> Self
-        ensures { result ≡ record {
-          bytes = option_copied text.entry;
-          type_info = type_info;
-          format = Text;
-        } }
+        ensures { result ≡ given type_info Text (option_copied text.entry) }
     {
         let held = match text {
             Some(text) => Held::Text(text),
@@ -223,11 +216,7 @@ impl<'r> PgValueRef<'r> {
     ) -> Self
         requires start_le_end { start ≤ end }
         requires in_row { end ≤ length row.now }
-        ensures { result ≡ record {
-          bytes = Some (slice_range row.now start end);
-          type_info = type_info;
-          format = format;
-        } }
+        ensures { result ≡ given type_info format (Some (slice_range row.now start end)) }
     {
         PgValueRef {
             row: Some(RowPart {
