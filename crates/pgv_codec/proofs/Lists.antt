@@ -1,5 +1,5 @@
 -- The frames of a list.
-use Rattle.std.proofs.Common.{◌≡◌, ℕ, suc, ◌+◌, ◌<◌, ◌≤◌, Bool, true, false, nat_lt, Result, Ok, Err, OnOk, List, [], ◌∷◌, ◌++◌, length, map, Option, Some, None, get_or, drop, refl, sym, ◌∙◌, ap, append_assoc, append-nil, drop-cons, inl, inr}
+use Rattle.std.proofs.Common.{◌≡◌, ℕ, suc, ◌<◌, ◌≤◌, Bool, true, false, nat_lt, Result, Ok, Err, OnOk, List, [], ◌∷◌, ◌++◌, length, map, Option, Some, None, get_or, drop, refl, sym, ◌∙◌, ap, append_assoc, append-nil, drop-cons, inl, inr}
 use Rattle.std.proofs.lemmas.Bool.{le-ltb, lt-ltb}
 use Rattle.std.proofs.lemmas.List.{drop_all, length-map}
 use Rattle.pgv_types.specs.Ty.{Ty}

@@ -10,6 +10,7 @@ ghost use Rattle.pgv_nest.specs.RecordGrammar.{Left, next_field, parse_record, �
 ghost use Rattle.pgv_buf.specs.Tokens.{Token};
 ghost use Rattle.pgv_types.specs.Ty.{Ty};
 ghost use Rattle.pgv_types.specs.declared.oid.Oid.{Oid};
+ghost use Rattle.pgv_codec.specs.Agreeing.{further_agrees, last_agrees};
 ghost use Rattle.pgv_codec.specs.Back.{FieldFits, FieldsFit, FieldsBack};
 ghost use Rattle.pgv_codec.specs.BackRecords.{last_back, further_back};
 ghost use Rattle.pgv_codec.specs.Appending.{Encodes, Extends};
@@ -19,7 +20,7 @@ ghost use Rattle.pgv_codec.specs.WrittenView.{buffer, written};
 
 use super::record::{PgRecordDecoder, PgRecordEncoder};
 use crate::buffer::{IsNull, PgArgumentBuffer};
-use crate::traits::{Decode, Encode, ReadBack, Type};
+use crate::traits::{Codec, Decode, Encode, ReadBack, Type};
 use pgv_value::{CodecError, PgValueRef};
 use std::alloc::Global;
 
@@ -34,6 +35,9 @@ pub trait FieldList: Sized + Drop {
 
     /// The fields that are read, and what is left after them, or why one isn't.
     ghost step: { Left → Outcome (View × Left) };
+
+    /// The fields that are written of what the values say, where they are written too (see [`CodecList`]).
+    ghost written_fields: { View → List (Outcome (List Token)) };
 
     /// What the bytes of such fields are.
     ghost in_binary: { Stretch View };
@@ -60,6 +64,8 @@ impl<A: Type + Decode> FieldList for (A,) {
 
     ghost step = { next_field A.accepts A.parse };
 
+    ghost written_fields = { λ says. field A.info (A.written A.info says) ∷ [] };
+
     ghost in_binary = { IsField A.accepts A.parse };
 
     ghost in_text = { IsTextField A.parse };
@@ -81,6 +87,8 @@ impl<A: Type + Decode, Rest: FieldList> FieldList for (A, Rest) {
     ghost view = { λ list. (A.view list.0, Rest.view list.1) };
 
     ghost step = { next_field A.accepts A.parse then Rest.step };
+
+    ghost written_fields = { λ says. field A.info (A.written A.info says.0) ∷ Rest.written_fields says.1 };
 
     ghost in_binary = { IsField A.accepts A.parse and Rest.in_binary };
 
@@ -176,6 +184,22 @@ impl<A: ReadBack + Type, Rest: KeptList> KeptList for (A, Rest) {
     ghost fits = { λ list. FieldsFit A.info A.encoding A.accepts A.fits list.0 (Rest.fits list.1) };
 
     ghost reads_back = { λ list further. further_back A.info A.encoding A.accepts A.parse (λ v. A.view (A.kept v)) A.fits A.reads_back list.0 (Rest.reads_back list.1 further) };
+}
+
+/// Such a list that is written by what it says alone: two lists of one view are written alike.
+pub trait CodecList: KeptList {
+    /// The fields of a list are those that are written of what it says.
+    ghost agrees: { (list : Self) → Self.fields list ≡ Self.written_fields (Self.view list) };
+}
+
+/// The last field.
+impl<A: Codec + ReadBack> CodecList for (A,) {
+    ghost agrees = { λ list. last_agrees A.info (A.agrees list.0) };
+}
+
+/// A field and the rest.
+impl<A: Codec + ReadBack, Rest: CodecList> CodecList for (A, Rest) {
+    ghost agrees = { λ list. further_agrees A.info (A.agrees list.0) (Rest.agrees list.1) };
 }
 
 /// The first fields of a record, as [`PgRecordDecoder`] reads them; further fields are ignored.
