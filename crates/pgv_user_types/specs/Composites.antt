@@ -22,3 +22,6 @@ composite_back fields_of made fields step view kept fit made_of back v i t p oid
     let f = fields_of v in
     let alone : FieldsBack step (fields f) (view (kept f)) (fit f) = subst (λ fs. FieldsBack step fs (view (kept f)) (fit f)) (append-nil (fields f)) (back f []) in
     record_back alone i t p oids (answer_is (record_image (fields f)).answer i e) whole small fits_there ∙ ap (λ g. Some (view g)) (sym (made_of (kept f)))
+
+pub record_agrees : {fs gs : List (Outcome (List Token))} → fs ≡ gs → plainly (record_image fs) ≡ plainly (record_image gs)
+record_agrees same = ap (λ fs. plainly (record_image fs)) same

@@ -5,8 +5,8 @@ ghost use Rattle.pgv_codec.specs.Appending.{Encodes, Extends};
 ghost use Rattle.pgv_codec.specs.Encoding.{record_image};
 
 use pgv_codec::{
-    Decode, Encode, FieldList, IsNull, KeptList, PgArgumentBuffer, PgHasArrayType, PgRecordDecoder,
-    ReadBack, Type,
+    Codec, CodecList, Decode, Encode, FieldList, IsNull, PgArgumentBuffer, PgHasArrayType,
+    PgRecordDecoder, ReadBack, Type,
 };
 use pgv_types::PgTypeInfo;
 use pgv_value::{CodecError, PgValueRef};
@@ -15,7 +15,7 @@ use std::alloc::{AllocError, Global};
 /// A Rust struct that is a composite of the server, which is known by its name, by the list of its fields.
 pub trait Composite: Sized + Drop {
     /// The fields, in nested pairs that end in a tuple of one: `(i32, (PgLTree,))`.
-    type Fields: KeptList;
+    type Fields: CodecList;
 
     /// The name of the type.
     ghost name: { List ℕ };
@@ -108,7 +108,7 @@ impl<T: Composite> Encode for PgComposite<T> {
 /// Read, and refused, as the first fields of a record, under each type that names a field for each; further fields are ignored.
 impl<T: Composite> Decode for PgComposite<T> {
     ghost use Rattle.std.specs.Prelude.{refl};
-    ghost use Rattle.pgv_codec.specs.Encoding.{unwritten};
+    ghost use Rattle.pgv_codec.specs.Encoding.{plainly, record_image};
     ghost use Rattle.pgv_nest.specs.RecordGrammar.{parse_record};
 
     ghost View = { T.Fields.View };
@@ -117,7 +117,7 @@ impl<T: Composite> Decode for PgComposite<T> {
 
     ghost parse = { parse_record T.Fields.step };
 
-    ghost written = { λ _ _. unwritten };
+    ghost written = { λ _ says. plainly (record_image (T.Fields.written_fields says)) };
 
     ghost null = { λ _ _. (refl, refl) };
 
@@ -138,4 +138,11 @@ impl<T: Composite> ReadBack for PgComposite<T> {
 
     ghost reads_back = { λ v. composite_back T.fields_of T.made T.Fields.fields T.Fields.step
         T.Fields.view T.Fields.kept T.Fields.fits T.made_of T.Fields.reads_back v.0 };
+}
+
+/// Two values of one view are written alike.
+impl<T: Composite> Codec for PgComposite<T> {
+    ghost use Rattle.pgv_user_types.specs.Composites.{record_agrees};
+
+    ghost agrees = { λ v. record_agrees (T.Fields.agrees (T.fields_of v.0)) };
 }
