@@ -1,7 +1,7 @@
 //! An enum by its labels (PostgreSQL, "Enumerated Types").
 
-ghost use Rattle.std.specs.Prelude.{◌≡◌, true, Some, List, ℕ, Option};
-ghost use Rattle.pgv_value.specs.Utf8.{is_utf8};
+ghost use Rattle.std.specs.Prelude.{◌≡◌, true, Some, List, ℕ};
+ghost use Rattle.pgv_user_types.specs.Labels.{are_labels, labelled};
 
 use pgv_codec::{Encode, IsNull, PgArgumentBuffer, PgHasArrayType, Plain, Type, encode_text};
 use pgv_types::PgTypeInfo;
@@ -13,17 +13,17 @@ pub trait Labelled: Sized + Drop {
     /// The name of the type.
     ghost name: { List ℕ };
 
+    /// Each label and its value.
+    ghost labels: { List (List ℕ × Self) };
+
     /// The label of a value.
     ghost label_of: { Self → List ℕ };
 
-    /// The value of a label.
-    ghost of_label: { List ℕ → Option Self };
-
     /// Each value has its own label.
-    ghost again: { (v : Self) → of_label (label_of v) ≡ Some v };
+    ghost again: { (v : Self) → labelled labels (label_of v) ≡ Some v };
 
-    /// A label is UTF-8.
-    ghost utf8: { (v : Self) → is_utf8 (label_of v) ≡ true };
+    /// Labels are UTF-8; those of ASCII characters are by `refl`.
+    ghost utf8: { are_labels labels ≡ true };
 
     /// The name of the type, as the server has it.
     fn name() -> &'static str
@@ -35,7 +35,7 @@ pub trait Labelled: Sized + Drop {
 
     /// The value of a label, or `None` where no value has it.
     fn from_label(label: &str) -> Option<Self>
-        ensures { result ≡ of_label label.now };
+        ensures { result ≡ labelled labels label.now };
 }
 
 /// A value of an enum, written and read as its label, which is the same in both formats: one with the label `ok` is `6f6b`.
@@ -108,7 +108,7 @@ impl<T: Labelled> Plain for PgEnum<T> {
 
     ghost view = { λ v. T.label_of v.0 };
 
-    ghost parse = { without_memory (parse_label T.label_of T.of_label) };
+    ghost parse = { without_memory (parse_label T.label_of T.labels) };
 
     ghost null = { λ _ _. refl };
 
@@ -121,7 +121,7 @@ impl<T: Labelled> Plain for PgEnum<T> {
         }
     }
 
-    ghost reads_back = { λ v. label_back T.label_of T.of_label T.again T.utf8 v.0 };
+    ghost reads_back = { λ v. label_back T.label_of T.labels T.again T.utf8 v.0 };
 
     ghost agrees = { λ _. refl };
 }

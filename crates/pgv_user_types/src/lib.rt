@@ -6,6 +6,7 @@
 pub mod composite;
 pub mod domain;
 pub mod labelled;
+pub mod laws;
 pub mod newtype;
 pub mod record;
 

@@ -16,19 +16,18 @@ pub enum Mood {
 }
 
 impl Labelled for Mood {
-    ghost use Rattle.std.specs.Prelude.{codes, bytes_eq, Some, None, if◌then◌else◌, refl};
-    ghost use Rattle.pgv_ltree.specs.Ascii.{ascii_is_utf8};
+    ghost use Rattle.std.specs.Prelude.{codes, [], ◌∷◌, refl};
     ghost use Rattle.pgv_user_types.specs.declared.tests.Mood.TheVariants.{Sad, Fine};
 
     ghost name = { codes "mood" };
 
-    ghost label_of = { elim [ Sad ↦ codes "sad" | Fine ↦ codes "ok" ] };
+    ghost labels = { (codes "sad", Sad) ∷ (codes "ok", Fine) ∷ [] };
 
-    ghost of_label = { λ label. if bytes_eq label (codes "sad") then Some Sad else if bytes_eq label (codes "ok") then Some Fine else None };
+    ghost label_of = { elim [ Sad ↦ codes "sad" | Fine ↦ codes "ok" ] };
 
     ghost again = { elim [ Sad ↦ refl | Fine ↦ refl ] };
 
-    ghost utf8 = { elim [ Sad ↦ ascii_is_utf8 (codes "sad") refl | Fine ↦ ascii_is_utf8 (codes "ok") refl ] };
+    ghost utf8 = { refl };
 
     fn name() -> &'static str {
         "mood"
