@@ -3,13 +3,17 @@
 use crate::fault::Fault;
 use jiff::civil::Date;
 use pgv::row::PgRow;
-use pgv::{Decode, Oid, PgCopyReader, PgTypeInfo, PgValueFormat, PgValueRef, Type};
+use pgv::{Decode, Oid, PgCopyReader, PgEnum, PgTypeInfo, PgValueFormat, PgValueRef, Type};
 use pgv_examples::mood::Mood;
 use std::alloc::{AllocError, Global};
 use std::fmt::{Debug, Display};
 
 /// An item of an order: its name, its count and the moods of those who bought it.
-type Item = (Option<String>, Option<i32>, Option<Vec<Option<Mood>>>);
+type Item = (
+    Option<String>,
+    Option<i32>,
+    Option<Vec<Option<PgEnum<Mood>>>>,
+);
 
 /// Appends the values of a row.
 pub fn show_row(alloc: Global, row: &PgRow<'_>, out: &mut String) -> Result<(), Fault> {
@@ -67,7 +71,7 @@ fn show_named(
     out: &mut String,
 ) -> Result<(), Fault> {
     match value.type_info().name().text() {
-        "mood" => show_debugged::<Mood>(alloc, row, place, out),
+        "mood" => show_debugged::<PgEnum<Mood>>(alloc, row, place, out),
         "item" => show_unchecked::<Item>(alloc, row, place, out),
         "_item" => show_unchecked::<Vec<Option<Item>>>(alloc, row, place, out),
         _ => show_text(value, out),

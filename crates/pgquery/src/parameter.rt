@@ -12,8 +12,8 @@ use pgv::types::{
     PgMoney, PgNumeric, PgRange, PgTimeTz,
 };
 use pgv::{
-    CodecError, Decode, Encode, Oid, PgArguments, PgHasArrayType, PgTypeInfo, PgTypeKindRef,
-    PgValueFormat, Type,
+    CodecError, Decode, Encode, Oid, PgArguments, PgComposite, PgHasArrayType, PgTypeInfo,
+    PgTypeKindRef, PgValueFormat, Type,
 };
 use pgv_examples::page::Page;
 use std::alloc::{AllocError, Global};
@@ -125,7 +125,7 @@ fn add_named(
         "hstore" => add_as::<PgHstore>(alloc, arguments, given),
         "lquery" => add_as::<PgLQuery>(alloc, arguments, given),
         "ltree" => add_as::<PgLTree>(alloc, arguments, given),
-        "page" => add_as::<Page>(alloc, arguments, given),
+        "page" => add_as::<PgComposite<Page>>(alloc, arguments, given),
         _ => match (element.kind(), given.is_array) {
             (Some(PgTypeKindRef::Enum(_)), false) => add_as::<String>(alloc, arguments, given),
             _ => Err(CodecError::MismatchedTypes),

@@ -85,6 +85,9 @@ pub use Rattle.pgv_codec.specs.Writing.{write, written_part}
 pub use Rattle.pgv_codec.specs.Back.{ImageFits}
 -- A text of ASCII alone is UTF-8.
 pub use Rattle.pgv_ltree.specs.Ascii.{are_ascii, ascii_is_utf8}
+-- Of an enum: `labelled rows label` is the value that a table of labels gives to a label, and `are_labels rows` says that its labels are
+-- UTF-8. `label_written label` is what is written of a label, and `parse_label label_of rows` how one is read.
+pub use Rattle.pgv_user_types.specs.Labels.{labelled, are_labels, label_written, parse_label}
 -- The law for `PgLTree`, and what comes back of a tree.
 pub use Rattle.pgv_ltree.specs.TreesBack.{tree_back, tree_kept}
 -- For a record that is written field by field, one `more_fields` for each.

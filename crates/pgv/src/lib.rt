@@ -1,7 +1,8 @@
 //! PostgreSQL's value codec, as `sqlx-postgres` has it, proved: one crate to depend on. It holds no code; each name is
 //! re-exported from the crate that has it.
 //!
-//! - At the top what a binder and a reader of rows need: [`PgArguments`], [`PgValueRef`], types and the traits.
+//! - At the top what a binder and a reader of rows need: [`PgArguments`], [`PgValueRef`], types and the traits, and user-defined
+//!   types by little code: [`Labelled`], [`Composite`], [`Newtype`], [`Domain`].
 //! - [`types`]: the Rust types of values, beside those of std, `jiff` and `uuid`.
 //! - [`text`]: readers of whole texts.
 //! - [`row`], [`message`], [`catalog`]: rows of a statement's result, the messages around parameters and rows, and the
@@ -11,15 +12,18 @@
 
 pub use pgv_buf::{Mark, Tokens};
 pub use pgv_codec::{
-    Codec, Decode, Encode, FieldList, IsNull, KeptList, PgArgumentBuffer, PgHasArrayType,
-    PgRecordDecoder, PgRecordEncoder, Plain, ReadBack, Type, WrittenList, encode_array,
-    encode_record, encode_text, type_of_value,
+    Codec, CodecList, Decode, Encode, FieldList, IsNull, KeptList, PgArgumentBuffer,
+    PgHasArrayType, PgRecordDecoder, PgRecordEncoder, Plain, ReadBack, Type, WrittenList,
+    encode_array, encode_record, encode_text, type_of_value,
 };
 pub use pgv_copy::{PgCopyNext, PgCopyPieces, PgCopyReader};
 pub use pgv_range::range_compatible;
 pub use pgv_types::{
     IdentifierChar, IdentifierChars, Oid, PgArrayOf, PgCustomType, PgType, PgTypeInfo, PgTypeKind,
     PgTypeKindRef, PgTypeName, PgTypeRef, StaticText,
+};
+pub use pgv_user_types::{
+    Composite, Domain, Labelled, Newtype, PgComposite, PgDomain, PgEnum, PgNewtype, PgRecord,
 };
 pub use pgv_value::{CodecError, PgValue, PgValueFormat, PgValueRef};
 pub use pgv_wire::PgArguments;
@@ -91,6 +95,7 @@ pub mod laws {
     pub use pgv_row::laws as row;
     pub use pgv_text::laws as text;
     pub use pgv_types::laws as types;
+    pub use pgv_user_types::laws as user_types;
     pub use pgv_value::laws as value;
     pub use pgv_wire::laws as wire;
 }

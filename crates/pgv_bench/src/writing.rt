@@ -6,6 +6,7 @@ use pgv_codec::{Encode, PgArgumentBuffer, Type};
 use pgv_examples::empty_object::EmptyObject;
 use pgv_examples::mood::Mood;
 use pgv_types::{Oid, PgType, PgTypeInfo};
+use pgv_user_types::PgEnum;
 use pgv_value::CodecError;
 use pgv_wire::PgArguments;
 use std::alloc::Global;
@@ -209,7 +210,7 @@ fn own_types(alloc: Global, arguments: &PgArguments) -> Result<Vec<PgTypeInfo>, 
 pub fn patches(alloc: Global, n: u32, rounds: u32) -> Result<usize, CodecError> {
     let mut arguments = PgArguments::new(alloc);
     let mut moods = Vec::new(alloc);
-    moods.push(Mood::Fine)?;
+    moods.push(PgEnum(Mood::Fine))?;
     let mut oids = Vec::new(alloc);
     for _ in 0..n {
         arguments.add_by_ref(&moods)?;

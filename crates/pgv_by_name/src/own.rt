@@ -3,8 +3,8 @@
 
 use pgv::types::PgRange;
 use pgv::{
-    CodecError, Decode, Encode, IsNull, PgArgumentBuffer, PgHasArrayType, PgType, PgTypeInfo,
-    PgValueRef, Type,
+    CodecError, Decode, Encode, IsNull, Labelled, PgArgumentBuffer, PgEnum, PgHasArrayType, PgType,
+    PgTypeInfo, PgValueRef, Type, encode_text,
 };
 use pgv_examples::empty_object::push_version;
 use pgv_examples::mood::Mood;
@@ -278,12 +278,11 @@ impl PgHasArrayType for MoodText {
 impl Encode for MoodText {
     ghost use Rattle.std.specs.Prelude.{Some, codes};
     ghost use Rattle.pgv.specs.Words.{named, text_image, writes};
-    ghost use Rattle.pgv_examples.specs.Moods.{label_of};
 
-    ghost encoding = { λ text. record { size_hint = 0; produced = Some (named (codes "mood")); image = writes (text_image (label_of text.mood)) } };
+    ghost encoding = { λ text. record { size_hint = 0; produced = Some (named (codes "mood")); image = writes (text_image (⟦<Mood as Labelled>⟧.label_of text.mood)) } };
 
     fn encode_by_ref(&self, out: &mut PgArgumentBuffer) -> Result<IsNull, CodecError> {
-        self.mood.encode_by_ref(out)
+        encode_text(self.mood.label(), out)
     }
 
     fn size_hint(&self) -> usize {
@@ -291,6 +290,6 @@ impl Encode for MoodText {
     }
 
     fn produces(&self) -> Result<Option<PgTypeInfo>, AllocError> {
-        Ok(Some(Mood::type_info()))
+        Ok(Some(PgEnum::<Mood>::type_info()))
     }
 }

@@ -4,21 +4,23 @@ use crate::first::shown;
 use crate::own::{Bounds, Listed, Stop};
 use jiff::civil::{Date, date};
 use pgv::types::{PgLTree, PgRange};
-use pgv::{CodecError, Encode, Oid, PgArguments, PgType, PgTypeInfo, PgValueFormat, PgValueRef};
+use pgv::{
+    CodecError, Encode, Oid, PgArguments, PgComposite, PgEnum, PgRecord, PgType, PgTypeInfo,
+    PgValueFormat, PgValueRef,
+};
 use pgv_by_name::{Huge, MoodText, Size, size_ranges, type_of};
 use pgv_called::{Again, Called, same, told};
 use pgv_examples::empty_object::EmptyObject;
 use pgv_examples::household::Household;
 use pgv_examples::mood::Mood;
 use pgv_examples::page::Page;
-use pgv_examples::pair::Pair;
 use pgv_examples::percent::Percent;
 use std::alloc::{AllocError, Global};
 
 /// One mood, `ok`.
-fn moods(alloc: Global) -> Result<Vec<Mood>, AllocError> {
+fn moods(alloc: Global) -> Result<Vec<PgEnum<Mood>>, AllocError> {
     let mut moods = Vec::new(alloc);
-    moods.push(Mood::Fine)?;
+    moods.push(PgEnum(Mood::Fine))?;
     Ok(moods)
 }
 
@@ -54,13 +56,13 @@ fn days() -> [PgRange<Date>; 2] {
 }
 
 /// The page of the number 1 at `a.b`.
-fn page(alloc: Global) -> Result<Page, CodecError> {
+fn page(alloc: Global) -> Result<PgComposite<Page>, CodecError> {
     let path = PgLTree::from_str(alloc, "a.b")?;
-    Ok(Page { id: 1, path })
+    Ok(PgComposite(Page { id: 1, path }))
 }
 
 /// That page in a list.
-fn pages(alloc: Global) -> Result<Vec<Page>, CodecError> {
+fn pages(alloc: Global) -> Result<Vec<PgComposite<Page>>, CodecError> {
     let mut pages = Vec::new(alloc);
     pages.push(page(alloc)?)?;
     Ok(pages)
@@ -99,7 +101,7 @@ fn add_with_holes(
 ) -> Result<(), CodecError> {
     match name {
         "moods" => arguments.add(moods(alloc)?),
-        "no moods" => arguments.add(Vec::<Mood>::new(alloc)),
+        "no moods" => arguments.add(Vec::<PgEnum<Mood>>::new(alloc)),
         "mood texts" => arguments.add(mood_texts(alloc, true)?),
         "no mood texts" => arguments.add(mood_texts(alloc, false)?),
         "trees" => arguments.add(trees(alloc)?),
@@ -109,18 +111,15 @@ fn add_with_holes(
         "pages" => arguments.add(pages(alloc)?),
         "ranges" => arguments.add(size_ranges(alloc)?),
         "sizes 7 0" => arguments.add([Size { alloc, number: 7 }, Size { alloc, number: 0 }]),
-        "pair" => arguments.add(Pair {
-            first: 1,
-            second: Mood::Fine,
-        }),
-        "stay" => arguments.add(Pair {
-            first: days(),
-            second: PgLTree::from_str(alloc, "a.b")?,
-        }),
-        "household" => arguments.add(Household {
+        "pair" => arguments.add(PgRecord((1, (PgEnum(Mood::Fine),)))),
+        "stay" => {
+            let tree = PgLTree::from_str(alloc, "a.b")?;
+            arguments.add(PgRecord((days(), (tree,))))
+        }
+        "household" => arguments.add(PgComposite(Household {
             number: 1,
             moods: moods(alloc)?,
-        }),
+        })),
         _ => add_plain(alloc, arguments, name),
     }
 }
@@ -128,7 +127,7 @@ fn add_with_holes(
 /// Adds the value of this name.
 fn add(alloc: Global, arguments: &mut PgArguments, name: &str) -> Result<(), CodecError> {
     match name {
-        "mood" => arguments.add(Mood::Fine),
+        "mood" => arguments.add(PgEnum(Mood::Fine)),
         "mood text" => arguments.add(MoodText { mood: Mood::Fine }),
         "object" => arguments.add(EmptyObject { alloc }),
         "percent 101" => arguments.add(Percent { number: 101 }),
@@ -141,11 +140,8 @@ fn add(alloc: Global, arguments: &mut PgArguments, name: &str) -> Result<(), Cod
 }
 
 /// A record of an object and a value behind it.
-fn behind<T>(alloc: Global, second: T) -> Pair<EmptyObject, T> {
-    Pair {
-        first: EmptyObject { alloc },
-        second,
-    }
+fn behind<T>(alloc: Global, second: T) -> PgRecord<(EmptyObject, (T,))> {
+    PgRecord((EmptyObject { alloc }, (second,)))
 }
 
 /// One value in a list.

@@ -3,7 +3,8 @@
 use crate::arguments::names;
 use pgv::types::PgRange;
 use pgv::{
-    CodecError, Oid, PgArgumentBuffer, PgRecordEncoder, PgTypeInfo, encode_array, encode_text,
+    CodecError, Oid, PgArgumentBuffer, PgEnum, PgRecordEncoder, PgTypeInfo, encode_array,
+    encode_text,
 };
 use pgv_by_name::{Huge, Size, sizes};
 use pgv_called::{Again, Called, refused, same};
@@ -22,7 +23,7 @@ fn encode_texts(alloc: Global, buffer: &mut PgArgumentBuffer) -> Result<(), Code
 fn encode_record(alloc: Global, buffer: &mut PgArgumentBuffer) -> Result<(), CodecError> {
     let mut record = PgRecordEncoder::new(buffer)?;
     record.encode(1)?;
-    record.encode(Mood::Fine)?;
+    record.encode(PgEnum(Mood::Fine))?;
     let refused = record.encode(Size { alloc, number: 0 });
     record.finish();
     match refused {

@@ -1,9 +1,10 @@
 //! Types of a caller's own: a range and an element that give others a type, and a value that is never written.
 
 use pgv::types::PgRange;
-use pgv::{CodecError, Encode, IsNull, PgArgumentBuffer, PgHasArrayType, PgTypeInfo, Type};
+use pgv::{
+    CodecError, Encode, IsNull, PgArgumentBuffer, PgHasArrayType, PgRecord, PgTypeInfo, Type,
+};
 use pgv_examples::empty_object::{EmptyObject, push_version};
-use pgv_examples::pair::Pair;
 use std::alloc::{AllocError, Global};
 
 /// A range with a type of its own, which `PgRange` has for the bounds of PostgreSQL's own ranges alone.
@@ -50,7 +51,7 @@ impl<T: Encode> Encode for Bounds<T> {
 #[derive(Drop)]
 pub struct Listed<T> {
     /// The record.
-    pub pair: Pair<EmptyObject, T>,
+    pub pair: PgRecord<(EmptyObject, (T,))>,
 }
 
 impl<T> Type for Listed<T> {
@@ -88,7 +89,7 @@ impl<T> PgHasArrayType for Listed<T> {
 }
 
 impl<T: Encode + Type> Encode for Listed<T> {
-    ghost encoding = { λ v. ⟦<Pair<EmptyObject, T> as Encode>⟧.encoding v.pair };
+    ghost encoding = { λ v. ⟦<PgRecord<(EmptyObject, (T,))> as Encode>⟧.encoding v.pair };
 
     fn encode_by_ref(&self, out: &mut PgArgumentBuffer) -> Result<IsNull, CodecError> {
         self.pair.encode_by_ref(out)

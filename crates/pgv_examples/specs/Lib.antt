@@ -1,8 +1,6 @@
-pub mod Moods
 pub mod Objects
 pub mod Percents
 pub mod Known
 pub mod Reasons
 pub mod Floats
 pub mod Jsons
-pub mod Pairs

@@ -6,7 +6,7 @@ ghost use Rattle.pgv.specs.Words.{Added, Argument, Oid, builtin, argument_frame,
 ghost use Rattle.pgv_examples.specs.Known.{AreKnownOids, IsKnownOid};
 
 use crate::mood::Mood;
-use pgv::{CodecError, Encode, Oid, PgArguments, PgTypeInfo};
+use pgv::{CodecError, Encode, Oid, PgArguments, PgEnum, PgTypeInfo};
 use std::alloc::Global;
 
 /// The arguments of `select .. where id = $1 and name = $2 and mood = any($3)`: the three frames. Their types are
@@ -15,12 +15,12 @@ pub fn arguments_of_search(
     alloc: Global,
     id: i32,
     name: String,
-    moods: Vec<Mood>,
+    moods: Vec<PgEnum<Mood>>,
 ) -> Result<PgArguments, CodecError>
     ensures { IfOk result (λ arguments. (one : List Argument) × (two : List Argument)
         × Added (argument_frame (⟦<i32 as Encode>⟧.encoding id)) (builtin 23) [] one
         × Added (argument_frame (⟦<String as Encode>⟧.encoding name)) (builtin 25) one two
-        × Added (argument_frame (⟦<Vec<Mood> as Encode>⟧.encoding moods))
+        × Added (argument_frame (⟦<Vec<PgEnum<Mood>> as Encode>⟧.encoding moods))
         (array_of (codes "mood")) two arguments) }
 {
     let mut arguments = PgArguments::new(alloc);

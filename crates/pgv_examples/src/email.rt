@@ -1,96 +1,37 @@
-//! A domain: `create domain email as text`, known by its name and read as the text that it is over.
+//! A domain: `create domain email as text`. A value is written and read as a [`PgDomain<Email>`](pgv::PgDomain), as its text is.
 
-use pgv::{
-    CodecError, Encode, IsNull, PgArgumentBuffer, PgHasArrayType, PgType, PgTypeInfo, PgValueRef,
-    Plain, Type, encode_text,
-};
-use std::alloc::{AllocError, Global};
+use pgv::{Domain, Newtype};
 
-/// An address for letters, of the domain `email` over `text`.
+/// An address for letters.
 #[derive(Drop)]
-pub struct Email {
-    /// The address.
-    pub address: String,
-}
+pub struct Email(pub String);
 
-/// Sent as an `email`; read under `email`, and under `text`, which is what the server says a column of a domain has.
-impl Type for Email {
-    ghost use Rattle.std.specs.Prelude.{codes, ◌||◌};
-    ghost use Rattle.pgv.specs.Words.{builtin, named, softly};
+impl Newtype for Email {
+    ghost use Rattle.std.specs.Prelude.{refl};
 
-    ghost info = { named (codes "email") };
+    type Base = String;
 
-    ghost accepts = { λ t. softly t (named (codes "email")) || softly t (builtin 25) };
+    ghost base = { λ email. email.0 };
 
-    fn type_info() -> PgTypeInfo {
-        PgTypeInfo::with_name("email")
+    ghost made = { λ address. record { 0 = address } };
+
+    ghost made_of = { λ _. refl };
+
+    fn as_base(&self) -> &String {
+        &self.0
     }
 
-    fn compatible(type_info: &PgTypeInfo) -> bool {
-        type_info.type_compatible(&Self::type_info())
-            || type_info.type_compatible(&PgTypeInfo(PgType::Text))
+    fn from_base(address: String) -> Email {
+        Email(address)
     }
 }
 
-impl PgHasArrayType for Email {
+impl Domain for Email {
     ghost use Rattle.std.specs.Prelude.{codes};
-    ghost use Rattle.pgv.specs.Words.{array_of, softly};
 
-    ghost array_info = { array_of (codes "email") };
+    ghost name = { codes "email" };
 
-    ghost accepts_array = { λ t. softly t (array_of (codes "email")) };
-
-    fn array_type_info() -> PgTypeInfo {
-        PgTypeInfo::array_of("email")
+    fn name() -> &'static str {
+        "email"
     }
-
-    fn array_compatible(type_info: &PgTypeInfo) -> bool {
-        type_info.type_compatible(&Self::array_type_info())
-    }
-}
-
-/// Written as its text.
-impl Encode for Email {
-    ghost use Rattle.std.specs.Prelude.{string_bytes};
-    ghost use Rattle.pgv.specs.Words.{plainly, text_image, writes};
-
-    ghost encoding = { λ email. plainly (writes (text_image (string_bytes email.address))) };
-
-    fn encode_by_ref(&self, out: &mut PgArgumentBuffer) -> Result<IsNull, CodecError> {
-        encode_text(self.address.as_str(), out)
-    }
-
-    fn size_hint(&self) -> usize {
-        0
-    }
-
-    fn produces(&self) -> Result<Option<PgTypeInfo>, AllocError> {
-        Ok(None)
-    }
-}
-
-/// Read as its text, and comes back as its text does.
-impl Plain for Email {
-    ghost use Rattle.std.specs.Prelude.{ℕ, List, string_bytes, refl};
-    ghost use Rattle.pgv.specs.Words.{plainly, text_back, text_image, parse_text, writes};
-
-    ghost View = { List ℕ };
-
-    ghost view = { λ email. string_bytes email.address };
-
-    ghost parse = { parse_text };
-
-    ghost null = { λ _ _. refl };
-
-    ghost written = { λ _ text. plainly (writes (text_image text)) };
-
-    fn read(alloc: Global, value: PgValueRef<'_>) -> Result<Email, CodecError> {
-        Ok(Email {
-            address: String::read(alloc, value)?,
-        })
-    }
-
-    ghost reads_back = { λ email. text_back email.address };
-
-    ghost agrees = { λ _. refl };
 }

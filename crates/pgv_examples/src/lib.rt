@@ -7,7 +7,7 @@
 //! 4. [`user_id`] is a newtype over a number.
 //! 5. [`mood`] is an enum by its labels, of a type that is known by its name.
 //! 6. [`email`] is a domain.
-//! 7. [`page`] is a composite type of fixed fields, [`pair`] one of any fields, and [`household`] one with an array.
+//! 7. [`page`] is a composite type, and [`household`] one with an array in it.
 //! 8. [`empty_object`] has a slot: its bytes depend on the parameter's type.
 //! 9. [`percent`] is a codec that refuses.
 //! 10. [`read_back`] says that what was sent comes back, and proves it by the laws.
@@ -37,7 +37,6 @@ pub mod in_list;
 pub mod json;
 pub mod mood;
 pub mod page;
-pub mod pair;
 pub mod percent;
 pub mod read_back;
 pub mod row;

@@ -7,13 +7,12 @@ use jiff::civil::{Date, DateTime};
 use pgv::types::{
     BitVec, MacAddress, PgByteaArray, PgHstore, PgLTree, PgNumeric, PgRange, PgTimeTz,
 };
-use pgv::{Oid, PgTypeInfo, PgValueRef};
+use pgv::{Oid, PgComposite, PgDomain, PgEnum, PgNewtype, PgRecord, PgTypeInfo, PgValueRef};
 use pgv_by_name::SizeRange;
 use pgv_examples::email::Email;
 use pgv_examples::empty_object::EmptyObject;
 use pgv_examples::mood::Mood;
 use pgv_examples::page::Page;
-use pgv_examples::pair::Pair;
 use pgv_examples::percent::Percent;
 use pgv_examples::user_id::UserId;
 use std::alloc::Global;
@@ -68,12 +67,14 @@ fn scalars(alloc: Global, name: &str, value: PgValueRef<'_>, info: &PgTypeInfo) 
 fn own(alloc: Global, name: &str, value: PgValueRef<'_>, info: &PgTypeInfo) -> Option<Outcome> {
     match name {
         "EmptyObject" => Some(again::<EmptyObject>(alloc, value, info)),
-        "Email" => Some(again::<Email>(alloc, value, info)),
-        "Mood" => Some(again::<Mood>(alloc, value, info)),
-        "Page" => Some(again::<Page>(alloc, value, info)),
-        "Pair<i32, String>" => Some(again::<Pair<i32, String>>(alloc, value, info)),
+        "Email" => Some(again::<PgDomain<Email>>(alloc, value, info)),
+        "Mood" => Some(again::<PgEnum<Mood>>(alloc, value, info)),
+        "Page" => Some(again::<PgComposite<Page>>(alloc, value, info)),
+        "PgRecord<(i32, (String,))>" => {
+            Some(again::<PgRecord<(i32, (String,))>>(alloc, value, info))
+        },
         "Percent" => Some(again::<Percent>(alloc, value, info)),
-        "UserId" => Some(again::<UserId>(alloc, value, info)),
+        "UserId" => Some(again::<PgNewtype<UserId>>(alloc, value, info)),
         _ => None,
     }
 }
@@ -92,9 +93,9 @@ fn lists(alloc: Global, name: &str, value: PgValueRef<'_>, info: &PgTypeInfo) ->
         }
         "Vec<Uuid>" => Some(again::<Vec<Uuid>>(alloc, value, info)),
         "Vec<BitVec>" => Some(again::<Vec<BitVec>>(alloc, value, info)),
-        "Vec<Mood>" => Some(again::<Vec<Mood>>(alloc, value, info)),
+        "Vec<Mood>" => Some(again::<Vec<PgEnum<Mood>>>(alloc, value, info)),
         "Vec<PgLTree>" => Some(again::<Vec<PgLTree>>(alloc, value, info)),
-        "Vec<Page>" => Some(again::<Vec<Page>>(alloc, value, info)),
+        "Vec<Page>" => Some(again::<Vec<PgComposite<Page>>>(alloc, value, info)),
         "Vec<SizeRange>" => Some(again::<Vec<SizeRange>>(alloc, value, info)),
         _ => None,
     }
@@ -124,7 +125,7 @@ fn tuples(alloc: Global, name: &str, value: PgValueRef<'_>, info: &PgTypeInfo) -
         "(i64, String)" => Some(only::<(i64, String)>(alloc, value)),
         "(i32, String, i32)" => Some(only::<(i32, String, i32)>(alloc, value)),
         "(Vec<PgRange<Date>>, PgLTree)" => {
-            Some(again::<Pair<Vec<PgRange<Date>>, PgLTree>>(alloc, value, info))
+            Some(again::<PgRecord<(Vec<PgRange<Date>>, (PgLTree,))>>(alloc, value, info))
         }
         _ => numbers(alloc, name, value),
     }

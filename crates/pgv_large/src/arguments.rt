@@ -1,6 +1,6 @@
 //! Arguments: their number, and the number of their holes.
 
-use pgv::{CodecError, Oid, PgArguments, PgTypeInfo};
+use pgv::{CodecError, Oid, PgArguments, PgEnum, PgTypeInfo};
 use pgv_examples::mood::Mood;
 use std::alloc::Global;
 
@@ -54,7 +54,7 @@ pub fn each(alloc: Global) -> Result<bool, CodecError> {
 fn empty_lists(alloc: Global) -> Result<PgArguments, CodecError> {
     let mut arguments = PgArguments::new(alloc);
     for _ in 0..HOLES {
-        arguments.add(Vec::<Mood>::new(alloc))?;
+        arguments.add(Vec::<PgEnum<Mood>>::new(alloc))?;
     }
     Ok(arguments)
 }

@@ -4,7 +4,7 @@ use pgv::catalog::{
     CatalogError, PgCatalogRows, PgFieldRow, PgLabelRow, PgServerTypes, PgTypeClass, PgTypeRow,
     fill,
 };
-use pgv::{CodecError, Oid, PgArguments, PgTypeInfo};
+use pgv::{CodecError, Oid, PgArguments, PgEnum, PgTypeInfo};
 use pgv_called::{Again, Called, same};
 use pgv_examples::mood::Mood;
 use std::alloc::{AllocError, Global};
@@ -80,7 +80,7 @@ fn find(alloc: Global, name: &str) -> Result<String, CodecError> {
 /// A list of one mood.
 fn moods(alloc: Global) -> Result<PgArguments, CodecError> {
     let mut arguments = PgArguments::new(alloc);
-    arguments.add([Mood::Fine].to_vec(alloc)?)?;
+    arguments.add([PgEnum(Mood::Fine)].to_vec(alloc)?)?;
     Ok(arguments)
 }
 

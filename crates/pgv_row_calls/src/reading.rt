@@ -3,7 +3,7 @@
 
 use pgv::catalog::{PgFieldRow, PgLabelRow, PgTypeRow};
 use pgv::row::{FromRow, PgRow};
-use pgv::{CodecError, Decode, Type};
+use pgv::{CodecError, Decode, PgEnum, Type};
 use pgv_examples::mood::Mood;
 use std::alloc::Global;
 use std::fmt::Debug;
@@ -26,7 +26,7 @@ fn got(alloc: Global, row: &PgRow<'_>, name: &str) -> Result<String, CodecError>
     match name {
         "id" => value::<i32>(alloc, row, name),
         "name" => value::<Option<String>>(alloc, row, name),
-        "mood" => value::<Mood>(alloc, row, name),
+        "mood" => value::<PgEnum<Mood>>(alloc, row, name),
         _ => value::<Vec<Option<i32>>>(alloc, row, name),
     }
 }

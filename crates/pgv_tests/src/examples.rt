@@ -5,8 +5,8 @@ use hex::{decode, encode};
 use pgv::row::{PgColumns, PgPlaces, PgRow};
 use pgv::types::{PgLTree, PgRange};
 use pgv::{
-    CodecError, Decode, Oid, PgArguments, PgCopyReader, PgType, PgTypeInfo, PgTypeKind,
-    PgValueFormat, PgValueRef, Type,
+    CodecError, Decode, Oid, PgArguments, PgComposite, PgCopyReader, PgDomain, PgEnum, PgNewtype,
+    PgType, PgTypeInfo, PgTypeKind, PgValueFormat, PgValueRef, Type,
 };
 use pgv_examples::arrays::{add_lists, scores};
 use pgv_examples::bind::{arguments_of_search, fill, parameters_of_bind};
@@ -74,7 +74,7 @@ fn known_types(alloc: Global) -> Result<[PgTypeInfo; 2], AllocError> {
 
 /// The parameters of a search for one mood. Until the type of a hole is known, nothing is filled.
 fn bound(alloc: Global) -> Result<String, CodecError> {
-    let moods = [Mood::Fine].to_vec(alloc)?;
+    let moods = [PgEnum(Mood::Fine)].to_vec(alloc)?;
     let name = String::from_str(alloc, "seven")?;
     let mut arguments = arguments_of_search(alloc, 7, name, moods)?;
     if fill_search(alloc, &mut arguments, &[]).is_ok() {
@@ -98,9 +98,9 @@ fn a_search_is_bound(rt: HostRuntime) -> Result<(), CodecError> {
 /// A list of moods and a list of addresses. The types of their holes are known in the other order.
 fn two_holes(alloc: Global) -> Result<String, CodecError> {
     let mut arguments = PgArguments::new(alloc);
-    arguments.add([Mood::Fine].to_vec(alloc)?)?;
+    arguments.add([PgEnum(Mood::Fine)].to_vec(alloc)?)?;
     let address = String::from_str(alloc, "a@b")?;
-    arguments.add(Vec::from_array(alloc, [Email { address }])?)?;
+    arguments.add(Vec::from_array(alloc, [PgDomain(Email(address))])?)?;
     let parameters = [PgTypeInfo::array_of("mood"), PgTypeInfo::array_of("email")];
     fill(alloc, &mut arguments, &parameters, &known_types(alloc)?)?;
     Ok(encode(alloc, arguments.buffer().as_slice())?)
@@ -162,10 +162,10 @@ fn moods_type(alloc: Global) -> Result<PgTypeInfo, AllocError> {
 }
 
 /// A user and moods, added, filled and read back.
-fn read_back(alloc: Global) -> Result<(UserId, Vec<Option<Mood>>), CodecError> {
+fn read_back(alloc: Global) -> Result<(PgNewtype<UserId>, Vec<Option<PgEnum<Mood>>>), CodecError> {
     let mut arguments = PgArguments::new(alloc);
-    arguments.add(UserId(7))?;
-    arguments.add([Some(Mood::Fine), None].to_vec(alloc)?)?;
+    arguments.add(PgNewtype(UserId(7)))?;
+    arguments.add([Some(PgEnum(Mood::Fine)), None].to_vec(alloc)?)?;
     let parameters = [PgTypeInfo(PgType::Int4), moods_type(alloc)?];
     arguments.apply_patches(&parameters, &[Oid(16600)])?;
     let mut rest = arguments.buffer().as_slice();
@@ -176,8 +176,11 @@ fn read_back(alloc: Global) -> Result<(UserId, Vec<Option<Mood>>), CodecError> {
 #[test]
 fn a_user_and_moods_come_back(rt: HostRuntime) -> Result<(), CodecError> {
     let (user, moods) = read_back(rt.alloc())?;
-    assert_eq!(rt; user, UserId(7));
-    assert_eq!(rt; moods.as_slice(), [Some(Mood::Fine), None].as_slice());
+    assert_eq!(rt; user, PgNewtype(UserId(7)));
+    assert_eq!(rt;
+        moods.as_slice(),
+        [Some(PgEnum(Mood::Fine)), None].as_slice()
+    );
     Ok(())
 }
 
@@ -380,15 +383,16 @@ fn document_shown(alloc: Global, parameter: PgType) -> Result<String, CodecError
 fn shipment_shown(alloc: Global) -> Result<String, CodecError> {
     let mut arguments = PgArguments::new(alloc);
     let path = PgLTree::from_str(alloc, "a.b")?;
-    let page = Page { id: 1, path };
-    arguments.add(Shipment { note: None, page })?;
+    let page = PgComposite(Page { id: 1, path });
+    arguments.add(PgComposite(Shipment { note: None, page }))?;
     let sent = encode(alloc, arguments.buffer().as_slice())?;
     let text = b"(,\"(1,a.b)\")".as_slice();
-    let value = PgValueRef::new(Some(text), Shipment::type_info(), PgValueFormat::Text);
-    let read = Shipment::decode(alloc, value)?;
+    let shipment = PgComposite::<Shipment>::type_info();
+    let value = PgValueRef::new(Some(text), shipment, PgValueFormat::Text);
+    let PgComposite(read) = PgComposite::<Shipment>::decode(alloc, value)?;
     Ok(format!(in alloc;
         "{sent} {:?} {} {}",
-        read.note, read.page.id, read.page.path
+        read.note, read.page.0.id, read.page.0.path
     )?)
 }
 

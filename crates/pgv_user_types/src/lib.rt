@@ -15,6 +15,3 @@ pub use domain::{Domain, PgDomain};
 pub use labelled::{Labelled, PgEnum};
 pub use newtype::{Newtype, PgNewtype};
 pub use record::PgRecord;
-
-#[cfg(test)]
-mod tests;

@@ -7,14 +7,15 @@ use jiff::civil::{Date, DateTime};
 use pgv::types::{
     BitVec, MacAddress, PgByteaArray, PgHstore, PgLTree, PgNumeric, PgRange, PgTimeTz,
 };
-use pgv::{Oid, PgTypeInfo, PgValueFormat, PgValueRef};
+use pgv::{
+    Oid, PgComposite, PgDomain, PgEnum, PgNewtype, PgRecord, PgTypeInfo, PgValueFormat, PgValueRef,
+};
 use pgv_by_name::{SizeRange, type_of};
 use pgv_called::{Again, Called, bytes_of, read_again as again, read_shown as debug};
 use pgv_examples::email::Email;
 use pgv_examples::empty_object::EmptyObject;
 use pgv_examples::mood::Mood;
 use pgv_examples::page::Page;
-use pgv_examples::pair::Pair;
 use pgv_examples::percent::Percent;
 use pgv_examples::user_id::UserId;
 use std::alloc::Global;
@@ -64,11 +65,11 @@ fn scalars(alloc: Global, name: &str, value: PgValueRef<'_>) -> Result<String, A
 fn own(alloc: Global, name: &str, value: PgValueRef<'_>) -> Result<String, Again> {
     match name {
         "EmptyObject" => again::<EmptyObject>(alloc, value),
-        "Email" => again::<Email>(alloc, value),
-        "Mood" => again::<Mood>(alloc, value),
-        "Page" => again::<Page>(alloc, value),
+        "Email" => again::<PgDomain<Email>>(alloc, value),
+        "Mood" => again::<PgEnum<Mood>>(alloc, value),
+        "Page" => again::<PgComposite<Page>>(alloc, value),
         "Percent" => again::<Percent>(alloc, value),
-        "UserId" => again::<UserId>(alloc, value),
+        "UserId" => again::<PgNewtype<UserId>>(alloc, value),
         _ => Ok(String::from_str(alloc, "no type of this name")?),
     }
 }
@@ -84,9 +85,9 @@ fn lists(alloc: Global, name: &str, value: PgValueRef<'_>) -> Result<String, Aga
         "Vec<[Option<String>; 64]>" => debug::<Vec<[Option<String>; 64]>>(alloc, value),
         "Vec<Option<PgRange<i32>>>" => again::<Vec<Option<PgRange<i32>>>>(alloc, value),
         "Vec<BitVec>" => again::<Vec<BitVec>>(alloc, value),
-        "Vec<Mood>" => debug::<Vec<Mood>>(alloc, value),
+        "Vec<Mood>" => debug::<Vec<PgEnum<Mood>>>(alloc, value),
         "Vec<PgLTree>" => again::<Vec<PgLTree>>(alloc, value),
-        "Vec<Page>" => again::<Vec<Page>>(alloc, value),
+        "Vec<Page>" => again::<Vec<PgComposite<Page>>>(alloc, value),
         "Vec<SizeRange>" => again::<Vec<SizeRange>>(alloc, value),
         _ => Ok(String::from_str(alloc, "no list of this name")?),
     }
@@ -114,7 +115,7 @@ fn records(alloc: Global, name: &str, value: PgValueRef<'_>) -> Result<String, A
         "(i32, String)" => debug::<(i32, String)>(alloc, value),
         "(i64, String)" => debug::<(i64, String)>(alloc, value),
         "(Vec<PgRange<Date>>, PgLTree)" => {
-            again::<Pair<Vec<PgRange<Date>>, PgLTree>>(alloc, value)
+            again::<PgRecord<(Vec<PgRange<Date>>, (PgLTree,))>>(alloc, value)
         }
         "(i32, String, i32)" => debug::<(i32, String, i32)>(alloc, value),
         _ => numbers(alloc, name, value),
