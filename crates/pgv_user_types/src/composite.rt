@@ -5,8 +5,8 @@ ghost use Rattle.pgv_codec.specs.Appending.{Encodes, Extends};
 ghost use Rattle.pgv_codec.specs.Encoding.{record_image};
 
 use pgv_codec::{
-    Codec, CodecList, Decode, Encode, FieldList, IsNull, PgArgumentBuffer, PgHasArrayType,
-    PgRecordDecoder, ReadBack, Type,
+    Codec, CodecList, Decode, Encode, FieldList, IsNull, KeptList, PgArgumentBuffer,
+    PgHasArrayType, PgRecordDecoder, ReadBack, Type,
 };
 use pgv_types::PgTypeInfo;
 use pgv_value::{CodecError, PgValueRef};
@@ -15,7 +15,7 @@ use std::alloc::{AllocError, Global};
 /// A Rust struct that is a composite of the server, which is known by its name, by the list of its fields.
 pub trait Composite: Sized + Drop {
     /// The fields, in nested pairs that end in a tuple of one: `(i32, (PgLTree,))`.
-    type Fields: CodecList;
+    type Fields: KeptList;
 
     /// The name of the type.
     ghost name: { List ℕ };
@@ -140,8 +140,11 @@ impl<T: Composite> ReadBack for PgComposite<T> {
         T.Fields.view T.Fields.kept T.Fields.fits T.made_of T.Fields.reads_back v.0 };
 }
 
-/// Two values of one view are written alike.
-impl<T: Composite> Codec for PgComposite<T> {
+/// Written by what it says alone, where each field is.
+impl<T: Composite> Codec for PgComposite<T>
+where
+    T::Fields: CodecList,
+{
     ghost use Rattle.pgv_user_types.specs.Composites.{record_agrees};
 
     ghost agrees = { λ v. record_agrees (T.Fields.agrees (T.fields_of v.0)) };

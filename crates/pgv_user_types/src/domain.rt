@@ -3,7 +3,7 @@
 ghost use Rattle.std.specs.Prelude.{◌≡◌, List, ℕ};
 
 use crate::newtype::Newtype;
-use pgv_codec::{Encode, IsNull, PgArgumentBuffer, PgHasArrayType, Plain, Type};
+use pgv_codec::{Codec, Decode, Encode, IsNull, PgArgumentBuffer, PgHasArrayType, ReadBack, Type};
 use pgv_types::PgTypeInfo;
 use pgv_value::{CodecError, PgValueRef};
 use std::alloc::{AllocError, Global};
@@ -24,7 +24,10 @@ pub struct PgDomain<T>(pub T);
 
 /// The type of this name. A value is read under it, and under what it holds is read under: that is the type that the server
 /// describes a column of a domain by.
-impl<T: Domain> Type for PgDomain<T> {
+impl<T: Domain> Type for PgDomain<T>
+where
+    T::Base: Type,
+{
     ghost use Rattle.std.specs.Prelude.{◌||◌};
     ghost use Rattle.pgv_types.specs.Ty.{named};
     ghost use Rattle.pgv_types.specs.Relations.{softly};
@@ -77,10 +80,11 @@ impl<T: Domain> Encode for PgDomain<T> {
     }
 }
 
-/// Read, and read back, as what it holds.
-impl<T: Domain> Plain for PgDomain<T> {
-    ghost use Rattle.pgv_user_types.specs.Newtypes.{newtype_back};
-
+/// Read as what it holds.
+impl<T: Domain> Decode for PgDomain<T>
+where
+    T::Base: Type,
+{
     ghost View = { T.Base.View };
 
     ghost view = { λ v. T.Base.view (T.base v.0) };
@@ -91,14 +95,30 @@ impl<T: Domain> Plain for PgDomain<T> {
 
     ghost written = { λ _. T.Base.written T.Base.info };
 
+    fn decode(alloc: Global, value: PgValueRef<'_>) -> Result<PgDomain<T>, CodecError> {
+        Ok(PgDomain(T::from_base(T::Base::decode(alloc, value)?)))
+    }
+}
+
+/// Read back where what it holds is.
+impl<T: Domain> ReadBack for PgDomain<T>
+where
+    T::Base: Type,
+{
+    ghost use Rattle.pgv_user_types.specs.Newtypes.{newtype_back};
+
     ghost kept = { λ v. record { 0 = T.made (T.Base.kept (T.base v.0)) } };
 
-    fn read(alloc: Global, value: PgValueRef<'_>) -> Result<PgDomain<T>, CodecError> {
-        Ok(PgDomain(T::from_base(T::Base::read(alloc, value)?)))
-    }
+    ghost fits = { λ v. T.Base.fits (T.base v.0) };
 
     ghost reads_back = { λ v. newtype_back T.base T.made T.Base.encoding T.Base.parse T.Base.view
-        T.Base.kept T.made_of T.Base.reads_back v.0 };
+        T.Base.kept T.Base.fits T.made_of T.Base.reads_back v.0 };
+}
 
+/// Written by what it says alone, where what it holds is.
+impl<T: Domain> Codec for PgDomain<T>
+where
+    T::Base: Codec,
+{
     ghost agrees = { λ v. T.Base.agrees (T.base v.0) };
 }

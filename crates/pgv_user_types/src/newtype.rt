@@ -2,15 +2,16 @@
 
 ghost use Rattle.std.specs.Prelude.{◌≡◌};
 
-use pgv_codec::{Encode, IsNull, PgArgumentBuffer, PgHasArrayType, Plain, Type};
+use pgv_codec::{Codec, Decode, Encode, IsNull, PgArgumentBuffer, PgHasArrayType, ReadBack, Type};
 use pgv_types::PgTypeInfo;
 use pgv_value::{CodecError, PgValueRef};
 use std::alloc::{AllocError, Global};
 
-/// A Rust type that holds one value of a plain type, and is that type on the server.
+/// A Rust type that holds one value of another, as `struct UserId(i32)` or `struct Tags(Vec<String>)` does, and is that type on the
+/// server.
 pub trait Newtype: Sized + Drop {
     /// The type that it holds.
-    type Base: Plain + PgHasArrayType;
+    type Base: ReadBack;
 
     /// What a value holds.
     ghost base: { Self → Self.Base };
@@ -35,7 +36,10 @@ pub trait Newtype: Sized + Drop {
 pub struct PgNewtype<T>(pub T);
 
 /// The type of what it holds.
-impl<T: Newtype> Type for PgNewtype<T> {
+impl<T: Newtype> Type for PgNewtype<T>
+where
+    T::Base: Type,
+{
     ghost info = { T.Base.info };
 
     ghost accepts = { T.Base.accepts };
@@ -50,7 +54,10 @@ impl<T: Newtype> Type for PgNewtype<T> {
 }
 
 /// The array type of what it holds.
-impl<T: Newtype> PgHasArrayType for PgNewtype<T> {
+impl<T: Newtype> PgHasArrayType for PgNewtype<T>
+where
+    T::Base: PgHasArrayType,
+{
     ghost array_info = { T.Base.array_info };
 
     ghost accepts_array = { T.Base.accepts_array };
@@ -81,10 +88,8 @@ impl<T: Newtype> Encode for PgNewtype<T> {
     }
 }
 
-/// Read, and read back, as what it holds.
-impl<T: Newtype> Plain for PgNewtype<T> {
-    ghost use Rattle.pgv_user_types.specs.Newtypes.{newtype_back};
-
+/// Read as what it holds.
+impl<T: Newtype> Decode for PgNewtype<T> {
     ghost View = { T.Base.View };
 
     ghost view = { λ v. T.Base.view (T.base v.0) };
@@ -95,14 +100,27 @@ impl<T: Newtype> Plain for PgNewtype<T> {
 
     ghost written = { T.Base.written };
 
+    fn decode(alloc: Global, value: PgValueRef<'_>) -> Result<PgNewtype<T>, CodecError> {
+        Ok(PgNewtype(T::from_base(T::Base::decode(alloc, value)?)))
+    }
+}
+
+/// Read back where what it holds is.
+impl<T: Newtype> ReadBack for PgNewtype<T> {
+    ghost use Rattle.pgv_user_types.specs.Newtypes.{newtype_back};
+
     ghost kept = { λ v. record { 0 = T.made (T.Base.kept (T.base v.0)) } };
 
-    fn read(alloc: Global, value: PgValueRef<'_>) -> Result<PgNewtype<T>, CodecError> {
-        Ok(PgNewtype(T::from_base(T::Base::read(alloc, value)?)))
-    }
+    ghost fits = { λ v. T.Base.fits (T.base v.0) };
 
     ghost reads_back = { λ v. newtype_back T.base T.made T.Base.encoding T.Base.parse T.Base.view
-        T.Base.kept T.made_of T.Base.reads_back v.0 };
+        T.Base.kept T.Base.fits T.made_of T.Base.reads_back v.0 };
+}
 
+/// Written by what it says alone, where what it holds is.
+impl<T: Newtype> Codec for PgNewtype<T>
+where
+    T::Base: Codec,
+{
     ghost agrees = { λ v. T.Base.agrees (T.base v.0) };
 }

@@ -103,7 +103,7 @@ impl<Fields: KeptList> ReadBack for PgRecord<Fields> {
         Fields.view Fields.kept Fields.fits (λ _. refl) Fields.reads_back v.0 };
 }
 
-/// Two records that say the same are written alike.
+/// Written by what it says alone, where each field is.
 impl<Fields: CodecList> Codec for PgRecord<Fields> {
     ghost use Rattle.pgv_user_types.specs.Composites.{record_agrees};
 
