@@ -14,29 +14,16 @@ pub fn push_in(
 ) -> Result<(), CodecError>
     ensures { OnOk result (length arguments.new ≡ length arguments.old + length keys.now) }
 {
-    query.push_str(if keys.is_empty() {
-        " in (null"
-    } else {
-        " in ("
-    })?;
-    push_keys(arguments, query, keys)?;
-    Ok(query.push(')')?)
-}
-
-/// Adds each key, and appends their placeholders with a comma between two.
-fn push_keys(
-    arguments: &mut PgArguments,
-    query: &mut String,
-    keys: &[i64],
-) -> Result<(), CodecError>
-    ensures { OnOk result (length arguments.new ≡ length arguments.old + length keys.now) }
-{
+    query.push_str(" in (")?;
+    if keys.is_empty() {
+        query.push_str("null")?;
+    }
     let mut is_first = true;
     for key in keys {
         push_key(arguments, query, *key, is_first)?;
         is_first = false;
     }
-    Ok(())
+    Ok(query.push(')')?)
 }
 
 /// Adds a key, and appends its placeholder, after the first with a comma in front.

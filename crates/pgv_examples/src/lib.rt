@@ -1,7 +1,7 @@
 //! Examples for callers who bind parameters, read rows or define their own codecs: each a file, short and proved.
 //! `pgv_tests` has a short test of each that does something by itself, and `pgv_calls` rows of the types.
 //!
-//! 1. [`bind`] adds the values of a statement, fills their holes, and gives the bytes that are sent.
+//! 1. [`bind`] adds the values of a statement, [`holes`] fills their holes, and then the bytes are sent.
 //! 2. [`row`] reads a row column by column, nulls too, and keeps a value after the row is gone.
 //! 3. [`arrays`] writes and reads arrays, also with nulls in them.
 //! 4. [`user_id`] is a newtype over a number.
@@ -32,6 +32,7 @@ pub mod empty_object;
 pub mod errors;
 pub mod float8;
 pub mod float_range;
+pub mod holes;
 pub mod household;
 pub mod in_list;
 pub mod json;

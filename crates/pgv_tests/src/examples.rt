@@ -9,12 +9,13 @@ use pgv::{
     PgType, PgTypeInfo, PgTypeKind, PgValueFormat, PgValueRef, Type,
 };
 use pgv_examples::arrays::{add_lists, scores};
-use pgv_examples::bind::{arguments_of_search, fill, parameters_of_bind};
+use pgv_examples::bind::{arguments_of_search, parameters_of_bind};
 use pgv_examples::copied::{columns, read_item, read_items};
 use pgv_examples::email::Email;
 use pgv_examples::errors::{Reason, name_in};
 use pgv_examples::float_range::FloatRange;
 use pgv_examples::float8::Float8;
+use pgv_examples::holes::fill;
 use pgv_examples::in_list::{add_all, push_in};
 use pgv_examples::json::Json;
 use pgv_examples::mood::Mood;

@@ -1,7 +1,7 @@
 use Rattle.std.proofs.Common.{take}
 use Rattle.std.proofs.lemmas.List.{take_more}
 use Rattle.pgv_examples.specs.Known.{one_more}
-use Rattle.pgv_examples.proofs.bind.oids_among.Goals as goal
+use Rattle.pgv_examples.proofs.holes.oids_among.Goals as goal
 
 pub loop-hole-preserved : goal.loop-hole-preserved
 loop-hole-preserved c =

@@ -1,6 +1,6 @@
 use Rattle.std.proofs.Common.{take}
 use Rattle.pgv_examples.specs.Known.{AreKnownOids}
-use Rattle.pgv_examples.proofs.bind.oids_among.Given as goal
+use Rattle.pgv_examples.proofs.holes.oids_among.Given as goal
 
 -- those so far
 abbrev pub invariant-loop-hole : goal.invariant-loop-hole
