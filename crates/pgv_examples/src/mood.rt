@@ -1,5 +1,4 @@
-//! An enum by its labels: `create type mood as enum ('sad', 'ok', 'happy')`. A value is written and read as a
-//! [`PgEnum<Mood>`](pgv::PgEnum).
+//! An enum, `create type mood as enum ('sad', 'ok', 'happy')`: written and read as a [`PgEnum<Mood>`](pgv::PgEnum).
 
 use pgv::Labelled;
 
