@@ -3,11 +3,10 @@
 mod server;
 
 use pgv::{
-    CodecError, Decode, Encode, PgArgumentBuffer, PgRecordDecoder, PgType, PgTypeInfo,
+    CodecError, Decode, Encode, PgArgumentBuffer, PgRecord, PgRecordDecoder, PgType, PgTypeInfo,
     PgValueFormat, PgValueRef, Type,
 };
 use pgv_by_name::type_of;
-use pgv_examples::pair::Pair;
 use server::RECORDS;
 use std::alloc::Global;
 use std::test::Fail;
@@ -38,7 +37,9 @@ fn field_again(
         "uuid" => written_again::<Uuid>(alloc, fields),
         "int4[]" => written_again::<Vec<Option<i32>>>(alloc, fields),
         "text[]" => written_again::<Vec<Option<String>>>(alloc, fields),
-        "(int4,text)" => written_again::<Pair<Option<i32>, Option<String>>>(alloc, fields),
+        "(int4,text)" => {
+            written_again::<PgRecord<(Option<i32>, (Option<String>,))>>(alloc, fields)
+        }
         _ => Err(CodecError::MismatchedTypes),
     }
 }
