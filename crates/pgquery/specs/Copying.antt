@@ -1,4 +1,5 @@
--- A COPY in binary to the driver (PostgreSQL: "COPY", "Binary Format"; "COPY Operations"): the lines of its rows, as they come in messages.
+-- A COPY in binary to the driver (PostgreSQL: "COPY", "Binary Format"; "COPY Operations"): the lines of its rows, as
+-- they come in messages.
 use Rattle.std.specs.Prelude.{◌≡◌, ◌≢◌, ℕ, Bool, true, false, zero, suc, ◌==◌, List, [], ◌∷◌, ◌++◌, length, replicate, Option, Some, None, Ok}
 use Rattle.std.specs.List.{flat_map, slice_get}
 use Rattle.hex.specs.Hex.{encode_lower}
@@ -55,8 +56,8 @@ abbrev pub OpensCopy : List ℕ → Pieces → Type 0
 OpensCopy body reader =
     (columns : List PgValueFormat) × ((copy_formats body).answer ≡ Ok (Binary, columns)) × (reader ≡ nothing_came (replicate (length columns) (by_oid 0)))
 
--- What an answer does to the reader, and which text it shows: CopyOutResponse, whose tag is 72, makes the reader, and a CopyData, whose tag
--- is 100, is a piece.
+-- What an answer does to the reader, and which text it shows: CopyOutResponse, whose tag is 72, makes the reader, and a
+-- CopyData, whose tag is 100, is a piece.
 abbrev pub CopiesBy : Bool → Bool → List ℕ → Pieces → Pieces → List ℕ → Type 0
 CopiesBy true is_data body reader after text = OpensCopy body after × (text ≡ [])
 CopiesBy false true body reader after text = ShowsPiece body reader after text

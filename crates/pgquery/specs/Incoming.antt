@@ -14,8 +14,8 @@ abbrev pub AreInFront : List Incoming → List ℕ → List ℕ → Type 0
 AreInFront [] bytes rest = rest ≡ bytes
 AreInFront (m ∷ ms) bytes rest = (after : List ℕ) × (in_front bytes ≡ found m.tag m.body after) × AreInFront ms after rest
 
--- These messages came: what was unread began with them, and what comes after them is unread now. Of bytes that are not known nothing is
--- said.
+-- These messages came: what was unread began with them, and what comes after them is unread now. Of bytes that are not
+-- known nothing is said.
 abbrev pub Come : List Incoming → Option (List ℕ) → Option (List ℕ) → Type 0
 Come ms None new = ⊤
 Come ms (Some xs) None = ⊥

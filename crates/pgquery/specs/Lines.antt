@@ -1,6 +1,7 @@
--- The line that is printed for a row. As texts (PostgreSQL, "COPY", "Text Format"): its values in order, a tab between two; null as `\N`,
--- and in a text tabs, line feeds, carriage returns and backslashes escaped. As an object of JSON (RFC 8259): the name of each column, and
--- its value as a string or null; in a string quotes and backslashes escaped, and controls by their number.
+-- The line that is printed for a row. As texts (PostgreSQL, "COPY", "Text Format"): its values in order, a tab between
+-- two; null as `\N`, and in a text tabs, line feeds, carriage returns and backslashes escaped. As an object of JSON
+-- (RFC 8259): the name of each column, and its value as a string or null; in a string quotes and backslashes escaped,
+-- and controls by their number.
 use Rattle.std.specs.Prelude.{◌≡◌, ℕ, Bool, true, false, zero, suc, ◌+◌, ◌/◌, ◌%◌, ◌==◌, nat_lt, if◌then◌else◌, List, [], ◌∷◌, ◌++◌, length, Option, Some, None, ⊤}
 use Rattle.std.specs.List.{flat_map, slice_get}
 use Rattle.std.specs.Io.KnownBytes.{Appends}

@@ -1,5 +1,5 @@
--- A statement in a session (PostgreSQL: "Message Flow", "Extended Query"): it is prepared and described, its parameters are bound, it is
--- executed, and the rows that come are shown.
+-- A statement in a session (PostgreSQL: "Message Flow", "Extended Query"): it is prepared and described, its parameters
+-- are bound, it is executed, and the rows that come are shown.
 use Rattle.std.specs.Prelude.{◌≡◌, ℕ, ◌==◌, List, [], ◌∷◌, ◌++◌, map, slice_set, if◌then◌else◌, Option, Ok}
 use Rattle.pgv_row.specs.ColumnView.{Column}
 use Rattle.pgv_row.specs.Description.{IsDescription, KnownTypes, in_format}
@@ -26,8 +26,8 @@ preparing sql = do
   ended ← bare 83
   Ok ((parsed ++ described) ++ ended)
 
--- A Bind without names, whose parameters are in this format: its code stands after the tag, the length, two empty names and the number
--- of codes, and that of texts is 0.
+-- A Bind without names, whose parameters are in this format: its code stands after the tag, the length, two empty names
+-- and the number of codes, and that of texts is 0.
 abbrev pub with_format : PgValueFormat → List ℕ → List ℕ
 with_format Text bound = slice_set bound 10 0
 with_format Binary bound = bound
@@ -83,7 +83,8 @@ abbrev pub ShowsAnswers : {R W : Type 0} → (R → Option (List ℕ)) → (W �
 ShowsAnswers remaining contents shown columns old new text =
     (answers : List Incoming) × UpToReady answers × Talks remaining contents old new [] answers × ShowsRows shown columns answers text
 
--- A statement was prepared, bound and executed, and this text is the rows that came of it, under the columns that the server described.
+-- A statement was prepared, bound and executed, and this text is the rows that came of it, under the columns that the
+-- server described.
 pub record Runs {R W : Type 0} (remaining : R → Option (List ℕ)) (contents : W → Option (List ℕ)) (sql : List ℕ) (shown : Shown) (old new : Connection R W) (text : List ℕ) : Type 0 where
   pub prepared : Connection R W
   pub executed : Connection R W

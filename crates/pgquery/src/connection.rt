@@ -66,7 +66,8 @@ impl<R: Read, W: Write> Connection<R, W> {
         self.inbox.last()
     }
 
-    /// Waits for the next message that is not passed over, and answers its tag. An error of the server ends the session.
+    /// Waits for the next message that is not passed over, and answers its tag. An error of the server ends the
+    /// session.
     pub fn next(&mut self, alloc: Global) -> Result<u8, Fault>
         ensures { IfOk result (Answers R.remaining W.contents self.old self.new) }
     {

@@ -1,11 +1,11 @@
 //! `pgquery`: runs a statement on a PostgreSQL server that reads its standard output and writes its standard input, as
 //! `tools/with_server` ties them to a server's socket. Rows go to standard error, a line each, and so does an error.
 //!
-//! `pgquery [--json | --binary | --copy] SQL [PARAMETER ..]`: a parameter is a text of the type that the server says it has, and `\N` is
-//! null. A row is its values with a tab between two, as `COPY` writes them in text (PostgreSQL, "COPY", "Text Format"), or with `--json` an
-//! object. With `--binary` a parameter is the bytes of a value in hex, and a row the frames that the codec writes of what it read.
-//! `--copy` runs a `COPY .. TO STDOUT (FORMAT binary)`, and shows the bytes of each field in hex. The user and the database are
-//! `PGUSER` and `PGDATABASE`, or `postgres`.
+//! `pgquery [--json | --binary | --copy] SQL [PARAMETER ..]`: a parameter is a text of the type that the server says it
+//! has, and `\N` is null. A row is its values with a tab between two, as `COPY` writes them in text (PostgreSQL,
+//! "COPY", "Text Format"), or with `--json` an object. With `--binary` a parameter is the bytes of a value in hex, and
+//! a row the frames that the codec writes of what it read. `--copy` runs a `COPY .. TO STDOUT (FORMAT binary)`, and
+//! shows the bytes of each field in hex. The user and the database are `PGUSER` and `PGDATABASE`, or `postgres`.
 #![tactic(auto)]
 
 mod connection;

@@ -182,8 +182,8 @@ fn texts_of(alloc: Global, texts: &[Option<String>]) -> Result<Bindings, Fault> 
     })
 }
 
-/// What is bound to parameters of these OIDs, with the holes filled. Where the codec doesn't read the type of one from text, all are
-/// bound as their texts.
+/// What is bound to parameters of these OIDs, with the holes filled. Where the codec doesn't read the type of one from
+/// text, all are bound as their texts.
 pub fn bound(
     alloc: Global,
     oids: &[Oid],

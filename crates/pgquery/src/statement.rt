@@ -87,8 +87,8 @@ fn description<R: Read, W: Write>(
     Err(Fault::End)
 }
 
-/// Says in a Bind of the statement without a name in which format its parameters are: their one format code stands after the tag, the
-/// length, two empty names and the number of codes.
+/// Says in a Bind of the statement without a name in which format its parameters are: their one format code stands
+/// after the tag, the length, two empty names and the number of codes.
 fn set_format(bind: &mut [u8], format: PgValueFormat)
     ensures { bind.new ≡ statement.with_format format bind.old }
 {
@@ -177,8 +177,8 @@ fn server_types<R: Read, W: Write>(
     Ok(types_of(alloc, &rows)?)
 }
 
-/// Prepares a statement, and has the types of the server that its parameters want: none where all are built in. Looking these up ends
-/// the statement, so it is prepared again.
+/// Prepares a statement, and has the types of the server that its parameters want: none where all are built in. Looking
+/// these up ends the statement, so it is prepared again.
 fn prepare_at_last<R: Read, W: Write>(
     alloc: Global,
     connection: &mut Connection<R, W>,

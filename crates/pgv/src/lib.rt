@@ -1,8 +1,8 @@
 //! PostgreSQL's value codec, as `sqlx-postgres` has it, proved: one crate to depend on. It holds no code; each name is
 //! re-exported from the crate that has it.
 //!
-//! - At the top what a binder and a reader of rows need: [`PgArguments`], [`PgValueRef`], types and the traits, and user-defined
-//!   types by little code: [`Labelled`], [`Composite`], [`Newtype`], [`Domain`].
+//! - At the top what a binder and a reader of rows need: [`PgArguments`], [`PgValueRef`], types and the traits, and
+//!   user-defined types by little code: [`Labelled`], [`Composite`], [`Newtype`], [`Domain`].
 //! - [`types`]: the Rust types of values, beside those of std, `jiff` and `uuid`.
 //! - [`text`]: readers of whole texts.
 //! - [`row`], [`message`], [`catalog`]: rows of a statement's result, the messages around parameters and rows, and the

@@ -7,8 +7,8 @@ use pgv_codec::{Decode, Encode, Type};
 use pgv_value::CodecError;
 use std::alloc::Global;
 
-/// Writes or reads the values of frames `rounds` times. `how` is 0 to add them to arguments and 1 to encode them, of frames in
-/// binary that are decoded once before; 2 to read frames in binary, and 3 in text.
+/// Writes or reads the values of frames `rounds` times. `how` is 0 to add them to arguments and 1 to encode them, of
+/// frames in binary that are decoded once before; 2 to read frames in binary, and 3 in text.
 pub fn work<T: Decode + Encode + Type + Seen>(
     alloc: Global,
     bytes: &[u8],

@@ -1,7 +1,7 @@
--- Tokens, which values are written as, and cells, which a buffer is: tokens, each with the bytes that it shows.
--- A token is a byte, a hole that names a type, or a slot: default bytes, and cases, each a type and as many bytes. The width of
--- a byte is 1, of a hole 4, of a slot the length of its default. A cell is a token with the bytes that a buffer shows for it;
--- `blank` shows zeros and defaults.
+-- Tokens, which values are written as, and cells, which a buffer is: tokens, each with the bytes that it shows. A token
+-- is a byte, a hole that names a type, or a slot: default bytes, and cases, each a type and as many bytes. The width of
+-- a byte is 1, of a hole 4, of a slot the length of its default. A cell is a token with the bytes that a buffer shows
+-- for it; `blank` shows zeros and defaults.
 use Rattle.std.specs.Prelude.{cond, ◌≡◌, ℕ, ◌+◌, List, [], ◌∷◌, length, map, flat_map, ◌⊎◌, refl}
 use Rattle.std.specs.Int.{to_be_bytes, w32}
 use Rattle.std.proofs.Common.{inl, inr}

@@ -4,8 +4,8 @@ use crate::Tokens;
 use pgv_types::PgTypeInfo;
 use std::alloc::AllocError;
 
-/// The frame of the list of one label tree, `a.b`, of a type that is known by its name: 32 bytes, of which a hole begins at the
-/// twelfth.
+/// The frame of the list of one label tree, `a.b`, of a type that is known by its name: 32 bytes, of which a hole
+/// begins at the twelfth.
 fn append_label_trees(tokens: &mut Tokens) -> Result<(), AllocError> {
     tokens.extend_from_slice(b"\0\0\0\x1c\0\0\0\x01\0\0\0\0")?;
     tokens.push_hole(PgTypeInfo::with_name("ltree"))?;

@@ -1,5 +1,5 @@
-//! Types of a caller's own for the tests: one that refuses after a byte, a hole and a slot, a range over lists of it, one with a hint that
-//! no frame has room for, and one whose values have another type than it says.
+//! Types of a caller's own for the tests: one that refuses after a byte, a hole and a slot, a range over lists of it,
+//! one with a hint that no frame has room for, and one whose values have another type than it says.
 
 use pgv::types::PgRange;
 use pgv::{
@@ -109,8 +109,8 @@ impl Decode for Size {
     }
 }
 
-/// A range of lists of sizes: a type of its own, since an array wants its elements' types and `PgRange` has them for those of
-/// PostgreSQL's own ranges alone.
+/// A range of lists of sizes: a type of its own, since an array wants its elements' types and `PgRange` has them for
+/// those of PostgreSQL's own ranges alone.
 #[derive(Drop)]
 pub struct SizeRange {
     /// The range.

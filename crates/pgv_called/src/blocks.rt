@@ -8,7 +8,8 @@ use std::process::ExitCode;
 
 /// What the blocks of a program are.
 pub trait Blocks {
-    /// The first row that doesn't hold of a block of this kind, if there is one; the kind, where the program has none such.
+    /// The first row that doesn't hold of a block of this kind, if there is one; the kind, where the program has none
+    /// such.
     fn first_differing<'a>(
         &self,
         alloc: Global,
@@ -31,8 +32,8 @@ fn first_of<'a, B: Blocks>(
     }
 }
 
-/// Compares all blocks of standard input, and prints what differs. Where nothing does, it prints `ok`, and behind it how many calls were
-/// made again, if any.
+/// Compares all blocks of standard input, and prints what differs. Where nothing does, it prints `ok`, and behind it
+/// how many calls were made again, if any.
 fn compared<B: Blocks>(blocks: &B, rt: &(impl AllocGlobal + Input + Print)) -> Result<bool, Fault> {
     let tries = Tries::new();
     let read = read_all(rt.alloc(), &tries, &mut rt.reader())?;
@@ -51,7 +52,8 @@ fn compared<B: Blocks>(blocks: &B, rt: &(impl AllocGlobal + Input + Print)) -> R
     Ok(all)
 }
 
-/// All that a program of rows does: it compares them, and its status is 1 where one doesn't hold. A fault is named on standard error.
+/// All that a program of rows does: it compares them, and its status is 1 where one doesn't hold. A fault is named on
+/// standard error.
 pub fn serve<B: Blocks>(
     blocks: &B,
     name: &str,

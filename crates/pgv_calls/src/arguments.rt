@@ -160,8 +160,8 @@ fn add_range<T: Encode + Drop>(arguments: &mut PgArguments, start: T) -> Result<
     })
 }
 
-/// Adds a range of a value that is refused with the number of its depth: itself at 1, in a record at 2, in a list in that at 3, in a
-/// record of that at 4.
+/// Adds a range of a value that is refused with the number of its depth: itself at 1, in a record at 2, in a list in
+/// that at 3, in a record of that at 4.
 fn add_stop(alloc: Global, arguments: &mut PgArguments, depth: u32) -> Result<(), CodecError> {
     let stop = Stop { alloc, depth };
     match depth {
@@ -286,7 +286,8 @@ fn stopped(
     }
 }
 
-/// Whether of the sizes 2, 0 and 4 the second alone is refused. Where memory was refused within the list, none is there any more.
+/// Whether of the sizes 2, 0 and 4 the second alone is refused. Where memory was refused within the list, none is there
+/// any more.
 fn added_each(alloc: Global, arguments: &mut PgArguments) -> Result<bool, Again> {
     let sizes = [
         Size { alloc, number: 2 },

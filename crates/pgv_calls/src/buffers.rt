@@ -91,8 +91,8 @@ fn asked(alloc: Global, buffer: &PgArgumentBuffer, call: &str) -> Result<String,
     }
 }
 
-/// Whether a call that was refused memory has left in a buffer what was there. An encoder may have appended; a call that appends one
-/// thing has not.
+/// Whether a call that was refused memory has left in a buffer what was there. An encoder may have appended; a call
+/// that appends one thing has not.
 fn is_kept(now: &PgArgumentBuffer, before: &PgArgumentBuffer, call: &str) -> bool {
     match call {
         "slice {" | "byte }" | "hole" => {

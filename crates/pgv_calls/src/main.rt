@@ -1,12 +1,13 @@
-//! `pgv_calls`: makes the calls of the rows of standard input, compares each answer with that of its row, and prints `ok`, or the first row
-//! of each block that doesn't hold. Behind `ok` stands how many calls were made again, if any.
+//! `pgv_calls`: makes the calls of the rows of standard input, compares each answer with that of its row, and prints
+//! `ok`, or the first row of each block that doesn't hold. Behind `ok` stands how many calls were made again, if any.
 //!
 //! A call that is refused for want of memory has to leave its object as it was; then it is made once more. So where one
 //! request for memory is refused, whichever it is, this program prints `ok again 1`, or `ok` if another refusal comes
 //! before that of the request: `tools/refuse_memory` runs it with each of its requests refused in turn.
 //!
-//! Blocks are separated by lines `====`. The first line of a block says what its rows are; each row is `CALL => ANSWER`, but for `run`, whose
-//! block is the lines of a session, a line `=>`, and the answers, and `run in hex`, where both stand in hex.
+//! Blocks are separated by lines `====`. The first line of a block says what its rows are; each row is
+//! `CALL => ANSWER`, but for `run`, whose block is the lines of a session, a line `=>`, and the answers, and
+//! `run in hex`, where both stand in hex.
 #![tactic(auto)]
 
 mod arguments;

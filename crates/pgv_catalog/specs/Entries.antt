@@ -75,8 +75,8 @@ abbrev pub array_oid : List Entry → Option ℕ → Option ℕ
 array_oid entries None = None
 array_oid entries (Some element) = oid_in (with_element element entries)
 
--- A type that is known by its name has the OID of the first type of that name; an array that is known by its element's name that of
--- the first array over it; any other its own.
+-- A type that is known by its name has the OID of the first type of that name; an array that is known by its element's
+-- name that of the first array over it; any other its own.
 abbrev pub oid_by_name : List Entry → Ty → Option ℕ
 oid_by_name entries (builtin o) = Some o
 oid_by_name entries (custom o name kind) = Some o

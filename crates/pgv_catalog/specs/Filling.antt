@@ -31,7 +31,8 @@ OidsRefused named holes e = (e ≡ Memory) ⊎ ((place : ℕ) × (e ≡ Unknown 
 abbrev pub holes_of : List Argument → List Ty
 holes_of list = hole_types_of (all_tokens list)
 
--- the bytes are the frames written early with these types, and with the OIDs that the catalogue has for the types of the holes
+-- the bytes are the frames written early with these types, and with the OIDs that the catalogue has for the types of
+-- the holes
 abbrev pub IsFilled : (Ty → Option ℕ) → List Argument → List Ty → List Argument → Type 0
 IsFilled named old types new =
     (oids : List Oid) × AreNamed named (holes_of old) oids × (shown (all_tokens new) ≡ early (framed old) types oids)

@@ -1,7 +1,8 @@
--- What the rows of a server's catalogue show of its types (PostgreSQL: "pg_type", "pg_attribute", "pg_enum", "pg_range").
--- `entry_in` is the type that a row shows, of parts that are known already: a part is the built-in type of its OID; else the one of the
--- catalogue that has it; else, where it has no row, known by its OID alone. Where a part is still to come there is none yet.
--- `AreMade`: each type is shown by a row, of parts that come before it. `HasEndlessParts`: a type is among its own parts' parts.
+-- What the rows of a server's catalogue show of its types (PostgreSQL: "pg_type", "pg_attribute", "pg_enum",
+-- "pg_range"). `entry_in` is the type that a row shows, of parts that are known already: a part is the built-in type of
+-- its OID; else the one of the catalogue that has it; else, where it has no row, known by its OID alone. Where a part
+-- is still to come there is none yet. `AreMade`: each type is shown by a row, of parts that come before it.
+-- `HasEndlessParts`: a type is among its own parts' parts.
 use Rattle.std.specs.Prelude.{◌≡◌, ◌≢◌, ◌==◌, ◌⊎◌, ℕ, zero, suc, Bool, List, [], ◌∷◌, ◌++◌, flat_map, is_none, option_map, string_bytes, Option, Some, None, ⊤, if◌then◌else◌}
 use Rattle.std.specs.List.{AllByRecursion, list_any}
 use Rattle.std.specs.Rc.{rc_str_bytes}
@@ -129,8 +130,8 @@ abbrev pub unmade : List Entry → List PgTypeRow → ℕ
 unmade known [] = 0
 unmade known (row ∷ list) = if is_none (with_oid row.oid.0 known) then suc (unmade known list) else unmade known list
 
--- From the type with this OID as many parts can be followed, one a part of the one before; each has a row, and none but the first may
--- be built in.
+-- From the type with this OID as many parts can be followed, one a part of the one before; each has a row, and none but
+-- the first may be built in.
 abbrev pub HasParts : PgCatalogRows → ℕ → ℕ → Type 0
 HasParts rows oid zero = ⊤
 HasParts rows oid (suc n) =

@@ -17,8 +17,8 @@ pub trait PgNames {
         ensures { option_map (λ oid. oid.0) result ≡ named self.now wanted.now };
 }
 
-/// A type that is known by its name has the OID of the first type of that name; an array that is known by its element's name that of the first array
-/// over it; any other its own.
+/// A type that is known by its name has the OID of the first type of that name; an array that is known by its element's
+/// name that of the first array over it; any other its own.
 impl PgNames for PgServerTypes {
     ghost named = { oid_by_name };
 

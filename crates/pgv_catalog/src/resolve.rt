@@ -223,11 +223,11 @@ impl PgServerTypes {
         }
     }
 
-    /// The types that the rows of a server's catalogue show: each has the OID, the name and the kind that its rows have, and
-    /// its parts are the types that come before it.
+    /// The types that the rows of a server's catalogue show: each has the OID, the name and the kind that its rows
+    /// have, and its parts are the types that come before it.
     ///
-    /// [`CatalogError::Cycle`] of a type whose parts can be followed without end, since one of them is a part of itself. A
-    /// part that is neither built in nor has a row is known by its OID alone.
+    /// [`CatalogError::Cycle`] of a type whose parts can be followed without end, since one of them is a part of
+    /// itself. A part that is neither built in nor has a row is known by its OID alone.
     pub fn resolve(alloc: Global, rows: &PgCatalogRows) -> Result<PgServerTypes, CatalogError>
         ensures each { IfOk result (AreMade rows.now []) }
         ensures all { IfOk result (λ types. AreAllKnown rows.now.types.items types) }

@@ -27,8 +27,8 @@ pub enum PgTypeClass {
 }
 
 impl PgTypeClass {
-    /// The class of a letter of `typtype`, or `a` (97) for an array: `c` (99) is a composite type, `d` (100) a domain, `e` (101) an enumeration, `p` (112)
-    /// a pseudo-type, `r` (114) a range, and any other a type without parts.
+    /// The class of a letter of `typtype`, or `a` (97) for an array: `c` (99) is a composite type, `d` (100) a domain,
+    /// `e` (101) an enumeration, `p` (112) a pseudo-type, `r` (114) a range, and any other a type without parts.
     pub fn from_letter(letter: i8) -> PgTypeClass
         ensures { result ≡ class_of letter }
     {
@@ -57,7 +57,8 @@ pub struct PgTypeRow {
     pub is_visible: bool,
     /// What kind of type it is.
     pub class: PgTypeClass,
-    /// The OID of the type that it is made of: the base of a domain, the element of an array, the subtype of a range. Else any number.
+    /// The OID of the type that it is made of: the base of a domain, the element of an array, the subtype of a range.
+    /// Else any number.
     pub part: Oid,
 }
 
@@ -129,7 +130,8 @@ impl PgLabelRow {
     }
 }
 
-/// What a server's catalogue shows of its types: the rows of the three statements, each list in the order that they came.
+/// What a server's catalogue shows of its types: the rows of the three statements, each list in the order that they
+/// came.
 #[derive(Drop)]
 pub struct PgCatalogRows {
     /// The types.

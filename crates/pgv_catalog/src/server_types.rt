@@ -101,8 +101,8 @@ impl PgServerTypes {
         self.list.is_empty()
     }
 
-    /// The first type of this name: with its schema and a dot before it, as `public.mood`, or alone, as `mood`, where its schema is on the
-    /// server's search path. Names alone are compared as [`name_eq`] does.
+    /// The first type of this name: with its schema and a dot before it, as `public.mood`, or alone, as `mood`, where
+    /// its schema is on the server's search path. Names alone are compared as [`name_eq`] does.
     pub fn find(&self, name: &str) -> Option<&PgTypeInfo>
         ensures { option_map (λ t. t.now) result ≡ with_name name.now self.now }
     {

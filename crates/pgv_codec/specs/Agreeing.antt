@@ -1,6 +1,6 @@
--- Values of one view are written alike, where each of their parts is: the lemmas for what is made of others.
--- A decoder states what is written of a view (`written`). In a `Codec` it is what an encoder says of the value, so what is written
--- depends on what a value says alone.
+-- Values of one view are written alike, where each of their parts is: the lemmas for what is made of others. A decoder
+-- states what is written of a view (`written`). In a `Codec` it is what an encoder says of the value, so what is
+-- written depends on what a value says alone.
 use Rattle.std.specs.Prelude.{◌≡◌, ℕ, List, [], ◌∷◌, map, refl}
 use Rattle.std.proofs.Common.{ap}
 use Rattle.pgv_types.specs.Ty.{Ty}

@@ -1,14 +1,13 @@
--- What was written is read back: the law that a type states of its values, and where optional values, arrays and the fields of
--- records fit a type.
--- A type states what a value keeps (`kept`), and under which types and with which OIDs it comes back (`fits`). For every value
--- with an image, every parameter's type or none, every type and all OIDs that fit, what is written is read in binary under that
--- type as what the value keeps (`ReadsBack`). OIDs are numbers of 32 bits (`AreOids`), and each case of a slot is as long as
--- its default (`SlotsFit`), as `push_slot` asks.
--- What fits. A plain value fits every type. None does, and Some where its value does; Some of a value that is written as null
--- is kept as None. An array fits where the type of its elements exists, by the OID that was written and by the array's type,
--- and each element fits it (`ArrayFits`). A field of a record fits where the type at its place exists, by the OID that was
--- written, the reader accepts it and the value fits it (`FieldFits`). Each part takes the OIDs of its own holes, in order
--- (`FitEach`, `FieldsFit`).
+-- What was written is read back: the law that a type states of its values, and where optional values, arrays and the
+-- fields of records fit a type. A type states what a value keeps (`kept`), and under which types and with which OIDs it
+-- comes back (`fits`). For every value with an image, every parameter's type or none, every type and all OIDs that fit,
+-- what is written is read in binary under that type as what the value keeps (`ReadsBack`). OIDs are numbers of 32 bits
+-- (`AreOids`), and each case of a slot is as long as its default (`SlotsFit`), as `push_slot` asks. What fits. A plain
+-- value fits every type. None does, and Some where its value does; Some of a value that is written as null is kept as
+-- None. An array fits where the type of its elements exists, by the OID that was written and by the array's type, and
+-- each element fits it (`ArrayFits`). A field of a record fits where the type at its place exists, by the OID that was
+-- written, the reader accepts it and the value fits it (`FieldFits`). Each part takes the OIDs of its own holes, in
+-- order (`FitEach`, `FieldsFit`).
 use Rattle.std.specs.Prelude.{◌≡◌, ℕ, suc, ◌<◌, ◌^◌, Bool, true, false, cond, List, [], ◌∷◌, ◌++◌, length, map, take, drop, Option, Some, None, Ok, ⊤}
 use Rattle.pgv_types.specs.Ty.{Ty}
 use Rattle.pgv_types.specs.Facts.{oid_of}
@@ -120,8 +119,8 @@ holes_among (Some ts) = tokens_holes ts
 abbrev pub field_holes : Outcome (List Token) → ℕ
 field_holes f = holes_among (ok_of f.answer)
 
--- A field fits a record's type at a place where the type of the field there exists, by the OID that is written, the reader
--- accepts it, and the value fits it.
+-- A field fits a record's type at a place where the type of the field there exists, by the OID that is written, the
+-- reader accepts it, and the value fits it.
 abbrev pub FieldFits : {A : Type 0} → Ty → (A → Encoding) → (Ty → Bool) → (A → Ty → List Oid → Type 0) → A → Ty → ℕ → List Oid → Type 0
 FieldFits info encoding accepts fits x t place os =
     let own = oid_of (value_type info (encoding x)) in
@@ -149,7 +148,8 @@ RecordFieldsFollow =
     (fs : List (Outcome (List Token))) (i : Image) (t : Ty) (p : Option Ty) (os : List Oid) → (record_image fs).answer ≡ Ok i →
     (gs : List Token) × ((fields_from 0 fs).answer ≡ Ok gs) × (image_of (bytes (be4 (length fs)) ++ gs) ≡ i) × ((fields_of (given t Binary (written_part i p os))).answer ≡ Ok (binary_fields t 0 (write p os gs)))
 
--- Steps that read back fields that are written one after another. Further fields may come after those that are read, and others before.
+-- Steps that read back fields that are written one after another. Further fields may come after those that are read,
+-- and others before.
 pub record FieldsBack {M : Type 0} (steps : Left → Outcome (M × Left)) (fs : List (Outcome (List Token))) (kept : M) (fit : Ty → ℕ → List Oid → Type 0) : Type 0 where
   pub back :
       (n : ℕ) (t : Ty) (place : ℕ) (p : Option Ty) (os : List Oid) (gs : List Token) → (fields_from n fs).answer ≡ Ok gs → SlotsFit gs → AreOids os → fit t place os →

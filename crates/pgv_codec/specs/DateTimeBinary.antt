@@ -1,10 +1,9 @@
--- What dates, times, date-times and instants are written as (PostgreSQL: "Date/Time Types", 8.5): whole numbers, the highest
--- byte first. A date is seen as its day number from 1970-01-01, a time as its nanoseconds, and a date-time and an instant as
--- their nanoseconds from 1970.
--- A date is written as its days from 2000-01-01 in four bytes. A time is written as its microseconds in eight bytes; what is
--- less is cut off. A date-time, and an instant in UTC, is written as its microseconds from 2000-01-01 00:00 in eight bytes. The
--- difference is cut towards zero (`micros_of`), so one before 2000 is cut upwards. The size hint is 4 for a date and 8 for the
--- others.
+-- What dates, times, date-times and instants are written as (PostgreSQL: "Date/Time Types", 8.5): whole numbers, the
+-- highest byte first. A date is seen as its day number from 1970-01-01, a time as its nanoseconds, and a date-time and
+-- an instant as their nanoseconds from 1970. A date is written as its days from 2000-01-01 in four bytes. A time is
+-- written as its microseconds in eight bytes; what is less is cut off. A date-time, and an instant in UTC, is written
+-- as its microseconds from 2000-01-01 00:00 in eight bytes. The difference is cut towards zero (`micros_of`), so one
+-- before 2000 is cut upwards. The size hint is 4 for a date and 8 for the others.
 use Rattle.std.specs.Prelude.{ℕ, ◌/◌, ℤ, pos, ◌-ℤ◌, int_div, Option}
 use Rattle.std.specs.Int.{w32, w64}
 use Rattle.pgv_value.specs.DateTimeBinary.{first_day, first_nanosecond}

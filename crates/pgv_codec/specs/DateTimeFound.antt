@@ -1,5 +1,5 @@
--- There is a date-time at the moment of the microseconds that are written of another: they are cut towards 2000-01-01 00:00, so
--- before 2000 it may be the midnight that ends the day.
+-- There is a date-time at the moment of the microseconds that are written of another: they are cut towards 2000-01-01
+-- 00:00, so before 2000 it may be the midnight that ends the day.
 use Rattle.std.specs.Prelude.{◌≡◌, ℕ, suc, ◌+◌, ◌-◌, ◌*◌, ◌<◌, ◌≤◌, nat_lt, int_lt, int_div, Bool, true, false, ℤ, pos, negsuc, neg_ℤ, ◌+ℤ◌, ◌-ℤ◌, ◌≤ℤ◌, ◌<ℤ◌, ◌⊎◌, refl}
 use Rattle.std.specs.Int.{IsInRange}
 use Rattle.std.proofs.Common.{arith, ap, sym, ◌∙◌, inl, inr}

@@ -1,6 +1,6 @@
--- What comes back of a time, a date-time and an instant: whole microseconds. A time is cut towards midnight. A date-time and an
--- instant are cut towards 2000-01-01 00:00: they come back as the moment of the microseconds that are written. All other plain
--- values are kept as they are.
+-- What comes back of a time, a date-time and an instant: whole microseconds. A time is cut towards midnight. A
+-- date-time and an instant are cut towards 2000-01-01 00:00: they come back as the moment of the microseconds that are
+-- written. All other plain values are kept as they are.
 use Rattle.std.specs.Prelude.{◌≡◌, ◌*◌, ◌/◌, ℤ, pos, negsuc, neg_ℤ, int_div, ◌-ℤ◌, ◌*ℤ◌, ◌≤ℤ◌}
 use Rattle.std.proofs.Common.{arith}
 use Rattle.std.proofs.lemmas.Int.{ints}

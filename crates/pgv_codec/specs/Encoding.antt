@@ -1,11 +1,12 @@
--- What an encoder says of a value (`Encoding`): a number of bytes that it may need, the type that it produces where that isn't its Rust
--- type's own, and its image, or why it has none (PostgreSQL: "Message Formats", 55.7, Bind; "Arrays", "Composite Types").
--- An image is null, or a list of tokens. Grammars are written with the steps of an `Outcome`: the first step that fails says why, and
--- memory may have been asked for where one that was taken may ask for it.
--- The frame of a value whose size hint is above 2147483647 is refused with C2 before anything is written, and so is an image of more
--- bytes than that. Null's frame is `ffffffff`; every other is the width in four bytes, then the image. `typed t` is the four bytes of
--- the OID of t, or a hole where it has none. An array is 1, 0, `typed` of what the first element produces or else of the elements'
--- type, the number of elements, 1, and their frames. A record is the number of its fields, and for each its type and its frame.
+-- What an encoder says of a value (`Encoding`): a number of bytes that it may need, the type that it produces where
+-- that isn't its Rust type's own, and its image, or why it has none (PostgreSQL: "Message Formats", 55.7, Bind;
+-- "Arrays", "Composite Types"). An image is null, or a list of tokens. Grammars are written with the steps of an
+-- `Outcome`: the first step that fails says why, and memory may have been asked for where one that was taken may ask
+-- for it. The frame of a value whose size hint is above 2147483647 is refused with C2 before anything is written, and
+-- so is an image of more bytes than that. Null's frame is `ffffffff`; every other is the width in four bytes, then the
+-- image. `typed t` is the four bytes of the OID of t, or a hole where it has none. An array is 1, 0, `typed` of what
+-- the first element produces or else of the elements' type, the number of elements, 1, and their frames. A record is
+-- the number of its fields, and for each its type and its frame.
 use Rattle.std.specs.Prelude.{ℕ, ◌+◌, List, [], ◌∷◌, ◌++◌, length, Bool, true, false, Option, Some, None, ok_or, nat_lt, nat_eq, if◌then◌else◌}
 use Rattle.pgv_types.specs.Ty.{Ty}
 use Rattle.pgv_types.specs.Facts.{is_custom, oid_of}

@@ -1,7 +1,7 @@
--- What intervals are written as (PostgreSQL: "Date/Time Types", 8.5.4, interval): microseconds in eight bytes, days in four and
--- months in four, each signed, the highest byte first. The size hint is 16.
--- A duration is written as the interval of its microseconds (`interval_of`), with no days and no months. It has no image where
--- it isn't whole microseconds (C4) or where 64 bits don't have their number (C5).
+-- What intervals are written as (PostgreSQL: "Date/Time Types", 8.5.4, interval): microseconds in eight bytes, days in
+-- four and months in four, each signed, the highest byte first. The size hint is 16. A duration is written as the
+-- interval of its microseconds (`interval_of`), with no days and no months. It has no image where it isn't whole
+-- microseconds (C4) or where 64 bits don't have their number (C5).
 use Rattle.std.specs.Prelude.{ℤ, ◌++◌, ◌&&◌, Option, Some, None, if◌then◌else◌}
 use Rattle.std.specs.Int.{w32, w64, cast_unsigned, to_be_bytes}
 use Rattle.pgv_buf.specs.Tokens.{bytes}

@@ -1,7 +1,7 @@
--- What networks and addresses are written as (PostgreSQL: "Network Address Types", 8.9): the family, 2 for version 4 and 3 for
--- version 6, the number of bits that name the network (the prefix), a byte that says nothing (a zero), the number of octets (4
--- or 16), and the octets. And under which types they are read.
--- An address is written as the network of all its bits. The size hint is 8 for version 4 and 20 for version 6.
+-- What networks and addresses are written as (PostgreSQL: "Network Address Types", 8.9): the family, 2 for version 4
+-- and 3 for version 6, the number of bits that name the network (the prefix), a byte that says nothing (a zero), the
+-- number of octets (4 or 16), and the octets. And under which types they are read. An address is written as the network
+-- of all its bits. The size hint is 8 for version 4 and 20 for version 6.
 use Rattle.std.specs.Prelude.{ℕ, ◌==◌, Bool, List, [], ◌∷◌, ◌++◌, length, Option, Some, None, if◌then◌else◌}
 use Rattle.std.specs.Net.Addr.{ipv4_octets, ipv6_octets}
 use Rattle.std.specs.declared.net.ip_addr.IpAddr.{IpAddr}

@@ -1,9 +1,8 @@
--- A plain condition under which values fit a type: the type is resolved and of the value's shape at each place, and each OID
--- that is written is that of the type at its place.
--- An array fits a type that has elements of some type whose own OID was written, if each element fits that; `own` says that no
--- other type has this OID as a built-in. A field fits a composite type, or a domain of one, that has a field at its place whose
--- OID was written and whose type the reader accepts, if the value fits that. Under `record` a built-in stands for the field.
--- Law: `nests_fit`.
+-- A plain condition under which values fit a type: the type is resolved and of the value's shape at each place, and
+-- each OID that is written is that of the type at its place. An array fits a type that has elements of some type whose
+-- own OID was written, if each element fits that; `own` says that no other type has this OID as a built-in. A field
+-- fits a composite type, or a domain of one, that has a field at its place whose OID was written and whose type the
+-- reader accepts, if the value fits that. Under `record` a built-in stands for the field. Law: `nests_fit`.
 use Rattle.std.specs.Prelude.{◌≡◌, ℕ, Bool, true, List, map, take, Some}
 use Rattle.pgv_types.specs.Ty.{Ty, builtin, custom, domain, composite, Fields}
 use Rattle.pgv_types.specs.Facts.{built_in, oid_of, element_of}
@@ -22,7 +21,8 @@ ArrayIsPlain info encoding fits xs t os =
     let own = oid_of (written_type info (map encoding xs)) in
     (u : Ty) × (element_of t ≡ Some u) × IsOwnOid u (written_oid own os) × FitEach encoding fits u xs (oids_after own os)
 
--- The type of the field at a place: of a composite type, under a domain of its base, and under `record` a built-in type.
+-- The type of the field at a place: of a composite type, under a domain of its base, and under `record` a built-in
+-- type.
 pub data HasField (place : ℕ) (found : Ty) : Ty → Type 0 where
   in_composite : (own : ℕ) (name : List ℕ) (fields : Fields) → field_at fields place ≡ Some found → HasField place found (custom own name (composite fields))
   in_domain : (own : ℕ) (name : List ℕ) (base : Ty) → HasField place found base → HasField place found (custom own name (domain base))

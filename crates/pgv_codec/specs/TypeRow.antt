@@ -1,5 +1,6 @@
--- What one type is, in the words of the table of types. Each takes what a type states of itself, as `⟦<i32 as Type>⟧`, and says
--- which types its values and their arrays have and are read under, what is written, what is read, and what comes back.
+-- What one type is, in the words of the table of types. Each takes what a type states of itself, as `⟦<i32 as Type>⟧`,
+-- and says which types its values and their arrays have and are read under, what is written, what is read, and what
+-- comes back.
 use Rattle.std.specs.Prelude.{◌≡◌, Bool, List}
 use Rattle.pgv_types.specs.Ty.{Ty}
 use Rattle.pgv_types.specs.Relations.{softly}
@@ -34,8 +35,8 @@ IsWrittenAs {A} stated encoding = (v : A) → stated.encoding v ≡ encoding v
 abbrev pub IsReadAs : {A : Type 0} → (stated : decode.Ghosts A) → (A → stated.View) → (Given → Outcome stated.View) → Type 0
 IsReadAs {A} stated view parse = ((v : A) → stated.view v ≡ view v) × (stated.parse ≡ parse)
 
--- A row of the table: the type of values and that of their arrays, what is written, what a value is seen as, the grammar that it is read
--- by, and what is seen of the value that comes back.
+-- A row of the table: the type of values and that of their arrays, what is written, what a value is seen as, the
+-- grammar that it is read by, and what is seen of the value that comes back.
 pub record Row (A V : Type 0) : Type 0 where
   pub info : Ty
   pub array : Ty

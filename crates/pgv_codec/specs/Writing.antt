@@ -1,8 +1,7 @@
--- What tokens and images are written as, for the type of a parameter and with the OIDs of their holes (PostgreSQL: "Message
--- Formats", Bind; "Extended Query").
--- `write`: a byte is itself. The i-th hole is the i-th OID as four bytes, the highest first. A slot is its first case whose
--- type is softly equal to the parameter's type, else its default; without a parameter's type it is its default. What is written
--- of a part (`written_part`) is its image's tokens.
+-- What tokens and images are written as, for the type of a parameter and with the OIDs of their holes (PostgreSQL:
+-- "Message Formats", Bind; "Extended Query"). `write`: a byte is itself. The i-th hole is the i-th OID as four bytes,
+-- the highest first. A slot is its first case whose type is softly equal to the parameter's type, else its default;
+-- without a parameter's type it is its default. What is written of a part (`written_part`) is its image's tokens.
 use Rattle.std.specs.Prelude.{ℕ, List, [], ◌∷◌, ◌++◌, Option, Some, None}
 use Rattle.pgv_types.specs.Ty.{Ty}
 use Rattle.pgv_types.specs.declared.oid.Oid.{Oid}

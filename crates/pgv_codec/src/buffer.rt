@@ -35,8 +35,8 @@ pub enum IsNull {
 /// The bytes of values, with holes for the OIDs of types that aren't known yet, and slots whose bytes depend on
 /// the type of a parameter.
 ///
-/// A contract sees it as a list of cells: bytes, holes and slots, each with the bytes that it shows. A hole
-/// shows four zeros, and a slot its default, until [`PgArguments::apply_patches`](crate::PgArguments::apply_patches) fills them.
+/// A contract sees it as a list of cells: bytes, holes and slots, each with the bytes that it shows. A hole shows four
+/// zeros, and a slot its default, until [`PgArguments::apply_patches`](crate::PgArguments::apply_patches) fills them.
 #[derive(Drop)]
 pub struct PgArgumentBuffer {
     tokens: Tokens,
@@ -243,8 +243,8 @@ impl PgArgumentBuffer {
         self.extend_from_slice(&counted[..after])
     }
 
-    /// Appends the frame of an image of 16 bytes or fewer, and answers `true`, as [`Encode::encode_at_once`] does. Of four bytes it is
-    /// one number of eight; a longer one would wait for the length that was written before it.
+    /// Appends the frame of an image of 16 bytes or fewer, and answers `true`, as [`Encode::encode_at_once`] does. Of
+    /// four bytes it is one number of eight; a longer one would wait for the length that was written before it.
     #[inline(always)]
     pub(crate) fn push_frame(&mut self, value: &[u8]) -> Result<bool, CodecError>
         requires { length value.now ≤ 16 }

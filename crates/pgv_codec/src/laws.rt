@@ -76,8 +76,8 @@ pub fn tuple_is_its_list<
         (v.0, (v.1, (v.2, (v.3, (v.4, (v.5, (v.6, (v.7, record { 0 = v.8 })))))))) }
 {}
 
-/// A list of fields is one field, or one field and then a shorter list: in its bytes and texts, in what it says, and in what
-/// it reads, refuses and asks memory for.
+/// A list of fields is one field, or one field and then a shorter list: in its bytes and texts, in what it says, and in
+/// what it reads, refuses and asks memory for.
 ///
 /// It holds also of fields that can only be read, as tuples and `()`.
 pub fn lists_are_their_fields<A: Decode + Type, Rest: FieldList>()

@@ -3,10 +3,10 @@
 //! [`Decode`] reads it, and [`ReadBack`] says what a written value is read back as. The module [`laws`] has what is
 //! proved of all of them.
 //!
-//! A caller's record is written by [`encode_record`], as a list of references to its fields, or field by field by a [`PgRecordEncoder`],
-//! each by reference: `record.encode(&self.id)?` also where the field could be copied, since by value its range is lost to the proof. The
-//! crate `pgv_examples` has such records and other types of users, with their proofs. A type that a buffer holds, at any depth, holds no
-//! reference.
+//! A caller's record is written by [`encode_record`], as a list of references to its fields, or field by field by a
+//! [`PgRecordEncoder`], each by reference: `record.encode(&self.id)?` also where the field could be copied, since by
+//! value its range is lost to the proof. The crate `pgv_examples` has such records and other types of users, with their
+//! proofs. A type that a buffer holds, at any depth, holds no reference.
 #![tactic(auto)]
 
 pub mod buffer;

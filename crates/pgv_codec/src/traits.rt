@@ -136,7 +136,8 @@ pub trait ReadBack: Encode + Decode {
     ghost reads_back: { ReadsBack Self.encoding (reading_of Self.parse) (λ v. Self.view (kept v)) fits };
 }
 
-/// A value that can be written and read, and is written by what it says alone: two values of one view are written alike.
+/// A value that can be written and read, and is written by what it says alone: two values of one view are written
+/// alike.
 pub trait Codec: Type + Encode + Decode {
     /// What an encoder says of a value is what is written of what the value says.
     ghost agrees: { (v : Self) → Self.encoding v ≡ Self.written Self.info (Self.view v) };

@@ -1,7 +1,7 @@
 -- COPY in binary as it is read (PostgreSQL: "COPY", "Binary Format"): a header, rows of frames one after another, and a
--- trailer. That this is what a stream's bytes are, is a law (CopyStream).
--- `step` is what a reader's next call answers, in the order of the format: a number of fields below -1 is C16 before another
--- number is C12, and that before any field is read.
+-- trailer. That this is what a stream's bytes are, is a law (CopyStream). `step` is what a reader's next call answers,
+-- in the order of the format: a number of fields below -1 is C16 before another number is C12, and that before any
+-- field is read.
 use Rattle.std.specs.Prelude.{ℕ, nat_lt, pos, negsuc, int_lt, ◌&&◌, Bool, true, false, List, [], ◌∷◌, length, take, drop, bytes_eq, Option, Some, None, Ok, Err, if◌then◌else◌}
 use Rattle.std.specs.Int.{w32, cast_signed}
 use Rattle.std.specs.Ordering.{int_eq}

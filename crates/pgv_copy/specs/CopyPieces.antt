@@ -1,8 +1,8 @@
--- A COPY stream in binary that comes in pieces (PostgreSQL: "COPY Operations", CopyData), cut anywhere.
--- `next_of` is what the bytes say that have come and were not read: a row, the end, or a refusal; C15 means that more has to come.
--- `Advances` is what a call of a reader of pieces answers, and the reader after it.
--- Laws: what is said of bytes is said whatever comes after them (`WhatCameStays`); rows that are read after each piece are the rows
--- of the joined bytes (`PiecesAreOneStream`), and of a whole stream all of its rows (`CopyInPiecesIsItsRows`).
+-- A COPY stream in binary that comes in pieces (PostgreSQL: "COPY Operations", CopyData), cut anywhere. `next_of` is
+-- what the bytes say that have come and were not read: a row, the end, or a refusal; C15 means that more has to come.
+-- `Advances` is what a call of a reader of pieces answers, and the reader after it. Laws: what is said of bytes is said
+-- whatever comes after them (`WhatCameStays`); rows that are read after each piece are the rows of the joined bytes
+-- (`PiecesAreOneStream`), and of a whole stream all of its rows (`CopyInPiecesIsItsRows`).
 use Rattle.std.specs.Prelude.{◌≡◌, ◌≢◌, ◌⊎◌, ◌≤◌, ◌<◌, ℕ, Bool, true, false, List, [], ◌∷◌, ◌++◌, map, flat_map, length, drop, option_map, Option, Some, None, Result, Ok, Err, refl, if◌then◌else◌}
 use Rattle.std.specs.Coded.{Coded, code_by, coded×, coded_bool, coded_ℕ, coded_list, coded_option}
 use Rattle.pgv_types.specs.Ty.{Ty, ty_code}
@@ -19,8 +19,8 @@ use Rattle.pgv_copy.specs.declared.pieces.PgCopyNext.TheVariants.{Row, More, End
 
 -- ---- a reader of pieces
 
--- The types of the columns; whether the header is still to come, and whether the end has; the bytes that came and were not read; and
--- the row that was read last, until more bytes come.
+-- The types of the columns; whether the header is still to come, and whether the end has; the bytes that came and were
+-- not read; and the row that was read last, until more bytes come.
 pub record Pieces : Type 0 where
   pub types : List Ty
   pub in_header : Bool
@@ -117,7 +117,8 @@ abbrev pub NoRow : Step → Type 0
 NoRow (Ok x) = x.0 ≡ None
 NoRow (Err e) = e ≡ Short
 
--- Of a stream that comes in pieces, where all rows are read that are there, exactly its rows are read, and then its end.
+-- Of a stream that comes in pieces, where all rows are read that are there, exactly its rows are read, and then its
+-- end.
 abbrev pub CopyInPiecesIsItsRows : Type 0
 CopyInPiecesIsItsRows =
     (types : List Ty) (pieces : List (List ℕ)) (rows : List (List Part)) (follows : List ℕ) (given : List (List Given)) (after : Bool) (left : List ℕ) →

@@ -1,7 +1,7 @@
--- A COPY stream in binary, as what its bytes are and not as how they are read (PostgreSQL: "COPY", "Binary Format"): a header,
--- the rows one after another, a trailer, and whatever follows (`IsCopy`).
--- The header is the signature `PGCOPY\n\377\r\n\0`, 32 flags of which 16 to 31 are clear, the length of an extension, and the
--- extension (`IsHeader`). A row is the number of its fields in two bytes, which is that of the columns, and a frame for each
+-- A COPY stream in binary, as what its bytes are and not as how they are read (PostgreSQL: "COPY", "Binary Format"): a
+-- header, the rows one after another, a trailer, and whatever follows (`IsCopy`). The header is the signature
+-- `PGCOPY\n\377\r\n\0`, 32 flags of which 16 to 31 are clear, the length of an extension, and the extension
+-- (`IsHeader`). A row is the number of its fields in two bytes, which is that of the columns, and a frame for each
 -- (`IsRow`, `row_bytes`). The trailer is the number -1. Laws: a stream is read as its rows.
 use Rattle.std.specs.Prelude.{◌≡◌, ℕ, zero, suc, ◌+◌, ◌<◌, ◌≤◌, ◌^◌, ◌⊎◌, List, [], ◌∷◌, ◌++◌, map, flat_map, length, take, replicate, Option, Some, None, Ok, Err}
 use Rattle.std.specs.Int.{w32, to_be_bytes}
@@ -87,8 +87,8 @@ RowsAreOfACopy =
     answers (length rows + 1) (before types rest) ≡ map (λ row. Ok (Some row)) rows ++ Ok None ∷ [] →
     (parts : List (List Part)) × (follows : List ℕ) × IsCopy (length types) bytes parts follows × (rows ≡ map (values types) parts)
 
--- Of a stream that is cut off, either the header is refused because the bytes end too early, or the first rows are answered, and
--- from then on each call is refused so.
+-- Of a stream that is cut off, either the header is refused because the bytes end too early, or the first rows are
+-- answered, and from then on each call is refused so.
 pub record StopsAtTheCut (types : List Ty) (bytes : List ℕ) (rows : List (List Part)) : Type 0 where
   pub rest : List ℕ
   pub count : ℕ

@@ -1,7 +1,7 @@
 -- Frames one after another, as `get` reads them (PostgreSQL: "Message Formats", DataRow), and where they are cut off.
 -- `got` is what a call of `get` answers of a slice, and the slice after it. `all_got` is the answers of calls one after
--- another. Of frames that are cut off anywhere, the parts of those that are whole are answered, and from then on each call is
--- C15 (`StopsAtTheFrame`).
+-- another. Of frames that are cut off anywhere, the parts of those that are whole are answered, and from then on each
+-- call is C15 (`StopsAtTheFrame`).
 use Rattle.std.specs.Prelude.{◌≡◌, ℕ, zero, suc, ◌+◌, ◌<◌, List, [], ◌∷◌, ◌++◌, map, flat_map, length, take, replicate, Option, Some, None, Ok, Err}
 use Rattle.std.specs.List.{AllByRecursion}
 use Rattle.pgv_value.specs.FrameBinary.{Part, front, frame_fault, field_bytes, IsField}
@@ -24,8 +24,8 @@ abbrev pub all_got : ℕ → List ℕ → List (Parsed Part)
 all_got zero bytes = []
 all_got (suc n) bytes = (got bytes).0 ∷ all_got n (got bytes).1
 
--- The parts of the frames that are whole are answered, and from then on each call is refused because the bytes end too early. At
--- least one frame isn't whole.
+-- The parts of the frames that are whole are answered, and from then on each call is refused because the bytes end too
+-- early. At least one frame isn't whole.
 pub record StopsAtTheFrame (bytes : List ℕ) (row : List Part) : Type 0 where
   pub count : ℕ
   pub begun : List ℕ

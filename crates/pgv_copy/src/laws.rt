@@ -63,8 +63,8 @@ pub fn pieces_are_one_stream()
     ensures { PiecesAreOneStream }
 {}
 
-/// A stream that comes in pieces, in whatever pieces, is read as exactly its rows and then its end, where after each piece
-/// the rows are read that are there.
+/// A stream that comes in pieces, in whatever pieces, is read as exactly its rows and then its end, where after each
+/// piece the rows are read that are there.
 pub fn copy_in_pieces_is_its_rows()
     ensures { CopyInPiecesIsItsRows }
 {}

@@ -126,7 +126,8 @@ impl PgCopyPieces {
 
     /// Takes a piece of the stream. The row that was read last can't be lent any more, and its bytes are forgotten.
     ///
-    /// Where the bytes can't be kept it is C1, and the reader is as it was. After the end bytes don't count, and it asks for no memory.
+    /// Where the bytes can't be kept it is C1, and the reader is as it was. After the end bytes don't count, and it
+    /// asks for no memory.
     pub fn feed(&mut self, piece: &[u8]) -> Result<(), CodecError>
         ensures taken { IfOk result (λ _. self.new ≡ with_more self.old piece.now) }
         ensures refused { IfErr result (λ e. e ≡ Memory) }
@@ -146,9 +147,9 @@ impl PgCopyPieces {
 
     /// Reads the next row of the bytes that have come, so that [`PgCopyPieces::row`] lends it. It asks for no memory.
     ///
-    /// [`PgCopyNext::More`] where the bytes end before the row does, and [`PgCopyNext::End`] at the end of the stream and
-    /// from then on. A header or a row that is refused is refused as by [`PgCopyReader`](crate::PgCopyReader), and the reader
-    /// is as it was.
+    /// [`PgCopyNext::More`] where the bytes end before the row does, and [`PgCopyNext::End`] at the end of the stream
+    /// and from then on. A header or a row that is refused is refused as by [`PgCopyReader`](crate::PgCopyReader), and
+    /// the reader is as it was.
     pub fn advance(&mut self) -> Result<PgCopyNext, CodecError>
         ensures found { Advances self.old result self.new }
         // Each row takes bytes, so a loop over the rows ends.
@@ -182,8 +183,8 @@ impl PgCopyPieces {
         Ok(PgCopyNext::Row)
     }
 
-    /// The values of the row that was read last, or none where none was read since bytes came. They borrow from the bytes
-    /// that are kept.
+    /// The values of the row that was read last, or none where none was read since bytes came. They borrow from the
+    /// bytes that are kept.
     ///
     /// The list takes memory, and each custom type, which is copied: C1. Where there is no row it asks for none.
     pub fn row(&self) -> Result<Option<Vec<PgValueRef<'_>>>, CodecError>

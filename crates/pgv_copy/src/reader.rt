@@ -20,11 +20,12 @@ const MAX_LENGTH: u32 = 0x7fff_ffff;
 /// The number of fields that means that no row follows.
 const TRAILER: i16 = -1;
 
-/// The rows of a COPY stream in binary (PostgreSQL, "COPY", "Binary Format"): what `COPY .. TO STDOUT (FORMAT binary)` sends.
+/// The rows of a COPY stream in binary (PostgreSQL, "COPY", "Binary Format"): what `COPY .. TO STDOUT (FORMAT binary)`
+/// sends.
 ///
-/// The stream is a header, then for each row the number of its fields and a frame for each, and at the end the number -1. Of
-/// `5047434f50590aff0d0a00 00000000 00000000`, the header, `0002 00000004 00000001 ffffffff`, a row, and `ffff`, with the types
-/// int4 and text, the one row is `00000001` and null.
+/// The stream is a header, then for each row the number of its fields and a frame for each, and at the end the number
+/// -1. Of `5047434f50590aff0d0a00 00000000 00000000`, the header, `0002 00000004 00000001 ffffffff`, a row, and `ffff`,
+/// with the types int4 and text, the one row is `00000001` and null.
 #[derive(Drop)]
 pub struct PgCopyReader<'r> {
     types: Vec<PgTypeInfo>,
@@ -43,8 +44,8 @@ impl<'r> Model for PgCopyReader<'r> {
 }
 
 impl<'r> PgCopyReader<'r> {
-    /// A reader of the rows of a stream whose columns have these types. The header is read: its flags 0 to 15 and its extension
-    /// are passed over.
+    /// A reader of the rows of a stream whose columns have these types. The header is read: its flags 0 to 15 and its
+    /// extension are passed over.
     ///
     /// A wrong signature, also one that is cut off, and a set flag of 16 to 31 (16 means that rows have OIDs) are
     /// refused with [`Syntax`](CodecError::Syntax) (C29), bytes that end within a header with

@@ -1,5 +1,6 @@
-//! Reads what `COPY items TO STDOUT (FORMAT binary)` sends of a table of an `int4`, a `text` that may be null and an `int4[]`: a struct
-//! for each row. The values of a row borrow from the stream alone, so a row lives on when the next one is read.
+//! Reads what `COPY items TO STDOUT (FORMAT binary)` sends of a table of an `int4`, a `text` that may be null and an
+//! `int4[]`: a struct for each row. The values of a row borrow from the stream alone, so a row lives on when the next
+//! one is read.
 
 use pgv::{CodecError, Decode, PgCopyReader, PgType, PgTypeInfo, PgValueRef};
 use std::alloc::{AllocError, Global};

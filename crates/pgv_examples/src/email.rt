@@ -1,4 +1,5 @@
-//! A domain: `create domain email as text`. A value is written and read as a [`PgDomain<Email>`](pgv::PgDomain), as its text is.
+//! A domain: `create domain email as text`. A value is written and read as a [`PgDomain<Email>`](pgv::PgDomain), as its
+//! text is.
 
 use pgv::{Domain, Newtype};
 

@@ -1,7 +1,7 @@
 //! A type with a slot: what is written depends on the type of the parameter.
 //!
-//! The values of `jsonb` begin with a version, and those of `json` don't. Which one a parameter is, the server says once
-//! the statement is known; a slot holds the bytes for each case, and `apply_patches` fills it.
+//! The values of `jsonb` begin with a version, and those of `json` don't. Which one a parameter is, the server says
+//! once the statement is known; a slot holds the bytes for each case, and `apply_patches` fills it.
 
 ghost use Rattle.std.specs.Prelude.{◌≡◌, ◌++◌, [], ◌∷◌, OnOk, IfErr};
 ghost use Rattle.pgv.specs.Words.{builtin, blank, slot};

@@ -5,7 +5,8 @@ use pgv::types::PgRange;
 use pgv::{CodecError, Decode, Encode, IsNull, PgArgumentBuffer, PgTypeInfo, PgValueRef, Type};
 use std::alloc::{AllocError, Global};
 
-/// A range of numbers by their bits. It is a type of its own, since `PgRange` has a type for PostgreSQL's own ranges alone.
+/// A range of numbers by their bits. It is a type of its own, since `PgRange` has a type for PostgreSQL's own ranges
+/// alone.
 #[derive(Drop)]
 pub struct FloatRange {
     /// The range.

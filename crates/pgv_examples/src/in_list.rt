@@ -5,8 +5,8 @@ ghost use Rattle.std.specs.Prelude.{◌≡◌, ◌+◌, length, OnOk};
 use pgv::{CodecError, PgArguments};
 use std::alloc::Global;
 
-/// Adds each key as an argument, and appends their placeholders to a query, as ` in ($1, $2)`; of no keys ` in (null)`, which no row
-/// matches. A refusal leaves what was added and appended before.
+/// Adds each key as an argument, and appends their placeholders to a query, as ` in ($1, $2)`; of no keys ` in (null)`,
+/// which no row matches. A refusal leaves what was added and appended before.
 pub fn push_in(
     arguments: &mut PgArguments,
     query: &mut String,

@@ -1,7 +1,8 @@
 //! Documents of `json` and `jsonb` as texts (PostgreSQL, "JSON Types"), written and read.
 //!
-//! In binary the values of `jsonb` begin with the version 1. The slot of [`empty_object`](crate::empty_object) writes it where the
-//! parameter is `jsonb`, and else a space, which means nothing in a document; read, either byte is passed over.
+//! In binary the values of `jsonb` begin with the version 1. The slot of [`empty_object`](crate::empty_object) writes
+//! it where the parameter is `jsonb`, and else a space, which means nothing in a document; read, either byte is passed
+//! over.
 
 ghost use Rattle.std.specs.Prelude.{◌≡◌};
 ghost use Rattle.pgv_examples.specs.Jsons as spec;

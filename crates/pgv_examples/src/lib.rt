@@ -20,8 +20,8 @@
 //! 17. [`json`] has the documents of `json` and `jsonb`.
 //! 18. [`shipment`] is a composite with a composite in it, and a field that may be null.
 //!
-//! All of them name the crate `pgv` alone, in code and in contracts, whose words are those of `Rattle.pgv.specs.Words`: that file says
-//! what each is.
+//! All of them name the crate `pgv` alone, in code and in contracts, whose words are those of `Rattle.pgv.specs.Words`:
+//! that file says what each is.
 #![tactic(auto)]
 
 pub mod arrays;

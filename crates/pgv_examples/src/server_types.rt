@@ -28,8 +28,8 @@ pub fn keep(
     }
 }
 
-/// The types that the rows show, parts before wholes. They are the catalogue for `PgColumns::read`, and `fill` finds in them the OIDs of
-/// holes.
+/// The types that the rows show, parts before wholes. They are the catalogue for `PgColumns::read`, and `fill` finds in
+/// them the OIDs of holes.
 pub fn types_of(alloc: Global, rows: &PgCatalogRows) -> Result<PgServerTypes, CatalogError>
     ensures { IfOk result (AreMade rows.now []) }
 {

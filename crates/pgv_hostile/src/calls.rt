@@ -30,7 +30,8 @@ fn bytes_of(alloc: Global, digits: &str) -> Result<Vec<u8>, Fault> {
     hex::decode(alloc, digits.as_bytes()).or(Err(Fault::Row))
 }
 
-/// What the part `b HEX`, `t TEXT` or `x HEX`, a text in hex, is changed to: the mutants of the bytes, or the fronts of the text.
+/// What the part `b HEX`, `t TEXT` or `x HEX`, a text in hex, is changed to: the mutants of the bytes, or the fronts of
+/// the text.
 fn changed(alloc: Global, part: &str) -> Result<(Vec<Vec<u8>>, PgValueFormat), Fault> {
     let (form, given) = part.split_once(' ').ok_or(Fault::Row)?;
     match form {

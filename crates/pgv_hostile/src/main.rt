@@ -1,10 +1,11 @@
-//! `pgv_hostile`: changes the bytes of each row of standard input in every small way, and reads what comes of it. Each answer has to be a
-//! refusal, or a value whose frame is read as the same value. Values that have no frame of their own are only read: tuples, `()`, lists of
-//! tuples and lists of arrays. It prints how many mutants there were, and what came of them.
+//! `pgv_hostile`: changes the bytes of each row of standard input in every small way, and reads what comes of it. Each
+//! answer has to be a refusal, or a value whose frame is read as the same value. Values that have no frame of their own
+//! are only read: tuples, `()`, lists of tuples and lists of arrays. It prints how many mutants there were, and what
+//! came of them.
 //!
-//! A row is a line of `pgvalue`, `read TYPE HEX`, `add TYPE TEXT` or `copy HEX TYPE ..`, whose answers come of [`pgv_runner::run`]; or
-//! `RUST | TYPE | PART`, which is read by calls at a Rust type, as the readings of `pgv_value_calls` are: PART is `b` and hex, `t` and a
-//! text, or `x` and a text in hex.
+//! A row is a line of `pgvalue`, `read TYPE HEX`, `add TYPE TEXT` or `copy HEX TYPE ..`, whose answers come of
+//! [`pgv_runner::run`]; or `RUST | TYPE | PART`, which is read by calls at a Rust type, as the readings of
+//! `pgv_value_calls` are: PART is `b` and hex, `t` and a text, or `x` and a text in hex.
 #![tactic(auto)]
 
 mod calls;

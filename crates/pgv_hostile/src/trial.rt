@@ -111,7 +111,8 @@ fn part_frame_again<T: Decode + Encode>(
     part_frame::<T>(alloc, value)
 }
 
-/// What comes of a value of a Rust type without a type of its own, which is a part of others, that is read, written and read again.
+/// What comes of a value of a Rust type without a type of its own, which is a part of others, that is read, written and
+/// read again.
 pub fn read_framed<T: Decode + Encode>(
     alloc: Global,
     value: PgValueRef<'_>,

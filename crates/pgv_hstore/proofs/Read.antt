@@ -91,8 +91,8 @@ fails_after b o e (inr (inr h)) = inr (inr (h.0, or_true b o.may_alloc h.1))
 
 -- ---- the loop: it goes on, no key stands in front, no value, there was no memory for a pair, it is done
 
--- What is in the map, and the pairs that are still to be put into it, are what the whole form says. After the first pair memory was
--- asked for.
+-- What is in the map, and the pairs that are still to be put into it, are what the whole form says. After the first
+-- pair memory was asked for.
 abbrev pub IsOf : List Pair → ℕ → ℕ → List ℕ → Outcome (List Pair) → Type 0
 IsOf into count i form whole = after (nat_lt 0 i) (put_read into (count - i) form) ≡ whole
 

@@ -1,12 +1,12 @@
--- Maps of texts (PostgreSQL: appendix F, hstore; the binary form is that of its source, hstore_send): the number of pairs, and
--- for each the frame of its key and that of its value, which may be null. A map is seen as its pairs in the order of the keys'
--- bytes.
--- Written: for each pair the length and the bytes of its key and of its value, where the length -1 is null. There is no image
--- where a number is above 2147483647: the first such says why (C9).
--- Read in binary alone: a number that isn't negative, so many pairs, each a key that isn't null and a value or null, all UTF-8,
--- and anything after them. The pairs are put into the map in turn, so that a later one of a key wins. The first number, key or
--- value that can't be read says why: bytes that end too early are C15, a negative number of pairs C9, a negative length C16, a key
--- that is null C35, and a text that isn't UTF-8 C14. Memory is asked for only after the first key was there.
+-- Maps of texts (PostgreSQL: appendix F, hstore; the binary form is that of its source, hstore_send): the number of
+-- pairs, and for each the frame of its key and that of its value, which may be null. A map is seen as its pairs in the
+-- order of the keys' bytes. Written: for each pair the length and the bytes of its key and of its value, where the
+-- length -1 is null. There is no image where a number is above 2147483647: the first such says why (C9). Read in binary
+-- alone: a number that isn't negative, so many pairs, each a key that isn't null and a value or null, all UTF-8, and
+-- anything after them. The pairs are put into the map in turn, so that a later one of a key wins. The first number, key
+-- or value that can't be read says why: bytes that end too early are C15, a negative number of pairs C9, a negative
+-- length C16, a key that is null C35, and a text that isn't UTF-8 C14. Memory is asked for only after the first key was
+-- there.
 use Rattle.std.specs.Prelude.{ℕ, zero, suc, nat_le, nat_lt, ◌&&◌, Bool, true, false, List, [], ◌∷◌, ◌++◌, length, map, Option, Some, None, Ok, Err, option_map, if◌then◌else◌, string_bytes, ⊤}
 use Rattle.std.specs.declared.cmp.Ordering.{Ordering}
 use Rattle.std.specs.declared.alloc.Global.{Global}

@@ -19,7 +19,8 @@ pub record IsMapOf (stood ps : List Pair) : Type 0 where
   pub sorted : is_sorted order ps ≡ true
   pub values : (key : List ℕ) → find order key ps ≡ last_value key stood
 
--- The number of pairs, these pairs one after another, each a key and a value or null that are UTF-8, and anything after them.
+-- The number of pairs, these pairs one after another, each a key and a value or null that are UTF-8, and anything after
+-- them.
 pub record IsHstore (form : List ℕ) (ps : List Pair) : Type 0 where
   pub stood : List Pair
   pub rest : List ℕ

@@ -3,14 +3,16 @@ use Rattle.std.specs.Prelude.{ℕ, ◌&&◌, nat_lt, Bool, true, List, Option, S
 use Rattle.std.specs.List.{list_all}
 use Rattle.pgv_ltree.specs.Labels.{is_label}
 
--- a label and its modifiers: whether it is only the beginning of a label, whether case is ignored, and whether it may be a word of a label
+-- a label and its modifiers: whether it is only the beginning of a label, whether case is ignored, and whether it may
+-- be a word of a label
 pub record Variant : Type 0 where
   pub label : List ℕ
   pub any_end : Bool
   pub in_case : Bool
   pub sublexeme : Bool
 
--- any labels, at least and at most so many, where these numbers are given; a label of one of the variants; a label of none of them
+-- any labels, at least and at most so many, where these numbers are given; a label of one of the variants; a label of
+-- none of them
 pub data Level : Type 0 where
   star : Option ℕ → Option ℕ → Level
   one_of : List Variant → Level

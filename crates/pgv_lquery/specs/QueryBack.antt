@@ -1,5 +1,5 @@
--- What is written of a query is read back as it (`comes_back`), where it has a level, each level that is no star has a variant,
--- and no level of some variants begins with an empty label.
+-- What is written of a query is read back as it (`comes_back`), where it has a level, each level that is no star has a
+-- variant, and no level of some variants begins with an empty label.
 use Rattle.std.specs.Prelude.{◌≡◌, ℕ, not, ◌&&◌, ◌==◌, Bool, true, false, List, [], ◌∷◌, ◌++◌, map, Some, Ok, refl}
 use Rattle.std.specs.List.{join_with_byte, list_all}
 use Rattle.std.proofs.Common.{ap, ◌∙◌}

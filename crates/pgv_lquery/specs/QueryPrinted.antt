@@ -1,6 +1,6 @@
--- What queries print (PostgreSQL: appendix F, "ltree", lquery): a query prints its levels joined by `.`.
--- A star prints `*`; `*{n}` where both numbers are n; else `*{n,}`, `*{,m}` or `*{n,m}`. Another level prints its variants
--- joined by `|`, after `!` where it is of none of them. A variant prints its label and then those of `*`, `@` and `%` that it
+-- What queries print (PostgreSQL: appendix F, "ltree", lquery): a query prints its levels joined by `.`. A star prints
+-- `*`; `*{n}` where both numbers are n; else `*{n,}`, `*{,m}` or `*{n,m}`. Another level prints its variants joined by
+-- `|`, after `!` where it is of none of them. A variant prints its label and then those of `*`, `@` and `%` that it
 -- has, in this order. A level without variants prints nothing.
 use Rattle.std.specs.Prelude.{ℕ, ◌==◌, Bool, if◌then◌else◌, codes, List, [], ◌∷◌, ◌++◌, map, Option, Some, None}
 use Rattle.std.specs.Fmt.{decimal}

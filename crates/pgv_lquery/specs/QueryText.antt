@@ -1,9 +1,8 @@
--- The texts of queries (PostgreSQL: appendix F, "ltree", lquery). 42 is `*`, 33 `!`, 46 `.`, 44 `,`, 64 `@`, 37 `%`, 123 and
--- 125 are braces, and 124 is the bar between variants.
--- A query's text (`IsQueryText`) is one or more levels joined by `.`. A level's (`IsLevelText`) is a star in one of its
--- spellings, variants joined by `|`, or `!` and such. A variant's (`IsVariantText`) is a label and modifiers `*`, `@`, `%` in
--- any order and number.
--- Laws: what is computed is exactly these (`query_is_read`, `level_is_read`, `variant_is_read`), and no text is two queries.
+-- The texts of queries (PostgreSQL: appendix F, "ltree", lquery). 42 is `*`, 33 `!`, 46 `.`, 44 `,`, 64 `@`, 37 `%`,
+-- 123 and 125 are braces, and 124 is the bar between variants. A query's text (`IsQueryText`) is one or more levels
+-- joined by `.`. A level's (`IsLevelText`) is a star in one of its spellings, variants joined by `|`, or `!` and such.
+-- A variant's (`IsVariantText`) is a label and modifiers `*`, `@`, `%` in any order and number. Laws: what is computed
+-- is exactly these (`query_is_read`, `level_is_read`, `variant_is_read`), and no text is two queries.
 use Rattle.std.specs.Prelude.{◌≡◌, ◌≢◌, ◌⊎◌, ℕ, ◌<◌, ◌==◌, ◌||◌, Bool, true, false, codes, List, [], ◌∷◌, ◌++◌, length, Option, Some, None}
 use Rattle.std.specs.List.{AllZip, join_with_byte, list_all, list_any}
 use Rattle.std.specs.Str.{all_ascii_digits}

@@ -8,8 +8,8 @@ use bitflags::{Flag, Flags, bitflag_items};
 use pgv_ltree::Sink;
 use std::fmt;
 
-/// A set of modifiers: `ANY_END`, written `*`, only the beginning of a label is wanted; `IN_CASE`, `@`, case is ignored; `SUBLEXEME`, `%`,
-/// a word of a label is wanted. `a*@` has the first two.
+/// A set of modifiers: `ANY_END`, written `*`, only the beginning of a label is wanted; `IN_CASE`, `@`, case is
+/// ignored; `SUBLEXEME`, `%`, a word of a label is wanted. `a*@` has the first two.
 #[derive(Clone, Copy, Debug, PartialEq, Eq, Hash)]
 pub struct PgLQueryVariantFlag(u16);
 

@@ -55,7 +55,8 @@ unread_label text m isnt e = by (rw isnt at e)
     by f = absurd (cc)
 
 module _ {X M E : Type 0} (read : X → Result M E) (good : X → Bool) (passes : (x : X) (m : M) → read x ≡ Ok m → good x ≡ true) where
-  -- Where the first text doesn't pass a test that each text passes that is read, none was read: the text that is read now is the first.
+  -- Where the first text doesn't pass a test that each text passes that is read, none was read: the text that is read
+  -- now is the first.
   pub first_now : (all done : List X) (ms : List M) (n : ℕ) (x : X) → done ≡ take n all → n < length all → x ≡ get_or all n x →
       read_each read done ≡ Ok ms → first_is good all ≡ false → good x ≡ false
   first_now [] done ms n x d l at h isnt = absurd (omega arith)

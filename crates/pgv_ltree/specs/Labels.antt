@@ -1,5 +1,5 @@
--- Labels, as PostgreSQL has them from version 16 on (appendix F, "ltree", Definitions): at most 1000 (`label_limit`) ASCII
--- letters, digits, `_` and `-` (`is_label_char`), perhaps none.
+-- Labels, as PostgreSQL has them from version 16 on (appendix F, "ltree", Definitions): at most 1000 (`label_limit`)
+-- ASCII letters, digits, `_` and `-` (`is_label_char`), perhaps none.
 use Rattle.std.specs.Prelude.{ℕ, nat_le, Bool, ◌&&◌, ◌||◌, ◌==◌, List, length, Result, Ok, Err, if◌then◌else◌}
 use Rattle.std.specs.Char.{is_ascii_alphanumeric}
 use Rattle.std.specs.List.{list_all}

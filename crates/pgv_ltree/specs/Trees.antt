@@ -1,13 +1,14 @@
--- Trees of labels and their texts (PostgreSQL: appendix F, "ltree", Definitions): one or more labels joined by `.`, which is 46
--- (`IsTreeText`). A tree prints its labels joined by `.`.
--- Laws: what is computed is exactly this (`tree_is_read`), and no text is two trees (`one_tree`).
+-- Trees of labels and their texts (PostgreSQL: appendix F, "ltree", Definitions): one or more labels joined by `.`,
+-- which is 46 (`IsTreeText`). A tree prints its labels joined by `.`. Laws: what is computed is exactly this
+-- (`tree_is_read`), and no text is two trees (`one_tree`).
 use Rattle.std.specs.Prelude.{◌≡◌, ◌≢◌, ℕ, ◌==◌, Bool, true, List, [], Result}
 use Rattle.std.specs.List.{join_with_byte, list_all, slice_split}
 use Rattle.pgv_value.specs.declared.tree_error.PgLTreeParseError.{PgLTreeParseError}
 use Rattle.pgv_ltree.specs.Each.{first_is, read_each}
 use Rattle.pgv_ltree.specs.Labels.{is_label, label_read}
 
--- The text is that of the tree of these labels, of which there is one or more; the empty text is that of one empty label.
+-- The text is that of the tree of these labels, of which there is one or more; the empty text is that of one empty
+-- label.
 pub record IsTreeText (text : List ℕ) (labels : List (List ℕ)) : Type 0 where
   pub some : labels ≢ []
   pub each : list_all is_label labels ≡ true

@@ -29,7 +29,8 @@ ltree_array = named (codes "_ltree")
 abbrev pub tree_image : List (List ℕ) → Option Image
 tree_image labels = if list_all is_label labels then Some (image_of (bytes (1 ∷ printed_tree labels))) else None
 
--- the text after the version 1: no bytes at all are C15, another version is what is given, and other bytes than UTF-8 are C14
+-- the text after the version 1: no bytes at all are C15, another version is what is given, and other bytes than UTF-8
+-- are C14
 abbrev pub versioned : CodecError → List ℕ → Parsed (List ℕ)
 versioned wrong_version [] = Err Short
 versioned wrong_version (version ∷ text) = if version == 1 then (if is_utf8 text then Ok text else Err Utf8) else Err wrong_version

@@ -1,5 +1,6 @@
--- Bodies of messages that a server sends (PostgreSQL: "Message Formats"), each read exactly: bytes that end too early are C15, a text that
--- isn't UTF-8 is C14, bytes after the last field are C17, and a code that isn't one of its field's is C30.
+-- Bodies of messages that a server sends (PostgreSQL: "Message Formats"), each read exactly: bytes that end too early
+-- are C15, a text that isn't UTF-8 is C14, bytes after the last field are C17, and a code that isn't one of its field's
+-- is C30.
 use Rattle.std.specs.Prelude.{ℕ, nat_eq, ◌==◌, List, [], ◌∷◌, length, Ok, Err, if◌then◌else◌}
 use Rattle.pgv_value.specs.declared.error.CodecError.TheVariants.{Short, WrongLength, OutOfRange}
 use Rattle.pgv_value.specs.Fronts.{u32_front, name_front}

@@ -1,5 +1,5 @@
--- The body of a CopyOutResponse or a CopyInResponse (PostgreSQL: "Message Formats", CopyInResponse): a format for all in one byte, the
--- number of columns in two, and a format for each column in two; nothing comes after them.
+-- The body of a CopyOutResponse or a CopyInResponse (PostgreSQL: "Message Formats", CopyInResponse): a format for all
+-- in one byte, the number of columns in two, and a format for each column in two; nothing comes after them.
 use Rattle.std.specs.Prelude.{ℕ, true, List, [], ◌∷◌}
 use Rattle.pgv_value.specs.declared.error.CodecError.TheVariants.{Short}
 use Rattle.pgv_value.specs.declared.value.PgValueFormat.{PgValueFormat}

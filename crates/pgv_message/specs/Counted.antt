@@ -1,6 +1,6 @@
 -- A body that is a list: the number of its things in two bytes, and these, one after another; nothing comes after them.
--- How it is read (`counted`): what isn't there is C15, and bytes after the last thing are C17. It is read exactly where it is that list
--- (`IsCounted`).
+-- How it is read (`counted`): what isn't there is C15, and bytes after the last thing are C17. It is read exactly where
+-- it is that list (`IsCounted`).
 use Rattle.std.specs.Prelude.{◌≡◌, ℕ, ◌<◌, ◌^◌, nat_eq, not, true, List, ◌++◌, length, flat_map}
 use Rattle.std.specs.Int.{w16, to_be_bytes}
 use Rattle.std.specs.List.{AllByRecursion}
@@ -24,7 +24,8 @@ pub record IsCounted {A : Type 0} (Is : A → Type 0) (encode : A → List ℕ) 
   pub many : length list < 2 ^ 16
   pub each : AllByRecursion Is list
 
--- ---- ParameterDescription (PostgreSQL: "Message Formats", ParameterDescription): the OIDs of a statement's parameters, of four bytes each
+-- ---- ParameterDescription (PostgreSQL: "Message Formats", ParameterDescription): the OIDs of a statement's
+-- parameters, of four bytes each
 
 unfoldable pub oid_front : List ℕ → Outcome (Oid × List ℕ)
 oid_front bytes = exactly (u32_front bytes) >>= λ o. done (record { 0 = o.0 }, o.1)

@@ -1,5 +1,6 @@
--- The law that ties both ends: what was added as an argument is the parameter at its place, and a server that sends the parameters back as
--- a row sends a DataRow, whose column at that place is read as what the value keeps, under each type that fits.
+-- The law that ties both ends: what was added as an argument is the parameter at its place, and a server that sends the
+-- parameters back as a row sends a DataRow, whose column at that place is read as what the value keeps, under each type
+-- that fits.
 use Rattle.std.specs.Prelude.{◌≡◌, ℕ, Bool, true, List, [], length, Ok, Some}
 use Rattle.std.specs.List.{slice_get}
 use Rattle.pgv_types.specs.Ty.{Ty}
@@ -21,7 +22,8 @@ use Rattle.pgv_message.specs.Frames.{bind_of}
 use Rattle.pgv_message.specs.Messages.{bind}
 
 module _ {A M : Type 0} (encoding : A → Encoding) (accepts : Ty → Bool) (parse : Value → Outcome M) (kept : A → M) (fits : A → Ty → List Oid → Type 0) where
-  -- The argument that was added for a value at a place comes back from the column at that place of a row of these parts.
+  -- The argument that was added for a value at a place comes back from the column at that place of a row of these
+  -- parts.
   abbrev pub ColumnsComeBack : List Call → List Part → Type 0
   ColumnsComeBack calls parts =
       (columns : List Column) (c : Column) (place : ℕ) (a : Framed) (g : Given) (v : A) →

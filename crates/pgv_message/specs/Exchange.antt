@@ -1,7 +1,7 @@
--- The extended query as a machine (PostgreSQL: "Message Flow", "Extended Query"): the requests that a driver has sent and that are not
--- answered yet, in order, and whether the server passes over requests after an error.
--- What a server sends belongs to the first of these requests. An ErrorResponse ends them all up to the next Sync, whose
--- ReadyForQuery then comes, and nothing else. Notices, statuses of parameters and notifications may come at any time.
+-- The extended query as a machine (PostgreSQL: "Message Flow", "Extended Query"): the requests that a driver has sent
+-- and that are not answered yet, in order, and whether the server passes over requests after an error. What a server
+-- sends belongs to the first of these requests. An ErrorResponse ends them all up to the next Sync, whose ReadyForQuery
+-- then comes, and nothing else. Notices, statuses of parameters and notifications may come at any time.
 use Rattle.std.specs.Prelude.{◌≡◌, ℕ, Bool, true, false, not, ◌&&◌, ◌==◌, length, List, [], ◌∷◌, ◌++◌, Option, Some, None, option_map, option_and_then, Result, Ok, Err, if◌then◌else◌}
 use Rattle.pgv_message.specs.declared.exchange.PgExchange.{PgExchange}
 use Rattle.pgv_message.specs.declared.exchange.PgRequest.{PgRequest}

@@ -27,7 +27,8 @@ DescribesRows ts = (ts ≡ tag.RowDescription ∷ []) ⊎ (ts ≡ tag.NoData ∷
 abbrev pub copied_out : ℕ → List PgTag
 copied_out n = tag.CopyOutResponse ∷ (replicate n tag.CopyData ++ tag.CopyDone ∷ tag.CommandComplete ∷ [])
 
--- what comes after rows: the command's end, that it was empty, or that as many rows as were asked for have come; or a COPY
+-- what comes after rows: the command's end, that it was empty, or that as many rows as were asked for have come; or a
+-- COPY
 abbrev pub EndsRows : List PgTag → Type 0
 EndsRows ts =
     (ts ≡ tag.CommandComplete ∷ []) ⊎ ((ts ≡ tag.EmptyQueryResponse ∷ []) ⊎ ((ts ≡ tag.PortalSuspended ∷ []) ⊎
@@ -74,7 +75,8 @@ AsyncChangesNothing = (x : Exchange) (ts : List PgTag) → run x ts ≡ run x (w
 abbrev pub ErrorSkipsToSync : Type 0
 ErrorSkipsToSync = (x y : Exchange) → step x tag.ErrorResponse ≡ Some y → (y.waiting ≡ until_sync x.waiting) × (y.skipping ≡ true)
 
--- After an error only the ReadyForQuery may come, which ends the passing over, and what may come at any time, which leaves all as it is.
+-- After an error only the ReadyForQuery may come, which ends the passing over, and what may come at any time, which
+-- leaves all as it is.
 abbrev pub OnlyReadyEndsSkipping : Type 0
 OnlyReadyEndsSkipping = (x y : Exchange) (t : PgTag) → x.skipping ≡ true → step x t ≡ Some y → ((is_async t ≡ true) × (y ≡ x)) ⊎ ((t ≡ tag.ReadyForQuery) × (y.skipping ≡ false))
 

@@ -1,4 +1,5 @@
--- The frames of arguments in a Bind, as whoever receives it reads them: each parameter is the part of the argument at its place.
+-- The frames of arguments in a Bind, as whoever receives it reads them: each parameter is the part of the argument at
+-- its place.
 use Rattle.std.specs.Prelude.{◌≡◌, ℕ, List, [], ◌∷◌, length, flat_map, Ok}
 use Rattle.std.specs.Int.{w16, to_be_bytes}
 use Rattle.std.specs.List.{AllByRecursion}

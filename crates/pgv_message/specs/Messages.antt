@@ -10,8 +10,9 @@ use Rattle.pgv_message.specs.declared.describe.Prepared.TheVariants.{Statement, 
 use Rattle.pgv_message.specs.Pieces.{format_bytes, oid_bytes}
 use Rattle.pgv_message.specs.Writing.{Writing, ◌>>=◌, text_of, count_of, joined, whole}
 
--- Bind, `B`: the portal, the statement, one format for all parameters, which is binary, the number of parameters and a frame for
--- each, and the number of formats of the result's columns and these: none where all are text, one for all, or one for each.
+-- Bind, `B`: the portal, the statement, one format for all parameters, which is binary, the number of parameters and a
+-- frame for each, and the number of formats of the result's columns and these: none where all are text, one for all, or
+-- one for each.
 unfoldable pub bind : List ℕ → List ℕ → List Argument → List PgValueFormat → Writing (List ℕ)
 bind portal statement arguments results = do
   portal_name ← text_of portal
@@ -20,8 +21,8 @@ bind portal statement arguments results = do
   formats ← count_of (length results)
   whole (66 ∷ []) (joined (portal_name ∷ statement_name ∷ to_be_bytes w16 1 ∷ to_be_bytes w16 1 ∷ parameters ∷ shown (all_tokens arguments) ∷ formats ∷ flat_map format_bytes results ∷ []))
 
--- Parse, `P`: the statement's name, the query, the number of parameters whose types are given, and their OIDs, 0 where the server
--- is to find one.
+-- Parse, `P`: the statement's name, the query, the number of parameters whose types are given, and their OIDs, 0 where
+-- the server is to find one.
 unfoldable pub parse : List ℕ → List ℕ → List Oid → Writing (List ℕ)
 parse statement query oids = do
   name ← text_of statement

@@ -1,8 +1,8 @@
--- The body of an ErrorResponse or a NoticeResponse (PostgreSQL: "Message Formats", ErrorResponse; "Error and Notice Message Fields"):
--- fields one after another, each a byte that names it, which is not 0, and a text that a zero byte ends; then a zero byte, and nothing
--- after it.
--- How it is read (`notice`): bytes that end too early are C15, a text that isn't UTF-8 is C14, and bytes after the last zero byte are C17.
--- It is read exactly where it is these fields (`NoticeIsRead`).
+-- The body of an ErrorResponse or a NoticeResponse (PostgreSQL: "Message Formats", ErrorResponse; "Error and Notice
+-- Message Fields"): fields one after another, each a byte that names it, which is not 0, and a text that a zero byte
+-- ends; then a zero byte, and nothing after it. How it is read (`notice`): bytes that end too early are C15, a text
+-- that isn't UTF-8 is C14, and bytes after the last zero byte are C17. It is read exactly where it is these fields
+-- (`NoticeIsRead`).
 use Rattle.std.specs.Prelude.{◌≡◌, ◌↔◌, ℕ, zero, suc, ◌==◌, true, false, List, [], ◌∷◌, ◌++◌, map, flat_map, length, Option, Some, None, Ok, Err, if◌then◌else◌}
 use Rattle.std.specs.List.{AllByRecursion}
 use Rattle.pgv_value.specs.Utf8.{is_utf8}

@@ -1,7 +1,7 @@
--- The message in front of what a server has sent (PostgreSQL: "Message Formats"): a byte that names it, its length in four bytes, which
--- counts these four, and its body. A length below 4 or above 2147483647 is no message's.
--- A message is found, whatever follows it (`MessageIsFound`), and what is found is a message (`FoundIsMessage`). Of a message that is
--- cut off anywhere nothing is found yet (`CutIsNotFound`).
+-- The message in front of what a server has sent (PostgreSQL: "Message Formats"): a byte that names it, its length in
+-- four bytes, which counts these four, and its body. A length below 4 or above 2147483647 is no message's. A message is
+-- found, whatever follows it (`MessageIsFound`), and what is found is a message (`FoundIsMessage`). Of a message that
+-- is cut off anywhere nothing is found yet (`CutIsNotFound`).
 use Rattle.std.specs.Prelude.{◌≡◌, ℕ, ◌-◌, ◌<◌, ◌≤◌, nat_lt, List, [], ◌∷◌, ◌++◌, length, take, drop, Option, Some, None, option_map, Result, Ok, Err, if◌then◌else◌}
 use Rattle.pgv_value.specs.Laws.{AreBytes}
 use Rattle.pgv_value.specs.Steps.{number}

@@ -1,4 +1,5 @@
--- How many rows a CommandComplete says (PostgreSQL: "Message Formats", CommandComplete): the number after the last space of its text.
+-- How many rows a CommandComplete says (PostgreSQL: "Message Formats", CommandComplete): the number after the last
+-- space of its text.
 use Rattle.std.specs.Prelude.{ℕ, ◌^◌, ◌==◌, nat_lt, List, [], ◌∷◌, Option, Some, None, option_and_then, if◌then◌else◌}
 use Rattle.pgv_text.specs.NumberText.{unsigned_value}
 use Rattle.pgv_value.specs.Utf8.{is_utf8}

@@ -1,5 +1,5 @@
--- The message that starts a session (PostgreSQL: "Message Formats", StartupMessage): the version of the protocol, 3.0, the settings,
--- each a name and a value, and a zero byte. It has no tag.
+-- The message that starts a session (PostgreSQL: "Message Formats", StartupMessage): the version of the protocol, 3.0,
+-- the settings, each a name and a value, and a zero byte. It has no tag.
 use Rattle.std.specs.Prelude.{ℕ, Bool, ◌||◌, List, [], ◌∷◌, ◌++◌, flat_map, Err, if◌then◌else◌}
 use Rattle.std.specs.List.{list_any}
 use Rattle.std.specs.Int.{w32, to_be_bytes}

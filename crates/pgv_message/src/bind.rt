@@ -11,11 +11,11 @@ use pgv_wire::PgArguments;
 /// The code of the binary format.
 const BINARY: u16 = 1;
 
-/// Appends Bind (PostgreSQL: "Message Formats", Bind): the arguments become the parameters of a portal, all in binary. The formats of
-/// the result's columns are none where all are text, one for all, or one for each.
+/// Appends Bind (PostgreSQL: "Message Formats", Bind): the arguments become the parameters of a portal, all in binary.
+/// The formats of the result's columns are none where all are text, one for all, or one for each.
 ///
-/// A zero byte in a name, more than 65535 arguments or formats, and a body of more than 2147483643 bytes are refused. A refused call
-/// leaves the buffer as it was. No memory is asked for but what the buffer takes.
+/// A zero byte in a name, more than 65535 arguments or formats, and a body of more than 2147483643 bytes are refused. A
+/// refused call leaves the buffer as it was. No memory is asked for but what the buffer takes.
 ///
 /// The unnamed portal of the unnamed statement with one argument, `int4` 7, and results in binary:
 /// `42 00000018 00 00 0001 0001 0001 00000004 00000007 0001 0001`.

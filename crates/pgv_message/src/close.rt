@@ -6,10 +6,11 @@ ghost use Rattle.pgv_message.specs.Writing.{Sends};
 use crate::describe::{Prepared, write_about};
 use crate::error::MessageError;
 
-/// Appends Close (PostgreSQL: "Message Formats", Close): the server is to forget a statement or a portal. One that isn't there is no
-/// error.
+/// Appends Close (PostgreSQL: "Message Formats", Close): the server is to forget a statement or a portal. One that
+/// isn't there is no error.
 ///
-/// A zero byte in the name and a body of more than 2147483643 bytes are refused. A refused call leaves the buffer as it was.
+/// A zero byte in the name and a body of more than 2147483643 bytes are refused. A refused call leaves the buffer as it
+/// was.
 ///
 /// The unnamed portal: `43 00000006 50 00`.
 pub fn write_close(out: &mut Vec<u8>, kind: Prepared, name: &str) -> Result<(), MessageError>

@@ -17,8 +17,8 @@ pub struct PgCommandTag<'a> {
     pub text: &'a str,
 }
 
-/// The text of a CommandComplete's body (PostgreSQL: "Message Formats", CommandComplete). Without a zero byte it is refused with C15,
-/// where it isn't UTF-8 with C14, and with bytes after it with C17.
+/// The text of a CommandComplete's body (PostgreSQL: "Message Formats", CommandComplete). Without a zero byte it is
+/// refused with C15, where it isn't UTF-8 with C14, and with bytes after it with C17.
 ///
 /// `53454c454354203500` is `SELECT 5`.
 #[tactic(auto, unfolding(crate::specs::Bodies::command_complete))]
@@ -57,8 +57,8 @@ fn number_in(text: &str) -> Option<u64>
 }
 
 impl PgCommandTag<'_> {
-    /// How many rows the command has read or written, where its text ends with a number: 5 of `SELECT 5` and of `INSERT 0 5`, and
-    /// `None` of `BEGIN`.
+    /// How many rows the command has read or written, where its text ends with a number: 5 of `SELECT 5` and of
+    /// `INSERT 0 5`, and `None` of `BEGIN`.
     #[tactic(auto, unfolding(crate::specs::Rows::row_count), using(pgv_value::proofs::Text::whole_text))]
     pub fn rows(&self) -> Option<u64>
         ensures { result ≡ row_count self.now.text.now }

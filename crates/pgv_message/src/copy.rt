@@ -20,8 +20,8 @@ pub fn write_copy_data(out: &mut Vec<u8>, bytes: &[u8]) -> Result<(), MessageErr
     push_message(out, b"d", &[Piece::Bytes(bytes)])
 }
 
-/// Appends CopyDone (PostgreSQL: "Message Formats", CopyDone): the stream has ended. It is `63 00000004`. A refused call leaves the
-/// buffer as it was.
+/// Appends CopyDone (PostgreSQL: "Message Formats", CopyDone): the stream has ended. It is `63 00000004`. A refused
+/// call leaves the buffer as it was.
 pub fn write_copy_done(out: &mut Vec<u8>) -> Result<(), MessageError>
     ensures { Sends (bare 99) out.old.items out.new.items result }
 {
@@ -30,7 +30,8 @@ pub fn write_copy_done(out: &mut Vec<u8>) -> Result<(), MessageError>
 
 /// Appends CopyFail (PostgreSQL: "Message Formats", CopyFail): the stream is given up, for this reason.
 ///
-/// A zero byte in the reason and a body of more than 2147483643 bytes are refused. A refused call leaves the buffer as it was.
+/// A zero byte in the reason and a body of more than 2147483643 bytes are refused. A refused call leaves the buffer as
+/// it was.
 ///
 /// For `no`: `66 00000007 6e6f00`.
 pub fn write_copy_fail(out: &mut Vec<u8>, reason: &str) -> Result<(), MessageError>

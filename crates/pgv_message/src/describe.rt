@@ -42,10 +42,11 @@ pub(crate) fn write_about(
     push_message(out, &[tag], &[Piece::Byte(kind.byte()), name])
 }
 
-/// Appends Describe (PostgreSQL: "Message Formats", Describe): the server is to answer with a statement's ParameterDescription and the
-/// description of its rows, or with that of a portal's rows.
+/// Appends Describe (PostgreSQL: "Message Formats", Describe): the server is to answer with a statement's
+/// ParameterDescription and the description of its rows, or with that of a portal's rows.
 ///
-/// A zero byte in the name and a body of more than 2147483643 bytes are refused. A refused call leaves the buffer as it was.
+/// A zero byte in the name and a body of more than 2147483643 bytes are refused. A refused call leaves the buffer as it
+/// was.
 ///
 /// The unnamed statement: `44 00000006 53 00`.
 pub fn write_describe(out: &mut Vec<u8>, kind: Prepared, name: &str) -> Result<(), MessageError>

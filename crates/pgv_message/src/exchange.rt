@@ -167,8 +167,8 @@ impl PgExchange {
         self.skipping
     }
 
-    /// A request was sent. It is awaited after those before it; or it won't be answered, where the server passes over requests and no
-    /// Sync was sent yet. Where memory is refused all is as before.
+    /// A request was sent. It is awaited after those before it; or it won't be answered, where the server passes over
+    /// requests and no Sync was sent yet. Where memory is refused all is as before.
     #[tactic(auto, unfolding(crate::specs::Exchange::sent))]
     pub fn sent(&mut self, request: PgRequest) -> Result<(), AllocError>
         ensures ok { OnOk result (exchange_of self.new ≡ sent (exchange_of self.old) request) }
@@ -183,8 +183,8 @@ impl PgExchange {
         }
     }
 
-    /// A message came, by the byte that names it. It belongs to the first request that isn't answered yet, or may come at any time; an
-    /// ErrorResponse ends all requests up to the next Sync, and then only its ReadyForQuery may come.
+    /// A message came, by the byte that names it. It belongs to the first request that isn't answered yet, or may come
+    /// at any time; an ErrorResponse ends all requests up to the next Sync, and then only its ReadyForQuery may come.
     ///
     /// A message that may not come is refused, and then all is as before.
     pub fn step(&mut self, byte: u8) -> Result<PgTag, UnexpectedMessage>

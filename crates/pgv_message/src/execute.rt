@@ -6,10 +6,11 @@ ghost use Rattle.pgv_message.specs.Writing.{Sends};
 use crate::error::MessageError;
 use crate::pieces::{Piece, push_message, text_piece};
 
-/// Appends Execute (PostgreSQL: "Message Formats", Execute): the server is to run a portal, and to stop after this many rows, or after
-/// the last one where the number is 0.
+/// Appends Execute (PostgreSQL: "Message Formats", Execute): the server is to run a portal, and to stop after this many
+/// rows, or after the last one where the number is 0.
 ///
-/// A zero byte in the name and a body of more than 2147483643 bytes are refused. A refused call leaves the buffer as it was.
+/// A zero byte in the name and a body of more than 2147483643 bytes are refused. A refused call leaves the buffer as it
+/// was.
 ///
 /// The unnamed portal, all rows: `45 00000009 00 00000000`.
 #[tactic(auto, unfolding(crate::specs::Messages::execute))]

@@ -28,19 +28,20 @@ pub fn cut_is_not_found()
     ensures { CutIsNotFound }
 {}
 
-/// The parameters of a Bind are the arguments: for each, in order, the frame of its part, null where its image is null and else what
-/// the argument shows.
+/// The parameters of a Bind are the arguments: for each, in order, the frame of its part, null where its image is null
+/// and else what the argument shows.
 pub fn parameters_are_arguments(arguments: &PgArguments)
     ensures { ParametersAreArguments arguments.now }
 {
     frames_are_parameters(arguments.buffer().as_slice(), arguments);
 }
 
-/// A server that sends the parameters of a Bind back as a row sends a DataRow, and what was added as an argument for a value of `T` is
-/// read from its column by [`PgRow::try_get`](pgv_row::PgRow::try_get), in binary, as what the value keeps, under each type that fits.
+/// A server that sends the parameters of a Bind back as a row sends a DataRow, and what was added as an argument for a
+/// value of `T` is read from its column by [`PgRow::try_get`](pgv_row::PgRow::try_get), in binary, as what the value
+/// keeps, under each type that fits.
 ///
-/// Whatever was added, refused and filled, in any order: `calls` is any list of calls that leaves these arguments. That OIDs are numbers
-/// of 32 bits [`oids_fit`](pgv_codec::laws::oids_fit) says.
+/// Whatever was added, refused and filled, in any order: `calls` is any list of calls that leaves these arguments. That
+/// OIDs are numbers of 32 bits [`oids_fit`](pgv_codec::laws::oids_fit) says.
 pub fn parameters_come_back<T: Type + ReadBack>(arguments: &PgArguments)
     ensures { ComeBack T.encoding T.accepts T.parse (λ v. T.view (T.kept v)) T.fits
         arguments.now }
@@ -73,8 +74,8 @@ pub fn answers_end_the_exchange()
     ensures { AnswersEndTheExchange }
 {}
 
-/// Where nothing is awaited after messages of which none is an error or may come at any time, they are the answers to all requests, in
-/// order.
+/// Where nothing is awaited after messages of which none is an error or may come at any time, they are the answers to
+/// all requests, in order.
 pub fn only_answers_end_the_exchange()
     ensures { OnlyAnswersEndTheExchange }
 {}
@@ -89,8 +90,8 @@ pub fn error_skips_to_sync()
     ensures { ErrorSkipsToSync }
 {}
 
-/// After an error only the ReadyForQuery may come, which ends the passing over, and messages that may come at any time; and no request
-/// ends it.
+/// After an error only the ReadyForQuery may come, which ends the passing over, and messages that may come at any time;
+/// and no request ends it.
 pub fn only_ready_ends_skipping()
     ensures messages { OnlyReadyEndsSkipping }
     ensures requests { RequestsDoNotEndSkipping }

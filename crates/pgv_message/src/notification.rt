@@ -17,8 +17,8 @@ pub struct PgNotification<'a> {
     pub payload: &'a str,
 }
 
-/// The notification in a NotificationResponse's body (PostgreSQL: "Message Formats", NotificationResponse). Bytes that end too early are
-/// refused with C15, a text that isn't UTF-8 with C14, and bytes after the payload with C17.
+/// The notification in a NotificationResponse's body (PostgreSQL: "Message Formats", NotificationResponse). Bytes that
+/// end too early are refused with C15, a text that isn't UTF-8 with C14, and bytes after the payload with C17.
 ///
 /// `00000007 6100 00` is one of the process 7 on the channel `a`.
 #[tactic(auto, unfolding(crate::specs::Bodies::notification))]

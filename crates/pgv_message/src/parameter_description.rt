@@ -43,9 +43,9 @@ fn all_oids(alloc: Global, body: &[u8]) -> Result<Vec<Oid>, CodecError>
     Ok(oids)
 }
 
-/// The OIDs of the types of a statement's parameters, from the body of a ParameterDescription (PostgreSQL: "Message Formats",
-/// ParameterDescription): the number of parameters in two bytes, and four bytes for each. Bytes that end too early are refused with
-/// C15, and bytes after the last OID with C17.
+/// The OIDs of the types of a statement's parameters, from the body of a ParameterDescription (PostgreSQL: "Message
+/// Formats", ParameterDescription): the number of parameters in two bytes, and four bytes for each. Bytes that end too
+/// early are refused with C15, and bytes after the last OID with C17.
 ///
 /// `0001 00000017` is one parameter, an `int4`.
 pub fn parameter_oids(alloc: Global, body: &[u8]) -> Result<Vec<Oid>, CodecError>

@@ -15,10 +15,11 @@ pub(crate) fn write_text(out: &mut Vec<u8>, tag: u8, text: &str) -> Result<(), M
     push_message(out, &[tag], &[text])
 }
 
-/// Appends Query (PostgreSQL: "Message Formats", Query): the server is to run one or more statements of a text, whose results come in
-/// text.
+/// Appends Query (PostgreSQL: "Message Formats", Query): the server is to run one or more statements of a text, whose
+/// results come in text.
 ///
-/// A zero byte in the text and a body of more than 2147483643 bytes are refused. A refused call leaves the buffer as it was.
+/// A zero byte in the text and a body of more than 2147483643 bytes are refused. A refused call leaves the buffer as it
+/// was.
 ///
 /// `BEGIN`: `51 0000000a 424547494e00`.
 pub fn write_query(out: &mut Vec<u8>, sql: &str) -> Result<(), MessageError>

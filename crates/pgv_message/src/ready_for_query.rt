@@ -29,8 +29,8 @@ fn status(code: u8) -> Result<PgTransactionStatus, CodecError>
     }
 }
 
-/// The status in a ReadyForQuery's body (PostgreSQL: "Message Formats", ReadyForQuery). An empty body is refused with C15, another code
-/// with C30, and bytes after the code with C17.
+/// The status in a ReadyForQuery's body (PostgreSQL: "Message Formats", ReadyForQuery). An empty body is refused with
+/// C15, another code with C30, and bytes after the code with C17.
 ///
 /// `49` is [`PgTransactionStatus::Idle`].
 #[tactic(auto, unfolding(crate::specs::Bodies::ready_for_query))]

@@ -22,8 +22,8 @@ pub struct PgMessage<'a> {
     pub rest: &'a [u8],
 }
 
-/// The message in front of the bytes that have come, or `None` where not all of it has come (PostgreSQL: "Message Formats"). A length
-/// below 4 or above 2147483647 is refused, as soon as it has come.
+/// The message in front of the bytes that have come, or `None` where not all of it has come (PostgreSQL: "Message
+/// Formats"). A length below 4 or above 2147483647 is refused, as soon as it has come.
 ///
 /// Of `5a 00000005 49 44` the tag is `Z`, the body `49`, and the rest `44`.
 #[tactic(auto, unfolding(crate::specs::Received::in_front))]

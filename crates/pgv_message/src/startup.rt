@@ -41,10 +41,11 @@ fn any_has_zero(settings: &[PgSetting<'_>]) -> bool
     settings.iter().any(has_zero_in)
 }
 
-/// Appends the message that starts a session (PostgreSQL: "Message Formats", StartupMessage): version 3.0, and the settings. It has no
-/// tag. The server wants a `user`, and reads the settings up to an empty name.
+/// Appends the message that starts a session (PostgreSQL: "Message Formats", StartupMessage): version 3.0, and the
+/// settings. It has no tag. The server wants a `user`, and reads the settings up to an empty name.
 ///
-/// A zero byte in a name or a value and a body of more than 2147483643 bytes are refused. A refused call leaves the buffer as it was.
+/// A zero byte in a name or a value and a body of more than 2147483643 bytes are refused. A refused call leaves the
+/// buffer as it was.
 ///
 /// For the user `me`: `00000011 00030000 7573657200 6d6500 00`.
 #[tactic(auto, unfolding(crate::specs::Startup::startup))]

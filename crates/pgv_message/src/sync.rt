@@ -14,24 +14,24 @@ pub(crate) fn write_bare(out: &mut Vec<u8>, tag: u8) -> Result<(), MessageError>
     push_message(out, &[tag], &[])
 }
 
-/// Appends Sync (PostgreSQL: "Message Formats", Sync): the server ends what was begun, and answers with ReadyForQuery. It is
-/// `53 00000004`. A refused call leaves the buffer as it was.
+/// Appends Sync (PostgreSQL: "Message Formats", Sync): the server ends what was begun, and answers with ReadyForQuery.
+/// It is `53 00000004`. A refused call leaves the buffer as it was.
 pub fn write_sync(out: &mut Vec<u8>) -> Result<(), MessageError>
     ensures { Sends (bare 83) out.old.items out.new.items result }
 {
     write_bare(out, b'S')
 }
 
-/// Appends Flush (PostgreSQL: "Message Formats", Flush): the server sends what it has answered so far. It is `48 00000004`. A refused
-/// call leaves the buffer as it was.
+/// Appends Flush (PostgreSQL: "Message Formats", Flush): the server sends what it has answered so far. It is
+/// `48 00000004`. A refused call leaves the buffer as it was.
 pub fn write_flush(out: &mut Vec<u8>) -> Result<(), MessageError>
     ensures { Sends (bare 72) out.old.items out.new.items result }
 {
     write_bare(out, b'H')
 }
 
-/// Appends Terminate (PostgreSQL: "Message Formats", Terminate): the session ends. It is `58 00000004`. A refused call leaves the buffer
-/// as it was.
+/// Appends Terminate (PostgreSQL: "Message Formats", Terminate): the session ends. It is `58 00000004`. A refused call
+/// leaves the buffer as it was.
 pub fn write_terminate(out: &mut Vec<u8>) -> Result<(), MessageError>
     ensures { Sends (bare 88) out.old.items out.new.items result }
 {

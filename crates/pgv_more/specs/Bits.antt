@@ -1,6 +1,6 @@
--- Bits and the bytes that they are packed into, eight to a byte, the first of them the highest (PostgreSQL: "Bit String Types",
--- 8.10). After the last bit there are zeros (`packed`). Law: these bytes and no others have the bits, and then less than eight
--- zeros (`packed_is_one`).
+-- Bits and the bytes that they are packed into, eight to a byte, the first of them the highest (PostgreSQL: "Bit String
+-- Types", 8.10). After the last bit there are zeros (`packed`). Law: these bytes and no others have the bits, and then
+-- less than eight zeros (`packed_is_one`).
 use Rattle.std.specs.Prelude.{ℕ, zero, suc, ◌+◌, ◌/◌, ◌^◌, ◌==◌, Bool, List, [], ◌∷◌, ◌++◌, length, drop, if◌then◌else◌}
 use Rattle.std.specs.Int.{bit_at}
 

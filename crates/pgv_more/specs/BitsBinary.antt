@@ -1,8 +1,7 @@
--- The binary form of lists of bits (PostgreSQL: "Bit String Types", 8.10): the number of bits, signed, in four bytes, the
--- highest first, and then the bits in bytes. A list of more than 2147483647 bits isn't written (C2). The size hint is 4
--- and the number of bits.
--- Read (`IsBits`): a number that is not negative, and as many bytes as it needs, whatever fills the last. Laws: what is
--- computed is exactly this.
+-- The binary form of lists of bits (PostgreSQL: "Bit String Types", 8.10): the number of bits, signed, in four bytes,
+-- the highest first, and then the bits in bytes. A list of more than 2147483647 bits isn't written (C2). The size hint
+-- is 4 and the number of bits. Read (`IsBits`): a number that is not negative, and as many bytes as it needs, whatever
+-- fills the last. Laws: what is computed is exactly this.
 use Rattle.std.specs.Prelude.{◌≡◌, ◌↔◌, ℕ, ◌+◌, ◌<◌, ◌^◌, ◌==◌, min, nat_lt, Bool, true, List, ◌++◌, length, take, drop, Ok, Err, if◌then◌else◌}
 use Rattle.std.specs.Int.{w32, from_be_bytes, to_be_bytes, cast_signed}
 use Rattle.pgv_buf.specs.Tokens.{bytes, be4}
@@ -33,8 +32,8 @@ bits_hint bits = min (length bits + 4) 18446744073709551615
 abbrev pub bit_count : List ℕ → ℕ
 bit_count form = from_be_bytes w32 (take 4 form)
 
--- The bits that are read. Too few bytes for the number are C15, a negative number is C16, and another number of bytes after it
--- than the bits need is C17.
+-- The bits that are read. Too few bytes for the number are C15, a negative number is C16, and another number of bytes
+-- after it than the bits need is C17.
 abbrev pub bits_in_binary : List ℕ → Parsed (List Bool)
 bits_in_binary form =
     if nat_lt (length form) 4 then Err Short else

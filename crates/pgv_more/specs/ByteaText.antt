@@ -1,8 +1,8 @@
--- Strings of bytes (PostgreSQL: "Binary Data Types", 8.4) and text without case (appendix F, citext). Written, they are their
--- bytes. A `PgByteaArray<N>` has no image for a list of another length.
--- Read: in binary any bytes. A text is `\x` and two hex digits of either case for each byte, the high one first
--- (`IsByteaText`). Of N bytes another number is refused with C17, and a text that stands for no bytes with C29. Text without
--- case is read as `text` is. Law: `bytea_text_is_read`.
+-- Strings of bytes (PostgreSQL: "Binary Data Types", 8.4) and text without case (appendix F, citext). Written, they are
+-- their bytes. A `PgByteaArray<N>` has no image for a list of another length. Read: in binary any bytes. A text is `\x`
+-- and two hex digits of either case for each byte, the high one first (`IsByteaText`). Of N bytes another number is
+-- refused with C17, and a text that stands for no bytes with C29. Text without case is read as `text` is. Law:
+-- `bytea_text_is_read`.
 use Rattle.std.specs.Prelude.{◌≡◌, ◌↔◌, ℕ, ◌==◌, ◌&&◌, nat_eq, Bool, List, [], ◌∷◌, length, Option, Some, None, Result, Ok, Err, ok_or, if◌then◌else◌}
 use Rattle.std.specs.Option.{option_and_then}
 use Rattle.std.specs.List.{list_all}

@@ -1,6 +1,6 @@
--- The text of MAC addresses (PostgreSQL: "Network Address Types", 8.9, macaddr), as `08:00:2b:01:02:03` or `08-00-2B-01-02-03`:
--- six pairs of hex digits of either case, with `:` between each two pairs or with `-` (`IsMacAddress`). Laws: what is computed
--- is exactly this.
+-- The text of MAC addresses (PostgreSQL: "Network Address Types", 8.9, macaddr), as `08:00:2b:01:02:03` or
+-- `08-00-2B-01-02-03`: six pairs of hex digits of either case, with `:` between each two pairs or with `-`
+-- (`IsMacAddress`). Laws: what is computed is exactly this.
 use Rattle.std.specs.Prelude.{◌≡◌, ◌↔◌, ◌⊎◌, ℕ, suc, zero, ◌+◌, ◌*◌, ◌<◌, ◌≤◌, ◌==◌, ◌||◌, nat_lt, Bool, List, [], ◌∷◌, length, Option, Some, None, if◌then◌else◌}
 use Rattle.std.specs.Option.{option_map}
 use Rattle.std.specs.Char.{digit_value}

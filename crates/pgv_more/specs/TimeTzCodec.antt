@@ -1,10 +1,10 @@
 -- What times of day with an offset are written as and read from (PostgreSQL: "Date/Time Types", 8.5, timetz): the
 -- microseconds of the day in eight bytes, what is less cut off, and the seconds west of UTC in four (`other_way`), each
 -- signed, the highest byte first. Such a time is seen as its nanoseconds of the day and its seconds east of UTC
--- (`time_tz_numbers`). The size hint is 12. An offset of 86400 seconds or more in size is refused (C6).
--- Read in binary: the first twelve bytes (C15), whatever comes after them. They are the microseconds of the day, taken round
--- the clock, and the seconds west of UTC, less than 86400 in size (C6, with the seconds that the bytes have). In text: a time
--- and an offset (`time_tz_value`).
+-- (`time_tz_numbers`). The size hint is 12. An offset of 86400 seconds or more in size is refused (C6). Read in binary:
+-- the first twelve bytes (C15), whatever comes after them. They are the microseconds of the day, taken round the clock,
+-- and the seconds west of UTC, less than 86400 in size (C6, with the seconds that the bytes have). In text: a time and
+-- an offset (`time_tz_value`).
 use Rattle.std.specs.Prelude.{ℕ, ◌/◌, nat_lt, if◌then◌else◌, ℤ, pos, neg_ℤ, unsigned_abs, List, ◌++◌, length, drop, Option, Some, None, Ok, ok_or}
 use Rattle.std.specs.Int.{w32, w64, cast_unsigned, to_be_bytes}
 use Rattle.pgv_text.specs.DateTimeText.{time_tz_value, zoned_numbers}

@@ -84,7 +84,8 @@ impl BitVec {
         Ok(BitVec { bytes, count })
     }
 
-    /// The bits of digits `0` and `1`, where there are only these, which is seen before memory is asked for. For no bits none is.
+    /// The bits of digits `0` and `1`, where there are only these, which is seen before memory is asked for. For no
+    /// bits none is.
     pub(crate) fn from_digits(alloc: Global, digits: &[u8]) -> Result<Option<BitVec>, AllocError>
         ensures bits { IfOk result (λ b. b ≡ bits_in_text digits.now) }
         ensures succeeds { has_items (bits_in_text digits.now) ≡ false → IsOk result }
@@ -98,7 +99,8 @@ impl BitVec {
         }))
     }
 
-    /// The bits in bytes, eight to a byte, the first of them the highest; what is after the last bit is zero. `101` is `a0`.
+    /// The bits in bytes, eight to a byte, the first of them the highest; what is after the last bit is zero. `101` is
+    /// `a0`.
     pub fn to_bytes(&self) -> Result<Vec<u8>, AllocError>
         ensures { IfOk result (λ v. v.items ≡ packed self.now) }
     {

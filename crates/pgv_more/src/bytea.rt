@@ -52,7 +52,8 @@ fn are_pairs(digits: &[u8]) -> bool
     digits.len() % 2 == 0 && are_digits(digits)
 }
 
-/// The bytes of a text `\x00ff`. Pairs of digits are refused only where there is no memory for their bytes, and `\x` needs none.
+/// The bytes of a text `\x00ff`. Pairs of digits are refused only where there is no memory for their bytes, and `\x`
+/// needs none.
 fn of_text(alloc: Global, text: &[u8]) -> Result<PgBytea, CodecError>
     ensures { Gives (λ b. b.0.items) (copied (ok_or (bytea_in_text text.now) Syntax)) result }
 {

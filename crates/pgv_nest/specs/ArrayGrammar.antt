@@ -1,9 +1,9 @@
--- Arrays (PostgreSQL: "Arrays", 8.15; the binary form is that of its source, array_send): what is read, why it is refused and where
--- memory is asked for.
--- In binary: the number of dimensions, flags, the OID of the elements' type, and for the one dimension that is read the number of
--- elements and the lower bound; then a frame for each element. No dimensions and anything after it is no elements. The element's
--- type is the built-in of the OID, else the element of the value's type; it must exist, also for no elements. Anything may come
--- after the last frame. In text the values of an array text, each read under the elements' own type.
+-- Arrays (PostgreSQL: "Arrays", 8.15; the binary form is that of its source, array_send): what is read, why it is
+-- refused and where memory is asked for. In binary: the number of dimensions, flags, the OID of the elements' type, and
+-- for the one dimension that is read the number of elements and the lower bound; then a frame for each element. No
+-- dimensions and anything after it is no elements. The element's type is the built-in of the OID, else the element of
+-- the value's type; it must exist, also for no elements. Anything may come after the last frame. In text the values of
+-- an array text, each read under the elements' own type.
 use Rattle.std.specs.Prelude.{ℕ, zero, suc, nat_lt, nat_eq, not, ◌&&◌, Bool, List, [], ◌∷◌, length, Option, Some, None, if◌then◌else◌}
 use Rattle.std.specs.Int.{w32, cast_signed}
 use Rattle.pgv_types.specs.Ty.{Ty}
@@ -29,7 +29,8 @@ pub record Head : Type 0 where
   pub count : ℕ
   pub frames : List ℕ
 
--- after the number of dimensions, which is one; the elements' type is copied, which asks for memory of a custom one alone
+-- after the number of dimensions, which is one; the elements' type is copied, which asks for memory of a custom one
+-- alone
 unfoldable pub one_dimension : Ty → List ℕ → Outcome Head
 one_dimension t bytes = do
   flags ← u32_at bytes

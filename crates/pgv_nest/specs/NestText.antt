@@ -1,10 +1,10 @@
--- Arrays and records in text, as what their characters are and not as how they are read (PostgreSQL: "Array Input and Output
--- Syntax", 8.15.6; "Composite Type Input and Output Syntax", 8.16.6).
--- An array: the values of an array text, each read in text under the elements' own type (`IsArrayInText`; of as many elements,
--- `IsSizedInText`). A record: the first fields of a record text joined by `before`, each an `IsTextField`, read in text under
--- the type declared by the OID 0 (`IsRecordInText`).
--- The decoders' contracts name functions that compute these. Laws: they do (`array_text_is_its_elements`,
--- `tuple_text_is_its_fields`), and so do the record decoder's calls (`record_text_begins`, `text_field_is_its_value`).
+-- Arrays and records in text, as what their characters are and not as how they are read (PostgreSQL: "Array Input and
+-- Output Syntax", 8.15.6; "Composite Type Input and Output Syntax", 8.16.6). An array: the values of an array text,
+-- each read in text under the elements' own type (`IsArrayInText`; of as many elements, `IsSizedInText`). A record: the
+-- first fields of a record text joined by `before`, each an `IsTextField`, read in text under the type declared by the
+-- OID 0 (`IsRecordInText`). The decoders' contracts name functions that compute these. Laws: they do
+-- (`array_text_is_its_elements`, `tuple_text_is_its_fields`), and so do the record decoder's calls
+-- (`record_text_begins`, `text_field_is_its_value`).
 use Rattle.std.specs.Prelude.{◌≡◌, ◌↔◌, ℕ, Bool, true, List, ◌∷◌, drop, length, Some, Ok}
 use Rattle.std.specs.Str.{chars}
 use Rattle.pgv_types.specs.Ty.{Ty, by_oid}

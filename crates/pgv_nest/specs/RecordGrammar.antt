@@ -1,10 +1,9 @@
--- Records (PostgreSQL: "Composite Types", 8.16; the binary form is that of its source, record_send): what is read, why it is refused
--- and where memory is asked for.
--- In binary: any four bytes for the number of fields, then for each field that is read an OID and a frame. Under `record` the
--- field's type is the built-in of its OID. Under a composite it is the field at that place, whose `oid` must be that one. A domain
--- is followed to its base. The Rust type must be compatible with the field's type. In text the values of a record text.
--- Memory is asked for by the copy of a field's custom type, by the copy of a field's text that doesn't stand as it is, and by what a
--- field's own type asks for.
+-- Records (PostgreSQL: "Composite Types", 8.16; the binary form is that of its source, record_send): what is read, why
+-- it is refused and where memory is asked for. In binary: any four bytes for the number of fields, then for each field
+-- that is read an OID and a frame. Under `record` the field's type is the built-in of its OID. Under a composite it is
+-- the field at that place, whose `oid` must be that one. A domain is followed to its base. The Rust type must be
+-- compatible with the field's type. In text the values of a record text. Memory is asked for by the copy of a field's
+-- custom type, by the copy of a field's text that doesn't stand as it is, and by what a field's own type asks for.
 use Rattle.std.specs.Prelude.{◌≡◌, ℕ, zero, suc, nat_eq, not, ◌==◌, Bool, false, List, [], ◌∷◌, drop, length, Option, Some, None, if◌then◌else◌, refl}
 use Rattle.std.specs.Coded.{Coded, code_by, coded×, coded_ℕ, coded_bool, coded_list, coded_option}
 use Rattle.pgv_types.specs.Ty.{Ty, ty_code, builtin, custom, named, by_oid, array_of, Kind, simple, pseudo, domain, composite, array, enumeration, range, Fields, no_fields, field}
@@ -88,13 +87,14 @@ field_in_binary accepts parse t place bytes = do
 
 -- ---- what is left of a record
 
--- in binary the record's type, the place of the next field and the bytes of the fields that are left; in text how many fields
--- the text has, whether each field that is left is copied when it is read, and the texts of these fields
+-- in binary the record's type, the place of the next field and the bytes of the fields that are left; in text how many
+-- fields the text has, whether each field that is left is copied when it is read, and the texts of these fields
 pub data Left : Type 0 where
   binary_fields : Ty → ℕ → List ℕ → Left
   text_fields : ℕ → List Bool → List Part → Left
 
--- The next field, and what is left after it. Without one in text it is C25, with the number of fields that the text has.
+-- The next field, and what is left after it. Without one in text it is C25, with the number of fields that the text
+-- has.
 abbrev pub next_field : {M : Type 0} → (Ty → Bool) → (Given → Outcome M) → Left → Outcome (M × Left)
 next_field accepts parse (binary_fields t place bytes) = do
   x ← field_in_binary accepts parse t place bytes
@@ -117,8 +117,8 @@ fields_by t Binary (Some bytes) = do
   count ← u32_at bytes
   done (binary_fields t 0 count.1)
 
--- what is left of a record of which no field was read: in binary all after the number of fields, in text all values of a record
--- text
+-- what is left of a record of which no field was read: in binary all after the number of fields, in text all values of
+-- a record text
 abbrev pub fields_of : Given → Outcome Left
 fields_of v = fields_by v.type_info v.format v.bytes
 

@@ -9,8 +9,8 @@ ghost use Rattle.pgv_nest.specs.NestBinary.{ArrayIsItsElements, FewElements, One
 
 use pgv_text::laws::record_is_its_values;
 
-/// `array_in_binary` reads elements from bytes in binary iff the bytes are an array of these elements, whatever reads each of
-/// them (PostgreSQL: "Arrays"; array_send).
+/// `array_in_binary` reads elements from bytes in binary iff the bytes are an array of these elements, whatever reads
+/// each of them (PostgreSQL: "Arrays"; array_send).
 pub fn array_is_its_elements<M>()
     ensures { (parse : Given → Outcome M) → ArrayIsItsElements parse }
 {}
@@ -33,8 +33,8 @@ pub fn field_type_is_found()
     ensures { FieldTypeIsFound }
 {}
 
-/// `field_in_binary` reads a value from bytes in binary and leaves a rest iff the bytes begin with a record's field of this
-/// value and go on with this rest, whatever reads the value (PostgreSQL: "Composite Types"; record_send).
+/// `field_in_binary` reads a value from bytes in binary and leaves a rest iff the bytes begin with a record's field of
+/// this value and go on with this rest, whatever reads the value (PostgreSQL: "Composite Types"; record_send).
 pub fn field_is_its_value<M>()
     ensures { (accepts : Ty → Bool) (parse : Given → Outcome M) → FieldIsItsValue accepts parse }
 {}
@@ -57,8 +57,8 @@ pub fn record_text_begins()
     record_is_its_values();
 }
 
-/// `next_field` reads a value from the fields that are left of a record text iff the first of them has this value, and leaves
-/// the others, whatever reads the value.
+/// `next_field` reads a value from the fields that are left of a record text iff the first of them has this value, and
+/// leaves the others, whatever reads the value.
 pub fn text_field_is_its_value<M>()
     ensures { (accepts : Ty → Bool) (parse : Given → Outcome M)
         → TextFieldIsItsValue accepts parse }

@@ -1,9 +1,8 @@
--- Numbers as PostgreSQL keeps them ("Numeric Types", 8.1.2; the binary form is that of its source, numeric_send): digits of
--- four decimal places each, where the weight of the first is a power of 10000, and the scale is how many decimal places are
--- shown.
--- Written: words of two bytes: the number of digits, the weight, the sign (0000, or 4000 below zero), the scale, and the
--- digits. More than 32767 digits are refused with C7, before memory is asked for, and else the first digit that isn't
--- from 0 to 9999 with C8. The value that is no number is `0000 0000 c000 0000`.
+-- Numbers as PostgreSQL keeps them ("Numeric Types", 8.1.2; the binary form is that of its source, numeric_send):
+-- digits of four decimal places each, where the weight of the first is a power of 10000, and the scale is how many
+-- decimal places are shown. Written: words of two bytes: the number of digits, the weight, the sign (0000, or 4000
+-- below zero), the scale, and the digits. More than 32767 digits are refused with C7, before memory is asked for, and
+-- else the first digit that isn't from 0 to 9999 with C8. The value that is no number is `0000 0000 c000 0000`.
 use Rattle.std.specs.Prelude.{ℕ, zero, suc, nat_lt, ◌*◌, not, Bool, true, ◌&&◌, ◌==◌, if◌then◌else◌, ℤ, pos, int_le, List, [], ◌∷◌, ◌++◌, length, take, drop, Option, Some, None, Ok, Err, ⊤}
 use Rattle.std.specs.Int.{w16, cast_signed, cast_unsigned, from_be_bytes, to_be_bytes}
 use Rattle.std.specs.List.{flat_map}

@@ -11,7 +11,8 @@ mod codec;
 use pgv_value::{CodecError, number_of_eight};
 use std::ops::{Add, AddAssign, Sub, SubAssign};
 
-/// An amount of money, as a number of the smallest unit of its currency (a cent, where there are two places after the point).
+/// An amount of money, as a number of the smallest unit of its currency (a cent, where there are two places after the
+/// point).
 ///
 /// The operators need a result that fits in 64 bits; [`checked_add`](PgMoney::checked_add) and
 /// [`checked_sub`](PgMoney::checked_sub) test it.

@@ -1,5 +1,5 @@
--- The flag byte of a range (PostgreSQL's source, rangetypes.h): 1 says that the range is empty, 2 and 4 that its lower and its
--- upper bound are included, 8 and 16 that it has no lower and no upper bound. Other bits say nothing here.
+-- The flag byte of a range (PostgreSQL's source, rangetypes.h): 1 says that the range is empty, 2 and 4 that its lower
+-- and its upper bound are included, 8 and 16 that it has no lower and no upper bound. Other bits say nothing here.
 use Rattle.std.specs.Prelude.{ℕ, ◌==◌, Bool, true, false, cond}
 use Rattle.std.specs.Int.RustNames.{bit_and, bit_or}
 use Rattle.std.specs.declared.ops.Bound.{Bound}

@@ -1,8 +1,8 @@
--- Ranges in binary, as what the bytes are and not as how they are read (PostgreSQL: "Range Types", 8.17; the form is that of
--- its source, range_send), under a type of kind range.
--- A range (`IsRange`) is a flag byte, a frame for each bound of which the flags don't say that there is none, read under the
--- type that it is a range over, and anything after them. A flag byte with 1 is the empty range, whatever other flags it has and
--- whatever comes after it (`IsEmptyRange`). Law: `range_is_its_bounds`.
+-- Ranges in binary, as what the bytes are and not as how they are read (PostgreSQL: "Range Types", 8.17; the form is
+-- that of its source, range_send), under a type of kind range. A range (`IsRange`) is a flag byte, a frame for each
+-- bound of which the flags don't say that there is none, read under the type that it is a range over, and anything
+-- after them. A flag byte with 1 is the empty range, whatever other flags it has and whatever comes after it
+-- (`IsEmptyRange`). Law: `range_is_its_bounds`.
 use Rattle.std.specs.Prelude.{◌≡◌, ◌↔◌, ℕ, true, false, List, ◌∷◌, Some, Ok}
 use Rattle.std.specs.declared.ops.Bound.{Bound}
 use Rattle.std.specs.declared.ops.Bound.TheVariants.{Included, Excluded, Unbounded}
@@ -31,8 +31,8 @@ IsClear flags flag = has flags flag ≡ false
 abbrev pub BeginsWith : {M : Type 0} → (Given → Outcome M) → Ty → M → List ℕ → List ℕ → Type 0
 BeginsWith parse u m bytes rest = (part : Part) × IsFrame bytes part rest × Reads parse (given u Binary part) m
 
--- The bytes begin with this bound, of which these two flags speak. Where there is none, they begin with nothing; a bound that
--- is there has a frame.
+-- The bytes begin with this bound, of which these two flags speak. Where there is none, they begin with nothing; a
+-- bound that is there has a frame.
 abbrev pub IsBound : {M : Type 0} → (Given → Outcome M) → Ty → (flags infinite included : ℕ) → Bound M → List ℕ → List ℕ → Type 0
 IsBound parse u flags infinite included Unbounded bytes rest = IsSet flags infinite × (bytes ≡ rest)
 IsBound parse u flags infinite included (Included m) bytes rest = IsClear flags infinite × IsSet flags included × BeginsWith parse u m bytes rest

@@ -1,6 +1,6 @@
--- Where a range comes back: under a type of kind range, where each bound's value fits what it is a range over (`RangeFits`).
--- The empty range comes back under every type of kind range. A range is kept bound by bound, and the empty one as it is. Law:
--- `ranges_fit`.
+-- Where a range comes back: under a type of kind range, where each bound's value fits what it is a range over
+-- (`RangeFits`). The empty range comes back under every type of kind range. A range is kept bound by bound, and the
+-- empty one as it is. Law: `ranges_fit`.
 use Rattle.std.specs.Prelude.{ℕ, List, take, drop, ⊤}
 use Rattle.std.specs.Range.Bound.{bound_map}
 use Rattle.std.specs.declared.ops.Bound.{Bound}

@@ -1,5 +1,6 @@
--- What a range is written as (PostgreSQL: "Range Types", 8.17; its source, range_send): the flag byte, and a frame for each
--- bound that there is, the lower first. The flag byte 1 alone is the empty range. A bound without a frame is refused as it says.
+-- What a range is written as (PostgreSQL: "Range Types", 8.17; its source, range_send): the flag byte, and a frame for
+-- each bound that there is, the lower first. The flag byte 1 alone is the empty range. A bound without a frame is
+-- refused as it says.
 use Rattle.std.specs.Prelude.{List, [], ◌∷◌, ◌++◌, true}
 use Rattle.std.specs.declared.ops.Bound.{Bound}
 use Rattle.std.specs.declared.ops.Bound.TheVariants.{Included, Excluded, Unbounded}

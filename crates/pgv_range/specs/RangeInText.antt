@@ -1,6 +1,6 @@
 -- Ranges in text, as what their characters are and not as how they are read (PostgreSQL: "Range Input/Output", 8.17.5).
--- `empty` is the empty range. Of the two parts of a range text, one without characters and quotes is no bound; else the bracket
--- includes or excludes it (`IsRangeInText`). Law: `range_text_is_its_bounds`.
+-- `empty` is the empty range. Of the two parts of a range text, one without characters and quotes is no bound; else the
+-- bracket includes or excludes it (`IsRangeInText`). Law: `range_text_is_its_bounds`.
 use Rattle.std.specs.Prelude.{◌≡◌, ℕ, Bool, true, false, List, Some, None}
 use Rattle.std.specs.Str.{chars}
 use Rattle.std.specs.declared.ops.Bound.{Bound}

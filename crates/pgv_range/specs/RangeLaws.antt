@@ -22,14 +22,14 @@ use Rattle.pgv_range.specs.declared.range.PgRange.{PgRange}
 abbrev pub Converts : {A B : Type 0} → (A → B → Type 0) → (A → B) → Type 0
 Converts {A} {B} gives made = (from : A) (to : B) → gives from to ↔ (to ≡ made from)
 
--- what was written of a range that is a field of a record is read back: of the bounds' encoding, type, grammar, view and what they keep, and of the
--- ranges' type, the types under which they are read, and where they fit
+-- what was written of a range that is a field of a record is read back: of the bounds' encoding, type, grammar, view
+-- and what they keep, and of the ranges' type, the types under which they are read, and where they fit
 abbrev pub RangeFieldComesBack : {X M : Type 0} → (X → Encoding) → Ty → (Given → Outcome M) → (X → M) → (X → X) → Ty → (Ty → Bool) → (PgRange X → Ty → List Oid → Type 0) → Type 0
 RangeFieldComesBack encoding element parse view kept info accepts fits =
     FieldReadsBack info (λ r. plainly (range_image (range_view encoding r))) accepts (parse_range element parse) (λ r. range_view view (range_kept kept r)) fits
 
--- memory may be asked for only to copy: in binary a custom type that the range is over, in text a part that doesn't stand in it as
--- it is
+-- memory may be asked for only to copy: in binary a custom type that the range is over, in text a part that doesn't
+-- stand in it as it is
 abbrev pub TakesOnlyForCopies : {M : Type 0} → (Given → Outcome M) → Type 0
 TakesOnlyForCopies parse =
     ((t u : Ty) (bytes : Part) → IsRangeOver t u → is_custom u ≡ false → (parse (given t Binary bytes)).may_alloc ≡ false)

@@ -1,5 +1,5 @@
--- What a range says (PostgreSQL: "Range Types", 8.17): that it has no value at all, or two bounds, each of which is included,
--- excluded or missing.
+-- What a range says (PostgreSQL: "Range Types", 8.17): that it has no value at all, or two bounds, each of which is
+-- included, excluded or missing.
 use Rattle.std.specs.Range.Bound.{bound_map}
 use Rattle.std.specs.declared.ops.Bound.{Bound}
 use Rattle.pgv_range.specs.declared.range.PgRange.{PgRange}

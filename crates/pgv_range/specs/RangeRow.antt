@@ -9,8 +9,9 @@ use Rattle.pgv_codec.specs.declared.traits.PgHasArrayType as arrays
 use Rattle.pgv_range.specs.RangeGrammar.{range_accepts}
 use Rattle.pgv_range.specs.RangeBinary.{IsRangeOver}
 
--- ranges of values have the built-in type of the first OID, which is a range over that of the second, and are read under each type of
--- kind range over a type that values are read under; arrays of them have the built-in type of the third OID
+-- ranges of values have the built-in type of the first OID, which is a range over that of the second, and are read
+-- under each type of kind range over a type that values are read under; arrays of them have the built-in type of the
+-- third OID
 abbrev pub IsRangeRow : {A B : Type 0} → types.Ghosts A → types.Ghosts B → arrays.Ghosts B → ℕ → ℕ → ℕ → Type 0
 IsRangeRow of_values of_ranges of_arrays oid element array =
     HasType of_ranges (builtin oid) (range_accepts of_values.accepts)

@@ -1,5 +1,5 @@
-//! What ranges are written as and read of, whatever their bounds are (PostgreSQL, "Range Types"; the binary form is that of its source,
-//! range_send).
+//! What ranges are written as and read of, whatever their bounds are (PostgreSQL, "Range Types"; the binary form is
+//! that of its source, range_send).
 
 ghost use Rattle.std.specs.Prelude.{◌≡◌, OnOk, OnErr, Some, drop};
 ghost use Rattle.std.specs.Range.Bound.{bound_map};
@@ -24,9 +24,9 @@ use pgv_value::{CodecError, PgValueFormat, PgValueRef, part_in_front};
 use std::alloc::{AllocError, Global};
 use std::ops::Bound;
 
-/// Written as a flag byte (02 and 04: the lower and the upper bound is included; 08 and 10: there is none) and the frame of each
-/// bound that there is, the lower first. From 1 to 10 without 10, of `int4`, is `02 00000004 00000001 00000004 0000000a`. The empty
-/// range is the flag byte 01 alone.
+/// Written as a flag byte (02 and 04: the lower and the upper bound is included; 08 and 10: there is none) and the
+/// frame of each bound that there is, the lower first. From 1 to 10 without 10, of `int4`, is
+/// `02 00000004 00000001 00000004 0000000a`. The empty range is the flag byte 01 alone.
 impl<T: Encode> Encode for PgRange<T> {
     ghost use Rattle.pgv_codec.specs.Encoding.{plainly};
     ghost use Rattle.pgv_range.specs.RangeImage.{range_image};
@@ -92,12 +92,12 @@ fn encode_bound<T: Encode>(bound: &Bound<T>, out: &mut PgArgumentBuffer) -> Resu
 
 /// A range of values that `T` reads (PostgreSQL, "Range Types").
 ///
-/// In binary a flag byte and the frames of the bounds, read under the type that the value's type is a range over; bits of the flag
-/// byte that have no meaning and bytes after the bounds are ignored. A flag byte with 01 is the empty range, whatever other flags and
-/// bytes there are.
+/// In binary a flag byte and the frames of the bounds, read under the type that the value's type is a range over; bits
+/// of the flag byte that have no meaning and bytes after the bounds are ignored. A flag byte with 01 is the empty
+/// range, whatever other flags and bytes there are.
 ///
-/// In text the bounds are read under `T`'s own type, as `[1,10)` from 1 to 10 without 10; `empty`, in upper or lower case and without
-/// white space, is the empty range.
+/// In text the bounds are read under `T`'s own type, as `[1,10)` from 1 to 10 without 10; `empty`, in upper or lower
+/// case and without white space, is the empty range.
 ///
 /// Null is refused with [`UnexpectedNull`](CodecError::UnexpectedNull) (C13), a text that is not UTF-8 with
 /// [`Utf8`](CodecError::Utf8) (C14) and one outside the grammar with [`Syntax`](CodecError::Syntax) (C29), a type that
@@ -194,8 +194,8 @@ fn read_bound<'a, T: Decode>(
     }
 }
 
-/// The value of the frame in front. No memory is asked for before the frame is there, and then only by the value, and for the copy of
-/// a custom type.
+/// The value of the frame in front. No memory is asked for before the frame is there, and then only by the value, and
+/// for the copy of a custom type.
 fn read_value<'a, T: Decode>(
     alloc: Global,
     element: &PgTypeInfo,

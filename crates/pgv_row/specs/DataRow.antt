@@ -1,8 +1,8 @@
--- The body of a DataRow (PostgreSQL: "Message Formats", DataRow): the number of columns in two bytes, unsigned, and for each a frame;
--- nothing comes after them.
--- A body is a row (`IsDataRow`) of as many columns as the description has. How it is read (`data_row`): a number of columns that
--- isn't there is C15, another than the description's C12, a frame that isn't there C15 or C16, and bytes after the last frame C17.
--- Memory is asked for only where the room for places is smaller than the row.
+-- The body of a DataRow (PostgreSQL: "Message Formats", DataRow): the number of columns in two bytes, unsigned, and for
+-- each a frame; nothing comes after them. A body is a row (`IsDataRow`) of as many columns as the description has. How
+-- it is read (`data_row`): a number of columns that isn't there is C15, another than the description's C12, a frame
+-- that isn't there C15 or C16, and bytes after the last frame C17. Memory is asked for only where the room for places
+-- is smaller than the row.
 use Rattle.std.specs.Prelude.{◌≡◌, ◌↔◌, ℕ, ◌<◌, ◌^◌, nat_eq, nat_lt, not, List, length, Ok, Err, if◌then◌else◌}
 use Rattle.std.specs.List.{AllByRecursion}
 use Rattle.pgv_value.specs.FrameBinary.{Part, row_bytes, IsField}

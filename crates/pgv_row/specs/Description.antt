@@ -1,8 +1,9 @@
--- The body of a RowDescription (PostgreSQL: "Message Formats", RowDescription): the number of columns in two bytes, unsigned, and for
--- each its name, which a zero byte ends, the OID of its table in four bytes and its number there in two, the OID of its type in
--- four, the size of the type in two and its modifier in four, and the format of its values in two; nothing comes after them.
--- How it is read: what isn't there is C15, a name that isn't UTF-8 C14, another format than 0 and 1 C30, and bytes after the last
--- column C17. The type of a column is the built-in of its OID, or else what a catalogue has of it, or else known by its OID alone.
+-- The body of a RowDescription (PostgreSQL: "Message Formats", RowDescription): the number of columns in two bytes,
+-- unsigned, and for each its name, which a zero byte ends, the OID of its table in four bytes and its number there in
+-- two, the OID of its type in four, the size of the type in two and its modifier in four, and the format of its values
+-- in two; nothing comes after them. How it is read: what isn't there is C15, a name that isn't UTF-8 C14, another
+-- format than 0 and 1 C30, and bytes after the last column C17. The type of a column is the built-in of its OID, or
+-- else what a catalogue has of it, or else known by its OID alone.
 use Rattle.std.specs.Prelude.{FitsSigned, ◌≡◌, ◌==◌, ◌↔◌, ℕ, ◌<◌, ◌^◌, nat_eq, not, true, false, List, ◌∷◌, ◌++◌, length, flat_map, Option, Some, None, Ok}
 use Rattle.std.specs.Int.{w16, w32, cast_signed, cast_unsigned, to_be_bytes}
 use Rattle.std.specs.List.{AllByRecursion}

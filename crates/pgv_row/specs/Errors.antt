@@ -13,7 +13,8 @@ abbrev pub codec_error : {I : Type 0} → ColumnError I → CodecError
 codec_error (NotFound index place) = NoSuchField place
 codec_error (Decode index place source) = source
 
--- The outcome at the place of an index, or an error that names the index: there is no such column, or the outcome fails.
+-- The outcome at the place of an index, or an error that names the index: there is no such column, or the outcome
+-- fails.
 abbrev pub GivesAt : {I V M : Type 0} → (V → M) → I → Option ℕ → ℕ → (ℕ → Outcome M) → Result V (ColumnError I) → Type 0
 GivesAt view index (Some place) missing outcome (Ok v) = (outcome place).answer ≡ Ok (view v)
 GivesAt view index (Some place) missing outcome (Err (Decode i p source)) = (i ≡ index) × (p ≡ place) × Fails source (outcome place)

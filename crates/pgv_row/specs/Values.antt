@@ -1,6 +1,6 @@
--- What is read of a value of a row. Null is read whatever the type of its column is; any other value only where the column's type is
--- one that the values of the Rust type are read under, else it is C27. There is no value, C25, where the row has no such column. A
--- custom type is copied, and so may ask for memory.
+-- What is read of a value of a row. Null is read whatever the type of its column is; any other value only where the
+-- column's type is one that the values of the Rust type are read under, else it is C27. There is no value, C25, where
+-- the row has no such column. A custom type is copied, and so may ask for memory.
 use Rattle.std.specs.Prelude.{ℕ, Bool, ◌||◌, not, is_none}
 use Rattle.pgv_types.specs.Ty.{Ty}
 use Rattle.pgv_types.specs.Facts.{is_custom}

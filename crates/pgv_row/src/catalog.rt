@@ -45,8 +45,8 @@ fn has_oid(type_info: &PgTypeInfo, oid: Oid) -> bool
     }
 }
 
-/// The type of an OID: the built-in one, or else what the catalogue has, or else a type of which only the OID is known. Only the copy
-/// of a custom type may be refused (C1).
+/// The type of an OID: the built-in one, or else what the catalogue has, or else a type of which only the OID is known.
+/// Only the copy of a custom type may be refused (C1).
 #[tactic(auto, unfolding(crate::specs::Description::type_by))]
 pub fn type_of_oid<C: PgCatalog>(catalog: &C, oid: Oid) -> Result<PgTypeInfo, CodecError>
     ensures found { IfOk result (λ t. t ≡ type_by (C.known catalog.now) oid.0) }

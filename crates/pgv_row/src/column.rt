@@ -40,7 +40,8 @@ impl<'d> Model for PgColumn<'d> {
 }
 
 impl<'d> PgColumn<'d> {
-    /// The name of the column (PostgreSQL, "Message Formats", RowDescription: "The field name"), borrowed from the description.
+    /// The name of the column (PostgreSQL, "Message Formats", RowDescription: "The field name"), borrowed from the
+    /// description.
     pub fn name(&self) -> &'d str
         ensures { result.now ≡ self.now.name }
     {
@@ -54,7 +55,8 @@ impl<'d> PgColumn<'d> {
         self.table
     }
 
-    /// The attribute number of the column in its table (`pg_attribute.attnum`), from 1 on, where it is of one; otherwise 0.
+    /// The attribute number of the column in its table (`pg_attribute.attnum`), from 1 on, where it is of one;
+    /// otherwise 0.
     pub fn attribute(&self) -> i16
         ensures { result ≡ self.now.attribute }
     {
@@ -68,7 +70,8 @@ impl<'d> PgColumn<'d> {
         self.type_oid
     }
 
-    /// The column's data type: the built-in one of the OID, or else what the catalogue has of it, or else known by its OID alone.
+    /// The column's data type: the built-in one of the OID, or else what the catalogue has of it, or else known by its
+    /// OID alone.
     #[inline(always)]
     pub fn type_info(&self) -> &PgTypeInfo
         ensures { result.now ≡ self.now.type_info }
@@ -76,21 +79,24 @@ impl<'d> PgColumn<'d> {
         &self.type_info
     }
 
-    /// The data type size in bytes (`pg_type.typlen`): 4 for `int4`. A negative one is of a type of variable width, as -1 for `text`.
+    /// The data type size in bytes (`pg_type.typlen`): 4 for `int4`. A negative one is of a type of variable width, as
+    /// -1 for `text`.
     pub fn size(&self) -> i16
         ensures { result ≡ self.now.size }
     {
         self.size
     }
 
-    /// The type modifier (`pg_attribute.atttypmod`), whose meaning is the type's own, as 14 for `varchar(10)`; -1 where there is none.
+    /// The type modifier (`pg_attribute.atttypmod`), whose meaning is the type's own, as 14 for `varchar(10)`; -1 where
+    /// there is none.
     pub fn modifier(&self) -> i32
         ensures { result ≡ self.now.modifier }
     {
         self.modifier
     }
 
-    /// The format of the values: text (code 0) or binary (code 1). In a description that comes before Bind it is not known, and text.
+    /// The format of the values: text (code 0) or binary (code 1). In a description that comes before Bind it is not
+    /// known, and text.
     #[inline(always)]
     pub fn format(&self) -> PgValueFormat
         ensures { result ≡ self.now.format }
@@ -173,7 +179,8 @@ fn described<'d, C: PgCatalog>(
     Ok(list)
 }
 
-/// The columns of a statement's result, in order. Their names are borrowed from the description that they were read from.
+/// The columns of a statement's result, in order. Their names are borrowed from the description that they were read
+/// from.
 #[derive(Drop)]
 pub struct PgColumns<'d> {
     list: Vec<PgColumn<'d>>,
@@ -192,10 +199,11 @@ impl<'d> Model for PgColumns<'d> {
 }
 
 impl<'d> PgColumns<'d> {
-    /// The columns that the body of a RowDescription describes (PostgreSQL, "Message Formats", RowDescription). A type that isn't built in is looked up in the catalogue.
+    /// The columns that the body of a RowDescription describes (PostgreSQL, "Message Formats", RowDescription). A type
+    /// that isn't built in is looked up in the catalogue.
     ///
-    /// Bytes that end too early are refused with C15, a name that isn't UTF-8 with C14, another format than 0 and 1 with C30, and bytes
-    /// after the last column with C17.
+    /// Bytes that end too early are refused with C15, a name that isn't UTF-8 with C14, another format than 0 and 1
+    /// with C30, and bytes after the last column with C17.
     pub fn read<C: PgCatalog>(
         alloc: Global,
         body: &'d [u8],
@@ -246,7 +254,8 @@ impl<'d> PgColumns<'d> {
         index.index(self.list.as_slice())
     }
 
-    /// Says in which format all values are: that which was asked for in Bind. A description that comes before Bind says text.
+    /// Says in which format all values are: that which was asked for in Bind. A description that comes before Bind says
+    /// text.
     pub fn set_format(&mut self, format: PgValueFormat)
         ensures { self.new ≡ map (in_format format) self.old }
     {

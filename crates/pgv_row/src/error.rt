@@ -7,7 +7,8 @@ use pgv_value::CodecError;
 use std::fmt::Display;
 use thiserror::Error;
 
-/// Why a column was not read: it carries the place or the name that was asked for. The wording of its text is not part of the product.
+/// Why a column was not read: it carries the place or the name that was asked for. The wording of its text is not part
+/// of the product.
 #[derive(Debug, Drop, Error)]
 #[error_bound(I: Display)]
 pub enum ColumnError<I> {
@@ -26,7 +27,8 @@ pub enum ColumnError<I> {
         index: I,
         /// The column's place.
         place: usize,
-        /// Why it was refused: C1 where memory ran out, C27 where the column's type is not one that the Rust type is read under.
+        /// Why it was refused: C1 where memory ran out, C27 where the column's type is not one that the Rust type is
+        /// read under.
         source: CodecError,
     },
 }

@@ -44,7 +44,8 @@ impl ColumnIndex for usize {
     }
 }
 
-/// The first column of a name, as in libpq and in JDBC. The refusal of a name that no column has names the number of columns.
+/// The first column of a name, as in libpq and in JDBC. The refusal of a name that no column has names the number of
+/// columns.
 impl ColumnIndex for &str {
     ghost place = { λ name columns. place_named name.now columns };
 

@@ -3,12 +3,14 @@
 ghost use Rattle.pgv_row.specs.DataRow.{DataRowIsRead};
 ghost use Rattle.pgv_row.specs.Description.{DescriptionIsRead};
 
-/// The body of a DataRow is read as a row exactly where it is that row: the number of columns, a frame for each and nothing else.
+/// The body of a DataRow is read as a row exactly where it is that row: the number of columns, a frame for each and
+/// nothing else.
 pub fn data_row_is_read()
     ensures { DataRowIsRead }
 {}
 
-/// The body of a RowDescription is read as columns exactly where it is their number, for each its name and its numbers, and nothing else.
+/// The body of a RowDescription is read as columns exactly where it is their number, for each its name and its numbers,
+/// and nothing else.
 pub fn description_is_read()
     ensures { DescriptionIsRead }
 {}

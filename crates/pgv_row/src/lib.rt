@@ -1,4 +1,5 @@
-//! Rows of a statement's result, as a server sends them: the columns that a RowDescription describes, and the values of each DataRow.
+//! Rows of a statement's result, as a server sends them: the columns that a RowDescription describes, and the values of
+//! each DataRow.
 #![tactic(auto)]
 
 pub mod catalog;

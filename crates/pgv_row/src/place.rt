@@ -20,8 +20,8 @@ pub struct Place {
     pub end: usize,
 }
 
-/// That the number of columns in front is this one: C15 where no number is there, and C12 where it is another. The frames come after
-/// its two bytes.
+/// That the number of columns in front is this one: C15 where no number is there, and C12 where it is another. The
+/// frames come after its two bytes.
 #[inline(always)]
 #[tactic(auto, unfolding(crate::specs::DataRow::frames_front, pgv_value::specs::Fronts::u16_front))]
 fn check_count(bytes: &[u8], width: usize) -> Result<(), CodecError>
@@ -59,7 +59,8 @@ fn place_at(bytes: &[u8], at: usize) -> Result<(Option<Place>, usize), CodecErro
     }
 }
 
-/// Notes where the parts of as many frames stand, of which the first begins at `at`, and answers where the last one ends.
+/// Notes where the parts of as many frames stand, of which the first begins at `at`, and answers where the last one
+/// ends.
 fn note_places(
     places: &mut Vec<Option<Place>>,
     bytes: &[u8],

@@ -40,7 +40,8 @@ impl PgPlaces {
         }
     }
 
-    /// Room for as many places as there are columns, so that reading a row in it asks for no memory. C1 where that can't be had.
+    /// Room for as many places as there are columns, so that reading a row in it asks for no memory. C1 where that
+    /// can't be had.
     pub fn with_columns(alloc: Global, columns: &PgColumns<'_>) -> Result<PgPlaces, AllocError>
         ensures { IfOk result (λ room. length columns.now ≤ capacity room) }
     {
@@ -107,11 +108,13 @@ fn value_in<'a>(
 }
 
 impl<'a> PgRow<'a> {
-    /// The row that is the body of a DataRow (PostgreSQL, "Message Formats", DataRow), under these columns. It lasts until the next one
-    /// is read with the same room. `0002 00000001 37 ffffffff` is a row of two columns, `7` and null.
+    /// The row that is the body of a DataRow (PostgreSQL, "Message Formats", DataRow), under these columns. It lasts
+    /// until the next one is read with the same room. `0002 00000001 37 ffffffff` is a row of two columns, `7` and
+    /// null.
     ///
-    /// Another number of columns is refused with C12, bytes that end too early with C15, a negative length but the -1 of null with C16,
-    /// and bytes after the last column with C17. C1 comes only where the room has fewer places than there are columns.
+    /// Another number of columns is refused with C12, bytes that end too early with C15, a negative length but the -1
+    /// of null with C16, and bytes after the last column with C17. C1 comes only where the room has fewer places than
+    /// there are columns.
     #[inline(always)]
     pub fn read(
         columns: &'a PgColumns<'a>,
@@ -135,7 +138,8 @@ impl<'a> PgRow<'a> {
         })
     }
 
-    /// The same of a body that is shared: the values that are kept of the row ([`PgValueRef::to_owned`]) share its bytes.
+    /// The same of a body that is shared: the values that are kept of the row ([`PgValueRef::to_owned`]) share its
+    /// bytes.
     #[inline(always)]
     pub fn read_shared(
         columns: &'a PgColumns<'a>,
@@ -159,7 +163,8 @@ impl<'a> PgRow<'a> {
         })
     }
 
-    /// The row with bytes of its own, or with those that it shares, which outlives the message and the room. C1 where memory runs out.
+    /// The row with bytes of its own, or with those that it shares, which outlives the message and the room. C1 where
+    /// memory runs out.
     pub fn to_owned(&self, alloc: Global) -> Result<PgOwnedRow, CodecError>
         ensures same { IfOk result (λ row. row ≡ self.now.parts) }
         ensures memory { IfErr result (λ e. e ≡ Memory) }
@@ -291,8 +296,8 @@ impl<'a> PgRow<'a> {
     }
 
     /// The value of a column: what `T` reads of it. Null is read or refused by `T` whatever the column's type is, where
-    /// [`pgv_codec::PgRecordDecoder`] asks for the type of null too. Any other value is refused with C27 where `T` isn't read under the
-    /// column's type, and else with what `T` refuses it with.
+    /// [`pgv_codec::PgRecordDecoder`] asks for the type of null too. Any other value is refused with C27 where `T`
+    /// isn't read under the column's type, and else with what `T` refuses it with.
     #[inline(always)]
     pub fn try_get<T: Type + Decode, I: ColumnIndex>(
         &self,
@@ -338,8 +343,9 @@ impl<'a> PgRow<'a> {
         }
     }
 
-    /// The columns in order as the fields of a tuple of one to nine, each read as [`PgRow::try_get`] reads it. Further columns are
-    /// ignored, as in sqlx. The first column that is refused refuses the tuple, and the error names its place.
+    /// The columns in order as the fields of a tuple of one to nine, each read as [`PgRow::try_get`] reads it. Further
+    /// columns are ignored, as in sqlx. The first column that is refused refuses the tuple, and the error names its
+    /// place.
     pub fn as_tuple<T: FromRow>(&self, alloc: Global) -> Result<T, ColumnError<usize>>
         ensures read { Gives T.view (T.parse self.now) (or_codec result) }
         ensures first { IfErr result (T.refused self.now) }
@@ -371,7 +377,8 @@ impl Model for PgOwnedRow {
 }
 
 impl PgOwnedRow {
-    /// The row under its columns. Another number of columns is refused with C12. Values that are kept of it share its bytes.
+    /// The row under its columns. Another number of columns is refused with C12. Values that are kept of it share its
+    /// bytes.
     pub fn as_row<'a>(&'a self, columns: &'a PgColumns<'a>) -> Result<PgRow<'a>, CodecError>
         ensures row { IfOk result (λ row. row ≡ record
             { columns = columns.now; parts = self.now }) }

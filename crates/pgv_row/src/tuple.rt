@@ -31,8 +31,8 @@ pub trait FromRow: Sized + Drop {
         ensures first { IfErr result (refused row.now) };
 }
 
-/// Columns one after another, as nested pairs that end in a tuple of one: `(A, (B, (C,)))`. Every tuple is read through such a list, so
-/// that what is proved of one column and of the rest holds for tuples of any length.
+/// Columns one after another, as nested pairs that end in a tuple of one: `(A, (B, (C,)))`. Every tuple is read through
+/// such a list, so that what is proved of one column and of the rest holds for tuples of any length.
 pub trait ColumnList: Sized + Drop {
     /// What the values say.
     ghost View: { Type 0 };

@@ -1,6 +1,6 @@
-//! Rows of calls on a reader of COPY in pieces, of the columns int4 and text: `feed HEX => ok`; `advance => row`, `more`,
-//! `end` or a refusal; `row => BYTES,..` of the row that was read last, or `none`; and `cuts HEX => BYTES,..;..`, the rows
-//! of a stream, which have to be the same in whatever two pieces it comes.
+//! Rows of calls on a reader of COPY in pieces, of the columns int4 and text: `feed HEX => ok`; `advance => row`,
+//! `more`, `end` or a refusal; `row => BYTES,..` of the row that was read last, or `none`; and
+//! `cuts HEX => BYTES,..;..`, the rows of a stream, which have to be the same in whatever two pieces it comes.
 
 use pgv::{CodecError, PgCopyNext, PgCopyPieces, PgType, PgTypeInfo, PgValueRef};
 use pgv_called::{Again, Called, bytes_of, same, told};

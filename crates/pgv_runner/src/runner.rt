@@ -53,9 +53,9 @@ pub fn fault_text(fault: &RunFault) -> &'static str
     }
 }
 
-/// Reads lines to the end of the input, and writes one answer for each. The writer is flushed where the reader may have to wait, so
-/// that each answer is seen before the next line is asked for; at the end; and at a fault, so that what was answered before it is
-/// written.
+/// Reads lines to the end of the input, and writes one answer for each. The writer is flushed where the reader may have
+/// to wait, so that each answer is seen before the next line is asked for; at the end; and at a fault, so that what was
+/// answered before it is written.
 pub fn run<R: BufRead + MayWait, W: Write>(
     alloc: Global,
     reader: &mut R,

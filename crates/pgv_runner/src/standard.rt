@@ -9,8 +9,9 @@ use std::process::ExitCode;
 const USAGE: &str =
     "usage: pgvalue, with lines on standard input, as in: printf 'add int4 7\\nwire\\n' | pgvalue";
 
-/// Answers the lines of standard input on standard output, each before it waits for the next. A fault is named on standard error, and
-/// then the status is 1. With an argument nothing is read: the status is 2, and standard error says how the program is used.
+/// Answers the lines of standard input on standard output, each before it waits for the next. A fault is named on
+/// standard error, and then the status is 1. With an argument nothing is read: the status is 2, and standard error says
+/// how the program is used.
 pub fn serve(rt: &(impl AllocGlobal + Env + Input + Print + Eprint)) -> ExitCode {
     match serve_lines(rt) {
         Ok(true) => ExitCode::SUCCESS,

@@ -1,5 +1,6 @@
--- What a line asks for, computed: its words end at single spaces, and a text is all that stands after its space. That a line
--- spells what is computed, that each spelled line is found, and that a line asks for one thing only, are laws (Laws).
+-- What a line asks for, computed: its words end at single spaces, and a text is all that stands after its space. That a
+-- line spells what is computed, that each spelled line is found, and that a line asks for one thing only, are laws
+-- (Laws).
 use Rattle.std.specs.Prelude.{ℕ, ◌==◌, nat_lt, Bool, false, codes, bytes_eq, List, [], ◌∷◌, Option, Some, None, Result, Ok, Err, option_map, if◌then◌else◌}
 use Rattle.hex.specs.Hex.{decode_of}
 use Rattle.hex.specs.declared.error.FromHexError.{FromHexError}

@@ -1,12 +1,12 @@
--- A session of the program: what each line does to the arguments, and what it answers.
--- What a line asks for is answered from the arguments and changes them (`Answers`). `IsSession` relates the lines of an input
--- with the bytes of the answers. The lines of an input are those that it is put together of, each with its line feed, which the
--- last may lack (`AreLines`); `lines_of` computes them (law: `input_is_its_lines`).
--- A stream of COPY is answered by its rows, ` / ` between two, and each by its fields, a space between two: null is `null`, and
--- bytes are what `read` answers of them (`Copies`). Where there are no rows it is `none`. The first refusal is answered alone: of
--- the stream itself, or of the first field of a row that is not read or has no frame. A name that is not in the table is answered
--- before a byte is read.
--- Which number a refusal has is what the row of its TYPE says (`Types`): of what is not read, and of what is read and has no frame.
+-- A session of the program: what each line does to the arguments, and what it answers. What a line asks for is answered
+-- from the arguments and changes them (`Answers`). `IsSession` relates the lines of an input with the bytes of the
+-- answers. The lines of an input are those that it is put together of, each with its line feed, which the last may lack
+-- (`AreLines`); `lines_of` computes them (law: `input_is_its_lines`). A stream of COPY is answered by its rows, ` / `
+-- between two, and each by its fields, a space between two: null is `null`, and bytes are what `read` answers of them
+-- (`Copies`). Where there are no rows it is `none`. The first refusal is answered alone: of the stream itself, or of
+-- the first field of a row that is not read or has no frame. A name that is not in the table is answered before a byte
+-- is read. Which number a refusal has is what the row of its TYPE says (`Types`): of what is not read, and of what is
+-- read and has no frame.
 use Rattle.std.specs.Prelude.{◌≡◌, ◌≢◌, ℕ, ◌≤◌, ◌==◌, Bool, true, false, codes, decimal, List, [], ◌∷◌, ◌++◌, map, length, Option, Some, None, IfSome, option_map, Ok, Err, zip, if◌then◌else◌}
 use Rattle.std.specs.List.{AllByRecursion}
 use Rattle.hex.specs.Hex.{encode_lower}

@@ -2,12 +2,13 @@
 -- - `add TYPE TEXT`: the word, a space, the type's name, a space, and a text of any bytes, perhaps none.
 -- - `null TYPE`: the word, a space and the type's name.
 -- - `holes` and `wire`: that word and nothing else.
--- - `resolve OID ..`: the word, and for each OID a space and a numeral: one decimal digit or more, without a sign, whose value
---   is the OID and at most 4294967295.
--- - `read TYPE HEX`: the word, a space, the type's name, a space, and `null` or two hex digits of either case for each byte.
--- - `copy HEX TYPE ..`: the word, a space, two hex digits for each byte, and for each column a space and the name of its type;
---   there is at least one.
--- A name is bytes without a space. A line asks for the request that it spells, and for nothing where it spells none (`Asks`).
+-- - `resolve OID ..`: the word, and for each OID a space and a numeral: one decimal digit or more, without a sign,
+--   whose value is the OID and at most 4294967295.
+-- - `read TYPE HEX`: the word, a space, the type's name, a space, and `null` or two hex digits of either case for each
+--   byte.
+-- - `copy HEX TYPE ..`: the word, a space, two hex digits for each byte, and for each column a space and the name of
+--   its type; there is at least one. A name is bytes without a space. A line asks for the request that it spells, and
+--   for nothing where it spells none (`Asks`).
 use Rattle.std.specs.Prelude.{◌≡◌, ◌≢◌, ◌≤◌, ◌<◌, ◌+◌, ℕ, codes, List, [], ◌∷◌, ◌++◌, map, length, Option, Some, None}
 use Rattle.std.specs.List.{AllByRecursion}
 use Rattle.std.specs.Int.Digits.{number_from_digits}

@@ -43,14 +43,14 @@ abbrev pub framed_by : {M : Type 0} → Ty → (Ty → M → Encoding) → Optio
 framed_by info written None = None
 framed_by info written (Some m) = framed_as info (written info m)
 
--- which refusal is answered of it: where nothing was read, what the type says of what it was given, and else what its frame is
--- refused with
+-- which refusal is answered of it: where nothing was read, what the type says of what it was given, and else what its
+-- frame is refused with
 abbrev pub refused_by : {M : Type 0} → Ty → (Ty → M → Encoding) → Option CodecError → Option M → Option CodecError
 refused_by info written unread None = unread
 refused_by info written unread (Some m) = why_of (frame (written info m)).answer
 
--- a TYPE: its type, what is added of the value that a text or bytes are under it, and where there is none, which refusal is
--- answered, if the type states it
+-- a TYPE: its type, what is added of the value that a text or bytes are under it, and where there is none, which
+-- refusal is answered, if the type states it
 pub record Row : Type 0 where
   pub info : Ty
   pub value : PgValueFormat → Option (List ℕ) → Option Framed

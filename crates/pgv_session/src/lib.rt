@@ -1,5 +1,5 @@
-//! Sessions over the codec, line by line: what each line asks for is answered by what the codec writes and reads ([`answer`]). The module
-//! [`laws`] says what lines and inputs are.
+//! Sessions over the codec, line by line: what each line asks for is answered by what the codec writes and reads
+//! ([`answer`]). The module [`laws`] says what lines and inputs are.
 #![tactic(auto)]
 
 mod copied;

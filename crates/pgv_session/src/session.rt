@@ -45,7 +45,8 @@ fn respond_to(
     }
 }
 
-/// Fills the holes. Each argument's parameter type is its own. The number of OIDs is tested before the types are copied.
+/// Fills the holes. Each argument's parameter type is its own. The number of OIDs is tested before the types are
+/// copied.
 fn resolve(alloc: Global, arguments: &mut PgArguments, oids: &[Oid]) -> Result<String, AllocError>
     ensures { IfOk result (λ answer. Resolves
         (length oids.now == hole_count (all_tokens arguments.old)) oids.now arguments.old

@@ -78,8 +78,8 @@ impl MayWait for FailingReader<'_> {
     }
 }
 
-/// A writer that fails at a call, `flush` among them, and compares what is written with the answers. It holds what was written since
-/// the last `flush`.
+/// A writer that fails at a call, `flush` among them, and compares what is written with the answers. It holds what was
+/// written since the last `flush`.
 #[derive(Drop)]
 struct FailingWriter {
     answers: &'static [u8],
@@ -135,8 +135,8 @@ fn wanted(met: bool, fault: RunFault) -> Result<(), RunFault> {
     if met { Err(fault) } else { Ok(()) }
 }
 
-/// Whether `run` answers the fault exactly where its reader fails, after a beginning of the answers of which the writer holds nothing
-/// back; and whether it does.
+/// Whether `run` answers the fault exactly where its reader fails, after a beginning of the answers of which the writer
+/// holds nothing back; and whether it does.
 fn read_failing(alloc: Global, calls: u32, kind: ErrorKind, fault: RunFault) -> (bool, bool) {
     let mut reader = reader(calls, kind);
     let mut writer = writer(u32::MAX);

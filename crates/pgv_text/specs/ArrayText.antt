@@ -1,7 +1,6 @@
--- The text of an array of one dimension (PostgreSQL: "Array Input and Output Syntax", 8.15.6): `{`, elements separated by `,`,
--- `}`.
--- An element is a list of pieces. Plain is all but `"`, `\`, `,`, `{` and `}`; quotes are not doubled. An element is null
--- exactly where it is the four plain pieces NULL. Nothing at all between the braces is no element.
+-- The text of an array of one dimension (PostgreSQL: "Array Input and Output Syntax", 8.15.6): `{`, elements separated
+-- by `,`, `}`. An element is a list of pieces. Plain is all but `"`, `\`, `,`, `{` and `}`; quotes are not doubled. An
+-- element is null exactly where it is the four plain pieces NULL. Nothing at all between the braces is no element.
 use Rattle.std.specs.Prelude.{ℕ, false, ◌==◌, List, [], ◌∷◌, Option}
 use Rattle.pgv_text.specs.NestText.{Piece, plain, Form, any, IsNestText}
 

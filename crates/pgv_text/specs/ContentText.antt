@@ -1,8 +1,8 @@
--- What a text is of: the parts of a nest, or the empty range (PostgreSQL: "Range Types", 8.17.5).
--- The empty range is `empty`, each letter in upper or lower case, and nothing beside it (`IsEmptyText`). A range text is of the
--- empty range or of the two bounds of a nest (`RangeContent`, `IsRangeOf`). An array or a record text is of a nest alone
--- (`Content`, `IsTextOf`).
--- Laws: what is computed is exactly this (`range_is_computed`), and no text is of two ranges (`one_range`).
+-- What a text is of: the parts of a nest, or the empty range (PostgreSQL: "Range Types", 8.17.5). The empty range is
+-- `empty`, each letter in upper or lower case, and nothing beside it (`IsEmptyText`). A range text is of the empty
+-- range or of the two bounds of a nest (`RangeContent`, `IsRangeOf`). An array or a record text is of a nest alone
+-- (`Content`, `IsTextOf`). Laws: what is computed is exactly this (`range_is_computed`), and no text is of two ranges
+-- (`one_range`).
 use Rattle.std.specs.Prelude.{◌≡◌, ℕ, Bool, false, List, [], Option, Some, codes, if◌then◌else◌}
 use Rattle.std.specs.Option.{option_map}
 use Rattle.std.specs.Str.{str_eq_ignore_ascii_case, str_to_ascii_lowercase}

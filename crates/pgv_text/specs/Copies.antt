@@ -1,4 +1,5 @@
--- Which parts of a text are copied when they are read: each that doesn't stand in the text as it is, alone or in quotes.
+-- Which parts of a text are copied when they are read: each that doesn't stand in the text as it is, alone or in
+-- quotes.
 use Rattle.std.specs.Prelude.{◌≡◌, ℕ, Bool, true, false, not, ◌&&◌, ◌||◌, ◌==◌, cond, is_some, List, [], ◌∷◌, Option, Some, None}
 use Rattle.std.specs.Str.{IsUtf8, chars}
 use Rattle.pgv_text.specs.declared.scanner.Class.{Class}

@@ -1,14 +1,15 @@
--- The texts of dates, times of day, offsets and what is made of them (PostgreSQL: "Date/Time Output", 8.5.2; "Time Zones",
--- 8.5.3). A date, a time and the others are what jiff says of them: those that exist, and no others.
--- - A date (`IsDateText`) is four digits, `-`, two, `-`, two: its year, month and day. The day exists, and the year 0000 is
---   one.
--- - A time (`IsTimeText`) is two digits each of hour, minute and second, joined by `:`, and perhaps `.` and one to six digits,
---   as a clock shows it; or exactly `24:00:00`, which is midnight.
--- - An offset (`IsOffsetText`) is `+` for east of UTC or `-` for west, two digits below 24, and perhaps `:` and two digits
---   below 60, and after these perhaps once more.
--- - A date-time (`IsDateTimeText`) is a date, a space, a time that is not `24:00:00`, and perhaps an offset with `+`, which
---   says nothing.
--- - An instant (`IsInstantText`) is the same with an offset of either sign, which is taken off. It is an instant of jiff.
+-- The texts of dates, times of day, offsets and what is made of them (PostgreSQL: "Date/Time Output", 8.5.2; "Time
+-- Zones", 8.5.3). A date, a time and the others are what jiff says of them: those that exist, and no others.
+-- - A date (`IsDateText`) is four digits, `-`, two, `-`, two: its year, month and day. The day exists, and the year
+--   0000 is one.
+-- - A time (`IsTimeText`) is two digits each of hour, minute and second, joined by `:`, and perhaps `.` and one to six
+--   digits, as a clock shows it; or exactly `24:00:00`, which is midnight.
+-- - An offset (`IsOffsetText`) is `+` for east of UTC or `-` for west, two digits below 24, and perhaps `:` and two
+--   digits below 60, and after these perhaps once more.
+-- - A date-time (`IsDateTimeText`) is a date, a space, a time that is not `24:00:00`, and perhaps an offset with `+`,
+--   which says nothing.
+-- - An instant (`IsInstantText`) is the same with an offset of either sign, which is taken off. It is an instant of
+--   jiff.
 -- - A time with its offset (`IsTimeTzText`) is a time and an offset.
 -- Numbers are computed from them: a date's day from 1970-01-01, a time's nanoseconds, nanoseconds from 1970 of a
 -- date-time and of an instant, seconds of an offset. Laws: the number is computed exactly where the text is a value

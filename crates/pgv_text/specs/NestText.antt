@@ -1,14 +1,14 @@
--- Pieces of the texts of nests, and what they mean (PostgreSQL: "Array Input and Output Syntax", 8.15.6; "Composite Type Input
--- and Output Syntax", 8.16.6). Characters are their codes.
--- A plain piece is one character that the form allows. An escaped piece is `\` and any one character, which it means. A quoted
--- piece is `"`, inner items, `"`. An inner item is a character other than `"` and `\`, or `\` and a character, or, in ranges
--- and records, `""`, which means one quote. A list of pieces has one spelling and one text, both joined.
--- A nest text of a form (`IsNestText`) is an opening bracket, parts separated by `,`, and a closing bracket. A part is a list
--- of pieces. Plain is all but `"`, `\`, `,` and the form's brackets. Where quotes are doubled, no quoted piece directly follows
--- another. A form has one list of pieces that is null or absent (`nothing`), and says how many parts there may be. A nest is
--- the values of the parts and whether each bracket is square.
--- Laws: no text is of two nests (`one_nest`). Each list that is long enough has a text, with any brackets of the form
--- (`every_list_has_a_text`), and it reads back in each usual spelling (`spelled_reads_back`).
+-- Pieces of the texts of nests, and what they mean (PostgreSQL: "Array Input and Output Syntax", 8.15.6; "Composite
+-- Type Input and Output Syntax", 8.16.6). Characters are their codes. A plain piece is one character that the form
+-- allows. An escaped piece is `\` and any one character, which it means. A quoted piece is `"`, inner items, `"`. An
+-- inner item is a character other than `"` and `\`, or `\` and a character, or, in ranges and records, `""`, which
+-- means one quote. A list of pieces has one spelling and one text, both joined. A nest text of a form (`IsNestText`) is
+-- an opening bracket, parts separated by `,`, and a closing bracket. A part is a list of pieces. Plain is all but `"`,
+-- `\`, `,` and the form's brackets. Where quotes are doubled, no quoted piece directly follows another. A form has one
+-- list of pieces that is null or absent (`nothing`), and says how many parts there may be. A nest is the values of the
+-- parts and whether each bracket is square. Laws: no text is of two nests (`one_nest`). Each list that is long enough
+-- has a text, with any brackets of the form (`every_list_has_a_text`), and it reads back in each usual spelling
+-- (`spelled_reads_back`).
 use Rattle.std.specs.Prelude.{◌≡◌, ◌≢◌, ℕ, Bool, true, List, [], ◌∷◌, ◌++◌, length, map, Option, Some, None, not, ◌||◌, ◌==◌}
 use Rattle.std.specs.List.{flat_map, AllByRecursion}
 use Rattle.std.specs.Str.{encode_utf8_all}

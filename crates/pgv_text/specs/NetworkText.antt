@@ -1,8 +1,8 @@
--- What contracts see of a network, and its texts (PostgreSQL: "Network Address Types", 8.9; RFC 4291, section 2.2).
--- The text of an address is what std's `parse` reads as one. The text of a network (`IsNetworkText`) is an address, and perhaps
--- `/` and a decimal number without leading zeros that is at most the number of the address's bits; without it, it is that
--- number of bits. A network is seen as its address and that number (`network_of`).
--- Laws: what is computed is exactly this (`network_is_its_value`), and no text is two networks (`one_network`).
+-- What contracts see of a network, and its texts (PostgreSQL: "Network Address Types", 8.9; RFC 4291, section 2.2). The
+-- text of an address is what std's `parse` reads as one. The text of a network (`IsNetworkText`) is an address, and
+-- perhaps `/` and a decimal number without leading zeros that is at most the number of the address's bits; without it,
+-- it is that number of bits. A network is seen as its address and that number (`network_of`). Laws: what is computed is
+-- exactly this (`network_is_its_value`), and no text is two networks (`one_network`).
 use Rattle.std.specs.Prelude.{◌≡◌, ℕ, Bool, true, false, nat_le, ◌==◌, if◌then◌else◌, List, ◌++◌, length, Option, Some, None, option_map}
 use Rattle.std.specs.List.{position_or_len, before_first, after_first}
 use Rattle.std.specs.Net.Grammar.{IsIpText}

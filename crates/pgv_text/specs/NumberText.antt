@@ -1,5 +1,5 @@
--- The texts of whole numbers (PostgreSQL: "Numeric Types", 8.1.1; "Object Identifier Types", 8.19): an optional sign and one or
--- more digits (`IsNumber`). For an OID the sign may only be `+` (`IsUnsignedNumber`).
+-- The texts of whole numbers (PostgreSQL: "Numeric Types", 8.1.1; "Object Identifier Types", 8.19): an optional sign
+-- and one or more digits (`IsNumber`). For an OID the sign may only be `+` (`IsUnsignedNumber`).
 use mir.Syntax.{w64}
 use Rattle.pgv_text.specs.declared.number.NumberFault.{NumberFault}
 use Rattle.pgv_text.specs.declared.number.NumberFault.TheVariants.{Syntax, OutOfRange}

@@ -1,6 +1,6 @@
--- The text of a range (PostgreSQL: "Range Types", 8.17.5): `[` or `(`, two bounds separated by `,`, `]` or `)`.
--- A square bracket includes its bound. Pieces are as in records, but all four brackets are excluded from plain. A bound without
--- pieces is unbounded.
+-- The text of a range (PostgreSQL: "Range Types", 8.17.5): `[` or `(`, two bounds separated by `,`, `]` or `)`. A
+-- square bracket includes its bound. Pieces are as in records, but all four brackets are excluded from plain. A bound
+-- without pieces is unbounded.
 use Rattle.std.specs.Prelude.{ℕ, Bool, true, ◌==◌, ◌||◌, List, [], ◌∷◌, Option}
 use Rattle.pgv_text.specs.NestText.{Form, two, IsNestText}
 

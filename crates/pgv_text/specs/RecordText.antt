@@ -1,6 +1,6 @@
--- The text of a record (PostgreSQL: "Composite Type Input and Output Syntax", 8.16.6): `(`, fields separated by `,`, `)`.
--- Plain is all but `"`, `\`, `,`, `(` and `)`. Quotes are doubled, and no quoted piece directly follows another. A field
--- without pieces is null; `()` has one null field.
+-- The text of a record (PostgreSQL: "Composite Type Input and Output Syntax", 8.16.6): `(`, fields separated by `,`,
+-- `)`. Plain is all but `"`, `\`, `,`, `(` and `)`. Quotes are doubled, and no quoted piece directly follows another. A
+-- field without pieces is null; `()` has one null field.
 use Rattle.std.specs.Prelude.{ℕ, true, false, ◌==◌, List, [], Option}
 use Rattle.pgv_text.specs.NestText.{Form, some, IsNestText}
 

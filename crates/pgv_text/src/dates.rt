@@ -179,7 +179,8 @@ pub fn date_time(text: &str) -> Option<DateTime>
     whole_date_time(text.as_bytes())
 }
 
-/// The instant of a text: a date, a space, a time, which is never `24:00:00`, and the offset of the clock that shows them.
+/// The instant of a text: a date, a space, a time, which is never `24:00:00`, and the offset of the clock that shows
+/// them.
 pub fn instant(text: &str) -> Option<Timestamp>
     // The instant that the text denotes, or that it denotes none.
     ensures reads { IsValueOf IsInstantText text.now result }

@@ -51,8 +51,8 @@ pub(crate) fn four(text: &[u8]) -> Option<(u16, &[u8])>
     Some((high as u16 * 100 + low as u16, text))
 }
 
-/// What the digits at the front are worth, the first of them this unit and each other a tenth of the one before it, down
-/// to 1.
+/// What the digits at the front are worth, the first of them this unit and each other a tenth of the one before it,
+/// down to 1.
 fn worth(text: &[u8], unit: u32) -> (u32, &[u8])
     requires { unit ≤ 100_000 }
     ensures value { (result.0, result.1.now) ≡ spec.worth unit text.now }

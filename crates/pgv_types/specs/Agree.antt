@@ -1,7 +1,7 @@
--- When two names agree: as identifiers do, which are folded to lower case outside quotes and kept inside (PostgreSQL, "Lexical
--- Structure", "Identifiers and Key Words", 4.1.1).
--- Where either name begins with `U&`, they agree if they are equal. Else their lists of significant characters have one length
--- and agree place by place: two characters are equal, or, where neither is sensitive, equal but for ASCII case.
+-- When two names agree: as identifiers do, which are folded to lower case outside quotes and kept inside (PostgreSQL,
+-- "Lexical Structure", "Identifiers and Key Words", 4.1.1). Where either name begins with `U&`, they agree if they are
+-- equal. Else their lists of significant characters have one length and agree place by place: two characters are equal,
+-- or, where neither is sensitive, equal but for ASCII case.
 use Rattle.std.specs.Prelude.{◌≡◌, ◌⊎◌, ℕ, ◌==◌, ◌&&◌, ◌||◌, Bool, false, cond, List, [], ◌∷◌}
 use Rattle.std.specs.Str.{chars, bytes_eq}
 use Rattle.pgv_types.specs.declared.name.IdentifierChar.{IdentifierChar}

@@ -1,11 +1,11 @@
--- Facts of types, by cases: OIDs, elements, kinds, names and sizes (PostgreSQL, "System Catalogs", "pg_type"; "CREATE TYPE" on
--- the _ before the name of an array).
--- - The base OID is that of a built-in; a custom type's own, but for a custom domain the `oid` of the type directly under it; a
---   declared OID; else none. The `oid` is the same without the rule on domains.
--- - The element is a built-in array's and a custom array's; the name after the `_` of a declared name that begins with `_`; the
---   name of an array of a name; else none.
--- - A built-in has a catalogue name and a display name. A custom type and a declared name have that name. A declared OID has
---   the name `?`. An array of a name has the name and `[]`.
+-- Facts of types, by cases: OIDs, elements, kinds, names and sizes (PostgreSQL, "System Catalogs", "pg_type"; "CREATE
+-- TYPE" on the _ before the name of an array).
+-- - The base OID is that of a built-in; a custom type's own, but for a custom domain the `oid` of the type directly
+--   under it; a declared OID; else none. The `oid` is the same without the rule on domains.
+-- - The element is a built-in array's and a custom array's; the name after the `_` of a declared name that begins with
+--   `_`; the name of an array of a name; else none.
+-- - A built-in has a catalogue name and a display name. A custom type and a declared name have that name. A declared
+--   OID has the name `?`. An array of a name has the name and `[]`.
 -- - The size falls with each step to an element or to a domain's base.
 use Rattle.std.specs.Prelude.{◌≡◌, ℕ, ◌+◌, ◌^◌, ◌==◌, ◌||◌, ltb, Bool, true, false, cond, Option, Some, None, List, [], ◌∷◌, ◌++◌, codes, option_map}
 use Rattle.pgv_types.specs.Suffix.{suffix_of}

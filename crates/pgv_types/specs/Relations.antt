@@ -1,8 +1,7 @@
--- When two types are softly or exactly the same: by their OIDs, by a domain's base (PostgreSQL, "Domain Types"), by their
--- elements, and last by their names.
--- Softly, the first rule that applies decides. Two base OIDs: whether they are equal. One side is declared by its OID: yes. Two
--- elements: whether these are softly the same. Else: whether the catalogue names agree. Exactly is the same without the second
--- rule, and elements are compared exactly.
+-- When two types are softly or exactly the same: by their OIDs, by a domain's base (PostgreSQL, "Domain Types"), by
+-- their elements, and last by their names. Softly, the first rule that applies decides. Two base OIDs: whether they are
+-- equal. One side is declared by its OID: yes. Two elements: whether these are softly the same. Else: whether the
+-- catalogue names agree. Exactly is the same without the second rule, and elements are compared exactly.
 use Rattle.std.specs.Prelude.{ℕ, ◌==◌, ◌&&◌, ◌||◌, Bool, true, false, cond, Option, Some, None, List, [], ◌∷◌}
 use Rattle.pgv_types.specs.Agree.{agree}
 use Rattle.pgv_types.specs.Ty.{Ty, builtin, custom, named, by_oid, array_of, Kind, simple, pseudo, domain, composite, array, enumeration, range}

@@ -108,7 +108,8 @@ impl PgTypeInfo {
     }
 }
 
-/// Whether two elements are softly, or else exactly, the same. It takes no more of the stack for elements within elements.
+/// Whether two elements are softly, or else exactly, the same. It takes no more of the stack for elements within
+/// elements.
 fn elements_related(first: PgTypeRef<'_>, second: PgTypeRef<'_>, soft: bool) -> bool
     requires first { IsHeld first }
     requires second { IsHeld second }

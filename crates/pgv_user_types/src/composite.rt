@@ -33,7 +33,8 @@ pub trait Composite: Sized + Drop {
     fn name() -> &'static str
         ensures { result.now ≡ name };
 
-    /// Writes the fields, by [`encode_record`](pgv_codec::encode_record): `encode_record(&(&self.id, (&self.path,)), out)`.
+    /// Writes the fields, by [`encode_record`](pgv_codec::encode_record):
+    /// `encode_record(&(&self.id, (&self.path,)), out)`.
     fn encode_fields(&self, out: &mut PgArgumentBuffer) -> Result<IsNull, CodecError>
         ensures encodes { Encodes (record_image (Self.Fields.fields (fields_of self.now)))
             out.old out.new result }
@@ -45,8 +46,9 @@ pub trait Composite: Sized + Drop {
 }
 
 /// A value of a composite, written and read as a record of its fields. The `int4` 7 and the `text` `a` are
-/// `00000002 00000017 00000004 00000007 00000019 00000001 61`. It is read under the composite's type, where this names its fields, and
-/// under `record`; a type of which only the name is known is refused with [`NotARecord`](CodecError::NotARecord).
+/// `00000002 00000017 00000004 00000007 00000019 00000001 61`. It is read under the composite's type, where this names
+/// its fields, and under `record`; a type of which only the name is known is refused with
+/// [`NotARecord`](CodecError::NotARecord).
 #[derive(Clone, Copy, Debug, PartialEq, Eq)]
 pub struct PgComposite<T>(pub T);
 
@@ -105,7 +107,8 @@ impl<T: Composite> Encode for PgComposite<T> {
     }
 }
 
-/// Read, and refused, as the first fields of a record, under each type that names a field for each; further fields are ignored.
+/// Read, and refused, as the first fields of a record, under each type that names a field for each; further fields are
+/// ignored.
 impl<T: Composite> Decode for PgComposite<T> {
     ghost use Rattle.std.specs.Prelude.{refl};
     ghost use Rattle.pgv_codec.specs.Encoding.{plainly, record_image};

@@ -18,12 +18,13 @@ pub trait Domain: Newtype {
         ensures { result.now ≡ name };
 }
 
-/// A value of a domain, written and read as what it holds, and sent as the domain: one over `text` that holds `a` is `61`.
+/// A value of a domain, written and read as what it holds, and sent as the domain: one over `text` that holds `a` is
+/// `61`.
 #[derive(Clone, Copy, Debug, PartialEq, Eq)]
 pub struct PgDomain<T>(pub T);
 
-/// The type of this name. A value is read under it, and under what it holds is read under: that is the type that the server
-/// describes a column of a domain by.
+/// The type of this name. A value is read under it, and under what it holds is read under: that is the type that the
+/// server describes a column of a domain by.
 impl<T: Domain> Type for PgDomain<T>
 where
     T::Base: Type,

@@ -38,7 +38,8 @@ pub trait Labelled: Sized + Drop {
         ensures { result ≡ labelled labels label.now };
 }
 
-/// A value of an enum, written and read as its label, which is the same in both formats: one with the label `ok` is `6f6b`.
+/// A value of an enum, written and read as its label, which is the same in both formats: one with the label `ok` is
+/// `6f6b`.
 #[derive(Clone, Copy, Debug, PartialEq, Eq)]
 pub struct PgEnum<T>(pub T);
 
@@ -97,8 +98,8 @@ impl<T: Labelled> Encode for PgEnum<T> {
     }
 }
 
-/// Read by its label, which is the same in both formats, and read back under every type. A text that is no label is refused with
-/// [`Syntax`](CodecError::Syntax) (C29), and null with C13. No memory is asked for.
+/// Read by its label, which is the same in both formats, and read back under every type. A text that is no label is
+/// refused with [`Syntax`](CodecError::Syntax) (C29), and null with C13. No memory is asked for.
 impl<T: Labelled> Plain for PgEnum<T> {
     ghost use Rattle.std.specs.Prelude.{refl};
     ghost use Rattle.pgv_value.specs.Outcome.{without_memory};

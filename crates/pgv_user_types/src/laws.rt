@@ -1,5 +1,5 @@
-//! What a value of each of these types is, as the table of types has it, by what a caller's type states. Each is the contract of a
-//! function that does nothing.
+//! What a value of each of these types is, as the table of types has it, by what a caller's type states. Each is the
+//! contract of a function that does nothing.
 
 ghost use Rattle.std.specs.Prelude.{◌||◌};
 ghost use Rattle.pgv_types.specs.Relations.{softly};
@@ -59,7 +59,8 @@ where
     ensures read { IsReadAs ⟦<PgNewtype<T> as Decode>⟧ (λ v. T.Base.view (T.base v.0)) T.Base.parse }
 {}
 
-/// A `PgDomain<T>` is the type of this name, read under what it holds is read under too, and is written and read as what it holds.
+/// A `PgDomain<T>` is the type of this name, read under what it holds is read under too, and is written and read as
+/// what it holds.
 pub fn domain_is_its_base<T: Domain>()
 where
     T::Base: Type,

@@ -1,6 +1,6 @@
-//! User-defined types of PostgreSQL by little code: an enum by its labels, a composite by its fields, a newtype or a domain by what it
-//! holds, and a record of any fields. Each but the last is a wrapper over a trait that a caller's type states once; `Type`,
-//! `PgHasArrayType`, `Encode`, `Decode`, `ReadBack` and `Codec` follow.
+//! User-defined types of PostgreSQL by little code: an enum by its labels, a composite by its fields, a newtype or a
+//! domain by what it holds, and a record of any fields. Each but the last is a wrapper over a trait that a caller's
+//! type states once; `Type`, `PgHasArrayType`, `Encode`, `Decode`, `ReadBack` and `Codec` follow.
 #![tactic(auto)]
 
 pub mod composite;

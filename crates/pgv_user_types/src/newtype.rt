@@ -7,8 +7,8 @@ use pgv_types::PgTypeInfo;
 use pgv_value::{CodecError, PgValueRef};
 use std::alloc::{AllocError, Global};
 
-/// A Rust type that holds one value of another, as `struct UserId(i32)` or `struct Tags(Vec<String>)` does, and is that type on the
-/// server.
+/// A Rust type that holds one value of another, as `struct UserId(i32)` or `struct Tags(Vec<String>)` does, and is that
+/// type on the server.
 pub trait Newtype: Sized + Drop {
     /// The type that it holds.
     type Base: ReadBack;

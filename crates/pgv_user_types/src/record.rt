@@ -8,8 +8,8 @@ use pgv_types::{PgType, PgTypeInfo};
 use pgv_value::{CodecError, PgValueRef};
 use std::alloc::{AllocError, Global};
 
-/// Values of any types as one `record`, in nested pairs that end in a tuple of one: `PgRecord((7, ("a",)))`. A tuple of Rust is read as
-/// a record, and this is written too: as `00000002 00000017 00000004 00000007 00000019 00000001 61`.
+/// Values of any types as one `record`, in nested pairs that end in a tuple of one: `PgRecord((7, ("a",)))`. A tuple of
+/// Rust is read as a record, and this is written too: as `00000002 00000017 00000004 00000007 00000019 00000001 61`.
 #[derive(Clone, Copy, Debug, PartialEq, Eq)]
 pub struct PgRecord<Fields>(pub Fields);
 
@@ -68,7 +68,8 @@ impl<Fields: WrittenList> Encode for PgRecord<Fields> {
     }
 }
 
-/// Read, and refused, as the first fields of a record, under each type that names a field for each; further fields are ignored.
+/// Read, and refused, as the first fields of a record, under each type that names a field for each; further fields are
+/// ignored.
 impl<Fields: FieldList> Decode for PgRecord<Fields> {
     ghost use Rattle.std.specs.Prelude.{refl};
     ghost use Rattle.pgv_codec.specs.Encoding.{plainly, record_image};

@@ -1,8 +1,8 @@
--- What dates, times, date-times and instants read (PostgreSQL: "Date/Time Types", 8.5). A date is seen as its day number from
--- 1970-01-01, a time as its nanoseconds, and a date-time and an instant as their nanoseconds from 1970.
--- One to eight bytes, sign extended, are days from 2000-01-01 of a date, within four bytes; microseconds of the day of a time,
--- taken round the clock; microseconds from 2000-01-01 00:00 of a date-time, and of an instant in UTC. Outside the dates,
--- date-times and instants of jiff they are C30.
+-- What dates, times, date-times and instants read (PostgreSQL: "Date/Time Types", 8.5). A date is seen as its day
+-- number from 1970-01-01, a time as its nanoseconds, and a date-time and an instant as their nanoseconds from 1970. One
+-- to eight bytes, sign extended, are days from 2000-01-01 of a date, within four bytes; microseconds of the day of a
+-- time, taken round the clock; microseconds from 2000-01-01 00:00 of a date-time, and of an instant in UTC. Outside the
+-- dates, date-times and instants of jiff they are C30.
 use mir.Syntax.{w32}
 use Rattle.std.specs.Prelude.{ℕ, ◌*◌, ◌&&◌, if◌then◌else◌, ℤ, pos, neg_ℤ, ◌+ℤ◌, ◌*ℤ◌, int_le, unsigned_abs, Option, Some, None, Ok, ok_or}
 use Rattle.std.specs.Int.{int_rem_euclid}

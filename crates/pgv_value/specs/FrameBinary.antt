@@ -1,7 +1,6 @@
--- Frames (PostgreSQL: "Message Formats", DataRow): a signed length of four bytes, the highest first, and that many bytes; the
--- length -1 (`ffffffff`) is null.
--- A frame at the front (`IsFrame`, `front`) is null and the rest; or a length that is not negative, that many bytes, and the
--- rest.
+-- Frames (PostgreSQL: "Message Formats", DataRow): a signed length of four bytes, the highest first, and that many
+-- bytes; the length -1 (`ffffffff`) is null. A frame at the front (`IsFrame`, `front`) is null and the rest; or a
+-- length that is not negative, that many bytes, and the rest.
 use Rattle.std.specs.Prelude.{◌≡◌, ℕ, ◌<◌, ◌^◌, nat_lt, nat_eq, List, ◌∷◌, ◌++◌, flat_map, length, take, drop, Option, Some, None, ⊤, if◌then◌else◌}
 use Rattle.std.specs.Int.{w16, w32, from_be_bytes, to_be_bytes, cast_signed}
 use Rattle.pgv_value.specs.declared.error.CodecError.{CodecError}

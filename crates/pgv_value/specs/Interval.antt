@@ -20,7 +20,8 @@ use Rattle.pgv_value.specs.declared.error.CodecError.TheVariants.{IntervalPrecis
 abbrev pub of_microseconds : ℤ → PgInterval
 of_microseconds m = record { months = pos 0; days = pos 0; microseconds = m }
 
--- the interval of a number of nanoseconds: C4 where they aren't whole microseconds, C5 where 64 bits have no such number of these
+-- the interval of a number of nanoseconds: C4 where they aren't whole microseconds, C5 where 64 bits have no such
+-- number of these
 abbrev pub interval_of : ℤ → Result PgInterval CodecError
 interval_of nanos =
     if int_eq (int_rem nanos (pos 1000)) (pos 0) then

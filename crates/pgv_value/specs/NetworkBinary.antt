@@ -1,6 +1,6 @@
--- What networks and addresses read (PostgreSQL: "Network Address Types", 8.9).
--- A network is the family (2 or 3), the prefix, a byte that says nothing, 4 or 16, and as many octets; the prefix is at most 32
--- or 128. An address is a network whose prefix is full, in text too.
+-- What networks and addresses read (PostgreSQL: "Network Address Types", 8.9). A network is the family (2 or 3), the
+-- prefix, a byte that says nothing, 4 or 16, and as many octets; the prefix is at most 32 or 128. An address is a
+-- network whose prefix is full, in text too.
 use Rattle.std.specs.Prelude.{ℕ, ◌+◌, ◌==◌, ◌&&◌, ◌||◌, nat_lt, if◌then◌else◌, List, ◌∷◌, length, Option, Some, None, Err, ok_or}
 use Rattle.std.specs.Net.Addr.{segments_of}
 use Rattle.std.specs.declared.net.ip_addr.IpAddr.{IpAddr}

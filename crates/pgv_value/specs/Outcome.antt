@@ -1,7 +1,8 @@
--- What a reader gives: a view of the value or the error, and whether memory may have been asked for by then.
--- A grammar is one function into an outcome, written step by step with `do`: the first step that fails says why, and memory may
--- have been asked for where one of the steps that were taken may ask for it. A step that never asks for memory is `exactly` a
--- `Parsed`. What a reader promises is then one clause, `Gives`, and of one that asks for no memory `GivesExactly`.
+-- What a reader gives: a view of the value or the error, and whether memory may have been asked for by then. A grammar
+-- is one function into an outcome, written step by step with `do`: the first step that fails says why, and memory may
+-- have been asked for where one of the steps that were taken may ask for it. A step that never asks for memory is
+-- `exactly` a `Parsed`. What a reader promises is then one clause, `Gives`, and of one that asks for no memory
+-- `GivesExactly`.
 use Rattle.std.specs.Prelude.{◌≡◌, ◌≢◌, ◌⊎◌, ℕ, Bool, true, false, ◌||◌, List, Option, Some, None, Result, Ok, Err, ok_or, if◌then◌else◌, ⊤}
 use Rattle.pgv_types.specs.Ty.{Ty}
 use Rattle.pgv_value.specs.declared.error.CodecError.{CodecError}
@@ -16,7 +17,8 @@ pub record Outcome (M : Type 0) : Type 0 where
   pub answer : Result M (Option CodecError)
   pub may_alloc : Bool
 
--- The error is the one that is stated; or any but out of memory, where none is; or out of memory, where it may be asked for.
+-- The error is the one that is stated; or any but out of memory, where none is; or out of memory, where it may be asked
+-- for.
 abbrev pub Fails : {M : Type 0} → CodecError → Outcome M → Type 0
 Fails e o = (o.answer ≡ Err (Some e)) ⊎ (((o.answer ≡ Err None) × (e ≢ Memory)) ⊎ ((e ≡ Memory) × (o.may_alloc ≡ true)))
 

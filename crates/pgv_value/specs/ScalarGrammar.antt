@@ -1,7 +1,7 @@
--- What the plain types read and why they refuse, in binary and in text (PostgreSQL: "Boolean Type", 8.6; "Numeric Types", 8.1.1;
--- "Character Types", 8.3; "Object Identifier Types", 8.19; "UUID Type", 8.12).
--- In binary: integers are one to eight bytes, sign extended, within the type. A bool: the first byte isn't 0. An OID: the first
--- four bytes. A uuid: sixteen bytes.
+-- What the plain types read and why they refuse, in binary and in text (PostgreSQL: "Boolean Type", 8.6; "Numeric
+-- Types", 8.1.1; "Character Types", 8.3; "Object Identifier Types", 8.19; "UUID Type", 8.12). In binary: integers are
+-- one to eight bytes, sign extended, within the type. A bool: the first byte isn't 0. An OID: the first four bytes. A
+-- uuid: sixteen bytes.
 use Rattle.std.specs.Prelude.{ℕ, Bool, not, ◌==◌, if◌then◌else◌, ℤ, List, [], ◌∷◌, length, Option, Some, None, Ok, Err, ok_or}
 use Rattle.std.specs.Int.{Width, w8}
 use Rattle.uuid.specs.Text.{parsed}

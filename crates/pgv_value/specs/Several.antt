@@ -1,6 +1,6 @@
--- Things of one kind, one after another: as many as are counted, each read by one function.
--- Where one thing is read exactly from its encoding and the rest, several are read exactly from their encodings, one after another,
--- and the rest.
+-- Things of one kind, one after another: as many as are counted, each read by one function. Where one thing is read
+-- exactly from its encoding and the rest, several are read exactly from their encodings, one after another, and the
+-- rest.
 use Rattle.std.specs.Prelude.{◌≡◌, ◌↔◌, ℕ, zero, suc, List, [], ◌∷◌, ◌++◌, length, flat_map, Ok}
 use Rattle.std.specs.List.{AllByRecursion}
 use Rattle.pgv_value.specs.Laws.{AreBytes}

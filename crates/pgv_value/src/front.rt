@@ -6,8 +6,8 @@ ghost use Rattle.pgv_value.specs.Parsed.{GivesExactly};
 
 use crate::error::CodecError;
 
-/// The unsigned number of 16 bits in front, the highest byte first, and the rest: of `ffff00` it is 65535, and the rest is `00`. Fewer
-/// than two bytes are refused with C15.
+/// The unsigned number of 16 bits in front, the highest byte first, and the rest: of `ffff00` it is 65535, and the rest
+/// is `00`. Fewer than two bytes are refused with C15.
 #[inline(always)]
 #[tactic(auto, unfolding(crate::specs::Fronts::u16_front))]
 pub fn u16_in_front(bytes: &[u8]) -> Result<(u16, &[u8]), CodecError>
@@ -43,8 +43,8 @@ fn ended_in_front(bytes: &[u8]) -> Result<(&[u8], &[u8]), CodecError>
     Ok((name, rest))
 }
 
-/// The text that a zero byte ends, and the rest: of `696400ff` it is `id`, and the rest is `ff` (PostgreSQL, "Message Data Types",
-/// String). Without a zero byte it is refused with C15, and where it isn't UTF-8 with C14.
+/// The text that a zero byte ends, and the rest: of `696400ff` it is `id`, and the rest is `ff` (PostgreSQL, "Message
+/// Data Types", String). Without a zero byte it is refused with C15, and where it isn't UTF-8 with C14.
 #[tactic(auto, unfolding(crate::specs::Fronts::name_front), using(crate::proofs::Text::whole_text))]
 pub fn name_in_front(bytes: &[u8]) -> Result<(&str, &[u8]), CodecError>
     ensures exact { GivesExactly (λ x. (x.0.now, x.1.now)) (name_front bytes.now) result }

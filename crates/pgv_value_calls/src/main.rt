@@ -1,5 +1,5 @@
-//! `pgv_value_calls`: makes the calls of the rows of standard input on values, as `pgv_calls` makes those on arguments: readings, texts,
-//! values of our own types. See there for the form of the rows.
+//! `pgv_value_calls`: makes the calls of the rows of standard input on values, as `pgv_calls` makes those on arguments:
+//! readings, texts, values of our own types. See there for the form of the rows.
 #![tactic(auto)]
 
 mod bits;

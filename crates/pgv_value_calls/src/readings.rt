@@ -1,6 +1,6 @@
-//! Rows that are read at a Rust type: `RUST | TYPE | PART => ANSWER`. PART is `b` and hex, `t` and a text, `x` and a text in hex, `null`,
-//! or `null text`. ANSWER is the value as `Debug` shows it, or what it is written as where its Rust type has no `Debug`, or the number of
-//! the refusal.
+//! Rows that are read at a Rust type: `RUST | TYPE | PART => ANSWER`. PART is `b` and hex, `t` and a text, `x` and a
+//! text in hex, `null`, or `null text`. ANSWER is the value as `Debug` shows it, or what it is written as where its
+//! Rust type has no `Debug`, or the number of the refusal.
 
 use jiff::Timestamp;
 use jiff::civil::{Date, DateTime};

@@ -1,8 +1,7 @@
--- What each argument was given last (`Given`): at the last filling, the type of its parameter and its share of the OIDs; or no
--- type and zeros, where no filling came since it was added.
--- Laws: the parts of all arguments are written with these, after any list of calls (`parts_after`). The buffer is read frame by
--- frame, and each part by its own type as what its value keeps, where the value fits (`argument_reads_back`,
--- `ArgumentReadsBack`).
+-- What each argument was given last (`Given`): at the last filling, the type of its parameter and its share of the
+-- OIDs; or no type and zeros, where no filling came since it was added. Laws: the parts of all arguments are written
+-- with these, after any list of calls (`parts_after`). The buffer is read frame by frame, and each part by its own type
+-- as what its value keeps, where the value fits (`argument_reads_back`, `ArgumentReadsBack`).
 use Rattle.std.specs.Prelude.{◌≡◌, ℕ, List, [], ◌∷◌, ◌++◌, map, take, drop, replicate, Option, Some, None, Ok}
 use Rattle.std.specs.List.{slice_get}
 use Rattle.pgv_types.specs.Ty.{Ty}
@@ -45,9 +44,9 @@ parts_given [] gs = []
 parts_given (i ∷ is) [] = []
 parts_given (i ∷ is) (g ∷ gs) = written_part i g.parameter g.oids ∷ parts_given is gs
 
--- Whatever was added, refused and filled: the bytes are frames, one after another, with nothing left; and where the argument
--- at a place was added for a value, the part of its frame is read in binary as what the value keeps, under each type that
--- fits with the OIDs that the argument was given.
+-- Whatever was added, refused and filled: the bytes are frames, one after another, with nothing left; and where the
+-- argument at a place was added for a value, the part of its frame is read in binary as what the value keeps, under
+-- each type that fits with the OIDs that the argument was given.
 abbrev pub ArgumentReadsBack : {A M : Type 0} → (A → Encoding) → Reading M → (A → M) → (A → Ty → List Oid → Type 0) → Type 0
 ArgumentReadsBack {A} encoding reading kept fits =
     (calls : List Call) (is : List Image) (place : ℕ) (a : Framed) (g : Given) (v : A) (t : Ty) →

@@ -1,9 +1,9 @@
--- Any list of calls on arguments, and what they leave.
--- The state of `PgArguments` is a list of arguments. An accepted addition appends one, shown as in `blank`. A filling shows
--- each argument as `early` writes it. So the bytes are the frames at the last filling, written early with what it was given,
--- and then the other frames blank. A law says so over every list of calls (`bytes_by`).
--- Of running arguments it is known that there are such types and OIDs, of the right number (`WrittenEarly`), and not which.
--- That they are the last filling's is what that law and the filling's own contract say.
+-- Any list of calls on arguments, and what they leave. The state of `PgArguments` is a list of arguments. An accepted
+-- addition appends one, shown as in `blank`. A filling shows each argument as `early` writes it. So the bytes are the
+-- frames at the last filling, written early with what it was given, and then the other frames blank. A law says so over
+-- every list of calls (`bytes_by`). Of running arguments it is known that there are such types and OIDs, of the right
+-- number (`WrittenEarly`), and not which. That they are the last filling's is what that law and the filling's own
+-- contract say.
 use Rattle.std.specs.Prelude.{◌≡◌, ℕ, List, [], ◌∷◌, ◌++◌, map, length, ⊤}
 use Rattle.std.specs.List.{flat_map}
 use Rattle.pgv_types.specs.Ty.{Ty}

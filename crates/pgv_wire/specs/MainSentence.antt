@@ -1,10 +1,10 @@
--- The main sentence, over every list of calls.
--- What a call's contract says is one step of `after`: an accepted addition appends the frame that its value has (`call_of`), a
--- refused one changes nothing, each outcome of a list is a step of its own (`calls_of`), and a filling shows each argument as it is
--- written early. So a list of calls leaves what `after` leaves of it.
--- Of any such list (`MainSentence`): the bytes are the accepted frames, written directly with what the last filling was given, and
--- zeros and defaults for those added since; they are read as frames, a part for each accepted addition and nothing after them; and
--- the part of an argument is read back as what its value keeps, under every type that fits.
+-- The main sentence, over every list of calls. What a call's contract says is one step of `after`: an accepted addition
+-- appends the frame that its value has (`call_of`), a refused one changes nothing, each outcome of a list is a step of
+-- its own (`calls_of`), and a filling shows each argument as it is written early. So a list of calls leaves what
+-- `after` leaves of it. Of any such list (`MainSentence`): the bytes are the accepted frames, written directly with
+-- what the last filling was given, and zeros and defaults for those added since; they are read as frames, a part for
+-- each accepted addition and nothing after them; and the part of an argument is read back as what its value keeps,
+-- under every type that fits.
 use Rattle.std.specs.Prelude.{◌≡◌, ◌≢◌, ℕ, List, [], ◌∷◌, ◌++◌, length, Option, Some, None, Ok, Err}
 use Rattle.std.specs.List.{slice_get}
 use Rattle.pgv_types.specs.Ty.{Ty}
@@ -69,8 +69,8 @@ CallsAreJoined = (was : List Argument) (calls more : List Call) → after (after
 -- ---- what any list of calls leaves
 
 module _ {A M : Type 0} (encoding : A → Encoding) (reading : Reading M) (kept : A → M) (fits : A → Ty → List Oid → Type 0) where
-  -- the part of the argument that was added for a value, among these, is read as what the value keeps, under each type that fits with
-  -- the OIDs that the argument was given
+  -- the part of the argument that was added for a value, among these, is read as what the value keeps, under each type
+  -- that fits with the OIDs that the argument was given
   abbrev pub ComeBackIn : List Call → List Part → Type 0
   ComeBackIn calls parts =
       (place : ℕ) (a : Framed) (g : Given) (v : A) (t : Ty) → slice_get (added_in calls) place ≡ Some a → (frame (encoding v)).answer ≡ Ok a.1 →
@@ -84,8 +84,8 @@ module _ {A M : Type 0} (encoding : A → Encoding) (reading : Reading M) (kept 
     pub as_many : length parts ≡ length (added_in calls)
     pub come_back : ComeBackIn calls parts
 
-  -- That the accepted frames are frames of images, that the cells are proper and that OIDs are numbers of 32 bits is what running
-  -- calls say.
+  -- That the accepted frames are frames of images, that the cells are proper and that OIDs are numbers of 32 bits is
+  -- what running calls say.
   abbrev pub MainSentence : Type 0
   MainSentence =
       (calls : List Call) (is : List Image) → AreFrames is (added_in calls) → Proper (all_tokens (after [] calls)) → AreOids (last_filling calls).oids → HoldsAfter calls

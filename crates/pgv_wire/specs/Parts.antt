@@ -1,8 +1,7 @@
--- Frames that are read one after another (PostgreSQL: "Message Formats", Bind: each parameter value is a length of four bytes,
--- the highest first, and that many bytes; the length -1 is null).
--- Frame after frame is found at the front (`ReadAs`), and nothing is left (`AllRead`): a part for each argument, null where its
--- image is null, and else what it shows after its length (`parts_in`). Each argument is the frame of an image (`OfImages`), and
--- of one only.
+-- Frames that are read one after another (PostgreSQL: "Message Formats", Bind: each parameter value is a length of four
+-- bytes, the highest first, and that many bytes; the length -1 is null). Frame after frame is found at the front
+-- (`ReadAs`), and nothing is left (`AllRead`): a part for each argument, null where its image is null, and else what it
+-- shows after its length (`parts_in`). Each argument is the frame of an image (`OfImages`), and of one only.
 use Rattle.std.specs.Prelude.{◌≡◌, ℕ, List, [], ◌∷◌, length, take, drop, Some, None, Ok, ⊤}
 use Rattle.pgv_types.specs.Ty.{Ty}
 use Rattle.pgv_types.specs.declared.oid.Oid.{Oid}

@@ -202,8 +202,8 @@ impl PgArguments {
     /// numbers there is none. It takes no memory and may be called again, also with additions between: each call fills
     /// all anew, and the bytes are the frames written early with these types and OIDs.
     ///
-    /// The list `{ok}` of that type is `0000001a 00000001 00000000 00000000 00000001 00000001 00000002 6f6b`; with the OID 16600 the four bytes
-    /// of its third number are `000040d8`, and after a second call with 16601 `000040d9`.
+    /// The list `{ok}` of that type is `0000001a 00000001 00000000 00000000 00000001 00000001 00000002 6f6b`; with the
+    /// OID 16600 the four bytes of its third number are `000040d8`, and after a second call with 16601 `000040d9`.
     pub fn apply_patches(&mut self, types: &[PgTypeInfo], oids: &[Oid]) -> Result<(), CodecError>
         ensures ok { length types.now ≡ length self.old
             → length oids.now ≡ hole_count (all_tokens self.old) → IsOk result }

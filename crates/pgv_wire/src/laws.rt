@@ -37,8 +37,8 @@ pub fn main_sentence<T: ReadBack>()
 
 /// Each call that meets its contract is a step in the lists of calls of [`main_sentence`].
 ///
-/// The clause `exact` of [`PgArguments::add`] and [`add_by_ref`](PgArguments::add_by_ref) makes the call the addition of
-/// the value's frame; a refusal with anything but out of memory is the step of a value without a frame; a call that
+/// The clause `exact` of [`PgArguments::add`] and [`add_by_ref`](PgArguments::add_by_ref) makes the call the addition
+/// of the value's frame; a refusal with anything but out of memory is the step of a value without a frame; a call that
 /// leaves all `unchanged` is a refused one; `added` of [`add_each`](PgArguments::add_each) is a step for each outcome;
 /// `filled` of [`apply_patches`](PgArguments::apply_patches) is a filling; and calls after calls are one list.
 pub fn call_is_a_step<T: Encode + Type>()

@@ -1,5 +1,5 @@
-//! `pgvalue_server`: the program `pgvalue` once more, whose stored run is what a PostgreSQL server wrote, and the rows that the
-//! documents speak of. `tools/server_session` makes the run of three tables.
+//! `pgvalue_server`: the program `pgvalue` once more, whose stored run is what a PostgreSQL server wrote, and the rows
+//! that the documents speak of. `tools/server_session` makes the run of three tables.
 #![tactic(auto)]
 
 use pgv_runner::serve;

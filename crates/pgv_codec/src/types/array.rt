@@ -113,8 +113,8 @@ impl<T: PgHasArrayType> Type for Vec<T> {
     }
 }
 
-/// Written as an array of one dimension, as [`encode_array`] does: the number of dimensions, 1; flags, 0; the OID of the elements' type;
-/// their number; the lower bound, 1; and the frame of each. One `7` of `int4` is
+/// Written as an array of one dimension, as [`encode_array`] does: the number of dimensions, 1; flags, 0; the OID of
+/// the elements' type; their number; the lower bound, 1; and the frame of each. One `7` of `int4` is
 /// `00000001 00000000 00000017 00000001 00000001 00000004 00000007`.
 impl<T: Encode + Type> Encode for Vec<T> {
     ghost encoding = { λ v. plainly (array_image T.info (map T.encoding v.items)) };
@@ -328,8 +328,8 @@ fn is_array_text(text: &str) -> bool
     Parts::new(TextForm::Array, text).is_some()
 }
 
-/// The elements of a text, each read under the own type of `T` as it comes: the text is not tested before. Room for the first four is
-/// asked for before any is read.
+/// The elements of a text, each read under the own type of `T` as it comes: the text is not tested before. Room for the
+/// first four is asked for before any is read.
 #[tactic(auto, using(crate::proofs::PartLoop::alloc_in_text))]
 fn read_elements<T: Decode + Type>(alloc: Global, text: &str) -> Result<Vec<T>, CodecError>
     ensures read { IfOk result (λ v. (array_in_text T.parse T.info text.now).answer

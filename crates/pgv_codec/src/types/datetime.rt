@@ -43,9 +43,9 @@ impl Scalar for DateTime {
     }
 }
 
-/// A `timestamp`, as [`read_date_time`] reads it: `00000000000f4240` and `2000-01-01 00:00:01` are the same.
-/// A date-time comes back in whole microseconds, cut towards 2000-01-01 00:00: one before 2000 may come back as the midnight
-/// after it.
+/// A `timestamp`, as [`read_date_time`] reads it: `00000000000f4240` and `2000-01-01 00:00:01` are the same. A
+/// date-time comes back in whole microseconds, cut towards 2000-01-01 00:00: one before 2000 may come back as the
+/// midnight after it.
 impl Plain for DateTime {
     ghost use Rattle.pgv_codec.specs.DateTimeBack.{date_time_back};
     ghost use Rattle.pgv_codec.specs.DateTimeKept.{date_time_kept};

@@ -24,8 +24,8 @@ use crate::traits::{Codec, Decode, Encode, ReadBack, Type};
 use pgv_value::{CodecError, PgValueRef};
 use std::alloc::Global;
 
-/// A list of values of any types, as nested pairs that end in a tuple of one: `(A, (B, (C,)))`. Every tuple is read through such
-/// a list, so that what is proved of one field and of the rest holds for tuples of any length.
+/// A list of values of any types, as nested pairs that end in a tuple of one: `(A, (B, (C,)))`. Every tuple is read
+/// through such a list, so that what is proved of one field and of the rest holds for tuples of any length.
 pub trait FieldList: Sized + Drop {
     /// What the values say.
     ghost View: { Type 0 };

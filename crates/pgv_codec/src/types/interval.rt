@@ -42,7 +42,8 @@ impl BuiltIn for Of<PgInterval> {
     const ARRAY_INFO: PgTypeInfo = PgTypeInfo(PgType::IntervalArray);
 }
 
-/// Written as its microseconds in eight bytes, its days in four and its months in four: an hour as `00000000d693a4000000000000000000`.
+/// Written as its microseconds in eight bytes, its days in four and its months in four: an hour as
+/// `00000000d693a4000000000000000000`.
 impl Scalar for PgInterval {
     ghost SIZE = { 16 };
 
@@ -55,7 +56,8 @@ impl Scalar for PgInterval {
     }
 }
 
-/// An `interval`, as [`read_interval`] reads it: `00000000d693a4000000000000000000` is an hour. It has no text (C18). It comes back as it is.
+/// An `interval`, as [`read_interval`] reads it: `00000000d693a4000000000000000000` is an hour. It has no text (C18).
+/// It comes back as it is.
 impl Plain for PgInterval {
     ghost View = { Interval };
 

@@ -44,8 +44,8 @@ impl Encode for IpAddr {
     }
 }
 
-/// An `inet` or a `cidr` of one address, as [`read_ip_address`] reads it: `022000040a000001` and `10.0.0.1` are the same address.
-/// An address comes back as it is.
+/// An `inet` or a `cidr` of one address, as [`read_ip_address`] reads it: `022000040a000001` and `10.0.0.1` are the
+/// same address. An address comes back as it is.
 impl Plain for IpAddr {
     ghost use Rattle.pgv_codec.specs.NetworkBack.{address_back};
 

@@ -15,7 +15,8 @@ use pgv_types::PgTypeInfo;
 use pgv_value::{CodecError, PgValueRef, read_ip_network};
 use std::alloc::{AllocError, Global};
 
-/// Written as the family, the number of bits, a zero, the number of octets, and the octets: `10.0.0.0/8` as `020800040a000000`.
+/// Written as the family, the number of bits, a zero, the number of octets, and the octets: `10.0.0.0/8` as
+/// `020800040a000000`.
 impl Encode for IpNetwork {
     ghost encoding = { λ v. with_hint (network_hint (network_of v)) (writes (network_image (network_of v))) };
 

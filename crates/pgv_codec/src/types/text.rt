@@ -51,8 +51,8 @@ fn is_text_array(type_info: &PgTypeInfo) -> bool
     }
 }
 
-/// `text` (OID 25), read under `text`, `name`, `bpchar`, `varchar`, `unknown` and domains over one of them, and as `citext`, of which only
-/// the name is known, under each type of this name, and under one declared by its OID.
+/// `text` (OID 25), read under `text`, `name`, `bpchar`, `varchar`, `unknown` and domains over one of them, and as
+/// `citext`, of which only the name is known, under each type of this name, and under one declared by its OID.
 impl Type for String {
     ghost info = { builtin 25 };
 

@@ -27,7 +27,8 @@ pub(crate) fn micros_from_2000(nanos: i128) -> i64
 }
 
 impl HasBuiltIn for Timestamp {}
-/// `timestamptz` (OID 1184), read under `timestamptz` and domains over it. An array of them is `timestamptz[]` (OID 1185).
+/// `timestamptz` (OID 1184), read under `timestamptz` and domains over it. An array of them is `timestamptz[]` (OID
+/// 1185).
 impl BuiltIn for Of<Timestamp> {
     ghost INFO = { builtin 1184 };
 

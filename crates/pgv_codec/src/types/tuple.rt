@@ -12,7 +12,8 @@ use pgv_types::{PgType, PgTypeInfo};
 use pgv_value::{CodecError, PgValueRef};
 use std::alloc::Global;
 
-/// The first field of a record. Further fields are ignored. `00000001 00000017 00000004 00000007` is `(7,)`, and so is the text `(7)`.
+/// The first field of a record. Further fields are ignored. `00000001 00000017 00000004 00000007` is `(7,)`, and so is
+/// the text `(7)`.
 impl<A: Type + Decode> Decode for (A,) {
     ghost View = { A.View };
 
@@ -41,8 +42,8 @@ impl<A> BuiltIn for Of<(A,)> {
     const ARRAY_INFO: PgTypeInfo = PgTypeInfo(PgType::RecordArray);
 }
 
-/// The first two fields of a record. Further fields are ignored. `00000002 00000017 00000004 00000001 00000019 00000001 61` is `(1, "a")`,
-/// and so is the text `(1,a)`.
+/// The first two fields of a record. Further fields are ignored.
+/// `00000002 00000017 00000004 00000001 00000019 00000001 61` is `(1, "a")`, and so is the text `(1,a)`.
 impl<A: Type + Decode, B: Type + Decode> Decode for (A, B) {
     ghost View = { A.View × B.View };
 

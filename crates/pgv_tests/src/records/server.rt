@@ -1,7 +1,7 @@
 //! Records that a PostgreSQL 15.20 server wrote (C locale, UTF8).
 
-/// A record in each line, with spaces between: `record`, or `pair` for the composite type of an `int4` and a `text`; the
-/// binary form and the text, in hex; and for each field its type, `=`, and its frame as it stands in the record. A
+/// A record in each line, with spaces between: `record`, or `pair` for the composite type of an `int4` and a `text`;
+/// the binary form and the text, in hex; and for each field its type, `=`, and its frame as it stands in the record. A
 /// field `(int4,text)` is a record in the record. `?` stands for the frame of an array that has nulls or no element:
 /// the server writes it with other flags or dimensions.
 pub const RECORDS: &str = "record 000000010000001900000000 28222229 text=00000000

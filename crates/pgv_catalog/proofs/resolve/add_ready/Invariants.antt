@@ -2,7 +2,8 @@ use Rattle.std.proofs.Common.{◌≡◌, ◌<◌, ◌≤◌, [], true, false, ta
 use Rattle.pgv_catalog.specs.Rows.{AllAwait, AreMade, unmade}
 use Rattle.pgv_catalog.proofs.resolve.add_ready.Given as goal
 
--- Each type is made of a row. Where one was added, fewer are left; where none was, each row so far has its type or waits for a part.
+-- Each type is made of a row. Where one was added, fewer are left; where none was, each row so far has its type or
+-- waits for a part.
 abbrev pub invariant-loop-row : goal.invariant-loop-row
 invariant-loop-row l = record {
   each : AreMade l.rows [] l.known;
