@@ -1,12 +1,15 @@
 //! What a value of each of these types is, as the table of types has it, by what a caller's type states. Each is the
 //! contract of a function that does nothing.
 
-ghost use Rattle.std.specs.Prelude.{◌||◌};
+ghost use Rattle.std.specs.Prelude.{◌≡◌, ◌↔◌, ◌||◌, List};
 ghost use Rattle.pgv_types.specs.Relations.{softly};
-ghost use Rattle.pgv_types.specs.Ty.{array_of, builtin, named};
+ghost use Rattle.pgv_types.specs.Ty.{Ty, array_of, builtin, named};
+ghost use Rattle.pgv_types.specs.declared.oid.Oid.{Oid};
 ghost use Rattle.pgv_value.specs.Outcome.{without_memory};
 ghost use Rattle.pgv_nest.specs.RecordGrammar.{parse_record};
-ghost use Rattle.pgv_codec.specs.Encoding.{plainly, record_image};
+ghost use Rattle.pgv_codec.specs.Back.{Followed};
+ghost use Rattle.pgv_codec.specs.Plain.{FieldIsPlain};
+ghost use Rattle.pgv_codec.specs.Encoding.{field, plainly, record_image};
 ghost use Rattle.pgv_codec.specs.TypeRow.{HasArrayType, HasType, HasTypes, IsCodecRow, IsReadAs, IsWrittenAs};
 ghost use Rattle.pgv_user_types.specs.Labels.{label_written, parse_label};
 
@@ -28,7 +31,8 @@ pub fn enum_is_its_label<T: Labelled>()
         }) }
 {}
 
-/// A `PgComposite<T>` is the type of this name, written and read as the record of its fields.
+/// A `PgComposite<T>` is the type of this name, written and read as the record of its fields. What is kept of it is
+/// made of its fields as they are kept, and it fits a type where its fields fit it.
 pub fn composite_is_its_fields<T: Composite>()
     ensures types { HasTypes ⟦<PgComposite<T> as Type>⟧ ⟦<PgComposite<T> as PgHasArrayType>⟧
         (named T.name) (array_of T.name) }
@@ -36,9 +40,14 @@ pub fn composite_is_its_fields<T: Composite>()
         (λ v. plainly (record_image (T.Fields.fields (T.fields_of v.0)))) }
     ensures read { IsReadAs ⟦<PgComposite<T> as Decode>⟧ (λ v. T.Fields.view (T.fields_of v.0))
         (parse_record T.Fields.step) }
+    ensures kept { (v : _) → (⟦<PgComposite<T> as ReadBack>⟧.kept v).0
+        ≡ T.made (T.Fields.kept (T.fields_of v.0)) }
+    ensures fits { (v : _) (t : Ty) (oids : List Oid) → ⟦<PgComposite<T> as ReadBack>⟧.fits v t oids
+        ↔ T.Fields.fits (T.fields_of v.0) t 0 oids }
 {}
 
-/// A `PgRecord` of fields is a record (OID 2249), written and read as these. Its arrays are `record[]` (2287).
+/// A `PgRecord` of fields is a record (OID 2249), written, read and kept as these, and fits a type where they fit it.
+/// Its arrays are `record[]` (2287).
 pub fn record_is_its_fields<Fields: KeptList>()
     ensures types { HasTypes ⟦<PgRecord<Fields> as Type>⟧ ⟦<PgRecord<Fields> as PgHasArrayType>⟧
         (builtin 2249) (builtin 2287) }
@@ -46,9 +55,21 @@ pub fn record_is_its_fields<Fields: KeptList>()
         (λ v. plainly (record_image (Fields.fields v.0))) }
     ensures read { IsReadAs ⟦<PgRecord<Fields> as Decode>⟧ (λ v. Fields.view v.0)
         (parse_record Fields.step) }
+    ensures kept { (v : _) → (⟦<PgRecord<Fields> as ReadBack>⟧.kept v).0 ≡ Fields.kept v.0 }
+    ensures fits { (v : _) (t : Ty) (oids : List Oid) → ⟦<PgRecord<Fields> as ReadBack>⟧.fits v t oids
+        ↔ Fields.fits v.0 t 0 oids }
 {}
 
-/// A `PgNewtype<T>` has the types of what it holds, and is written and read as this.
+/// A `PgRecord` of two fields fits a composite type, a domain over one or `record`, if the type at the place of each
+/// field has the OID that was written and is accepted, and the field fits it.
+pub fn record_of_two_fits<A: ReadBack + Type, B: ReadBack + Type>()
+    ensures { (v : _) (t : Ty) (oids : List Oid)
+        → Followed (FieldIsPlain A.info A.encoding A.accepts A.fits v.0.0)
+        (field A.info (A.encoding v.0.0)) (FieldIsPlain B.info B.encoding B.accepts B.fits
+        v.0.1.0) t 0 oids → ⟦<PgRecord<(A, (B,))> as ReadBack>⟧.fits v t oids }
+{}
+
+/// A `PgNewtype<T>` has the types of what it holds, is written, read and kept as this, and fits a type where this does.
 pub fn newtype_is_its_base<T: Newtype>()
 where
     T::Base: Type + PgHasArrayType,
@@ -57,10 +78,14 @@ where
         T.Base.accepts_array }
     ensures written { IsWrittenAs ⟦<PgNewtype<T> as Encode>⟧ (λ v. T.Base.encoding (T.base v.0)) }
     ensures read { IsReadAs ⟦<PgNewtype<T> as Decode>⟧ (λ v. T.Base.view (T.base v.0)) T.Base.parse }
+    ensures kept { (v : _) → (⟦<PgNewtype<T> as ReadBack>⟧.kept v).0
+        ≡ T.made (T.Base.kept (T.base v.0)) }
+    ensures fits { (v : _) (t : Ty) (oids : List Oid) → ⟦<PgNewtype<T> as ReadBack>⟧.fits v t oids
+        ↔ T.Base.fits (T.base v.0) t oids }
 {}
 
-/// A `PgDomain<T>` is the type of this name, read under what it holds is read under too, and is written and read as
-/// what it holds.
+/// A `PgDomain<T>` is the type of this name, read under what it holds is read under too. It is written, read and kept
+/// as what it holds, and fits a type where this does.
 pub fn domain_is_its_base<T: Domain>()
 where
     T::Base: Type,
@@ -70,4 +95,8 @@ where
         (λ t. softly t (array_of T.name)) }
     ensures written { IsWrittenAs ⟦<PgDomain<T> as Encode>⟧ (λ v. T.Base.encoding (T.base v.0)) }
     ensures read { IsReadAs ⟦<PgDomain<T> as Decode>⟧ (λ v. T.Base.view (T.base v.0)) T.Base.parse }
+    ensures kept { (v : _) → (⟦<PgDomain<T> as ReadBack>⟧.kept v).0
+        ≡ T.made (T.Base.kept (T.base v.0)) }
+    ensures fits { (v : _) (t : Ty) (oids : List Oid) → ⟦<PgDomain<T> as ReadBack>⟧.fits v t oids
+        ↔ T.Base.fits (T.base v.0) t oids }
 {}
