@@ -166,6 +166,9 @@ none_awaited tag.NotificationResponse ts h = absurd cc
 none_awaited tag.ErrorResponse ts h = absurd cc
 none_awaited _ ts h = refl
 
+not_both : {A : Type 0} (x : A) → (let o : Option A = None in o) ≡ Some x → ⊥
+not_both x e = cc
+
 belong : (ws : List PgAwaited) (ts : List PgTag) → AllByRecursion (λ t. is_of_answer t ≡ true) ts → run (awaiting ws) ts ≡ Some idle → AreRests ws ts
 unfolding step
 belong [] [] h e = refl
@@ -204,7 +207,11 @@ belong (awaited.CopyData ∷ ws) (tag.CopyDone ∷ ts) h e =
     let b = belong (awaited.Completion ∷ ws) ts h.1 e in
     let longer = λ (xs : List PgTag). tag.CopyDone ∷ xs in
     (tag.CopyDone ∷ b.0, b.1, ap longer b.2, (0, ap longer b.3), b.4)
-belong (_ ∷ ws) (_ ∷ ts) h e = absurd cc
+belong (a ∷ ws) (tag.NoticeResponse ∷ ts) h e = absurd cc
+belong (a ∷ ws) (tag.ParameterStatus ∷ ts) h e = absurd cc
+belong (a ∷ ws) (tag.NotificationResponse ∷ ts) h e = absurd cc
+belong (a ∷ ws) (tag.ErrorResponse ∷ ts) h e = absurd cc
+belong (_ ∷ ws) (_ ∷ ts) h e = absurd (not_both idle e)
 
 rest_is : (r : PgRequest) (ts : List PgTag) → IsRest (stage_of r) ts → IsAnswer r ts
 rest_is request.Parse ts h = h

@@ -66,12 +66,21 @@ fn address_of(text: &str) -> Option<MacAddress>
         return None;
     }
     let first = byte_of(*high, *low)?;
+    let [second, third, fourth, fifth, sixth] = five_after(separator, rest)?;
+    Some(MacAddress::new([first, second, third, fourth, fifth, sixth]))
+}
+
+/// The bytes of five pairs, each after the separator, where nothing comes after them.
+#[inline(always)]
+fn five_after(separator: u8, text: &[u8]) -> Option<[u8; 5]>
+    ensures { result ≡ pairs_after separator 5 text.now }
+{
+    let (first, rest) = pair_after(separator, text)?;
     let (second, rest) = pair_after(separator, rest)?;
     let (third, rest) = pair_after(separator, rest)?;
     let (fourth, rest) = pair_after(separator, rest)?;
-    let (fifth, rest) = pair_after(separator, rest)?;
-    let sixth = last_pair_after(separator, rest)?;
-    Some(MacAddress::new([first, second, third, fourth, fifth, sixth]))
+    let fifth = last_pair_after(separator, rest)?;
+    Some([first, second, third, fourth, fifth])
 }
 
 /// The byte of two hex digits of either case.

@@ -1,10 +1,13 @@
 //! MAC addresses, written and read (PostgreSQL, "Network Address Types", macaddr).
 
-ghost use Rattle.std.specs.Prelude.{ℕ, List, refl};
+ghost use Rattle.std.specs.Prelude.{ℕ, List, ok_or, refl};
 ghost use Rattle.pgv_types.specs.Ty.{builtin};
 ghost use Rattle.pgv_types.specs.Relations.{softly};
 ghost use Rattle.pgv_value.specs.Outcome.{without_memory};
-ghost use Rattle.pgv_more.specs.MacAddressCodec.{mac_image, parse_mac};
+ghost use Rattle.pgv_value.specs.Parsed.{GivesExactly};
+ghost use Rattle.pgv_value.specs.declared.error.CodecError.TheVariants.{Syntax};
+ghost use Rattle.pgv_more.specs.MacAddressCodec.{mac_image, parse_mac, six};
+ghost use Rattle.pgv_more.specs.MacAddressText.{mac_value};
 ghost use Rattle.pgv_codec.specs.Encoding.{with_hint, writes};
 
 use super::MacAddress;
@@ -12,6 +15,25 @@ use pgv_codec::{Encode, IsNull, PgArgumentBuffer, PgHasArrayType, Plain, Type};
 use pgv_types::{PgType, PgTypeInfo};
 use pgv_value::{CodecError, PgValueFormat, PgValueRef};
 use std::alloc::{AllocError, Global};
+
+/// The address of six bytes.
+#[inline(always)]
+fn of_bytes(bytes: &[u8]) -> Result<MacAddress, CodecError>
+    ensures { GivesExactly (λ address. address) (six bytes.now) result }
+{
+    match <[u8; 6]>::try_from(bytes) {
+        Ok(bytes) => Ok(MacAddress::new(bytes)),
+        Err(_) => Err(CodecError::WrongLength(bytes.len())),
+    }
+}
+
+/// The address of a text.
+#[inline(always)]
+fn of_text(text: &str) -> Result<MacAddress, CodecError>
+    ensures { GivesExactly (λ address. address) (ok_or (mac_value text.now) Syntax) result }
+{
+    MacAddress::from_str(text).ok_or(CodecError::Syntax)
+}
 
 /// `macaddr` (OID 829), read under `macaddr` and domains over it.
 impl Type for MacAddress {
@@ -82,14 +104,8 @@ impl Plain for MacAddress {
     #[inline(always)]
     fn read(_alloc: Global, value: PgValueRef<'_>) -> Result<MacAddress, CodecError> {
         match value.format() {
-            PgValueFormat::Binary => match value.as_bytes()? {
-                [a, b, c, d, e, f] => Ok(MacAddress::new([*a, *b, *c, *d, *e, *f])),
-                bytes => Err(CodecError::WrongLength(bytes.len())),
-            },
-            PgValueFormat::Text => match MacAddress::from_str(value.as_str()?) {
-                Some(address) => Ok(address),
-                None => Err(CodecError::Syntax),
-            },
+            PgValueFormat::Binary => of_bytes(value.as_bytes()?),
+            PgValueFormat::Text => of_text(value.as_str()?),
         }
     }
 
