@@ -85,42 +85,56 @@ fn errors_arguments(alloc: Global) -> Result<PgArguments, CodecError> {
     Ok(arguments)
 }
 
-/// Appends the three statements of the catalogue.
-fn write_catalog(alloc: Global, out: &mut Vec<u8>) -> Result<(), MessageError> {
-    let arguments = PgArguments::new(alloc);
-    for query in STATEMENTS {
-        prepare(out, query, &[])?;
-        run(out, &arguments)?;
-    }
-    Ok(())
-}
-
 /// Appends a statement that is run once.
 fn write_statement(
     out: &mut Vec<u8>,
     query: &str,
     oids: &[Oid],
     arguments: &PgArguments,
-) -> Result<(), MessageError> {
+) -> Result<(), Fault> {
     prepare(out, query, oids)?;
-    run(out, arguments)
+    Ok(run(out, arguments)?)
+}
+
+/// Appends the three statements of the catalogue.
+fn write_catalog(alloc: Global, out: &mut Vec<u8>) -> Result<(), Fault> {
+    let arguments = PgArguments::new(alloc);
+    for query in STATEMENTS {
+        write_statement(out, query, &[], &arguments)?;
+    }
+    Ok(())
+}
+
+/// Appends the statement of the session `people`.
+fn write_people(alloc: Global, out: &mut Vec<u8>) -> Result<(), Fault> {
+    write_statement(out, PEOPLE, &[], &people_arguments(alloc)?)
+}
+
+/// Appends the statement of the session `orders`.
+fn write_orders(alloc: Global, out: &mut Vec<u8>) -> Result<(), Fault> {
+    write_statement(out, ORDERS, &[Oid(1016)], &orders_arguments(alloc)?)
 }
 
 /// Appends a statement that is refused, and one that fails.
-fn write_errors(out: &mut Vec<u8>, arguments: &PgArguments) -> Result<(), MessageError> {
+fn write_errors(alloc: Global, out: &mut Vec<u8>) -> Result<(), Fault> {
     prepare(out, "select 1 / nothing", &[])?;
-    write_statement(out, "select 1 / $1::int4", &[], arguments)
+    write_statement(out, "select 1 / $1::int4", &[], &errors_arguments(alloc)?)
+}
+
+/// Appends a simple query.
+fn write_simple(out: &mut Vec<u8>, query: &str) -> Result<(), Fault> {
+    Ok(write_query(out, query)?)
 }
 
 /// Appends what follows the start of the session of a name.
 fn write_session(alloc: Global, name: &str, out: &mut Vec<u8>) -> Result<(), Fault> {
     match name {
-        "catalog" => Ok(write_catalog(alloc, out)?),
-        "people" => Ok(write_statement(out, PEOPLE, &[], &people_arguments(alloc)?)?),
-        "orders" => Ok(write_statement(out, ORDERS, &[Oid(1016)], &orders_arguments(alloc)?)?),
-        "errors" => Ok(write_errors(out, &errors_arguments(alloc)?)?),
-        "copy" => Ok(write_query(out, COPY)?),
-        "asynchronous" => Ok(write_query(out, ASYNCHRONOUS)?),
+        "catalog" => write_catalog(alloc, out),
+        "people" => write_people(alloc, out),
+        "orders" => write_orders(alloc, out),
+        "errors" => write_errors(alloc, out),
+        "copy" => write_simple(out, COPY),
+        "asynchronous" => write_simple(out, ASYNCHRONOUS),
         _ => Ok(()),
     }
 }

@@ -13,13 +13,14 @@ pub fn numbers(alloc: Global) -> Result<bool, CodecError> {
     for number in 0..70_000 {
         arguments.add(number)?;
     }
-    let mut placeholder = String::new(alloc);
-    arguments.format_placeholder(&mut placeholder)?;
-    Ok(
-        arguments.len() == 70_000
-            && arguments.buffer().len() == 560_000
-            && placeholder.as_str() == "$70000",
-    )
+    Ok(arguments.buffer().len() == 560_000 && placeholder(alloc, &arguments)?.as_str() == "$70000")
+}
+
+/// The placeholder of the last argument.
+fn placeholder(alloc: Global, arguments: &PgArguments) -> Result<String, CodecError> {
+    let mut text = String::new(alloc);
+    arguments.format_placeholder(&mut text)?;
+    Ok(text)
 }
 
 /// The numbers from 0 on.
@@ -41,13 +42,17 @@ fn are_taken(outcomes: &[Result<(), CodecError>]) -> bool {
     true
 }
 
+/// Adds the same numbers at once; whether each was taken.
+fn add_numbers(alloc: Global, arguments: &mut PgArguments) -> Result<bool, CodecError> {
+    let numbers = list_of_numbers(alloc)?;
+    let outcomes = arguments.add_each(alloc, numbers.as_slice())?;
+    Ok(are_taken(outcomes.as_slice()))
+}
+
 /// The same numbers at once, and a copy of them.
 pub fn each(alloc: Global) -> Result<bool, CodecError> {
-    let numbers = list_of_numbers(alloc)?;
     let mut arguments = PgArguments::new(alloc);
-    let outcomes = arguments.add_each(alloc, numbers.as_slice())?;
-    let copy = arguments.clone()?;
-    Ok(are_taken(outcomes.as_slice()) && copy.buffer().len() == 560_000)
+    Ok(add_numbers(alloc, &mut arguments)? && arguments.clone()?.buffer().len() == 560_000)
 }
 
 /// An array without elements for each hole.
@@ -77,12 +82,17 @@ fn oids_of_holes(alloc: Global) -> Result<Vec<Oid>, CodecError> {
     Ok(oids)
 }
 
+/// Fills the holes with these OIDs.
+fn fill_holes(alloc: Global, arguments: &mut PgArguments) -> Result<(), CodecError> {
+    let types = types_of_lists(alloc)?;
+    let oids = oids_of_holes(alloc)?;
+    arguments.apply_patches(types.as_slice(), oids.as_slice())
+}
+
 /// An array without elements for each OID, 24 bytes of which the OID is four.
 pub fn holes(alloc: Global) -> Result<bool, CodecError> {
     let mut arguments = empty_lists(alloc)?;
-    let types = types_of_lists(alloc)?;
-    let oids = oids_of_holes(alloc)?;
-    arguments.apply_patches(types.as_slice(), oids.as_slice())?;
+    fill_holes(alloc, &mut arguments)?;
     match arguments.buffer().as_slice().get(2_399_988..2_399_992) {
         Some(bytes) => Ok(bytes == 99_999u32.to_be_bytes().as_slice()),
         None => Ok(false),

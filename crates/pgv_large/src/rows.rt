@@ -39,12 +39,18 @@ fn write_record(out: &mut PgArgumentBuffer) -> Result<(), CodecError> {
 pub fn composite(alloc: Global) -> Result<bool, CodecError> {
     let mut out = PgArgumentBuffer::new(alloc);
     write_record(&mut out)?;
-    let value = PgValueRef::new(
-        Some(out.as_slice()),
-        composite_type(alloc)?,
-        PgValueFormat::Binary,
-    );
+    is_record(alloc, out.as_slice())
+}
+
+/// Whether bytes are that record.
+fn is_record(alloc: Global, bytes: &[u8]) -> Result<bool, CodecError> {
+    let value = PgValueRef::new(Some(bytes), composite_type(alloc)?, PgValueFormat::Binary);
     let mut fields = PgRecordDecoder::new(alloc, value)?;
+    are_in_order(&mut fields)
+}
+
+/// Whether the fields are the numbers from 0 on.
+fn are_in_order(fields: &mut PgRecordDecoder<'_>) -> Result<bool, CodecError> {
     for number in 0..FIELDS {
         if fields.try_decode::<i32>()? != number {
             return Ok(false);
@@ -76,14 +82,21 @@ fn others_are_seven(fields: &mut PgRecordDecoder<'_>) -> Result<bool, CodecError
 /// A record text whose first field is quoted, and so is copied.
 pub fn in_text(alloc: Global) -> Result<bool, CodecError> {
     let text = record_text(alloc)?;
+    is_record_text(alloc, text.as_bytes())
+}
+
+/// Whether bytes are that text.
+fn is_record_text(alloc: Global, bytes: &[u8]) -> Result<bool, CodecError> {
     let record = PgTypeInfo(PgType::Record);
-    let value = PgValueRef::new(Some(text.as_bytes()), record, PgValueFormat::Text);
+    let value = PgValueRef::new(Some(bytes), record, PgValueFormat::Text);
     let mut fields = PgRecordDecoder::new(alloc, value)?;
+    Ok(first_is_quoted(&mut fields)? && others_are_seven(&mut fields)?)
+}
+
+/// Whether the first field has the quote.
+fn first_is_quoted(fields: &mut PgRecordDecoder<'_>) -> Result<bool, CodecError> {
     let first = fields.try_decode::<String>()?;
-    if first.as_str() != "7\"" {
-        return Ok(false);
-    }
-    others_are_seven(&mut fields)
+    Ok(first.as_str() == "7\"")
 }
 
 /// A stream of COPY with one row of the number 7.
@@ -119,11 +132,19 @@ fn are_seven(alloc: Global, row: Vec<PgValueRef<'_>>) -> Result<bool, CodecError
 /// The row of a stream, and its end.
 pub fn copied(alloc: Global) -> Result<bool, CodecError> {
     let bytes = stream(alloc)?;
-    let mut reader = PgCopyReader::new(bytes.as_slice(), columns(alloc)?)?;
-    let Some(row) = reader.next_row()? else {
-        return Ok(false);
-    };
-    let len = row.len();
-    let are_seven = are_seven(alloc, row)?;
-    Ok(len == 1_700 && are_seven && reader.next_row()?.is_none())
+    is_stream(alloc, bytes.as_slice())
+}
+
+/// Whether bytes are that stream.
+fn is_stream(alloc: Global, bytes: &[u8]) -> Result<bool, CodecError> {
+    let mut reader = PgCopyReader::new(bytes, columns(alloc)?)?;
+    Ok(is_row(alloc, &mut reader)? && reader.next_row()?.is_none())
+}
+
+/// Whether its row comes next.
+fn is_row(alloc: Global, reader: &mut PgCopyReader<'_>) -> Result<bool, CodecError> {
+    match reader.next_row()? {
+        Some(row) => Ok(row.len() == 1_700 && are_seven(alloc, row)?),
+        None => Ok(false),
+    }
 }

@@ -27,27 +27,48 @@ fn type_row(
     })
 }
 
-/// A type of each class with parts, wholes before their parts.
-fn rows(alloc: Global) -> Result<PgCatalogRows, AllocError> {
-    let mut rows = PgCatalogRows::new(alloc);
-    rows.types.push(type_row(alloc, 16601, "_mood", PgTypeClass::Array, 16600)?)?;
-    rows.types
-        .push(type_row(alloc, 16600, "mood", PgTypeClass::Enum, 0)?)?;
-    rows.types
-        .push(type_row(alloc, 16602, "item", PgTypeClass::Composite, 0)?)?;
-    rows.types
-        .push(type_row(alloc, 16604, "span", PgTypeClass::Range, 16603)?)?;
-    rows.types.push(type_row(alloc, 16603, "positive", PgTypeClass::Domain, 23)?)?;
-    rows.fields.push(PgFieldRow {
+/// A type of each class with parts: its OID, its name, and the OID of its part. Wholes stand before their parts.
+const TYPES: [(u32, &str, PgTypeClass, u32); 5] = [
+    (16601, "_mood", PgTypeClass::Array, 16600),
+    (16600, "mood", PgTypeClass::Enum, 0),
+    (16602, "item", PgTypeClass::Composite, 0),
+    (16604, "span", PgTypeClass::Range, 16603),
+    (16603, "positive", PgTypeClass::Domain, 23),
+];
+
+/// The rows of these types.
+fn type_rows(alloc: Global) -> Result<Vec<PgTypeRow>, AllocError> {
+    let mut rows = Vec::new(alloc);
+    for (oid, name, class, part) in TYPES {
+        rows.push(type_row(alloc, oid, name, class, part)?)?;
+    }
+    Ok(rows)
+}
+
+/// The row of the field of `item`.
+fn field_row(alloc: Global) -> Result<PgFieldRow, AllocError> {
+    Ok(PgFieldRow {
         of: Oid(16602),
         name: String::from_str(alloc, "moods")?,
         field_type: Oid(16601),
-    })?;
-    rows.labels.push(PgLabelRow {
+    })
+}
+
+/// The row of the label of `mood`.
+fn label_row(alloc: Global) -> Result<PgLabelRow, AllocError> {
+    Ok(PgLabelRow {
         of: Oid(16600),
         label: String::from_str(alloc, "ok")?,
-    })?;
-    Ok(rows)
+    })
+}
+
+/// The rows of a catalogue.
+fn rows(alloc: Global) -> Result<PgCatalogRows, AllocError> {
+    Ok(PgCatalogRows {
+        types: type_rows(alloc)?,
+        fields: Vec::from_array(alloc, [field_row(alloc)?])?,
+        labels: Vec::from_array(alloc, [label_row(alloc)?])?,
+    })
 }
 
 /// A refusal by its number, where it has one.
@@ -104,9 +125,8 @@ fn fill_moods(
 
 /// The bytes of filled arguments.
 fn filled(alloc: Global) -> Result<String, CodecError> {
-    let types = resolved(alloc)?;
     let mut arguments = moods(alloc)?;
-    fill_moods(alloc, &mut arguments, &types)?;
+    fill_moods(alloc, &mut arguments, &resolved(alloc)?)?;
     Ok(hex::encode(alloc, arguments.buffer().as_slice())?)
 }
 

@@ -3,7 +3,7 @@
 
 use pgv::catalog::{PgFieldRow, PgLabelRow, PgTypeRow};
 use pgv::row::{FromRow, PgRow};
-use pgv::{CodecError, Decode, PgEnum, Type};
+use pgv::{CodecError, Decode, PgEnum, PgValue, Type};
 use pgv_examples::mood::Mood;
 use std::alloc::Global;
 use std::fmt::Debug;
@@ -54,13 +54,15 @@ fn unchecked(alloc: Global, row: &PgRow<'_>, name: &str) -> Result<String, Codec
 /// The bytes of a value that is kept.
 fn raw(alloc: Global, row: &PgRow<'_>, name: &str) -> Result<String, CodecError> {
     match row.try_get_raw(name) {
-        Ok(value) => {
-            let kept = value.to_owned(alloc)?;
-            let lent = kept.as_ref()?;
-            Ok(hex::encode(alloc, lent.as_bytes()?)?)
-        }
+        Ok(value) => kept(alloc, &value.to_owned(alloc)?),
         Err(error) => Err(CodecError::from(error)),
     }
+}
+
+/// The bytes of a value that was kept.
+fn kept(alloc: Global, value: &PgValue) -> Result<String, CodecError> {
+    let lent = value.as_ref()?;
+    Ok(hex::encode(alloc, lent.as_bytes()?)?)
 }
 
 /// The name of a column.

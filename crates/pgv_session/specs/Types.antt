@@ -33,6 +33,8 @@ use Rattle.pgv_numeric.specs.MoneyCodec.{parse_money}
 use Rattle.pgv_numeric.specs.Numeric.{numeric_image, parse_numeric}
 use Rattle.pgv_range.specs.RangeGrammar.{parse_range}
 use Rattle.pgv_range.specs.RangeSaying.{range_written}
+use Rattle.pgv_session.specs.declared.type_name.TypeName.{TypeName}
+use Rattle.pgv_session.specs.declared.type_name.TypeName.TheVariants.{Bool, Char, Int2, Int4, Int8, Oid, Text, Uuid, Date, Time, Timestamp, Timestamptz, Timetz, Interval, Varbit, Inet, Macaddr, Bytea, Citext, Money, Numeric, Hstore, Int4Range, Int8Range, DateRange, Ltree, Lquery, Int4Array, TextArray, DateArray, LtreeArray}
 
 -- what is added of a value: its type and its frame, where it has one
 abbrev pub framed_as : Ty → Encoding → Option Framed
@@ -77,39 +79,74 @@ list_row info element parse written =
 abbrev pub range_row : {M : Type 0} → Ty → Ty → (Given → Outcome M) → (Ty → M → Encoding) → Row
 range_row info element parse written = row info (parse_range element parse) (λ _ m. range_written (written element) m)
 
+-- the rows of the TYPEs
+abbrev pub row_of : TypeName → Row
+row_of Bool = row (builtin 16) (without_memory parse_bool) (by_image (λ _. 0) bool_image)
+row_of Char = row (builtin 18) (without_memory parse_char) (by_image (λ _. 0) (signed_image w8))
+row_of Int2 = row (builtin 21) (without_memory (parse_int w16)) (by_image (λ _. 0) (signed_image w16))
+row_of Int4 = row (builtin 23) (without_memory (parse_int w32)) (by_image (λ _. 0) (signed_image w32))
+row_of Int8 = row (builtin 20) (without_memory (parse_int w64)) (by_image (λ _. 0) (signed_image w64))
+row_of Oid = row (builtin 26) (without_memory parse_oid) (by_image (λ _. 0) (unsigned_image w32))
+row_of Text = row (builtin 25) parse_text (by_image (λ _. 0) text_image)
+row_of Uuid = row (builtin 2950) (without_memory parse_uuid) (by_image (λ _. 0) uuid_image)
+row_of Date = row (builtin 1082) (without_memory parse_date) (by_image (λ _. 4) date_image)
+row_of Time = row (builtin 1083) (without_memory parse_time) (by_image (λ _. 8) time_image)
+row_of Timestamp = row (builtin 1114) (without_memory parse_date_time) (by_image (λ _. 8) moment_image)
+row_of Timestamptz = row (builtin 1184) (without_memory parse_instant) (by_image (λ _. 8) moment_image)
+row_of Timetz = row (builtin 1266) (without_memory parse_time_tz) (λ _ m. with_hint 12 (time_tz_image m))
+row_of Interval = row (builtin 1186) (without_memory parse_interval) (by_image (λ _. 16) interval_image)
+row_of Varbit = row (builtin 1562) parse_bits (λ _ m. with_hint (bits_hint m) (bits_image m))
+row_of Inet = row (builtin 869) (without_memory parse_network) (by_image network_hint network_image)
+row_of Macaddr = row (builtin 829) (without_memory parse_mac) (by_image (λ _. 6) mac_image)
+row_of Bytea = row (builtin 17) parse_bytea (by_image (λ _. 0) text_image)
+row_of Citext = row (named (codes "citext")) parse_text (by_image (λ _. 0) text_image)
+row_of Money = row (builtin 790) (without_memory parse_money) (by_image (λ _. 0) (signed_image w64))
+row_of Numeric = row (builtin 1700) parse_numeric (λ _ m. plainly (numeric_image m))
+row_of Hstore = row (named (codes "hstore")) parse_hstore (λ _ ps. plainly (hstore_image ps))
+row_of Int4Range = range_row (builtin 3904) (builtin 23) (without_memory (parse_int w32)) (by_image (λ _. 0) (signed_image w32))
+row_of Int8Range = range_row (builtin 3926) (builtin 20) (without_memory (parse_int w64)) (by_image (λ _. 0) (signed_image w64))
+row_of DateRange = range_row (builtin 3912) (builtin 1082) (without_memory parse_date) (by_image (λ _. 4) date_image)
+row_of Ltree = row ltree parse_tree (by_image (λ _. 0) tree_image)
+row_of Lquery = row lquery parse_query (by_image (λ _. 0) query_image)
+row_of Int4Array = list_row (builtin 1007) (builtin 23) (without_memory (parse_int w32)) (by_image (λ _. 0) (signed_image w32))
+row_of TextArray = list_row (builtin 1009) (builtin 25) parse_text (by_image (λ _. 0) text_image)
+row_of DateArray = list_row (builtin 1182) (builtin 1082) (without_memory parse_date) (by_image (λ _. 4) date_image)
+row_of LtreeArray = list_row ltree_array ltree parse_tree (by_image (λ _. 0) tree_image)
+
+-- the rows by their names
 abbrev pub types : List (List ℕ × Row)
 types =
-    (codes "bool", row (builtin 16) (without_memory parse_bool) (by_image (λ _. 0) bool_image)) ∷
-    (codes "char", row (builtin 18) (without_memory parse_char) (by_image (λ _. 0) (signed_image w8))) ∷
-    (codes "int2", row (builtin 21) (without_memory (parse_int w16)) (by_image (λ _. 0) (signed_image w16))) ∷
-    (codes "int4", row (builtin 23) (without_memory (parse_int w32)) (by_image (λ _. 0) (signed_image w32))) ∷
-    (codes "int8", row (builtin 20) (without_memory (parse_int w64)) (by_image (λ _. 0) (signed_image w64))) ∷
-    (codes "oid", row (builtin 26) (without_memory parse_oid) (by_image (λ _. 0) (unsigned_image w32))) ∷
-    (codes "text", row (builtin 25) parse_text (by_image (λ _. 0) text_image)) ∷
-    (codes "uuid", row (builtin 2950) (without_memory parse_uuid) (by_image (λ _. 0) uuid_image)) ∷
-    (codes "date", row (builtin 1082) (without_memory parse_date) (by_image (λ _. 4) date_image)) ∷
-    (codes "time", row (builtin 1083) (without_memory parse_time) (by_image (λ _. 8) time_image)) ∷
-    (codes "timestamp", row (builtin 1114) (without_memory parse_date_time) (by_image (λ _. 8) moment_image)) ∷
-    (codes "timestamptz", row (builtin 1184) (without_memory parse_instant) (by_image (λ _. 8) moment_image)) ∷
-    (codes "timetz", row (builtin 1266) (without_memory parse_time_tz) (λ _ m. with_hint 12 (time_tz_image m))) ∷
-    (codes "interval", row (builtin 1186) (without_memory parse_interval) (by_image (λ _. 16) interval_image)) ∷
-    (codes "varbit", row (builtin 1562) parse_bits (λ _ m. with_hint (bits_hint m) (bits_image m))) ∷
-    (codes "inet", row (builtin 869) (without_memory parse_network) (by_image network_hint network_image)) ∷
-    (codes "macaddr", row (builtin 829) (without_memory parse_mac) (by_image (λ _. 6) mac_image)) ∷
-    (codes "bytea", row (builtin 17) parse_bytea (by_image (λ _. 0) text_image)) ∷
-    (codes "citext", row (named (codes "citext")) parse_text (by_image (λ _. 0) text_image)) ∷
-    (codes "money", row (builtin 790) (without_memory parse_money) (by_image (λ _. 0) (signed_image w64))) ∷
-    (codes "numeric", row (builtin 1700) parse_numeric (λ _ m. plainly (numeric_image m))) ∷
-    (codes "hstore", row (named (codes "hstore")) parse_hstore (λ _ ps. plainly (hstore_image ps))) ∷
-    (codes "int4range", range_row (builtin 3904) (builtin 23) (without_memory (parse_int w32)) (by_image (λ _. 0) (signed_image w32))) ∷
-    (codes "int8range", range_row (builtin 3926) (builtin 20) (without_memory (parse_int w64)) (by_image (λ _. 0) (signed_image w64))) ∷
-    (codes "daterange", range_row (builtin 3912) (builtin 1082) (without_memory parse_date) (by_image (λ _. 4) date_image)) ∷
-    (codes "ltree", row ltree parse_tree (by_image (λ _. 0) tree_image)) ∷
-    (codes "lquery", row lquery parse_query (by_image (λ _. 0) query_image)) ∷
-    (codes "int4[]", list_row (builtin 1007) (builtin 23) (without_memory (parse_int w32)) (by_image (λ _. 0) (signed_image w32))) ∷
-    (codes "text[]", list_row (builtin 1009) (builtin 25) parse_text (by_image (λ _. 0) text_image)) ∷
-    (codes "date[]", list_row (builtin 1182) (builtin 1082) (without_memory parse_date) (by_image (λ _. 4) date_image)) ∷
-    (codes "ltree[]", list_row ltree_array ltree parse_tree (by_image (λ _. 0) tree_image)) ∷
+    (codes "bool", row_of Bool) ∷
+    (codes "char", row_of Char) ∷
+    (codes "int2", row_of Int2) ∷
+    (codes "int4", row_of Int4) ∷
+    (codes "int8", row_of Int8) ∷
+    (codes "oid", row_of Oid) ∷
+    (codes "text", row_of Text) ∷
+    (codes "uuid", row_of Uuid) ∷
+    (codes "date", row_of Date) ∷
+    (codes "time", row_of Time) ∷
+    (codes "timestamp", row_of Timestamp) ∷
+    (codes "timestamptz", row_of Timestamptz) ∷
+    (codes "timetz", row_of Timetz) ∷
+    (codes "interval", row_of Interval) ∷
+    (codes "varbit", row_of Varbit) ∷
+    (codes "inet", row_of Inet) ∷
+    (codes "macaddr", row_of Macaddr) ∷
+    (codes "bytea", row_of Bytea) ∷
+    (codes "citext", row_of Citext) ∷
+    (codes "money", row_of Money) ∷
+    (codes "numeric", row_of Numeric) ∷
+    (codes "hstore", row_of Hstore) ∷
+    (codes "int4range", row_of Int4Range) ∷
+    (codes "int8range", row_of Int8Range) ∷
+    (codes "daterange", row_of DateRange) ∷
+    (codes "ltree", row_of Ltree) ∷
+    (codes "lquery", row_of Lquery) ∷
+    (codes "int4[]", row_of Int4Array) ∷
+    (codes "text[]", row_of TextArray) ∷
+    (codes "date[]", row_of DateArray) ∷
+    (codes "ltree[]", row_of LtreeArray) ∷
     []
 
 -- the row of a name, where it has one

@@ -6,6 +6,7 @@ mod copied;
 pub mod laws;
 mod line;
 mod session;
+mod type_name;
 mod value;
 
 pub use line::split_at_byte;

@@ -11,9 +11,10 @@ ghost use Rattle.pgv_session.specs.RequestsView.{ask_seen};
 ghost use Rattle.pgv_session.specs.Session.{RespondsBy, Adds, AddsText, ReadsPart, Shows, IsRefusal, refused, placeholder as placeholder_of};
 ghost use Rattle.pgv_session.specs.Spelled.{to_read};
 ghost use Rattle.pgv_session.specs.ToldView.{told_text, is_said, TellsOf};
-ghost use Rattle.pgv_session.specs.Types.{framed_as, row, row_named, types};
+ghost use Rattle.pgv_session.specs.Types.{framed_as, row, row_named, row_of, types};
 
-use crate::line::{Ask, is};
+use crate::line::Ask;
+use crate::type_name::{TypeName, type_name};
 use jiff::Timestamp;
 use jiff::civil::{Date, DateTime, Time};
 use pgv_codec::{Codec, Encode, PgArgumentBuffer, Type};
@@ -54,39 +55,45 @@ impl Told {
 pub fn type_named(name: &[u8]) -> Option<PgTypeInfo>
     ensures { result ≡ option_map (λ row. row.info) (row_named types name.now) }
 {
+    Some(type_of(type_name(name)?))
+}
+
+/// The type that a TYPE has.
+fn type_of(name: TypeName) -> PgTypeInfo
+    ensures { result ≡ (row_of name).info }
+{
     match name {
-        _ if is(name, "bool") => Some(bool::type_info()),
-        _ if is(name, "char") => Some(i8::type_info()),
-        _ if is(name, "int2") => Some(i16::type_info()),
-        _ if is(name, "int4") => Some(i32::type_info()),
-        _ if is(name, "int8") => Some(i64::type_info()),
-        _ if is(name, "oid") => Some(Oid::type_info()),
-        _ if is(name, "text") => Some(String::type_info()),
-        _ if is(name, "uuid") => Some(Uuid::type_info()),
-        _ if is(name, "date") => Some(Date::type_info()),
-        _ if is(name, "time") => Some(Time::type_info()),
-        _ if is(name, "timestamp") => Some(DateTime::type_info()),
-        _ if is(name, "timestamptz") => Some(Timestamp::type_info()),
-        _ if is(name, "timetz") => Some(PgTimeTz::type_info()),
-        _ if is(name, "interval") => Some(PgInterval::type_info()),
-        _ if is(name, "varbit") => Some(BitVec::type_info()),
-        _ if is(name, "inet") => Some(IpNetwork::type_info()),
-        _ if is(name, "macaddr") => Some(MacAddress::type_info()),
-        _ if is(name, "bytea") => Some(PgBytea::type_info()),
-        _ if is(name, "citext") => Some(PgCiText::type_info()),
-        _ if is(name, "money") => Some(PgMoney::type_info()),
-        _ if is(name, "numeric") => Some(PgNumeric::type_info()),
-        _ if is(name, "hstore") => Some(PgHstore::type_info()),
-        _ if is(name, "int4range") => Some(<PgRange<i32>>::type_info()),
-        _ if is(name, "int8range") => Some(<PgRange<i64>>::type_info()),
-        _ if is(name, "daterange") => Some(<PgRange<Date>>::type_info()),
-        _ if is(name, "ltree") => Some(PgLTree::type_info()),
-        _ if is(name, "lquery") => Some(PgLQuery::type_info()),
-        _ if is(name, "int4[]") => Some(<Vec<Option<i32>>>::type_info()),
-        _ if is(name, "text[]") => Some(<Vec<Option<String>>>::type_info()),
-        _ if is(name, "date[]") => Some(<Vec<Option<Date>>>::type_info()),
-        _ if is(name, "ltree[]") => Some(<Vec<Option<PgLTree>>>::type_info()),
-        _ => None,
+        TypeName::Bool => bool::type_info(),
+        TypeName::Char => i8::type_info(),
+        TypeName::Int2 => i16::type_info(),
+        TypeName::Int4 => i32::type_info(),
+        TypeName::Int8 => i64::type_info(),
+        TypeName::Oid => Oid::type_info(),
+        TypeName::Text => String::type_info(),
+        TypeName::Uuid => Uuid::type_info(),
+        TypeName::Date => Date::type_info(),
+        TypeName::Time => Time::type_info(),
+        TypeName::Timestamp => DateTime::type_info(),
+        TypeName::Timestamptz => Timestamp::type_info(),
+        TypeName::Timetz => PgTimeTz::type_info(),
+        TypeName::Interval => PgInterval::type_info(),
+        TypeName::Varbit => BitVec::type_info(),
+        TypeName::Inet => IpNetwork::type_info(),
+        TypeName::Macaddr => MacAddress::type_info(),
+        TypeName::Bytea => PgBytea::type_info(),
+        TypeName::Citext => PgCiText::type_info(),
+        TypeName::Money => PgMoney::type_info(),
+        TypeName::Numeric => PgNumeric::type_info(),
+        TypeName::Hstore => PgHstore::type_info(),
+        TypeName::Int4Range => <PgRange<i32>>::type_info(),
+        TypeName::Int8Range => <PgRange<i64>>::type_info(),
+        TypeName::DateRange => <PgRange<Date>>::type_info(),
+        TypeName::Ltree => PgLTree::type_info(),
+        TypeName::Lquery => PgLQuery::type_info(),
+        TypeName::Int4Array => <Vec<Option<i32>>>::type_info(),
+        TypeName::TextArray => <Vec<Option<String>>>::type_info(),
+        TypeName::DateArray => <Vec<Option<Date>>>::type_info(),
+        TypeName::LtreeArray => <Vec<Option<PgLTree>>>::type_info(),
     }
 }
 
@@ -102,39 +109,56 @@ pub fn respond_by(
         arguments.old (told_text told) arguments.new) }
     ensures exact { IfOk result (TellsOf (row_named types name.now) (ask_seen ask.entry)) }
 {
+    match type_name(name) {
+        Some(name) => respond(alloc, arguments, name, ask),
+        None => Ok(Told::Refused(String::from_str(alloc, "refused line")?)),
+    }
+}
+
+/// Answers what is asked of a value of a TYPE.
+fn respond(
+    alloc: Global,
+    arguments: &mut PgArguments,
+    name: TypeName,
+    ask: Ask,
+) -> Result<Told, AllocError>
+    ensures answer { IfOk result (λ told.
+        RespondsBy (Some (row_of name)) (ask_seen ask.entry)
+        arguments.old (told_text told) arguments.new) }
+    ensures exact { IfOk result (TellsOf (Some (row_of name)) (ask_seen ask.entry)) }
+{
     match name {
-        _ if is(name, "bool") => respond_as::<bool>(alloc, arguments, ask),
-        _ if is(name, "char") => respond_as::<i8>(alloc, arguments, ask),
-        _ if is(name, "int2") => respond_as::<i16>(alloc, arguments, ask),
-        _ if is(name, "int4") => respond_as::<i32>(alloc, arguments, ask),
-        _ if is(name, "int8") => respond_as::<i64>(alloc, arguments, ask),
-        _ if is(name, "oid") => respond_as::<Oid>(alloc, arguments, ask),
-        _ if is(name, "text") => respond_as::<String>(alloc, arguments, ask),
-        _ if is(name, "uuid") => respond_as::<Uuid>(alloc, arguments, ask),
-        _ if is(name, "date") => respond_as::<Date>(alloc, arguments, ask),
-        _ if is(name, "time") => respond_as::<Time>(alloc, arguments, ask),
-        _ if is(name, "timestamp") => respond_as::<DateTime>(alloc, arguments, ask),
-        _ if is(name, "timestamptz") => respond_as::<Timestamp>(alloc, arguments, ask),
-        _ if is(name, "timetz") => respond_as::<PgTimeTz>(alloc, arguments, ask),
-        _ if is(name, "interval") => respond_as::<PgInterval>(alloc, arguments, ask),
-        _ if is(name, "varbit") => respond_as::<BitVec>(alloc, arguments, ask),
-        _ if is(name, "inet") => respond_as::<IpNetwork>(alloc, arguments, ask),
-        _ if is(name, "macaddr") => respond_as::<MacAddress>(alloc, arguments, ask),
-        _ if is(name, "bytea") => respond_as::<PgBytea>(alloc, arguments, ask),
-        _ if is(name, "citext") => respond_as::<PgCiText>(alloc, arguments, ask),
-        _ if is(name, "money") => respond_as::<PgMoney>(alloc, arguments, ask),
-        _ if is(name, "numeric") => respond_as::<PgNumeric>(alloc, arguments, ask),
-        _ if is(name, "hstore") => respond_as::<PgHstore>(alloc, arguments, ask),
-        _ if is(name, "int4range") => respond_as::<PgRange<i32>>(alloc, arguments, ask),
-        _ if is(name, "int8range") => respond_as::<PgRange<i64>>(alloc, arguments, ask),
-        _ if is(name, "daterange") => respond_as::<PgRange<Date>>(alloc, arguments, ask),
-        _ if is(name, "ltree") => respond_as::<PgLTree>(alloc, arguments, ask),
-        _ if is(name, "lquery") => respond_as::<PgLQuery>(alloc, arguments, ask),
-        _ if is(name, "int4[]") => respond_as::<Vec<Option<i32>>>(alloc, arguments, ask),
-        _ if is(name, "text[]") => respond_as::<Vec<Option<String>>>(alloc, arguments, ask),
-        _ if is(name, "date[]") => respond_as::<Vec<Option<Date>>>(alloc, arguments, ask),
-        _ if is(name, "ltree[]") => respond_as::<Vec<Option<PgLTree>>>(alloc, arguments, ask),
-        _ => Ok(Told::Refused(String::from_str(alloc, "refused line")?)),
+        TypeName::Bool => respond_as::<bool>(alloc, arguments, ask),
+        TypeName::Char => respond_as::<i8>(alloc, arguments, ask),
+        TypeName::Int2 => respond_as::<i16>(alloc, arguments, ask),
+        TypeName::Int4 => respond_as::<i32>(alloc, arguments, ask),
+        TypeName::Int8 => respond_as::<i64>(alloc, arguments, ask),
+        TypeName::Oid => respond_as::<Oid>(alloc, arguments, ask),
+        TypeName::Text => respond_as::<String>(alloc, arguments, ask),
+        TypeName::Uuid => respond_as::<Uuid>(alloc, arguments, ask),
+        TypeName::Date => respond_as::<Date>(alloc, arguments, ask),
+        TypeName::Time => respond_as::<Time>(alloc, arguments, ask),
+        TypeName::Timestamp => respond_as::<DateTime>(alloc, arguments, ask),
+        TypeName::Timestamptz => respond_as::<Timestamp>(alloc, arguments, ask),
+        TypeName::Timetz => respond_as::<PgTimeTz>(alloc, arguments, ask),
+        TypeName::Interval => respond_as::<PgInterval>(alloc, arguments, ask),
+        TypeName::Varbit => respond_as::<BitVec>(alloc, arguments, ask),
+        TypeName::Inet => respond_as::<IpNetwork>(alloc, arguments, ask),
+        TypeName::Macaddr => respond_as::<MacAddress>(alloc, arguments, ask),
+        TypeName::Bytea => respond_as::<PgBytea>(alloc, arguments, ask),
+        TypeName::Citext => respond_as::<PgCiText>(alloc, arguments, ask),
+        TypeName::Money => respond_as::<PgMoney>(alloc, arguments, ask),
+        TypeName::Numeric => respond_as::<PgNumeric>(alloc, arguments, ask),
+        TypeName::Hstore => respond_as::<PgHstore>(alloc, arguments, ask),
+        TypeName::Int4Range => respond_as::<PgRange<i32>>(alloc, arguments, ask),
+        TypeName::Int8Range => respond_as::<PgRange<i64>>(alloc, arguments, ask),
+        TypeName::DateRange => respond_as::<PgRange<Date>>(alloc, arguments, ask),
+        TypeName::Ltree => respond_as::<PgLTree>(alloc, arguments, ask),
+        TypeName::Lquery => respond_as::<PgLQuery>(alloc, arguments, ask),
+        TypeName::Int4Array => respond_as::<Vec<Option<i32>>>(alloc, arguments, ask),
+        TypeName::TextArray => respond_as::<Vec<Option<String>>>(alloc, arguments, ask),
+        TypeName::DateArray => respond_as::<Vec<Option<Date>>>(alloc, arguments, ask),
+        TypeName::LtreeArray => respond_as::<Vec<Option<PgLTree>>>(alloc, arguments, ask),
     }
 }
 
