@@ -11,7 +11,7 @@ use crate::inbox::Inbox;
 use pgv::message::{
     self, PgExchange, PgMessage, PgNotice, PgRequest, PgSetting, authentication_of,
 };
-use std::alloc::Global;
+use std::alloc::{AllocError, Global};
 use std::io::{Read, Write};
 
 /// A session: what the server writes, and what it reads.
@@ -154,11 +154,16 @@ fn admitted(body: &[u8]) -> Result<(), Fault> {
 /// The text of an error: its severity, SQLSTATE and message, and where in the query it is.
 fn error_text(alloc: Global, body: &[u8]) -> Result<String, Fault> {
     let notice = PgNotice::read(alloc, body)?;
+    Ok(notice_text(alloc, &notice)?)
+}
+
+/// The same of a notice that was read.
+fn notice_text(alloc: Global, notice: &PgNotice<'_>) -> Result<String, AllocError> {
     let severity = notice.severity().unwrap_or("ERROR");
     let code = notice.code().unwrap_or("");
     let text = notice.message().unwrap_or("");
     match notice.position() {
-        Some(place) => Ok(format!(in alloc; "{severity} {code}: {text} (at {place})")?),
-        None => Ok(format!(in alloc; "{severity} {code}: {text}")?),
+        Some(place) => format!(in alloc; "{severity} {code}: {text} (at {place})"),
+        None => format!(in alloc; "{severity} {code}: {text}"),
     }
 }

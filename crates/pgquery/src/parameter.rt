@@ -182,6 +182,44 @@ fn texts_of(alloc: Global, texts: &[Option<String>]) -> Result<Bindings, Fault> 
     })
 }
 
+/// Adds the parameter that a word is: its bytes in hex, or its text.
+fn add_word(
+    alloc: Global,
+    arguments: &mut PgArguments,
+    type_info: &PgTypeInfo,
+    word: &Option<String>,
+    is_binary: bool,
+) -> Result<(), CodecError> {
+    if is_binary {
+        add_bytes(alloc, arguments, type_info, word)
+    } else {
+        add_text(alloc, arguments, type_info, word)
+    }
+}
+
+/// Adds the parameters that the words are, and their types; whether the codec reads all these from text.
+fn add_words(
+    alloc: Global,
+    oids: &[Oid],
+    options: &Options,
+    known: &PgServerTypes,
+    arguments: &mut PgArguments,
+    types: &mut Vec<PgTypeInfo>,
+) -> Result<bool, Fault> {
+    let is_binary = matches!(options.shown, Shown::Frames);
+    for (oid, word) in oids.iter().zip(options.parameters.as_slice()) {
+        let type_info = type_of(known, *oid)?;
+        match add_word(alloc, arguments, &type_info, word, is_binary) {
+            Ok(()) => types.push(type_info)?,
+            Err(CodecError::TextUnsupported | CodecError::MismatchedTypes) if !is_binary => {
+                return Ok(false);
+            }
+            Err(error) => return Err(Fault::Parameter(types.len().saturating_add(1), error)),
+        }
+    }
+    Ok(true)
+}
+
 /// What is bound to parameters of these OIDs, with the holes filled. Where the codec doesn't read the type of one from
 /// text, all are bound as their texts.
 pub fn bound(
@@ -190,27 +228,13 @@ pub fn bound(
     options: &Options,
     known: &PgServerTypes,
 ) -> Result<Bindings, Fault> {
-    let words = options.parameters.as_slice();
-    if oids.len() != words.len() {
+    if oids.len() != options.parameters.len() {
         return Err(Fault::Parameters(oids.len()));
     }
-    let is_binary = matches!(options.shown, Shown::Frames);
     let mut arguments = PgArguments::new(alloc);
     let mut types = Vec::new(alloc);
-    for (oid, word) in oids.iter().zip(words) {
-        let type_info = type_of(known, *oid)?;
-        let added = if is_binary {
-            add_bytes(alloc, &mut arguments, &type_info, word)
-        } else {
-            add_text(alloc, &mut arguments, &type_info, word)
-        };
-        match added {
-            Ok(()) => types.push(type_info)?,
-            Err(CodecError::TextUnsupported | CodecError::MismatchedTypes) if !is_binary => {
-                return texts_of(alloc, words);
-            }
-            Err(error) => return Err(Fault::Parameter(types.len().saturating_add(1), error)),
-        }
+    if !add_words(alloc, oids, options, known, &mut arguments, &mut types)? {
+        return texts_of(alloc, options.parameters.as_slice());
     }
     fill(alloc, &mut arguments, types.as_slice(), known)?;
     Ok(Bindings {

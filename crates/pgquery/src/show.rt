@@ -10,7 +10,7 @@ use crate::parameter::add_value;
 use crate::source::Source;
 use pgv::catalog::{PgServerTypes, fill};
 use pgv::row::PgRow;
-use pgv::{CodecError, PgArguments};
+use pgv::{CodecError, PgArguments, PgTypeInfo};
 use std::alloc::{AllocError, Global};
 
 /// Appends a byte as COPY escapes it (PostgreSQL, "COPY", "Text Format").
@@ -144,6 +144,34 @@ pub fn push_object(row: &PgRow<'_>, line: &mut Vec<u8>) -> Result<(), Fault>
     Ok(line.extend_from_slice(b"}\n")?)
 }
 
+/// Adds a row's values, as the codec reads them, and their types.
+fn add_values(
+    alloc: Global,
+    row: &PgRow<'_>,
+    arguments: &mut PgArguments,
+    types: &mut Vec<PgTypeInfo>,
+) -> Result<(), Fault> {
+    for (place, column) in row.columns().iter().enumerate() {
+        let type_info = column.type_info();
+        add_value(alloc, arguments, type_info, Source::Column(row, place))?;
+        types.push(type_info.clone()?)?;
+    }
+    Ok(())
+}
+
+/// A row's values as arguments, with the holes filled.
+fn arguments_of(
+    alloc: Global,
+    row: &PgRow<'_>,
+    known: &PgServerTypes,
+) -> Result<PgArguments, Fault> {
+    let mut arguments = PgArguments::new(alloc);
+    let mut types = Vec::new(alloc);
+    add_values(alloc, row, &mut arguments, &mut types)?;
+    fill(alloc, &mut arguments, types.as_slice(), known)?;
+    Ok(arguments)
+}
+
 /// Appends the frames that the codec writes of a row's values, as it reads them, in hex, and a line feed.
 pub fn push_frames(
     alloc: Global,
@@ -151,14 +179,7 @@ pub fn push_frames(
     known: &PgServerTypes,
     line: &mut Vec<u8>,
 ) -> Result<(), Fault> {
-    let mut arguments = PgArguments::new(alloc);
-    let mut types = Vec::new(alloc);
-    for (place, column) in row.columns().iter().enumerate() {
-        let type_info = column.type_info();
-        add_value(alloc, &mut arguments, type_info, Source::Column(row, place))?;
-        types.push(type_info.clone()?)?;
-    }
-    fill(alloc, &mut arguments, types.as_slice(), known)?;
+    let arguments = arguments_of(alloc, row, known)?;
     let digits = hex::encode(alloc, arguments.buffer().as_slice())?;
     line.extend_from_slice(digits.as_bytes())?;
     Ok(line.push(b'\n')?)

@@ -123,13 +123,19 @@ pub fn read_rows(
     Ok(sum)
 }
 
-/// The length of the Bind of a number, a text, a truth value and a long number.
-fn bind(alloc: Global, name: &String) -> Result<usize, CodecError> {
-    let mut arguments = PgArguments::new(alloc);
+/// Adds a number, a text, a truth value and a long number.
+#[inline(always)]
+fn add_four(arguments: &mut PgArguments, name: &String) -> Result<(), CodecError> {
     arguments.add(7i32)?;
     arguments.add_by_ref(name)?;
     arguments.add(true)?;
-    arguments.add(9i64)?;
+    arguments.add(9i64)
+}
+
+/// The length of the Bind of these.
+fn bind(alloc: Global, name: &String) -> Result<usize, CodecError> {
+    let mut arguments = PgArguments::new(alloc);
+    add_four(&mut arguments, name)?;
     let mut out = Vec::new(alloc);
     match write_bind(&mut out, "", "", &arguments, &[PgValueFormat::Binary]) {
         Ok(()) => Ok(out.len()),

@@ -207,32 +207,65 @@ fn own_types(alloc: Global, arguments: &PgArguments) -> Result<Vec<PgTypeInfo>, 
     Ok(arguments.types().to_vec(alloc)?)
 }
 
-pub fn patches(alloc: Global, n: u32, rounds: u32) -> Result<usize, CodecError> {
+/// As many lists of one mood.
+fn lists_of_moods(alloc: Global, n: u32) -> Result<PgArguments, CodecError> {
     let mut arguments = PgArguments::new(alloc);
-    let mut moods = Vec::new(alloc);
-    moods.push(PgEnum(Mood::Fine))?;
-    let mut oids = Vec::new(alloc);
+    let moods = Vec::from_array(alloc, [PgEnum(Mood::Fine)])?;
     for _ in 0..n {
         arguments.add_by_ref(&moods)?;
+    }
+    Ok(arguments)
+}
+
+/// As many OIDs.
+fn oids_of_moods(alloc: Global, n: u32) -> Result<Vec<Oid>, CodecError> {
+    let mut oids = Vec::new(alloc);
+    for _ in 0..n {
         oids.push(Oid(16500))?;
     }
-    let types = own_types(alloc, &arguments)?;
+    Ok(oids)
+}
+
+/// Fills all holes and slots, `rounds` times. How many bytes there are.
+fn filled(
+    arguments: &mut PgArguments,
+    types: &[PgTypeInfo],
+    oids: &[Oid],
+    rounds: u32,
+) -> Result<usize, CodecError> {
     for _ in 0..rounds {
-        arguments.apply_patches(types.as_slice(), oids.as_slice())?;
+        arguments.apply_patches(types, oids)?;
     }
     Ok(arguments.buffer().len())
 }
 
-pub fn slots(alloc: Global, n: u32, rounds: u32) -> Result<usize, CodecError> {
+pub fn patches(alloc: Global, n: u32, rounds: u32) -> Result<usize, CodecError> {
+    let mut arguments = lists_of_moods(alloc, n)?;
+    let types = own_types(alloc, &arguments)?;
+    let oids = oids_of_moods(alloc, n)?;
+    filled(&mut arguments, types.as_slice(), oids.as_slice(), rounds)
+}
+
+/// As many objects.
+fn objects(alloc: Global, n: u32) -> Result<PgArguments, CodecError> {
     let mut arguments = PgArguments::new(alloc);
-    let mut types = Vec::new(alloc);
-    let object = EmptyObject { alloc };
     for _ in 0..n {
-        arguments.add_by_ref(&object)?;
+        arguments.add_by_ref(&EmptyObject { alloc })?;
+    }
+    Ok(arguments)
+}
+
+/// As many types.
+fn types_of_objects(alloc: Global, n: u32) -> Result<Vec<PgTypeInfo>, CodecError> {
+    let mut types = Vec::new(alloc);
+    for _ in 0..n {
         types.push(PgTypeInfo(PgType::Jsonb))?;
     }
-    for _ in 0..rounds {
-        arguments.apply_patches(types.as_slice(), &[])?;
-    }
-    Ok(arguments.buffer().len())
+    Ok(types)
+}
+
+pub fn slots(alloc: Global, n: u32, rounds: u32) -> Result<usize, CodecError> {
+    let mut arguments = objects(alloc, n)?;
+    let types = types_of_objects(alloc, n)?;
+    filled(&mut arguments, types.as_slice(), &[], rounds)
 }

@@ -19,9 +19,7 @@ use std::alloc::{AllocError, Global};
 
 /// One mood, `ok`.
 fn moods(alloc: Global) -> Result<Vec<PgEnum<Mood>>, AllocError> {
-    let mut moods = Vec::new(alloc);
-    moods.push(PgEnum(Mood::Fine))?;
-    Ok(moods)
+    Ok(Vec::from_array(alloc, [PgEnum(Mood::Fine)])?)
 }
 
 /// One mood as a text, or none.
@@ -35,16 +33,13 @@ fn mood_texts(alloc: Global, some: bool) -> Result<Vec<MoodText>, AllocError> {
 
 /// The tree `a.b` in a list.
 fn trees(alloc: Global) -> Result<Vec<PgLTree>, CodecError> {
-    let mut trees = Vec::new(alloc);
-    trees.push(PgLTree::from_str(alloc, "a.b")?)?;
-    Ok(trees)
+    let tree = PgLTree::from_str(alloc, "a.b")?;
+    Ok(Vec::from_array(alloc, [tree])?)
 }
 
 /// A tree without labels in a list.
 fn empty_trees(alloc: Global) -> Result<Vec<PgLTree>, AllocError> {
-    let mut trees = Vec::new(alloc);
-    trees.push(PgLTree::new(alloc))?;
-    Ok(trees)
+    Ok(Vec::from_array(alloc, [PgLTree::new(alloc)])?)
 }
 
 /// No day, and the first day of 2000.
@@ -63,17 +58,12 @@ fn page(alloc: Global) -> Result<PgComposite<Page>, CodecError> {
 
 /// That page in a list.
 fn pages(alloc: Global) -> Result<Vec<PgComposite<Page>>, CodecError> {
-    let mut pages = Vec::new(alloc);
-    pages.push(page(alloc)?)?;
-    Ok(pages)
+    Ok(Vec::from_array(alloc, [page(alloc)?])?)
 }
 
 /// An empty text and null.
 fn texts(alloc: Global) -> Result<Vec<Option<String>>, AllocError> {
-    let mut texts = Vec::new(alloc);
-    texts.push(Some(String::new(alloc)))?;
-    texts.push(None)?;
-    Ok(texts)
+    Ok(Vec::from_array(alloc, [Some(String::new(alloc)), None])?)
 }
 
 /// Adds the value of this name, of std's types.
@@ -195,15 +185,20 @@ fn zeros(alloc: Global, arguments: &PgArguments) -> Result<Vec<Oid>, AllocError>
     Ok(oids)
 }
 
-/// A copy whose bytes tell where its slots are: they are filled for parameters of `jsonb`.
-fn with_slots_filled(alloc: Global, arguments: &PgArguments) -> Result<PgArguments, AllocError> {
-    let mut copy = arguments.clone()?;
+/// Fills the slots for parameters of `jsonb`.
+fn fill_slots(alloc: Global, arguments: &mut PgArguments) -> Result<(), AllocError> {
     let types = all_jsonb(alloc, arguments)?;
     let oids = zeros(alloc, arguments)?;
-    match copy.apply_patches(types.as_slice(), oids.as_slice()) {
-        Ok(()) => Ok(copy),
-        Err(_) => Err(AllocError),
-    }
+    arguments
+        .apply_patches(types.as_slice(), oids.as_slice())
+        .or(Err(AllocError))
+}
+
+/// A copy whose bytes show where its slots are: they are filled.
+fn with_slots_filled(alloc: Global, arguments: &PgArguments) -> Result<PgArguments, AllocError> {
+    let mut copy = arguments.clone()?;
+    fill_slots(alloc, &mut copy)?;
+    Ok(copy)
 }
 
 /// Whether types have the same names.
@@ -369,10 +364,10 @@ fn first(
 fn part(alloc: Global, rest: &mut &[u8]) -> Result<String, CodecError> {
     let text = PgTypeInfo::with_oid(Oid(25));
     let value = PgValueRef::get(rest, PgValueFormat::Binary, text)?;
-    if value.is_null() {
-        return Ok(String::from_str(alloc, "null")?);
+    match value.as_bytes() {
+        Ok(bytes) => Ok(hex::encode(alloc, bytes)?),
+        Err(_) => Ok(String::from_str(alloc, "null")?),
     }
-    Ok(hex::encode(alloc, value.as_bytes()?)?)
 }
 
 /// All parts, read in turn, with a space between.

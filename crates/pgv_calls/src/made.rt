@@ -60,13 +60,17 @@ pub fn identifiers() -> bool {
         && characters.next().is_none()
 }
 
+/// Whether a type has this name in the catalogue, and this one is shown.
+fn is_named(info: &PgTypeInfo, name: &str, shown: &str) -> bool {
+    info.0.name().text() == name && info.0.display_name().text() == shown
+}
+
 /// Names in the catalogue and names that are shown.
 pub fn names() -> bool {
     let array = PgTypeInfo(PgType::Int4Array);
-    array.0.name().text() == "_int4"
-        && array.0.display_name().text() == "INT4"
-        && array.name().suffix() == "[]"
-        && PgTypeInfo::with_name("mood").0.display_name().text() == "mood"
+    array.name().suffix() == "[]"
+        && is_named(&array, "_int4", "INT4")
+        && is_named(&PgTypeInfo::with_name("mood"), "mood", "mood")
 }
 
 /// What is null and what isn't.

@@ -220,8 +220,8 @@ impl Still {
         }
     }
 
-    /// Makes values, and arguments with a hole and a slot.
-    fn make(&mut self, alloc: Global) -> Result<(), CodecError> {
+    /// Makes values.
+    fn make_values(&mut self, alloc: Global) -> Result<(), CodecError> {
         self.tree = make_tree(alloc)?;
         self.query = make_query(alloc)?;
         self.tokens = tokens::roomy(alloc)?;
@@ -229,9 +229,20 @@ impl Still {
         self.text = String::from_str(alloc, "hi")?;
         self.list = Vec::from_slice(alloc, &[7])?;
         self.bits = BitVec::from_bytes(alloc, &[0xa0])?;
+        Ok(())
+    }
+
+    /// Makes a buffer of one byte, with room for more.
+    fn make_buffer(&mut self, alloc: Global) -> Result<(), CodecError> {
         self.buffer = PgArgumentBuffer::new(alloc);
         self.buffer.reserve(128)?;
-        self.buffer.push(1)?;
+        self.buffer.push(1)
+    }
+
+    /// Makes values, and arguments with a hole and a slot.
+    fn make(&mut self, alloc: Global) -> Result<(), CodecError> {
+        self.make_values(alloc)?;
+        self.make_buffer(alloc)?;
         self.arguments = PgArguments::new(alloc);
         self.arguments.add(PgLTree::new(alloc))?;
         self.arguments.add(None::<PgLTree>)?;

@@ -47,23 +47,36 @@ fn keys(alloc: Global, map: &PgHstore) -> Result<String, AllocError> {
 #[derive(Drop)]
 pub struct Map(pub PgHstore);
 
+/// The map of pairs, of which those without null are after `present`.
+fn map_of(alloc: Global, text: &str) -> Result<PgHstore, AllocError> {
+    match text.strip_prefix("present ") {
+        Some(text) => PgHstore::try_from_pairs(alloc, present_pairs(alloc, text)?),
+        None => PgHstore::try_from_iter(alloc, pairs(alloc, text)?),
+    }
+}
+
+/// Whether a copy is the same map.
+fn is_copied(map: &PgHstore) -> Result<bool, AllocError> {
+    Ok(map.clone()? == *map)
+}
+
+/// What is asked of a map: its keys, or what is written of it.
+fn asked(alloc: Global, map: &PgHstore, call: &str) -> Result<String, Again> {
+    match call {
+        "keys" => Ok(keys(alloc, map)?),
+        _ => written(alloc, map),
+    }
+}
+
 impl Called for Map {
     fn holds(&mut self, alloc: Global, call: &str, wanted: &str) -> Result<bool, Again> {
-        let map = &mut self.0;
-        if let Some(text) = call.strip_prefix("of present ") {
-            *map = PgHstore::try_from_pairs(alloc, present_pairs(alloc, text)?)?;
-            return Ok(wanted == "ok");
-        }
         if let Some(text) = call.strip_prefix("of ") {
-            *map = PgHstore::try_from_iter(alloc, pairs(alloc, text)?)?;
+            self.0 = map_of(alloc, text)?;
             return Ok(wanted == "ok");
         }
         if call == "copy" {
-            return Ok((map.clone()? == *map) == (wanted == "same"));
+            return Ok(is_copied(&self.0)? == (wanted == "same"));
         }
-        if call == "keys" {
-            return Ok(keys(alloc, map)?.trim_ascii_end() == wanted);
-        }
-        Ok(written(alloc, map)?.as_str() == wanted)
+        Ok(asked(alloc, &self.0, call)?.trim_ascii_end() == wanted)
     }
 }

@@ -28,9 +28,13 @@ fn push(alloc: Global, query: &mut PgLQuery, level: &str) -> Result<(), CodecErr
 /// Appends the level that isn't one of the copy of a variant.
 fn push_not(alloc: Global, query: &mut PgLQuery, variant: &str) -> Result<(), CodecError> {
     let variant = PgLQueryVariant::from_str(alloc, variant)?;
-    let mut variants = Vec::new(alloc);
-    variants.push(variant.clone()?)?;
-    Ok(query.push(PgLQueryLevel::NotNonStar(variants))?)
+    Ok(query.push(none_of(alloc, &variant)?)?)
+}
+
+/// The level that isn't one of the copy of a variant.
+fn none_of(alloc: Global, variant: &PgLQueryVariant) -> Result<PgLQueryLevel, AllocError> {
+    let variants = Vec::from_array(alloc, [variant.clone()?])?;
+    Ok(PgLQueryLevel::NotNonStar(variants))
 }
 
 /// The text of the last level, which is taken off a copy, or `none`.
@@ -56,6 +60,17 @@ fn pushed(alloc: Global, query: &mut PgLQuery, level: &str, wanted: &str) -> Res
     told(answer, *query == before, wanted)
 }
 
+/// Puts the query of these levels in the place of another.
+fn replace(alloc: Global, query: &mut PgLQuery, levels: &str) -> Result<(), CodecError> {
+    *query = query_of(alloc, levels)?;
+    Ok(())
+}
+
+/// Whether the query of copies of its levels is the same.
+fn is_again(alloc: Global, query: &PgLQuery) -> Result<bool, AllocError> {
+    Ok(again(alloc, query)? == *query)
+}
+
 /// A query that rows change.
 #[derive(Drop)]
 pub struct Query(pub PgLQuery);
@@ -67,18 +82,11 @@ impl Called for Query {
             return pushed(alloc, query, level, wanted);
         }
         if let Some(levels) = call.strip_prefix("of ") {
-            let answer = match query_of(alloc, levels) {
-                Ok(made) => {
-                    *query = made;
-                    Ok(())
-                }
-                Err(error) => Err(error),
-            };
-            return told(answer, true, wanted);
+            return told(replace(alloc, query, levels), true, wanted);
         }
         match call {
             "pop" => Ok(query.pop().is_some() == (wanted == "some")),
-            "again" => Ok((again(alloc, query)? == *query) == (wanted == "same")),
+            "again" => Ok(is_again(alloc, query)? == (wanted == "same")),
             "last" => same(last(alloc, query), wanted),
             _ => same(shown(alloc, query), wanted),
         }

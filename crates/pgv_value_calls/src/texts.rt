@@ -114,31 +114,49 @@ fn field(tries: &Tries, record: &mut PgRecordDecoder<'_>) -> Result<Option<Strin
     }
 }
 
-/// Two parts.
-fn two_parts(
-    alloc: Global,
-    first: Option<&str>,
-    second: Option<&str>,
-) -> Result<String, AllocError> {
-    let mut out = String::new(alloc);
-    push_part(&mut out, first)?;
-    push_part(&mut out, second)?;
-    Ok(out)
+/// Appends the next field of a record, which is a text.
+fn push_field(
+    tries: &Tries,
+    record: &mut PgRecordDecoder<'_>,
+    out: &mut String,
+) -> Result<(), CodecError> {
+    let field = field(tries, record)?;
+    Ok(push_part(out, field.as_ref().map(|part| part.as_str()))?)
 }
 
 /// The first two fields of a record, which are texts.
 fn two_fields(alloc: Global, tries: &Tries, text: &str) -> Result<String, CodecError> {
-    let value = PgValueRef::new(
-        Some(text.as_bytes()),
-        PgTypeInfo(PgType::Record),
-        PgValueFormat::Text,
-    );
+    let info = PgTypeInfo(PgType::Record);
+    let value = PgValueRef::new(Some(text.as_bytes()), info, PgValueFormat::Text);
     let mut record = PgRecordDecoder::new(alloc, value)?;
-    let first = field(tries, &mut record)?;
-    let second = field(tries, &mut record)?;
-    let first = first.as_ref().map(|part| part.as_str());
-    let second = second.as_ref().map(|part| part.as_str());
-    Ok(two_parts(alloc, first, second)?)
+    let mut out = String::new(alloc);
+    push_field(tries, &mut record, &mut out)?;
+    push_field(tries, &mut record, &mut out)?;
+    Ok(out)
+}
+
+/// What is printed of the level of a text.
+fn level(alloc: Global, text: &str) -> Result<String, CodecError> {
+    let level = PgLQueryLevel::from_str(alloc, text)?;
+    Ok(format!(in alloc; "{level}")?)
+}
+
+/// What is printed of the variant of a text.
+fn variant(alloc: Global, text: &str) -> Result<String, CodecError> {
+    let variant = PgLQueryVariant::from_str(alloc, text)?;
+    Ok(format!(in alloc; "{variant}")?)
+}
+
+/// What is printed of the tree of a text.
+fn tree(alloc: Global, text: &str) -> Result<String, CodecError> {
+    let tree = PgLTree::from_str(alloc, text)?;
+    Ok(format!(in alloc; "{tree}")?)
+}
+
+/// What is printed of the label of a text.
+fn label(alloc: Global, text: &str) -> Result<String, CodecError> {
+    let label = PgLTreeLabel::from_str(alloc, text)?;
+    Ok(format!(in alloc; "{label}")?)
 }
 
 /// What is printed of the query of a text, or the text of the refusal where it is fixed.
@@ -176,10 +194,10 @@ fn found(alloc: Global, tries: &Tries, form: &str, text: &str) -> Result<String,
     match form {
         "fields" => two_fields(alloc, tries, text),
         "query" => query(alloc, text),
-        "level" => Ok(format!(in alloc; "{}", PgLQueryLevel::from_str(alloc, text)?)?),
-        "variant" => Ok(format!(in alloc; "{}", PgLQueryVariant::from_str(alloc, text)?)?),
-        "tree" => Ok(format!(in alloc; "{}", PgLTree::from_str(alloc, text)?)?),
-        "label" => Ok(format!(in alloc; "{}", PgLTreeLabel::from_str(alloc, text)?)?),
+        "level" => level(alloc, text),
+        "variant" => variant(alloc, text),
+        "tree" => tree(alloc, text),
+        "label" => label(alloc, text),
         _ => Ok(nest(alloc, form, text)?),
     }
 }

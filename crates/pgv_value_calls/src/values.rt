@@ -41,9 +41,10 @@ fn named(alloc: Global, value: &PgValue) -> Result<String, CodecError> {
     Ok(format!(in alloc; "{} {lent}", value.type_info())?)
 }
 
-/// The same of a copy.
-fn owned(alloc: Global, value: &PgValue) -> Result<String, CodecError> {
-    named(alloc, &value.clone()?)
+/// The same of a copy of a value, or why there is none.
+fn owned(alloc: Global, value: Result<PgValue, CodecError>) -> Result<String, CodecError> {
+    let copy = value?.clone()?;
+    named(alloc, &copy)
 }
 
 /// One field, `x` of the type `int4`.
@@ -75,10 +76,15 @@ fn kind(alloc: Global, name: &str) -> Result<PgTypeKind, AllocError> {
 
 /// The name of the copy of a custom type of a copy of this kind, where it is the same type.
 fn copied(alloc: Global, name: &str) -> Result<String, AllocError> {
-    let kind = kind(alloc, name)?;
-    let custom = PgTypeInfo::custom(alloc, Oid(16500), "mood", kind.clone()?)?;
+    let kind = kind(alloc, name)?.clone()?;
+    let custom = PgTypeInfo::custom(alloc, Oid(16500), "mood", kind)?;
+    name_of_copy(alloc, &custom)
+}
+
+/// The name of the copy of a type, where it is the same type.
+fn name_of_copy(alloc: Global, custom: &PgTypeInfo) -> Result<String, AllocError> {
     let copy = custom.clone()?;
-    if copy.type_eq(&custom) {
+    if copy.type_eq(custom) {
         format!(in alloc; "{copy}")
     } else {
         String::from_str(alloc, "another")
@@ -177,6 +183,16 @@ fn written_value(alloc: Global, name: &str) -> Result<String, Again> {
     }
 }
 
+/// Whether what is written of a value is what is wanted.
+fn is_written(alloc: Global, name: &str, wanted: &str) -> Result<bool, Again> {
+    Ok(written_value(alloc, name)?.as_str() == wanted)
+}
+
+/// Whether a name is the one that is wanted.
+fn is_name(name: Result<String, AllocError>, wanted: &str) -> Result<bool, Again> {
+    Ok(name?.as_str() == wanted)
+}
+
 /// What rows of this kind call.
 #[derive(Drop)]
 pub struct Values<'a>(pub &'a Tries);
@@ -185,18 +201,12 @@ impl Called for Values<'_> {
     fn holds(&mut self, alloc: Global, call: &str, wanted: &str) -> Result<bool, Again> {
         let (form, name) = call.split_once(' ').unwrap_or((call, ""));
         match form {
-            "written" => Ok(written_value(alloc, name)?.as_str() == wanted),
-            "kind" => Ok(copied(alloc, name)?.as_str() == wanted),
-            "custom" => Ok(copied_custom(alloc)?.as_str() == wanted),
+            "written" => is_written(alloc, name, wanted),
+            "kind" => is_name(copied(alloc, name), wanted),
+            "custom" => is_name(copied_custom(alloc), wanted),
             "rows" => same(rows(alloc, self.0, name), wanted),
-            "row" => match of_row(alloc) {
-                Ok(value) => same(owned(alloc, &value), wanted),
-                Err(error) => same(Err(error), wanted),
-            },
-            _ => match of_text(alloc) {
-                Ok(value) => same(owned(alloc, &value), wanted),
-                Err(error) => same(Err(error), wanted),
-            },
+            "row" => same(owned(alloc, of_row(alloc)), wanted),
+            _ => same(owned(alloc, of_text(alloc)), wanted),
         }
     }
 }
