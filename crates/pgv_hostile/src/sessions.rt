@@ -174,13 +174,19 @@ fn stream(alloc: Global, answer: &str, types: &[u8]) -> Result<Outcome, Fault> {
     }
 }
 
-/// The mutants of a stream of COPY with rows of these TYPEs.
-pub fn copy(alloc: Global, bytes: &[u8], types: &[u8], tally: &mut Tally) -> Result<(), Fault> {
+/// A line for each mutant of a stream of COPY with rows of these TYPEs.
+fn copy_lines(alloc: Global, bytes: &[u8], types: &[u8]) -> Result<Vec<u8>, Fault> {
     let mut lines = Vec::new(alloc);
     for mutant in mutants(alloc, bytes)? {
         let digits = hex::encode(alloc, mutant.as_slice())?;
         push_copy(&mut lines, digits.as_str(), types)?;
     }
+    Ok(lines)
+}
+
+/// The mutants of a stream of COPY with rows of these TYPEs.
+pub fn copy(alloc: Global, bytes: &[u8], types: &[u8], tally: &mut Tally) -> Result<(), Fault> {
+    let lines = copy_lines(alloc, bytes, types)?;
     let answers = answers(alloc, lines.as_slice())?;
     for answer in answers.lines() {
         tally.count(stream(alloc, answer, types)?);

@@ -25,6 +25,12 @@ fn oids(alloc: Global, holes: &[PgTypeInfo]) -> Result<Vec<Oid>, AllocError> {
     Ok(oids)
 }
 
+/// Fills the holes of one argument for a parameter of this type.
+fn fill(alloc: Global, arguments: &mut PgArguments, info: &PgTypeInfo) -> Result<(), CodecError> {
+    let oids = oids(alloc, arguments.hole_types())?;
+    arguments.apply_patches(&[info.clone()?], oids.as_slice())
+}
+
 /// The frame of a value as a parameter of this type.
 fn frame<T: Encode + Type>(
     alloc: Global,
@@ -33,8 +39,7 @@ fn frame<T: Encode + Type>(
 ) -> Result<Vec<u8>, CodecError> {
     let mut arguments = PgArguments::new(alloc);
     arguments.add_by_ref(value)?;
-    let oids = oids(alloc, arguments.hole_types())?;
-    arguments.apply_patches(&[info.clone()?], oids.as_slice())?;
+    fill(alloc, &mut arguments, info)?;
     Ok(arguments.buffer().as_slice().to_vec(alloc)?)
 }
 

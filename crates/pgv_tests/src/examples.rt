@@ -6,7 +6,7 @@ use pgv::row::{PgColumns, PgPlaces, PgRow};
 use pgv::types::{PgLTree, PgRange};
 use pgv::{
     CodecError, Decode, Oid, PgArguments, PgComposite, PgCopyReader, PgDomain, PgEnum, PgNewtype,
-    PgType, PgTypeInfo, PgTypeKind, PgValueFormat, PgValueRef, Type,
+    PgType, PgTypeInfo, PgTypeKind, PgValue, PgValueFormat, PgValueRef, Type,
 };
 use pgv_examples::arrays::{add_lists, scores};
 use pgv_examples::bind::{arguments_of_search, parameters_of_bind};
@@ -194,12 +194,17 @@ fn person(alloc: Global, row: &[u8]) -> Result<String, CodecError> {
     Ok(format!(in alloc; "{} {:?}", person.id, person.name)?)
 }
 
+/// The number of a value that is kept.
+fn kept_number(alloc: Global, value: &PgValue) -> Result<i32, CodecError> {
+    i32::decode(alloc, value.as_ref()?)
+}
+
 /// The number of a row that is kept, and the text after it.
 fn kept(alloc: Global) -> Result<String, CodecError> {
     let mut rest = SEVEN;
     let value = keep(alloc, &mut rest, PgTypeInfo(PgType::Int4))?;
     let name: String = column(alloc, &mut rest, PgTypeInfo(PgType::Text))?;
-    let number = i32::decode(alloc, value.as_ref()?)?;
+    let number = kept_number(alloc, &value)?;
     Ok(format!(in alloc; "{number} {name} {}", rest.len())?)
 }
 
@@ -380,50 +385,59 @@ fn document_shown(alloc: Global, parameter: PgType) -> Result<String, CodecError
     Ok(format!(in alloc; "{} {}", encode(alloc, sent)?, read.text)?)
 }
 
-/// What is sent of a shipment without a note, in hex, its holes open, and the text `(,"(1,a.b)")` read as one.
-fn shipment_shown(alloc: Global) -> Result<String, CodecError> {
+/// What is sent of a shipment without a note, in hex, its holes open.
+fn shipment_sent(alloc: Global) -> Result<String, CodecError> {
     let mut arguments = PgArguments::new(alloc);
     let path = PgLTree::from_str(alloc, "a.b")?;
     let page = PgComposite(Page { id: 1, path });
     arguments.add(PgComposite(Shipment { note: None, page }))?;
-    let sent = encode(alloc, arguments.buffer().as_slice())?;
+    Ok(encode(alloc, arguments.buffer().as_slice())?)
+}
+
+/// The text `(,"(1,a.b)")` read as a shipment.
+fn shipment_read(alloc: Global) -> Result<String, CodecError> {
     let text = b"(,\"(1,a.b)\")".as_slice();
     let shipment = PgComposite::<Shipment>::type_info();
     let value = PgValueRef::new(Some(text), shipment, PgValueFormat::Text);
     let PgComposite(read) = PgComposite::<Shipment>::decode(alloc, value)?;
-    Ok(format!(in alloc;
-        "{sent} {:?} {} {}",
-        read.note, read.page.0.id, read.page.0.path
-    )?)
+    Ok(format!(in alloc; "{:?} {} {}", read.note, read.page.0.id, read.page.0.path)?)
 }
 
-/// What is sent of the range from one number of bits to another, in hex, and its bounds as read from that.
-fn range_shown(alloc: Global) -> Result<String, CodecError> {
+/// What is sent of the range from one number of bits to another.
+fn range_sent(alloc: Global) -> Result<PgArguments, CodecError> {
     let mut arguments = PgArguments::new(alloc);
     let range = PgRange::from(Float8(1)..Float8(2));
     arguments.add(FloatRange { range })?;
-    let sent = arguments.buffer().as_slice();
+    Ok(arguments)
+}
+
+/// The bounds of the range in a frame.
+fn range_read(alloc: Global, frame: &[u8]) -> Result<String, CodecError> {
     let over = PgTypeKind::Range(PgTypeInfo(PgType::Float8));
     let column = PgTypeInfo::custom(alloc, Oid(16700), "floatrange", over)?;
-    let value = PgValueRef::new(sent.get(4..), column, PgValueFormat::Binary);
+    let value = PgValueRef::new(frame.get(4..), column, PgValueFormat::Binary);
     let read = FloatRange::decode(alloc, value)?;
-    Ok(format!(in alloc; "{} {:?}", encode(alloc, sent)?, read.range)?)
+    Ok(format!(in alloc; "{:?}", read.range)?)
 }
 
 #[test]
 fn types_of_ones_own(rt: HostRuntime) -> Result<(), CodecError> {
+    let range = range_sent(rt.alloc())?;
     let shown = [
         document_shown(rt.alloc(), PgType::Json)?,
         document_shown(rt.alloc(), PgType::Jsonb)?,
-        shipment_shown(rt.alloc())?,
-        range_shown(rt.alloc())?,
+        shipment_sent(rt.alloc())?,
+        shipment_read(rt.alloc())?,
+        encode(rt.alloc(), range.buffer().as_slice())?,
+        range_read(rt.alloc(), range.buffer().as_slice())?,
     ];
     let expected = [
         "00000003207b7d {}",
         "00000003017b7d {}",
-        "000000300000000200000019ffffffff000000000000001c00000002000000170000000400000001000000000000000401612e62 None 1 a.b",
-        "00000019020000000800000000000000010000000800000000000000\
-         02 Bounds { start: Included(Float8(1)), end: Excluded(Float8(2)) }",
+        "000000300000000200000019ffffffff000000000000001c00000002000000170000000400000001000000000000000401612e62",
+        "None 1 a.b",
+        "0000001902000000080000000000000001000000080000000000000002",
+        "Bounds { start: Included(Float8(1)), end: Excluded(Float8(2)) }",
     ];
     for (found, expected) in shown.iter().zip(expected) {
         assert_eq!(rt; found.as_str(), expected);
