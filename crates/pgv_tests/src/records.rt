@@ -44,6 +44,19 @@ fn field_again(
     }
 }
 
+/// Whether the next field is read alike in both formats, and written as the server's frame.
+fn field_agrees(
+    alloc: Global,
+    from_binary: &mut PgRecordDecoder<'_>,
+    from_text: &mut PgRecordDecoder<'_>,
+    field: &str,
+) -> Result<bool, Fail> {
+    let (name, frame) = field.split_once('=').ok_or("no frame")?;
+    let written = field_again(alloc, from_binary, name)?;
+    let same = field_again(alloc, from_text, name)?;
+    Ok(same.as_str() == written.as_str() && (frame == "?" || written.as_str() == frame))
+}
+
 /// Whether the fields of a record are read alike in both formats, and written as the server's frames.
 fn fields_agree(
     alloc: Global,
@@ -54,10 +67,7 @@ fn fields_agree(
     let mut from_binary = PgRecordDecoder::new(alloc, binary)?;
     let mut from_text = PgRecordDecoder::new(alloc, text)?;
     for field in wanted.split(' ') {
-        let (name, frame) = field.split_once('=').ok_or("no frame")?;
-        let written = field_again(alloc, &mut from_binary, name)?;
-        let same = field_again(alloc, &mut from_text, name)?;
-        if same.as_str() != written.as_str() || (frame != "?" && written.as_str() != frame) {
+        if !field_agrees(alloc, &mut from_binary, &mut from_text, field)? {
             return Ok(false);
         }
     }
@@ -75,6 +85,19 @@ fn record<'a>(
     Ok(PgValueRef::new(Some(bytes), type_of(alloc, type_name)?, format))
 }
 
+/// Whether the fields of a record of these bytes are read and written so.
+fn record_agrees(
+    alloc: Global,
+    name: &str,
+    binary: &[u8],
+    text: &[u8],
+    wanted: &str,
+) -> Result<bool, Fail> {
+    let in_binary = record(alloc, name, binary, PgValueFormat::Binary)?;
+    let in_text = record(alloc, name, text, PgValueFormat::Text)?;
+    fields_agree(alloc, in_binary, in_text, wanted)
+}
+
 /// Whether one line is read so.
 fn line_agrees(alloc: Global, line: &str) -> Result<bool, Fail> {
     let (name, rest) = line.split_once(' ').ok_or("no binary form")?;
@@ -82,9 +105,7 @@ fn line_agrees(alloc: Global, line: &str) -> Result<bool, Fail> {
     let (text, wanted) = rest.split_once(' ').ok_or("no fields")?;
     let binary = hex::decode(alloc, binary)?;
     let text = hex::decode(alloc, text)?;
-    let in_binary = record(alloc, name, binary.as_slice(), PgValueFormat::Binary)?;
-    let in_text = record(alloc, name, text.as_slice(), PgValueFormat::Text)?;
-    fields_agree(alloc, in_binary, in_text, wanted)
+    record_agrees(alloc, name, binary.as_slice(), text.as_slice(), wanted)
 }
 
 #[test]
