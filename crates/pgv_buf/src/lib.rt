@@ -9,8 +9,6 @@
 mod fill;
 mod mark;
 mod places;
-#[cfg(test)]
-mod tests;
 mod tokens;
 
 pub use mark::Mark;

@@ -21,7 +21,7 @@ use std::marker::Model;
 #[derive(Drop)]
 pub struct Tokens {
     bytes: Vec<u8>,
-    pub(crate) holes: Places,
+    holes: Places,
     types: Vec<PgTypeInfo>,
     slot_places: Places,
     slots: Vec<Slot>,
