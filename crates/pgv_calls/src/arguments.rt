@@ -8,13 +8,12 @@ use pgv::{
     CodecError, Encode, Oid, PgArguments, PgComposite, PgEnum, PgRecord, PgType, PgTypeInfo,
     PgValueFormat, PgValueRef,
 };
-use pgv_by_name::{Huge, MoodText, Size, size_ranges, type_of};
-use pgv_called::{Again, Called, same, told};
 use pgv_examples::empty_object::EmptyObject;
 use pgv_examples::household::Household;
 use pgv_examples::mood::Mood;
 use pgv_examples::page::Page;
 use pgv_examples::percent::Percent;
+use pgv_fixtures::{Again, Called, Huge, MoodText, Size, same, size_ranges, told, type_of};
 use std::alloc::{AllocError, Global};
 
 /// One mood, `ok`.

@@ -3,11 +3,10 @@
 use jiff::civil::Date;
 use pgv::types::{PgLTree, PgRange};
 use pgv::{PgComposite, PgEnum, PgRecord, PgValueRef};
-use pgv_by_name::SizeRange;
-use pgv_called::{Again, read_again, read_shown};
 use pgv_examples::empty_object::EmptyObject;
 use pgv_examples::mood::Mood;
 use pgv_examples::page::Page;
+use pgv_fixtures::{Again, SizeRange, read_again, read_shown};
 use std::alloc::Global;
 
 /// What is read from a value at the Rust type of this name.

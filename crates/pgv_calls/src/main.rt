@@ -23,7 +23,7 @@ use crate::arguments::Arguments;
 use crate::buffers::Buffer;
 use crate::still::Still;
 use pgv::{PgArgumentBuffer, PgArguments};
-use pgv_called::{Blocks, Tries, differing, serve};
+use pgv_fixtures::{Blocks, Tries, differing, serve};
 use std::alloc::Global;
 use std::process::ExitCode;
 

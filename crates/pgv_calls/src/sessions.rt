@@ -1,6 +1,6 @@
 //! Lines of the program `pgvalue`, run as one session.
 
-use pgv_called::{Again, Tries, bytes_of};
+use pgv_fixtures::{Again, Tries, bytes_of};
 use pgv_runner::{RunFault, run};
 use std::alloc::Global;
 use std::io::{self, Write};

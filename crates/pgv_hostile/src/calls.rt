@@ -5,7 +5,7 @@ use crate::mutants::{fronts, mutants};
 use crate::rust_types::outcome;
 use crate::tally::Tally;
 use pgv::{PgTypeInfo, PgValueFormat, PgValueRef};
-use pgv_by_name::type_of;
+use pgv_fixtures::type_of;
 use std::alloc::Global;
 
 /// Counts what comes of each of these bytes at the Rust type of the name, under the type of the name.

@@ -8,13 +8,13 @@ use pgv::types::{
     BitVec, MacAddress, PgByteaArray, PgHstore, PgLTree, PgNumeric, PgRange, PgTimeTz,
 };
 use pgv::{Oid, PgComposite, PgDomain, PgEnum, PgNewtype, PgRecord, PgTypeInfo, PgValueRef};
-use pgv_by_name::SizeRange;
 use pgv_examples::email::Email;
 use pgv_examples::empty_object::EmptyObject;
 use pgv_examples::mood::Mood;
 use pgv_examples::page::Page;
 use pgv_examples::percent::Percent;
 use pgv_examples::user_id::UserId;
+use pgv_fixtures::SizeRange;
 use std::alloc::Global;
 use std::net::IpAddr;
 use uuid::Uuid;

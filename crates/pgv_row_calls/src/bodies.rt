@@ -5,7 +5,7 @@ use pgv::message::{
     PgNotice, authentication_of, backend_key, changed_setting, command_tag, copy_formats_of,
     message_in_front, notification_of, parameter_oids, transaction_status,
 };
-use pgv_called::{Again, Called, bytes_of, same};
+use pgv_fixtures::{Again, Called, bytes_of, same};
 use std::alloc::{AllocError, Global};
 
 /// Two texts with a space between them.

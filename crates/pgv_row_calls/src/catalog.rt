@@ -5,8 +5,8 @@ use pgv::catalog::{
     fill,
 };
 use pgv::{CodecError, Oid, PgArguments, PgEnum, PgTypeInfo};
-use pgv_called::{Again, Called, same};
 use pgv_examples::mood::Mood;
+use pgv_fixtures::{Again, Called, same};
 use std::alloc::{AllocError, Global};
 
 /// A type of the schema `app`.

@@ -1,7 +1,7 @@
 //! Rows of calls on an exchange: `sent REQUEST => ok`, `came BYTE => ok` or `refused`, `idle => true` or `false`.
 
 use pgv::message::{PgExchange, PgRequest};
-use pgv_called::{Again, Called};
+use pgv_fixtures::{Again, Called};
 use std::alloc::Global;
 
 /// The request of a name.

@@ -17,7 +17,7 @@ use crate::messages::Messages;
 use crate::pieces::Pieces;
 use crate::rows::Rows;
 use pgv::message::PgExchange;
-use pgv_called::{Blocks, Tries, differing, serve};
+use pgv_fixtures::{Blocks, Tries, differing, serve};
 use std::alloc::Global;
 use std::process::ExitCode;
 

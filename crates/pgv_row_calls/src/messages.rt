@@ -6,7 +6,7 @@ use pgv::message::{
     write_startup, write_sync, write_terminate,
 };
 use pgv::{CodecError, Oid, PgArguments, PgValueFormat};
-use pgv_called::{Again, Called, bytes_of};
+use pgv_fixtures::{Again, Called, bytes_of};
 use std::alloc::Global;
 
 /// The settings of a session.

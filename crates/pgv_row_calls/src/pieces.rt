@@ -3,7 +3,7 @@
 //! `cuts HEX => BYTES,..;..`, the rows of a stream, which have to be the same in whatever two pieces it comes.
 
 use pgv::{CodecError, PgCopyNext, PgCopyPieces, PgType, PgTypeInfo, PgValueRef};
-use pgv_called::{Again, Called, bytes_of, same, told};
+use pgv_fixtures::{Again, Called, bytes_of, same, told};
 use std::alloc::{AllocError, Global};
 
 /// A reader of a stream with the two columns.
@@ -106,7 +106,7 @@ impl Called for Pieces {
             }
             "advance" => match self.0.advance() {
                 Ok(next) => Ok(found(next) == wanted),
-                Err(error) => pgv_called::refused(&error, wanted),
+                Err(error) => pgv_fixtures::refused(&error, wanted),
             },
             "row" => same(row_text(alloc, &self.0), wanted),
             _ => {

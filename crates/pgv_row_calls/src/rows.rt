@@ -6,7 +6,7 @@ use crate::reading::asked;
 use bytes::Bytes;
 use pgv::row::{PgColumns, PgOwnedRow, PgPlaces, PgRow};
 use pgv::{CodecError, Oid, PgTypeInfo, PgTypeKind};
-use pgv_called::{Again, Called, bytes_of, same};
+use pgv_fixtures::{Again, Called, bytes_of, same};
 use std::alloc::{AllocError, Global};
 
 /// The types that are not built in.

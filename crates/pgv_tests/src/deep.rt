@@ -2,7 +2,7 @@
 
 use crate::shown::debug;
 use pgv::{Oid, PgType, PgTypeInfo, PgTypeKind, PgValueFormat, PgValueRef};
-use pgv_by_name::type_of;
+use pgv_fixtures::type_of;
 use std::alloc::{AllocError, Global};
 use std::test::Fail;
 

@@ -6,7 +6,7 @@ use pgv::{
     CodecError, Decode, Encode, PgArgumentBuffer, PgRecord, PgRecordDecoder, PgType, PgTypeInfo,
     PgValueFormat, PgValueRef, Type,
 };
-use pgv_by_name::type_of;
+use pgv_fixtures::type_of;
 use server::RECORDS;
 use std::alloc::Global;
 use std::test::Fail;

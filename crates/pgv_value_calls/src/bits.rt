@@ -2,7 +2,7 @@
 
 use pgv::CodecError;
 use pgv::types::BitVec;
-use pgv_called::{Again, Called, bytes_of, told, written};
+use pgv_fixtures::{Again, Called, bytes_of, told, written};
 use std::alloc::{AllocError, Global};
 
 /// Appends a bit.

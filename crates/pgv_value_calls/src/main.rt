@@ -18,7 +18,7 @@ use crate::texts::Texts;
 use crate::trees::Tree;
 use crate::values::Values;
 use pgv::types::{BitVec, PgHstore, PgLQuery, PgLTree};
-use pgv_called::{Blocks, Tries, differing, serve};
+use pgv_fixtures::{Blocks, Tries, differing, serve};
 use std::alloc::Global;
 use std::process::ExitCode;
 

@@ -1,7 +1,7 @@
 //! Rows of calls on a map of texts.
 
 use pgv::types::PgHstore;
-use pgv_called::{Again, Called, written};
+use pgv_fixtures::{Again, Called, written};
 use std::alloc::{AllocError, Global};
 
 /// The pairs of words as in `name=Jane` and, for null, `name`.

@@ -2,7 +2,7 @@
 
 use pgv::CodecError;
 use pgv::types::{PgLQuery, PgLQueryLevel, PgLQueryVariant};
-use pgv_called::{Again, Called, same, told};
+use pgv_fixtures::{Again, Called, same, told};
 use std::alloc::{AllocError, Global};
 
 /// The query of these levels.

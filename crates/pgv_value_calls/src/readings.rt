@@ -10,14 +10,15 @@ use pgv::types::{
 use pgv::{
     Oid, PgComposite, PgDomain, PgEnum, PgNewtype, PgRecord, PgTypeInfo, PgValueFormat, PgValueRef,
 };
-use pgv_by_name::{SizeRange, type_of};
-use pgv_called::{Again, Called, bytes_of, read_again as again, read_shown as debug};
 use pgv_examples::email::Email;
 use pgv_examples::empty_object::EmptyObject;
 use pgv_examples::mood::Mood;
 use pgv_examples::page::Page;
 use pgv_examples::percent::Percent;
 use pgv_examples::user_id::UserId;
+use pgv_fixtures::{
+    Again, Called, SizeRange, bytes_of, read_again as again, read_shown as debug, type_of,
+};
 use std::alloc::Global;
 use std::net::IpAddr;
 use uuid::Uuid;

@@ -6,7 +6,7 @@ use pgv::types::{
     PgCiText, PgLQuery, PgLQueryLevel, PgLQueryParseError, PgLQueryVariant, PgLTree, PgLTreeLabel,
 };
 use pgv::{CodecError, PgRecordDecoder, PgType, PgTypeInfo, PgValueFormat, PgValueRef};
-use pgv_called::{Again, Called, Tries, same};
+use pgv_fixtures::{Again, Called, Tries, same};
 use std::alloc::{AllocError, Global};
 
 /// A part in brackets, or `null`, with a space in front but for the first.

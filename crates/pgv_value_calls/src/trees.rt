@@ -2,7 +2,7 @@
 
 use pgv::CodecError;
 use pgv::types::{PgLTree, PgLTreeLabel};
-use pgv_called::{Again, Called, same, told};
+use pgv_fixtures::{Again, Called, same, told};
 use std::alloc::{AllocError, Global};
 
 /// The words of a text.

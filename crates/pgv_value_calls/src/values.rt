@@ -7,8 +7,7 @@ use pgv::{
     CodecError, Oid, PgCopyReader, PgCustomType, PgType, PgTypeInfo, PgTypeKind, PgValue,
     PgValueFormat, PgValueRef,
 };
-use pgv_by_name::sizes;
-use pgv_called::{Again, Called, Tries, bytes_of, same, written};
+use pgv_fixtures::{Again, Called, Tries, bytes_of, same, sizes, written};
 use std::alloc::{AllocError, Global};
 use std::rc::{RcSlice, RcStr};
 use std::time::Duration;
