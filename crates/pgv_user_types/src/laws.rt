@@ -56,8 +56,8 @@ pub fn record_is_its_fields<Fields: KeptList>()
     ensures read { IsReadAs ⟦<PgRecord<Fields> as Decode>⟧ (λ v. Fields.view v.0)
         (parse_record Fields.step) }
     ensures kept { (v : _) → (⟦<PgRecord<Fields> as ReadBack>⟧.kept v).0 ≡ Fields.kept v.0 }
-    ensures fits { (v : _) (t : Ty) (oids : List Oid) → ⟦<PgRecord<Fields> as ReadBack>⟧.fits v t oids
-        ↔ Fields.fits v.0 t 0 oids }
+    ensures fits { (v : _) (t : Ty) (oids : List Oid)
+        → ⟦<PgRecord<Fields> as ReadBack>⟧.fits v t oids ↔ Fields.fits v.0 t 0 oids }
 {}
 
 /// A `PgRecord` of two fields fits a composite type, a domain over one or `record`, if the type at the place of each
@@ -77,7 +77,8 @@ where
     ensures arrays { HasArrayType ⟦<PgNewtype<T> as PgHasArrayType>⟧ T.Base.array_info
         T.Base.accepts_array }
     ensures written { IsWrittenAs ⟦<PgNewtype<T> as Encode>⟧ (λ v. T.Base.encoding (T.base v.0)) }
-    ensures read { IsReadAs ⟦<PgNewtype<T> as Decode>⟧ (λ v. T.Base.view (T.base v.0)) T.Base.parse }
+    ensures read { IsReadAs ⟦<PgNewtype<T> as Decode>⟧ (λ v. T.Base.view (T.base v.0))
+        T.Base.parse }
     ensures kept { (v : _) → (⟦<PgNewtype<T> as ReadBack>⟧.kept v).0
         ≡ T.made (T.Base.kept (T.base v.0)) }
     ensures fits { (v : _) (t : Ty) (oids : List Oid) → ⟦<PgNewtype<T> as ReadBack>⟧.fits v t oids
