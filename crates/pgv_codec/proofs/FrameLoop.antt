@@ -1,23 +1,19 @@
 -- Frames that are read one after the other.
-use Rattle.std.proofs.Common.{◌≡◌, ◌≢◌, ℕ, zero, suc, ◌+◌, ◌-◌, ◌<◌, ◌≤◌, Bool, true, List, [], ◌∷◌, ◌++◌, length, Option, Some, None, Result, Ok, Err, refl, sym, ap, ◌∙◌, append_assoc, arith, inl, inr}
-use Rattle.std.proofs.lemmas.Bool.{lt-ltb}
-use Rattle.std.proofs.lemmas.List.{append-nil}
+use Rattle.std.proofs.Common.{◌≡◌, ◌≢◌, ℕ, zero, suc, ◌+◌, ◌-◌, ◌<◌, ◌≤◌, Bool, false, true, nat_eq, nat_lt, List, [], ◌∷◌, ◌++◌, length, take, drop, Option, Some, None, IfSome, Result, Ok, Err, refl, sym, ap, ◌∙◌, append_assoc, drop-drop, arith, inl, inr}
+use Rattle.std.proofs.lemmas.Bool.{le-ltb, lt-ltb, ne_eqb}
+use Rattle.std.proofs.lemmas.List.{append-nil, length-drop, length_push}
 use Rattle.pgv_types.specs.Ty.{Ty}
 use Rattle.pgv_value.specs.Fronts.{value_front}
 use Rattle.pgv_value.specs.Outcome.{Outcome, Fails, done, bind_by}
-use Rattle.pgv_value.specs.ValueView.{Given}
+use Rattle.pgv_value.specs.ValueView.{Given, given}
 use Rattle.pgv_value.specs.declared.error.CodecError.{CodecError}
 use Rattle.pgv_value.specs.declared.error.CodecError.TheVariants.{Short}
-use Rattle.pgv_value.specs.FrameBinary.{front}
+use Rattle.pgv_value.specs.FrameBinary.{front, front_length}
 use Rattle.pgv_value.specs.declared.value.PgValueFormat.TheVariants.{Binary}
 use Rattle.pgv_nest.specs.ArrayGrammar.{elements, frames}
+use Rattle.pgv_codec.specs.AtOnce.{AreFirst, IsBinaryOf, IsInFront, with_front}
 
 module _ {M : Type 0} where
-  -- what was read before, and what is still read
-  abbrev pub with_front : List M → Result (List M) (Option CodecError) → Result (List M) (Option CodecError)
-  with_front ms (Ok ns) = Ok (ms ++ ns)
-  with_front ms (Err why) = Err why
-
   pub regroup : (ms : List M) (m : M) (r : Result (List M) (Option CodecError)) (b : Bool) → with_front ms (bind_by r b (λ (ns : List M). done (m ∷ ns))).answer ≡ with_front (ms ++ m ∷ []) r
   regroup ms m (Ok ns) b = ap (λ (xs : List M). let r : Result (List M) (Option CodecError) = Ok xs in r) (sym (append_assoc ms (m ∷ []) ns))
   regroup ms m (Err why) b = refl
@@ -84,3 +80,41 @@ module _ {M : Type 0} (parse : Given → Outcome M) (t : Ty) where
   ends_unread ms count i bytes v rest e total lt f (inl h) so_far free = inl (ends_why ms count i bytes v rest (Some e) total.answer lt f h so_far)
   ends_unread ms count i bytes v rest e total lt f (inr (inl h)) so_far free = inr (inl (ends_why ms count i bytes v rest None total.answer lt f h.0 so_far, h.1))
   ends_unread ms count i bytes v rest e total lt f (inr (inr h)) so_far free = inr (inr (h.0, free))
+
+-- ---- the first elements in a loop of their own
+
+no_items : {M : Type 0} (r : Result (List M) (Option CodecError)) → with_front [] r ≡ r
+no_items (Ok ns) = refl
+no_items (Err why) = refl
+
+module _ {M : Type 0} (parse : Given → Outcome M) (count : ℕ) (bytes : List ℕ) where
+  pub first_none : AreFirst parse count bytes [] bytes
+  first_none t =
+      let all : count - 0 ≡ count = omega arith in
+      rw all (no_items (frames parse t count bytes).answer)
+
+  pub first_more : (ms : List M) (rest : List ℕ) (m : M) (width : ℕ) → length ms < count → AreFirst parse count bytes ms rest → IsInFront parse width rest m → AreFirst parse count bytes (ms ++ m ∷ []) (drop (4 + width) rest)
+  first_more ms rest m width lt are is t =
+      let on = goes_on parse t ms count (length ms) rest (given t Binary (Some is.0)) (drop (4 + width) rest) m (frames parse t count bytes).answer lt (is.1 t) (is.2 t) (are t) in
+      rw (length_push ms m) on
+
+  -- what is read of them, and of the others, is what all bytes hold
+  pub first_read : (t : Ty) (ms : List M) (rest : List ℕ) (n : ℕ) → n ≡ length ms → AreFirst parse count bytes ms rest → with_front ms (frames parse t (count - n) rest).answer ≡ (frames parse t count bytes).answer
+  first_read t ms rest n long are = rw long (are t)
+
+-- what is read at once of a part is read of the frame in front
+pub in_front_of : {V M : Type 0} (r : Option V) (view : V → M) (parse : Given → Outcome M) (width : ℕ) (bytes part : List ℕ) →
+    ((t : Ty) → value_front t Binary bytes ≡ Ok (given t Binary (Some part), drop (4 + width) bytes)) → IfSome r (λ v. IsBinaryOf parse part (view v)) → IfSome r (λ v. IsInFront parse width bytes (view v))
+in_front_of None view parse width bytes part front is = tt
+in_front_of (Some v) view parse width bytes part front is = (part, front, is)
+
+-- a frame of this width stands in front
+pub fixed_front : (bytes : List ℕ) (width : ℕ) → width ≤ 16 → 4 + width ≤ length bytes → front_length bytes ≡ width → (t : Ty) →
+    value_front t Binary bytes ≡ Ok (given t Binary (Some (take width (drop 4 bytes))), drop (4 + width) bytes)
+unfolding front
+fixed_front bytes width narrow there is t =
+    let long : nat_lt (length bytes) 4 ≡ false = le-ltb _ _ (omega (arith, there)) in
+    let some : nat_eq width 4294967295 ≡ false = ne_eqb width 4294967295 (λ e. omega (arith, narrow, e)) in
+    let positive : nat_lt 2147483647 width ≡ false = le-ltb _ _ (omega (arith, narrow)) in
+    let enough : nat_lt (length (drop 4 bytes)) width ≡ false = le-ltb _ _ (omega (arith, there, length-drop 4 bytes)) in
+    rw (long, is, some, positive, enough) (ap (λ (rest : List ℕ). Ok (given t Binary (Some (take width (drop 4 bytes))), rest)) (drop-drop width 4 bytes))

@@ -1,15 +1,16 @@
 -- The frames of a list.
-use Rattle.std.proofs.Common.{◌≡◌, ℕ, suc, ◌<◌, ◌≤◌, Bool, true, false, nat_lt, Result, Ok, Err, OnOk, List, [], ◌∷◌, ◌++◌, length, map, Option, Some, None, get_or, drop, refl, sym, ◌∙◌, ap, append_assoc, append-nil, drop-cons, inl, inr}
+use Rattle.std.proofs.Common.{◌≡◌, ℕ, zero, suc, ◌<◌, ◌≤◌, Bool, true, false, nat_lt, Result, Ok, Err, OnOk, List, [], ◌∷◌, ◌++◌, length, map, Option, Some, None, get_or, take, drop, refl, sym, ◌∙◌, ap, append_assoc, append-nil, drop-cons, inl, inr}
 use Rattle.std.proofs.lemmas.Bool.{le-ltb, lt-ltb}
 use Rattle.std.proofs.lemmas.List.{drop_all, length-map}
 use Rattle.pgv_types.specs.Ty.{Ty}
 use Rattle.pgv_types.specs.Facts.{oid_of}
 use Rattle.pgv_buf.specs.Tokens.{Token, Cell, hole, bytes, be4, blank}
 use Rattle.pgv_buf.specs.Blank.{blank-append}
-use Rattle.pgv_value.specs.Outcome.{Outcome, Fails, bind_by, done}
+use Rattle.pgv_value.specs.Outcome.{Outcome, Fails, after, bind_by, done}
 use Rattle.pgv_value.specs.declared.error.CodecError.{CodecError}
 use Rattle.pgv_codec.specs.Encoding.{Encoding, image_of, frame, frames, typed, header, array_image, element_type, field, value_type}
-use Rattle.pgv_codec.specs.Appending.{Appended}
+use Rattle.pgv_codec.specs.Appending.{Appended, Appends, Extends}
+use Rattle.pgv_codec.specs.AtOnce.{WritesFirst}
 
 -- tokens after tokens
 pub both : (was mid now : List Cell) (a b : List Token) → mid ≡ was ++ blank a → now ≡ mid ++ blank b → now ≡ was ++ blank (a ++ b)
@@ -83,6 +84,49 @@ module _ {X : Type 0} (encoding : X → Encoding) where
   frames_fail ts xs i x e total lt is (inl h) so_far free = inl (why_is ts xs i x (Some e) total.answer lt is h so_far)
   frames_fail ts xs i x e total lt is (inr (inl h)) so_far free = inr (inl (why_is ts xs i x None total.answer lt is h.0 so_far, h.1))
   frames_fail ts xs i x e total lt is (inr (inr h)) so_far free = inr (inr (h.0, free))
+
+  -- ---- the first values in a loop of their own
+
+  parted : (f : Answer) (a : Bool) (r : Answer) (b : Bool) (ts : List Token) → (bind_by f a (λ (x : List Token). bind_by r b (λ (y : List Token). done (x ++ y)))).answer ≡ Ok ts →
+      (x : List Token) × (y : List Token) × (f ≡ Ok x) × (r ≡ Ok y) × (x ++ y ≡ ts)
+  parted (Ok x) a (Ok y) b ts e = (x, y, refl, refl, cc)
+  parted (Ok x) a (Err why) b ts e = absurd cc
+  parted (Err why) a r b ts e = absurd cc
+
+  in_front : (f us : List Token) (r : Answer) (b : Bool) → with_front (f ++ us) r ≡ (bind_by (with_front us r) b (λ (ys : List Token). done (f ++ ys))).answer
+  in_front f us (Ok ns) b = ap (λ (xs : List Token). let r : Answer = Ok xs in r) (append_assoc f us ns)
+  in_front f us (Err why) b = refl
+
+  one_more : (f us ts : List Token) (first : Answer) (a : Bool) (others all : Answer) (b : Bool) → first ≡ Ok f → f ++ us ≡ ts → with_front us others ≡ all →
+      with_front ts others ≡ (bind_by first a (λ (x : List Token). bind_by all b (λ (y : List Token). done (x ++ y)))).answer
+  one_more f us ts first a others all b is together rest = rw (is, ← together, ← rest) (in_front f us others b)
+
+  pub nothing_written : (ts : List Token) → (still []).answer ≡ Ok ts → ts ≡ []
+  unfolding frames
+  nothing_written ts e = cc
+
+  -- what was written of the first n values, with what is still written of the others, is all
+  pub first_written : (n : ℕ) (xs : List X) (ts : List Token) → (still (take n xs)).answer ≡ Ok ts → with_front ts (still (drop n xs)).answer ≡ (still xs).answer
+  unfolding frames
+  first_written zero xs ts e = rw (nothing_written ts e) (nothing_before (still xs).answer)
+  first_written (suc n) [] ts e = rw (nothing_written ts e) (nothing_before (still []).answer)
+  first_written (suc n) (x ∷ xs) ts e =
+      let p = parted (frame (encoding x)).answer (frame (encoding x)).may_alloc (still (take n xs)).answer (still (take n xs)).may_alloc ts e in
+      one_more p.0 p.1 ts (frame (encoding x)).answer (frame (encoding x)).may_alloc (still (drop n xs)).answer (still xs).answer (still xs).may_alloc p.2 p.4 (first_written n xs p.1 p.3)
+
+  others_fail : (e : CodecError) (ts : List Token) (others total : Outcome (List Token)) → with_front ts others.answer ≡ total.answer → total.may_alloc ≡ true → Fails e others → Fails e total
+  others_fail e ts others total all free (inl h) = inl (sym all ∙ ap (with_front ts) h)
+  others_fail e ts others total all free (inr (inl h)) = inr (inl (sym all ∙ ap (with_front ts) h.0, h.1))
+  others_fail e ts others total all free (inr (inr h)) = inr (inr (h.0, free))
+
+  pub appends_others : (n : ℕ) (xs : List X) (was mid now : List Cell) (r : Result (Unit {0}) CodecError) → WritesFirst encoding xs n was mid → Appends (after true (still (drop n xs))) mid now r → Appends (after true (still xs)) was now r
+  appends_others n xs was mid now (Ok u) first others =
+      (first.1.0 ++ others.0, sym (first_written n xs first.1.0 first.1.1) ∙ ap (with_front first.1.0) others.1, both was mid now first.1.0 others.0 first.1.2 others.2)
+  appends_others n xs was mid now (Err e) first others =
+      others_fail e first.1.0 (after true (still (drop n xs))) (after true (still xs)) (first_written n xs first.1.0 first.1.1) refl others
+
+  pub extends_others : (n : ℕ) (xs : List X) (was mid now : List Cell) → WritesFirst encoding xs n was mid → Extends mid now → Extends was now
+  extends_others n xs was mid now first others = (blank first.1.0 ++ others.0, others.1 ∙ (ap (λ (r : List Cell). r ++ others.0) first.1.2 ∙ append_assoc was (blank first.1.0) others.0))
 
   -- ---- arrays
 

@@ -21,7 +21,8 @@ use Rattle.pgv_codec.proofs.Outcomes.{fails_here, fails_then}
 use Rattle.pgv_nest.specs.ArrayGrammar.{array_in_text, each}
 use Rattle.pgv_nest.specs.RecordGrammar.{Left, text_fields}
 use Rattle.pgv_nest.specs.RecordGrammar.{next_field}
-use Rattle.pgv_codec.proofs.FrameLoop.{with_front, regroup}
+use Rattle.pgv_codec.proofs.FrameLoop.{regroup}
+use Rattle.pgv_codec.specs.AtOnce.{with_front}
 
 module _ {M : Type 0} (parse : Given → Outcome M) (t : Ty) where
   abbrev Answer : Type 0

@@ -2,6 +2,7 @@ pub mod Encoding
 pub mod Writing
 pub mod ScalarBinary
 pub mod Appending
+pub mod AtOnce
 pub mod Record
 pub mod WrittenView
 pub mod Fronts

@@ -9,6 +9,7 @@ ghost use Rattle.pgv_buf.specs.Fill.{fill_holes, fill_slots, slot_types};
 ghost use Rattle.pgv_value.specs.declared.error.CodecError.TheVariants.{Memory};
 ghost use Rattle.pgv_codec.specs.Encoding.{frame, image_of, plainly, typed, writes};
 ghost use Rattle.pgv_codec.specs.Appending.{Appended, Appends, Extends};
+ghost use Rattle.pgv_codec.specs.AtOnce.{four_words};
 
 use crate::traits::Encode;
 use pgv_buf::{Mark, Tokens};
@@ -261,6 +262,29 @@ impl PgArgumentBuffer {
         self.push_u32(value.len() as u32)?;
         self.extend_from_slice(value)?;
         Ok(true)
+    }
+
+    /// Appends the frames of four images of four bytes in one step.
+    #[inline(always)]
+    pub(crate) fn push_four_words(
+        &mut self,
+        first: [u8; 4],
+        second: [u8; 4],
+        third: [u8; 4],
+        fourth: [u8; 4],
+    ) -> Result<(), CodecError>
+        ensures ok { OnOk result (self.new ≡ self.old
+            ++ blank (bytes (four_words first second third fourth))) }
+        ensures err { IfErr result (λ e. (e ≡ Memory) × (self.new ≡ self.old)) }
+    {
+        let [a, b, c, d] = first;
+        let [e, f, g, h] = second;
+        let [i, j, k, l] = third;
+        let [m, n, o, p] = fourth;
+        self.extend_from_slice(&[
+            0, 0, 0, 4, a, b, c, d, 0, 0, 0, 4, e, f, g, h, 0, 0, 0, 4, i, j, k, l, 0, 0, 0, 4, m,
+            n, o, p,
+        ])
     }
 
     /// Appends the frame of null, and answers `true`.

@@ -1,6 +1,6 @@
 //! The traits of values that can be written and read, and of their types.
 
-ghost use Rattle.std.specs.Prelude.{◌≡◌, ℕ, Bool, true, List, None, IfOk, IfErr, OnErr};
+ghost use Rattle.std.specs.Prelude.{◌≡◌, ◌≤◌, ℕ, Bool, true, List, None, IfOk, IfErr, IfSome, OnErr};
 ghost use Rattle.pgv_types.specs.Relations.{softly};
 ghost use Rattle.pgv_types.specs.Ty.{Ty};
 ghost use Rattle.pgv_value.specs.Outcome.{Outcome, Gives, fails, reading_of};
@@ -13,6 +13,7 @@ ghost use Rattle.pgv_types.specs.declared.oid.Oid.{Oid};
 ghost use Rattle.pgv_codec.specs.Back.{ReadsBack, always};
 ghost use Rattle.pgv_codec.specs.Encoding.{Encoding, Image, frame, is_copied, with_hint};
 ghost use Rattle.pgv_codec.specs.Appending.{AtOnce, Encodes, Extends};
+ghost use Rattle.pgv_codec.specs.AtOnce.{IsBinaryOf, WritesFirst};
 
 use crate::buffer::{IsNull, PgArgumentBuffer};
 use pgv_types::PgTypeInfo;
@@ -90,6 +91,20 @@ pub trait Encode {
         let _ = out;
         Ok(false)
     }
+
+    /// Appends the frames of the first values of a list, as many as are written in one loop, and says how many they
+    /// are: none, if the type has no such loop. Out of memory (C1) may have appended something. It is for speed alone.
+    #[inline(always)]
+    #[tactic(auto, unfolding(crate::specs::Encoding::frames))]
+    fn encode_first(values: &[Self], out: &mut PgArgumentBuffer) -> Result<usize, CodecError>
+        ensures ok { IfOk result (λ n. WritesFirst encoding values.now n out.old out.new) }
+        ensures err { IfErr result (λ e. e ≡ Memory) }
+        ensures appended { OnErr result (Extends out.old out.new) }
+    {
+        let _ = values;
+        let _ = out;
+        Ok(0)
+    }
 }
 
 /// A value that can be read from null or bytes.
@@ -119,6 +134,24 @@ pub trait Decode: Sized + Drop {
     /// The value that is read.
     fn decode(alloc: Global, value: PgValueRef<'_>) -> Result<Self, CodecError>
         ensures { Gives view (parse value.entry) result };
+
+    /// How many bytes [`decode_at_once`](Decode::decode_at_once) reads in binary; 0 if it reads none.
+    #[inline(always)]
+    fn width_at_once() -> usize
+        ensures { result ≤ 16 }
+    {
+        0
+    }
+
+    /// The value of bytes in binary, whatever their type is, if it can be read at once. `None` says that it has to be
+    /// read by [`decode`](Decode::decode). It is for speed alone.
+    #[inline(always)]
+    fn decode_at_once(bytes: &[u8]) -> Option<Self>
+        ensures { IfSome result (λ v. IsBinaryOf parse bytes.now (view v)) }
+    {
+        let _ = bytes;
+        None
+    }
 }
 
 /// A value that is read back as what it keeps.
@@ -169,6 +202,23 @@ pub trait Plain: Type + Encode + Sized + Drop {
     fn read(alloc: Global, value: PgValueRef<'_>) -> Result<Self, CodecError>
         ensures { Gives view (parse value.entry) result };
 
+    /// How many bytes [`read_at_once`](Plain::read_at_once) reads in binary: what [`Decode::width_at_once`] says.
+    #[inline(always)]
+    fn width() -> usize
+        ensures { result ≤ 16 }
+    {
+        0
+    }
+
+    /// The value of bytes in binary, or `None`: what [`Decode::decode_at_once`] answers.
+    #[inline(always)]
+    fn read_at_once(bytes: &[u8]) -> Option<Self>
+        ensures { IfSome result (λ v. IsBinaryOf parse bytes.now (view v)) }
+    {
+        let _ = bytes;
+        None
+    }
+
     /// What is written of a value is read in binary as what it keeps, under every type.
     ghost reads_back: { ReadsBack Self.encoding (reading_of parse) (λ v. view (kept v)) always };
 
@@ -190,6 +240,16 @@ impl<T: Plain> Decode for T {
     #[inline(always)]
     fn decode(alloc: Global, value: PgValueRef<'_>) -> Result<T, CodecError> {
         T::read(alloc, value)
+    }
+
+    #[inline(always)]
+    fn width_at_once() -> usize {
+        T::width()
+    }
+
+    #[inline(always)]
+    fn decode_at_once(bytes: &[u8]) -> Option<T> {
+        T::read_at_once(bytes)
     }
 }
 
@@ -258,6 +318,20 @@ pub trait Scalar {
         let _ = out;
         Ok(false)
     }
+
+    /// Appends the frames of the first values of a list: what [`Encode::encode_first`] does.
+    #[inline(always)]
+    #[tactic(auto, unfolding(crate::specs::Encoding::frames))]
+    fn write_first(values: &[Self], out: &mut PgArgumentBuffer) -> Result<usize, CodecError>
+        ensures ok { IfOk result (λ n. WritesFirst (λ v. with_hint SIZE (image v)) values.now n
+            out.old out.new) }
+        ensures err { IfErr result (λ e. e ≡ Memory) }
+        ensures appended { OnErr result (Extends out.old out.new) }
+    {
+        let _ = values;
+        let _ = out;
+        Ok(0)
+    }
 }
 
 impl<T: HasBuiltIn> Type for T
@@ -320,5 +394,10 @@ where
     #[inline(always)]
     fn encode_at_once(&self, out: &mut PgArgumentBuffer) -> Result<bool, CodecError> {
         self.write_at_once(out)
+    }
+
+    #[inline(always)]
+    fn encode_first(values: &[T], out: &mut PgArgumentBuffer) -> Result<usize, CodecError> {
+        T::write_first(values, out)
     }
 }

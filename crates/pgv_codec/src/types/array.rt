@@ -1,6 +1,6 @@
 //! Arrays of one dimension (PostgreSQL, "Arrays").
 
-ghost use Rattle.std.specs.Prelude.{◌≡◌, IfOk, IfErr, OnOk, OnErr, ◌*◌, ◌≤◌, false, true, length, map, Ok, Some, [], IfSome, is_some, List, refl};
+ghost use Rattle.std.specs.Prelude.{◌≡◌, IfOk, IfErr, OnOk, OnErr, ◌+◌, ◌*◌, ◌≤◌, false, true, length, map, Ok, Some, [], IfSome, is_some, List, refl};
 ghost use Rattle.std.specs.Vec.{with_items};
 ghost use Rattle.pgv_text.specs.Values.{array_values};
 ghost use Rattle.pgv_value.specs.Outcome.{Gives, after};
@@ -10,6 +10,7 @@ ghost use Rattle.pgv_value.specs.declared.value.PgValueFormat.TheVariants.{Binar
 ghost use Rattle.pgv_nest.specs.ArrayGrammar.{array_in_binary, array_in_text, elements, frames, parse_array, parse_sized};
 ghost use Rattle.pgv_codec.specs.Encoding.{array_image, element_type, frames as frames_of, header, is_copied, plainly, sized_image, value_type};
 ghost use Rattle.pgv_codec.specs.Appending.{Appended, Appends, Encodes, Extends};
+ghost use Rattle.pgv_codec.specs.AtOnce.{AreFirst, IsInFront};
 ghost use Rattle.pgv_codec.specs.Agreeing.{array_agrees, sized_agrees};
 ghost use Rattle.pgv_codec.specs.Back.{ArrayFits};
 ghost use Rattle.pgv_codec.specs.BackNests.{vec_back, sized_back};
@@ -85,9 +86,21 @@ fn write_header(
     Ok(())
 }
 
-/// A frame for each element.
+/// A frame for each element: the first ones in a loop of their own, where the type has one.
 #[inline(always)]
 fn write_frames<T: Encode>(values: &[T], out: &mut PgArgumentBuffer) -> Result<(), CodecError>
+    ensures exact { Appends (after true (frames_of (map T.encoding values.now)))
+        out.old out.new result }
+    ensures appended { OnErr result (Extends out.old out.new) }
+{
+    let written = T::encode_first(values, out)?;
+    let (_written, others) = values.split_at(written);
+    write_each(others, out)
+}
+
+/// A frame for each element, one after another.
+#[inline(always)]
+fn write_each<T: Encode>(values: &[T], out: &mut PgArgumentBuffer) -> Result<(), CodecError>
     ensures exact { Appends (after true (frames_of (map T.encoding values.now)))
         out.old out.new result }
     ensures appended { OnErr result (Extends out.old out.new) }
@@ -223,6 +236,11 @@ impl<T: Decode + Type, const N: usize> Decode for [T; N] {
             Err(_) => Err(CodecError::ElementCount(count)),
         }
     }
+
+    #[inline(always)]
+    fn width_at_once() -> usize {
+        0
+    }
 }
 
 impl<T: Codec + PgHasArrayType> Codec for Vec<T> {
@@ -282,14 +300,53 @@ fn read_in_room<T: Decode>(
         (after true (frames T.parse element.now count bytes.now)) result }
     ensures few { IfOk result (λ v. 4 * length v.items ≤ length bytes.now) }
 {
-    let room = (count as usize).min(bytes.len() / 4);
-    let mut items = Vec::with_capacity(alloc, room)?;
-    let mut rest = bytes;
-    for _ in 0..count {
+    let (mut items, mut rest) = read_first(alloc, count as usize, bytes)?;
+    for _ in items.len()..count as usize {
         let part = PgValueRef::get(&mut rest, PgValueFormat::Binary, element.clone()?)?;
         items.push(T::decode(alloc, part)?)?;
     }
     Ok(items)
+}
+
+/// The first elements, as far as each is read at once and its frame has the width of the type, and the frames after
+/// them: none, where the type has no width. The list has room for as many elements as the bytes can hold at most.
+fn read_first<T: Decode>(
+    alloc: Global,
+    count: usize,
+    bytes: &[u8],
+) -> Result<(Vec<T>, &[u8]), CodecError>
+    ensures first { IfOk result (λ r. AreFirst T.parse count bytes.now
+        (map T.view r.0.items) r.1.now) }
+    ensures some { IfOk result (λ r. length r.0.items ≤ count) }
+    ensures memory { IfErr result (λ e. e ≡ Memory) }
+{
+    let width = T::width_at_once();
+    let frame = 4 + width;
+    let mut items = Vec::with_capacity(alloc, count.min(bytes.len() / 4))?;
+    for place in 0..count.min(bytes.len() / frame) {
+        let (_read, rest) = bytes.split_at(place * frame);
+        match in_front(rest, width) {
+            Some(item) => items.push_reserved(item),
+            None => return Ok((items, rest)),
+        }
+    }
+    let (_read, rest) = bytes.split_at(items.len() * frame);
+    Ok((items, rest))
+}
+
+/// What is read at once of the frame in front, if its length is this width.
+#[inline(always)]
+fn in_front<T: Decode>(bytes: &[u8], width: usize) -> Option<T>
+    requires narrow { width ≤ 16 }
+    requires there { 4 + width ≤ length bytes.now }
+    ensures { IfSome result (λ v. IsInFront T.parse width bytes.now (T.view v)) }
+{
+    let (length, rest) = bytes.split_at(4);
+    if u32::from_be_bytes([length[0], length[1], length[2], length[3]]) as usize != width {
+        return None;
+    }
+    let (part, _rest) = rest.split_at(width);
+    T::decode_at_once(part)
 }
 
 /// An array in text. An invalid text (C29) comes before the refusal of a part, or out of memory. A text without

@@ -9,6 +9,7 @@ ghost use Rattle.pgv_codec.specs.Encoding.{plainly, writes};
 
 use crate::buffer::{IsNull, PgArgumentBuffer};
 use crate::traits::{BuiltIn, HasBuiltIn, Of, Plain, Scalar};
+use crate::types::part::binary_value;
 use pgv_types::{PgType, PgTypeInfo};
 use pgv_value::{CodecError, PgValueRef, read_bool};
 use std::alloc::Global;
@@ -62,6 +63,16 @@ impl Plain for bool {
     #[inline(always)]
     fn read(_alloc: Global, value: PgValueRef<'_>) -> Result<bool, CodecError> {
         read_bool(&value)
+    }
+
+    #[inline(always)]
+    fn width() -> usize {
+        1
+    }
+
+    #[inline(always)]
+    fn read_at_once(bytes: &[u8]) -> Option<bool> {
+        read_bool(&binary_value(bytes, Of::<bool>::INFO)).ok()
     }
 
     ghost reads_back = { bool_back };

@@ -11,6 +11,7 @@ ghost use Rattle.pgv_codec.specs.Encoding.{with_hint, writes};
 use super::int::write_i32;
 use crate::buffer::{IsNull, PgArgumentBuffer};
 use crate::traits::{BuiltIn, HasBuiltIn, Of, Plain, Scalar};
+use crate::types::part::binary_value;
 use jiff::civil::Date;
 use pgv_types::{PgType, PgTypeInfo};
 use pgv_value::{CodecError, FIRST_DAY, PgValueRef, read_date};
@@ -66,6 +67,16 @@ impl Plain for Date {
 
     fn read(_alloc: Global, value: PgValueRef<'_>) -> Result<Date, CodecError> {
         read_date(&value)
+    }
+
+    #[inline(always)]
+    fn width() -> usize {
+        4
+    }
+
+    #[inline(always)]
+    fn read_at_once(bytes: &[u8]) -> Option<Date> {
+        read_date(&binary_value(bytes, Of::<Date>::INFO)).ok()
     }
 
     ghost reads_back = { date_back };

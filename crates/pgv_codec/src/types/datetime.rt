@@ -12,6 +12,7 @@ use super::int::write_i64;
 use super::timestamp::micros_from_2000;
 use crate::buffer::{IsNull, PgArgumentBuffer};
 use crate::traits::{BuiltIn, HasBuiltIn, Of, Plain, Scalar};
+use crate::types::part::binary_value;
 use jiff::civil::DateTime;
 use pgv_types::{PgType, PgTypeInfo};
 use pgv_value::{CodecError, PgValueRef, read_date_time};
@@ -64,6 +65,16 @@ impl Plain for DateTime {
 
     fn read(_alloc: Global, value: PgValueRef<'_>) -> Result<DateTime, CodecError> {
         read_date_time(&value)
+    }
+
+    #[inline(always)]
+    fn width() -> usize {
+        8
+    }
+
+    #[inline(always)]
+    fn read_at_once(bytes: &[u8]) -> Option<DateTime> {
+        read_date_time(&binary_value(bytes, Of::<DateTime>::INFO)).ok()
     }
 
     ghost reads_back = { date_time_back };

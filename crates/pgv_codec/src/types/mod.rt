@@ -24,3 +24,4 @@ pub mod timestamp;
 pub mod tuple;
 pub mod uuids;
 pub mod void;
+mod words;

@@ -10,6 +10,8 @@ ghost use Rattle.pgv_codec.specs.Encoding.{plainly, writes};
 
 use crate::buffer::{IsNull, PgArgumentBuffer};
 use crate::traits::{BuiltIn, HasBuiltIn, Of, Plain, Scalar};
+use crate::types::part::binary_value;
+use crate::types::words::write_words;
 use pgv_types::{Oid, PgType, PgTypeInfo};
 use pgv_value::{CodecError, PgValueRef, read_oid};
 use std::alloc::Global;
@@ -44,6 +46,11 @@ impl Scalar for Oid {
     fn write_at_once(&self, out: &mut PgArgumentBuffer) -> Result<bool, CodecError> {
         out.push_frame(&self.0.to_be_bytes())
     }
+
+    #[inline(always)]
+    fn write_first(values: &[Oid], out: &mut PgArgumentBuffer) -> Result<usize, CodecError> {
+        write_words(values, out)
+    }
 }
 
 /// An object identifier (PostgreSQL, "Object Identifier Types"), as [`read_oid`] reads it: `00000019` and `25` are the
@@ -64,6 +71,16 @@ impl Plain for Oid {
     #[inline(always)]
     fn read(_alloc: Global, value: PgValueRef<'_>) -> Result<Oid, CodecError> {
         read_oid(&value)
+    }
+
+    #[inline(always)]
+    fn width() -> usize {
+        4
+    }
+
+    #[inline(always)]
+    fn read_at_once(bytes: &[u8]) -> Option<Oid> {
+        read_oid(&binary_value(bytes, Of::<Oid>::INFO)).ok()
     }
 
     ghost reads_back = { oid_back };

@@ -100,6 +100,19 @@ impl<T: Decode> Decode for Option<T> {
         }
         Ok(Some(T::decode(alloc, value)?))
     }
+
+    #[inline(always)]
+    fn width_at_once() -> usize {
+        T::width_at_once()
+    }
+
+    #[inline(always)]
+    fn decode_at_once(bytes: &[u8]) -> Option<Option<T>> {
+        match T::decode_at_once(bytes) {
+            Some(value) => Some(Some(value)),
+            None => None,
+        }
+    }
 }
 
 /// `None` is read back, and so is `Some` if its value is; but a value that is written as null is read back as `None`.

@@ -11,6 +11,7 @@ ghost use Rattle.pgv_codec.specs.Encoding.{with_hint, writes};
 use super::int::write_i64;
 use crate::buffer::{IsNull, PgArgumentBuffer};
 use crate::traits::{BuiltIn, HasBuiltIn, Of, Plain, Scalar};
+use crate::types::part::binary_value;
 use jiff::civil::Time;
 use pgv_types::{PgType, PgTypeInfo};
 use pgv_value::{CodecError, PgValueRef, read_time};
@@ -69,6 +70,16 @@ impl Plain for Time {
 
     fn read(_alloc: Global, value: PgValueRef<'_>) -> Result<Time, CodecError> {
         read_time(&value)
+    }
+
+    #[inline(always)]
+    fn width() -> usize {
+        8
+    }
+
+    #[inline(always)]
+    fn read_at_once(bytes: &[u8]) -> Option<Time> {
+        read_time(&binary_value(bytes, Of::<Time>::INFO)).ok()
     }
 
     ghost reads_back = { time_back };

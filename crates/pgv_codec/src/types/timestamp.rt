@@ -11,6 +11,7 @@ ghost use Rattle.pgv_codec.specs.Encoding.{with_hint, writes};
 use super::int::write_i64;
 use crate::buffer::{IsNull, PgArgumentBuffer};
 use crate::traits::{BuiltIn, HasBuiltIn, Of, Plain, Scalar};
+use crate::types::part::binary_value;
 use jiff::Timestamp;
 use pgv_types::{PgType, PgTypeInfo};
 use pgv_value::{CodecError, FIRST_NANOSECOND, PgValueRef, read_instant};
@@ -73,6 +74,16 @@ impl Plain for Timestamp {
 
     fn read(_alloc: Global, value: PgValueRef<'_>) -> Result<Timestamp, CodecError> {
         read_instant(&value)
+    }
+
+    #[inline(always)]
+    fn width() -> usize {
+        8
+    }
+
+    #[inline(always)]
+    fn read_at_once(bytes: &[u8]) -> Option<Timestamp> {
+        read_instant(&binary_value(bytes, Of::<Timestamp>::INFO)).ok()
     }
 
     ghost reads_back = { instant_back };

@@ -9,6 +9,7 @@ ghost use Rattle.pgv_codec.specs.Encoding.{plainly, writes};
 
 use crate::buffer::{IsNull, PgArgumentBuffer};
 use crate::traits::{BuiltIn, HasBuiltIn, Of, Plain, Scalar};
+use crate::types::part::binary_value;
 use pgv_types::{PgType, PgTypeInfo};
 use pgv_value::{CodecError, PgValueRef, read_uuid};
 use std::alloc::Global;
@@ -65,6 +66,16 @@ impl Plain for Uuid {
     #[inline(always)]
     fn read(_alloc: Global, value: PgValueRef<'_>) -> Result<Uuid, CodecError> {
         read_uuid(&value)
+    }
+
+    #[inline(always)]
+    fn width() -> usize {
+        16
+    }
+
+    #[inline(always)]
+    fn read_at_once(bytes: &[u8]) -> Option<Uuid> {
+        read_uuid(&binary_value(bytes, Of::<Uuid>::INFO)).ok()
     }
 
     ghost reads_back = { uuid_back };

@@ -10,6 +10,7 @@ ghost use Rattle.pgv_codec.specs.Encoding.{plainly, writes};
 
 use crate::buffer::{IsNull, PgArgumentBuffer};
 use crate::traits::{BuiltIn, HasBuiltIn, Of, Plain, Scalar};
+use crate::types::part::binary_value;
 use pgv_types::{PgType, PgTypeInfo};
 use pgv_value::{CodecError, PgValueRef, read_i16};
 use std::alloc::Global;
@@ -63,6 +64,16 @@ impl Plain for i16 {
     #[inline(always)]
     fn read(_alloc: Global, value: PgValueRef<'_>) -> Result<i16, CodecError> {
         read_i16(&value)
+    }
+
+    #[inline(always)]
+    fn width() -> usize {
+        2
+    }
+
+    #[inline(always)]
+    fn read_at_once(bytes: &[u8]) -> Option<i16> {
+        read_i16(&binary_value(bytes, Of::<i16>::INFO)).ok()
     }
 
     ghost reads_back = { int2_back };

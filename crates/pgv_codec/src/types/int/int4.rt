@@ -11,6 +11,8 @@ ghost use Rattle.pgv_codec.specs.Encoding.{plainly, writes};
 use super::write_i32;
 use crate::buffer::{IsNull, PgArgumentBuffer};
 use crate::traits::{BuiltIn, HasBuiltIn, Of, Plain, Scalar};
+use crate::types::part::binary_value;
+use crate::types::words::write_words;
 use pgv_types::{PgType, PgTypeInfo};
 use pgv_value::{CodecError, PgValueRef, read_i32};
 use std::alloc::Global;
@@ -44,6 +46,11 @@ impl Scalar for i32 {
     fn write_at_once(&self, out: &mut PgArgumentBuffer) -> Result<bool, CodecError> {
         out.push_frame(&self.to_be_bytes())
     }
+
+    #[inline(always)]
+    fn write_first(values: &[i32], out: &mut PgArgumentBuffer) -> Result<usize, CodecError> {
+        write_words(values, out)
+    }
 }
 
 /// An `int4` (PostgreSQL, "Integer Types"), as [`read_i32`] reads it: `00000007` and `7` are 7.
@@ -63,6 +70,16 @@ impl Plain for i32 {
     #[inline(always)]
     fn read(_alloc: Global, value: PgValueRef<'_>) -> Result<i32, CodecError> {
         read_i32(&value)
+    }
+
+    #[inline(always)]
+    fn width() -> usize {
+        4
+    }
+
+    #[inline(always)]
+    fn read_at_once(bytes: &[u8]) -> Option<i32> {
+        read_i32(&binary_value(bytes, Of::<i32>::INFO)).ok()
     }
 
     ghost reads_back = { int4_back };

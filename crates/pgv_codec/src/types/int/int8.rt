@@ -11,6 +11,7 @@ ghost use Rattle.pgv_codec.specs.Encoding.{plainly, writes};
 use super::write_i64;
 use crate::buffer::{IsNull, PgArgumentBuffer};
 use crate::traits::{BuiltIn, HasBuiltIn, Of, Plain, Scalar};
+use crate::types::part::binary_value;
 use pgv_types::{PgType, PgTypeInfo};
 use pgv_value::{CodecError, PgValueRef, read_i64};
 use std::alloc::Global;
@@ -63,6 +64,16 @@ impl Plain for i64 {
     #[inline(always)]
     fn read(_alloc: Global, value: PgValueRef<'_>) -> Result<i64, CodecError> {
         read_i64(&value)
+    }
+
+    #[inline(always)]
+    fn width() -> usize {
+        8
+    }
+
+    #[inline(always)]
+    fn read_at_once(bytes: &[u8]) -> Option<i64> {
+        read_i64(&binary_value(bytes, Of::<i64>::INFO)).ok()
     }
 
     ghost reads_back = { int8_back };

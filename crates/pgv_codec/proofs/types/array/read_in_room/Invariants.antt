@@ -1,6 +1,6 @@
 use Rattle.std.proofs.Common.{◌≡◌, ◌-◌, map}
 use Rattle.pgv_nest.specs.ArrayGrammar.{frames}
-use Rattle.pgv_codec.proofs.FrameLoop.{with_front}
+use Rattle.pgv_codec.specs.AtOnce.{with_front}
 use Rattle.pgv_codec.proofs.types.array.read_in_room.Given as goal
 
 -- what was read and what is left to read are what the bytes hold

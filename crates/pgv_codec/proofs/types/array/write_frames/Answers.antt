@@ -1,33 +1,21 @@
-use Rattle.std.proofs.Common.{[], ◌++◌, add-one, refl, sym, append-nil}
-use Rattle.std.proofs.lemmas.Result.{err_from_is_err_and}
-use Rattle.pgv_value.specs.Outcome.{after}
-use Rattle.std.proofs.Common.{true}
-use Rattle.pgv_codec.proofs.Lists.{both, frames_done, frames_fail, frames_more, nothing_before, still}
+use Rattle.std.proofs.Common.{rules, ◌≡◌, IfOk, IfErr, OnOk, OnErr, ◌+◌, ◌*◌, ◌≤◌, false, true, length, map, Ok, Some, [], IfSome, is_some, List, refl, ℕ, ◌-◌, ◌<◌, ◌/◌, ◌%◌, Bool, nat_eq, nat_lt, ◌∷◌, ◌++◌, slice_index_or, slice_set, bit_and, bit_or, Fits, w8, w32, w64, Bor, MutBor}
+use Rattle.std.specs.Vec.{with_items}
+use Rattle.pgv_text.specs.Values.{array_values}
+use Rattle.pgv_value.specs.Outcome.{Gives, after}
+use Rattle.pgv_value.specs.Reading.{has_items}
+use Rattle.pgv_value.specs.declared.error.CodecError.TheVariants.{Memory}
+use Rattle.pgv_value.specs.declared.value.PgValueFormat.TheVariants.{Binary}
+use Rattle.pgv_nest.specs.ArrayGrammar.{array_in_binary, array_in_text, elements, frames, parse_array, parse_sized}
+use Rattle.pgv_codec.specs.Encoding.{array_image, element_type}
+use Rattle.pgv_codec.specs.Encoding.{frames as frames_of}
+use Rattle.pgv_codec.specs.Encoding.{header, is_copied, plainly, sized_image, value_type}
+use Rattle.pgv_codec.specs.Appending.{Appended, Appends, Encodes, Extends}
+use Rattle.pgv_codec.specs.AtOnce.{AreFirst, IsInFront}
+use Rattle.pgv_codec.specs.Agreeing.{array_agrees, sized_agrees}
+use Rattle.pgv_codec.specs.Back.{ArrayFits}
+use Rattle.pgv_codec.specs.BackNests.{vec_back, sized_back}
 use Rattle.pgv_codec.proofs.types.array.write_frames.Goals as goal
 
-pub loop-value-init : goal.loop-value-init
-loop-value-init g c = ([], sym (append-nil c.args.out.now), nothing_before (still g.T.Encode.encoding c.args.values.now).answer)
-
-pub returns-in_err-encode-clause-exact : goal.returns-in_err-encode-clause-exact
-returns-in_err-encode-clause-exact g c =
-    let encoding = g.T.Encode.encoding in
-    let was = c.loop-value.invariant in
-    let p = err_from_is_err_and c.from_residual.result c.from_residual.ensures.1 in
-    rw (p.1, p.2)
-    (frames_fail encoding was.0 c.args.values.now c.loop-value.value-index c.value-item.result c.in_err-encode.field-0.0 (after true (still encoding c.args.values.now))
-    c.loop-value-test.true c.value-item.is c.in_err-encode.ensures.exact was.2 refl)
-
-pub loop-value-preserved : goal.loop-value-preserved
-loop-value-preserved g c =
-    let was = c.loop-value.invariant in
-    let f = c.in_ok-encode.ensures.exact in
-    rw add-one (
-      was.0 ++ f.0,
-      both c.args.out.now c.loop-value.out c.encode.new.self was.0 f.0 was.1 f.2,
-      frames_more g.T.Encode.encoding was.0 c.args.values.now c.loop-value.value-index c.value-item.result f.0 _ c.loop-value-test.true c.value-item.is f.1 was.2,
-    )
-
+-- src/types/array.rt:90:1
 pub returns-clause-exact : goal.returns-clause-exact
-returns-clause-exact g c =
-    let was = c.loop-value.invariant in
-    (was.0, frames_done g.T.Encode.encoding was.0 c.args.values.now c.loop-value.value-index _ c.loop-value-test.false was.2, was.1)
+returns-clause-exact g c = ?

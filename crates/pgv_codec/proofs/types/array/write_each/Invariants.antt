@@ -1,7 +1,7 @@
 use Rattle.std.proofs.Common.{◌≡◌, List, ◌++◌, drop}
 use Rattle.pgv_buf.specs.Tokens.{Token, blank}
 use Rattle.pgv_codec.proofs.Lists.{still, with_front}
-use Rattle.pgv_codec.proofs.types.array.write_frames.Given as goal
+use Rattle.pgv_codec.proofs.types.array.write_each.Given as goal
 
 -- what was written, and that with what is still written it is all
 abbrev pub invariant-loop-value : goal.invariant-loop-value

@@ -1,0 +1,13 @@
+use Rattle.std.proofs.Common.{rules, ◌≡◌, Ok, IfOk, IfErr, OnErr, ℕ, ◌+◌, ◌-◌, ◌*◌, ◌<◌, ◌≤◌, length, ◌/◌, ◌%◌, Bool, true, false, nat_eq, nat_lt, List, [], ◌∷◌, ◌++◌, slice_index_or, slice_set, bit_and, bit_or, Fits, w8, w64, Bor, MutBor, ℤ, pos, ◌+ℤ◌, ◌-ℤ◌, ◌*ℤ◌, ◌≤ℤ◌, ◌<ℤ◌, FitsSigned, to_z, of_z}
+use Rattle.std.specs.Int.{w32}
+use Rattle.pgv_buf.specs.Tokens.{bytes}
+use Rattle.pgv_value.specs.declared.error.CodecError.TheVariants.{Memory}
+use Rattle.pgv_codec.specs.Appending.{Extends}
+use Rattle.pgv_codec.specs.AtOnce.{WritesFirst, word_frame}
+use Rattle.pgv_codec.specs.Encoding.{Encoding, frame, plainly, writes}
+use Rattle.pgv_codec.specs.ScalarBinary.{signed_image, unsigned_image}
+use Rattle.pgv_codec.proofs.types.words.I32Word.word.Goals as goal
+
+-- src/types/words.rt:29:5
+pub returns : goal.returns
+returns c = ?

@@ -1,0 +1,49 @@
+-- Values that are read, or written, in a loop of their own, as those of an array of numbers, whose frames all have one
+-- width. It is faster, and nothing else: what is read so, and what is still read of the frames after it, is what the
+-- frames hold, whatever the type of the elements is (`AreFirst`); what is written so are the frames of the first values
+-- (`WritesFirst`).
+use Rattle.std.specs.Prelude.{◌≡◌, ℕ, ◌+◌, ◌-◌, ◌≤◌, List, ◌++◌, length, map, take, drop, Some, Result, Ok, Err, Option}
+use Rattle.pgv_types.specs.Ty.{Ty}
+use Rattle.pgv_buf.specs.Tokens.{Cell, be4}
+use Rattle.pgv_nest.specs.ArrayGrammar.{frames}
+use Rattle.pgv_value.specs.Fronts.{value_front}
+use Rattle.pgv_value.specs.Outcome.{Outcome}
+use Rattle.pgv_value.specs.ValueView.{Given, given}
+use Rattle.pgv_value.specs.declared.error.CodecError.{CodecError}
+use Rattle.pgv_value.specs.declared.value.PgValueFormat.TheVariants.{Binary}
+use Rattle.pgv_codec.specs.Appending.{Appended}
+use Rattle.pgv_codec.specs.Encoding.{Encoding, frames as frames_of}
+
+-- ---- reading
+
+-- under every type these bytes are read as this in binary
+abbrev pub IsBinaryOf : {M : Type 0} → (Given → Outcome M) → List ℕ → M → Type 0
+IsBinaryOf parse bytes m = (t : Ty) → (parse (given t Binary (Some bytes))).answer ≡ Ok m
+
+-- under every type this is read of the frame in front, which has so many bytes after its length
+abbrev pub IsInFront : {M : Type 0} → (Given → Outcome M) → ℕ → List ℕ → M → Type 0
+IsInFront parse width bytes m =
+    (part : List ℕ) × ((t : Ty) → value_front t Binary bytes ≡ Ok (given t Binary (Some part), drop (4 + width) bytes)) × IsBinaryOf parse part m
+
+-- what was read before, and what is still read
+abbrev pub with_front : {M : Type 0} → List M → Result (List M) (Option CodecError) → Result (List M) (Option CodecError)
+with_front ms (Ok ns) = Ok (ms ++ ns)
+with_front ms (Err why) = Err why
+
+-- under every type these are read of the first frames, and the others of the rest
+abbrev pub AreFirst : {M : Type 0} → (Given → Outcome M) → ℕ → List ℕ → List M → List ℕ → Type 0
+AreFirst parse count bytes ms rest = (t : Ty) → with_front ms (frames parse t (count - length ms) rest).answer ≡ (frames parse t count bytes).answer
+
+-- ---- writing
+
+-- the frame of an image of four bytes
+abbrev pub word_frame : List ℕ → List ℕ
+word_frame word = be4 4 ++ word
+
+-- and of four of them
+abbrev pub four_words : List ℕ → List ℕ → List ℕ → List ℕ → List ℕ
+four_words a b c d = word_frame a ++ (word_frame b ++ (word_frame c ++ word_frame d))
+
+-- the frames of the first n values were appended
+abbrev pub WritesFirst : {X : Type 0} → (X → Encoding) → List X → ℕ → List Cell → List Cell → Type 0
+WritesFirst encoding values n was now = (n ≤ length values) × Appended (frames_of (map encoding (take n values))) was now
