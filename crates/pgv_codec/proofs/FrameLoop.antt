@@ -1,7 +1,9 @@
 -- Frames that are read one after the other.
-use Rattle.std.proofs.Common.{◌≡◌, ◌≢◌, ℕ, zero, suc, ◌+◌, ◌-◌, ◌<◌, ◌≤◌, Bool, false, true, nat_eq, nat_lt, List, [], ◌∷◌, ◌++◌, length, take, drop, Option, Some, None, IfSome, Result, Ok, Err, refl, sym, ap, ◌∙◌, append_assoc, drop-drop, arith, inl, inr}
+use Rattle.std.proofs.Common.{◌≡◌, ◌≢◌, ℕ, zero, suc, ◌+◌, ◌-◌, ◌*◌, ◌/◌, min, ◌<◌, ◌≤◌, Bool, false, true, nat_eq, nat_lt, List, [], ◌∷◌, ◌++◌, length, map, take, drop, Option, Some, None, IfSome, Result, Ok, Err, refl, sym, ap, ◌∙◌, append_assoc, add-one, drop-drop, subst, suc-mul, arith, inl, inr}
 use Rattle.std.proofs.lemmas.Bool.{le-ltb, lt-ltb, ne_eqb}
-use Rattle.std.proofs.lemmas.List.{append-nil, length-drop, length_push}
+use Rattle.std.proofs.lemmas.List.{append-nil, length-drop, length-map, length_push, map_push}
+use Rattle.std.proofs.lemmas.Nat.{le-div}
+use Rattle.std.proofs.Math.Nat.{div-mul-le_self, le-min, min-le_left, min-le_right, mul-le-mul_left}
 use Rattle.pgv_types.specs.Ty.{Ty}
 use Rattle.pgv_value.specs.Fronts.{value_front}
 use Rattle.pgv_value.specs.Outcome.{Outcome, Fails, done, bind_by}
@@ -98,6 +100,22 @@ module _ {M : Type 0} (parse : Given → Outcome M) (count : ℕ) (bytes : List 
       let on = goes_on parse t ms count (length ms) rest (given t Binary (Some is.0)) (drop (4 + width) rest) m (frames parse t count bytes).answer lt (is.1 t) (is.2 t) (are t) in
       rw (length_push ms m) on
 
+  pub first_step : {V : Type 0} (view : V → M) (items : List V) (item : V) (now : List V) (place width : ℕ) (rest : List ℕ) → now ≡ items ++ item ∷ [] → length items ≡ place → place < count → rest ≡ drop (place * (4 + width)) bytes →
+      AreFirst parse count bytes (map view items) (drop (place * (4 + width)) bytes) → IsInFront parse width rest (view item) →
+      (length now ≡ place + 1) × AreFirst parse count bytes (map view now) (drop ((place + 1) * (4 + width)) bytes)
+  first_step view items item now place width rest more long lt here are is =
+      let at = place * (4 + width) in
+      let few : length (map view items) < count = rw (length-map items view, long) lt in
+      let next : at + (4 + width) ≡ (place + 1) * (4 + width) = rw add-one (sym (suc-mul place (4 + width))) in
+      let then : drop (4 + width) (drop at bytes) ≡ drop ((place + 1) * (4 + width)) bytes = drop-drop (4 + width) at bytes ∙ ap (λ (n : ℕ). drop n bytes) next in
+      let grown : map view now ≡ map view items ++ view item ∷ [] = ap (map view) more ∙ map_push view items item in (
+        ap length more ∙ length_push items item ∙ ap (λ (n : ℕ). n + 1) long,
+        rw (grown, ← then) (first_more (map view items) (drop at bytes) (view item) width few are (subst (λ (xs : List ℕ). IsInFront parse width xs (view item)) here is)),
+      )
+
+  pub first_ends : (ms : List M) (place whole width : ℕ) (rest : List ℕ) → place ≤ whole → whole ≤ place → rest ≡ drop (whole * (4 + width)) bytes → AreFirst parse count bytes ms (drop (place * (4 + width)) bytes) → AreFirst parse count bytes ms rest
+  first_ends ms place whole width rest below above here are = let same : place ≡ whole = omega (arith, below, above) in rw (here, ← same) are
+
   -- what is read of them, and of the others, is what all bytes hold
   pub first_read : (t : Ty) (ms : List M) (rest : List ℕ) (n : ℕ) → n ≡ length ms → AreFirst parse count bytes ms rest → with_front ms (frames parse t (count - n) rest).answer ≡ (frames parse t count bytes).answer
   first_read t ms rest n long are = rw long (are t)
@@ -118,3 +136,14 @@ fixed_front bytes width narrow there is t =
     let positive : nat_lt 2147483647 width ≡ false = le-ltb _ _ (omega (arith, narrow)) in
     let enough : nat_lt (length (drop 4 bytes)) width ≡ false = le-ltb _ _ (omega (arith, there, length-drop 4 bytes)) in
     rw (long, is, some, positive, enough) (ap (λ (rest : List ℕ). Ok (given t Binary (Some (take width (drop 4 bytes))), rest)) (drop-drop width 4 bytes))
+
+-- the room that the bytes have for elements of any width is enough for those of this one
+pub room_for : (place count long width room : ℕ) → place < min count (long / (4 + width)) → min count (long / 4) ≤ room → place < room
+room_for place count long width room lt le =
+    let wide : long / (4 + width) * (4 + width) ≤ long = div-mul-le_self long (4 + width) in
+    let part : long / (4 + width) * 4 ≤ long / (4 + width) * (4 + width) = mul-le-mul_left (long / (4 + width)) (omega arith) in
+    let fewer : long / (4 + width) ≤ long / 4 = le-div (long / (4 + width)) long 4 (omega arith) (omega (arith, wide, part)) in
+    let a = min-le_left count (long / (4 + width)) in
+    let b = min-le_right count (long / (4 + width)) in
+    let both : place + 1 ≤ min count (long / 4) = le-min {k = place + 1} {a = count} {b = long / 4} (omega (arith, lt, a)) (omega (arith, lt, b, fewer)) in
+    omega (arith, both, le)

@@ -1,16 +1,19 @@
 -- The frames of a list.
-use Rattle.std.proofs.Common.{◌≡◌, ℕ, zero, suc, ◌<◌, ◌≤◌, Bool, true, false, nat_lt, Result, Ok, Err, OnOk, List, [], ◌∷◌, ◌++◌, length, map, Option, Some, None, get_or, take, drop, refl, sym, ◌∙◌, ap, append_assoc, append-nil, drop-cons, inl, inr}
+use Rattle.std.proofs.Common.{◌≡◌, ℕ, ◌+◌, zero, suc, ◌<◌, ◌≤◌, Bool, true, false, nat_lt, Result, Ok, Err, OnErr, OnOk, List, [], ◌∷◌, ◌++◌, length, map, Option, Some, None, get_or, take, drop, refl, sym, ◌∙◌, ap, append_assoc, append-nil, add-one, arith, drop-cons, inl, inr}
 use Rattle.std.proofs.lemmas.Bool.{le-ltb, lt-ltb}
 use Rattle.std.proofs.lemmas.List.{drop_all, length-map}
+use Rattle.std.proofs.Math.Seq.{take-add}
 use Rattle.pgv_types.specs.Ty.{Ty}
 use Rattle.pgv_types.specs.Facts.{oid_of}
 use Rattle.pgv_buf.specs.Tokens.{Token, Cell, hole, bytes, be4, blank}
 use Rattle.pgv_buf.specs.Blank.{blank-append}
 use Rattle.pgv_value.specs.Outcome.{Outcome, Fails, after, bind_by, done}
 use Rattle.pgv_value.specs.declared.error.CodecError.{CodecError}
-use Rattle.pgv_codec.specs.Encoding.{Encoding, image_of, frame, frames, typed, header, array_image, element_type, field, value_type}
+use Rattle.pgv_codec.specs.PlainBytes.{bytes-append}
+use Rattle.pgv_codec.proofs.Frames.{plain_frame}
+use Rattle.pgv_codec.specs.Encoding.{Encoding, Image, image_of, plainly, writes, frame, frames, typed, header, array_image, element_type, field, value_type}
 use Rattle.pgv_codec.specs.Appending.{Appended, Appends, Extends}
-use Rattle.pgv_codec.specs.AtOnce.{WritesFirst}
+use Rattle.pgv_codec.specs.AtOnce.{WritesFirst, four_words, word_frame}
 
 -- tokens after tokens
 pub both : (was mid now : List Cell) (a b : List Token) → mid ≡ was ++ blank a → now ≡ mid ++ blank b → now ≡ was ++ blank (a ++ b)
@@ -64,6 +67,9 @@ module _ {X : Type 0} (encoding : X → Encoding) where
 
   left_is : (xs : List X) (i : ℕ) (x : X) → i < length xs → x ≡ get_or xs i x → drop i xs ≡ x ∷ drop (suc i) xs
   left_is xs i x lt is = drop-cons xs i x lt ∙ ap (λ (y : X). y ∷ drop (suc i) xs) (sym is)
+
+  next_is : (xs : List X) (i j : ℕ) (x : X) → i < length xs → i + 1 ≡ j → x ≡ get_or xs i x → drop i xs ≡ x ∷ drop j xs
+  next_is xs i j x lt next is = rw (← next, add-one) (left_is xs i x lt is)
 
   pub frames_more : (ts : List Token) (xs : List X) (i : ℕ) (x : X) (f : List Token) (total : Answer) → i < length xs → x ≡ get_or xs i x → (frame (encoding x)).answer ≡ Ok f →
       with_front ts (still (drop i xs)).answer ≡ total → with_front (ts ++ f) (still (drop (suc i) xs)).answer ≡ total
@@ -128,6 +134,50 @@ module _ {X : Type 0} (encoding : X → Encoding) where
   pub extends_others : (n : ℕ) (xs : List X) (was mid now : List Cell) → WritesFirst encoding xs n was mid → Extends mid now → Extends was now
   extends_others n xs was mid now first others = (blank first.1.0 ++ others.0, others.1 ∙ (ap (λ (r : List Cell). r ++ others.0) first.1.2 ∙ append_assoc was (blank first.1.0) others.0))
 
+  pub first_before : (xs : List X) (was : List Cell) → WritesFirst encoding xs 0 was was
+  unfolding frames
+  first_before xs was = (omega arith, ([], refl, sym (append-nil was)))
+
+  pub err_extends : {E Y : Type 0} (xs : List X) (n : ℕ) (was mid now : List Cell) (r : Result Y E) → now ≡ mid → WritesFirst encoding xs n was mid → OnErr r (Extends was now)
+  err_extends xs n was mid now (Ok y) same first = tt
+  err_extends xs n was mid now (Err e) same first = (blank first.1.0, same ∙ first.1.2)
+
+  still_both : (xs ys : List X) (ts us : List Token) → (still xs).answer ≡ Ok ts → (still ys).answer ≡ Ok us → (still (xs ++ ys)).answer ≡ Ok (ts ++ us)
+  unfolding frames
+  still_both [] ys ts us e f = rw (nothing_written ts e) f
+  still_both (x ∷ xs) ys ts us e f =
+      let p = parted (frame (encoding x)).answer (frame (encoding x)).may_alloc (still xs).answer (still xs).may_alloc ts e in
+      let rest = still_both xs ys p.1 us p.3 f in
+      rw (p.2, rest) (ap (λ (xs : List Token). let r : Answer = Ok xs in r) (sym (append_assoc p.0 p.1 us) ∙ ap (λ (zs : List Token). zs ++ us) p.4))
+
+  four_frames : (a b c d : X) (f g h i : List Token) → (frame (encoding a)).answer ≡ Ok f → (frame (encoding b)).answer ≡ Ok g → (frame (encoding c)).answer ≡ Ok h → (frame (encoding d)).answer ≡ Ok i →
+      (still (a ∷ b ∷ c ∷ d ∷ [])).answer ≡ Ok (f ++ (g ++ (h ++ i)))
+  unfolding frames
+  four_frames a b c d f g h i j k l m = rw (j, k, l, m) (ap (λ (zs : List Token). let r : Answer = Ok (f ++ (g ++ (h ++ zs))) in r) (append-nil i))
+
+  four_of : (xs : List X) (n : ℕ) (a b c d : X) → n + 4 ≤ length xs → a ≡ get_or xs n a → b ≡ get_or xs (n + 1) b → c ≡ get_or xs (n + 2) c → d ≡ get_or xs (n + 3) d → take (n + 4) xs ≡ take n xs ++ (a ∷ b ∷ c ∷ d ∷ [])
+  four_of xs n a b c d le j k l m =
+      let one : drop n xs ≡ a ∷ drop (n + 1) xs = rw add-one (left_is xs n a (omega (arith, le)) j) in
+      let two : drop (n + 1) xs ≡ b ∷ drop (n + 2) xs = next_is xs (n + 1) (n + 2) b (omega (arith, le)) (omega arith) k in
+      let three : drop (n + 2) xs ≡ c ∷ drop (n + 3) xs = next_is xs (n + 2) (n + 3) c (omega (arith, le)) (omega arith) l in
+      let last : drop (n + 3) xs ≡ d ∷ drop (n + 4) xs = next_is xs (n + 3) (n + 4) d (omega (arith, le)) (omega arith) m in
+      take-add n 4 xs ∙ ap (λ (ys : List X). take n xs ++ take 4 ys) (one ∙ ap (λ (ys : List X). a ∷ ys) (two ∙ ap (λ (ys : List X). b ∷ ys) (three ∙ ap (λ (ys : List X). c ∷ ys) last)))
+
+  pub four_more : (xs : List X) (n : ℕ) (was mid now : List Cell) (a b c d : X) (p q r s : List ℕ) → n + 4 ≤ length xs → a ≡ get_or xs n a → b ≡ get_or xs (n + 1) b → c ≡ get_or xs (n + 2) c → d ≡ get_or xs (n + 3) d →
+      (frame (encoding a)).answer ≡ Ok (bytes (word_frame p)) → (frame (encoding b)).answer ≡ Ok (bytes (word_frame q)) → (frame (encoding c)).answer ≡ Ok (bytes (word_frame r)) → (frame (encoding d)).answer ≡ Ok (bytes (word_frame s)) →
+      now ≡ mid ++ blank (bytes (four_words p q r s)) → WritesFirst encoding xs n was mid → WritesFirst encoding xs (n + 4) was now
+  four_more xs n was mid now a b c d p q r s le j k l m e f g h grown first =
+      let all = four_frames a b c d (bytes (word_frame p)) (bytes (word_frame q)) (bytes (word_frame r)) (bytes (word_frame s)) e f g h in
+      let apart : bytes (four_words p q r s) ≡ bytes (word_frame p) ++ (bytes (word_frame q) ++ (bytes (word_frame r) ++ bytes (word_frame s))) =
+      bytes-append (word_frame p) _ ∙ ap (λ (ts : List Token). bytes (word_frame p) ++ ts) (bytes-append (word_frame q) _ ∙ ap (λ (ts : List Token). bytes (word_frame q) ++ ts) (bytes-append (word_frame r) (word_frame s))) in (
+        le,
+        (
+          first.1.0 ++ bytes (four_words p q r s),
+          ap (λ (ys : List X). (still ys).answer) (four_of xs n a b c d le j k l m) ∙ still_both (take n xs) (a ∷ b ∷ c ∷ d ∷ []) first.1.0 (bytes (four_words p q r s)) first.1.1 (all ∙ ap (λ (ts : List Token). let z : Answer = Ok ts in z) (sym apart)),
+          both was mid now first.1.0 (bytes (four_words p q r s)) first.1.2 grown,
+        ),
+      )
+
   -- ---- arrays
 
   pub array_there : (info : Ty) (xs : List X) (head parts : List Token) → length xs ≤ 2147483647 → (header (element_type info (map encoding xs)) (length xs)).answer ≡ Ok head → (still xs).answer ≡ Ok parts →
@@ -137,6 +187,10 @@ module _ {X : Type 0} (encoding : X → Encoding) where
       let many : length (map encoding xs) ≡ length xs = length-map xs encoding in
       let small : nat_lt 2147483647 (length xs) ≡ false = le-ltb _ _ le in
       rw (many, small, head_is, parts_are) refl
+
+-- the frame of an image of four bytes
+pub word_is : (image : Option Image) (word : List ℕ) → image ≡ Some (image_of (bytes word)) → length word ≡ 4 → (frame (plainly (writes image))).answer ≡ Ok (bytes (word_frame word))
+word_is image word is long = rw is (plain_frame word (omega (arith, long)) ∙ ap (λ (n : ℕ). let r : Answer = Ok (bytes (be4 n ++ word)) in r) long)
 
 -- ---- fields
 

@@ -3,6 +3,7 @@
 ghost use Rattle.std.specs.Prelude.{◌≡◌, IfOk, IfErr, OnOk, OnErr, ◌+◌, ◌*◌, ◌≤◌, false, true, length, map, Ok, Some, [], IfSome, is_some, List, refl};
 ghost use Rattle.std.specs.Vec.{with_items};
 ghost use Rattle.pgv_text.specs.Values.{array_values};
+ghost use Rattle.pgv_value.specs.FrameBinary.{front_length};
 ghost use Rattle.pgv_value.specs.Outcome.{Gives, after};
 ghost use Rattle.pgv_value.specs.Reading.{has_items};
 ghost use Rattle.pgv_value.specs.declared.error.CodecError.TheVariants.{Memory};
@@ -323,14 +324,15 @@ fn read_first<T: Decode>(
     let width = T::width_at_once();
     let frame = 4 + width;
     let mut items = Vec::with_capacity(alloc, count.min(bytes.len() / 4))?;
-    for place in 0..count.min(bytes.len() / frame) {
+    let whole = count.min(bytes.len() / frame);
+    for place in 0..whole {
         let (_read, rest) = bytes.split_at(place * frame);
         match in_front(rest, width) {
             Some(item) => items.push_reserved(item),
             None => return Ok((items, rest)),
         }
     }
-    let (_read, rest) = bytes.split_at(items.len() * frame);
+    let (_read, rest) = bytes.split_at(whole * frame);
     Ok((items, rest))
 }
 
@@ -341,12 +343,21 @@ fn in_front<T: Decode>(bytes: &[u8], width: usize) -> Option<T>
     requires there { 4 + width ≤ length bytes.now }
     ensures { IfSome result (λ v. IsInFront T.parse width bytes.now (T.view v)) }
 {
-    let (length, rest) = bytes.split_at(4);
-    if u32::from_be_bytes([length[0], length[1], length[2], length[3]]) as usize != width {
+    if length_in_front(bytes) != width {
         return None;
     }
+    let (_length, rest) = bytes.split_at(4);
     let (part, _rest) = rest.split_at(width);
     T::decode_at_once(part)
+}
+
+/// The length that stands in front.
+#[inline(always)]
+fn length_in_front(bytes: &[u8]) -> usize
+    requires { 4 ≤ length bytes.now }
+    ensures { result ≡ front_length bytes.now }
+{
+    u32::from_be_bytes([bytes[0], bytes[1], bytes[2], bytes[3]]) as usize
 }
 
 /// An array in text. An invalid text (C29) comes before the refusal of a part, or out of memory. A text without

@@ -1,15 +1,12 @@
-use Rattle.std.proofs.Common.{rules, ◌≡◌, ◌==◌, ◌<◌, ◌≤◌, ◌++◌, ℕ, List, [], ◌∷◌, length, true, Some, OnOk, OnErr, IfOk, IfErr, sum, ◌+◌, ◌-◌, ◌*◌, ◌/◌, ◌%◌, Bool, false, nat_eq, nat_lt, slice_index_or, slice_set, bit_and, bit_or, Fits, w8, w32, w64, Bor, MutBor}
-use Rattle.pgv_buf.specs.Tokens.{byte, hole, slot, bytes, Cell, blank, fixed_bytes, shown, width, be4, hole_types_of, hole_count, slot_count, CasesFit}
-use Rattle.pgv_buf.specs.CasesView.{cases_of}
-use Rattle.pgv_buf.specs.Marks.{mark_of}
-use Rattle.pgv_buf.specs.Proper.{Proper}
-use Rattle.pgv_buf.specs.Fill.{fill_holes, fill_slots, slot_types}
-use Rattle.pgv_value.specs.declared.error.CodecError.TheVariants.{Memory}
-use Rattle.pgv_codec.specs.Encoding.{frame, image_of, plainly, typed, writes}
-use Rattle.pgv_codec.specs.Appending.{Appended, Appends, Extends}
-use Rattle.pgv_codec.specs.AtOnce.{four_words}
+use Rattle.std.proofs.Common.{◌≡◌, ◌++◌, ℕ, List, length, OnOk, rules, subst}
+use Rattle.pgv_buf.specs.Tokens.{bytes, blank}
+use Rattle.pgv_codec.proofs.Fours.{four_apart}
 use Rattle.pgv_codec.proofs.buffer.PgArgumentBuffer.push_four_words.Goals as goal
 
--- src/buffer.rt:268:5
 pub returns-clause-ok : goal.returns-clause-ok
-returns-clause-ok c = ?
+returns-clause-ok c =
+    let one : length c.args.first ≡ 4 = search rules in
+    let two : length c.args.second ≡ 4 = search rules in
+    let three : length c.args.third ≡ 4 = search rules in
+    let last : length c.args.fourth ≡ 4 = search rules in
+    subst (λ (xs : List ℕ). OnOk c.extend_from_slice.result (c.extend_from_slice.new.self ≡ c.args.self.now ++ blank (bytes xs))) (four_apart c.args.first c.args.second c.args.third c.args.fourth one two three last) c.extend_from_slice.ensures.ok

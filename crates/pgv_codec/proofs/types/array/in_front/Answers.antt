@@ -1,21 +1,18 @@
-use Rattle.std.proofs.Common.{rules, ◌≡◌, IfOk, IfErr, OnOk, OnErr, ◌+◌, ◌*◌, ◌≤◌, false, true, length, map, Ok, Some, [], IfSome, is_some, List, refl, ℕ, ◌-◌, ◌<◌, ◌/◌, ◌%◌, Bool, nat_eq, nat_lt, ◌∷◌, ◌++◌, slice_index_or, slice_set, bit_and, bit_or, Fits, w8, w32, w64, Bor, MutBor}
-use Rattle.std.specs.Vec.{with_items}
-use Rattle.pgv_text.specs.Values.{array_values}
-use Rattle.pgv_value.specs.Outcome.{Gives, after}
-use Rattle.pgv_value.specs.Reading.{has_items}
-use Rattle.pgv_value.specs.declared.error.CodecError.TheVariants.{Memory}
+use Rattle.std.proofs.Common.{◌≡◌, ◌∙◌, ◌+◌, ℕ, List, take, drop, Some, Ok, ap, subst, sym}
+use Rattle.pgv_types.specs.Ty.{Ty}
+use Rattle.pgv_value.specs.Fronts.{value_front}
+use Rattle.pgv_value.specs.ValueView.{given}
 use Rattle.pgv_value.specs.declared.value.PgValueFormat.TheVariants.{Binary}
-use Rattle.pgv_nest.specs.ArrayGrammar.{array_in_binary, array_in_text, elements, frames, parse_array, parse_sized}
-use Rattle.pgv_codec.specs.Encoding.{array_image, element_type}
-use Rattle.pgv_codec.specs.Encoding.{frames as frames_of}
-use Rattle.pgv_codec.specs.Encoding.{header, is_copied, plainly, sized_image, value_type}
-use Rattle.pgv_codec.specs.Appending.{Appended, Appends, Encodes, Extends}
-use Rattle.pgv_codec.specs.AtOnce.{AreFirst, IsInFront}
-use Rattle.pgv_codec.specs.Agreeing.{array_agrees, sized_agrees}
-use Rattle.pgv_codec.specs.Back.{ArrayFits}
-use Rattle.pgv_codec.specs.BackNests.{vec_back, sized_back}
+use Rattle.pgv_codec.proofs.FrameLoop.{fixed_front, in_front_of}
 use Rattle.pgv_codec.proofs.types.array.in_front.Goals as goal
 
--- src/types/array.rt:338:1
 pub returns : goal.returns
-returns g c = ?
+returns g c =
+    let bytes = c.args.bytes.now in
+    let width = c.args.width in
+    let part = c.split_at-2.result.0.now in
+    let is : part ≡ take width (drop 4 bytes) = c.split_at-2.ensures.front ∙ ap (take width) c.split_at.ensures.back in
+    let long = sym c.length_in_front.ensures ∙ c.if-length_in_front-width.false in
+    let front : (t : Ty) → value_front t Binary bytes ≡ Ok (given t Binary (Some part), drop (4 + width) bytes) =
+    λ t. subst (λ (xs : List ℕ). value_front t Binary bytes ≡ Ok (given t Binary (Some xs), drop (4 + width) bytes)) (sym is) (fixed_front bytes width c.requires.narrow c.requires.there long t) in
+    in_front_of c.decode_at_once.result g.T.Decode.view g.T.Decode.parse width bytes part front c.decode_at_once.ensures

@@ -1,45 +1,31 @@
-use Rattle.std.proofs.Common.{rules, ◌≡◌, IfOk, IfErr, OnOk, OnErr, ◌+◌, ◌*◌, ◌≤◌, false, true, length, map, Ok, Some, [], IfSome, is_some, List, refl, ℕ, ◌-◌, ◌<◌, ◌/◌, ◌%◌, Bool, nat_eq, nat_lt, ◌∷◌, ◌++◌, slice_index_or, slice_set, bit_and, bit_or, Fits, w8, w32, w64, Bor, MutBor}
-use Rattle.std.specs.Vec.{with_items}
-use Rattle.pgv_text.specs.Values.{array_values}
-use Rattle.pgv_value.specs.Outcome.{Gives, after}
-use Rattle.pgv_value.specs.Reading.{has_items}
-use Rattle.pgv_value.specs.declared.error.CodecError.TheVariants.{Memory}
-use Rattle.pgv_value.specs.declared.value.PgValueFormat.TheVariants.{Binary}
-use Rattle.pgv_nest.specs.ArrayGrammar.{array_in_binary, array_in_text, elements, frames, parse_array, parse_sized}
-use Rattle.pgv_codec.specs.Encoding.{array_image, element_type}
-use Rattle.pgv_codec.specs.Encoding.{frames as frames_of}
-use Rattle.pgv_codec.specs.Encoding.{header, is_copied, plainly, sized_image, value_type}
-use Rattle.pgv_codec.specs.Appending.{Appended, Appends, Encodes, Extends}
-use Rattle.pgv_codec.specs.AtOnce.{AreFirst, IsInFront}
-use Rattle.pgv_codec.specs.Agreeing.{array_agrees, sized_agrees}
-use Rattle.pgv_codec.specs.Back.{ArrayFits}
-use Rattle.pgv_codec.specs.BackNests.{vec_back, sized_back}
+use Rattle.std.proofs.Common.{◌≡◌, ◌∙◌, ◌≤◌, ℕ, ◌+◌, ◌*◌, map, length, drop, ap, refl, zero-mul, arith}
+use Rattle.pgv_codec.specs.AtOnce.{AreFirst}
+use Rattle.pgv_codec.proofs.FrameLoop.{first_ends, first_none, first_step, room_for}
 use Rattle.pgv_codec.proofs.types.array.read_first.Goals as goal
 
--- src/types/array.rt:326:5
 pub loop-place-init : goal.loop-place-init
-loop-place-init g c = ?
+loop-place-init g c =
+    let none = c.in_ok-items.ensures.items in
+    let start : 0 * (4 + c.width_at_once-width.result) ≡ 0 = zero-mul (4 + c.width_at_once-width.result) in
+    (c.in_ok-items.ensures.len, ap length none, refl, rw (none, start) (first_none g.T.Decode.parse c.args.count c.args.bytes.now))
 
--- src/types/array.rt:329:27
 pub push_reserved-requires : goal.push_reserved-requires
-push_reserved-requires g c = ?
+push_reserved-requires g c =
+    let was = c.loop-place.invariant in
+    rw (was.0, was.2) (room_for c.loop-place.place c.args.count (length c.args.bytes.now) c.width_at_once-width.result _ (rw (← c.min-whole.ensures) c.loop-place-test.true) (rw (← c.min.ensures) c.in_ok-items.ensures.capacity))
 
--- src/types/array.rt:330:21
 pub returns-in-None-clause-first : goal.returns-in-None-clause-first
-returns-in-None-clause-first g c = ?
+returns-in-None-clause-first g c = rw c.split_at.ensures.back c.loop-place.invariant.3
 
--- src/types/array.rt:326:5
 pub loop-place-preserved : goal.loop-place-preserved
-loop-place-preserved g c = ?
+loop-place-preserved g c =
+    let was = c.loop-place.invariant in
+    let pushed = c.push_reserved.ensures in
+    let step = first_step g.T.Decode.parse c.args.count c.args.bytes.now g.T.Decode.view c.loop-place.items.items c.in-Some.item c.push_reserved.new.self.items c.loop-place.place c.width_at_once-width.result c.split_at.result.1.now
+    pushed.items was.1 (omega (arith, c.loop-place-test.true, c.min-whole.ensures)) c.split_at.ensures.back was.3 c.in-Some.ensures in
+    (pushed.len ∙ ap (λ (n : ℕ). n + 1) was.0, step.0, pushed.capacity ∙ was.2, step.1)
 
--- src/types/array.rt:333:40
-pub overflow_mul-len : goal.overflow_mul-len
-overflow_mul-len g c = ?
-
--- src/types/array.rt:333:25
-pub split_at-requires-2 : goal.split_at-requires-2
-split_at-requires-2 g c = ?
-
--- src/types/array.rt:313:1
 pub returns-clause-first : goal.returns-clause-first
-returns-clause-first g c = ?
+returns-clause-first g c =
+    first_ends g.T.Decode.parse c.args.count c.args.bytes.now (map g.T.Decode.view c.loop-place.items.items) c.loop-place.place c.min-whole.result c.width_at_once-width.result c.split_at-2.result.1.now
+    c.loop-place.auto.place-end c.loop-place-test.false c.split_at-2.ensures.back c.loop-place.invariant.3

@@ -1,13 +1,20 @@
-use Rattle.std.proofs.Common.{rules, ◌≡◌, Ok, IfOk, IfErr, OnErr, ℕ, ◌+◌, ◌-◌, ◌*◌, ◌<◌, ◌≤◌, length, ◌/◌, ◌%◌, Bool, true, false, nat_eq, nat_lt, List, [], ◌∷◌, ◌++◌, slice_index_or, slice_set, bit_and, bit_or, Fits, w8, w64, Bor, MutBor, ℤ, pos, ◌+ℤ◌, ◌-ℤ◌, ◌*ℤ◌, ◌≤ℤ◌, ◌<ℤ◌, FitsSigned, to_z, of_z}
-use Rattle.std.specs.Int.{w32}
+use Rattle.std.proofs.Common.{◌≡◌, ◌∙◌, ℕ, ℤ, List, Option, Some, Ok, length, rules, ap, sym, arith}
+use mir.Val.{SFits}
+use Rattle.std.specs.Int.{w32, cast_unsigned, to_be_bytes}
+use Rattle.std.proofs.lemmas.Int.{to_z-of_z}
 use Rattle.pgv_buf.specs.Tokens.{bytes}
-use Rattle.pgv_value.specs.declared.error.CodecError.TheVariants.{Memory}
-use Rattle.pgv_codec.specs.Appending.{Extends}
-use Rattle.pgv_codec.specs.AtOnce.{WritesFirst, word_frame}
-use Rattle.pgv_codec.specs.Encoding.{Encoding, frame, plainly, writes}
-use Rattle.pgv_codec.specs.ScalarBinary.{signed_image, unsigned_image}
+use Rattle.pgv_value.specs.OwnBytes.{signed_fits}
+use Rattle.pgv_codec.specs.Encoding.{Image, image_of}
+use Rattle.pgv_codec.specs.ScalarBinary.{signed_image}
+use Rattle.pgv_codec.proofs.Lists.{word_is}
 use Rattle.pgv_codec.proofs.types.words.I32Word.word.Goals as goal
 
--- src/types/words.rt:29:5
 pub returns : goal.returns
-returns c = ?
+returns c =
+    let v = c.args.self.now in
+    let fits : SFits w32 v = search rules in
+    let value = c.to_be_bytes.result in
+    let is : value ≡ to_be_bytes w32 (cast_unsigned w32 v) = c.to_be_bytes.ensures ∙ ap (λ (z : ℤ). to_be_bytes w32 (cast_unsigned w32 z)) (to_z-of_z w32 v fits) in
+    let image : signed_image w32 v ≡ Some (image_of (bytes value)) = rw (signed_fits w32 v fits) (ap (λ (xs : List ℕ). let o : Option Image = Some (image_of (bytes xs)) in o) (sym is)) in
+    let long : length value ≡ 4 = search rules in
+    word_is (signed_image w32 v) value image long

@@ -1,13 +1,19 @@
-use Rattle.std.proofs.Common.{rules, ◌≡◌, Ok, IfOk, IfErr, OnErr, ℕ, ◌+◌, ◌-◌, ◌*◌, ◌<◌, ◌≤◌, length, ◌/◌, ◌%◌, Bool, true, false, nat_eq, nat_lt, List, [], ◌∷◌, ◌++◌, slice_index_or, slice_set, bit_and, bit_or, Fits, w8, w64, Bor, MutBor}
-use Rattle.std.specs.Int.{w32}
+use Rattle.std.proofs.Common.{◌≡◌, ◌<◌, ◌^◌, nat_lt, ℕ, List, Option, Some, true, length, rules, ap, sym}
+use Rattle.std.specs.Int.{w32, to_be_bytes}
+use Rattle.std.proofs.lemmas.Bool.{lt-ltb}
 use Rattle.pgv_buf.specs.Tokens.{bytes}
-use Rattle.pgv_value.specs.declared.error.CodecError.TheVariants.{Memory}
-use Rattle.pgv_codec.specs.Appending.{Extends}
-use Rattle.pgv_codec.specs.AtOnce.{WritesFirst, word_frame}
-use Rattle.pgv_codec.specs.Encoding.{Encoding, frame, plainly, writes}
-use Rattle.pgv_codec.specs.ScalarBinary.{signed_image, unsigned_image}
+use Rattle.pgv_codec.specs.Encoding.{Image, image_of}
+use Rattle.pgv_codec.specs.ScalarBinary.{unsigned_image}
+use Rattle.pgv_codec.proofs.Lists.{word_is}
 use Rattle.pgv_codec.proofs.types.words.OidWord.word.Goals as goal
 
--- src/types/words.rt:38:5
 pub returns : goal.returns
-returns c = ?
+returns c =
+    let n = c.args.self.now.0 in
+    let fits : n < 4294967296 = search rules in
+    let small : nat_lt n (2 ^ 32) ≡ true = lt-ltb n (2 ^ 32) fits in
+    let value = c.to_be_bytes.result in
+    let is : value ≡ to_be_bytes w32 n = c.to_be_bytes.ensures in
+    let image : unsigned_image w32 n ≡ Some (image_of (bytes value)) = rw small (ap (λ (xs : List ℕ). let o : Option Image = Some (image_of (bytes xs)) in o) (sym is)) in
+    let long : length value ≡ 4 = search rules in
+    word_is (unsigned_image w32 n) value image long
