@@ -151,9 +151,9 @@ module _ {X : Type 0} (encoding : X → Encoding) where
       rw (p.2, rest) (ap (λ (xs : List Token). let r : Answer = Ok xs in r) (sym (append_assoc p.0 p.1 us) ∙ ap (λ (zs : List Token). zs ++ us) p.4))
 
   four_frames : (a b c d : X) (f g h i : List Token) → (frame (encoding a)).answer ≡ Ok f → (frame (encoding b)).answer ≡ Ok g → (frame (encoding c)).answer ≡ Ok h → (frame (encoding d)).answer ≡ Ok i →
-      (still (a ∷ b ∷ c ∷ d ∷ [])).answer ≡ Ok (f ++ (g ++ (h ++ i)))
+      (still (a ∷ b ∷ c ∷ d ∷ [])).answer ≡ Ok ((f ++ g) ++ (h ++ i))
   unfolding frames
-  four_frames a b c d f g h i j k l m = rw (j, k, l, m) (ap (λ (zs : List Token). let r : Answer = Ok (f ++ (g ++ (h ++ zs))) in r) (append-nil i))
+  four_frames a b c d f g h i j k l m = rw (j, k, l, m) (ap (λ (zs : List Token). let r : Answer = Ok (f ++ (g ++ (h ++ zs))) in r) (append-nil i) ∙ ap (λ (zs : List Token). let r : Answer = Ok zs in r) (sym (append_assoc f g (h ++ i))))
 
   four_of : (xs : List X) (n : ℕ) (a b c d : X) → n + 4 ≤ length xs → a ≡ get_or xs n a → b ≡ get_or xs (n + 1) b → c ≡ get_or xs (n + 2) c → d ≡ get_or xs (n + 3) d → take (n + 4) xs ≡ take n xs ++ (a ∷ b ∷ c ∷ d ∷ [])
   four_of xs n a b c d le j k l m =
@@ -168,8 +168,9 @@ module _ {X : Type 0} (encoding : X → Encoding) where
       now ≡ mid ++ blank (bytes (four_words p q r s)) → WritesFirst encoding xs n was mid → WritesFirst encoding xs (n + 4) was now
   four_more xs n was mid now a b c d p q r s le j k l m e f g h grown first =
       let all = four_frames a b c d (bytes (word_frame p)) (bytes (word_frame q)) (bytes (word_frame r)) (bytes (word_frame s)) e f g h in
-      let apart : bytes (four_words p q r s) ≡ bytes (word_frame p) ++ (bytes (word_frame q) ++ (bytes (word_frame r) ++ bytes (word_frame s))) =
-      bytes-append (word_frame p) _ ∙ ap (λ (ts : List Token). bytes (word_frame p) ++ ts) (bytes-append (word_frame q) _ ∙ ap (λ (ts : List Token). bytes (word_frame q) ++ ts) (bytes-append (word_frame r) (word_frame s))) in (
+      let apart : bytes (four_words p q r s) ≡ (bytes (word_frame p) ++ bytes (word_frame q)) ++ (bytes (word_frame r) ++ bytes (word_frame s)) =
+      bytes-append (word_frame p ++ word_frame q) (word_frame r ++ word_frame s)
+      ∙ (ap (λ (ts : List Token). ts ++ bytes (word_frame r ++ word_frame s)) (bytes-append (word_frame p) (word_frame q)) ∙ ap (λ (ts : List Token). (bytes (word_frame p) ++ bytes (word_frame q)) ++ ts) (bytes-append (word_frame r) (word_frame s))) in (
         le,
         (
           first.1.0 ++ bytes (four_words p q r s),

@@ -42,7 +42,7 @@ word_frame word = be4 4 ++ word
 
 -- and of four of them
 abbrev pub four_words : List ℕ → List ℕ → List ℕ → List ℕ → List ℕ
-four_words a b c d = word_frame a ++ (word_frame b ++ (word_frame c ++ word_frame d))
+four_words a b c d = (word_frame a ++ word_frame b) ++ (word_frame c ++ word_frame d)
 
 -- the frames of the first n values were appended
 abbrev pub WritesFirst : {X : Type 0} → (X → Encoding) → List X → ℕ → List Cell → List Cell → Type 0

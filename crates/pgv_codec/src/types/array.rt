@@ -311,6 +311,7 @@ fn read_in_room<T: Decode>(
 
 /// The first elements, as far as each is read at once and its frame has the width of the type, and the frames after
 /// them: none, where the type has no width. The list has room for as many elements as the bytes can hold at most.
+#[inline(always)]
 fn read_first<T: Decode>(
     alloc: Global,
     count: usize,
