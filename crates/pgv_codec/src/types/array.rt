@@ -1,6 +1,6 @@
 //! Arrays of one dimension (PostgreSQL, "Arrays").
 
-ghost use Rattle.std.specs.Prelude.{◌≡◌, IfOk, IfErr, OnOk, OnErr, ◌+◌, ◌*◌, ◌≤◌, false, true, length, map, Ok, Some, [], IfSome, is_some, List, refl};
+ghost use Rattle.std.specs.Prelude.{◌≡◌, IfOk, IfErr, OnOk, OnErr, ◌+◌, ◌*◌, ◌≤◌, false, true, length, map, drop, Ok, Some, [], IfSome, is_some, List, refl};
 ghost use Rattle.std.specs.Vec.{with_items};
 ghost use Rattle.pgv_text.specs.Values.{array_values};
 ghost use Rattle.pgv_value.specs.FrameBinary.{front_length};
@@ -303,10 +303,34 @@ fn read_in_room<T: Decode>(
 {
     let (mut items, mut rest) = read_first(alloc, count as usize, bytes)?;
     for _ in items.len()..count as usize {
-        let part = PgValueRef::get(&mut rest, PgValueFormat::Binary, element.clone()?)?;
-        items.push(T::decode(alloc, part)?)?;
+        match next_at_once(rest, T::width_at_once()) {
+            Some((item, others)) => {
+                items.push(item)?;
+                rest = others;
+            }
+            None => {
+                let part = PgValueRef::get(&mut rest, PgValueFormat::Binary, element.clone()?)?;
+                items.push(T::decode(alloc, part)?)?;
+            }
+        }
     }
     Ok(items)
+}
+
+/// The element in front, if it is read at once, and the frames after it.
+#[inline(always)]
+fn next_at_once<T: Decode>(bytes: &[u8], width: usize) -> Option<(T, &[u8])>
+    requires { width ≤ 16 }
+    ensures is { IfSome result (λ r. IsInFront T.parse width bytes.now (T.view r.0)) }
+    ensures others { IfSome result (λ r. r.1.now ≡ drop (4 + width) bytes.now) }
+{
+    if width == 0 || bytes.len() < 4 + width {
+        return None;
+    }
+    match in_front(bytes, width) {
+        Some(item) => Some((item, &bytes[4 + width..])),
+        None => None,
+    }
 }
 
 /// The first elements, as far as each is read at once and its frame has the width of the type, and the frames after

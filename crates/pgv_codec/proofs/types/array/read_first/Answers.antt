@@ -1,5 +1,4 @@
-use Rattle.std.proofs.Common.{◌≡◌, ◌∙◌, ◌≤◌, ℕ, ◌+◌, ◌*◌, map, length, drop, ap, refl, zero-mul, arith}
-use Rattle.pgv_codec.specs.AtOnce.{AreFirst}
+use Rattle.std.proofs.Common.{◌≡◌, ◌∙◌, ℕ, ◌+◌, ◌*◌, map, length, ap, refl, zero-mul, arith}
 use Rattle.pgv_codec.proofs.FrameLoop.{first_ends, first_none, first_step, room_for}
 use Rattle.pgv_codec.proofs.types.array.read_first.Goals as goal
 

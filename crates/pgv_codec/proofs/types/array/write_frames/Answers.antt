@@ -1,4 +1,4 @@
-use Rattle.std.proofs.Common.{◌≡◌, List, drop, subst}
+use Rattle.std.proofs.Common.{subst}
 use Rattle.std.proofs.Common.{true, map}
 use Rattle.pgv_value.specs.Outcome.{after}
 use Rattle.pgv_codec.specs.Appending.{Appends}

@@ -1,5 +1,4 @@
-use Rattle.std.proofs.Common.{◌≡◌, ◌*◌, ◌/◌, ◌+◌, length, sym, subst, arith}
-use Rattle.std.proofs.lemmas.Result.{err_from_is_err_and}
+use Rattle.std.proofs.Common.{◌≡◌, ◌*◌, ◌/◌, ◌+◌, length, subst, arith}
 use Rattle.pgv_codec.specs.AtOnce.{WritesFirst}
 use Rattle.pgv_codec.proofs.Lists.{err_extends, first_before, four_more}
 use Rattle.pgv_codec.proofs.types.words.write_words.Goals as goal
