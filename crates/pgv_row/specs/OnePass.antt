@@ -1,8 +1,8 @@
 -- How the body of a DataRow is read in one pass. The columns are tested before, once for all rows: that they are there,
 -- and that each field is read under its column's type (`Fit`). Then each value is read as its frame is found, under the
--- type and in the format of its column, null included (`one_pass`): a number of columns that isn't there is C15, another
--- than the description's C12, a frame that isn't there C15 or C16, and bytes after the last frame C17. Further columns
--- than there are fields are passed over, a frame each.
+-- type and in the format of its column, null included (`one_pass`): a number of columns that isn't there is C15,
+-- another than the description's C12, a frame that isn't there C15 or C16, and bytes after the last frame C17. Further
+-- columns than there are fields are passed over, a frame each.
 use Rattle.std.specs.Prelude.{◌≡◌, ℕ, ◌+◌, ◌-◌, nat_eq, not, Bool, List, [], length, drop, slice_get, Option, Some, None, Result, Ok, Err, ⊤, if◌then◌else◌}
 use Rattle.pgv_types.specs.Ty.{Ty}
 use Rattle.pgv_types.specs.Facts.{is_custom}
