@@ -3,19 +3,21 @@
 -- type and in the format of its column, null included (`one_pass`): a number of columns that isn't there is C15,
 -- another than the description's C12, a frame that isn't there C15 or C16, and bytes after the last frame C17. Further
 -- columns than there are fields are passed over, a frame each.
-use Rattle.std.specs.Prelude.{◌≡◌, ℕ, ◌+◌, ◌-◌, nat_eq, not, Bool, List, [], length, drop, slice_get, Option, Some, None, Result, Ok, Err, ⊤, if◌then◌else◌}
+use Rattle.std.specs.Prelude.{◌≡◌, ◌⊎◌, ◌≤◌, ℕ, ◌+◌, ◌-◌, nat_eq, not, Bool, List, [], length, drop, slice_get, Option, Some, None, Result, Ok, Err, IfErr, IsOkAnd, ⊤, if◌then◌else◌}
 use Rattle.pgv_types.specs.Ty.{Ty}
 use Rattle.pgv_types.specs.Facts.{is_custom}
 use Rattle.pgv_value.specs.FrameBinary.{Part}
 use Rattle.pgv_value.specs.Fronts.{one_part}
-use Rattle.pgv_value.specs.Outcome.{Outcome, Gives, exactly, or_fail, fails_if, allocates, done, ◌>>=◌, ◌>>◌}
+use Rattle.pgv_value.specs.Outcome.{Outcome, Fails, Gives, exactly, or_fail, fails_if, allocates, done, ◌>>=◌, ◌>>◌}
 use Rattle.pgv_value.specs.Several.{several}
 use Rattle.pgv_value.specs.ValueView.{Given, given}
 use Rattle.pgv_value.specs.declared.error.CodecError.{CodecError}
 use Rattle.pgv_value.specs.declared.error.CodecError.TheVariants.{NoField, MismatchedTypes, WrongLength}
 use Rattle.pgv_row.specs.ColumnView.{Column}
 use Rattle.pgv_row.specs.DataRow.{frames_front, IsDataRow}
+use Rattle.pgv_row.specs.Errors.{codec_error}
 use Rattle.pgv_row.specs.RowView.{Row}
+use Rattle.pgv_row.specs.Tuples.{index_of}
 use Rattle.pgv_row.specs.declared.error.ColumnError.{ColumnError}
 use Rattle.pgv_row.specs.declared.error.ColumnError.TheVariants.{NotFound, Decode}
 
@@ -94,6 +96,26 @@ one_pass read columns body = do
   fails_if (not (nat_eq (length rest) 0)) (WrongLength (length body))
   done first.0
 
+-- ---- which column is refused
+
+-- the error is that of the column at a place, whose frame is in front
+abbrev pub IsRefusedInFront : {M : Type 0} → (List Column → ℕ → List ℕ → Outcome (M × Left)) → List Column → ℕ → List ℕ → ColumnError ℕ → Type 0
+IsRefusedInFront read columns place bytes e = (index_of e ≡ place) × Fails (codec_error e) (read columns place bytes)
+
+-- it is that, or of a column after it, where this one is read
+abbrev pub IsFirstInFront : {M : Type 0} → (List Column → ℕ → List ℕ → Outcome (M × Left)) → (List Column → ℕ → List ℕ → ColumnError ℕ → Type 0) → List Column → ℕ → List ℕ → ColumnError ℕ → Type 0
+IsFirstInFront first more columns place bytes e = IsRefusedInFront first columns place bytes e ⊎ IsOkAnd (first columns place bytes).answer (λ x. more columns x.1.0 x.1.1 e)
+
+-- it is that of a further column from a place on, or of the bytes after the last one
+abbrev pub IsRestRefused : ℕ → ℕ → Left → ColumnError ℕ → Type 0
+IsRestRefused width size left e =
+    ((left.0 ≤ index_of e) × Fails (codec_error e) (passed_over (width - left.0) left.1)) ⊎ ((index_of e ≡ width) × IsOkAnd (passed_over (width - left.0) left.1).answer (λ rest. Fails (codec_error e) (fails_if (not (nat_eq (length rest) 0)) (WrongLength size))))
+
+-- it is that of the number of columns, of one of the first columns, or of what comes after them
+abbrev pub IsRowRefused : {M : Type 0} → (List Column → List ℕ → Outcome (M × Left)) → (List Column → List ℕ → ColumnError ℕ → Type 0) → List Column → List ℕ → ColumnError ℕ → Type 0
+IsRowRefused read refused columns body e =
+    ((index_of e ≡ 0) × (frames_front (length columns) body ≡ Err (codec_error e))) ⊎ IsOkAnd (frames_front (length columns) body) (λ frames. refused columns frames e ⊎ IsOkAnd (read columns frames).answer (λ first. IsRestRefused (length columns) (length body) first.1 e))
+
 -- ---- what is read of a DataRow
 
 -- the body is a DataRow of these columns
@@ -104,16 +126,21 @@ IsRowOf columns body = (parts : List Part) × IsDataRow (length columns) body pa
 abbrev pub GivesRow : {V M : Type 0} → (V → M) → (Row → Outcome M) → List Column → List ℕ → Result V CodecError → Type 0
 GivesRow view parse columns body result = (parts : List Part) → IsDataRow (length columns) body parts → Gives view (parse (record { columns = columns; parts = parts })) result
 
+-- and so the error is one that the row is refused with
+abbrev pub RefusesRow : {V : Type 0} → (Row → ColumnError ℕ → Type 0) → List Column → List ℕ → Result V (ColumnError ℕ) → Type 0
+RefusesRow refused columns body result = (parts : List Part) → IsDataRow (length columns) body parts → IfErr result (refused (record { columns = columns; parts = parts }))
+
 -- ---- the law of columns that are read in one pass
 
 -- bytes are the frames of a row's parts from a place on
 abbrev pub AreFrames : Row → ℕ → List ℕ → Type 0
 AreFrames row place bytes = (several one_part (length row.columns - place) bytes).answer ≡ Ok (drop place row.parts, [])
 
--- Of the frames of a row from a place on the same is read as of the row, where the columns fit; and what is read of
--- bytes whose rest is frames is read of frames.
-pub record InOnePass {M : Type 0} (place : ℕ) (fits : List Column → Fit) (parse : Row → Outcome M) (read : List Column → List ℕ → Outcome (M × Left)) : Type 0 where
+-- Of the frames of a row from a place on the same is read as of the row, and the same column is refused, where the
+-- columns fit; and what is read of bytes whose rest is frames is read of frames.
+pub record InOnePass {M : Type 0} (place : ℕ) (fits : List Column → Fit) (parse : Row → Outcome M) (refused : Row → ColumnError ℕ → Type 0) (read : List Column → List ℕ → Outcome (M × Left)) (refused_in_front : List Column → List ℕ → ColumnError ℕ → Type 0) : Type 0 where
   pub as_row : (row : Row) (bytes : List ℕ) → fits row.columns ≡ Ok tt → AreFrames row place bytes →
       (left : Left) × AreFrames row left.0 left.1 × (read row.columns bytes ≡ (parse row >>= λ m. done (m, left)))
+  pub refused_as_row : (row : Row) (bytes : List ℕ) (e : ColumnError ℕ) → fits row.columns ≡ Ok tt → AreFrames row place bytes → refused_in_front row.columns bytes e → refused row e
   pub of_frames : (columns : List Column) (bytes : List ℕ) (m : M) (left : Left) (further : List Part) → (read columns bytes).answer ≡ Ok (m, left) →
       (several one_part (length columns - left.0) left.1).answer ≡ Ok (further, []) → (parts : List Part) × ((several one_part (length columns - place) bytes).answer ≡ Ok (parts, []))

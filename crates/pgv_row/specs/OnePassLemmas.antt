@@ -1,22 +1,23 @@
 -- That a column, and several, are read in one pass.
-use Rattle.std.proofs.Common.{◌≡◌, ℕ, zero, suc, ◌+◌, ◌-◌, ◌<◌, Bool, true, false, cond, not, ◌||◌, nat_lt, List, [], ◌∷◌, length, drop, slice_get, Option, Some, None, Result, Ok, Err, refl, sym, ap, ◌∙◌, subst, arith}
-use Rattle.std.specs.Prelude.{is_none}
+use Rattle.std.proofs.Common.{inl, inr, IsOk, ◌≡◌, ℕ, zero, suc, ◌+◌, ◌-◌, ◌<◌, Bool, true, false, cond, not, ◌||◌, nat_lt, List, [], ◌∷◌, length, drop, slice_get, Option, Some, None, Result, Ok, Err, refl, sym, ap, ◌∙◌, subst, arith}
+use Rattle.std.specs.Prelude.{IsOkAnd, is_none}
 use Rattle.std.proofs.lemmas.Bool.{lt-ltb}
 use Rattle.std.proofs.lemmas.Option.{slice_get_within}
 use Rattle.pgv_types.specs.Ty.{Ty}
 use Rattle.pgv_types.specs.Facts.{is_custom}
 use Rattle.pgv_value.specs.FrameBinary.{Part}
 use Rattle.pgv_value.specs.Fronts.{one_part}
-use Rattle.pgv_value.specs.Outcome.{Outcome, or_fail, done, ◌>>=◌}
+use Rattle.pgv_value.specs.Outcome.{Fails, Outcome, or_fail, done, ◌>>=◌}
 use Rattle.pgv_value.specs.Several.{several}
 use Rattle.pgv_value.specs.ValueView.{Given, given}
 use Rattle.pgv_value.specs.declared.error.CodecError.{CodecError}
 use Rattle.pgv_value.specs.declared.error.CodecError.TheVariants.{NoField}
 use Rattle.pgv_value.proofs.Outcomes.{answers_are, taken, found_or, stated_is}
 use Rattle.pgv_row.specs.ColumnView.{Column}
-use Rattle.pgv_row.specs.OnePass.{Fit, type_fits, column_fits, both_fit, columns_fit, Left, part_value, value_in_front, column_in_front, columns_in_front, AreFrames, InOnePass}
+use Rattle.pgv_row.specs.OnePass.{Fit, type_fits, column_fits, both_fit, columns_fit, Left, part_value, value_in_front, column_in_front, columns_in_front, AreFrames, InOnePass, IsRefusedInFront, IsFirstInFront}
+use Rattle.pgv_row.specs.Errors.{codec_error}
 use Rattle.pgv_row.specs.RowView.{Row}
-use Rattle.pgv_row.specs.Tuples.{column_parse, columns_parse}
+use Rattle.pgv_row.specs.Tuples.{column_parse, columns_parse, IsRefused, IsFirstRefused}
 use Rattle.pgv_row.specs.Values.{may_read, raw_value, column_value}
 use Rattle.pgv_row.specs.declared.error.ColumnError.{ColumnError}
 
@@ -146,11 +147,35 @@ module _ {M : Type 0} where
         ap (λ (k : ℕ). (several one_part k bytes).answer) (left_over (length columns) place lt) ∙ frame_more (length columns - (place + 1)) bytes f.0.0 f.0.1 further f.1 after,
       )
 
+-- ---- which column is refused
+
+module _ {M : Type 0} where
+  fails_before : (r : Result M (Option CodecError)) (b : Bool) (left : Left) (e : CodecError) → let o : Outcome M = record { answer = r; may_alloc = b } in Fails e (o >>= λ m. done {M = M × Left} (m, left)) → Fails e o
+  fails_before (Ok m) b left e (inl h) = absurd cc
+  fails_before (Ok m) b left e (inr (inl h)) = absurd (let no : (let r : Result (M × Left) (Option CodecError) = Ok (m, left) in r) ≡ Err None = h.0 in cc)
+  fails_before (Ok m) b left e (inr (inr h)) = inr (inr (h.0, sym (or_not b) ∙ h.1))
+  fails_before (Err why) b left e (inl h) = inl (ap (λ (w : Option CodecError). let r : Result M (Option CodecError) = Err w in r) (let same : why ≡ Some e = cc in same))
+  fails_before (Err why) b left e (inr (inl h)) = let is : (let r : Result (M × Left) (Option CodecError) = Err why in r) ≡ Err None = h.0 in inr (inl (ap (λ (w : Option CodecError). let r : Result M (Option CodecError) = Err w in r) (let same : why ≡ None = cc in same), h.1))
+  fails_before (Err why) b left e (inr (inr h)) = inr (inr h)
+
+  okay_before : (r : Result M (Option CodecError)) (b : Bool) (left : Left) (P : Left → Type 0) → let o : Outcome M = record { answer = r; may_alloc = b } in IsOkAnd (o >>= λ m. done {M = M × Left} (m, left)).answer (λ x. P x.1) → IsOk r × P left
+  okay_before (Ok m) b left P h = (refl, h)
+  okay_before (Err why) b left P h = absurd h
+
+  column_refused : (accepts : Ty → Bool) (parse : Given → Outcome M) (row : Row) (place : ℕ) (bytes : List ℕ) (e : ColumnError ℕ) → column_fits accepts row.columns place ≡ Ok tt → AreFrames row place bytes →
+      IsRefusedInFront (column_in_front parse) row.columns place bytes e → IsRefused (column_parse accepts parse) row place e
+  column_refused accepts parse row place bytes e fit frames h =
+      let c = column_as_row accepts parse row place bytes fit frames in
+      let o : Outcome M = column_parse accepts parse row place in
+      (h.0, fails_before o.answer o.may_alloc (place + 1, c.0) (codec_error e) (subst (λ (p : Outcome (M × Left)). Fails (codec_error e) p) c.2 h.1))
+
 -- the last column
 pub last_in_one_pass : {M : Type 0} (accepts : Ty → Bool) (parse : Given → Outcome M) (place : ℕ) →
-    InOnePass place (λ columns. column_fits accepts columns place) (λ row. column_parse accepts parse row place) (λ columns. column_in_front parse columns place)
+    InOnePass place (λ columns. column_fits accepts columns place) (λ row. column_parse accepts parse row place) (λ row. IsRefused (column_parse accepts parse) row place) (λ columns. column_in_front parse columns place)
+    (λ columns. IsRefusedInFront (column_in_front parse) columns place)
 last_in_one_pass accepts parse place = record {
   as_row = λ row bytes fit frames. let c = column_as_row accepts parse row place bytes fit frames in ((place + 1, c.0), c.1, c.2);
+  refused_as_row = λ row bytes e fit frames. column_refused accepts parse row place bytes e fit frames;
   of_frames = λ columns bytes m left further e more. column_of_frames parse columns place bytes m left further e more;
 }
 
@@ -167,8 +192,8 @@ module _ {M N : Type 0} where
   paired (Ok m) false (Err why) d more next rest left e = rw e refl
   paired (Err why) b s d more next rest left e = refl
 
-module _ {M N : Type 0} (accepts : Ty → Bool) (parse : Given → Outcome M) {fits : List Column → ℕ → Fit} {rest : Row → ℕ → Outcome N} {read : List Column → ℕ → List ℕ → Outcome (N × Left)}
-    (law : (place : ℕ) → InOnePass place (λ columns. fits columns place) (λ row. rest row place) (λ columns. read columns place)) where
+module _ {M N : Type 0} (accepts : Ty → Bool) (parse : Given → Outcome M) {fits : List Column → ℕ → Fit} {rest : Row → ℕ → Outcome N} {refused : Row → ℕ → ColumnError ℕ → Type 0} {read : List Column → ℕ → List ℕ → Outcome (N × Left)} {refused_in_front : List Column → ℕ → List ℕ → ColumnError ℕ → Type 0}
+    (law : (place : ℕ) → InOnePass place (λ columns. fits columns place) (λ row. rest row place) (λ row. refused row place) (λ columns. read columns place) (λ columns. refused_in_front columns place)) where
   columns_as_row : (place : ℕ) (row : Row) (bytes : List ℕ) → columns_fit (column_fits accepts) fits row.columns place ≡ Ok tt → AreFrames row place bytes →
       (left : Left) × AreFrames row left.0 left.1 × (columns_in_front (column_in_front parse) read row.columns place bytes ≡ (columns_parse (column_parse accepts parse) rest row place >>= λ m. done {M = (M × N) × Left} (m, left)))
   unfolding columns_in_front columns_parse
@@ -179,6 +204,17 @@ module _ {M N : Type 0} (accepts : Ty → Bool) (parse : Given → Outcome M) {f
       let o : Outcome M = column_parse accepts parse row place in
       let p : Outcome N = rest row (place + 1) in
       (r.0, r.1, rw c.2 (paired o.answer o.may_alloc p.answer p.may_alloc (read row.columns) (place + 1) c.0 r.0 r.2))
+
+  columns_refused : (place : ℕ) (row : Row) (bytes : List ℕ) (e : ColumnError ℕ) → columns_fit (column_fits accepts) fits row.columns place ≡ Ok tt → AreFrames row place bytes →
+      IsFirstInFront (column_in_front parse) refused_in_front row.columns place bytes e → IsFirstRefused (column_parse accepts parse) refused row place e
+  columns_refused place row bytes e fit frames (inl h) = inl (column_refused accepts parse row place bytes e (columns_are (column_fits accepts) fits row.columns place fit).0 frames h)
+  columns_refused place row bytes e fit frames (inr h) =
+      let both = columns_are (column_fits accepts) fits row.columns place fit in
+      let c = column_as_row accepts parse row place bytes both.0 frames in
+      let o : Outcome M = column_parse accepts parse row place in
+      let P : Left → Type 0 = λ left. refused_in_front row.columns left.0 left.1 e in
+      let k = okay_before o.answer o.may_alloc (place + 1, c.0) P (subst (λ (p : Outcome (M × Left)). IsOkAnd p.answer (λ x. P x.1)) c.2 h) in
+      inr (k.0, (law (place + 1)).refused_as_row row c.0 e both.1 c.1 k.1)
 
   columns_of_frames : (place : ℕ) (columns : List Column) (bytes : List ℕ) (m : M × N) (left : Left) (further : List Part) → (columns_in_front (column_in_front parse) read columns place bytes).answer ≡ Ok (m, left) →
       (several one_part (length columns - left.0) left.1).answer ≡ Ok (further, []) → (parts : List Part) × ((several one_part (length columns - place) bytes).answer ≡ Ok (parts, []))
@@ -192,5 +228,6 @@ module _ {M N : Type 0} (accepts : Ty → Bool) (parse : Given → Outcome M) {f
 
   -- a column and the rest
   pub further_in_one_pass : (place : ℕ) →
-      InOnePass place (λ columns. columns_fit (column_fits accepts) fits columns place) (λ row. columns_parse (column_parse accepts parse) rest row place) (λ columns. columns_in_front (column_in_front parse) read columns place)
-  further_in_one_pass place = record { as_row = columns_as_row place; of_frames = columns_of_frames place }
+      InOnePass place (λ columns. columns_fit (column_fits accepts) fits columns place) (λ row. columns_parse (column_parse accepts parse) rest row place) (λ row. IsFirstRefused (column_parse accepts parse) refused row place) (λ columns. columns_in_front (column_in_front parse) read columns place)
+      (λ columns. IsFirstInFront (column_in_front parse) refused_in_front columns place)
+  further_in_one_pass place = record { as_row = columns_as_row place; refused_as_row = columns_refused place; of_frames = columns_of_frames place }

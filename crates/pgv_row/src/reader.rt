@@ -1,11 +1,11 @@
 //! Rows that are read in one pass, each straight into a tuple.
 
-ghost use Rattle.std.specs.Prelude.{◌≡◌, ◌-◌, length, drop, IfOk, OnOk, ◌≤◌};
+ghost use Rattle.std.specs.Prelude.{◌≡◌, ◌-◌, ◌≤◌, length, IfOk, IfErr};
 ghost use Rattle.pgv_value.specs.Outcome.{Gives};
 ghost use Rattle.pgv_value.specs.Parsed.{GivesExactly};
 ghost use Rattle.pgv_row.specs.DataRow.{frames_front};
-ghost use Rattle.pgv_row.specs.OnePass.{Fits, GivesRow, IsRowOf, one_pass, passed_over};
-ghost use Rattle.pgv_row.specs.Tuples.{or_codec};
+ghost use Rattle.pgv_row.specs.OnePass.{Fits, GivesRow, IsRowOf, IsRowRefused, RefusesRow, one_pass, passed_over};
+ghost use Rattle.pgv_row.specs.Tuples.{index_of, or_codec};
 
 use crate::column::{PgColumn, PgColumns};
 use crate::error::ColumnError;
@@ -72,7 +72,9 @@ fn frames_of(body: &[u8], width: usize) -> Result<&[u8], CodecError>
 /// The rest after the frames of the columns from a place on.
 #[inline(always)]
 fn pass_over(bytes: &[u8], place: usize, width: usize) -> Result<&[u8], ColumnError<usize>>
-    ensures { Gives (λ rest. rest.now) (passed_over (width - place) bytes.now) (or_codec result) }
+    ensures read { Gives (λ rest. rest.now) (passed_over (width - place) bytes.now)
+        (or_codec result) }
+    ensures at { IfErr result (λ e. place ≤ index_of e) }
 {
     let mut rest = bytes;
     for at in place..width {
@@ -98,7 +100,8 @@ fn read_body<T: FromRow>(
     columns: &[PgColumn<'_>],
     body: &[u8],
 ) -> Result<T, ColumnError<usize>>
-    ensures { Gives T.view (one_pass T.in_front columns.now body.now) (or_codec result) }
+    ensures read { Gives T.view (one_pass T.in_front columns.now body.now) (or_codec result) }
+    ensures first { IfErr result (IsRowRefused T.in_front T.refused_in_front columns.now body.now) }
 {
     let width = columns.len();
     let frames = match frames_of(body, width) {
@@ -143,8 +146,11 @@ impl<'a, T: FromRow> PgRowReader<'a, T> {
     #[inline(always)]
     pub fn read(&self, alloc: Global, body: &[u8]) -> Result<T, ColumnError<usize>>
         ensures read { Gives T.view (one_pass T.in_front self.now body.now) (or_codec result) }
-        // Of a DataRow the same is read as of its row, and only a DataRow is read.
+        ensures first { IfErr result
+            (IsRowRefused T.in_front T.refused_in_front self.now body.now) }
+        // Of a DataRow the same is read as of its row, and refused of the same column; and only a DataRow is read.
         ensures row { GivesRow T.view T.parse self.now body.now (or_codec result) }
+        ensures refused { RefusesRow T.refused self.now body.now result }
         ensures whole { IfOk result (λ _. IsRowOf self.now body.now) }
     {
         read_body(alloc, self.columns, body)

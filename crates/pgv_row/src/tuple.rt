@@ -4,7 +4,7 @@ ghost use Rattle.std.specs.Prelude.{◌≡◌, ◌+◌, ℕ, List, IfOk, IfErr};
 ghost use Rattle.std.specs.Option.{option_copied};
 ghost use Rattle.pgv_value.specs.Outcome.{Gives, Outcome};
 ghost use Rattle.pgv_row.specs.ColumnView.{Column};
-ghost use Rattle.pgv_row.specs.OnePass.{Fit, Fits, column_fits, columns_fit, Left, part_value, value_in_front, column_in_front, columns_in_front, InOnePass};
+ghost use Rattle.pgv_row.specs.OnePass.{Fit, Fits, column_fits, columns_fit, Left, part_value, value_in_front, column_in_front, columns_in_front, IsRefusedInFront, IsFirstInFront, InOnePass};
 ghost use Rattle.pgv_row.specs.OnePassLemmas.{last_in_one_pass, further_in_one_pass};
 ghost use Rattle.pgv_row.specs.RowView.{Row};
 ghost use Rattle.pgv_row.specs.Tuples.{column_parse, columns_parse, or_codec, IsFirstRefused, IsRefused};
@@ -37,6 +37,9 @@ pub trait FromRow: Sized + Drop {
     /// What is read of the frames of a row, and what is left of them.
     ghost in_front: { List Column → List ℕ → Outcome (View × Left) };
 
+    /// The errors that the frames may be refused with.
+    ghost refused_in_front: { List Column → List ℕ → Error ℕ → Type 0 };
+
     /// The value that a row is read as. The first column that is refused refuses it, and the error names its place.
     fn from_row(alloc: Global, row: &PgRow<'_>) -> Result<Self, ColumnError<usize>>
         ensures read { Gives view (parse row.now) (or_codec result) }
@@ -54,11 +57,12 @@ pub trait FromRow: Sized + Drop {
         columns: &[PgColumn<'_>],
         bytes: &'r [u8],
     ) -> Result<(Self, usize, &'r [u8]), ColumnError<usize>>
-        ensures { Gives (λ x. (view x.0, (x.1, x.2.now))) (in_front columns.now bytes.now)
-            (or_codec result) };
+        ensures read { Gives (λ x. (view x.0, (x.1, x.2.now))) (in_front columns.now bytes.now)
+            (or_codec result) }
+        ensures first { IfErr result (refused_in_front columns.now bytes.now) };
 
     /// The same is read of the frames as of the row.
-    ghost in_one_pass: { InOnePass 0 fits parse in_front };
+    ghost in_one_pass: { InOnePass 0 fits parse refused in_front refused_in_front };
 }
 
 /// Columns one after another, as nested pairs that end in a tuple of one: `(A, (B, (C,)))`. Every tuple is read through
@@ -82,6 +86,9 @@ pub trait ColumnList: Sized + Drop {
     /// What is read of the frames of the columns from a place on, and what is left of them.
     ghost in_front: { List Column → ℕ → List ℕ → Outcome (View × Left) };
 
+    /// The errors that these frames may be refused with.
+    ghost refused_in_front: { List Column → ℕ → List ℕ → Error ℕ → Type 0 };
+
     /// The values of the columns from a place on.
     fn read(alloc: Global, row: &PgRow<'_>, place: usize) -> Result<Self, ColumnError<usize>>
         ensures read { Gives view (parse row.now place) (or_codec result) }
@@ -99,11 +106,12 @@ pub trait ColumnList: Sized + Drop {
         place: usize,
         bytes: &'r [u8],
     ) -> Result<(Self, usize, &'r [u8]), ColumnError<usize>>
-        ensures { Gives (λ x. (view x.0, (x.1, x.2.now))) (in_front columns.now place bytes.now)
-            (or_codec result) };
+        ensures read { Gives (λ x. (view x.0, (x.1, x.2.now))) (in_front columns.now place
+            bytes.now) (or_codec result) }
+        ensures first { IfErr result (refused_in_front columns.now place bytes.now) };
 
     /// The same is read of the frames as of the row.
-    ghost in_one_pass: { (place : ℕ) → InOnePass place (λ columns. fits columns place) (λ row. parse row place) (λ columns. in_front columns place) };
+    ghost in_one_pass: { (place : ℕ) → InOnePass place (λ columns. fits columns place) (λ row. parse row place) (λ row. refused row place) (λ columns. in_front columns place) (λ columns. refused_in_front columns place) };
 }
 
 /// The value of the column at a place, and the place after it.
@@ -200,8 +208,10 @@ fn front_column<'r, T: Decode>(
     place: usize,
     bytes: &'r [u8],
 ) -> Result<(T, usize, &'r [u8]), ColumnError<usize>>
-    ensures { Gives (λ x. (T.view x.0, (x.1, x.2.now))) (column_in_front T.parse columns.now
+    ensures read { Gives (λ x. (T.view x.0, (x.1, x.2.now))) (column_in_front T.parse columns.now
         place bytes.now) (or_codec result) }
+    ensures first { IfErr result (IsRefusedInFront (column_in_front T.parse) columns.now place
+        bytes.now) }
 {
     let Some(column) = columns.get(place) else {
         return Err(ColumnError::NotFound {
@@ -232,6 +242,8 @@ impl<A: Type + Decode> ColumnList for (A,) {
     ghost fits = { column_fits A.accepts };
 
     ghost in_front = { column_in_front A.parse };
+
+    ghost refused_in_front = { IsRefusedInFront (column_in_front A.parse) };
 
     fn read(alloc: Global, row: &PgRow<'_>, place: usize) -> Result<(A,), ColumnError<usize>> {
         match next_column(alloc, row, place) {
@@ -276,6 +288,8 @@ impl<A: Type + Decode, Rest: ColumnList> ColumnList for (A, Rest) {
     ghost fits = { columns_fit (column_fits A.accepts) Rest.fits };
 
     ghost in_front = { columns_in_front (column_in_front A.parse) Rest.in_front };
+
+    ghost refused_in_front = { IsFirstInFront (column_in_front A.parse) Rest.refused_in_front };
 
     #[tactic(auto, unfolding(crate::specs::Tuples::columns_parse))]
     fn read(alloc: Global, row: &PgRow<'_>, place: usize) -> Result<(A, Rest), ColumnError<usize>> {
@@ -330,6 +344,8 @@ impl<A: Type + Decode> FromRow for (A,) {
 
     ghost in_front = { λ columns. ⟦<(A,) as ColumnList>⟧.in_front columns 0 };
 
+    ghost refused_in_front = { λ columns. ⟦<(A,) as ColumnList>⟧.refused_in_front columns 0 };
+
     fn from_row(alloc: Global, row: &PgRow<'_>) -> Result<Self, ColumnError<usize>> {
         match ColumnList::read(alloc, row, 0) {
             Ok((a,)) => Ok((a,)),
@@ -369,6 +385,8 @@ impl<A: Type + Decode, B: Type + Decode> FromRow for (A, B) {
     ghost fits = { λ columns. ⟦<(A, (B,)) as ColumnList>⟧.fits columns 0 };
 
     ghost in_front = { λ columns. ⟦<(A, (B,)) as ColumnList>⟧.in_front columns 0 };
+
+    ghost refused_in_front = { λ columns. ⟦<(A, (B,)) as ColumnList>⟧.refused_in_front columns 0 };
 
     fn from_row(alloc: Global, row: &PgRow<'_>) -> Result<Self, ColumnError<usize>> {
         match ColumnList::read(alloc, row, 0) {
@@ -410,6 +428,8 @@ impl<A: Type + Decode, B: Type + Decode, C: Type + Decode> FromRow for (A, B, C)
 
     ghost in_front = { λ columns. ⟦<(A, (B, (C,))) as ColumnList>⟧.in_front columns 0 };
 
+    ghost refused_in_front = { λ columns. ⟦<(A, (B, (C,))) as ColumnList>⟧.refused_in_front columns 0 };
+
     fn from_row(alloc: Global, row: &PgRow<'_>) -> Result<Self, ColumnError<usize>> {
         match ColumnList::read(alloc, row, 0) {
             Ok((a, (b, (c,)))) => Ok((a, b, c)),
@@ -450,6 +470,8 @@ impl<A: Type + Decode, B: Type + Decode, C: Type + Decode, D: Type + Decode> Fro
     ghost fits = { λ columns. ⟦<(A, (B, (C, (D,)))) as ColumnList>⟧.fits columns 0 };
 
     ghost in_front = { λ columns. ⟦<(A, (B, (C, (D,)))) as ColumnList>⟧.in_front columns 0 };
+
+    ghost refused_in_front = { λ columns. ⟦<(A, (B, (C, (D,)))) as ColumnList>⟧.refused_in_front columns 0 };
 
     fn from_row(alloc: Global, row: &PgRow<'_>) -> Result<Self, ColumnError<usize>> {
         match ColumnList::read(alloc, row, 0) {
@@ -496,6 +518,8 @@ impl<
     ghost fits = { λ columns. ⟦<(A, (B, (C, (D, (E,))))) as ColumnList>⟧.fits columns 0 };
 
     ghost in_front = { λ columns. ⟦<(A, (B, (C, (D, (E,))))) as ColumnList>⟧.in_front columns 0 };
+
+    ghost refused_in_front = { λ columns. ⟦<(A, (B, (C, (D, (E,))))) as ColumnList>⟧.refused_in_front columns 0 };
 
     fn from_row(alloc: Global, row: &PgRow<'_>) -> Result<Self, ColumnError<usize>> {
         match ColumnList::read(alloc, row, 0) {
@@ -544,6 +568,8 @@ impl<
 
     ghost in_front = { λ columns. ⟦<(A, (B, (C, (D, (E, (F,)))))) as ColumnList>⟧.in_front columns 0 };
 
+    ghost refused_in_front = { λ columns. ⟦<(A, (B, (C, (D, (E, (F,)))))) as ColumnList>⟧.refused_in_front columns 0 };
+
     fn from_row(alloc: Global, row: &PgRow<'_>) -> Result<Self, ColumnError<usize>> {
         match ColumnList::read(alloc, row, 0) {
             Ok((a, (b, (c, (d, (e, (f,))))))) => Ok((a, b, c, d, e, f)),
@@ -591,6 +617,8 @@ impl<
     ghost fits = { λ columns. ⟦<(A, (B, (C, (D, (E, (F, (G,))))))) as ColumnList>⟧.fits columns 0 };
 
     ghost in_front = { λ columns. ⟦<(A, (B, (C, (D, (E, (F, (G,))))))) as ColumnList>⟧.in_front columns 0 };
+
+    ghost refused_in_front = { λ columns. ⟦<(A, (B, (C, (D, (E, (F, (G,))))))) as ColumnList>⟧.refused_in_front columns 0 };
 
     fn from_row(alloc: Global, row: &PgRow<'_>) -> Result<Self, ColumnError<usize>> {
         match ColumnList::read(alloc, row, 0) {
@@ -645,6 +673,8 @@ impl<
 
     ghost in_front = { λ columns. ⟦<(A, (B, (C, (D, (E, (F, (G, (H,)))))))) as ColumnList>⟧.in_front columns 0 };
 
+    ghost refused_in_front = { λ columns. ⟦<(A, (B, (C, (D, (E, (F, (G, (H,)))))))) as ColumnList>⟧.refused_in_front columns 0 };
+
     fn from_row(alloc: Global, row: &PgRow<'_>) -> Result<Self, ColumnError<usize>> {
         match ColumnList::read(alloc, row, 0) {
             Ok((a, (b, (c, (d, (e, (f, (g, (h,))))))))) => Ok((a, b, c, d, e, f, g, h)),
@@ -698,6 +728,8 @@ impl<
     ghost fits = { λ columns. ⟦<(A, (B, (C, (D, (E, (F, (G, (H, (I,))))))))) as ColumnList>⟧.fits columns 0 };
 
     ghost in_front = { λ columns. ⟦<(A, (B, (C, (D, (E, (F, (G, (H, (I,))))))))) as ColumnList>⟧.in_front columns 0 };
+
+    ghost refused_in_front = { λ columns. ⟦<(A, (B, (C, (D, (E, (F, (G, (H, (I,))))))))) as ColumnList>⟧.refused_in_front columns 0 };
 
     fn from_row(alloc: Global, row: &PgRow<'_>) -> Result<Self, ColumnError<usize>> {
         match ColumnList::read(alloc, row, 0) {
