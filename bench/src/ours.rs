@@ -31,6 +31,7 @@ pub const DECODE: u32 = 2;
 pub const BINARY: u32 = 0;
 pub const BY_COLUMNS: u32 = 0;
 pub const AS_FRAMES: u32 = 1;
+pub const IN_ONE_PASS: u32 = 2;
 
 pub fn framed(export: Framed, bytes: &[u8], how: u32) -> Work<'_> {
     Box::new(move |rounds| unsafe { export(bytes.as_ptr(), bytes.len(), rounds, how) })

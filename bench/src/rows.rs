@@ -116,12 +116,13 @@ fn row_body(number: i32, text: &String, day: NaiveDate) -> Vec<u8> {
     body
 }
 
-/// Messages. The first row is ours on both sides: rows by their columns, beside `get` and `decode` of the same fields without a row.
+/// Messages. The first two rows are ours on both sides: rows by their columns, and in one pass, beside `get` and `decode` of the same fields without a row.
 pub fn messages(bench: &mut Bench) {
     let (numbers, texts) = (numbers_of(COUNT), texts_of(COUNT));
     let days = many(COUNT, 4, |numbers| numbers.moment().date_naive());
     let bodies: Vec<Vec<u8>> = (0..COUNT).map(|at| row_body(numbers[at], &texts[at], days[at])).collect();
     let bodies = Texts::new(&bodies);
     bench.row("row of 5 columns, beside its get+decode", COUNT, bodies.rows(BY_COLUMNS), bodies.rows(AS_FRAMES));
+    bench.row("the same in one pass", COUNT, bodies.rows(IN_ONE_PASS), bodies.rows(AS_FRAMES));
     bench.row("Bind of 4", COUNT, Texts::new(&texts).bound(), bound(&texts));
 }

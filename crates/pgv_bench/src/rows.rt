@@ -5,7 +5,7 @@ use crate::seen::Seen;
 use jiff::civil::Date;
 use pgv_codec::{Decode, Type};
 use pgv_message::{MessageError, write_bind};
-use pgv_row::{PgColumns, PgPlaces, PgRow};
+use pgv_row::{PgColumns, PgPlaces, PgRow, PgRowReader};
 use pgv_types::PgTypeInfo;
 use pgv_value::{CodecError, PgValueFormat, PgValueRef};
 use pgv_wire::PgArguments;
@@ -69,6 +69,62 @@ fn rows_once(
     Ok(sum)
 }
 
+/// The fields of a row.
+type Fields = (i32, String, i64, bool, Date);
+
+/// What is seen of the row of a body, which is read in one pass.
+fn passed_once(
+    alloc: Global,
+    reader: &PgRowReader<'_, Fields>,
+    body: &[u8],
+) -> Result<usize, CodecError> {
+    match reader.read(alloc, body) {
+        Ok((id, name, total, open, born)) => Ok(id
+            .seen()
+            .wrapping_add(name.seen())
+            .wrapping_add(total.seen())
+            .wrapping_add(open.seen())
+            .wrapping_add(born.seen())),
+        Err(error) => Err(CodecError::from(error)),
+    }
+}
+
+/// What is seen of all rows, each read in one pass.
+fn passes_once(
+    alloc: Global,
+    reader: &PgRowReader<'_, Fields>,
+    bodies: &[u8],
+    lens: &[u32],
+) -> Result<usize, CodecError> {
+    let mut sum = 0usize;
+    let mut rest = bodies;
+    for len in lens {
+        let (body, behind) = rest.split_at((*len as usize).min(rest.len()));
+        rest = behind;
+        sum = sum.wrapping_add(passed_once(alloc, reader, body)?);
+    }
+    Ok(sum)
+}
+
+/// Reads all rows `rounds` times, each in one pass.
+fn read_in_one_pass(
+    alloc: Global,
+    columns: &PgColumns<'_>,
+    bodies: &[u8],
+    lens: &[u32],
+    rounds: u32,
+) -> Result<usize, CodecError> {
+    let reader = match columns.reader::<Fields>() {
+        Ok(reader) => reader,
+        Err(error) => return Err(CodecError::from(error)),
+    };
+    let mut sum = 0usize;
+    for _ in 0..rounds {
+        sum = sum.wrapping_add(passes_once(alloc, &reader, bodies, lens)?);
+    }
+    Ok(sum)
+}
+
 /// What is seen of the frame in front.
 fn frame<T: Decode + Type + Seen>(alloc: Global, rest: &mut &[u8]) -> Result<usize, CodecError> {
     let value = PgValueRef::get(rest, PgValueFormat::Binary, T::type_info())?;
@@ -100,7 +156,7 @@ fn frames_once(alloc: Global, bodies: &[u8], lens: &[u32]) -> Result<usize, Code
     Ok(sum)
 }
 
-/// Reads all rows `rounds` times: by their columns where `how` is 0, and else as frames.
+/// Reads all rows `rounds` times: by their columns where `how` is 0, in one pass where it is 2, and else as frames.
 pub fn read_rows(
     alloc: Global,
     bodies: &[u8],
@@ -110,6 +166,9 @@ pub fn read_rows(
 ) -> Result<usize, CodecError> {
     let none: &[PgTypeInfo] = &[];
     let columns = PgColumns::read(alloc, DESCRIPTION, &none)?;
+    if how == 2 {
+        return read_in_one_pass(alloc, &columns, bodies, lens, rounds);
+    }
     let mut room = PgPlaces::with_columns(alloc, &columns)?;
     let mut sum = 0usize;
     for _ in 0..rounds {

@@ -22,13 +22,21 @@ row_by : (room width : ℕ) (bytes frames : List ℕ) (row : List Part) → fram
 unfolding data_row
 row_by room width bytes frames row count found = rw (count, found) refl
 
-is_read : (room width : ℕ) (bytes : List ℕ) (row : List Part) → AreBytes bytes → IsDataRow width bytes row → (data_row room width bytes).answer ≡ Ok row
-is_read room width bytes row h s =
+-- the frames of a row come after the number of columns
+pub frames_of_row : (width : ℕ) (bytes : List ℕ) (row : List Part) → AreBytes bytes → IsDataRow width bytes row → (frames : List ℕ) × (frames_front width bytes ≡ Ok frames) × ((several one_part width frames).answer ≡ Ok (row, []))
+frames_of_row width bytes row h s =
     let frames : List ℕ = flat_map field_bytes row in
     let whole : bytes ≡ to_be_bytes w16 width ++ frames = s.whole ∙ ap (λ (n : ℕ). to_be_bytes w16 n ++ frames) s.wide in
-    let left : AreBytes frames = bytes_after (to_be_bytes w16 width) frames (subst AreBytes whole h) in
-    row_by room width bytes frames row (frames_read width bytes frames s.width_fits whole)
-    (several_read IsField field_bytes one_part reads_part width frames row [] left (record { many = s.wide; each = s.each; whole = sym (append-nil frames) }))
+    let left : AreBytes frames = bytes_after (to_be_bytes w16 width) frames (subst AreBytes whole h) in (
+      frames,
+      frames_read width bytes frames s.width_fits whole,
+      several_read IsField field_bytes one_part reads_part width frames row [] left (record { many = s.wide; each = s.each; whole = sym (append-nil frames) }),
+    )
+
+is_read : (room width : ℕ) (bytes : List ℕ) (row : List Part) → AreBytes bytes → IsDataRow width bytes row → (data_row room width bytes).answer ≡ Ok row
+is_read room width bytes row h s =
+    let f = frames_of_row width bytes row h s in
+    row_by room width bytes f.0 row f.1 f.2
 
 is_row : (room width : ℕ) (bytes : List ℕ) (row : List Part) → AreBytes bytes → (data_row room width bytes).answer ≡ Ok row → IsDataRow width bytes row
 unfolding data_row
@@ -47,6 +55,10 @@ is_row room width bytes row h e =
       width_fits = k.0;
       each = p.each;
     })
+
+-- frames after the number of columns are those of a row
+pub row_of_frames : (width : ℕ) (bytes frames : List ℕ) (row : List Part) → AreBytes bytes → frames_front width bytes ≡ Ok frames → (several one_part width frames).answer ≡ Ok (row, []) → IsDataRow width bytes row
+row_of_frames width bytes frames row h count found = is_row 0 width bytes row h (row_by 0 width bytes frames row count found)
 
 pub data_row_is_read : DataRowIsRead
 data_row_is_read room width bytes row h = (is_row room width bytes row h, is_read room width bytes row h)

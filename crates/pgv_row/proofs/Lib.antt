@@ -4,3 +4,4 @@ pub mod Places
 pub mod DataRows
 pub mod Descriptions
 pub mod Formats
+pub mod OnePass

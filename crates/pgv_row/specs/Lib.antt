@@ -8,3 +8,5 @@ pub mod RowView
 pub mod RowParts
 pub mod Values
 pub mod Tuples
+pub mod OnePass
+pub mod OnePassLemmas

@@ -24,7 +24,7 @@ pub struct Place {
 /// frames come after its two bytes.
 #[inline(always)]
 #[tactic(auto, unfolding(crate::specs::DataRow::frames_front, pgv_value::specs::Fronts::u16_front))]
-fn check_count(bytes: &[u8], width: usize) -> Result<(), CodecError>
+pub fn check_count(bytes: &[u8], width: usize) -> Result<(), CodecError>
     ensures exact { GivesExactly (λ _. drop 2 bytes.now) (frames_front width bytes.now) result }
     ensures long { OnOk result (2 ≤ length bytes.now) }
 {

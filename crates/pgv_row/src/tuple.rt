@@ -1,14 +1,20 @@
 //! Rows as tuples: each column in order is a field.
 
-ghost use Rattle.std.specs.Prelude.{◌≡◌, ◌+◌, ℕ, IfOk, IfErr};
+ghost use Rattle.std.specs.Prelude.{◌≡◌, ◌+◌, ℕ, List, IfOk, IfErr};
+ghost use Rattle.std.specs.Option.{option_copied};
 ghost use Rattle.pgv_value.specs.Outcome.{Gives, Outcome};
+ghost use Rattle.pgv_row.specs.ColumnView.{Column};
+ghost use Rattle.pgv_row.specs.OnePass.{Fit, Fits, column_fits, columns_fit, Left, part_value, value_in_front, column_in_front, columns_in_front, IsRefusedInFront, IsFirstInFront, InOnePass};
+ghost use Rattle.pgv_row.specs.OnePassLemmas.{last_in_one_pass, further_in_one_pass};
 ghost use Rattle.pgv_row.specs.RowView.{Row};
 ghost use Rattle.pgv_row.specs.Tuples.{column_parse, columns_parse, or_codec, IsFirstRefused, IsRefused};
 ghost use Rattle.pgv_row.specs.declared.error.ColumnError.{ColumnError as Error};
 
+use crate::column::PgColumn;
 use crate::error::ColumnError;
 use crate::row::PgRow;
 use pgv_codec::{Decode, Type};
+use pgv_value::{CodecError, PgValueRef, part_in_front};
 use std::alloc::Global;
 
 /// A value that is read from a row. Tuples are: of n fields the first n columns are read, and further ones are ignored.
@@ -25,10 +31,38 @@ pub trait FromRow: Sized + Drop {
     /// The errors that a row may be refused with.
     ghost refused: { Row → Error ℕ → Type 0 };
 
+    /// Whether the columns are there, and the fields are read under their types, or why not.
+    ghost fits: { List Column → Fit };
+
+    /// What is read of the frames of a row, and what is left of them.
+    ghost in_front: { List Column → List ℕ → Outcome (View × Left) };
+
+    /// The errors that the frames may be refused with.
+    ghost refused_in_front: { List Column → List ℕ → Error ℕ → Type 0 };
+
     /// The value that a row is read as. The first column that is refused refuses it, and the error names its place.
     fn from_row(alloc: Global, row: &PgRow<'_>) -> Result<Self, ColumnError<usize>>
         ensures read { Gives view (parse row.now) (or_codec result) }
         ensures first { IfErr result (refused row.now) };
+
+    /// That there is a column for each field, under whose type the field is read. The error is that of the first one
+    /// where it is not so.
+    fn check_columns(columns: &[PgColumn<'_>]) -> Result<(), ColumnError<usize>>
+        ensures { Fits (fits columns.now) result };
+
+    /// The values of the first columns, whose frames are in front; with them come the place of the next column, and the
+    /// bytes from its frame on. Types are not tested.
+    fn read_frames<'r>(
+        alloc: Global,
+        columns: &[PgColumn<'_>],
+        bytes: &'r [u8],
+    ) -> Result<(Self, usize, &'r [u8]), ColumnError<usize>>
+        ensures read { Gives (λ x. (view x.0, (x.1, x.2.now))) (in_front columns.now bytes.now)
+            (or_codec result) }
+        ensures first { IfErr result (refused_in_front columns.now bytes.now) };
+
+    /// The same is read of the frames as of the row.
+    ghost in_one_pass: { InOnePass 0 fits parse refused in_front refused_in_front };
 }
 
 /// Columns one after another, as nested pairs that end in a tuple of one: `(A, (B, (C,)))`. Every tuple is read through
@@ -46,10 +80,38 @@ pub trait ColumnList: Sized + Drop {
     /// The errors that these columns may be refused with.
     ghost refused: { Row → ℕ → Error ℕ → Type 0 };
 
+    /// Whether the columns from a place on are there, and the values are read under their types, or why not.
+    ghost fits: { List Column → ℕ → Fit };
+
+    /// What is read of the frames of the columns from a place on, and what is left of them.
+    ghost in_front: { List Column → ℕ → List ℕ → Outcome (View × Left) };
+
+    /// The errors that these frames may be refused with.
+    ghost refused_in_front: { List Column → ℕ → List ℕ → Error ℕ → Type 0 };
+
     /// The values of the columns from a place on.
     fn read(alloc: Global, row: &PgRow<'_>, place: usize) -> Result<Self, ColumnError<usize>>
         ensures read { Gives view (parse row.now place) (or_codec result) }
         ensures first { IfErr result (refused row.now place) };
+
+    /// That there is a column for each value from a place on, under whose type the value is read.
+    fn check_columns(columns: &[PgColumn<'_>], place: usize) -> Result<(), ColumnError<usize>>
+        ensures { Fits (fits columns.now place) result };
+
+    /// The values of the columns from a place on, whose frames are in front; with them come the place of the next
+    /// column, and the bytes from its frame on. Types are not tested.
+    fn read_frames<'r>(
+        alloc: Global,
+        columns: &[PgColumn<'_>],
+        place: usize,
+        bytes: &'r [u8],
+    ) -> Result<(Self, usize, &'r [u8]), ColumnError<usize>>
+        ensures read { Gives (λ x. (view x.0, (x.1, x.2.now))) (in_front columns.now place
+            bytes.now) (or_codec result) }
+        ensures first { IfErr result (refused_in_front columns.now place bytes.now) };
+
+    /// The same is read of the frames as of the row.
+    ghost in_one_pass: { (place : ℕ) → InOnePass place (λ columns. fits columns place) (λ row. parse row place) (λ row. refused row place) (λ columns. in_front columns place) (λ columns. refused_in_front columns place) };
 }
 
 /// The value of the column at a place, and the place after it.
@@ -80,6 +142,93 @@ fn next_column<T: Type + Decode>(
     }
 }
 
+/// That there is a column at a place, under whose type `T` is read; it answers the place after it.
+#[tactic(auto, unfolding(crate::specs::OnePass::column_fits))]
+fn check_column<T: Type>(
+    columns: &[PgColumn<'_>],
+    place: usize,
+) -> Result<usize, ColumnError<usize>>
+    ensures fits { Fits (column_fits T.accepts columns.now place) result }
+    ensures next { IfOk result (λ next. next ≡ place + 1) }
+{
+    let Some(column) = columns.get(place) else {
+        return Err(ColumnError::NotFound {
+            index: place,
+            place,
+        });
+    };
+    if !T::compatible(column.type_info()) {
+        return Err(ColumnError::Decode {
+            index: place,
+            place,
+            source: CodecError::MismatchedTypes,
+        });
+    }
+    Ok(place + 1)
+}
+
+/// What `T` reads of a part, or of null, under the type and in the format of its column.
+#[inline(always)]
+#[tactic(auto, unfolding(crate::specs::OnePass::part_value))]
+fn read_part<T: Decode>(
+    alloc: Global,
+    column: &PgColumn<'_>,
+    part: Option<&[u8]>,
+) -> Result<T, CodecError>
+    ensures { Gives T.view (part_value T.parse column.now (option_copied part.entry)) result }
+{
+    let type_info = column.type_info().clone()?;
+    T::decode(alloc, PgValueRef::new(part, type_info, column.format()))
+}
+
+/// What `T` reads of the frame in front as a value of a column, and the rest.
+#[inline(always)]
+#[tactic(auto, unfolding(crate::specs::OnePass::value_in_front))]
+fn front_value<'r, T: Decode>(
+    alloc: Global,
+    column: &PgColumn<'_>,
+    bytes: &'r [u8],
+) -> Result<(T, &'r [u8]), CodecError>
+    ensures { Gives (λ x. (T.view x.0, x.1.now)) (value_in_front T.parse column.now bytes.now)
+        result }
+{
+    let (part, rest) = part_in_front(bytes)?;
+    match read_part(alloc, column, part) {
+        Ok(value) => Ok((value, rest)),
+        Err(error) => Err(error),
+    }
+}
+
+/// What `T` reads of the frame in front as the value of the column at a place, the place after it, and the rest.
+#[inline(always)]
+#[tactic(auto, unfolding(crate::specs::OnePass::column_in_front))]
+fn front_column<'r, T: Decode>(
+    alloc: Global,
+    columns: &[PgColumn<'_>],
+    place: usize,
+    bytes: &'r [u8],
+) -> Result<(T, usize, &'r [u8]), ColumnError<usize>>
+    ensures read { Gives (λ x. (T.view x.0, (x.1, x.2.now))) (column_in_front T.parse columns.now
+        place bytes.now) (or_codec result) }
+    ensures first { IfErr result (IsRefusedInFront (column_in_front T.parse) columns.now place
+        bytes.now) }
+{
+    let Some(column) = columns.get(place) else {
+        return Err(ColumnError::NotFound {
+            index: place,
+            place,
+        });
+    };
+    match front_value(alloc, column, bytes) {
+        Ok((value, rest)) => Ok((value, place + 1, rest)),
+        Err(source) => Err(ColumnError::Decode {
+            index: place,
+            place,
+            source,
+        }),
+    }
+}
+
 /// The last column.
 impl<A: Type + Decode> ColumnList for (A,) {
     ghost View = { A.View };
@@ -90,12 +239,40 @@ impl<A: Type + Decode> ColumnList for (A,) {
 
     ghost refused = { IsRefused (column_parse A.accepts A.parse) };
 
+    ghost fits = { column_fits A.accepts };
+
+    ghost in_front = { column_in_front A.parse };
+
+    ghost refused_in_front = { IsRefusedInFront (column_in_front A.parse) };
+
     fn read(alloc: Global, row: &PgRow<'_>, place: usize) -> Result<(A,), ColumnError<usize>> {
         match next_column(alloc, row, place) {
             Ok((value, _next)) => Ok((value,)),
             Err(error) => Err(error),
         }
     }
+
+    fn check_columns(columns: &[PgColumn<'_>], place: usize) -> Result<(), ColumnError<usize>> {
+        match check_column::<A>(columns, place) {
+            Ok(_next) => Ok(()),
+            Err(error) => Err(error),
+        }
+    }
+
+    #[inline(always)]
+    fn read_frames<'r>(
+        alloc: Global,
+        columns: &[PgColumn<'_>],
+        place: usize,
+        bytes: &'r [u8],
+    ) -> Result<((A,), usize, &'r [u8]), ColumnError<usize>> {
+        match front_column(alloc, columns, place, bytes) {
+            Ok((value, next, rest)) => Ok(((value,), next, rest)),
+            Err(error) => Err(error),
+        }
+    }
+
+    ghost in_one_pass = { last_in_one_pass A.accepts A.parse };
 }
 
 /// A column and the rest.
@@ -108,6 +285,12 @@ impl<A: Type + Decode, Rest: ColumnList> ColumnList for (A, Rest) {
 
     ghost refused = { IsFirstRefused ⟦<(A,) as ColumnList>⟧.parse Rest.refused };
 
+    ghost fits = { columns_fit (column_fits A.accepts) Rest.fits };
+
+    ghost in_front = { columns_in_front (column_in_front A.parse) Rest.in_front };
+
+    ghost refused_in_front = { IsFirstInFront (column_in_front A.parse) Rest.refused_in_front };
+
     #[tactic(auto, unfolding(crate::specs::Tuples::columns_parse))]
     fn read(alloc: Global, row: &PgRow<'_>, place: usize) -> Result<(A, Rest), ColumnError<usize>> {
         match next_column(alloc, row, place) {
@@ -118,6 +301,33 @@ impl<A: Type + Decode, Rest: ColumnList> ColumnList for (A, Rest) {
             Err(error) => Err(error),
         }
     }
+
+    #[tactic(auto, unfolding(crate::specs::OnePass::columns_fit))]
+    fn check_columns(columns: &[PgColumn<'_>], place: usize) -> Result<(), ColumnError<usize>> {
+        match check_column::<A>(columns, place) {
+            Ok(next) => Rest::check_columns(columns, next),
+            Err(error) => Err(error),
+        }
+    }
+
+    #[inline(always)]
+    #[tactic(auto, unfolding(crate::specs::OnePass::columns_in_front))]
+    fn read_frames<'r>(
+        alloc: Global,
+        columns: &[PgColumn<'_>],
+        place: usize,
+        bytes: &'r [u8],
+    ) -> Result<((A, Rest), usize, &'r [u8]), ColumnError<usize>> {
+        match front_column(alloc, columns, place, bytes) {
+            Ok((first, next, after)) => match Rest::read_frames(alloc, columns, next, after) {
+                Ok((rest, next, after)) => Ok(((first, rest), next, after)),
+                Err(error) => Err(error),
+            },
+            Err(error) => Err(error),
+        }
+    }
+
+    ghost in_one_pass = { further_in_one_pass A.accepts A.parse Rest.in_one_pass };
 }
 
 /// The first column.
@@ -130,12 +340,36 @@ impl<A: Type + Decode> FromRow for (A,) {
 
     ghost refused = { λ row. ⟦<(A,) as ColumnList>⟧.refused row 0 };
 
+    ghost fits = { λ columns. ⟦<(A,) as ColumnList>⟧.fits columns 0 };
+
+    ghost in_front = { λ columns. ⟦<(A,) as ColumnList>⟧.in_front columns 0 };
+
+    ghost refused_in_front = { λ columns. ⟦<(A,) as ColumnList>⟧.refused_in_front columns 0 };
+
     fn from_row(alloc: Global, row: &PgRow<'_>) -> Result<Self, ColumnError<usize>> {
         match ColumnList::read(alloc, row, 0) {
             Ok((a,)) => Ok((a,)),
             Err(error) => Err(error),
         }
     }
+
+    fn check_columns(columns: &[PgColumn<'_>]) -> Result<(), ColumnError<usize>> {
+        <(A,) as ColumnList>::check_columns(columns, 0)
+    }
+
+    #[inline(always)]
+    fn read_frames<'r>(
+        alloc: Global,
+        columns: &[PgColumn<'_>],
+        bytes: &'r [u8],
+    ) -> Result<(Self, usize, &'r [u8]), ColumnError<usize>> {
+        match ColumnList::read_frames(alloc, columns, 0, bytes) {
+            Ok(((a,), next, rest)) => Ok(((a,), next, rest)),
+            Err(error) => Err(error),
+        }
+    }
+
+    ghost in_one_pass = { last_in_one_pass A.accepts A.parse 0 };
 }
 
 /// The first two columns.
@@ -148,12 +382,36 @@ impl<A: Type + Decode, B: Type + Decode> FromRow for (A, B) {
 
     ghost refused = { λ row. ⟦<(A, (B,)) as ColumnList>⟧.refused row 0 };
 
+    ghost fits = { λ columns. ⟦<(A, (B,)) as ColumnList>⟧.fits columns 0 };
+
+    ghost in_front = { λ columns. ⟦<(A, (B,)) as ColumnList>⟧.in_front columns 0 };
+
+    ghost refused_in_front = { λ columns. ⟦<(A, (B,)) as ColumnList>⟧.refused_in_front columns 0 };
+
     fn from_row(alloc: Global, row: &PgRow<'_>) -> Result<Self, ColumnError<usize>> {
         match ColumnList::read(alloc, row, 0) {
             Ok((a, (b,))) => Ok((a, b)),
             Err(error) => Err(error),
         }
     }
+
+    fn check_columns(columns: &[PgColumn<'_>]) -> Result<(), ColumnError<usize>> {
+        <(A, (B,)) as ColumnList>::check_columns(columns, 0)
+    }
+
+    #[inline(always)]
+    fn read_frames<'r>(
+        alloc: Global,
+        columns: &[PgColumn<'_>],
+        bytes: &'r [u8],
+    ) -> Result<(Self, usize, &'r [u8]), ColumnError<usize>> {
+        match ColumnList::read_frames(alloc, columns, 0, bytes) {
+            Ok(((a, (b,)), next, rest)) => Ok(((a, b), next, rest)),
+            Err(error) => Err(error),
+        }
+    }
+
+    ghost in_one_pass = { further_in_one_pass A.accepts A.parse (last_in_one_pass B.accepts B.parse) 0 };
 }
 
 /// The first three columns.
@@ -166,12 +424,36 @@ impl<A: Type + Decode, B: Type + Decode, C: Type + Decode> FromRow for (A, B, C)
 
     ghost refused = { λ row. ⟦<(A, (B, (C,))) as ColumnList>⟧.refused row 0 };
 
+    ghost fits = { λ columns. ⟦<(A, (B, (C,))) as ColumnList>⟧.fits columns 0 };
+
+    ghost in_front = { λ columns. ⟦<(A, (B, (C,))) as ColumnList>⟧.in_front columns 0 };
+
+    ghost refused_in_front = { λ columns. ⟦<(A, (B, (C,))) as ColumnList>⟧.refused_in_front columns 0 };
+
     fn from_row(alloc: Global, row: &PgRow<'_>) -> Result<Self, ColumnError<usize>> {
         match ColumnList::read(alloc, row, 0) {
             Ok((a, (b, (c,)))) => Ok((a, b, c)),
             Err(error) => Err(error),
         }
     }
+
+    fn check_columns(columns: &[PgColumn<'_>]) -> Result<(), ColumnError<usize>> {
+        <(A, (B, (C,))) as ColumnList>::check_columns(columns, 0)
+    }
+
+    #[inline(always)]
+    fn read_frames<'r>(
+        alloc: Global,
+        columns: &[PgColumn<'_>],
+        bytes: &'r [u8],
+    ) -> Result<(Self, usize, &'r [u8]), ColumnError<usize>> {
+        match ColumnList::read_frames(alloc, columns, 0, bytes) {
+            Ok(((a, (b, (c,))), next, rest)) => Ok(((a, b, c), next, rest)),
+            Err(error) => Err(error),
+        }
+    }
+
+    ghost in_one_pass = { further_in_one_pass A.accepts A.parse (further_in_one_pass B.accepts B.parse (last_in_one_pass C.accepts C.parse)) 0 };
 }
 
 /// The first four columns.
@@ -185,12 +467,36 @@ impl<A: Type + Decode, B: Type + Decode, C: Type + Decode, D: Type + Decode> Fro
 
     ghost refused = { λ row. ⟦<(A, (B, (C, (D,)))) as ColumnList>⟧.refused row 0 };
 
+    ghost fits = { λ columns. ⟦<(A, (B, (C, (D,)))) as ColumnList>⟧.fits columns 0 };
+
+    ghost in_front = { λ columns. ⟦<(A, (B, (C, (D,)))) as ColumnList>⟧.in_front columns 0 };
+
+    ghost refused_in_front = { λ columns. ⟦<(A, (B, (C, (D,)))) as ColumnList>⟧.refused_in_front columns 0 };
+
     fn from_row(alloc: Global, row: &PgRow<'_>) -> Result<Self, ColumnError<usize>> {
         match ColumnList::read(alloc, row, 0) {
             Ok((a, (b, (c, (d,))))) => Ok((a, b, c, d)),
             Err(error) => Err(error),
         }
     }
+
+    fn check_columns(columns: &[PgColumn<'_>]) -> Result<(), ColumnError<usize>> {
+        <(A, (B, (C, (D,)))) as ColumnList>::check_columns(columns, 0)
+    }
+
+    #[inline(always)]
+    fn read_frames<'r>(
+        alloc: Global,
+        columns: &[PgColumn<'_>],
+        bytes: &'r [u8],
+    ) -> Result<(Self, usize, &'r [u8]), ColumnError<usize>> {
+        match ColumnList::read_frames(alloc, columns, 0, bytes) {
+            Ok(((a, (b, (c, (d,)))), next, rest)) => Ok(((a, b, c, d), next, rest)),
+            Err(error) => Err(error),
+        }
+    }
+
+    ghost in_one_pass = { further_in_one_pass A.accepts A.parse (further_in_one_pass B.accepts B.parse (further_in_one_pass C.accepts C.parse (last_in_one_pass D.accepts D.parse))) 0 };
 }
 
 /// The first five columns.
@@ -209,12 +515,36 @@ impl<
 
     ghost refused = { λ row. ⟦<(A, (B, (C, (D, (E,))))) as ColumnList>⟧.refused row 0 };
 
+    ghost fits = { λ columns. ⟦<(A, (B, (C, (D, (E,))))) as ColumnList>⟧.fits columns 0 };
+
+    ghost in_front = { λ columns. ⟦<(A, (B, (C, (D, (E,))))) as ColumnList>⟧.in_front columns 0 };
+
+    ghost refused_in_front = { λ columns. ⟦<(A, (B, (C, (D, (E,))))) as ColumnList>⟧.refused_in_front columns 0 };
+
     fn from_row(alloc: Global, row: &PgRow<'_>) -> Result<Self, ColumnError<usize>> {
         match ColumnList::read(alloc, row, 0) {
             Ok((a, (b, (c, (d, (e,)))))) => Ok((a, b, c, d, e)),
             Err(error) => Err(error),
         }
     }
+
+    fn check_columns(columns: &[PgColumn<'_>]) -> Result<(), ColumnError<usize>> {
+        <(A, (B, (C, (D, (E,))))) as ColumnList>::check_columns(columns, 0)
+    }
+
+    #[inline(always)]
+    fn read_frames<'r>(
+        alloc: Global,
+        columns: &[PgColumn<'_>],
+        bytes: &'r [u8],
+    ) -> Result<(Self, usize, &'r [u8]), ColumnError<usize>> {
+        match ColumnList::read_frames(alloc, columns, 0, bytes) {
+            Ok(((a, (b, (c, (d, (e,))))), next, rest)) => Ok(((a, b, c, d, e), next, rest)),
+            Err(error) => Err(error),
+        }
+    }
+
+    ghost in_one_pass = { further_in_one_pass A.accepts A.parse (further_in_one_pass B.accepts B.parse (further_in_one_pass C.accepts C.parse (further_in_one_pass D.accepts D.parse (last_in_one_pass E.accepts E.parse)))) 0 };
 }
 
 /// The first six columns.
@@ -234,12 +564,36 @@ impl<
 
     ghost refused = { λ row. ⟦<(A, (B, (C, (D, (E, (F,)))))) as ColumnList>⟧.refused row 0 };
 
+    ghost fits = { λ columns. ⟦<(A, (B, (C, (D, (E, (F,)))))) as ColumnList>⟧.fits columns 0 };
+
+    ghost in_front = { λ columns. ⟦<(A, (B, (C, (D, (E, (F,)))))) as ColumnList>⟧.in_front columns 0 };
+
+    ghost refused_in_front = { λ columns. ⟦<(A, (B, (C, (D, (E, (F,)))))) as ColumnList>⟧.refused_in_front columns 0 };
+
     fn from_row(alloc: Global, row: &PgRow<'_>) -> Result<Self, ColumnError<usize>> {
         match ColumnList::read(alloc, row, 0) {
             Ok((a, (b, (c, (d, (e, (f,))))))) => Ok((a, b, c, d, e, f)),
             Err(error) => Err(error),
         }
     }
+
+    fn check_columns(columns: &[PgColumn<'_>]) -> Result<(), ColumnError<usize>> {
+        <(A, (B, (C, (D, (E, (F,)))))) as ColumnList>::check_columns(columns, 0)
+    }
+
+    #[inline(always)]
+    fn read_frames<'r>(
+        alloc: Global,
+        columns: &[PgColumn<'_>],
+        bytes: &'r [u8],
+    ) -> Result<(Self, usize, &'r [u8]), ColumnError<usize>> {
+        match ColumnList::read_frames(alloc, columns, 0, bytes) {
+            Ok(((a, (b, (c, (d, (e, (f,)))))), next, rest)) => Ok(((a, b, c, d, e, f), next, rest)),
+            Err(error) => Err(error),
+        }
+    }
+
+    ghost in_one_pass = { further_in_one_pass A.accepts A.parse (further_in_one_pass B.accepts B.parse (further_in_one_pass C.accepts C.parse (further_in_one_pass D.accepts D.parse (further_in_one_pass E.accepts E.parse (last_in_one_pass F.accepts F.parse))))) 0 };
 }
 
 /// The first seven columns.
@@ -260,12 +614,40 @@ impl<
 
     ghost refused = { λ row. ⟦<(A, (B, (C, (D, (E, (F, (G,))))))) as ColumnList>⟧.refused row 0 };
 
+    ghost fits = { λ columns. ⟦<(A, (B, (C, (D, (E, (F, (G,))))))) as ColumnList>⟧.fits columns 0 };
+
+    ghost in_front = { λ columns. ⟦<(A, (B, (C, (D, (E, (F, (G,))))))) as ColumnList>⟧.in_front columns 0 };
+
+    ghost refused_in_front = { λ columns. ⟦<(A, (B, (C, (D, (E, (F, (G,))))))) as ColumnList>⟧.refused_in_front columns 0 };
+
     fn from_row(alloc: Global, row: &PgRow<'_>) -> Result<Self, ColumnError<usize>> {
         match ColumnList::read(alloc, row, 0) {
             Ok((a, (b, (c, (d, (e, (f, (g,)))))))) => Ok((a, b, c, d, e, f, g)),
             Err(error) => Err(error),
         }
     }
+
+    fn check_columns(columns: &[PgColumn<'_>]) -> Result<(), ColumnError<usize>> {
+        <(A, (B, (C, (D, (E, (F, (G,))))))) as ColumnList>::check_columns(columns, 0)
+    }
+
+    #[inline(always)]
+    fn read_frames<'r>(
+        alloc: Global,
+        columns: &[PgColumn<'_>],
+        bytes: &'r [u8],
+    ) -> Result<(Self, usize, &'r [u8]), ColumnError<usize>> {
+        match ColumnList::read_frames(alloc, columns, 0, bytes) {
+            Ok(((a, (b, (c, (d, (e, (f, (g,))))))), next, rest)) => Ok((
+                (a, b, c, d, e, f, g),
+                next,
+                rest,
+            )),
+            Err(error) => Err(error),
+        }
+    }
+
+    ghost in_one_pass = { further_in_one_pass A.accepts A.parse (further_in_one_pass B.accepts B.parse (further_in_one_pass C.accepts C.parse (further_in_one_pass D.accepts D.parse (further_in_one_pass E.accepts E.parse (further_in_one_pass F.accepts F.parse (last_in_one_pass G.accepts G.parse)))))) 0 };
 }
 
 /// The first eight columns.
@@ -287,12 +669,40 @@ impl<
 
     ghost refused = { λ row. ⟦<(A, (B, (C, (D, (E, (F, (G, (H,)))))))) as ColumnList>⟧.refused row 0 };
 
+    ghost fits = { λ columns. ⟦<(A, (B, (C, (D, (E, (F, (G, (H,)))))))) as ColumnList>⟧.fits columns 0 };
+
+    ghost in_front = { λ columns. ⟦<(A, (B, (C, (D, (E, (F, (G, (H,)))))))) as ColumnList>⟧.in_front columns 0 };
+
+    ghost refused_in_front = { λ columns. ⟦<(A, (B, (C, (D, (E, (F, (G, (H,)))))))) as ColumnList>⟧.refused_in_front columns 0 };
+
     fn from_row(alloc: Global, row: &PgRow<'_>) -> Result<Self, ColumnError<usize>> {
         match ColumnList::read(alloc, row, 0) {
             Ok((a, (b, (c, (d, (e, (f, (g, (h,))))))))) => Ok((a, b, c, d, e, f, g, h)),
             Err(error) => Err(error),
         }
     }
+
+    fn check_columns(columns: &[PgColumn<'_>]) -> Result<(), ColumnError<usize>> {
+        <(A, (B, (C, (D, (E, (F, (G, (H,)))))))) as ColumnList>::check_columns(columns, 0)
+    }
+
+    #[inline(always)]
+    fn read_frames<'r>(
+        alloc: Global,
+        columns: &[PgColumn<'_>],
+        bytes: &'r [u8],
+    ) -> Result<(Self, usize, &'r [u8]), ColumnError<usize>> {
+        match ColumnList::read_frames(alloc, columns, 0, bytes) {
+            Ok(((a, (b, (c, (d, (e, (f, (g, (h,)))))))), next, rest)) => Ok((
+                (a, b, c, d, e, f, g, h),
+                next,
+                rest,
+            )),
+            Err(error) => Err(error),
+        }
+    }
+
+    ghost in_one_pass = { further_in_one_pass A.accepts A.parse (further_in_one_pass B.accepts B.parse (further_in_one_pass C.accepts C.parse (further_in_one_pass D.accepts D.parse (further_in_one_pass E.accepts E.parse (further_in_one_pass F.accepts F.parse (further_in_one_pass G.accepts G.parse (last_in_one_pass H.accepts H.parse))))))) 0 };
 }
 
 /// The first nine columns.
@@ -315,10 +725,38 @@ impl<
 
     ghost refused = { λ row. ⟦<(A, (B, (C, (D, (E, (F, (G, (H, (I,))))))))) as ColumnList>⟧.refused row 0 };
 
+    ghost fits = { λ columns. ⟦<(A, (B, (C, (D, (E, (F, (G, (H, (I,))))))))) as ColumnList>⟧.fits columns 0 };
+
+    ghost in_front = { λ columns. ⟦<(A, (B, (C, (D, (E, (F, (G, (H, (I,))))))))) as ColumnList>⟧.in_front columns 0 };
+
+    ghost refused_in_front = { λ columns. ⟦<(A, (B, (C, (D, (E, (F, (G, (H, (I,))))))))) as ColumnList>⟧.refused_in_front columns 0 };
+
     fn from_row(alloc: Global, row: &PgRow<'_>) -> Result<Self, ColumnError<usize>> {
         match ColumnList::read(alloc, row, 0) {
             Ok((a, (b, (c, (d, (e, (f, (g, (h, (i,)))))))))) => Ok((a, b, c, d, e, f, g, h, i)),
             Err(error) => Err(error),
         }
     }
+
+    fn check_columns(columns: &[PgColumn<'_>]) -> Result<(), ColumnError<usize>> {
+        <(A, (B, (C, (D, (E, (F, (G, (H, (I,))))))))) as ColumnList>::check_columns(columns, 0)
+    }
+
+    #[inline(always)]
+    fn read_frames<'r>(
+        alloc: Global,
+        columns: &[PgColumn<'_>],
+        bytes: &'r [u8],
+    ) -> Result<(Self, usize, &'r [u8]), ColumnError<usize>> {
+        match ColumnList::read_frames(alloc, columns, 0, bytes) {
+            Ok(((a, (b, (c, (d, (e, (f, (g, (h, (i,))))))))), next, rest)) => Ok((
+                (a, b, c, d, e, f, g, h, i),
+                next,
+                rest,
+            )),
+            Err(error) => Err(error),
+        }
+    }
+
+    ghost in_one_pass = { further_in_one_pass A.accepts A.parse (further_in_one_pass B.accepts B.parse (further_in_one_pass C.accepts C.parse (further_in_one_pass D.accepts D.parse (further_in_one_pass E.accepts E.parse (further_in_one_pass F.accepts F.parse (further_in_one_pass G.accepts G.parse (further_in_one_pass H.accepts H.parse (last_in_one_pass I.accepts I.parse)))))))) 0 };
 }

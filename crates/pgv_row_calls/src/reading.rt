@@ -2,7 +2,7 @@
 //! or `catalog KIND`.
 
 use pgv::catalog::{PgFieldRow, PgLabelRow, PgTypeRow};
-use pgv::row::{FromRow, PgRow};
+use pgv::row::{FromRow, PgColumns, PgRow, PgRowReader};
 use pgv::{CodecError, Decode, PgEnum, PgValue, Type};
 use pgv_examples::mood::Mood;
 use std::alloc::Global;
@@ -91,6 +91,50 @@ fn tuple(alloc: Global, row: &PgRow<'_>, number: &str) -> Result<String, CodecEr
 /// What `T` reads of a row.
 fn fields<T: FromRow + Debug>(alloc: Global, row: &PgRow<'_>) -> Result<String, CodecError> {
     match row.as_tuple::<T>(alloc) {
+        Ok(fields) => Ok(format!(in alloc; "{fields:?}")?),
+        Err(error) => Err(CodecError::from(error)),
+    }
+}
+
+/// The body of a row, read in one pass as a tuple of so many fields.
+pub fn in_one_pass(
+    alloc: Global,
+    columns: &PgColumns<'_>,
+    body: &[u8],
+    number: &str,
+) -> Result<String, CodecError> {
+    match number {
+        "1" => passed::<(i32,)>(alloc, columns, body),
+        "2" => passed::<(i32, Option<String>)>(alloc, columns, body),
+        "3" => passed::<(i32, i32, i32)>(alloc, columns, body),
+        "4" => passed::<(i32, i32, i32, i32)>(alloc, columns, body),
+        "5" => passed::<(i32, i32, i32, i32, i32)>(alloc, columns, body),
+        "6" => passed::<(i32, i32, i32, i32, i32, i32)>(alloc, columns, body),
+        "7" => passed::<(i32, i32, i32, i32, i32, i32, i32)>(alloc, columns, body),
+        "8" => passed::<(i32, i32, i32, i32, i32, i32, i32, i32)>(alloc, columns, body),
+        _ => passed::<(i32, i32, i32, i32, i32, i32, i32, i32, i32)>(alloc, columns, body),
+    }
+}
+
+/// What a reader of tuples reads of a body.
+fn passed<T: FromRow + Debug>(
+    alloc: Global,
+    columns: &PgColumns<'_>,
+    body: &[u8],
+) -> Result<String, CodecError> {
+    match columns.reader::<T>() {
+        Ok(reader) => read_by(alloc, &reader, body),
+        Err(error) => Err(CodecError::from(error)),
+    }
+}
+
+/// What is read of a body.
+fn read_by<T: FromRow + Debug>(
+    alloc: Global,
+    reader: &PgRowReader<'_, T>,
+    body: &[u8],
+) -> Result<String, CodecError> {
+    match reader.read(alloc, body) {
         Ok(fields) => Ok(format!(in alloc; "{fields:?}")?),
         Err(error) => Err(CodecError::from(error)),
     }

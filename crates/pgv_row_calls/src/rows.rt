@@ -1,8 +1,8 @@
 //! Rows of calls that read a row. `describe HEX` and `body HEX` keep the bodies of a RowDescription and of a DataRow;
 //! any other row is `WAY CALL => ANSWER`, where WAY says how the row is read: in `new` room, in `room` for all columns,
-//! from `shared` bytes, or `kept`.
+//! from `shared` bytes, `kept`, or in one `pass` as a tuple of so many fields as CALL says.
 
-use crate::reading::asked;
+use crate::reading::{asked, in_one_pass};
 use bytes::Bytes;
 use pgv::row::{PgColumns, PgOwnedRow, PgPlaces, PgRow};
 use pgv::{CodecError, Oid, PgTypeInfo, PgTypeKind};
@@ -85,6 +85,9 @@ fn read_in(
     if way == "new" {
         let mut room = PgPlaces::new(alloc);
         return borrowed(alloc, columns, &mut room, body, call);
+    }
+    if way == "pass" {
+        return in_one_pass(alloc, columns, body, call);
     }
     let mut room = PgPlaces::with_columns(alloc, columns)?;
     match way {

@@ -1,0 +1,158 @@
+//! Rows that are read in one pass, each straight into a tuple.
+
+ghost use Rattle.std.specs.Prelude.{◌≡◌, ◌-◌, ◌≤◌, length, IfOk, IfErr};
+ghost use Rattle.pgv_value.specs.Outcome.{Gives};
+ghost use Rattle.pgv_value.specs.Parsed.{GivesExactly};
+ghost use Rattle.pgv_row.specs.DataRow.{frames_front};
+ghost use Rattle.pgv_row.specs.OnePass.{Fits, GivesRow, IsRowOf, IsRowRefused, RefusesRow, one_pass, passed_over};
+ghost use Rattle.pgv_row.specs.Tuples.{index_of, or_codec};
+
+use crate::column::{PgColumn, PgColumns};
+use crate::error::ColumnError;
+use crate::place::check_count;
+use crate::tuple::FromRow;
+use pgv_value::{CodecError, part_in_front};
+use std::alloc::Global;
+use std::marker::{Model, PhantomData};
+
+/// What reads the rows of a statement's result, one after another, each in one pass into a tuple. The types of the
+/// columns are tested once, by [`PgColumns::reader`], and not for each row.
+#[derive(Drop)]
+pub struct PgRowReader<'a, T: FromRow> {
+    columns: &'a [PgColumn<'a>],
+    of: PhantomData<T>,
+}
+
+impl<'a, T: FromRow> Model for PgRowReader<'a, T> {
+    ghost use Rattle.std.specs.Prelude.{◌≡◌, List, Ok};
+    ghost use Rattle.std.specs.Coded.{coded_list};
+    ghost use Rattle.pgv_row.specs.ColumnView.{Column, column_code};
+
+    ghost Value = { List Column };
+
+    ghost coded = { coded_list column_code };
+
+    ghost view = { λ r. r.columns.now };
+
+    ghost invariant = { λ r. T.fits r.columns.now ≡ Ok tt };
+}
+
+impl<'d> PgColumns<'d> {
+    /// What reads the rows of these columns into tuples, each in one pass over the body of its DataRow:
+    /// `columns.reader::<(i32, Option<String>)>()?`. The types of the columns are tested here, once for all rows; null
+    /// is no exception from that, as it is at [`PgRow::try_get`](crate::PgRow::try_get).
+    ///
+    /// A field that there is no column for is `NotFound`, and one that isn't read under its column's type `Decode` with
+    /// C27, as at `try_get`: the first one is the error.
+    pub fn reader<T: FromRow>(&self) -> Result<PgRowReader<'_, T>, ColumnError<usize>>
+        ensures columns { IfOk result (λ reader. reader ≡ self.now) }
+        ensures exact { Fits (T.fits self.now) result }
+    {
+        let columns = self.as_slice();
+        match T::check_columns(columns) {
+            Ok(()) => Ok(PgRowReader {
+                columns,
+                of: PhantomData,
+            }),
+            Err(error) => Err(error),
+        }
+    }
+}
+
+/// The frames of the body of a row that has as many columns.
+#[inline(always)]
+fn frames_of(body: &[u8], width: usize) -> Result<&[u8], CodecError>
+    ensures { GivesExactly (λ frames. frames.now) (frames_front width body.now) result }
+{
+    check_count(body, width)?;
+    let (_count, frames) = body.split_at(2);
+    Ok(frames)
+}
+
+/// The rest after the frames of the columns from a place on.
+#[inline(always)]
+fn pass_over(bytes: &[u8], place: usize, width: usize) -> Result<&[u8], ColumnError<usize>>
+    ensures read { Gives (λ rest. rest.now) (passed_over (width - place) bytes.now)
+        (or_codec result) }
+    ensures at { IfErr result (λ e. place ≤ index_of e) }
+{
+    let mut rest = bytes;
+    for at in place..width {
+        match part_in_front(rest) {
+            Ok((_part, after)) => rest = after,
+            Err(source) => {
+                return Err(ColumnError::Decode {
+                    index: at,
+                    place: at,
+                    source,
+                });
+            }
+        }
+    }
+    Ok(rest)
+}
+
+/// What `T` reads of the body of a row in one pass.
+#[inline(always)]
+#[tactic(auto, unfolding(crate::specs::OnePass::one_pass))]
+fn read_body<T: FromRow>(
+    alloc: Global,
+    columns: &[PgColumn<'_>],
+    body: &[u8],
+) -> Result<T, ColumnError<usize>>
+    ensures read { Gives T.view (one_pass T.in_front columns.now body.now) (or_codec result) }
+    ensures first { IfErr result (IsRowRefused T.in_front T.refused_in_front columns.now body.now) }
+{
+    let width = columns.len();
+    let frames = match frames_of(body, width) {
+        Ok(frames) => frames,
+        Err(source) => {
+            return Err(ColumnError::Decode {
+                index: 0,
+                place: 0,
+                source,
+            });
+        }
+    };
+    let (value, next, further) = match T::read_frames(alloc, columns, frames) {
+        Ok(read) => read,
+        Err(error) => return Err(error),
+    };
+    let rest = match pass_over(further, next, width) {
+        Ok(rest) => rest,
+        Err(error) => return Err(error),
+    };
+    if !rest.is_empty() {
+        return Err(ColumnError::Decode {
+            index: width,
+            place: width,
+            source: CodecError::WrongLength(body.len()),
+        });
+    }
+    Ok(value)
+}
+
+impl<'a, T: FromRow> PgRowReader<'a, T> {
+    /// What the fields read of the row that is the body of a DataRow (PostgreSQL, "Message Formats", DataRow): the same
+    /// as [`PgRow::as_tuple`](crate::PgRow::as_tuple) reads of it, but that no room is needed for places. Of
+    /// `0002 00000001 37 ffffffff` under columns of `int4` in text and of `text` it is `(7, None)` for
+    /// `(i32, Option<String>)`.
+    ///
+    /// Another number of columns is refused with C12, bytes that end too early with C15, a negative length but the -1
+    /// of null with C16, and bytes after the last column with C17; a value with what its type refuses it with. Of
+    /// several refusals the one that comes first in the bytes is the error, so that a value's may come before that of a
+    /// later frame. The error's place is the column's that was read; 0 of the number of columns, and that number of
+    /// bytes after the last one. Memory is asked for only for the values, and for a copy of a custom type.
+    #[inline(always)]
+    pub fn read(&self, alloc: Global, body: &[u8]) -> Result<T, ColumnError<usize>>
+        ensures read { Gives T.view (one_pass T.in_front self.now body.now) (or_codec result) }
+        ensures first { IfErr result
+            (IsRowRefused T.in_front T.refused_in_front self.now body.now) }
+        // Of a DataRow the same is read as of its row, and refused of the same column; and only a DataRow is read.
+        ensures row { GivesRow T.view T.parse self.now body.now (or_codec result) }
+        ensures refused { RefusesRow T.refused self.now body.now result }
+        ensures whole { IfOk result (λ _. IsRowOf self.now body.now) }
+    {
+        read_body(alloc, self.columns, body)
+    }
+}
