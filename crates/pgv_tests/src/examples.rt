@@ -13,7 +13,6 @@ use pgv_examples::bind::{arguments_of_search, parameters_of_bind};
 use pgv_examples::copied::{columns, read_item, read_items};
 use pgv_examples::email::Email;
 use pgv_examples::errors::{Reason, name_in};
-use pgv_examples::float_range::FloatRange;
 use pgv_examples::float8::Float8;
 use pgv_examples::holes::fill;
 use pgv_examples::in_list::{add_all, push_in};
@@ -407,7 +406,7 @@ fn shipment_read(alloc: Global) -> Result<String, CodecError> {
 fn range_sent(alloc: Global) -> Result<PgArguments, CodecError> {
     let mut arguments = PgArguments::new(alloc);
     let range = PgRange::from(Float8(1)..Float8(2));
-    arguments.add(FloatRange { range })?;
+    arguments.add(range)?;
     Ok(arguments)
 }
 
@@ -416,8 +415,8 @@ fn range_read(alloc: Global, frame: &[u8]) -> Result<String, CodecError> {
     let over = PgTypeKind::Range(PgTypeInfo(PgType::Float8));
     let column = PgTypeInfo::custom(alloc, Oid(16700), "floatrange", over)?;
     let value = PgValueRef::new(frame.get(4..), column, PgValueFormat::Binary);
-    let read = FloatRange::decode(alloc, value)?;
-    Ok(format!(in alloc; "{:?}", read.range)?)
+    let range = PgRange::<Float8>::decode(alloc, value)?;
+    Ok(format!(in alloc; "{range:?}")?)
 }
 
 #[test]
