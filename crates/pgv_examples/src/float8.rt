@@ -1,5 +1,5 @@
-//! A type that the library doesn't have, by its bytes: `float8` (PostgreSQL, "Floating-Point Types"). Here is what it is
-//! and how it is written; how it is read is in [`float8_read`](crate::float8_read).
+//! A type that the library doesn't have, by its bytes: `float8` (PostgreSQL, "Floating-Point Types"), and how it is
+//! written. How it is read is in [`float8_read`](crate::float8_read).
 
 use pgv::{CodecError, Encode, IsNull, PgArgumentBuffer, PgType, PgTypeInfo, Type};
 use std::alloc::AllocError;

@@ -16,8 +16,8 @@
 //! 13. [`server_types`] makes a server's own types of the rows of its catalogue.
 //! 14. [`errors`] turns a refusal into an error of one's own, by column and number.
 //! 15. [`in_list`] has as many parameters as there are keys.
-//! 16. [`float8`] is a type that the library doesn't have, by its bytes, [`float8_read`] reads it, and [`float_range`] is
-//!     a range over it.
+//! 16. [`float8`] is a type that the library doesn't have, by its bytes, [`float8_read`] reads it, and [`float_range`]
+//!     is a range over it.
 //! 17. [`json`] has the documents of `json` and `jsonb`, and [`json_read`] reads them.
 //! 18. [`shipment`] is a composite with a composite in it, and a field that may be null.
 //!

@@ -1,4 +1,4 @@
-//! A codec that refuses: a number from 0 to 100, and no other, is written, and read ([`percent_read`](crate::percent_read)).
+//! A codec that refuses: only a number from 0 to 100 is written, and read in [`percent_read`](crate::percent_read).
 
 ghost use Rattle.std.specs.Prelude.{◌≡◌, true, false, IsOk, IsErrOf};
 ghost use Rattle.pgv.specs.Words.{plainly};

@@ -109,8 +109,8 @@ impl Decode for Size {
     }
 }
 
-/// A range of lists of sizes: a type of its own, since an array wants its elements' types, which `PgRange` has where its
-/// bounds state them, and lists are not of this crate.
+/// A range of lists of sizes: a type of its own, since an array wants its elements' types, `PgRange` has those that its
+/// bounds state, and lists are of another crate.
 #[derive(Drop)]
 pub struct SizeRange {
     /// The range.

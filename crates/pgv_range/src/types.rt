@@ -33,8 +33,7 @@ pub fn range_compatible<T: Type>(type_info: &PgTypeInfo) -> bool
     }
 }
 
-/// A Rust type of which ranges are made: a [`PgRange`] of it then has a type, and so have arrays of such ranges. A range
-/// type of a server is stated by the Rust type of its bounds.
+/// A Rust type of which ranges are made. From this one impl a [`PgRange`] of it has [`Type`] and [`PgHasArrayType`].
 pub trait PgHasRangeType {
     /// The type of such a range.
     ghost range_info: { Ty };
