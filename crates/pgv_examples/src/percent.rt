@@ -16,7 +16,7 @@ pub struct Percent {
 
 impl Percent {
     /// Nothing where the number is from 0 to 100, and else C38(9).
-    pub fn check(self) -> Result<(), CodecError>
+    pub(crate) fn check(self) -> Result<(), CodecError>
         ensures ok { is_percent self.number ≡ true → IsOk result }
         ensures err { is_percent self.number ≡ false → IsErrOf result (CodecError.Caller 9) }
     {
