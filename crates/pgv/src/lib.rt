@@ -17,7 +17,7 @@ pub use pgv_codec::{
     encode_array, encode_record, encode_text, type_of_value,
 };
 pub use pgv_copy::{PgCopyNext, PgCopyPieces, PgCopyReader};
-pub use pgv_range::range_compatible;
+pub use pgv_range::{PgHasRangeType, range_compatible};
 pub use pgv_types::{
     IdentifierChar, IdentifierChars, Oid, PgArrayOf, PgCustomType, PgType, PgTypeInfo, PgTypeKind,
     PgTypeKindRef, PgTypeName, PgTypeRef, StaticText,

@@ -3,8 +3,8 @@
 use crate::rows::binds;
 use crate::triple::Triple;
 use pgv_codec::{Encode, PgArgumentBuffer, Type};
-use pgv_examples::empty_object::EmptyObject;
 use pgv_examples::mood::Mood;
+use pgv_fixtures::EmptyObject;
 use pgv_types::{Oid, PgType, PgTypeInfo};
 use pgv_user_types::PgEnum;
 use pgv_value::CodecError;

@@ -8,12 +8,13 @@ use pgv::{
     CodecError, Encode, Oid, PgArguments, PgComposite, PgEnum, PgRecord, PgType, PgTypeInfo,
     PgValueFormat, PgValueRef,
 };
-use pgv_examples::empty_object::EmptyObject;
 use pgv_examples::household::Household;
 use pgv_examples::mood::Mood;
 use pgv_examples::page::Page;
 use pgv_examples::percent::Percent;
-use pgv_fixtures::{Again, Called, Huge, MoodText, Size, same, size_ranges, told, type_of};
+use pgv_fixtures::{
+    Again, Called, EmptyObject, Huge, MoodText, Size, same, size_ranges, told, type_of,
+};
 use std::alloc::{AllocError, Global};
 
 /// One mood, `ok`.

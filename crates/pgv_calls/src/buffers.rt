@@ -6,8 +6,8 @@ use pgv::{
     CodecError, Oid, PgArgumentBuffer, PgEnum, PgRecordEncoder, PgTypeInfo, encode_array,
     encode_text,
 };
-use pgv_examples::empty_object::push_version;
 use pgv_examples::mood::Mood;
+use pgv_examples::slot::push_version;
 use pgv_fixtures::{Again, Called, Huge, Size, refused, same, sizes};
 use std::alloc::Global;
 use uuid::Uuid;

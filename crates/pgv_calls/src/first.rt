@@ -3,10 +3,9 @@
 use jiff::civil::Date;
 use pgv::types::{PgLTree, PgRange};
 use pgv::{PgComposite, PgEnum, PgRecord, PgValueRef};
-use pgv_examples::empty_object::EmptyObject;
 use pgv_examples::mood::Mood;
 use pgv_examples::page::Page;
-use pgv_fixtures::{Again, SizeRange, read_again, read_shown};
+use pgv_fixtures::{Again, EmptyObject, SizeRange, read_again, read_shown};
 use std::alloc::Global;
 
 /// What is read from a value at the Rust type of this name.

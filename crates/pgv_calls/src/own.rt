@@ -4,10 +4,11 @@ use pgv::types::PgRange;
 use pgv::{
     CodecError, Encode, IsNull, PgArgumentBuffer, PgHasArrayType, PgRecord, PgTypeInfo, Type,
 };
-use pgv_examples::empty_object::{EmptyObject, push_version};
+use pgv_examples::slot::push_version;
+use pgv_fixtures::EmptyObject;
 use std::alloc::{AllocError, Global};
 
-/// A range with a type of its own, which `PgRange` has for the bounds of PostgreSQL's own ranges alone.
+/// A range with a type of its own, whatever its bounds are. `PgRange` has the one that its bounds state.
 #[derive(Drop)]
 pub struct Bounds<T> {
     /// The range.

@@ -15,8 +15,7 @@ use pgv::{
     read_i8, read_i16, read_i32, read_i64, read_instant, read_interval, read_ip_address,
     read_ip_network, read_oid, read_time, read_uuid,
 };
-use pgv_examples::empty_object::EmptyObject;
-use pgv_fixtures::{Again, Called};
+use pgv_fixtures::{Again, Called, EmptyObject};
 use std::alloc::Global;
 use std::net::{IpAddr, Ipv4Addr, Ipv6Addr};
 use std::time::Duration;

@@ -2,12 +2,15 @@
 use Rattle.std.specs.Prelude.{◌≡◌, ◌==◌, ◌||◌, ℕ, Bool, true, false, cond, if◌then◌else◌, List, [], ◌∷◌, ◌++◌, Option, Some, None, refl, string_bytes}
 use Rattle.std.proofs.Common.{sym, ap, ◌∙◌, subst}
 use Rattle.std.proofs.lemmas.Option.{same_Some}
-use Rattle.pgv.specs.Words.{Ty, builtin, softly, Token, slot, bytes, ImageFits, Given, Outcome, Part, Binary, ReadsBack, always, copied, image_of, parse_text, part_is, plainly, reading_of, text_back, utf8_part, write, write-bytes, writes, written_part}
+use Rattle.pgv.specs.Words.{Ty, builtin, softly, Token, slot, bytes, Image, ImageFits, Given, Outcome, Part, Binary, ReadsBack, always, copied, image_of, parse_text, part_is, plainly, reading_of, text_back, utf8_part, write, write-bytes, writes, written_part}
 use Rattle.pgv_examples.specs.declared.json.Json.{Json}
 
 -- the version where the parameter is jsonb, and else a space; and the text
 abbrev pub json_tokens : List ℕ → List Token
 json_tokens text = slot (32 ∷ []) ((builtin 3802, 1 ∷ []) ∷ []) ∷ bytes text
+
+abbrev pub json_image : List ℕ → Outcome Image
+json_image text = writes (Some (image_of (json_tokens text)))
 
 -- what comes after a version, or after the space in its place
 abbrev pub after_version : List ℕ → List ℕ
@@ -23,7 +26,7 @@ abbrev pub parse_json : Given → Outcome (List ℕ)
 parse_json v = copied (utf8_part (document v.bytes))
 
 -- whichever case the slot shows
-pub json_back : ReadsBack {A = Json} (λ json. plainly (writes (Some (image_of (json_tokens (string_bytes json.text)))))) (reading_of parse_json) (λ json. string_bytes json.text) always
+pub json_back : ReadsBack {A = Json} (λ json. plainly (json_image (string_bytes json.text))) (reading_of parse_json) (λ json. string_bytes json.text) always
 json_back json i t p oids e whole small fit = rw (← is) (by_parameter p)
   where
     text : List ℕ

@@ -1,4 +1,3 @@
-pub mod Objects
 pub mod Percents
 pub mod Known
 pub mod Reasons

@@ -1,10 +1,8 @@
-//! A type that the library doesn't have, by its bytes: `float8` (PostgreSQL, "Floating-Point Types").
+//! A type that the library doesn't have, by its bytes: `float8` (PostgreSQL, "Floating-Point Types"), and how it is
+//! written. How it is read is in [`float8_read`](crate::float8_read).
 
-use pgv::{
-    CodecError, Encode, IsNull, PgArgumentBuffer, PgType, PgTypeInfo, PgValueFormat, PgValueRef,
-    Plain, Type,
-};
-use std::alloc::{AllocError, Global};
+use pgv::{CodecError, Encode, IsNull, PgArgumentBuffer, PgType, PgTypeInfo, Type};
+use std::alloc::AllocError;
 
 /// A number of the type `float8`, by its 64 bits (IEEE 754) as a signed number: 4607182418800017408 is 1.0.
 #[derive(Clone, Copy, Debug, PartialEq, Eq)]
@@ -41,41 +39,4 @@ impl Encode for Float8 {
     fn produces(&self) -> Result<Option<PgTypeInfo>, AllocError> {
         Ok(None)
     }
-}
-
-/// Read of eight bytes. Others are refused with C17, a text with C18, and null with C13. Every number comes back.
-impl Plain for Float8 {
-    ghost use Rattle.std.specs.Prelude.{ℤ, refl};
-    ghost use Rattle.pgv.specs.Words.{without_memory};
-    ghost use Rattle.pgv_examples.specs.Floats.{float_back, parse_float};
-
-    ghost View = { ℤ };
-
-    ghost view = { λ number. number.0 };
-
-    ghost parse = { without_memory parse_float };
-
-    ghost null = { λ _ _. refl };
-
-    ghost written = { ⟦<i64 as Plain>⟧.written };
-
-    fn read(alloc: Global, value: PgValueRef<'_>) -> Result<Float8, CodecError> {
-        match value.format() {
-            PgValueFormat::Binary => {
-                let length = value.as_bytes()?.len();
-                if length != 8 {
-                    return Err(CodecError::WrongLength(length));
-                }
-                Ok(Float8(i64::read(alloc, value)?))
-            }
-            PgValueFormat::Text => {
-                value.as_bytes()?;
-                Err(CodecError::TextUnsupported)
-            }
-        }
-    }
-
-    ghost reads_back = { float_back };
-
-    ghost agrees = { λ _. refl };
 }

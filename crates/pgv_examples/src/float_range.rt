@@ -1,69 +1,31 @@
-//! A range of one's own: `create type floatrange as range (subtype = float8)`.
+//! A range type of one's own: `create type floatrange as range (subtype = float8)`.
+//!
+//! It is a [`PgRange`](pgv::types::PgRange) of the Rust type of its bounds, which states the name. So the range is
+//! written, read and read back, and there are arrays of it.
 
 use crate::float8::Float8;
-use pgv::types::PgRange;
-use pgv::{CodecError, Decode, Encode, IsNull, PgArgumentBuffer, PgTypeInfo, PgValueRef, Type};
-use std::alloc::{AllocError, Global};
+use pgv::{PgHasRangeType, PgTypeInfo};
 
-/// A range of numbers by their bits. It is a type of its own, since `PgRange` has a type for PostgreSQL's own ranges
-/// alone.
-#[derive(Drop)]
-pub struct FloatRange {
-    /// The range.
-    pub range: PgRange<Float8>,
-}
-
-impl Type for FloatRange {
+/// A `PgRange<Float8>` is a `floatrange`, and an array of them a `floatrange[]`, known by its name.
+impl PgHasRangeType for Float8 {
     ghost use Rattle.std.specs.Prelude.{codes};
-    ghost use Rattle.pgv.specs.Words.{named, softly};
+    ghost use Rattle.pgv.specs.Words.{array_of, named, softly};
 
-    ghost info = { named (codes "floatrange") };
+    ghost range_info = { named (codes "floatrange") };
 
-    ghost accepts = { λ t. softly t (named (codes "floatrange")) };
+    ghost accepts_range = { λ t. softly t (named (codes "floatrange")) };
 
-    fn type_info() -> PgTypeInfo {
+    ghost range_array_info = { array_of (codes "floatrange") };
+
+    fn range_type_info() -> PgTypeInfo {
         PgTypeInfo::with_name("floatrange")
     }
 
-    fn compatible(type_info: &PgTypeInfo) -> bool {
-        type_info.type_compatible(&Self::type_info())
-    }
-}
-
-/// Written as its range.
-impl Encode for FloatRange {
-    ghost encoding = { λ v. ⟦<PgRange<Float8> as Encode>⟧.encoding v.range };
-
-    fn encode_by_ref(&self, out: &mut PgArgumentBuffer) -> Result<IsNull, CodecError> {
-        self.range.encode_by_ref(out)
+    fn range_compatible(type_info: &PgTypeInfo) -> bool {
+        type_info.type_compatible(&Self::range_type_info())
     }
 
-    fn size_hint(&self) -> usize {
-        0
-    }
-
-    fn produces(&self) -> Result<Option<PgTypeInfo>, AllocError> {
-        Ok(None)
-    }
-}
-
-/// Read as its range, under a type that is a range over what the server says.
-impl Decode for FloatRange {
-    ghost use Rattle.pgv.specs.Words.{unwritten};
-
-    ghost View = { ⟦<PgRange<Float8> as Decode>⟧.View };
-
-    ghost view = { λ v. ⟦<PgRange<Float8> as Decode>⟧.view v.range };
-
-    ghost parse = { ⟦<PgRange<Float8> as Decode>⟧.parse };
-
-    ghost written = { λ _ _. unwritten };
-
-    ghost null = { ⟦<PgRange<Float8> as Decode>⟧.null };
-
-    fn decode(alloc: Global, value: PgValueRef<'_>) -> Result<FloatRange, CodecError> {
-        Ok(FloatRange {
-            range: PgRange::decode(alloc, value)?,
-        })
+    fn range_array_type_info() -> PgTypeInfo {
+        PgTypeInfo::array_of("floatrange")
     }
 }

@@ -1,10 +1,11 @@
-//! A codec that refuses: a number from 0 to 100, and no other, is written and read.
+//! A codec that refuses: only a number from 0 to 100 is written, and read in [`percent_read`](crate::percent_read).
 
 ghost use Rattle.std.specs.Prelude.{◌≡◌, true, false, IsOk, IsErrOf};
-ghost use Rattle.pgv_examples.specs.Percents.{is_percent};
+ghost use Rattle.pgv.specs.Words.{plainly};
+ghost use Rattle.pgv_examples.specs.Percents.{is_percent, percent_image};
 
-use pgv::{CodecError, Encode, IsNull, PgArgumentBuffer, PgTypeInfo, PgValueRef, Plain, Type};
-use std::alloc::{AllocError, Global};
+use pgv::{CodecError, Encode, IsNull, PgArgumentBuffer, PgTypeInfo, Type};
+use std::alloc::AllocError;
 
 /// A share in percent, an `int4`.
 #[derive(Clone, Copy, Debug, PartialEq, Eq)]
@@ -15,7 +16,7 @@ pub struct Percent {
 
 impl Percent {
     /// Nothing where the number is from 0 to 100, and else C38(9).
-    fn check(self) -> Result<(), CodecError>
+    pub(crate) fn check(self) -> Result<(), CodecError>
         ensures ok { is_percent self.number ≡ true → IsOk result }
         ensures err { is_percent self.number ≡ false → IsErrOf result (CodecError.Caller 9) }
     {
@@ -40,12 +41,8 @@ impl Type for Percent {
     }
 }
 
-/// Written as its number. Another number than 0 to 100 is refused with C38(9), and the caller of the encoder goes back
-/// to its mark.
+/// Written as its number; another than 0 to 100 is refused with C38(9), and the encoder's caller goes back to its mark.
 impl Encode for Percent {
-    ghost use Rattle.pgv.specs.Words.{plainly};
-    ghost use Rattle.pgv_examples.specs.Percents.{percent_image};
-
     ghost encoding = { λ percent. plainly (percent_image percent.number) };
 
     fn encode_by_ref(&self, out: &mut PgArgumentBuffer) -> Result<IsNull, CodecError> {
@@ -60,34 +57,4 @@ impl Encode for Percent {
     fn produces(&self) -> Result<Option<PgTypeInfo>, AllocError> {
         Ok(None)
     }
-}
-
-/// Read as a number; another than 0 to 100 is refused with C38(9). What is written is in the range, and so it is read
-/// back.
-impl Plain for Percent {
-    ghost use Rattle.std.specs.Prelude.{ℤ, refl};
-    ghost use Rattle.pgv.specs.Words.{plainly, without_memory};
-    ghost use Rattle.pgv_examples.specs.Percents.{parse_percent, percent_back, percent_image};
-
-    ghost View = { ℤ };
-
-    ghost view = { λ percent. percent.number };
-
-    ghost parse = { without_memory parse_percent };
-
-    ghost null = { λ _ _. refl };
-
-    ghost written = { λ _ number. plainly (percent_image number) };
-
-    fn read(alloc: Global, value: PgValueRef<'_>) -> Result<Percent, CodecError> {
-        let percent = Percent {
-            number: i32::read(alloc, value)?,
-        };
-        percent.check()?;
-        Ok(percent)
-    }
-
-    ghost reads_back = { percent_back };
-
-    ghost agrees = { λ _. refl };
 }

@@ -6,6 +6,7 @@
 mod again;
 mod blocks;
 mod called;
+mod empty_object;
 mod fault;
 mod input;
 mod own;
@@ -16,6 +17,7 @@ mod values;
 pub use again::{Again, refused, same, told};
 pub use blocks::{Blocks, serve};
 pub use called::{Called, differing};
+pub use empty_object::EmptyObject;
 pub use fault::Fault;
 pub use own::{Huge, MoodText, Size, SizeRange, size_ranges, sizes};
 pub use tries::Tries;

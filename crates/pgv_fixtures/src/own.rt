@@ -6,8 +6,8 @@ use pgv::{
     CodecError, Decode, Encode, IsNull, Labelled, PgArgumentBuffer, PgEnum, PgHasArrayType, PgType,
     PgTypeInfo, PgValueRef, Type, encode_text,
 };
-use pgv_examples::empty_object::push_version;
 use pgv_examples::mood::Mood;
+use pgv_examples::slot::push_version;
 use std::alloc::{AllocError, Global};
 
 /// A number of a type that is known by its name alone. Zero is refused with C38(38), after a byte, a hole and a slot.
@@ -109,8 +109,8 @@ impl Decode for Size {
     }
 }
 
-/// A range of lists of sizes: a type of its own, since an array wants its elements' types and `PgRange` has them for
-/// those of PostgreSQL's own ranges alone.
+/// A range of lists of sizes: a type of its own, since an array wants its elements' types, `PgRange` has those that its
+/// bounds state, and lists are of another crate.
 #[derive(Drop)]
 pub struct SizeRange {
     /// The range.

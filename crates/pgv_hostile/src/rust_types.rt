@@ -9,12 +9,11 @@ use pgv::types::{
 };
 use pgv::{Oid, PgComposite, PgDomain, PgEnum, PgNewtype, PgRecord, PgTypeInfo, PgValueRef};
 use pgv_examples::email::Email;
-use pgv_examples::empty_object::EmptyObject;
 use pgv_examples::mood::Mood;
 use pgv_examples::page::Page;
 use pgv_examples::percent::Percent;
 use pgv_examples::user_id::UserId;
-use pgv_fixtures::SizeRange;
+use pgv_fixtures::{EmptyObject, SizeRange};
 use std::alloc::Global;
 use std::net::IpAddr;
 use uuid::Uuid;

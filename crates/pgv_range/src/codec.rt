@@ -15,7 +15,7 @@ ghost use Rattle.pgv_range.specs.RangeOf.{range_view};
 
 use crate::flags::{RangeFlags, RangeForm, Side};
 use crate::range::PgRange;
-use crate::types::element_of;
+use crate::types::{PgHasRangeType, element_of};
 use bitflags::Flags;
 use pgv_codec::{Codec, Decode, Encode, IsNull, PgArgumentBuffer, ReadBack, Type};
 use pgv_text::{Parts, TextForm};
@@ -295,10 +295,7 @@ impl<T: ReadBack + Type> ReadBack for PgRange<T> {
     ghost reads_back = { range_back T.info T.encoding T.parse T.view T.kept T.fits T.reads_back };
 }
 
-impl<T: Codec> Codec for PgRange<T>
-where
-    PgRange<T>: Type,
-{
+impl<T: Codec + PgHasRangeType> Codec for PgRange<T> {
     ghost use Rattle.pgv_range.specs.RangeSaying.{range_agrees};
 
     ghost agrees = { range_agrees T.encoding T.view (T.written T.info) T.agrees };

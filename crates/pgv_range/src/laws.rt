@@ -4,6 +4,7 @@
 ghost use Rattle.std.specs.Prelude.{◌≡◌, ◌↔◌, ℕ, false, List, Some, None};
 ghost use Rattle.std.specs.Range.{range_inclusive_start, range_inclusive_end};
 ghost use Rattle.std.specs.declared.ops.Bound.TheVariants.{Included, Excluded, Unbounded};
+ghost use Rattle.pgv_types.specs.Relations.{softly};
 ghost use Rattle.pgv_types.specs.Ty.{Ty};
 ghost use Rattle.pgv_types.specs.declared.oid.Oid.{Oid};
 ghost use Rattle.pgv_value.specs.Laws.{AreBytes};
@@ -13,7 +14,7 @@ ghost use Rattle.pgv_value.specs.declared.error.CodecError.TheVariants.{Unexpect
 ghost use Rattle.pgv_value.specs.declared.value.PgValueFormat.{PgValueFormat as Format};
 ghost use Rattle.pgv_value.specs.declared.value.PgValueFormat.TheVariants.{Binary};
 ghost use Rattle.pgv_nest.specs.NestText.{TextIs};
-ghost use Rattle.pgv_codec.specs.TypeRow.{ComesBack, IsReadAs, IsWrittenAs};
+ghost use Rattle.pgv_codec.specs.TypeRow.{ComesBack, HasArrayType, HasType, IsReadAs, IsWrittenAs};
 ghost use Rattle.pgv_range.specs.RangeBinary.{IsRange, IsRangeOver, OneRange};
 ghost use Rattle.pgv_range.specs.RangeFits.{BoundsFit, range_kept};
 ghost use Rattle.pgv_range.specs.RangeGrammar.{parse_range};
@@ -28,6 +29,7 @@ ghost use Rattle.pgv_range.specs.RangeView.{IsOfBounds};
 ghost use Rattle.pgv_range.specs.declared.range.PgRange.TheVariants.{Bounds, Empty};
 
 use crate::range::PgRange;
+use crate::types::PgHasRangeType;
 use jiff::Timestamp;
 use jiff::civil::{Date, DateTime};
 use pgv_codec::laws::{field_reads_back, read_back};
@@ -138,9 +140,7 @@ pub fn own_ranges_fit()
 
 /// A range that was written is read back as what it keeps, under each type that fits, and so are a list of ranges, a
 /// range of lists and a range that is a field of a record.
-pub fn ranges_read_back<T: ReadBack + Type + PgHasArrayType>()
-where
-    PgRange<T>: Type + PgHasArrayType,
+pub fn ranges_read_back<T: ReadBack + Type + PgHasArrayType + PgHasRangeType>()
     ensures range { ComesBack ⟦<PgRange<T> as Encode>⟧ ⟦<PgRange<T> as Decode>⟧
         ⟦<PgRange<T> as ReadBack>⟧.kept ⟦<PgRange<T> as ReadBack>⟧.fits }
     ensures ranges { ComesBack ⟦<Ranges<T> as Encode>⟧ ⟦<Ranges<T> as Decode>⟧
@@ -189,6 +189,13 @@ pub fn printed<T: fmt::Display>()
 /// Two ranges are equal iff both are empty, or their bounds are of the same kind and have equal values.
 pub fn equal_by_bounds<T: PartialEq>()
     ensures { (a : _) (b : _) → ⟦<PgRange<T> as PartialEq>⟧.eq a b ≡ range_eq T.eq a b }
+{}
+
+/// A range has the type that the type of its bounds states for it, and so have arrays of ranges.
+pub fn ranges_have_types<T: PgHasRangeType>()
+    ensures range { HasType ⟦<PgRange<T> as Type>⟧ T.range_info T.accepts_range }
+    ensures array { HasArrayType ⟦<PgRange<T> as PgHasArrayType>⟧ T.range_array_info
+        (λ t. softly t T.range_array_info) }
 {}
 
 /// A `PgRange<i32>` is an int4range (OID 3904). Its arrays are `int4range[]` (3905).

@@ -9,4 +9,4 @@ pub mod range;
 mod types;
 
 pub use range::PgRange;
-pub use types::range_compatible;
+pub use types::{PgHasRangeType, range_compatible};

@@ -1,10 +1,10 @@
 //! The types of ranges, and of their arrays (PostgreSQL, "Built-in Range and Multirange Types").
 
-ghost use Rattle.std.specs.Prelude.{◌≡◌};
+ghost use Rattle.std.specs.Prelude.{◌≡◌, Bool};
 ghost use Rattle.std.specs.Option.{option_map};
 ghost use Rattle.pgv_types.specs.Parts.{ref_type};
 ghost use Rattle.pgv_types.specs.Relations.{softly};
-ghost use Rattle.pgv_types.specs.Ty.{builtin};
+ghost use Rattle.pgv_types.specs.Ty.{Ty, builtin};
 ghost use Rattle.pgv_range.specs.RangeGrammar.{range_accepts, range_element};
 
 use crate::range::PgRange;
@@ -33,152 +33,168 @@ pub fn range_compatible<T: Type>(type_info: &PgTypeInfo) -> bool
     }
 }
 
-/// `int4range` (OID 3904), read under ranges over `int4` and domains over it.
-impl Type for PgRange<i32> {
-    ghost info = { builtin 3904 };
+/// A Rust type of which ranges are made. From this one impl a [`PgRange`] of it has [`Type`] and [`PgHasArrayType`].
+pub trait PgHasRangeType {
+    /// The type of such a range.
+    ghost range_info: { Ty };
 
-    ghost accepts = { range_accepts (λ t. softly t (builtin 23)) };
+    /// The types under which such ranges are read.
+    ghost accepts_range: { Ty → Bool };
 
+    /// The type of an array of such ranges.
+    ghost range_array_info: { Ty };
+
+    /// The type of such a range.
+    fn range_type_info() -> PgTypeInfo
+        ensures { result ≡ range_info };
+
+    /// Whether such ranges are read under this type.
+    fn range_compatible(type_info: &PgTypeInfo) -> bool
+        ensures { result ≡ accepts_range type_info.now };
+
+    /// The type of an array of such ranges.
+    fn range_array_type_info() -> PgTypeInfo
+        ensures { result ≡ range_array_info };
+}
+
+/// The type that the bounds state for their ranges.
+impl<T: PgHasRangeType> Type for PgRange<T> {
+    ghost info = { T.range_info };
+
+    ghost accepts = { T.accepts_range };
+
+    #[inline(always)]
     fn type_info() -> PgTypeInfo {
+        T::range_type_info()
+    }
+
+    #[inline(always)]
+    fn compatible(type_info: &PgTypeInfo) -> bool {
+        T::range_compatible(type_info)
+    }
+}
+
+/// The type that the bounds state for arrays of their ranges. They are read under it and domains over it.
+impl<T: PgHasRangeType> PgHasArrayType for PgRange<T> {
+    ghost array_info = { T.range_array_info };
+
+    ghost accepts_array = { λ t. softly t T.range_array_info };
+
+    fn array_type_info() -> PgTypeInfo {
+        T::range_array_type_info()
+    }
+
+    fn array_compatible(type_info: &PgTypeInfo) -> bool {
+        type_info.type_compatible(&Self::array_type_info())
+    }
+}
+
+/// `int4range` (OID 3904), read under ranges over `int4` and domains over it. An array of them is `int4range[]`
+/// (OID 3905).
+impl PgHasRangeType for i32 {
+    ghost range_info = { builtin 3904 };
+
+    ghost accepts_range = { range_accepts (λ t. softly t (builtin 23)) };
+
+    ghost range_array_info = { builtin 3905 };
+
+    fn range_type_info() -> PgTypeInfo {
         PgTypeInfo(PgType::Int4Range)
     }
 
-    fn compatible(type_info: &PgTypeInfo) -> bool {
+    fn range_compatible(type_info: &PgTypeInfo) -> bool {
         range_compatible::<i32>(type_info)
     }
-}
 
-/// An array of them is `int4range[]` (OID 3905).
-impl PgHasArrayType for PgRange<i32> {
-    ghost array_info = { builtin 3905 };
-
-    ghost accepts_array = { λ t. softly t (builtin 3905) };
-
-    fn array_type_info() -> PgTypeInfo {
+    fn range_array_type_info() -> PgTypeInfo {
         PgTypeInfo(PgType::Int4RangeArray)
     }
-
-    fn array_compatible(type_info: &PgTypeInfo) -> bool {
-        type_info.type_compatible(&Self::array_type_info())
-    }
 }
 
-/// `int8range` (OID 3926), read under ranges over `int8` and domains over it.
-impl Type for PgRange<i64> {
-    ghost info = { builtin 3926 };
+/// `int8range` (OID 3926), read under ranges over `int8` and domains over it. An array of them is `int8range[]`
+/// (OID 3927).
+impl PgHasRangeType for i64 {
+    ghost range_info = { builtin 3926 };
 
-    ghost accepts = { range_accepts (λ t. softly t (builtin 20)) };
+    ghost accepts_range = { range_accepts (λ t. softly t (builtin 20)) };
 
-    fn type_info() -> PgTypeInfo {
+    ghost range_array_info = { builtin 3927 };
+
+    fn range_type_info() -> PgTypeInfo {
         PgTypeInfo(PgType::Int8Range)
     }
 
-    fn compatible(type_info: &PgTypeInfo) -> bool {
+    fn range_compatible(type_info: &PgTypeInfo) -> bool {
         range_compatible::<i64>(type_info)
     }
-}
 
-/// An array of them is `int8range[]` (OID 3927).
-impl PgHasArrayType for PgRange<i64> {
-    ghost array_info = { builtin 3927 };
-
-    ghost accepts_array = { λ t. softly t (builtin 3927) };
-
-    fn array_type_info() -> PgTypeInfo {
+    fn range_array_type_info() -> PgTypeInfo {
         PgTypeInfo(PgType::Int8RangeArray)
     }
-
-    fn array_compatible(type_info: &PgTypeInfo) -> bool {
-        type_info.type_compatible(&Self::array_type_info())
-    }
 }
 
-/// `daterange` (OID 3912), read under ranges over `date` and domains over it.
-impl Type for PgRange<Date> {
-    ghost info = { builtin 3912 };
+/// `daterange` (OID 3912), read under ranges over `date` and domains over it. An array of them is `daterange[]`
+/// (OID 3913).
+impl PgHasRangeType for Date {
+    ghost range_info = { builtin 3912 };
 
-    ghost accepts = { range_accepts (λ t. softly t (builtin 1082)) };
+    ghost accepts_range = { range_accepts (λ t. softly t (builtin 1082)) };
 
-    fn type_info() -> PgTypeInfo {
+    ghost range_array_info = { builtin 3913 };
+
+    fn range_type_info() -> PgTypeInfo {
         PgTypeInfo(PgType::DateRange)
     }
 
-    fn compatible(type_info: &PgTypeInfo) -> bool {
+    fn range_compatible(type_info: &PgTypeInfo) -> bool {
         range_compatible::<Date>(type_info)
     }
-}
 
-/// An array of them is `daterange[]` (OID 3913).
-impl PgHasArrayType for PgRange<Date> {
-    ghost array_info = { builtin 3913 };
-
-    ghost accepts_array = { λ t. softly t (builtin 3913) };
-
-    fn array_type_info() -> PgTypeInfo {
+    fn range_array_type_info() -> PgTypeInfo {
         PgTypeInfo(PgType::DateRangeArray)
     }
-
-    fn array_compatible(type_info: &PgTypeInfo) -> bool {
-        type_info.type_compatible(&Self::array_type_info())
-    }
 }
 
-/// `tsrange` (OID 3908), read under ranges over `timestamp` and domains over it.
-impl Type for PgRange<DateTime> {
-    ghost info = { builtin 3908 };
+/// `tsrange` (OID 3908), read under ranges over `timestamp` and domains over it. An array of them is `tsrange[]`
+/// (OID 3909).
+impl PgHasRangeType for DateTime {
+    ghost range_info = { builtin 3908 };
 
-    ghost accepts = { range_accepts (λ t. softly t (builtin 1114)) };
+    ghost accepts_range = { range_accepts (λ t. softly t (builtin 1114)) };
 
-    fn type_info() -> PgTypeInfo {
+    ghost range_array_info = { builtin 3909 };
+
+    fn range_type_info() -> PgTypeInfo {
         PgTypeInfo(PgType::TsRange)
     }
 
-    fn compatible(type_info: &PgTypeInfo) -> bool {
+    fn range_compatible(type_info: &PgTypeInfo) -> bool {
         range_compatible::<DateTime>(type_info)
     }
-}
 
-/// An array of them is `tsrange[]` (OID 3909).
-impl PgHasArrayType for PgRange<DateTime> {
-    ghost array_info = { builtin 3909 };
-
-    ghost accepts_array = { λ t. softly t (builtin 3909) };
-
-    fn array_type_info() -> PgTypeInfo {
+    fn range_array_type_info() -> PgTypeInfo {
         PgTypeInfo(PgType::TsRangeArray)
     }
-
-    fn array_compatible(type_info: &PgTypeInfo) -> bool {
-        type_info.type_compatible(&Self::array_type_info())
-    }
 }
 
-/// `tstzrange` (OID 3910), read under ranges over `timestamptz` and domains over it.
-impl Type for PgRange<Timestamp> {
-    ghost info = { builtin 3910 };
+/// `tstzrange` (OID 3910), read under ranges over `timestamptz` and domains over it. An array of them is `tstzrange[]`
+/// (OID 3911).
+impl PgHasRangeType for Timestamp {
+    ghost range_info = { builtin 3910 };
 
-    ghost accepts = { range_accepts (λ t. softly t (builtin 1184)) };
+    ghost accepts_range = { range_accepts (λ t. softly t (builtin 1184)) };
 
-    fn type_info() -> PgTypeInfo {
+    ghost range_array_info = { builtin 3911 };
+
+    fn range_type_info() -> PgTypeInfo {
         PgTypeInfo(PgType::TstzRange)
     }
 
-    fn compatible(type_info: &PgTypeInfo) -> bool {
+    fn range_compatible(type_info: &PgTypeInfo) -> bool {
         range_compatible::<Timestamp>(type_info)
     }
-}
 
-/// An array of them is `tstzrange[]` (OID 3911).
-impl PgHasArrayType for PgRange<Timestamp> {
-    ghost array_info = { builtin 3911 };
-
-    ghost accepts_array = { λ t. softly t (builtin 3911) };
-
-    fn array_type_info() -> PgTypeInfo {
+    fn range_array_type_info() -> PgTypeInfo {
         PgTypeInfo(PgType::TstzRangeArray)
-    }
-
-    fn array_compatible(type_info: &PgTypeInfo) -> bool {
-        type_info.type_compatible(&Self::array_type_info())
     }
 }

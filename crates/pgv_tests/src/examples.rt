@@ -13,7 +13,6 @@ use pgv_examples::bind::{arguments_of_search, parameters_of_bind};
 use pgv_examples::copied::{columns, read_item, read_items};
 use pgv_examples::email::Email;
 use pgv_examples::errors::{Reason, name_in};
-use pgv_examples::float_range::FloatRange;
 use pgv_examples::float8::Float8;
 use pgv_examples::holes::fill;
 use pgv_examples::in_list::{add_all, push_in};
@@ -407,17 +406,18 @@ fn shipment_read(alloc: Global) -> Result<String, CodecError> {
 fn range_sent(alloc: Global) -> Result<PgArguments, CodecError> {
     let mut arguments = PgArguments::new(alloc);
     let range = PgRange::from(Float8(1)..Float8(2));
-    arguments.add(FloatRange { range })?;
+    arguments.add(range)?;
     Ok(arguments)
 }
 
-/// The bounds of the range in a frame.
+/// The bounds of the range in a frame, and the type that arrays of such ranges have.
 fn range_read(alloc: Global, frame: &[u8]) -> Result<String, CodecError> {
     let over = PgTypeKind::Range(PgTypeInfo(PgType::Float8));
     let column = PgTypeInfo::custom(alloc, Oid(16700), "floatrange", over)?;
     let value = PgValueRef::new(frame.get(4..), column, PgValueFormat::Binary);
-    let read = FloatRange::decode(alloc, value)?;
-    Ok(format!(in alloc; "{:?}", read.range)?)
+    let range = PgRange::<Float8>::decode(alloc, value)?;
+    let arrays = Vec::<PgRange<Float8>>::type_info();
+    Ok(format!(in alloc; "{range:?} in {}", arrays.name())?)
 }
 
 #[test]
@@ -437,7 +437,7 @@ fn types_of_ones_own(rt: HostRuntime) -> Result<(), CodecError> {
         "000000300000000200000019ffffffff000000000000001c00000002000000170000000400000001000000000000000401612e62",
         "None 1 a.b",
         "0000001902000000080000000000000001000000080000000000000002",
-        "Bounds { start: Included(Float8(1)), end: Excluded(Float8(2)) }",
+        "Bounds { start: Included(Float8(1)), end: Excluded(Float8(2)) } in floatrange[]",
     ];
     for (found, expected) in shown.iter().zip(expected) {
         assert_eq!(rt; found.as_str(), expected);

@@ -11,13 +11,13 @@ use pgv::{
     Oid, PgComposite, PgDomain, PgEnum, PgNewtype, PgRecord, PgTypeInfo, PgValueFormat, PgValueRef,
 };
 use pgv_examples::email::Email;
-use pgv_examples::empty_object::EmptyObject;
 use pgv_examples::mood::Mood;
 use pgv_examples::page::Page;
 use pgv_examples::percent::Percent;
 use pgv_examples::user_id::UserId;
 use pgv_fixtures::{
-    Again, Called, SizeRange, bytes_of, read_again as again, read_shown as debug, type_of,
+    Again, Called, EmptyObject, SizeRange, bytes_of, read_again as again, read_shown as debug,
+    type_of,
 };
 use std::alloc::Global;
 use std::net::IpAddr;

@@ -1,28 +1,10 @@
-//! A type with a slot: what is written depends on the type of the parameter.
-//!
-//! The values of `jsonb` begin with a version, and those of `json` don't. Which one a parameter is, the server says
-//! once the statement is known; a slot holds the bytes for each case, and `apply_patches` fills it.
-
-ghost use Rattle.std.specs.Prelude.{◌≡◌, ◌++◌, [], ◌∷◌, OnOk, IfErr};
-ghost use Rattle.pgv.specs.Words.{builtin, blank, slot};
+//! Empty objects of `json` and `jsonb`: a type with a slot, whose bytes depend on the type of the parameter.
 
 use pgv::{
     CodecError, Encode, IsNull, PgArgumentBuffer, PgType, PgTypeInfo, PgValueRef, Plain, Type,
 };
+use pgv_examples::slot::push_version;
 use std::alloc::{AllocError, Global};
-
-/// Appends a slot: a version where the parameter is `jsonb`, and else a space. A refusal leaves the buffer.
-pub fn push_version(alloc: Global, out: &mut PgArgumentBuffer) -> Result<(), CodecError>
-    ensures ok { OnOk result (out.new ≡ out.old
-        ++ blank (slot (32 ∷ []) ((builtin 3802, 1 ∷ []) ∷ []) ∷ [])) }
-    ensures err { IfErr result (λ e. (e ≡ CodecError.Memory) × (out.new ≡ out.old)) }
-{
-    let mut version = Vec::new(alloc);
-    version.push(1)?;
-    let mut cases = Vec::new(alloc);
-    cases.push((PgTypeInfo(PgType::Jsonb), version))?;
-    out.push_slot(b" ", cases)
-}
 
 /// An empty object, of `json` or of `jsonb`.
 #[derive(Drop)]
@@ -50,7 +32,7 @@ impl Type for EmptyObject {
 impl Encode for EmptyObject {
     ghost use Rattle.std.specs.Prelude.{Some};
     ghost use Rattle.pgv.specs.Words.{image_of, plainly, writes};
-    ghost use Rattle.pgv_examples.specs.Objects.{object_image};
+    ghost use Rattle.pgv_fixtures.specs.Objects.{object_image};
 
     ghost encoding = { λ _. plainly (writes (Some (image_of object_image))) };
 
@@ -74,7 +56,7 @@ impl Encode for EmptyObject {
 impl Plain for EmptyObject {
     ghost use Rattle.std.specs.Prelude.{⊤, Some, refl};
     ghost use Rattle.pgv.specs.Words.{image_of, plainly, without_memory, writes};
-    ghost use Rattle.pgv_examples.specs.Objects.{object_back, object_image, parse_object};
+    ghost use Rattle.pgv_fixtures.specs.Objects.{object_back, object_image, parse_object};
 
     ghost View = { ⊤ };
 
