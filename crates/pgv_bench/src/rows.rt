@@ -79,12 +79,13 @@ fn passed_once(
     body: &[u8],
 ) -> Result<usize, CodecError> {
     match reader.read(alloc, body) {
-        Ok((id, name, total, open, born)) => Ok(id
-            .seen()
-            .wrapping_add(name.seen())
-            .wrapping_add(total.seen())
-            .wrapping_add(open.seen())
-            .wrapping_add(born.seen())),
+        Ok((id, name, total, open, born)) => Ok(
+            id.seen()
+                .wrapping_add(name.seen())
+                .wrapping_add(total.seen())
+                .wrapping_add(open.seen())
+                .wrapping_add(born.seen()),
+        ),
         Err(error) => Err(CodecError::from(error)),
     }
 }
