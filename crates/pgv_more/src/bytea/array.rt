@@ -117,6 +117,11 @@ impl<const N: usize> Plain for PgByteaArray<N> {
         }
     }
 
+    #[inline(always)]
+    fn width() -> usize {
+        0
+    }
+
     ghost reads_back = { sized_back N };
 
     ghost agrees = { λ _. refl };
