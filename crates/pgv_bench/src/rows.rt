@@ -5,7 +5,7 @@ use crate::seen::Seen;
 use jiff::civil::Date;
 use pgv_codec::{Decode, Type};
 use pgv_message::{MessageError, write_bind};
-use pgv_row::{PgColumns, PgPlaces, PgRow, PgRowReader};
+use pgv_row::{FromRow, PgColumns, PgPlaces, PgRow, PgRowReader};
 use pgv_types::PgTypeInfo;
 use pgv_value::{CodecError, PgValueFormat, PgValueRef};
 use pgv_wire::PgArguments;
@@ -73,27 +73,21 @@ fn rows_once(
 type Fields = (i32, String, i64, bool, Date);
 
 /// What is seen of the row of a body, which is read in one pass.
-fn passed_once(
+fn passed_once<T: FromRow + Seen>(
     alloc: Global,
-    reader: &PgRowReader<'_, Fields>,
+    reader: &PgRowReader<'_, T>,
     body: &[u8],
 ) -> Result<usize, CodecError> {
     match reader.read(alloc, body) {
-        Ok((id, name, total, open, born)) => Ok(
-            id.seen()
-                .wrapping_add(name.seen())
-                .wrapping_add(total.seen())
-                .wrapping_add(open.seen())
-                .wrapping_add(born.seen()),
-        ),
+        Ok(fields) => Ok(fields.seen()),
         Err(error) => Err(CodecError::from(error)),
     }
 }
 
 /// What is seen of all rows, each read in one pass.
-fn passes_once(
+fn passes_once<T: FromRow + Seen>(
     alloc: Global,
-    reader: &PgRowReader<'_, Fields>,
+    reader: &PgRowReader<'_, T>,
     bodies: &[u8],
     lens: &[u32],
 ) -> Result<usize, CodecError> {
@@ -108,14 +102,14 @@ fn passes_once(
 }
 
 /// Reads all rows `rounds` times, each in one pass.
-fn read_in_one_pass(
+fn read_in_one_pass<T: FromRow + Seen>(
     alloc: Global,
     columns: &PgColumns<'_>,
     bodies: &[u8],
     lens: &[u32],
     rounds: u32,
 ) -> Result<usize, CodecError> {
-    let reader = match columns.reader::<Fields>() {
+    let reader = match columns.reader::<T>() {
         Ok(reader) => reader,
         Err(error) => return Err(CodecError::from(error)),
     };
@@ -168,7 +162,7 @@ pub fn read_rows(
     let none: &[PgTypeInfo] = &[];
     let columns = PgColumns::read(alloc, DESCRIPTION, &none)?;
     if how == 2 {
-        return read_in_one_pass(alloc, &columns, bodies, lens, rounds);
+        return read_in_one_pass::<Fields>(alloc, &columns, bodies, lens, rounds);
     }
     let mut room = PgPlaces::with_columns(alloc, &columns)?;
     let mut sum = 0usize;

@@ -49,6 +49,15 @@ impl Seen for String {
     }
 }
 
+/// The sum of what is seen of the fields.
+impl<A: Seen, B: Seen, C: Seen, D: Seen, E: Seen> Seen for (A, B, C, D, E) {
+    fn seen(&self) -> usize {
+        let (a, b, c, d, e) = self;
+        let front = a.seen().wrapping_add(b.seen()).wrapping_add(c.seen());
+        front.wrapping_add(d.seen()).wrapping_add(e.seen())
+    }
+}
+
 impl<T: Seen> Seen for Option<T> {
     fn seen(&self) -> usize {
         match self {
