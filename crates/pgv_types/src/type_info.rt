@@ -19,9 +19,16 @@ use std::rc::{Rc, RcStr};
 ///
 /// A clause sees it as a tree: a built-in type by its OID, a custom one by its OID, name and kind,
 /// and one that is declared by its name, OID or element's name.
-#[derive(Drop)]
 #[cycle(types)]
 pub struct PgTypeInfo(pub PgType);
+
+impl Drop for PgTypeInfo {
+    #[cycle(drops)]
+    #[inline(always)]
+    fn drop(self) {
+        let PgTypeInfo(_) = self;
+    }
+}
 
 impl Model for PgTypeInfo {
     ghost use Rattle.pgv_types.specs.Ty.{Ty, ty_code};
