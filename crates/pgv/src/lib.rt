@@ -1,5 +1,5 @@
-//! PostgreSQL's value codec, as `sqlx-postgres` has it, proved: one crate to depend on. It holds no code; each name is
-//! re-exported from the crate that has it.
+//! PostgreSQL's value codec, as `sqlx-postgres` has it, proved: one crate to depend on. It holds no code but laws; each
+//! other name is re-exported from the crate that has it.
 //!
 //! - At the top what a binder and a reader of rows need: [`PgArguments`], [`PgValueRef`], types and the traits, and
 //!   user-defined types by little code: [`Labelled`], [`Composite`], [`Newtype`], [`Domain`].
@@ -9,6 +9,8 @@
 //!   types of a server that are not built in: what a driver stands on.
 //! - [`laws`]: what is proved of all of it, each law the contract of a function that does nothing.
 #![tactic(auto)]
+
+pub mod laws;
 
 pub use pgv_buf::{Mark, Tokens};
 pub use pgv_codec::{
@@ -77,27 +79,6 @@ pub mod catalog {
         CatalogError, FIELDS, LABELS, PgCatalogRows, PgFieldRow, PgLabelRow, PgNames,
         PgServerTypes, PgTypeClass, PgTypeRow, TYPES, fill,
     };
-}
-
-/// What is proved, by crate.
-pub mod laws {
-    pub use pgv_codec::laws as codec;
-    pub use pgv_copy::laws as copy;
-    pub use pgv_hstore::laws as hstore;
-    pub use pgv_laws::{dates, intervals, networks, rows, texts};
-    pub use pgv_lquery::laws as lquery;
-    pub use pgv_ltree::laws as ltree;
-    pub use pgv_message::laws as message;
-    pub use pgv_more::laws as more;
-    pub use pgv_nest::laws as nest;
-    pub use pgv_numeric::laws as numeric;
-    pub use pgv_range::laws as range;
-    pub use pgv_row::laws as row;
-    pub use pgv_text::laws as text;
-    pub use pgv_types::laws as types;
-    pub use pgv_user_types::laws as user_types;
-    pub use pgv_value::laws as value;
-    pub use pgv_wire::laws as wire;
 }
 
 pub use pgv_types::{identifier_chars, name_eq};

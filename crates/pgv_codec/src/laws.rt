@@ -231,7 +231,7 @@ pub fn written_as_read<T: Codec>(value: &T)
 
 /// `()` is a void (OID 2278), read under void and record from any bytes and from null, without a request for memory.
 ///
-/// It is never written. The laws of `pgv_laws` say what each other type is.
+/// It is never written. The laws of `pgv` say what each other type is.
 pub fn unit_is_a_void()
     ensures types { ⟦<() as Type>⟧.info ≡ builtin 2278 }
     ensures accepts { (t : Ty) → ⟦<() as Type>⟧.accepts t ≡ is_void_or_record t }

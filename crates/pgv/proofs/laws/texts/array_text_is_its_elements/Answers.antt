@@ -1,5 +1,5 @@
 use Rattle.pgv_nest.proofs.TextGrammars.{array_text, sized_text}
-use Rattle.pgv_laws.proofs.texts.array_text_is_its_elements.Goals as goal
+use Rattle.pgv.proofs.laws.texts.array_text_is_its_elements.Goals as goal
 
 pub returns : goal.returns
 returns g c = record {

@@ -1,5 +1,5 @@
 use Rattle.pgv_nest.proofs.TextGrammars.{record_text}
-use Rattle.pgv_laws.proofs.texts.tuple_text_is_its_fields.Goals as goal
+use Rattle.pgv.proofs.laws.texts.tuple_text_is_its_fields.Goals as goal
 
 pub returns : goal.returns
 returns g c = record_text c.record_is_its_values.ensures _ _ g.met.Fields.FieldList.found_in_text

@@ -1,0 +1,24 @@
+//! What is proved, each law the contract of a function that does nothing: of the types of values, and by crate.
+
+pub mod dates;
+pub mod intervals;
+pub mod networks;
+pub mod rows;
+pub mod texts;
+
+pub use pgv_codec::laws as codec;
+pub use pgv_copy::laws as copy;
+pub use pgv_hstore::laws as hstore;
+pub use pgv_lquery::laws as lquery;
+pub use pgv_ltree::laws as ltree;
+pub use pgv_message::laws as message;
+pub use pgv_more::laws as more;
+pub use pgv_nest::laws as nest;
+pub use pgv_numeric::laws as numeric;
+pub use pgv_range::laws as range;
+pub use pgv_row::laws as row;
+pub use pgv_text::laws as text;
+pub use pgv_types::laws as types;
+pub use pgv_user_types::laws as user_types;
+pub use pgv_value::laws as value;
+pub use pgv_wire::laws as wire;
