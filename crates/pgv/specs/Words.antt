@@ -36,7 +36,7 @@ pub use Rattle.pgv_value.specs.ValueView.{Given, given}
 pub use Rattle.pgv_value.specs.Parsed.{Parsed, ◌>>=◌, GivesExactly}
 pub use Rattle.pgv_value.specs.Outcome.{Outcome, Gives, Reads, without_memory, copied, ok_of}
 -- What the elements of an array are read as, and of an array of n: in text under the elements' own type.
-pub use Rattle.pgv_nest.specs.ArrayGrammar.{parse_array, parse_sized}
+pub use Rattle.pgv_codec.specs.ArrayGrammar.{parse_array, parse_sized}
 -- `scalar` and `binary_alone` make a grammar of one for each format, or for binary; `in_both_formats` and
 -- `in_binary_alone` do so where memory may be asked for. `utf8_part` is a text in either format.
 pub use Rattle.pgv_value.specs.ScalarGrammar.{scalar, binary_alone}

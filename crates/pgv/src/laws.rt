@@ -13,7 +13,7 @@ pub use pgv_lquery::laws as lquery;
 pub use pgv_ltree::laws as ltree;
 pub use pgv_message::laws as message;
 pub use pgv_more::laws as more;
-pub use pgv_nest::laws as nest;
+pub use pgv_codec::nest::laws as nest;
 pub use pgv_numeric::laws as numeric;
 pub use pgv_range::laws as range;
 pub use pgv_row::laws as row;

@@ -12,7 +12,7 @@ use Rattle.pgv_value.specs.declared.error.CodecError.{CodecError}
 use Rattle.pgv_value.specs.declared.error.CodecError.TheVariants.{Short}
 use Rattle.pgv_value.specs.FrameBinary.{front, front_length}
 use Rattle.pgv_value.specs.declared.value.PgValueFormat.TheVariants.{Binary}
-use Rattle.pgv_nest.specs.ArrayGrammar.{elements, frames}
+use Rattle.pgv_codec.specs.ArrayGrammar.{elements, frames}
 use Rattle.pgv_codec.specs.AtOnce.{AreFirst, IsBinaryOf, IsInFront, with_front}
 
 module _ {M : Type 0} where

@@ -6,3 +6,9 @@ pub mod FrameLoop
 pub mod PartLoop
 pub mod PlainFits
 pub mod Outcomes
+pub mod Domains
+pub mod CompositeFields
+mod ArrayGrammars
+pub mod RecordGrammars
+pub mod FewElements
+pub mod TextGrammars

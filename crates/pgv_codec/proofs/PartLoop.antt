@@ -18,9 +18,9 @@ use Rattle.pgv_value.specs.declared.error.CodecError.{CodecError}
 use Rattle.pgv_value.specs.declared.error.CodecError.TheVariants.{Syntax}
 use Rattle.pgv_value.specs.declared.value.PgValueFormat.TheVariants.{Text}
 use Rattle.pgv_codec.proofs.Outcomes.{fails_here, fails_then}
-use Rattle.pgv_nest.specs.ArrayGrammar.{array_in_text, each}
-use Rattle.pgv_nest.specs.RecordGrammar.{Left, text_fields}
-use Rattle.pgv_nest.specs.RecordGrammar.{next_field}
+use Rattle.pgv_codec.specs.ArrayGrammar.{array_in_text, each}
+use Rattle.pgv_codec.specs.RecordGrammar.{Left, text_fields}
+use Rattle.pgv_codec.specs.RecordGrammar.{next_field}
 use Rattle.pgv_codec.proofs.FrameLoop.{regroup}
 use Rattle.pgv_codec.specs.AtOnce.{with_front}
 

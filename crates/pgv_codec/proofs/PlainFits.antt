@@ -4,9 +4,9 @@ use Rattle.std.proofs.lemmas.Option.{same_Some}
 use Rattle.pgv_types.specs.Ty.{Ty}
 use Rattle.pgv_types.specs.Facts.{built_in, oid_of, element_of}
 use Rattle.pgv_types.specs.declared.oid.Oid.{Oid}
-use Rattle.pgv_nest.specs.ArrayGrammar.{element_type}
+use Rattle.pgv_codec.specs.ArrayGrammar.{element_type}
 use Rattle.pgv_codec.specs.Back.{ArrayFits, FieldFits, written_oid}
-use Rattle.pgv_nest.specs.NestBinary.{HasFieldType, of_record, of_composite, of_domain}
+use Rattle.pgv_codec.specs.NestBinary.{HasFieldType, of_record, of_composite, of_domain}
 use Rattle.pgv_codec.specs.Encoding.{Encoding, value_type, element_type as written_type}
 use Rattle.pgv_codec.specs.Plain.{ArrayIsPlain, HasField, in_composite, in_domain, in_record, FieldIsPlain}
 

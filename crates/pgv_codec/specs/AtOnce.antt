@@ -5,7 +5,7 @@
 use Rattle.std.specs.Prelude.{◌≡◌, ℕ, ◌+◌, ◌-◌, ◌≤◌, List, ◌++◌, length, map, take, drop, Some, Result, Ok, Err, Option}
 use Rattle.pgv_types.specs.Ty.{Ty}
 use Rattle.pgv_buf.specs.Tokens.{Cell, be4}
-use Rattle.pgv_nest.specs.ArrayGrammar.{frames}
+use Rattle.pgv_codec.specs.ArrayGrammar.{frames}
 use Rattle.pgv_value.specs.Fronts.{value_front}
 use Rattle.pgv_value.specs.Outcome.{Outcome}
 use Rattle.pgv_value.specs.ValueView.{Given, given}

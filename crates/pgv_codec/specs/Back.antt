@@ -20,11 +20,11 @@ use Rattle.pgv_value.specs.Reading.{Reading}
 use Rattle.pgv_value.specs.ValueView.{Given, given}
 use Rattle.pgv_value.specs.declared.value.PgValueFormat.TheVariants.{Binary}
 use Rattle.pgv_codec.specs.Writing.{write}
-use Rattle.pgv_nest.specs.ArrayGrammar.{element_type}
-use Rattle.pgv_nest.specs.NestBinary.{HasFieldType}
+use Rattle.pgv_codec.specs.ArrayGrammar.{element_type}
+use Rattle.pgv_codec.specs.NestBinary.{HasFieldType}
 use Rattle.pgv_codec.specs.Encoding.{Encoding, Image, null_image, image_of, value_type, writes, field, fields_from, record_image, element_type as written_type}
 use Rattle.pgv_codec.specs.Writing.{image_holes, written_part}
-use Rattle.pgv_nest.specs.RecordGrammar.{Left, binary_fields, next_field, fields_of}
+use Rattle.pgv_codec.specs.RecordGrammar.{Left, binary_fields, next_field, fields_of}
 
 -- OIDs are numbers of 32 bits
 abbrev pub AreOids : List Oid → Type 0

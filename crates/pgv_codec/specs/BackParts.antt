@@ -20,7 +20,7 @@ use Rattle.pgv_value.specs.declared.error.CodecError.TheVariants.{ValueSize}
 use Rattle.pgv_value.specs.declared.value.PgValueFormat.TheVariants.{Binary}
 use Rattle.pgv_codec.specs.Writing.{write, chosen_for, image_holes}
 use Rattle.pgv_codec.specs.Back.{AreOids, SlotsFit, ReadsBack, FitEach, holes_in, holes_of, written_oid, oids_after}
-use Rattle.pgv_nest.specs.NestBinary.{BeginWithFrames}
+use Rattle.pgv_codec.specs.NestBinary.{BeginWithFrames}
 use Rattle.pgv_codec.specs.Encoding.{Encoding, Image, null_image, image_of, limit, frame, frame_of, frames, typed_oid}
 
 -- ---- writing

@@ -14,13 +14,13 @@ use Rattle.pgv_value.specs.declared.value.PgValueFormat.TheVariants.{Binary}
 use Rattle.pgv_codec.specs.Writing.{write}
 use Rattle.pgv_codec.specs.Back.{AreOids, SlotsFit, ImageFits, ReadsBack, holes_in, holes_of, holes_among, written_oid, oids_after, FieldFits, Followed, FieldReadsBack, FieldsBack, RecordReadsBack, RecordFieldsFollow}
 use Rattle.pgv_codec.specs.BackParts.{type_written, oids_left, frame_parts, image_parts, tokens_holes-append, SlotsFit-front, SlotsFit-back, AreOids-drop, AreOids-after, frame_back}
-use Rattle.pgv_nest.specs.Found.{next_there}
+use Rattle.pgv_codec.specs.Found.{next_there}
 use Rattle.pgv_value.proofs.Numbers.{number_of_four}
-use Rattle.pgv_nest.specs.NestBinary.{IsField}
+use Rattle.pgv_codec.specs.NestBinary.{IsField}
 use Rattle.pgv_value.specs.FrameBinary.{IsFrame}
 use Rattle.pgv_codec.specs.Encoding.{Encoding, Image, null_image, image_of, frame, frame_of, typed, value_type, field, counted_field, fields_from, record_image}
 use Rattle.pgv_codec.specs.Writing.{image_holes, written_part}
-use Rattle.pgv_nest.specs.RecordGrammar.{Left, binary_fields, next_field, fields_of, parse_record, ◌then◌}
+use Rattle.pgv_codec.specs.RecordGrammar.{Left, binary_fields, next_field, fields_of, parse_record, ◌then◌}
 
 -- ---- the tokens of a record
 

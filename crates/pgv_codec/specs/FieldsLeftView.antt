@@ -3,7 +3,7 @@ use Rattle.std.specs.Prelude.{◌+◌, ◌<◌, ◌^◌, length, ⊤}
 use Rattle.pgv_text.specs.PartsView.{copies, nest}
 use Rattle.pgv_codec.specs.declared.types.record.FieldsLeft.{FieldsLeft}
 use Rattle.pgv_codec.specs.declared.types.record.FieldsLeft.TheVariants.{Binary, Text}
-use Rattle.pgv_nest.specs.RecordGrammar.{Left, binary_fields, text_fields}
+use Rattle.pgv_codec.specs.RecordGrammar.{Left, binary_fields, text_fields}
 
 abbrev pub left_of : FieldsLeft → Left
 left_of (Binary fields) = binary_fields fields.type_info fields.place fields.rest.now

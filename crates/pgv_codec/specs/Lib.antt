@@ -28,3 +28,9 @@ pub mod PlainBytes
 pub mod NetworkBinary
 pub mod NetworkBack
 pub mod TimeOfDay
+pub mod ArrayGrammar
+pub mod HeadsView
+pub mod RecordGrammar
+pub mod NestBinary
+pub mod Found
+pub mod NestText

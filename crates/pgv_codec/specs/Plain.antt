@@ -9,7 +9,7 @@ use Rattle.pgv_types.specs.Facts.{built_in, oid_of, element_of}
 use Rattle.pgv_types.specs.declared.oid.Oid.{Oid}
 use Rattle.pgv_codec.specs.Back.{FitEach, holes_of, written_oid, oids_after}
 use Rattle.pgv_codec.specs.Encoding.{Encoding, value_type, element_type as written_type}
-use Rattle.pgv_nest.specs.RecordGrammar.{field_at}
+use Rattle.pgv_codec.specs.RecordGrammar.{field_at}
 
 -- a type's own OID, which no other type has as a built-in
 abbrev pub IsOwnOid : Ty → ℕ → Type 0

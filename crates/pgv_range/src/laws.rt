@@ -13,7 +13,7 @@ ghost use Rattle.pgv_value.specs.ValueView.{Given, given};
 ghost use Rattle.pgv_value.specs.declared.error.CodecError.TheVariants.{UnexpectedNull};
 ghost use Rattle.pgv_value.specs.declared.value.PgValueFormat.{PgValueFormat as Format};
 ghost use Rattle.pgv_value.specs.declared.value.PgValueFormat.TheVariants.{Binary};
-ghost use Rattle.pgv_nest.specs.NestText.{TextIs};
+ghost use Rattle.pgv_codec.specs.NestText.{TextIs};
 ghost use Rattle.pgv_codec.specs.TypeRow.{ComesBack, HasArrayType, HasType, IsReadAs, IsWrittenAs};
 ghost use Rattle.pgv_range.specs.RangeBinary.{IsRange, IsRangeOver, OneRange};
 ghost use Rattle.pgv_range.specs.RangeFits.{BoundsFit, range_kept};

@@ -14,7 +14,7 @@ use Rattle.pgv_value.specs.ValueView.{Given}
 use Rattle.pgv_value.specs.declared.error.CodecError.{CodecError}
 use Rattle.pgv_value.specs.declared.value.PgValueFormat.{PgValueFormat}
 use Rattle.pgv_wire.specs.Arguments.{Framed}
-use Rattle.pgv_nest.specs.ArrayGrammar.{parse_array}
+use Rattle.pgv_codec.specs.ArrayGrammar.{parse_array}
 use Rattle.pgv_codec.specs.Encoding.{Encoding, Image, array_image, frame, option_encoding, plainly, value_type, with_hint, writes}
 use Rattle.pgv_codec.specs.DateTimeBinary.{date_image, time_image, moment_image}
 use Rattle.pgv_codec.specs.Intervals.{interval_image}

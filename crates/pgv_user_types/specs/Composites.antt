@@ -6,7 +6,7 @@ use Rattle.pgv_types.specs.declared.oid.Oid.{Oid}
 use Rattle.pgv_buf.specs.Tokens.{Token}
 use Rattle.pgv_value.specs.Outcome.{Outcome, ok_of, reading_of}
 use Rattle.pgv_value.specs.declared.error.CodecError.{CodecError}
-use Rattle.pgv_nest.specs.RecordGrammar.{Left, parse_record}
+use Rattle.pgv_codec.specs.RecordGrammar.{Left, parse_record}
 use Rattle.pgv_codec.specs.Back.{FieldsBack, ReadsBack}
 use Rattle.pgv_codec.specs.BackRecords.{record_back}
 use Rattle.pgv_codec.specs.Encoding.{plainly, record_image}

@@ -112,7 +112,7 @@ impl<T: Composite> Encode for PgComposite<T> {
 impl<T: Composite> Decode for PgComposite<T> {
     ghost use Rattle.std.specs.Prelude.{refl};
     ghost use Rattle.pgv_codec.specs.Encoding.{plainly, record_image};
-    ghost use Rattle.pgv_nest.specs.RecordGrammar.{parse_record};
+    ghost use Rattle.pgv_codec.specs.RecordGrammar.{parse_record};
 
     ghost View = { T.Fields.View };
 

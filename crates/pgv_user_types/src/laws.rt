@@ -6,7 +6,7 @@ ghost use Rattle.pgv_types.specs.Relations.{softly};
 ghost use Rattle.pgv_types.specs.Ty.{Ty, array_of, builtin, named};
 ghost use Rattle.pgv_types.specs.declared.oid.Oid.{Oid};
 ghost use Rattle.pgv_value.specs.Outcome.{without_memory};
-ghost use Rattle.pgv_nest.specs.RecordGrammar.{parse_record};
+ghost use Rattle.pgv_codec.specs.RecordGrammar.{parse_record};
 ghost use Rattle.pgv_codec.specs.Back.{Followed};
 ghost use Rattle.pgv_codec.specs.Plain.{FieldIsPlain};
 ghost use Rattle.pgv_codec.specs.Encoding.{field, plainly, record_image};

@@ -73,7 +73,7 @@ impl<Fields: WrittenList> Encode for PgRecord<Fields> {
 impl<Fields: FieldList> Decode for PgRecord<Fields> {
     ghost use Rattle.std.specs.Prelude.{refl};
     ghost use Rattle.pgv_codec.specs.Encoding.{plainly, record_image};
-    ghost use Rattle.pgv_nest.specs.RecordGrammar.{parse_record};
+    ghost use Rattle.pgv_codec.specs.RecordGrammar.{parse_record};
 
     ghost View = { Fields.View };
 

@@ -1,5 +1,5 @@
 //! Laws of what buffers and arguments hold, and of what is read back from them: each is the contract of a function that
-//! does nothing. The laws of codecs are in `pgv_codec`, those of arrays and records in binary in `pgv_nest`.
+//! does nothing. The laws of codecs are in `pgv_codec`, those of arrays and records in binary in its module `nest`.
 
 ghost use Rattle.std.specs.Prelude.{◌≡◌, ℕ, List, [], length, Ok};
 ghost use Rattle.pgv_types.specs.Ty.{Ty};

@@ -1,7 +1,7 @@
 //! Laws of what lists, arrays and tuples in text are: each is the contract of a function that does nothing.
 
-ghost use Rattle.pgv_nest.specs.NestText.{IsArrayInText, IsRecordInText, IsSizedInText, TextIs};
-ghost use Rattle.pgv_nest.specs.RecordGrammar.{parse_record};
+ghost use Rattle.pgv_codec.specs.NestText.{IsArrayInText, IsRecordInText, IsSizedInText, TextIs};
+ghost use Rattle.pgv_codec.specs.RecordGrammar.{parse_record};
 
 use pgv_codec::{Decode, FieldList, Type};
 use pgv_text::laws::{array_is_its_values, record_is_its_values};

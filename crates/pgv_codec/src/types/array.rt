@@ -8,7 +8,7 @@ ghost use Rattle.pgv_value.specs.Outcome.{Gives, after};
 ghost use Rattle.pgv_value.specs.Reading.{has_items};
 ghost use Rattle.pgv_value.specs.declared.error.CodecError.TheVariants.{Memory};
 ghost use Rattle.pgv_value.specs.declared.value.PgValueFormat.TheVariants.{Binary};
-ghost use Rattle.pgv_nest.specs.ArrayGrammar.{array_in_binary, array_in_text, elements, frames, parse_array, parse_sized};
+ghost use Rattle.pgv_codec.specs.ArrayGrammar.{array_in_binary, array_in_text, elements, frames, parse_array, parse_sized};
 ghost use Rattle.pgv_codec.specs.Encoding.{array_image, element_type, frames as frames_of, header, is_copied, plainly, sized_image, value_type};
 ghost use Rattle.pgv_codec.specs.Appending.{Appended, Appends, Encodes, Extends};
 ghost use Rattle.pgv_codec.specs.AtOnce.{AreFirst, IsInFront};
@@ -19,7 +19,7 @@ ghost use Rattle.pgv_codec.specs.BackNests.{vec_back, sized_back};
 use super::part::read_part;
 use crate::buffer::{IsNull, LENGTH_LIMIT, PgArgumentBuffer};
 use crate::traits::{Codec, Decode, Encode, PgHasArrayType, ReadBack, Type};
-use pgv_nest::array_head_of;
+use crate::nest::array_head_of;
 use pgv_text::{Elements, Next, Parts, TextForm};
 use pgv_types::PgTypeInfo;
 use pgv_value::{CodecError, PgValueFormat, PgValueRef};
@@ -253,7 +253,7 @@ impl<T: Codec + PgHasArrayType, const N: usize> Codec for [T; N] {
 }
 
 /// An array in binary.
-#[tactic(auto, unfolding(pgv_nest::specs::ArrayGrammar::array_in_binary))]
+#[tactic(auto, unfolding(crate::nest::specs::ArrayGrammar::array_in_binary))]
 fn read_array<T: Decode>(
     alloc: Global,
     type_info: &PgTypeInfo,
@@ -270,7 +270,7 @@ fn read_array<T: Decode>(
 }
 
 /// As many frames as the head says. Without one, or without the length of one, no memory is asked for.
-#[tactic(auto, unfolding(pgv_nest::specs::ArrayGrammar::elements, pgv_nest::specs::ArrayGrammar::frames, pgv_value::specs::FrameBinary::front))]
+#[tactic(auto, unfolding(crate::nest::specs::ArrayGrammar::elements, crate::nest::specs::ArrayGrammar::frames, pgv_value::specs::FrameBinary::front))]
 fn read_frames<T: Decode>(
     alloc: Global,
     element: &PgTypeInfo,
@@ -387,7 +387,7 @@ fn length_in_front(bytes: &[u8]) -> usize
 
 /// An array in text. An invalid text (C29) comes before the refusal of a part, or out of memory. A text without
 /// elements asks for no memory.
-#[tactic(auto, unfolding(pgv_nest::specs::ArrayGrammar::array_in_text, pgv_nest::specs::ArrayGrammar::each))]
+#[tactic(auto, unfolding(crate::nest::specs::ArrayGrammar::array_in_text, crate::nest::specs::ArrayGrammar::each))]
 fn read_text<T: Decode + Type>(alloc: Global, text: &str) -> Result<Vec<T>, CodecError>
     ensures { Gives (λ v. map T.view v.items) (array_in_text T.parse T.info text.now) result }
 {

@@ -9,7 +9,7 @@ ghost use Rattle.pgv_text.specs.declared.scanner.TextForm.TheVariants.{Record};
 ghost use Rattle.pgv_value.specs.Outcome.{Gives};
 ghost use Rattle.pgv_value.specs.Parsed.{GivesOr};
 ghost use Rattle.pgv_value.specs.declared.error.CodecError.TheVariants.{Syntax, Memory};
-ghost use Rattle.pgv_nest.specs.RecordGrammar.{field_in_binary, fields_of, next_field};
+ghost use Rattle.pgv_codec.specs.RecordGrammar.{field_in_binary, fields_of, next_field};
 ghost use Rattle.pgv_codec.specs.Encoding.{field, counted_field};
 ghost use Rattle.pgv_codec.specs.Appending.{Appends, Extends};
 ghost use Rattle.pgv_codec.specs.Record.{IsOpen, begun, so_far, WritesField};
@@ -20,7 +20,7 @@ use crate::buffer::PgArgumentBuffer;
 use crate::traits::{Decode, Encode, Type};
 use crate::types::array::type_of_value;
 use pgv_buf::Mark;
-use pgv_nest::field_head_of;
+use crate::nest::field_head_of;
 use pgv_text::{Parts, TextForm};
 use pgv_types::{Oid, PgTypeInfo};
 use pgv_value::{CodecError, PgValueFormat, PgValueRef, u32_in_front};
@@ -113,7 +113,7 @@ pub struct PgRecordDecoder<'r> {
 
 impl<'r> Model for PgRecordDecoder<'r> {
     ghost use Rattle.pgv_codec.specs.FieldsLeftView.{left_of, IsInPlace};
-    ghost use Rattle.pgv_nest.specs.RecordGrammar.{Left, left_code};
+    ghost use Rattle.pgv_codec.specs.RecordGrammar.{Left, left_code};
 
     ghost Value = { Left };
 
@@ -233,7 +233,7 @@ fn text_fields_of(alloc: Global, text: &str) -> Result<TextFields<'_>, CodecErro
 }
 
 /// The next field in binary, and the bytes after it.
-#[tactic(auto, unfolding(pgv_nest::specs::RecordGrammar::field_in_binary))]
+#[tactic(auto, unfolding(crate::nest::specs::RecordGrammar::field_in_binary))]
 fn read_field<'r, T: Type + Decode>(
     alloc: Global,
     type_info: &PgTypeInfo,

@@ -3,7 +3,7 @@
 
 ghost use Rattle.std.specs.Prelude.{refl};
 ghost use Rattle.pgv_types.specs.Ty.{builtin};
-ghost use Rattle.pgv_nest.specs.RecordGrammar.{parse_record};
+ghost use Rattle.pgv_codec.specs.RecordGrammar.{parse_record};
 ghost use Rattle.pgv_codec.specs.Encoding.{unwritten};
 
 use super::field_list::{FieldList, first_fields};

@@ -8,7 +8,7 @@ use Rattle.pgv_value.specs.FrameBinary.{Part}
 use Rattle.pgv_value.specs.ValueView.{given}
 use Rattle.pgv_value.specs.Outcome.{Fails}
 use Rattle.pgv_value.specs.declared.value.PgValueFormat.TheVariants.{Text}
-use Rattle.pgv_nest.specs.ArrayGrammar.{array_in_text}
+use Rattle.pgv_codec.specs.ArrayGrammar.{array_in_text}
 use Rattle.pgv_codec.proofs.PartLoop.{alloc_in_text, begins, found_first, part_read, part_unread, parts_done, some_values, still_some}
 use Rattle.pgv_codec.proofs.types.array.read_elements.Goals as goal
 

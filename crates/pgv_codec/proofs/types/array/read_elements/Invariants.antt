@@ -1,7 +1,7 @@
 use Rattle.std.proofs.Common.{◌≡◌, is_some, map}
 use Rattle.pgv_text.specs.ElementsView.{ahead, distance}
 use Rattle.pgv_text.specs.Values.{array_values}
-use Rattle.pgv_nest.specs.ArrayGrammar.{array_in_text}
+use Rattle.pgv_codec.specs.ArrayGrammar.{array_in_text}
 use Rattle.pgv_codec.specs.AtOnce.{with_front}
 use Rattle.pgv_codec.proofs.PartLoop.{read_ahead}
 use Rattle.pgv_codec.proofs.types.array.read_elements.Given as goal

@@ -1,5 +1,5 @@
 use Rattle.std.proofs.Common.{◌≡◌, ◌-◌, map}
-use Rattle.pgv_nest.specs.ArrayGrammar.{frames}
+use Rattle.pgv_codec.specs.ArrayGrammar.{frames}
 use Rattle.pgv_codec.specs.AtOnce.{with_front}
 use Rattle.pgv_codec.proofs.types.array.read_in_room.Given as goal
 

@@ -6,7 +6,7 @@ use Rattle.pgv_text.specs.PartsView.{copies, nest}
 use Rattle.pgv_value.specs.ValueView.{given}
 use Rattle.pgv_value.specs.Outcome.{Fails}
 use Rattle.pgv_value.specs.declared.value.PgValueFormat.TheVariants.{Text}
-use Rattle.pgv_nest.specs.RecordGrammar.{text_fields}
+use Rattle.pgv_codec.specs.RecordGrammar.{text_fields}
 use Rattle.pgv_codec.proofs.PartLoop.{text_unread}
 use Rattle.pgv_codec.proofs.types.record.PgRecordDecoder.try_decode.Goals as goal
 

@@ -1,0 +1,5 @@
+use Rattle.pgv_codec.proofs.RecordGrammars.{record_begins}
+use Rattle.pgv_codec.proofs.nest.laws.record_begins.Goals as goal
+
+pub returns : goal.returns
+returns c = record_begins

@@ -1,5 +1,0 @@
-use Rattle.pgv_nest.proofs.RecordGrammars.{field_exactly}
-use Rattle.pgv_nest.proofs.laws.field_is_its_value.Goals as goal
-
-pub returns : goal.returns
-returns g c = field_exactly

@@ -1,5 +1,0 @@
-use Rattle.pgv_nest.proofs.TextGrammars.{text_begins}
-use Rattle.pgv_nest.proofs.laws.record_text_begins.Goals as goal
-
-pub returns : goal.returns
-returns c = text_begins c.record_is_its_values.ensures

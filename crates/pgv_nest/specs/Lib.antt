@@ -1,6 +1,0 @@
-pub mod ArrayGrammar
-pub mod HeadsView
-pub mod RecordGrammar
-pub mod NestBinary
-pub mod Found
-pub mod NestText
