@@ -11,6 +11,7 @@
 
 pub mod buffer;
 pub mod laws;
+pub mod nest;
 pub mod traits;
 pub mod types;
 
