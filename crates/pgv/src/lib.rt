@@ -33,8 +33,9 @@ pub use pgv_wire::PgArguments;
 /// The Rust types of values.
 pub mod types {
     pub use pgv_hstore::PgHstore;
-    pub use pgv_lquery::{PgLQuery, PgLQueryLevel, PgLQueryVariant, PgLQueryVariantFlag};
-    pub use pgv_ltree::{PgLTree, PgLTreeLabel};
+    pub use pgv_ltree::{
+        PgLQuery, PgLQueryLevel, PgLQueryVariant, PgLQueryVariantFlag, PgLTree, PgLTreeLabel,
+    };
     pub use pgv_more::{BitVec, MacAddress, PgBytea, PgByteaArray, PgCiText, PgTimeTz};
     pub use pgv_numeric::{PgMoney, PgNumeric, PgNumericSign};
     pub use pgv_range::PgRange;

@@ -3,8 +3,7 @@
 use jiff::Timestamp;
 use jiff::civil::{Date, DateTime, Time};
 use pgv_hstore::PgHstore;
-use pgv_lquery::PgLQuery;
-use pgv_ltree::PgLTree;
+use pgv_ltree::{PgLQuery, PgLTree};
 use pgv_more::{BitVec, MacAddress, PgBytea, PgCiText, PgTimeTz};
 use pgv_numeric::{PgMoney, PgNumeric};
 use pgv_range::PgRange;

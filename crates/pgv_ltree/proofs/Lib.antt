@@ -3,3 +3,17 @@ pub mod Printed
 pub mod EachRead
 pub mod Written
 pub mod LawsOfTrees
+pub mod Counts
+pub mod Cuts
+pub mod Marks
+pub mod Clones
+pub mod QueriesPrinted
+pub mod Begun
+pub mod Levels
+pub mod Variants
+pub mod QueriesWritten
+pub mod EachText
+pub mod LawsOfVariants
+pub mod LawsOfLevels
+pub mod LawsOfQueries
+pub mod EqualQueries

@@ -22,7 +22,7 @@ use Rattle.pgv_codec.specs.NetworkBinary.{network_image, network_hint}
 use Rattle.pgv_codec.specs.Nullable.{nullable}
 use Rattle.pgv_codec.specs.ScalarBinary.{bool_image, signed_image, unsigned_image, text_image, uuid_image}
 use Rattle.pgv_ltree.specs.TreesCodec.{ltree, ltree_array, parse_tree, tree_image}
-use Rattle.pgv_lquery.specs.QueryCodec.{lquery, parse_query, query_image}
+use Rattle.pgv_ltree.specs.QueryCodec.{lquery, parse_query, query_image}
 use Rattle.pgv_hstore.specs.Hstore.{hstore_image, parse_hstore}
 use Rattle.pgv_more.specs.BitsBinary.{bits_image, bits_hint}
 use Rattle.pgv_more.specs.BitsCodec.{parse_bits}

@@ -253,7 +253,7 @@ impl<T: Codec + PgHasArrayType, const N: usize> Codec for [T; N] {
 }
 
 /// An array in binary.
-#[tactic(auto, unfolding(crate::nest::specs::ArrayGrammar::array_in_binary))]
+#[tactic(auto, unfolding(crate::specs::ArrayGrammar::array_in_binary))]
 fn read_array<T: Decode>(
     alloc: Global,
     type_info: &PgTypeInfo,
@@ -270,7 +270,7 @@ fn read_array<T: Decode>(
 }
 
 /// As many frames as the head says. Without one, or without the length of one, no memory is asked for.
-#[tactic(auto, unfolding(crate::nest::specs::ArrayGrammar::elements, crate::nest::specs::ArrayGrammar::frames, pgv_value::specs::FrameBinary::front))]
+#[tactic(auto, unfolding(crate::specs::ArrayGrammar::elements, crate::specs::ArrayGrammar::frames, pgv_value::specs::FrameBinary::front))]
 fn read_frames<T: Decode>(
     alloc: Global,
     element: &PgTypeInfo,
@@ -387,7 +387,7 @@ fn length_in_front(bytes: &[u8]) -> usize
 
 /// An array in text. An invalid text (C29) comes before the refusal of a part, or out of memory. A text without
 /// elements asks for no memory.
-#[tactic(auto, unfolding(crate::nest::specs::ArrayGrammar::array_in_text, crate::nest::specs::ArrayGrammar::each))]
+#[tactic(auto, unfolding(crate::specs::ArrayGrammar::array_in_text, crate::specs::ArrayGrammar::each))]
 fn read_text<T: Decode + Type>(alloc: Global, text: &str) -> Result<Vec<T>, CodecError>
     ensures { Gives (λ v. map T.view v.items) (array_in_text T.parse T.info text.now) result }
 {

@@ -233,7 +233,7 @@ fn text_fields_of(alloc: Global, text: &str) -> Result<TextFields<'_>, CodecErro
 }
 
 /// The next field in binary, and the bytes after it.
-#[tactic(auto, unfolding(crate::nest::specs::RecordGrammar::field_in_binary))]
+#[tactic(auto, unfolding(crate::specs::RecordGrammar::field_in_binary))]
 fn read_field<'r, T: Type + Decode>(
     alloc: Global,
     type_info: &PgTypeInfo,

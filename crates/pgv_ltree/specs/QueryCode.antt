@@ -1,0 +1,35 @@
+-- How the logic stores levels and variants.
+use Rattle.std.specs.Prelude.{◌≡◌, ◌⊎◌, ℕ, Bool, List, Option, refl}
+use Rattle.std.specs.Coded.{Coded, code_by, coded×, coded⊎, coded_ℕ, coded_list, coded_option, coded_bool}
+use Rattle.std.proofs.Common.{inl, inr}
+use Rattle.pgv_ltree.specs.Queries.{Variant, Level, star, one_of, none_of}
+
+abbrev pub variant_code : Coded Variant
+variant_code = code_by (List ℕ × (Bool × (Bool × Bool)))
+    (coded× (coded_list coded_ℕ) (coded× coded_bool (coded× coded_bool coded_bool)))
+    (λ v. (v.label, (v.any_end, (v.in_case, v.sublexeme))))
+    (λ p. record { label = p.0; any_end = p.1.0; in_case = p.1.1.0; sublexeme = p.1.1.1 })
+    (λ _. refl)
+
+abbrev pub Stored : Type 0
+Stored = (Option ℕ × Option ℕ) ⊎ (List Variant ⊎ List Variant)
+
+abbrev pub stored : Level → Stored
+stored (star low high) = inl (low, high)
+stored (one_of vs) = inr (inl vs)
+stored (none_of vs) = inr (inr vs)
+
+abbrev pub level_from : Stored → Level
+level_from (inl p) = star p.0 p.1
+level_from (inr (inl vs)) = one_of vs
+level_from (inr (inr vs)) = none_of vs
+
+pub level_again : (l : Level) → level_from (stored l) ≡ l
+level_again (star low high) = refl
+level_again (one_of vs) = refl
+level_again (none_of vs) = refl
+
+abbrev pub level_code : Coded Level
+level_code = code_by Stored
+    (coded⊎ (coded× (coded_option coded_ℕ) (coded_option coded_ℕ)) (coded⊎ (coded_list variant_code) (coded_list variant_code)))
+    stored level_from level_again
