@@ -9,6 +9,4 @@ pub mod Outcomes
 pub mod Domains
 pub mod CompositeFields
 mod ArrayGrammars
-pub mod RecordGrammars
 pub mod FewElements
-pub mod TextGrammars

@@ -34,3 +34,5 @@ pub mod RecordGrammar
 pub mod NestBinary
 pub mod Found
 pub mod NestText
+pub mod RecordLemmas
+pub mod NestTextLemmas

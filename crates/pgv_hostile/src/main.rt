@@ -5,7 +5,7 @@
 //!
 //! A row is a line of `pgvalue`, `read TYPE HEX`, `add TYPE TEXT` or `copy HEX TYPE ..`, whose answers come of
 //! [`pgv_runner::run`]; or `RUST | TYPE | PART`, which is read by calls at a Rust type, as the readings of
-//! `pgv_value_calls` are: PART is `b` and hex, `t` and a text, or `x` and a text in hex.
+//! `pgv_calls` are: PART is `b` and hex, `t` and a text, or `x` and a text in hex.
 #![tactic(auto)]
 
 mod calls;

@@ -19,7 +19,7 @@ use Rattle.pgv_value.specs.declared.error.CodecError.TheVariants.{Syntax}
 use Rattle.pgv_value.specs.declared.value.PgValueFormat.TheVariants.{Text}
 use Rattle.pgv_value.proofs.Outcomes.{answer_is, answers_are, taken, taken_exactly, found_or}
 use Rattle.pgv_codec.specs.NestText.{TextIs}
-use Rattle.pgv_codec.proofs.TextGrammars.{whole_text}
+use Rattle.pgv_codec.specs.NestTextLemmas.{whole_text}
 use Rattle.pgv_range.specs.RangeOf.{RangeOf, empty, bounds}
 use Rattle.pgv_range.specs.RangeInText.{IsValue, IsTextBound, IsRangeInText, OneRangeInText}
 use Rattle.pgv_range.specs.RangeGrammar.{side_in_text, bound_in_text, next_bound, bounds_in_text, content_in_text, range_in_text, parse_range}

@@ -2,8 +2,8 @@
 
 ghost use Rattle.std.specs.Prelude.{◌≡◌, ℕ, List, [], ◌∷◌, ◌++◌, OnErr};
 ghost use Rattle.pgv_value.specs.Outcome.{Gives, Outcome};
-ghost use Rattle.pgv_codec.proofs.RecordGrammars.{one_found, further_found};
-ghost use Rattle.pgv_codec.proofs.TextGrammars.{one_text, further_text};
+ghost use Rattle.pgv_codec.specs.RecordLemmas.{one_found, further_found};
+ghost use Rattle.pgv_codec.specs.NestTextLemmas.{one_text, further_text};
 ghost use Rattle.pgv_codec.specs.NestBinary.{FindExactly, Stretch, IsField, ◌and◌};
 ghost use Rattle.pgv_codec.specs.NestText.{FindInText, TextStretch, IsTextField, ◌before◌};
 ghost use Rattle.pgv_codec.specs.RecordGrammar.{Left, next_field, parse_record, ◌then◌};

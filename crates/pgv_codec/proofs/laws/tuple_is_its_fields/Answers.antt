@@ -1,4 +1,4 @@
-use Rattle.pgv_codec.proofs.RecordGrammars.{record_found}
+use Rattle.pgv_codec.specs.RecordLemmas.{record_found}
 use Rattle.pgv_codec.proofs.laws.tuple_is_its_fields.Goals as goal
 
 pub returns : goal.returns

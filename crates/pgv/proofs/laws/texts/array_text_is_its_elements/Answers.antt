@@ -1,4 +1,4 @@
-use Rattle.pgv_codec.proofs.TextGrammars.{array_text, sized_text}
+use Rattle.pgv_codec.specs.NestTextLemmas.{array_text, sized_text}
 use Rattle.pgv.proofs.laws.texts.array_text_is_its_elements.Goals as goal
 
 pub returns : goal.returns

@@ -1,4 +1,4 @@
-use Rattle.pgv_codec.proofs.TextGrammars.{record_text}
+use Rattle.pgv_codec.specs.NestTextLemmas.{record_text}
 use Rattle.pgv.proofs.laws.texts.tuple_text_is_its_fields.Goals as goal
 
 pub returns : goal.returns

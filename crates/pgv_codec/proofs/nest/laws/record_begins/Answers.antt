@@ -1,4 +1,4 @@
-use Rattle.pgv_codec.proofs.RecordGrammars.{record_begins}
+use Rattle.pgv_codec.specs.RecordLemmas.{record_begins}
 use Rattle.pgv_codec.proofs.nest.laws.record_begins.Goals as goal
 
 pub returns : goal.returns

@@ -1,4 +1,4 @@
-use Rattle.pgv_codec.proofs.TextGrammars.{text_begins}
+use Rattle.pgv_codec.specs.NestTextLemmas.{text_begins}
 use Rattle.pgv_codec.proofs.nest.laws.record_text_begins.Goals as goal
 
 pub returns : goal.returns

@@ -19,7 +19,7 @@ use Rattle.pgv_value.proofs.Outcomes.{answer_is, answers_are, taken, taken_exact
 use Rattle.pgv_codec.specs.ArrayGrammar.{array_in_text, each, parse_array, parse_sized}
 use Rattle.pgv_codec.specs.NestText.{IsArrayInText, IsSizedInText, TextStretch, IsTextField, ◌before◌, IsRecordInText, TextIs, RecordTextBegins, TextFieldIsItsValue, FindInText}
 use Rattle.pgv_codec.specs.RecordGrammar.{Left, text_fields, next_field, fields_of, parse_record, ◌then◌}
-use Rattle.pgv_codec.proofs.RecordGrammars.{held}
+use Rattle.pgv_codec.specs.RecordLemmas.{held}
 
 -- ---- arrays
 
