@@ -1,7 +1,9 @@
 //! A type that the library doesn't have, by its bytes: `float8` (PostgreSQL, "Floating-Point Types"), and how it is
 //! written. How it is read is in [`float8_read`](crate::float8_read).
 
-use pgv::{CodecError, Encode, IsNull, PgArgumentBuffer, PgType, PgTypeInfo, Type};
+use pgv::{
+    CodecError, Encode, IsNull, PgArgumentBuffer, PgHasArrayType, PgType, PgTypeInfo, Type,
+};
 use std::alloc::AllocError;
 
 /// A number of the type `float8`, by its 64 bits (IEEE 754) as a signed number: 4607182418800017408 is 1.0.
@@ -21,6 +23,22 @@ impl Type for Float8 {
 
     fn compatible(type_info: &PgTypeInfo) -> bool {
         type_info.type_compatible(&Self::type_info())
+    }
+}
+
+impl PgHasArrayType for Float8 {
+    ghost use Rattle.pgv.specs.Words.{builtin, softly};
+
+    ghost array_info = { builtin 1022 };
+
+    ghost accepts_array = { λ t. softly t (builtin 1022) };
+
+    fn array_type_info() -> PgTypeInfo {
+        PgTypeInfo(PgType::Float8Array)
+    }
+
+    fn array_compatible(type_info: &PgTypeInfo) -> bool {
+        type_info.type_compatible(&Self::array_type_info())
     }
 }
 
