@@ -22,5 +22,6 @@ fn main() -> ExitCode {
     rows::moments(&mut bench);
     rows::others(&mut bench);
     rows::messages(&mut bench);
+    rows::copying(&mut bench);
     if bench.differing() { ExitCode::FAILURE } else { ExitCode::SUCCESS }
 }

@@ -11,7 +11,7 @@ framed! {
     pgv_bench_read_i32 pgv_bench_read_i64 pgv_bench_read_bool pgv_bench_read_uuid pgv_bench_read_text
     pgv_bench_read_i32s pgv_bench_read_options pgv_bench_read_texts
     pgv_bench_date pgv_bench_time pgv_bench_timestamp pgv_bench_timestamptz
-    pgv_bench_varbit pgv_bench_bytea pgv_bench_hstore pgv_bench_write_uuid
+    pgv_bench_varbit pgv_bench_bytea pgv_bench_hstore pgv_bench_write_uuid pgv_bench_copy
 }
 
 extern "C" {
@@ -30,8 +30,10 @@ pub const ENCODE: u32 = 1;
 pub const DECODE: u32 = 2;
 pub const BINARY: u32 = 0;
 pub const BY_COLUMNS: u32 = 0;
+pub const AS_LISTS: u32 = 0;
 pub const AS_FRAMES: u32 = 1;
 pub const IN_ONE_PASS: u32 = 2;
+pub const AS_TUPLES: u32 = 2;
 
 pub fn framed(export: Framed, bytes: &[u8], how: u32) -> Work<'_> {
     Box::new(move |rounds| unsafe { export(bytes.as_ptr(), bytes.len(), rounds, how) })

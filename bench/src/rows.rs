@@ -116,6 +116,22 @@ fn row_body(number: i32, text: &String, day: NaiveDate) -> Vec<u8> {
     body
 }
 
+/// A COPY stream of rows of three fields, read as lists and as tuples, beside `get` and `decode` of the same fields. Ours on both sides.
+pub fn copying(bench: &mut Bench) {
+    let (numbers, texts) = (numbers_of(COUNT), texts_of(COUNT));
+    let fields: Vec<Vec<u8>> = (0..COUNT)
+        .map(|at| {
+            let long = i64::from(numbers[at]) << 20;
+            [frames(&numbers[at..=at], &Type::INT4), frames(&texts[at..=at], &Type::TEXT), frames(&[long], &Type::INT8)].concat()
+        })
+        .collect();
+    let rows: Vec<u8> = fields.iter().flat_map(|row| [&[0, 3], row.as_slice()].concat()).collect();
+    let stream = [&b"PGCOPY\n\xff\r\n\0\0\0\0\0\0\0\0\0"[..], &rows, &[0xff; 2]].concat();
+    let frames = fields.concat();
+    bench.row("row of 3 of COPY, beside its get+decode", COUNT, framed(pgv_bench_copy, &stream, AS_LISTS), framed(pgv_bench_copy, &frames, AS_FRAMES));
+    bench.row("the same as a tuple", COUNT, framed(pgv_bench_copy, &stream, AS_TUPLES), framed(pgv_bench_copy, &frames, AS_FRAMES));
+}
+
 /// Messages. The first two rows are ours on both sides: rows by their columns, and in one pass, beside `get` and `decode` of the same fields without a row.
 pub fn messages(bench: &mut Bench) {
     let (numbers, texts) = (numbers_of(COUNT), texts_of(COUNT));

@@ -7,13 +7,12 @@ pub mod rows;
 pub mod texts;
 
 pub use pgv_codec::laws as codec;
+pub use pgv_codec::nest::laws as nest;
 pub use pgv_copy::laws as copy;
 pub use pgv_hstore::laws as hstore;
-pub use pgv_ltree::laws as ltree;
-pub use pgv_ltree::query_laws as lquery;
+pub use pgv_ltree::{laws as ltree, query_laws as lquery};
 pub use pgv_message::laws as message;
 pub use pgv_more::laws as more;
-pub use pgv_codec::nest::laws as nest;
 pub use pgv_numeric::laws as numeric;
 pub use pgv_range::laws as range;
 pub use pgv_row::laws as row;

@@ -3,6 +3,7 @@
 use crate::seen::Seen;
 use pgv_codec::{Decode, Type};
 use pgv_copy::PgCopyReader;
+use pgv_row::{PgColumns, PgCopyRows};
 use pgv_types::{PgType, PgTypeInfo};
 use pgv_value::{CodecError, PgValueFormat, PgValueRef};
 use std::alloc::Global;
@@ -47,6 +48,39 @@ fn stream_once(alloc: Global, stream: &[u8]) -> Result<usize, CodecError> {
     Ok(sum)
 }
 
+/// The columns, for rows as tuples.
+fn described(alloc: Global) -> Result<PgColumns<'static>, CodecError> {
+    PgColumns::new(alloc)
+        .with_type(PgTypeInfo(PgType::Int4))?
+        .with_type(PgTypeInfo(PgType::Text))?
+        .with_type(PgTypeInfo(PgType::Int8))
+}
+
+/// What is seen of the next row as a tuple.
+fn tuple_seen(alloc: Global, rows: &mut PgCopyRows<'_, '_>) -> Result<Option<usize>, CodecError> {
+    match rows.next_row_as::<(i32, String, i64)>(alloc) {
+        Ok(Some((number, text, long))) => {
+            let sum = number.seen().wrapping_add(text.seen());
+            Ok(Some(sum.wrapping_add(long.seen())))
+        }
+        Ok(None) => Ok(None),
+        Err(error) => Err(CodecError::from(error)),
+    }
+}
+
+fn tuples_once(alloc: Global, stream: &[u8]) -> Result<usize, CodecError> {
+    let columns = described(alloc)?;
+    let mut rows = columns.copy_rows(stream)?;
+    let mut sum = 0usize;
+    for _ in 0..stream.len() {
+        let Some(seen) = tuple_seen(alloc, &mut rows)? else {
+            return Ok(sum);
+        };
+        sum = sum.wrapping_add(seen);
+    }
+    Ok(sum)
+}
+
 /// What is seen of the frame in front.
 fn frame<T: Decode + Type + Seen>(alloc: Global, rest: &mut &[u8]) -> Result<usize, CodecError> {
     let value = PgValueRef::get(rest, PgValueFormat::Binary, T::type_info())?;
@@ -67,14 +101,14 @@ fn frames_once(alloc: Global, frames: &[u8]) -> Result<usize, CodecError> {
     Ok(sum)
 }
 
-/// Reads all rows `rounds` times: of a stream where `how` is 0, and else of frames.
+/// Reads all rows `rounds` times: of a stream where `how` is 0, of one as tuples where it is 2, and else of frames.
 pub fn copies(alloc: Global, bytes: &[u8], rounds: u32, how: u32) -> Result<usize, CodecError> {
     let mut sum = 0usize;
     for _ in 0..rounds {
-        let once = if how == 0 {
-            stream_once(alloc, bytes)?
-        } else {
-            frames_once(alloc, bytes)?
+        let once = match how {
+            0 => stream_once(alloc, bytes)?,
+            2 => tuples_once(alloc, bytes)?,
+            _ => frames_once(alloc, bytes)?,
         };
         sum = sum.wrapping_add(once);
     }

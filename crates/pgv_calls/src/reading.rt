@@ -2,7 +2,7 @@
 //! or `catalog KIND`.
 
 use pgv::catalog::{PgFieldRow, PgLabelRow, PgTypeRow};
-use pgv::row::{FromRow, PgColumns, PgRow, PgRowReader};
+use pgv::row::{FromRow, PgColumns, PgCopyRows, PgRow, PgRowReader};
 use pgv::{CodecError, Decode, PgEnum, PgValue, Type};
 use pgv_examples::mood::Mood;
 use std::alloc::Global;
@@ -136,6 +136,25 @@ fn read_by<T: FromRow + Debug>(
 ) -> Result<String, CodecError> {
     match reader.read(alloc, body) {
         Ok(fields) => Ok(format!(in alloc; "{fields:?}")?),
+        Err(error) => Err(CodecError::from(error)),
+    }
+}
+
+/// The first two rows of a COPY stream, where there are so many, each as a number and a text.
+pub fn copied(alloc: Global, columns: &PgColumns<'_>, stream: &[u8]) -> Result<String, CodecError> {
+    let mut rows = columns.copy_rows(stream)?;
+    let first = next_copied(alloc, &mut rows)?;
+    let second = next_copied(alloc, &mut rows)?;
+    Ok(format!(in alloc; "{first:?} {second:?}")?)
+}
+
+/// The next row of a COPY stream.
+fn next_copied(
+    alloc: Global,
+    rows: &mut PgCopyRows<'_, '_>,
+) -> Result<Option<(i32, Option<String>)>, CodecError> {
+    match rows.next_row_as(alloc) {
+        Ok(row) => Ok(row),
         Err(error) => Err(CodecError::from(error)),
     }
 }

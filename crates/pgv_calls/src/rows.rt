@@ -1,11 +1,12 @@
 //! Rows of calls that read a row. `describe HEX` and `body HEX` keep the bodies of a RowDescription and of a DataRow;
 //! any other row is `WAY CALL => ANSWER`, where WAY says how the row is read: in `new` room, in `room` for all columns,
-//! from `shared` bytes, `kept`, or in one `pass` as a tuple of so many fields as CALL says.
+//! from `shared` bytes, `kept`, in one `pass` as a tuple of so many fields as CALL says, or as the first two rows of a
+//! COPY stream, which the body is then, under the description (`copy`) or under two types (`typed`).
 
-use crate::reading::{asked, in_one_pass};
+use crate::reading::{asked, copied, in_one_pass};
 use bytes::Bytes;
 use pgv::row::{PgColumns, PgOwnedRow, PgPlaces, PgRow};
-use pgv::{CodecError, Oid, PgTypeInfo, PgTypeKind};
+use pgv::{CodecError, Oid, PgType, PgTypeInfo, PgTypeKind};
 use pgv_fixtures::{Again, Called, bytes_of, same};
 use std::alloc::{AllocError, Global};
 
@@ -74,6 +75,14 @@ fn kept(
     asked(alloc, &row, call)
 }
 
+/// The first two rows of a COPY stream of numbers and texts.
+fn typed(alloc: Global, stream: &[u8]) -> Result<String, CodecError> {
+    let columns = PgColumns::new(alloc)
+        .with_type(PgTypeInfo(PgType::Int4))?
+        .with_type(PgTypeInfo(PgType::Text))?;
+    copied(alloc, &columns, stream)
+}
+
 /// What is asked of a row under its columns, which is read in a way.
 fn read_in(
     alloc: Global,
@@ -88,6 +97,12 @@ fn read_in(
     }
     if way == "pass" {
         return in_one_pass(alloc, columns, body, call);
+    }
+    if way == "copy" {
+        return copied(alloc, columns, body);
+    }
+    if way == "typed" {
+        return typed(alloc, body);
     }
     let mut room = PgPlaces::with_columns(alloc, columns)?;
     match way {

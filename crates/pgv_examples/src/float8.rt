@@ -1,9 +1,7 @@
 //! A type that the library doesn't have, by its bytes: `float8` (PostgreSQL, "Floating-Point Types"), and how it is
 //! written. How it is read is in [`float8_read`](crate::float8_read).
 
-use pgv::{
-    CodecError, Encode, IsNull, PgArgumentBuffer, PgHasArrayType, PgType, PgTypeInfo, Type,
-};
+use pgv::{CodecError, Encode, IsNull, PgArgumentBuffer, PgHasArrayType, PgType, PgTypeInfo, Type};
 use std::alloc::AllocError;
 
 /// A number of the type `float8`, by its 64 bits (IEEE 754) as a signed number: 4607182418800017408 is 1.0.

@@ -4,8 +4,8 @@ ghost use Rattle.std.specs.Prelude.{⊤, ◌≡◌, ◌∷◌, [], IfErr, OnOk, 
 ghost use Rattle.pgv_ltree.specs.Flags.{has_bit};
 ghost use Rattle.pgv_ltree.specs.QueryPrinted.{mark, printed_marks};
 
-use bitflags::{Flag, Flags, bitflag_items};
 use crate::Sink;
+use bitflags::{Flag, Flags, bitflag_items};
 use std::fmt;
 
 /// A set of modifiers: `ANY_END`, written `*`, only the beginning of a label is wanted; `IN_CASE`, `@`, case is

@@ -14,8 +14,8 @@ ghost use Rattle.pgv_ltree.specs.QueryTaken.{GivesAfterRead, GivesTexts};
 
 mod codec;
 
-use crate::level::PgLQueryLevel;
 use crate::Sink;
+use crate::level::PgLQueryLevel;
 use pgv_value::PgLQueryParseError;
 use std::alloc::{AllocError, Global};
 use std::fmt;

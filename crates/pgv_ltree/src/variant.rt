@@ -11,8 +11,8 @@ ghost use Rattle.pgv_ltree.specs.QueryRead.{is_variant_text, label_length as lab
 ghost use Rattle.pgv_ltree.specs.QueryText.{is_mark as is_mark_of};
 
 use crate::flag::{PgLQueryVariantFlag, print_marks};
-use bitflags::Flags;
 use crate::{PgLTreeLabel, Sink};
+use bitflags::Flags;
 use pgv_value::{PgLQueryParseError, PgLTreeParseError};
 use std::alloc::{AllocError, Global};
 use std::fmt;

@@ -4,15 +4,16 @@
 -- in two; nothing comes after them. How it is read: what isn't there is C15, a name that isn't UTF-8 C14, another
 -- format than 0 and 1 C30, and bytes after the last column C17. The type of a column is the built-in of its OID, or
 -- else what a catalogue has of it, or else known by its OID alone.
-use Rattle.std.specs.Prelude.{FitsSigned, ◌≡◌, ◌==◌, ◌↔◌, ℕ, ◌<◌, ◌^◌, nat_eq, not, true, false, List, ◌∷◌, ◌++◌, length, flat_map, Option, Some, None, Ok}
+use Rattle.std.specs.Prelude.{FitsSigned, ◌≡◌, ◌==◌, ◌↔◌, ℕ, pos, negsuc, [], ◌<◌, ◌^◌, nat_eq, not, true, false, List, ◌∷◌, ◌++◌, length, flat_map, Option, Some, None, Ok}
 use Rattle.std.specs.Int.{w16, w32, cast_signed, cast_unsigned, to_be_bytes}
 use Rattle.std.specs.List.{AllByRecursion}
 use Rattle.pgv_types.specs.Ty.{Ty, by_oid}
-use Rattle.pgv_types.specs.Facts.{built_in, is_custom}
+use Rattle.pgv_types.specs.Facts.{built_in, is_custom, oid_of}
 use Rattle.pgv_value.specs.Laws.{AreBytes}
 use Rattle.pgv_value.specs.Utf8.{is_utf8}
 use Rattle.pgv_value.specs.declared.error.CodecError.TheVariants.{WrongLength}
 use Rattle.pgv_value.specs.declared.value.PgValueFormat.{PgValueFormat}
+use Rattle.pgv_value.specs.declared.value.PgValueFormat.TheVariants.{Binary}
 use Rattle.pgv_row.specs.ColumnView.{Column}
 use Rattle.pgv_value.specs.Fronts.{i16_front, u16_front, u32_front, name_front, format_of, format_number}
 use Rattle.pgv_value.specs.Outcome.{Outcome, exactly, allocates, fails_if, done, ◌>>=◌, ◌>>◌}
@@ -30,6 +31,10 @@ type_or (Some u) t = u
 
 unfoldable pub type_by : KnownTypes → ℕ → Ty
 type_by known oid = type_or (built_in oid) (type_or (known oid) (by_oid oid))
+
+abbrev pub number_or_zero : Option ℕ → ℕ
+number_or_zero None = 0
+number_or_zero (Some n) = n
 
 -- ---- how a column is read
 
@@ -53,6 +58,10 @@ description known bytes = do
   columns ← several (column_front known) count.0 count.1
   fails_if (not (nat_eq (length columns.1) 0)) (WrongLength (length bytes))
   done columns.0
+
+-- a column of this type, without a name, whose values are in binary
+abbrev pub column_of_type : Ty → Column
+column_of_type t = record { name = []; table = 0; attribute = pos 0; type_oid = number_or_zero (oid_of t); size = negsuc 0; modifier = negsuc 0; format = Binary; type_info = t }
 
 -- a column whose values are in this format
 abbrev pub in_format : PgValueFormat → Column → Column

@@ -10,3 +10,4 @@ pub mod Values
 pub mod Tuples
 pub mod OnePass
 pub mod OnePassLemmas
+pub mod CopyRows

@@ -1,11 +1,12 @@
 //! The columns of a statement's result, as a RowDescription describes them.
 
-ghost use Rattle.std.specs.Prelude.{◌≡◌, ◌==◌, true, length, map};
+ghost use Rattle.std.specs.Prelude.{◌≡◌, ◌==◌, ◌++◌, ◌∷◌, [], true, length, map, IfOk, IfErr};
 ghost use Rattle.std.specs.Option.{option_copied};
-ghost use Rattle.pgv_row.specs.Description.{column_front, description, in_format, IsDescription};
+ghost use Rattle.pgv_row.specs.Description.{column_front, column_of_type, description, in_format, IsDescription};
 ghost use Rattle.pgv_value.specs.Outcome.{Gives, IsRead, after};
 ghost use Rattle.pgv_row.specs.RowView.{column_at};
 ghost use Rattle.pgv_value.specs.Several.{several};
+ghost use Rattle.pgv_value.specs.declared.error.CodecError.TheVariants.{Memory};
 
 use crate::catalog::{PgCatalog, type_of_oid};
 use crate::index::ColumnIndex;
@@ -102,6 +103,26 @@ impl<'d> PgColumn<'d> {
         ensures { result ≡ self.now.format }
     {
         self.format
+    }
+
+    /// A column of a type alone, without a name, whose values are in binary.
+    fn of_type(type_info: PgTypeInfo) -> PgColumn<'d>
+        ensures { result ≡ column_of_type type_info }
+    {
+        let type_oid = match type_info.oid() {
+            Some(oid) => oid,
+            None => Oid(0),
+        };
+        PgColumn {
+            name: "",
+            table: Oid(0),
+            attribute: 0,
+            type_oid,
+            size: -1,
+            modifier: -1,
+            format: PgValueFormat::Binary,
+            type_info,
+        }
     }
 
     /// Says in which format the values are.
@@ -216,6 +237,27 @@ impl<'d> PgColumns<'d> {
             (IsDescription (C.known catalog.now) body.now) result }
     {
         let list = described(alloc, body, catalog)?;
+        Ok(PgColumns { list })
+    }
+
+    /// No column: [`PgColumns::with_type`] adds those of a COPY stream. It takes no memory.
+    pub fn new(alloc: Global) -> Self
+        ensures { result ≡ [] }
+    {
+        PgColumns {
+            list: Vec::new(alloc),
+        }
+    }
+
+    /// These columns and one more, without a name, of this type, whose values are in binary, as the fields of a COPY
+    /// stream are: `PgColumns::new(alloc).with_type(int4)?.with_type(text)?`. It is refused only for memory (C1).
+    pub fn with_type(self, type_info: PgTypeInfo) -> Result<Self, CodecError>
+        ensures added { IfOk result (λ columns.
+            columns ≡ self.entry ++ (column_of_type type_info ∷ [])) }
+        ensures refused { IfErr result (λ e. e ≡ Memory) }
+    {
+        let mut list = self.list;
+        list.push(PgColumn::of_type(type_info))?;
         Ok(PgColumns { list })
     }
 

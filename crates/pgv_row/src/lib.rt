@@ -4,6 +4,7 @@
 
 pub mod catalog;
 pub mod column;
+pub mod copy;
 pub mod error;
 pub mod index;
 pub mod laws;
@@ -14,6 +15,7 @@ pub mod tuple;
 
 pub use catalog::PgCatalog;
 pub use column::{PgColumn, PgColumns};
+pub use copy::PgCopyRows;
 pub use error::ColumnError;
 pub use index::ColumnIndex;
 pub use reader::PgRowReader;

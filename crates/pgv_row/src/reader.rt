@@ -71,10 +71,15 @@ fn frames_of(body: &[u8], width: usize) -> Result<&[u8], CodecError>
 
 /// The rest after the frames of the columns from a place on.
 #[inline(always)]
-fn pass_over(bytes: &[u8], place: usize, width: usize) -> Result<&[u8], ColumnError<usize>>
+pub(crate) fn pass_over(
+    bytes: &[u8],
+    place: usize,
+    width: usize,
+) -> Result<&[u8], ColumnError<usize>>
     ensures read { Gives (λ rest. rest.now) (passed_over (width - place) bytes.now)
         (or_codec result) }
     ensures at { IfErr result (λ e. place ≤ index_of e) }
+    ensures within { IfOk result (λ rest. length rest.now ≤ length bytes.now) }
 {
     let mut rest = bytes;
     for at in place..width {

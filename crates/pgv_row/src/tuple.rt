@@ -1,6 +1,6 @@
 //! Rows as tuples: each column in order is a field.
 
-ghost use Rattle.std.specs.Prelude.{◌≡◌, ◌+◌, ℕ, List, IfOk, IfErr};
+ghost use Rattle.std.specs.Prelude.{◌≡◌, ◌+◌, ◌≤◌, ℕ, List, length, IfOk, IfErr};
 ghost use Rattle.std.specs.Option.{option_copied};
 ghost use Rattle.pgv_value.specs.Outcome.{Gives, Outcome};
 ghost use Rattle.pgv_row.specs.ColumnView.{Column};
@@ -59,7 +59,8 @@ pub trait FromRow: Sized + Drop {
     ) -> Result<(Self, usize, &'r [u8]), ColumnError<usize>>
         ensures read { Gives (λ x. (view x.0, (x.1, x.2.now))) (in_front columns.now bytes.now)
             (or_codec result) }
-        ensures first { IfErr result (refused_in_front columns.now bytes.now) };
+        ensures first { IfErr result (refused_in_front columns.now bytes.now) }
+        ensures within { IfOk result (λ x. length x.2.now ≤ length bytes.now) };
 
     /// The same is read of the frames as of the row.
     ghost in_one_pass: { InOnePass 0 fits parse refused in_front refused_in_front };
@@ -108,7 +109,8 @@ pub trait ColumnList: Sized + Drop {
     ) -> Result<(Self, usize, &'r [u8]), ColumnError<usize>>
         ensures read { Gives (λ x. (view x.0, (x.1, x.2.now))) (in_front columns.now place
             bytes.now) (or_codec result) }
-        ensures first { IfErr result (refused_in_front columns.now place bytes.now) };
+        ensures first { IfErr result (refused_in_front columns.now place bytes.now) }
+        ensures within { IfOk result (λ x. length x.2.now ≤ length bytes.now) };
 
     /// The same is read of the frames as of the row.
     ghost in_one_pass: { (place : ℕ) → InOnePass place (λ columns. fits columns place) (λ row. parse row place) (λ row. refused row place) (λ columns. in_front columns place) (λ columns. refused_in_front columns place) };
@@ -189,8 +191,9 @@ fn front_value<'r, T: Decode>(
     column: &PgColumn<'_>,
     bytes: &'r [u8],
 ) -> Result<(T, &'r [u8]), CodecError>
-    ensures { Gives (λ x. (T.view x.0, x.1.now)) (value_in_front T.parse column.now bytes.now)
-        result }
+    ensures read { Gives (λ x. (T.view x.0, x.1.now)) (value_in_front T.parse column.now
+        bytes.now) result }
+    ensures within { IfOk result (λ x. length x.1.now ≤ length bytes.now) }
 {
     let (part, rest) = part_in_front(bytes)?;
     match read_part(alloc, column, part) {
@@ -212,6 +215,7 @@ fn front_column<'r, T: Decode>(
         place bytes.now) (or_codec result) }
     ensures first { IfErr result (IsRefusedInFront (column_in_front T.parse) columns.now place
         bytes.now) }
+    ensures within { IfOk result (λ x. length x.2.now ≤ length bytes.now) }
 {
     let Some(column) = columns.get(place) else {
         return Err(ColumnError::NotFound {

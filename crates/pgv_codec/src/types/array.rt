@@ -18,8 +18,8 @@ ghost use Rattle.pgv_codec.specs.BackNests.{vec_back, sized_back};
 
 use super::part::read_part;
 use crate::buffer::{IsNull, LENGTH_LIMIT, PgArgumentBuffer};
-use crate::traits::{Codec, Decode, Encode, PgHasArrayType, ReadBack, Type};
 use crate::nest::array_head_of;
+use crate::traits::{Codec, Decode, Encode, PgHasArrayType, ReadBack, Type};
 use pgv_text::{Elements, Next, Parts, TextForm};
 use pgv_types::PgTypeInfo;
 use pgv_value::{CodecError, PgValueFormat, PgValueRef};

@@ -17,10 +17,10 @@ ghost use Rattle.pgv_codec.specs.contracts.buffer.PgArgumentBuffer.{the_row};
 
 use super::part::read_part;
 use crate::buffer::PgArgumentBuffer;
+use crate::nest::field_head_of;
 use crate::traits::{Decode, Encode, Type};
 use crate::types::array::type_of_value;
 use pgv_buf::Mark;
-use crate::nest::field_head_of;
 use pgv_text::{Parts, TextForm};
 use pgv_types::{Oid, PgTypeInfo};
 use pgv_value::{CodecError, PgValueFormat, PgValueRef, u32_in_front};

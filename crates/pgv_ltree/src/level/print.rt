@@ -8,9 +8,9 @@ ghost use Rattle.pgv_ltree.specs.Queries.{is_count, is_level, is_variant, none_o
 ghost use Rattle.pgv_ltree.specs.QueryPrinted.{printed_level, printed_star, printed_variants};
 
 use super::PgLQueryLevel;
+use crate::Sink;
 use crate::variant::PgLQueryVariant;
 use itoa::Buffer;
-use crate::Sink;
 
 /// Prints a number between two texts.
 fn print_count<S: Sink>(before: &str, count: u16, after: &str, out: &mut S) -> Result<(), S::Error>

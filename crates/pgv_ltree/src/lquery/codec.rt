@@ -8,9 +8,9 @@ ghost use Rattle.pgv_ltree.specs.Queries.{Level};
 ghost use Rattle.pgv_ltree.specs.QueryCodec.{lquery, lquery_array, query_image, query_in_binary, query_in_text, parse_query};
 
 use super::{PgLQuery, print_levels};
-use pgv_codec::{Codec, Decode, Encode, IsNull, PgArgumentBuffer, PgHasArrayType, ReadBack, Type};
 use crate::text_after_version;
 use crate::version::VERSION;
+use pgv_codec::{Codec, Decode, Encode, IsNull, PgArgumentBuffer, PgHasArrayType, ReadBack, Type};
 use pgv_types::PgTypeInfo;
 use pgv_value::{CodecError, PgLQueryParseError, PgValueFormat, PgValueRef};
 use std::alloc::{AllocError, Global};

@@ -1,0 +1,123 @@
+//! Rows of a COPY stream in binary, each read straight into a tuple.
+
+ghost use Rattle.std.specs.Prelude.{◌≡◌, ◌-◌, ◌<◌, ◌≤◌, length, map, option_map, IfOk, IfErr, OnErr, OnSome};
+ghost use Rattle.pgv_value.specs.Outcome.{Gives};
+ghost use Rattle.pgv_value.specs.Parsed.{GivesExactly};
+ghost use Rattle.pgv_row.specs.CopyRows.{AreFramesRefused, IsCopyRowRefused, bytes_left, copy_opened, copy_row, frames_read};
+ghost use Rattle.pgv_row.specs.Tuples.{or_codec};
+
+use crate::column::{PgColumn, PgColumns};
+use crate::error::ColumnError;
+use crate::reader::pass_over;
+use crate::tuple::FromRow;
+use pgv_copy::{after_count, after_header};
+use pgv_value::CodecError;
+use std::alloc::Global;
+use std::marker::Model;
+
+/// The rows of a COPY stream in binary (PostgreSQL, "COPY", "Binary Format"), each read straight into a tuple: what
+/// `COPY .. TO STDOUT (FORMAT binary)` sends. [`PgColumns::copy_rows`] makes it.
+#[derive(Drop)]
+pub struct PgCopyRows<'c, 'r> {
+    columns: &'c [PgColumn<'c>],
+    left: Option<&'r [u8]>,
+}
+
+impl<'c, 'r> Model for PgCopyRows<'c, 'r> {
+    ghost use Rattle.std.specs.Option.{option_copied};
+    ghost use Rattle.pgv_row.specs.CopyRows.{CopyRows, copy_rows_code};
+
+    ghost Value = { CopyRows };
+
+    ghost coded = { copy_rows_code };
+
+    ghost view = { λ r. record { columns = r.columns.now; left = option_copied r.left } };
+}
+
+impl<'d> PgColumns<'d> {
+    /// The rows of a COPY stream in binary of these columns. A stream that doesn't begin with the header is refused as
+    /// by `PgCopyReader::new`. It takes no memory.
+    pub fn copy_rows<'r>(&self, bytes: &'r [u8]) -> Result<PgCopyRows<'_, 'r>, CodecError>
+        ensures { GivesExactly (λ rows. rows) (copy_opened self.now bytes.now) result }
+    {
+        let left = after_header(bytes)?;
+        Ok(PgCopyRows {
+            columns: self.as_slice(),
+            left: Some(left),
+        })
+    }
+}
+
+/// What `T` reads of the frames of a row, and the rest after them.
+#[inline(always)]
+#[tactic(auto, unfolding(crate::specs::CopyRows::frames_read))]
+fn read_frames<'r, T: FromRow>(
+    alloc: Global,
+    columns: &[PgColumn<'_>],
+    frames: &'r [u8],
+) -> Result<(T, &'r [u8]), ColumnError<usize>>
+    ensures read { Gives (λ x. (T.view x.0, x.1.now)) (frames_read T.in_front columns.now
+        frames.now) (or_codec result) }
+    ensures first { IfErr result (AreFramesRefused T.in_front T.refused_in_front columns.now
+        frames.now) }
+    ensures within { IfOk result (λ x. length x.1.now ≤ length frames.now) }
+{
+    match T::read_frames(alloc, columns, frames) {
+        Ok((value, next, further)) => match pass_over(further, next, columns.len()) {
+            Ok(rest) => Ok((value, rest)),
+            Err(error) => Err(error),
+        },
+        Err(error) => Err(error),
+    }
+}
+
+impl<'c, 'r> PgCopyRows<'c, 'r> {
+    /// What the fields of `T` read of the next row, each of the column at its place, as
+    /// `rows.next_row_as::<(i32, Option<String>)>(alloc)`; `None` at the end of the stream and from then on. Further
+    /// columns are passed over. Types are not tested: [`PgColumns::check`] does that, once for all rows.
+    ///
+    /// Where the bytes end before the stream does it is C15, a negative number of fields but the -1 of the end C16,
+    /// another number than that of the columns C12, and a negative length of a field but the -1 of null C16; a value is
+    /// refused with what its type refuses it with. Of several refusals the one that comes first in the bytes is the
+    /// error; its place is the column's, and 0 of the number of fields. A refused call leaves the reader as it was.
+    /// Memory is asked for only for the values, and for a copy of a custom type.
+    #[inline(always)]
+    #[tactic(auto, unfolding(crate::specs::CopyRows::row_from, crate::specs::CopyRows::row_or_end))]
+    pub fn next_row_as<T: FromRow>(
+        &mut self,
+        alloc: Global,
+    ) -> Result<Option<T>, ColumnError<usize>>
+        ensures read { Gives (λ found. (option_map T.view found, self.new)) (copy_row T.in_front
+            self.old) (or_codec result) }
+        ensures first { IfErr result (IsCopyRowRefused T.in_front T.refused_in_front self.old) }
+        ensures unmoved { OnErr result (self.new ≡ self.old) }
+        // Each row takes bytes, so a loop over the rows ends.
+        ensures shorter { IfOk result (λ found. OnSome found
+            (bytes_left self.new < bytes_left self.old)) }
+    {
+        let Some(bytes) = self.left else {
+            return Ok(None);
+        };
+        let frames = match after_count(bytes, self.columns.len()) {
+            Ok(Some(frames)) => frames,
+            Ok(None) => {
+                self.left = None;
+                return Ok(None);
+            }
+            Err(source) => {
+                return Err(ColumnError::Decode {
+                    index: 0,
+                    place: 0,
+                    source,
+                });
+            }
+        };
+        match read_frames(alloc, self.columns, frames) {
+            Ok((value, rest)) => {
+                self.left = Some(rest);
+                Ok(Some(value))
+            }
+            Err(error) => Err(error),
+        }
+    }
+}
