@@ -46,7 +46,7 @@ pub bytes_width : (xs : List ℕ) → tokens_width (bytes xs) ≡ length xs
 bytes_width [] = refl
 bytes_width (x ∷ xs) = omega (arith, bytes_width xs)
 
-pub plain_frame : (xs : List ℕ) → length xs ≤ 16 → (frame (plainly (writes (Some (image_of (bytes xs)))))).answer ≡ Ok (bytes (be4 (length xs) ++ xs))
+pub plain_frame : (xs : List ℕ) → length xs ≤ 2147483647 → (frame (plainly (writes (Some (image_of (bytes xs)))))).answer ≡ Ok (bytes (be4 (length xs) ++ xs))
 plain_frame xs l =
     image_frame (plainly (writes (Some (image_of (bytes xs))))) (bytes xs) (omega arith) refl (omega (arith, bytes_width xs, l))
     ∙ ap (λ n. Ok (bytes (be4 n) ++ bytes xs)) (bytes_width xs) ∙ ap (λ ts. Ok ts) (sym (bytes-append (be4 (length xs)) xs))

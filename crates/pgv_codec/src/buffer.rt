@@ -8,7 +8,7 @@ ghost use Rattle.pgv_buf.specs.Proper.{Proper};
 ghost use Rattle.pgv_buf.specs.Fill.{fill_holes, fill_slots, slot_types};
 ghost use Rattle.pgv_value.specs.declared.error.CodecError.TheVariants.{Memory};
 ghost use Rattle.pgv_codec.specs.Encoding.{frame, image_of, plainly, typed, writes};
-ghost use Rattle.pgv_codec.specs.Appending.{Appended, Appends, Extends};
+ghost use Rattle.pgv_codec.specs.Appending.{Appended, Appends, AtOnce, Extends};
 ghost use Rattle.pgv_codec.specs.AtOnce.{four_words, word_frame as framed};
 
 use crate::traits::Encode;
@@ -291,6 +291,23 @@ impl PgArgumentBuffer {
         if value.len() == 4 {
             self.push_counted(value)?;
             return Ok(true);
+        }
+        self.push_u32(value.len() as u32)?;
+        self.extend_from_slice(value)?;
+        Ok(true)
+    }
+
+    /// Appends the frame of an image of these bytes, and answers `true`, as [`Encode::encode_at_once`] does; `false` of
+    /// more bytes than a frame can have.
+    #[inline(always)]
+    pub(crate) fn push_long_frame(&mut self, value: &[u8]) -> Result<bool, CodecError>
+        ensures ok { IfOk result (λ done. AtOnce done
+            (frame (plainly (writes (Some (image_of (bytes value.now)))))) self.old self.new) }
+        ensures err { IfErr result (λ e. e ≡ Memory) }
+        ensures appended { OnErr result (Extends self.old self.new) }
+    {
+        if value.len() > LENGTH_LIMIT {
+            return Ok(false);
         }
         self.push_u32(value.len() as u32)?;
         self.extend_from_slice(value)?;

@@ -40,6 +40,11 @@ impl Encode for String {
     fn produces(&self) -> Result<Option<PgTypeInfo>, AllocError> {
         Ok(None)
     }
+
+    #[inline(always)]
+    fn encode_at_once(&self, out: &mut PgArgumentBuffer) -> Result<bool, CodecError> {
+        out.push_long_frame(self.as_bytes())
+    }
 }
 
 /// A text (PostgreSQL, "Character Types"), the same in either format: bytes that are UTF-8, else
