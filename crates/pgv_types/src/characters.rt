@@ -32,6 +32,7 @@ impl Iterator for Letters<'_> {
 
     ghost remaining = { item_count letters_left };
 
+    #[inline(always)]
     fn next(&mut self) -> Option<char> {
         self.rest.next()
     }

@@ -24,6 +24,7 @@ pub struct IdentifierChar {
 
 impl IdentifierChar {
     /// Whether two characters are equal, or, if neither is between quotes, equal but for ASCII case.
+    #[inline(always)]
     fn is_like(self, other: IdentifierChar) -> bool
         ensures { result ≡ alike (char_seen self) (char_seen other) }
     {
@@ -73,6 +74,7 @@ impl Iterator for NameLetters<'_> {
 
     ghost remaining = { item_count name_letters_left };
 
+    #[inline(always)]
     fn next(&mut self) -> Option<char> {
         match self.text.next() {
             Some(ch) => Some(ch),
@@ -107,6 +109,7 @@ impl<'a> IdentifierChars<'a> {
     }
 
     /// What the next character of the text is, if it is significant at once.
+    #[inline(always)]
     fn seen(&mut self, ch: char) -> Option<IdentifierChar>
         ensures letters { self.new.letters ≡ self.old.letters }
         ensures goes { (cs : List ℕ) → walk self.old.case_sensitive self.old.last_char_quote
@@ -139,6 +142,7 @@ impl Iterator for IdentifierChars<'_> {
 
     ghost remaining = { item_count left };
 
+    #[inline(always)]
     fn next(&mut self) -> Option<IdentifierChar> {
         while let Some(ch) = self.letters.next() {
             if let Some(found) = self.seen(ch) {
