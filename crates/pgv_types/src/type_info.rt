@@ -22,6 +22,7 @@ use std::rc::{Rc, RcStr};
 #[cycle(types)]
 pub struct PgTypeInfo(pub PgType);
 
+/// Its parts go. It is written out since a derived one is proved again in each crate above.
 impl Drop for PgTypeInfo {
     #[cycle(drops)]
     #[inline(always)]
