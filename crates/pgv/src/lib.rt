@@ -54,7 +54,7 @@ pub mod text {
 pub mod row {
     pub use pgv_row::{
         ColumnError, ColumnIndex, ColumnList, FromRow, PgCatalog, PgColumn, PgColumns, PgOwnedRow,
-        PgPlaces, PgRow, PgRowReader,
+        PgPlaces, PgRow,
     };
 }
 

@@ -8,7 +8,7 @@ pub mod error;
 pub mod index;
 pub mod laws;
 mod place;
-pub mod reader;
+mod reader;
 pub mod row;
 pub mod tuple;
 
@@ -16,6 +16,5 @@ pub use catalog::PgCatalog;
 pub use column::{PgColumn, PgColumns};
 pub use error::ColumnError;
 pub use index::ColumnIndex;
-pub use reader::PgRowReader;
 pub use row::{PgOwnedRow, PgPlaces, PgRow};
 pub use tuple::{ColumnList, FromRow};
