@@ -57,7 +57,7 @@ pub mod text {
 pub mod row {
     pub use pgv_row::{
         ColumnError, ColumnIndex, ColumnList, FromRow, PgCatalog, PgColumn, PgColumns, PgCopyRows,
-        PgOwnedRow, PgPlaces, PgRow, PgRowReader,
+        PgOwnedRow, PgPlaces, PgRow,
     };
 }
 

@@ -5,7 +5,7 @@ use crate::seen::Seen;
 use jiff::civil::Date;
 use pgv_codec::{Decode, Type};
 use pgv_message::{MessageError, write_bind};
-use pgv_row::{FromRow, PgColumns, PgPlaces, PgRow, PgRowReader};
+use pgv_row::{PgColumns, PgPlaces, PgRow};
 use pgv_types::PgTypeInfo;
 use pgv_value::{CodecError, PgValueFormat, PgValueRef};
 use pgv_wire::PgArguments;
@@ -73,21 +73,15 @@ fn rows_once(
 type Fields = (i32, String, i64, bool, Date);
 
 /// What is seen of the row of a body, which is read in one pass.
-fn passed_once<T: FromRow + Seen>(
-    alloc: Global,
-    reader: &PgRowReader<'_, T>,
-    body: &[u8],
-) -> Result<usize, CodecError> {
-    match reader.read(alloc, body) {
-        Ok(fields) => Ok(fields.seen()),
-        Err(error) => Err(CodecError::from(error)),
-    }
+fn passed_once(alloc: Global, columns: &PgColumns<'_>, body: &[u8]) -> Result<usize, CodecError> {
+    let fields: Fields = columns.read_row(alloc, body)?;
+    Ok(fields.seen())
 }
 
 /// What is seen of all rows, each read in one pass.
-fn passes_once<T: FromRow + Seen>(
+fn passes_once(
     alloc: Global,
-    reader: &PgRowReader<'_, T>,
+    columns: &PgColumns<'_>,
     bodies: &[u8],
     lens: &[u32],
 ) -> Result<usize, CodecError> {
@@ -96,26 +90,23 @@ fn passes_once<T: FromRow + Seen>(
     for len in lens {
         let (body, behind) = rest.split_at((*len as usize).min(rest.len()));
         rest = behind;
-        sum = sum.wrapping_add(passed_once(alloc, reader, body)?);
+        sum = sum.wrapping_add(passed_once(alloc, columns, body)?);
     }
     Ok(sum)
 }
 
 /// Reads all rows `rounds` times, each in one pass.
-fn read_in_one_pass<T: FromRow + Seen>(
+fn read_in_one_pass(
     alloc: Global,
     columns: &PgColumns<'_>,
     bodies: &[u8],
     lens: &[u32],
     rounds: u32,
 ) -> Result<usize, CodecError> {
-    let reader = match columns.reader::<T>() {
-        Ok(reader) => reader,
-        Err(error) => return Err(CodecError::from(error)),
-    };
+    columns.check::<Fields>()?;
     let mut sum = 0usize;
     for _ in 0..rounds {
-        sum = sum.wrapping_add(passes_once(alloc, &reader, bodies, lens)?);
+        sum = sum.wrapping_add(passes_once(alloc, columns, bodies, lens)?);
     }
     Ok(sum)
 }
@@ -162,7 +153,7 @@ pub fn read_rows(
     let none: &[PgTypeInfo] = &[];
     let columns = PgColumns::read(alloc, DESCRIPTION, &none)?;
     if how == 2 {
-        return read_in_one_pass::<Fields>(alloc, &columns, bodies, lens, rounds);
+        return read_in_one_pass(alloc, &columns, bodies, lens, rounds);
     }
     let mut room = PgPlaces::with_columns(alloc, &columns)?;
     let mut sum = 0usize;

@@ -2,7 +2,7 @@
 //! or `catalog KIND`.
 
 use pgv::catalog::{PgFieldRow, PgLabelRow, PgTypeRow};
-use pgv::row::{FromRow, PgColumns, PgCopyRows, PgRow, PgRowReader};
+use pgv::row::{FromRow, PgColumns, PgCopyRows, PgRow};
 use pgv::{CodecError, Decode, PgEnum, PgValue, Type};
 use pgv_examples::mood::Mood;
 use std::alloc::Global;
@@ -105,7 +105,7 @@ pub fn in_one_pass(
 ) -> Result<String, CodecError> {
     match number {
         "1" => passed::<(i32,)>(alloc, columns, body),
-        "2" => passed::<(i32, Option<String>)>(alloc, columns, body),
+        "2" => person(alloc, columns, body),
         "3" => passed::<(i32, i32, i32)>(alloc, columns, body),
         "4" => passed::<(i32, i32, i32, i32)>(alloc, columns, body),
         "5" => passed::<(i32, i32, i32, i32, i32)>(alloc, columns, body),
@@ -116,28 +116,26 @@ pub fn in_one_pass(
     }
 }
 
-/// What a reader of tuples reads of a body.
+/// What `T` reads of a body under columns that are tested first.
 fn passed<T: FromRow + Debug>(
     alloc: Global,
     columns: &PgColumns<'_>,
     body: &[u8],
 ) -> Result<String, CodecError> {
-    match columns.reader::<T>() {
-        Ok(reader) => read_by(alloc, &reader, body),
+    if let Err(error) = columns.check::<T>() {
+        return Err(CodecError::from(error));
+    }
+    match columns.read_row::<T>(alloc, body) {
+        Ok(fields) => Ok(format!(in alloc; "{fields:?}")?),
         Err(error) => Err(CodecError::from(error)),
     }
 }
 
-/// What is read of a body.
-fn read_by<T: FromRow + Debug>(
-    alloc: Global,
-    reader: &PgRowReader<'_, T>,
-    body: &[u8],
-) -> Result<String, CodecError> {
-    match reader.read(alloc, body) {
-        Ok(fields) => Ok(format!(in alloc; "{fields:?}")?),
-        Err(error) => Err(CodecError::from(error)),
-    }
+/// The same of a number and a text that may be null.
+fn person(alloc: Global, columns: &PgColumns<'_>, body: &[u8]) -> Result<String, CodecError> {
+    columns.check::<(i32, Option<String>)>()?;
+    let person: (i32, Option<String>) = columns.read_row(alloc, body)?;
+    Ok(format!(in alloc; "{person:?}")?)
 }
 
 /// The first two rows of a COPY stream, where there are so many, each as a number and a text.

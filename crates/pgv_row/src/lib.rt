@@ -9,7 +9,7 @@ pub mod error;
 pub mod index;
 pub mod laws;
 mod place;
-pub mod reader;
+mod reader;
 pub mod row;
 pub mod tuple;
 
@@ -18,6 +18,5 @@ pub use column::{PgColumn, PgColumns};
 pub use copy::PgCopyRows;
 pub use error::ColumnError;
 pub use index::ColumnIndex;
-pub use reader::PgRowReader;
 pub use row::{PgOwnedRow, PgPlaces, PgRow};
 pub use tuple::{ColumnList, FromRow};

@@ -1,6 +1,6 @@
 //! Rows that are read in one pass, each straight into a tuple.
 
-ghost use Rattle.std.specs.Prelude.{◌≡◌, ◌-◌, ◌≤◌, length, IfOk, IfErr};
+ghost use Rattle.std.specs.Prelude.{◌≡◌, ◌-◌, ◌≤◌, Ok, length, IfOk, IfErr};
 ghost use Rattle.pgv_value.specs.Outcome.{Gives};
 ghost use Rattle.pgv_value.specs.Parsed.{GivesExactly};
 ghost use Rattle.pgv_row.specs.DataRow.{frames_front};
@@ -13,51 +13,6 @@ use crate::place::check_count;
 use crate::tuple::FromRow;
 use pgv_value::{CodecError, part_in_front};
 use std::alloc::Global;
-use std::marker::{Model, PhantomData};
-
-/// What reads the rows of a statement's result, one after another, each in one pass into a tuple. The types of the
-/// columns are tested once, by [`PgColumns::reader`], and not for each row.
-#[derive(Drop)]
-pub struct PgRowReader<'a, T: FromRow> {
-    columns: &'a [PgColumn<'a>],
-    of: PhantomData<T>,
-}
-
-impl<'a, T: FromRow> Model for PgRowReader<'a, T> {
-    ghost use Rattle.std.specs.Prelude.{◌≡◌, List, Ok};
-    ghost use Rattle.std.specs.Coded.{coded_list};
-    ghost use Rattle.pgv_row.specs.ColumnView.{Column, column_code};
-
-    ghost Value = { List Column };
-
-    ghost coded = { coded_list column_code };
-
-    ghost view = { λ r. r.columns.now };
-
-    ghost invariant = { λ r. T.fits r.columns.now ≡ Ok tt };
-}
-
-impl<'d> PgColumns<'d> {
-    /// What reads the rows of these columns into tuples, each in one pass over the body of its DataRow:
-    /// `columns.reader::<(i32, Option<String>)>()?`. The types of the columns are tested here, once for all rows; null
-    /// is no exception from that, as it is at [`PgRow::try_get`](crate::PgRow::try_get).
-    ///
-    /// A field that there is no column for is `NotFound`, and one that isn't read under its column's type `Decode` with
-    /// C27, as at `try_get`: the first one is the error.
-    pub fn reader<T: FromRow>(&self) -> Result<PgRowReader<'_, T>, ColumnError<usize>>
-        ensures columns { IfOk result (λ reader. reader ≡ self.now) }
-        ensures exact { Fits (T.fits self.now) result }
-    {
-        let columns = self.as_slice();
-        match T::check_columns(columns) {
-            Ok(()) => Ok(PgRowReader {
-                columns,
-                of: PhantomData,
-            }),
-            Err(error) => Err(error),
-        }
-    }
-}
 
 /// The frames of the body of a row that has as many columns.
 #[inline(always)]
@@ -137,11 +92,26 @@ fn read_body<T: FromRow>(
     Ok(value)
 }
 
-impl<'a, T: FromRow> PgRowReader<'a, T> {
-    /// What the fields read of the row that is the body of a DataRow (PostgreSQL, "Message Formats", DataRow): the same
-    /// as [`PgRow::as_tuple`](crate::PgRow::as_tuple) reads of it, but that no room is needed for places. Of
-    /// `0002 00000001 37 ffffffff` under columns of `int4` in text and of `text` it is `(7, None)` for
-    /// `(i32, Option<String>)`.
+impl<'d> PgColumns<'d> {
+    /// Tests once, for all rows of these columns, that they can be read into tuples of a type by
+    /// [`PgColumns::read_row`]: `columns.check::<(i32, Option<String>)>()?`. Null is no exception, as it is at
+    /// [`PgRow::try_get`](crate::PgRow::try_get): its column's type is tested too.
+    ///
+    /// A field that there is no column for is `NotFound`, and one that isn't read under its column's type `Decode` with
+    /// C27, as at `try_get`: the first one is the error.
+    pub fn check<T: FromRow>(&self) -> Result<(), ColumnError<usize>>
+        ensures exact { Fits (T.fits self.now) result }
+    {
+        T::check_columns(self.as_slice())
+    }
+
+    /// The fields of a row as a tuple, read in one pass over the body of its DataRow (PostgreSQL, "Message Formats",
+    /// DataRow): `let row: (i32, Option<String>) = columns.read_row(alloc, body)?`. No room for places is needed. Of
+    /// `0002 00000001 37 ffffffff` under columns of `int4` in text and of `text` it is `(7, None)`.
+    ///
+    /// The types of the columns are not tested here: [`PgColumns::check`] does that, once for all rows. Where it
+    /// succeeds, a row is read, or refused, as [`PgRow::as_tuple`](crate::PgRow::as_tuple) does it. Where it doesn't,
+    /// each field still reads its value under the type of its column, and may misread or refuse it.
     ///
     /// Another number of columns is refused with C12, bytes that end too early with C15, a negative length but the -1
     /// of null with C16, and bytes after the last column with C17; a value with what its type refuses it with. Of
@@ -149,15 +119,18 @@ impl<'a, T: FromRow> PgRowReader<'a, T> {
     /// later frame. The error's place is the column's that was read; 0 of the number of columns, and that number of
     /// bytes after the last one. Memory is asked for only for the values, and for a copy of a custom type.
     #[inline(always)]
-    pub fn read(&self, alloc: Global, body: &[u8]) -> Result<T, ColumnError<usize>>
+    pub fn read_row<T: FromRow>(&self, alloc: Global, body: &[u8]) -> Result<T, ColumnError<usize>>
         ensures read { Gives T.view (one_pass T.in_front self.now body.now) (or_codec result) }
         ensures first { IfErr result
             (IsRowRefused T.in_front T.refused_in_front self.now body.now) }
-        // Of a DataRow the same is read as of its row, and refused of the same column; and only a DataRow is read.
-        ensures row { GivesRow T.view T.parse self.now body.now (or_codec result) }
-        ensures refused { RefusesRow T.refused self.now body.now result }
+        // Only a DataRow is read. Where the columns fit, the same is read of it as of its row, and the same column is
+        // refused.
         ensures whole { IfOk result (λ _. IsRowOf self.now body.now) }
+        ensures row { T.fits self.now ≡ Ok tt →
+            GivesRow T.view T.parse self.now body.now (or_codec result) }
+        ensures refused { T.fits self.now ≡ Ok tt →
+            RefusesRow T.refused self.now body.now result }
     {
-        read_body(alloc, self.columns, body)
+        read_body(alloc, self.as_slice(), body)
     }
 }
