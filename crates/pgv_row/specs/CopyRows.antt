@@ -1,7 +1,7 @@
--- How a row of a COPY stream in binary is read straight into a tuple (PostgreSQL: "COPY", "Binary Format"): the number of
--- fields, which has to be that of the columns, or -1, the trailer, after which there is no row; then each value as its
--- frame is found, under the type and in the format of its column, null included; further columns than there are fields
--- are passed over, a frame each.
+-- How a row of a COPY stream in binary is read straight into a tuple (PostgreSQL: "COPY", "Binary Format"): the number
+-- of fields, which has to be that of the columns, or -1, the trailer, after which there is no row; then each value as
+-- its frame is found, under the type and in the format of its column, null included; further columns than there are
+-- fields are passed over, a frame each.
 use Rattle.std.specs.Prelude.{◌⊎◌, ◌≡◌, ℕ, ◌-◌, List, length, Option, Some, None, Err, IsOkAnd, IsSomeAnd, Ok, refl}
 use Rattle.std.specs.Coded.{Coded, code_by, coded×, coded_ℕ, coded_list, coded_option}
 use Rattle.pgv_copy.specs.CopyBinary.{header, after_count, length_left}
