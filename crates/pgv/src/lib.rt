@@ -32,12 +32,13 @@ pub use pgv_wire::PgArguments;
 
 /// The Rust types of values.
 pub mod types {
-    pub use pgv_hstore::PgHstore;
     pub use pgv_ltree::{
         PgLQuery, PgLQueryLevel, PgLQueryVariant, PgLQueryVariantFlag, PgLTree, PgLTreeLabel,
     };
-    pub use pgv_more::{BitVec, MacAddress, PgBytea, PgByteaArray, PgCiText, PgTimeTz};
-    pub use pgv_numeric::{PgMoney, PgNumeric, PgNumericSign};
+    pub use pgv_more::{
+        BitVec, MacAddress, PgBytea, PgByteaArray, PgCiText, PgHstore, PgMoney, PgNumeric,
+        PgNumericSign, PgTimeTz,
+    };
     pub use pgv_range::PgRange;
     pub use pgv_text::{IpNetwork, Ipv4Network, Ipv6Network};
     pub use pgv_types::Oid;

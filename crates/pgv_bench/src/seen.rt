@@ -2,10 +2,8 @@
 
 use jiff::Timestamp;
 use jiff::civil::{Date, DateTime, Time};
-use pgv_hstore::PgHstore;
 use pgv_ltree::{PgLQuery, PgLTree};
-use pgv_more::{BitVec, MacAddress, PgBytea, PgCiText, PgTimeTz};
-use pgv_numeric::{PgMoney, PgNumeric};
+use pgv_more::{BitVec, MacAddress, PgBytea, PgCiText, PgHstore, PgMoney, PgNumeric, PgTimeTz};
 use pgv_range::PgRange;
 use pgv_text::IpNetwork;
 use pgv_value::PgInterval;

@@ -6,3 +6,14 @@ pub mod ByteaDigits
 pub mod LawsOfBits
 pub mod LawsOfMacs
 pub mod LawsOfBytea
+pub mod NumericWords
+pub mod NumericWritten
+pub mod NumericRead
+pub mod EqualNumerics
+pub mod LawsOfMoney
+pub mod LawsOfNumerics
+pub mod HstoreWritten
+pub mod HstoreRead
+pub mod HstoreClones
+pub mod EqualHstores
+pub mod LawsOfHstores

@@ -13,3 +13,11 @@ pub mod MacAddressBack
 pub mod TimeTzBack
 pub mod ByteaBack
 pub mod Laws
+pub mod MoneyCodec
+pub mod MoneyBack
+pub mod Numeric
+pub mod NumericBack
+pub mod NumericLaws
+pub mod Hstore
+pub mod HstoreBack
+pub mod HstoreLaws

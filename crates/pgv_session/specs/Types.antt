@@ -23,14 +23,14 @@ use Rattle.pgv_codec.specs.Nullable.{nullable}
 use Rattle.pgv_codec.specs.ScalarBinary.{bool_image, signed_image, unsigned_image, text_image, uuid_image}
 use Rattle.pgv_ltree.specs.TreesCodec.{ltree, ltree_array, parse_tree, tree_image}
 use Rattle.pgv_ltree.specs.QueryCodec.{lquery, parse_query, query_image}
-use Rattle.pgv_hstore.specs.Hstore.{hstore_image, parse_hstore}
+use Rattle.pgv_more.specs.Hstore.{hstore_image, parse_hstore}
 use Rattle.pgv_more.specs.BitsBinary.{bits_image, bits_hint}
 use Rattle.pgv_more.specs.BitsCodec.{parse_bits}
 use Rattle.pgv_more.specs.ByteaText.{parse_bytea}
 use Rattle.pgv_more.specs.MacAddressCodec.{mac_image, parse_mac}
 use Rattle.pgv_more.specs.TimeTzCodec.{time_tz_image, parse_time_tz}
-use Rattle.pgv_numeric.specs.MoneyCodec.{parse_money}
-use Rattle.pgv_numeric.specs.Numeric.{numeric_image, parse_numeric}
+use Rattle.pgv_more.specs.MoneyCodec.{parse_money}
+use Rattle.pgv_more.specs.Numeric.{numeric_image, parse_numeric}
 use Rattle.pgv_range.specs.RangeGrammar.{parse_range}
 use Rattle.pgv_range.specs.RangeSaying.{range_written}
 use Rattle.pgv_session.specs.declared.type_name.TypeName.{TypeName}

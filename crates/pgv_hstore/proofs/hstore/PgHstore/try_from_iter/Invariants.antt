@@ -1,8 +1,0 @@
-use Rattle.std.proofs.Common.{◌≡◌, []}
-use Rattle.std.specs.Prelude.{map}
-use Rattle.pgv_hstore.specs.Hstore.{pair_of, put_all}
-use Rattle.pgv_hstore.proofs.hstore.PgHstore.try_from_iter.Given as goal
-
--- what the iterator gave is in the map
-abbrev pub invariant-loop-key : goal.invariant-loop-key
-invariant-loop-key g l = map pair_of l.map.entries ≡ put_all [] (map pair_of l.yielded)

@@ -1,3 +1,0 @@
-pub mod Hstore
-pub mod HstoreBack
-pub mod Laws

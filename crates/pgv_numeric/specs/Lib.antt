@@ -1,5 +1,0 @@
-pub mod MoneyCodec
-pub mod MoneyBack
-pub mod Numeric
-pub mod NumericBack
-pub mod Laws
