@@ -17,7 +17,7 @@ use Rattle.std.proofs.lemmas.Str.{IsUtf8-had, utf8_valid_len-IsUtf8}
 use Rattle.pgv_buf.specs.Tokens.{Token, bytes, be4}
 use Rattle.pgv_value.proofs.Fronts.{frame_in_front}
 use Rattle.pgv_value.specs.FrameBinary.{Part, front}
-use Rattle.pgv_value.specs.Outcome.{ok_of, reading_of, done, exactly, allocates, ◌>>=◌, ◌>>◌}
+use Rattle.pgv_value.specs.Outcome.{ok_of, reading_of, done, allocates, ◌>>=◌, ◌>>◌}
 use Rattle.pgv_value.proofs.Outcomes.{answer_is, answer_of, failed, ok_is, taken, taken_exactly}
 use Rattle.pgv_value.specs.declared.error.CodecError.TheVariants.{HstoreLength}
 use Rattle.pgv_value.specs.Utf8.{is_utf8}
