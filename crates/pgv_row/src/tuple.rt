@@ -1,6 +1,6 @@
 //! Rows as tuples: each column in order is a field.
 
-ghost use Rattle.std.specs.Prelude.{◌≡◌, ◌+◌, ◌≤◌, ℕ, List, length, IfOk, IfErr};
+ghost use Rattle.std.specs.Prelude.{◌≡◌, ◌+◌, ◌≤◌, ℕ, List, length, Ok, IfSome, IfOk, IfErr};
 ghost use Rattle.std.specs.Option.{option_copied};
 ghost use Rattle.pgv_value.specs.Outcome.{Gives, Outcome};
 ghost use Rattle.pgv_row.specs.ColumnView.{Column};
@@ -14,7 +14,7 @@ use crate::column::PgColumn;
 use crate::error::ColumnError;
 use crate::row::PgRow;
 use pgv_codec::{Decode, Type};
-use pgv_value::{CodecError, PgValueRef, part_in_front};
+use pgv_value::{CodecError, PgValueFormat, PgValueRef, part_in_front};
 use std::alloc::Global;
 
 /// A value that is read from a row. Tuples are: of n fields the first n columns are read, and further ones are ignored.
@@ -169,6 +169,19 @@ fn check_column<T: Type>(
     Ok(place + 1)
 }
 
+/// The value of a part in binary, if it is read at once, whatever its type is.
+#[inline(always)]
+#[tactic(auto, unfolding(crate::specs::OnePass::part_value))]
+fn part_at_once<T: Decode>(column: &PgColumn<'_>, part: Option<&[u8]>) -> Option<T>
+    ensures { IfSome result (λ v. (part_value T.parse column.now (option_copied part.entry)).answer
+        ≡ Ok (T.view v)) }
+{
+    match column.format() {
+        PgValueFormat::Binary => T::decode_at_once(part?),
+        PgValueFormat::Text => None,
+    }
+}
+
 /// What `T` reads of a part, or of null, under the type and in the format of its column.
 #[inline(always)]
 #[tactic(auto, unfolding(crate::specs::OnePass::part_value))]
@@ -179,6 +192,9 @@ fn read_part<T: Decode>(
 ) -> Result<T, CodecError>
     ensures { Gives T.view (part_value T.parse column.now (option_copied part.entry)) result }
 {
+    if let Some(value) = part_at_once(column, part) {
+        return Ok(value);
+    }
     let type_info = column.type_info().clone()?;
     T::decode(alloc, PgValueRef::new(part, type_info, column.format()))
 }
