@@ -33,6 +33,7 @@ pub const BY_COLUMNS: u32 = 0;
 pub const AS_LISTS: u32 = 0;
 pub const AS_FRAMES: u32 = 1;
 pub const IN_ONE_PASS: u32 = 2;
+pub const DESCRIBED: u32 = 3;
 pub const AS_TUPLES: u32 = 2;
 
 pub fn framed(export: Framed, bytes: &[u8], how: u32) -> Work<'_> {

@@ -132,13 +132,15 @@ pub fn copying(bench: &mut Bench) {
     bench.row("the same as a tuple", COUNT, framed(pgv_bench_copy, &stream, AS_TUPLES), framed(pgv_bench_copy, &frames, AS_FRAMES));
 }
 
-/// Messages. The first two rows are ours on both sides: rows by their columns, and in one pass, beside `get` and `decode` of the same fields without a row.
+/// Messages. The first three rows are ours on both sides: rows by their columns, and in one pass, beside `get` and `decode` of the same
+/// fields without a row, under types that a description has, or that the program has as constants.
 pub fn messages(bench: &mut Bench) {
     let (numbers, texts) = (numbers_of(COUNT), texts_of(COUNT));
     let days = many(COUNT, 4, |numbers| numbers.moment().date_naive());
     let bodies: Vec<Vec<u8>> = (0..COUNT).map(|at| row_body(numbers[at], &texts[at], days[at])).collect();
     let bodies = Texts::new(&bodies);
-    bench.row("row of 5 columns, beside its get+decode", COUNT, bodies.rows(BY_COLUMNS), bodies.rows(AS_FRAMES));
-    bench.row("the same in one pass", COUNT, bodies.rows(IN_ONE_PASS), bodies.rows(AS_FRAMES));
+    bench.row("row of 5 columns, beside its get+decode", COUNT, bodies.rows(BY_COLUMNS), bodies.rows(DESCRIBED));
+    bench.row("the same in one pass", COUNT, bodies.rows(IN_ONE_PASS), bodies.rows(DESCRIBED));
+    bench.row("the same, types as constants", COUNT, bodies.rows(IN_ONE_PASS), bodies.rows(AS_FRAMES));
     bench.row("Bind of 4", COUNT, Texts::new(&texts).bound(), bound(&texts));
 }

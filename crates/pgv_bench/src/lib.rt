@@ -391,7 +391,8 @@ pub extern "C" fn pgv_bench_copy(alloc: Global, bytes: &[u8], rounds: u32, how: 
 }
 
 /// Reads rows of an `int4`, a `text`, an `int8`, a `bool` and a `date`, the pieces of `blob` of these lengths: by their
-/// columns where `how` is 0, in one pass where it is 2, and else the same fields as frames.
+/// columns where `how` is 0, in one pass where it is 2, and else the same fields as frames, where it is 3 under the
+/// columns' types.
 #[unsafe(no_mangle)]
 pub extern "C" fn pgv_bench_rows(
     alloc: Global,

@@ -5,7 +5,7 @@ use crate::seen::Seen;
 use jiff::civil::Date;
 use pgv_codec::{Decode, Type};
 use pgv_message::{MessageError, write_bind};
-use pgv_row::{PgColumns, PgPlaces, PgRow};
+use pgv_row::{PgColumn, PgColumns, PgPlaces, PgRow};
 use pgv_types::PgTypeInfo;
 use pgv_value::{CodecError, PgValueFormat, PgValueRef};
 use pgv_wire::PgArguments;
@@ -130,19 +130,59 @@ fn frames_seen(alloc: Global, body: &[u8]) -> Result<usize, CodecError> {
     Ok(sum.wrapping_add(frame::<Date>(alloc, &mut rest)?))
 }
 
-/// What is seen of the frames of all rows.
-fn frames_once(alloc: Global, bodies: &[u8], lens: &[u32]) -> Result<usize, CodecError> {
+/// What is seen of the frame in front under a column's type.
+fn column_frame<T: Decode + Seen>(
+    alloc: Global,
+    rest: &mut &[u8],
+    column: &PgColumn<'_>,
+) -> Result<usize, CodecError> {
+    let value = PgValueRef::get(rest, column.format(), column.type_info().clone()?)?;
+    Ok(T::decode(alloc, value)?.seen())
+}
+
+/// What is seen of the frames after a number of two bytes, under the columns' types.
+fn described_seen(
+    alloc: Global,
+    columns: &PgColumns<'_>,
+    body: &[u8],
+) -> Result<usize, CodecError> {
+    let Some(frames) = body.get(2..) else {
+        return Err(CodecError::Short);
+    };
+    let [id, name, total, open, born] = columns.as_slice() else {
+        return Err(CodecError::FieldCount);
+    };
+    let mut rest = frames;
+    let mut sum = column_frame::<i32>(alloc, &mut rest, id)?;
+    sum = sum.wrapping_add(column_frame::<String>(alloc, &mut rest, name)?);
+    sum = sum.wrapping_add(column_frame::<i64>(alloc, &mut rest, total)?);
+    sum = sum.wrapping_add(column_frame::<bool>(alloc, &mut rest, open)?);
+    Ok(sum.wrapping_add(column_frame::<Date>(alloc, &mut rest, born)?))
+}
+
+/// What is seen of the frames of all rows, under the columns' types or those of the fields.
+fn frames_once(
+    alloc: Global,
+    columns: Option<&PgColumns<'_>>,
+    bodies: &[u8],
+    lens: &[u32],
+) -> Result<usize, CodecError> {
     let mut sum = 0usize;
     let mut rest = bodies;
     for len in lens {
         let (body, behind) = rest.split_at((*len as usize).min(rest.len()));
         rest = behind;
-        sum = sum.wrapping_add(frames_seen(alloc, body)?);
+        let seen = match columns {
+            Some(columns) => described_seen(alloc, columns, body)?,
+            None => frames_seen(alloc, body)?,
+        };
+        sum = sum.wrapping_add(seen);
     }
     Ok(sum)
 }
 
-/// Reads all rows `rounds` times: by their columns where `how` is 0, in one pass where it is 2, and else as frames.
+/// Reads all rows `rounds` times: by their columns where `how` is 0, in one pass where it is 2, and else as frames, where
+/// it is 3 under the columns' types.
 pub fn read_rows(
     alloc: Global,
     bodies: &[u8],
@@ -158,10 +198,10 @@ pub fn read_rows(
     let mut room = PgPlaces::with_columns(alloc, &columns)?;
     let mut sum = 0usize;
     for _ in 0..rounds {
-        let once = if how == 0 {
-            rows_once(alloc, &columns, &mut room, bodies, lens)?
-        } else {
-            frames_once(alloc, bodies, lens)?
+        let once = match how {
+            0 => rows_once(alloc, &columns, &mut room, bodies, lens)?,
+            3 => frames_once(alloc, Some(&columns), bodies, lens)?,
+            _ => frames_once(alloc, None, bodies, lens)?,
         };
         sum = sum.wrapping_add(once);
     }
