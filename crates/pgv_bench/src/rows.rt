@@ -181,8 +181,8 @@ fn frames_once(
     Ok(sum)
 }
 
-/// Reads all rows `rounds` times: by their columns where `how` is 0, in one pass where it is 2, and else as frames, under
-/// the columns' types where it is 3.
+/// Reads all rows `rounds` times: by their columns where `how` is 0, in one pass where it is 2, and else as frames,
+/// under the columns' types where it is 3.
 pub fn read_rows(
     alloc: Global,
     bodies: &[u8],
