@@ -1,7 +1,7 @@
-/* Stands between a program and the C library's calls that take memory (LD_PRELOAD). It refuses the requests that the variable REFUSE names:
-   `7` the seventh, `7-` that and all after it, and none where it isn't set. At its end it writes to the file that REFUSE_REPORT names how
-   many requests there were, how many were refused, and how many were for more than LARGE bytes. tools/refuse_memory builds it; it is
-   linked with nothing. */
+/* Stands between a program and the C library's calls that take memory (LD_PRELOAD). It refuses the requests that the
+   variable REFUSE names: `7` the seventh, `7-` that and all after it, and none where it isn't set. At its end it writes
+   to the file that REFUSE_REPORT names how many requests there were, how many were refused, and how many were for more
+   than LARGE bytes. tools/refuse_memory builds it; it is linked with nothing. */
 #include <errno.h>
 #include <stddef.h>
 #include <stdio.h>

@@ -1,5 +1,5 @@
-//! Arrays of 10 to 1,000,000 `int4`, written and read by us, by postgres-types, and by a plain loop over memory that tests no more than the
-//! lengths: nanoseconds an element.
+//! Arrays of 10 to 1,000,000 `int4`, written and read by us, by postgres-types, and by a plain loop over memory that
+//! tests no more than the lengths: nanoseconds an element.
 use crate::ours::{framed, lists, pgv_bench_read_i32s, BINARY};
 use crate::peer::{decoded, frames, written, Seen};
 use crate::turns::{least_of, Work};

@@ -1,6 +1,6 @@
-//! Times the codec's calls beside those of postgres-types, over the same values: `cargo run --release [WORD ..]` for all rows, or for those
-//! whose names contain a word. It prints a row of a table for each, and ends with status 1 where two checksums differ. With
-//! `--arrays` it prints what arrays of 10 to 1,000,000 elements take, which `plot` draws.
+//! Times the codec's calls beside those of postgres-types, over the same values: `cargo run --release [WORD ..]` for
+//! all rows, or for those whose names contain a word. It prints a row of a table for each, and ends with status 1 where
+//! two checksums differ. With `--arrays` it prints what arrays of 10 to 1,000,000 elements take, which `plot` draws.
 mod arrays;
 mod ours;
 mod peer;

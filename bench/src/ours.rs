@@ -1,6 +1,6 @@
-//! The exports of `crates/pgv_bench`, as work. A slice is a pointer and a length there. `HOW` of an export that writes numbers or texts is 0
-//! to add them to arguments, and else it encodes them; of one that takes frames 1 encodes their values and 2 decodes them; of one that only
-//! reads frames 0 reads them in binary.
+//! The exports of `crates/pgv_bench`, as work. A slice is a pointer and a length there. `HOW` of an export that writes
+//! numbers or texts is 0 to add them to arguments, and else it encodes them; of one that takes frames 1 encodes their
+//! values and 2 decodes them; of one that only reads frames 0 reads them in binary.
 use crate::turns::Work;
 
 /// An export that takes frames.

@@ -1,4 +1,5 @@
-//! The same work by postgres-types, with the lengths in front as tokio-postgres writes and reads them, and messages by postgres-protocol.
+//! The same work by postgres-types, with the lengths in front as tokio-postgres writes and reads them, and messages by
+//! postgres-protocol.
 use crate::turns::Work;
 use bytes::{BufMut, BytesMut};
 use chrono::{DateTime, Datelike, NaiveDate, NaiveDateTime, NaiveTime, Timelike, Utc};
@@ -8,8 +9,8 @@ use std::collections::HashMap;
 use std::error::Error;
 use std::hint::black_box;
 
-/// What is counted of a value that was read, as `crates/pgv_bench/src/seen.rt` counts it. The memory of a value is shown to the outside,
-/// since the compiler could leave the allocation out else.
+/// What is counted of a value that was read, as `crates/pgv_bench/src/seen.rt` counts it. The memory of a value is
+/// shown to the outside, since the compiler could leave the allocation out else.
 pub trait Seen {
     fn seen(&self) -> usize;
 }

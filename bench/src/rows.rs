@@ -116,7 +116,8 @@ fn row_body(number: i32, text: &String, day: NaiveDate) -> Vec<u8> {
     body
 }
 
-/// A COPY stream of rows of three fields, read as lists and as tuples, beside `get` and `decode` of the same fields. Ours on both sides.
+/// A COPY stream of rows of three fields, read as lists and as tuples, beside `get` and `decode` of the same fields.
+/// Ours on both sides.
 pub fn copying(bench: &mut Bench) {
     let (numbers, texts) = (numbers_of(COUNT), texts_of(COUNT));
     let fields: Vec<Vec<u8>> = (0..COUNT)
@@ -132,8 +133,8 @@ pub fn copying(bench: &mut Bench) {
     bench.row("the same as a tuple", COUNT, framed(pgv_bench_copy, &stream, AS_TUPLES), framed(pgv_bench_copy, &frames, AS_FRAMES));
 }
 
-/// Messages. The first three rows are ours on both sides: rows by their columns, and in one pass, beside `get` and `decode` of the same
-/// fields without a row, under types that a description has, or that the program has as constants.
+/// Messages. The first three rows are ours on both sides: rows by their columns, and in one pass, beside `get` and
+/// `decode` of the same fields without a row, under types that a description has, or that the program has as constants.
 pub fn messages(bench: &mut Bench) {
     let (numbers, texts) = (numbers_of(COUNT), texts_of(COUNT));
     let days = many(COUNT, 4, |numbers| numbers.moment().date_naive());

@@ -150,7 +150,7 @@ impl Came {
         self.description.extend_from_slice(body)
     }
 
-    /// Which statement of the catalogue a row is of, counted from 1; 0 where it is of none.
+    /// Which statement of the catalogue gave a row, counted from 1; 0 where none did.
     fn statement(&self) -> usize {
         if self.is_catalog { self.statements } else { 0 }
     }

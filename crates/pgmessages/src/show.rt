@@ -24,7 +24,7 @@ pub fn show_row(alloc: Global, row: &PgRow<'_>, out: &mut String) -> Result<(), 
     Ok(())
 }
 
-/// Appends a value of a row: null, its text, or what is read of it in binary.
+/// Appends a value of a row: null, its text, or what is read from it in binary.
 fn show_value(alloc: Global, row: &PgRow<'_>, place: usize, out: &mut String) -> Result<(), Fault> {
     let value = row.try_get_raw(place)?;
     if value.is_null() {

@@ -26,7 +26,7 @@ preparing sql = do
   ended ← bare 83
   Ok ((parsed ++ described) ++ ended)
 
--- A Bind without names, whose parameters are in this format: its code stands after the tag, the length, two empty names
+-- A Bind without names, whose parameters are in this format: its code comes after the tag, the length, two empty names
 -- and the number of codes, and that of texts is 0.
 abbrev pub with_format : PgValueFormat → List ℕ → List ℕ
 with_format Text bound = slice_set bound 10 0

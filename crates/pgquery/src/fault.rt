@@ -18,7 +18,7 @@ pub enum Fault {
     Write,
     /// What the server sends ends too early.
     End,
-    /// The arguments are none that the program knows.
+    /// The program does not know these arguments.
     Usage,
     /// The server asks for a password, or for another proof of who the user is: the code of its message.
     Authentication(u32),
@@ -28,7 +28,7 @@ pub enum Fault {
     Unexpected(u8),
     /// The statement has another number of parameters.
     Parameters(usize),
-    /// The text of the parameter at this place, from 1 on, is none of its type.
+    /// The text of the parameter at this place, from 1 on, is invalid for its type.
     Parameter(usize, CodecError),
     /// A value was not read or not written.
     Codec(CodecError),

@@ -19,7 +19,7 @@ use pgv_examples::server_types::{STATEMENTS, keep, types_of};
 use std::alloc::Global;
 use std::io::{Read, Write};
 
-/// What a server says of a statement.
+/// How a server describes a statement.
 #[derive(Drop)]
 struct Described {
     /// The OIDs of its parameters.
@@ -87,8 +87,8 @@ fn description<R: Read, W: Write>(
     Err(Fault::End)
 }
 
-/// Says in a Bind of the statement without a name in which format its parameters are: their one format code stands
-/// after the tag, the length, two empty names and the number of codes.
+/// Says in a Bind of the statement without a name in which format its parameters are: their one format code comes after
+/// the tag, the length, two empty names and the number of codes.
 fn set_format(bind: &mut [u8], format: PgValueFormat)
     ensures { bind.new ≡ statement.with_format format bind.old }
 {

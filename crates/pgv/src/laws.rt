@@ -1,4 +1,5 @@
-//! What is proved, each law the contract of a function that does nothing: of the types of values, and by crate.
+//! The laws of the library: first those of the types of values, then those of each crate. Each law is the contract of a
+//! function that does nothing.
 
 pub mod dates;
 pub mod intervals;

@@ -6,8 +6,8 @@
 //! - [`types`]: the Rust types of values, beside those of std, `jiff` and `uuid`.
 //! - [`text`]: readers of whole texts.
 //! - [`row`], [`message`], [`catalog`]: rows of a statement's result, the messages around parameters and rows, and the
-//!   types of a server that are not built in: what a driver stands on.
-//! - [`laws`]: what is proved of all of it, each law the contract of a function that does nothing.
+//!   types of a server that are not built in: what a driver needs.
+//! - [`laws`]: what is proved, each law the contract of a function that does nothing.
 #![tactic(auto)]
 
 pub mod laws;

@@ -269,7 +269,7 @@ pub extern "C" fn pgv_bench_compatible(alloc: Global, which: u32, rounds: u32) -
     sum_of(compatible(alloc, which, rounds))
 }
 
-/// The size of a type in bytes; `which` says of which.
+/// The size of a type in bytes; `which` chooses the type.
 #[unsafe(no_mangle)]
 pub extern "C" fn pgv_bench_size(which: u32) -> usize {
     size_of_which(which)

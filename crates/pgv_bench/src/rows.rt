@@ -51,7 +51,7 @@ fn row_once(
     row_seen(alloc, &row)
 }
 
-/// What is seen of all rows, whose bodies stand one after another and have these lengths.
+/// What is seen of all rows, whose bodies come one after another and have these lengths.
 fn rows_once(
     alloc: Global,
     columns: &PgColumns<'_>,

@@ -28,7 +28,7 @@ fn encode_once<T: Encode>(alloc: Global, values: &[T]) -> Result<usize, CodecErr
     Ok(buffer.len())
 }
 
-/// Writes all values, so many times: by `add` where `how` is 0, else by `encode`.
+/// Writes all values, this number of times: by `add` where `how` is 0, else by `encode`.
 pub fn write_all<T: Encode + Type>(
     alloc: Global,
     values: &[T],
@@ -70,7 +70,7 @@ pub fn write_ids(alloc: Global, bytes: &[u8], rounds: u32, how: u32) -> Result<u
     write_all(alloc, made.as_slice(), rounds, how)
 }
 
-/// The texts of these lengths, one behind the other.
+/// The texts of these lengths, one after another.
 fn texts_of(alloc: Global, blob: &[u8], lens: &[u32]) -> Result<Vec<String>, CodecError> {
     let mut made = Vec::new(alloc);
     let mut rest = blob;

@@ -129,7 +129,7 @@ fn add(alloc: Global, arguments: &mut PgArguments, name: &str) -> Result<(), Cod
     }
 }
 
-/// A record of an object and a value behind it.
+/// A record of an object and a value after it.
 fn behind<T>(alloc: Global, second: T) -> PgRecord<(EmptyObject, (T,))> {
     PgRecord((EmptyObject { alloc }, (second,)))
 }
@@ -230,7 +230,7 @@ fn unmoved(alloc: Global, now: &PgArguments, before: &PgArguments) -> Result<boo
     same_names(alloc, now.hole_types(), before.hole_types())
 }
 
-/// Whether a call on arguments, which a refusal has to leave as they were, answers what is wanted.
+/// Whether a call on arguments, which a refusal has to leave as they were, answers what is expected.
 fn told_of(
     alloc: Global,
     answer: Result<(), CodecError>,
@@ -263,7 +263,7 @@ fn caller_number(wanted: &str) -> Option<u32> {
         .ok()
 }
 
-/// Whether a value is refused at a depth with the number that is wanted, and the arguments are as they were.
+/// Whether a value is refused at a depth with the number that is expected, and the arguments are as they were.
 fn stopped(
     alloc: Global,
     arguments: &mut PgArguments,

@@ -27,7 +27,7 @@ fn type_row(
     })
 }
 
-/// A type of each class with parts: its OID, its name, and the OID of its part. Wholes stand before their parts.
+/// A type of each class with parts: its OID, its name, and the OID of its part. Wholes come before their parts.
 const TYPES: [(u32, &str, PgTypeClass, u32); 5] = [
     (16601, "_mood", PgTypeClass::Array, 16600),
     (16600, "mood", PgTypeClass::Enum, 0),

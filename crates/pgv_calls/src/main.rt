@@ -1,5 +1,5 @@
 //! `pgv_calls`: makes the calls of the rows of standard input, compares each answer with that of its row, and prints
-//! `ok`, or the first row of each block that doesn't hold. Behind `ok` stands how many calls were made again, if any.
+//! `ok`, or the first row of each block that doesn't hold. After `ok` comes how many calls were made again, if any.
 //!
 //! A call that is refused for want of memory has to leave its object as it was; then it is made once more. So where one
 //! request for memory is refused, whichever it is, this program prints `ok again 1`, or `ok` if another refusal comes

@@ -33,7 +33,7 @@ fn present_pairs(alloc: Global, text: &str) -> Result<Vec<(String, String)>, All
     Ok(pairs)
 }
 
-/// The keys in order, of a copy that is taken apart, with `=` behind those of texts.
+/// The keys in order, of a copy that is taken apart, with `=` after those of texts.
 fn keys(alloc: Global, map: &PgHstore) -> Result<String, AllocError> {
     let mut text = String::new(alloc);
     for (key, value) in map.clone()? {

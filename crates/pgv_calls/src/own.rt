@@ -48,7 +48,7 @@ impl<T: Encode> Encode for Bounds<T> {
     }
 }
 
-/// An element of a list with a value behind an object, which is a slot: arrays of records of two fields.
+/// An element of a list with a value after an object, which is a slot: arrays of records of two fields.
 #[derive(Drop)]
 pub struct Listed<T> {
     /// The record.
@@ -105,7 +105,7 @@ impl<T: Encode + Type> Encode for Listed<T> {
     }
 }
 
-/// A value that is refused with the number of the depth that it stands at, after a byte, a hole and a slot.
+/// A value that is refused with the number of its depth, after a byte, a hole and a slot.
 #[derive(Drop)]
 pub struct Stop {
     /// What the cases of its slot are allocated by.

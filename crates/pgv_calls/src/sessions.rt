@@ -5,7 +5,7 @@ use pgv_runner::{RunFault, run};
 use std::alloc::Global;
 use std::io::{self, Write};
 
-/// A writer that takes no memory: it compares what is written with what is wanted.
+/// A writer that takes no memory: it compares what is written with what is expected.
 #[derive(Drop)]
 struct Compared<'a> {
     left: &'a [u8],
@@ -55,7 +55,7 @@ fn answered_in(alloc: Global, lines: &str, wanted: &str, in_hex: bool) -> Result
     answered(alloc, lines.as_bytes(), wanted.as_bytes())
 }
 
-/// Whether the lines of a session are answered so. After want of memory they are run once more.
+/// Whether the lines of a session are answered so. When memory ran out they are run once more.
 fn held(alloc: Global, tries: &Tries, lines: &str, wanted: &str, in_hex: bool) -> bool {
     match answered_in(alloc, lines, wanted, in_hex) {
         Ok(held) => held,

@@ -1,5 +1,5 @@
-//! Rows of calls that read a text: `FORM TEXT => ANSWER`. The parts of a nest are in brackets, or `null`; behind the
-//! bounds of a range stands whether its brackets include them.
+//! Rows of calls that read a text: `FORM TEXT => ANSWER`. The parts of a nest are in brackets, or `null`; after the
+//! bounds of a range comes whether its brackets include them.
 
 use pgv::text::{Parts, RangeText, TextForm, array_elements, range_parts, record_fields};
 use pgv::types::{

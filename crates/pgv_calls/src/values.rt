@@ -182,12 +182,12 @@ fn written_value(alloc: Global, name: &str) -> Result<String, Again> {
     }
 }
 
-/// Whether what is written of a value is what is wanted.
+/// Whether what is written for a value is what is expected.
 fn is_written(alloc: Global, name: &str, wanted: &str) -> Result<bool, Again> {
     Ok(written_value(alloc, name)?.as_str() == wanted)
 }
 
-/// Whether a name is the one that is wanted.
+/// Whether a name is the expected one.
 fn is_name(name: Result<String, AllocError>, wanted: &str) -> Result<bool, Again> {
     Ok(name?.as_str() == wanted)
 }

@@ -29,7 +29,7 @@ first holds (e ∷ entries) = if holds e then Some e.ty else first holds entries
 abbrev pub with_oid : ℕ → List Entry → Option Ty
 with_oid oid entries = first (λ e. has_oid oid e.ty) entries
 
--- the name of a type that the server told of agrees with this one
+-- the name of a type that the server described agrees with this one
 abbrev pub has_name : List ℕ → Ty → Bool
 has_name name (builtin o) = false
 has_name name (custom o own kind) = agree own name

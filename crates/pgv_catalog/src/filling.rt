@@ -13,8 +13,9 @@ use std::alloc::Global;
 /// Puts into each hole of arguments the OID that the catalogue has for its type, and fills each slot by the parameter
 /// types that the server named, one for each argument.
 ///
-/// C10 where there are not as many types as arguments, else [`CatalogError::Unknown`] of the first hole whose type is
-/// not in the catalogue. A refusal changes nothing.
+/// It is refused with [`ParameterCount`](CodecError::ParameterCount) (C10) where there are not as many types as
+/// arguments, else with [`CatalogError::Unknown`] for the first hole whose type is not in the catalogue. A refusal
+/// changes nothing.
 pub fn fill<N: PgNames>(
     alloc: Global,
     arguments: &mut PgArguments,

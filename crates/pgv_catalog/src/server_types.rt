@@ -54,7 +54,7 @@ fn is_of_oid(type_info: &PgTypeInfo, oid: Oid) -> bool
     }
 }
 
-/// Whether a name is that of a type that the server told of.
+/// Whether a name is that of a type that the server described.
 fn is_called(type_info: &PgTypeInfo, name: &str) -> bool
     ensures { result ≡ has_name name.now type_info.now }
 {

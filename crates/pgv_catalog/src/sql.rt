@@ -1,4 +1,5 @@
-//! The statements whose rows a catalogue is made of. They have no parameters, and their results are wanted in binary.
+//! The statements whose rows a catalogue is made of. They have no parameters, and their results are asked for in
+//! binary.
 
 /// The types that were made on the server (their OIDs begin at 16384): OID, schema, name, whether the name alone finds
 /// the type, what kind of type it is (`a` an array, else `typtype`), and the OID of its part: the base of a domain, the

@@ -19,11 +19,11 @@ use Rattle.pgv_value.specs.declared.error.CodecError.TheVariants.{UnexpectedNull
 use Rattle.pgv_value.specs.declared.value.PgValueFormat.{PgValueFormat}
 use Rattle.pgv_value.specs.declared.value.PgValueFormat.TheVariants.{Text, Binary}
 
--- the type of the elements: the built-in type of the OID that stands there, else the element of the array's type
+-- the type of the elements: the built-in type of the OID that is there, else the element of the array's type
 abbrev pub element_type : Ty → ℕ → Option Ty
 element_type t oid = elim (built_in oid) [ None ↦ element_of t | Some u ↦ Some u ]
 
--- what stands in front of the elements' frames: their type and how many there are
+-- what is in front of the elements' frames: their type and how many there are
 pub record Head : Type 0 where
   pub element : Ty
   pub count : ℕ

@@ -1,5 +1,5 @@
 -- Values that are read, or written, in a loop of their own, as those of an array of numbers, whose frames all have one
--- width. It is faster, and nothing else: what is read so, and what is still read of the frames after it, is what the
+-- width. It is faster, and nothing else: what is read so, and what is still read from the frames after it, is what the
 -- frames hold, whatever the type of the elements is (`AreFirst`); what is written so are the frames of the first values
 -- (`WritesFirst`).
 use Rattle.std.specs.Prelude.{◌≡◌, ℕ, ◌+◌, ◌-◌, ◌≤◌, List, ◌++◌, length, map, take, drop, Some, Result, Ok, Err, Option}
@@ -20,7 +20,7 @@ use Rattle.pgv_codec.specs.Encoding.{Encoding, frames as frames_of}
 abbrev pub IsBinaryOf : {M : Type 0} → (Given → Outcome M) → List ℕ → M → Type 0
 IsBinaryOf parse bytes m = (t : Ty) → (parse (given t Binary (Some bytes))).answer ≡ Ok m
 
--- under every type this is read of the frame in front, which has so many bytes after its length
+-- under every type this is read from the frame in front, which has this many bytes after its length
 abbrev pub IsInFront : {M : Type 0} → (Given → Outcome M) → ℕ → List ℕ → M → Type 0
 IsInFront parse width bytes m =
     (part : List ℕ) × ((t : Ty) → value_front t Binary bytes ≡ Ok (given t Binary (Some part), drop (4 + width) bytes)) × IsBinaryOf parse part m
@@ -30,7 +30,7 @@ abbrev pub with_front : {M : Type 0} → List M → Result (List M) (Option Code
 with_front ms (Ok ns) = Ok (ms ++ ns)
 with_front ms (Err why) = Err why
 
--- under every type these are read of the first frames, and the others of the rest
+-- under every type these are read from the first frames, and the others from the rest
 abbrev pub AreFirst : {M : Type 0} → (Given → Outcome M) → ℕ → List ℕ → List M → List ℕ → Type 0
 AreFirst parse count bytes ms rest = (t : Ty) → with_front ms (frames parse t (count - length ms) rest).answer ≡ (frames parse t count bytes).answer
 

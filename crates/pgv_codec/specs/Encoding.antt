@@ -110,7 +110,7 @@ array_image info es = do
   parts ← frames es
   done (image_of (head ++ parts))
 
--- an array of n elements; a list of another length is none
+-- an array of n elements; a list of another length isn't one
 abbrev pub sized_image : ℕ → Ty → List Encoding → Outcome Image
 sized_image n info es = if nat_eq (length es) n then array_image info es else unstated
 

@@ -1,4 +1,4 @@
--- What stands in bytes is found there: numbers, arrays and the fields of records.
+-- What is in bytes is found there: numbers, arrays and the fields of records.
 use Rattle.std.specs.Prelude.{◌≡◌, ◌==◌, ℕ, suc, ◌<◌, ◌^◌, Bool, false, nat_lt, List, [], ◌∷◌, ◌++◌, length, Some, Ok, refl}
 use Rattle.std.specs.Int.{w32, to_be_bytes}
 use Rattle.std.proofs.Common.{inl, inr, arith}

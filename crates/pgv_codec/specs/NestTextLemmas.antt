@@ -1,4 +1,4 @@
--- What is read of an array or a record in text is what its characters are.
+-- What is read from an array or a record in text is what its characters are.
 use Rattle.std.proofs.Common.{◌≡◌, ℕ, Bool, true, false, nat_eq, List, [], ◌∷◌, drop, length, Option, Some, Result, Ok, refl, sym, ◌∙◌, ap, subst}
 use Rattle.std.specs.Prelude.{not, ok_or, if◌then◌else◌}
 use Rattle.std.proofs.lemmas.Bool.{eq-eqb, eqb-true}

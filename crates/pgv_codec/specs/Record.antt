@@ -40,7 +40,7 @@ abbrev pub WritesField : Outcome (List Token) → Writing → Writing → Result
 WritesField f was now (Ok done) = AddsField f was now
 WritesField f was now (Err e) = Fails e f
 
--- so many fields more, one after another, or one is refused
+-- this many fields more, one after another, or one is refused
 abbrev pub WritesFields : List (Outcome (List Token)) → Writing → Writing → Result ⊤ CodecError → Type 0
 WritesFields fs was now (Ok done) = (ts : List Token) × ((fields_from was.count fs).answer ≡ Ok ts) × (now ≡ with_fields was (length fs) ts)
 WritesFields fs was now (Err e) = Fails e (fields_from was.count fs)

@@ -3,7 +3,7 @@
 -- that is read an OID and a frame. Under `record` the field's type is the built-in of its OID. Under a composite it is
 -- the field at that place, whose `oid` must be that one. A domain is followed to its base. The Rust type must be
 -- compatible with the field's type. In text the values of a record text. Memory is asked for by the copy of a field's
--- custom type, by the copy of a field's text that doesn't stand as it is, and by what a field's own type asks for.
+-- custom type, by the copy of a field's text that isn't in the text as it is, and by what a field's own type asks for.
 use Rattle.std.specs.Prelude.{◌≡◌, ℕ, zero, suc, nat_eq, not, ◌==◌, Bool, false, List, [], ◌∷◌, drop, length, Option, Some, None, if◌then◌else◌, refl}
 use Rattle.std.specs.Coded.{Coded, code_by, coded×, coded_ℕ, coded_bool, coded_list, coded_option}
 use Rattle.pgv_types.specs.Ty.{Ty, ty_code, builtin, custom, named, by_oid, array_of, Kind, simple, pseudo, domain, composite, array, enumeration, range, Fields, no_fields, field}

@@ -1,4 +1,4 @@
--- What is read of a record in binary is what its bytes are.
+-- What is read from a record in binary is what its bytes are.
 use Rattle.std.proofs.Common.{◌≡◌, ℕ, suc, Bool, true, false, nat_eq, List, ◌++◌, length, Option, Some, None, Result, Ok, refl, sym, ◌∙◌, ap, subst}
 use Rattle.std.specs.Int.{w32, to_be_bytes}
 use Rattle.std.specs.Prelude.{◌↔◌, ◌==◌, not, ok_or, if◌then◌else◌}

@@ -220,7 +220,7 @@ fn two_frames(first: [u8; 8], second: [u8; 8]) -> [u8; 16]
     frames
 }
 
-/// The bytes of four, of which two stand in each part.
+/// The bytes of four frames, two in each part.
 #[inline(always)]
 fn four_frames(front: [u8; 16], back: [u8; 16]) -> [u8; 32]
     ensures { result ≡ front ++ back }

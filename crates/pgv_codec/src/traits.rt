@@ -172,7 +172,7 @@ pub trait ReadBack: Encode + Decode {
 /// A value that can be written and read, and is written by what it says alone: two values of one view are written
 /// alike.
 pub trait Codec: Type + Encode + Decode {
-    /// What an encoder says of a value is what is written of what the value says.
+    /// What an encoder states for a value is what is written for the value's view.
     ghost agrees: { (v : Self) → Self.encoding v ≡ Self.written Self.info (Self.view v) };
 }
 
@@ -222,7 +222,7 @@ pub trait Plain: Type + Encode + Sized + Drop {
     /// What is written of a value is read in binary as what it keeps, under every type.
     ghost reads_back: { ReadsBack Self.encoding (reading_of parse) (λ v. view (kept v)) always };
 
-    /// What an encoder says of a value is what is written of what it says.
+    /// What an encoder states for a value is what is written for the value's view.
     ghost agrees: { (v : Self) → Self.encoding v ≡ written Self.info (view v) };
 }
 

@@ -1,4 +1,4 @@
--- What stands in front of a stream is found there.
+-- What is in front of a stream is found there.
 use Rattle.std.proofs.Common.{◌≡◌, ℕ, ◌<◌, ◌^◌, true, false, nat_lt, List, ◌∷◌, ◌++◌, length, Some, None, Ok, refl, sym, subst, lit<, arith}
 use Rattle.std.specs.Prelude.{pos}
 use Rattle.std.specs.Ordering.{int_eq}

@@ -1,4 +1,4 @@
--- What is read of bytes is what they are.
+-- What is read from bytes is what they are.
 use Rattle.std.proofs.Common.{◌≡◌, ℕ, suc, ◌+◌, ◌-◌, ◌<◌, ◌≤◌, ◌^◌, Bool, true, false, cond, nat_lt, List, [], ◌∷◌, ◌++◌, length, get_or, take, drop, map, Option, Some, None, Ok, Err, refl, sym, ap, ◌∙◌, subst, append_assoc, arith}
 use Rattle.std.specs.Prelude.{flat_map, ok_or, bytes_eq, ℤ, pos, negsuc, int_lt}
 use Rattle.std.specs.Ordering.{int_eq}

@@ -1,8 +1,8 @@
 -- A COPY stream in binary that comes in pieces (PostgreSQL: "COPY Operations", CopyData), cut anywhere. `next_of` is
 -- what the bytes say that have come and were not read: a row, the end, or a refusal; C15 means that more has to come.
--- `Advances` is what a call of a reader of pieces answers, and the reader after it. Laws: what is said of bytes is said
--- whatever comes after them (`WhatCameStays`); rows that are read after each piece are the rows of the joined bytes
--- (`PiecesAreOneStream`), and of a whole stream all of its rows (`CopyInPiecesIsItsRows`).
+-- `Advances` is what a call of a reader of pieces answers, and the reader after it. Laws: what is proved about bytes is
+-- proved whatever comes after them (`WhatCameStays`); rows that are read after each piece are the rows of the joined
+-- bytes (`PiecesAreOneStream`), and of a whole stream all of its rows (`CopyInPiecesIsItsRows`).
 use Rattle.std.specs.Prelude.{◌≡◌, ◌≢◌, ◌⊎◌, ◌≤◌, ◌<◌, ℕ, Bool, true, false, List, [], ◌∷◌, ◌++◌, map, flat_map, length, drop, option_map, Option, Some, None, Result, Ok, Err, refl, if◌then◌else◌}
 use Rattle.std.specs.Coded.{Coded, code_by, coded×, coded_bool, coded_ℕ, coded_list, coded_option}
 use Rattle.pgv_types.specs.Ty.{Ty, ty_code}
@@ -45,7 +45,7 @@ after_begin false bytes = Ok bytes
 abbrev pub next_of : List Ty → Bool → List ℕ → Step
 next_of types in_header bytes = after_begin in_header bytes >>= λ rest. step (before types rest)
 
--- the reader that has read a row, and stands before these bytes
+-- the reader that has read a row, and is before these bytes
 abbrev pub row_read : List Ty → List Given → List ℕ → Pieces
 row_read types row left = record { types = types; in_header = false; is_ended = false; left = left; row = Some row }
 
@@ -77,7 +77,7 @@ abbrev pub Stays : {A : Type 0} → (A → A) → Parsed A → Parsed A → Type
 Stays further (Ok x) later = later ≡ Ok (further x)
 Stays further (Err e) later = (e ≡ Short) ⊎ (later ≡ Err e)
 
--- a reader with more bytes behind those that are left
+-- a reader with more bytes after those that are left
 abbrev pub further : List ℕ → Option (List Given) × Copying → Option (List Given) × Copying
 further more s = (s.0, record s.1 { left = option_map (λ left. left ++ more) s.1.left })
 

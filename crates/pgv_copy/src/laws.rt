@@ -10,7 +10,7 @@ use pgv_types::PgTypeInfo;
 use pgv_value::{CodecError, PgValueFormat, PgValueRef};
 
 /// A stream, whatever its rows, its extension and the bytes after its end, is read as exactly its rows, and each later
-/// call returns that there is none.
+/// call returns `None`.
 pub fn copy_is_its_rows()
     ensures { CopyIsItsRows }
 {}
@@ -53,7 +53,7 @@ pub fn cut_frames_are_short()
 {}
 
 /// What [`PgCopyPieces::advance`](crate::PgCopyPieces::advance) finds in the bytes that have come, a row, the end, or a
-/// refusal other than `Short` (C15), it would find there whatever comes after them.
+/// refusal other than [`Short`](CodecError::Short) (C15), it would find there whatever comes after them.
 pub fn what_came_stays()
     ensures { WhatCameStays }
 {}

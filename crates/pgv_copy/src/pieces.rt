@@ -126,8 +126,8 @@ impl PgCopyPieces {
 
     /// Takes a piece of the stream. The row that was read last can't be lent any more, and its bytes are forgotten.
     ///
-    /// Where the bytes can't be kept it is C1, and the reader is as it was. After the end bytes don't count, and it
-    /// asks for no memory.
+    /// Where the bytes can't be kept it is refused with [`Memory`](CodecError::Memory) (C1), and the reader is as it
+    /// was. After the end bytes don't count, and it asks for no memory.
     pub fn feed(&mut self, piece: &[u8]) -> Result<(), CodecError>
         ensures taken { IfOk result (λ _. self.new ≡ with_more self.old piece.now) }
         ensures refused { IfErr result (λ e. e ≡ Memory) }
@@ -186,7 +186,8 @@ impl PgCopyPieces {
     /// The values of the row that was read last, or none where none was read since bytes came. They borrow from the
     /// bytes that are kept.
     ///
-    /// The list takes memory, and each custom type, which is copied: C1. Where there is no row it asks for none.
+    /// The list takes memory, and so does each custom type, which is copied: else it is refused with
+    /// [`Memory`](CodecError::Memory) (C1). Where there is no row it asks for none.
     pub fn row(&self) -> Result<Option<Vec<PgValueRef<'_>>>, CodecError>
         ensures found { IfOk result (λ found. option_map (λ row. row.items) found ≡ self.now.row) }
         ensures refused { IfErr result (λ e. e ≡ Memory) }

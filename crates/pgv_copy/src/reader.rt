@@ -47,7 +47,7 @@ impl<'r> PgCopyReader<'r> {
     /// A reader of the rows of a stream whose columns have these types. The header is read: its flags 0 to 15 and its
     /// extension are passed over.
     ///
-    /// A wrong signature, also one that is cut off, and a set flag of 16 to 31 (16 means that rows have OIDs) are
+    /// A wrong signature, even where it is cut off, and a set flag of 16 to 31 (16 means that rows have OIDs) are
     /// refused with [`Syntax`](CodecError::Syntax) (C29), bytes that end within a header with
     /// [`Short`](CodecError::Short) (C15), and a negative length of the extension with
     /// [`NegativeLength`](CodecError::NegativeLength) (C16).
@@ -64,12 +64,12 @@ impl<'r> PgCopyReader<'r> {
     /// The next row, a value in binary format for each column; `None` at the end of the stream and from then on; bytes
     /// after the end are ignored. The values live as long as the bytes of the stream.
     ///
-    /// Where the bytes end before the stream does it is [`Short`](CodecError::Short) (C15), a negative number of fields
-    /// but the -1 of the end [`NegativeLength`](CodecError::NegativeLength) (C16), another number than that of the
-    /// columns [`FieldCount`](CodecError::FieldCount) (C12), and a negative length of a field but the -1 of null
-    /// [`NegativeLength`](CodecError::NegativeLength) (C16). A refused call leaves the reader as it was. The list is
-    /// all that takes memory (C1), from the allocator of the types, beside a custom type, which is copied: so C1 comes
-    /// only where the fields of a row are read, and not at the trailer or after it.
+    /// Bytes that end before the stream does are refused with [`Short`](CodecError::Short) (C15), a negative number of
+    /// fields but the -1 of the end, and a negative length of a field but the -1 of null, with
+    /// [`NegativeLength`](CodecError::NegativeLength) (C16), and another number than that of the columns with
+    /// [`FieldCount`](CodecError::FieldCount) (C12). A refused call leaves the reader as it was. Only the list, from
+    /// the allocator of the types, and the copy of a custom type take memory: so [`Memory`](CodecError::Memory) (C1)
+    /// comes only where the fields of a row are read, and not at the trailer or after it.
     #[inline(always)]
     #[tactic(auto, unfolding(crate::specs::CopyBinary::step))]
     pub fn next_row(&mut self) -> Result<Option<Vec<PgValueRef<'r>>>, CodecError>

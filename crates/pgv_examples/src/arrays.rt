@@ -22,7 +22,8 @@ pub fn add_lists(
     Ok(())
 }
 
-/// The scores of a column, each a number or null. A null in place of the list is refused with C13.
+/// The scores of a column, each a number or null. A null in place of the list is refused with
+/// [`UnexpectedNull`](CodecError::UnexpectedNull) (C13).
 pub fn scores(alloc: Global, column: PgValueRef<'_>) -> Result<Vec<Option<i32>>, CodecError>
     ensures { Gives ⟦<Vec<Option<i32>> as Decode>⟧.view
         (⟦<Vec<Option<i32>> as Decode>⟧.parse column.entry) result }

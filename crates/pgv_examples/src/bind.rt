@@ -31,7 +31,7 @@ pub fn arguments_of_search(
 }
 
 /// What the message Bind has of its parameters (PostgreSQL, "Message Formats"): their number in two bytes, and their
-/// frames. C10 where there are more than 65535.
+/// frames. More than 65535 are refused with [`ParameterCount`](CodecError::ParameterCount) (C10).
 pub fn parameters_of_bind(alloc: Global, arguments: &PgArguments) -> Result<Vec<u8>, CodecError>
     ensures ok { IfOk result (λ message. message.items
         ≡ to_be_bytes w16 (length arguments.now) ++ shown (all_tokens arguments.now)) }

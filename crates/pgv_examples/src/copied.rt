@@ -26,7 +26,7 @@ pub fn columns(alloc: Global) -> Result<Vec<PgTypeInfo>, AllocError> {
     Ok(types)
 }
 
-/// All rows of a stream. Bytes that end before the stream does are refused with C15.
+/// All rows of a stream. Bytes that end before the stream does are refused with [`Short`](CodecError::Short) (C15).
 pub fn read_items(alloc: Global, bytes: &[u8]) -> Result<Vec<Item>, CodecError> {
     let mut reader = PgCopyReader::new(bytes, columns(alloc)?)?;
     let mut items = Vec::new(alloc);

@@ -4,7 +4,9 @@ use crate::float8::Float8;
 use pgv::{CodecError, PgValueFormat, PgValueRef, Plain};
 use std::alloc::Global;
 
-/// Read of eight bytes. Others are refused with C17, a text with C18, and null with C13. Every number comes back.
+/// Read from eight bytes. Others are refused with [`WrongLength`](CodecError::WrongLength) (C17), a text with
+/// [`TextUnsupported`](CodecError::TextUnsupported) (C18), and null with [`UnexpectedNull`](CodecError::UnexpectedNull)
+/// (C13). Every number comes back.
 impl Plain for Float8 {
     ghost use Rattle.std.specs.Prelude.{ℤ, refl};
     ghost use Rattle.pgv.specs.Words.{without_memory};

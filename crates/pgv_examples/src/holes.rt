@@ -7,8 +7,10 @@ ghost use Rattle.pgv_examples.specs.Known.{AreKnownOids, IsKnownOid};
 use pgv::{CodecError, Oid, PgArguments, PgTypeInfo};
 use std::alloc::Global;
 
-/// Fills every hole by the types that the server described: the OID of a type is looked up by its name. C38(1) where a
-/// type is not among them, and C10 where there are not as many parameters as arguments; then nothing was changed.
+/// Fills every hole by the types that the server described: the OID of a type is looked up by its name. It is refused
+/// with [`Caller(1)`](CodecError::Caller) (C38) where a type is not among them, and with
+/// [`ParameterCount`](CodecError::ParameterCount) (C10) where there are not as many parameters as arguments; then
+/// nothing was changed.
 pub fn fill(
     alloc: Global,
     arguments: &mut PgArguments,
@@ -25,7 +27,7 @@ pub fn fill(
     arguments.apply_patches(parameters, oids.as_slice())
 }
 
-/// The OID of the type of each name. C38(1) where no type has one of them.
+/// The OID of the type of each name; [`Caller(1)`](CodecError::Caller) (C38) where no type has one of them.
 fn oids_among(
     alloc: Global,
     known: &[PgTypeInfo],
@@ -40,7 +42,7 @@ fn oids_among(
     Ok(oids)
 }
 
-/// The OID of the type of this name. C38(1) where no type has it.
+/// The OID of the type of this name; [`Caller(1)`](CodecError::Caller) (C38) where no type has it.
 fn oid_among(known: &[PgTypeInfo], wanted: &PgTypeInfo) -> Result<Oid, CodecError>
     ensures { IfOk result (λ oid. IsKnownOid known.now wanted.now oid) }
 {

@@ -34,7 +34,7 @@ impl Type for Json {
     }
 }
 
-/// Written as its text behind a slot: `{}` to a parameter of `jsonb` as `017b7d`.
+/// Written as its text after a slot: `{}` to a parameter of `jsonb` as `017b7d`.
 impl Encode for Json {
     ghost use Rattle.std.specs.Prelude.{string_bytes};
     ghost use Rattle.pgv.specs.Words.{plainly};

@@ -18,7 +18,8 @@ fn after_version(bytes: &[u8]) -> &[u8]
     }
 }
 
-/// Read in either format; what isn't UTF-8 is refused with C14, and null with C13. It comes back under each type.
+/// Read in either format; what isn't UTF-8 is refused with [`Utf8`](CodecError::Utf8) (C14), and null with
+/// [`UnexpectedNull`](CodecError::UnexpectedNull) (C13). It comes back under each type.
 impl Plain for Json {
     ghost use Rattle.std.specs.Prelude.{ℕ, List, string_bytes, refl};
     ghost use Rattle.pgv.specs.Words.{plainly};

@@ -15,7 +15,7 @@ pub struct Percent {
 }
 
 impl Percent {
-    /// Nothing where the number is from 0 to 100, and else C38(9).
+    /// Nothing where the number is from 0 to 100, and else [`Caller(9)`](CodecError::Caller) (C38).
     pub(crate) fn check(self) -> Result<(), CodecError>
         ensures ok { is_percent self.number ≡ true → IsOk result }
         ensures err { is_percent self.number ≡ false → IsErrOf result (CodecError.Caller 9) }
@@ -41,7 +41,7 @@ impl Type for Percent {
     }
 }
 
-/// Written as its number; another than 0 to 100 is refused with C38(9), and the encoder's caller goes back to its mark.
+/// Written as its number; a number above 100 is refused with [`Caller(9)`](CodecError::Caller) (C38).
 impl Encode for Percent {
     ghost encoding = { λ percent. plainly (percent_image percent.number) };
 

@@ -4,8 +4,8 @@ use crate::percent::Percent;
 use pgv::{CodecError, PgValueRef, Plain};
 use std::alloc::Global;
 
-/// Read as a number; another than 0 to 100 is refused with C38(9). What is written is in the range, and so it is read
-/// back.
+/// Read as a number; another than 0 to 100 is refused with [`Caller(9)`](CodecError::Caller) (C38). What is written is
+/// in the range, and so it is read back.
 impl Plain for Percent {
     ghost use Rattle.std.specs.Prelude.{ℤ, refl};
     ghost use Rattle.pgv.specs.Words.{plainly, without_memory};

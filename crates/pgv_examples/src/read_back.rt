@@ -13,7 +13,7 @@ type User = PgNewtype<UserId>;
 type Moods = Vec<Option<PgEnum<Mood>>>;
 
 /// Whatever was added, refused and filled: the number of a user is read, from the part of the argument that was added
-/// for it, as the same number. Its slots and holes are none, and it fits every type.
+/// for it, as the same number. It has no slots and no holes, and it fits every type.
 pub fn users_come_back()
     ensures { ArgumentReadsBack ⟦<User as Encode>⟧.encoding (reading_of ⟦<User as Decode>⟧.parse)
         (λ id. ⟦<User as Decode>⟧.view (⟦<User as ReadBack>⟧.kept id)) ⟦<User as ReadBack>⟧.fits }

@@ -6,7 +6,8 @@ ghost use Rattle.pgv.specs.Words.{Binary, Given, Reads, builtin, front, value_fr
 use pgv::{CodecError, Decode, PgType, PgTypeInfo, PgValue, PgValueFormat, PgValueRef};
 use std::alloc::Global;
 
-/// The next column of a row in binary. If no frame is there (C15, C16) the row stays where it was; else it goes on.
+/// The next column of a row in binary. Without a frame in front ([`Short`](CodecError::Short), C15, or
+/// [`NegativeLength`](CodecError::NegativeLength), C16) the row stays where it was.
 pub fn column<'r, T: Decode>(
     alloc: Global,
     row: &mut &'r [u8],

@@ -18,7 +18,7 @@ fn number_of(text: &str) -> Option<u8> {
     text.strip_prefix('C')?.parse::<u8>().ok()
 }
 
-/// Whether a refusal is the one that is wanted.
+/// Whether a refusal is the expected one.
 pub fn refused(error: &CodecError, wanted: &str) -> Result<bool, Again> {
     match error.code() {
         1 => Err(Again),
@@ -26,7 +26,7 @@ pub fn refused(error: &CodecError, wanted: &str) -> Result<bool, Again> {
     }
 }
 
-/// Whether a text, or a refusal, is what is wanted.
+/// Whether a text, or a refusal, is what is expected.
 pub fn same(found: Result<String, CodecError>, wanted: &str) -> Result<bool, Again> {
     match found {
         Ok(found) => Ok(found.as_str() == wanted),
@@ -34,7 +34,7 @@ pub fn same(found: Result<String, CodecError>, wanted: &str) -> Result<bool, Aga
     }
 }
 
-/// Whether a call on an object, which a refusal has to leave as it was, answers what is wanted.
+/// Whether a call on an object, which a refusal has to leave as it was, answers what is expected.
 pub fn told(answer: Result<(), CodecError>, unmoved: bool, wanted: &str) -> Result<bool, Again> {
     match answer {
         Ok(()) => Ok(wanted == "ok"),

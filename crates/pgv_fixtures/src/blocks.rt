@@ -32,8 +32,8 @@ fn first_of<'a, B: Blocks>(
     }
 }
 
-/// Compares all blocks of standard input, and prints what differs. Where nothing does, it prints `ok`, and behind it
-/// how many calls were made again, if any.
+/// Compares all blocks of standard input, and prints what differs. Where nothing does, it prints `ok`, and after it how
+/// many calls were made again, if any.
 fn compared<B: Blocks>(blocks: &B, rt: &(impl AllocGlobal + Input + Print)) -> Result<bool, Fault> {
     let tries = Tries::new();
     let read = read_all(rt.alloc(), &tries, &mut rt.reader())?;

@@ -10,7 +10,7 @@ pub trait Called {
     fn holds(&mut self, alloc: Global, call: &str, wanted: &str) -> Result<bool, Again>;
 }
 
-/// Whether a row holds. After want of memory it is called once more.
+/// Whether a row holds. When memory ran out it is called once more.
 fn held<T: Called>(alloc: Global, tries: &Tries, object: &mut T, row: &str) -> bool {
     let Some((call, wanted)) = row.split_once(" =>") else {
         return false;

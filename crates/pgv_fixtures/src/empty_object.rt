@@ -51,8 +51,9 @@ impl Encode for EmptyObject {
     }
 }
 
-/// An empty object, whatever byte is in front of its braces, in either format. Other bytes are refused with C29, and
-/// null with C13. An object comes back, whichever case its slot shows.
+/// An empty object, whatever byte is in front of its braces, in either format. Other bytes are refused with
+/// [`Syntax`](CodecError::Syntax) (C29), and null with [`UnexpectedNull`](CodecError::UnexpectedNull) (C13). An object
+/// comes back, whichever case its slot shows.
 impl Plain for EmptyObject {
     ghost use Rattle.std.specs.Prelude.{⊤, Some, refl};
     ghost use Rattle.pgv.specs.Words.{image_of, plainly, without_memory, writes};

@@ -12,7 +12,7 @@ pub enum Fault {
 }
 
 impl Fault {
-    /// What the program says of it.
+    /// What the program prints at it.
     pub fn text(self) -> &'static str {
         match self {
             Fault::Memory => "out of memory",

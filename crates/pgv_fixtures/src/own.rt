@@ -10,7 +10,8 @@ use pgv_examples::mood::Mood;
 use pgv_examples::slot::push_version;
 use std::alloc::{AllocError, Global};
 
-/// A number of a type that is known by its name alone. Zero is refused with C38(38), after a byte, a hole and a slot.
+/// A number of a type that is known by its name alone. Zero is refused with [`Caller(38)`](CodecError::Caller) (C38),
+/// after a byte, a hole and a slot.
 #[derive(Drop)]
 pub struct Size {
     /// What the cases of its slot are allocated by.

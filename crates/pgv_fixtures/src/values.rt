@@ -1,4 +1,4 @@
-//! What is written and read of a value, in words.
+//! What is written for a value and read from it, in words.
 
 use crate::again::Again;
 use pgv::{CodecError, Decode, Encode, PgArgumentBuffer, PgValueRef};

@@ -17,7 +17,7 @@ pub enum Fault {
 }
 
 impl Fault {
-    /// What is said of it.
+    /// What is printed at it.
     pub fn text(&self) -> &'static str {
         match self {
             Fault::Memory => "out of memory",

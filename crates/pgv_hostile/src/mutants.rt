@@ -53,7 +53,7 @@ fn changed(
     Ok(Some(bytes))
 }
 
-/// The bytes with each of these changes behind the front.
+/// The bytes with each of these changes after the front.
 fn push_changed(
     alloc: Global,
     front: &[u8],
@@ -69,14 +69,14 @@ fn push_changed(
     Ok(())
 }
 
-/// The bytes with a byte behind them.
+/// The bytes with a byte after them.
 fn longer(alloc: Global, bytes: &[u8]) -> Result<Vec<u8>, AllocError> {
     let mut longer = bytes.to_vec(alloc)?;
     longer.push(0)?;
     Ok(longer)
 }
 
-/// Each proper front of the bytes, the bytes with one, two or four of them changed, and with a byte behind them.
+/// Each proper front of the bytes, the bytes with one, two or four of them changed, and with a byte after them.
 pub fn mutants(alloc: Global, bytes: &[u8]) -> Result<Vec<Vec<u8>>, AllocError> {
     let mut mutants = fronts(alloc, bytes)?;
     for place in 0..bytes.len() {

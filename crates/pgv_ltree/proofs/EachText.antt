@@ -1,4 +1,4 @@
--- Texts and what is read of them, one by one.
+-- Texts and what is read from them, one by one.
 use Rattle.std.proofs.Common.{◌≡◌, ◌≢◌, ◌∙◌, ap, refl, ℕ, Bool, true, List, [], ◌∷◌, length, arith}
 use Rattle.std.specs.Prelude.{◌==◌, Result, Ok}
 use Rattle.std.specs.List.{AllZip, list_all, slice_split}

@@ -157,7 +157,7 @@ pub level_text : (text : List ℕ) (l : Level) → level_read text ≡ Ok l → 
 level_text [] l h = absurd cc
 level_text (c ∷ text) l h = level_case (c == 42) (c == 33) c text l refl refl h
 
--- ---- levels are read of their texts
+-- ---- levels are read from their texts
 
 length_some : (least most : List ℕ) → ((least ≡ []) × (most ≡ []) → ⊥) → length least + length most ≢ 0
 length_some [] [] n e = n (refl, refl)

@@ -11,8 +11,8 @@ pub record Variant : Type 0 where
   pub in_case : Bool
   pub sublexeme : Bool
 
--- any labels, at least and at most so many, where these numbers are given; a label of one of the variants; a label of
--- none of them
+-- any labels, at least and at most as many as these numbers say, where they are given; a label of one of the variants;
+-- a label of none of them
 pub data Level : Type 0 where
   star : Option ℕ → Option ℕ → Level
   one_of : List Variant → Level

@@ -77,7 +77,7 @@ abbrev pub is_nil : {A : Type 0} → List A → Bool
 is_nil [] = true
 is_nil (x ∷ xs) = false
 
--- two numbers, of which one is there; a further comma is none of their characters
+-- two numbers, of which one is there; a further comma isn't one of their characters
 abbrev pub between_read : List ℕ → List ℕ → Result Level PgLQueryParseError
 between_read least most =
     if has_mark 44 most || (is_nil least && is_nil most) then Err UnexpectedCharacter else star_of (bound_read least) (bound_read most)

@@ -8,8 +8,8 @@ use crate::Sink;
 use bitflags::{Flag, Flags, bitflag_items};
 use std::fmt;
 
-/// A set of modifiers: `ANY_END`, written `*`, only the beginning of a label is wanted; `IN_CASE`, `@`, case is
-/// ignored; `SUBLEXEME`, `%`, a word of a label is wanted. `a*@` has the first two.
+/// A set of modifiers: `ANY_END`, written `*`, matches any label with this prefix; `IN_CASE`, `@`, matches
+/// case-insensitively; `SUBLEXEME`, `%`, matches initial underscore-separated words. `a*@` has the first two.
 #[derive(Clone, Copy, Debug, PartialEq, Eq, Hash)]
 pub struct PgLQueryVariantFlag(u16);
 

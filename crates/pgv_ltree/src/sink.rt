@@ -40,7 +40,7 @@ pub trait Sink {
     ghost left_after: { (a b c : Self) (x : List ℕ) → took a x b → left b c → left a c };
 }
 
-/// A formatter writes them. Nothing is said of what an error leaves.
+/// A formatter writes them. What an error leaves is open.
 impl<W: fmt::Write> Sink for fmt::Formatter<W> {
     ghost use Rattle.pgv_ltree.specs.Sinks.{written_none, written_both};
 

@@ -30,7 +30,7 @@ accepted true c e = refl
 accepted false c e = rw e refl
 
 module _ {A M : Type 0} (encoding : A → Encoding) (accepts : Ty → Bool) (parse : Value → Outcome M) (kept : A → M) (fits : A → Ty → List Oid → Type 0) where
-  -- what is read of the value at a place
+  -- what is read from the value at a place
   value_read : (row : Row) (place : ℕ) (v : Value) (m : M) → value_at row place ≡ Some v → accepts v.type_info ≡ true → (parse v).answer ≡ Ok m → (column_value accepts parse row place).answer ≡ Ok m
   unfolding column_value raw_value
   value_read row place v m there accepted_is read =

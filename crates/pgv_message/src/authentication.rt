@@ -16,7 +16,8 @@ pub struct PgAuthentication<'a> {
 }
 
 /// What an Authentication's body asks for (PostgreSQL: "Message Formats", AuthenticationOk and those after it). Fewer
-/// than four bytes are refused with C15, and bytes after the code 0 with C17.
+/// than four bytes are refused with [`Short`](CodecError::Short) (C15), and bytes after the code 0 with
+/// [`WrongLength`](CodecError::WrongLength) (C17).
 ///
 /// `00000000` is AuthenticationOk.
 #[tactic(auto, unfolding(crate::specs::Bodies::authentication))]

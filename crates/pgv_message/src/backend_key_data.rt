@@ -16,7 +16,7 @@ pub struct PgBackendKey {
 }
 
 /// The key in a BackendKeyData's body (PostgreSQL: "Message Formats", BackendKeyData). Fewer than eight bytes are
-/// refused with C15, and more with C17.
+/// refused with [`Short`](CodecError::Short) (C15), and more with [`WrongLength`](CodecError::WrongLength) (C17).
 #[tactic(auto, unfolding(crate::specs::Bodies::backend_key_data))]
 pub fn backend_key(body: &[u8]) -> Result<PgBackendKey, CodecError>
     ensures { GivesExactly (λ key. (key.process, key.secret)) (backend_key_data body.now) result }

@@ -12,7 +12,7 @@ use pgv_wire::PgArguments;
 const BINARY: u16 = 1;
 
 /// Appends Bind (PostgreSQL: "Message Formats", Bind): the arguments become the parameters of a portal, all in binary.
-/// The formats of the result's columns are none where all are text, one for all, or one for each.
+/// The formats of the result's columns are an empty list, where all are in text, one format for all, or one for each.
 ///
 /// A zero byte in a name, more than 65535 arguments or formats, and a body of more than 2147483643 bytes are refused. A
 /// refused call leaves the buffer as it was. No memory is asked for but what the buffer takes.

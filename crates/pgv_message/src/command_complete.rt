@@ -18,7 +18,8 @@ pub struct PgCommandTag<'a> {
 }
 
 /// The text of a CommandComplete's body (PostgreSQL: "Message Formats", CommandComplete). Without a zero byte it is
-/// refused with C15, where it isn't UTF-8 with C14, and with bytes after it with C17.
+/// refused with [`Short`](CodecError::Short) (C15), where it isn't UTF-8 with [`Utf8`](CodecError::Utf8) (C14), and
+/// with bytes after it with [`WrongLength`](CodecError::WrongLength) (C17).
 ///
 /// `53454c454354203500` is `SELECT 5`.
 #[tactic(auto, unfolding(crate::specs::Bodies::command_complete))]

@@ -46,7 +46,9 @@ fn formats_in_front(
 
 /// The formats in the body of a CopyOutResponse or a CopyInResponse (PostgreSQL: "Message Formats", CopyInResponse):
 /// one for all in one byte, the number of columns in two, and one for each column in two. Bytes that end too early are
-/// refused with C15, a format other than 0 and 1 with C30, and bytes after the last format with C17.
+/// refused with [`Short`](CodecError::Short) (C15), a format other than 0 and 1 with
+/// [`OutOfRange`](CodecError::OutOfRange) (C30), and bytes after the last format with
+/// [`WrongLength`](CodecError::WrongLength) (C17).
 ///
 /// `01 0001 0001` is one column in binary.
 #[tactic(auto, unfolding(crate::specs::CopyFormats::copy_formats))]

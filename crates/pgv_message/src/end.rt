@@ -5,7 +5,7 @@ ghost use Rattle.pgv_value.specs.declared.error.CodecError.TheVariants.{WrongLen
 
 use pgv_value::CodecError;
 
-/// That nothing of a body is left. A rest is refused with C17.
+/// That nothing of a body is left. A rest is refused with [`WrongLength`](CodecError::WrongLength) (C17).
 pub fn check_end(body: &[u8], rest: &[u8]) -> Result<(), CodecError>
     ensures ok { OnOk result (nat_eq (length rest.now) 0 ≡ true) }
     ensures rest { OnErr result (nat_eq (length rest.now) 0 ≡ false) }

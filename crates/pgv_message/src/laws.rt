@@ -13,17 +13,18 @@ use pgv_codec::{ReadBack, Type};
 use pgv_wire::PgArguments;
 use pgv_wire::laws::{arguments_read, main_sentence, only_additions_count};
 
-/// A message in front is found, whatever follows it: its tag, its body, and what comes after it.
+/// A message in front of bytes is found, with its tag, its body and the bytes after it, whatever these are.
 pub fn message_is_found()
     ensures { MessageIsFound }
 {}
 
-/// What is found in front is a message: the bytes are its tag, its length and its body, and then what comes after it.
+/// If a message is found in front of bytes, the bytes are its tag, its length and its body, and then the bytes after
+/// it.
 pub fn found_is_message()
     ensures { FoundIsMessage }
 {}
 
-/// Of a message that is cut off anywhere nothing is found yet, and it is not refused.
+/// Bytes that end before their first message does are not refused, and no message is found in them.
 pub fn cut_is_not_found()
     ensures { CutIsNotFound }
 {}
@@ -40,8 +41,8 @@ pub fn parameters_are_arguments(arguments: &PgArguments)
 /// value of `T` is read from its column by [`PgRow::try_get`](pgv_row::PgRow::try_get), in binary, as what the value
 /// keeps, under each type that fits.
 ///
-/// Whatever was added, refused and filled, in any order: `calls` is any list of calls that leaves these arguments. That
-/// OIDs are numbers of 32 bits [`oids_fit`](pgv_codec::laws::oids_fit) says.
+/// It holds whatever was added, refused and filled, in any order: `calls` is any list of calls that leaves these
+/// arguments. [`oids_fit`](pgv_codec::laws::oids_fit) says that OIDs are numbers of 32 bits.
 pub fn parameters_come_back<T: Type + ReadBack>(arguments: &PgArguments)
     ensures { ComeBack T.encoding T.accepts T.parse (λ v. T.view (T.kept v)) T.fits
         arguments.now }
@@ -49,7 +50,7 @@ pub fn parameters_come_back<T: Type + ReadBack>(arguments: &PgArguments)
     frames_come_back::<T>(arguments.buffer().as_slice(), arguments);
 }
 
-/// The same, of bytes that are the buffer of arguments.
+/// What [`parameters_come_back`] says of arguments holds of bytes that are their buffer.
 fn frames_come_back<T: Type + ReadBack>(frames: &[u8], arguments: &PgArguments)
     requires { frames.now ≡ shown (all_tokens arguments.now) }
     ensures { ComeBack T.encoding T.accepts T.parse (λ v. T.view (T.kept v)) T.fits
@@ -61,7 +62,7 @@ fn frames_come_back<T: Type + ReadBack>(frames: &[u8], arguments: &PgArguments)
     let _bytes = buffer.as_slice();
 }
 
-/// That bytes which are the buffer of arguments are the parameters of a Bind.
+/// Bytes that are the buffer of arguments are the parameters of a Bind.
 fn frames_are_parameters(frames: &[u8], arguments: &PgArguments)
     requires { frames.now ≡ shown (all_tokens arguments.now) }
     ensures { ParametersAreArguments arguments.now }
@@ -80,7 +81,7 @@ pub fn only_answers_end_the_exchange()
     ensures { OnlyAnswersEndTheExchange }
 {}
 
-/// Messages that come at any time change nothing, wherever they stand among the others.
+/// Messages that may come at any time change nothing, wherever they come among the others.
 pub fn async_changes_nothing()
     ensures { AsyncChangesNothing }
 {}
@@ -90,8 +91,8 @@ pub fn error_skips_to_sync()
     ensures { ErrorSkipsToSync }
 {}
 
-/// After an error only the ReadyForQuery may come, which ends the passing over, and messages that may come at any time;
-/// and no request ends it.
+/// After an error only a ReadyForQuery may come, and messages that may come at any time; the ReadyForQuery ends the
+/// passing over of requests, and no request ends it.
 pub fn only_ready_ends_skipping()
     ensures messages { OnlyReadyEndsSkipping }
     ensures requests { RequestsDoNotEndSkipping }

@@ -18,7 +18,8 @@ pub struct PgNotification<'a> {
 }
 
 /// The notification in a NotificationResponse's body (PostgreSQL: "Message Formats", NotificationResponse). Bytes that
-/// end too early are refused with C15, a text that isn't UTF-8 with C14, and bytes after the payload with C17.
+/// end too early are refused with [`Short`](CodecError::Short) (C15), a text that isn't UTF-8 with
+/// [`Utf8`](CodecError::Utf8) (C14), and bytes after the payload with [`WrongLength`](CodecError::WrongLength) (C17).
 ///
 /// `00000007 6100 00` is one of the process 7 on the channel `a`.
 #[tactic(auto, unfolding(crate::specs::Bodies::notification))]

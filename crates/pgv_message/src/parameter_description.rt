@@ -45,7 +45,8 @@ fn all_oids(alloc: Global, body: &[u8]) -> Result<Vec<Oid>, CodecError>
 
 /// The OIDs of the types of a statement's parameters, from the body of a ParameterDescription (PostgreSQL: "Message
 /// Formats", ParameterDescription): the number of parameters in two bytes, and four bytes for each. Bytes that end too
-/// early are refused with C15, and bytes after the last OID with C17.
+/// early are refused with [`Short`](CodecError::Short) (C15), and bytes after the last OID with
+/// [`WrongLength`](CodecError::WrongLength) (C17).
 ///
 /// `0001 00000017` is one parameter, an `int4`.
 pub fn parameter_oids(alloc: Global, body: &[u8]) -> Result<Vec<Oid>, CodecError>

@@ -8,7 +8,8 @@ use crate::startup::PgSetting;
 use pgv_value::{CodecError, name_in_front};
 
 /// The name and the value in a ParameterStatus' body (PostgreSQL: "Message Formats", ParameterStatus). Without a zero
-/// byte after each it is refused with C15, where one isn't UTF-8 with C14, and with bytes after them with C17.
+/// byte after each it is refused with [`Short`](CodecError::Short) (C15), where one isn't UTF-8 with
+/// [`Utf8`](CodecError::Utf8) (C14), and with bytes after them with [`WrongLength`](CodecError::WrongLength) (C17).
 ///
 /// `6100 6200` is `b` of the parameter `a`.
 #[tactic(auto, unfolding(crate::specs::Bodies::parameter_status))]

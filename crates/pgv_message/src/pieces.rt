@@ -103,7 +103,7 @@ fn push_oids(out: &mut Vec<u8>, oids: &[Oid]) -> Result<(), AllocError>
     Ok(())
 }
 
-/// A format as it stands in a message.
+/// A format as a message has it.
 fn format_code(format: PgValueFormat) -> [u8; 2]
     ensures { result ≡ format_bytes format }
 {

@@ -17,7 +17,7 @@ pub enum PgTransactionStatus {
     Failed,
 }
 
-/// The status of a code. Another code is refused with C30.
+/// The status of a code. Another code is refused with [`OutOfRange`](CodecError::OutOfRange) (C30).
 fn status(code: u8) -> Result<PgTransactionStatus, CodecError>
     ensures { GivesExactly (λ status. status) (status_of code) result }
 {
@@ -30,7 +30,8 @@ fn status(code: u8) -> Result<PgTransactionStatus, CodecError>
 }
 
 /// The status in a ReadyForQuery's body (PostgreSQL: "Message Formats", ReadyForQuery). An empty body is refused with
-/// C15, another code with C30, and bytes after the code with C17.
+/// [`Short`](CodecError::Short) (C15), another code with [`OutOfRange`](CodecError::OutOfRange) (C30), and bytes after
+/// the code with [`WrongLength`](CodecError::WrongLength) (C17).
 ///
 /// `49` is [`PgTransactionStatus::Idle`].
 #[tactic(auto, unfolding(crate::specs::Bodies::ready_for_query))]

@@ -56,7 +56,8 @@ fn all_fields<'a>(alloc: Global, body: &'a [u8]) -> Result<Vec<PgField<'a>>, Cod
 impl<'a> PgNotice<'a> {
     /// The fields in the body of an ErrorResponse or a NoticeResponse (PostgreSQL: "Message Formats", ErrorResponse):
     /// each a byte that is not 0 and a text that a zero byte ends; then a zero byte. Bytes that end too early are
-    /// refused with C15, a text that isn't UTF-8 with C14, and bytes after the last zero byte with C17.
+    /// refused with [`Short`](CodecError::Short) (C15), a text that isn't UTF-8 with [`Utf8`](CodecError::Utf8) (C14),
+    /// and bytes after the last zero byte with [`WrongLength`](CodecError::WrongLength) (C17).
     ///
     /// `5345525200 4332323031320000` has the severity `ERR` and the code `22012`.
     pub fn read(alloc: Global, body: &'a [u8]) -> Result<PgNotice<'a>, CodecError>

@@ -16,7 +16,7 @@ value_of_pairs digits pairs =
     let parts = and_parts (length digits % 2 == 0) (all_digits digits) pairs in
     decode_of-digits digits (eqb-true (length digits % 2) 0 parts.0) (AllPass-from_list_all is_hex_digit digits parts.1)
 
--- some are read of some
+-- some are read from some
 held : (digits value : List ℕ) → 0 < length digits → decode_of digits ≡ Ok value → has_items (where_ok (decode_of digits)) ≡ true
 held digits [] some is = absurd (omega (arith, some, (decode_of-ok digits [] is).2))
 held digits (byte ∷ value) some is = rw is refl

@@ -19,7 +19,7 @@ use Rattle.pgv_more.specs.declared.numeric.PgNumericSign.TheVariants.{Positive, 
 
 -- ---- digits
 
--- n digits are read of twice as many bytes, and each has room in two
+-- n digits are read from twice as many bytes, and each has room in two
 pub digits_are : (n : ℕ) (form : List ℕ) → AreBytes form → 2 * n ≤ length form →
     (rest : List ℕ) × (form ≡ flat_map word (digits n form) ++ rest) × (length (digits n form) ≡ n) × (list_all (fits_signed w16) (digits n form) ≡ true)
 digits_are zero form small long = (form, refl, refl, refl)

@@ -1,4 +1,4 @@
--- Digits that are read one after another, and numbers that are read of their parts.
+-- Digits that are read one after another, and numbers that are read from their parts.
 use Rattle.std.proofs.Common.{◌≡◌, ℕ, zero, suc, ◌+◌, ◌*◌, List, [], ◌∷◌, ◌++◌, length, drop, false, Some, Ok, refl, sym, ap, ◌∙◌, arith}
 use Rattle.std.proofs.lemmas.List.{drop-drop}
 use Rattle.std.specs.Prelude.{ℤ, nat_lt, ◌==◌}

@@ -1,7 +1,7 @@
 -- Strings of bytes (PostgreSQL: "Binary Data Types", 8.4) and text without case (appendix F, citext). Written, they are
 -- their bytes. A `PgByteaArray<N>` has no image for a list of another length. Read: in binary any bytes. A text is `\x`
 -- and two hex digits of either case for each byte, the high one first (`IsByteaText`). Of N bytes another number is
--- refused with C17, and a text that stands for no bytes with C29. Text without case is read as `text` is. Law:
+-- refused with C17, and a text that denotes no bytes with C29. Text without case is read as `text` is. Law:
 -- `bytea_text_is_read`.
 use Rattle.std.specs.Prelude.{◌≡◌, ◌↔◌, ℕ, ◌==◌, ◌&&◌, nat_eq, Bool, List, [], ◌∷◌, length, Option, Some, None, Result, Ok, Err, ok_or, if◌then◌else◌}
 use Rattle.std.specs.Option.{option_and_then}
@@ -43,7 +43,7 @@ where_ok (Err e) = None
 abbrev pub bytea_in_text : List ℕ → Option (List ℕ)
 bytea_in_text text = option_and_then (λ digits. where_ok (decode_of digits)) (digits_after text)
 
--- in binary the bytes as they are; a text isn't tested for UTF-8, and one that stands for no bytes is C29
+-- in binary the bytes as they are; a text isn't tested for UTF-8, and one that denotes no bytes is C29
 abbrev pub bytea_part : PgValueFormat → Option (List ℕ) → Parsed (List ℕ)
 bytea_part f None = Err UnexpectedNull
 bytea_part Text (Some text) = ok_or (bytea_in_text text) Syntax

@@ -2,7 +2,7 @@
 -- pairs, and for each the frame of its key and that of its value, which may be null. A map is seen as its pairs in the
 -- order of the keys' bytes. Written: for each pair the length and the bytes of its key and of its value, where the
 -- length -1 is null. There is no image where a number is above 2147483647: the first such says why (C9). Read in binary
--- alone: a number that isn't negative, so many pairs, each a key that isn't null and a value or null, all UTF-8, and
+-- alone: a number that isn't negative, that many pairs, each a key that isn't null and a value or null, all UTF-8, and
 -- anything after them. The pairs are put into the map in turn, so that a later one of a key wins. The first number, key
 -- or value that can't be read says why: bytes that end too early are C15, a negative number of pairs C9, a negative
 -- length C16, a key that is null C35, and a text that isn't UTF-8 C14. Memory is asked for only after the first key was
@@ -143,7 +143,7 @@ value_at form = do
   value ← as_value part.0
   done (value, part.1)
 
--- n pairs in the order in which they stand; anything may come after them
+-- n pairs in the order in which they are; anything may come after them
 unfoldable pub pairs : ℕ → List ℕ → Outcome (List Pair)
 pairs zero form = done []
 pairs (suc n) form = do
@@ -157,7 +157,7 @@ abbrev pub put_all : List Pair → List Pair → List Pair
 put_all into [] = into
 put_all into (p ∷ ps) = put_all (put order p.0 p.1 into) ps
 
--- n pairs that stand there, put into a map
+-- n pairs that are there, put into a map
 abbrev pub put_read : List Pair → ℕ → List ℕ → Outcome (List Pair)
 put_read into n form = do
   ps ← pairs n form

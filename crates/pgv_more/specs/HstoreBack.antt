@@ -74,13 +74,13 @@ pairs_there (p ∷ ps) rest is =
     ap (λ (bytes : List ℕ). (pairs (suc (length ps)) bytes).answer) form
     ∙ pair_then (length ps) _ (part_form p.1 ++ later) later p.0 p.1 ps (key_there p.0 (part_form p.1 ++ later) is.0.0) (value_there p.1 later is.0.1) (pairs_there ps rest is.1)
 
--- what stands after its number is put into a map
+-- what is after its number is put into a map
 pub hstore_there : (ps : List Pair) (rest : List ℕ) → length ps < 2 ^ 31 → ArePairs ps → (hstore_in_binary (be4 (length ps) ++ (flat_map pair_form ps ++ rest))).answer ≡ Ok (put_all [] ps)
 hstore_there ps rest few are =
     let small : nat_lt limit (length ps) ≡ false = le-ltb _ _ (omega (arith, few)) in
     rw (number_there (length ps) (flat_map pair_form ps ++ rest) (omega (arith, few)), small, pairs_there ps rest are) refl
 
--- ---- pairs in order are put where they stand
+-- ---- pairs in order are put where they are
 
 is_less : (r : Ordering) → is_lt r ≡ true → r ≡ Less
 is_less Less e = refl

@@ -71,7 +71,7 @@ pairs_after separator (suc n) text = before (next_pair separator text) (pairs_af
 abbrev pub is_separator : ℕ → Bool
 is_separator c = c == 58 || c == 45
 
--- the bytes of a text: the separator is what stands after the first pair
+-- the bytes of a text: the separator is what is after the first pair
 abbrev pub mac_value : List ℕ → Option (List ℕ)
 mac_value [] = None
 mac_value (high ∷ []) = None

@@ -41,7 +41,7 @@ unsigned_word form = from_be_bytes w16 (take 2 form)
 abbrev pub signed_word : List ℕ → ℤ
 signed_word form = cast_signed w16 (unsigned_word form)
 
--- how a sign is written; 0xc000 stands for no number
+-- how a sign is written; 0xc000 is for no number
 abbrev pub sign_word : PgNumericSign → ℕ
 sign_word Positive = 0
 sign_word Negative = 16384
@@ -111,7 +111,7 @@ digits_after n form = do
 abbrev pub sign_of : ℕ → Option PgNumericSign
 sign_of said = if said == 0 then Some Positive else if said == 16384 then Some Negative else None
 
--- the sign that stands after the number of digits and the weight
+-- the sign that is after the number of digits and the weight
 abbrev pub said_sign : List ℕ → ℕ
 said_sign form = unsigned_word (drop 4 form)
 

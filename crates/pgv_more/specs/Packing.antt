@@ -90,7 +90,7 @@ number_of-take zero bits = refl
 number_of-take (suc n) [] = refl
 number_of-take (suc n) (bit ∷ bits) = ap (λ (m : ℕ). (if bit then 2 ^ n else 0) + m) (number_of-take n bits)
 
--- fewer bits stand in front of zeros
+-- fewer bits are in front of zeros
 pub number_of-short : (c j : ℕ) (bits : List Bool) → length bits ≤ c → number_of (c + j) bits ≡ number_of c bits * 2 ^ j
 unfolding number_of
 number_of-short zero j [] l = omega (arith, number_of-nil (zero + j))

@@ -128,8 +128,8 @@ pub fn ci_text_is_a_citext()
         ⟦<String as Decode>⟧.parse }
 {}
 
-/// Two values of one of these types are equal iff their parts are: the time of day and the offset, the bytes of the
-/// address, the bytes of the text (case counts), or the bytes.
+/// Two `PgTimeTz` are equal iff their times of day and their offsets are; two `MacAddress`, `PgCiText`, `PgBytea` or
+/// `PgByteaArray<N>` are equal iff their bytes are, so that the case of a text counts.
 pub fn equal_values<const N: usize>()
     ensures times { (a b : PgTimeTz) → (⟦<PgTimeTz as PartialEq>⟧.eq a b ≡ true)
         ↔ ((time_nanos a.time ≡ time_nanos b.time) × (a.offset.seconds ≡ b.offset.seconds)) }
@@ -157,7 +157,8 @@ pub fn one_bytea_text()
     ensures { OneByteaText }
 {}
 
-/// A value of one of these types fits every type, so that it is read back under each.
+/// A `BitVec`, `MacAddress`, `PgTimeTz`, `PgBytea`, `PgByteaArray<N>` or `PgCiText` fits every type, so that it is read
+/// back under each.
 pub fn plain_types_fit<const N: usize>()
     ensures bits { FitsAlways ⟦<crate::BitVec as ReadBack>⟧.fits }
     ensures mac_address { FitsAlways ⟦<crate::MacAddress as ReadBack>⟧.fits }

@@ -1,4 +1,4 @@
--- What is read of a range in binary is what its bytes are.
+-- What is read from a range in binary is what its bytes are.
 use Rattle.std.proofs.Common.{◌≡◌, ℕ, Bool, true, false, cond, List, [], ◌∷◌, Option, Some, None, Result, Ok, refl, sym, ◌∙◌, ap, subst}
 use Rattle.std.specs.Prelude.{ok_or}
 use Rattle.std.specs.declared.ops.Bound.{Bound}

@@ -1,4 +1,4 @@
--- What is read of a range in text is what its characters are.
+-- What is read from a range in text is what its characters are.
 use Rattle.std.proofs.Common.{arith, ◌≡◌, ℕ, Bool, true, false, List, [], ◌∷◌, drop, length, Some, None, Ok, refl, sym, ◌∙◌, ap, subst}
 use Rattle.std.specs.Prelude.{ok_or}
 use Rattle.std.specs.Str.{chars}

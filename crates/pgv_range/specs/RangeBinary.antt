@@ -31,7 +31,7 @@ IsClear flags flag = has flags flag ≡ false
 abbrev pub BeginsWith : {M : Type 0} → (Given → Outcome M) → Ty → M → List ℕ → List ℕ → Type 0
 BeginsWith parse u m bytes rest = (part : Part) × IsFrame bytes part rest × Reads parse (given u Binary part) m
 
--- The bytes begin with this bound, of which these two flags speak. Where there is none, they begin with nothing; a
+-- The bytes begin with this bound, which these two flags describe. Where there is none, they begin with nothing; a
 -- bound that is there has a frame.
 abbrev pub IsBound : {M : Type 0} → (Given → Outcome M) → Ty → (flags infinite included : ℕ) → Bound M → List ℕ → List ℕ → Type 0
 IsBound parse u flags infinite included Unbounded bytes rest = IsSet flags infinite × (bytes ≡ rest)

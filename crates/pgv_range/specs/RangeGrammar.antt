@@ -1,7 +1,7 @@
 -- Ranges (PostgreSQL: "Range Types", 8.17; the binary form is that of its source, range_recv): what is read, why it is
--- refused and where memory is asked for. The relations that it computes stand in `RangeBinary` and `RangeInText`.
--- Memory is asked for only by the values of the bounds that are read, and for copies: in binary of a custom type that
--- the range is over, after the frame of a bound; in text of a part that doesn't stand in the text as it is.
+-- refused and where memory is asked for. The relations that it computes are in `RangeBinary` and `RangeInText`. Memory
+-- is asked for only by the values of the bounds that are read, and for copies: in binary of a custom type that the
+-- range is over, after the frame of a bound; in text of a part that isn't in the text as it is.
 use Rattle.std.specs.Prelude.{ℕ, Bool, true, false, List, [], ◌∷◌, drop, Option, Some, None, if◌then◌else◌}
 use Rattle.std.specs.Str.{chars}
 use Rattle.std.specs.declared.ops.Bound.{Bound}

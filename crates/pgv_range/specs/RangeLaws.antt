@@ -28,8 +28,8 @@ abbrev pub RangeFieldComesBack : {X M : Type 0} → (X → Encoding) → Ty → 
 RangeFieldComesBack encoding element parse view kept info accepts fits =
     FieldReadsBack info (λ r. plainly (range_image (range_view encoding r))) accepts (parse_range element parse) (λ r. range_view view (range_kept kept r)) fits
 
--- memory may be asked for only to copy: in binary a custom type that the range is over, in text a part that doesn't
--- stand in it as it is
+-- memory may be asked for only to copy: in binary a custom type that the range is over, in text a part that isn't
+-- in it as it is
 abbrev pub TakesOnlyForCopies : {M : Type 0} → (Given → Outcome M) → Type 0
 TakesOnlyForCopies parse =
     ((t u : Ty) (bytes : Part) → IsRangeOver t u → is_custom u ≡ false → (parse (given t Binary bytes)).may_alloc ≡ false)

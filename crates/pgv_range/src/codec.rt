@@ -1,4 +1,4 @@
-//! What ranges are written as and read of, whatever their bounds are (PostgreSQL, "Range Types"; the binary form is
+//! What ranges are written as and read from, whatever their bounds are (PostgreSQL, "Range Types"; the binary form is
 //! that of its source, range_send).
 
 ghost use Rattle.std.specs.Prelude.{◌≡◌, OnOk, OnErr, Some, drop};

@@ -44,10 +44,10 @@ impl Flags for RangeFlags {
     }
 }
 
-/// What a flag byte says of a bound.
+/// What a flag byte says about a bound.
 #[derive(Clone, Copy, Drop)]
 pub(crate) enum Side {
-    /// There is none.
+    /// There is no bound.
     Infinite,
     /// It is included.
     Inclusive,
@@ -55,7 +55,7 @@ pub(crate) enum Side {
     Exclusive,
 }
 
-/// What a flag byte says of a range.
+/// What a flag byte says about a range.
 #[derive(Clone, Copy, Drop)]
 pub(crate) enum RangeForm {
     /// It is empty.

@@ -100,7 +100,8 @@ pub fn ranges_take_only_for_copies<T: Decode + Type>()
         → TakesOnlyForCopies ⟦<PgRange<T> as Decode>⟧.parse }
 {}
 
-/// Reading a range of `i32`, `i64`, `Date`, `DateTime` or `Timestamp` asks for memory only for these copies.
+/// Reading a range of `i32`, `i64`, `Date`, `DateTime` or `Timestamp` asks for memory only for copies: in binary of a
+/// custom type that the range is over, in text of a part that is not one run of the text's bytes.
 pub fn own_ranges_take_only_for_copies()
     ensures int4 { TakesOnlyForCopies ⟦<PgRange<i32> as Decode>⟧.parse }
     ensures int8 { TakesOnlyForCopies ⟦<PgRange<i64> as Decode>⟧.parse }

@@ -28,7 +28,7 @@ pub record IsDataRow (width : ℕ) (bytes : List ℕ) (row : List Part) : Type 0
 unfoldable pub frames_front : ℕ → List ℕ → Parsed (List ℕ)
 frames_front width bytes = u16_front bytes and_then λ count. if nat_eq count.0 width then Ok count.1 else Err FieldCount
 
--- the parts of a row, where there is room for so many places
+-- the parts of a row, where there is room for as many places
 unfoldable pub data_row : ℕ → ℕ → List ℕ → Outcome (List Part)
 data_row room width bytes = do
   frames ← exactly (frames_front width bytes)

@@ -54,7 +54,7 @@ columns_fit first more columns place = both_fit (first columns place) (more colu
 abbrev pub Left : Type 0
 Left = ℕ × List ℕ
 
--- what is read of a part under the type and in the format of its column
+-- what is read from a part under the type and in the format of its column
 unfoldable pub part_value : {M : Type 0} → (Given → Outcome M) → Column → Part → Outcome M
 part_value parse c part = do
   allocates (is_custom c.type_info)
@@ -116,13 +116,13 @@ abbrev pub IsRowRefused : {M : Type 0} → (List Column → List ℕ → Outcome
 IsRowRefused read refused columns body e =
     ((index_of e ≡ 0) × (frames_front (length columns) body ≡ Err (codec_error e))) ⊎ IsOkAnd (frames_front (length columns) body) (λ frames. refused columns frames e ⊎ IsOkAnd (read columns frames).answer (λ first. IsRestRefused (length columns) (length body) first.1 e))
 
--- ---- what is read of a DataRow
+-- ---- what is read from a DataRow
 
 -- the body is a DataRow of these columns
 abbrev pub IsRowOf : List Column → List ℕ → Type 0
 IsRowOf columns body = (parts : List Part) × IsDataRow (length columns) body parts
 
--- of a body that is a DataRow the result is what is read of the row of its parts
+-- of a body that is a DataRow the result is what is read from the row of its parts
 abbrev pub GivesRow : {V M : Type 0} → (V → M) → (Row → Outcome M) → List Column → List ℕ → Result V CodecError → Type 0
 GivesRow view parse columns body result = (parts : List Part) → IsDataRow (length columns) body parts → Gives view (parse (record { columns = columns; parts = parts })) result
 
@@ -137,7 +137,7 @@ abbrev pub AreFrames : Row → ℕ → List ℕ → Type 0
 AreFrames row place bytes = (several one_part (length row.columns - place) bytes).answer ≡ Ok (drop place row.parts, [])
 
 -- Of the frames of a row from a place on the same is read as of the row, and the same column is refused, where the
--- columns fit; and what is read of bytes whose rest is frames is read of frames.
+-- columns fit; and what is read from bytes whose rest is frames is read from frames.
 pub record InOnePass {M : Type 0} (place : ℕ) (fits : List Column → Fit) (parse : Row → Outcome M) (refused : Row → ColumnError ℕ → Type 0) (read : List Column → List ℕ → Outcome (M × Left)) (refused_in_front : List Column → List ℕ → ColumnError ℕ → Type 0) : Type 0 where
   pub as_row : (row : Row) (bytes : List ℕ) → fits row.columns ≡ Ok tt → AreFrames row place bytes →
       (left : Left) × AreFrames row left.0 left.1 × (read row.columns bytes ≡ (parse row >>= λ m. done (m, left)))

@@ -1,4 +1,4 @@
--- Where the parts of a row stand in its bytes.
+-- Where the parts of a row are in its bytes.
 use Rattle.std.specs.Prelude.{ℕ, ◌≤◌, List, length, map, slice_range, Option, Some, None, option_map, ⊤}
 use Rattle.std.specs.List.{AllByRecursion}
 use Rattle.pgv_value.specs.FrameBinary.{Part}

@@ -1,4 +1,4 @@
--- What is read of the columns of a row one after another, from a place on. The first column that is refused refuses
+-- What is read from the columns of a row one after another, from a place on. The first column that is refused refuses
 -- them all.
 use Rattle.std.specs.Prelude.{◌≡◌, ◌⊎◌, ℕ, ◌+◌, Bool, Result, Ok, Err, IsOk}
 use Rattle.pgv_types.specs.Ty.{Ty}

@@ -1,4 +1,4 @@
--- What is read of a value of a row. Null is read whatever the type of its column is; any other value only where the
+-- What is read from a value of a row. Null is read whatever the type of its column is; any other value only where the
 -- column's type is one that the values of the Rust type are read under, else it is C27. There is no value, C25, where
 -- the row has no such column. A custom type is copied, and so may ask for memory.
 use Rattle.std.specs.Prelude.{ℕ, Bool, ◌||◌, not, is_none}
@@ -20,13 +20,13 @@ raw_value row place = do
   allocates (is_custom value.type_info)
   done value
 
--- what is read of it, whatever the column's type is
+-- what is read from it, whatever the column's type is
 unfoldable pub unchecked_value : {M : Type 0} → (Given → Outcome M) → Row → ℕ → Outcome M
 unchecked_value parse row place = do
   value ← raw_value row place
   parse value
 
--- what is read of it under the column's type
+-- what is read from it under the column's type
 unfoldable pub column_value : {M : Type 0} → (Ty → Bool) → (Given → Outcome M) → Row → ℕ → Outcome M
 column_value accepts parse row place = do
   value ← raw_value row place

@@ -49,14 +49,14 @@ impl<'d> PgColumn<'d> {
         self.name
     }
 
-    /// The OID of the table that the column is of (`pg_class.oid`), where it is known to be of one; otherwise 0.
+    /// The OID of the table that has the column (`pg_class.oid`), where a table is known to have it; otherwise 0.
     pub fn table(&self) -> Oid
         ensures { result.0 ≡ self.now.table }
     {
         self.table
     }
 
-    /// The attribute number of the column in its table (`pg_attribute.attnum`), from 1 on, where it is of one;
+    /// The attribute number of the column in its table (`pg_attribute.attnum`), from 1 on, where a table has it;
     /// otherwise 0.
     pub fn attribute(&self) -> i16
         ensures { result ≡ self.now.attribute }
@@ -80,8 +80,8 @@ impl<'d> PgColumn<'d> {
         &self.type_info
     }
 
-    /// The data type size in bytes (`pg_type.typlen`): 4 for `int4`. A negative one is of a type of variable width, as
-    /// -1 for `text`.
+    /// The data type size in bytes (`pg_type.typlen`): 4 for `int4`. A negative one is that of a type of variable
+    /// width, as -1 for `text`.
     pub fn size(&self) -> i16
         ensures { result ≡ self.now.size }
     {
@@ -223,8 +223,9 @@ impl<'d> PgColumns<'d> {
     /// The columns that the body of a RowDescription describes (PostgreSQL, "Message Formats", RowDescription). A type
     /// that isn't built in is looked up in the catalogue.
     ///
-    /// Bytes that end too early are refused with C15, a name that isn't UTF-8 with C14, another format than 0 and 1
-    /// with C30, and bytes after the last column with C17.
+    /// Bytes that end too early are refused with [`Short`](CodecError::Short) (C15), a name that isn't UTF-8 with
+    /// [`Utf8`](CodecError::Utf8) (C14), another format than 0 and 1 with [`OutOfRange`](CodecError::OutOfRange) (C30),
+    /// and bytes after the last column with [`WrongLength`](CodecError::WrongLength) (C17).
     pub fn read<C: PgCatalog>(
         alloc: Global,
         body: &'d [u8],

@@ -72,15 +72,17 @@ fn read_frames<'r, T: FromRow>(
 }
 
 impl<'c, 'r> PgCopyRows<'c, 'r> {
-    /// What the fields of `T` read of the next row, each of the column at its place, as
-    /// `rows.next_row_as::<(i32, Option<String>)>(alloc)`; `None` at the end of the stream and from then on. Further
-    /// columns are passed over. Types are not tested: [`PgColumns::check`] does that, once for all rows.
+    /// What the fields of `T` read from the next row, each from the column at its place, as `rows.next_row_as::<(i32,
+    /// Option<String>)>(alloc)`; `None` at the end of the stream and from then on. Further columns are passed over.
+    /// Types are not tested: [`PgColumns::check`] does that, once for all rows.
     ///
-    /// Where the bytes end before the stream does it is C15, a negative number of fields but the -1 of the end C16,
-    /// another number than that of the columns C12, and a negative length of a field but the -1 of null C16; a value is
-    /// refused with what its type refuses it with. Of several refusals the one that comes first in the bytes is the
-    /// error; its place is the column's, and 0 of the number of fields. A refused call leaves the reader as it was.
-    /// Memory is asked for only for the values, and for a copy of a custom type.
+    /// Bytes that end before the stream does are refused with [`Short`](CodecError::Short) (C15), a negative number of
+    /// fields but the -1 of the end, and a negative length of a field but the -1 of null, with
+    /// [`NegativeLength`](CodecError::NegativeLength) (C16), and another number than that of the columns with
+    /// [`FieldCount`](CodecError::FieldCount) (C12); a value is refused with what its type refuses it with. Of several
+    /// refusals the one that comes first in the bytes is the error; its place is the column's, and 0 of the number of
+    /// fields. A refused call leaves the reader as it was. Memory is asked for only for the values, and for a copy of a
+    /// custom type.
     #[inline(always)]
     #[tactic(auto, unfolding(crate::specs::CopyRows::row_from, crate::specs::CopyRows::row_or_end))]
     pub fn next_row_as<T: FromRow>(

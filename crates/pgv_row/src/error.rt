@@ -27,13 +27,15 @@ pub enum ColumnError<I> {
         index: I,
         /// The column's place.
         place: usize,
-        /// Why it was refused: C1 where memory ran out, C27 where the column's type is not one that the Rust type is
-        /// read under.
+        /// Why it was refused: [`Memory`](CodecError::Memory) (C1) where memory ran out,
+        /// [`MismatchedTypes`](CodecError::MismatchedTypes) (C27) where the column's type is not one that the Rust type
+        /// is read under.
         source: CodecError,
     },
 }
 
-/// A column that isn't there is C25, and a value that was refused is what it was refused with.
+/// A column that isn't there is [`NoField`](CodecError::NoField) (C25), and a value that was refused is what it was
+/// refused with.
 impl<I: Drop> From<ColumnError<I>> for CodecError {
     ghost from_gives = { λ error codec. codec ≡ codec_error error };
 

@@ -1,4 +1,4 @@
-//! Where the parts of a row stand in its bytes.
+//! Where the parts of a row are in its bytes.
 
 ghost use Rattle.std.specs.Prelude.{◌≡◌, ◌≢◌, ◌≤◌, [], length, drop, IfOk, IfErr, OnOk, vec_capacity};
 ghost use Rattle.pgv_value.specs.declared.error.CodecError.TheVariants.{Memory};
@@ -11,7 +11,7 @@ ghost use Rattle.pgv_value.specs.Several.{several};
 
 use pgv_value::{CodecError, part_in_front};
 
-/// Where a part stands in the bytes of a row.
+/// Where a part is in the bytes of a row.
 #[derive(Clone, Copy)]
 pub struct Place {
     /// Its first byte.
@@ -20,8 +20,8 @@ pub struct Place {
     pub end: usize,
 }
 
-/// That the number of columns in front is this one: C15 where no number is there, and C12 where it is another. The
-/// frames come after its two bytes.
+/// That the number of columns in front is this one: [`Short`](CodecError::Short) (C15) where no number is there, and
+/// [`FieldCount`](CodecError::FieldCount) (C12) where it is another. The frames come after its two bytes.
 #[inline(always)]
 #[tactic(auto, unfolding(crate::specs::DataRow::frames_front, pgv_value::specs::Fronts::u16_front))]
 pub fn check_count(bytes: &[u8], width: usize) -> Result<(), CodecError>
@@ -38,7 +38,7 @@ pub fn check_count(bytes: &[u8], width: usize) -> Result<(), CodecError>
     Ok(())
 }
 
-/// Where the part of the frame at `at` stands, and where the next frame begins.
+/// Where the part of the frame at `at` is, and where the next frame begins.
 #[inline(always)]
 fn place_at(bytes: &[u8], at: usize) -> Result<(Option<Place>, usize), CodecError>
     requires { at ≤ length bytes.now }
@@ -59,8 +59,7 @@ fn place_at(bytes: &[u8], at: usize) -> Result<(Option<Place>, usize), CodecErro
     }
 }
 
-/// Notes where the parts of as many frames stand, of which the first begins at `at`, and answers where the last one
-/// ends.
+/// Notes where the parts of as many frames are, the first of which begins at `at`, and returns where the last one ends.
 fn note_places(
     places: &mut Vec<Option<Place>>,
     bytes: &[u8],
@@ -84,7 +83,7 @@ fn note_places(
     Ok(next)
 }
 
-/// Notes where the parts of a row stand that is the body of a DataRow, in place of what was noted before.
+/// Notes where the parts of a row are, which is the body of a DataRow, in place of what was noted before.
 #[inline(always)]
 #[tactic(auto, unfolding(crate::specs::DataRow::data_row))]
 fn note_row(places: &mut Vec<Option<Place>>, bytes: &[u8], width: usize) -> Result<(), CodecError>
@@ -102,7 +101,7 @@ fn note_row(places: &mut Vec<Option<Place>>, bytes: &[u8], width: usize) -> Resu
     Ok(())
 }
 
-/// Notes where the parts of a row stand that is the body of a DataRow, in place of what was noted before.
+/// Notes where the parts of a row are, which is the body of a DataRow, in place of what was noted before.
 #[inline(always)]
 pub fn find_places(
     places: &mut Vec<Option<Place>>,

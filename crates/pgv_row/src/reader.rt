@@ -98,7 +98,7 @@ impl<'d> PgColumns<'d> {
     /// [`PgRow::try_get`](crate::PgRow::try_get): its column's type is tested too.
     ///
     /// A field that there is no column for is `NotFound`, and one that isn't read under its column's type `Decode` with
-    /// C27, as at `try_get`: the first one is the error.
+    /// [`MismatchedTypes`](CodecError::MismatchedTypes) (C27), as at `try_get`: the first one is the error.
     pub fn check<T: FromRow>(&self) -> Result<(), ColumnError<usize>>
         ensures exact { Fits (T.fits self.now) result }
     {
@@ -113,18 +113,20 @@ impl<'d> PgColumns<'d> {
     /// succeeds, a row is read, or refused, as [`PgRow::as_tuple`](crate::PgRow::as_tuple) does it. Where it doesn't,
     /// each field still reads its value under the type of its column, and may misread or refuse it.
     ///
-    /// Another number of columns is refused with C12, bytes that end too early with C15, a negative length but the -1
-    /// of null with C16, and bytes after the last column with C17; a value with what its type refuses it with. Of
-    /// several refusals the one that comes first in the bytes is the error, so that a value's may come before that of a
-    /// later frame. The error's place is the column's that was read; 0 of the number of columns, and that number of
-    /// bytes after the last one. Memory is asked for only for the values, and for a copy of a custom type.
+    /// Another number of columns is refused with [`FieldCount`](CodecError::FieldCount) (C12), bytes that end too early
+    /// with [`Short`](CodecError::Short) (C15), a negative length but the -1 of null with
+    /// [`NegativeLength`](CodecError::NegativeLength) (C16), and bytes after the last column with
+    /// [`WrongLength`](CodecError::WrongLength) (C17); a value with what its type refuses it with. Of several refusals
+    /// the one that comes first in the bytes is the error, so that a value's may come before that of a later frame. The
+    /// error's place is the column's that was read; 0 of the number of columns, and that number of bytes after the last
+    /// one. Memory is asked for only for the values, and for a copy of a custom type.
     #[inline(always)]
     pub fn read_row<T: FromRow>(&self, alloc: Global, body: &[u8]) -> Result<T, ColumnError<usize>>
         ensures read { Gives T.view (one_pass T.in_front self.now body.now) (or_codec result) }
         ensures first { IfErr result
             (IsRowRefused T.in_front T.refused_in_front self.now body.now) }
-        // Only a DataRow is read. Where the columns fit, the same is read of it as of its row, and the same column is
-        // refused.
+        // Only a DataRow is read. Where the columns fit, the same is read from it as from its row, and the same column
+        // is refused.
         ensures whole { IfOk result (λ _. IsRowOf self.now body.now) }
         ensures row { T.fits self.now ≡ Ok tt →
             GivesRow T.view T.parse self.now body.now (or_codec result) }

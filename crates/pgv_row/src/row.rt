@@ -40,8 +40,8 @@ impl PgPlaces {
         }
     }
 
-    /// Room for as many places as there are columns, so that reading a row in it asks for no memory. C1 where that
-    /// can't be had.
+    /// Room for as many places as there are columns, so that reading a row in it asks for no memory; or
+    /// [`Memory`](CodecError::Memory) (C1).
     pub fn with_columns(alloc: Global, columns: &PgColumns<'_>) -> Result<PgPlaces, AllocError>
         ensures { IfOk result (λ room. length columns.now ≤ capacity room) }
     {
@@ -81,7 +81,7 @@ impl<'a> Model for PgRow<'a> {
     ghost invariant = { λ r. AreWithin (body_of r.bytes) r.places.now };
 }
 
-/// The value whose part stands at a place in the bytes of a row, or null.
+/// The value whose part is at a place in the bytes of a row, or null.
 #[inline(always)]
 fn value_in<'a>(
     bytes: RowBytes<'a>,
@@ -112,9 +112,11 @@ impl<'a> PgRow<'a> {
     /// until the next one is read with the same room. `0002 00000001 37 ffffffff` is a row of two columns, `7` and
     /// null.
     ///
-    /// Another number of columns is refused with C12, bytes that end too early with C15, a negative length but the -1
-    /// of null with C16, and bytes after the last column with C17. C1 comes only where the room has fewer places than
-    /// there are columns.
+    /// Another number of columns is refused with [`FieldCount`](CodecError::FieldCount) (C12), bytes that end too early
+    /// with [`Short`](CodecError::Short) (C15), a negative length but the -1 of null with
+    /// [`NegativeLength`](CodecError::NegativeLength) (C16), and bytes after the last column with
+    /// [`WrongLength`](CodecError::WrongLength) (C17). It is refused with [`Memory`](CodecError::Memory) (C1) only
+    /// where the room has fewer places than there are columns.
     #[inline(always)]
     pub fn read(
         columns: &'a PgColumns<'a>,
@@ -163,8 +165,8 @@ impl<'a> PgRow<'a> {
         })
     }
 
-    /// The row with bytes of its own, or with those that it shares, which outlives the message and the room. C1 where
-    /// memory runs out.
+    /// The row with bytes of its own, or with those that it shares, which outlives the message and the room; or
+    /// [`Memory`](CodecError::Memory) (C1).
     pub fn to_owned(&self, alloc: Global) -> Result<PgOwnedRow, CodecError>
         ensures same { IfOk result (λ row. row ≡ self.now.parts) }
         ensures memory { IfErr result (λ e. e ≡ Memory) }
@@ -226,7 +228,7 @@ impl<'a> PgRow<'a> {
         }
     }
 
-    /// The value of the column at a place, as it stands in the row.
+    /// The value of the column at a place, as the row has it.
     #[inline(always)]
     #[tactic(auto, unfolding(crate::specs::Values::raw_value))]
     fn raw_at(&self, place: usize) -> Result<PgValueRef<'a>, CodecError>
@@ -251,7 +253,7 @@ impl<'a> PgRow<'a> {
         T::decode(alloc, self.raw_at(place)?)
     }
 
-    /// What `T` reads of the column at a place under its type. The type is tested where it stands, before it is copied.
+    /// What `T` reads from the column at a place under its type. The type is tested before it is copied.
     #[inline(always)]
     #[tactic(auto, unfolding(crate::specs::Values::column_value, crate::specs::Values::raw_value))]
     pub(crate) fn value_at<T: Type + Decode>(
@@ -277,7 +279,8 @@ impl<'a> PgRow<'a> {
         )
     }
 
-    /// The value of a column, as it stands in the row. C1 comes only of a custom type, which is copied.
+    /// The value of a column, as the row has it. [`Memory`](CodecError::Memory) (C1) comes only from the copy of a
+    /// custom type.
     #[inline(always)]
     pub fn try_get_raw<I: ColumnIndex>(&self, index: I) -> Result<PgValueRef<'a>, ColumnError<I>>
         ensures { GivesColumn (λ value. value) I.place I.missing index self.now raw_value result }
@@ -296,8 +299,9 @@ impl<'a> PgRow<'a> {
     }
 
     /// The value of a column: what `T` reads of it. Null is read or refused by `T` whatever the column's type is, where
-    /// [`pgv_codec::PgRecordDecoder`] asks for the type of null too. Any other value is refused with C27 where `T`
-    /// isn't read under the column's type, and else with what `T` refuses it with.
+    /// [`pgv_codec::PgRecordDecoder`] asks for the type of null too. Any other value is refused with
+    /// [`MismatchedTypes`](CodecError::MismatchedTypes) (C27) where `T` isn't read under the column's type, and else
+    /// with what `T` refuses it with.
     #[inline(always)]
     pub fn try_get<T: Type + Decode, I: ColumnIndex>(
         &self,
@@ -377,8 +381,8 @@ impl Model for PgOwnedRow {
 }
 
 impl PgOwnedRow {
-    /// The row under its columns. Another number of columns is refused with C12. Values that are kept of it share its
-    /// bytes.
+    /// The row under its columns. Another number of columns is refused with [`FieldCount`](CodecError::FieldCount)
+    /// (C12). Values that are kept of it share its bytes.
     pub fn as_row<'a>(&'a self, columns: &'a PgColumns<'a>) -> Result<PgRow<'a>, CodecError>
         ensures row { IfOk result (λ row. row ≡ record
             { columns = columns.now; parts = self.now }) }

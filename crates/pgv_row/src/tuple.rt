@@ -25,7 +25,7 @@ pub trait FromRow: Sized + Drop {
     /// What the fields say.
     ghost view: { Self → View };
 
-    /// What is read of a row.
+    /// What is read from a row.
     ghost parse: { Row → Outcome View };
 
     /// The errors that a row may be refused with.
@@ -34,7 +34,7 @@ pub trait FromRow: Sized + Drop {
     /// Whether the columns are there, and the fields are read under their types, or why not.
     ghost fits: { List Column → Fit };
 
-    /// What is read of the frames of a row, and what is left of them.
+    /// What is read from the frames of a row, and what is left of them.
     ghost in_front: { List Column → List ℕ → Outcome (View × Left) };
 
     /// The errors that the frames may be refused with.
@@ -62,7 +62,7 @@ pub trait FromRow: Sized + Drop {
         ensures first { IfErr result (refused_in_front columns.now bytes.now) }
         ensures within { IfOk result (λ x. length x.2.now ≤ length bytes.now) };
 
-    /// The same is read of the frames as of the row.
+    /// The same is read from the frames as from the row.
     ghost in_one_pass: { InOnePass 0 fits parse refused in_front refused_in_front };
 }
 
@@ -75,7 +75,7 @@ pub trait ColumnList: Sized + Drop {
     /// What the values say.
     ghost view: { Self → View };
 
-    /// What is read of the columns from a place on.
+    /// What is read from the columns from a place on.
     ghost parse: { Row → ℕ → Outcome View };
 
     /// The errors that these columns may be refused with.
@@ -84,7 +84,7 @@ pub trait ColumnList: Sized + Drop {
     /// Whether the columns from a place on are there, and the values are read under their types, or why not.
     ghost fits: { List Column → ℕ → Fit };
 
-    /// What is read of the frames of the columns from a place on, and what is left of them.
+    /// What is read from the frames of the columns from a place on, and what is left of them.
     ghost in_front: { List Column → ℕ → List ℕ → Outcome (View × Left) };
 
     /// The errors that these frames may be refused with.
@@ -112,7 +112,7 @@ pub trait ColumnList: Sized + Drop {
         ensures first { IfErr result (refused_in_front columns.now place bytes.now) }
         ensures within { IfOk result (λ x. length x.2.now ≤ length bytes.now) };
 
-    /// The same is read of the frames as of the row.
+    /// The same is read from the frames as from the row.
     ghost in_one_pass: { (place : ℕ) → InOnePass place (λ columns. fits columns place) (λ row. parse row place) (λ row. refused row place) (λ columns. in_front columns place) (λ columns. refused_in_front columns place) };
 }
 

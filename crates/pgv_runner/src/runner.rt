@@ -42,7 +42,7 @@ impl<R: Read, A: Allocator> MayWait for BufReader<R, A> {
     }
 }
 
-/// What the program says of a fault.
+/// What the program prints at a fault.
 pub fn fault_text(fault: &RunFault) -> &'static str
     ensures { result.now ≡ text_of_fault fault.now }
 {

@@ -5,7 +5,7 @@ use std::env::{self, Env};
 use std::io::{self, BufReader, BufWriter, ErrorKind};
 use std::process::ExitCode;
 
-/// What is said where the program is given an argument, since it takes none.
+/// What is printed where the program is given an argument: it takes none.
 const USAGE: &str =
     "usage: pgvalue, with lines on standard input, as in: printf 'add int4 7\\nwire\\n' | pgvalue";
 

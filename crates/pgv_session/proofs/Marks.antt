@@ -44,7 +44,7 @@ split_joined mark (c ∷ word) rest none =
     subst (λ (line : List ℕ). IsSplit mark line (c ∷ word) rest) (sym (joined_more mark c word rest))
     (split_at mark c word rest (c == mark) refl none (split_joined mark word rest))
 
--- what stands before a mark has none
+-- what is before a mark has none
 before_at : (mark c : ℕ) (cs : List ℕ) (b : Bool) → (c == mark) ≡ b → AllByRecursion (λ d. d ≢ mark) (before mark cs) → AllByRecursion (λ d. d ≢ mark) (before mark (c ∷ cs))
 before_at mark c cs true e h = rw e tt
 before_at mark c cs false e h = rw e (eqb-false c mark e, h)

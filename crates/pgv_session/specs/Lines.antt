@@ -1,4 +1,4 @@
--- What a line asks for, computed: its words end at single spaces, and a text is all that stands after its space. That a
+-- What a line asks for, computed: its words end at single spaces, and a text is all that is after its space. That a
 -- line spells what is computed, that each spelled line is found, and that a line asks for one thing only, are laws
 -- (Laws).
 use Rattle.std.specs.Prelude.{ℕ, ◌==◌, nat_lt, Bool, false, codes, bytes_eq, List, [], ◌∷◌, Option, Some, None, Result, Ok, Err, option_map, if◌then◌else◌}
@@ -9,7 +9,7 @@ use Rattle.pgv_text.specs.NumberText.{unsigned_value}
 use Rattle.pgv_value.specs.Utf8.{is_utf8}
 use Rattle.pgv_session.specs.Spelled.{Request, asks, to_add, to_add_null, to_read, asks_holes, resolves, asks_wire, copies}
 
--- what stands before the first byte of a kind, and after it where there is one
+-- what is before the first byte of a kind, and after it where there is one
 abbrev pub before : ℕ → List ℕ → List ℕ
 before mark [] = []
 before mark (c ∷ cs) = if c == mark then [] else c ∷ before mark cs

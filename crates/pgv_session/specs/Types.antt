@@ -51,7 +51,7 @@ abbrev pub refused_by : {M : Type 0} → Ty → (Ty → M → Encoding) → Opti
 refused_by info written unread None = unread
 refused_by info written unread (Some m) = why_of (frame (written info m)).answer
 
--- a TYPE: its type, what is added of the value that a text or bytes are under it, and where there is none, which
+-- a TYPE: its type, what is added for the value that a text or bytes are under it, and where there is none, which
 -- refusal is answered, if the type states it
 pub record Row : Type 0 where
   pub info : Ty

@@ -159,7 +159,7 @@ fn respond(
     }
 }
 
-/// Answers what is asked of a value of a Rust type, of which null is none.
+/// Answers what is asked of a value of a Rust type that does not read null.
 fn respond_as<T: Codec>(
     alloc: Global,
     arguments: &mut PgArguments,

@@ -1,5 +1,5 @@
-//! What the examples bind, read and keep, a short test each. They stand here since a crate with tests is proved once
-//! more for them. The examples' types are tested by the rows of `pgv_calls` too.
+//! What the examples bind, read and keep, a short test each. They are here since a crate with tests is proved once more
+//! for them. The examples' types are tested by the rows of `pgv_calls` too.
 
 use hex::{decode, encode};
 use pgv::row::{PgColumns, PgPlaces, PgRow};
@@ -65,7 +65,7 @@ fn fill_search(
     fill(alloc, arguments, &parameters, known)
 }
 
-/// The types that a server tells of: `email` has the OID 16602 and `mood` 16600.
+/// The types that a server describes: `email` has the OID 16602 and `mood` 16600.
 fn known_types(alloc: Global) -> Result<[PgTypeInfo; 2], AllocError> {
     let email = PgTypeInfo::custom(alloc, Oid(16602), "email", PgTypeKind::Simple)?;
     let mood = PgTypeInfo::custom(alloc, Oid(16600), "mood", PgTypeKind::Simple)?;
@@ -155,7 +155,7 @@ fn a_stream_is_copied(rt: HostRuntime) -> Result<(), CodecError> {
     Ok(())
 }
 
-/// The arrays of moods, as a server tells of them.
+/// The arrays of moods, as a server describes them.
 fn moods_type(alloc: Global) -> Result<PgTypeInfo, AllocError> {
     let mood = PgTypeInfo::custom(alloc, Oid(16600), "mood", PgTypeKind::Simple)?;
     PgTypeInfo::custom(alloc, Oid(16601), "_mood", PgTypeKind::Array(mood))

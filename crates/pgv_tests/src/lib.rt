@@ -1,7 +1,7 @@
 //! Tests of the codec's calls: tables of rows, each with one loop and one comparison, and transcripts of calls, each
-//! compared whole. They stand in a crate of their own, so that the crates below are proved once. It has no code but
-//! tests. What is a line of the program stands in the stored run of `pgvalue` instead, and rows of calls in that
-//! of `pgv_calls`, where a row costs no proof.
+//! compared whole. They are in a crate of their own, so that the crates below are proved once. It has no code but
+//! tests. What is a line of the program is in the stored run of `pgvalue` instead, and rows of calls in that of
+//! `pgv_calls`, where a row costs no proof.
 //!
 //! - [`made`]: values that are made, printed and written. [`types`], [`values`]: types and names, and frames in front
 //!   of bytes.

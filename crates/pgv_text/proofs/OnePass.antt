@@ -45,7 +45,7 @@ values_more b (c ∷ d ∷ bs) o h l = rw (eqb-true b 123 o, eqb-true c 125 h) r
 pub none_read : (text : List ℕ) → IsUtf8 text → nest_read array_form text ≡ None → array_values text ≡ None
 none_read text u e = ap (option_map (λ (n : Nest). n.values)) (sym (nest_bytes Array text u) ∙ e)
 
--- the values of a text are read of its bytes
+-- the values of a text are read from its bytes
 pub as_read : (text : List ℕ) (b : ℕ) (bs : List ℕ) → IsUtf8 text → text ≡ b ∷ bs → array_values text ≡ option_map (λ (n : Nest). n.values) (nest_read array_form (b ∷ bs))
 as_read text b bs u e = ap (option_map (λ (n : Nest). n.values)) (sym (nest_bytes Array text u) ∙ ap (nest_read array_form) e)
 

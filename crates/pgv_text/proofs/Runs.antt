@@ -1,4 +1,4 @@
--- A usual byte of a text, and those that stand after it, in one step.
+-- A usual byte of a text, and those that are after it, in one step.
 use Rattle.std.proofs.Common.{◌≡◌, ◌<◌, ℕ, zero, suc, ◌+◌, ◌==◌, true, List, [], ◌∷◌, length, take, drop, Option, Some, None, IfSome, ap, sym, ◌∙◌, refl, arith}
 use Rattle.std.specs.List.{slice_index}
 use Rattle.std.proofs.lemmas.Bool.{eqb-true}
@@ -24,7 +24,7 @@ module _ (form : TextForm) (p q : Place) (n : ℕ) (keeps : cell (form_of form) 
   abbrev read_after : List ℕ → ℕ → Option Rest
   read_after text m = grown (take m text) (read (form_of form) q (drop m text))
 
-  -- a usual byte, and the n that stand after it
+  -- a usual byte, and the n that are after it
   pub usual_run : (text : List ℕ) (i : ℕ) → i < length text → class (form_of form) (slice_index text i) ≡ Other →
       ((rest : List ℕ) → rest ≡ drop (i + 1) text → read (form_of form) q rest ≡ read_after rest n) →
       grown (take i text) (read (form_of form) p (drop i text)) ≡ read_after text (i + (1 + n))

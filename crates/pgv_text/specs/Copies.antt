@@ -1,5 +1,4 @@
--- Which parts of a text are copied when they are read: each that doesn't stand in the text as it is, alone or in
--- quotes.
+-- Which parts of a text are copied when they are read: each that isn't in the text as it is, alone or in quotes.
 use Rattle.std.specs.Prelude.{◌≡◌, ℕ, Bool, true, false, not, ◌&&◌, ◌||◌, ◌==◌, cond, is_some, List, [], ◌∷◌, Option, Some, None}
 use Rattle.std.specs.Str.{IsUtf8, chars}
 use Rattle.pgv_text.specs.declared.scanner.Class.{Class}
@@ -43,7 +42,7 @@ abbrev pub in_quotes : Form → List ℕ → Bool
 in_quotes form [] = false
 in_quotes form (c ∷ cs) = in_quotes_by (part_ends form cs) (in_quotes form cs) (class form c)
 
--- The part in front stands in the text as it is, alone or in quotes.
+-- The part in front is in the text as it is, alone or in quotes.
 abbrev pub as_it_is_by : Bool → Bool → Class → Bool
 as_it_is_by quoted alone Quote = quoted
 as_it_is_by quoted alone k = alone
@@ -104,7 +103,7 @@ UnquotedIsNotCopied = (form : TextForm) (text : List ℕ) → IsUtf8 text → is
 
 -- ---- the bytes in front that are kept
 
--- the place in which the first byte stands that isn't kept, and the bytes from it on
+-- the place in which the first byte is that isn't kept, and the bytes from it on
 abbrev pub stop_by : Place → List ℕ → (Place → Option (Place × List ℕ)) → Cell → Option (Place × List ℕ)
 stop_by place bs go (Keep next) = go next
 stop_by place bs go _ = Some (place, bs)

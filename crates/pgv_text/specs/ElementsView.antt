@@ -23,7 +23,7 @@ is_end None = false
 is_end (Some []) = true
 is_end (Some (value ∷ values)) = false
 
--- whether the next element is copied: it doesn't stand in the text as it is
+-- whether the next element is copied: it isn't in the text as it is
 abbrev pub element_copied : Elements → Bool
 element_copied e = not (e.ended || as_it_is array_form e.rest.now)
 

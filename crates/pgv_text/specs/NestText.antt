@@ -13,13 +13,13 @@ use Rattle.std.specs.Prelude.{◌≡◌, ◌≢◌, ℕ, Bool, true, List, [], �
 use Rattle.std.specs.List.{flat_map, AllByRecursion}
 use Rattle.std.specs.Str.{encode_utf8_all}
 
--- What stands between quotes: a character, a character after a backslash, or a doubled quote.
+-- What is between quotes: a character, a character after a backslash, or a doubled quote.
 pub data Item : Type 0 where
   inner : ℕ → Item
   inner_escaped : ℕ → Item
   doubled : Item
 
--- A character, a character after a backslash, or what stands between quotes.
+-- A character, a character after a backslash, or what is between quotes.
 pub data Piece : Type 0 where
   plain : ℕ → Piece
   escaped : ℕ → Piece
@@ -40,7 +40,7 @@ pub record Form : Type 0 where
   pub nothing : List Piece
   pub count : Count
 
--- All but `"`, `\`, `,` and the brackets may stand plain.
+-- All but `"`, `\`, `,` and the brackets may be plain.
 abbrev pub may_be_plain : Form → ℕ → Bool
 may_be_plain form c = not (c == 34 || c == 92 || c == 44 || form.opens c || form.closes c)
 

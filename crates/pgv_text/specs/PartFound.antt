@@ -1,4 +1,4 @@
--- The value of a part that was found, with the text that it may have been put into; and a part whose bytes stand in the
+-- The value of a part that was found, with the text that it may have been put into; and a part whose bytes are in the
 -- text.
 use Rattle.std.specs.Prelude.{◌≡◌, ◌⊎◌, Bool, true, false, ℕ, List, Option, Some, None}
 use Rattle.pgv_text.specs.declared.parts.Part.{Part}

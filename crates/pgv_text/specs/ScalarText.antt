@@ -17,7 +17,7 @@ abbrev pub octal_byte : List ℕ → Option ℕ
 octal_byte (a ∷ b ∷ c ∷ []) = cond (is_octal a && nat_le a 51 && is_octal b && is_octal c) (Some ((a - 48) * 64 + (b - 48) * 8 + (c - 48))) None
 octal_byte _ = None
 
--- What stands after a backslash: nothing, for the backslash itself (92), or a byte.
+-- What is after a backslash: nothing, for the backslash itself (92), or a byte.
 abbrev pub after_backslash : List ℕ → Option ℤ
 after_backslash [] = Some (pos 92)
 after_backslash (c ∷ cs) = option_map (cast_signed w8) (octal_byte (c ∷ cs))

@@ -46,7 +46,7 @@ ends Comma = true
 ends Close = true
 ends _ = false
 
--- the part that is null or absent stands here, and ends
+-- the part that is null or absent is here, and ends
 abbrev pub stands : Form → List Piece → List ℕ → Bool
 stands form [] (c ∷ cs) = ends (class form c)
 stands form (plain d ∷ pieces) (c ∷ cs) = c == d && stands form pieces cs
@@ -56,7 +56,7 @@ stands form _ _ = false
 abbrev pub value_here : Form → List ℕ → List ℕ → Option (List ℕ)
 value_here form cs text = cond (stands form form.nothing cs) None (Some text)
 
--- the closing bracket stands here
+-- the closing bracket is here
 abbrev pub closes_here : Form → List ℕ → Bool
 closes_here form [] = false
 closes_here form (c ∷ cs) = form.closes c

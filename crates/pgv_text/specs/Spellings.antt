@@ -28,7 +28,7 @@ abbrev pub MayBeBare : Form → List ℕ → Type 0
 MayBeBare form characters =
     (characters ≢ []) × AllByRecursion (λ c. may_be_plain form c ≡ true) characters × (map to_ascii_lowercase characters ≢ map to_ascii_lowercase (text_of form.nothing))
 
--- A part: what is null or absent, a quoted text, where quotes are doubled in either way, or a text as it stands.
+-- A part: what is null or absent, a quoted text, where quotes are doubled in either way, or a text as it is.
 abbrev pub IsSpelled : Form → Option (List ℕ) → List ℕ → Type 0
 IsSpelled form None spelling = spelling ≡ spelled form.nothing
 IsSpelled form (Some text) spelling =

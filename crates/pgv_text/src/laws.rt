@@ -1,4 +1,4 @@
-//! Laws of the text forms: each is the contract of a function that does nothing, and holds of every text.
+//! Laws of the text forms: each is the contract of a function that does nothing, and holds for every text.
 
 ghost use Rattle.std.specs.Prelude.{◌≡◌, ◌↔◌, true};
 ghost use Rattle.pgv_text.specs.AddressText.{AddressIsItsValue};

@@ -75,7 +75,7 @@ pub enum RangeText {
 /// if it is not a range text.
 #[tactic(auto, using(crate::proofs::Lists::two_bounds))]
 pub fn range_parts(alloc: Global, text: &str) -> Result<Option<RangeText>, AllocError>
-    // What is read is what the range text is of.
+    // What is read is what the range text denotes.
     ensures found { IfOk result (λ found. IfSome found
         (λ r. IsRangeOf (chars text.now) (range_of r))) }
     // Where nothing is read, the text is not a range text.

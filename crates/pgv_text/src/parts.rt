@@ -219,7 +219,7 @@ impl<'a> Parts<'a> {
 
     /// The parts of a text; `None` if the text isn't in the form. The empty range has no parts.
     pub fn new(form: TextForm, text: &'a str) -> Option<Self>
-        // The parts to come and the brackets, or the empty range, are what the text is of.
+        // The parts to come and the brackets, or the empty range, are what the text denotes.
         ensures found { IfSome result (λ p. IsTextOf form (chars text.now) (content form p)) }
         // Where there are none, the text is not in the form.
         ensures none { IfNone result ((other : Content form)

@@ -99,7 +99,8 @@ impl<T: Labelled> Encode for PgEnum<T> {
 }
 
 /// Read by its label, which is the same in both formats, and read back under every type. A text that is no label is
-/// refused with [`Syntax`](CodecError::Syntax) (C29), and null with C13. No memory is asked for.
+/// refused with [`Syntax`](CodecError::Syntax) (C29), and null with [`UnexpectedNull`](CodecError::UnexpectedNull)
+/// (C13). No memory is asked for.
 impl<T: Labelled> Plain for PgEnum<T> {
     ghost use Rattle.std.specs.Prelude.{refl};
     ghost use Rattle.pgv_value.specs.Outcome.{without_memory};

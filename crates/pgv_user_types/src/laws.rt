@@ -1,5 +1,5 @@
-//! What a value of each of these types is, as the table of types has it, by what a caller's type states. Each is the
-//! contract of a function that does nothing.
+//! Laws that say what values of `PgEnum`, `PgComposite`, `PgRecord`, `PgNewtype` and `PgDomain` are, by what a caller's
+//! type states. Each is the contract of a function that does nothing.
 
 ghost use Rattle.std.specs.Prelude.{◌≡◌, ◌↔◌, ◌||◌, List};
 ghost use Rattle.pgv_types.specs.Relations.{softly};
@@ -18,7 +18,7 @@ use crate::{
 };
 use pgv_codec::{Decode, Encode, KeptList, PgHasArrayType, ReadBack, Type};
 
-/// A `PgEnum<T>` is the type of this name. It is written as its label, and read as the value of its label.
+/// A `PgEnum<T>` is the type whose name `T` states, and is written as its label and read as the value of its label.
 pub fn enum_is_its_label<T: Labelled>()
     ensures { IsCodecRow ⟦<PgEnum<T> as Type>⟧ ⟦<PgEnum<T> as PgHasArrayType>⟧
         ⟦<PgEnum<T> as Encode>⟧ ⟦<PgEnum<T> as Decode>⟧ ⟦<PgEnum<T> as ReadBack>⟧.kept (record {
@@ -31,8 +31,8 @@ pub fn enum_is_its_label<T: Labelled>()
         }) }
 {}
 
-/// A `PgComposite<T>` is the type of this name, written and read as the record of its fields. What is kept of it is
-/// made of its fields as they are kept, and it fits a type where its fields fit it.
+/// A `PgComposite<T>` is the type whose name `T` states, and is written and read as the record of its fields. What is
+/// kept of it is made of its fields as they are kept, and it fits a type where its fields fit it.
 pub fn composite_is_its_fields<T: Composite>()
     ensures types { HasTypes ⟦<PgComposite<T> as Type>⟧ ⟦<PgComposite<T> as PgHasArrayType>⟧
         (named T.name) (array_of T.name) }
@@ -85,8 +85,8 @@ where
         ↔ T.Base.fits (T.base v.0) t oids }
 {}
 
-/// A `PgDomain<T>` is the type of this name, read under what it holds is read under too. It is written, read and kept
-/// as what it holds, and fits a type where this does.
+/// A `PgDomain<T>` is the type whose name `T` states, and is also read under each type under which what it holds is
+/// read. It is written, read and kept as what it holds, and fits a type where this does.
 pub fn domain_is_its_base<T: Domain>()
 where
     T::Base: Type,

@@ -83,7 +83,7 @@ pub after_frame : (bytes : List ℕ) (part : Part) (rest : List ℕ) → IsFrame
 after_frame bytes None rest e h = bytes_after (255 ∷ 255 ∷ 255 ∷ 255 ∷ []) rest (subst AreBytes e h)
 after_frame bytes (Some part) rest e h = bytes_after part rest (bytes_after (to_be_bytes w32 (length part)) (part ++ rest) (subst AreBytes e.1 h))
 
--- a number is read of the bytes at the front
+-- a number is read from the bytes at the front
 pub front_of_four : (bytes : List ℕ) → signed_four_bytes (take 4 bytes) ≡ signed_four_bytes bytes
 front_of_four bytes = ap (λ (xs : List ℕ). cast_signed w32 (from_be_bytes w32 xs)) (take-take 4 4 bytes (omega arith))
 

@@ -1,4 +1,4 @@
--- What stands in front of bytes is read exactly from its encoding and the rest.
+-- What is in front of bytes is read exactly from its encoding and the rest.
 use Rattle.std.proofs.Common.{◌≡◌, ℕ, ℤ, zero, suc, ◌+◌, ◌<◌, ◌≤◌, ◌^◌, Bool, true, false, cond, nat_lt, nat_eq, List, [], ◌∷◌, ◌++◌, length, take, drop, get_or, Option, Some, None, Ok, Err, refl, sym, ap, ◌∙◌, subst, append_assoc, arith, drop-cons}
 use Rattle.std.specs.Prelude.{FitsSigned, ◌==◌, not, option_map, ok_or}
 use Rattle.std.specs.List.{AllByRecursion, position, position_or_len}

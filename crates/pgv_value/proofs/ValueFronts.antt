@@ -1,4 +1,4 @@
--- What is read in front of bytes, as a number or as the value of a frame, is what stands there.
+-- What is read in front of bytes, as a number or as the value of a frame, is what is there.
 use Rattle.std.proofs.Common.{◌≡◌, ℕ, ◌<◌, ◌^◌, List, [], ◌∷◌, ◌++◌, length, Option, Some, Ok, refl, ◌∙◌, ap}
 use Rattle.std.specs.Int.{w32, to_be_bytes}
 use Rattle.pgv_types.specs.Ty.{Ty}

@@ -29,11 +29,11 @@ abbrev pub IsField : Part → Type 0
 IsField None = ⊤
 IsField (Some part) = length part < 2 ^ 31
 
--- the length that stands in front
+-- the length that is in front
 abbrev pub front_length : List ℕ → ℕ
 front_length bytes = from_be_bytes w32 (take 4 bytes)
 
--- what stands in front: a part and the rest, or nothing
+-- what is in front: a part and the rest, or nothing
 unfoldable pub front : List ℕ → Option (Part × List ℕ)
 front bytes =
     if nat_lt (length bytes) 4 then None else
@@ -42,7 +42,7 @@ front bytes =
     if nat_lt (length (drop 4 bytes)) (front_length bytes) then None else
     Some (Some (take (front_length bytes) (drop 4 bytes)), drop (front_length bytes) (drop 4 bytes))
 
--- why nothing stands in front: the bytes end too early, or the length is negative
+-- why nothing is in front: the bytes end too early, or the length is negative
 abbrev pub frame_fault : List ℕ → CodecError
 frame_fault bytes =
     if nat_lt (length bytes) 4 then Short else

@@ -113,7 +113,7 @@ copied parsed = do
   allocates (has_items (Some items))
   done items
 
--- ---- what bytes are, and what is read of them
+-- ---- what bytes are, and what is read from them
 
 -- What was returned is what is there, and whatever is there is what was returned, unless memory ran out.
 abbrev pub IsRead : {V M : Type 0} → (V → M) → (M → Type 0) → Result V CodecError → Type 0

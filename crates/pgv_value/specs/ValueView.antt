@@ -1,4 +1,4 @@
--- A value as it stands in a row (PostgreSQL: "Message Formats", DataRow; "Formats and Format Codes").
+-- A value as it is in a row (PostgreSQL: "Message Formats", DataRow; "Formats and Format Codes").
 use Rattle.std.specs.Prelude.{◌≡◌, ℕ, List, Option, Bool, true, false, refl}
 use Rattle.std.specs.Coded.{Coded, code_by, coded×, coded_ℕ, coded_list, coded_option, coded_bool}
 use Rattle.pgv_types.specs.Ty.{Ty, ty_code}

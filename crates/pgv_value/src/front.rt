@@ -1,4 +1,4 @@
-//! What stands in front of bytes.
+//! What is in front of bytes.
 
 ghost use Rattle.std.specs.Prelude.{◌≡◌, ◌+◌, ◌<◌, ◌==◌, length, IfOk, IfSome, position};
 ghost use Rattle.pgv_value.specs.Fronts.{u16_front, ended_front, name_front};
@@ -7,7 +7,7 @@ ghost use Rattle.pgv_value.specs.Parsed.{GivesExactly};
 use crate::error::CodecError;
 
 /// The unsigned number of 16 bits in front, the highest byte first, and the rest: of `ffff00` it is 65535, and the rest
-/// is `00`. Fewer than two bytes are refused with C15.
+/// is `00`. Fewer than two bytes are refused with [`Short`](CodecError::Short) (C15).
 #[inline(always)]
 #[tactic(auto, unfolding(crate::specs::Fronts::u16_front))]
 pub fn u16_in_front(bytes: &[u8]) -> Result<(u16, &[u8]), CodecError>
@@ -29,7 +29,8 @@ fn first_zero(bytes: &[u8]) -> Option<usize>
     bytes.iter().position(|byte| *byte == 0)
 }
 
-/// The bytes before the first zero byte, and those after it. Without a zero byte it is C15.
+/// The bytes before the first zero byte, and those after it. Without a zero byte it is [`Short`](CodecError::Short)
+/// (C15).
 #[tactic(auto, unfolding(crate::specs::Fronts::ended_front))]
 fn ended_in_front(bytes: &[u8]) -> Result<(&[u8], &[u8]), CodecError>
     ensures exact { GivesExactly (λ x. (x.0.now, x.1.now)) (ended_front bytes.now) result }
@@ -44,7 +45,8 @@ fn ended_in_front(bytes: &[u8]) -> Result<(&[u8], &[u8]), CodecError>
 }
 
 /// The text that a zero byte ends, and the rest: of `696400ff` it is `id`, and the rest is `ff` (PostgreSQL, "Message
-/// Data Types", String). Without a zero byte it is refused with C15, and where it isn't UTF-8 with C14.
+/// Data Types", String). Without a zero byte it is refused with [`Short`](CodecError::Short) (C15), and where it isn't
+/// UTF-8 with [`Utf8`](CodecError::Utf8) (C14).
 #[tactic(auto, unfolding(crate::specs::Fronts::name_front), using(crate::proofs::Text::whole_text))]
 pub fn name_in_front(bytes: &[u8]) -> Result<(&str, &[u8]), CodecError>
     ensures exact { GivesExactly (λ x. (x.0.now, x.1.now)) (name_front bytes.now) result }

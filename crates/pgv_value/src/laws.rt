@@ -13,7 +13,8 @@ pub fn front_is_frame()
     ensures { FrontIsFrame }
 {}
 
-/// Nothing is found at the front of a frame that is cut off, and its fault is `Short` (C15).
+/// Nothing is found at the front of a frame that is cut off, and its fault is [`Short`](crate::CodecError::Short)
+/// (C15).
 pub fn cut_frame_is_short()
     ensures { CutFrameIsShort }
 {}

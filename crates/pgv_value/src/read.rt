@@ -1,5 +1,6 @@
 //! Readers of the plain types. Each takes a value of a row and returns what its bytes mean in the value's format; null
-//! is refused with C13, and a text that is not UTF-8 with C14. No reader takes memory.
+//! is refused with [`UnexpectedNull`](CodecError::UnexpectedNull) (C13), and a text that is not UTF-8 with
+//! [`Utf8`](CodecError::Utf8) (C14). No reader takes memory.
 
 mod bool;
 mod date_time;

@@ -31,7 +31,8 @@ pub enum PgValueFormat {
 const _: () = prove!(PgValueFormat::Text as u8 == 0 && PgValueFormat::Binary as u8 == 1);
 
 impl PgValueFormat {
-    /// The format of a code in a message: 0 is text and 1 binary. Any other is refused with C30.
+    /// The format of a code in a message: 0 is text and 1 binary. Any other is refused with
+    /// [`OutOfRange`](CodecError::OutOfRange) (C30).
     pub fn from_code(code: u16) -> Result<PgValueFormat, CodecError>
         ensures { GivesExactly (λ format. format) (format_of code) result }
     {

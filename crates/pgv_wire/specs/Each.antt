@@ -10,7 +10,7 @@ use Rattle.pgv_value.specs.declared.error.CodecError.{CodecError}
 abbrev pub Answered : Type 0
 Answered = Result (Unit {0}) CodecError
 
--- one outcome for each value, in order, with what is said of the two
+-- one outcome for each value, in order, with what holds for the two
 module _ {X : Type 0} (said : X → Answered → Type 0) where
   abbrev pub EachOutcome : List X → List Answered → Type 0
   EachOutcome [] [] = ⊤

@@ -1,4 +1,4 @@
--- Frames one after another, told apart by the lengths that they begin with.
+-- Frames one after another, separated by the lengths that they begin with.
 use Rattle.std.specs.Prelude.{ℕ, ◌+◌, ◌-◌, nat_le, nat_eq, cond, List, [], ◌∷◌, take}
 use Rattle.std.specs.Int.{w32, from_be_bytes}
 use Rattle.pgv_types.specs.Ty.{Ty}

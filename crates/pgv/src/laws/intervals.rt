@@ -30,7 +30,8 @@ pub fn pg_interval_is_an_interval()
 {}
 
 /// A `Duration` is an interval (OID 1186) of its microseconds, if they are whole and fit in 64 bits; else it is refused
-/// with `IntervalPrecision` (C4) or `IntervalOverflow` (C5).
+/// with [`IntervalPrecision`](pgv_value::CodecError::IntervalPrecision) (C4) or
+/// [`IntervalOverflow`](pgv_value::CodecError::IntervalOverflow) (C5).
 pub fn duration_is_an_interval()
     ensures types { HasTypes ⟦<Duration as Type>⟧ ⟦<Duration as PgHasArrayType>⟧
         (builtin 1186) (builtin 1187) }

@@ -17,7 +17,7 @@ pub fn array_is_its_elements<M>()
 
 /// An array in binary has at most a quarter as many elements as bytes.
 ///
-/// Each element takes four bytes or more. So it is for lists and for arrays of a fixed number of elements.
+/// Each element takes four bytes or more. This holds for lists and for arrays of a fixed number of elements.
 pub fn few_elements<M>()
     ensures { (parse : Given → Outcome M) → FewElements parse }
 {}

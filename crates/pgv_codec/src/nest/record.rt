@@ -53,7 +53,7 @@ fn field_type_under(base: &PgTypeInfo, place: usize, oid: Oid) -> Result<PgTypeI
         PgType::Custom(custom) => match custom.kind() {
             PgTypeKindRef::Simple => by_own_oid_of(custom.oid(), oid),
             PgTypeKindRef::Composite(fields) => composite_field(fields, place, oid),
-            // It is none: what is under all domains.
+            // It is no record: what is under all domains.
             PgTypeKindRef::Domain(_base) => Err(CodecError::NotARecord),
             _ => Err(CodecError::NotARecord),
         },

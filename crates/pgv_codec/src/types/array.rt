@@ -376,7 +376,7 @@ fn in_front<T: Decode>(bytes: &[u8], width: usize) -> Option<T>
     T::decode_at_once(part)
 }
 
-/// The length that stands in front.
+/// The length in front.
 #[inline(always)]
 fn length_in_front(bytes: &[u8]) -> usize
     requires { 4 ≤ length bytes.now }
