@@ -7,7 +7,7 @@ use Rattle.pgv_codec.specs.declared.buffer.IsNull.TheVariants.{Yes, No}
 use Rattle.pgv_value.specs.Outcome.{Outcome, Fails}
 use Rattle.pgv_value.specs.declared.error.CodecError.{CodecError}
 
--- what was there is the beginning of what is there
+-- the old cells stay; more may come after them
 abbrev pub Extends : List Cell → List Cell → Type 0
 Extends was now = (ts : List Cell) × (now ≡ was ++ ts)
 

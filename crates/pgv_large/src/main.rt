@@ -1,5 +1,5 @@
-//! `pgv_large`: makes calls at sizes past every bound at which a body could give up. Memory is there, so each has to
-//! succeed: it prints a line for each, `WHAT: ok`, and else what came of it.
+//! `pgv_large`: makes calls at sizes past every bound at which a body could give up. There is enough memory, so each
+//! has to succeed: it prints a line for each, `WHAT: ok`, and else what came of it.
 #![tactic(auto)]
 
 mod arguments;

@@ -40,8 +40,7 @@ impl PgPlaces {
         }
     }
 
-    /// Room for as many places as there are columns, so that reading a row in it asks for no memory; or
-    /// [`Memory`](CodecError::Memory) (C1).
+    /// Room for as many places as there are columns, so that reading a row in it asks for no memory.
     pub fn with_columns(alloc: Global, columns: &PgColumns<'_>) -> Result<PgPlaces, AllocError>
         ensures { IfOk result (λ room. length columns.now ≤ capacity room) }
     {
