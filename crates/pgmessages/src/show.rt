@@ -78,7 +78,7 @@ fn show_named(
     }
 }
 
-/// Appends what `T` reads of a column, as `Display` shows it.
+/// Appends what `T` reads from a column, as `Display` shows it.
 fn show_displayed<T: Type + Decode + Display>(
     alloc: Global,
     row: &PgRow<'_>,
@@ -91,7 +91,7 @@ fn show_displayed<T: Type + Decode + Display>(
     }
 }
 
-/// Appends what `T` reads of a column, as `Debug` shows it.
+/// Appends what `T` reads from a column, as `Debug` shows it.
 fn show_debugged<T: Type + Decode + Debug>(
     alloc: Global,
     row: &PgRow<'_>,
@@ -104,7 +104,7 @@ fn show_debugged<T: Type + Decode + Debug>(
     }
 }
 
-/// Appends what `T` reads of a column whatever its type is, as `Debug` shows it.
+/// Appends what `T` reads from a column whatever its type is, as `Debug` shows it.
 fn show_unchecked<T: Decode + Debug>(
     alloc: Global,
     row: &PgRow<'_>,

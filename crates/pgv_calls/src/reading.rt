@@ -31,7 +31,7 @@ fn got(alloc: Global, row: &PgRow<'_>, name: &str) -> Result<String, CodecError>
     }
 }
 
-/// What `T` reads of a column.
+/// What `T` reads from a column.
 fn value<T: Type + Decode + Debug>(
     alloc: Global,
     row: &PgRow<'_>,
@@ -88,7 +88,7 @@ fn tuple(alloc: Global, row: &PgRow<'_>, number: &str) -> Result<String, CodecEr
     }
 }
 
-/// What `T` reads of a row.
+/// What `T` reads from a row.
 fn fields<T: FromRow + Debug>(alloc: Global, row: &PgRow<'_>) -> Result<String, CodecError> {
     match row.as_tuple::<T>(alloc) {
         Ok(fields) => Ok(format!(in alloc; "{fields:?}")?),
@@ -116,7 +116,7 @@ pub fn in_one_pass(
     }
 }
 
-/// What `T` reads of a body under columns that are tested first.
+/// What `T` reads from a body under columns that are tested first.
 fn passed<T: FromRow + Debug>(
     alloc: Global,
     columns: &PgColumns<'_>,

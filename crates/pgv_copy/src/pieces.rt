@@ -186,7 +186,7 @@ impl PgCopyPieces {
     /// The values of the row that was read last, or none where none was read since bytes came. They borrow from the
     /// bytes that are kept.
     ///
-    /// The list takes memory, and so does each custom type, which is copied: else it is refused with
+    /// The list and the copy of each custom type take memory: where there is none left it is refused with
     /// [`Memory`](CodecError::Memory) (C1). Where there is no row it asks for none.
     pub fn row(&self) -> Result<Option<Vec<PgValueRef<'_>>>, CodecError>
         ensures found { IfOk result (λ found. option_map (λ row. row.items) found ≡ self.now.row) }

@@ -48,7 +48,7 @@ impl<'d> PgColumns<'d> {
     }
 }
 
-/// What `T` reads of the frames of a row, and the rest after them.
+/// What `T` reads from the frames of a row, and the rest after them.
 #[inline(always)]
 #[tactic(auto, unfolding(crate::specs::CopyRows::frames_read))]
 fn read_frames<'r, T: FromRow>(

@@ -52,7 +52,7 @@ pub(crate) fn pass_over(
     Ok(rest)
 }
 
-/// What `T` reads of the body of a row in one pass.
+/// What `T` reads from the body of a row in one pass.
 #[inline(always)]
 #[tactic(auto, unfolding(crate::specs::OnePass::one_pass))]
 fn read_body<T: FromRow>(

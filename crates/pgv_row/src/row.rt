@@ -243,7 +243,7 @@ impl<'a> PgRow<'a> {
         Ok(value_in(self.bytes, *part, type_info, column.format()))
     }
 
-    /// What `T` reads of the column at a place, whatever its type is.
+    /// What `T` reads from the column at a place, whatever its type is.
     #[inline(always)]
     #[tactic(auto, unfolding(crate::specs::Values::unchecked_value))]
     fn unchecked_at<T: Decode>(&self, alloc: Global, place: usize) -> Result<T, CodecError>
@@ -297,8 +297,8 @@ impl<'a> PgRow<'a> {
         }
     }
 
-    /// The value of a column: what `T` reads of it. Null is read or refused by `T` whatever the column's type is, where
-    /// [`pgv_codec::PgRecordDecoder`] asks for the type of null too. Any other value is refused with
+    /// The value of a column: what `T` reads from it. Null is read or refused by `T` whatever the column's type is,
+    /// where [`pgv_codec::PgRecordDecoder`] asks for the type of null too. Any other value is refused with
     /// [`MismatchedTypes`](CodecError::MismatchedTypes) (C27) where `T` isn't read under the column's type, and else
     /// with what `T` refuses it with.
     #[inline(always)]
@@ -323,7 +323,7 @@ impl<'a> PgRow<'a> {
         }
     }
 
-    /// The value of a column: what `T` reads of it, whatever the column's type is.
+    /// The value of a column: what `T` reads from it, whatever the column's type is.
     #[inline(always)]
     pub fn try_get_unchecked<T: Decode, I: ColumnIndex>(
         &self,

@@ -182,7 +182,7 @@ fn part_at_once<T: Decode>(column: &PgColumn<'_>, part: Option<&[u8]>) -> Option
     }
 }
 
-/// What `T` reads of a part, or of null, under the type and in the format of its column.
+/// What `T` reads from a part, or of null, under the type and in the format of its column.
 #[inline(always)]
 #[tactic(auto, unfolding(crate::specs::OnePass::part_value))]
 fn read_part<T: Decode>(
@@ -199,7 +199,7 @@ fn read_part<T: Decode>(
     T::decode(alloc, PgValueRef::new(part, type_info, column.format()))
 }
 
-/// What `T` reads of the frame in front as a value of a column, and the rest.
+/// What `T` reads from the frame in front as a value of a column, and the rest.
 #[inline(always)]
 #[tactic(auto, unfolding(crate::specs::OnePass::value_in_front))]
 fn front_value<'r, T: Decode>(
@@ -218,7 +218,7 @@ fn front_value<'r, T: Decode>(
     }
 }
 
-/// What `T` reads of the frame in front as the value of the column at a place, the place after it, and the rest.
+/// What `T` reads from the frame in front as the value of the column at a place, the place after it, and the rest.
 #[inline(always)]
 #[tactic(auto, unfolding(crate::specs::OnePass::column_in_front))]
 fn front_column<'r, T: Decode>(

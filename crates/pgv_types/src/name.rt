@@ -248,7 +248,7 @@ impl<'a> PgTypeName<'a> {
         }
     }
 
-    /// Whether two names agree, as `name_eq` says of texts. It takes no memory.
+    /// Whether two names agree, as `name_eq` decides for texts. It takes no memory.
     #[tactic(auto, using(crate::proofs::Tells::agree_same))]
     pub fn agrees(&self, other: &PgTypeName<'_>) -> bool
         ensures { result ≡ agree (whole self.now) (whole other.now) }

@@ -48,7 +48,7 @@ pub trait Composite: Sized + Drop {
 /// A value of a composite, written and read as a record of its fields. The `int4` 7 and the `text` `a` are
 /// `00000002 00000017 00000004 00000007 00000019 00000001 61`. It is read under the composite's type, where this names
 /// its fields, and under `record`; a type of which only the name is known is refused with
-/// [`NotARecord`](CodecError::NotARecord).
+/// [`NotARecord`](CodecError::NotARecord) (C24).
 #[derive(Clone, Copy, Debug, PartialEq, Eq)]
 pub struct PgComposite<T>(pub T);
 

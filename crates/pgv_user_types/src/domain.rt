@@ -23,8 +23,8 @@ pub trait Domain: Newtype {
 #[derive(Clone, Copy, Debug, PartialEq, Eq)]
 pub struct PgDomain<T>(pub T);
 
-/// The type of this name. A value is read under it, and under what it holds is read under: that is the type that the
-/// server describes a column of a domain by.
+/// The type of this name. A value is read under it, and under each type under which what it holds is read, since the
+/// server describes a column of a domain by the type under it.
 impl<T: Domain> Type for PgDomain<T>
 where
     T::Base: Type,
