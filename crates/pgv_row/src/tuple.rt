@@ -350,31 +350,44 @@ impl<A: Type + Decode, Rest: ColumnList> ColumnList for (A, Rest) {
     ghost in_one_pass = { further_in_one_pass A.accepts A.parse Rest.in_one_pass };
 }
 
-/// The first column.
-impl<A: Type + Decode> FromRow for (A,) {
-    ghost View = { A.View };
+/// A tuple of columns: its fields are the values of the first columns.
+pub trait ColumnTuple: Sized + Drop {
+    /// The fields, as nested pairs that end in a tuple of one.
+    type List: ColumnList;
 
-    ghost view = { λ v. A.view v.0 };
+    /// The fields of a tuple.
+    ghost list_of: { Self → Self.List };
 
-    ghost parse = { λ row. ⟦<(A,) as ColumnList>⟧.parse row 0 };
+    /// The tuple of these fields.
+    fn of_list(list: Self::List) -> Self
+        ensures { list_of result ≡ list };
+}
 
-    ghost refused = { λ row. ⟦<(A,) as ColumnList>⟧.refused row 0 };
+/// A tuple is read through the list of its fields.
+impl<T: ColumnTuple> FromRow for T {
+    ghost View = { T.List.View };
 
-    ghost fits = { λ columns. ⟦<(A,) as ColumnList>⟧.fits columns 0 };
+    ghost view = { λ tuple. T.List.view (T.list_of tuple) };
 
-    ghost in_front = { λ columns. ⟦<(A,) as ColumnList>⟧.in_front columns 0 };
+    ghost parse = { λ row. T.List.parse row 0 };
 
-    ghost refused_in_front = { λ columns. ⟦<(A,) as ColumnList>⟧.refused_in_front columns 0 };
+    ghost refused = { λ row. T.List.refused row 0 };
 
-    fn from_row(alloc: Global, row: &PgRow<'_>) -> Result<Self, ColumnError<usize>> {
-        match ColumnList::read(alloc, row, 0) {
-            Ok((a,)) => Ok((a,)),
+    ghost fits = { λ columns. T.List.fits columns 0 };
+
+    ghost in_front = { λ columns. T.List.in_front columns 0 };
+
+    ghost refused_in_front = { λ columns. T.List.refused_in_front columns 0 };
+
+    fn from_row(alloc: Global, row: &PgRow<'_>) -> Result<T, ColumnError<usize>> {
+        match T::List::read(alloc, row, 0) {
+            Ok(list) => Ok(T::of_list(list)),
             Err(error) => Err(error),
         }
     }
 
     fn check_columns(columns: &[PgColumn<'_>]) -> Result<(), ColumnError<usize>> {
-        <(A,) as ColumnList>::check_columns(columns, 0)
+        T::List::check_columns(columns, 0)
     }
 
     #[inline(always)]
@@ -382,141 +395,63 @@ impl<A: Type + Decode> FromRow for (A,) {
         alloc: Global,
         columns: &[PgColumn<'_>],
         bytes: &'r [u8],
-    ) -> Result<(Self, usize, &'r [u8]), ColumnError<usize>> {
-        match ColumnList::read_frames(alloc, columns, 0, bytes) {
-            Ok(((a,), next, rest)) => Ok(((a,), next, rest)),
+    ) -> Result<(T, usize, &'r [u8]), ColumnError<usize>> {
+        match T::List::read_frames(alloc, columns, 0, bytes) {
+            Ok((list, next, rest)) => Ok((T::of_list(list), next, rest)),
             Err(error) => Err(error),
         }
     }
 
-    ghost in_one_pass = { last_in_one_pass A.accepts A.parse 0 };
+    ghost in_one_pass = { T.List.in_one_pass 0 };
+}
+
+/// The first column.
+impl<A: Type + Decode> ColumnTuple for (A,) {
+    type List = (A,);
+
+    ghost list_of = { λ v. record { 0 = v.0 } };
+
+    #[inline(always)]
+    fn of_list((a,): Self::List) -> Self {
+        (a,)
+    }
 }
 
 /// The first two columns.
-impl<A: Type + Decode, B: Type + Decode> FromRow for (A, B) {
-    ghost View = { A.View × B.View };
+impl<A: Type + Decode, B: Type + Decode> ColumnTuple for (A, B) {
+    type List = (A, (B,));
 
-    ghost view = { λ v. (A.view v.0, B.view v.1) };
-
-    ghost parse = { λ row. ⟦<(A, (B,)) as ColumnList>⟧.parse row 0 };
-
-    ghost refused = { λ row. ⟦<(A, (B,)) as ColumnList>⟧.refused row 0 };
-
-    ghost fits = { λ columns. ⟦<(A, (B,)) as ColumnList>⟧.fits columns 0 };
-
-    ghost in_front = { λ columns. ⟦<(A, (B,)) as ColumnList>⟧.in_front columns 0 };
-
-    ghost refused_in_front = { λ columns. ⟦<(A, (B,)) as ColumnList>⟧.refused_in_front columns 0 };
-
-    fn from_row(alloc: Global, row: &PgRow<'_>) -> Result<Self, ColumnError<usize>> {
-        match ColumnList::read(alloc, row, 0) {
-            Ok((a, (b,))) => Ok((a, b)),
-            Err(error) => Err(error),
-        }
-    }
-
-    fn check_columns(columns: &[PgColumn<'_>]) -> Result<(), ColumnError<usize>> {
-        <(A, (B,)) as ColumnList>::check_columns(columns, 0)
-    }
+    ghost list_of = { λ v. (v.0, record { 0 = v.1 }) };
 
     #[inline(always)]
-    fn read_frames<'r>(
-        alloc: Global,
-        columns: &[PgColumn<'_>],
-        bytes: &'r [u8],
-    ) -> Result<(Self, usize, &'r [u8]), ColumnError<usize>> {
-        match ColumnList::read_frames(alloc, columns, 0, bytes) {
-            Ok(((a, (b,)), next, rest)) => Ok(((a, b), next, rest)),
-            Err(error) => Err(error),
-        }
+    fn of_list((a, (b,)): Self::List) -> Self {
+        (a, b)
     }
-
-    ghost in_one_pass = { further_in_one_pass A.accepts A.parse (last_in_one_pass B.accepts B.parse) 0 };
 }
 
 /// The first three columns.
-impl<A: Type + Decode, B: Type + Decode, C: Type + Decode> FromRow for (A, B, C) {
-    ghost View = { A.View × (B.View × C.View) };
+impl<A: Type + Decode, B: Type + Decode, C: Type + Decode> ColumnTuple for (A, B, C) {
+    type List = (A, (B, (C,)));
 
-    ghost view = { λ v. (A.view v.0, (B.view v.1, C.view v.2)) };
-
-    ghost parse = { λ row. ⟦<(A, (B, (C,))) as ColumnList>⟧.parse row 0 };
-
-    ghost refused = { λ row. ⟦<(A, (B, (C,))) as ColumnList>⟧.refused row 0 };
-
-    ghost fits = { λ columns. ⟦<(A, (B, (C,))) as ColumnList>⟧.fits columns 0 };
-
-    ghost in_front = { λ columns. ⟦<(A, (B, (C,))) as ColumnList>⟧.in_front columns 0 };
-
-    ghost refused_in_front = { λ columns. ⟦<(A, (B, (C,))) as ColumnList>⟧.refused_in_front columns 0 };
-
-    fn from_row(alloc: Global, row: &PgRow<'_>) -> Result<Self, ColumnError<usize>> {
-        match ColumnList::read(alloc, row, 0) {
-            Ok((a, (b, (c,)))) => Ok((a, b, c)),
-            Err(error) => Err(error),
-        }
-    }
-
-    fn check_columns(columns: &[PgColumn<'_>]) -> Result<(), ColumnError<usize>> {
-        <(A, (B, (C,))) as ColumnList>::check_columns(columns, 0)
-    }
+    ghost list_of = { λ v. (v.0, (v.1, record { 0 = v.2 })) };
 
     #[inline(always)]
-    fn read_frames<'r>(
-        alloc: Global,
-        columns: &[PgColumn<'_>],
-        bytes: &'r [u8],
-    ) -> Result<(Self, usize, &'r [u8]), ColumnError<usize>> {
-        match ColumnList::read_frames(alloc, columns, 0, bytes) {
-            Ok(((a, (b, (c,))), next, rest)) => Ok(((a, b, c), next, rest)),
-            Err(error) => Err(error),
-        }
+    fn of_list((a, (b, (c,))): Self::List) -> Self {
+        (a, b, c)
     }
-
-    ghost in_one_pass = { further_in_one_pass A.accepts A.parse (further_in_one_pass B.accepts B.parse (last_in_one_pass C.accepts C.parse)) 0 };
 }
 
 /// The first four columns.
-impl<A: Type + Decode, B: Type + Decode, C: Type + Decode, D: Type + Decode> FromRow
+impl<A: Type + Decode, B: Type + Decode, C: Type + Decode, D: Type + Decode> ColumnTuple
     for (A, B, C, D) {
-    ghost View = { A.View × (B.View × (C.View × D.View)) };
+    type List = (A, (B, (C, (D,))));
 
-    ghost view = { λ v. (A.view v.0, (B.view v.1, (C.view v.2, D.view v.3))) };
-
-    ghost parse = { λ row. ⟦<(A, (B, (C, (D,)))) as ColumnList>⟧.parse row 0 };
-
-    ghost refused = { λ row. ⟦<(A, (B, (C, (D,)))) as ColumnList>⟧.refused row 0 };
-
-    ghost fits = { λ columns. ⟦<(A, (B, (C, (D,)))) as ColumnList>⟧.fits columns 0 };
-
-    ghost in_front = { λ columns. ⟦<(A, (B, (C, (D,)))) as ColumnList>⟧.in_front columns 0 };
-
-    ghost refused_in_front = { λ columns. ⟦<(A, (B, (C, (D,)))) as ColumnList>⟧.refused_in_front columns 0 };
-
-    fn from_row(alloc: Global, row: &PgRow<'_>) -> Result<Self, ColumnError<usize>> {
-        match ColumnList::read(alloc, row, 0) {
-            Ok((a, (b, (c, (d,))))) => Ok((a, b, c, d)),
-            Err(error) => Err(error),
-        }
-    }
-
-    fn check_columns(columns: &[PgColumn<'_>]) -> Result<(), ColumnError<usize>> {
-        <(A, (B, (C, (D,)))) as ColumnList>::check_columns(columns, 0)
-    }
+    ghost list_of = { λ v. (v.0, (v.1, (v.2, record { 0 = v.3 }))) };
 
     #[inline(always)]
-    fn read_frames<'r>(
-        alloc: Global,
-        columns: &[PgColumn<'_>],
-        bytes: &'r [u8],
-    ) -> Result<(Self, usize, &'r [u8]), ColumnError<usize>> {
-        match ColumnList::read_frames(alloc, columns, 0, bytes) {
-            Ok(((a, (b, (c, (d,)))), next, rest)) => Ok(((a, b, c, d), next, rest)),
-            Err(error) => Err(error),
-        }
+    fn of_list((a, (b, (c, (d,)))): Self::List) -> Self {
+        (a, b, c, d)
     }
-
-    ghost in_one_pass = { further_in_one_pass A.accepts A.parse (further_in_one_pass B.accepts B.parse (further_in_one_pass C.accepts C.parse (last_in_one_pass D.accepts D.parse))) 0 };
 }
 
 /// The first five columns.
@@ -526,45 +461,15 @@ impl<
     C: Type + Decode,
     D: Type + Decode,
     E: Type + Decode,
-> FromRow for (A, B, C, D, E) {
-    ghost View = { A.View × (B.View × (C.View × (D.View × E.View))) };
+> ColumnTuple for (A, B, C, D, E) {
+    type List = (A, (B, (C, (D, (E,)))));
 
-    ghost view = { λ v. (A.view v.0, (B.view v.1, (C.view v.2, (D.view v.3, E.view v.4)))) };
-
-    ghost parse = { λ row. ⟦<(A, (B, (C, (D, (E,))))) as ColumnList>⟧.parse row 0 };
-
-    ghost refused = { λ row. ⟦<(A, (B, (C, (D, (E,))))) as ColumnList>⟧.refused row 0 };
-
-    ghost fits = { λ columns. ⟦<(A, (B, (C, (D, (E,))))) as ColumnList>⟧.fits columns 0 };
-
-    ghost in_front = { λ columns. ⟦<(A, (B, (C, (D, (E,))))) as ColumnList>⟧.in_front columns 0 };
-
-    ghost refused_in_front = { λ columns. ⟦<(A, (B, (C, (D, (E,))))) as ColumnList>⟧.refused_in_front columns 0 };
-
-    fn from_row(alloc: Global, row: &PgRow<'_>) -> Result<Self, ColumnError<usize>> {
-        match ColumnList::read(alloc, row, 0) {
-            Ok((a, (b, (c, (d, (e,)))))) => Ok((a, b, c, d, e)),
-            Err(error) => Err(error),
-        }
-    }
-
-    fn check_columns(columns: &[PgColumn<'_>]) -> Result<(), ColumnError<usize>> {
-        <(A, (B, (C, (D, (E,))))) as ColumnList>::check_columns(columns, 0)
-    }
+    ghost list_of = { λ v. (v.0, (v.1, (v.2, (v.3, record { 0 = v.4 })))) };
 
     #[inline(always)]
-    fn read_frames<'r>(
-        alloc: Global,
-        columns: &[PgColumn<'_>],
-        bytes: &'r [u8],
-    ) -> Result<(Self, usize, &'r [u8]), ColumnError<usize>> {
-        match ColumnList::read_frames(alloc, columns, 0, bytes) {
-            Ok(((a, (b, (c, (d, (e,))))), next, rest)) => Ok(((a, b, c, d, e), next, rest)),
-            Err(error) => Err(error),
-        }
+    fn of_list((a, (b, (c, (d, (e,))))): Self::List) -> Self {
+        (a, b, c, d, e)
     }
-
-    ghost in_one_pass = { further_in_one_pass A.accepts A.parse (further_in_one_pass B.accepts B.parse (further_in_one_pass C.accepts C.parse (further_in_one_pass D.accepts D.parse (last_in_one_pass E.accepts E.parse)))) 0 };
 }
 
 /// The first six columns.
@@ -575,45 +480,15 @@ impl<
     D: Type + Decode,
     E: Type + Decode,
     F: Type + Decode,
-> FromRow for (A, B, C, D, E, F) {
-    ghost View = { A.View × (B.View × (C.View × (D.View × (E.View × F.View)))) };
+> ColumnTuple for (A, B, C, D, E, F) {
+    type List = (A, (B, (C, (D, (E, (F,))))));
 
-    ghost view = { λ v. (A.view v.0, (B.view v.1, (C.view v.2, (D.view v.3, (E.view v.4, F.view v.5))))) };
-
-    ghost parse = { λ row. ⟦<(A, (B, (C, (D, (E, (F,)))))) as ColumnList>⟧.parse row 0 };
-
-    ghost refused = { λ row. ⟦<(A, (B, (C, (D, (E, (F,)))))) as ColumnList>⟧.refused row 0 };
-
-    ghost fits = { λ columns. ⟦<(A, (B, (C, (D, (E, (F,)))))) as ColumnList>⟧.fits columns 0 };
-
-    ghost in_front = { λ columns. ⟦<(A, (B, (C, (D, (E, (F,)))))) as ColumnList>⟧.in_front columns 0 };
-
-    ghost refused_in_front = { λ columns. ⟦<(A, (B, (C, (D, (E, (F,)))))) as ColumnList>⟧.refused_in_front columns 0 };
-
-    fn from_row(alloc: Global, row: &PgRow<'_>) -> Result<Self, ColumnError<usize>> {
-        match ColumnList::read(alloc, row, 0) {
-            Ok((a, (b, (c, (d, (e, (f,))))))) => Ok((a, b, c, d, e, f)),
-            Err(error) => Err(error),
-        }
-    }
-
-    fn check_columns(columns: &[PgColumn<'_>]) -> Result<(), ColumnError<usize>> {
-        <(A, (B, (C, (D, (E, (F,)))))) as ColumnList>::check_columns(columns, 0)
-    }
+    ghost list_of = { λ v. (v.0, (v.1, (v.2, (v.3, (v.4, record { 0 = v.5 }))))) };
 
     #[inline(always)]
-    fn read_frames<'r>(
-        alloc: Global,
-        columns: &[PgColumn<'_>],
-        bytes: &'r [u8],
-    ) -> Result<(Self, usize, &'r [u8]), ColumnError<usize>> {
-        match ColumnList::read_frames(alloc, columns, 0, bytes) {
-            Ok(((a, (b, (c, (d, (e, (f,)))))), next, rest)) => Ok(((a, b, c, d, e, f), next, rest)),
-            Err(error) => Err(error),
-        }
+    fn of_list((a, (b, (c, (d, (e, (f,)))))): Self::List) -> Self {
+        (a, b, c, d, e, f)
     }
-
-    ghost in_one_pass = { further_in_one_pass A.accepts A.parse (further_in_one_pass B.accepts B.parse (further_in_one_pass C.accepts C.parse (further_in_one_pass D.accepts D.parse (further_in_one_pass E.accepts E.parse (last_in_one_pass F.accepts F.parse))))) 0 };
 }
 
 /// The first seven columns.
@@ -625,49 +500,15 @@ impl<
     E: Type + Decode,
     F: Type + Decode,
     G: Type + Decode,
-> FromRow for (A, B, C, D, E, F, G) {
-    ghost View = { A.View × (B.View × (C.View × (D.View × (E.View × (F.View × G.View))))) };
+> ColumnTuple for (A, B, C, D, E, F, G) {
+    type List = (A, (B, (C, (D, (E, (F, (G,)))))));
 
-    ghost view = { λ v. (A.view v.0, (B.view v.1, (C.view v.2, (D.view v.3, (E.view v.4, (F.view v.5, G.view v.6)))))) };
-
-    ghost parse = { λ row. ⟦<(A, (B, (C, (D, (E, (F, (G,))))))) as ColumnList>⟧.parse row 0 };
-
-    ghost refused = { λ row. ⟦<(A, (B, (C, (D, (E, (F, (G,))))))) as ColumnList>⟧.refused row 0 };
-
-    ghost fits = { λ columns. ⟦<(A, (B, (C, (D, (E, (F, (G,))))))) as ColumnList>⟧.fits columns 0 };
-
-    ghost in_front = { λ columns. ⟦<(A, (B, (C, (D, (E, (F, (G,))))))) as ColumnList>⟧.in_front columns 0 };
-
-    ghost refused_in_front = { λ columns. ⟦<(A, (B, (C, (D, (E, (F, (G,))))))) as ColumnList>⟧.refused_in_front columns 0 };
-
-    fn from_row(alloc: Global, row: &PgRow<'_>) -> Result<Self, ColumnError<usize>> {
-        match ColumnList::read(alloc, row, 0) {
-            Ok((a, (b, (c, (d, (e, (f, (g,)))))))) => Ok((a, b, c, d, e, f, g)),
-            Err(error) => Err(error),
-        }
-    }
-
-    fn check_columns(columns: &[PgColumn<'_>]) -> Result<(), ColumnError<usize>> {
-        <(A, (B, (C, (D, (E, (F, (G,))))))) as ColumnList>::check_columns(columns, 0)
-    }
+    ghost list_of = { λ v. (v.0, (v.1, (v.2, (v.3, (v.4, (v.5, record { 0 = v.6 })))))) };
 
     #[inline(always)]
-    fn read_frames<'r>(
-        alloc: Global,
-        columns: &[PgColumn<'_>],
-        bytes: &'r [u8],
-    ) -> Result<(Self, usize, &'r [u8]), ColumnError<usize>> {
-        match ColumnList::read_frames(alloc, columns, 0, bytes) {
-            Ok(((a, (b, (c, (d, (e, (f, (g,))))))), next, rest)) => Ok((
-                (a, b, c, d, e, f, g),
-                next,
-                rest,
-            )),
-            Err(error) => Err(error),
-        }
+    fn of_list((a, (b, (c, (d, (e, (f, (g,))))))): Self::List) -> Self {
+        (a, b, c, d, e, f, g)
     }
-
-    ghost in_one_pass = { further_in_one_pass A.accepts A.parse (further_in_one_pass B.accepts B.parse (further_in_one_pass C.accepts C.parse (further_in_one_pass D.accepts D.parse (further_in_one_pass E.accepts E.parse (further_in_one_pass F.accepts F.parse (last_in_one_pass G.accepts G.parse)))))) 0 };
 }
 
 /// The first eight columns.
@@ -680,49 +521,15 @@ impl<
     F: Type + Decode,
     G: Type + Decode,
     H: Type + Decode,
-> FromRow for (A, B, C, D, E, F, G, H) {
-    ghost View = { A.View × (B.View × (C.View × (D.View × (E.View × (F.View × (G.View × H.View)))))) };
+> ColumnTuple for (A, B, C, D, E, F, G, H) {
+    type List = (A, (B, (C, (D, (E, (F, (G, (H,))))))));
 
-    ghost view = { λ v. (A.view v.0, (B.view v.1, (C.view v.2, (D.view v.3, (E.view v.4, (F.view v.5, (G.view v.6, H.view v.7))))))) };
-
-    ghost parse = { λ row. ⟦<(A, (B, (C, (D, (E, (F, (G, (H,)))))))) as ColumnList>⟧.parse row 0 };
-
-    ghost refused = { λ row. ⟦<(A, (B, (C, (D, (E, (F, (G, (H,)))))))) as ColumnList>⟧.refused row 0 };
-
-    ghost fits = { λ columns. ⟦<(A, (B, (C, (D, (E, (F, (G, (H,)))))))) as ColumnList>⟧.fits columns 0 };
-
-    ghost in_front = { λ columns. ⟦<(A, (B, (C, (D, (E, (F, (G, (H,)))))))) as ColumnList>⟧.in_front columns 0 };
-
-    ghost refused_in_front = { λ columns. ⟦<(A, (B, (C, (D, (E, (F, (G, (H,)))))))) as ColumnList>⟧.refused_in_front columns 0 };
-
-    fn from_row(alloc: Global, row: &PgRow<'_>) -> Result<Self, ColumnError<usize>> {
-        match ColumnList::read(alloc, row, 0) {
-            Ok((a, (b, (c, (d, (e, (f, (g, (h,))))))))) => Ok((a, b, c, d, e, f, g, h)),
-            Err(error) => Err(error),
-        }
-    }
-
-    fn check_columns(columns: &[PgColumn<'_>]) -> Result<(), ColumnError<usize>> {
-        <(A, (B, (C, (D, (E, (F, (G, (H,)))))))) as ColumnList>::check_columns(columns, 0)
-    }
+    ghost list_of = { λ v. (v.0, (v.1, (v.2, (v.3, (v.4, (v.5, (v.6, record { 0 = v.7 }))))))) };
 
     #[inline(always)]
-    fn read_frames<'r>(
-        alloc: Global,
-        columns: &[PgColumn<'_>],
-        bytes: &'r [u8],
-    ) -> Result<(Self, usize, &'r [u8]), ColumnError<usize>> {
-        match ColumnList::read_frames(alloc, columns, 0, bytes) {
-            Ok(((a, (b, (c, (d, (e, (f, (g, (h,)))))))), next, rest)) => Ok((
-                (a, b, c, d, e, f, g, h),
-                next,
-                rest,
-            )),
-            Err(error) => Err(error),
-        }
+    fn of_list((a, (b, (c, (d, (e, (f, (g, (h,)))))))): Self::List) -> Self {
+        (a, b, c, d, e, f, g, h)
     }
-
-    ghost in_one_pass = { further_in_one_pass A.accepts A.parse (further_in_one_pass B.accepts B.parse (further_in_one_pass C.accepts C.parse (further_in_one_pass D.accepts D.parse (further_in_one_pass E.accepts E.parse (further_in_one_pass F.accepts F.parse (further_in_one_pass G.accepts G.parse (last_in_one_pass H.accepts H.parse))))))) 0 };
 }
 
 /// The first nine columns.
@@ -736,47 +543,13 @@ impl<
     G: Type + Decode,
     H: Type + Decode,
     I: Type + Decode,
-> FromRow for (A, B, C, D, E, F, G, H, I) {
-    ghost View = { A.View × (B.View × (C.View × (D.View × (E.View × (F.View × (G.View × (H.View × I.View))))))) };
+> ColumnTuple for (A, B, C, D, E, F, G, H, I) {
+    type List = (A, (B, (C, (D, (E, (F, (G, (H, (I,)))))))));
 
-    ghost view = { λ v. (A.view v.0, (B.view v.1, (C.view v.2, (D.view v.3, (E.view v.4, (F.view v.5, (G.view v.6, (H.view v.7, I.view v.8)))))))) };
-
-    ghost parse = { λ row. ⟦<(A, (B, (C, (D, (E, (F, (G, (H, (I,))))))))) as ColumnList>⟧.parse row 0 };
-
-    ghost refused = { λ row. ⟦<(A, (B, (C, (D, (E, (F, (G, (H, (I,))))))))) as ColumnList>⟧.refused row 0 };
-
-    ghost fits = { λ columns. ⟦<(A, (B, (C, (D, (E, (F, (G, (H, (I,))))))))) as ColumnList>⟧.fits columns 0 };
-
-    ghost in_front = { λ columns. ⟦<(A, (B, (C, (D, (E, (F, (G, (H, (I,))))))))) as ColumnList>⟧.in_front columns 0 };
-
-    ghost refused_in_front = { λ columns. ⟦<(A, (B, (C, (D, (E, (F, (G, (H, (I,))))))))) as ColumnList>⟧.refused_in_front columns 0 };
-
-    fn from_row(alloc: Global, row: &PgRow<'_>) -> Result<Self, ColumnError<usize>> {
-        match ColumnList::read(alloc, row, 0) {
-            Ok((a, (b, (c, (d, (e, (f, (g, (h, (i,)))))))))) => Ok((a, b, c, d, e, f, g, h, i)),
-            Err(error) => Err(error),
-        }
-    }
-
-    fn check_columns(columns: &[PgColumn<'_>]) -> Result<(), ColumnError<usize>> {
-        <(A, (B, (C, (D, (E, (F, (G, (H, (I,))))))))) as ColumnList>::check_columns(columns, 0)
-    }
+    ghost list_of = { λ v. (v.0, (v.1, (v.2, (v.3, (v.4, (v.5, (v.6, (v.7, record { 0 = v.8 })))))))) };
 
     #[inline(always)]
-    fn read_frames<'r>(
-        alloc: Global,
-        columns: &[PgColumn<'_>],
-        bytes: &'r [u8],
-    ) -> Result<(Self, usize, &'r [u8]), ColumnError<usize>> {
-        match ColumnList::read_frames(alloc, columns, 0, bytes) {
-            Ok(((a, (b, (c, (d, (e, (f, (g, (h, (i,))))))))), next, rest)) => Ok((
-                (a, b, c, d, e, f, g, h, i),
-                next,
-                rest,
-            )),
-            Err(error) => Err(error),
-        }
+    fn of_list((a, (b, (c, (d, (e, (f, (g, (h, (i,))))))))): Self::List) -> Self {
+        (a, b, c, d, e, f, g, h, i)
     }
-
-    ghost in_one_pass = { further_in_one_pass A.accepts A.parse (further_in_one_pass B.accepts B.parse (further_in_one_pass C.accepts C.parse (further_in_one_pass D.accepts D.parse (further_in_one_pass E.accepts E.parse (further_in_one_pass F.accepts F.parse (further_in_one_pass G.accepts G.parse (further_in_one_pass H.accepts H.parse (last_in_one_pass I.accepts I.parse)))))))) 0 };
 }
