@@ -22,50 +22,40 @@ impl PgType {
             _ => self.oid(),
         }
     }
-}
 
-impl PgTypeInfo {
     /// Whether the base OIDs are equal, where both are known.
     #[inline(always)]
-    fn same_base(&self, other: &PgTypeInfo) -> Option<bool>
-        ensures { result ≡ common_base (base_oid self.now) (base_oid other.now) }
+    fn same_base(&self, other: &PgType) -> Option<bool>
+        ensures { result ≡ common_base (base_oid (type_of self.now)) (base_oid (type_of other.now)) }
     {
-        let first = self.0.base_oid()?;
-        let second = other.0.base_oid()?;
+        let first = self.base_oid()?;
+        let second = other.base_oid()?;
         Some(first == second)
-    }
-
-    /// Whether it was declared by its OID.
-    #[inline(always)]
-    fn is_by_oid(&self) -> bool
-        ensures { result ≡ is_by_oid self.now }
-    {
-        self.0.is_by_oid()
     }
 
     /// Whether the soft relation asks no more, since one of the two is declared by its OID.
     #[inline(always)]
-    fn is_open(&self, other: &PgTypeInfo, soft: bool) -> bool
-        ensures { result ≡ (soft && (is_by_oid self.now || is_by_oid other.now)) }
+    fn is_open(&self, other: &PgType, soft: bool) -> bool
+        ensures { result ≡ (soft && (is_by_oid (type_of self.now) || is_by_oid (type_of other.now))) }
     {
         soft && (self.is_by_oid() || other.is_by_oid())
     }
 
     /// Whether the catalogue names agree.
-    fn names_agree(&self, other: &PgTypeInfo) -> bool
-        ensures { result ≡ agree (name_of self.now) (name_of other.now) }
+    fn names_agree(&self, other: &PgType) -> bool
+        ensures { result ≡ agree (name_of (type_of self.now)) (name_of (type_of other.now)) }
     {
-        self.0.name().agrees(&other.0.name())
+        self.name().agrees(&other.name())
     }
 
     /// The last rule: two elements in the same way, else the catalogue names.
-    fn rest_related(&self, other: &PgTypeInfo, soft: bool) -> bool
-        ensures { result ≡ rest_related soft self.now other.now }
+    fn rest_related(&self, other: &PgType, soft: bool) -> bool
+        ensures { result ≡ rest_related soft (type_of self.now) (type_of other.now) }
     {
-        let Some(first) = self.0.array_element() else {
+        let Some(first) = self.array_element() else {
             return self.names_agree(other);
         };
-        let Some(second) = other.0.array_element() else {
+        let Some(second) = other.array_element() else {
             return self.names_agree(other);
         };
         elements_related(first, second, soft)
@@ -73,8 +63,8 @@ impl PgTypeInfo {
 
     /// Whether the two are softly, or else exactly, the same.
     #[inline(always)]
-    fn is_related(&self, other: &PgTypeInfo, soft: bool) -> bool
-        ensures { result ≡ related soft (levels self.now) (levels other.now) }
+    fn is_related(&self, other: &PgType, soft: bool) -> bool
+        ensures { result ≡ related soft (levels (type_of self.now)) (levels (type_of other.now)) }
     {
         if let Some(same) = self.same_base(other) {
             return same;
@@ -85,6 +75,23 @@ impl PgTypeInfo {
         self.rest_related(other, soft)
     }
 
+    /// Whether the two types are softly the same, as [`PgTypeInfo::type_compatible`] says.
+    #[inline(always)]
+    pub fn type_compatible(&self, other: &PgType) -> bool
+        ensures { result ≡ softly (type_of self.now) (type_of other.now) }
+    {
+        self.is_related(other, true)
+    }
+
+    /// Whether the two types are exactly the same, as far as is known, as [`PgTypeInfo::type_eq`] says.
+    pub fn type_eq(&self, other: &PgType) -> bool
+        ensures { result ≡ exactly (type_of self.now) (type_of other.now) }
+    {
+        self.is_related(other, false)
+    }
+}
+
+impl PgTypeInfo {
     /// Whether the two types are softly the same: a value of the one is then accepted where the other is expected.
     ///
     /// The first rule that applies decides: two known base OIDs must be equal, where a domain's is that of the type
@@ -94,7 +101,7 @@ impl PgTypeInfo {
     pub fn type_compatible(&self, other: &PgTypeInfo) -> bool
         ensures { result ≡ softly self.now other.now }
     {
-        self.is_related(other, true)
+        self.0.type_compatible(&other.0)
     }
 
     /// Whether the two types are exactly the same, as far as is known.
@@ -104,7 +111,16 @@ impl PgTypeInfo {
     pub fn type_eq(&self, other: &PgTypeInfo) -> bool
         ensures { result ≡ exactly self.now other.now }
     {
-        self.is_related(other, false)
+        self.0.type_eq(&other.0)
+    }
+}
+
+impl PgTypeRef<'_> {
+    /// The type.
+    fn as_type(&self) -> &PgType
+        ensures { type_of result.now ≡ ref_type self.now }
+    {
+        &self.as_ref().0
     }
 }
 
@@ -119,17 +135,17 @@ fn elements_related(first: PgTypeRef<'_>, second: PgTypeRef<'_>, soft: bool) -> 
     let mut left = first;
     let mut right = second;
     loop {
-        if let Some(same) = left.as_ref().same_base(right.as_ref()) {
+        if let Some(same) = left.as_type().same_base(right.as_type()) {
             return same;
         }
-        if left.as_ref().is_open(right.as_ref(), soft) {
+        if left.as_type().is_open(right.as_type(), soft) {
             return true;
         }
         let Some(left_element) = left.element() else {
-            return left.as_ref().names_agree(right.as_ref());
+            return left.as_type().names_agree(right.as_type());
         };
         let Some(right_element) = right.element() else {
-            return left.as_ref().names_agree(right.as_ref());
+            return left.as_type().names_agree(right.as_type());
         };
         left = left_element;
         right = right_element;
