@@ -24,6 +24,23 @@ oid_of (named n) = None
 oid_of (by_oid o) = Some o
 oid_of (array_of n) = None
 
+-- the OID of a built-in type
+abbrev pub built_in_oid : Ty → Option ℕ
+built_in_oid (builtin o) = Some o
+built_in_oid (custom o n k) = None
+built_in_oid (named n) = None
+built_in_oid (by_oid o) = None
+built_in_oid (array_of n) = None
+
+abbrev pub same_oid : Option ℕ → Option ℕ → Bool
+same_oid None _ = false
+same_oid (Some o) None = false
+same_oid (Some o) (Some p) = o == p
+
+-- the two are one built-in type
+abbrev pub same_built_in : Ty → Ty → Bool
+same_built_in t u = same_oid (built_in_oid t) (built_in_oid u)
+
 -- A domain has the OID of the type directly under it.
 abbrev pub base_under : ℕ → Kind → Option ℕ
 base_under o simple = Some o

@@ -1,7 +1,7 @@
 //! The table of the built-in types: their OIDs, elements, ranges and names, as the server's own
 //! catalogue has them from its start (PostgreSQL, "pg_type").
 ghost use Rattle.std.specs.Prelude.{◌≡◌, option_map};
-ghost use Rattle.pgv_types.specs.Facts.{oid_of, element_built_in, range_built_in, is_pseudo, name_text_of, display_text_of, built_in};
+ghost use Rattle.pgv_types.specs.Facts.{built_in_oid, oid_of, element_built_in, range_built_in, is_pseudo, name_text_of, display_text_of, built_in};
 ghost use Rattle.pgv_types.specs.Shown.{type_of};
 
 use crate::{Oid, PgType};
@@ -110,6 +110,20 @@ impl PgType {
             PgType::DeclareWithOid(oid) => Some(*oid),
             PgType::DeclareWithName(_) => None,
             PgType::DeclareArrayOf(_) => None,
+        }
+    }
+
+    /// The OID of a built-in type. `None` for a custom type, and for one that is only declared.
+    #[inline(always)]
+    pub fn built_in_oid(&self) -> Option<Oid>
+        ensures { option_map (λ o. o.0) result ≡ built_in_oid (type_of self.now) }
+    {
+        match self {
+            PgType::Custom(_)
+            | PgType::DeclareWithName(_)
+            | PgType::DeclareWithOid(_)
+            | PgType::DeclareArrayOf(_) => None,
+            _ => self.oid(),
         }
     }
 

@@ -1,7 +1,7 @@
 //! Types as callers hold them.
-ghost use Rattle.std.specs.Prelude.{◌≡◌, None, false, option_map, IfOk, IfSome};
+ghost use Rattle.std.specs.Prelude.{◌≡◌, None, false, true, option_map, IfOk, IfSome};
 ghost use Rattle.pgv_types.specs.Whole.{whole};
-ghost use Rattle.pgv_types.specs.Facts.{is_custom, is_void, IsNotCustom, domain_base, under_domains, oid_of, element_of, element_built_in, name_element, kind_at, kind_when_built_in, name_of, has_brackets, display_of, shows_brackets, is_a_type, built_in};
+ghost use Rattle.pgv_types.specs.Facts.{is_custom, is_void, IsNotCustom, domain_base, under_domains, oid_of, same_built_in, element_of, element_built_in, name_element, kind_at, kind_when_built_in, name_of, has_brackets, display_of, shows_brackets, is_a_type, built_in};
 ghost use Rattle.pgv_types.specs.Relations.{is_by_oid};
 ghost use Rattle.pgv_types.specs.Ty.{named, array_of, by_oid, custom};
 ghost use Rattle.pgv_types.specs.Shown.{kind_of, type_of};
@@ -461,6 +461,19 @@ impl PgTypeInfo {
         ensures { option_map (λ o. o.0) result ≡ oid_of self.now }
     {
         self.0.oid()
+    }
+
+    /// Whether the two are one built-in type; for a custom type, and one that is only declared, it is `false`. It takes
+    /// no memory.
+    #[inline(always)]
+    pub fn is_same_built_in(&self, other: &PgTypeInfo) -> bool
+        ensures exact { result ≡ same_built_in self.now other.now }
+        ensures same { result ≡ true → self.now ≡ other.now }
+    {
+        match (self.0.built_in_oid(), other.0.built_in_oid()) {
+            (Some(oid), Some(same)) => oid == same,
+            _ => false,
+        }
     }
 
     /// The kind. `None` for a type that is only declared.

@@ -4,7 +4,7 @@
 -- time, taken round the clock; microseconds from 2000-01-01 00:00 of a date-time, and of an instant in UTC. Outside the
 -- dates, date-times and instants of jiff they are C30.
 use mir.Syntax.{w32}
-use Rattle.std.specs.Prelude.{ℕ, ◌*◌, ◌&&◌, if◌then◌else◌, ℤ, pos, neg_ℤ, ◌+ℤ◌, ◌*ℤ◌, int_le, unsigned_abs, Option, Some, None, Ok, ok_or}
+use Rattle.std.specs.Prelude.{ℕ, List, ◌*◌, ◌&&◌, if◌then◌else◌, ℤ, pos, neg_ℤ, ◌+ℤ◌, ◌*ℤ◌, int_le, unsigned_abs, Option, Some, None, Ok, ok_or}
 use Rattle.std.specs.Int.{int_rem_euclid}
 use Rattle.pgv_text.specs.DateTimeText.{date_value, time_value, date_time_value, instant_value, instant_nanos}
 use Rattle.pgv_value.specs.NumberBinary.{whole_number}
@@ -40,10 +40,11 @@ civil_at nanos =
     if int_le (neg_ℤ (pos 377_705_116_800_000_000_000)) nanos && int_le nanos (pos 253_402_300_799_999_999_999) then Some nanos else None
 
 -- date: whole days from 2000-01-01
+abbrev pub date_of_bytes : List ℕ → Parsed ℤ
+date_of_bytes bytes = int_in_binary w32 bytes >>= λ days. ok_or (day_after days) OutOfRange
+
 abbrev pub parse_date : Given → Parsed ℤ
-parse_date =
-    scalar (λ bytes. int_in_binary w32 bytes >>= λ days. ok_or (day_after days) OutOfRange)
-    (λ text. ok_or (date_value text) Syntax)
+parse_date = scalar date_of_bytes (λ text. ok_or (date_value text) Syntax)
 
 -- time: microseconds of the day, round the clock
 abbrev pub parse_time : Given → Parsed ℕ

@@ -11,10 +11,9 @@ ghost use Rattle.pgv_codec.specs.Encoding.{with_hint, writes};
 use super::int::write_i32;
 use crate::buffer::{IsNull, PgArgumentBuffer};
 use crate::traits::{BuiltIn, HasBuiltIn, Of, Plain, Scalar};
-use crate::types::part::binary_value;
 use jiff::civil::Date;
 use pgv_types::{PgType, PgTypeInfo};
-use pgv_value::{CodecError, FIRST_DAY, PgValueRef, read_date};
+use pgv_value::{CodecError, FIRST_DAY, PgValueRef, date_of_bytes, read_date};
 use std::alloc::Global;
 
 /// The days from 2000-01-01.
@@ -76,7 +75,7 @@ impl Plain for Date {
 
     #[inline(always)]
     fn read_at_once(bytes: &[u8]) -> Option<Date> {
-        read_date(&binary_value(bytes, Of::<Date>::INFO)).ok()
+        date_of_bytes(bytes).ok()
     }
 
     ghost reads_back = { date_back };

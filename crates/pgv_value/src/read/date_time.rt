@@ -5,10 +5,10 @@ ghost use Rattle.std.specs.Option.{option_map};
 ghost use Rattle.jiff.specs.Words.{civil_nanos, epoch_day, time_nanos};
 ghost use Rattle.pgv_text.specs.DateTimeText.{instant_nanos};
 ghost use Rattle.pgv_value.specs.DateTimeBinary.{civil_at, day_after, nanos_after, time_after};
-ghost use Rattle.pgv_value.specs.DateTimeBinary.{parse_date, parse_date_time, parse_instant, parse_time};
+ghost use Rattle.pgv_value.specs.DateTimeBinary.{date_of_bytes, parse_date, parse_date_time, parse_instant, parse_time};
 ghost use Rattle.pgv_value.specs.Parsed.{GivesExactly};
 
-use super::int::whole_number_of;
+use super::int::{number_of_32, whole_number_of};
 use crate::error::CodecError;
 use crate::value::{PgValueFormat, PgValueRef};
 use jiff::Timestamp;
@@ -63,6 +63,16 @@ fn instant_after(micros: i64) -> Option<Timestamp>
     Timestamp::from_nanosecond(nanos_of(micros)).ok()
 }
 
+/// Reads a `date` in binary: the days from 2000-01-01, in one to eight bytes of two's complement. Another number of bytes
+/// is refused with [`WrongLength`](CodecError::WrongLength) (C17), a day outside the years -9999 to 9999 with
+/// [`OutOfRange`](CodecError::OutOfRange) (C30). `00000001` is 2000-01-02.
+#[inline(always)]
+pub fn date_of_bytes(bytes: &[u8]) -> Result<Date, CodecError>
+    ensures { GivesExactly epoch_day (date_of_bytes bytes.now) result }
+{
+    date_after(number_of_32(bytes)?).ok_or(CodecError::OutOfRange)
+}
+
 /// Reads a `date`: in binary the days from 2000-01-01, in one to eight bytes of two's complement, and in text
 /// `YYYY-MM-DD`. Another number of bytes is refused with [`WrongLength`](CodecError::WrongLength) (C17), a day outside
 /// the years -9999 to 9999 with [`OutOfRange`](CodecError::OutOfRange) (C30), and another text with
@@ -71,10 +81,7 @@ pub fn read_date(value: &PgValueRef<'_>) -> Result<Date, CodecError>
     ensures { GivesExactly epoch_day (parse_date value.now) result }
 {
     match value.format() {
-        PgValueFormat::Binary => match i32::try_from(whole_number_of(value.as_bytes()?)?) {
-            Ok(days) => date_after(days).ok_or(CodecError::OutOfRange),
-            Err(_) => Err(CodecError::OutOfRange),
-        },
+        PgValueFormat::Binary => date_of_bytes(value.as_bytes()?),
         PgValueFormat::Text => date(value.as_str()?).ok_or(CodecError::Syntax),
     }
 }

@@ -44,7 +44,7 @@ pub(crate) fn whole_number_of(bytes: &[u8]) -> Result<i64, CodecError>
 
 /// The number in one to eight bytes, if 32 bits have it: of four bytes, as nearly all are, in one read.
 #[inline(always)]
-fn number_of_32(bytes: &[u8]) -> Result<i32, CodecError>
+pub(crate) fn number_of_32(bytes: &[u8]) -> Result<i32, CodecError>
     ensures { GivesExactly (λ number. number) (int_in_binary w32 bytes.now) result }
 {
     if bytes.len() == 4 {
