@@ -21,7 +21,6 @@ use pgv_examples::mood::Mood;
 use pgv_examples::page::Page;
 use pgv_examples::row::{column, keep, read_person};
 use pgv_examples::shipment::Shipment;
-use pgv_examples::statement::{ask, columns_of, people, run};
 use pgv_examples::user_id::UserId;
 use std::alloc::{AllocError, Global};
 use std::test::Fail;
@@ -220,67 +219,6 @@ fn rows_of_persons(rt: HostRuntime) -> Result<(), CodecError> {
     Ok(())
 }
 
-/// What PostgreSQL 15.18 sent of `select id, name, mood, sizes, born from people ..`, in hex: the body of its
-/// RowDescription.
-const DESCRIBED: &[u8] = b"\
-    00056964000000403d0001000000170004ffffffff00006e616d65000000403d000200000019ffffffffffff00006d6f6f64000000403d0003000040260004\
-    ffffffff000073697a6573000000403d0004000003efffffffffffff0000626f726e000000403d00050000043a0004ffffffff0000";
-
-/// And what came after Bind and Execute: three rows.
-const CAME: &[u8] = b"\
-    3200000004\
-    440000004e0005000000040000000100000003416e6e00000005686170707900000024000000010000000000000017000000020000000100000004000000010000\
-    0004000000020000000400000001\
-    440000002100050000000400000002ffffffff00000003736164ffffffffffffffff\
-    4400000034000500000004000000070000000442c3a961000000026f6b0000000c00000000000000000000001700000004ffffffff\
-    430000000d53454c4543542033005a0000000549";
-
-/// The bytes of hex digits.
-fn bytes_of(alloc: Global, digits: &[u8]) -> Result<Vec<u8>, CodecError> {
-    match decode(alloc, digits) {
-        Ok(bytes) => Ok(bytes),
-        Err(_) => Err(CodecError::Syntax),
-    }
-}
-
-/// The people of that session, each on a line.
-fn people_shown(alloc: Global) -> Result<String, CodecError> {
-    let described = bytes_of(alloc, DESCRIBED)?;
-    let came = bytes_of(alloc, CAME)?;
-    let columns = columns_of(alloc, described.as_slice())?;
-    let mut text = String::new(alloc);
-    for (id, name) in people(alloc, &columns, came.as_slice())? {
-        let line = format!(in alloc; "{id} {name:?}\n")?;
-        text.push_str(line.as_str())?;
-    }
-    Ok(text)
-}
-
-/// What is sent of `select $1` with the number 7, in hex.
-fn sent_shown(alloc: Global) -> Result<String, Fail> {
-    let mut arguments = PgArguments::new(alloc);
-    arguments.add(7i32)?;
-    let mut out = Vec::new(alloc);
-    ask(&mut out, "select $1")?;
-    run(&mut out, &arguments)?;
-    Ok(encode(alloc, out.as_slice())?)
-}
-
-#[test]
-fn a_statement_is_run(rt: HostRuntime) -> Result<(), Fail> {
-    let sent = sent_shown(rt.alloc())?;
-    assert_eq!(rt;
-        sent.as_str(),
-        "50000000110073656c65637420243100000044000000065300530000000442000000180000000100010001000000040000000700010001450000000900000000005300000004"
-    );
-    let shown = people_shown(rt.alloc())?;
-    assert_eq!(rt;
-        shown.as_str(),
-        "1 Some(\"Ann\")\n2 None\n7 Some(\"Béa\")\n"
-    );
-    Ok(())
-}
-
 /// A query for these keys, its arguments in hex, and how many keys more were refused.
 fn listed(alloc: Global, keys: &[i64]) -> Result<String, CodecError> {
     let mut arguments = PgArguments::new(alloc);
@@ -346,6 +284,14 @@ fn reason_in(
 ) -> Result<Option<Reason<&'static str>>, CodecError> {
     let row = PgRow::read(columns, room, body)?;
     Ok(name_in(alloc, &row).err())
+}
+
+/// The bytes of hex digits.
+pub fn bytes_of(alloc: Global, digits: &[u8]) -> Result<Vec<u8>, CodecError> {
+    match decode(alloc, digits) {
+        Ok(bytes) => Ok(bytes),
+        Err(_) => Err(CodecError::Syntax),
+    }
 }
 
 /// Why the name in a row of one null is not read, under this description.
