@@ -57,8 +57,8 @@ pub mod text {
 /// Rows of a statement's result, by the columns that a RowDescription has.
 pub mod row {
     pub use pgv_row::{
-        ColumnError, ColumnIndex, ColumnList, FromRow, PgCatalog, PgColumn, PgColumns, PgCopyRows,
-        PgOwnedRow, PgPlaces, PgRow,
+        ColumnError, ColumnIndex, ColumnList, ColumnTuple, FromRow, PgCatalog, PgColumn, PgColumns,
+        PgCopyRows, PgOwnedRow, PgPlaces, PgRow,
     };
 }
 

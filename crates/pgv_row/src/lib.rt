@@ -19,4 +19,4 @@ pub use copy::PgCopyRows;
 pub use error::ColumnError;
 pub use index::ColumnIndex;
 pub use row::{PgOwnedRow, PgPlaces, PgRow};
-pub use tuple::{ColumnList, FromRow};
+pub use tuple::{ColumnList, ColumnTuple, FromRow};

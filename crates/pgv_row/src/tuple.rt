@@ -4,7 +4,7 @@ ghost use Rattle.std.specs.Prelude.{◌≡◌, ◌+◌, ◌≤◌, ℕ, List, le
 ghost use Rattle.std.specs.Option.{option_copied};
 ghost use Rattle.pgv_value.specs.Outcome.{Gives, Outcome};
 ghost use Rattle.pgv_row.specs.ColumnView.{Column};
-ghost use Rattle.pgv_row.specs.OnePass.{Fit, Fits, column_fits, columns_fit, Left, part_value, value_in_front, column_in_front, columns_in_front, IsRefusedInFront, IsFirstInFront, InOnePass};
+ghost use Rattle.pgv_row.specs.OnePass.{Fit, Fits, column_fits, columns_fit, Left, part_value, with_rest, value_in_front, column_in_front, columns_in_front, IsRefusedInFront, IsFirstInFront, InOnePass};
 ghost use Rattle.pgv_row.specs.OnePassLemmas.{last_in_one_pass, further_in_one_pass};
 ghost use Rattle.pgv_row.specs.RowView.{Row};
 ghost use Rattle.pgv_row.specs.Tuples.{column_parse, columns_parse, or_codec, IsFirstRefused, IsRefused};
@@ -182,27 +182,77 @@ fn part_at_once<T: Decode>(column: &PgColumn<'_>, part: Option<&[u8]>) -> Option
     }
 }
 
-/// What `T` reads from a part, or of null, under the type and in the format of its column.
-#[inline(always)]
+/// What `T` reads from a part, or from null, under a copy of its column's type.
+#[cold]
+#[inline(never)]
 #[tactic(auto, unfolding(crate::specs::OnePass::part_value))]
-fn read_part<T: Decode>(
+fn decode_part<T: Decode>(
     alloc: Global,
     column: &PgColumn<'_>,
     part: Option<&[u8]>,
 ) -> Result<T, CodecError>
     ensures { Gives T.view (part_value T.parse column.now (option_copied part.entry)) result }
 {
-    if let Some(value) = part_at_once(column, part) {
-        return Ok(value);
-    }
     let type_info = column.type_info().clone()?;
     T::decode(alloc, PgValueRef::new(part, type_info, column.format()))
+}
+
+/// What `T` reads from a part, or from null: under its own type where the column has this built-in one, so that none is
+/// copied.
+#[inline(always)]
+#[tactic(auto, unfolding(crate::specs::OnePass::part_value))]
+fn read_under_own_type<T: Type + Decode>(
+    alloc: Global,
+    column: &PgColumn<'_>,
+    part: Option<&[u8]>,
+) -> Result<T, CodecError>
+    ensures { Gives T.view (part_value T.parse column.now (option_copied part.entry)) result }
+{
+    let own = T::type_info();
+    if column.type_info().is_same_built_in(&own) {
+        return T::decode(alloc, PgValueRef::new(part, own, column.format()));
+    }
+    decode_part(alloc, column, part)
+}
+
+/// What `T` reads from a part, or from null, that isn't read at once, under its column's type and in its format.
+#[inline(always)]
+#[tactic(auto, unfolding(crate::specs::OnePass::part_value))]
+fn read_part<T: Type + Decode>(
+    alloc: Global,
+    column: &PgColumn<'_>,
+    part: Option<&[u8]>,
+) -> Result<T, CodecError>
+    ensures { Gives T.view (part_value T.parse column.now (option_copied part.entry)) result }
+{
+    if T::width_at_once() > 0 && part.is_some() {
+        return decode_part(alloc, column, part);
+    }
+    read_under_own_type(alloc, column, part)
+}
+
+/// That, and the rest.
+#[inline(always)]
+fn part_and_rest<'r, T: Type + Decode>(
+    alloc: Global,
+    column: &PgColumn<'_>,
+    part: Option<&[u8]>,
+    rest: &'r [u8],
+) -> Result<(T, &'r [u8]), CodecError>
+    ensures read { Gives (λ x. (T.view x.0, x.1.now)) (with_rest rest.now (part_value T.parse
+        column.now (option_copied part.entry))) result }
+    ensures rest { IfOk result (λ x. x.1.now ≡ rest.now) }
+{
+    match read_part(alloc, column, part) {
+        Ok(value) => Ok((value, rest)),
+        Err(error) => Err(error),
+    }
 }
 
 /// What `T` reads from the frame in front as a value of a column, and the rest.
 #[inline(always)]
 #[tactic(auto, unfolding(crate::specs::OnePass::value_in_front))]
-fn front_value<'r, T: Decode>(
+fn front_value<'r, T: Type + Decode>(
     alloc: Global,
     column: &PgColumn<'_>,
     bytes: &'r [u8],
@@ -212,16 +262,16 @@ fn front_value<'r, T: Decode>(
     ensures within { IfOk result (λ x. length x.1.now ≤ length bytes.now) }
 {
     let (part, rest) = part_in_front(bytes)?;
-    match read_part(alloc, column, part) {
-        Ok(value) => Ok((value, rest)),
-        Err(error) => Err(error),
+    if let Some(value) = part_at_once(column, part) {
+        return Ok((value, rest));
     }
+    part_and_rest(alloc, column, part, rest)
 }
 
 /// What `T` reads from the frame in front as the value of the column at a place, the place after it, and the rest.
 #[inline(always)]
 #[tactic(auto, unfolding(crate::specs::OnePass::column_in_front))]
-fn front_column<'r, T: Decode>(
+fn front_column<'r, T: Type + Decode>(
     alloc: Global,
     columns: &[PgColumn<'_>],
     place: usize,

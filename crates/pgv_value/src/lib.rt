@@ -17,9 +17,9 @@ pub use front::{name_in_front, u16_in_front};
 pub use interval::PgInterval;
 pub use number::{i16_in_front, number_of_eight, number_of_four, u32_in_front};
 pub use read::{
-    FIRST_DAY, FIRST_NANOSECOND, read_bool, read_date, read_date_time, read_i8, read_i16, read_i32,
-    read_i64, read_instant, read_interval, read_ip_address, read_ip_network, read_oid, read_time,
-    read_uuid, time_at,
+    FIRST_DAY, FIRST_NANOSECOND, date_of_bytes, read_bool, read_date, read_date_time, read_i8,
+    read_i16, read_i32, read_i64, read_instant, read_interval, read_ip_address, read_ip_network,
+    read_oid, read_time, read_uuid, time_at,
 };
 pub use tree_error::{PgLQueryParseError, PgLTreeParseError};
 pub use value::{PgValue, PgValueFormat, PgValueRef};

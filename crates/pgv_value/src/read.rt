@@ -12,7 +12,8 @@ mod uuids;
 
 pub use bool::read_bool;
 pub use date_time::{
-    FIRST_DAY, FIRST_NANOSECOND, read_date, read_date_time, read_instant, read_time, time_at,
+    FIRST_DAY, FIRST_NANOSECOND, date_of_bytes, read_date, read_date_time, read_instant, read_time,
+    time_at,
 };
 pub use int::{read_i8, read_i16, read_i32, read_i64};
 pub use interval::read_interval;

@@ -63,8 +63,8 @@ fn instant_after(micros: i64) -> Option<Timestamp>
     Timestamp::from_nanosecond(nanos_of(micros)).ok()
 }
 
-/// Reads a `date` in binary: the days from 2000-01-01, in one to eight bytes of two's complement. Another number of bytes
-/// is refused with [`WrongLength`](CodecError::WrongLength) (C17), a day outside the years -9999 to 9999 with
+/// Reads a `date` in binary: the days from 2000-01-01, in one to eight bytes of two's complement. Another number of
+/// bytes is refused with [`WrongLength`](CodecError::WrongLength) (C17), a day outside the years -9999 to 9999 with
 /// [`OutOfRange`](CodecError::OutOfRange) (C30). `00000001` is 2000-01-02.
 #[inline(always)]
 pub fn date_of_bytes(bytes: &[u8]) -> Result<Date, CodecError>
