@@ -60,12 +60,6 @@ part_value parse c part = do
   allocates (is_custom c.type_info)
   parse (given c.type_info c.format part)
 
--- a value, and the rest
-abbrev pub with_rest : {M : Type 0} → List ℕ → Outcome M → Outcome (M × List ℕ)
-with_rest rest value = do
-  m ← value
-  done (m, rest)
-
 -- the value of a column whose frame is in front, and the rest
 unfoldable pub value_in_front : {M : Type 0} → (Given → Outcome M) → Column → List ℕ → Outcome (M × List ℕ)
 value_in_front parse c bytes = do

@@ -62,8 +62,9 @@ fn read_frames<'r, T: FromRow>(
         frames.now) }
     ensures within { IfOk result (λ x. length x.1.now ≤ length frames.now) }
 {
-    match T::read_frames(alloc, columns, frames) {
-        Ok((value, next, further)) => match pass_over(further, next, columns.len()) {
+    let mut further = frames;
+    match T::read_frames(alloc, columns, &mut further) {
+        Ok((value, next)) => match pass_over(further, next, columns.len()) {
             Ok(rest) => Ok((value, rest)),
             Err(error) => Err(error),
         },

@@ -74,7 +74,8 @@ fn read_body<T: FromRow>(
             });
         }
     };
-    let (value, next, further) = match T::read_frames(alloc, columns, frames) {
+    let mut further = frames;
+    let (value, next) = match T::read_frames(alloc, columns, &mut further) {
         Ok(read) => read,
         Err(error) => return Err(error),
     };

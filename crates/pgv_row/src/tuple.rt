@@ -1,10 +1,10 @@
 //! Rows as tuples: each column in order is a field.
 
-ghost use Rattle.std.specs.Prelude.{◌≡◌, ◌+◌, ◌≤◌, ℕ, List, length, Ok, IfSome, IfOk, IfErr};
+ghost use Rattle.std.specs.Prelude.{◌≡◌, ◌+◌, ◌≤◌, ℕ, List, length, Ok, IfSome, IfOk, IfErr, OnOk};
 ghost use Rattle.std.specs.Option.{option_copied};
 ghost use Rattle.pgv_value.specs.Outcome.{Gives, Outcome};
 ghost use Rattle.pgv_row.specs.ColumnView.{Column};
-ghost use Rattle.pgv_row.specs.OnePass.{Fit, Fits, column_fits, columns_fit, Left, part_value, with_rest, value_in_front, column_in_front, columns_in_front, IsRefusedInFront, IsFirstInFront, InOnePass};
+ghost use Rattle.pgv_row.specs.OnePass.{Fit, Fits, column_fits, columns_fit, Left, part_value, value_in_front, column_in_front, columns_in_front, IsRefusedInFront, IsFirstInFront, InOnePass};
 ghost use Rattle.pgv_row.specs.OnePassLemmas.{last_in_one_pass, further_in_one_pass};
 ghost use Rattle.pgv_row.specs.RowView.{Row};
 ghost use Rattle.pgv_row.specs.Tuples.{column_parse, columns_parse, or_codec, IsFirstRefused, IsRefused};
@@ -50,17 +50,17 @@ pub trait FromRow: Sized + Drop {
     fn check_columns(columns: &[PgColumn<'_>]) -> Result<(), ColumnError<usize>>
         ensures { Fits (fits columns.now) result };
 
-    /// The values of the first columns, whose frames are in front; with them come the place of the next column, and the
-    /// bytes from its frame on. Types are not tested.
+    /// The values of the first columns, whose frames are in front, and the place of the next column; the bytes then go on
+    /// from its frame. Types are not tested. A refusal may have moved the bytes.
     fn read_frames<'r>(
         alloc: Global,
         columns: &[PgColumn<'_>],
-        bytes: &'r [u8],
-    ) -> Result<(Self, usize, &'r [u8]), ColumnError<usize>>
-        ensures read { Gives (λ x. (view x.0, (x.1, x.2.now))) (in_front columns.now bytes.now)
-            (or_codec result) }
-        ensures first { IfErr result (refused_in_front columns.now bytes.now) }
-        ensures within { IfOk result (λ x. length x.2.now ≤ length bytes.now) };
+        bytes: &mut &'r [u8],
+    ) -> Result<(Self, usize), ColumnError<usize>>
+        ensures read { Gives (λ x. (view x.0, (x.1, bytes.new.now)))
+            (in_front columns.now bytes.old.now) (or_codec result) }
+        ensures first { IfErr result (refused_in_front columns.now bytes.old.now) }
+        ensures within { OnOk result (length bytes.new.now ≤ length bytes.old.now) };
 
     /// The same is read from the frames as from the row.
     ghost in_one_pass: { InOnePass 0 fits parse refused in_front refused_in_front };
@@ -99,18 +99,18 @@ pub trait ColumnList: Sized + Drop {
     fn check_columns(columns: &[PgColumn<'_>], place: usize) -> Result<(), ColumnError<usize>>
         ensures { Fits (fits columns.now place) result };
 
-    /// The values of the columns from a place on, whose frames are in front; with them come the place of the next
-    /// column, and the bytes from its frame on. Types are not tested.
+    /// The values of the columns from a place on, whose frames are in front, and the place of the next column; the bytes
+    /// then go on from its frame. Types are not tested. A refusal may have moved the bytes.
     fn read_frames<'r>(
         alloc: Global,
         columns: &[PgColumn<'_>],
         place: usize,
-        bytes: &'r [u8],
-    ) -> Result<(Self, usize, &'r [u8]), ColumnError<usize>>
-        ensures read { Gives (λ x. (view x.0, (x.1, x.2.now))) (in_front columns.now place
-            bytes.now) (or_codec result) }
-        ensures first { IfErr result (refused_in_front columns.now place bytes.now) }
-        ensures within { IfOk result (λ x. length x.2.now ≤ length bytes.now) };
+        bytes: &mut &'r [u8],
+    ) -> Result<(Self, usize), ColumnError<usize>>
+        ensures read { Gives (λ x. (view x.0, (x.1, bytes.new.now)))
+            (in_front columns.now place bytes.old.now) (or_codec result) }
+        ensures first { IfErr result (refused_in_front columns.now place bytes.old.now) }
+        ensures within { OnOk result (length bytes.new.now ≤ length bytes.old.now) };
 
     /// The same is read from the frames as from the row.
     ghost in_one_pass: { (place : ℕ) → InOnePass place (λ columns. fits columns place) (λ row. parse row place) (λ row. refused row place) (λ columns. in_front columns place) (λ columns. refused_in_front columns place) };
@@ -231,57 +231,57 @@ fn read_part<T: Type + Decode>(
     read_under_own_type(alloc, column, part)
 }
 
-/// That, and the rest.
+/// That again, as a result of its own: what is read at once then needs no room in memory.
 #[inline(always)]
-fn part_and_rest<'r, T: Type + Decode>(
+fn read_slowly<T: Type + Decode>(
     alloc: Global,
     column: &PgColumn<'_>,
     part: Option<&[u8]>,
-    rest: &'r [u8],
-) -> Result<(T, &'r [u8]), CodecError>
-    ensures read { Gives (λ x. (T.view x.0, x.1.now)) (with_rest rest.now (part_value T.parse
-        column.now (option_copied part.entry))) result }
-    ensures rest { IfOk result (λ x. x.1.now ≡ rest.now) }
+) -> Result<T, CodecError>
+    ensures { Gives T.view (part_value T.parse column.now (option_copied part.entry)) result }
 {
     match read_part(alloc, column, part) {
-        Ok(value) => Ok((value, rest)),
+        Ok(value) => Ok(value),
         Err(error) => Err(error),
     }
 }
 
-/// What `T` reads from the frame in front as a value of a column, and the rest.
+/// What `T` reads from the frame in front as a value of a column; the bytes then go on after it.
 #[inline(always)]
 #[tactic(auto, unfolding(crate::specs::OnePass::value_in_front))]
 fn front_value<'r, T: Type + Decode>(
     alloc: Global,
     column: &PgColumn<'_>,
-    bytes: &'r [u8],
-) -> Result<(T, &'r [u8]), CodecError>
-    ensures read { Gives (λ x. (T.view x.0, x.1.now)) (value_in_front T.parse column.now
-        bytes.now) result }
-    ensures within { IfOk result (λ x. length x.1.now ≤ length bytes.now) }
+    bytes: &mut &'r [u8],
+) -> Result<T, CodecError>
+    ensures read { Gives (λ v. (T.view v, bytes.new.now)) (value_in_front T.parse column.now
+        bytes.old.now) result }
+    ensures within { OnOk result (length bytes.new.now ≤ length bytes.old.now) }
 {
-    let (part, rest) = part_in_front(bytes)?;
+    let all: &'r [u8] = *bytes;
+    let (part, rest) = part_in_front(all)?;
+    *bytes = rest;
     if let Some(value) = part_at_once(column, part) {
-        return Ok((value, rest));
+        return Ok(value);
     }
-    part_and_rest(alloc, column, part, rest)
+    read_slowly(alloc, column, part)
 }
 
-/// What `T` reads from the frame in front as the value of the column at a place, the place after it, and the rest.
+/// What `T` reads from the frame in front as the value of the column at a place, and the place after it; the bytes then
+/// go on after the frame.
 #[inline(always)]
 #[tactic(auto, unfolding(crate::specs::OnePass::column_in_front))]
 fn front_column<'r, T: Type + Decode>(
     alloc: Global,
     columns: &[PgColumn<'_>],
     place: usize,
-    bytes: &'r [u8],
-) -> Result<(T, usize, &'r [u8]), ColumnError<usize>>
-    ensures read { Gives (λ x. (T.view x.0, (x.1, x.2.now))) (column_in_front T.parse columns.now
-        place bytes.now) (or_codec result) }
+    bytes: &mut &'r [u8],
+) -> Result<(T, usize), ColumnError<usize>>
+    ensures read { Gives (λ x. (T.view x.0, (x.1, bytes.new.now)))
+        (column_in_front T.parse columns.now place bytes.old.now) (or_codec result) }
     ensures first { IfErr result (IsRefusedInFront (column_in_front T.parse) columns.now place
-        bytes.now) }
-    ensures within { IfOk result (λ x. length x.2.now ≤ length bytes.now) }
+        bytes.old.now) }
+    ensures within { OnOk result (length bytes.new.now ≤ length bytes.old.now) }
 {
     let Some(column) = columns.get(place) else {
         return Err(ColumnError::NotFound {
@@ -290,7 +290,7 @@ fn front_column<'r, T: Type + Decode>(
         });
     };
     match front_value(alloc, column, bytes) {
-        Ok((value, rest)) => Ok((value, place + 1, rest)),
+        Ok(value) => Ok((value, place + 1)),
         Err(source) => Err(ColumnError::Decode {
             index: place,
             place,
@@ -334,10 +334,10 @@ impl<A: Type + Decode> ColumnList for (A,) {
         alloc: Global,
         columns: &[PgColumn<'_>],
         place: usize,
-        bytes: &'r [u8],
-    ) -> Result<((A,), usize, &'r [u8]), ColumnError<usize>> {
+        bytes: &mut &'r [u8],
+    ) -> Result<((A,), usize), ColumnError<usize>> {
         match front_column(alloc, columns, place, bytes) {
-            Ok((value, next, rest)) => Ok(((value,), next, rest)),
+            Ok((value, next)) => Ok(((value,), next)),
             Err(error) => Err(error),
         }
     }
@@ -386,11 +386,11 @@ impl<A: Type + Decode, Rest: ColumnList> ColumnList for (A, Rest) {
         alloc: Global,
         columns: &[PgColumn<'_>],
         place: usize,
-        bytes: &'r [u8],
-    ) -> Result<((A, Rest), usize, &'r [u8]), ColumnError<usize>> {
+        bytes: &mut &'r [u8],
+    ) -> Result<((A, Rest), usize), ColumnError<usize>> {
         match front_column(alloc, columns, place, bytes) {
-            Ok((first, next, after)) => match Rest::read_frames(alloc, columns, next, after) {
-                Ok((rest, next, after)) => Ok(((first, rest), next, after)),
+            Ok((first, next)) => match Rest::read_frames(alloc, columns, next, bytes) {
+                Ok((rest, next)) => Ok(((first, rest), next)),
                 Err(error) => Err(error),
             },
             Err(error) => Err(error),
@@ -444,10 +444,10 @@ impl<T: ColumnTuple> FromRow for T {
     fn read_frames<'r>(
         alloc: Global,
         columns: &[PgColumn<'_>],
-        bytes: &'r [u8],
-    ) -> Result<(T, usize, &'r [u8]), ColumnError<usize>> {
+        bytes: &mut &'r [u8],
+    ) -> Result<(T, usize), ColumnError<usize>> {
         match T::List::read_frames(alloc, columns, 0, bytes) {
-            Ok((list, next, rest)) => Ok((T::of_list(list), next, rest)),
+            Ok((list, next)) => Ok((T::of_list(list), next)),
             Err(error) => Err(error),
         }
     }
