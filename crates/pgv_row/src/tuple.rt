@@ -50,8 +50,8 @@ pub trait FromRow: Sized + Drop {
     fn check_columns(columns: &[PgColumn<'_>]) -> Result<(), ColumnError<usize>>
         ensures { Fits (fits columns.now) result };
 
-    /// The values of the first columns, whose frames are in front, and the place of the next column; the bytes then go on
-    /// from its frame. Types are not tested. A refusal may have moved the bytes.
+    /// The values of the first columns, whose frames are in front, and the place of the next column; the bytes then go
+    /// on from its frame. Types are not tested. A refusal may have moved the bytes.
     fn read_frames<'r>(
         alloc: Global,
         columns: &[PgColumn<'_>],
@@ -99,8 +99,8 @@ pub trait ColumnList: Sized + Drop {
     fn check_columns(columns: &[PgColumn<'_>], place: usize) -> Result<(), ColumnError<usize>>
         ensures { Fits (fits columns.now place) result };
 
-    /// The values of the columns from a place on, whose frames are in front, and the place of the next column; the bytes
-    /// then go on from its frame. Types are not tested. A refusal may have moved the bytes.
+    /// The values of the columns from a place on, whose frames are in front, and the place of the next column; the
+    /// bytes then go on from its frame. Types are not tested. A refusal may have moved the bytes.
     fn read_frames<'r>(
         alloc: Global,
         columns: &[PgColumn<'_>],
