@@ -21,6 +21,7 @@ use pgv_examples::mood::Mood;
 use pgv_examples::page::Page;
 use pgv_examples::row::{column, keep, read_person};
 use pgv_examples::shipment::Shipment;
+use pgv_examples::statement::columns_of;
 use pgv_examples::user_id::UserId;
 use std::alloc::{AllocError, Global};
 use std::test::Fail;
