@@ -126,17 +126,6 @@ pub in_front_of : {V M : Type 0} (r : Option V) (view : V → M) (parse : Given 
 in_front_of None view parse width bytes part front is = tt
 in_front_of (Some v) view parse width bytes part front is = (part, front, is)
 
--- a frame of this width stands in front
-pub fixed_front : (bytes : List ℕ) (width : ℕ) → width ≤ 16 → 4 + width ≤ length bytes → front_length bytes ≡ width → (t : Ty) →
-    value_front t Binary bytes ≡ Ok (given t Binary (Some (take width (drop 4 bytes))), drop (4 + width) bytes)
-unfolding front
-fixed_front bytes width narrow there is t =
-    let long : nat_lt (length bytes) 4 ≡ false = le-ltb _ _ (omega (arith, there)) in
-    let some : nat_eq width 4294967295 ≡ false = ne_eqb width 4294967295 (λ e. omega (arith, narrow, e)) in
-    let positive : nat_lt 2147483647 width ≡ false = le-ltb _ _ (omega (arith, narrow)) in
-    let enough : nat_lt (length (drop 4 bytes)) width ≡ false = le-ltb _ _ (omega (arith, there, length-drop 4 bytes)) in
-    rw (long, is, some, positive, enough) (ap (λ (rest : List ℕ). Ok (given t Binary (Some (take width (drop 4 bytes))), rest)) (drop-drop width 4 bytes))
-
 -- the room that the bytes have for elements of any width is enough for those of this one
 pub room_for : (place count long width room : ℕ) → place < min count (long / (4 + width)) → min count (long / 4) ≤ room → place < room
 room_for place count long width room lt le =

@@ -14,7 +14,7 @@ use crate::column::PgColumn;
 use crate::error::ColumnError;
 use crate::row::PgRow;
 use pgv_codec::{Decode, Type};
-use pgv_value::{CodecError, PgValueFormat, PgValueRef, part_in_front};
+use pgv_value::{CodecError, PgValueFormat, PgValueRef, part_in_front, part_of_length};
 use std::alloc::Global;
 
 /// A value that is read from a row. Tuples are: of n fields the first n columns are read, and further ones are ignored.
@@ -169,15 +169,21 @@ fn check_column<T: Type>(
     Ok(place + 1)
 }
 
-/// The value of a part in binary, if it is read at once, whatever its type is.
+/// The value of a frame in front in binary, if it is read at once, whatever its type is, and the rest.
 #[inline(always)]
-#[tactic(auto, unfolding(crate::specs::OnePass::part_value))]
-fn part_at_once<T: Decode>(column: &PgColumn<'_>, part: Option<&[u8]>) -> Option<T>
-    ensures { IfSome result (λ v. (part_value T.parse column.now (option_copied part.entry)).answer
-        ≡ Ok (T.view v)) }
+#[tactic(auto, unfolding(crate::specs::OnePass::part_value, crate::specs::OnePass::value_in_front))]
+fn value_at_once<'r, T: Decode>(column: &PgColumn<'_>, bytes: &'r [u8]) -> Option<(T, &'r [u8])>
+    ensures read { IfSome result (λ x. (value_in_front T.parse column.now bytes.now).answer
+        ≡ Ok (T.view x.0, x.1.now)) }
+    ensures within { IfSome result (λ x. length x.1.now ≤ length bytes.now) }
 {
+    let width = T::width_at_once();
+    if width == 0 || bytes.len() < 4 + width {
+        return None;
+    }
+    let (part, rest) = part_of_length(bytes, width)?;
     match column.format() {
-        PgValueFormat::Binary => T::decode_at_once(part?),
+        PgValueFormat::Binary => Some((T::decode_at_once(part)?, rest)),
         PgValueFormat::Text => None,
     }
 }
@@ -215,7 +221,7 @@ fn read_under_own_type<T: Type + Decode>(
     decode_part(alloc, column, part)
 }
 
-/// What `T` reads from a part, or from null, that isn't read at once, under its column's type and in its format.
+/// What `T` reads from a part, or from null, under its column's type and in its format.
 #[inline(always)]
 #[tactic(auto, unfolding(crate::specs::OnePass::part_value))]
 fn read_part<T: Type + Decode>(
@@ -231,21 +237,6 @@ fn read_part<T: Type + Decode>(
     read_under_own_type(alloc, column, part)
 }
 
-/// That again, as a result of its own: what is read at once then needs no room in memory.
-#[inline(always)]
-fn read_slowly<T: Type + Decode>(
-    alloc: Global,
-    column: &PgColumn<'_>,
-    part: Option<&[u8]>,
-) -> Result<T, CodecError>
-    ensures { Gives T.view (part_value T.parse column.now (option_copied part.entry)) result }
-{
-    match read_part(alloc, column, part) {
-        Ok(value) => Ok(value),
-        Err(error) => Err(error),
-    }
-}
-
 /// What `T` reads from the frame in front as a value of a column; the bytes then go on after it.
 #[inline(always)]
 #[tactic(auto, unfolding(crate::specs::OnePass::value_in_front))]
@@ -259,12 +250,16 @@ fn front_value<'r, T: Type + Decode>(
     ensures within { OnOk result (length bytes.new.now ≤ length bytes.old.now) }
 {
     let all: &'r [u8] = *bytes;
-    let (part, rest) = part_in_front(all)?;
-    *bytes = rest;
-    if let Some(value) = part_at_once(column, part) {
+    if let Some((value, rest)) = value_at_once(column, all) {
+        *bytes = rest;
         return Ok(value);
     }
-    read_slowly(alloc, column, part)
+    let (part, rest) = part_in_front(all)?;
+    *bytes = rest;
+    match read_part(alloc, column, part) {
+        Ok(value) => Ok(value),
+        Err(error) => Err(error),
+    }
 }
 
 /// What `T` reads from the frame in front as the value of the column at a place, and the place after it; the bytes then

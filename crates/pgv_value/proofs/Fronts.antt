@@ -1,5 +1,5 @@
 -- What is in front of bytes is a frame, and every frame is found there.
-use Rattle.std.proofs.Common.{◌≡◌, ℕ, ◌<◌, ◌≤◌, ◌^◌, Bool, true, false, cond, nat_lt, nat_eq, List, [], ◌∷◌, ◌++◌, length, take, drop, Option, Some, None, refl, sym, ap, ◌∙◌, subst, arith}
+use Rattle.std.proofs.Common.{◌≡◌, ℕ, ◌+◌, ◌<◌, ◌≤◌, ◌^◌, Bool, true, false, cond, nat_lt, nat_eq, List, [], ◌∷◌, ◌++◌, length, take, drop, Option, Some, None, refl, sym, ap, ◌∙◌, subst, arith}
 use Rattle.std.specs.Prelude.{◌↔◌}
 use Rattle.std.specs.Int.{w32, to_be_bytes, from_be_bytes}
 use Rattle.std.proofs.lemmas.Nat.{be_bytes_4, from_be_bytes-to_be_bytes_4}
@@ -35,6 +35,16 @@ front_of_part part rest n len lt =
 pub frame_in_front : (bytes : List ℕ) (part : Part) (rest : List ℕ) → IsFrame bytes part rest → front bytes ≡ Some (part, rest)
 frame_in_front bytes None rest h = subst (λ (xs : List ℕ). front xs ≡ Some (None, rest)) (sym h) (front_of_null rest)
 frame_in_front bytes (Some part) rest h = subst (λ (xs : List ℕ). front xs ≡ Some (Some part, rest)) (sym h.1) (front_of_part part rest (length part) refl h.0)
+
+-- where the length in front is a short one that is known
+pub front_of_size : (bytes : List ℕ) (size : ℕ) → size ≤ 16 → 4 + size ≤ length bytes → front_length bytes ≡ size → front bytes ≡ Some (Some (take size (drop 4 bytes)), drop size (drop 4 bytes))
+unfolding front
+front_of_size bytes size short there is =
+    let long : nat_lt (length bytes) 4 ≡ false = le-ltb _ _ (omega (arith, there)) in
+    let some : nat_eq size 4294967295 ≡ false = ne_eqb size 4294967295 (λ e. omega (arith, short, e)) in
+    let positive : nat_lt 2147483647 size ≡ false = le-ltb _ _ (omega (arith, short)) in
+    let enough : nat_lt (length (drop 4 bytes)) size ≡ false = le-ltb _ _ (omega (arith, there, length-drop 4 bytes)) in
+    rw (long, is, some, positive, enough) refl
 
 -- ---- what is found in front is a frame
 

@@ -1,8 +1,8 @@
 //! Frames: a length and that many bytes, or null.
 
-ghost use Rattle.std.specs.Prelude.{◌<◌, length, IfOk};
+ghost use Rattle.std.specs.Prelude.{◌≡◌, ◌+◌, ◌<◌, ◌≤◌, drop, length, IfOk, IfSome, Some};
 ghost use Rattle.std.specs.Option.{option_copied};
-ghost use Rattle.pgv_value.specs.FrameBinary.{front, frame_fault};
+ghost use Rattle.pgv_value.specs.FrameBinary.{front, frame_fault, front_length};
 ghost use Rattle.pgv_value.specs.Parsed.{GivesOr};
 
 use crate::error::CodecError;
@@ -25,8 +25,8 @@ pub fn part_in_front(bytes: &[u8]) -> Result<(Option<&[u8]>, &[u8]), CodecError>
     if bytes.len() < 4 {
         return Err(CodecError::Short);
     }
-    let (head, rest) = bytes.split_at(4);
-    let length = u32::from_be_bytes([head[0], head[1], head[2], head[3]]);
+    let length = length_in_front(bytes);
+    let (_length, rest) = bytes.split_at(4);
     if length == NULL_LENGTH {
         return Ok((None, rest));
     }
@@ -39,4 +39,29 @@ pub fn part_in_front(bytes: &[u8]) -> Result<(Option<&[u8]>, &[u8]), CodecError>
     }
     let (part, rest) = rest.split_at(length);
     Ok((Some(part), rest))
+}
+
+/// The part of the frame in front, if it has this length, and the rest: of `0000000161ff` and 1 it is `61`, and the
+/// rest is `ff`. A value whose length is known, as a number's, is found by one comparison so.
+#[inline(always)]
+pub fn part_of_length(bytes: &[u8], size: usize) -> Option<(&[u8], &[u8])>
+    requires short { size ≤ 16 }
+    requires there { 4 + size ≤ length bytes.now }
+    ensures front { IfSome result (λ p. front bytes.now ≡ Some (Some p.0.now, p.1.now)) }
+    ensures rest { IfSome result (λ p. p.1.now ≡ drop (4 + size) bytes.now) }
+{
+    if length_in_front(bytes) as usize != size {
+        return None;
+    }
+    let (_length, rest) = bytes.split_at(4);
+    Some(rest.split_at(size))
+}
+
+/// The length in front, as it is written.
+#[inline(always)]
+fn length_in_front(bytes: &[u8]) -> u32
+    requires { 4 ≤ length bytes.now }
+    ensures { result ≡ front_length bytes.now }
+{
+    u32::from_be_bytes([bytes[0], bytes[1], bytes[2], bytes[3]])
 }

@@ -3,7 +3,6 @@
 ghost use Rattle.std.specs.Prelude.{◌≡◌, IfOk, IfErr, OnOk, OnErr, ◌+◌, ◌*◌, ◌≤◌, false, true, length, map, drop, Ok, Some, [], IfSome, is_some, List, refl};
 ghost use Rattle.std.specs.Vec.{with_items};
 ghost use Rattle.pgv_text.specs.Values.{array_values};
-ghost use Rattle.pgv_value.specs.FrameBinary.{front_length};
 ghost use Rattle.pgv_value.specs.Outcome.{Gives, after};
 ghost use Rattle.pgv_value.specs.Reading.{has_items};
 ghost use Rattle.pgv_value.specs.declared.error.CodecError.TheVariants.{Memory};
@@ -22,7 +21,7 @@ use crate::nest::array_head_of;
 use crate::traits::{Codec, Decode, Encode, PgHasArrayType, ReadBack, Type};
 use pgv_text::{Elements, Next, Parts, TextForm};
 use pgv_types::PgTypeInfo;
-use pgv_value::{CodecError, PgValueFormat, PgValueRef};
+use pgv_value::{CodecError, PgValueFormat, PgValueRef, part_of_length};
 use std::alloc::{AllocError, Global};
 
 /// Appends the elements as an array of one dimension, for a caller's own encoder. More than 2147483647 are refused with
@@ -368,21 +367,8 @@ fn in_front<T: Decode>(bytes: &[u8], width: usize) -> Option<T>
     requires there { 4 + width ≤ length bytes.now }
     ensures { IfSome result (λ v. IsInFront T.parse width bytes.now (T.view v)) }
 {
-    if length_in_front(bytes) != width {
-        return None;
-    }
-    let (_length, rest) = bytes.split_at(4);
-    let (part, _rest) = rest.split_at(width);
+    let (part, _rest) = part_of_length(bytes, width)?;
     T::decode_at_once(part)
-}
-
-/// The length in front.
-#[inline(always)]
-fn length_in_front(bytes: &[u8]) -> usize
-    requires { 4 ≤ length bytes.now }
-    ensures { result ≡ front_length bytes.now }
-{
-    u32::from_be_bytes([bytes[0], bytes[1], bytes[2], bytes[3]]) as usize
 }
 
 /// An array in text. An invalid text (C29) comes before the refusal of a part, or out of memory. A text without
