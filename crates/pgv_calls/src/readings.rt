@@ -2,138 +2,47 @@
 //! text in hex, `null`, or `null text`. ANSWER is the value as `Debug` shows it, or what it is written as where its
 //! Rust type has no `Debug`, or the number of the refusal.
 
-use jiff::Timestamp;
-use jiff::civil::{Date, DateTime};
-use pgv::types::{
-    BitVec, MacAddress, PgByteaArray, PgHstore, PgLTree, PgNumeric, PgRange, PgTimeTz,
-};
-use pgv::{
-    Oid, PgComposite, PgDomain, PgEnum, PgNewtype, PgRecord, PgTypeInfo, PgValueFormat, PgValueRef,
-};
-use pgv_examples::email::Email;
-use pgv_examples::mood::Mood;
-use pgv_examples::page::Page;
-use pgv_examples::percent::Percent;
-use pgv_examples::user_id::UserId;
-use pgv_fixtures::{
-    Again, Called, EmptyObject, SizeRange, bytes_of, read_again as again, read_shown as debug,
-    type_of,
-};
+use pgv::{Decode, Encode, PgTypeInfo, PgValueFormat, PgValueRef, Type};
+use pgv_fixtures::{Again, AtType, Called, at_type, bytes_of, read_again, read_shown, type_of};
 use std::alloc::Global;
-use std::net::IpAddr;
-use uuid::Uuid;
+use std::fmt::Debug;
 
-/// What is read from a value at the Rust type of this name.
-fn shown(alloc: Global, name: &str, value: PgValueRef<'_>) -> Result<String, Again> {
-    if name.starts_with("Vec") {
-        return lists(alloc, name, value);
-    }
-    if name.starts_with('(') {
-        return records(alloc, name, value);
-    }
-    if name.starts_with("PgRange") {
-        return ranges(alloc, name, value);
-    }
-    scalars(alloc, name, value)
-}
+/// What is read, in words.
+struct InWords;
 
-fn scalars(alloc: Global, name: &str, value: PgValueRef<'_>) -> Result<String, Again> {
-    match name {
-        "bool" => debug::<bool>(alloc, value),
-        "i8" => debug::<i8>(alloc, value),
-        "i16" => debug::<i16>(alloc, value),
-        "i32" => debug::<i32>(alloc, value),
-        "i64" => debug::<i64>(alloc, value),
-        "Oid" => debug::<Oid>(alloc, value),
-        "String" => debug::<String>(alloc, value),
-        "Uuid" => again::<Uuid>(alloc, value),
-        "IpAddr" => again::<IpAddr>(alloc, value),
-        "PgTimeTz" => again::<PgTimeTz>(alloc, value),
-        "MacAddress" => again::<MacAddress>(alloc, value),
-        "PgByteaArray<2>" => again::<PgByteaArray<2>>(alloc, value),
-        "BitVec" => again::<BitVec>(alloc, value),
-        "PgHstore" => again::<PgHstore>(alloc, value),
-        "PgNumeric" => again::<PgNumeric>(alloc, value),
-        "Option<i32>" => debug::<Option<i32>>(alloc, value),
-        "Option<Option<i32>>" => debug::<Option<Option<i32>>>(alloc, value),
-        "[i32; 2]" => debug::<[i32; 2]>(alloc, value),
-        "[i32; 3]" => debug::<[i32; 3]>(alloc, value),
-        _ => own(alloc, name, value),
-    }
-}
+impl AtType for InWords {
+    type Answer = Result<String, Again>;
 
-/// Types of a caller's own.
-fn own(alloc: Global, name: &str, value: PgValueRef<'_>) -> Result<String, Again> {
-    match name {
-        "EmptyObject" => again::<EmptyObject>(alloc, value),
-        "Email" => again::<PgDomain<Email>>(alloc, value),
-        "Mood" => again::<PgEnum<Mood>>(alloc, value),
-        "Page" => again::<PgComposite<Page>>(alloc, value),
-        "Percent" => again::<Percent>(alloc, value),
-        "UserId" => again::<PgNewtype<UserId>>(alloc, value),
-        _ => Ok(String::from_str(alloc, "no type of this name")?),
+    fn shown<T: Decode + Encode + Type + Debug>(
+        &self,
+        alloc: Global,
+        value: PgValueRef<'_>,
+    ) -> Result<String, Again> {
+        read_shown::<T>(alloc, value)
     }
-}
 
-fn lists(alloc: Global, name: &str, value: PgValueRef<'_>) -> Result<String, Again> {
-    match name {
-        "Vec<i32>" => debug::<Vec<i32>>(alloc, value),
-        "Vec<Option<i32>>" => debug::<Vec<Option<i32>>>(alloc, value),
-        "Vec<String>" => debug::<Vec<String>>(alloc, value),
-        "Vec<Option<String>>" => debug::<Vec<Option<String>>>(alloc, value),
-        "Vec<(i32,)>" => debug::<Vec<(i32,)>>(alloc, value),
-        "Vec<(i32, String)>" => debug::<Vec<(i32, String)>>(alloc, value),
-        "Vec<[Option<String>; 64]>" => debug::<Vec<[Option<String>; 64]>>(alloc, value),
-        "Vec<Option<PgRange<i32>>>" => again::<Vec<Option<PgRange<i32>>>>(alloc, value),
-        "Vec<BitVec>" => again::<Vec<BitVec>>(alloc, value),
-        "Vec<Mood>" => debug::<Vec<PgEnum<Mood>>>(alloc, value),
-        "Vec<PgLTree>" => again::<Vec<PgLTree>>(alloc, value),
-        "Vec<Page>" => again::<Vec<PgComposite<Page>>>(alloc, value),
-        "Vec<SizeRange>" => again::<Vec<SizeRange>>(alloc, value),
-        _ => Ok(String::from_str(alloc, "no list of this name")?),
+    fn whole<T: Decode + Encode + Type>(
+        &self,
+        alloc: Global,
+        value: PgValueRef<'_>,
+    ) -> Result<String, Again> {
+        read_again::<T>(alloc, value)
     }
-}
 
-fn ranges(alloc: Global, name: &str, value: PgValueRef<'_>) -> Result<String, Again> {
-    match name {
-        "PgRange<i32>" => again::<PgRange<i32>>(alloc, value),
-        "PgRange<Option<i32>>" => again::<PgRange<Option<i32>>>(alloc, value),
-        "PgRange<String>" => again::<PgRange<String>>(alloc, value),
-        "PgRange<DateTime>" => again::<PgRange<DateTime>>(alloc, value),
-        "PgRange<Timestamp>" => again::<PgRange<Timestamp>>(alloc, value),
-        _ => Ok(String::from_str(alloc, "no range of this name")?),
+    fn part<T: Decode + Encode>(
+        &self,
+        alloc: Global,
+        value: PgValueRef<'_>,
+    ) -> Result<String, Again> {
+        read_again::<T>(alloc, value)
     }
-}
 
-fn records(alloc: Global, name: &str, value: PgValueRef<'_>) -> Result<String, Again> {
-    match name {
-        "()" => debug::<()>(alloc, value),
-        "(i32,)" => debug::<(i32,)>(alloc, value),
-        "(String,)" => debug::<(String,)>(alloc, value),
-        "(Option<i32>,)" => debug::<(Option<i32>,)>(alloc, value),
-        "(i32, i32)" => debug::<(i32, i32)>(alloc, value),
-        "(i32, Option<i32>)" => debug::<(i32, Option<i32>)>(alloc, value),
-        "(i32, String)" => debug::<(i32, String)>(alloc, value),
-        "(i64, String)" => debug::<(i64, String)>(alloc, value),
-        "(Vec<PgRange<Date>>, PgLTree)" => {
-            again::<PgRecord<(Vec<PgRange<Date>>, (PgLTree,))>>(alloc, value)
-        }
-        "(i32, String, i32)" => debug::<(i32, String, i32)>(alloc, value),
-        _ => numbers(alloc, name, value),
-    }
-}
-
-/// Tuples of as many numbers as the name says.
-fn numbers(alloc: Global, name: &str, value: PgValueRef<'_>) -> Result<String, Again> {
-    match name {
-        "(i32 3)" => debug::<(i32, i32, i32)>(alloc, value),
-        "(i32 4)" => debug::<(i32, i32, i32, i32)>(alloc, value),
-        "(i32 5)" => debug::<(i32, i32, i32, i32, i32)>(alloc, value),
-        "(i32 6)" => debug::<(i32, i32, i32, i32, i32, i32)>(alloc, value),
-        "(i32 7)" => debug::<(i32, i32, i32, i32, i32, i32, i32)>(alloc, value),
-        "(i32 8)" => debug::<(i32, i32, i32, i32, i32, i32, i32, i32)>(alloc, value),
-        "(i32 9)" => debug::<(i32, i32, i32, i32, i32, i32, i32, i32, i32)>(alloc, value),
-        _ => Ok(String::from_str(alloc, "no tuple of this name")?),
+    fn read<T: Decode + Debug>(
+        &self,
+        alloc: Global,
+        value: PgValueRef<'_>,
+    ) -> Result<String, Again> {
+        read_shown::<T>(alloc, value)
     }
 }
 
@@ -145,7 +54,11 @@ fn shown_of(
     bytes: Option<&[u8]>,
     format: PgValueFormat,
 ) -> Result<String, Again> {
-    shown(alloc, name, PgValueRef::new(bytes, type_info, format))
+    let value = PgValueRef::new(bytes, type_info, format);
+    match at_type(&InWords, alloc, name, value) {
+        Some(answer) => answer,
+        None => Ok(String::from_str(alloc, "no type of this name")?),
+    }
 }
 
 /// What is read from a part of a row.

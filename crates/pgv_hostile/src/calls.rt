@@ -2,11 +2,39 @@
 
 use crate::fault::Fault;
 use crate::mutants::{fronts, mutants};
-use crate::rust_types::outcome;
-use crate::tally::Tally;
-use pgv::{PgTypeInfo, PgValueFormat, PgValueRef};
-use pgv_fixtures::type_of;
+use crate::tally::{Outcome, Tally};
+use crate::trial::{read_again, read_framed, read_only};
+use pgv::{Decode, Encode, PgTypeInfo, PgValueFormat, PgValueRef, Type};
+use pgv_fixtures::{AtType, at_type, type_of};
 use std::alloc::Global;
+use std::fmt::Debug;
+
+/// What comes of values of this type. Lists of tuples, lists of arrays, tuples and `()` are only read.
+struct Tried<'a>(&'a PgTypeInfo);
+
+impl<'a> AtType for Tried<'a> {
+    type Answer = Outcome;
+
+    fn shown<T: Decode + Encode + Type + Debug>(
+        &self,
+        alloc: Global,
+        value: PgValueRef<'_>,
+    ) -> Outcome {
+        read_again::<T>(alloc, value, self.0)
+    }
+
+    fn whole<T: Decode + Encode + Type>(&self, alloc: Global, value: PgValueRef<'_>) -> Outcome {
+        read_again::<T>(alloc, value, self.0)
+    }
+
+    fn part<T: Decode + Encode>(&self, alloc: Global, value: PgValueRef<'_>) -> Outcome {
+        read_framed::<T>(alloc, value, self.0)
+    }
+
+    fn read<T: Decode + Debug>(&self, alloc: Global, value: PgValueRef<'_>) -> Outcome {
+        read_only::<T>(alloc, value)
+    }
+}
 
 /// Counts what comes of each of these bytes at the Rust type of the name, under the type of the name.
 fn count(
@@ -20,7 +48,7 @@ fn count(
     let info = type_of(alloc, type_name)?;
     for bytes in mutants {
         let value = PgValueRef::new(Some(bytes.as_slice()), info.clone()?, format);
-        tally.count(outcome(alloc, name, value, &info).ok_or(Fault::Row)?);
+        tally.count(at_type(&Tried(&info), alloc, name, value).ok_or(Fault::Row)?);
     }
     Ok(())
 }

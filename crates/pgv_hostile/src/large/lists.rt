@@ -1,6 +1,6 @@
 //! Lists of numbers.
 
-use crate::back::{comes_back, read_text, repeated};
+use super::back::{comes_back, read_text, repeated};
 use pgv::CodecError;
 use std::alloc::Global;
 

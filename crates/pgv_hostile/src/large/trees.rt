@@ -1,6 +1,6 @@
 //! Numbers of many digits, trees, queries and maps.
 
-use crate::back::{comes_back, read_text, repeated};
+use super::back::{comes_back, read_text, repeated};
 use pgv::CodecError;
 use pgv::types::{PgHstore, PgLQuery, PgLTree, PgNumeric, PgNumericSign};
 use std::alloc::{AllocError, Global};

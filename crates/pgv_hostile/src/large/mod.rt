@@ -1,6 +1,4 @@
-//! `pgv_large`: makes calls at sizes past every bound at which a body could give up. There is enough memory, so each
-//! has to succeed: it prints a line for each, `WHAT: ok`, and else what came of it.
-#![tactic(auto)]
+//! Calls at sizes past every bound at which a body could give up. There is enough memory, so each has to succeed.
 
 mod arguments;
 mod back;
@@ -13,7 +11,6 @@ mod trees;
 use pgv::CodecError;
 use std::alloc::Global;
 use std::io;
-use std::process::ExitCode;
 
 /// How many calls there are.
 const CALLS: u32 = 20;
@@ -60,19 +57,12 @@ fn word(made: &Result<bool, CodecError>) -> &'static str {
     }
 }
 
-/// Prints what came of each call.
-fn printed(rt: &(impl AllocGlobal + Print)) -> io::Result<()> {
+/// Prints what came of each call: a line `WHAT: ok`, and else what it was.
+pub fn print(rt: &(impl AllocGlobal + Print)) -> io::Result<()> {
     for place in 0..CALLS {
         let (what, made) = flat(rt.alloc(), place);
         let word = word(&made);
         println!(rt; "{what}: {word}")?;
     }
     Ok(())
-}
-
-fn main(rt: HostRuntime) -> ExitCode {
-    match printed(&rt) {
-        Ok(()) => ExitCode::SUCCESS,
-        Err(_) => ExitCode::FAILURE,
-    }
 }

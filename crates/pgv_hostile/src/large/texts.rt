@@ -1,6 +1,6 @@
 //! Texts, bytes, bits and lines of 4 MB (4,194,304 bytes), and a long name.
 
-use crate::back::{comes_back, read_text, repeated};
+use super::back::{comes_back, read_text, repeated};
 use pgv::types::{BitVec, PgBytea};
 use pgv::{CodecError, Oid, PgTypeInfo, PgTypeKind};
 use pgv_runner::run;
