@@ -8,6 +8,7 @@ use std::alloc::Global;
 use std::fmt::Debug;
 
 /// What is read, in words.
+#[derive(Drop)]
 struct InWords;
 
 impl AtType for InWords {

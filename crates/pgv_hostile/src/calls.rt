@@ -10,6 +10,7 @@ use std::alloc::Global;
 use std::fmt::Debug;
 
 /// What comes of values of this type. Lists of tuples, lists of arrays, tuples and `()` are only read.
+#[derive(Drop)]
 struct Tried<'a>(&'a PgTypeInfo);
 
 impl<'a> AtType for Tried<'a> {

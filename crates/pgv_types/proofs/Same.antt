@@ -5,7 +5,10 @@ use Rattle.std.specs.Str.{chars, bytes_eq, IsUtf8}
 use Rattle.std.proofs.lemmas.Str.{chars-append}
 use Rattle.std.proofs.lemmas.List.{append_cancel_right}
 use Rattle.std.proofs.lemmas.Slice.Eq.{bytes_eq-Decides}
+use Rattle.std.proofs.lemmas.Bool.{eqb-true}
 use Rattle.std.proofs.lemmas.Bool.Decides.{same_from_decides, Decides-like}
+use Rattle.pgv_types.specs.Facts.{same_built_in}
+use Rattle.pgv_types.specs.Ty.{Ty, builtin, custom, named, by_oid, array_of}
 use Rattle.pgv_types.specs.Suffix.{suffix_of}
 use Rattle.pgv_types.specs.Agree.{BeginsUnicode}
 use Rattle.pgv_types.proofs.Tells.{first_of, second_of}
@@ -55,3 +58,17 @@ pub same_after : (a b s : List ℕ) → bytes_eq a b ≡ bytes_eq (a ++ s) (b ++
 same_after a b s =
     same_from_decides (bytes_eq a b) (bytes_eq (a ++ s) (b ++ s)) (bytes_eq-Decides a b)
     (Decides-like (bytes_eq (a ++ s) (b ++ s)) (λ (q : a ++ s ≡ b ++ s). append_cancel_right a b s q) (λ (q : a ≡ b). ap (λ l. l ++ s) q) (bytes_eq-Decides (a ++ s) (b ++ s)))
+
+-- ---- one OID
+
+-- two types with one built-in OID are one
+pub one_type : (t u : Ty) → same_built_in t u ≡ true → t ≡ u
+one_type (builtin o) (builtin p) e = ap builtin (eqb-true o p e)
+one_type (builtin o) (custom p n k) e = absurd cc
+one_type (builtin o) (named n) e = absurd cc
+one_type (builtin o) (by_oid p) e = absurd cc
+one_type (builtin o) (array_of n) e = absurd cc
+one_type (custom o n k) u e = absurd cc
+one_type (named n) u e = absurd cc
+one_type (by_oid o) u e = absurd cc
+one_type (array_of n) u e = absurd cc

@@ -1,7 +1,7 @@
 //! Types as callers hold them.
 ghost use Rattle.std.specs.Prelude.{◌≡◌, None, false, true, option_map, IfOk, IfSome};
 ghost use Rattle.pgv_types.specs.Whole.{whole};
-ghost use Rattle.pgv_types.specs.Facts.{is_custom, is_void, IsNotCustom, domain_base, under_domains, oid_of, same_built_in, element_of, element_built_in, name_element, kind_at, kind_when_built_in, name_of, has_brackets, display_of, shows_brackets, is_a_type, built_in};
+ghost use Rattle.pgv_types.specs.Facts.{is_custom, is_void, IsNotCustom, domain_base, under_domains, oid_of, same_built_in, same_oid, element_of, element_built_in, name_element, kind_at, kind_when_built_in, name_of, has_brackets, display_of, shows_brackets, is_a_type, built_in};
 ghost use Rattle.pgv_types.specs.Relations.{is_by_oid};
 ghost use Rattle.pgv_types.specs.Ty.{named, array_of, by_oid, custom};
 ghost use Rattle.pgv_types.specs.Shown.{kind_of, type_of};
@@ -270,6 +270,17 @@ impl PgType {
     }
 }
 
+/// Whether both OIDs are there and are one.
+#[inline(always)]
+fn are_one(oid: Option<Oid>, other: Option<Oid>) -> bool
+    ensures { result ≡ same_oid (option_map (λ o. o.0) oid) (option_map (λ o. o.0) other) }
+{
+    match (oid, other) {
+        (Some(oid), Some(other)) => oid == other,
+        _ => false,
+    }
+}
+
 /// What comes after the `_` of a declared name.
 fn element_name(name: &'static str) -> Option<&'static str>
     ensures { option_map (λ n. n.now) result ≡ name_element name.now }
@@ -470,10 +481,7 @@ impl PgTypeInfo {
         ensures exact { result ≡ same_built_in self.now other.now }
         ensures same { result ≡ true → self.now ≡ other.now }
     {
-        match (self.0.built_in_oid(), other.0.built_in_oid()) {
-            (Some(oid), Some(same)) => oid == same,
-            _ => false,
-        }
+        are_one(self.0.built_in_oid(), other.0.built_in_oid())
     }
 
     /// The kind. `None` for a type that is only declared.
