@@ -13,22 +13,22 @@ pub enum Outcome {
     Differs,
 }
 
-/// How often each came.
-#[derive(Clone, Copy)]
+/// How often each came: refusals by their numbers.
+#[derive(Drop)]
 pub struct Tally {
     read: u64,
     differs: u64,
-    refused: [u64; 39],
+    refused: Vec<u64>,
 }
 
 impl Tally {
     /// Nothing yet.
-    pub fn new() -> Tally {
-        Tally {
+    pub fn new(alloc: Global) -> Result<Tally, AllocError> {
+        Ok(Tally {
             read: 0,
             differs: 0,
-            refused: [0; 39],
-        }
+            refused: [0; 39].to_vec(alloc)?,
+        })
     }
 
     /// One mutant more.
