@@ -1,6 +1,6 @@
 //! Frames: a length and that many bytes, or null.
 
-ghost use Rattle.std.specs.Prelude.{◌≡◌, ◌+◌, ◌<◌, ◌≤◌, drop, length, IfOk, IfSome, Some};
+ghost use Rattle.std.specs.Prelude.{◌≡◌, ◌+◌, ◌<◌, ◌≤◌, drop, length, nat_eq, is_some, IfOk, IfSome, Some};
 ghost use Rattle.std.specs.Option.{option_copied};
 ghost use Rattle.pgv_value.specs.FrameBinary.{front, frame_fault, front_length};
 ghost use Rattle.pgv_value.specs.Parsed.{GivesOr};
@@ -41,12 +41,13 @@ pub fn part_in_front(bytes: &[u8]) -> Result<(Option<&[u8]>, &[u8]), CodecError>
     Ok((Some(part), rest))
 }
 
-/// The part of the frame in front, if it has this length, and the rest: of `0000000161ff` and 1 it is `61`, and the
-/// rest is `ff`. A value whose length is known, as a number's, is found by one comparison so.
+/// The part of the frame in front and the rest, if it has this length, and else `None`: of `0000000161ff` and 1 it is
+/// `61`, and the rest is `ff`. A value whose length is known, as a number's, is found by one comparison so.
 #[inline(always)]
 pub fn part_of_length(bytes: &[u8], size: usize) -> Option<(&[u8], &[u8])>
     requires short { size ≤ 16 }
     requires there { 4 + size ≤ length bytes.now }
+    ensures exact { is_some result ≡ nat_eq (front_length bytes.now) size }
     ensures front { IfSome result (λ p. front bytes.now ≡ Some (Some p.0.now, p.1.now)) }
     ensures rest { IfSome result (λ p. p.1.now ≡ drop (4 + size) bytes.now) }
 {
