@@ -7,7 +7,7 @@ use std::alloc::{AllocError, Global};
 use std::io::BufRead;
 
 /// What came of the rows of each form.
-#[derive(Drop)]
+#[derive(Clone, Copy)]
 struct Tallies {
     read: Tally,
     add: Tally,
@@ -16,13 +16,13 @@ struct Tallies {
 }
 
 impl Tallies {
-    fn new(alloc: Global) -> Result<Tallies, AllocError> {
-        Ok(Tallies {
-            read: Tally::new(alloc)?,
-            add: Tally::new(alloc)?,
-            copy: Tally::new(alloc)?,
-            calls: Tally::new(alloc)?,
-        })
+    fn new() -> Tallies {
+        Tallies {
+            read: Tally::new(),
+            add: Tally::new(),
+            copy: Tally::new(),
+            calls: Tally::new(),
+        }
     }
 
     /// A line for each form.
@@ -79,7 +79,7 @@ fn row(alloc: Global, line: &[u8], tallies: &mut Tallies) -> Result<(), Fault> {
 
 /// What comes of the rows of a reader: a line for each form of rows.
 pub fn tried<R: BufRead>(alloc: Global, reader: &mut R) -> Result<String, Fault> {
-    let mut tallies = Tallies::new(alloc)?;
+    let mut tallies = Tallies::new();
     let mut line = Vec::new(alloc);
     for _ in 0..u64::MAX {
         line.clear();

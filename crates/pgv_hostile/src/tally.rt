@@ -13,22 +13,22 @@ pub enum Outcome {
     Differs,
 }
 
-/// How often each came: refusals by their numbers.
-#[derive(Drop)]
+/// How often each came.
+#[derive(Clone, Copy)]
 pub struct Tally {
     read: u64,
     differs: u64,
-    refused: Vec<u64>,
+    refused: [u64; 39],
 }
 
 impl Tally {
     /// Nothing yet.
-    pub fn new(alloc: Global) -> Result<Tally, AllocError> {
-        Ok(Tally {
+    pub fn new() -> Tally {
+        Tally {
             read: 0,
             differs: 0,
-            refused: [0; 39].to_vec(alloc)?,
-        })
+            refused: [0; 39],
+        }
     }
 
     /// One mutant more.
