@@ -169,7 +169,8 @@ fn check_column<T: Type>(
     Ok(place + 1)
 }
 
-/// The value of a frame in front in binary, if it is read at once, whatever its type is, and the rest.
+/// The value of a frame in front in binary, if it is read at once, whatever its type is, and the rest. It is for speed
+/// alone.
 #[inline(always)]
 #[tactic(auto, unfolding(crate::specs::OnePass::part_value, crate::specs::OnePass::value_in_front))]
 fn value_at_once<'r, T: Decode>(column: &PgColumn<'_>, bytes: &'r [u8]) -> Option<(T, &'r [u8])>
@@ -256,6 +257,7 @@ fn front_value<'r, T: Type + Decode>(
     }
     let (part, rest) = part_in_front(all)?;
     *bytes = rest;
+    // A result of its own: what is read at once then needs no room in memory.
     match read_part(alloc, column, part) {
         Ok(value) => Ok(value),
         Err(error) => Err(error),

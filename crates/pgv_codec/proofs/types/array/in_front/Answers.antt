@@ -1,4 +1,4 @@
-use Rattle.std.proofs.Common.{◌≡◌, ◌+◌, List, ℕ, drop, Some, Ok, refl}
+use Rattle.std.proofs.Common.{◌≡◌, ◌+◌, drop, Some, Ok, refl}
 use Rattle.pgv_types.specs.Ty.{Ty}
 use Rattle.pgv_value.specs.Fronts.{value_front}
 use Rattle.pgv_value.specs.ValueView.{given}

@@ -1,5 +1,5 @@
 use Rattle.std.proofs.Common.{◌≡◌, ◌∙◌, Some, None, option_map, ap, sym}
-use Rattle.pgv_types.specs.Facts.{element_built_in, element_of}
+use Rattle.pgv_types.specs.Facts.{element_built_in}
 use Rattle.pgv_types.specs.Shown.{type_of}
 use Rattle.pgv_types.proofs.Customs.{element_by_oid, element_not_custom}
 use Rattle.pgv_types.proofs.type_info.PgType.made_element.Goals as goal

@@ -1,5 +1,5 @@
-use Rattle.std.proofs.Common.{◌≡◌, ◌∙◌, ℕ, Option, option_map, ap, sym}
-use Rattle.pgv_types.specs.Facts.{built_in_oid, same_oid}
+use Rattle.std.proofs.Common.{◌≡◌, ◌∙◌, option_map, ap, sym}
+use Rattle.pgv_types.specs.Facts.{built_in_oid}
 use Rattle.pgv_types.proofs.Same.{one_type}
 use Rattle.pgv_types.proofs.type_info.PgTypeInfo.is_same_built_in.Goals as goal
 
