@@ -11,10 +11,17 @@ use pgv_types::{Oid, PgTypeInfo};
 use std::alloc::AllocError;
 
 /// A slot as it is kept: its default, and what it shows for which parameter types.
-#[derive(Drop)]
 pub(crate) struct Slot {
     pub(crate) standard: Vec<u8>,
     pub(crate) cases: Vec<(PgTypeInfo, Vec<u8>)>,
+}
+
+/// Its parts go. It is written out since a derived one is proved again in each crate above.
+impl Drop for Slot {
+    #[inline(always)]
+    fn drop(self) {
+        let Slot { standard: _, cases: _ } = self;
+    }
 }
 
 impl Clone for Slot {

@@ -38,9 +38,17 @@ fn is_label(text: &str) -> bool
 /// A label: at most 1000 of the characters `A` to `Z`, `a` to `z`, `0` to `9`, `_` and `-`, perhaps none.
 ///
 /// A contract sees it as its bytes.
-#[derive(Debug, Drop)]
+#[derive(Debug)]
 pub struct PgLTreeLabel {
     text: String,
+}
+
+/// Its parts go. It is written out since a derived one is proved again in each crate above.
+impl Drop for PgLTreeLabel {
+    #[inline(always)]
+    fn drop(self) {
+        let PgLTreeLabel { text: _ } = self;
+    }
 }
 
 impl Model for PgLTreeLabel {

@@ -25,9 +25,17 @@ use std::marker::Model;
 ///
 /// A contract sees it as the list of its levels. A query from a server has one level or more; a query that is made here
 /// may have none.
-#[derive(Debug, Drop)]
+#[derive(Debug)]
 pub struct PgLQuery {
     levels: Vec<PgLQueryLevel>,
+}
+
+/// Its parts go. It is written out since a derived one is proved again in each crate above.
+impl Drop for PgLQuery {
+    #[inline(always)]
+    fn drop(self) {
+        let PgLQuery { levels: _ } = self;
+    }
 }
 
 impl Model for PgLQuery {

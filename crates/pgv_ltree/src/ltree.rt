@@ -24,9 +24,17 @@ use std::marker::Model;
 ///
 /// A contract sees it as the list of its labels. A tree from a server has one label or more; a tree that is made here
 /// may have none.
-#[derive(Debug, Drop)]
+#[derive(Debug)]
 pub struct PgLTree {
     labels: Vec<PgLTreeLabel>,
+}
+
+/// Its parts go. It is written out since a derived one is proved again in each crate above.
+impl Drop for PgLTree {
+    #[inline(always)]
+    fn drop(self) {
+        let PgLTree { labels: _ } = self;
+    }
 }
 
 impl Model for PgLTree {

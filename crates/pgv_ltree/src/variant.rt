@@ -21,12 +21,20 @@ use std::marker::Model;
 /// A variant of a level: a label and its modifiers, as `Astro*@`.
 ///
 /// A contract sees it as its label and whether each modifier is set.
-#[derive(Debug, Drop)]
+#[derive(Debug)]
 pub struct PgLQueryVariant {
     label: PgLTreeLabel,
     any_end: bool,
     in_case: bool,
     sublexeme: bool,
+}
+
+/// Its parts go. It is written out since a derived one is proved again in each crate above.
+impl Drop for PgLQueryVariant {
+    #[inline(always)]
+    fn drop(self) {
+        let PgLQueryVariant { label: _, any_end: _, in_case: _, sublexeme: _ } = self;
+    }
 }
 
 impl Model for PgLQueryVariant {

@@ -16,10 +16,18 @@ use std::marker::Model;
 ///
 /// A contract sees it as a list of truth values, the first bit first. It is kept as bytes; in the last of them what is
 /// after the last bit is zero.
-#[derive(Debug, Drop)]
+#[derive(Debug)]
 pub struct BitVec {
     bytes: Vec<u8>,
     count: usize,
+}
+
+/// Its parts go. It is written out since a derived one is proved again in each crate above.
+impl Drop for BitVec {
+    #[inline(always)]
+    fn drop(self) {
+        let BitVec { bytes: _, count: _ } = self;
+    }
 }
 
 impl Model for BitVec {

@@ -149,12 +149,19 @@ impl<'r> Held<'r> {
 
 /// A value of a row: null or bytes, its type and its format. The bytes are borrowed from the row, and what
 /// [`PgValueRef::as_bytes`] and [`PgValueRef::as_str`] return lives as long as the row.
-#[derive(Drop)]
 pub struct PgValueRef<'r> {
     row: Option<RowPart<'r>>,
     held: Held<'r>,
     type_info: PgTypeInfo,
     format: PgValueFormat,
+}
+
+/// Its parts go. It is written out since a derived one is proved again in each crate above.
+impl<'r> Drop for PgValueRef<'r> {
+    #[inline(always)]
+    fn drop(self) {
+        let PgValueRef { row: _, held: _, type_info: _, format: _ } = self;
+    }
 }
 
 impl<'r> Model for PgValueRef<'r> {
