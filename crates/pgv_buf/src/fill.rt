@@ -20,7 +20,10 @@ pub(crate) struct Slot {
 impl Drop for Slot {
     #[inline(always)]
     fn drop(self) {
-        let Slot { standard: _, cases: _ } = self;
+        let Slot {
+            standard: _,
+            cases: _,
+        } = self;
     }
 }
 

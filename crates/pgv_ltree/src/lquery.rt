@@ -161,7 +161,8 @@ impl IntoIterator for PgLQuery {
     ghost into_iter_gives = { λ query levels. (map level_of (into_iter_items levels) ≡ query) × (into_iter_len levels ≡ length query) };
 
     fn into_iter(self) -> std::vec::IntoIter<PgLQueryLevel> {
-        self.levels.into_iter()
+        let PgLQuery { levels } = self;
+        levels.into_iter()
     }
 }
 

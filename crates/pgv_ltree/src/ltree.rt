@@ -163,7 +163,8 @@ impl IntoIterator for PgLTree {
     ghost into_iter_gives = { λ tree labels. (into_iter_items labels ≡ tree) × (into_iter_len labels ≡ length tree) };
 
     fn into_iter(self) -> std::vec::IntoIter<PgLTreeLabel> {
-        self.labels.into_iter()
+        let PgLTree { labels } = self;
+        labels.into_iter()
     }
 }
 

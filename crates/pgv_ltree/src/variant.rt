@@ -33,7 +33,12 @@ pub struct PgLQueryVariant {
 impl Drop for PgLQueryVariant {
     #[inline(always)]
     fn drop(self) {
-        let PgLQueryVariant { label: _, any_end: _, in_case: _, sublexeme: _ } = self;
+        let PgLQueryVariant {
+            label: _,
+            any_end: _,
+            in_case: _,
+            sublexeme: _,
+        } = self;
     }
 }
 

@@ -160,7 +160,12 @@ pub struct PgValueRef<'r> {
 impl<'r> Drop for PgValueRef<'r> {
     #[inline(always)]
     fn drop(self) {
-        let PgValueRef { row: _, held: _, type_info: _, format: _ } = self;
+        let PgValueRef {
+            row: _,
+            held: _,
+            type_info: _,
+            format: _,
+        } = self;
     }
 }
 
@@ -282,7 +287,13 @@ impl<'r> PgValueRef<'r> {
     pub fn into_type_info(self) -> PgTypeInfo
         ensures { result ≡ self.entry.type_info }
     {
-        self.type_info
+        let PgValueRef {
+            row: _,
+            held: _,
+            type_info,
+            format: _,
+        } = self;
+        type_info
     }
 
     /// Whether the value is null.
