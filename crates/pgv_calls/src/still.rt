@@ -11,9 +11,9 @@ use pgv::types::{
 };
 use pgv::{
     CodecError, Decode, Oid, PgArgumentBuffer, PgArguments, PgRecordEncoder, PgType, PgTypeInfo,
-    PgValueFormat, PgValueRef, Tokens, Type, name_eq, read_bool, read_date, read_date_time,
-    read_i8, read_i16, read_i32, read_i64, read_instant, read_interval, read_ip_address,
-    read_ip_network, read_oid, read_time, read_uuid,
+    PgValue, PgValueFormat, PgValueRef, Tokens, Type, name_eq, read_bool, read_date,
+    read_date_time, read_i8, read_i16, read_i32, read_i64, read_instant, read_interval,
+    read_ip_address, read_ip_network, read_oid, read_time, read_uuid,
 };
 use pgv_fixtures::{Again, Called, EmptyObject};
 use std::alloc::Global;
@@ -40,7 +40,7 @@ fn types() -> bool {
     let array = PgTypeInfo::array_of("mood");
     let named = PgTypeInfo::with_name("_mood");
     let int4 = PgTypeInfo::try_from_oid(Oid(23));
-    int4.is_some_and(|found| found.oid() == Some(Oid(23)))
+    matches!(&int4, Some(found) if found.oid() == Some(Oid(23)))
         && array.type_compatible(&named)
         && array.type_eq(&named)
         && array.array_element().is_some()
@@ -51,6 +51,16 @@ fn types() -> bool {
         && PgTypeInfo(PgType::Void).is_void()
 }
 
+/// Whether a value is this text.
+fn is_text(value: &PgValueRef<'_>, wanted: &str) -> bool {
+    matches!(value.as_str(), Ok(text) if text == wanted)
+}
+
+/// Whether a value is these bytes.
+fn is_bytes(value: &PgValueRef<'_>, wanted: &[u8]) -> bool {
+    matches!(value.as_bytes(), Ok(bytes) if bytes == wanted)
+}
+
 /// Frames that are read from the front, and values that are lent.
 fn values() -> bool {
     let mut rest = b"\0\0\0\x01a\xff\xff\xff\xff".as_slice();
@@ -58,20 +68,18 @@ fn values() -> bool {
     let first = PgValueRef::get(&mut rest, PgValueFormat::Text, info);
     let info = PgTypeInfo(PgType::Text);
     let second = PgValueRef::get(&mut rest, PgValueFormat::Text, info);
-    first.is_ok_and(|value| value.as_str().is_ok_and(|text| text == "a"))
-        && second.is_ok_and(|value| value.is_null())
-        && binary(b"ab", PgType::Bytea)
-            .as_bytes()
-            .is_ok_and(|bytes| bytes == b"ab".as_slice())
+    matches!(&first, Ok(value) if is_text(value, "a"))
+        && matches!(&second, Ok(value) if value.is_null())
+        && is_bytes(&binary(b"ab", PgType::Bytea), b"ab")
 }
 
 /// Plain readers.
 fn readers() -> bool {
-    read_bool(&text("t", PgType::Bool)).is_ok_and(|found| found)
-        && read_i16(&binary(b"\0\x07", PgType::Int2)).is_ok_and(|found| found == 7)
-        && read_i32(&text("-7", PgType::Int4)).is_ok_and(|found| found == -7)
-        && read_i64(&binary(&[0; 8], PgType::Int8)).is_ok_and(|found| found == 0)
-        && read_oid(&text("7", PgType::Oid)).is_ok_and(|found| found == Oid(7))
+    matches!(read_bool(&text("t", PgType::Bool)), Ok(true))
+        && matches!(read_i16(&binary(b"\0\x07", PgType::Int2)), Ok(7))
+        && matches!(read_i32(&text("-7", PgType::Int4)), Ok(-7))
+        && matches!(read_i64(&binary(&[0; 8], PgType::Int8)), Ok(0))
+        && matches!(read_oid(&text("7", PgType::Oid)), Ok(Oid(7)))
         && read_uuid(&binary(&[9; 16], PgType::Uuid)).is_ok()
         && read_interval(&binary(&[0; 16], PgType::Interval)).is_ok()
 }
@@ -86,7 +94,7 @@ fn readers_of_times() -> bool {
 
 /// Plain readers of times, of addresses and of `"char"`.
 fn more_readers() -> bool {
-    read_i8(&binary(b"\x07", PgType::Char)).is_ok_and(|found| found == 7)
+    matches!(read_i8(&binary(b"\x07", PgType::Char)), Ok(7))
         && read_ip_network(&text("10.0.0.0/8", PgType::Inet)).is_ok()
         && read_ip_address(&text("10.0.0.1", PgType::Inet)).is_ok()
         && readers_of_times()
@@ -99,17 +107,17 @@ fn texts() -> bool {
         && date_time("2000-01-01 00:00:00").is_some()
         && instant("2000-01-01 00:00:00+00").is_some()
         && time_tz("00:00:00+01").is_some()
-        && IpNetwork::from_str("10.0.0.0/8").is_some_and(|found| found.prefix() == 8)
+        && matches!(IpNetwork::from_str("10.0.0.0/8"), Some(found) if found.prefix() == 8)
         && IpNetwork::from_str("10.0.0.0/33").is_none()
 }
 
 /// Decoders of numbers that take no memory.
 fn numbers(alloc: Global) -> bool {
-    bool::decode(alloc, text("t", PgType::Bool)).is_ok_and(|found| found)
-        && i8::decode(alloc, text("\\101", PgType::Char)).is_ok_and(|found| found == 65)
-        && i16::decode(alloc, text("-7", PgType::Int2)).is_ok_and(|found| found == -7)
-        && i64::decode(alloc, text("7", PgType::Int8)).is_ok_and(|found| found == 7)
-        && Oid::decode(alloc, binary(&[0; 4], PgType::Oid)).is_ok_and(|found| found == Oid(0))
+    matches!(bool::decode(alloc, text("t", PgType::Bool)), Ok(true))
+        && matches!(i8::decode(alloc, text("\\101", PgType::Char)), Ok(65))
+        && matches!(i16::decode(alloc, text("-7", PgType::Int2)), Ok(-7))
+        && matches!(i64::decode(alloc, text("7", PgType::Int8)), Ok(7))
+        && matches!(Oid::decode(alloc, binary(&[0; 4], PgType::Oid)), Ok(Oid(0)))
         && Uuid::decode(alloc, binary(&[9; 16], PgType::Uuid)).is_ok()
         && PgInterval::decode(alloc, binary(&[0; 16], PgType::Interval)).is_ok()
 }
@@ -126,11 +134,16 @@ fn moments(alloc: Global) -> bool {
 
 /// Decoders that take no memory.
 fn decoders(alloc: Global) -> bool {
-    i32::decode(alloc, binary(b"\0\0\0\x07", PgType::Int4)).is_ok_and(|found| found == 7)
-        && Date::decode(alloc, text("2000-01-01", PgType::Date)).is_ok()
+    matches!(
+        i32::decode(alloc, binary(b"\0\0\0\x07", PgType::Int4)),
+        Ok(7)
+    ) && Date::decode(alloc, text("2000-01-01", PgType::Date)).is_ok()
         && Time::decode(alloc, binary(&[0; 8], PgType::Time)).is_ok()
         && PgTimeTz::decode(alloc, text("00:00:00+01", PgType::Timetz)).is_ok()
-        && PgMoney::decode(alloc, binary(&[0; 8], PgType::Money)).is_ok_and(|sum| sum.0 == 0)
+        && matches!(
+            PgMoney::decode(alloc, binary(&[0; 8], PgType::Money)),
+            Ok(PgMoney(0))
+        )
         && PgByteaArray::<2>::decode(alloc, binary(b"ab", PgType::Bytea)).is_ok()
         && MacAddress::decode(alloc, text("08:00:2b:01:02:03", PgType::Macaddr)).is_ok()
         && <()>::decode(alloc, binary(b"", PgType::Void)).is_ok()
@@ -147,21 +160,19 @@ fn short_array(alloc: Global) -> bool {
 fn durations() -> bool {
     let interval = PgInterval::try_from(Duration::from_secs(1));
     let signed = PgInterval::try_from(SignedDuration::from_secs(-1));
-    interval.is_ok_and(|found| found.microseconds == 1_000_000)
-        && signed.is_ok_and(|found| found.microseconds == -1_000_000)
-        && Parts::new(TextForm::Array, "{a,b}").is_some_and(|parts| parts.len() == 2
-            && !parts.is_empty())
+    matches!(&interval, Ok(found) if found.microseconds == 1_000_000)
+        && matches!(&signed, Ok(found) if found.microseconds == -1_000_000)
+        && matches!(Parts::new(TextForm::Array, "{a,b}"), Some(parts) if parts.len() == 2 && !parts.is_empty())
 }
 
 /// Networks of an address and a prefix.
 fn networks() -> bool {
     let local = Ipv6Addr::from_octets([0; 16]);
-    Ipv4Network::new(Ipv4Addr::from_octets([10, 0, 0, 0]), 8).is_some_and(|found| found.prefix()
-        == 8)
+    let four = Ipv4Network::new(Ipv4Addr::from_octets([10, 0, 0, 0]), 8);
+    let six = IpNetwork::new(IpAddr::V6(local), 128);
+    matches!(four, Some(found) if found.prefix() == 8)
         && Ipv6Network::new(local, 129).is_none()
-        && IpNetwork::new(IpAddr::V6(local), 128).is_some_and(|found| found.prefix() == 128
-            && found.is_ipv6()
-            && !found.is_ipv4())
+        && matches!(six, Some(found) if found.prefix() == 128 && found.is_ipv6() && !found.is_ipv4())
 }
 
 /// A record of one field.
@@ -172,11 +183,9 @@ fn write_record(buffer: &mut PgArgumentBuffer) -> Result<(), CodecError> {
     Ok(())
 }
 
-/// Whether a value is the bytes `ro`.
-fn is_ro(value: &PgValueRef<'_>) -> bool {
-    value
-        .as_bytes()
-        .is_ok_and(|bytes| bytes == b"ro".as_slice())
+/// Whether a value that is kept is the bytes `ro`.
+fn is_ro(value: &PgValue) -> bool {
+    matches!(&value.as_ref(), Ok(value) if is_bytes(value, b"ro"))
 }
 
 /// A tree that is filled and emptied again.
@@ -187,6 +196,24 @@ fn make_tree(alloc: Global) -> Result<PgLTree, CodecError> {
 /// A query of one level.
 fn make_query(alloc: Global) -> Result<PgLQuery, CodecError> {
     Ok(PgLQuery::from_str(alloc, "a")?)
+}
+
+/// A buffer of one byte, with room for more.
+fn make_buffer(alloc: Global) -> Result<PgArgumentBuffer, CodecError> {
+    let mut buffer = PgArgumentBuffer::new(alloc);
+    buffer.reserve(128)?;
+    buffer.push(1)?;
+    Ok(buffer)
+}
+
+/// Arguments with a hole and a slot.
+fn make_arguments(alloc: Global) -> Result<PgArguments, CodecError> {
+    let mut arguments = PgArguments::new(alloc);
+    arguments.add(PgLTree::new(alloc))?;
+    arguments.add(None::<PgLTree>)?;
+    arguments.add([make_tree(alloc)?])?;
+    arguments.add(EmptyObject { alloc })?;
+    Ok(arguments)
 }
 
 /// What rows of this kind call.
@@ -231,22 +258,12 @@ impl Still {
         Ok(())
     }
 
-    /// Makes a buffer of one byte, with room for more.
-    fn make_buffer(&mut self, alloc: Global) -> Result<(), CodecError> {
-        self.buffer = PgArgumentBuffer::new(alloc);
-        self.buffer.reserve(128)?;
-        self.buffer.push(1)
-    }
-
-    /// Makes values, and arguments with a hole and a slot.
+    /// Makes values, and a buffer and arguments.
     fn make(&mut self, alloc: Global) -> Result<(), CodecError> {
         self.make_values(alloc)?;
-        self.make_buffer(alloc)?;
-        self.arguments = PgArguments::new(alloc);
-        self.arguments.add(PgLTree::new(alloc))?;
-        self.arguments.add(None::<PgLTree>)?;
-        self.arguments.add([make_tree(alloc)?])?;
-        self.arguments.add(EmptyObject { alloc })
+        self.buffer = make_buffer(alloc)?;
+        self.arguments = make_arguments(alloc)?;
+        Ok(())
     }
 
     /// Fills the arguments.
@@ -292,7 +309,7 @@ impl Still {
 
     /// Lends a part of the row.
     fn lend(&self) -> bool {
-        self.part().is_some_and(|part| is_ro(&part))
+        matches!(&self.part(), Some(part) if is_bytes(part, b"ro"))
     }
 
     /// Keeps a part of the row, which shares its bytes.
@@ -301,7 +318,7 @@ impl Still {
             return false;
         };
         match part.to_owned(alloc) {
-            Ok(value) => !value.is_null() && value.as_ref().is_ok_and(|value| is_ro(&value)),
+            Ok(value) => !value.is_null() && is_ro(&value),
             Err(_) => false,
         }
     }

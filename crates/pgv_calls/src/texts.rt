@@ -31,7 +31,7 @@ fn parts(alloc: Global, found: Option<Vec<Option<String>>>) -> Result<String, Al
     };
     let mut text = String::new(alloc);
     for part in &found {
-        push_part(&mut text, part.as_ref().map(|part| part.as_str()))?;
+        push_part(&mut text, part.as_deref())?;
     }
     Ok(text)
 }
@@ -55,8 +55,8 @@ fn bounds(alloc: Global, found: Option<RangeText>) -> Result<String, AllocError>
             },
         ) => {
             let mut out = String::new(alloc);
-            push_part(&mut out, lower.as_ref().map(|part| part.as_str()))?;
-            push_part(&mut out, upper.as_ref().map(|part| part.as_str()))?;
+            push_part(&mut out, lower.as_deref())?;
+            push_part(&mut out, upper.as_deref())?;
             out.push_str(included(lower_included))?;
             out.push_str(included(upper_included))?;
             Ok(out)
@@ -97,7 +97,7 @@ fn first_and_list(alloc: Global, array: &str) -> Result<String, AllocError> {
     };
     let mut out = String::new(alloc);
     if let Some(first) = parts.next_part(alloc)? {
-        push_part(&mut out, first.as_ref().map(|part| part.as_str()))?;
+        push_part(&mut out, first.as_deref())?;
     }
     let rest = parts.list(alloc)?;
     format!(in alloc; "{out} and {}", rest.len())
@@ -121,7 +121,7 @@ fn push_field(
     out: &mut String,
 ) -> Result<(), CodecError> {
     let field = field(tries, record)?;
-    Ok(push_part(out, field.as_ref().map(|part| part.as_str()))?)
+    Ok(push_part(out, field.as_deref())?)
 }
 
 /// The first two fields of a record, which are texts.
