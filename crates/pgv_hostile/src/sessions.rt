@@ -65,7 +65,7 @@ impl Frames {
         let answers = answers(alloc, self.lines.as_slice())?;
         let mut found = answers.lines();
         for frame in self.frames.lines() {
-            let same = found.next().is_some_and(|answer| answer == frame);
+            let same = matches!(found.next(), Some(answer) if answer == frame);
             tally.count(if same {
                 Outcome::Read
             } else {

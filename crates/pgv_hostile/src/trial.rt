@@ -87,7 +87,7 @@ pub fn read_again<T: Decode + Encode + Type>(
 
 /// Whether the frame of what was read from a frame is the same.
 fn compared(frame: &Vec<u8>, again: Result<Vec<u8>, CodecError>) -> Outcome {
-    if again.is_ok_and(|again| again.as_slice() == frame.as_slice()) {
+    if matches!(&again, Ok(again) if again.as_slice() == frame.as_slice()) {
         Outcome::Read
     } else {
         Outcome::Differs

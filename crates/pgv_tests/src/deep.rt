@@ -37,7 +37,7 @@ type Four = Vec<(i32, Three)>;
 
 /// Appends a length and these bytes.
 fn push_part(out: &mut Vec<u8>, part: &[u8]) -> Result<(), Fail> {
-    let len = u32::try_from(part.len()).map_err(|_| "too long")?;
+    let len = u32::try_from(part.len()).or(Err("too long"))?;
     out.extend_from_slice(&len.to_be_bytes())?;
     Ok(out.extend_from_slice(part)?)
 }

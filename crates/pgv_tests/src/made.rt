@@ -256,9 +256,9 @@ C4\nC5\n00000000000000000000000000000000\n"
 
 /// The last moments of 1999, and an offset that is too far.
 fn times(alloc: Global, lines: &mut Lines) -> Result<(), Fail> {
-    let date = Date::new(1999, 12, 31).map_err(|_| "no date")?;
+    let date = Date::new(1999, 12, 31).or(Err("no date"))?;
     lines.written(&date);
-    let at = DateTime::new(1999, 12, 31, 23, 59, 59, 999_999_500).map_err(|_| "no date-time")?;
+    let at = DateTime::new(1999, 12, 31, 23, 59, 59, 999_999_500).or(Err("no date-time"))?;
     lines.written(&at);
     lines.written(&PgTimeTz {
         time: Time::midnight(),

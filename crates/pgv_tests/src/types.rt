@@ -44,7 +44,7 @@ fn chars_of_names(rt: HostRuntime) {
     let mut found = identifier_chars("a\"B\"\"");
     for (ch, sensitive) in [('a', false), ('B', true), ('"', true)] {
         let next = found.next();
-        assert!(rt; next.is_some_and(|it| it.ch == ch && it.case_sensitive == sensitive));
+        assert!(rt; matches!(next, Some(it) if it.ch == ch && it.case_sensitive == sensitive));
     }
     assert!(rt; found.next().is_none());
 }
