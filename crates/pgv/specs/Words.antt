@@ -94,6 +94,8 @@ pub use Rattle.pgv_ltree.specs.Ascii.{are_ascii, ascii_is_utf8}
 -- that its labels are UTF-8. `label_written label` is what is written of a label, and `parse_label label_of rows` how
 -- one is read.
 pub use Rattle.pgv_user_types.specs.Labels.{labelled, are_labels, label_written, parse_label}
+-- What a plain type of one's own says of itself: its types, what is written of a value, what is read, and two proofs.
+pub use Rattle.pgv_user_types.specs.Plains.{PlainRules}
 -- The law for `PgLTree`, and what comes back of a tree.
 pub use Rattle.pgv_ltree.specs.TreesBack.{tree_back, tree_kept}
 -- For a record that is written field by field, one `more_fields` for each.

@@ -2,7 +2,7 @@
 //! other name is re-exported from the crate that has it.
 //!
 //! - At the top what a binder and a reader of rows need: [`PgArguments`], [`PgValueRef`], types and the traits, and
-//!   user-defined types by little code: [`Labelled`], [`Composite`], [`Newtype`], [`Domain`].
+//!   user-defined types by little code: [`Labelled`], [`Composite`], [`Newtype`], [`Domain`], [`PlainCodec`].
 //! - [`types`]: the Rust types of values, beside those of std, `jiff` and `uuid`.
 //! - [`text`]: readers of whole texts.
 //! - [`row`], [`message`], [`catalog`]: rows of a statement's result, the messages around parameters and rows, and the
@@ -25,7 +25,8 @@ pub use pgv_types::{
     PgTypeKindRef, PgTypeName, PgTypeRef, StaticText,
 };
 pub use pgv_user_types::{
-    Composite, Domain, Labelled, Newtype, PgComposite, PgDomain, PgEnum, PgNewtype, PgRecord,
+    Composite, Domain, Labelled, Newtype, PgComposite, PgDomain, PgEnum, PgNewtype, PgPlain,
+    PgRecord, PlainCodec, PlainRange,
 };
 pub use pgv_value::{CodecError, PgValue, PgValueFormat, PgValueRef};
 pub use pgv_wire::PgArguments;

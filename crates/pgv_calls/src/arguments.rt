@@ -5,8 +5,8 @@ use crate::own::{Bounds, Listed, Stop};
 use jiff::civil::{Date, date};
 use pgv::types::{PgLTree, PgRange};
 use pgv::{
-    CodecError, Encode, Oid, PgArguments, PgComposite, PgEnum, PgRecord, PgType, PgTypeInfo,
-    PgValueFormat, PgValueRef,
+    CodecError, Encode, Oid, PgArguments, PgComposite, PgEnum, PgPlain, PgRecord, PgType,
+    PgTypeInfo, PgValueFormat, PgValueRef,
 };
 use pgv_examples::household::Household;
 use pgv_examples::mood::Mood;
@@ -120,7 +120,7 @@ fn add(alloc: Global, arguments: &mut PgArguments, name: &str) -> Result<(), Cod
         "mood" => arguments.add(PgEnum(Mood::Fine)),
         "mood text" => arguments.add(MoodText { mood: Mood::Fine }),
         "object" => arguments.add(EmptyObject { alloc }),
-        "percent 101" => arguments.add(Percent { number: 101 }),
+        "percent 101" => arguments.add(PgPlain(Percent { number: 101 })),
         "size 0" => arguments.add(Size { alloc, number: 0 }),
         "huge" => arguments.add(Huge),
         "size 3 by reference" => arguments.add_by_ref(&Size { alloc, number: 3 }),

@@ -2,7 +2,7 @@
 use Rattle.std.specs.Prelude.{◌≡◌, ◌==◌, ◌||◌, ℕ, Bool, true, false, cond, if◌then◌else◌, List, [], ◌∷◌, ◌++◌, Option, Some, None, refl, string_bytes}
 use Rattle.std.proofs.Common.{sym, ap, ◌∙◌, subst}
 use Rattle.std.proofs.lemmas.Option.{same_Some}
-use Rattle.pgv.specs.Words.{Ty, builtin, softly, Token, slot, bytes, Image, ImageFits, Given, Outcome, Part, Binary, ReadsBack, always, copied, image_of, parse_text, part_is, plainly, reading_of, text_back, utf8_part, write, write-bytes, writes, written_part}
+use Rattle.pgv.specs.Words.{Ty, builtin, softly, Token, slot, bytes, Image, ImageFits, Given, Outcome, Part, Binary, PlainRules, ReadsBack, always, copied, image_of, parse_text, part_is, plainly, reading_of, text_back, utf8_part, write, write-bytes, writes, written_part}
 use Rattle.pgv_examples.specs.declared.json.Json.{Json}
 
 -- the version where the parameter is jsonb, and else a space; and the text
@@ -26,11 +26,11 @@ abbrev pub parse_json : Given → Outcome (List ℕ)
 parse_json v = copied (utf8_part (document v.bytes))
 
 -- whichever case the slot shows
-pub json_back : ReadsBack {A = Json} (λ json. plainly (json_image (string_bytes json.text))) (reading_of parse_json) (λ json. string_bytes json.text) always
+pub json_back : ReadsBack {A = Json} (λ json. plainly (json_image (string_bytes json.0))) (reading_of parse_json) (λ json. string_bytes json.0) always
 json_back json i t p oids e whole small fit = rw (← is) (by_parameter p)
   where
     text : List ℕ
-    text = string_bytes json.text
+    text = string_bytes json.0
 
     is : image_of (json_tokens text) ≡ i
     is = same_Some _ i e
@@ -39,7 +39,7 @@ json_back json i t p oids e whole small fit = rw (← is) (by_parameter p)
     again : reading_of parse_text t Binary (Some text) ≡ Some text
     again =
         ap (λ (part : Part). reading_of parse_text t Binary part) (sym (part_is text (image_of (bytes text)) p oids refl))
-        ∙ text_back json.text (image_of (bytes text)) t p oids refl (subst ImageFits (sym is) whole).1 small fit
+        ∙ text_back json.0 (image_of (bytes text)) t p oids refl (subst ImageFits (sym is) whole).1 small fit
 
     written : (q : Option Ty) → reading_of parse_text t Binary (Some (write q oids (bytes text))) ≡ Some text
     written q = ap (λ (xs : List ℕ). reading_of parse_text t Binary (Some xs)) (write-bytes q oids text) ∙ again
@@ -51,3 +51,16 @@ json_back json i t p oids e whole small fit = rw (← is) (by_parameter p)
     by_parameter : (q : Option Ty) → reading_of parse_json t Binary (written_part (image_of (json_tokens text)) q oids) ≡ Some text
     by_parameter None = written None
     by_parameter (Some param) = by_case (Some param) (softly (builtin 3802) param)
+
+abbrev pub json_rules : PlainRules Json
+json_rules = record {
+  info = builtin 114;
+  array_info = builtin 199;
+  accepts = λ t. softly t (builtin 114) || softly t (builtin 3802);
+  View = List ℕ;
+  view = λ json. string_bytes json.0;
+  image = json_image;
+  parse = parse_json;
+  null = λ _ _. refl;
+  back = json_back;
+}

@@ -1,7 +1,7 @@
 -- Shares in percent: numbers of int4 from 0 to 100.
 use Rattle.std.specs.Prelude.{◌≡◌, Bool, true, false, not, ◌&&◌, ℤ, pos, int_le, Some, Ok, Err, if◌then◌else◌, refl}
 use Rattle.std.specs.Int.{w32}
-use Rattle.pgv.specs.Words.{Caller, Given, Image, Outcome, Parsed, ◌>>=◌, ReadsBack, always, ok_of, plainly, signed_image, int4_back, parse_int, parsed_as, reading_of, without_memory, writes}
+use Rattle.pgv.specs.Words.{Caller, Given, Image, Outcome, Parsed, ◌>>=◌, PlainRules, ReadsBack, always, builtin, ok_of, plainly, signed_image, int4_back, parse_int, parsed_as, reading_of, softly, without_memory, writes}
 use Rattle.pgv.specs.Steps.{fails_if, ◌>>◌}
 use Rattle.pgv_examples.specs.declared.percent.Percent.{Percent}
 
@@ -26,3 +26,16 @@ pub percent_back : ReadsBack {A = Percent} (λ p. plainly (percent_image p.numbe
 percent_back v i t p oids e whole small fit =
     let g = percent_there (is_percent v.number) (writes (signed_image w32 v.number)) i e in
     rw (parsed_as _ _ (int4_back v.number i t p oids g.1 whole small fit), g.0) refl
+
+abbrev pub percent_rules : PlainRules Percent
+percent_rules = record {
+  info = builtin 23;
+  array_info = builtin 1007;
+  accepts = λ t. softly t (builtin 23);
+  View = ℤ;
+  view = λ percent. percent.number;
+  image = percent_image;
+  parse = without_memory parse_percent;
+  null = λ _ _. refl;
+  back = percent_back;
+}

@@ -1,28 +1,25 @@
 //! Documents of `json` and `jsonb` as texts (PostgreSQL, "JSON Types"). In binary the values of `jsonb` begin with the
-//! version 1: a slot writes it where the parameter is `jsonb`, and else a space, which means nothing in a document. How
-//! they are read is in [`json_read`](crate::json_read).
+//! version 1: a slot writes it where the parameter is `jsonb`, and else a space, which means nothing in a document. A
+//! value is written and read as a [`PgPlain<Json>`](pgv::PgPlain).
 
-use crate::slot::push_version;
-use pgv::{CodecError, Encode, IsNull, PgArgumentBuffer, PgType, PgTypeInfo, Type};
-use std::alloc::{AllocError, Global};
+use crate::slot::{after_version, push_version};
+use pgv::{
+    CodecError, IsNull, PgArgumentBuffer, PgType, PgTypeInfo, PgValueFormat, PgValueRef, Plain,
+    PlainCodec,
+};
+use std::alloc::Global;
 
-/// A document. That its text is one is left to the server.
+/// A document, as `{"a":1}`. That its text is one is left to the server.
 #[derive(Drop)]
-pub struct Json {
-    /// What the cases of its slot are allocated by.
-    pub alloc: Global,
-    /// The text, as `{"a":1}`.
-    pub text: String,
-}
+pub struct Json(pub String);
 
-/// `json` (OID 114), read under `jsonb` (OID 3802) too.
-impl Type for Json {
-    ghost use Rattle.std.specs.Prelude.{◌||◌};
-    ghost use Rattle.pgv.specs.Words.{builtin, softly};
+/// Written as its text after a slot: `{}` to a parameter of `jsonb` as `017b7d`. Read in either format; what isn't
+/// UTF-8 is refused with [`Utf8`](CodecError::Utf8) (C14), and null with
+/// [`UnexpectedNull`](CodecError::UnexpectedNull) (C13). It comes back under each type.
+impl PlainCodec for Json {
+    ghost use Rattle.pgv_examples.specs.Jsons.{json_rules};
 
-    ghost info = { builtin 114 };
-
-    ghost accepts = { λ t. softly t (builtin 114) || softly t (builtin 3802) };
+    ghost rules = { json_rules };
 
     fn type_info() -> PgTypeInfo {
         PgTypeInfo(PgType::Json)
@@ -32,27 +29,21 @@ impl Type for Json {
         type_info.type_compatible(&PgTypeInfo(PgType::Json))
             || type_info.type_compatible(&PgTypeInfo(PgType::Jsonb))
     }
-}
 
-/// Written as its text after a slot: `{}` to a parameter of `jsonb` as `017b7d`.
-impl Encode for Json {
-    ghost use Rattle.std.specs.Prelude.{string_bytes};
-    ghost use Rattle.pgv.specs.Words.{plainly};
-    ghost use Rattle.pgv_examples.specs.Jsons.{json_image};
+    fn array_type_info() -> PgTypeInfo {
+        PgTypeInfo(PgType::JsonArray)
+    }
 
-    ghost encoding = { λ json. plainly (json_image (string_bytes json.text)) };
-
-    fn encode_by_ref(&self, out: &mut PgArgumentBuffer) -> Result<IsNull, CodecError> {
-        push_version(self.alloc, out)?;
-        out.extend_from_slice(self.text.as_bytes())?;
+    fn write(&self, out: &mut PgArgumentBuffer) -> Result<IsNull, CodecError> {
+        push_version(*self.0.allocator(), out)?;
+        out.extend_from_slice(self.0.as_bytes())?;
         Ok(IsNull::No)
     }
 
-    fn size_hint(&self) -> usize {
-        0
-    }
-
-    fn produces(&self) -> Result<Option<PgTypeInfo>, AllocError> {
-        Ok(None)
+    fn read(alloc: Global, value: PgValueRef<'_>) -> Result<Json, CodecError> {
+        let bytes = after_version(value.as_bytes()?);
+        let text = PgTypeInfo(PgType::Text);
+        let part = PgValueRef::new(Some(bytes), text, PgValueFormat::Text);
+        Ok(Json(String::read(alloc, part)?))
     }
 }

@@ -9,16 +9,15 @@
 //! 6. [`email`] is a domain.
 //! 7. [`page`] is a composite type, and [`household`] one with an array in it.
 //! 8. [`slot`] appends bytes that depend on the parameter's type.
-//! 9. [`percent`] is a codec that refuses what it writes, and [`percent_read`] what it reads.
+//! 9. [`percent`] is a codec that refuses what it writes and reads.
 //! 10. [`read_back`] says that what was sent comes back, and proves it by the laws.
 //! 11. [`copied`] reads the stream of a COPY in binary, row by row.
 //! 12. [`statement`] describes a statement, binds its arguments, and reads its rows by their columns.
 //! 13. [`server_types`] makes a server's own types of the rows of its catalogue.
 //! 14. [`errors`] turns a refusal into an error of one's own, by column and number.
 //! 15. [`in_list`] has as many parameters as there are keys.
-//! 16. [`float8`] is a type that the library doesn't have, by its bytes, [`float8_read`] reads it, and [`float_range`]
-//!     is a range over it.
-//! 17. [`json`] has the documents of `json` and `jsonb`, and [`json_read`] reads them.
+//! 16. [`float8`] is a type that the library doesn't have, by its bytes, and [`float_range`] is a range over it.
+//! 17. [`json`] has the documents of `json` and `jsonb`.
 //! 18. [`shipment`] is a composite with a composite in it, and a field that may be null.
 //!
 //! All of them name the crate `pgv` alone, in code and in contracts, whose words are those of `Rattle.pgv.specs.Words`:
@@ -31,17 +30,14 @@ pub mod copied;
 pub mod email;
 pub mod errors;
 pub mod float8;
-pub mod float8_read;
 pub mod float_range;
 pub mod holes;
 pub mod household;
 pub mod in_list;
 pub mod json;
-pub mod json_read;
 pub mod mood;
 pub mod page;
 pub mod percent;
-pub mod percent_read;
 pub mod read_back;
 pub mod row;
 pub mod server_types;

@@ -1,11 +1,14 @@
-//! A codec that refuses: only a number from 0 to 100 is written, and read in [`percent_read`](crate::percent_read).
+//! A codec that refuses: only a number from 0 to 100 is written or read. A value is written and read as a
+//! [`PgPlain<Percent>`](pgv::PgPlain).
 
 ghost use Rattle.std.specs.Prelude.{◌≡◌, true, false, IsOk, IsErrOf};
-ghost use Rattle.pgv.specs.Words.{plainly};
-ghost use Rattle.pgv_examples.specs.Percents.{is_percent, percent_image};
+ghost use Rattle.pgv_examples.specs.Percents.{is_percent, percent_rules};
 
-use pgv::{CodecError, Encode, IsNull, PgArgumentBuffer, PgTypeInfo, Type};
-use std::alloc::AllocError;
+use pgv::{
+    CodecError, Encode, IsNull, PgArgumentBuffer, PgHasArrayType, PgTypeInfo, PgValueRef, Plain,
+    PlainCodec, Type,
+};
+use std::alloc::Global;
 
 /// A share in percent, an `int4`.
 #[derive(Clone, Copy, Debug, PartialEq, Eq)]
@@ -14,23 +17,20 @@ pub struct Percent {
     pub number: i32,
 }
 
-impl Percent {
-    /// Nothing where the number is from 0 to 100, and else [`Caller(9)`](CodecError::Caller) (C38).
-    pub(crate) fn check(self) -> Result<(), CodecError>
-        ensures ok { is_percent self.number ≡ true → IsOk result }
-        ensures err { is_percent self.number ≡ false → IsErrOf result (CodecError.Caller 9) }
-    {
-        if 0 <= self.number && self.number <= 100 {
-            return Ok(());
-        }
-        Err(CodecError::Caller(9))
+/// Nothing where the number is from 0 to 100, and else [`Caller(9)`](CodecError::Caller) (C38).
+fn check(number: i32) -> Result<(), CodecError>
+    ensures ok { is_percent number ≡ true → IsOk result }
+    ensures err { is_percent number ≡ false → IsErrOf result (CodecError.Caller 9) }
+{
+    if 0 <= number && number <= 100 {
+        return Ok(());
     }
+    Err(CodecError::Caller(9))
 }
 
-impl Type for Percent {
-    ghost info = { ⟦<i32 as Type>⟧.info };
-
-    ghost accepts = { ⟦<i32 as Type>⟧.accepts };
+/// Written and read as its number; another than 0 to 100 is refused with [`Caller(9)`](CodecError::Caller) (C38).
+impl PlainCodec for Percent {
+    ghost rules = { percent_rules };
 
     fn type_info() -> PgTypeInfo {
         i32::type_info()
@@ -39,22 +39,19 @@ impl Type for Percent {
     fn compatible(type_info: &PgTypeInfo) -> bool {
         i32::compatible(type_info)
     }
-}
 
-/// Written as its number; a number above 100 is refused with [`Caller(9)`](CodecError::Caller) (C38).
-impl Encode for Percent {
-    ghost encoding = { λ percent. plainly (percent_image percent.number) };
+    fn array_type_info() -> PgTypeInfo {
+        i32::array_type_info()
+    }
 
-    fn encode_by_ref(&self, out: &mut PgArgumentBuffer) -> Result<IsNull, CodecError> {
-        self.check()?;
+    fn write(&self, out: &mut PgArgumentBuffer) -> Result<IsNull, CodecError> {
+        check(self.number)?;
         self.number.encode_by_ref(out)
     }
 
-    fn size_hint(&self) -> usize {
-        0
-    }
-
-    fn produces(&self) -> Result<Option<PgTypeInfo>, AllocError> {
-        Ok(None)
+    fn read(alloc: Global, value: PgValueRef<'_>) -> Result<Percent, CodecError> {
+        let number = i32::read(alloc, value)?;
+        check(number)?;
+        Ok(Percent { number })
     }
 }

@@ -6,6 +6,7 @@
 
 ghost use Rattle.std.specs.Prelude.{◌≡◌, ◌++◌, [], ◌∷◌, OnOk, IfErr};
 ghost use Rattle.pgv.specs.Words.{builtin, blank, slot};
+ghost use Rattle.pgv_examples.specs.Jsons as spec;
 
 use pgv::{CodecError, PgArgumentBuffer, PgType, PgTypeInfo};
 use std::alloc::Global;
@@ -21,4 +22,14 @@ pub fn push_version(alloc: Global, out: &mut PgArgumentBuffer) -> Result<(), Cod
     let mut cases = Vec::new(alloc);
     cases.push((PgTypeInfo(PgType::Jsonb), version))?;
     out.push_slot(b" ", cases)
+}
+
+/// The bytes of a document after a version, or after the space in its place.
+pub fn after_version(bytes: &[u8]) -> &[u8]
+    ensures { result.now ≡ spec.after_version bytes.now }
+{
+    match bytes {
+        [1 | b' ', text @ ..] => text,
+        _ => bytes,
+    }
 }

@@ -8,7 +8,8 @@ use pgv::types::{
     BitVec, MacAddress, PgByteaArray, PgHstore, PgLTree, PgNumeric, PgRange, PgTimeTz,
 };
 use pgv::{
-    Decode, Encode, Oid, PgComposite, PgDomain, PgEnum, PgNewtype, PgRecord, PgValueRef, Type,
+    Decode, Encode, Oid, PgComposite, PgDomain, PgEnum, PgNewtype, PgPlain, PgRecord, PgValueRef,
+    Type,
 };
 use pgv_examples::email::Email;
 use pgv_examples::mood::Mood;
@@ -110,7 +111,7 @@ fn at_own<V: AtType>(
         "PgRecord<(i32, (String,))>" => {
             Some(visitor.whole::<PgRecord<(i32, (String,))>>(alloc, value))
         }
-        "Percent" => Some(visitor.whole::<Percent>(alloc, value)),
+        "Percent" => Some(visitor.whole::<PgPlain<Percent>>(alloc, value)),
         "UserId" => Some(visitor.whole::<PgNewtype<UserId>>(alloc, value)),
         _ => None,
     }

@@ -6,7 +6,7 @@ use pgv::row::{PgColumns, PgPlaces, PgRow};
 use pgv::types::{PgLTree, PgRange};
 use pgv::{
     CodecError, Decode, Oid, PgArguments, PgComposite, PgCopyReader, PgDomain, PgEnum, PgNewtype,
-    PgType, PgTypeInfo, PgTypeKind, PgValue, PgValueFormat, PgValueRef, Type,
+    PgPlain, PgType, PgTypeInfo, PgTypeKind, PgValue, PgValueFormat, PgValueRef, Type,
 };
 use pgv_examples::arrays::{add_lists, scores};
 use pgv_examples::bind::{arguments_of_search, parameters_of_bind};
@@ -245,8 +245,8 @@ fn keys_are_listed(rt: HostRuntime) -> Result<(), CodecError> {
 /// The bits of a `float8` in this format, or the number of its refusal.
 fn float_read(alloc: Global, bytes: Option<&[u8]>, format: PgValueFormat) -> Result<i64, u8> {
     let value = PgValueRef::new(bytes, PgTypeInfo(PgType::Float8), format);
-    match Float8::decode(alloc, value) {
-        Ok(number) => Ok(number.0),
+    match PgPlain::<Float8>::decode(alloc, value) {
+        Ok(PgPlain(number)) => Ok(number.0),
         Err(error) => Err(error.code()),
     }
 }
@@ -254,7 +254,7 @@ fn float_read(alloc: Global, bytes: Option<&[u8]>, format: PgValueFormat) -> Res
 #[test]
 fn floats_by_their_bits(rt: HostRuntime) -> Result<(), CodecError> {
     let mut arguments = PgArguments::new(rt.alloc());
-    arguments.add(Float8(4_607_182_418_800_017_408))?;
+    arguments.add(PgPlain(Float8(4_607_182_418_800_017_408)))?;
     let one = b"\x3f\xf0\0\0\0\0\0\0".as_slice();
     assert_eq!(rt;
         arguments
@@ -322,13 +322,13 @@ fn reasons_name_the_column(rt: HostRuntime) -> Result<(), CodecError> {
 fn document_shown(alloc: Global, parameter: PgType) -> Result<String, CodecError> {
     let mut arguments = PgArguments::new(alloc);
     let text = String::from_str(alloc, "{}")?;
-    arguments.add(Json { alloc, text })?;
+    arguments.add(PgPlain(Json(text)))?;
     arguments.apply_patches(&[PgTypeInfo(parameter)], &[])?;
     let sent = arguments.buffer().as_slice();
     let column = PgTypeInfo(PgType::Jsonb);
     let value = PgValueRef::new(sent.get(4..), column, PgValueFormat::Binary);
-    let read = Json::decode(alloc, value)?;
-    Ok(format!(in alloc; "{} {}", encode(alloc, sent)?, read.text)?)
+    let PgPlain(read) = PgPlain::<Json>::decode(alloc, value)?;
+    Ok(format!(in alloc; "{} {}", encode(alloc, sent)?, read.0)?)
 }
 
 /// What is sent of a shipment without a note, in hex, its holes open.
@@ -352,7 +352,7 @@ fn shipment_read(alloc: Global) -> Result<String, CodecError> {
 /// What is sent of the range from one number of bits to another.
 fn range_sent(alloc: Global) -> Result<PgArguments, CodecError> {
     let mut arguments = PgArguments::new(alloc);
-    let range = PgRange::from(Float8(1)..Float8(2));
+    let range = PgRange::from(PgPlain(Float8(1))..PgPlain(Float8(2)));
     arguments.add(range)?;
     Ok(arguments)
 }
@@ -362,8 +362,8 @@ fn range_read(alloc: Global, frame: &[u8]) -> Result<String, CodecError> {
     let over = PgTypeKind::Range(PgTypeInfo(PgType::Float8));
     let column = PgTypeInfo::custom(alloc, Oid(16700), "floatrange", over)?;
     let value = PgValueRef::new(frame.get(4..), column, PgValueFormat::Binary);
-    let range = PgRange::<Float8>::decode(alloc, value)?;
-    let arrays = Vec::<PgRange<Float8>>::type_info();
+    let range = PgRange::<PgPlain<Float8>>::decode(alloc, value)?;
+    let arrays = Vec::<PgRange<PgPlain<Float8>>>::type_info();
     Ok(format!(in alloc; "{range:?} in {}", arrays.name())?)
 }
 
@@ -384,7 +384,7 @@ fn types_of_ones_own(rt: HostRuntime) -> Result<(), CodecError> {
         "000000300000000200000019ffffffff000000000000001c00000002000000170000000400000001000000000000000401612e62",
         "None 1 a.b",
         "0000001902000000080000000000000001000000080000000000000002",
-        "Bounds { start: Included(Float8(1)), end: Excluded(Float8(2)) } in floatrange[]",
+        "Bounds { start: Included(PgPlain(Float8(1))), end: Excluded(PgPlain(Float8(2))) } in floatrange[]",
     ];
     for (found, expected) in shown.iter().zip(expected) {
         assert_eq!(rt; found.as_str(), expected);

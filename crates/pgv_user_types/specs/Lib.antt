@@ -1,3 +1,4 @@
 pub mod Composites
 pub mod Labels
 pub mod Newtypes
+pub mod Plains

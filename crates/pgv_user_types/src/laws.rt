@@ -1,5 +1,5 @@
-//! Laws that say what values of `PgEnum`, `PgComposite`, `PgRecord`, `PgNewtype` and `PgDomain` are, by what a caller's
-//! type states. Each is the contract of a function that does nothing.
+//! Laws that say what values of `PgEnum`, `PgComposite`, `PgRecord`, `PgNewtype`, `PgDomain` and `PgPlain` are, by what
+//! a caller's type states. Each is the contract of a function that does nothing.
 
 ghost use Rattle.std.specs.Prelude.{◌≡◌, ◌↔◌, ◌||◌, List};
 ghost use Rattle.pgv_types.specs.Relations.{softly};
@@ -10,13 +10,15 @@ ghost use Rattle.pgv_codec.specs.RecordGrammar.{parse_record};
 ghost use Rattle.pgv_codec.specs.Back.{Followed};
 ghost use Rattle.pgv_codec.specs.Plain.{FieldIsPlain};
 ghost use Rattle.pgv_codec.specs.Encoding.{field, plainly, record_image};
-ghost use Rattle.pgv_codec.specs.TypeRow.{HasArrayType, HasType, HasTypes, IsCodecRow, IsReadAs, IsWrittenAs};
+ghost use Rattle.pgv_codec.specs.TypeRow.{FitsAlways, HasArrayType, HasType, HasTypes, IsCodecRow, IsReadAs, IsWrittenAs};
 ghost use Rattle.pgv_user_types.specs.Labels.{label_written, parse_label};
 
 use crate::{
-    Composite, Domain, Labelled, Newtype, PgComposite, PgDomain, PgEnum, PgNewtype, PgRecord,
+    Composite, Domain, Labelled, Newtype, PgComposite, PgDomain, PgEnum, PgNewtype, PgPlain,
+    PgRecord, PlainCodec, PlainRange,
 };
 use pgv_codec::{Decode, Encode, KeptList, PgHasArrayType, ReadBack, Type};
+use pgv_range::PgRange;
 
 /// A `PgEnum<T>` is the type whose name `T` states, and is written as its label and read as the value of its label.
 pub fn enum_is_its_label<T: Labelled>()
@@ -100,4 +102,23 @@ where
         ≡ T.made (T.Base.kept (T.base v.0)) }
     ensures fits { (v : _) (t : Ty) (oids : List Oid) → ⟦<PgDomain<T> as ReadBack>⟧.fits v t oids
         ↔ T.Base.fits (T.base v.0) t oids }
+{}
+
+/// A `PgPlain<T>` has the types that `T` says, is written and read as it says, without a size hint, is kept as it is,
+/// and fits every type.
+pub fn plain_is_as_it_says<T: PlainCodec>()
+    ensures types { HasType ⟦<PgPlain<T> as Type>⟧ T.rules.info T.rules.accepts }
+    ensures arrays { HasArrayType ⟦<PgPlain<T> as PgHasArrayType>⟧ T.rules.array_info
+        (λ t. softly t T.rules.array_info) }
+    ensures written { IsWrittenAs ⟦<PgPlain<T> as Encode>⟧
+        (λ v. plainly (T.rules.image (T.rules.view v.0))) }
+    ensures read { IsReadAs ⟦<PgPlain<T> as Decode>⟧ (λ v. T.rules.view v.0) T.rules.parse }
+    ensures kept { (v : _) → (⟦<PgPlain<T> as ReadBack>⟧.kept v).0 ≡ v.0 }
+    ensures fits { FitsAlways ⟦<PgPlain<T> as ReadBack>⟧.fits }
+{}
+
+/// A range of `PgPlain<T>` is the type whose name `T` states, and an array of them the array of that type.
+pub fn plain_range_is_its_name<T: PlainRange>()
+    ensures { HasTypes ⟦<PgRange<PgPlain<T>> as Type>⟧ ⟦<PgRange<PgPlain<T>> as PgHasArrayType>⟧
+        (named T.range_name) (array_of T.range_name) }
 {}
