@@ -76,7 +76,7 @@ pub fn add_value(
     }
 }
 
-/// The same, by the type of the value itself or of an array's elements: of numbers, and of `bool`.
+/// The same, by the type of the value itself or of an array's elements.
 fn add_element(
     alloc: Global,
     arguments: &mut PgArguments,
@@ -85,61 +85,25 @@ fn add_element(
 ) -> Result<(), CodecError> {
     match element.oid() {
         Some(Oid(16)) => add_as::<bool>(alloc, arguments, given),
+        Some(Oid(17)) => add_as::<PgBytea>(alloc, arguments, given),
         Some(Oid(18)) => add_as::<i8>(alloc, arguments, given),
         Some(Oid(20)) => add_as::<i64>(alloc, arguments, given),
         Some(Oid(21)) => add_as::<i16>(alloc, arguments, given),
         Some(Oid(23)) => add_as::<i32>(alloc, arguments, given),
+        Some(Oid(25)) => add_as::<String>(alloc, arguments, given),
         Some(Oid(26)) => add_as::<Oid>(alloc, arguments, given),
         Some(Oid(790)) => add_as::<PgMoney>(alloc, arguments, given),
-        Some(Oid(1700)) => add_as::<PgNumeric>(alloc, arguments, given),
-        _ => add_bytes_or_text(alloc, arguments, element, given),
-    }
-}
-
-/// The same of texts, bytes, bits and addresses.
-fn add_bytes_or_text(
-    alloc: Global,
-    arguments: &mut PgArguments,
-    element: &PgTypeInfo,
-    given: &Given<'_>,
-) -> Result<(), CodecError> {
-    match element.oid() {
-        Some(Oid(17)) => add_as::<PgBytea>(alloc, arguments, given),
-        Some(Oid(25)) => add_as::<String>(alloc, arguments, given),
         Some(Oid(829)) => add_as::<MacAddress>(alloc, arguments, given),
         Some(Oid(869)) => add_as::<IpNetwork>(alloc, arguments, given),
-        Some(Oid(1562)) => add_as::<BitVec>(alloc, arguments, given),
-        Some(Oid(2950)) => add_as::<Uuid>(alloc, arguments, given),
-        _ => add_moment(alloc, arguments, element, given),
-    }
-}
-
-/// The same of dates, times and intervals.
-fn add_moment(
-    alloc: Global,
-    arguments: &mut PgArguments,
-    element: &PgTypeInfo,
-    given: &Given<'_>,
-) -> Result<(), CodecError> {
-    match element.oid() {
         Some(Oid(1082)) => add_as::<Date>(alloc, arguments, given),
         Some(Oid(1083)) => add_as::<Time>(alloc, arguments, given),
         Some(Oid(1114)) => add_as::<DateTime>(alloc, arguments, given),
         Some(Oid(1184)) => add_as::<Timestamp>(alloc, arguments, given),
         Some(Oid(1186)) => add_as::<PgInterval>(alloc, arguments, given),
         Some(Oid(1266)) => add_as::<PgTimeTz>(alloc, arguments, given),
-        _ => add_range(alloc, arguments, element, given),
-    }
-}
-
-/// The same of ranges.
-fn add_range(
-    alloc: Global,
-    arguments: &mut PgArguments,
-    element: &PgTypeInfo,
-    given: &Given<'_>,
-) -> Result<(), CodecError> {
-    match element.oid() {
+        Some(Oid(1562)) => add_as::<BitVec>(alloc, arguments, given),
+        Some(Oid(1700)) => add_as::<PgNumeric>(alloc, arguments, given),
+        Some(Oid(2950)) => add_as::<Uuid>(alloc, arguments, given),
         Some(Oid(3904)) => add_as::<PgRange<i32>>(alloc, arguments, given),
         Some(Oid(3908)) => add_as::<PgRange<DateTime>>(alloc, arguments, given),
         Some(Oid(3910)) => add_as::<PgRange<Timestamp>>(alloc, arguments, given),
