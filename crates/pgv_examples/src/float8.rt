@@ -38,6 +38,7 @@ impl PlainCodec for Float8 {
     fn read(alloc: Global, value: PgValueRef<'_>) -> Result<Float8, CodecError> {
         match value.format() {
             PgValueFormat::Binary => {
+                // An `i64` is read from one to eight bytes.
                 let length = value.as_bytes()?.len();
                 if length != 8 {
                     return Err(CodecError::WrongLength(length));
@@ -45,6 +46,7 @@ impl PlainCodec for Float8 {
                 Ok(Float8(i64::read(alloc, value)?))
             }
             PgValueFormat::Text => {
+                // Null is refused as null.
                 value.as_bytes()?;
                 Err(CodecError::TextUnsupported)
             }

@@ -13,7 +13,8 @@
 //! 10. [`read_back`] says that what was sent comes back, and proves it by the laws.
 //! 11. [`copied`] reads the stream of a COPY in binary, row by row.
 //! 12. [`statement`] describes a statement, binds its arguments, and reads its rows by their columns.
-//! 13. [`server_types`] makes a server's own types of the rows of its catalogue.
+//! 13. [`server_types`] makes a server's own types of the rows of its catalogue, fills holes and describes columns by
+//!     them.
 //! 14. [`errors`] turns a refusal into an error of one's own, by column and number.
 //! 15. [`in_list`] has as many parameters as there are keys.
 //! 16. [`float8`] is a type that the library doesn't have, by its bytes, and [`float_range`] is a range over it.

@@ -2,6 +2,7 @@
 //! for them. The examples' types are tested by the rows of `pgv_calls` too.
 
 use hex::{decode, encode};
+use pgv::catalog::{CatalogError, PgCatalogRows, PgServerTypes, PgTypeClass, PgTypeRow};
 use pgv::row::{PgColumns, PgPlaces, PgRow};
 use pgv::types::{PgLTree, PgRange};
 use pgv::{
@@ -20,6 +21,7 @@ use pgv_examples::json::Json;
 use pgv_examples::mood::Mood;
 use pgv_examples::page::Page;
 use pgv_examples::row::{column, keep, read_person};
+use pgv_examples::server_types::{columns_by, fill_by, types_of};
 use pgv_examples::shipment::Shipment;
 use pgv_examples::statement::columns_of;
 use pgv_examples::user_id::UserId;
@@ -315,6 +317,52 @@ fn reasons_name_the_column(rt: HostRuntime) -> Result<(), CodecError> {
         b"00016c616d6500000000000000000000190000000000000000",
     )?;
     assert_eq!(rt; missing, Some(Reason::Missing("name")));
+    Ok(())
+}
+
+/// The types of a server that has `mood` alone, under the OID 16600.
+fn server_of_moods(alloc: Global) -> Result<PgServerTypes, CatalogError> {
+    let mut rows = PgCatalogRows::new(alloc);
+    rows.types.push(PgTypeRow {
+        oid: Oid(16600),
+        schema: String::from_str(alloc, "public")?,
+        name: String::from_str(alloc, "mood")?,
+        is_visible: true,
+        class: PgTypeClass::Enum,
+        part: Oid(0),
+    })?;
+    types_of(alloc, &rows)
+}
+
+/// What is sent of a list of one mood to that server, and the types of a row's columns.
+fn by_catalogue(alloc: Global) -> Result<String, CatalogError> {
+    let types = server_of_moods(alloc)?;
+    let mut arguments = PgArguments::new(alloc);
+    arguments.add([PgEnum(Mood::Fine)].to_vec(alloc)?)?;
+    fill_by(
+        alloc,
+        &mut arguments,
+        &[PgTypeInfo::array_of("mood")],
+        &types,
+    )?;
+    let body = bytes_of(alloc, b"00016d6f6f6400000000000000000040d80000000000000000")?;
+    let columns = columns_by(alloc, body.as_slice(), &types)?;
+    let mut text = encode(alloc, arguments.buffer().as_slice())?;
+    for column in columns.as_slice() {
+        text.push_str(format!(in alloc; " {}", column.type_info().name())?.as_str())?;
+    }
+    Ok(text)
+}
+
+#[test]
+fn a_catalogue_fills_and_describes(rt: HostRuntime) -> Result<(), CodecError> {
+    let Ok(shown) = by_catalogue(rt.alloc()) else {
+        return Err(CodecError::Syntax);
+    };
+    assert_eq!(rt;
+        shown.as_str(),
+        "0000001a0000000100000000000040d80000000100000001000000026f6b mood"
+    );
     Ok(())
 }
 
