@@ -334,35 +334,48 @@ fn server_of_moods(alloc: Global) -> Result<PgServerTypes, CatalogError> {
     types_of(alloc, &rows)
 }
 
-/// What is sent of a list of one mood to that server, and the types of a row's columns.
-fn by_catalogue(alloc: Global) -> Result<String, CatalogError> {
-    let types = server_of_moods(alloc)?;
+/// What is sent of a list of one mood to a server with these types.
+fn mood_sent(alloc: Global, types: &PgServerTypes) -> Result<String, CatalogError> {
+    let moods = [PgEnum(Mood::Fine)].to_vec(alloc)?;
     let mut arguments = PgArguments::new(alloc);
-    arguments.add([PgEnum(Mood::Fine)].to_vec(alloc)?)?;
-    fill_by(
-        alloc,
-        &mut arguments,
-        &[PgTypeInfo::array_of("mood")],
-        &types,
-    )?;
+    arguments.add(moods)?;
+    let parameters = [PgTypeInfo::array_of("mood")];
+    fill_by(alloc, &mut arguments, &parameters, types)?;
+    Ok(encode(alloc, arguments.buffer().as_slice())?)
+}
+
+/// The name of the type of the first column.
+fn first_type(alloc: Global, columns: &PgColumns<'_>) -> Result<String, CatalogError> {
+    let Some(column) = columns.get(0usize) else {
+        return Ok(String::new(alloc));
+    };
+    let type_info = column.type_info();
+    Ok(format!(in alloc; "{}", type_info.name())?)
+}
+
+/// The type of the column `mood` that a server with these types describes.
+fn mood_described(alloc: Global, types: &PgServerTypes) -> Result<String, CatalogError> {
     let body = bytes_of(alloc, b"00016d6f6f6400000000000000000040d80000000000000000")?;
-    let columns = columns_by(alloc, body.as_slice(), &types)?;
-    let mut text = encode(alloc, arguments.buffer().as_slice())?;
-    for column in columns.as_slice() {
-        text.push_str(format!(in alloc; " {}", column.type_info().name())?.as_str())?;
-    }
-    Ok(text)
+    let columns = columns_by(alloc, body.as_slice(), types)?;
+    first_type(alloc, &columns)
+}
+
+/// Both, by a catalogue.
+fn by_catalogue(alloc: Global) -> Result<[String; 2], CatalogError> {
+    let types = server_of_moods(alloc)?;
+    Ok([mood_sent(alloc, &types)?, mood_described(alloc, &types)?])
 }
 
 #[test]
 fn a_catalogue_fills_and_describes(rt: HostRuntime) -> Result<(), CodecError> {
-    let Ok(shown) = by_catalogue(rt.alloc()) else {
+    let Ok([sent, described]) = by_catalogue(rt.alloc()) else {
         return Err(CodecError::Syntax);
     };
     assert_eq!(rt;
-        shown.as_str(),
-        "0000001a0000000100000000000040d80000000100000001000000026f6b mood"
+        sent.as_str(),
+        "0000001a0000000100000000000040d80000000100000001000000026f6b"
     );
+    assert_eq!(rt; described.as_str(), "mood");
     Ok(())
 }
 
