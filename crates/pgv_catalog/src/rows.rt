@@ -1,6 +1,6 @@
 //! Rows of the catalogue.
 
-ghost use Rattle.std.specs.Prelude.{◌≡◌, Ok, IfOk, IfErr};
+ghost use Rattle.std.specs.Prelude.{◌≡◌, Ok, MatchResult};
 ghost use Rattle.pgv_catalog.specs.Classes.{class_of, ReadsField, ReadsLabel, ReadsType};
 
 use pgv_row::{ColumnError, FromRow, PgRow};
@@ -65,10 +65,9 @@ pub struct PgTypeRow {
 impl PgTypeRow {
     /// The type in a row of [`TYPES`](crate::TYPES).
     pub fn read(alloc: Global, row: &PgRow<'_>) -> Result<PgTypeRow, ColumnError<usize>>
-        ensures read { IfOk result
-            (ReadsType (⟦<(Oid, String, String, bool, i8, Oid) as FromRow>⟧.parse row.now)) }
-        ensures refused { IfErr result (⟦<(Oid, String, String, bool, i8, Oid) as FromRow>⟧.refused
-            row.now) }
+        ensures { MatchResult result
+            (ReadsType (⟦<(Oid, String, String, bool, i8, Oid) as FromRow>⟧.parse row.now))
+            (⟦<(Oid, String, String, bool, i8, Oid) as FromRow>⟧.refused row.now) }
     {
         let (oid, schema, name, is_visible, letter, part) = row.as_tuple::<
             (Oid, String, String, bool, i8, Oid),
@@ -98,8 +97,8 @@ pub struct PgFieldRow {
 impl PgFieldRow {
     /// The field in a row of [`FIELDS`](crate::FIELDS).
     pub fn read(alloc: Global, row: &PgRow<'_>) -> Result<PgFieldRow, ColumnError<usize>>
-        ensures read { IfOk result (ReadsField (⟦<(Oid, String, Oid) as FromRow>⟧.parse row.now)) }
-        ensures refused { IfErr result (⟦<(Oid, String, Oid) as FromRow>⟧.refused row.now) }
+        ensures { MatchResult result (ReadsField (⟦<(Oid, String, Oid) as FromRow>⟧.parse row.now))
+            (⟦<(Oid, String, Oid) as FromRow>⟧.refused row.now) }
     {
         let (of, name, field_type) = row.as_tuple::<(Oid, String, Oid)>(alloc)?;
         Ok(PgFieldRow {
@@ -122,8 +121,8 @@ pub struct PgLabelRow {
 impl PgLabelRow {
     /// The label in a row of [`LABELS`](crate::LABELS).
     pub fn read(alloc: Global, row: &PgRow<'_>) -> Result<PgLabelRow, ColumnError<usize>>
-        ensures read { IfOk result (ReadsLabel (⟦<(Oid, String) as FromRow>⟧.parse row.now)) }
-        ensures refused { IfErr result (⟦<(Oid, String) as FromRow>⟧.refused row.now) }
+        ensures { MatchResult result (ReadsLabel (⟦<(Oid, String) as FromRow>⟧.parse row.now))
+            (⟦<(Oid, String) as FromRow>⟧.refused row.now) }
     {
         let (of, label) = row.as_tuple::<(Oid, String)>(alloc)?;
         Ok(PgLabelRow { of, label })

@@ -107,12 +107,16 @@ next_field accepts parse (text_fields n copied (part ∷ parts)) = do
 
 -- ---- whole records
 
+abbrev pub fields_in_text : List ℕ → Outcome Left
+fields_in_text text = do
+  parts ← or_fail (record_values text) Syntax
+  done (text_fields (length parts) (copies_of Record text) parts)
+
 abbrev pub fields_by : Ty → PgValueFormat → Option (List ℕ) → Outcome Left
 fields_by t format None = fails UnexpectedNull
 fields_by t Text (Some bytes) = do
   fails_if (not (is_utf8 bytes)) Utf8
-  parts ← or_fail (record_values bytes) Syntax
-  done (text_fields (length parts) (copies_of Record bytes) parts)
+  fields_in_text bytes
 fields_by t Binary (Some bytes) = do
   count ← u32_at bytes
   done (binary_fields t 0 count.1)

@@ -2,9 +2,11 @@
 -- trailer. That this is what a stream's bytes are, is a law (CopyStream). `step` is what a reader's next call answers,
 -- in the order of the format: a number of fields below -1 is C16 before another number is C12, and that before any
 -- field is read.
-use Rattle.std.specs.Prelude.{ℕ, nat_lt, pos, negsuc, int_lt, ◌&&◌, Bool, true, false, List, [], ◌∷◌, length, take, drop, bytes_eq, Option, Some, None, Ok, Err, if◌then◌else◌}
+use Rattle.std.specs.Prelude.{ℕ, nat_lt, pos, negsuc, int_lt, ◌&&◌, ◌||◌, Bool, true, false, List, [], ◌∷◌, length, take, drop, bytes_eq, Option, Some, None, Ok, Err, if◌then◌else◌}
 use Rattle.std.specs.Int.{w32, cast_signed}
+use Rattle.std.specs.List.{list_any}
 use Rattle.std.specs.Ordering.{int_eq}
+use Rattle.pgv_types.specs.Facts.{is_custom}
 use Rattle.pgv_types.specs.Ty.{Ty}
 use Rattle.pgv_value.specs.Fronts.{i16_front, u32_front, value_front}
 use Rattle.pgv_value.specs.Outcome.{Outcome, after, exactly}
@@ -55,18 +57,19 @@ after_count width bytes =
 abbrev pub field : Ty → List ℕ → Parsed (Given × List ℕ)
 field t bytes = value_front t Binary bytes
 
-abbrev pub has_columns : List Ty → Bool
-has_columns [] = false
-has_columns (t ∷ ts) = true
-
 -- a field of each type, and what comes after them
 unfoldable pub fields : List Ty → List ℕ → Parsed (List Given × List ℕ)
 fields [] bytes = Ok ([], bytes)
 fields (t ∷ ts) bytes = field t bytes >>= λ first. fields ts first.1 >>= λ more. Ok (first.0 ∷ more.0, more.1)
 
--- the same as a list, which asks for memory where it has a column
-abbrev pub listed : List Ty → List ℕ → Outcome (List Given × List ℕ)
-listed types bytes = after (has_columns types) (exactly (fields types bytes))
+-- Whether a list that has room for some values asks for memory to take a field of each type: it has room for fewer, or
+-- a custom type is copied.
+abbrev pub list_takes : ℕ → List Ty → Bool
+list_takes room types = nat_lt room (length types) || list_any is_custom types
+
+-- the fields in a list that has room for some values
+abbrev pub listed : ℕ → List Ty → List ℕ → Outcome (List Given × List ℕ)
+listed room types bytes = after (list_takes room types) (exactly (fields types bytes))
 
 -- ---- a reader's calls
 
@@ -113,14 +116,22 @@ begins_row (Err e) = false
 begins_row (Ok None) = false
 begins_row (Ok (Some bytes)) = true
 
-abbrev pub row_takes_from : List Ty → Option (List ℕ) → Bool
-row_takes_from types None = false
-row_takes_from types (Some bytes) = has_columns types && begins_row (after_count (length types) bytes)
+abbrev pub row_takes_from : ℕ → List Ty → Option (List ℕ) → Bool
+row_takes_from room types None = false
+row_takes_from room types (Some bytes) = list_takes room types && begins_row (after_count (length types) bytes)
 
--- Whether a call asks for memory: only where a row of one field or more begins, and its fields are read.
-abbrev pub row_takes : Copying → Bool
-row_takes reader = row_takes_from reader.types reader.left
+-- Whether a call asks for memory: only where a row begins whose list asks for some, and its fields are read.
+abbrev pub row_takes : ℕ → Copying → Bool
+row_takes room reader = row_takes_from room reader.types reader.left
 
--- what a call gives, and the reader after it
+-- what a call gives that fills a list with room for some values, and the reader after it
+abbrev pub next_row_in : ℕ → Copying → Outcome (Option (List Given) × Copying)
+next_row_in room reader = after (row_takes room reader) (exactly (step reader))
+
+-- what a call gives that makes a list, and the reader after it
 abbrev pub next_row : Copying → Outcome (Option (List Given) × Copying)
-next_row reader = after (row_takes reader) (exactly (step reader))
+next_row reader = next_row_in 0 reader
+
+-- what is in a list that was filled, if it was
+abbrev pub filled : Bool → List Given → Option (List Given)
+filled there row = if there then Some row else None

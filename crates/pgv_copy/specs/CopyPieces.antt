@@ -3,10 +3,11 @@
 -- `Advances` is what a call of a reader of pieces answers, and the reader after it. Laws: what is proved about bytes is
 -- proved whatever comes after them (`WhatCameStays`); rows that are read after each piece are the rows of the joined
 -- bytes (`PiecesAreOneStream`), and of a whole stream all of its rows (`CopyInPiecesIsItsRows`).
-use Rattle.std.specs.Prelude.{◌≡◌, ◌≢◌, ◌⊎◌, ◌≤◌, ◌<◌, ℕ, Bool, true, false, List, [], ◌∷◌, ◌++◌, map, flat_map, length, drop, option_map, Option, Some, None, Result, Ok, Err, refl, if◌then◌else◌}
+use Rattle.std.specs.Prelude.{◌≡◌, ◌≢◌, ◌⊎◌, ◌≤◌, ◌<◌, ℕ, Bool, true, false, List, [], ◌∷◌, ◌++◌, map, flat_map, length, drop, option_map, Option, Some, None, is_some, Result, Ok, Err, refl, if◌then◌else◌}
 use Rattle.std.specs.Coded.{Coded, code_by, coded×, coded_bool, coded_ℕ, coded_list, coded_option}
 use Rattle.pgv_types.specs.Ty.{Ty, ty_code}
 use Rattle.pgv_value.specs.FrameBinary.{Part}
+use Rattle.pgv_value.specs.Outcome.{Outcome}
 use Rattle.pgv_value.specs.Parsed.{Parsed, ◌>>=◌}
 use Rattle.pgv_value.specs.ValueView.{Given, given_code}
 use Rattle.pgv_value.specs.declared.error.CodecError.{CodecError}
@@ -35,6 +36,10 @@ nothing_came types = record { types = types; in_header = true; is_ended = false;
 -- more bytes have come; after the end they don't count
 abbrev pub with_more : Pieces → List ℕ → Pieces
 with_more p more = if p.is_ended then p else record p { left = p.left ++ more; row = None }
+
+-- the row that was read last, where one was; its list asks for memory
+abbrev pub row_lent : Option (List Given) → Outcome (Option (List Given))
+row_lent row = record { answer = Ok row; may_alloc = is_some row }
 
 -- the rest of a stream whose header is still to come, or has been read
 abbrev pub after_begin : Bool → List ℕ → Parsed (List ℕ)

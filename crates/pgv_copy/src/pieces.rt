@@ -1,11 +1,12 @@
 //! Rows of a COPY stream that comes in pieces.
 
-ghost use Rattle.std.specs.Prelude.{◌≡◌, ◌<◌, ◌≤◌, Ok, Err, None, IfOk, IfErr, IfSome, IsOk, OnErr, drop, length, option_map, true};
+ghost use Rattle.std.specs.Prelude.{◌≡◌, ◌<◌, ◌≤◌, Ok, Err, None, IfOk, IfErr, IsOk, MatchOption, MatchResult, OnErr, drop, length, option_map, true};
+ghost use Rattle.pgv_value.specs.Outcome.{Gives};
 ghost use Rattle.pgv_value.specs.Parsed.{GivesExactly};
 ghost use Rattle.pgv_value.specs.declared.error.CodecError.TheVariants.{Memory};
 ghost use Rattle.pgv_copy.specs.CopyBinary.{ended, fields};
 ghost use Rattle.pgv_copy.specs.declared.pieces.PgCopyNext.TheVariants.{Row};
-ghost use Rattle.pgv_copy.specs.CopyPieces.{Advances, IsRowIn, after_begin, next_of, nothing_came, rest_after, with_more};
+ghost use Rattle.pgv_copy.specs.CopyPieces.{Advances, IsRowIn, after_begin, next_of, nothing_came, rest_after, row_lent, with_more};
 
 use crate::reader::{after_count, after_header, read_fields};
 use pgv_types::PgTypeInfo;
@@ -83,11 +84,9 @@ fn next_row_in<'r>(
     bytes: &'r [u8],
     in_header: bool,
 ) -> Result<Option<(&'r [u8], &'r [u8])>, CodecError>
-    ensures row { IfOk result (λ found. IfSome found
-        (λ p. IsRowIn types.now in_header bytes.now p.0.now p.1.now)) }
-    ensures end { IfOk result (λ found. found ≡ None
-        → next_of types.now in_header bytes.now ≡ Ok (None, ended types.now)) }
-    ensures refused { IfErr result (λ e. next_of types.now in_header bytes.now ≡ Err e) }
+    ensures { let next = next_of types.now in_header bytes.now in
+        MatchResult result (λ found. MatchOption found (next ≡ Ok (None, ended types.now))
+        (λ p. IsRowIn types.now in_header bytes.now p.0.now p.1.now)) (λ e. next ≡ Err e) }
 {
     let rest = after_beginning(bytes, in_header)?;
     let Some(row) = after_count(rest, types.len())? else {
@@ -189,15 +188,15 @@ impl PgCopyPieces {
     /// The list and the copy of each custom type take memory: where there is none left it is refused with
     /// [`Memory`](CodecError::Memory) (C1). Where there is no row it asks for none.
     pub fn row(&self) -> Result<Option<Vec<PgValueRef<'_>>>, CodecError>
-        ensures found { IfOk result (λ found. option_map (λ row. row.items) found ≡ self.now.row) }
-        ensures refused { IfErr result (λ e. e ≡ Memory) }
-        ensures none { self.now.row ≡ None → IsOk result }
+        ensures { Gives (λ found. option_map (λ row. row.items) found)
+            (row_lent self.now.row) result }
     {
         if !self.has_row {
             return Ok(None);
         }
         let mut bytes = &self.held.as_slice()[self.row..];
-        let row = read_fields(*self.types.allocator(), self.types.as_slice(), &mut bytes)?;
+        let mut row = Vec::new(*self.types.allocator());
+        read_fields(self.types.as_slice(), &mut bytes, &mut row)?;
         Ok(Some(row))
     }
 }

@@ -1,14 +1,13 @@
 //! A reader of rows.
 
-ghost use Rattle.std.specs.Prelude.{◌≡◌, ◌<◌, ◌≤◌, length, IfOk, OnOk, OnErr, IfSome, OnSome, option_map};
+ghost use Rattle.std.specs.Prelude.{◌≡◌, ◌<◌, ◌≤◌, [], length, true, vec_capacity, IfOk, OnOk, OnErr, IfSome, OnSome, option_map};
 ghost use Rattle.std.specs.Option.{option_copied};
 ghost use Rattle.pgv_value.specs.Parsed.{GivesExactly};
 ghost use Rattle.pgv_value.specs.Outcome.{Gives};
-ghost use Rattle.pgv_copy.specs.CopyBinary.{header, after_signature as signature_passed, after_flags as flags_passed, after_extension as extension_passed, after_count as count_passed, listed, next_row as next_row_of, opened, bytes_left};
+ghost use Rattle.pgv_copy.specs.CopyBinary.{header, after_signature as signature_passed, after_flags as flags_passed, after_extension as extension_passed, after_count as count_passed, filled, listed, next_row as next_row_of, next_row_in, opened, bytes_left};
 
 use pgv_types::PgTypeInfo;
 use pgv_value::{CodecError, PgValueFormat, PgValueRef, i16_in_front, u32_in_front};
-use std::alloc::Global;
 use std::marker::Model;
 
 /// What a stream begins with.
@@ -71,7 +70,6 @@ impl<'r> PgCopyReader<'r> {
     /// the allocator of the types, and the copy of a custom type take memory: so [`Memory`](CodecError::Memory) (C1)
     /// comes only where the fields of a row are read, and not at the trailer or after it.
     #[inline(always)]
-    #[tactic(auto, unfolding(crate::specs::CopyBinary::step))]
     pub fn next_row(&mut self) -> Result<Option<Vec<PgValueRef<'r>>>, CodecError>
         ensures exact { Gives (λ found. (option_map (λ row. row.items) found, self.new))
             (next_row_of self.old) result }
@@ -80,16 +78,42 @@ impl<'r> PgCopyReader<'r> {
         ensures shorter { IfOk result (λ found. OnSome found
             (bytes_left self.new < bytes_left self.old)) }
     {
+        let mut row = Vec::new(*self.types.allocator());
+        if self.next_row_into(&mut row)? {
+            Ok(Some(row))
+        } else {
+            Ok(None)
+        }
+    }
+
+    /// The next row into a list that the caller keeps, in place of what is in it: whether there is one. It is read, and
+    /// refused, as by [`PgCopyReader::next_row`]; a refused call may leave some values of the row in the list.
+    ///
+    /// No memory is asked for where the list has room for a value of each column, as it has after a row, and no
+    /// column's type is custom.
+    #[inline(always)]
+    #[tactic(auto, unfolding(crate::specs::CopyBinary::step))]
+    pub fn next_row_into(&mut self, row: &mut Vec<PgValueRef<'r>>) -> Result<bool, CodecError>
+        ensures exact { Gives (λ there. (filled there row.new.items, self.new))
+            (next_row_in (vec_capacity row.old) self.old) result }
+        ensures unmoved { OnErr result (self.new ≡ self.old) }
+        ensures shorter { IfOk result (λ there. there ≡ true
+            → bytes_left self.new < bytes_left self.old) }
+        ensures room { vec_capacity row.old ≤ vec_capacity row.new }
+        ensures enough { IfOk result (λ there. there ≡ true
+            → length self.old.types ≤ vec_capacity row.new) }
+    {
+        row.clear();
         let Some(bytes) = self.left else {
-            return Ok(None);
+            return Ok(false);
         };
         let Some(mut rest) = after_count(bytes, self.types.len())? else {
             self.left = None;
-            return Ok(None);
+            return Ok(false);
         };
-        let row = read_fields(*self.types.allocator(), self.types.as_slice(), &mut rest)?;
+        read_fields(self.types.as_slice(), &mut rest, row)?;
         self.left = Some(rest);
-        Ok(Some(row))
+        Ok(true)
     }
 }
 
@@ -168,20 +192,24 @@ pub fn after_count(bytes: &[u8], width: usize) -> Result<Option<&[u8]>, CodecErr
     Ok(Some(rest))
 }
 
-/// A field of each type. The bytes are moved on after those that were read.
+/// A field of each type, into an empty list. The bytes are moved on after those that were read.
 #[inline(always)]
 pub fn read_fields<'r>(
-    alloc: Global,
     types: &[PgTypeInfo],
     bytes: &mut &'r [u8],
-) -> Result<Vec<PgValueRef<'r>>, CodecError>
-    ensures exact { Gives (λ row. (row.items, bytes.new.now))
-        (listed types.now bytes.old.now) result }
+    row: &mut Vec<PgValueRef<'r>>,
+) -> Result<(), CodecError>
+    requires { row.old.items ≡ [] }
+    ensures exact { Gives (λ _. (row.new.items, bytes.new.now))
+        (listed (vec_capacity row.old) types.now bytes.old.now) result }
     ensures within { OnOk result (length bytes.new.now ≤ length bytes.old.now) }
+    ensures room { vec_capacity row.old ≤ vec_capacity row.new }
+    ensures enough { OnOk result (length types.now ≤ vec_capacity row.new) }
 {
-    let mut row = Vec::with_capacity(alloc, types.len())?;
+    row.reserve(types.len())?;
     for type_info in types {
-        row.push(PgValueRef::get(bytes, PgValueFormat::Binary, type_info.clone()?)?)?;
+        let type_info = type_info.clone()?;
+        row.push_reserved(PgValueRef::get(bytes, PgValueFormat::Binary, type_info)?);
     }
-    Ok(row)
+    Ok(())
 }

@@ -33,14 +33,11 @@ pub struct Person {
 
 /// A row of an `int4` and a `text` that may be null; more columns may follow.
 pub fn read_person(alloc: Global, row: &[u8]) -> Result<Person, CodecError>
-    ensures first { IfOk result (λ person.
-        (id : Given) × (rest : List ℕ)
-        × (value_front (builtin 23) Binary row.now ≡ Ok (id, rest))
-        × Reads ⟦<i32 as Decode>⟧.parse id person.id) }
-    ensures second { IfOk result (λ person.
+    ensures { IfOk result (λ person.
         (id : Given) × (rest : List ℕ) × (name : Given) × (more : List ℕ)
         × (value_front (builtin 23) Binary row.now ≡ Ok (id, rest))
         × (value_front (builtin 25) Binary rest ≡ Ok (name, more))
+        × Reads ⟦<i32 as Decode>⟧.parse id person.id
         × Reads ⟦<Option<String> as Decode>⟧.parse name
         (⟦<Option<String> as Decode>⟧.view person.name)) }
 {

@@ -20,3 +20,8 @@ first_is good (x ∷ xs) = good x
 abbrev pub GivesRead : {V M E : Type 0} → (V → M) → E → Bool → Result M E → Result V E → Type 0
 GivesRead view memory may_alloc read (Ok v) = read ≡ Ok (view v)
 GivesRead view memory may_alloc read (Err e) = (read ≡ Err e) ⊎ ((e ≡ memory) × (may_alloc ≡ true))
+
+-- the same where memory isn't asked for
+abbrev pub GivesAs : {V M E : Type 0} → (V → M) → Result M E → Result V E → Type 0
+GivesAs view read (Ok v) = read ≡ Ok (view v)
+GivesAs view read (Err e) = read ≡ Err e

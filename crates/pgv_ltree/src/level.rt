@@ -1,8 +1,8 @@
 //! The levels of a query (PostgreSQL, "ltree", lquery).
 
-ghost use Rattle.std.specs.Prelude.{◌≡◌, false, IfOk, IfErr, Ok, Err, Some, option_map};
+ghost use Rattle.std.specs.Prelude.{◌≡◌, false, Some, option_map};
 ghost use Rattle.pgv_value.specs.declared.tree_error.PgLQueryParseError.TheVariants.{Memory};
-ghost use Rattle.pgv_ltree.specs.Each.{GivesRead};
+ghost use Rattle.pgv_ltree.specs.Each.{GivesAs, GivesRead};
 ghost use Rattle.pgv_ltree.specs.LevelView.{level_of};
 ghost use Rattle.pgv_ltree.specs.QueryPrinted.{printed_level};
 ghost use Rattle.pgv_ltree.specs.QueryRead.{begins_with_variant, between_read, bound_read, braced, count_read, inner_read, level_allocates, level_read, star_read, variants_read};
@@ -50,8 +50,7 @@ fn bound_of(text: &str) -> Result<Option<u16>, PgLQueryParseError>
 
 /// The star of two numbers, one of which may be missing.
 fn between(least: &str, most: &str) -> Result<PgLQueryLevel, PgLQueryParseError>
-    ensures ok { IfOk result (λ l. between_read least.now most.now ≡ Ok (level_of l)) }
-    ensures err { IfErr result (λ e. between_read least.now most.now ≡ Err e) }
+    ensures { GivesAs level_of (between_read least.now most.now) result }
 {
     if most.as_bytes().contains(&b',') || (least.is_empty() && most.is_empty()) {
         return Err(PgLQueryParseError::UnexpectedCharacter);
@@ -63,8 +62,7 @@ fn between(least: &str, most: &str) -> Result<PgLQueryLevel, PgLQueryParseError>
 
 /// The star of the numbers between braces.
 fn counts_of(inner: &str) -> Result<PgLQueryLevel, PgLQueryParseError>
-    ensures ok { IfOk result (λ l. inner_read (Some inner.now) ≡ Ok (level_of l)) }
-    ensures err { IfErr result (λ e. inner_read (Some inner.now) ≡ Err e) }
+    ensures { GivesAs level_of (inner_read (Some inner.now)) result }
 {
     match inner.split_once(',') {
         Some((least, most)) => between(least, most),
@@ -84,8 +82,7 @@ fn inside(text: &str) -> Option<&str>
 
 /// The star of what comes after it.
 fn star_of(text: &str) -> Result<PgLQueryLevel, PgLQueryParseError>
-    ensures ok { IfOk result (λ l. star_read text.now ≡ Ok (level_of l)) }
-    ensures err { IfErr result (λ e. star_read text.now ≡ Err e) }
+    ensures { GivesAs level_of (star_read text.now) result }
 {
     if text.is_empty() {
         return Ok(PgLQueryLevel::Star(None, None));

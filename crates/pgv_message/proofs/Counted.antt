@@ -8,7 +8,7 @@ use Rattle.pgv_value.specs.declared.error.CodecError.{CodecError}
 use Rattle.pgv_value.specs.declared.error.CodecError.TheVariants.{WrongLength}
 use Rattle.pgv_value.proofs.Numbers.{bytes_after}
 use Rattle.pgv_value.specs.Fronts.{u16_front, u32_front}
-use Rattle.pgv_value.specs.Outcome.{Outcome, Gives, IsRead, done}
+use Rattle.pgv_value.specs.Outcome.{Outcome, Gives, GivesWhole, done}
 use Rattle.pgv_value.specs.Several.{several, ReadsOne}
 use Rattle.pgv_value.proofs.ReadFronts.{u16_there, u16_is, u32_there, u32_is, nothing_is}
 use Rattle.pgv_value.proofs.Outcomes.{answer_is, taken, taken_exactly, tested, only_memory}
@@ -46,9 +46,9 @@ module _ {A : Type 0} (Is : A → Type 0) (encode : A → List ℕ) (one : List 
 
   -- as a reader answers
   module _ {V : Type 0} (view : V → List A) (bytes : List ℕ) where
-    pub reads_counted : (result : Result V CodecError) → AreBytes bytes → Gives view (counted one bytes) result → IsRead view (IsCounted Is encode bytes) result
-    reads_counted (Ok v) h gives = (is_counted bytes (view v) h gives, λ list s. answer_is {A = List A} (view v) list (sym gives ∙ is_read bytes list h s))
-    reads_counted (Err e) h gives = λ list s. (only_memory (counted one bytes) e list (is_read bytes list h s) gives).0
+    pub reads_counted : (result : Result V CodecError) → AreBytes bytes → Gives view (counted one bytes) result → GivesWhole view (counted one bytes) (IsCounted Is encode bytes) result
+    reads_counted (Ok v) h gives = (gives, is_counted bytes (view v) h gives, λ list s. answer_is {A = List A} (view v) list (sym gives ∙ is_read bytes list h s))
+    reads_counted (Err e) h gives = (gives, λ list s. (only_memory (counted one bytes) e list (is_read bytes list h s) gives).0)
 
 -- ---- OIDs
 

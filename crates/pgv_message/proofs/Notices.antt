@@ -6,7 +6,7 @@ use Rattle.std.proofs.lemmas.Bool.{eqb-true}
 use Rattle.pgv_value.specs.declared.error.CodecError.{CodecError}
 use Rattle.pgv_value.specs.declared.error.CodecError.TheVariants.{Short, WrongLength}
 use Rattle.pgv_value.specs.Fronts.{name_front}
-use Rattle.pgv_value.specs.Outcome.{Gives, IsRead}
+use Rattle.pgv_value.specs.Outcome.{Gives, GivesWhole}
 use Rattle.pgv_value.specs.Parsed.{Parsed, ◌>>=◌}
 use Rattle.pgv_value.proofs.ReadFronts.{name_there, name_is}
 use Rattle.pgv_value.proofs.Outcomes.{only_memory, ok_is, stated_is}
@@ -133,11 +133,11 @@ notice_is_read bytes fields = (is_notice bytes fields, is_read bytes fields)
 -- ---- as a reader answers
 
 module _ {V : Type 0} (view : V → List Field) (bytes : List ℕ) where
-  pub reads_fields : (result : Result V CodecError) → Gives view (notice bytes) result → IsRead view (IsNotice bytes) result
+  pub reads_fields : (result : Result V CodecError) → Gives view (notice bytes) result → GivesWhole view (notice bytes) (IsNotice bytes) result
   reads_fields (Ok v) gives =
       let found = stated_is (notice_fields bytes) (view v) gives in
-      (is_notice bytes (view v) found, λ fields s. ok_is {A = List Field} (view v) fields (sym found ∙ is_read bytes fields s))
-  reads_fields (Err e) gives = λ fields s. (only_memory (notice bytes) e fields (ap stated (is_read bytes fields s)) gives).0
+      (gives, is_notice bytes (view v) found, λ fields s. ok_is {A = List Field} (view v) fields (sym found ∙ is_read bytes fields s))
+  reads_fields (Err e) gives = (gives, λ fields s. (only_memory (notice bytes) e fields (ap stated (is_read bytes fields s)) gives).0)
 
 -- ---- as a loop reads them
 

@@ -1,6 +1,6 @@
 //! ParameterDescription: the types of a statement's parameters.
 
-ghost use Rattle.pgv_value.specs.Outcome.{Gives, IsRead};
+ghost use Rattle.pgv_value.specs.Outcome.{Gives, GivesWhole};
 ghost use Rattle.pgv_message.specs.Counted.{oid_front, parameters, AreParameters, oids_front};
 
 use pgv_types::Oid;
@@ -50,9 +50,9 @@ fn all_oids(alloc: Global, body: &[u8]) -> Result<Vec<Oid>, CodecError>
 ///
 /// `0001 00000017` is one parameter, an `int4`.
 pub fn parameter_oids(alloc: Global, body: &[u8]) -> Result<Vec<Oid>, CodecError>
-    ensures read { Gives (λ oids. oids.items) (parameters body.now) result }
     // What is answered is what the body describes, and nothing but memory keeps a description from being answered.
-    ensures exact { IsRead (λ oids. oids.items) (AreParameters body.now) result }
+    ensures { GivesWhole (λ oids. oids.items) (parameters body.now)
+        (AreParameters body.now) result }
 {
     let oids = all_oids(alloc, body)?;
     Ok(oids)

@@ -1,7 +1,7 @@
 //! ErrorResponse and NoticeResponse: what a server reports.
 
 ghost use Rattle.std.specs.Prelude.{◌≡◌, map, option_map};
-ghost use Rattle.pgv_value.specs.Outcome.{Gives, IsRead};
+ghost use Rattle.pgv_value.specs.Outcome.{Gives, GivesWhole};
 ghost use Rattle.pgv_message.specs.Notice.{field_view, fields_of, fields_front, notice, IsNotice, text_by};
 
 use crate::end::check_end;
@@ -61,9 +61,8 @@ impl<'a> PgNotice<'a> {
     ///
     /// `5345525200 4332323031320000` has the severity `ERR` and the code `22012`.
     pub fn read(alloc: Global, body: &'a [u8]) -> Result<PgNotice<'a>, CodecError>
-        ensures read { Gives fields_of (notice body.now) result }
         // What is answered is what the body has, and nothing but memory keeps fields from being answered.
-        ensures exact { IsRead fields_of (IsNotice body.now) result }
+        ensures { GivesWhole fields_of (notice body.now) (IsNotice body.now) result }
     {
         let fields = all_fields(alloc, body)?;
         Ok(PgNotice { fields })

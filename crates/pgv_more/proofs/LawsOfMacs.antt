@@ -5,8 +5,7 @@ use Rattle.std.specs.Option.{option_map}
 use Rattle.std.specs.Char.{digit_value}
 use Rattle.std.proofs.lemmas.Bool.{eqb-true, eq-eqb, ltb-true, lt-ltb, cases_lt}
 use Rattle.std.proofs.lemmas.Bool.Decides.{nat_tests}
-use Rattle.std.proofs.lemmas.Option.{same_Some, none-some}
-use Rattle.pgv_text.specs.DateTimeText.{IsValueOf}
+use Rattle.std.proofs.lemmas.Option.{same_Some}
 use Rattle.pgv_codec.specs.BackParts.{guarded}
 use Rattle.pgv_more.specs.MacAddressText.{IsHexDigit, IsPair, ArePairsAfter, IsSeparator, IsMacAddress, hex_value, pair_of, pair_value, with_rest, next_pair, before, at_end, pairs_after, is_separator, mac_value, MacAddressIsRead, OneMacAddress}
 
@@ -157,8 +156,3 @@ mac_address_is_read text bytes = (mac_found text bytes, mac_read text bytes)
 
 pub one_mac_address : OneMacAddress
 one_mac_address text first second a b = same_Some first second (sym (mac_read text first a) ∙ mac_read text second b)
-
--- what is computed is the address that the text is, or that it is none
-pub address_is : (text : List ℕ) (found : Option (List ℕ)) → found ≡ mac_value text → IsValueOf IsMacAddress text found
-address_is text (Some bytes) e = mac_found text bytes (sym e)
-address_is text None e = λ bytes is. none-some bytes (e ∙ mac_read text bytes is)

@@ -1,8 +1,7 @@
 //! MAC addresses (PostgreSQL, "Network Address Types", macaddr): six bytes.
 
 ghost use Rattle.std.specs.Prelude.{◌≡◌, [], ◌∷◌, option_map};
-ghost use Rattle.pgv_text.specs.DateTimeText.{IsValueOf};
-ghost use Rattle.pgv_more.specs.MacAddressText.{IsMacAddress, mac_value, next_pair, pair_value, pairs_after};
+ghost use Rattle.pgv_more.specs.MacAddressText.{mac_value, next_pair, pair_value, pairs_after};
 
 mod codec;
 
@@ -44,30 +43,19 @@ impl MacAddress {
     /// `08:00:2b:01:02:03` and `08-00-2B-01-02-03`. `08-00-2b:01-02-03` is invalid.
     #[inline(always)]
     pub fn from_str(text: &str) -> Option<MacAddress>
-        // The address that the text denotes, or that it denotes none.
-        ensures reads { IsValueOf IsMacAddress text.now result }
-        // The same by the computed bytes.
-        ensures computed { result ≡ mac_value text.now }
+        ensures { result ≡ mac_value text.now }
     {
-        address_of(text)
+        let [high, low, rest @ ..] = text.as_bytes() else {
+            return None;
+        };
+        let separator = *rest.first()?;
+        if separator != b':' && separator != b'-' {
+            return None;
+        }
+        let first = byte_of(*high, *low)?;
+        let [second, third, fourth, fifth, sixth] = five_after(separator, rest)?;
+        Some(MacAddress::new([first, second, third, fourth, fifth, sixth]))
     }
-}
-
-/// The address of a text.
-#[inline(always)]
-fn address_of(text: &str) -> Option<MacAddress>
-    ensures { result ≡ mac_value text.now }
-{
-    let [high, low, rest @ ..] = text.as_bytes() else {
-        return None;
-    };
-    let separator = *rest.first()?;
-    if separator != b':' && separator != b'-' {
-        return None;
-    }
-    let first = byte_of(*high, *low)?;
-    let [second, third, fourth, fifth, sixth] = five_after(separator, rest)?;
-    Some(MacAddress::new([first, second, third, fourth, fifth, sixth]))
 }
 
 /// The bytes of five pairs, each after the separator, where nothing comes after them.

@@ -11,7 +11,7 @@ use Rattle.pgv_value.proofs.Numbers.{bytes_after}
 use Rattle.pgv_row.proofs.FrameCounts.{frames_read, frames_are}
 use Rattle.pgv_row.specs.DataRow.{IsDataRow, data_row, DataRowIsRead, frames_front}
 use Rattle.pgv_value.specs.Fronts.{one_part, part_front, u16_front}
-use Rattle.pgv_value.specs.Outcome.{Outcome, Gives, IsRead, stated, exactly, allocates, fails_if, done, ◌>>=◌, ◌>>◌}
+use Rattle.pgv_value.specs.Outcome.{Outcome, Gives, GivesWhole, stated, exactly, allocates, fails_if, done, ◌>>=◌, ◌>>◌}
 use Rattle.pgv_value.specs.Parsed.{Parsed, ◌>>=◌ as ◌and_then◌}
 use Rattle.pgv_value.specs.Several.{several}
 use Rattle.pgv_value.proofs.ReadFronts.{reads_part, nothing_is}
@@ -135,9 +135,9 @@ row_is_free room width bytes enough =
 -- ---- as a reader answers
 
 module _ {V : Type 0} (view : V → List Part) (room width : ℕ) (bytes : List ℕ) where
-  pub row_read : (result : Result V CodecError) → AreBytes bytes → Gives view (data_row room width bytes) result → IsRead view (IsDataRow width bytes) result
-  row_read (Ok v) h gives = (is_row room width bytes (view v) h gives, λ row s. answer_is {A = List Part} (view v) row (sym gives ∙ is_read room width bytes row h s))
-  row_read (Err e) h gives = λ row s. (only_memory (data_row room width bytes) e row (is_read room width bytes row h s) gives).0
+  pub row_read : (result : Result V CodecError) → AreBytes bytes → Gives view (data_row room width bytes) result → GivesWhole view (data_row room width bytes) (IsDataRow width bytes) result
+  row_read (Ok v) h gives = (gives, is_row room width bytes (view v) h gives, λ row s. answer_is {A = List Part} (view v) row (sym gives ∙ is_read room width bytes row h s))
+  row_read (Err e) h gives = (gives, λ row s. (only_memory (data_row room width bytes) e row (is_read room width bytes row h s) gives).0)
 
   pub enough_room : (result : Result V CodecError) → Gives view (data_row room width bytes) result → width ≤ room → IfErr result (λ e. e ≢ Memory)
   enough_room (Ok v) gives le = tt

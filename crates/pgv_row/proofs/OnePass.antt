@@ -17,9 +17,8 @@ use Rattle.pgv_value.proofs.Several.{never_allocate}
 use Rattle.pgv_row.proofs.DataRows.{frames_of_row, row_of_frames}
 use Rattle.pgv_row.specs.ColumnView.{Column}
 use Rattle.pgv_row.specs.DataRow.{IsDataRow, frames_front}
-use Rattle.pgv_row.specs.OnePass.{Fit, Left, passed_over, one_pass, IsRowOf, GivesRow, AreFrames, InOnePass, IsRestRefused, IsRowRefused, RefusesRow}
+use Rattle.pgv_row.specs.OnePass.{Fit, Left, passed_over, one_pass, IsRowOf, AreFrames, InOnePass, IsRestRefused, IsRowRefused, ReadsRows}
 use Rattle.pgv_row.specs.RowView.{Row}
-use Rattle.pgv_row.specs.Tuples.{or_codec}
 use Rattle.pgv_row.specs.declared.error.ColumnError.{ColumnError}
 
 -- ---- frames that are passed over
@@ -88,7 +87,7 @@ read_passes width size e (Err why) b left further found free k = k
 
 module _ {M : Type 0} (fits : List Column → Fit) (parse : Row → Outcome M) (refused : Row → ColumnError ℕ → Type 0) (read : List Column → List ℕ → Outcome (M × Left)) (refused_in_front : List Column → List ℕ → ColumnError ℕ → Type 0)
     (law : InOnePass 0 fits parse refused read refused_in_front) (columns : List Column) (body : List ℕ) (h : AreBytes body) where
-  as_row : (parts : List Part) → fits columns ≡ Ok tt → IsDataRow (length columns) body parts → one_pass read columns body ≡ parse (record { columns = columns; parts = parts })
+  pub as_row : (parts : List Part) → fits columns ≡ Ok tt → IsDataRow (length columns) body parts → one_pass read columns body ≡ parse (record { columns = columns; parts = parts })
   unfolding one_pass
   as_row parts fit s =
       let row : Row = record { columns = columns; parts = parts } in
@@ -100,7 +99,7 @@ module _ {M : Type 0} (fits : List Column → Fit) (parse : Row → Outcome M) (
       let o : Outcome M = parse row in
       rw (f.1, r.2) (ended o.answer o.may_alloc r.0 (length columns) (WrongLength (length body)) (drop r.0.0 parts) r.1 free)
 
-  of_row : (m : M) → (one_pass read columns body).answer ≡ Ok m → IsRowOf columns body
+  pub of_row : (m : M) → (one_pass read columns body).answer ≡ Ok m → IsRowOf columns body
   unfolding one_pass passed_over
   of_row m e =
       let a = taken_exactly (frames_front (length columns) body) _ m e in
@@ -115,13 +114,6 @@ module _ {M : Type 0} (fits : List Column → Fit) (parse : Row → Outcome M) (
       let all : length columns ≡ length columns - 0 = omega arith in
       (p.0, row_of_frames (length columns) body a.0 p.0 h a.1 (ap (λ (k : ℕ). (several one_part k a.0).answer) all ∙ p.1))
 
-  pub gives_row : {V : Type 0} (view : V → M) (result : Result V CodecError) → fits columns ≡ Ok tt → Gives view (one_pass read columns body) result → GivesRow view parse columns body result
-  gives_row view result fit gives parts s = subst (λ (o : Outcome M). Gives view o result) (as_row parts fit s) gives
-
-  pub whole_row : {V : Type 0} (view : V → M) (result : Result V (ColumnError ℕ)) → Gives view (one_pass read columns body) (or_codec result) → IfOk result (λ _. IsRowOf columns body)
-  whole_row view (Ok v) gives = of_row (view v) gives
-  whole_row view (Err e) gives = tt
-
   fields_refused : (parts : List Part) (e : ColumnError ℕ) (frames : List ℕ) → fits columns ≡ Ok tt → AreFrames (record { columns = columns; parts = parts }) 0 frames →
       refused_in_front columns frames e ⊎ IsOkAnd (read columns frames).answer (λ first. IsRestRefused (length columns) (length body) first.1 e) → refused (record { columns = columns; parts = parts }) e
   fields_refused parts e frames fit are (inl k) = law.refused_as_row (record { columns = columns; parts = parts }) frames e fit are k
@@ -132,7 +124,7 @@ module _ {M : Type 0} (fits : List Column → Fit) (parse : Row → Outcome M) (
       let o : Outcome M = parse row in
       absurd (read_passes (length columns) (length body) e o.answer o.may_alloc r.0 (drop r.0.0 parts) r.1 free (subst (λ (p : Outcome (M × Left)). IsOkAnd p.answer (λ first. IsRestRefused (length columns) (length body) first.1 e)) r.2 k))
 
-  error_as_row : (parts : List Part) (e : ColumnError ℕ) → fits columns ≡ Ok tt → IsDataRow (length columns) body parts → IsRowRefused read refused_in_front columns body e → refused (record { columns = columns; parts = parts }) e
+  pub error_as_row : (parts : List Part) (e : ColumnError ℕ) → fits columns ≡ Ok tt → IsDataRow (length columns) body parts → IsRowRefused read refused_in_front columns body e → refused (record { columns = columns; parts = parts }) e
   error_as_row parts e fit s (inl k) =
       let f = frames_of_row (length columns) body parts h s in
       absurd (let no : (let r : Parsed (List ℕ) = Ok f.0 in r) ≡ Err (codec_error e) = sym f.1 ∙ k.1 in cc)
@@ -142,6 +134,10 @@ module _ {M : Type 0} (fits : List Column → Fit) (parse : Row → Outcome M) (
       let frames : AreFrames (record { columns = columns; parts = parts }) 0 f.0 = ap (λ (n : ℕ). (several one_part n f.0).answer) all ∙ f.2 in
       fields_refused parts e f.0 fit frames (subst (λ (r : Parsed (List ℕ)). IsOkAnd r (λ frames. refused_in_front columns frames e ⊎ IsOkAnd (read columns frames).answer (λ first. IsRestRefused (length columns) (length body) first.1 e))) f.1 k)
 
-  pub refuses_row : {V : Type 0} (result : Result V (ColumnError ℕ)) → fits columns ≡ Ok tt → IfErr result (IsRowRefused read refused_in_front columns body) → RefusesRow refused columns body result
-  refuses_row (Ok v) fit k parts s = tt
-  refuses_row (Err e) fit k parts s = error_as_row parts e fit s k
+pub reads_rows : {M : Type 0} (fits : List Column → Fit) (parse : Row → Outcome M) (refused : Row → ColumnError ℕ → Type 0) (read : List Column → List ℕ → Outcome (M × Left)) (refused_in_front : List Column → List ℕ → ColumnError ℕ → Type 0) →
+    InOnePass 0 fits parse refused read refused_in_front → ReadsRows fits parse refused read refused_in_front
+reads_rows fits parse refused read refused_in_front law = record {
+  of_row = λ columns body m h. of_row fits parse refused read refused_in_front law columns body h m;
+  as_row = λ columns parts body h. as_row fits parse refused read refused_in_front law columns body h parts;
+  refused_as_row = λ columns parts body e h. error_as_row fits parse refused read refused_in_front law columns body h parts e;
+}

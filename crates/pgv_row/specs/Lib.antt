@@ -5,6 +5,7 @@ pub mod Catalog
 pub mod Errors
 pub mod Description
 pub mod RowView
+pub mod Reading
 pub mod RowParts
 pub mod Values
 pub mod Tuples

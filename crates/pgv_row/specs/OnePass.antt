@@ -7,6 +7,7 @@ use Rattle.std.specs.Prelude.{◌≡◌, ◌⊎◌, ◌≤◌, ℕ, ◌+◌, ◌
 use Rattle.pgv_types.specs.Ty.{Ty}
 use Rattle.pgv_types.specs.Facts.{is_custom}
 use Rattle.pgv_value.specs.FrameBinary.{Part}
+use Rattle.pgv_value.specs.Laws.{AreBytes}
 use Rattle.pgv_value.specs.Fronts.{one_part}
 use Rattle.pgv_value.specs.Outcome.{Outcome, Fails, Gives, exactly, or_fail, fails_if, allocates, done, ◌>>=◌, ◌>>◌}
 use Rattle.pgv_value.specs.Several.{several}
@@ -122,14 +123,6 @@ IsRowRefused read refused columns body e =
 abbrev pub IsRowOf : List Column → List ℕ → Type 0
 IsRowOf columns body = (parts : List Part) × IsDataRow (length columns) body parts
 
--- of a body that is a DataRow the result is what is read from the row of its parts
-abbrev pub GivesRow : {V M : Type 0} → (V → M) → (Row → Outcome M) → List Column → List ℕ → Result V CodecError → Type 0
-GivesRow view parse columns body result = (parts : List Part) → IsDataRow (length columns) body parts → Gives view (parse (record { columns = columns; parts = parts })) result
-
--- and so the error is one that the row is refused with
-abbrev pub RefusesRow : {V : Type 0} → (Row → ColumnError ℕ → Type 0) → List Column → List ℕ → Result V (ColumnError ℕ) → Type 0
-RefusesRow refused columns body result = (parts : List Part) → IsDataRow (length columns) body parts → IfErr result (refused (record { columns = columns; parts = parts }))
-
 -- ---- the law of columns that are read in one pass
 
 -- bytes are the frames of a row's parts from a place on
@@ -144,3 +137,11 @@ pub record InOnePass {M : Type 0} (place : ℕ) (fits : List Column → Fit) (pa
   pub refused_as_row : (row : Row) (bytes : List ℕ) (e : ColumnError ℕ) → fits row.columns ≡ Ok tt → AreFrames row place bytes → refused_in_front row.columns bytes e → refused row e
   pub of_frames : (columns : List Column) (bytes : List ℕ) (m : M) (left : Left) (further : List Part) → (read columns bytes).answer ≡ Ok (m, left) →
       (several one_part (length columns - left.0) left.1).answer ≡ Ok (further, []) → (parts : List Part) × ((several one_part (length columns - place) bytes).answer ≡ Ok (parts, []))
+
+-- Only a DataRow is read in one pass. Where the columns fit, the same is read from it as from the row of its parts, and
+-- the same column is refused.
+pub record ReadsRows {M : Type 0} (fits : List Column → Fit) (parse : Row → Outcome M) (refused : Row → ColumnError ℕ → Type 0) (read : List Column → List ℕ → Outcome (M × Left)) (refused_in_front : List Column → List ℕ → ColumnError ℕ → Type 0) : Type 0 where
+  pub of_row : (columns : List Column) (body : List ℕ) (m : M) → AreBytes body → (one_pass read columns body).answer ≡ Ok m → IsRowOf columns body
+  pub as_row : (columns : List Column) (parts : List Part) (body : List ℕ) → AreBytes body → fits columns ≡ Ok tt → IsDataRow (length columns) body parts → one_pass read columns body ≡ parse (record { columns = columns; parts = parts })
+  pub refused_as_row : (columns : List Column) (parts : List Part) (body : List ℕ) (e : ColumnError ℕ) → AreBytes body → fits columns ≡ Ok tt → IsDataRow (length columns) body parts → IsRowRefused read refused_in_front columns body e →
+      refused (record { columns = columns; parts = parts }) e

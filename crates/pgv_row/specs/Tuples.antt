@@ -17,6 +17,11 @@ abbrev pub or_codec : {I V : Type 0} → Result V (ColumnError I) → Result V C
 or_codec (Ok v) = Ok v
 or_codec (Err e) = Err (codec_error e)
 
+-- what was returned, seen by view, is the outcome; or the error is the outcome's by its number, and one of these
+abbrev pub GivesFields : {I V M : Type 0} → (V → M) → Outcome M → (ColumnError I → Type 0) → Result V (ColumnError I) → Type 0
+GivesFields view o Refused (Ok v) = o.answer ≡ Ok (view v)
+GivesFields view o Refused (Err e) = Fails (codec_error e) o × Refused e
+
 -- what was asked for
 abbrev pub index_of : {I : Type 0} → ColumnError I → I
 index_of (NotFound index place) = index

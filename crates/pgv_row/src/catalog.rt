@@ -1,9 +1,9 @@
 //! The types of a server that are not built in.
 
-ghost use Rattle.std.specs.Prelude.{◌≡◌, ℕ, Option, true, option_map, IfOk, IfErr, OnErr};
+ghost use Rattle.std.specs.Prelude.{◌≡◌, ℕ, Option, option_map};
 ghost use Rattle.pgv_types.specs.Ty.{Ty};
-ghost use Rattle.pgv_value.specs.declared.error.CodecError.TheVariants.{Memory};
-ghost use Rattle.pgv_types.specs.Facts.{oid_of, is_custom};
+ghost use Rattle.pgv_types.specs.Facts.{oid_of};
+ghost use Rattle.pgv_value.specs.Outcome.{Gives, copied_type};
 ghost use Rattle.pgv_row.specs.Catalog.{with_oid, is_oid};
 ghost use Rattle.pgv_row.specs.Description.{type_by};
 
@@ -49,9 +49,7 @@ fn has_oid(type_info: &PgTypeInfo, oid: Oid) -> bool
 /// Only the copy of a custom type may be refused (C1).
 #[tactic(auto, unfolding(crate::specs::Description::type_by))]
 pub fn type_of_oid<C: PgCatalog>(catalog: &C, oid: Oid) -> Result<PgTypeInfo, CodecError>
-    ensures found { IfOk result (λ t. t ≡ type_by (C.known catalog.now) oid.0) }
-    ensures memory { IfErr result (λ e. e ≡ Memory) }
-    ensures copied { OnErr result (is_custom (type_by (C.known catalog.now) oid.0) ≡ true) }
+    ensures { Gives (λ t. t) (copied_type (type_by (C.known catalog.now) oid.0)) result }
 {
     if let Some(built_in) = PgTypeInfo::try_from_oid(oid) {
         return Ok(built_in);

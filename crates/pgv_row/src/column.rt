@@ -1,12 +1,11 @@
 //! The columns of a statement's result, as a RowDescription describes them.
 
-ghost use Rattle.std.specs.Prelude.{◌≡◌, ◌==◌, ◌++◌, ◌∷◌, [], true, length, map, IfOk, IfErr};
+ghost use Rattle.std.specs.Prelude.{◌≡◌, ◌==◌, ◌++◌, ◌∷◌, [], true, length, map};
 ghost use Rattle.std.specs.Option.{option_copied};
 ghost use Rattle.pgv_row.specs.Description.{column_front, column_of_type, description, in_format, IsDescription};
-ghost use Rattle.pgv_value.specs.Outcome.{Gives, IsRead, after};
+ghost use Rattle.pgv_value.specs.Outcome.{Gives, GivesWhole, after, done};
 ghost use Rattle.pgv_row.specs.RowView.{column_at};
 ghost use Rattle.pgv_value.specs.Several.{several};
-ghost use Rattle.pgv_value.specs.declared.error.CodecError.TheVariants.{Memory};
 
 use crate::catalog::{PgCatalog, type_of_oid};
 use crate::index::ColumnIndex;
@@ -231,10 +230,8 @@ impl<'d> PgColumns<'d> {
         body: &'d [u8],
         catalog: &C,
     ) -> Result<Self, CodecError>
-        ensures read { Gives (λ columns. columns)
-            (description (C.known catalog.now) body.now) result }
         // What is answered is what the body describes, and nothing but memory keeps a description from being answered.
-        ensures exact { IsRead (λ columns. columns)
+        ensures { GivesWhole (λ columns. columns) (description (C.known catalog.now) body.now)
             (IsDescription (C.known catalog.now) body.now) result }
     {
         let list = described(alloc, body, catalog)?;
@@ -253,9 +250,8 @@ impl<'d> PgColumns<'d> {
     /// These columns and one more, without a name, of this type, whose values are in binary, as the fields of a COPY
     /// stream are: `PgColumns::new(alloc).with_type(int4)?.with_type(text)?`. It is refused only for memory (C1).
     pub fn with_type(self, type_info: PgTypeInfo) -> Result<Self, CodecError>
-        ensures added { IfOk result (λ columns.
-            columns ≡ self.entry ++ (column_of_type type_info ∷ [])) }
-        ensures refused { IfErr result (λ e. e ≡ Memory) }
+        ensures { Gives (λ columns. columns)
+            (after true (done (self.entry ++ (column_of_type type_info ∷ [])))) result }
     {
         let mut list = self.list;
         list.push(PgColumn::of_type(type_info))?;

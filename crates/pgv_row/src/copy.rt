@@ -56,10 +56,9 @@ fn read_frames<'r, T: FromRow>(
     columns: &[PgColumn<'_>],
     frames: &'r [u8],
 ) -> Result<(T, &'r [u8]), ColumnError<usize>>
-    ensures read { Gives (λ x. (T.view x.0, x.1.now)) (frames_read T.in_front columns.now
-        frames.now) (or_codec result) }
-    ensures first { IfErr result (AreFramesRefused T.in_front T.refused_in_front columns.now
-        frames.now) }
+    ensures read { GivesFields (λ x. (T.view x.0, x.1.now))
+        (frames_read T.in_front columns.now frames.now)
+        (AreFramesRefused T.in_front T.refused_in_front columns.now frames.now) result }
     ensures within { IfOk result (λ x. length x.1.now ≤ length frames.now) }
 {
     let mut further = frames;
@@ -90,9 +89,9 @@ impl<'c, 'r> PgCopyRows<'c, 'r> {
         &mut self,
         alloc: Global,
     ) -> Result<Option<T>, ColumnError<usize>>
-        ensures read { Gives (λ found. (option_map T.view found, self.new)) (copy_row T.in_front
-            self.old) (or_codec result) }
-        ensures first { IfErr result (IsCopyRowRefused T.in_front T.refused_in_front self.old) }
+        ensures read { GivesFields (λ found. (option_map T.view found, self.new))
+            (copy_row T.in_front self.old)
+            (IsCopyRowRefused T.in_front T.refused_in_front self.old) result }
         ensures unmoved { OnErr result (self.new ≡ self.old) }
         // Each row takes bytes, so a loop over the rows ends.
         ensures shorter { IfOk result (λ found. OnSome found

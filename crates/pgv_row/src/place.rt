@@ -4,7 +4,7 @@ ghost use Rattle.std.specs.Prelude.{◌≡◌, ◌≢◌, ◌≤◌, [], length,
 ghost use Rattle.pgv_value.specs.declared.error.CodecError.TheVariants.{Memory};
 ghost use Rattle.pgv_row.specs.DataRow.{data_row, IsDataRow, frames_front};
 ghost use Rattle.pgv_value.specs.Fronts.{one_part, part_front};
-ghost use Rattle.pgv_value.specs.Outcome.{Gives, IsRead};
+ghost use Rattle.pgv_value.specs.Outcome.{Gives, GivesWhole};
 ghost use Rattle.pgv_value.specs.Parsed.{GivesExactly};
 ghost use Rattle.pgv_row.specs.Places.{part_at, parts_at, IsWithin, AreWithin};
 ghost use Rattle.pgv_value.specs.Several.{several};
@@ -73,6 +73,7 @@ fn note_places(
         Gives (λ end. (parts_at bytes.now places.new.items, drop end bytes.now)) parts result }
     ensures places { OnOk result (AreWithin bytes.now places.new.items) }
     ensures end { IfOk result (λ end. end ≤ length bytes.now) }
+    ensures room { vec_capacity places.old ≤ vec_capacity places.new }
 {
     let mut next = at;
     for _ in 0..width {
@@ -90,6 +91,8 @@ fn note_row(places: &mut Vec<Option<Place>>, bytes: &[u8], width: usize) -> Resu
     ensures read { let row = data_row (vec_capacity places.old) width bytes.now in
         Gives (λ _. parts_at bytes.now places.new.items) row result }
     ensures places { OnOk result (AreWithin bytes.now places.new.items) }
+    ensures room { vec_capacity places.old ≤ vec_capacity places.new }
+    ensures enough { OnOk result (width ≤ vec_capacity places.new) }
 {
     places.clear();
     check_count(bytes, width)?;
@@ -109,11 +112,11 @@ pub fn find_places(
     width: usize,
 ) -> Result<(), CodecError>
     ensures read { let row = data_row (vec_capacity places.old) width bytes.now in
-        Gives (λ _. parts_at bytes.now places.new.items) row result }
-    ensures exact { IsRead (λ _. parts_at bytes.now places.new.items)
-        (IsDataRow width bytes.now) result }
+        GivesWhole (λ _. parts_at bytes.now places.new.items) row (IsDataRow width bytes.now) result }
     ensures memory { width ≤ vec_capacity places.old → IfErr result (λ e. e ≢ Memory) }
     ensures places { OnOk result (AreWithin bytes.now places.new.items) }
+    ensures room { vec_capacity places.old ≤ vec_capacity places.new }
+    ensures enough { OnOk result (width ≤ vec_capacity places.new) }
 {
     note_row(places, bytes, width)
 }

@@ -1,11 +1,10 @@
 //! Rows that are read in one pass, each straight into a tuple.
 
-ghost use Rattle.std.specs.Prelude.{◌≡◌, ◌-◌, ◌≤◌, Ok, length, IfOk, IfErr};
-ghost use Rattle.pgv_value.specs.Outcome.{Gives};
+ghost use Rattle.std.specs.Prelude.{◌-◌, ◌≤◌, length, IfOk};
 ghost use Rattle.pgv_value.specs.Parsed.{GivesExactly};
 ghost use Rattle.pgv_row.specs.DataRow.{frames_front};
-ghost use Rattle.pgv_row.specs.OnePass.{Fits, GivesRow, IsRowOf, IsRowRefused, RefusesRow, one_pass, passed_over};
-ghost use Rattle.pgv_row.specs.Tuples.{index_of, or_codec};
+ghost use Rattle.pgv_row.specs.OnePass.{Fits, IsRowRefused, one_pass, passed_over};
+ghost use Rattle.pgv_row.specs.Tuples.{GivesFields, index_of};
 
 use crate::column::{PgColumn, PgColumns};
 use crate::error::ColumnError;
@@ -31,9 +30,8 @@ pub(crate) fn pass_over(
     place: usize,
     width: usize,
 ) -> Result<&[u8], ColumnError<usize>>
-    ensures read { Gives (λ rest. rest.now) (passed_over (width - place) bytes.now)
-        (or_codec result) }
-    ensures at { IfErr result (λ e. place ≤ index_of e) }
+    ensures read { GivesFields (λ rest. rest.now) (passed_over (width - place) bytes.now)
+        (λ e. place ≤ index_of e) result }
     ensures within { IfOk result (λ rest. length rest.now ≤ length bytes.now) }
 {
     let mut rest = bytes;
@@ -60,8 +58,8 @@ fn read_body<T: FromRow>(
     columns: &[PgColumn<'_>],
     body: &[u8],
 ) -> Result<T, ColumnError<usize>>
-    ensures read { Gives T.view (one_pass T.in_front columns.now body.now) (or_codec result) }
-    ensures first { IfErr result (IsRowRefused T.in_front T.refused_in_front columns.now body.now) }
+    ensures { GivesFields T.view (one_pass T.in_front columns.now body.now)
+        (IsRowRefused T.in_front T.refused_in_front columns.now body.now) result }
 {
     let width = columns.len();
     let frames = match frames_of(body, width) {
@@ -123,16 +121,8 @@ impl<'d> PgColumns<'d> {
     /// one. Memory is asked for only for the values, and for a copy of a custom type.
     #[inline(always)]
     pub fn read_row<T: FromRow>(&self, alloc: Global, body: &[u8]) -> Result<T, ColumnError<usize>>
-        ensures read { Gives T.view (one_pass T.in_front self.now body.now) (or_codec result) }
-        ensures first { IfErr result
-            (IsRowRefused T.in_front T.refused_in_front self.now body.now) }
-        // Only a DataRow is read. Where the columns fit, the same is read from it as from its row, and the same column
-        // is refused.
-        ensures whole { IfOk result (λ _. IsRowOf self.now body.now) }
-        ensures row { T.fits self.now ≡ Ok tt →
-            GivesRow T.view T.parse self.now body.now (or_codec result) }
-        ensures refused { T.fits self.now ≡ Ok tt →
-            RefusesRow T.refused self.now body.now result }
+        ensures { GivesFields T.view (one_pass T.in_front self.now body.now)
+            (IsRowRefused T.in_front T.refused_in_front self.now body.now) result }
     {
         read_body(alloc, self.as_slice(), body)
     }

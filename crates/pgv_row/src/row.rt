@@ -1,15 +1,16 @@
 //! Rows: the values of the columns, one DataRow after another.
 
-ghost use Rattle.std.specs.Prelude.{◌≡◌, ◌≢◌, ◌≤◌, ◌==◌, length, IfOk, IfErr};
-ghost use Rattle.pgv_value.specs.declared.error.CodecError.TheVariants.{FieldCount, Memory};
-ghost use Rattle.pgv_row.specs.DataRow.{data_row, IsDataRow};
+ghost use Rattle.std.specs.Prelude.{◌≡◌, ◌≢◌, ◌≤◌, ◌==◌, true, length, IfOk, IfErr};
+ghost use Rattle.std.specs.Borrow.{sem};
+ghost use Rattle.pgv_value.specs.declared.error.CodecError.TheVariants.{FieldCount};
 ghost use Rattle.pgv_row.specs.Errors.{GivesColumn};
 ghost use Rattle.pgv_row.specs.declared.error.ColumnError.TheVariants.{NotFound};
-ghost use Rattle.pgv_value.specs.Outcome.{Gives, IsRead};
+ghost use Rattle.pgv_value.specs.Outcome.{Gives, after, done};
 ghost use Rattle.pgv_row.specs.Places.{part_at, IsWithin};
 ghost use Rattle.pgv_row.specs.RowParts.{body_of, capacity};
+ghost use Rattle.pgv_row.specs.Reading.{HasRoomThen, ReadsRow};
 ghost use Rattle.pgv_row.specs.RowView.{column_there};
-ghost use Rattle.pgv_row.specs.Tuples.{or_codec};
+ghost use Rattle.pgv_row.specs.Tuples.{GivesFields};
 ghost use Rattle.pgv_row.specs.Values.{column_value, raw_value, unchecked_value};
 
 use crate::column::{PgColumn, PgColumns};
@@ -122,12 +123,8 @@ impl<'a> PgRow<'a> {
         room: &'a mut PgPlaces,
         body: &'a [u8],
     ) -> Result<Self, CodecError>
-        ensures columns { IfOk result (λ row. row.columns ≡ columns.now) }
-        ensures read { let row = data_row (capacity room.old) (length columns.now) body.now in
-            Gives (λ r. r.parts) row result }
-        // What is answered is the row that the body is, and nothing but memory keeps such a row from being answered.
-        ensures exact { IsRead (λ row. row.parts) (IsDataRow (length columns.now) body.now) result }
-        ensures memory { length columns.now ≤ capacity room.old → IfErr result (λ e. e ≢ Memory) }
+        ensures read { ReadsRow columns.now body.now (capacity room.old) result }
+        ensures* room { sem 𝓛 (HasRoomThen room.entry (length columns.now) result) }
     {
         let columns = columns.as_slice();
         find_places(&mut room.list, body, columns.len())?;
@@ -147,12 +144,8 @@ impl<'a> PgRow<'a> {
         room: &'a mut PgPlaces,
         body: &'a Bytes,
     ) -> Result<Self, CodecError>
-        ensures columns { IfOk result (λ row. row.columns ≡ columns.now) }
-        ensures read { let row = data_row (capacity room.old) (length columns.now) body.now in
-            Gives (λ r. r.parts) row result }
-        // What is answered is the row that the body is, and nothing but memory keeps such a row from being answered.
-        ensures exact { IsRead (λ row. row.parts) (IsDataRow (length columns.now) body.now) result }
-        ensures memory { length columns.now ≤ capacity room.old → IfErr result (λ e. e ≢ Memory) }
+        ensures read { ReadsRow columns.now body.now (capacity room.old) result }
+        ensures* room { sem 𝓛 (HasRoomThen room.entry (length columns.now) result) }
     {
         let columns = columns.as_slice();
         find_places(&mut room.list, body.as_slice(), columns.len())?;
@@ -167,8 +160,7 @@ impl<'a> PgRow<'a> {
     /// The row with bytes of its own, or with those that it shares, which outlives the message and the room; or
     /// [`Memory`](CodecError::Memory) (C1).
     pub fn to_owned(&self, alloc: Global) -> Result<PgOwnedRow, CodecError>
-        ensures same { IfOk result (λ row. row ≡ self.now.parts) }
-        ensures memory { IfErr result (λ e. e ≡ Memory) }
+        ensures { Gives (λ row. row) (after true (done self.now.parts)) result }
     {
         let body = match self.bytes {
             RowBytes::Borrowed(bytes) => Bytes::copy_from_slice(alloc, bytes)?,
@@ -350,8 +342,7 @@ impl<'a> PgRow<'a> {
     /// columns are ignored, as in sqlx. The first column that is refused refuses the tuple, and the error names its
     /// place.
     pub fn as_tuple<T: FromRow>(&self, alloc: Global) -> Result<T, ColumnError<usize>>
-        ensures read { Gives T.view (T.parse self.now) (or_codec result) }
-        ensures first { IfErr result (T.refused self.now) }
+        ensures { GivesFields T.view (T.parse self.now) (T.refused self.now) result }
     {
         T::from_row(alloc, self)
     }

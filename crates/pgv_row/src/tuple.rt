@@ -7,7 +7,7 @@ ghost use Rattle.pgv_row.specs.ColumnView.{Column};
 ghost use Rattle.pgv_row.specs.OnePass.{Fit, Fits, column_fits, columns_fit, Left, part_value, value_in_front, column_in_front, columns_in_front, IsRefusedInFront, IsFirstInFront, InOnePass};
 ghost use Rattle.pgv_row.specs.OnePassLemmas.{last_in_one_pass, further_in_one_pass};
 ghost use Rattle.pgv_row.specs.RowView.{Row};
-ghost use Rattle.pgv_row.specs.Tuples.{column_parse, columns_parse, or_codec, IsFirstRefused, IsRefused};
+ghost use Rattle.pgv_row.specs.Tuples.{column_parse, columns_parse, GivesFields, IsFirstRefused, IsRefused};
 ghost use Rattle.pgv_row.specs.declared.error.ColumnError.{ColumnError as Error};
 
 use crate::column::PgColumn;
@@ -42,8 +42,7 @@ pub trait FromRow: Sized + Drop {
 
     /// The value that a row is read as. The first column that is refused refuses it, and the error names its place.
     fn from_row(alloc: Global, row: &PgRow<'_>) -> Result<Self, ColumnError<usize>>
-        ensures read { Gives view (parse row.now) (or_codec result) }
-        ensures first { IfErr result (refused row.now) };
+        ensures { GivesFields view (parse row.now) (refused row.now) result };
 
     /// That there is a column for each field, under whose type the field is read. The error is that of the first one
     /// where it is not so.
@@ -57,9 +56,9 @@ pub trait FromRow: Sized + Drop {
         columns: &[PgColumn<'_>],
         bytes: &mut &'r [u8],
     ) -> Result<(Self, usize), ColumnError<usize>>
-        ensures read { Gives (λ x. (view x.0, (x.1, bytes.new.now)))
-            (in_front columns.now bytes.old.now) (or_codec result) }
-        ensures first { IfErr result (refused_in_front columns.now bytes.old.now) }
+        ensures read { GivesFields (λ x. (view x.0, (x.1, bytes.new.now)))
+            (in_front columns.now bytes.old.now)
+            (refused_in_front columns.now bytes.old.now) result }
         ensures within { OnOk result (length bytes.new.now ≤ length bytes.old.now) };
 
     /// The same is read from the frames as from the row.
@@ -92,8 +91,7 @@ pub trait ColumnList: Sized + Drop {
 
     /// The values of the columns from a place on.
     fn read(alloc: Global, row: &PgRow<'_>, place: usize) -> Result<Self, ColumnError<usize>>
-        ensures read { Gives view (parse row.now place) (or_codec result) }
-        ensures first { IfErr result (refused row.now place) };
+        ensures { GivesFields view (parse row.now place) (refused row.now place) result };
 
     /// That there is a column for each value from a place on, under whose type the value is read.
     fn check_columns(columns: &[PgColumn<'_>], place: usize) -> Result<(), ColumnError<usize>>
@@ -107,9 +105,9 @@ pub trait ColumnList: Sized + Drop {
         place: usize,
         bytes: &mut &'r [u8],
     ) -> Result<(Self, usize), ColumnError<usize>>
-        ensures read { Gives (λ x. (view x.0, (x.1, bytes.new.now)))
-            (in_front columns.now place bytes.old.now) (or_codec result) }
-        ensures first { IfErr result (refused_in_front columns.now place bytes.old.now) }
+        ensures read { GivesFields (λ x. (view x.0, (x.1, bytes.new.now)))
+            (in_front columns.now place bytes.old.now)
+            (refused_in_front columns.now place bytes.old.now) result }
         ensures within { OnOk result (length bytes.new.now ≤ length bytes.old.now) };
 
     /// The same is read from the frames as from the row.
@@ -123,9 +121,8 @@ fn next_column<T: Type + Decode>(
     row: &PgRow<'_>,
     place: usize,
 ) -> Result<(T, usize), ColumnError<usize>>
-    ensures read { Gives (λ x. T.view x.0) (column_parse T.accepts T.parse row.now
-        place) (or_codec result) }
-    ensures first { IfErr result (IsRefused (column_parse T.accepts T.parse) row.now place) }
+    ensures read { GivesFields (λ x. T.view x.0) (column_parse T.accepts T.parse row.now place)
+        (IsRefused (column_parse T.accepts T.parse) row.now place) result }
     ensures next { IfOk result (λ x. x.1 ≡ place + 1) }
 {
     if place >= row.len() {
@@ -274,10 +271,9 @@ fn front_column<'r, T: Type + Decode>(
     place: usize,
     bytes: &mut &'r [u8],
 ) -> Result<(T, usize), ColumnError<usize>>
-    ensures read { Gives (λ x. (T.view x.0, (x.1, bytes.new.now)))
-        (column_in_front T.parse columns.now place bytes.old.now) (or_codec result) }
-    ensures first { IfErr result (IsRefusedInFront (column_in_front T.parse) columns.now place
-        bytes.old.now) }
+    ensures read { GivesFields (λ x. (T.view x.0, (x.1, bytes.new.now)))
+        (column_in_front T.parse columns.now place bytes.old.now)
+        (IsRefusedInFront (column_in_front T.parse) columns.now place bytes.old.now) result }
     ensures within { OnOk result (length bytes.new.now ≤ length bytes.old.now) }
 {
     let Some(column) = columns.get(place) else {

@@ -142,6 +142,6 @@ pub stream_refused : (w : Option (List Row)) (types : List Ty) (bytes rest : Lis
     Fails e (next_row reader) → IfOk r (λ text. e ≢ Memory) → IfOk r (λ text. string_bytes text ≡ refused (code_of e)) → IfOk r (λ text. CopiesIn w types (header bytes) (string_bytes text))
 stream_refused w column_types bytes rest texts reader e (Err x) hd y s n t = tt
 stream_refused w column_types bytes rest texts reader e (Ok text) hd y s n t =
-    stream_stops w column_types bytes rest texts reader e (string_bytes text) hd y (step_fails (step reader) (row_takes reader) e s n) t
+    stream_stops w column_types bytes rest texts reader e (string_bytes text) hd y (step_fails (step reader) (row_takes 0 reader) e s n) t
 
 -- ---- the line

@@ -5,6 +5,7 @@
 -- `GivesExactly`.
 use Rattle.std.specs.Prelude.{◌≡◌, ◌≢◌, ◌⊎◌, ℕ, Bool, true, false, ◌||◌, List, Option, Some, None, Result, Ok, Err, ok_or, if◌then◌else◌, ⊤}
 use Rattle.pgv_types.specs.Ty.{Ty}
+use Rattle.pgv_types.specs.Facts.{is_custom}
 use Rattle.pgv_value.specs.declared.error.CodecError.{CodecError}
 use Rattle.pgv_value.specs.declared.error.CodecError.TheVariants.{Memory}
 use Rattle.pgv_value.specs.Parsed.{Parsed}
@@ -113,9 +114,22 @@ copied parsed = do
   allocates (has_items (Some items))
   done items
 
+-- a type that is copied: memory is asked for where it is a custom one
+abbrev pub copied_type : Ty → Outcome Ty
+copied_type t = record { answer = Ok t; may_alloc = is_custom t }
+
 -- ---- what bytes are, and what is read from them
 
 -- What was returned is what is there, and whatever is there is what was returned, unless memory ran out.
 abbrev pub IsRead : {V M : Type 0} → (V → M) → (M → Type 0) → Result V CodecError → Type 0
 IsRead view Is (Ok v) = Is (view v) × ((m : _) → Is m → view v ≡ m)
 IsRead view Is (Err e) = (m : _) → Is m → e ≡ Memory
+
+-- The outcome of a whole, and that what was returned is exactly what is there.
+abbrev pub GivesWhole : {V M : Type 0} → (V → M) → Outcome M → (M → Type 0) → Result V CodecError → Type 0
+GivesWhole view o Is result = Gives view o result × IsRead view Is result
+
+-- What was returned is the outcome; an error is the outcome's where this holds, and else not said.
+abbrev pub GivesWhere : {V M : Type 0} → Bool → (V → M) → Outcome M → Result V CodecError → Type 0
+GivesWhere b view o (Ok v) = o.answer ≡ Ok (view v)
+GivesWhere b view o (Err e) = b ≡ true → Fails e o

@@ -1,11 +1,10 @@
 //! The heads of arrays in binary (PostgreSQL, "Arrays"; array_send).
 
-ghost use Rattle.std.specs.Prelude.{◌≡◌, ◌≤◌, true, length, IfOk, IfErr, IfSome, option_map};
-ghost use Rattle.pgv_types.specs.Facts.{is_custom};
+ghost use Rattle.std.specs.Prelude.{◌≡◌, ◌≤◌, length, IfOk, IfSome, option_map};
 ghost use Rattle.pgv_types.specs.Parts.{ref_type};
-ghost use Rattle.pgv_value.specs.Outcome.{Gives};
+ghost use Rattle.pgv_value.specs.Outcome.{Gives, copied_type};
 ghost use Rattle.pgv_value.specs.Parsed.{GivesOr};
-ghost use Rattle.pgv_value.specs.declared.error.CodecError.TheVariants.{ElementType, Memory};
+ghost use Rattle.pgv_value.specs.declared.error.CodecError.TheVariants.{ElementType};
 ghost use Rattle.pgv_codec.specs.ArrayGrammar.{element_type, head, one_dimension};
 ghost use Rattle.pgv_codec.specs.HeadsView.{head_shown};
 
@@ -92,8 +91,7 @@ fn element_type_of(type_info: &PgTypeInfo, oid: Oid) -> Result<PgTypeRef<'_>, Co
 
 /// The type itself. One that is borrowed is copied.
 fn owned(type_ref: PgTypeRef<'_>) -> Result<PgTypeInfo, CodecError>
-    ensures ok { IfOk result (λ t. t ≡ ref_type type_ref.entry) }
-    ensures err { IfErr result (λ e. (e ≡ Memory) × (is_custom (ref_type type_ref.entry) ≡ true)) }
+    ensures { Gives (λ t. t) (copied_type (ref_type type_ref.entry)) result }
 {
     match type_ref {
         PgTypeRef::Owned(type_info) => Ok(type_info),

@@ -3,7 +3,7 @@
 ghost use Rattle.std.specs.Prelude.{◌≡◌, IfOk, IfErr, OnOk, OnErr, ◌+◌, ◌*◌, ◌≤◌, false, true, length, map, drop, Ok, Some, [], IfSome, is_some, List, refl};
 ghost use Rattle.std.specs.Vec.{with_items};
 ghost use Rattle.pgv_text.specs.Values.{array_values};
-ghost use Rattle.pgv_value.specs.Outcome.{Gives, after};
+ghost use Rattle.pgv_value.specs.Outcome.{Gives, GivesWhere, after};
 ghost use Rattle.pgv_value.specs.Reading.{has_items};
 ghost use Rattle.pgv_value.specs.declared.error.CodecError.TheVariants.{Memory};
 ghost use Rattle.pgv_value.specs.declared.value.PgValueFormat.TheVariants.{Binary};
@@ -411,10 +411,8 @@ fn is_array_text(text: &str) -> bool
 /// first four is asked for before any is read.
 #[tactic(auto, using(crate::proofs::PartLoop::alloc_in_text))]
 fn read_elements<T: Decode + Type>(alloc: Global, text: &str) -> Result<Vec<T>, CodecError>
-    ensures read { IfOk result (λ v. (array_in_text T.parse T.info text.now).answer
-        ≡ Ok (map T.view v.items)) }
-    ensures given { has_items (array_values text.now) ≡ true
-        → Gives (λ v. map T.view v.items) (array_in_text T.parse T.info text.now) result }
+    ensures { GivesWhere (has_items (array_values text.now)) (λ v. map T.view v.items)
+        (array_in_text T.parse T.info text.now) result }
 {
     let Some(mut elements) = Elements::of_text(text) else {
         return Err(CodecError::Syntax);

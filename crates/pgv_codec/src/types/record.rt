@@ -2,14 +2,10 @@
 
 ghost use Rattle.std.specs.Prelude.{IfErr, OnErr, ◌≡◌, ◌<◌, length, IfOk};
 ghost use Rattle.std.specs.Borrow.{sem, RestsIfErr};
-ghost use Rattle.pgv_text.specs.Copies.{copies_of};
-ghost use Rattle.pgv_text.specs.PartsView.{copies, nest};
-ghost use Rattle.pgv_text.specs.Values.{record_values};
-ghost use Rattle.pgv_text.specs.declared.scanner.TextForm.TheVariants.{Record};
 ghost use Rattle.pgv_value.specs.Outcome.{Gives};
-ghost use Rattle.pgv_value.specs.Parsed.{GivesOr};
-ghost use Rattle.pgv_value.specs.declared.error.CodecError.TheVariants.{Syntax, Memory};
-ghost use Rattle.pgv_codec.specs.RecordGrammar.{field_in_binary, fields_of, next_field};
+ghost use Rattle.pgv_value.specs.declared.error.CodecError.TheVariants.{Memory};
+ghost use Rattle.pgv_codec.specs.FieldsLeftView.{left_in_text};
+ghost use Rattle.pgv_codec.specs.RecordGrammar.{field_in_binary, fields_in_text, fields_of, next_field};
 ghost use Rattle.pgv_codec.specs.Encoding.{field, counted_field};
 ghost use Rattle.pgv_codec.specs.Appending.{Appends, Extends};
 ghost use Rattle.pgv_codec.specs.Record.{IsOpen, begun, so_far, WritesField};
@@ -217,10 +213,7 @@ impl<'r> PgRecordDecoder<'r> {
 /// The fields of a record text.
 #[inline(always)]
 fn text_fields_of(alloc: Global, text: &str) -> Result<TextFields<'_>, CodecError>
-    ensures exact { GivesOr (λ fields. (nest fields.parts).values)
-        (record_values text.now) Syntax result }
-    ensures copies { IfOk result (λ fields. copies fields.parts ≡ copies_of Record text.now) }
-    ensures count { IfOk result (λ fields. fields.count ≡ length (nest fields.parts).values) }
+    ensures { Gives left_in_text (fields_in_text text.now) result }
 {
     match Parts::new(TextForm::Record, text) {
         None => Err(CodecError::Syntax),

@@ -5,8 +5,8 @@ use Rattle.pgv_row.proofs.DataRows.{row_read, enough_room}
 use Rattle.pgv_value.proofs.ReadFronts.{are_bytes}
 use Rattle.pgv_row.proofs.place.find_places.Goals as goal
 
-pub returns-clause-exact : goal.returns-clause-exact
-returns-clause-exact c =
+pub returns-clause-read : goal.returns-clause-read
+returns-clause-read c =
     let h = are_bytes c.args.bytes.now (λ i. omega (arith, c.type_inv.bytes i)) in
     row_read (λ _. parts_at c.args.bytes.now c.note_row.new.places.items) (vec_capacity c.args.places.now) c.args.width c.args.bytes.now c.note_row.result h c.note_row.ensures.read
 

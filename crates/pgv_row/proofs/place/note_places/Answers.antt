@@ -24,6 +24,7 @@ loop-preserved c =
       within = one_within body places place c.loop.invariant.within c.in_ok-place.ensures.within;
       many = omega (arith, c.in_ok-push.ensures.len, c.loop.invariant.many);
       room = omega (arith, c.in_ok-push.ensures.capacity, c.loop.invariant.room);
+      kept = omega (arith, c.in_ok-push.ensures.capacity, c.loop.invariant.kept);
       next = c.in_ok-place.ensures.next;
     })
 

@@ -13,5 +13,6 @@ invariant-loop l = record {
   within : AreWithin l.bytes l.places.items;
   many : vec_len l.places ≡ l.counter;
   room : l.width ≤ vec_capacity l.places;
+  kept : vec_capacity l.fn.places ≤ vec_capacity l.places;
   next : l.next ≤ length l.bytes;
 }

@@ -18,8 +18,8 @@ loop-unquoted-init g c =
     let all : ahead c.in-Some.elements ≡ array_values c.args.text.now = search rules in
     (rw none (begins g.T.Decode.parse g.T.Type.info (ahead c.in-Some.elements) c.args.text.now all), ap is_some all)
 
-pub returns-in_err-read_part-in-Element-clause-given : goal.returns-in_err-read_part-in-Element-clause-given
-returns-in_err-read_part-in-Element-clause-given g c some =
+pub returns-in_err-read_part-in-Element : goal.returns-in_err-read_part-in-Element
+returns-in_err-read_part-in-Element g c =
     let parse = g.T.Decode.parse in
     let t = g.T.Type.info in
     let part : Part = option_copied c.in_text.result in
@@ -30,17 +30,12 @@ returns-in_err-read_part-in-Element-clause-given g c some =
     let split = found_first here rest c.in-Element.part _ _ part next.0 c.as_str.ensures.value c.in_text.ensures in
     let unread : Fails error (parse (given t Text part)) = rw (← c.type_info.ensures) c.in_err-read_part-in-Element.ensures in
     let p = err_from_is_err_and c.from_residual-in_err-read_part-in-Element.result c.from_residual-in_err-read_part-in-Element.ensures.1 in
-    rw (p.1, p.2)
-    (part_unread parse t (map g.T.Decode.view c.loop-unquoted.items.items) here rest part error (array_in_text parse t c.args.text.now) split
-    (c.loop-unquoted.invariant.1 ∙ some_values (array_values c.args.text.now) some) unread c.loop-unquoted.invariant.0 (alloc_in_text parse t c.args.text.now some))
+    rw (p.1, p.2) λ some.
+    part_unread parse t (map g.T.Decode.view c.loop-unquoted.items.items) here rest part error (array_in_text parse t c.args.text.now) split
+    (c.loop-unquoted.invariant.1 ∙ some_values (array_values c.args.text.now) some) unread c.loop-unquoted.invariant.0 (alloc_in_text parse t c.args.text.now some)
 
-pub returns-in-End-clause-read : goal.returns-in-End-clause-read
-returns-in-End-clause-read g c =
-    let end = rw c.in-End.is at c.in_ok-part.ensures.next in
-    parts_done g.T.Decode.parse g.T.Type.info (map g.T.Decode.view c.loop-unquoted.items.items) (ahead c.loop-unquoted.elements) _ end.0 c.loop-unquoted.invariant.0
-
-pub returns-in-End-clause-given : goal.returns-in-End-clause-given
-returns-in-End-clause-given g c some =
+pub returns-in-End : goal.returns-in-End
+returns-in-End g c =
     let end = rw c.in-End.is at c.in_ok-part.ensures.next in
     parts_done g.T.Decode.parse g.T.Type.info (map g.T.Decode.view c.loop-unquoted.items.items) (ahead c.loop-unquoted.elements) _ end.0 c.loop-unquoted.invariant.0
 
