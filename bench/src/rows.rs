@@ -116,7 +116,7 @@ fn row_body(number: i32, text: &String, day: NaiveDate) -> Vec<u8> {
     body
 }
 
-/// A COPY stream of rows of three fields, read as lists and as tuples, beside `get` and `decode` of the same fields.
+/// A COPY stream of rows of three fields, read as lists, into one list and as tuples, beside `get` and `decode` of the same fields.
 /// Ours on both sides.
 pub fn copying(bench: &mut Bench) {
     let (numbers, texts) = (numbers_of(COUNT), texts_of(COUNT));
@@ -130,6 +130,7 @@ pub fn copying(bench: &mut Bench) {
     let stream = [&b"PGCOPY\n\xff\r\n\0\0\0\0\0\0\0\0\0"[..], &rows, &[0xff; 2]].concat();
     let frames = fields.concat();
     bench.row("row of 3 of COPY, beside its get+decode", COUNT, framed(pgv_bench_copy, &stream, AS_LISTS), framed(pgv_bench_copy, &frames, AS_FRAMES));
+    bench.row("the same into one list", COUNT, framed(pgv_bench_copy, &stream, AS_ONE_LIST), framed(pgv_bench_copy, &frames, AS_FRAMES));
     bench.row("the same as a tuple", COUNT, framed(pgv_bench_copy, &stream, AS_TUPLES), framed(pgv_bench_copy, &frames, AS_FRAMES));
 }
 

@@ -162,10 +162,11 @@ pub fn show_copy(
 ) -> Result<(), Fault> {
     let mut reader = PgCopyReader::new(stream, unknown_types(alloc, width)?)?;
     out.push_str("copied")?;
+    let mut row = Vec::new(alloc);
     for _ in 0..stream.len() {
-        let Some(row) = reader.next_row()? else {
+        if !reader.next_row_into(&mut row)? {
             return Ok(());
-        };
+        }
         show_fields(alloc, row.as_slice(), out)?;
     }
     Ok(())

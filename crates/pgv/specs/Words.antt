@@ -55,8 +55,9 @@ pub use Rattle.pgv_value.specs.Codes.{code_of}
 pub use Rattle.pgv_value.specs.declared.error.CodecError.TheVariants.{Caller, Syntax, TextUnsupported, UnexpectedNull, WrongLength}
 -- `next_row reader` is what the next call of a `PgCopyReader` gives: a row or the end, and the reader after it;
 -- `step reader` is the same but for memory: `Ok (Some row, after)`, `Ok (None, after)` at the end, or `Err` why it is
--- refused. `bytes_left reader` falls with each row.
-pub use Rattle.pgv_copy.specs.CopyBinary.{next_row, step, bytes_left}
+-- refused. `bytes_left reader` falls with each row. `next_row_in room reader` is the same for a list that has room for
+-- some values.
+pub use Rattle.pgv_copy.specs.CopyBinary.{next_row, next_row_in, step, bytes_left}
 -- `Advances old answer new`: what `advance` of a `PgCopyPieces` answers, and the reader after it, by `next_of`, what
 -- the bytes that came begin with. `with_more old piece` is the reader that has taken a piece.
 pub use Rattle.pgv_copy.specs.CopyPieces.{Advances, next_of, with_more}
@@ -102,6 +103,8 @@ pub use Rattle.pgv_ltree.specs.TreesBack.{tree_back, tree_kept}
 pub use Rattle.pgv_codec.specs.Fields.{no_fields, more_fields, all_fields}
 -- A field that is plain fits.
 pub use Rattle.pgv_codec.proofs.PlainFits.{field_fits}
+-- `capacity room` is how many columns a row in this room may have before it asks for memory.
+pub use Rattle.pgv_row.specs.RowParts.{capacity}
 -- Why a column of a row was not read: `NotFound index place`, or `Decode index place source`.
 pub use Rattle.pgv_row.specs.declared.error.ColumnError.{ColumnError}
 pub use Rattle.pgv_row.specs.declared.error.ColumnError.TheVariants.{NotFound, Decode}

@@ -59,7 +59,7 @@ pub mod text {
 pub mod row {
     pub use pgv_row::{
         ColumnError, ColumnIndex, ColumnList, ColumnTuple, FromRow, PgCatalog, PgColumn, PgColumns,
-        PgCopyRows, PgOwnedRow, PgPlaces, PgRow,
+        PgCopyRows, PgFoundRow, PgOwnedRow, PgPlaces, PgRow,
     };
 }
 

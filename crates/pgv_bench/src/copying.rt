@@ -22,16 +22,30 @@ fn field<T: Decode + Seen>(alloc: Global, value: PgValueRef<'_>) -> Result<usize
     Ok(T::decode(alloc, value)?.seen())
 }
 
+/// What is seen of the field at a place.
+#[inline(always)]
+fn field_at(alloc: Global, place: usize, value: PgValueRef<'_>) -> Result<usize, CodecError> {
+    match place {
+        0 => field::<i32>(alloc, value),
+        1 => field::<String>(alloc, value),
+        _ => field::<i64>(alloc, value),
+    }
+}
+
 /// What is seen of the fields of a row.
 fn row_seen(alloc: Global, row: Vec<PgValueRef<'_>>) -> Result<usize, CodecError> {
     let mut sum = 0usize;
     for (place, value) in row.into_iter().enumerate() {
-        let seen = match place {
-            0 => field::<i32>(alloc, value)?,
-            1 => field::<String>(alloc, value)?,
-            _ => field::<i64>(alloc, value)?,
-        };
-        sum = sum.wrapping_add(seen);
+        sum = sum.wrapping_add(field_at(alloc, place, value)?);
+    }
+    Ok(sum)
+}
+
+/// The same of a row whose list is kept.
+fn kept_seen(alloc: Global, row: &mut Vec<PgValueRef<'_>>) -> Result<usize, CodecError> {
+    let mut sum = 0usize;
+    for (place, value) in row.drain(..).enumerate() {
+        sum = sum.wrapping_add(field_at(alloc, place, value)?);
     }
     Ok(sum)
 }
@@ -44,6 +58,19 @@ fn stream_once(alloc: Global, stream: &[u8]) -> Result<usize, CodecError> {
             return Ok(sum);
         };
         sum = sum.wrapping_add(row_seen(alloc, row)?);
+    }
+    Ok(sum)
+}
+
+fn stream_kept(alloc: Global, stream: &[u8]) -> Result<usize, CodecError> {
+    let mut reader = PgCopyReader::new(stream, columns(alloc)?)?;
+    let mut row = Vec::new(alloc);
+    let mut sum = 0usize;
+    for _ in 0..stream.len() {
+        if !reader.next_row_into(&mut row)? {
+            return Ok(sum);
+        }
+        sum = sum.wrapping_add(kept_seen(alloc, &mut row)?);
     }
     Ok(sum)
 }
@@ -101,13 +128,15 @@ fn frames_once(alloc: Global, frames: &[u8]) -> Result<usize, CodecError> {
     Ok(sum)
 }
 
-/// Reads all rows `rounds` times: of a stream where `how` is 0, of one as tuples where it is 2, and else of frames.
+/// Reads all rows `rounds` times: of a stream where `how` is 0, of one as tuples where it is 2, of one into one
+/// list where it is 3, and else of frames.
 pub fn copies(alloc: Global, bytes: &[u8], rounds: u32, how: u32) -> Result<usize, CodecError> {
     let mut sum = 0usize;
     for _ in 0..rounds {
         let once = match how {
             0 => stream_once(alloc, bytes)?,
             2 => tuples_once(alloc, bytes)?,
+            3 => stream_kept(alloc, bytes)?,
             _ => frames_once(alloc, bytes)?,
         };
         sum = sum.wrapping_add(once);

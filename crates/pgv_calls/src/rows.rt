@@ -1,6 +1,6 @@
 //! Rows of calls that read a row. `describe HEX` and `body HEX` keep the bodies of a RowDescription and of a DataRow;
 //! any other row is `WAY CALL => ANSWER`, where WAY says how the row is read: in `new` room, in `room` for all columns,
-//! from `shared` bytes, `kept`, in one `pass` as a tuple of so many fields as CALL says, or as the first two rows of a
+//! from `shared` bytes, `found` in room and so `found-shared`, `kept`, in one `pass` as a tuple of so many fields as CALL says, or as the first two rows of a
 //! COPY stream, which the body is then, under the description (`copy`) or under two types (`typed`).
 
 use crate::reading::{asked, copied, in_one_pass};
@@ -48,6 +48,30 @@ fn shared(
     call: &str,
 ) -> Result<String, CodecError> {
     let row = PgRow::read_shared(columns, room, body)?;
+    asked(alloc, &row, call)
+}
+
+/// What is asked of a row that was found in room.
+fn found(
+    alloc: Global,
+    columns: &PgColumns<'_>,
+    room: &mut PgPlaces,
+    body: &[u8],
+    call: &str,
+) -> Result<String, CodecError> {
+    let row = room.find(columns, body)?.row();
+    asked(alloc, &row, call)
+}
+
+/// The same of a row that shares its bytes.
+fn found_shared(
+    alloc: Global,
+    columns: &PgColumns<'_>,
+    room: &mut PgPlaces,
+    body: &Bytes,
+    call: &str,
+) -> Result<String, CodecError> {
+    let row = room.find_shared(columns, body)?.row();
     asked(alloc, &row, call)
 }
 
@@ -103,6 +127,15 @@ fn read_in(
     }
     if way == "typed" {
         return typed(alloc, body);
+    }
+    if way == "found" {
+        let mut room = PgPlaces::new(alloc);
+        return found(alloc, columns, &mut room, body, call);
+    }
+    if way == "found-shared" {
+        let mut room = PgPlaces::new(alloc);
+        let body = Bytes::copy_from_slice(alloc, body)?;
+        return found_shared(alloc, columns, &mut room, &body, call);
     }
     let mut room = PgPlaces::with_columns(alloc, columns)?;
     match way {

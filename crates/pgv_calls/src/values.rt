@@ -124,6 +124,40 @@ fn next_row<'r>(
     }
 }
 
+/// The same into a list that is kept.
+fn next_row_into<'r>(
+    tries: &Tries,
+    reader: &mut PgCopyReader<'r>,
+    row: &mut Vec<PgValueRef<'r>>,
+) -> Result<bool, CodecError> {
+    match reader.next_row_into(row) {
+        Err(CodecError::Memory) => {
+            tries.count();
+            reader.next_row_into(row)
+        }
+        answer => answer,
+    }
+}
+
+/// How many rows there are in such a stream, all read into one list, and how many values they have.
+fn rows_in_list(alloc: Global, tries: &Tries, digits: &str) -> Result<String, CodecError> {
+    let Ok(bytes) = bytes_of(alloc, digits) else {
+        return Err(CodecError::Memory);
+    };
+    let mut reader = PgCopyReader::new(bytes.as_slice(), columns(alloc)?)?;
+    let mut row = Vec::new(alloc);
+    let mut rows = 0u32;
+    let mut values = 0usize;
+    for _ in 0..bytes.len() {
+        if !next_row_into(tries, &mut reader, &mut row)? {
+            break;
+        }
+        rows = rows.saturating_add(1);
+        values = values.saturating_add(row.len());
+    }
+    Ok(format!(in alloc; "{rows} {values}")?)
+}
+
 /// How many rows there are in a stream of an `int4` and a text.
 fn rows(alloc: Global, tries: &Tries, digits: &str) -> Result<String, CodecError> {
     let Ok(bytes) = bytes_of(alloc, digits) else {
@@ -204,6 +238,7 @@ impl Called for Values<'_> {
             "kind" => is_name(copied(alloc, name), wanted),
             "custom" => is_name(copied_custom(alloc), wanted),
             "rows" => same(rows(alloc, self.0, name), wanted),
+            "rows-in-list" => same(rows_in_list(alloc, self.0, name), wanted),
             "row" => same(owned(alloc, of_row(alloc)), wanted),
             _ => same(owned(alloc, of_text(alloc)), wanted),
         }

@@ -1,6 +1,7 @@
 //! A statement is described, its arguments are bound, and its rows are read by their columns.
 
-ghost use Rattle.std.specs.Prelude.{◌≡◌, Ok, IfOk};
+ghost use Rattle.std.specs.Prelude.{◌≡◌, ◌≢◌, ◌≤◌, ◌<◌, length, Ok, IfOk, IfErr, OnOk};
+ghost use Rattle.pgv.specs.Words.{capacity};
 
 use pgv::message::{self, MessageError, Prepared};
 use pgv::row::{FromRow, PgColumns, PgPlaces, PgRow};
@@ -57,4 +58,21 @@ pub fn people(
         rest = found.rest;
     }
     Ok(people)
+}
+
+/// Tests that all these bodies are rows of the columns, each in the same room. Where the room has a place for each
+/// column, none asks for memory; and it has so after the first.
+pub fn check_rows(
+    columns: &PgColumns<'_>,
+    room: &mut PgPlaces,
+    bodies: &[&[u8]],
+) -> Result<(), CodecError>
+    ensures memory { length columns.now ≤ capacity room.old → IfErr result (λ e. e ≢ CodecError.Memory) }
+    ensures kept { capacity room.old ≤ capacity room.new }
+    ensures enough { OnOk result (0 < length bodies.now → length columns.now ≤ capacity room.new) }
+{
+    for body in bodies {
+        room.find(columns, body)?;
+    }
+    Ok(())
 }

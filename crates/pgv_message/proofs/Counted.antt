@@ -47,7 +47,7 @@ module _ {A : Type 0} (Is : A → Type 0) (encode : A → List ℕ) (one : List 
   -- as a reader answers
   module _ {V : Type 0} (view : V → List A) (bytes : List ℕ) where
     pub reads_counted : (result : Result V CodecError) → AreBytes bytes → Gives view (counted one bytes) result → GivesWhole view (counted one bytes) (IsCounted Is encode bytes) result
-    reads_counted (Ok v) h gives = (gives, is_counted bytes (view v) h gives, λ list s. answer_is {A = List A} (view v) list (sym gives ∙ is_read bytes list h s))
+    reads_counted (Ok v) h gives = (gives, (is_counted bytes (view v) h gives, λ list s. answer_is {A = List A} (view v) list (sym gives ∙ is_read bytes list h s)))
     reads_counted (Err e) h gives = (gives, λ list s. (only_memory (counted one bytes) e list (is_read bytes list h s) gives).0)
 
 -- ---- OIDs

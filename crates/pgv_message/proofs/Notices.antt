@@ -136,7 +136,7 @@ module _ {V : Type 0} (view : V → List Field) (bytes : List ℕ) where
   pub reads_fields : (result : Result V CodecError) → Gives view (notice bytes) result → GivesWhole view (notice bytes) (IsNotice bytes) result
   reads_fields (Ok v) gives =
       let found = stated_is (notice_fields bytes) (view v) gives in
-      (gives, is_notice bytes (view v) found, λ fields s. ok_is {A = List Field} (view v) fields (sym found ∙ is_read bytes fields s))
+      (gives, (is_notice bytes (view v) found, λ fields s. ok_is {A = List Field} (view v) fields (sym found ∙ is_read bytes fields s)))
   reads_fields (Err e) gives = (gives, λ fields s. (only_memory (notice bytes) e fields (ap stated (is_read bytes fields s)) gives).0)
 
 -- ---- as a loop reads them

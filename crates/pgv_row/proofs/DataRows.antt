@@ -136,7 +136,7 @@ row_is_free room width bytes enough =
 
 module _ {V : Type 0} (view : V → List Part) (room width : ℕ) (bytes : List ℕ) where
   pub row_read : (result : Result V CodecError) → AreBytes bytes → Gives view (data_row room width bytes) result → GivesWhole view (data_row room width bytes) (IsDataRow width bytes) result
-  row_read (Ok v) h gives = (gives, is_row room width bytes (view v) h gives, λ row s. answer_is {A = List Part} (view v) row (sym gives ∙ is_read room width bytes row h s))
+  row_read (Ok v) h gives = (gives, (is_row room width bytes (view v) h gives, λ row s. answer_is {A = List Part} (view v) row (sym gives ∙ is_read room width bytes row h s)))
   row_read (Err e) h gives = (gives, λ row s. (only_memory (data_row room width bytes) e row (is_read room width bytes row h s) gives).0)
 
   pub enough_room : (result : Result V CodecError) → Gives view (data_row room width bytes) result → width ≤ room → IfErr result (λ e. e ≢ Memory)

@@ -12,7 +12,7 @@ use Rattle.pgv_value.specs.declared.value.PgValueFormat.{PgValueFormat}
 use Rattle.pgv_value.specs.declared.value.PgValueFormat.TheVariants.{Text, Binary}
 use Rattle.pgv_value.proofs.Numbers.{bytes_after}
 use Rattle.pgv_row.specs.ColumnView.{Column}
-use Rattle.pgv_row.specs.Description.{KnownTypes, type_by, column_front, description, column_bytes, IsColumn, IsDescription, DescriptionGivesWhole}
+use Rattle.pgv_row.specs.Description.{KnownTypes, type_by, column_front, description, column_bytes, IsColumn, IsDescription, DescriptionIsRead}
 use Rattle.pgv_value.specs.Fronts.{i16_front, u16_front, u32_front, name_front, format_of, format_number}
 use Rattle.pgv_value.specs.Outcome.{Outcome, Gives, GivesWhole, exactly, allocates, done, ◌>>=◌, ◌>>◌}
 use Rattle.pgv_value.specs.Several.{several, ReadsOne}
@@ -200,5 +200,5 @@ description_is_read known bytes columns h = (is_description known bytes columns 
 
 module _ {V : Type 0} (view : V → List Column) (known : KnownTypes) (bytes : List ℕ) where
   pub columns_read : (result : Result V CodecError) → AreBytes bytes → Gives view (description known bytes) result → GivesWhole view (description known bytes) (IsDescription known bytes) result
-  columns_read (Ok v) h gives = (gives, is_description known bytes (view v) h gives, λ columns s. answer_is {A = List Column} (view v) columns (sym gives ∙ is_read known bytes columns h s))
+  columns_read (Ok v) h gives = (gives, (is_description known bytes (view v) h gives, λ columns s. answer_is {A = List Column} (view v) columns (sym gives ∙ is_read known bytes columns h s)))
   columns_read (Err e) h gives = (gives, λ columns s. (only_memory (description known bytes) e columns (is_read known bytes columns h s) gives).0)

@@ -1,5 +1,5 @@
 -- A row that is read in one pass is read as its parts are.
-use Rattle.std.proofs.Common.{◌⊎◌, inl, inr, IfErr, ◌≡◌, ℕ, suc, ◌-◌, ◌<◌, ◌≤◌, Bool, true, false, not, nat_eq, List, [], ◌∷◌, length, drop, Option, Result, Ok, Err, IfOk, refl, sym, ap, ◌∙◌, subst, arith}
+use Rattle.std.proofs.Common.{◌⊎◌, inl, inr, ◌≡◌, ℕ, suc, ◌-◌, ◌<◌, ◌≤◌, Bool, true, false, not, nat_eq, List, [], ◌∷◌, length, drop, Option, Result, Ok, Err, refl, sym, ap, ◌∙◌, subst, arith}
 use Rattle.pgv_value.specs.FrameBinary.{Part}
 use Rattle.pgv_value.specs.Fronts.{one_part}
 use Rattle.pgv_value.specs.Laws.{AreBytes}
@@ -7,7 +7,7 @@ use Rattle.std.specs.Prelude.{IsOkAnd}
 use Rattle.std.proofs.lemmas.Bool.{false≢true}
 use Rattle.pgv_value.specs.Parsed.{Parsed}
 use Rattle.pgv_row.specs.Errors.{codec_error}
-use Rattle.pgv_value.specs.Outcome.{Outcome, Gives, Fails, fails_if, bind_by, done, ◌>>=◌, ◌>>◌}
+use Rattle.pgv_value.specs.Outcome.{Outcome, Fails, fails_if, bind_by, done, ◌>>=◌, ◌>>◌}
 use Rattle.pgv_value.specs.Several.{several}
 use Rattle.pgv_value.specs.declared.error.CodecError.{CodecError}
 use Rattle.pgv_value.specs.declared.error.CodecError.TheVariants.{WrongLength}

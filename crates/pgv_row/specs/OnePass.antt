@@ -3,16 +3,15 @@
 -- type and in the format of its column, null included (`one_pass`): a number of columns that isn't there is C15,
 -- another than the description's C12, a frame that isn't there C15 or C16, and bytes after the last frame C17. Further
 -- columns than there are fields are passed over, a frame each.
-use Rattle.std.specs.Prelude.{◌≡◌, ◌⊎◌, ◌≤◌, ℕ, ◌+◌, ◌-◌, nat_eq, not, Bool, List, [], length, drop, slice_get, Option, Some, None, Result, Ok, Err, IfErr, IsOkAnd, ⊤, if◌then◌else◌}
+use Rattle.std.specs.Prelude.{◌≡◌, ◌⊎◌, ◌≤◌, ℕ, ◌+◌, ◌-◌, nat_eq, not, Bool, List, [], length, drop, slice_get, Option, Some, None, Result, Ok, Err, IsOkAnd, ⊤, if◌then◌else◌}
 use Rattle.pgv_types.specs.Ty.{Ty}
 use Rattle.pgv_types.specs.Facts.{is_custom}
 use Rattle.pgv_value.specs.FrameBinary.{Part}
 use Rattle.pgv_value.specs.Laws.{AreBytes}
 use Rattle.pgv_value.specs.Fronts.{one_part}
-use Rattle.pgv_value.specs.Outcome.{Outcome, Fails, Gives, exactly, or_fail, fails_if, allocates, done, ◌>>=◌, ◌>>◌}
+use Rattle.pgv_value.specs.Outcome.{Outcome, Fails, exactly, or_fail, fails_if, allocates, done, ◌>>=◌, ◌>>◌}
 use Rattle.pgv_value.specs.Several.{several}
 use Rattle.pgv_value.specs.ValueView.{Given, given}
-use Rattle.pgv_value.specs.declared.error.CodecError.{CodecError}
 use Rattle.pgv_value.specs.declared.error.CodecError.TheVariants.{NoField, MismatchedTypes, WrongLength}
 use Rattle.pgv_row.specs.ColumnView.{Column}
 use Rattle.pgv_row.specs.DataRow.{frames_front, IsDataRow}

@@ -1,6 +1,6 @@
 -- Where the parts of a row are in its bytes.
-use Rattle.std.specs.Prelude.{ℕ, ◌≤◌, List, length, map, slice_range, Option, Some, None, option_map, ⊤}
-use Rattle.std.specs.List.{AllByRecursion}
+use Rattle.std.specs.Prelude.{ℕ, nat_lt, not, ◌&&◌, Bool, true, ◌≤◌, List, length, map, slice_range, Option, Some, None, option_map, ⊤}
+use Rattle.std.specs.List.{AllByRecursion, list_all}
 use Rattle.pgv_value.specs.FrameBinary.{Part}
 use Rattle.pgv_row.specs.declared.place.Place.{Place}
 
@@ -18,3 +18,11 @@ IsWithin bytes (Some p) = (p.start ≤ p.end) × (p.end ≤ length bytes)
 
 abbrev pub AreWithin : List ℕ → List (Option Place) → Type 0
 AreWithin bytes places = AllByRecursion (IsWithin bytes) places
+
+-- the same as a test
+abbrev pub is_within : ℕ → Option Place → Bool
+is_within size None = true
+is_within size (Some p) = not (nat_lt p.end p.start) && not (nat_lt size p.end)
+
+abbrev pub are_within : List ℕ → List (Option Place) → Bool
+are_within bytes places = list_all (is_within (length bytes)) places

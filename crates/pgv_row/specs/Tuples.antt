@@ -3,7 +3,6 @@
 use Rattle.std.specs.Prelude.{◌≡◌, ◌⊎◌, ℕ, ◌+◌, Bool, Result, Ok, Err, IsOk}
 use Rattle.pgv_types.specs.Ty.{Ty}
 use Rattle.pgv_value.specs.ValueView.{Given}
-use Rattle.pgv_value.specs.declared.error.CodecError.{CodecError}
 use Rattle.pgv_value.specs.declared.error.CodecError.TheVariants.{NoField}
 use Rattle.pgv_row.specs.declared.error.ColumnError.{ColumnError}
 use Rattle.pgv_row.specs.declared.error.ColumnError.TheVariants.{NotFound, Decode}
@@ -11,11 +10,6 @@ use Rattle.pgv_row.specs.Errors.{codec_error}
 use Rattle.pgv_value.specs.Outcome.{Outcome, Fails, or_fail, done, ◌>>=◌}
 use Rattle.pgv_row.specs.RowView.{Row, place_at}
 use Rattle.pgv_row.specs.Values.{column_value}
-
--- a result with its refusal by its number
-abbrev pub or_codec : {I V : Type 0} → Result V (ColumnError I) → Result V CodecError
-or_codec (Ok v) = Ok v
-or_codec (Err e) = Err (codec_error e)
 
 -- what was returned, seen by view, is the outcome; or the error is the outcome's by its number, and one of these
 abbrev pub GivesFields : {I V M : Type 0} → (V → M) → Outcome M → (ColumnError I → Type 0) → Result V (ColumnError I) → Type 0

@@ -4,7 +4,7 @@ ghost use Rattle.std.specs.Prelude.{◌≡◌, ◌-◌, ◌<◌, ◌≤◌, leng
 ghost use Rattle.pgv_value.specs.Outcome.{Gives};
 ghost use Rattle.pgv_value.specs.Parsed.{GivesExactly};
 ghost use Rattle.pgv_row.specs.CopyRows.{AreFramesRefused, IsCopyRowRefused, bytes_left, copy_opened, copy_row, frames_read};
-ghost use Rattle.pgv_row.specs.Tuples.{or_codec};
+ghost use Rattle.pgv_row.specs.Tuples.{GivesFields};
 
 use crate::column::{PgColumn, PgColumns};
 use crate::error::ColumnError;

@@ -18,5 +18,5 @@ pub use column::{PgColumn, PgColumns};
 pub use copy::PgCopyRows;
 pub use error::ColumnError;
 pub use index::ColumnIndex;
-pub use row::{PgOwnedRow, PgPlaces, PgRow};
+pub use row::{PgFoundRow, PgOwnedRow, PgPlaces, PgRow};
 pub use tuple::{ColumnList, ColumnTuple, FromRow};

@@ -6,9 +6,8 @@ ghost use Rattle.pgv_value.specs.declared.error.CodecError.TheVariants.{FieldCou
 ghost use Rattle.pgv_row.specs.Errors.{GivesColumn};
 ghost use Rattle.pgv_row.specs.declared.error.ColumnError.TheVariants.{NotFound};
 ghost use Rattle.pgv_value.specs.Outcome.{Gives, after, done};
-ghost use Rattle.pgv_row.specs.Places.{part_at, IsWithin};
+ghost use Rattle.pgv_row.specs.Places.{are_within, part_at, IsWithin};
 ghost use Rattle.pgv_row.specs.RowParts.{body_of, capacity};
-ghost use Rattle.pgv_row.specs.Reading.{HasRoomThen, ReadsRow};
 ghost use Rattle.pgv_row.specs.RowView.{column_there};
 ghost use Rattle.pgv_row.specs.Tuples.{GivesFields};
 ghost use Rattle.pgv_row.specs.Values.{column_value, raw_value, unchecked_value};
@@ -32,6 +31,8 @@ pub struct PgPlaces {
 }
 
 impl PgPlaces {
+    ghost use Rattle.pgv_row.specs.Reading.{found_row, HasRoomThen, ReadsRow};
+
     /// Room for no place. It takes no memory yet.
     pub fn new(alloc: Global) -> PgPlaces
         ensures { capacity result ≡ 0 }
@@ -47,6 +48,78 @@ impl PgPlaces {
     {
         let list = Vec::with_capacity(alloc, columns.len())?;
         Ok(PgPlaces { list })
+    }
+
+    /// Finds the parts of the row that is the body of a DataRow, as [`PgRow::read`] does, whose row is then
+    /// [`row`](PgFoundRow::row): `let row = room.find(&columns, body)?.row();`. It is refused as that is, and its
+    /// contract also says what room there is when the row is gone: no less than before, and after a row enough for all
+    /// rows of these columns. So of rows that are found in the same room only the first asks for memory.
+    #[inline(always)]
+    pub fn find<'a>(
+        &'a mut self,
+        columns: &'a PgColumns<'a>,
+        body: &'a [u8],
+    ) -> Result<PgFoundRow<'a>, CodecError>
+        ensures read { ReadsRow found_row columns.now body.now (capacity self.old) result }
+        ensures* room { sem 𝓛 (HasRoomThen self.entry (length columns.now) result) }
+    {
+        let columns = columns.as_slice();
+        find_places(&mut self.list, body, columns.len())?;
+        Ok(PgFoundRow {
+            columns,
+            bytes: RowBytes::Borrowed(body),
+            places: self.list.as_slice(),
+        })
+    }
+
+    /// The same of a body that is shared, as [`PgRow::read_shared`] reads it.
+    #[inline(always)]
+    pub fn find_shared<'a>(
+        &'a mut self,
+        columns: &'a PgColumns<'a>,
+        body: &'a Bytes,
+    ) -> Result<PgFoundRow<'a>, CodecError>
+        ensures read { ReadsRow found_row columns.now body.now (capacity self.old) result }
+        ensures* room { sem 𝓛 (HasRoomThen self.entry (length columns.now) result) }
+    {
+        let columns = columns.as_slice();
+        find_places(&mut self.list, body.as_slice(), columns.len())?;
+        Ok(PgFoundRow {
+            columns,
+            bytes: RowBytes::Shared(body),
+            places: self.list.as_slice(),
+        })
+    }
+}
+
+/// A row whose parts were found. It is a type of its own, since a contract that says what room is left when its row is
+/// gone can't be had where the row is returned.
+#[derive(Drop)]
+pub struct PgFoundRow<'a> {
+    columns: &'a [PgColumn<'a>],
+    bytes: RowBytes<'a>,
+    places: &'a [Option<Place>],
+    ghost within: { are_within (body_of bytes) places.now ≡ true },
+}
+
+impl<'a> PgFoundRow<'a> {
+    ghost use Rattle.pgv_row.specs.Reading.{found_row};
+
+    /// The row.
+    #[inline(always)]
+    pub fn row(self) -> PgRow<'a>
+        ensures { result ≡ found_row self.entry }
+    {
+        let PgFoundRow {
+            columns,
+            bytes,
+            places,
+        } = self;
+        PgRow {
+            columns,
+            bytes,
+            places,
+        }
     }
 }
 
@@ -108,6 +181,8 @@ fn value_in<'a>(
 }
 
 impl<'a> PgRow<'a> {
+    ghost use Rattle.pgv_row.specs.Reading.{ReadsRow};
+
     /// The row that is the body of a DataRow (PostgreSQL, "Message Formats", DataRow), under these columns. It lasts
     /// until the next one is read with the same room. `0002 00000001 37 ffffffff` is a row of two columns, `7` and
     /// null.
@@ -123,8 +198,7 @@ impl<'a> PgRow<'a> {
         room: &'a mut PgPlaces,
         body: &'a [u8],
     ) -> Result<Self, CodecError>
-        ensures read { ReadsRow columns.now body.now (capacity room.old) result }
-        ensures* room { sem 𝓛 (HasRoomThen room.entry (length columns.now) result) }
+        ensures { ReadsRow (λ row. row) columns.now body.now (capacity room.old) result }
     {
         let columns = columns.as_slice();
         find_places(&mut room.list, body, columns.len())?;
@@ -144,8 +218,7 @@ impl<'a> PgRow<'a> {
         room: &'a mut PgPlaces,
         body: &'a Bytes,
     ) -> Result<Self, CodecError>
-        ensures read { ReadsRow columns.now body.now (capacity room.old) result }
-        ensures* room { sem 𝓛 (HasRoomThen room.entry (length columns.now) result) }
+        ensures { ReadsRow (λ row. row) columns.now body.now (capacity room.old) result }
     {
         let columns = columns.as_slice();
         find_places(&mut room.list, body.as_slice(), columns.len())?;

@@ -1,4 +1,4 @@
-use Rattle.std.proofs.Common.{◌≡◌, Some, Ok, Err, refl, inl, add-one, arith}
+use Rattle.std.proofs.Common.{rules, ◌≡◌, Some, Ok, Err, refl, inl, add-one, arith}
 use Rattle.std.specs.Option.{option_copied}
 use Rattle.pgv_value.specs.Fronts.{one_part}
 use Rattle.pgv_row.proofs.OnePass.{goes_on, is_done, ends}
@@ -7,7 +7,7 @@ use Rattle.pgv_row.proofs.reader.pass_over.Goals as goal
 pub returns-in-Err-clause-read : goal.returns-in-Err-clause-read
 returns-in-Err-clause-read c =
     let missing : (one_part c.loop-at.rest.now).answer ≡ Err (Some c.in-Err.source) = rw (c.in-Err.ensures.exact.0, c.in-Err.ensures.exact.1) refl in
-    (inl (ends c.args.width c.loop-at.at c.loop-at.rest.now _ c.loop-at.invariant.0 _ c.loop-at-test.true missing), c.loop-at-test.from)
+    (inl (ends c.args.width c.loop-at.at c.loop-at.rest.now _ c.loop-at.invariant.0 _ c.loop-at-test.true missing), search rules)
 
 pub loop-at-preserved : goal.loop-at-preserved
 loop-at-preserved c =

@@ -1,0 +1,7 @@
+use Rattle.pgv_row.proofs.Places.{all_tested}
+use Rattle.pgv_row.proofs.row.PgPlaces.find_shared.Goals as goal
+
+pub invariant_of-result : goal.invariant_of-result
+invariant_of-result c =
+    let places = rw c.as_slice.ensures at c.in_ok-find_places.ensures.places in
+    record { within = rw c.as_slice-2.ensures.value (all_tested c.args.body.now c.find_places.new.places.items places) }
