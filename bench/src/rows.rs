@@ -116,8 +116,8 @@ fn row_body(number: i32, text: &String, day: NaiveDate) -> Vec<u8> {
     body
 }
 
-/// A COPY stream of rows of three fields, read as lists, into one list and as tuples, beside `get` and `decode` of the same fields.
-/// Ours on both sides.
+/// A COPY stream of rows of three fields, read as lists, into one list and as tuples, beside `get` and `decode` of the
+/// same fields. Ours on both sides.
 pub fn copying(bench: &mut Bench) {
     let (numbers, texts) = (numbers_of(COUNT), texts_of(COUNT));
     let fields: Vec<Vec<u8>> = (0..COUNT)

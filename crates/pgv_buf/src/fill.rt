@@ -46,6 +46,11 @@ fn put_bytes(bytes: &mut Vec<u8>, place: usize, written: &[u8])
     requires { place + length written.now ≤ length bytes.old.items }
     ensures { bytes.new.items ≡ put place written.now bytes.old.items }
 {
+    // One byte, as the version of a `jsonb`, is written without a call of `memcpy`.
+    if let [byte] = written {
+        bytes[place] = *byte;
+        return;
+    }
     let after = place + written.len();
     let target = &mut bytes[place..after];
     target.copy_from_slice(written);

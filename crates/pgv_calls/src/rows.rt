@@ -1,7 +1,8 @@
 //! Rows of calls that read a row. `describe HEX` and `body HEX` keep the bodies of a RowDescription and of a DataRow;
 //! any other row is `WAY CALL => ANSWER`, where WAY says how the row is read: in `new` room, in `room` for all columns,
-//! from `shared` bytes, `found` in room and so `found-shared`, `kept`, in one `pass` as a tuple of so many fields as CALL says, or as the first two rows of a
-//! COPY stream, which the body is then, under the description (`copy`) or under two types (`typed`).
+//! from `shared` bytes, `found` in new room or so `found-shared`, `kept`, in one `pass` as a tuple of so many fields as
+//! CALL says, or as the first two rows of a COPY stream, which the body is then, under the description (`copy`) or
+//! under two types (`typed`).
 
 use crate::reading::{asked, copied, in_one_pass};
 use bytes::Bytes;

@@ -60,19 +60,33 @@ pub fn people(
     Ok(people)
 }
 
-/// Tests that all these bodies are rows of the columns, each in the same room. Where the room has a place for each
-/// column, none asks for memory; and it has so after the first.
+/// Tests that a body is a row of the columns, in room for rows.
+fn check_row(columns: &PgColumns<'_>, room: &mut PgPlaces, body: &[u8]) -> Result<(), CodecError>
+    ensures memory { length columns.now ≤ capacity room.old
+        → IfErr result (λ e. e ≢ CodecError.Memory) }
+    ensures kept { capacity room.old ≤ capacity room.new }
+    ensures enough { OnOk result (length columns.now ≤ capacity room.new) }
+{
+    match room.find(&*columns, &*body) {
+        Ok(_row) => Ok(()),
+        Err(error) => Err(error),
+    }
+}
+
+/// Tests that all these bodies are rows of the columns, each in the same room. Only the first may ask for memory, and
+/// none where the room has a place for each column.
 pub fn check_rows(
     columns: &PgColumns<'_>,
     room: &mut PgPlaces,
     bodies: &[&[u8]],
 ) -> Result<(), CodecError>
-    ensures memory { length columns.now ≤ capacity room.old → IfErr result (λ e. e ≢ CodecError.Memory) }
+    ensures memory { length columns.now ≤ capacity room.old
+        → IfErr result (λ e. e ≢ CodecError.Memory) }
     ensures kept { capacity room.old ≤ capacity room.new }
     ensures enough { OnOk result (0 < length bodies.now → length columns.now ≤ capacity room.new) }
 {
     for body in bodies {
-        room.find(columns, body)?;
+        check_row(columns, room, *body)?;
     }
     Ok(())
 }

@@ -23,7 +23,7 @@ use pgv_examples::page::Page;
 use pgv_examples::row::{column, keep, read_person};
 use pgv_examples::server_types::{columns_by, fill_by, types_of};
 use pgv_examples::shipment::Shipment;
-use pgv_examples::statement::columns_of;
+use pgv_examples::statement::{check_rows, columns_of};
 use pgv_examples::user_id::UserId;
 use std::alloc::{AllocError, Global};
 use std::test::Fail;
@@ -317,6 +317,29 @@ fn reasons_name_the_column(rt: HostRuntime) -> Result<(), CodecError> {
         b"00016c616d6500000000000000000000190000000000000000",
     )?;
     assert_eq!(rt; missing, Some(Reason::Missing("name")));
+    Ok(())
+}
+
+/// Why bodies are not all rows of one column of type `text`, if they aren't.
+fn fault_of_rows(alloc: Global, bodies: &[&[u8]]) -> Result<Option<CodecError>, CodecError> {
+    let described = b"00016e616d6500000000000000000000190000000000000000";
+    let described = bytes_of(alloc, described)?;
+    let columns = columns_of(alloc, described.as_slice())?;
+    let mut room = PgPlaces::new(alloc);
+    match check_rows(&columns, &mut room, bodies) {
+        Ok(()) => Ok(None),
+        Err(error) => Ok(Some(error)),
+    }
+}
+
+#[test]
+fn rows_are_tested_in_one_room(rt: HostRuntime) -> Result<(), CodecError> {
+    let null: &[u8] = b"\0\x01\xff\xff\xff\xff";
+    let two: &[u8] = b"\0\x02\xff\xff\xff\xff\xff\xff\xff\xff";
+    let rows = fault_of_rows(rt.alloc(), &[null, null])?;
+    assert_eq!(rt; rows, None);
+    let other = fault_of_rows(rt.alloc(), &[null, two])?;
+    assert_eq!(rt; other, Some(CodecError::FieldCount));
     Ok(())
 }
 
