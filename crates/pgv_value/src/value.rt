@@ -5,7 +5,7 @@ ghost use Rattle.std.specs.Option.{option_copied};
 ghost use Rattle.pgv_types.specs.Facts.{IsNotCustom};
 ghost use Rattle.pgv_value.specs.Fronts.{format_of, value_front};
 ghost use Rattle.pgv_value.specs.Parsed.{GivesExactly, GivesOr};
-ghost use Rattle.pgv_value.specs.RowView.{held_bytes, part_bytes, IsHeld, IsPart};
+ghost use Rattle.pgv_value.specs.RowView.{held_bytes};
 ghost use Rattle.pgv_value.specs.Utf8.{GivesText};
 ghost use Rattle.pgv_value.specs.ValueView.{given};
 ghost use Rattle.pgv_value.specs.declared.error.CodecError.TheVariants.{UnexpectedNull, Memory};
@@ -114,31 +114,12 @@ impl Clone for PgValue {
     }
 }
 
-/// A part of a row. Its places have four bytes each, so that a value is small.
+/// The row that a value is a part of.
 #[derive(Clone, Copy)]
 struct RowPart<'r> {
-    row: &'r Bytes,
-    start: u32,
-    end: u32,
-}
-
-impl<'r> RowPart<'r> {
-    /// The bytes of the part.
-    #[inline(always)]
-    fn bytes(self) -> &'r [u8]
-        requires { IsPart self }
-        ensures { result.now ≡ part_bytes self.entry }
-    {
-        &self.row.as_slice()[self.start as usize..self.end as usize]
-    }
-
-    /// The bytes of the part, shared with its row.
-    fn shared(self) -> Result<Bytes, AllocError>
-        requires { IsPart self }
-        ensures { IfOk result (λ bytes. bytes ≡ part_bytes self.entry) }
-    {
-        self.row.slice(self.start as usize..self.end as usize)
-    }
+    bytes: &'r Bytes,
+    start: usize,
+    end: usize,
 }
 
 /// What a value has.
@@ -150,22 +131,18 @@ enum Held<'r> {
     Bytes(&'r [u8]),
     /// Text, which isn't tested again.
     Text(&'r str),
-    /// A part of a row, whose bytes [`PgValueRef::to_owned`] shares.
-    Row(RowPart<'r>),
 }
 
 impl<'r> Held<'r> {
     /// The bytes; `None` for null.
     #[inline(always)]
     fn bytes(self) -> Option<&'r [u8]>
-        requires { IsHeld self }
         ensures { option_copied result ≡ held_bytes self.entry }
     {
         match self {
             Held::Null => None,
             Held::Bytes(bytes) => Some(bytes),
             Held::Text(text) => Some(text.as_bytes()),
-            Held::Row(part) => Some(part.bytes()),
         }
     }
 }
@@ -173,6 +150,7 @@ impl<'r> Held<'r> {
 /// A value of a row: null or bytes, its type and its format. The bytes are borrowed from the row, and what
 /// [`PgValueRef::as_bytes`] and [`PgValueRef::as_str`] return lives as long as the row.
 pub struct PgValueRef<'r> {
+    row: Option<RowPart<'r>>,
     held: Held<'r>,
     type_info: PgTypeInfo,
     format: PgValueFormat,
@@ -183,6 +161,7 @@ impl<'r> Drop for PgValueRef<'r> {
     #[inline(always)]
     fn drop(self) {
         let PgValueRef {
+            row: _,
             held: _,
             type_info: _,
             format: _,
@@ -191,7 +170,7 @@ impl<'r> Drop for PgValueRef<'r> {
 }
 
 impl<'r> Model for PgValueRef<'r> {
-    ghost use Rattle.pgv_value.specs.RowView.{IsHeld, held_bytes};
+    ghost use Rattle.pgv_value.specs.RowView.{IsOfRow, held_bytes};
     ghost use Rattle.pgv_value.specs.ValueView.{Given, given_code};
 
     ghost Value = { Given };
@@ -200,7 +179,7 @@ impl<'r> Model for PgValueRef<'r> {
 
     ghost view = { λ v. record { bytes = held_bytes v.held; type_info = v.type_info; format = v.format } };
 
-    ghost invariant = { λ v. IsHeld v.held };
+    ghost invariant = { λ v. IsOfRow v.row (held_bytes v.held) };
 }
 
 impl<'r> PgValueRef<'r> {
@@ -214,6 +193,7 @@ impl<'r> PgValueRef<'r> {
             None => Held::Null,
         };
         PgValueRef {
+            row: None,
             held,
             type_info,
             format,
@@ -230,6 +210,7 @@ impl<'r> PgValueRef<'r> {
             None => Held::Null,
         };
         PgValueRef {
+            row: None,
             held,
             type_info,
             format: PgValueFormat::Text,
@@ -250,12 +231,13 @@ impl<'r> PgValueRef<'r> {
         requires in_row { end ≤ length row.now }
         ensures { result ≡ given type_info format (Some (slice_range row.now start end)) }
     {
-        let held = match (u32::try_from(start), u32::try_from(end)) {
-            (Ok(start), Ok(end)) => Held::Row(RowPart { row, start, end }),
-            _ => Held::Bytes(&row.as_slice()[start..end]),
-        };
         PgValueRef {
-            held,
+            row: Some(RowPart {
+                bytes: row,
+                start,
+                end,
+            }),
+            held: Held::Bytes(&row.as_slice()[start..end]),
             type_info,
             format,
         }
@@ -306,6 +288,7 @@ impl<'r> PgValueRef<'r> {
         ensures { result ≡ self.entry.type_info }
     {
         let PgValueRef {
+            row: _,
             held: _,
             type_info,
             format: _,
@@ -318,10 +301,7 @@ impl<'r> PgValueRef<'r> {
     pub fn is_null(&self) -> bool
         ensures { result ≡ is_none self.now.bytes }
     {
-        match self.held {
-            Held::Null => true,
-            _ => false,
-        }
+        self.held.bytes().is_none()
     }
 
     /// The bytes, in either format, which live as long as the row. Null is refused with
@@ -354,19 +334,20 @@ impl<'r> PgValueRef<'r> {
         }
     }
 
-    /// The value without a borrow. If it was made by [`from_row`](PgValueRef::from_row), of a row of less than 4 GiB, it
-    /// shares that part of the row's bytes; else its bytes are copied. It is refused only for memory (C1), and only if it has bytes or its type
+    /// The value without a borrow. If it was made by [`from_row`](PgValueRef::from_row), it shares that part of the
+    /// row's bytes; else its bytes are copied. It is refused only for memory (C1), and only if it has bytes or its type
     /// is a custom one.
     pub fn to_owned(&self, alloc: Global) -> Result<PgValue, CodecError>
         ensures same { IfOk result (λ v. v ≡ self.now) }
         ensures memory { IfErr result (λ e. e ≡ Memory) }
         ensures succeeds { IsNotCustom self.now.type_info → self.now.bytes ≡ None → IsOk result }
     {
-        let bytes = match self.held {
-            Held::Null => None,
-            Held::Bytes(bytes) => Some(Bytes::copy_from_slice(alloc, bytes)?),
-            Held::Text(text) => Some(Bytes::copy_from_slice(alloc, text.as_bytes())?),
-            Held::Row(part) => Some(part.shared()?),
+        let bytes = match self.row {
+            Some(part) => Some(part.bytes.slice(part.start..part.end)?),
+            None => match self.held.bytes() {
+                Some(bytes) => Some(Bytes::copy_from_slice(alloc, bytes)?),
+                None => None,
+            },
         };
         Ok(PgValue {
             bytes,
@@ -384,6 +365,7 @@ impl<'r> Clone for PgValueRef<'r> {
 
     fn clone(&self) -> Result<PgValueRef<'r>, AllocError> {
         Ok(PgValueRef {
+            row: self.row,
             held: self.held,
             type_info: self.type_info.clone()?,
             format: self.format,
