@@ -6,7 +6,7 @@ returns g c =
     let statement = c.in_ok-described.described in
     let bindings = c.in_ok-bindings.bindings in
     let prepares = rw c.as_str.ensures.value at c.in_ok-described.ensures in
-    let is_description = rw c.as_slice-2.ensures.value at c.in_ok-columns.ensures.exact.0 in
+    let is_description = rw c.as_slice-2.ensures.value at c.in_ok-columns.ensures.1.0 in
     let executes = rw c.results_of-format.ensures at c.in_ok-execute.ensures in
     on_ok c.show_rows.result
     (λ k. (
