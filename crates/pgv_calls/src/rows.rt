@@ -28,51 +28,37 @@ fn names(alloc: Global, columns: &PgColumns<'_>) -> Result<String, CodecError> {
     Ok(text)
 }
 
-/// What is asked of a row that borrows its bytes.
+/// What is asked of a row that borrows its bytes, and is read or found in the room.
 fn borrowed(
     alloc: Global,
     columns: &PgColumns<'_>,
     room: &mut PgPlaces,
     body: &[u8],
+    is_found: bool,
     call: &str,
 ) -> Result<String, CodecError> {
+    if is_found {
+        let row = room.find(columns, body)?.row();
+        return asked(alloc, &row, call);
+    }
     let row = PgRow::read(columns, room, body)?;
     asked(alloc, &row, call)
 }
 
-/// What is asked of a row that shares its bytes.
+/// The same of a row that shares its bytes.
 fn shared(
     alloc: Global,
     columns: &PgColumns<'_>,
     room: &mut PgPlaces,
     body: &Bytes,
+    is_found: bool,
     call: &str,
 ) -> Result<String, CodecError> {
+    if is_found {
+        let row = room.find_shared(columns, body)?.row();
+        return asked(alloc, &row, call);
+    }
     let row = PgRow::read_shared(columns, room, body)?;
-    asked(alloc, &row, call)
-}
-
-/// What is asked of a row that was found in room.
-fn found(
-    alloc: Global,
-    columns: &PgColumns<'_>,
-    room: &mut PgPlaces,
-    body: &[u8],
-    call: &str,
-) -> Result<String, CodecError> {
-    let row = room.find(columns, body)?.row();
-    asked(alloc, &row, call)
-}
-
-/// The same of a row that shares its bytes.
-fn found_shared(
-    alloc: Global,
-    columns: &PgColumns<'_>,
-    room: &mut PgPlaces,
-    body: &Bytes,
-    call: &str,
-) -> Result<String, CodecError> {
-    let row = room.find_shared(columns, body)?.row();
     asked(alloc, &row, call)
 }
 
@@ -116,9 +102,9 @@ fn read_in(
     way: &str,
     call: &str,
 ) -> Result<String, CodecError> {
-    if way == "new" {
+    if matches!(way, "new" | "found") {
         let mut room = PgPlaces::new(alloc);
-        return borrowed(alloc, columns, &mut room, body, call);
+        return borrowed(alloc, columns, &mut room, body, way == "found", call);
     }
     if way == "pass" {
         return in_one_pass(alloc, columns, body, call);
@@ -129,22 +115,18 @@ fn read_in(
     if way == "typed" {
         return typed(alloc, body);
     }
-    if way == "found" {
-        let mut room = PgPlaces::new(alloc);
-        return found(alloc, columns, &mut room, body, call);
-    }
     if way == "found-shared" {
         let mut room = PgPlaces::new(alloc);
         let body = Bytes::copy_from_slice(alloc, body)?;
-        return found_shared(alloc, columns, &mut room, &body, call);
+        return shared(alloc, columns, &mut room, &body, true, call);
     }
     let mut room = PgPlaces::with_columns(alloc, columns)?;
     match way {
-        "room" => borrowed(alloc, columns, &mut room, body, call),
+        "room" => borrowed(alloc, columns, &mut room, body, false, call),
         "kept" => kept(alloc, columns, &mut room, body, call),
         "shared" => {
             let body = Bytes::copy_from_slice(alloc, body)?;
-            shared(alloc, columns, &mut room, &body, call)
+            shared(alloc, columns, &mut room, &body, false, call)
         }
         _ => names(alloc, columns),
     }

@@ -25,6 +25,10 @@ abbrev pub IsInFront : {M : Type 0} → (Given → Outcome M) → ℕ → List �
 IsInFront parse width bytes m =
     (part : List ℕ) × ((t : Ty) → value_front t Binary bytes ≡ Ok (given t Binary (Some part), drop (4 + width) bytes)) × IsBinaryOf parse part m
 
+-- the same, and the frames after it
+abbrev pub IsNext : {M : Type 0} → (Given → Outcome M) → ℕ → List ℕ → M → List ℕ → Type 0
+IsNext parse width bytes m rest = IsInFront parse width bytes m × (rest ≡ drop (4 + width) bytes)
+
 -- what was read before, and what is still read
 abbrev pub with_front : {M : Type 0} → List M → Result (List M) (Option CodecError) → Result (List M) (Option CodecError)
 with_front ms (Ok ns) = Ok (ms ++ ns)

@@ -32,6 +32,11 @@ abbrev pub Fits : {V : Type 0} → Fit → Result V (ColumnError ℕ) → Type 0
 Fits fit (Ok v) = fit ≡ Ok tt
 Fits fit (Err e) = fit ≡ Err e
 
+-- the same of the column at a place, and the place after it
+abbrev pub FitsAt : Fit → ℕ → Result ℕ (ColumnError ℕ) → Type 0
+FitsAt fit place (Ok next) = (fit ≡ Ok tt) × (next ≡ place + 1)
+FitsAt fit place (Err e) = fit ≡ Err e
+
 abbrev pub type_fits : (Ty → Bool) → ℕ → Option Column → Fit
 type_fits accepts place None = Err (NotFound place place)
 type_fits accepts place (Some c) = if accepts c.type_info then Ok tt else Err (Decode place place MismatchedTypes)

@@ -16,6 +16,11 @@ abbrev pub GivesFields : {I V M : Type 0} → (V → M) → Outcome M → (Colum
 GivesFields view o Refused (Ok v) = o.answer ≡ Ok (view v)
 GivesFields view o Refused (Err e) = Fails (codec_error e) o × Refused e
 
+-- the same of the column at a place, and of the place after it
+abbrev pub GivesField : {I V M : Type 0} → (V → M) → Outcome M → (ColumnError I → Type 0) → ℕ → Result (V × ℕ) (ColumnError I) → Type 0
+GivesField view o Refused place (Ok v) = (o.answer ≡ Ok (view v.0)) × (v.1 ≡ place + 1)
+GivesField view o Refused place (Err e) = Fails (codec_error e) o × Refused e
+
 -- what was asked for
 abbrev pub index_of : {I : Type 0} → ColumnError I → I
 index_of (NotFound index place) = index

@@ -4,10 +4,10 @@ ghost use Rattle.std.specs.Prelude.{◌≡◌, ◌+◌, ◌≤◌, ℕ, List, le
 ghost use Rattle.std.specs.Option.{option_copied};
 ghost use Rattle.pgv_value.specs.Outcome.{Gives, Outcome};
 ghost use Rattle.pgv_row.specs.ColumnView.{Column};
-ghost use Rattle.pgv_row.specs.OnePass.{Fit, Fits, column_fits, columns_fit, Left, part_value, value_in_front, column_in_front, columns_in_front, IsRefusedInFront, IsFirstInFront, InOnePass};
+ghost use Rattle.pgv_row.specs.OnePass.{Fit, Fits, FitsAt, column_fits, columns_fit, Left, part_value, value_in_front, column_in_front, columns_in_front, IsRefusedInFront, IsFirstInFront, InOnePass};
 ghost use Rattle.pgv_row.specs.OnePassLemmas.{last_in_one_pass, further_in_one_pass};
 ghost use Rattle.pgv_row.specs.RowView.{Row};
-ghost use Rattle.pgv_row.specs.Tuples.{column_parse, columns_parse, GivesFields, IsFirstRefused, IsRefused};
+ghost use Rattle.pgv_row.specs.Tuples.{column_parse, columns_parse, GivesField, GivesFields, IsFirstRefused, IsRefused};
 ghost use Rattle.pgv_row.specs.declared.error.ColumnError.{ColumnError as Error};
 
 use crate::column::PgColumn;
@@ -121,9 +121,8 @@ fn next_column<T: Type + Decode>(
     row: &PgRow<'_>,
     place: usize,
 ) -> Result<(T, usize), ColumnError<usize>>
-    ensures read { GivesFields (λ x. T.view x.0) (column_parse T.accepts T.parse row.now place)
-        (IsRefused (column_parse T.accepts T.parse) row.now place) result }
-    ensures next { IfOk result (λ x. x.1 ≡ place + 1) }
+    ensures { GivesField T.view (column_parse T.accepts T.parse row.now place)
+        (IsRefused (column_parse T.accepts T.parse) row.now place) place result }
 {
     if place >= row.len() {
         return Err(ColumnError::NotFound {
@@ -147,8 +146,7 @@ fn check_column<T: Type>(
     columns: &[PgColumn<'_>],
     place: usize,
 ) -> Result<usize, ColumnError<usize>>
-    ensures fits { Fits (column_fits T.accepts columns.now place) result }
-    ensures next { IfOk result (λ next. next ≡ place + 1) }
+    ensures { FitsAt (column_fits T.accepts columns.now place) place result }
 {
     let Some(column) = columns.get(place) else {
         return Err(ColumnError::NotFound {

@@ -144,8 +144,7 @@ fn given_bytes(alloc: Global, text: &[u8]) -> Result<Option<Option<Vec<u8>>>, Al
 
 /// What a line asks for, if anything.
 pub fn parse<'a>(alloc: Global, line: &'a [u8]) -> Result<Option<Request<'a>>, AllocError>
-    ensures computed { IfOk result (λ found. option_map request_seen found ≡ request line.now) }
-    ensures meaning { IfOk result (λ found. Asks line.now (option_map request_seen found)) }
+    ensures { IfOk result (λ found. Asks line.now (option_map request_seen found)) }
 {
     let (verb, rest) = split_word(line);
     if is(verb, "add") {

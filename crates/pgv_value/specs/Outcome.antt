@@ -3,7 +3,7 @@
 -- have been asked for where one of the steps that were taken may ask for it. A step that never asks for memory is
 -- `exactly` a `Parsed`. What a reader promises is then one clause, `Gives`, and of one that asks for no memory
 -- `GivesExactly`.
-use Rattle.std.specs.Prelude.{◌≡◌, ◌≢◌, ◌⊎◌, ℕ, Bool, true, false, ◌||◌, List, Option, Some, None, Result, Ok, Err, ok_or, if◌then◌else◌, ⊤}
+use Rattle.std.specs.Prelude.{◌≡◌, ◌≢◌, ◌⊎◌, ℕ, Bool, true, false, ◌||◌, List, Option, Some, None, is_some, Result, Ok, Err, ok_or, if◌then◌else◌, ⊤}
 use Rattle.pgv_types.specs.Ty.{Ty}
 use Rattle.pgv_types.specs.Facts.{is_custom}
 use Rattle.pgv_value.specs.declared.error.CodecError.{CodecError}
@@ -117,6 +117,14 @@ copied parsed = do
 -- a type that is copied: memory is asked for where it is a custom one
 abbrev pub copied_type : Ty → Outcome Ty
 copied_type t = record { answer = Ok t; may_alloc = is_custom t }
+
+-- a value by reference: its type is copied
+abbrev pub lent_value : Given → Outcome Given
+lent_value v = record { answer = Ok v; may_alloc = is_custom v.type_info }
+
+-- a value without a borrow: its type is copied, and its bytes, if it has some
+abbrev pub owned_value : Given → Outcome Given
+owned_value v = record { answer = Ok v; may_alloc = is_custom v.type_info || is_some v.bytes }
 
 -- ---- what bytes are, and what is read from them
 

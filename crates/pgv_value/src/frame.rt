@@ -1,8 +1,8 @@
 //! Frames: a length and that many bytes, or null.
 
-ghost use Rattle.std.specs.Prelude.{◌≡◌, ◌+◌, ◌<◌, ◌≤◌, drop, length, nat_eq, is_some, IfOk, IfSome, Some};
+ghost use Rattle.std.specs.Prelude.{◌≡◌, ◌≢◌, ◌+◌, ◌<◌, ◌≤◌, length, IfOk, MatchOption};
 ghost use Rattle.std.specs.Option.{option_copied};
-ghost use Rattle.pgv_value.specs.FrameBinary.{front, frame_fault, front_length};
+ghost use Rattle.pgv_value.specs.FrameBinary.{front, frame_fault, front_length, IsPartOfLength};
 ghost use Rattle.pgv_value.specs.Parsed.{GivesOr};
 
 use crate::error::CodecError;
@@ -47,9 +47,8 @@ pub fn part_in_front(bytes: &[u8]) -> Result<(Option<&[u8]>, &[u8]), CodecError>
 pub fn part_of_length(bytes: &[u8], size: usize) -> Option<(&[u8], &[u8])>
     requires short { size ≤ 16 }
     requires there { 4 + size ≤ length bytes.now }
-    ensures exact { is_some result ≡ nat_eq (front_length bytes.now) size }
-    ensures front { IfSome result (λ p. front bytes.now ≡ Some (Some p.0.now, p.1.now)) }
-    ensures rest { IfSome result (λ p. p.1.now ≡ drop (4 + size) bytes.now) }
+    ensures { MatchOption result (front_length bytes.now ≢ size)
+        (λ p. IsPartOfLength bytes.now size p.0.now p.1.now) }
 {
     if length_in_front(bytes) as usize != size {
         return None;

@@ -1,14 +1,15 @@
 //! A value of a row: null or bytes, with its type and its format.
 
-ghost use Rattle.std.specs.Prelude.{◌≡◌, ◌<◌, ◌≤◌, slice_range, length, Some, None, IfOk, OnOk, OnErr, IfErr, IsOk, is_none};
+ghost use Rattle.std.specs.Prelude.{◌≡◌, ◌<◌, ◌≤◌, slice_range, length, Some, None, OnOk, OnErr, is_none};
 ghost use Rattle.std.specs.Option.{option_copied};
 ghost use Rattle.pgv_types.specs.Facts.{IsNotCustom};
 ghost use Rattle.pgv_value.specs.Fronts.{format_of, value_front};
+ghost use Rattle.pgv_value.specs.Outcome.{Gives, lent_value, owned_value};
 ghost use Rattle.pgv_value.specs.Parsed.{GivesExactly, GivesOr};
 ghost use Rattle.pgv_value.specs.RowView.{held_bytes};
 ghost use Rattle.pgv_value.specs.Utf8.{GivesText};
 ghost use Rattle.pgv_value.specs.ValueView.{given};
-ghost use Rattle.pgv_value.specs.declared.error.CodecError.TheVariants.{UnexpectedNull, Memory};
+ghost use Rattle.pgv_value.specs.declared.error.CodecError.TheVariants.{UnexpectedNull};
 ghost use Rattle.pgv_value.specs.declared.value.PgValueFormat.TheVariants.{Text};
 
 use crate::error::CodecError;
@@ -67,9 +68,7 @@ impl PgValue {
     /// The value by reference, as decoders take it. It clones the type, so it is refused only for memory (C1), and only
     /// if the type is a custom one.
     pub fn as_ref(&self) -> Result<PgValueRef<'_>, CodecError>
-        ensures same { IfOk result (λ v. v ≡ self.now) }
-        ensures memory { IfErr result (λ e. e ≡ Memory) }
-        ensures succeeds { IsNotCustom self.now.type_info → IsOk result }
+        ensures { Gives (λ v. v) (lent_value self.now) result }
     {
         let value = match &self.bytes {
             Some(bytes) => Some(bytes.as_slice()),
@@ -338,9 +337,7 @@ impl<'r> PgValueRef<'r> {
     /// row's bytes; else its bytes are copied. It is refused only for memory (C1), and only if it has bytes or its type
     /// is a custom one.
     pub fn to_owned(&self, alloc: Global) -> Result<PgValue, CodecError>
-        ensures same { IfOk result (λ v. v ≡ self.now) }
-        ensures memory { IfErr result (λ e. e ≡ Memory) }
-        ensures succeeds { IsNotCustom self.now.type_info → self.now.bytes ≡ None → IsOk result }
+        ensures { Gives (λ v. v) (owned_value self.now) result }
     {
         let bytes = match self.row {
             Some(part) => Some(part.bytes.slice(part.start..part.end)?),

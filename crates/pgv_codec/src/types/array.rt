@@ -1,6 +1,6 @@
 //! Arrays of one dimension (PostgreSQL, "Arrays").
 
-ghost use Rattle.std.specs.Prelude.{◌≡◌, IfOk, IfErr, OnOk, OnErr, ◌+◌, ◌*◌, ◌≤◌, false, true, length, map, drop, Ok, Some, [], IfSome, is_some, List, refl};
+ghost use Rattle.std.specs.Prelude.{◌≡◌, IfOk, IfErr, OnOk, OnErr, ◌+◌, ◌*◌, ◌≤◌, false, true, length, map, drop, Ok, Some, [], IfSome, is_some, List, MatchResult, refl};
 ghost use Rattle.std.specs.Vec.{with_items};
 ghost use Rattle.pgv_text.specs.Values.{array_values};
 ghost use Rattle.pgv_value.specs.Outcome.{Gives, GivesWhere, after};
@@ -10,7 +10,7 @@ ghost use Rattle.pgv_value.specs.declared.value.PgValueFormat.TheVariants.{Binar
 ghost use Rattle.pgv_codec.specs.ArrayGrammar.{array_in_binary, array_in_text, elements, frames, parse_array, parse_sized};
 ghost use Rattle.pgv_codec.specs.Encoding.{array_image, element_type, frames as frames_of, header, is_copied, plainly, sized_image, value_type};
 ghost use Rattle.pgv_codec.specs.Appending.{Appended, Appends, Encodes, Extends};
-ghost use Rattle.pgv_codec.specs.AtOnce.{AreFirst, IsInFront};
+ghost use Rattle.pgv_codec.specs.AtOnce.{AreFirst, IsInFront, IsNext};
 ghost use Rattle.pgv_codec.specs.Agreeing.{array_agrees, sized_agrees};
 ghost use Rattle.pgv_codec.specs.Back.{ArrayFits};
 ghost use Rattle.pgv_codec.specs.BackNests.{vec_back, sized_back};
@@ -320,8 +320,7 @@ fn read_in_room<T: Decode>(
 #[inline(always)]
 fn next_at_once<T: Decode>(bytes: &[u8], width: usize) -> Option<(T, &[u8])>
     requires { width ≤ 16 }
-    ensures is { IfSome result (λ r. IsInFront T.parse width bytes.now (T.view r.0)) }
-    ensures others { IfSome result (λ r. r.1.now ≡ drop (4 + width) bytes.now) }
+    ensures { IfSome result (λ r. IsNext T.parse width bytes.now (T.view r.0) r.1.now) }
 {
     if width == 0 || bytes.len() < 4 + width {
         return None;
@@ -340,10 +339,8 @@ fn read_first<T: Decode>(
     count: usize,
     bytes: &[u8],
 ) -> Result<(Vec<T>, &[u8]), CodecError>
-    ensures first { IfOk result (λ r. AreFirst T.parse count bytes.now
-        (map T.view r.0.items) r.1.now) }
-    ensures some { IfOk result (λ r. length r.0.items ≤ count) }
-    ensures memory { IfErr result (λ e. e ≡ Memory) }
+    ensures { MatchResult result (λ r. AreFirst T.parse count bytes.now (map T.view r.0.items) r.1.now
+        × (length r.0.items ≤ count)) (λ e. e ≡ Memory) }
 {
     let width = T::width_at_once();
     let frame = 4 + width;

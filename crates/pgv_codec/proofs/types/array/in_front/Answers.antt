@@ -11,5 +11,5 @@ returns g c =
     let bytes = c.args.bytes.now in
     let part = c.in_ok-part.part.now in
     let front : (t : Ty) → value_front t Binary bytes ≡ Ok (given t Binary (Some part), drop (4 + c.args.width) bytes) =
-    λ t. rw (c.in_ok-part.ensures.front, c.in_ok-part.ensures.rest) refl in
+    λ t. rw (c.in_ok-part.ensures.is_front, c.in_ok-part.ensures.after) refl in
     in_front_of c.decode_at_once.result g.T.Decode.view g.T.Decode.parse c.args.width bytes part front c.decode_at_once.ensures

@@ -40,9 +40,9 @@ loop-preserved g c =
     let ms = map view c.loop.items.items in
     elim c.match-next_at_once.branch [
       | in-Some+in_ok-push-in-Some w ↦
-          let is = w.in-Some.ensures.is in
+          let is = w.in-Some.ensures.0 in
           let it : map view w.push.new.self.items ≡ ms ++ view w.in-Some.item ∷ [] = rw w.in_ok-push-in-Some.ensures.items (map_push _ c.loop.items.items w.in-Some.item) in
-          rw (w.items-is, w.rest-is, it, w.in-Some.ensures.others)
+          rw (w.items-is, w.rest-is, it, w.in-Some.ensures.1)
           (goes_on parse t ms c.args.count c.loop.counter c.loop.rest.now (given t Binary (Some is.0)) (drop (4 + c.width_at_once.result) c.loop.rest.now) (view w.in-Some.item) _ c.loop-test.true (is.1 t) (is.2 t) c.loop.invariant)
       | in-None+in_ok-clone-in-None+in_ok-part-in-None+in_ok-decode-in-None+in_ok-push-in-None w ↦
           let m = view w.in_ok-decode-in-None.field-0 in
