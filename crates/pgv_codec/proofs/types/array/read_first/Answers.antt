@@ -13,8 +13,10 @@ push_reserved-requires g c =
     let was = c.loop-place.invariant in
     rw (was.0, was.2) (room_for c.loop-place.place c.args.count (length c.args.bytes.now) c.width_at_once-width.result _ (rw (← c.min-whole.ensures) c.loop-place-test.true) (rw (← c.min.ensures) c.in_ok-items.ensures.capacity))
 
-pub returns-in-None-clause-first : goal.returns-in-None-clause-first
-returns-in-None-clause-first g c = rw c.split_at.ensures.back c.loop-place.invariant.3
+pub returns-in-None : goal.returns-in-None
+returns-in-None g c =
+    let was = c.loop-place.invariant in
+    (rw c.split_at.ensures.back was.3, omega (arith, was.1, c.loop-place-test.true, c.min-whole.ensures))
 
 pub loop-place-preserved : goal.loop-place-preserved
 loop-place-preserved g c =
@@ -24,7 +26,9 @@ loop-place-preserved g c =
     pushed.items was.1 (omega (arith, c.loop-place-test.true, c.min-whole.ensures)) c.split_at.ensures.back was.3 c.in-Some.ensures in
     (pushed.len ∙ ap (λ (n : ℕ). n + 1) was.0, step.0, pushed.capacity ∙ was.2, step.1)
 
-pub returns-clause-first : goal.returns-clause-first
-returns-clause-first g c =
+pub returns : goal.returns
+returns g c = (
     first_ends g.T.Decode.parse c.args.count c.args.bytes.now (map g.T.Decode.view c.loop-place.items.items) c.loop-place.place c.min-whole.result c.width_at_once-width.result c.split_at-2.result.1.now
-    c.loop-place.auto.place-end c.loop-place-test.false c.split_at-2.ensures.back c.loop-place.invariant.3
+    c.loop-place.auto.place-end c.loop-place-test.false c.split_at-2.ensures.back c.loop-place.invariant.3,
+    omega (arith, c.loop-place.invariant.1, c.loop-place.auto.place-end, c.loop-place-test.false, c.min-whole.ensures),
+  )
