@@ -8,7 +8,7 @@ use Rattle.std.specs.declared.net.ip_addr.IpAddr.{IpAddr}
 use Rattle.std.specs.declared.net.ip_addr.IpAddr.TheVariants as Ip
 use Rattle.std.proofs.NetLemmas.Ipv4.{read_ipv4_complete, read_ipv4_sound}
 use Rattle.std.proofs.NetLemmas.Ipv6.{read_ipv6_complete, read_ipv6_sound, EndsGroups-nil, IsDotted-not_colon_hex}
-use Rattle.pgv_text.specs.AddressText.{address_value, v6_or}
+use Rattle.pgv_text.specs.AddressText.{address_value, v6_or, AddressIsItsValue}
 use Rattle.pgv_text.specs.FieldText.{whole}
 use Rattle.pgv_text.proofs.Fields.{whole_some}
 
@@ -56,3 +56,6 @@ none_at text (Some a) e h = absurd (h a (address_is text a e))
 pub parsed_address : {E : Type 0} (text : List ℕ) (r : Result IpAddr E) → Parses IsIpText text r → result_ok r ≡ address_value text
 parsed_address text (Ok a) h = sym (address_there text a h)
 parsed_address text (Err e) h = none_at text (address_value text) refl h ∙ refl
+
+pub address_is_its_value : AddressIsItsValue
+address_is_its_value text address = (address_is text address, address_there text address)

@@ -37,7 +37,9 @@ pub time_is_its_value : TimeIsItsValue
 time_is_its_value = computed_whole IsTimeText time_nanos same_time time_front time_is (λ time text is. time_read time text [] is nothing_stops)
 
 pub one_date : OneDate
+unfolding OneDate
 one_date = one_by IsDateText epoch_day same_date date_value date_is_its_value
 
 pub one_time : OneTime
+unfolding OneTime
 one_time = one_by IsTimeText time_nanos same_time time_value time_is_its_value

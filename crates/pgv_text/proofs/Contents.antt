@@ -1,5 +1,5 @@
 -- What is computed of a text is what it is of: the parts of a nest, or the empty range.
-use Rattle.std.proofs.Common.{◌≡◌, ◌↔◌, ◌<◌, ◌+◌, ℕ, zero, suc, Bool, true, false, cond, ◌||◌, ◌==◌, List, [], ◌∷◌, map, Option, Some, None, IfSome, IfNone, ap, subst, ◌∙◌, sym, refl, arith}
+use Rattle.std.proofs.Common.{◌≡◌, ◌↔◌, ◌<◌, ◌+◌, ℕ, zero, suc, Bool, true, false, cond, ◌||◌, ◌==◌, List, [], ◌∷◌, length, map, Option, Some, None, IfSome, ap, subst, ◌∙◌, sym, refl, arith}
 use Rattle.std.specs.Prelude.{codes, nat_lt, if◌then◌else◌}
 use Rattle.std.specs.Bool.{Decides}
 use Rattle.std.specs.Char.{to_ascii_lowercase}
@@ -13,14 +13,13 @@ use Rattle.std.proofs.lemmas.Str.{chars-IsAscii, encodes-IsAscii, encodes-chars}
 use Rattle.pgv_text.specs.declared.parts.Parts.{Parts}
 use Rattle.pgv_text.specs.declared.scanner.TextForm.{TextForm}
 use Rattle.pgv_text.specs.declared.scanner.TextForm.TheVariants.{Array, Range, Record}
-use Rattle.pgv_text.specs.ContentText.{RangeContent, empty, parts, Content, IsEmptyText, IsRangeOf, IsTextOf, is_empty_text, is_empty_in, range_content, content_of}
+use Rattle.pgv_text.specs.ContentText.{RangeContent, empty, parts, Content, IsEmptyText, IsRangeOf, is_empty_text, is_empty_in, range_content, content_of}
 use Rattle.pgv_text.specs.Forms.{form_of}
 use Rattle.pgv_text.specs.NestText.{Nest, IsNestText}
 use Rattle.pgv_text.specs.Parsed.{nest_of}
 use Rattle.pgv_text.specs.PartsView.{nest, is_of_empty, content}
 use Rattle.pgv_text.specs.RangeText.{range_form}
-use Rattle.pgv_text.proofs.Answered.{nest_is}
-use Rattle.pgv_text.proofs.Nests.{nest_sound, nest_complete}
+use Rattle.pgv_text.proofs.Nests.{nest_sound, nest_complete, as_many}
 
 -- ---- the text `empty`
 
@@ -109,19 +108,12 @@ one_range text content other h k = same_Some content other (sym (range_there tex
 
 -- ---- texts of any form
 
-content_is : (form : TextForm) (text : List ℕ) (c : Content form) → (content_of form text ≡ Some c) ↔ IsTextOf form text c
-content_is Array text c = nest_is Array text c
-content_is Range text c = range_is text c
-content_is Record text c = nest_is Record text c
+-- a range that isn't empty has two bounds
+two_bounds : (text : List ℕ) (nest : Nest) → IsNestText range_form text nest → length nest.values ≡ 2
+two_bounds text nest n = as_many _ n.parts nest.values n.values ∙ n.counted
 
-module _ {X : Type 0} (form : TextForm) (text : List ℕ) (f : X → Content form) where
-  pub content_found : (o : Option X) → option_map f o ≡ content_of form text → IfSome o (λ x. IsTextOf form text (f x))
-  content_found None h = tt
-  content_found (Some x) h = (content_is form text (f x)).0 (sym h)
-
-  pub content_none : (o : Option X) → option_map f o ≡ content_of form text → IfNone o ((other : Content form) → IsTextOf form text other → ⊥)
-  content_none None h = λ other n. let read = h ∙ (content_is form text other).1 n in cc
-  content_none (Some x) h = tt
+pub two_bounds_of : (text : List ℕ) (p : Parts) → option_map (content Range) (Some p) ≡ range_content text → is_of_empty p ≡ false → length (nest p).values ≡ 2
+two_bounds_of text p e f = let some : Some (parts (nest p)) ≡ range_content text = rw f at e in two_bounds text (nest p) ((range_is text (parts (nest p))).0 (sym some))
 
 -- the empty range
 pub empty_computed : (form : TextForm) (text : List ℕ) (p : Parts) → is_empty_in form text ≡ true → is_of_empty p ≡ true → (let o : Option (Content form) = Some (content form p) in o) ≡ content_of form text

@@ -1,12 +1,11 @@
 -- What a chain of readers went through, and fields of digits at the front of a text.
-use Rattle.std.proofs.Common.{◌≡◌, ℕ, ◌+◌, ◌-◌, ◌*◌, ◌/◌, ◌%◌, ◌<◌, ◌≤◌, true, false, ◌==◌, List, [], ◌∷◌, ◌++◌, length, Option, Some, None, option_map, option_and_then, sym, ap, ◌∙◌, arith, ne_eqb, eqb-true, ltb-true, lt-ltb}
+use Rattle.std.proofs.Common.{◌≡◌, ℕ, ◌+◌, ◌-◌, ◌*◌, ◌/◌, ◌%◌, ◌<◌, ◌≤◌, true, false, ◌==◌, List, [], ◌∷◌, ◌++◌, length, Option, Some, None, option_and_then, ap, ◌∙◌, arith, ne_eqb, eqb-true, ltb-true, lt-ltb}
 use Rattle.std.proofs.lemmas.Option.{none-some, same_Some}
 use Rattle.std.proofs.lemmas.Bool.{and_parts, and_from}
 use Rattle.std.proofs.lemmas.Bool.Decides.{nat_tests}
 use Rattle.std.proofs.NetLemmas.Options.{cond_some, and_then_some, same_parts}
 use Rattle.std.specs.Char.{is_ascii_digit}
 use Rattle.pgv_text.specs.FieldText.{Front, after, two, two_below, four, whole, two_digits, four_digits}
-use Rattle.pgv_text.specs.DateTimeText.{IsValueOf, IsComputedAs}
 
 -- a value that was found, and the text after it
 abbrev pub found : {A : Type 0} → A → List ℕ → Front A
@@ -23,11 +22,6 @@ whole_at value (c ∷ rest) x e =
 pub whole_some : {A : Type 0} (read : Front A) (x : A) → whole read ≡ Some x → read ≡ found x []
 whole_some None x e = absurd (none-some x e)
 whole_some (Some (value, rest)) x e = whole_at value rest x e
-
--- what is computed is what is read
-pub read_by : {A B : Type 0} (Is : List ℕ → A → Type 0) (view : A → B) (value : List ℕ → Option B) → IsComputedAs Is view value → (text : List ℕ) (r : Option A) → option_map view r ≡ value text → IsValueOf Is text r
-read_by Is view value law text (Some a) e = (law.0 text a).0 (sym e)
-read_by Is view value law text None e = λ a is. none-some (view a) (e ∙ (law.0 text a).1 is)
 
 -- one step of a chain
 pub then_read : {A B : Type 0} (f : A → Option B) (o : Option A) (x : A) (y : Option B) → o ≡ Some x → f x ≡ y → option_and_then f o ≡ y

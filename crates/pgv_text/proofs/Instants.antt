@@ -70,6 +70,7 @@ date_time_is_its_value = computed_by IsDateTimeText civil_nanos same_datetime da
         (ap (λ b. cond b (Some (civil_nanos at)) None) (ignored_read offset ignored))
 
 pub one_date_time : OneDateTime
+unfolding OneDateTime
 one_date_time = one_by IsDateTimeText civil_nanos same_datetime date_time_value date_time_is_its_value
 
 -- ---- instants
@@ -108,6 +109,7 @@ instant_is_its_value = computed_by IsInstantText (λ t. t.nanosecond) same_insta
         (ap instant_nanos (sym number) ∙ ap (λ b. cond b (Some instant.nanosecond) None) (order_in _ _ instant.nanosecond instant.in_range.0 instant.in_range.1)))
 
 pub one_instant : OneInstant
+unfolding OneInstant
 one_instant = one_by IsInstantText (λ t. t.nanosecond) same_instant instant_value instant_is_its_value
 
 -- ---- times with offsets
@@ -142,4 +144,5 @@ time_tz_is_its_value = computed_by IsTimeTzText zoned_numbers same_zoned time_tz
         (then_read _ (offset_value offset) zoned.1.seconds _ (offset_read zoned.1 offset is_zone) refl)
 
 pub one_time_tz : OneTimeTz
+unfolding OneTimeTz
 one_time_tz = one_by IsTimeTzText zoned_numbers same_zoned time_tz_value time_tz_is_its_value

@@ -1,5 +1,5 @@
 -- Arrays, records and ranges, from the one relation.
-use Rattle.std.proofs.Common.{◌≡◌, ◌↔◌, ℕ, Bool, true, false, ◌==◌, List, length, Option, Some, None, ap, subst, ◌∙◌, refl}
+use Rattle.std.proofs.Common.{◌≡◌, ◌↔◌, ℕ, Bool, true, false, ◌==◌, List, Option, Some, None, ap, subst, ◌∙◌, refl}
 use Rattle.std.specs.Option.{option_map}
 use Rattle.std.proofs.lemmas.Bool.{eqb-true}
 use Rattle.pgv_text.specs.declared.scanner.TextForm.TheVariants.{Array, Record}
@@ -8,9 +8,8 @@ use Rattle.pgv_text.specs.Forms.{form_of}
 use Rattle.pgv_text.specs.NestText.{Form, Nest, IsNestText}
 use Rattle.pgv_text.specs.ArrayText.{array_form, IsArrayText}
 use Rattle.pgv_text.specs.RecordText.{record_form, IsRecordText}
-use Rattle.pgv_text.specs.RangeText.{range_form}
 use Rattle.pgv_text.specs.Parsed.{nest_of}
-use Rattle.pgv_text.proofs.Nests.{nest_sound, nest_complete, as_many}
+use Rattle.pgv_text.proofs.Nests.{nest_sound, nest_complete}
 
 plain_nest : (form : Form) (text : List ℕ) (nest : Nest) → ((c : ℕ) → form.opens c ≡ true → (c == 91) ≡ false) → ((c : ℕ) → form.closes c ≡ true → (c == 93) ≡ false) → IsNestText form text nest → IsNestText form text (record { values = nest.values; lower = false; upper = false })
 plain_nest form text nest o k n =
@@ -34,7 +33,3 @@ array_is text values = list_is Array text values (λ c h. ap (λ c. c == 91) (eq
 
 pub record_is : (text : List ℕ) (values : List (Option (List ℕ))) → (option_map (λ nest. nest.values) (nest_of record_form text) ≡ Some values) ↔ IsRecordText text values
 record_is text values = list_is Record text values (λ c h. ap (λ c. c == 91) (eqb-true c 40 h)) (λ c h. ap (λ c. c == 93) (eqb-true c 41 h))
-
--- a range has two bounds
-pub two_bounds : (text : List ℕ) (nest : Nest) → IsNestText range_form text nest → length nest.values ≡ 2
-two_bounds text nest n = as_many _ n.parts nest.values n.values ∙ n.counted

@@ -217,4 +217,5 @@ pub network_is_its_value : NetworkIsItsValue
 network_is_its_value = computed_by IsNetworkText network_of same_network network_value sound complete
 
 pub one_network : OneNetwork
+unfolding OneNetwork
 one_network = one_by IsNetworkText network_of same_network network_value network_is_its_value

@@ -17,7 +17,7 @@ use Rattle.std.proofs.lemmas.Bool.{and_parts, eqb-true, ne_eqb, ltb-true, lt-ltb
 use Rattle.std.proofs.lemmas.Option.{cond_some}
 use Rattle.pgv_text.specs.declared.number.NumberFault.{NumberFault}
 use Rattle.pgv_text.specs.declared.number.NumberFault.TheVariants.{Syntax, OutOfRange}
-use Rattle.pgv_text.specs.NumberText.{Sign, none, plus, minus, sign_text, signed, IsNumber, plus_text, IsUnsignedNumber, is_numeral, number_value, unsigned_value, IsRead, IsComputed, IsUnsignedRead, IsUnsignedComputed}
+use Rattle.pgv_text.specs.NumberText.{Sign, none, plus, minus, sign_text, signed, IsNumber, plus_text, IsUnsignedNumber, is_numeral, number_value, unsigned_value, IsRead, IsComputed, IsUnsignedRead, IsUnsignedComputed, OneNumber, OneUnsignedNumber, NumberIsItsValue, UnsignedIsItsValue}
 
 value_digit : (d : ℕ) → d < 10 → digit_value (48 + d) ≡ d
 value_digit d h =
@@ -93,7 +93,8 @@ pub number_from : (text : List ℕ) → IsNumeral 10 (without_leading_sign text)
 number_from [] h = absurd (omega (arith, h.0))
 number_from (b ∷ bs) h = from_tests b bs (b == 45) (b == 43) refl refl h
 
-pub one_number : (text : List ℕ) (m n : ℤ) → IsNumber text m → IsNumber text n → m ≡ n
+pub one_number : OneNumber
+unfolding OneNumber
 one_number text m n a b = (numeral_from text m a).1 ∙ sym (numeral_from text n b).1
 
 pub by_index : (ds : List ℕ) → ((i : ℕ) → i < length ds → IsInRange 48 57 (get_or ds i 0)) → AllDigits 10 ds
@@ -179,7 +180,8 @@ pub unsigned_from : (text : List ℕ) → IsNumeral 10 (without_leading_plus tex
 unsigned_from [] h = absurd (omega (arith, h.0))
 unsigned_from (b ∷ bs) h = from_test b bs (b == 43) refl h
 
-pub one_unsigned : (text : List ℕ) (m n : ℕ) → IsUnsignedNumber text m → IsUnsignedNumber text n → m ≡ n
+pub one_unsigned : OneUnsignedNumber
+unfolding OneUnsignedNumber
 one_unsigned text m n a b = (unsigned_numeral_from text m a).1 ∙ sym (unsigned_numeral_from text n b).1
 
 pub value_unsigned : (text : List ℕ) (n : ℕ) → unsigned_value text ≡ Some n → IsUnsignedNumber text n
@@ -214,3 +216,11 @@ unsigned_fault_read text ds false fault same tells is h =
 
 pub unsigned_read_ok : (text : List ℕ) (n : ℕ) → (IsNumeral 10 (without_leading_plus text) × (digits_value 10 (without_leading_plus text) < 2 ^ 64)) × (n ≡ digits_value 10 (without_leading_plus text)) → IsUnsignedNumber text n × (n < 2 ^ 64)
 unsigned_read_ok text n h = rw (h.1) (unsigned_from text h.0.0, h.0.1)
+
+pub number_is_its_value : NumberIsItsValue
+unfolding NumberIsItsValue
+number_is_its_value text n = (value_number text n, number_value_of text n)
+
+pub unsigned_is_its_value : UnsignedIsItsValue
+unfolding UnsignedIsItsValue
+unsigned_is_its_value text n = (value_unsigned text n, unsigned_value_of text n)

@@ -6,7 +6,7 @@ use Rattle.std.specs.List.{flat_map, AllByRecursion}
 use Rattle.std.specs.Char.{IsScalar, to_ascii_lowercase}
 use Rattle.std.proofs.lemmas.Bool.{eqb-true, false≢true}
 use Rattle.std.proofs.lemmas.List.{append-nil}
-use Rattle.pgv_text.specs.NestText.{Form, Item, inner, inner_escaped, doubled, Piece, plain, quoted, item_spelling, item_meaning, IsItem, IsPiece, QuotedApart, ArePieces, may_be_plain, spelled, text_of, joined, Pairwise, IsPart, Count, any, some, two, AreCounted, Nest, IsNestText}
+use Rattle.pgv_text.specs.NestText.{Form, Item, inner, inner_escaped, doubled, Piece, plain, quoted, item_spelling, item_meaning, IsItem, IsPiece, QuotedApart, ArePieces, may_be_plain, spelled, text_of, joined, Pairwise, IsPart, Count, any, some, two, AreCounted, IsNestText}
 use Rattle.pgv_text.specs.declared.scanner.TextForm.{TextForm}
 use Rattle.pgv_text.specs.declared.scanner.TextForm.TheVariants.{Array}
 use Rattle.pgv_text.specs.Forms.{form_of}
@@ -16,6 +16,7 @@ use lib.Utf8.{low_scalar}
 use Rattle.pgv_text.proofs.Classes.{opens_low, closes_low}
 use Rattle.pgv_text.specs.Spellings.{IsOptionalText, escaped_character, doubled_character, quoted_by, MayBeBare, IsSpelled, AreEnough, by_commas, nest_text}
 use Rattle.pgv_text.proofs.Characters.{AreScalars, scalars_are, all_append, all_parts, parts_scalars, values_are_texts, characters_of}
+use Rattle.pgv_text.specs.Laws.{SpelledReadsBack, ValuesAreTexts}
 
 -- one character between quotes
 pub record ItemOf (form : Form) (spelling : List ℕ) (c : ℕ) : Type 0 where
@@ -172,8 +173,8 @@ bracket_scalar t c (inl h) = low_scalar c (omega (arith, opens_low t c h))
 bracket_scalar t c (inr h) = low_scalar c (omega (arith, closes_low t c h))
 
 -- However the values are spelled, the text is of them.
-pub reads_back : (t : TextForm) (o k : ℕ) (values : List (Option (List ℕ))) (spellings : List (List ℕ)) → (form_of t).opens o ≡ true → (form_of t).closes k ≡ true → AreEnough (form_of t).count values → AllByRecursion IsOptionalText values → Pairwise (IsSpelled (form_of t)) values spellings →
-    IsUtf8 (nest_text o k spellings) × IsNestText (form_of t) (chars (nest_text o k spellings)) (nest_within o k values)
+pub reads_back : SpelledReadsBack
+unfolding SpelledReadsBack
 reads_back t o k values spellings w x n u h =
     let s = values_spelt t values spellings u h in
     let cs : List ℕ = o ∷ by_commas spellings ++ k ∷ [] in
@@ -207,12 +208,14 @@ all_spelled t (Some text ∷ values) = (inl refl, all_spelled t values)
 -- Every list of optional texts has a text.
 pub has_text : (t : TextForm) (o k : ℕ) (values : List (Option (List ℕ))) → (form_of t).opens o ≡ true → (form_of t).closes k ≡ true → AreEnough (form_of t).count values → AllByRecursion IsOptionalText values →
     (text : List ℕ) × IsUtf8 text × IsNestText (form_of t) (chars text) (nest_within o k values)
+unfolding SpelledReadsBack
 has_text t o k values w x n u =
     let b = reads_back t o k values (map (spelling_of (form_of t)) values) w x n u (all_spelled t values) in
     (nest_text o k (map (spelling_of (form_of t)) values), b.0, b.1)
 
 -- The values of a text in UTF-8 are UTF-8.
-pub values_texts : (t : TextForm) (text : List ℕ) (nest : Nest) → IsUtf8 text → IsNestText (form_of t) (chars text) nest → AllByRecursion IsOptionalText nest.values
+pub values_texts : ValuesAreTexts
+unfolding ValuesAreTexts
 values_texts t text nest u n =
     let all : AreScalars (n.opening ∷ joined n.parts ++ n.closing ∷ []) = subst AreScalars n.whole (characters_of text u) in
     values_are_texts (form_of t) n.parts nest.values (parts_scalars n.parts (all_parts (joined n.parts) (n.closing ∷ []) all.1).0) n.values

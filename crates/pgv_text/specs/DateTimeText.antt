@@ -215,11 +215,6 @@ time_tz_value text = do
 
 -- ---- what a reader answers, and the laws
 
--- The value that the text denotes, or that it denotes none.
-abbrev pub IsValueOf : {A : Type 0} → (List ℕ → A → Type 0) → List ℕ → Option A → Type 0
-IsValueOf Is text (Some value) = Is text value
-IsValueOf {A} Is text None = (value : A) → ¬ (Is text value)
-
 -- The number of a value is computed from a text iff the text denotes this value, and each computed number is a value's.
 abbrev pub IsComputedAs : {A B : Type 0} → (List ℕ → A → Type 0) → (A → B) → (List ℕ → Option B) → Type 0
 IsComputedAs {A} {B} Is view value =
@@ -249,17 +244,17 @@ InstantIsItsValue = IsComputedAs IsInstantText (λ t. t.nanosecond) instant_valu
 abbrev pub TimeTzIsItsValue : Type 0
 TimeTzIsItsValue = IsComputedAs IsTimeTzText zoned_numbers time_tz_value
 
-abbrev pub OneDate : Type 0
+unfoldable pub OneDate : Type 0
 OneDate = IsOne IsDateText
 
-abbrev pub OneTime : Type 0
+unfoldable pub OneTime : Type 0
 OneTime = IsOne IsTimeText
 
-abbrev pub OneDateTime : Type 0
+unfoldable pub OneDateTime : Type 0
 OneDateTime = IsOne IsDateTimeText
 
-abbrev pub OneInstant : Type 0
+unfoldable pub OneInstant : Type 0
 OneInstant = IsOne IsInstantText
 
-abbrev pub OneTimeTz : Type 0
+unfoldable pub OneTimeTz : Type 0
 OneTimeTz = IsOne IsTimeTzText

@@ -13,11 +13,11 @@ use Rattle.pgv_text.specs.Parsed.{nest_of}
 use Rattle.pgv_text.specs.Values.{array_values, record_values}
 
 -- Values and brackets are computed from a text iff the grammar assigns them to the text.
-abbrev pub NestIsComputed : Type 0
+unfoldable pub NestIsComputed : Type 0
 NestIsComputed = (form : TextForm) (text : List ℕ) (nest : Nest) → (nest_of (form_of form) text ≡ Some nest) ↔ IsNestText (form_of form) text nest
 
 -- A text denotes at most one list of values, with one reading of its brackets.
-abbrev pub OneNest : Type 0
+unfoldable pub OneNest : Type 0
 OneNest = (form : TextForm) (text : List ℕ) (nest other : Nest) → IsNestText (form_of form) text nest → IsNestText (form_of form) text other → nest ≡ other
 
 -- Values are computed from a text iff the grammar of arrays, or of records, assigns them to the text.
@@ -28,7 +28,7 @@ abbrev pub RecordIsItsValues : Type 0
 RecordIsItsValues = (text : List ℕ) (values : List (Option (List ℕ))) → (record_values text ≡ Some values) ↔ IsRecordText (chars text) values
 
 -- Every spelling of values, between brackets of the form, is UTF-8 and denotes these values.
-abbrev pub SpelledReadsBack : Type 0
+unfoldable pub SpelledReadsBack : Type 0
 SpelledReadsBack = (form : TextForm) (opening closing : ℕ) (values : List (Option (List ℕ))) (spellings : List (List ℕ)) →
     (form_of form).opens opening ≡ true → (form_of form).closes closing ≡ true → AreEnough (form_of form).count values → AllByRecursion IsOptionalText values → Pairwise (IsSpelled (form_of form)) values spellings →
     IsUtf8 (nest_text opening closing spellings) × IsNestText (form_of form) (chars (nest_text opening closing spellings)) (record { values = values; lower = opening == 91; upper = closing == 93 })
@@ -40,7 +40,7 @@ EveryListHasAText = (form : TextForm) (opening closing : ℕ) (values : List (Op
     (text : List ℕ) × IsUtf8 text × IsNestText (form_of form) (chars text) (record { values = values; lower = opening == 91; upper = closing == 93 })
 
 -- The values of a text in UTF-8 are null or UTF-8.
-abbrev pub ValuesAreTexts : Type 0
+unfoldable pub ValuesAreTexts : Type 0
 ValuesAreTexts = (form : TextForm) (text : List ℕ) (nest : Nest) → IsUtf8 text → IsNestText (form_of form) (chars text) nest → AllByRecursion IsOptionalText nest.values
 
 -- What is computed from a range text is what it is of, and so it is of one only: of the empty range, or of one reading

@@ -59,5 +59,5 @@ network_value text =
 abbrev pub NetworkIsItsValue : Type 0
 NetworkIsItsValue = IsComputedAs IsNetworkText network_of network_value
 
-abbrev pub OneNetwork : Type 0
+unfoldable pub OneNetwork : Type 0
 OneNetwork = IsOne IsNetworkText

@@ -81,14 +81,14 @@ IsUnsignedComputed text (Err OutOfRange) = (n : ℕ) × (unsigned_value text ≡
 IsUnsignedComputed text (Err Syntax) = unsigned_value text ≡ None
 
 -- The laws: what is computed is what the text is, and a text is one number.
-abbrev pub NumberIsItsValue : Type 0
+unfoldable pub NumberIsItsValue : Type 0
 NumberIsItsValue = (text : List ℕ) (n : ℤ) → (number_value text ≡ Some n) ↔ IsNumber text n
 
-abbrev pub UnsignedIsItsValue : Type 0
+unfoldable pub UnsignedIsItsValue : Type 0
 UnsignedIsItsValue = (text : List ℕ) (n : ℕ) → (unsigned_value text ≡ Some n) ↔ IsUnsignedNumber text n
 
-abbrev pub OneNumber : Type 0
+unfoldable pub OneNumber : Type 0
 OneNumber = (text : List ℕ) (m n : ℤ) → IsNumber text m → IsNumber text n → m ≡ n
 
-abbrev pub OneUnsignedNumber : Type 0
+unfoldable pub OneUnsignedNumber : Type 0
 OneUnsignedNumber = (text : List ℕ) (m n : ℕ) → IsUnsignedNumber text m → IsUnsignedNumber text n → m ≡ n

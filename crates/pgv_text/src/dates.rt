@@ -1,10 +1,11 @@
-//! Texts of dates, times of day, date-times and instants, as PostgreSQL writes them.
+//! Texts of dates, times of day, date-times and instants, as PostgreSQL writes them. Each function gives what is
+//! computed of a text; a law of each, as [`date_is_its_value`](crate::laws::date_is_its_value), says which texts these
+//! are.
 
 ghost use Rattle.std.specs.Prelude.{◌≡◌, ◌<◌};
 ghost use Rattle.std.specs.Option.{option_copied, option_map};
 ghost use Rattle.jiff.specs.Words.{epoch_day, civil_nanos, time_nanos};
 ghost use Rattle.pgv_text.specs.DateTimeText as spec;
-ghost use Rattle.pgv_text.specs.DateTimeText.{IsDateText, IsDateTimeText, IsInstantText, IsTimeText, IsTimeTzText, IsValueOf};
 ghost use Rattle.pgv_text.specs.FieldText.{in_front};
 
 use crate::field::{after, four, fraction, two};
@@ -97,105 +98,55 @@ fn civil_front(text: &[u8]) -> Option<(DateTime, &[u8])>
     Some((civil_of(date, time), text))
 }
 
-/// The date that the whole text is.
-fn whole_date(text: &[u8]) -> Option<Date>
+/// The date of a text: `YYYY-MM-DD`, a day that exists.
+pub fn date(text: &str) -> Option<Date>
     ensures { option_map epoch_day result ≡ spec.date_value text.now }
 {
-    match date_front(text) {
+    match date_front(text.as_bytes()) {
         Some((date, [])) => Some(date),
         _ => None,
     }
 }
 
-/// The time that the whole text is.
-fn whole_time(text: &[u8]) -> Option<Time>
+/// The time of a text: `HH:MM:SS`, perhaps with `.` and one to six digits, or exactly `24:00:00`, which is midnight.
+pub fn time(text: &str) -> Option<Time>
     ensures { option_map time_nanos result ≡ spec.time_value text.now }
 {
-    match time_front(text) {
+    match time_front(text.as_bytes()) {
         Some((time, [])) => Some(time),
         _ => None,
     }
 }
 
-/// The date-time that the whole text is.
-fn whole_date_time(text: &[u8]) -> Option<DateTime>
+/// The date-time of a text: a date, a space and a time, which is never `24:00:00`. An offset that begins with `+` may
+/// follow, and is ignored.
+pub fn date_time(text: &str) -> Option<DateTime>
     ensures { option_map civil_nanos result ≡ spec.date_time_value text.now }
 {
-    match civil_front(text) {
+    match civil_front(text.as_bytes()) {
         Some((civil, rest)) if is_ignored(rest) => Some(civil),
         _ => None,
     }
 }
 
-/// The instant that the whole text is.
-fn whole_instant(text: &[u8]) -> Option<Timestamp>
+/// The instant of a text: a date, a space, a time, which is never `24:00:00`, and the offset of the clock that shows
+/// them.
+pub fn instant(text: &str) -> Option<Timestamp>
     ensures { option_map (λ at. at.nanosecond) result ≡ spec.instant_value text.now }
 {
-    let Some((civil, rest)) = civil_front(text) else {
+    let Some((civil, rest)) = civil_front(text.as_bytes()) else {
         return None;
     };
     offset_of(rest)?.to_timestamp(civil).ok()
 }
 
-/// The time and the offset that the whole text is.
-fn whole_time_tz(text: &[u8]) -> Option<(Time, Offset)>
+/// The time of a text and its offset: the one and then the other.
+pub fn time_tz(text: &str) -> Option<(Time, Offset)>
     ensures { option_map spec.zoned_numbers result ≡ spec.time_tz_value text.now }
 {
-    let Some((time, rest)) = time_front(text) else {
+    let Some((time, rest)) = time_front(text.as_bytes()) else {
         return None;
     };
     let offset = offset_of(rest)?;
     Some((time, offset))
-}
-
-/// The date of a text: `YYYY-MM-DD`, a day that exists.
-pub fn date(text: &str) -> Option<Date>
-    // The date that the text denotes, or that it denotes none.
-    ensures reads { IsValueOf IsDateText text.now result }
-    // The same by the computed day number.
-    ensures computed { option_map epoch_day result ≡ spec.date_value text.now }
-{
-    whole_date(text.as_bytes())
-}
-
-/// The time of a text: `HH:MM:SS`, perhaps with `.` and one to six digits, or exactly `24:00:00`, which is midnight.
-pub fn time(text: &str) -> Option<Time>
-    // The time that the text denotes, or that it denotes none.
-    ensures reads { IsValueOf IsTimeText text.now result }
-    // The same by the computed nanoseconds.
-    ensures computed { option_map time_nanos result ≡ spec.time_value text.now }
-{
-    whole_time(text.as_bytes())
-}
-
-/// The date-time of a text: a date, a space and a time, which is never `24:00:00`. An offset that begins with `+` may
-/// follow, and is ignored.
-pub fn date_time(text: &str) -> Option<DateTime>
-    // The date-time that the text denotes, or that it denotes none.
-    ensures reads { IsValueOf IsDateTimeText text.now result }
-    // The same by the computed nanoseconds.
-    ensures computed { option_map civil_nanos result ≡ spec.date_time_value text.now }
-{
-    whole_date_time(text.as_bytes())
-}
-
-/// The instant of a text: a date, a space, a time, which is never `24:00:00`, and the offset of the clock that shows
-/// them.
-pub fn instant(text: &str) -> Option<Timestamp>
-    // The instant that the text denotes, or that it denotes none.
-    ensures reads { IsValueOf IsInstantText text.now result }
-    // The same by the computed nanoseconds.
-    ensures computed { option_map (λ at. at.nanosecond) result ≡ spec.instant_value text.now }
-{
-    whole_instant(text.as_bytes())
-}
-
-/// The time of a text and its offset: the one and then the other.
-pub fn time_tz(text: &str) -> Option<(Time, Offset)>
-    // The time and the offset that the text denotes, or that it denotes none.
-    ensures reads { IsValueOf IsTimeTzText text.now result }
-    // The same by the computed numbers.
-    ensures computed { option_map spec.zoned_numbers result ≡ spec.time_tz_value text.now }
-{
-    whole_time_tz(text.as_bytes())
 }

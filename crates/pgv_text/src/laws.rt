@@ -11,32 +11,38 @@ ghost use Rattle.pgv_text.specs.NumberText.{NumberIsItsValue, OneNumber, OneUnsi
 use crate::{IpNetwork, Ipv4Network, Ipv6Network};
 
 /// `number_value` computes a number from a text iff the grammar of whole numbers assigns this number to the text.
+#[tactic(auto, using(crate::proofs::Numbers::number_is_its_value))]
 pub fn number_is_its_value()
     ensures { NumberIsItsValue }
 {}
 
 /// `unsigned_value` computes a number from a text iff the grammar of unsigned numbers assigns this number to the text.
+#[tactic(auto, using(crate::proofs::Numbers::unsigned_is_its_value))]
 pub fn unsigned_number_is_its_value()
     ensures { UnsignedIsItsValue }
 {}
 
 /// A text denotes at most one whole number.
+#[tactic(auto, using(crate::proofs::Numbers::one_number))]
 pub fn one_number()
     ensures { OneNumber }
 {}
 
 /// A text denotes at most one unsigned number.
+#[tactic(auto, using(crate::proofs::Numbers::one_unsigned))]
 pub fn one_unsigned_number()
     ensures { OneUnsignedNumber }
 {}
 
 /// For arrays, ranges and records, `nest_of` computes values and brackets from a text iff the grammar assigns them to
 /// the text.
+#[tactic(auto, using(crate::proofs::Answered::nest_is))]
 pub fn nest_is_computed()
     ensures { NestIsComputed }
 {}
 
 /// In each form, a text denotes at most one list of values, with one reading of its brackets.
+#[tactic(auto, using(crate::proofs::Answered::one_nest))]
 pub fn one_nest()
     ensures { OneNest }
 {}
@@ -48,6 +54,7 @@ pub fn range_is_computed()
 {}
 
 /// A text denotes at most one range, so that no text of two bounds also denotes the empty range.
+#[tactic(auto, using(crate::proofs::Contents::one_range))]
 pub fn one_range()
     ensures { OneRange }
 {}
@@ -69,86 +76,102 @@ pub fn record_is_its_values()
 {}
 
 /// Each value of a well-formed text in UTF-8 is null or itself UTF-8.
+#[tactic(auto, using(crate::proofs::Written::values_texts))]
 pub fn values_are_texts()
     ensures { ValuesAreTexts }
 {}
 
 /// Every spelling of as many optional texts as the form takes, between any brackets of the form, is UTF-8 and denotes
 /// exactly these texts.
+#[tactic(auto, using(crate::proofs::Written::reads_back))]
 pub fn spelled_reads_back()
     ensures { SpelledReadsBack }
 {}
 
 /// Every list of optional texts has an array text, every list that is not empty has a record text, and every two have a
 /// range text with any bracket at each end.
+#[tactic(auto, using(crate::proofs::Written::has_text))]
 pub fn every_list_has_a_text()
     ensures { EveryListHasAText }
 {}
 
 /// `date_value` computes the day number of a date from a text iff the grammar of dates assigns this date to the text.
+#[tactic(auto, using(crate::proofs::Computed::date_is_its_value))]
 pub fn date_is_its_value()
     ensures { DateIsItsValue }
 {}
 
 /// `time_value` computes the nanoseconds of a time from a text iff the grammar of times assigns this time to the text.
+#[tactic(auto, using(crate::proofs::Computed::time_is_its_value))]
 pub fn time_is_its_value()
     ensures { TimeIsItsValue }
 {}
 
 /// `date_time_value` computes the nanoseconds of a date-time from a text iff the grammar assigns this date-time to the
 /// text.
+#[tactic(auto, using(crate::proofs::Instants::date_time_is_its_value))]
 pub fn date_time_is_its_value()
     ensures { DateTimeIsItsValue }
 {}
 
 /// `instant_value` computes the nanoseconds of an instant from a text iff the grammar assigns this instant to the text.
+#[tactic(auto, using(crate::proofs::Instants::instant_is_its_value))]
 pub fn instant_is_its_value()
     ensures { InstantIsItsValue }
 {}
 
 /// `time_tz_value` computes the nanoseconds of a time and the seconds of its offset from a text iff the grammar assigns
 /// this time and offset to the text.
+#[tactic(auto, using(crate::proofs::Instants::time_tz_is_its_value))]
 pub fn time_tz_is_its_value()
     ensures { TimeTzIsItsValue }
 {}
 
 /// `network_value` computes the address and prefix of a network from a text iff the grammar assigns this network to the
 /// text.
+#[tactic(auto, using(crate::proofs::Networks::network_is_its_value))]
 pub fn network_is_its_value()
     ensures { NetworkIsItsValue }
 {}
 
 /// A text denotes at most one date.
+#[tactic(auto, using(crate::proofs::Computed::one_date))]
 pub fn one_date()
     ensures { OneDate }
 {}
 
 /// A text denotes at most one time.
+#[tactic(auto, using(crate::proofs::Computed::one_time))]
 pub fn one_time()
     ensures { OneTime }
 {}
 
 /// A text denotes at most one date-time.
+#[tactic(auto, using(crate::proofs::Instants::one_date_time))]
 pub fn one_date_time()
     ensures { OneDateTime }
 {}
 
 /// A text denotes at most one instant.
+#[tactic(auto, using(crate::proofs::Instants::one_instant))]
 pub fn one_instant()
     ensures { OneInstant }
 {}
 
 /// A text denotes at most one time with its offset.
+#[tactic(auto, using(crate::proofs::Instants::one_time_tz))]
 pub fn one_time_tz()
     ensures { OneTimeTz }
 {}
 
 /// A text denotes at most one network.
+#[tactic(auto, using(crate::proofs::Networks::one_network))]
 pub fn one_network()
     ensures { OneNetwork }
 {}
 
 /// `address_value` computes an IP address from a text iff the grammar assigns this address to the text.
+#[tactic(auto, using(crate::proofs::Addresses::address_is_its_value))]
 pub fn address_is_its_value()
     ensures { AddressIsItsValue }
 {}

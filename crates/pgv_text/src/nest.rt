@@ -1,15 +1,15 @@
-//! The texts of arrays, of ranges and of records, as lists.
+//! The texts of arrays, of ranges and of records, as lists. What is computed of a text is what it denotes, by the laws
+//! [`array_is_its_values`](crate::laws::array_is_its_values), [`record_is_its_values`](crate::laws::record_is_its_values)
+//! and [`range_is_computed`](crate::laws::range_is_computed).
 
-ghost use Rattle.std.specs.Prelude.{◌≡◌, ◌≢◌, ℕ, List, [], Option, Some, OnErr, IfOk, IfSome, IfNone, is_some, length, map, true};
+ghost use Rattle.std.specs.Prelude.{◌≡◌, ◌≢◌, [], Some, IfOk, OnErr, MatchResult, is_some, length, true};
 ghost use Rattle.std.specs.Option.{option_map};
 ghost use Rattle.std.specs.Str.{chars};
-ghost use Rattle.pgv_text.specs.ArrayText.{IsArrayText};
-ghost use Rattle.pgv_text.specs.ContentText.{IsRangeOf, RangeContent, empty, parts as parts_of, range_content};
+ghost use Rattle.pgv_text.specs.ContentText.{empty, parts as parts_of, range_content};
 ghost use Rattle.pgv_text.specs.PartsLeftView.{or_none};
 ghost use Rattle.pgv_text.specs.PartsView.{nest};
 ghost use Rattle.pgv_text.specs.RangeTextView.{range_of};
-ghost use Rattle.pgv_text.specs.RecordText.{IsRecordText};
-ghost use Rattle.pgv_text.specs.Values.{array_values, part_bytes, record_values, values_of};
+ghost use Rattle.pgv_text.specs.Values.{array_values, record_values, values_of};
 
 use super::parts::Parts;
 use super::scanner::TextForm;
@@ -17,16 +17,9 @@ use std::alloc::{AllocError, Global};
 
 /// The elements of an array text of one dimension, as `{a,"b c",NULL}`; `None` if it is not an array text.
 pub fn array_elements(alloc: Global, text: &str) -> Result<Option<Vec<Option<String>>>, AllocError>
-    // What is read is an array text of these values.
-    ensures found { IfOk result (λ found. IfSome found
-        (λ v. IsArrayText (chars text.now) (map part_bytes v.items))) }
-    // Where nothing is read, the text is not an array text.
-    ensures none { IfOk result (λ found. IfNone found
-        ((values : List (Option (List ℕ))) → IsArrayText (chars text.now) values → ⊥)) }
-    // The same by the computed values.
-    ensures computed { IfOk result (λ found. option_map values_of found ≡ array_values text.now) }
     // Memory is asked for only where there are elements.
-    ensures asks { OnErr result (or_none (array_values text.now) ≢ []) }
+    ensures { MatchResult result (λ found. option_map values_of found ≡ array_values text.now)
+        (λ _. or_none (array_values text.now) ≢ []) }
 {
     match Parts::new(TextForm::Array, text) {
         None => Ok(None),
@@ -36,16 +29,9 @@ pub fn array_elements(alloc: Global, text: &str) -> Result<Option<Vec<Option<Str
 
 /// The fields of a record text, as `(a,"b c",)`; `None` if it is not a record text.
 pub fn record_fields(alloc: Global, text: &str) -> Result<Option<Vec<Option<String>>>, AllocError>
-    // What is read is a record text of these values.
-    ensures found { IfOk result (λ found. IfSome found
-        (λ v. IsRecordText (chars text.now) (map part_bytes v.items))) }
-    // Where nothing is read, the text is not a record text.
-    ensures none { IfOk result (λ found. IfNone found
-        ((values : List (Option (List ℕ))) → IsRecordText (chars text.now) values → ⊥)) }
-    // The same by the computed values.
-    ensures computed { IfOk result (λ found. option_map values_of found ≡ record_values text.now) }
     // Memory is asked for only where there are fields.
-    ensures asks { OnErr result (or_none (record_values text.now) ≢ []) }
+    ensures { MatchResult result (λ found. option_map values_of found ≡ record_values text.now)
+        (λ _. or_none (record_values text.now) ≢ []) }
 {
     match Parts::new(TextForm::Record, text) {
         None => Ok(None),
@@ -73,15 +59,8 @@ pub enum RangeText {
 
 /// The bounds of a range text, as `["a b",)`, and whether its brackets include them, or that the range is empty; `None`
 /// if it is not a range text.
-#[tactic(auto, using(crate::proofs::Lists::two_bounds))]
+#[tactic(auto, using(crate::proofs::Contents::two_bounds_of))]
 pub fn range_parts(alloc: Global, text: &str) -> Result<Option<RangeText>, AllocError>
-    // What is read is what the range text denotes.
-    ensures found { IfOk result (λ found. IfSome found
-        (λ r. IsRangeOf (chars text.now) (range_of r))) }
-    // Where nothing is read, the text is not a range text.
-    ensures none { IfOk result (λ found. IfNone found
-        ((other : RangeContent) → IsRangeOf (chars text.now) other → ⊥)) }
-    // The same, computed.
     ensures computed { IfOk result (λ found. option_map range_of found
         ≡ range_content (chars text.now)) }
     // Memory is asked for only where there are bounds.

@@ -87,8 +87,7 @@ pub enum IpNetwork {
 }
 
 impl IpNetwork {
-    ghost use Rattle.pgv_text.specs.DateTimeText.{IsValueOf};
-    ghost use Rattle.pgv_text.specs.NetworkText.{is_ipv4, is_ipv6, network_of, network_value, network_with, IsNetworkText};
+    ghost use Rattle.pgv_text.specs.NetworkText.{is_ipv4, is_ipv6, network_of, network_value, network_with};
 
     /// The network of an address and a prefix; `None` if the prefix is above the number of the address's bits.
     pub fn new(ip: IpAddr, prefix: u8) -> Option<IpNetwork>
@@ -137,16 +136,6 @@ impl IpNetwork {
     /// The network of a text: an address, and perhaps `/` and a decimal number of bits without leading zeros; without
     /// it all bits of the address.
     pub fn from_str(text: &str) -> Option<IpNetwork>
-        // The network that the text denotes, or that it denotes none.
-        ensures reads { IsValueOf IsNetworkText text.now result }
-        // The same by the computed address and number.
-        ensures computed { option_map network_of result ≡ network_value text.now }
-    {
-        IpNetwork::of_text(text)
-    }
-
-    /// The network that the text is.
-    fn of_text(text: &str) -> Option<IpNetwork>
         ensures { option_map network_of result ≡ network_value text.now }
     {
         match text.split_once('/') {

@@ -3,7 +3,7 @@
 ghost use Rattle.std.specs.Prelude.{◌≡◌, ◌↔◌, IsTrue, EachIndex, slice_index, if◌then◌else◌};
 ghost use Rattle.std.specs.Int.{IsInRange};
 ghost use Rattle.std.specs.Str.Parse.{IsNumeral, without_leading_plus, without_leading_sign};
-ghost use Rattle.pgv_text.specs.NumberText.{IsComputed, IsRead, IsUnsignedComputed, IsUnsignedRead};
+ghost use Rattle.pgv_text.specs.NumberText.{IsComputed, IsUnsignedComputed};
 ghost use Rattle.pgv_text.specs.ScalarText.{bool_value, char_value, octal_byte};
 
 /// Why a text is not a number of its type.
@@ -60,10 +60,7 @@ fn fault_of(is_number: bool) -> NumberFault
 /// refusal says whether the text is not a number, or a number that does not fit in 64 bits.
 #[inline(always)]
 pub fn number_of(text: &str) -> Result<i64, NumberFault>
-    // The number that the text denotes, or why it denotes none of 64 bits.
-    ensures reads { IsRead text.now result }
-    // The same by the computed number.
-    ensures computed { IsComputed text.now result }
+    ensures { IsComputed text.now result }
 {
     match text.parse::<i64>() {
         Ok(number) => Ok(number),
@@ -74,10 +71,7 @@ pub fn number_of(text: &str) -> Result<i64, NumberFault>
 /// The number of a text without a minus: perhaps `+`, and one or more digits, as PostgreSQL writes `oid`. A refusal
 /// says whether the text is not such a number, or one that does not fit in 64 bits.
 pub fn unsigned_number_of(text: &str) -> Result<u64, NumberFault>
-    // The number that the text denotes, or why it denotes none of 64 bits.
-    ensures reads { IsUnsignedRead text.now result }
-    // The same by the computed number.
-    ensures computed { IsUnsignedComputed text.now result }
+    ensures { IsUnsignedComputed text.now result }
 {
     match text.parse::<u64>() {
         Ok(number) => Ok(number),

@@ -219,12 +219,8 @@ impl<'a> Parts<'a> {
 
     /// The parts of a text; `None` if the text isn't in the form. The empty range has no parts.
     pub fn new(form: TextForm, text: &'a str) -> Option<Self>
-        // The parts to come and the brackets, or the empty range, are what the text denotes.
-        ensures found { IfSome result (λ p. IsTextOf form (chars text.now) (content form p)) }
-        // Where there are none, the text is not in the form.
-        ensures none { IfNone result ((other : Content form)
-            → IsTextOf form (chars text.now) other → ⊥) }
-        // The same, computed.
+        // The parts to come and the brackets, or the empty range, are what is computed of the text, which is what it
+        // denotes, by the laws `nest_is_computed` and `range_is_computed`.
         ensures computed { option_map (content form) result ≡ content_of form (chars text.now) }
         // The empty range has no parts, and its brackets include nothing.
         ensures nothing { IfSome result (λ p. is_of_empty p ≡ true → nest p ≡ no_parts) }

@@ -1,9 +1,8 @@
-use Rattle.std.proofs.Common.{◌≡◌, ◌∙◌, Some, false, true, sym}
+use Rattle.std.proofs.Common.{◌≡◌, ◌∙◌, false, true, sym}
 use Rattle.std.specs.Str.{chars}
 use Rattle.pgv_text.specs.ContentText.{is_empty_in}
-use Rattle.pgv_text.specs.PartsView.{content}
 use Rattle.pgv_text.proofs.Bytes.{nest_bytes}
-use Rattle.pgv_text.proofs.Contents.{content_found, content_none, empty_bytes, empty_computed, nest_computed}
+use Rattle.pgv_text.proofs.Contents.{empty_bytes, empty_computed, nest_computed}
 use Rattle.pgv_text.proofs.parts.Parts.new.Goals as goal
 
 -- the empty range
@@ -14,10 +13,6 @@ returns-then-is_empty_range-clause-computed c =
     let is : is_empty_in form (chars text) ≡ true = empty_bytes form text c.utf8.text ∙ sym c.is_empty_range.ensures ∙ c.if-is_empty_range.true in
     empty_computed form (chars text) c.of_empty_range.result is c.of_empty_range.ensures.empty
 
-pub returns-then-is_empty_range-clause-found : goal.returns-then-is_empty_range-clause-found
-returns-then-is_empty_range-clause-found c =
-    content_found c.args.form (chars c.args.text.now) (content c.args.form) (Some c.of_empty_range.result) (returns-then-is_empty_range-clause-computed c)
-
 -- the parts of a nest
 pub returns-clause-computed : goal.returns-clause-computed
 returns-clause-computed c =
@@ -25,9 +20,3 @@ returns-clause-computed c =
     let text = c.args.text.now in
     let is : is_empty_in form (chars text) ≡ false = empty_bytes form text c.utf8.text ∙ sym c.is_empty_range.ensures ∙ c.if-is_empty_range.false in
     nest_computed form (chars text) c.begun.result is c.begun.ensures.bounded (c.begun.ensures.exact ∙ nest_bytes form text c.utf8.text)
-
-pub returns-clause-found : goal.returns-clause-found
-returns-clause-found c = content_found c.args.form (chars c.args.text.now) (content c.args.form) c.begun.result (returns-clause-computed c)
-
-pub returns-clause-none : goal.returns-clause-none
-returns-clause-none c = content_none c.args.form (chars c.args.text.now) (content c.args.form) c.begun.result (returns-clause-computed c)
