@@ -37,6 +37,7 @@ none_more : (n : ℕ) → 0 + n ≡ n
 none_more n = omega arith
 
 pub cut_frames : CutFramesAreShort
+unfolding CutFramesAreShort
 cut_frames bytes m [] each e more = absurd (no_bytes bytes m (sym e) more)
 cut_frames bytes m (part ∷ row) each e more =
     elim (ends_first bytes m (field_bytes part) (flat_map field_bytes row) (sym e)) as (λ _. StopsAtTheFrame bytes (part ∷ row)) [

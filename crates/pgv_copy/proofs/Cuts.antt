@@ -217,9 +217,11 @@ header_cut head bytes m h e more =
     ]
 
 pub cut_header_is_short : CutHeaderIsShort
+unfolding CutHeaderIsShort
 cut_header_is_short bytes more h some = header_cut (bytes ++ more) bytes more h refl some
 
 pub cut_copy_is_short : CutCopyIsShort
+unfolding CutCopyIsShort
 cut_copy_is_short types bytes more rows h some =
     let tail = flat_map row_bytes rows ++ (trailer ++ []) in
     let tail_is : tail ≡ flat_map row_bytes rows ++ trailer = refl in

@@ -9,7 +9,7 @@ use Rattle.pgv_value.specs.Parsed.{Parsed}
 use Rattle.pgv_value.specs.ValueView.{Given}
 use Rattle.pgv_value.proofs.Outcomes.{ok_is}
 use Rattle.pgv_copy.specs.CopyBinary.{Step, header, before, ended, step}
-use Rattle.pgv_copy.specs.CopyPieces.{CopyInPiecesIsItsRows, NoRow, PiecesAreOneStream, ReadRows, Stays, further, joined, next_of}
+use Rattle.pgv_copy.specs.CopyPieces.{CopyInPiecesIsItsRows, NoRow, PiecesAreOneStream, ReadRows, Stays, further, joined, next_of, WhatCameStays}
 use Rattle.pgv_copy.specs.CopyStream.{IsRow, trailer, values}
 use Rattle.pgv_copy.specs.CopyView.{Copying}
 use Rattle.pgv_copy.proofs.Headers.{header_there}
@@ -22,6 +22,7 @@ ok_stays : {A : Type 0} (f : A → A) (r later : Parsed A) (x : A) → r ≡ Ok 
 ok_stays {A} f r later x is h = subst (λ (q : Parsed A). Stays f q later) is h
 
 rows_stay : (types : List Ty) (in_header after : Bool) (bytes left more : List ℕ) (rows : List (List Given)) → ReadRows types in_header bytes rows after left → ReadRows types in_header (bytes ++ more) rows after (left ++ more)
+unfolding WhatCameStays
 rows_stay types in_header after bytes left more [] r = (r.0, ap (λ (xs : List ℕ). xs ++ more) r.1)
 rows_stay types in_header after bytes left more (row ∷ rows) r = (
   r.0 ++ more,
@@ -36,6 +37,7 @@ rows_joined types in_header mid after bytes kept left [] later r more =
 rows_joined types in_header mid after bytes kept left (row ∷ first) later r more = (r.0, r.1, rows_joined types false mid after r.0 kept left first later r.2 more)
 
 pub pieces_are : PiecesAreOneStream
+unfolding PiecesAreOneStream
 pieces_are types in_header after held left [] rows r =
     subst (λ (xs : List (List Given)). ReadRows types in_header (held ++ []) xs after left) (sym r.0) (r.1, append-nil held ∙ r.2)
 pieces_are types in_header after held left (piece ∷ pieces) rows r =
@@ -114,6 +116,7 @@ whole_rows types bytes (row ∷ rows) rest follows head is each =
     }
 
 pub in_pieces : CopyInPiecesIsItsRows
+unfolding CopyInPiecesIsItsRows PiecesAreOneStream
 in_pieces types pieces rows follows given after left stream read none =
     let rest : List ℕ = flat_map row_bytes rows ++ (trailer ++ follows) in
     let head : header (joined pieces) ≡ Ok rest = ap header stream.whole ∙ header_there stream.head rest stream.begins in

@@ -86,6 +86,7 @@ rows_there types (row ∷ rows) rest n each =
     ∙ ap (λ (xs : List Answer). Ok (Some (values types row)) ∷ xs) (rows_there types rows rest n each.1)
 
 pub copy_is_its_rows : CopyIsItsRows
+unfolding CopyIsItsRows
 copy_is_its_rows types bytes rows follows h =
     let rest = flat_map row_bytes rows ++ (trailer ++ follows) in (
       rest,

@@ -215,5 +215,6 @@ begin_stays true bytes more = header_stays bytes more
 begin_stays false bytes more = refl
 
 pub what_came_stays : WhatCameStays
+unfolding WhatCameStays
 what_came_stays types in_header bytes more =
     stays_bind (behind more) (further more) (after_begin in_header bytes) (after_begin in_header (bytes ++ more)) _ (begin_stays in_header bytes more) (λ rest. step_stays types rest more)

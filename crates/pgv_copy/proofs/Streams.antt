@@ -303,6 +303,7 @@ rows_are types bytes (row ∷ rows) h e =
     }
 
 pub rows_are_of_a_copy : RowsAreOfACopy
+unfolding RowsAreOfACopy
 rows_are_of_a_copy types bytes rest rows h begins e =
     let head = header_is bytes rest h begins in
     let h1 : AreBytes rest = bytes_after head.0 rest (subst AreBytes head.2 h) in

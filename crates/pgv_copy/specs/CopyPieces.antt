@@ -87,7 +87,7 @@ abbrev pub further : List ℕ → Option (List Given) × Copying → Option (Lis
 further more s = (s.0, record s.1 { left = option_map (λ left. left ++ more) s.1.left })
 
 -- A row, the end and a refusal other than C15 are the same whatever comes after these bytes.
-abbrev pub WhatCameStays : Type 0
+unfoldable pub WhatCameStays : Type 0
 WhatCameStays =
     (types : List Ty) (in_header : Bool) (bytes more : List ℕ) →
     Stays (further more) (next_of types in_header bytes) (next_of types in_header (bytes ++ more))
@@ -112,7 +112,7 @@ abbrev pub joined : List (List ℕ) → List ℕ
 joined pieces = flat_map (λ piece. piece) pieces
 
 -- What is read after each piece, however the bytes are cut, are the rows of the joined bytes.
-abbrev pub PiecesAreOneStream : Type 0
+unfoldable pub PiecesAreOneStream : Type 0
 PiecesAreOneStream =
     (types : List Ty) (in_header after : Bool) (held left : List ℕ) (pieces : List (List ℕ)) (rows : List (List Given)) →
     ReadPieces types in_header held pieces rows after left → ReadRows types in_header (held ++ joined pieces) rows after left
@@ -124,7 +124,7 @@ NoRow (Err e) = e ≡ Short
 
 -- Of a stream that comes in pieces, where all rows are read that are there, exactly its rows are read, and then its
 -- end.
-abbrev pub CopyInPiecesIsItsRows : Type 0
+unfoldable pub CopyInPiecesIsItsRows : Type 0
 CopyInPiecesIsItsRows =
     (types : List Ty) (pieces : List (List ℕ)) (rows : List (List Part)) (follows : List ℕ) (given : List (List Given)) (after : Bool) (left : List ℕ) →
     IsCopy (length types) (joined pieces) rows follows → ReadPieces types true [] pieces given after left → NoRow (next_of types after left) →

@@ -74,14 +74,14 @@ row_answers types rows = map (λ row. Ok (Some (values types row))) rows
 -- ---- a stream is read as its rows
 
 -- The header is passed over. The calls after it return the rows, and then that there is no further row.
-abbrev pub CopyIsItsRows : Type 0
+unfoldable pub CopyIsItsRows : Type 0
 CopyIsItsRows =
     (types : List Ty) (bytes : List ℕ) (rows : List (List Part)) (follows : List ℕ) → IsCopy (length types) bytes rows follows →
     (rest : List ℕ) × (header bytes ≡ Ok rest) ×
     ((n : ℕ) → answers (length rows + n) (before types rest) ≡ row_answers types rows ++ replicate n (Ok None))
 
 -- Bytes that are read as rows and then an end are a stream of these rows.
-abbrev pub RowsAreOfACopy : Type 0
+unfoldable pub RowsAreOfACopy : Type 0
 RowsAreOfACopy =
     (types : List Ty) (bytes rest : List ℕ) (rows : List (List Given)) → AreBytes bytes → header bytes ≡ Ok rest →
     answers (length rows + 1) (before types rest) ≡ map (λ row. Ok (Some row)) rows ++ Ok None ∷ [] →
@@ -99,10 +99,10 @@ pub record StopsAtTheCut (types : List Ty) (bytes : List ℕ) (rows : List (List
   pub stops : (n : ℕ) → answers (count + n) (before types rest) ≡ row_answers types (take count rows) ++ replicate n (Err Short)
 
 -- A header that is cut off is refused because the bytes end too early.
-abbrev pub CutHeaderIsShort : Type 0
+unfoldable pub CutHeaderIsShort : Type 0
 CutHeaderIsShort = (bytes more : List ℕ) → IsHeader (bytes ++ more) → 0 < length more → header bytes ≡ Err Short
 
-abbrev pub CutCopyIsShort : Type 0
+unfoldable pub CutCopyIsShort : Type 0
 CutCopyIsShort =
     (types : List Ty) (bytes more : List ℕ) (rows : List (List Part)) → IsCopy (length types) (bytes ++ more) rows [] → 0 < length more →
     (header bytes ≡ Err Short) ⊎ StopsAtTheCut types bytes rows

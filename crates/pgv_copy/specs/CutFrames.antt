@@ -34,6 +34,6 @@ pub record StopsAtTheFrame (bytes : List ℕ) (row : List Part) : Type 0 where
   pub stops : (n : ℕ) → all_got (count + n) bytes ≡ map (λ part. Ok part) (take count row) ++ replicate n (Err Short)
 
 -- Frames that are cut off anywhere, within one or between two, are read up to the cut.
-abbrev pub CutFramesAreShort : Type 0
+unfoldable pub CutFramesAreShort : Type 0
 CutFramesAreShort =
     (bytes more : List ℕ) (row : List Part) → AllByRecursion IsField row → flat_map field_bytes row ≡ bytes ++ more → 0 < length more → StopsAtTheFrame bytes row

@@ -179,9 +179,11 @@ level_reads text (one_of vs) (n, plain, t) = one_there text vs n plain (variants
 level_reads text (none_of vs) (rest, e, t) = rw (e, are_read rest vs t) refl
 
 pub level_is_read : LevelIsRead
+unfolding LevelIsRead
 level_is_read text l = (level_text text l, level_reads text l)
 
 pub one_level : OneLevel
+unfolding OneLevel
 one_level text l m a b =
     let e : (let r : Result Level PgLQueryParseError = Ok l in r) ≡ Ok m = sym (level_reads text l a) ∙ level_reads text m b in
     cc

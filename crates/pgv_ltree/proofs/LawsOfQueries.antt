@@ -30,14 +30,17 @@ query_reads text levels t =
     ap query_read t.whole ∙ query_there t.texts levels t.some (each_text IsLevelText (lacks 46) level_lacks t.texts levels t.each) (each_reads level_read IsLevelText level_reads t.texts levels t.each)
 
 pub query_is_read : QueryIsRead
+unfolding QueryIsRead
 query_is_read text levels = (query_text text levels, query_reads text levels)
 
 pub one_query : OneQuery
+unfolding OneQuery
 one_query text first second a b =
     let e : (let r : Result (List Level) PgLQueryParseError = Ok first in r) ≡ Ok second = sym (query_reads text first a) ∙ query_reads text second b in
     cc
 
 pub printed_query_is_read : PrintedQueryIsRead
+unfolding PrintedQueryIsRead
 printed_query_is_read = printed_again
 
 -- ---- what was read can be
@@ -130,6 +133,7 @@ again (text ∷ texts) (l ∷ levels) n z bare =
     query_again l levels (each_value IsLevelText is_level level_can_be (text ∷ texts) (l ∷ levels) z) (each_level_needs (text ∷ texts) (l ∷ levels) z bare)
 
 pub read_query_is_read_again : ReadQueryIsReadAgain
+unfolding ReadQueryIsReadAgain
 read_query_is_read_again text levels e bare =
     let t = query_text text levels e in
     again t.texts levels t.some t.each bare

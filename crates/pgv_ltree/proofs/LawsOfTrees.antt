@@ -49,12 +49,15 @@ reads : (text : List ℕ) (labels : List (List ℕ)) → IsTreeText text labels 
 reads text labels t = ap tree_read t.whole ∙ again labels t.some t.each
 
 pub tree_is_read : TreeIsRead
+unfolding TreeIsRead
 tree_is_read text labels = (is_text text labels, reads text labels)
 
 pub one_tree : OneTree
+unfolding OneTree
 one_tree text first second a b =
     let e : (let r : Result (List (List ℕ)) PgLTreeParseError = Ok first in r) ≡ Ok second = sym (reads text first a) ∙ reads text second b in
     cc
 
 pub printed_tree_is_read : PrintedTreeIsRead
+unfolding PrintedTreeIsRead
 printed_tree_is_read labels e = (λ r. (is_text (printed_tree labels) labels r).some, λ n. again labels n e)

@@ -42,9 +42,11 @@ variant_reads text v t =
     ap variant_read t.whole ∙ variant_there v.label t.marks t.label t.each ∙ ap (λ w. let r : Result Variant PgLQueryParseError = Ok w in r) same
 
 pub variant_is_read : VariantIsRead
+unfolding VariantIsRead
 variant_is_read text v = (variant_text text v, variant_reads text v)
 
 pub one_variant : OneVariant
+unfolding OneVariant
 one_variant text v w a b =
     let e : (let r : Result Variant PgLQueryParseError = Ok v in r) ≡ Ok w = sym (variant_reads text v a) ∙ variant_reads text w b in
     cc

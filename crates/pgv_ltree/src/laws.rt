@@ -29,16 +29,19 @@ pub fn ltree_is_an_ltree()
 {}
 
 /// `tree_read` reads labels from a text iff the grammar of label trees assigns these labels to the text.
+#[tactic(auto, using(crate::proofs::LawsOfTrees::tree_is_read))]
 pub fn tree_is_read()
     ensures { TreeIsRead }
 {}
 
 /// A text denotes at most one label tree.
+#[tactic(auto, using(crate::proofs::LawsOfTrees::one_tree))]
 pub fn one_tree()
     ensures { OneTree }
 {}
 
 /// A label tree is read back from its printed text iff it has a label.
+#[tactic(auto, using(crate::proofs::LawsOfTrees::printed_tree_is_read))]
 pub fn printed_tree_is_read()
     ensures { PrintedTreeIsRead }
 {}

@@ -35,48 +35,57 @@ pub fn lquery_is_an_lquery()
 {}
 
 /// `variant_read` reads a variant from a text iff the grammar of lquery assigns this variant to the text.
+#[tactic(auto, using(crate::proofs::LawsOfVariants::variant_is_read))]
 pub fn variant_is_read()
     ensures { VariantIsRead }
 {}
 
 /// A text denotes at most one variant.
+#[tactic(auto, using(crate::proofs::LawsOfVariants::one_variant))]
 pub fn one_variant()
     ensures { OneVariant }
 {}
 
 /// `level_read` reads a level from a text iff the grammar of lquery assigns this level to the text.
+#[tactic(auto, using(crate::proofs::LawsOfLevels::level_is_read))]
 pub fn level_is_read()
     ensures { LevelIsRead }
 {}
 
 /// A text denotes at most one level.
+#[tactic(auto, using(crate::proofs::LawsOfLevels::one_level))]
 pub fn one_level()
     ensures { OneLevel }
 {}
 
 /// `query_read` reads a query from a text iff the grammar of lquery assigns this query to the text.
+#[tactic(auto, using(crate::proofs::LawsOfQueries::query_is_read))]
 pub fn query_is_read()
     ensures { QueryIsRead }
 {}
 
 /// A text denotes at most one query.
+#[tactic(auto, using(crate::proofs::LawsOfQueries::one_query))]
 pub fn one_query()
     ensures { OneQuery }
 {}
 
 /// A query that has a level, in which each level that is not a star has a variant and no `NonStar` begins with an empty
 /// label, is read back from its printed text.
+#[tactic(auto, using(crate::proofs::LawsOfQueries::printed_query_is_read))]
 pub fn printed_query_is_read()
     ensures { PrintedQueryIsRead }
 {}
 
 /// A query that was read from a text, in which no `NonStar` begins with an empty label that carries `*`, is read back
 /// from its printed text.
+#[tactic(auto, using(crate::proofs::LawsOfQueries::read_query_is_read_again))]
 pub fn read_query_is_read_again()
     ensures { ReadQueryIsReadAgain }
 {}
 
 /// Two queries are equal iff they have the same levels in the same order.
+#[tactic(auto, using(crate::proofs::EqualQueries::queries_decide))]
 pub fn equal_queries()
     ensures { (a b : List Level) → (⟦<crate::PgLQuery as PartialEq>⟧.eq a b ≡ true) ↔ (a ≡ b) }
 {}

@@ -26,6 +26,7 @@ async_by false x t ts e more = by_step (step x t)
     by_step (Some y) = more y
 
 pub async_changes_nothing : AsyncChangesNothing
+unfolding AsyncChangesNothing
 async_changes_nothing x [] = refl
 async_changes_nothing x (t ∷ ts) = async_by (is_async t) x t ts refl (λ y. async_changes_nothing y ts)
 
@@ -39,7 +40,7 @@ by_skipping true z y e = absurd cc
 by_skipping false z y e = same_some z y e
 
 pub error_skips_to_sync : ErrorSkipsToSync
-unfolding step
+unfolding ErrorSkipsToSync step
 error_skips_to_sync x y e =
     let z : Exchange = record { waiting = until_sync x.waiting; skipping = true } in
     let same : z ≡ y = by_skipping x.skipping z y e in
@@ -118,6 +119,7 @@ all_answered [] ts e = rw e refl
 all_answered (r ∷ rs) ts e = rw e.2 (answered (map stage_of rs) r e.0 e.1 e.3 ∙ all_answered rs e.1 e.4)
 
 pub answers_end_the_exchange : AnswersEndTheExchange
+unfolding AnswersEndTheExchange
 answers_end_the_exchange rs ts e = ap (λ (x : Exchange). run x ts) (all_are [] rs) ∙ all_answered rs ts e
 
 -- ---- after an error
@@ -227,4 +229,5 @@ rests_are [] ts h = h
 rests_are (r ∷ rs) ts h = (h.0, h.1, h.2, rest_is r h.0 h.3, rests_are rs h.1 h.4)
 
 pub only_answers_end_the_exchange : OnlyAnswersEndTheExchange
+unfolding OnlyAnswersEndTheExchange
 only_answers_end_the_exchange rs ts h e = rests_are rs ts (belong (map stage_of rs) ts h (ap (λ (x : Exchange). run x ts) (sym (all_are [] rs)) ∙ e))

@@ -33,6 +33,7 @@ body_there tag size body rest len =
     rw (enough, take_at body rest size len, drop_at body rest size len) refl
 
 pub message_is_found : MessageIsFound
+unfolding MessageIsFound
 message_is_found tag body rest fits =
     let size : ℕ = length body + 4 in
     let len : length body ≡ size - 4 = omega arith in
@@ -85,7 +86,7 @@ found_by bytes tag m h e =
     subst (λ (m' : Message). (m'.tag ≡ tag) × (length m'.body ≤ max_body) × (bytes ≡ measured m'.body ++ m'.rest)) b.1 (refl, fits, n.1 ∙ parts)
 
 pub found_is_message : FoundIsMessage
-unfolding in_front
+unfolding FoundIsMessage in_front
 found_is_message [] tag body rest h e = absurd cc
 found_is_message (x ∷ bytes) tag body rest h e =
     let m : Message = record { tag = tag; body = body; rest = rest } in
@@ -106,6 +107,7 @@ body_cut : (tag size : ℕ) (bytes : List ℕ) → length bytes < size → with_
 body_cut tag size bytes lt = let short : nat_lt (length bytes) size ≡ true = lt-ltb _ _ lt in rw short refl
 
 pub cut_is_not_found : CutIsNotFound
+unfolding CutIsNotFound
 cut_is_not_found tag body zero fits lt = none_yet
 cut_is_not_found tag body (suc zero) fits lt = few tag [] (omega arith)
 cut_is_not_found tag body (suc (suc zero)) fits lt = few tag _ (omega arith)

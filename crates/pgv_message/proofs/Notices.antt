@@ -128,6 +128,7 @@ is_notice bytes fields e =
     subst (IsNotice bytes) t.1 (record { whole = k.whole ∙ ap (λ (xs : List ℕ). flat_map field_bytes a.0.0 ++ 0 ∷ xs) (nothing_left a.0.1 t.0); each = k.each })
 
 pub notice_is_read : NoticeIsRead
+unfolding NoticeIsRead
 notice_is_read bytes fields = (is_notice bytes fields, is_read bytes fields)
 
 -- ---- as a reader answers

@@ -56,7 +56,7 @@ without_async (t ∷ ts) = if is_async t then without_async ts else t ∷ withou
 -- ---- laws
 
 -- When the answers to all requests have come, in order, nothing is awaited.
-abbrev pub AnswersEndTheExchange : Type 0
+unfoldable pub AnswersEndTheExchange : Type 0
 AnswersEndTheExchange = (rs : List PgRequest) (ts : List PgTag) → AreAnswers rs ts → run (all_sent idle rs) ts ≡ Some idle
 
 -- a message that belongs to an answer: it neither comes at any time nor is an error
@@ -64,15 +64,15 @@ abbrev pub is_of_answer : PgTag → Bool
 is_of_answer t = not (is_async t || is_error t)
 
 -- Where nothing is awaited after messages that belong to answers, they are the answers to all requests, in order.
-abbrev pub OnlyAnswersEndTheExchange : Type 0
+unfoldable pub OnlyAnswersEndTheExchange : Type 0
 OnlyAnswersEndTheExchange = (rs : List PgRequest) (ts : List PgTag) → AllByRecursion (λ t. is_of_answer t ≡ true) ts → run (all_sent idle rs) ts ≡ Some idle → AreAnswers rs ts
 
 -- Messages that come at any time change nothing.
-abbrev pub AsyncChangesNothing : Type 0
+unfoldable pub AsyncChangesNothing : Type 0
 AsyncChangesNothing = (x : Exchange) (ts : List PgTag) → run x ts ≡ run x (without_async ts)
 
 -- An error ends all requests before the next Sync, and the server then passes over requests.
-abbrev pub ErrorSkipsToSync : Type 0
+unfoldable pub ErrorSkipsToSync : Type 0
 ErrorSkipsToSync = (x y : Exchange) → step x tag.ErrorResponse ≡ Some y → (y.waiting ≡ until_sync x.waiting) × (y.skipping ≡ true)
 
 -- After an error only the ReadyForQuery may come, which ends the passing over, and what may come at any time, which

@@ -71,5 +71,5 @@ text_by code (f ∷ fs) = if f.code == code then Some f.text else text_by code f
 -- ---- laws
 
 -- A body is read as fields exactly where it is these fields.
-abbrev pub NoticeIsRead : Type 0
+unfoldable pub NoticeIsRead : Type 0
 NoticeIsRead = (bytes : List ℕ) (fields : List Field) → (notice_fields bytes ≡ Ok fields) ↔ IsNotice bytes fields

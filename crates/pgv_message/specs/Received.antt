@@ -49,13 +49,13 @@ abbrev pub found : ℕ → List ℕ → List ℕ → Result (Option Message) Mes
 found tag body rest = Ok (Some (record { tag = tag; body = body; rest = rest }))
 
 -- A message in front is found, whatever follows it.
-abbrev pub MessageIsFound : Type 0
+unfoldable pub MessageIsFound : Type 0
 MessageIsFound = (tag : ℕ) (body rest : List ℕ) → length body ≤ max_body → in_front (message tag body ++ rest) ≡ found tag body rest
 
 -- What is found in front is a message, and the bytes after it.
-abbrev pub FoundIsMessage : Type 0
+unfoldable pub FoundIsMessage : Type 0
 FoundIsMessage = (bytes : List ℕ) (tag : ℕ) (body rest : List ℕ) → AreBytes bytes → in_front bytes ≡ found tag body rest → (length body ≤ max_body) × (bytes ≡ message tag body ++ rest)
 
 -- Of a message that is cut off anywhere nothing is found yet.
-abbrev pub CutIsNotFound : Type 0
+unfoldable pub CutIsNotFound : Type 0
 CutIsNotFound = (tag : ℕ) (body : List ℕ) (n : ℕ) → length body ≤ max_body → n < length (message tag body) → in_front (take n (message tag body)) ≡ Ok None

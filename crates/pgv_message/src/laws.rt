@@ -14,17 +14,20 @@ use pgv_wire::PgArguments;
 use pgv_wire::laws::{arguments_read, main_sentence, only_additions_count};
 
 /// A message in front of bytes is found, with its tag, its body and the bytes after it, whatever these are.
+#[tactic(auto, using(crate::proofs::InFront::message_is_found))]
 pub fn message_is_found()
     ensures { MessageIsFound }
 {}
 
 /// If a message is found in front of bytes, the bytes are its tag, its length and its body, and then the bytes after
 /// it.
+#[tactic(auto, using(crate::proofs::InFront::found_is_message))]
 pub fn found_is_message()
     ensures { FoundIsMessage }
 {}
 
 /// Bytes that end before their first message does are not refused, and no message is found in them.
+#[tactic(auto, using(crate::proofs::InFront::cut_is_not_found))]
 pub fn cut_is_not_found()
     ensures { CutIsNotFound }
 {}
@@ -71,22 +74,26 @@ fn frames_are_parameters(frames: &[u8], arguments: &PgArguments)
 }
 
 /// When the answers to all requests have come, in order, nothing is awaited.
+#[tactic(auto, using(crate::proofs::ExchangeLaws::answers_end_the_exchange))]
 pub fn answers_end_the_exchange()
     ensures { AnswersEndTheExchange }
 {}
 
 /// Where nothing is awaited after messages of which none is an error or may come at any time, they are the answers to
 /// all requests, in order.
+#[tactic(auto, using(crate::proofs::ExchangeLaws::only_answers_end_the_exchange))]
 pub fn only_answers_end_the_exchange()
     ensures { OnlyAnswersEndTheExchange }
 {}
 
 /// Messages that may come at any time change nothing, wherever they come among the others.
+#[tactic(auto, using(crate::proofs::ExchangeLaws::async_changes_nothing))]
 pub fn async_changes_nothing()
     ensures { AsyncChangesNothing }
 {}
 
 /// An error ends all requests before the next Sync, and the server then passes over requests.
+#[tactic(auto, using(crate::proofs::ExchangeLaws::error_skips_to_sync))]
 pub fn error_skips_to_sync()
     ensures { ErrorSkipsToSync }
 {}
@@ -99,6 +106,7 @@ pub fn only_ready_ends_skipping()
 {}
 
 /// The body of an error or a notice is read as fields exactly where it is these fields, a zero byte and nothing else.
+#[tactic(auto, using(crate::proofs::Notices::notice_is_read))]
 pub fn notice_is_read()
     ensures { NoticeIsRead }
 {}

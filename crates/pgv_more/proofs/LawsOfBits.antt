@@ -49,6 +49,7 @@ same_bytes xs ys small small' e =
     sym (bytes_of-bits_of xs [] small) ∙ ap (λ (n : ℕ). bytes_of n (bits_of xs ++ [])) size ∙ ap (λ (bs : List Bool). bytes_of (length ys) (bs ++ [])) e ∙ bytes_of-bits_of ys [] small'
 
 pub packed_is_one : PackedIsOne
+unfolding PackedIsOne
 packed_is_one bits bytes small = (
   λ e. let n = 8 * byte_count (length bits) in
       (n - length bits, omega arith, ap bits_of (sym e) ∙ bits_of-bytes_of (byte_count (length bits)) bits ∙ filled bits n (n - length bits) (omega arith)),
@@ -92,12 +93,14 @@ is_bits form bits small e =
     )
 
 pub bits_are_read : BitsAreRead
+unfolding BitsAreRead
 bits_are_read form bits small = (
   λ e. is_bits form bits small e,
   λ h. ap bits_in_binary h.3 ∙ binary_there bits h.1 h.0 h.2 h.4 h.5,
 )
 
 pub one_list_of_bits : OneListOfBits
+unfolding OneListOfBits
 one_list_of_bits form first second small a b = ok_is first second (sym ((bits_are_read form first small).1 a) ∙ (bits_are_read form second small).1 b)
 
 -- ---- texts
@@ -121,6 +124,7 @@ kept true x y e = (refl, same_Some x y e)
 kept false x y e = absurd (cc)
 
 pub bits_are_read_of_text : BitsAreReadOfText
+unfolding BitsAreReadOfText
 bits_are_read_of_text text bits = (
   λ e. let k = kept (list_all is_digit text) (map is_one text) bits e in digits_are text k.0 ∙ ap (map digit_of) k.1,
   λ h. let k = are_digits bits in rw (h, k.0, k.1) refl,

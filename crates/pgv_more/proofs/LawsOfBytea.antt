@@ -90,10 +90,12 @@ read_there digits value h =
     ap where_ok (decode_of-even digits k.1 ∙ k.0)
 
 pub bytea_text_is_read : ByteaTextIsRead
+unfolding ByteaTextIsRead
 bytea_text_is_read text value = (
   λ e. read_is text value (digits_after text) refl e,
   λ h. ap bytea_in_text h.1 ∙ read_there h.0 value h.2,
 )
 
 pub one_bytea_text : OneByteaText
+unfolding OneByteaText
 one_bytea_text text first second a b = same_Some first second (sym ((bytea_text_is_read text first).1 a) ∙ (bytea_text_is_read text second).1 b)

@@ -173,7 +173,9 @@ there form ps h =
     ∙ ap (λ (qs : List Pair). let r : Result (List Pair) (Option CodecError) = Ok qs in r) (one_map h.stood ps h.map)
 
 pub hstore_is_read : HstoreIsRead
+unfolding HstoreIsRead
 hstore_is_read form ps small = (λ e. is_hstore form ps small e, λ h. there form ps h)
 
 pub one_hstore : OneHstore
+unfolding OneHstore
 one_hstore form first second small a b = answer_is first second (sym (there form first a) ∙ there form second b)

@@ -152,7 +152,9 @@ mac_read text (one ∷ two ∷ more) h =
     ap mac_value whole ∙ rw (separator_read s h.1, pair_read first.0 first.1 one first.4) (ap (option_map (λ bytes. one ∷ bytes)) pairs)
 
 pub mac_address_is_read : MacAddressIsRead
+unfolding MacAddressIsRead
 mac_address_is_read text bytes = (mac_found text bytes, mac_read text bytes)
 
 pub one_mac_address : OneMacAddress
+unfolding OneMacAddress
 one_mac_address text first second a b = same_Some first second (sym (mac_read text first a) ∙ mac_read text second b)

@@ -42,6 +42,7 @@ money_there rest amount fits =
     opened (to_be_bytes w64 (cast_unsigned w64 amount) ++ rest) long ∙ ap (λ (n : ℤ). Some n) (eight_again amount (signed_fits w64 amount fits))
 
 pub money_is_read : MoneyIsRead
+unfolding MoneyIsRead
 money_is_read bytes amount small = (
   λ e. is_money bytes amount small e,
   λ h. ap money_in_binary h.1 ∙ money_there h.0 amount h.2,

@@ -147,7 +147,9 @@ there form not_a_number h = ap (λ (xs : List ℕ). (numeric_in_binary xs).answe
 there form (number sign ds weight scale) h = ap (λ (xs : List ℕ). (numeric_in_binary xs).answer) h.whole ∙ number_there h.rest sign ds weight scale h.few h.digits_fit h.weight_fits h.scale_fits
 
 pub numeric_is_read : NumericIsRead
+unfolding NumericIsRead
 numeric_is_read form n small = (λ e. is_numeric form n small e, λ h. there form n h)
 
 pub one_numeric : OneNumeric
+unfolding OneNumeric
 one_numeric form first second small a b = answer_is first second (sym (there form first a) ∙ there form second b)

@@ -41,9 +41,9 @@ bits_in_binary form =
     if length (drop 4 form) == byte_count (bit_count form) then Ok (take (bit_count form) (bits_of (drop 4 form))) else Err (WrongLength (length form))
 
 -- bits are read from bytes iff the bytes are a form of these bits
-abbrev pub BitsAreRead : Type 0
+unfoldable pub BitsAreRead : Type 0
 BitsAreRead = (form : List ℕ) (bits : List Bool) → AreBytes form → (bits_in_binary form ≡ Ok bits) ↔ IsBits form bits
 
 -- bytes are the form of at most one list of bits
-abbrev pub OneListOfBits : Type 0
+unfoldable pub OneListOfBits : Type 0
 OneListOfBits = (form : List ℕ) (first second : List Bool) → AreBytes form → IsBits form first → IsBits form second → first ≡ second

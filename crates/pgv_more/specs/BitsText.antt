@@ -21,5 +21,5 @@ abbrev pub bits_in_text : List ℕ → Option (List Bool)
 bits_in_text text = if list_all is_digit text then Some (map is_one text) else None
 
 -- bits are read from a text iff the text is their digits
-abbrev pub BitsAreReadOfText : Type 0
+unfoldable pub BitsAreReadOfText : Type 0
 BitsAreReadOfText = (text : List ℕ) (bits : List Bool) → (bits_in_text text ≡ Some bits) ↔ IsBitsText text bits

@@ -72,8 +72,8 @@ sized_image n value = if nat_eq (length value) n then Some (image_of (bytes valu
 abbrev pub all_digits : List ℕ → Bool
 all_digits digits = list_all is_hex_digit digits
 
-abbrev pub ByteaTextIsRead : Type 0
+unfoldable pub ByteaTextIsRead : Type 0
 ByteaTextIsRead = (text value : List ℕ) → (bytea_in_text text ≡ Some value) ↔ IsByteaText text value
 
-abbrev pub OneByteaText : Type 0
+unfoldable pub OneByteaText : Type 0
 OneByteaText = (text first second : List ℕ) → IsByteaText text first → IsByteaText text second → first ≡ second

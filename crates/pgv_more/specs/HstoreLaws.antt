@@ -29,10 +29,10 @@ pub record IsHstore (form : List ℕ) (ps : List Pair) : Type 0 where
   pub each : ArePairs stood
   pub map : IsMapOf stood ps
 
-abbrev pub HstoreIsRead : Type 0
+unfoldable pub HstoreIsRead : Type 0
 HstoreIsRead = (form : List ℕ) (ps : List Pair) → AreBytes form → ((hstore_in_binary form).answer ≡ Ok ps) ↔ IsHstore form ps
 
-abbrev pub OneHstore : Type 0
+unfoldable pub OneHstore : Type 0
 OneHstore = (form : List ℕ) (first second : List Pair) → AreBytes form → IsHstore form first → IsHstore form second → first ≡ second
 
 -- two maps are equal iff they have the same pairs

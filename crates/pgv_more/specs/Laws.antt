@@ -8,5 +8,5 @@ abbrev pub ArePacked : List ℕ → List Bool → Type 0
 ArePacked bytes bits = (zeros : ℕ) × (zeros < 8) × (bits_of bytes ≡ bits ++ replicate zeros false)
 
 -- `packed` gives bytes iff the bits are packed into exactly these bytes
-abbrev pub PackedIsOne : Type 0
+unfoldable pub PackedIsOne : Type 0
 PackedIsOne = (bits : List Bool) (bytes : List ℕ) → AreBytes bytes → (packed bits ≡ bytes) ↔ ArePacked bytes bits

@@ -80,9 +80,9 @@ mac_value (high ∷ low ∷ separator ∷ rest) =
     if is_separator separator then before (with_rest (pair_value high low) (separator ∷ rest)) (pairs_after separator 5) else None
 
 -- the bytes of an address are read from a text iff the text is this address
-abbrev pub MacAddressIsRead : Type 0
+unfoldable pub MacAddressIsRead : Type 0
 MacAddressIsRead = (text bytes : List ℕ) → (mac_value text ≡ Some bytes) ↔ IsMacAddress text bytes
 
 -- a text is at most one address
-abbrev pub OneMacAddress : Type 0
+unfoldable pub OneMacAddress : Type 0
 OneMacAddress = (text first second : List ℕ) → IsMacAddress text first → IsMacAddress text second → first ≡ second

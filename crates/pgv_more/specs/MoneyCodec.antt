@@ -23,5 +23,5 @@ abbrev pub parse_money : Given → Parsed ℤ
 parse_money = binary_alone (λ bytes. ok_or (money_in_binary bytes) Short)
 
 -- an amount is read from bytes iff the bytes begin with its form
-abbrev pub MoneyIsRead : Type 0
+unfoldable pub MoneyIsRead : Type 0
 MoneyIsRead = (bytes : List ℕ) (amount : ℤ) → AreBytes bytes → (money_in_binary bytes ≡ Some amount) ↔ IsMoney bytes amount

@@ -33,10 +33,10 @@ abbrev pub IsNumeric : List ℕ → Numeric → Type 0
 IsNumeric form not_a_number = IsNoNumber form
 IsNumeric form (number sign digits weight scale) = IsNumber form sign digits weight scale
 
-abbrev pub NumericIsRead : Type 0
+unfoldable pub NumericIsRead : Type 0
 NumericIsRead = (form : List ℕ) (n : Numeric) → AreBytes form → ((numeric_in_binary form).answer ≡ Ok n) ↔ IsNumeric form n
 
-abbrev pub OneNumeric : Type 0
+unfoldable pub OneNumeric : Type 0
 OneNumeric = (form : List ℕ) (first second : Numeric) → AreBytes form → IsNumeric form first → IsNumeric form second → first ≡ second
 
 abbrev pub OneMoney : Type 0

@@ -27,11 +27,13 @@ pub fn hstore_is_an_hstore()
 {}
 
 /// `hstore_in_binary` reads a map from bytes iff the bytes begin with a binary form of this map.
+#[tactic(auto, using(crate::proofs::LawsOfHstores::hstore_is_read))]
 pub fn hstore_is_read()
     ensures { HstoreIsRead }
 {}
 
 /// Bytes begin with the binary form of at most one map.
+#[tactic(auto, using(crate::proofs::LawsOfHstores::one_hstore))]
 pub fn one_hstore()
     ensures { OneHstore }
 {}

@@ -60,31 +60,37 @@ pub fn time_tz_is_a_timetz()
 {}
 
 /// `packed` turns bits into bytes iff the bits of these bytes are the given ones and then fewer than eight zeros.
+#[tactic(auto, using(crate::proofs::LawsOfBits::packed_is_one))]
 pub fn packed_is_one()
     ensures { PackedIsOne }
 {}
 
 /// `bits_in_binary` reads bits from bytes iff the bytes are a binary form of these bits, whatever fills the last byte.
+#[tactic(auto, using(crate::proofs::LawsOfBits::bits_are_read))]
 pub fn bits_are_read()
     ensures { BitsAreRead }
 {}
 
 /// Bytes are the binary form of at most one list of bits.
+#[tactic(auto, using(crate::proofs::LawsOfBits::one_list_of_bits))]
 pub fn one_list_of_bits()
     ensures { OneListOfBits }
 {}
 
 /// `bits_in_text` reads bits from a text iff the text is the digit `0` or `1` of each bit in turn.
+#[tactic(auto, using(crate::proofs::LawsOfBits::bits_are_read_of_text))]
 pub fn bits_are_read_of_text()
     ensures { BitsAreReadOfText }
 {}
 
 /// `mac_value` reads six bytes from a text iff the grammar of MAC addresses assigns these bytes to the text.
+#[tactic(auto, using(crate::proofs::LawsOfMacs::mac_address_is_read))]
 pub fn mac_address_is_read()
     ensures { MacAddressIsRead }
 {}
 
 /// A text denotes at most one MAC address.
+#[tactic(auto, using(crate::proofs::LawsOfMacs::one_mac_address))]
 pub fn one_mac_address()
     ensures { OneMacAddress }
 {}
@@ -148,11 +154,13 @@ pub fn equal_bits()
 {}
 
 /// `bytea_in_text` reads bytes from a text iff the text is `\x` and then two hex digits for each of these bytes.
+#[tactic(auto, using(crate::proofs::LawsOfBytea::bytea_text_is_read))]
 pub fn bytea_text_is_read()
     ensures { ByteaTextIsRead }
 {}
 
 /// A text denotes at most one string of bytes.
+#[tactic(auto, using(crate::proofs::LawsOfBytea::one_bytea_text))]
 pub fn one_bytea_text()
     ensures { OneByteaText }
 {}

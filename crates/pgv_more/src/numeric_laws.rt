@@ -43,6 +43,7 @@ pub fn numeric_is_a_numeric()
 {}
 
 /// `money_in_binary` reads an amount from bytes iff the bytes begin with the eight bytes of this amount.
+#[tactic(auto, using(crate::proofs::LawsOfMoney::money_is_read))]
 pub fn money_is_read()
     ensures { MoneyIsRead }
 {}
@@ -53,11 +54,13 @@ pub fn one_money()
 {}
 
 /// `numeric_in_binary` reads a number or NaN from bytes iff the bytes begin with its binary form.
+#[tactic(auto, using(crate::proofs::LawsOfNumerics::numeric_is_read))]
 pub fn numeric_is_read()
     ensures { NumericIsRead }
 {}
 
 /// Bytes begin with the binary form of at most one number or NaN.
+#[tactic(auto, using(crate::proofs::LawsOfNumerics::one_numeric))]
 pub fn one_numeric()
     ensures { OneNumeric }
 {}

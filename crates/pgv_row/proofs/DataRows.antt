@@ -61,6 +61,7 @@ pub row_of_frames : (width : ℕ) (bytes frames : List ℕ) (row : List Part) �
 row_of_frames width bytes frames row h count found = is_row 0 width bytes row h (row_by 0 width bytes frames row count found)
 
 pub data_row_is_read : DataRowIsRead
+unfolding DataRowIsRead
 data_row_is_read room width bytes row h = (is_row room width bytes row h, is_read room width bytes row h)
 
 -- ---- memory

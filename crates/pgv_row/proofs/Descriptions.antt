@@ -194,6 +194,7 @@ is_description known bytes columns h e =
     })
 
 pub description_is_read : DescriptionIsRead
+unfolding DescriptionIsRead
 description_is_read known bytes columns h = (is_description known bytes columns h, is_read known bytes columns h)
 
 -- ---- as a reader answers

@@ -40,5 +40,5 @@ data_row room width bytes = do
 -- ---- laws
 
 -- A body is read as a row exactly where it is that row.
-abbrev pub DataRowIsRead : Type 0
+unfoldable pub DataRowIsRead : Type 0
 DataRowIsRead = (room width : ℕ) (bytes : List ℕ) (row : List Part) → AreBytes bytes → ((data_row room width bytes).answer ≡ Ok row) ↔ IsDataRow width bytes row

@@ -94,5 +94,5 @@ pub record IsDescription (known : KnownTypes) (bytes : List ℕ) (columns : List
 -- ---- laws
 
 -- A body is read as columns exactly where it is a description of them.
-abbrev pub DescriptionIsRead : Type 0
+unfoldable pub DescriptionIsRead : Type 0
 DescriptionIsRead = (known : KnownTypes) (bytes : List ℕ) (columns : List Column) → AreBytes bytes → ((description known bytes).answer ≡ Ok columns) ↔ IsDescription known bytes columns

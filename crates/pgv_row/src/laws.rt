@@ -8,12 +8,14 @@ use crate::tuple::FromRow;
 
 /// The body of a DataRow is read as a row exactly where it is that row: the number of columns, a frame for each and
 /// nothing else.
+#[tactic(auto, using(crate::proofs::DataRows::data_row_is_read))]
 pub fn data_row_is_read()
     ensures { DataRowIsRead }
 {}
 
 /// The body of a RowDescription is read as columns exactly where it is their number, for each its name and its numbers,
 /// and nothing else.
+#[tactic(auto, using(crate::proofs::Descriptions::description_is_read))]
 pub fn description_is_read()
     ensures { DescriptionIsRead }
 {}

@@ -4,6 +4,7 @@ use Rattle.std.specs.Prelude.{◌↔◌}
 use Rattle.std.specs.List.{AllByRecursion}
 use Rattle.std.proofs.lemmas.Bool.{eqb-true, eqb-false, ne_eqb}
 use Rattle.pgv_session.specs.Session.{line_more, lines_from, lines_of, ended, HasNoLineFeed, AreLines}
+use Rattle.pgv_session.specs.Laws.{InputIsItsLines}
 
 one_more : (begun : List ℕ) (c : ℕ) → HasNoLineFeed begun → c ≢ 10 → HasNoLineFeed (begun ++ c ∷ [])
 one_more [] c h n = (n, tt)
@@ -58,7 +59,8 @@ lines_there (line ∷ full) last h n =
     ap lines_of (append_assoc line (10 ∷ ended full) last)
     ∙ (full_line [] line (ended full ++ last) h.0 ∙ ap (λ (ls : List (List ℕ)). line ∷ ls) (lines_there full last h.1 n))
 
-pub lines_exactly : (input : List ℕ) (lines : List (List ℕ)) → (lines_of input ≡ lines) ↔ AreLines input lines
+pub lines_exactly : InputIsItsLines
+unfolding InputIsItsLines
 lines_exactly input lines = (
   λ (e : lines_of input ≡ lines). subst (λ (ls : List (List ℕ)). AreLines input ls) e (lines_are [] input tt),
   λ (h : AreLines input lines). ap lines_of h.whole ∙ (lines_there h.full h.last h.each h.unended ∙ sym h.lines_are),

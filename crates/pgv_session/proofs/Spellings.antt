@@ -15,6 +15,7 @@ use Rattle.pgv_session.proofs.Marks.{joined, whole, split_joined, word_or, befor
 use Rattle.pgv_session.proofs.OidWords.{oids_are, oids_found}
 use Rattle.pgv_session.proofs.HexTexts.{part_is, part_given, hex_is, hex_given, hex_is_name}
 use Rattle.pgv_session.proofs.NameTexts.{names_are, names_found}
+use Rattle.pgv_session.specs.Laws.{OneRequest, RequestIsItsSpelling}
 
 -- ---- what is found is spelled
 
@@ -130,10 +131,12 @@ asked_found : (line : List ℕ) (asked : Option Request) → Asks line asked →
 asked_found line None h = none_found line (request line) refl h
 asked_found line (Some r) s = found r line s
 
-pub request_exactly : (line : List ℕ) (asked : Option Request) → (request line ≡ asked) ↔ Asks line asked
+pub request_exactly : RequestIsItsSpelling
+unfolding RequestIsItsSpelling
 request_exactly line asked = (asked_is line asked, asked_found line asked)
 
-pub one_asked : (line : List ℕ) (asked other : Option Request) → Asks line asked → Asks line other → asked ≡ other
+pub one_asked : OneRequest
+unfolding OneRequest
 one_asked line asked other a b = sym (asked_found line asked a) ∙ asked_found line other b
 
 -- what is parsed of a line is what it asks for

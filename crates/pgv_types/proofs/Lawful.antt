@@ -2,7 +2,7 @@
 use Rattle.std.proofs.Common.{◌≡◌, ℕ, ◌<◌, ◌==◌, ◌&&◌, ◌||◌, Bool, true, false, cond, Option, Some, None, List, codes, ap, ◌∙◌, sym, refl, arith, option_map}
 use Rattle.std.proofs.lemmas.Cmp.{nat_eq_equiv}
 use Rattle.pgv_types.specs.Agree.{agree}
-use Rattle.pgv_types.proofs.Tells.{agree-refl, agree-sym}
+use Rattle.pgv_types.proofs.Tells.{agree_tells, agree-refl, agree-sym}
 use Rattle.pgv_types.specs.Ty.{Ty, builtin, custom, named, by_oid, simple, domain}
 use Rattle.pgv_types.specs.Facts.{base_oid, name_of, element_of, type_size}
 use Rattle.pgv_types.specs.Relations.{Level, level, Levels, last, over, levels, related, decide, known_or, common_base, softly, exactly, by_rules, elements_or, rest_related, is_by_oid}
@@ -106,3 +106,6 @@ domain-size o name t = omega arith
 pub bases_decide : (soft : Bool) (a b : Ty) (x y : ℕ) → base_oid a ≡ Some x → base_oid b ≡ Some y → related soft (levels a) (levels b) ≡ (x == y)
 bases_decide soft a b x y p q =
     sym (by_bases soft a b (x == y) (ap (λ m. common_base m (base_oid b)) p ∙ ap (common_base (Some x)) q))
+
+-- what the laws of the relations and of names say
+pub ruleset relation_laws = (softly-refl, exactly-refl, softly-sym, exactly-sym, softly-breaks, exactly-breaks, bases_decide, by_oid-soft, domain-size, agree_tells, agree-refl, agree-sym)

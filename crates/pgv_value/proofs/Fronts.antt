@@ -7,7 +7,7 @@ use Rattle.std.proofs.lemmas.Bool.{le-ltb, lt-ltb, ne_eqb, eqb-true, ltb-false}
 use Rattle.std.proofs.lemmas.List.{take-append-drop, length-take-le, length-append, length-drop, take_at, drop_at, take-append-le}
 use Rattle.std.proofs.lemmas.Option.{same_Some}
 use Rattle.pgv_value.specs.FrameBinary.{Part, IsFrame, front, front_length, frame_fault}
-use Rattle.pgv_value.specs.Laws.{AreBytes}
+use Rattle.pgv_value.specs.Laws.{AreBytes, CutFrameIsShort, FrontIsFrame}
 use Rattle.pgv_value.specs.declared.error.CodecError.TheVariants.{Short}
 use Rattle.pgv_value.proofs.Numbers.{bytes_below, AreBytes-take}
 
@@ -107,5 +107,6 @@ cut_off bytes rest_after (Some part) false enough more h =
     front_of_cut bytes (length part) enough n_is (ne_eqb (length part) 4294967295 (λ e. omega arith)) (le-ltb _ _ (omega arith))
     (lt-ltb _ _ (omega (arith, length-append bytes rest_after, length-append part [], length-drop 4 bytes)))
 
-pub cut_is_short : (bytes rest_after : List ℕ) (part : Part) → 0 < length rest_after → IsFrame (bytes ++ rest_after) part [] → (front bytes ≡ None) × (frame_fault bytes ≡ Short)
+pub cut_is_short : CutFrameIsShort
+unfolding CutFrameIsShort
 cut_is_short bytes rest_after part more h = cut_off bytes rest_after part _ refl more h

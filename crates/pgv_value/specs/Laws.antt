@@ -9,9 +9,9 @@ abbrev pub AreBytes : List ℕ → Type 0
 AreBytes bytes = AllByRecursion (λ byte. byte < 256) bytes
 
 -- `front` gives a part and a rest iff the bytes are a frame of this part, followed by this rest
-abbrev pub FrontIsFrame : Type 0
+unfoldable pub FrontIsFrame : Type 0
 FrontIsFrame = (bytes : List ℕ) (part : Part) (rest : List ℕ) → AreBytes bytes → (front bytes ≡ Some (part, rest)) ↔ IsFrame bytes part rest
 
 -- nothing is found in front of a frame that is cut off, and its fault is `Short` (C15)
-abbrev pub CutFrameIsShort : Type 0
+unfoldable pub CutFrameIsShort : Type 0
 CutFrameIsShort = (bytes rest_after : List ℕ) (part : Part) → 0 < length rest_after → IsFrame (bytes ++ rest_after) part [] → (front bytes ≡ None) × (frame_fault bytes ≡ Short)

@@ -1,5 +1,0 @@
-use Rattle.pgv_copy.proofs.Cuts.{cut_copy_is_short as law}
-use Rattle.pgv_copy.proofs.laws.cut_copy_is_short.Goals as goal
-
-pub returns : goal.returns
-returns c = law

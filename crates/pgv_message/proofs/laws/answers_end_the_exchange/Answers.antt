@@ -1,5 +1,0 @@
-use Rattle.pgv_message.proofs.ExchangeLaws.{answers_end_the_exchange as law}
-use Rattle.pgv_message.proofs.laws.answers_end_the_exchange.Goals as goal
-
-pub returns : goal.returns
-returns c = law
