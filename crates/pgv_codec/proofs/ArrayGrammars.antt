@@ -15,7 +15,7 @@ use Rattle.pgv_value.proofs.Outcomes.{answer_is, taken, taken_exactly, tested, f
 use Rattle.pgv_value.proofs.ValueFronts.{u32_is, u32_splits, value_is}
 use Rattle.pgv_codec.specs.ArrayGrammar.{element_type, Head, one_dimension, head, frames, elements, elements_after, array_in_binary}
 use Rattle.pgv_codec.specs.Found.{array_there}
-use Rattle.pgv_codec.specs.NestBinary.{BeginWithFrames, IsArray}
+use Rattle.pgv_codec.specs.NestBinary.{BeginWithFrames, IsArray, ArrayIsItsElements, OneArray}
 
 frames_are : {M : Type 0} (parse : Given → Outcome M) (t : Ty) (n : ℕ) (bytes : List ℕ) (ms : List M) → AreBytes bytes → (frames parse t n bytes).answer ≡ Ok ms → (length ms ≡ n) × BeginWithFrames parse t bytes ms
 unfolding frames
@@ -124,8 +124,10 @@ module _ {M : Type 0} (parse : Given → Outcome M) where
       let n = u32_is bytes d.0 b d.1 in
       array_with parse t bytes d.0.1 d.0.0 h.0 ms _ _ _ (after_four d.0.0 bytes d.0.1 n.1 b) n.1 refl refl d.2 h.2
 
-  pub array_exactly : (t : Ty) (bytes : List ℕ) (ms : List M) → AreBytes bytes → ((array_in_binary parse t bytes).answer ≡ Ok ms) ↔ IsArray parse t bytes ms
+  pub array_exactly : ArrayIsItsElements parse
+  unfolding ArrayIsItsElements
   array_exactly t bytes ms b = (array_is t bytes ms b, array_there parse t bytes ms)
 
-  pub one_array : (t : Ty) (bytes : List ℕ) (ms others : List M) → IsArray parse t bytes ms → IsArray parse t bytes others → ms ≡ others
+  pub one_array : OneArray parse
+  unfolding OneArray
   one_array t bytes ms others h k = answer_is ms others (sym (array_there parse t bytes ms h) ∙ array_there parse t bytes others k)

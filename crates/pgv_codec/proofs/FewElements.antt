@@ -40,6 +40,7 @@ shorter : (front rest : List ℕ) → length rest ≤ length (front ++ rest)
 shorter front rest = omega (arith, length-append front rest)
 
 pub few_elements : {M : Type 0} (parse : Given → Outcome M) → FewElements parse
+unfolding FewElements
 few_elements parse t bytes ms (inl h) = rw h.2 (omega arith)
 few_elements parse t bytes ms (inr h) =
     let few = few_frames parse h.element (length ms) h.frames ms (frames_there parse h.element h.frames ms h.framed) in

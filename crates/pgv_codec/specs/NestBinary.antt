@@ -87,30 +87,30 @@ IsRecord fields t bytes m = (count : List ℕ) × (rest_after : List ℕ) × (re
 
 -- ---- what is computed is what the bytes are
 
-abbrev pub ArrayIsItsElements : {M : Type 0} → (Given → Outcome M) → Type 0
+unfoldable pub ArrayIsItsElements : {M : Type 0} → (Given → Outcome M) → Type 0
 ArrayIsItsElements {M} parse = (t : Ty) (bytes : List ℕ) (ms : List M) → AreBytes bytes → ((array_in_binary parse t bytes).answer ≡ Ok ms) ↔ IsArray parse t bytes ms
 
 -- an array has at most a quarter as many elements as bytes
-abbrev pub FewElements : {M : Type 0} → (Given → Outcome M) → Type 0
+unfoldable pub FewElements : {M : Type 0} → (Given → Outcome M) → Type 0
 FewElements {M} parse = (t : Ty) (bytes : List ℕ) (ms : List M) → IsArray parse t bytes ms → 4 * length ms ≤ length bytes
 
-abbrev pub OneArray : {M : Type 0} → (Given → Outcome M) → Type 0
+unfoldable pub OneArray : {M : Type 0} → (Given → Outcome M) → Type 0
 OneArray {M} parse = (t : Ty) (bytes : List ℕ) (ms others : List M) → IsArray parse t bytes ms → IsArray parse t bytes others → ms ≡ others
 
 abbrev pub FieldTypeIsFound : Type 0
 FieldTypeIsFound = (t : Ty) (place oid : ℕ) (found : Ty) → ((field_type t place oid).answer ≡ Ok found) ↔ HasFieldType place oid found t
 
-abbrev pub FieldIsItsValue : {M : Type 0} → (Ty → Bool) → (Given → Outcome M) → Type 0
+unfoldable pub FieldIsItsValue : {M : Type 0} → (Ty → Bool) → (Given → Outcome M) → Type 0
 FieldIsItsValue {M} accepts parse =
     (t : Ty) (place : ℕ) (bytes : List ℕ) (m : M) (rest : List ℕ) → AreBytes bytes →
     ((field_in_binary accepts parse t place bytes).answer ≡ Ok (m, rest)) ↔ IsField accepts parse t place bytes m rest
 
-abbrev pub OneField : {M : Type 0} → (Ty → Bool) → (Given → Outcome M) → Type 0
+unfoldable pub OneField : {M : Type 0} → (Ty → Bool) → (Given → Outcome M) → Type 0
 OneField {M} accepts parse =
     (t : Ty) (place : ℕ) (bytes : List ℕ) (m n : M) (rest others : List ℕ) →
     IsField accepts parse t place bytes m rest → IsField accepts parse t place bytes n others → (m ≡ n) × (rest ≡ others)
 
-abbrev pub RecordBegins : Type 0
+unfoldable pub RecordBegins : Type 0
 RecordBegins =
     (t : Ty) (bytes rest : List ℕ) →
     ((fields_of (given t Binary (Some bytes))).answer ≡ Ok (binary_fields t 0 rest)) ↔ ((count : List ℕ) × (bytes ≡ count ++ rest) × (length count ≡ 4))

@@ -17,7 +17,7 @@ use Rattle.pgv_value.proofs.Numbers.{number_of_four, bytes_after, after_four, af
 use Rattle.pgv_value.proofs.Outcomes.{answer_is, answers_are, taken, taken_exactly, tested, found_or, stated_is}
 use Rattle.pgv_value.proofs.ValueFronts.{u32_is, u32_splits, value_is}
 use Rattle.pgv_codec.specs.Found.{field_type_there, field_there, next_there}
-use Rattle.pgv_codec.specs.NestBinary.{FindExactly, HasFieldType, of_record, of_custom_record, of_composite, of_domain, Stretch, IsField, ◌and◌, RecordIsItsFields}
+use Rattle.pgv_codec.specs.NestBinary.{FindExactly, HasFieldType, of_record, of_custom_record, of_composite, of_domain, Stretch, IsField, ◌and◌, RecordIsItsFields, FieldIsItsValue, OneField, RecordBegins}
 use Rattle.pgv_codec.specs.RecordGrammar.{is_oid, field_at, composite_field, field_type, field_type_in, field_head, field_in_binary, Left, binary_fields, next_field, fields_of, parse_record, ◌then◌}
 
 -- ---- the types of fields
@@ -102,10 +102,10 @@ module _ {M : Type 0} (accepts : Ty → Bool) (parse : Given → Outcome M) (t :
         read = ap (λ (g : Given). (parse g).answer) v.2 ∙ (read.1 ∙ ap (λ (x : M). let r : Result M (Option CodecError) = Ok x in r) k.0);
       }
 
-  pub field_exactly : (bytes : List ℕ) (m : M) (rest : List ℕ) → AreBytes bytes → ((field_in_binary accepts parse t place bytes).answer ≡ Ok (m, rest)) ↔ IsField accepts parse t place bytes m rest
+  field_exactly : (bytes : List ℕ) (m : M) (rest : List ℕ) → AreBytes bytes → ((field_in_binary accepts parse t place bytes).answer ≡ Ok (m, rest)) ↔ IsField accepts parse t place bytes m rest
   field_exactly bytes m rest b = (field_is bytes m rest b, field_there accepts parse t place bytes m rest)
 
-  pub one_field : (bytes : List ℕ) (m n : M) (rest others : List ℕ) → IsField accepts parse t place bytes m rest → IsField accepts parse t place bytes n others → (m ≡ n) × (rest ≡ others)
+  one_field : (bytes : List ℕ) (m n : M) (rest others : List ℕ) → IsField accepts parse t place bytes m rest → IsField accepts parse t place bytes n others → (m ≡ n) × (rest ≡ others)
   one_field bytes m n rest others f g = answers_are m n rest others (sym (field_there accepts parse t place bytes m rest f) ∙ field_there accepts parse t place bytes n others g)
 
   after_field : (bytes : List ℕ) (m : M) (rest : List ℕ) → IsField accepts parse t place bytes m rest → AreBytes bytes → AreBytes rest
@@ -131,7 +131,16 @@ begins t bytes left e =
 place_is : (t : Ty) (a b : List ℕ) → binary_fields t 0 a ≡ binary_fields t 0 b → a ≡ b
 place_is t a b e = cc
 
-pub record_begins : (t : Ty) (bytes rest : List ℕ) → ((fields_of (given t Binary (Some bytes))).answer ≡ Ok (binary_fields t 0 rest)) ↔ ((count : List ℕ) × (bytes ≡ count ++ rest) × (length count ≡ 4))
+pub field_is_its_value : {M : Type 0} (accepts : Ty → Bool) (parse : Given → Outcome M) → FieldIsItsValue accepts parse
+unfolding FieldIsItsValue
+field_is_its_value accepts parse t place = field_exactly accepts parse t place
+
+pub one_field_value : {M : Type 0} (accepts : Ty → Bool) (parse : Given → Outcome M) → OneField accepts parse
+unfolding OneField
+one_field_value accepts parse t place = one_field accepts parse t place
+
+pub record_begins : RecordBegins
+unfolding RecordBegins
 record_begins t bytes rest = (
   λ e.
       let k = begins t bytes (binary_fields t 0 rest) e in

@@ -100,7 +100,7 @@ bits_are_read form bits small = (
 )
 
 pub one_list_of_bits : OneListOfBits
-unfolding OneListOfBits
+unfolding OneListOfBits BitsAreRead
 one_list_of_bits form first second small a b = ok_is first second (sym ((bits_are_read form first small).1 a) ∙ (bits_are_read form second small).1 b)
 
 -- ---- texts

@@ -97,5 +97,5 @@ bytea_text_is_read text value = (
 )
 
 pub one_bytea_text : OneByteaText
-unfolding OneByteaText
+unfolding OneByteaText ByteaTextIsRead
 one_bytea_text text first second a b = same_Some first second (sym ((bytea_text_is_read text first).1 a) ∙ (bytea_text_is_read text second).1 b)

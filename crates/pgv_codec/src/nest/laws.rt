@@ -39,13 +39,13 @@ pub fn field_type_is_found()
 
 /// `field_in_binary` reads a value from bytes in binary and leaves a rest iff the bytes begin with a record's field of
 /// this value and go on with this rest, whatever reads the value (PostgreSQL: "Composite Types"; record_send).
-#[tactic(auto, using(crate::specs::RecordLemmas::field_exactly))]
+#[tactic(auto, using(crate::specs::RecordLemmas::field_is_its_value))]
 pub fn field_is_its_value<M>()
     ensures { (accepts : Ty → Bool) (parse : Given → Outcome M) → FieldIsItsValue accepts parse }
 {}
 
 /// The field with which bytes in binary begin has one value and one rest.
-#[tactic(auto, using(crate::specs::RecordLemmas::one_field))]
+#[tactic(auto, using(crate::specs::RecordLemmas::one_field_value))]
 pub fn one_field<M>()
     ensures { (accepts : Ty → Bool) (parse : Given → Outcome M) → OneField accepts parse }
 {}
