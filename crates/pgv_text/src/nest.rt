@@ -1,6 +1,7 @@
 //! The texts of arrays, of ranges and of records, as lists. What is computed of a text is what it denotes, by the laws
-//! [`array_is_its_values`](crate::laws::array_is_its_values), [`record_is_its_values`](crate::laws::record_is_its_values)
-//! and [`range_is_computed`](crate::laws::range_is_computed).
+//! [`array_is_its_values`](crate::laws::array_is_its_values),
+//! [`record_is_its_values`](crate::laws::record_is_its_values) and
+//! [`range_is_computed`](crate::laws::range_is_computed).
 
 ghost use Rattle.std.specs.Prelude.{◌≡◌, ◌≢◌, [], Some, IfOk, OnErr, MatchResult, is_some, length, true};
 ghost use Rattle.std.specs.Option.{option_map};
