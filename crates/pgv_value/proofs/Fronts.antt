@@ -81,6 +81,10 @@ front_is_frame bytes part rest h false enough e =
 pub front_exactly : (bytes : List ℕ) (part : Part) (rest : List ℕ) → AreBytes bytes → (front bytes ≡ Some (part, rest)) ↔ IsFrame bytes part rest
 front_exactly bytes part rest h = (front_is_frame bytes part rest h _ refl, frame_in_front bytes part rest)
 
+pub fronts_are_frames : FrontIsFrame
+unfolding FrontIsFrame
+fronts_are_frames = front_exactly
+
 -- ---- a frame that is cut off
 
 front_of_few : (bytes : List ℕ) → nat_lt (length bytes) 4 ≡ true → (front bytes ≡ None) × (frame_fault bytes ≡ Short)

@@ -9,7 +9,7 @@ use std::hash::{Hash, Hasher};
 use uuid::Uuid;
 
 /// `front` splits bytes into a part and a rest iff the bytes are a frame of this part followed by this rest.
-#[tactic(auto, using(crate::proofs::Fronts::front_exactly))]
+#[tactic(auto, using(crate::proofs::Fronts::fronts_are_frames))]
 pub fn front_is_frame()
     ensures { FrontIsFrame }
 {}
