@@ -26,6 +26,13 @@ typed_known t o e l = let small : nat_lt o 4294967296 ≡ true = lt-ltb _ _ l in
 pub typed_unknown : (t : Ty) → None ≡ oid_of t → (typed t).answer ≡ Ok (hole t ∷ [])
 typed_unknown t e = rw (← e) refl
 
+-- the head of an array whose elements' type is written by its OID
+pub header_known : (t : Ty) (n o : ℕ) (was now : List Cell) → Some o ≡ oid_of t → o < 4294967296 → now ≡ was ++ blank (bytes (be4 1 ++ (be4 0 ++ (be4 o ++ (be4 n ++ be4 1))))) → Appended (header t n) was now
+header_known t n o was now e l h =
+    let rest_after = bytes (be4 n) ++ bytes (be4 1) in
+    let all : bytes (be4 o ++ (be4 n ++ be4 1)) ≡ bytes (be4 o) ++ rest_after = bytes-append (be4 o) (be4 n ++ be4 1) ∙ ap (λ (ts : List Token). bytes (be4 o) ++ ts) (bytes-append (be4 n) (be4 1)) in
+    ((bytes (be4 1) ++ bytes (be4 0)) ++ (bytes (be4 o) ++ rest_after), rw (typed_known t o e l) refl, h ∙ ap (λ (ts : List Token). was ++ blank ((bytes (be4 1) ++ bytes (be4 0)) ++ ts)) all)
+
 -- where it is Ok, exactly what is written is appended
 pub written_if_ok : {E : Type 0} (r : Result (Unit {0}) E) (f : Outcome (List Token)) (ts : List Token) (was now : List Cell) → f.answer ≡ Ok ts → OnOk r (now ≡ was ++ blank ts) → OnOk r (Appended f was now)
 written_if_ok (Ok u) f ts was now e h = (ts, e, h)

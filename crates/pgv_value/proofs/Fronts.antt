@@ -111,6 +111,9 @@ cut_off bytes rest_after (Some part) false enough more h =
     front_of_cut bytes (length part) enough n_is (ne_eqb (length part) 4294967295 (λ e. omega arith)) (le-ltb _ _ (omega arith))
     (lt-ltb _ _ (omega (arith, length-append bytes rest_after, length-append part [], length-drop 4 bytes)))
 
-pub cut_is_short : CutFrameIsShort
-unfolding CutFrameIsShort
+pub cut_is_short : (bytes rest_after : List ℕ) (part : Part) → 0 < length rest_after → IsFrame (bytes ++ rest_after) part [] → (front bytes ≡ None) × (frame_fault bytes ≡ Short)
 cut_is_short bytes rest_after part more h = cut_off bytes rest_after part _ refl more h
+
+pub cut_frame_is_short : CutFrameIsShort
+unfolding CutFrameIsShort
+cut_frame_is_short = cut_is_short

@@ -16,7 +16,7 @@ pub fn front_is_frame()
 
 /// Nothing is found at the front of a frame that is cut off, and its fault is [`Short`](crate::CodecError::Short)
 /// (C15).
-#[tactic(auto, using(crate::proofs::Fronts::cut_is_short))]
+#[tactic(auto, using(crate::proofs::Fronts::cut_frame_is_short))]
 pub fn cut_frame_is_short()
     ensures { CutFrameIsShort }
 {}

@@ -1,8 +1,9 @@
 //! Arrays of one dimension (PostgreSQL, "Arrays").
 
-ghost use Rattle.std.specs.Prelude.{◌≡◌, IfOk, IfErr, OnOk, OnErr, ◌+◌, ◌*◌, ◌≤◌, false, true, length, map, drop, Ok, Some, [], IfSome, is_some, List, MatchResult, refl};
+ghost use Rattle.std.specs.Prelude.{◌≡◌, IfOk, IfErr, OnOk, OnErr, ◌+◌, ◌*◌, ◌<◌, ◌≤◌, ◌++◌, false, true, length, map, drop, Ok, Some, [], IfSome, is_some, List, MatchResult, refl};
 ghost use Rattle.std.specs.Vec.{with_items};
 ghost use Rattle.pgv_text.specs.Values.{array_values};
+ghost use Rattle.pgv_buf.specs.Tokens.{be4};
 ghost use Rattle.pgv_value.specs.Outcome.{Gives, GivesWhere, after};
 ghost use Rattle.pgv_value.specs.Reading.{has_items};
 ghost use Rattle.pgv_value.specs.declared.error.CodecError.TheVariants.{Memory};
@@ -69,6 +70,19 @@ pub fn type_of_value<T: Encode + Type>(value: &T) -> Result<PgTypeInfo, AllocErr
     }
 }
 
+/// What comes before the elements, where the OID of their type is known.
+#[inline(always)]
+fn known_header(oid: u32, count: u32) -> [u8; 20]
+    ensures bytes { result ≡ be4 1 ++ (be4 0 ++ (be4 oid ++ (be4 count ++ be4 1))) }
+    ensures number { oid < 4294967296 }
+{
+    let [a, b, c, d] = oid.to_be_bytes();
+    let [e, f, g, h] = count.to_be_bytes();
+    [
+        0, 0, 0, 1, 0, 0, 0, 0, a, b, c, d, e, f, g, h, 0, 0, 0, 1,
+    ]
+}
+
 /// What comes before the elements: one dimension and no flags, their type, their number and the lower bound 1.
 fn write_header(
     out: &mut PgArgumentBuffer,
@@ -79,6 +93,10 @@ fn write_header(
     ensures err { IfErr result (λ e. e ≡ Memory) }
     ensures appended { OnErr result (Extends out.old out.new) }
 {
+    if let Some(oid) = element.oid() {
+        out.extend_from_slice(&known_header(oid.0, count))?;
+        return Ok(());
+    }
     let [a, b, c, d] = count.to_be_bytes();
     out.extend_from_slice(&[0, 0, 0, 1, 0, 0, 0, 0])?;
     out.push_type(element)?;
