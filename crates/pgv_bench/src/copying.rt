@@ -41,10 +41,13 @@ fn row_seen(alloc: Global, row: Vec<PgValueRef<'_>>) -> Result<usize, CodecError
     Ok(sum)
 }
 
-/// The same of a row whose list is kept.
+/// The same of a row whose list is kept, from its last field on.
 fn kept_seen(alloc: Global, row: &mut Vec<PgValueRef<'_>>) -> Result<usize, CodecError> {
     let mut sum = 0usize;
-    for (place, value) in row.drain(..).enumerate() {
+    for place in (0..row.len()).rev() {
+        let Some(value) = row.pop() else {
+            return Ok(sum);
+        };
         sum = sum.wrapping_add(field_at(alloc, place, value)?);
     }
     Ok(sum)
