@@ -1,6 +1,6 @@
 //! Lists of bits (PostgreSQL, "Bit String Types"), kept as bytes, eight bits to a byte, the first of them the highest.
 
-ghost use Rattle.std.specs.Prelude.{◌≡◌, ◌↔◌, ◌++◌, ◌+◌, ◌*◌, ◌%◌, ◌^◌, ◌<◌, ◌≤◌, ◌==◌, Bool, false, List, [], ◌∷◌, length, take, map, slice_get, IfOk, OnOk, OnErr, IsOk, IsSome, option_to_list};
+ghost use Rattle.std.specs.Prelude.{◌≡◌, ◌≢◌, ◌↔◌, ◌++◌, ◌+◌, ◌*◌, ◌%◌, ◌^◌, ◌<◌, ◌≤◌, ◌==◌, Bool, false, List, [], ◌∷◌, length, take, map, slice_get, IfOk, MatchResult, OnOk, OnErr, IsOk, IsSome, option_to_list};
 ghost use Rattle.pgv_value.specs.Reading.{has_items};
 ghost use Rattle.pgv_more.specs.Bits.{bits_of, byte_count, low_bits, number_of, packed};
 ghost use Rattle.std.specs.List.{list_all};
@@ -84,8 +84,7 @@ impl BitVec {
         count: usize,
     ) -> Result<BitVec, AllocError>
         requires { length bytes.now ≡ byte_count count }
-        ensures ok { IfOk result (λ b. b ≡ take count (bits_of bytes.now)) }
-        ensures succeeds { count ≡ 0 → IsOk result }
+        ensures { MatchResult result (λ b. b ≡ take count (bits_of bytes.now)) (λ _. count ≢ 0) }
     {
         let mut bytes = copy_of(alloc, bytes)?;
         cut(&mut bytes, count);
@@ -95,8 +94,8 @@ impl BitVec {
     /// The bits of digits `0` and `1`, where there are only these, which is seen before memory is asked for. For no
     /// bits none is.
     pub(crate) fn from_digits(alloc: Global, digits: &[u8]) -> Result<Option<BitVec>, AllocError>
-        ensures bits { IfOk result (λ b. b ≡ bits_in_text digits.now) }
-        ensures succeeds { has_items (bits_in_text digits.now) ≡ false → IsOk result }
+        ensures { MatchResult result (λ b. b ≡ bits_in_text digits.now)
+            (λ _. has_items (bits_in_text digits.now) ≢ false) }
     {
         if !are_digits(digits) {
             return Ok(None);

@@ -56,10 +56,10 @@ field_read None bytes was now told r t = tt
 field_read (Some row) bytes was now (Said text) r t = read_said (row.value InBinary (Some bytes)) (row.refusal InBinary (Some bytes)) bytes text r.0 t
 field_read (Some row) bytes was now (Refused text) r t = read_refused (row.value InBinary (Some bytes)) (row.refusal InBinary (Some bytes)) bytes (string_bytes text) r.0 t
 
-pub field_shows : (a : Option Row) (part : Option (List ℕ)) (bytes : List ℕ) (was now : State) (r : Result Told AllocError) → part ≡ Some bytes → IfOk r (λ told. RespondsBy a (to_read (Some bytes)) was (told_text told) now) →
-    IfOk r (λ told. TellsOf a (to_read (Some bytes)) told) → IfOk r (λ told. ShowsField a part told)
-field_shows a part bytes was now (Err x) e h t = tt
-field_shows a part bytes was now (Ok told) e h t = subst (λ (p : Option (List ℕ)). ShowsField a p told) (sym e) (field_read a bytes was now told h t)
+pub field_shows : (a : Option Row) (part : Option (List ℕ)) (bytes : List ℕ) (was now : State) (r : Result Told AllocError) → part ≡ Some bytes → IfOk r (λ told. RespondsBy a (to_read (Some bytes)) was (told_text told) now × TellsOf a (to_read (Some bytes)) told) →
+    IfOk r (λ told. ShowsField a part told)
+field_shows a part bytes was now (Err x) e h = tt
+field_shows a part bytes was now (Ok told) e h = subst (λ (p : Option (List ℕ)). ShowsField a p told) (sym e) (field_read a bytes was now told h.0 h.1)
 
 pub fields_more : (a : Option Row) (w : Option (List Row)) (v : Given) (row : List Given) (text : Text) (refused : Option Text) (was mid now : List (List ℕ)) → ShowsField a v.bytes (Said text) → mid ≡ was ++ string_bytes text ∷ [] →
     FieldsFrom w row refused mid now → FieldsFrom (with_first a w) (v ∷ row) refused was now

@@ -1,6 +1,5 @@
 -- The lines of an input, put together again.
 use Rattle.std.proofs.Common.{◌≡◌, ◌≢◌, ◌++◌, ◌∙◌, sym, ap, subst, ℕ, ◌==◌, Bool, true, false, List, [], ◌∷◌, refl, append_assoc, append-nil}
-use Rattle.std.specs.Prelude.{◌↔◌}
 use Rattle.std.specs.List.{AllByRecursion}
 use Rattle.std.proofs.lemmas.Bool.{eqb-true, eqb-false, ne_eqb}
 use Rattle.pgv_session.specs.Session.{line_more, lines_from, lines_of, ended, HasNoLineFeed, AreLines}

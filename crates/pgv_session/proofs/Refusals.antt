@@ -1,6 +1,6 @@
 -- A refusal that is not out of memory.
 use Rattle.std.proofs.Common.{◌≡◌, ◌≢◌, ◌==◌, true, false, arith, inl, inr, ◌∙◌, sym, ap, subst, refl, List, ℕ}
-use Rattle.std.specs.Prelude.{Option, Some, None, option_map, Result, Ok, Err, IfOk, string_bytes}
+use Rattle.std.specs.Prelude.{None, option_map, Result, Ok, Err, IfOk, string_bytes}
 use Rattle.std.specs.declared.string.String.{String}
 use Rattle.std.specs.declared.alloc.AllocError.{AllocError}
 use Rattle.std.specs.declared.alloc.Global.{Global}

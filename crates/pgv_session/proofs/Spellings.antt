@@ -1,6 +1,6 @@
 -- What is computed of a line is what it asks for.
 use Rattle.std.proofs.Common.{◌≡◌, ◌++◌, ◌∙◌, sym, ap, subst, ℕ, List, [], ◌∷◌, refl, Option, Some, None, Result, Ok, Err}
-use Rattle.std.specs.Prelude.{◌↔◌, codes, option_map, IfOk}
+use Rattle.std.specs.Prelude.{codes, option_map, IfOk}
 use Rattle.std.specs.declared.alloc.AllocError.{AllocError}
 use Rattle.std.proofs.lemmas.Option.{same_Some}
 use Rattle.hex.specs.Hex.{decode_of}

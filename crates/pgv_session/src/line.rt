@@ -43,8 +43,8 @@ pub enum Request<'a> {
 
 /// The bytes before the first `mark`, and those after it, if there is one.
 pub fn split_at_byte(line: &[u8], mark: u8) -> (&[u8], Option<&[u8]>)
-    ensures before { result.0.now ≡ before mark line.now }
-    ensures rest { option_copied result.1 ≡ rest_after mark line.now }
+    ensures { (result.0.now ≡ before mark line.now)
+        × (option_copied result.1 ≡ rest_after mark line.now) }
 {
     for (place, byte) in line.iter().enumerate() {
         if *byte == mark {
@@ -56,8 +56,8 @@ pub fn split_at_byte(line: &[u8], mark: u8) -> (&[u8], Option<&[u8]>)
 
 /// A line's first word, and what comes after the space that ends it, where one does.
 pub fn split_word(line: &[u8]) -> (&[u8], Option<&[u8]>)
-    ensures word { result.0.now ≡ first_word line.now }
-    ensures rest { option_copied result.1 ≡ after_word line.now }
+    ensures { (result.0.now ≡ first_word line.now)
+        × (option_copied result.1 ≡ after_word line.now) }
 {
     split_at_byte(line, b' ')
 }

@@ -101,10 +101,10 @@ pub fn respond_by(
     name: &[u8],
     ask: Ask,
 ) -> Result<Told, AllocError>
-    ensures answer { IfOk result (λ told.
+    ensures { IfOk result (λ told.
         RespondsBy (row_named types name.now) (ask_seen ask.entry)
-        arguments.old (told_text told) arguments.new) }
-    ensures exact { IfOk result (TellsOf (row_named types name.now) (ask_seen ask.entry)) }
+        arguments.old (told_text told) arguments.new
+        × TellsOf (row_named types name.now) (ask_seen ask.entry) told) }
 {
     match type_name(name) {
         Some(name) => respond(alloc, arguments, name, ask),
@@ -119,10 +119,10 @@ fn respond(
     name: TypeName,
     ask: Ask,
 ) -> Result<Told, AllocError>
-    ensures answer { IfOk result (λ told.
+    ensures { IfOk result (λ told.
         RespondsBy (Some (row_of name)) (ask_seen ask.entry)
-        arguments.old (told_text told) arguments.new) }
-    ensures exact { IfOk result (TellsOf (Some (row_of name)) (ask_seen ask.entry)) }
+        arguments.old (told_text told) arguments.new
+        × TellsOf (Some (row_of name)) (ask_seen ask.entry) told) }
 {
     match name {
         TypeName::Bool => respond_as::<bool>(alloc, arguments, ask),
@@ -166,11 +166,10 @@ fn respond_as<T: Codec>(
     ask: Ask,
 ) -> Result<Told, AllocError>
     requires { reading_of T.parse T.info InBinary None ≡ None }
-    ensures answer { IfOk result (λ told.
+    ensures { IfOk result (λ told.
         RespondsBy (Some (row T.info T.parse T.written)) (ask_seen ask.entry)
-        arguments.old (told_text told) arguments.new) }
-    ensures exact { IfOk result (λ told.
-        TellsOf (Some (row T.info T.parse T.written)) (ask_seen ask.entry) told) }
+        arguments.old (told_text told) arguments.new
+        × TellsOf (Some (row T.info T.parse T.written)) (ask_seen ask.entry) told) }
 {
     match ask {
         Ask::Add(text) => Ok(Told::Said(add::<T>(alloc, arguments, text)?)),
@@ -232,11 +231,10 @@ fn placeholder(alloc: Global, arguments: &PgArguments) -> Result<String, AllocEr
 /// The frame that the value of null or bytes writes, in hex.
 fn read<T: Codec>(alloc: Global, part: Option<&[u8]>) -> Result<Told, AllocError>
     requires { reading_of T.parse T.info InBinary None ≡ None }
-    ensures answer { IfOk result (λ told.
+    ensures { IfOk result (λ told.
         ReadsPart (row T.info T.parse T.written) (option_copied part.entry)
-        (told_text told)) }
-    ensures exact { IfOk result (λ told.
-        TellsOf (Some (row T.info T.parse T.written)) (to_read (option_copied part.entry)) told) }
+        (told_text told)
+        × TellsOf (Some (row T.info T.parse T.written)) (to_read (option_copied part.entry)) told) }
 {
     match T::decode(
         alloc,
@@ -249,11 +247,10 @@ fn read<T: Codec>(alloc: Global, part: Option<&[u8]>) -> Result<Told, AllocError
 
 /// The frame that a value writes, in hex, or why it is refused.
 fn frame_text<T: Encode + Type>(alloc: Global, value: &T) -> Result<Told, AllocError>
-    ensures answer { IfOk result (λ told.
+    ensures { IfOk result (λ told.
         Shows (framed_as T.info (T.encoding value.now))
-        (why_of (frame (T.encoding value.now)).answer) (told_text told)) }
-    ensures exact { IfOk result (λ told.
-        is_said told ≡ is_some (framed_as T.info (T.encoding value.now))) }
+        (why_of (frame (T.encoding value.now)).answer) (told_text told)
+        × (is_said told ≡ is_some (framed_as T.info (T.encoding value.now)))) }
 {
     let mut buffer = PgArgumentBuffer::new(alloc);
     match buffer.encode(value) {

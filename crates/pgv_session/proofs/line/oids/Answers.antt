@@ -7,7 +7,7 @@ pub returns-in_default-oid : goal.returns-in_default-oid
 returns-in_default-oid c = oid_none c.loop-left.oids.items c.in-Some.text.now c.args.text.now (search rules) (search rules)
 
 pub loop-left-smaller : goal.loop-left-smaller
-loop-left-smaller c = less_left c.in-Some.text.now (option_copied c.loop-left.left) (option_copied c.split_word.result.1) (search rules) c.split_word.ensures.rest
+loop-left-smaller c = less_left c.in-Some.text.now (option_copied c.loop-left.left) (option_copied c.split_word.result.1) (search rules) c.split_word.ensures.1
 
 pub loop-left-preserved : goal.loop-left-preserved
-loop-left-preserved c = oid_more c.loop-left.oids.items c.push.new.self.items c.in-Some-oid.oid c.in-Some.text.now c.args.text.now (option_copied c.split_word.result.1) c.in_ok-push.ensures.items c.split_word.ensures.rest (search rules) (search rules)
+loop-left-preserved c = oid_more c.loop-left.oids.items c.push.new.self.items c.in-Some-oid.oid c.in-Some.text.now c.args.text.now (option_copied c.split_word.result.1) c.in_ok-push.ensures.items c.split_word.ensures.1 (search rules) (search rules)

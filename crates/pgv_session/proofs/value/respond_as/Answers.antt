@@ -5,8 +5,8 @@ use Rattle.pgv_codec.proofs.Frames.{null_frame}
 use Rattle.pgv_session.proofs.value.respond_as.Goals as goal
 
 -- null has a frame
-pub returns-in-Null-clause-answer : goal.returns-in-Null-clause-answer
-returns-in-Null-clause-answer g c =
+pub returns-in-Null : goal.returns-in-Null
+returns-in-Null g c =
     let e = option_encoding g.T.Type.info g.T.Encode.encoding None in
     let is : (frame e).answer ≡ Ok (bytes (be4 4294967295)) = null_frame e (omega arith) refl in
     let told = rw is at c.add_value.ensures in

@@ -9,8 +9,8 @@ invariant_of-result c =
     let room : c.args.count ≤ 8 * length c.in_ok-bytes.bytes.items = omega (arith, c.requires, ap length same) in
     closes c.cut.new.bytes.items c.args.count (take c.args.count (bits_of c.in_ok-bytes.bytes.items)) c.cut.ensures (sym (kept_count c.in_ok-bytes.bytes.items c.args.count room))
 
-pub returns-clause-ok : goal.returns-clause-ok
-returns-clause-ok c =
+pub returns : goal.returns
+returns c =
     let same = c.in_ok-bytes.ensures.ok in
     let room : c.args.count ≤ 8 * length c.in_ok-bytes.bytes.items = omega (arith, c.requires, ap length same) in
     shows c.cut.new.bytes.items c.args.count (take c.args.count (bits_of c.in_ok-bytes.bytes.items)) c.cut.ensures (sym (kept_count c.in_ok-bytes.bytes.items c.args.count room))

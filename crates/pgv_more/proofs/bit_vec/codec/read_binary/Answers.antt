@@ -12,10 +12,6 @@ use Rattle.pgv_more.specs.BitsBinary.{bits_in_binary, bit_count}
 use Rattle.pgv_more.proofs.Kept.{kept_count}
 use Rattle.pgv_more.proofs.bit_vec.codec.read_binary.Goals as goal
 
-positive : (n : ℕ) → (n ≡ 0 → false ≡ true) → 0 < n
-positive zero none = absurd (false≢true (none refl))
-positive (suc n) none = omega arith
-
 there : (bits : List Bool) → 0 < length bits → (copied {X = Bool} (Ok bits)).may_alloc ≡ true
 there [] l = absurd (omega (arith, l))
 there (bit ∷ bits) l = refl
@@ -39,6 +35,6 @@ some_bits form body count e some few size = by_number (nat_lt (length form) 4) f
 pub returns-in_err-from_packed : goal.returns-in_err-from_packed
 returns-in_err-from_packed c =
     let p = err_from_is_err_and c.from_residual-in_err-from_packed.result c.from_residual-in_err-from_packed.ensures.1 in
-    let some = positive c.in_ok-count.count (λ is. rw c.in_err-from_packed.was at (c.from_packed.ensures.succeeds is)) in
+    let some : 0 < c.in_ok-count.count = omega (arith, c.in_err-from_packed.ensures) in
     let asked = some_bits c.args.form.now c.in_ok-count.body.now c.in_ok-count.count c.in_ok-count.ensures.exact some c.if-count-gt2147483647.false (omega (arith, c.if-body-div_ceil.false, c.div_ceil.ensures)) in
     rw (p.1, p.2) (inr (inr (refl, asked)))
