@@ -405,9 +405,8 @@ fn read_text<T: Decode + Type>(alloc: Global, text: &str) -> Result<Vec<T>, Code
 /// Whether a text is that of an array without elements.
 #[inline(always)]
 fn is_empty_array(text: &str) -> bool
-    ensures empty { result ≡ true → array_values text.now ≡ Some [] }
-    ensures others { result ≡ false → has_items (array_values text.now)
-        ≡ is_some (array_values text.now) }
+    ensures { (result ≡ true → array_values text.now ≡ Some [])
+        × (result ≡ false → has_items (array_values text.now) ≡ is_some (array_values text.now)) }
 {
     match Elements::of_text(text) {
         Some(elements) => elements.is_at_end(),
