@@ -78,9 +78,7 @@ fn known_header(oid: u32, count: u32) -> [u8; 20]
 {
     let [a, b, c, d] = oid.to_be_bytes();
     let [e, f, g, h] = count.to_be_bytes();
-    [
-        0, 0, 0, 1, 0, 0, 0, 0, a, b, c, d, e, f, g, h, 0, 0, 0, 1,
-    ]
+    [0, 0, 0, 1, 0, 0, 0, 0, a, b, c, d, e, f, g, h, 0, 0, 0, 1]
 }
 
 /// What comes before the elements: one dimension and no flags, their type, their number and the lower bound 1.

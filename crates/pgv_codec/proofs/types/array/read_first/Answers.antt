@@ -28,7 +28,7 @@ loop-place-preserved g c =
 
 pub returns : goal.returns
 returns g c = (
-    first_ends g.T.Decode.parse c.args.count c.args.bytes.now (map g.T.Decode.view c.loop-place.items.items) c.loop-place.place c.min-whole.result c.width_at_once-width.result c.split_at-2.result.1.now
-    c.loop-place.auto.place-end c.loop-place-test.false c.split_at-2.ensures.back c.loop-place.invariant.3,
-    omega (arith, c.loop-place.invariant.1, c.loop-place.auto.place-end, c.loop-place-test.false, c.min-whole.ensures),
-  )
+  first_ends g.T.Decode.parse c.args.count c.args.bytes.now (map g.T.Decode.view c.loop-place.items.items) c.loop-place.place c.min-whole.result c.width_at_once-width.result c.split_at-2.result.1.now
+      c.loop-place.auto.place-end c.loop-place-test.false c.split_at-2.ensures.back c.loop-place.invariant.3,
+  omega (arith, c.loop-place.invariant.1, c.loop-place.auto.place-end, c.loop-place-test.false, c.min-whole.ensures),
+)
