@@ -1,10 +1,10 @@
 -- What is computed of a text is what it is of: the parts of a nest, or the empty range.
-use Rattle.std.proofs.Common.{◌≡◌, ◌↔◌, ◌<◌, ◌+◌, ℕ, zero, suc, Bool, true, false, cond, ◌||◌, ◌==◌, List, [], ◌∷◌, length, map, Option, Some, None, IfSome, ap, subst, ◌∙◌, sym, refl, arith}
+use Rattle.std.proofs.Common.{◌≡◌, ◌↔◌, ◌<◌, ◌+◌, ℕ, zero, suc, Bool, true, false, cond, ◌||◌, ◌==◌, List, [], ◌∷◌, length, map, Option, Some, None, ap, subst, ◌∙◌, sym, refl, arith}
 use Rattle.std.specs.Prelude.{codes, nat_lt, if◌then◌else◌}
 use Rattle.std.specs.Bool.{Decides}
 use Rattle.std.specs.Char.{to_ascii_lowercase}
 use Rattle.std.specs.List.{AllByRecursion}
-use Rattle.std.specs.Option.{option_map}
+use Rattle.std.specs.Option.{MatchOption, option_map}
 use Rattle.std.specs.Str.{chars, str_to_ascii_lowercase, IsAscii, IsUtf8}
 use Rattle.std.proofs.lemmas.Bool.{eqb-true, false≢true, false_from_ne_true}
 use Rattle.std.proofs.lemmas.Option.{same_Some}
@@ -13,12 +13,14 @@ use Rattle.std.proofs.lemmas.Str.{chars-IsAscii, encodes-IsAscii, encodes-chars}
 use Rattle.pgv_text.specs.declared.parts.Parts.{Parts}
 use Rattle.pgv_text.specs.declared.scanner.TextForm.{TextForm}
 use Rattle.pgv_text.specs.declared.scanner.TextForm.TheVariants.{Array, Range, Record}
-use Rattle.pgv_text.specs.ContentText.{RangeContent, empty, parts, Content, IsEmptyText, IsRangeOf, is_empty_text, is_empty_in, range_content, content_of}
+use Rattle.pgv_text.specs.ContentText.{RangeContent, empty, parts, IsEmptyText, IsRangeOf, is_empty_text, is_empty_in, no_parts, range_content, content_of}
 use Rattle.pgv_text.specs.Forms.{form_of}
 use Rattle.pgv_text.specs.NestText.{Nest, IsNestText}
 use Rattle.pgv_text.specs.Parsed.{nest_of}
-use Rattle.pgv_text.specs.PartsView.{nest, is_of_empty, content}
+use Rattle.pgv_text.specs.PartsView.{AreBounded, ArePartsOf, nest, is_of_empty, content}
 use Rattle.pgv_text.specs.RangeText.{range_form}
+use Rattle.pgv_text.specs.Scan.{nest_read}
+use Rattle.pgv_text.proofs.Bytes.{nest_bytes}
 use Rattle.pgv_text.proofs.Nests.{nest_sound, nest_complete, as_many}
 
 -- ---- the text `empty`
@@ -112,21 +114,40 @@ one_range text content other h k = same_Some content other (sym (range_there tex
 two_bounds : (text : List ℕ) (nest : Nest) → IsNestText range_form text nest → length nest.values ≡ 2
 two_bounds text nest n = as_many _ n.parts nest.values n.values ∙ n.counted
 
-pub two_bounds_of : (text : List ℕ) (p : Parts) → option_map (content Range) (Some p) ≡ range_content text → is_of_empty p ≡ false → length (nest p).values ≡ 2
-two_bounds_of text p e f = let some : Some (parts (nest p)) ≡ range_content text = rw f at e in two_bounds text (nest p) ((range_is text (parts (nest p))).0 (sym some))
+pub two_bounds_of : (text : List ℕ) (p : Parts) → range_content text ≡ Some (content Range p) → is_of_empty p ≡ false → length (nest p).values ≡ 2
+two_bounds_of text p e f = let some : range_content text ≡ Some (parts (nest p)) = rw f at e in two_bounds text (nest p) ((range_is text (parts (nest p))).0 some)
 
--- the empty range
-pub empty_computed : (form : TextForm) (text : List ℕ) (p : Parts) → is_empty_in form text ≡ true → is_of_empty p ≡ true → (let o : Option (Content form) = Some (content form p) in o) ≡ content_of form text
-empty_computed Array text p e h = absurd (false≢true e)
-empty_computed Range text p e h = rw (e, h) refl
-empty_computed Record text p e h = absurd (false≢true e)
+-- of the empty range, where they are none
+empty_denoted : (form : TextForm) (text : List ℕ) (p : Parts) → is_empty_in form text ≡ true → is_of_empty p ≡ true → content_of form text ≡ Some (content form p)
+empty_denoted Array text p e h = absurd (false≢true e)
+empty_denoted Range text p e h = rw (e, h) refl
+empty_denoted Record text p e h = absurd (false≢true e)
 
--- the parts of a nest
-bounds_shown : (o : Option Parts) → IfSome o (λ p. is_of_empty p ≡ false) → option_map (content Range) o ≡ option_map parts (option_map nest o)
-bounds_shown None h = refl
-bounds_shown (Some p) h = rw h refl
+pub empty_parts : (form : TextForm) (text : List ℕ) (p : Parts) → IsUtf8 text → is_empty_in form text ≡ true → is_of_empty p ≡ true → nest p ≡ no_parts → ArePartsOf form text p
+empty_parts form text p u e h n = record {
+  denoted = empty_denoted form (chars text) p (empty_bytes form text u ∙ e) h;
+  of_empty = h ∙ sym e;
+  nothing = λ _. n;
+  copied = λ f. absurd (false≢true (sym f ∙ h));
+}
 
-pub nest_computed : (form : TextForm) (text : List ℕ) (o : Option Parts) → is_empty_in form text ≡ false → IfSome o (λ p. is_of_empty p ≡ false) → option_map nest o ≡ nest_of (form_of form) text → option_map (content form) o ≡ content_of form text
-nest_computed Array text o e h n = n
-nest_computed Range text o e h n = bounds_shown o h ∙ ap (option_map parts) n ∙ rw e refl
-nest_computed Record text o e h n = n
+-- of a nest
+nest_denoted : (form : TextForm) (text : List ℕ) (p : Parts) → is_empty_in form text ≡ false → is_of_empty p ≡ false → nest_of (form_of form) text ≡ Some (nest p) → content_of form text ≡ Some (content form p)
+nest_denoted Array text p e h n = n
+nest_denoted Range text p e h n = rw (e, h, n) refl
+nest_denoted Record text p e h n = n
+
+none_denoted : (form : TextForm) (text : List ℕ) → is_empty_in form text ≡ false → nest_of (form_of form) text ≡ None → content_of form text ≡ None
+none_denoted Array text e n = n
+none_denoted Range text e n = rw (e, n) refl
+none_denoted Record text e n = n
+
+pub nest_parts : (form : TextForm) (text : List ℕ) → IsUtf8 text → is_empty_in form text ≡ false →
+    (o : Option Parts) → MatchOption o (nest_read (form_of form) text ≡ None) (AreBounded form text) → MatchOption o (content_of form (chars text) ≡ None) (ArePartsOf form text)
+nest_parts form text u e None h = none_denoted form (chars text) (empty_bytes form text u ∙ e) (sym (nest_bytes form text u) ∙ h)
+nest_parts form text u e (Some p) h = record {
+  denoted = nest_denoted form (chars text) p (empty_bytes form text u ∙ e) h.bounded (sym (nest_bytes form text u) ∙ h.found);
+  of_empty = h.bounded ∙ sym e;
+  nothing = λ f. absurd (false≢true (sym h.bounded ∙ f));
+  copied = λ _. h.copied;
+}

@@ -1,6 +1,6 @@
 -- A number's text in the words of `parse`, and its computed number.
 use Rattle.std.proofs.Common.{◌≡◌, ℕ, ◌+◌, ◌<◌, ℤ, Bool, true, false, ◌==◌, List, [], ◌∷◌, ◌++◌, map, length, ap, ◌∙◌, sym, refl, arith, get_or, not, cond, ◌&&◌, nat_lt, Some, None, Ok, Err, Result, subst, ◌↔◌, ◌^◌, IsTrue, if◌then◌else◌}
-use Rattle.std.specs.Prelude.{pos, neg_ℤ}
+use Rattle.std.specs.Prelude.{FitsSigned, pos, neg_ℤ}
 use Rattle.std.specs.List.{AllByRecursion, list_all}
 use Rattle.std.specs.Char.{digit_value}
 use Rattle.std.specs.Int.Digits.{number_from_digits}
@@ -17,7 +17,18 @@ use Rattle.std.proofs.lemmas.Bool.{and_parts, eqb-true, ne_eqb, ltb-true, lt-ltb
 use Rattle.std.proofs.lemmas.Option.{cond_some}
 use Rattle.pgv_text.specs.declared.number.NumberFault.{NumberFault}
 use Rattle.pgv_text.specs.declared.number.NumberFault.TheVariants.{Syntax, OutOfRange}
-use Rattle.pgv_text.specs.NumberText.{Sign, none, plus, minus, sign_text, signed, IsNumber, plus_text, IsUnsignedNumber, is_numeral, number_value, unsigned_value, IsRead, IsComputed, IsUnsignedRead, IsUnsignedComputed, OneNumber, OneUnsignedNumber, NumberIsItsValue, UnsignedIsItsValue}
+use Rattle.pgv_text.specs.NumberText.{Sign, none, plus, minus, sign_text, signed, IsNumber, plus_text, IsUnsignedNumber, is_numeral, number_value, unsigned_value, IsComputed, IsUnsignedComputed, OneNumber, OneUnsignedNumber, NumberIsItsValue, UnsignedIsItsValue}
+
+-- The number of a text, that it does not fit in 64 bits, or that the text is not a number.
+abbrev IsRead : List ℕ → Result ℤ NumberFault → Type 0
+IsRead text (Ok n) = IsNumber text n × FitsSigned w64 n
+IsRead text (Err OutOfRange) = (n : ℤ) × IsNumber text n × ¬ (FitsSigned w64 n)
+IsRead text (Err Syntax) = (n : ℤ) → ¬ (IsNumber text n)
+
+abbrev IsUnsignedRead : List ℕ → Result ℕ NumberFault → Type 0
+IsUnsignedRead text (Ok n) = IsUnsignedNumber text n × (n < 2 ^ 64)
+IsUnsignedRead text (Err OutOfRange) = (n : ℕ) × IsUnsignedNumber text n × ¬ (n < 2 ^ 64)
+IsUnsignedRead text (Err Syntax) = (n : ℕ) → ¬ (IsUnsignedNumber text n)
 
 value_digit : (d : ℕ) → d < 10 → digit_value (48 + d) ≡ d
 value_digit d h =

@@ -1,17 +1,19 @@
 -- A usual byte of a text, and those that are after it, in one step.
-use Rattle.std.proofs.Common.{◌≡◌, ◌<◌, ℕ, zero, suc, ◌+◌, ◌==◌, true, List, [], ◌∷◌, length, take, drop, Option, Some, None, IfSome, ap, sym, ◌∙◌, refl, arith}
+use Rattle.std.proofs.Common.{◌≡◌, ◌⊎◌, inl, inr, ◌<◌, ℕ, zero, suc, ◌+◌, ◌==◌, Bool, false, true, List, [], ◌∷◌, ◌++◌, length, take, drop, Option, Some, None, ap, sym, ◌∙◌, refl, arith}
 use Rattle.std.specs.List.{slice_index}
 use Rattle.std.proofs.lemmas.Bool.{eqb-true}
-use Rattle.std.specs.Option.{option_map}
+use Rattle.std.proofs.lemmas.List.{length-append}
+use Rattle.std.specs.Option.{MatchOption, option_map}
 use Rattle.pgv_text.specs.declared.scanner.TextForm.{TextForm}
 use Rattle.pgv_text.specs.declared.scanner.Class.TheVariants.{Other}
 use Rattle.pgv_text.specs.declared.scanner.Place.{Place}
-use Rattle.pgv_text.specs.declared.scanner.Cell.TheVariants.{Keep, Pass}
+use Rattle.pgv_text.specs.declared.scanner.Cell.TheVariants.{End, Keep, Part, Pass}
 use Rattle.pgv_text.specs.declared.scanner.Cell.{Cell}
 use Rattle.pgv_text.specs.NestText.{Form}
 use Rattle.pgv_text.specs.declared.scanner.Stop.{Stop}
 use Rattle.pgv_text.specs.Forms.{form_of}
-use Rattle.pgv_text.specs.PartFound.{IsPartFrom}
+use Rattle.pgv_text.specs.Copies.{copies_after, copies_by, copies_from}
+use Rattle.pgv_text.specs.PartFound.{IsRun}
 use Rattle.pgv_text.specs.Scan.{Rest, class, cell, grown, kept, read, read_by}
 use Rattle.pgv_text.proofs.Stops.{grown_none}
 
@@ -62,7 +64,21 @@ pub none_in : (xs : List ℕ) → (length xs == 0) ≡ true → xs ≡ []
 none_in [] h = refl
 none_in (x ∷ xs) h = let e : length (x ∷ xs) ≡ 0 = eqb-true (length (x ∷ xs)) 0 h in absurd (omega (arith, e))
 
--- where reading goes on elsewhere, so does a part
-pub part_from : (form : TextForm) (p q : Place) (text rest : List ℕ) → read (form_of form) p text ≡ read (form_of form) q rest → (found : Option Stop) → IfSome found (IsPartFrom form q rest) → IfSome found (IsPartFrom form p text)
-part_from form p q text rest e None h = tt
-part_from form p q text rest e (Some s) h = (e ∙ h.0, h.1)
+-- what is after a stop is shorter than what it is in
+pub stop_shorter : (text run rest : List ℕ) (b : ℕ) → text ≡ run ++ b ∷ rest → length rest < length text
+stop_shorter text run rest b e = rw e (omega (arith, length-append run (b ∷ rest)))
+
+-- where a part ends, what is copied after it begins
+pub copies_ended : (form : Form) (place : Place) (text rest : List ℕ) (k : Cell) → copies_after form place text ≡ copies_by form rest (λ q. copies_after form q rest) k → (k ≡ Part) ⊎ (k ≡ End) → copies_after form place text ≡ copies_from form rest
+copies_ended form place text rest k e (inl h) = e ∙ rw h refl
+copies_ended form place text rest k e (inr h) = e ∙ rw h refl
+
+-- where reading goes on elsewhere, so does a run
+pub run_from : (form : TextForm) (p q : Place) (text rest : List ℕ) (a b : Bool) → a ≡ b →
+    read (form_of form) p text ≡ read (form_of form) q rest → copies_after (form_of form) p text ≡ copies_after (form_of form) q rest → length rest < length text →
+    (found : Option Stop) → MatchOption found (b ≡ false) (λ stop. (b ≡ true) × IsRun form q rest stop) → MatchOption found (a ≡ false) (λ stop. (a ≡ true) × IsRun form p text stop)
+run_from form p q text rest a b e same copied shorter None h = e ∙ h
+run_from form p q text rest a b e same copied shorter (Some s) h = (
+  e ∙ h.0,
+  record { part = (same ∙ h.1.part.0, h.1.part.1); shorter = omega (arith, shorter, h.1.shorter); copies = copied ∙ h.1.copies },
+)

@@ -1,6 +1,6 @@
 -- What the texts of dates, times and offsets are made of: fields of digits, and the fraction of a second (PostgreSQL:
 -- "Date/Time Input", 8.5.1; "Date/Time Output", 8.5.2).
-use Rattle.std.specs.Prelude.{◌≡◌, ℕ, ◌+◌, ◌-◌, ◌*◌, ◌/◌, ◌%◌, ◌^◌, ◌<◌, ◌≤◌, ◌⊎◌, nat_lt, ◌==◌, ◌&&◌, if◌then◌else◌, List, [], ◌∷◌, ◌++◌, map, length, Option, Some, None, option_map, option_and_then}
+use Rattle.std.specs.Prelude.{◌≡◌, ℕ, ◌+◌, ◌-◌, ◌*◌, ◌/◌, ◌%◌, ◌^◌, ◌<◌, ◌≤◌, ◌⊎◌, nat_lt, ◌==◌, ◌&&◌, if◌then◌else◌, List, [], ◌∷◌, ◌++◌, map, length, Option, Some, None, option_map, option_and_then, IfSome}
 use Rattle.std.specs.List.{AllByRecursion}
 use Rattle.std.specs.Char.{is_ascii_digit}
 use Rattle.std.specs.Int.Digits.{number_from_digits}
@@ -88,3 +88,19 @@ whole read = do
 -- What a function read at the front, its value seen through `view`.
 abbrev pub in_front : {A B : Type 0} → (A → B) → Option (A × Bor (List ℕ)) → Front B
 in_front view read = option_map (λ found. (view found.0, found.1.now)) read
+
+-- What is read is this number and the text after it, and it is below the limit.
+pub record IsFrontBelow (limit : ℕ) (number : Front ℕ) (read : Option (ℕ × Bor (List ℕ))) : Type 0 where
+  pub value : in_front (λ n. n) read ≡ number
+  pub below : IfSome read (λ found. found.0 < limit)
+
+-- What is read is this number, and it is below the limit.
+pub record IsBelow (limit : ℕ) (number read : Option ℕ) : Type 0 where
+  pub value : read ≡ number
+  pub below : IfSome read (λ n. n < limit)
+
+-- So much the digits are worth, the first of them this unit: less than ten of it.
+pub record AreWorth (unit : ℕ) (text : List ℕ) (number : ℕ) (rest : List ℕ) : Type 0 where
+  pub value : (number, rest) ≡ worth unit text
+  pub none : unit ≡ 0 → number ≡ 0
+  pub below : 0 < unit → number < 10 * unit

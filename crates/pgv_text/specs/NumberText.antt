@@ -47,17 +47,6 @@ pub record IsUnsignedNumber (text : List ℕ) (n : ℕ) : Type 0 where
   pub whole : text ≡ plus_text plus ++ map (λ d. 48 + d) digits
   pub value : n ≡ number_from_digits 10 digits
 
--- The number of a text, that it does not fit in 64 bits, or that the text is not a number.
-abbrev pub IsRead : List ℕ → Result ℤ NumberFault → Type 0
-IsRead text (Ok n) = IsNumber text n × FitsSigned w64 n
-IsRead text (Err OutOfRange) = (n : ℤ) × IsNumber text n × ¬ (FitsSigned w64 n)
-IsRead text (Err Syntax) = (n : ℤ) → ¬ (IsNumber text n)
-
-abbrev pub IsUnsignedRead : List ℕ → Result ℕ NumberFault → Type 0
-IsUnsignedRead text (Ok n) = IsUnsignedNumber text n × (n < 2 ^ 64)
-IsUnsignedRead text (Err OutOfRange) = (n : ℕ) × IsUnsignedNumber text n × ¬ (n < 2 ^ 64)
-IsUnsignedRead text (Err Syntax) = (n : ℕ) → ¬ (IsUnsignedNumber text n)
-
 -- Whether there is one digit or more, and nothing else.
 abbrev pub is_numeral : List ℕ → Bool
 is_numeral text = not (length text == 0) && list_all (λ c. nat_lt (digit_value c) 10) text

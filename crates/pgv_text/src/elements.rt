@@ -1,6 +1,6 @@
 //! The elements of an array text, read as they come.
 
-ghost use Rattle.std.specs.Prelude.{◌≡◌, ◌<◌, ℕ, List, IfOk, None, OnErr, false, length, string_bytes, true};
+ghost use Rattle.std.specs.Prelude.{◌≡◌, ◌<◌, ℕ, List, MatchResult, None, false, length, string_bytes, true};
 ghost use Rattle.std.specs.Option.{MatchOption};
 ghost use Rattle.pgv_text.specs.ArrayText.{array_form};
 ghost use Rattle.pgv_text.specs.ElementsView.{Follows, ahead, element_copied, is_end};
@@ -89,11 +89,10 @@ impl<'a> Elements<'a> {
     /// come `a` and `b c`, both borrowed, and then the end.
     #[inline(always)]
     pub fn next_borrowed(&mut self, text: &mut String) -> Result<Next<'a>, AllocError>
-        ensures next { IfOk result (λ next. Follows next (string_bytes text.new)
-            self.old self.new) }
-        ensures err { OnErr result (self.new ≡ self.old) }
         // Only for an element that is copied memory is asked for.
-        ensures copied { OnErr result (element_copied self.old ≡ true) }
+        ensures { MatchResult result
+            (λ next. Follows next (string_bytes text.new) self.old self.new)
+            (λ _. (self.new ≡ self.old) × (element_copied self.old ≡ true)) }
     {
         if self.ended {
             return Ok(Next::End);

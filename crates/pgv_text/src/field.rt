@@ -1,7 +1,7 @@
 //! What the texts of dates, times and offsets are made of: fields of digits, separators, and the fraction of a second.
 //! Each function reads the front of a text, and gives the text after it.
 
-ghost use Rattle.std.specs.Prelude.{◌≡◌, ◌<◌, ◌≤◌, ◌*◌, IfSome};
+ghost use Rattle.std.specs.Prelude.{◌≡◌, ◌≤◌};
 ghost use Rattle.std.specs.Option.{option_copied};
 ghost use Rattle.pgv_text.specs.FieldText as spec;
 
@@ -17,8 +17,7 @@ pub(crate) fn after(text: &[u8], byte: u8) -> Option<&[u8]>
 
 /// The number of two digits.
 pub(crate) fn two(text: &[u8]) -> Option<(u8, &[u8])>
-    ensures value { spec.in_front (λ n. n) result ≡ spec.two text.now }
-    ensures bound { IfSome result (λ found. found.0 < 100) }
+    ensures { spec.IsFrontBelow 100 (spec.two text.now) result }
 {
     match text {
         [high @ b'0'..=b'9', low @ b'0'..=b'9', rest @ ..] => {
@@ -30,8 +29,7 @@ pub(crate) fn two(text: &[u8]) -> Option<(u8, &[u8])>
 
 /// The number of two digits, if it is below the limit.
 pub(crate) fn two_below(text: &[u8], limit: u8) -> Option<(u8, &[u8])>
-    ensures value { spec.in_front (λ n. n) result ≡ spec.two_below limit text.now }
-    ensures bound { IfSome result (λ found. found.0 < limit) }
+    ensures { spec.IsFrontBelow limit (spec.two_below limit text.now) result }
 {
     let (number, rest) = two(text)?;
     if number < limit {
@@ -43,8 +41,7 @@ pub(crate) fn two_below(text: &[u8], limit: u8) -> Option<(u8, &[u8])>
 
 /// The number of four digits.
 pub(crate) fn four(text: &[u8]) -> Option<(u16, &[u8])>
-    ensures value { spec.in_front (λ n. n) result ≡ spec.four text.now }
-    ensures bound { IfSome result (λ found. found.0 < 10_000) }
+    ensures { spec.IsFrontBelow 10_000 (spec.four text.now) result }
 {
     let (high, text) = two(text)?;
     let (low, text) = two(text)?;
@@ -55,9 +52,7 @@ pub(crate) fn four(text: &[u8]) -> Option<(u16, &[u8])>
 /// down to 1.
 fn worth(text: &[u8], unit: u32) -> (u32, &[u8])
     requires { unit ≤ 100_000 }
-    ensures value { (result.0, result.1.now) ≡ spec.worth unit text.now }
-    ensures none { unit ≡ 0 → result.0 ≡ 0 }
-    ensures bound { 0 < unit → result.0 < 10 * unit }
+    ensures { spec.AreWorth unit text.now result.0 result.1.now }
 {
     match text {
         [digit @ b'0'..=b'9', rest @ ..] if unit > 0 => {
@@ -70,8 +65,7 @@ fn worth(text: &[u8], unit: u32) -> (u32, &[u8])
 
 /// The nanoseconds of a fraction of a second, of one to six digits, or 0 where the text does not begin with `.`.
 pub(crate) fn fraction(text: &[u8]) -> Option<(u32, &[u8])>
-    ensures value { spec.in_front (λ n. n) result ≡ spec.fraction text.now }
-    ensures bound { IfSome result (λ found. found.0 < 1_000_000_000) }
+    ensures { spec.IsFrontBelow 1_000_000_000 (spec.fraction text.now) result }
 {
     match text {
         [b'.', b'0'..=b'9', ..] => {

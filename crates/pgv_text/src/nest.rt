@@ -3,7 +3,7 @@
 //! [`record_is_its_values`](crate::laws::record_is_its_values) and
 //! [`range_is_computed`](crate::laws::range_is_computed).
 
-ghost use Rattle.std.specs.Prelude.{◌≡◌, ◌≢◌, [], Some, IfOk, OnErr, MatchResult, is_some, length, true};
+ghost use Rattle.std.specs.Prelude.{◌≡◌, ◌≢◌, [], Some, IfOk, MatchResult, is_some, length, true};
 ghost use Rattle.std.specs.Option.{option_map};
 ghost use Rattle.std.specs.Str.{chars};
 ghost use Rattle.pgv_text.specs.ContentText.{empty, parts as parts_of, range_content};
@@ -62,10 +62,10 @@ pub enum RangeText {
 /// if it is not a range text.
 #[tactic(auto, using(crate::proofs::Contents::two_bounds_of))]
 pub fn range_parts(alloc: Global, text: &str) -> Result<Option<RangeText>, AllocError>
-    ensures computed { IfOk result (λ found. option_map range_of found
-        ≡ range_content (chars text.now)) }
     // Memory is asked for only where there are bounds.
-    ensures asks { OnErr result ((is_some (range_content (chars text.now)) ≡ true)
+    ensures { MatchResult result
+        (λ found. option_map range_of found ≡ range_content (chars text.now))
+        (λ _. (is_some (range_content (chars text.now)) ≡ true)
         × (range_content (chars text.now) ≢ Some empty)) }
 {
     let Some(parts) = Parts::new(TextForm::Range, text) else {

@@ -1,7 +1,7 @@
 //! Addresses with the length of their network part, and their texts, as PostgreSQL writes `inet` and `cidr`.
 
-ghost use Rattle.std.specs.Prelude.{◌≡◌, ◌↔◌, ◌≤◌, IsSome, IfSome};
-ghost use Rattle.std.specs.Option.{option_map};
+ghost use Rattle.std.specs.Prelude.{◌≡◌, ◌<◌, ◌≤◌};
+ghost use Rattle.std.specs.Option.{MatchOption, option_map};
 ghost use Rattle.pgv_text.specs.AddressText.{address_value, prefix_value};
 
 use std::net::{IpAddr, Ipv4Addr, Ipv6Addr};
@@ -18,8 +18,8 @@ impl Ipv4Network {
     /// The network of an address and a prefix; `None` if the prefix is above 32. `192.168.0.0` and 24 are
     /// `192.168.0.0/24`; with 33 it is `None`.
     pub fn new(ip: Ipv4Addr, prefix: u8) -> Option<Ipv4Network>
-        ensures found { IsSome result ↔ (prefix ≤ 32) }
-        ensures value { IfSome result (λ network. (network.ip ≡ ip) × (network.prefix ≡ prefix)) }
+        ensures { MatchOption result (32 < prefix) (λ network.
+            (network.ip ≡ ip) × (network.prefix ≡ prefix) × (prefix ≤ 32)) }
     {
         if prefix > 32 {
             return None;
@@ -53,8 +53,8 @@ pub struct Ipv6Network {
 impl Ipv6Network {
     /// The network of an address and a prefix; `None` if the prefix is above 128.
     pub fn new(ip: Ipv6Addr, prefix: u8) -> Option<Ipv6Network>
-        ensures found { IsSome result ↔ (prefix ≤ 128) }
-        ensures value { IfSome result (λ network. (network.ip ≡ ip) × (network.prefix ≡ prefix)) }
+        ensures { MatchOption result (128 < prefix) (λ network.
+            (network.ip ≡ ip) × (network.prefix ≡ prefix) × (prefix ≤ 128)) }
     {
         if prefix > 128 {
             return None;

@@ -1,16 +1,16 @@
 //! Texts of offsets from UTC, as PostgreSQL writes them after times.
 
-ghost use Rattle.std.specs.Prelude.{◌≡◌, ◌<◌, IfSome};
+ghost use Rattle.std.specs.Prelude.{◌≡◌};
 ghost use Rattle.std.specs.Option.{option_map};
 ghost use Rattle.pgv_text.specs.DateTimeText as spec;
+ghost use Rattle.pgv_text.specs.FieldText.{IsBelow};
 
 use crate::field::{after, two_below};
 use jiff::tz::Offset;
 
 /// The seconds of a text that is `:` and two digits below 60, or 0 where it is empty.
 fn seconds_of(text: &[u8]) -> Option<u8>
-    ensures value { result ≡ spec.seconds_value text.now }
-    ensures bound { IfSome result (λ n. n < 60) }
+    ensures { IsBelow 60 (spec.seconds_value text.now) result }
 {
     if text.is_empty() {
         return Some(0);
@@ -23,8 +23,7 @@ fn seconds_of(text: &[u8]) -> Option<u8>
 
 /// The seconds of a text that is `:`, two digits of minutes and perhaps seconds, or 0 where it is empty.
 fn minutes_of(text: &[u8]) -> Option<u32>
-    ensures value { result ≡ spec.minutes_value text.now }
-    ensures bound { IfSome result (λ n. n < 3600) }
+    ensures { IsBelow 3600 (spec.minutes_value text.now) result }
 {
     if text.is_empty() {
         return Some(0);
@@ -36,8 +35,7 @@ fn minutes_of(text: &[u8]) -> Option<u32>
 
 /// The seconds of an offset without its sign.
 fn hours_of(text: &[u8]) -> Option<u32>
-    ensures value { result ≡ spec.hours_value text.now }
-    ensures bound { IfSome result (λ n. n < 86_400) }
+    ensures { IsBelow 86_400 (spec.hours_value text.now) result }
 {
     let (hour, rest) = two_below(text, 24)?;
     let minutes = minutes_of(rest)?;

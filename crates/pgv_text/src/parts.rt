@@ -1,16 +1,16 @@
 //! The parts of a text, one by one.
 
-ghost use Rattle.std.specs.Prelude.{◌≡◌, ◌≢◌, ◌==◌, ◌<◌, ◌∷◌, [], Some, None, IfErr, IfOk, IfSome, IfNone, OnErr, OnOk, cond, drop, is_some, string_bytes, false, true, length};
+ghost use Rattle.std.specs.Prelude.{◌≡◌, ◌≢◌, ◌==◌, ◌<◌, ◌∷◌, [], Some, None, IfOk, IfSome, MatchResult, cond, drop, is_some, string_bytes, false, true, length};
 ghost use Rattle.std.specs.Option.{MatchOption, option_copied, option_map};
 ghost use Rattle.std.specs.Str.{chars};
 ghost use Rattle.pgv_text.specs.ArrayText.{array_form};
-ghost use Rattle.pgv_text.specs.ContentText.{Content, IsTextOf, content_of, is_empty_in, no_parts};
+ghost use Rattle.pgv_text.specs.ContentText.{content_of, is_empty_in, no_parts};
 ghost use Rattle.pgv_text.specs.Forms.{form_of};
 ghost use Rattle.pgv_text.specs.Scan.{closes_here as spec_closes_here, nest_read, numbered, read};
 ghost use Rattle.pgv_text.specs.Values.{part_bytes, values_of};
 ghost use Rattle.pgv_text.specs.PartsLeftView.{values_left};
-ghost use Rattle.pgv_text.specs.PartFound.{IsEndOf, IsPartFrom, halts, part_value};
-ghost use Rattle.pgv_text.specs.Copies.{as_it_is, copies_after, copies_by, copies_from, copies_of, first_copied, in_quotes};
+ghost use Rattle.pgv_text.specs.PartFound.{IsRun, IsUnquoted, part_value};
+ghost use Rattle.pgv_text.specs.Copies.{as_it_is, first_copied, in_quotes};
 ghost use Rattle.pgv_text.specs.declared.scanner.Place.TheVariants.{Quoted, Start};
 
 use super::scanner::{
@@ -101,12 +101,9 @@ fn usual_part_count(form: TextForm, bytes: &[u8]) -> Option<(usize, u8)>
 /// The part in front and where it ends, if it is one run of the text's bytes, alone or in quotes.
 #[inline(always)]
 pub(crate) fn one_run(form: TextForm, text: &str) -> Option<Stop<'_>>
-    ensures part { IfSome result (IsPartFrom form Start text.now) }
-    ensures shorter { IfSome result (λ stop. length stop.rest.now < length text.now) }
     // It is `None` iff the part isn't in the text as it is.
-    ensures as_it_is { is_some result ≡ as_it_is (form_of form) text.now }
-    ensures copies { IfSome result (λ stop. copies_after (form_of form) Start text.now
-        ≡ copies_from (form_of form) stop.rest.now) }
+    ensures { MatchOption result (as_it_is (form_of form) text.now ≡ false)
+        (λ stop. (as_it_is (form_of form) text.now ≡ true) × IsRun form Start text.now stop) }
 {
     let first = next_stop(form, Place::Start, text)?;
     match first.cell {
@@ -119,11 +116,8 @@ pub(crate) fn one_run(form: TextForm, text: &str) -> Option<Stop<'_>>
 /// The same after an opening quote.
 #[inline(always)]
 fn run_in_quotes(form: TextForm, text: &str) -> Option<Stop<'_>>
-    ensures part { IfSome result (IsPartFrom form Quoted text.now) }
-    ensures shorter { IfSome result (λ stop. length stop.rest.now < length text.now) }
-    ensures in_quotes { is_some result ≡ in_quotes (form_of form) text.now }
-    ensures copies { IfSome result (λ stop. copies_after (form_of form) Quoted text.now
-        ≡ copies_from (form_of form) stop.rest.now) }
+    ensures { MatchOption result (in_quotes (form_of form) text.now ≡ false)
+        (λ stop. (in_quotes (form_of form) text.now ≡ true) × IsRun form Quoted text.now stop) }
 {
     let inside = next_stop(form, Place::Quoted, text)?;
     let Cell::Pass(Place::AfterQuote) = inside.cell else {
@@ -145,16 +139,8 @@ pub(crate) fn unquote<'a>(
     text: &'a str,
     out: &mut String,
 ) -> Result<Option<Stop<'a>>, AllocError>
-    ensures part { IfOk result (λ found. IfSome found
-        (IsEndOf form text.now (string_bytes out.new))) }
-    ensures shorter { IfOk result (λ found. IfSome found
-        (λ stop. length stop.rest.now < length text.now)) }
-    ensures halts { IfOk result (λ found. IfSome found (λ stop. halts stop.cell ≡ true)) }
-    ensures none { IfOk result (λ found. IfNone found (read (form_of form) Start text.now ≡ None)) }
-    ensures copies { IfOk result (λ found. IfSome found
-        (λ stop. copies_after (form_of form) Start text.now
-        ≡ copies_by (form_of form) stop.rest.now (λ q. copies_after (form_of form) q
-        stop.rest.now) stop.cell)) }
+    ensures { IfOk result (λ found. MatchOption found (read (form_of form) Start text.now ≡ None)
+        (IsUnquoted form text.now (string_bytes out.new))) }
 {
     out.clear();
     let mut place = Place::Start;
@@ -215,19 +201,13 @@ pub struct Parts<'a> {
 }
 
 impl<'a> Parts<'a> {
-    ghost use Rattle.pgv_text.specs.PartsView.{content, copies, is_of_empty, nest};
+    ghost use Rattle.pgv_text.specs.PartsView.{AreBounded, ArePartsOf, HasBracketsOf, HasEnded, IsKept, Takes, copies, is_of_empty, nest};
 
     /// The parts of a text; `None` if the text isn't in the form. The empty range has no parts.
     pub fn new(form: TextForm, text: &'a str) -> Option<Self>
-        // The parts to come and the brackets, or the empty range, are what is computed of the text, which is what it
-        // denotes, by the laws `nest_is_computed` and `range_is_computed`.
-        ensures computed { option_map (content form) result ≡ content_of form (chars text.now) }
-        // The empty range has no parts, and its brackets include nothing.
-        ensures nothing { IfSome result (λ p. is_of_empty p ≡ true → nest p ≡ no_parts) }
-        ensures of_empty { IfSome result (λ p. is_of_empty p ≡ is_empty_in form text.now) }
-        // Which parts are copied, of a text between brackets.
-        ensures copies { IfSome result (λ p. is_of_empty p ≡ false
-            → copies p ≡ copies_of form text.now) }
+        // What is computed of the text is what it denotes, by the laws `nest_is_computed` and `range_is_computed`.
+        ensures { MatchOption result (content_of form (chars text.now) ≡ None)
+            (ArePartsOf form text.now) }
     {
         if is_empty_range(form, text) {
             return Some(Parts::of_empty_range());
@@ -237,8 +217,7 @@ impl<'a> Parts<'a> {
 
     /// No parts, of the empty range.
     fn of_empty_range() -> Self
-        ensures empty { is_of_empty result ≡ true }
-        ensures nothing { nest result ≡ no_parts }
+        ensures { (is_of_empty result ≡ true) × (nest result ≡ no_parts) }
     {
         Parts {
             form: TextForm::Range,
@@ -252,9 +231,8 @@ impl<'a> Parts<'a> {
 
     /// As [`new`](Parts::new), for a text between brackets; the contract speaks of bytes.
     fn begun(form: TextForm, text: &'a str) -> Option<Self>
-        ensures exact { option_map nest result ≡ nest_read (form_of form) text.now }
-        ensures bounded { IfSome result (λ p. is_of_empty p ≡ false) }
-        ensures copies { IfSome result (λ p. copies p ≡ copies_of form text.now) }
+        ensures { MatchOption result (nest_read (form_of form) text.now ≡ None)
+            (AreBounded form text.now) }
     {
         let (opening, rest) = after_opening(form, text)?;
         let (count, closing) = part_count(form, rest)?;
@@ -305,18 +283,13 @@ impl<'a> Parts<'a> {
     /// empty. `None` after the last part.
     #[inline(always)]
     pub fn next_into(&mut self, text: &mut String) -> Result<Option<bool>, AllocError>
-        ensures next { IfOk result (λ found. MatchOption found
-            (((nest self.old).values ≡ []) × (self.new ≡ self.old) × (string_bytes text.new ≡ []))
-            (λ present. ((nest self.old).values
-            ≡ cond present (Some (string_bytes text.new)) None ∷ (nest self.new).values)
-            × (present ≡ false → string_bytes text.new ≡ []))) }
-        ensures err { OnErr result ((self.new ≡ self.old) × (string_bytes text.new ≡ [])) }
-        ensures at_end { (nest self.old).values ≡ [] → IfErr result (λ e. ⊥) }
-        ensures copies { (nest self.old).values ≢ []
-            → OnOk result (copies self.new ≡ drop 1 (copies self.old)) }
-        ensures lower { (nest self.new).lower ≡ (nest self.old).lower }
-        ensures upper { (nest self.new).upper ≡ (nest self.old).upper }
-        ensures empty { is_of_empty self.new ≡ is_of_empty self.old }
+        ensures taken { MatchResult result
+            (λ found. MatchOption found
+            (HasEnded self.old self.new × (string_bytes text.new ≡ []))
+            (λ present. Takes (cond present (Some (string_bytes text.new)) None) self.old self.new
+            × (present ≡ false → string_bytes text.new ≡ [])))
+            (λ _. IsKept self.old self.new × (string_bytes text.new ≡ [])) }
+        ensures brackets { HasBracketsOf self.old self.new }
     {
         if self.count == 0 {
             text.clear();
@@ -346,19 +319,12 @@ impl<'a> Parts<'a> {
     /// the array `{a,"b c"}` come `a` and `b c`, both borrowed, and then `None`.
     #[inline(always)]
     pub fn next_borrowed(&mut self, text: &mut String) -> Result<Option<Part<'a>>, AllocError>
-        ensures next { IfOk result (λ found. MatchOption found
-            (((nest self.old).values ≡ []) × (self.new ≡ self.old))
-            (λ part. (nest self.old).values ≡ part_value part (string_bytes text.new) ∷
-            (nest self.new).values)) }
-        ensures err { OnErr result (self.new ≡ self.old) }
-        ensures lower { (nest self.new).lower ≡ (nest self.old).lower }
-        ensures upper { (nest self.new).upper ≡ (nest self.old).upper }
-        ensures empty { is_of_empty self.new ≡ is_of_empty self.old }
-        ensures at_end { (nest self.old).values ≡ [] → IfErr result (λ e. ⊥) }
         // Only for a part that is copied memory is asked for.
-        ensures copied { OnErr result (first_copied (copies self.old) ≡ true) }
-        ensures copies { (nest self.old).values ≢ []
-            → OnOk result (copies self.new ≡ drop 1 (copies self.old)) }
+        ensures taken { MatchResult result
+            (λ found. MatchOption found (HasEnded self.old self.new)
+            (λ part. Takes (part_value part (string_bytes text.new)) self.old self.new))
+            (λ _. IsKept self.old self.new × (first_copied (copies self.old) ≡ true)) }
+        ensures brackets { HasBracketsOf self.old self.new }
     {
         if self.count == 0 {
             return Ok(None);
@@ -385,14 +351,11 @@ impl<'a> Parts<'a> {
     /// The next part, in a text of its own. If memory runs out, the parts stay as they were. From the array `{a,NULL}`
     /// come `a` and null, and then `None`.
     pub fn next_part(&mut self, alloc: Global) -> Result<Option<Option<String>>, AllocError>
-        ensures next { IfOk result (λ found. MatchOption found
-            (((nest self.old).values ≡ []) × (self.new ≡ self.old))
-            (λ part. (nest self.old).values ≡ part_bytes part ∷ (nest self.new).values)) }
-        ensures err { OnErr result (self.new ≡ self.old) }
-        ensures at_end { (nest self.old).values ≡ [] → IfErr result (λ e. ⊥) }
-        ensures lower { (nest self.new).lower ≡ (nest self.old).lower }
-        ensures upper { (nest self.new).upper ≡ (nest self.old).upper }
-        ensures empty { is_of_empty self.new ≡ is_of_empty self.old }
+        ensures taken { MatchResult result
+            (λ found. MatchOption found (HasEnded self.old self.new)
+            (λ part. Takes (part_bytes part) self.old self.new))
+            (λ _. IsKept self.old self.new) }
+        ensures brackets { HasBracketsOf self.old self.new }
     {
         let mut text = String::new(alloc);
         match self.next_into(&mut text)? {
@@ -404,8 +367,8 @@ impl<'a> Parts<'a> {
 
     /// All parts that are still to come.
     pub fn list(self, alloc: Global) -> Result<Vec<Option<String>>, AllocError>
-        ensures ok { IfOk result (λ v. values_of v ≡ (nest self.entry).values) }
-        ensures none { (nest self.entry).values ≡ [] → IfErr result (λ e. ⊥) }
+        ensures { MatchResult result (λ v. values_of v ≡ (nest self.entry).values)
+            (λ _. (nest self.entry).values ≢ []) }
     {
         let mut parts = self;
         let mut list = Vec::with_capacity(alloc, self.len())?;

@@ -7,8 +7,8 @@ ghost use Rattle.pgv_text.specs.Forms.{form_of};
 ghost use Rattle.pgv_text.specs.declared.scanner.Class.TheVariants.{Other};
 ghost use Rattle.pgv_text.specs.declared.scanner.Place.TheVariants.{Outside, Quoted};
 ghost use Rattle.pgv_text.specs.declared.scanner.TextForm.{TextForm};
-ghost use Rattle.pgv_text.specs.Scan.{cell, class, grown, read, read_by, stands, stops};
-ghost use Rattle.pgv_text.specs.Copies.{IsStopFrom, copies_after, copies_by, stop_at};
+ghost use Rattle.pgv_text.specs.Scan.{cell, class, grown, read, stands};
+ghost use Rattle.pgv_text.specs.PartFound.{AreUsual, HasNoStop, IsNextStop};
 
 /// The form of a text.
 #[derive(Clone, Copy, PartialEq, Eq, Drop)]
@@ -165,16 +165,7 @@ pub fn is_never_special(byte: u8) -> bool
 /// How many usual bytes are in front. Outside and inside quotes they belong to the part's text.
 #[inline(always)]
 fn usual_in_front(bytes: &[u8]) -> usize
-    ensures within { result ≤ length bytes.now }
-    ensures outside { (form : TextForm) → read (form_of form) Outside bytes.now
-        ≡ grown (take result bytes.now) (read (form_of form) Outside (drop result bytes.now)) }
-    ensures quoted { (form : TextForm) → read (form_of form) Quoted bytes.now
-        ≡ grown (take result bytes.now) (read (form_of form) Quoted (drop result bytes.now)) }
-    ensures stops_outside { (form : TextForm)
-        → stop_at (form_of form) Outside bytes.now
-        ≡ stop_at (form_of form) Outside (drop result bytes.now) }
-    ensures stops_quoted { (form : TextForm) → stop_at (form_of form) Quoted bytes.now
-        ≡ stop_at (form_of form) Quoted (drop result bytes.now) }
+    ensures { AreUsual bytes.now result }
 {
     let mut count = 0;
     while count < bytes.len() && is_never_special(bytes[count]) {
@@ -208,18 +199,8 @@ pub struct Stop<'a> {
 /// The next byte that isn't kept; `None` if there is none, so that the text isn't in the form.
 #[inline(always)]
 pub fn next_stop(form: TextForm, place: Place, text: &str) -> Option<Stop<'_>>
-    ensures whole { MatchOption result (read (form_of form) place text.now ≡ None)
-        (λ s. text.now ≡ s.run.now ++ s.byte ∷ s.rest.now) }
-    ensures read { MatchOption result (read (form_of form) place text.now ≡ None)
-        (λ s. read (form_of form) place text.now ≡ grown s.run.now
-        (read_by (form_of form) s.byte s.rest.now (λ q. read (form_of form) q s.rest.now) s.cell)) }
-    ensures stops { MatchOption result (read (form_of form) place text.now ≡ None)
-        (λ s. stops s.cell ≡ true) }
-    ensures first { MatchOption result (stop_at (form_of form) place text.now ≡ None)
-        (IsStopFrom (form_of form) place text.now) }
-    ensures copies { IfSome result (λ s. copies_after (form_of form) place
-        text.now ≡ copies_by (form_of form) s.rest.now
-        (λ q. copies_after (form_of form) q s.rest.now) s.cell) }
+    ensures { MatchOption result (HasNoStop form place text.now)
+        (IsNextStop form place text.now) }
 {
     let bytes = text.as_bytes();
     let mut place = place;

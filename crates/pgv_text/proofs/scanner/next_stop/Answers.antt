@@ -61,18 +61,17 @@ loop-index-preserved-in-Quoted c =
     )
 
 -- where it stops
-pub returns-in_default-cell-clause-first : goal.returns-in_default-cell-clause-first
-returns-in_default-cell-clause-first c =
+pub returns-in_default-cell : goal.returns-in_default-cell
+returns-in_default-cell c =
+    let form = form_of c.args.form in
     let byte = slice_index_or c.as_bytes-bytes.result.now c.loop-index.index 0 in
-    let split : drop c.loop-index.index c.args.text.now ≡ byte ∷ c.range_from.result.now = grind (arith, common_steps) in (
-      c.loop-index.place,
-      found_stop (form_of c.args.form) c.args.place c.loop-index.place c.args.text.now (drop c.loop-index.index c.args.text.now) c.range_from.result.now byte c.cell_of-cell.result
-          c.loop-index.invariant.2 split (cc) c.in_default-cell.not-Keep,
-      cc,
-    )
-
-pub returns-in_default-cell-clause-copies : goal.returns-in_default-cell-clause-copies
-returns-in_default-cell-clause-copies c =
-    let stop = returns-in_default-cell-clause-first c in
-    let byte = slice_index_or c.as_bytes-bytes.result.now c.loop-index.index 0 in
-    copies_there (form_of c.args.form) c.args.place stop.0 c.args.text.now c.range_from.result.now byte c.cell_of-cell.result stop.1 stop.2
+    let split : drop c.loop-index.index c.args.text.now ≡ byte ∷ c.range_from.result.now = grind (arith, common_steps) in
+    let stopped = found_stop form c.args.place c.loop-index.place c.args.text.now (drop c.loop-index.index c.args.text.now) c.range_from.result.now byte c.cell_of-cell.result
+    c.loop-index.invariant.2 split (cc) c.in_default-cell.not-Keep in
+    record {
+      whole = grind (arith, common_steps);
+      onward = grind (arith, common_steps);
+      stops_there = grind (arith, common_steps);
+      first = (c.loop-index.place, stopped, cc);
+      copies = copies_there form c.args.place c.loop-index.place c.args.text.now c.range_from.result.now byte c.cell_of-cell.result stopped (cc);
+    }

@@ -26,7 +26,7 @@ returns-in_err-read_part-in-Element g c =
     let here = ahead c.loop-unquoted.elements in
     let rest = ahead c.next_borrowed.new.self in
     let error = c.in_err-read_part-in-Element.field-0.0 in
-    let next = rw c.in-Element.is at c.in_ok-part.ensures.next in
+    let next = rw c.in-Element.is at c.in_ok-part.ensures in
     let split = found_first here rest c.in-Element.part _ _ part next.0 c.as_str.ensures.value c.in_text.ensures in
     let unread : Fails error (parse (given t Text part)) = rw (← c.type_info.ensures) c.in_err-read_part-in-Element.ensures in
     let p = err_from_is_err_and c.from_residual-in_err-read_part-in-Element.result c.from_residual-in_err-read_part-in-Element.ensures.1 in
@@ -36,7 +36,7 @@ returns-in_err-read_part-in-Element g c =
 
 pub returns-in-End : goal.returns-in-End
 returns-in-End g c =
-    let end = rw c.in-End.is at c.in_ok-part.ensures.next in
+    let end = rw c.in-End.is at c.in_ok-part.ensures in
     parts_done g.T.Decode.parse g.T.Type.info (map g.T.Decode.view c.loop-unquoted.items.items) (ahead c.loop-unquoted.elements) _ end.0 c.loop-unquoted.invariant.0
 
 pub loop-unquoted-preserved : goal.loop-unquoted-preserved
@@ -47,7 +47,7 @@ loop-unquoted-preserved g c =
     let here = ahead c.loop-unquoted.elements in
     let rest = ahead c.next_borrowed.new.self in
     let m = g.T.Decode.view c.in_ok-read_part-in-Element.field-0 in
-    let next = rw c.in-Element.is at c.in_ok-part.ensures.next in
+    let next = rw c.in-Element.is at c.in_ok-part.ensures in
     let split = found_first here rest c.in-Element.part _ _ part next.0 c.as_str.ensures.value c.in_text.ensures in
     let e : (parse (given t Text part)).answer ≡ Ok m = rw (← c.type_info.ensures) c.in_ok-read_part-in-Element.ensures in
     let it : map g.T.Decode.view c.push.new.self.items ≡ map g.T.Decode.view c.loop-unquoted.items.items ++ m ∷ [] = rw c.in_ok-push-in-Element.ensures.items (map_push _ c.loop-unquoted.items.items c.in_ok-read_part-in-Element.field-0) in (
