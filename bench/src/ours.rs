@@ -36,6 +36,7 @@ pub const IN_ONE_PASS: u32 = 2;
 pub const DESCRIBED: u32 = 3;
 pub const AS_TUPLES: u32 = 2;
 pub const AS_ONE_LIST: u32 = 3;
+pub const AS_LENT: u32 = 4;
 
 pub fn framed(export: Framed, bytes: &[u8], how: u32) -> Work<'_> {
     Box::new(move |rounds| unsafe { export(bytes.as_ptr(), bytes.len(), rounds, how) })

@@ -116,8 +116,8 @@ fn row_body(number: i32, text: &String, day: NaiveDate) -> Vec<u8> {
     body
 }
 
-/// A COPY stream of rows of three fields, read as lists, into one list and as tuples, beside `get` and `decode` of the
-/// same fields. Ours on both sides.
+/// A COPY stream of rows of three fields, read as lists, into one list, whose values are taken or stay, and as tuples,
+/// beside `get` and `decode` of the same fields. Ours on both sides.
 pub fn copying(bench: &mut Bench) {
     let (numbers, texts) = (numbers_of(COUNT), texts_of(COUNT));
     let fields: Vec<Vec<u8>> = (0..COUNT)
@@ -131,6 +131,7 @@ pub fn copying(bench: &mut Bench) {
     let frames = fields.concat();
     bench.row("row of 3 of COPY, beside its get+decode", COUNT, framed(pgv_bench_copy, &stream, AS_LISTS), framed(pgv_bench_copy, &frames, AS_FRAMES));
     bench.row("the same into one list", COUNT, framed(pgv_bench_copy, &stream, AS_ONE_LIST), framed(pgv_bench_copy, &frames, AS_FRAMES));
+    bench.row("the same, by reference", COUNT, framed(pgv_bench_copy, &stream, AS_LENT), framed(pgv_bench_copy, &frames, AS_FRAMES));
     bench.row("the same as a tuple", COUNT, framed(pgv_bench_copy, &stream, AS_TUPLES), framed(pgv_bench_copy, &frames, AS_FRAMES));
 }
 

@@ -53,6 +53,25 @@ fn kept_seen(alloc: Global, row: &mut Vec<PgValueRef<'_>>) -> Result<usize, Code
     Ok(sum)
 }
 
+/// What is seen of a field that stays in its list. It is not inlined, as `field` is not.
+#[inline(never)]
+fn lent_field<T: Decode + Seen>(
+    alloc: Global,
+    value: &PgValueRef<'_>,
+) -> Result<usize, CodecError> {
+    Ok(T::decode(alloc, value.clone()?)?.seen())
+}
+
+/// The same of a row whose values stay in its list.
+fn lent_seen(alloc: Global, row: &[PgValueRef<'_>]) -> Result<usize, CodecError> {
+    let [number, text, long] = row else {
+        return Err(CodecError::FieldCount);
+    };
+    let mut sum = lent_field::<i32>(alloc, number)?;
+    sum = sum.wrapping_add(lent_field::<String>(alloc, text)?);
+    Ok(sum.wrapping_add(lent_field::<i64>(alloc, long)?))
+}
+
 fn stream_once(alloc: Global, stream: &[u8]) -> Result<usize, CodecError> {
     let mut reader = PgCopyReader::new(stream, columns(alloc)?)?;
     let mut sum = 0usize;
@@ -74,6 +93,19 @@ fn stream_kept(alloc: Global, stream: &[u8]) -> Result<usize, CodecError> {
             return Ok(sum);
         }
         sum = sum.wrapping_add(kept_seen(alloc, &mut row)?);
+    }
+    Ok(sum)
+}
+
+fn stream_lent(alloc: Global, stream: &[u8]) -> Result<usize, CodecError> {
+    let mut reader = PgCopyReader::new(stream, columns(alloc)?)?;
+    let mut row = Vec::new(alloc);
+    let mut sum = 0usize;
+    for _ in 0..stream.len() {
+        if !reader.next_row_into(&mut row)? {
+            return Ok(sum);
+        }
+        sum = sum.wrapping_add(lent_seen(alloc, row.as_slice())?);
     }
     Ok(sum)
 }
@@ -132,7 +164,7 @@ fn frames_once(alloc: Global, frames: &[u8]) -> Result<usize, CodecError> {
 }
 
 /// Reads all rows `rounds` times: of a stream where `how` is 0, of one as tuples where it is 2, of one into one
-/// list where it is 3, and else of frames.
+/// list where it is 3, of one whose values stay in that list where it is 4, and else of frames.
 pub fn copies(alloc: Global, bytes: &[u8], rounds: u32, how: u32) -> Result<usize, CodecError> {
     let mut sum = 0usize;
     for _ in 0..rounds {
@@ -140,6 +172,7 @@ pub fn copies(alloc: Global, bytes: &[u8], rounds: u32, how: u32) -> Result<usiz
             0 => stream_once(alloc, bytes)?,
             2 => tuples_once(alloc, bytes)?,
             3 => stream_kept(alloc, bytes)?,
+            4 => stream_lent(alloc, bytes)?,
             _ => frames_once(alloc, bytes)?,
         };
         sum = sum.wrapping_add(once);

@@ -384,7 +384,7 @@ pub extern "C" fn pgv_bench_lquery(alloc: Global, bytes: &[u8], rounds: u32, how
 }
 
 /// Reads the rows of a COPY stream of an `int4`, a `text` and an `int8` where `how` is 0, as tuples where it is 2,
-/// into one list where it is 3, and else the same fields as frames.
+/// into one list where it is 3, into one in which they stay where it is 4, and else the same fields as frames.
 #[unsafe(no_mangle)]
 pub extern "C" fn pgv_bench_copy(alloc: Global, bytes: &[u8], rounds: u32, how: u32) -> usize {
     sum_of(copies(alloc, bytes, rounds, how))

@@ -360,6 +360,7 @@ impl<'r> Clone for PgValueRef<'r> {
 
     ghost is_infallible = { λ v. IsNotCustom v.type_info };
 
+    #[inline(always)]
     fn clone(&self) -> Result<PgValueRef<'r>, AllocError> {
         Ok(PgValueRef {
             row: self.row,
