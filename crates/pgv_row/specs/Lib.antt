@@ -12,3 +12,4 @@ pub mod Tuples
 pub mod OnePass
 pub mod OnePassLemmas
 pub mod CopyRows
+pub mod Noting

@@ -1,13 +1,10 @@
 //! Where the parts of a row are in its bytes.
 
-ghost use Rattle.std.specs.Prelude.{◌≡◌, ◌≢◌, ◌≤◌, [], length, drop, IfOk, IfErr, OnOk, vec_capacity};
-ghost use Rattle.pgv_value.specs.declared.error.CodecError.TheVariants.{Memory};
-ghost use Rattle.pgv_row.specs.DataRow.{data_row, IsDataRow, frames_front};
-ghost use Rattle.pgv_value.specs.Fronts.{one_part, part_front};
-ghost use Rattle.pgv_value.specs.Outcome.{Gives, GivesWhole};
-ghost use Rattle.pgv_value.specs.Parsed.{GivesExactly};
-ghost use Rattle.pgv_row.specs.Places.{part_at, parts_at, IsWithin, AreWithin};
-ghost use Rattle.pgv_value.specs.Several.{several};
+ghost use Rattle.std.specs.Prelude.{◌≡◌, ◌≤◌, [], length, OnOk, vec_capacity};
+ghost use Rattle.pgv_row.specs.DataRow.{data_row};
+ghost use Rattle.pgv_value.specs.Outcome.{Gives};
+ghost use Rattle.pgv_row.specs.Noting.{FindsParts, GivesPlace, GivesPlaces, HasCount};
+ghost use Rattle.pgv_row.specs.Places.{parts_at, AreWithin};
 
 use pgv_value::{CodecError, part_in_front};
 
@@ -25,8 +22,7 @@ pub struct Place {
 #[inline(always)]
 #[tactic(auto, unfolding(crate::specs::DataRow::frames_front, pgv_value::specs::Fronts::u16_front))]
 pub fn check_count(bytes: &[u8], width: usize) -> Result<(), CodecError>
-    ensures exact { GivesExactly (λ _. drop 2 bytes.now) (frames_front width bytes.now) result }
-    ensures long { OnOk result (2 ≤ length bytes.now) }
+    ensures { HasCount width bytes.now result }
 {
     if bytes.len() < 2 {
         return Err(CodecError::Short);
@@ -42,10 +38,7 @@ pub fn check_count(bytes: &[u8], width: usize) -> Result<(), CodecError>
 #[inline(always)]
 fn place_at(bytes: &[u8], at: usize) -> Result<(Option<Place>, usize), CodecError>
     requires { at ≤ length bytes.now }
-    ensures exact { let part = part_front (drop at bytes.now) in
-        GivesExactly (λ p. (part_at bytes.now p.0, drop p.1 bytes.now)) part result }
-    ensures within { IfOk result (λ p. IsWithin bytes.now p.0) }
-    ensures next { IfOk result (λ p. p.1 ≤ length bytes.now) }
+    ensures { GivesPlace bytes.now at result }
 {
     let (_read, left) = bytes.split_at(at);
     let (part, rest) = part_in_front(left)?;
@@ -69,10 +62,8 @@ fn note_places(
     requires empty { places.old.items ≡ [] }
     requires room { width ≤ vec_capacity places.old }
     requires within { at ≤ length bytes.now }
-    ensures exact { let parts = several one_part width (drop at bytes.now) in
-        Gives (λ end. (parts_at bytes.now places.new.items, drop end bytes.now)) parts result }
+    ensures noted { GivesPlaces bytes.now at width places.new.items result }
     ensures places { OnOk result (AreWithin bytes.now places.new.items) }
-    ensures end { IfOk result (λ end. end ≤ length bytes.now) }
     ensures room { vec_capacity places.old ≤ vec_capacity places.new }
 {
     let mut next = at;
@@ -111,9 +102,8 @@ pub fn find_places(
     bytes: &[u8],
     width: usize,
 ) -> Result<(), CodecError>
-    ensures read { let row = data_row (vec_capacity places.old) width bytes.now in
-        GivesWhole (λ _. parts_at bytes.now places.new.items) row (IsDataRow width bytes.now) result }
-    ensures memory { width ≤ vec_capacity places.old → IfErr result (λ e. e ≢ Memory) }
+    ensures read { FindsParts (λ _. parts_at bytes.now places.new.items)
+        (vec_capacity places.old) width bytes.now result }
     ensures places { OnOk result (AreWithin bytes.now places.new.items) }
     ensures room { vec_capacity places.old ≤ vec_capacity places.new }
     ensures enough { OnOk result (width ≤ vec_capacity places.new) }

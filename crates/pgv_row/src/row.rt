@@ -1,11 +1,12 @@
 //! Rows: the values of the columns, one DataRow after another.
 
-ghost use Rattle.std.specs.Prelude.{◌≡◌, ◌≢◌, ◌≤◌, ◌==◌, true, length, IfOk, IfErr};
+ghost use Rattle.std.specs.Prelude.{◌≡◌, ◌≢◌, ◌≤◌, ◌==◌, true, length, IfOk, IfErr, MatchResult};
 ghost use Rattle.std.specs.Borrow.{sem};
 ghost use Rattle.pgv_value.specs.declared.error.CodecError.TheVariants.{FieldCount};
 ghost use Rattle.pgv_row.specs.Errors.{GivesColumn};
 ghost use Rattle.pgv_row.specs.declared.error.ColumnError.TheVariants.{NotFound};
 ghost use Rattle.pgv_value.specs.Outcome.{Gives, after, done};
+ghost use Rattle.pgv_value.specs.ValueView.{given};
 ghost use Rattle.pgv_row.specs.Places.{are_within, part_at, IsWithin};
 ghost use Rattle.pgv_row.specs.RowParts.{body_of, capacity};
 ghost use Rattle.pgv_row.specs.RowView.{column_there};
@@ -163,9 +164,7 @@ fn value_in<'a>(
     format: PgValueFormat,
 ) -> PgValueRef<'a>
     requires { IsWithin (body_of bytes) place }
-    ensures bytes { result.bytes ≡ part_at (body_of bytes.entry) place }
-    ensures type_info { result.type_info ≡ type_info }
-    ensures format { result.format ≡ format }
+    ensures { result ≡ given type_info format (part_at (body_of bytes.entry) place) }
 {
     let Some(place) = place else {
         return PgValueRef::new(None, type_info, format);
@@ -447,10 +446,9 @@ impl PgOwnedRow {
     /// The row under its columns. Another number of columns is refused with [`FieldCount`](CodecError::FieldCount)
     /// (C12). Values that are kept of it share its bytes.
     pub fn as_row<'a>(&'a self, columns: &'a PgColumns<'a>) -> Result<PgRow<'a>, CodecError>
-        ensures row { IfOk result (λ row. row ≡ record
-            { columns = columns.now; parts = self.now }) }
-        ensures refused { IfErr result (λ e. (e ≡ FieldCount)
-            × (length columns.now ≢ length self.now)) }
+        ensures { MatchResult result (λ row. (row ≡ record
+            { columns = columns.now; parts = self.now }) × (length columns.now ≡ length self.now))
+            (λ e. (e ≡ FieldCount) × (length columns.now ≢ length self.now)) }
     {
         let columns = columns.as_slice();
         let places = self.places.as_slice();

@@ -16,7 +16,7 @@ loop-preserved c =
     let places = c.loop.places.items in
     let place = c.in_ok-place.place in
     let lt : c.loop.counter < c.args.width = c.loop-test.true in
-    let found : (one_part (drop c.loop.next body)).answer ≡ Ok (part_at body place, drop c.in_ok-place.end body) = ap stated c.in_ok-place.ensures.exact in
+    let found : (one_part (drop c.loop.next body)).answer ≡ Ok (part_at body place, drop c.in_ok-place.end body) = ap stated c.in_ok-place.ensures.part in
     rw (c.in_ok-push.ensures.items, add-one) (record {
       read =
           ap (λ (ps : List Part). with_front ps (several one_part (c.args.width - suc c.loop.counter) (drop c.in_ok-place.end body)).answer) (map-append (part_at body) places (place ∷ []))
@@ -28,12 +28,17 @@ loop-preserved c =
       next = c.in_ok-place.ensures.next;
     })
 
-pub returns-in_err-place-clause-exact : goal.returns-in_err-place-clause-exact
-returns-in_err-place-clause-exact c =
+pub returns-in_err-place-clause-noted : goal.returns-in_err-place-clause-noted
+returns-in_err-place-clause-noted c =
     let p = err_from_is_err_and c.from_residual.result c.from_residual.ensures.1 in
     let lt : c.loop.counter < c.args.width = c.loop-test.true in
-    rw (p.1, p.2)
-    (inl (ends one_part (parts_at c.args.bytes.now c.loop.places.items) c.args.width c.loop.counter (drop c.loop.next c.args.bytes.now) _ _ lt (ap stated c.in_err-place.ensures.exact) c.loop.invariant.read))
+    rw (p.1, p.2) (record {
+      parts = inl (ends one_part (parts_at c.args.bytes.now c.loop.places.items) c.args.width c.loop.counter (drop c.loop.next c.args.bytes.now) _ _ lt (ap stated c.in_err-place.ensures.part) c.loop.invariant.read);
+      next = tt;
+    })
 
-pub returns-clause-exact : goal.returns-clause-exact
-returns-clause-exact c = is_done one_part (parts_at c.args.bytes.now c.loop.places.items) c.args.width c.loop.counter (drop c.loop.next c.args.bytes.now) _ c.loop-test.false c.loop.invariant.read
+pub returns-clause-noted : goal.returns-clause-noted
+returns-clause-noted c = record {
+  parts = is_done one_part (parts_at c.args.bytes.now c.loop.places.items) c.args.width c.loop.counter (drop c.loop.next c.args.bytes.now) _ c.loop-test.false c.loop.invariant.read;
+  next = c.loop.invariant.next;
+}

@@ -9,12 +9,21 @@ overflow_sub-start c =
     let cut = front_at c.args.bytes.now c.args.at (Some c.in-Some.part.now) c.in_ok-part.rest.now c.requires found in
     omega (arith, cut.0, cut.3)
 
-pub returns-in-None-clause-exact : goal.returns-in-None-clause-exact
-returns-in-None-clause-exact c =
+pub returns-in-None : goal.returns-in-None
+returns-in-None c =
     let found = rw (c.split_at.ensures.back, c.in-None.is) at c.in_ok-part.ensures.exact in
-    rw (null_found c.args.bytes.now c.args.at c.in_ok-part.rest.now c.requires found) refl
+    record {
+      part = rw (null_found c.args.bytes.now c.args.at c.in_ok-part.rest.now c.requires found) refl;
+      within = tt;
+      next = omega arith;
+    }
 
-pub returns-in-Some-clause-exact : goal.returns-in-Some-clause-exact
-returns-in-Some-clause-exact c =
+pub returns-in-Some : goal.returns-in-Some
+returns-in-Some c =
     let found = rw (c.split_at.ensures.back, c.in-Some.is) at c.in_ok-part.ensures.exact in
-    rw (part_found c.args.bytes.now c.args.at c.in-Some.part.now c.in_ok-part.rest.now c.requires found) refl
+    let cut = front_at c.args.bytes.now c.args.at (Some c.in-Some.part.now) c.in_ok-part.rest.now c.requires found in
+    record {
+      part = rw (part_found c.args.bytes.now c.args.at c.in-Some.part.now c.in_ok-part.rest.now c.requires found) refl;
+      within = (omega arith, omega arith);
+      next = omega arith;
+    }
