@@ -1,6 +1,6 @@
 //! OIDs of a catalogue, put into the holes of arguments.
 
-ghost use Rattle.std.specs.Prelude.{◌≡◌, IfOk, IfErr, OnOk, OnErr};
+ghost use Rattle.std.specs.Prelude.{◌≡◌, IfErr, MatchResult, OnOk, OnErr};
 ghost use Rattle.pgv_catalog.specs.Filling.{AreNamed, FillRefused, IsFilled, OidsRefused};
 
 use crate::error::CatalogError;
@@ -42,8 +42,8 @@ fn oids_of<N: PgNames>(
     holes: &[PgTypeInfo],
     catalog: &N,
 ) -> Result<Vec<Oid>, CatalogError>
-    ensures found { IfOk result (λ oids. AreNamed (N.named catalog.now) holes.now oids.items) }
-    ensures refused { IfErr result (OidsRefused (N.named catalog.now) holes.now) }
+    ensures { MatchResult result (λ oids. AreNamed (N.named catalog.now) holes.now oids.items)
+        (OidsRefused (N.named catalog.now) holes.now) }
 {
     let mut oids = Vec::new(alloc);
     let mut place: usize = 0;

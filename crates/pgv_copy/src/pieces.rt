@@ -1,6 +1,6 @@
 //! Rows of a COPY stream that comes in pieces.
 
-ghost use Rattle.std.specs.Prelude.{◌≡◌, ◌<◌, ◌≤◌, Ok, Err, None, IfOk, IfErr, IsOk, MatchOption, MatchResult, OnErr, drop, length, option_map, true};
+ghost use Rattle.std.specs.Prelude.{◌≡◌, ◌<◌, ◌≤◌, Ok, Err, None, IfOk, MatchOption, MatchResult, drop, length, option_map, false, true};
 ghost use Rattle.pgv_value.specs.Outcome.{Gives};
 ghost use Rattle.pgv_value.specs.Parsed.{GivesExactly};
 ghost use Rattle.pgv_value.specs.declared.error.CodecError.TheVariants.{Memory};
@@ -128,10 +128,8 @@ impl PgCopyPieces {
     /// Where the bytes can't be kept it is refused with [`Memory`](CodecError::Memory) (C1), and the reader is as it
     /// was. After the end bytes don't count, and it asks for no memory.
     pub fn feed(&mut self, piece: &[u8]) -> Result<(), CodecError>
-        ensures taken { IfOk result (λ _. self.new ≡ with_more self.old piece.now) }
-        ensures refused { IfErr result (λ e. e ≡ Memory) }
-        ensures ended { self.old.is_ended ≡ true → IsOk result }
-        ensures unchanged { OnErr result (self.new ≡ self.old) }
+        ensures { MatchResult result (λ _. self.new ≡ with_more self.old piece.now)
+            (λ e. (e ≡ Memory) × (self.old.is_ended ≡ false) × (self.new ≡ self.old)) }
     {
         if self.is_ended {
             return Ok(());

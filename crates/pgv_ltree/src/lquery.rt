@@ -1,6 +1,6 @@
 //! Queries of label trees (PostgreSQL, "ltree", lquery).
 
-ghost use Rattle.std.specs.Prelude.{◌≡◌, ◌⊎◌, ◌↔◌, ◌<◌, ◌++◌, ◌∷◌, [], List, ℕ, length, map, IfOk, IfErr, OnOk, OnErr, IsSome, Ok, Err, Some, option_map, true};
+ghost use Rattle.std.specs.Prelude.{◌≡◌, ◌⊎◌, ◌↔◌, ◌<◌, ◌++◌, ◌∷◌, [], List, ℕ, length, map, MatchResult, IfErr, OnOk, OnErr, IsSome, Ok, Err, Some, option_map, true};
 ghost use Rattle.std.specs.Iterator.{Drains, IsFinite, YieldsThen};
 ghost use Rattle.std.specs.Option.{option_to_list};
 ghost use Rattle.std.specs.Vec.Iter.{into_iter_items, into_iter_len};
@@ -76,12 +76,12 @@ impl PgLQuery {
     ) -> Result<PgLQuery, PgLQueryParseError>
         requires { (it : I.IntoIter) → I.into_iter_gives levels it → I.IntoIter.can_next it
             × IsFinite (I.IntoIter.remaining it) }
-        // Every text was taken, and is the level at its place.
-        ensures ok { IfOk result (λ query. (it : I.IntoIter) × (texts : List (List ℕ))
+        // Every text was taken, and is the level at its place. Or the text that was taken last, after levels, is no
+        // level; or it begins as one, and there was no memory for it.
+        ensures { MatchResult result (λ query. (it : I.IntoIter) × (texts : List (List ℕ))
             × I.into_iter_gives levels it × GivesTexts I.IntoIter.next_gives it texts
-            × (read_each level_read texts ≡ Ok query)) }
-        // The text that was taken last, after levels, is no level; or it begins as one, and there was no memory for it.
-        ensures err { IfErr result (λ e. (it : I.IntoIter) × (text : List ℕ)
+            × (read_each level_read texts ≡ Ok query))
+            (λ e. (it : I.IntoIter) × (text : List ℕ)
             × I.into_iter_gives levels it × GivesAfterRead level_read I.IntoIter.next_gives it text
             × ((level_read text ≡ Err e) ⊎ ((e ≡ Memory) × (begins_level text ≡ true)))) }
     {
@@ -99,11 +99,11 @@ impl PgLQuery {
     ) -> Result<PgLQuery, AllocError>
         requires { (it : I.IntoIter) → I.into_iter_gives levels it → I.IntoIter.can_next it
             × IsFinite (I.IntoIter.remaining it) }
-        ensures ok { IfOk result (λ query. (it : I.IntoIter) × (taken : List PgLQueryLevel)
+        // Every level was taken; or memory was asked for one.
+        ensures { MatchResult result (λ query. (it : I.IntoIter) × (taken : List PgLQueryLevel)
             × I.into_iter_gives levels it × Drains I.IntoIter.next_gives it taken
-            × (query ≡ map level_of taken)) }
-        // Memory was asked for a level.
-        ensures err { OnErr result ((it : I.IntoIter) × (taken : List _) × (last : _)
+            × (query ≡ map level_of taken))
+            (λ _. (it : I.IntoIter) × (taken : List _) × (last : _)
             × (after : I.IntoIter) × I.into_iter_gives levels it
             × YieldsThen I.IntoIter.next_gives it taken (Some last) after) }
     {

@@ -1,6 +1,6 @@
 //! Trees of labels (PostgreSQL, "ltree", Definitions).
 
-ghost use Rattle.std.specs.Prelude.{◌≡◌, ◌⊎◌, ◌↔◌, ◌<◌, ◌++◌, ◌∷◌, [], List, ℕ, length, IfOk, IfErr, OnOk, OnErr, IsSome, Ok, Err, Some, true};
+ghost use Rattle.std.specs.Prelude.{◌≡◌, ◌⊎◌, ◌↔◌, ◌<◌, ◌++◌, ◌∷◌, [], List, ℕ, length, MatchResult, IfErr, OnOk, OnErr, IsSome, Ok, Err, Some, true};
 ghost use Rattle.std.specs.Iterator.{Drains, IsFinite, YieldsThen};
 ghost use Rattle.std.specs.List.{list_all};
 ghost use Rattle.std.specs.Option.{option_to_list};
@@ -70,12 +70,12 @@ impl PgLTree {
     ) -> Result<PgLTree, PgLTreeParseError>
         requires { (it : I.IntoIter) → I.into_iter_gives labels it → I.IntoIter.can_next it
             × IsFinite (I.IntoIter.remaining it) }
-        // Every text was taken, and is the label at its place.
-        ensures ok { IfOk result (λ tree. (it : I.IntoIter) × (texts : List (List ℕ))
+        // Every text was taken, and is the label at its place. Or the text that was taken last, after labels, is no
+        // label; or it is one, and there was no memory for it.
+        ensures { MatchResult result (λ tree. (it : I.IntoIter) × (texts : List (List ℕ))
             × I.into_iter_gives labels it × GivesTexts I.IntoIter.next_gives it texts
-            × (read_each label_read texts ≡ Ok tree)) }
-        // The text that was taken last, after labels, is no label; or it is one, and there was no memory for it.
-        ensures err { IfErr result (λ e. (it : I.IntoIter) × (text : List ℕ)
+            × (read_each label_read texts ≡ Ok tree))
+            (λ e. (it : I.IntoIter) × (text : List ℕ)
             × I.into_iter_gives labels it × GivesAfterRead label_read I.IntoIter.next_gives it text
             × ((label_read text ≡ Err e) ⊎ ((e ≡ Memory) × (is_label text ≡ true)))) }
     {
@@ -93,10 +93,10 @@ impl PgLTree {
     ) -> Result<PgLTree, AllocError>
         requires { (it : I.IntoIter) → I.into_iter_gives labels it → I.IntoIter.can_next it
             × IsFinite (I.IntoIter.remaining it) }
-        ensures ok { IfOk result (λ tree. (it : I.IntoIter) × I.into_iter_gives labels it
-            × Drains I.IntoIter.next_gives it tree) }
-        // Memory was asked for a label.
-        ensures err { OnErr result ((it : I.IntoIter) × (taken : List _) × (last : _)
+        // Every label was taken; or memory was asked for one.
+        ensures { MatchResult result (λ tree. (it : I.IntoIter) × I.into_iter_gives labels it
+            × Drains I.IntoIter.next_gives it tree)
+            (λ _. (it : I.IntoIter) × (taken : List _) × (last : _)
             × (after : I.IntoIter) × I.into_iter_gives labels it
             × YieldsThen I.IntoIter.next_gives it taken (Some last) after) }
     {

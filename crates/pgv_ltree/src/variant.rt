@@ -87,8 +87,8 @@ fn label_length(bytes: &[u8]) -> usize
 
 /// The label and the modifiers of a text.
 fn split_marks(text: &str) -> (&str, &str)
-    ensures label { result.0.now ≡ take (label_length_of text.now) text.now }
-    ensures marks { result.1.now ≡ drop (label_length_of text.now) text.now }
+    ensures { (result.0.now ≡ take (label_length_of text.now) text.now)
+        × (result.1.now ≡ drop (label_length_of text.now) text.now) }
 {
     text.split_at(label_length(text.as_bytes()))
 }

@@ -1,6 +1,6 @@
 //! Messages as pieces that are appended one after another.
 
-ghost use Rattle.std.specs.Prelude.{◌≡◌, ◌<◌, ◌≤◌, ◌++◌, [], ◌∷◌, length, flat_map, is_ok, IfOk, IfErr, OnErr};
+ghost use Rattle.std.specs.Prelude.{◌≡◌, ◌<◌, ◌≤◌, ◌++◌, [], ◌∷◌, length, flat_map, is_ok, MatchResult};
 ghost use Rattle.std.specs.Int.{to_be_bytes};
 ghost use Rattle.pgv_message.specs.Writing.{Gives, Sends, appended, text_of, count_of, whole, max_body};
 ghost use Rattle.pgv_message.specs.Pieces.{piece_bytes, joined_pieces, format_bytes, format_codes, oid_bytes};
@@ -73,10 +73,9 @@ fn piece_size(piece: &Piece<'_>) -> usize
 
 /// How many bytes all pieces have. More than a body may have are refused.
 fn body_size(pieces: &[Piece<'_>]) -> Result<usize, MessageError>
-    ensures ok { IfOk result (λ n. n ≡ length (flat_map piece_bytes pieces.now)) }
-    ensures fits { IfOk result (λ n. n ≤ max_body) }
-    ensures err { IfErr result (λ e. e ≡ TooLong) }
-    ensures long { OnErr result (max_body < length (flat_map piece_bytes pieces.now)) }
+    ensures { MatchResult result
+        (λ n. (n ≡ length (flat_map piece_bytes pieces.now)) × (n ≤ max_body))
+        (λ e. (e ≡ TooLong) × (max_body < length (flat_map piece_bytes pieces.now))) }
 {
     let mut size: usize = 0;
     for piece in pieces {

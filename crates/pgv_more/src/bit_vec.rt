@@ -54,8 +54,7 @@ impl BitVec {
 
     /// The list of these bits, in their order: `[true, false, true]` is `101`. For no bits no memory is asked for.
     pub fn from_bits(alloc: Global, bits: Vec<bool>) -> Result<BitVec, AllocError>
-        ensures ok { IfOk result (λ b. b ≡ bits.items) }
-        ensures succeeds { bits.items ≡ [] → IsOk result }
+        ensures { MatchResult result (λ b. b ≡ bits.items) (λ _. bits.items ≢ []) }
     {
         Ok(BitVec {
             bytes: bytes_of(alloc, bits.as_slice())?,
@@ -65,8 +64,7 @@ impl BitVec {
 
     /// All bits of these bytes: `ff80` gives `11111111 10000000`. For no bytes no memory is asked for.
     pub fn from_bytes(alloc: Global, bytes: &[u8]) -> Result<BitVec, AllocError>
-        ensures ok { IfOk result (λ b. b ≡ bits_of bytes.now) }
-        ensures succeeds { bytes.now ≡ [] → IsOk result }
+        ensures { MatchResult result (λ b. b ≡ bits_of bytes.now) (λ _. bytes.now ≢ []) }
     {
         let Some(count) = bytes.len().checked_mul(8) else {
             return Err(AllocError);
@@ -250,8 +248,8 @@ fn byte_of<B: Bit>(bits: &[B]) -> u8
 
 /// The bytes of bits. For no bits no memory is asked for.
 fn bytes_of<B: Bit>(alloc: Global, bits: &[B]) -> Result<Vec<u8>, AllocError>
-    ensures ok { IfOk result (λ v. v.items ≡ packed (map B.set bits.now)) }
-    ensures succeeds { bits.now ≡ [] → IsOk result }
+    ensures { MatchResult result (λ v. v.items ≡ packed (map B.set bits.now))
+        (λ _. bits.now ≢ []) }
 {
     let mut bytes = Vec::with_capacity(alloc, bits.len().div_ceil(8))?;
     for chunk in bits.chunks(8) {

@@ -1,6 +1,6 @@
 //! Strings of bytes (PostgreSQL, "Binary Data Types", bytea).
 
-ghost use Rattle.std.specs.Prelude.{◌≡◌, ◌%◌, ◌==◌, ◌&&◌, [], IfOk, IsOk, length, ok_or};
+ghost use Rattle.std.specs.Prelude.{◌≡◌, ◌≢◌, ◌%◌, ◌==◌, ◌&&◌, [], MatchResult, length, ok_or};
 ghost use Rattle.pgv_value.specs.Outcome.{Gives, copied};
 ghost use Rattle.pgv_value.specs.declared.error.CodecError.TheVariants.{Syntax};
 ghost use Rattle.pgv_more.specs.ByteaText.{all_digits, bytea_in_text, digits_after};
@@ -20,8 +20,7 @@ pub struct PgBytea(pub Vec<u8>);
 /// A copy of bytes. For no bytes no memory is asked for.
 #[inline(always)]
 pub(crate) fn copy_of(alloc: Global, bytes: &[u8]) -> Result<Vec<u8>, AllocError>
-    ensures ok { IfOk result (λ copy. copy.items ≡ bytes.now) }
-    ensures succeeds { bytes.now ≡ [] → IsOk result }
+    ensures { MatchResult result (λ copy. copy.items ≡ bytes.now) (λ _. bytes.now ≢ []) }
 {
     let mut copy = Vec::with_capacity(alloc, bytes.len())?;
     copy.extend_from_slice(bytes)?;

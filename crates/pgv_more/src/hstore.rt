@@ -1,6 +1,6 @@
 //! Maps of texts (PostgreSQL, appendix F, hstore).
 
-ghost use Rattle.std.specs.Prelude.{◌≡◌, [], IfOk, OnOk, OnErr, List, Some, map};
+ghost use Rattle.std.specs.Prelude.{◌≡◌, [], MatchResult, OnOk, List, Some, map};
 ghost use Rattle.std.specs.BTreeMap.{insert_entry};
 ghost use Rattle.std.specs.Iterator.{Drains, IsFiniteIterable, YieldsThen};
 ghost use Rattle.std.specs.String.{string_cmp};
@@ -33,11 +33,11 @@ impl PgHstore {
     ) -> Result<PgHstore, AllocError>
         requires { IsFiniteIterable I.into_iter_gives I.IntoIter.can_next
             I.IntoIter.remaining pairs }
-        ensures ok { IfOk result (λ h. (it : I.IntoIter) × (xs : List _)
+        // Every pair was taken; or memory was asked for one.
+        ensures { MatchResult result (λ h. (it : I.IntoIter) × (xs : List _)
             × I.into_iter_gives pairs it × Drains I.IntoIter.next_gives it xs
-            × IsMapOf (map pair_of xs) (pairs_of h)) }
-        // Memory was asked for a pair.
-        ensures err { OnErr result ((it : I.IntoIter) × (taken : List _) × (last : _)
+            × IsMapOf (map pair_of xs) (pairs_of h))
+            (λ _. (it : I.IntoIter) × (taken : List _) × (last : _)
             × (after : I.IntoIter) × I.into_iter_gives pairs it
             × YieldsThen I.IntoIter.next_gives it taken (Some last) after) }
     {
@@ -56,11 +56,11 @@ impl PgHstore {
     ) -> Result<PgHstore, AllocError>
         requires { IsFiniteIterable I.into_iter_gives I.IntoIter.can_next
             I.IntoIter.remaining pairs }
-        ensures ok { IfOk result (λ h. (it : I.IntoIter) × (xs : List _)
+        // Every pair was taken; or memory was asked for one.
+        ensures { MatchResult result (λ h. (it : I.IntoIter) × (xs : List _)
             × I.into_iter_gives pairs it × Drains I.IntoIter.next_gives it xs
-            × IsMapOf (map text_pair_of xs) (pairs_of h)) }
-        // Memory was asked for a pair.
-        ensures err { OnErr result ((it : I.IntoIter) × (taken : List _) × (last : _)
+            × IsMapOf (map text_pair_of xs) (pairs_of h))
+            (λ _. (it : I.IntoIter) × (taken : List _) × (last : _)
             × (after : I.IntoIter) × I.into_iter_gives pairs it
             × YieldsThen I.IntoIter.next_gives it taken (Some last) after) }
     {

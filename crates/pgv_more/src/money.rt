@@ -1,6 +1,6 @@
 //! Amounts of money (PostgreSQL, "Monetary Types", money).
 
-ghost use Rattle.std.specs.Prelude.{◌≡◌, ◌↔◌, ◌+ℤ◌, ◌-ℤ◌, FitsSigned, IfSome, IsSome, ok_or};
+ghost use Rattle.std.specs.Prelude.{◌≡◌, ◌+ℤ◌, ◌-ℤ◌, FitsSigned, MatchOption, ok_or};
 ghost use Rattle.std.specs.Int.{w64};
 ghost use Rattle.pgv_value.specs.Parsed.{GivesExactly};
 ghost use Rattle.pgv_value.specs.declared.error.CodecError.TheVariants.{Short};
@@ -33,16 +33,16 @@ impl Default for PgMoney {
 impl PgMoney {
     /// The sum, or `None` if it does not fit in 64 bits, as `i64::MAX` and one more.
     pub fn checked_add(self, rhs: PgMoney) -> Option<PgMoney>
-        ensures found { IsSome result ↔ FitsSigned w64 (self.0 +ℤ rhs.0) }
-        ensures value { IfSome result (λ sum. sum.0 ≡ self.0 +ℤ rhs.0) }
+        ensures { MatchOption result (¬ FitsSigned w64 (self.0 +ℤ rhs.0))
+            (λ sum. (sum.0 ≡ self.0 +ℤ rhs.0) × FitsSigned w64 (self.0 +ℤ rhs.0)) }
     {
         self.0.checked_add(rhs.0).map(PgMoney)
     }
 
     /// The difference, or `None` if it does not fit in 64 bits.
     pub fn checked_sub(self, rhs: PgMoney) -> Option<PgMoney>
-        ensures found { IsSome result ↔ FitsSigned w64 (self.0 -ℤ rhs.0) }
-        ensures value { IfSome result (λ difference. difference.0 ≡ self.0 -ℤ rhs.0) }
+        ensures { MatchOption result (¬ FitsSigned w64 (self.0 -ℤ rhs.0)) (λ difference.
+            (difference.0 ≡ self.0 -ℤ rhs.0) × FitsSigned w64 (self.0 -ℤ rhs.0)) }
     {
         self.0.checked_sub(rhs.0).map(PgMoney)
     }

@@ -1,6 +1,6 @@
 //! Texts (PostgreSQL, "Character Types"): their bytes in UTF-8.
 
-ghost use Rattle.std.specs.Prelude.{◌≡◌, ℕ, List, [], refl, string_bytes, IfOk, IsOk};
+ghost use Rattle.std.specs.Prelude.{◌≡◌, ◌≢◌, ℕ, List, [], refl, string_bytes, MatchResult};
 ghost use Rattle.pgv_codec.specs.ScalarBinary.{text_image};
 ghost use Rattle.pgv_codec.specs.Encoding.{plainly, writes};
 
@@ -14,8 +14,7 @@ use std::alloc::{AllocError, Global};
 /// A text of its own. An empty one asks for no memory.
 #[inline(always)]
 fn copy_of(alloc: Global, text: &str) -> Result<String, AllocError>
-    ensures ok { IfOk result (λ copy. string_bytes copy ≡ text.now) }
-    ensures succeeds { text.now ≡ [] → IsOk result }
+    ensures { MatchResult result (λ copy. string_bytes copy ≡ text.now) (λ _. text.now ≢ []) }
 {
     let mut copy = String::with_capacity(alloc, text.len())?;
     copy.push_str(text)?;

@@ -28,7 +28,7 @@ loop-chunk-preserved g c =
       omega (arith, ap length steps.1.0, length-append chunk after, c.loop-chunk.invariant.4),
     )
 
-pub returns-clause-ok : goal.returns-clause-ok
-returns-clause-ok g c =
+pub returns : goal.returns
+returns g c =
     let none : chunks_rest c.loop-chunk.chunk-iterator ≡ [] = nil_from_length (chunks_rest c.loop-chunk.chunk-iterator) c.in-None.ensures.steps.1.0 in
     sym (append-nil c.loop-chunk.bytes.items) ∙ ap (λ (xs : List ℕ). c.loop-chunk.bytes.items ++ xs) (sym (ap (λ bs. packed (map g.B.Bit.set bs)) none ∙ no_bytes)) ∙ c.loop-chunk.invariant.3

@@ -8,8 +8,8 @@ use Rattle.pgv_ltree.specs.QueryRead.{level_read}
 use Rattle.pgv_ltree.proofs.Begun.{begun_or_refused, level_passes}
 use Rattle.pgv_ltree.proofs.lquery.PgLQuery.try_from_iter.Goals as goal
 
-pub returns-in_err-from_str-clause-err : goal.returns-in_err-from_str-clause-err
-returns-in_err-from_str-clause-err g c =
+pub returns-in_err-from_str : goal.returns-in_err-from_str
+returns-in_err-from_str g c =
     let p = err_from_is_err_and c.from_residual.result c.from_residual.ensures.1 in
     rw (p.1, p.2) (
       c.into_iter-level-iterator.result,
@@ -19,8 +19,8 @@ returns-in_err-from_str-clause-err g c =
       begun_or_refused c.in-Some.level.now c.in_err-from_str.field-0.0 c.in_err-from_str.ensures,
     )
 
-pub returns-in_err-push-clause-err : goal.returns-in_err-push-clause-err
-returns-in_err-push-clause-err g c =
+pub returns-in_err-push : goal.returns-in_err-push
+returns-in_err-push g c =
     let p = err_from_is_err_and c.from_residual-in_err-push.result c.from_residual-in_err-push.ensures.1 in
     rw (p.1, p.2) (
       c.into_iter-level-iterator.result,

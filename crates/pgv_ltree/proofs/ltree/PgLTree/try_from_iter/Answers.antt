@@ -6,8 +6,8 @@ use Rattle.pgv_ltree.specs.Labels.{label_read}
 use Rattle.pgv_ltree.proofs.EachRead.{each-push, read_is_label}
 use Rattle.pgv_ltree.proofs.ltree.PgLTree.try_from_iter.Goals as goal
 
-pub returns-in_err-new-clause-err : goal.returns-in_err-new-clause-err
-returns-in_err-new-clause-err g c =
+pub returns-in_err-new : goal.returns-in_err-new
+returns-in_err-new g c =
     let p = err_from_is_err_and c.from_residual.result c.from_residual.ensures.1 in
     rw (p.1, p.2) (
       c.into_iter-label-iterator.result,
@@ -17,8 +17,8 @@ returns-in_err-new-clause-err g c =
       inl (sym c.in_err-new.ensures),
     )
 
-pub returns-in_err-push-clause-err : goal.returns-in_err-push-clause-err
-returns-in_err-push-clause-err g c =
+pub returns-in_err-push : goal.returns-in_err-push
+returns-in_err-push g c =
     let p = err_from_is_err_and c.from_residual-in_err-push.result c.from_residual-in_err-push.ensures.1 in
     rw (p.1, p.2) (
       c.into_iter-label-iterator.result,

@@ -9,4 +9,4 @@ returns c =
     let marks = c.as_bytes-marks.result.now in
     let all : list_all is_mark marks ≡ true = sym c.are_marks.ensures ∙ c.if-not-are_marks.false in
     variant_there c.args.text.now c.split_marks.result.0.now marks c.in_ok-from_str.field-0 c.contains.result c.contains-2.result c.contains-3.result
-    c.split_marks.ensures.label (c.as_bytes-marks.ensures.value ∙ c.split_marks.ensures.marks) all c.in_ok-from_str.ensures c.contains.ensures.value c.contains-2.ensures.value c.contains-3.ensures.value
+    c.split_marks.ensures.0 (c.as_bytes-marks.ensures.value ∙ c.split_marks.ensures.1) all c.in_ok-from_str.ensures c.contains.ensures.value c.contains-2.ensures.value c.contains-3.ensures.value

@@ -5,7 +5,7 @@ use Rattle.pgv_more.proofs.Kept.{closes, shows}
 use Rattle.pgv_more.proofs.bit_vec.BitVec.from_bits.Goals as goal
 
 pub invariant_of-result : goal.invariant_of-result
-invariant_of-result c = closes _ _ c.args.bits.items (c.in_ok-bytes_of.ensures.ok ∙ ap packed (map-id _ ∙ c.as_slice.ensures.value)) (search rules)
+invariant_of-result c = closes _ _ c.args.bits.items (c.in_ok-bytes_of.ensures ∙ ap packed (map-id _ ∙ c.as_slice.ensures.value)) (search rules)
 
-pub returns-clause-ok : goal.returns-clause-ok
-returns-clause-ok c = shows _ _ c.args.bits.items (c.in_ok-bytes_of.ensures.ok ∙ ap packed (map-id _ ∙ c.as_slice.ensures.value)) (search rules)
+pub returns : goal.returns
+returns c = shows _ _ c.args.bits.items (c.in_ok-bytes_of.ensures ∙ ap packed (map-id _ ∙ c.as_slice.ensures.value)) (search rules)

@@ -6,12 +6,12 @@ use Rattle.pgv_more.proofs.bit_vec.BitVec.from_bytes.Goals as goal
 
 pub invariant_of-result : goal.invariant_of-result
 invariant_of-result c =
-    let same = c.in_ok-copy_of.ensures.ok in
+    let same = c.in_ok-copy_of.ensures in
     let small : AreByteNumbers c.in_ok-copy_of.field-0.items = subst AreByteNumbers (sym same) (λ i. (c.type_inv.bytes i).fits) in
     closes c.in_ok-copy_of.field-0.items c.in-Some.count (bits_of c.in_ok-copy_of.field-0.items) (whole_bytes c.in_ok-copy_of.field-0.items small) (omega (arith, c.in-Some.ensures, ap length same, length-bits_of c.in_ok-copy_of.field-0.items))
 
-pub returns-clause-ok : goal.returns-clause-ok
-returns-clause-ok c =
-    let same = c.in_ok-copy_of.ensures.ok in
+pub returns : goal.returns
+returns c =
+    let same = c.in_ok-copy_of.ensures in
     let small : AreByteNumbers c.in_ok-copy_of.field-0.items = subst AreByteNumbers (sym same) (λ i. (c.type_inv.bytes i).fits) in
     shows c.in_ok-copy_of.field-0.items c.in-Some.count (bits_of c.in_ok-copy_of.field-0.items) (whole_bytes c.in_ok-copy_of.field-0.items small) (omega (arith, c.in-Some.ensures, ap length same, length-bits_of c.in_ok-copy_of.field-0.items)) ∙ ap bits_of same

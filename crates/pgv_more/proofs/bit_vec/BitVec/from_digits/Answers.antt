@@ -7,10 +7,10 @@ use Rattle.pgv_more.proofs.Kept.{closes, shows}
 use Rattle.pgv_more.proofs.bit_vec.BitVec.from_digits.Goals as goal
 
 pub invariant_of-result : goal.invariant_of-result
-invariant_of-result c = closes _ _ (map is_one c.args.digits.now) c.in_ok-bytes_of.ensures.ok (sym (length-map c.args.digits.now is_one))
+invariant_of-result c = closes _ _ (map is_one c.args.digits.now) c.in_ok-bytes_of.ensures (sym (length-map c.args.digits.now is_one))
 
 pub returns : goal.returns
 returns c =
     let all : list_all is_digit c.args.digits.now ≡ true = sym c.are_digits.ensures ∙ c.if-not-are_digits.false in
     let there : bits_in_text c.args.digits.now ≡ Some (map is_one c.args.digits.now) = rw all refl in
-    ap (λ bits. Some bits) (shows _ _ (map is_one c.args.digits.now) c.in_ok-bytes_of.ensures.ok (sym (length-map c.args.digits.now is_one))) ∙ sym there
+    ap (λ bits. Some bits) (shows _ _ (map is_one c.args.digits.now) c.in_ok-bytes_of.ensures (sym (length-map c.args.digits.now is_one))) ∙ sym there

@@ -11,8 +11,8 @@ loop-key-preserved g c =
     one_more text_pair_of c.loop-key.yielded (c.in-Some.key, c.in-Some.value) (map pair_of c.loop-key.map.entries) (map pair_of c.put_pair.new.map.entries) c.loop-key.invariant
     (ap (map pair_of) c.in_ok-put_pair.ensures ∙ inserted c.loop-key.map.entries c.in-Some.key (Some c.in-Some.value))
 
-pub returns-clause-ok : goal.returns-clause-ok
-returns-clause-ok g c =
+pub returns : goal.returns
+returns g c =
     let it = c.into_iter-key-iterator in (
       it.result,
       c.loop-key.yielded,
@@ -21,8 +21,8 @@ returns-clause-ok g c =
       map_made (map text_pair_of c.loop-key.yielded) (map pair_of c.loop-key.map.entries) c.loop-key.invariant,
     )
 
-pub returns-in_err-put_pair-clause-err : goal.returns-in_err-put_pair-clause-err
-returns-in_err-put_pair-clause-err g c =
+pub returns-in_err-put_pair : goal.returns-in_err-put_pair
+returns-in_err-put_pair g c =
     let it = c.into_iter-key-iterator in
     let p = err_from_is_err_and c.from_residual.result c.from_residual.ensures.1 in
     rw p.1 (it.result, c.loop-key.yielded, (c.in-Some.key, c.in-Some.value), c.next.new.self, it.ensures.into_iter_gives, (c.loop-key.key-iterator, c.loop-key.yielded_by, c.in-Some.ensures.steps))
