@@ -1,8 +1,8 @@
 -- The frames of a list.
-use Rattle.std.proofs.Common.{◌≡◌, ℕ, ◌+◌, zero, suc, ◌<◌, ◌≤◌, Bool, true, false, nat_lt, Result, Ok, Err, OnErr, OnOk, List, [], ◌∷◌, ◌++◌, length, map, Option, Some, None, get_or, take, drop, refl, sym, ◌∙◌, ap, append_assoc, append-nil, add-one, arith, drop-cons, inl, inr}
+use Rattle.std.proofs.Common.{◌≡◌, ℕ, ◌+◌, ◌*◌, zero, suc, ◌<◌, ◌≤◌, Bool, true, false, nat_lt, Result, Ok, Err, OnErr, OnOk, List, [], ◌∷◌, ◌++◌, length, map, Option, Some, None, get_or, take, drop, refl, sym, subst, ◌∙◌, ap, append_assoc, append-nil, add-one, arith, drop-cons, inl, inr}
 use Rattle.std.proofs.lemmas.Bool.{le-ltb, lt-ltb}
-use Rattle.std.proofs.lemmas.List.{drop_all, length-map}
-use Rattle.std.proofs.Math.Seq.{take-add}
+use Rattle.std.proofs.lemmas.List.{drop_all, length-append, length-drop, length-map, length-take}
+use Rattle.std.proofs.Math.Seq.{take-add, take-append_seam, take-suc}
 use Rattle.pgv_types.specs.Ty.{Ty}
 use Rattle.pgv_types.specs.Facts.{oid_of}
 use Rattle.pgv_buf.specs.Tokens.{Token, Cell, hole, bytes, be4, blank}
@@ -13,7 +13,7 @@ use Rattle.pgv_codec.specs.PlainBytes.{bytes-append}
 use Rattle.pgv_codec.proofs.Frames.{plain_frame}
 use Rattle.pgv_codec.specs.Encoding.{Encoding, Image, image_of, plainly, writes, frame, frames, typed, header, array_image, element_type, field, value_type}
 use Rattle.pgv_codec.specs.Appending.{Appended, Appends, Extends}
-use Rattle.pgv_codec.specs.AtOnce.{WritesFirst, four_words, word_frame}
+use Rattle.pgv_codec.specs.AtOnce.{AreFrames, WritesFirst, word_frame}
 
 -- tokens after tokens
 pub both : (was mid now : List Cell) (a b : List Token) → mid ≡ was ++ blank a → now ≡ mid ++ blank b → now ≡ was ++ blank (a ++ b)
@@ -74,9 +74,6 @@ module _ {X : Type 0} (encoding : X → Encoding) where
 
   left_is : (xs : List X) (i : ℕ) (x : X) → i < length xs → x ≡ get_or xs i x → drop i xs ≡ x ∷ drop (suc i) xs
   left_is xs i x lt is = drop-cons xs i x lt ∙ ap (λ (y : X). y ∷ drop (suc i) xs) (sym is)
-
-  next_is : (xs : List X) (i j : ℕ) (x : X) → i < length xs → i + 1 ≡ j → x ≡ get_or xs i x → drop i xs ≡ x ∷ drop j xs
-  next_is xs i j x lt next is = rw (← next, add-one) (left_is xs i x lt is)
 
   pub frames_more : (ts : List Token) (xs : List X) (i : ℕ) (x : X) (f : List Token) (total : Answer) → i < length xs → x ≡ get_or xs i x → (frame (encoding x)).answer ≡ Ok f →
       with_front ts (still (drop i xs)).answer ≡ total → with_front (ts ++ f) (still (drop (suc i) xs)).answer ≡ total
@@ -157,34 +154,41 @@ module _ {X : Type 0} (encoding : X → Encoding) where
       let rest = still_both xs ys p.1 us p.3 f in
       rw (p.2, rest) (ap (λ (xs : List Token). let r : Answer = Ok xs in r) (sym (append_assoc p.0 p.1 us) ∙ ap (λ (zs : List Token). zs ++ us) p.4))
 
-  four_frames : (a b c d : X) (f g h i : List Token) → (frame (encoding a)).answer ≡ Ok f → (frame (encoding b)).answer ≡ Ok g → (frame (encoding c)).answer ≡ Ok h → (frame (encoding d)).answer ≡ Ok i →
-      (still (a ∷ b ∷ c ∷ d ∷ [])).answer ≡ Ok ((f ++ g) ++ (h ++ i))
+  -- the frames of values after those of others
+  pub frames_after : (xs ys : List X) (ps qs : List ℕ) → AreFrames encoding xs ps → AreFrames encoding ys qs → AreFrames encoding (xs ++ ys) (ps ++ qs)
+  frames_after xs ys ps qs e f = still_both xs ys (bytes ps) (bytes qs) e f ∙ ap (λ (ts : List Token). let r : Answer = Ok ts in r) (sym (bytes-append ps qs))
+
+  pub no_frames : AreFrames encoding [] []
   unfolding frames
-  four_frames a b c d f g h i j k l m = rw (j, k, l, m) (ap (λ (zs : List Token). let r : Answer = Ok (f ++ (g ++ (h ++ zs))) in r) (append-nil i) ∙ ap (λ (zs : List Token). let r : Answer = Ok zs in r) (sym (append_assoc f g (h ++ i))))
+  no_frames = refl
 
-  four_of : (xs : List X) (n : ℕ) (a b c d : X) → n + 4 ≤ length xs → a ≡ get_or xs n a → b ≡ get_or xs (n + 1) b → c ≡ get_or xs (n + 2) c → d ≡ get_or xs (n + 3) d → take (n + 4) xs ≡ take n xs ++ (a ∷ b ∷ c ∷ d ∷ [])
-  four_of xs n a b c d le j k l m =
-      let one : drop n xs ≡ a ∷ drop (n + 1) xs = rw add-one (left_is xs n a (omega (arith, le)) j) in
-      let two : drop (n + 1) xs ≡ b ∷ drop (n + 2) xs = next_is xs (n + 1) (n + 2) b (omega (arith, le)) (omega arith) k in
-      let three : drop (n + 2) xs ≡ c ∷ drop (n + 3) xs = next_is xs (n + 2) (n + 3) c (omega (arith, le)) (omega arith) l in
-      let last : drop (n + 3) xs ≡ d ∷ drop (n + 4) xs = next_is xs (n + 3) (n + 4) d (omega (arith, le)) (omega arith) m in
-      take-add n 4 xs ∙ ap (λ (ys : List X). take n xs ++ take 4 ys) (one ∙ ap (λ (ys : List X). a ∷ ys) (two ∙ ap (λ (ys : List X). b ∷ ys) (three ∙ ap (λ (ys : List X). c ∷ ys) last)))
+  one_frame : (x : X) (word : List ℕ) → (frame (encoding x)).answer ≡ Ok (bytes (word_frame word)) → AreFrames encoding (x ∷ []) (word_frame word)
+  unfolding frames
+  one_frame x word e = rw e (ap (λ (ts : List Token). let r : Answer = Ok ts in r) (append-nil (bytes (word_frame word))))
 
-  pub four_more : (xs : List X) (n : ℕ) (was mid now : List Cell) (a b c d : X) (p q r s : List ℕ) → n + 4 ≤ length xs → a ≡ get_or xs n a → b ≡ get_or xs (n + 1) b → c ≡ get_or xs (n + 2) c → d ≡ get_or xs (n + 3) d →
-      (frame (encoding a)).answer ≡ Ok (bytes (word_frame p)) → (frame (encoding b)).answer ≡ Ok (bytes (word_frame q)) → (frame (encoding c)).answer ≡ Ok (bytes (word_frame r)) → (frame (encoding d)).answer ≡ Ok (bytes (word_frame s)) →
-      now ≡ mid ++ blank (bytes (four_words p q r s)) → WritesFirst encoding xs n was mid → WritesFirst encoding xs (n + 4) was now
-  four_more xs n was mid now a b c d p q r s le j k l m e f g h grown first =
-      let all = four_frames a b c d (bytes (word_frame p)) (bytes (word_frame q)) (bytes (word_frame r)) (bytes (word_frame s)) e f g h in
-      let apart : bytes (four_words p q r s) ≡ (bytes (word_frame p) ++ bytes (word_frame q)) ++ (bytes (word_frame r) ++ bytes (word_frame s)) =
-      bytes-append (word_frame p ++ word_frame q) (word_frame r ++ word_frame s)
-      ∙ (ap (λ (ts : List Token). ts ++ bytes (word_frame r ++ word_frame s)) (bytes-append (word_frame p) (word_frame q)) ∙ ap (λ (ts : List Token). (bytes (word_frame p) ++ bytes (word_frame q)) ++ ts) (bytes-append (word_frame r) (word_frame s))) in (
-        le,
-        (
-          first.1.0 ++ bytes (four_words p q r s),
-          ap (λ (ys : List X). (still ys).answer) (four_of xs n a b c d le j k l m) ∙ still_both (take n xs) (a ∷ b ∷ c ∷ d ∷ []) first.1.0 (bytes (four_words p q r s)) first.1.1 (all ∙ ap (λ (ts : List Token). let z : Answer = Ok ts in z) (sym apart)),
-          both was mid now first.1.0 (bytes (four_words p q r s)) first.1.2 grown,
-        ),
-      )
+  -- one frame more in place of eight zeros
+  pub next_frame : (xs : List X) (i : ℕ) (x : X) (word was : List ℕ) → i < length xs → x ≡ get_or xs i x → (frame (encoding x)).answer ≡ Ok (bytes (word_frame word)) →
+      length (word_frame word) ≡ 8 → 8 * i + 8 ≤ length was → AreFrames encoding (take i xs) (take (8 * i) was) →
+      AreFrames encoding (take (i + 1) xs) (take (8 * (i + 1)) (take (8 * i) was ++ (word_frame word ++ drop 8 (drop (8 * i) was))))
+  next_frame xs i x word was lt is e long room first =
+      let on : 8 * (i + 1) ≡ 8 * i + 8 = omega arith in
+      let one : take (i + 1) xs ≡ take i xs ++ (x ∷ []) = rw add-one (take-suc xs i x lt ∙ ap (λ (y : X). take i xs ++ (y ∷ [])) (sym is)) in
+      let front = take (8 * i) was in
+      let wide : length (front ++ word_frame word) ≡ 8 * i + 8 = omega (arith, length-append front (word_frame word), long, length-take (8 * i) was) in
+      let bytes_are : take (8 * (i + 1)) (front ++ (word_frame word ++ drop 8 (drop (8 * i) was))) ≡ front ++ word_frame word =
+      rw (on, ← append_assoc) (subst (λ (m : ℕ). take m ((front ++ word_frame word) ++ drop 8 (drop (8 * i) was)) ≡ front ++ word_frame word) wide (take-append_seam (front ++ word_frame word) (drop 8 (drop (8 * i) was)))) in
+      rw (one, bytes_are) (frames_after (take i xs) (x ∷ []) front (word_frame word) first (one_frame x word e))
+
+  -- the frames of the next values after those of the first
+  pub then_first : (n m : ℕ) (xs : List X) (was mid now : List Cell) → WritesFirst encoding xs n was mid → WritesFirst encoding (drop n xs) m mid now → WritesFirst encoding xs (n + m) was now
+  then_first n m xs was mid now first next = (
+    omega (arith, first.0, next.0, length-drop n xs),
+    (
+      first.1.0 ++ next.1.0,
+      ap (λ (ys : List X). (still ys).answer) (take-add n m xs) ∙ still_both (take n xs) (take m (drop n xs)) first.1.0 next.1.0 first.1.1 next.1.1,
+      both was mid now first.1.0 next.1.0 first.1.2 next.1.2,
+    ),
+  )
 
   -- ---- arrays
 

@@ -4,7 +4,7 @@
 -- (`WritesFirst`).
 use Rattle.std.specs.Prelude.{◌≡◌, ℕ, ◌+◌, ◌-◌, ◌≤◌, List, ◌++◌, length, map, take, drop, Some, Result, Ok, Err, Option}
 use Rattle.pgv_types.specs.Ty.{Ty}
-use Rattle.pgv_buf.specs.Tokens.{Cell, be4}
+use Rattle.pgv_buf.specs.Tokens.{Cell, be4, bytes}
 use Rattle.pgv_codec.specs.ArrayGrammar.{frames}
 use Rattle.pgv_value.specs.Fronts.{value_front}
 use Rattle.pgv_value.specs.Outcome.{Outcome}
@@ -44,9 +44,9 @@ AreFirst parse count bytes ms rest = (t : Ty) → with_front ms (frames parse t 
 abbrev pub word_frame : List ℕ → List ℕ
 word_frame word = be4 4 ++ word
 
--- and of four of them
-abbrev pub four_words : List ℕ → List ℕ → List ℕ → List ℕ → List ℕ
-four_words a b c d = (word_frame a ++ word_frame b) ++ (word_frame c ++ word_frame d)
+-- the frames of these values are these bytes
+abbrev pub AreFrames : {X : Type 0} → (X → Encoding) → List X → List ℕ → Type 0
+AreFrames encoding values xs = (frames_of (map encoding values)).answer ≡ Ok (bytes xs)
 
 -- the frames of the first n values were appended
 abbrev pub WritesFirst : {X : Type 0} → (X → Encoding) → List X → ℕ → List Cell → List Cell → Type 0

@@ -102,12 +102,6 @@ module _ {M : Type 0} (accepts : Ty → Bool) (parse : Given → Outcome M) (t :
         read = ap (λ (g : Given). (parse g).answer) v.2 ∙ (read.1 ∙ ap (λ (x : M). let r : Result M (Option CodecError) = Ok x in r) k.0);
       }
 
-  field_exactly : (bytes : List ℕ) (m : M) (rest : List ℕ) → AreBytes bytes → ((field_in_binary accepts parse t place bytes).answer ≡ Ok (m, rest)) ↔ IsField accepts parse t place bytes m rest
-  field_exactly bytes m rest b = (field_is bytes m rest b, field_there accepts parse t place bytes m rest)
-
-  one_field : (bytes : List ℕ) (m n : M) (rest others : List ℕ) → IsField accepts parse t place bytes m rest → IsField accepts parse t place bytes n others → (m ≡ n) × (rest ≡ others)
-  one_field bytes m n rest others f g = answers_are m n rest others (sym (field_there accepts parse t place bytes m rest f) ∙ field_there accepts parse t place bytes n others g)
-
   after_field : (bytes : List ℕ) (m : M) (rest : List ℕ) → IsField accepts parse t place bytes m rest → AreBytes bytes → AreBytes rest
   after_field bytes m rest f b = after_frame f.rest_after f.part rest f.framed (after_four f.oid bytes f.rest_after f.whole b)
 
@@ -133,11 +127,11 @@ place_is t a b e = cc
 
 pub field_is_its_value : {M : Type 0} (accepts : Ty → Bool) (parse : Given → Outcome M) → FieldIsItsValue accepts parse
 unfolding FieldIsItsValue
-field_is_its_value accepts parse t place = field_exactly accepts parse t place
+field_is_its_value accepts parse t place bytes m rest b = (field_is accepts parse t place bytes m rest b, field_there accepts parse t place bytes m rest)
 
 pub one_field_value : {M : Type 0} (accepts : Ty → Bool) (parse : Given → Outcome M) → OneField accepts parse
 unfolding OneField
-one_field_value accepts parse t place = one_field accepts parse t place
+one_field_value accepts parse t place bytes m n rest others f g = answers_are m n rest others (sym (field_there accepts parse t place bytes m rest f) ∙ field_there accepts parse t place bytes n others g)
 
 pub record_begins : RecordBegins
 unfolding RecordBegins

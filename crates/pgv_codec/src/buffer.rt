@@ -9,7 +9,6 @@ ghost use Rattle.pgv_buf.specs.Fill.{fill_holes, fill_slots, slot_types};
 ghost use Rattle.pgv_value.specs.declared.error.CodecError.TheVariants.{Memory};
 ghost use Rattle.pgv_codec.specs.Encoding.{frame, image_of, plainly, typed, writes};
 ghost use Rattle.pgv_codec.specs.Appending.{Appended, Appends, AtOnce, Extends};
-ghost use Rattle.pgv_codec.specs.AtOnce.{four_words, word_frame as framed};
 
 use crate::traits::Encode;
 use pgv_buf::{Mark, Tokens};
@@ -198,39 +197,6 @@ impl PgArgumentBuffer {
     }
 }
 
-/// The frame of an image of four bytes.
-#[inline(always)]
-fn word_frame(word: [u8; 4]) -> [u8; 8]
-    ensures { result ≡ framed word }
-{
-    let mut frame = [0; 8];
-    frame[..4].copy_from_slice(&[0, 0, 0, 4]);
-    frame[4..].copy_from_slice(&word);
-    frame
-}
-
-/// The bytes of two such frames.
-#[inline(always)]
-fn two_frames(first: [u8; 8], second: [u8; 8]) -> [u8; 16]
-    ensures { result ≡ first ++ second }
-{
-    let mut frames = [0; 16];
-    frames[..8].copy_from_slice(&first);
-    frames[8..].copy_from_slice(&second);
-    frames
-}
-
-/// The bytes of four frames, two in each part.
-#[inline(always)]
-fn four_frames(front: [u8; 16], back: [u8; 16]) -> [u8; 32]
-    ensures { result ≡ front ++ back }
-{
-    let mut frames = [0; 32];
-    frames[..16].copy_from_slice(&front);
-    frames[16..].copy_from_slice(&back);
-    frames
-}
-
 impl Clone for PgArgumentBuffer {
     ghost is_clone = { λ buffer copy. copy ≡ buffer };
 
@@ -312,24 +278,6 @@ impl PgArgumentBuffer {
         self.push_u32(value.len() as u32)?;
         self.extend_from_slice(value)?;
         Ok(true)
-    }
-
-    /// Appends the frames of four images of four bytes in one step.
-    #[inline(always)]
-    pub(crate) fn push_four_words(
-        &mut self,
-        first: [u8; 4],
-        second: [u8; 4],
-        third: [u8; 4],
-        fourth: [u8; 4],
-    ) -> Result<(), CodecError>
-        ensures ok { OnOk result (self.new ≡ self.old
-            ++ blank (bytes (four_words first second third fourth))) }
-        ensures err { IfErr result (λ e. (e ≡ Memory) × (self.new ≡ self.old)) }
-    {
-        let front = two_frames(word_frame(first), word_frame(second));
-        let back = two_frames(word_frame(third), word_frame(fourth));
-        self.extend_from_slice(&four_frames(front, back))
     }
 
     /// Appends the frame of null, and answers `true`.

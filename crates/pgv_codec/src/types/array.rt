@@ -1,6 +1,6 @@
 //! Arrays of one dimension (PostgreSQL, "Arrays").
 
-ghost use Rattle.std.specs.Prelude.{◌≡◌, IfOk, IfErr, OnOk, OnErr, ◌+◌, ◌*◌, ◌<◌, ◌≤◌, ◌++◌, false, true, length, map, drop, Ok, Some, [], IfSome, is_some, List, MatchResult, refl};
+ghost use Rattle.std.specs.Prelude.{◌≡◌, IfOk, IfErr, OnOk, OnErr, ◌+◌, ◌*◌, ◌<◌, ◌≤◌, ◌++◌, false, true, length, map, drop, Ok, None, Some, [], IfSome, is_some, List, MatchResult, refl};
 ghost use Rattle.std.specs.Vec.{with_items};
 ghost use Rattle.pgv_text.specs.Values.{array_values};
 ghost use Rattle.pgv_buf.specs.Tokens.{be4};
@@ -8,6 +8,7 @@ ghost use Rattle.pgv_value.specs.Outcome.{Gives, GivesWhere, after};
 ghost use Rattle.pgv_value.specs.Reading.{has_items};
 ghost use Rattle.pgv_value.specs.declared.error.CodecError.TheVariants.{Memory};
 ghost use Rattle.pgv_value.specs.declared.value.PgValueFormat.TheVariants.{Binary};
+ghost use Rattle.pgv_types.specs.Facts.{oid_of};
 ghost use Rattle.pgv_codec.specs.ArrayGrammar.{array_in_binary, array_in_text, elements, frames, parse_array, parse_sized};
 ghost use Rattle.pgv_codec.specs.Encoding.{array_image, element_type, frames as frames_of, header, is_copied, plainly, sized_image, value_type};
 ghost use Rattle.pgv_codec.specs.Appending.{Appended, Appends, Encodes, Extends};
@@ -27,6 +28,7 @@ use std::alloc::{AllocError, Global};
 
 /// Appends the elements as an array of one dimension, for a caller's own encoder. More than 2147483647 are refused with
 /// [`ArrayLength`](CodecError::ArrayLength) (C3). A refusal may have appended something.
+#[inline(always)]
 #[tactic(auto, unfolding(crate::specs::Encoding::array_image))]
 pub fn encode_array<T: Encode + Type>(
     values: &[T],
@@ -82,6 +84,7 @@ fn known_header(oid: u32, count: u32) -> [u8; 20]
 }
 
 /// What comes before the elements: one dimension and no flags, their type, their number and the lower bound 1.
+#[inline(always)]
 fn write_header(
     out: &mut PgArgumentBuffer,
     element: PgTypeInfo,
@@ -95,9 +98,23 @@ fn write_header(
         out.extend_from_slice(&known_header(oid.0, count))?;
         return Ok(());
     }
+    write_open_header(out, element, count)
+}
+
+/// The same where only the name of the elements' type is known: its OID is a hole.
+fn write_open_header(
+    out: &mut PgArgumentBuffer,
+    element: PgTypeInfo,
+    count: u32,
+) -> Result<(), CodecError>
+    requires { oid_of element ≡ None }
+    ensures ok { OnOk result (Appended (header element count) out.old out.new) }
+    ensures err { IfErr result (λ e. e ≡ Memory) }
+    ensures appended { OnErr result (Extends out.old out.new) }
+{
     let [a, b, c, d] = count.to_be_bytes();
     out.extend_from_slice(&[0, 0, 0, 1, 0, 0, 0, 0])?;
-    out.push_type(element)?;
+    out.push_hole(element)?;
     out.extend_from_slice(&[a, b, c, d, 0, 0, 0, 1])?;
     Ok(())
 }
@@ -148,6 +165,7 @@ impl<T: PgHasArrayType> Type for Vec<T> {
 impl<T: Encode + Type> Encode for Vec<T> {
     ghost encoding = { λ v. plainly (array_image T.info (map T.encoding v.items)) };
 
+    #[inline(always)]
     fn encode_by_ref(&self, out: &mut PgArgumentBuffer) -> Result<IsNull, CodecError> {
         encode_array(self.as_slice(), out)
     }

@@ -1,9 +1,7 @@
-use Rattle.std.specs.Prelude.{◌≡◌, ℕ, List, ◌++◌, refl, length}
-use Rattle.std.proofs.Common.{sym, ap, ◌∙◌, rules}
-use Rattle.pgv_buf.specs.Tokens.{bytes, be4, blank}
-use Rattle.pgv_codec.specs.PlainBytes.{bytes-append}
-use Rattle.pgv_codec.proofs.Fours.{four}
-use Rattle.pgv_codec.proofs.Lists.{both, header_known}
+use Rattle.std.specs.Prelude.{ℕ, List, ◌++◌}
+use Rattle.std.proofs.Common.{ap, ◌∙◌}
+use Rattle.pgv_buf.specs.Tokens.{bytes, blank}
+use Rattle.pgv_codec.proofs.Lists.{header_known}
 use Rattle.pgv_codec.proofs.types.array.write_header.Goals as goal
 
 -- all at once
@@ -11,22 +9,3 @@ pub returns-in-Some-clause-ok : goal.returns-in-Some-clause-ok
 returns-in-Some-clause-ok c =
     header_known c.args.element c.args.count c.in-Some.oid.0 c.args.out.now c.extend_from_slice.new.self c.in-Some.ensures c.known_header.ensures.number
     (c.in_ok-extend_from_slice.ensures.ok ∙ ap (λ (xs : List ℕ). c.args.out.now ++ blank (bytes xs)) c.known_header.ensures.bytes)
-
--- one append after the other
-pub returns-clause-ok : goal.returns-clause-ok
-returns-clause-ok c =
-    let was = c.args.out.now in
-    let after-flags = c.extend_from_slice-2.new.self in
-    let after-type = c.push_type.new.self in
-    let now = c.extend_from_slice-3.new.self in
-    let before = bytes (be4 1) ++ bytes (be4 0) in
-    let rest_after = bytes (be4 c.args.count) ++ bytes (be4 1) in
-    let flags : after-flags ≡ was ++ blank before = c.in_ok-extend_from_slice-2.ensures.ok in
-    let long : length c.to_be_bytes.result ≡ 4 = search rules in
-    let last = c.in_ok-extend_from_slice-3.ensures.ok ∙ ap (λ (xs : List ℕ). after-type ++ blank (bytes (xs ++ be4 1))) (sym (four c.to_be_bytes.result long)) in
-    let bounds : now ≡ after-type ++ blank rest_after = last ∙ ap (λ (xs : List ℕ). after-type ++ blank (bytes (xs ++ be4 1))) c.to_be_bytes.ensures ∙ ap (λ xs. after-type ++ blank xs) (bytes-append (be4 c.args.count) (be4 1)) in
-    let oid = c.in_ok-push_type.ensures.ok in (
-      before ++ (oid.0 ++ rest_after),
-      rw oid.1 refl,
-      both was after-flags now before (oid.0 ++ rest_after) flags (both after-flags after-type now oid.0 rest_after oid.2 bounds),
-    )
