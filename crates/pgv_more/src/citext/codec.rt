@@ -60,6 +60,11 @@ impl Encode for PgCiText {
     fn produces(&self) -> Result<Option<PgTypeInfo>, AllocError> {
         Ok(None)
     }
+
+    #[inline(always)]
+    fn encode_at_once(&self, out: &mut PgArgumentBuffer) -> Result<bool, CodecError> {
+        self.0.encode_at_once(out)
+    }
 }
 
 /// Read as a `String` is: in either format any bytes that are UTF-8, else [`Utf8`](CodecError::Utf8) (C14). Null is

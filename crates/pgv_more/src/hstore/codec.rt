@@ -53,16 +53,18 @@ impl PgHasArrayType for PgHstore {
 }
 
 /// A number of pairs, or a length, in four bytes. More than 2147483647 are refused with
-/// [`HstoreLength`](CodecError::HstoreLength) (C9).
+/// [`HstoreLength`](CodecError::HstoreLength) (C9). The bytes are swapped before the test, since LLVM swaps them in one
+/// instruction only where it doesn't know that the highest bit is 0.
 #[inline(always)]
 #[tactic(auto, unfolding(crate::specs::Hstore::number_form))]
 fn number_of(count: usize) -> Result<[u8; 4], CodecError>
     ensures { GivesExactly (λ number. number) (number_form count) result }
 {
+    let number = ((count % 0x1_0000_0000) as u32).swap_bytes();
     if count > LENGTH_LIMIT {
         return Err(CodecError::HstoreLength((count as u64).cast_signed()));
     }
-    Ok((count as u32).to_be_bytes())
+    Ok(number.to_le_bytes())
 }
 
 /// Appends a key, or a value that isn't null: its length and its bytes. A longer one is refused with
