@@ -84,7 +84,8 @@ fn stream_once(alloc: Global, stream: &[u8]) -> Result<usize, CodecError> {
     Ok(sum)
 }
 
-fn stream_kept(alloc: Global, stream: &[u8]) -> Result<usize, CodecError> {
+/// The rows in one list, whose values are taken from it, or where `lent` stay in it.
+fn stream_kept(alloc: Global, stream: &[u8], lent: bool) -> Result<usize, CodecError> {
     let mut reader = PgCopyReader::new(stream, columns(alloc)?)?;
     let mut row = Vec::new(alloc);
     let mut sum = 0usize;
@@ -92,20 +93,12 @@ fn stream_kept(alloc: Global, stream: &[u8]) -> Result<usize, CodecError> {
         if !reader.next_row_into(&mut row)? {
             return Ok(sum);
         }
-        sum = sum.wrapping_add(kept_seen(alloc, &mut row)?);
-    }
-    Ok(sum)
-}
-
-fn stream_lent(alloc: Global, stream: &[u8]) -> Result<usize, CodecError> {
-    let mut reader = PgCopyReader::new(stream, columns(alloc)?)?;
-    let mut row = Vec::new(alloc);
-    let mut sum = 0usize;
-    for _ in 0..stream.len() {
-        if !reader.next_row_into(&mut row)? {
-            return Ok(sum);
-        }
-        sum = sum.wrapping_add(lent_seen(alloc, row.as_slice())?);
+        let seen = if lent {
+            lent_seen(alloc, row.as_slice())?
+        } else {
+            kept_seen(alloc, &mut row)?
+        };
+        sum = sum.wrapping_add(seen);
     }
     Ok(sum)
 }
@@ -171,8 +164,8 @@ pub fn copies(alloc: Global, bytes: &[u8], rounds: u32, how: u32) -> Result<usiz
         let once = match how {
             0 => stream_once(alloc, bytes)?,
             2 => tuples_once(alloc, bytes)?,
-            3 => stream_kept(alloc, bytes)?,
-            4 => stream_lent(alloc, bytes)?,
+            3 => stream_kept(alloc, bytes, false)?,
+            4 => stream_kept(alloc, bytes, true)?,
             _ => frames_once(alloc, bytes)?,
         };
         sum = sum.wrapping_add(once);
