@@ -1,7 +1,7 @@
 -- What a text is of: the parts of a nest, or the empty range (PostgreSQL: "Range Types", 8.17.5). The empty range is
 -- `empty`, each letter in upper or lower case, and nothing beside it (`IsEmptyText`). A range text is of the empty
 -- range or of the two bounds of a nest (`RangeContent`, `IsRangeOf`). An array or a record text is of a nest alone
--- (`Content`, `IsTextOf`). Laws: what is computed is exactly this (`range_is_computed`), and no text is of two ranges
+-- (`Content`). Laws: what is computed is exactly this (`range_is_computed`), and no text is of two ranges
 -- (`one_range`).
 use Rattle.std.specs.Prelude.{◌≡◌, ℕ, Bool, false, List, [], Option, Some, codes, if◌then◌else◌}
 use Rattle.std.specs.Option.{option_map}
@@ -44,11 +44,6 @@ abbrev pub Content : TextForm → Type 0
 Content Array = Nest
 Content Range = RangeContent
 Content Record = Nest
-
-abbrev pub IsTextOf : (form : TextForm) → List ℕ → Content form → Type 0
-IsTextOf Array text nest = IsNestText array_form text nest
-IsTextOf Range text content = IsRangeOf text content
-IsTextOf Record text nest = IsNestText record_form text nest
 
 abbrev pub content_of : (form : TextForm) → List ℕ → Option (Content form)
 content_of Array text = nest_of array_form text

@@ -18,10 +18,6 @@ module _ {X : Type 0} (said : X → Answered → Type 0) where
   outcomes-more (y ∷ xs) [] x r h k = absurd h
   outcomes-more (y ∷ xs) (s ∷ rs) x r h k = (h.0, outcomes-more xs rs x r h.1 k)
 
-  pub next_said :
-      (xs : List X) (i : ℕ) (x : X) (rs rs' : List Answered) (r : Answered) → i < length xs → x ≡ get_or xs i x → EachOutcome said (take i xs) rs → said x r → rs' ≡ rs ++ r ∷ [] → EachOutcome said (take (i + 1) xs) rs'
-  next_said xs i x rs rs' r l e h k o = rw (o, take_more xs i x l, ← e) (outcomes-more (take i xs) rs x r h k)
-
 module _ {X : Type 0} (framed_as : X → Outcome (List Token)) (typed_as : X → Ty) where
   accepted-more : (xs : List X) (rs : List Answered) (x : X) (r : Answered) → AreOutcomes framed_as typed_as xs rs →
       accepted framed_as typed_as (xs ++ x ∷ []) (rs ++ r ∷ []) ≡ accepted framed_as typed_as xs rs ++ added_by framed_as typed_as x r
