@@ -116,10 +116,6 @@ module _ {M : Type 0} (parse : Given → Outcome M) (count : ℕ) (bytes : List 
   pub first_ends : (ms : List M) (place whole width : ℕ) (rest : List ℕ) → place ≤ whole → whole ≤ place → rest ≡ drop (whole * (4 + width)) bytes → AreFirst parse count bytes ms (drop (place * (4 + width)) bytes) → AreFirst parse count bytes ms rest
   first_ends ms place whole width rest below above here are = let same : place ≡ whole = omega (arith, below, above) in rw (here, ← same) are
 
-  -- what is read from them, and of the others, is what all bytes hold
-  pub first_read : (t : Ty) (ms : List M) (rest : List ℕ) (n : ℕ) → n ≡ length ms → AreFirst parse count bytes ms rest → with_front ms (frames parse t (count - n) rest).answer ≡ (frames parse t count bytes).answer
-  first_read t ms rest n long are = rw long (are t)
-
 -- what is read at once of a part is read from the frame in front
 pub in_front_of : {V M : Type 0} (r : Option V) (view : V → M) (parse : Given → Outcome M) (width : ℕ) (bytes part : List ℕ) →
     ((t : Ty) → value_front t Binary bytes ≡ Ok (given t Binary (Some part), drop (4 + width) bytes)) → IfSome r (λ v. IsBinaryOf parse part (view v)) → IfSome r (λ v. IsInFront parse width bytes (view v))

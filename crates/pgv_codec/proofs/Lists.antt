@@ -135,16 +135,9 @@ module _ {X : Type 0} (encoding : X → Encoding) where
   appends_others n xs was mid now (Err e) first others =
       others_fail e first.1.0 (after true (still (drop n xs))) (after true (still xs)) (first_written n xs first.1.0 first.1.1) refl others
 
-  pub extends_others : (n : ℕ) (xs : List X) (was mid now : List Cell) → WritesFirst encoding xs n was mid → Extends mid now → Extends was now
-  extends_others n xs was mid now first others = (blank first.1.0 ++ others.0, others.1 ∙ (ap (λ (r : List Cell). r ++ others.0) first.1.2 ∙ append_assoc was (blank first.1.0) others.0))
-
   pub first_before : (xs : List X) (was : List Cell) → WritesFirst encoding xs 0 was was
   unfolding frames
   first_before xs was = (omega arith, ([], refl, sym (append-nil was)))
-
-  pub err_extends : {E Y : Type 0} (xs : List X) (n : ℕ) (was mid now : List Cell) (r : Result Y E) → now ≡ mid → WritesFirst encoding xs n was mid → OnErr r (Extends was now)
-  err_extends xs n was mid now (Ok y) same first = tt
-  err_extends xs n was mid now (Err e) same first = (blank first.1.0, same ∙ first.1.2)
 
   still_both : (xs ys : List X) (ts us : List Token) → (still xs).answer ≡ Ok ts → (still ys).answer ≡ Ok us → (still (xs ++ ys)).answer ≡ Ok (ts ++ us)
   unfolding frames

@@ -13,7 +13,7 @@ ghost use Rattle.pgv_codec.specs.Appending.{Appended, Appends, AtOnce, Extends};
 use crate::traits::Encode;
 use pgv_buf::{Mark, Tokens};
 use pgv_types::{Oid, PgTypeInfo};
-use pgv_value::CodecError;
+use pgv_value::{CodecError, length_bytes};
 use std::alloc::{AllocError, Global};
 use std::marker::Model;
 
@@ -272,10 +272,10 @@ impl PgArgumentBuffer {
         ensures err { IfErr result (λ e. e ≡ Memory) }
         ensures appended { OnErr result (Extends self.old self.new) }
     {
-        if value.len() > LENGTH_LIMIT {
+        let Some(length) = length_bytes(value.len()) else {
             return Ok(false);
-        }
-        self.push_u32(value.len() as u32)?;
+        };
+        self.extend_from_slice(&length)?;
         self.extend_from_slice(value)?;
         Ok(true)
     }

@@ -5,7 +5,7 @@ ghost use Rattle.pgv_types.specs.Relations.{softly};
 ghost use Rattle.pgv_types.specs.Ty.{Ty};
 ghost use Rattle.pgv_value.specs.Outcome.{Outcome, Gives, fails, reading_of};
 ghost use Rattle.pgv_value.specs.ValueView.{Given, given};
-ghost use Rattle.pgv_codec.specs.Nullable.{RefusesNull, refused_null};
+ghost use Rattle.pgv_codec.specs.Nullable.{IsOfNull, refused_null};
 ghost use Rattle.pgv_value.specs.declared.error.CodecError.{CodecError};
 ghost use Rattle.pgv_value.specs.declared.error.CodecError.TheVariants.{Memory, UnexpectedNull};
 ghost use Rattle.pgv_value.specs.declared.value.PgValueFormat.{PgValueFormat as Format};
@@ -129,7 +129,7 @@ pub trait Decode: Sized + Drop {
     ghost written: { Ty → View → Encoding };
 
     /// Null is read, or refused with [`UnexpectedNull`](CodecError::UnexpectedNull) (C13) and without memory.
-    ghost null: { (t : Ty) (format : Format) → RefusesNull (parse (given t format None)) };
+    ghost null: { (t : Ty) (format : Format) → IsOfNull (parse (given t format None)) };
 
     /// The value that is read.
     fn decode(alloc: Global, value: PgValueRef<'_>) -> Result<Self, CodecError>

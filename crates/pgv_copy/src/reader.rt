@@ -2,7 +2,7 @@
 
 ghost use Rattle.std.specs.Prelude.{◌≡◌, ◌<◌, ◌≤◌, [], length, true, vec_capacity, IfOk, OnOk, OnErr, IfSome, OnSome, option_map};
 ghost use Rattle.std.specs.Option.{option_copied};
-ghost use Rattle.pgv_value.specs.Parsed.{GivesExactly};
+ghost use Rattle.pgv_value.specs.Parsed.{GivesExactly, GivesFront};
 ghost use Rattle.pgv_value.specs.Outcome.{Gives};
 ghost use Rattle.pgv_copy.specs.CopyBinary.{header, after_signature as signature_passed, after_flags as flags_passed, after_extension as extension_passed, after_count as count_passed, filled, listed, next_row as next_row_of, next_row_in, opened, bytes_left};
 
@@ -178,9 +178,8 @@ fn after_extension(bytes: &[u8]) -> Result<&[u8], CodecError>
 #[inline(always)]
 #[tactic(auto, unfolding(crate::specs::CopyBinary::after_count))]
 pub fn after_count(bytes: &[u8], width: usize) -> Result<Option<&[u8]>, CodecError>
-    ensures exact { GivesExactly option_copied (count_passed width bytes.now) result }
-    ensures shorter { IfOk result (λ found. IfSome found
-        (λ rest. length rest.now < length bytes.now)) }
+    ensures { GivesFront (GivesExactly option_copied (count_passed width bytes.now))
+        (λ found. IfSome found (λ rest. length rest.now < length bytes.now)) result }
 {
     let (count, rest) = i16_in_front(bytes)?;
     if count == TRAILER {

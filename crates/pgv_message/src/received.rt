@@ -1,6 +1,7 @@
 //! Messages that a server sends.
 
-ghost use Rattle.std.specs.Prelude.{◌<◌, length, IfOk, IfSome};
+ghost use Rattle.std.specs.Prelude.{◌<◌, length, IfSome};
+ghost use Rattle.pgv_value.specs.Parsed.{GivesFront};
 ghost use Rattle.pgv_message.specs.Received.{Finds};
 
 use crate::error::MessageError;
@@ -28,9 +29,9 @@ pub struct PgMessage<'a> {
 /// Of `5a 00000005 49 44` the tag is `Z`, the body `49`, and the rest `44`.
 #[tactic(auto, unfolding(crate::specs::Received::in_front))]
 pub fn message_in_front(bytes: &[u8]) -> Result<Option<PgMessage<'_>>, MessageError>
-    ensures exact { Finds bytes.now result }
     // Each message takes bytes, so a loop over them ends.
-    ensures shorter { IfOk result (λ o. IfSome o (λ m. length m.rest.now < length bytes.now)) }
+    ensures { GivesFront (Finds bytes.now)
+        (λ o. IfSome o (λ m. length m.rest.now < length bytes.now)) result }
 {
     let Some((tag, after)) = bytes.split_first() else {
         return Ok(None);

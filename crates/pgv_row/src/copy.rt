@@ -2,7 +2,7 @@
 
 ghost use Rattle.std.specs.Prelude.{◌≡◌, ◌-◌, ◌<◌, ◌≤◌, length, map, option_map, IfOk, IfErr, OnErr, OnSome};
 ghost use Rattle.pgv_value.specs.Outcome.{Gives};
-ghost use Rattle.pgv_value.specs.Parsed.{GivesExactly};
+ghost use Rattle.pgv_value.specs.Parsed.{GivesExactly, GivesFront};
 ghost use Rattle.pgv_row.specs.CopyRows.{AreFramesRefused, IsCopyRowRefused, bytes_left, copy_opened, copy_row, frames_read};
 ghost use Rattle.pgv_row.specs.Tuples.{GivesFields};
 
@@ -56,10 +56,10 @@ fn read_frames<'r, T: FromRow>(
     columns: &[PgColumn<'_>],
     frames: &'r [u8],
 ) -> Result<(T, &'r [u8]), ColumnError<usize>>
-    ensures read { GivesFields (λ x. (T.view x.0, x.1.now))
+    ensures { GivesFront (GivesFields (λ x. (T.view x.0, x.1.now))
         (frames_read T.in_front columns.now frames.now)
-        (AreFramesRefused T.in_front T.refused_in_front columns.now frames.now) result }
-    ensures within { IfOk result (λ x. length x.1.now ≤ length frames.now) }
+        (AreFramesRefused T.in_front T.refused_in_front columns.now frames.now))
+        (λ x. length x.1.now ≤ length frames.now) result }
 {
     let mut further = frames;
     match T::read_frames(alloc, columns, &mut further) {

@@ -1,7 +1,7 @@
 //! Rows that are read in one pass, each straight into a tuple.
 
-ghost use Rattle.std.specs.Prelude.{◌-◌, ◌≤◌, length, IfOk};
-ghost use Rattle.pgv_value.specs.Parsed.{GivesExactly};
+ghost use Rattle.std.specs.Prelude.{◌-◌, ◌≤◌, length};
+ghost use Rattle.pgv_value.specs.Parsed.{GivesExactly, GivesFront};
 ghost use Rattle.pgv_row.specs.DataRow.{frames_front};
 ghost use Rattle.pgv_row.specs.OnePass.{Fits, IsRowRefused, one_pass, passed_over};
 ghost use Rattle.pgv_row.specs.Tuples.{GivesFields, index_of};
@@ -30,9 +30,8 @@ pub(crate) fn pass_over(
     place: usize,
     width: usize,
 ) -> Result<&[u8], ColumnError<usize>>
-    ensures read { GivesFields (λ rest. rest.now) (passed_over (width - place) bytes.now)
-        (λ e. place ≤ index_of e) result }
-    ensures within { IfOk result (λ rest. length rest.now ≤ length bytes.now) }
+    ensures { GivesFront (GivesFields (λ rest. rest.now) (passed_over (width - place) bytes.now)
+        (λ e. place ≤ index_of e)) (λ rest. length rest.now ≤ length bytes.now) result }
 {
     let mut rest = bytes;
     for at in place..width {

@@ -169,9 +169,9 @@ fn check_column<T: Type>(
 #[inline(always)]
 #[tactic(auto, unfolding(crate::specs::OnePass::part_value, crate::specs::OnePass::value_in_front))]
 fn value_at_once<'r, T: Decode>(column: &PgColumn<'_>, bytes: &'r [u8]) -> Option<(T, &'r [u8])>
-    ensures read { IfSome result (λ x. (value_in_front T.parse column.now bytes.now).answer
-        ≡ Ok (T.view x.0, x.1.now)) }
-    ensures within { IfSome result (λ x. length x.1.now ≤ length bytes.now) }
+    ensures { IfSome result (λ x.
+        ((value_in_front T.parse column.now bytes.now).answer ≡ Ok (T.view x.0, x.1.now))
+        × (length x.1.now ≤ length bytes.now)) }
 {
     let width = T::width_at_once();
     if width == 0 || bytes.len() < 4 + width {

@@ -1,13 +1,15 @@
 -- What is in front of bytes is a frame, and every frame is found there.
-use Rattle.std.proofs.Common.{◌≡◌, ℕ, ◌+◌, ◌<◌, ◌≤◌, ◌^◌, Bool, true, false, cond, nat_lt, nat_eq, List, [], ◌∷◌, ◌++◌, length, take, drop, Option, Some, None, refl, sym, ap, ◌∙◌, subst, arith}
+use Rattle.std.proofs.Common.{◌≡◌, ℕ, ◌+◌, ◌<◌, ◌≤◌, ◌^◌, ◌==◌, Bool, true, false, cond, nat_lt, nat_eq, List, [], ◌∷◌, ◌++◌, length, take, drop, Option, Some, None, refl, sym, ap, ◌∙◌, subst, arith}
 use Rattle.std.specs.Prelude.{◌↔◌}
 use Rattle.std.specs.Int.{w32, to_be_bytes, from_be_bytes}
 use Rattle.std.proofs.lemmas.Nat.{be_bytes_4, from_be_bytes-to_be_bytes_4}
 use Rattle.std.proofs.lemmas.Bool.{le-ltb, lt-ltb, ne_eqb, eqb-true, ltb-false}
 use Rattle.std.proofs.lemmas.List.{take-append-drop, length-take-le, length-append, length-drop, take_at, drop_at, take-append-le}
+use Rattle.std.proofs.lemmas.List.Quantifiers.{position-Some}
 use Rattle.std.proofs.lemmas.Option.{same_Some}
 use Rattle.pgv_value.specs.FrameBinary.{Part, IsFrame, front, front_length, frame_fault}
-use Rattle.pgv_value.specs.Laws.{AreBytes, CutFrameIsShort, FrontIsFrame}
+use Rattle.pgv_value.specs.Fronts.{first_zero}
+use Rattle.pgv_value.specs.Laws.{AreBytes}
 use Rattle.pgv_value.specs.declared.error.CodecError.TheVariants.{Short}
 use Rattle.pgv_value.proofs.Numbers.{bytes_below, AreBytes-take}
 
@@ -81,10 +83,6 @@ front_is_frame bytes part rest h false enough e =
 pub front_exactly : (bytes : List ℕ) (part : Part) (rest : List ℕ) → AreBytes bytes → (front bytes ≡ Some (part, rest)) ↔ IsFrame bytes part rest
 front_exactly bytes part rest h = (front_is_frame bytes part rest h _ refl, frame_in_front bytes part rest)
 
-pub fronts_are_frames : FrontIsFrame
-unfolding FrontIsFrame
-fronts_are_frames = front_exactly
-
 -- ---- a frame that is cut off
 
 front_of_few : (bytes : List ℕ) → nat_lt (length bytes) 4 ≡ true → (front bytes ≡ None) × (frame_fault bytes ≡ Short)
@@ -114,6 +112,7 @@ cut_off bytes rest_after (Some part) false enough more h =
 pub cut_is_short : (bytes rest_after : List ℕ) (part : Part) → 0 < length rest_after → IsFrame (bytes ++ rest_after) part [] → (front bytes ≡ None) × (frame_fault bytes ≡ Short)
 cut_is_short bytes rest_after part more h = cut_off bytes rest_after part _ refl more h
 
-pub cut_frame_is_short : CutFrameIsShort
-unfolding CutFrameIsShort
-cut_frame_is_short = cut_is_short
+-- ---- the first zero byte is one of them
+
+pub zero_within : (bytes : List ℕ) (i : ℕ) → Some i ≡ first_zero bytes → i < length bytes
+zero_within bytes i is = (position-Some (λ (b : ℕ). b == 0) bytes i 0 (sym is)).0

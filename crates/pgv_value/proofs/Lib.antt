@@ -2,7 +2,6 @@ pub mod Text
 pub mod Fronts
 pub mod NetworkBytes
 pub mod Numbers
-pub mod Refusals
 pub mod Outcomes
 pub mod ValueFronts
 pub mod Several

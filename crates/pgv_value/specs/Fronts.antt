@@ -1,6 +1,6 @@
 -- What is in front of bytes: numbers, the highest byte first, texts that a zero byte ends, and parts; each is read with
 -- the rest, without memory. What isn't there is C15, and a text that isn't UTF-8 C14.
-use Rattle.std.specs.Prelude.{ℕ, ℤ, ◌+◌, ◌==◌, nat_eq, nat_lt, List, length, take, drop, option_map, ok_or, Ok, Err, if◌then◌else◌}
+use Rattle.std.specs.Prelude.{◌≡◌, ℕ, ℤ, ◌+◌, ◌<◌, ◌==◌, nat_eq, nat_lt, List, length, take, drop, Option, IfSome, option_map, ok_or, Ok, Err, if◌then◌else◌}
 use Rattle.std.specs.List.{position}
 use Rattle.std.specs.Int.{w16, from_be_bytes}
 use Rattle.pgv_types.specs.Ty.{Ty}
@@ -26,9 +26,13 @@ i16_front bytes = ok_or (signed_two bytes) Short
 abbrev pub u32_front : List ℕ → Parsed (ℕ × List ℕ)
 u32_front bytes = ok_or (number bytes) Short
 
+-- where the first zero byte is, if there is one
+abbrev pub first_zero : List ℕ → Option ℕ
+first_zero bytes = position (λ b. b == 0) bytes
+
 -- the bytes before the first zero byte, and the rest after that
 unfoldable pub ended_front : List ℕ → Parsed (List ℕ × List ℕ)
-ended_front bytes = ok_or (option_map (λ i. (take i bytes, drop (i + 1) bytes)) (position (λ b. b == 0) bytes)) Short
+ended_front bytes = ok_or (option_map (λ i. (take i bytes, drop (i + 1) bytes)) (first_zero bytes)) Short
 
 -- the text before the first zero byte, and the rest after that
 unfoldable pub name_front : List ℕ → Parsed (List ℕ × List ℕ)

@@ -1,5 +1,5 @@
 -- What a reader that asks for no memory gives: what it read, or why it reads nothing.
-use Rattle.std.specs.Prelude.{◌≡◌, Option, Some, None, Result, Ok, Err}
+use Rattle.std.specs.Prelude.{◌≡◌, Option, Some, None, Result, Ok, Err, IfOk}
 use Rattle.pgv_value.specs.declared.error.CodecError.{CodecError}
 
 -- what is read, or why nothing is
@@ -21,3 +21,8 @@ GivesExactly view parsed (Err e) = parsed ≡ Err e
 abbrev pub GivesOr : {V M : Type 0} → (V → M) → Option M → CodecError → Result V CodecError → Type 0
 GivesOr view found why (Ok v) = found ≡ Some (view v)
 GivesOr view found why (Err e) = (e ≡ why) × (found ≡ None)
+
+-- what a reader of what is in front gives: this, and how long the rest after it is, so that a loop over rests ends
+pub record GivesFront {V E : Type 0} (Is : Result V E → Type 0) (Left : V → Type 0) (given : Result V E) : Type 0 where
+  pub exact : Is given
+  pub shorter : IfOk given Left

@@ -11,15 +11,12 @@ use Rattle.pgv_value.specs.declared.error.CodecError.TheVariants.{UnexpectedNull
 abbrev pub is_utf8 : List ℕ → Bool
 is_utf8 bytes = nat_eq (utf8_valid_len bytes) (length bytes)
 
--- why there is no text: null is C13, and other bytes than UTF-8 are C14
-abbrev pub RefusesText : Option (List ℕ) → CodecError → Type 0
-RefusesText None e = e ≡ UnexpectedNull
-RefusesText (Some bytes) e = (e ≡ Utf8) × (is_utf8 bytes ≡ false)
-
--- what was returned, seen by view, is the text of these bytes, or exactly why they have none
+-- what was returned, seen by view, is the text of these bytes, or exactly why they have none: null is C13, and other
+-- bytes than UTF-8 are C14
 abbrev pub GivesText : {V : Type 0} → (V → List ℕ) → Option (List ℕ) → Result V CodecError → Type 0
 GivesText view bytes (Ok v) = (bytes ≡ Some (view v)) × (is_utf8 (view v) ≡ true)
-GivesText view bytes (Err e) = RefusesText bytes e
+GivesText view None (Err e) = e ≡ UnexpectedNull
+GivesText view (Some bytes) (Err e) = (e ≡ Utf8) × (is_utf8 bytes ≡ false)
 
 -- the bytes, if they are UTF-8
 abbrev pub utf8_part : Option (List ℕ) → Parsed (List ℕ)

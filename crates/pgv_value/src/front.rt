@@ -1,8 +1,8 @@
 //! What is in front of bytes.
 
-ghost use Rattle.std.specs.Prelude.{◌≡◌, ◌+◌, ◌<◌, ◌==◌, length, IfOk, IfSome, position};
-ghost use Rattle.pgv_value.specs.Fronts.{u16_front, ended_front, name_front};
-ghost use Rattle.pgv_value.specs.Parsed.{GivesExactly};
+ghost use Rattle.std.specs.Prelude.{◌≡◌, ◌+◌, ◌<◌, length};
+ghost use Rattle.pgv_value.specs.Fronts.{first_zero, u16_front, ended_front, name_front};
+ghost use Rattle.pgv_value.specs.Parsed.{GivesExactly, GivesFront};
 
 use crate::error::CodecError;
 
@@ -11,8 +11,8 @@ use crate::error::CodecError;
 #[inline(always)]
 #[tactic(auto, unfolding(crate::specs::Fronts::u16_front))]
 pub fn u16_in_front(bytes: &[u8]) -> Result<(u16, &[u8]), CodecError>
-    ensures exact { GivesExactly (λ x. (x.0, x.1.now)) (u16_front bytes.now) result }
-    ensures shorter { IfOk result (λ x. length x.1.now + 2 ≡ length bytes.now) }
+    ensures { GivesFront (GivesExactly (λ x. (x.0, x.1.now)) (u16_front bytes.now))
+        (λ x. length x.1.now + 2 ≡ length bytes.now) result }
 {
     if bytes.len() < 2 {
         return Err(CodecError::Short);
@@ -23,18 +23,17 @@ pub fn u16_in_front(bytes: &[u8]) -> Result<(u16, &[u8]), CodecError>
 
 /// Where the first zero byte is.
 fn first_zero(bytes: &[u8]) -> Option<usize>
-    ensures value { result ≡ position (λ b. b == 0) bytes.now }
-    ensures within { IfSome result (λ i. i < length bytes.now) }
+    ensures { result ≡ first_zero bytes.now }
 {
     bytes.iter().position(|byte| *byte == 0)
 }
 
 /// The bytes before the first zero byte, and those after it. Without a zero byte it is [`Short`](CodecError::Short)
 /// (C15).
-#[tactic(auto, unfolding(crate::specs::Fronts::ended_front))]
+#[tactic(auto, unfolding(crate::specs::Fronts::ended_front), using(crate::proofs::Fronts::zero_within))]
 fn ended_in_front(bytes: &[u8]) -> Result<(&[u8], &[u8]), CodecError>
-    ensures exact { GivesExactly (λ x. (x.0.now, x.1.now)) (ended_front bytes.now) result }
-    ensures shorter { IfOk result (λ x. length x.1.now < length bytes.now) }
+    ensures { GivesFront (GivesExactly (λ x. (x.0.now, x.1.now)) (ended_front bytes.now))
+        (λ x. length x.1.now < length bytes.now) result }
 {
     let Some(end) = first_zero(bytes) else {
         return Err(CodecError::Short);
@@ -49,8 +48,8 @@ fn ended_in_front(bytes: &[u8]) -> Result<(&[u8], &[u8]), CodecError>
 /// UTF-8 with [`Utf8`](CodecError::Utf8) (C14).
 #[tactic(auto, unfolding(crate::specs::Fronts::name_front), using(crate::proofs::Text::whole_text))]
 pub fn name_in_front(bytes: &[u8]) -> Result<(&str, &[u8]), CodecError>
-    ensures exact { GivesExactly (λ x. (x.0.now, x.1.now)) (name_front bytes.now) result }
-    ensures shorter { IfOk result (λ x. length x.1.now < length bytes.now) }
+    ensures { GivesFront (GivesExactly (λ x. (x.0.now, x.1.now)) (name_front bytes.now))
+        (λ x. length x.1.now < length bytes.now) result }
 {
     let (name, rest) = ended_in_front(bytes)?;
     match str::from_utf8(name) {

@@ -9,14 +9,14 @@ use std::hash::{Hash, Hasher};
 use uuid::Uuid;
 
 /// `front` splits bytes into a part and a rest iff the bytes are a frame of this part followed by this rest.
-#[tactic(auto, using(crate::proofs::Fronts::fronts_are_frames))]
+#[tactic(auto, unfolding(crate::specs::Laws::FrontIsFrame), using(crate::proofs::Fronts::front_exactly))]
 pub fn front_is_frame()
     ensures { FrontIsFrame }
 {}
 
 /// Nothing is found at the front of a frame that is cut off, and its fault is [`Short`](crate::CodecError::Short)
 /// (C15).
-#[tactic(auto, using(crate::proofs::Fronts::cut_frame_is_short))]
+#[tactic(auto, unfolding(crate::specs::Laws::CutFrameIsShort), using(crate::proofs::Fronts::cut_is_short))]
 pub fn cut_frame_is_short()
     ensures { CutFrameIsShort }
 {}

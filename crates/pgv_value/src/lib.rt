@@ -12,7 +12,7 @@ pub mod tree_error;
 pub mod value;
 
 pub use error::CodecError;
-pub use frame::{part_in_front, part_of_length};
+pub use frame::{length_bytes, part_in_front, part_of_length};
 pub use front::{name_in_front, u16_in_front};
 pub use interval::PgInterval;
 pub use number::{i16_in_front, number_of_eight, number_of_four, u32_in_front};

@@ -1,8 +1,8 @@
 //! Numbers in front of bytes.
 
-ghost use Rattle.std.specs.Prelude.{◌≡◌, ◌≤◌, ◌+◌, length, IfOk};
+ghost use Rattle.std.specs.Prelude.{◌≡◌, ◌≤◌, ◌+◌, length};
 ghost use Rattle.pgv_value.specs.Interval.{eight_bytes, signed_four_bytes};
-ghost use Rattle.pgv_value.specs.Parsed.{GivesOr};
+ghost use Rattle.pgv_value.specs.Parsed.{GivesFront, GivesOr};
 ghost use Rattle.pgv_value.specs.declared.error.CodecError.TheVariants.{Short};
 ghost use Rattle.pgv_value.specs.Steps.{number, signed_two};
 
@@ -14,8 +14,8 @@ use byteorder::{BigEndian, ByteOrder};
 #[inline(always)]
 #[tactic(auto, unfolding(crate::specs::Steps::number))]
 pub fn u32_in_front(bytes: &[u8]) -> Result<(u32, &[u8]), CodecError>
-    ensures exact { GivesOr (λ x. (x.0, x.1.now)) (number bytes.now) Short result }
-    ensures shorter { IfOk result (λ x. length x.1.now + 4 ≡ length bytes.now) }
+    ensures { GivesFront (GivesOr (λ x. (x.0, x.1.now)) (number bytes.now) Short)
+        (λ x. length x.1.now + 4 ≡ length bytes.now) result }
 {
     if bytes.len() < 4 {
         return Err(CodecError::Short);
@@ -32,8 +32,8 @@ pub fn u32_in_front(bytes: &[u8]) -> Result<(u32, &[u8]), CodecError>
 #[inline(always)]
 #[tactic(auto, unfolding(crate::specs::Steps::signed_two))]
 pub fn i16_in_front(bytes: &[u8]) -> Result<(i16, &[u8]), CodecError>
-    ensures exact { GivesOr (λ x. (x.0, x.1.now)) (signed_two bytes.now) Short result }
-    ensures shorter { IfOk result (λ x. length x.1.now + 2 ≡ length bytes.now) }
+    ensures { GivesFront (GivesOr (λ x. (x.0, x.1.now)) (signed_two bytes.now) Short)
+        (λ x. length x.1.now + 2 ≡ length bytes.now) result }
 {
     if bytes.len() < 2 {
         return Err(CodecError::Short);

@@ -1,9 +1,9 @@
 //! The heads of arrays in binary (PostgreSQL, "Arrays"; array_send).
 
-ghost use Rattle.std.specs.Prelude.{◌≡◌, ◌≤◌, length, IfOk, IfSome, option_map};
+ghost use Rattle.std.specs.Prelude.{◌≡◌, ◌≤◌, length, IfSome, option_map};
 ghost use Rattle.pgv_types.specs.Parts.{ref_type};
 ghost use Rattle.pgv_value.specs.Outcome.{Gives, copied_type};
-ghost use Rattle.pgv_value.specs.Parsed.{GivesOr};
+ghost use Rattle.pgv_value.specs.Parsed.{GivesFront, GivesOr};
 ghost use Rattle.pgv_value.specs.declared.error.CodecError.TheVariants.{ElementType};
 ghost use Rattle.pgv_codec.specs.ArrayGrammar.{element_type, head, one_dimension};
 ghost use Rattle.pgv_codec.specs.HeadsView.{head_shown};
@@ -37,9 +37,8 @@ pub fn array_head_of<'a>(
     type_info: &PgTypeInfo,
     bytes: &'a [u8],
 ) -> Result<Option<ArrayHead<'a>>, CodecError>
-    ensures exact { Gives (option_map head_shown) (head type_info.now bytes.now) result }
-    ensures within { IfOk result (λ found. IfSome found
-        (λ h. length h.frames.now ≤ length bytes.now)) }
+    ensures { GivesFront (Gives (option_map head_shown) (head type_info.now bytes.now))
+        (λ found. IfSome found (λ h. length h.frames.now ≤ length bytes.now)) result }
 {
     let (dimensions, rest) = u32_in_front(bytes)?;
     match dimensions {
@@ -55,8 +54,8 @@ fn one_dimension_of<'a>(
     type_info: &PgTypeInfo,
     bytes: &'a [u8],
 ) -> Result<ArrayHead<'a>, CodecError>
-    ensures exact { Gives head_shown (one_dimension type_info.now bytes.now) result }
-    ensures within { IfOk result (λ h. length h.frames.now ≤ length bytes.now) }
+    ensures { GivesFront (Gives head_shown (one_dimension type_info.now bytes.now))
+        (λ h. length h.frames.now ≤ length bytes.now) result }
 {
     let (_flags, rest) = u32_in_front(bytes)?;
     let (oid, rest) = u32_in_front(rest)?;

@@ -1,8 +1,9 @@
 //! The fields of records in binary, up to their frames (PostgreSQL, "Composite Types"; record_send).
 
-ghost use Rattle.std.specs.Prelude.{◌≡◌, ◌+◌, None, length, slice_get, IfOk, option_map};
+ghost use Rattle.std.specs.Prelude.{◌≡◌, ◌+◌, None, length, slice_get, option_map};
 ghost use Rattle.pgv_types.specs.Facts.{domain_base, oid_of};
 ghost use Rattle.pgv_value.specs.Outcome.{Gives};
+ghost use Rattle.pgv_value.specs.Parsed.{GivesFront};
 ghost use Rattle.pgv_codec.specs.RecordGrammar.{by_own_oid, field_head, field_type, is_oid};
 ghost use Rattle.pgv_codec.specs.RecordGrammar as spec;
 
@@ -26,8 +27,8 @@ pub fn field_head_of<'r>(
     place: usize,
     bytes: &'r [u8],
 ) -> Result<(PgTypeInfo, &'r [u8]), CodecError>
-    ensures exact { Gives (λ h. (h.0, h.1.now)) (field_head type_info.now place bytes.now) result }
-    ensures shorter { IfOk result (λ h. length h.1.now + 4 ≡ length bytes.now) }
+    ensures { GivesFront (Gives (λ h. (h.0, h.1.now)) (field_head type_info.now place bytes.now))
+        (λ h. length h.1.now + 4 ≡ length bytes.now) result }
 {
     if bytes.is_empty() {
         return Err(CodecError::NoField(place));

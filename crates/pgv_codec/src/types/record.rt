@@ -3,6 +3,7 @@
 ghost use Rattle.std.specs.Prelude.{IfErr, OnErr, ◌≡◌, ◌<◌, length, IfOk};
 ghost use Rattle.std.specs.Borrow.{sem, RestsIfErr};
 ghost use Rattle.pgv_value.specs.Outcome.{Gives};
+ghost use Rattle.pgv_value.specs.Parsed.{GivesFront};
 ghost use Rattle.pgv_value.specs.declared.error.CodecError.TheVariants.{Memory};
 ghost use Rattle.pgv_codec.specs.FieldsLeftView.{left_in_text};
 ghost use Rattle.pgv_codec.specs.RecordGrammar.{field_in_binary, fields_in_text, fields_of, next_field};
@@ -233,9 +234,9 @@ fn read_field<'r, T: Type + Decode>(
     place: usize,
     bytes: &'r [u8],
 ) -> Result<(T, &'r [u8]), CodecError>
-    ensures exact { Gives (λ x. (T.view x.0, x.1.now))
-        (field_in_binary T.accepts T.parse type_info.now place bytes.now) result }
-    ensures shorter { IfOk result (λ x. length x.1.now < length bytes.now) }
+    ensures { GivesFront (Gives (λ x. (T.view x.0, x.1.now))
+        (field_in_binary T.accepts T.parse type_info.now place bytes.now))
+        (λ x. length x.1.now < length bytes.now) result }
 {
     let (type_info, mut rest) = field_head_of(type_info, place, bytes)?;
     if !T::compatible(&type_info) {

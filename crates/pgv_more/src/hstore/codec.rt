@@ -12,7 +12,7 @@ ghost use Rattle.pgv_more.specs.Hstore.{Pair, pair_of, pairs_of, hstore_image, h
 use super::{PgHstore, put_pair};
 use pgv_codec::{Encode, IsNull, PgArgumentBuffer, PgHasArrayType, Plain, Type};
 use pgv_types::PgTypeInfo;
-use pgv_value::{CodecError, PgValueFormat, PgValueRef, part_in_front, u32_in_front};
+use pgv_value::{CodecError, PgValueFormat, PgValueRef, length_bytes, part_in_front, u32_in_front};
 use std::alloc::{AllocError, Global};
 use std::collections::BTreeMap;
 
@@ -53,18 +53,13 @@ impl PgHasArrayType for PgHstore {
 }
 
 /// A number of pairs, or a length, in four bytes. More than 2147483647 are refused with
-/// [`HstoreLength`](CodecError::HstoreLength) (C9). The bytes are swapped before the test, since LLVM swaps them in one
-/// instruction only where it doesn't know that the highest bit is 0.
+/// [`HstoreLength`](CodecError::HstoreLength) (C9).
 #[inline(always)]
 #[tactic(auto, unfolding(crate::specs::Hstore::number_form))]
 fn number_of(count: usize) -> Result<[u8; 4], CodecError>
     ensures { GivesExactly (λ number. number) (number_form count) result }
 {
-    let number = ((count % 0x1_0000_0000) as u32).swap_bytes();
-    if count > LENGTH_LIMIT {
-        return Err(CodecError::HstoreLength((count as u64).cast_signed()));
-    }
-    Ok(number.to_le_bytes())
+    length_bytes(count).ok_or(CodecError::HstoreLength((count as u64).cast_signed()))
 }
 
 /// Appends a key, or a value that isn't null: its length and its bytes. A longer one is refused with
