@@ -1,7 +1,7 @@
 -- What is read from an array in binary is what its bytes are.
 use Rattle.std.proofs.Common.{◌≡◌, ℕ, zero, suc, ◌<◌, ◌≤◌, ◌^◌, arith, Bool, true, false, nat_lt, nat_eq, List, [], ◌∷◌, ◌++◌, length, Option, Some, None, Ok, refl, sym, ◌∙◌, ap, subst, inl, inr}
 use Rattle.std.specs.Int.{w32, to_be_bytes}
-use Rattle.std.specs.Prelude.{◌↔◌, not, ok_or, if◌then◌else◌}
+use Rattle.std.specs.Prelude.{not, ok_or, if◌then◌else◌}
 use Rattle.std.proofs.lemmas.Bool.{ltb-false, eqb-true}
 use Rattle.pgv_types.specs.Ty.{Ty}
 use Rattle.pgv_value.specs.Fronts.{u32_front, value_front}

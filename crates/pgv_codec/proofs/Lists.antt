@@ -1,5 +1,5 @@
 -- The frames of a list.
-use Rattle.std.proofs.Common.{◌≡◌, ℕ, ◌+◌, ◌*◌, zero, suc, ◌<◌, ◌≤◌, Bool, true, false, nat_lt, Result, Ok, Err, OnErr, OnOk, List, [], ◌∷◌, ◌++◌, length, map, Option, Some, None, get_or, take, drop, refl, sym, subst, ◌∙◌, ap, append_assoc, append-nil, add-one, arith, drop-cons, inl, inr}
+use Rattle.std.proofs.Common.{◌≡◌, ℕ, ◌+◌, ◌*◌, zero, suc, ◌<◌, ◌≤◌, Bool, true, false, nat_lt, Result, Ok, Err, OnOk, List, [], ◌∷◌, ◌++◌, length, map, Option, Some, None, get_or, take, drop, refl, sym, subst, ◌∙◌, ap, append_assoc, append-nil, add-one, arith, drop-cons, inl, inr}
 use Rattle.std.proofs.lemmas.Bool.{le-ltb, lt-ltb}
 use Rattle.std.proofs.lemmas.List.{drop_all, length-append, length-drop, length-map, length-take}
 use Rattle.std.proofs.Math.Seq.{take-add, take-append_seam, take-suc}
@@ -12,7 +12,7 @@ use Rattle.pgv_value.specs.declared.error.CodecError.{CodecError}
 use Rattle.pgv_codec.specs.PlainBytes.{bytes-append}
 use Rattle.pgv_codec.proofs.Frames.{plain_frame}
 use Rattle.pgv_codec.specs.Encoding.{Encoding, Image, image_of, plainly, writes, frame, frames, typed, header, array_image, element_type, field, value_type}
-use Rattle.pgv_codec.specs.Appending.{Appended, Appends, Extends}
+use Rattle.pgv_codec.specs.Appending.{Appended, Appends}
 use Rattle.pgv_codec.specs.AtOnce.{AreFrames, WritesFirst, word_frame}
 
 -- tokens after tokens

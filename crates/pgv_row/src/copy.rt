@@ -1,7 +1,6 @@
 //! Rows of a COPY stream in binary, each read straight into a tuple.
 
-ghost use Rattle.std.specs.Prelude.{◌≡◌, ◌-◌, ◌<◌, ◌≤◌, length, map, option_map, IfOk, IfErr, OnErr, OnSome};
-ghost use Rattle.pgv_value.specs.Outcome.{Gives};
+ghost use Rattle.std.specs.Prelude.{◌≡◌, ◌-◌, ◌<◌, ◌≤◌, length, option_map, IfOk, OnErr, OnSome};
 ghost use Rattle.pgv_value.specs.Parsed.{GivesExactly, GivesFront};
 ghost use Rattle.pgv_row.specs.CopyRows.{AreFramesRefused, IsCopyRowRefused, bytes_left, copy_opened, copy_row, frames_read};
 ghost use Rattle.pgv_row.specs.Tuples.{GivesFields};

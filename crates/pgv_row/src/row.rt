@@ -1,6 +1,6 @@
 //! Rows: the values of the columns, one DataRow after another.
 
-ghost use Rattle.std.specs.Prelude.{◌≡◌, ◌≢◌, ◌≤◌, ◌==◌, true, length, IfOk, IfErr, MatchResult};
+ghost use Rattle.std.specs.Prelude.{◌≡◌, ◌≢◌, ◌≤◌, ◌==◌, true, length, IfOk, MatchResult};
 ghost use Rattle.std.specs.Borrow.{sem};
 ghost use Rattle.pgv_value.specs.declared.error.CodecError.TheVariants.{FieldCount};
 ghost use Rattle.pgv_row.specs.Errors.{GivesColumn};

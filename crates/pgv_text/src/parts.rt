@@ -1,7 +1,7 @@
 //! The parts of a text, one by one.
 
-ghost use Rattle.std.specs.Prelude.{◌≡◌, ◌≢◌, ◌==◌, ◌<◌, ◌∷◌, [], Some, None, IfOk, IfSome, MatchResult, cond, drop, is_some, string_bytes, false, true, length};
-ghost use Rattle.std.specs.Option.{MatchOption, option_copied, option_map};
+ghost use Rattle.std.specs.Prelude.{◌≡◌, ◌≢◌, ◌==◌, ◌<◌, ◌∷◌, [], Some, None, IfOk, IfSome, MatchResult, cond, string_bytes, false, true, length};
+ghost use Rattle.std.specs.Option.{MatchOption, option_copied};
 ghost use Rattle.std.specs.Str.{chars};
 ghost use Rattle.pgv_text.specs.ArrayText.{array_form};
 ghost use Rattle.pgv_text.specs.ContentText.{content_of, is_empty_in, no_parts};

@@ -1,13 +1,13 @@
 //! One scanner for the texts of nests: a bracket, parts separated by commas, a bracket. A table of cells
 //! says what a byte does at a place, by its class; all bytes that mean something are ASCII.
 
-ghost use Rattle.std.specs.Prelude.{◌≡◌, ◌++◌, ◌∷◌, ◌≤◌, None, IfSome, true, drop, take, length};
+ghost use Rattle.std.specs.Prelude.{◌≡◌, None, true};
 ghost use Rattle.std.specs.Option.{MatchOption};
 ghost use Rattle.pgv_text.specs.Forms.{form_of};
 ghost use Rattle.pgv_text.specs.declared.scanner.Class.TheVariants.{Other};
 ghost use Rattle.pgv_text.specs.declared.scanner.Place.TheVariants.{Outside, Quoted};
 ghost use Rattle.pgv_text.specs.declared.scanner.TextForm.{TextForm};
-ghost use Rattle.pgv_text.specs.Scan.{cell, class, grown, read, stands};
+ghost use Rattle.pgv_text.specs.Scan.{cell, class, stands};
 ghost use Rattle.pgv_text.specs.PartFound.{AreUsual, HasNoStop, IsNextStop};
 
 /// The form of a text.

@@ -1,6 +1,6 @@
 -- What is in front of bytes: numbers, the highest byte first, texts that a zero byte ends, and parts; each is read with
 -- the rest, without memory. What isn't there is C15, and a text that isn't UTF-8 C14.
-use Rattle.std.specs.Prelude.{◌≡◌, ℕ, ℤ, ◌+◌, ◌<◌, ◌==◌, nat_eq, nat_lt, List, length, take, drop, Option, IfSome, option_map, ok_or, Ok, Err, if◌then◌else◌}
+use Rattle.std.specs.Prelude.{ℕ, ℤ, ◌+◌, ◌==◌, nat_eq, nat_lt, List, length, take, drop, Option, option_map, ok_or, Ok, Err, if◌then◌else◌}
 use Rattle.std.specs.List.{position}
 use Rattle.std.specs.Int.{w16, from_be_bytes}
 use Rattle.pgv_types.specs.Ty.{Ty}

@@ -1,6 +1,6 @@
 //! Arrays of one dimension (PostgreSQL, "Arrays").
 
-ghost use Rattle.std.specs.Prelude.{◌≡◌, IfOk, IfErr, OnOk, OnErr, ◌+◌, ◌*◌, ◌<◌, ◌≤◌, ◌++◌, false, true, length, map, drop, Ok, None, Some, [], IfSome, is_some, List, MatchResult, refl};
+ghost use Rattle.std.specs.Prelude.{◌≡◌, IfOk, IfErr, OnOk, OnErr, ◌+◌, ◌*◌, ◌<◌, ◌≤◌, ◌++◌, false, true, length, map, Ok, None, Some, [], IfSome, is_some, List, MatchResult, refl};
 ghost use Rattle.std.specs.Vec.{with_items};
 ghost use Rattle.pgv_text.specs.Values.{array_values};
 ghost use Rattle.pgv_buf.specs.Tokens.{be4};

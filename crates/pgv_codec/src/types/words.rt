@@ -71,7 +71,7 @@ fn write_groups<T: Word, const N: usize, const M: usize>(
     values: &[T],
     out: &mut PgArgumentBuffer,
 ) -> Result<usize, CodecError>
-    requires many { (0 < N) × (N ≤ 16) }
+    requires many { (0 < N) × (N ≤ 32) }
     requires room { M ≡ 8 * N }
     ensures ok { IfOk result (λ n. WritesFirst T.encoding values.now n out.old out.new) }
     ensures err { IfErr result (λ e. e ≡ Memory) }
@@ -89,8 +89,8 @@ fn write_groups<T: Word, const N: usize, const M: usize>(
     Ok(written)
 }
 
-/// Appends the frames of the values, sixteen at a time and then four at a time, but for the last ones, which may be up
-/// to three, and says how many were written. Out of memory (C1) may have appended something.
+/// Appends the frames of the values, 32 at a time and then eight at a time, but for the last ones, which may be up to
+/// seven, and says how many were written. Out of memory (C1) may have appended something.
 #[inline(always)]
 pub(crate) fn write_words<T: Word>(
     values: &[T],
@@ -100,8 +100,8 @@ pub(crate) fn write_words<T: Word>(
     ensures err { IfErr result (λ e. e ≡ Memory) }
     ensures appended { OnErr result (Extends out.old out.new) }
 {
-    let many = write_groups::<T, 16, 128>(values, out)?;
+    let many = write_groups::<T, 32, 256>(values, out)?;
     let (_written, others) = values.split_at(many);
-    let more = write_groups::<T, 4, 32>(others, out)?;
+    let more = write_groups::<T, 8, 64>(others, out)?;
     Ok(many + more)
 }

@@ -1,6 +1,6 @@
 //! Maps of texts, written and read (PostgreSQL, appendix F, hstore).
 
-ghost use Rattle.std.specs.Prelude.{◌≡◌, true, List, OnErr, Some, refl, string_bytes, option_map, [], codes, map};
+ghost use Rattle.std.specs.Prelude.{true, List, OnErr, Some, refl, string_bytes, option_map, [], codes, map};
 ghost use Rattle.pgv_types.specs.Ty.{array_of, named};
 ghost use Rattle.pgv_types.specs.Relations.{softly};
 ghost use Rattle.pgv_value.specs.Outcome.{Gives, after};
