@@ -25,19 +25,21 @@ pub(crate) fn in_type<T: Drop>(number: Result<T, TryFromIntError>) -> Result<T, 
     }
 }
 
-/// The number in one to eight bytes of two's complement, the highest first. Another length is refused with
-/// [`WrongLength`](CodecError::WrongLength) (C17).
+/// The number in one to eight bytes of two's complement, the highest first: of eight bytes, as most are, in one read.
+/// Another length is refused with [`WrongLength`](CodecError::WrongLength) (C17).
 #[inline(always)]
 pub(crate) fn whole_number_of(bytes: &[u8]) -> Result<i64, CodecError>
     ensures { GivesExactly (λ number. number) (whole_number bytes.now) result }
 {
+    if bytes.len() == 8 {
+        return Ok(BigEndian::read_i64(bytes));
+    }
     if bytes.is_empty() || bytes.len() > 8 {
         return Err(CodecError::WrongLength(bytes.len()));
     }
     Ok(match bytes.len() {
         2 => i64::from(BigEndian::read_i16(bytes)),
         4 => i64::from(BigEndian::read_i32(bytes)),
-        8 => BigEndian::read_i64(bytes),
         len => BigEndian::read_int(bytes, len),
     })
 }
