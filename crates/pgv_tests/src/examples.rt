@@ -6,8 +6,8 @@ use pgv::catalog::{CatalogError, PgCatalogRows, PgServerTypes, PgTypeClass, PgTy
 use pgv::row::{PgColumns, PgPlaces, PgRow};
 use pgv::types::{PgLTree, PgRange};
 use pgv::{
-    CodecError, Decode, Oid, PgArguments, PgComposite, PgCopyReader, PgDomain, PgEnum, PgNewtype,
-    PgPlain, PgType, PgTypeInfo, PgTypeKind, PgValue, PgValueFormat, PgValueRef, Type,
+    CodecError, Decode, Encode, Oid, PgArguments, PgComposite, PgCopyReader, PgDomain, PgEnum,
+    PgNewtype, PgPlain, PgType, PgTypeInfo, PgTypeKind, PgValue, PgValueFormat, PgValueRef, Type,
 };
 use pgv_examples::arrays::{add_lists, scores};
 use pgv_examples::bind::{arguments_of_search, parameters_of_bind};
@@ -32,14 +32,37 @@ use std::test::Fail;
 const SEVEN_NULL: &[u8] =
     b"\0\0\0\x01\0\0\0\x01\0\0\0\x17\0\0\0\x02\0\0\0\x01\0\0\0\x04\0\0\0\x07\xff\xff\xff\xff";
 
-/// The scores of that column, and places, added.
-fn added(alloc: Global) -> Result<String, CodecError> {
+/// The bytes of arguments, in hex.
+fn in_hex(alloc: Global, arguments: &PgArguments) -> Result<String, CodecError> {
+    Ok(encode(alloc, arguments.buffer().as_slice())?)
+}
+
+/// What is sent of one value, in hex, its holes open.
+fn sent<T: Encode + Type + Drop>(alloc: Global, value: T) -> Result<String, CodecError> {
+    let mut arguments = PgArguments::new(alloc);
+    arguments.add(value)?;
+    in_hex(alloc, &arguments)
+}
+
+/// The value that is read from a text of its own type.
+fn of_text<T: Decode + Type>(alloc: Global, text: &[u8]) -> Result<T, CodecError> {
+    let value = PgValueRef::new(Some(text), T::type_info(), PgValueFormat::Text);
+    T::decode(alloc, value)
+}
+
+/// Adds places and the scores of that column.
+fn add_scores(alloc: Global, arguments: &mut PgArguments) -> Result<(), CodecError> {
     let int4s = PgTypeInfo(PgType::Int4Array);
     let column = PgValueRef::new(Some(SEVEN_NULL), int4s, PgValueFormat::Binary);
+    let scores = scores(alloc, column)?;
+    add_lists(arguments, [1, 2].to_vec(alloc)?, scores)
+}
+
+/// Places and the scores of that column, added.
+fn added(alloc: Global) -> Result<String, CodecError> {
     let mut arguments = PgArguments::new(alloc);
-    let places = [1, 2].to_vec(alloc)?;
-    add_lists(&mut arguments, places, scores(alloc, column)?)?;
-    Ok(encode(alloc, arguments.buffer().as_slice())?)
+    add_scores(alloc, &mut arguments)?;
+    in_hex(alloc, &arguments)
 }
 
 #[test]
@@ -99,13 +122,12 @@ fn a_search_is_bound(rt: HostRuntime) -> Result<(), CodecError> {
 
 /// A list of moods and a list of addresses. The types of their holes are known in the other order.
 fn two_holes(alloc: Global) -> Result<String, CodecError> {
-    let mut arguments = PgArguments::new(alloc);
-    arguments.add([PgEnum(Mood::Fine)].to_vec(alloc)?)?;
+    let mut arguments = one_mood(alloc)?;
     let address = String::from_str(alloc, "a@b")?;
     arguments.add(Vec::from_array(alloc, [PgDomain(Email(address))])?)?;
     let parameters = [PgTypeInfo::array_of("mood"), PgTypeInfo::array_of("email")];
     fill(alloc, &mut arguments, &parameters, &known_types(alloc)?)?;
-    Ok(encode(alloc, arguments.buffer().as_slice())?)
+    in_hex(alloc, &arguments)
 }
 
 #[test]
@@ -211,10 +233,11 @@ fn kept(alloc: Global) -> Result<String, CodecError> {
 
 #[test]
 fn rows_of_persons(rt: HostRuntime) -> Result<(), CodecError> {
-    let seven = person(rt.alloc(), SEVEN)?;
-    assert_eq!(rt; seven.as_str(), "7 Some(\"seven\")");
-    let unnamed = person(rt.alloc(), b"\0\0\0\x04\0\0\0\x07\xff\xff\xff\xff")?;
-    assert_eq!(rt; unnamed.as_str(), "7 None");
+    let unnamed = b"\0\0\0\x04\0\0\0\x07\xff\xff\xff\xff".as_slice();
+    for (row, shown) in [(SEVEN, "7 Some(\"seven\")"), (unnamed, "7 None")] {
+        let person = person(rt.alloc(), row)?;
+        assert_eq!(rt; person.as_str(), shown);
+    }
     let kept = kept(rt.alloc())?;
     assert_eq!(rt; kept.as_str(), "7 seven 0");
     let null = person(rt.alloc(), b"\xff\xff\xff\xff\0\0\0\x05seven");
@@ -222,14 +245,20 @@ fn rows_of_persons(rt: HostRuntime) -> Result<(), CodecError> {
     Ok(())
 }
 
-/// A query for these keys, its arguments in hex, and how many keys more were refused.
-fn listed(alloc: Global, keys: &[i64]) -> Result<String, CodecError> {
+/// The arguments of a query for these keys, each added twice, in hex, and how many were refused the second time.
+fn keys_sent(alloc: Global, query: &mut String, keys: &[i64]) -> Result<String, CodecError> {
     let mut arguments = PgArguments::new(alloc);
-    let mut query = String::from_str(alloc, "where id")?;
-    push_in(&mut arguments, &mut query, keys)?;
+    push_in(&mut arguments, query, keys)?;
     let refused = add_all(alloc, &mut arguments, keys)?;
-    let sent = encode(alloc, arguments.buffer().as_slice())?;
-    Ok(format!(in alloc; "{query} {sent} {refused}")?)
+    let sent = in_hex(alloc, &arguments)?;
+    Ok(format!(in alloc; "{sent} {refused}")?)
+}
+
+/// A query for these keys, and what is sent of them.
+fn listed(alloc: Global, keys: &[i64]) -> Result<String, CodecError> {
+    let mut query = String::from_str(alloc, "where id")?;
+    let sent = keys_sent(alloc, &mut query, keys)?;
+    Ok(format!(in alloc; "{query} {sent}")?)
 }
 
 #[test]
@@ -255,16 +284,9 @@ fn float_read(alloc: Global, bytes: Option<&[u8]>, format: PgValueFormat) -> Res
 
 #[test]
 fn floats_by_their_bits(rt: HostRuntime) -> Result<(), CodecError> {
-    let mut arguments = PgArguments::new(rt.alloc());
-    arguments.add(PgPlain(Float8(4_607_182_418_800_017_408)))?;
+    let sent = sent(rt.alloc(), PgPlain(Float8(4_607_182_418_800_017_408)))?;
+    assert_eq!(rt; sent.as_str(), "000000083ff0000000000000");
     let one = b"\x3f\xf0\0\0\0\0\0\0".as_slice();
-    assert_eq!(rt;
-        arguments
-            .buffer()
-            .as_slice()
-            .strip_prefix(b"\0\0\0\x08".as_slice()),
-        Some(one)
-    );
     let found = [
         float_read(rt.alloc(), Some(one), PgValueFormat::Binary),
         float_read(rt.alloc(), Some(&one[1..]), PgValueFormat::Binary),
@@ -356,14 +378,19 @@ fn server_of_moods(alloc: Global) -> Result<PgServerTypes, CatalogError> {
     types_of(alloc, &rows)
 }
 
-/// What is sent of a list of one mood to a server with these types.
-fn mood_sent(alloc: Global, types: &PgServerTypes) -> Result<String, CatalogError> {
-    let moods = [PgEnum(Mood::Fine)].to_vec(alloc)?;
+/// A list of one mood, added.
+fn one_mood(alloc: Global) -> Result<PgArguments, CodecError> {
     let mut arguments = PgArguments::new(alloc);
-    arguments.add(moods)?;
+    arguments.add([PgEnum(Mood::Fine)].to_vec(alloc)?)?;
+    Ok(arguments)
+}
+
+/// What is sent of that list to a server with these types.
+fn mood_sent(alloc: Global, types: &PgServerTypes) -> Result<String, CatalogError> {
+    let mut arguments = one_mood(alloc)?;
     let parameters = [PgTypeInfo::array_of("mood")];
     fill_by(alloc, &mut arguments, &parameters, types)?;
-    Ok(encode(alloc, arguments.buffer().as_slice())?)
+    Ok(in_hex(alloc, &arguments)?)
 }
 
 /// The name of the type of the first column.
@@ -414,21 +441,21 @@ fn document_shown(alloc: Global, parameter: PgType) -> Result<String, CodecError
     Ok(format!(in alloc; "{} {}", encode(alloc, sent)?, read.0)?)
 }
 
-/// What is sent of a shipment without a note, in hex, its holes open.
-fn shipment_sent(alloc: Global) -> Result<String, CodecError> {
-    let mut arguments = PgArguments::new(alloc);
+/// A shipment without a note.
+fn shipment(alloc: Global) -> Result<PgComposite<Shipment>, CodecError> {
     let path = PgLTree::from_str(alloc, "a.b")?;
     let page = PgComposite(Page { id: 1, path });
-    arguments.add(PgComposite(Shipment { note: None, page }))?;
-    Ok(encode(alloc, arguments.buffer().as_slice())?)
+    Ok(PgComposite(Shipment { note: None, page }))
+}
+
+/// What is sent of that shipment, in hex, its holes open.
+fn shipment_sent(alloc: Global) -> Result<String, CodecError> {
+    sent(alloc, shipment(alloc)?)
 }
 
 /// The text `(,"(1,a.b)")` read as a shipment.
 fn shipment_read(alloc: Global) -> Result<String, CodecError> {
-    let text = b"(,\"(1,a.b)\")".as_slice();
-    let shipment = PgComposite::<Shipment>::type_info();
-    let value = PgValueRef::new(Some(text), shipment, PgValueFormat::Text);
-    let PgComposite(read) = PgComposite::<Shipment>::decode(alloc, value)?;
+    let PgComposite(read) = of_text::<PgComposite<Shipment>>(alloc, b"(,\"(1,a.b)\")")?;
     Ok(format!(in alloc; "{:?} {} {}", read.note, read.page.0.id, read.page.0.path)?)
 }
 

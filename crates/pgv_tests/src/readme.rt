@@ -45,6 +45,7 @@ mod wire {
     use crate::examples::bytes_of;
     use hex::encode;
     use pgv::message::{PgTransactionStatus, message_in_front, parameter_oids, transaction_status};
+    use pgv::row::PgColumns;
     use pgv::{CodecError, PgArguments};
     use pgv_examples::statement::{ask, columns_of, people, run};
     use std::alloc::Global;
@@ -65,51 +66,67 @@ mod wire {
         4400000034000500000004000000070000000442c3a961000000026f6b0000000c00000000000000000000001700000004ffffffff\
         430000000d53454c4543542033005a0000000549";
 
-    /// The people of that session, each on a line.
-    fn people_shown(alloc: Global) -> Result<String, CodecError> {
-        let described = bytes_of(alloc, DESCRIBED)?;
-        let came = bytes_of(alloc, CAME)?;
-        let columns = columns_of(alloc, described.as_slice())?;
+    /// The people in these messages, each on a line.
+    fn lines(alloc: Global, columns: &PgColumns<'_>, came: &[u8]) -> Result<String, CodecError> {
         let mut text = String::new(alloc);
-        for (id, name) in people(alloc, &columns, came.as_slice())? {
+        for (id, name) in people(alloc, columns, came)? {
             let line = format!(in alloc; "{id} {name:?}\n")?;
             text.push_str(line.as_str())?;
         }
         Ok(text)
     }
 
-    /// What is sent of `select $1` with the number 7, in hex.
-    fn sent_shown(alloc: Global) -> Result<String, Fail> {
+    /// The people of that session, each on a line.
+    fn people_shown(alloc: Global) -> Result<String, CodecError> {
+        let described = bytes_of(alloc, DESCRIBED)?;
+        let came = bytes_of(alloc, CAME)?;
+        let columns = columns_of(alloc, described.as_slice())?;
+        lines(alloc, &columns, came.as_slice())
+    }
+
+    /// Appends what is sent of `select $1` with the number 7.
+    fn push_sent(alloc: Global, out: &mut Vec<u8>) -> Result<(), Fail> {
         let mut arguments = PgArguments::new(alloc);
         arguments.add(7i32)?;
+        ask(out, "select $1")?;
+        Ok(run(out, &arguments)?)
+    }
+
+    /// That, in hex.
+    fn sent_shown(alloc: Global) -> Result<String, Fail> {
         let mut out = Vec::new(alloc);
-        ask(&mut out, "select $1")?;
-        run(&mut out, &arguments)?;
+        push_sent(alloc, &mut out)?;
         Ok(encode(alloc, out.as_slice())?)
     }
 
     /// What comes after Describe and before Bind, in hex: ParseComplete, ParameterDescription, NoData, ReadyForQuery.
     const PREPARED: &[u8] = b"3100000004740000000a0001000000176e000000045a0000000549";
 
+    /// Appends the OIDs of the parameters in the body of a ParameterDescription.
+    fn push_oids(alloc: Global, text: &mut String, body: &[u8]) -> Result<(), CodecError> {
+        for oid in parameter_oids(alloc, body)?.iter() {
+            text.push_str(format!(in alloc; "{} ", oid.0)?.as_str())?;
+        }
+        Ok(())
+    }
+
+    /// Appends whether a transaction is open, by the body of a ReadyForQuery.
+    fn push_status(text: &mut String, body: &[u8]) -> Result<(), CodecError> {
+        let idle = matches!(transaction_status(body)?, PgTransactionStatus::Idle);
+        Ok(text.push_str(if idle { "idle" } else { "open" })?)
+    }
+
     /// The OIDs of the parameters in these messages, and whether a transaction is open after them.
-    fn prepared_shown(alloc: Global) -> Result<String, CodecError> {
-        let came = bytes_of(alloc, PREPARED)?;
+    fn prepared(alloc: Global, came: &[u8]) -> Result<String, CodecError> {
         let mut text = String::new(alloc);
-        let mut rest = came.as_slice();
+        let mut rest = came;
         for _ in 0..came.len() {
             let Ok(Some(found)) = message_in_front(rest) else {
                 return Ok(text);
             };
             match found.tag {
-                b't' => {
-                    for oid in parameter_oids(alloc, found.body)?.iter() {
-                        text.push_str(format!(in alloc; "{} ", oid.0)?.as_str())?;
-                    }
-                }
-                b'Z' => {
-                    let idle = matches!(transaction_status(found.body)?, PgTransactionStatus::Idle);
-                    text.push_str(if idle { "idle" } else { "open" })?;
-                }
+                b't' => push_oids(alloc, &mut text, found.body)?,
+                b'Z' => push_status(&mut text, found.body)?,
                 _ => {}
             }
             rest = found.rest;
@@ -124,7 +141,8 @@ mod wire {
             sent.as_str(),
             "50000000110073656c65637420243100000044000000065300530000000442000000180000000100010001000000040000000700010001450000000900000000005300000004"
         );
-        let prepared = prepared_shown(rt.alloc())?;
+        let came = bytes_of(rt.alloc(), PREPARED)?;
+        let prepared = prepared(rt.alloc(), came.as_slice())?;
         assert_eq!(rt; prepared.as_str(), "23 idle");
         let shown = people_shown(rt.alloc())?;
         assert_eq!(rt;

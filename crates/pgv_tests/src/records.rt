@@ -12,15 +12,20 @@ use std::alloc::Global;
 use std::test::Fail;
 use uuid::Uuid;
 
+/// The frame of a value, in hex.
+fn frame_of<T: Encode>(alloc: Global, value: &T) -> Result<String, CodecError> {
+    let mut out = PgArgumentBuffer::new(alloc);
+    out.encode(value)?;
+    Ok(hex::encode(alloc, out.as_slice())?)
+}
+
 /// The frame of the next field, which is read and written again, in hex.
 fn written_again<T: Type + Decode + Encode>(
     alloc: Global,
     fields: &mut PgRecordDecoder<'_>,
 ) -> Result<String, CodecError> {
     let value = fields.try_decode::<Option<T>>()?;
-    let mut out = PgArgumentBuffer::new(alloc);
-    out.encode(&value)?;
-    Ok(hex::encode(alloc, out.as_slice())?)
+    frame_of(alloc, &value)
 }
 
 /// The frame of the next field, at the Rust type for the type that is named.
@@ -57,32 +62,31 @@ fn field_agrees(
     Ok(same.as_str() == written.as_str() && (frame == "?" || written.as_str() == frame))
 }
 
-/// Whether the fields of a record are read alike in both formats, and written as the server's frames.
+/// Whether the fields that are left are read alike in both formats, and written as the server's frames.
 fn fields_agree(
     alloc: Global,
-    binary: PgValueRef<'_>,
-    text: PgValueRef<'_>,
+    from_binary: &mut PgRecordDecoder<'_>,
+    from_text: &mut PgRecordDecoder<'_>,
     wanted: &str,
 ) -> Result<bool, Fail> {
-    let mut from_binary = PgRecordDecoder::new(alloc, binary)?;
-    let mut from_text = PgRecordDecoder::new(alloc, text)?;
     for field in wanted.split(' ') {
-        if !field_agrees(alloc, &mut from_binary, &mut from_text, field)? {
+        if !field_agrees(alloc, from_binary, from_text, field)? {
             return Ok(false);
         }
     }
     Ok(true)
 }
 
-/// A column of a record, in hex, under the type that the line names.
+/// The fields of a record in these bytes, under the type that the line names.
 fn record<'a>(
     alloc: Global,
     name: &str,
     bytes: &'a [u8],
     format: PgValueFormat,
-) -> Result<PgValueRef<'a>, Fail> {
+) -> Result<PgRecordDecoder<'a>, CodecError> {
     let type_name = if name == "pair" { "(int4,text)" } else { name };
-    Ok(PgValueRef::new(Some(bytes), type_of(alloc, type_name)?, format))
+    let value = PgValueRef::new(Some(bytes), type_of(alloc, type_name)?, format);
+    PgRecordDecoder::new(alloc, value)
 }
 
 /// Whether the fields of a record of these bytes are read and written so.
@@ -93,9 +97,9 @@ fn record_agrees(
     text: &[u8],
     wanted: &str,
 ) -> Result<bool, Fail> {
-    let in_binary = record(alloc, name, binary, PgValueFormat::Binary)?;
-    let in_text = record(alloc, name, text, PgValueFormat::Text)?;
-    fields_agree(alloc, in_binary, in_text, wanted)
+    let mut in_binary = record(alloc, name, binary, PgValueFormat::Binary)?;
+    let mut in_text = record(alloc, name, text, PgValueFormat::Text)?;
+    fields_agree(alloc, &mut in_binary, &mut in_text, wanted)
 }
 
 /// Whether one line is read so.

@@ -114,15 +114,21 @@ fn is_element_of(info: &PgTypeInfo, array: &str) -> bool {
     }
 }
 
+/// Whether the built-in type of an OID has this name, and is the element of this array.
+fn is_built_in(oid: &str, name: &str, array: &str) -> bool {
+    match found(oid) {
+        Some(info) => info.0.name().text() == name && is_element_of(&info, array),
+        None => false,
+    }
+}
+
 #[test]
 fn types_of_a_server(rt: HostRuntime) -> Result<(), Fail> {
     assert_eq!(rt; TYPES.lines().count(), 92);
     for line in TYPES.lines() {
         let (oid, rest) = line.split_once(' ').ok_or("no name")?;
         let (name, array) = rest.split_once(' ').ok_or("no array")?;
-        let info = found(oid).ok_or("not built in")?;
-        assert_eq!(rt; info.0.name().text(), name);
-        assert!(rt; is_element_of(&info, array), "{line}");
+        assert!(rt; is_built_in(oid, name, array), "{line}");
     }
     Ok(())
 }

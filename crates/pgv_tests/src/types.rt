@@ -109,14 +109,19 @@ fn relation(one: &PgTypeInfo, other: &PgTypeInfo) -> &'static str {
     }
 }
 
+/// The same of two types by their names here.
+fn related(alloc: Global, first: &str, second: &str) -> Result<&'static str, AllocError> {
+    let one = named(alloc, first)?;
+    let other = named(alloc, second)?;
+    Ok(relation(&one, &other))
+}
+
 #[test]
 fn pairs(rt: HostRuntime) -> Result<(), Fail> {
     for line in PAIRS.lines() {
         let (types, wanted) = line.split_once(": ").ok_or("no answer")?;
         let (first, second) = types.split_once(", ").ok_or("no second type")?;
-        let one = named(rt.alloc(), first)?;
-        let other = named(rt.alloc(), second)?;
-        assert_eq!(rt; relation(&one, &other), wanted, "{types}");
+        assert_eq!(rt; related(rt.alloc(), first, second)?, wanted, "{types}");
     }
     Ok(())
 }
@@ -206,13 +211,17 @@ fn compatible(name: &str, info: &PgTypeInfo) -> bool {
     }
 }
 
+/// Whether values of the Rust type of a name are read under the type of a column.
+fn is_read_under(name: &str, column_name: &'static str) -> bool {
+    compatible(name, &column(column_name))
+}
+
 #[test]
 fn types_that_are_compatible(rt: HostRuntime) -> Result<(), Fail> {
     for line in COMPATIBLE.lines() {
         let (types, wanted) = line.split_once(": ").ok_or("no answer")?;
         let (rust, info) = types.split_once(", ").ok_or("no type")?;
-        let found = compatible(rust, &column(info));
-        assert_eq!(rt; found, wanted == "yes", "{types}");
+        assert_eq!(rt; is_read_under(rust, info), wanted == "yes", "{types}");
     }
     Ok(())
 }
