@@ -1,5 +1,5 @@
-pub mod Copies
-pub mod Fronts
-pub mod Rows
+pub mod CopyAnswers
+pub mod MessageFronts
+pub mod AnsweredRows
 pub mod Talking
-pub mod Values
+pub mod ShownValues

@@ -13,7 +13,7 @@ use Rattle.pgv_value.specs.declared.value.PgValueFormat.TheVariants.{Binary}
 use Rattle.pgv_message.specs.CopyFormats.{copy_formats}
 use Rattle.pgv_message.specs.Messages.{query}
 use Rattle.pgquery.specs.Incoming.{Incoming}
-use Rattle.pgquery.specs.Lines.{between}
+use Rattle.pgquery.specs.RowLines.{between}
 use Rattle.pgquery.specs.Talks.{Sends, Talks, UpToReady}
 use Rattle.pgquery.specs.declared.connection.Connection.{Connection}
 

@@ -1,5 +1,5 @@
 pub mod Copying
 pub mod Incoming
-pub mod Lines
+pub mod RowLines
 pub mod Statement
 pub mod Talks

@@ -7,10 +7,10 @@ use Rattle.pgv_value.specs.declared.value.PgValueFormat.{PgValueFormat}
 use Rattle.pgv_value.specs.declared.value.PgValueFormat.TheVariants.{Text, Binary}
 use Rattle.pgv_wire.specs.Arguments.{Argument}
 use Rattle.pgv_message.specs.Messages.{bare, bind, describe, execute, parse}
-use Rattle.pgv_message.specs.Writing.{Writing, ◌>>=◌}
+use Rattle.pgv_message.specs.MessageWriting.{Writing, ◌>>=◌}
 use Rattle.pgv_message.specs.declared.describe.Prepared.TheVariants.{Statement}
 use Rattle.pgquery.specs.Incoming.{Incoming}
-use Rattle.pgquery.specs.Lines.{ShowsRows}
+use Rattle.pgquery.specs.RowLines.{ShowsRows}
 use Rattle.pgquery.specs.Talks.{Converses, Sends, Talks, UpToReady}
 use Rattle.pgquery.specs.declared.connection.Connection.{Connection}
 use Rattle.pgquery.specs.declared.options.Shown.{Shown}

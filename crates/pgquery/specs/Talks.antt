@@ -2,7 +2,7 @@
 use Rattle.std.specs.Prelude.{◌≡◌, ℕ, Bool, false, ◌||◌, ◌==◌, List, [], ◌∷◌, map, if◌then◌else◌, Option, Ok, codes}
 use Rattle.std.specs.Io.KnownBytes.{Appends}
 use Rattle.pgv_message.specs.Startup.{startup}
-use Rattle.pgv_message.specs.Writing.{Writing}
+use Rattle.pgv_message.specs.MessageWriting.{Writing}
 use Rattle.pgv_message.specs.declared.startup.PgSetting.{PgSetting}
 use Rattle.pgquery.specs.Incoming.{Come, Incoming, IsLast, unread}
 use Rattle.pgquery.specs.declared.connection.Connection.{Connection}

@@ -6,7 +6,7 @@ ghost use Rattle.pgv.specs.Words.{Given};
 ghost use Rattle.pgv_types.specs.Ty.{by_oid};
 ghost use Rattle.pgv_copy.specs.CopyPieces.{nothing_came};
 ghost use Rattle.pgquery.specs.Copying.{CopiesAnswer, Grows, OpensCopy, RunsCopy, ShowsCopy, ShowsPiece, copied_line, field_in_hex};
-ghost use Rattle.pgquery.specs.Lines.{Writes};
+ghost use Rattle.pgquery.specs.RowLines.{Writes};
 
 use crate::connection::Connection;
 use crate::fault::Fault;

@@ -2,8 +2,8 @@
 
 ghost use Rattle.std.specs.Prelude.{◌≡◌, ◌++◌, ◌<◌, OnOk};
 ghost use Rattle.pgv_row.specs.RowView.{value_at};
-ghost use Rattle.pgquery.specs.Lines.{escape, escaped, json_escape, json_escaped, json_value, line_of, member, object_of, string_of, value_shown};
-ghost use Rattle.pgquery.specs.Lines as lines;
+ghost use Rattle.pgquery.specs.RowLines.{escape, escaped, json_escape, json_escaped, json_value, line_of, member, object_of, string_of, value_shown};
+ghost use Rattle.pgquery.specs.RowLines as lines;
 
 use crate::fault::Fault;
 use crate::parameter::add_value;

@@ -1,7 +1,7 @@
 //! A statement: it is prepared, its parameters are bound, and its rows are shown.
 
 ghost use Rattle.std.specs.Prelude.{◌≡◌, ◌==◌, OnOk, IfOk, string_bytes};
-ghost use Rattle.pgquery.specs.Lines.{ShowsAnswer, ShowsBody, Writes};
+ghost use Rattle.pgquery.specs.RowLines.{ShowsAnswer, ShowsBody, Writes};
 ghost use Rattle.pgquery.specs.Statement.{Describes, Prepares, PreparesAtLast, Runs, ShowsAnswers, described, executing};
 ghost use Rattle.pgquery.specs.Statement as statement;
 ghost use Rattle.pgquery.specs.Talks.{Converses, Sends};

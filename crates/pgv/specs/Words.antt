@@ -15,7 +15,7 @@ pub use Rattle.pgv_buf.specs.Tokens.{Token, byte, hole, slot, bytes, be4}
 -- all.
 pub use Rattle.pgv_codec.specs.Encoding.{Encoding, Image, null_image, image_of, plainly, with_hint, writes, unwritten, frame, field, record_image, value_type}
 -- The images of numbers of a width (`signed_image w32`), of truth values, texts and UUIDs.
-pub use Rattle.pgv_codec.specs.ScalarBinary.{signed_image, unsigned_image, bool_image, text_image, uuid_image}
+pub use Rattle.pgv_codec.specs.ScalarImage.{signed_image, unsigned_image, bool_image, text_image, uuid_image}
 -- `blank tokens` are tokens in a buffer that is not filled yet: what a call that appends has put after `out.old`.
 -- `shown cells` are the bytes that a buffer shows.
 pub use Rattle.pgv_buf.specs.Tokens.{blank, shown}
@@ -69,7 +69,7 @@ pub use Rattle.pgv_wire.specs.Arguments.{Added, Adds, Argument, argument_frame, 
 pub use Rattle.pgv_buf.specs.Tokens.{hole_types_of}
 pub use Rattle.pgv_types.specs.Facts.{oid_of}
 -- `ReadAs bytes parts rest`: frames one after another, with a rest.
-pub use Rattle.pgv_wire.specs.Parts.{ReadAs}
+pub use Rattle.pgv_wire.specs.ArgumentParts.{ReadAs}
 -- `ArgumentReadsBack encoding reading kept fits`: an argument is read back, whatever else was added and filled.
 pub use Rattle.pgv_wire.specs.Given.{ArgumentReadsBack}
 -- `ReadsBack encoding reading kept fits` is the law of `ReadBack`; `always` for `fits` is every type. `FieldFits` says
@@ -84,7 +84,7 @@ pub use Rattle.pgv_codec.specs.BackParts.{guarded, write-bytes}
 pub use Rattle.pgv_codec.specs.BackScalars.{part_is, parsed_as, int4_back, int8_back, text_back}
 -- The three steps for a composite.
 pub use Rattle.pgv_codec.specs.BackRecords.{further_back, last_back, record_back}
-pub use Rattle.pgv_codec.specs.Plain.{FieldIsPlain}
+pub use Rattle.pgv_codec.specs.PlainFit.{FieldIsPlain}
 -- `written_part i p oids` is the part that an image is written as, and `write p oids tokens` the bytes of tokens.
 -- `ImageFits i`: each case of a slot has as many bytes as its default.
 pub use Rattle.pgv_codec.specs.Writing.{write, written_part}
@@ -94,7 +94,7 @@ pub use Rattle.pgv_ltree.specs.Ascii.{are_ascii, ascii_is_utf8}
 -- Of an enum: `labelled rows label` is the value that a table of labels gives to a label, and `are_labels rows` says
 -- that its labels are UTF-8. `label_written label` is what is written of a label, and `parse_label label_of rows` how
 -- one is read.
-pub use Rattle.pgv_user_types.specs.Labels.{labelled, are_labels, label_written, parse_label}
+pub use Rattle.pgv_user_types.specs.EnumLabels.{labelled, are_labels, label_written, parse_label}
 -- What a plain type of one's own says of itself: its types, what is written of a value, what is read, and two proofs.
 pub use Rattle.pgv_user_types.specs.Plains.{PlainRules}
 -- The law for `PgLTree`, and what comes back of a tree.

@@ -1,9 +1,9 @@
 //! The laws of the library: first those of the types of values, then those of each crate. Each law is the contract of a
 //! function that does nothing.
 
-pub mod dates;
-pub mod intervals;
-pub mod networks;
+pub mod date_time;
+pub mod interval;
+pub mod network;
 pub mod rows;
 pub mod texts;
 

@@ -11,7 +11,7 @@ use Rattle.pgv_buf.specs.Fill.{fill_holes, fill_slots}
 use Rattle.pgv_buf.specs.Layout.{is_hole, is_slot, token_width, if_so, places, slots_of, Layout, layout_of, Represents}
 use Rattle.pgv_buf.specs.Patches.{put, first_string, written, Within, numbers, choices}
 use Rattle.pgv_buf.proofs.Layouts.{width_first, width-plain, layout-append, with_more, wide}
-use Rattle.pgv_buf.proofs.Steps.{shown-bytes, plain-bytes, Proper-bytes, bytes_alone}
+use Rattle.pgv_buf.proofs.CellSteps.{shown-bytes, plain-bytes, Proper-bytes, bytes_alone}
 
 pub put_at : (x y z w : List ℕ) → length y ≡ length w → put (length x) w (x ++ y ++ z) ≡ x ++ w ++ z
 put_at x y z w e =

@@ -1,3 +1,3 @@
 mod Holes
-mod Made
+mod MadeTypes
 mod Waiting

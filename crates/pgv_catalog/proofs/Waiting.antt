@@ -5,7 +5,7 @@ use Rattle.std.specs.List.{AllByRecursion}
 use Rattle.std.proofs.lemmas.Bool.{eq-eqb, eqb-true}
 use Rattle.pgv_types.specs.Facts.{built_in}
 use Rattle.pgv_types.specs.Ty.{Ty, by_oid}
-use Rattle.pgv_value.specs.Steps.{◌>>=◌}
+use Rattle.pgv_value.specs.ReadingSteps.{◌>>=◌}
 use Rattle.pgv_catalog.specs.Entries.{Entry, has_oid, with_oid}
 use Rattle.pgv_catalog.specs.Rows.{AllAwait, HasParts, IsIn, entry_in, entry_of, field_oid, fields_in, first_of, has_row, kind_by, kind_in, part_in, part_oids, part_oids_by, unmade}
 use Rattle.pgv_catalog.specs.declared.rows.PgCatalogRows.{PgCatalogRows}

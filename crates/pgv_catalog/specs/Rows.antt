@@ -10,7 +10,7 @@ use Rattle.std.specs.declared.alloc.Global.{Global}
 use Rattle.std.specs.declared.rc.RcStr.{RcStr}
 use Rattle.pgv_types.specs.Facts.{built_in}
 use Rattle.pgv_types.specs.Ty.{Ty, by_oid, custom, Kind, simple, pseudo, domain, composite, array, enumeration, range, Fields, no_fields, field}
-use Rattle.pgv_value.specs.Steps.{◌>>=◌}
+use Rattle.pgv_value.specs.ReadingSteps.{◌>>=◌}
 use Rattle.pgv_catalog.specs.Entries.{Entry, with_oid}
 use Rattle.pgv_catalog.specs.declared.rows.PgCatalogRows.{PgCatalogRows}
 use Rattle.pgv_catalog.specs.declared.rows.PgFieldRow.{PgFieldRow}

@@ -1,11 +1,11 @@
 pub mod Fours
-pub mod Frames
+pub mod OneFrame
 pub mod Lists
 pub mod Records
 pub mod FrameLoop
 pub mod PartLoop
 pub mod PlainFits
-pub mod Outcomes
+pub mod StepOutcomes
 pub mod Domains
 pub mod CompositeFields
 mod ArrayGrammars

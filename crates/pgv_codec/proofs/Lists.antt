@@ -10,7 +10,7 @@ use Rattle.pgv_buf.specs.Blank.{blank-append}
 use Rattle.pgv_value.specs.Outcome.{Outcome, Fails, after, bind_by, done}
 use Rattle.pgv_value.specs.declared.error.CodecError.{CodecError}
 use Rattle.pgv_codec.specs.PlainBytes.{bytes-append}
-use Rattle.pgv_codec.proofs.Frames.{plain_frame}
+use Rattle.pgv_codec.proofs.OneFrame.{plain_frame}
 use Rattle.pgv_codec.specs.Encoding.{Encoding, Image, image_of, plainly, writes, frame, frames, typed, header, array_image, element_type, field, value_type}
 use Rattle.pgv_codec.specs.Appending.{Appended, Appends}
 use Rattle.pgv_codec.specs.AtOnce.{AreFrames, WritesFirst, word_frame}

@@ -17,7 +17,7 @@ use Rattle.pgv_value.specs.ValueView.{Given}
 use Rattle.pgv_value.specs.declared.error.CodecError.{CodecError}
 use Rattle.pgv_value.specs.declared.error.CodecError.TheVariants.{Syntax}
 use Rattle.pgv_value.specs.declared.value.PgValueFormat.TheVariants.{Text}
-use Rattle.pgv_codec.proofs.Outcomes.{fails_here, fails_then}
+use Rattle.pgv_codec.proofs.StepOutcomes.{fails_here, fails_then}
 use Rattle.pgv_codec.specs.ArrayGrammar.{array_in_text, each}
 use Rattle.pgv_codec.specs.RecordGrammar.{Left, text_fields}
 use Rattle.pgv_codec.specs.RecordGrammar.{next_field}

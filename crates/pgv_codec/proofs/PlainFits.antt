@@ -8,7 +8,7 @@ use Rattle.pgv_codec.specs.ArrayGrammar.{element_type}
 use Rattle.pgv_codec.specs.Back.{ArrayFits, FieldFits, written_oid}
 use Rattle.pgv_codec.specs.NestBinary.{HasFieldType, of_record, of_composite, of_domain}
 use Rattle.pgv_codec.specs.Encoding.{Encoding, value_type, element_type as written_type}
-use Rattle.pgv_codec.specs.Plain.{ArrayIsPlain, HasField, in_composite, in_domain, in_record, FieldIsPlain}
+use Rattle.pgv_codec.specs.PlainFit.{ArrayIsPlain, HasField, in_composite, in_domain, in_record, FieldIsPlain}
 
 element_is : (t u : Ty) (oid : ℕ) (o : Option Ty) → built_in oid ≡ o → element_of t ≡ Some u → ((other : Ty) → built_in oid ≡ Some other → other ≡ u) → element_type t oid ≡ Some u
 element_is t u oid None o_is e own = rw (o_is, element_type) e

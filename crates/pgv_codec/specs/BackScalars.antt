@@ -16,7 +16,7 @@ use Rattle.pgv_value.specs.NumberBinary.{fits_signed, whole_number}
 use Rattle.pgv_value.specs.OwnBytes.{own_byte, own_two_bytes, own_four_bytes, own_eight_bytes}
 use Rattle.pgv_value.specs.Outcome.{ok_of, reading_of, stated, without_memory}
 use Rattle.pgv_value.specs.Parsed.{Parsed}
-use Rattle.pgv_value.specs.Steps.{number}
+use Rattle.pgv_value.specs.ReadingSteps.{number}
 use Rattle.pgv_value.specs.ScalarGrammar.{parse_bool, parse_int, parse_char, parse_oid, parse_uuid}
 use Rattle.pgv_value.specs.Utf8.{parse_text}
 use Rattle.pgv_value.specs.declared.error.CodecError.{CodecError}
@@ -25,7 +25,7 @@ use Rattle.pgv_codec.specs.Back.{ReadsBack, always, image_is}
 use Rattle.pgv_codec.specs.BackParts.{guarded, write-bytes}
 use Rattle.pgv_codec.specs.Encoding.{Image, image_of, plainly, writes}
 use Rattle.pgv_codec.specs.Writing.{written_part}
-use Rattle.pgv_codec.specs.ScalarBinary.{signed_image, unsigned_image, bool_image, text_image, uuid_image}
+use Rattle.pgv_codec.specs.ScalarImage.{signed_image, unsigned_image, bool_image, text_image, uuid_image}
 
 -- plain bytes are written as they are
 pub part_is : (xs : List ℕ) (i : Image) (p : Option Ty) (os : List Oid) → (let o : Option Image = Some (image_of (bytes xs)) in o) ≡ Some i → written_part i p os ≡ Some xs

@@ -23,10 +23,10 @@ use Rattle.pgv_value.specs.OwnBytes.{own_four_bytes, own_eight_bytes}
 use Rattle.pgv_codec.specs.Back.{ReadsBack, always, image_is}
 use Rattle.pgv_codec.specs.BackParts.{guarded}
 use Rattle.pgv_codec.specs.BackScalars.{part_is}
-use Rattle.pgv_codec.specs.DateTimeBinary.{days_of, date_image, time_image, micros_of, moment_image}
+use Rattle.pgv_codec.specs.DateTimeImage.{days_of, date_image, time_image, micros_of, moment_image}
 use Rattle.pgv_codec.specs.DateTimeKept.{time_kept, date_time_kept, date_time_kept_cut, instant_kept}
 use Rattle.pgv_codec.specs.Encoding.{Image, image_of, with_hint, writes}
-use Rattle.pgv_codec.specs.ScalarBinary.{signed_image}
+use Rattle.pgv_codec.specs.ScalarImage.{signed_image}
 use Rattle.pgv_codec.specs.Writing.{written_part}
 
 -- a number that was written in the bytes of its width is the part, and is read from it

@@ -17,7 +17,7 @@ use Rattle.jiff_core.proofs.DateTimeLemmas.{civil_nanos-parts, time_nanos_bound}
 use Rattle.jiff_core.proofs.StandardFacts.{known_days}
 use Rattle.pgv_text.specs.DateTimeText.{nanos_at}
 use Rattle.pgv_value.specs.DateTimeBinary.{nanos_after}
-use Rattle.pgv_codec.specs.DateTimeBinary.{micros_of}
+use Rattle.pgv_codec.specs.DateTimeImage.{micros_of}
 use Rattle.pgv_codec.specs.TimeOfDay.{time_of, time_nanos-time_of, cut, cut_fits}
 
 -- ---- each day before 2000 has a next one

@@ -12,7 +12,7 @@ use Rattle.jiff_core.specs.Time.{time_nanos}
 use Rattle.jiff_core.specs.Timestamp.{IsTimestampNanos}
 use Rattle.jiff_core.proofs.DateTimeLemmas.{time_nanos_bound}
 use Rattle.pgv_value.specs.DateTimeBinary.{first_nanosecond, nanos_after}
-use Rattle.pgv_codec.specs.DateTimeBinary.{micros_of}
+use Rattle.pgv_codec.specs.DateTimeImage.{micros_of}
 use Rattle.pgv_codec.specs.DateTimeFound.{found}
 use Rattle.pgv_codec.specs.TimeOfDay.{time_of, time_nanos-time_of, cut, cut_fits}
 

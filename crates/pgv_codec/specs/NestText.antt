@@ -10,7 +10,7 @@ use Rattle.std.specs.Str.{chars}
 use Rattle.pgv_types.specs.Ty.{Ty, by_oid}
 use Rattle.pgv_text.specs.ArrayText.{IsArrayText}
 use Rattle.pgv_text.specs.Copies.{copies_of}
-use Rattle.pgv_text.specs.NestText.{Pairwise}
+use Rattle.pgv_text.specs.NestPieces.{Pairwise}
 use Rattle.pgv_text.specs.RecordText.{IsRecordText}
 use Rattle.pgv_text.specs.declared.scanner.TextForm.TheVariants.{Record}
 use Rattle.pgv_value.specs.FrameBinary.{Part}

@@ -3,8 +3,8 @@ use Rattle.std.proofs.Common.{◌≡◌, ℕ, Bool, true, false, nat_eq, List, [
 use Rattle.std.specs.Prelude.{not, ok_or, if◌then◌else◌}
 use Rattle.std.proofs.lemmas.Bool.{eq-eqb, eqb-true}
 use Rattle.pgv_types.specs.Ty.{Ty, by_oid}
-use Rattle.pgv_text.specs.Laws.{ArrayIsItsValues, RecordIsItsValues}
-use Rattle.pgv_text.specs.NestText.{Pairwise}
+use Rattle.pgv_text.specs.NestLaws.{ArrayIsItsValues, RecordIsItsValues}
+use Rattle.pgv_text.specs.NestPieces.{Pairwise}
 use Rattle.pgv_text.specs.Copies.{copies_of}
 use Rattle.pgv_text.specs.Values.{array_values, record_values}
 use Rattle.pgv_text.specs.declared.scanner.TextForm.TheVariants.{Record}

@@ -18,7 +18,7 @@ use Rattle.pgv_codec.specs.Back.{ReadsBack, always, image_is}
 use Rattle.pgv_codec.specs.BackParts.{guarded}
 use Rattle.pgv_codec.specs.BackScalars.{part_is}
 use Rattle.pgv_codec.specs.Encoding.{Image, image_of, with_hint, writes}
-use Rattle.pgv_codec.specs.NetworkBinary.{image_with, network_image, network_hint, address_image, address_hint}
+use Rattle.pgv_codec.specs.NetworkImage.{image_with, network_image, network_hint, address_image, address_hint}
 use Rattle.pgv_codec.specs.Writing.{written_part}
 
 -- segments come back from their octets

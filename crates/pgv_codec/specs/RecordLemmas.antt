@@ -7,7 +7,7 @@ use Rattle.pgv_types.specs.Ty.{Ty, builtin, custom, named, by_oid, array_of, Kin
 use Rattle.pgv_types.specs.Facts.{built_in, oid_of}
 use Rattle.pgv_value.specs.FrameBinary.{IsFrame}
 use Rattle.pgv_value.specs.Fronts.{u32_front, value_front}
-use Rattle.pgv_value.specs.Laws.{AreBytes}
+use Rattle.pgv_value.specs.FrameLaws.{AreBytes}
 use Rattle.pgv_value.specs.Outcome.{Outcome, done, fails, or_fail}
 use Rattle.pgv_value.specs.ValueView.{Given, given}
 use Rattle.pgv_value.specs.declared.error.CodecError.{CodecError}

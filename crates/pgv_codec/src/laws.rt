@@ -12,9 +12,9 @@ ghost use Rattle.pgv_codec.specs.NestText.{IsTextField, SameParts, ◌before◌}
 ghost use Rattle.pgv_codec.specs.RecordGrammar.{next_field, parse_record, ◌then◌};
 ghost use Rattle.pgv_codec.specs.Back.{AreOids, ArrayFits, ReadsBack, FieldFits, FieldsFit, FieldReadsBack, RecordFieldsFollow, RecordReadsBack};
 ghost use Rattle.pgv_codec.specs.Encoding.{field};
-ghost use Rattle.pgv_codec.specs.Plain.{ArrayIsPlain, FieldIsPlain};
+ghost use Rattle.pgv_codec.specs.PlainFit.{ArrayIsPlain, FieldIsPlain};
 ghost use Rattle.pgv_codec.specs.RecordCalls.{RecordIsItsAccepted};
-ghost use Rattle.pgv_codec.specs.ScalarBinary.{is_void_or_record};
+ghost use Rattle.pgv_codec.specs.ScalarImage.{is_void_or_record};
 ghost use Rattle.pgv_codec.specs.TypeRow.{FitsAlways};
 
 use crate::traits::{Codec, Decode, Plain, ReadBack, Type};

@@ -18,7 +18,7 @@ pub mod types;
 pub use buffer::{IsNull, PgArgumentBuffer};
 pub use traits::{Codec, Decode, Encode, PgHasArrayType, Plain, ReadBack, Type};
 pub use types::array::{encode_array, type_of_value};
+pub use types::date_time::micros_of_day;
 pub use types::field_list::{CodecList, FieldList, KeptList, WrittenList, encode_record};
 pub use types::record::{PgRecordDecoder, PgRecordEncoder};
 pub use types::text::encode_text;
-pub use types::time::micros_of_day;

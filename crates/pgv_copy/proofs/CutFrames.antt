@@ -8,7 +8,7 @@ use Rattle.pgv_value.proofs.Fronts.{frame_in_front, cut_is_short}
 use Rattle.pgv_value.specs.Parsed.{Parsed}
 use Rattle.pgv_value.proofs.ReadFronts.{framed}
 use Rattle.pgv_copy.specs.CutFrames.{Got, got_of, got, all_got, StopsAtTheFrame, CutFramesAreShort}
-use Rattle.pgv_copy.proofs.Cuts.{ends_first, no_bytes}
+use Rattle.pgv_copy.proofs.CutStreams.{ends_first, no_bytes}
 
 got_there : (part : Part) (rest : List ℕ) → IsField part → got (field_bytes part ++ rest) ≡ (Ok part, rest)
 got_there part rest h = ap (got_of (field_bytes part ++ rest)) (frame_in_front (field_bytes part ++ rest) part rest (framed part rest h))

@@ -6,7 +6,7 @@ use Rattle.std.specs.Int.{w16, w32, to_be_bytes, cast_signed}
 use Rattle.std.proofs.lemmas.Bool.{le-ltb, lt-ltb}
 use Rattle.std.proofs.lemmas.Nat.{from_be_bytes-to_be_bytes_2}
 use Rattle.std.proofs.lemmas.List.{drop_at, length-append}
-use Rattle.pgv_value.specs.Steps.{signed_two}
+use Rattle.pgv_value.specs.ReadingSteps.{signed_two}
 use Rattle.pgv_value.proofs.Numbers.{number_there}
 use Rattle.pgv_copy.specs.CopyBinary.{signature, after_signature, after_flags, after_extension, after_count, header}
 use Rattle.pgv_copy.specs.CopyStream.{IsHeader}

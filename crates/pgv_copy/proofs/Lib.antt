@@ -1,7 +1,7 @@
 mod FieldLoop
 mod Headers
-mod Rows
-mod Cuts
+mod StreamRows
+mod CutStreams
 mod Streams
 mod CutFrames
 mod Stays

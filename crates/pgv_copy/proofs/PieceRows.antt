@@ -13,7 +13,7 @@ use Rattle.pgv_copy.specs.CopyPieces.{CopyInPiecesIsItsRows, NoRow, PiecesAreOne
 use Rattle.pgv_copy.specs.CopyStream.{IsRow, trailer, values}
 use Rattle.pgv_copy.specs.CopyView.{Copying}
 use Rattle.pgv_copy.proofs.Headers.{header_there}
-use Rattle.pgv_copy.proofs.Rows.{row_there, trailer_there}
+use Rattle.pgv_copy.proofs.StreamRows.{row_there, trailer_there}
 use Rattle.pgv_copy.proofs.Stays.{what_came_stays}
 
 -- ---- rows with more behind them

@@ -10,7 +10,7 @@ use Rattle.pgv_types.specs.Ty.{Ty}
 use Rattle.pgv_value.specs.FrameBinary.{Part, front, front_length, frame_fault}
 use Rattle.pgv_value.specs.Fronts.{i16_front, u32_front, part_front}
 use Rattle.pgv_value.specs.Parsed.{Parsed, ◌>>=◌}
-use Rattle.pgv_value.specs.Steps.{number, signed_two}
+use Rattle.pgv_value.specs.ReadingSteps.{number, signed_two}
 use Rattle.pgv_value.specs.declared.error.CodecError.{CodecError}
 use Rattle.pgv_value.specs.declared.error.CodecError.TheVariants.{Short, NegativeLength, FieldCount, Syntax}
 use Rattle.pgv_copy.specs.CopyBinary.{signature, after_signature, after_flags, after_extension, after_count, header, field, fields, before, row_or_end, step}

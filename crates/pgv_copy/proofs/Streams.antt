@@ -11,8 +11,8 @@ use Rattle.std.proofs.lemmas.Nat.{be_bytes_2}
 use Rattle.std.proofs.lemmas.List.{take-append-drop, length-take-le}
 use Rattle.pgv_types.specs.Ty.{Ty}
 use Rattle.pgv_value.specs.FrameBinary.{Part, IsFrame, front, frame_fault, field_bytes, row_bytes, IsField}
-use Rattle.pgv_value.specs.Laws.{AreBytes}
-use Rattle.pgv_value.specs.Steps.{number, signed_two}
+use Rattle.pgv_value.specs.FrameLaws.{AreBytes}
+use Rattle.pgv_value.specs.ReadingSteps.{number, signed_two}
 use Rattle.pgv_value.specs.ValueView.{Given}
 use Rattle.pgv_value.specs.declared.error.CodecError.{CodecError}
 use Rattle.pgv_value.specs.declared.error.CodecError.TheVariants.{Short, NegativeLength, FieldCount}

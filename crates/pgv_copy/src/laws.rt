@@ -11,7 +11,7 @@ use pgv_value::{CodecError, PgValueFormat, PgValueRef};
 
 /// A stream, whatever its rows, its extension and the bytes after its end, is read as exactly its rows, and each later
 /// call returns `None`.
-#[tactic(auto, using(crate::proofs::Rows::copy_is_its_rows))]
+#[tactic(auto, using(crate::proofs::StreamRows::copy_is_its_rows))]
 pub fn copy_is_its_rows()
     ensures { CopyIsItsRows }
 {}
@@ -23,14 +23,14 @@ pub fn rows_are_of_a_copy()
 {}
 
 /// A header that is cut off anywhere is refused with [`Short`](CodecError::Short) (C15).
-#[tactic(auto, using(crate::proofs::Cuts::cut_header_is_short))]
+#[tactic(auto, using(crate::proofs::CutStreams::cut_header_is_short))]
 pub fn cut_header_is_short()
     ensures { CutHeaderIsShort }
 {}
 
 /// A stream that is cut off anywhere is refused with [`Short`](CodecError::Short) (C15) in its header, or rows of it
 /// are returned, from the first on, and each call after them is refused with [`Short`](CodecError::Short) (C15).
-#[tactic(auto, using(crate::proofs::Cuts::cut_copy_is_short))]
+#[tactic(auto, using(crate::proofs::CutStreams::cut_copy_is_short))]
 pub fn cut_copy_is_short()
     ensures { CutCopyIsShort }
 {}

@@ -8,7 +8,7 @@ use Rattle.pgv_value.specs.declared.tree_error.PgLQueryParseError.{PgLQueryParse
 use Rattle.pgv_value.specs.declared.tree_error.PgLQueryParseError.TheVariants.{LTreeParrseError, Memory, ParseIntError, UnexpectedCharacter}
 use Rattle.pgv_value.specs.declared.tree_error.PgLTreeParseError.TheVariants.{InvalidLtreeLabel}
 use Rattle.pgv_value.specs.TreeErrors.{query_refused}
-use Rattle.pgv_ltree.specs.Each.{and_others, read_each}
+use Rattle.pgv_ltree.specs.TextsInTurn.{and_others, read_each}
 use Rattle.pgv_ltree.specs.Labels.{is_label}
 use Rattle.pgv_ltree.proofs.EachRead.{first_passes}
 use Rattle.pgv_ltree.specs.Queries.{Variant, Level, one_of, none_of, star}

@@ -5,7 +5,7 @@ use Rattle.std.proofs.lemmas.Bool.{false≢true}
 use Rattle.pgv_value.specs.declared.tree_error.PgLTreeParseError.{PgLTreeParseError}
 use Rattle.pgv_value.specs.declared.tree_error.PgLTreeParseError.TheVariants.{InvalidLtreeLabel}
 use Rattle.pgv_ltree.specs.Labels.{is_label, label_read}
-use Rattle.pgv_ltree.specs.Each.{and_others, first_is, read_each}
+use Rattle.pgv_ltree.specs.TextsInTurn.{and_others, first_is, read_each}
 
 -- what is read first of texts that are read
 pub record First {M E : Type 0} (r : Result M E) (others : Result (List M) E) (ms : List M) : Type 0 where

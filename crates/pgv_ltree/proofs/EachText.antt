@@ -4,7 +4,7 @@ use Rattle.std.specs.Prelude.{◌==◌, Result, Ok}
 use Rattle.std.specs.List.{AllZip, list_all, slice_split}
 use Rattle.std.proofs.lemmas.List.Splits.{length-slice_split}
 use Rattle.std.proofs.lemmas.Bool.{and_from}
-use Rattle.pgv_ltree.specs.Each.{read_each}
+use Rattle.pgv_ltree.specs.TextsInTurn.{read_each}
 use Rattle.pgv_ltree.proofs.EachRead.{first_of}
 
 pub each_is : {M E : Type 0} (read : List ℕ → Result M E) (P : List ℕ → M → Type 0) → ((text : List ℕ) (m : M) → read text ≡ Ok m → P text m) → (texts : List (List ℕ)) (ms : List M) → read_each read texts ≡ Ok ms → AllZip P texts ms

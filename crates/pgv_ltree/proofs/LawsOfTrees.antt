@@ -6,9 +6,9 @@ use Rattle.std.proofs.lemmas.List.Splits.{join_with_byte-slice_split, length-sli
 use Rattle.std.proofs.lemmas.Bool.{and_from}
 use Rattle.pgv_value.specs.declared.tree_error.PgLTreeParseError.{PgLTreeParseError}
 use Rattle.pgv_value.specs.declared.tree_error.PgLTreeParseError.TheVariants.{InvalidLtreeLabel}
-use Rattle.pgv_ltree.specs.Each.{read_each}
+use Rattle.pgv_ltree.specs.TextsInTurn.{read_each}
 use Rattle.pgv_ltree.specs.Labels.{is_label, label_read}
-use Rattle.pgv_ltree.specs.Laws.{OneTree, PrintedTreeIsRead, TreeIsRead}
+use Rattle.pgv_ltree.specs.TreeLaws.{OneTree, PrintedTreeIsRead, TreeIsRead}
 use Rattle.pgv_ltree.specs.PrintedAgain.{tree_again}
 use Rattle.pgv_ltree.specs.Trees.{IsTreeText, parts, printed_tree, tree_read}
 use Rattle.pgv_ltree.proofs.EachRead.{first_of}

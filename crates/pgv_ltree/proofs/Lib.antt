@@ -1,12 +1,12 @@
 pub mod Joined
 pub mod Printed
 pub mod EachRead
-pub mod Written
+pub mod WrittenTrees
 pub mod LawsOfTrees
-pub mod Counts
-pub mod Cuts
-pub mod Marks
-pub mod Clones
+pub mod LevelCounts
+pub mod CutTexts
+pub mod VariantMarks
+pub mod LevelClones
 pub mod QueriesPrinted
 pub mod Begun
 pub mod Levels

@@ -1,5 +1,5 @@
 pub mod Labels
-pub mod Each
+pub mod TextsInTurn
 pub mod Trees
 pub mod SameLabels
 pub mod Taken
@@ -10,7 +10,7 @@ pub mod LabelChars
 pub mod TreesCodec
 pub mod Sinks
 pub mod TreesBack
-pub mod Laws
+pub mod TreeLaws
 pub mod Queries
 pub mod QueryCode
 pub mod QueryText

@@ -6,7 +6,7 @@ use Rattle.std.specs.Str.Parse.{digits_value}
 use Rattle.pgv_value.specs.declared.tree_error.PgLTreeParseError.TheVariants.{InvalidLtreeLabel}
 use Rattle.pgv_value.specs.declared.tree_error.PgLQueryParseError.{PgLQueryParseError}
 use Rattle.pgv_value.specs.declared.tree_error.PgLQueryParseError.TheVariants.{EmptyString, UnexpectedCharacter, ParseIntError, LTreeParrseError}
-use Rattle.pgv_ltree.specs.Each.{first_is, read_each}
+use Rattle.pgv_ltree.specs.TextsInTurn.{first_is, read_each}
 use Rattle.pgv_ltree.specs.Labels.{is_label}
 use Rattle.pgv_ltree.specs.Queries.{Variant, Level, star, one_of, none_of}
 use Rattle.pgv_ltree.specs.QueryText.{begins_with_star, has_mark, is_mark}

@@ -2,7 +2,7 @@
 use Rattle.std.specs.Prelude.{◌≡◌, ℕ, List, map, Option, Some, Result, Ok}
 use Rattle.std.specs.Borrow.{Bor}
 use Rattle.std.specs.Iterator.{Drains, YieldsThen}
-use Rattle.pgv_ltree.specs.Each.{read_each}
+use Rattle.pgv_ltree.specs.TextsInTurn.{read_each}
 
 -- all of them, one after another
 abbrev pub GivesTexts : {S : Type 0} → (S → Option (Bor (List ℕ)) → S → Type 0) → S → List (List ℕ) → Type 0

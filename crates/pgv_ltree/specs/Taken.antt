@@ -2,7 +2,7 @@
 use Rattle.std.specs.Prelude.{◌≡◌, ℕ, List, map, Option, Some, Result, Ok, string_bytes}
 use Rattle.std.specs.Iterator.{Drains, YieldsThen}
 use Rattle.std.specs.declared.string.String.{String}
-use Rattle.pgv_ltree.specs.Each.{read_each}
+use Rattle.pgv_ltree.specs.TextsInTurn.{read_each}
 
 -- all of them, one after another
 abbrev pub GivesTexts : {S Z : Type 0} → (S → Option (String Z) → S → Type 0) → S → List (List ℕ) → Type 0

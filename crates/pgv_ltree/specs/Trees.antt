@@ -4,7 +4,7 @@
 use Rattle.std.specs.Prelude.{◌≡◌, ◌≢◌, ℕ, ◌==◌, Bool, true, List, [], Result}
 use Rattle.std.specs.List.{join_with_byte, list_all, slice_split}
 use Rattle.pgv_value.specs.declared.tree_error.PgLTreeParseError.{PgLTreeParseError}
-use Rattle.pgv_ltree.specs.Each.{first_is, read_each}
+use Rattle.pgv_ltree.specs.TextsInTurn.{first_is, read_each}
 use Rattle.pgv_ltree.specs.Labels.{is_label, label_read}
 
 -- The text is that of the tree of these labels, of which there is one or more; the empty text is that of one empty

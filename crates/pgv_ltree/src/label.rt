@@ -3,7 +3,7 @@
 ghost use Rattle.std.specs.Prelude.{◌≡◌, Ok, Err, Some, true, string_bytes};
 ghost use Rattle.std.specs.List.{list_all};
 ghost use Rattle.pgv_value.specs.declared.tree_error.PgLTreeParseError.TheVariants.{InvalidLtreeLabel, Memory};
-ghost use Rattle.pgv_ltree.specs.Each.{GivesRead};
+ghost use Rattle.pgv_ltree.specs.TextsInTurn.{GivesRead};
 ghost use Rattle.pgv_ltree.specs.Labels.{is_label_char as is_label_char_of, is_label as is_label_of, label_read};
 
 use pgv_value::PgLTreeParseError;

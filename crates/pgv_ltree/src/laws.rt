@@ -6,7 +6,7 @@ ghost use Rattle.std.specs.Iterator.{AlwaysYields};
 ghost use Rattle.pgv_codec.specs.Encoding.{plainly, writes};
 ghost use Rattle.pgv_codec.specs.TypeRow.{FitsAlways, IsCodecRow};
 ghost use Rattle.pgv_ltree.specs.Labels.{is_label};
-ghost use Rattle.pgv_ltree.specs.Laws.{OneTree, PrintedTreeIsRead, TreeIsRead};
+ghost use Rattle.pgv_ltree.specs.TreeLaws.{OneTree, PrintedTreeIsRead, TreeIsRead};
 ghost use Rattle.pgv_ltree.specs.TreesBack.{tree_kept};
 ghost use Rattle.pgv_ltree.specs.TreesCodec.{ltree, ltree_array, parse_tree, tree_image};
 

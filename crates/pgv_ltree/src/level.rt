@@ -2,7 +2,7 @@
 
 ghost use Rattle.std.specs.Prelude.{◌≡◌, false, Some, option_map};
 ghost use Rattle.pgv_value.specs.declared.tree_error.PgLQueryParseError.TheVariants.{Memory};
-ghost use Rattle.pgv_ltree.specs.Each.{GivesAs, GivesRead};
+ghost use Rattle.pgv_ltree.specs.TextsInTurn.{GivesAs, GivesRead};
 ghost use Rattle.pgv_ltree.specs.LevelView.{level_of};
 ghost use Rattle.pgv_ltree.specs.QueryPrinted.{printed_level};
 ghost use Rattle.pgv_ltree.specs.QueryRead.{begins_with_variant, between_read, bound_read, braced, count_read, inner_read, level_allocates, level_read, star_read, variants_read};

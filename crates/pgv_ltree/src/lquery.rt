@@ -5,7 +5,7 @@ ghost use Rattle.std.specs.Iterator.{Drains, IsFinite, YieldsThen};
 ghost use Rattle.std.specs.Option.{option_to_list};
 ghost use Rattle.std.specs.Vec.Iter.{into_iter_items, into_iter_len};
 ghost use Rattle.pgv_value.specs.declared.tree_error.PgLQueryParseError.TheVariants.{Memory};
-ghost use Rattle.pgv_ltree.specs.Each.{GivesRead, read_each};
+ghost use Rattle.pgv_ltree.specs.TextsInTurn.{GivesRead, read_each};
 ghost use Rattle.pgv_ltree.specs.LevelView.{level_of};
 ghost use Rattle.pgv_ltree.specs.Queries.{is_query};
 ghost use Rattle.pgv_ltree.specs.QueryPrinted.{printed_query};

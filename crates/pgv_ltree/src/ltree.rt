@@ -6,7 +6,7 @@ ghost use Rattle.std.specs.List.{list_all};
 ghost use Rattle.std.specs.Option.{option_to_list};
 ghost use Rattle.std.specs.Vec.Iter.{into_iter_items, into_iter_len};
 ghost use Rattle.pgv_value.specs.declared.tree_error.PgLTreeParseError.TheVariants.{Memory};
-ghost use Rattle.pgv_ltree.specs.Each.{GivesRead, read_each};
+ghost use Rattle.pgv_ltree.specs.TextsInTurn.{GivesRead, read_each};
 ghost use Rattle.pgv_ltree.specs.Labels.{is_label, label_read};
 ghost use Rattle.pgv_ltree.specs.Taken.{GivesAfterRead, GivesTexts};
 ghost use Rattle.pgv_ltree.specs.Trees.{begins_with_label, printed_tree, tree_read};

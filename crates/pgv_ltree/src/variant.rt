@@ -3,7 +3,7 @@
 ghost use Rattle.std.specs.Prelude.{◌≡◌, ◌+◌, IfErr, OnOk, OnErr, Ok, Err, Some, take, drop, true};
 ghost use Rattle.std.specs.List.{list_all, position};
 ghost use Rattle.pgv_value.specs.declared.tree_error.PgLQueryParseError.TheVariants.{Memory};
-ghost use Rattle.pgv_ltree.specs.Each.{GivesRead};
+ghost use Rattle.pgv_ltree.specs.TextsInTurn.{GivesRead};
 ghost use Rattle.pgv_ltree.specs.Flags.{bit, modifier_bits};
 ghost use Rattle.pgv_ltree.specs.Queries.{is_variant};
 ghost use Rattle.pgv_ltree.specs.QueryPrinted.{printed_variant};

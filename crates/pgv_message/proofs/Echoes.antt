@@ -15,11 +15,11 @@ use Rattle.pgv_value.specs.declared.value.PgValueFormat.TheVariants.{Binary}
 use Rattle.pgv_codec.specs.Encoding.{Encoding}
 use Rattle.pgv_row.specs.ColumnView.{Column}
 use Rattle.pgv_row.specs.RowView.{Row, value_at}
-use Rattle.pgv_row.specs.Values.{may_read, raw_value, column_value}
+use Rattle.pgv_row.specs.RowValues.{may_read, raw_value, column_value}
 use Rattle.pgv_wire.specs.Arguments.{Argument, framed, all_tokens}
 use Rattle.pgv_wire.specs.History.{Call, added_in, after}
 use Rattle.pgv_wire.specs.MainSentence.{MainSentence, HoldsAfter}
-use Rattle.pgv_wire.specs.Parts.{AreFrames, ReadAs, OfImages}
+use Rattle.pgv_wire.specs.ArgumentParts.{AreFrames, ReadAs, OfImages}
 use Rattle.pgv_message.specs.Frames.{bind_of}
 use Rattle.pgv_message.specs.Echo.{ColumnsComeBack, ComeBack}
 use Rattle.pgv_value.proofs.ReadFronts.{are_bytes}

@@ -5,17 +5,17 @@ use Rattle.std.specs.List.{AllByRecursion}
 use Rattle.std.specs.Int.{w16, to_be_bytes}
 use Rattle.std.proofs.lemmas.Bool.{ltb-false}
 use Rattle.pgv_value.specs.FrameBinary.{Part, field_bytes, IsField}
-use Rattle.pgv_value.specs.Laws.{AreBytes}
+use Rattle.pgv_value.specs.FrameLaws.{AreBytes}
 use Rattle.pgv_value.specs.declared.value.PgValueFormat.{PgValueFormat}
 use Rattle.pgv_value.proofs.Fronts.{front_exactly}
 use Rattle.pgv_value.proofs.Numbers.{bytes_after}
 use Rattle.pgv_value.proofs.ReadFronts.{are_bytes, frame_bytes}
 use Rattle.pgv_buf.specs.Tokens.{shown}
 use Rattle.pgv_wire.specs.Arguments.{Argument, all_tokens}
-use Rattle.pgv_wire.specs.Parts.{ReadAs, AllRead, parts_in}
+use Rattle.pgv_wire.specs.ArgumentParts.{ReadAs, AllRead, parts_in}
 use Rattle.pgv_message.specs.declared.error.MessageError.{MessageError}
 use Rattle.pgv_message.specs.Messages.{bind}
-use Rattle.pgv_message.specs.Writing.{Writing, ◌>>=◌, text, text_of, count_of, joined, measured, whole, has_zero, max_body}
+use Rattle.pgv_message.specs.MessageWriting.{Writing, ◌>>=◌, text, text_of, count_of, joined, measured, whole, has_zero, max_body}
 use Rattle.pgv_message.specs.Received.{message}
 use Rattle.pgv_message.specs.Pieces.{format_bytes}
 use Rattle.pgv_message.specs.Frames.{bind_of, ParametersAreArguments}

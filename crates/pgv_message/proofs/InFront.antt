@@ -4,12 +4,12 @@ use Rattle.std.specs.Prelude.{if◌then◌else◌}
 use Rattle.std.specs.Int.{w32, to_be_bytes}
 use Rattle.std.proofs.lemmas.Bool.{le-ltb, lt-ltb, ltb-false}
 use Rattle.std.proofs.lemmas.List.{take_at, drop_at, take-append-drop, length-take-le}
-use Rattle.pgv_value.specs.Laws.{AreBytes}
-use Rattle.pgv_value.specs.Steps.{number}
+use Rattle.pgv_value.specs.FrameLaws.{AreBytes}
+use Rattle.pgv_value.specs.ReadingSteps.{number}
 use Rattle.pgv_value.proofs.Numbers.{number_there, number_is}
 use Rattle.pgv_message.specs.declared.error.MessageError.{MessageError}
 use Rattle.pgv_message.specs.declared.error.MessageError.TheVariants.{BadLength}
-use Rattle.pgv_message.specs.Writing.{measured, max_body}
+use Rattle.pgv_message.specs.MessageWriting.{measured, max_body}
 use Rattle.pgv_message.specs.Received.{Message, with_body, with_length, in_front, MessageIsFound, FoundIsMessage, CutIsNotFound}
 
 abbrev Answer : Type 0

@@ -7,7 +7,7 @@ use Rattle.pgv_value.specs.declared.value.PgValueFormat.{PgValueFormat}
 use Rattle.pgv_value.specs.declared.value.PgValueFormat.TheVariants.{Text, Binary}
 use Rattle.pgv_message.specs.declared.pieces.Piece.{Piece}
 use Rattle.pgv_message.specs.Pieces.{oid_bytes, format_bytes, piece_bytes}
-use Rattle.pgv_message.specs.Writing.{max_body}
+use Rattle.pgv_message.specs.MessageWriting.{max_body}
 
 pub oids_size : (os : List Oid) → length (flat_map oid_bytes os) ≡ 4 * length os
 oids_size [] = refl

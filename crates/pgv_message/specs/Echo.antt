@@ -14,7 +14,7 @@ use Rattle.pgv_codec.specs.Back.{AreOids}
 use Rattle.pgv_codec.specs.Encoding.{Encoding, frame}
 use Rattle.pgv_row.specs.ColumnView.{Column}
 use Rattle.pgv_row.specs.DataRow.{IsDataRow}
-use Rattle.pgv_row.specs.Values.{column_value}
+use Rattle.pgv_row.specs.RowValues.{column_value}
 use Rattle.pgv_wire.specs.Arguments.{Argument, Framed}
 use Rattle.pgv_wire.specs.Given.{Given, given_in}
 use Rattle.pgv_wire.specs.History.{Call, added_in, after, last_filling}

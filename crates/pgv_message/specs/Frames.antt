@@ -7,11 +7,11 @@ use Rattle.pgv_value.specs.FrameBinary.{Part, field_bytes, IsField}
 use Rattle.pgv_value.specs.declared.value.PgValueFormat.{PgValueFormat}
 use Rattle.pgv_codec.specs.Encoding.{Image}
 use Rattle.pgv_wire.specs.Arguments.{Argument, framed}
-use Rattle.pgv_wire.specs.Parts.{AreFrames, parts_in}
+use Rattle.pgv_wire.specs.ArgumentParts.{AreFrames, parts_in}
 use Rattle.pgv_message.specs.Messages.{bind}
 use Rattle.pgv_message.specs.Pieces.{format_bytes}
 use Rattle.pgv_message.specs.Received.{message}
-use Rattle.pgv_message.specs.Writing.{text, joined}
+use Rattle.pgv_message.specs.MessageWriting.{text, joined}
 
 -- Bind with these parts for its parameters, all in binary
 abbrev pub bind_of : List ℕ → List ℕ → List Part → List PgValueFormat → List ℕ

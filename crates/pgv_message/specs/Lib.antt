@@ -1,4 +1,4 @@
-pub mod Writing
+pub mod MessageWriting
 pub mod Pieces
 pub mod Messages
 pub mod Frames
@@ -11,5 +11,5 @@ pub mod Counted
 pub mod Bodies
 pub mod Notice
 pub mod Echo
-pub mod Rows
+pub mod RowCounts
 pub mod CopyFormats

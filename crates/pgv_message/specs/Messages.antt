@@ -8,7 +8,7 @@ use Rattle.pgv_wire.specs.Arguments.{Argument, all_tokens}
 use Rattle.pgv_message.specs.declared.describe.Prepared.{Prepared}
 use Rattle.pgv_message.specs.declared.describe.Prepared.TheVariants.{Statement, Portal}
 use Rattle.pgv_message.specs.Pieces.{format_bytes, oid_bytes}
-use Rattle.pgv_message.specs.Writing.{Writing, ◌>>=◌, text_of, count_of, joined, whole}
+use Rattle.pgv_message.specs.MessageWriting.{Writing, ◌>>=◌, text_of, count_of, joined, whole}
 
 -- Bind, `B`: the portal, the statement, one format for all parameters, which is binary, the number of parameters and a
 -- frame for each, and the number of formats of the result's columns and these: none where all are text, one for all, or

@@ -6,7 +6,7 @@ use Rattle.pgv_value.specs.declared.value.PgValueFormat.{PgValueFormat}
 use Rattle.pgv_value.specs.declared.value.PgValueFormat.TheVariants.{Text, Binary}
 use Rattle.pgv_message.specs.declared.pieces.Piece.{Piece}
 use Rattle.pgv_message.specs.declared.pieces.Piece.TheVariants as piece
-use Rattle.pgv_message.specs.Writing.{text}
+use Rattle.pgv_message.specs.MessageWriting.{text}
 
 -- a format in two bytes: 0 for text, 1 for binary
 abbrev pub format_bytes : PgValueFormat → List ℕ

@@ -3,12 +3,12 @@
 -- found, whatever follows it (`MessageIsFound`), and what is found is a message (`FoundIsMessage`). Of a message that
 -- is cut off anywhere nothing is found yet (`CutIsNotFound`).
 use Rattle.std.specs.Prelude.{◌≡◌, ℕ, ◌-◌, ◌<◌, ◌≤◌, nat_lt, List, [], ◌∷◌, ◌++◌, length, take, drop, Option, Some, None, option_map, Result, Ok, Err, if◌then◌else◌}
-use Rattle.pgv_value.specs.Laws.{AreBytes}
-use Rattle.pgv_value.specs.Steps.{number}
+use Rattle.pgv_value.specs.FrameLaws.{AreBytes}
+use Rattle.pgv_value.specs.ReadingSteps.{number}
 use Rattle.pgv_message.specs.declared.error.MessageError.{MessageError}
 use Rattle.pgv_message.specs.declared.error.MessageError.TheVariants.{BadLength}
 use Rattle.pgv_message.specs.declared.received.PgMessage.{PgMessage}
-use Rattle.pgv_message.specs.Writing.{measured, max_body}
+use Rattle.pgv_message.specs.MessageWriting.{measured, max_body}
 
 pub record Message : Type 0 where
   pub tag : ℕ

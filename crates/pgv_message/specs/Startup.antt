@@ -5,7 +5,7 @@ use Rattle.std.specs.List.{list_any}
 use Rattle.std.specs.Int.{w32, to_be_bytes}
 use Rattle.pgv_message.specs.declared.error.MessageError.TheVariants.{ZeroByte}
 use Rattle.pgv_message.specs.declared.startup.PgSetting.{PgSetting}
-use Rattle.pgv_message.specs.Writing.{Writing, text, has_zero, joined, whole}
+use Rattle.pgv_message.specs.MessageWriting.{Writing, text, has_zero, joined, whole}
 
 abbrev pub setting_has_zero : PgSetting → Bool
 setting_has_zero s = has_zero s.name.now || has_zero s.value.now

@@ -1,7 +1,7 @@
 //! Bind: a statement and its parameters become a portal.
 
 ghost use Rattle.pgv_message.specs.Messages.{bind};
-ghost use Rattle.pgv_message.specs.Writing.{Sends};
+ghost use Rattle.pgv_message.specs.MessageWriting.{Sends};
 
 use crate::error::MessageError;
 use crate::pieces::{Piece, count_piece, push_message, text_piece};

@@ -1,7 +1,7 @@
 //! Close: a statement or a portal is given up.
 
 ghost use Rattle.pgv_message.specs.Messages.{close};
-ghost use Rattle.pgv_message.specs.Writing.{Sends};
+ghost use Rattle.pgv_message.specs.MessageWriting.{Sends};
 
 use crate::describe::{Prepared, write_about};
 use crate::error::MessageError;

@@ -4,7 +4,7 @@ ghost use Rattle.std.specs.Prelude.{◌≡◌, option_map};
 ghost use Rattle.pgv_value.specs.Parsed.{GivesExactly};
 ghost use Rattle.pgv_text.specs.NumberText.{unsigned_value};
 ghost use Rattle.pgv_message.specs.Bodies.{command_complete};
-ghost use Rattle.pgv_message.specs.Rows.{after_last_space, within_64, row_count};
+ghost use Rattle.pgv_message.specs.RowCounts.{after_last_space, within_64, row_count};
 
 use crate::end::check_end;
 use pgv_text::{NumberFault, unsigned_number_of};
@@ -60,7 +60,7 @@ fn number_in(text: &str) -> Option<u64>
 impl PgCommandTag<'_> {
     /// How many rows the command has read or written, where its text ends with a number: 5 of `SELECT 5` and of
     /// `INSERT 0 5`, and `None` of `BEGIN`.
-    #[tactic(auto, unfolding(crate::specs::Rows::row_count), using(pgv_value::proofs::Text::whole_text))]
+    #[tactic(auto, unfolding(crate::specs::RowCounts::row_count), using(pgv_value::proofs::Text::whole_text))]
     pub fn rows(&self) -> Option<u64>
         ensures { result ≡ row_count self.now.text.now }
     {

@@ -1,7 +1,7 @@
 //! COPY: its data, its end and its failure.
 
 ghost use Rattle.pgv_message.specs.Messages.{bare, copy_data, copy_fail};
-ghost use Rattle.pgv_message.specs.Writing.{Sends};
+ghost use Rattle.pgv_message.specs.MessageWriting.{Sends};
 
 use crate::error::MessageError;
 use crate::pieces::{Piece, push_message};

@@ -2,7 +2,7 @@
 
 ghost use Rattle.std.specs.Prelude.{◌≡◌};
 ghost use Rattle.pgv_message.specs.Messages.{about, describe, kind_byte};
-ghost use Rattle.pgv_message.specs.Writing.{Sends};
+ghost use Rattle.pgv_message.specs.MessageWriting.{Sends};
 
 use crate::error::MessageError;
 use crate::pieces::{Piece, push_message, text_piece};

@@ -1,7 +1,7 @@
 //! Execute: a portal is run.
 
 ghost use Rattle.pgv_message.specs.Messages.{execute};
-ghost use Rattle.pgv_message.specs.Writing.{Sends};
+ghost use Rattle.pgv_message.specs.MessageWriting.{Sends};
 
 use crate::error::MessageError;
 use crate::pieces::{Piece, push_message, text_piece};

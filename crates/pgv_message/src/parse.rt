@@ -1,7 +1,7 @@
 //! Parse: a query becomes a prepared statement.
 
 ghost use Rattle.pgv_message.specs.Messages.{parse};
-ghost use Rattle.pgv_message.specs.Writing.{Sends};
+ghost use Rattle.pgv_message.specs.MessageWriting.{Sends};
 
 use crate::error::MessageError;
 use crate::pieces::{Piece, count_piece, push_message, text_piece};

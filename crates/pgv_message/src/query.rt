@@ -1,7 +1,7 @@
 //! Query: the simple query.
 
 ghost use Rattle.pgv_message.specs.Messages.{one_text, query};
-ghost use Rattle.pgv_message.specs.Writing.{Sends};
+ghost use Rattle.pgv_message.specs.MessageWriting.{Sends};
 
 use crate::error::MessageError;
 use crate::pieces::{push_message, text_piece};

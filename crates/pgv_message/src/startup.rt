@@ -3,7 +3,7 @@
 ghost use Rattle.std.specs.Prelude.{◌≡◌, ◌||◌};
 ghost use Rattle.std.specs.List.{list_any};
 ghost use Rattle.pgv_message.specs.Startup.{startup, setting_has_zero};
-ghost use Rattle.pgv_message.specs.Writing.{Sends, has_zero};
+ghost use Rattle.pgv_message.specs.MessageWriting.{Sends, has_zero};
 
 use crate::error::MessageError;
 use crate::pieces::{Piece, push_message};

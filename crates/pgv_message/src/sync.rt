@@ -1,7 +1,7 @@
 //! Messages without a body: Sync, Flush and Terminate.
 
 ghost use Rattle.pgv_message.specs.Messages.{bare};
-ghost use Rattle.pgv_message.specs.Writing.{Sends};
+ghost use Rattle.pgv_message.specs.MessageWriting.{Sends};
 
 use crate::error::MessageError;
 use crate::pieces::push_message;

@@ -18,7 +18,7 @@ use Rattle.pgv_value.specs.Utf8.{is_utf8}
 use Rattle.pgv_value.specs.declared.error.CodecError.{CodecError}
 use Rattle.pgv_value.specs.declared.error.CodecError.TheVariants.{Utf8}
 use Rattle.pgv_value.proofs.Outcomes.{taken, taken_exactly}
-use Rattle.pgv_codec.proofs.Outcomes.{fails_here, fails_then}
+use Rattle.pgv_codec.proofs.StepOutcomes.{fails_here, fails_then}
 use Rattle.pgv_more.specs.Hstore.{Pair, pair_of, order, text_at, as_key, key_at, value_at, pairs, put_all, put_read}
 
 -- ---- what is put into the map is put into its pairs

@@ -16,7 +16,7 @@ use Rattle.pgv_value.specs.declared.error.CodecError.TheVariants.{Memory}
 use Rattle.pgv_codec.specs.Appending.{Appended, Encoded}
 use Rattle.pgv_codec.specs.Encoding.{Image, image_of}
 use Rattle.pgv_codec.specs.declared.buffer.IsNull.TheVariants.{No}
-use Rattle.pgv_codec.proofs.Outcomes.{fails_here, fails_then}
+use Rattle.pgv_codec.proofs.StepOutcomes.{fails_here, fails_then}
 use Rattle.pgv_codec.proofs.Lists.{both}
 use Rattle.pgv_more.specs.Hstore.{Pair, pair_of, order, in_order, number_form, pair_written, pairs_written, hstore_image}
 

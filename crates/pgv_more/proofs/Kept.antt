@@ -12,7 +12,7 @@ use Rattle.std.proofs.lemmas.Slice.Eq.{slice_eq-Decides}
 use Rattle.pgv_more.specs.SameBits.{same_bits}
 use Rattle.std.specs.Int.{div_ceil, bit_at}
 use Rattle.std.proofs.lemmas.Nat.Bits.{shr_and_one}
-use Rattle.pgv_more.proofs.Bytes.{bit_there}
+use Rattle.pgv_more.proofs.BitsOfByte.{bit_there}
 use Rattle.std.specs.Prelude.{map, min, Option, Some, slice_get, option_to_list, IsSome}
 use Rattle.std.proofs.lemmas.Option.{slice_get-get_or}
 use Rattle.pgv_more.specs.Bits.{low_bits, bits_of, number_of, byte_count, bytes_of, packed}

@@ -8,7 +8,7 @@ use Rattle.std.proofs.lemmas.Bool.Decides.{nat_tests}
 use Rattle.std.proofs.lemmas.List.{length-append, length-drop, length-take-le, length-replicate, take-append-drop}
 use Rattle.std.proofs.lemmas.Nat.{be_bytes_4}
 use Rattle.std.proofs.lemmas.Option.{same_Some}
-use Rattle.pgv_value.specs.Laws.{AreBytes}
+use Rattle.pgv_value.specs.FrameLaws.{AreBytes}
 use Rattle.pgv_value.specs.Parsed.{Parsed}
 use Rattle.pgv_value.specs.declared.error.CodecError.{CodecError}
 use Rattle.pgv_value.specs.declared.error.CodecError.TheVariants.{Short, NegativeLength, WrongLength}
@@ -17,7 +17,7 @@ use Rattle.pgv_more.specs.Bits.{bits_of, byte_count, bytes_of, packed}
 use Rattle.pgv_more.specs.BitsBinary.{IsBits, BitsAreRead, OneListOfBits, bits_in_binary, bit_count}
 use Rattle.pgv_more.specs.BitsText.{BitsAreReadOfText, digit_of, is_digit, is_one}
 use Rattle.pgv_more.specs.BitsBack.{binary_there}
-use Rattle.pgv_more.specs.Laws.{PackedIsOne}
+use Rattle.pgv_more.specs.PackedBits.{PackedIsOne}
 use Rattle.pgv_more.specs.Packing.{AreByteNumbers, length-bits_of, number_of-lt, bytes_of-bits_of, bits_of-bytes_of, fill}
 
 numbers : (bytes : List ℕ) → AreBytes bytes → AreByteNumbers bytes

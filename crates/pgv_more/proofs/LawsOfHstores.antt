@@ -12,9 +12,9 @@ use Rattle.pgv_buf.specs.Tokens.{be4}
 use Rattle.pgv_value.proofs.Fronts.{front_exactly}
 use Rattle.pgv_value.specs.FrameBinary.{Part, IsFrame, front, frame_fault}
 use Rattle.pgv_value.specs.Fronts.{part_front, u32_front}
-use Rattle.pgv_value.specs.Laws.{AreBytes}
+use Rattle.pgv_value.specs.FrameLaws.{AreBytes}
 use Rattle.pgv_value.specs.Outcome.{Outcome, done}
-use Rattle.pgv_value.specs.Steps.{number}
+use Rattle.pgv_value.specs.ReadingSteps.{number}
 use Rattle.pgv_value.specs.Utf8.{is_utf8}
 use Rattle.pgv_value.specs.declared.error.CodecError.{CodecError}
 use Rattle.pgv_value.specs.declared.error.CodecError.TheVariants.{HstoreLength, Short, Utf8}

@@ -5,7 +5,7 @@ use Rattle.std.proofs.lemmas.Bool.Decides.{nat_tests}
 use Rattle.std.specs.Prelude.{ℤ, nat_lt, ◌==◌, ok_or}
 use Rattle.std.specs.Int.{w16, to_be_bytes}
 use Rattle.std.specs.List.{flat_map, list_all}
-use Rattle.pgv_value.specs.Laws.{AreBytes}
+use Rattle.pgv_value.specs.FrameLaws.{AreBytes}
 use Rattle.pgv_value.specs.NumberBinary.{fits_signed}
 use Rattle.pgv_value.specs.Outcome.{done}
 use Rattle.pgv_value.specs.declared.error.CodecError.TheVariants.{NumericSign, Short}

@@ -1,7 +1,7 @@
-pub mod Bytes
+pub mod BitsOfByte
 pub mod Kept
 pub mod Pairs
-pub mod Written
+pub mod WrittenBits
 pub mod ByteaDigits
 pub mod LawsOfBits
 pub mod LawsOfMacs

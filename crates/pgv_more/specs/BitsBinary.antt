@@ -6,7 +6,7 @@ use Rattle.std.specs.Prelude.{◌≡◌, ◌↔◌, ℕ, ◌+◌, ◌<◌, ◌^�
 use Rattle.std.specs.Int.{w32, from_be_bytes, to_be_bytes, cast_signed}
 use Rattle.pgv_buf.specs.Tokens.{bytes, be4}
 use Rattle.pgv_codec.specs.Encoding.{Image, image_of}
-use Rattle.pgv_value.specs.Laws.{AreBytes}
+use Rattle.pgv_value.specs.FrameLaws.{AreBytes}
 use Rattle.pgv_value.specs.Outcome.{Outcome, allocates, done, fails_if, ◌>>◌}
 use Rattle.pgv_value.specs.Parsed.{Parsed}
 use Rattle.pgv_value.specs.declared.error.CodecError.TheVariants.{ValueSize, Short, NegativeLength, WrongLength}

@@ -1,7 +1,7 @@
 -- What lists of bits are (PostgreSQL: "Bit String Types"): their types, and what is read in either format.
 use Rattle.std.specs.Prelude.{Bool, List, [], ◌∷◌, ok_or}
 use Rattle.pgv_types.specs.Ty.{Ty, builtin}
-use Rattle.pgv_codec.specs.ScalarBinary.{softly_one_of}
+use Rattle.pgv_codec.specs.ScalarImage.{softly_one_of}
 use Rattle.pgv_value.specs.Formats.{in_both_formats}
 use Rattle.pgv_value.specs.Outcome.{Outcome, copied}
 use Rattle.pgv_value.specs.ValueView.{Given}

@@ -9,7 +9,7 @@ use Rattle.pgv_codec.specs.Back.{ReadsBack, always, image_is}
 use Rattle.pgv_codec.specs.BackParts.{guarded}
 use Rattle.pgv_codec.specs.BackScalars.{part_is}
 use Rattle.pgv_codec.specs.Encoding.{image_of, plainly, writes}
-use Rattle.pgv_codec.specs.ScalarBinary.{text_image}
+use Rattle.pgv_codec.specs.ScalarImage.{text_image}
 use Rattle.pgv_more.specs.ByteaText.{parse_bytea, parse_sized, sized_image}
 use Rattle.pgv_more.specs.declared.bytea.PgBytea.{PgBytea}
 use Rattle.pgv_more.specs.declared.bytea.array.PgByteaArray.{PgByteaArray}

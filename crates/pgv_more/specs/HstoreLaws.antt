@@ -4,7 +4,7 @@ use Rattle.std.specs.FinMap.{find, is_sorted}
 use Rattle.std.specs.List.{flat_map}
 use Rattle.pgv_buf.specs.Tokens.{be4}
 use Rattle.pgv_value.specs.FrameBinary.{Part}
-use Rattle.pgv_value.specs.Laws.{AreBytes}
+use Rattle.pgv_value.specs.FrameLaws.{AreBytes}
 use Rattle.pgv_more.specs.Hstore.{Pair, order, pair_form, pairs_of, hstore_in_binary}
 use Rattle.pgv_more.specs.HstoreBack.{ArePairs}
 use Rattle.pgv_more.specs.declared.hstore.PgHstore.{PgHstore}

@@ -12,7 +12,7 @@ pub mod BitsBack
 pub mod MacAddressBack
 pub mod TimeTzBack
 pub mod ByteaBack
-pub mod Laws
+pub mod PackedBits
 pub mod MoneyCodec
 pub mod MoneyBack
 pub mod Numeric

@@ -14,7 +14,7 @@ use Rattle.pgv_codec.specs.Back.{ReadsBack, always, image_is}
 use Rattle.pgv_codec.specs.BackParts.{guarded}
 use Rattle.pgv_codec.specs.BackScalars.{part_is}
 use Rattle.pgv_codec.specs.Encoding.{image_of, plainly, writes}
-use Rattle.pgv_codec.specs.ScalarBinary.{signed_image}
+use Rattle.pgv_codec.specs.ScalarImage.{signed_image}
 use Rattle.pgv_more.specs.MoneyCodec.{money_in_binary, parse_money}
 use Rattle.pgv_more.specs.declared.money.PgMoney.{PgMoney}
 

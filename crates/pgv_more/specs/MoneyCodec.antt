@@ -4,7 +4,7 @@
 use Rattle.std.specs.Prelude.{◌≡◌, ◌↔◌, ℕ, ◌++◌, nat_lt, if◌then◌else◌, ℤ, FitsSigned, List, length, Option, Some, None, ok_or}
 use Rattle.std.specs.Int.{w64, cast_unsigned, to_be_bytes}
 use Rattle.pgv_value.specs.Interval.{eight_bytes}
-use Rattle.pgv_value.specs.Laws.{AreBytes}
+use Rattle.pgv_value.specs.FrameLaws.{AreBytes}
 use Rattle.pgv_value.specs.Parsed.{Parsed}
 use Rattle.pgv_value.specs.ScalarGrammar.{binary_alone}
 use Rattle.pgv_value.specs.ValueView.{Given}

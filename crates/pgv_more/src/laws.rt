@@ -5,14 +5,14 @@ ghost use Rattle.std.specs.Prelude.{◌≡◌, ◌↔◌, ℕ, Bool, true, List,
 ghost use Rattle.jiff.specs.Words.{time_nanos};
 ghost use Rattle.pgv_types.specs.Ty.{builtin, named};
 ghost use Rattle.pgv_codec.specs.Encoding.{plainly, with_hint, writes};
-ghost use Rattle.pgv_codec.specs.ScalarBinary.{text_image};
+ghost use Rattle.pgv_codec.specs.ScalarImage.{text_image};
 ghost use Rattle.pgv_codec.specs.TypeRow.{FitsAlways, HasArrayType, HasType, IsCodecRow, IsReadAs, IsWrittenAs};
 ghost use Rattle.pgv_value.specs.Outcome.{without_memory};
 ghost use Rattle.pgv_more.specs.ByteaText.{parse_bytea, parse_sized, sized_image, ByteaTextIsRead, OneByteaText};
 ghost use Rattle.pgv_more.specs.BitsBinary.{bits_image, bits_hint, BitsAreRead, OneListOfBits};
 ghost use Rattle.pgv_more.specs.BitsText.{BitsAreReadOfText};
 ghost use Rattle.pgv_more.specs.BitsCodec.{is_bits, is_bits_array, parse_bits};
-ghost use Rattle.pgv_more.specs.Laws.{PackedIsOne};
+ghost use Rattle.pgv_more.specs.PackedBits.{PackedIsOne};
 ghost use Rattle.pgv_more.specs.MacAddressCodec.{mac_image, parse_mac};
 ghost use Rattle.pgv_more.specs.MacAddressText.{MacAddressIsRead, OneMacAddress};
 ghost use Rattle.pgv_more.specs.TimeTzCodec.{time_tz_numbers, time_tz_image, parse_time_tz};

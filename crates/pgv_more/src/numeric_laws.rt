@@ -5,7 +5,7 @@ ghost use Rattle.std.specs.Int.{w64};
 ghost use Rattle.pgv_types.specs.Ty.{builtin};
 ghost use Rattle.pgv_codec.specs.Encoding.{plainly, writes};
 ghost use Rattle.pgv_codec.specs.TypeRow.{FitsAlways, IsCodecRow};
-ghost use Rattle.pgv_codec.specs.ScalarBinary.{signed_image};
+ghost use Rattle.pgv_codec.specs.ScalarImage.{signed_image};
 ghost use Rattle.pgv_more.specs.NumericLaws.{NumericIsRead, OneNumeric, OneMoney, NumericsAreEqual};
 ghost use Rattle.pgv_more.specs.MoneyCodec.{parse_money, MoneyIsRead};
 ghost use Rattle.pgv_more.specs.Numeric.{numeric_image, numeric_of, parse_numeric};

@@ -8,7 +8,7 @@ use Rattle.pgv_types.specs.Ty.{Ty, Kind, simple, domain, composite, array, pseud
 use Rattle.pgv_types.specs.Facts.{kind_at}
 use Rattle.pgv_value.specs.FrameBinary.{IsFrame, front, frame_fault}
 use Rattle.pgv_value.specs.Fronts.{part_front}
-use Rattle.pgv_value.specs.Laws.{AreBytes}
+use Rattle.pgv_value.specs.FrameLaws.{AreBytes}
 use Rattle.pgv_value.specs.Outcome.{Outcome, done}
 use Rattle.pgv_value.specs.ValueView.{Given, given}
 use Rattle.pgv_value.specs.declared.error.CodecError.{CodecError}

@@ -1,3 +1,3 @@
 pub mod BinaryGrammars
 pub mod TextGrammars
-pub mod Copies
+pub mod BoundCopies

@@ -7,8 +7,8 @@ use Rattle.std.specs.declared.ops.Bound.TheVariants.{Included, Excluded, Unbound
 use Rattle.pgv_types.specs.Ty.{Ty}
 use Rattle.pgv_text.specs.ContentText.{RangeContent, empty as empty_text, parts as parts_text, IsRangeOf, range_content}
 use Rattle.pgv_text.specs.Copies.{copies_of}
-use Rattle.pgv_text.specs.Laws.{RangeIsComputed}
-use Rattle.pgv_text.specs.NestText.{Nest, IsNestText, IsPart, Pairwise, Piece}
+use Rattle.pgv_text.specs.NestLaws.{RangeIsComputed}
+use Rattle.pgv_text.specs.NestPieces.{Nest, IsNestText, IsPart, Pairwise, Piece}
 use Rattle.pgv_text.specs.RangeText.{range_form}
 use Rattle.pgv_text.specs.declared.scanner.TextForm.TheVariants.{Range}
 use Rattle.pgv_value.specs.FrameBinary.{Part}

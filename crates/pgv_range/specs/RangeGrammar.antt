@@ -10,7 +10,7 @@ use Rattle.pgv_types.specs.Ty.{Ty, Kind, simple, domain, composite, array, pseud
 use Rattle.pgv_types.specs.Facts.{is_custom, kind_at}
 use Rattle.pgv_text.specs.ContentText.{RangeContent, empty as empty_text, parts as parts_text, range_content}
 use Rattle.pgv_text.specs.Copies.{copies_of, first_copied}
-use Rattle.pgv_text.specs.NestText.{Nest}
+use Rattle.pgv_text.specs.NestPieces.{Nest}
 use Rattle.pgv_text.specs.declared.scanner.TextForm.TheVariants.{Range}
 use Rattle.pgv_value.specs.FrameBinary.{Part}
 use Rattle.pgv_value.specs.Fronts.{one_part}

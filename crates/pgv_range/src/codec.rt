@@ -3,7 +3,7 @@
 
 ghost use Rattle.std.specs.Prelude.{◌≡◌, OnOk, OnErr, Some, drop};
 ghost use Rattle.std.specs.Range.Bound.{bound_map};
-ghost use Rattle.pgv_types.specs.Parts.{ref_type};
+ghost use Rattle.pgv_types.specs.LentParts.{ref_type};
 ghost use Rattle.pgv_text.specs.PartsView.{copies, nest};
 ghost use Rattle.pgv_value.specs.Outcome.{Gives};
 ghost use Rattle.pgv_value.specs.Parsed.{GivesOr};

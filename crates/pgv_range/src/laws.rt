@@ -7,7 +7,7 @@ ghost use Rattle.std.specs.declared.ops.Bound.TheVariants.{Included, Excluded, U
 ghost use Rattle.pgv_types.specs.Relations.{softly};
 ghost use Rattle.pgv_types.specs.Ty.{Ty};
 ghost use Rattle.pgv_types.specs.declared.oid.Oid.{Oid};
-ghost use Rattle.pgv_value.specs.Laws.{AreBytes};
+ghost use Rattle.pgv_value.specs.FrameLaws.{AreBytes};
 ghost use Rattle.pgv_value.specs.Outcome.{Reads, fails};
 ghost use Rattle.pgv_value.specs.ValueView.{Given, given};
 ghost use Rattle.pgv_value.specs.declared.error.CodecError.TheVariants.{UnexpectedNull};

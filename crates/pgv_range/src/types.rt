@@ -2,7 +2,7 @@
 
 ghost use Rattle.std.specs.Prelude.{◌≡◌, Bool};
 ghost use Rattle.std.specs.Option.{option_map};
-ghost use Rattle.pgv_types.specs.Parts.{ref_type};
+ghost use Rattle.pgv_types.specs.LentParts.{ref_type};
 ghost use Rattle.pgv_types.specs.Relations.{softly};
 ghost use Rattle.pgv_types.specs.Ty.{Ty, builtin};
 ghost use Rattle.pgv_range.specs.RangeGrammar.{range_accepts, range_element};

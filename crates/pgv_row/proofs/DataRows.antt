@@ -4,7 +4,7 @@ use Rattle.std.specs.Prelude.{flat_map, not, ok_or, IfErr}
 use Rattle.std.specs.Int.{w16, w32, to_be_bytes, from_be_bytes, cast_signed}
 use Rattle.std.proofs.lemmas.Bool.{le-ltb}
 use Rattle.pgv_value.specs.FrameBinary.{Part, front, front_length, frame_fault, field_bytes, IsField}
-use Rattle.pgv_value.specs.Laws.{AreBytes}
+use Rattle.pgv_value.specs.FrameLaws.{AreBytes}
 use Rattle.pgv_value.specs.declared.error.CodecError.{CodecError}
 use Rattle.pgv_value.specs.declared.error.CodecError.TheVariants.{Memory, FieldCount, NegativeLength, Short, WrongLength}
 use Rattle.pgv_value.proofs.Numbers.{bytes_after}

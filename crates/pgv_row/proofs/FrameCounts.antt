@@ -3,7 +3,7 @@ use Rattle.std.proofs.Common.{◌≡◌, ℕ, ◌<◌, ◌^◌, true, nat_eq, Li
 use Rattle.std.specs.Int.{w16, to_be_bytes}
 use Rattle.std.proofs.lemmas.Bool.{eq-eqb, eqb-true}
 use Rattle.pgv_value.specs.Fronts.{u16_front}
-use Rattle.pgv_value.specs.Laws.{AreBytes}
+use Rattle.pgv_value.specs.FrameLaws.{AreBytes}
 use Rattle.pgv_value.specs.declared.error.CodecError.TheVariants.{FieldCount}
 use Rattle.pgv_value.proofs.Outcomes.{ok_is, and_then_taken, held}
 use Rattle.pgv_value.proofs.ReadFronts.{u16_there, u16_is}

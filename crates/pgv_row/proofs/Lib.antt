@@ -3,5 +3,5 @@ pub mod Cut
 pub mod Places
 pub mod DataRows
 pub mod Descriptions
-pub mod Formats
+pub mod ColumnFormats
 pub mod OnePass

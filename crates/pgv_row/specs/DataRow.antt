@@ -6,7 +6,7 @@
 use Rattle.std.specs.Prelude.{◌≡◌, ◌↔◌, ℕ, ◌<◌, ◌^◌, nat_eq, nat_lt, not, List, length, Ok, Err, if◌then◌else◌}
 use Rattle.std.specs.List.{AllByRecursion}
 use Rattle.pgv_value.specs.FrameBinary.{Part, row_bytes, IsField}
-use Rattle.pgv_value.specs.Laws.{AreBytes}
+use Rattle.pgv_value.specs.FrameLaws.{AreBytes}
 use Rattle.pgv_value.specs.declared.error.CodecError.TheVariants.{FieldCount, WrongLength}
 use Rattle.pgv_value.specs.Fronts.{u16_front, one_part}
 use Rattle.pgv_value.specs.Outcome.{Outcome, exactly, allocates, fails_if, done, ◌>>=◌, ◌>>◌}

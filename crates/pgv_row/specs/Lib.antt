@@ -5,9 +5,9 @@ pub mod Catalog
 pub mod Errors
 pub mod Description
 pub mod RowView
-pub mod Reading
+pub mod RowReading
 pub mod RowParts
-pub mod Values
+pub mod RowValues
 pub mod Tuples
 pub mod OnePass
 pub mod OnePassLemmas

@@ -7,7 +7,7 @@ use Rattle.std.specs.Prelude.{◌≡◌, ◌⊎◌, ◌≤◌, ℕ, ◌+◌, ◌
 use Rattle.pgv_types.specs.Ty.{Ty}
 use Rattle.pgv_types.specs.Facts.{is_custom}
 use Rattle.pgv_value.specs.FrameBinary.{Part}
-use Rattle.pgv_value.specs.Laws.{AreBytes}
+use Rattle.pgv_value.specs.FrameLaws.{AreBytes}
 use Rattle.pgv_value.specs.Fronts.{one_part}
 use Rattle.pgv_value.specs.Outcome.{Outcome, Fails, exactly, or_fail, fails_if, allocates, done, ◌>>=◌, ◌>>◌}
 use Rattle.pgv_value.specs.Several.{several}

@@ -18,7 +18,7 @@ use Rattle.pgv_row.specs.OnePass.{Fit, type_fits, column_fits, both_fit, columns
 use Rattle.pgv_row.specs.Errors.{codec_error}
 use Rattle.pgv_row.specs.RowView.{Row}
 use Rattle.pgv_row.specs.Tuples.{column_parse, columns_parse, IsRefused, IsFirstRefused}
-use Rattle.pgv_row.specs.Values.{may_read, raw_value, column_value}
+use Rattle.pgv_row.specs.RowValues.{may_read, raw_value, column_value}
 use Rattle.pgv_row.specs.declared.error.ColumnError.{ColumnError}
 
 -- ---- frames

@@ -9,7 +9,7 @@ use Rattle.pgv_row.specs.declared.error.ColumnError.TheVariants.{NotFound, Decod
 use Rattle.pgv_row.specs.Errors.{codec_error}
 use Rattle.pgv_value.specs.Outcome.{Outcome, Fails, or_fail, done, ◌>>=◌}
 use Rattle.pgv_row.specs.RowView.{Row, place_at}
-use Rattle.pgv_row.specs.Values.{column_value}
+use Rattle.pgv_row.specs.RowValues.{column_value}
 
 -- what was returned, seen by view, is the outcome; or the error is the outcome's by its number, and one of these
 abbrev pub GivesFields : {I V M : Type 0} → (V → M) → Outcome M → (ColumnError I → Type 0) → Result V (ColumnError I) → Type 0

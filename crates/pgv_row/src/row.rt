@@ -11,7 +11,7 @@ ghost use Rattle.pgv_row.specs.Places.{are_within, part_at, IsWithin};
 ghost use Rattle.pgv_row.specs.RowParts.{body_of, capacity};
 ghost use Rattle.pgv_row.specs.RowView.{column_there};
 ghost use Rattle.pgv_row.specs.Tuples.{GivesFields};
-ghost use Rattle.pgv_row.specs.Values.{column_value, raw_value, unchecked_value};
+ghost use Rattle.pgv_row.specs.RowValues.{column_value, raw_value, unchecked_value};
 
 use crate::column::{PgColumn, PgColumns};
 use crate::error::ColumnError;
@@ -32,7 +32,7 @@ pub struct PgPlaces {
 }
 
 impl PgPlaces {
-    ghost use Rattle.pgv_row.specs.Reading.{found_row, HasRoomThen, ReadsRow};
+    ghost use Rattle.pgv_row.specs.RowReading.{found_row, HasRoomThen, ReadsRow};
 
     /// Room for no place. It takes no memory yet.
     pub fn new(alloc: Global) -> PgPlaces
@@ -104,7 +104,7 @@ pub struct PgFoundRow<'a> {
 }
 
 impl<'a> PgFoundRow<'a> {
-    ghost use Rattle.pgv_row.specs.Reading.{found_row};
+    ghost use Rattle.pgv_row.specs.RowReading.{found_row};
 
     /// The row.
     #[inline(always)]
@@ -180,7 +180,7 @@ fn value_in<'a>(
 }
 
 impl<'a> PgRow<'a> {
-    ghost use Rattle.pgv_row.specs.Reading.{ReadsRow};
+    ghost use Rattle.pgv_row.specs.RowReading.{ReadsRow};
 
     /// The row that is the body of a DataRow (PostgreSQL, "Message Formats", DataRow), under these columns. It lasts
     /// until the next one is read with the same room. `0002 00000001 37 ffffffff` is a row of two columns, `7` and
@@ -293,7 +293,7 @@ impl<'a> PgRow<'a> {
 
     /// The value of the column at a place, as the row has it.
     #[inline(always)]
-    #[tactic(auto, unfolding(crate::specs::Values::raw_value))]
+    #[tactic(auto, unfolding(crate::specs::RowValues::raw_value))]
     fn raw_at(&self, place: usize) -> Result<PgValueRef<'a>, CodecError>
         ensures { Gives (λ value. value) (raw_value self.now place) result }
     {
@@ -309,7 +309,7 @@ impl<'a> PgRow<'a> {
 
     /// What `T` reads from the column at a place, whatever its type is.
     #[inline(always)]
-    #[tactic(auto, unfolding(crate::specs::Values::unchecked_value))]
+    #[tactic(auto, unfolding(crate::specs::RowValues::unchecked_value))]
     fn unchecked_at<T: Decode>(&self, alloc: Global, place: usize) -> Result<T, CodecError>
         ensures { Gives T.view (unchecked_value T.parse self.now place) result }
     {
@@ -318,7 +318,7 @@ impl<'a> PgRow<'a> {
 
     /// What `T` reads from the column at a place under its type. The type is tested before it is copied.
     #[inline(always)]
-    #[tactic(auto, unfolding(crate::specs::Values::column_value, crate::specs::Values::raw_value))]
+    #[tactic(auto, unfolding(crate::specs::RowValues::column_value, crate::specs::RowValues::raw_value))]
     pub(crate) fn value_at<T: Type + Decode>(
         &self,
         alloc: Global,

@@ -11,7 +11,7 @@ use Rattle.pgv_more.specs.MacAddressText.{IsHexDigit}
 use Rattle.pgv_more.proofs.LawsOfBytea.{pairs_are, pairs_there}
 use Rattle.pgv_session.specs.Lines.{hex_bytes, given_bytes}
 use Rattle.pgv_session.specs.Spelled.{IsName, SpellsPart}
-use Rattle.pgv_session.proofs.Marks.{word_or}
+use Rattle.pgv_session.proofs.SplitLines.{word_or}
 
 -- `null` is no hex
 no_digit : (v : ℕ) → IsHexDigit 110 v → ⊥

@@ -3,7 +3,7 @@ use Rattle.std.proofs.Common.{◌≡◌, ◌≢◌, ◌++◌, ◌∙◌, sym, ap
 use Rattle.std.specs.List.{AllByRecursion}
 use Rattle.std.proofs.lemmas.Bool.{eqb-true, eqb-false, ne_eqb}
 use Rattle.pgv_session.specs.Session.{line_more, lines_from, lines_of, ended, HasNoLineFeed, AreLines}
-use Rattle.pgv_session.specs.Laws.{InputIsItsLines}
+use Rattle.pgv_session.specs.LineLaws.{InputIsItsLines}
 
 one_more : (begun : List ℕ) (c : ℕ) → HasNoLineFeed begun → c ≢ 10 → HasNoLineFeed (begun ++ c ∷ [])
 one_more [] c h n = (n, tt)

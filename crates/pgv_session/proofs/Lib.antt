@@ -1,10 +1,10 @@
 pub mod Wording
-pub mod Marks
+pub mod SplitLines
 pub mod OidWords
 pub mod HexTexts
 mod NameTexts
 pub mod CopySteps
-pub mod Spellings
+pub mod LineSpellings
 pub mod InputLines
 pub mod Feeds
 pub mod Refusals

@@ -2,7 +2,7 @@
 use Rattle.std.proofs.Common.{◌≡◌, ◌++◌, ◌∙◌, sym, ap, subst, ℕ, List, [], ◌∷◌, refl, Option, Some, None}
 use Rattle.pgv_session.specs.Lines.{before, rest_after, words}
 use Rattle.pgv_session.specs.Spelled.{IsName, SpellsNames}
-use Rattle.pgv_session.proofs.Marks.{joined, whole, split_joined, before_has_none, none_after}
+use Rattle.pgv_session.proofs.SplitLines.{joined, whole, split_joined, before_has_none, none_after}
 use Rattle.pgv_session.proofs.Wording.{words_after, words_split}
 
 pub names_found : (names : List (List ℕ)) (text : List ℕ) → SpellsNames names text → words text ≡ names

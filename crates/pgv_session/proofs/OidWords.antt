@@ -10,11 +10,11 @@ use Rattle.std.proofs.lemmas.Str.Ascii.{IsAscii-nil, IsAscii-cons}
 use Rattle.std.proofs.lemmas.Option.{same_Some}
 use Rattle.pgv_types.specs.declared.oid.Oid.{Oid}
 use Rattle.pgv_text.specs.NumberText.{unsigned_value, IsUnsignedNumber, plus_text}
-use Rattle.pgv_text.proofs.Numbers.{value_unsigned, unsigned_value_of}
+use Rattle.pgv_text.proofs.ParsedNumbers.{value_unsigned, unsigned_value_of}
 use Rattle.pgv_value.specs.Utf8.{is_utf8}
 use Rattle.pgv_session.specs.Lines.{before, rest_after, words, starts_with_plus, with_first, oid_of, oid_named, oids_named}
 use Rattle.pgv_session.specs.Spelled.{IsOid, SpellsOids}
-use Rattle.pgv_session.proofs.Marks.{joined, whole, split_joined}
+use Rattle.pgv_session.proofs.SplitLines.{joined, whole, split_joined}
 use Rattle.pgv_session.proofs.Wording.{words_after, words_split}
 
 digits_ascii : (digits : List ℕ) → AllByRecursion (λ d. d < 10) digits → IsAscii (map (λ d. 48 + d) digits)

@@ -1,6 +1,6 @@
 pub mod Spelled
 pub mod Lines
-pub mod Laws
+pub mod LineLaws
 pub mod RequestsView
 pub mod Session
 pub mod Types

@@ -16,11 +16,11 @@ use Rattle.pgv_value.specs.declared.value.PgValueFormat.{PgValueFormat}
 use Rattle.pgv_wire.specs.Arguments.{Framed}
 use Rattle.pgv_codec.specs.ArrayGrammar.{parse_array}
 use Rattle.pgv_codec.specs.Encoding.{Encoding, Image, array_image, frame, option_encoding, plainly, value_type, with_hint, writes}
-use Rattle.pgv_codec.specs.DateTimeBinary.{date_image, time_image, moment_image}
+use Rattle.pgv_codec.specs.DateTimeImage.{date_image, time_image, moment_image}
 use Rattle.pgv_codec.specs.Intervals.{interval_image}
-use Rattle.pgv_codec.specs.NetworkBinary.{network_image, network_hint}
+use Rattle.pgv_codec.specs.NetworkImage.{network_image, network_hint}
 use Rattle.pgv_codec.specs.Nullable.{nullable}
-use Rattle.pgv_codec.specs.ScalarBinary.{bool_image, signed_image, unsigned_image, text_image, uuid_image}
+use Rattle.pgv_codec.specs.ScalarImage.{bool_image, signed_image, unsigned_image, text_image, uuid_image}
 use Rattle.pgv_ltree.specs.TreesCodec.{ltree, ltree_array, parse_tree, tree_image}
 use Rattle.pgv_ltree.specs.QueryCodec.{lquery, parse_query, query_image}
 use Rattle.pgv_more.specs.Hstore.{hstore_image, parse_hstore}

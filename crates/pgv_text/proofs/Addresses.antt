@@ -10,7 +10,7 @@ use Rattle.std.proofs.NetLemmas.Ipv4.{read_ipv4_complete, read_ipv4_sound}
 use Rattle.std.proofs.NetLemmas.Ipv6.{read_ipv6_complete, read_ipv6_sound, EndsGroups-nil, IsDotted-not_colon_hex}
 use Rattle.pgv_text.specs.AddressText.{address_value, v6_or, AddressIsItsValue}
 use Rattle.pgv_text.specs.FieldText.{whole}
-use Rattle.pgv_text.proofs.Fields.{whole_some}
+use Rattle.pgv_text.proofs.DigitFields.{whole_some}
 
 dotted : (text octets : List ℕ) → whole (read_ipv4 text) ≡ Some octets → IsDotted text octets
 dotted text octets e =

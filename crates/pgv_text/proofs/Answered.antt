@@ -1,6 +1,6 @@
 -- From what is computed of a text to the clauses of a reader.
 use Rattle.std.proofs.Common.{◌≡◌, Some, sym, ◌∙◌}
-use Rattle.pgv_text.specs.Laws.{NestIsComputed, OneNest}
+use Rattle.pgv_text.specs.NestLaws.{NestIsComputed, OneNest}
 use Rattle.pgv_text.proofs.Nests.{nest_sound, nest_complete}
 
 pub nest_is : NestIsComputed

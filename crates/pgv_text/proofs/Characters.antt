@@ -6,7 +6,7 @@ use Rattle.std.specs.Str.{IsUtf8, chars}
 use Rattle.std.proofs.Math.Utf8.{scalar, scalars}
 use Rattle.std.proofs.lemmas.Bool.{and_parts}
 use Rattle.std.proofs.lemmas.Str.{scalars-chars}
-use Rattle.pgv_text.specs.NestText.{Item, inner, inner_escaped, doubled, Piece, plain, escaped, quoted, item_spelling, item_meaning, spelled, text_of, joined, Pairwise, Form, IsPart}
+use Rattle.pgv_text.specs.NestPieces.{Item, inner, inner_escaped, doubled, Piece, plain, escaped, quoted, item_spelling, item_meaning, spelled, text_of, joined, Pairwise, Form, IsPart}
 use Rattle.pgv_text.specs.Spellings.{IsOptionalText}
 
 abbrev pub AreScalars : List ℕ → Type 0

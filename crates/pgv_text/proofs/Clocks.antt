@@ -13,7 +13,7 @@ use Rattle.jiff_core.specs.declared.civil.date.Date.{Date}
 use Rattle.jiff_core.specs.declared.civil.time.Time.{Time}
 use Rattle.pgv_text.specs.FieldText.{after, two, four, fraction, two_digits, four_digits}
 use Rattle.pgv_text.specs.DateTimeText.{IsDateText, IsClockText, IsTimeText, is_day, day_number, date_front, clock_nanos, clock_front, after_midnight, midnight_or, time_front}
-use Rattle.pgv_text.proofs.Fields.{found, then_read, after_is, two_read, two_is, four_read, four_is}
+use Rattle.pgv_text.proofs.DigitFields.{found, then_read, after_is, two_read, two_is, four_read, four_is}
 use Rattle.pgv_text.proofs.Fractions.{Stops, fraction_read, fraction_is, fraction_lt}
 use Rattle.pgv_text.proofs.Calendar.{there, tested, some_there}
 

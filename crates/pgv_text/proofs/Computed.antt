@@ -6,7 +6,7 @@ use Rattle.jiff_core.specs.Time.{time_nanos}
 use Rattle.jiff_zoned.proofs.SameLemmas.{same_date, same_time}
 use Rattle.pgv_text.specs.FieldText.{Front, whole}
 use Rattle.pgv_text.specs.DateTimeText.{IsComputedAs, IsOne, IsDateText, IsTimeText, date_front, time_front, date_value, time_value, DateIsItsValue, TimeIsItsValue, OneDate, OneTime}
-use Rattle.pgv_text.proofs.Fields.{found, whole_some}
+use Rattle.pgv_text.proofs.DigitFields.{found, whole_some}
 use Rattle.pgv_text.proofs.Fractions.{nothing_stops}
 use Rattle.pgv_text.proofs.Clocks.{date_read, date_is, time_read, time_is}
 

@@ -15,12 +15,12 @@ use Rattle.pgv_text.specs.declared.scanner.TextForm.{TextForm}
 use Rattle.pgv_text.specs.declared.scanner.TextForm.TheVariants.{Array, Range, Record}
 use Rattle.pgv_text.specs.ContentText.{RangeContent, empty, parts, IsEmptyText, IsRangeOf, is_empty_text, is_empty_in, no_parts, range_content, content_of}
 use Rattle.pgv_text.specs.Forms.{form_of}
-use Rattle.pgv_text.specs.NestText.{Nest, IsNestText}
-use Rattle.pgv_text.specs.Parsed.{nest_of}
+use Rattle.pgv_text.specs.NestPieces.{Nest, IsNestText}
+use Rattle.pgv_text.specs.ScannedPieces.{nest_of}
 use Rattle.pgv_text.specs.PartsView.{AreBounded, ArePartsOf, nest, is_of_empty, content}
 use Rattle.pgv_text.specs.RangeText.{range_form}
 use Rattle.pgv_text.specs.Scan.{nest_read}
-use Rattle.pgv_text.proofs.Bytes.{nest_bytes}
+use Rattle.pgv_text.proofs.ScannedBytes.{nest_bytes}
 use Rattle.pgv_text.proofs.Nests.{nest_sound, nest_complete, as_many}
 
 -- ---- the text `empty`

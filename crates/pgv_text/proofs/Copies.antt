@@ -11,7 +11,7 @@ use Rattle.pgv_text.specs.declared.scanner.Place.{Place}
 use Rattle.pgv_text.specs.declared.scanner.Place.TheVariants.{Start, Outside, Quoted, AfterQuote, AfterBackslash, QuotedBackslash}
 use Rattle.pgv_text.specs.declared.scanner.Cell.{Cell}
 use Rattle.pgv_text.specs.declared.scanner.Cell.TheVariants.{Keep, Pass, Part, End, Refuse}
-use Rattle.pgv_text.specs.NestText.{Form}
+use Rattle.pgv_text.specs.NestPieces.{Form}
 use Rattle.pgv_text.specs.Forms.{form_of}
 use Rattle.pgv_text.specs.Scan.{class, cell, outside_cell, quoted_cell, after_quote_cell, ends, stops}
 use Rattle.pgv_text.specs.Copies.{as_it_is, as_it_is_by, bare, bare_by, copies_after, copies_by, in_quotes, in_quotes_by, part_ends, stop_at, stop_by}

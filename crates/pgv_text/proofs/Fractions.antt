@@ -9,7 +9,7 @@ use Rattle.std.proofs.lemmas.Option.{none-some}
 use Rattle.std.proofs.lemmas.Bool.{false≢true, and_right, and_from}
 use Rattle.std.proofs.NetLemmas.Options.{same_parts}
 use Rattle.pgv_text.specs.FieldText.{worth, fraction, IsFractionIfAny}
-use Rattle.pgv_text.proofs.Fields.{found, digit_is, digit_there}
+use Rattle.pgv_text.proofs.DigitFields.{found, digit_is, digit_there}
 
 -- The unit of the first of that many digits, of which the last is worth 1.
 abbrev unit : ℕ → ℕ

@@ -17,7 +17,7 @@ use Rattle.jiff_core.proofs.DateTimeLemmas.{civil_nanos-parts}
 use Rattle.jiff_zoned.proofs.SameLemmas.{same_time, same_datetime}
 use Rattle.pgv_text.specs.FieldText.{after}
 use Rattle.pgv_text.specs.DateTimeText.{IsCivilText, IsDateTimeText, IsInstantText, IsTimeTzText, nanos_at, date_front, clock_front, time_front, civil_front, offset_value, instant_nanos, date_time_value, instant_value, time_tz_value, zoned_numbers, DateTimeIsItsValue, InstantIsItsValue, TimeTzIsItsValue, OneDateTime, OneInstant, OneTimeTz}
-use Rattle.pgv_text.proofs.Fields.{found, then_read, after_is}
+use Rattle.pgv_text.proofs.DigitFields.{found, then_read, after_is}
 use Rattle.pgv_text.proofs.Fractions.{Stops}
 use Rattle.pgv_text.proofs.Clocks.{date_read, date_is, clock_read, clock_is, time_read, time_is}
 use Rattle.pgv_text.proofs.Offsets.{offset_read, offset_is, offset_stops, ignored_read, ignored_is, ignored_stops}

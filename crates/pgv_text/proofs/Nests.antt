@@ -9,14 +9,14 @@ use Rattle.pgv_text.specs.declared.scanner.TextForm.{TextForm}
 use Rattle.pgv_text.specs.declared.scanner.Class.{Class}
 use Rattle.pgv_text.specs.declared.scanner.Class.TheVariants.{Quote, Backslash, Comma, Close, Other}
 use Rattle.pgv_text.specs.declared.scanner.Place.TheVariants.{Start}
-use Rattle.pgv_text.specs.NestText.{Form, Piece, plain, escaped, quoted, Count, any, some, two, AreCounted, ArePieces, Pairwise, IsPart, Nest, IsNestText, spelled, text_of, joined}
+use Rattle.pgv_text.specs.NestPieces.{Form, Piece, plain, escaped, quoted, Count, any, some, two, AreCounted, ArePieces, Pairwise, IsPart, Nest, IsNestText, spelled, text_of, joined}
 use Rattle.pgv_text.specs.Forms.{form_of}
 use Rattle.pgv_text.specs.Scan.{class, value_here, closes_here, counted, nest_between}
-use Rattle.pgv_text.specs.Parsed.{Found, closed, parse_outside, parse, nest_of}
-use Rattle.pgv_text.proofs.Classes.{says, class_plain, class_closing}
+use Rattle.pgv_text.specs.ScannedPieces.{Found, closed, parse_outside, parse, nest_of}
+use Rattle.pgv_text.proofs.CharacterClasses.{says, class_plain, class_closing}
 use Rattle.pgv_text.proofs.Nothing.{value_is}
 use Rattle.pgv_text.proofs.Sound.{Valid, after_part, part_end, sound}
-use Rattle.pgv_text.proofs.Spelled.{parts_read}
+use Rattle.pgv_text.proofs.SpelledTexts.{parts_read}
 
 pub as_many : {X Y : Type 0} (R : X → Y → Type 0) (xs : List X) (ys : List Y) → Pairwise R xs ys → length ys ≡ length xs
 as_many R [] [] h = refl

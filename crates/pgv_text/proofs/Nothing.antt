@@ -5,10 +5,10 @@ use Rattle.std.specs.Str.{encode_utf8_all}
 use Rattle.std.proofs.lemmas.Bool.{and_parts, eq-eqb, eqb-true, false≢true}
 use Rattle.pgv_text.specs.declared.scanner.TextForm.{TextForm}
 use Rattle.pgv_text.specs.declared.scanner.TextForm.TheVariants.{Array}
-use Rattle.pgv_text.specs.NestText.{Form, Piece, plain, escaped, quoted, IsPiece, IsPart, may_be_plain, spelled, text_of}
+use Rattle.pgv_text.specs.NestPieces.{Form, Piece, plain, escaped, quoted, IsPiece, IsPart, may_be_plain, spelled, text_of}
 use Rattle.pgv_text.specs.Forms.{form_of}
 use Rattle.pgv_text.specs.Scan.{class, ends, stands, value_here}
-use Rattle.pgv_text.proofs.Classes.{class_plain}
+use Rattle.pgv_text.proofs.CharacterClasses.{class_plain}
 
 -- plain pieces of ASCII
 abbrev pub ArePlain : Form → List Piece → Type 0

@@ -8,7 +8,7 @@ use Rattle.jiff_core.specs.declared.offset.Offset.{Offset}
 use Rattle.jiff_core.specs.Timestamp.{IsOffsetSeconds}
 use Rattle.pgv_text.specs.FieldText.{after, two_below, two_digits, whole}
 use Rattle.pgv_text.specs.DateTimeText.{IsSecondsText, IsMinutesText, IsHoursText, IsOffsetText, IsIgnored, seconds_value, minutes_value, hours_value, offset_value, is_ignored}
-use Rattle.pgv_text.proofs.Fields.{then_read, after_is, below_read, below_is, whole_some}
+use Rattle.pgv_text.proofs.DigitFields.{then_read, after_is, below_read, below_is, whole_some}
 use Rattle.pgv_text.proofs.Fractions.{Stops, nothing_stops, plus_stops, minus_stops}
 
 -- ---- what is written is read

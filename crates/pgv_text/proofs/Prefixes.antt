@@ -11,9 +11,9 @@ use Rattle.std.proofs.lemmas.Option.{none-some}
 use Rattle.std.proofs.lemmas.Str.Parse.{numerals_by_value, tells_digits}
 use Rattle.std.proofs.NetLemmas.Options.{cond_some}
 use Rattle.pgv_text.specs.AddressText.{prefix_value}
-use Rattle.pgv_text.proofs.Fields.{digit_is, digit_there}
+use Rattle.pgv_text.proofs.DigitFields.{digit_is, digit_there}
 use Rattle.pgv_text.proofs.Fractions.{chosen}
-use Rattle.pgv_text.proofs.Numbers.{numeral}
+use Rattle.pgv_text.proofs.ParsedNumbers.{numeral}
 
 -- digits without a leading zero are what `decimal` writes of their number
 spelled : (n : ℕ) (ds : List ℕ) → AllByRecursion (λ d. d < 10) ds → 0 < length ds → (get_or (map (λ d. 48 + d) ds) 0 0 ≡ 48 → length (map (λ d. 48 + d) ds) ≡ 1) → n ≡ number_from_digits 10 ds → n < 2 ^ 64 → decimal n ≡ map (λ d. 48 + d) ds

@@ -9,11 +9,11 @@ use Rattle.pgv_text.specs.declared.scanner.Class.{Class}
 use Rattle.pgv_text.specs.declared.scanner.Class.TheVariants.{Quote, Backslash, Comma, Open, Close, Other}
 use Rattle.pgv_text.specs.declared.scanner.Place.{Place}
 use Rattle.pgv_text.specs.declared.scanner.Place.TheVariants.{Start, Outside, Quoted, AfterQuote, AfterBackslash, QuotedBackslash}
-use Rattle.pgv_text.specs.NestText.{Form, Item, inner, inner_escaped, doubled, Piece, plain, escaped, quoted, item_spelling, IsItem, IsPiece, NotQuotedFirst, QuotedApart, ArePieces, Pairwise, IsPart, spelling, spelled, text_of}
+use Rattle.pgv_text.specs.NestPieces.{Form, Item, inner, inner_escaped, doubled, Piece, plain, escaped, quoted, item_spelling, IsItem, IsPiece, NotQuotedFirst, QuotedApart, ArePieces, Pairwise, IsPart, spelling, spelled, text_of}
 use Rattle.pgv_text.specs.Forms.{form_of}
 use Rattle.pgv_text.specs.Scan.{class, ends, value_here}
-use Rattle.pgv_text.specs.Parsed.{Found, with_piece, with_item, with_part, closed, parse_outside, parse_quoted, parse_after_quote, parse}
-use Rattle.pgv_text.proofs.Classes.{says}
+use Rattle.pgv_text.specs.ScannedPieces.{Found, with_piece, with_item, with_part, closed, parse_outside, parse_quoted, parse_after_quote, parse}
+use Rattle.pgv_text.proofs.CharacterClasses.{says}
 use Rattle.pgv_text.proofs.Nothing.{value_is}
 
 abbrev pub after_part : List (List Piece) → ℕ → List ℕ

@@ -9,7 +9,7 @@ use Rattle.pgv_text.specs.declared.scanner.Place.{Place}
 use Rattle.pgv_text.specs.declared.scanner.Place.TheVariants.{Outside, Quoted, AfterQuote, QuotedBackslash}
 use Rattle.pgv_text.specs.declared.scanner.Cell.{Cell}
 use Rattle.pgv_text.specs.declared.scanner.Cell.TheVariants.{Keep}
-use Rattle.pgv_text.specs.NestText.{Form}
+use Rattle.pgv_text.specs.NestPieces.{Form}
 use Rattle.pgv_text.specs.Forms.{form_of}
 use Rattle.pgv_text.specs.Scan.{Rest, class, cell, after_quote_cell, grown}
 

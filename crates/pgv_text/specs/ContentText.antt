@@ -8,8 +8,8 @@ use Rattle.std.specs.Option.{option_map}
 use Rattle.std.specs.Str.{str_eq_ignore_ascii_case, str_to_ascii_lowercase}
 use Rattle.pgv_text.specs.declared.scanner.TextForm.{TextForm}
 use Rattle.pgv_text.specs.declared.scanner.TextForm.TheVariants.{Array, Range, Record}
-use Rattle.pgv_text.specs.NestText.{Nest, IsNestText}
-use Rattle.pgv_text.specs.Parsed.{nest_of}
+use Rattle.pgv_text.specs.NestPieces.{Nest, IsNestText}
+use Rattle.pgv_text.specs.ScannedPieces.{nest_of}
 use Rattle.pgv_text.specs.ArrayText.{array_form}
 use Rattle.pgv_text.specs.RangeText.{range_form}
 use Rattle.pgv_text.specs.RecordText.{record_form}

@@ -12,8 +12,8 @@ use Rattle.pgv_text.specs.declared.scanner.TextForm.{TextForm}
 use Rattle.pgv_text.specs.declared.scanner.TextForm.TheVariants.{Array}
 use Rattle.pgv_text.specs.ArrayText.{array_form}
 use Rattle.pgv_text.specs.Forms.{form_of}
-use Rattle.pgv_text.specs.NestText.{Form}
-use Rattle.pgv_text.specs.Parsed.{nest_of}
+use Rattle.pgv_text.specs.NestPieces.{Form}
+use Rattle.pgv_text.specs.ScannedPieces.{nest_of}
 use Rattle.pgv_text.specs.Scan.{class, cell, closes_here, ends}
 
 -- ---- the part in front

@@ -1,7 +1,7 @@
 -- The forms of text.
 use Rattle.pgv_text.specs.declared.scanner.TextForm.{TextForm}
 use Rattle.pgv_text.specs.declared.scanner.TextForm.TheVariants.{Array, Range, Record}
-use Rattle.pgv_text.specs.NestText.{Form}
+use Rattle.pgv_text.specs.NestPieces.{Form}
 use Rattle.pgv_text.specs.ArrayText.{array_form}
 use Rattle.pgv_text.specs.RangeText.{range_form}
 use Rattle.pgv_text.specs.RecordText.{record_form}

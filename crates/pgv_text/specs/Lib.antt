@@ -1,12 +1,12 @@
 pub mod NumberText
 pub mod ScalarText
-pub mod NestText
+pub mod NestPieces
 pub mod ArrayText
 pub mod RangeText
 pub mod RecordText
 pub mod Forms
 pub mod Scan
-pub mod Parsed
+pub mod ScannedPieces
 pub mod ContentText
 pub mod Values
 pub mod PartsLeftView
@@ -20,4 +20,4 @@ pub mod FieldText
 pub mod DateTimeText
 pub mod AddressText
 pub mod NetworkText
-pub mod Laws
+pub mod NestLaws

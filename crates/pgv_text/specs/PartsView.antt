@@ -5,7 +5,7 @@ use Rattle.pgv_text.specs.declared.parts.Parts.{Parts}
 use Rattle.pgv_text.specs.declared.scanner.TextForm.{TextForm}
 use Rattle.pgv_text.specs.declared.scanner.TextForm.TheVariants.{Array, Range, Record}
 use Rattle.pgv_text.specs.ContentText.{Content, RangeContent, content_of, empty, is_empty_in, no_parts, parts}
-use Rattle.pgv_text.specs.NestText.{Nest}
+use Rattle.pgv_text.specs.NestPieces.{Nest}
 use Rattle.pgv_text.specs.Copies.{copies_from, copies_of}
 use Rattle.pgv_text.specs.Forms.{form_of}
 use Rattle.pgv_text.specs.PartsLeftView.{values_left}

@@ -7,7 +7,7 @@ use Rattle.pgv_text.specs.declared.scanner.Place.{Place}
 use Rattle.pgv_text.specs.declared.scanner.Place.TheVariants.{Start, Outside, Quoted, AfterQuote, AfterBackslash, QuotedBackslash}
 use Rattle.pgv_text.specs.declared.scanner.Cell.{Cell}
 use Rattle.pgv_text.specs.declared.scanner.Cell.TheVariants.{Keep, Pass, Part, End, Refuse}
-use Rattle.pgv_text.specs.NestText.{Form, Piece, plain, Count, any, some, two, Nest}
+use Rattle.pgv_text.specs.NestPieces.{Form, Piece, plain, Count, any, some, two, Nest}
 
 abbrev pub class : Form → ℕ → Class
 class form c =

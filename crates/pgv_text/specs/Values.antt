@@ -4,7 +4,7 @@ use Rattle.std.specs.Option.{option_map}
 use Rattle.std.specs.Str.{chars}
 use Rattle.pgv_text.specs.ArrayText.{array_form}
 use Rattle.pgv_text.specs.RecordText.{record_form}
-use Rattle.pgv_text.specs.Parsed.{nest_of}
+use Rattle.pgv_text.specs.ScannedPieces.{nest_of}
 
 -- The elements of an array text, and the fields of a record text; the laws say that these are exactly the
 -- values that the text is of.

@@ -4,32 +4,32 @@ ghost use Rattle.std.specs.Prelude.{◌≡◌, ◌↔◌, true};
 ghost use Rattle.pgv_text.specs.AddressText.{AddressIsItsValue};
 ghost use Rattle.pgv_text.specs.Copies.{UnquotedIsNotCopied};
 ghost use Rattle.pgv_text.specs.DateTimeText.{DateIsItsValue, DateTimeIsItsValue, InstantIsItsValue, OneDate, OneDateTime, OneInstant, OneTime, OneTimeTz, TimeIsItsValue, TimeTzIsItsValue};
-ghost use Rattle.pgv_text.specs.Laws.{ArrayIsItsValues, EveryListHasAText, NestIsComputed, OneNest, OneRange, RangeIsComputed, RecordIsItsValues, SpelledReadsBack, ValuesAreTexts};
+ghost use Rattle.pgv_text.specs.NestLaws.{ArrayIsItsValues, EveryListHasAText, NestIsComputed, OneNest, OneRange, RangeIsComputed, RecordIsItsValues, SpelledReadsBack, ValuesAreTexts};
 ghost use Rattle.pgv_text.specs.NetworkText.{network_of, NetworkIsItsValue, OneNetwork};
 ghost use Rattle.pgv_text.specs.NumberText.{NumberIsItsValue, OneNumber, OneUnsignedNumber, UnsignedIsItsValue};
 
 use crate::{IpNetwork, Ipv4Network, Ipv6Network};
 
 /// `number_value` computes a number from a text iff the grammar of whole numbers assigns this number to the text.
-#[tactic(auto, using(crate::proofs::Numbers::number_is_its_value))]
+#[tactic(auto, using(crate::proofs::ParsedNumbers::number_is_its_value))]
 pub fn number_is_its_value()
     ensures { NumberIsItsValue }
 {}
 
 /// `unsigned_value` computes a number from a text iff the grammar of unsigned numbers assigns this number to the text.
-#[tactic(auto, using(crate::proofs::Numbers::unsigned_is_its_value))]
+#[tactic(auto, using(crate::proofs::ParsedNumbers::unsigned_is_its_value))]
 pub fn unsigned_number_is_its_value()
     ensures { UnsignedIsItsValue }
 {}
 
 /// A text denotes at most one whole number.
-#[tactic(auto, using(crate::proofs::Numbers::one_number))]
+#[tactic(auto, using(crate::proofs::ParsedNumbers::one_number))]
 pub fn one_number()
     ensures { OneNumber }
 {}
 
 /// A text denotes at most one unsigned number.
-#[tactic(auto, using(crate::proofs::Numbers::one_unsigned))]
+#[tactic(auto, using(crate::proofs::ParsedNumbers::one_unsigned))]
 pub fn one_unsigned_number()
     ensures { OneUnsignedNumber }
 {}
@@ -60,7 +60,7 @@ pub fn one_range()
 {}
 
 /// No part of a well-formed text without quotes and backslashes is copied when it is read.
-#[tactic(auto, using(crate::proofs::Plain::unquoted_is_not_copied))]
+#[tactic(auto, using(crate::proofs::PlainTexts::unquoted_is_not_copied))]
 pub fn unquoted_is_not_copied()
     ensures { UnquotedIsNotCopied }
 {}
@@ -76,21 +76,21 @@ pub fn record_is_its_values()
 {}
 
 /// Each value of a well-formed text in UTF-8 is null or itself UTF-8.
-#[tactic(auto, using(crate::proofs::Written::values_texts))]
+#[tactic(auto, using(crate::proofs::WrittenPieces::values_texts))]
 pub fn values_are_texts()
     ensures { ValuesAreTexts }
 {}
 
 /// Every spelling of as many optional texts as the form takes, between any brackets of the form, is UTF-8 and denotes
 /// exactly these texts.
-#[tactic(auto, using(crate::proofs::Written::reads_back))]
+#[tactic(auto, using(crate::proofs::WrittenPieces::reads_back))]
 pub fn spelled_reads_back()
     ensures { SpelledReadsBack }
 {}
 
 /// Every list of optional texts has an array text, every list that is not empty has a record text, and every two have a
 /// range text with any bracket at each end.
-#[tactic(auto, using(crate::proofs::Written::has_text))]
+#[tactic(auto, using(crate::proofs::WrittenPieces::has_text))]
 pub fn every_list_has_a_text()
     ensures { EveryListHasAText }
 {}

@@ -3,7 +3,7 @@
 //! each returns a value exactly where the text is in its grammar.
 #![tactic(auto)]
 
-pub mod dates;
+pub mod date_times;
 pub mod elements;
 mod field;
 pub mod laws;
@@ -14,7 +14,7 @@ mod offset;
 pub mod parts;
 pub mod scanner;
 
-pub use dates::{date, date_time, instant, time, time_tz};
+pub use date_times::{date, date_time, instant, time, time_tz};
 pub use elements::{Elements, Next};
 pub use nest::{RangeText, array_elements, range_parts, record_fields};
 pub use network::{IpNetwork, Ipv4Network, Ipv6Network};

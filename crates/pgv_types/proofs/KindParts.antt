@@ -4,7 +4,7 @@ use Rattle.std.proofs.lemmas.Bool.{false≢true}
 use Rattle.std.proofs.lemmas.Option.{none-some}
 use Rattle.pgv_types.specs.Ty.{Ty, builtin, custom, named, by_oid, array_of, simple, pseudo, array, range}
 use Rattle.pgv_types.specs.Table.{RowKind, a_simple, a_pseudo, range_of, entry_of}
-use Rattle.pgv_types.proofs.Rows.{type_or}
+use Rattle.pgv_types.proofs.TableRows.{type_or}
 use Rattle.pgv_types.specs.Facts.{element_oid, element_built_in, kind_or_array, row_kind, entry_kind, kind_when_built_in, range_oid, range_built_in, is_pseudo_row, is_pseudo}
 
 -- ---- arrays

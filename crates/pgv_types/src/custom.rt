@@ -1,7 +1,7 @@
 //! Types that the server described, and arrays that are declared by their element's name.
 ghost use Rattle.std.specs.Prelude.{◌≡◌};
 ghost use Rattle.pgv_types.specs.Shown.{custom_oid, custom_name, custom_kind, element_name_of};
-ghost use Rattle.pgv_types.specs.Parts.{kind_lent};
+ghost use Rattle.pgv_types.specs.LentParts.{kind_lent};
 
 use crate::{Oid, PgTypeKind, PgTypeKindRef, StaticText};
 use std::alloc::AllocError;

@@ -1,7 +1,7 @@
 //! What kind of type a type is.
 ghost use Rattle.std.specs.Prelude.{◌≡◌, option_map, IfSome};
 ghost use Rattle.pgv_types.specs.Facts.{element_of};
-ghost use Rattle.pgv_types.specs.Parts.{ref_type, IsHeld, kind_lent};
+ghost use Rattle.pgv_types.specs.LentParts.{ref_type, IsHeld, kind_lent};
 ghost use Rattle.pgv_types.specs.Shown.{kind_of};
 
 use crate::PgTypeInfo;

@@ -2,7 +2,7 @@
 ghost use Rattle.std.specs.Prelude.{◌≡◌, ◌&&◌, ◌||◌, option_map};
 ghost use Rattle.pgv_types.specs.Agree.{agree};
 ghost use Rattle.pgv_types.specs.Facts.{base_oid, name_of};
-ghost use Rattle.pgv_types.specs.Parts.{ref_type, IsHeld};
+ghost use Rattle.pgv_types.specs.LentParts.{ref_type, IsHeld};
 ghost use Rattle.pgv_types.specs.Relations.{softly, exactly, related, rest_related, levels, common_base, is_by_oid};
 ghost use Rattle.pgv_types.specs.Shown.{type_of};
 

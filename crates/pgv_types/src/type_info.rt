@@ -5,7 +5,7 @@ ghost use Rattle.pgv_types.specs.Facts.{is_custom, is_void, IsNotCustom, domain_
 ghost use Rattle.pgv_types.specs.Relations.{is_by_oid};
 ghost use Rattle.pgv_types.specs.Ty.{named, array_of, by_oid, custom};
 ghost use Rattle.pgv_types.specs.Shown.{kind_of, type_of};
-ghost use Rattle.pgv_types.specs.Parts.{ref_type, IsHeld, kind_lent};
+ghost use Rattle.pgv_types.specs.LentParts.{ref_type, IsHeld, kind_lent};
 
 use crate::{
     Oid, PgArrayOf, PgCustomType, PgTypeKind, PgTypeKindRef, PgTypeName, PgTypeRef, StaticText,

@@ -1,4 +1,4 @@
 pub mod Composites
-pub mod Labels
+pub mod EnumLabels
 pub mod Newtypes
 pub mod Plains

@@ -1,7 +1,7 @@
 //! An enum by its labels (PostgreSQL, "Enumerated Types").
 
 ghost use Rattle.std.specs.Prelude.{◌≡◌, true, Some, List, ℕ};
-ghost use Rattle.pgv_user_types.specs.Labels.{are_labels, labelled};
+ghost use Rattle.pgv_user_types.specs.EnumLabels.{are_labels, labelled};
 
 use pgv_codec::{Encode, IsNull, PgArgumentBuffer, PgHasArrayType, Plain, Type, encode_text};
 use pgv_types::PgTypeInfo;
@@ -81,7 +81,7 @@ impl<T: Labelled> PgHasArrayType for PgEnum<T> {
 
 /// Written as its label.
 impl<T: Labelled> Encode for PgEnum<T> {
-    ghost use Rattle.pgv_user_types.specs.Labels.{label_written};
+    ghost use Rattle.pgv_user_types.specs.EnumLabels.{label_written};
 
     ghost encoding = { λ v. label_written (T.label_of v.0) };
 
@@ -104,7 +104,7 @@ impl<T: Labelled> Encode for PgEnum<T> {
 impl<T: Labelled> Plain for PgEnum<T> {
     ghost use Rattle.std.specs.Prelude.{refl};
     ghost use Rattle.pgv_value.specs.Outcome.{without_memory};
-    ghost use Rattle.pgv_user_types.specs.Labels.{label_back, label_written, parse_label};
+    ghost use Rattle.pgv_user_types.specs.EnumLabels.{label_back, label_written, parse_label};
 
     ghost View = { List ℕ };
 

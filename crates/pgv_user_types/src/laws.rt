@@ -8,10 +8,10 @@ ghost use Rattle.pgv_types.specs.declared.oid.Oid.{Oid};
 ghost use Rattle.pgv_value.specs.Outcome.{without_memory};
 ghost use Rattle.pgv_codec.specs.RecordGrammar.{parse_record};
 ghost use Rattle.pgv_codec.specs.Back.{Followed};
-ghost use Rattle.pgv_codec.specs.Plain.{FieldIsPlain};
+ghost use Rattle.pgv_codec.specs.PlainFit.{FieldIsPlain};
 ghost use Rattle.pgv_codec.specs.Encoding.{field, plainly, record_image};
 ghost use Rattle.pgv_codec.specs.TypeRow.{FitsAlways, HasArrayType, HasType, HasTypes, IsCodecRow, IsReadAs, IsWrittenAs};
-ghost use Rattle.pgv_user_types.specs.Labels.{label_written, parse_label};
+ghost use Rattle.pgv_user_types.specs.EnumLabels.{label_written, parse_label};
 
 use crate::{
     Composite, Domain, Labelled, Newtype, PgComposite, PgDomain, PgEnum, PgNewtype, PgPlain,

@@ -7,9 +7,9 @@ use Rattle.std.proofs.lemmas.List.{take_at, drop_at, length-append, take-take}
 use Rattle.std.proofs.lemmas.Nat.{be_bytes_4, from_be_bytes-to_be_bytes_4}
 use Rattle.std.proofs.lemmas.Option.{same_Some}
 use Rattle.pgv_value.specs.FrameBinary.{Part, IsFrame}
-use Rattle.pgv_value.specs.Laws.{AreBytes}
+use Rattle.pgv_value.specs.FrameLaws.{AreBytes}
 use Rattle.pgv_value.specs.Interval.{eight_bytes, signed_four_bytes}
-use Rattle.pgv_value.specs.Steps.{◌>>=◌, number}
+use Rattle.pgv_value.specs.ReadingSteps.{◌>>=◌, number}
 
 -- ---- steps and tests
 

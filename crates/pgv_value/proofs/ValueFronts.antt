@@ -4,8 +4,8 @@ use Rattle.std.specs.Int.{w32, to_be_bytes}
 use Rattle.pgv_types.specs.Ty.{Ty}
 use Rattle.pgv_value.specs.FrameBinary.{Part, IsFrame, front, frame_fault}
 use Rattle.pgv_value.specs.Fronts.{u32_front, part_front, value_front}
-use Rattle.pgv_value.specs.Laws.{AreBytes}
-use Rattle.pgv_value.specs.Steps.{number}
+use Rattle.pgv_value.specs.FrameLaws.{AreBytes}
+use Rattle.pgv_value.specs.ReadingSteps.{number}
 use Rattle.pgv_value.specs.ValueView.{Given, given}
 use Rattle.pgv_value.specs.declared.error.CodecError.TheVariants.{Short}
 use Rattle.pgv_value.specs.declared.value.PgValueFormat.TheVariants.{Binary}

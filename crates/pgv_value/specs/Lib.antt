@@ -1,10 +1,10 @@
 pub mod Reading
 pub mod Codes
 pub mod ValueView
-pub mod RowView
+pub mod PartOfRow
 pub mod Utf8
 pub mod FrameBinary
-pub mod Steps
+pub mod ReadingSteps
 pub mod Parsed
 pub mod Outcome
 pub mod Formats
@@ -15,6 +15,6 @@ pub mod ScalarGrammar
 pub mod DateTimeBinary
 pub mod NetworkBinary
 pub mod Interval
-pub mod Laws
+pub mod FrameLaws
 pub mod OwnBytes
 pub mod TreeErrors

@@ -3,7 +3,7 @@
 -- rest.
 use Rattle.std.specs.Prelude.{◌≡◌, ◌↔◌, ℕ, zero, suc, List, [], ◌∷◌, ◌++◌, length, flat_map, Ok}
 use Rattle.std.specs.List.{AllByRecursion}
-use Rattle.pgv_value.specs.Laws.{AreBytes}
+use Rattle.pgv_value.specs.FrameLaws.{AreBytes}
 use Rattle.pgv_value.specs.Outcome.{Outcome, done, ◌>>=◌}
 
 -- as many things as n, and the rest

@@ -2,21 +2,21 @@
 
 ghost use Rattle.std.specs.Prelude.{◌≡◌, ◌↔◌, fold, true};
 ghost use Rattle.pgv_value.specs.Interval.{IntervalIsItsMicroseconds};
-ghost use Rattle.pgv_value.specs.Laws.{CutFrameIsShort, FrontIsFrame};
+ghost use Rattle.pgv_value.specs.FrameLaws.{CutFrameIsShort, FrontIsFrame};
 
 use crate::interval::PgInterval;
 use std::hash::{Hash, Hasher};
 use uuid::Uuid;
 
 /// `front` splits bytes into a part and a rest iff the bytes are a frame of this part followed by this rest.
-#[tactic(auto, unfolding(crate::specs::Laws::FrontIsFrame), using(crate::proofs::Fronts::front_exactly))]
+#[tactic(auto, unfolding(crate::specs::FrameLaws::FrontIsFrame), using(crate::proofs::Fronts::front_exactly))]
 pub fn front_is_frame()
     ensures { FrontIsFrame }
 {}
 
 /// Nothing is found at the front of a frame that is cut off, and its fault is [`Short`](crate::CodecError::Short)
 /// (C15).
-#[tactic(auto, unfolding(crate::specs::Laws::CutFrameIsShort), using(crate::proofs::Fronts::cut_is_short))]
+#[tactic(auto, unfolding(crate::specs::FrameLaws::CutFrameIsShort), using(crate::proofs::Fronts::cut_is_short))]
 pub fn cut_frame_is_short()
     ensures { CutFrameIsShort }
 {}

@@ -4,7 +4,7 @@ ghost use Rattle.std.specs.Prelude.{◌≡◌, ◌≤◌, ◌+◌, length};
 ghost use Rattle.pgv_value.specs.Interval.{eight_bytes, signed_four_bytes};
 ghost use Rattle.pgv_value.specs.Parsed.{GivesFront, GivesOr};
 ghost use Rattle.pgv_value.specs.declared.error.CodecError.TheVariants.{Short};
-ghost use Rattle.pgv_value.specs.Steps.{number, signed_two};
+ghost use Rattle.pgv_value.specs.ReadingSteps.{number, signed_two};
 
 use crate::error::CodecError;
 use byteorder::{BigEndian, ByteOrder};
@@ -12,7 +12,7 @@ use byteorder::{BigEndian, ByteOrder};
 /// The number of 32 bits in front, the highest byte first, and the rest: of `00000007ff` it is 7, and the rest is `ff`.
 /// Fewer than four bytes are refused with [`Short`](CodecError::Short) (C15).
 #[inline(always)]
-#[tactic(auto, unfolding(crate::specs::Steps::number))]
+#[tactic(auto, unfolding(crate::specs::ReadingSteps::number))]
 pub fn u32_in_front(bytes: &[u8]) -> Result<(u32, &[u8]), CodecError>
     ensures { GivesFront (GivesOr (λ x. (x.0, x.1.now)) (number bytes.now) Short)
         (λ x. length x.1.now + 4 ≡ length bytes.now) result }
@@ -30,7 +30,7 @@ pub fn u32_in_front(bytes: &[u8]) -> Result<(u32, &[u8]), CodecError>
 /// The signed number of 16 bits in front, the highest byte first, and the rest: of `ffff00` it is -1, and the rest is
 /// `00`. Fewer than two bytes are refused with [`Short`](CodecError::Short) (C15).
 #[inline(always)]
-#[tactic(auto, unfolding(crate::specs::Steps::signed_two))]
+#[tactic(auto, unfolding(crate::specs::ReadingSteps::signed_two))]
 pub fn i16_in_front(bytes: &[u8]) -> Result<(i16, &[u8]), CodecError>
     ensures { GivesFront (GivesOr (λ x. (x.0, x.1.now)) (signed_two bytes.now) Short)
         (λ x. length x.1.now + 2 ≡ length bytes.now) result }

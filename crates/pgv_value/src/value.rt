@@ -6,7 +6,7 @@ ghost use Rattle.pgv_types.specs.Facts.{IsNotCustom};
 ghost use Rattle.pgv_value.specs.Fronts.{format_of, value_front};
 ghost use Rattle.pgv_value.specs.Outcome.{Gives, lent_value, owned_value};
 ghost use Rattle.pgv_value.specs.Parsed.{GivesExactly, GivesOr};
-ghost use Rattle.pgv_value.specs.RowView.{held_bytes};
+ghost use Rattle.pgv_value.specs.PartOfRow.{held_bytes};
 ghost use Rattle.pgv_value.specs.Utf8.{GivesText};
 ghost use Rattle.pgv_value.specs.ValueView.{given};
 ghost use Rattle.pgv_value.specs.declared.error.CodecError.TheVariants.{UnexpectedNull};
@@ -169,7 +169,7 @@ impl<'r> Drop for PgValueRef<'r> {
 }
 
 impl<'r> Model for PgValueRef<'r> {
-    ghost use Rattle.pgv_value.specs.RowView.{IsOfRow, held_bytes};
+    ghost use Rattle.pgv_value.specs.PartOfRow.{IsOfRow, held_bytes};
     ghost use Rattle.pgv_value.specs.ValueView.{Given, given_code};
 
     ghost Value = { Given };

@@ -20,7 +20,7 @@ use Rattle.pgv_wire.specs.Given.{Given, zeros, given_by, given_none, given_in, p
 use Rattle.pgv_wire.specs.History.{Call, last_filling, after, added_in, blanks}
 use Rattle.pgv_wire.specs.MainSentence.{ComeBackIn, MainSentence}
 use Rattle.pgv_codec.specs.Encoding.{Encoding, Image, null_image, image_of, frame_of}
-use Rattle.pgv_wire.specs.Parts.{AreFrames, part_in, parts_in}
+use Rattle.pgv_wire.specs.ArgumentParts.{AreFrames, part_in, parts_in}
 use Rattle.pgv_codec.specs.Writing.{written_part}
 use Rattle.pgv_wire.proofs.Framed.{framed-left}
 use Rattle.pgv_wire.proofs.Histories.{left_told, only_added, history_told}

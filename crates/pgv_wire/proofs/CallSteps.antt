@@ -5,7 +5,7 @@ use Rattle.pgv_buf.specs.Tokens.{Token, blank}
 use Rattle.pgv_value.specs.Outcome.{Outcome, ok_of}
 use Rattle.pgv_value.specs.declared.error.CodecError.{CodecError}
 use Rattle.pgv_wire.specs.Arguments.{Argument, filled_arguments}
-use Rattle.pgv_wire.specs.Each.{argument_by, added_by, accepted}
+use Rattle.pgv_wire.specs.EachAddition.{argument_by, added_by, accepted}
 use Rattle.pgv_wire.specs.History.{Call, adds, fills, is_refused, after}
 use Rattle.pgv_wire.specs.MainSentence.{call_by, call_of, calls_of, AdditionIsAStep, RefusalIsAStep, EachOutcomeIsAStep, CallsAreJoined}
 

@@ -5,7 +5,7 @@ use Rattle.pgv_types.specs.Ty.{Ty}
 use Rattle.pgv_buf.specs.Tokens.{Token}
 use Rattle.pgv_wire.specs.Arguments.{Argument, Adds}
 use Rattle.pgv_value.specs.Outcome.{Outcome, ok_of}
-use Rattle.pgv_wire.specs.Each.{Answered, EachOutcome, IsOutcome, AreOutcomes, argument_by, added_by, accepted}
+use Rattle.pgv_wire.specs.EachAddition.{Answered, EachOutcome, IsOutcome, AreOutcomes, argument_by, added_by, accepted}
 
 pub not_err : {A E : Type 0} (r : Result A E) (e : E) → IsOk r → r ≡ Err e → ⊥
 not_err (Ok x) e k h = absurd cc

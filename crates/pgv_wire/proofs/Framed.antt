@@ -13,7 +13,7 @@ use Rattle.pgv_wire.specs.Arguments.{Argument, Framed, framed, all_tokens, fille
 use Rattle.pgv_wire.specs.History.{blanks, LastFilling, with_added, with_filled, left_by, joined_frames, LeftBySome}
 use Rattle.pgv_codec.specs.Encoding.{Encoding, Image, frame_of, frame}
 use Rattle.pgv_codec.specs.BackParts.{frame_parts}
-use Rattle.pgv_wire.specs.Parts.{AreFrames, OfImages}
+use Rattle.pgv_wire.specs.ArgumentParts.{AreFrames, OfImages}
 
 pub framed-filled : (args : List Argument) (ps : List Ty) (os : List Oid) → framed (filled_arguments args ps os) ≡ framed args
 framed-filled [] ps os = refl

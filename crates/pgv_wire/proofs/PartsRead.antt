@@ -12,7 +12,7 @@ use Rattle.pgv_value.proofs.Outcomes.{answer_is}
 use Rattle.pgv_wire.specs.Arguments.{Argument, Framed, framed, all_tokens, filled_frame, filled_arguments}
 use Rattle.pgv_codec.specs.Writing.{write}
 use Rattle.pgv_codec.specs.Encoding.{Image, null_image, image_of, frame_of}
-use Rattle.pgv_wire.specs.Parts.{ReadAs, AreFrames, OfImages, AllRead, part_in, parts_in, written_parts}
+use Rattle.pgv_wire.specs.ArgumentParts.{ReadAs, AreFrames, OfImages, AllRead, part_in, parts_in, written_parts}
 use Rattle.pgv_codec.specs.Writing.{written_part, image_holes}
 use Rattle.pgv_wire.proofs.ArgumentLists.{shown-frame}
 use Rattle.pgv_buf.proofs.Layouts.{width-plain}

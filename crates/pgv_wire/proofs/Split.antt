@@ -8,7 +8,7 @@ use Rattle.pgv_wire.specs.Arguments.{Argument, framed, all_tokens, types_in}
 use Rattle.pgv_codec.specs.Encoding.{Image, null_image, image_of, frame_of}
 use Rattle.pgv_codec.specs.BackParts.{image_parts}
 use Rattle.pgv_value.proofs.Outcomes.{answer_is}
-use Rattle.pgv_wire.specs.Parts.{AreFrames}
+use Rattle.pgv_wire.specs.ArgumentParts.{AreFrames}
 use Rattle.pgv_wire.specs.Split.{as_wide, after_wide, bytes_by_length, frame_width, split}
 use Rattle.pgv_buf.proofs.Layouts.{width-plain}
 

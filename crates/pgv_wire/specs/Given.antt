@@ -15,7 +15,7 @@ use Rattle.pgv_wire.specs.Arguments.{Framed, all_tokens}
 use Rattle.pgv_codec.specs.Back.{AreOids}
 use Rattle.pgv_wire.specs.History.{Call, LastFilling, last_filling, after, added_in}
 use Rattle.pgv_codec.specs.Encoding.{Encoding, Image, frame}
-use Rattle.pgv_wire.specs.Parts.{AreFrames, ReadAs}
+use Rattle.pgv_wire.specs.ArgumentParts.{AreFrames, ReadAs}
 use Rattle.pgv_codec.specs.Writing.{written_part}
 
 pub record Given : Type 0 where

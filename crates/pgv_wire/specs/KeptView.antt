@@ -6,7 +6,7 @@ use Rattle.pgv_buf.specs.Tokens.{Cell}
 use Rattle.pgv_wire.specs.Arguments.{Argument, all_tokens, types_in, counts_in}
 use Rattle.pgv_wire.specs.Counts.{AreCounts}
 use Rattle.pgv_wire.specs.History.{LeftBySome}
-use Rattle.pgv_wire.specs.Parts.{OfImages}
+use Rattle.pgv_wire.specs.ArgumentParts.{OfImages}
 use Rattle.pgv_wire.specs.Split.{split}
 use Rattle.pgv_wire.specs.declared.arguments.PgArguments.TheInside.{Inside}
 

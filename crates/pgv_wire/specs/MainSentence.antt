@@ -20,10 +20,10 @@ use Rattle.pgv_value.specs.declared.value.PgValueFormat.TheVariants.{Binary}
 use Rattle.pgv_codec.specs.Back.{AreOids}
 use Rattle.pgv_codec.specs.Encoding.{Encoding, Image, frame, value_type}
 use Rattle.pgv_wire.specs.Arguments.{Argument, Framed, Added, argument_frame, all_tokens, filled_arguments}
-use Rattle.pgv_wire.specs.Each.{Answered, accepted}
+use Rattle.pgv_wire.specs.EachAddition.{Answered, accepted}
 use Rattle.pgv_wire.specs.Given.{Given, given_in}
 use Rattle.pgv_wire.specs.History.{Call, adds, fills, is_refused, added_in, after, bytes_by, last_filling}
-use Rattle.pgv_wire.specs.Parts.{AreFrames, ReadAs}
+use Rattle.pgv_wire.specs.ArgumentParts.{AreFrames, ReadAs}
 
 -- ---- steps
 

@@ -5,10 +5,10 @@ ghost use Rattle.pgv_buf.specs.Tokens.{shown, hole_count, hole_types_of};
 ghost use Rattle.pgv_value.specs.declared.error.CodecError.TheVariants.{Memory, ParameterCount, HoleCount};
 ghost use Rattle.pgv_wire.specs.Arguments.{types_in, all_tokens, Adds, argument_frame, filled_arguments, framed, early};
 ghost use Rattle.pgv_wire.specs.Counts.{AreCounts};
-ghost use Rattle.pgv_wire.specs.Each.{AreOutcomes, accepted};
+ghost use Rattle.pgv_wire.specs.EachAddition.{AreOutcomes, accepted};
 ghost use Rattle.pgv_wire.specs.History.{WrittenEarly};
 ghost use Rattle.pgv_codec.specs.Encoding.{value_type};
-ghost use Rattle.pgv_wire.specs.Parts.{OfImages};
+ghost use Rattle.pgv_wire.specs.ArgumentParts.{OfImages};
 
 use pgv_codec::{Encode, PgArgumentBuffer, Type, type_of_value};
 use pgv_types::{Oid, PgTypeInfo};
@@ -97,6 +97,7 @@ impl PgArguments {
     /// others with zeros for holes and defaults for slots. That they are the last filling's is what
     /// [`apply_patches`](PgArguments::apply_patches) and [`laws::history`](crate::laws::history) say;
     /// [`laws::arguments_read`](crate::laws::arguments_read) says what reading the frames gives.
+    #[tactic(auto, using(crate::proofs::Histories::written_early, crate::proofs::ArgumentLists::held))]
     pub fn buffer(&self) -> &PgArgumentBuffer
         ensures frames { result.now ≡ all_tokens self.now }
         ensures images { OfImages self.now }

@@ -12,7 +12,7 @@ ghost use Rattle.pgv_wire.specs.Given.{ArgumentReadsBack, given_in, parts_given}
 ghost use Rattle.pgv_wire.specs.History.{Call, after, last_filling, bytes_by, added_in, joined_frames, framed_types, lengths_in, ArePlain, joined_bytes};
 ghost use Rattle.pgv_wire.specs.MainSentence.{MainSentence, AdditionIsAStep, RefusalIsAStep, UnchangedIsAStep, EachAdditionIsAStep, FillingIsAStep, CallsAreJoined};
 ghost use Rattle.pgv_codec.specs.Encoding.{Image, frame_of};
-ghost use Rattle.pgv_wire.specs.Parts.{ReadAs, AreFrames, AllRead, parts_in, written_parts};
+ghost use Rattle.pgv_wire.specs.ArgumentParts.{ReadAs, AreFrames, AllRead, parts_in, written_parts};
 
 use crate::arguments::PgArguments;
 use pgv_codec::{Encode, ReadBack, Type};
@@ -114,6 +114,7 @@ pub fn frames_read()
 /// [`PgValueRef::get`](crate::PgValueRef::get) does, they give one part for each argument and leave nothing.
 ///
 /// A part is null if its image is null, and else what the image shows. It holds whatever was added, refused and filled.
+#[tactic(auto, using(crate::proofs::PartsRead::all_read))]
 pub fn arguments_read(arguments: &PgArguments)
     ensures { AllRead arguments.now }
 {

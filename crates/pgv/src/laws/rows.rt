@@ -15,7 +15,7 @@ ghost use Rattle.pgv_codec.specs.ArrayGrammar.{parse_array, parse_sized};
 ghost use Rattle.pgv_codec.specs.Encoding.{array_image, option_encoding, plainly, sized_image, writes};
 ghost use Rattle.pgv_codec.specs.Nullable.{nullable};
 ghost use Rattle.pgv_codec.specs.TypeRow.{HasArrayType, HasType, HasTypes, IsCodecRow, IsReadAs, IsWrittenAs};
-ghost use Rattle.pgv_codec.specs.ScalarBinary.{bool_image, signed_image, unsigned_image, text_image, uuid_image, is_text, is_text_array};
+ghost use Rattle.pgv_codec.specs.ScalarImage.{bool_image, signed_image, unsigned_image, text_image, uuid_image, is_text, is_text_array};
 
 use pgv_codec::{Decode, Encode, PgHasArrayType, Plain, ReadBack, Type};
 use pgv_types::Oid;

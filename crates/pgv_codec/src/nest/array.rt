@@ -1,7 +1,7 @@
 //! The heads of arrays in binary (PostgreSQL, "Arrays"; array_send).
 
 ghost use Rattle.std.specs.Prelude.{◌≤◌, length, IfSome, option_map};
-ghost use Rattle.pgv_types.specs.Parts.{ref_type};
+ghost use Rattle.pgv_types.specs.LentParts.{ref_type};
 ghost use Rattle.pgv_value.specs.Outcome.{Gives, copied_type};
 ghost use Rattle.pgv_value.specs.Parsed.{GivesFront, GivesOr};
 ghost use Rattle.pgv_value.specs.declared.error.CodecError.TheVariants.{ElementType};

@@ -1,7 +1,7 @@
 //! Truth values (PostgreSQL, "Boolean Type"): one byte, 1 or 0.
 
 ghost use Rattle.pgv_types.specs.Ty.{builtin};
-ghost use Rattle.pgv_codec.specs.ScalarBinary.{bool_image};
+ghost use Rattle.pgv_codec.specs.ScalarImage.{bool_image};
 ghost use Rattle.std.specs.Prelude.{Bool, refl};
 ghost use Rattle.pgv_value.specs.Outcome.{without_memory};
 ghost use Rattle.pgv_value.specs.ScalarGrammar.{parse_bool};

@@ -2,7 +2,7 @@
 
 ghost use Rattle.pgv_types.specs.Ty.{builtin};
 ghost use Rattle.std.specs.Int.{w32};
-ghost use Rattle.pgv_codec.specs.ScalarBinary.{unsigned_image};
+ghost use Rattle.pgv_codec.specs.ScalarImage.{unsigned_image};
 ghost use Rattle.std.specs.Prelude.{ℕ, refl};
 ghost use Rattle.pgv_value.specs.Outcome.{without_memory};
 ghost use Rattle.pgv_value.specs.ScalarGrammar.{parse_oid};

@@ -77,16 +77,11 @@ impl<'a> PgRecordEncoder<'a> {
         Ok(())
     }
 
-    /// Ends the record. Each accepted field has put the count in its place already.
+    /// Ends the record, and with it the borrow of the buffer. It writes nothing: each accepted field has put the count
+    /// in its place already.
     pub fn finish(self)
         ensures { self.exit.0.now ≡ so_far (written self.entry) }
-    {
-        let PgRecordEncoder {
-            out: _,
-            mark: _,
-            count: _,
-        } = self;
-    }
+    {}
 }
 
 /// One field: its type, and its frame.

@@ -1,7 +1,7 @@
 //! Texts (PostgreSQL, "Character Types"): their bytes in UTF-8.
 
 ghost use Rattle.std.specs.Prelude.{◌≡◌, ◌≢◌, ℕ, List, [], refl, string_bytes, MatchResult};
-ghost use Rattle.pgv_codec.specs.ScalarBinary.{text_image};
+ghost use Rattle.pgv_codec.specs.ScalarImage.{text_image};
 ghost use Rattle.pgv_codec.specs.Encoding.{plainly, writes};
 
 use super::text::encode_text;

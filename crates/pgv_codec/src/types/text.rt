@@ -4,7 +4,7 @@ ghost use Rattle.std.specs.Prelude.{◌≡◌, OnErr};
 ghost use Rattle.pgv_types.specs.Ty.{builtin};
 ghost use Rattle.pgv_codec.specs.Appending.{Encodes};
 ghost use Rattle.pgv_codec.specs.Encoding.{writes};
-ghost use Rattle.pgv_codec.specs.ScalarBinary as spec;
+ghost use Rattle.pgv_codec.specs.ScalarImage as spec;
 
 use crate::buffer::{IsNull, PgArgumentBuffer};
 use crate::traits::{PgHasArrayType, Type};

@@ -1,7 +1,7 @@
 //! UUIDs (PostgreSQL, "UUID Type"): their sixteen bytes.
 
 ghost use Rattle.pgv_types.specs.Ty.{builtin};
-ghost use Rattle.pgv_codec.specs.ScalarBinary.{uuid_image};
+ghost use Rattle.pgv_codec.specs.ScalarImage.{uuid_image};
 ghost use Rattle.std.specs.Prelude.{ℕ, List, refl};
 ghost use Rattle.pgv_value.specs.Outcome.{without_memory};
 ghost use Rattle.pgv_value.specs.ScalarGrammar.{parse_uuid};

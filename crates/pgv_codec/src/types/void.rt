@@ -10,7 +10,7 @@ use std::alloc::Global;
 /// `void` (OID 2278), read under `void` and `record`. It is never written.
 impl Type for () {
     ghost use Rattle.pgv_types.specs.Ty.{builtin};
-    ghost use Rattle.pgv_codec.specs.ScalarBinary.{is_void_or_record};
+    ghost use Rattle.pgv_codec.specs.ScalarImage.{is_void_or_record};
 
     ghost info = { builtin 2278 };
 

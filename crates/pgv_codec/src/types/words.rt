@@ -7,7 +7,7 @@ ghost use Rattle.pgv_value.specs.declared.error.CodecError.TheVariants.{Memory};
 ghost use Rattle.pgv_codec.specs.Appending.{Extends};
 ghost use Rattle.pgv_codec.specs.AtOnce.{AreFrames, WritesFirst, word_frame as framed};
 ghost use Rattle.pgv_codec.specs.Encoding.{Encoding, frame, plainly, writes};
-ghost use Rattle.pgv_codec.specs.ScalarBinary.{signed_image, unsigned_image};
+ghost use Rattle.pgv_codec.specs.ScalarImage.{signed_image, unsigned_image};
 
 use crate::buffer::PgArgumentBuffer;
 use pgv_types::Oid;

@@ -4,7 +4,7 @@ ghost use Rattle.std.specs.Prelude.{ℕ, List, refl};
 ghost use Rattle.pgv_types.specs.Ty.{builtin};
 ghost use Rattle.pgv_types.specs.Relations.{softly};
 ghost use Rattle.pgv_codec.specs.Encoding.{plainly, writes};
-ghost use Rattle.pgv_codec.specs.ScalarBinary.{text_image as plain_image};
+ghost use Rattle.pgv_codec.specs.ScalarImage.{text_image as plain_image};
 ghost use Rattle.pgv_more.specs.ByteaText.{parse_bytea};
 
 use super::{PgBytea, copy_of, of_text};

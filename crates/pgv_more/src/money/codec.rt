@@ -4,7 +4,7 @@ ghost use Rattle.std.specs.Prelude.{ℤ, refl};
 ghost use Rattle.std.specs.Int.{w64};
 ghost use Rattle.pgv_types.specs.Ty.{builtin};
 ghost use Rattle.pgv_types.specs.Relations.{softly};
-ghost use Rattle.pgv_codec.specs.ScalarBinary.{signed_image};
+ghost use Rattle.pgv_codec.specs.ScalarImage.{signed_image};
 ghost use Rattle.pgv_codec.specs.Encoding.{plainly, writes};
 ghost use Rattle.pgv_more.specs.MoneyCodec.{parse_money};
 ghost use Rattle.pgv_value.specs.Outcome.{without_memory};

@@ -4,7 +4,7 @@ use Rattle.pgv_copy.specs.CopyPieces.{Advances}
 use Rattle.pgv_copy.specs.declared.pieces.PgCopyNext.{PgCopyNext}
 use Rattle.pgv_copy.specs.declared.pieces.PgCopyNext.TheVariants.{Row}
 use Rattle.pgquery.specs.Copying.{copied_line}
-use Rattle.pgquery.proofs.Copies.{one_more_line, one_more_row, row_there}
+use Rattle.pgquery.proofs.CopyAnswers.{one_more_line, one_more_row, row_there}
 use Rattle.pgquery.proofs.copied.push_rows.Goals as goal
 
 pub loop-preserved : goal.loop-preserved

@@ -4,7 +4,7 @@ use Rattle.std.proofs.KnownBytes.{Appends-nil, Appends-trans}
 use Rattle.std.proofs.lemmas.Bool.{ne_eqb}
 use Rattle.pgv_copy.specs.CopyPieces.{nothing_came}
 use Rattle.pgquery.specs.Incoming.{Incoming}
-use Rattle.pgquery.proofs.Copies.{one_more_answer, ready_copies_nothing}
+use Rattle.pgquery.proofs.CopyAnswers.{one_more_answer, ready_copies_nothing}
 use Rattle.pgquery.proofs.Talking.{none_more, silent, talks_on, up_to_ready}
 use Rattle.pgquery.proofs.copied.show_answers.Goals as goal
 

@@ -1,5 +1,5 @@
 use Rattle.std.proofs.Common.{◌≡◌, ◌++◌, take}
-use Rattle.pgquery.specs.Lines.{escaped}
+use Rattle.pgquery.specs.RowLines.{escaped}
 use Rattle.pgquery.proofs.show.push_escaped.Given as goal
 
 abbrev pub invariant-loop-byte : goal.invariant-loop-byte

@@ -1,6 +1,6 @@
 use Rattle.std.proofs.Common.{ℕ, List, ◌++◌, sym, ap, ◌∙◌}
-use Rattle.pgquery.specs.Lines.{string_of}
-use Rattle.pgquery.proofs.Values.{null_in_object, text_in_object}
+use Rattle.pgquery.specs.RowLines.{string_of}
+use Rattle.pgquery.proofs.ShownValues.{null_in_object, text_in_object}
 use Rattle.pgquery.proofs.show.push_json_value.Goals as goal
 
 pub returns-then-is_null : goal.returns-then-is_null

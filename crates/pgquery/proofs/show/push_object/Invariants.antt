@@ -1,5 +1,5 @@
 use Rattle.std.proofs.Common.{◌≡◌, ◌++◌, ◌∷◌}
-use Rattle.pgquery.specs.Lines.{members}
+use Rattle.pgquery.specs.RowLines.{members}
 use Rattle.pgquery.proofs.show.push_object.Given as goal
 
 -- the columns so far

@@ -1,5 +1,5 @@
 use Rattle.std.proofs.Common.{◌≡◌, ◌++◌, take}
-use Rattle.pgquery.specs.Lines.{json_escaped}
+use Rattle.pgquery.specs.RowLines.{json_escaped}
 use Rattle.pgquery.proofs.show.push_string_bytes.Given as goal
 
 abbrev pub invariant-loop-byte : goal.invariant-loop-byte

@@ -1,6 +1,6 @@
 use Rattle.std.proofs.Common.{ℕ, List, ◌++◌, sym, ap, ◌∙◌}
-use Rattle.pgquery.specs.Lines.{escaped}
-use Rattle.pgquery.proofs.Values.{null_shown, text_shown}
+use Rattle.pgquery.specs.RowLines.{escaped}
+use Rattle.pgquery.proofs.ShownValues.{null_shown, text_shown}
 use Rattle.pgquery.proofs.show.push_value.Goals as goal
 
 pub returns-then-is_null : goal.returns-then-is_null

@@ -1,5 +1,5 @@
 use Rattle.std.proofs.Common.{◌≡◌, ◌++◌}
-use Rattle.pgquery.specs.Lines.{values_shown}
+use Rattle.pgquery.specs.RowLines.{values_shown}
 use Rattle.pgquery.proofs.show.push_values.Given as goal
 
 -- the values so far

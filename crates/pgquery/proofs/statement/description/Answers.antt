@@ -2,7 +2,7 @@ use Rattle.std.proofs.Common.{◌++◌, ◌∷◌, [], ap, sym, ◌∙◌}
 use Rattle.std.proofs.lemmas.Bool.{ne_eqb}
 use Rattle.pgquery.specs.Incoming.{Incoming}
 use Rattle.pgquery.specs.Statement.{described}
-use Rattle.pgquery.proofs.Rows.{description_more, ready_describes_nothing}
+use Rattle.pgquery.proofs.AnsweredRows.{description_more, ready_describes_nothing}
 use Rattle.pgquery.proofs.Talking.{none_more, silent, talks_on, up_to_ready}
 use Rattle.pgquery.proofs.statement.description.Goals as goal
 

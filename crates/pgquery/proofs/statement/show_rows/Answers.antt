@@ -3,7 +3,7 @@ use Rattle.std.specs.Io.KnownBytes.{Appends}
 use Rattle.std.proofs.KnownBytes.{Appends-nil, Appends-trans}
 use Rattle.std.proofs.lemmas.Bool.{ne_eqb}
 use Rattle.pgquery.specs.Incoming.{Incoming}
-use Rattle.pgquery.proofs.Rows.{ready_shows_nothing, shows_more}
+use Rattle.pgquery.proofs.AnsweredRows.{ready_shows_nothing, shows_more}
 use Rattle.pgquery.proofs.Talking.{none_more, silent, talks_on, up_to_ready}
 use Rattle.pgquery.proofs.statement.show_rows.Goals as goal
 

@@ -1,7 +1,7 @@
 use Rattle.std.proofs.Common.{ℕ, List, []}
 use Rattle.std.specs.Io.KnownBytes.{Appends}
 use Rattle.pgquery.specs.Incoming.{Incoming}
-use Rattle.pgquery.specs.Lines.{ShowsRows}
+use Rattle.pgquery.specs.RowLines.{ShowsRows}
 use Rattle.pgquery.specs.Talks.{Talks}
 use Rattle.pgquery.proofs.Talking.{NoneReady}
 use Rattle.pgquery.proofs.statement.show_rows.Given as goal

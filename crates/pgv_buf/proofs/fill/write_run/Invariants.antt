@@ -1,7 +1,7 @@
 use Rattle.std.proofs.Common.{◌≡◌, ◌+◌, drop, length, sum}
 use Rattle.pgv_buf.specs.Patches.{written, Within}
 use Rattle.pgv_buf.specs.Gaps.{places_after}
-use Rattle.pgv_buf.proofs.Runs.{run_choices}
+use Rattle.pgv_buf.proofs.WrittenRuns.{run_choices}
 use Rattle.pgv_buf.proofs.fill.write_run.Given as goal
 
 abbrev pub invariant-loop-i : goal.invariant-loop-i

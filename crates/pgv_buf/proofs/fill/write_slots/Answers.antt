@@ -7,7 +7,7 @@ use Rattle.pgv_buf.specs.Fill.{slot_types}
 use Rattle.pgv_buf.specs.Patches.{written, Within, choices}
 use Rattle.pgv_buf.specs.Gaps.{places_after}
 use Rattle.pgv_buf.proofs.Gaps.{sum_here, after-split, length-after}
-use Rattle.pgv_buf.proofs.Runs.{run_choices, types_here, within_run, told_run}
+use Rattle.pgv_buf.proofs.WrittenRuns.{run_choices, types_here, within_run, told_run}
 use Rattle.pgv_buf.proofs.fill.write_slots.Goals as goal
 
 -- a run of n slots is n kept slots

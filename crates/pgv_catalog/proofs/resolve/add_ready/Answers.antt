@@ -3,7 +3,7 @@ use Rattle.std.proofs.lemmas.List.{take_more}
 use Rattle.pgv_catalog.specs.Entries.{Entry, with_oid}
 use Rattle.pgv_catalog.specs.Rows.{IsIn, entry_in}
 use Rattle.pgv_catalog.specs.declared.rows.PgTypeRow.{PgTypeRow}
-use Rattle.pgv_catalog.proofs.Made.{all_more, one_more_made}
+use Rattle.pgv_catalog.proofs.MadeTypes.{all_more, one_more_made}
 use Rattle.pgv_catalog.proofs.Waiting.{entry_oid, is_there, one_made}
 use Rattle.pgv_catalog.proofs.resolve.add_ready.Goals as goal
 use Rattle.pgv_catalog.proofs.resolve.add_ready.Goals.{then-is_none+in_ok-made+in-Some+in_ok-push, then-is_none+in_ok-made+in_default, else-is_none}

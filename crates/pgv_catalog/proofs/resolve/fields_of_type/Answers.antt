@@ -5,7 +5,7 @@ use Rattle.std.specs.Rc.{rc_str_bytes}
 use Rattle.pgv_types.specs.Ty.{Ty}
 use Rattle.pgv_catalog.specs.Rows.{named_type, part_in}
 use Rattle.pgv_catalog.specs.declared.rows.PgFieldRow.{PgFieldRow}
-use Rattle.pgv_catalog.proofs.Made.{one_field, other_type}
+use Rattle.pgv_catalog.proofs.MadeTypes.{one_field, other_type}
 use Rattle.pgv_catalog.proofs.resolve.fields_of_type.Goals as goal
 use Rattle.pgv_catalog.proofs.resolve.fields_of_type.Goals.{then-eq+in_ok-field_type+in-Some+in_ok-from_str+in_ok-push, else-eq}
 

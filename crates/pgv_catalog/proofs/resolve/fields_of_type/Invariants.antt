@@ -1,6 +1,6 @@
 use Rattle.std.proofs.Common.{◌≡◌, drop, map}
 use Rattle.pgv_catalog.specs.Rows.{fields_in, named_type}
-use Rattle.pgv_catalog.proofs.Made.{with_before}
+use Rattle.pgv_catalog.proofs.MadeTypes.{with_before}
 use Rattle.pgv_catalog.proofs.resolve.fields_of_type.Given as goal
 
 -- the fields so far, before those of the rows that are left, are all fields

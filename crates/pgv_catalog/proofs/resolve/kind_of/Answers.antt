@@ -2,7 +2,7 @@ use Rattle.std.proofs.Common.{ap}
 use Rattle.std.specs.Prelude.{option_map}
 use Rattle.pgv_types.specs.Ty.{composite}
 use Rattle.pgv_catalog.specs.Rows.{fields_from}
-use Rattle.pgv_catalog.proofs.Made.{Found, fields_are}
+use Rattle.pgv_catalog.proofs.MadeTypes.{Found, fields_are}
 use Rattle.pgv_catalog.proofs.resolve.kind_of.Goals as goal
 
 pub returns-in-Some-4 : goal.returns-in-Some-4

@@ -5,7 +5,7 @@ ghost use Rattle.std.specs.Prelude.{ℤ, refl};
 ghost use Rattle.pgv_types.specs.Ty.{builtin};
 ghost use Rattle.pgv_value.specs.Outcome.{without_memory};
 ghost use Rattle.pgv_value.specs.ScalarGrammar.{parse_char};
-ghost use Rattle.pgv_codec.specs.ScalarBinary.{signed_image};
+ghost use Rattle.pgv_codec.specs.ScalarImage.{signed_image};
 ghost use Rattle.pgv_codec.specs.Encoding.{plainly, writes};
 
 use crate::buffer::{IsNull, PgArgumentBuffer};

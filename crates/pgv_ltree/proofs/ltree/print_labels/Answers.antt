@@ -1,6 +1,6 @@
 use Rattle.std.proofs.Common.{[], ◌∷◌, get_or}
 use Rattle.pgv_ltree.specs.Labels.{is_label}
-use Rattle.pgv_ltree.proofs.Written.{more_pass}
+use Rattle.pgv_ltree.proofs.WrittenTrees.{more_pass}
 use Rattle.pgv_ltree.proofs.Printed.{one_more, taken_as, taken_three}
 use Rattle.pgv_ltree.proofs.ltree.print_labels.Goals as goal
 

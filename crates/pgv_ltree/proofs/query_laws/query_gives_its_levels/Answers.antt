@@ -4,7 +4,7 @@ use Rattle.std.specs.Vec.Iter.{into_iter_items, into_iter_len, into_iter_steps}
 use Rattle.std.proofs.lemmas.Iterator.Adapters.{YieldsList-from_vec}
 use Rattle.std.proofs.lemmas.List.{length-map}
 use Rattle.pgv_ltree.specs.LevelView.{level_of}
-use Rattle.pgv_ltree.proofs.Clones.{yields_seen}
+use Rattle.pgv_ltree.proofs.LevelClones.{yields_seen}
 use Rattle.pgv_ltree.proofs.query_laws.query_gives_its_levels.Goals as goal
 
 pub returns : goal.returns

@@ -1,4 +1,4 @@
-use Rattle.pgv_ltree.proofs.Marks.{boundary}
+use Rattle.pgv_ltree.proofs.VariantMarks.{boundary}
 use Rattle.pgv_ltree.proofs.variant.split_marks.Goals as goal
 
 pub split_at-requires : goal.split_at-requires

@@ -1,6 +1,6 @@
 use Rattle.std.proofs.Common.{◌≡◌, length}
 use Rattle.std.specs.Prelude.{option_map}
-use Rattle.pgv_message.specs.Rows.{or_else, after_last_space}
+use Rattle.pgv_message.specs.RowCounts.{or_else, after_last_space}
 use Rattle.pgv_message.proofs.command_complete.last_word.Given as goal
 
 abbrev pub invariant-loop-byte : goal.invariant-loop-byte

@@ -1,5 +1,5 @@
 use Rattle.std.proofs.Common.{arith}
-use Rattle.pgv_more.proofs.Bytes.{first_is}
+use Rattle.pgv_more.proofs.BitsOfByte.{first_is}
 use Rattle.pgv_more.proofs.bit_vec.first_of_byte.Goals as goal
 
 pub returns : goal.returns

@@ -1,4 +1,4 @@
-use Rattle.pgv_more.proofs.Bytes.{bit_set, bit_unset}
+use Rattle.pgv_more.proofs.BitsOfByte.{bit_set, bit_unset}
 use Rattle.pgv_more.proofs.bit_vec.with_bit.Goals as goal
 
 pub returns-then-bit : goal.returns-then-bit

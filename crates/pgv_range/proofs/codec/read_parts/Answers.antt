@@ -2,13 +2,13 @@ use Rattle.std.proofs.Common.{◌≡◌, Bool, List, drop, Ok, ap, subst}
 use Rattle.std.proofs.lemmas.Result.{err_from_is_err_and}
 use Rattle.std.specs.declared.ops.Bound.{Bound}
 use Rattle.pgv_types.specs.Ty.{Ty}
-use Rattle.pgv_text.specs.NestText.{Nest}
+use Rattle.pgv_text.specs.NestPieces.{Nest}
 use Rattle.pgv_text.specs.PartsView.{copies, nest}
 use Rattle.pgv_value.specs.FrameBinary.{Part}
 use Rattle.pgv_value.specs.Outcome.{Outcome, Fails}
 use Rattle.pgv_value.specs.ValueView.{Given}
 use Rattle.pgv_value.specs.declared.error.CodecError.{CodecError}
-use Rattle.pgv_codec.proofs.Outcomes.{fails_here, fails_then}
+use Rattle.pgv_codec.proofs.StepOutcomes.{fails_here, fails_then}
 use Rattle.pgv_range.specs.RangeGrammar.{bounds_in_text, next_bound}
 use Rattle.pgv_range.proofs.codec.read_parts.Goals as goal
 

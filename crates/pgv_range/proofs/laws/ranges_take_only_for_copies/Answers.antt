@@ -1,4 +1,4 @@
-use Rattle.pgv_range.proofs.Copies.{takes_only_for_copies}
+use Rattle.pgv_range.proofs.BoundCopies.{takes_only_for_copies}
 use Rattle.pgv_range.proofs.laws.ranges_take_only_for_copies.Goals as goal
 
 pub returns : goal.returns

@@ -1,6 +1,6 @@
 use Rattle.std.proofs.Common.{rules}
 use Rattle.std.specs.Prelude.{Ok, None}
-use Rattle.pgv_session.proofs.Spellings.{meant}
+use Rattle.pgv_session.proofs.LineSpellings.{meant}
 use Rattle.pgv_session.proofs.line.parse.Goals as goal
 
 pub returns-then-is : goal.returns-then-is

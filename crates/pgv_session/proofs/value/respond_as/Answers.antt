@@ -1,7 +1,7 @@
 use Rattle.std.proofs.Common.{◌≡◌, None, Ok, arith, refl, rules}
 use Rattle.pgv_buf.specs.Tokens.{bytes, be4}
 use Rattle.pgv_codec.specs.Encoding.{frame, option_encoding}
-use Rattle.pgv_codec.proofs.Frames.{null_frame}
+use Rattle.pgv_codec.proofs.OneFrame.{null_frame}
 use Rattle.pgv_session.proofs.value.respond_as.Goals as goal
 
 -- null has a frame

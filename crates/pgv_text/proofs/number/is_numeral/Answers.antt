@@ -1,6 +1,6 @@
 use Rattle.std.proofs.Common.{◌<◌, length, arith}
 use Rattle.std.proofs.lemmas.Str.Parse.{digit_at}
-use Rattle.pgv_text.proofs.Numbers.{by_index}
+use Rattle.pgv_text.proofs.ParsedNumbers.{by_index}
 use Rattle.pgv_text.proofs.number.is_numeral.Goals as goal
 
 pub returns-then-not-is_empty : goal.returns-then-not-is_empty

@@ -1,5 +1,5 @@
 use Rattle.std.proofs.Common.{Ok, Err}
-use Rattle.pgv_text.proofs.Numbers.{read_ok, fault_read, computed}
+use Rattle.pgv_text.proofs.ParsedNumbers.{read_ok, fault_read, computed}
 use Rattle.pgv_text.proofs.number.number_of.Goals as goal
 
 pub returns-in-Ok : goal.returns-in-Ok

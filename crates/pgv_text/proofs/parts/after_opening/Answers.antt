@@ -1,6 +1,6 @@
 use Rattle.std.proofs.Common.{◌≤◌, length, arith}
 use Rattle.std.proofs.lemmas.Str.{IsCharBoundary-after_ascii}
-use Rattle.pgv_text.proofs.Classes.{opens_low}
+use Rattle.pgv_text.proofs.CharacterClasses.{opens_low}
 use Rattle.pgv_text.proofs.parts.after_opening.Goals as goal
 
 pub range_from-requires : goal.range_from-requires

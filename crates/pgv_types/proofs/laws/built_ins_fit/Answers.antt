@@ -1,4 +1,4 @@
-use Rattle.pgv_types.proofs.Rows.{rows_fit}
+use Rattle.pgv_types.proofs.TableRows.{rows_fit}
 use Rattle.pgv_types.proofs.laws.built_ins_fit.Goals as goal
 
 pub returns : goal.returns

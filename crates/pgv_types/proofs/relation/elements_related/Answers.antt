@@ -1,5 +1,5 @@
 use Rattle.std.proofs.Common.{ap, sym, ◌∙◌, option_map, arith}
-use Rattle.pgv_types.specs.Parts.{ref_type}
+use Rattle.pgv_types.specs.LentParts.{ref_type}
 use Rattle.pgv_types.proofs.Elements.{element_size}
 use Rattle.pgv_types.proofs.Related.{by_bases, when_open, by_names_first, by_names_second, by_elements}
 use Rattle.pgv_types.proofs.relation.elements_related.Goals as goal

@@ -1,6 +1,6 @@
 use Rattle.std.proofs.Common.{◌≡◌}
 use Rattle.pgv_types.specs.Facts.{type_size}
-use Rattle.pgv_types.specs.Parts.{ref_type, IsHeld}
+use Rattle.pgv_types.specs.LentParts.{ref_type, IsHeld}
 use Rattle.pgv_types.specs.Relations.{related, levels}
 use Rattle.pgv_types.proofs.relation.elements_related.Given as goal
 

@@ -1,6 +1,6 @@
 use Rattle.std.proofs.Common.{rules, ◌≡◌, ℕ, ◌-◌, drop, length, ap, sym, ◌∙◌}
 use Rattle.pgv_message.specs.Received.{Message, in_front, message_view, found}
-use Rattle.pgquery.proofs.Fronts.{comes, rest_place}
+use Rattle.pgquery.proofs.MessageFronts.{comes, rest_place}
 use Rattle.pgquery.proofs.inbox.Inbox.receive.Goals as goal
 
 pub returns-in-Some : goal.returns-in-Some

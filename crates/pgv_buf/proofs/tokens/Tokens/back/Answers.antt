@@ -1,7 +1,7 @@
 use Rattle.std.proofs.lemmas.List.{take-map}
 use Rattle.pgv_buf.specs.TokensView.{kept_of}
 use Rattle.pgv_buf.proofs.Layouts.{held, valid, tokens_are}
-use Rattle.pgv_buf.proofs.Steps.{cut_at, enough}
+use Rattle.pgv_buf.proofs.CellSteps.{cut_at, enough}
 use Rattle.pgv_buf.proofs.tokens.Tokens.back.Goals as goal
 
 pub truncate-requires-2 : goal.truncate-requires-2

@@ -1,5 +1,5 @@
 use Rattle.pgv_buf.proofs.Layouts.{valid, tokens_are}
-use Rattle.pgv_buf.proofs.Steps.{none_kept}
+use Rattle.pgv_buf.proofs.CellSteps.{none_kept}
 use Rattle.pgv_buf.proofs.tokens.Tokens.clear.Goals as goal
 
 pub invariant_of-self : goal.invariant_of-self

@@ -1,7 +1,7 @@
 use Rattle.std.proofs.Common.{◌++◌, ◌∙◌, sym, ap}
 use Rattle.pgv_buf.specs.Blank.{blank-bytes}
 use Rattle.pgv_buf.proofs.Layouts.{held, valid, tokens_are}
-use Rattle.pgv_buf.proofs.Steps.{bytes_joined}
+use Rattle.pgv_buf.proofs.CellSteps.{bytes_joined}
 use Rattle.pgv_buf.proofs.tokens.Tokens.extend_from_slice.Goals as goal
 
 pub invariant_of-self-2 : goal.invariant_of-self-2

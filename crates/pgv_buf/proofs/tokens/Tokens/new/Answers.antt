@@ -1,5 +1,5 @@
 use Rattle.pgv_buf.proofs.Layouts.{valid, tokens_are}
-use Rattle.pgv_buf.proofs.Steps.{none_kept}
+use Rattle.pgv_buf.proofs.CellSteps.{none_kept}
 use Rattle.pgv_buf.proofs.tokens.Tokens.new.Goals as goal
 
 pub invariant_of-result : goal.invariant_of-result

@@ -1,6 +1,6 @@
 use Rattle.std.proofs.Common.{[], ◌∷◌}
 use Rattle.pgv_buf.proofs.Layouts.{held, valid, tokens_are}
-use Rattle.pgv_buf.proofs.Steps.{bytes_joined}
+use Rattle.pgv_buf.proofs.CellSteps.{bytes_joined}
 use Rattle.pgv_buf.proofs.tokens.Tokens.push.Goals as goal
 
 pub invariant_of-self-2 : goal.invariant_of-self-2

@@ -3,7 +3,7 @@ use Rattle.pgv_buf.specs.Tokens.{new_hole}
 use Rattle.pgv_buf.specs.TokensView.{kept_of}
 use Rattle.pgv_buf.specs.Layout.{Represents}
 use Rattle.pgv_buf.proofs.Layouts.{held, valid, tokens_are}
-use Rattle.pgv_buf.proofs.Steps.{hole_joined, holes_before}
+use Rattle.pgv_buf.proofs.CellSteps.{hole_joined, holes_before}
 use Rattle.pgv_buf.proofs.tokens.Tokens.push_hole.Goals as goal
 
 pub push-requires : goal.push-requires

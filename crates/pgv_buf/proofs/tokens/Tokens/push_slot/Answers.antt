@@ -7,7 +7,7 @@ use Rattle.pgv_buf.specs.CasesView.{cases_of}
 use Rattle.pgv_buf.specs.TokensView.{kept_of}
 use Rattle.pgv_buf.specs.Layout.{Kept, Represents}
 use Rattle.pgv_buf.proofs.Layouts.{held, valid, tokens_are}
-use Rattle.pgv_buf.proofs.Steps.{slot_joined, slots_before}
+use Rattle.pgv_buf.proofs.CellSteps.{slot_joined, slots_before}
 use Rattle.pgv_buf.proofs.tokens.Tokens.push_slot.Goals as goal
 
 pub push-requires : goal.push-requires

@@ -1,7 +1,7 @@
 use Rattle.std.proofs.Common.{◌≡◌, ◌-◌, ◌++◌, [], refl, sym, ◌∙◌, ap, arith, inl, append-nil, append_assoc}
 use Rattle.pgv_buf.specs.Tokens.{bytes, be4, blank, fixed_bytes, tokens_width}
 use Rattle.pgv_buf.specs.Marks.{mark_of}
-use Rattle.pgv_codec.proofs.Frames.{null_frame, image_frame, long_frame, encoded_null, encoded_image, grown}
+use Rattle.pgv_codec.proofs.OneFrame.{null_frame, image_frame, long_frame, encoded_null, encoded_image, grown}
 use Rattle.pgv_codec.proofs.buffer.PgArgumentBuffer.encode_in_steps.Goals as goal
 
 pub put_u32-requires : goal.put_u32-requires

@@ -1,6 +1,6 @@
 use Rattle.std.proofs.Common.{◌++◌, length, refl, arith}
 use Rattle.pgv_buf.specs.Tokens.{bytes, be4}
-use Rattle.pgv_codec.proofs.Frames.{plain_frame}
+use Rattle.pgv_codec.proofs.OneFrame.{plain_frame}
 use Rattle.pgv_codec.specs.PlainBytes.{appended_parts}
 use Rattle.pgv_codec.proofs.buffer.PgArgumentBuffer.push_frame.Goals as goal
 

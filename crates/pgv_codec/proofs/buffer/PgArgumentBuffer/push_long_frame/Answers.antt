@@ -1,6 +1,6 @@
 use Rattle.std.proofs.Common.{◌∙◌, ◌++◌, ℕ, List, length, ap, arith}
 use Rattle.pgv_buf.specs.Tokens.{blank, bytes, be4}
-use Rattle.pgv_codec.proofs.Frames.{plain_frame}
+use Rattle.pgv_codec.proofs.OneFrame.{plain_frame}
 use Rattle.pgv_codec.specs.PlainBytes.{appended_parts}
 use Rattle.pgv_codec.proofs.buffer.PgArgumentBuffer.push_long_frame.Goals as goal
 

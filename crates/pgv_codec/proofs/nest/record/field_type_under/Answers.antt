@@ -1,5 +1,5 @@
 use Rattle.std.proofs.Common.{◌≡◌, ap, sym, ◌∙◌}
-use Rattle.pgv_types.specs.Parts.{kind_lent}
+use Rattle.pgv_types.specs.LentParts.{kind_lent}
 use Rattle.pgv_types.specs.Shown.{kind_of, fields_of}
 use Rattle.pgv_types.specs.Ty.{composite}
 use Rattle.pgv_codec.proofs.CompositeFields.{composite_type}

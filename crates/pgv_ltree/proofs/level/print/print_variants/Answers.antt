@@ -1,5 +1,5 @@
 use Rattle.pgv_ltree.proofs.Printed.{taken_three}
-use Rattle.pgv_ltree.proofs.Written.{more_pass}
+use Rattle.pgv_ltree.proofs.WrittenTrees.{more_pass}
 use Rattle.pgv_ltree.proofs.QueriesPrinted.{one_more}
 use Rattle.std.proofs.Common.{[], ◌∷◌, false, get_or}
 use Rattle.pgv_ltree.specs.Queries.{Variant, is_variant}

@@ -1,6 +1,6 @@
 use Rattle.std.proofs.Common.{◌≡◌, map}
 use Rattle.std.specs.Prelude.{Ok}
-use Rattle.pgv_ltree.specs.Each.{read_each}
+use Rattle.pgv_ltree.specs.TextsInTurn.{read_each}
 use Rattle.pgv_ltree.specs.LevelView.{level_of}
 use Rattle.pgv_ltree.specs.QueryRead.{level_read}
 use Rattle.pgv_ltree.proofs.lquery.PgLQuery.from_str.Given as goal

@@ -1,7 +1,7 @@
 use Rattle.std.proofs.Common.{◌∙◌, ap, inr, ℕ, List, map, refl, Bor}
 use Rattle.std.proofs.lemmas.List.{map_push}
 use Rattle.std.proofs.lemmas.Result.{err_from_is_err_and}
-use Rattle.pgv_ltree.specs.Each.{read_each}
+use Rattle.pgv_ltree.specs.TextsInTurn.{read_each}
 use Rattle.pgv_ltree.proofs.EachRead.{each-push}
 use Rattle.pgv_ltree.specs.LevelView.{level_of}
 use Rattle.pgv_ltree.specs.QueryRead.{level_read}

@@ -1,6 +1,6 @@
 use Rattle.std.proofs.Common.{◌∙◌}
 use Rattle.pgv_ltree.specs.LevelView.{level_of}
-use Rattle.pgv_ltree.proofs.Clones.{same_each}
+use Rattle.pgv_ltree.proofs.LevelClones.{same_each}
 use Rattle.pgv_ltree.proofs.lquery.PgLQueryClone.clone.Goals as goal
 
 pub returns : goal.returns

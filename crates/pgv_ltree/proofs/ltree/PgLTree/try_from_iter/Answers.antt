@@ -1,7 +1,7 @@
 use Rattle.std.proofs.Common.{◌∙◌, ap, inl, inr, map, sym, refl, string_bytes}
 use Rattle.std.proofs.lemmas.List.{map_push}
 use Rattle.std.proofs.lemmas.Result.{err_from_is_err_and}
-use Rattle.pgv_ltree.specs.Each.{read_each}
+use Rattle.pgv_ltree.specs.TextsInTurn.{read_each}
 use Rattle.pgv_ltree.specs.Labels.{label_read}
 use Rattle.pgv_ltree.proofs.EachRead.{each-push, read_is_label}
 use Rattle.pgv_ltree.proofs.ltree.PgLTree.try_from_iter.Goals as goal

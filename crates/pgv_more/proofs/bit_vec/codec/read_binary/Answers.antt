@@ -5,7 +5,7 @@ use Rattle.std.proofs.lemmas.Bool.Decides.{nat_tests}
 use Rattle.std.proofs.lemmas.Option.{same_Some}
 use Rattle.std.proofs.lemmas.Result.{err_from_is_err_and}
 use Rattle.pgv_value.specs.Outcome.{copied}
-use Rattle.pgv_value.specs.Steps.{number}
+use Rattle.pgv_value.specs.ReadingSteps.{number}
 use Rattle.pgv_more.specs.Bits.{bits_of, byte_count}
 use Rattle.pgv_more.specs.BitsBinary.{bits_in_binary, bit_count}
 use Rattle.pgv_more.proofs.Kept.{kept_count}

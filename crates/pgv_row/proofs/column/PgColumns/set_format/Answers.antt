@@ -2,7 +2,7 @@ use Rattle.std.proofs.Common.{◌≡◌, ◌<◌, ◌++◌, List, length, map, t
 use Rattle.std.specs.Prelude.{slice_set}
 use Rattle.pgv_row.specs.ColumnView.{Column}
 use Rattle.pgv_row.specs.Description.{in_format}
-use Rattle.pgv_row.proofs.Formats.{one_mapped}
+use Rattle.pgv_row.proofs.ColumnFormats.{one_mapped}
 use Rattle.pgv_row.proofs.column.PgColumns.set_format.Goals as goal
 
 pub loop-column-preserved : goal.loop-column-preserved

@@ -1,5 +1,5 @@
 use Rattle.std.proofs.Common.{◌∙◌, sym}
-use Rattle.pgv_text.proofs.OnePass.{as_read, none_read, values_more, values_none, values_open}
+use Rattle.pgv_text.proofs.NextElement.{as_read, none_read, values_more, values_none, values_open}
 use Rattle.pgv_text.proofs.elements.Elements.of_text.Goals as goal
 
 pub returns-in_default : goal.returns-in_default

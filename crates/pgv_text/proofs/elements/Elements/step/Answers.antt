@@ -1,5 +1,5 @@
 use Rattle.std.proofs.Common.{arith}
-use Rattle.pgv_text.proofs.OnePass.{element_next}
+use Rattle.pgv_text.proofs.NextElement.{element_next}
 use Rattle.pgv_text.proofs.elements.Elements.step.Goals as goal
 
 pub returns-in-Part : goal.returns-in-Part

@@ -1,7 +1,7 @@
 use Rattle.std.proofs.Common.{ap, sym, ◌∙◌}
 use Rattle.pgv_types.specs.Ty.{composite}
 use Rattle.pgv_types.specs.Shown.{kind_of}
-use Rattle.pgv_types.proofs.Copies.{fields_copied}
+use Rattle.pgv_types.proofs.FieldCopies.{fields_copied}
 use Rattle.pgv_types.proofs.kind.PgTypeKindClone.clone.Goals as goal
 
 pub returns-in_ok-clone-in-Composite : goal.returns-in_ok-clone-in-Composite

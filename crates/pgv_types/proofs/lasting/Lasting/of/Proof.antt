@@ -25,7 +25,7 @@ use denote.Triple.Entry.{alive}
 use denote.Triple.Spec.{Meets, triple_of}
 use denote.Triple.Table.{entered}
 use denote.Triple.Walked.{says, Stays, stay_dropped, walk_of, ends_at, walk_Meets, Goes-dropped}
-use Rattle.pgv_types.proofs.Made.{none, two, none_made, two_made}
+use Rattle.pgv_types.proofs.GhostSteps.{none, two, none_made, two_made}
 use Rattle.pgv_types.specs.contracts.lasting.Lasting as Lasting
 use denote.Opens.{unhide}
 use denote.RawPtr.{block_ptr}

@@ -1,5 +1,5 @@
 use Rattle.std.proofs.Common.{rules}
-use Rattle.pgv_types.proofs.Found.{none_found}
+use Rattle.pgv_types.proofs.UnknownOid.{none_found}
 use Rattle.pgv_types.proofs.type_info.PgType.try_from_oid.Goals as goal
 
 pub returns-in_default : goal.returns-in_default

@@ -1,6 +1,6 @@
 use Rattle.std.proofs.Common.{None, arith, refl}
 use Rattle.pgv_codec.specs.Encoding.{option_encoding}
-use Rattle.pgv_codec.proofs.Frames.{null_at_once}
+use Rattle.pgv_codec.proofs.OneFrame.{null_at_once}
 use Rattle.pgv_codec.proofs.types.option.OptionEncode.encode_at_once.Goals as goal
 
 pub returns-in-None-clause-ok : goal.returns-in-None-clause-ok

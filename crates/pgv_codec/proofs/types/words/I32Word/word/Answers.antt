@@ -5,7 +5,7 @@ use Rattle.std.proofs.lemmas.Int.{to_z-of_z}
 use Rattle.pgv_buf.specs.Tokens.{bytes}
 use Rattle.pgv_value.specs.OwnBytes.{signed_fits}
 use Rattle.pgv_codec.specs.Encoding.{Image, image_of}
-use Rattle.pgv_codec.specs.ScalarBinary.{signed_image}
+use Rattle.pgv_codec.specs.ScalarImage.{signed_image}
 use Rattle.pgv_codec.proofs.Lists.{word_is}
 use Rattle.pgv_codec.proofs.types.words.I32Word.word.Goals as goal
 

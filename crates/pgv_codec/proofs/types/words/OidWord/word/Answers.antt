@@ -3,7 +3,7 @@ use Rattle.std.specs.Int.{w32, to_be_bytes}
 use Rattle.std.proofs.lemmas.Bool.{lt-ltb}
 use Rattle.pgv_buf.specs.Tokens.{bytes}
 use Rattle.pgv_codec.specs.Encoding.{Image, image_of}
-use Rattle.pgv_codec.specs.ScalarBinary.{unsigned_image}
+use Rattle.pgv_codec.specs.ScalarImage.{unsigned_image}
 use Rattle.pgv_codec.proofs.Lists.{word_is}
 use Rattle.pgv_codec.proofs.types.words.OidWord.word.Goals as goal
 

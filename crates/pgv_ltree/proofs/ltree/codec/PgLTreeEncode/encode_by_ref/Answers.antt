@@ -1,4 +1,4 @@
-use Rattle.pgv_ltree.proofs.Written.{written_tree}
+use Rattle.pgv_ltree.proofs.WrittenTrees.{written_tree}
 use Rattle.pgv_ltree.proofs.ltree.codec.PgLTreeEncode.encode_by_ref.Goals as goal
 
 pub returns-clause-encodes : goal.returns-clause-encodes

@@ -5,8 +5,8 @@ use Rattle.std.proofs.lemmas.Int.{to_z-of_z}
 use Rattle.pgv_buf.specs.Tokens.{bytes}
 use Rattle.pgv_value.specs.OwnBytes.{signed_fits}
 use Rattle.pgv_codec.specs.Encoding.{Image, image_of, frame, plainly, writes}
-use Rattle.pgv_codec.specs.ScalarBinary.{signed_image}
-use Rattle.pgv_codec.proofs.Frames.{at_once}
+use Rattle.pgv_codec.specs.ScalarImage.{signed_image}
+use Rattle.pgv_codec.proofs.OneFrame.{at_once}
 use Rattle.pgv_codec.proofs.types.int.int8.I64Scalar.write_at_once.Goals as goal
 
 pub returns-clause-ok : goal.returns-clause-ok
