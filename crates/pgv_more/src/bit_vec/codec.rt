@@ -72,7 +72,7 @@ impl Encode for BitVec {
 }
 
 /// The bits of a number and of bytes after it.
-#[tactic(auto, unfolding(pgv_value::specs::Steps::number))]
+#[tactic(auto, unfolding(pgv_value::specs::ReadingSteps::number))]
 fn read_binary(alloc: Global, form: &[u8]) -> Result<BitVec, CodecError>
     ensures { Gives (λ bits. bits) (copied (bits_in_binary form.now)) result }
 {
