@@ -21,8 +21,8 @@ pub use pgv_codec::{
 pub use pgv_copy::{PgCopyNext, PgCopyPieces, PgCopyReader};
 pub use pgv_range::{PgHasRangeType, range_compatible};
 pub use pgv_types::{
-    IdentifierChar, IdentifierChars, Oid, PgArrayOf, PgCustomType, PgType, PgTypeInfo, PgTypeKind,
-    PgTypeKindRef, PgTypeName, PgTypeRef, StaticText,
+    BuiltIn, IdentifierChar, IdentifierChars, Oid, PgArrayOf, PgCustomType, PgType, PgTypeInfo,
+    PgTypeKind, PgTypeKindRef, PgTypeName, PgTypeRef, StaticText,
 };
 pub use pgv_user_types::{
     Composite, Domain, Labelled, Newtype, PgComposite, PgDomain, PgEnum, PgNewtype, PgPlain,

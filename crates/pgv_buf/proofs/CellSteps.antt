@@ -2,12 +2,12 @@
 use Rattle.std.proofs.Common.{◌≡◌, ℕ, Bool, false, ◌+◌, ◌≤◌, List, [], ◌∷◌, ◌++◌, length, take, refl, sym, ◌∙◌, ap, subst, arith, append-nil, length-take}
 use Rattle.pgv_types.specs.Ty.{Ty}
 use Rattle.pgv_buf.specs.declared.mark.Mark.{Mark}
-use Rattle.pgv_buf.specs.Tokens.{tokens_hole_types, byte, bytes, Token, Cell, fixed_bytes, plain, shown, new_hole, new_slot, CasesFit}
+use Rattle.pgv_buf.specs.Tokens.{tokens_hole_types, byte, bytes, Token, Cell, fixed_bytes, plain, shown, blank_cell, hole, slot, CasesFit}
 use Rattle.pgv_buf.specs.Blank.{plain-blank, blank-bytes}
 use Rattle.pgv_buf.specs.Marks.{mark_of}
 use Rattle.pgv_buf.specs.Proper.{Proper}
 use Rattle.pgv_buf.specs.Layout.{is_hole, is_slot, places, last_from, Kept, slots_of, Layout, Represents}
-use Rattle.pgv_buf.proofs.Layouts.{joined, cut, cut_layout, same_layout, width-plain, last_before, wide, with_more, length-holes, length-slot_places}
+use Rattle.pgv_buf.proofs.Layouts.{joined, cut, cut_layout, same_layout, last_before, wide, with_more, length-holes, length-slot_places}
 
 pub none_kept : Represents [] [] (record { holes = []; types = []; slot_places = []; slots = [] })
 none_kept = record { bytes_are = refl; layout_is = refl; proper = tt }
@@ -57,19 +57,19 @@ bytes_joined {ts} {b} {l} r xs b' e =
 pub holes_before : {ts : List Cell} {b : List ℕ} {l : Layout} → Represents ts b l → last_from 0 l.holes ≤ length b
 holes_before {ts} {b} {l} r =
     let e : last_from 0 l.holes ≡ last_from 0 (places is_hole 0 (plain ts)) = ap (λ (m : Layout). last_from 0 m.holes) r.layout_is in
-    omega (arith, e, wide r, width-plain ts, last_before is_hole 0 0 (plain ts) (omega arith))
+    omega (arith, e, wide r, last_before is_hole 0 0 (plain ts) (omega arith))
 
 pub slots_before : {ts : List Cell} {b : List ℕ} {l : Layout} → Represents ts b l → last_from 0 l.slot_places ≤ length b
 slots_before {ts} {b} {l} r =
     let e : last_from 0 l.slot_places ≡ last_from 0 (places is_slot 0 (plain ts)) = ap (λ (m : Layout). last_from 0 m.slot_places) r.layout_is in
-    omega (arith, e, wide r, width-plain ts, last_before is_slot 0 0 (plain ts) (omega arith))
+    omega (arith, e, wide r, last_before is_slot 0 0 (plain ts) (omega arith))
 
 pub hole_joined :
     {ts : List Cell} {b : List ℕ} {l : Layout} → Represents ts b l →
     (t : Ty) (b' ps' : List ℕ) (hs' : List Ty) → b' ≡ b ++ 0 ∷ 0 ∷ 0 ∷ 0 ∷ [] → ps' ≡ l.holes ++ length b ∷ [] → hs' ≡ l.types ++ t ∷ [] →
-    Represents (ts ++ new_hole t ∷ []) b' (record { holes = ps'; types = hs'; slot_places = l.slot_places; slots = l.slots })
+    Represents (ts ++ blank_cell (hole t) ∷ []) b' (record { holes = ps'; types = hs'; slot_places = l.slot_places; slots = l.slots })
 hole_joined {ts} {b} {l} r t b' ps' hs' e f g =
-    let j = joined r (new_hole t ∷ []) (refl, tt) in
+    let j = joined r (blank_cell (hole t) ∷ []) (refl, tt) in
     record {
       bytes_are = e ∙ j.bytes_are;
       layout_is = same_layout f g (sym (append-nil l.slot_places)) (sym (append-nil l.slots)) ∙ j.layout_is;
@@ -80,9 +80,9 @@ pub slot_joined :
     {ts : List Cell} {b : List ℕ} {l : Layout} → Represents ts b l →
     (d : List ℕ) (cs : List (Ty × List ℕ)) → CasesFit (length d) cs → (b' qs' : List ℕ) (ks' : List Kept) →
     b' ≡ b ++ d → qs' ≡ l.slot_places ++ length b ∷ [] → ks' ≡ l.slots ++ record { standard = d; cases = cs } ∷ [] →
-    Represents (ts ++ new_slot d cs ∷ []) b' (record { holes = l.holes; types = l.types; slot_places = qs'; slots = ks' })
+    Represents (ts ++ blank_cell (slot d cs) ∷ []) b' (record { holes = l.holes; types = l.types; slot_places = qs'; slots = ks' })
 slot_joined {ts} {b} {l} r d cs fit b' qs' ks' e f g =
-    let j = joined r (new_slot d cs ∷ []) (refl, fit, tt) in
+    let j = joined r (blank_cell (slot d cs) ∷ []) (refl, fit, tt) in
     record {
       bytes_are = e ∙ (ap (λ x. b ++ x) (sym (append-nil d)) ∙ j.bytes_are);
       layout_is = same_layout (sym (append-nil l.holes)) (sym (append-nil l.types)) f g ∙ j.layout_is;

@@ -3,28 +3,17 @@ use Rattle.std.proofs.Common.{◌≡◌, ℕ, ◌+◌, ◌≤◌, ◌<◌, ◌==
 use Rattle.std.proofs.lemmas.Bool.{eq-eqb}
 use Rattle.std.proofs.lemmas.List.{take_at, drop_at}
 use Rattle.pgv_types.specs.Ty.{Ty}
-use Rattle.pgv_buf.specs.Tokens.{tokens_hole_types, Token, byte, hole, slot, tokens_width, Cell, fixed, hole_cell, slot_cell, plain, shown, width, hole_types_of, hole_count, slot_count}
+use Rattle.pgv_buf.specs.Tokens.{token_width, tokens_hole_types, Token, byte, hole, slot, tokens_width, Cell, fixed, hole_cell, slot_cell, plain, shown, width, hole_types_of, hole_count, slot_count}
 use Rattle.pgv_buf.specs.Blank.{plain-append}
 use Rattle.pgv_buf.specs.Proper.{Proper, Proper-append, Proper-front, shown-append, length-shown, length-hole_types_of}
-use Rattle.pgv_buf.specs.Layout.{is_hole, is_slot, token_width, if_so, places, last_from, Kept, slots_of, Layout, layout_of, first_at, parse, tokens_of, Represents, Valid}
+use Rattle.pgv_buf.specs.Layout.{is_hole, is_slot, if_so, places, last_from, Kept, slots_of, Layout, layout_of, first_at, parse, tokens_of, Represents, Valid}
 
 -- ---- places
-
-pub width_first : (t : Token) (ts : List Token) → tokens_width (t ∷ ts) ≡ token_width t + tokens_width ts
-width_first (byte x) ts = refl
-width_first (hole t) ts = refl
-width_first (slot d cs) ts = refl
-
-pub width-plain : (ts : List Cell) → tokens_width (plain ts) ≡ width ts
-width-plain [] = refl
-width-plain (fixed x ∷ ts) = ap (λ n. 1 + n) (width-plain ts)
-width-plain (hole_cell t s ∷ ts) = ap (λ n. 4 + n) (width-plain ts)
-width-plain (slot_cell d cs s ∷ ts) = ap (λ n. length d + n) (width-plain ts)
 
 places-append : (is : Token → Bool) (i : ℕ) (a c : List Token) → places is i (a ++ c) ≡ places is i a ++ places is (i + tokens_width a) c
 places-append is i [] c = rw add-zero
 places-append is i (t ∷ a) c =
-    let e : (i + token_width t) + tokens_width a ≡ i + tokens_width (t ∷ a) = omega (arith, width_first t a) in
+    let e : (i + token_width t) + tokens_width a ≡ i + tokens_width (t ∷ a) = omega arith in
     ap (λ r. if_so (is t) i ++ r) (places-append is (i + token_width t) a c ∙ ap (λ n. places is (i + token_width t) a ++ places is n c) e)
     ∙ sym (append_assoc (if_so (is t) i) (places is (i + token_width t) a) (places is (i + tokens_width (t ∷ a)) c))
 
@@ -33,8 +22,8 @@ pub last_before : (is : Token → Bool) (q i : ℕ) (ts : List Token) → q ≤ 
 last_before is q i [] h = omega arith
 last_before is q i (t ∷ ts) h =
     elim (is t) as (λ b. last_from q (if_so b i ++ places is (i + token_width t) ts) ≤ i + tokens_width (t ∷ ts)) [
-      | true ↦ omega (arith, width_first t ts, last_before is i (i + token_width t) ts (omega arith))
-      | false ↦ omega (arith, width_first t ts, last_before is q (i + token_width t) ts (omega arith))
+      | true ↦ omega (arith, last_before is i (i + token_width t) ts (omega arith))
+      | false ↦ omega (arith, last_before is q (i + token_width t) ts (omega arith))
     ]
 
 -- no piece is at i where the tokens begin later
@@ -62,12 +51,6 @@ length-slot_places i (hole_cell t s ∷ ts) = length-slot_places (i + 4) ts
 length-slot_places i (slot_cell d cs s ∷ ts) = omega (arith, length-slot_places (i + length d) ts)
 
 -- ---- types and slots
-
-pub types-plain : (ts : List Cell) → tokens_hole_types (plain ts) ≡ hole_types_of ts
-types-plain [] = refl
-types-plain (fixed x ∷ ts) = types-plain ts
-types-plain (hole_cell t s ∷ ts) = ap (λ r. t ∷ r) (types-plain ts)
-types-plain (slot_cell d cs s ∷ ts) = types-plain ts
 
 types-append : (a c : List Token) → tokens_hole_types (a ++ c) ≡ tokens_hole_types a ++ tokens_hole_types c
 types-append [] c = refl
@@ -146,7 +129,7 @@ wide {ts} r = ap length r.bytes_are ∙ length-shown ts r.proper
 
 pub joined : {a : List Cell} {b : List ℕ} {l : Layout} → Represents a b l → (c : List Cell) → Proper c → Represents (a ++ c) (b ++ shown c) (with_more l (length b) (plain c))
 joined {a} {b} {l} r c q =
-    let n : tokens_width (plain a) ≡ length b = width-plain a ∙ sym (wide r) in
+    let n : tokens_width (plain a) ≡ length b = sym (wide r) in
     let k : with_more (layout_of (plain a)) (tokens_width (plain a)) (plain c) ≡ layout_of (plain (a ++ c)) =
     sym (ap layout_of (plain-append a c) ∙ layout-append (plain a) (plain c)) in
     record {
@@ -167,7 +150,7 @@ cut {b} {l} a c r =
           ap (λ m. cut_layout (hole_count a) (slot_count a) m) e
           ∙ same_layout
           (take_at (places is_hole 0 (plain a)) (places is_hole (tokens_width (plain a)) (plain c)) (hole_count a) (length-holes 0 a))
-          (take_at (tokens_hole_types (plain a)) (tokens_hole_types (plain c)) (hole_count a) (ap length (types-plain a) ∙ length-hole_types_of a))
+          (take_at (tokens_hole_types (plain a)) (tokens_hole_types (plain c)) (hole_count a) (length-hole_types_of a))
           (take_at (places is_slot 0 (plain a)) (places is_slot (tokens_width (plain a)) (plain c)) (slot_count a) (length-slot_places 0 a))
           (take_at (slots_of (plain a)) (slots_of (plain c)) (slot_count a) (length-slots a));
       proper = Proper-front a c r.proper;

@@ -4,13 +4,13 @@ use Rattle.std.proofs.Math.Seq.{take-append_seam}
 use Rattle.pgv_types.specs.Ty.{Ty}
 use Rattle.pgv_types.specs.Relations.{softly}
 use Rattle.pgv_types.specs.declared.oid.Oid.{Oid}
-use Rattle.pgv_buf.specs.Tokens.{Token, byte, hole, slot, bytes, tokens_width, Cell, fixed, hole_cell, slot_cell, fixed_bytes, token_of, plain, be4, shown, cell_shown, width, hole_count, CasesFit, chosen}
+use Rattle.pgv_buf.specs.Tokens.{Token, byte, hole, slot, bytes, token_width, tokens_width, Cell, fixed, hole_cell, slot_cell, fixed_bytes, token_of, plain, be4, shown, cell_shown, width, hole_count, CasesFit, chosen}
 use Rattle.pgv_buf.specs.Blank.{plain-append}
 use Rattle.pgv_buf.specs.Proper.{Proper, Proper-front, Proper-back, Proper-append, first_type, shown-append, length-shown, width-append, rest_of}
 use Rattle.pgv_buf.specs.Fill.{fill_holes, fill_slots}
-use Rattle.pgv_buf.specs.Layout.{is_hole, is_slot, token_width, if_so, places, slots_of, Layout, layout_of, Represents}
+use Rattle.pgv_buf.specs.Layout.{is_hole, is_slot, if_so, places, slots_of, Layout, layout_of, Represents}
 use Rattle.pgv_buf.specs.Patches.{put, first_string, written, Within, numbers, choices}
-use Rattle.pgv_buf.proofs.Layouts.{width_first, width-plain, layout-append, with_more, wide}
+use Rattle.pgv_buf.proofs.Layouts.{layout-append, with_more, wide}
 use Rattle.pgv_buf.proofs.CellSteps.{shown-bytes, plain-bytes, Proper-bytes, bytes_alone}
 
 pub put_at : (x y z w : List ℕ) → length y ≡ length w → put (length x) w (x ++ y ++ z) ≡ x ++ w ++ z
@@ -70,8 +70,8 @@ one_within false is n i k ws ts f h rest = rest ws f
 within : (is : Token → Bool) (n i : ℕ) (ws : List (List ℕ)) (ts : List Token) → map length ws ≡ widths is ts → i + tokens_width ts ≤ n → Within n (places is i ts) ws
 within is n i ws [] f h = tt
 within is n i ws (t ∷ ts) f h =
-    one_within (is t) is n i (token_width t) ws ts f (omega (arith, width_first t ts))
-    (λ vs g. within is n (i + token_width t) vs ts g (omega (arith, width_first t ts)))
+    one_within (is t) is n i (token_width t) ws ts f (omega arith)
+    (λ vs g. within is n (i + token_width t) vs ts g (omega arith))
 
 -- ---- holes
 
@@ -115,7 +115,7 @@ pub holes_within :
     {ts : List Cell} {b : List ℕ} {l : Layout} → Represents ts b l →
     (os : List Oid) → length os ≡ hole_count ts → Within (length b) l.holes (numbers os)
 holes_within {ts} {b} {l} r os n =
-    rw r.layout_is (within is_hole (length b) 0 (numbers os) (plain ts) (numbers_fit os ts n) (omega (arith, wide r, width-plain ts)))
+    rw r.layout_is (within is_hole (length b) 0 (numbers os) (plain ts) (numbers_fit os ts n) (omega (arith, wide r)))
 
 -- ---- slots
 
@@ -161,7 +161,7 @@ slots_filled {ts} {b} {l} r ps b' e = record {
 
 pub slots_within : {ts : List Cell} {b : List ℕ} {l : Layout} → Represents ts b l → (ps : List Ty) → Within (length b) l.slot_places (choices ps l.slots)
 slots_within {ts} {b} {l} r ps =
-    rw r.layout_is (within is_slot (length b) 0 (choices ps (slots_of (plain ts))) (plain ts) (choices_fit ps ts r.proper) (omega (arith, wide r, width-plain ts)))
+    rw r.layout_is (within is_slot (length b) 0 (choices ps (slots_of (plain ts))) (plain ts) (choices_fit ps ts r.proper) (omega (arith, wide r)))
 
 -- ---- four bytes in place of four
 
@@ -171,13 +171,13 @@ between front xs rest =
     let p : plain (front ++ (fixed_bytes xs ++ rest)) ≡ (plain front ++ bytes xs) ++ plain rest =
     plain-append front (fixed_bytes xs ++ rest) ∙ (ap (λ r. plain front ++ r) (plain-append (fixed_bytes xs) rest ∙ ap (λ r. r ++ plain rest) (plain-bytes xs)) ∙ sym (append_assoc (plain front) (bytes xs) (plain rest))) in
     let l : layout_of (plain front ++ bytes xs) ≡ layout_of (plain front) = layout-append (plain front) (bytes xs) ∙ bytes_alone (layout_of (plain front)) (tokens_width (plain front)) xs in
-    let n : tokens_width (plain front ++ bytes xs) ≡ width front + length xs = tokens_width-append (plain front) xs ∙ ap (λ k. k + length xs) (width-plain front) in
+    let n : tokens_width (plain front ++ bytes xs) ≡ width front + length xs = tokens_width-append (plain front) xs in
     ap layout_of p ∙ (layout-append (plain front ++ bytes xs) (plain rest) ∙ (ap (λ k. with_more k (tokens_width (plain front ++ bytes xs)) (plain rest)) l ∙ ap (λ k. with_more (layout_of (plain front)) k (plain rest)) n))
   where
     tokens_width-append : (a : List Token) (xs : List ℕ) → tokens_width (a ++ bytes xs) ≡ tokens_width a + length xs
     tokens_width-append [] [] = refl
     tokens_width-append [] (x ∷ xs) = omega (arith, tokens_width-append [] xs)
-    tokens_width-append (t ∷ a) xs = omega (arith, width_first t (a ++ bytes xs), width_first t a, tokens_width-append a xs)
+    tokens_width-append (t ∷ a) xs = omega (arith, tokens_width-append a xs)
 
 pub replaced :
     {b : List ℕ} {l : Layout} (front : List Cell) (xs ys : List ℕ) (rest : List Cell) →

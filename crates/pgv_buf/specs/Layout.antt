@@ -2,7 +2,7 @@
 use Rattle.std.specs.Prelude.{◌≡◌, ℕ, ◌+◌, ◌==◌, Bool, true, false, cond, List, [], ◌∷◌, ◌++◌, length, take, drop}
 use Rattle.std.proofs.Common.{suc, zero}
 use Rattle.pgv_types.specs.Ty.{Ty}
-use Rattle.pgv_buf.specs.Tokens.{tokens_hole_types, Token, byte, hole, slot, Cell, fixed, hole_cell, slot_cell, plain, shown}
+use Rattle.pgv_buf.specs.Tokens.{token_width, tokens_hole_types, Token, byte, hole, slot, Cell, fixed, hole_cell, slot_cell, plain, shown}
 use Rattle.pgv_buf.specs.Proper.{Proper, first_type, first_or_zero, rest_of}
 
 -- holes and slots are pieces: of known places and widths, and written over
@@ -15,11 +15,6 @@ abbrev pub is_slot : Token → Bool
 is_slot (byte x) = false
 is_slot (hole t) = false
 is_slot (slot d cs) = true
-
-abbrev pub token_width : Token → ℕ
-token_width (byte x) = 1
-token_width (hole t) = 4
-token_width (slot d cs) = length d
 
 -- a number that counts, or none
 abbrev pub if_so : Bool → ℕ → List ℕ

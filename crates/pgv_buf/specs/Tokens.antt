@@ -19,11 +19,14 @@ abbrev pub bytes : List ℕ → List Token
 bytes = map byte
 
 -- the width of tokens, and how many holes are among them
+abbrev pub token_width : Token → ℕ
+token_width (byte x) = 1
+token_width (hole t) = 4
+token_width (slot d cs) = length d
+
 abbrev pub tokens_width : List Token → ℕ
 tokens_width [] = 0
-tokens_width (byte x ∷ ts) = 1 + tokens_width ts
-tokens_width (hole t ∷ ts) = 4 + tokens_width ts
-tokens_width (slot d cs ∷ ts) = length d + tokens_width ts
+tokens_width (t ∷ ts) = token_width t + tokens_width ts
 
 abbrev pub tokens_holes : List Token → ℕ
 tokens_holes [] = 0
@@ -101,16 +104,13 @@ cell_shown (hole_cell t s) = s
 cell_shown (slot_cell d cs s) = s
 
 abbrev pub cell_width : Cell → ℕ
-cell_width (fixed x) = 1
-cell_width (hole_cell t s) = 4
-cell_width (slot_cell d cs s) = length d
+cell_width c = token_width (token_of c)
 
 abbrev pub shown : List Cell → List ℕ
 shown = flat_map cell_shown
 
 abbrev pub width : List Cell → ℕ
-width [] = 0
-width (t ∷ ts) = cell_width t + width ts
+width cs = tokens_width (plain cs)
 
 -- plain bytes, as cells
 abbrev pub fixed_bytes : List ℕ → List Cell
@@ -120,25 +120,12 @@ fixed_bytes = map fixed
 abbrev pub be4 : ℕ → List ℕ
 be4 n = to_be_bytes w32 n
 
--- a hole that is not filled yet
-abbrev pub new_hole : Ty → Cell
-new_hole t = hole_cell t (0 ∷ 0 ∷ 0 ∷ 0 ∷ [])
-
-abbrev pub new_slot : List ℕ → List (Ty × List ℕ) → Cell
-new_slot d cs = slot_cell d cs d
-
 -- the types of the holes, in order
 abbrev pub hole_types_of : List Cell → List Ty
-hole_types_of [] = []
-hole_types_of (fixed x ∷ ts) = hole_types_of ts
-hole_types_of (hole_cell t s ∷ ts) = t ∷ hole_types_of ts
-hole_types_of (slot_cell d cs s ∷ ts) = hole_types_of ts
+hole_types_of cs = tokens_hole_types (plain cs)
 
 abbrev pub hole_count : List Cell → ℕ
-hole_count [] = 0
-hole_count (fixed x ∷ ts) = hole_count ts
-hole_count (hole_cell t s ∷ ts) = 1 + hole_count ts
-hole_count (slot_cell d cs s ∷ ts) = hole_count ts
+hole_count cs = tokens_holes (plain cs)
 
 abbrev pub slot_count : List Cell → ℕ
 slot_count [] = 0

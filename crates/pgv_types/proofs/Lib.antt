@@ -6,7 +6,6 @@ pub mod Walks
 pub mod Tells
 pub mod UnknownOid
 pub mod Elements
-pub mod KindParts
 pub mod Related
 pub mod TableRows
 pub mod FieldCopies
@@ -14,4 +13,3 @@ pub mod Arrays
 pub mod Fits
 pub mod Lawful
 pub mod Printing
-pub mod Customs

@@ -168,38 +168,6 @@ kind_at (named n) = None
 kind_at (by_oid o) = None
 kind_at (array_of n) = None
 
--- the same parts for a built-in type alone
-abbrev pub kind_when_built_in : Ty → Kind
-kind_when_built_in (builtin o) = built_in_kind o
-kind_when_built_in (custom o n k) = simple
-kind_when_built_in (named n) = simple
-kind_when_built_in (by_oid o) = simple
-kind_when_built_in (array_of n) = simple
-
-abbrev pub range_oid : RowKind → Option ℕ
-range_oid a_simple = None
-range_oid a_pseudo = None
-range_oid (range_of o) = Some o
-
-abbrev pub range_built_in : Ty → Option Ty
-range_built_in (builtin o) = option_map builtin (range_oid (entry_kind (entry_of o)))
-range_built_in (custom o n k) = None
-range_built_in (named n) = None
-range_built_in (by_oid o) = None
-range_built_in (array_of n) = None
-
-abbrev pub is_pseudo_row : RowKind → Bool
-is_pseudo_row a_simple = false
-is_pseudo_row a_pseudo = true
-is_pseudo_row (range_of o) = false
-
-abbrev pub is_pseudo : Ty → Bool
-is_pseudo (builtin o) = is_pseudo_row (entry_kind (entry_of o))
-is_pseudo (custom o n k) = false
-is_pseudo (named n) = false
-is_pseudo (by_oid o) = false
-is_pseudo (array_of n) = false
-
 abbrev pub is_void : Ty → Bool
 is_void (builtin o) = o == 2278
 is_void (custom o n k) = false

@@ -1,515 +1,578 @@
-//! The table of the built-in types: their OIDs, elements, ranges and names, as the server's own
-//! catalogue has them from its start (PostgreSQL, "pg_type").
-ghost use Rattle.std.specs.Prelude.{◌≡◌, option_map};
-ghost use Rattle.pgv_types.specs.Facts.{built_in_oid, oid_of, element_built_in, range_built_in, is_pseudo, name_text_of, display_text_of, built_in};
-ghost use Rattle.pgv_types.specs.Shown.{type_of};
+//! The table of the built-in types: their OIDs, names and kinds, as the server's own catalogue has them from its start
+//! (PostgreSQL, "pg_type").
+ghost use Rattle.std.specs.Prelude.{◌≡◌, Some, map, option_map, slice_get};
+ghost use Rattle.pgv_types.specs.Facts.{built_in, built_in_kind, element_oid};
+ghost use Rattle.pgv_types.specs.LentParts.{kind_lent, ref_type};
+ghost use Rattle.pgv_types.specs.Shown.{number_of};
+ghost use Rattle.pgv_types.specs.Table.{Entry, entries};
+ghost use Rattle.pgv_types.specs.TableView.{IsTableRow, entry_in_row};
+ghost use Rattle.pgv_types.specs.Ty.{builtin};
 
-use crate::{Oid, PgType};
+use crate::{Oid, PgType, PgTypeInfo, PgTypeKindRef, PgTypeRef};
 
-impl PgType {
-    /// The OID: a built-in type's, a custom type's own, or the declared one. `None` where only a name
-    /// is known.
+/// A built-in type, by its name in PostgreSQL's catalogue; an array comes after its element.
+#[derive(Clone, Copy, Drop)]
+pub enum BuiltIn {
+    Bool,
+    BoolArray,
+    Bytea,
+    ByteaArray,
+    Char,
+    CharArray,
+    Name,
+    NameArray,
+    Int8,
+    Int8Array,
+    Int2,
+    Int2Array,
+    Int4,
+    Int4Array,
+    Text,
+    TextArray,
+    Oid,
+    OidArray,
+    Json,
+    JsonArray,
+    Point,
+    PointArray,
+    Lseg,
+    LsegArray,
+    Path,
+    PathArray,
+    Box,
+    BoxArray,
+    Polygon,
+    PolygonArray,
+    Line,
+    LineArray,
+    Cidr,
+    CidrArray,
+    Float4,
+    Float4Array,
+    Float8,
+    Float8Array,
+    Unknown,
+    Circle,
+    CircleArray,
+    Macaddr8,
+    Macaddr8Array,
+    Money,
+    MoneyArray,
+    Macaddr,
+    MacaddrArray,
+    Inet,
+    InetArray,
+    Bpchar,
+    BpcharArray,
+    Varchar,
+    VarcharArray,
+    Date,
+    DateArray,
+    Time,
+    TimeArray,
+    Timestamp,
+    TimestampArray,
+    Timestamptz,
+    TimestamptzArray,
+    Interval,
+    IntervalArray,
+    Timetz,
+    TimetzArray,
+    Bit,
+    BitArray,
+    Varbit,
+    VarbitArray,
+    Numeric,
+    NumericArray,
+    Record,
+    RecordArray,
+    Void,
+    Uuid,
+    UuidArray,
+    Jsonb,
+    JsonbArray,
+    Int4Range,
+    Int4RangeArray,
+    NumRange,
+    NumRangeArray,
+    TsRange,
+    TsRangeArray,
+    TstzRange,
+    TstzRangeArray,
+    DateRange,
+    DateRangeArray,
+    Int8Range,
+    Int8RangeArray,
+    Jsonpath,
+    JsonpathArray,
+}
+
+/// What kind a built-in type is of.
+#[derive(Clone, Copy, Drop)]
+pub(crate) enum RowKind {
+    Simple,
+    Pseudo,
+    /// An array of the element that is given.
+    Array(BuiltIn),
+    /// A range over the type that is given.
+    Range(BuiltIn),
+}
+
+/// What the catalogue has of a built-in type.
+pub(crate) struct Row {
+    pub(crate) oid: Oid,
+    /// The catalogue name.
+    pub(crate) name: &'static str,
+    /// The name that is shown, of an array without its `[]`.
+    pub(crate) display: &'static str,
+    pub(crate) kind: RowKind,
+}
+
+/// Rows, each in a line.
+macro_rules! rows {
+    ($($oid:literal $name:literal $display:literal $kind:expr;)*) => {
+        [$(Row { oid: Oid($oid), name: $name, display: $display, kind: $kind },)*]
+    };
+}
+
+/// The row of each type, in the order of the variants.
+static ROWS: [Row; 92] = rows! {
+    16 "bool" "BOOL" RowKind::Simple;
+    1000 "_bool" "BOOL" RowKind::Array(BuiltIn::Bool);
+    17 "bytea" "BYTEA" RowKind::Simple;
+    1001 "_bytea" "BYTEA" RowKind::Array(BuiltIn::Bytea);
+    18 "char" "\"CHAR\"" RowKind::Simple;
+    1002 "_char" "\"CHAR\"" RowKind::Array(BuiltIn::Char);
+    19 "name" "NAME" RowKind::Simple;
+    1003 "_name" "NAME" RowKind::Array(BuiltIn::Name);
+    20 "int8" "INT8" RowKind::Simple;
+    1016 "_int8" "INT8" RowKind::Array(BuiltIn::Int8);
+    21 "int2" "INT2" RowKind::Simple;
+    1005 "_int2" "INT2" RowKind::Array(BuiltIn::Int2);
+    23 "int4" "INT4" RowKind::Simple;
+    1007 "_int4" "INT4" RowKind::Array(BuiltIn::Int4);
+    25 "text" "TEXT" RowKind::Simple;
+    1009 "_text" "TEXT" RowKind::Array(BuiltIn::Text);
+    26 "oid" "OID" RowKind::Simple;
+    1028 "_oid" "OID" RowKind::Array(BuiltIn::Oid);
+    114 "json" "JSON" RowKind::Simple;
+    199 "_json" "JSON" RowKind::Array(BuiltIn::Json);
+    600 "point" "POINT" RowKind::Simple;
+    1017 "_point" "POINT" RowKind::Array(BuiltIn::Point);
+    601 "lseg" "LSEG" RowKind::Simple;
+    1018 "_lseg" "LSEG" RowKind::Array(BuiltIn::Lseg);
+    602 "path" "PATH" RowKind::Simple;
+    1019 "_path" "PATH" RowKind::Array(BuiltIn::Path);
+    603 "box" "BOX" RowKind::Simple;
+    1020 "_box" "BOX" RowKind::Array(BuiltIn::Box);
+    604 "polygon" "POLYGON" RowKind::Simple;
+    1027 "_polygon" "POLYGON" RowKind::Array(BuiltIn::Polygon);
+    628 "line" "LINE" RowKind::Simple;
+    629 "_line" "LINE" RowKind::Array(BuiltIn::Line);
+    650 "cidr" "CIDR" RowKind::Simple;
+    651 "_cidr" "CIDR" RowKind::Array(BuiltIn::Cidr);
+    700 "float4" "FLOAT4" RowKind::Simple;
+    1021 "_float4" "FLOAT4" RowKind::Array(BuiltIn::Float4);
+    701 "float8" "FLOAT8" RowKind::Simple;
+    1022 "_float8" "FLOAT8" RowKind::Array(BuiltIn::Float8);
+    705 "unknown" "UNKNOWN" RowKind::Simple;
+    718 "circle" "CIRCLE" RowKind::Simple;
+    719 "_circle" "CIRCLE" RowKind::Array(BuiltIn::Circle);
+    774 "macaddr8" "MACADDR8" RowKind::Simple;
+    775 "_macaddr8" "MACADDR8" RowKind::Array(BuiltIn::Macaddr8);
+    790 "money" "MONEY" RowKind::Simple;
+    791 "_money" "MONEY" RowKind::Array(BuiltIn::Money);
+    829 "macaddr" "MACADDR" RowKind::Simple;
+    1040 "_macaddr" "MACADDR" RowKind::Array(BuiltIn::Macaddr);
+    869 "inet" "INET" RowKind::Simple;
+    1041 "_inet" "INET" RowKind::Array(BuiltIn::Inet);
+    1042 "bpchar" "CHAR" RowKind::Simple;
+    1014 "_bpchar" "CHAR" RowKind::Array(BuiltIn::Bpchar);
+    1043 "varchar" "VARCHAR" RowKind::Simple;
+    1015 "_varchar" "VARCHAR" RowKind::Array(BuiltIn::Varchar);
+    1082 "date" "DATE" RowKind::Simple;
+    1182 "_date" "DATE" RowKind::Array(BuiltIn::Date);
+    1083 "time" "TIME" RowKind::Simple;
+    1183 "_time" "TIME" RowKind::Array(BuiltIn::Time);
+    1114 "timestamp" "TIMESTAMP" RowKind::Simple;
+    1115 "_timestamp" "TIMESTAMP" RowKind::Array(BuiltIn::Timestamp);
+    1184 "timestamptz" "TIMESTAMPTZ" RowKind::Simple;
+    1185 "_timestamptz" "TIMESTAMPTZ" RowKind::Array(BuiltIn::Timestamptz);
+    1186 "interval" "INTERVAL" RowKind::Simple;
+    1187 "_interval" "INTERVAL" RowKind::Array(BuiltIn::Interval);
+    1266 "timetz" "TIMETZ" RowKind::Simple;
+    1270 "_timetz" "TIMETZ" RowKind::Array(BuiltIn::Timetz);
+    1560 "bit" "BIT" RowKind::Simple;
+    1561 "_bit" "BIT" RowKind::Array(BuiltIn::Bit);
+    1562 "varbit" "VARBIT" RowKind::Simple;
+    1563 "_varbit" "VARBIT" RowKind::Array(BuiltIn::Varbit);
+    1700 "numeric" "NUMERIC" RowKind::Simple;
+    1231 "_numeric" "NUMERIC" RowKind::Array(BuiltIn::Numeric);
+    2249 "record" "RECORD" RowKind::Simple;
+    2287 "_record" "RECORD" RowKind::Array(BuiltIn::Record);
+    2278 "void" "VOID" RowKind::Pseudo;
+    2950 "uuid" "UUID" RowKind::Simple;
+    2951 "_uuid" "UUID" RowKind::Array(BuiltIn::Uuid);
+    3802 "jsonb" "JSONB" RowKind::Simple;
+    3807 "_jsonb" "JSONB" RowKind::Array(BuiltIn::Jsonb);
+    3904 "int4range" "INT4RANGE" RowKind::Range(BuiltIn::Int4);
+    3905 "_int4range" "INT4RANGE" RowKind::Array(BuiltIn::Int4Range);
+    3906 "numrange" "NUMRANGE" RowKind::Range(BuiltIn::Numeric);
+    3907 "_numrange" "NUMRANGE" RowKind::Array(BuiltIn::NumRange);
+    3908 "tsrange" "TSRANGE" RowKind::Range(BuiltIn::Timestamp);
+    3909 "_tsrange" "TSRANGE" RowKind::Array(BuiltIn::TsRange);
+    3910 "tstzrange" "TSTZRANGE" RowKind::Range(BuiltIn::Timestamptz);
+    3911 "_tstzrange" "TSTZRANGE" RowKind::Array(BuiltIn::TstzRange);
+    3912 "daterange" "DATERANGE" RowKind::Range(BuiltIn::Date);
+    3913 "_daterange" "DATERANGE" RowKind::Array(BuiltIn::DateRange);
+    3926 "int8range" "INT8RANGE" RowKind::Range(BuiltIn::Int8);
+    3927 "_int8range" "INT8RANGE" RowKind::Array(BuiltIn::Int8Range);
+    4072 "jsonpath" "JSONPATH" RowKind::Simple;
+    4073 "_jsonpath" "JSONPATH" RowKind::Array(BuiltIn::Jsonpath);
+};
+
+/// The table.
+#[inline(always)]
+fn rows() -> &'static [Row]
+    ensures { map entry_in_row result.now ≡ entries }
+{
+    &ROWS
+}
+
+impl BuiltIn {
+    /// Where its row is in the table.
     #[inline(always)]
-    pub fn oid(&self) -> Option<Oid>
-        ensures { option_map (λ o. o.0) result ≡ oid_of (type_of self.now) }
+    fn place(self) -> usize
+        ensures { option_map (λ (e : Entry). e.oid) (slice_get entries result)
+            ≡ Some (number_of self) }
     {
-        match self {
-            PgType::Bool => Some(Oid(16)),
-            PgType::Bytea => Some(Oid(17)),
-            PgType::Char => Some(Oid(18)),
-            PgType::Name => Some(Oid(19)),
-            PgType::Int8 => Some(Oid(20)),
-            PgType::Int2 => Some(Oid(21)),
-            PgType::Int4 => Some(Oid(23)),
-            PgType::Text => Some(Oid(25)),
-            PgType::Oid => Some(Oid(26)),
-            PgType::Json => Some(Oid(114)),
-            PgType::JsonArray => Some(Oid(199)),
-            PgType::Point => Some(Oid(600)),
-            PgType::Lseg => Some(Oid(601)),
-            PgType::Path => Some(Oid(602)),
-            PgType::Box => Some(Oid(603)),
-            PgType::Polygon => Some(Oid(604)),
-            PgType::Line => Some(Oid(628)),
-            PgType::LineArray => Some(Oid(629)),
-            PgType::Cidr => Some(Oid(650)),
-            PgType::CidrArray => Some(Oid(651)),
-            PgType::Float4 => Some(Oid(700)),
-            PgType::Float8 => Some(Oid(701)),
-            PgType::Unknown => Some(Oid(705)),
-            PgType::Circle => Some(Oid(718)),
-            PgType::CircleArray => Some(Oid(719)),
-            PgType::Macaddr8 => Some(Oid(774)),
-            PgType::Macaddr8Array => Some(Oid(775)),
-            PgType::Money => Some(Oid(790)),
-            PgType::MoneyArray => Some(Oid(791)),
-            PgType::Macaddr => Some(Oid(829)),
-            PgType::Inet => Some(Oid(869)),
-            PgType::BoolArray => Some(Oid(1000)),
-            PgType::ByteaArray => Some(Oid(1001)),
-            PgType::CharArray => Some(Oid(1002)),
-            PgType::NameArray => Some(Oid(1003)),
-            PgType::Int2Array => Some(Oid(1005)),
-            PgType::Int4Array => Some(Oid(1007)),
-            PgType::TextArray => Some(Oid(1009)),
-            PgType::BpcharArray => Some(Oid(1014)),
-            PgType::VarcharArray => Some(Oid(1015)),
-            PgType::Int8Array => Some(Oid(1016)),
-            PgType::PointArray => Some(Oid(1017)),
-            PgType::LsegArray => Some(Oid(1018)),
-            PgType::PathArray => Some(Oid(1019)),
-            PgType::BoxArray => Some(Oid(1020)),
-            PgType::Float4Array => Some(Oid(1021)),
-            PgType::Float8Array => Some(Oid(1022)),
-            PgType::PolygonArray => Some(Oid(1027)),
-            PgType::OidArray => Some(Oid(1028)),
-            PgType::MacaddrArray => Some(Oid(1040)),
-            PgType::InetArray => Some(Oid(1041)),
-            PgType::Bpchar => Some(Oid(1042)),
-            PgType::Varchar => Some(Oid(1043)),
-            PgType::Date => Some(Oid(1082)),
-            PgType::Time => Some(Oid(1083)),
-            PgType::Timestamp => Some(Oid(1114)),
-            PgType::TimestampArray => Some(Oid(1115)),
-            PgType::DateArray => Some(Oid(1182)),
-            PgType::TimeArray => Some(Oid(1183)),
-            PgType::Timestamptz => Some(Oid(1184)),
-            PgType::TimestamptzArray => Some(Oid(1185)),
-            PgType::Interval => Some(Oid(1186)),
-            PgType::IntervalArray => Some(Oid(1187)),
-            PgType::NumericArray => Some(Oid(1231)),
-            PgType::Timetz => Some(Oid(1266)),
-            PgType::TimetzArray => Some(Oid(1270)),
-            PgType::Bit => Some(Oid(1560)),
-            PgType::BitArray => Some(Oid(1561)),
-            PgType::Varbit => Some(Oid(1562)),
-            PgType::VarbitArray => Some(Oid(1563)),
-            PgType::Numeric => Some(Oid(1700)),
-            PgType::Record => Some(Oid(2249)),
-            PgType::Void => Some(Oid(2278)),
-            PgType::RecordArray => Some(Oid(2287)),
-            PgType::Uuid => Some(Oid(2950)),
-            PgType::UuidArray => Some(Oid(2951)),
-            PgType::Jsonb => Some(Oid(3802)),
-            PgType::JsonbArray => Some(Oid(3807)),
-            PgType::Int4Range => Some(Oid(3904)),
-            PgType::Int4RangeArray => Some(Oid(3905)),
-            PgType::NumRange => Some(Oid(3906)),
-            PgType::NumRangeArray => Some(Oid(3907)),
-            PgType::TsRange => Some(Oid(3908)),
-            PgType::TsRangeArray => Some(Oid(3909)),
-            PgType::TstzRange => Some(Oid(3910)),
-            PgType::TstzRangeArray => Some(Oid(3911)),
-            PgType::DateRange => Some(Oid(3912)),
-            PgType::DateRangeArray => Some(Oid(3913)),
-            PgType::Int8Range => Some(Oid(3926)),
-            PgType::Int8RangeArray => Some(Oid(3927)),
-            PgType::Jsonpath => Some(Oid(4072)),
-            PgType::JsonpathArray => Some(Oid(4073)),
-            PgType::Custom(custom) => Some(custom.oid),
-            PgType::DeclareWithOid(oid) => Some(*oid),
-            PgType::DeclareWithName(_) => None,
-            PgType::DeclareArrayOf(_) => None,
+        self as usize
+    }
+
+    /// Its row.
+    #[inline(always)]
+    pub(crate) fn row(self) -> &'static Row
+        ensures { IsTableRow (number_of self) result.now }
+    {
+        &rows()[self.place()]
+    }
+
+    /// The element of an array.
+    pub(crate) fn element(self) -> Option<BuiltIn>
+        ensures { option_map number_of result ≡ element_oid (number_of self) }
+    {
+        match self.row().kind {
+            RowKind::Array(element) => Some(element),
+            _ => None,
         }
     }
 
-    /// The OID of a built-in type. `None` for a custom type, and for one that is only declared.
-    #[inline(always)]
-    pub fn built_in_oid(&self) -> Option<Oid>
-        ensures { option_map (λ o. o.0) result ≡ built_in_oid (type_of self.now) }
+    /// Its kind.
+    pub(crate) fn kind(self) -> PgTypeKindRef<'static>
+        ensures { kind_lent result ≡ built_in_kind (number_of self) }
     {
-        match self {
-            PgType::Custom(_)
-            | PgType::DeclareWithName(_)
-            | PgType::DeclareWithOid(_)
-            | PgType::DeclareArrayOf(_) => None,
-            _ => self.oid(),
+        match self.row().kind {
+            RowKind::Simple => PgTypeKindRef::Simple,
+            RowKind::Pseudo => PgTypeKindRef::Pseudo,
+            RowKind::Array(element) => PgTypeKindRef::Array(held(element)),
+            RowKind::Range(element) => PgTypeKindRef::Range(held(element)),
         }
     }
 
     /// The built-in type with this OID. `None` where no built-in type has it.
-    pub fn try_from_oid(oid: Oid) -> Option<PgType>
-        ensures { option_map type_of result ≡ built_in oid.0 }
+    pub(crate) fn try_from_oid(oid: Oid) -> Option<BuiltIn>
+        ensures { option_map (λ found. builtin (number_of found)) result ≡ built_in oid.0 }
     {
         let found = match oid.0 {
-            16 => PgType::Bool,
-            17 => PgType::Bytea,
-            18 => PgType::Char,
-            19 => PgType::Name,
-            20 => PgType::Int8,
-            21 => PgType::Int2,
-            23 => PgType::Int4,
-            25 => PgType::Text,
-            26 => PgType::Oid,
-            114 => PgType::Json,
-            199 => PgType::JsonArray,
-            600 => PgType::Point,
-            601 => PgType::Lseg,
-            602 => PgType::Path,
-            603 => PgType::Box,
-            604 => PgType::Polygon,
-            628 => PgType::Line,
-            629 => PgType::LineArray,
-            650 => PgType::Cidr,
-            651 => PgType::CidrArray,
-            700 => PgType::Float4,
-            701 => PgType::Float8,
-            705 => PgType::Unknown,
-            718 => PgType::Circle,
-            719 => PgType::CircleArray,
-            774 => PgType::Macaddr8,
-            775 => PgType::Macaddr8Array,
-            790 => PgType::Money,
-            791 => PgType::MoneyArray,
-            829 => PgType::Macaddr,
-            869 => PgType::Inet,
-            1000 => PgType::BoolArray,
-            1001 => PgType::ByteaArray,
-            1002 => PgType::CharArray,
-            1003 => PgType::NameArray,
-            1005 => PgType::Int2Array,
-            1007 => PgType::Int4Array,
-            1009 => PgType::TextArray,
-            1014 => PgType::BpcharArray,
-            1015 => PgType::VarcharArray,
-            1016 => PgType::Int8Array,
-            1017 => PgType::PointArray,
-            1018 => PgType::LsegArray,
-            1019 => PgType::PathArray,
-            1020 => PgType::BoxArray,
-            1021 => PgType::Float4Array,
-            1022 => PgType::Float8Array,
-            1027 => PgType::PolygonArray,
-            1028 => PgType::OidArray,
-            1040 => PgType::MacaddrArray,
-            1041 => PgType::InetArray,
-            1042 => PgType::Bpchar,
-            1043 => PgType::Varchar,
-            1082 => PgType::Date,
-            1083 => PgType::Time,
-            1114 => PgType::Timestamp,
-            1115 => PgType::TimestampArray,
-            1182 => PgType::DateArray,
-            1183 => PgType::TimeArray,
-            1184 => PgType::Timestamptz,
-            1185 => PgType::TimestamptzArray,
-            1186 => PgType::Interval,
-            1187 => PgType::IntervalArray,
-            1231 => PgType::NumericArray,
-            1266 => PgType::Timetz,
-            1270 => PgType::TimetzArray,
-            1560 => PgType::Bit,
-            1561 => PgType::BitArray,
-            1562 => PgType::Varbit,
-            1563 => PgType::VarbitArray,
-            1700 => PgType::Numeric,
-            2249 => PgType::Record,
-            2278 => PgType::Void,
-            2287 => PgType::RecordArray,
-            2950 => PgType::Uuid,
-            2951 => PgType::UuidArray,
-            3802 => PgType::Jsonb,
-            3807 => PgType::JsonbArray,
-            3904 => PgType::Int4Range,
-            3905 => PgType::Int4RangeArray,
-            3906 => PgType::NumRange,
-            3907 => PgType::NumRangeArray,
-            3908 => PgType::TsRange,
-            3909 => PgType::TsRangeArray,
-            3910 => PgType::TstzRange,
-            3911 => PgType::TstzRangeArray,
-            3912 => PgType::DateRange,
-            3913 => PgType::DateRangeArray,
-            3926 => PgType::Int8Range,
-            3927 => PgType::Int8RangeArray,
-            4072 => PgType::Jsonpath,
-            4073 => PgType::JsonpathArray,
+            16 => BuiltIn::Bool,
+            17 => BuiltIn::Bytea,
+            18 => BuiltIn::Char,
+            19 => BuiltIn::Name,
+            20 => BuiltIn::Int8,
+            21 => BuiltIn::Int2,
+            23 => BuiltIn::Int4,
+            25 => BuiltIn::Text,
+            26 => BuiltIn::Oid,
+            114 => BuiltIn::Json,
+            199 => BuiltIn::JsonArray,
+            600 => BuiltIn::Point,
+            601 => BuiltIn::Lseg,
+            602 => BuiltIn::Path,
+            603 => BuiltIn::Box,
+            604 => BuiltIn::Polygon,
+            628 => BuiltIn::Line,
+            629 => BuiltIn::LineArray,
+            650 => BuiltIn::Cidr,
+            651 => BuiltIn::CidrArray,
+            700 => BuiltIn::Float4,
+            701 => BuiltIn::Float8,
+            705 => BuiltIn::Unknown,
+            718 => BuiltIn::Circle,
+            719 => BuiltIn::CircleArray,
+            774 => BuiltIn::Macaddr8,
+            775 => BuiltIn::Macaddr8Array,
+            790 => BuiltIn::Money,
+            791 => BuiltIn::MoneyArray,
+            829 => BuiltIn::Macaddr,
+            869 => BuiltIn::Inet,
+            1000 => BuiltIn::BoolArray,
+            1001 => BuiltIn::ByteaArray,
+            1002 => BuiltIn::CharArray,
+            1003 => BuiltIn::NameArray,
+            1005 => BuiltIn::Int2Array,
+            1007 => BuiltIn::Int4Array,
+            1009 => BuiltIn::TextArray,
+            1014 => BuiltIn::BpcharArray,
+            1015 => BuiltIn::VarcharArray,
+            1016 => BuiltIn::Int8Array,
+            1017 => BuiltIn::PointArray,
+            1018 => BuiltIn::LsegArray,
+            1019 => BuiltIn::PathArray,
+            1020 => BuiltIn::BoxArray,
+            1021 => BuiltIn::Float4Array,
+            1022 => BuiltIn::Float8Array,
+            1027 => BuiltIn::PolygonArray,
+            1028 => BuiltIn::OidArray,
+            1040 => BuiltIn::MacaddrArray,
+            1041 => BuiltIn::InetArray,
+            1042 => BuiltIn::Bpchar,
+            1043 => BuiltIn::Varchar,
+            1082 => BuiltIn::Date,
+            1083 => BuiltIn::Time,
+            1114 => BuiltIn::Timestamp,
+            1115 => BuiltIn::TimestampArray,
+            1182 => BuiltIn::DateArray,
+            1183 => BuiltIn::TimeArray,
+            1184 => BuiltIn::Timestamptz,
+            1185 => BuiltIn::TimestamptzArray,
+            1186 => BuiltIn::Interval,
+            1187 => BuiltIn::IntervalArray,
+            1231 => BuiltIn::NumericArray,
+            1266 => BuiltIn::Timetz,
+            1270 => BuiltIn::TimetzArray,
+            1560 => BuiltIn::Bit,
+            1561 => BuiltIn::BitArray,
+            1562 => BuiltIn::Varbit,
+            1563 => BuiltIn::VarbitArray,
+            1700 => BuiltIn::Numeric,
+            2249 => BuiltIn::Record,
+            2278 => BuiltIn::Void,
+            2287 => BuiltIn::RecordArray,
+            2950 => BuiltIn::Uuid,
+            2951 => BuiltIn::UuidArray,
+            3802 => BuiltIn::Jsonb,
+            3807 => BuiltIn::JsonbArray,
+            3904 => BuiltIn::Int4Range,
+            3905 => BuiltIn::Int4RangeArray,
+            3906 => BuiltIn::NumRange,
+            3907 => BuiltIn::NumRangeArray,
+            3908 => BuiltIn::TsRange,
+            3909 => BuiltIn::TsRangeArray,
+            3910 => BuiltIn::TstzRange,
+            3911 => BuiltIn::TstzRangeArray,
+            3912 => BuiltIn::DateRange,
+            3913 => BuiltIn::DateRangeArray,
+            3926 => BuiltIn::Int8Range,
+            3927 => BuiltIn::Int8RangeArray,
+            4072 => BuiltIn::Jsonpath,
+            4073 => BuiltIn::JsonpathArray,
             _ => return None,
         };
         Some(found)
     }
+}
 
-    /// The element of a built-in array.
-    pub(crate) fn built_in_element(&self) -> Option<PgType>
-        ensures { option_map type_of result ≡ element_built_in (type_of self.now) }
-    {
-        match self {
-            PgType::JsonArray => Some(PgType::Json),
-            PgType::LineArray => Some(PgType::Line),
-            PgType::CidrArray => Some(PgType::Cidr),
-            PgType::CircleArray => Some(PgType::Circle),
-            PgType::Macaddr8Array => Some(PgType::Macaddr8),
-            PgType::MoneyArray => Some(PgType::Money),
-            PgType::BoolArray => Some(PgType::Bool),
-            PgType::ByteaArray => Some(PgType::Bytea),
-            PgType::CharArray => Some(PgType::Char),
-            PgType::NameArray => Some(PgType::Name),
-            PgType::Int2Array => Some(PgType::Int2),
-            PgType::Int4Array => Some(PgType::Int4),
-            PgType::TextArray => Some(PgType::Text),
-            PgType::BpcharArray => Some(PgType::Bpchar),
-            PgType::VarcharArray => Some(PgType::Varchar),
-            PgType::Int8Array => Some(PgType::Int8),
-            PgType::PointArray => Some(PgType::Point),
-            PgType::LsegArray => Some(PgType::Lseg),
-            PgType::PathArray => Some(PgType::Path),
-            PgType::BoxArray => Some(PgType::Box),
-            PgType::Float4Array => Some(PgType::Float4),
-            PgType::Float8Array => Some(PgType::Float8),
-            PgType::PolygonArray => Some(PgType::Polygon),
-            PgType::OidArray => Some(PgType::Oid),
-            PgType::MacaddrArray => Some(PgType::Macaddr),
-            PgType::InetArray => Some(PgType::Inet),
-            PgType::TimestampArray => Some(PgType::Timestamp),
-            PgType::DateArray => Some(PgType::Date),
-            PgType::TimeArray => Some(PgType::Time),
-            PgType::TimestamptzArray => Some(PgType::Timestamptz),
-            PgType::IntervalArray => Some(PgType::Interval),
-            PgType::NumericArray => Some(PgType::Numeric),
-            PgType::TimetzArray => Some(PgType::Timetz),
-            PgType::BitArray => Some(PgType::Bit),
-            PgType::VarbitArray => Some(PgType::Varbit),
-            PgType::RecordArray => Some(PgType::Record),
-            PgType::UuidArray => Some(PgType::Uuid),
-            PgType::JsonbArray => Some(PgType::Jsonb),
-            PgType::Int4RangeArray => Some(PgType::Int4Range),
-            PgType::NumRangeArray => Some(PgType::NumRange),
-            PgType::TsRangeArray => Some(PgType::TsRange),
-            PgType::TstzRangeArray => Some(PgType::TstzRange),
-            PgType::DateRangeArray => Some(PgType::DateRange),
-            PgType::Int8RangeArray => Some(PgType::Int8Range),
-            PgType::JsonpathArray => Some(PgType::Jsonpath),
-            _ => None,
-        }
-    }
+/// A built-in type that is part of another.
+fn held(part: BuiltIn) -> PgTypeRef<'static>
+    ensures { ref_type result ≡ builtin (number_of part) }
+{
+    PgTypeRef::Owned(PgTypeInfo(PgType::BuiltIn(part)))
+}
 
-    /// The element of a built-in range.
-    pub(crate) fn built_in_range(&self) -> Option<PgType>
-        ensures { option_map type_of result ≡ range_built_in (type_of self.now) }
-    {
-        match self {
-            PgType::Int4Range => Some(PgType::Int4),
-            PgType::NumRange => Some(PgType::Numeric),
-            PgType::TsRange => Some(PgType::Timestamp),
-            PgType::TstzRange => Some(PgType::Timestamptz),
-            PgType::DateRange => Some(PgType::Date),
-            PgType::Int8Range => Some(PgType::Int8),
-            _ => None,
-        }
-    }
+/// The built-in types as types: `PgTypeInfo(PgType::Int4)`.
+#[allow(non_upper_case_globals)]
+impl PgType {
+    pub const Bool: PgType = PgType::BuiltIn(BuiltIn::Bool);
 
-    /// Whether it is the one pseudo-type of the table.
-    pub(crate) fn is_pseudo(&self) -> bool
-        ensures { result ≡ is_pseudo (type_of self.now) }
-    {
-        matches!(self, PgType::Void)
-    }
+    pub const BoolArray: PgType = PgType::BuiltIn(BuiltIn::BoolArray);
 
-    /// The catalogue name before its suffix.
-    pub(crate) fn name_text(&self) -> &str
-        ensures { result.now ≡ name_text_of (type_of self.now) }
-    {
-        match self {
-            PgType::Bool => "bool",
-            PgType::Bytea => "bytea",
-            PgType::Char => "char",
-            PgType::Name => "name",
-            PgType::Int8 => "int8",
-            PgType::Int2 => "int2",
-            PgType::Int4 => "int4",
-            PgType::Text => "text",
-            PgType::Oid => "oid",
-            PgType::Json => "json",
-            PgType::JsonArray => "_json",
-            PgType::Point => "point",
-            PgType::Lseg => "lseg",
-            PgType::Path => "path",
-            PgType::Box => "box",
-            PgType::Polygon => "polygon",
-            PgType::Line => "line",
-            PgType::LineArray => "_line",
-            PgType::Cidr => "cidr",
-            PgType::CidrArray => "_cidr",
-            PgType::Float4 => "float4",
-            PgType::Float8 => "float8",
-            PgType::Unknown => "unknown",
-            PgType::Circle => "circle",
-            PgType::CircleArray => "_circle",
-            PgType::Macaddr8 => "macaddr8",
-            PgType::Macaddr8Array => "_macaddr8",
-            PgType::Money => "money",
-            PgType::MoneyArray => "_money",
-            PgType::Macaddr => "macaddr",
-            PgType::Inet => "inet",
-            PgType::BoolArray => "_bool",
-            PgType::ByteaArray => "_bytea",
-            PgType::CharArray => "_char",
-            PgType::NameArray => "_name",
-            PgType::Int2Array => "_int2",
-            PgType::Int4Array => "_int4",
-            PgType::TextArray => "_text",
-            PgType::BpcharArray => "_bpchar",
-            PgType::VarcharArray => "_varchar",
-            PgType::Int8Array => "_int8",
-            PgType::PointArray => "_point",
-            PgType::LsegArray => "_lseg",
-            PgType::PathArray => "_path",
-            PgType::BoxArray => "_box",
-            PgType::Float4Array => "_float4",
-            PgType::Float8Array => "_float8",
-            PgType::PolygonArray => "_polygon",
-            PgType::OidArray => "_oid",
-            PgType::MacaddrArray => "_macaddr",
-            PgType::InetArray => "_inet",
-            PgType::Bpchar => "bpchar",
-            PgType::Varchar => "varchar",
-            PgType::Date => "date",
-            PgType::Time => "time",
-            PgType::Timestamp => "timestamp",
-            PgType::TimestampArray => "_timestamp",
-            PgType::DateArray => "_date",
-            PgType::TimeArray => "_time",
-            PgType::Timestamptz => "timestamptz",
-            PgType::TimestamptzArray => "_timestamptz",
-            PgType::Interval => "interval",
-            PgType::IntervalArray => "_interval",
-            PgType::NumericArray => "_numeric",
-            PgType::Timetz => "timetz",
-            PgType::TimetzArray => "_timetz",
-            PgType::Bit => "bit",
-            PgType::BitArray => "_bit",
-            PgType::Varbit => "varbit",
-            PgType::VarbitArray => "_varbit",
-            PgType::Numeric => "numeric",
-            PgType::Record => "record",
-            PgType::Void => "void",
-            PgType::RecordArray => "_record",
-            PgType::Uuid => "uuid",
-            PgType::UuidArray => "_uuid",
-            PgType::Jsonb => "jsonb",
-            PgType::JsonbArray => "_jsonb",
-            PgType::Int4Range => "int4range",
-            PgType::Int4RangeArray => "_int4range",
-            PgType::NumRange => "numrange",
-            PgType::NumRangeArray => "_numrange",
-            PgType::TsRange => "tsrange",
-            PgType::TsRangeArray => "_tsrange",
-            PgType::TstzRange => "tstzrange",
-            PgType::TstzRangeArray => "_tstzrange",
-            PgType::DateRange => "daterange",
-            PgType::DateRangeArray => "_daterange",
-            PgType::Int8Range => "int8range",
-            PgType::Int8RangeArray => "_int8range",
-            PgType::Jsonpath => "jsonpath",
-            PgType::JsonpathArray => "_jsonpath",
-            PgType::Custom(custom) => custom.name.as_str(),
-            PgType::DeclareWithName(name) => name.as_str(),
-            PgType::DeclareWithOid(_) => "?",
-            PgType::DeclareArrayOf(of) => of.elem_name(),
-        }
-    }
+    pub const Bytea: PgType = PgType::BuiltIn(BuiltIn::Bytea);
 
-    /// The display name before its suffix.
-    pub(crate) fn display_text(&self) -> &str
-        ensures { result.now ≡ display_text_of (type_of self.now) }
-    {
-        match self {
-            PgType::Bool => "BOOL",
-            PgType::Bytea => "BYTEA",
-            PgType::Char => "\"CHAR\"",
-            PgType::Name => "NAME",
-            PgType::Int8 => "INT8",
-            PgType::Int2 => "INT2",
-            PgType::Int4 => "INT4",
-            PgType::Text => "TEXT",
-            PgType::Oid => "OID",
-            PgType::Json => "JSON",
-            PgType::JsonArray => "JSON",
-            PgType::Point => "POINT",
-            PgType::Lseg => "LSEG",
-            PgType::Path => "PATH",
-            PgType::Box => "BOX",
-            PgType::Polygon => "POLYGON",
-            PgType::Line => "LINE",
-            PgType::LineArray => "LINE",
-            PgType::Cidr => "CIDR",
-            PgType::CidrArray => "CIDR",
-            PgType::Float4 => "FLOAT4",
-            PgType::Float8 => "FLOAT8",
-            PgType::Unknown => "UNKNOWN",
-            PgType::Circle => "CIRCLE",
-            PgType::CircleArray => "CIRCLE",
-            PgType::Macaddr8 => "MACADDR8",
-            PgType::Macaddr8Array => "MACADDR8",
-            PgType::Money => "MONEY",
-            PgType::MoneyArray => "MONEY",
-            PgType::Macaddr => "MACADDR",
-            PgType::Inet => "INET",
-            PgType::BoolArray => "BOOL",
-            PgType::ByteaArray => "BYTEA",
-            PgType::CharArray => "\"CHAR\"",
-            PgType::NameArray => "NAME",
-            PgType::Int2Array => "INT2",
-            PgType::Int4Array => "INT4",
-            PgType::TextArray => "TEXT",
-            PgType::BpcharArray => "CHAR",
-            PgType::VarcharArray => "VARCHAR",
-            PgType::Int8Array => "INT8",
-            PgType::PointArray => "POINT",
-            PgType::LsegArray => "LSEG",
-            PgType::PathArray => "PATH",
-            PgType::BoxArray => "BOX",
-            PgType::Float4Array => "FLOAT4",
-            PgType::Float8Array => "FLOAT8",
-            PgType::PolygonArray => "POLYGON",
-            PgType::OidArray => "OID",
-            PgType::MacaddrArray => "MACADDR",
-            PgType::InetArray => "INET",
-            PgType::Bpchar => "CHAR",
-            PgType::Varchar => "VARCHAR",
-            PgType::Date => "DATE",
-            PgType::Time => "TIME",
-            PgType::Timestamp => "TIMESTAMP",
-            PgType::TimestampArray => "TIMESTAMP",
-            PgType::DateArray => "DATE",
-            PgType::TimeArray => "TIME",
-            PgType::Timestamptz => "TIMESTAMPTZ",
-            PgType::TimestamptzArray => "TIMESTAMPTZ",
-            PgType::Interval => "INTERVAL",
-            PgType::IntervalArray => "INTERVAL",
-            PgType::NumericArray => "NUMERIC",
-            PgType::Timetz => "TIMETZ",
-            PgType::TimetzArray => "TIMETZ",
-            PgType::Bit => "BIT",
-            PgType::BitArray => "BIT",
-            PgType::Varbit => "VARBIT",
-            PgType::VarbitArray => "VARBIT",
-            PgType::Numeric => "NUMERIC",
-            PgType::Record => "RECORD",
-            PgType::Void => "VOID",
-            PgType::RecordArray => "RECORD",
-            PgType::Uuid => "UUID",
-            PgType::UuidArray => "UUID",
-            PgType::Jsonb => "JSONB",
-            PgType::JsonbArray => "JSONB",
-            PgType::Int4Range => "INT4RANGE",
-            PgType::Int4RangeArray => "INT4RANGE",
-            PgType::NumRange => "NUMRANGE",
-            PgType::NumRangeArray => "NUMRANGE",
-            PgType::TsRange => "TSRANGE",
-            PgType::TsRangeArray => "TSRANGE",
-            PgType::TstzRange => "TSTZRANGE",
-            PgType::TstzRangeArray => "TSTZRANGE",
-            PgType::DateRange => "DATERANGE",
-            PgType::DateRangeArray => "DATERANGE",
-            PgType::Int8Range => "INT8RANGE",
-            PgType::Int8RangeArray => "INT8RANGE",
-            PgType::Jsonpath => "JSONPATH",
-            PgType::JsonpathArray => "JSONPATH",
-            PgType::Custom(custom) => custom.name.as_str(),
-            PgType::DeclareWithName(name) => name.as_str(),
-            PgType::DeclareWithOid(_) => "?",
-            PgType::DeclareArrayOf(of) => of.elem_name(),
-        }
-    }
+    pub const ByteaArray: PgType = PgType::BuiltIn(BuiltIn::ByteaArray);
+
+    pub const Char: PgType = PgType::BuiltIn(BuiltIn::Char);
+
+    pub const CharArray: PgType = PgType::BuiltIn(BuiltIn::CharArray);
+
+    pub const Name: PgType = PgType::BuiltIn(BuiltIn::Name);
+
+    pub const NameArray: PgType = PgType::BuiltIn(BuiltIn::NameArray);
+
+    pub const Int8: PgType = PgType::BuiltIn(BuiltIn::Int8);
+
+    pub const Int8Array: PgType = PgType::BuiltIn(BuiltIn::Int8Array);
+
+    pub const Int2: PgType = PgType::BuiltIn(BuiltIn::Int2);
+
+    pub const Int2Array: PgType = PgType::BuiltIn(BuiltIn::Int2Array);
+
+    pub const Int4: PgType = PgType::BuiltIn(BuiltIn::Int4);
+
+    pub const Int4Array: PgType = PgType::BuiltIn(BuiltIn::Int4Array);
+
+    pub const Text: PgType = PgType::BuiltIn(BuiltIn::Text);
+
+    pub const TextArray: PgType = PgType::BuiltIn(BuiltIn::TextArray);
+
+    pub const Oid: PgType = PgType::BuiltIn(BuiltIn::Oid);
+
+    pub const OidArray: PgType = PgType::BuiltIn(BuiltIn::OidArray);
+
+    pub const Json: PgType = PgType::BuiltIn(BuiltIn::Json);
+
+    pub const JsonArray: PgType = PgType::BuiltIn(BuiltIn::JsonArray);
+
+    pub const Point: PgType = PgType::BuiltIn(BuiltIn::Point);
+
+    pub const PointArray: PgType = PgType::BuiltIn(BuiltIn::PointArray);
+
+    pub const Lseg: PgType = PgType::BuiltIn(BuiltIn::Lseg);
+
+    pub const LsegArray: PgType = PgType::BuiltIn(BuiltIn::LsegArray);
+
+    pub const Path: PgType = PgType::BuiltIn(BuiltIn::Path);
+
+    pub const PathArray: PgType = PgType::BuiltIn(BuiltIn::PathArray);
+
+    pub const Box: PgType = PgType::BuiltIn(BuiltIn::Box);
+
+    pub const BoxArray: PgType = PgType::BuiltIn(BuiltIn::BoxArray);
+
+    pub const Polygon: PgType = PgType::BuiltIn(BuiltIn::Polygon);
+
+    pub const PolygonArray: PgType = PgType::BuiltIn(BuiltIn::PolygonArray);
+
+    pub const Line: PgType = PgType::BuiltIn(BuiltIn::Line);
+
+    pub const LineArray: PgType = PgType::BuiltIn(BuiltIn::LineArray);
+
+    pub const Cidr: PgType = PgType::BuiltIn(BuiltIn::Cidr);
+
+    pub const CidrArray: PgType = PgType::BuiltIn(BuiltIn::CidrArray);
+
+    pub const Float4: PgType = PgType::BuiltIn(BuiltIn::Float4);
+
+    pub const Float4Array: PgType = PgType::BuiltIn(BuiltIn::Float4Array);
+
+    pub const Float8: PgType = PgType::BuiltIn(BuiltIn::Float8);
+
+    pub const Float8Array: PgType = PgType::BuiltIn(BuiltIn::Float8Array);
+
+    pub const Unknown: PgType = PgType::BuiltIn(BuiltIn::Unknown);
+
+    pub const Circle: PgType = PgType::BuiltIn(BuiltIn::Circle);
+
+    pub const CircleArray: PgType = PgType::BuiltIn(BuiltIn::CircleArray);
+
+    pub const Macaddr8: PgType = PgType::BuiltIn(BuiltIn::Macaddr8);
+
+    pub const Macaddr8Array: PgType = PgType::BuiltIn(BuiltIn::Macaddr8Array);
+
+    pub const Money: PgType = PgType::BuiltIn(BuiltIn::Money);
+
+    pub const MoneyArray: PgType = PgType::BuiltIn(BuiltIn::MoneyArray);
+
+    pub const Macaddr: PgType = PgType::BuiltIn(BuiltIn::Macaddr);
+
+    pub const MacaddrArray: PgType = PgType::BuiltIn(BuiltIn::MacaddrArray);
+
+    pub const Inet: PgType = PgType::BuiltIn(BuiltIn::Inet);
+
+    pub const InetArray: PgType = PgType::BuiltIn(BuiltIn::InetArray);
+
+    pub const Bpchar: PgType = PgType::BuiltIn(BuiltIn::Bpchar);
+
+    pub const BpcharArray: PgType = PgType::BuiltIn(BuiltIn::BpcharArray);
+
+    pub const Varchar: PgType = PgType::BuiltIn(BuiltIn::Varchar);
+
+    pub const VarcharArray: PgType = PgType::BuiltIn(BuiltIn::VarcharArray);
+
+    pub const Date: PgType = PgType::BuiltIn(BuiltIn::Date);
+
+    pub const DateArray: PgType = PgType::BuiltIn(BuiltIn::DateArray);
+
+    pub const Time: PgType = PgType::BuiltIn(BuiltIn::Time);
+
+    pub const TimeArray: PgType = PgType::BuiltIn(BuiltIn::TimeArray);
+
+    pub const Timestamp: PgType = PgType::BuiltIn(BuiltIn::Timestamp);
+
+    pub const TimestampArray: PgType = PgType::BuiltIn(BuiltIn::TimestampArray);
+
+    pub const Timestamptz: PgType = PgType::BuiltIn(BuiltIn::Timestamptz);
+
+    pub const TimestamptzArray: PgType = PgType::BuiltIn(BuiltIn::TimestamptzArray);
+
+    pub const Interval: PgType = PgType::BuiltIn(BuiltIn::Interval);
+
+    pub const IntervalArray: PgType = PgType::BuiltIn(BuiltIn::IntervalArray);
+
+    pub const Timetz: PgType = PgType::BuiltIn(BuiltIn::Timetz);
+
+    pub const TimetzArray: PgType = PgType::BuiltIn(BuiltIn::TimetzArray);
+
+    pub const Bit: PgType = PgType::BuiltIn(BuiltIn::Bit);
+
+    pub const BitArray: PgType = PgType::BuiltIn(BuiltIn::BitArray);
+
+    pub const Varbit: PgType = PgType::BuiltIn(BuiltIn::Varbit);
+
+    pub const VarbitArray: PgType = PgType::BuiltIn(BuiltIn::VarbitArray);
+
+    pub const Numeric: PgType = PgType::BuiltIn(BuiltIn::Numeric);
+
+    pub const NumericArray: PgType = PgType::BuiltIn(BuiltIn::NumericArray);
+
+    pub const Record: PgType = PgType::BuiltIn(BuiltIn::Record);
+
+    pub const RecordArray: PgType = PgType::BuiltIn(BuiltIn::RecordArray);
+
+    pub const Void: PgType = PgType::BuiltIn(BuiltIn::Void);
+
+    pub const Uuid: PgType = PgType::BuiltIn(BuiltIn::Uuid);
+
+    pub const UuidArray: PgType = PgType::BuiltIn(BuiltIn::UuidArray);
+
+    pub const Jsonb: PgType = PgType::BuiltIn(BuiltIn::Jsonb);
+
+    pub const JsonbArray: PgType = PgType::BuiltIn(BuiltIn::JsonbArray);
+
+    pub const Int4Range: PgType = PgType::BuiltIn(BuiltIn::Int4Range);
+
+    pub const Int4RangeArray: PgType = PgType::BuiltIn(BuiltIn::Int4RangeArray);
+
+    pub const NumRange: PgType = PgType::BuiltIn(BuiltIn::NumRange);
+
+    pub const NumRangeArray: PgType = PgType::BuiltIn(BuiltIn::NumRangeArray);
+
+    pub const TsRange: PgType = PgType::BuiltIn(BuiltIn::TsRange);
+
+    pub const TsRangeArray: PgType = PgType::BuiltIn(BuiltIn::TsRangeArray);
+
+    pub const TstzRange: PgType = PgType::BuiltIn(BuiltIn::TstzRange);
+
+    pub const TstzRangeArray: PgType = PgType::BuiltIn(BuiltIn::TstzRangeArray);
+
+    pub const DateRange: PgType = PgType::BuiltIn(BuiltIn::DateRange);
+
+    pub const DateRangeArray: PgType = PgType::BuiltIn(BuiltIn::DateRangeArray);
+
+    pub const Int8Range: PgType = PgType::BuiltIn(BuiltIn::Int8Range);
+
+    pub const Int8RangeArray: PgType = PgType::BuiltIn(BuiltIn::Int8RangeArray);
+
+    pub const Jsonpath: PgType = PgType::BuiltIn(BuiltIn::Jsonpath);
+
+    pub const JsonpathArray: PgType = PgType::BuiltIn(BuiltIn::JsonpathArray);
 }

@@ -1,14 +1,15 @@
 //! Types as callers hold them.
 ghost use Rattle.std.specs.Prelude.{◌≡◌, None, false, true, option_map, IfOk, IfSome};
 ghost use Rattle.pgv_types.specs.Whole.{whole};
-ghost use Rattle.pgv_types.specs.Facts.{is_custom, is_void, IsNotCustom, domain_base, under_domains, oid_of, same_built_in, same_oid, element_of, element_built_in, name_element, kind_at, kind_when_built_in, name_of, has_brackets, display_of, shows_brackets, is_a_type, built_in};
+ghost use Rattle.pgv_types.specs.Facts.{is_custom, is_void, IsNotCustom, domain_base, under_domains, oid_of, same_built_in, same_oid, built_in_oid, element_of, name_element, kind_at, name_of, name_text_of, display_text_of, has_brackets, display_of, shows_brackets, built_in};
 ghost use Rattle.pgv_types.specs.Relations.{is_by_oid};
 ghost use Rattle.pgv_types.specs.Ty.{named, array_of, by_oid, custom};
 ghost use Rattle.pgv_types.specs.Shown.{kind_of, type_of};
 ghost use Rattle.pgv_types.specs.LentParts.{ref_type, IsHeld, kind_lent};
 
 use crate::{
-    Oid, PgArrayOf, PgCustomType, PgTypeKind, PgTypeKindRef, PgTypeName, PgTypeRef, StaticText,
+    BuiltIn, Oid, PgArrayOf, PgCustomType, PgTypeKind, PgTypeKindRef, PgTypeName, PgTypeRef,
+    StaticText,
 };
 use std::alloc::{AllocError, Global};
 use std::fmt::{self, Display, Formatter};
@@ -50,104 +51,12 @@ impl Model for PgTypeInfo {
     ghost size_decreases = { λ a h. type_falls a.0 };
 }
 
-/// A built-in type, a custom one, or one that is declared.
-///
-/// The names of the built-in variants are those of PostgreSQL's catalogue.
+/// A built-in type, a custom one, or one that is declared. Each built-in one is a constant, as `PgType::Int4`.
 #[derive(Drop)]
 #[cycle(types)]
 pub enum PgType {
-    Bool,
-    Bytea,
-    Char,
-    Name,
-    Int8,
-    Int2,
-    Int4,
-    Text,
-    Oid,
-    Json,
-    JsonArray,
-    Point,
-    Lseg,
-    Path,
-    Box,
-    Polygon,
-    Line,
-    LineArray,
-    Cidr,
-    CidrArray,
-    Float4,
-    Float8,
-    Unknown,
-    Circle,
-    CircleArray,
-    Macaddr8,
-    Macaddr8Array,
-    Money,
-    MoneyArray,
-    Macaddr,
-    Inet,
-    BoolArray,
-    ByteaArray,
-    CharArray,
-    NameArray,
-    Int2Array,
-    Int4Array,
-    TextArray,
-    BpcharArray,
-    VarcharArray,
-    Int8Array,
-    PointArray,
-    LsegArray,
-    PathArray,
-    BoxArray,
-    Float4Array,
-    Float8Array,
-    PolygonArray,
-    OidArray,
-    MacaddrArray,
-    InetArray,
-    Bpchar,
-    Varchar,
-    Date,
-    Time,
-    Timestamp,
-    TimestampArray,
-    DateArray,
-    TimeArray,
-    Timestamptz,
-    TimestamptzArray,
-    Interval,
-    IntervalArray,
-    NumericArray,
-    Timetz,
-    TimetzArray,
-    Bit,
-    BitArray,
-    Varbit,
-    VarbitArray,
-    Numeric,
-    Record,
-    Void,
-    RecordArray,
-    Uuid,
-    UuidArray,
-    Jsonb,
-    JsonbArray,
-    Int4Range,
-    Int4RangeArray,
-    NumRange,
-    NumRangeArray,
-    TsRange,
-    TsRangeArray,
-    TstzRange,
-    TstzRangeArray,
-    DateRange,
-    DateRangeArray,
-    Int8Range,
-    Int8RangeArray,
-    Jsonpath,
-    JsonpathArray,
+    /// A type that the server has from its start.
+    BuiltIn(BuiltIn),
     /// A type that the server described. Its copies share it.
     Custom(Rc<PgCustomType>),
     /// A type of which only the name is known.
@@ -159,6 +68,38 @@ pub enum PgType {
 }
 
 impl PgType {
+    /// The OID: a built-in type's, a custom type's own, or the declared one. `None` where only a name
+    /// is known.
+    #[inline(always)]
+    pub fn oid(&self) -> Option<Oid>
+        ensures { option_map (λ o. o.0) result ≡ oid_of (type_of self.now) }
+    {
+        match self {
+            PgType::BuiltIn(known) => Some(known.row().oid),
+            PgType::Custom(custom) => Some(custom.oid),
+            PgType::DeclareWithOid(oid) => Some(*oid),
+            PgType::DeclareWithName(_) | PgType::DeclareArrayOf(_) => None,
+        }
+    }
+
+    /// The OID of a built-in type. `None` for a custom type, and for one that is only declared.
+    #[inline(always)]
+    pub fn built_in_oid(&self) -> Option<Oid>
+        ensures { option_map (λ o. o.0) result ≡ built_in_oid (type_of self.now) }
+    {
+        match self {
+            PgType::BuiltIn(known) => Some(known.row().oid),
+            _ => None,
+        }
+    }
+
+    /// The built-in type with this OID. `None` where no built-in type has it.
+    pub fn try_from_oid(oid: Oid) -> Option<PgType>
+        ensures { option_map type_of result ≡ built_in oid.0 }
+    {
+        Some(PgType::BuiltIn(BuiltIn::try_from_oid(oid)?))
+    }
+
     /// The element of an array: a built-in array's or a custom one's, the name after the `_` of a
     /// declared name, or the name that an array was declared by. It takes no memory.
     pub fn array_element(&self) -> Option<PgTypeRef<'_>>
@@ -181,12 +122,12 @@ impl PgType {
         ensures made { IfSome result IsNotCustom }
     {
         match self {
+            PgType::BuiltIn(known) => Some(PgTypeInfo(PgType::BuiltIn(known.element()?))),
             PgType::DeclareWithName(name) => {
                 Some(PgTypeInfo::with_name(element_name(name.as_str())?))
             }
             PgType::DeclareArrayOf(of) => Some(PgTypeInfo::with_name(of.elem_name())),
             PgType::DeclareWithOid(_) | PgType::Custom(_) => None,
-            _ => Some(PgTypeInfo(self.built_in_element()?)),
         }
     }
 
@@ -195,34 +136,10 @@ impl PgType {
         ensures { option_map kind_lent result ≡ kind_at (type_of self.now) }
     {
         match self {
+            PgType::BuiltIn(known) => Some(known.kind()),
             PgType::Custom(custom) => Some(custom.kind()),
-            PgType::DeclareWithOid(_) => None,
-            PgType::DeclareWithName(_) => None,
-            PgType::DeclareArrayOf(_) => None,
-            _ => Some(self.built_in_kind()),
-        }
-    }
-
-    /// The kind of a built-in type.
-    fn built_in_kind(&self) -> PgTypeKindRef<'_>
-        ensures { kind_lent result ≡ kind_when_built_in (type_of self.now) }
-    {
-        match self.built_in_element() {
-            Some(element) => PgTypeKindRef::Array(PgTypeRef::Owned(PgTypeInfo(element))),
-            None => self.row_kind(),
-        }
-    }
-
-    /// The kind of a built-in type that is no array.
-    #[tactic(auto, using(crate::proofs::KindParts::kind_of_range, crate::proofs::KindParts::kind_of_pseudo, crate::proofs::KindParts::kind_of_simple))]
-    fn row_kind(&self) -> PgTypeKindRef<'_>
-        ensures { element_built_in (type_of self.now) ≡ None
-            → kind_lent result ≡ kind_when_built_in (type_of self.now) }
-    {
-        match self.built_in_range() {
-            Some(element) => PgTypeKindRef::Range(PgTypeRef::Owned(PgTypeInfo(element))),
-            None if self.is_pseudo() => PgTypeKindRef::Pseudo,
-            None => PgTypeKindRef::Simple,
+            PgType::DeclareWithOid(_) | PgType::DeclareWithName(_) | PgType::DeclareArrayOf(_) =>
+                None,
         }
     }
 
@@ -240,18 +157,37 @@ impl PgType {
         PgTypeName::new(self.display_text(), self.shows_brackets())
     }
 
+    /// The catalogue name before its suffix.
+    fn name_text(&self) -> &str
+        ensures { result.now ≡ name_text_of (type_of self.now) }
+    {
+        match self {
+            PgType::BuiltIn(known) => known.row().name,
+            PgType::Custom(custom) => custom.name.as_str(),
+            PgType::DeclareWithName(name) => name.as_str(),
+            PgType::DeclareWithOid(_) => "?",
+            PgType::DeclareArrayOf(of) => of.elem_name(),
+        }
+    }
+
+    /// The display name before its suffix.
+    fn display_text(&self) -> &str
+        ensures { result.now ≡ display_text_of (type_of self.now) }
+    {
+        match self {
+            PgType::BuiltIn(known) => known.row().display,
+            _ => self.name_text(),
+        }
+    }
+
     /// Whether `[]` comes after the name that is shown.
     fn shows_brackets(&self) -> bool
         ensures { result ≡ shows_brackets (type_of self.now) }
     {
-        self.is_array_of() || self.is_built_in_array()
-    }
-
-    /// Whether it is an array of the table.
-    fn is_built_in_array(&self) -> bool
-        ensures { result ≡ is_a_type (element_built_in (type_of self.now)) }
-    {
-        self.built_in_element().is_some()
+        match self {
+            PgType::BuiltIn(known) => known.element().is_some(),
+            _ => self.is_array_of(),
+        }
     }
 
     /// Whether it was declared by its element's name.
@@ -303,98 +239,7 @@ impl Clone for PgType {
     #[inline(always)]
     fn clone(&self) -> Result<PgType, AllocError> {
         let copy = match self {
-            PgType::Bool => PgType::Bool,
-            PgType::Bytea => PgType::Bytea,
-            PgType::Char => PgType::Char,
-            PgType::Name => PgType::Name,
-            PgType::Int8 => PgType::Int8,
-            PgType::Int2 => PgType::Int2,
-            PgType::Int4 => PgType::Int4,
-            PgType::Text => PgType::Text,
-            PgType::Oid => PgType::Oid,
-            PgType::Json => PgType::Json,
-            PgType::JsonArray => PgType::JsonArray,
-            PgType::Point => PgType::Point,
-            PgType::Lseg => PgType::Lseg,
-            PgType::Path => PgType::Path,
-            PgType::Box => PgType::Box,
-            PgType::Polygon => PgType::Polygon,
-            PgType::Line => PgType::Line,
-            PgType::LineArray => PgType::LineArray,
-            PgType::Cidr => PgType::Cidr,
-            PgType::CidrArray => PgType::CidrArray,
-            PgType::Float4 => PgType::Float4,
-            PgType::Float8 => PgType::Float8,
-            PgType::Unknown => PgType::Unknown,
-            PgType::Circle => PgType::Circle,
-            PgType::CircleArray => PgType::CircleArray,
-            PgType::Macaddr8 => PgType::Macaddr8,
-            PgType::Macaddr8Array => PgType::Macaddr8Array,
-            PgType::Money => PgType::Money,
-            PgType::MoneyArray => PgType::MoneyArray,
-            PgType::Macaddr => PgType::Macaddr,
-            PgType::Inet => PgType::Inet,
-            PgType::BoolArray => PgType::BoolArray,
-            PgType::ByteaArray => PgType::ByteaArray,
-            PgType::CharArray => PgType::CharArray,
-            PgType::NameArray => PgType::NameArray,
-            PgType::Int2Array => PgType::Int2Array,
-            PgType::Int4Array => PgType::Int4Array,
-            PgType::TextArray => PgType::TextArray,
-            PgType::BpcharArray => PgType::BpcharArray,
-            PgType::VarcharArray => PgType::VarcharArray,
-            PgType::Int8Array => PgType::Int8Array,
-            PgType::PointArray => PgType::PointArray,
-            PgType::LsegArray => PgType::LsegArray,
-            PgType::PathArray => PgType::PathArray,
-            PgType::BoxArray => PgType::BoxArray,
-            PgType::Float4Array => PgType::Float4Array,
-            PgType::Float8Array => PgType::Float8Array,
-            PgType::PolygonArray => PgType::PolygonArray,
-            PgType::OidArray => PgType::OidArray,
-            PgType::MacaddrArray => PgType::MacaddrArray,
-            PgType::InetArray => PgType::InetArray,
-            PgType::Bpchar => PgType::Bpchar,
-            PgType::Varchar => PgType::Varchar,
-            PgType::Date => PgType::Date,
-            PgType::Time => PgType::Time,
-            PgType::Timestamp => PgType::Timestamp,
-            PgType::TimestampArray => PgType::TimestampArray,
-            PgType::DateArray => PgType::DateArray,
-            PgType::TimeArray => PgType::TimeArray,
-            PgType::Timestamptz => PgType::Timestamptz,
-            PgType::TimestamptzArray => PgType::TimestamptzArray,
-            PgType::Interval => PgType::Interval,
-            PgType::IntervalArray => PgType::IntervalArray,
-            PgType::NumericArray => PgType::NumericArray,
-            PgType::Timetz => PgType::Timetz,
-            PgType::TimetzArray => PgType::TimetzArray,
-            PgType::Bit => PgType::Bit,
-            PgType::BitArray => PgType::BitArray,
-            PgType::Varbit => PgType::Varbit,
-            PgType::VarbitArray => PgType::VarbitArray,
-            PgType::Numeric => PgType::Numeric,
-            PgType::Record => PgType::Record,
-            PgType::Void => PgType::Void,
-            PgType::RecordArray => PgType::RecordArray,
-            PgType::Uuid => PgType::Uuid,
-            PgType::UuidArray => PgType::UuidArray,
-            PgType::Jsonb => PgType::Jsonb,
-            PgType::JsonbArray => PgType::JsonbArray,
-            PgType::Int4Range => PgType::Int4Range,
-            PgType::Int4RangeArray => PgType::Int4RangeArray,
-            PgType::NumRange => PgType::NumRange,
-            PgType::NumRangeArray => PgType::NumRangeArray,
-            PgType::TsRange => PgType::TsRange,
-            PgType::TsRangeArray => PgType::TsRangeArray,
-            PgType::TstzRange => PgType::TstzRange,
-            PgType::TstzRangeArray => PgType::TstzRangeArray,
-            PgType::DateRange => PgType::DateRange,
-            PgType::DateRangeArray => PgType::DateRangeArray,
-            PgType::Int8Range => PgType::Int8Range,
-            PgType::Int8RangeArray => PgType::Int8RangeArray,
-            PgType::Jsonpath => PgType::Jsonpath,
-            PgType::JsonpathArray => PgType::JsonpathArray,
+            PgType::BuiltIn(known) => PgType::BuiltIn(*known),
             PgType::Custom(custom) => PgType::Custom(custom.clone()?),
             PgType::DeclareWithOid(oid) => PgType::DeclareWithOid(*oid),
             PgType::DeclareWithName(name) => PgType::DeclareWithName(name.clone()?),
@@ -535,7 +380,7 @@ impl PgTypeInfo {
     pub fn is_void(&self) -> bool
         ensures { result ≡ is_void self.now }
     {
-        matches!(self.0, PgType::Void)
+        matches!(self.0, PgType::BuiltIn(BuiltIn::Void))
     }
 
     /// Whether it is the type of null: never, since PostgreSQL has none.

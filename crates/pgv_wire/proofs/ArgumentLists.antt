@@ -8,7 +8,6 @@ use Rattle.std.proofs.Math.Seq.{take-nil, drop-nil}
 use Rattle.pgv_types.specs.Ty.{Ty}
 use Rattle.pgv_types.specs.declared.oid.Oid.{Oid}
 use Rattle.pgv_buf.specs.Tokens.{blank, plain, Cell, fixed, hole_cell, slot_cell, be4, shown, width, hole_count, slot_count, chosen}
-use Rattle.pgv_buf.specs.Blank.{holes-plain}
 use Rattle.pgv_buf.specs.Fill.{slot_count-filled, fill_holes, first_number, fill_slots, slot_types}
 use Rattle.pgv_buf.specs.Proper.{shown-append, first_type, rest_of}
 use Rattle.pgv_wire.specs.Arguments.{Argument, Framed, all_tokens, types_in, counts_in, framed, early, filled_arguments, filled_frame}
@@ -142,8 +141,7 @@ late_is_early (a ∷ args) ps os =
     let o : List Oid = take (hole_count a.1) os in
     let r : List Oid = drop (hole_count a.1) os in
     shown-append (filled_frame p o a.1) (all_tokens (filled_arguments args (rest_of ps) r))
-    ∙ (ap (λ x. x ++ shown (all_tokens (filled_arguments args (rest_of ps) r))) (shown-frame (slot_count a.1) p o a.1 refl) ∙ ap (λ x. write (Some p) o (plain a.1) ++ x) (late_is_early args (rest_of ps) r)
-    ∙ sym (ap (λ n. write (Some p) (take n os) (plain a.1) ++ early (framed args) (rest_of ps) (drop n os)) (holes-plain a.1)))
+    ∙ (ap (λ x. x ++ shown (all_tokens (filled_arguments args (rest_of ps) r))) (shown-frame (slot_count a.1) p o a.1 refl) ∙ ap (λ x. write (Some p) o (plain a.1) ++ x) (late_is_early args (rest_of ps) r))
 
 pub sum-counts_in : (args : List Argument) → sum (counts_in args) ≡ slot_count (all_tokens args)
 sum-counts_in [] = refl

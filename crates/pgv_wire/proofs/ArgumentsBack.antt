@@ -5,7 +5,7 @@ use Rattle.std.proofs.lemmas.List.{length-map}
 use Rattle.std.proofs.lemmas.Option.{same_Some}
 use Rattle.pgv_types.specs.Ty.{Ty}
 use Rattle.pgv_types.specs.declared.oid.Oid.{Oid}
-use Rattle.pgv_buf.specs.Blank.{plain-blank, holes-plain}
+use Rattle.pgv_buf.specs.Blank.{plain-blank}
 use Rattle.pgv_buf.specs.Proper.{Proper, Proper-front, Proper-back, first_type, rest_of}
 use Rattle.pgv_buf.specs.Tokens.{Token, byte, hole, slot, bytes, be4, tokens_width, tokens_holes, Cell, fixed, hole_cell, slot_cell, blank, plain, shown, hole_count}
 use Rattle.pgv_value.specs.FrameBinary.{Part}
@@ -57,7 +57,7 @@ parts_left (f ∷ fs) since (i ∷ is) ps os h =
     let c : List Cell = blank f.1 in
     let same : plain c ≡ f.1 = plain-blank f.1 in
     let there : (frame_of i).answer ≡ Ok (plain c) = h.0 ∙ ap (λ (r : List Token). let o : Result (List Token) (Option CodecError) = Ok r in o) (sym same) in
-    let many : hole_count c ≡ tokens_holes f.1 = sym (holes-plain c) ∙ ap tokens_holes same in
+    let many : hole_count c ≡ tokens_holes f.1 = ap tokens_holes same in
     let rest : ℕ → List Part = λ n. parts_in is (filled_arguments (blanks fs) (rest_of ps) (drop n os) ++ blanks since) in
     ap (λ (p : Part). p ∷ rest (hole_count c)) (part_filled i c (first_type ps) (take (hole_count c) os) there)
     ∙ (ap (λ (n : ℕ). written_part i (Some (first_type ps)) (take n os) ∷ rest n) many

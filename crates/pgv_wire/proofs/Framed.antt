@@ -5,7 +5,7 @@ use Rattle.std.proofs.lemmas.List.{length-map, map-append}
 use Rattle.pgv_types.specs.Ty.{Ty}
 use Rattle.pgv_types.specs.declared.oid.Oid.{Oid}
 use Rattle.pgv_buf.specs.Tokens.{Token, tokens_holes, Cell, fixed, hole_cell, slot_cell, be4, blank, plain, hole_count, slot_count, chosen}
-use Rattle.pgv_buf.specs.Blank.{plain-append, plain-blank, holes-plain}
+use Rattle.pgv_buf.specs.Blank.{plain-append, plain-blank}
 use Rattle.pgv_buf.specs.Fill.{first_number, fill_holes, fill_slots}
 use Rattle.pgv_buf.specs.Proper.{first_type, rest_of}
 use Rattle.pgv_buf.proofs.Patches.{holes_plain, slots_plain}
@@ -103,7 +103,7 @@ left_filled args ps os n m l =
       record {
         arguments_are = left-filled args l.0 ps os l.1.arguments_are;
         as_many_types = n ∙ (sym (length-map args (λ (x : Argument). (x.0, plain x.1))) ∙ ap length fs);
-        as_many_oids = m ∙ (sym (holes-plain (all_tokens args)) ∙ ap tokens_holes (joined-plain args ∙ ap joined_frames fs));
+        as_many_oids = m ∙ ap tokens_holes (joined-plain args ∙ ap joined_frames fs);
       },
     )
 

@@ -6,7 +6,6 @@ use Rattle.pgv_types.specs.Ty.{Ty}
 use Rattle.pgv_types.specs.declared.oid.Oid.{Oid}
 use Rattle.pgv_buf.specs.Tokens.{tokens_hole_types, Cell, bytes, tokens_width, fixed, hole_cell, slot_cell, blank, plain, shown, width, hole_types_of, hole_count}
 use Rattle.pgv_buf.specs.Proper.{shown-append, first_type, rest_of}
-use Rattle.pgv_buf.proofs.Layouts.{width-plain, types-plain}
 use Rattle.pgv_wire.specs.Arguments.{Argument, Framed, framed, all_tokens, types_in, early, filled_arguments}
 use Rattle.pgv_wire.specs.History.{LeftBySome, WrittenEarly, left_by, with_added, with_filled, Call, adds, fills, is_refused, blanks, after, LastFilling, last_filling_by, last_filling, bytes_by, added_in, joined_frames, framed_types, lengths_in, ArePlain, joined_bytes}
 use Rattle.pgv_wire.proofs.ArgumentLists.{late_is_early, width-frame}
@@ -70,12 +69,12 @@ types-framed (a ∷ args) = ap (λ (r : List Ty). a.0 ∷ r) (types-framed args)
 pub holes_told : (calls : List Call) → hole_types_of (all_tokens (after [] calls)) ≡ tokens_hole_types (joined_frames (added_in calls))
 holes_told calls =
     let args : List Argument = after [] calls in
-    sym (types-plain (all_tokens args)) ∙ (ap tokens_hole_types (joined-plain args) ∙ ap (λ (f : List Framed). tokens_hole_types (joined_frames f)) (only_added calls))
+    ap tokens_hole_types (joined-plain args) ∙ ap (λ (f : List Framed). tokens_hole_types (joined_frames f)) (only_added calls)
 
 pub width_told : (calls : List Call) → width (all_tokens (after [] calls)) ≡ tokens_width (joined_frames (added_in calls))
 width_told calls =
     let args : List Argument = after [] calls in
-    sym (width-plain (all_tokens args)) ∙ (ap tokens_width (joined-plain args) ∙ ap (λ (f : List Framed). tokens_width (joined_frames f)) (only_added calls))
+    ap tokens_width (joined-plain args) ∙ ap (λ (f : List Framed). tokens_width (joined_frames f)) (only_added calls)
 
 pub types_told : (calls : List Call) → types_in (after [] calls) ≡ framed_types (added_in calls)
 types_told calls = types-framed (after [] calls) ∙ ap framed_types (only_added calls)

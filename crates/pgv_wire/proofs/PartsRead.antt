@@ -3,7 +3,6 @@ use Rattle.std.proofs.Common.{◌≡◌, ℕ, suc, arith, List, [], ◌∷◌, �
 use Rattle.std.specs.Int.{w32, to_be_bytes}
 use Rattle.pgv_types.specs.Ty.{Ty}
 use Rattle.pgv_types.specs.declared.oid.Oid.{Oid}
-use Rattle.pgv_buf.specs.Blank.{holes-plain}
 use Rattle.pgv_buf.specs.Proper.{Proper, Proper-front, Proper-back, first_type, shown-append, length-shown, rest_of}
 use Rattle.pgv_buf.specs.Tokens.{Token, bytes, be4, tokens_width, tokens_holes, Cell, plain, shown, hole_count, slot_count}
 use Rattle.pgv_value.specs.FrameBinary.{Part, front}
@@ -15,7 +14,6 @@ use Rattle.pgv_codec.specs.Encoding.{Image, null_image, image_of, frame_of}
 use Rattle.pgv_wire.specs.ArgumentParts.{ReadAs, AreFrames, OfImages, AllRead, part_in, parts_in, written_parts}
 use Rattle.pgv_codec.specs.Writing.{written_part, image_holes}
 use Rattle.pgv_wire.proofs.ArgumentLists.{shown-frame}
-use Rattle.pgv_buf.proofs.Layouts.{width-plain}
 use Rattle.pgv_wire.proofs.Histories.{shown_plain}
 use Rattle.pgv_wire.proofs.Split.{after_bytes, cut}
 
@@ -28,7 +26,7 @@ frame_found (image_of ts) c rest e p =
     let k = cut ts (plain c) e in
     let b = after_bytes (be4 (tokens_width ts)) ts c k.1 in
     let q : Proper b.cells = subst (λ (r : List Cell). Proper r) b.whole p in
-    let len : length (shown b.cells) ≡ tokens_width ts = length-shown b.cells q ∙ (sym (width-plain b.cells) ∙ ap tokens_width b.tokens) in
+    let len : length (shown b.cells) ≡ tokens_width ts = length-shown b.cells q ∙ ap tokens_width b.tokens in
     let bytes_are : shown c ≡ be4 (tokens_width ts) ++ shown b.cells = ap shown b.whole in
     let found : front (shown c ++ rest) ≡ Some (Some (shown b.cells), rest) =
     frame_in_front (shown c ++ rest) (Some (shown b.cells)) rest (
@@ -98,10 +96,10 @@ part_filled (image_of ts) c p os e =
 holes_are : (i : Image) (c : List Cell) → (frame_of i).answer ≡ Ok (plain c) → hole_count c ≡ image_holes i
 holes_are null_image c e =
     let tokens : plain c ≡ bytes (255 ∷ 255 ∷ 255 ∷ 255 ∷ []) = sym (answer_is (bytes (be4 4294967295)) (plain c) e) in
-    sym (holes-plain c) ∙ ap tokens_holes tokens
+    ap tokens_holes tokens
 holes_are (image_of ts) c e =
     let k = cut ts (plain c) e in
-    sym (holes-plain c) ∙ ap tokens_holes k.1
+    ap tokens_holes k.1
 
 pub parts_filled : (args : List Argument) (is : List Image) (ps : List Ty) (os : List Oid) → AreFrames is (framed args) → parts_in is (filled_arguments args ps os) ≡ written_parts is ps os
 parts_filled [] [] ps os h = refl

@@ -10,7 +10,6 @@ use Rattle.pgv_codec.specs.BackParts.{image_parts}
 use Rattle.pgv_value.proofs.Outcomes.{answer_is}
 use Rattle.pgv_wire.specs.ArgumentParts.{AreFrames}
 use Rattle.pgv_wire.specs.Split.{as_wide, after_wide, bytes_by_length, frame_width, split}
-use Rattle.pgv_buf.proofs.Layouts.{width-plain}
 
 -- ---- how a frame begins
 
@@ -48,7 +47,7 @@ record Headed (c : List Cell) : Type 0 where
   wide : bytes_by_length number ≡ 4 + width cells
 
 nothing_there : (c : List Cell) → plain c ≡ [] → width c ≡ 0
-nothing_there c e = sym (width-plain c) ∙ ap tokens_width e
+nothing_there c e = ap tokens_width e
 
 headed : (i : Image) (c : List Cell) → (frame_of i).answer ≡ Ok (plain c) → Headed c
 headed null_image c e =
@@ -59,7 +58,7 @@ headed (image_of ts) c e =
     let k = cut ts (plain c) e in
     let b = after_bytes (be4 (tokens_width ts)) ts c k.1 in
     let other : nat_eq (tokens_width ts) 4294967295 ≡ false = ne_eqb (tokens_width ts) 4294967295 (λ same. omega (arith, k.0, same)) in
-    let as_many : width b.cells ≡ tokens_width ts = sym (width-plain b.cells) ∙ ap tokens_width b.tokens in
+    let as_many : width b.cells ≡ tokens_width ts = ap tokens_width b.tokens in
     record {
       number = tokens_width ts;
       cells = b.cells;

@@ -2,7 +2,7 @@ use Rattle.std.proofs.Common.{◌≡◌, List, ℕ, length, [], ◌∷◌, ◌++
 use Rattle.std.proofs.lemmas.List.{map-append}
 use Rattle.pgv_types.specs.Ty.{Ty}
 use Rattle.pgv_buf.specs.declared.fill.Slot.{Slot}
-use Rattle.pgv_buf.specs.Tokens.{new_slot}
+use Rattle.pgv_buf.specs.Tokens.{blank_cell, slot}
 use Rattle.pgv_buf.specs.CasesView.{cases_of}
 use Rattle.pgv_buf.specs.TokensView.{kept_of}
 use Rattle.pgv_buf.specs.Layout.{Kept, Represents}
@@ -22,7 +22,7 @@ kept_more ks was ks' s d cs e f g h =
     ap (λ x. map kept_of x) (e ∙ ap (λ x. x ++ s ∷ []) f) ∙ (map-append kept_of ks (s ∷ []) ∙ ap (λ x. map kept_of ks ++ x ∷ []) k)
 
 joined_here : (c : goal.In_ok-extend_from_slice-2) →
-    Represents (c.args.self.now ++ new_slot c.args.default.now (cases_of c.args.cases.items) ∷ []) c.extend_from_slice-2.new.self.items
+    Represents (c.args.self.now ++ blank_cell (slot c.args.default.now (cases_of c.args.cases.items)) ∷ []) c.extend_from_slice-2.new.self.items
     (record { holes = c.self.inside.holes; types = c.self.inside.types.items; slot_places = c.push.new.self; slots = map kept_of c.push-2.new.self.items })
 joined_here c =
     let place : c.len-place.result ≡ length c.self.inside.bytes.items = omega (arith, c.len-place.ensures, c.self.inside.bytes.ok.0) in
