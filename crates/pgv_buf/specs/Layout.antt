@@ -1,5 +1,5 @@
 -- How tokens are kept beside their bytes: the places and types of the holes, and the places of the slots and the slots.
-use Rattle.std.specs.Prelude.{◌≡◌, ℕ, ◌+◌, ◌==◌, Bool, true, false, cond, List, [], ◌∷◌, ◌++◌, length, take, drop}
+use Rattle.std.specs.Prelude.{◌≡◌, ℕ, ◌+◌, ◌==◌, Bool, true, false, if◌then◌else◌, List, [], ◌∷◌, ◌++◌, length, take, drop}
 use Rattle.std.proofs.Common.{suc, zero}
 use Rattle.pgv_types.specs.Ty.{Ty}
 use Rattle.pgv_buf.specs.Tokens.{token_width, tokens_hole_types, Token, byte, hole, slot, Cell, fixed, hole_cell, slot_cell, plain, shown}
@@ -69,11 +69,11 @@ is_empty (x ∷ xs) = false
 abbrev pub parse : ℕ → ℕ → List ℕ → List ℕ → List Ty → List ℕ → List Kept → List Cell
 parse zero i b ps ts qs ks = []
 parse (suc n) i b ps ts qs ks =
-    cond (first_at i qs)
-    (slot_cell (first_slot ks).standard (first_slot ks).cases (take (length (first_slot ks).standard) b) ∷ parse n (i + length (first_slot ks).standard) (drop (length (first_slot ks).standard) b) ps ts (rest_of qs) (rest_of ks))
-    (cond (first_at i ps)
-    (hole_cell (first_type ts) (take 4 b) ∷ parse n (i + 4) (drop 4 b) (rest_of ps) (rest_of ts) qs ks)
-    (cond (is_empty b) [] (fixed (first_or_zero b) ∷ parse n (i + 1) (rest_of b) ps ts qs ks)))
+    if first_at i qs
+    then slot_cell (first_slot ks).standard (first_slot ks).cases (take (length (first_slot ks).standard) b) ∷ parse n (i + length (first_slot ks).standard) (drop (length (first_slot ks).standard) b) ps ts (rest_of qs) (rest_of ks)
+    else if first_at i ps
+    then hole_cell (first_type ts) (take 4 b) ∷ parse n (i + 4) (drop 4 b) (rest_of ps) (rest_of ts) qs ks
+    else if is_empty b then [] else fixed (first_or_zero b) ∷ parse n (i + 1) (rest_of b) ps ts qs ks
 
 unfoldable pub tokens_of : List ℕ → Layout → List Cell
 tokens_of b l = parse (length b + length l.holes + length l.slot_places) 0 b l.holes l.types l.slot_places l.slots

@@ -2,7 +2,7 @@
 -- is a byte, a hole that names a type, or a slot: default bytes, and cases, each a type and as many bytes. The width of
 -- a byte is 1, of a hole 4, of a slot the length of its default. A cell is a token with the bytes that a buffer shows
 -- for it; `blank` shows zeros and defaults.
-use Rattle.std.specs.Prelude.{cond, ◌≡◌, ℕ, ◌+◌, List, [], ◌∷◌, length, map, flat_map, ◌⊎◌, refl}
+use Rattle.std.specs.Prelude.{if◌then◌else◌, ◌≡◌, ℕ, ◌+◌, List, [], ◌∷◌, length, map, flat_map, ◌⊎◌, refl}
 use Rattle.std.specs.Int.{to_be_bytes, w32}
 use Rattle.std.proofs.Common.{inl, inr}
 use Rattle.std.specs.Coded.{Coded, code_by, coded×, coded⊎, coded_ℕ, coded_list}
@@ -141,4 +141,4 @@ CasesFit n (c ∷ cs) = (length c.1 ≡ n) × CasesFit n cs
 -- what a slot shows for a parameter type: its first case that is softly equal, else the default
 abbrev pub chosen : Ty → List ℕ → List (Ty × List ℕ) → List ℕ
 chosen p d [] = d
-chosen p d (c ∷ cs) = cond (softly c.0 p) c.1 (chosen p d cs)
+chosen p d (c ∷ cs) = if softly c.0 p then c.1 else chosen p d cs

@@ -1,5 +1,5 @@
 -- What contracts see of the types of a server, and how they are found by OID and by name.
-use Rattle.std.specs.Prelude.{ℕ, nat_eq, Bool, false, ◌||◌, ◌&&◌, List, [], ◌∷◌, bytes_eq, Option, Some, None, refl, if◌then◌else◌}
+use Rattle.std.specs.Prelude.{ℕ, ◌==◌, Bool, false, ◌||◌, ◌&&◌, List, [], ◌∷◌, bytes_eq, Option, Some, None, refl, if◌then◌else◌}
 use Rattle.std.specs.Coded.{Coded, code_by, coded×, coded_bool, coded_ℕ, coded_list}
 use Rattle.pgv_types.specs.Agree.{agree}
 use Rattle.pgv_types.specs.Facts.{oid_of}
@@ -15,7 +15,7 @@ pub record Entry : Type 0 where
 
 abbrev pub is_oid : Option ℕ → ℕ → Bool
 is_oid None oid = false
-is_oid (Some known) oid = nat_eq known oid
+is_oid (Some known) oid = known == oid
 
 abbrev pub has_oid : ℕ → Ty → Bool
 has_oid oid t = is_oid (oid_of t) oid

@@ -4,7 +4,7 @@
 -- dimensions and anything after it is no elements. The element's type is the built-in of the OID, else the element of
 -- the value's type; it must exist, also for no elements. Anything may come after the last frame. In text the values of
 -- an array text, each read under the elements' own type.
-use Rattle.std.specs.Prelude.{ℕ, zero, suc, nat_lt, nat_eq, not, ◌&&◌, Bool, List, [], ◌∷◌, length, Option, Some, None, if◌then◌else◌}
+use Rattle.std.specs.Prelude.{ℕ, zero, suc, nat_lt, ◌==◌, not, ◌&&◌, Bool, List, [], ◌∷◌, length, Option, Some, None, if◌then◌else◌}
 use Rattle.std.specs.Int.{w32, cast_signed}
 use Rattle.pgv_types.specs.Ty.{Ty}
 use Rattle.pgv_types.specs.Facts.{built_in, element_of, is_custom}
@@ -39,7 +39,7 @@ one_dimension t bytes = do
   count ← u32_at oid.1
   fails_if (nat_lt 2147483647 count.0) (NegativeLength (cast_signed w32 count.0))
   bound ← u32_at count.1
-  fails_if (not (nat_eq bound.0 1)) (LowerBound (cast_signed w32 bound.0))
+  fails_if (not (bound.0 == 1)) (LowerBound (cast_signed w32 bound.0))
   allocates (is_custom element)
   done (record { element = element; count = count.0; frames = bound.1 })
 
@@ -47,8 +47,8 @@ one_dimension t bytes = do
 unfoldable pub head : Ty → List ℕ → Outcome (Option Head)
 head t bytes = do
   dimensions ← u32_at bytes
-  if nat_eq dimensions.0 0 then done None else
-      if nat_eq dimensions.0 1 then (one_dimension t dimensions.1 >>= λ h. done (Some h))
+  if dimensions.0 == 0 then done None else
+      if dimensions.0 == 1 then (one_dimension t dimensions.1 >>= λ h. done (Some h))
       else fails (Dimensions (cast_signed w32 dimensions.0))
 
 -- n frames of values of a type, each read; anything may come after them
@@ -106,5 +106,5 @@ parse_array info parse v = array_by info parse v.type_info v.format v.bytes
 abbrev pub parse_sized : {M : Type 0} → ℕ → Ty → (Given → Outcome M) → Given → Outcome (List M)
 parse_sized n info parse v = do
   ms ← parse_array info parse v
-  fails_if (not (nat_eq (length ms) n)) (ElementCount (length ms))
+  fails_if (not (length ms == n)) (ElementCount (length ms))
   done ms

@@ -8,7 +8,7 @@
 -- each element fits it (`ArrayFits`). A field of a record fits where the type at its place exists, by the OID that was
 -- written, the reader accepts it and the value fits it (`FieldFits`). Each part takes the OIDs of its own holes, in
 -- order (`FitEach`, `FieldsFit`).
-use Rattle.std.specs.Prelude.{◌≡◌, ℕ, suc, ◌<◌, ◌^◌, Bool, true, false, cond, List, [], ◌∷◌, ◌++◌, length, map, take, drop, Option, Some, None, Ok, ⊤}
+use Rattle.std.specs.Prelude.{◌≡◌, ℕ, suc, ◌<◌, ◌^◌, Bool, true, false, if◌then◌else◌, List, [], ◌∷◌, ◌++◌, length, map, take, drop, Option, Some, None, Ok, ⊤}
 use Rattle.pgv_types.specs.Ty.{Ty}
 use Rattle.pgv_types.specs.Facts.{oid_of}
 use Rattle.pgv_types.specs.declared.oid.Oid.{Oid}
@@ -68,7 +68,7 @@ is_null (Some (image_of ts)) = false
 -- a value that is written as null comes back as None
 abbrev pub option_kept : {A : Type 0} → (A → Encoding) → (A → A) → Option A → Option A
 option_kept encoding kept None = None
-option_kept encoding kept (Some x) = cond (is_null (ok_of (encoding x).image.answer)) None (Some (kept x))
+option_kept encoding kept (Some x) = if is_null (ok_of (encoding x).image.answer) then None else Some (kept x)
 
 abbrev pub option_fits : {A : Type 0} → (A → Ty → List Oid → Type 0) → Option A → Ty → List Oid → Type 0
 option_fits fits None t os = ⊤

@@ -1,5 +1,5 @@
 -- The laws of optional values and of arrays, over the law of what they are made of.
-use Rattle.std.specs.Prelude.{◌≡◌, ℕ, ◌≤◌, nat_lt, nat_eq, Bool, true, false, cond, if◌then◌else◌, List, [], ◌∷◌, ◌++◌, length, map, Option, Some, None, Ok, option_map, refl}
+use Rattle.std.specs.Prelude.{◌≡◌, ℕ, ◌≤◌, nat_lt, ◌==◌, Bool, true, false, if◌then◌else◌, List, [], ◌∷◌, ◌++◌, length, map, Option, Some, None, Ok, option_map, refl}
 use Rattle.std.proofs.Common.{sym, ap, ◌∙◌, subst, arith, append_assoc, inr}
 use Rattle.std.proofs.lemmas.Bool.{ltb-false, eq-eqb, eqb-true}
 use Rattle.std.proofs.lemmas.List.{take_at, length-map}
@@ -29,7 +29,7 @@ use Rattle.pgv_codec.specs.Writing.{written_part}
 
 module _ {A M : Type 0} (info : Ty) (encoding : A → Encoding) (parse : Given → Outcome M) (view : A → M) (kept : A → A) (fits : A → Ty → List Oid → Type 0) (law : ReadsBack encoding (reading_of parse) (λ v. view (kept v)) fits) where
   some_back : (x : A) (o : Option Image) (i : Image) (t : Ty) (p : Option Ty) (os : List Oid) → ok_of (encoding x).image.answer ≡ o → o ≡ Some i → ImageFits i → AreOids os → fits x t os →
-      reading_of (nullable parse) t Binary (written_part i p os) ≡ Some (option_map view (cond (is_null o) None (Some (kept x))))
+      reading_of (nullable parse) t Binary (written_part i p os) ≡ Some (option_map view (if is_null o then None else Some (kept x)))
   some_back x None i t p os is e whole small fit = absurd cc
   some_back x (Some null_image) i t p os is e whole small fit = rw (← same_Some null_image i e) refl
   some_back x (Some (image_of ts)) i t p os is e whole small fit =
@@ -122,7 +122,7 @@ module _ {A M : Type 0} (info : Ty) (encoding : A → Encoding) (parse : Given �
 
   pub sized_back : (n : ℕ) → ReadsBack (λ xs. plainly (sized_image n info (map encoding xs))) (reading_of (parse_sized n info parse)) (λ xs. map view (map kept xs)) (ArrayFits info encoding fits)
   sized_back n xs i t p os e whole small fit =
-      let g = sized_parts (nat_eq (length (map encoding xs)) n) (array_image info (map encoding xs)) i e in
-      let count : nat_eq (length (map (λ x. view (kept x)) xs)) n ≡ true = eq-eqb _ _ (length-map xs (λ x. view (kept x)) ∙ (sym (length-map xs encoding) ∙ eqb-true (length (map encoding xs)) n g.0)) in
+      let g = sized_parts (length (map encoding xs) == n) (array_image info (map encoding xs)) i e in
+      let count : (length (map (λ x. view (kept x)) xs) == n) ≡ true = eq-eqb _ _ (length-map xs (λ x. view (kept x)) ∙ (sym (length-map xs encoding) ∙ eqb-true (length (map encoding xs)) n g.0)) in
       rw (array_back info encoding parse (λ x. view (kept x)) fits law xs i t p os g.1 whole small fit, count)
       (ap (λ ms. Some ms) (map_both view kept xs))

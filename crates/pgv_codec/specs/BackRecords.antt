@@ -1,5 +1,5 @@
 -- The laws of a record's fields, over the law of each field's value.
-use Rattle.std.specs.Prelude.{◌≡◌, ℕ, ◌+◌, suc, nat_eq, Bool, List, ◌∷◌, ◌++◌, length, drop, Option, Ok, refl}
+use Rattle.std.specs.Prelude.{◌≡◌, ℕ, ◌+◌, suc, ◌==◌, Bool, List, ◌∷◌, ◌++◌, length, drop, Option, Ok, refl}
 use Rattle.std.proofs.Common.{sym, ap, ◌∙◌, subst, append_assoc}
 use Rattle.std.proofs.lemmas.List.{drop-drop}
 use Rattle.pgv_types.specs.Ty.{Ty}
@@ -30,7 +30,7 @@ one_by_one : (n : ℕ) (f : Outcome (List Token)) (fs : List (Outcome (List Toke
 one_by_one n f fs ts e =
     let a = taken (counted_field n f) (λ first. fields_from (n + 1) fs >>= λ others. done (first ++ others)) ts e in
     let b = taken (fields_from (n + 1) fs) (λ others. done (a.0 ++ others)) ts a.2 in
-    (a.0, b.0, (tested (nat_eq n 4294967295) FieldCount f a.0 a.1).1, b.1, answer_is _ ts b.2)
+    (a.0, b.0, (tested (n == 4294967295) FieldCount f a.0 a.1).1, b.1, answer_is _ ts b.2)
 
 record_parts : (fs : List (Outcome (List Token))) (i : Image) → (record_image fs).answer ≡ Ok i → (gs : List Token) × ((fields_from 0 fs).answer ≡ Ok gs) × (image_of (bytes (be4 (length fs)) ++ gs) ≡ i)
 unfolding record_image

@@ -1,5 +1,5 @@
 -- The laws of plain types: what they write is what they read.
-use Rattle.std.specs.Prelude.{◌≡◌, ℕ, ◌^◌, nat_lt, nat_eq, Bool, true, false, cond, ℤ, List, length, Option, Some, None, Result, Ok, Err, ok_or, refl, string_bytes}
+use Rattle.std.specs.Prelude.{◌≡◌, ℕ, ◌^◌, nat_lt, ◌==◌, Bool, true, false, if◌then◌else◌, ℤ, List, length, Option, Some, None, Result, Ok, Err, ok_or, refl, string_bytes}
 use Rattle.std.specs.Int.{Width, w8, w16, w32, w64, cast_unsigned, to_be_bytes}
 use Rattle.std.specs.Str.{IsUtf8}
 use Rattle.std.specs.declared.string.String.{String}
@@ -48,7 +48,7 @@ bool_back false i t p os e whole small fit = rw (← same_Some _ i e) refl
 
 -- a number that is read from its own bytes, where it is in the range of its width
 own_number : (w : Width) (v : ℤ) (b : Bool) → fits_signed w v ≡ b → (fits_signed w v ≡ true → whole_number (to_be_bytes w (cast_unsigned w v)) ≡ Ok v) →
-    (i : Image) (t : Ty) (p : Option Ty) (os : List Oid) → cond b (Some (image_of (bytes (to_be_bytes w (cast_unsigned w v))))) None ≡ Some i → reading_of (without_memory (parse_int w)) t Binary (written_part i p os) ≡ Some v
+    (i : Image) (t : Ty) (p : Option Ty) (os : List Oid) → (if b then Some (image_of (bytes (to_be_bytes w (cast_unsigned w v)))) else None) ≡ Some i → reading_of (without_memory (parse_int w)) t Binary (written_part i p os) ≡ Some v
 own_number w v false room own i t p os e = absurd cc
 own_number w v true room own i t p os e = rw (part_is (to_be_bytes w (cast_unsigned w v)) i p os e, own room, room) refl
 
@@ -78,7 +78,7 @@ oid_back o i t p os e whole small fit =
 
 pub uuid_back : ReadsBack (λ id. plainly (writes (uuid_image id))) (reading_of (without_memory parse_uuid)) (λ id. id) always
 uuid_back id i t p os e whole small fit =
-    let g = guarded (nat_eq (length id) 16) (Some (image_of (bytes id))) i (image_is (uuid_image id) i e) in
+    let g = guarded (length id == 16) (Some (image_of (bytes id))) i (image_is (uuid_image id) i e) in
     rw (part_is id i p os g.1, g.0) refl
 
 text_again : (text : List ℕ) (t : Ty) → IsUtf8 text → reading_of parse_text t Binary (Some text) ≡ Some text

@@ -1,5 +1,5 @@
 -- What is written of dates, times, date-times and instants is read back, in whole microseconds.
-use Rattle.std.specs.Prelude.{◌≡◌, ℕ, ◌/◌, ◌&&◌, true, cond, int_le, ℤ, pos, ◌+ℤ◌, ◌≤ℤ◌, List, Option, Some, None, Ok, refl}
+use Rattle.std.specs.Prelude.{◌≡◌, ℕ, ◌/◌, ◌&&◌, true, if◌then◌else◌, int_le, ℤ, pos, ◌+ℤ◌, ◌≤ℤ◌, List, Option, Some, None, Ok, refl}
 use Rattle.std.specs.Int.{Width, w32, w64, cast_unsigned, to_be_bytes}
 use Rattle.std.proofs.Common.{ap, arith}
 use Rattle.std.proofs.lemmas.Int.{ints}
@@ -43,7 +43,7 @@ number_part w v i p os own e =
     record { its_bytes = to_be_bytes w (cast_unsigned w v); part = part_is (to_be_bytes w (cast_unsigned w v)) i p os g.1; said = own g.0; room = g.0 }
 
 -- a number between two others is found there
-between : {X : Type 0} (low high n m : ℤ) (f : ℤ → X) → n ≡ m → low ≤ℤ m → m ≤ℤ high → cond (int_le low n && int_le n high) (let o : Option X = Some (f n) in o) None ≡ Some (f m)
+between : {X : Type 0} (low high n m : ℤ) (f : ℤ → X) → n ≡ m → low ≤ℤ m → m ≤ℤ high → (if int_le low n && int_le n high then (let o : Option X = Some (f n) in o) else None) ≡ Some (f m)
 between low high n m f e a b =
     let test : (int_le low m && int_le m high) ≡ true = grind (arith, ints) in
     rw (e, test) refl

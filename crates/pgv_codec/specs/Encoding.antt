@@ -7,7 +7,7 @@
 -- image. `typed t` is the four bytes of the OID of t, or a hole where it has none. An array is 1, 0, `typed` of what
 -- the first element produces or else of the elements' type, the number of elements, 1, and their frames. A record is
 -- the number of its fields, and for each its type and its frame.
-use Rattle.std.specs.Prelude.{ℕ, ◌+◌, List, [], ◌∷◌, ◌++◌, length, Bool, true, false, Option, Some, None, ok_or, nat_lt, nat_eq, if◌then◌else◌}
+use Rattle.std.specs.Prelude.{ℕ, ◌+◌, List, [], ◌∷◌, ◌++◌, length, Bool, true, false, Option, Some, None, ok_or, nat_lt, ◌==◌, if◌then◌else◌}
 use Rattle.pgv_types.specs.Ty.{Ty}
 use Rattle.pgv_types.specs.Facts.{is_custom, oid_of}
 use Rattle.pgv_buf.specs.Tokens.{Token, hole, bytes, be4, tokens_width}
@@ -112,7 +112,7 @@ array_image info es = do
 
 -- an array of n elements; a list of another length isn't one
 abbrev pub sized_image : ℕ → Ty → List Encoding → Outcome Image
-sized_image n info es = if nat_eq (length es) n then array_image info es else unstated
+sized_image n info es = if length es == n then array_image info es else unstated
 
 -- ---- what may be null
 
@@ -132,7 +132,7 @@ field info e = do
 
 -- a field after n others: there may be 4294967295
 abbrev pub counted_field : ℕ → Outcome (List Token) → Outcome (List Token)
-counted_field n f = fails_if (nat_eq n 4294967295) FieldCount >> f
+counted_field n f = fails_if (n == 4294967295) FieldCount >> f
 
 -- fields one after another, after n others
 abbrev pub fields_from : ℕ → List (Outcome (List Token)) → Outcome (List Token)

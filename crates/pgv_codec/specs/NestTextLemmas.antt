@@ -1,5 +1,5 @@
 -- What is read from an array or a record in text is what its characters are.
-use Rattle.std.proofs.Common.{◌≡◌, ℕ, Bool, true, false, nat_eq, List, [], ◌∷◌, drop, length, Option, Some, Result, Ok, refl, sym, ◌∙◌, ap, subst}
+use Rattle.std.proofs.Common.{◌≡◌, ℕ, Bool, true, false, ◌==◌, List, [], ◌∷◌, drop, length, Option, Some, Result, Ok, refl, sym, ◌∙◌, ap, subst}
 use Rattle.std.specs.Prelude.{not, ok_or, if◌then◌else◌}
 use Rattle.std.proofs.lemmas.Bool.{eq-eqb, eqb-true}
 use Rattle.pgv_types.specs.Ty.{Ty, by_oid}
@@ -61,7 +61,7 @@ module _ (law : ArrayIsItsValues) {M : Type 0} (info : Ty) (parse : Given → Ou
   sized_text n t bytes ms = (
     λ e.
         let a = taken (parse_array info parse (given t Text (Some bytes))) _ ms e in
-        let b = tested (not (nat_eq (length a.0) n)) (ElementCount (length a.0)) _ ms a.2 in
+        let b = tested (not (length a.0 == n)) (ElementCount (length a.0)) _ ms a.2 in
         let same = answer_is a.0 ms b.1 in
         ((array_text t bytes ms).0 (a.1 ∙ ap (λ (ns : List M). let r : Result (List M) (Option CodecError) = Ok ns in r) same), ap length (sym same) ∙ eqb-true (length a.0) n (held _ b.0)),
     λ h. rw ((array_text t bytes ms).1 h.0, h.1, eq-eqb n n refl) refl,

@@ -4,7 +4,7 @@
 -- the field at that place, whose `oid` must be that one. A domain is followed to its base. The Rust type must be
 -- compatible with the field's type. In text the values of a record text. Memory is asked for by the copy of a field's
 -- custom type, by the copy of a field's text that isn't in the text as it is, and by what a field's own type asks for.
-use Rattle.std.specs.Prelude.{◌≡◌, ℕ, zero, suc, nat_eq, not, ◌==◌, Bool, false, List, [], ◌∷◌, drop, length, Option, Some, None, if◌then◌else◌, refl}
+use Rattle.std.specs.Prelude.{◌≡◌, ℕ, zero, suc, not, ◌==◌, Bool, false, List, [], ◌∷◌, drop, length, Option, Some, None, if◌then◌else◌, refl}
 use Rattle.std.specs.Coded.{Coded, code_by, coded×, coded_ℕ, coded_bool, coded_list, coded_option}
 use Rattle.pgv_types.specs.Ty.{Ty, ty_code, builtin, custom, named, by_oid, array_of, Kind, simple, pseudo, domain, composite, array, enumeration, range, Fields, no_fields, field}
 use Rattle.pgv_types.specs.Facts.{built_in, oid_of, is_custom}
@@ -25,7 +25,7 @@ use Rattle.pgv_value.specs.declared.value.PgValueFormat.TheVariants.{Text, Binar
 -- whether a type has this OID
 abbrev pub is_oid : Option ℕ → ℕ → Bool
 is_oid None oid = false
-is_oid (Some known) oid = nat_eq known oid
+is_oid (Some known) oid = known == oid
 
 -- the type of the field at a place of a composite type
 abbrev pub field_at : Fields → ℕ → Option Ty
@@ -36,7 +36,7 @@ field_at (field name t rest) (suc place) = field_at rest place
 -- under a type that says nothing of its fields: the built-in of the OID
 abbrev pub by_own_oid : ℕ → ℕ → Outcome Ty
 by_own_oid own oid =
-    if nat_eq own 2249 then or_fail (built_in oid) (FieldTypeUnknown (record { 0 = oid })) else fails NotARecord
+    if own == 2249 then or_fail (built_in oid) (FieldTypeUnknown (record { 0 = oid })) else fails NotARecord
 
 -- under a composite type: the field's own, if it has this OID
 abbrev pub composite_field : ℕ → Option Ty → ℕ → Outcome Ty

@@ -1,5 +1,5 @@
 -- What is read from a record in binary is what its bytes are.
-use Rattle.std.proofs.Common.{◌≡◌, ℕ, suc, Bool, true, false, nat_eq, List, ◌++◌, length, Option, Some, None, Result, Ok, refl, sym, ◌∙◌, ap, subst}
+use Rattle.std.proofs.Common.{◌≡◌, ℕ, suc, Bool, true, false, List, ◌++◌, length, Option, Some, None, Result, Ok, refl, sym, ◌∙◌, ap, subst}
 use Rattle.std.specs.Int.{w32, to_be_bytes}
 use Rattle.std.specs.Prelude.{◌↔◌, ◌==◌, not, ok_or, if◌then◌else◌}
 use Rattle.std.proofs.lemmas.Bool.{eqb-true}
@@ -26,7 +26,7 @@ pub held : (b : Bool) → not b ≡ false → b ≡ true
 held true e = refl
 held false e = absurd cc
 
-record_type : (own oid : ℕ) (found : Ty) (b : Bool) → nat_eq own 2249 ≡ b →
+record_type : (own oid : ℕ) (found : Ty) (b : Bool) → (own == 2249) ≡ b →
     (if b then or_fail (built_in oid) (FieldTypeUnknown (record { 0 = oid })) else fails NotARecord).answer ≡ Ok found → (own ≡ 2249) × (built_in oid ≡ Some found)
 record_type own oid found true e f = (eqb-true own 2249 e, found_or (built_in oid) (FieldTypeUnknown (record { 0 = oid })) found (read f))
   where

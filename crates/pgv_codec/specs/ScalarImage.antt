@@ -1,6 +1,6 @@
 -- What scalars are written as (PostgreSQL: "Data Types"; the binary forms of "Formats and Format Codes"), and under
 -- which types texts are read.
-use Rattle.std.specs.Prelude.{ℕ, ◌^◌, Bool, false, ◌||◌, nat_lt, nat_eq, ℤ, codes, List, [], ◌∷◌, length, Option, Some, None, if◌then◌else◌}
+use Rattle.std.specs.Prelude.{ℕ, ◌^◌, Bool, false, ◌||◌, nat_lt, ◌==◌, ℤ, codes, List, [], ◌∷◌, length, Option, Some, None, if◌then◌else◌}
 use Rattle.std.specs.Int.{Width, cast_unsigned, to_be_bytes}
 use mir.Val.{bits}
 use Rattle.pgv_types.specs.Ty.{Ty, Kind, builtin, named, simple, domain, composite, array, pseudo, enumeration, range}
@@ -30,7 +30,7 @@ text_image text = Some (image_of (bytes text))
 
 -- an identifier's sixteen bytes
 abbrev pub uuid_image : List ℕ → Option Image
-uuid_image id = if nat_eq (length id) 16 then Some (image_of (bytes id)) else None
+uuid_image id = if length id == 16 then Some (image_of (bytes id)) else None
 
 -- ---- under which types values are read
 

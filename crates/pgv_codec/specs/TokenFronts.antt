@@ -1,5 +1,5 @@
 -- The tokens in front of a mark, and those after it.
-use Rattle.std.specs.Prelude.{◌≡◌, ℕ, ◌+◌, ◌-◌, ◌<◌, ◌==◌, false, cond, List, [], ◌∷◌, ◌++◌, length, refl}
+use Rattle.std.specs.Prelude.{◌≡◌, ℕ, ◌+◌, ◌-◌, ◌<◌, ◌==◌, false, if◌then◌else◌, List, [], ◌∷◌, ◌++◌, length, refl}
 use Rattle.std.proofs.Common.{arith, ap}
 use Rattle.std.proofs.lemmas.Bool.Decides.{nat_tests}
 use Rattle.pgv_buf.specs.Tokens.{Cell, fixed, hole_cell, slot_cell, width, hole_count, slot_count}
@@ -7,15 +7,15 @@ use Rattle.pgv_buf.specs.Tokens.{Cell, fixed, hole_cell, slot_cell, width, hole_
 -- the tokens at the front that are n bytes, holes and slots, and those after them
 abbrev pub front_of : ℕ → ℕ → ℕ → List Cell → List Cell
 front_of w h s [] = []
-front_of w h s (fixed x ∷ ts) = cond (w + h + s == 0) [] (fixed x ∷ front_of (w - 1) h s ts)
-front_of w h s (hole_cell t b ∷ ts) = cond (w + h + s == 0) [] (hole_cell t b ∷ front_of (w - 4) (h - 1) s ts)
-front_of w h s (slot_cell d cs b ∷ ts) = cond (w + h + s == 0) [] (slot_cell d cs b ∷ front_of (w - length d) h (s - 1) ts)
+front_of w h s (fixed x ∷ ts) = if w + h + s == 0 then [] else fixed x ∷ front_of (w - 1) h s ts
+front_of w h s (hole_cell t b ∷ ts) = if w + h + s == 0 then [] else hole_cell t b ∷ front_of (w - 4) (h - 1) s ts
+front_of w h s (slot_cell d cs b ∷ ts) = if w + h + s == 0 then [] else slot_cell d cs b ∷ front_of (w - length d) h (s - 1) ts
 
 abbrev pub rest_after : ℕ → ℕ → ℕ → List Cell → List Cell
 rest_after w h s [] = []
-rest_after w h s (fixed x ∷ ts) = cond (w + h + s == 0) (fixed x ∷ ts) (rest_after (w - 1) h s ts)
-rest_after w h s (hole_cell t b ∷ ts) = cond (w + h + s == 0) (hole_cell t b ∷ ts) (rest_after (w - 4) (h - 1) s ts)
-rest_after w h s (slot_cell d cs b ∷ ts) = cond (w + h + s == 0) (slot_cell d cs b ∷ ts) (rest_after (w - length d) h (s - 1) ts)
+rest_after w h s (fixed x ∷ ts) = if w + h + s == 0 then fixed x ∷ ts else rest_after (w - 1) h s ts
+rest_after w h s (hole_cell t b ∷ ts) = if w + h + s == 0 then hole_cell t b ∷ ts else rest_after (w - 4) (h - 1) s ts
+rest_after w h s (slot_cell d cs b ∷ ts) = if w + h + s == 0 then slot_cell d cs b ∷ ts else rest_after (w - length d) h (s - 1) ts
 
 pub nothing_in_front : (ts : List Cell) → front_of 0 0 0 ts ≡ []
 nothing_in_front [] = refl

@@ -1,5 +1,5 @@
 -- Documents of json and jsonb (PostgreSQL: "JSON Types", 8.14): in binary those of jsonb have the version 1 in front.
-use Rattle.std.specs.Prelude.{◌≡◌, ◌==◌, ◌||◌, ℕ, Bool, true, false, cond, if◌then◌else◌, List, [], ◌∷◌, ◌++◌, Option, Some, None, refl, string_bytes}
+use Rattle.std.specs.Prelude.{◌≡◌, ◌==◌, ◌||◌, ℕ, Bool, true, false, if◌then◌else◌, List, [], ◌∷◌, ◌++◌, Option, Some, None, refl, string_bytes}
 use Rattle.std.proofs.Common.{sym, ap, ◌∙◌, subst}
 use Rattle.std.proofs.lemmas.Option.{same_Some}
 use Rattle.pgv.specs.Words.{Ty, builtin, softly, Token, slot, bytes, Image, ImageFits, Given, Outcome, Part, Binary, PlainRules, ReadsBack, always, copied, image_of, parse_text, part_is, plainly, reading_of, text_back, utf8_part, write, write-bytes, writes, written_part}
@@ -44,7 +44,7 @@ json_back json i t p oids e whole small fit = rw (← is) (by_parameter p)
     written : (q : Option Ty) → reading_of parse_text t Binary (Some (write q oids (bytes text))) ≡ Some text
     written q = ap (λ (xs : List ℕ). reading_of parse_text t Binary (Some xs)) (write-bytes q oids text) ∙ again
 
-    by_case : (q : Option Ty) (b : Bool) → reading_of parse_json t Binary (Some (cond b (1 ∷ []) (32 ∷ []) ++ write q oids (bytes text))) ≡ Some text
+    by_case : (q : Option Ty) (b : Bool) → reading_of parse_json t Binary (Some ((if b then 1 ∷ [] else 32 ∷ []) ++ write q oids (bytes text))) ≡ Some text
     by_case q true = written q
     by_case q false = written q
 

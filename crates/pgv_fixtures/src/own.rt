@@ -62,12 +62,12 @@ impl PgHasArrayType for Size {
 }
 
 impl Encode for Size {
-    ghost use Rattle.std.specs.Prelude.{cond, pos, None};
+    ghost use Rattle.std.specs.Prelude.{if◌then◌else◌, pos, None};
     ghost use Rattle.std.specs.Ordering.{int_eq};
     ghost use Rattle.std.specs.Int.{w32};
     ghost use Rattle.pgv.specs.Words.{plainly, signed_image, writes};
 
-    ghost encoding = { λ size. plainly (writes (cond (int_eq size.number (pos 0)) None (signed_image w32 size.number))) };
+    ghost encoding = { λ size. plainly (writes (if int_eq size.number (pos 0) then None else signed_image w32 size.number)) };
 
     fn encode_by_ref(&self, out: &mut PgArgumentBuffer) -> Result<IsNull, CodecError> {
         if self.number == 0 {

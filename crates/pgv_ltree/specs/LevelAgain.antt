@@ -1,5 +1,5 @@
 -- Variants, levels and queries are read from their texts.
-use Rattle.std.specs.Prelude.{◌≡◌, ◌≢◌, ℕ, ◌+◌, ◌<◌, nat_lt, not, ◌==◌, Bool, true, false, cond, codes, List, [], ◌∷◌, ◌++◌, length, map, Option, Some, None, Result, Ok, ⊤, refl}
+use Rattle.std.specs.Prelude.{◌≡◌, ◌≢◌, ℕ, ◌+◌, ◌<◌, nat_lt, not, ◌==◌, Bool, true, false, if◌then◌else◌, codes, List, [], ◌∷◌, ◌++◌, length, map, Option, Some, None, Result, Ok, ⊤, refl}
 use Rattle.std.specs.Char.{is_ascii_digit}
 use Rattle.std.specs.Fmt.{decimal}
 use Rattle.std.specs.List.{join_with_byte, list_all}
@@ -108,7 +108,7 @@ decimal_bound : (n : ℕ) → n < 65536 → bound_read (decimal n) ≡ Ok (Some 
 decimal_bound n l = bound_there (decimal n) n (decimal_some n l) (count_again n l)
 
 both_bounds : (low high : ℕ) (b : Bool) → (low == high) ≡ b → low < 65536 → high < 65536 →
-    level_read (cond b (codes "*{" ++ decimal low ++ codes "}") (codes "*{" ++ decimal low ++ codes "," ++ decimal high ++ codes "}")) ≡ Ok (star (Some low) (Some high))
+    level_read (if b then codes "*{" ++ decimal low ++ codes "}" else codes "*{" ++ decimal low ++ codes "," ++ decimal high ++ codes "}") ≡ Ok (star (Some low) (Some high))
 both_bounds low high true e l h =
     rw (before_last_at 125 (decimal low)) (exact_there (decimal low) low (decimal_digits low l) (count_again low l) ∙ ap (λ n. let r : Result Level PgLQueryParseError = Ok (star (Some low) (Some n)) in r) (eqb-true low high e))
 both_bounds low high false e l h =
@@ -159,7 +159,7 @@ level_again (none_of (v ∷ vs)) e begins = rw (variants_again v vs e) refl
 
 -- ---- dots
 
-by_case : (b : Bool) (x y : List ℕ) → lacks 46 x ≡ true → lacks 46 y ≡ true → lacks 46 (cond b x y) ≡ true
+by_case : (b : Bool) (x y : List ℕ) → lacks 46 x ≡ true → lacks 46 y ≡ true → lacks 46 (if b then x else y) ≡ true
 by_case true x y e f = e
 by_case false x y e f = f
 

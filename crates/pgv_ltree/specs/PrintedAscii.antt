@@ -1,5 +1,5 @@
 -- What queries print is ASCII.
-use Rattle.std.specs.Prelude.{◌≡◌, ℕ, ◌==◌, nat_lt, Bool, true, false, cond, List, [], ◌∷◌, ◌++◌, map, Option, Some, None, refl}
+use Rattle.std.specs.Prelude.{◌≡◌, ℕ, ◌==◌, nat_lt, Bool, true, false, if◌then◌else◌, List, [], ◌∷◌, ◌++◌, map, Option, Some, None, refl}
 use Rattle.std.specs.Char.{is_ascii_digit}
 use Rattle.std.specs.Fmt.{decimal}
 use Rattle.std.specs.List.{list_all}
@@ -36,7 +36,7 @@ variants_ascii (v ∷ vs) e =
     and_from (are_ascii (printed_variant v)) (list_all are_ascii (map printed_variant vs))
     (ascii_append v.label (printed_marks v.any_end v.in_case v.sublexeme) (label_is_ascii v.label b.0) (marks_ascii v.any_end v.in_case v.sublexeme)) (variants_ascii vs b.1)
 
-by_case : (b : Bool) (x y : List ℕ) → are_ascii x ≡ true → are_ascii y ≡ true → are_ascii (cond b x y) ≡ true
+by_case : (b : Bool) (x y : List ℕ) → are_ascii x ≡ true → are_ascii y ≡ true → are_ascii (if b then x else y) ≡ true
 by_case true x y e f = e
 by_case false x y e f = f
 

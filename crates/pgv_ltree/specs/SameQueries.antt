@@ -1,6 +1,6 @@
 -- Equality of variants, levels and queries.
 use Rattle.std.specs.Cmp.{IsPartialEquivalence, IsEquivalence, bool_eq_equiv, partial_equiv_from_equiv, on_equiv}
-use Rattle.std.specs.Prelude.{ℕ, nat_eq, ◌&&◌, Bool, List, [], Option, None}
+use Rattle.std.specs.Prelude.{ℕ, nat_eq, ◌==◌, ◌&&◌, Bool, List, [], Option, None}
 use Rattle.std.specs.Bool.{beq}
 use Rattle.std.specs.Cmp.Lexicographic.{pointwise, lists_equiv, options_equiv}
 use Rattle.std.specs.Option.{option_eq}
@@ -43,7 +43,7 @@ variants (none_of vs) = vs
 
 -- whether levels are of the same kind, with the same numbers and the same variants
 abbrev pub same_level : Level → Level → Bool
-same_level l m = nat_eq (kind l) (kind m) && (option_eq nat_eq (least l) (least m) && (option_eq nat_eq (most l) (most m) && pointwise same_variant (variants l) (variants m)))
+same_level l m = (kind l == kind m) && (option_eq nat_eq (least l) (least m) && (option_eq nat_eq (most l) (most m) && pointwise same_variant (variants l) (variants m)))
 
 pub same_level_equiv : IsEquivalence same_level
 same_level_equiv =

@@ -1,7 +1,7 @@
 -- Bodies of messages that a server sends (PostgreSQL: "Message Formats"), each read exactly: bytes that end too early
 -- are C15, a text that isn't UTF-8 is C14, bytes after the last field are C17, and a code that isn't one of its field's
 -- is C30.
-use Rattle.std.specs.Prelude.{ℕ, nat_eq, ◌==◌, List, [], ◌∷◌, length, Ok, Err, if◌then◌else◌}
+use Rattle.std.specs.Prelude.{ℕ, ◌==◌, List, [], ◌∷◌, length, Ok, Err, if◌then◌else◌}
 use Rattle.pgv_value.specs.declared.error.CodecError.TheVariants.{Short, WrongLength, OutOfRange}
 use Rattle.pgv_value.specs.Fronts.{u32_front, name_front}
 use Rattle.pgv_value.specs.Parsed.{Parsed, ◌>>=◌}
@@ -12,7 +12,7 @@ use Rattle.pgv_message.specs.declared.ready_for_query.PgTransactionStatus.TheVar
 
 -- what was read, where nothing of the body is left
 abbrev pub ended : {A : Type 0} → List ℕ → A → List ℕ → Parsed A
-ended bytes x rest = if nat_eq (length rest) 0 then Ok x else Err (WrongLength (length bytes))
+ended bytes x rest = if length rest == 0 then Ok x else Err (WrongLength (length bytes))
 
 -- CommandComplete: a text
 unfoldable pub command_complete : List ℕ → Parsed (List ℕ)
@@ -57,4 +57,4 @@ notification bytes = do
 unfoldable pub authentication : List ℕ → Parsed (ℕ × List ℕ)
 authentication bytes = do
   code ← u32_front bytes
-  if nat_eq code.0 0 then ended bytes code code.1 else Ok code
+  if code.0 == 0 then ended bytes code code.1 else Ok code

@@ -1,7 +1,7 @@
 -- A body that is a list: the number of its things in two bytes, and these, one after another; nothing comes after them.
 -- How it is read (`counted`): what isn't there is C15, and bytes after the last thing are C17. It is read exactly where
 -- it is that list (`IsCounted`).
-use Rattle.std.specs.Prelude.{◌≡◌, ℕ, ◌<◌, ◌^◌, nat_eq, not, true, List, ◌++◌, length, flat_map}
+use Rattle.std.specs.Prelude.{◌≡◌, ℕ, ◌<◌, ◌^◌, ◌==◌, not, true, List, ◌++◌, length, flat_map}
 use Rattle.std.specs.Int.{w16, to_be_bytes}
 use Rattle.std.specs.List.{AllByRecursion}
 use Rattle.pgv_types.specs.declared.oid.Oid.{Oid}
@@ -16,7 +16,7 @@ counted one bytes = do
   count ← exactly (u16_front bytes)
   allocates true
   list ← several one count.0 count.1
-  fails_if (not (nat_eq (length list.1) 0)) (WrongLength (length bytes))
+  fails_if (not (length list.1 == 0)) (WrongLength (length bytes))
   done list.0
 
 pub record IsCounted {A : Type 0} (Is : A → Type 0) (encode : A → List ℕ) (bytes : List ℕ) (list : List A) : Type 0 where

@@ -1,5 +1,5 @@
 -- What is written of a string of bytes is read back as it.
-use Rattle.std.specs.Prelude.{ℕ, nat_eq, length, Some, refl}
+use Rattle.std.specs.Prelude.{ℕ, ◌==◌, length, Some, refl}
 use Rattle.std.proofs.Common.{ap}
 use Rattle.pgv_buf.specs.Tokens.{bytes}
 use Rattle.pgv_value.specs.Outcome.{reading_of, without_memory}
@@ -19,5 +19,5 @@ bytea_back b i t p os e whole small fit = ap (λ (part : Part). reading_of parse
 
 pub sized_back : (n : ℕ) → ReadsBack {A = PgByteaArray n} (λ b. plainly (writes (sized_image n b.0))) (reading_of (without_memory (parse_sized n))) (λ b. b.0) always
 sized_back n b i t p os e whole small fit =
-    let g = guarded (nat_eq (length b.0) n) (Some (image_of (bytes b.0))) i (image_is (sized_image n b.0) i e) in
+    let g = guarded (length b.0 == n) (Some (image_of (bytes b.0))) i (image_is (sized_image n b.0) i e) in
     rw (part_is b.0 i p os g.1, g.0) refl

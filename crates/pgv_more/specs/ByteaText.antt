@@ -3,7 +3,7 @@
 -- and two hex digits of either case for each byte, the high one first (`IsByteaText`). Of N bytes another number is
 -- refused with C17, and a text that denotes no bytes with C29. Text without case is read as `text` is. Law:
 -- `bytea_text_is_read`.
-use Rattle.std.specs.Prelude.{◌≡◌, ◌↔◌, ℕ, ◌==◌, ◌&&◌, nat_eq, Bool, List, [], ◌∷◌, length, Option, Some, None, Result, Ok, Err, ok_or, if◌then◌else◌}
+use Rattle.std.specs.Prelude.{◌≡◌, ◌↔◌, ℕ, ◌==◌, ◌&&◌, Bool, List, [], ◌∷◌, length, Option, Some, None, Result, Ok, Err, ok_or, if◌then◌else◌}
 use Rattle.std.specs.Option.{option_and_then}
 use Rattle.std.specs.List.{list_all}
 use Rattle.hex.specs.Hex.{decode_of, is_hex_digit}
@@ -56,7 +56,7 @@ parse_bytea v = copied (bytea_part v.format v.bytes)
 
 -- another number of them is C17
 abbrev pub of_length : ℕ → List ℕ → Parsed (List ℕ)
-of_length n value = if nat_eq (length value) n then Ok value else Err (WrongLength (length value))
+of_length n value = if length value == n then Ok value else Err (WrongLength (length value))
 
 abbrev pub sized_in_text : ℕ → List ℕ → Parsed (List ℕ)
 sized_in_text n text = ok_or (bytea_in_text text) Syntax >>= of_length n
@@ -66,7 +66,7 @@ parse_sized n v = bytea_part v.format v.bytes >>= of_length n
 
 -- a list of another length is not one of their values
 abbrev pub sized_image : ℕ → List ℕ → Option Image
-sized_image n value = if nat_eq (length value) n then Some (image_of (bytes value)) else None
+sized_image n value = if length value == n then Some (image_of (bytes value)) else None
 
 -- each is a hex digit, of either case
 abbrev pub all_digits : List ℕ → Bool

@@ -25,7 +25,7 @@ tested : (b : Bool) → (one_if b % 2 == 1) ≡ b
 tested true = refl
 tested false = refl
 
-weight_of_test : (c n : ℕ) → c < 2 → (if (c == 1) then n else 0) ≡ c * n
+weight_of_test : (c n : ℕ) → c < 2 → (if c == 1 then n else 0) ≡ c * n
 weight_of_test zero n l = omega arith
 weight_of_test (suc zero) n l = omega arith
 weight_of_test (suc (suc c)) n l = absurd (omega arith)

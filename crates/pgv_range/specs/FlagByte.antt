@@ -1,6 +1,6 @@
 -- The flag byte of a range (PostgreSQL's source, rangetypes.h): 1 says that the range is empty, 2 and 4 that its lower
 -- and its upper bound are included, 8 and 16 that it has no lower and no upper bound. Other bits say nothing here.
-use Rattle.std.specs.Prelude.{ℕ, ◌==◌, Bool, true, false, cond}
+use Rattle.std.specs.Prelude.{ℕ, ◌==◌, Bool, true, false, if◌then◌else◌}
 use Rattle.std.specs.Int.RustNames.{bit_and, bit_or}
 use Rattle.std.specs.declared.ops.Bound.{Bound}
 use Rattle.std.specs.declared.ops.Bound.TheVariants.{Included, Excluded, Unbounded}
@@ -40,4 +40,4 @@ abbrev pub side_of : ℕ → ℕ → ℕ → Side
 side_of flags infinite included = side_by (has flags infinite) (has flags included)
 
 abbrev pub form_of : ℕ → RangeForm
-form_of flags = cond (has flags 1) Empty (Sides (side_of flags 8 2) (side_of flags 16 4))
+form_of flags = if has flags 1 then Empty else Sides (side_of flags 8 2) (side_of flags 16 4)

@@ -1,12 +1,12 @@
 -- The type of an OID among the types of a list.
-use Rattle.std.specs.Prelude.{ℕ, nat_eq, Bool, false, List, [], ◌∷◌, Option, Some, None, if◌then◌else◌}
+use Rattle.std.specs.Prelude.{ℕ, ◌==◌, Bool, false, List, [], ◌∷◌, Option, Some, None, if◌then◌else◌}
 use Rattle.pgv_types.specs.Ty.{Ty}
 use Rattle.pgv_types.specs.Facts.{oid_of}
 
 -- whether an OID is this one
 abbrev pub is_oid : Option ℕ → ℕ → Bool
 is_oid None oid = false
-is_oid (Some known) oid = nat_eq known oid
+is_oid (Some known) oid = known == oid
 
 -- the first type that has the OID
 abbrev pub with_oid : ℕ → List Ty → Option Ty

@@ -3,7 +3,7 @@
 -- it is read (`data_row`): a number of columns that isn't there is C15, another than the description's C12, a frame
 -- that isn't there C15 or C16, and bytes after the last frame C17. Memory is asked for only where the room for places
 -- is smaller than the row.
-use Rattle.std.specs.Prelude.{◌≡◌, ◌↔◌, ℕ, ◌<◌, ◌^◌, nat_eq, nat_lt, not, List, length, Ok, Err, if◌then◌else◌}
+use Rattle.std.specs.Prelude.{◌≡◌, ◌↔◌, ℕ, ◌<◌, ◌^◌, ◌==◌, nat_lt, not, List, length, Ok, Err, if◌then◌else◌}
 use Rattle.std.specs.List.{AllByRecursion}
 use Rattle.pgv_value.specs.FrameBinary.{Part, row_bytes, IsField}
 use Rattle.pgv_value.specs.FrameLaws.{AreBytes}
@@ -26,7 +26,7 @@ pub record IsDataRow (width : ℕ) (bytes : List ℕ) (row : List Part) : Type 0
 
 -- the frames of a row, where there are as many as columns, else C12
 unfoldable pub frames_front : ℕ → List ℕ → Parsed (List ℕ)
-frames_front width bytes = u16_front bytes and_then λ count. if nat_eq count.0 width then Ok count.1 else Err FieldCount
+frames_front width bytes = u16_front bytes and_then λ count. if count.0 == width then Ok count.1 else Err FieldCount
 
 -- the parts of a row, where there is room for as many places
 unfoldable pub data_row : ℕ → ℕ → List ℕ → Outcome (List Part)
@@ -34,7 +34,7 @@ data_row room width bytes = do
   frames ← exactly (frames_front width bytes)
   allocates (nat_lt room width)
   row ← several one_part width frames
-  fails_if (not (nat_eq (length row.1) 0)) (WrongLength (length bytes))
+  fails_if (not (length row.1 == 0)) (WrongLength (length bytes))
   done row.0
 
 -- ---- laws

@@ -4,7 +4,7 @@
 -- in two; nothing comes after them. How it is read: what isn't there is C15, a name that isn't UTF-8 C14, another
 -- format than 0 and 1 C30, and bytes after the last column C17. The type of a column is the built-in of its OID, or
 -- else what a catalogue has of it, or else known by its OID alone.
-use Rattle.std.specs.Prelude.{FitsSigned, ◌≡◌, ◌==◌, ◌↔◌, ℕ, pos, negsuc, [], ◌<◌, ◌^◌, nat_eq, not, true, false, List, ◌∷◌, ◌++◌, length, flat_map, Option, Some, None, Ok}
+use Rattle.std.specs.Prelude.{FitsSigned, ◌≡◌, ◌==◌, ◌↔◌, ℕ, pos, negsuc, [], ◌<◌, ◌^◌, not, true, false, List, ◌∷◌, ◌++◌, length, flat_map, Option, Some, None, Ok}
 use Rattle.std.specs.Int.{w16, w32, cast_signed, cast_unsigned, to_be_bytes}
 use Rattle.std.specs.List.{AllByRecursion}
 use Rattle.pgv_types.specs.Ty.{Ty, by_oid}
@@ -56,7 +56,7 @@ description known bytes = do
   count ← exactly (u16_front bytes)
   allocates true
   columns ← several (column_front known) count.0 count.1
-  fails_if (not (nat_eq (length columns.1) 0)) (WrongLength (length bytes))
+  fails_if (not (length columns.1 == 0)) (WrongLength (length bytes))
   done columns.0
 
 -- a column of this type, without a name, whose values are in binary

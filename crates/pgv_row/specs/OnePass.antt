@@ -3,7 +3,7 @@
 -- type and in the format of its column, null included (`one_pass`): a number of columns that isn't there is C15,
 -- another than the description's C12, a frame that isn't there C15 or C16, and bytes after the last frame C17. Further
 -- columns than there are fields are passed over, a frame each.
-use Rattle.std.specs.Prelude.{◌≡◌, ◌⊎◌, ◌≤◌, ℕ, ◌+◌, ◌-◌, nat_eq, not, Bool, List, [], length, drop, slice_get, Option, Some, None, Result, Ok, Err, IsOkAnd, ⊤, if◌then◌else◌}
+use Rattle.std.specs.Prelude.{◌≡◌, ◌⊎◌, ◌≤◌, ℕ, ◌+◌, ◌-◌, ◌==◌, not, Bool, List, [], length, drop, slice_get, Option, Some, None, Result, Ok, Err, IsOkAnd, ⊤, if◌then◌else◌}
 use Rattle.pgv_types.specs.Ty.{Ty}
 use Rattle.pgv_types.specs.Facts.{is_custom}
 use Rattle.pgv_value.specs.FrameBinary.{Part}
@@ -98,7 +98,7 @@ one_pass read columns body = do
   frames ← exactly (frames_front (length columns) body)
   first ← read columns frames
   rest ← passed_over (length columns - first.1.0) first.1.1
-  fails_if (not (nat_eq (length rest) 0)) (WrongLength (length body))
+  fails_if (not (length rest == 0)) (WrongLength (length body))
   done first.0
 
 -- ---- which column is refused
@@ -114,7 +114,7 @@ IsFirstInFront first more columns place bytes e = IsRefusedInFront first columns
 -- it is that of a further column from a place on, or of the bytes after the last one
 abbrev pub IsRestRefused : ℕ → ℕ → Left → ColumnError ℕ → Type 0
 IsRestRefused width size left e =
-    ((left.0 ≤ index_of e) × Fails (codec_error e) (passed_over (width - left.0) left.1)) ⊎ ((index_of e ≡ width) × IsOkAnd (passed_over (width - left.0) left.1).answer (λ rest. Fails (codec_error e) (fails_if (not (nat_eq (length rest) 0)) (WrongLength size))))
+    ((left.0 ≤ index_of e) × Fails (codec_error e) (passed_over (width - left.0) left.1)) ⊎ ((index_of e ≡ width) × IsOkAnd (passed_over (width - left.0) left.1).answer (λ rest. Fails (codec_error e) (fails_if (not (length rest == 0)) (WrongLength size))))
 
 -- it is that of the number of columns, of one of the first columns, or of what comes after them
 abbrev pub IsRowRefused : {M : Type 0} → (List Column → List ℕ → Outcome (M × Left)) → (List Column → List ℕ → ColumnError ℕ → Type 0) → List Column → List ℕ → ColumnError ℕ → Type 0

@@ -1,5 +1,5 @@
 -- Which parts of a text are copied when they are read: each that isn't in the text as it is, alone or in quotes.
-use Rattle.std.specs.Prelude.{◌≡◌, ℕ, Bool, true, false, not, ◌&&◌, ◌||◌, ◌==◌, cond, is_some, List, [], ◌∷◌, Option, Some, None}
+use Rattle.std.specs.Prelude.{◌≡◌, ℕ, Bool, true, false, not, ◌&&◌, ◌||◌, ◌==◌, if◌then◌else◌, is_some, List, [], ◌∷◌, Option, Some, None}
 use Rattle.std.specs.Str.{IsUtf8, chars}
 use Rattle.pgv_text.specs.declared.scanner.Class.{Class}
 use Rattle.pgv_text.specs.declared.scanner.Class.TheVariants.{Quote, Backslash, Other}
@@ -85,7 +85,7 @@ closes_at_once _ bs = false
 -- Of each part of a text between brackets: whether it is copied.
 abbrev pub copies_of : TextForm → List ℕ → List Bool
 copies_of form [] = []
-copies_of form (b ∷ bs) = cond (closes_at_once form bs) [] (copies_from (form_of form) bs)
+copies_of form (b ∷ bs) = if closes_at_once form bs then [] else copies_from (form_of form) bs
 
 -- no part is copied
 abbrev pub none_copied : List Bool → Bool

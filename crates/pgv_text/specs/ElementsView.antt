@@ -1,5 +1,5 @@
 -- What is still to come of an array text that is read as it comes: none where it is no array text.
-use Rattle.std.specs.Prelude.{◌≡◌, ◌<◌, ◌+◌, ℕ, Bool, true, false, not, ◌||◌, cond, List, [], ◌∷◌, length, Option, Some, None}
+use Rattle.std.specs.Prelude.{◌≡◌, ◌<◌, ◌+◌, ℕ, Bool, true, false, not, ◌||◌, if◌then◌else◌, List, [], ◌∷◌, length, Option, Some, None}
 use Rattle.std.specs.Option.{option_map}
 use Rattle.pgv_text.specs.declared.elements.Elements.{Elements}
 use Rattle.pgv_text.specs.declared.elements.Next.{Next}
@@ -29,7 +29,7 @@ element_copied e = not (e.ended || as_it_is array_form e.rest.now)
 
 -- how far the end is at most
 abbrev pub distance : Elements → ℕ
-distance e = cond e.ended 0 (1 + length e.rest.now)
+distance e = if e.ended then 0 else 1 + length e.rest.now
 
 -- what came next, with the text that it may have been put into; at the end and at a fault nothing moves on
 abbrev pub Follows : Next → List ℕ → Elements → Elements → Type 0

@@ -3,7 +3,7 @@
 use mir.Syntax.{w64}
 use Rattle.pgv_text.specs.declared.number.NumberFault.{NumberFault}
 use Rattle.pgv_text.specs.declared.number.NumberFault.TheVariants.{Syntax, OutOfRange}
-use Rattle.std.specs.Prelude.{◌≡◌, ◌↔◌, FitsSigned, Result, Ok, Err, Option, Some, None, ℕ, ◌+◌, ◌<◌, ◌^◌, ℤ, pos, neg_ℤ, Bool, true, false, cond, not, ◌&&◌, nat_lt, ◌==◌, List, [], ◌∷◌, ◌++◌, map, length}
+use Rattle.std.specs.Prelude.{◌≡◌, ◌↔◌, FitsSigned, Result, Ok, Err, Option, Some, None, ℕ, ◌+◌, ◌<◌, ◌^◌, ℤ, pos, neg_ℤ, Bool, true, false, if◌then◌else◌, not, ◌&&◌, nat_lt, ◌==◌, List, [], ◌∷◌, ◌++◌, map, length}
 use Rattle.std.specs.List.{AllByRecursion, list_all}
 use Rattle.std.specs.Char.{digit_value}
 use Rattle.std.specs.Int.Digits.{number_from_digits}
@@ -53,10 +53,10 @@ is_numeral text = not (length text == 0) && list_all (λ c. nat_lt (digit_value 
 
 -- The number of a text, computed.
 abbrev pub number_value : List ℕ → Option ℤ
-number_value text = cond (is_numeral (without_leading_sign text)) (Some (signed_digits_value 10 text)) None
+number_value text = if is_numeral (without_leading_sign text) then Some (signed_digits_value 10 text) else None
 
 abbrev pub unsigned_value : List ℕ → Option ℕ
-unsigned_value text = cond (is_numeral (without_leading_plus text)) (Some (digits_value 10 (without_leading_plus text))) None
+unsigned_value text = if is_numeral (without_leading_plus text) then Some (digits_value 10 (without_leading_plus text)) else None
 
 -- What is read, by the computed number.
 abbrev pub IsComputed : List ℕ → Result ℤ NumberFault → Type 0

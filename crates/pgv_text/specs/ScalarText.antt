@@ -3,7 +3,7 @@
 -- wrapped. Other texts that begin with `\` are invalid. Any other text is its first byte, wrapped. A truth value
 -- (`bool_value`) is `t` or `f`.
 use mir.Syntax.{w8}
-use Rattle.std.specs.Prelude.{ℕ, ◌+◌, ◌-◌, ◌*◌, ℤ, pos, Bool, true, false, cond, ◌&&◌, nat_le, ◌==◌, List, [], ◌∷◌, Option, Some, None}
+use Rattle.std.specs.Prelude.{ℕ, ◌+◌, ◌-◌, ◌*◌, ℤ, pos, Bool, true, false, if◌then◌else◌, ◌&&◌, nat_le, ◌==◌, List, [], ◌∷◌, Option, Some, None}
 use Rattle.std.specs.Option.{option_map}
 use Rattle.std.specs.Int.{cast_signed}
 use Rattle.std.specs.Str.{bytes_eq}
@@ -14,7 +14,7 @@ is_octal c = nat_le 48 c && nat_le c 55
 
 -- The byte of three octal digits, the first at most 3.
 abbrev pub octal_byte : List ℕ → Option ℕ
-octal_byte (a ∷ b ∷ c ∷ []) = cond (is_octal a && nat_le a 51 && is_octal b && is_octal c) (Some ((a - 48) * 64 + (b - 48) * 8 + (c - 48))) None
+octal_byte (a ∷ b ∷ c ∷ []) = if is_octal a && nat_le a 51 && is_octal b && is_octal c then Some ((a - 48) * 64 + (b - 48) * 8 + (c - 48)) else None
 octal_byte _ = None
 
 -- What is after a backslash: nothing, for the backslash itself (92), or a byte.
@@ -25,8 +25,8 @@ after_backslash (c ∷ cs) = option_map (cast_signed w8) (octal_byte (c ∷ cs))
 -- A "char" is one byte, here as a signed number of 8 bits; no text is the byte 0.
 abbrev pub char_value : List ℕ → Option ℤ
 char_value [] = Some (pos 0)
-char_value (c ∷ cs) = cond (c == 92) (after_backslash cs) (Some (cast_signed w8 c))
+char_value (c ∷ cs) = if c == 92 then after_backslash cs else Some (cast_signed w8 c)
 
 -- `t` is 116 and `f` is 102.
 abbrev pub bool_value : List ℕ → Option Bool
-bool_value text = cond (bytes_eq text (116 ∷ [])) (Some true) (cond (bytes_eq text (102 ∷ [])) (Some false) None)
+bool_value text = if bytes_eq text (116 ∷ []) then Some true else if bytes_eq text (102 ∷ []) then Some false else None

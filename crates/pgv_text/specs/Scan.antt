@@ -1,5 +1,5 @@
 -- The table of the scanner, and what it makes of bytes.
-use Rattle.std.specs.Prelude.{ℕ, Bool, true, false, cond, ◌&&◌, ◌==◌, ◌+◌, List, [], ◌∷◌, ◌++◌, length, Option, Some, None}
+use Rattle.std.specs.Prelude.{ℕ, Bool, true, false, if◌then◌else◌, ◌&&◌, ◌==◌, ◌+◌, List, [], ◌∷◌, ◌++◌, length, Option, Some, None}
 use Rattle.std.specs.Option.{option_and_then, option_map}
 use Rattle.pgv_text.specs.declared.scanner.Class.{Class}
 use Rattle.pgv_text.specs.declared.scanner.Class.TheVariants.{Quote, Backslash, Comma, Open, Close, Other}
@@ -11,8 +11,8 @@ use Rattle.pgv_text.specs.NestPieces.{Form, Piece, plain, Count, any, some, two,
 
 abbrev pub class : Form → ℕ → Class
 class form c =
-    cond (c == 34) Quote (cond (c == 92) Backslash (cond (c == 44) Comma
-    (cond (form.opens c) Open (cond (form.closes c) Close Other))))
+    if c == 34 then Quote else if c == 92 then Backslash else if c == 44 then Comma
+    else if form.opens c then Open else if form.closes c then Close else Other
 
 abbrev pub outside_cell : Class → Cell
 outside_cell Quote = Pass Quoted
@@ -54,7 +54,7 @@ stands form _ _ = false
 
 -- the value of the part that begins here and means this text
 abbrev pub value_here : Form → List ℕ → List ℕ → Option (List ℕ)
-value_here form cs text = cond (stands form form.nothing cs) None (Some text)
+value_here form cs text = if stands form form.nothing cs then None else Some text
 
 -- the closing bracket is here
 abbrev pub closes_here : Form → List ℕ → Bool
@@ -66,7 +66,7 @@ abbrev pub counted : Count → Bool → List (Option (List ℕ)) → Option (Lis
 counted any true values = Some []
 counted any false values = Some values
 counted some written_early values = Some values
-counted two written_early values = cond (length values == 2) (Some values) None
+counted two written_early values = if length values == 2 then Some values else None
 
 -- after an opening bracket, with these values and this closing one
 abbrev pub nest_between : Form → ℕ → List ℕ → List (Option (List ℕ)) → ℕ → Option Nest
@@ -106,7 +106,7 @@ values_from form bs r = value_here form bs r.text ∷ r.values
 
 abbrev pub nest_read : Form → List ℕ → Option Nest
 nest_read form [] = None
-nest_read form (b ∷ bs) = cond (form.opens b) (option_and_then (λ r. nest_between form b bs (values_from form bs r) r.closing) (read form Start bs)) None
+nest_read form (b ∷ bs) = if form.opens b then (option_and_then (λ r. nest_between form b bs (values_from form bs r) r.closing) (read form Start bs)) else None
 
 -- after these bytes of the text
 abbrev pub after_text : List ℕ → Rest → Rest

@@ -1,5 +1,5 @@
 -- The pieces of a text, computed from the left.
-use Rattle.std.specs.Prelude.{ℕ, Bool, true, cond, List, [], ◌∷◌, Option, Some, None}
+use Rattle.std.specs.Prelude.{ℕ, Bool, true, if◌then◌else◌, List, [], ◌∷◌, Option, Some, None}
 use Rattle.std.specs.Option.{option_and_then, option_map}
 use Rattle.std.specs.Str.{encode_utf8_all}
 use Rattle.pgv_text.specs.declared.scanner.Class.{Class}
@@ -70,6 +70,6 @@ parse form place (c ∷ cs) = parse_at form c cs (λ q. parse form q cs) (class 
 abbrev pub nest_of : Form → List ℕ → Option Nest
 nest_of form [] = None
 nest_of form (c ∷ cs) =
-    cond (form.opens c)
-    (option_and_then (λ r. nest_between form c cs (value_here form cs (encode_utf8_all (text_of r.first)) ∷ r.values) r.closing) (parse form Start cs))
-    None
+    if form.opens c
+    then (option_and_then (λ r. nest_between form c cs (value_here form cs (encode_utf8_all (text_of r.first)) ∷ r.values) r.closing) (parse form Start cs))
+    else None

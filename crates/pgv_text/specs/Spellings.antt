@@ -1,7 +1,7 @@
 -- How the parts of arrays, ranges and records may be spelled, in the shapes that PostgreSQL writes and in which it is
 -- usual to write them (PostgreSQL: "Array Input and Output Syntax", 8.15.6; "Composite Type Input and Output
 -- Syntax", 8.16.6). Values are bytes, spellings are characters.
-use Rattle.std.specs.Prelude.{◌≡◌, ◌≢◌, ◌⊎◌, ℕ, true, cond, ◌||◌, ◌==◌, List, [], ◌∷◌, ◌++◌, length, map, Option, Some, None}
+use Rattle.std.specs.Prelude.{◌≡◌, ◌≢◌, ◌⊎◌, ℕ, true, if◌then◌else◌, ◌||◌, ◌==◌, List, [], ◌∷◌, ◌++◌, length, map, Option, Some, None}
 use Rattle.std.specs.Char.{to_ascii_lowercase}
 use Rattle.std.specs.List.{AllByRecursion, flat_map}
 use Rattle.std.specs.Str.{IsUtf8, chars, encode_utf8_all}
@@ -14,11 +14,11 @@ IsOptionalText (Some text) = IsUtf8 text
 
 -- Between quotes, a backslash (92) before each quote (34) and each backslash.
 abbrev pub escaped_character : ℕ → List ℕ
-escaped_character c = cond (c == 34 || c == 92) (92 ∷ c ∷ []) (c ∷ [])
+escaped_character c = if c == 34 || c == 92 then 92 ∷ c ∷ [] else c ∷ []
 
 -- Between quotes, each quote and each backslash doubled.
 abbrev pub doubled_character : ℕ → List ℕ
-doubled_character c = cond (c == 34 || c == 92) (c ∷ c ∷ []) (c ∷ [])
+doubled_character c = if c == 34 || c == 92 then c ∷ c ∷ [] else c ∷ []
 
 abbrev pub quoted_by : (ℕ → List ℕ) → List ℕ → List ℕ
 quoted_by spell characters = 34 ∷ flat_map spell characters ++ 34 ∷ []

@@ -1,6 +1,6 @@
 //! The parts of a text, one by one.
 
-ghost use Rattle.std.specs.Prelude.{◌≡◌, ◌≢◌, ◌==◌, ◌<◌, ◌∷◌, [], Some, None, IfOk, IfSome, MatchResult, cond, string_bytes, false, true, length};
+ghost use Rattle.std.specs.Prelude.{◌≡◌, ◌≢◌, ◌==◌, ◌<◌, ◌∷◌, [], Some, None, IfOk, IfSome, MatchResult, if◌then◌else◌, string_bytes, false, true, length};
 ghost use Rattle.std.specs.Option.{MatchOption, option_copied};
 ghost use Rattle.std.specs.Str.{chars};
 ghost use Rattle.pgv_text.specs.ArrayText.{array_form};
@@ -286,7 +286,7 @@ impl<'a> Parts<'a> {
         ensures taken { MatchResult result
             (λ found. MatchOption found
             (HasEnded self.old self.new × (string_bytes text.new ≡ []))
-            (λ present. Takes (cond present (Some (string_bytes text.new)) None) self.old self.new
+            (λ present. Takes (if present then Some (string_bytes text.new) else None) self.old self.new
             × (present ≡ false → string_bytes text.new ≡ [])))
             (λ _. IsKept self.old self.new × (string_bytes text.new ≡ [])) }
         ensures brackets { HasBracketsOf self.old self.new }

@@ -2,7 +2,7 @@
 -- "Lexical Structure", "Identifiers and Key Words", 4.1.1). Where either name begins with `U&`, they agree if they are
 -- equal. Else their lists of significant characters have one length and agree place by place: two characters are equal,
 -- or, where neither is sensitive, equal but for ASCII case.
-use Rattle.std.specs.Prelude.{◌≡◌, ◌⊎◌, ℕ, ◌==◌, ◌&&◌, ◌||◌, Bool, false, cond, List, [], ◌∷◌}
+use Rattle.std.specs.Prelude.{◌≡◌, ◌⊎◌, ℕ, ◌==◌, ◌&&◌, ◌||◌, Bool, false, if◌then◌else◌, List, [], ◌∷◌}
 use Rattle.std.specs.Str.{chars, bytes_eq}
 use Rattle.pgv_types.specs.declared.name.IdentifierChar.{IdentifierChar}
 use Rattle.pgv_types.specs.Names.{Significant, AllAlike, AreSignificant, all_alike, walk}
@@ -28,4 +28,4 @@ abbrev pub significant : List ℕ → List Significant
 significant name = walk false false (chars name)
 
 abbrev pub agree : List ℕ → List ℕ → Bool
-agree a b = cond (begins_unicode a || begins_unicode b) (bytes_eq a b) (all_alike (significant a) (significant b))
+agree a b = if begins_unicode a || begins_unicode b then bytes_eq a b else all_alike (significant a) (significant b)

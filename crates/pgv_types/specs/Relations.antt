@@ -2,7 +2,7 @@
 -- their elements, and last by their names. Softly, the first rule that applies decides. Two base OIDs: whether they are
 -- equal. One side is declared by its OID: yes. Two elements: whether these are softly the same. Else: whether the
 -- catalogue names agree. Exactly is the same without the second rule, and elements are compared exactly.
-use Rattle.std.specs.Prelude.{ℕ, ◌==◌, ◌&&◌, ◌||◌, Bool, true, false, cond, Option, Some, None, List, [], ◌∷◌}
+use Rattle.std.specs.Prelude.{ℕ, ◌==◌, ◌&&◌, ◌||◌, Bool, true, false, if◌then◌else◌, Option, Some, None, List, [], ◌∷◌}
 use Rattle.pgv_types.specs.Agree.{agree}
 use Rattle.pgv_types.specs.Ty.{Ty, builtin, custom, named, by_oid, array_of, Kind, simple, pseudo, domain, composite, array, enumeration, range}
 use Rattle.pgv_types.specs.Facts.{base_oid, name_of, element_oid, element_of}
@@ -34,7 +34,7 @@ built_in_levels o (Some e) = over (level (builtin o)) (last (level (builtin e)))
 
 abbrev pub name_levels : List ℕ → Levels
 name_levels [] = last (level (named []))
-name_levels (c ∷ cs) = cond (c == 95) (over (level (named (c ∷ cs))) (name_levels cs)) (last (level (named (c ∷ cs))))
+name_levels (c ∷ cs) = if c == 95 then over (level (named (c ∷ cs))) (name_levels cs) else last (level (named (c ∷ cs)))
 
 abbrev mutual
   pub levels : Ty → Levels
@@ -65,7 +65,7 @@ known_or (Some b) rest = b
 
 -- The first rule that applies: the base OIDs, then, softly, whether one is declared by its OID, then the rest.
 abbrev pub decide : Bool → Level → Level → Bool → Bool
-decide soft a b rest = known_or (common_base a.base b.base) (cond (soft && (a.by_oid || b.by_oid)) true rest)
+decide soft a b rest = known_or (common_base a.base b.base) (if soft && (a.by_oid || b.by_oid) then true else rest)
 
 -- The rest: two elements in the same way, else the names.
 abbrev pub related : Bool → Levels → Levels → Bool

@@ -1,6 +1,6 @@
 //! Names of types, and when two agree: as identifiers do, whose quotes keep the case of what is between them
 //! (PostgreSQL, "Lexical Structure", "Identifiers and Key Words").
-ghost use Rattle.std.specs.Prelude.{◌≡◌, ℕ, List, ◌∷◌, ◌++◌, codes, option_to_list, Decides};
+ghost use Rattle.std.specs.Prelude.{◌≡◌, ◌↔◌, ℕ, List, ◌∷◌, ◌++◌, codes, option_to_list, true};
 ghost use Rattle.std.specs.Option.{option_map};
 ghost use Rattle.std.specs.Str.{chars, bytes_eq};
 ghost use Rattle.std.specs.Iterator.{YieldsFirst, YieldsFirstBy, item_count};
@@ -163,7 +163,7 @@ pub fn identifier_chars(name: &str) -> IdentifierChars<'_>
 
 /// Whether a text begins with `U&`.
 fn begins_unicode(name: &str) -> bool
-    ensures { Decides result (BeginsUnicode name.now) }
+    ensures { (result ≡ true) ↔ BeginsUnicode name.now }
 {
     matches!(name.as_bytes(), [b'U', b'&', ..])
 }
@@ -230,7 +230,7 @@ impl<'a> PgTypeName<'a> {
 
     /// Whether the name begins with `U&`.
     fn begins_unicode(&self) -> bool
-        ensures { Decides result (BeginsUnicode (whole self.now)) }
+        ensures { (result ≡ true) ↔ BeginsUnicode (whole self.now) }
     {
         begins_unicode(self.text)
     }
@@ -324,7 +324,7 @@ fn are_alike(first: IdentifierChars<'_>, second: IdentifierChars<'_>) -> bool
 /// takes no memory.
 pub fn name_eq(first: &str, second: &str) -> bool
     ensures computed { result ≡ agree first.now second.now }
-    ensures meaning { Decides result (Agree first.now second.now) }
+    ensures meaning { (result ≡ true) ↔ Agree first.now second.now }
 {
     PgTypeName::plain(first).agrees(&PgTypeName::plain(second))
 }

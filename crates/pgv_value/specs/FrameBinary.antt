@@ -1,7 +1,7 @@
 -- Frames (PostgreSQL: "Message Formats", DataRow): a signed length of four bytes, the highest first, and that many
 -- bytes; the length -1 (`ffffffff`) is null. A frame at the front (`IsFrame`, `front`) is null and the rest; or a
 -- length that is not negative, that many bytes, and the rest.
-use Rattle.std.specs.Prelude.{◌≡◌, ℕ, ◌+◌, ◌<◌, ◌^◌, nat_lt, nat_eq, List, ◌∷◌, ◌++◌, flat_map, length, take, drop, Option, Some, None, ⊤, if◌then◌else◌}
+use Rattle.std.specs.Prelude.{◌≡◌, ℕ, ◌+◌, ◌<◌, ◌^◌, nat_lt, ◌==◌, List, ◌∷◌, ◌++◌, flat_map, length, take, drop, Option, Some, None, ⊤, if◌then◌else◌}
 use Rattle.std.specs.Int.{w16, w32, from_be_bytes, to_be_bytes, cast_signed}
 use Rattle.pgv_value.specs.declared.error.CodecError.{CodecError}
 use Rattle.pgv_value.specs.declared.error.CodecError.TheVariants.{Short, NegativeLength}
@@ -37,7 +37,7 @@ front_length bytes = from_be_bytes w32 (take 4 bytes)
 unfoldable pub front : List ℕ → Option (Part × List ℕ)
 front bytes =
     if nat_lt (length bytes) 4 then None else
-    if nat_eq (front_length bytes) 4294967295 then Some (None, drop 4 bytes) else
+    if front_length bytes == 4294967295 then Some (None, drop 4 bytes) else
     if nat_lt 2147483647 (front_length bytes) then None else
     if nat_lt (length (drop 4 bytes)) (front_length bytes) then None else
     Some (Some (take (front_length bytes) (drop 4 bytes)), drop (front_length bytes) (drop 4 bytes))

@@ -1,6 +1,6 @@
 -- What is in front of bytes: numbers, the highest byte first, texts that a zero byte ends, and parts; each is read with
 -- the rest, without memory. What isn't there is C15, and a text that isn't UTF-8 C14.
-use Rattle.std.specs.Prelude.{ℕ, ℤ, ◌+◌, ◌==◌, nat_eq, nat_lt, List, length, take, drop, Option, option_map, ok_or, Ok, Err, if◌then◌else◌}
+use Rattle.std.specs.Prelude.{ℕ, ℤ, ◌+◌, ◌==◌, nat_lt, List, length, take, drop, Option, option_map, ok_or, Ok, Err, if◌then◌else◌}
 use Rattle.std.specs.List.{position}
 use Rattle.std.specs.Int.{w16, from_be_bytes}
 use Rattle.pgv_types.specs.Ty.{Ty}
@@ -60,7 +60,7 @@ value_at t bytes = exactly (value_front t Binary bytes)
 
 -- the format of a code: 0 is text and 1 binary, and any other is C30
 abbrev pub format_of : ℕ → Parsed PgValueFormat
-format_of code = if nat_eq code 0 then Ok Text else if nat_eq code 1 then Ok Binary else Err OutOfRange
+format_of code = if code == 0 then Ok Text else if code == 1 then Ok Binary else Err OutOfRange
 
 -- the code of a format
 abbrev pub format_number : PgValueFormat → ℕ

@@ -1,5 +1,5 @@
 -- Texts in UTF-8 (PostgreSQL: "Character Set Support", 24.3).
-use Rattle.std.specs.Prelude.{◌≡◌, ℕ, List, length, Option, Some, None, Result, Ok, Err, Bool, true, false, nat_eq, if◌then◌else◌}
+use Rattle.std.specs.Prelude.{◌≡◌, ℕ, List, length, Option, Some, None, Result, Ok, Err, Bool, true, false, ◌==◌, if◌then◌else◌}
 use Rattle.std.specs.Str.Lossy.{utf8_valid_len}
 use Rattle.pgv_value.specs.Outcome.{Outcome, copied}
 use Rattle.pgv_value.specs.Parsed.{Parsed}
@@ -9,7 +9,7 @@ use Rattle.pgv_value.specs.declared.error.CodecError.TheVariants.{UnexpectedNull
 
 -- whether the bytes are UTF-8 to their end
 abbrev pub is_utf8 : List ℕ → Bool
-is_utf8 bytes = nat_eq (utf8_valid_len bytes) (length bytes)
+is_utf8 bytes = utf8_valid_len bytes == length bytes
 
 -- what was returned, seen by view, is the text of these bytes, or exactly why they have none: null is C13, and other
 -- bytes than UTF-8 are C14

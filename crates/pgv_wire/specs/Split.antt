@@ -1,5 +1,5 @@
 -- Frames one after another, separated by the lengths that they begin with.
-use Rattle.std.specs.Prelude.{ℕ, ◌+◌, ◌-◌, nat_le, nat_eq, cond, List, [], ◌∷◌, take}
+use Rattle.std.specs.Prelude.{ℕ, ◌+◌, ◌-◌, nat_le, ◌==◌, if◌then◌else◌, List, [], ◌∷◌, take}
 use Rattle.std.specs.Int.{w32, from_be_bytes}
 use Rattle.pgv_types.specs.Ty.{Ty}
 use Rattle.pgv_buf.specs.Tokens.{Cell, cell_width, shown}
@@ -8,16 +8,16 @@ use Rattle.pgv_wire.specs.Arguments.{Argument}
 -- the cells in front that are n bytes, and then those without bytes
 abbrev pub as_wide : ℕ → List Cell → List Cell
 as_wide w [] = []
-as_wide w (t ∷ ts) = cond (nat_le (cell_width t) w) (t ∷ as_wide (w - cell_width t) ts) []
+as_wide w (t ∷ ts) = if nat_le (cell_width t) w then t ∷ as_wide (w - cell_width t) ts else []
 
 -- what comes after these
 abbrev pub after_wide : ℕ → List Cell → List Cell
 after_wide w [] = []
-after_wide w (t ∷ ts) = cond (nat_le (cell_width t) w) (after_wide (w - cell_width t) ts) (t ∷ ts)
+after_wide w (t ∷ ts) = if nat_le (cell_width t) w then after_wide (w - cell_width t) ts else t ∷ ts
 
 -- a frame's bytes: four for its length, and as many as this says; the length -1 is null's
 abbrev pub bytes_by_length : ℕ → ℕ
-bytes_by_length n = cond (nat_eq n 4294967295) 4 (4 + n)
+bytes_by_length n = if n == 4294967295 then 4 else 4 + n
 
 -- the bytes of the frame in front
 abbrev pub frame_width : List Cell → ℕ
