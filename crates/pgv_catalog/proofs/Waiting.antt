@@ -3,10 +3,10 @@ use Rattle.std.proofs.Common.{◌≡◌, ◌⊎◌, ◌<◌, ◌≤◌, ℕ, zer
 use Rattle.std.specs.Prelude.{◌==◌, ◌||◌, flat_map, is_none, option_map, string_bytes}
 use Rattle.std.specs.List.{AllByRecursion}
 use Rattle.std.proofs.lemmas.Bool.{eq-eqb, eqb-true}
-use Rattle.pgv_types.specs.Facts.{built_in}
+use Rattle.pgv_types.specs.Facts.{built_in, has_oid}
 use Rattle.pgv_types.specs.Ty.{Ty, by_oid}
 use Rattle.pgv_value.specs.ReadingSteps.{◌>>=◌}
-use Rattle.pgv_catalog.specs.Entries.{Entry, has_oid, with_oid}
+use Rattle.pgv_catalog.specs.Entries.{Entry, with_oid}
 use Rattle.pgv_catalog.specs.Rows.{AllAwait, HasParts, IsIn, entry_in, entry_of, field_oid, fields_in, first_of, has_row, kind_by, kind_in, part_in, part_oids, part_oids_by, unmade}
 use Rattle.pgv_catalog.specs.declared.rows.PgCatalogRows.{PgCatalogRows}
 use Rattle.pgv_catalog.specs.declared.rows.PgFieldRow.{PgFieldRow}

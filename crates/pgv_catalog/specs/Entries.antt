@@ -2,7 +2,7 @@
 use Rattle.std.specs.Prelude.{ℕ, ◌==◌, Bool, false, ◌||◌, ◌&&◌, List, [], ◌∷◌, bytes_eq, Option, Some, None, refl, if◌then◌else◌}
 use Rattle.std.specs.Coded.{Coded, code_by, coded×, coded_bool, coded_ℕ, coded_list}
 use Rattle.pgv_types.specs.Agree.{agree}
-use Rattle.pgv_types.specs.Facts.{oid_of}
+use Rattle.pgv_types.specs.Facts.{oid_of, has_oid}
 use Rattle.pgv_types.specs.Ty.{Ty, builtin, custom, named, by_oid, array_of, Kind, simple, pseudo, domain, composite, array, enumeration, range, ty_code}
 
 -- a type, its name with its schema and a dot before it, and whether its name alone finds it
@@ -12,13 +12,6 @@ pub record Entry : Type 0 where
   pub ty : Ty
 
 -- ---- what is found
-
-abbrev pub is_oid : Option ℕ → ℕ → Bool
-is_oid None oid = false
-is_oid (Some known) oid = known == oid
-
-abbrev pub has_oid : ℕ → Ty → Bool
-has_oid oid t = is_oid (oid_of t) oid
 
 -- the first type of which this holds
 abbrev pub first : (Entry → Bool) → List Entry → Option Ty

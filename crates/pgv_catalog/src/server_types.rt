@@ -1,7 +1,7 @@
 //! The types of a server, by OID and by name.
 
 ghost use Rattle.std.specs.Prelude.{◌≡◌, ◌==◌, length, option_map};
-ghost use Rattle.pgv_catalog.specs.Entries.{has_name, has_oid, is_array_of, is_named, with_element, with_name, with_oid};
+ghost use Rattle.pgv_catalog.specs.Entries.{has_name, is_array_of, is_named, with_element, with_name, with_oid};
 
 use pgv_row::PgCatalog;
 use pgv_types::{Oid, PgType, PgTypeInfo, PgTypeKindRef, name_eq};
@@ -44,16 +44,6 @@ impl Model for PgServerTypes {
     ghost view = { λ t. t.list.items };
 }
 
-/// Whether a type has this OID.
-fn is_of_oid(type_info: &PgTypeInfo, oid: Oid) -> bool
-    ensures { result ≡ has_oid oid.0 type_info.now }
-{
-    match type_info.oid() {
-        Some(known) => known == oid,
-        None => false,
-    }
-}
-
 /// Whether a name is that of a type that the server described.
 fn is_called(type_info: &PgTypeInfo, name: &str) -> bool
     ensures { result ≡ has_name name.now type_info.now }
@@ -78,7 +68,7 @@ impl PgServerType {
     {
         match &self.type_info.0 {
             PgType::Custom(custom) => match custom.kind() {
-                PgTypeKindRef::Array(element) => is_of_oid(element.as_ref(), oid),
+                PgTypeKindRef::Array(element) => element.as_ref().has_oid(oid),
                 _ => false,
             },
             _ => false,
@@ -133,7 +123,7 @@ impl PgCatalog for PgServerTypes {
 
     fn type_of(&self, oid: Oid) -> Option<&PgTypeInfo> {
         for entry in self.list.as_slice() {
-            if is_of_oid(&entry.type_info, oid) {
+            if entry.type_info.has_oid(oid) {
                 return Some(&entry.type_info);
             }
         }

@@ -7,7 +7,7 @@
 use Rattle.std.specs.Prelude.{◌≡◌, ℕ, zero, suc, not, ◌==◌, Bool, false, List, [], ◌∷◌, drop, length, Option, Some, None, if◌then◌else◌, refl}
 use Rattle.std.specs.Coded.{Coded, code_by, coded×, coded_ℕ, coded_bool, coded_list, coded_option}
 use Rattle.pgv_types.specs.Ty.{Ty, ty_code, builtin, custom, named, by_oid, array_of, Kind, simple, pseudo, domain, composite, array, enumeration, range, Fields, no_fields, field}
-use Rattle.pgv_types.specs.Facts.{built_in, oid_of, is_custom}
+use Rattle.pgv_types.specs.Facts.{built_in, oid_of, has_oid, is_custom}
 use Rattle.pgv_text.specs.Copies.{copies_of, first_copied}
 use Rattle.pgv_text.specs.Values.{record_values}
 use Rattle.pgv_text.specs.declared.scanner.TextForm.TheVariants.{Record}
@@ -21,11 +21,6 @@ use Rattle.pgv_value.specs.declared.value.PgValueFormat.{PgValueFormat}
 use Rattle.pgv_value.specs.declared.value.PgValueFormat.TheVariants.{Text, Binary}
 
 -- ---- the types of fields
-
--- whether a type has this OID
-abbrev pub is_oid : Option ℕ → ℕ → Bool
-is_oid None oid = false
-is_oid (Some known) oid = known == oid
 
 -- the type of the field at a place of a composite type
 abbrev pub field_at : Fields → ℕ → Option Ty
@@ -42,7 +37,7 @@ by_own_oid own oid =
 abbrev pub composite_field : ℕ → Option Ty → ℕ → Outcome Ty
 composite_field place None oid = fails (NoField place)
 composite_field place (Some t) oid = do
-  fails_if (not (is_oid (oid_of t) oid)) FieldOid
+  fails_if (not (has_oid oid t)) FieldOid
   allocates (is_custom t)
   done t
 

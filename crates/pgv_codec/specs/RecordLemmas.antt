@@ -4,7 +4,7 @@ use Rattle.std.specs.Int.{w32, to_be_bytes}
 use Rattle.std.specs.Prelude.{◌↔◌, ◌==◌, not, ok_or, if◌then◌else◌}
 use Rattle.std.proofs.lemmas.Bool.{eqb-true}
 use Rattle.pgv_types.specs.Ty.{Ty, builtin, custom, named, by_oid, array_of, Kind, simple, pseudo, domain, composite, array, enumeration, range}
-use Rattle.pgv_types.specs.Facts.{built_in, oid_of}
+use Rattle.pgv_types.specs.Facts.{built_in, has_oid, is_oid, oid_of}
 use Rattle.pgv_value.specs.FrameBinary.{IsFrame}
 use Rattle.pgv_value.specs.Fronts.{u32_front, value_front}
 use Rattle.pgv_value.specs.FrameLaws.{AreBytes}
@@ -18,7 +18,7 @@ use Rattle.pgv_value.proofs.Outcomes.{answer_is, answers_are, taken, taken_exact
 use Rattle.pgv_value.proofs.ValueFronts.{u32_is, u32_splits, value_is}
 use Rattle.pgv_codec.specs.Found.{field_type_there, field_there, next_there}
 use Rattle.pgv_codec.specs.NestBinary.{FindExactly, HasFieldType, of_record, of_custom_record, of_composite, of_domain, Stretch, IsField, ◌and◌, RecordIsItsFields, FieldIsItsValue, OneField, RecordBegins}
-use Rattle.pgv_codec.specs.RecordGrammar.{is_oid, field_at, composite_field, field_type, field_type_in, field_head, field_in_binary, Left, binary_fields, next_field, fields_of, parse_record, ◌then◌}
+use Rattle.pgv_codec.specs.RecordGrammar.{field_at, composite_field, field_type, field_type_in, field_head, field_in_binary, Left, binary_fields, next_field, fields_of, parse_record, ◌then◌}
 
 -- ---- the types of fields
 
@@ -37,7 +37,7 @@ record_type own oid found false e f = absurd cc
 own_field : (at : Option Ty) (place oid : ℕ) (found : Ty) → (composite_field place at oid).answer ≡ Ok found → (at ≡ Some found) × (oid_of found ≡ Some oid)
 own_field None place oid found e = absurd cc
 own_field (Some t) place oid found e =
-    let k = tested (not (is_oid (oid_of t) oid)) FieldOid _ found e in
+    let k = tested (not (has_oid oid t)) FieldOid _ found e in
     let t_is = answer_is t found k.1 in
     (ap (λ (u : Ty). let o : Option Ty = Some u in o) t_is, ap oid_of (sym t_is) ∙ known (oid_of t) oid (held _ k.0))
   where

@@ -10,7 +10,7 @@ use Rattle.std.proofs.lemmas.Slice.Eq.{bytes_eq-Decides}
 use Rattle.std.proofs.lemmas.Nat.{be_bytes_2}
 use Rattle.std.proofs.lemmas.List.{take-append-drop, length-take-le}
 use Rattle.pgv_types.specs.Ty.{Ty}
-use Rattle.pgv_value.specs.FrameBinary.{Part, IsFrame, front, frame_fault, field_bytes, row_bytes, IsField}
+use Rattle.pgv_value.specs.FrameBinary.{Part, front, frame_fault, field_bytes, row_bytes, IsField}
 use Rattle.pgv_value.specs.FrameLaws.{AreBytes}
 use Rattle.pgv_value.specs.ReadingSteps.{number, signed_two}
 use Rattle.pgv_value.specs.ValueView.{Given}
@@ -18,6 +18,7 @@ use Rattle.pgv_value.specs.declared.error.CodecError.{CodecError}
 use Rattle.pgv_value.specs.declared.error.CodecError.TheVariants.{Short, NegativeLength, FieldCount}
 use Rattle.pgv_value.specs.declared.value.PgValueFormat.TheVariants.{Binary}
 use Rattle.pgv_value.proofs.Fronts.{front_exactly}
+use Rattle.pgv_value.proofs.ReadFronts.{frame_bytes}
 use Rattle.pgv_value.proofs.Numbers.{bytes_below, bytes_after, number_is}
 use Rattle.pgv_value.specs.Parsed.{Parsed, ◌>>=◌}
 use Rattle.pgv_value.proofs.Outcomes.{and_then_taken as taken, found_or as there, held, failed, ok_is}
@@ -171,10 +172,6 @@ end_is width bytes h e =
     let two = two_is bytes a.0.1 a.0.0 h (there (signed_two bytes) Short a.0 a.1) in
     let is : a.0.0 ≡ negsuc 0 = (signed_Decides a.0.0 (negsuc 0)).0 end in
     (a.0.1, two.whole ∙ ap (λ (n : ℕ). to_be_bytes w16 n ++ a.0.1) (signed_end two.n two.fits (two.value ∙ is)))
-
-frame_bytes : (bytes : List ℕ) (part : Part) (rest : List ℕ) → IsFrame bytes part rest → IsField part × (bytes ≡ field_bytes part ++ rest)
-frame_bytes bytes None rest e = (tt, e)
-frame_bytes bytes (Some part) rest e = (e.0, e.1 ∙ sym (append_assoc (to_be_bytes w32 (length part)) part rest))
 
 -- what is read as fields of these types
 record AreFields (types : List Ty) (bytes rest : List ℕ) (row : List Given) : Type 0 where

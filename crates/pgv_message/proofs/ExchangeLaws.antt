@@ -2,6 +2,7 @@
 use Rattle.std.proofs.Common.{◌≡◌, ℕ, zero, suc, Bool, true, false, List, [], ◌∷◌, ◌++◌, map, Option, Some, None, refl, sym, ap, ◌∙◌, append_assoc, append-nil, inl, inr}
 use Rattle.std.specs.Prelude.{not, ◌&&◌, ◌==◌, length, replicate, if◌then◌else◌, ◌⊎◌}
 use Rattle.std.specs.List.{AllByRecursion}
+use Rattle.std.proofs.lemmas.Option.{same_Some as same_some}
 use Rattle.pgv_message.specs.declared.exchange.PgRequest.{PgRequest}
 use Rattle.pgv_message.specs.declared.exchange.PgRequest.TheVariants as request
 use Rattle.pgv_message.specs.declared.exchange.PgAwaited.{PgAwaited}
@@ -31,9 +32,6 @@ async_changes_nothing x [] = refl
 async_changes_nothing x (t ∷ ts) = async_by (is_async t) x t ts refl (λ y. async_changes_nothing y ts)
 
 -- ---- errors
-
-same_some : {A : Type 0} (x y : A) → (let o : Option A = Some x in o) ≡ Some y → x ≡ y
-same_some x y h = cc
 
 by_skipping : (b : Bool) (z y : Exchange) → (if b then None else Some z) ≡ Some y → z ≡ y
 by_skipping true z y e = absurd cc

@@ -4,6 +4,7 @@ use Rattle.std.specs.Prelude.{if◌then◌else◌}
 use Rattle.std.specs.Int.{w32, to_be_bytes}
 use Rattle.std.proofs.lemmas.Bool.{le-ltb, lt-ltb, ltb-false}
 use Rattle.std.proofs.lemmas.List.{take_at, drop_at, take-append-drop, length-take-le}
+use Rattle.std.proofs.lemmas.Option.{same_Some as same_some}
 use Rattle.pgv_value.specs.FrameLaws.{AreBytes}
 use Rattle.pgv_value.specs.ReadingSteps.{number}
 use Rattle.pgv_value.proofs.Numbers.{number_there, number_is}
@@ -49,9 +50,6 @@ chosen false e r x h = (refl, h)
 
 same_ok : {A E : Type 0} (x y : A) → (let r : Result A E = Ok x in r) ≡ Ok y → x ≡ y
 same_ok x y h = cc
-
-same_some : {A : Type 0} (x y : A) → (let o : Option A = Some x in o) ≡ Some y → x ≡ y
-same_some x y h = cc
 
 body_is : (b : Bool) (tag size : ℕ) (bytes : List ℕ) (m : Message) → (if b then None else Some (record { tag = tag; body = take size bytes; rest = drop size bytes })) ≡ Some m →
     (b ≡ false) × ((let m' : Message = record { tag = tag; body = take size bytes; rest = drop size bytes } in m') ≡ m)

@@ -2,9 +2,8 @@
 
 ghost use Rattle.std.specs.Prelude.{◌≡◌, ℕ, Option, option_map};
 ghost use Rattle.pgv_types.specs.Ty.{Ty};
-ghost use Rattle.pgv_types.specs.Facts.{oid_of};
 ghost use Rattle.pgv_value.specs.Outcome.{Gives, copied_type};
-ghost use Rattle.pgv_row.specs.Catalog.{with_oid, is_oid};
+ghost use Rattle.pgv_row.specs.Catalog.{with_oid};
 ghost use Rattle.pgv_row.specs.Description.{type_by};
 
 use pgv_types::{Oid, PgTypeInfo};
@@ -27,21 +26,11 @@ impl PgCatalog for &[PgTypeInfo] {
     fn type_of(&self, oid: Oid) -> Option<&PgTypeInfo> {
         let types: &[PgTypeInfo] = *self;
         for type_info in types {
-            if has_oid(type_info, oid) {
+            if type_info.has_oid(oid) {
                 return Some(type_info);
             }
         }
         None
-    }
-}
-
-/// Whether a type is known to have this OID.
-fn has_oid(type_info: &PgTypeInfo, oid: Oid) -> bool
-    ensures { result ≡ is_oid (oid_of type_info.now) oid.0 }
-{
-    match type_info.oid() {
-        Some(known) => known == oid,
-        None => false,
     }
 }
 

@@ -24,6 +24,14 @@ oid_of (named n) = None
 oid_of (by_oid o) = Some o
 oid_of (array_of n) = None
 
+-- whether the OID is known, and is this one
+abbrev pub is_oid : Option ℕ → ℕ → Bool
+is_oid None oid = false
+is_oid (Some known) oid = known == oid
+
+abbrev pub has_oid : ℕ → Ty → Bool
+has_oid oid t = is_oid (oid_of t) oid
+
 -- the OID of a built-in type
 abbrev pub built_in_oid : Ty → Option ℕ
 built_in_oid (builtin o) = Some o

@@ -1,7 +1,7 @@
 //! Types as callers hold them.
 ghost use Rattle.std.specs.Prelude.{◌≡◌, None, false, true, option_map, IfOk, IfSome};
 ghost use Rattle.pgv_types.specs.Whole.{whole};
-ghost use Rattle.pgv_types.specs.Facts.{is_custom, is_void, IsNotCustom, domain_base, under_domains, oid_of, same_built_in, same_oid, built_in_oid, element_of, name_element, kind_at, name_of, name_text_of, display_text_of, has_brackets, display_of, shows_brackets, built_in};
+ghost use Rattle.pgv_types.specs.Facts.{is_custom, is_void, IsNotCustom, domain_base, under_domains, oid_of, same_built_in, same_oid, built_in_oid, element_of, name_element, kind_at, name_of, name_text_of, display_text_of, has_brackets, has_oid, display_of, shows_brackets, built_in};
 ghost use Rattle.pgv_types.specs.Relations.{is_by_oid};
 ghost use Rattle.pgv_types.specs.Ty.{named, array_of, by_oid, custom};
 ghost use Rattle.pgv_types.specs.Shown.{kind_of, type_of};
@@ -317,6 +317,16 @@ impl PgTypeInfo {
         ensures { option_map (λ o. o.0) result ≡ oid_of self.now }
     {
         self.0.oid()
+    }
+
+    /// Whether the type is known to have this OID.
+    pub fn has_oid(&self, oid: Oid) -> bool
+        ensures { result ≡ has_oid oid.0 self.now }
+    {
+        match self.oid() {
+            Some(known) => known == oid,
+            None => false,
+        }
     }
 
     /// Whether the two are one built-in type; for a custom type, and one that is only declared, it is `false`. It takes

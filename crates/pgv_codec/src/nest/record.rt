@@ -1,10 +1,10 @@
 //! The fields of records in binary, up to their frames (PostgreSQL, "Composite Types"; record_send).
 
 ghost use Rattle.std.specs.Prelude.{◌≡◌, ◌+◌, None, length, slice_get, option_map};
-ghost use Rattle.pgv_types.specs.Facts.{domain_base, oid_of};
+ghost use Rattle.pgv_types.specs.Facts.{domain_base};
 ghost use Rattle.pgv_value.specs.Outcome.{Gives};
 ghost use Rattle.pgv_value.specs.Parsed.{GivesFront};
-ghost use Rattle.pgv_codec.specs.RecordGrammar.{by_own_oid, field_head, field_type, is_oid};
+ghost use Rattle.pgv_codec.specs.RecordGrammar.{by_own_oid, field_head, field_type};
 ghost use Rattle.pgv_codec.specs.RecordGrammar as spec;
 
 use pgv_types::{BuiltIn, Oid, PgType, PgTypeInfo, PgTypeKindRef};
@@ -87,18 +87,8 @@ fn composite_field(
     let Some((_name, type_info)) = fields.get(place) else {
         return Err(CodecError::NoField(place));
     };
-    if !has_oid(type_info, oid) {
+    if !type_info.has_oid(oid) {
         return Err(CodecError::FieldOid);
     }
     Ok(type_info.clone()?)
-}
-
-/// Whether a type is known to have this OID.
-fn has_oid(type_info: &PgTypeInfo, oid: Oid) -> bool
-    ensures { result ≡ is_oid (oid_of type_info.now) oid.0 }
-{
-    match type_info.oid() {
-        Some(known) => known == oid,
-        None => false,
-    }
 }
