@@ -21,7 +21,7 @@ pub use pgv_codec::{
 pub use pgv_copy::{PgCopyNext, PgCopyPieces, PgCopyReader};
 pub use pgv_range::{PgHasRangeType, range_compatible};
 pub use pgv_types::{
-    BuiltIn, IdentifierChar, IdentifierChars, Oid, PgArrayOf, PgCustomType, PgType, PgTypeInfo,
+    IdentifierChar, IdentifierChars, Oid, PgArrayOf, PgBuiltIn, PgCustomType, PgType, PgTypeInfo,
     PgTypeKind, PgTypeKindRef, PgTypeName, PgTypeRef, StaticText,
 };
 pub use pgv_user_types::{

@@ -7,8 +7,8 @@ use Rattle.pgv_types.specs.Ty.{Ty, builtin, custom, named, by_oid, array_of, Kin
 use Rattle.pgv_types.specs.declared.custom.PgCustomType.{PgCustomType}
 use Rattle.pgv_types.specs.declared.custom.PgArrayOf.{PgArrayOf}
 use Rattle.pgv_types.specs.declared.type_info.PgTypeInfo.TheInside.{Inside}
-use Rattle.pgv_types.specs.declared.builtin.BuiltIn.{BuiltIn as AnyBuiltIn}
-use Rattle.pgv_types.specs.declared.builtin.BuiltIn.TheVariants.{Bool, BoolArray, Bytea, ByteaArray, Char, CharArray, Name, NameArray, Int8, Int8Array, Int2, Int2Array, Int4, Int4Array, Text, TextArray, Oid, OidArray, Json, JsonArray, Point, PointArray, Lseg, LsegArray, Path, PathArray, Box, BoxArray, Polygon, PolygonArray, Line, LineArray, Cidr, CidrArray, Float4, Float4Array, Float8, Float8Array, Unknown, Circle, CircleArray, Macaddr8, Macaddr8Array, Money, MoneyArray, Macaddr, MacaddrArray, Inet, InetArray, Bpchar, BpcharArray, Varchar, VarcharArray, Date, DateArray, Time, TimeArray, Timestamp, TimestampArray, Timestamptz, TimestamptzArray, Interval, IntervalArray, Timetz, TimetzArray, Bit, BitArray, Varbit, VarbitArray, Numeric, NumericArray, Record, RecordArray, Void, Uuid, UuidArray, Jsonb, JsonbArray, Int4Range, Int4RangeArray, NumRange, NumRangeArray, TsRange, TsRangeArray, TstzRange, TstzRangeArray, DateRange, DateRangeArray, Int8Range, Int8RangeArray, Jsonpath, JsonpathArray}
+use Rattle.pgv_types.specs.declared.builtin.PgBuiltIn.{PgBuiltIn}
+use Rattle.pgv_types.specs.declared.builtin.PgBuiltIn.TheVariants.{Bool, BoolArray, Bytea, ByteaArray, Char, CharArray, Name, NameArray, Int8, Int8Array, Int2, Int2Array, Int4, Int4Array, Text, TextArray, Oid, OidArray, Json, JsonArray, Point, PointArray, Lseg, LsegArray, Path, PathArray, Box, BoxArray, Polygon, PolygonArray, Line, LineArray, Cidr, CidrArray, Float4, Float4Array, Float8, Float8Array, Unknown, Circle, CircleArray, Macaddr8, Macaddr8Array, Money, MoneyArray, Macaddr, MacaddrArray, Inet, InetArray, Bpchar, BpcharArray, Varchar, VarcharArray, Date, DateArray, Time, TimeArray, Timestamp, TimestampArray, Timestamptz, TimestamptzArray, Interval, IntervalArray, Timetz, TimetzArray, Bit, BitArray, Varbit, VarbitArray, Numeric, NumericArray, Record, RecordArray, Void, Uuid, UuidArray, Jsonb, JsonbArray, Int4Range, Int4RangeArray, NumRange, NumRangeArray, TsRange, TsRangeArray, TstzRange, TstzRangeArray, DateRange, DateRangeArray, Int8Range, Int8RangeArray, Jsonpath, JsonpathArray}
 use Rattle.pgv_types.specs.declared.type_info.PgType.{PgType}
 use Rattle.pgv_types.specs.declared.type_info.PgType.TheVariants.{BuiltIn, Custom, DeclareWithName, DeclareWithOid, DeclareArrayOf}
 use Rattle.pgv_types.specs.declared.kind.PgTypeKind.{PgTypeKind}
@@ -44,7 +44,7 @@ abbrev pub element_name_of : PgArrayOf → List ℕ
 element_name_of a = a.elem_name
 
 -- the OID of a built-in type
-abbrev pub number_of : AnyBuiltIn → ℕ
+abbrev pub number_of : PgBuiltIn → ℕ
 number_of Bool = 16
 number_of BoolArray = 1000
 number_of Bytea = 17

@@ -13,7 +13,7 @@ mod relation;
 mod static_text;
 mod type_info;
 
-pub use builtin::BuiltIn;
+pub use builtin::PgBuiltIn;
 pub use custom::{PgArrayOf, PgCustomType};
 pub use kind::{PgTypeKind, PgTypeKindRef, PgTypeRef};
 pub use name::{IdentifierChar, IdentifierChars, PgTypeName, identifier_chars, name_eq};

@@ -8,7 +8,7 @@ ghost use Rattle.pgv_types.specs.Shown.{kind_of, type_of};
 ghost use Rattle.pgv_types.specs.LentParts.{ref_type, IsHeld, kind_lent};
 
 use crate::{
-    BuiltIn, Oid, PgArrayOf, PgCustomType, PgTypeKind, PgTypeKindRef, PgTypeName, PgTypeRef,
+    Oid, PgArrayOf, PgBuiltIn, PgCustomType, PgTypeKind, PgTypeKindRef, PgTypeName, PgTypeRef,
     StaticText,
 };
 use std::alloc::{AllocError, Global};
@@ -56,7 +56,7 @@ impl Model for PgTypeInfo {
 #[cycle(types)]
 pub enum PgType {
     /// A type that the server has from its start.
-    BuiltIn(BuiltIn),
+    BuiltIn(PgBuiltIn),
     /// A type that the server described. Its copies share it.
     Custom(Rc<PgCustomType>),
     /// A type of which only the name is known.
@@ -97,7 +97,7 @@ impl PgType {
     pub fn try_from_oid(oid: Oid) -> Option<PgType>
         ensures { option_map type_of result ≡ built_in oid.0 }
     {
-        Some(PgType::BuiltIn(BuiltIn::try_from_oid(oid)?))
+        Some(PgType::BuiltIn(PgBuiltIn::try_from_oid(oid)?))
     }
 
     /// The element of an array: a built-in array's or a custom one's, the name after the `_` of a
@@ -390,7 +390,7 @@ impl PgTypeInfo {
     pub fn is_void(&self) -> bool
         ensures { result ≡ is_void self.now }
     {
-        matches!(self.0, PgType::BuiltIn(BuiltIn::Void))
+        matches!(self.0, PgType::BuiltIn(PgBuiltIn::Void))
     }
 
     /// Whether it is the type of null: never, since PostgreSQL has none.

@@ -7,7 +7,7 @@ ghost use Rattle.pgv_value.specs.Parsed.{GivesFront};
 ghost use Rattle.pgv_codec.specs.RecordGrammar.{by_own_oid, field_head, field_type};
 ghost use Rattle.pgv_codec.specs.RecordGrammar as spec;
 
-use pgv_types::{BuiltIn, Oid, PgType, PgTypeInfo, PgTypeKindRef};
+use pgv_types::{Oid, PgBuiltIn, PgType, PgTypeInfo, PgTypeKindRef};
 use pgv_value::{CodecError, u32_in_front};
 use std::rc::RcStr;
 
@@ -50,7 +50,7 @@ fn field_type_under(base: &PgTypeInfo, place: usize, oid: Oid) -> Result<PgTypeI
     ensures { Gives (λ t. t) (field_type base.now place oid.0) result }
 {
     match &base.0 {
-        PgType::BuiltIn(BuiltIn::Record) => by_own_oid_of(RECORD, oid),
+        PgType::BuiltIn(PgBuiltIn::Record) => by_own_oid_of(RECORD, oid),
         PgType::Custom(custom) => match custom.kind() {
             PgTypeKindRef::Simple => by_own_oid_of(custom.oid(), oid),
             PgTypeKindRef::Composite(fields) => composite_field(fields, place, oid),

@@ -1,7 +1,7 @@
 use Rattle.std.proofs.Common.{arith}
 use Rattle.pgv_types.specs.Shown.{number_of}
 use Rattle.pgv_types.proofs.TableRows.{place_within, row_found, row_within}
-use Rattle.pgv_types.proofs.builtin.BuiltIn.row.Goals as goal
+use Rattle.pgv_types.proofs.builtin.PgBuiltIn.row.Goals as goal
 
 pub offset_bounds-rows-place : goal.offset_bounds-rows-place
 offset_bounds-rows-place c = omega (arith, place_within c.place.result (number_of c.args.self) c.place.ensures)
