@@ -9,7 +9,7 @@ use Rattle.pgv_buf.specs.Blank.{plain-append}
 use Rattle.pgv_buf.specs.Proper.{Proper, Proper-front, Proper-back, Proper-append, first_type, shown-append, length-shown, width-append, rest_of}
 use Rattle.pgv_buf.specs.Fill.{fill_holes, fill_slots}
 use Rattle.pgv_buf.specs.Layout.{is_hole, is_slot, if_so, places, slots_of, Layout, layout_of, Represents}
-use Rattle.pgv_buf.specs.Patches.{put, first_string, written, Within, numbers, choices}
+use Rattle.pgv_buf.specs.Patches.{put, first_string, put_each, Within, numbers, choices}
 use Rattle.pgv_buf.proofs.Layouts.{layout-append, with_more, wide}
 use Rattle.pgv_buf.proofs.CellSteps.{shown-bytes, plain-bytes, Proper-bytes, bytes_alone}
 
@@ -35,23 +35,23 @@ showing is ws (t ∷ ts) = cond (is (token_of t)) (first_string ws ++ showing is
 one_written :
     (b : Bool) (before s : List ℕ) (is : Token → Bool) (ws : List (List ℕ)) (ts : List Cell) (n : ℕ) → length s ≡ n →
     map length ws ≡ if_so b n ++ widths is (plain ts) →
-    ((front : List ℕ) (vs : List (List ℕ)) → map length vs ≡ widths is (plain ts) → written (places is (length front) (plain ts)) vs (front ++ shown ts) ≡ front ++ showing is vs ts) →
-    written (if_so b (length before) ++ places is (length before + n) (plain ts)) ws (before ++ (s ++ shown ts)) ≡ before ++ cond b (first_string ws ++ showing is (rest_of ws) ts) (s ++ showing is ws ts)
+    ((front : List ℕ) (vs : List (List ℕ)) → map length vs ≡ widths is (plain ts) → put_each (places is (length front) (plain ts)) vs (front ++ shown ts) ≡ front ++ showing is vs ts) →
+    put_each (if_so b (length before) ++ places is (length before + n) (plain ts)) ws (before ++ (s ++ shown ts)) ≡ before ++ cond b (first_string ws ++ showing is (rest_of ws) ts) (s ++ showing is ws ts)
 one_written true before s is [] ts n e f rest = cc
 one_written true before s is (w ∷ ws) ts n e f rest =
     let k : length w ≡ n = cc in
     let g : map length ws ≡ widths is (plain ts) = cc in
     let e1 : put (length before) w (before ++ (s ++ shown ts)) ≡ (before ++ w) ++ shown ts = rw (← append_assoc before s (shown ts)) (put_at before s (shown ts) w (e ∙ sym k)) in
-    let h : written (places is (length (before ++ w)) (plain ts)) ws ((before ++ w) ++ shown ts) ≡ (before ++ w) ++ showing is ws ts = rest (before ++ w) ws g in
-    let h' : written (places is (length before + n) (plain ts)) ws ((before ++ w) ++ shown ts) ≡ (before ++ w) ++ showing is ws ts = (rw (length-append before w, k) at h) in
-    ap (λ z. written (places is (length before + n) (plain ts)) ws z) e1 ∙ (h' ∙ append_assoc before w (showing is ws ts))
+    let h : put_each (places is (length (before ++ w)) (plain ts)) ws ((before ++ w) ++ shown ts) ≡ (before ++ w) ++ showing is ws ts = rest (before ++ w) ws g in
+    let h' : put_each (places is (length before + n) (plain ts)) ws ((before ++ w) ++ shown ts) ≡ (before ++ w) ++ showing is ws ts = (rw (length-append before w, k) at h) in
+    ap (λ z. put_each (places is (length before + n) (plain ts)) ws z) e1 ∙ (h' ∙ append_assoc before w (showing is ws ts))
 one_written false before s is ws ts n e f rest =
-    let h : written (places is (length (before ++ s)) (plain ts)) ws ((before ++ s) ++ shown ts) ≡ (before ++ s) ++ showing is ws ts = rest (before ++ s) ws f in
+    let h : put_each (places is (length (before ++ s)) (plain ts)) ws ((before ++ s) ++ shown ts) ≡ (before ++ s) ++ showing is ws ts = rest (before ++ s) ws f in
     (rw (length-append before s, e, append_assoc before s (shown ts), append_assoc before s (showing is ws ts)) at h)
 
 written-shown :
     (is : Token → Bool) (before : List ℕ) (ws : List (List ℕ)) (ts : List Cell) → map length ws ≡ widths is (plain ts) → Proper ts →
-    written (places is (length before) (plain ts)) ws (before ++ shown ts) ≡ before ++ showing is ws ts
+    put_each (places is (length before) (plain ts)) ws (before ++ shown ts) ≡ before ++ showing is ws ts
 written-shown is before ws [] f p = refl
 written-shown is before ws (fixed x ∷ ts) f p = one_written (is (byte x)) before (x ∷ []) is ws ts 1 refl f (λ front vs g. written-shown is front vs ts g p)
 written-shown is before ws (hole_cell t s ∷ ts) f p = one_written (is (hole t)) before s is ws ts 4 p.0 f (λ front vs g. written-shown is front vs ts g p.1)
@@ -104,7 +104,7 @@ holes_proper os (slot_cell d cs s ∷ ts) p = (p.0, p.1, holes_proper os ts p.2)
 
 pub holes_filled :
     {ts : List Cell} {b : List ℕ} {l : Layout} → Represents ts b l →
-    (os : List Oid) → length os ≡ hole_count ts → (b' : List ℕ) → b' ≡ written l.holes (numbers os) b → Represents (fill_holes os ts) b' l
+    (os : List Oid) → length os ≡ hole_count ts → (b' : List ℕ) → b' ≡ put_each l.holes (numbers os) b → Represents (fill_holes os ts) b' l
 holes_filled {ts} {b} {l} r os n b' e = record {
   bytes_are = e ∙ (rw (r.layout_is, r.bytes_are) (written-shown is_hole [] (numbers os) ts (numbers_fit os ts n) r.proper) ∙ numbers_show os ts n);
   layout_is = r.layout_is ∙ ap layout_of (sym (holes_plain os ts));
@@ -152,7 +152,7 @@ slots_proper ps (slot_cell d cs s ∷ ts) p = (chosen_fits (first_type ps) d cs 
 
 pub slots_filled :
     {ts : List Cell} {b : List ℕ} {l : Layout} → Represents ts b l →
-    (ps : List Ty) (b' : List ℕ) → b' ≡ written l.slot_places (choices ps l.slots) b → Represents (fill_slots ps ts) b' l
+    (ps : List Ty) (b' : List ℕ) → b' ≡ put_each l.slot_places (choices ps l.slots) b → Represents (fill_slots ps ts) b' l
 slots_filled {ts} {b} {l} r ps b' e = record {
   bytes_are = e ∙ (rw (r.layout_is, r.bytes_are) (written-shown is_slot [] (choices ps (slots_of (plain ts))) ts (choices_fit ps ts r.proper) r.proper) ∙ choices_show ps ts);
   layout_is = r.layout_is ∙ ap layout_of (sym (slots_plain ps ts));

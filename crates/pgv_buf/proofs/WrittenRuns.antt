@@ -8,7 +8,7 @@ use Rattle.pgv_buf.specs.TokensView.{kept_of}
 use Rattle.pgv_buf.specs.Layout.{Kept}
 use Rattle.pgv_buf.specs.Fill.{slot_types}
 use Rattle.pgv_buf.specs.Proper.{rest_of}
-use Rattle.pgv_buf.specs.Patches.{put, written, Within, choices}
+use Rattle.pgv_buf.specs.Patches.{put, put_each, Within, choices}
 
 -- ---- one string
 
@@ -18,7 +18,7 @@ run_choices t ss = choices (replicate (length ss) t) (map kept_of ss)
 
 -- ---- a run, and then the others
 
-written-append : (ps qs : List ℕ) (ws vs : List (List ℕ)) (b : List ℕ) → length ps ≡ length ws → written (ps ++ qs) (ws ++ vs) b ≡ written qs vs (written ps ws b)
+written-append : (ps qs : List ℕ) (ws vs : List (List ℕ)) (b : List ℕ) → length ps ≡ length ws → put_each (ps ++ qs) (ws ++ vs) b ≡ put_each qs vs (put_each ps ws b)
 written-append [] qs [] vs b h = refl
 written-append [] qs (w ∷ ws) vs b h = absurd (omega arith)
 written-append (p ∷ ps) qs [] vs b h = absurd (omega arith)
@@ -59,12 +59,12 @@ within_run m n ps qs t ts ks e f h =
 
 pub told_run :
     (n : ℕ) (ps qs : List ℕ) (t : Ty) (ts : List Ty) (ks : List Kept) (b b' target : List ℕ) → length ps ≡ n → length (take n ks) ≡ n →
-    written (ps ++ qs) (choices (replicate n t ++ ts) ks) b ≡ target →
-    b' ≡ written ps (choices (replicate n t) (take n ks)) b → written qs (choices ts (drop n ks)) b' ≡ target
+    put_each (ps ++ qs) (choices (replicate n t ++ ts) ks) b ≡ target →
+    b' ≡ put_each ps (choices (replicate n t) (take n ks)) b → put_each qs (choices ts (drop n ks)) b' ≡ target
 told_run n ps qs t ts ks b b' target e f h g =
-    let k : written (ps ++ qs) (choices (replicate n t) (take n ks) ++ choices ts (drop n ks)) b ≡ target =
-    ap (λ ws. written (ps ++ qs) ws b) (sym (split_choices n t ts ks f)) ∙ h in
-    ap (λ z. written qs (choices ts (drop n ks)) z) g
+    let k : put_each (ps ++ qs) (choices (replicate n t) (take n ks) ++ choices ts (drop n ks)) b ≡ target =
+    ap (λ ws. put_each (ps ++ qs) ws b) (sym (split_choices n t ts ks f)) ∙ h in
+    ap (λ z. put_each qs (choices ts (drop n ks)) z) g
     ∙ (sym (written-append ps qs (choices (replicate n t) (take n ks)) (choices ts (drop n ks)) b (omega (arith, length-choices (replicate n t) (take n ks)))) ∙ k)
 
 -- the types of the slots of what is left, the argument at i first

@@ -15,9 +15,9 @@ first_string [] = []
 first_string (w ∷ ws) = w
 
 -- the i-th string at the i-th place
-abbrev pub written : List ℕ → List (List ℕ) → List ℕ → List ℕ
-written [] ws b = b
-written (p ∷ ps) ws b = written ps (rest_of ws) (put p (first_string ws) b)
+abbrev pub put_each : List ℕ → List (List ℕ) → List ℕ → List ℕ
+put_each [] ws b = b
+put_each (p ∷ ps) ws b = put_each ps (rest_of ws) (put p (first_string ws) b)
 
 -- each string ends within n bytes
 abbrev pub Within : ℕ → List ℕ → List (List ℕ) → Type 0

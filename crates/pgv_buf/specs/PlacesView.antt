@@ -4,8 +4,8 @@ use Rattle.pgv_buf.specs.declared.places.Places.TheInside.{Inside}
 use Rattle.pgv_buf.specs.Layout.{last_from}
 use Rattle.pgv_buf.specs.Gaps.{places_after}
 
-abbrev pub seen : Inside → List ℕ
-seen a = places_after 0 a.gaps.items
+abbrev pub places_view : Inside → List ℕ
+places_view a = places_after 0 a.gaps.items
 
 -- the last place is kept beside the gaps
 abbrev pub IsValid : Inside → Type 0

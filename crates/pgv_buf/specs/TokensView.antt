@@ -12,8 +12,8 @@ kept_of s = record { standard = s.standard.items; cases = cases_of s.cases.items
 abbrev pub layout_in : Inside → Layout
 layout_in a = record { holes = a.holes; types = a.types.items; slot_places = a.slot_places; slots = map kept_of a.slots.items }
 
-abbrev pub seen : Inside → List Cell
-seen a = tokens_of a.bytes.items (layout_in a)
+abbrev pub cells_view : Inside → List Cell
+cells_view a = tokens_of a.bytes.items (layout_in a)
 
 abbrev pub IsValid : Inside → Type 0
 IsValid a = Valid a.bytes.items (layout_in a)

@@ -3,7 +3,7 @@
 ghost use Rattle.std.specs.Prelude.{◌≡◌, ◌+◌, ◌≤◌, length, sum, map, replicate};
 ghost use Rattle.pgv_buf.specs.Tokens.{chosen, be4};
 ghost use Rattle.pgv_buf.specs.Fill.{slot_types};
-ghost use Rattle.pgv_buf.specs.Patches.{put, written, Within, numbers, choices};
+ghost use Rattle.pgv_buf.specs.Patches.{put, put_each, Within, numbers, choices};
 ghost use Rattle.pgv_buf.specs.Gaps.{places_after};
 ghost use Rattle.pgv_buf.specs.TokensView.{kept_of};
 
@@ -70,7 +70,7 @@ pub(crate) fn put_number(bytes: &mut Vec<u8>, place: usize, value: u32)
 pub(crate) fn write_oids(bytes: &mut Vec<u8>, gaps: &[usize], oids: &[Oid])
     requires many { length oids.now ≡ length gaps.now }
     requires within { Within (length bytes.old.items) (places_after 0 gaps.now) (numbers oids.now) }
-    ensures { bytes.new.items ≡ written (places_after 0 gaps.now)
+    ensures { bytes.new.items ≡ put_each (places_after 0 gaps.now)
         (numbers oids.now) bytes.old.items }
 {
     let mut place = 0;
@@ -104,7 +104,7 @@ fn write_run(
     requires many { length gaps.now ≡ length slots.now }
     requires within { Within (length bytes.old.items) (places_after before gaps.now)
         (choices (replicate (length slots.now) parameter.now) (map kept_of slots.now)) }
-    ensures items { bytes.new.items ≡ written (places_after before gaps.now)
+    ensures items { bytes.new.items ≡ put_each (places_after before gaps.now)
         (choices (replicate (length slots.now) parameter.now)
         (map kept_of slots.now)) bytes.old.items }
     ensures len { length bytes.new.items ≡ length bytes.old.items }
@@ -131,7 +131,7 @@ pub(crate) fn write_slots(
     requires gaps { length gaps.now ≡ length slots.now }
     requires within { Within (length bytes.old.items) (places_after 0 gaps.now)
         (choices (slot_types types.now counts.now) (map kept_of slots.now)) }
-    ensures { bytes.new.items ≡ written (places_after 0 gaps.now)
+    ensures { bytes.new.items ≡ put_each (places_after 0 gaps.now)
         (choices (slot_types types.now counts.now) (map kept_of slots.now)) bytes.old.items }
 {
     if slots.is_empty() {

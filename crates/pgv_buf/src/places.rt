@@ -25,9 +25,9 @@ impl Model for Places {
 
     ghost coded = { coded_list coded_ℕ };
 
-    ghost use Rattle.pgv_buf.specs.PlacesView.{seen, IsValid};
+    ghost use Rattle.pgv_buf.specs.PlacesView.{places_view, IsValid};
 
-    ghost view = { seen };
+    ghost view = { places_view };
 
     ghost invariant = { IsValid };
 }

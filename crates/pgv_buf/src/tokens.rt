@@ -36,9 +36,9 @@ impl Model for Tokens {
 
     ghost coded = { cells_code };
 
-    ghost use Rattle.pgv_buf.specs.TokensView.{seen, IsValid};
+    ghost use Rattle.pgv_buf.specs.TokensView.{cells_view, IsValid};
 
-    ghost view = { seen };
+    ghost view = { cells_view };
 
     ghost invariant = { IsValid };
 }

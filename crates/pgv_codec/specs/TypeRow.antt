@@ -37,7 +37,7 @@ IsReadAs {A} stated view parse = ((v : A) → stated.view v ≡ view v) × (stat
 
 -- A row of the table: the type of values and that of their arrays, what is written, what a value is seen as, the
 -- grammar that it is read by, and what is seen of the value that comes back.
-pub record Row (A V : Type 0) : Type 0 where
+pub record TypeRow (A V : Type 0) : Type 0 where
   pub info : Ty
   pub array : Ty
   pub encoding : A → Encoding
@@ -46,7 +46,7 @@ pub record Row (A V : Type 0) : Type 0 where
   pub kept : A → V
 
 -- a type that is this row of the table
-abbrev pub IsCodecRow : {A : Type 0} → types.Ghosts A → arrays.Ghosts A → encode.Ghosts A → (reads : decode.Ghosts A) → (A → A) → Row A reads.View → Type 0
+abbrev pub IsCodecRow : {A : Type 0} → types.Ghosts A → arrays.Ghosts A → encode.Ghosts A → (reads : decode.Ghosts A) → (A → A) → TypeRow A reads.View → Type 0
 IsCodecRow {A} of_values of_arrays writes reads kept row =
     HasTypes of_values of_arrays row.info row.array
     × IsWrittenAs writes row.encoding

@@ -16,7 +16,7 @@ use Rattle.pgv_row.specs.ColumnView.{Column}
 use Rattle.pgv_row.specs.DataRow.{IsDataRow}
 use Rattle.pgv_row.specs.RowValues.{column_value}
 use Rattle.pgv_wire.specs.Arguments.{Argument, Framed}
-use Rattle.pgv_wire.specs.Given.{Given, given_in}
+use Rattle.pgv_wire.specs.Given.{LastGiven, given_in}
 use Rattle.pgv_wire.specs.History.{Call, added_in, after, last_filling}
 use Rattle.pgv_message.specs.Frames.{bind_of}
 use Rattle.pgv_message.specs.Messages.{bind}
@@ -26,7 +26,7 @@ module _ {A M : Type 0} (encoding : A → Encoding) (accepts : Ty → Bool) (par
   -- parts.
   abbrev pub ColumnsComeBack : List Call → List Part → Type 0
   ColumnsComeBack calls parts =
-      (columns : List Column) (c : Column) (place : ℕ) (a : Framed) (g : Given) (v : A) →
+      (columns : List Column) (c : Column) (place : ℕ) (a : Framed) (g : LastGiven) (v : A) →
       slice_get (added_in calls) place ≡ Some a → (frame (encoding v)).answer ≡ Ok a.1 → slice_get (given_in (last_filling calls)) place ≡ Some g →
       slice_get columns place ≡ Some c → c.format ≡ Binary → accepts c.type_info ≡ true → fits v c.type_info g.oids →
       (column_value accepts parse (record { columns = columns; parts = parts }) place).answer ≡ Ok (kept v)

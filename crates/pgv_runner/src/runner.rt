@@ -2,7 +2,7 @@
 
 ghost use Rattle.std.specs.Prelude.{◌≡◌, ◌++◌, ◌∷◌, [], List, ℕ, IfSome, OnOk};
 ghost use Rattle.std.specs.Io.KnownBytes.{Appends, IsAtEnd, Keeps};
-ghost use Rattle.pgv_session.specs.Session.{Answers, IsSession, lines_of};
+ghost use Rattle.pgv_session.specs.Session.{AnswersLine, IsSession, lines_of};
 ghost use Rattle.pgv_session.specs.Lines.{before};
 ghost use Rattle.pgv_runner.specs.Faults.{text_of_fault};
 
@@ -125,7 +125,7 @@ fn respond<W: Write>(
     line: &[u8],
     writer: &mut W,
 ) -> Result<(), RunFault>
-    ensures { OnOk result ((text : List ℕ) × Answers (before 10 line.now) arguments.old text
+    ensures { OnOk result ((text : List ℕ) × AnswersLine (before 10 line.now) arguments.old text
         arguments.new × Appends (W.contents writer.old) (W.contents writer.new) (text ++ 10 ∷ [])) }
 {
     let (line, _) = split_at_byte(line, b'\n');

@@ -22,7 +22,7 @@ use Rattle.pgv_session.specs.Lines.{before as before_mark, rest_after, words, wi
 use Rattle.pgv_session.specs.Session.{State, RespondsBy, fields_shown, row_shown, rows_named, Yields, EndsWith, CopiesFrom, Reads, refused, RefusedAs}
 use Rattle.pgv_session.specs.Spelled.{to_read}
 use Rattle.pgv_session.specs.ToldView.{told_text, TellsOf}
-use Rattle.pgv_session.specs.Types.{Row, types, row_named}
+use Rattle.pgv_session.specs.Types.{LineType, types, row_named}
 use Rattle.pgv_session.specs.declared.value.Told.{Told}
 use Rattle.pgv_session.specs.declared.value.Told.TheVariants.{Said, Refused}
 use Rattle.pgv_session.proofs.Wording.{words_after, words_split}
@@ -51,17 +51,17 @@ read_refused : (f : Option Framed) (why : Option CodecError) (bytes answer : Lis
 read_refused None why bytes answer h n = (refl, h)
 read_refused (Some g) why bytes answer h n = absurd cc
 
-field_read : (a : Option Row) (bytes : List ℕ) (was now : State) (told : Told) → RespondsBy a (to_read (Some bytes)) was (told_text told) now → TellsOf a (to_read (Some bytes)) told → ShowsField a (Some bytes) told
+field_read : (a : Option LineType) (bytes : List ℕ) (was now : State) (told : Told) → RespondsBy a (to_read (Some bytes)) was (told_text told) now → TellsOf a (to_read (Some bytes)) told → ShowsField a (Some bytes) told
 field_read None bytes was now told r t = tt
 field_read (Some row) bytes was now (Said text) r t = read_said (row.value InBinary (Some bytes)) (row.refusal InBinary (Some bytes)) bytes text r.0 t
 field_read (Some row) bytes was now (Refused text) r t = read_refused (row.value InBinary (Some bytes)) (row.refusal InBinary (Some bytes)) bytes (string_bytes text) r.0 t
 
-pub field_shows : (a : Option Row) (part : Option (List ℕ)) (bytes : List ℕ) (was now : State) (r : Result Told AllocError) → part ≡ Some bytes → IfOk r (λ told. RespondsBy a (to_read (Some bytes)) was (told_text told) now × TellsOf a (to_read (Some bytes)) told) →
+pub field_shows : (a : Option LineType) (part : Option (List ℕ)) (bytes : List ℕ) (was now : State) (r : Result Told AllocError) → part ≡ Some bytes → IfOk r (λ told. RespondsBy a (to_read (Some bytes)) was (told_text told) now × TellsOf a (to_read (Some bytes)) told) →
     IfOk r (λ told. ShowsField a part told)
 field_shows a part bytes was now (Err x) e h = tt
 field_shows a part bytes was now (Ok told) e h = subst (λ (p : Option (List ℕ)). ShowsField a p told) (sym e) (field_read a bytes was now told h.0 h.1)
 
-pub fields_more : (a : Option Row) (w : Option (List Row)) (v : Given) (row : List Given) (text : Text) (refused : Option Text) (was mid now : List (List ℕ)) → ShowsField a v.bytes (Said text) → mid ≡ was ++ string_bytes text ∷ [] →
+pub fields_more : (a : Option LineType) (w : Option (List LineType)) (v : Given) (row : List Given) (text : Text) (refused : Option Text) (was mid now : List (List ℕ)) → ShowsField a v.bytes (Said text) → mid ≡ was ++ string_bytes text ∷ [] →
     FieldsFrom w row refused mid now → FieldsFrom (with_first a w) (v ∷ row) refused was now
 fields_more None w v row text refused was mid now f m h = tt
 fields_more (Some r) None v row text refused was mid now f m h = tt
@@ -76,7 +76,7 @@ fields_step ns n ns' vs v vs' text was mid now (Ok refused) e f s m h =
     subst (λ (l : List (List ℕ)). FieldsFrom (rows_named l) vs refused was now) (sym e)
     (subst (λ (l : List Given). FieldsFrom (rows_named (n ∷ ns')) l refused was now) (sym f) (fields_more (row_named types n) (rows_named ns') v vs' text refused was mid now s m h))
 
-fields_refuse : (a : Option Row) (w : Option (List Row)) (v : Given) (row : List Given) (text : Text) (was now : List (List ℕ)) → ShowsField a v.bytes (Refused text) → FieldsFrom (with_first a w) (v ∷ row) (Some text) was now
+fields_refuse : (a : Option LineType) (w : Option (List LineType)) (v : Given) (row : List Given) (text : Text) (was now : List (List ℕ)) → ShowsField a v.bytes (Refused text) → FieldsFrom (with_first a w) (v ∷ row) (Some text) was now
 fields_refuse None w v row text was now f = tt
 fields_refuse (Some r) None v row text was now f = tt
 fields_refuse (Some r) (Some columns) v row text was now f = (rw f.0 refl, rw f.0 f.1)
@@ -87,40 +87,40 @@ fields_stop ns n ns' vs v vs' text was now e f s =
     subst (λ (l : List (List ℕ)). FieldsFrom (rows_named l) vs (Some text) was now) (sym e)
     (subst (λ (l : List Given). FieldsFrom (rows_named (n ∷ ns')) l (Some text) was now) (sym f) (fields_refuse (row_named types n) (rows_named ns') v vs' text was now s))
 
-zip_nothing : (columns : List Row) → ◌≡◌ {A = List (Row × Given)} (zip columns []) []
+zip_nothing : (columns : List LineType) → ◌≡◌ {A = List (LineType × Given)} (zip columns []) []
 zip_nothing [] = refl
 zip_nothing (c ∷ cs) = refl
 
-pub no_fields : (w : Option (List Row)) (was : List (List ℕ)) → FieldsFrom w [] None was was
+pub no_fields : (w : Option (List LineType)) (was : List (List ℕ)) → FieldsFrom w [] None was was
 no_fields None was = tt
 no_fields (Some columns) was = ([], ap fields_shown (zip_nothing columns), sym (append-nil was))
 
-pub no_more_fields : (w : Option (List Row)) (vs : List Given) (was : List (List ℕ)) → length vs ≡ 0 → FieldsFrom w vs None was was
+pub no_more_fields : (w : Option (List LineType)) (vs : List Given) (was : List (List ℕ)) → length vs ≡ 0 → FieldsFrom w vs None was was
 no_more_fields w [] was e = no_fields w was
 no_more_fields w (v ∷ vs) was e = absurd (omega (arith, e))
 
 -- ---- rows
 
-yields_more : (columns : List Row) (a b c : Copying) (texts : List (List ℕ)) (row : List Given) (text : List ℕ) → Yields columns a texts b → step b ≡ Ok (Some row, c) → row_shown columns row ≡ Some text → Yields columns a (texts ++ text ∷ []) c
+yields_more : (columns : List LineType) (a b c : Copying) (texts : List (List ℕ)) (row : List Given) (text : List ℕ) → Yields columns a texts b → step b ≡ Ok (Some row, c) → row_shown columns row ≡ Some text → Yields columns a (texts ++ text ∷ []) c
 yields_more columns a b c [] row text h s t = (row, c, subst (λ (r : Copying). step r ≡ Ok (Some row, c)) h s, t, refl)
 yields_more columns a b c (x ∷ xs) row text h s t = (h.0, h.1, h.2, h.3, yields_more columns h.1 b c xs row text h.4 s t)
 
-pub row_more : (w : Option (List Row)) (types : List Ty) (rest : List ℕ) (texts texts' : List (List ℕ)) (b c : Copying) (row : List Given) (text : Text) → YieldsIn w types rest texts b → step b ≡ Ok (Some row, c) → ShowsRow w row (Said text) →
+pub row_more : (w : Option (List LineType)) (types : List Ty) (rest : List ℕ) (texts texts' : List (List ℕ)) (b c : Copying) (row : List Given) (text : Text) → YieldsIn w types rest texts b → step b ≡ Ok (Some row, c) → ShowsRow w row (Said text) →
     texts' ≡ texts ++ string_bytes text ∷ [] → YieldsIn w types rest texts' c
 row_more None column_types rest texts texts' b c row text y s t p = tt
 row_more (Some columns) column_types rest texts texts' b c row text y s t p =
     λ e. subst (λ (ts : List (List ℕ)). Yields columns (before (infos columns) rest) ts c) (sym p) (yields_more columns (before (infos columns) rest) b c texts row (string_bytes text) (y e) s t)
 
-ends : (w : Option (List Row)) (types : List Ty) (bytes rest : List ℕ) (texts : List (List ℕ)) (reader : Copying) (answer : List ℕ) → header bytes ≡ Ok rest → YieldsIn w types rest texts reader →
-    ((columns : List Row) → w ≡ Some columns → EndsWith columns texts (step reader) answer) → CopiesIn w types (header bytes) answer
+ends : (w : Option (List LineType)) (types : List Ty) (bytes rest : List ℕ) (texts : List (List ℕ)) (reader : Copying) (answer : List ℕ) → header bytes ≡ Ok rest → YieldsIn w types rest texts reader →
+    ((columns : List LineType) → w ≡ Some columns → EndsWith columns texts (step reader) answer) → CopiesIn w types (header bytes) answer
 ends None column_types bytes rest texts reader answer hd y a = tt
 ends (Some columns) column_types bytes rest texts reader answer hd y a =
     λ e. subst (λ (r : Parsed (List ℕ)). CopiesFrom columns r answer) (sym hd) (texts, reader, y e, a columns refl)
 
-refused_here : (w : Option (List Row)) (columns : List Row) (row : List Given) (text : Text) → w ≡ Some columns → ShowsRow w row (Refused text) → ShowsRow (Some columns) row (Refused text)
-refused_here w columns row text e h = subst (λ (x : Option (List Row)). ShowsRow x row (Refused text)) e h
+refused_here : (w : Option (List LineType)) (columns : List LineType) (row : List Given) (text : Text) → w ≡ Some columns → ShowsRow w row (Refused text) → ShowsRow (Some columns) row (Refused text)
+refused_here w columns row text e h = subst (λ (x : Option (List LineType)). ShowsRow x row (Refused text)) e h
 
-pub row_stops : (w : Option (List Row)) (types : List Ty) (bytes rest : List ℕ) (texts : List (List ℕ)) (reader next : Copying) (row : List Given) (text : Text) → header bytes ≡ Ok rest → YieldsIn w types rest texts reader →
+pub row_stops : (w : Option (List LineType)) (types : List Ty) (bytes rest : List ℕ) (texts : List (List ℕ)) (reader next : Copying) (row : List Given) (text : Text) → header bytes ≡ Ok rest → YieldsIn w types rest texts reader →
     step reader ≡ Ok (Some row, next) → ShowsRow w row (Refused text) → CopiesIn w types (header bytes) (string_bytes text)
 row_stops w types bytes rest texts reader next row text hd y s t =
     ends w types bytes rest texts reader (string_bytes text) hd y (λ columns e. subst (λ (x : Step). EndsWith columns texts x (string_bytes text)) (sym s) (refused_here w columns row text e t))
@@ -133,12 +133,12 @@ step_fails (Ok x) takes e (inr (inl h)) n = absurd (let no : ◌≡◌ {A = Resu
 step_fails (Err d) takes e (inr (inl h)) n = absurd (let no : ◌≡◌ {A = Result (Option (List Given) × Copying) (Option CodecError)} (Err (Some d)) (Err None) = h.0 in cc)
 step_fails s takes e (inr (inr h)) n = absurd (n h.0)
 
-stream_stops : (w : Option (List Row)) (types : List Ty) (bytes rest : List ℕ) (texts : List (List ℕ)) (reader : Copying) (e : CodecError) (answer : List ℕ) → header bytes ≡ Ok rest → YieldsIn w types rest texts reader →
+stream_stops : (w : Option (List LineType)) (types : List Ty) (bytes rest : List ℕ) (texts : List (List ℕ)) (reader : Copying) (e : CodecError) (answer : List ℕ) → header bytes ≡ Ok rest → YieldsIn w types rest texts reader →
     step reader ≡ Err e → answer ≡ refused (code_of e) → CopiesIn w types (header bytes) answer
 stream_stops w types bytes rest texts reader e answer hd y s t =
     ends w types bytes rest texts reader answer hd y (λ columns q. subst (λ (x : Step). EndsWith columns texts x answer) (sym s) t)
 
-pub stream_refused : (w : Option (List Row)) (types : List Ty) (bytes rest : List ℕ) (texts : List (List ℕ)) (reader : Copying) (e : CodecError) (r : Result Text AllocError) → header bytes ≡ Ok rest → YieldsIn w types rest texts reader →
+pub stream_refused : (w : Option (List LineType)) (types : List Ty) (bytes rest : List ℕ) (texts : List (List ℕ)) (reader : Copying) (e : CodecError) (r : Result Text AllocError) → header bytes ≡ Ok rest → YieldsIn w types rest texts reader →
     Fails e (next_row reader) → IfOk r (λ text. e ≢ Memory) → IfOk r (λ text. string_bytes text ≡ refused (code_of e)) → IfOk r (λ text. CopiesIn w types (header bytes) (string_bytes text))
 stream_refused w column_types bytes rest texts reader e (Err x) hd y s n t = tt
 stream_refused w column_types bytes rest texts reader e (Ok text) hd y s n t =

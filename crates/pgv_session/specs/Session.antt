@@ -1,5 +1,5 @@
 -- A session of the program: what each line does to the arguments, and what it answers. What a line asks for is answered
--- from the arguments and changes them (`Answers`). `IsSession` relates the lines of an input with the bytes of the
+-- from the arguments and changes them (`AnswersLine`). `IsSession` relates the lines of an input with the bytes of the
 -- answers. The lines of an input are those that it is put together of, each with its line feed, which the last may lack
 -- (`AreLines`); `lines_of` computes them (law: `input_is_its_lines`). A stream of COPY is answered by its rows, ` / `
 -- between two, and each by its fields, a space between two: null is `null`, and bytes are what `read` answers of them
@@ -24,7 +24,7 @@ use Rattle.pgv_value.specs.declared.value.PgValueFormat.TheVariants.{Text as InT
 use Rattle.pgv_wire.specs.Arguments.{Argument, Framed, all_tokens, types_in, filled_arguments}
 use Rattle.pgv_session.specs.Spelled.{Ask, to_add, to_add_null, to_read, Request, asks, asks_holes, resolves, asks_wire, copies, Asks}
 use Rattle.pgv_session.specs.Lines.{with_first}
-use Rattle.pgv_session.specs.Types.{Row, types, row_named}
+use Rattle.pgv_session.specs.Types.{LineType, types, row_named}
 
 -- ---- answers
 
@@ -53,11 +53,11 @@ Adds None why was answer now = RefusedAs why answer × (now ≡ was)
 Adds (Some f) why was answer now = (answer ≡ placeholder now) × (now ≡ was ++ (f.0, blank f.1) ∷ [])
 
 -- the value that a text is, under a TYPE
-abbrev pub AddsText : Row → List ℕ → State → List ℕ → State → Type 0
+abbrev pub AddsText : LineType → List ℕ → State → List ℕ → State → Type 0
 AddsText row text was answer now = Adds (row.value InText (Some text)) (row.refusal InText (Some text)) was answer now
 
 -- null, which every TYPE has
-abbrev pub AddsNull : Row → State → List ℕ → State → Type 0
+abbrev pub AddsNull : LineType → State → List ℕ → State → Type 0
 AddsNull row was answer now = Adds (Some (row.info, bytes (be4 4294967295))) None was answer now
 
 -- the display names, with one space before each
@@ -86,11 +86,11 @@ Reads (Some f) why part answer = Shows (Some f) why answer
 Reads None why (Some bytes) answer = Shows None why answer
 Reads None why None answer = answer ≡ refused 13
 
-abbrev pub ReadsPart : Row → Option (List ℕ) → List ℕ → Type 0
+abbrev pub ReadsPart : LineType → Option (List ℕ) → List ℕ → Type 0
 ReadsPart row part answer = Reads (row.value InBinary part) (row.refusal InBinary part) part answer
 
 -- what is asked of a value, by the row of its TYPE, where that has one
-abbrev pub RespondsBy : Option Row → Ask → State → List ℕ → State → Type 0
+abbrev pub RespondsBy : Option LineType → Ask → State → List ℕ → State → Type 0
 RespondsBy None ask was answer now = (answer ≡ codes "refused line") × (now ≡ was)
 RespondsBy (Some row) (to_add text) was answer now = AddsText row text was answer now
 RespondsBy (Some row) to_add_null was answer now = AddsNull row was answer now
@@ -99,17 +99,17 @@ RespondsBy (Some row) (to_read part) was answer now = ReadsPart row part answer 
 -- ---- streams of COPY
 
 -- the rows of the TYPEs, where each name has one
-abbrev pub rows_named : List (List ℕ) → Option (List Row)
+abbrev pub rows_named : List (List ℕ) → Option (List LineType)
 rows_named [] = Some []
 rows_named (name ∷ names) = with_first (row_named types name) (rows_named names)
 
 -- a field: null as `null`, and bytes as `read` shows them, where they are read
-abbrev pub field_shown : Row → Option (List ℕ) → Option (List ℕ)
+abbrev pub field_shown : LineType → Option (List ℕ) → Option (List ℕ)
 field_shown row None = Some (codes "null")
 field_shown row (Some bytes) = option_map (λ f. encode_lower (shown (blank f.1))) (row.value InBinary (Some bytes))
 
 -- fields, where each is read
-abbrev pub fields_shown : List (Row × Given) → Option (List (List ℕ))
+abbrev pub fields_shown : List (LineType × Given) → Option (List (List ℕ))
 fields_shown [] = Some []
 fields_shown (f ∷ fs) = with_first (field_shown f.0 f.1.bytes) (fields_shown fs)
 
@@ -119,7 +119,7 @@ refusal_or why None after = why
 refusal_or why (Some read) after = after read
 
 -- and else the refusal of the first that is not shown, where it is stated
-abbrev pub fields_refused : List (Row × Given) → Option CodecError
+abbrev pub fields_refused : List (LineType × Given) → Option CodecError
 fields_refused [] = None
 fields_refused (f ∷ fs) = refusal_or (f.0.refusal InBinary f.1.bytes) (field_shown f.0 f.1.bytes) (λ text. fields_refused fs)
 
@@ -132,10 +132,10 @@ abbrev pub all_with : List ℕ → List (List ℕ) → List ℕ
 all_with between [] = []
 all_with between (text ∷ texts) = text ++ more_after between texts
 
-abbrev pub row_shown : List Row → List Given → Option (List ℕ)
+abbrev pub row_shown : List LineType → List Given → Option (List ℕ)
 row_shown columns row = option_map (all_with (codes " ")) (fields_shown (zip columns row))
 
-abbrev pub row_refused : List Row → List Given → Option CodecError
+abbrev pub row_refused : List LineType → List Given → Option CodecError
 row_refused columns row = fields_refused (zip columns row)
 
 abbrev pub rows_told : List (List ℕ) → List ℕ
@@ -143,23 +143,23 @@ rows_told [] = codes "none"
 rows_told (text ∷ texts) = all_with (codes " / ") (text ∷ texts)
 
 -- these rows are answered one after another, and shown as these texts; then the reader is this one
-abbrev pub Yields : List Row → Copying → List (List ℕ) → Copying → Type 0
+abbrev pub Yields : List LineType → Copying → List (List ℕ) → Copying → Type 0
 Yields columns reader [] last = last ≡ reader
 Yields columns reader (text ∷ texts) last =
     (row : List Given) × (next : Copying) × (step reader ≡ Ok (Some row, next)) × (row_shown columns row ≡ Some text) × Yields columns next texts last
 
 -- what is answered after these rows: all of them at the end, and else the first refusal alone
-abbrev pub EndsWith : List Row → List (List ℕ) → Step → List ℕ → Type 0
+abbrev pub EndsWith : List LineType → List (List ℕ) → Step → List ℕ → Type 0
 EndsWith columns texts (Err e) answer = answer ≡ refused (code_of e)
 EndsWith columns texts (Ok (None, next)) answer = answer ≡ rows_told texts
 EndsWith columns texts (Ok (Some row, next)) answer = (row_shown columns row ≡ None) × RefusedAs (row_refused columns row) answer
 
-abbrev pub CopiesFrom : List Row → Parsed (List ℕ) → List ℕ → Type 0
+abbrev pub CopiesFrom : List LineType → Parsed (List ℕ) → List ℕ → Type 0
 CopiesFrom columns (Err e) answer = answer ≡ refused (code_of e)
 CopiesFrom columns (Ok rest) answer =
     (texts : List (List ℕ)) × (last : Copying) × Yields columns (before (map (λ c. c.info) columns) rest) texts last × EndsWith columns texts (step last) answer
 
-abbrev pub Copies : Option (List Row) → List ℕ → List ℕ → Type 0
+abbrev pub Copies : Option (List LineType) → List ℕ → List ℕ → Type 0
 Copies None bytes answer = answer ≡ codes "refused line"
 Copies (Some columns) bytes answer = CopiesFrom columns (header bytes) answer
 
@@ -175,8 +175,8 @@ RespondsTo None was answer now = (answer ≡ codes "refused line") × (now ≡ w
 RespondsTo (Some r) was answer now = Responds r was answer now
 
 -- a line, from one state to the next: what it asks for is answered
-abbrev pub Answers : List ℕ → State → List ℕ → State → Type 0
-Answers line was answer now = (asked : Option Request) × Asks line asked × RespondsTo asked was answer now
+abbrev pub AnswersLine : List ℕ → State → List ℕ → State → Type 0
+AnswersLine line was answer now = (asked : Option Request) × Asks line asked × RespondsTo asked was answer now
 
 -- ---- whole sessions
 
@@ -213,4 +213,4 @@ abbrev pub IsSession : State → List (List ℕ) → List ℕ → Type 0
 IsSession was [] output = output ≡ []
 IsSession was (line ∷ lines) output =
     (answer : List ℕ) × (now : State) × (rest : List ℕ) ×
-    Answers line was answer now × (output ≡ answer ++ 10 ∷ rest) × IsSession now lines rest
+    AnswersLine line was answer now × (output ≡ answer ++ 10 ∷ rest) × IsSession now lines rest

@@ -2,7 +2,7 @@
 use Rattle.std.specs.Prelude.{◌≡◌, ℕ, Bool, true, false, List, Option, Some, None, IsSome, string_bytes, ⊤}
 use Rattle.pgv_value.specs.declared.value.PgValueFormat.TheVariants.{Binary}
 use Rattle.pgv_session.specs.Spelled.{Ask, to_read}
-use Rattle.pgv_session.specs.Types.{Row}
+use Rattle.pgv_session.specs.Types.{LineType}
 use Rattle.pgv_session.specs.declared.value.Told.{Told}
 use Rattle.pgv_session.specs.declared.value.Told.TheVariants.{Said, Refused}
 
@@ -15,7 +15,7 @@ is_said (Said text) = true
 is_said (Refused text) = false
 
 -- bytes are refused exactly where they are not read
-abbrev pub TellsOf : Option Row → Ask → Told → Type 0
+abbrev pub TellsOf : Option LineType → Ask → Told → Type 0
 TellsOf (Some row) (to_read (Some bytes)) (Said text) = IsSome (row.value Binary (Some bytes))
 TellsOf (Some row) (to_read (Some bytes)) (Refused text) = row.value Binary (Some bytes) ≡ None
 TellsOf row ask told = ⊤

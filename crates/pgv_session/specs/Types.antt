@@ -53,14 +53,14 @@ refused_by info written unread (Some m) = why_of (frame (written info m)).answer
 
 -- a TYPE: its type, what is added for the value that a text or bytes are under it, and where there is none, which
 -- refusal is answered, if the type states it
-pub record Row : Type 0 where
+pub record LineType : Type 0 where
   pub info : Ty
   pub value : PgValueFormat → Option (List ℕ) → Option Framed
   pub refusal : PgValueFormat → Option (List ℕ) → Option CodecError
 
 -- values that are read and written so
-abbrev pub row : {M : Type 0} → Ty → (Given → Outcome M) → (Ty → M → Encoding) → Row
-row info parse written = record {
+abbrev pub line_type : {M : Type 0} → Ty → (Given → Outcome M) → (Ty → M → Encoding) → LineType
+line_type info parse written = record {
   info = info;
   value = λ f part. framed_by info written (reading_of parse info f part);
   refusal = λ f part. refused_by info written (error_of parse info f part) (reading_of parse info f part);
@@ -71,50 +71,50 @@ abbrev pub by_image : {M : Type 0} → (M → ℕ) → (M → Option Image) → 
 by_image hint image info m = with_hint (hint m) (writes (image m))
 
 -- lists of such values, which may be null, of elements of this type
-abbrev pub list_row : {M : Type 0} → Ty → Ty → (Given → Outcome M) → (Ty → M → Encoding) → Row
+abbrev pub list_row : {M : Type 0} → Ty → Ty → (Given → Outcome M) → (Ty → M → Encoding) → LineType
 list_row info element parse written =
-    row info (parse_array element (nullable parse)) (λ _ ms. plainly (array_image element (map (option_encoding element (written element)) ms)))
+    line_type info (parse_array element (nullable parse)) (λ _ ms. plainly (array_image element (map (option_encoding element (written element)) ms)))
 
 -- ranges of such values
-abbrev pub range_row : {M : Type 0} → Ty → Ty → (Given → Outcome M) → (Ty → M → Encoding) → Row
-range_row info element parse written = row info (parse_range element parse) (λ _ m. range_written (written element) m)
+abbrev pub range_row : {M : Type 0} → Ty → Ty → (Given → Outcome M) → (Ty → M → Encoding) → LineType
+range_row info element parse written = line_type info (parse_range element parse) (λ _ m. range_written (written element) m)
 
 -- the rows of the TYPEs
-abbrev pub row_of : TypeName → Row
-row_of Bool = row (builtin 16) (without_memory parse_bool) (by_image (λ _. 0) bool_image)
-row_of Char = row (builtin 18) (without_memory parse_char) (by_image (λ _. 0) (signed_image w8))
-row_of Int2 = row (builtin 21) (without_memory (parse_int w16)) (by_image (λ _. 0) (signed_image w16))
-row_of Int4 = row (builtin 23) (without_memory (parse_int w32)) (by_image (λ _. 0) (signed_image w32))
-row_of Int8 = row (builtin 20) (without_memory (parse_int w64)) (by_image (λ _. 0) (signed_image w64))
-row_of Oid = row (builtin 26) (without_memory parse_oid) (by_image (λ _. 0) (unsigned_image w32))
-row_of Text = row (builtin 25) parse_text (by_image (λ _. 0) text_image)
-row_of Uuid = row (builtin 2950) (without_memory parse_uuid) (by_image (λ _. 0) uuid_image)
-row_of Date = row (builtin 1082) (without_memory parse_date) (by_image (λ _. 4) date_image)
-row_of Time = row (builtin 1083) (without_memory parse_time) (by_image (λ _. 8) time_image)
-row_of Timestamp = row (builtin 1114) (without_memory parse_date_time) (by_image (λ _. 8) moment_image)
-row_of Timestamptz = row (builtin 1184) (without_memory parse_instant) (by_image (λ _. 8) moment_image)
-row_of Timetz = row (builtin 1266) (without_memory parse_time_tz) (λ _ m. with_hint 12 (time_tz_image m))
-row_of Interval = row (builtin 1186) (without_memory parse_interval) (by_image (λ _. 16) interval_image)
-row_of Varbit = row (builtin 1562) parse_bits (λ _ m. with_hint (bits_hint m) (bits_image m))
-row_of Inet = row (builtin 869) (without_memory parse_network) (by_image network_hint network_image)
-row_of Macaddr = row (builtin 829) (without_memory parse_mac) (by_image (λ _. 6) mac_image)
-row_of Bytea = row (builtin 17) parse_bytea (by_image (λ _. 0) text_image)
-row_of Citext = row (named (codes "citext")) parse_text (by_image (λ _. 0) text_image)
-row_of Money = row (builtin 790) (without_memory parse_money) (by_image (λ _. 0) (signed_image w64))
-row_of Numeric = row (builtin 1700) parse_numeric (λ _ m. plainly (numeric_image m))
-row_of Hstore = row (named (codes "hstore")) parse_hstore (λ _ ps. plainly (hstore_image ps))
+abbrev pub row_of : TypeName → LineType
+row_of Bool = line_type (builtin 16) (without_memory parse_bool) (by_image (λ _. 0) bool_image)
+row_of Char = line_type (builtin 18) (without_memory parse_char) (by_image (λ _. 0) (signed_image w8))
+row_of Int2 = line_type (builtin 21) (without_memory (parse_int w16)) (by_image (λ _. 0) (signed_image w16))
+row_of Int4 = line_type (builtin 23) (without_memory (parse_int w32)) (by_image (λ _. 0) (signed_image w32))
+row_of Int8 = line_type (builtin 20) (without_memory (parse_int w64)) (by_image (λ _. 0) (signed_image w64))
+row_of Oid = line_type (builtin 26) (without_memory parse_oid) (by_image (λ _. 0) (unsigned_image w32))
+row_of Text = line_type (builtin 25) parse_text (by_image (λ _. 0) text_image)
+row_of Uuid = line_type (builtin 2950) (without_memory parse_uuid) (by_image (λ _. 0) uuid_image)
+row_of Date = line_type (builtin 1082) (without_memory parse_date) (by_image (λ _. 4) date_image)
+row_of Time = line_type (builtin 1083) (without_memory parse_time) (by_image (λ _. 8) time_image)
+row_of Timestamp = line_type (builtin 1114) (without_memory parse_date_time) (by_image (λ _. 8) moment_image)
+row_of Timestamptz = line_type (builtin 1184) (without_memory parse_instant) (by_image (λ _. 8) moment_image)
+row_of Timetz = line_type (builtin 1266) (without_memory parse_time_tz) (λ _ m. with_hint 12 (time_tz_image m))
+row_of Interval = line_type (builtin 1186) (without_memory parse_interval) (by_image (λ _. 16) interval_image)
+row_of Varbit = line_type (builtin 1562) parse_bits (λ _ m. with_hint (bits_hint m) (bits_image m))
+row_of Inet = line_type (builtin 869) (without_memory parse_network) (by_image network_hint network_image)
+row_of Macaddr = line_type (builtin 829) (without_memory parse_mac) (by_image (λ _. 6) mac_image)
+row_of Bytea = line_type (builtin 17) parse_bytea (by_image (λ _. 0) text_image)
+row_of Citext = line_type (named (codes "citext")) parse_text (by_image (λ _. 0) text_image)
+row_of Money = line_type (builtin 790) (without_memory parse_money) (by_image (λ _. 0) (signed_image w64))
+row_of Numeric = line_type (builtin 1700) parse_numeric (λ _ m. plainly (numeric_image m))
+row_of Hstore = line_type (named (codes "hstore")) parse_hstore (λ _ ps. plainly (hstore_image ps))
 row_of Int4Range = range_row (builtin 3904) (builtin 23) (without_memory (parse_int w32)) (by_image (λ _. 0) (signed_image w32))
 row_of Int8Range = range_row (builtin 3926) (builtin 20) (without_memory (parse_int w64)) (by_image (λ _. 0) (signed_image w64))
 row_of DateRange = range_row (builtin 3912) (builtin 1082) (without_memory parse_date) (by_image (λ _. 4) date_image)
-row_of Ltree = row ltree parse_tree (by_image (λ _. 0) tree_image)
-row_of Lquery = row lquery parse_query (by_image (λ _. 0) query_image)
+row_of Ltree = line_type ltree parse_tree (by_image (λ _. 0) tree_image)
+row_of Lquery = line_type lquery parse_query (by_image (λ _. 0) query_image)
 row_of Int4Array = list_row (builtin 1007) (builtin 23) (without_memory (parse_int w32)) (by_image (λ _. 0) (signed_image w32))
 row_of TextArray = list_row (builtin 1009) (builtin 25) parse_text (by_image (λ _. 0) text_image)
 row_of DateArray = list_row (builtin 1182) (builtin 1082) (without_memory parse_date) (by_image (λ _. 4) date_image)
 row_of LtreeArray = list_row ltree_array ltree parse_tree (by_image (λ _. 0) tree_image)
 
 -- the rows by their names
-abbrev pub types : List (List ℕ × Row)
+abbrev pub types : List (List ℕ × LineType)
 types =
     (codes "bool", row_of Bool) ∷
     (codes "char", row_of Char) ∷
@@ -150,6 +150,6 @@ types =
     []
 
 -- the row of a name, where it has one
-abbrev pub row_named : List (List ℕ × Row) → List ℕ → Option Row
+abbrev pub row_named : List (List ℕ × LineType) → List ℕ → Option LineType
 row_named [] name = None
 row_named (t ∷ ts) name = if bytes_eq name t.0 then Some t.1 else row_named ts name

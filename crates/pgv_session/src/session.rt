@@ -5,7 +5,7 @@ ghost use Rattle.pgv_types.specs.Facts.{display_of};
 ghost use Rattle.pgv_buf.specs.Tokens.{hole_count};
 ghost use Rattle.pgv_wire.specs.Arguments.{all_tokens};
 ghost use Rattle.pgv_session.specs.RequestsView.{request_seen};
-ghost use Rattle.pgv_session.specs.Session.{Answers, RespondsTo, Resolves, names_shown};
+ghost use Rattle.pgv_session.specs.Session.{AnswersLine, RespondsTo, Resolves, names_shown};
 
 use crate::copied::copied;
 use crate::line::{Request, parse};
@@ -17,7 +17,7 @@ use std::alloc::{AllocError, Global};
 
 /// Answers a line. Only out of memory is an error, and then nothing is promised of the arguments.
 pub fn answer(alloc: Global, arguments: &mut PgArguments, line: &[u8]) -> Result<String, AllocError>
-    ensures { IfOk result (λ text. Answers line.now arguments.old
+    ensures { IfOk result (λ text. AnswersLine line.now arguments.old
         (string_bytes text) arguments.new) }
 {
     let request = parse(alloc, line)?;

@@ -11,7 +11,7 @@ ghost use Rattle.pgv_session.specs.RequestsView.{ask_seen};
 ghost use Rattle.pgv_session.specs.Session.{RespondsBy, Adds, AddsText, ReadsPart, Shows, IsRefusal, refused, placeholder as placeholder_of};
 ghost use Rattle.pgv_session.specs.Spelled.{to_read};
 ghost use Rattle.pgv_session.specs.ToldView.{told_text, is_said, TellsOf};
-ghost use Rattle.pgv_session.specs.Types.{framed_as, row, row_named, row_of, types};
+ghost use Rattle.pgv_session.specs.Types.{framed_as, line_type, row_named, row_of, types};
 
 use crate::line::Ask;
 use crate::type_name::{TypeName, type_name};
@@ -167,9 +167,9 @@ fn respond_as<T: Codec>(
 ) -> Result<Told, AllocError>
     requires { reading_of T.parse T.info InBinary None ≡ None }
     ensures { IfOk result (λ told.
-        RespondsBy (Some (row T.info T.parse T.written)) (ask_seen ask.entry)
+        RespondsBy (Some (line_type T.info T.parse T.written)) (ask_seen ask.entry)
         arguments.old (told_text told) arguments.new
-        × TellsOf (Some (row T.info T.parse T.written)) (ask_seen ask.entry) told) }
+        × TellsOf (Some (line_type T.info T.parse T.written)) (ask_seen ask.entry) told) }
 {
     match ask {
         Ask::Add(text) => Ok(Told::Said(add::<T>(alloc, arguments, text)?)),
@@ -189,7 +189,7 @@ fn add<T: Codec>(
     text: &[u8],
 ) -> Result<String, AllocError>
     ensures { IfOk result (λ answer.
-        AddsText (row T.info T.parse T.written) text.now
+        AddsText (line_type T.info T.parse T.written) text.now
         arguments.old (string_bytes answer) arguments.new) }
 {
     match T::decode(
@@ -232,9 +232,9 @@ fn placeholder(alloc: Global, arguments: &PgArguments) -> Result<String, AllocEr
 fn read<T: Codec>(alloc: Global, part: Option<&[u8]>) -> Result<Told, AllocError>
     requires { reading_of T.parse T.info InBinary None ≡ None }
     ensures { IfOk result (λ told.
-        ReadsPart (row T.info T.parse T.written) (option_copied part.entry)
+        ReadsPart (line_type T.info T.parse T.written) (option_copied part.entry)
         (told_text told)
-        × TellsOf (Some (row T.info T.parse T.written)) (to_read (option_copied part.entry)) told) }
+        × TellsOf (Some (line_type T.info T.parse T.written)) (to_read (option_copied part.entry)) told) }
 {
     match T::decode(
         alloc,

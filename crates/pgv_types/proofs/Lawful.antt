@@ -5,7 +5,7 @@ use Rattle.pgv_types.specs.Agree.{agree}
 use Rattle.pgv_types.proofs.Tells.{agree_tells, agree-refl, agree-sym}
 use Rattle.pgv_types.specs.Ty.{Ty, builtin, custom, named, by_oid, simple, domain}
 use Rattle.pgv_types.specs.Facts.{base_oid, name_of, element_of, type_size}
-use Rattle.pgv_types.specs.Relations.{Level, level, Levels, last, over, levels, related, decide, known_or, common_base, softly, exactly, by_rules, elements_or, rest_related, is_by_oid}
+use Rattle.pgv_types.specs.Relations.{TypeLevel, level, Levels, last, over, levels, related, decide, known_or, common_base, softly, exactly, by_rules, elements_or, rest_related, is_by_oid}
 use Rattle.pgv_types.proofs.Related.{related_is, rest_at, by_bases, past_open}
 
 -- ---- the rules
@@ -31,7 +31,7 @@ base_refl : (m : Option ℕ) (r : Bool) → r ≡ true → known_or (common_base
 base_refl None r h = h
 base_refl (Some a) r h = nat_eq_equiv.refl a
 
-decide_refl : (soft : Bool) (a : Level) (r : Bool) → r ≡ true → decide soft a a r ≡ true
+decide_refl : (soft : Bool) (a : TypeLevel) (r : Bool) → r ≡ true → decide soft a a r ≡ true
 decide_refl soft a r h = base_refl a.base (cond (soft && (a.by_oid || a.by_oid)) true r) (open_refl (soft && (a.by_oid || a.by_oid)) r h)
 
 related_refl : (soft : Bool) (x : Levels) → related soft x x ≡ true
@@ -58,7 +58,7 @@ or_sym true false = refl
 or_sym false true = refl
 or_sym false false = refl
 
-decide_sym : (soft : Bool) (a b : Level) (r s : Bool) → r ≡ s → decide soft a b r ≡ decide soft b a s
+decide_sym : (soft : Bool) (a b : TypeLevel) (r s : Bool) → r ≡ s → decide soft a b r ≡ decide soft b a s
 decide_sym soft a b r s e =
     ap (decide soft a b) e
     ∙ ap (λ m. known_or m (cond (soft && (a.by_oid || b.by_oid)) true s)) (base_sym a.base b.base)

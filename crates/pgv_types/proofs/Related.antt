@@ -3,10 +3,10 @@ use Rattle.std.proofs.Common.{◌≡◌, ℕ, ◌==◌, ◌&&◌, ◌||◌, Bool
 use Rattle.pgv_types.specs.Agree.{agree}
 use Rattle.pgv_types.specs.Ty.{Ty, builtin, custom, named, by_oid, array_of, Kind, simple, pseudo, domain, composite, array, enumeration, range}
 use Rattle.pgv_types.specs.Facts.{base_oid, name_of, element_oid, element_of, element_in}
-use Rattle.pgv_types.specs.Relations.{Level, level, Levels, last, over, levels, levels_over, name_levels, built_in_levels, related, decide, known_or, common_base, is_by_oid}
+use Rattle.pgv_types.specs.Relations.{TypeLevel, level, Levels, last, over, levels, levels_over, name_levels, built_in_levels, related, decide, known_or, common_base, is_by_oid}
 use Rattle.pgv_types.proofs.Elements.{element_flat, FlatAt}
 
-abbrev pub on_top : Level → Option Levels → Levels
+abbrev pub on_top : TypeLevel → Option Levels → Levels
 on_top l None = last l
 on_top l (Some ls) = over l ls
 
@@ -14,7 +14,7 @@ top_built_in : (o : ℕ) (m : Option ℕ) → FlatAt m → built_in_levels o m �
 top_built_in o None h = refl
 top_built_in o (Some e) h = ap (λ m. over (level (builtin o)) (built_in_levels e m)) (sym h)
 
-top_kind : (l : Level) (k : Kind) → levels_over l k ≡ on_top l (option_map levels (element_in k))
+top_kind : (l : TypeLevel) (k : Kind) → levels_over l k ≡ on_top l (option_map levels (element_in k))
 top_kind l simple = refl
 top_kind l pseudo = refl
 top_kind l (domain t) = refl
@@ -23,7 +23,7 @@ top_kind l (array t) = refl
 top_kind l (enumeration ls) = refl
 top_kind l (range t) = refl
 
-top_name : (b : Bool) (l : Level) (cs : List ℕ) → cond b (over l (name_levels cs)) (last l) ≡ on_top l (option_map levels (option_map named (cond b (Some cs) None)))
+top_name : (b : Bool) (l : TypeLevel) (cs : List ℕ) → cond b (over l (name_levels cs)) (last l) ≡ on_top l (option_map levels (option_map named (cond b (Some cs) None)))
 top_name true l cs = refl
 top_name false l cs = refl
 
@@ -37,12 +37,12 @@ levels_of (by_oid o) = refl
 levels_of (array_of n) = refl
 
 -- What is asked last: the elements where there are two, else the names.
-abbrev pub rest_at : Bool → Level → Level → Option Levels → Option Levels → Bool
+abbrev pub rest_at : Bool → TypeLevel → TypeLevel → Option Levels → Option Levels → Bool
 rest_at soft a b None n = agree a.name b.name
 rest_at soft a b (Some x) None = agree a.name b.name
 rest_at soft a b (Some x) (Some y) = related soft x y
 
-related_at : (soft : Bool) (a b : Level) (m n : Option Levels) → related soft (on_top a m) (on_top b n) ≡ decide soft a b (rest_at soft a b m n)
+related_at : (soft : Bool) (a b : TypeLevel) (m n : Option Levels) → related soft (on_top a m) (on_top b n) ≡ decide soft a b (rest_at soft a b m n)
 related_at soft a b None None = refl
 related_at soft a b None (Some y) = refl
 related_at soft a b (Some x) None = refl

@@ -10,12 +10,12 @@
 use Rattle.std.specs.Prelude.{◌≡◌, ℕ, ◌+◌, ◌^◌, ◌==◌, ◌||◌, ltb, Bool, true, false, if◌then◌else◌, Option, Some, None, List, [], ◌∷◌, ◌++◌, codes, option_map}
 use Rattle.pgv_types.specs.Suffix.{suffix_of}
 use Rattle.pgv_types.specs.Ty.{Ty, builtin, custom, named, by_oid, array_of, Kind, simple, pseudo, domain, composite, array, enumeration, range, Fields, no_fields, field}
-use Rattle.pgv_types.specs.Table.{Entry, RowKind, a_simple, a_pseudo, range_of, entry_of}
+use Rattle.pgv_types.specs.Table.{TypeEntry, RowKind, a_simple, a_pseudo, range_of, entry_of}
 
 -- ---- OIDs
 
 abbrev pub built_in : ℕ → Option Ty
-built_in o = option_map (λ (e : Entry). builtin e.oid) (entry_of o)
+built_in o = option_map (λ (e : TypeEntry). builtin e.oid) (entry_of o)
 
 abbrev pub oid_of : Ty → Option ℕ
 oid_of (builtin o) = Some o
@@ -76,7 +76,7 @@ HasOid32 t = fits_oid (oid_of t) ≡ true
 
 -- ---- elements
 
-abbrev pub entry_element : Option Entry → Option ℕ
+abbrev pub entry_element : Option TypeEntry → Option ℕ
 entry_element None = None
 entry_element (Some e) = e.element
 
@@ -162,7 +162,7 @@ kind_or_array k None = row_kind k
 kind_or_array k (Some o) = array (builtin o)
 
 -- a number that no row has counts as simple: no type that runs has it
-abbrev pub entry_kind : Option Entry → RowKind
+abbrev pub entry_kind : Option TypeEntry → RowKind
 entry_kind None = a_simple
 entry_kind (Some e) = e.kind
 
@@ -195,11 +195,11 @@ IsNotCustom t = is_custom t ≡ false
 
 -- ---- names: a text and a suffix
 
-abbrev pub entry_name : Option Entry → List ℕ
+abbrev pub entry_name : Option TypeEntry → List ℕ
 entry_name None = []
 entry_name (Some e) = e.name
 
-abbrev pub entry_display : Option Entry → List ℕ
+abbrev pub entry_display : Option TypeEntry → List ℕ
 entry_display None = []
 entry_display (Some e) = e.display
 

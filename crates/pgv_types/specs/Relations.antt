@@ -15,18 +15,18 @@ is_by_oid (by_oid o) = true
 is_by_oid (array_of n) = false
 
 -- What the relations ask of a type beside its element.
-pub record Level : Type 0 where
+pub record TypeLevel : Type 0 where
   pub base : Option ℕ
   pub by_oid : Bool
   pub name : List ℕ
 
-abbrev pub level : Ty → Level
+abbrev pub level : Ty → TypeLevel
 level t = record { base = base_oid t; by_oid = is_by_oid t; name = name_of t }
 
 -- A type, its element, the element's element and so on.
 pub data Levels : Type 0 where
-  last : Level → Levels
-  over : Level → Levels → Levels
+  last : TypeLevel → Levels
+  over : TypeLevel → Levels → Levels
 
 abbrev pub built_in_levels : ℕ → Option ℕ → Levels
 built_in_levels o None = last (level (builtin o))
@@ -44,7 +44,7 @@ abbrev mutual
   levels (by_oid o) = last (level (by_oid o))
   levels (array_of n) = over (level (array_of n)) (name_levels n)
 
-  pub levels_over : Level → Kind → Levels
+  pub levels_over : TypeLevel → Kind → Levels
   levels_over l simple = last l
   levels_over l pseudo = last l
   levels_over l (domain t) = last l
@@ -64,7 +64,7 @@ known_or None rest = rest
 known_or (Some b) rest = b
 
 -- The first rule that applies: the base OIDs, then, softly, whether one is declared by its OID, then the rest.
-abbrev pub decide : Bool → Level → Level → Bool → Bool
+abbrev pub decide : Bool → TypeLevel → TypeLevel → Bool → Bool
 decide soft a b rest = known_or (common_base a.base b.base) (if soft && (a.by_oid || b.by_oid) then true else rest)
 
 -- The rest: two elements in the same way, else the names.

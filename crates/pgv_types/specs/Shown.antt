@@ -145,5 +145,5 @@ type_of (DeclareWithName n) = named n
 type_of (DeclareWithOid o) = by_oid o.0
 type_of (DeclareArrayOf a) = array_of (element_name_of a)
 
-abbrev pub seen : Inside → Ty
-seen a = type_of a.0
+abbrev pub type_view : Inside → Ty
+type_view a = type_of a.0

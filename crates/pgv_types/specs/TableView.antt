@@ -4,7 +4,7 @@ use Rattle.pgv_types.specs.declared.builtin.Row.{Row}
 use Rattle.pgv_types.specs.declared.builtin.RowKind.{RowKind}
 use Rattle.pgv_types.specs.declared.builtin.RowKind.TheVariants.{Simple, Pseudo, Array, Range}
 use Rattle.pgv_types.specs.Shown.{number_of}
-use Rattle.pgv_types.specs.Table.{Entry, RowKind as EntryKind, a_simple, a_pseudo, range_of, entry_of}
+use Rattle.pgv_types.specs.Table.{TypeEntry, RowKind as EntryKind, a_simple, a_pseudo, range_of, entry_of}
 
 abbrev pub element_in_row : RowKind → Option ℕ
 element_in_row Simple = None
@@ -18,7 +18,7 @@ kind_in_row Pseudo = a_pseudo
 kind_in_row (Array element) = a_simple
 kind_in_row (Range element) = range_of (number_of element)
 
-abbrev pub entry_in_row : Row → Entry
+abbrev pub entry_in_row : Row → TypeEntry
 entry_in_row r = record { oid = r.oid.0; name = r.name.now; display = r.display.now; element = element_in_row r.kind; kind = kind_in_row r.kind }
 
 -- The row has this OID, and is its entry.

@@ -4,7 +4,7 @@ ghost use Rattle.std.specs.Prelude.{◌≡◌, Some, map, option_map, slice_get}
 ghost use Rattle.pgv_types.specs.Facts.{built_in, built_in_kind, element_oid};
 ghost use Rattle.pgv_types.specs.LentParts.{kind_lent, ref_type};
 ghost use Rattle.pgv_types.specs.Shown.{number_of};
-ghost use Rattle.pgv_types.specs.Table.{Entry, entries};
+ghost use Rattle.pgv_types.specs.Table.{TypeEntry, entries};
 ghost use Rattle.pgv_types.specs.TableView.{IsTableRow, entry_in_row};
 ghost use Rattle.pgv_types.specs.Ty.{builtin};
 
@@ -243,7 +243,7 @@ impl PgBuiltIn {
     /// Where its row is in the table.
     #[inline(always)]
     fn place(self) -> usize
-        ensures { option_map (λ (e : Entry). e.oid) (slice_get entries result)
+        ensures { option_map (λ (e : TypeEntry). e.oid) (slice_get entries result)
             ≡ Some (number_of self) }
     {
         self as usize

@@ -40,9 +40,9 @@ impl Model for PgTypeInfo {
 
     ghost coded = { ty_code };
 
-    ghost use Rattle.pgv_types.specs.Shown.{seen};
+    ghost use Rattle.pgv_types.specs.Shown.{type_view};
 
-    ghost view = { seen };
+    ghost view = { type_view };
 
     ghost size = { type_size };
 

@@ -16,7 +16,7 @@ use Rattle.pgv_value.specs.declared.error.CodecError.{CodecError}
 use Rattle.pgv_codec.specs.Writing.{write}
 use Rattle.pgv_codec.specs.Back.{AreOids, SlotsFit, ImageFits, ReadsBack}
 use Rattle.pgv_codec.specs.BackParts.{frame_parts, SlotsFit-back, AreOids-take, AreOids-drop}
-use Rattle.pgv_wire.specs.Given.{Given, zeros, given_by, given_none, given_in, parts_given, ArgumentReadsBack}
+use Rattle.pgv_wire.specs.Given.{LastGiven, zeros, given_by, given_none, given_in, parts_given, ArgumentReadsBack}
 use Rattle.pgv_wire.specs.History.{Call, last_filling, after, added_in, blanks}
 use Rattle.pgv_wire.specs.MainSentence.{ComeBackIn, MainSentence}
 use Rattle.pgv_codec.specs.Encoding.{Encoding, Image, null_image, image_of, frame_of}
@@ -72,7 +72,7 @@ parts_told calls is h =
 
 -- ---- one argument
 
-part_at : (is : List Image) (gs : List Given) (k : ℕ) (i : Image) (g : Given) → slice_get is k ≡ Some i → slice_get gs k ≡ Some g → slice_get (parts_given is gs) k ≡ Some (written_part i g.parameter g.oids)
+part_at : (is : List Image) (gs : List LastGiven) (k : ℕ) (i : Image) (g : LastGiven) → slice_get is k ≡ Some i → slice_get gs k ≡ Some g → slice_get (parts_given is gs) k ≡ Some (written_part i g.parameter g.oids)
 part_at [] gs k i g e f = absurd cc
 part_at (j ∷ is) [] k i g e f = absurd cc
 part_at (j ∷ is) (x ∷ gs) zero i g e f = rw (same_Some j i e, same_Some x g f) refl
@@ -109,14 +109,14 @@ zeros_fit : (n : ℕ) → AreOids (zeros n)
 zeros_fit zero = tt
 zeros_fit (suc n) = (omega arith, zeros_fit n)
 
-since_fit : (fs : List Framed) (k : ℕ) (g : Given) → slice_get (given_none fs) k ≡ Some g → AreOids g.oids
+since_fit : (fs : List Framed) (k : ℕ) (g : LastGiven) → slice_get (given_none fs) k ≡ Some g → AreOids g.oids
 since_fit [] k g e = absurd cc
-since_fit (f ∷ fs) zero g e = subst (λ (x : Given). AreOids x.oids) (same_Some _ g e) (zeros_fit (tokens_holes f.1))
+since_fit (f ∷ fs) zero g e = subst (λ (x : LastGiven). AreOids x.oids) (same_Some _ g e) (zeros_fit (tokens_holes f.1))
 since_fit (f ∷ fs) (suc k) g e = since_fit fs k g e
 
-oids_fit : (fs since : List Framed) (ps : List Ty) (os : List Oid) (k : ℕ) (g : Given) → AreOids os → slice_get (given_by fs ps os ++ given_none since) k ≡ Some g → AreOids g.oids
+oids_fit : (fs since : List Framed) (ps : List Ty) (os : List Oid) (k : ℕ) (g : LastGiven) → AreOids os → slice_get (given_by fs ps os ++ given_none since) k ≡ Some g → AreOids g.oids
 oids_fit [] since ps os k g h e = since_fit since k g e
-oids_fit (f ∷ fs) since ps os zero g h e = subst (λ (x : Given). AreOids x.oids) (same_Some _ g e) (AreOids-take (tokens_holes f.1) os h)
+oids_fit (f ∷ fs) since ps os zero g h e = subst (λ (x : LastGiven). AreOids x.oids) (same_Some _ g e) (AreOids-take (tokens_holes f.1) os h)
 oids_fit (f ∷ fs) since ps os (suc k) g h e = oids_fit fs since (rest_of ps) (drop (tokens_holes f.1) os) k g (AreOids-drop (tokens_holes f.1) os h) e
 
 module _ {A M : Type 0} (encoding : A → Encoding) (reading : Reading M) (kept : A → M) (fits : A → Ty → List Oid → Type 0) (law : ReadsBack encoding reading kept fits) where

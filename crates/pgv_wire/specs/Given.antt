@@ -1,4 +1,4 @@
--- What each argument was given last (`Given`): at the last filling, the type of its parameter and its share of the
+-- What each argument was given last (`LastGiven`): at the last filling, the type of its parameter and its share of the
 -- OIDs; or no type and zeros, where no filling came since it was added. Laws: the parts of all arguments are written
 -- with these, after any list of calls (`parts_after`). The buffer is read frame by frame, and each part by its own type
 -- as what its value keeps, where the value fits (`argument_reads_back`, `ArgumentReadsBack`).
@@ -18,7 +18,7 @@ use Rattle.pgv_codec.specs.Encoding.{Encoding, Image, frame}
 use Rattle.pgv_wire.specs.ArgumentParts.{AreFrames, ReadAs}
 use Rattle.pgv_codec.specs.Writing.{written_part}
 
-pub record Given : Type 0 where
+pub record LastGiven : Type 0 where
   pub parameter : Option Ty
   pub oids : List Oid
 
@@ -26,20 +26,20 @@ abbrev pub zeros : ℕ → List Oid
 zeros n = replicate n (record { 0 = 0 })
 
 -- the arguments at a filling
-abbrev pub given_by : List Framed → List Ty → List Oid → List Given
+abbrev pub given_by : List Framed → List Ty → List Oid → List LastGiven
 given_by [] ps os = []
 given_by (f ∷ fs) ps os =
     record { parameter = Some (first_type ps); oids = take (tokens_holes f.1) os } ∷ given_by fs (rest_of ps) (drop (tokens_holes f.1) os)
 
 -- those that were added since
-abbrev pub given_none : List Framed → List Given
+abbrev pub given_none : List Framed → List LastGiven
 given_none = map (λ f. record { parameter = None; oids = zeros (tokens_holes f.1) })
 
-abbrev pub given_in : LastFilling → List Given
+abbrev pub given_in : LastFilling → List LastGiven
 given_in h = given_by h.filled h.types h.oids ++ given_none h.since
 
 -- the parts of images, each written with what its argument was given
-abbrev pub parts_given : List Image → List Given → List Part
+abbrev pub parts_given : List Image → List LastGiven → List Part
 parts_given [] gs = []
 parts_given (i ∷ is) [] = []
 parts_given (i ∷ is) (g ∷ gs) = written_part i g.parameter g.oids ∷ parts_given is gs
@@ -49,7 +49,7 @@ parts_given (i ∷ is) (g ∷ gs) = written_part i g.parameter g.oids ∷ parts_
 -- each type that fits with the OIDs that the argument was given.
 abbrev pub ArgumentReadsBack : {A M : Type 0} → (A → Encoding) → Reading M → (A → M) → (A → Ty → List Oid → Type 0) → Type 0
 ArgumentReadsBack {A} encoding reading kept fits =
-    (calls : List Call) (is : List Image) (place : ℕ) (a : Framed) (g : Given) (v : A) (t : Ty) →
+    (calls : List Call) (is : List Image) (place : ℕ) (a : Framed) (g : LastGiven) (v : A) (t : Ty) →
     AreFrames is (added_in calls) → Proper (all_tokens (after [] calls)) → AreOids (last_filling calls).oids →
     slice_get (added_in calls) place ≡ Some a → (frame (encoding v)).answer ≡ Ok a.1 → slice_get (given_in (last_filling calls)) place ≡ Some g → fits v t g.oids →
     (parts : List Part) × (part : Part) × ReadAs (shown (all_tokens (after [] calls))) parts [] × (slice_get parts place ≡ Some part) × (reading t Binary part ≡ Some (kept v))

@@ -20,8 +20,8 @@ pub record Stands (args : List Argument) (hs : List Ty) (ns : List ℕ) (ts : Li
   pub images_are : OfImages args
   pub left_are : LeftBySome args
 
-abbrev pub seen : Inside → List Argument
-seen a = arguments_of a.types.items a.buffer
+abbrev pub arguments_view : Inside → List Argument
+arguments_view a = arguments_of a.types.items a.buffer
 
 abbrev pub IsKept : Inside → Type 0
 IsKept a = Stands (arguments_of a.types.items a.buffer) a.types.items a.counts.items a.buffer

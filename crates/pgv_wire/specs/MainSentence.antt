@@ -21,7 +21,7 @@ use Rattle.pgv_codec.specs.Back.{AreOids}
 use Rattle.pgv_codec.specs.Encoding.{Encoding, Image, frame, value_type}
 use Rattle.pgv_wire.specs.Arguments.{Argument, Framed, Added, argument_frame, all_tokens, filled_arguments}
 use Rattle.pgv_wire.specs.EachAddition.{Answered, accepted}
-use Rattle.pgv_wire.specs.Given.{Given, given_in}
+use Rattle.pgv_wire.specs.Given.{LastGiven, given_in}
 use Rattle.pgv_wire.specs.History.{Call, adds, fills, is_refused, added_in, after, bytes_by, last_filling}
 use Rattle.pgv_wire.specs.ArgumentParts.{AreFrames, ReadAs}
 
@@ -73,7 +73,7 @@ module _ {A M : Type 0} (encoding : A → Encoding) (reading : Reading M) (kept 
   -- that fits with the OIDs that the argument was given
   abbrev pub ComeBackIn : List Call → List Part → Type 0
   ComeBackIn calls parts =
-      (place : ℕ) (a : Framed) (g : Given) (v : A) (t : Ty) → slice_get (added_in calls) place ≡ Some a → (frame (encoding v)).answer ≡ Ok a.1 →
+      (place : ℕ) (a : Framed) (g : LastGiven) (v : A) (t : Ty) → slice_get (added_in calls) place ≡ Some a → (frame (encoding v)).answer ≡ Ok a.1 →
       slice_get (given_in (last_filling calls)) place ≡ Some g → fits v t g.oids →
       (part : Part) × (slice_get parts place ≡ Some part) × (reading t Binary part ≡ Some (kept v))
 

@@ -40,9 +40,9 @@ impl Model for PgArguments {
 
     ghost coded = { coded_list (coded× ty_code cells_code) };
 
-    ghost use Rattle.pgv_wire.specs.KeptView.{seen, IsKept};
+    ghost use Rattle.pgv_wire.specs.KeptView.{arguments_view, IsKept};
 
-    ghost view = { seen };
+    ghost view = { arguments_view };
 
     ghost invariant = { IsKept };
 }

@@ -4,7 +4,7 @@ use Rattle.pgv_types.specs.Ty.{Ty}
 use Rattle.pgv_buf.specs.declared.fill.Slot.{Slot}
 use Rattle.pgv_buf.specs.TokensView.{kept_of}
 use Rattle.pgv_buf.specs.Fill.{slot_types}
-use Rattle.pgv_buf.specs.Patches.{written, Within, choices}
+use Rattle.pgv_buf.specs.Patches.{put_each, Within, choices}
 use Rattle.pgv_buf.specs.Gaps.{places_after}
 use Rattle.pgv_buf.proofs.Gaps.{sum_here, after-split, length-after}
 use Rattle.pgv_buf.proofs.WrittenRuns.{run_choices, types_here, within_run, told_run}
@@ -42,17 +42,17 @@ within_both gaps slots types counts q next i m t l k e fits same h =
 told_after :
     (gaps : List ℕ) (slots : List Slot) (types : List Ty) (counts : List ℕ) (q next i : ℕ) (t : Ty) (b b' target : List ℕ) →
     i < length types → i < length counts → t ≡ get_or types i t → next + get_or counts i 0 ≤ length slots → length gaps ≡ length slots →
-    written (places_after q (drop next gaps)) (choices (slot_types (drop i types) (drop i counts)) (map kept_of (drop next slots))) b ≡ target →
-    b' ≡ written (places_after q (take (get_or counts i 0) (drop next gaps))) (run_choices t (take (get_or counts i 0) (drop next slots))) b →
-    written (places_after (q + sum (take (get_or counts i 0) (drop next gaps))) (drop (next + get_or counts i 0) gaps)) (choices (slot_types (drop (i + 1) types) (drop (i + 1) counts)) (map kept_of (drop (next + get_or counts i 0) slots))) b' ≡ target
+    put_each (places_after q (drop next gaps)) (choices (slot_types (drop i types) (drop i counts)) (map kept_of (drop next slots))) b ≡ target →
+    b' ≡ put_each (places_after q (take (get_or counts i 0) (drop next gaps))) (run_choices t (take (get_or counts i 0) (drop next slots))) b →
+    put_each (places_after (q + sum (take (get_or counts i 0) (drop next gaps))) (drop (next + get_or counts i 0) gaps)) (choices (slot_types (drop (i + 1) types) (drop (i + 1) counts)) (map kept_of (drop (next + get_or counts i 0) slots))) b' ≡ target
 told_after gaps slots types counts q next i t b b' target l k e fits same h f =
     let n : ℕ = get_or counts i 0 in
     rw (rest_kept slots next n)
     (told_run n (places_after q (take n (drop next gaps))) (places_after (q + sum (take n (drop next gaps))) (drop (next + n) gaps)) t (slot_types (drop (i + 1) types) (drop (i + 1) counts)) (map kept_of (drop next slots)) b b' target
     (length-gaps q gaps next n (omega arith)) (length-run slots next n fits)
-    (ap (λ ps. written ps (choices (replicate n t ++ slot_types (drop (i + 1) types) (drop (i + 1) counts)) (map kept_of (drop next slots))) b) (sym (after-split q next n gaps))
-    ∙ (ap (λ ts. written (places_after q (drop next gaps)) (choices ts (map kept_of (drop next slots))) b) (sym (types_here types counts i t l k e)) ∙ h))
-    (f ∙ ap (λ ws. written (places_after q (take n (drop next gaps))) ws b) (run_kept slots next n t fits)))
+    (ap (λ ps. put_each ps (choices (replicate n t ++ slot_types (drop (i + 1) types) (drop (i + 1) counts)) (map kept_of (drop next slots))) b) (sym (after-split q next n gaps))
+    ∙ (ap (λ ts. put_each (places_after q (drop next gaps)) (choices ts (map kept_of (drop next slots))) b) (sym (types_here types counts i t l k e)) ∙ h))
+    (f ∙ ap (λ ws. put_each (places_after q (take n (drop next gaps))) ws b) (run_kept slots next n t fits)))
 
 pub write_run-place-requires-clause-within : goal.write_run-place-requires-clause-within
 write_run-place-requires-clause-within c =
@@ -72,7 +72,7 @@ loop-i-preserved c =
     rw last (record {
       told = told_after c.args.gaps.now c.args.slots.now c.args.types.now c.args.counts.now c.loop-i.place c.loop-i.next c.loop-i.i c.index-types-i.result c.loop-i.bytes.items c.write_run-place.new.bytes.items _
           l c.loop-i-test.true c.index-types-i.is fits c.loop-i.invariant.gaps c.loop-i.invariant.told
-          (c.write_run-place.ensures.items ∙ ap (λ n. written (places_after c.loop-i.place (take n (drop c.loop-i.next c.args.gaps.now))) (run_choices c.index-types-i.result (take n (drop c.loop-i.next c.args.slots.now))) c.loop-i.bytes.items) k);
+          (c.write_run-place.ensures.items ∙ ap (λ n. put_each (places_after c.loop-i.place (take n (drop c.loop-i.next c.args.gaps.now))) (run_choices c.index-types-i.result (take n (drop c.loop-i.next c.args.slots.now))) c.loop-i.bytes.items) k);
       within = rw c.write_run-place.ensures.len (within_both c.args.gaps.now c.args.slots.now c.args.types.now c.args.counts.now c.loop-i.place c.loop-i.next c.loop-i.i (length c.loop-i.bytes.items) c.index-types-i.result
           l c.loop-i-test.true c.index-types-i.is fits c.loop-i.invariant.gaps c.loop-i.invariant.within).1;
       left = omega (arith, s, c.loop-i.invariant.left);

@@ -1,7 +1,7 @@
 use Rattle.std.proofs.Common.{◌≡◌, length, ◌∙◌, ap, sym}
 use Rattle.pgv_buf.specs.Tokens.{hole_count}
 use Rattle.pgv_buf.specs.Layout.{Layout}
-use Rattle.pgv_buf.specs.Patches.{written, numbers}
+use Rattle.pgv_buf.specs.Patches.{put_each, numbers}
 use Rattle.pgv_buf.proofs.Layouts.{held, valid, tokens_are, length-holes}
 use Rattle.pgv_buf.proofs.Gaps.{length-after}
 use Rattle.pgv_buf.proofs.Patches.{holes_filled, holes_within}
@@ -19,8 +19,8 @@ write_oids-requires c =
 
 pub invariant_of-self : goal.invariant_of-self
 invariant_of-self c =
-    valid (holes_filled (held c.args.self.now c.self.invariant c.self.view_is) c.args.oids.now c.requires _ (c.write_oids.ensures ∙ ap (λ ps. written ps (numbers c.args.oids.now) c.self.inside.bytes.items) c.gaps.ensures))
+    valid (holes_filled (held c.args.self.now c.self.invariant c.self.view_is) c.args.oids.now c.requires _ (c.write_oids.ensures ∙ ap (λ ps. put_each ps (numbers c.args.oids.now) c.self.inside.bytes.items) c.gaps.ensures))
 
 pub returns : goal.returns
 returns c =
-    tokens_are (holes_filled (held c.args.self.now c.self.invariant c.self.view_is) c.args.oids.now c.requires _ (c.write_oids.ensures ∙ ap (λ ps. written ps (numbers c.args.oids.now) c.self.inside.bytes.items) c.gaps.ensures))
+    tokens_are (holes_filled (held c.args.self.now c.self.invariant c.self.view_is) c.args.oids.now c.requires _ (c.write_oids.ensures ∙ ap (λ ps. put_each ps (numbers c.args.oids.now) c.self.inside.bytes.items) c.gaps.ensures))

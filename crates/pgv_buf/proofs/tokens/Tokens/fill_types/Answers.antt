@@ -6,7 +6,7 @@ use Rattle.pgv_buf.specs.Tokens.{slot_count}
 use Rattle.pgv_buf.specs.TokensView.{kept_of}
 use Rattle.pgv_buf.specs.Layout.{Layout}
 use Rattle.pgv_buf.specs.Fill.{slot_types}
-use Rattle.pgv_buf.specs.Patches.{written, choices}
+use Rattle.pgv_buf.specs.Patches.{put_each, choices}
 use Rattle.pgv_buf.proofs.Layouts.{held, valid, tokens_are, length-slots, length-slot_places}
 use Rattle.pgv_buf.proofs.Gaps.{length-after}
 use Rattle.pgv_buf.proofs.Patches.{slots_filled, slots_within}
@@ -26,8 +26,8 @@ write_slots-requires c =
     })
 
 -- what was written, over the fields
-over_fields : {ps qs : List ℕ} {xs ys : List Slot} (ws : List Ty) (b : List ℕ) {b' : List ℕ} → b' ≡ written ps (choices ws (map kept_of xs)) b → ps ≡ qs → xs ≡ ys → b' ≡ written qs (choices ws (map kept_of ys)) b
-over_fields {ps} {qs} {xs} {ys} ws b e f g = e ∙ (ap (λ (k : List ℕ). written k (choices ws (map kept_of xs)) b) f ∙ ap (λ (k : List Slot). written qs (choices ws (map kept_of k)) b) g)
+over_fields : {ps qs : List ℕ} {xs ys : List Slot} (ws : List Ty) (b : List ℕ) {b' : List ℕ} → b' ≡ put_each ps (choices ws (map kept_of xs)) b → ps ≡ qs → xs ≡ ys → b' ≡ put_each qs (choices ws (map kept_of ys)) b
+over_fields {ps} {qs} {xs} {ys} ws b e f g = e ∙ (ap (λ (k : List ℕ). put_each k (choices ws (map kept_of xs)) b) f ∙ ap (λ (k : List Slot). put_each qs (choices ws (map kept_of k)) b) g)
 
 pub invariant_of-self : goal.invariant_of-self
 invariant_of-self c = valid (slots_filled (held c.args.self.now c.self.invariant c.self.view_is) (slot_types c.args.types.now c.args.counts.now) _ (over_fields _ _ c.write_slots.ensures c.gaps.ensures c.as_slice.ensures.value))
