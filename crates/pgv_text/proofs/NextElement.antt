@@ -1,17 +1,24 @@
--- What comes next in an array text.
-use Rattle.std.proofs.Common.{◌≡◌, ◌==◌, ℕ, Bool, true, false, cond, List, [], ◌∷◌, length, Option, Some, None, ap, sym, ◌∙◌, refl, append-nil, arith}
+-- What comes next in a text: of an array the elements, and of any the part in front.
+use Rattle.std.proofs.Common.{◌≡◌, ◌<◌, ◌==◌, ℕ, Bool, true, false, cond, List, [], ◌∷◌, length, drop, Option, Some, None, ap, sym, ◌∙◌, refl, append-nil, arith}
 use Rattle.std.specs.Option.{option_map, option_and_then}
 use Rattle.std.specs.Str.{IsUtf8}
 use Rattle.std.proofs.lemmas.Bool.{eqb-true, false≢true}
+use Rattle.pgv_text.specs.declared.scanner.TextForm.{TextForm}
 use Rattle.pgv_text.specs.declared.scanner.TextForm.TheVariants.{Array}
 use Rattle.pgv_text.specs.declared.scanner.Place.TheVariants.{Start}
-use Rattle.pgv_text.specs.declared.scanner.Cell.TheVariants.{Part}
+use Rattle.pgv_text.specs.declared.scanner.Cell.TheVariants.{End, Keep, Part as Ends, Pass, Refuse}
 use Rattle.pgv_text.specs.declared.scanner.Cell.{Cell}
+use Rattle.pgv_text.specs.declared.scanner.Stop.{Stop}
+use Rattle.pgv_text.specs.declared.parts.Part.{Part}
 use Rattle.pgv_text.specs.ArrayText.{array_form}
-use Rattle.pgv_text.specs.NestPieces.{Nest, any}
+use Rattle.pgv_text.specs.Copies.{copies_after, copies_by, copies_from}
+use Rattle.pgv_text.specs.Forms.{form_of}
+use Rattle.pgv_text.specs.PartFound.{IsPartInFront, halts, part_value}
+use Rattle.pgv_text.specs.PartsLeftView.{or_none, values_left}
+use Rattle.pgv_text.specs.NestPieces.{Form, Nest, any}
 use Rattle.pgv_text.specs.Values.{array_values}
 use Rattle.pgv_text.proofs.ScannedBytes.{nest_bytes}
-use Rattle.pgv_text.specs.Scan.{Rest, closes_here, counted, grown, nest_between, nest_read, next, read, read_by, value_here, values_from}
+use Rattle.pgv_text.specs.Scan.{Rest, at_end, closes_here, counted, grown, nest_between, nest_read, next, read, read_by, value_here, values_from}
 
 -- after an opening bracket, where the closing one doesn't follow at once
 open_values : (b : ℕ) (bs : List ℕ) (r : Option Rest) (closes : Bool) → closes ≡ false →
@@ -49,12 +56,41 @@ none_read text u e = ap (option_map (λ (n : Nest). n.values)) (sym (nest_bytes 
 pub as_read : (text : List ℕ) (b : ℕ) (bs : List ℕ) → IsUtf8 text → text ≡ b ∷ bs → array_values text ≡ option_map (λ (n : Nest). n.values) (nest_read array_form (b ∷ bs))
 as_read text b bs u e = ap (option_map (λ (n : Nest). n.values)) (sym (nest_bytes Array text u) ∙ ap (nest_read array_form) e)
 
-module _ (bytes part rest : List ℕ) (b : ℕ) where
-  more : (r : Option Rest) → option_map (values_from array_form bytes) (grown part (option_map (next array_form rest) r)) ≡ option_map (λ values. value_here array_form bytes part ∷ values) (option_map (values_from array_form rest) r)
-  more None = refl
-  more (Some r) = ap (λ t. Some (value_here array_form bytes t ∷ value_here array_form rest r.text ∷ r.values)) (append-nil part)
+-- the values of a text whose part in front has these bytes, by the cell where it ends
+module _ (form : TextForm) (text part rest : List ℕ) (b : ℕ) where
+  abbrev taken : Option Rest → List (Option (List ℕ))
+  taken r = or_none (option_map (values_from (form_of form) text) (grown part r))
 
-  -- an element that a comma ends
-  pub element_next : (k : Cell) → k ≡ Part → read array_form Start bytes ≡ grown part (read_by array_form b rest (λ q. read array_form q rest) k) →
-      option_map (values_from array_form bytes) (read array_form Start bytes) ≡ option_map (λ values. value_here array_form bytes part ∷ values) (option_map (values_from array_form rest) (read array_form Start rest))
-  element_next k e h = ap (option_map (values_from array_form bytes)) h ∙ rw e (more (read array_form Start rest))
+  by_comma : (r : Option Rest) → (taken (option_map (next (form_of form) rest) r) ≡ [] → ⊥) →
+      taken (option_map (next (form_of form) rest) r) ≡ value_here (form_of form) text part ∷ or_none (option_map (values_from (form_of form) rest) r)
+  by_comma None some = absurd (some refl)
+  by_comma (Some r) some = ap (λ t. value_here (form_of form) text t ∷ value_here (form_of form) rest r.text ∷ r.values) (append-nil part)
+
+  by_end : (bytes : List ℕ) → (taken (at_end b bytes) ≡ [] → ⊥) → taken (at_end b bytes) ≡ value_here (form_of form) text part ∷ values_left form bytes
+  by_end [] some = ap (λ t. value_here (form_of form) text t ∷ []) (append-nil part)
+  by_end (c ∷ cs) some = absurd (some refl)
+
+  by_cell : (k : Cell) → halts k ≡ true → (taken (read_by (form_of form) b rest (λ q. read (form_of form) q rest) k) ≡ [] → ⊥) →
+      taken (read_by (form_of form) b rest (λ q. read (form_of form) q rest) k) ≡ value_here (form_of form) text part ∷ values_left form rest
+  by_cell Ends h some = by_comma (read (form_of form) Start rest) some
+  by_cell End h some = by_end rest some
+  by_cell Refuse h some = absurd (some refl)
+  by_cell (Keep p) h some = absurd (false≢true h)
+  by_cell (Pass p) h some = absurd (false≢true h)
+
+copies_taken : (form : Form) (text rest : List ℕ) (k : Cell) → length rest < length text → halts k ≡ true → copies_after form Start text ≡ copies_by form rest (λ q. copies_after form q rest) k →
+    copies_from form rest ≡ drop 1 (copies_from form text)
+copies_taken form [] rest k l h e = absurd (omega (arith, l))
+copies_taken form (b ∷ bs) rest (Keep p) l h e = absurd (false≢true h)
+copies_taken form (b ∷ bs) rest (Pass p) l h e = absurd (false≢true h)
+copies_taken form (b ∷ bs) rest _ l h e = sym e
+
+-- the part in front is the first of the values that are left, where there are any
+pub part_taken : (form : TextForm) (text out : List ℕ) (part : Part) (s : Stop) → IsPartInFront form text part out s → (values_left form text ≡ [] → ⊥) →
+    (values_left form text ≡ part_value part out ∷ values_left form s.rest.now) × (copies_from (form_of form) s.rest.now ≡ drop 1 (copies_from (form_of form) text))
+part_taken form text out part s front some =
+    let end : values_left form text ≡ taken form text front.bytes s.rest.now s.byte (read_by (form_of form) s.byte s.rest.now (λ q. read (form_of form) q s.rest.now) s.cell) =
+    ap (λ r. or_none (option_map (values_from (form_of form) text) r)) front.found.end in (
+      end ∙ by_cell form text front.bytes s.rest.now s.byte s.cell front.found.halts_there (λ none. some (end ∙ none)) ∙ ap (λ v. v ∷ values_left form s.rest.now) (sym front.value),
+      copies_taken (form_of form) text s.rest.now s.cell front.found.shorter front.found.halts_there front.found.copies,
+    )
