@@ -187,6 +187,7 @@ impl<'a> Part<'a> {
 
 /// The part in front, borrowed if its bytes are one run of the text, else put into the given text, and where it ends;
 /// `None` where it doesn't.
+#[tactic(auto, using(crate::proofs::PlainTexts::copied_is_present))]
 #[inline(always)]
 pub(crate) fn part_in_front<'a>(
     form: TextForm,
@@ -199,24 +200,19 @@ pub(crate) fn part_in_front<'a>(
         (λ p. IsPartInFront form text.now p.0 (string_bytes out.new) p.1))
         (λ _. as_it_is (form_of form) text.now ≡ false) }
 {
-    let absent = is_nothing(form, text);
     if let Some(stop) = one_run(form, text) {
-        let part = if absent {
+        let part = if is_nothing(form, text) {
             Part::Nothing
         } else {
             Part::Plain(stop.run)
         };
         return Ok(Some((part, stop)));
     }
-    let Some(stop) = unquote(form, text, out)? else {
-        return Ok(None);
-    };
-    let part = if absent {
-        Part::Nothing
-    } else {
-        Part::Unquoted
-    };
-    Ok(Some((part, stop)))
+    // What is null or absent is one run.
+    match unquote(form, text, out)? {
+        Some(stop) => Ok(Some((Part::Unquoted, stop))),
+        None => Ok(None),
+    }
 }
 
 /// The parts of a text that are still to come. It takes no memory of its own.
