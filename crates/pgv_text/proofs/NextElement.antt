@@ -37,7 +37,7 @@ values_end : (b c : ℕ) → array_form.opens b ≡ true → array_form.closes c
 values_end b c o h = rw (eqb-true b 123 o, eqb-true c 125 h) refl
 
 -- where it follows at once
-pub values_none : (b : ℕ) (bs : List ℕ) → array_form.opens b ≡ true → closes_here array_form bs ≡ true → length bs ≡ 1 → option_map (λ (n : Nest). n.values) (nest_read array_form (b ∷ bs)) ≡ Some []
+values_none : (b : ℕ) (bs : List ℕ) → array_form.opens b ≡ true → closes_here array_form bs ≡ true → length bs ≡ 1 → option_map (λ (n : Nest). n.values) (nest_read array_form (b ∷ bs)) ≡ Some []
 values_none b [] o h l = absurd (false≢true h)
 values_none b (c ∷ []) o h l = values_end b c o h
 values_none b (c ∷ d ∷ bs) o h l = absurd (omega (arith, l))
@@ -55,6 +55,9 @@ none_read text u e = ap (option_map (λ (n : Nest). n.values)) (sym (nest_bytes 
 -- the values of a text are read from its bytes
 pub as_read : (text : List ℕ) (b : ℕ) (bs : List ℕ) → IsUtf8 text → text ≡ b ∷ bs → array_values text ≡ option_map (λ (n : Nest). n.values) (nest_read array_form (b ∷ bs))
 as_read text b bs u e = ap (option_map (λ (n : Nest). n.values)) (sym (nest_bytes Array text u) ∙ ap (nest_read array_form) e)
+
+pub no_values : (text : List ℕ) (b : ℕ) (bs : List ℕ) → IsUtf8 text → text ≡ b ∷ bs → array_form.opens b ≡ true → closes_here array_form bs ≡ true → length bs ≡ 1 → array_values text ≡ Some []
+no_values text b bs u e o h l = as_read text b bs u e ∙ values_none b bs o h l
 
 -- the values of a text whose part in front has these bytes, by the cell where it ends
 module _ (form : TextForm) (text part rest : List ℕ) (b : ℕ) where

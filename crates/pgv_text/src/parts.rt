@@ -234,6 +234,7 @@ impl<'a> Parts<'a> {
     ghost use Rattle.pgv_text.specs.PartsView.{AreBounded, ArePartsOf, HasBracketsOf, HasEnded, IsKept, Takes, copies, is_of_empty, nest};
 
     /// The parts of a text; `None` if the text isn't in the form. The empty range has no parts.
+    #[tactic(auto, using(crate::proofs::Contents::empty_parts, crate::proofs::Contents::nest_parts))]
     pub fn new(form: TextForm, text: &'a str) -> Option<Self>
         // What is computed of the text is what it denotes, by the laws `nest_is_computed` and `range_is_computed`.
         ensures { MatchOption result (content_of form (chars text.now) ≡ None)
