@@ -1,19 +1,17 @@
 -- A text without quotes and backslashes: each part stands in it as it is.
 use Rattle.std.proofs.Common.{◌≡◌, ℕ, Bool, true, false, not, cond, ◌||◌, ◌==◌, List, [], ◌∷◌, Option, Some, None, is_some, ap, sym, ◌∙◌, refl, subst}
 use Rattle.std.specs.Option.{option_and_then, option_map}
-use Rattle.std.proofs.lemmas.Bool.{and_parts, eqb-true, false_from_ne_true, false≢true}
+use Rattle.std.proofs.lemmas.Bool.{and_parts, false≢true}
 use Rattle.pgv_text.specs.declared.scanner.Class.{Class}
 use Rattle.pgv_text.specs.declared.scanner.Class.TheVariants.{Quote, Backslash, Comma, Open, Close, Other}
 use Rattle.pgv_text.specs.declared.scanner.Place.{Place}
 use Rattle.pgv_text.specs.declared.scanner.Place.TheVariants.{Start, Outside}
-use Rattle.pgv_text.specs.NestPieces.{Form, Piece, plain}
+use Rattle.pgv_text.specs.NestPieces.{Form}
 use Rattle.pgv_text.specs.Forms.{form_of}
-use Rattle.pgv_text.specs.Scan.{class, ends, outside_cell, read, read_by, stands as stands_here}
-use Rattle.pgv_text.specs.Copies.{UnquotedIsNotCopied, as_it_is, bare, bare_by, closes_at_once, copies_after, copies_by, copies_from, next_copies, none_copied, unquoted}
-use Rattle.pgv_text.specs.declared.scanner.TextForm.{TextForm}
-use Rattle.pgv_text.proofs.Nothing.{ArePlain, nothing_plain}
+use Rattle.pgv_text.specs.Scan.{class, outside_cell, read, read_by}
+use Rattle.pgv_text.specs.Copies.{UnquotedIsNotCopied, bare, bare_by, closes_at_once, copies_after, copies_by, copies_from, next_copies, none_copied, unquoted}
 use Rattle.pgv_text.proofs.ScannedBytes.{nest_bytes}
-use Rattle.pgv_text.proofs.CharacterClasses.{class_plain, says}
+use Rattle.pgv_text.proofs.CharacterClasses.{says}
 use Rattle.pgv_text.proofs.Copies.{bare_is, outside, outside_is}
 
 some_within : {A B : Type 0} (f : A → B) (o : Option A) → is_some (option_map f o) ≡ true → is_some o ≡ true
@@ -65,30 +63,8 @@ begun true f (Some a) h = refl
 begun false f o h = absurd (false≢true h)
 
 pub unquoted_is_not_copied : UnquotedIsNotCopied
-unquoted_is_not_copied form [] u found none = refl
-unquoted_is_not_copied form (b ∷ bs) u found none =
+unquoted_is_not_copied form [] u found plain = refl
+unquoted_is_not_copied form (b ∷ bs) u found plain =
     let read_there = begun ((form_of form).opens b) _ (read (form_of form) Start bs) (ap is_some (nest_bytes form (b ∷ bs) u) ∙ found) in
-    let rest = and_parts (not (b == 34 || b == 92)) (unquoted bs) none in
+    let rest = and_parts (not (b == 34 || b == 92)) (unquoted bs) plain in
     unless (closes_at_once form bs) (copies_from (form_of form) bs) (next_stands (form_of form) bs read_there (stands (form_of form) bs Start refl rest.1 read_there))
-
--- ---- what is null or absent
-
-ended : (rest : Bool) (k : Class) → ends k ≡ true → bare_by rest k ≡ true
-ended rest Comma e = refl
-ended rest Close e = refl
-ended rest _ e = absurd (false≢true e)
-
-nothing_bare : (form : Form) (nothing : List Piece) (text : List ℕ) → ArePlain form nothing → stands_here form nothing text ≡ true → bare form text ≡ true
-nothing_bare form [] (c ∷ cs) h e = ended (bare form cs) (class form c) e
-nothing_bare form (plain d ∷ pieces) (c ∷ cs) h e =
-    let same = and_parts (c == d) (stands_here form pieces cs) e in
-    ap (bare_by (bare form cs)) (ap (class form) (eqb-true c d same.0) ∙ class_plain form d h.0) ∙ nothing_bare form pieces cs h.2 same.1
-nothing_bare form [] [] h e = absurd (false≢true e)
-nothing_bare form (plain d ∷ pieces) [] h e = absurd (false≢true e)
-nothing_bare form _ text h e = absurd h
-
--- it stands in the text as it is
-pub copied_is_present : (form : TextForm) (text : List ℕ) → as_it_is (form_of form) text ≡ false → stands_here (form_of form) (form_of form).nothing text ≡ false
-copied_is_present form text copied =
-    false_from_ne_true (stands_here (form_of form) (form_of form).nothing text)
-    (λ e. false≢true (sym copied ∙ bare_is (form_of form) text (nothing_bare (form_of form) (form_of form).nothing text (nothing_plain form) e)))

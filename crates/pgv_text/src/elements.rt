@@ -33,7 +33,7 @@ pub enum Next<'a> {
 
 impl<'a> Elements<'a> {
     /// The elements of a text; `None` if no array text begins like it.
-    #[tactic(auto, using(crate::proofs::NextElement::as_read, crate::proofs::NextElement::none_read, crate::proofs::NextElement::values_open, crate::proofs::NextElement::no_values, crate::proofs::NextElement::values_more))]
+    #[tactic(auto, using(crate::proofs::NextParts::as_read, crate::proofs::NextParts::none_read, crate::proofs::NextParts::values_open, crate::proofs::NextParts::no_values, crate::proofs::NextParts::values_more))]
     #[inline(always)]
     pub fn of_text(text: &'a str) -> Option<Self>
         ensures { MatchOption result (array_values text.now ≡ None)

@@ -1,4 +1,4 @@
--- What comes next in a text: of an array the elements, and of any the part in front.
+-- What comes next in a text: the part in front, and of an array the elements.
 use Rattle.std.proofs.Common.{◌≡◌, ◌<◌, ◌==◌, ℕ, Bool, true, false, cond, List, [], ◌∷◌, length, drop, Option, Some, None, ap, sym, ◌∙◌, refl, append-nil, arith}
 use Rattle.std.specs.Option.{option_map, option_and_then}
 use Rattle.std.specs.Str.{IsUtf8}
