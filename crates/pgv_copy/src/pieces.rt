@@ -79,6 +79,7 @@ fn after_fields<'r>(types: &[PgTypeInfo], bytes: &'r [u8]) -> Result<&'r [u8], C
 }
 
 /// Where the fields of the next row begin, and where they end; or none at the end of the stream.
+#[tactic(auto, using(crate::proofs::Ends::at_end, crate::proofs::Ends::no_count, crate::proofs::Ends::no_field, crate::proofs::Ends::row_there))]
 fn next_row_in<'r>(
     types: &[PgTypeInfo],
     bytes: &'r [u8],
@@ -147,6 +148,7 @@ impl PgCopyPieces {
     /// [`PgCopyNext::More`] where the bytes end before the row does, and [`PgCopyNext::End`] at the end of the stream
     /// and from then on. A header or a row that is refused is refused as by [`PgCopyReader`](crate::PgCopyReader), and
     /// the reader is as it was.
+    #[tactic(auto, using(crate::proofs::Ends::advanced, crate::proofs::Ends::held_row, crate::proofs::Ends::whole_end))]
     pub fn advance(&mut self) -> Result<PgCopyNext, CodecError>
         ensures found { Advances self.old result self.new }
         // Each row takes bytes, so a loop over the rows ends.
