@@ -67,6 +67,7 @@ fn after_beginning(bytes: &[u8], in_header: bool) -> Result<&[u8], CodecError>
 }
 
 /// What comes after a frame for each type.
+#[tactic(auto, using(crate::proofs::Ends::field_at, crate::proofs::Ends::no_field_at, crate::proofs::Ends::no_front, crate::proofs::FieldLoop::field_of))]
 fn after_fields<'r>(types: &[PgTypeInfo], bytes: &'r [u8]) -> Result<&'r [u8], CodecError>
     ensures { GivesExactly (λ rest. rest.now) (rest_after (fields types.now bytes.now)) result }
 {
