@@ -29,6 +29,7 @@ fn is_empty_range(form: TextForm, text: &str) -> bool
 }
 
 /// The opening bracket, and what is after it; `None` where there is none.
+#[tactic(auto, using(crate::proofs::CharacterClasses::after_low, crate::proofs::CharacterClasses::opens_low))]
 pub(crate) fn after_opening(form: TextForm, text: &str) -> Option<(u8, &str)>
     ensures { MatchOption result (nest_read (form_of form) text.now ≡ None)
         (λ p. (text.now ≡ p.0 ∷ p.1.now) × ((form_of form).opens p.0 ≡ true)) }
