@@ -1,13 +1,19 @@
--- What each call leaves, for the cells that are kept.
-use Rattle.std.proofs.Common.{◌≡◌, ℕ, Bool, false, ◌+◌, ◌≤◌, List, [], ◌∷◌, ◌++◌, length, take, refl, sym, ◌∙◌, ap, subst, arith, append-nil, length-take}
+-- What each call leaves, for the cells that are kept, and a clone.
+use Rattle.std.proofs.Common.{◌≡◌, ℕ, Bool, false, ◌+◌, ◌≤◌, List, [], ◌∷◌, ◌++◌, length, take, refl, sym, ◌∙◌, ap, subst, arith, append-nil, length-take, map}
+use Rattle.std.specs.List.{AllZip}
+use Rattle.std.specs.declared.vec.Vec.{Vec}
+use Rattle.std.specs.declared.alloc.Global.{Global}
 use Rattle.pgv_types.specs.Ty.{Ty}
+use Rattle.pgv_buf.specs.CasesView.{cases_of}
 use Rattle.pgv_buf.specs.declared.mark.Mark.{Mark}
+use Rattle.pgv_buf.specs.declared.fill.Slot.{Slot}
+use Rattle.pgv_buf.specs.TokensView.{kept_of}
 use Rattle.pgv_buf.specs.Tokens.{tokens_hole_types, byte, bytes, Token, Cell, fixed_bytes, plain, shown, blank_cell, hole, slot, CasesFit}
 use Rattle.pgv_buf.specs.Blank.{plain-blank, blank-bytes}
 use Rattle.pgv_buf.specs.Marks.{mark_of}
 use Rattle.pgv_buf.specs.Proper.{Proper}
-use Rattle.pgv_buf.specs.Layout.{is_hole, is_slot, places, last_from, Kept, slots_of, Layout, Represents}
-use Rattle.pgv_buf.proofs.Layouts.{joined, cut, cut_layout, same_layout, last_before, wide, with_more, length-holes, length-slot_places}
+use Rattle.pgv_buf.specs.Layout.{is_hole, is_slot, places, last_from, Kept, slots_of, Layout, Represents, Valid, tokens_of}
+use Rattle.pgv_buf.proofs.Layouts.{joined, tokens_are, valid, cut, cut_layout, same_layout, last_before, wide, with_more, length-holes, length-slot_places}
 
 pub none_kept : Represents [] [] (record { holes = []; types = []; slot_places = []; slots = [] })
 none_kept = record { bytes_are = refl; layout_is = refl; proper = tt }
@@ -109,3 +115,39 @@ enough {b} {l} ts r m front rest e f =
     let h : length (take m.holes l.holes) ≡ m.holes = ap (λ (k : Layout). length k.holes) c.layout_is ∙ (length-holes 0 front ∙ ap (λ (k : Mark). k.holes) (sym f)) in
     let s : length (take m.slots l.slot_places) ≡ m.slots = ap (λ (k : Layout). length k.slot_places) c.layout_is ∙ (length-slot_places 0 front ∙ ap (λ (k : Mark). k.slots) (sym f)) in
     (omega (arith, h, length-take m.holes l.holes), omega (arith, s, length-take m.slots l.slot_places))
+
+-- ---- what is kept where nothing is
+
+pub none_valid : (b ps qs : List ℕ) (hs : List Ty) (ss : List Slot) → b ≡ [] → ps ≡ [] → hs ≡ [] → qs ≡ [] → ss ≡ [] →
+    Valid b (record { holes = ps; types = hs; slot_places = qs; slots = map kept_of ss })
+none_valid b ps qs hs ss e f g h k = rw (e, f, g, h, k) (valid none_kept)
+
+pub none_seen : (b ps qs : List ℕ) (hs : List Ty) (ss : List Slot) → b ≡ [] → ps ≡ [] → hs ≡ [] → qs ≡ [] → ss ≡ [] →
+    tokens_of b (record { holes = ps; types = hs; slot_places = qs; slots = map kept_of ss }) ≡ []
+none_seen b ps qs hs ss e f g h k = rw (e, f, g, h, k) (tokens_are none_kept)
+
+-- ---- clones of what is kept
+
+-- the cases of a slot are those of its clone, where the parts of each are
+pub cases_same : {IsCase : Ty × Vec ℕ Global → Ty × Vec ℕ Global → Type 0} →
+    ((x y : Ty × Vec ℕ Global) → IsCase x y → ◌≡◌ {A = Ty × List ℕ} (y.0, y.1.items) (x.0, x.1.items)) →
+    (xs ys : List (Ty × Vec ℕ Global)) → AllZip IsCase xs ys → cases_of ys ≡ cases_of xs
+cases_same same [] [] h = refl
+cases_same same [] (y ∷ ys) h = absurd h
+cases_same same (x ∷ xs) [] h = absurd h
+cases_same same (x ∷ xs) (y ∷ ys) h =
+    ap (λ (c : Ty × List ℕ). c ∷ cases_of ys) (same x y h.0) ∙ ap (λ (cs : List (Ty × List ℕ)). (x.0, x.1.items) ∷ cs) (cases_same same xs ys h.1)
+
+pub same_kept : (d e : List ℕ) (f g : List (Ty × List ℕ)) → d ≡ e → f ≡ g →
+    ◌≡◌ {A = Kept} (record { standard = d; cases = f }) (record { standard = e; cases = g })
+same_kept d e f g q r = cc
+
+pub slots_same : (xs ys : List Slot) → AllZip (λ s copy. kept_of copy ≡ kept_of s) xs ys → map kept_of ys ≡ map kept_of xs
+slots_same [] [] h = refl
+slots_same [] (y ∷ ys) h = absurd h
+slots_same (x ∷ xs) [] h = absurd h
+slots_same (x ∷ xs) (y ∷ ys) h =
+    ap (λ (k : Kept). k ∷ map kept_of ys) h.0 ∙ ap (λ (ks : List Kept). kept_of x ∷ ks) (slots_same xs ys h.1)
+
+pub same_case : {a b : Ty} {xs ys : List ℕ} → a ≡ b → xs ≡ ys → ◌≡◌ {A = Ty × List ℕ} (a, xs) (b, ys)
+same_case e f = cc

@@ -1,7 +1,7 @@
 -- Gaps and the places that they lead to.
 use Rattle.std.proofs.Common.{◌≡◌, ℕ, ◌+◌, ◌-◌, ◌<◌, ◌≤◌, get_or, suc, zero, List, [], ◌∷◌, ◌++◌, length, take, drop, sum, refl, sym, ◌∙◌, ap, arith}
 use Rattle.std.proofs.lemmas.List.Sums.{sum_by-cons}
-use Rattle.std.proofs.lemmas.List.{take-append-drop, drop-drop, drop_more}
+use Rattle.std.proofs.lemmas.List.{take_rest, take-append-drop, drop-drop, drop_more}
 use Rattle.pgv_buf.specs.Layout.{last_from}
 use Rattle.pgv_buf.specs.Gaps.{places_after}
 
@@ -61,6 +61,4 @@ pushed_last gs gs' last place e h f = sym (ap (λ xs. last_from 0 xs) (pushed gs
 pub dropped_fit : (n : ℕ) (gs : List ℕ) (last : ℕ) → last ≡ last_from 0 (places_after 0 gs) → sum (drop n gs) ≤ last
 dropped_fit n gs last e = omega (arith, last_after 0 gs, sum-split n gs)
 
-pub dropped_last :
-    (n : ℕ) (gs : List ℕ) (last now : ℕ) → last ≡ last_from 0 (places_after 0 gs) → now + sum (drop n gs) ≡ last → now ≡ last_from 0 (places_after 0 (take n gs))
-dropped_last n gs last now e f = omega (arith, last_after 0 gs, last_after 0 (take n gs), sum-split n gs)
+pub ruleset cuts = (last_after, sum-split, after-take, length-after, take_rest)

@@ -1,11 +1,12 @@
 -- Cells and how they are kept: only these cells are kept so, and what joining and cutting them leaves.
 use Rattle.std.proofs.Common.{◌≡◌, ℕ, ◌+◌, ◌≤◌, ◌<◌, ◌==◌, suc, zero, Bool, true, false, List, [], ◌∷◌, ◌++◌, length, take, refl, sym, ◌∙◌, ap, subst, arith, length-append, append_assoc, add-zero, zero-add}
 use Rattle.std.proofs.lemmas.Bool.{eq-eqb}
-use Rattle.std.proofs.lemmas.List.{take_at, drop_at}
+use Rattle.std.proofs.lemmas.List.{length-map, take_at, drop_at}
 use Rattle.pgv_types.specs.Ty.{Ty}
 use Rattle.pgv_buf.specs.Tokens.{token_width, tokens_hole_types, Token, byte, hole, slot, tokens_width, Cell, fixed, hole_cell, slot_cell, plain, shown, width, hole_types_of, hole_count, slot_count}
 use Rattle.pgv_buf.specs.Blank.{plain-append}
 use Rattle.pgv_buf.specs.Proper.{Proper, Proper-append, Proper-front, shown-append, length-shown, length-hole_types_of}
+use Rattle.pgv_buf.specs.Fill.{slot_count-filled}
 use Rattle.pgv_buf.specs.Layout.{is_hole, is_slot, if_so, places, last_from, Kept, slots_of, Layout, layout_of, first_at, parse, tokens_of, Represents, Valid}
 
 -- ---- places
@@ -155,3 +156,5 @@ cut {b} {l} a c r =
           (take_at (slots_of (plain a)) (slots_of (plain c)) (slot_count a) (length-slots a));
       proper = Proper-front a c r.proper;
     }
+
+pub ruleset lengths = (length-slots, length-hole_types_of, length-map, slot_count-filled)

@@ -51,6 +51,7 @@ impl Places {
     }
 
     /// Appends a place that isn't before the last one.
+    #[tactic(auto, using(crate::proofs::Gaps::pushed, crate::proofs::Gaps::pushed_last))]
     pub(crate) fn push(&mut self, place: usize) -> Result<(), AllocError>
         requires { last_from 0 self.old ≤ place }
         ensures ok { OnOk result (self.new ≡ self.old ++ place ∷ []) }
@@ -63,6 +64,7 @@ impl Places {
     }
 
     /// Drops places from the end until `count` are left.
+    #[tactic(auto, using(crate::proofs::Gaps::cuts, crate::proofs::Gaps::dropped_fit))]
     pub(crate) fn truncate(&mut self, count: usize)
         requires { count ≤ length self.old }
         ensures { self.new ≡ take count self.old }
@@ -93,6 +95,7 @@ impl Clone for Places {
 }
 
 /// The place before these gaps, where `last` is the place after them.
+#[tactic(auto, using(crate::proofs::Gaps::sum_here))]
 fn take_off(last: usize, gaps: &[usize]) -> usize
     requires { sum gaps.now ≤ last }
     ensures { result + sum gaps.now ≡ last }

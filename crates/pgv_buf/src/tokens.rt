@@ -45,6 +45,7 @@ impl Model for Tokens {
 
 impl Tokens {
     /// No tokens.
+    #[tactic(auto, using(crate::proofs::CellSteps::none_valid, crate::proofs::CellSteps::none_seen))]
     pub fn new(alloc: Global) -> Tokens
         ensures { result ≡ [] }
     {
@@ -59,6 +60,7 @@ impl Tokens {
     }
 
     /// How many bytes are shown.
+    #[tactic(auto, using(crate::proofs::Layouts::held, crate::proofs::Layouts::wide))]
     #[inline(always)]
     pub fn len(&self) -> usize
         ensures { result ≡ width self.now }
@@ -74,6 +76,7 @@ impl Tokens {
     }
 
     /// The bytes that are shown: four for a hole, and for a slot as many as its default and each of its cases has.
+    #[tactic(auto, using(crate::proofs::Layouts::held))]
     pub fn as_slice(&self) -> &[u8]
         ensures shown { result.now ≡ shown self.now }
         ensures proper { Proper self.now }
@@ -82,6 +85,7 @@ impl Tokens {
     }
 
     /// The types of the holes, in order.
+    #[tactic(auto, using(crate::proofs::Layouts::held, crate::proofs::Layouts::lengths))]
     pub fn hole_types(&self) -> &[PgTypeInfo]
         ensures { result.now ≡ hole_types_of self.now }
     {
@@ -154,6 +158,7 @@ impl Tokens {
     }
 
     /// Forgets all tokens.
+    #[tactic(auto, using(crate::proofs::CellSteps::none_valid, crate::proofs::CellSteps::none_seen))]
     pub fn clear(&mut self)
         ensures { self.new ≡ [] }
     {
@@ -182,6 +187,7 @@ impl Clone for Tokens {
 
 impl Tokens {
     /// The numbers of bytes, holes and slots so far, to go back to.
+    #[tactic(auto, using(crate::proofs::Layouts::held, crate::proofs::Layouts::wide, crate::proofs::Layouts::lengths))]
     #[inline(always)]
     pub fn mark(&self) -> Mark
         ensures { result ≡ mark_of self.now }
@@ -223,6 +229,7 @@ impl Tokens {
     /// Fills each hole with its OID and each slot by the parameter type of its own argument, whatever they
     /// showed before: `types` has the parameter type of each argument, `counts` how many slots each has. Arguments
     /// after the last count have none.
+    #[tactic(auto, using(crate::proofs::Layouts::lengths))]
     pub fn fill(&mut self, types: &[PgTypeInfo], counts: &[usize], oids: &[Oid])
         requires arguments { length counts.now ≤ length types.now }
         requires slots { sum counts.now ≡ slot_count self.old }

@@ -1,8 +1,8 @@
 -- What is read in front leaves the end of the bytes.
-use Rattle.std.proofs.Common.{◌≡◌, ℕ, ◌+◌, ◌-◌, ◌<◌, ◌≤◌, Bool, true, false, cond, nat_lt, List, [], ◌∷◌, length, take, drop, Option, Some, None, Ok, Err, refl, sym, ap, ◌∙◌, subst, arith}
+use Rattle.std.proofs.Common.{get_or, suc, ◌≡◌, ℕ, ◌+◌, ◌-◌, ◌<◌, ◌≤◌, Bool, true, false, cond, nat_lt, List, [], ◌∷◌, length, take, drop, Option, Some, None, Ok, Err, refl, sym, ap, ◌∙◌, subst, arith}
 use Rattle.std.specs.Prelude.{ℤ, bytes_eq}
 use Rattle.std.proofs.lemmas.Bool.{ltb-false}
-use Rattle.std.proofs.lemmas.List.{drop-drop, length-drop, take_all}
+use Rattle.std.proofs.lemmas.List.{drop_all, drop-drop, length-drop, take_all}
 use Rattle.std.proofs.lemmas.Option.{same_Some}
 use Rattle.pgv_types.specs.Ty.{Ty}
 use Rattle.pgv_value.specs.FrameBinary.{Part, front, front_length, frame_fault}
@@ -16,7 +16,7 @@ use Rattle.pgv_value.proofs.Numbers.{test_failed}
 use Rattle.pgv_value.proofs.Outcomes.{and_then_taken, failed, found_or, held, ok_is}
 use Rattle.pgv_copy.specs.CopyBinary.{Step, signature, after_signature, after_flags, after_extension, after_count, field, fields, before, ended, step}
 use Rattle.pgv_copy.specs.CopyPieces.{AreHeld, IsEnd, IsRowIn, after_begin, next_of, rest_after, row_at, row_by}
-use Rattle.pgv_copy.proofs.FieldLoop.{with_first}
+use Rattle.pgv_copy.proofs.FieldLoop.{field_of, with_first}
 
 cut : (n : ℕ) (bytes rest : List ℕ) → n ≤ length bytes → drop n bytes ≡ rest → IsEnd bytes rest
 cut n bytes rest le e = (n, le, sym e)
@@ -197,6 +197,16 @@ no_front t types bytes none = rw none refl
 pub no_types : (bytes : List ℕ) → rest_after (fields [] bytes) ≡ Ok bytes
 unfolding fields
 no_types bytes = refl
+
+pub field_at : (types : List Ty) (i : ℕ) (bytes rest : List ℕ) (part : Part) (t : Ty) → front bytes ≡ Some (part, rest) → t ≡ get_or types i t → i < length types →
+    rest_after (fields (drop i types) bytes) ≡ rest_after (fields (drop (i + 1) types) rest)
+field_at types i bytes rest part t found is lt =
+    let next : suc i ≡ i + 1 = omega arith in
+    ap (λ (us : List Ty). rest_after (fields us bytes)) (field_of t types i lt is) ∙ one_field t (drop (suc i) types) bytes rest part found
+    ∙ ap (λ (k : ℕ). rest_after (fields (drop k types) rest)) next
+
+pub no_field_at : (types : List Ty) (i : ℕ) (bytes : List ℕ) → length types ≤ i → rest_after (fields (drop i types) bytes) ≡ Ok bytes
+no_field_at types i bytes le = ap (λ (us : List Ty). rest_after (fields us bytes)) (drop_all i types le) ∙ no_types bytes
 
 -- ---- in the bytes that are held
 

@@ -1,9 +1,7 @@
 mod FieldLoop
-mod Headers
-mod StreamRows
+mod StreamParts
 mod CutStreams
 mod Streams
-mod CutFrames
 mod Stays
 mod PieceRows
 mod Ends

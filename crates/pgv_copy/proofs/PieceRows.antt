@@ -12,8 +12,7 @@ use Rattle.pgv_copy.specs.CopyBinary.{Step, header, before, ended, step}
 use Rattle.pgv_copy.specs.CopyPieces.{CopyInPiecesIsItsRows, NoRow, PiecesAreOneStream, ReadRows, Stays, further, joined, next_of, WhatCameStays}
 use Rattle.pgv_copy.specs.CopyStream.{IsRow, trailer, values}
 use Rattle.pgv_copy.specs.CopyView.{Copying}
-use Rattle.pgv_copy.proofs.Headers.{header_there}
-use Rattle.pgv_copy.proofs.StreamRows.{row_there, trailer_there}
+use Rattle.pgv_copy.proofs.StreamParts.{header_there, row_there, trailer_there}
 use Rattle.pgv_copy.proofs.Stays.{what_came_stays}
 
 -- ---- rows with more behind them

@@ -11,7 +11,7 @@ use pgv_value::{CodecError, PgValueFormat, PgValueRef};
 
 /// A stream, whatever its rows, its extension and the bytes after its end, is read as exactly its rows, and each later
 /// call returns `None`.
-#[tactic(auto, using(crate::proofs::StreamRows::copy_is_its_rows))]
+#[tactic(auto, using(crate::proofs::StreamParts::copy_is_its_rows))]
 pub fn copy_is_its_rows()
     ensures { CopyIsItsRows }
 {}
@@ -52,7 +52,7 @@ pub fn get_is_got<'r>(
 
 /// From frames that are cut off anywhere, the parts of some first frames, and not of all, are returned, and each call
 /// after them is refused with [`Short`](CodecError::Short) (C15).
-#[tactic(auto, using(crate::proofs::CutFrames::cut_frames))]
+#[tactic(auto, using(crate::proofs::CutStreams::cut_frames))]
 pub fn cut_frames_are_short()
     ensures { CutFramesAreShort }
 {}

@@ -67,6 +67,7 @@ fn after_beginning(bytes: &[u8], in_header: bool) -> Result<&[u8], CodecError>
 }
 
 /// What comes after a frame for each type.
+#[tactic(auto, using(crate::proofs::Ends::field_at, crate::proofs::Ends::no_field_at, crate::proofs::Ends::no_front, crate::proofs::FieldLoop::field_of))]
 fn after_fields<'r>(types: &[PgTypeInfo], bytes: &'r [u8]) -> Result<&'r [u8], CodecError>
     ensures { GivesExactly (λ rest. rest.now) (rest_after (fields types.now bytes.now)) result }
 {
@@ -79,6 +80,7 @@ fn after_fields<'r>(types: &[PgTypeInfo], bytes: &'r [u8]) -> Result<&'r [u8], C
 }
 
 /// Where the fields of the next row begin, and where they end; or none at the end of the stream.
+#[tactic(auto, using(crate::proofs::Ends::at_end, crate::proofs::Ends::no_count, crate::proofs::Ends::no_field, crate::proofs::Ends::row_there))]
 fn next_row_in<'r>(
     types: &[PgTypeInfo],
     bytes: &'r [u8],
@@ -147,6 +149,7 @@ impl PgCopyPieces {
     /// [`PgCopyNext::More`] where the bytes end before the row does, and [`PgCopyNext::End`] at the end of the stream
     /// and from then on. A header or a row that is refused is refused as by [`PgCopyReader`](crate::PgCopyReader), and
     /// the reader is as it was.
+    #[tactic(auto, using(crate::proofs::Ends::advanced, crate::proofs::Ends::held_row, crate::proofs::Ends::whole_end))]
     pub fn advance(&mut self) -> Result<PgCopyNext, CodecError>
         ensures found { Advances self.old result self.new }
         // Each row takes bytes, so a loop over the rows ends.

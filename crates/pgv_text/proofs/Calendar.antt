@@ -6,6 +6,7 @@ use mir.Syntax.{w8, w16}
 use Rattle.std.proofs.lemmas.Int.{ints}
 use Rattle.std.proofs.lemmas.Bool.Decides.{nat_tests}
 use Rattle.std.proofs.lemmas.Bool.{false≢true}
+use Rattle.jiff_core.proofs.DateTimeLemmas.{civil_nanos-parts}
 use Rattle.jiff_core.specs.Calendar.{IsDate, days_in_month, days_from_civil}
 use Rattle.jiff_core.specs.Date.{IsYmd, epoch_day}
 use Rattle.jiff_core.specs.declared.civil.date.Date.{Date}
@@ -61,3 +62,5 @@ date_number y m d r o ly lm ld h k e =
     let em : to_z w8 m ≡ pos m = omega (arith, ints) in
     let ed : to_z w8 d ≡ pos d = omega (arith, ints) in
     rw e (number_of y m d r ly (rw (ey, em, ed) at h) (rw (ey, em, ed) at k))
+
+pub ruleset civil_parts = civil_nanos-parts

@@ -1,6 +1,9 @@
 -- What the class of a character says about it.
-use Rattle.std.proofs.Common.{◌≡◌, ◌<◌, ℕ, Bool, true, false, not, cond, ◌==◌, ◌||◌, ap, subst, sym, refl, arith}
+use Rattle.std.proofs.Common.{◌≡◌, ◌<◌, ◌≤◌, List, length, ℕ, Bool, true, false, not, cond, ◌==◌, ◌||◌, ap, subst, sym, refl, arith}
+use Rattle.std.specs.List.{slice_index}
+use Rattle.std.specs.Str.{IsUtf8}
 use Rattle.std.proofs.lemmas.Bool.{eqb-true, false≢true}
+use Rattle.std.proofs.lemmas.Str.{IsCharBoundary-after_ascii}
 use Rattle.pgv_text.specs.declared.scanner.TextForm.{TextForm}
 use Rattle.pgv_text.specs.declared.scanner.TextForm.TheVariants.{Array, Range, Record}
 use Rattle.pgv_text.specs.declared.scanner.Class.{Class}
@@ -62,3 +65,6 @@ pub closes_low : (form : TextForm) (c : ℕ) → (form_of form).closes c ≡ tru
 closes_low Array c h = low c 125 (omega arith) h
 closes_low Range c h = either c 41 93 (c == 41) (c == 93) refl refl h (λ c. c < 128) (omega arith) (omega arith)
 closes_low Record c h = low c 41 (omega arith) h
+
+pub after_low : (text : List ℕ) → IsUtf8 text → 0 < length text → slice_index text 0 < 128 → 1 < length text → 128 ≤ slice_index text 1 → 192 ≤ slice_index text 1
+after_low text u some low = (IsCharBoundary-after_ascii text 0 u some low).1

@@ -1,5 +1,5 @@
 -- What is computed of a text is what it is of.
-use Rattle.std.proofs.Common.{◌≡◌, ◌≢◌, ℕ, Bool, true, false, cond, ◌==◌, suc, List, [], ◌∷◌, ◌++◌, length, Option, Some, None, IfSome, ap, subst, ◌∙◌, sym, refl, append_assoc}
+use Rattle.std.proofs.Common.{◌≡◌, ◌≢◌, ℕ, Bool, true, false, cond, ◌==◌, suc, List, [], ◌∷◌, ◌++◌, length, Option, Some, None, IfSome, ap, subst, ◌∙◌, sym, refl, append_assoc, ◌↔◌}
 use Rattle.std.specs.Option.{option_map, option_and_then}
 use Rattle.std.specs.Str.{encode_utf8_all}
 use Rattle.std.specs.List.{flat_map, AllByRecursion}
@@ -17,6 +17,10 @@ use Rattle.pgv_text.proofs.CharacterClasses.{says, class_plain, class_closing}
 use Rattle.pgv_text.proofs.Nothing.{value_is}
 use Rattle.pgv_text.proofs.Sound.{Valid, after_part, part_end, sound}
 use Rattle.pgv_text.proofs.SpelledTexts.{parts_read}
+use Rattle.pgv_text.specs.declared.scanner.TextForm.TheVariants.{Array, Record}
+use Rattle.pgv_text.specs.ArrayText.{array_form, IsArrayText}
+use Rattle.pgv_text.specs.RecordText.{record_form, IsRecordText}
+use Rattle.pgv_text.specs.NestLaws.{NestIsComputed, OneNest}
 
 pub as_many : {X Y : Type 0} (R : X → Y → Type 0) (xs : List X) (ys : List Y) → Pairwise R xs ys → length ys ≡ length xs
 as_many R [] [] h = refl
@@ -150,3 +154,38 @@ module _ (t : TextForm) where
       ap (nest_of (form_of t)) n.whole ∙ nest_read_from n.opening n.closing n.parts nest.values n.opens n.closes n.each n.counted n.values
       ∙ ap (λ b. Some (record { values = nest.values; lower = b; upper = n.closing == 93 })) (sym n.lower)
       ∙ ap (λ b. Some (record { values = nest.values; lower = nest.lower; upper = b })) (sym n.upper)
+
+-- ---- arrays and records, from the one relation
+
+plain_nest : (form : Form) (text : List ℕ) (nest : Nest) → ((c : ℕ) → form.opens c ≡ true → (c == 91) ≡ false) → ((c : ℕ) → form.closes c ≡ true → (c == 93) ≡ false) → IsNestText form text nest → IsNestText form text (record { values = nest.values; lower = false; upper = false })
+plain_nest form text nest o k n =
+    subst (λ (b : Bool × Bool). IsNestText form text (record { values = nest.values; lower = b.0; upper = b.1 }))
+    (ap (λ (b : Bool). (b, nest.upper)) (n.lower ∙ o n.opening n.opens) ∙ ap (λ (b : Bool). (false, b)) (n.upper ∙ k n.closing n.closes)) n
+
+values_in : (o : Option Nest) (values : List (Option (List ℕ))) → option_map (λ nest. nest.values) o ≡ Some values → (nest : Nest) × (o ≡ Some nest) × (nest.values ≡ values)
+values_in None values h = cc
+values_in (Some nest) values h = (nest, refl, cc)
+
+list_is : (t : TextForm) (text : List ℕ) (values : List (Option (List ℕ))) → ((c : ℕ) → (form_of t).opens c ≡ true → (c == 91) ≡ false) → ((c : ℕ) → (form_of t).closes c ≡ true → (c == 93) ≡ false) →
+    (option_map (λ nest. nest.values) (nest_of (form_of t) text) ≡ Some values) ↔ IsNestText (form_of t) text (record { values = values; lower = false; upper = false })
+list_is t text values o k = (
+  λ h. let v = values_in (nest_of (form_of t) text) values h in
+      subst (λ values. IsNestText (form_of t) text (record { values = values; lower = false; upper = false })) v.2 (plain_nest (form_of t) text v.0 o k (nest_sound t text v.0 v.1)),
+  λ n. ap (option_map (λ nest. nest.values)) (nest_complete t text (record { values = values; lower = false; upper = false }) n),
+)
+
+pub array_is : (text : List ℕ) (values : List (Option (List ℕ))) → (option_map (λ nest. nest.values) (nest_of array_form text) ≡ Some values) ↔ IsArrayText text values
+array_is text values = list_is Array text values (λ c h. ap (λ c. c == 91) (eqb-true c 123 h)) (λ c h. ap (λ c. c == 93) (eqb-true c 125 h))
+
+pub record_is : (text : List ℕ) (values : List (Option (List ℕ))) → (option_map (λ nest. nest.values) (nest_of record_form text) ≡ Some values) ↔ IsRecordText text values
+record_is text values = list_is Record text values (λ c h. ap (λ c. c == 91) (eqb-true c 40 h)) (λ c h. ap (λ c. c == 93) (eqb-true c 41 h))
+
+-- ---- the laws
+
+pub nest_is : NestIsComputed
+unfolding NestIsComputed
+nest_is t text nest = (nest_sound t text nest, nest_complete t text nest)
+
+pub one_nest : OneNest
+unfolding OneNest
+one_nest t text nest other n m = let same : Some nest ≡ Some other = sym (nest_complete t text nest n) ∙ nest_complete t text other m in cc

@@ -21,8 +21,7 @@ use Rattle.pgv_text.specs.declared.network.Ipv4Network.{Ipv4Network}
 use Rattle.pgv_text.specs.declared.network.Ipv6Network.{Ipv6Network}
 use Rattle.pgv_text.specs.declared.network.IpNetwork.{IpNetwork}
 use Rattle.pgv_text.specs.declared.network.IpNetwork.TheVariants as Versions
-use Rattle.pgv_text.proofs.Addresses.{address_is, address_there}
-use Rattle.pgv_text.proofs.Prefixes.{prefix_is, prefix_read}
+use Rattle.pgv_text.proofs.Addresses.{address_is, address_there, prefix_is, prefix_read}
 use Rattle.pgv_text.proofs.DigitFields.{then_read}
 use Rattle.pgv_text.proofs.Computed.{computed_by, one_by}
 use Rattle.pgv_text.proofs.Fractions.{chosen, refused}

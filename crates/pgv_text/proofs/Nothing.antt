@@ -2,13 +2,17 @@
 use Rattle.std.proofs.Common.{◌≡◌, ◌<◌, ℕ, Bool, true, false, cond, ◌&&◌, ◌==◌, List, [], ◌∷◌, ◌++◌, Option, Some, None, ap, subst, ◌∙◌, sym, refl, arith}
 use Rattle.std.specs.List.{AllByRecursion}
 use Rattle.std.specs.Str.{encode_utf8_all}
-use Rattle.std.proofs.lemmas.Bool.{and_parts, eq-eqb, eqb-true, false≢true}
+use Rattle.std.proofs.lemmas.Bool.{and_parts, eq-eqb, eqb-true, false_from_ne_true, false≢true}
 use Rattle.pgv_text.specs.declared.scanner.TextForm.{TextForm}
 use Rattle.pgv_text.specs.declared.scanner.TextForm.TheVariants.{Array}
+use Rattle.pgv_text.specs.declared.scanner.Class.{Class}
+use Rattle.pgv_text.specs.declared.scanner.Class.TheVariants.{Comma, Close}
 use Rattle.pgv_text.specs.NestPieces.{Form, Piece, plain, escaped, quoted, IsPiece, IsPart, may_be_plain, spelled, text_of}
 use Rattle.pgv_text.specs.Forms.{form_of}
 use Rattle.pgv_text.specs.Scan.{class, ends, stands, value_here}
+use Rattle.pgv_text.specs.Copies.{as_it_is, bare, bare_by}
 use Rattle.pgv_text.proofs.CharacterClasses.{class_plain}
+use Rattle.pgv_text.proofs.Copies.{bare_is}
 
 -- plain pieces of ASCII
 abbrev pub ArePlain : Form → List Piece → Type 0
@@ -64,3 +68,23 @@ one_value form pieces None None h k = refl
 one_value form pieces None (Some w) h k = absurd (k.0 h)
 one_value form pieces (Some v) None h k = absurd (h.0 k)
 one_value form pieces (Some v) (Some w) h k = ap Some (h.1 ∙ sym k.1)
+
+ended : (rest : Bool) (k : Class) → ends k ≡ true → bare_by rest k ≡ true
+ended rest Comma e = refl
+ended rest Close e = refl
+ended rest _ e = absurd (false≢true e)
+
+nothing_bare : (form : Form) (nothing : List Piece) (text : List ℕ) → ArePlain form nothing → stands form nothing text ≡ true → bare form text ≡ true
+nothing_bare form [] (c ∷ cs) h e = ended (bare form cs) (class form c) e
+nothing_bare form (plain d ∷ pieces) (c ∷ cs) h e =
+    let same = and_parts (c == d) (stands form pieces cs) e in
+    ap (bare_by (bare form cs)) (ap (class form) (eqb-true c d same.0) ∙ class_plain form d h.0) ∙ nothing_bare form pieces cs h.2 same.1
+nothing_bare form [] [] h e = absurd (false≢true e)
+nothing_bare form (plain d ∷ pieces) [] h e = absurd (false≢true e)
+nothing_bare form _ text h e = absurd h
+
+-- the part that is null or absent stands in the text as it is
+pub copied_is_present : (form : TextForm) (text : List ℕ) → as_it_is (form_of form) text ≡ false → stands (form_of form) (form_of form).nothing text ≡ false
+copied_is_present form text copied =
+    false_from_ne_true (stands (form_of form) (form_of form).nothing text)
+    (λ e. false≢true (sym copied ∙ bare_is (form_of form) text (nothing_bare (form_of form) (form_of form).nothing text (nothing_plain form) e)))

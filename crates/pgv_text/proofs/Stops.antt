@@ -1,6 +1,6 @@
--- Steps over bytes, by the table.
-use Rattle.std.proofs.Common.{◌≡◌, ◌<◌, ◌≤◌, ℕ, Bool, true, false, ◌==◌, inl, inr, List, [], ◌++◌, Option, Some, None, ap, ◌∙◌, refl, append_assoc, arith}
-use Rattle.std.proofs.lemmas.Bool.{cases_lt}
+-- Steps over bytes, by the table, and the runs between them.
+use Rattle.std.proofs.Common.{◌≡◌, ◌<◌, ◌≤◌, ℕ, Bool, true, false, ◌==◌, inl, inr, List, [], ◌++◌, Option, Some, None, ap, ◌∙◌, refl, append_assoc, arith, ◌⊎◌, zero, suc, ◌+◌, ◌∷◌, length, take, drop, sym}
+use Rattle.std.proofs.lemmas.Bool.{cases_lt, eqb-true}
 use Rattle.std.proofs.lemmas.Bool.Decides.{eqb_tells}
 use Rattle.pgv_text.specs.declared.scanner.TextForm.{TextForm}
 use Rattle.pgv_text.specs.declared.scanner.TextForm.TheVariants.{Array, Range, Record}
@@ -8,10 +8,16 @@ use Rattle.pgv_text.specs.declared.scanner.Class.TheVariants.{Other}
 use Rattle.pgv_text.specs.declared.scanner.Place.{Place}
 use Rattle.pgv_text.specs.declared.scanner.Place.TheVariants.{Outside, Quoted, AfterQuote, QuotedBackslash}
 use Rattle.pgv_text.specs.declared.scanner.Cell.{Cell}
-use Rattle.pgv_text.specs.declared.scanner.Cell.TheVariants.{Keep}
+use Rattle.pgv_text.specs.declared.scanner.Cell.TheVariants.{Keep, End, Part, Pass}
 use Rattle.pgv_text.specs.NestPieces.{Form}
 use Rattle.pgv_text.specs.Forms.{form_of}
-use Rattle.pgv_text.specs.Scan.{Rest, class, cell, after_quote_cell, grown}
+use Rattle.pgv_text.specs.Scan.{Rest, class, cell, after_quote_cell, grown, kept, read, read_by}
+use Rattle.std.specs.List.{slice_index}
+use Rattle.std.proofs.lemmas.List.{length-append}
+use Rattle.std.specs.Option.{MatchOption, option_map}
+use Rattle.pgv_text.specs.declared.scanner.Stop.{Stop}
+use Rattle.pgv_text.specs.Copies.{copies_after, copies_by, copies_from}
+use Rattle.pgv_text.specs.PartFound.{IsRun}
 
 pub grown_none : (r : Option Rest) → grown [] r ≡ r
 grown_none None = refl
@@ -51,3 +57,71 @@ stop_is_ascii form p b k e n =
       | inl h ↦ h
       | inr h ↦ absurd (n (onward p) (e ∙ ap (cell (form_of form) p) (high_class form b h) ∙ other_cell (form_of form) p))
     ]
+
+-- ---- usual bytes in one step
+
+grown_more : (b : ℕ) (bs : List ℕ) (r : Option Rest) → option_map (kept b) (grown bs r) ≡ grown (b ∷ bs) r
+grown_more b bs None = refl
+grown_more b bs (Some r) = refl
+
+module _ (form : TextForm) (p q : Place) (n : ℕ) (keeps : cell (form_of form) p Other ≡ Keep q) where
+  -- what is read after so many bytes
+  abbrev read_after : List ℕ → ℕ → Option Rest
+  read_after text m = grown (take m text) (read (form_of form) q (drop m text))
+
+  -- a usual byte, and the n that are after it
+  pub usual_run : (text : List ℕ) (i : ℕ) → i < length text → class (form_of form) (slice_index text i) ≡ Other →
+      ((rest : List ℕ) → rest ≡ drop (i + 1) text → read (form_of form) q rest ≡ read_after rest n) →
+      grown (take i text) (read (form_of form) p (drop i text)) ≡ read_after text (i + (1 + n))
+  usual_run [] i lt other run = absurd (omega (arith, lt))
+  usual_run (b ∷ bs) zero lt other run =
+      let all : suc n ≡ 0 + (1 + n) = omega arith in
+      grown_none (read (form_of form) p (b ∷ bs))
+      ∙ ap (λ (k : Cell). read_by (form_of form) b bs (λ r. read (form_of form) r bs) k) (ap (cell (form_of form) p) other ∙ keeps)
+      ∙ ap (option_map (kept b)) (run bs refl)
+      ∙ grown_more b (take n bs) (read (form_of form) q (drop n bs))
+      ∙ ap (read_after (b ∷ bs)) all
+  usual_run (b ∷ bs) (suc i) lt other run =
+      let one : suc (i + 1) ≡ suc i + 1 = omega arith in
+      let all : suc (i + (1 + n)) ≡ suc i + (1 + n) = omega arith in
+      sym (grown_more b (take i bs) (read (form_of form) p (drop i bs)))
+      ∙ ap (option_map (kept b)) (usual_run bs i (omega (arith, lt)) other (λ rest e. run rest (e ∙ ap (λ (m : ℕ). drop m (b ∷ bs)) one)))
+      ∙ grown_more b (take (i + (1 + n)) bs) (read (form_of form) q (drop (i + (1 + n)) bs))
+      ∙ ap (read_after (b ∷ bs)) all
+
+-- a byte that is passed over, with nothing before it
+pub passed : (form : Form) (p q : Place) (b : ℕ) (text before rest : List ℕ) (k : Cell) →
+    read form p text ≡ grown before (read_by form b rest (λ r. read form r rest) k) → k ≡ Pass q → before ≡ [] → read form p text ≡ read form q rest
+passed form p q b text before rest k h e n = h ∙ rw (n, e) (grown_none (read form q rest))
+
+-- a run up to a byte that is passed over, with nothing between it and the end
+pub run_alone : (form : Form) (p q : Place) (b e : ℕ) (text run rest between after : List ℕ) (k m : Cell) →
+    read form p text ≡ grown run (read_by form b rest (λ r. read form r rest) k) → k ≡ Pass q →
+    read form q rest ≡ grown between (read_by form e after (λ r. read form r after) m) → between ≡ [] →
+    read form p text ≡ grown run (read_by form e after (λ r. read form r after) m)
+run_alone form p q b e text run rest between after k m h i j n =
+    h ∙ rw i (ap (grown run) (j ∙ rw n (grown_none (read_by form e after (λ r. read form r after) m))))
+
+-- a list that has no element
+pub none_in : (xs : List ℕ) → (length xs == 0) ≡ true → xs ≡ []
+none_in [] h = refl
+none_in (x ∷ xs) h = let e : length (x ∷ xs) ≡ 0 = eqb-true (length (x ∷ xs)) 0 h in absurd (omega (arith, e))
+
+-- what is after a stop is shorter than what it is in
+pub stop_shorter : (text run rest : List ℕ) (b : ℕ) → text ≡ run ++ b ∷ rest → length rest < length text
+stop_shorter text run rest b e = rw e (omega (arith, length-append run (b ∷ rest)))
+
+-- where a part ends, what is copied after it begins
+pub copies_ended : (form : Form) (place : Place) (text rest : List ℕ) (k : Cell) → copies_after form place text ≡ copies_by form rest (λ q. copies_after form q rest) k → (k ≡ Part) ⊎ (k ≡ End) → copies_after form place text ≡ copies_from form rest
+copies_ended form place text rest k e (inl h) = e ∙ rw h refl
+copies_ended form place text rest k e (inr h) = e ∙ rw h refl
+
+-- where reading goes on elsewhere, so does a run
+pub run_from : (form : TextForm) (p q : Place) (text rest : List ℕ) (a b : Bool) → a ≡ b →
+    read (form_of form) p text ≡ read (form_of form) q rest → copies_after (form_of form) p text ≡ copies_after (form_of form) q rest → length rest < length text →
+    (found : Option Stop) → MatchOption found (b ≡ false) (λ stop. (b ≡ true) × IsRun form q rest stop) → MatchOption found (a ≡ false) (λ stop. (a ≡ true) × IsRun form p text stop)
+run_from form p q text rest a b e same copied shorter None h = e ∙ h
+run_from form p q text rest a b e same copied shorter (Some s) h = (
+  e ∙ h.0,
+  record { part = (same ∙ h.1.part.0, h.1.part.1); shorter = omega (arith, shorter, h.1.shorter); copies = copied ∙ h.1.copies },
+)

@@ -10,8 +10,8 @@ use Rattle.pgv_text.specs.declared.scanner.Place.TheVariants.{Outside, Quoted, S
 use Rattle.pgv_text.specs.declared.scanner.Stop.{Stop}
 use Rattle.pgv_text.specs.declared.scanner.TextForm.{TextForm}
 use Rattle.pgv_text.specs.Forms.{form_of}
-use Rattle.pgv_text.specs.Copies.{IsStopFrom, copies_after, copies_by, copies_from, stop_at}
-use Rattle.pgv_text.specs.Scan.{Rest, grown, read, read_by, stops}
+use Rattle.pgv_text.specs.Copies.{IsStopFrom, as_it_is, copies_after, copies_by, copies_from, stop_at}
+use Rattle.pgv_text.specs.Scan.{Rest, grown, read, read_by, stops, value_here}
 
 abbrev pub part_value : Part → List ℕ → Option (List ℕ)
 part_value Nothing text = None
@@ -69,3 +69,11 @@ pub record IsUnquoted (form : TextForm) (text part : List ℕ) (s : Stop) : Type
   pub shorter : length s.rest.now < length text
   pub halts_there : halts s.cell ≡ true
   pub copies : copies_after (form_of form) Start text ≡ copies_by (form_of form) s.rest.now (λ q. copies_after (form_of form) q s.rest.now) s.cell
+
+-- The part in front, with the text that it may have been put into, and the stop where it ends; what is in the text as
+-- it is isn't put there.
+pub record IsPartInFront (form : TextForm) (text : List ℕ) (part : Part) (out : List ℕ) (s : Stop) : Type 0 where
+  pub bytes : List ℕ
+  pub found : IsUnquoted form text bytes s
+  pub value : part_value part out ≡ value_here (form_of form) text bytes
+  pub copied : part ≡ Unquoted → as_it_is (form_of form) text ≡ false

@@ -15,6 +15,7 @@ use jiff::civil::{Date, DateTime, Time};
 use jiff::tz::Offset;
 
 /// The date of these numbers, if the calendar has it.
+#[tactic(auto, using(crate::proofs::Calendar::date_number))]
 fn date_of(year: u16, month: u8, day: u8) -> Option<Date>
     requires year { year < 10_000 }
     requires month { month < 100 }
@@ -79,6 +80,7 @@ fn time_front(text: &[u8]) -> Option<(Time, &[u8])>
 }
 
 /// The date at the time.
+#[tactic(auto, using(crate::proofs::Calendar::civil_parts))]
 fn civil_of(date: Date, time: Time) -> DateTime
     ensures { civil_nanos result ≡ spec.nanos_at (epoch_day date) (time_nanos time) }
 {

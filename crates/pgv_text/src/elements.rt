@@ -1,16 +1,13 @@
 //! The elements of an array text, read as they come.
 
-ghost use Rattle.std.specs.Prelude.{◌≡◌, ◌<◌, ℕ, List, MatchResult, None, false, length, string_bytes, true};
+ghost use Rattle.std.specs.Prelude.{◌≡◌, MatchResult, None, string_bytes, true};
 ghost use Rattle.std.specs.Option.{MatchOption};
 ghost use Rattle.pgv_text.specs.ArrayText.{array_form};
 ghost use Rattle.pgv_text.specs.ElementsView.{Follows, ahead, element_copied, is_end};
-ghost use Rattle.pgv_text.specs.PartFound.{IsEndOf, halts, part_value};
-ghost use Rattle.pgv_text.specs.Scan.{value_here};
 ghost use Rattle.pgv_text.specs.Values.{array_values};
-ghost use Rattle.pgv_text.specs.declared.scanner.TextForm.TheVariants.{Array};
 
-use super::parts::{Part, after_opening, closes_here, one_run, unquote};
-use super::scanner::{Cell, Stop, TextForm, is_nothing};
+use super::parts::{Part, after_opening, closes_here, part_in_front};
+use super::scanner::{Cell, TextForm};
 use std::alloc::AllocError;
 
 /// The elements of an array text that are still to come. The text isn't tested first, so that a reader sees each byte
@@ -36,6 +33,7 @@ pub enum Next<'a> {
 
 impl<'a> Elements<'a> {
     /// The elements of a text; `None` if no array text begins like it.
+    #[tactic(auto, using(crate::proofs::NextParts::as_read, crate::proofs::NextParts::none_read, crate::proofs::NextParts::values_open, crate::proofs::NextParts::no_values, crate::proofs::NextParts::values_more))]
     #[inline(always)]
     pub fn of_text(text: &'a str) -> Option<Self>
         ensures { MatchOption result (array_values text.now ≡ None)
@@ -62,28 +60,6 @@ impl<'a> Elements<'a> {
         self.ended
     }
 
-    /// Goes on after the part that ends at this stop.
-    #[inline(always)]
-    fn step(&mut self, part: Part<'a>, stop: Stop<'a>) -> Next<'a>
-        ensures { (bytes text : List ℕ) → self.old.ended ≡ false
-            → IsEndOf Array self.old.rest.now bytes stop.entry → halts stop.entry.cell ≡ true
-            → length stop.entry.rest.now < length self.old.rest.now
-            → part_value part.entry text ≡ value_here array_form self.old.rest.now bytes
-            → Follows result text self.old self.new }
-    {
-        match stop.cell {
-            Cell::Part => {
-                self.rest = stop.rest;
-                Next::Element(part)
-            }
-            Cell::End if stop.rest.is_empty() => {
-                self.ended = true;
-                Next::Element(part)
-            }
-            _ => Next::Fault,
-        }
-    }
-
     /// The next element: borrowed if its bytes are one run of the text, alone or in quotes, else put into the given
     /// text. If memory runs out, the elements stay as they were; a borrowed element asks for none. From `{a,"b c"}`
     /// come `a` and `b c`, both borrowed, and then the end.
@@ -97,23 +73,14 @@ impl<'a> Elements<'a> {
         if self.ended {
             return Ok(Next::End);
         }
-        let absent = is_nothing(TextForm::Array, self.rest);
-        if let Some(stop) = one_run(TextForm::Array, self.rest) {
-            let part = if absent {
-                Part::Nothing
-            } else {
-                Part::Plain(stop.run)
-            };
-            return Ok(self.step(part, stop));
-        }
-        let Some(stop) = unquote(TextForm::Array, self.rest, text)? else {
+        let Some((part, stop)) = part_in_front(TextForm::Array, self.rest, text)? else {
             return Ok(Next::Fault);
         };
-        let part = if absent {
-            Part::Nothing
-        } else {
-            Part::Unquoted
-        };
-        Ok(self.step(part, stop))
+        match stop.cell {
+            Cell::Part => self.rest = stop.rest,
+            Cell::End if stop.rest.is_empty() => self.ended = true,
+            _ => return Ok(Next::Fault),
+        }
+        Ok(Next::Element(part))
     }
 }

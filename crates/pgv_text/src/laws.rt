@@ -36,19 +36,20 @@ pub fn one_unsigned_number()
 
 /// For arrays, ranges and records, `nest_of` computes values and brackets from a text iff the grammar assigns them to
 /// the text.
-#[tactic(auto, using(crate::proofs::Answered::nest_is))]
+#[tactic(auto, using(crate::proofs::Nests::nest_is))]
 pub fn nest_is_computed()
     ensures { NestIsComputed }
 {}
 
 /// In each form, a text denotes at most one list of values, with one reading of its brackets.
-#[tactic(auto, using(crate::proofs::Answered::one_nest))]
+#[tactic(auto, using(crate::proofs::Nests::one_nest))]
 pub fn one_nest()
     ensures { OneNest }
 {}
 
 /// `range_content` computes the empty range, or two bounds, from a text iff the grammar of ranges assigns this to the
 /// text.
+#[tactic(auto, using(crate::proofs::Contents::range_is))]
 pub fn range_is_computed()
     ensures { RangeIsComputed }
 {}

@@ -164,6 +164,7 @@ impl From<IpAddr> for IpNetwork {
 }
 
 /// The address of a text.
+#[tactic(auto, using(crate::proofs::Addresses::parsed_address))]
 fn address_of(text: &str) -> Option<IpAddr>
     ensures { result ≡ address_value text.now }
 {

@@ -9,7 +9,7 @@ ghost use Rattle.pgv_text.specs.Forms.{form_of};
 ghost use Rattle.pgv_text.specs.Scan.{closes_here as spec_closes_here, nest_read, numbered, read};
 ghost use Rattle.pgv_text.specs.Values.{part_bytes, values_of};
 ghost use Rattle.pgv_text.specs.PartsLeftView.{values_left};
-ghost use Rattle.pgv_text.specs.PartFound.{IsRun, IsUnquoted, part_value};
+ghost use Rattle.pgv_text.specs.PartFound.{IsPartInFront, IsRun, IsUnquoted, part_value};
 ghost use Rattle.pgv_text.specs.Copies.{as_it_is, first_copied, in_quotes};
 ghost use Rattle.pgv_text.specs.declared.scanner.Place.TheVariants.{Quoted, Start};
 
@@ -29,6 +29,7 @@ fn is_empty_range(form: TextForm, text: &str) -> bool
 }
 
 /// The opening bracket, and what is after it; `None` where there is none.
+#[tactic(auto, using(crate::proofs::CharacterClasses::after_low, crate::proofs::CharacterClasses::opens_low))]
 pub(crate) fn after_opening(form: TextForm, text: &str) -> Option<(u8, &str)>
     ensures { MatchOption result (nest_read (form_of form) text.now ≡ None)
         (λ p. (text.now ≡ p.0 ∷ p.1.now) × ((form_of form).opens p.0 ≡ true)) }
@@ -100,7 +101,7 @@ fn usual_part_count(form: TextForm, bytes: &[u8]) -> Option<(usize, u8)>
 
 /// The part in front and where it ends, if it is one run of the text's bytes, alone or in quotes.
 #[inline(always)]
-pub(crate) fn one_run(form: TextForm, text: &str) -> Option<Stop<'_>>
+fn one_run(form: TextForm, text: &str) -> Option<Stop<'_>>
     // It is `None` iff the part isn't in the text as it is.
     ensures { MatchOption result (as_it_is (form_of form) text.now ≡ false)
         (λ stop. (as_it_is (form_of form) text.now ≡ true) × IsRun form Start text.now stop) }
@@ -134,7 +135,7 @@ fn run_in_quotes(form: TextForm, text: &str) -> Option<Stop<'_>>
 }
 
 /// Puts the text of the part in front in place of a text, and gives where it ends; `None` where it doesn't.
-pub(crate) fn unquote<'a>(
+fn unquote<'a>(
     form: TextForm,
     text: &'a str,
     out: &mut String,
@@ -185,6 +186,36 @@ impl<'a> Part<'a> {
     }
 }
 
+/// The part in front, borrowed if its bytes are one run of the text, else put into the given text, and where it ends;
+/// `None` where it doesn't.
+#[tactic(auto, using(crate::proofs::Nothing::copied_is_present))]
+#[inline(always)]
+pub(crate) fn part_in_front<'a>(
+    form: TextForm,
+    text: &'a str,
+    out: &mut String,
+) -> Result<Option<(Part<'a>, Stop<'a>)>, AllocError>
+    // Only for a part that is copied memory is asked for.
+    ensures { MatchResult result
+        (λ found. MatchOption found (read (form_of form) Start text.now ≡ None)
+        (λ p. IsPartInFront form text.now p.0 (string_bytes out.new) p.1))
+        (λ _. as_it_is (form_of form) text.now ≡ false) }
+{
+    if let Some(stop) = one_run(form, text) {
+        let part = if is_nothing(form, text) {
+            Part::Nothing
+        } else {
+            Part::Plain(stop.run)
+        };
+        return Ok(Some((part, stop)));
+    }
+    // What is null or absent is one run.
+    match unquote(form, text, out)? {
+        Some(stop) => Ok(Some((Part::Unquoted, stop))),
+        None => Ok(None),
+    }
+}
+
 /// The parts of a text that are still to come. It takes no memory of its own.
 #[derive(Clone, Copy, Drop)]
 pub struct Parts<'a> {
@@ -204,6 +235,7 @@ impl<'a> Parts<'a> {
     ghost use Rattle.pgv_text.specs.PartsView.{AreBounded, ArePartsOf, HasBracketsOf, HasEnded, IsKept, Takes, copies, is_of_empty, nest};
 
     /// The parts of a text; `None` if the text isn't in the form. The empty range has no parts.
+    #[tactic(auto, using(crate::proofs::Contents::empty_parts, crate::proofs::Contents::nest_parts))]
     pub fn new(form: TextForm, text: &'a str) -> Option<Self>
         // What is computed of the text is what it denotes, by the laws `nest_is_computed` and `range_is_computed`.
         ensures { MatchOption result (content_of form (chars text.now) ≡ None)
@@ -317,6 +349,7 @@ impl<'a> Parts<'a> {
     /// The next part: borrowed if its bytes are one run of the text, alone or in quotes, else put into the given text.
     /// `None` after the last part. If memory runs out, the parts stay as they were; a borrowed part asks for none. From
     /// the array `{a,"b c"}` come `a` and `b c`, both borrowed, and then `None`.
+    #[tactic(auto, using(crate::proofs::NextParts::part_taken))]
     #[inline(always)]
     pub fn next_borrowed(&mut self, text: &mut String) -> Result<Option<Part<'a>>, AllocError>
         // Only for a part that is copied memory is asked for.
@@ -329,23 +362,12 @@ impl<'a> Parts<'a> {
         if self.count == 0 {
             return Ok(None);
         }
-        match one_run(self.form, self.rest) {
-            Some(stop) => {
-                let part = if is_nothing(self.form, self.rest) {
-                    Part::Nothing
-                } else {
-                    Part::Plain(stop.run)
-                };
-                self.count -= 1;
-                self.rest = stop.rest;
-                Ok(Some(part))
-            }
-            None => match self.next_into(text)? {
-                None => Ok(None),
-                Some(false) => Ok(Some(Part::Nothing)),
-                Some(true) => Ok(Some(Part::Unquoted)),
-            },
-        }
+        let Some((part, stop)) = part_in_front(self.form, self.rest, text)? else {
+            return Ok(None);
+        };
+        self.count -= 1;
+        self.rest = stop.rest;
+        Ok(Some(part))
     }
 
     /// The next part, in a text of its own. If memory runs out, the parts stay as they were. From the array `{a,NULL}`

@@ -1,6 +1,5 @@
 pub mod Text
 pub mod Fronts
-pub mod NetworkBytes
 pub mod Numbers
 pub mod Outcomes
 pub mod ValueFronts

@@ -1,7 +1,8 @@
 -- Steps one after another, the numbers that they read, and what is left after them.
-use Rattle.std.proofs.Common.{◌≡◌, ℕ, zero, suc, ◌<◌, ◌^◌, arith, Bool, true, false, nat_lt, List, [], ◌∷◌, ◌++◌, length, get_or, take, Option, Some, None, refl, sym, ◌∙◌, ap, subst}
+use Rattle.std.proofs.Common.{◌≡◌, ℕ, zero, suc, ◌-◌, ◌<◌, ◌≤◌, ◌^◌, arith, Bool, true, false, nat_lt, List, [], ◌∷◌, ◌++◌, length, get_or, take, drop, Option, Some, None, refl, sym, ◌∙◌, ap, subst}
 use Rattle.std.specs.Prelude.{if◌then◌else◌}
 use Rattle.std.specs.Int.{w32, w64, to_be_bytes, from_be_bytes, cast_signed}
+use Rattle.std.proofs.Math.Seq.{take-length}
 use Rattle.std.proofs.lemmas.Bool.{le-ltb}
 use Rattle.std.proofs.lemmas.List.{take_at, drop_at, length-append, take-take}
 use Rattle.std.proofs.lemmas.Nat.{be_bytes_4, from_be_bytes-to_be_bytes_4}
@@ -89,3 +90,17 @@ front_of_four bytes = ap (λ (xs : List ℕ). cast_signed w32 (from_be_bytes w32
 
 pub front_of_eight : (bytes : List ℕ) → eight_bytes (take 8 bytes) ≡ eight_bytes bytes
 front_of_eight bytes = ap (λ (xs : List ℕ). cast_signed w64 (from_be_bytes w64 xs)) (take-take 8 8 bytes (omega arith))
+
+-- ---- the bytes of a network are four and the octets
+
+all_octets : (a b c d : ℕ) (octets : List ℕ) → take (length (a ∷ b ∷ c ∷ d ∷ octets) - 4) octets ≡ octets
+all_octets a b c d octets =
+    let e : length (a ∷ b ∷ c ∷ d ∷ octets) - 4 ≡ length octets = omega arith in
+    ap (λ n. take n octets) e ∙ take-length octets
+
+pub four_and_octets : (bytes : List ℕ) → 4 ≤ length bytes → get_or bytes 0 0 ∷ get_or bytes 1 0 ∷ get_or bytes 2 0 ∷ get_or bytes 3 0 ∷ take (length bytes - 4) (drop 4 bytes) ≡ bytes
+four_and_octets [] h = absurd (omega arith)
+four_and_octets (a ∷ []) h = absurd (omega arith)
+four_and_octets (a ∷ b ∷ []) h = absurd (omega arith)
+four_and_octets (a ∷ b ∷ c ∷ []) h = absurd (omega arith)
+four_and_octets (a ∷ b ∷ c ∷ d ∷ octets) h = ap (λ rest. a ∷ b ∷ c ∷ d ∷ rest) (all_octets a b c d octets)

@@ -98,3 +98,8 @@ module _ {M : Type 0} (o : Outcome M) where
   another e other free (inl h) is = subst IsOther h other (ap Some is)
   another e other free (inr (inl h)) is = h.1 is
   another e other free (inr (inr h)) is = false≢true (sym free ∙ h.1)
+
+-- what is nothing that is there is not there
+pub none_there : {A E : Type 0} (o : Option A) (e : E) → ((x : A) × (o ≡ Some x) → false ≡ true) → ok_or o e ≡ Err e
+none_there None e h = refl
+none_there (Some x) e h = absurd (false≢true (h (x, refl)))

@@ -44,6 +44,7 @@ pub fn part_in_front(bytes: &[u8]) -> Result<(Option<&[u8]>, &[u8]), CodecError>
 
 /// The part of the frame in front and the rest, if it has this length, and else `None`: of `0000000161ff` and 1 it is
 /// `61`, and the rest is `ff`. A value whose length is known, as a number's, is found by one comparison so.
+#[tactic(auto, using(crate::proofs::Fronts::front_of_size))]
 #[inline(always)]
 pub fn part_of_length(bytes: &[u8], size: usize) -> Option<(&[u8], &[u8])>
     requires short { size ≤ 16 }

@@ -11,6 +11,7 @@ use crate::value::{PgValueFormat, PgValueRef};
 use uuid::Uuid;
 
 /// The identifier of a text. Another text is refused with [`Syntax`](CodecError::Syntax) (C29).
+#[tactic(auto, using(crate::proofs::Outcomes::none_there))]
 fn uuid_of(text: &str) -> Result<Uuid, CodecError>
     ensures { GivesExactly (λ id. id) (ok_or (parsed text.now) Syntax) result }
 {

@@ -1,5 +1,5 @@
 use Rattle.std.specs.Str.{chars}
-use Rattle.pgv_text.proofs.NestLists.{record_is}
+use Rattle.pgv_text.proofs.Nests.{record_is}
 use Rattle.pgv_text.proofs.laws.record_is_its_values.Goals as goal
 
 pub returns : goal.returns

@@ -4,7 +4,7 @@ use Rattle.pgv_text.specs.Copies.{as_it_is, in_quotes}
 use Rattle.pgv_text.specs.declared.scanner.Cell.TheVariants.{End, Part, Pass}
 use Rattle.pgv_text.specs.declared.scanner.Place.TheVariants.{Start, Quoted}
 use Rattle.pgv_text.proofs.Copies.{run_ends, run_goes_on, run_quoted, run_unended}
-use Rattle.pgv_text.proofs.UsualRuns.{copies_ended, none_in, passed, run_from, stop_shorter}
+use Rattle.pgv_text.proofs.Stops.{copies_ended, none_in, passed, run_from, stop_shorter}
 use Rattle.pgv_text.proofs.parts.one_run.Goals.{in_default-via-in-Pass-Quoted+else-is_empty, in_default-via-in-Pass+in_default, in_default-via-in_default}
 use Rattle.pgv_text.proofs.parts.one_run.Goals as goal
 

@@ -3,7 +3,7 @@ use Rattle.pgv_text.specs.Forms.{form_of}
 use Rattle.pgv_text.specs.declared.scanner.Cell.TheVariants.{End, Part, Pass}
 use Rattle.pgv_text.specs.declared.scanner.Place.TheVariants.{AfterQuote, Quoted}
 use Rattle.pgv_text.proofs.Copies.{ends_at_once, ends_later, never_ends, quotes_close, quotes_escape, quotes_unended}
-use Rattle.pgv_text.proofs.UsualRuns.{copies_ended, none_in, run_alone, stop_shorter}
+use Rattle.pgv_text.proofs.Stops.{copies_ended, none_in, run_alone, stop_shorter}
 use Rattle.pgv_text.proofs.parts.run_in_quotes.Goals.{in_default-via-in-Pass+in_default, in_default-via-in_default, in_default-cell-via-in-Part+else-is_empty, in_default-cell-via-in_default-cell}
 use Rattle.pgv_text.proofs.parts.run_in_quotes.Goals as goal
 

@@ -1,8 +1,7 @@
 use Rattle.std.proofs.Common.{◌≡◌, ◌++◌, ◌∙◌, string_bytes, ap, append-nil, arith, rules, sym}
 use Rattle.pgv_text.specs.Forms.{form_of}
 use Rattle.pgv_text.specs.Scan.{grown, read, read_by}
-use Rattle.pgv_text.proofs.UsualRuns.{none_in, stop_shorter}
-use Rattle.pgv_text.proofs.Stops.{grown_twice}
+use Rattle.pgv_text.proofs.Stops.{none_in, stop_shorter, grown_twice}
 use Rattle.pgv_text.proofs.parts.unquote.Goals.{then-not-is_empty+in_ok-push_str, else-not-is_empty}
 use Rattle.pgv_text.proofs.parts.unquote.Goals as goal
 

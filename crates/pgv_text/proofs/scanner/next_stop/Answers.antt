@@ -4,8 +4,7 @@ use Rattle.std.specs.List.{slice_index}
 use Rattle.std.proofs.lemmas.List.{length-drop, take_all}
 use Rattle.std.proofs.lemmas.Str.{IsCharBoundary-after_ascii}
 use Rattle.pgv_text.specs.declared.scanner.Place.TheVariants.{Outside, Quoted}
-use Rattle.pgv_text.proofs.UsualRuns.{usual_run}
-use Rattle.pgv_text.proofs.Stops.{stop_is_ascii}
+use Rattle.pgv_text.proofs.Stops.{usual_run, stop_is_ascii}
 use Rattle.pgv_text.proofs.Copies.{copies_there, found_stop, usual_stop}
 use Rattle.pgv_text.specs.Forms.{form_of}
 use Rattle.pgv_text.proofs.scanner.next_stop.Goals as goal

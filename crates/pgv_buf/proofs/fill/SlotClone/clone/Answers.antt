@@ -1,5 +1,5 @@
 use Rattle.std.specs.List.{each_same}
-use Rattle.pgv_buf.proofs.TokenClones.{cases_same, same_case, same_kept}
+use Rattle.pgv_buf.proofs.CellSteps.{cases_same, same_case, same_kept}
 use Rattle.pgv_buf.proofs.fill.SlotClone.clone.Goals as goal
 
 pub returns : goal.returns

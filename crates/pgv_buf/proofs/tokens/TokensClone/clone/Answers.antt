@@ -1,7 +1,6 @@
 use Rattle.std.specs.List.{each_same}
 use Rattle.pgv_buf.proofs.Layouts.{held, valid, tokens_are, same_layout}
-use Rattle.pgv_buf.proofs.CellSteps.{same_as}
-use Rattle.pgv_buf.proofs.TokenClones.{slots_same}
+use Rattle.pgv_buf.proofs.CellSteps.{same_as, slots_same}
 use Rattle.pgv_buf.proofs.tokens.TokensClone.clone.Goals as goal
 
 pub invariant_of-result : goal.invariant_of-result

@@ -2,7 +2,7 @@ use Rattle.std.proofs.Common.{get_or, subst}
 use Rattle.pgv_text.specs.NetworkText.{network_of}
 use Rattle.pgv_value.specs.NetworkBinary.{network_in_binary}
 use Rattle.pgv_value.specs.Parsed.{GivesExactly}
-use Rattle.pgv_value.proofs.NetworkBytes.{four_and_octets}
+use Rattle.pgv_value.proofs.Numbers.{four_and_octets}
 use Rattle.pgv_value.proofs.read.network.network_of_bytes.Goals as goal
 
 pub returns-in-len4-up : goal.returns-in-len4-up
