@@ -1,5 +1,5 @@
 -- Where the modifiers of a variant begin.
-use Rattle.std.proofs.Common.{◌≡◌, ℕ, ◌<◌, true, List, get_or, arith, Bool, take, drop, refl, false, length, Option, Some, None, ap}
+use Rattle.std.proofs.Common.{◌≡◌, ℕ, ◌<◌, true, List, get_or, arith, Bool, take, drop, refl, false, length, Some, None}
 use Rattle.std.specs.Prelude.{not, Ok, cond, nat_lt}
 use Rattle.std.specs.Str.{IsCharBoundary}
 use Rattle.std.proofs.lemmas.Bool.Decides.{nat_tests}
