@@ -6,7 +6,5 @@ pub mod FrameLoop
 pub mod PartLoop
 pub mod PlainFits
 pub mod StepOutcomes
-pub mod Domains
-pub mod CompositeFields
-mod ArrayGrammars
-pub mod FewElements
+pub mod FieldTypes
+pub mod ArrayGrammars

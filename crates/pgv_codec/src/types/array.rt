@@ -74,6 +74,7 @@ pub fn type_of_value<T: Encode + Type>(value: &T) -> Result<PgTypeInfo, AllocErr
 
 /// What comes before the elements, where the OID of their type is known.
 #[inline(always)]
+#[tactic(auto, using(crate::proofs::Fours::head_is))]
 fn known_header(oid: u32, count: u32) -> [u8; 20]
     ensures bytes { result ≡ be4 1 ++ (be4 0 ++ (be4 oid ++ (be4 count ++ be4 1))) }
     ensures number { oid < 4294967296 }
