@@ -1,4 +1,3 @@
-pub mod Fours
 pub mod OneFrame
 pub mod Lists
 pub mod Records
