@@ -1,4 +1,3 @@
-pub mod Fours
 pub mod OneFrame
 pub mod Lists
 pub mod Records
@@ -6,7 +5,5 @@ pub mod FrameLoop
 pub mod PartLoop
 pub mod PlainFits
 pub mod StepOutcomes
-pub mod Domains
-pub mod CompositeFields
-mod ArrayGrammars
-pub mod FewElements
+pub mod FieldTypes
+pub mod ArrayGrammars

@@ -1,5 +1,5 @@
 -- The frames of a list.
-use Rattle.std.proofs.Common.{◌≡◌, ℕ, ◌+◌, ◌*◌, zero, suc, ◌<◌, ◌≤◌, Bool, true, false, nat_lt, Result, Ok, Err, OnOk, List, [], ◌∷◌, ◌++◌, length, map, Option, Some, None, get_or, take, drop, refl, sym, subst, ◌∙◌, ap, append_assoc, append-nil, add-one, arith, drop-cons, inl, inr}
+use Rattle.std.proofs.Common.{◌≡◌, ℕ, ◌+◌, ◌*◌, zero, suc, ◌<◌, ◌≤◌, Bool, true, false, nat_lt, Result, Ok, Err, OnOk, List, [], ◌∷◌, ◌++◌, length, map, Option, Some, None, get_or, take, drop, refl, sym, subst, ◌∙◌, ap, append_assoc, append-nil, add-one, arith, drop-cons, inl, inr, drop-drop}
 use Rattle.std.proofs.lemmas.Bool.{le-ltb, lt-ltb}
 use Rattle.std.proofs.lemmas.List.{drop_all, length-append, length-drop, length-map, length-take}
 use Rattle.std.proofs.Math.Seq.{take-add, take-append_seam, take-suc}
@@ -14,6 +14,8 @@ use Rattle.pgv_codec.proofs.OneFrame.{plain_frame}
 use Rattle.pgv_codec.specs.Encoding.{Encoding, Image, image_of, plainly, writes, frame, frames, typed, header, array_image, element_type, field, value_type}
 use Rattle.pgv_codec.specs.Appending.{Appended, Appends}
 use Rattle.pgv_codec.specs.AtOnce.{AreFrames, WritesFirst, word_frame}
+use Rattle.std.specs.Prelude.{◌≡◌, ℕ, List, [], ◌∷◌, refl, length}
+use Rattle.std.specs.List.{slice_index_or}
 
 -- tokens after tokens
 pub both : (was mid now : List Cell) (a b : List Token) → mid ≡ was ++ blank a → now ≡ mid ++ blank b → now ≡ was ++ blank (a ++ b)
@@ -202,3 +204,31 @@ word_is image word is long = rw is (plain_frame word (omega (arith, long)) ∙ a
 pub field_there : (info : Ty) (e : Encoding) (oid part : List Token) → (typed (value_type info e)).answer ≡ Ok oid → (frame e).answer ≡ Ok part → (field info e).answer ≡ Ok (oid ++ part)
 unfolding field
 field_there info e oid part a b = rw (a, b) refl
+
+-- ---- four bytes, taken apart
+
+abbrev quad : List ℕ → List ℕ
+quad xs = slice_index_or xs 0 0 ∷ slice_index_or xs 1 0 ∷ slice_index_or xs 2 0 ∷ slice_index_or xs 3 0 ∷ []
+
+pub four : (xs : List ℕ) → length xs ≡ 4 → xs ≡ quad xs
+four (a ∷ b ∷ c ∷ d ∷ []) long = refl
+four [] long = absurd (omega arith)
+four (a ∷ []) long = absurd (omega arith)
+four (a ∷ b ∷ []) long = absurd (omega arith)
+four (a ∷ b ∷ c ∷ []) long = absurd (omega arith)
+four (a ∷ b ∷ c ∷ d ∷ e ∷ xs) long = absurd (omega arith)
+
+-- the head of an array, with the OID of the elements' type and their number
+abbrev head_of : List ℕ → List ℕ → List ℕ
+head_of oid count = be4 1 ++ (be4 0 ++ (oid ++ (count ++ be4 1)))
+
+pub head_is : (oid count xs ys : List ℕ) → length xs ≡ 4 → length ys ≡ 4 → xs ≡ oid → ys ≡ count → head_of (quad xs) (quad ys) ≡ head_of oid count
+head_is oid count xs ys long long_too e f =
+    ap (λ (zs : List ℕ). head_of zs (quad ys)) (sym (four xs long) ∙ e) ∙ ap (λ (zs : List ℕ). head_of oid zs) (sym (four ys long_too) ∙ f)
+
+-- an array of n zeros more than a front of n, with another list of n in place of the zeros
+pub joined : (n : ℕ) (front zeros back a b : List ℕ) → length front ≡ n → length zeros ≡ n → front ≡ a → back ≡ b → take n (front ++ zeros) ++ (back ++ drop n (drop n (front ++ zeros))) ≡ a ++ b
+joined n front zeros back a b long same is then =
+    let first : take n (front ++ zeros) ≡ front = subst (λ (m : ℕ). take m (front ++ zeros) ≡ front) long (take-append_seam front zeros) in
+    let none : drop n (drop n (front ++ zeros)) ≡ [] = drop-drop n n (front ++ zeros) ∙ drop_all (n + n) (front ++ zeros) (omega (arith, length-append front zeros, long, same)) in
+    rw (first, none) (ap (λ (xs : List ℕ). front ++ xs) (append-nil back) ∙ (ap (λ (xs : List ℕ). xs ++ back) is ∙ ap (λ (xs : List ℕ). a ++ xs) then))

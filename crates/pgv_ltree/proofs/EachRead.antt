@@ -1,11 +1,17 @@
 -- Texts that are read one after another.
-use Rattle.std.proofs.Common.{◌≡◌, ◌⊎◌, inl, inr, ◌∙◌, ap, ℕ, zero, suc, ◌<◌, List, [], ◌∷◌, ◌++◌, length, get_or, take, drop, sym, refl, arith}
-use Rattle.std.specs.Prelude.{Bool, true, false, Result, Ok, Err}
-use Rattle.std.proofs.lemmas.Bool.{false≢true}
+use Rattle.std.proofs.Common.{◌≡◌, ◌⊎◌, inl, inr, ◌∙◌, ap, ℕ, zero, suc, ◌<◌, List, [], ◌∷◌, ◌++◌, length, get_or, take, drop, sym, refl, arith, ◌≢◌, Bool, true}
+use Rattle.std.specs.Prelude.{Bool, true, false, Result, Ok, Err, ◌==◌}
+use Rattle.std.proofs.lemmas.Bool.{false≢true, and_from}
 use Rattle.pgv_value.specs.declared.tree_error.PgLTreeParseError.{PgLTreeParseError}
-use Rattle.pgv_value.specs.declared.tree_error.PgLTreeParseError.TheVariants.{InvalidLtreeLabel}
+use Rattle.pgv_value.specs.declared.tree_error.PgLTreeParseError.TheVariants.{InvalidLtreeLabel, Memory}
 use Rattle.pgv_ltree.specs.Labels.{is_label, label_read}
 use Rattle.pgv_ltree.specs.TextsInTurn.{and_others, first_is, read_each}
+use Rattle.std.specs.List.{AllZip, list_all, slice_split}
+use Rattle.std.proofs.lemmas.List.Splits.{length-slice_split}
+use Rattle.pgv_value.specs.Outcome.{Fails}
+use Rattle.pgv_value.specs.TreeErrors.{tree_refused}
+use Rattle.pgv_ltree.specs.Trees.{begins_with_label, parts, tree_read}
+use Rattle.pgv_ltree.specs.TreesCodec.{tree_in_text}
 
 -- what is read first of texts that are read
 pub record First {M E : Type 0} (r : Result M E) (others : Result (List M) E) (ms : List M) : Type 0 where
@@ -115,3 +121,44 @@ labels_fault (text ∷ texts) e r = by (label_read text) (read_each label_read t
     by (Err d) others f g h = let d_is : d ≡ e = cc in f (ap (λ (c : PgLTreeParseError). let s : Result (List ℕ) PgLTreeParseError = Err c in s) d_is)
     by (Ok m) (Err d) f g h = let d_is : d ≡ e = cc in g (ap (λ (c : PgLTreeParseError). let s : Result (List (List ℕ)) PgLTreeParseError = Err c in s) d_is)
     by (Ok m) (Ok ms) f g h = absurd (cc)
+
+-- ---- texts and what is read from them, one by one
+
+pub each_is : {M E : Type 0} (read : List ℕ → Result M E) (P : List ℕ → M → Type 0) → ((text : List ℕ) (m : M) → read text ≡ Ok m → P text m) → (texts : List (List ℕ)) (ms : List M) → read_each read texts ≡ Ok ms → AllZip P texts ms
+each_is read P h [] [] e = tt
+each_is read P h [] (m ∷ ms) e = absurd cc
+each_is read P h (text ∷ texts) [] e = let f = first_of (read text) (read_each read texts) [] e in let w = f.whole in absurd cc
+each_is read P h (text ∷ texts) (m ∷ ms) e =
+    let f = first_of (read text) (read_each read texts) (m ∷ ms) e in
+    let w = f.whole in
+    let a : f.value ≡ m = cc in
+    let b : f.more ≡ ms = cc in
+    (h text m (f.is ∙ rw a refl), each_is read P h texts ms (f.are ∙ rw b refl))
+
+pub each_reads : {M E : Type 0} (read : List ℕ → Result M E) (P : List ℕ → M → Type 0) → ((text : List ℕ) (m : M) → P text m → read text ≡ Ok m) → (texts : List (List ℕ)) (ms : List M) → AllZip P texts ms → read_each read texts ≡ Ok ms
+each_reads read P h [] [] z = refl
+each_reads read P h [] (m ∷ ms) z = absurd z
+each_reads read P h (text ∷ texts) [] z = absurd z
+each_reads read P h (text ∷ texts) (m ∷ ms) z = rw (h text m z.0, each_reads read P h texts ms z.1) refl
+
+pub each_text : {M : Type 0} (P : List ℕ → M → Type 0) (test : List ℕ → Bool) → ((text : List ℕ) (m : M) → P text m → test text ≡ true) → (texts : List (List ℕ)) (ms : List M) → AllZip P texts ms → list_all test texts ≡ true
+each_text P test h [] [] z = refl
+each_text P test h [] (m ∷ ms) z = absurd z
+each_text P test h (text ∷ texts) [] z = absurd z
+each_text P test h (text ∷ texts) (m ∷ ms) z = and_from (test text) (list_all test texts) (h text m z.0) (each_text P test h texts ms z.1)
+
+pub each_value : {M : Type 0} (P : List ℕ → M → Type 0) (test : M → Bool) → ((text : List ℕ) (m : M) → P text m → test m ≡ true) → (texts : List (List ℕ)) (ms : List M) → AllZip P texts ms → list_all test ms ≡ true
+each_value P test h [] [] z = refl
+each_value P test h [] (m ∷ ms) z = absurd z
+each_value P test h (text ∷ texts) [] z = absurd z
+each_value P test h (text ∷ texts) (m ∷ ms) z = and_from (test m) (list_all test ms) (h text m z.0) (each_value P test h texts ms z.1)
+
+pub no_nil : (d : ℕ) (text : List ℕ) → slice_split (λ c. c == d) text ≢ []
+no_nil d text e =
+    let l : length (slice_split (λ c. c == d) text) ≡ 0 = ap length e in
+    omega (arith, length-slice_split (λ c. c == d) text)
+
+-- a tree that isn't read
+pub tree_fails : (text : List ℕ) (e : PgLTreeParseError) → (tree_read text ≡ Err e) ⊎ ((e ≡ Memory) × (begins_with_label text ≡ true)) → Fails (tree_refused e) (tree_in_text text)
+tree_fails text e (inl r) = inl (rw (labels_fault (parts text) e r, r) refl)
+tree_fails text e (inr m) = inr (inr (ap tree_refused m.0, rw m.1 refl))

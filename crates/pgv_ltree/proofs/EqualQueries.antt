@@ -1,7 +1,9 @@
--- Queries are equal where their levels are.
-use Rattle.std.proofs.Common.{◌≡◌, ℕ, Bool, true, false, List, Option, Some, None, refl, ap}
+-- Levels and queries that are seen as the same, and that are equal.
+use Rattle.std.proofs.Common.{◌≡◌, ◌∙◌, ap, List, [], ◌∷◌, map, refl, ℕ, Bool, true, false, Option, Some, None, length, subst, arith}
+use Rattle.std.specs.Prelude.{Option, ◌&&◌, nat_eq}
+use Rattle.std.specs.Iterator.{AlwaysYields}
+use Rattle.std.specs.List.{AllZip}
 use Rattle.std.proofs.lemmas.Option.{same_Some}
-use Rattle.std.specs.Prelude.{◌&&◌, nat_eq}
 use Rattle.std.specs.Bool.{beq}
 use Rattle.std.specs.Cmp.Lexicographic.{bytes_decides, pointwise, pointwise_decides}
 use Rattle.std.specs.Option.{option_eq}
@@ -9,6 +11,27 @@ use Rattle.std.proofs.lemmas.Bool.{eqb-true, eq-eqb, and_parts}
 use Rattle.pgv_ltree.specs.SameLabels.{same_label}
 use Rattle.pgv_ltree.specs.Queries.{Variant, Level, star, one_of, none_of}
 use Rattle.pgv_ltree.specs.SameQueries.{same_variant, same_level, least, most, variants}
+use Rattle.std.specs.Vec.Iter.{into_iter_items, into_iter_len, into_iter_steps}
+use Rattle.std.proofs.lemmas.Iterator.Adapters.{YieldsList-from_vec}
+use Rattle.std.proofs.lemmas.List.{length-map}
+use Rattle.pgv_ltree.specs.LevelView.{level_of}
+use Rattle.pgv_ltree.specs.declared.level.PgLQueryLevel.{PgLQueryLevel}
+use Rattle.std.specs.Cmp.Derive.Mapped.{pointwise-map}
+
+-- ---- clones of levels, and levels that an iterator gives, are seen as what they mean
+
+pub same_each : {A B : Type 0} (f : A → B) (xs ys : List A) → AllZip (λ x y. f y ≡ f x) xs ys → map f ys ≡ map f xs
+same_each f [] [] e = refl
+same_each f [] (y ∷ ys) e = absurd e
+same_each f (x ∷ xs) [] e = absurd e
+same_each f (x ∷ xs) (y ∷ ys) e = ap (λ z. z ∷ map f ys) e.0 ∙ ap (λ zs. f x ∷ zs) (same_each f xs ys e.1)
+
+-- what an iterator gives, seen as something else
+pub yields_seen : {S A B : Type 0} (steps : S → Option A → S → Type 0) (see : A → B) (s : S) (xs : List A) → AlwaysYields steps (λ x. x) s xs → AlwaysYields steps see s (map see xs)
+yields_seen steps see s [] h = h
+yields_seen steps see s (x ∷ xs) h = (h.0, λ y j step. let n = h.1 y j step in (ap see n.0, yields_seen steps see j xs n.1))
+
+-- ---- queries are equal where their levels are
 
 same_bool : (a b : Bool) → beq a b ≡ true → a ≡ b
 same_bool true true e = refl
@@ -62,3 +85,14 @@ level_decides (none_of vs) (none_of ws) = (λ e. ap none_of ((pointwise_decides 
 
 pub queries_decide : (a b : List Level) → (pointwise same_level a b ≡ true → a ≡ b) × (a ≡ b → pointwise same_level a b ≡ true)
 queries_decide = pointwise_decides level_decides
+
+-- the levels that the iterator of a query gives
+pub levels_given : {Z : Type 0} (query : List Level) (levels : _) → (map level_of (into_iter_items levels) ≡ query) × (into_iter_len levels ≡ length query) → AlwaysYields (into_iter_steps {X = PgLQueryLevel} {Z = Z}) level_of levels query
+levels_given query levels gives =
+    let items = into_iter_items levels in
+    let count : into_iter_len levels ≡ length items = omega (arith, gives.1, ap length gives.0, length-map items level_of) in
+    subst (λ q. AlwaysYields into_iter_steps level_of levels q) gives.0 (yields_seen into_iter_steps level_of levels items (YieldsList-from_vec items refl count).runs)
+
+-- levels are the same where what they mean is
+pub same_levels : (xs ys : List PgLQueryLevel) → pointwise same_level (map level_of xs) (map level_of ys) ≡ pointwise (λ x y. same_level (level_of x) (level_of y)) xs ys
+same_levels xs ys = pointwise-map level_of same_level xs ys

@@ -1,5 +1,5 @@
 -- The laws of queries.
-use Rattle.std.proofs.Common.{◌≡◌, ◌≢◌, ◌∙◌, inl, inr, ap, sym, subst, refl, ℕ, Bool, true, false, List, [], ◌∷◌, ◌++◌, Some, None, map}
+use Rattle.std.proofs.Common.{◌≡◌, ◌≢◌, ◌∙◌, inl, inr, ap, sym, subst, refl, ℕ, Bool, true, false, List, [], ◌∷◌, ◌++◌, Some, None, map, ◌+◌, ◌<◌, length, get_or, take}
 use Rattle.std.specs.Prelude.{Option, ◌==◌, ◌&&◌, ◌||◌, not, Result, Ok}
 use Rattle.std.specs.List.{AllZip, join_with_byte, list_all, slice_split}
 use Rattle.std.proofs.lemmas.Bool.{false≢true, lt-ltb, and_from, and_parts}
@@ -8,13 +8,17 @@ use Rattle.pgv_value.specs.declared.tree_error.PgLQueryParseError.{PgLQueryParse
 use Rattle.pgv_ltree.specs.Joins.{lacks}
 use Rattle.pgv_ltree.specs.QueryLaws.{OneQuery, PrintedQueryIsRead, QueryIsRead, ReadQueryIsReadAgain, begins_with_no_star}
 use Rattle.pgv_ltree.specs.LevelAgain.{BeginsPlainly, EachNeeds, NeedsFirst, query_again, query_there}
-use Rattle.pgv_ltree.specs.Queries.{Variant, Level, star, one_of, none_of, is_count, is_level, is_variant}
+use Rattle.pgv_ltree.specs.Queries.{Variant, Level, star, one_of, none_of, is_count, is_level, is_variant, is_query}
 use Rattle.pgv_ltree.specs.QueryBack.{begins_plainly, printed_again}
 use Rattle.pgv_ltree.specs.QueryPrinted.{printed_marks, printed_query, printed_variant}
 use Rattle.pgv_ltree.specs.QueryRead.{is_nil, level_read, query_read}
 use Rattle.pgv_ltree.specs.QueryText.{IsBoundText, IsLevelText, IsQueryText, IsVariantText, has_mark, is_mark}
-use Rattle.pgv_ltree.proofs.EachText.{each_is, each_reads, each_text, each_value, no_nil}
+use Rattle.pgv_ltree.proofs.EachRead.{each_is, each_reads, each_text, each_value, no_nil}
 use Rattle.pgv_ltree.proofs.LawsOfLevels.{level_lacks, level_reads, level_text}
+use Rattle.std.proofs.lemmas.List.{map_push, take_more}
+use Rattle.std.proofs.lemmas.List.Folds.{list_all-append}
+use Rattle.pgv_ltree.specs.LevelView.{level_of}
+use Rattle.pgv_ltree.specs.declared.level.PgLQueryLevel.{PgLQueryLevel}
 
 query_text : (text : List ℕ) (levels : List Level) → query_read text ≡ Ok levels → IsQueryText text levels
 query_text text levels e =
@@ -137,3 +141,13 @@ unfolding ReadQueryIsReadAgain
 read_query_is_read_again text levels e bare =
     let t = query_text text levels e in
     again t.texts levels t.some t.each bare
+
+and_true : (b : Bool) → (b && true) ≡ b
+and_true true = refl
+and_true false = refl
+
+-- one more level of a slice
+pub levels_more : (levels : List PgLQueryLevel) (i : ℕ) (d : PgLQueryLevel) → i < length levels → is_query (map level_of (take (i + 1) levels)) ≡ (is_query (map level_of (take i levels)) && is_level (level_of (get_or levels i d)))
+levels_more levels i d l =
+    ap (λ ls. is_query (map level_of ls)) (take_more levels i d l) ∙ ap is_query (map_push level_of (take i levels) (get_or levels i d))
+    ∙ list_all-append is_level (map level_of (take i levels)) _ ∙ ap (λ b. is_query (map level_of (take i levels)) && b) (and_true (is_level (level_of (get_or levels i d))))

@@ -1,6 +1,6 @@
 -- The laws of trees of labels.
 use Rattle.std.proofs.Common.{◌≡◌, ◌≢◌, ◌∙◌, ap, sym, refl, ℕ, Bool, true, false, cond, List, [], ◌∷◌, length, arith}
-use Rattle.std.specs.Prelude.{◌==◌, Result, Ok, Err}
+use Rattle.std.specs.Prelude.{◌==◌, Result, Ok, Err, ◌↔◌}
 use Rattle.std.specs.List.{join_with_byte, list_all}
 use Rattle.std.proofs.lemmas.List.Splits.{join_with_byte-slice_split, length-slice_split}
 use Rattle.std.proofs.lemmas.Bool.{and_from}
@@ -12,6 +12,11 @@ use Rattle.pgv_ltree.specs.TreeLaws.{OneTree, PrintedTreeIsRead, TreeIsRead}
 use Rattle.pgv_ltree.specs.PrintedAgain.{tree_again}
 use Rattle.pgv_ltree.specs.Trees.{IsTreeText, parts, printed_tree, tree_read}
 use Rattle.pgv_ltree.proofs.EachRead.{first_of}
+use Rattle.std.specs.Cmp.Lexicographic.{bytes_decides, pointwise_decides}
+use Rattle.std.specs.Iterator.{AlwaysYields}
+use Rattle.std.specs.Vec.Iter.{into_iter_items, into_iter_len, into_iter_steps}
+use Rattle.std.proofs.lemmas.Iterator.Adapters.{YieldsList-from_vec}
+use Rattle.pgv_ltree.specs.SameLabels.{same_tree}
 
 pub label_is : (b : Bool) (text label : List ℕ) → (let r : Result (List ℕ) PgLTreeParseError = cond b (Ok text) (Err InvalidLtreeLabel) in r) ≡ Ok label → (b ≡ true) × (label ≡ text)
 label_is true text label e = (refl, cc)
@@ -61,3 +66,11 @@ one_tree text first second a b =
 pub printed_tree_is_read : PrintedTreeIsRead
 unfolding PrintedTreeIsRead
 printed_tree_is_read labels e = (λ r. (is_text (printed_tree labels) labels r).some, λ n. again labels n e)
+
+-- trees are equal where their labels are
+pub equal_trees : (a b : List (List ℕ)) → (same_tree a b ≡ true) ↔ (a ≡ b)
+equal_trees = pointwise_decides bytes_decides
+
+-- the labels that the iterator of a tree gives
+pub labels_given : {Z : Type 0} (tree : List (List ℕ)) (labels : _) → (into_iter_items labels ≡ tree) × (into_iter_len labels ≡ length tree) → AlwaysYields (into_iter_steps {X = List ℕ} {Z = Z}) (λ label. label) labels tree
+labels_given tree labels gives = (YieldsList-from_vec tree gives.0 gives.1).runs

@@ -14,7 +14,7 @@ use Rattle.pgv_ltree.specs.LevelAgain.{variant_lacks, variant_there}
 use Rattle.pgv_ltree.specs.Queries.{Variant}
 use Rattle.pgv_ltree.specs.QueryRead.{label_length, marked, variant_read, variants_read}
 use Rattle.pgv_ltree.specs.QueryText.{AreVariantsText, IsVariantText, is_mark}
-use Rattle.pgv_ltree.proofs.EachText.{each_is, each_reads, each_text, no_nil}
+use Rattle.pgv_ltree.proofs.EachRead.{each_is, each_reads, each_text, no_nil}
 
 record Made (b c : Bool) (v w : Variant) : Type 0 where
   first : b ≡ true

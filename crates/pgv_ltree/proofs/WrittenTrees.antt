@@ -1,4 +1,4 @@
--- What is appended of a tree.
+-- What is appended of a tree and of a query.
 use Rattle.std.proofs.Common.{◌≡◌, ◌∙◌, ◌+◌, ◌<◌, ℕ, List, [], ◌∷◌, ◌++◌, length, get_or, take, ap, sym, refl, Bool, true, Ok}
 use Rattle.std.proofs.lemmas.List.{take_more}
 use Rattle.std.proofs.lemmas.List.Folds.{list_all-append}
@@ -10,6 +10,11 @@ use Rattle.pgv_codec.specs.PlainBytes.{appended_parts}
 use Rattle.pgv_ltree.specs.Labels.{is_label}
 use Rattle.pgv_ltree.specs.Trees.{printed_tree}
 use Rattle.pgv_ltree.specs.TreesCodec.{tree_image}
+use Rattle.pgv_ltree.specs.Queries.{Level, is_query}
+use Rattle.pgv_ltree.specs.QueryCodec.{query_image}
+use Rattle.pgv_ltree.specs.QueryPrinted.{printed_query}
+
+-- ---- what is appended of a tree
 
 -- one more label of a list
 more : {X : Type 0} (xs : List X) (i : ℕ) (x : X) → i < length xs → x ≡ get_or xs i x → take (i + 1) xs ≡ take i xs ++ x ∷ []
@@ -27,3 +32,13 @@ written_tree was between now tree labels same each first second =
     let test : list_all is_label tree ≡ true = ap (list_all is_label) (sym same) ∙ each in
     let all = appended_parts was between now (1 ∷ []) (printed_tree labels) first second in
     (bytes (1 ∷ printed_tree tree), rw test refl, all ∙ ap (λ ls. was ++ blank (bytes (1 ∷ printed_tree ls))) same)
+
+-- ---- what is appended of a query
+
+-- the version and all levels
+pub written_query : (was between now : List Cell) (query levels : List Level) → levels ≡ query → is_query levels ≡ true → between ≡ was ++ blank (byte 1 ∷ []) → now ≡ between ++ blank (bytes (printed_query levels)) →
+    (ts : List Token) × ((writes (query_image query)).answer ≡ Ok (image_of ts)) × (now ≡ was ++ blank ts)
+written_query was between now query levels same each first second =
+    let test : is_query query ≡ true = ap is_query (sym same) ∙ each in
+    let all = appended_parts was between now (1 ∷ []) (printed_query levels) first second in
+    (bytes (1 ∷ printed_query query), rw test refl, all ∙ ap (λ ls. was ++ blank (bytes (1 ∷ printed_query ls))) same)

@@ -47,6 +47,7 @@ pub fn printed_tree_is_read()
 {}
 
 /// Every label in a `PgLTree` at run time is a valid label.
+#[tactic(auto, using(std::proofs::lemmas::List::Folds::list_all_more))]
 pub fn labels_are_labels(tree: &crate::PgLTree)
     ensures { list_all is_label tree.now ≡ true }
 {
@@ -57,11 +58,13 @@ pub fn labels_are_labels(tree: &crate::PgLTree)
 }
 
 /// Two trees are equal iff they have the same labels in the same order.
+#[tactic(auto, using(crate::proofs::LawsOfTrees::equal_trees))]
 pub fn equal_trees()
     ensures { (a b : List (List ℕ)) → (⟦<crate::PgLTree as PartialEq>⟧.eq a b ≡ true) ↔ (a ≡ b) }
 {}
 
 /// The iterator of a tree gives its labels in order and then ends.
+#[tactic(auto, using(crate::proofs::LawsOfTrees::labels_given))]
 pub fn tree_gives_its_labels()
     ensures { (tree : List (List ℕ)) (labels : _)
         → ⟦<crate::PgLTree as IntoIterator>⟧.into_iter_gives tree labels

@@ -174,6 +174,7 @@ impl PartialEq for PgLQuery {
 
     ghost laws = { same_query_per };
 
+    #[tactic(auto, using(crate::proofs::EqualQueries::same_levels))]
     fn eq(&self, other: &PgLQuery) -> bool {
         self.levels == other.levels
     }
@@ -188,6 +189,7 @@ impl Eq for PgLQuery {
 impl Clone for PgLQuery {
     ghost is_clone = { λ query copy. copy ≡ query };
 
+    #[tactic(auto, using(crate::proofs::EqualQueries::same_each))]
     fn clone(&self) -> Result<PgLQuery, AllocError> {
         Ok(PgLQuery {
             levels: self.levels.clone()?,

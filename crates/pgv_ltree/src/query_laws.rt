@@ -91,6 +91,7 @@ pub fn equal_queries()
 {}
 
 /// Every level in a `PgLQuery` at run time is valid: its labels are valid labels, and its counts fit in 16 bits.
+#[tactic(auto, using(crate::proofs::LawsOfQueries::levels_more))]
 pub fn levels_are_levels(query: &crate::PgLQuery)
     ensures { is_query query.now ≡ true }
 {
@@ -120,6 +121,7 @@ fn counts_are_counts(low: Option<u16>, high: Option<u16>)
 }
 
 /// Every variant in a slice at run time is valid.
+#[tactic(auto, using(std::proofs::lemmas::List::Folds::list_all_more))]
 fn variants_are_variants(variants: &[crate::PgLQueryVariant])
     ensures { list_all is_variant variants.now ≡ true }
 {
@@ -129,6 +131,7 @@ fn variants_are_variants(variants: &[crate::PgLQueryVariant])
 }
 
 /// The iterator of a query gives its levels in order and then ends.
+#[tactic(auto, using(crate::proofs::EqualQueries::levels_given))]
 pub fn query_gives_its_levels()
     ensures { (query : List Level) (levels : _)
         → ⟦<crate::PgLQuery as IntoIterator>⟧.into_iter_gives query levels

@@ -79,6 +79,7 @@ fn first_mark(bytes: &[u8]) -> Option<usize>
 }
 
 /// How long the label is that modifiers come after.
+#[tactic(auto, using(crate::proofs::VariantMarks::or_length))]
 fn label_length(bytes: &[u8]) -> usize
     ensures { result ≡ label_length_of bytes.now }
 {
@@ -86,6 +87,7 @@ fn label_length(bytes: &[u8]) -> usize
 }
 
 /// The label and the modifiers of a text.
+#[tactic(auto, using(crate::proofs::VariantMarks::boundary))]
 fn split_marks(text: &str) -> (&str, &str)
     ensures { (result.0.now ≡ take (label_length_of text.now) text.now)
         × (result.1.now ≡ drop (label_length_of text.now) text.now) }

@@ -11,6 +11,10 @@ use Rattle.std.specs.declared.string.String.{String}
 use Rattle.std.proofs.lemmas.Bool.{and_parts}
 use Rattle.pgv_value.specs.FrameBinary.{Part}
 use Rattle.pgv_more.specs.Hstore.{Pair, pair_of}
+use Rattle.std.specs.List.{AllZip}
+use Rattle.std.specs.Iterator.{AlwaysYields}
+use Rattle.std.specs.Map.Iter.{TakesFirst}
+use Rattle.std.proofs.lemmas.Iterator.Consumers.{YieldsList-from_rest}
 
 -- the first pair, and the others, and something where there are none
 first_of : Pair → List Pair → Pair
@@ -50,3 +54,24 @@ equal_entries (e ∷ es) (f ∷ fs) = (
       λ i. same i ∷ more i,
   λ s. rw ((same_pair e f).1 (ap (first_of (pair_of e)) s), (equal_entries es fs).1 (ap others_of s)) refl,
 )
+
+-- ---- a map whose texts are clones has the same pairs
+
+pub same_pairs : {Z : Type 0} (R : String Z → String Z → Type 0) (S : Option (String Z) → Option (String Z) → Type 0) → ((a b : String Z) → R a b → string_bytes b ≡ string_bytes a) → ((a b : Option (String Z)) → S a b → option_map string_bytes b ≡ option_map string_bytes a) →
+    (es fs : List (String Z × Option (String Z))) → AllZip (λ p q. R p.0 q.0 × S p.1 q.1) es fs → map pair_of fs ≡ map pair_of es
+same_pairs R S keys values [] [] h = refl
+same_pairs R S keys values [] (f ∷ fs) h = absurd h
+same_pairs R S keys values (e ∷ es) [] h = absurd h
+same_pairs R S keys values (e ∷ es) (f ∷ fs) h = rw (keys e.0 f.0 h.0.0, values e.1 f.1 h.0.1, same_pairs R S keys values es fs h.1) refl
+
+-- a relation of values that holds of two nulls, or of two texts as of texts
+pub same_values : {Z : Type 0} (S : Option (String Z) → Option (String Z) → Type 0) → ((b : String Z) → ¬ (S None (Some b))) → ((a : String Z) → ¬ (S (Some a) None)) →
+    ((a b : String Z) → S (Some a) (Some b) → string_bytes b ≡ string_bytes a) → (a b : Option (String Z)) → S a b → option_map string_bytes b ≡ option_map string_bytes a
+same_values S gained lost texts None None h = refl
+same_values S gained lost texts None (Some b) h = absurd (gained b h)
+same_values S gained lost texts (Some a) None h = absurd (lost a h)
+same_values S gained lost texts (Some a) (Some b) h = ap (λ (bytes : List ℕ). Some bytes) (texts a b h)
+
+-- what an iterator gives that is seen as what it has left
+pub entries_given : {X : Type 0} (left entries : List X) → left ≡ entries → AlwaysYields (TakesFirst (λ pair. pair)) (λ pair. pair) left entries
+entries_given left entries e = (YieldsList-from_rest entries e).runs

@@ -1,5 +1,5 @@
 -- Bits as they are kept: bytes, and the number of bits.
-use Rattle.std.proofs.Common.{◌≡◌, ℕ, suc, zero, ◌+◌, ◌-◌, ◌*◌, ◌/◌, ◌%◌, ◌^◌, ◌<◌, ◌≤◌, Bool, false, List, [], ◌∷◌, ◌++◌, length, get_or, take, drop, refl, sym, ap, ◌∙◌, eqb, subst, arith}
+use Rattle.std.proofs.Common.{◌≡◌, ℕ, suc, zero, ◌+◌, ◌-◌, ◌*◌, ◌/◌, ◌%◌, ◌^◌, ◌<◌, ◌≤◌, Bool, false, List, [], ◌∷◌, ◌++◌, length, get_or, take, drop, refl, sym, ap, ◌∙◌, eqb, subst, arith, Ok, true}
 use Rattle.std.proofs.lemmas.List.{length-take-le, take_all, take_min, drop_min, take-append-drop, take_at, take_more, drop_more, get_or-take, get_or_read, length-append, length-drop, length_push, take-append-le, drop-append-le, drop_at, set_at, get_or_at, append-nil, take-map, drop-map, length-map}
 use Rattle.std.proofs.Math.Seq.{take-append-add}
 use Rattle.std.proofs.Math.ListN.{set}
@@ -13,10 +13,15 @@ use Rattle.pgv_more.specs.SameBits.{same_bits}
 use Rattle.std.specs.Int.{div_ceil, bit_at}
 use Rattle.std.proofs.lemmas.Nat.Bits.{shr_and_one}
 use Rattle.pgv_more.proofs.BitsOfByte.{bit_there}
-use Rattle.std.specs.Prelude.{map, min, Option, Some, slice_get, option_to_list, IsSome}
+use Rattle.std.specs.Prelude.{map, min, Option, Some, slice_get, option_to_list, IsSome, nat_lt, ◌↔◌}
 use Rattle.std.proofs.lemmas.Option.{slice_get-get_or}
 use Rattle.pgv_more.specs.Bits.{low_bits, bits_of, number_of, byte_count, bytes_of, packed}
 use Rattle.pgv_more.specs.Packing.{length-bits_of, length-bytes_of, packed_again, bytes_of-append, bytes_of-split, bytes_of-bits_of, number_of-take, AreByteNumbers, length-low_bits, bits_of-append}
+use Rattle.std.proofs.lemmas.Bool.{le-ltb}
+use Rattle.pgv_buf.specs.Tokens.{Token, Cell, bytes, be4, blank}
+use Rattle.pgv_codec.specs.Encoding.{image_of}
+use Rattle.pgv_codec.specs.PlainBytes.{appended_parts}
+use Rattle.pgv_more.specs.BitsBinary.{bits_image}
 
 pub kept_count : (bytes : List ℕ) (n : ℕ) → n ≤ 8 * length bytes → length (take n (bits_of bytes)) ≡ n
 kept_count bytes n l = length-take-le n (bits_of bytes) (omega (arith, length-bits_of bytes))
@@ -215,3 +220,17 @@ other_by_count m n ones others a b not =
       λ h. absurd (not ((unsigned_Decides m n).0 h)),
       λ h. absurd (not (sym a ∙ ap length h ∙ b)),
     )
+
+-- ---- what lists of bits are written as
+
+-- the number and the bytes, appended one after the other
+pub written_bits : (was between now : List Cell) (number body : List ℕ) (bits : List Bool) → length bits ≤ 2147483647 → number ≡ be4 (length bits) → body ≡ packed bits →
+    between ≡ was ++ blank (bytes number) → now ≡ between ++ blank (bytes body) → (ts : List Token) × ((bits_image bits).answer ≡ Ok (image_of ts)) × (now ≡ was ++ blank ts)
+written_bits was between now number body bits few n b first second =
+    let test : nat_lt 2147483647 (length bits) ≡ false = le-ltb 2147483647 (length bits) few in
+    (bytes (number ++ body), rw (test, n, b) refl, appended_parts was between now number body first second)
+
+-- ---- equal lists
+
+pub equal_bits : (a b : List Bool) → (same_bits a b ≡ true) ↔ (a ≡ b)
+equal_bits a b = slice_eq-Decides booleans_Decides a b (same_bits a b) refl

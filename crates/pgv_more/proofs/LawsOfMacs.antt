@@ -1,5 +1,6 @@
 -- The laws of MAC addresses.
-use Rattle.std.proofs.Common.{◌≡◌, ℕ, zero, suc, ◌+◌, ◌*◌, ◌<◌, ◌≤◌, eqb, ltb, Bool, true, false, List, [], ◌∷◌, length, drop, refl, sym, subst, ap, ◌∙◌, arith, Option, Some, None, ◌⊎◌, inl, inr}
+use Rattle.std.proofs.Common.{◌≡◌, ℕ, ◌≤◌, List, [], ◌∷◌, length, refl, arith, None, zero, suc, ◌+◌, ◌*◌, ◌<◌, eqb, ltb, Bool, true, false, drop, sym, subst, ap, ◌∙◌, Option, Some, ◌⊎◌, inl, inr}
+use Rattle.pgv_more.specs.MacAddressText.{at_end, IsHexDigit, IsPair, ArePairsAfter, IsSeparator, IsMacAddress, hex_value, pair_of, pair_value, with_rest, next_pair, before, pairs_after, is_separator, mac_value, MacAddressIsRead, OneMacAddress}
 use Rattle.std.specs.Prelude.{◌||◌}
 use Rattle.std.specs.Option.{option_map}
 use Rattle.std.specs.Char.{digit_value}
@@ -7,7 +8,14 @@ use Rattle.std.proofs.lemmas.Bool.{eqb-true, eq-eqb, ltb-true, lt-ltb, cases_lt}
 use Rattle.std.proofs.lemmas.Bool.Decides.{nat_tests}
 use Rattle.std.proofs.lemmas.Option.{same_Some}
 use Rattle.pgv_codec.specs.BackParts.{guarded}
-use Rattle.pgv_more.specs.MacAddressText.{IsHexDigit, IsPair, ArePairsAfter, IsSeparator, IsMacAddress, hex_value, pair_of, pair_value, with_rest, next_pair, before, at_end, pairs_after, is_separator, mac_value, MacAddressIsRead, OneMacAddress}
+
+-- ---- texts of MAC addresses
+
+pub not_at_end : (text : List ℕ) → 1 ≤ length text → at_end text ≡ None
+not_at_end [] l = absurd (omega arith)
+not_at_end (c ∷ text) l = refl
+
+-- ---- the laws of MAC addresses
 
 -- ---- digits
 

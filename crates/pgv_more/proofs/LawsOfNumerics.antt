@@ -1,8 +1,13 @@
--- The laws of numbers.
-use Rattle.std.proofs.Common.{◌≡◌, ℕ, zero, suc, ◌*◌, ◌<◌, ◌≤◌, ◌^◌, Bool, true, false, cond, List, [], ◌∷◌, ◌++◌, length, drop, Some, None, Ok, refl, sym, ap, ◌∙◌, subst, arith, append_assoc, ◌⊎◌, inl, inr}
-use Rattle.std.proofs.lemmas.Bool.{false≢true, le-ltb, eqb-true}
-use Rattle.std.proofs.lemmas.Bool.Decides.{nat_tests}
-use Rattle.std.specs.Prelude.{ℤ, nat_lt, ◌==◌, ok_or}
+-- The laws of numerics.
+use Rattle.std.proofs.Common.{◌≡◌, ◌↔◌, Bool, true, List, refl, ap, ℕ, zero, suc, ◌*◌, ◌<◌, ◌≤◌, ◌^◌, false, cond, [], ◌∷◌, ◌++◌, length, drop, Some, None, Ok, sym, ◌∙◌, subst, arith, append_assoc, ◌⊎◌, inl, inr}
+use Rattle.std.proofs.lemmas.Bool.Decides.{Decides-int_eq, nat_tests}
+use Rattle.std.proofs.lemmas.Slice.Eq.{slice_eq-Decides}
+use Rattle.std.specs.Prelude.{ℤ, ◌&&◌, nat_lt, ◌==◌, ok_or}
+use Rattle.std.specs.Cmp.Lexicographic.{pointwise}
+use Rattle.std.specs.Ordering.{int_eq}
+use Rattle.std.proofs.lemmas.Bool.{and_parts, false≢true, le-ltb, eqb-true}
+use Rattle.pgv_more.specs.Numeric.{Numeric, not_a_number, number, word, sign_word, number_form, no_number, digits, digits_after, sign_of, said_sign, signed_word, unsigned_word, signed_number, number_in_binary, numeric_in_binary}
+use Rattle.pgv_more.specs.declared.numeric.PgNumericSign.{PgNumericSign}
 use Rattle.std.specs.Int.{w16, to_be_bytes}
 use Rattle.std.specs.List.{flat_map, list_all}
 use Rattle.pgv_value.specs.FrameLaws.{AreBytes}
@@ -12,10 +17,42 @@ use Rattle.pgv_value.specs.declared.error.CodecError.TheVariants.{NumericSign, S
 use Rattle.pgv_value.proofs.Outcomes.{answer_is, found_or, taken, taken_exactly, tested}
 use Rattle.pgv_more.proofs.NumericWords.{by_eight, unsigned_two, signed_two}
 use Rattle.pgv_more.specs.NumericLaws.{IsNumeric, NumericIsRead, OneNumeric}
-use Rattle.pgv_more.specs.Numeric.{Numeric, not_a_number, number, word, sign_word, number_form, no_number, digits, digits_after, sign_of, said_sign, signed_word, unsigned_word, signed_number, number_in_binary, numeric_in_binary}
 use Rattle.pgv_more.specs.NumericBack.{number_there}
-use Rattle.pgv_more.specs.declared.numeric.PgNumericSign.{PgNumericSign}
 use Rattle.pgv_more.specs.declared.numeric.PgNumericSign.TheVariants.{Positive, Negative}
+
+-- ---- numbers are equal where their parts are
+
+-- the parts of a number, and something where there are none
+digits_of : List ℤ → Numeric → List ℤ
+digits_of other not_a_number = other
+digits_of other (number sign ds weight scale) = ds
+
+weight_of : ℤ → Numeric → ℤ
+weight_of other not_a_number = other
+weight_of other (number sign ds weight scale) = weight
+
+scale_of : ℤ → Numeric → ℤ
+scale_of other not_a_number = other
+scale_of other (number sign ds weight scale) = scale
+
+own_sign : PgNumericSign → Numeric → PgNumericSign
+own_sign other not_a_number = other
+own_sign other (number sign ds weight scale) = sign
+
+-- where `same` decides whether signs are equal
+pub equal_parts :
+    (s t : PgNumericSign) (same : Bool) (xs ys : List ℤ) (w v c d : ℤ) → ((same ≡ true) ↔ (s ≡ t)) →
+    ((same && (pointwise int_eq xs ys && (int_eq w v && int_eq c d))) ≡ true) ↔ (number s xs w c ≡ number t ys v d)
+unfolding own_sign digits_of weight_of scale_of
+equal_parts s t same xs ys w v c d decides = (
+  λ e. let a = and_parts same (pointwise int_eq xs ys && (int_eq w v && int_eq c d)) e in
+      let b = and_parts (pointwise int_eq xs ys) (int_eq w v && int_eq c d) a.1 in
+      let k = and_parts (int_eq w v) (int_eq c d) b.1 in
+      rw (decides.0 a.0, (slice_eq-Decides Decides-int_eq xs ys (pointwise int_eq xs ys) refl).0 b.0, (Decides-int_eq w v).0 k.0, (Decides-int_eq c d).0 k.1) refl,
+  λ e. rw (decides.1 (ap (own_sign s) e), (slice_eq-Decides Decides-int_eq xs ys (pointwise int_eq xs ys) refl).1 (ap (digits_of xs) e), (Decides-int_eq w v).1 (ap (weight_of w) e), (Decides-int_eq c d).1 (ap (scale_of c) e)) refl,
+)
+
+-- ---- the laws of numbers
 
 -- ---- digits
 

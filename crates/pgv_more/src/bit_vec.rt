@@ -43,6 +43,7 @@ impl Model for BitVec {
 
 impl BitVec {
     /// No bits. It takes no memory yet.
+    #[tactic(auto, using(crate::proofs::Kept::no_bytes))]
     pub fn new(alloc: Global) -> BitVec
         ensures { result ≡ [] }
     {
@@ -120,6 +121,7 @@ impl BitVec {
     }
 
     /// How many bits there are.
+    #[tactic(auto, using(crate::proofs::Kept::kept_count))]
     pub fn len(&self) -> usize
         ensures { result ≡ length self.now }
     {
@@ -127,6 +129,7 @@ impl BitVec {
     }
 
     /// Whether there is no bit.
+    #[tactic(auto, using(crate::proofs::Kept::kept_count))]
     pub fn is_empty(&self) -> bool
         ensures { result ≡ (length self.now == 0) }
     {
@@ -192,6 +195,7 @@ impl Eq for BitVec {
 }
 
 /// The byte with one more bit, at this place from the front.
+#[tactic(auto, using(crate::proofs::BitsOfByte::bit_set, crate::proofs::BitsOfByte::bit_unset))]
 fn with_bit(byte: u8, place: usize, bit: bool) -> u8
     requires { place < 8 }
     ensures { (bits : List Bool) → length bits ≡ place → byte ≡ number_of 8 bits
@@ -201,6 +205,7 @@ fn with_bit(byte: u8, place: usize, bit: bool) -> u8
 }
 
 /// The first `many` bits of a byte, with zeros after them.
+#[tactic(auto, using(crate::proofs::BitsOfByte::first_is))]
 fn first_of_byte(byte: u8, many: usize) -> u8
     requires { (0 < many) × (many ≤ 8) }
     ensures { result ≡ number_of 8 (take many (low_bits 8 byte)) }
@@ -235,6 +240,7 @@ impl Bit for u8 {
 }
 
 /// The byte of at most eight bits.
+#[tactic(auto, unfolding(crate::specs::Bits::number_of))]
 fn byte_of<B: Bit>(bits: &[B]) -> u8
     requires { length bits.now ≤ 8 }
     ensures { result ≡ number_of 8 (map B.set bits.now) }

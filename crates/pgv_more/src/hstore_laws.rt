@@ -46,6 +46,7 @@ pub fn equal_hstores()
 {}
 
 /// The iterator of a map gives its pairs in the order of the keys and then ends.
+#[tactic(auto, using(crate::proofs::EqualHstores::entries_given))]
 pub fn hstore_gives_its_pairs()
     ensures { (h : _) (pairs : _) → ⟦<PgHstore as IntoIterator>⟧.into_iter_gives h pairs
         → AlwaysYields ⟦<btree_map::IntoIter<String, Option<String>> as Iterator>⟧.next_gives

@@ -149,6 +149,7 @@ pub fn equal_values<const N: usize>()
 {}
 
 /// Two lists of bits are equal iff they have the same bits.
+#[tactic(auto, using(crate::proofs::Kept::equal_bits))]
 pub fn equal_bits()
     ensures { (a b : List Bool) → (⟦<crate::BitVec as PartialEq>⟧.eq a b ≡ true) ↔ (a ≡ b) }
 {}

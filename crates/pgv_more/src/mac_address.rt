@@ -94,7 +94,7 @@ fn pair_after(separator: u8, text: &[u8]) -> Option<(u8, &[u8])>
 
 /// The byte of the pair after a separator, where nothing comes after the pair.
 #[inline(always)]
-#[tactic(auto, using(crate::proofs::Pairs::not_at_end))]
+#[tactic(auto, using(crate::proofs::LawsOfMacs::not_at_end))]
 fn last_pair_after(separator: u8, text: &[u8]) -> Option<u8>
     ensures { option_map (λ byte. byte ∷ []) result ≡ pairs_after separator 1 text.now }
 {

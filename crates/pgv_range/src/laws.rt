@@ -62,6 +62,7 @@ pub fn one_range<T: Decode>()
 
 /// A range is decoded from a text iff the grammar of ranges assigns it to the text: the empty range, or one of two
 /// bounds, each read under the bounds' own type (PostgreSQL, "Range Input/Output").
+#[tactic(auto, using(crate::proofs::TextGrammars::range_text))]
 pub fn range_text_is_its_bounds<T: Type + Decode>()
     ensures { TextIs ⟦<PgRange<T> as Decode>⟧.parse (IsRangeInText T.parse T.info) }
 {
@@ -69,6 +70,7 @@ pub fn range_text_is_its_bounds<T: Type + Decode>()
 }
 
 /// A text denotes at most one range.
+#[tactic(auto, using(crate::proofs::TextGrammars::one_range_text))]
 pub fn one_range_in_text<T: Type + Decode>()
     ensures { OneRangeInText T.parse T.info }
 {

@@ -19,7 +19,7 @@ pub fn array_is_its_elements<M>()
 /// An array in binary has at most a quarter as many elements as bytes.
 ///
 /// Each element takes four bytes or more. This holds for lists and for arrays of a fixed number of elements.
-#[tactic(auto, using(crate::proofs::FewElements::few_elements))]
+#[tactic(auto, using(crate::proofs::ArrayGrammars::few_elements))]
 pub fn few_elements<M>()
     ensures { (parse : Given → Outcome M) → FewElements parse }
 {}

@@ -38,6 +38,7 @@ pub fn field_head_of<'r>(
 }
 
 /// The type of the field at a place that has this OID.
+#[tactic(auto, using(crate::proofs::FieldTypes::type_under))]
 fn field_type_of(type_info: &PgTypeInfo, place: usize, oid: Oid) -> Result<PgTypeInfo, CodecError>
     ensures { Gives (λ t. t) (field_type type_info.now place oid.0) result }
 {

@@ -74,6 +74,7 @@ pub fn type_of_value<T: Encode + Type>(value: &T) -> Result<PgTypeInfo, AllocErr
 
 /// What comes before the elements, where the OID of their type is known.
 #[inline(always)]
+#[tactic(auto, using(crate::proofs::Lists::head_is))]
 fn known_header(oid: u32, count: u32) -> [u8; 20]
     ensures bytes { result ≡ be4 1 ++ (be4 0 ++ (be4 oid ++ (be4 count ++ be4 1))) }
     ensures number { oid < 4294967296 }
@@ -85,6 +86,7 @@ fn known_header(oid: u32, count: u32) -> [u8; 20]
 
 /// What comes before the elements: one dimension and no flags, their type, their number and the lower bound 1.
 #[inline(always)]
+#[tactic(auto, using(crate::proofs::Lists::header_known))]
 fn write_header(
     out: &mut PgArgumentBuffer,
     element: PgTypeInfo,
@@ -303,7 +305,7 @@ fn read_array<T: Decode>(
 }
 
 /// As many frames as the head says. Without one, or without the length of one, no memory is asked for.
-#[tactic(auto, unfolding(crate::specs::ArrayGrammar::elements, crate::specs::ArrayGrammar::frames, pgv_value::specs::FrameBinary::front))]
+#[tactic(auto, unfolding(crate::specs::ArrayGrammar::elements, crate::specs::ArrayGrammar::frames, pgv_value::specs::FrameBinary::front), using(crate::proofs::FrameLoop::too_short))]
 fn read_frames<T: Decode>(
     alloc: Global,
     element: &PgTypeInfo,

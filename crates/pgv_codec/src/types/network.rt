@@ -50,6 +50,7 @@ fn written_size(address: IpAddr) -> usize
 
 /// Appends four bytes and the octets after them.
 #[inline(always)]
+#[tactic(auto, using(crate::specs::PlainBytes::appended_parts))]
 fn write_octets(
     front: &[u8; 4],
     octets: &[u8],

@@ -73,6 +73,7 @@ impl<T: Encode + Type> Encode for Option<T> {
     }
 
     #[inline(always)]
+    #[tactic(auto, using(crate::proofs::OneFrame::null_at_once))]
     fn encode_at_once(&self, out: &mut PgArgumentBuffer) -> Result<bool, CodecError> {
         match self {
             Some(value) => value.encode_at_once(out),

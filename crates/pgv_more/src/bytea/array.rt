@@ -20,6 +20,7 @@ use std::alloc::{AllocError, Global};
 pub struct PgByteaArray<const N: usize>(pub [u8; N]);
 
 /// The bytes of a text `\x00ff`, of `N` bytes.
+#[tactic(auto, using(crate::proofs::ByteaDigits::refused_for_length, crate::proofs::ByteaDigits::refused_for_digits))]
 fn of_text<const N: usize>(text: &[u8]) -> Result<PgByteaArray<N>, CodecError>
     ensures { GivesExactly (λ b. b.0) (sized_in_text N text.now) result }
 {

@@ -1,7 +1,7 @@
 use Rattle.std.proofs.Common.{◌≢◌, false, get_or, lit<}
 use Rattle.std.proofs.lemmas.Bool.{false≢true}
 use Rattle.std.proofs.lemmas.Str.Pattern.{starts_char}
-use Rattle.pgv_ltree.proofs.LevelCounts.{count_is, no_count}
+use Rattle.pgv_ltree.proofs.LevelTexts.{count_is, no_count}
 use Rattle.pgv_ltree.proofs.level.count_of.Goals as goal
 
 pub returns-in-Ok : goal.returns-in-Ok

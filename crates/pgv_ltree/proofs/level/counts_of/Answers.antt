@@ -1,7 +1,7 @@
 use Rattle.std.proofs.Common.{◌≡◌, ◌∙◌, ap, refl, lit<, None, Some}
 use Rattle.std.proofs.lemmas.Str.Pattern.{split_parts}
 use Rattle.std.proofs.lemmas.Result.{err_from_is_err_and}
-use Rattle.pgv_ltree.proofs.CutTexts.{cut_at, cut_none}
+use Rattle.pgv_ltree.proofs.LevelTexts.{cut_at, cut_none}
 use Rattle.pgv_ltree.specs.QueryRead.{cut}
 use Rattle.pgv_ltree.proofs.level.counts_of.Goals as goal
 

@@ -1,6 +1,6 @@
 use Rattle.std.proofs.Common.{sym, lit<, None, Some}
 use Rattle.std.proofs.lemmas.Str.Pattern.{strip_prefix_char, strip_suffix_char}
-use Rattle.pgv_ltree.proofs.CutTexts.{inside_braces, not_braced}
+use Rattle.pgv_ltree.proofs.LevelTexts.{inside_braces, not_braced}
 use Rattle.pgv_ltree.proofs.level.inside.Goals as goal
 
 pub returns-in_err-strip_prefix : goal.returns-in_err-strip_prefix

@@ -1,5 +1,4 @@
-use Rattle.pgv_ltree.proofs.Printed.{taken_three}
-use Rattle.pgv_ltree.proofs.QueriesPrinted.{more_seen_pass, one_more_seen}
+use Rattle.pgv_ltree.proofs.Printed.{taken_three, more_seen_pass, one_more_seen}
 use Rattle.pgv_ltree.specs.LevelView.{level_of}
 use Rattle.std.proofs.Common.{[], ◌∷◌, None, get_or}
 use Rattle.pgv_ltree.specs.Queries.{Level, is_level}

@@ -1,5 +1,5 @@
 use Rattle.std.proofs.Common.{refl, true, false}
-use Rattle.pgv_more.proofs.EqualNumerics.{equal_parts}
+use Rattle.pgv_more.proofs.LawsOfNumerics.{equal_parts}
 use Rattle.pgv_more.specs.declared.numeric.PgNumericSign.TheVariants.{Positive, Negative}
 use Rattle.pgv_more.specs.declared.numeric.PgNumeric.TheVariants.{NotANumber, Number}
 use Rattle.pgv_more.proofs.numeric_laws.equal_numerics.Goals as goal

@@ -2,7 +2,7 @@ use Rattle.std.proofs.Common.{◌≡◌, ap, sym, ◌∙◌}
 use Rattle.pgv_types.specs.LentParts.{kind_lent}
 use Rattle.pgv_types.specs.Shown.{kind_of, fields_of}
 use Rattle.pgv_types.specs.Ty.{composite}
-use Rattle.pgv_codec.proofs.CompositeFields.{composite_type}
+use Rattle.pgv_codec.proofs.FieldTypes.{composite_type}
 use Rattle.pgv_codec.proofs.nest.record.field_type_under.Goals as goal
 
 pub returns-in-Composite : goal.returns-in-Composite

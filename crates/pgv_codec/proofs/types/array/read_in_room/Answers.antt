@@ -7,7 +7,7 @@ use Rattle.pgv_value.specs.Fronts.{value_front}
 use Rattle.pgv_value.specs.Outcome.{after}
 use Rattle.pgv_value.specs.declared.value.PgValueFormat.TheVariants.{Binary}
 use Rattle.pgv_codec.specs.ArrayGrammar.{frames}
-use Rattle.pgv_codec.proofs.FewElements.{few_frames}
+use Rattle.pgv_codec.proofs.ArrayGrammars.{few_frames}
 use Rattle.pgv_codec.proofs.FrameLoop.{is_done, goes_on, ends_short, ends_unread}
 use Rattle.pgv_codec.proofs.types.array.read_in_room.Goals as goal
 use Rattle.pgv_codec.proofs.types.array.read_in_room.Goals.{in-Some+in_ok-push-in-Some, in-None+in_ok-clone-in-None+in_ok-part-in-None+in_ok-decode-in-None+in_ok-push-in-None}

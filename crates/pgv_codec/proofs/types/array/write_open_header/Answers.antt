@@ -2,8 +2,7 @@ use Rattle.std.specs.Prelude.{◌≡◌, ℕ, List, [], ◌∷◌, ◌++◌, ref
 use Rattle.std.proofs.Common.{sym, ap, ◌∙◌, rules}
 use Rattle.pgv_buf.specs.Tokens.{bytes, be4, blank, hole}
 use Rattle.pgv_codec.specs.PlainBytes.{bytes-append}
-use Rattle.pgv_codec.proofs.Fours.{four}
-use Rattle.pgv_codec.proofs.Lists.{both, typed_unknown}
+use Rattle.pgv_codec.proofs.Lists.{four, both, typed_unknown}
 use Rattle.pgv_codec.proofs.types.array.write_open_header.Goals as goal
 
 -- one append after the other

@@ -1,7 +1,7 @@
 use Rattle.std.specs.Prelude.{◌≡◌, ℕ, List, ◌∷◌, ◌++◌, refl, length}
 use Rattle.std.proofs.Common.{sym, ap, ◌∙◌, rules}
 use Rattle.pgv_buf.specs.Tokens.{bytes, blank}
-use Rattle.pgv_codec.proofs.Fours.{four}
+use Rattle.pgv_codec.proofs.Lists.{four}
 use Rattle.pgv_codec.proofs.types.network.write_network.Goals as goal
 
 -- the four octets, taken apart, are the address's

@@ -1,7 +1,7 @@
 use Rattle.std.proofs.Common.{lit<, None}
 use Rattle.std.proofs.lemmas.Str.Pattern.{strip_prefix_char}
 use Rattle.std.proofs.lemmas.Result.{err_from_is_err_and}
-use Rattle.pgv_ltree.proofs.Levels.{other_found, other_gives}
+use Rattle.pgv_ltree.proofs.LevelTexts.{other_found, other_gives}
 use Rattle.pgv_ltree.proofs.level.PgLQueryLevel.from_str.Goals as goal
 
 pub returns-in_err-variants_of-2 : goal.returns-in_err-variants_of-2

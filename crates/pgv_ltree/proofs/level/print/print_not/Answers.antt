@@ -1,9 +1,8 @@
 use Rattle.std.proofs.Common.{sym, ◌∙◌}
 use Rattle.std.specs.Prelude.{codes}
 use Rattle.std.proofs.lemmas.Result.{on_ok_weaker}
-use Rattle.pgv_ltree.proofs.Printed.{taken_two}
+use Rattle.pgv_ltree.proofs.Printed.{taken_two, printed_not}
 use Rattle.pgv_ltree.specs.QueryPrinted.{printed_variants}
-use Rattle.pgv_ltree.proofs.QueriesPrinted.{printed_not}
 use Rattle.pgv_ltree.proofs.level.print.print_not.Goals as goal
 
 pub returns-clause-ok : goal.returns-clause-ok

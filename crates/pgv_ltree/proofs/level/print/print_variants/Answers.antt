@@ -1,6 +1,5 @@
-use Rattle.pgv_ltree.proofs.Printed.{taken_three}
+use Rattle.pgv_ltree.proofs.Printed.{taken_three, one_more_printed}
 use Rattle.pgv_ltree.proofs.WrittenTrees.{more_pass}
-use Rattle.pgv_ltree.proofs.QueriesPrinted.{one_more}
 use Rattle.std.proofs.Common.{[], ◌∷◌, false, get_or}
 use Rattle.pgv_ltree.specs.Queries.{Variant, is_variant}
 use Rattle.pgv_ltree.specs.QueryPrinted.{printed_variant}
@@ -13,5 +12,5 @@ loop-variant-preserved g c =
       variants = more_pass is_variant _ c.loop-variant.variant-index first c.variant-item.result c.loop-variant-test.true c.variant-item.is c.loop-variant.invariant.variants c.in_ok-print-2.ensures.variant;
       written = taken_three g.S.Sink.took g.met.S.Sink.took_both c.args.out.now c.loop-variant.out c.put.new.self c.print-in-loop-variant.new.out _ (124 ∷ []) (printed_variant c.variant-item.result) _
           c.loop-variant.invariant.written c.in_ok-put.ensures.ok c.in_ok-print-2.ensures.ok
-          (one_more 124 printed_variant (printed_variant first) _ c.loop-variant.variant-index c.variant-item.result c.loop-variant-test.true c.variant-item.is);
+          (one_more_printed 124 printed_variant (printed_variant first) _ c.loop-variant.variant-index c.variant-item.result c.loop-variant-test.true c.variant-item.is);
     }

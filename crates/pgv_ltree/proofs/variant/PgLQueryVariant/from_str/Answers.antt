@@ -1,7 +1,7 @@
 use Rattle.std.proofs.Common.{◌≡◌, ◌∙◌, sym, true}
 use Rattle.std.specs.List.{list_all}
 use Rattle.pgv_ltree.specs.QueryText.{is_mark}
-use Rattle.pgv_ltree.proofs.Variants.{variant_there}
+use Rattle.pgv_ltree.proofs.VariantMarks.{variant_there}
 use Rattle.pgv_ltree.proofs.variant.PgLQueryVariant.from_str.Goals as goal
 
 pub returns : goal.returns

@@ -1,4 +1,4 @@
-use Rattle.pgv_more.proofs.HstoreClones.{same_pairs, same_values}
+use Rattle.pgv_more.proofs.EqualHstores.{same_pairs, same_values}
 use Rattle.pgv_more.proofs.hstore.PgHstoreClone.clone.Goals as goal
 
 pub returns : goal.returns

@@ -3,7 +3,7 @@ use Rattle.std.proofs.Common.{rules, ◌≡◌, sym, ◌∙◌, drop, length, fa
 use Rattle.std.proofs.lemmas.Int.{to_z-of_z}
 use Rattle.std.specs.Prelude.{nat_lt, ◌==◌}
 use Rattle.std.specs.Int.{w16, cast_signed, cast_unsigned}
-use Rattle.pgv_more.proofs.NumericRead.{number_is_read}
+use Rattle.pgv_more.proofs.NumericWords.{number_is_read}
 use Rattle.pgv_more.specs.Numeric.{digits_after, no_number, said_sign, sign_of, signed_word, unsigned_word}
 use Rattle.pgv_more.proofs.numeric.codec.of_bytes.Goals as goal
 

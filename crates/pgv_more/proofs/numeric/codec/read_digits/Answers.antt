@@ -2,7 +2,7 @@ use mir.Val.{SFits}
 use Rattle.std.proofs.Common.{rules, ◌∙◌}
 use Rattle.std.proofs.lemmas.Int.{to_z-of_z}
 use Rattle.std.specs.Int.{w16, cast_signed, cast_unsigned}
-use Rattle.pgv_more.proofs.NumericRead.{digit_read}
+use Rattle.pgv_more.proofs.NumericWords.{digit_read}
 use Rattle.pgv_more.proofs.numeric.codec.read_digits.Goals as goal
 
 pub loop-place-preserved : goal.loop-place-preserved

@@ -1,6 +1,6 @@
 use Rattle.std.proofs.Common.{map}
 use Rattle.pgv_ltree.specs.LevelView.{level_of}
-use Rattle.pgv_ltree.proofs.QueriesWritten.{written_query}
+use Rattle.pgv_ltree.proofs.WrittenTrees.{written_query}
 use Rattle.pgv_ltree.proofs.lquery.codec.PgLQueryEncode.encode_by_ref.Goals as goal
 
 pub returns-clause-encodes : goal.returns-clause-encodes

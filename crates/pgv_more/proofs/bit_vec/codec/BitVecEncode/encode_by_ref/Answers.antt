@@ -1,7 +1,7 @@
 use Rattle.std.proofs.Common.{◌≡◌, ◌≤◌, length, pos, rules, arith}
 use Rattle.std.proofs.lemmas.Int.{ints}
 use Rattle.pgv_buf.specs.Tokens.{be4}
-use Rattle.pgv_more.proofs.WrittenBits.{written_bits}
+use Rattle.pgv_more.proofs.Kept.{written_bits}
 use Rattle.pgv_more.proofs.bit_vec.codec.BitVecEncode.encode_by_ref.Goals as goal
 
 pub returns-clause-encodes : goal.returns-clause-encodes
