@@ -10,7 +10,7 @@ use mir.Val.{SFits, of_z, to_z}
 use mir.Syntax.{w64}
 use Rattle.std.proofs.lemmas.Int.{to_z-of_z}
 use Rattle.std.specs.Int.{IsInRange}
-use Rattle.std.proofs.lemmas.Str.Parse.{digit_from_value, tells_by_index, numerals_by_value}
+use Rattle.std.proofs.lemmas.Str.Parse.{digit_at, digit_from_value, tells_by_index, numerals_by_value}
 use Rattle.std.proofs.lemmas.Int.Digits.{digits_value_is, all_below_base_from_digits}
 use Rattle.std.proofs.lemmas.List.{length-map}
 use Rattle.std.proofs.lemmas.Bool.{and_parts, eqb-true, ne_eqb, ltb-true, lt-ltb, false≢true}
@@ -110,6 +110,9 @@ one_number text m n a b = (numeral_from text m a).1 ∙ sym (numeral_from text n
 
 pub by_index : (ds : List ℕ) → ((i : ℕ) → i < length ds → IsInRange 48 57 (get_or ds i 0)) → AllDigits 10 ds
 by_index ds h = (numerals_by_value (λ ds. (i : ℕ) → i < length ds → IsInRange 48 57 (get_or ds i 0)) tells_by_index).to ds h
+
+pub each_digit : (ds : List ℕ) → AllDigits 10 ds → (i : ℕ) → i < length ds → IsInRange 48 57 (get_or ds i 0)
+each_digit ds all i lt = digit_at ds i all lt
 
 -- the test of a numeral
 all_digits : (ds : List ℕ) → list_all (λ c. nat_lt (digit_value c) 10) ds ≡ true → AllDigits 10 ds

@@ -40,6 +40,7 @@ fn are_digits(bytes: &[u8]) -> bool
 }
 
 /// Whether there is one digit or more, and nothing else.
+#[tactic(auto, using(crate::proofs::ParsedNumbers::by_index, crate::proofs::ParsedNumbers::each_digit))]
 fn is_numeral(bytes: &[u8]) -> bool
     ensures { IsTrue result ↔ IsNumeral 10 bytes.now }
 {
