@@ -234,7 +234,8 @@ fn read<T: Codec>(alloc: Global, part: Option<&[u8]>) -> Result<Told, AllocError
     ensures { IfOk result (λ told.
         ReadsPart (line_type T.info T.parse T.written) (option_copied part.entry)
         (told_text told)
-        × TellsOf (Some (line_type T.info T.parse T.written)) (to_read (option_copied part.entry)) told) }
+        × TellsOf (Some (line_type T.info T.parse T.written))
+        (to_read (option_copied part.entry)) told) }
 {
     match T::decode(
         alloc,

@@ -318,7 +318,8 @@ impl<'a> Parts<'a> {
         ensures taken { MatchResult result
             (λ found. MatchOption found
             (HasEnded self.old self.new × (string_bytes text.new ≡ []))
-            (λ present. Takes (if present then Some (string_bytes text.new) else None) self.old self.new
+            (λ present. Takes (if present then Some (string_bytes text.new) else None)
+            self.old self.new
             × (present ≡ false → string_bytes text.new ≡ [])))
             (λ _. IsKept self.old self.new × (string_bytes text.new ≡ [])) }
         ensures brackets { HasBracketsOf self.old self.new }
