@@ -1,5 +1,5 @@
 -- What contracts see of the types of a server, and how they are found by OID and by name.
-use Rattle.std.specs.Prelude.{ℕ, ◌==◌, Bool, false, ◌||◌, ◌&&◌, List, [], ◌∷◌, bytes_eq, Option, Some, None, refl, if◌then◌else◌}
+use Rattle.std.specs.Prelude.{ℕ, Bool, false, ◌||◌, ◌&&◌, List, [], ◌∷◌, bytes_eq, Option, Some, None, refl, if◌then◌else◌}
 use Rattle.std.specs.Coded.{Coded, code_by, coded×, coded_bool, coded_ℕ, coded_list}
 use Rattle.pgv_types.specs.Agree.{agree}
 use Rattle.pgv_types.specs.Facts.{oid_of, has_oid}

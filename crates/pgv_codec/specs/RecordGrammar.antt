@@ -4,10 +4,10 @@
 -- the field at that place, whose `oid` must be that one. A domain is followed to its base. The Rust type must be
 -- compatible with the field's type. In text the values of a record text. Memory is asked for by the copy of a field's
 -- custom type, by the copy of a field's text that isn't in the text as it is, and by what a field's own type asks for.
-use Rattle.std.specs.Prelude.{◌≡◌, ℕ, zero, suc, not, ◌==◌, Bool, false, List, [], ◌∷◌, drop, length, Option, Some, None, if◌then◌else◌, refl}
+use Rattle.std.specs.Prelude.{◌≡◌, ℕ, zero, suc, not, ◌==◌, Bool, List, [], ◌∷◌, drop, length, Option, Some, None, if◌then◌else◌, refl}
 use Rattle.std.specs.Coded.{Coded, code_by, coded×, coded_ℕ, coded_bool, coded_list, coded_option}
 use Rattle.pgv_types.specs.Ty.{Ty, ty_code, builtin, custom, named, by_oid, array_of, Kind, simple, pseudo, domain, composite, array, enumeration, range, Fields, no_fields, field}
-use Rattle.pgv_types.specs.Facts.{built_in, oid_of, has_oid, is_custom}
+use Rattle.pgv_types.specs.Facts.{built_in, has_oid, is_custom}
 use Rattle.pgv_text.specs.Copies.{copies_of, first_copied}
 use Rattle.pgv_text.specs.Values.{record_values}
 use Rattle.pgv_text.specs.declared.scanner.TextForm.TheVariants.{Record}

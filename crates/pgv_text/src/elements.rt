@@ -2,7 +2,6 @@
 
 ghost use Rattle.std.specs.Prelude.{◌≡◌, MatchResult, None, string_bytes, true};
 ghost use Rattle.std.specs.Option.{MatchOption};
-ghost use Rattle.pgv_text.specs.ArrayText.{array_form};
 ghost use Rattle.pgv_text.specs.ElementsView.{Follows, ahead, element_copied, is_end};
 ghost use Rattle.pgv_text.specs.Values.{array_values};
 
