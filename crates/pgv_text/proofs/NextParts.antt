@@ -27,7 +27,7 @@ open_values : (b : ℕ) (bs : List ℕ) (r : Option Rest) (closes : Bool) → cl
 open_values b bs None closes e = refl
 open_values b bs (Some r) closes e = rw e refl
 
-pub values_open : (b : ℕ) (bs : List ℕ) → array_form.opens b ≡ true → closes_here array_form bs ≡ false →
+values_open : (b : ℕ) (bs : List ℕ) → array_form.opens b ≡ true → closes_here array_form bs ≡ false →
     option_map (λ (n : Nest). n.values) (nest_read array_form (b ∷ bs)) ≡ option_map (values_from array_form bs) (read array_form Start bs)
 values_open b bs o e =
     ap (λ (w : Bool). option_map (λ (n : Nest). n.values) (cond w (option_and_then (λ r. nest_between array_form b bs (values_from array_form bs r) r.closing) (read array_form Start bs)) None)) o
@@ -43,7 +43,7 @@ values_none b (c ∷ []) o h l = values_end b c o h
 values_none b (c ∷ d ∷ bs) o h l = absurd (omega (arith, l))
 
 -- where something follows it
-pub values_more : (b : ℕ) (bs : List ℕ) → array_form.opens b ≡ true → closes_here array_form bs ≡ true → (length bs ≡ 1 → ⊥) → option_map (λ (n : Nest). n.values) (nest_read array_form (b ∷ bs)) ≡ None
+values_more : (b : ℕ) (bs : List ℕ) → array_form.opens b ≡ true → closes_here array_form bs ≡ true → (length bs ≡ 1 → ⊥) → option_map (λ (n : Nest). n.values) (nest_read array_form (b ∷ bs)) ≡ None
 values_more b [] o h l = absurd (false≢true h)
 values_more b (c ∷ []) o h l = absurd (l refl)
 values_more b (c ∷ d ∷ bs) o h l = rw (eqb-true b 123 o, eqb-true c 125 h) refl
@@ -53,11 +53,19 @@ pub none_read : (text : List ℕ) → IsUtf8 text → nest_read array_form text 
 none_read text u e = ap (option_map (λ (n : Nest). n.values)) (sym (nest_bytes Array text u) ∙ e)
 
 -- the values of a text are read from its bytes
-pub as_read : (text : List ℕ) (b : ℕ) (bs : List ℕ) → IsUtf8 text → text ≡ b ∷ bs → array_values text ≡ option_map (λ (n : Nest). n.values) (nest_read array_form (b ∷ bs))
+as_read : (text : List ℕ) (b : ℕ) (bs : List ℕ) → IsUtf8 text → text ≡ b ∷ bs → array_values text ≡ option_map (λ (n : Nest). n.values) (nest_read array_form (b ∷ bs))
 as_read text b bs u e = ap (option_map (λ (n : Nest). n.values)) (sym (nest_bytes Array text u) ∙ ap (nest_read array_form) e)
+
+-- of a text that begins with an opening bracket
+pub values_there : (text : List ℕ) (b : ℕ) (bs : List ℕ) → IsUtf8 text → text ≡ b ∷ bs → array_form.opens b ≡ true → closes_here array_form bs ≡ false →
+    array_values text ≡ option_map (values_from array_form bs) (read array_form Start bs)
+values_there text b bs u e o h = as_read text b bs u e ∙ values_open b bs o h
 
 pub no_values : (text : List ℕ) (b : ℕ) (bs : List ℕ) → IsUtf8 text → text ≡ b ∷ bs → array_form.opens b ≡ true → closes_here array_form bs ≡ true → length bs ≡ 1 → array_values text ≡ Some []
 no_values text b bs u e o h l = as_read text b bs u e ∙ values_none b bs o h l
+
+pub not_at_end : (text : List ℕ) (b : ℕ) (bs : List ℕ) → IsUtf8 text → text ≡ b ∷ bs → array_form.opens b ≡ true → closes_here array_form bs ≡ true → (length bs ≡ 1 → ⊥) → array_values text ≡ None
+not_at_end text b bs u e o h l = as_read text b bs u e ∙ values_more b bs o h l
 
 -- the values of a text whose part in front has these bytes, by the cell where it ends
 module _ (form : TextForm) (text part rest : List ℕ) (b : ℕ) where

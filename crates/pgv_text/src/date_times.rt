@@ -15,7 +15,6 @@ use jiff::civil::{Date, DateTime, Time};
 use jiff::tz::Offset;
 
 /// The date of these numbers, if the calendar has it.
-#[tactic(auto, using(crate::proofs::Calendar::date_number))]
 fn date_of(year: u16, month: u8, day: u8) -> Option<Date>
     requires year { year < 10_000 }
     requires month { month < 100 }

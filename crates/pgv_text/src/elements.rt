@@ -32,7 +32,7 @@ pub enum Next<'a> {
 
 impl<'a> Elements<'a> {
     /// The elements of a text; `None` if no array text begins like it.
-    #[tactic(auto, using(crate::proofs::NextParts::as_read, crate::proofs::NextParts::none_read, crate::proofs::NextParts::values_open, crate::proofs::NextParts::no_values, crate::proofs::NextParts::values_more))]
+    #[tactic(auto, using(crate::proofs::NextParts::none_read, crate::proofs::NextParts::values_there, crate::proofs::NextParts::no_values, crate::proofs::NextParts::not_at_end))]
     #[inline(always)]
     pub fn of_text(text: &'a str) -> Option<Self>
         ensures { MatchOption result (array_values text.now ≡ None)
