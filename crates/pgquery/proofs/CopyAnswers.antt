@@ -5,7 +5,7 @@ use Rattle.pgv.specs.Words.{CodecError, Given}
 use Rattle.pgv_copy.specs.CopyPieces.{Advances, AdvancesFrom, Pieces}
 use Rattle.pgv_copy.specs.declared.pieces.PgCopyNext.{PgCopyNext}
 use Rattle.pgv_copy.specs.declared.pieces.PgCopyNext.TheVariants.{Row, End}
-use Rattle.pgquery.specs.Copying.{CopiesAnswer, CopiesAnswers, ReadsRows, copied_line}
+use Rattle.pgquery.specs.Copying.{CopiesAnswer, CopiesAnswers, ReadsPieces, copied_line}
 use Rattle.pgquery.specs.Incoming.{Incoming}
 
 -- ---- rows
@@ -21,7 +21,7 @@ row_there reader next h = by reader.is_ended h
     by true k = absurd (other k.0)
     by false k = (k.0, ap (λ (p : Pieces). p.row) k.2)
 
-pub one_more_row : (reader mid next : Pieces) (rows : List (List Given)) (row : List Given) → ReadsRows reader rows mid → Advances mid (Ok Row) next → next.row ≡ Some row → ReadsRows reader (rows ++ row ∷ []) next
+pub one_more_row : (reader mid next : Pieces) (rows : List (List Given)) (row : List Given) → ReadsPieces reader rows mid → Advances mid (Ok Row) next → next.row ≡ Some row → ReadsPieces reader (rows ++ row ∷ []) next
 one_more_row reader mid next [] row same advances is = (next, subst (λ (p : Pieces). Advances p (Ok Row) next) same advances, is, refl)
 one_more_row reader mid next (r ∷ rows) row reads advances is = (reads.0, reads.1, reads.2, one_more_row reads.0 mid next rows row reads.3 advances is)
 

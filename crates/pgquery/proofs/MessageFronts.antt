@@ -9,7 +9,7 @@ use lib.Seq.{drop-append-le}
 use Rattle.pgv_value.specs.ReadingSteps.{number}
 use Rattle.pgv_message.specs.declared.error.MessageError.{MessageError}
 use Rattle.pgv_message.specs.declared.error.MessageError.TheVariants.{BadLength}
-use Rattle.pgv_message.specs.Received.{Message, with_body, with_length, in_front, found}
+use Rattle.pgv_message.specs.Received.{Message, with_body, with_length, message_at_front, found}
 use Rattle.pgquery.specs.Incoming.{Come}
 
 -- ---- the bytes in front are found whatever comes after them
@@ -66,8 +66,8 @@ length_before tag p more m h =
     let k = length_is tag p m h in
     rw (k.0, k.1) (ap (λ (o : Option Message). let r : Result (Option Message) MessageError = Ok o in r) (body_before tag (p.0 - 4) p.1 more m k.2))
 
-found_before : (bytes more : List ℕ) (m : Message) → in_front bytes ≡ Ok (Some m) → in_front (bytes ++ more) ≡ Ok (Some (longer m more))
-unfolding in_front
+found_before : (bytes more : List ℕ) (m : Message) → message_at_front bytes ≡ Ok (Some m) → message_at_front (bytes ++ more) ≡ Ok (Some (longer m more))
+unfolding message_at_front
 found_before [] more m h = absurd cc
 found_before (tag ∷ bytes) more m h = by (number bytes) refl h
   where
@@ -77,8 +77,8 @@ found_before (tag ∷ bytes) more m h = by (number bytes) refl h
 
 -- ---- what comes after a message
 
-after_it : (bytes : List ℕ) (m : Message) → in_front bytes ≡ Ok (Some m) → (front : List ℕ) × (bytes ≡ front ++ m.rest)
-unfolding in_front
+after_it : (bytes : List ℕ) (m : Message) → message_at_front bytes ≡ Ok (Some m) → (front : List ℕ) × (bytes ≡ front ++ m.rest)
+unfolding message_at_front
 after_it [] m h = absurd cc
 after_it (tag ∷ bytes) m h = by (number bytes) refl h
   where
@@ -95,7 +95,7 @@ after_it (tag ∷ bytes) m h = by (number bytes) refl h
         )
 
 -- the place of what comes after a message that was found at a place
-pub rest_place : (came : List ℕ) (start : ℕ) (m : Message) → in_front (drop start came) ≡ Ok (Some m) → drop (length came - length m.rest) came ≡ m.rest
+pub rest_place : (came : List ℕ) (start : ℕ) (m : Message) → message_at_front (drop start came) ≡ Ok (Some m) → drop (length came - length m.rest) came ≡ m.rest
 rest_place came start m h =
     let f = after_it (drop start came) m h in
     let front : List ℕ = take start came ++ f.0 in
@@ -104,8 +104,8 @@ rest_place came start m h =
     ap (drop (length came - length m.rest)) whole ∙ drop_at front m.rest (length came - length m.rest) len
 
 -- a message that was found in what has come is in front of all that was not read yet
-pub comes : (all left : Option (List ℕ)) (xs ys : List ℕ) (tag : ℕ) (body : List ℕ) → Keeps all (prepend_known xs left) → in_front xs ≡ found tag body ys → Come (record { tag = tag; body = body } ∷ []) all (prepend_known ys left)
+pub comes : (all left : Option (List ℕ)) (xs ys : List ℕ) (tag : ℕ) (body : List ℕ) → Keeps all (prepend_known xs left) → message_at_front xs ≡ found tag body ys → Come (record { tag = tag; body = body } ∷ []) all (prepend_known ys left)
 comes None left xs ys tag body keeps is = tt
 comes (Some zs) None xs ys tag body keeps is = absurd keeps
 comes (Some zs) (Some bs) xs ys tag body keeps is =
-    (ys ++ bs, subst (λ (ws : List ℕ). in_front ws ≡ found tag body (ys ++ bs)) keeps (found_before xs bs _ is), refl)
+    (ys ++ bs, subst (λ (ws : List ℕ). message_at_front ws ≡ found tag body (ys ++ bs)) keeps (found_before xs bs _ is), refl)

@@ -13,8 +13,8 @@ use Rattle.pgv_value.specs.declared.value.PgValueFormat.TheVariants.{Binary}
 use Rattle.pgv_message.specs.CopyFormats.{copy_formats}
 use Rattle.pgv_message.specs.Messages.{query}
 use Rattle.pgquery.specs.Incoming.{Incoming}
-use Rattle.pgquery.specs.RowLines.{between}
-use Rattle.pgquery.specs.Talks.{Sends, Talks, UpToReady}
+use Rattle.pgquery.specs.RowLines.{byte_between}
+use Rattle.pgquery.specs.Talks.{SendsMessages, Talks, UpToReady}
 use Rattle.pgquery.specs.declared.connection.Connection.{Connection}
 
 -- ---- the line of a row
@@ -31,7 +31,7 @@ field_in_hex (Some value) = in_hex value.bytes
 -- the first n fields, a tab between two
 abbrev pub fields_in_hex : List Given → ℕ → List ℕ
 fields_in_hex row zero = []
-fields_in_hex row (suc n) = fields_in_hex row n ++ (between 9 n ++ field_in_hex (slice_get row n))
+fields_in_hex row (suc n) = fields_in_hex row n ++ (byte_between 9 n ++ field_in_hex (slice_get row n))
 
 abbrev pub copied_line : List Given → List ℕ
 copied_line row = fields_in_hex row (length row) ++ 10 ∷ []
@@ -39,15 +39,15 @@ copied_line row = fields_in_hex row (length row) ++ 10 ∷ []
 -- ---- the rows of a piece
 
 -- A reader of pieces reads these rows, one after another.
-abbrev pub ReadsRows : Pieces → List (List Given) → Pieces → Type 0
-ReadsRows reader [] after = after ≡ reader
-ReadsRows reader (row ∷ rows) after = (next : Pieces) × Advances reader (Ok Row) next × (next.row ≡ Some row) × ReadsRows next rows after
+abbrev pub ReadsPieces : Pieces → List (List Given) → Pieces → Type 0
+ReadsPieces reader [] after = after ≡ reader
+ReadsPieces reader (row ∷ rows) after = (next : Pieces) × Advances reader (Ok Row) next × (next.row ≡ Some row) × ReadsPieces next rows after
 
 -- This text is the lines of the rows that a reader reads once a piece has come, up to where no other is there.
 abbrev pub ShowsPiece : List ℕ → Pieces → Pieces → List ℕ → Type 0
 ShowsPiece piece reader after text =
     (rows : List (List Given)) × (last : Pieces) × (found : PgCopyNext) ×
-    ReadsRows (with_more reader piece) rows last × (found ≢ Row) × Advances last (Ok found) after × (text ≡ flat_map copied_line rows)
+    ReadsPieces (with_more reader piece) rows last × (found ≢ Row) × Advances last (Ok found) after × (text ≡ flat_map copied_line rows)
 
 -- ---- answers
 
@@ -83,7 +83,7 @@ pub record ShowsCopy {R W : Type 0} (remaining : R → Option (List ℕ)) (conte
 -- The statement was sent, and this text is the rows that came of it.
 abbrev pub RunsCopy : {R W : Type 0} → (R → Option (List ℕ)) → (W → Option (List ℕ)) → List ℕ → Connection R W → Connection R W → List ℕ → Type 0
 RunsCopy {R} {W} remaining contents sql old new text =
-    (asked : Connection R W) × Sends remaining contents (query sql) old asked × ShowsCopy remaining contents asked new text
+    (asked : Connection R W) × SendsMessages remaining contents (query sql) old asked × ShowsCopy remaining contents asked new text
 
 -- bytes to which a text of which this holds was appended
 abbrev pub Grows : List ℕ → List ℕ → (List ℕ → Type 0) → Type 0

@@ -1,7 +1,7 @@
 -- The messages of a server, one after another, in the bytes that a session has not read yet.
 use Rattle.std.specs.Prelude.{◌≡◌, ℕ, List, [], ◌∷◌, drop, Option, Some, None, ⊤}
 use Rattle.std.specs.Io.KnownBytes.{prepend_known}
-use Rattle.pgv_message.specs.Received.{in_front, found}
+use Rattle.pgv_message.specs.Received.{message_at_front, found}
 use Rattle.pgv_message.specs.declared.received.PgMessage.{PgMessage}
 use Rattle.pgquery.specs.declared.inbox.Inbox.{Inbox}
 
@@ -12,7 +12,7 @@ pub record Incoming : Type 0 where
 -- These messages are in front of the bytes, one after another; after them comes the rest.
 abbrev pub AreInFront : List Incoming → List ℕ → List ℕ → Type 0
 AreInFront [] bytes rest = rest ≡ bytes
-AreInFront (m ∷ ms) bytes rest = (after : List ℕ) × (in_front bytes ≡ found m.tag m.body after) × AreInFront ms after rest
+AreInFront (m ∷ ms) bytes rest = (after : List ℕ) × (message_at_front bytes ≡ found m.tag m.body after) × AreInFront ms after rest
 
 -- These messages came: what was unread began with them, and what comes after them is unread now. Of bytes that are not
 -- known nothing is said.
@@ -31,7 +31,7 @@ unread remaining inbox = unread_from remaining inbox.end inbox
 
 -- The last message is this one.
 abbrev pub IsLast : {R : Type 0} → ℕ → List ℕ → Inbox R → Type 0
-IsLast tag body inbox = in_front (drop inbox.start inbox.came.items) ≡ found tag body (drop inbox.end inbox.came.items)
+IsLast tag body inbox = message_at_front (drop inbox.start inbox.came.items) ≡ found tag body (drop inbox.end inbox.came.items)
 
 -- One message came, and it is the last one.
 abbrev pub Receives : {R : Type 0} → (R → Option (List ℕ)) → Inbox R → Inbox R → ℕ → Type 0

@@ -8,7 +8,7 @@ use Rattle.std.specs.Io.KnownBytes.{Appends}
 use Rattle.pgv.specs.Words.{Given, Part}
 use Rattle.pgv_row.specs.ColumnView.{Column}
 use Rattle.pgv_row.specs.DataRow.{IsDataRow}
-use Rattle.pgv_row.specs.RowView.{Row, value_at}
+use Rattle.pgv_row.specs.RowView.{Row, value_at_column}
 use Rattle.pgquery.specs.Incoming.{Incoming}
 use Rattle.pgquery.specs.declared.options.Shown.{Shown}
 use Rattle.pgquery.specs.declared.options.Shown.TheVariants.{Texts, Objects, Frames, Copied}
@@ -36,14 +36,14 @@ value_shown None = []
 value_shown (Some value) = part_shown value.bytes
 
 -- this byte, but before the first value
-abbrev pub between : ℕ → ℕ → List ℕ
-between byte zero = []
-between byte (suc n) = byte ∷ []
+abbrev pub byte_between : ℕ → ℕ → List ℕ
+byte_between byte zero = []
+byte_between byte (suc n) = byte ∷ []
 
 -- the first n values
 abbrev pub values_shown : Row → ℕ → List ℕ
 values_shown row zero = []
-values_shown row (suc n) = values_shown row n ++ (between 9 n ++ value_shown (value_at row n))
+values_shown row (suc n) = values_shown row n ++ (byte_between 9 n ++ value_shown (value_at_column row n))
 
 abbrev pub line_of : Row → List ℕ
 line_of row = values_shown row (length row.columns) ++ 10 ∷ []
@@ -76,18 +76,18 @@ abbrev pub json_value : Option Given → List ℕ
 json_value None = []
 json_value (Some value) = json_part value.bytes
 
-abbrev pub name_of : Option Column → List ℕ
-name_of None = []
-name_of (Some column) = string_of column.name
+abbrev pub column_name : Option Column → List ℕ
+column_name None = []
+column_name (Some column) = string_of column.name
 
 -- the name, a colon and the value of a column
 abbrev pub member : Row → ℕ → List ℕ
-member row place = name_of (slice_get row.columns place) ++ 58 ∷ json_value (value_at row place)
+member row place = column_name (slice_get row.columns place) ++ 58 ∷ json_value (value_at_column row place)
 
 -- the first n columns, a comma between two
 abbrev pub members : Row → ℕ → List ℕ
 members row zero = []
-members row (suc n) = members row n ++ (between 44 n ++ member row n)
+members row (suc n) = members row n ++ (byte_between 44 n ++ member row n)
 
 abbrev pub object_of : Row → List ℕ
 object_of row = 123 ∷ (members row (length row.columns) ++ 125 ∷ 10 ∷ [])
@@ -95,16 +95,16 @@ object_of row = 123 ∷ (members row (length row.columns) ++ 125 ∷ 10 ∷ [])
 -- ---- of a body
 
 -- after these bytes comes the line of a row; of frames nothing is said
-abbrev pub Shows : Shown → Row → List ℕ → List ℕ → Type 0
-Shows Texts row was now = now ≡ was ++ line_of row
-Shows Objects row was now = now ≡ was ++ object_of row
-Shows Frames row was now = ⊤
-Shows Copied row was now = now ≡ was ++ line_of row
+abbrev pub PrintsRow : Shown → Row → List ℕ → List ℕ → Type 0
+PrintsRow Texts row was now = now ≡ was ++ line_of row
+PrintsRow Objects row was now = now ≡ was ++ object_of row
+PrintsRow Frames row was now = ⊤
+PrintsRow Copied row was now = now ≡ was ++ line_of row
 
 -- the same of the row that the body of a DataRow is
 abbrev pub ShowsBody : Shown → List Column → List ℕ → List ℕ → List ℕ → Type 0
 ShowsBody shown columns body was now =
-    (row : Row) × (row.columns ≡ columns) × IsDataRow (length columns) body row.parts × Shows shown row was now
+    (row : Row) × (row.columns ≡ columns) × IsDataRow (length columns) body row.parts × PrintsRow shown row was now
 
 -- ---- of messages
 

@@ -6,12 +6,12 @@ use Rattle.pgv_row.specs.Description.{IsDescription, KnownTypes, in_format}
 use Rattle.pgv_value.specs.declared.value.PgValueFormat.{PgValueFormat}
 use Rattle.pgv_value.specs.declared.value.PgValueFormat.TheVariants.{Text, Binary}
 use Rattle.pgv_wire.specs.Arguments.{Argument}
-use Rattle.pgv_message.specs.Messages.{bare, bind, describe, execute, parse}
+use Rattle.pgv_message.specs.Messages.{bare_message, bind, describe, execute, parse_message}
 use Rattle.pgv_message.specs.MessageWriting.{Writing, ◌>>=◌}
 use Rattle.pgv_message.specs.declared.describe.Prepared.TheVariants.{Statement}
 use Rattle.pgquery.specs.Incoming.{Incoming}
 use Rattle.pgquery.specs.RowLines.{ShowsRows}
-use Rattle.pgquery.specs.Talks.{Converses, Sends, Talks, UpToReady}
+use Rattle.pgquery.specs.Talks.{Converses, SendsMessages, Talks, UpToReady}
 use Rattle.pgquery.specs.declared.connection.Connection.{Connection}
 use Rattle.pgquery.specs.declared.options.Shown.{Shown}
 use Rattle.pgquery.specs.declared.options.Shown.TheVariants.{Texts, Objects, Frames, Copied}
@@ -21,9 +21,9 @@ use Rattle.pgquery.specs.declared.options.Shown.TheVariants.{Texts, Objects, Fra
 -- Parse and Describe of the statement without a name, and Sync
 abbrev pub preparing : List ℕ → Writing (List ℕ)
 preparing sql = do
-  parsed ← parse [] sql []
+  parsed ← parse_message [] sql []
   described ← describe Statement []
-  ended ← bare 83
+  ended ← bare_message 83
   Ok ((parsed ++ described) ++ ended)
 
 -- A Bind without names, whose parameters are in this format: its code comes after the tag, the length, two empty names
@@ -37,7 +37,7 @@ abbrev pub executing : List Argument → PgValueFormat → PgValueFormat → Wri
 executing arguments parameters results = do
   bound ← bind [] [] arguments (results ∷ [])
   executed ← execute [] 0
-  ended ← bare 83
+  ended ← bare_message 83
   Ok ((with_format parameters bound ++ executed) ++ ended)
 
 -- ---- what is answered
@@ -95,5 +95,5 @@ pub record Runs {R W : Type 0} (remaining : R → Option (List ℕ)) (contents :
   pub parameters : PgValueFormat
   pub prepares : PreparesAtLast remaining contents sql old prepared body
   pub is_description : IsDescription known body columns
-  pub executes : Sends remaining contents (executing arguments parameters (results_of shown)) prepared executed
+  pub executes : SendsMessages remaining contents (executing arguments parameters (results_of shown)) prepared executed
   pub shows : ShowsAnswers remaining contents shown (map (in_format (results_of shown)) columns) executed new text

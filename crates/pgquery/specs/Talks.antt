@@ -21,8 +21,8 @@ Talks remaining contents old new sent answers =
     (came : List Incoming) × (answers_among came ≡ answers) × Appends (contents old.writer) (contents new.writer) sent × Come came (unread remaining old.inbox) (unread remaining new.inbox)
 
 -- A message was sent, or several.
-abbrev pub Sends : {R W : Type 0} → (R → Option (List ℕ)) → (W → Option (List ℕ)) → Writing (List ℕ) → Connection R W → Connection R W → Type 0
-Sends remaining contents messages old new = (sent : List ℕ) × (messages ≡ Ok sent) × Talks remaining contents old new sent []
+abbrev pub SendsMessages : {R W : Type 0} → (R → Option (List ℕ)) → (W → Option (List ℕ)) → Writing (List ℕ) → Connection R W → Connection R W → Type 0
+SendsMessages remaining contents messages old new = (sent : List ℕ) × (messages ≡ Ok sent) × Talks remaining contents old new sent []
 
 -- Something was answered.
 abbrev pub Hears : {R W : Type 0} → (R → Option (List ℕ)) → (W → Option (List ℕ)) → Connection R W → Connection R W → Type 0

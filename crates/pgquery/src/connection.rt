@@ -1,9 +1,9 @@
 //! A session with a server, over any reader and writer.
 
 ghost use Rattle.std.specs.Prelude.{◌≡◌, [], OnOk, IfOk};
-ghost use Rattle.pgv_message.specs.Messages.{bare};
+ghost use Rattle.pgv_message.specs.Messages.{bare_message};
 ghost use Rattle.pgquery.specs.Incoming.{Lends};
-ghost use Rattle.pgquery.specs.Talks.{Answers, Hears, Sends, Starts, Talks};
+ghost use Rattle.pgquery.specs.Talks.{Answers, Hears, SendsMessages, Starts, Talks};
 ghost use Rattle.pgquery.specs.Talks as talks;
 
 use crate::fault::Fault;
@@ -127,7 +127,8 @@ impl<R: Read, W: Write> Connection<R, W> {
 
     /// Ends the session.
     pub fn end(&mut self, alloc: Global) -> Result<(), Fault>
-        ensures { OnOk result (Sends R.remaining W.contents (bare 88) self.old self.new) }
+        ensures { OnOk result
+            (SendsMessages R.remaining W.contents (bare_message 88) self.old self.new) }
     {
         let mut out = Vec::new(alloc);
         message::write_terminate(&mut out)?;

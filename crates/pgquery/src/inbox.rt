@@ -2,7 +2,7 @@
 
 ghost use Rattle.std.specs.Prelude.{◌≡◌, drop, Ok, Some, OnOk, IfOk, IfSome};
 ghost use Rattle.std.specs.Io.KnownBytes.{Keeps};
-ghost use Rattle.pgv_message.specs.Received.{in_front, message_view};
+ghost use Rattle.pgv_message.specs.Received.{message_at_front, message_view};
 ghost use Rattle.pgquery.specs.Incoming.{Lends, Receives, unread, unread_from};
 
 use crate::fault::Fault;
@@ -64,7 +64,8 @@ impl<R: Read> Inbox<R> {
     /// The message at the place of the last one, or `None` where not all of it has come.
     fn front(&self) -> Result<Option<PgMessage<'_>>, Fault>
         ensures { IfOk result (λ found. IfSome found (λ m.
-            in_front (drop self.now.start self.now.came.items) ≡ Ok (Some (message_view m)))) }
+            message_at_front (drop self.now.start self.now.came.items)
+            ≡ Ok (Some (message_view m)))) }
     {
         let came = self.came.as_slice().get(self.start..).ok_or(Fault::End)?;
         Ok(message_in_front(came)?)

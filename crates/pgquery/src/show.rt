@@ -1,7 +1,7 @@
 //! Rows as lines of text.
 
 ghost use Rattle.std.specs.Prelude.{◌≡◌, ◌++◌, ◌<◌, OnOk};
-ghost use Rattle.pgv_row.specs.RowView.{value_at};
+ghost use Rattle.pgv_row.specs.RowView.{value_at_column};
 ghost use Rattle.pgquery.specs.RowLines.{escape, escaped, json_escape, json_escaped, json_value, line_of, member, object_of, string_of, value_shown};
 ghost use Rattle.pgquery.specs.RowLines as lines;
 
@@ -85,7 +85,7 @@ fn push_string(text: &[u8], line: &mut Vec<u8>) -> Result<(), AllocError>
 /// Appends the value of a column: null as `\N`, and else its text.
 fn push_value(row: &PgRow<'_>, place: usize, line: &mut Vec<u8>) -> Result<(), Fault>
     ensures { OnOk result (line.new.items ≡ line.old.items
-        ++ value_shown (value_at row.now place)) }
+        ++ value_shown (value_at_column row.now place)) }
 {
     let value = row.try_get_raw(place)?;
     if value.is_null() {
@@ -109,7 +109,8 @@ pub fn push_values(row: &PgRow<'_>, line: &mut Vec<u8>) -> Result<(), Fault>
 
 /// Appends the value of a column: `null`, or its text as a string.
 fn push_json_value(row: &PgRow<'_>, place: usize, line: &mut Vec<u8>) -> Result<(), Fault>
-    ensures { OnOk result (line.new.items ≡ line.old.items ++ json_value (value_at row.now place)) }
+    ensures { OnOk result (line.new.items
+        ≡ line.old.items ++ json_value (value_at_column row.now place)) }
 {
     let value = row.try_get_raw(place)?;
     if value.is_null() {

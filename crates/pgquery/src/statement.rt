@@ -4,7 +4,7 @@ ghost use Rattle.std.specs.Prelude.{◌≡◌, ◌==◌, OnOk, IfOk, string_byte
 ghost use Rattle.pgquery.specs.RowLines.{ShowsAnswer, ShowsBody, Writes};
 ghost use Rattle.pgquery.specs.Statement.{Describes, Prepares, PreparesAtLast, Runs, ShowsAnswers, described, executing};
 ghost use Rattle.pgquery.specs.Statement as statement;
-ghost use Rattle.pgquery.specs.Talks.{Converses, Sends};
+ghost use Rattle.pgquery.specs.Talks.{Converses, SendsMessages};
 
 use crate::connection::Connection;
 use crate::fault::Fault;
@@ -104,7 +104,7 @@ fn execute<R: Read, W: Write>(
     bindings: &Bindings,
     format: PgValueFormat,
 ) -> Result<(), Fault>
-    ensures { OnOk result (Sends R.remaining W.contents
+    ensures { OnOk result (SendsMessages R.remaining W.contents
         (executing bindings.now.arguments bindings.now.format format)
         connection.old connection.new) }
 {

@@ -7,7 +7,7 @@ use Rattle.pgv_buf.specs.Tokens.{token_width, tokens_hole_types, Token, byte, ho
 use Rattle.pgv_buf.specs.Blank.{plain-append}
 use Rattle.pgv_buf.specs.Proper.{Proper, Proper-append, Proper-front, shown-append, length-shown, length-hole_types_of}
 use Rattle.pgv_buf.specs.Fill.{slot_count-filled}
-use Rattle.pgv_buf.specs.Layout.{is_hole, is_slot, if_so, places, last_from, Kept, slots_of, Layout, layout_of, first_at, parse, tokens_of, Represents, Valid}
+use Rattle.pgv_buf.specs.Layout.{is_hole, is_slot, if_so, places, last_from, Kept, slots_of, Layout, layout_of, first_at, parse_cells, tokens_of, Represents, Valid}
 
 -- ---- places
 
@@ -91,7 +91,7 @@ layout-append a c =
 
 -- ---- only these cells are kept so
 
-parsed : (n i : ℕ) (ts : List Cell) → Proper ts → length ts ≤ n → parse n i (shown ts) (places is_hole i (plain ts)) (tokens_hole_types (plain ts)) (places is_slot i (plain ts)) (slots_of (plain ts)) ≡ ts
+parsed : (n i : ℕ) (ts : List Cell) → Proper ts → length ts ≤ n → parse_cells n i (shown ts) (places is_hole i (plain ts)) (tokens_hole_types (plain ts)) (places is_slot i (plain ts)) (slots_of (plain ts)) ≡ ts
 parsed zero i [] p h = refl
 parsed zero i (t ∷ ts) p h = absurd (omega arith)
 parsed (suc n) i [] p h = refl

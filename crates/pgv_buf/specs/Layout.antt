@@ -61,22 +61,22 @@ abbrev pub first_slot : List Kept → Kept
 first_slot [] = record { standard = []; cases = [] }
 first_slot (k ∷ ks) = k
 
-abbrev pub is_empty : List ℕ → Bool
-is_empty [] = true
-is_empty (x ∷ xs) = false
+abbrev pub holds_none : List ℕ → Bool
+holds_none [] = true
+holds_none (x ∷ xs) = false
 
 -- bytes, places and types of holes, places of slots, slots
-abbrev pub parse : ℕ → ℕ → List ℕ → List ℕ → List Ty → List ℕ → List Kept → List Cell
-parse zero i b ps ts qs ks = []
-parse (suc n) i b ps ts qs ks =
+abbrev pub parse_cells : ℕ → ℕ → List ℕ → List ℕ → List Ty → List ℕ → List Kept → List Cell
+parse_cells zero i b ps ts qs ks = []
+parse_cells (suc n) i b ps ts qs ks =
     if first_at i qs
-    then slot_cell (first_slot ks).standard (first_slot ks).cases (take (length (first_slot ks).standard) b) ∷ parse n (i + length (first_slot ks).standard) (drop (length (first_slot ks).standard) b) ps ts (rest_of qs) (rest_of ks)
+    then slot_cell (first_slot ks).standard (first_slot ks).cases (take (length (first_slot ks).standard) b) ∷ parse_cells n (i + length (first_slot ks).standard) (drop (length (first_slot ks).standard) b) ps ts (rest_of qs) (rest_of ks)
     else if first_at i ps
-    then hole_cell (first_type ts) (take 4 b) ∷ parse n (i + 4) (drop 4 b) (rest_of ps) (rest_of ts) qs ks
-    else if is_empty b then [] else fixed (first_or_zero b) ∷ parse n (i + 1) (rest_of b) ps ts qs ks
+    then hole_cell (first_type ts) (take 4 b) ∷ parse_cells n (i + 4) (drop 4 b) (rest_of ps) (rest_of ts) qs ks
+    else if holds_none b then [] else fixed (first_or_zero b) ∷ parse_cells n (i + 1) (rest_of b) ps ts qs ks
 
 unfoldable pub tokens_of : List ℕ → Layout → List Cell
-tokens_of b l = parse (length b + length l.holes + length l.slot_places) 0 b l.holes l.types l.slot_places l.slots
+tokens_of b l = parse_cells (length b + length l.holes + length l.slot_places) 0 b l.holes l.types l.slot_places l.slots
 
 pub record Represents (ts : List Cell) (b : List ℕ) (l : Layout) : Type 0 where
   pub bytes_are : b ≡ shown ts

@@ -9,7 +9,7 @@ use Rattle.pgv_types.specs.Shown.{fields_of}
 use Rattle.pgv_types.specs.Ty.{Ty, field}
 use Rattle.pgv_value.specs.ReadingSteps.{◌>>=◌}
 use Rattle.pgv_catalog.specs.Entries.{Entry}
-use Rattle.pgv_catalog.specs.Rows.{AreMade, IsOfRows, fields_from, fields_in, named_type, part_in}
+use Rattle.pgv_catalog.specs.Rows.{AreMade, IsOfRows, typed_fields, composite_fields, named_type, part_type}
 use Rattle.pgv_catalog.specs.declared.rows.PgCatalogRows.{PgCatalogRows}
 use Rattle.pgv_catalog.specs.declared.rows.PgFieldRow.{PgFieldRow}
 use Rattle.pgv_catalog.specs.declared.rows.PgTypeRow.{PgTypeRow}
@@ -19,7 +19,7 @@ use Rattle.pgv_catalog.specs.declared.rows.PgTypeRow.{PgTypeRow}
 abbrev pub Found : Type 0
 Found = Option (List (List ℕ × Ty))
 
-pub fields_are : (xs : List (RcStr Global × Ty)) → fields_of xs ≡ fields_from (map named_type xs)
+pub fields_are : (xs : List (RcStr Global × Ty)) → fields_of xs ≡ typed_fields (map named_type xs)
 fields_are [] = refl
 fields_are (x ∷ xs) = ap (field (rc_str_bytes x.0) x.1) (fields_are xs)
 
@@ -37,11 +37,11 @@ regroup xs x (Some more) = ap (λ (ys : List (List ℕ × Ty)). let o : Found = 
 regroup xs x None = refl
 
 module _ (types : List PgTypeRow) (known : List Entry) (oid : ℕ) where
-  pub one_field : (xs : List (List ℕ × Ty)) (row : PgFieldRow) (rows : List PgFieldRow) (t : Ty) → (row.of.0 == oid) ≡ true → part_in types known row.field_type.0 ≡ Some t →
-      with_before xs (fields_in types known oid (row ∷ rows)) ≡ with_before (xs ++ (string_bytes row.name, t) ∷ []) (fields_in types known oid rows)
-  one_field xs row rows t same part = rw (same, part) (regroup xs (string_bytes row.name, t) (fields_in types known oid rows))
+  pub one_field : (xs : List (List ℕ × Ty)) (row : PgFieldRow) (rows : List PgFieldRow) (t : Ty) → (row.of.0 == oid) ≡ true → part_type types known row.field_type.0 ≡ Some t →
+      with_before xs (composite_fields types known oid (row ∷ rows)) ≡ with_before (xs ++ (string_bytes row.name, t) ∷ []) (composite_fields types known oid rows)
+  one_field xs row rows t same part = rw (same, part) (regroup xs (string_bytes row.name, t) (composite_fields types known oid rows))
 
-  pub other_type : (xs : List (List ℕ × Ty)) (row : PgFieldRow) (rows : List PgFieldRow) → (row.of.0 == oid) ≡ false → with_before xs (fields_in types known oid (row ∷ rows)) ≡ with_before xs (fields_in types known oid rows)
+  pub other_type : (xs : List (List ℕ × Ty)) (row : PgFieldRow) (rows : List PgFieldRow) → (row.of.0 == oid) ≡ false → with_before xs (composite_fields types known oid (row ∷ rows)) ≡ with_before xs (composite_fields types known oid rows)
   other_type xs row rows other = rw other refl
 
 -- ---- one more type

@@ -14,13 +14,13 @@ pub record Entry : Type 0 where
 -- ---- what is found
 
 -- the first type of which this holds
-abbrev pub first : (Entry → Bool) → List Entry → Option Ty
-first holds [] = None
-first holds (e ∷ entries) = if holds e then Some e.ty else first holds entries
+abbrev pub first_where : (Entry → Bool) → List Entry → Option Ty
+first_where holds [] = None
+first_where holds (e ∷ entries) = if holds e then Some e.ty else first_where holds entries
 
 -- the first type with this OID
-abbrev pub with_oid : ℕ → List Entry → Option Ty
-with_oid oid entries = first (λ e. has_oid oid e.ty) entries
+abbrev pub type_with_oid : ℕ → List Entry → Option Ty
+type_with_oid oid entries = first_where (λ e. has_oid oid e.ty) entries
 
 -- the name of a type that the server described agrees with this one
 abbrev pub has_name : List ℕ → Ty → Bool
@@ -36,7 +36,7 @@ is_named name e = bytes_eq e.full_name name || (e.is_visible && has_name name e.
 
 -- the first type of this name
 abbrev pub with_name : List ℕ → List Entry → Option Ty
-with_name name entries = first (is_named name) entries
+with_name name entries = first_where (is_named name) entries
 
 abbrev pub is_array_in : ℕ → Kind → Bool
 is_array_in oid simple = false
@@ -56,7 +56,7 @@ is_array_of oid (array_of name) = false
 
 -- the first array whose element has this OID
 abbrev pub with_element : ℕ → List Entry → Option Ty
-with_element oid entries = first (λ e. is_array_of oid e.ty) entries
+with_element oid entries = first_where (λ e. is_array_of oid e.ty) entries
 
 -- ---- the OID for a type
 

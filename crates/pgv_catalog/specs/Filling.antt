@@ -28,16 +28,16 @@ abbrev pub OidsRefused : (Ty → Option ℕ) → List Ty → CatalogError → Ty
 OidsRefused named holes e = (e ≡ Memory) ⊎ ((place : ℕ) × (e ≡ Unknown place) × IsUnknown named holes place)
 
 -- the types of the holes of arguments, in order
-abbrev pub holes_of : List Argument → List Ty
-holes_of list = hole_types_of (all_tokens list)
+abbrev pub argument_holes : List Argument → List Ty
+argument_holes list = hole_types_of (all_tokens list)
 
 -- the bytes are the frames written early with these types, and with the OIDs that the catalogue has for the types of
 -- the holes
 abbrev pub IsFilled : (Ty → Option ℕ) → List Argument → List Ty → List Argument → Type 0
 IsFilled named old types new =
-    (oids : List Oid) × AreNamed named (holes_of old) oids × (shown (all_tokens new) ≡ early (framed old) types oids)
+    (oids : List Oid) × AreNamed named (argument_holes old) oids × (shown (all_tokens new) ≡ early (framed old) types oids)
 
 -- There are not as many types as arguments; or there are, and memory ran out or the type of a hole isn't known.
 abbrev pub FillRefused : (Ty → Option ℕ) → List Argument → List Ty → CatalogError → Type 0
 FillRefused named old types e =
-    ((e ≡ Codec ParameterCount) × (length types ≢ length old)) ⊎ ((length types ≡ length old) × OidsRefused named (holes_of old) e)
+    ((e ≡ Codec ParameterCount) × (length types ≢ length old)) ⊎ ((length types ≡ length old) × OidsRefused named (argument_holes old) e)

@@ -11,7 +11,7 @@ use Rattle.std.specs.declared.rc.RcStr.{RcStr}
 use Rattle.pgv_types.specs.Facts.{built_in}
 use Rattle.pgv_types.specs.Ty.{Ty, by_oid, custom, Kind, simple, pseudo, domain, composite, array, enumeration, range, Fields, no_fields, field}
 use Rattle.pgv_value.specs.ReadingSteps.{◌>>=◌}
-use Rattle.pgv_catalog.specs.Entries.{Entry, with_oid}
+use Rattle.pgv_catalog.specs.Entries.{Entry, type_with_oid}
 use Rattle.pgv_catalog.specs.declared.rows.PgCatalogRows.{PgCatalogRows}
 use Rattle.pgv_catalog.specs.declared.rows.PgFieldRow.{PgFieldRow}
 use Rattle.pgv_catalog.specs.declared.rows.PgLabelRow.{PgLabelRow}
@@ -30,26 +30,26 @@ first_of None t = t
 first_of (Some t) u = Some t
 
 -- the type with this OID as a part of another, or none where it is still to come
-abbrev pub part_in : List PgTypeRow → List Entry → ℕ → Option Ty
-part_in rows known oid =
-    first_of (built_in oid) (first_of (with_oid oid known) (if has_row rows oid then None else Some (by_oid oid)))
+abbrev pub part_type : List PgTypeRow → List Entry → ℕ → Option Ty
+part_type rows known oid =
+    first_of (built_in oid) (first_of (type_with_oid oid known) (if has_row rows oid then None else Some (by_oid oid)))
 
 -- ---- what a row shows
 
 -- the fields of a composite type in order, each with its type
-abbrev pub fields_in : List PgTypeRow → List Entry → ℕ → List PgFieldRow → Option (List (List ℕ × Ty))
-fields_in types known oid [] = Some []
-fields_in types known oid (row ∷ rows) =
-    if row.of.0 == oid then (part_in types known row.field_type.0 >>= λ t. fields_in types known oid rows >>= λ more. Some ((string_bytes row.name, t) ∷ more)) else
-    fields_in types known oid rows
+abbrev pub composite_fields : List PgTypeRow → List Entry → ℕ → List PgFieldRow → Option (List (List ℕ × Ty))
+composite_fields types known oid [] = Some []
+composite_fields types known oid (row ∷ rows) =
+    if row.of.0 == oid then (part_type types known row.field_type.0 >>= λ t. composite_fields types known oid rows >>= λ more. Some ((string_bytes row.name, t) ∷ more)) else
+    composite_fields types known oid rows
 
 -- a field as the code has it
 abbrev pub named_type : RcStr Global × Ty → List ℕ × Ty
 named_type x = (rc_str_bytes x.0, x.1)
 
-abbrev pub fields_from : List (List ℕ × Ty) → Fields
-fields_from [] = no_fields
-fields_from (first ∷ more) = field first.0 first.1 (fields_from more)
+abbrev pub typed_fields : List (List ℕ × Ty) → Fields
+typed_fields [] = no_fields
+typed_fields (first ∷ more) = field first.0 first.1 (typed_fields more)
 
 -- what a row shows of an enumeration's labels: one, where it is the type's
 abbrev pub label_row : ℕ → PgLabelRow → List (List ℕ)
@@ -62,11 +62,11 @@ label_rows oid rows = flat_map (label_row oid) rows
 abbrev pub kind_by : PgTypeClass → PgCatalogRows → List Entry → PgTypeRow → Option Kind
 kind_by Simple rows known row = Some simple
 kind_by Pseudo rows known row = Some pseudo
-kind_by Domain rows known row = option_map (λ t. domain t) (part_in rows.types.items known row.part.0)
-kind_by Composite rows known row = option_map (λ fields. composite (fields_from fields)) (fields_in rows.types.items known row.oid.0 rows.fields.items)
-kind_by Array rows known row = option_map (λ t. array t) (part_in rows.types.items known row.part.0)
+kind_by Domain rows known row = option_map (λ t. domain t) (part_type rows.types.items known row.part.0)
+kind_by Composite rows known row = option_map (λ fields. composite (typed_fields fields)) (composite_fields rows.types.items known row.oid.0 rows.fields.items)
+kind_by Array rows known row = option_map (λ t. array t) (part_type rows.types.items known row.part.0)
 kind_by Enum rows known row = Some (enumeration (label_rows row.oid.0 rows.labels.items))
-kind_by Range rows known row = option_map (λ t. range t) (part_in rows.types.items known row.part.0)
+kind_by Range rows known row = option_map (λ t. range t) (part_type rows.types.items known row.part.0)
 
 abbrev pub kind_in : PgCatalogRows → List Entry → PgTypeRow → Option Kind
 kind_in rows known row = kind_by row.class rows known row
@@ -76,12 +76,12 @@ abbrev pub full_name_of : PgTypeRow → List ℕ
 full_name_of row = string_bytes row.schema ++ 46 ∷ string_bytes row.name
 
 -- the type of a row, of this kind
-abbrev pub entry_of : PgTypeRow → Kind → Entry
-entry_of row kind = record { full_name = full_name_of row; is_visible = row.is_visible; ty = custom row.oid.0 (string_bytes row.name) kind }
+abbrev pub entry_of_row : PgTypeRow → Kind → Entry
+entry_of_row row kind = record { full_name = full_name_of row; is_visible = row.is_visible; ty = custom row.oid.0 (string_bytes row.name) kind }
 
 -- the type of a row, or none where a part of it is still to come
 abbrev pub entry_in : PgCatalogRows → List Entry → PgTypeRow → Option Entry
-entry_in rows known row = option_map (entry_of row) (kind_in rows known row)
+entry_in rows known row = option_map (entry_of_row row) (kind_in rows known row)
 
 -- ---- types of a catalogue
 
@@ -100,7 +100,7 @@ AreMade rows before (e ∷ entries) = IsOfRows rows before e × AreMade rows (be
 
 -- the type of each row is there
 abbrev pub AreAllKnown : List PgTypeRow → List Entry → Type 0
-AreAllKnown rows entries = AllByRecursion (λ row. with_oid row.oid.0 entries ≢ None) rows
+AreAllKnown rows entries = AllByRecursion (λ row. type_with_oid row.oid.0 entries ≢ None) rows
 
 -- ---- parts that are still to come
 
@@ -123,12 +123,12 @@ part_oids fields row = part_oids_by row.class fields row
 
 -- the type of each row was made, or a part of it is still to come
 abbrev pub AllAwait : PgCatalogRows → List Entry → List PgTypeRow → Type 0
-AllAwait rows known list = AllByRecursion (λ row. (with_oid row.oid.0 known ≢ None) ⊎ (entry_in rows known row ≡ None)) list
+AllAwait rows known list = AllByRecursion (λ row. (type_with_oid row.oid.0 known ≢ None) ⊎ (entry_in rows known row ≡ None)) list
 
 -- how many rows have a type that was not made
 abbrev pub unmade : List Entry → List PgTypeRow → ℕ
 unmade known [] = 0
-unmade known (row ∷ list) = if is_none (with_oid row.oid.0 known) then suc (unmade known list) else unmade known list
+unmade known (row ∷ list) = if is_none (type_with_oid row.oid.0 known) then suc (unmade known list) else unmade known list
 
 -- From the type with this OID as many parts can be followed, one a part of the one before; each has a row, and none but
 -- the first may be built in.

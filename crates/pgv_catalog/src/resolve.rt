@@ -4,8 +4,8 @@ ghost use Rattle.std.specs.Prelude.{◌≡◌, ◌<◌, ◌⊎◌, [], true, fal
 ghost use Rattle.std.specs.Rc.{rc_slice_items, rc_str_bytes};
 ghost use Rattle.pgv_types.specs.Shown.{kind_of as kind_shown};
 ghost use Rattle.pgv_types.specs.declared.oid.Oid.{Oid as OidValue};
-ghost use Rattle.pgv_catalog.specs.Rows.{AllAwait, AreAllKnown, AreMade, HasEndlessParts, IsIn, entry_in, entry_of, fields_in, full_name_of, has_row, kind_in, label_rows, named_type, part_in, unmade};
-ghost use Rattle.pgv_catalog.specs.Entries.{with_oid};
+ghost use Rattle.pgv_catalog.specs.Rows.{AllAwait, AreAllKnown, AreMade, HasEndlessParts, IsIn, entry_in, entry_of_row, composite_fields, full_name_of, has_row, kind_in, label_rows, named_type, part_type, unmade};
+ghost use Rattle.pgv_catalog.specs.Entries.{type_with_oid};
 ghost use Rattle.pgv_catalog.specs.declared.error.CatalogError.TheVariants.{Memory, Cycle};
 ghost use Rattle.pgv_catalog.specs.declared.rows.PgTypeRow.{PgTypeRow as TypeRow};
 
@@ -31,7 +31,7 @@ fn part_of(
     oid: Oid,
     known: &PgServerTypes,
 ) -> Result<Option<PgTypeInfo>, AllocError>
-    ensures { IfOk result (λ part. part ≡ part_in rows.now known.now oid.0) }
+    ensures { IfOk result (λ part. part ≡ part_type rows.now known.now oid.0) }
 {
     if let Some(built_in) = PgTypeInfo::try_from_oid(oid) {
         return Ok(Some(built_in));
@@ -53,7 +53,7 @@ fn fields_of_type(
     known: &PgServerTypes,
 ) -> Result<Option<Vec<(RcStr, PgTypeInfo)>>, AllocError>
     ensures { IfOk result (λ found. option_map (λ fields. map named_type fields.items) found
-        ≡ fields_in rows.now.types.items known.now oid.0 rows.now.fields.items) }
+        ≡ composite_fields rows.now.types.items known.now oid.0 rows.now.fields.items) }
 {
     let mut fields = Vec::new(alloc);
     for row in rows.fields.as_slice() {
@@ -134,7 +134,7 @@ fn full_name(alloc: Global, row: &PgTypeRow) -> Result<String, AllocError>
 
 /// The type of a row, of this kind.
 fn server_type(alloc: Global, row: &PgTypeRow, kind: PgTypeKind) -> Result<PgServerType, AllocError>
-    ensures { IfOk result (λ made. made ≡ entry_of row.now (kind_shown kind)) }
+    ensures { IfOk result (λ made. made ≡ entry_of_row row.now (kind_shown kind)) }
 {
     let full_name = full_name(alloc, row)?;
     let type_info = PgTypeInfo::custom(alloc, row.oid, row.name.as_str(), kind)?;
@@ -200,7 +200,7 @@ fn make_all(alloc: Global, rows: &PgCatalogRows) -> Result<PgServerTypes, AllocE
 
 /// The first row whose type was not made.
 fn missing(rows: &[PgTypeRow], known: &PgServerTypes) -> Option<Oid>
-    ensures missing { IfSome result (λ oid. with_oid oid.0 known.now ≡ None) }
+    ensures missing { IfSome result (λ oid. type_with_oid oid.0 known.now ≡ None) }
     ensures there { IfSome result (λ oid. (row : TypeRow) × IsIn row rows.now
         × (row.oid.0 ≡ oid.0)) }
     ensures none { result ≡ None → AreAllKnown rows.now known.now }

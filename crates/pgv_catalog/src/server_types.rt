@@ -1,7 +1,7 @@
 //! The types of a server, by OID and by name.
 
 ghost use Rattle.std.specs.Prelude.{◌≡◌, ◌==◌, length, option_map};
-ghost use Rattle.pgv_catalog.specs.Entries.{has_name, is_array_of, is_named, with_element, with_name, with_oid};
+ghost use Rattle.pgv_catalog.specs.Entries.{has_name, is_array_of, is_named, with_element, with_name, type_with_oid};
 
 use pgv_row::PgCatalog;
 use pgv_types::{Oid, PgType, PgTypeInfo, PgTypeKindRef, name_eq};
@@ -119,7 +119,7 @@ impl PgServerTypes {
 
 /// The first type that has the OID.
 impl PgCatalog for PgServerTypes {
-    ghost known = { λ types oid. with_oid oid types };
+    ghost known = { λ types oid. type_with_oid oid types };
 
     fn type_of(&self, oid: Oid) -> Option<&PgTypeInfo> {
         for entry in self.list.as_slice() {

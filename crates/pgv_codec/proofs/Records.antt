@@ -9,7 +9,7 @@ use Rattle.pgv_codec.specs.TokenFronts.{front_is, rest_after_is}
 use Rattle.pgv_value.specs.Outcome.{Outcome, Fails}
 use Rattle.pgv_value.specs.declared.error.CodecError.TheVariants.{FieldCount}
 use Rattle.pgv_codec.specs.Encoding.{counted_field}
-use Rattle.pgv_codec.specs.Record.{Writing, writing_at, IsOpen}
+use Rattle.pgv_codec.specs.Record.{RecordWriting, writing_at, IsOpen}
 
 -- what is being written, where the buffer is known
 pub writing_is : (m : Mark) (n : ℕ) (now was : List Cell) (fs : List Token) → m ≡ mark_of was → now ≡ was ++ blank (bytes (be4 n) ++ fs) → writing_at m n now ≡ record { before = was; count = n; fields = fs }
@@ -25,7 +25,7 @@ pub parts : (m : Mark) (n : ℕ) (was now : List Cell) (ts : List Token) → IsO
     now ≡ (writing_at m n was).before ++ fixed_bytes (be4 n) ++ blank ((writing_at m n was).fields ++ ts)
 unfolding writing_at
 parts m n was now ts o e =
-    let w : Writing = writing_at m n was in
+    let w : RecordWriting = writing_at m n was in
     e ∙ (ap (λ r. r ++ blank ts) o.1 ∙ (append_assoc w.before (blank (bytes (be4 n) ++ w.fields)) (blank ts)
     ∙ (ap (λ r. w.before ++ (fixed_bytes (be4 n) ++ r)) (sym (blank-append w.fields ts)) ∙ sym (append_assoc w.before (fixed_bytes (be4 n)) (blank (w.fields ++ ts))))))
 

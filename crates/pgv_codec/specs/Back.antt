@@ -24,7 +24,7 @@ use Rattle.pgv_codec.specs.ArrayGrammar.{element_type}
 use Rattle.pgv_codec.specs.NestBinary.{HasFieldType}
 use Rattle.pgv_codec.specs.Encoding.{Encoding, Image, null_image, image_of, value_type, writes, field, fields_from, record_image, element_type as written_type}
 use Rattle.pgv_codec.specs.Writing.{image_holes, written_part}
-use Rattle.pgv_codec.specs.RecordGrammar.{Left, binary_fields, next_field, fields_of}
+use Rattle.pgv_codec.specs.RecordGrammar.{Left, binary_fields, next_field, begin_fields}
 
 -- OIDs are numbers of 32 bits
 abbrev pub AreOids : List Oid → Type 0
@@ -146,7 +146,7 @@ FieldReadsBack {A} info encoding accepts parse kept fits =
 abbrev pub RecordFieldsFollow : Type 0
 RecordFieldsFollow =
     (fs : List (Outcome (List Token))) (i : Image) (t : Ty) (p : Option Ty) (os : List Oid) → (record_image fs).answer ≡ Ok i →
-    (gs : List Token) × ((fields_from 0 fs).answer ≡ Ok gs) × (image_of (bytes (be4 (length fs)) ++ gs) ≡ i) × ((fields_of (given t Binary (written_part i p os))).answer ≡ Ok (binary_fields t 0 (write p os gs)))
+    (gs : List Token) × ((fields_from 0 fs).answer ≡ Ok gs) × (image_of (bytes (be4 (length fs)) ++ gs) ≡ i) × ((begin_fields (given t Binary (written_part i p os))).answer ≡ Ok (binary_fields t 0 (write p os gs)))
 
 -- Steps that read back fields that are written one after another. Further fields may come after those that are read,
 -- and others before.

@@ -16,11 +16,11 @@ use Rattle.pgv_codec.specs.Back.{AreOids, SlotsFit, ImageFits, ReadsBack, holes_
 use Rattle.pgv_codec.specs.BackParts.{type_written, oids_left, frame_parts, image_parts, tokens_holes-append, SlotsFit-front, SlotsFit-back, AreOids-drop, AreOids-after, frame_back}
 use Rattle.pgv_codec.specs.Found.{next_there}
 use Rattle.pgv_value.proofs.Numbers.{number_of_four}
-use Rattle.pgv_codec.specs.NestBinary.{IsField}
+use Rattle.pgv_codec.specs.NestBinary.{IsRecordField}
 use Rattle.pgv_value.specs.FrameBinary.{IsFrame}
 use Rattle.pgv_codec.specs.Encoding.{Encoding, Image, null_image, image_of, frame, frame_of, typed, value_type, field, counted_field, fields_from, record_image}
 use Rattle.pgv_codec.specs.Writing.{image_holes, written_part}
-use Rattle.pgv_codec.specs.RecordGrammar.{Left, binary_fields, next_field, fields_of, parse_record, ◌then◌}
+use Rattle.pgv_codec.specs.RecordGrammar.{Left, binary_fields, next_field, begin_fields, parse_record, ◌then◌}
 
 -- ---- the tokens of a record
 
@@ -59,7 +59,7 @@ frame_holes e f is =
 module _ {A M : Type 0} (info : Ty) (encoding : A → Encoding) (accepts : Ty → Bool) (parse : Given → Outcome M) (kept : A → M) (fits : A → Ty → List Oid → Type 0) (law : ReadsBack encoding (reading_of parse) kept fits) where
   -- a field is read, and what comes after it is left, with the OIDs that are left
   pub is_field : (x : A) (g after : List Token) (t : Ty) (place : ℕ) (p : Option Ty) (os : List Oid) → (field info (encoding x)).answer ≡ Ok g → SlotsFit g → AreOids os → FieldFits info encoding accepts fits x t place os →
-      IsField accepts parse t place (write p os (g ++ after)) (kept x) (write p (drop (tokens_holes g) os) after)
+      IsRecordField accepts parse t place (write p os (g ++ after)) (kept x) (write p (drop (tokens_holes g) os) after)
   is_field x g after t place p os e whole small fit =
       let a = field_parts info (encoding x) g e in
       let w = value_type info (encoding x) in
@@ -126,5 +126,5 @@ record_back {M} {steps} {fs} {kept} {fit} fields i t p os e whole small fits_the
 pub fields_back : RecordFieldsFollow
 fields_back fs i t p os e =
     let a = record_parts fs i e in
-    let there : (fields_of (given t Binary (written_part (image_of (bytes (be4 (length fs)) ++ a.0)) p os))).answer ≡ Ok (binary_fields t 0 (write p os a.0)) = rw (number_of_four (be4 (length fs)) (write p os a.0) refl) refl in
-    (a.0, a.1, a.2, subst (λ (j : Image). (fields_of (given t Binary (written_part j p os))).answer ≡ Ok (binary_fields t 0 (write p os a.0))) a.2 there)
+    let there : (begin_fields (given t Binary (written_part (image_of (bytes (be4 (length fs)) ++ a.0)) p os))).answer ≡ Ok (binary_fields t 0 (write p os a.0)) = rw (number_of_four (be4 (length fs)) (write p os a.0) refl) refl in
+    (a.0, a.1, a.2, subst (λ (j : Image). (begin_fields (given t Binary (written_part j p os))).answer ≡ Ok (binary_fields t 0 (write p os a.0))) a.2 there)

@@ -12,7 +12,7 @@ use Rattle.pgv_types.specs.Ty.{Ty}
 use Rattle.pgv_types.specs.declared.oid.Oid.{Oid}
 use Rattle.pgv_buf.specs.Tokens.{bytes, be4}
 use Rattle.pgv_value.specs.FrameBinary.{Part}
-use Rattle.pgv_value.specs.NumberBinary.{fits_signed, whole_number}
+use Rattle.pgv_value.specs.IntBinary.{fits_signed, whole_number}
 use Rattle.pgv_value.specs.OwnBytes.{own_byte, own_two_bytes, own_four_bytes, own_eight_bytes}
 use Rattle.pgv_value.specs.Outcome.{ok_of, reading_of, stated, without_memory}
 use Rattle.pgv_value.specs.Parsed.{Parsed}

@@ -17,7 +17,7 @@ use Rattle.pgv_types.specs.declared.oid.Oid.{Oid}
 use Rattle.pgv_buf.specs.Tokens.{bytes}
 use Rattle.pgv_text.specs.DateTimeText.{instant_nanos}
 use Rattle.pgv_value.specs.DateTimeBinary.{day_after, time_after, nanos_after, civil_at, parse_date, parse_time, parse_date_time, parse_instant}
-use Rattle.pgv_value.specs.NumberBinary.{fits_signed, whole_number}
+use Rattle.pgv_value.specs.IntBinary.{fits_signed, whole_number}
 use Rattle.pgv_value.specs.Outcome.{reading_of, without_memory}
 use Rattle.pgv_value.specs.OwnBytes.{own_four_bytes, own_eight_bytes}
 use Rattle.pgv_codec.specs.Back.{ReadsBack, always, image_is}

@@ -18,15 +18,15 @@ use Rattle.jiff_core.proofs.StandardFacts.{known_days}
 use Rattle.pgv_text.specs.DateTimeText.{nanos_at}
 use Rattle.pgv_value.specs.DateTimeBinary.{nanos_after}
 use Rattle.pgv_codec.specs.DateTimeImage.{micros_of}
-use Rattle.pgv_codec.specs.TimeOfDay.{time_of, time_nanos-time_of, cut, cut_fits}
+use Rattle.pgv_codec.specs.TimeOfDay.{time_of, time_nanos-time_of, whole_micros, cut_fits}
 
 -- ---- each day before 2000 has a next one
 
 abbrev HasNext : Date → Type 0
 HasNext d = (next : Date) × (epoch_day next ≡ epoch_day d +ℤ pos 1)
 
-first_day : (y : ℤ) (m : ℕ) → IsInRange 1 (days_in_month y m) 1
-first_day y m = let b = days_in_month_bounds y m in (omega arith, omega (arith, b.1))
+first_of_month : (y : ℤ) (m : ℕ) → IsInRange 1 (days_in_month y m) 1
+first_of_month y m = let b = days_in_month_bounds y m in (omega arith, omega (arith, b.1))
 
 first_month : IsInRange 1 12 1
 first_month = (omega arith, omega arith)
@@ -40,10 +40,10 @@ year_more y h lt = (omega (arith, ints, h.0), omega (arith, ints, lt))
 -- the last day of a month: the first of the next month, or of the next year
 first_is_next : (d : Date) → d.year <ℤ pos 2000 → d.day ≡ days_in_month d.year d.month → (b : Bool) → nat_lt d.month 12 ≡ b → HasNext d
 first_is_next d early last true e =
-    let next : Date = record { year = d.year; month = d.month + 1; day = 1; year_in = d.year_in; month_in = month_more d.month e; day_in = first_day d.year (d.month + 1) } in
+    let next : Date = record { year = d.year; month = d.month + 1; day = 1; year_in = d.year_in; month_in = month_more d.month e; day_in = first_of_month d.year (d.month + 1) } in
     (next, days_from_civil-next_month d.year d.month d.day d.month_in.0 last)
 first_is_next d early last false e =
-    let next : Date = record { year = d.year +ℤ pos 1; month = 1; day = 1; year_in = year_more d.year d.year_in early; month_in = first_month; day_in = first_day (d.year +ℤ pos 1) 1 } in
+    let next : Date = record { year = d.year +ℤ pos 1; month = 1; day = 1; year_in = year_more d.year d.year_in early; month_in = first_month; day_in = first_of_month (d.year +ℤ pos 1) 1 } in
     let ge = ltb-false d.month 12 e in
     let top = d.month_in.1 in
     let twelve : d.month ≡ 12 = omega (arith, ge, top) in
@@ -74,7 +74,7 @@ this_year : IsYear (pos 2000)
 this_year = (omega (arith, ints), omega (arith, ints))
 
 abbrev new_year : Date
-new_year = record { year = pos 2000; month = 1; day = 1; year_in = this_year; month_in = first_month; day_in = first_day (pos 2000) 1 }
+new_year = record { year = pos 2000; month = 1; day = 1; year_in = this_year; month_in = first_month; day_in = first_of_month (pos 2000) 1 }
 
 its_day : epoch_day new_year ≡ pos 10_957
 its_day = known_days.2
@@ -99,10 +99,10 @@ late_day d ge = by (cases_date new_year d)
 
 -- the whole microseconds that a number of nanoseconds begins
 abbrev cut_up : ℕ → ℕ
-cut_up n = cut (n + 999)
+cut_up n = whole_micros (n + 999)
 
 -- that many days from 2000 on, or before it
-late_cut : (k s : ℕ) → nanos_after (int_div (pos (k * 86_400_000_000_000 + s)) (pos 1000)) ≡ nanos_at (pos (10_957 + k)) (cut s)
+late_cut : (k s : ℕ) → nanos_after (int_div (pos (k * 86_400_000_000_000 + s)) (pos 1000)) ≡ nanos_at (pos (10_957 + k)) (whole_micros s)
 late_cut k s = omega (arith, ints)
 
 early_cut : (a j s : ℕ) → suc a + s ≡ j * 86_400_000_000_000 → nanos_after (int_div (negsuc a) (pos 1000)) +ℤ pos (j * 86_400_000_000_000) ≡ nanos_at (pos 10_957) (cut_up s)
@@ -125,10 +125,10 @@ days_early (pos n) h = (10_957 - n, omega (arith, ints, h), omega (arith, ints, 
 days_early (negsuc n) h = (10_958 + n, omega (arith, ints), omega arith)
 
 -- a moment from 2000 on
-late_moment : (n day : ℤ) (s : ℕ) → n ≡ nanos_at day s → pos 10_957 ≤ℤ day → nanos_after (micros_of n) ≡ nanos_at day (cut s)
+late_moment : (n day : ℤ) (s : ℕ) → n ≡ nanos_at day s → pos 10_957 ≤ℤ day → nanos_after (micros_of n) ≡ nanos_at day (whole_micros s)
 late_moment n day s e late =
     let k = days_late day late in
-    ap (λ (x : ℤ). nanos_after (int_div x (pos 1000))) (late_difference n day s e k.0 k.1) ∙ (late_cut k.0 s ∙ ap (λ (x : ℤ). nanos_at x (cut s)) (sym k.1))
+    ap (λ (x : ℤ). nanos_after (int_div x (pos 1000))) (late_difference n day s e k.0 k.1) ∙ (late_cut k.0 s ∙ ap (λ (x : ℤ). nanos_at x (whole_micros s)) (sym k.1))
 
 -- and one before it
 early_moment : (n day : ℤ) (s : ℕ) → n ≡ nanos_at day s → day <ℤ pos 10_957 → s < 86_400_000_000_000 → nanos_after (micros_of n) ≡ nanos_at day (cut_up s)
@@ -171,8 +171,8 @@ cut_up_found d s early lt false e =
 
 -- ---- the date-time that is found
 
-abbrev pub Found : DateTime → Type 0
-Found at = (kept : DateTime) × (nanos_after (micros_of (civil_nanos at)) ≡ civil_nanos kept)
+abbrev pub IsFound : DateTime → Type 0
+IsFound at = (kept : DateTime) × (nanos_after (micros_of (civil_nanos at)) ≡ civil_nanos kept)
 
 is_early : (y : ℤ) → int_lt y (pos 2000) ≡ true → y <ℤ pos 2000
 is_early y e = grind (arith, ints)
@@ -180,7 +180,7 @@ is_early y e = grind (arith, ints)
 is_late : (y : ℤ) → int_lt y (pos 2000) ≡ false → pos 2000 ≤ℤ y
 is_late y e = grind (arith, ints)
 
-found_by : (at : DateTime) (b : Bool) → int_lt at.date.year (pos 2000) ≡ b → Found at
+found_by : (at : DateTime) (b : Bool) → int_lt at.date.year (pos 2000) ≡ b → IsFound at
 found_by at true e =
     let early = is_early at.date.year e in
     let s = time_nanos at.time in
@@ -189,8 +189,8 @@ found_by at true e =
     (kept.0, early_moment (civil_nanos at) (epoch_day at.date) s (civil_nanos-parts at) (early_day at.date early) lt ∙ sym kept.1)
 found_by at false e =
     let s = time_nanos at.time in
-    let kept = at_moment at.date (cut s) (cut_fits s (time_nanos_bound at.time)) in
+    let kept = at_moment at.date (whole_micros s) (cut_fits s (time_nanos_bound at.time)) in
     (kept.0, late_moment (civil_nanos at) (epoch_day at.date) s (civil_nanos-parts at) (late_day at.date (is_late at.date.year e)) ∙ sym kept.1)
 
-pub found : (at : DateTime) → Found at
-found at = found_by at _ refl
+pub is_found : (at : DateTime) → IsFound at
+is_found at = found_by at _ refl

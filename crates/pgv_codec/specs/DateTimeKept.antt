@@ -13,24 +13,24 @@ use Rattle.jiff_core.specs.Timestamp.{IsTimestampNanos}
 use Rattle.jiff_core.proofs.DateTimeLemmas.{time_nanos_bound}
 use Rattle.pgv_value.specs.DateTimeBinary.{first_nanosecond, nanos_after}
 use Rattle.pgv_codec.specs.DateTimeImage.{micros_of}
-use Rattle.pgv_codec.specs.DateTimeFound.{found}
-use Rattle.pgv_codec.specs.TimeOfDay.{time_of, time_nanos-time_of, cut, cut_fits}
+use Rattle.pgv_codec.specs.DateTimeFound.{is_found}
+use Rattle.pgv_codec.specs.TimeOfDay.{time_of, time_nanos-time_of, whole_micros, cut_fits}
 
 -- ---- a time
 
 abbrev pub time_kept : Time → Time
-time_kept t = time_of (cut (time_nanos t)) (cut_fits (time_nanos t) (time_nanos_bound t))
+time_kept t = time_of (whole_micros (time_nanos t)) (cut_fits (time_nanos t) (time_nanos_bound t))
 
 pub time_kept_cut : (t : Time) → time_nanos (time_kept t) ≡ time_nanos t / 1000 * 1000
-time_kept_cut t = time_nanos-time_of (cut (time_nanos t)) (cut_fits (time_nanos t) (time_nanos_bound t))
+time_kept_cut t = time_nanos-time_of (whole_micros (time_nanos t)) (cut_fits (time_nanos t) (time_nanos_bound t))
 
--- ---- a date-time: the one whose nanoseconds are those of the microseconds that are written, which there is (`found`)
+-- ---- a date-time: the one whose nanoseconds are those of the microseconds that are written, which there is (`is_found`)
 
 abbrev pub date_time_kept : DateTime → DateTime
-date_time_kept at = (found at).0
+date_time_kept at = (is_found at).0
 
 pub date_time_kept_cut : (at : DateTime) → nanos_after (micros_of (civil_nanos at)) ≡ civil_nanos (date_time_kept at)
-date_time_kept_cut at = (found at).1
+date_time_kept_cut at = (is_found at).1
 
 -- ---- an instant
 

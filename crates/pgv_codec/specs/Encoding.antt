@@ -27,13 +27,13 @@ pub record Encoding : Type 0 where
 abbrev pub limit : ℕ
 limit = 2147483647
 
-abbrev pub or_else : Option Ty → Ty → Ty
-or_else (Some t) u = t
-or_else None u = u
+abbrev pub given_or : Option Ty → Ty → Ty
+given_or (Some t) u = t
+given_or None u = u
 
 -- the type of a value: what it produces, or else that of its Rust type
 abbrev pub value_type : Ty → Encoding → Ty
-value_type info e = or_else e.produced info
+value_type info e = given_or e.produced info
 
 -- whether a type is copied that asks for memory: where there is one and it is a custom one
 abbrev pub is_copied : Option Ty → Bool

@@ -8,16 +8,16 @@ use Rattle.pgv_value.proofs.Outcomes.{answer_is, taken}
 use Rattle.pgv_value.specs.declared.error.CodecError.{CodecError}
 use Rattle.pgv_codec.specs.Encoding.{counted_field, fields_from, record_image, image_of}
 use Rattle.pgv_codec.specs.Appending.{Encoded}
-use Rattle.pgv_codec.specs.Record.{Writing, begun, so_far, with_fields, AddsField, WritesFields}
+use Rattle.pgv_codec.specs.Record.{RecordWriting, begun, so_far, with_fields, AddsField, WritesFields}
 use Rattle.pgv_codec.specs.declared.buffer.IsNull.TheVariants.{No}
 
 -- these fields have been written after what was there
-pub record HasFields (was : List Cell) (fs : List (Outcome (List Token))) (w : Writing) : Type 0 where
+pub record HasFields (was : List Cell) (fs : List (Outcome (List Token))) (w : RecordWriting) : Type 0 where
   pub before_is : w.before ≡ was
   pub count_is : w.count ≡ length fs
   pub fields_are : (fields_from 0 fs).answer ≡ Ok w.fields
 
-pub no_fields : {was : List Cell} {w : Writing} → w ≡ begun was → HasFields was [] w
+pub no_fields : {was : List Cell} {w : RecordWriting} → w ≡ begun was → HasFields was [] w
 no_fields {was} {w} e = rw e (record { before_is = refl; count_is = refl; fields_are = refl })
 
 -- a step that is taken
@@ -41,7 +41,7 @@ one_more n (x ∷ fs) f before ts e h =
     ∙ (bound (fields_from (n + 1) (fs ++ f ∷ [])) (λ others. done (a.0 ++ others)) (b.0 ++ ts) more
     ∙ ap (λ (r : List Token). let o : Result (List Token) (Option CodecError) = Ok r in o) (sym (append_assoc a.0 b.0 ts) ∙ ap (λ (r : List Token). r ++ ts) (answer_is _ before b.2)))
 
-pub more_fields : {was : List Cell} {fs : List (Outcome (List Token))} {w w' : Writing} (f : Outcome (List Token)) → HasFields was fs w → AddsField (counted_field w.count f) w w' → HasFields was (fs ++ f ∷ []) w'
+pub more_fields : {was : List Cell} {fs : List (Outcome (List Token))} {w w' : RecordWriting} (f : Outcome (List Token)) → HasFields was fs w → AddsField (counted_field w.count f) w w' → HasFields was (fs ++ f ∷ []) w'
 more_fields {was} {fs} {w} {w'} f h a =
     let count : w.count ≡ 0 + length fs = h.count_is ∙ omega arith in
     rw a.2 (record {
@@ -50,7 +50,7 @@ more_fields {was} {fs} {w} {w'} f h a =
       fields_are = one_more 0 fs f w.fields a.0 h.fields_are (ap (λ n. (counted_field n f).answer) (sym count) ∙ a.1);
     })
 
-pub all_fields : {was now : List Cell} {fs : List (Outcome (List Token))} {w : Writing} → HasFields was fs w → now ≡ so_far w → Encoded No (record_image fs) was now
+pub all_fields : {was now : List Cell} {fs : List (Outcome (List Token))} {w : RecordWriting} → HasFields was fs w → now ≡ so_far w → Encoded No (record_image fs) was now
 unfolding record_image
 all_fields {was} {now} {fs} {w} h e = (
   bytes (be4 (length fs)) ++ w.fields,
@@ -59,12 +59,12 @@ all_fields {was} {now} {fs} {w} h e = (
 )
 
 -- the record of fields that were written one after another from the first on
-pub record_written : {was now : List Cell} (fs : List (Outcome (List Token))) {w w' : Writing} → w ≡ begun was → WritesFields fs w w' (Ok tt) → now ≡ so_far w' → Encoded No (record_image fs) was now
+pub record_written : {was now : List Cell} (fs : List (Outcome (List Token))) {w w' : RecordWriting} → w ≡ begun was → WritesFields fs w w' (Ok tt) → now ≡ so_far w' → Encoded No (record_image fs) was now
 unfolding record_image
 record_written {was} {now} fs {w} {w'} e a n =
-    let from_start : (fields_from 0 fs).answer ≡ Ok a.0 = ap (λ (v : Writing). (fields_from v.count fs).answer) (sym e) ∙ a.1 in
+    let from_start : (fields_from 0 fs).answer ≡ Ok a.0 = ap (λ (v : RecordWriting). (fields_from v.count fs).answer) (sym e) ∙ a.1 in
     let count : 0 + length fs ≡ length fs = omega arith in
-    let left : w' ≡ with_fields (begun was) (length fs) a.0 = a.2 ∙ ap (λ (v : Writing). with_fields v (length fs) a.0) e in (
+    let left : w' ≡ with_fields (begun was) (length fs) a.0 = a.2 ∙ ap (λ (v : RecordWriting). with_fields v (length fs) a.0) e in (
       bytes (be4 (length fs)) ++ a.0,
       bound (fields_from 0 fs) (λ all. done (image_of (bytes (be4 (length fs)) ++ all))) a.0 from_start,
       n ∙ (ap so_far left ∙ ap (λ (k : ℕ). was ++ blank (bytes (be4 k) ++ a.0)) count),

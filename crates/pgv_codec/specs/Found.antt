@@ -10,7 +10,7 @@ use Rattle.pgv_value.specs.ValueView.{Given}
 use Rattle.pgv_value.proofs.Fronts.{frame_in_front}
 use Rattle.pgv_value.proofs.Numbers.{number_of_four, number_there}
 use Rattle.pgv_codec.specs.ArrayGrammar.{element_type, one_dimension, head, frames, elements, array_in_binary}
-use Rattle.pgv_codec.specs.NestBinary.{BeginWithFrames, IsArray, HasFieldType, of_record, of_custom_record, of_composite, of_domain, IsField}
+use Rattle.pgv_codec.specs.NestBinary.{BeginWithFrames, IsArray, HasFieldType, of_record, of_custom_record, of_composite, of_domain, IsRecordField}
 use Rattle.pgv_codec.specs.RecordGrammar.{field_type, field_head, field_in_binary, binary_fields, next_field}
 
 -- ---- arrays
@@ -51,10 +51,10 @@ begun : (n : ℕ) (rest : List ℕ) → length (to_be_bytes w32 n ++ rest) == 0 
 begun n rest = grind (arith, nat_tests)
 
 module _ {M : Type 0} (accepts : Ty → Bool) (parse : Given → Outcome M) (t : Ty) (place : ℕ) where
-  pub field_there : (bytes : List ℕ) (m : M) (rest : List ℕ) → IsField accepts parse t place bytes m rest → (field_in_binary accepts parse t place bytes).answer ≡ Ok (m, rest)
+  pub field_there : (bytes : List ℕ) (m : M) (rest : List ℕ) → IsRecordField accepts parse t place bytes m rest → (field_in_binary accepts parse t place bytes).answer ≡ Ok (m, rest)
   unfolding field_in_binary field_head
   field_there bytes m rest f =
       rw (f.whole, begun f.oid f.rest_after, number_there f.oid f.rest_after f.oid_fits, field_type_there place f.oid f.own t f.typed, f.accepted, frame_in_front f.rest_after f.part rest f.framed, f.read) refl
 
-  pub next_there : (bytes : List ℕ) (m : M) (rest : List ℕ) → IsField accepts parse t place bytes m rest → (next_field accepts parse (binary_fields t place bytes)).answer ≡ Ok (m, binary_fields t (suc place) rest)
+  pub next_there : (bytes : List ℕ) (m : M) (rest : List ℕ) → IsRecordField accepts parse t place bytes m rest → (next_field accepts parse (binary_fields t place bytes)).answer ≡ Ok (m, binary_fields t (suc place) rest)
   next_there bytes m rest f = rw (field_there bytes m rest f) refl

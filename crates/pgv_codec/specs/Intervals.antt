@@ -6,9 +6,9 @@ use Rattle.std.specs.Prelude.{ℤ, ◌++◌, ◌&&◌, Option, Some, None, if◌
 use Rattle.std.specs.Int.{w32, w64, cast_unsigned, to_be_bytes}
 use Rattle.pgv_buf.specs.Tokens.{bytes}
 use Rattle.pgv_value.specs.Interval.{interval_of}
-use Rattle.pgv_value.specs.NumberBinary.{fits_signed}
+use Rattle.pgv_value.specs.IntBinary.{fits_signed}
 use Rattle.pgv_value.specs.declared.interval.PgInterval.{PgInterval}
-use Rattle.pgv_value.specs.Outcome.{Outcome, exactly, ◌>>=◌}
+use Rattle.pgv_value.specs.Outcome.{Outcome, in_place, ◌>>=◌}
 use Rattle.pgv_codec.specs.Encoding.{Image, image_of, writes}
 
 -- an interval whose numbers have room
@@ -21,5 +21,5 @@ interval_image i =
 -- a duration of this number of nanoseconds, as the interval of its microseconds
 abbrev pub duration_image : ℤ → Outcome Image
 duration_image nanos = do
-  interval ← exactly (interval_of nanos)
+  interval ← in_place (interval_of nanos)
   writes (interval_image interval)

@@ -15,7 +15,7 @@ use Rattle.pgv_codec.specs.BackParts.{guarded}
 use Rattle.pgv_codec.specs.BackScalars.{part_is}
 use Rattle.pgv_codec.specs.Encoding.{image_of, with_hint, writes}
 use Rattle.pgv_codec.specs.Intervals.{interval_image}
-use Rattle.pgv_value.specs.NumberBinary.{fits_signed}
+use Rattle.pgv_value.specs.IntBinary.{fits_signed}
 use Rattle.pgv_value.specs.OwnBytes.{eight_again, four_again}
 
 form : PgInterval → List ℕ

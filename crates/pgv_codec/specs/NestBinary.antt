@@ -2,7 +2,7 @@
 -- "Composite Types", 8.16; the forms are those of its source, array_send and record_send). An array (`IsArray`) is 0
 -- and anything; or 1, flags, OID, count and 1, each of four bytes, and after them frames of the elements
 -- (`BeginWithFrames`). Law: `array_is_its_elements`. A record (`IsRecord`) is four bytes, and fields joined by `and`.
--- Each field (`IsField`) is an OID and a frame of a value under the type that `HasFieldType` names. Laws: the decoders
+-- Each field (`IsRecordField`) is an OID and a frame of a value under the type that `HasFieldType` names. Laws: the decoders
 -- of tuples compute it (`tuple_is_its_fields`), and so do their parts (`field_is_its_value`, `record_begins`,
 -- `field_type_is_found`).
 use Rattle.std.specs.Prelude.{◌≡◌, ◌↔◌, ◌⊎◌, ℕ, suc, ◌<◌, ◌^◌, Bool, true, List, [], ◌∷◌, ◌++◌, length, Some, Ok, ⊤, ◌*◌, ◌≤◌}
@@ -15,7 +15,7 @@ use Rattle.pgv_value.specs.Outcome.{Outcome, Reads}
 use Rattle.pgv_value.specs.ValueView.{Given, given}
 use Rattle.pgv_value.specs.declared.value.PgValueFormat.TheVariants.{Binary}
 use Rattle.pgv_codec.specs.ArrayGrammar.{element_type, array_in_binary}
-use Rattle.pgv_codec.specs.RecordGrammar.{Left, field_at, field_type, field_in_binary, binary_fields, fields_of}
+use Rattle.pgv_codec.specs.RecordGrammar.{Left, field_at, field_type, field_in_binary, binary_fields, begin_fields}
 
 -- ---- arrays
 
@@ -64,7 +64,7 @@ abbrev pub Stretch : Type 0 → Type 1
 Stretch M = Ty → ℕ → List ℕ → M → List ℕ → Type 0
 
 -- One field: the OID of its type, which the reader accepts, and a frame that has the meaning under this type.
-pub record IsField {M : Type 0} (accepts : Ty → Bool) (parse : Given → Outcome M) (t : Ty) (place : ℕ) (bytes : List ℕ) (m : M) (rest : List ℕ) : Type 0 where
+pub record IsRecordField {M : Type 0} (accepts : Ty → Bool) (parse : Given → Outcome M) (t : Ty) (place : ℕ) (bytes : List ℕ) (m : M) (rest : List ℕ) : Type 0 where
   pub oid : ℕ
   pub own : Ty
   pub part : Part
@@ -103,17 +103,17 @@ FieldTypeIsFound = (t : Ty) (place oid : ℕ) (found : Ty) → ((field_type t pl
 unfoldable pub FieldIsItsValue : {M : Type 0} → (Ty → Bool) → (Given → Outcome M) → Type 0
 FieldIsItsValue {M} accepts parse =
     (t : Ty) (place : ℕ) (bytes : List ℕ) (m : M) (rest : List ℕ) → AreBytes bytes →
-    ((field_in_binary accepts parse t place bytes).answer ≡ Ok (m, rest)) ↔ IsField accepts parse t place bytes m rest
+    ((field_in_binary accepts parse t place bytes).answer ≡ Ok (m, rest)) ↔ IsRecordField accepts parse t place bytes m rest
 
 unfoldable pub OneField : {M : Type 0} → (Ty → Bool) → (Given → Outcome M) → Type 0
 OneField {M} accepts parse =
     (t : Ty) (place : ℕ) (bytes : List ℕ) (m n : M) (rest others : List ℕ) →
-    IsField accepts parse t place bytes m rest → IsField accepts parse t place bytes n others → (m ≡ n) × (rest ≡ others)
+    IsRecordField accepts parse t place bytes m rest → IsRecordField accepts parse t place bytes n others → (m ≡ n) × (rest ≡ others)
 
 unfoldable pub RecordBegins : Type 0
 RecordBegins =
     (t : Ty) (bytes rest : List ℕ) →
-    ((fields_of (given t Binary (Some bytes))).answer ≡ Ok (binary_fields t 0 rest)) ↔ ((count : List ℕ) × (bytes ≡ count ++ rest) × (length count ≡ 4))
+    ((begin_fields (given t Binary (Some bytes))).answer ≡ Ok (binary_fields t 0 rest)) ↔ ((count : List ℕ) × (bytes ≡ count ++ rest) × (length count ≡ 4))
 
 -- something is read from bytes in binary under a type iff the bytes are a record of it
 abbrev pub RecordIsItsFields : {M : Type 0} → (Given → Outcome M) → Stretch M → Type 0

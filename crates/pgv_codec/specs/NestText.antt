@@ -18,7 +18,7 @@ use Rattle.pgv_value.specs.Outcome.{Outcome, Reads}
 use Rattle.pgv_value.specs.ValueView.{Given, given}
 use Rattle.pgv_value.specs.Utf8.{is_utf8}
 use Rattle.pgv_value.specs.declared.value.PgValueFormat.TheVariants.{Text}
-use Rattle.pgv_codec.specs.RecordGrammar.{Left, text_fields, next_field, fields_of}
+use Rattle.pgv_codec.specs.RecordGrammar.{Left, text_fields, next_field, begin_fields}
 
 -- ---- arrays
 
@@ -66,7 +66,7 @@ TextIs {M} parse Is = (t : Ty) (bytes : List ℕ) (m : M) → Reads parse (given
 abbrev pub RecordTextBegins : Type 0
 RecordTextBegins =
     (t : Ty) (bytes : List ℕ) (left : Left) →
-    ((fields_of (given t Text (Some bytes))).answer ≡ Ok left) ↔ ((parts : List Part) × (left ≡ text_fields (length parts) (copies_of Record bytes) parts) × (is_utf8 bytes ≡ true) × IsRecordText (chars bytes) parts)
+    ((begin_fields (given t Text (Some bytes))).answer ≡ Ok left) ↔ ((parts : List Part) × (left ≡ text_fields (length parts) (copies_of Record bytes) parts) × (is_utf8 bytes ≡ true) × IsRecordText (chars bytes) parts)
 
 -- The next field is the first part, and the others are left.
 abbrev pub TextFieldIsItsValue : {M : Type 0} → (Ty → Bool) → (Given → Outcome M) → Type 0

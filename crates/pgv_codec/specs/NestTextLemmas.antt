@@ -18,7 +18,7 @@ use Rattle.pgv_value.specs.declared.value.PgValueFormat.TheVariants.{Text}
 use Rattle.pgv_value.proofs.Outcomes.{answer_is, answers_are, taken, taken_exactly, tested, found_or}
 use Rattle.pgv_codec.specs.ArrayGrammar.{array_in_text, each, parse_array, parse_sized}
 use Rattle.pgv_codec.specs.NestText.{IsArrayInText, IsSizedInText, TextStretch, IsTextField, ◌before◌, IsRecordInText, TextIs, RecordTextBegins, TextFieldIsItsValue, FindInText}
-use Rattle.pgv_codec.specs.RecordGrammar.{Left, text_fields, next_field, fields_of, parse_record, ◌then◌}
+use Rattle.pgv_codec.specs.RecordGrammar.{Left, text_fields, next_field, begin_fields, parse_record, ◌then◌}
 use Rattle.pgv_codec.specs.RecordLemmas.{held}
 
 -- ---- arrays
@@ -93,8 +93,8 @@ text_field {M} accepts parse n copied (part ∷ parts) m left = (
       rw (first, h.2.2, h.1, others) refl,
 )
 
-pub one_text : {M : Type 0} (accepts : Ty → Bool) (parse : Given → Outcome M) → FindInText (next_field accepts parse) (IsTextField parse)
-one_text accepts parse n copied parts m = (
+pub one_field_text : {M : Type 0} (accepts : Ty → Bool) (parse : Given → Outcome M) → FindInText (next_field accepts parse) (IsTextField parse)
+one_field_text accepts parse n copied parts m = (
   λ left e. let h = (text_field accepts parse n copied parts m left).0 e in (drop 1 copied, h.0, h.1, h.2),
   λ rest h. (drop 1 copied, (text_field accepts parse n copied parts m (text_fields n (drop 1 copied) rest)).1 (rest, refl, h)),
 )
@@ -120,7 +120,7 @@ further_text {A} {B} accepts parse steps fields found n copied parts m = (
 pub record_text : {M : Type 0} (law : RecordIsItsValues) (steps : Left → Outcome (M × Left)) (fields : TextStretch M) → FindInText steps fields → TextIs (parse_record steps) (IsRecordInText fields)
 record_text {M} law steps fields found t bytes m = (
   λ e.
-      let start = taken (fields_of (given t Text (Some bytes))) _ m e in
+      let start = taken (begin_fields (given t Text (Some bytes))) _ m e in
       let x = taken (steps start.0) _ m start.2 in
       let b = (text_begins law t bytes start.0).0 start.1 in
       let first : (steps (text_fields (length b.0) (copies_of Record bytes) b.0)).answer ≡ Ok (x.0.0, x.0.1) = ap (λ (l : Left). (steps l).answer) (sym b.1) ∙ x.1 in

@@ -118,8 +118,8 @@ fields_by t Binary (Some bytes) = do
 
 -- what is left of a record of which no field was read: in binary all after the number of fields, in text all values of
 -- a record text
-abbrev pub fields_of : Given → Outcome Left
-fields_of v = fields_by v.type_info v.format v.bytes
+abbrev pub begin_fields : Given → Outcome Left
+begin_fields v = fields_by v.type_info v.format v.bytes
 
 -- one step after the other, and what both read
 infixr 12 ◌then◌
@@ -132,31 +132,31 @@ abbrev pub ◌then◌ : {A B : Type 0} → (Left → Outcome (A × Left)) → (L
 -- what the steps read from the first field on; further fields are ignored
 abbrev pub parse_record : {A : Type 0} → (Left → Outcome (A × Left)) → Given → Outcome A
 parse_record steps v = do
-  left ← fields_of v
+  left ← begin_fields v
   x ← steps left
   done x.0
 
 -- ---- how the logic stores what is left
 
-abbrev pub Stored : Type 0
-Stored = Option (List Bool × List Part) × (Ty × (ℕ × List ℕ))
+abbrev pub StoredLeft : Type 0
+StoredLeft = Option (List Bool × List Part) × (Ty × (ℕ × List ℕ))
 
-abbrev pub stored : Left → Stored
-stored (binary_fields t place bytes) = (None, (t, (place, bytes)))
-stored (text_fields n copied parts) = (Some (copied, parts), (builtin 0, (n, [])))
+abbrev pub stored_left : Left → StoredLeft
+stored_left (binary_fields t place bytes) = (None, (t, (place, bytes)))
+stored_left (text_fields n copied parts) = (Some (copied, parts), (builtin 0, (n, [])))
 
 abbrev pub restored_by : Option (List Bool × List Part) → Ty × (ℕ × List ℕ) → Left
 restored_by None b = binary_fields b.0 b.1.0 b.1.1
 restored_by (Some a) b = text_fields b.1.0 a.0 a.1
 
-abbrev pub restored : Stored → Left
+abbrev pub restored : StoredLeft → Left
 restored s = restored_by s.0 s.1
 
-pub restored-stored : (l : Left) → restored (stored l) ≡ l
-restored-stored (binary_fields t place bytes) = refl
-restored-stored (text_fields n copied parts) = refl
+pub restored-again : (l : Left) → restored (stored_left l) ≡ l
+restored-again (binary_fields t place bytes) = refl
+restored-again (text_fields n copied parts) = refl
 
 abbrev pub left_code : Coded Left
-left_code = code_by Stored
+left_code = code_by StoredLeft
     (coded× (coded_option (coded× (coded_list coded_bool) (coded_list (coded_option (coded_list coded_ℕ))))) (coded× ty_code (coded× coded_ℕ (coded_list coded_ℕ))))
-    stored restored restored-stored
+    stored_left restored restored-again

@@ -17,8 +17,8 @@ use Rattle.pgv_value.proofs.Numbers.{number_of_four, bytes_after, after_four, af
 use Rattle.pgv_value.proofs.Outcomes.{answer_is, answers_are, taken, taken_exactly, tested, found_or, stated_is}
 use Rattle.pgv_value.proofs.ValueFronts.{u32_is, u32_splits, value_is}
 use Rattle.pgv_codec.specs.Found.{field_type_there, field_there, next_there}
-use Rattle.pgv_codec.specs.NestBinary.{FindExactly, HasFieldType, of_record, of_custom_record, of_composite, of_domain, Stretch, IsField, ◌and◌, RecordIsItsFields, FieldIsItsValue, OneField, RecordBegins}
-use Rattle.pgv_codec.specs.RecordGrammar.{field_at, composite_field, field_type, field_type_in, field_head, field_in_binary, Left, binary_fields, next_field, fields_of, parse_record, ◌then◌}
+use Rattle.pgv_codec.specs.NestBinary.{FindExactly, HasFieldType, of_record, of_custom_record, of_composite, of_domain, Stretch, IsRecordField, ◌and◌, RecordIsItsFields, FieldIsItsValue, OneField, RecordBegins}
+use Rattle.pgv_codec.specs.RecordGrammar.{field_at, composite_field, field_type, field_type_in, field_head, field_in_binary, Left, binary_fields, next_field, begin_fields, parse_record, ◌then◌}
 
 -- ---- the types of fields
 
@@ -74,7 +74,7 @@ field_type_found t place oid found = (field_type_is t place oid found, field_typ
 -- ---- fields
 
 module _ {M : Type 0} (accepts : Ty → Bool) (parse : Given → Outcome M) (t : Ty) (place : ℕ) where
-  field_is : (bytes : List ℕ) (m : M) (rest : List ℕ) → AreBytes bytes → (field_in_binary accepts parse t place bytes).answer ≡ Ok (m, rest) → IsField accepts parse t place bytes m rest
+  field_is : (bytes : List ℕ) (m : M) (rest : List ℕ) → AreBytes bytes → (field_in_binary accepts parse t place bytes).answer ≡ Ok (m, rest) → IsRecordField accepts parse t place bytes m rest
   unfolding field_in_binary field_head
   field_is bytes m rest b e =
       let h = taken (field_head t place bytes) _ (m, rest) e in
@@ -102,20 +102,20 @@ module _ {M : Type 0} (accepts : Ty → Bool) (parse : Given → Outcome M) (t :
         read = ap (λ (g : Given). (parse g).answer) v.2 ∙ (read.1 ∙ ap (λ (x : M). let r : Result M (Option CodecError) = Ok x in r) k.0);
       }
 
-  after_field : (bytes : List ℕ) (m : M) (rest : List ℕ) → IsField accepts parse t place bytes m rest → AreBytes bytes → AreBytes rest
+  after_field : (bytes : List ℕ) (m : M) (rest : List ℕ) → IsRecordField accepts parse t place bytes m rest → AreBytes bytes → AreBytes rest
   after_field bytes m rest f b = after_frame f.rest_after f.part rest f.framed (after_four f.oid bytes f.rest_after f.whole b)
 
   -- one step
   next_is : (bytes : List ℕ) (m : M) (left : Left) → AreBytes bytes → (next_field accepts parse (binary_fields t place bytes)).answer ≡ Ok (m, left) →
-      (rest : List ℕ) × (left ≡ binary_fields t (suc place) rest) × IsField accepts parse t place bytes m rest
+      (rest : List ℕ) × (left ≡ binary_fields t (suc place) rest) × IsRecordField accepts parse t place bytes m rest
   next_is bytes m left b e =
       let x = taken (field_in_binary accepts parse t place bytes) _ (m, left) e in
       let k = answers_are x.0.0 m (binary_fields t (suc place) x.0.1) left x.2 in
-      (x.0.1, sym k.1, subst (λ (y : M). IsField accepts parse t place bytes y x.0.1) k.0 (field_is bytes x.0.0 x.0.1 b x.1))
+      (x.0.1, sym k.1, subst (λ (y : M). IsRecordField accepts parse t place bytes y x.0.1) k.0 (field_is bytes x.0.0 x.0.1 b x.1))
 
 -- ---- records
 
-begins : (t : Ty) (bytes : List ℕ) (left : Left) → (fields_of (given t Binary (Some bytes))).answer ≡ Ok left →
+begins : (t : Ty) (bytes : List ℕ) (left : Left) → (begin_fields (given t Binary (Some bytes))).answer ≡ Ok left →
     (count rest : List ℕ) × (bytes ≡ count ++ rest) × (length count ≡ 4) × (binary_fields t 0 rest ≡ left)
 begins t bytes left e =
     let c = taken_exactly (u32_front bytes) (λ (x : ℕ × List ℕ). done (binary_fields t 0 x.1)) left e in
@@ -142,7 +142,7 @@ record_begins t bytes rest = (
   λ h. rw (h.1, number_of_four h.0 rest h.2) refl,
 )
 
-pub one_found : {M : Type 0} (accepts : Ty → Bool) (parse : Given → Outcome M) → FindExactly (next_field accepts parse) (IsField accepts parse)
+pub one_found : {M : Type 0} (accepts : Ty → Bool) (parse : Given → Outcome M) → FindExactly (next_field accepts parse) (IsRecordField accepts parse)
 one_found accepts parse t place bytes m b = (
   λ h.
       let k = next_is accepts parse t place bytes m h.0 b h.1 in
@@ -152,7 +152,7 @@ one_found accepts parse t place bytes m b = (
 
 pub further_found :
     {A B : Type 0} (accepts : Ty → Bool) (parse : Given → Outcome A) (steps : Left → Outcome (B × Left)) (fields : Stretch B) →
-    FindExactly steps fields → FindExactly (next_field accepts parse then steps) (IsField accepts parse and fields)
+    FindExactly steps fields → FindExactly (next_field accepts parse then steps) (IsRecordField accepts parse and fields)
 further_found {A} {B} accepts parse steps fields found t place bytes m b = (
   λ h.
       let one = taken (next_field accepts parse (binary_fields t place bytes)) _ (m, h.0) h.1 in
@@ -161,7 +161,7 @@ further_found {A} {B} accepts parse steps fields found t place bytes m b = (
       let k = next_is accepts parse t place bytes one.0.0 one.0.1 b one.1 in
       let after : (steps (binary_fields t (suc place) k.0)).answer ≡ Ok (further.0.0, further.0.1) = ap (λ (left : Left). (steps left).answer) (sym k.1) ∙ further.1 in
       let rest = (found t (suc place) k.0 further.0.0 (after_field accepts parse t place bytes one.0.0 k.0 k.2 b)).0 (further.0.1, after) in
-      subst (λ (x : A × B). (rest : List ℕ) × (IsField accepts parse and fields) t place bytes x rest) both_are.0 (rest.0, (k.0, k.2, rest.1)),
+      subst (λ (x : A × B). (rest : List ℕ) × (IsRecordField accepts parse and fields) t place bytes x rest) both_are.0 (rest.0, (k.0, k.2, rest.1)),
   λ h.
       let one = next_there accepts parse t place bytes m.0 h.1.0 h.1.1 in
       let further = (found t (suc place) h.1.0 m.1 (after_field accepts parse t place bytes m.0 h.1.0 h.1.1 b)).1 (h.0, h.1.2) in
@@ -171,7 +171,7 @@ further_found {A} {B} accepts parse steps fields found t place bytes m b = (
 pub record_found : {M : Type 0} (steps : Left → Outcome (M × Left)) (fields : Stretch M) → FindExactly steps fields → RecordIsItsFields (parse_record steps) fields
 record_found {M} steps fields found t bytes m b = (
   λ e.
-      let start = taken (fields_of (given t Binary (Some bytes))) _ m e in
+      let start = taken (begin_fields (given t Binary (Some bytes))) _ m e in
       let x = taken (steps start.0) _ m start.2 in
       let k = begins t bytes start.0 start.1 in
       let first : (steps (binary_fields t 0 k.1)).answer ≡ Ok (x.0.0, x.0.1) = ap (λ (left : Left). (steps left).answer) k.4 ∙ x.1 in

@@ -7,7 +7,7 @@ use Rattle.pgv_types.specs.Ty.{Ty, Kind, builtin, named, simple, domain, composi
 use Rattle.pgv_types.specs.Facts.{kind_at}
 use Rattle.pgv_types.specs.Relations.{softly}
 use Rattle.pgv_buf.specs.Tokens.{byte, bytes}
-use Rattle.pgv_value.specs.NumberBinary.{fits_signed}
+use Rattle.pgv_value.specs.IntBinary.{fits_signed}
 use Rattle.pgv_codec.specs.Encoding.{Image, image_of}
 
 -- ---- numbers, each of n bits; a number that has no room there has no image

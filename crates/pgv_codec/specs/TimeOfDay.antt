@@ -29,10 +29,10 @@ time_of n lt = record {
 }
 
 -- whole microseconds of a number of nanoseconds
-abbrev pub cut : ℕ → ℕ
-cut n = n / 1000 * 1000
+abbrev pub whole_micros : ℕ → ℕ
+whole_micros n = n / 1000 * 1000
 
-pub cut_fits : (n : ℕ) → n < 86_400_000_000_000 → cut n < 86_400_000_000_000
+pub cut_fits : (n : ℕ) → n < 86_400_000_000_000 → whole_micros n < 86_400_000_000_000
 cut_fits n lt = omega arith
 
 pub time_nanos-time_of : (n : ℕ) (lt : n < 86_400_000_000_000) → time_nanos (time_of n lt) ≡ n

@@ -11,11 +11,11 @@ front_of w h s (fixed x ∷ ts) = if w + h + s == 0 then [] else fixed x ∷ fro
 front_of w h s (hole_cell t b ∷ ts) = if w + h + s == 0 then [] else hole_cell t b ∷ front_of (w - 4) (h - 1) s ts
 front_of w h s (slot_cell d cs b ∷ ts) = if w + h + s == 0 then [] else slot_cell d cs b ∷ front_of (w - length d) h (s - 1) ts
 
-abbrev pub rest_after : ℕ → ℕ → ℕ → List Cell → List Cell
-rest_after w h s [] = []
-rest_after w h s (fixed x ∷ ts) = if w + h + s == 0 then fixed x ∷ ts else rest_after (w - 1) h s ts
-rest_after w h s (hole_cell t b ∷ ts) = if w + h + s == 0 then hole_cell t b ∷ ts else rest_after (w - 4) (h - 1) s ts
-rest_after w h s (slot_cell d cs b ∷ ts) = if w + h + s == 0 then slot_cell d cs b ∷ ts else rest_after (w - length d) h (s - 1) ts
+abbrev pub cells_after : ℕ → ℕ → ℕ → List Cell → List Cell
+cells_after w h s [] = []
+cells_after w h s (fixed x ∷ ts) = if w + h + s == 0 then fixed x ∷ ts else cells_after (w - 1) h s ts
+cells_after w h s (hole_cell t b ∷ ts) = if w + h + s == 0 then hole_cell t b ∷ ts else cells_after (w - 4) (h - 1) s ts
+cells_after w h s (slot_cell d cs b ∷ ts) = if w + h + s == 0 then slot_cell d cs b ∷ ts else cells_after (w - length d) h (s - 1) ts
 
 pub nothing_in_front : (ts : List Cell) → front_of 0 0 0 ts ≡ []
 nothing_in_front [] = refl
@@ -23,7 +23,7 @@ nothing_in_front (fixed x ∷ ts) = refl
 nothing_in_front (hole_cell t b ∷ ts) = refl
 nothing_in_front (slot_cell d cs b ∷ ts) = refl
 
-pub all_after : (ts : List Cell) → rest_after 0 0 0 ts ≡ ts
+pub all_after : (ts : List Cell) → cells_after 0 0 0 ts ≡ ts
 all_after [] = refl
 all_after (fixed x ∷ ts) = refl
 all_after (hole_cell t b ∷ ts) = refl
@@ -41,7 +41,7 @@ front_is (hole_cell t b ∷ a) c w h s e f g =
 front_is (slot_cell d cs b ∷ a) c w h s e f g =
     rw (not_nothing w h s (omega arith)) (ap (λ r. slot_cell d cs b ∷ r) (front_is a c (w - length d) h (s - 1) (omega arith) f (omega arith)))
 
-pub rest_after_is : (a c : List Cell) (w h s : ℕ) → w ≡ width a → h ≡ hole_count a → s ≡ slot_count a → rest_after w h s (a ++ c) ≡ c
+pub rest_after_is : (a c : List Cell) (w h s : ℕ) → w ≡ width a → h ≡ hole_count a → s ≡ slot_count a → cells_after w h s (a ++ c) ≡ c
 rest_after_is [] c w h s e f g = rw (e, f, g) (all_after c)
 rest_after_is (fixed x ∷ a) c w h s e f g =
     rw (not_nothing w h s (omega arith)) (rest_after_is a c (w - 1) h s (omega arith) f g)

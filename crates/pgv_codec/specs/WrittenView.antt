@@ -2,10 +2,10 @@
 use Rattle.std.specs.Prelude.{List}
 use Rattle.pgv_buf.specs.Tokens.{Cell}
 use Rattle.pgv_codec.specs.declared.types.record.PgRecordEncoder.{PgRecordEncoder}
-use Rattle.pgv_codec.specs.Record.{Writing, writing_at}
+use Rattle.pgv_codec.specs.Record.{RecordWriting, writing_at}
 
 -- what stood before the record, the number of its fields, and these
-abbrev pub written : PgRecordEncoder → Writing
+abbrev pub written : PgRecordEncoder → RecordWriting
 written e = writing_at e.mark e.count e.out.now
 
 -- what the buffer has that it writes to

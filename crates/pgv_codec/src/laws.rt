@@ -7,7 +7,7 @@ ghost use Rattle.pgv_types.specs.declared.oid.Oid.{Oid};
 ghost use Rattle.pgv_buf.specs.Tokens.{Token};
 ghost use Rattle.pgv_value.specs.Outcome.{Outcome, done, reading_of};
 ghost use Rattle.pgv_value.specs.ValueView.{Given};
-ghost use Rattle.pgv_codec.specs.NestBinary.{RecordIsItsFields, IsField, SameFields, ◌and◌};
+ghost use Rattle.pgv_codec.specs.NestBinary.{RecordIsItsFields, IsRecordField, SameFields, ◌and◌};
 ghost use Rattle.pgv_codec.specs.NestText.{IsTextField, SameParts, ◌before◌};
 ghost use Rattle.pgv_codec.specs.RecordGrammar.{next_field, parse_record, ◌then◌};
 ghost use Rattle.pgv_codec.specs.Back.{AreOids, ArrayFits, ReadsBack, FieldFits, FieldsFit, FieldReadsBack, RecordFieldsFollow, RecordReadsBack};
@@ -81,12 +81,12 @@ pub fn tuple_is_its_list<
 ///
 /// It holds also of fields that can only be read, as tuples and `()`.
 pub fn lists_are_their_fields<A: Decode + Type, Rest: FieldList>()
-    ensures one { SameFields ⟦<(A,) as FieldList>⟧.in_binary (IsField A.accepts A.parse)
+    ensures one { SameFields ⟦<(A,) as FieldList>⟧.in_binary (IsRecordField A.accepts A.parse)
         × SameParts ⟦<(A,) as FieldList>⟧.in_text (IsTextField A.parse) }
     ensures one_view { (a : _) → ⟦<(A,) as FieldList>⟧.view a ≡ A.view a.0 }
     ensures one_step { ⟦<(A,) as FieldList>⟧.step ≡ next_field A.accepts A.parse }
     ensures more { SameFields ⟦<(A, Rest) as FieldList>⟧.in_binary
-        (IsField A.accepts A.parse and Rest.in_binary)
+        (IsRecordField A.accepts A.parse and Rest.in_binary)
         × SameParts ⟦<(A, Rest) as FieldList>⟧.in_text (IsTextField A.parse before Rest.in_text) }
     ensures more_view { (l : _) → ⟦<(A, Rest) as FieldList>⟧.view l
         ≡ (let both : A.View × Rest.View = (A.view l.0, Rest.view l.1) in both) }

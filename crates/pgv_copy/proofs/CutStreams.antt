@@ -13,7 +13,7 @@ use Rattle.pgv_value.specs.declared.error.CodecError.TheVariants.{Short}
 use Rattle.pgv_value.specs.declared.value.PgValueFormat.TheVariants.{Binary}
 use Rattle.pgv_value.proofs.Fronts.{frame_in_front, cut_is_short}
 use Rattle.pgv_value.proofs.ReadFronts.{framed}
-use Rattle.pgv_copy.specs.CopyBinary.{Step, signature, after_signature, after_flags, after_extension, after_count, header, fields, before, step}
+use Rattle.pgv_copy.specs.CopyBinary.{Step, signature, after_signature, after_flags, after_extension, after_count, after_header, fields, reader_before, step}
 use Rattle.pgv_copy.specs.CopyStream.{IsHeader, trailer, IsRow, Answer, called, answers, row_answers, StopsAtTheCut, CutCopyIsShort, CutHeaderIsShort}
 use Rattle.pgv_copy.specs.CopyView.{Copying}
 use Rattle.pgv_copy.proofs.FieldLoop.{with_first, field_there, field_missing}
@@ -124,18 +124,18 @@ fields_cut (t ∷ types) (part ∷ row) bytes m len each e more =
       | inr r ↦ field_cut t types part bytes r.0 each.0 r.1 r.2
     ]
 
-step_short : (types : List Ty) (bytes : List ℕ) → after_count (length types) bytes ≡ Err Short → step (before types bytes) ≡ Err Short
+step_short : (types : List Ty) (bytes : List ℕ) → after_count (length types) bytes ≡ Err Short → step (reader_before types bytes) ≡ Err Short
 unfolding step
 step_short types bytes short = rw short refl
 
-step_cut : (types : List Ty) (bytes rest : List ℕ) → after_count (length types) bytes ≡ Ok (Some rest) → fields types rest ≡ Err Short → step (before types bytes) ≡ Err Short
+step_cut : (types : List Ty) (bytes rest : List ℕ) → after_count (length types) bytes ≡ Ok (Some rest) → fields types rest ≡ Err Short → step (reader_before types bytes) ≡ Err Short
 unfolding step
 step_cut types bytes rest counted short = rw (counted, short) refl
 
-row_cut : (types : List Ty) (row : List Part) (bytes m : List ℕ) → IsRow (length types) row → row_bytes row ≡ bytes ++ m → 0 < length m → step (before types bytes) ≡ Err Short
+row_cut : (types : List Ty) (row : List Part) (bytes m : List ℕ) → IsRow (length types) row → row_bytes row ≡ bytes ++ m → 0 < length m → step (reader_before types bytes) ≡ Err Short
 row_cut types row bytes m h e more =
     let size = to_be_bytes w16 (length row) in
-    elim (ends_first bytes m size (flat_map field_bytes row) (sym e)) as (λ _. step (before types bytes) ≡ Err Short) [
+    elim (ends_first bytes m size (flat_map field_bytes row) (sym e)) as (λ _. step (reader_before types bytes) ≡ Err Short) [
       | inl l ↦
           let counted : after_count (length types) bytes ≡ Ok (Some l.0) =
           ap (after_count (length types)) l.1 ∙ ap (λ (n : ℕ). after_count (length types) (to_be_bytes w16 n ++ l.0)) h.wide ∙ count_there (length types) l.0 h.width_fits in
@@ -143,7 +143,7 @@ row_cut types row bytes m h e more =
       | inr r ↦ step_short types bytes (count_cut (length types) bytes (two_short (length row) bytes r.0 r.1 r.2))
     ]
 
-trailer_cut : (types : List Ty) (bytes m : List ℕ) → trailer ≡ bytes ++ m → 0 < length m → step (before types bytes) ≡ Err Short
+trailer_cut : (types : List Ty) (bytes m : List ℕ) → trailer ≡ bytes ++ m → 0 < length m → step (reader_before types bytes) ≡ Err Short
 trailer_cut types bytes m e more = let len = ap length e in step_short types bytes (count_cut (length types) bytes (omega (arith, len, length-append bytes m)))
 
 -- a refused call is refused ever after
@@ -159,7 +159,7 @@ record Cut (types : List Ty) (bytes : List ℕ) (rows : List (List Part)) : Type
   whole : bytes ≡ flat_map row_bytes (take count rows) ++ begun
   few : length (take count rows) ≡ count
   each : AllByRecursion (IsRow (length types)) (take count rows)
-  short : step (before types begun) ≡ Err Short
+  short : step (reader_before types begun) ≡ Err Short
 
 one_row_more : (types : List Ty) (bytes m : List ℕ) (row : List Part) (rows : List (List Part)) → IsRow (length types) row → bytes ≡ row_bytes row ++ m → Cut types m rows → Cut types bytes (row ∷ rows)
 one_row_more types bytes m row rows h e c = record {
@@ -180,33 +180,33 @@ rows_cut types (row ∷ rows) bytes m each e more =
       | inr r ↦ record { count = 0; begun = bytes; within = omega arith; whole = refl; few = refl; each = tt; short = row_cut types row bytes r.0 each.0 r.1 r.2 }
     ]
 
-stops : (types : List Ty) (rows : List (List Part)) (bytes : List ℕ) (c : Cut types bytes rows) (n : ℕ) → answers (c.count + n) (before types bytes) ≡ row_answers types (take c.count rows) ++ replicate n (Err Short)
+stops : (types : List Ty) (rows : List (List Part)) (bytes : List ℕ) (c : Cut types bytes rows) (n : ℕ) → answers (c.count + n) (reader_before types bytes) ≡ row_answers types (take c.count rows) ++ replicate n (Err Short)
 stops types rows bytes c n =
-    ap (λ (k : ℕ). answers (k + n) (before types bytes)) (sym c.few)
-    ∙ ap (λ (xs : List ℕ). answers (length (take c.count rows) + n) (before types xs)) c.whole
+    ap (λ (k : ℕ). answers (k + n) (reader_before types bytes)) (sym c.few)
+    ∙ ap (λ (xs : List ℕ). answers (length (take c.count rows) + n) (reader_before types xs)) c.whole
     ∙ rows_there types (take c.count rows) c.begun n c.each
-    ∙ ap (λ (xs : List Answer). row_answers types (take c.count rows) ++ xs) (refused_for_ever (before types c.begun) n c.short)
+    ∙ ap (λ (xs : List Answer). row_answers types (take c.count rows) ++ xs) (refused_for_ever (reader_before types c.begun) n c.short)
 
-short_in_signature : (bytes : List ℕ) → after_signature bytes ≡ Err Short → header bytes ≡ Err Short
+short_in_signature : (bytes : List ℕ) → after_signature bytes ≡ Err Short → after_header bytes ≡ Err Short
 short_in_signature bytes a = rw a refl
 
-short_in_flags : (bytes flags : List ℕ) → after_signature bytes ≡ Ok flags → after_flags flags ≡ Err Short → header bytes ≡ Err Short
+short_in_flags : (bytes flags : List ℕ) → after_signature bytes ≡ Ok flags → after_flags flags ≡ Err Short → after_header bytes ≡ Err Short
 short_in_flags bytes flags a b = rw (a, b) refl
 
-short_in_extension : (bytes flags extension : List ℕ) → after_signature bytes ≡ Ok flags → after_flags flags ≡ Ok extension → after_extension extension ≡ Err Short → header bytes ≡ Err Short
+short_in_extension : (bytes flags extension : List ℕ) → after_signature bytes ≡ Ok flags → after_flags flags ≡ Ok extension → after_extension extension ≡ Err Short → after_header bytes ≡ Err Short
 short_in_extension bytes flags extension a b c = rw (a, b, c) refl
 
-header_cut : (head bytes m : List ℕ) → IsHeader head → head ≡ bytes ++ m → 0 < length m → header bytes ≡ Err Short
+header_cut : (head bytes m : List ℕ) → IsHeader head → head ≡ bytes ++ m → 0 < length m → after_header bytes ≡ Err Short
 header_cut head bytes m h e more =
     let flags = to_be_bytes w32 h.flags in
     let size = to_be_bytes w32 (length h.extension) in
-    elim (ends_first bytes m signature (flags ++ (size ++ h.extension)) (sym e ∙ h.whole)) as (λ _. header bytes ≡ Err Short) [
+    elim (ends_first bytes m signature (flags ++ (size ++ h.extension)) (sym e ∙ h.whole)) as (λ _. after_header bytes ≡ Err Short) [
       | inl a ↦
           let passed : after_signature bytes ≡ Ok a.0 = ap after_signature a.1 ∙ signature_there a.0 in
-          elim (ends_first a.0 m flags (size ++ h.extension) a.2) as (λ _. header bytes ≡ Err Short) [
+          elim (ends_first a.0 m flags (size ++ h.extension) a.2) as (λ _. after_header bytes ≡ Err Short) [
             | inl b ↦
                 let flagged : after_flags a.0 ≡ Ok b.0 = ap after_flags b.1 ∙ flags_there h.flags b.0 h.none_critical in
-                elim (ends_first b.0 m size h.extension b.2) as (λ _. header bytes ≡ Err Short) [
+                elim (ends_first b.0 m size h.extension b.2) as (λ _. after_header bytes ≡ Err Short) [
                   | inl c ↦
                       let len = ap length c.2 in
                       let cut : length c.0 < length h.extension = omega (arith, len, more, length-append c.0 m) in
@@ -227,14 +227,14 @@ unfolding CutCopyIsShort
 cut_copy_is_short types bytes more rows h some =
     let tail = flat_map row_bytes rows ++ (trailer ++ []) in
     let tail_is : tail ≡ flat_map row_bytes rows ++ trailer = refl in
-    elim (ends_first bytes more h.head tail h.whole) as (λ _. (header bytes ≡ Err Short) ⊎ StopsAtTheCut types bytes rows) [
+    elim (ends_first bytes more h.head tail h.whole) as (λ _. (after_header bytes ≡ Err Short) ⊎ StopsAtTheCut types bytes rows) [
       | inl l ↦
           let c = rows_cut types rows l.0 more h.each (sym (l.2 ∙ tail_is)) some in
           inr (record {
             rest = l.0;
             count = c.count;
             begun = c.begun;
-            begins = ap header l.1 ∙ header_there h.head l.0 h.begins;
+            begins = ap after_header l.1 ∙ header_there h.head l.0 h.begins;
             within = c.within;
             whole = c.whole;
             stops = stops types rows l.0 c;

@@ -14,7 +14,7 @@ use Rattle.pgv_value.specs.declared.error.CodecError.{CodecError}
 use Rattle.pgv_value.specs.declared.error.CodecError.TheVariants.{Short, FieldCount}
 use Rattle.pgv_value.proofs.Numbers.{test_failed}
 use Rattle.pgv_value.proofs.Outcomes.{and_then_taken, failed, found_or, held, ok_is}
-use Rattle.pgv_copy.specs.CopyBinary.{Step, signature, after_signature, after_flags, after_extension, after_count, field, fields, before, ended, step}
+use Rattle.pgv_copy.specs.CopyBinary.{Step, signature, after_signature, after_flags, after_extension, after_count, field_in_front, fields, reader_before, reader_ended, step}
 use Rattle.pgv_copy.specs.CopyPieces.{AreHeld, IsEnd, IsRowIn, after_begin, next_of, rest_after, row_at, row_by}
 use Rattle.pgv_copy.proofs.FieldLoop.{field_of, with_first}
 
@@ -66,7 +66,7 @@ front_end bytes rest part e =
     let long : 4 ≤ length bytes = ltb-false (length bytes) 4 t.0 in
     end_of_end bytes (drop 4 bytes) rest (cut 4 bytes (drop 4 bytes) long refl) (part_end (drop 4 bytes) rest (front_length bytes) part _ _ _ refl t.1)
 
-field_end : (t : Ty) (bytes rest : List ℕ) (v : Given) → field t bytes ≡ Ok (v, rest) → IsEnd bytes rest
+field_end : (t : Ty) (bytes rest : List ℕ) (v : Given) → field_in_front t bytes ≡ Ok (v, rest) → IsEnd bytes rest
 field_end t bytes rest v e =
     let p = and_then_taken {A = Part × List ℕ} (part_front bytes) _ (v, rest) e in
     let is : p.0.1 ≡ rest = ap (λ (x : Given × List ℕ). x.1) (ok_is {A = Given × List ℕ} _ _ p.2) in
@@ -76,7 +76,7 @@ pub fields_end : (types : List Ty) (bytes rest : List ℕ) (given : List Given) 
 unfolding fields
 fields_end [] bytes rest given e = cut 0 bytes rest (omega arith) (ap (λ (x : List Given × List ℕ). x.1) (ok_is {A = List Given × List ℕ} _ _ e))
 fields_end (t ∷ types) bytes rest given e =
-    let a = and_then_taken {A = Given × List ℕ} (field t bytes) _ (given, rest) e in
+    let a = and_then_taken {A = Given × List ℕ} (field_in_front t bytes) _ (given, rest) e in
     let b = and_then_taken {A = List Given × List ℕ} (fields types a.0.1) _ (given, rest) a.2 in
     let is : b.0.1 ≡ rest = ap (λ (x : List Given × List ℕ). x.1) (ok_is {A = List Given × List ℕ} _ _ b.2) in
     end_of_end bytes a.0.1 rest (field_end t bytes a.0.1 a.0.0 a.1) (subst (IsEnd a.0.1) is (fields_end types a.0.1 b.0.1 b.0.0 b.1))
@@ -140,7 +140,7 @@ count_shorter width bytes rest e =
 -- ---- the next row
 
 module _ (types : List Ty) (in_header : Bool) (bytes rest : List ℕ) (begun : after_begin in_header bytes ≡ Ok rest) where
-  pub at_end : after_count (length types) rest ≡ Ok None → next_of types in_header bytes ≡ Ok (None, ended types)
+  pub at_end : after_count (length types) rest ≡ Ok None → next_of types in_header bytes ≡ Ok (None, reader_ended types)
   unfolding step
   at_end counts = rw (begun, counts) refl
 
@@ -152,14 +152,14 @@ module _ (types : List Ty) (in_header : Bool) (bytes rest : List ℕ) (begun : a
   unfolding step
   no_field row e counts missing = rw (begun, counts) (none (fields types row) missing)
     where
-      none : (r : Parsed (List Given × List ℕ)) → rest_after r ≡ Err e → (r >>= λ x. let s : Step = Ok (Some x.0, before types x.1) in s) ≡ Err e
+      none : (r : Parsed (List Given × List ℕ)) → rest_after r ≡ Err e → (r >>= λ x. let s : Step = Ok (Some x.0, reader_before types x.1) in s) ≡ Err e
       none (Ok x) is = absurd cc
       none (Err d) is = ap (λ (c : CodecError). let s : Step = Err c in s) (same d is)
         where
           same : (d : CodecError) → (let r : Parsed (List ℕ) = Err d in r) ≡ Err e → d ≡ e
           same d is = cc
 
-  a_row : (row after : List ℕ) (given : List Given) → after_count (length types) rest ≡ Ok (Some row) → fields types row ≡ Ok (given, after) → next_of types in_header bytes ≡ Ok (Some given, before types after)
+  a_row : (row after : List ℕ) (given : List Given) → after_count (length types) rest ≡ Ok (Some row) → fields types row ≡ Ok (given, after) → next_of types in_header bytes ≡ Ok (Some given, reader_before types after)
   unfolding step
   a_row row after given counts found = rw (begun, counts, found) refl
 
@@ -229,7 +229,7 @@ held_row types in_header next held row rest size again le is is_again r =
 
 pub record Advanced (types : List Ty) (in_header : Bool) (bytes left : List ℕ) (row : Option (List Given)) : Type 0 where
   pub given : List Given
-  pub read : next_of types in_header bytes ≡ Ok (Some given, before types left)
+  pub read : next_of types in_header bytes ≡ Ok (Some given, reader_before types left)
   pub row_is : row ≡ Some given
   pub shorter : length left < length bytes
 
@@ -240,7 +240,7 @@ advanced types in_header next held row rest size again le is is_again r =
     let rest_is = held_end next held rest le r.rest_end in
     rw (is, is_again) (record {
       given = r.given;
-      read = r.read ∙ ap (λ (xs : List ℕ). let s : Step = Ok (Some r.given, before types xs) in s) (sym rest_is.1);
+      read = r.read ∙ ap (λ (xs : List ℕ). let s : Step = Ok (Some r.given, reader_before types xs) in s) (sym rest_is.1);
       row_is = ap (λ (xs : List ℕ). row_by (fields types xs)) row_is.1 ∙ ap row_by r.found;
       shorter = subst (λ (xs : List ℕ). length xs < length (drop next held)) (sym rest_is.1) r.shorter;
     })

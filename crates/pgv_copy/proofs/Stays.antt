@@ -13,7 +13,7 @@ use Rattle.pgv_value.specs.Parsed.{Parsed, ◌>>=◌}
 use Rattle.pgv_value.specs.ReadingSteps.{number, signed_two}
 use Rattle.pgv_value.specs.declared.error.CodecError.{CodecError}
 use Rattle.pgv_value.specs.declared.error.CodecError.TheVariants.{Short, NegativeLength, FieldCount, Syntax}
-use Rattle.pgv_copy.specs.CopyBinary.{signature, after_signature, after_flags, after_extension, after_count, header, field, fields, before, row_or_end, step}
+use Rattle.pgv_copy.specs.CopyBinary.{signature, after_signature, after_flags, after_extension, after_count, after_header, field_in_front, fields, reader_before, row_or_end, step}
 use Rattle.pgv_copy.specs.CopyPieces.{Stays, WhatCameStays, after_begin, further}
 
 stays_bind : {A B : Type 0} (f : A → A) (g : B → B) (r later : Parsed A) (next : A → Parsed B) → Stays f r later → ((x : A) → Stays g (next x) (next (f x))) → Stays g (r >>= next) (later >>= next)
@@ -167,7 +167,7 @@ extension_stays bytes more = stays_bind (rest_behind more) (behind more) (u32_fr
         let enough : n ≤ length rest = ltb-false (length rest) n cut in
         rw (not_less rest more n enough, drop-append-le n rest more enough) refl
 
-header_stays : (bytes more : List ℕ) → Stays (behind more) (header bytes) (header (bytes ++ more))
+header_stays : (bytes more : List ℕ) → Stays (behind more) (after_header bytes) (after_header (bytes ++ more))
 header_stays bytes more =
     stays_bind (behind more) (behind more) (after_signature bytes >>= after_flags) (after_signature (bytes ++ more) >>= after_flags) after_extension
     (stays_bind (behind more) (behind more) (after_signature bytes) (after_signature (bytes ++ more)) after_flags (signature_by bytes more _ refl) (λ rest. flags_stay rest more))
@@ -189,14 +189,14 @@ count_stays width bytes more =
     chosen false false true n rest = refl
     chosen false false false n rest = inr refl
 
-field_stays : (t : Ty) (bytes more : List ℕ) → Stays (rest_behind more) (field t bytes) (field t (bytes ++ more))
+field_stays : (t : Ty) (bytes more : List ℕ) → Stays (rest_behind more) (field_in_front t bytes) (field_in_front t (bytes ++ more))
 field_stays t bytes more = stays_bind (rest_behind more) (rest_behind more) (part_front bytes) (part_front (bytes ++ more)) _ (part_stays bytes more) (λ p. refl)
 
 fields_stay : (types : List Ty) (bytes more : List ℕ) → Stays (rest_behind more) (fields types bytes) (fields types (bytes ++ more))
 unfolding fields
 fields_stay [] bytes more = refl
 fields_stay (t ∷ types) bytes more =
-    stays_bind (rest_behind more) (rest_behind more) (field t bytes) (field t (bytes ++ more)) _ (field_stays t bytes more)
+    stays_bind (rest_behind more) (rest_behind more) (field_in_front t bytes) (field_in_front t (bytes ++ more)) _ (field_stays t bytes more)
     (λ first. stays_bind (rest_behind more) (rest_behind more) (fields types first.1) (fields types (first.1 ++ more)) _ (fields_stay types first.1 more) (λ rest. refl))
 
 row_stays : (types : List Ty) (more : List ℕ) (row : Option (List ℕ)) → Stays (further more) (row_or_end types row) (row_or_end types (some_behind more row))
@@ -204,7 +204,7 @@ row_stays types more None = refl
 row_stays types more (Some bytes) =
     stays_bind (rest_behind more) (further more) (fields types bytes) (fields types (bytes ++ more)) _ (fields_stay types bytes more) (λ row. refl)
 
-step_stays : (types : List Ty) (bytes more : List ℕ) → Stays (further more) (step (before types bytes)) (step (before types (bytes ++ more)))
+step_stays : (types : List Ty) (bytes more : List ℕ) → Stays (further more) (step (reader_before types bytes)) (step (reader_before types (bytes ++ more)))
 unfolding step
 step_stays types bytes more =
     stays_bind (some_behind more) (further more) (after_count (length types) bytes) (after_count (length types) (bytes ++ more)) (row_or_end types) (count_stays (length types) bytes more)

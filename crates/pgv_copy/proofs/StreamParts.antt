@@ -8,7 +8,7 @@ use Rattle.std.proofs.lemmas.Nat.{from_be_bytes-to_be_bytes_2}
 use Rattle.std.proofs.lemmas.List.{drop_at, length-append}
 use Rattle.pgv_value.specs.ReadingSteps.{signed_two}
 use Rattle.pgv_value.proofs.Numbers.{number_there}
-use Rattle.pgv_copy.specs.CopyBinary.{signature, after_signature, after_flags, after_extension, after_count, header, Step, fields, before, ended, step}
+use Rattle.pgv_copy.specs.CopyBinary.{signature, after_signature, after_flags, after_extension, after_count, after_header, Step, fields, reader_before, reader_ended, step}
 use Rattle.pgv_copy.specs.CopyStream.{IsHeader, trailer, IsRow, Answer, called, answers, values, row_answers, CopyIsItsRows}
 use Rattle.std.specs.List.{AllByRecursion}
 use Rattle.pgv_types.specs.Ty.{Ty}
@@ -50,15 +50,15 @@ extension_by n extension rest len lt =
 pub extension_there : (extension rest : List ℕ) → length extension < 2 ^ 31 → after_extension (to_be_bytes w32 (length extension) ++ (extension ++ rest)) ≡ Ok rest
 extension_there extension rest lt = extension_by (length extension) extension rest refl lt
 
-header_by : (bytes flags extension rest : List ℕ) → after_signature bytes ≡ Ok flags → after_flags flags ≡ Ok extension → after_extension extension ≡ Ok rest → header bytes ≡ Ok rest
+header_by : (bytes flags extension rest : List ℕ) → after_signature bytes ≡ Ok flags → after_flags flags ≡ Ok extension → after_extension extension ≡ Ok rest → after_header bytes ≡ Ok rest
 header_by bytes flags extension rest a b c = rw (a, b, c) refl
 
-pub header_there : (head rest : List ℕ) → IsHeader head → header (head ++ rest) ≡ Ok rest
+pub header_there : (head rest : List ℕ) → IsHeader head → after_header (head ++ rest) ≡ Ok rest
 header_there head rest h =
     let flags = to_be_bytes w32 h.flags in
     let size = to_be_bytes w32 (length h.extension) in
     let whole : head ++ rest ≡ signature ++ (flags ++ (size ++ (h.extension ++ rest))) = rw h.whole refl in
-    subst (λ (bytes : List ℕ). header bytes ≡ Ok rest) (sym whole)
+    subst (λ (bytes : List ℕ). after_header bytes ≡ Ok rest) (sym whole)
     (header_by (signature ++ (flags ++ (size ++ (h.extension ++ rest)))) _ _ rest (signature_there _) (flags_there h.flags _ h.none_critical) (extension_there h.extension rest h.length_fits))
 
 -- ---- the number of fields
@@ -100,11 +100,11 @@ fields_there (t ∷ types) (part ∷ row) rest len each =
     ∙ field_there t types (field_bytes part ++ more) v more (rw found refl)
     ∙ ap (with_first v) (fields_there types row rest same each.1)
 
-step_by : (types : List Ty) (bytes rest after : List ℕ) (row : List Given) → after_count (length types) bytes ≡ Ok (Some rest) → fields types rest ≡ Ok (row, after) → step (before types bytes) ≡ Ok (Some row, before types after)
+step_by : (types : List Ty) (bytes rest after : List ℕ) (row : List Given) → after_count (length types) bytes ≡ Ok (Some rest) → fields types rest ≡ Ok (row, after) → step (reader_before types bytes) ≡ Ok (Some row, reader_before types after)
 unfolding step
 step_by types bytes rest after row counted read = rw (counted, read) refl
 
-pub row_there : (types : List Ty) (row : List Part) (rest : List ℕ) → IsRow (length types) row → step (before types (row_bytes row ++ rest)) ≡ Ok (Some (values types row), before types rest)
+pub row_there : (types : List Ty) (row : List Part) (rest : List ℕ) → IsRow (length types) row → step (reader_before types (row_bytes row ++ rest)) ≡ Ok (Some (values types row), reader_before types rest)
 row_there types row rest h =
     let more = flat_map field_bytes row ++ rest in
     let split : row_bytes row ++ rest ≡ to_be_bytes w16 (length row) ++ more = append_assoc (to_be_bytes w16 (length row)) (flat_map field_bytes row) rest in
@@ -114,14 +114,14 @@ row_there types row rest h =
 
 -- ---- the end
 
-trailer_by : (types : List Ty) (bytes : List ℕ) → after_count (length types) bytes ≡ Ok None → step (before types bytes) ≡ Ok (None, ended types)
+trailer_by : (types : List Ty) (bytes : List ℕ) → after_count (length types) bytes ≡ Ok None → step (reader_before types bytes) ≡ Ok (None, reader_ended types)
 unfolding step
 trailer_by types bytes counted = rw counted refl
 
-pub trailer_there : (types : List Ty) (rest : List ℕ) → step (before types (trailer ++ rest)) ≡ Ok (None, ended types)
+pub trailer_there : (types : List Ty) (rest : List ℕ) → step (reader_before types (trailer ++ rest)) ≡ Ok (None, reader_ended types)
 trailer_there types rest = trailer_by types (trailer ++ rest) (end_there (length types) rest)
 
-after_end : (types : List Ty) → step (ended types) ≡ Ok (None, ended types)
+after_end : (types : List Ty) → step (reader_ended types) ≡ Ok (None, reader_ended types)
 unfolding step
 after_end types = refl
 
@@ -130,25 +130,25 @@ after_end types = refl
 pub one_call : (n : ℕ) (reader next : Copying) (row : Option (List Given)) → step reader ≡ Ok (row, next) → answers (suc n) reader ≡ Ok row ∷ answers n next
 one_call n reader next row e = ap (λ (s : Step). (called s reader).0 ∷ answers n (called s reader).1) e
 
-none_for_ever : (types : List Ty) (n : ℕ) → answers n (ended types) ≡ replicate n (Ok None)
+none_for_ever : (types : List Ty) (n : ℕ) → answers n (reader_ended types) ≡ replicate n (Ok None)
 none_for_ever types zero = refl
-none_for_ever types (suc n) = one_call n (ended types) (ended types) None (after_end types) ∙ ap (λ (xs : List Answer). Ok None ∷ xs) (none_for_ever types n)
+none_for_ever types (suc n) = one_call n (reader_ended types) (reader_ended types) None (after_end types) ∙ ap (λ (xs : List Answer). Ok None ∷ xs) (none_for_ever types n)
 
-pub none_from_trailer : (types : List Ty) (rest : List ℕ) (n : ℕ) → answers n (before types (trailer ++ rest)) ≡ replicate n (Ok None)
+pub none_from_trailer : (types : List Ty) (rest : List ℕ) (n : ℕ) → answers n (reader_before types (trailer ++ rest)) ≡ replicate n (Ok None)
 none_from_trailer types rest zero = refl
-none_from_trailer types rest (suc n) = one_call n (before types (trailer ++ rest)) (ended types) None (trailer_there types rest) ∙ ap (λ (xs : List Answer). Ok None ∷ xs) (none_for_ever types n)
+none_from_trailer types rest (suc n) = one_call n (reader_before types (trailer ++ rest)) (reader_ended types) None (trailer_there types rest) ∙ ap (λ (xs : List Answer). Ok None ∷ xs) (none_for_ever types n)
 
 -- rows in front are answered, and then what is answered of the rest
 pub rows_there : (types : List Ty) (rows : List (List Part)) (rest : List ℕ) (n : ℕ) → AllByRecursion (IsRow (length types)) rows →
-    answers (length rows + n) (before types (flat_map row_bytes rows ++ rest)) ≡ row_answers types rows ++ answers n (before types rest)
-rows_there types [] rest n each = ap (λ (k : ℕ). answers k (before types rest)) (omega arith)
+    answers (length rows + n) (reader_before types (flat_map row_bytes rows ++ rest)) ≡ row_answers types rows ++ answers n (reader_before types rest)
+rows_there types [] rest n each = ap (λ (k : ℕ). answers k (reader_before types rest)) (omega arith)
 rows_there types (row ∷ rows) rest n each =
     let more = flat_map row_bytes rows ++ rest in
     let split : flat_map row_bytes (row ∷ rows) ++ rest ≡ row_bytes row ++ more = append_assoc (row_bytes row) (flat_map row_bytes rows) rest in
     let count : length (row ∷ rows) + n ≡ suc (length rows + n) = omega arith in
-    ap (λ (k : ℕ). answers k (before types (flat_map row_bytes (row ∷ rows) ++ rest))) count
-    ∙ ap (λ (bytes : List ℕ). answers (suc (length rows + n)) (before types bytes)) split
-    ∙ one_call (length rows + n) (before types (row_bytes row ++ more)) (before types more) (Some (values types row)) (row_there types row more each.0)
+    ap (λ (k : ℕ). answers k (reader_before types (flat_map row_bytes (row ∷ rows) ++ rest))) count
+    ∙ ap (λ (bytes : List ℕ). answers (suc (length rows + n)) (reader_before types bytes)) split
+    ∙ one_call (length rows + n) (reader_before types (row_bytes row ++ more)) (reader_before types more) (Some (values types row)) (row_there types row more each.0)
     ∙ ap (λ (xs : List Answer). Ok (Some (values types row)) ∷ xs) (rows_there types rows rest n each.1)
 
 pub copy_is_its_rows : CopyIsItsRows
@@ -156,6 +156,6 @@ unfolding CopyIsItsRows
 copy_is_its_rows types bytes rows follows h =
     let rest = flat_map row_bytes rows ++ (trailer ++ follows) in (
       rest,
-      subst (λ (xs : List ℕ). header xs ≡ Ok rest) (sym h.whole) (header_there h.head rest h.begins),
+      subst (λ (xs : List ℕ). after_header xs ≡ Ok rest) (sym h.whole) (header_there h.head rest h.begins),
       λ n. rows_there types rows (trailer ++ follows) n h.each ∙ ap (λ (xs : List Answer). row_answers types rows ++ xs) (none_from_trailer types follows n),
     )

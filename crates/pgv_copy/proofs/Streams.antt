@@ -22,7 +22,7 @@ use Rattle.pgv_value.proofs.ReadFronts.{frame_bytes}
 use Rattle.pgv_value.proofs.Numbers.{bytes_below, bytes_after, number_is}
 use Rattle.pgv_value.specs.Parsed.{Parsed, ◌>>=◌}
 use Rattle.pgv_value.proofs.Outcomes.{and_then_taken as taken, found_or as there, held, failed, ok_is}
-use Rattle.pgv_copy.specs.CopyBinary.{Step, signature, after_signature, after_flags, after_extension, after_count, header, field, fields, before, ended, row_or_end, step}
+use Rattle.pgv_copy.specs.CopyBinary.{Step, signature, after_signature, after_flags, after_extension, after_count, after_header, field_in_front, fields, reader_before, reader_ended, row_or_end, step}
 use Rattle.pgv_copy.specs.CopyStream.{IsHeader, trailer, IsRow, Answer, called, call, answers, values, RowsAreOfACopy}
 use Rattle.pgv_copy.specs.CopyView.{Copying}
 
@@ -100,7 +100,7 @@ extension_is bytes rest h e =
       whole ∙ ap (λ (xs : List ℕ). to_be_bytes w32 a.0.0 ++ xs) split ∙ ap (λ (n : ℕ). to_be_bytes w32 n ++ (take a.0.0 a.0.1 ++ rest)) (sym len),
     )
 
-pub header_is : (bytes rest : List ℕ) → AreBytes bytes → header bytes ≡ Ok rest → (head : List ℕ) × IsHeader head × (bytes ≡ head ++ rest)
+pub header_is : (bytes rest : List ℕ) → AreBytes bytes → after_header bytes ≡ Ok rest → (head : List ℕ) × IsHeader head × (bytes ≡ head ++ rest)
 header_is bytes rest h e =
     let c = taken (after_signature bytes >>= after_flags) after_extension rest e in
     let b = taken (after_signature bytes) after_flags c.0 c.1 in
@@ -187,7 +187,7 @@ fields_are [] bytes rest row h e =
     let p = ok_is {A = List Given × List ℕ} ([], bytes) (row, rest) e in
     record { parts = []; wide = refl; each = tt; row_is = sym (ap (λ (q : List Given × List ℕ). q.0) p); whole = ap (λ (q : List Given × List ℕ). q.1) p }
 fields_are (t ∷ types) bytes rest row h e =
-    let a = taken (field t bytes) _ (row, rest) e in
+    let a = taken (field_in_front t bytes) _ (row, rest) e in
     let f = taken {A = Part × List ℕ} (ok_or (front bytes) (frame_fault bytes)) _ a.0 a.1 in
     let part : Part = f.0.0 in
     let frame = frame_bytes bytes part f.0.1 ((front_exactly bytes part f.0.1 h).0 (there (front bytes) (frame_fault bytes) f.0 f.1)) in
@@ -216,20 +216,20 @@ record IsRowStep (types : List Ty) (bytes : List ℕ) (row : List Given) (next :
   rest : List ℕ
   is_row : IsRow (length types) parts
   row_is : row ≡ values types parts
-  next_is : next ≡ before types rest
+  next_is : next ≡ reader_before types rest
   whole : bytes ≡ row_bytes parts ++ rest
   left : AreBytes rest
 
 row_step_from : (types : List Ty) (bytes : List ℕ) (row : List Given) (next : Copying) (counted : Option (List ℕ)) → AreBytes bytes → after_count (length types) bytes ≡ Ok counted → row_or_end types counted ≡ Ok (Some row, next) → IsRowStep types bytes row next
 row_step_from types bytes row next None h c e =
-    let p = ok_is {A = Option (List Given) × Copying} (None, ended types) (Some row, next) e in
+    let p = ok_is {A = Option (List Given) × Copying} (None, reader_ended types) (Some row, next) e in
     absurd (not_none row (sym (ap (λ (q : Option (List Given) × Copying). q.0) p)))
 row_step_from types bytes row next (Some rest) h c e =
     let count = count_is (length types) bytes rest h c in
     let h1 : AreBytes rest = bytes_after (to_be_bytes w16 (length types)) rest (subst AreBytes count.1 h) in
     let a = taken (fields types rest) _ (Some row, next) e in
     let f = fields_are types rest a.0.1 a.0.0 h1 a.1 in
-    let p = ok_is {A = Option (List Given) × Copying} (Some a.0.0, before types a.0.1) (Some row, next) a.2 in
+    let p = ok_is {A = Option (List Given) × Copying} (Some a.0.0, reader_before types a.0.1) (Some row, next) a.2 in
     let wide : length f.parts ≡ length types = f.wide in
     let row_is : a.0.0 ≡ row = some_is a.0.0 row (ap (λ (q : Option (List Given) × Copying). q.0) p) in
     record {
@@ -243,7 +243,7 @@ row_step_from types bytes row next (Some rest) h c e =
       left = bytes_after (flat_map field_bytes f.parts) a.0.1 (subst AreBytes f.whole h1);
     }
 
-row_step : (types : List Ty) (bytes : List ℕ) (row : List Given) (next : Copying) → AreBytes bytes → step (before types bytes) ≡ Ok (Some row, next) → IsRowStep types bytes row next
+row_step : (types : List Ty) (bytes : List ℕ) (row : List Given) (next : Copying) → AreBytes bytes → step (reader_before types bytes) ≡ Ok (Some row, next) → IsRowStep types bytes row next
 unfolding step
 row_step types bytes row next h e =
     let a = taken (after_count (length types) bytes) (row_or_end types) (Some row, next) e in
@@ -253,10 +253,10 @@ end_step_from : (types : List Ty) (bytes : List ℕ) (next : Copying) (counted :
 end_step_from types bytes next None h c e = end_is (length types) bytes h c
 end_step_from types bytes next (Some rest) h c e =
     let a = taken (fields types rest) _ (None, next) e in
-    let p = ok_is {A = Option (List Given) × Copying} (Some a.0.0, before types a.0.1) (None, next) a.2 in
+    let p = ok_is {A = Option (List Given) × Copying} (Some a.0.0, reader_before types a.0.1) (None, next) a.2 in
     absurd (not_none a.0.0 (ap (λ (q : Option (List Given) × Copying). q.0) p))
 
-end_step : (types : List Ty) (bytes : List ℕ) (next : Copying) → AreBytes bytes → step (before types bytes) ≡ Ok (None, next) → (rest : List ℕ) × (bytes ≡ trailer ++ rest)
+end_step : (types : List Ty) (bytes : List ℕ) (next : Copying) → AreBytes bytes → step (reader_before types bytes) ≡ Ok (None, next) → (rest : List ℕ) × (bytes ≡ trailer ++ rest)
 unfolding step
 end_step types bytes next h e =
     let a = taken (after_count (length types) bytes) (row_or_end types) (None, next) e in
@@ -281,14 +281,14 @@ record AreRows (types : List Ty) (bytes : List ℕ) (rows : List (List Given)) :
   rows_are : rows ≡ map (values types) parts
   whole : bytes ≡ flat_map row_bytes parts ++ (trailer ++ follows)
 
-rows_are : (types : List Ty) (bytes : List ℕ) (rows : List (List Given)) → AreBytes bytes → answers (length rows + 1) (before types bytes) ≡ map (λ row. Ok (Some row)) rows ++ Ok None ∷ [] → AreRows types bytes rows
+rows_are : (types : List Ty) (bytes : List ℕ) (rows : List (List Given)) → AreBytes bytes → answers (length rows + 1) (reader_before types bytes) ≡ map (λ row. Ok (Some row)) rows ++ Ok None ∷ [] → AreRows types bytes rows
 rows_are types bytes [] h e =
-    let a = answers_split 0 (before types bytes) None [] e in
+    let a = answers_split 0 (reader_before types bytes) None [] e in
     let end = end_step types bytes a.0 h a.1 in
     record { parts = []; follows = end.0; each = tt; rows_are = refl; whole = end.1 }
 rows_are types bytes (row ∷ rows) h e =
     let count : length (row ∷ rows) + 1 ≡ suc (length rows + 1) = omega arith in
-    let a = answers_split (length rows + 1) (before types bytes) (Some row) _ (sym (ap (λ (k : ℕ). answers k (before types bytes)) count) ∙ e) in
+    let a = answers_split (length rows + 1) (reader_before types bytes) (Some row) _ (sym (ap (λ (k : ℕ). answers k (reader_before types bytes)) count) ∙ e) in
     let r = row_step types bytes row a.0 h a.1 in
     let more = rows_are types r.rest rows r.left (ap (answers (length rows + 1)) (sym r.next_is) ∙ a.2) in
     record {

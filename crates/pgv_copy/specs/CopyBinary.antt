@@ -9,7 +9,7 @@ use Rattle.std.specs.Ordering.{int_eq}
 use Rattle.pgv_types.specs.Facts.{is_custom}
 use Rattle.pgv_types.specs.Ty.{Ty}
 use Rattle.pgv_value.specs.Fronts.{i16_front, u32_front, value_front}
-use Rattle.pgv_value.specs.Outcome.{Outcome, after, exactly}
+use Rattle.pgv_value.specs.Outcome.{Outcome, after, in_place}
 use Rattle.pgv_value.specs.Parsed.{Parsed, ◌>>=◌}
 use Rattle.pgv_value.specs.ValueView.{Given}
 use Rattle.pgv_value.specs.declared.error.CodecError.TheVariants.{Short, NegativeLength, FieldCount, Syntax}
@@ -40,8 +40,8 @@ after_extension bytes =
     if nat_lt (length size.1) size.0 then Err Short else Ok (drop size.0 size.1)
 
 -- what comes after the header
-abbrev pub header : List ℕ → Parsed (List ℕ)
-header bytes = after_signature bytes >>= after_flags >>= after_extension
+abbrev pub after_header : List ℕ → Parsed (List ℕ)
+after_header bytes = after_signature bytes >>= after_flags >>= after_extension
 
 -- ---- rows
 
@@ -54,13 +54,13 @@ after_count width bytes =
     if int_eq count.0 (pos width) then Ok (Some count.1) else Err FieldCount
 
 -- the frame in front, as a field of this type, and what comes after it
-abbrev pub field : Ty → List ℕ → Parsed (Given × List ℕ)
-field t bytes = value_front t Binary bytes
+abbrev pub field_in_front : Ty → List ℕ → Parsed (Given × List ℕ)
+field_in_front t bytes = value_front t Binary bytes
 
 -- a field of each type, and what comes after them
 unfoldable pub fields : List Ty → List ℕ → Parsed (List Given × List ℕ)
 fields [] bytes = Ok ([], bytes)
-fields (t ∷ ts) bytes = field t bytes >>= λ first. fields ts first.1 >>= λ more. Ok (first.0 ∷ more.0, more.1)
+fields (t ∷ ts) bytes = field_in_front t bytes >>= λ first. fields ts first.1 >>= λ more. Ok (first.0 ∷ more.0, more.1)
 
 -- Whether a list that has room for some values asks for memory to take a field of each type: it has room for fewer, or
 -- a custom type is copied.
@@ -69,20 +69,20 @@ list_takes room types = nat_lt room (length types) || list_any is_custom types
 
 -- the fields in a list that has room for some values
 abbrev pub listed : ℕ → List Ty → List ℕ → Outcome (List Given × List ℕ)
-listed room types bytes = after (list_takes room types) (exactly (fields types bytes))
+listed room types bytes = after (list_takes room types) (in_place (fields types bytes))
 
 -- ---- a reader's calls
 
 -- a reader before these bytes, and one after the trailer
-abbrev pub before : List Ty → List ℕ → Copying
-before types bytes = record { types = types; left = Some bytes }
+abbrev pub reader_before : List Ty → List ℕ → Copying
+reader_before types bytes = record { types = types; left = Some bytes }
 
-abbrev pub ended : List Ty → Copying
-ended types = record { types = types; left = None }
+abbrev pub reader_ended : List Ty → Copying
+reader_ended types = record { types = types; left = None }
 
 -- a reader of a stream, after its header
 abbrev pub opened : List Ty → List ℕ → Parsed Copying
-opened types bytes = header bytes >>= λ rest. Ok (before types rest)
+opened types bytes = after_header bytes >>= λ rest. Ok (reader_before types rest)
 
 -- how many bytes are still to be read
 abbrev pub length_left : Option (List ℕ) → ℕ
@@ -97,11 +97,11 @@ abbrev pub Step : Type 0
 Step = Parsed (Option (List Given) × Copying)
 
 abbrev pub row_or_end : List Ty → Option (List ℕ) → Step
-row_or_end types None = Ok (None, ended types)
-row_or_end types (Some bytes) = fields types bytes >>= λ row. Ok (Some row.0, before types row.1)
+row_or_end types None = Ok (None, reader_ended types)
+row_or_end types (Some bytes) = fields types bytes >>= λ row. Ok (Some row.0, reader_before types row.1)
 
 abbrev pub step_from : List Ty → Option (List ℕ) → Step
-step_from types None = Ok (None, ended types)
+step_from types None = Ok (None, reader_ended types)
 step_from types (Some bytes) = after_count (length types) bytes >>= row_or_end types
 
 -- The next row, or none at the trailer and after it.
@@ -126,7 +126,7 @@ row_takes room reader = row_takes_from room reader.types reader.left
 
 -- what a call gives that fills a list with room for some values, and the reader after it
 abbrev pub next_row_in : ℕ → Copying → Outcome (Option (List Given) × Copying)
-next_row_in room reader = after (row_takes room reader) (exactly (step reader))
+next_row_in room reader = after (row_takes room reader) (in_place (step reader))
 
 -- what a call gives that makes a list, and the reader after it
 abbrev pub next_row : Copying → Outcome (Option (List Given) × Copying)

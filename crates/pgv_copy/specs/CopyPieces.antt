@@ -12,7 +12,7 @@ use Rattle.pgv_value.specs.Parsed.{Parsed, ◌>>=◌}
 use Rattle.pgv_value.specs.ValueView.{Given, given_code}
 use Rattle.pgv_value.specs.declared.error.CodecError.{CodecError}
 use Rattle.pgv_value.specs.declared.error.CodecError.TheVariants.{Short}
-use Rattle.pgv_copy.specs.CopyBinary.{Step, header, fields, before, ended, step}
+use Rattle.pgv_copy.specs.CopyBinary.{Step, after_header, fields, reader_before, reader_ended, step}
 use Rattle.pgv_copy.specs.CopyStream.{IsCopy, values}
 use Rattle.pgv_copy.specs.CopyView.{Copying}
 use Rattle.pgv_copy.specs.declared.pieces.PgCopyNext.{PgCopyNext}
@@ -43,12 +43,12 @@ row_lent row = record { answer = Ok row; may_alloc = is_some row }
 
 -- the rest of a stream whose header is still to come, or has been read
 abbrev pub after_begin : Bool → List ℕ → Parsed (List ℕ)
-after_begin true bytes = header bytes
+after_begin true bytes = after_header bytes
 after_begin false bytes = Ok bytes
 
 -- the next row of bytes, or none at the end
 abbrev pub next_of : List Ty → Bool → List ℕ → Step
-next_of types in_header bytes = after_begin in_header bytes >>= λ rest. step (before types rest)
+next_of types in_header bytes = after_begin in_header bytes >>= λ rest. step (reader_before types rest)
 
 -- the reader that has read a row, and is before these bytes
 abbrev pub row_read : List Ty → List Given → List ℕ → Pieces
@@ -61,11 +61,11 @@ end_read types = record { types = types; in_header = false; is_ended = true; lef
 -- what a call says of the bytes that have come
 abbrev pub AdvancesBy : Pieces → Result PgCopyNext CodecError → Pieces → Type 0
 AdvancesBy old (Ok Row) new =
-    (row : List Given) × (next_of old.types old.in_header old.left ≡ Ok (Some row, before old.types new.left))
+    (row : List Given) × (next_of old.types old.in_header old.left ≡ Ok (Some row, reader_before old.types new.left))
     × (new ≡ row_read old.types row new.left)
 AdvancesBy old (Ok More) new = (next_of old.types old.in_header old.left ≡ Err Short) × (new ≡ old)
 AdvancesBy old (Ok End) new =
-    (next_of old.types old.in_header old.left ≡ Ok (None, ended old.types)) × (new ≡ end_read old.types)
+    (next_of old.types old.in_header old.left ≡ Ok (None, reader_ended old.types)) × (new ≡ end_read old.types)
 AdvancesBy old (Err e) new = (next_of old.types old.in_header old.left ≡ Err e) × (e ≢ Short) × (new ≡ old)
 
 -- What a call answers, and the reader after it: at the end it is the end again.
@@ -98,7 +98,7 @@ WhatCameStays =
 abbrev pub ReadRows : List Ty → Bool → List ℕ → List (List Given) → Bool → List ℕ → Type 0
 ReadRows types in_header bytes [] after left = (in_header ≡ after) × (bytes ≡ left)
 ReadRows types in_header bytes (row ∷ rows) after left =
-    (next : List ℕ) × (next_of types in_header bytes ≡ Ok (Some row, before types next)) × ReadRows types false next rows after left
+    (next : List ℕ) × (next_of types in_header bytes ≡ Ok (Some row, reader_before types next)) × ReadRows types false next rows after left
 
 -- Pieces that come one after another, rows that are read after each of them, and what is left then.
 abbrev pub ReadPieces : List Ty → Bool → List ℕ → List (List ℕ) → List (List Given) → Bool → List ℕ → Type 0
@@ -128,7 +128,7 @@ unfoldable pub CopyInPiecesIsItsRows : Type 0
 CopyInPiecesIsItsRows =
     (types : List Ty) (pieces : List (List ℕ)) (rows : List (List Part)) (follows : List ℕ) (given : List (List Given)) (after : Bool) (left : List ℕ) →
     IsCopy (length types) (joined pieces) rows follows → ReadPieces types true [] pieces given after left → NoRow (next_of types after left) →
-    (given ≡ map (values types) rows) × (next_of types after left ≡ Ok (None, ended types))
+    (given ≡ map (values types) rows) × (next_of types after left ≡ Ok (None, reader_ended types))
 
 -- ---- how a reader has its bytes
 
@@ -142,7 +142,7 @@ pub record IsRowIn (types : List Ty) (in_header : Bool) (bytes row rest : List �
   pub row_end : IsEnd bytes row
   pub rest_end : IsEnd bytes rest
   pub found : fields types row ≡ Ok (given, rest)
-  pub read : next_of types in_header bytes ≡ Ok (Some given, before types rest)
+  pub read : next_of types in_header bytes ≡ Ok (Some given, reader_before types rest)
   pub shorter : length rest < length bytes
 
 -- what comes after the fields of a row

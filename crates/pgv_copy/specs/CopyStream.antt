@@ -13,7 +13,7 @@ use Rattle.pgv_value.specs.Parsed.{Parsed}
 use Rattle.pgv_value.specs.ValueView.{Given}
 use Rattle.pgv_value.specs.declared.error.CodecError.TheVariants.{Short}
 use Rattle.pgv_value.specs.declared.value.PgValueFormat.TheVariants.{Binary}
-use Rattle.pgv_copy.specs.CopyBinary.{Step, signature, header, before, step}
+use Rattle.pgv_copy.specs.CopyBinary.{Step, signature, after_header, reader_before, step}
 use Rattle.pgv_copy.specs.CopyView.{Copying}
 
 -- ---- what a stream is
@@ -77,14 +77,14 @@ row_answers types rows = map (λ row. Ok (Some (values types row))) rows
 unfoldable pub CopyIsItsRows : Type 0
 CopyIsItsRows =
     (types : List Ty) (bytes : List ℕ) (rows : List (List Part)) (follows : List ℕ) → IsCopy (length types) bytes rows follows →
-    (rest : List ℕ) × (header bytes ≡ Ok rest) ×
-    ((n : ℕ) → answers (length rows + n) (before types rest) ≡ row_answers types rows ++ replicate n (Ok None))
+    (rest : List ℕ) × (after_header bytes ≡ Ok rest) ×
+    ((n : ℕ) → answers (length rows + n) (reader_before types rest) ≡ row_answers types rows ++ replicate n (Ok None))
 
 -- Bytes that are read as rows and then an end are a stream of these rows.
 unfoldable pub RowsAreOfACopy : Type 0
 RowsAreOfACopy =
-    (types : List Ty) (bytes rest : List ℕ) (rows : List (List Given)) → AreBytes bytes → header bytes ≡ Ok rest →
-    answers (length rows + 1) (before types rest) ≡ map (λ row. Ok (Some row)) rows ++ Ok None ∷ [] →
+    (types : List Ty) (bytes rest : List ℕ) (rows : List (List Given)) → AreBytes bytes → after_header bytes ≡ Ok rest →
+    answers (length rows + 1) (reader_before types rest) ≡ map (λ row. Ok (Some row)) rows ++ Ok None ∷ [] →
     (parts : List (List Part)) × (follows : List ℕ) × IsCopy (length types) bytes parts follows × (rows ≡ map (values types) parts)
 
 -- Of a stream that is cut off, either the header is refused because the bytes end too early, or the first rows are
@@ -93,16 +93,16 @@ pub record StopsAtTheCut (types : List Ty) (bytes : List ℕ) (rows : List (List
   pub rest : List ℕ
   pub count : ℕ
   pub begun : List ℕ
-  pub begins : header bytes ≡ Ok rest
+  pub begins : after_header bytes ≡ Ok rest
   pub within : count ≤ length rows
   pub whole : rest ≡ flat_map row_bytes (take count rows) ++ begun
-  pub stops : (n : ℕ) → answers (count + n) (before types rest) ≡ row_answers types (take count rows) ++ replicate n (Err Short)
+  pub stops : (n : ℕ) → answers (count + n) (reader_before types rest) ≡ row_answers types (take count rows) ++ replicate n (Err Short)
 
 -- A header that is cut off is refused because the bytes end too early.
 unfoldable pub CutHeaderIsShort : Type 0
-CutHeaderIsShort = (bytes more : List ℕ) → IsHeader (bytes ++ more) → 0 < length more → header bytes ≡ Err Short
+CutHeaderIsShort = (bytes more : List ℕ) → IsHeader (bytes ++ more) → 0 < length more → after_header bytes ≡ Err Short
 
 unfoldable pub CutCopyIsShort : Type 0
 CutCopyIsShort =
     (types : List Ty) (bytes more : List ℕ) (rows : List (List Part)) → IsCopy (length types) (bytes ++ more) rows [] → 0 < length more →
-    (header bytes ≡ Err Short) ⊎ StopsAtTheCut types bytes rows
+    (after_header bytes ≡ Err Short) ⊎ StopsAtTheCut types bytes rows

@@ -4,7 +4,7 @@ ghost use Rattle.std.specs.Prelude.{◌≡◌, ◌<◌, ◌≤◌, Ok, Err, None
 ghost use Rattle.pgv_value.specs.Outcome.{Gives};
 ghost use Rattle.pgv_value.specs.Parsed.{GivesExactly};
 ghost use Rattle.pgv_value.specs.declared.error.CodecError.TheVariants.{Memory};
-ghost use Rattle.pgv_copy.specs.CopyBinary.{ended, fields};
+ghost use Rattle.pgv_copy.specs.CopyBinary.{reader_ended, fields};
 ghost use Rattle.pgv_copy.specs.declared.pieces.PgCopyNext.TheVariants.{Row};
 ghost use Rattle.pgv_copy.specs.CopyPieces.{Advances, IsRowIn, after_begin, next_of, nothing_came, rest_after, row_lent, with_more};
 
@@ -87,7 +87,7 @@ fn next_row_in<'r>(
     in_header: bool,
 ) -> Result<Option<(&'r [u8], &'r [u8])>, CodecError>
     ensures { let next = next_of types.now in_header bytes.now in
-        MatchResult result (λ found. MatchOption found (next ≡ Ok (None, ended types.now))
+        MatchResult result (λ found. MatchOption found (next ≡ Ok (None, reader_ended types.now))
         (λ p. IsRowIn types.now in_header bytes.now p.0.now p.1.now)) (λ e. next ≡ Err e) }
 {
     let rest = after_beginning(bytes, in_header)?;

@@ -4,7 +4,7 @@ ghost use Rattle.std.specs.Prelude.{◌≡◌, ◌<◌, ◌≤◌, [], length, t
 ghost use Rattle.std.specs.Option.{option_copied};
 ghost use Rattle.pgv_value.specs.Parsed.{GivesExactly, GivesFront};
 ghost use Rattle.pgv_value.specs.Outcome.{Gives};
-ghost use Rattle.pgv_copy.specs.CopyBinary.{header, after_signature as signature_passed, after_flags as flags_passed, after_extension as extension_passed, after_count as count_passed, filled, listed, next_row as next_row_of, next_row_in, opened, bytes_left};
+ghost use Rattle.pgv_copy.specs.CopyBinary.{after_header, after_signature as signature_passed, after_flags as flags_passed, after_extension as extension_passed, after_count as count_passed, filled, listed, next_row as next_row_of, next_row_in, opened, bytes_left};
 
 use pgv_types::PgTypeInfo;
 use pgv_value::{CodecError, PgValueFormat, PgValueRef, i16_in_front, u32_in_front};
@@ -122,7 +122,7 @@ impl<'r> PgCopyReader<'r> {
 
 /// What comes after the header of a stream: the signature, the flags, and the extension, which is passed over.
 pub fn after_header(bytes: &[u8]) -> Result<&[u8], CodecError>
-    ensures { GivesExactly (λ rest. rest.now) (header bytes.now) result }
+    ensures { GivesExactly (λ rest. rest.now) (after_header bytes.now) result }
 {
     after_extension(after_flags(after_signature(bytes)?)?)
 }

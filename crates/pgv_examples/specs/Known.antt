@@ -13,8 +13,8 @@ AreKnownOids known [] (oid ∷ oids) = ⊥
 AreKnownOids known (wanted ∷ others) [] = ⊥
 AreKnownOids known (wanted ∷ others) (oid ∷ oids) = IsKnownOid known wanted oid × AreKnownOids known others oids
 
-pub one_more : (known wanted : List Ty) (oids : List Oid) (next : Ty) (oid : Oid) → AreKnownOids known wanted oids → IsKnownOid known next oid → AreKnownOids known (wanted ++ next ∷ []) (oids ++ oid ∷ [])
-one_more known [] [] next oid are is = (is, tt)
-one_more known [] (o ∷ oids) next oid are is = absurd are
-one_more known (w ∷ wanted) [] next oid are is = absurd are
-one_more known (w ∷ wanted) (o ∷ oids) next oid are is = (are.0, one_more known wanted oids next oid are.1 is)
+pub one_more_known : (known wanted : List Ty) (oids : List Oid) (next : Ty) (oid : Oid) → AreKnownOids known wanted oids → IsKnownOid known next oid → AreKnownOids known (wanted ++ next ∷ []) (oids ++ oid ∷ [])
+one_more_known known [] [] next oid are is = (is, tt)
+one_more_known known [] (o ∷ oids) next oid are is = absurd are
+one_more_known known (w ∷ wanted) [] next oid are is = absurd are
+one_more_known known (w ∷ wanted) (o ∷ oids) next oid are is = (are.0, one_more_known known wanted oids next oid are.1 is)

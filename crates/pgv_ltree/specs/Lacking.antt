@@ -31,11 +31,11 @@ cut_lacks d (c ∷ text) e =
     let b = and_parts (not (c == d)) (lacks d text) e in
     rw (not-true (c == d) b.0, cut_lacks d text b.1) refl
 
-pub cut_between : (d : ℕ) (front after : List ℕ) → lacks d front ≡ true → cut d (front ++ d ∷ after) ≡ Some (front, after)
-cut_between d [] after e = rw (eq-eqb d d refl) refl
-cut_between d (c ∷ front) after e =
+pub cut_there : (d : ℕ) (front after : List ℕ) → lacks d front ≡ true → cut d (front ++ d ∷ after) ≡ Some (front, after)
+cut_there d [] after e = rw (eq-eqb d d refl) refl
+cut_there d (c ∷ front) after e =
     let b = and_parts (not (c == d)) (lacks d front) e in
-    rw (not-true (c == d) b.0, cut_between d front after b.1) refl
+    rw (not-true (c == d) b.0, cut_there d front after b.1) refl
 
 pub before_last_at : (d : ℕ) (front : List ℕ) → before_last d (front ++ d ∷ []) ≡ Some front
 before_last_at d [] = rw (eq-eqb d d refl) refl

@@ -13,7 +13,7 @@ use Rattle.pgv_ltree.specs.Joins.{lacks, other_char, split_again, wider}
 use Rattle.pgv_ltree.specs.Labels.{is_label, is_label_char}
 use Rattle.pgv_ltree.specs.PrintedAgain.{label_chars}
 use Rattle.pgv_ltree.specs.CountAgain.{bound_there, count_again, decimal_digits, decimal_some, digits_lack}
-use Rattle.pgv_ltree.specs.Lacking.{before_last_at, cut_between, cut_lacks, lacks-append, lacks-joined, no_mark}
+use Rattle.pgv_ltree.specs.Lacking.{before_last_at, cut_there, cut_lacks, lacks-append, lacks-joined, no_mark}
 use Rattle.pgv_ltree.specs.Queries.{Variant, Level, star, one_of, none_of, is_level, is_variant}
 use Rattle.pgv_ltree.specs.QueryPrinted.{printed_level, printed_marks, printed_query, printed_star, printed_variant, printed_variants}
 use Rattle.pgv_ltree.specs.QueryRead.{bound_read, count_read, inner_read, label_length, level_read, marked, query_read, variant_read, variants_read}
@@ -96,7 +96,7 @@ pub bounds_there : (least most : List ℕ) (low high : Option ℕ) → lacks 44 
     inner_read (Some (least ++ 44 ∷ most)) ≡ Ok (star low high)
 bounds_there [] [] low high p q e f some = absurd (some refl)
 bounds_there [] (c ∷ most) low high p q e f some = rw (no_mark 44 (c ∷ most) q, e, f) refl
-bounds_there (c ∷ least) most low high p q e f some = rw (cut_between 44 (c ∷ least) most p, no_mark 44 most q, e, f) refl
+bounds_there (c ∷ least) most low high p q e f some = rw (cut_there 44 (c ∷ least) most p, no_mark 44 most q, e, f) refl
 
 small : (n : ℕ) → nat_lt n 65536 ≡ true → n < 65536
 small n e = ltb-true n 65536 e

@@ -69,10 +69,10 @@ pub printed_again : (levels : List Level) → is_query levels ≡ true → comes
 printed_again [] e c = absurd (false≢true c)
 printed_again (l ∷ levels) e c = query_again l levels e (each_needs (l ∷ levels) e (and_parts true (list_all level_comes_back (l ∷ levels)) c).1)
 
-binary_again : (levels : List Level) → is_query levels ≡ true → comes_back levels ≡ true → (query_in_binary (1 ∷ printed_query levels)).answer ≡ Ok levels
-binary_again levels e c = rw (ascii_is_utf8 (printed_query levels) (query_ascii levels e)) (rw (printed_again levels e c) refl)
+query_binary_again : (levels : List Level) → is_query levels ≡ true → comes_back levels ≡ true → (query_in_binary (1 ∷ printed_query levels)).answer ≡ Ok levels
+query_binary_again levels e c = rw (ascii_is_utf8 (printed_query levels) (query_ascii levels e)) (rw (printed_again levels e c) refl)
 
 pub query_back : ReadsBack (λ levels. plainly (writes (query_image levels))) (reading_of parse_query) (λ levels. levels) query_fits
 query_back levels i t p os e whole small fit =
     let g = guarded (is_query levels) (Some (image_of (bytes (1 ∷ printed_query levels)))) i (image_is (query_image levels) i e) in
-    ap (λ (part : Part). reading_of parse_query t Binary part) (part_is (1 ∷ printed_query levels) i p os g.1) ∙ ap ok_of (binary_again levels g.0 fit)
+    ap (λ (part : Part). reading_of parse_query t Binary part) (part_is (1 ∷ printed_query levels) i p os g.1) ∙ ap ok_of (query_binary_again levels g.0 fit)

@@ -11,25 +11,25 @@ variant_code = code_by (List ℕ × (Bool × (Bool × Bool)))
     (λ p. record { label = p.0; any_end = p.1.0; in_case = p.1.1.0; sublexeme = p.1.1.1 })
     (λ _. refl)
 
-abbrev pub Stored : Type 0
-Stored = (Option ℕ × Option ℕ) ⊎ (List Variant ⊎ List Variant)
+abbrev pub StoredLevel : Type 0
+StoredLevel = (Option ℕ × Option ℕ) ⊎ (List Variant ⊎ List Variant)
 
-abbrev pub stored : Level → Stored
-stored (star low high) = inl (low, high)
-stored (one_of vs) = inr (inl vs)
-stored (none_of vs) = inr (inr vs)
+abbrev pub stored_level : Level → StoredLevel
+stored_level (star low high) = inl (low, high)
+stored_level (one_of vs) = inr (inl vs)
+stored_level (none_of vs) = inr (inr vs)
 
-abbrev pub level_from : Stored → Level
+abbrev pub level_from : StoredLevel → Level
 level_from (inl p) = star p.0 p.1
 level_from (inr (inl vs)) = one_of vs
 level_from (inr (inr vs)) = none_of vs
 
-pub level_again : (l : Level) → level_from (stored l) ≡ l
+pub level_again : (l : Level) → level_from (stored_level l) ≡ l
 level_again (star low high) = refl
 level_again (one_of vs) = refl
 level_again (none_of vs) = refl
 
 abbrev pub level_code : Coded Level
-level_code = code_by Stored
+level_code = code_by StoredLevel
     (coded⊎ (coded× (coded_option coded_ℕ) (coded_option coded_ℕ)) (coded⊎ (coded_list variant_code) (coded_list variant_code)))
-    stored level_from level_again
+    stored_level level_from level_again

@@ -6,7 +6,7 @@ use Rattle.pgv_types.specs.Ty.{Ty, named}
 use Rattle.pgv_buf.specs.Tokens.{bytes}
 use Rattle.pgv_codec.specs.Encoding.{Image, image_of}
 use Rattle.pgv_value.specs.Formats.{in_both_formats}
-use Rattle.pgv_value.specs.Outcome.{Outcome, after, exactly, ◌>>=◌}
+use Rattle.pgv_value.specs.Outcome.{Outcome, after, in_place, ◌>>=◌}
 use Rattle.pgv_value.specs.Parsed.{Parsed}
 use Rattle.pgv_value.specs.ValueView.{Given}
 use Rattle.pgv_value.specs.declared.error.CodecError.TheVariants.{LQuery}
@@ -35,12 +35,12 @@ query_parsed (Err e) = Err (LQuery e)
 
 -- a query in text; memory is asked for where the text begins with a level, as far as its first variant says
 abbrev pub query_in_text : List ℕ → Outcome (List Level)
-query_in_text text = after (begins_with_level text) (exactly (query_parsed (query_read text)))
+query_in_text text = after (begins_with_level text) (in_place (query_parsed (query_read text)))
 
 -- in binary another version is C37
 abbrev pub query_in_binary : List ℕ → Outcome (List Level)
 query_in_binary form = do
-  text ← exactly (versioned (LQuery InvalidLqueryVersion) form)
+  text ← in_place (versioned (LQuery InvalidLqueryVersion) form)
   query_in_text text
 
 -- a query in either format

@@ -26,15 +26,15 @@ tree_kept (label ∷ labels) = label ∷ labels
 pub label_is_ascii : (label : List ℕ) → is_label label ≡ true → are_ascii label ≡ true
 label_is_ascii label e = wider is_label_char is_ascii char_is_ascii label (label_chars label e)
 
-text_again : (labels : List (List ℕ)) → list_all is_label labels ≡ true → (tree_in_text (printed_tree labels)).answer ≡ Ok (tree_kept labels)
-text_again [] e = refl
-text_again (label ∷ labels) e = rw (tree_again label labels e) refl
+tree_text_again : (labels : List (List ℕ)) → list_all is_label labels ≡ true → (tree_in_text (printed_tree labels)).answer ≡ Ok (tree_kept labels)
+tree_text_again [] e = refl
+tree_text_again (label ∷ labels) e = rw (tree_again label labels e) refl
 
-binary_again : (labels : List (List ℕ)) → list_all is_label labels ≡ true → (tree_in_binary (1 ∷ printed_tree labels)).answer ≡ Ok (tree_kept labels)
-binary_again labels e =
-    rw (ascii_is_utf8 (printed_tree labels) (ascii_joined 46 refl labels (wider is_label are_ascii label_is_ascii labels e))) (text_again labels e)
+tree_binary_again : (labels : List (List ℕ)) → list_all is_label labels ≡ true → (tree_in_binary (1 ∷ printed_tree labels)).answer ≡ Ok (tree_kept labels)
+tree_binary_again labels e =
+    rw (ascii_is_utf8 (printed_tree labels) (ascii_joined 46 refl labels (wider is_label are_ascii label_is_ascii labels e))) (tree_text_again labels e)
 
 pub tree_back : ReadsBack (λ tree. plainly (writes (tree_image tree))) (reading_of parse_tree) tree_kept always
 tree_back labels i t p os e whole small fit =
     let g = guarded (list_all is_label labels) (Some (image_of (bytes (1 ∷ printed_tree labels)))) i (image_is (tree_image labels) i e) in
-    ap (λ (part : Part). reading_of parse_tree t Binary part) (part_is (1 ∷ printed_tree labels) i p os g.1) ∙ ap ok_of (binary_again labels g.0)
+    ap (λ (part : Part). reading_of parse_tree t Binary part) (part_is (1 ∷ printed_tree labels) i p os g.1) ∙ ap ok_of (tree_binary_again labels g.0)

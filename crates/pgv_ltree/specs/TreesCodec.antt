@@ -8,7 +8,7 @@ use Rattle.pgv_types.specs.Ty.{Ty, named}
 use Rattle.pgv_buf.specs.Tokens.{bytes}
 use Rattle.pgv_codec.specs.Encoding.{Image, image_of}
 use Rattle.pgv_value.specs.Formats.{in_both_formats}
-use Rattle.pgv_value.specs.Outcome.{Outcome, after, exactly, or_fail, ◌>>=◌}
+use Rattle.pgv_value.specs.Outcome.{Outcome, after, in_place, or_fail, ◌>>=◌}
 use Rattle.pgv_value.specs.Parsed.{Parsed}
 use Rattle.pgv_value.specs.ValueView.{Given}
 use Rattle.pgv_value.specs.Utf8.{is_utf8}
@@ -42,7 +42,7 @@ tree_in_text text = after (begins_with_label text) (or_fail (result_ok (tree_rea
 -- in binary another version is C36
 abbrev pub tree_in_binary : List ℕ → Outcome (List (List ℕ))
 tree_in_binary form = do
-  text ← exactly (versioned (LTree InvalidLtreeVersion) form)
+  text ← in_place (versioned (LTree InvalidLtreeVersion) form)
   tree_in_text text
 
 -- a tree in either format

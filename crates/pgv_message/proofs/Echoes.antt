@@ -14,12 +14,12 @@ use Rattle.pgv_value.specs.ValueView.{Given as Value}
 use Rattle.pgv_value.specs.declared.value.PgValueFormat.TheVariants.{Binary}
 use Rattle.pgv_codec.specs.Encoding.{Encoding}
 use Rattle.pgv_row.specs.ColumnView.{Column}
-use Rattle.pgv_row.specs.RowView.{Row, value_at}
+use Rattle.pgv_row.specs.RowView.{Row, value_at_column}
 use Rattle.pgv_row.specs.RowValues.{may_read, raw_value, column_value}
 use Rattle.pgv_wire.specs.Arguments.{Argument, framed, all_tokens}
-use Rattle.pgv_wire.specs.History.{Call, added_in, after}
+use Rattle.pgv_wire.specs.History.{Call, added_in, after_calls}
 use Rattle.pgv_wire.specs.MainSentence.{MainSentence, HoldsAfter}
-use Rattle.pgv_wire.specs.ArgumentParts.{AreFrames, ReadAs, OfImages}
+use Rattle.pgv_wire.specs.ArgumentParts.{AreImages, ReadAs, OfImages}
 use Rattle.pgv_message.specs.Frames.{bind_of}
 use Rattle.pgv_message.specs.Echo.{ColumnsComeBack, ComeBack}
 use Rattle.pgv_value.proofs.ReadFronts.{are_bytes}
@@ -31,14 +31,14 @@ accepted false c e = rw e refl
 
 module _ {A M : Type 0} (encoding : A → Encoding) (accepts : Ty → Bool) (parse : Value → Outcome M) (kept : A → M) (fits : A → Ty → List Oid → Type 0) where
   -- what is read from the value at a place
-  value_read : (row : Row) (place : ℕ) (v : Value) (m : M) → value_at row place ≡ Some v → accepts v.type_info ≡ true → (parse v).answer ≡ Ok m → (column_value accepts parse row place).answer ≡ Ok m
+  value_read : (row : Row) (place : ℕ) (v : Value) (m : M) → value_at_column row place ≡ Some v → accepts v.type_info ≡ true → (parse v).answer ≡ Ok m → (column_value accepts parse row place).answer ≡ Ok m
   unfolding column_value raw_value
   value_read row place v m there accepted_is read =
       let may : not (may_read accepts v) ≡ false = accepted (is_none v.bytes) (accepts v.type_info) accepted_is in
       rw (there, may, read) refl
 
   there : (columns : List Column) (parts : List Part) (place : ℕ) (c : Column) (part : Part) → slice_get columns place ≡ Some c → slice_get parts place ≡ Some part →
-      value_at (record { columns = columns; parts = parts }) place ≡ Some (record { bytes = part; type_info = c.type_info; format = c.format })
+      value_at_column (record { columns = columns; parts = parts }) place ≡ Some (record { bytes = part; type_info = c.type_info; format = c.format })
   there columns parts place c part column_is part_is = rw (column_is, part_is) refl
 
   come_back : (calls : List Call) (held : HoldsAfter encoding (reading_of parse) kept fits calls) → ColumnsComeBack encoding accepts parse kept fits calls held.parts
@@ -47,11 +47,11 @@ module _ {A M : Type 0} (encoding : A → Encoding) (accepts : Ty → Bool) (par
       value_read (record { columns = columns; parts = held.parts }) place (record { bytes = back.0; type_info = c.type_info; format = c.format }) (kept v)
       (there columns held.parts place c back.0 column_is back.1) accepts_is (rw binary (answer_of (parse (record { bytes = back.0; type_info = c.type_info; format = Binary })).answer (kept v) back.2))
 
-  pub comes_back : (arguments : List Argument) (bytes : List ℕ) → MainSentence encoding (reading_of parse) kept fits → ((calls : List Call) → framed (after [] calls) ≡ added_in calls) →
+  pub comes_back : (arguments : List Argument) (bytes : List ℕ) → MainSentence encoding (reading_of parse) kept fits → ((calls : List Call) → framed (after_calls [] calls) ≡ added_in calls) →
       ((i : ℕ) → get_or bytes i 0 < 256) → bytes ≡ shown (all_tokens arguments) → Proper (all_tokens arguments) → OfImages arguments → ComeBack encoding accepts parse kept fits arguments
   comes_back arguments bytes main only_added below is proper images calls portal statement sent results after_is oids_fit sent_by =
       let added : framed arguments ≡ added_in calls = ap framed after_is ∙ only_added calls in
-      let held = main calls images.0 (subst (AreFrames images.0) added images.1) (subst (λ (xs : List Argument). Proper (all_tokens xs)) after_is proper) oids_fit in
+      let held = main calls images.0 (subst (AreImages images.0) added images.1) (subst (λ (xs : List Argument). Proper (all_tokens xs)) after_is proper) oids_fit in
       let read : ReadAs (shown (all_tokens arguments)) held.parts [] = subst (λ (xs : List Argument). ReadAs (shown (all_tokens xs)) held.parts []) (sym after_is) held.read in
       let frames = frames_are bytes held.parts [] (are_bytes bytes below) (subst (λ (xs : List ℕ). ReadAs xs held.parts []) (sym is) read) in
       let shown_is : shown (all_tokens arguments) ≡ flat_map field_bytes held.parts = sym is ∙ frames.0 ∙ append-nil (flat_map field_bytes held.parts) in

@@ -9,20 +9,20 @@ use Rattle.pgv_message.specs.declared.exchange.PgAwaited.{PgAwaited}
 use Rattle.pgv_message.specs.declared.exchange.PgAwaited.TheVariants as awaited
 use Rattle.pgv_message.specs.declared.tag.PgTag.{PgTag}
 use Rattle.pgv_message.specs.declared.tag.PgTag.TheVariants as tag
-use Rattle.pgv_message.specs.Exchange.{Exchange, idle, sent, step, answer, stage_of, is_async, is_sync, until_sync}
-use Rattle.pgv_message.specs.ExchangeLaws.{run, all_sent, DescribesRows, EndsRows, IsAnswer, AreAnswers, without_async, is_of_answer, AnswersEndTheExchange, OnlyAnswersEndTheExchange, AsyncChangesNothing, ErrorSkipsToSync, OnlyReadyEndsSkipping, RequestsDoNotEndSkipping}
+use Rattle.pgv_message.specs.Exchange.{Exchange, idle, sent, exchange_step, answer, stage_of, is_async, is_sync, until_sync}
+use Rattle.pgv_message.specs.ExchangeLaws.{takes_all, all_sent, DescribesRows, EndsRows, IsAnswer, AreAnswers, without_async, is_of_answer, AnswersEndTheExchange, OnlyAnswersEndTheExchange, AsyncChangesNothing, ErrorSkipsToSync, OnlyReadyEndsSkipping, RequestsDoNotEndSkipping}
 
 -- ---- asynchronous messages
 
-async_stays : (x : Exchange) (t : PgTag) → is_async t ≡ true → step x t ≡ Some x
-unfolding step
+async_stays : (x : Exchange) (t : PgTag) → is_async t ≡ true → exchange_step x t ≡ Some x
+unfolding exchange_step
 async_stays x t e = rw e refl
 
-async_by : (b : Bool) (x : Exchange) (t : PgTag) (ts : List PgTag) → is_async t ≡ b → ((y : Exchange) → run y ts ≡ run y (without_async ts)) → run x (t ∷ ts) ≡ run x (if b then without_async ts else t ∷ without_async ts)
+async_by : (b : Bool) (x : Exchange) (t : PgTag) (ts : List PgTag) → is_async t ≡ b → ((y : Exchange) → takes_all y ts ≡ takes_all y (without_async ts)) → takes_all x (t ∷ ts) ≡ takes_all x (if b then without_async ts else t ∷ without_async ts)
 async_by true x t ts e more = rw (async_stays x t e) (more x)
-async_by false x t ts e more = by_step (step x t)
+async_by false x t ts e more = by_step (exchange_step x t)
   where
-    by_step : (o : Option Exchange) → Rattle.std.specs.Prelude.option_and_then (λ y. run y ts) o ≡ Rattle.std.specs.Prelude.option_and_then (λ y. run y (without_async ts)) o
+    by_step : (o : Option Exchange) → Rattle.std.specs.Prelude.option_and_then (λ y. takes_all y ts) o ≡ Rattle.std.specs.Prelude.option_and_then (λ y. takes_all y (without_async ts)) o
     by_step None = refl
     by_step (Some y) = more y
 
@@ -38,7 +38,7 @@ by_skipping true z y e = absurd cc
 by_skipping false z y e = same_some z y e
 
 pub error_skips_to_sync : ErrorSkipsToSync
-unfolding ErrorSkipsToSync step
+unfolding ErrorSkipsToSync exchange_step
 error_skips_to_sync x y e =
     let z : Exchange = record { waiting = until_sync x.waiting; skipping = true } in
     let same : z ≡ y = by_skipping x.skipping z y e in
@@ -68,42 +68,42 @@ all_are ws (r ∷ rs) =
 
 -- ---- answers
 
-describes : (rest : List PgAwaited) (ts more : List PgTag) → DescribesRows ts → run (awaiting (awaited.Columns ∷ rest)) (ts ++ more) ≡ run (awaiting rest) more
-unfolding step
+describes : (rest : List PgAwaited) (ts more : List PgTag) → DescribesRows ts → takes_all (awaiting (awaited.Columns ∷ rest)) (ts ++ more) ≡ takes_all (awaiting rest) more
+unfolding exchange_step
 describes rest ts more (inl e) = rw e refl
 describes rest ts more (inr e) = rw e refl
 
-parameters : (rest : List PgAwaited) (ts : List PgTag) → run (awaiting (awaited.Parameters ∷ rest)) (tag.ParameterDescription ∷ ts) ≡ run (awaiting (awaited.Columns ∷ rest)) ts
-unfolding step
+parameters : (rest : List PgAwaited) (ts : List PgTag) → takes_all (awaiting (awaited.Parameters ∷ rest)) (tag.ParameterDescription ∷ ts) ≡ takes_all (awaiting (awaited.Columns ∷ rest)) ts
+unfolding exchange_step
 parameters rest ts = refl
 
-copied : (rest : List PgAwaited) (n : ℕ) (more : List PgTag) → run (awaiting (awaited.CopyData ∷ rest)) ((replicate n tag.CopyData ++ tag.CopyDone ∷ tag.CommandComplete ∷ []) ++ more) ≡ run (awaiting rest) more
-unfolding step
+copied : (rest : List PgAwaited) (n : ℕ) (more : List PgTag) → takes_all (awaiting (awaited.CopyData ∷ rest)) ((replicate n tag.CopyData ++ tag.CopyDone ∷ tag.CommandComplete ∷ []) ++ more) ≡ takes_all (awaiting rest) more
+unfolding exchange_step
 copied rest zero more = refl
 copied rest (suc n) more = copied rest n more
 
-copy_begins : (rest : List PgAwaited) (ts : List PgTag) → run (awaiting (awaited.Rows ∷ rest)) (tag.CopyOutResponse ∷ ts) ≡ run (awaiting (awaited.CopyData ∷ rest)) ts
-unfolding step
+copy_begins : (rest : List PgAwaited) (ts : List PgTag) → takes_all (awaiting (awaited.Rows ∷ rest)) (tag.CopyOutResponse ∷ ts) ≡ takes_all (awaiting (awaited.CopyData ∷ rest)) ts
+unfolding exchange_step
 copy_begins rest ts = refl
 
-rows_end : (rest : List PgAwaited) (ts more : List PgTag) → EndsRows ts → run (awaiting (awaited.Rows ∷ rest)) (ts ++ more) ≡ run (awaiting rest) more
-unfolding step
+rows_end : (rest : List PgAwaited) (ts more : List PgTag) → EndsRows ts → takes_all (awaiting (awaited.Rows ∷ rest)) (ts ++ more) ≡ takes_all (awaiting rest) more
+unfolding exchange_step
 rows_end rest ts more (inl e) = rw e refl
 rows_end rest ts more (inr (inl e)) = rw e refl
 rows_end rest ts more (inr (inr (inl e))) = rw e refl
 rows_end rest ts more (inr (inr (inr (inl e)))) = rw e refl
 rows_end rest ts more (inr (inr (inr (inr e)))) = rw e.1 (copy_begins rest ((replicate e.0 tag.CopyData ++ tag.CopyDone ∷ tag.CommandComplete ∷ []) ++ more) ∙ copied rest e.0 more)
 
-row_comes : (rest : List PgAwaited) (ts : List PgTag) → run (awaiting (awaited.Rows ∷ rest)) (tag.DataRow ∷ ts) ≡ run (awaiting (awaited.Rows ∷ rest)) ts
-unfolding step
+row_comes : (rest : List PgAwaited) (ts : List PgTag) → takes_all (awaiting (awaited.Rows ∷ rest)) (tag.DataRow ∷ ts) ≡ takes_all (awaiting (awaited.Rows ∷ rest)) ts
+unfolding exchange_step
 row_comes rest ts = refl
 
-rows : (rest : List PgAwaited) (n : ℕ) (last more : List PgTag) → EndsRows last → run (awaiting (awaited.Rows ∷ rest)) ((replicate n tag.DataRow ++ last) ++ more) ≡ run (awaiting rest) more
+rows : (rest : List PgAwaited) (n : ℕ) (last more : List PgTag) → EndsRows last → takes_all (awaiting (awaited.Rows ∷ rest)) ((replicate n tag.DataRow ++ last) ++ more) ≡ takes_all (awaiting rest) more
 rows rest zero last more e = rows_end rest last more e
 rows rest (suc n) last more e = row_comes rest ((replicate n tag.DataRow ++ last) ++ more) ∙ rows rest n last more e
 
-answered : (rest : List PgAwaited) (r : PgRequest) (ts more : List PgTag) → IsAnswer r ts → run (awaiting (stage_of r ∷ rest)) (ts ++ more) ≡ run (awaiting rest) more
-unfolding step
+answered : (rest : List PgAwaited) (r : PgRequest) (ts more : List PgTag) → IsAnswer r ts → takes_all (awaiting (stage_of r ∷ rest)) (ts ++ more) ≡ takes_all (awaiting rest) more
+unfolding exchange_step
 answered rest request.Parse ts more e = rw e refl
 answered rest request.Bind ts more e = rw e refl
 answered rest request.DescribeStatement ts more e = rw e.1 (parameters rest (e.0 ++ more) ∙ describes rest e.0 more e.2)
@@ -112,13 +112,13 @@ answered rest request.Execute ts more e = rw e.2 (rows rest e.0 e.1 more e.3)
 answered rest request.Close ts more e = rw e refl
 answered rest request.Sync ts more e = rw e refl
 
-all_answered : (rs : List PgRequest) (ts : List PgTag) → AreAnswers rs ts → run (awaiting (map stage_of rs)) ts ≡ Some idle
+all_answered : (rs : List PgRequest) (ts : List PgTag) → AreAnswers rs ts → takes_all (awaiting (map stage_of rs)) ts ≡ Some idle
 all_answered [] ts e = rw e refl
 all_answered (r ∷ rs) ts e = rw e.2 (answered (map stage_of rs) r e.0 e.1 e.3 ∙ all_answered rs e.1 e.4)
 
 pub answers_end_the_exchange : AnswersEndTheExchange
 unfolding AnswersEndTheExchange
-answers_end_the_exchange rs ts e = ap (λ (x : Exchange). run x ts) (all_are [] rs) ∙ all_answered rs ts e
+answers_end_the_exchange rs ts e = ap (λ (x : Exchange). takes_all x ts) (all_are [] rs) ∙ all_answered rs ts e
 
 -- ---- after an error
 
@@ -129,8 +129,8 @@ ready_alone x y e = by_left (Rattle.pgv_message.specs.Exchange.after_first x.wai
     by_left None y e = absurd cc
     by_left (Some left) y e = ap (λ (w : Exchange). w.skipping) (sym (same_some {A = Exchange} _ y e))
 
-only_by : (x y : Exchange) (t : PgTag) → true ≡ true → x.skipping ≡ true → step x t ≡ Some y → ((is_async t ≡ true) × (y ≡ x)) ⊎ ((t ≡ tag.ReadyForQuery) × (y.skipping ≡ false))
-unfolding step
+only_by : (x y : Exchange) (t : PgTag) → true ≡ true → x.skipping ≡ true → exchange_step x t ≡ Some y → ((is_async t ≡ true) × (y ≡ x)) ⊎ ((t ≡ tag.ReadyForQuery) × (y.skipping ≡ false))
+unfolding exchange_step
 only_by x y tag.NoticeResponse u s e = inl (refl, sym (same_some {A = Exchange} x y e))
 only_by x y tag.ParameterStatus u s e = inl (refl, sym (same_some {A = Exchange} x y e))
 only_by x y tag.NotificationResponse u s e = inl (refl, sym (same_some {A = Exchange} x y e))
@@ -158,8 +158,8 @@ abbrev AreRests : List PgAwaited → List PgTag → Type 0
 AreRests [] ts = ts ≡ []
 AreRests (a ∷ ws) ts = (first : List PgTag) × (more : List PgTag) × (ts ≡ first ++ more) × IsRest a first × AreRests ws more
 
-none_awaited : (t : PgTag) (ts : List PgTag) → is_of_answer t ≡ true → run (awaiting []) (t ∷ ts) ≡ None
-unfolding step
+none_awaited : (t : PgTag) (ts : List PgTag) → is_of_answer t ≡ true → takes_all (awaiting []) (t ∷ ts) ≡ None
+unfolding exchange_step
 none_awaited tag.NoticeResponse ts h = absurd cc
 none_awaited tag.ParameterStatus ts h = absurd cc
 none_awaited tag.NotificationResponse ts h = absurd cc
@@ -169,8 +169,8 @@ none_awaited _ ts h = refl
 not_both : {A : Type 0} (x : A) → (let o : Option A = None in o) ≡ Some x → ⊥
 not_both x e = cc
 
-belong : (ws : List PgAwaited) (ts : List PgTag) → AllByRecursion (λ t. is_of_answer t ≡ true) ts → run (awaiting ws) ts ≡ Some idle → AreRests ws ts
-unfolding step
+belong : (ws : List PgAwaited) (ts : List PgTag) → AllByRecursion (λ t. is_of_answer t ≡ true) ts → takes_all (awaiting ws) ts ≡ Some idle → AreRests ws ts
+unfolding exchange_step
 belong [] [] h e = refl
 belong [] (t ∷ ts) h e = absurd (let no : (let o : Option Exchange = None in o) ≡ Some idle = sym (none_awaited t ts h.0) ∙ e in cc)
 belong (a ∷ ws) [] h e = absurd (let no : a ∷ ws ≡ [] = ap (λ (x : Exchange). x.waiting) (same_some {A = Exchange} _ _ e) in cc)
@@ -228,4 +228,4 @@ rests_are (r ∷ rs) ts h = (h.0, h.1, h.2, rest_is r h.0 h.3, rests_are rs h.1 
 
 pub only_answers_end_the_exchange : OnlyAnswersEndTheExchange
 unfolding OnlyAnswersEndTheExchange
-only_answers_end_the_exchange rs ts h e = rests_are rs ts (belong (map stage_of rs) ts h (ap (λ (x : Exchange). run x ts) (sym (all_are [] rs)) ∙ e))
+only_answers_end_the_exchange rs ts h e = rests_are rs ts (belong (map stage_of rs) ts h (ap (λ (x : Exchange). takes_all x ts) (sym (all_are [] rs)) ∙ e))

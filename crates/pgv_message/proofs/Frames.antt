@@ -15,7 +15,8 @@ use Rattle.pgv_wire.specs.Arguments.{Argument, all_tokens}
 use Rattle.pgv_wire.specs.ArgumentParts.{ReadAs, AllRead, parts_in}
 use Rattle.pgv_message.specs.declared.error.MessageError.{MessageError}
 use Rattle.pgv_message.specs.Messages.{bind}
-use Rattle.pgv_message.specs.MessageWriting.{Writing, ◌>>=◌, text, text_of, count_of, joined, measured, whole, has_zero, max_body}
+use Rattle.pgv_copy.specs.CopyPieces.{joined}
+use Rattle.pgv_message.specs.MessageWriting.{Writing, ◌>>=◌, text, ended_text, count_of, measured, whole_message, has_zero, max_body}
 use Rattle.pgv_message.specs.Received.{message}
 use Rattle.pgv_message.specs.Pieces.{format_bytes}
 use Rattle.pgv_message.specs.Frames.{bind_of, ParametersAreArguments}
@@ -39,16 +40,16 @@ chosen : (b : Bool) (d : MessageError) (y x : List ℕ) → (let r : Writing (Li
 chosen true d y x e = absurd cc
 chosen false d y x e = cc
 
-text_is : (name bytes : List ℕ) → text_of name ≡ Ok bytes → text name ≡ bytes
-unfolding text_of
+text_is : (name bytes : List ℕ) → ended_text name ≡ Ok bytes → text name ≡ bytes
+unfolding ended_text
 text_is name bytes e = chosen (has_zero name) _ (text name) bytes e
 
 count_is : (n : ℕ) (bytes : List ℕ) → count_of n ≡ Ok bytes → to_be_bytes w16 n ≡ bytes
 unfolding count_of
 count_is n bytes e = chosen (nat_lt 65535 n) _ (to_be_bytes w16 n) bytes e
 
-whole_is : (tag body bytes : List ℕ) → whole tag body ≡ Ok bytes → tag ++ measured body ≡ bytes
-unfolding whole
+whole_is : (tag body bytes : List ℕ) → whole_message tag body ≡ Ok bytes → tag ++ measured body ≡ bytes
+unfolding whole_message
 whole_is tag body bytes e = chosen (nat_lt max_body (length body)) _ (tag ++ measured body) bytes e
 
 same_four : (f : List ℕ → List ℕ → List ℕ → List ℕ → List ℕ) (a a' b b' c c' d d' : List ℕ) → a ≡ a' → b ≡ b' → c ≡ c' → d ≡ d' → f a b c d ≡ f a' b' c' d'
@@ -63,8 +64,8 @@ pub bind_is : (portal statement sent : List ℕ) (arguments : List Argument) (re
     bind_with arguments results (text portal) (text statement) (to_be_bytes w16 (length arguments)) (to_be_bytes w16 (length results)) ≡ sent
 unfolding bind
 bind_is portal statement sent arguments results e =
-    let p = step_is {A = List ℕ} (text_of portal) _ sent e in
-    let s = step_is {A = List ℕ} (text_of statement) _ sent p.2 in
+    let p = step_is {A = List ℕ} (ended_text portal) _ sent e in
+    let s = step_is {A = List ℕ} (ended_text statement) _ sent p.2 in
     let n = step_is {A = List ℕ} (count_of (length arguments)) _ sent s.2 in
     let m = step_is {A = List ℕ} (count_of (length results)) _ sent n.2 in
     same_four (bind_with arguments results) (text portal) p.0 (text statement) s.0 (to_be_bytes w16 (length arguments)) n.0 (to_be_bytes w16 (length results)) m.0
@@ -83,8 +84,8 @@ count_fits n bytes e = ltb-false 65535 n (few_enough (nat_lt 65535 n) _ (to_be_b
 pub arguments_fit : (portal statement sent : List ℕ) (arguments : List Argument) (results : List PgValueFormat) → bind portal statement arguments results ≡ Ok sent → length arguments ≤ 65535
 unfolding bind
 arguments_fit portal statement sent arguments results e =
-    let p = step_is {A = List ℕ} (text_of portal) _ sent e in
-    let s = step_is {A = List ℕ} (text_of statement) _ sent p.2 in
+    let p = step_is {A = List ℕ} (ended_text portal) _ sent e in
+    let s = step_is {A = List ℕ} (ended_text statement) _ sent p.2 in
     let n = step_is {A = List ℕ} (count_of (length arguments)) _ sent s.2 in
     count_fits (length arguments) n.0 n.1
 

@@ -11,7 +11,7 @@ use Rattle.pgv_value.proofs.Numbers.{number_there, number_is}
 use Rattle.pgv_message.specs.declared.error.MessageError.{MessageError}
 use Rattle.pgv_message.specs.declared.error.MessageError.TheVariants.{BadLength}
 use Rattle.pgv_message.specs.MessageWriting.{measured, max_body}
-use Rattle.pgv_message.specs.Received.{Message, with_body, with_length, in_front, MessageIsFound, FoundIsMessage, CutIsNotFound}
+use Rattle.pgv_message.specs.Received.{Message, with_body, with_length, message_at_front, MessageIsFound, FoundIsMessage, CutIsNotFound}
 
 abbrev Answer : Type 0
 Answer = Result (Option Message) MessageError
@@ -24,8 +24,8 @@ sized tag size bytes least most =
     let high : nat_lt 2147483647 size ≡ false = le-ltb _ _ most in
     rw (low, high) refl
 
-by_length : (tag size : ℕ) (bytes : List ℕ) → 4 ≤ size → size ≤ 2147483647 → in_front (tag ∷ (to_be_bytes w32 size ++ bytes)) ≡ Ok (with_body tag (size - 4) bytes)
-unfolding in_front
+by_length : (tag size : ℕ) (bytes : List ℕ) → 4 ≤ size → size ≤ 2147483647 → message_at_front (tag ∷ (to_be_bytes w32 size ++ bytes)) ≡ Ok (with_body tag (size - 4) bytes)
+unfolding message_at_front
 by_length tag size bytes least most = ap (with_length tag) (number_there size bytes (omega arith)) ∙ sized tag size bytes least most
 
 body_there : (tag size : ℕ) (body rest : List ℕ) → length body ≡ size → with_body tag size (body ++ rest) ≡ Some (record { tag = tag; body = body; rest = rest })
@@ -38,7 +38,7 @@ unfolding MessageIsFound
 message_is_found tag body rest fits =
     let size : ℕ = length body + 4 in
     let len : length body ≡ size - 4 = omega arith in
-    ap (λ (xs : List ℕ). in_front (tag ∷ xs)) (append_assoc (to_be_bytes w32 size) body rest)
+    ap (λ (xs : List ℕ). message_at_front (tag ∷ xs)) (append_assoc (to_be_bytes w32 size) body rest)
     ∙ by_length tag size (body ++ rest) (omega arith) (omega arith)
     ∙ ap (λ (f : Option Message). let a : Answer = Ok f in a) (body_there tag (size - 4) body rest len)
 
@@ -84,7 +84,7 @@ found_by bytes tag m h e =
     subst (λ (m' : Message). (m'.tag ≡ tag) × (length m'.body ≤ max_body) × (bytes ≡ measured m'.body ++ m'.rest)) b.1 (refl, fits, n.1 ∙ parts)
 
 pub found_is_message : FoundIsMessage
-unfolding FoundIsMessage in_front
+unfolding FoundIsMessage message_at_front
 found_is_message [] tag body rest h e = absurd cc
 found_is_message (x ∷ bytes) tag body rest h e =
     let m : Message = record { tag = tag; body = body; rest = rest } in
@@ -93,12 +93,12 @@ found_is_message (x ∷ bytes) tag body rest h e =
 
 -- ---- a message that is cut off
 
-few : (tag : ℕ) (bytes : List ℕ) → length bytes < 4 → in_front (tag ∷ bytes) ≡ Ok None
-unfolding in_front number
+few : (tag : ℕ) (bytes : List ℕ) → length bytes < 4 → message_at_front (tag ∷ bytes) ≡ Ok None
+unfolding message_at_front number
 few tag bytes lt = let short : nat_lt (length bytes) 4 ≡ true = lt-ltb _ _ lt in rw short refl
 
-none_yet : in_front [] ≡ Ok None
-unfolding in_front
+none_yet : message_at_front [] ≡ Ok None
+unfolding message_at_front
 none_yet = refl
 
 body_cut : (tag size : ℕ) (bytes : List ℕ) → length bytes < size → with_body tag size bytes ≡ None

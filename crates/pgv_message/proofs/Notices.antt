@@ -11,8 +11,8 @@ use Rattle.pgv_value.specs.Parsed.{Parsed, ◌>>=◌}
 use Rattle.pgv_value.proofs.ReadFronts.{name_there, name_is}
 use Rattle.pgv_value.proofs.Outcomes.{only_memory, ok_is, stated_is}
 use Rattle.pgv_value.specs.Outcome.{stated}
-use Rattle.pgv_message.specs.Bodies.{ended}
-use Rattle.pgv_message.specs.Notice.{Field, field_bytes, IsField, IsNotice, fields_in, notice_fields, notice, NoticeIsRead}
+use Rattle.pgv_message.specs.Bodies.{whole_body}
+use Rattle.pgv_message.specs.Notice.{Field, notice_field_bytes, IsNoticeField, IsNotice, fields_in, notice_fields, notice, NoticeIsRead}
 
 abbrev pub Fields : Type 0
 Fields = Parsed (List Field × List ℕ)
@@ -42,21 +42,21 @@ none_there (suc n) = refl
 
 -- ---- fields are read
 
-pub fields_there : (n : ℕ) (fields : List Field) (rest : List ℕ) → length fields ≤ n → AllByRecursion IsField fields → fields_in n (flat_map field_bytes fields ++ 0 ∷ rest) ≡ Ok (fields, rest)
+pub fields_there : (n : ℕ) (fields : List Field) (rest : List ℕ) → length fields ≤ n → AllByRecursion IsNoticeField fields → fields_in n (flat_map notice_field_bytes fields ++ 0 ∷ rest) ≡ Ok (fields, rest)
 fields_there n [] rest le each = zero_ends n 0 rest refl
 fields_there zero (f ∷ fields) rest le each = absurd (omega arith)
 fields_there (suc n) (f ∷ fields) rest le each =
-    let later : List ℕ = flat_map field_bytes fields ++ 0 ∷ rest in
+    let later : List ℕ = flat_map notice_field_bytes fields ++ 0 ∷ rest in
     let fewer : length fields ≤ n = omega (arith, le) in
-    let regrouped : ((f.text ++ 0 ∷ []) ++ flat_map field_bytes fields) ++ 0 ∷ rest ≡ f.text ++ 0 ∷ later =
-    append_assoc (f.text ++ 0 ∷ []) (flat_map field_bytes fields) (0 ∷ rest) ∙ append_assoc f.text (0 ∷ []) later in
+    let regrouped : ((f.text ++ 0 ∷ []) ++ flat_map notice_field_bytes fields) ++ 0 ∷ rest ≡ f.text ++ 0 ∷ later =
+    append_assoc (f.text ++ 0 ∷ []) (flat_map notice_field_bytes fields) (0 ∷ rest) ∙ append_assoc f.text (0 ∷ []) later in
     ap (λ (xs : List ℕ). fields_in (suc n) (f.code ∷ xs)) regrouped
     ∙ field_next n f.code (f.text ++ 0 ∷ later) later f.text each.0.code (name_there f.text later each.0.none each.0.text)
     ∙ ap (with_first f) (fields_there n fields rest fewer each.1)
 
-fields_fit : (fields : List Field) → length fields ≤ length (flat_map field_bytes fields)
+fields_fit : (fields : List Field) → length fields ≤ length (flat_map notice_field_bytes fields)
 fields_fit [] = omega arith
-fields_fit (f ∷ fields) = omega (arith, fields_fit fields, length-append (f.text ++ 0 ∷ []) (flat_map field_bytes fields))
+fields_fit (f ∷ fields) = omega (arith, fields_fit fields, length-append (f.text ++ 0 ∷ []) (flat_map notice_field_bytes fields))
 
 read_by : (bytes : List ℕ) (fields : List Field) → fields_in (length bytes) bytes ≡ Ok (fields, []) → notice_fields bytes ≡ Ok fields
 unfolding notice_fields
@@ -64,14 +64,14 @@ read_by bytes fields found = rw found refl
 
 is_read : (bytes : List ℕ) (fields : List Field) → IsNotice bytes fields → notice_fields bytes ≡ Ok fields
 is_read bytes fields s =
-    let fit : length fields ≤ length bytes = omega (arith, fields_fit fields, ap length s.whole, length-append (flat_map field_bytes fields) (0 ∷ [])) in
+    let fit : length fields ≤ length bytes = omega (arith, fields_fit fields, ap length s.whole, length-append (flat_map notice_field_bytes fields) (0 ∷ [])) in
     read_by bytes fields (ap (λ (xs : List ℕ). fields_in (length bytes) xs) s.whole ∙ fields_there (length bytes) fields [] fit s.each)
 
 -- ---- what is read are fields
 
 pub record AreFields (bytes : List ℕ) (fields : List Field) (rest : List ℕ) : Type 0 where
-  pub whole : bytes ≡ flat_map field_bytes fields ++ 0 ∷ rest
-  pub each : AllByRecursion IsField fields
+  pub whole : bytes ≡ flat_map notice_field_bytes fields ++ 0 ∷ rest
+  pub each : AllByRecursion IsNoticeField fields
 
 step_is : {A B : Type 0} (r : Parsed A) (next : A → Parsed B) (y : B) → r >>= next ≡ Ok y → (x : A) × (r ≡ Ok x) × (next x ≡ Ok y)
 step_is (Ok x) next y e = (x, refl, e)
@@ -96,10 +96,10 @@ by_next false n code more fields rest z e again =
     let m = step_is (fields_in n t.0.1) (λ (more : List Field × List ℕ). let r : Fields = Ok (f ∷ more.0, more.1) in r) (fields, rest) t.2 in
     let name = name_is more t.0.0 t.0.1 t.1 in
     let a = again t.0.1 m.0.0 m.0.1 m.1 in
-    let later : List ℕ = flat_map field_bytes m.0.0 ++ 0 ∷ m.0.1 in
-    let regrouped : ((f.text ++ 0 ∷ []) ++ flat_map field_bytes m.0.0) ++ 0 ∷ m.0.1 ≡ f.text ++ 0 ∷ later =
-    append_assoc (f.text ++ 0 ∷ []) (flat_map field_bytes m.0.0) (0 ∷ m.0.1) ∙ append_assoc f.text (0 ∷ []) later in
-    let whole : code ∷ more ≡ flat_map field_bytes (f ∷ m.0.0) ++ 0 ∷ m.0.1 =
+    let later : List ℕ = flat_map notice_field_bytes m.0.0 ++ 0 ∷ m.0.1 in
+    let regrouped : ((f.text ++ 0 ∷ []) ++ flat_map notice_field_bytes m.0.0) ++ 0 ∷ m.0.1 ≡ f.text ++ 0 ∷ later =
+    append_assoc (f.text ++ 0 ∷ []) (flat_map notice_field_bytes m.0.0) (0 ∷ m.0.1) ∙ append_assoc f.text (0 ∷ []) later in
+    let whole : code ∷ more ≡ flat_map notice_field_bytes (f ∷ m.0.0) ++ 0 ∷ m.0.1 =
     ap (λ (xs : List ℕ). code ∷ xs) (name.whole ∙ ap (λ (xs : List ℕ). t.0.0 ++ 0 ∷ xs) a.whole ∙ sym regrouped) in
     subst (λ (p : List Field × List ℕ). AreFields (code ∷ more) p.0 p.1) (ok_is {A = List Field × List ℕ} (f ∷ m.0.0, m.0.1) (fields, rest) m.2)
     (record { whole = whole; each = (record { code = z; none = name.none; text = name.text }, a.each) })
@@ -122,10 +122,10 @@ nothing_left (x ∷ rest) e = let none : suc (length rest) ≡ 0 = eqb-true (suc
 is_notice : (bytes : List ℕ) (fields : List Field) → notice_fields bytes ≡ Ok fields → IsNotice bytes fields
 unfolding notice_fields
 is_notice bytes fields e =
-    let a = step_is (fields_in (length bytes) bytes) (λ (list : List Field × List ℕ). ended bytes list.0 list.1) fields e in
+    let a = step_is (fields_in (length bytes) bytes) (λ (list : List Field × List ℕ). whole_body bytes list.0 list.1) fields e in
     let t = ended_is (nat_eq (length a.0.1) 0) (WrongLength (length bytes)) a.0.0 fields a.2 in
     let k = fields_are (length bytes) bytes a.0.0 a.0.1 a.1 in
-    subst (IsNotice bytes) t.1 (record { whole = k.whole ∙ ap (λ (xs : List ℕ). flat_map field_bytes a.0.0 ++ 0 ∷ xs) (nothing_left a.0.1 t.0); each = k.each })
+    subst (IsNotice bytes) t.1 (record { whole = k.whole ∙ ap (λ (xs : List ℕ). flat_map notice_field_bytes a.0.0 ++ 0 ∷ xs) (nothing_left a.0.1 t.0); each = k.each })
 
 pub notice_is_read : NoticeIsRead
 unfolding NoticeIsRead

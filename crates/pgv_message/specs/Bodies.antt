@@ -11,14 +11,14 @@ use Rattle.pgv_message.specs.declared.notification.PgNotification.{PgNotificatio
 use Rattle.pgv_message.specs.declared.ready_for_query.PgTransactionStatus.TheVariants.{Idle, Transaction, Failed}
 
 -- what was read, where nothing of the body is left
-abbrev pub ended : {A : Type 0} → List ℕ → A → List ℕ → Parsed A
-ended bytes x rest = if length rest == 0 then Ok x else Err (WrongLength (length bytes))
+abbrev pub whole_body : {A : Type 0} → List ℕ → A → List ℕ → Parsed A
+whole_body bytes x rest = if length rest == 0 then Ok x else Err (WrongLength (length bytes))
 
 -- CommandComplete: a text
 unfoldable pub command_complete : List ℕ → Parsed (List ℕ)
 command_complete bytes = do
   text ← name_front bytes
-  ended bytes text.0 text.1
+  whole_body bytes text.0 text.1
 
 -- ReadyForQuery: `I` no transaction, `T` in a transaction, `E` in one that failed
 abbrev pub status_of : ℕ → Parsed PgTransactionStatus
@@ -26,21 +26,21 @@ status_of code = if code == 73 then Ok Idle else if code == 84 then Ok Transacti
 
 unfoldable pub ready_for_query : List ℕ → Parsed PgTransactionStatus
 ready_for_query [] = Err Short
-ready_for_query (code ∷ rest) = status_of code >>= λ status. ended (code ∷ rest) status rest
+ready_for_query (code ∷ rest) = status_of code >>= λ status. whole_body (code ∷ rest) status rest
 
 -- ParameterStatus: a name and a value
 unfoldable pub parameter_status : List ℕ → Parsed (List ℕ × List ℕ)
 parameter_status bytes = do
   name ← name_front bytes
   value ← name_front name.1
-  ended bytes (name.0, value.0) value.1
+  whole_body bytes (name.0, value.0) value.1
 
 -- BackendKeyData: the process and the secret
 unfoldable pub backend_key_data : List ℕ → Parsed (ℕ × ℕ)
 backend_key_data bytes = do
   process ← u32_front bytes
   secret ← u32_front process.1
-  ended bytes (process.0, secret.0) secret.1
+  whole_body bytes (process.0, secret.0) secret.1
 
 abbrev pub notification_view : PgNotification → ℕ × (List ℕ × List ℕ)
 notification_view n = (n.process, (n.channel.now, n.payload.now))
@@ -51,10 +51,10 @@ notification bytes = do
   process ← u32_front bytes
   channel ← name_front process.1
   payload ← name_front channel.1
-  ended bytes (process.0, (channel.0, payload.0)) payload.1
+  whole_body bytes (process.0, (channel.0, payload.0)) payload.1
 
 -- Authentication: a code, and what the code has; nothing after 0, which is Ok
 unfoldable pub authentication : List ℕ → Parsed (ℕ × List ℕ)
 authentication bytes = do
   code ← u32_front bytes
-  if code.0 == 0 then ended bytes code code.1 else Ok code
+  if code.0 == 0 then whole_body bytes code code.1 else Ok code

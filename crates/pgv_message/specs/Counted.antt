@@ -7,13 +7,13 @@ use Rattle.std.specs.List.{AllByRecursion}
 use Rattle.pgv_types.specs.declared.oid.Oid.{Oid}
 use Rattle.pgv_value.specs.declared.error.CodecError.TheVariants.{WrongLength}
 use Rattle.pgv_value.specs.Fronts.{u16_front, u32_front}
-use Rattle.pgv_value.specs.Outcome.{Outcome, after, exactly, allocates, fails_if, done, ◌>>=◌, ◌>>◌}
+use Rattle.pgv_value.specs.Outcome.{Outcome, after, in_place, allocates, fails_if, done, ◌>>=◌, ◌>>◌}
 use Rattle.pgv_value.specs.Several.{several}
 use Rattle.pgv_message.specs.Pieces.{oid_bytes}
 
 unfoldable pub counted : {A : Type 0} → (List ℕ → Outcome (A × List ℕ)) → List ℕ → Outcome (List A)
 counted one bytes = do
-  count ← exactly (u16_front bytes)
+  count ← in_place (u16_front bytes)
   allocates true
   list ← several one count.0 count.1
   fails_if (not (length list.1 == 0)) (WrongLength (length bytes))
@@ -28,7 +28,7 @@ pub record IsCounted {A : Type 0} (Is : A → Type 0) (encode : A → List ℕ) 
 -- parameters, of four bytes each
 
 unfoldable pub oid_front : List ℕ → Outcome (Oid × List ℕ)
-oid_front bytes = exactly (u32_front bytes) >>= λ o. done (record { 0 = o.0 }, o.1)
+oid_front bytes = in_place (u32_front bytes) >>= λ o. done (record { 0 = o.0 }, o.1)
 
 -- as many OIDs, where memory may have been asked for
 abbrev pub oids_front : ℕ → List ℕ → Outcome (List Oid × List ℕ)

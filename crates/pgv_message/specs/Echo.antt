@@ -17,7 +17,7 @@ use Rattle.pgv_row.specs.DataRow.{IsDataRow}
 use Rattle.pgv_row.specs.RowValues.{column_value}
 use Rattle.pgv_wire.specs.Arguments.{Argument, Framed}
 use Rattle.pgv_wire.specs.Given.{LastGiven, given_in}
-use Rattle.pgv_wire.specs.History.{Call, added_in, after, last_filling}
+use Rattle.pgv_wire.specs.History.{Call, added_in, after_calls, last_filling}
 use Rattle.pgv_message.specs.Frames.{bind_of}
 use Rattle.pgv_message.specs.Messages.{bind}
 
@@ -43,5 +43,5 @@ module _ {A M : Type 0} (encoding : A → Encoding) (accepts : Ty → Bool) (par
   abbrev pub ComeBack : List Argument → Type 0
   ComeBack arguments =
       (calls : List Call) (portal statement sent : List ℕ) (results : List PgValueFormat) →
-      arguments ≡ after [] calls → AreOids (last_filling calls).oids → bind portal statement arguments results ≡ Ok sent →
+      arguments ≡ after_calls [] calls → AreOids (last_filling calls).oids → bind portal statement arguments results ≡ Ok sent →
       Echoes calls portal statement sent results

@@ -83,13 +83,13 @@ sent x r =
 -- ---- a message comes
 
 -- the requests, where what is left of the first one's answer is this
-abbrev pub with_rest : List PgAwaited → Option PgAwaited → List PgAwaited
-with_rest rest None = rest
-with_rest rest (Some a) = a ∷ rest
+abbrev pub requests_with_rest : List PgAwaited → Option PgAwaited → List PgAwaited
+requests_with_rest rest None = rest
+requests_with_rest rest (Some a) = a ∷ rest
 
 abbrev pub after_first : List PgAwaited → PgTag → Option (List PgAwaited)
 after_first [] t = None
-after_first (a ∷ rest) t = option_map (with_rest rest) (after_front a t)
+after_first (a ∷ rest) t = option_map (requests_with_rest rest) (after_front a t)
 
 -- a message of the first request's answer
 abbrev pub answer : Exchange → PgTag → Option Exchange
@@ -107,8 +107,8 @@ abbrev pub ends_skipping : PgTag → Bool
 ends_skipping tag.ReadyForQuery = true
 ends_skipping _ = false
 
-unfoldable pub step : Exchange → PgTag → Option Exchange
-step x t =
+unfoldable pub exchange_step : Exchange → PgTag → Option Exchange
+exchange_step x t =
     if is_async t then Some x else
     if is_error t then error x else
     if x.skipping && not (ends_skipping t) then None else
@@ -121,8 +121,8 @@ abbrev pub TakesBy : Option Exchange → Exchange → Exchange → Bool → Type
 TakesBy next old new true = next ≡ Some new
 TakesBy next old new false = (next ≡ None) × (new ≡ old)
 
-abbrev pub Takes : Exchange → PgTag → Exchange → Bool → Type 0
-Takes old t new taken = TakesBy (step old t) old new taken
+abbrev pub TakesTag : Exchange → PgTag → Exchange → Bool → Type 0
+TakesTag old t new taken = TakesBy (exchange_step old t) old new taken
 
 abbrev pub TakesError : Exchange → Exchange → Bool → Type 0
 TakesError old new taken = TakesBy (error old) old new taken
@@ -132,7 +132,7 @@ TakesAnswer old t new taken = TakesBy (answer old t) old new taken
 
 -- a message that a byte names may come
 abbrev pub step_by : Exchange → ℕ → Option (PgTag × Exchange)
-step_by x byte = option_and_then (λ t. option_map (λ y. (t, y)) (step x t)) (tag_of byte)
+step_by x byte = option_and_then (λ t. option_map (λ y. (t, y)) (exchange_step x t)) (tag_of byte)
 
 -- The message that the byte names is taken; or it may not come, and all is as before.
 abbrev pub Steps : Exchange → ℕ → Exchange → Result PgTag UnexpectedMessage → Type 0

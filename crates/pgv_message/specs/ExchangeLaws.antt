@@ -5,12 +5,12 @@ use Rattle.pgv_message.specs.declared.exchange.PgRequest.{PgRequest}
 use Rattle.pgv_message.specs.declared.exchange.PgRequest.TheVariants as request
 use Rattle.pgv_message.specs.declared.tag.PgTag.{PgTag}
 use Rattle.pgv_message.specs.declared.tag.PgTag.TheVariants as tag
-use Rattle.pgv_message.specs.Exchange.{Exchange, idle, sent, step, is_async, is_error, until_sync}
+use Rattle.pgv_message.specs.Exchange.{Exchange, idle, sent, exchange_step, is_async, is_error, until_sync}
 
 -- messages that come one after another
-abbrev pub run : Exchange → List PgTag → Option Exchange
-run x [] = Some x
-run x (t ∷ ts) = option_and_then (λ y. run y ts) (step x t)
+abbrev pub takes_all : Exchange → List PgTag → Option Exchange
+takes_all x [] = Some x
+takes_all x (t ∷ ts) = option_and_then (λ y. takes_all y ts) (exchange_step x t)
 
 -- requests that are sent one after another
 abbrev pub all_sent : Exchange → List PgRequest → Exchange
@@ -57,7 +57,7 @@ without_async (t ∷ ts) = if is_async t then without_async ts else t ∷ withou
 
 -- When the answers to all requests have come, in order, nothing is awaited.
 unfoldable pub AnswersEndTheExchange : Type 0
-AnswersEndTheExchange = (rs : List PgRequest) (ts : List PgTag) → AreAnswers rs ts → run (all_sent idle rs) ts ≡ Some idle
+AnswersEndTheExchange = (rs : List PgRequest) (ts : List PgTag) → AreAnswers rs ts → takes_all (all_sent idle rs) ts ≡ Some idle
 
 -- a message that belongs to an answer: it neither comes at any time nor is an error
 abbrev pub is_of_answer : PgTag → Bool
@@ -65,20 +65,20 @@ is_of_answer t = not (is_async t || is_error t)
 
 -- Where nothing is awaited after messages that belong to answers, they are the answers to all requests, in order.
 unfoldable pub OnlyAnswersEndTheExchange : Type 0
-OnlyAnswersEndTheExchange = (rs : List PgRequest) (ts : List PgTag) → AllByRecursion (λ t. is_of_answer t ≡ true) ts → run (all_sent idle rs) ts ≡ Some idle → AreAnswers rs ts
+OnlyAnswersEndTheExchange = (rs : List PgRequest) (ts : List PgTag) → AllByRecursion (λ t. is_of_answer t ≡ true) ts → takes_all (all_sent idle rs) ts ≡ Some idle → AreAnswers rs ts
 
 -- Messages that come at any time change nothing.
 unfoldable pub AsyncChangesNothing : Type 0
-AsyncChangesNothing = (x : Exchange) (ts : List PgTag) → run x ts ≡ run x (without_async ts)
+AsyncChangesNothing = (x : Exchange) (ts : List PgTag) → takes_all x ts ≡ takes_all x (without_async ts)
 
 -- An error ends all requests before the next Sync, and the server then passes over requests.
 unfoldable pub ErrorSkipsToSync : Type 0
-ErrorSkipsToSync = (x y : Exchange) → step x tag.ErrorResponse ≡ Some y → (y.waiting ≡ until_sync x.waiting) × (y.skipping ≡ true)
+ErrorSkipsToSync = (x y : Exchange) → exchange_step x tag.ErrorResponse ≡ Some y → (y.waiting ≡ until_sync x.waiting) × (y.skipping ≡ true)
 
 -- After an error only the ReadyForQuery may come, which ends the passing over, and what may come at any time, which
 -- leaves all as it is.
 abbrev pub OnlyReadyEndsSkipping : Type 0
-OnlyReadyEndsSkipping = (x y : Exchange) (t : PgTag) → x.skipping ≡ true → step x t ≡ Some y → ((is_async t ≡ true) × (y ≡ x)) ⊎ ((t ≡ tag.ReadyForQuery) × (y.skipping ≡ false))
+OnlyReadyEndsSkipping = (x y : Exchange) (t : PgTag) → x.skipping ≡ true → exchange_step x t ≡ Some y → ((is_async t ≡ true) × (y ≡ x)) ⊎ ((t ≡ tag.ReadyForQuery) × (y.skipping ≡ false))
 
 -- No request ends the passing over.
 abbrev pub RequestsDoNotEndSkipping : Type 0

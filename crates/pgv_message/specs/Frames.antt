@@ -7,11 +7,12 @@ use Rattle.pgv_value.specs.FrameBinary.{Part, field_bytes, IsField}
 use Rattle.pgv_value.specs.declared.value.PgValueFormat.{PgValueFormat}
 use Rattle.pgv_codec.specs.Encoding.{Image}
 use Rattle.pgv_wire.specs.Arguments.{Argument, framed}
-use Rattle.pgv_wire.specs.ArgumentParts.{AreFrames, parts_in}
+use Rattle.pgv_wire.specs.ArgumentParts.{AreImages, parts_in}
 use Rattle.pgv_message.specs.Messages.{bind}
 use Rattle.pgv_message.specs.Pieces.{format_bytes}
 use Rattle.pgv_message.specs.Received.{message}
-use Rattle.pgv_message.specs.MessageWriting.{text, joined}
+use Rattle.pgv_copy.specs.CopyPieces.{joined}
+use Rattle.pgv_message.specs.MessageWriting.{text}
 
 -- Bind with these parts for its parameters, all in binary
 abbrev pub bind_of : List ℕ → List ℕ → List Part → List PgValueFormat → List ℕ
@@ -23,7 +24,7 @@ bind_of portal statement parts results =
 -- A Bind whose parameters are the arguments: for each, in order, the frame of its part.
 pub record BindsArguments (sent portal statement : List ℕ) (arguments : List Argument) (results : List PgValueFormat) : Type 0 where
   pub images : List Image
-  pub of_images : AreFrames images (framed arguments)
+  pub of_images : AreImages images (framed arguments)
   pub many : length (parts_in images arguments) ≡ length arguments
   pub each : AllByRecursion IsField (parts_in images arguments)
   pub sent_is : sent ≡ bind_of portal statement (parts_in images arguments) results

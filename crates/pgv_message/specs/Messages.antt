@@ -8,27 +8,28 @@ use Rattle.pgv_wire.specs.Arguments.{Argument, all_tokens}
 use Rattle.pgv_message.specs.declared.describe.Prepared.{Prepared}
 use Rattle.pgv_message.specs.declared.describe.Prepared.TheVariants.{Statement, Portal}
 use Rattle.pgv_message.specs.Pieces.{format_bytes, oid_bytes}
-use Rattle.pgv_message.specs.MessageWriting.{Writing, ◌>>=◌, text_of, count_of, joined, whole}
+use Rattle.pgv_copy.specs.CopyPieces.{joined}
+use Rattle.pgv_message.specs.MessageWriting.{Writing, ◌>>=◌, ended_text, count_of, whole_message}
 
 -- Bind, `B`: the portal, the statement, one format for all parameters, which is binary, the number of parameters and a
 -- frame for each, and the number of formats of the result's columns and these: none where all are text, one for all, or
 -- one for each.
 unfoldable pub bind : List ℕ → List ℕ → List Argument → List PgValueFormat → Writing (List ℕ)
 bind portal statement arguments results = do
-  portal_name ← text_of portal
-  statement_name ← text_of statement
+  portal_name ← ended_text portal
+  statement_name ← ended_text statement
   parameters ← count_of (length arguments)
   formats ← count_of (length results)
-  whole (66 ∷ []) (joined (portal_name ∷ statement_name ∷ to_be_bytes w16 1 ∷ to_be_bytes w16 1 ∷ parameters ∷ shown (all_tokens arguments) ∷ formats ∷ flat_map format_bytes results ∷ []))
+  whole_message (66 ∷ []) (joined (portal_name ∷ statement_name ∷ to_be_bytes w16 1 ∷ to_be_bytes w16 1 ∷ parameters ∷ shown (all_tokens arguments) ∷ formats ∷ flat_map format_bytes results ∷ []))
 
 -- Parse, `P`: the statement's name, the query, the number of parameters whose types are given, and their OIDs, 0 where
 -- the server is to find one.
-unfoldable pub parse : List ℕ → List ℕ → List Oid → Writing (List ℕ)
-parse statement query oids = do
-  name ← text_of statement
-  sql ← text_of query
+unfoldable pub parse_message : List ℕ → List ℕ → List Oid → Writing (List ℕ)
+parse_message statement query oids = do
+  name ← ended_text statement
+  sql ← ended_text query
   types ← count_of (length oids)
-  whole (80 ∷ []) (joined (name ∷ sql ∷ types ∷ flat_map oid_bytes oids ∷ []))
+  whole_message (80 ∷ []) (joined (name ∷ sql ∷ types ∷ flat_map oid_bytes oids ∷ []))
 
 -- `S` a statement, `P` a portal
 abbrev pub kind_byte : Prepared → ℕ
@@ -38,8 +39,8 @@ kind_byte Portal = 80
 -- a message about a statement or a portal
 unfoldable pub about : ℕ → Prepared → List ℕ → Writing (List ℕ)
 about tag kind name = do
-  bytes ← text_of name
-  whole (tag ∷ []) (joined ((kind_byte kind ∷ []) ∷ bytes ∷ []))
+  bytes ← ended_text name
+  whole_message (tag ∷ []) (joined ((kind_byte kind ∷ []) ∷ bytes ∷ []))
 
 -- Describe, `D`, and Close, `C`, of a statement or of a portal
 abbrev pub describe : Prepared → List ℕ → Writing (List ℕ)
@@ -51,14 +52,14 @@ close = about 67
 -- Execute, `E`: the portal, and the number of rows after which it stops, 0 for all
 unfoldable pub execute : List ℕ → ℕ → Writing (List ℕ)
 execute portal rows = do
-  name ← text_of portal
-  whole (69 ∷ []) (joined (name ∷ to_be_bytes w32 rows ∷ []))
+  name ← ended_text portal
+  whole_message (69 ∷ []) (joined (name ∷ to_be_bytes w32 rows ∷ []))
 
 -- a message whose body is one text
 unfoldable pub one_text : ℕ → List ℕ → Writing (List ℕ)
 one_text tag bytes = do
-  ended ← text_of bytes
-  whole (tag ∷ []) (joined (ended ∷ []))
+  ended ← ended_text bytes
+  whole_message (tag ∷ []) (joined (ended ∷ []))
 
 -- Query, `Q`, and CopyFail, `f`, with the reason
 abbrev pub query : List ℕ → Writing (List ℕ)
@@ -69,8 +70,8 @@ copy_fail = one_text 102
 
 -- CopyData, `d`: bytes of a COPY stream, cut anywhere
 abbrev pub copy_data : List ℕ → Writing (List ℕ)
-copy_data bytes = whole (100 ∷ []) bytes
+copy_data bytes = whole_message (100 ∷ []) bytes
 
 -- a message without a body: CopyDone, `c`; Flush, `H`; Sync, `S`; Terminate, `X`
-abbrev pub bare : ℕ → Writing (List ℕ)
-bare tag = whole (tag ∷ []) []
+abbrev pub bare_message : ℕ → Writing (List ℕ)
+bare_message tag = whole_message (tag ∷ []) []

@@ -8,11 +8,11 @@ use Rattle.std.specs.List.{AllByRecursion}
 use Rattle.pgv_value.specs.Utf8.{is_utf8}
 use Rattle.pgv_value.specs.declared.error.CodecError.TheVariants.{Short}
 use Rattle.pgv_value.specs.Fronts.{name_front}
-use Rattle.pgv_value.specs.Outcome.{Outcome, after, exactly, allocates, ◌>>◌}
+use Rattle.pgv_value.specs.Outcome.{Outcome, after, in_place, allocates, ◌>>◌}
 use Rattle.pgv_value.specs.Parsed.{Parsed, ◌>>=◌}
 use Rattle.pgv_message.specs.declared.response.PgField.{PgField}
 use Rattle.pgv_message.specs.declared.response.PgNotice.{PgNotice}
-use Rattle.pgv_message.specs.Bodies.{ended}
+use Rattle.pgv_message.specs.Bodies.{whole_body}
 
 pub record Field : Type 0 where
   pub code : ℕ
@@ -21,24 +21,24 @@ pub record Field : Type 0 where
 abbrev pub field_view : PgField → Field
 field_view f = record { code = f.code; text = f.text.now }
 
-abbrev pub fields_of : PgNotice → List Field
-fields_of n = map field_view n.fields.items
+abbrev pub fields_of_notice : PgNotice → List Field
+fields_of_notice n = map field_view n.fields.items
 
 -- ---- what a body is
 
-abbrev pub field_bytes : Field → List ℕ
-field_bytes f = f.code ∷ (f.text ++ 0 ∷ [])
+abbrev pub notice_field_bytes : Field → List ℕ
+notice_field_bytes f = f.code ∷ (f.text ++ 0 ∷ [])
 
 -- a field's byte is not 0, and its text has no zero byte and is UTF-8
-pub record IsField (f : Field) : Type 0 where
+pub record IsNoticeField (f : Field) : Type 0 where
   pub code : (f.code == 0) ≡ false
   pub none : AllByRecursion (λ b. (b == 0) ≡ false) f.text
   pub text : is_utf8 f.text ≡ true
 
 -- the fields, and a zero byte
 pub record IsNotice (bytes : List ℕ) (fields : List Field) : Type 0 where
-  pub whole : bytes ≡ flat_map field_bytes fields ++ 0 ∷ []
-  pub each : AllByRecursion IsField fields
+  pub whole : bytes ≡ flat_map notice_field_bytes fields ++ 0 ∷ []
+  pub each : AllByRecursion IsNoticeField fields
 
 -- ---- how it is read
 
@@ -52,14 +52,14 @@ fields_in (suc n) (code ∷ rest) =
 
 -- the fields up to a zero byte, where memory may have been asked for
 abbrev pub fields_front : List ℕ → Outcome (List Field × List ℕ)
-fields_front bytes = after true (exactly (fields_in (length bytes) bytes))
+fields_front bytes = after true (in_place (fields_in (length bytes) bytes))
 
 -- each field takes bytes, so there are no more of them than bytes
 unfoldable pub notice_fields : List ℕ → Parsed (List Field)
-notice_fields bytes = fields_in (length bytes) bytes >>= λ list. ended bytes list.0 list.1
+notice_fields bytes = fields_in (length bytes) bytes >>= λ list. whole_body bytes list.0 list.1
 
 abbrev pub notice : List ℕ → Outcome (List Field)
-notice bytes = allocates true >> exactly (notice_fields bytes)
+notice bytes = allocates true >> in_place (notice_fields bytes)
 
 -- ---- fields
 

@@ -30,14 +30,14 @@ with_length tag (Some size) =
     if nat_lt 2147483647 size.0 then Err (BadLength size.0) else
     Ok (with_body tag (size.0 - 4) size.1)
 
-unfoldable pub in_front : List ℕ → Result (Option Message) MessageError
-in_front [] = Ok None
-in_front (tag ∷ bytes) = with_length tag (number bytes)
+unfoldable pub message_at_front : List ℕ → Result (Option Message) MessageError
+message_at_front [] = Ok None
+message_at_front (tag ∷ bytes) = with_length tag (number bytes)
 
 -- What was returned is the message in front, where all of it has come; or the error of its length.
 abbrev pub Finds : List ℕ → Result (Option PgMessage) MessageError → Type 0
-Finds bytes (Ok found) = in_front bytes ≡ Ok (option_map message_view found)
-Finds bytes (Err e) = in_front bytes ≡ Err e
+Finds bytes (Ok found) = message_at_front bytes ≡ Ok (option_map message_view found)
+Finds bytes (Err e) = message_at_front bytes ≡ Err e
 
 -- ---- laws
 
@@ -50,12 +50,12 @@ found tag body rest = Ok (Some (record { tag = tag; body = body; rest = rest }))
 
 -- A message in front is found, whatever follows it.
 unfoldable pub MessageIsFound : Type 0
-MessageIsFound = (tag : ℕ) (body rest : List ℕ) → length body ≤ max_body → in_front (message tag body ++ rest) ≡ found tag body rest
+MessageIsFound = (tag : ℕ) (body rest : List ℕ) → length body ≤ max_body → message_at_front (message tag body ++ rest) ≡ found tag body rest
 
 -- What is found in front is a message, and the bytes after it.
 unfoldable pub FoundIsMessage : Type 0
-FoundIsMessage = (bytes : List ℕ) (tag : ℕ) (body rest : List ℕ) → AreBytes bytes → in_front bytes ≡ found tag body rest → (length body ≤ max_body) × (bytes ≡ message tag body ++ rest)
+FoundIsMessage = (bytes : List ℕ) (tag : ℕ) (body rest : List ℕ) → AreBytes bytes → message_at_front bytes ≡ found tag body rest → (length body ≤ max_body) × (bytes ≡ message tag body ++ rest)
 
 -- Of a message that is cut off anywhere nothing is found yet.
 unfoldable pub CutIsNotFound : Type 0
-CutIsNotFound = (tag : ℕ) (body : List ℕ) (n : ℕ) → length body ≤ max_body → n < length (message tag body) → in_front (take n (message tag body)) ≡ Ok None
+CutIsNotFound = (tag : ℕ) (body : List ℕ) (n : ℕ) → length body ≤ max_body → n < length (message tag body) → message_at_front (take n (message tag body)) ≡ Ok None

@@ -2,7 +2,7 @@
 
 ghost use Rattle.std.specs.Prelude.{◌≡◌, option_map};
 ghost use Rattle.pgv_value.specs.Parsed.{GivesExactly};
-ghost use Rattle.pgv_text.specs.NumberText.{unsigned_value};
+ghost use Rattle.pgv_text.specs.IntText.{unsigned_value};
 ghost use Rattle.pgv_message.specs.Bodies.{command_complete};
 ghost use Rattle.pgv_message.specs.RowCounts.{after_last_space, within_64, row_count};
 

@@ -2,7 +2,7 @@
 
 ghost use Rattle.std.specs.Prelude.{◌≡◌, ◌<◌, ◌==◌, length, drop, OnOk, OnErr};
 ghost use Rattle.std.specs.VecDeque.{deque_len};
-ghost use Rattle.pgv_message.specs.Exchange.{idle, stage_of, is_async, after_front, with_rest, until_sync, sent, Takes, TakesError, TakesAnswer, Steps, exchange_of};
+ghost use Rattle.pgv_message.specs.Exchange.{idle, stage_of, is_async, after_front, requests_with_rest, until_sync, sent, TakesTag, TakesError, TakesAnswer, Steps, exchange_of};
 
 use crate::tag::PgTag;
 use std::alloc::{AllocError, Global};
@@ -108,7 +108,7 @@ fn answered(awaited: PgAwaited, tag: PgTag) -> Option<Option<PgAwaited>>
 /// Puts what is left of the first answer in its place.
 fn put_first(waiting: &mut VecDeque<PgAwaited>, left: Option<PgAwaited>)
     requires { 0 < deque_len waiting.old }
-    ensures { waiting.new.items ≡ with_rest (drop 1 waiting.old.items) left }
+    ensures { waiting.new.items ≡ requests_with_rest (drop 1 waiting.old.items) left }
 {
     match left {
         None => {
@@ -203,7 +203,7 @@ impl PgExchange {
     /// Takes a message, where it may come.
     #[tactic(auto, unfolding(crate::specs::Exchange::step))]
     fn takes(&mut self, tag: PgTag) -> bool
-        ensures { Takes (exchange_of self.old) tag (exchange_of self.new) result }
+        ensures { TakesTag (exchange_of self.old) tag (exchange_of self.new) result }
     {
         if is_asynchronous(tag) {
             return true;

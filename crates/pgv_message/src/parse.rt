@@ -1,6 +1,6 @@
 //! Parse: a query becomes a prepared statement.
 
-ghost use Rattle.pgv_message.specs.Messages.{parse};
+ghost use Rattle.pgv_message.specs.Messages.{parse_message};
 ghost use Rattle.pgv_message.specs.MessageWriting.{Sends};
 
 use crate::error::MessageError;
@@ -14,14 +14,15 @@ use pgv_types::Oid;
 /// refused call leaves the buffer as it was.
 ///
 /// `SELECT $1` as the unnamed statement, the parameter an `int4`: `50 00000015 00 53454c45435420243100 0001 00000017`.
-#[tactic(auto, unfolding(crate::specs::Messages::parse))]
+#[tactic(auto, unfolding(crate::specs::Messages::parse_message))]
 pub fn write_parse<'a>(
     out: &mut Vec<u8>,
     statement: &'a str,
     query: &'a str,
     oids: &'a [Oid],
 ) -> Result<(), MessageError>
-    ensures { Sends (parse statement.now query.now oids.now) out.old.items out.new.items result }
+    ensures { Sends (parse_message statement.now query.now oids.now)
+        out.old.items out.new.items result }
 {
     let statement = text_piece(statement)?;
     let query = text_piece(query)?;

@@ -2,7 +2,7 @@
 
 ghost use Rattle.std.specs.Prelude.{◌≡◌, ◌<◌, ◌≤◌, ◌++◌, [], ◌∷◌, length, flat_map, is_ok, MatchResult};
 ghost use Rattle.std.specs.Int.{to_be_bytes};
-ghost use Rattle.pgv_message.specs.MessageWriting.{Gives, Sends, appended, text_of, count_of, whole, max_body};
+ghost use Rattle.pgv_message.specs.MessageWriting.{GivesPart, Sends, appended, ended_text, count_of, whole_message, max_body};
 ghost use Rattle.pgv_message.specs.Pieces.{piece_bytes, joined_pieces, format_bytes, format_codes, oid_bytes};
 ghost use Rattle.pgv_message.specs.declared.error.MessageError.TheVariants.{TooLong};
 
@@ -34,9 +34,9 @@ pub enum Piece<'a> {
 }
 
 /// A text as a piece. A zero byte in it is refused.
-#[tactic(auto, unfolding(crate::specs::MessageWriting::text_of))]
+#[tactic(auto, unfolding(crate::specs::MessageWriting::ended_text))]
 pub fn text_piece(text: &str) -> Result<Piece<'_>, MessageError>
-    ensures { Gives piece_bytes (text_of text.now) result }
+    ensures { GivesPart piece_bytes (ended_text text.now) result }
 {
     if text.as_bytes().contains(&0) {
         return Err(MessageError::ZeroByte);
@@ -47,7 +47,7 @@ pub fn text_piece(text: &str) -> Result<Piece<'_>, MessageError>
 /// A number of what is counted in two bytes. More than 65535 are refused.
 #[tactic(auto, unfolding(crate::specs::MessageWriting::count_of))]
 pub fn count_piece<'a>(number: usize) -> Result<Piece<'a>, MessageError>
-    ensures { Gives piece_bytes (count_of number) result }
+    ensures { GivesPart piece_bytes (count_of number) result }
 {
     match u16::try_from(number) {
         Ok(count) => Ok(Piece::Count(count)),
@@ -169,9 +169,10 @@ fn push_pieces(out: &mut Vec<u8>, pieces: &[Piece<'_>]) -> Result<(), AllocError
 }
 
 /// Appends the message under a tag whose body is these pieces. A refused call leaves all as it was.
-#[tactic(auto, unfolding(crate::specs::MessageWriting::whole))]
+#[tactic(auto, unfolding(crate::specs::MessageWriting::whole_message))]
 pub fn push_message(out: &mut Vec<u8>, tag: &[u8], pieces: &[Piece<'_>]) -> Result<(), MessageError>
-    ensures { Sends (whole tag.now (joined_pieces pieces.now)) out.old.items out.new.items result }
+    ensures { Sends (whole_message tag.now (joined_pieces pieces.now))
+        out.old.items out.new.items result }
 {
     let length = body_size(pieces)? + 4;
     let mark = out.len();

@@ -2,7 +2,7 @@
 
 ghost use Rattle.std.specs.Prelude.{◌≡◌, map, option_map};
 ghost use Rattle.pgv_value.specs.Outcome.{Gives, GivesWhole};
-ghost use Rattle.pgv_message.specs.Notice.{field_view, fields_of, fields_front, notice, IsNotice, text_by};
+ghost use Rattle.pgv_message.specs.Notice.{field_view, fields_of_notice, fields_front, notice, IsNotice, text_by};
 
 use crate::end::check_end;
 use pgv_value::{CodecError, name_in_front};
@@ -62,7 +62,7 @@ impl<'a> PgNotice<'a> {
     /// `5345525200 4332323031320000` has the severity `ERR` and the code `22012`.
     pub fn read(alloc: Global, body: &'a [u8]) -> Result<PgNotice<'a>, CodecError>
         // What is answered is what the body has, and nothing but memory keeps fields from being answered.
-        ensures { GivesWhole fields_of (notice body.now) (IsNotice body.now) result }
+        ensures { GivesWhole fields_of_notice (notice body.now) (IsNotice body.now) result }
     {
         let fields = all_fields(alloc, body)?;
         Ok(PgNotice { fields })
@@ -70,14 +70,14 @@ impl<'a> PgNotice<'a> {
 
     /// All fields, in order.
     pub fn fields(&self) -> &[PgField<'a>]
-        ensures { map field_view result.now ≡ fields_of self.now }
+        ensures { map field_view result.now ≡ fields_of_notice self.now }
     {
         self.fields.as_slice()
     }
 
     /// The text of the first field that a byte names, as `M` names the message.
     pub fn get(&self, code: u8) -> Option<&'a str>
-        ensures { option_map (λ t. t.now) result ≡ text_by code (fields_of self.now) }
+        ensures { option_map (λ t. t.now) result ≡ text_by code (fields_of_notice self.now) }
     {
         for field in &self.fields {
             if field.code == code {
@@ -89,42 +89,42 @@ impl<'a> PgNotice<'a> {
 
     /// How severe it is: `ERROR`, `FATAL`, `WARNING` and others, maybe translated.
     pub fn severity(&self) -> Option<&'a str>
-        ensures { option_map (λ t. t.now) result ≡ text_by 83 (fields_of self.now) }
+        ensures { option_map (λ t. t.now) result ≡ text_by 83 (fields_of_notice self.now) }
     {
         self.get(b'S')
     }
 
     /// The SQLSTATE, as `22012` (PostgreSQL: "PostgreSQL Error Codes").
     pub fn code(&self) -> Option<&'a str>
-        ensures { option_map (λ t. t.now) result ≡ text_by 67 (fields_of self.now) }
+        ensures { option_map (λ t. t.now) result ≡ text_by 67 (fields_of_notice self.now) }
     {
         self.get(b'C')
     }
 
     /// What happened, in a line.
     pub fn message(&self) -> Option<&'a str>
-        ensures { option_map (λ t. t.now) result ≡ text_by 77 (fields_of self.now) }
+        ensures { option_map (λ t. t.now) result ≡ text_by 77 (fields_of_notice self.now) }
     {
         self.get(b'M')
     }
 
     /// More of what happened.
     pub fn detail(&self) -> Option<&'a str>
-        ensures { option_map (λ t. t.now) result ≡ text_by 68 (fields_of self.now) }
+        ensures { option_map (λ t. t.now) result ≡ text_by 68 (fields_of_notice self.now) }
     {
         self.get(b'D')
     }
 
     /// What may be done about it.
     pub fn hint(&self) -> Option<&'a str>
-        ensures { option_map (λ t. t.now) result ≡ text_by 72 (fields_of self.now) }
+        ensures { option_map (λ t. t.now) result ≡ text_by 72 (fields_of_notice self.now) }
     {
         self.get(b'H')
     }
 
     /// The place in the query, a decimal number of characters, of which the first is 1.
     pub fn position(&self) -> Option<&'a str>
-        ensures { option_map (λ t. t.now) result ≡ text_by 80 (fields_of self.now) }
+        ensures { option_map (λ t. t.now) result ≡ text_by 80 (fields_of_notice self.now) }
     {
         self.get(b'P')
     }

@@ -8,7 +8,7 @@ use Rattle.std.proofs.lemmas.Nat.Bits.{ones_shl, and_high_mask}
 use Rattle.std.proofs.lemmas.List.{get_or_append_left, get_or-append-add}
 use Rattle.std.proofs.Math.Pow.{shr_mod}
 use Rattle.pgv_more.specs.Bits.{low_bits, bits_of, number_of}
-use Rattle.pgv_more.specs.Packing.{length-low_bits, number_of-push, number_of-short, first_number}
+use Rattle.pgv_more.specs.Packing.{length-low_bits, number_of-push, number_of-short, front_number}
 
 mask : (place : ℕ) → place < 8 → 128 / 2 ^ place ≡ 2 ^ (7 - place)
 mask place l =
@@ -34,7 +34,7 @@ pub first_is : (byte many : ℕ) → byte < 256 → many ≤ 8 → bit_and byte 
 first_is byte many small l =
     let whole : many + (8 - many) ≡ 8 = omega arith in
     let fits : byte < 2 ^ (many + (8 - many)) = rw whole (omega arith) in
-    let first : number_of 8 (take many (low_bits 8 byte)) ≡ byte / 2 ^ (8 - many) % 2 ^ many * 2 ^ (8 - many) = rw whole at (first_number many (8 - many) byte) in
+    let first : number_of 8 (take many (low_bits 8 byte)) ≡ byte / 2 ^ (8 - many) % 2 ^ many * 2 ^ (8 - many) = rw whole at (front_number many (8 - many) byte) in
     rw (ones_shl 8 (8 - many) (omega arith), and_high_mask 8 (8 - many) (omega arith) byte small, first, shr_mod {n = byte} many (8 - many) fits) refl
 
 low_bit : (n x r : ℕ) (d : Bool) → r < n → get_or (low_bits n x) r d ≡ (bit_at x (n - 1 - r) == 1)

@@ -12,14 +12,14 @@ use Rattle.std.specs.Ordering.{match_ordering}
 use Rattle.std.specs.String.{string_cmp}
 use Rattle.pgv_value.specs.FrameBinary.{Part}
 use Rattle.pgv_value.specs.Fronts.{part_front}
-use Rattle.pgv_value.specs.Outcome.{Outcome, Fails, done, exactly, allocates, after, bind_by, ◌>>=◌, ◌>>◌}
+use Rattle.pgv_value.specs.Outcome.{Outcome, Fails, done, in_place, allocates, after, bind_by, ◌>>=◌, ◌>>◌}
 use Rattle.pgv_value.specs.Parsed.{Parsed}
 use Rattle.pgv_value.specs.Utf8.{is_utf8}
 use Rattle.pgv_value.specs.declared.error.CodecError.{CodecError}
 use Rattle.pgv_value.specs.declared.error.CodecError.TheVariants.{Utf8}
 use Rattle.pgv_value.proofs.Outcomes.{taken, taken_exactly}
 use Rattle.pgv_codec.proofs.StepOutcomes.{fails_here, fails_then}
-use Rattle.pgv_more.specs.Hstore.{Pair, pair_of, order, text_at, as_key, key_at, value_at, pairs, put_all, put_read}
+use Rattle.pgv_more.specs.Hstore.{Pair, pair_of, order, text_at, as_key, key_at, map_value, pairs, put_all, put_read}
 
 -- ---- what is put into the map is put into its pairs
 
@@ -41,7 +41,7 @@ inserted {Z} (e ∷ es) k v = by (string_cmp k e.0) (inserted es k v)
 text_asks : (form text : List ℕ) → (text_at form).answer ≡ Ok text → (text_at form).may_alloc ≡ true
 text_asks form text e = by (if is_utf8 form then Ok form else Err Utf8) e
   where
-    by : (p : Parsed (List ℕ)) → (exactly p >>= λ t. allocates true >> done t).answer ≡ Ok text → (exactly p >>= λ t. allocates true >> done t).may_alloc ≡ true
+    by : (p : Parsed (List ℕ)) → (in_place p >>= λ t. allocates true >> done t).answer ≡ Ok text → (in_place p >>= λ t. allocates true >> done t).may_alloc ≡ true
     by (Ok t) e = refl
     by (Err d) e = absurd cc
 
@@ -60,19 +60,19 @@ regroup : (into : List Pair) (p : Pair) (r : Result (List Pair) (Option CodecErr
 regroup into p (Ok ps) b c = refl
 regroup into p (Err why) b c = refl
 
-put_more : (into : List Pair) (k : ℕ) (form between later : List ℕ) (key : List ℕ) (value : Part) → (key_at form).answer ≡ Ok (key, between) → (value_at between).answer ≡ Ok (value, later) →
+put_more : (into : List Pair) (k : ℕ) (form between later : List ℕ) (key : List ℕ) (value : Part) → (key_at form).answer ≡ Ok (key, between) → (map_value between).answer ≡ Ok (value, later) →
     put_read into (suc k) form ≡ after true (put_read (put order key value into) k later)
 unfolding pairs
 put_more into k form between later key value f g =
-    rw (f, key_asks form (key, between) f, g) (regroup into (key, value) (pairs k later).answer (pairs k later).may_alloc (value_at between).may_alloc)
+    rw (f, key_asks form (key, between) f, g) (regroup into (key, value) (pairs k later).answer (pairs k later).may_alloc (map_value between).may_alloc)
 
 no_key : (into : List Pair) (k : ℕ) (form : List ℕ) (e : CodecError) → Fails e (key_at form) → Fails e (put_read into (suc k) form)
 unfolding pairs
 no_key into k form e h = fails_here (pairs (suc k) form) _ e (fails_here (key_at form) _ e h)
 
-no_value : (into : List Pair) (k : ℕ) (form between key : List ℕ) (e : CodecError) → (key_at form).answer ≡ Ok (key, between) → Fails e (value_at between) → Fails e (put_read into (suc k) form)
+no_value : (into : List Pair) (k : ℕ) (form between key : List ℕ) (e : CodecError) → (key_at form).answer ≡ Ok (key, between) → Fails e (map_value between) → Fails e (put_read into (suc k) form)
 unfolding pairs
-no_value into k form between key e f h = fails_here (pairs (suc k) form) _ e (fails_then (key_at form) _ (key, between) e f (fails_here (value_at between) _ e h))
+no_value into k form between key e f h = fails_here (pairs (suc k) form) _ e (fails_then (key_at form) _ (key, between) e f (fails_here (map_value between) _ e h))
 
 -- ---- after memory may have been asked for
 
@@ -103,13 +103,13 @@ one_at into count i form whole lt so_far =
     ap (λ (n : ℕ). after (nat_lt 0 i) (put_read into n form)) (sym k) ∙ so_far
 
 pair_at : (into : List Pair) (count i : ℕ) (form between later : List ℕ) (key : List ℕ) (value : Part) (whole : Outcome (List Pair)) → i < count →
-    (key_at form).answer ≡ Ok (key, between) → (value_at between).answer ≡ Ok (value, later) → IsOf into count i form whole → after true (put_read (put order key value into) (count - (i + 1)) later) ≡ whole
+    (key_at form).answer ≡ Ok (key, between) → (map_value between).answer ≡ Ok (value, later) → IsOf into count i form whole → after true (put_read (put order key value into) (count - (i + 1)) later) ≡ whole
 pair_at into count i form between later key value whole lt f g so_far =
     sym (after_more (nat_lt 0 i) (put_read (put order key value into) (count - (i + 1)) later))
     ∙ ap (after (nat_lt 0 i)) (sym (put_more into (count - (i + 1)) form between later key value f g)) ∙ one_at into count i form whole lt so_far
 
 pub goes_on : (into now : List Pair) (count i : ℕ) (form between later : List ℕ) (key : List ℕ) (value : Part) (whole : Outcome (List Pair)) → i < count →
-    (key_at form).answer ≡ Ok (key, between) → (value_at between).answer ≡ Ok (value, later) → now ≡ put order key value into → IsOf into count i form whole → IsOf now count (i + 1) later whole
+    (key_at form).answer ≡ Ok (key, between) → (map_value between).answer ≡ Ok (value, later) → now ≡ put order key value into → IsOf into count i form whole → IsOf now count (i + 1) later whole
 goes_on into now count i form between later key value whole lt f g put so_far =
     let more : nat_lt 0 (i + 1) ≡ true = lt-ltb 0 (i + 1) (omega arith) in
     rw (more, put) (pair_at into count i form between later key value whole lt f g so_far)
@@ -118,14 +118,14 @@ pub ends_at_key : (into : List Pair) (count i : ℕ) (form : List ℕ) (whole : 
 ends_at_key into count i form whole e lt h so_far =
     subst (λ (o : Outcome (List Pair)). Fails e o) (one_at into count i form whole lt so_far) (fails_after (nat_lt 0 i) (put_read into (suc (count - (i + 1))) form) e (no_key into (count - (i + 1)) form e h))
 
-pub ends_at_value : (into : List Pair) (count i : ℕ) (form between key : List ℕ) (whole : Outcome (List Pair)) (e : CodecError) → i < count → (key_at form).answer ≡ Ok (key, between) → Fails e (value_at between) →
+pub ends_at_value : (into : List Pair) (count i : ℕ) (form between key : List ℕ) (whole : Outcome (List Pair)) (e : CodecError) → i < count → (key_at form).answer ≡ Ok (key, between) → Fails e (map_value between) →
     IsOf into count i form whole → Fails e whole
 ends_at_value into count i form between key whole e lt f h so_far =
     subst (λ (o : Outcome (List Pair)). Fails e o) (one_at into count i form whole lt so_far)
     (fails_after (nat_lt 0 i) (put_read into (suc (count - (i + 1))) form) e (no_value into (count - (i + 1)) form between key e f h))
 
 pub memory_asked : (into : List Pair) (count i : ℕ) (form between later : List ℕ) (key : List ℕ) (value : Part) (whole : Outcome (List Pair)) → i < count →
-    (key_at form).answer ≡ Ok (key, between) → (value_at between).answer ≡ Ok (value, later) → IsOf into count i form whole → whole.may_alloc ≡ true
+    (key_at form).answer ≡ Ok (key, between) → (map_value between).answer ≡ Ok (value, later) → IsOf into count i form whole → whole.may_alloc ≡ true
 memory_asked into count i form between later key value whole lt f g so_far =
     ap (λ (o : Outcome (List Pair)). o.may_alloc) (sym (pair_at into count i form between later key value whole lt f g so_far))
 

@@ -10,7 +10,7 @@ use Rattle.std.specs.String.{string_cmp}
 use Rattle.std.specs.declared.cmp.Ordering.TheVariants.{Less}
 use Rattle.std.specs.declared.string.String.{String}
 use Rattle.pgv_buf.specs.Tokens.{Token, Cell, blank, bytes}
-use Rattle.pgv_value.specs.Outcome.{Outcome, Fails, after, allocates, done, exactly, stated, ◌>>=◌, ◌>>◌}
+use Rattle.pgv_value.specs.Outcome.{Outcome, Fails, after, allocates, done, in_place, stated, ◌>>=◌, ◌>>◌}
 use Rattle.pgv_value.specs.declared.error.CodecError.{CodecError}
 use Rattle.pgv_value.specs.declared.error.CodecError.TheVariants.{Memory}
 use Rattle.pgv_codec.specs.Appending.{Appended, Encoded}
@@ -74,15 +74,15 @@ module _ {Z : Type 0} (es : List (String Z × Option (String Z))) where
   abbrev pub pairs_after : List ℕ → Outcome Image
   pairs_after number = allocates true >> (pairs_written (map pair_of es) >>= λ all. in_order (map pair_of es) >> done (image_of (bytes number ++ all)))
 
-  image_by : (n : ℕ) → n ≡ length es → exactly (number_form n) >>= pairs_after ≡ hstore_image (map pair_of es)
+  image_by : (n : ℕ) → n ≡ length es → in_place (number_form n) >>= pairs_after ≡ hstore_image (map pair_of es)
   unfolding hstore_image
   image_by n e = rw (e, same_length es) refl
 
   pub number_fails : (n : ℕ) (e : CodecError) → n ≡ length es → number_form n ≡ Err e → Fails e (hstore_image (map pair_of es))
-  number_fails n e count is = subst (Fails e) (image_by n count) (fails_here (exactly (number_form n)) pairs_after e (inl (ap stated is)))
+  number_fails n e count is = subst (Fails e) (image_by n count) (fails_here (in_place (number_form n)) pairs_after e (inl (ap stated is)))
 
   pub memory_fails : (n : ℕ) (number : List ℕ) (e : CodecError) → n ≡ length es → number_form n ≡ Ok number → e ≡ Memory → Fails e (hstore_image (map pair_of es))
-  memory_fails n number e count is memory = subst (Fails e) (image_by n count) (fails_then (exactly (number_form n)) pairs_after number e (ap stated is) (inr (inr (memory, refl))))
+  memory_fails n number e count is memory = subst (Fails e) (image_by n count) (fails_then (in_place (number_form n)) pairs_after number e (ap stated is) (inr (inr (memory, refl))))
 
   part_fails : {A B : Type 0} (o : Outcome A) (next : A → Outcome B) (e : CodecError) → Fails e (after true o) → Fails e (allocates true >> (o >>= next))
   part_fails o next e (inl h) = inl (rw h refl)
@@ -91,7 +91,7 @@ module _ {Z : Type 0} (es : List (String Z × Option (String Z))) where
 
   pub pairs_fail : (n : ℕ) (number : List ℕ) (e : CodecError) → n ≡ length es → number_form n ≡ Ok number → Fails e (after true (pairs_written (map pair_of es))) → Fails e (hstore_image (map pair_of es))
   pairs_fail n number e count is fault =
-      subst (Fails e) (image_by n count) (fails_then (exactly (number_form n)) pairs_after number e (ap stated is)
+      subst (Fails e) (image_by n count) (fails_then (in_place (number_form n)) pairs_after number e (ap stated is)
       (part_fails (pairs_written (map pair_of es)) (λ all. in_order (map pair_of es) >> done (image_of (bytes number ++ all))) e fault))
 
   -- the number of pairs, and the pairs

@@ -21,8 +21,8 @@ use Rattle.pgv_value.specs.declared.error.CodecError.TheVariants.{HstoreLength, 
 use Rattle.pgv_value.proofs.Numbers.{number_is, bytes_after, after_four}
 use Rattle.pgv_value.proofs.Outcomes.{answer_is, answers_are, ok_is, held, taken, taken_exactly, tested, found_or}
 use Rattle.pgv_codec.specs.Encoding.{limit}
-use Rattle.pgv_more.specs.Hstore.{Pair, order, part_form, pair_form, text_at, as_key, as_value, key_at, value_at, pairs, put_all, put_read, hstore_in_binary}
-use Rattle.pgv_more.specs.HstoreBack.{IsText, IsValue, ArePairs, hstore_there}
+use Rattle.pgv_more.specs.Hstore.{Pair, order, part_form, pair_form, text_at, as_key, as_value, key_at, map_value, pairs, put_all, put_read, hstore_in_binary}
+use Rattle.pgv_more.specs.HstoreBack.{IsText, IsMapValue, ArePairs, hstore_there}
 use Rattle.pgv_more.specs.HstoreLaws.{last_value, IsMapOf, IsHstore, HstoreIsRead, OneHstore}
 
 -- ---- a key, a value and a pair that are read stand there
@@ -31,7 +31,7 @@ abbrev KeyIs : List ℕ → List ℕ → List ℕ → Type 0
 KeyIs form key rest = IsText key × (form ≡ part_form (Some key) ++ rest)
 
 abbrev ValueIs : List ℕ → Part → List ℕ → Type 0
-ValueIs form value rest = IsValue value × (form ≡ part_form value ++ rest)
+ValueIs form value rest = IsMapValue value × (form ≡ part_form value ++ rest)
 
 text_is : (form part rest : List ℕ) → is_utf8 part ≡ true → IsFrame form (Some part) rest → KeyIs form part rest
 text_is form part rest utf8 frame = (record { utf8 = utf8; room = frame.0 }, frame.1 ∙ sym (append_assoc (be4 (length part)) part rest))
@@ -56,7 +56,7 @@ key_is form key rest small e =
         let t = text_taken part key e in
         subst (λ (text : List ℕ). KeyIs form text rest) t.1 (text_is form part rest t.0 frame)
 
-value_is : (form : List ℕ) (value : Part) (rest : List ℕ) → AreBytes form → (value_at form).answer ≡ Ok (value, rest) → ValueIs form value rest
+value_is : (form : List ℕ) (value : Part) (rest : List ℕ) → AreBytes form → (map_value form).answer ≡ Ok (value, rest) → ValueIs form value rest
 value_is form value rest small e =
     let a = taken_exactly (part_front form) _ (value, rest) e in
     let b = taken (as_value a.0.0) (λ (v : Part). done (v, a.0.1)) (value, rest) a.2 in
@@ -90,7 +90,7 @@ pairs_are (suc n) form ps small e =
     let a = taken (key_at form) _ ps e in
     let k = key_is form a.0.0 a.0.1 small a.1 in
     let small_after = bytes_after (part_form (Some a.0.0)) a.0.1 (subst AreBytes k.1 small) in
-    let b = taken (value_at a.0.1) _ ps a.2 in
+    let b = taken (map_value a.0.1) _ ps a.2 in
     let v = value_is a.0.1 b.0.0 b.0.1 small_after b.1 in
     let c = taken (pairs n b.0.1) _ ps b.2 in
     let more = pairs_are n b.0.1 c.0 (bytes_after (part_form b.0.0) b.0.1 (subst AreBytes v.1 small_after)) c.1 in

@@ -1,6 +1,6 @@
 -- The laws of MAC addresses.
 use Rattle.std.proofs.Common.{◌≡◌, ℕ, ◌≤◌, List, [], ◌∷◌, length, refl, arith, None, zero, suc, ◌+◌, ◌*◌, ◌<◌, eqb, ltb, Bool, true, false, drop, sym, subst, ap, ◌∙◌, Option, Some, ◌⊎◌, inl, inr}
-use Rattle.pgv_more.specs.MacAddressText.{at_end, IsHexDigit, IsPair, ArePairsAfter, IsSeparator, IsMacAddress, hex_value, pair_of, pair_value, with_rest, next_pair, before, pairs_after, is_separator, mac_value, MacAddressIsRead, OneMacAddress}
+use Rattle.pgv_more.specs.MacAddressText.{no_text_left, IsHexDigit, IsPair, ArePairsAfter, IsSeparator, IsMacAddress, hex_value, pair_of, pair_value, with_rest, next_pair, pair_before, pairs_after, is_separator, mac_value, MacAddressIsRead, OneMacAddress}
 use Rattle.std.specs.Prelude.{◌||◌}
 use Rattle.std.specs.Option.{option_map}
 use Rattle.std.specs.Char.{digit_value}
@@ -11,7 +11,7 @@ use Rattle.pgv_codec.specs.BackParts.{guarded}
 
 -- ---- texts of MAC addresses
 
-pub not_at_end : (text : List ℕ) → 1 ≤ length text → at_end text ≡ None
+pub not_at_end : (text : List ℕ) → 1 ≤ length text → no_text_left text ≡ None
 not_at_end [] l = absurd (omega arith)
 not_at_end (c ∷ text) l = refl
 
@@ -96,7 +96,7 @@ next_there separator (c ∷ high ∷ low ∷ rest) byte after e =
 next_read : (separator high low byte : ℕ) (rest : List ℕ) → IsPair high low byte → next_pair separator (separator ∷ high ∷ low ∷ rest) ≡ Some (byte, rest)
 next_read separator high low byte rest p = rw (eq-eqb separator separator refl, pair_read high low byte p) refl
 
-before_there : (x : Option (ℕ × List ℕ)) (more : List ℕ → Option (List ℕ)) (bytes : List ℕ) → before x more ≡ Some bytes →
+before_there : (x : Option (ℕ × List ℕ)) (more : List ℕ → Option (List ℕ)) (bytes : List ℕ) → pair_before x more ≡ Some bytes →
     (byte : ℕ) × (after : List ℕ) × (others : List ℕ) × (x ≡ Some (byte, after)) × (more after ≡ Some others) × (bytes ≡ byte ∷ others)
 before_there None more bytes e = absurd (cc)
 before_there (Some (byte, after)) more bytes e = let m = mapped (more after) e in (byte, after, m.0, refl, m.1, m.2)
@@ -105,7 +105,7 @@ before_there (Some (byte, after)) more bytes e = let m = mapped (more after) e i
     mapped None f = absurd (cc)
     mapped (Some others) f = (others, refl, sym (same_Some (byte ∷ others) bytes f))
 
-end_there : (text bytes : List ℕ) → at_end text ≡ Some bytes → (text ≡ []) × (bytes ≡ [])
+end_there : (text bytes : List ℕ) → no_text_left text ≡ Some bytes → (text ≡ []) × (bytes ≡ [])
 end_there [] bytes e = (refl, sym (same_Some [] bytes e))
 end_there (c ∷ text) bytes e = absurd (cc)
 
@@ -138,7 +138,7 @@ mac_found [] bytes e = absurd (cc)
 mac_found (high ∷ []) bytes e = absurd (cc)
 mac_found (high ∷ low ∷ []) bytes e = absurd (cc)
 mac_found (high ∷ low ∷ s ∷ rest) bytes e =
-    let u = guarded (is_separator s) (before (with_rest (pair_value high low) (s ∷ rest)) (pairs_after s 5)) bytes e in
+    let u = guarded (is_separator s) (pair_before (with_rest (pair_value high low) (s ∷ rest)) (pairs_after s 5)) bytes e in
     let b = before_there (with_rest (pair_value high low) (s ∷ rest)) (pairs_after s 5) bytes u.1 in
     let f = rest_there (pair_value high low) (s ∷ rest) b.0 b.1 b.3 in
     let m = pairs_found s 5 b.1 b.2 b.4 in

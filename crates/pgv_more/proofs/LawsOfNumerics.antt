@@ -11,7 +11,7 @@ use Rattle.pgv_more.specs.declared.numeric.PgNumericSign.{PgNumericSign}
 use Rattle.std.specs.Int.{w16, to_be_bytes}
 use Rattle.std.specs.List.{flat_map, list_all}
 use Rattle.pgv_value.specs.FrameLaws.{AreBytes}
-use Rattle.pgv_value.specs.NumberBinary.{fits_signed}
+use Rattle.pgv_value.specs.IntBinary.{fits_signed}
 use Rattle.pgv_value.specs.Outcome.{done}
 use Rattle.pgv_value.specs.declared.error.CodecError.TheVariants.{NumericSign, Short}
 use Rattle.pgv_value.proofs.Outcomes.{answer_is, found_or, taken, taken_exactly, tested}

@@ -8,7 +8,7 @@ use Rattle.std.specs.Int.{w16}
 use Rattle.std.specs.List.{flat_map, list_all}
 use Rattle.std.proofs.lemmas.Bool.{and_parts, le-ltb}
 use Rattle.pgv_buf.specs.Tokens.{Token, Cell, bytes, blank}
-use Rattle.pgv_value.specs.Outcome.{Fails, allocates, done, exactly, fails_if, ◌>>◌}
+use Rattle.pgv_value.specs.Outcome.{Fails, allocates, done, in_place, fails_if, ◌>>◌}
 use Rattle.pgv_value.specs.Parsed.{Parsed}
 use Rattle.pgv_value.specs.declared.error.CodecError.{CodecError}
 use Rattle.pgv_value.specs.declared.error.CodecError.TheVariants.{Memory, NumericDigit}
@@ -16,7 +16,7 @@ use Rattle.pgv_value.proofs.Outcomes.{answer_is}
 use Rattle.pgv_codec.specs.Appending.{Appended}
 use Rattle.pgv_codec.specs.Encoding.{Image, image_of, writes}
 use Rattle.pgv_codec.specs.PlainBytes.{appended_parts}
-use Rattle.pgv_value.specs.NumberBinary.{fits_signed}
+use Rattle.pgv_value.specs.IntBinary.{fits_signed}
 use Rattle.pgv_more.specs.Numeric.{number, word, sign_word, head_form, number_form, is_digit, digit_written, digits_tested, digits_written, number_image, numeric_image}
 use Rattle.pgv_more.specs.declared.numeric.PgNumericSign.{PgNumericSign}
 
@@ -91,7 +91,7 @@ few : (n : ℕ) → n ≤ 32767 → nat_lt 32767 n ≡ false
 few n le = le-ltb 32767 n le
 
 -- where they are appended, each is a digit
-each_is : (tested : Parsed ⊤) (words ts : List Token) → (allocates true >> (exactly tested >> done words)).answer ≡ Ok ts → (tested ≡ Ok tt) × (words ≡ ts)
+each_is : (tested : Parsed ⊤) (words ts : List Token) → (allocates true >> (in_place tested >> done words)).answer ≡ Ok ts → (tested ≡ Ok tt) × (words ≡ ts)
 each_is (Ok all) words ts e = (refl, answer_is words ts e)
 each_is (Err d) words ts e = absurd cc
 
@@ -108,7 +108,7 @@ number_appended sign ds weight scale start mid now le weight_fits scale_fits fir
     )
 
 -- what the digits are refused with, the number is
-fails_so : (tested : Parsed ⊤) (words : List Token) (image : Option Image) (e : CodecError) → Fails e (allocates true >> (exactly tested >> done words)) → Fails e (allocates true >> (exactly tested >> writes image))
+fails_so : (tested : Parsed ⊤) (words : List Token) (image : Option Image) (e : CodecError) → Fails e (allocates true >> (in_place tested >> done words)) → Fails e (allocates true >> (in_place tested >> writes image))
 fails_so (Ok all) words image e (inl h) = absurd cc
 fails_so (Ok all) words image e (inr (inl h)) = absurd (let no : (let r : Result (List Token) (Option CodecError) = Ok words in r) ≡ Err None = h.0 in cc)
 fails_so (Ok all) words image e (inr (inr h)) = inr (inr (h.0, refl))

@@ -30,8 +30,8 @@ binary_there bits padding body few rest e =
     let size : (length body == byte_count (length bits)) ≡ true = eq-eqb (length body) (byte_count (length bits)) (omega (arith, length-bits_of body, ap length e, length-append bits padding)) in
     rw (long, count, positive, size, e) (ap (λ (bs : List Bool). let p : Parsed (List Bool) = Ok bs in p) (take_at bits padding (length bits) refl))
 
-binary_again : (bits : List Bool) → length bits ≤ 2147483647 → bits_in_binary (be4 (length bits) ++ packed bits) ≡ Ok bits
-binary_again bits few =
+bits_binary_again : (bits : List Bool) → length bits ≤ 2147483647 → bits_in_binary (be4 (length bits) ++ packed bits) ≡ Ok bits
+bits_binary_again bits few =
     let n = length bits in
     let all = bits_of (packed bits) in
     let room : length all ≡ 8 * byte_count n = length-bits_of (packed bits) ∙ ap (λ (m : ℕ). 8 * m) (length-bytes_of (byte_count n) bits) in
@@ -43,4 +43,4 @@ bits_back bits i t p os e whole small fit =
     let whole = image_of (bytes (be4 (length bits) ++ packed bits)) in
     let g = tested (nat_lt 2147483647 (length bits)) (ValueSize (length bits)) (allocates true >> done whole) i (answer_of (bits_image bits).answer i e) in
     ap (λ (part : Part). reading_of parse_bits t Binary part) (part_is (be4 (length bits) ++ packed bits) i p os (ap ok_of g.1))
-    ∙ ap (λ (p : Parsed (List Bool)). ok_of (copied p).answer) (binary_again bits (ltb-false 2147483647 (length bits) g.0))
+    ∙ ap (λ (p : Parsed (List Bool)). ok_of (copied p).answer) (bits_binary_again bits (ltb-false 2147483647 (length bits) g.0))

@@ -61,12 +61,12 @@ of_length n value = if length value == n then Ok value else Err (WrongLength (le
 abbrev pub sized_in_text : ℕ → List ℕ → Parsed (List ℕ)
 sized_in_text n text = ok_or (bytea_in_text text) Syntax >>= of_length n
 
-abbrev pub parse_sized : ℕ → Given → Parsed (List ℕ)
-parse_sized n v = bytea_part v.format v.bytes >>= of_length n
+abbrev pub parse_bytea_sized : ℕ → Given → Parsed (List ℕ)
+parse_bytea_sized n v = bytea_part v.format v.bytes >>= of_length n
 
 -- a list of another length is not one of their values
-abbrev pub sized_image : ℕ → List ℕ → Option Image
-sized_image n value = if length value == n then Some (image_of (bytes value)) else None
+abbrev pub bytea_sized_image : ℕ → List ℕ → Option Image
+bytea_sized_image n value = if length value == n then Some (image_of (bytes value)) else None
 
 -- each is a hex digit, of either case
 abbrev pub all_digits : List ℕ → Bool

@@ -22,7 +22,7 @@ use Rattle.pgv_value.specs.Formats.{in_binary_alone}
 use Rattle.pgv_value.specs.FrameBinary.{Part}
 use Rattle.pgv_value.specs.Fronts.{one_part, u32_at}
 use Rattle.pgv_value.specs.Parsed.{Parsed}
-use Rattle.pgv_value.specs.Outcome.{Outcome, done, fails, exactly, fails_if, allocates, ◌>>=◌, ◌>>◌}
+use Rattle.pgv_value.specs.Outcome.{Outcome, done, fails, in_place, fails_if, allocates, ◌>>=◌, ◌>>◌}
 use Rattle.pgv_value.specs.Utf8.{is_utf8}
 use Rattle.pgv_value.specs.ValueView.{Given}
 use Rattle.pgv_value.specs.declared.error.CodecError.TheVariants.{HstoreLength, HstoreNullKey, Utf8}
@@ -33,8 +33,8 @@ abbrev pub Pair : Type 0
 Pair = List ℕ × Part
 
 -- an entry of a map
-abbrev pub Entry : Type 0
-Entry = String Global × Option (String Global)
+abbrev pub MapEntry : Type 0
+MapEntry = String Global × Option (String Global)
 
 -- the bytes of an entry
 abbrev pub pair_of : {Z : Type 0} → String Z × Option (String Z) → Pair
@@ -80,7 +80,7 @@ number_form n = if nat_lt limit n then Err (HstoreLength (cast_signed w64 n)) el
 unfoldable pub part_written : Part → Outcome (List Token)
 part_written None = allocates true >> done (bytes (be4 4294967295))
 part_written (Some part) = do
-  number ← exactly (number_form (length part))
+  number ← in_place (number_form (length part))
   allocates true
   done (bytes (number ++ part))
 
@@ -104,7 +104,7 @@ in_order ps = record { answer = if is_sorted order ps then Ok tt else Err None; 
 -- the number of pairs, and the pairs in the order of their keys
 unfoldable pub hstore_image : List Pair → Outcome Image
 hstore_image ps = do
-  number ← exactly (number_form (length ps))
+  number ← in_place (number_form (length ps))
   allocates true
   all ← pairs_written ps
   in_order ps
@@ -115,7 +115,7 @@ hstore_image ps = do
 -- a text is UTF-8 (C14), and is copied
 abbrev pub text_at : List ℕ → Outcome (List ℕ)
 text_at form = do
-  text ← exactly (if is_utf8 form then Ok form else Err Utf8)
+  text ← in_place (if is_utf8 form then Ok form else Err Utf8)
   allocates true
   done text
 
@@ -137,8 +137,8 @@ key_at form = do
   done (key, part.1)
 
 -- the value in front, and the rest
-abbrev pub value_at : List ℕ → Outcome (Part × List ℕ)
-value_at form = do
+abbrev pub map_value : List ℕ → Outcome (Part × List ℕ)
+map_value form = do
   part ← one_part form
   value ← as_value part.0
   done (value, part.1)
@@ -148,7 +148,7 @@ unfoldable pub pairs : ℕ → List ℕ → Outcome (List Pair)
 pairs zero form = done []
 pairs (suc n) form = do
   key ← key_at form
-  value ← value_at key.1
+  value ← map_value key.1
   ps ← pairs n value.1
   done ((key.0, value.0) ∷ ps)
 

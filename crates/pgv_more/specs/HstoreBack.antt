@@ -28,7 +28,7 @@ use Rattle.pgv_codec.specs.Back.{ReadsBack, always}
 use Rattle.pgv_codec.specs.BackScalars.{part_is}
 use Rattle.pgv_codec.specs.Encoding.{Image, image_of, limit, plainly}
 use Rattle.pgv_codec.specs.PlainBytes.{bytes-append}
-use Rattle.pgv_more.specs.Hstore.{Pair, pair_of, pairs_of, order, part_form, pair_form, hstore_form, part_fits, pair_fits, number_form, part_written, pair_written, pairs_written, in_order, hstore_image, key_at, value_at, pairs, put_all, hstore_in_binary, parse_hstore}
+use Rattle.pgv_more.specs.Hstore.{Pair, pair_of, pairs_of, order, part_form, pair_form, hstore_form, part_fits, pair_fits, number_form, part_written, pair_written, pairs_written, in_order, hstore_image, key_at, map_value, pairs, put_all, hstore_in_binary, parse_hstore}
 use Rattle.pgv_more.specs.declared.hstore.PgHstore.{PgHstore}
 
 -- ---- a pair is read from its form, whatever comes after it
@@ -38,28 +38,28 @@ pub record IsText (part : List ℕ) : Type 0 where
   pub utf8 : is_utf8 part ≡ true
   pub room : length part < 2 ^ 31
 
-abbrev pub IsValue : Part → Type 0
-IsValue None = Unit {0}
-IsValue (Some part) = IsText part
+abbrev pub IsMapValue : Part → Type 0
+IsMapValue None = Unit {0}
+IsMapValue (Some part) = IsText part
 
 abbrev pub IsPair : Pair → Type 0
-IsPair p = IsText p.0 × IsValue p.1
+IsPair p = IsText p.0 × IsMapValue p.1
 
 abbrev pub ArePairs : List Pair → Type 0
 ArePairs [] = Unit {0}
 ArePairs (p ∷ ps) = IsPair p × ArePairs ps
 
-framed : (part : List ℕ) (rest : List ℕ) → IsText part → front (part_form (Some part) ++ rest) ≡ Some (Some part, rest)
-framed part rest is = frame_in_front (part_form (Some part) ++ rest) (Some part) rest (is.room, append_assoc (be4 (length part)) part rest)
+part_framed : (part : List ℕ) (rest : List ℕ) → IsText part → front (part_form (Some part) ++ rest) ≡ Some (Some part, rest)
+part_framed part rest is = frame_in_front (part_form (Some part) ++ rest) (Some part) rest (is.room, append_assoc (be4 (length part)) part rest)
 
 pub key_there : (key rest : List ℕ) → IsText key → (key_at (part_form (Some key) ++ rest)).answer ≡ Ok (key, rest)
-key_there key rest is = rw (framed key rest is, is.utf8) refl
+key_there key rest is = rw (part_framed key rest is, is.utf8) refl
 
-pub value_there : (value : Part) (rest : List ℕ) → IsValue value → (value_at (part_form value ++ rest)).answer ≡ Ok (value, rest)
+pub value_there : (value : Part) (rest : List ℕ) → IsMapValue value → (map_value (part_form value ++ rest)).answer ≡ Ok (value, rest)
 value_there None rest is = rw (frame_in_front (part_form None ++ rest) None rest refl) refl
-value_there (Some value) rest is = rw (framed value rest is, is.utf8) refl
+value_there (Some value) rest is = rw (part_framed value rest is, is.utf8) refl
 
-pair_then : (n : ℕ) (form between later : List ℕ) (key : List ℕ) (value : Part) (ps : List Pair) → (key_at form).answer ≡ Ok (key, between) → (value_at between).answer ≡ Ok (value, later) →
+pair_then : (n : ℕ) (form between later : List ℕ) (key : List ℕ) (value : Part) (ps : List Pair) → (key_at form).answer ≡ Ok (key, between) → (map_value between).answer ≡ Ok (value, later) →
     (pairs n later).answer ≡ Ok ps → (pairs (suc n) form).answer ≡ Ok ((key, value) ∷ ps)
 unfolding pairs
 pair_then n form between later key value ps f g h = rw (f, g, h) refl
@@ -108,22 +108,22 @@ put_after qs (p ∷ ps) e =
 
 -- ---- what was written
 
-is_text : {Z : Type 0} (s : String Z) → part_fits (Some (string_bytes s)) ≡ true → IsText (string_bytes s)
-is_text s fits = record {
+string_is_text : {Z : Type 0} (s : String Z) → part_fits (Some (string_bytes s)) ≡ true → IsText (string_bytes s)
+string_is_text s fits = record {
   utf8 = eq-eqb _ _ (utf8_valid_len-IsUtf8 (string_bytes s) (IsUtf8-had (string_bytes s) s.ok));
   room = grind (arith, nat_tests);
 }
 
-is_value : {Z : Type 0} (o : Option (String Z)) → part_fits (option_map string_bytes o) ≡ true → IsValue (option_map string_bytes o)
+is_value : {Z : Type 0} (o : Option (String Z)) → part_fits (option_map string_bytes o) ≡ true → IsMapValue (option_map string_bytes o)
 is_value None fits = tt
-is_value (Some s) fits = is_text s fits
+is_value (Some s) fits = string_is_text s fits
 
 are_pairs : {Z : Type 0} (es : List (String Z × Option (String Z))) → list_all pair_fits (map pair_of es) ≡ true → ArePairs (map pair_of es)
 are_pairs [] fits = tt
 are_pairs (e ∷ es) fits =
     let b = and_parts (pair_fits (pair_of e)) (list_all pair_fits (map pair_of es)) fits in
     let k = and_parts (part_fits (Some (string_bytes e.0))) (part_fits (option_map string_bytes e.1)) b.0 in
-    ((is_text e.0 k.0, is_value e.1 k.1), are_pairs es b.1)
+    ((string_is_text e.0 k.0, is_value e.1 k.1), are_pairs es b.1)
 
 few_pairs : (n : ℕ) → nat_le n limit ≡ true → n < 2 ^ 31
 few_pairs n e = grind (arith, nat_tests)

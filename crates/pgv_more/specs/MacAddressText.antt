@@ -54,19 +54,19 @@ next_pair separator (c ∷ high ∷ []) = None
 next_pair separator (c ∷ high ∷ low ∷ rest) = if c == separator then with_rest (pair_value high low) rest else None
 
 -- a pair's byte before those of the rest
-abbrev pub before : Option (ℕ × List ℕ) → (List ℕ → Option (List ℕ)) → Option (List ℕ)
-before None more = None
-before (Some p) more = option_map (λ bytes. p.0 ∷ bytes) (more p.1)
+abbrev pub pair_before : Option (ℕ × List ℕ) → (List ℕ → Option (List ℕ)) → Option (List ℕ)
+pair_before None more = None
+pair_before (Some p) more = option_map (λ bytes. p.0 ∷ bytes) (more p.1)
 
 -- nothing more
-abbrev pub at_end : List ℕ → Option (List ℕ)
-at_end [] = Some []
-at_end (c ∷ text) = None
+abbrev pub no_text_left : List ℕ → Option (List ℕ)
+no_text_left [] = Some []
+no_text_left (c ∷ text) = None
 
 -- the bytes of n pairs, each after the separator, and nothing after them
 abbrev pub pairs_after : ℕ → ℕ → List ℕ → Option (List ℕ)
-pairs_after separator zero text = at_end text
-pairs_after separator (suc n) text = before (next_pair separator text) (pairs_after separator n)
+pairs_after separator zero text = no_text_left text
+pairs_after separator (suc n) text = pair_before (next_pair separator text) (pairs_after separator n)
 
 abbrev pub is_separator : ℕ → Bool
 is_separator c = c == 58 || c == 45
@@ -77,7 +77,7 @@ mac_value [] = None
 mac_value (high ∷ []) = None
 mac_value (high ∷ low ∷ []) = None
 mac_value (high ∷ low ∷ separator ∷ rest) =
-    if is_separator separator then before (with_rest (pair_value high low) (separator ∷ rest)) (pairs_after separator 5) else None
+    if is_separator separator then pair_before (with_rest (pair_value high low) (separator ∷ rest)) (pairs_after separator 5) else None
 
 -- the bytes of an address are read from a text iff the text is this address
 unfoldable pub MacAddressIsRead : Type 0

@@ -4,7 +4,7 @@ use Rattle.std.specs.Int.{w64, cast_unsigned, to_be_bytes}
 use Rattle.std.proofs.Common.{ap, ◌∙◌}
 use Rattle.pgv_buf.specs.Tokens.{bytes}
 use Rattle.pgv_value.specs.FrameBinary.{Part}
-use Rattle.pgv_value.specs.NumberBinary.{fits_signed}
+use Rattle.pgv_value.specs.IntBinary.{fits_signed}
 use Rattle.pgv_value.specs.Outcome.{ok_of, reading_of, stated, without_memory}
 use Rattle.pgv_value.specs.Parsed.{Parsed}
 use Rattle.pgv_value.specs.declared.error.CodecError.TheVariants.{Short}

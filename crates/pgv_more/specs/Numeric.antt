@@ -8,9 +8,9 @@ use Rattle.std.specs.Int.{w16, cast_signed, cast_unsigned, from_be_bytes, to_be_
 use Rattle.std.specs.List.{flat_map}
 use Rattle.pgv_buf.specs.Tokens.{Token, bytes}
 use Rattle.pgv_codec.specs.Encoding.{Image, image_of, writes}
-use Rattle.pgv_value.specs.NumberBinary.{fits_signed}
+use Rattle.pgv_value.specs.IntBinary.{fits_signed}
 use Rattle.pgv_value.specs.Formats.{in_binary_alone}
-use Rattle.pgv_value.specs.Outcome.{Outcome, done, exactly, fails_if, or_fail, allocates, ◌>>=◌, ◌>>◌}
+use Rattle.pgv_value.specs.Outcome.{Outcome, done, in_place, fails_if, or_fail, allocates, ◌>>=◌, ◌>>◌}
 use Rattle.pgv_value.specs.Parsed.{Parsed}
 use Rattle.pgv_value.specs.ValueView.{Given}
 use Rattle.pgv_value.specs.declared.error.CodecError.TheVariants.{NumericDigits, NumericDigit, Short, NumericSign}
@@ -78,7 +78,7 @@ digits_tested (d ∷ ds) = if is_digit d then digits_tested ds else Err (Numeric
 abbrev pub digits_written : List ℤ → Outcome (List Token)
 digits_written ds = do
   allocates true
-  exactly (digits_tested ds)
+  in_place (digits_tested ds)
   done (bytes (flat_map word ds))
 
 -- where the weight and the scale have room
@@ -91,7 +91,7 @@ numeric_image not_a_number = writes (Some (image_of (bytes (0 ∷ 0 ∷ 0 ∷ 0 
 numeric_image (number sign digits weight scale) = do
   fails_if (nat_lt 32767 (length digits)) (NumericDigits (length digits))
   allocates true
-  exactly (digits_tested digits)
+  in_place (digits_tested digits)
   writes (number_image sign digits weight scale)
 
 -- ---- read

@@ -9,9 +9,9 @@ use Rattle.std.proofs.lemmas.List.{length-append}
 use Rattle.std.proofs.lemmas.Nat.{from_be_bytes-to_be_bytes_2}
 use Rattle.pgv_buf.specs.Tokens.{bytes}
 use Rattle.pgv_value.specs.FrameBinary.{Part}
-use Rattle.pgv_value.specs.Outcome.{ok_of, reading_of, allocates, exactly, ◌>>◌}
+use Rattle.pgv_value.specs.Outcome.{ok_of, reading_of, allocates, in_place, ◌>>◌}
 use Rattle.pgv_value.proofs.Outcomes.{answer_of, held, taken_exactly, tested}
-use Rattle.pgv_value.specs.NumberBinary.{fits_signed}
+use Rattle.pgv_value.specs.IntBinary.{fits_signed}
 use Rattle.pgv_value.specs.OwnBytes.{two_again}
 use Rattle.pgv_value.specs.declared.error.CodecError.TheVariants.{NumericDigits, NumericDigit}
 use Rattle.pgv_value.specs.declared.value.PgValueFormat.TheVariants.{Binary}
@@ -44,13 +44,13 @@ digits_there ds rest e =
 
 -- ---- a number is read from its form, whatever comes after it
 
-opened : (form : List ℕ) (sign : PgNumericSign) → nat_lt (length form) 8 ≡ false → said_sign form ≡ sign_word sign → (numeric_in_binary form).answer ≡ (signed_number form sign).answer
-opened form Positive long said = rw (long, said) refl
-opened form Negative long said = rw (long, said) refl
+sign_read : (form : List ℕ) (sign : PgNumericSign) → nat_lt (length form) 8 ≡ false → said_sign form ≡ sign_word sign → (numeric_in_binary form).answer ≡ (signed_number form sign).answer
+sign_read form Positive long said = rw (long, said) refl
+sign_read form Negative long said = rw (long, said) refl
 
-numbered : (form : List ℕ) (sign : PgNumericSign) (n : ℕ) (ds : List ℤ) (weight scale : ℤ) → unsigned_word form ≡ n → (digits_after n (drop 8 form)).answer ≡ Ok ds →
+number_back : (form : List ℕ) (sign : PgNumericSign) (n : ℕ) (ds : List ℤ) (weight scale : ℤ) → unsigned_word form ≡ n → (digits_after n (drop 8 form)).answer ≡ Ok ds →
     signed_word (drop 2 form) ≡ weight → signed_word (drop 6 form) ≡ scale → (signed_number form sign).answer ≡ Ok (number sign ds weight scale)
-numbered form sign n ds weight scale count after first second = rw (count, after, first, second) refl
+number_back form sign n ds weight scale count after first second = rw (count, after, first, second) refl
 
 said_again : (sign : PgNumericSign) → from_be_bytes w16 (to_be_bytes w16 (sign_word sign)) ≡ sign_word sign
 said_again Positive = refl
@@ -61,8 +61,8 @@ pub number_there : (rest : List ℕ) (sign : PgNumericSign) (ds : List ℤ) (wei
 number_there rest sign ds weight scale few fit weight_fits scale_fits =
     let form = number_form sign ds weight scale ++ rest in
     let long : nat_lt (length form) 8 ≡ false = le-ltb _ 8 (omega arith) in
-    opened form sign long (said_again sign)
-    ∙ numbered form sign (length ds) ds weight scale (from_be_bytes-to_be_bytes_2 (length ds) few) (digits_there ds rest fit) (two_again weight weight_fits) (two_again scale scale_fits)
+    sign_read form sign long (said_again sign)
+    ∙ number_back form sign (length ds) ds weight scale (from_be_bytes-to_be_bytes_2 (length ds) few) (digits_there ds rest fit) (two_again weight weight_fits) (two_again scale scale_fits)
 
 -- ---- what was written
 
@@ -90,7 +90,7 @@ numeric_back (Number sign v weight scale) i t p os e whole small fit =
     let ds = v.items in
     let form = number_form sign ds weight scale in
     let image = number_image sign ds weight scale in
-    let few = tested (nat_lt 32767 (length ds)) (NumericDigits (length ds)) (allocates true >> (exactly (digits_tested ds) >> writes image)) i (answer_of (numeric_image (number sign ds weight scale)).answer i e) in
+    let few = tested (nat_lt 32767 (length ds)) (NumericDigits (length ds)) (allocates true >> (in_place (digits_tested ds) >> writes image)) i (answer_of (numeric_image (number sign ds weight scale)).answer i e) in
     let fit = taken_exactly (digits_tested ds) (λ _. writes image) i few.1 in
     let g = guarded (fits_signed w16 weight && fits_signed w16 scale) (Some (image_of (bytes form))) i (image_is image i (ap ok_of fit.2)) in
     let words = and_parts (fits_signed w16 weight) (fits_signed w16 scale) g.0 in

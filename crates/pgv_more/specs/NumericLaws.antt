@@ -1,12 +1,12 @@
 -- What bytes are amounts and numbers, as what the bytes are and not as how they are read (PostgreSQL: "Monetary Types",
--- 8.2; "Numeric Types", 8.1.2). They are read in binary alone. A number (`IsNumber`) is the words of its form, digits
+-- 8.2; "Numeric Types", 8.1.2). They are read in binary alone. A number (`IsNumericImage`) is the words of its form, digits
 -- of any value, and anything after them. No number (`IsNoNumber`) is any two words, the sign c000 and one word more.
 -- Laws: what is computed is exactly this (`money_is_read`, `numeric_is_read` and their like).
 use Rattle.std.specs.Prelude.{◌≡◌, ◌↔◌, ℕ, ◌<◌, ◌≤◌, ◌^◌, Bool, true, ℤ, List, ◌++◌, length, Ok}
 use Rattle.std.specs.Int.{w16, to_be_bytes}
 use Rattle.std.specs.List.{list_all}
 use Rattle.pgv_value.specs.FrameLaws.{AreBytes}
-use Rattle.pgv_value.specs.NumberBinary.{fits_signed}
+use Rattle.pgv_value.specs.IntBinary.{fits_signed}
 use Rattle.pgv_more.specs.MoneyCodec.{IsMoney}
 use Rattle.pgv_more.specs.Numeric.{Numeric, not_a_number, number, number_form, no_number, numeric_in_binary, numeric_of}
 use Rattle.pgv_more.specs.declared.numeric.PgNumeric.{PgNumeric}
@@ -21,7 +21,7 @@ pub record IsNoNumber (form : List ℕ) : Type 0 where
   pub one_more : 2 ≤ length rest
 
 -- A number: the words of its form, each of which has room in two bytes, and anything after them.
-pub record IsNumber (form : List ℕ) (sign : PgNumericSign) (digits : List ℤ) (weight scale : ℤ) : Type 0 where
+pub record IsNumericImage (form : List ℕ) (sign : PgNumericSign) (digits : List ℤ) (weight scale : ℤ) : Type 0 where
   pub rest : List ℕ
   pub whole : form ≡ number_form sign digits weight scale ++ rest
   pub few : length digits < 2 ^ 16
@@ -31,7 +31,7 @@ pub record IsNumber (form : List ℕ) (sign : PgNumericSign) (digits : List ℤ)
 
 abbrev pub IsNumeric : List ℕ → Numeric → Type 0
 IsNumeric form not_a_number = IsNoNumber form
-IsNumeric form (number sign digits weight scale) = IsNumber form sign digits weight scale
+IsNumeric form (number sign digits weight scale) = IsNumericImage form sign digits weight scale
 
 unfoldable pub NumericIsRead : Type 0
 NumericIsRead = (form : List ℕ) (n : Numeric) → AreBytes form → ((numeric_in_binary form).answer ≡ Ok n) ↔ IsNumeric form n

@@ -117,8 +117,8 @@ first_bits (suc c) j x =
     let e : c + j ≡ j + c = omega arith in
     rw (k, first_bits c j x, shr-shr x j c, e) refl
 
-pub first_number : (c j x : ℕ) → number_of (c + j) (take c (low_bits (c + j) x)) ≡ x / 2 ^ j % 2 ^ c * 2 ^ j
-first_number c j x =
+pub front_number : (c j x : ℕ) → number_of (c + j) (take c (low_bits (c + j) x)) ≡ x / 2 ^ j % 2 ^ c * 2 ^ j
+front_number c j x =
     rw (first_bits c j x, number_of-short c j (low_bits c (x / 2 ^ j)) (omega (arith, length-low_bits c (x / 2 ^ j))), ← append-nil (low_bits c (x / 2 ^ j)), number_of-low_bits c (x / 2 ^ j) []) refl
 
 -- ---- the bytes of bits, and the bits of bytes

@@ -9,7 +9,7 @@ use Rattle.pgv_types.specs.Ty.{Ty}
 use Rattle.pgv_types.specs.declared.oid.Oid.{Oid}
 use Rattle.pgv_buf.specs.Tokens.{bytes}
 use Rattle.pgv_value.specs.FrameBinary.{Part}
-use Rattle.pgv_value.specs.NumberBinary.{fits_signed}
+use Rattle.pgv_value.specs.IntBinary.{fits_signed}
 use Rattle.pgv_value.specs.Outcome.{ok_of, or_fail, reading_of, stated, without_memory, ◌>>=◌}
 use Rattle.pgv_value.specs.Parsed.{Parsed, ◌>>=◌ as ◌and_then◌}
 use Rattle.pgv_value.specs.OwnBytes.{eight_again, four_again}
@@ -64,8 +64,8 @@ turned : (micros west : ℤ) (why : CodecError) (b : Bool) (i : Image) → ok_of
 turned micros west why true i e = (refl, image_is (image_of_numbers micros west) i e)
 turned micros west why false i e = absurd cc
 
-written : (micros seconds : ℤ) (i : Image) (p : Option Ty) (os : List Oid) → ok_of (or_fail (other_way seconds) (OffsetRange seconds) >>= λ west. writes (image_of_numbers micros west)).answer ≡ Some i → IsWritten micros seconds i p os
-written micros seconds i p os e =
+timetz_written : (micros seconds : ℤ) (i : Image) (p : Option Ty) (os : List Oid) → ok_of (or_fail (other_way seconds) (OffsetRange seconds) >>= λ west. writes (image_of_numbers micros west)).answer ≡ Some i → IsWritten micros seconds i p os
+timetz_written micros seconds i p os e =
     let t = turned micros (neg_ℤ seconds) (OffsetRange seconds) (nat_lt (unsigned_abs seconds) 86_400) i e in
     let g = guarded (fits_signed w64 micros) (Some (image_of (bytes (bytes_of_numbers micros (neg_ℤ seconds))))) i t.1 in
     record { part = part_is (bytes_of_numbers micros (neg_ℤ seconds)) i p os g.1; room = g.0; small = t.0 }
@@ -82,5 +82,5 @@ again v room small =
 
 pub time_tz_back : ReadsBack {A = PgTimeTz} (λ v. with_hint 12 (time_tz_image (time_tz_numbers v))) (reading_of (without_memory parse_time_tz)) (λ v. time_tz_numbers (time_tz_kept v)) always
 time_tz_back v i t p os e whole small fit =
-    let w = written (pos (time_nanos v.time / 1000)) v.offset.seconds i p os e in
+    let w = timetz_written (pos (time_nanos v.time / 1000)) v.offset.seconds i p os e in
     ap (λ (part : Part). reading_of (without_memory parse_time_tz) t Binary part) w.part ∙ ap (λ (p : Parsed (ℕ × ℤ)). ok_of (stated p)) (again v w.room w.small)

@@ -12,7 +12,7 @@ use Rattle.pgv_buf.specs.Tokens.{bytes}
 use Rattle.pgv_codec.specs.Encoding.{Image, image_of, writes}
 use Rattle.pgv_value.specs.DateTimeBinary.{time_after}
 use Rattle.pgv_value.specs.Interval.{eight_bytes, signed_four_bytes}
-use Rattle.pgv_value.specs.NumberBinary.{fits_signed}
+use Rattle.pgv_value.specs.IntBinary.{fits_signed}
 use Rattle.pgv_value.specs.Outcome.{Outcome, or_fail, ◌>>=◌}
 use Rattle.pgv_value.specs.Parsed.{Parsed, ◌>>=◌ as ◌and_then◌}
 use Rattle.pgv_value.specs.ScalarGrammar.{scalar}

@@ -98,13 +98,13 @@ impl Clone for PgHstore {
 impl IntoIterator for PgHstore {
     ghost use Rattle.std.specs.BTreeMap.{IsOrdered};
     ghost use Rattle.std.specs.Map.Iter.{GivesInOrder, GivesInReverse};
-    ghost use Rattle.pgv_more.specs.Hstore.{Entry};
+    ghost use Rattle.pgv_more.specs.Hstore.{MapEntry};
 
     type Item = (String, Option<String>);
 
     type IntoIter = btree_map::IntoIter<String, Option<String>>;
 
-    ghost into_iter_gives = { λ h it. (it ≡ h.0.entries) × GivesInOrder Entry × GivesInReverse Entry × IsOrdered string_cmp h.0 };
+    ghost into_iter_gives = { λ h it. (it ≡ h.0.entries) × GivesInOrder MapEntry × GivesInReverse MapEntry × IsOrdered string_cmp h.0 };
 
     fn into_iter(self) -> btree_map::IntoIter<String, Option<String>> {
         self.0.into_iter()

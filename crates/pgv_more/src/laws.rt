@@ -8,7 +8,7 @@ ghost use Rattle.pgv_codec.specs.Encoding.{plainly, with_hint, writes};
 ghost use Rattle.pgv_codec.specs.ScalarImage.{text_image};
 ghost use Rattle.pgv_codec.specs.TypeRow.{FitsAlways, HasArrayType, HasType, IsCodecRow, IsReadAs, IsWrittenAs};
 ghost use Rattle.pgv_value.specs.Outcome.{without_memory};
-ghost use Rattle.pgv_more.specs.ByteaText.{parse_bytea, parse_sized, sized_image, ByteaTextIsRead, OneByteaText};
+ghost use Rattle.pgv_more.specs.ByteaText.{parse_bytea, parse_bytea_sized, bytea_sized_image, ByteaTextIsRead, OneByteaText};
 ghost use Rattle.pgv_more.specs.BitsBinary.{bits_image, bits_hint, BitsAreRead, OneListOfBits};
 ghost use Rattle.pgv_more.specs.BitsText.{BitsAreReadOfText};
 ghost use Rattle.pgv_more.specs.BitsCodec.{is_bits, is_bits_array, parse_bits};
@@ -115,9 +115,9 @@ pub fn bytea_array_is_a_bytea<const N: usize>()
         ⟦<PgByteaArray<N> as ReadBack>⟧.kept (record {
           info = builtin 17;
           array = builtin 1001;
-          encoding = λ b. plainly (writes (sized_image N b.0));
+          encoding = λ b. plainly (writes (bytea_sized_image N b.0));
           view = λ b. b.0;
-          parse = without_memory (parse_sized N);
+          parse = without_memory (parse_bytea_sized N);
           kept = λ b. b.0;
         }) }
 {}

@@ -20,7 +20,7 @@ use Rattle.pgv_value.proofs.Outcomes.{answer_is, answers_are, taken, taken_exact
 use Rattle.pgv_range.specs.RangeOf.{RangeOf, empty, bounds}
 use Rattle.pgv_range.specs.FlagByte.{has, side_by, side_of}
 use Rattle.pgv_range.specs.RangeBinary.{IsClear, BeginsWith, IsBound, IsRangeBytes, IsRange, RangeIsItsBounds, OneRange}
-use Rattle.pgv_range.specs.RangeGrammar.{element_in_kind, value_in_front, bound_in, bounds_in, range_by, range_bytes, range_in_binary}
+use Rattle.pgv_range.specs.RangeGrammar.{element_in_kind, bound_in_front, bound_in, bounds_in, range_by, range_bytes, range_in_binary}
 use Rattle.pgv_range.specs.declared.flags.RangeForm.TheVariants.{Empty, Sides}
 
 over : (k : Option Kind) (u : Ty) → element_in_kind k ≡ Some u → k ≡ Some (range_over u)
@@ -36,7 +36,7 @@ over (Some (range_over t)) u e = ap (λ (x : Ty). let k : Option Kind = Some (ra
 module _ {M : Type 0} (parse : Given → Outcome M) (u : Ty) where
   -- ---- a value
 
-  value_is : (bytes : List ℕ) (m : M) (rest : List ℕ) → AreBytes bytes → (value_in_front parse u bytes).answer ≡ Ok (m, rest) → BeginsWith parse u m bytes rest × AreBytes rest
+  value_is : (bytes : List ℕ) (m : M) (rest : List ℕ) → AreBytes bytes → (bound_in_front parse u bytes).answer ≡ Ok (m, rest) → BeginsWith parse u m bytes rest × AreBytes rest
   value_is bytes m rest b e =
       let f = taken_exactly (part_front bytes) _ (m, rest) e in
       let v = taken (parse (given u Binary f.0.0)) (λ (x : M). done (x, f.0.1)) (m, rest) f.2 in
@@ -45,7 +45,7 @@ module _ {M : Type 0} (parse : Given → Outcome M) (u : Ty) where
       let same : IsFrame bytes f.0.0 rest = subst (λ (r : List ℕ). IsFrame bytes f.0.0 r) k.1 frame in
       ((f.0.0, same, v.1 ∙ ap (λ (x : M). let r : Result M (Option CodecError) = Ok x in r) k.0), subst AreBytes k.1 (after_frame bytes f.0.0 f.0.1 frame b))
 
-  value_there : (bytes : List ℕ) (m : M) (rest : List ℕ) → BeginsWith parse u m bytes rest → (value_in_front parse u bytes).answer ≡ Ok (m, rest)
+  value_there : (bytes : List ℕ) (m : M) (rest : List ℕ) → BeginsWith parse u m bytes rest → (bound_in_front parse u bytes).answer ≡ Ok (m, rest)
   value_there bytes m rest h = rw (frame_in_front bytes h.0 rest h.1, h.2) refl
 
   -- ---- a bound
@@ -56,12 +56,12 @@ module _ {M : Type 0} (parse : Given → Outcome M) (u : Ty) where
       let k = answers_are {A = Bound M} {B = List ℕ} Unbounded b bytes rest e in
       (subst (λ (w : Bound M). IsBound parse u flags infinite included w bytes rest) k.0 (i, k.1), subst AreBytes k.1 a)
   bound_is flags infinite included false true bytes b rest i c a e =
-      let v = taken (value_in_front parse u bytes) (λ (w : M × List ℕ). done (Included w.0, w.1)) (b, rest) e in
+      let v = taken (bound_in_front parse u bytes) (λ (w : M × List ℕ). done (Included w.0, w.1)) (b, rest) e in
       let k = answers_are {A = Bound M} {B = List ℕ} (Included v.0.0) b v.0.1 rest v.2 in
       let w = value_is bytes v.0.0 v.0.1 a v.1 in
       (subst (λ (w : Bound M). IsBound parse u flags infinite included w bytes rest) k.0 (i, c, subst (λ (r : List ℕ). BeginsWith parse u v.0.0 bytes r) k.1 w.0), subst AreBytes k.1 w.1)
   bound_is flags infinite included false false bytes b rest i c a e =
-      let v = taken (value_in_front parse u bytes) (λ (w : M × List ℕ). done (Excluded w.0, w.1)) (b, rest) e in
+      let v = taken (bound_in_front parse u bytes) (λ (w : M × List ℕ). done (Excluded w.0, w.1)) (b, rest) e in
       let k = answers_are {A = Bound M} {B = List ℕ} (Excluded v.0.0) b v.0.1 rest v.2 in
       let w = value_is bytes v.0.0 v.0.1 a v.1 in
       (subst (λ (w : Bound M). IsBound parse u flags infinite included w bytes rest) k.0 (i, c, subst (λ (r : List ℕ). BeginsWith parse u v.0.0 bytes r) k.1 w.0), subst AreBytes k.1 w.1)

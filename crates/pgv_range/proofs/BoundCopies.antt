@@ -16,9 +16,9 @@ use Rattle.pgv_value.specs.ValueView.{Given, given}
 use Rattle.pgv_value.specs.declared.error.CodecError.TheVariants.{Syntax, Utf8}
 use Rattle.pgv_value.specs.declared.value.PgValueFormat.TheVariants.{Text, Binary}
 use Rattle.pgv_value.proofs.Outcomes.{free_then}
-use Rattle.pgv_range.specs.FlagByte.{form_of}
+use Rattle.pgv_range.specs.FlagByte.{form_of_flags}
 use Rattle.pgv_range.specs.RangeBinary.{IsRangeOver}
-use Rattle.pgv_range.specs.RangeGrammar.{bound_in, bounds_in, bound_in_text, bounds_in_text, content_in_text, next_bound, range_by, range_bytes, range_in_text, parse_range, side_in_text, value_in_front}
+use Rattle.pgv_range.specs.RangeGrammar.{bound_in, bounds_in, bound_in_text, bounds_in_text, content_in_text, next_bound, range_by, range_bytes, range_in_text, parse_range, side_in_text, bound_in_front}
 use Rattle.pgv_range.specs.RangeLaws.{TakesOnlyForCopies}
 use Rattle.pgv_range.specs.declared.flags.Side.{Side}
 use Rattle.pgv_range.specs.declared.flags.Side.TheVariants.{Infinite, Inclusive, Exclusive}
@@ -42,15 +42,15 @@ whole_free false o free = refl
 
 module _ {M : Type 0} (parse : Given → Outcome M) (none : (v : Given) → (parse v).may_alloc ≡ false) where
   module _ (u : Ty) (own : is_custom u ≡ false) where
-    value_free : (bytes : List ℕ) → (value_in_front parse u bytes).may_alloc ≡ false
+    value_free : (bytes : List ℕ) → (bound_in_front parse u bytes).may_alloc ≡ false
     value_free bytes =
         free_then (one_part bytes) _ refl λ part.
         rw own (free_then (parse (given u Binary part.0)) (λ (m : M). done (m, part.1)) (none (given u Binary part.0)) (λ m. refl))
 
     bound_free : (side : Side) (bytes : List ℕ) → (bound_in parse u side bytes).may_alloc ≡ false
     bound_free Infinite bytes = refl
-    bound_free Inclusive bytes = free_then (value_in_front parse u bytes) _ (value_free bytes) (λ v. refl)
-    bound_free Exclusive bytes = free_then (value_in_front parse u bytes) _ (value_free bytes) (λ v. refl)
+    bound_free Inclusive bytes = free_then (bound_in_front parse u bytes) _ (value_free bytes) (λ v. refl)
+    bound_free Exclusive bytes = free_then (bound_in_front parse u bytes) _ (value_free bytes) (λ v. refl)
 
     form_free : (form : RangeForm) (bytes : List ℕ) → (range_by parse u form bytes).may_alloc ≡ false
     unfolding bounds_in
@@ -61,7 +61,7 @@ module _ {M : Type 0} (parse : Given → Outcome M) (none : (v : Given) → (par
 
     bytes_free : (bytes : List ℕ) → (range_bytes parse u bytes).may_alloc ≡ false
     bytes_free [] = refl
-    bytes_free (flags ∷ rest) = form_free (form_of flags) rest
+    bytes_free (flags ∷ rest) = form_free (form_of_flags flags) rest
 
   module _ (info : Ty) where
     text_bound_free : (included : Bool) (part : Part) → (bound_in_text parse info included part).may_alloc ≡ false

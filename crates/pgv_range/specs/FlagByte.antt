@@ -39,5 +39,5 @@ side_by false false = Exclusive
 abbrev pub side_of : ℕ → ℕ → ℕ → Side
 side_of flags infinite included = side_by (has flags infinite) (has flags included)
 
-abbrev pub form_of : ℕ → RangeForm
-form_of flags = if has flags 1 then Empty else Sides (side_of flags 8 2) (side_of flags 16 4)
+abbrev pub form_of_flags : ℕ → RangeForm
+form_of_flags flags = if has flags 1 then Empty else Sides (side_of flags 8 2) (side_of flags 16 4)

@@ -18,9 +18,9 @@ use Rattle.pgv_codec.specs.BackParts.{SlotsFit-front, SlotsFit-back, AreOids-dro
 use Rattle.pgv_codec.specs.Encoding.{Encoding, Image, image_of, frame, plainly}
 use Rattle.pgv_codec.specs.Writing.{write, written_part}
 use Rattle.pgv_range.specs.RangeOf.{empty, bounds, range_view}
-use Rattle.pgv_range.specs.FlagByte.{lower_flag, upper_flag, flags_of, form_of}
+use Rattle.pgv_range.specs.FlagByte.{lower_flag, upper_flag, flags_of, form_of_flags}
 use Rattle.pgv_range.specs.RangeImage.{bound_frame, bounds_image, range_image}
-use Rattle.pgv_range.specs.RangeGrammar.{value_in_front, bound_in, bounds_in, parse_range}
+use Rattle.pgv_range.specs.RangeGrammar.{bound_in_front, bound_in, bounds_in, parse_range}
 use Rattle.pgv_range.specs.RangeBinary.{IsRangeOver}
 use Rattle.pgv_range.specs.RangeFits.{bound_holes, BoundFits, RangeFits, range_kept}
 use Rattle.pgv_range.specs.declared.flags.Side.{Side}
@@ -36,7 +36,7 @@ side_of_bound (Included x) = Inclusive
 side_of_bound (Excluded x) = Exclusive
 side_of_bound Unbounded = Infinite
 
-flags_back : {X Y : Type 0} (view : X → Y) (lower upper : Bound X) → form_of (flags_of (bound_map view lower) (bound_map view upper)) ≡ Sides (side_of_bound lower) (side_of_bound upper)
+flags_back : {X Y : Type 0} (view : X → Y) (lower upper : Bound X) → form_of_flags (flags_of (bound_map view lower) (bound_map view upper)) ≡ Sides (side_of_bound lower) (side_of_bound upper)
 flags_back view (Included x) (Included y) = refl
 flags_back view (Included x) (Excluded y) = refl
 flags_back view (Included x) Unbounded = refl
@@ -76,7 +76,7 @@ range_parts lower upper i e =
 module _ {A M : Type 0} (encoding : A → Encoding) (parse : Given → Outcome M) (kept : A → M) (fits : A → Ty → List Oid → Type 0) (law : ReadsBack encoding (reading_of parse) kept fits) where
   -- the value of a bound, with anything after its frame
   value_back : (x : A) (f after : List Token) (u : Ty) (p : Option Ty) (os : List Oid) → (frame (encoding x)).answer ≡ Ok f → SlotsFit f → AreOids os → fits x u (take (holes_of (encoding x)) os) →
-      (value_in_front parse u (write p os (f ++ after))).answer ≡ Ok (kept x, write p (drop (holes_of (encoding x)) os) after)
+      (bound_in_front parse u (write p os (f ++ after))).answer ≡ Ok (kept x, write p (drop (holes_of (encoding x)) os) after)
   value_back x f after u p os e whole small fit =
       let b = frame_back encoding parse kept fits law x f after u p os e whole small fit in
       rw (frame_in_front (write p os (f ++ after)) b.0 (write p (drop (holes_of (encoding x)) os) after) b.1, b.2) refl

@@ -21,7 +21,7 @@ use Rattle.pgv_value.specs.declared.error.CodecError.TheVariants.{UnexpectedNull
 use Rattle.pgv_value.specs.declared.value.PgValueFormat.{PgValueFormat}
 use Rattle.pgv_value.specs.declared.value.PgValueFormat.TheVariants.{Text, Binary}
 use Rattle.pgv_range.specs.RangeOf.{RangeOf, empty, bounds}
-use Rattle.pgv_range.specs.FlagByte.{form_of}
+use Rattle.pgv_range.specs.FlagByte.{form_of_flags}
 use Rattle.pgv_range.specs.declared.flags.Side.{Side}
 use Rattle.pgv_range.specs.declared.flags.Side.TheVariants.{Infinite, Inclusive, Exclusive}
 use Rattle.pgv_range.specs.declared.flags.RangeForm.{RangeForm}
@@ -54,8 +54,8 @@ range_accepts accepts t = accepted_by accepts (range_element t)
 -- ---- in binary, of bounds of a type
 
 -- the value of the frame in front, and what comes after it
-abbrev pub value_in_front : {M : Type 0} → (Given → Outcome M) → Ty → List ℕ → Outcome (M × List ℕ)
-value_in_front parse u bytes = do
+abbrev pub bound_in_front : {M : Type 0} → (Given → Outcome M) → Ty → List ℕ → Outcome (M × List ℕ)
+bound_in_front parse u bytes = do
   part ← one_part bytes
   allocates (is_custom u)
   m ← parse (given u Binary part.0)
@@ -64,8 +64,8 @@ value_in_front parse u bytes = do
 -- the bound of which this is said, and what comes after it
 abbrev pub bound_in : {M : Type 0} → (Given → Outcome M) → Ty → Side → List ℕ → Outcome (Bound M × List ℕ)
 bound_in parse u Infinite bytes = done (Unbounded, bytes)
-bound_in parse u Inclusive bytes = value_in_front parse u bytes >>= λ v. done (Included v.0, v.1)
-bound_in parse u Exclusive bytes = value_in_front parse u bytes >>= λ v. done (Excluded v.0, v.1)
+bound_in parse u Inclusive bytes = bound_in_front parse u bytes >>= λ v. done (Included v.0, v.1)
+bound_in parse u Exclusive bytes = bound_in_front parse u bytes >>= λ v. done (Excluded v.0, v.1)
 
 -- the lower bound and the upper one; anything may come after them
 unfoldable pub bounds_in : {M : Type 0} → (Given → Outcome M) → Ty → Side → Side → List ℕ → Outcome (RangeOf M)
@@ -81,7 +81,7 @@ range_by parse u (Sides below above) bytes = bounds_in parse u below above bytes
 
 abbrev pub range_bytes : {M : Type 0} → (Given → Outcome M) → Ty → List ℕ → Outcome (RangeOf M)
 range_bytes parse u [] = fails Short
-range_bytes parse u (flags ∷ rest) = range_by parse u (form_of flags) rest
+range_bytes parse u (flags ∷ rest) = range_by parse u (form_of_flags flags) rest
 
 -- the values of the bounds are read under the type that it is a range over
 abbrev pub range_in_binary : {M : Type 0} → (Given → Outcome M) → Ty → List ℕ → Outcome (RangeOf M)
@@ -126,10 +126,10 @@ range_in_text parse t text = do
 
 -- ---- a range of values that are read so; in text each is read under the values' own type, `info`
 
-abbrev pub range_of : {M : Type 0} → Ty → (Given → Outcome M) → Ty → PgValueFormat → Option (List ℕ) → Outcome (RangeOf M)
-range_of info parse t format None = fails UnexpectedNull
-range_of info parse t Text (Some bytes) = if is_utf8 bytes then range_in_text parse info bytes else fails Utf8
-range_of info parse t Binary (Some bytes) = range_in_binary parse t bytes
+abbrev pub range_or_null : {M : Type 0} → Ty → (Given → Outcome M) → Ty → PgValueFormat → Option (List ℕ) → Outcome (RangeOf M)
+range_or_null info parse t format None = fails UnexpectedNull
+range_or_null info parse t Text (Some bytes) = if is_utf8 bytes then range_in_text parse info bytes else fails Utf8
+range_or_null info parse t Binary (Some bytes) = range_in_binary parse t bytes
 
 abbrev pub parse_range : {M : Type 0} → Ty → (Given → Outcome M) → Given → Outcome (RangeOf M)
-parse_range info parse v = range_of info parse v.type_info v.format v.bytes
+parse_range info parse v = range_or_null info parse v.type_info v.format v.bytes

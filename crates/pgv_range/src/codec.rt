@@ -9,7 +9,7 @@ ghost use Rattle.pgv_value.specs.Outcome.{Gives};
 ghost use Rattle.pgv_value.specs.Parsed.{GivesOr};
 ghost use Rattle.pgv_value.specs.declared.error.CodecError.TheVariants.{NotARange};
 ghost use Rattle.pgv_codec.specs.Appending.{Appends, Encodes, Extends};
-ghost use Rattle.pgv_range.specs.RangeGrammar.{bound_in, bound_in_text, bounds_in, bounds_in_text, next_bound, range_element, range_in_binary, range_in_text, side_in_text, value_in_front};
+ghost use Rattle.pgv_range.specs.RangeGrammar.{bound_in, bound_in_text, bounds_in, bounds_in_text, next_bound, range_element, range_in_binary, range_in_text, side_in_text, bound_in_front};
 ghost use Rattle.pgv_range.specs.RangeImage.{bound_frame, bounds_image, empty_image};
 ghost use Rattle.pgv_range.specs.RangeOf.{range_view};
 
@@ -202,7 +202,7 @@ fn read_value<'a, T: Decode>(
     bytes: &mut &'a [u8],
 ) -> Result<T, CodecError>
     ensures { Gives (λ value. (T.view value, bytes.new.now))
-        (value_in_front T.parse element.now bytes.old.now) result }
+        (bound_in_front T.parse element.now bytes.old.now) result }
 {
     let all: &'a [u8] = *bytes;
     let (part, rest) = part_in_front(all)?;

@@ -1,7 +1,7 @@
 //! The flag byte of a range in binary (PostgreSQL's source, rangetypes.h).
 
 ghost use Rattle.std.specs.Prelude.{◌≡◌};
-ghost use Rattle.pgv_range.specs.FlagByte.{form_of, flags_of, lower_flag, side_of, upper_flag};
+ghost use Rattle.pgv_range.specs.FlagByte.{form_of_flags, flags_of, lower_flag, side_of, upper_flag};
 
 use bitflags::{Flag, Flags, bitflag_items};
 use std::ops::Bound;
@@ -101,7 +101,7 @@ impl RangeFlags {
 
     /// What the flags say of the range. The flag of the empty range comes before all others.
     pub(crate) fn form(self) -> RangeForm
-        ensures { result ≡ form_of self.0 }
+        ensures { result ≡ form_of_flags self.0 }
     {
         if self.contains(RangeFlags::EMPTY) {
             return RangeForm::Empty;

@@ -11,7 +11,7 @@ use Rattle.pgv_value.proofs.Numbers.{bytes_after}
 use Rattle.pgv_row.proofs.FrameCounts.{frames_read, frames_are}
 use Rattle.pgv_row.specs.DataRow.{IsDataRow, data_row, DataRowIsRead, frames_front}
 use Rattle.pgv_value.specs.Fronts.{one_part, part_front, u16_front}
-use Rattle.pgv_value.specs.Outcome.{Outcome, Gives, GivesWhole, stated, exactly, allocates, fails_if, done, ◌>>=◌, ◌>>◌}
+use Rattle.pgv_value.specs.Outcome.{Outcome, Gives, GivesWhole, stated, in_place, allocates, fails_if, done, ◌>>=◌, ◌>>◌}
 use Rattle.pgv_value.specs.Parsed.{Parsed, ◌>>=◌ as ◌and_then◌}
 use Rattle.pgv_value.specs.Several.{several}
 use Rattle.pgv_value.proofs.ReadFronts.{reads_part, nothing_is}
@@ -114,7 +114,7 @@ rest_is_other false n o other = other
 row_is_other : (room width : ℕ) (bytes : List ℕ) → IsOther (data_row room width bytes).answer
 unfolding data_row
 row_is_other room width bytes =
-    other_then (exactly (frames_front width bytes)) _ (stated_is_other (frames_front width bytes) (frames_are_other width bytes)) (λ frames.
+    other_then (in_place (frames_front width bytes)) _ (stated_is_other (frames_front width bytes) (frames_are_other width bytes)) (λ frames.
     other_then (several one_part width frames) _ (never_out_of_memory one_part part_is_other width frames) (λ row. rest_is_other (not (nat_eq (length row.1) 0)) (length bytes) (done row.0) tt))
 
 abbrev end_of : ℕ → List Part × List ℕ → Outcome (List Part)
@@ -131,7 +131,7 @@ parts_are_free room width n frames enough =
 row_is_free : (room width : ℕ) (bytes : List ℕ) → nat_lt room width ≡ false → (data_row room width bytes).may_alloc ≡ false
 unfolding data_row
 row_is_free room width bytes enough =
-    free_then (exactly (frames_front width bytes)) (λ frames. allocates (nat_lt room width) >> (several one_part width frames >>= end_of (length bytes))) refl (λ frames. parts_are_free room width (length bytes) frames enough)
+    free_then (in_place (frames_front width bytes)) (λ frames. allocates (nat_lt room width) >> (several one_part width frames >>= end_of (length bytes))) refl (λ frames. parts_are_free room width (length bytes) frames enough)
 
 -- ---- as a reader answers
 

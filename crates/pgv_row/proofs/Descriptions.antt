@@ -14,7 +14,7 @@ use Rattle.pgv_value.proofs.Numbers.{bytes_after}
 use Rattle.pgv_row.specs.ColumnView.{Column}
 use Rattle.pgv_row.specs.Description.{KnownTypes, type_by, column_front, description, column_bytes, IsColumn, IsDescription, DescriptionIsRead}
 use Rattle.pgv_value.specs.Fronts.{i16_front, u16_front, u32_front, name_front, format_of, format_number}
-use Rattle.pgv_value.specs.Outcome.{Outcome, Gives, GivesWhole, exactly, allocates, done, ◌>>=◌, ◌>>◌}
+use Rattle.pgv_value.specs.Outcome.{Outcome, Gives, GivesWhole, in_place, allocates, done, ◌>>=◌, ◌>>◌}
 use Rattle.pgv_value.specs.Several.{several, ReadsOne}
 use Rattle.pgv_value.proofs.ReadFronts.{u16_there, u16_is, i16_there, i16_is, u32_there, u32_is, IsName, name_there, name_is, format_there, format_is, nothing_is}
 use Rattle.pgv_value.proofs.Outcomes.{answer_is, taken, taken_exactly, tested, only_memory}
@@ -63,9 +63,9 @@ record IsTail (g : ℤ → PgValueFormat → Column) (bytes rest : List ℕ) (c 
 
 abbrev tail_front : (ℤ → PgValueFormat → Column) → Bool → List ℕ → Outcome (Column × List ℕ)
 tail_front g b bytes = do
-  modifier ← exactly (u32_front bytes)
-  code ← exactly (u16_front modifier.1)
-  format ← exactly (format_of code.0)
+  modifier ← in_place (u32_front bytes)
+  code ← in_place (u16_front modifier.1)
+  format ← in_place (format_of code.0)
   allocates b
   done (g (cast_signed w32 modifier.0) format, code.1)
 
@@ -102,8 +102,8 @@ record IsPair (g : ℕ → ℤ → List ℕ → Outcome (Column × List ℕ)) (b
 
 abbrev pair_front : (ℕ → ℤ → List ℕ → Outcome (Column × List ℕ)) → List ℕ → Outcome (Column × List ℕ)
 pair_front g bytes = do
-  first ← exactly (u32_front bytes)
-  second ← exactly (i16_front first.1)
+  first ← in_place (u32_front bytes)
+  second ← in_place (i16_front first.1)
   g first.0 second.0 second.1
 
 pair_is : (g : ℕ → ℤ → List ℕ → Outcome (Column × List ℕ)) (bytes : List ℕ) (y : Column × List ℕ) → AreBytes bytes → (pair_front g bytes).answer ≡ Ok y → IsPair g bytes y

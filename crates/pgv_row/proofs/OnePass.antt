@@ -17,7 +17,7 @@ use Rattle.pgv_value.proofs.Several.{never_allocate}
 use Rattle.pgv_row.proofs.DataRows.{frames_of_row, row_of_frames}
 use Rattle.pgv_row.specs.ColumnView.{Column}
 use Rattle.pgv_row.specs.DataRow.{IsDataRow, frames_front}
-use Rattle.pgv_row.specs.OnePass.{Fit, Left, passed_over, one_pass, IsRowOf, AreFrames, InOnePass, IsRestRefused, IsRowRefused, ReadsRows}
+use Rattle.pgv_row.specs.OnePass.{Fit, ColumnsLeft, passed_over, one_pass, IsRowOf, AreFramesFrom, InOnePass, IsRestRefused, IsRowRefused, ReadsRows}
 use Rattle.pgv_row.specs.RowView.{Row}
 use Rattle.pgv_row.specs.declared.error.ColumnError.{ColumnError}
 
@@ -59,9 +59,9 @@ module _ (width at : ℕ) (rest : List ℕ) (total : Result (List ℕ) (Option C
 
 -- ---- rows
 
-ended : {M : Type 0} (r : Result M (Option CodecError)) (b : Bool) (left : Left) (width : ℕ) (wrong : CodecError) (further : List Part) →
+ended : {M : Type 0} (r : Result M (Option CodecError)) (b : Bool) (left : ColumnsLeft) (width : ℕ) (wrong : CodecError) (further : List Part) →
     (several one_part (width - left.0) left.1).answer ≡ Ok (further, []) → (several one_part (width - left.0) left.1).may_alloc ≡ false → let o : Outcome M = record { answer = r; may_alloc = b } in
-    ((o >>= λ m. done {M = M × Left} (m, left)) >>= λ first. passed_over (width - first.1.0) first.1.1 >>= λ rest. fails_if (not (nat_eq (length rest) 0)) wrong >> done first.0) ≡ o
+    ((o >>= λ m. done {M = M × ColumnsLeft} (m, left)) >>= λ first. passed_over (width - first.1.0) first.1.1 >>= λ rest. fails_if (not (nat_eq (length rest) 0)) wrong >> done first.0) ≡ o
 unfolding passed_over
 ended (Ok m) true left width wrong further found free = rw found refl
 ended (Ok m) false left width wrong further found free = rw (found, free) refl
@@ -71,7 +71,7 @@ not_failed : {A : Type 0} (o : Outcome A) (e : CodecError) (m : A) → o.answer 
 not_failed o e m is free fails = false≢true (sym free ∙ (only_memory o e m is fails).1)
 
 -- where the rest is frames and nothing comes after them, it isn't refused
-rest_passes : (width size : ℕ) (left : Left) (e : ColumnError ℕ) (further : List Part) → (several one_part (width - left.0) left.1).answer ≡ Ok (further, []) → (several one_part (width - left.0) left.1).may_alloc ≡ false → IsRestRefused width size left e → ⊥
+rest_passes : (width size : ℕ) (left : ColumnsLeft) (e : ColumnError ℕ) (further : List Part) → (several one_part (width - left.0) left.1).answer ≡ Ok (further, []) → (several one_part (width - left.0) left.1).may_alloc ≡ false → IsRestRefused width size left e → ⊥
 unfolding passed_over
 rest_passes width size left e further found free (inl k) = not_failed (passed_over (width - left.0) left.1) (codec_error e) [] (rw found refl) (rw (found, free) refl) k.1
 rest_passes width size left e further found free (inr k) =
@@ -79,13 +79,13 @@ rest_passes width size left e further found free (inr k) =
     let fails = subst (λ (r : Result (List ℕ) (Option CodecError)). IsOkAnd r (λ rest. Fails (codec_error e) (fails_if (not (nat_eq (length rest) 0)) (WrongLength size)))) rest k.1 in
     not_failed (fails_if false (WrongLength size)) (codec_error e) tt refl refl fails
 
-read_passes : {M : Type 0} (width size : ℕ) (e : ColumnError ℕ) (r : Result M (Option CodecError)) (b : Bool) (left : Left) (further : List Part) →
+read_passes : {M : Type 0} (width size : ℕ) (e : ColumnError ℕ) (r : Result M (Option CodecError)) (b : Bool) (left : ColumnsLeft) (further : List Part) →
     (several one_part (width - left.0) left.1).answer ≡ Ok (further, []) → (several one_part (width - left.0) left.1).may_alloc ≡ false → let o : Outcome M = record { answer = r; may_alloc = b } in
-    IsOkAnd (o >>= λ m. done {M = M × Left} (m, left)).answer (λ first. IsRestRefused width size first.1 e) → ⊥
+    IsOkAnd (o >>= λ m. done {M = M × ColumnsLeft} (m, left)).answer (λ first. IsRestRefused width size first.1 e) → ⊥
 read_passes width size e (Ok m) b left further found free k = rest_passes width size left e further found free k
 read_passes width size e (Err why) b left further found free k = k
 
-module _ {M : Type 0} (fits : List Column → Fit) (parse : Row → Outcome M) (refused : Row → ColumnError ℕ → Type 0) (read : List Column → List ℕ → Outcome (M × Left)) (refused_in_front : List Column → List ℕ → ColumnError ℕ → Type 0)
+module _ {M : Type 0} (fits : List Column → Fit) (parse : Row → Outcome M) (refused : Row → ColumnError ℕ → Type 0) (read : List Column → List ℕ → Outcome (M × ColumnsLeft)) (refused_in_front : List Column → List ℕ → ColumnError ℕ → Type 0)
     (law : InOnePass 0 fits parse refused read refused_in_front) (columns : List Column) (body : List ℕ) (h : AreBytes body) where
   pub as_row : (parts : List Part) → fits columns ≡ Ok tt → IsDataRow (length columns) body parts → one_pass read columns body ≡ parse (record { columns = columns; parts = parts })
   unfolding one_pass
@@ -93,7 +93,7 @@ module _ {M : Type 0} (fits : List Column → Fit) (parse : Row → Outcome M) (
       let row : Row = record { columns = columns; parts = parts } in
       let f = frames_of_row (length columns) body parts h s in
       let all : length columns - 0 ≡ length columns = omega arith in
-      let frames : AreFrames row 0 f.0 = ap (λ (k : ℕ). (several one_part k f.0).answer) all ∙ f.2 in
+      let frames : AreFramesFrom row 0 f.0 = ap (λ (k : ℕ). (several one_part k f.0).answer) all ∙ f.2 in
       let r = law.as_row row f.0 fit frames in
       let free = never_allocate one_part (λ b. refl) (length columns - r.0.0) r.0.1 in
       let o : Outcome M = parse row in
@@ -114,7 +114,7 @@ module _ {M : Type 0} (fits : List Column → Fit) (parse : Row → Outcome M) (
       let all : length columns ≡ length columns - 0 = omega arith in
       (p.0, row_of_frames (length columns) body a.0 p.0 h a.1 (ap (λ (k : ℕ). (several one_part k a.0).answer) all ∙ p.1))
 
-  fields_refused : (parts : List Part) (e : ColumnError ℕ) (frames : List ℕ) → fits columns ≡ Ok tt → AreFrames (record { columns = columns; parts = parts }) 0 frames →
+  fields_refused : (parts : List Part) (e : ColumnError ℕ) (frames : List ℕ) → fits columns ≡ Ok tt → AreFramesFrom (record { columns = columns; parts = parts }) 0 frames →
       refused_in_front columns frames e ⊎ IsOkAnd (read columns frames).answer (λ first. IsRestRefused (length columns) (length body) first.1 e) → refused (record { columns = columns; parts = parts }) e
   fields_refused parts e frames fit are (inl k) = law.refused_as_row (record { columns = columns; parts = parts }) frames e fit are k
   fields_refused parts e frames fit are (inr k) =
@@ -122,7 +122,7 @@ module _ {M : Type 0} (fits : List Column → Fit) (parse : Row → Outcome M) (
       let r = law.as_row row frames fit are in
       let free = never_allocate one_part (λ b. refl) (length columns - r.0.0) r.0.1 in
       let o : Outcome M = parse row in
-      absurd (read_passes (length columns) (length body) e o.answer o.may_alloc r.0 (drop r.0.0 parts) r.1 free (subst (λ (p : Outcome (M × Left)). IsOkAnd p.answer (λ first. IsRestRefused (length columns) (length body) first.1 e)) r.2 k))
+      absurd (read_passes (length columns) (length body) e o.answer o.may_alloc r.0 (drop r.0.0 parts) r.1 free (subst (λ (p : Outcome (M × ColumnsLeft)). IsOkAnd p.answer (λ first. IsRestRefused (length columns) (length body) first.1 e)) r.2 k))
 
   pub error_as_row : (parts : List Part) (e : ColumnError ℕ) → fits columns ≡ Ok tt → IsDataRow (length columns) body parts → IsRowRefused read refused_in_front columns body e → refused (record { columns = columns; parts = parts }) e
   error_as_row parts e fit s (inl k) =
@@ -131,10 +131,10 @@ module _ {M : Type 0} (fits : List Column → Fit) (parse : Row → Outcome M) (
   error_as_row parts e fit s (inr k) =
       let f = frames_of_row (length columns) body parts h s in
       let all : length columns - 0 ≡ length columns = omega arith in
-      let frames : AreFrames (record { columns = columns; parts = parts }) 0 f.0 = ap (λ (n : ℕ). (several one_part n f.0).answer) all ∙ f.2 in
+      let frames : AreFramesFrom (record { columns = columns; parts = parts }) 0 f.0 = ap (λ (n : ℕ). (several one_part n f.0).answer) all ∙ f.2 in
       fields_refused parts e f.0 fit frames (subst (λ (r : Parsed (List ℕ)). IsOkAnd r (λ frames. refused_in_front columns frames e ⊎ IsOkAnd (read columns frames).answer (λ first. IsRestRefused (length columns) (length body) first.1 e))) f.1 k)
 
-pub reads_rows : {M : Type 0} (fits : List Column → Fit) (parse : Row → Outcome M) (refused : Row → ColumnError ℕ → Type 0) (read : List Column → List ℕ → Outcome (M × Left)) (refused_in_front : List Column → List ℕ → ColumnError ℕ → Type 0) →
+pub reads_rows : {M : Type 0} (fits : List Column → Fit) (parse : Row → Outcome M) (refused : Row → ColumnError ℕ → Type 0) (read : List Column → List ℕ → Outcome (M × ColumnsLeft)) (refused_in_front : List Column → List ℕ → ColumnError ℕ → Type 0) →
     InOnePass 0 fits parse refused read refused_in_front → ReadsRows fits parse refused read refused_in_front
 reads_rows fits parse refused read refused_in_front law = record {
   of_row = λ columns body m h. of_row fits parse refused read refused_in_front law columns body h m;

@@ -9,7 +9,7 @@ use Rattle.pgv_value.specs.FrameBinary.{Part, row_bytes, IsField}
 use Rattle.pgv_value.specs.FrameLaws.{AreBytes}
 use Rattle.pgv_value.specs.declared.error.CodecError.TheVariants.{FieldCount, WrongLength}
 use Rattle.pgv_value.specs.Fronts.{u16_front, one_part}
-use Rattle.pgv_value.specs.Outcome.{Outcome, exactly, allocates, fails_if, done, ◌>>=◌, ◌>>◌}
+use Rattle.pgv_value.specs.Outcome.{Outcome, in_place, allocates, fails_if, done, ◌>>=◌, ◌>>◌}
 use Rattle.pgv_value.specs.Parsed.{Parsed, ◌>>=◌ as ◌and_then◌}
 use Rattle.pgv_value.specs.Several.{several}
 
@@ -31,7 +31,7 @@ frames_front width bytes = u16_front bytes and_then λ count. if count.0 == widt
 -- the parts of a row, where there is room for as many places
 unfoldable pub data_row : ℕ → ℕ → List ℕ → Outcome (List Part)
 data_row room width bytes = do
-  frames ← exactly (frames_front width bytes)
+  frames ← in_place (frames_front width bytes)
   allocates (nat_lt room width)
   row ← several one_part width frames
   fails_if (not (length row.1 == 0)) (WrongLength (length bytes))

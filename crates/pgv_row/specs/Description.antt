@@ -16,7 +16,7 @@ use Rattle.pgv_value.specs.declared.value.PgValueFormat.{PgValueFormat}
 use Rattle.pgv_value.specs.declared.value.PgValueFormat.TheVariants.{Binary}
 use Rattle.pgv_row.specs.ColumnView.{Column}
 use Rattle.pgv_value.specs.Fronts.{i16_front, u16_front, u32_front, name_front, format_of, format_number}
-use Rattle.pgv_value.specs.Outcome.{Outcome, exactly, allocates, fails_if, done, ◌>>=◌, ◌>>◌}
+use Rattle.pgv_value.specs.Outcome.{Outcome, in_place, allocates, fails_if, done, ◌>>=◌, ◌>>◌}
 use Rattle.pgv_value.specs.Several.{several}
 
 -- ---- the type of a column
@@ -40,20 +40,20 @@ number_or_zero (Some n) = n
 
 unfoldable pub column_front : KnownTypes → List ℕ → Outcome (Column × List ℕ)
 column_front known bytes = do
-  name ← exactly (name_front bytes)
-  table ← exactly (u32_front name.1)
-  attribute ← exactly (i16_front table.1)
-  oid ← exactly (u32_front attribute.1)
-  size ← exactly (i16_front oid.1)
-  modifier ← exactly (u32_front size.1)
-  code ← exactly (u16_front modifier.1)
-  format ← exactly (format_of code.0)
+  name ← in_place (name_front bytes)
+  table ← in_place (u32_front name.1)
+  attribute ← in_place (i16_front table.1)
+  oid ← in_place (u32_front attribute.1)
+  size ← in_place (i16_front oid.1)
+  modifier ← in_place (u32_front size.1)
+  code ← in_place (u16_front modifier.1)
+  format ← in_place (format_of code.0)
   allocates (is_custom (type_by known oid.0))
   done (record { name = name.0; table = table.0; attribute = attribute.0; type_oid = oid.0; size = size.0; modifier = cast_signed w32 modifier.0; format = format; type_info = type_by known oid.0 }, code.1)
 
 unfoldable pub description : KnownTypes → List ℕ → Outcome (List Column)
 description known bytes = do
-  count ← exactly (u16_front bytes)
+  count ← in_place (u16_front bytes)
   allocates true
   columns ← several (column_front known) count.0 count.1
   fails_if (not (length columns.1 == 0)) (WrongLength (length bytes))

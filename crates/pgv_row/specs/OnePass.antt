@@ -9,7 +9,7 @@ use Rattle.pgv_types.specs.Facts.{is_custom}
 use Rattle.pgv_value.specs.FrameBinary.{Part}
 use Rattle.pgv_value.specs.FrameLaws.{AreBytes}
 use Rattle.pgv_value.specs.Fronts.{one_part}
-use Rattle.pgv_value.specs.Outcome.{Outcome, Fails, exactly, or_fail, fails_if, allocates, done, ◌>>=◌, ◌>>◌}
+use Rattle.pgv_value.specs.Outcome.{Outcome, Fails, in_place, or_fail, fails_if, allocates, done, ◌>>=◌, ◌>>◌}
 use Rattle.pgv_value.specs.Several.{several}
 use Rattle.pgv_value.specs.ValueView.{Given, given}
 use Rattle.pgv_value.specs.declared.error.CodecError.TheVariants.{NoField, MismatchedTypes, WrongLength}
@@ -56,12 +56,12 @@ columns_fit first more columns place = both_fit (first columns place) (more colu
 -- ---- how values are read
 
 -- what is left after some columns: the place of the next one, and the bytes from its frame on
-abbrev pub Left : Type 0
-Left = ℕ × List ℕ
+abbrev pub ColumnsLeft : Type 0
+ColumnsLeft = ℕ × List ℕ
 
 -- what is read from a part under the type and in the format of its column
-unfoldable pub part_value : {M : Type 0} → (Given → Outcome M) → Column → Part → Outcome M
-part_value parse c part = do
+unfoldable pub value_of_part : {M : Type 0} → (Given → Outcome M) → Column → Part → Outcome M
+value_of_part parse c part = do
   allocates (is_custom c.type_info)
   parse (given c.type_info c.format part)
 
@@ -69,18 +69,18 @@ part_value parse c part = do
 unfoldable pub value_in_front : {M : Type 0} → (Given → Outcome M) → Column → List ℕ → Outcome (M × List ℕ)
 value_in_front parse c bytes = do
   frame ← one_part bytes
-  m ← part_value parse c frame.0
+  m ← value_of_part parse c frame.0
   done (m, frame.1)
 
 -- the value of the column at a place
-unfoldable pub column_in_front : {M : Type 0} → (Given → Outcome M) → List Column → ℕ → List ℕ → Outcome (M × Left)
+unfoldable pub column_in_front : {M : Type 0} → (Given → Outcome M) → List Column → ℕ → List ℕ → Outcome (M × ColumnsLeft)
 column_in_front parse columns place bytes = do
   c ← or_fail (slice_get columns place) (NoField place)
   value ← value_in_front parse c bytes
   done (value.0, (place + 1, value.1))
 
 -- the column at a place, and those after it
-unfoldable pub columns_in_front : {M N : Type 0} → (List Column → ℕ → List ℕ → Outcome (M × Left)) → (List Column → ℕ → List ℕ → Outcome (N × Left)) → List Column → ℕ → List ℕ → Outcome ((M × N) × Left)
+unfoldable pub columns_in_front : {M N : Type 0} → (List Column → ℕ → List ℕ → Outcome (M × ColumnsLeft)) → (List Column → ℕ → List ℕ → Outcome (N × ColumnsLeft)) → List Column → ℕ → List ℕ → Outcome ((M × N) × ColumnsLeft)
 columns_in_front first more columns place bytes = do
   m ← first columns place bytes
   n ← more columns m.1.0 m.1.1
@@ -93,9 +93,9 @@ passed_over n bytes = do
   done frames.1
 
 -- a row, whose first columns are read in one way and whose further ones are passed over
-unfoldable pub one_pass : {M : Type 0} → (List Column → List ℕ → Outcome (M × Left)) → List Column → List ℕ → Outcome M
+unfoldable pub one_pass : {M : Type 0} → (List Column → List ℕ → Outcome (M × ColumnsLeft)) → List Column → List ℕ → Outcome M
 one_pass read columns body = do
-  frames ← exactly (frames_front (length columns) body)
+  frames ← in_place (frames_front (length columns) body)
   first ← read columns frames
   rest ← passed_over (length columns - first.1.0) first.1.1
   fails_if (not (length rest == 0)) (WrongLength (length body))
@@ -104,20 +104,20 @@ one_pass read columns body = do
 -- ---- which column is refused
 
 -- the error is that of the column at a place, whose frame is in front
-abbrev pub IsRefusedInFront : {M : Type 0} → (List Column → ℕ → List ℕ → Outcome (M × Left)) → List Column → ℕ → List ℕ → ColumnError ℕ → Type 0
+abbrev pub IsRefusedInFront : {M : Type 0} → (List Column → ℕ → List ℕ → Outcome (M × ColumnsLeft)) → List Column → ℕ → List ℕ → ColumnError ℕ → Type 0
 IsRefusedInFront read columns place bytes e = (index_of e ≡ place) × Fails (codec_error e) (read columns place bytes)
 
 -- it is that, or of a column after it, where this one is read
-abbrev pub IsFirstInFront : {M : Type 0} → (List Column → ℕ → List ℕ → Outcome (M × Left)) → (List Column → ℕ → List ℕ → ColumnError ℕ → Type 0) → List Column → ℕ → List ℕ → ColumnError ℕ → Type 0
+abbrev pub IsFirstInFront : {M : Type 0} → (List Column → ℕ → List ℕ → Outcome (M × ColumnsLeft)) → (List Column → ℕ → List ℕ → ColumnError ℕ → Type 0) → List Column → ℕ → List ℕ → ColumnError ℕ → Type 0
 IsFirstInFront first more columns place bytes e = IsRefusedInFront first columns place bytes e ⊎ IsOkAnd (first columns place bytes).answer (λ x. more columns x.1.0 x.1.1 e)
 
 -- it is that of a further column from a place on, or of the bytes after the last one
-abbrev pub IsRestRefused : ℕ → ℕ → Left → ColumnError ℕ → Type 0
+abbrev pub IsRestRefused : ℕ → ℕ → ColumnsLeft → ColumnError ℕ → Type 0
 IsRestRefused width size left e =
     ((left.0 ≤ index_of e) × Fails (codec_error e) (passed_over (width - left.0) left.1)) ⊎ ((index_of e ≡ width) × IsOkAnd (passed_over (width - left.0) left.1).answer (λ rest. Fails (codec_error e) (fails_if (not (length rest == 0)) (WrongLength size))))
 
 -- it is that of the number of columns, of one of the first columns, or of what comes after them
-abbrev pub IsRowRefused : {M : Type 0} → (List Column → List ℕ → Outcome (M × Left)) → (List Column → List ℕ → ColumnError ℕ → Type 0) → List Column → List ℕ → ColumnError ℕ → Type 0
+abbrev pub IsRowRefused : {M : Type 0} → (List Column → List ℕ → Outcome (M × ColumnsLeft)) → (List Column → List ℕ → ColumnError ℕ → Type 0) → List Column → List ℕ → ColumnError ℕ → Type 0
 IsRowRefused read refused columns body e =
     ((index_of e ≡ 0) × (frames_front (length columns) body ≡ Err (codec_error e))) ⊎ IsOkAnd (frames_front (length columns) body) (λ frames. refused columns frames e ⊎ IsOkAnd (read columns frames).answer (λ first. IsRestRefused (length columns) (length body) first.1 e))
 
@@ -130,21 +130,21 @@ IsRowOf columns body = (parts : List Part) × IsDataRow (length columns) body pa
 -- ---- the law of columns that are read in one pass
 
 -- bytes are the frames of a row's parts from a place on
-abbrev pub AreFrames : Row → ℕ → List ℕ → Type 0
-AreFrames row place bytes = (several one_part (length row.columns - place) bytes).answer ≡ Ok (drop place row.parts, [])
+abbrev pub AreFramesFrom : Row → ℕ → List ℕ → Type 0
+AreFramesFrom row place bytes = (several one_part (length row.columns - place) bytes).answer ≡ Ok (drop place row.parts, [])
 
 -- Of the frames of a row from a place on the same is read as of the row, and the same column is refused, where the
 -- columns fit; and what is read from bytes whose rest is frames is read from frames.
-pub record InOnePass {M : Type 0} (place : ℕ) (fits : List Column → Fit) (parse : Row → Outcome M) (refused : Row → ColumnError ℕ → Type 0) (read : List Column → List ℕ → Outcome (M × Left)) (refused_in_front : List Column → List ℕ → ColumnError ℕ → Type 0) : Type 0 where
-  pub as_row : (row : Row) (bytes : List ℕ) → fits row.columns ≡ Ok tt → AreFrames row place bytes →
-      (left : Left) × AreFrames row left.0 left.1 × (read row.columns bytes ≡ (parse row >>= λ m. done (m, left)))
-  pub refused_as_row : (row : Row) (bytes : List ℕ) (e : ColumnError ℕ) → fits row.columns ≡ Ok tt → AreFrames row place bytes → refused_in_front row.columns bytes e → refused row e
-  pub of_frames : (columns : List Column) (bytes : List ℕ) (m : M) (left : Left) (further : List Part) → (read columns bytes).answer ≡ Ok (m, left) →
+pub record InOnePass {M : Type 0} (place : ℕ) (fits : List Column → Fit) (parse : Row → Outcome M) (refused : Row → ColumnError ℕ → Type 0) (read : List Column → List ℕ → Outcome (M × ColumnsLeft)) (refused_in_front : List Column → List ℕ → ColumnError ℕ → Type 0) : Type 0 where
+  pub as_row : (row : Row) (bytes : List ℕ) → fits row.columns ≡ Ok tt → AreFramesFrom row place bytes →
+      (left : ColumnsLeft) × AreFramesFrom row left.0 left.1 × (read row.columns bytes ≡ (parse row >>= λ m. done (m, left)))
+  pub refused_as_row : (row : Row) (bytes : List ℕ) (e : ColumnError ℕ) → fits row.columns ≡ Ok tt → AreFramesFrom row place bytes → refused_in_front row.columns bytes e → refused row e
+  pub of_frames : (columns : List Column) (bytes : List ℕ) (m : M) (left : ColumnsLeft) (further : List Part) → (read columns bytes).answer ≡ Ok (m, left) →
       (several one_part (length columns - left.0) left.1).answer ≡ Ok (further, []) → (parts : List Part) × ((several one_part (length columns - place) bytes).answer ≡ Ok (parts, []))
 
 -- Only a DataRow is read in one pass. Where the columns fit, the same is read from it as from the row of its parts, and
 -- the same column is refused.
-pub record ReadsRows {M : Type 0} (fits : List Column → Fit) (parse : Row → Outcome M) (refused : Row → ColumnError ℕ → Type 0) (read : List Column → List ℕ → Outcome (M × Left)) (refused_in_front : List Column → List ℕ → ColumnError ℕ → Type 0) : Type 0 where
+pub record ReadsRows {M : Type 0} (fits : List Column → Fit) (parse : Row → Outcome M) (refused : Row → ColumnError ℕ → Type 0) (read : List Column → List ℕ → Outcome (M × ColumnsLeft)) (refused_in_front : List Column → List ℕ → ColumnError ℕ → Type 0) : Type 0 where
   pub of_row : (columns : List Column) (body : List ℕ) (m : M) → AreBytes body → (one_pass read columns body).answer ≡ Ok m → IsRowOf columns body
   pub as_row : (columns : List Column) (parts : List Part) (body : List ℕ) → AreBytes body → fits columns ≡ Ok tt → IsDataRow (length columns) body parts → one_pass read columns body ≡ parse (record { columns = columns; parts = parts })
   pub refused_as_row : (columns : List Column) (parts : List Part) (body : List ℕ) (e : ColumnError ℕ) → AreBytes body → fits columns ≡ Ok tt → IsDataRow (length columns) body parts → IsRowRefused read refused_in_front columns body e →

@@ -14,7 +14,7 @@ use Rattle.pgv_value.specs.declared.error.CodecError.{CodecError}
 use Rattle.pgv_value.specs.declared.error.CodecError.TheVariants.{NoField}
 use Rattle.pgv_value.proofs.Outcomes.{answers_are, taken, found_or, stated_is}
 use Rattle.pgv_row.specs.ColumnView.{Column}
-use Rattle.pgv_row.specs.OnePass.{Fit, type_fits, column_fits, both_fit, columns_fit, Left, part_value, value_in_front, column_in_front, columns_in_front, AreFrames, InOnePass, IsRefusedInFront, IsFirstInFront}
+use Rattle.pgv_row.specs.OnePass.{Fit, type_fits, column_fits, both_fit, columns_fit, ColumnsLeft, value_of_part, value_in_front, column_in_front, columns_in_front, AreFramesFrom, InOnePass, IsRefusedInFront, IsFirstInFront}
 use Rattle.pgv_row.specs.Errors.{codec_error}
 use Rattle.pgv_row.specs.RowView.{Row}
 use Rattle.pgv_row.specs.Tuples.{column_parse, columns_parse, IsRefused, IsFirstRefused}
@@ -96,25 +96,25 @@ or_not false = refl
 
 module _ {M : Type 0} where
   value_of_row : (accepts : Ty → Bool) (parse : Given → Outcome M) (row : Row) (place : ℕ) (c : Column) (part : Part) → slice_get row.columns place ≡ Some c → slice_get row.parts place ≡ Some part →
-      nat_lt place (length row.columns) ≡ true → not (may_read accepts (given c.type_info c.format part)) ≡ false → column_parse accepts parse row place ≡ part_value parse c part
-  unfolding column_parse column_value raw_value part_value
+      nat_lt place (length row.columns) ≡ true → not (may_read accepts (given c.type_info c.format part)) ≡ false → column_parse accepts parse row place ≡ value_of_part parse c part
+  unfolding column_parse column_value raw_value value_of_part
   value_of_row accepts parse row place c part at there within may = rw (within, at, there, may, or_not (is_custom c.type_info)) refl
 
   regrouped : (r : Result M (Option CodecError)) (b : Bool) (next : ℕ) (rest : List ℕ) → let o : Outcome M = record { answer = r; may_alloc = b } in
-      ((o >>= λ m. done {M = M × List ℕ} (m, rest)) >>= λ value. done {M = M × Left} (value.0, (next, value.1))) ≡ (o >>= λ m. done {M = M × Left} (m, (next, rest)))
+      ((o >>= λ m. done {M = M × List ℕ} (m, rest)) >>= λ value. done {M = M × ColumnsLeft} (value.0, (next, value.1))) ≡ (o >>= λ m. done {M = M × ColumnsLeft} (m, (next, rest)))
   regrouped (Ok m) true next rest = refl
   regrouped (Ok m) false next rest = refl
   regrouped (Err why) b next rest = refl
 
   column_found : (parse : Given → Outcome M) (columns : List Column) (place : ℕ) (bytes : List ℕ) (c : Column) (part : Part) (rest : List ℕ) → slice_get columns place ≡ Some c → (one_part bytes).answer ≡ Ok (part, rest) →
-      column_in_front parse columns place bytes ≡ (part_value parse c part >>= λ m. done {M = M × Left} (m, (place + 1, rest)))
+      column_in_front parse columns place bytes ≡ (value_of_part parse c part >>= λ m. done {M = M × ColumnsLeft} (m, (place + 1, rest)))
   unfolding column_in_front value_in_front
   column_found parse columns place bytes c part rest at found =
-      let o : Outcome M = part_value parse c part in
+      let o : Outcome M = value_of_part parse c part in
       rw (at, found) (regrouped o.answer o.may_alloc (place + 1) rest)
 
-  column_as_row : (accepts : Ty → Bool) (parse : Given → Outcome M) (row : Row) (place : ℕ) (bytes : List ℕ) → column_fits accepts row.columns place ≡ Ok tt → AreFrames row place bytes →
-      (rest : List ℕ) × AreFrames row (place + 1) rest × (column_in_front parse row.columns place bytes ≡ (column_parse accepts parse row place >>= λ m. done {M = M × Left} (m, (place + 1, rest))))
+  column_as_row : (accepts : Ty → Bool) (parse : Given → Outcome M) (row : Row) (place : ℕ) (bytes : List ℕ) → column_fits accepts row.columns place ≡ Ok tt → AreFramesFrom row place bytes →
+      (rest : List ℕ) × AreFramesFrom row (place + 1) rest × (column_in_front parse row.columns place bytes ≡ (column_parse accepts parse row place >>= λ m. done {M = M × ColumnsLeft} (m, (place + 1, rest))))
   column_as_row accepts parse row place bytes fit frames =
       let c = column_is accepts row.columns place fit in
       let lt : place < length row.columns = slice_get_within row.columns place c.0 c.1 in
@@ -129,20 +129,20 @@ module _ {M : Type 0} where
         rw (value_of_row accepts parse row place c.0 f.part c.1 d.0 (lt-ltb place (length row.columns) lt) may) (column_found parse row.columns place bytes c.0 f.part f.rest c.1 f.found),
       )
 
-  column_of_frames : (parse : Given → Outcome M) (columns : List Column) (place : ℕ) (bytes : List ℕ) (m : M) (left : Left) (further : List Part) → (column_in_front parse columns place bytes).answer ≡ Ok (m, left) →
+  column_of_frames : (parse : Given → Outcome M) (columns : List Column) (place : ℕ) (bytes : List ℕ) (m : M) (left : ColumnsLeft) (further : List Part) → (column_in_front parse columns place bytes).answer ≡ Ok (m, left) →
       (several one_part (length columns - left.0) left.1).answer ≡ Ok (further, []) → (parts : List Part) × ((several one_part (length columns - place) bytes).answer ≡ Ok (parts, []))
   unfolding column_in_front value_in_front
   column_of_frames parse columns place bytes m left further e more =
       let c = taken (or_fail (slice_get columns place) (NoField place)) _ (m, left) e in
       let at : slice_get columns place ≡ Some c.0 = found_or (slice_get columns place) (NoField place) c.0 (stated_is _ c.0 c.1) in
       let v = taken (value_in_front parse c.0 bytes) _ (m, left) c.2 in
-      let left_is = answers_are {A = M} {B = Left} v.0.0 m (place + 1, v.0.1) left v.2 in
+      let left_is = answers_are {A = M} {B = ColumnsLeft} v.0.0 m (place + 1, v.0.1) left v.2 in
       let f = taken (one_part bytes) _ v.0 v.1 in
-      let p = taken (part_value parse c.0 f.0.0) (λ (x : M). done {M = M × List ℕ} (x, f.0.1)) v.0 f.2 in
+      let p = taken (value_of_part parse c.0 f.0.0) (λ (x : M). done {M = M × List ℕ} (x, f.0.1)) v.0 f.2 in
       let rest_is = answers_are {A = M} {B = List ℕ} p.0 v.0.0 f.0.1 v.0.1 p.2 in
       let lt : place < length columns = slice_get_within columns place c.0 at in
       let after : (several one_part (length columns - (place + 1)) f.0.1).answer ≡ Ok (further, []) =
-      ap (λ (xs : List ℕ). (several one_part (length columns - (place + 1)) xs).answer) rest_is.1 ∙ ap (λ (l : Left). (several one_part (length columns - l.0) l.1).answer) left_is.1 ∙ more in (
+      ap (λ (xs : List ℕ). (several one_part (length columns - (place + 1)) xs).answer) rest_is.1 ∙ ap (λ (l : ColumnsLeft). (several one_part (length columns - l.0) l.1).answer) left_is.1 ∙ more in (
         f.0.0 ∷ further,
         ap (λ (k : ℕ). (several one_part k bytes).answer) (left_over (length columns) place lt) ∙ frame_more (length columns - (place + 1)) bytes f.0.0 f.0.1 further f.1 after,
       )
@@ -150,24 +150,24 @@ module _ {M : Type 0} where
 -- ---- which column is refused
 
 module _ {M : Type 0} where
-  fails_before : (r : Result M (Option CodecError)) (b : Bool) (left : Left) (e : CodecError) → let o : Outcome M = record { answer = r; may_alloc = b } in Fails e (o >>= λ m. done {M = M × Left} (m, left)) → Fails e o
+  fails_before : (r : Result M (Option CodecError)) (b : Bool) (left : ColumnsLeft) (e : CodecError) → let o : Outcome M = record { answer = r; may_alloc = b } in Fails e (o >>= λ m. done {M = M × ColumnsLeft} (m, left)) → Fails e o
   fails_before (Ok m) b left e (inl h) = absurd cc
-  fails_before (Ok m) b left e (inr (inl h)) = absurd (let no : (let r : Result (M × Left) (Option CodecError) = Ok (m, left) in r) ≡ Err None = h.0 in cc)
+  fails_before (Ok m) b left e (inr (inl h)) = absurd (let no : (let r : Result (M × ColumnsLeft) (Option CodecError) = Ok (m, left) in r) ≡ Err None = h.0 in cc)
   fails_before (Ok m) b left e (inr (inr h)) = inr (inr (h.0, sym (or_not b) ∙ h.1))
   fails_before (Err why) b left e (inl h) = inl (ap (λ (w : Option CodecError). let r : Result M (Option CodecError) = Err w in r) (let same : why ≡ Some e = cc in same))
-  fails_before (Err why) b left e (inr (inl h)) = let is : (let r : Result (M × Left) (Option CodecError) = Err why in r) ≡ Err None = h.0 in inr (inl (ap (λ (w : Option CodecError). let r : Result M (Option CodecError) = Err w in r) (let same : why ≡ None = cc in same), h.1))
+  fails_before (Err why) b left e (inr (inl h)) = let is : (let r : Result (M × ColumnsLeft) (Option CodecError) = Err why in r) ≡ Err None = h.0 in inr (inl (ap (λ (w : Option CodecError). let r : Result M (Option CodecError) = Err w in r) (let same : why ≡ None = cc in same), h.1))
   fails_before (Err why) b left e (inr (inr h)) = inr (inr h)
 
-  okay_before : (r : Result M (Option CodecError)) (b : Bool) (left : Left) (P : Left → Type 0) → let o : Outcome M = record { answer = r; may_alloc = b } in IsOkAnd (o >>= λ m. done {M = M × Left} (m, left)).answer (λ x. P x.1) → IsOk r × P left
+  okay_before : (r : Result M (Option CodecError)) (b : Bool) (left : ColumnsLeft) (P : ColumnsLeft → Type 0) → let o : Outcome M = record { answer = r; may_alloc = b } in IsOkAnd (o >>= λ m. done {M = M × ColumnsLeft} (m, left)).answer (λ x. P x.1) → IsOk r × P left
   okay_before (Ok m) b left P h = (refl, h)
   okay_before (Err why) b left P h = absurd h
 
-  column_refused : (accepts : Ty → Bool) (parse : Given → Outcome M) (row : Row) (place : ℕ) (bytes : List ℕ) (e : ColumnError ℕ) → column_fits accepts row.columns place ≡ Ok tt → AreFrames row place bytes →
+  column_refused : (accepts : Ty → Bool) (parse : Given → Outcome M) (row : Row) (place : ℕ) (bytes : List ℕ) (e : ColumnError ℕ) → column_fits accepts row.columns place ≡ Ok tt → AreFramesFrom row place bytes →
       IsRefusedInFront (column_in_front parse) row.columns place bytes e → IsRefused (column_parse accepts parse) row place e
   column_refused accepts parse row place bytes e fit frames h =
       let c = column_as_row accepts parse row place bytes fit frames in
       let o : Outcome M = column_parse accepts parse row place in
-      (h.0, fails_before o.answer o.may_alloc (place + 1, c.0) (codec_error e) (subst (λ (p : Outcome (M × Left)). Fails (codec_error e) p) c.2 h.1))
+      (h.0, fails_before o.answer o.may_alloc (place + 1, c.0) (codec_error e) (subst (λ (p : Outcome (M × ColumnsLeft)). Fails (codec_error e) p) c.2 h.1))
 
 -- the last column
 pub last_in_one_pass : {M : Type 0} (accepts : Ty → Bool) (parse : Given → Outcome M) (place : ℕ) →
@@ -182,9 +182,9 @@ last_in_one_pass accepts parse place = record {
 -- ---- a column and the rest
 
 module _ {M N : Type 0} where
-  paired : (r : Result M (Option CodecError)) (b : Bool) (s : Result N (Option CodecError)) (d : Bool) (more : ℕ → List ℕ → Outcome (N × Left)) (next : ℕ) (rest : List ℕ) (left : Left) →
-      let o : Outcome M = record { answer = r; may_alloc = b } in let p : Outcome N = record { answer = s; may_alloc = d } in more next rest ≡ (p >>= λ n. done {M = N × Left} (n, left)) →
-      ((o >>= λ m. done {M = M × Left} (m, (next, rest))) >>= λ m. more m.1.0 m.1.1 >>= λ n. done {M = (M × N) × Left} ((m.0, n.0), n.1)) ≡ ((o >>= λ m. p >>= λ n. done {M = M × N} (m, n)) >>= λ both. done {M = (M × N) × Left} (both, left))
+  paired : (r : Result M (Option CodecError)) (b : Bool) (s : Result N (Option CodecError)) (d : Bool) (more : ℕ → List ℕ → Outcome (N × ColumnsLeft)) (next : ℕ) (rest : List ℕ) (left : ColumnsLeft) →
+      let o : Outcome M = record { answer = r; may_alloc = b } in let p : Outcome N = record { answer = s; may_alloc = d } in more next rest ≡ (p >>= λ n. done {M = N × ColumnsLeft} (n, left)) →
+      ((o >>= λ m. done {M = M × ColumnsLeft} (m, (next, rest))) >>= λ m. more m.1.0 m.1.1 >>= λ n. done {M = (M × N) × ColumnsLeft} ((m.0, n.0), n.1)) ≡ ((o >>= λ m. p >>= λ n. done {M = M × N} (m, n)) >>= λ both. done {M = (M × N) × ColumnsLeft} (both, left))
   paired (Ok m) true (Ok n) d more next rest left e = rw e refl
   paired (Ok m) false (Ok n) true more next rest left e = rw e refl
   paired (Ok m) false (Ok n) false more next rest left e = rw e refl
@@ -192,10 +192,10 @@ module _ {M N : Type 0} where
   paired (Ok m) false (Err why) d more next rest left e = rw e refl
   paired (Err why) b s d more next rest left e = refl
 
-module _ {M N : Type 0} (accepts : Ty → Bool) (parse : Given → Outcome M) {fits : List Column → ℕ → Fit} {rest : Row → ℕ → Outcome N} {refused : Row → ℕ → ColumnError ℕ → Type 0} {read : List Column → ℕ → List ℕ → Outcome (N × Left)} {refused_in_front : List Column → ℕ → List ℕ → ColumnError ℕ → Type 0}
+module _ {M N : Type 0} (accepts : Ty → Bool) (parse : Given → Outcome M) {fits : List Column → ℕ → Fit} {rest : Row → ℕ → Outcome N} {refused : Row → ℕ → ColumnError ℕ → Type 0} {read : List Column → ℕ → List ℕ → Outcome (N × ColumnsLeft)} {refused_in_front : List Column → ℕ → List ℕ → ColumnError ℕ → Type 0}
     (law : (place : ℕ) → InOnePass place (λ columns. fits columns place) (λ row. rest row place) (λ row. refused row place) (λ columns. read columns place) (λ columns. refused_in_front columns place)) where
-  columns_as_row : (place : ℕ) (row : Row) (bytes : List ℕ) → columns_fit (column_fits accepts) fits row.columns place ≡ Ok tt → AreFrames row place bytes →
-      (left : Left) × AreFrames row left.0 left.1 × (columns_in_front (column_in_front parse) read row.columns place bytes ≡ (columns_parse (column_parse accepts parse) rest row place >>= λ m. done {M = (M × N) × Left} (m, left)))
+  columns_as_row : (place : ℕ) (row : Row) (bytes : List ℕ) → columns_fit (column_fits accepts) fits row.columns place ≡ Ok tt → AreFramesFrom row place bytes →
+      (left : ColumnsLeft) × AreFramesFrom row left.0 left.1 × (columns_in_front (column_in_front parse) read row.columns place bytes ≡ (columns_parse (column_parse accepts parse) rest row place >>= λ m. done {M = (M × N) × ColumnsLeft} (m, left)))
   unfolding columns_in_front columns_parse
   columns_as_row place row bytes fit frames =
       let both = columns_are (column_fits accepts) fits row.columns place fit in
@@ -205,25 +205,25 @@ module _ {M N : Type 0} (accepts : Ty → Bool) (parse : Given → Outcome M) {f
       let p : Outcome N = rest row (place + 1) in
       (r.0, r.1, rw c.2 (paired o.answer o.may_alloc p.answer p.may_alloc (read row.columns) (place + 1) c.0 r.0 r.2))
 
-  columns_refused : (place : ℕ) (row : Row) (bytes : List ℕ) (e : ColumnError ℕ) → columns_fit (column_fits accepts) fits row.columns place ≡ Ok tt → AreFrames row place bytes →
+  columns_refused : (place : ℕ) (row : Row) (bytes : List ℕ) (e : ColumnError ℕ) → columns_fit (column_fits accepts) fits row.columns place ≡ Ok tt → AreFramesFrom row place bytes →
       IsFirstInFront (column_in_front parse) refused_in_front row.columns place bytes e → IsFirstRefused (column_parse accepts parse) refused row place e
   columns_refused place row bytes e fit frames (inl h) = inl (column_refused accepts parse row place bytes e (columns_are (column_fits accepts) fits row.columns place fit).0 frames h)
   columns_refused place row bytes e fit frames (inr h) =
       let both = columns_are (column_fits accepts) fits row.columns place fit in
       let c = column_as_row accepts parse row place bytes both.0 frames in
       let o : Outcome M = column_parse accepts parse row place in
-      let P : Left → Type 0 = λ left. refused_in_front row.columns left.0 left.1 e in
-      let k = okay_before o.answer o.may_alloc (place + 1, c.0) P (subst (λ (p : Outcome (M × Left)). IsOkAnd p.answer (λ x. P x.1)) c.2 h) in
+      let P : ColumnsLeft → Type 0 = λ left. refused_in_front row.columns left.0 left.1 e in
+      let k = okay_before o.answer o.may_alloc (place + 1, c.0) P (subst (λ (p : Outcome (M × ColumnsLeft)). IsOkAnd p.answer (λ x. P x.1)) c.2 h) in
       inr (k.0, (law (place + 1)).refused_as_row row c.0 e both.1 c.1 k.1)
 
-  columns_of_frames : (place : ℕ) (columns : List Column) (bytes : List ℕ) (m : M × N) (left : Left) (further : List Part) → (columns_in_front (column_in_front parse) read columns place bytes).answer ≡ Ok (m, left) →
+  columns_of_frames : (place : ℕ) (columns : List Column) (bytes : List ℕ) (m : M × N) (left : ColumnsLeft) (further : List Part) → (columns_in_front (column_in_front parse) read columns place bytes).answer ≡ Ok (m, left) →
       (several one_part (length columns - left.0) left.1).answer ≡ Ok (further, []) → (parts : List Part) × ((several one_part (length columns - place) bytes).answer ≡ Ok (parts, []))
   unfolding columns_in_front
   columns_of_frames place columns bytes m left further e more =
       let a = taken (column_in_front parse columns place bytes) _ (m, left) e in
       let b = taken (read columns a.0.1.0 a.0.1.1) _ (m, left) a.2 in
-      let is = answers_are {A = M × N} {B = Left} (a.0.0, b.0.0) m b.0.1 left b.2 in
-      let r = (law a.0.1.0).of_frames columns a.0.1.1 b.0.0 b.0.1 further b.1 (ap (λ (l : Left). (several one_part (length columns - l.0) l.1).answer) is.1 ∙ more) in
+      let is = answers_are {A = M × N} {B = ColumnsLeft} (a.0.0, b.0.0) m b.0.1 left b.2 in
+      let r = (law a.0.1.0).of_frames columns a.0.1.1 b.0.0 b.0.1 further b.1 (ap (λ (l : ColumnsLeft). (several one_part (length columns - l.0) l.1).answer) is.1 ∙ more) in
       column_of_frames parse columns place bytes a.0.0 a.0.1 r.0 a.1 r.1
 
   -- a column and the rest

@@ -7,7 +7,7 @@ use Rattle.pgv_types.specs.Facts.{is_custom}
 use Rattle.pgv_value.specs.ValueView.{Given}
 use Rattle.pgv_value.specs.declared.error.CodecError.TheVariants.{NoField, MismatchedTypes}
 use Rattle.pgv_value.specs.Outcome.{Outcome, or_fail, fails_if, allocates, done, ◌>>=◌, ◌>>◌}
-use Rattle.pgv_row.specs.RowView.{Row, value_at}
+use Rattle.pgv_row.specs.RowView.{Row, value_at_column}
 
 -- whether a value may be read
 abbrev pub may_read : (Ty → Bool) → Given → Bool
@@ -16,7 +16,7 @@ may_read accepts v = is_none v.bytes || accepts v.type_info
 -- the value of the column at a place
 unfoldable pub raw_value : Row → ℕ → Outcome Given
 raw_value row place = do
-  value ← or_fail (value_at row place) (NoField place)
+  value ← or_fail (value_at_column row place) (NoField place)
   allocates (is_custom value.type_info)
   done value
 

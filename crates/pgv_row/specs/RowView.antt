@@ -34,8 +34,8 @@ abbrev pub value_of : Option Column → Option Part → Option Given
 value_of (Some c) (Some part) = Some (record { bytes = part; type_info = c.type_info; format = c.format })
 value_of _ _ = None
 
-abbrev pub value_at : Row → ℕ → Option Given
-value_at row place = value_of (slice_get row.columns place) (slice_get row.parts place)
+abbrev pub value_at_column : Row → ℕ → Option Given
+value_at_column row place = value_of (slice_get row.columns place) (slice_get row.parts place)
 
 -- ---- how the logic stores it
 

@@ -4,7 +4,7 @@ ghost use Rattle.std.specs.Prelude.{◌≡◌, ◌+◌, ◌≤◌, ℕ, List, le
 ghost use Rattle.std.specs.Option.{option_copied};
 ghost use Rattle.pgv_value.specs.Outcome.{Gives, Outcome};
 ghost use Rattle.pgv_row.specs.ColumnView.{Column};
-ghost use Rattle.pgv_row.specs.OnePass.{Fit, Fits, FitsAt, column_fits, columns_fit, Left, part_value, value_in_front, column_in_front, columns_in_front, IsRefusedInFront, IsFirstInFront, InOnePass};
+ghost use Rattle.pgv_row.specs.OnePass.{Fit, Fits, FitsAt, column_fits, columns_fit, ColumnsLeft, value_of_part, value_in_front, column_in_front, columns_in_front, IsRefusedInFront, IsFirstInFront, InOnePass};
 ghost use Rattle.pgv_row.specs.OnePassLemmas.{last_in_one_pass, further_in_one_pass};
 ghost use Rattle.pgv_row.specs.RowView.{Row};
 ghost use Rattle.pgv_row.specs.Tuples.{column_parse, columns_parse, GivesField, GivesFields, IsFirstRefused, IsRefused};
@@ -35,7 +35,7 @@ pub trait FromRow: Sized + Drop {
     ghost fits: { List Column → Fit };
 
     /// What is read from the frames of a row, and what is left of them.
-    ghost in_front: { List Column → List ℕ → Outcome (View × Left) };
+    ghost in_front: { List Column → List ℕ → Outcome (View × ColumnsLeft) };
 
     /// The errors that the frames may be refused with.
     ghost refused_in_front: { List Column → List ℕ → Error ℕ → Type 0 };
@@ -84,7 +84,7 @@ pub trait ColumnList: Sized + Drop {
     ghost fits: { List Column → ℕ → Fit };
 
     /// What is read from the frames of the columns from a place on, and what is left of them.
-    ghost in_front: { List Column → ℕ → List ℕ → Outcome (View × Left) };
+    ghost in_front: { List Column → ℕ → List ℕ → Outcome (View × ColumnsLeft) };
 
     /// The errors that these frames may be refused with.
     ghost refused_in_front: { List Column → ℕ → List ℕ → Error ℕ → Type 0 };
@@ -167,7 +167,7 @@ fn check_column<T: Type>(
 /// The value of a frame in front in binary, if it is read at once, whatever its type is, and the rest. It is for speed
 /// alone.
 #[inline(always)]
-#[tactic(auto, unfolding(crate::specs::OnePass::part_value, crate::specs::OnePass::value_in_front))]
+#[tactic(auto, unfolding(crate::specs::OnePass::value_of_part, crate::specs::OnePass::value_in_front))]
 fn value_at_once<'r, T: Decode>(column: &PgColumn<'_>, bytes: &'r [u8]) -> Option<(T, &'r [u8])>
     ensures { IfSome result (λ x.
         ((value_in_front T.parse column.now bytes.now).answer ≡ Ok (T.view x.0, x.1.now))
@@ -187,13 +187,13 @@ fn value_at_once<'r, T: Decode>(column: &PgColumn<'_>, bytes: &'r [u8]) -> Optio
 /// What `T` reads from a part, or from null, under a copy of its column's type.
 #[cold]
 #[inline(never)]
-#[tactic(auto, unfolding(crate::specs::OnePass::part_value))]
+#[tactic(auto, unfolding(crate::specs::OnePass::value_of_part))]
 fn decode_part<T: Decode>(
     alloc: Global,
     column: &PgColumn<'_>,
     part: Option<&[u8]>,
 ) -> Result<T, CodecError>
-    ensures { Gives T.view (part_value T.parse column.now (option_copied part.entry)) result }
+    ensures { Gives T.view (value_of_part T.parse column.now (option_copied part.entry)) result }
 {
     let type_info = column.type_info().clone()?;
     T::decode(alloc, PgValueRef::new(part, type_info, column.format()))
@@ -202,13 +202,13 @@ fn decode_part<T: Decode>(
 /// What `T` reads from a part, or from null: under its own type where the column has this built-in one, so that none is
 /// copied.
 #[inline(always)]
-#[tactic(auto, unfolding(crate::specs::OnePass::part_value))]
+#[tactic(auto, unfolding(crate::specs::OnePass::value_of_part))]
 fn read_under_own_type<T: Type + Decode>(
     alloc: Global,
     column: &PgColumn<'_>,
     part: Option<&[u8]>,
 ) -> Result<T, CodecError>
-    ensures { Gives T.view (part_value T.parse column.now (option_copied part.entry)) result }
+    ensures { Gives T.view (value_of_part T.parse column.now (option_copied part.entry)) result }
 {
     let own = T::type_info();
     if column.type_info().is_same_built_in(&own) {
@@ -219,13 +219,13 @@ fn read_under_own_type<T: Type + Decode>(
 
 /// What `T` reads from a part, or from null, under its column's type and in its format.
 #[inline(always)]
-#[tactic(auto, unfolding(crate::specs::OnePass::part_value))]
+#[tactic(auto, unfolding(crate::specs::OnePass::value_of_part))]
 fn read_part<T: Type + Decode>(
     alloc: Global,
     column: &PgColumn<'_>,
     part: Option<&[u8]>,
 ) -> Result<T, CodecError>
-    ensures { Gives T.view (part_value T.parse column.now (option_copied part.entry)) result }
+    ensures { Gives T.view (value_of_part T.parse column.now (option_copied part.entry)) result }
 {
     if T::width_at_once() > 0 && part.is_some() {
         return decode_part(alloc, column, part);

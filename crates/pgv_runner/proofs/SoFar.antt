@@ -3,7 +3,7 @@ use Rattle.std.proofs.Common.{◌≡◌, ◌≢◌, ◌++◌, ◌∙◌, sym, ap
 use Rattle.std.specs.Prelude.{Option, Some, None, IfSome, ⊤}
 use Rattle.std.specs.Io.KnownBytes.{Appends, IsAtEnd, Keeps}
 use Rattle.std.specs.Io.BufRead.{take_through, drop_through, DropsThrough}
-use Rattle.pgv_session.specs.Lines.{before}
+use Rattle.pgv_session.specs.Lines.{text_before}
 use Rattle.pgv_session.specs.Session.{State, AnswersLine, IsSession, lines_of}
 use Rattle.pgv_session.proofs.Feeds.{first_line}
 
@@ -21,14 +21,14 @@ appended (Some os) (Some ws) None xs ys p q = absurd q
 appended (Some os) (Some ws) (Some vs) xs ys p q = q ∙ (λ i. p i ++ ys) ∙ append_assoc os xs ys
 
 -- one more line, which the lines after it follow
-with_line : (was now : State) (y : ℕ) (ys line text rest : List ℕ) → line ≡ take_through 10 (y ∷ ys) → AnswersLine (before 10 line) was text now →
+with_line : (was now : State) (y : ℕ) (ys line text rest : List ℕ) → line ≡ take_through 10 (y ∷ ys) → AnswersLine (text_before 10 line) was text now →
     IsSession now (lines_of (drop_through 10 (y ∷ ys))) rest → IsSession was (lines_of (y ∷ ys)) (text ++ 10 ∷ rest)
 with_line was now y ys line text rest e a s =
     subst (λ lines. IsSession was lines (text ++ 10 ∷ rest)) (sym (first_line y ys))
-    (text, now, rest, subst (λ (l : List ℕ). AnswersLine (before 10 l) was text now) e a, refl, s)
+    (text, now, rest, subst (λ (l : List ℕ). AnswersLine (text_before 10 l) was text now) e a, refl, s)
 
 pub so_far : (a b c o w v : Option (List ℕ)) (was now : State) (line text : List ℕ) → IsSoFar a b o w was → line ≢ [] →
-    IfSome b (λ xs. line ≡ take_through 10 xs) → DropsThrough b c 10 → AnswersLine (before 10 line) was text now → Appends w v (text ++ 10 ∷ []) → IsSoFar a c o v now
+    IfSome b (λ xs. line ≡ take_through 10 xs) → DropsThrough b c 10 → AnswersLine (text_before 10 line) was text now → Appends w v (text ++ 10 ∷ []) → IsSoFar a c o v now
 so_far None b c o w v was now line text h n t d r p = tt
 so_far (Some xs) None c o w v was now line text h n t d r p = absurd h
 so_far (Some xs) (Some []) c o w v was now line text h n t d r p = absurd (n t)

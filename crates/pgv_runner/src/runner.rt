@@ -3,7 +3,7 @@
 ghost use Rattle.std.specs.Prelude.{◌≡◌, ◌++◌, ◌∷◌, [], List, ℕ, IfSome, OnOk};
 ghost use Rattle.std.specs.Io.KnownBytes.{Appends, IsAtEnd, Keeps};
 ghost use Rattle.pgv_session.specs.Session.{AnswersLine, IsSession, lines_of};
-ghost use Rattle.pgv_session.specs.Lines.{before};
+ghost use Rattle.pgv_session.specs.Lines.{text_before};
 ghost use Rattle.pgv_runner.specs.Faults.{text_of_fault};
 
 use pgv_session::{answer, split_at_byte};
@@ -125,8 +125,8 @@ fn respond<W: Write>(
     line: &[u8],
     writer: &mut W,
 ) -> Result<(), RunFault>
-    ensures { OnOk result ((text : List ℕ) × AnswersLine (before 10 line.now) arguments.old text
-        arguments.new × Appends (W.contents writer.old) (W.contents writer.new) (text ++ 10 ∷ [])) }
+    ensures { OnOk result ((text : List ℕ) × AnswersLine (text_before 10 line.now)
+        arguments.old text arguments.new × Appends (W.contents writer.old) (W.contents writer.new) (text ++ 10 ∷ [])) }
 {
     let (line, _) = split_at_byte(line, b'\n');
     let Ok(mut text) = answer(alloc, arguments, line) else {

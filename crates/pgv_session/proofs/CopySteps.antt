@@ -9,17 +9,17 @@ use Rattle.std.specs.declared.string.String.{String}
 use Rattle.std.specs.declared.alloc.Global.{Global}
 use Rattle.pgv_types.specs.Ty.{Ty}
 use Rattle.pgv_value.specs.Codes.{code_of}
-use Rattle.pgv_value.specs.Outcome.{Fails, after, exactly}
+use Rattle.pgv_value.specs.Outcome.{Fails, after, in_place}
 use Rattle.pgv_value.specs.ValueView.{Given}
 use Rattle.pgv_value.specs.declared.error.CodecError.{CodecError}
 use Rattle.pgv_value.specs.declared.error.CodecError.TheVariants.{Memory}
 use Rattle.pgv_value.specs.declared.value.PgValueFormat.TheVariants.{Binary as InBinary}
 use Rattle.pgv_value.specs.Parsed.{Parsed}
-use Rattle.pgv_copy.specs.CopyBinary.{Step, header, before, step, next_row, row_takes}
+use Rattle.pgv_copy.specs.CopyBinary.{Step, after_header, reader_before, step, next_row, row_takes}
 use Rattle.pgv_copy.specs.CopyView.{Copying}
 use Rattle.pgv_session.specs.CopiedView.{infos, ShowsField, FieldsFrom, ShowsRow, CopiesIn, YieldsIn}
-use Rattle.pgv_session.specs.Lines.{before as before_mark, rest_after, words, with_first}
-use Rattle.pgv_session.specs.Session.{State, RespondsBy, fields_shown, row_shown, rows_named, Yields, EndsWith, CopiesFrom, Reads, refused, RefusedAs}
+use Rattle.pgv_session.specs.Lines.{text_before, text_after, words, with_first}
+use Rattle.pgv_session.specs.Session.{State, RespondsBy, fields_shown, row_shown, rows_named, Yields, EndsWith, CopiesFrom, ReadsFrame, refused, RefusedAs}
 use Rattle.pgv_session.specs.Spelled.{to_read}
 use Rattle.pgv_session.specs.ToldView.{told_text, TellsOf}
 use Rattle.pgv_session.specs.Types.{LineType, types, row_named}
@@ -32,21 +32,21 @@ Text = String Global
 
 -- ---- names
 
-pub name_more : (done done' : List (List ℕ)) (name text all : List ℕ) (rest : Option (List ℕ)) → done' ≡ done ++ name ∷ [] → rest ≡ rest_after 32 text → name ≡ before_mark 32 text →
+pub name_more : (done done' : List (List ℕ)) (name text all : List ℕ) (rest : Option (List ℕ)) → done' ≡ done ++ name ∷ [] → rest ≡ text_after 32 text → name ≡ text_before 32 text →
     done ++ words text ≡ words all → done' ++ words_after rest ≡ words all
 name_more done done' name text all rest d r n h =
-    rw (d, r, n) (append_assoc done (before_mark 32 text ∷ []) (words_after (rest_after 32 text)) ∙ (ap (λ (ws : List (List ℕ)). done ++ ws) (sym (words_split text)) ∙ h))
+    rw (d, r, n) (append_assoc done (text_before 32 text ∷ []) (words_after (text_after 32 text)) ∙ (ap (λ (ws : List (List ℕ)). done ++ ws) (sym (words_split text)) ∙ h))
 
 -- ---- types
 
 -- ---- fields
 
-read_said : (f : Option Framed) (why : Option CodecError) (bytes : List ℕ) (text : Text) → Reads f why (Some bytes) (string_bytes text) → IsSome f →
+read_said : (f : Option Framed) (why : Option CodecError) (bytes : List ℕ) (text : Text) → ReadsFrame f why (Some bytes) (string_bytes text) → IsSome f →
     option_map (λ g. encode_lower (shown (blank g.1))) f ≡ Some (string_bytes text)
 read_said None why bytes text h s = absurd cc
 read_said (Some g) why bytes text h s = ap (λ (t : List ℕ). Some t) (sym h)
 
-read_refused : (f : Option Framed) (why : Option CodecError) (bytes answer : List ℕ) → Reads f why (Some bytes) answer → f ≡ None →
+read_refused : (f : Option Framed) (why : Option CodecError) (bytes answer : List ℕ) → ReadsFrame f why (Some bytes) answer → f ≡ None →
     (option_map (λ g. encode_lower (shown (blank g.1))) f ≡ None) × RefusedAs why answer
 read_refused None why bytes answer h n = (refl, h)
 read_refused (Some g) why bytes answer h n = absurd cc
@@ -109,10 +109,10 @@ pub row_more : (w : Option (List LineType)) (types : List Ty) (rest : List ℕ) 
     texts' ≡ texts ++ string_bytes text ∷ [] → YieldsIn w types rest texts' c
 row_more None column_types rest texts texts' b c row text y s t p = tt
 row_more (Some columns) column_types rest texts texts' b c row text y s t p =
-    λ e. subst (λ (ts : List (List ℕ)). Yields columns (before (infos columns) rest) ts c) (sym p) (yields_more columns (before (infos columns) rest) b c texts row (string_bytes text) (y e) s t)
+    λ e. subst (λ (ts : List (List ℕ)). Yields columns (reader_before (infos columns) rest) ts c) (sym p) (yields_more columns (reader_before (infos columns) rest) b c texts row (string_bytes text) (y e) s t)
 
-ends : (w : Option (List LineType)) (types : List Ty) (bytes rest : List ℕ) (texts : List (List ℕ)) (reader : Copying) (answer : List ℕ) → header bytes ≡ Ok rest → YieldsIn w types rest texts reader →
-    ((columns : List LineType) → w ≡ Some columns → EndsWith columns texts (step reader) answer) → CopiesIn w types (header bytes) answer
+ends : (w : Option (List LineType)) (types : List Ty) (bytes rest : List ℕ) (texts : List (List ℕ)) (reader : Copying) (answer : List ℕ) → after_header bytes ≡ Ok rest → YieldsIn w types rest texts reader →
+    ((columns : List LineType) → w ≡ Some columns → EndsWith columns texts (step reader) answer) → CopiesIn w types (after_header bytes) answer
 ends None column_types bytes rest texts reader answer hd y a = tt
 ends (Some columns) column_types bytes rest texts reader answer hd y a =
     λ e. subst (λ (r : Parsed (List ℕ)). CopiesFrom columns r answer) (sym hd) (texts, reader, y e, a columns refl)
@@ -120,26 +120,26 @@ ends (Some columns) column_types bytes rest texts reader answer hd y a =
 refused_here : (w : Option (List LineType)) (columns : List LineType) (row : List Given) (text : Text) → w ≡ Some columns → ShowsRow w row (Refused text) → ShowsRow (Some columns) row (Refused text)
 refused_here w columns row text e h = subst (λ (x : Option (List LineType)). ShowsRow x row (Refused text)) e h
 
-pub row_stops : (w : Option (List LineType)) (types : List Ty) (bytes rest : List ℕ) (texts : List (List ℕ)) (reader next : Copying) (row : List Given) (text : Text) → header bytes ≡ Ok rest → YieldsIn w types rest texts reader →
-    step reader ≡ Ok (Some row, next) → ShowsRow w row (Refused text) → CopiesIn w types (header bytes) (string_bytes text)
+pub row_stops : (w : Option (List LineType)) (types : List Ty) (bytes rest : List ℕ) (texts : List (List ℕ)) (reader next : Copying) (row : List Given) (text : Text) → after_header bytes ≡ Ok rest → YieldsIn w types rest texts reader →
+    step reader ≡ Ok (Some row, next) → ShowsRow w row (Refused text) → CopiesIn w types (after_header bytes) (string_bytes text)
 row_stops w types bytes rest texts reader next row text hd y s t =
     ends w types bytes rest texts reader (string_bytes text) hd y (λ columns e. subst (λ (x : Step). EndsWith columns texts x (string_bytes text)) (sym s) (refused_here w columns row text e t))
 
 -- an error of a call that is not out of memory is the step's
-step_fails : (s : Step) (takes : Bool) (e : CodecError) → Fails e (after takes (exactly s)) → e ≢ Memory → s ≡ Err e
+step_fails : (s : Step) (takes : Bool) (e : CodecError) → Fails e (after takes (in_place s)) → e ≢ Memory → s ≡ Err e
 step_fails (Ok x) takes e (inl h) n = absurd cc
 step_fails (Err d) takes e (inl h) n = cc
 step_fails (Ok x) takes e (inr (inl h)) n = absurd (let no : ◌≡◌ {A = Result (Option (List Given) × Copying) (Option CodecError)} (Ok x) (Err None) = h.0 in cc)
 step_fails (Err d) takes e (inr (inl h)) n = absurd (let no : ◌≡◌ {A = Result (Option (List Given) × Copying) (Option CodecError)} (Err (Some d)) (Err None) = h.0 in cc)
 step_fails s takes e (inr (inr h)) n = absurd (n h.0)
 
-stream_stops : (w : Option (List LineType)) (types : List Ty) (bytes rest : List ℕ) (texts : List (List ℕ)) (reader : Copying) (e : CodecError) (answer : List ℕ) → header bytes ≡ Ok rest → YieldsIn w types rest texts reader →
-    step reader ≡ Err e → answer ≡ refused (code_of e) → CopiesIn w types (header bytes) answer
+stream_stops : (w : Option (List LineType)) (types : List Ty) (bytes rest : List ℕ) (texts : List (List ℕ)) (reader : Copying) (e : CodecError) (answer : List ℕ) → after_header bytes ≡ Ok rest → YieldsIn w types rest texts reader →
+    step reader ≡ Err e → answer ≡ refused (code_of e) → CopiesIn w types (after_header bytes) answer
 stream_stops w types bytes rest texts reader e answer hd y s t =
     ends w types bytes rest texts reader answer hd y (λ columns q. subst (λ (x : Step). EndsWith columns texts x answer) (sym s) t)
 
-pub stream_refused : (w : Option (List LineType)) (types : List Ty) (bytes rest : List ℕ) (texts : List (List ℕ)) (reader : Copying) (e : CodecError) (r : Result Text AllocError) → header bytes ≡ Ok rest → YieldsIn w types rest texts reader →
-    Fails e (next_row reader) → IfOk r (λ text. e ≢ Memory) → IfOk r (λ text. string_bytes text ≡ refused (code_of e)) → IfOk r (λ text. CopiesIn w types (header bytes) (string_bytes text))
+pub stream_refused : (w : Option (List LineType)) (types : List Ty) (bytes rest : List ℕ) (texts : List (List ℕ)) (reader : Copying) (e : CodecError) (r : Result Text AllocError) → after_header bytes ≡ Ok rest → YieldsIn w types rest texts reader →
+    Fails e (next_row reader) → IfOk r (λ text. e ≢ Memory) → IfOk r (λ text. string_bytes text ≡ refused (code_of e)) → IfOk r (λ text. CopiesIn w types (after_header bytes) (string_bytes text))
 stream_refused w column_types bytes rest texts reader e (Err x) hd y s n t = tt
 stream_refused w column_types bytes rest texts reader e (Ok text) hd y s n t =
     stream_stops w column_types bytes rest texts reader e (string_bytes text) hd y (step_fails (step reader) (row_takes 0 reader) e s n) t

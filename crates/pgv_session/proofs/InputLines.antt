@@ -2,7 +2,7 @@
 use Rattle.std.proofs.Common.{◌≡◌, ◌≢◌, ◌++◌, ◌∙◌, sym, ap, subst, ℕ, ◌==◌, Bool, true, false, List, [], ◌∷◌, refl, append_assoc, append-nil}
 use Rattle.std.specs.List.{AllByRecursion}
 use Rattle.std.proofs.lemmas.Bool.{eqb-true, eqb-false, ne_eqb}
-use Rattle.pgv_session.specs.Session.{line_more, lines_from, lines_of, ended, HasNoLineFeed, AreLines}
+use Rattle.pgv_session.specs.Session.{line_more, lines_from, lines_of, full_lines, HasNoLineFeed, AreLines}
 use Rattle.pgv_session.specs.LineLaws.{InputIsItsLines}
 
 one_more : (begun : List ℕ) (c : ℕ) → HasNoLineFeed begun → c ≢ 10 → HasNoLineFeed (begun ++ c ∷ [])
@@ -21,8 +21,8 @@ lines_by begun c cs true e h rest_after further = record {
   unended = rest_after.unended;
   whole =
       ap (λ (xs : List ℕ). begun ++ c ∷ xs) rest_after.whole
-      ∙ (ap (λ (d : ℕ). begun ++ d ∷ (ended rest_after.full ++ rest_after.last)) (eqb-true c 10 e)
-      ∙ sym (append_assoc begun (10 ∷ ended rest_after.full) rest_after.last));
+      ∙ (ap (λ (d : ℕ). begun ++ d ∷ (full_lines rest_after.full ++ rest_after.last)) (eqb-true c 10 e)
+      ∙ sym (append_assoc begun (10 ∷ full_lines rest_after.full) rest_after.last));
   lines_are = rw e (ap (λ (ls : List (List ℕ)). begun ∷ ls) rest_after.lines_are);
 }
 lines_by begun c cs false e h rest_after further =
@@ -52,11 +52,11 @@ last_line begun [] h = ap (λ (l : List ℕ). line_more l []) (sym (append-nil b
 last_line begun (c ∷ last) h =
     rw (ne_eqb c 10 h.0) (last_line (begun ++ c ∷ []) last h.1 ∙ ap (λ (l : List ℕ). line_more l []) (append_assoc begun (c ∷ []) last))
 
-lines_there : (full : List (List ℕ)) (last : List ℕ) → AllByRecursion HasNoLineFeed full → HasNoLineFeed last → lines_of (ended full ++ last) ≡ full ++ line_more last []
+lines_there : (full : List (List ℕ)) (last : List ℕ) → AllByRecursion HasNoLineFeed full → HasNoLineFeed last → lines_of (full_lines full ++ last) ≡ full ++ line_more last []
 lines_there [] last h n = last_line [] last n
 lines_there (line ∷ full) last h n =
-    ap lines_of (append_assoc line (10 ∷ ended full) last)
-    ∙ (full_line [] line (ended full ++ last) h.0 ∙ ap (λ (ls : List (List ℕ)). line ∷ ls) (lines_there full last h.1 n))
+    ap lines_of (append_assoc line (10 ∷ full_lines full) last)
+    ∙ (full_line [] line (full_lines full ++ last) h.0 ∙ ap (λ (ls : List (List ℕ)). line ∷ ls) (lines_there full last h.1 n))
 
 pub lines_exactly : InputIsItsLines
 unfolding InputIsItsLines

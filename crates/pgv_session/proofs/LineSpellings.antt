@@ -9,7 +9,7 @@ use Rattle.pgv_types.specs.declared.oid.Oid.{Oid}
 use Rattle.pgv_more.specs.ByteaText.{ArePairs}
 use Rattle.pgv_session.specs.declared.line.Request.{Request as Parsed}
 use Rattle.pgv_session.specs.RequestsView.{request_seen}
-use Rattle.pgv_session.specs.Lines.{first_word, after_word, words, oids_named, given_bytes, added, read_of, alone, add_line, null_line, resolve_line, read_line, copied, copy_line, hex_bytes, request}
+use Rattle.pgv_session.specs.Lines.{first_word, after_word, words, oids_named, given_bytes, added, read_of, alone, add_line, null_line, resolve_line, read_line, copy_request, copy_line, hex_bytes, request}
 use Rattle.pgv_session.specs.Spelled.{Request, asks, to_add, to_add_null, to_read, asks_holes, resolves, asks_wire, copies, IsName, SpellsNames, SpellsOids, SpellsPart, Spells, Asks}
 use Rattle.pgv_session.proofs.SplitLines.{joined, whole, split_joined, word_or, before_has_none, none_after}
 use Rattle.pgv_session.proofs.OidWords.{oids_are, oids_found}
@@ -62,7 +62,7 @@ read_spelled line r None l h = absurd cc
 read_spelled line r (Some text) l h = read_spelled_by line text r (after_word text) l (whole 32 text) h
 
 copied_spelled : (line text : List ℕ) (r : Request) (decoded : Result (List ℕ) FromHexError) (body : Option (List ℕ)) → line ≡ codes "copy " ++ text → text ≡ joined 32 (first_word text) body →
-    decode_of (first_word text) ≡ decoded → copied (hex_bytes decoded) body ≡ Some r → Spells r line
+    decode_of (first_word text) ≡ decoded → copy_request (hex_bytes decoded) body ≡ Some r → Spells r line
 copied_spelled line text r (Err e) body l split d h = absurd cc
 copied_spelled line text r (Ok bytes) None l split d h = absurd cc
 copied_spelled line text r (Ok bytes) (Some names) l split d h =

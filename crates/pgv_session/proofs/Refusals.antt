@@ -15,7 +15,7 @@ use Rattle.pgv_wire.specs.Arguments.{argument_frame}
 use Rattle.pgv_codec.specs.Encoding.{Encoding, frame, value_type}
 use Rattle.pgv_value.specs.Outcome.{Outcome, Fails, ok_of, why_of}
 use Rattle.pgv_session.specs.Types.{framed_as}
-use Rattle.pgv_session.specs.Session.{State, Adds, Resolves, refused, IsRefusal, RefusedAs}
+use Rattle.pgv_session.specs.Session.{State, AddsLine, Resolves, refused, IsRefusal, RefusedAs}
 
 abbrev pub Text : Type 0
 Text = String Global
@@ -28,10 +28,10 @@ refused_as o e answer (inr (inr h)) n refusal told = absurd (n h.0)
 
 -- what is refused is not added
 pub not_added : (info : Ty) (v : Encoding) (e : CodecError) (was now : State) (r : Result Text AllocError) → Fails e (argument_frame v) → now ≡ was →
-    IfOk r (λ text. IsRefusal (string_bytes text)) → IfOk r (λ text. e ≢ Memory) → IfOk r (λ text. string_bytes text ≡ refused (code_of e)) → IfOk r (λ text. Adds (framed_as info v) (why_of (frame v).answer) was (string_bytes text) now)
+    IfOk r (λ text. IsRefusal (string_bytes text)) → IfOk r (λ text. e ≢ Memory) → IfOk r (λ text. string_bytes text ≡ refused (code_of e)) → IfOk r (λ text. AddsLine (framed_as info v) (why_of (frame v).answer) was (string_bytes text) now)
 not_added info v e was now (Ok text) fault same refusal n told =
     let h = refused_as (argument_frame v) e (string_bytes text) fault n refusal told in
-    subst (λ g. Adds g (why_of (frame v).answer) was (string_bytes text) now) (sym (ap (option_map (λ ts. (value_type info v, ts))) h.0)) (h.1, same)
+    subst (λ g. AddsLine g (why_of (frame v).answer) was (string_bytes text) now) (sym (ap (option_map (λ ts. (value_type info v, ts))) h.0)) (h.1, same)
 not_added info v e was now (Err x) fault same refusal n told = tt
 
 -- `refused Cn`, of an error

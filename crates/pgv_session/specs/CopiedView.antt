@@ -6,7 +6,7 @@ use Rattle.pgv_types.specs.Ty.{Ty}
 use Rattle.pgv_value.specs.ValueView.{Given}
 use Rattle.pgv_value.specs.declared.value.PgValueFormat.TheVariants.{Binary as InBinary}
 use Rattle.pgv_value.specs.Parsed.{Parsed}
-use Rattle.pgv_copy.specs.CopyBinary.{before}
+use Rattle.pgv_copy.specs.CopyBinary.{reader_before}
 use Rattle.pgv_copy.specs.CopyView.{Copying}
 use Rattle.pgv_session.specs.Session.{field_shown, fields_shown, row_shown, row_refused, Yields, CopiesFrom, RefusedAs}
 use Rattle.pgv_session.specs.Types.{LineType}
@@ -48,4 +48,4 @@ CopiesIn (Some columns) types rest answer = types ≡ infos columns → CopiesFr
 -- what was answered so far
 abbrev pub YieldsIn : Option (List LineType) → List Ty → List ℕ → List (List ℕ) → Copying → Type 0
 YieldsIn None types rest texts reader = ⊤
-YieldsIn (Some columns) types rest texts reader = types ≡ infos columns → Yields columns (before (infos columns) rest) texts reader
+YieldsIn (Some columns) types rest texts reader = types ≡ infos columns → Yields columns (reader_before (infos columns) rest) texts reader

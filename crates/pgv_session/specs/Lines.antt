@@ -5,25 +5,25 @@ use Rattle.std.specs.Prelude.{ℕ, ◌==◌, nat_lt, Bool, false, codes, bytes_e
 use Rattle.hex.specs.Hex.{decode_of}
 use Rattle.hex.specs.declared.error.FromHexError.{FromHexError}
 use Rattle.pgv_types.specs.declared.oid.Oid.{Oid}
-use Rattle.pgv_text.specs.NumberText.{unsigned_value}
+use Rattle.pgv_text.specs.IntText.{unsigned_value}
 use Rattle.pgv_value.specs.Utf8.{is_utf8}
 use Rattle.pgv_session.specs.Spelled.{Request, asks, to_add, to_add_null, to_read, asks_holes, resolves, asks_wire, copies}
 
 -- what is before the first byte of a kind, and after it where there is one
-abbrev pub before : ℕ → List ℕ → List ℕ
-before mark [] = []
-before mark (c ∷ cs) = if c == mark then [] else c ∷ before mark cs
+abbrev pub text_before : ℕ → List ℕ → List ℕ
+text_before mark [] = []
+text_before mark (c ∷ cs) = if c == mark then [] else c ∷ text_before mark cs
 
-abbrev pub rest_after : ℕ → List ℕ → Option (List ℕ)
-rest_after mark [] = None
-rest_after mark (c ∷ cs) = if c == mark then Some cs else rest_after mark cs
+abbrev pub text_after : ℕ → List ℕ → Option (List ℕ)
+text_after mark [] = None
+text_after mark (c ∷ cs) = if c == mark then Some cs else text_after mark cs
 
 -- the first word, which ends at a space or with the line, and what comes after the space
 abbrev pub first_word : List ℕ → List ℕ
-first_word line = before 32 line
+first_word line = text_before 32 line
 
 abbrev pub after_word : List ℕ → Option (List ℕ)
-after_word line = rest_after 32 line
+after_word line = text_after 32 line
 
 -- one more character at the front of the first word
 abbrev pub at_first : ℕ → List (List ℕ) → List (List ℕ)
@@ -47,12 +47,12 @@ with_first (Some x) None = None
 with_first (Some x) (Some xs) = Some (x ∷ xs)
 
 -- digits up to 4294967295; 43 is `+`
-abbrev pub oid_of : Option ℕ → Option Oid
-oid_of None = None
-oid_of (Some n) = if nat_lt n 4294967296 then Some (record { 0 = n }) else None
+abbrev pub spelled_oid : Option ℕ → Option Oid
+spelled_oid None = None
+spelled_oid (Some n) = if nat_lt n 4294967296 then Some (record { 0 = n }) else None
 
 abbrev pub oid_named : List ℕ → Option Oid
-oid_named word = if is_utf8 word then (if starts_with_plus word then None else oid_of (unsigned_value word)) else None
+oid_named word = if is_utf8 word then (if starts_with_plus word then None else spelled_oid (unsigned_value word)) else None
 
 abbrev pub oids_named : List (List ℕ) → Option (List Oid)
 oids_named [] = Some []
@@ -76,10 +76,10 @@ abbrev pub read_of : List ℕ → Option (List ℕ) → Option Request
 read_of name None = None
 read_of name (Some text) = option_map (λ part. asks name (to_read part)) (given_bytes text)
 
-abbrev pub copied : Option (List ℕ) → Option (List ℕ) → Option Request
-copied (Some bytes) (Some text) = Some (copies bytes (words text))
-copied (Some bytes) None = None
-copied None text = None
+abbrev pub copy_request : Option (List ℕ) → Option (List ℕ) → Option Request
+copy_request (Some bytes) (Some text) = Some (copies bytes (words text))
+copy_request (Some bytes) None = None
+copy_request None text = None
 
 -- what comes after the first word, by that word
 abbrev pub alone : Request → Option (List ℕ) → Option Request
@@ -104,7 +104,7 @@ read_line (Some text) = read_of (first_word text) (after_word text)
 
 abbrev pub copy_line : Option (List ℕ) → Option Request
 copy_line None = None
-copy_line (Some text) = copied (hex_bytes (decode_of (first_word text))) (after_word text)
+copy_line (Some text) = copy_request (hex_bytes (decode_of (first_word text))) (after_word text)
 
 abbrev pub request_by : List ℕ → Option (List ℕ) → Option Request
 request_by verb rest =

@@ -18,7 +18,7 @@ use Rattle.pgv_value.specs.Codes.{code_of}
 use Rattle.pgv_value.specs.ValueView.{Given}
 use Rattle.pgv_value.specs.declared.error.CodecError.{CodecError}
 use Rattle.pgv_value.specs.Parsed.{Parsed}
-use Rattle.pgv_copy.specs.CopyBinary.{Step, header, before, step}
+use Rattle.pgv_copy.specs.CopyBinary.{Step, after_header, reader_before, step}
 use Rattle.pgv_copy.specs.CopyView.{Copying}
 use Rattle.pgv_value.specs.declared.value.PgValueFormat.TheVariants.{Text as InText, Binary as InBinary}
 use Rattle.pgv_wire.specs.Arguments.{Argument, Framed, all_tokens, types_in, filled_arguments}
@@ -48,17 +48,17 @@ abbrev pub RefusedAs : Option CodecError → List ℕ → Type 0
 RefusedAs why answer = IsRefusal answer × IfSome why (λ stated. answer ≡ refused (code_of stated))
 
 -- what is accepted is added, and what is refused changes nothing
-abbrev pub Adds : Option Framed → Option CodecError → State → List ℕ → State → Type 0
-Adds None why was answer now = RefusedAs why answer × (now ≡ was)
-Adds (Some f) why was answer now = (answer ≡ placeholder now) × (now ≡ was ++ (f.0, blank f.1) ∷ [])
+abbrev pub AddsLine : Option Framed → Option CodecError → State → List ℕ → State → Type 0
+AddsLine None why was answer now = RefusedAs why answer × (now ≡ was)
+AddsLine (Some f) why was answer now = (answer ≡ placeholder now) × (now ≡ was ++ (f.0, blank f.1) ∷ [])
 
 -- the value that a text is, under a TYPE
 abbrev pub AddsText : LineType → List ℕ → State → List ℕ → State → Type 0
-AddsText row text was answer now = Adds (row.value InText (Some text)) (row.refusal InText (Some text)) was answer now
+AddsText row text was answer now = AddsLine (row.value InText (Some text)) (row.refusal InText (Some text)) was answer now
 
 -- null, which every TYPE has
 abbrev pub AddsNull : LineType → State → List ℕ → State → Type 0
-AddsNull row was answer now = Adds (Some (row.info, bytes (be4 4294967295))) None was answer now
+AddsNull row was answer now = AddsLine (Some (row.info, bytes (be4 4294967295))) None was answer now
 
 -- the display names, with one space before each
 abbrev pub names_after : List Ty → List ℕ
@@ -81,13 +81,13 @@ Shows None why answer = RefusedAs why answer
 Shows (Some f) why answer = answer ≡ encode_lower (shown (blank f.1))
 
 -- the same of the value that null or bytes are; a null that is not read is C13
-abbrev pub Reads : Option Framed → Option CodecError → Option (List ℕ) → List ℕ → Type 0
-Reads (Some f) why part answer = Shows (Some f) why answer
-Reads None why (Some bytes) answer = Shows None why answer
-Reads None why None answer = answer ≡ refused 13
+abbrev pub ReadsFrame : Option Framed → Option CodecError → Option (List ℕ) → List ℕ → Type 0
+ReadsFrame (Some f) why part answer = Shows (Some f) why answer
+ReadsFrame None why (Some bytes) answer = Shows None why answer
+ReadsFrame None why None answer = answer ≡ refused 13
 
 abbrev pub ReadsPart : LineType → Option (List ℕ) → List ℕ → Type 0
-ReadsPart row part answer = Reads (row.value InBinary part) (row.refusal InBinary part) part answer
+ReadsPart row part answer = ReadsFrame (row.value InBinary part) (row.refusal InBinary part) part answer
 
 -- what is asked of a value, by the row of its TYPE, where that has one
 abbrev pub RespondsBy : Option LineType → Ask → State → List ℕ → State → Type 0
@@ -157,11 +157,11 @@ EndsWith columns texts (Ok (Some row, next)) answer = (row_shown columns row ≡
 abbrev pub CopiesFrom : List LineType → Parsed (List ℕ) → List ℕ → Type 0
 CopiesFrom columns (Err e) answer = answer ≡ refused (code_of e)
 CopiesFrom columns (Ok rest) answer =
-    (texts : List (List ℕ)) × (last : Copying) × Yields columns (before (map (λ c. c.info) columns) rest) texts last × EndsWith columns texts (step last) answer
+    (texts : List (List ℕ)) × (last : Copying) × Yields columns (reader_before (map (λ c. c.info) columns) rest) texts last × EndsWith columns texts (step last) answer
 
 abbrev pub Copies : Option (List LineType) → List ℕ → List ℕ → Type 0
 Copies None bytes answer = answer ≡ codes "refused line"
-Copies (Some columns) bytes answer = CopiesFrom columns (header bytes) answer
+Copies (Some columns) bytes answer = CopiesFrom columns (after_header bytes) answer
 
 abbrev pub Responds : Request → State → List ℕ → State → Type 0
 Responds (asks name ask) was answer now = RespondsBy (row_named types name) ask was answer now
@@ -193,9 +193,9 @@ abbrev pub lines_of : List ℕ → List (List ℕ)
 lines_of input = lines_from [] input
 
 -- The same by spellings: full lines, each with its line feed (10), and after them perhaps one without.
-abbrev pub ended : List (List ℕ) → List ℕ
-ended [] = []
-ended (line ∷ lines) = line ++ 10 ∷ ended lines
+abbrev pub full_lines : List (List ℕ) → List ℕ
+full_lines [] = []
+full_lines (line ∷ lines) = line ++ 10 ∷ full_lines lines
 
 abbrev pub HasNoLineFeed : List ℕ → Type 0
 HasNoLineFeed line = AllByRecursion (λ c. c ≢ 10) line
@@ -205,7 +205,7 @@ pub record AreLines (input : List ℕ) (lines : List (List ℕ)) : Type 0 where
   pub last : List ℕ
   pub each : AllByRecursion HasNoLineFeed full
   pub unended : HasNoLineFeed last
-  pub whole : input ≡ ended full ++ last
+  pub whole : input ≡ full_lines full ++ last
   pub lines_are : lines ≡ full ++ line_more last []
 
 -- one answer, with its line feed, for each line

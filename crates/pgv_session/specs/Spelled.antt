@@ -37,7 +37,7 @@ abbrev pub IsName : List ℕ → Type 0
 IsName name = AllByRecursion (λ c. c ≢ 32) name
 
 -- The word is this OID: one decimal digit or more, with no sign; 48 is `0`.
-pub record IsOid (word : List ℕ) (oid : Oid) : Type 0 where
+pub record IsOidWord (word : List ℕ) (oid : Oid) : Type 0 where
   pub digits : List ℕ
   pub some : 0 < length digits
   pub each : AllByRecursion (λ d. d < 10) digits
@@ -48,7 +48,7 @@ pub record IsOid (word : List ℕ) (oid : Oid) : Type 0 where
 -- the OIDs in turn, with one space before each
 abbrev pub SpellsOids : List Oid → List ℕ → Type 0
 SpellsOids [] text = text ≡ []
-SpellsOids (oid ∷ oids) text = (word rest : List ℕ) × IsOid word oid × SpellsOids oids rest × (text ≡ 32 ∷ (word ++ rest))
+SpellsOids (oid ∷ oids) text = (word rest : List ℕ) × IsOidWord word oid × SpellsOids oids rest × (text ≡ 32 ∷ (word ++ rest))
 
 -- the names in turn, with one space between each two
 abbrev pub SpellsNames : List (List ℕ) → List ℕ → Type 0

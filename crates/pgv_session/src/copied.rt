@@ -1,7 +1,7 @@
 //! The rows of a COPY stream, as the program answers them.
 
 ghost use Rattle.std.specs.Prelude.{◌≡◌, IfOk, map, string_bytes};
-ghost use Rattle.pgv_copy.specs.CopyBinary.{header};
+ghost use Rattle.pgv_copy.specs.CopyBinary.{after_header};
 ghost use Rattle.pgv_session.specs.CopiedView.{TypesFrom, ShowsField, FieldsFrom, ShowsRow, CopiesIn};
 ghost use Rattle.pgv_session.specs.Lines.{words};
 ghost use Rattle.pgv_session.specs.Session.{Copies, all_with, rows_named, rows_told};
@@ -65,7 +65,7 @@ fn rows(
     types: Vec<PgTypeInfo>,
 ) -> Result<String, AllocError>
     ensures { IfOk result (λ answer. CopiesIn (rows_named (map (λ name. name.now) names.now))
-        types.items (header bytes.now) (string_bytes answer)) }
+        types.items (after_header bytes.now) (string_bytes answer)) }
 {
     let mut reader = match PgCopyReader::new(bytes, types) {
         Ok(reader) => reader,

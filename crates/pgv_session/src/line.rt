@@ -3,8 +3,8 @@
 ghost use Rattle.std.specs.Prelude.{◌≡◌, option_map, bytes_eq, IfOk};
 ghost use Rattle.std.specs.Option.{option_copied};
 ghost use Rattle.hex.specs.Hex.{decode_of};
-ghost use Rattle.pgv_text.specs.NumberText.{unsigned_value};
-ghost use Rattle.pgv_session.specs.Lines.{before, rest_after, first_word, after_word, words, starts_with_plus, oid_of, oid_named, oids_named, request, given_bytes as bytes_given, alone as alone_by, add_line as added_by, null_line as null_by, resolve_line as resolve_by, read_line as read_by, copy_line as copy_by, hex_bytes as hex_given};
+ghost use Rattle.pgv_text.specs.IntText.{unsigned_value};
+ghost use Rattle.pgv_session.specs.Lines.{text_before, text_after, first_word, after_word, words, starts_with_plus, spelled_oid, oid_named, oids_named, request, given_bytes as bytes_given, alone as alone_by, add_line as added_by, null_line as null_by, resolve_line as resolve_by, read_line as read_by, copy_line as copy_by, hex_bytes as hex_given};
 ghost use Rattle.pgv_session.specs.RequestsView.{request_seen};
 ghost use Rattle.pgv_session.specs.Spelled.{Asks};
 
@@ -43,8 +43,8 @@ pub enum Request<'a> {
 
 /// The bytes before the first `mark`, and those after it, if there is one.
 pub fn split_at_byte(line: &[u8], mark: u8) -> (&[u8], Option<&[u8]>)
-    ensures { (result.0.now ≡ before mark line.now)
-        × (option_copied result.1 ≡ rest_after mark line.now) }
+    ensures { (result.0.now ≡ text_before mark line.now)
+        × (option_copied result.1 ≡ text_after mark line.now) }
 {
     for (place, byte) in line.iter().enumerate() {
         if *byte == mark {
@@ -92,7 +92,7 @@ fn is_plus_first(text: &str) -> bool
 
 /// A number up to 4294967295.
 fn number(text: &str) -> Option<Oid>
-    ensures { result ≡ oid_of (unsigned_value text.now) }
+    ensures { result ≡ spelled_oid (unsigned_value text.now) }
 {
     let number = unsigned_number_of(text).ok()?;
     let oid = u32::try_from(number).ok()?;

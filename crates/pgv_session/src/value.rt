@@ -8,7 +8,7 @@ ghost use Rattle.pgv_value.specs.declared.error.CodecError.TheVariants.{Memory};
 ghost use Rattle.pgv_value.specs.declared.value.PgValueFormat.TheVariants.{Binary as InBinary};
 ghost use Rattle.pgv_codec.specs.Encoding.{frame};
 ghost use Rattle.pgv_session.specs.RequestsView.{ask_seen};
-ghost use Rattle.pgv_session.specs.Session.{RespondsBy, Adds, AddsText, ReadsPart, Shows, IsRefusal, refused, placeholder as placeholder_of};
+ghost use Rattle.pgv_session.specs.Session.{RespondsBy, AddsLine, AddsText, ReadsPart, Shows, IsRefusal, refused, placeholder as placeholder_of};
 ghost use Rattle.pgv_session.specs.Spelled.{to_read};
 ghost use Rattle.pgv_session.specs.ToldView.{told_text, is_said, TellsOf};
 ghost use Rattle.pgv_session.specs.Types.{framed_as, line_type, row_named, row_of, types};
@@ -208,8 +208,9 @@ fn add_value<T: Encode + Type>(
     value: &T,
 ) -> Result<String, AllocError>
     ensures { IfOk result (λ answer.
-        Adds (framed_as T.info (T.encoding value.now))
-        (why_of (frame (T.encoding value.now)).answer) arguments.old (string_bytes answer) arguments.new) }
+        AddsLine (framed_as T.info (T.encoding value.now))
+        (why_of (frame (T.encoding value.now)).answer)
+        arguments.old (string_bytes answer) arguments.new) }
 {
     match arguments.add_by_ref(value) {
         Ok(()) => placeholder(alloc, arguments),

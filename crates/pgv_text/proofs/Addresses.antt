@@ -21,7 +21,7 @@ use Rattle.std.proofs.lemmas.Fmt.{decimal-digits_value}
 use Rattle.std.proofs.lemmas.Str.Parse.{numerals_by_value, tells_digits}
 use Rattle.std.proofs.NetLemmas.Options.{cond_some}
 use Rattle.pgv_text.proofs.Fractions.{chosen}
-use Rattle.pgv_text.proofs.ParsedNumbers.{numeral}
+use Rattle.pgv_text.proofs.ParsedInts.{numeral}
 
 dotted : (text octets : List ℕ) → whole (read_ipv4 text) ≡ Some octets → IsDotted text octets
 dotted text octets e =

@@ -6,7 +6,7 @@ use Rattle.std.specs.Str.{IsUtf8, chars}
 use Rattle.std.proofs.Math.Utf8.{scalar, scalars}
 use Rattle.std.proofs.lemmas.Bool.{and_parts}
 use Rattle.std.proofs.lemmas.Str.{scalars-chars}
-use Rattle.pgv_text.specs.NestPieces.{Item, inner, inner_escaped, doubled, Piece, plain, escaped, quoted, item_spelling, item_meaning, spelled, text_of, joined, Pairwise, Form, IsPart}
+use Rattle.pgv_text.specs.NestPieces.{Item, inner, inner_escaped, doubled, Piece, plain, escaped, quoted, item_spelling, item_meaning, spelled, text_of, comma_joined, Pairwise, Form, IsPart}
 use Rattle.pgv_text.specs.Spellings.{IsOptionalText}
 
 abbrev pub AreScalars : List ℕ → Type 0
@@ -54,7 +54,7 @@ more_scalars (part ∷ parts) h =
     let p = all_parts (spelled part) (flat_map (λ p. 44 ∷ spelled p) parts) h.1 in
     (p.0, more_scalars parts p.1)
 
-pub parts_scalars : (parts : List (List Piece)) → AreScalars (joined parts) → AllByRecursion (λ p. AreScalars (spelled p)) parts
+pub parts_scalars : (parts : List (List Piece)) → AreScalars (comma_joined parts) → AllByRecursion (λ p. AreScalars (spelled p)) parts
 parts_scalars [] h = tt
 parts_scalars (part ∷ parts) h = more_scalars (part ∷ parts) (refl, h)
 

@@ -11,7 +11,7 @@ use Rattle.jiff_core.specs.Date.{epoch_day}
 use Rattle.jiff_core.specs.Time.{time_nanos}
 use Rattle.jiff_core.specs.declared.civil.date.Date.{Date}
 use Rattle.jiff_core.specs.declared.civil.time.Time.{Time}
-use Rattle.pgv_text.specs.FieldText.{after, two, four, fraction, two_digits, four_digits}
+use Rattle.pgv_text.specs.FieldText.{after_byte, two, four, fraction, two_digits, four_digits}
 use Rattle.pgv_text.specs.DateTimeText.{IsDateText, IsClockText, IsTimeText, is_day, day_number, date_front, clock_nanos, clock_front, after_midnight, midnight_or, time_front}
 use Rattle.pgv_text.proofs.DigitFields.{found, then_read, after_is, two_read, two_is, four_read, four_is}
 use Rattle.pgv_text.proofs.Fractions.{Stops, fraction_read, fraction_is, fraction_lt}
@@ -46,9 +46,9 @@ HasDate text rest day = (front : List ℕ) × (date : Date) × (text ≡ front +
 pub date_is : (text rest : List ℕ) (day : ℤ) → date_front text ≡ found day rest → HasDate text rest day
 date_is text rest number e =
     and_then_some _ (four text) _ e λ year read_year e₁.
-    and_then_some _ (after 45 year.1) _ e₁ λ after_year dash_one e₂.
+    and_then_some _ (after_byte 45 year.1) _ e₁ λ after_year dash_one e₂.
     and_then_some _ (two after_year) _ e₂ λ month read_month e₃.
-    and_then_some _ (after 45 month.1) _ e₃ λ after_month dash_two e₄.
+    and_then_some _ (after_byte 45 month.1) _ e₃ λ after_month dash_two e₄.
     and_then_some _ (two after_month) _ e₄ λ day read_day e₅.
     and_then_some _ (day_number year.0 month.0 day.0) _ e₅ λ count some_day e₆.
     let (number_is, rest_is) = same_parts _ _ _ _ e₆ in
@@ -99,9 +99,9 @@ HasClock text rest nanos = (front : List ℕ) × (time : Time) × (text ≡ fron
 pub clock_is : (text rest : List ℕ) (nanos : ℕ) → clock_front text ≡ found nanos rest → HasClock text rest nanos
 clock_is text rest number e =
     and_then_some _ (two text) _ e λ hour read_hour e₁.
-    and_then_some _ (after 58 hour.1) _ e₁ λ after_hour colon_one e₂.
+    and_then_some _ (after_byte 58 hour.1) _ e₁ λ after_hour colon_one e₂.
     and_then_some _ (two after_hour) _ e₂ λ minute read_minute e₃.
-    and_then_some _ (after 58 minute.1) _ e₃ λ after_minute colon_two e₄.
+    and_then_some _ (after_byte 58 minute.1) _ e₃ λ after_minute colon_two e₄.
     and_then_some _ (two after_minute) _ e₄ λ second read_second e₅.
     and_then_some _ (fraction second.1) _ e₅ λ nanos read_nanos e₆.
     and_then_some _ (clock_nanos hour.0 minute.0 second.0 nanos.0) _ e₆ λ count some_time e₇.

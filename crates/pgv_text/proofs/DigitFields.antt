@@ -5,7 +5,7 @@ use Rattle.std.proofs.lemmas.Bool.{and_parts, and_from}
 use Rattle.std.proofs.lemmas.Bool.Decides.{nat_tests}
 use Rattle.std.proofs.NetLemmas.Options.{cond_some, and_then_some, same_parts}
 use Rattle.std.specs.Char.{is_ascii_digit}
-use Rattle.pgv_text.specs.FieldText.{Front, after, two, two_below, four, whole, two_digits, four_digits}
+use Rattle.pgv_text.specs.FieldText.{Front, after_byte, two, two_below, four, whole, two_digits, four_digits}
 
 -- a value that was found, and the text after it
 abbrev pub found : {A : Type 0} → A → List ℕ → Front A
@@ -29,7 +29,7 @@ then_read f o x y e k = ap (option_and_then f) e ∙ k
 
 -- ---- one byte
 
-pub after_is : (byte : ℕ) (text rest : List ℕ) → after byte text ≡ Some rest → text ≡ byte ∷ rest
+pub after_is : (byte : ℕ) (text rest : List ℕ) → after_byte byte text ≡ Some rest → text ≡ byte ∷ rest
 after_is byte [] rest e = absurd (none-some rest e)
 after_is byte (c ∷ text) rest e =
     let (same, tail) = cond_some _ _ _ e in
@@ -57,13 +57,13 @@ two_is [] rest n e = absurd (none-some (n, rest) e)
 two_is (a ∷ []) rest n e = absurd (none-some (n, rest) e)
 two_is (a ∷ b ∷ cs) rest n e =
     let (test, same) = cond_some _ _ _ e in
-    let (value, after) = same_parts _ _ _ _ (ap Some same) in
+    let (value, after_byte) = same_parts _ _ _ _ (ap Some same) in
     let (ta, tb) = and_parts (is_ascii_digit a) (is_ascii_digit b) test in
     let (a0, a1) = digit_is a ta in
     let (b0, b1) = digit_is b tb in
     let fa : a ≡ 48 + n / 10 = omega arith in
     let fb : b ≡ 48 + n % 10 = omega arith in
-    (omega arith, ap (λ x. x ∷ b ∷ cs) fa ∙ ap (λ x. (48 + n / 10) ∷ x ∷ cs) fb ∙ ap (λ t. two_digits n ++ t) after)
+    (omega arith, ap (λ x. x ∷ b ∷ cs) fa ∙ ap (λ x. (48 + n / 10) ∷ x ∷ cs) fb ∙ ap (λ t. two_digits n ++ t) after_byte)
 
 pub below_read : (limit n : ℕ) (rest : List ℕ) → limit ≤ 100 → n < limit → two_below limit (two_digits n ++ rest) ≡ found n rest
 below_read limit n rest small h =
@@ -73,10 +73,10 @@ pub below_is : (limit : ℕ) (text rest : List ℕ) (n : ℕ) → two_below limi
 below_is limit text rest n e =
     and_then_some _ (two text) _ e λ m read kept.
     let (test, some) = cond_some _ _ _ kept in
-    let (value, after) = same_parts _ _ _ _ (ap Some some) in
+    let (value, after_byte) = same_parts _ _ _ _ (ap Some some) in
     let is = two_is text m.1 m.0 read in
     let less = ltb-true m.0 limit test in
-    (omega arith, is.1 ∙ ap (λ x. two_digits x ++ m.1) value ∙ ap (λ t. two_digits n ++ t) after)
+    (omega arith, is.1 ∙ ap (λ x. two_digits x ++ m.1) value ∙ ap (λ t. two_digits n ++ t) after_byte)
 
 pub four_read : (n : ℕ) (rest : List ℕ) → n < 10_000 → four (four_digits n ++ rest) ≡ found n rest
 four_read n rest h =
@@ -88,10 +88,10 @@ pub four_is : (text rest : List ℕ) (n : ℕ) → four text ≡ found n rest �
 four_is text rest n e =
     and_then_some _ (two text) _ e λ high read_high e₁.
     and_then_some _ (two high.1) _ e₁ λ low read_low e₂.
-    let (value, after) = same_parts _ _ _ _ e₂ in
+    let (value, after_byte) = same_parts _ _ _ _ e₂ in
     let is_high = two_is text high.1 high.0 read_high in
     let is_low = two_is high.1 low.1 low.0 read_low in
     let (low_in, high_in) : (low.0 < 100) × (high.0 < 100) = (is_low.0, is_high.0) in
     let fh : high.0 ≡ n / 100 = omega arith in
     let fl : low.0 ≡ n % 100 = omega arith in
-    (omega arith, is_high.1 ∙ ap (λ t. two_digits high.0 ++ t) is_low.1 ∙ ap (λ x. two_digits x ++ two_digits low.0 ++ low.1) fh ∙ ap (λ x. two_digits (n / 100) ++ two_digits x ++ low.1) fl ∙ ap (λ t. four_digits n ++ t) after)
+    (omega arith, is_high.1 ∙ ap (λ t. two_digits high.0 ++ t) is_low.1 ∙ ap (λ x. two_digits x ++ two_digits low.0 ++ low.1) fh ∙ ap (λ x. two_digits (n / 100) ++ two_digits x ++ low.1) fl ∙ ap (λ t. four_digits n ++ t) after_byte)

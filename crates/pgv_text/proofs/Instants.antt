@@ -15,7 +15,7 @@ use Rattle.jiff_core.specs.declared.offset.Offset.{Offset}
 use Rattle.jiff_core.specs.declared.timestamp.Timestamp.{Timestamp}
 use Rattle.jiff_core.proofs.DateTimeLemmas.{civil_nanos-parts}
 use Rattle.jiff_zoned.proofs.SameLemmas.{same_time, same_datetime}
-use Rattle.pgv_text.specs.FieldText.{after}
+use Rattle.pgv_text.specs.FieldText.{after_byte}
 use Rattle.pgv_text.specs.DateTimeText.{IsCivilText, IsDateTimeText, IsInstantText, IsTimeTzText, nanos_at, date_front, clock_front, time_front, civil_front, offset_value, instant_nanos, date_time_value, instant_value, time_tz_value, zoned_numbers, DateTimeIsItsValue, InstantIsItsValue, TimeTzIsItsValue, OneDateTime, OneInstant, OneTimeTz}
 use Rattle.pgv_text.proofs.DigitFields.{found, then_read, after_is}
 use Rattle.pgv_text.proofs.Fractions.{Stops}
@@ -40,7 +40,7 @@ HasCivil text rest nanos = (front : List ℕ) × (at : DateTime) × (text ≡ fr
 civil_is : (text rest : List ℕ) (nanos : ℤ) → civil_front text ≡ found nanos rest → HasCivil text rest nanos
 civil_is text rest nanos e =
     and_then_some _ (date_front text) _ e λ day read_day e₁.
-    and_then_some _ (after 32 day.1) _ e₁ λ left space e₂.
+    and_then_some _ (after_byte 32 day.1) _ e₁ λ left space e₂.
     and_then_some _ (clock_front left) _ e₂ λ clock read_clock e₃.
     let (nanos_is, rest_is) = same_parts _ _ _ _ e₃ in
     let (date_text, date, date_split, is_date, date_same) = date_is text day.1 day.0 read_day in

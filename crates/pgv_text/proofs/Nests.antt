@@ -9,10 +9,10 @@ use Rattle.pgv_text.specs.declared.scanner.TextForm.{TextForm}
 use Rattle.pgv_text.specs.declared.scanner.Class.{Class}
 use Rattle.pgv_text.specs.declared.scanner.Class.TheVariants.{Quote, Backslash, Comma, Close, Other}
 use Rattle.pgv_text.specs.declared.scanner.Place.TheVariants.{Start}
-use Rattle.pgv_text.specs.NestPieces.{Form, Piece, plain, escaped, quoted, Count, any, some, two, AreCounted, ArePieces, Pairwise, IsPart, Nest, IsNestText, spelled, text_of, joined}
+use Rattle.pgv_text.specs.NestPieces.{Form, Piece, plain, escaped, quoted, Count, any, some, two, AreCounted, ArePieces, Pairwise, IsPart, Nest, IsNestText, spelled, text_of, comma_joined}
 use Rattle.pgv_text.specs.Forms.{form_of}
-use Rattle.pgv_text.specs.Scan.{class, value_here, closes_here, counted, nest_between}
-use Rattle.pgv_text.specs.ScannedPieces.{Found, closed, parse_outside, parse, nest_of}
+use Rattle.pgv_text.specs.Scan.{class, value_here, closes_here, values_counted, nest_between}
+use Rattle.pgv_text.specs.ScannedPieces.{Found, closed, parse_outside, parse_pieces, nest_of}
 use Rattle.pgv_text.proofs.CharacterClasses.{says, class_plain, class_closing}
 use Rattle.pgv_text.proofs.Nothing.{value_is}
 use Rattle.pgv_text.proofs.Sound.{Valid, after_part, part_end, sound}
@@ -40,7 +40,7 @@ found_nest form o cs r = nest_between form o cs (value_here form cs (encode_utf8
 
 module _ (t : TextForm) where
   built : (o closing : ℕ) (cs : List ℕ) (parts : List (List Piece)) (values : List (Option (List ℕ))) → (form_of t).opens o ≡ true → class (form_of t) closing ≡ Close → AllByRecursion (ArePieces (form_of t)) parts → AreCounted (form_of t).count parts →
-      cs ≡ joined parts ++ closing ∷ [] → Pairwise (IsPart (form_of t)) parts values → IsNestText (form_of t) (o ∷ cs) (nest_within o closing values)
+      cs ≡ comma_joined parts ++ closing ∷ [] → Pairwise (IsPart (form_of t)) parts values → IsNestText (form_of t) (o ∷ cs) (nest_within o closing values)
   built o closing cs parts values w k each n e v = record {
     opening = o;
     closing = closing;
@@ -55,9 +55,9 @@ module _ (t : TextForm) where
     upper = refl;
   }
 
-  closed_at_once : (cs : List ℕ) (r : Found) → closes_here (form_of t) cs ≡ true → parse (form_of t) Start cs ≡ Some r → cs ≡ r.closing ∷ []
+  closed_at_once : (cs : List ℕ) (r : Found) → closes_here (form_of t) cs ≡ true → parse_pieces (form_of t) Start cs ≡ Some r → cs ≡ r.closing ∷ []
   closed_at_once [] r h e = absurd (false≢true h)
-  closed_at_once (c ∷ cs) r h e = closed_end c cs r (sym (ap (parse_outside (form_of t) c cs (λ q. parse (form_of t) q cs)) (class_closing t c h)) ∙ e)
+  closed_at_once (c ∷ cs) r h e = closed_end c cs r (sym (ap (parse_outside (form_of t) c cs (λ q. parse_pieces (form_of t) q cs)) (class_closing t c h)) ∙ e)
 
   module _ (o : ℕ) (cs : List ℕ) (w : (form_of t).opens o ≡ true) where
     value_first : (r : Found) → Valid (form_of t) [] false cs r → IsPart (form_of t) r.first (value_here (form_of t) cs (encode_utf8_all (text_of r.first)))
@@ -68,7 +68,7 @@ module _ (t : TextForm) where
     all_built : (r : Found) (value : Option (List ℕ)) (nest : Nest) → Valid (form_of t) [] false cs r → IsPart (form_of t) r.first value → AreCounted (form_of t).count (r.first ∷ r.more) →
         Some (nest_within o r.closing (value ∷ r.values)) ≡ Some nest → IsNestText (form_of t) (o ∷ cs) nest
     all_built r value nest v is n h =
-        let whole : cs ≡ joined (r.first ∷ r.more) ++ r.closing ∷ [] = v.whole ∙ sym (append_assoc (spelled r.first) (flat_map (λ p. 44 ∷ spelled p) r.more) (r.closing ∷ [])) in
+        let whole : cs ≡ comma_joined (r.first ∷ r.more) ++ r.closing ∷ [] = v.whole ∙ sym (append_assoc (spelled r.first) (flat_map (λ p. 44 ∷ spelled p) r.more) (r.closing ∷ [])) in
         subst (IsNestText (form_of t) (o ∷ cs)) (same_Some _ nest h) (built o r.closing cs (r.first ∷ r.more) (value ∷ r.values) w v.closes (v.first, v.more) n whole (is, v.values))
 
     two_built : (b : Bool) (r : Found) (value : Option (List ℕ)) (nest : Nest) → (length (value ∷ r.values) == 2) ≡ b → Valid (form_of t) [] false cs r → IsPart (form_of t) r.first value → (form_of t).count ≡ two →
@@ -85,8 +85,8 @@ module _ (t : TextForm) where
         let whole : cs ≡ closing ∷ [] = e ∙ ap (λ x. spelled x ++ after_part more closing) f ∙ ap (λ x. after_part x closing) m in
         false≢true (sym h ∙ ap (closes_here (form_of t)) whole ∙ says (form_of t) closing Close k)
 
-    from_counted : (k : Count) (b : Bool) (r : Found) (value : Option (List ℕ)) (nest : Nest) → (form_of t).count ≡ k → closes_here (form_of t) cs ≡ b → parse (form_of t) Start cs ≡ Some r → Valid (form_of t) [] false cs r → IsPart (form_of t) r.first value →
-        option_map (nest_within o r.closing) (counted k b (value ∷ r.values)) ≡ Some nest → IsNestText (form_of t) (o ∷ cs) nest
+    from_counted : (k : Count) (b : Bool) (r : Found) (value : Option (List ℕ)) (nest : Nest) → (form_of t).count ≡ k → closes_here (form_of t) cs ≡ b → parse_pieces (form_of t) Start cs ≡ Some r → Valid (form_of t) [] false cs r → IsPart (form_of t) r.first value →
+        option_map (nest_within o r.closing) (values_counted k b (value ∷ r.values)) ≡ Some nest → IsNestText (form_of t) (o ∷ cs) nest
     from_counted any true r value nest c e p v is h =
         let none : AreCounted (form_of t).count [] = subst (λ c. AreCounted c []) (sym c) (λ e. cc) in
         subst (IsNestText (form_of t) (o ∷ cs)) (same_Some _ nest h) (built o r.closing cs [] [] w v.closes tt none (closed_at_once cs r e p) tt)
@@ -94,14 +94,14 @@ module _ (t : TextForm) where
     from_counted some b r value nest c e p v is h = all_built r value nest v is (subst (λ c. AreCounted c (r.first ∷ r.more)) (sym c) (λ e. cc)) h
     from_counted two b r value nest c e p v is h = two_built (length (value ∷ r.values) == 2) r value nest refl v is c h
 
-    from_parse : (f : Option Found) (nest : Nest) → parse (form_of t) Start cs ≡ f → IfSome f (Valid (form_of t) [] false cs) →
+    from_parse : (f : Option Found) (nest : Nest) → parse_pieces (form_of t) Start cs ≡ f → IfSome f (Valid (form_of t) [] false cs) →
         option_and_then (found_nest (form_of t) o cs) f ≡ Some nest → IsNestText (form_of t) (o ∷ cs) nest
     from_parse None nest p v h = cc
     from_parse (Some r) nest p v h = from_counted (form_of t).count (closes_here (form_of t) cs) r (value_here (form_of t) cs (encode_utf8_all (text_of r.first))) nest refl refl p v (value_first r v) h
 
   opened : (o : ℕ) (cs : List ℕ) (b : Bool) (nest : Nest) → (form_of t).opens o ≡ b →
-      cond b (option_and_then (found_nest (form_of t) o cs) (parse (form_of t) Start cs)) None ≡ Some nest → IsNestText (form_of t) (o ∷ cs) nest
-  opened o cs true nest w h = from_parse o cs w (parse (form_of t) Start cs) nest refl (sound t cs Start) h
+      cond b (option_and_then (found_nest (form_of t) o cs) (parse_pieces (form_of t) Start cs)) None ≡ Some nest → IsNestText (form_of t) (o ∷ cs) nest
+  opened o cs true nest w h = from_parse o cs w (parse_pieces (form_of t) Start cs) nest refl (sound t cs Start) h
   opened o cs false nest w h = cc
 
   -- Only a text of a form is read, as what it is of.
@@ -120,8 +120,8 @@ module _ (t : TextForm) where
   goes_on (quoted items ∷ pieces) parts closing h n = not_closing 34 Quote refl (λ e. cc)
 
   count_met : (k : Count) (part : List Piece) (parts : List (List Piece)) (values : List (Option (List ℕ))) (closing : ℕ) → ArePieces (form_of t) part → AreCounted k (part ∷ parts) → length values ≡ length (part ∷ parts) →
-      counted k (closes_here (form_of t) (spelled part ++ after_part parts closing)) values ≡ Some values
-  count_met any part parts values closing h n e = ap (λ b. counted any b values) (goes_on part parts closing h n)
+      values_counted k (closes_here (form_of t) (spelled part ++ after_part parts closing)) values ≡ Some values
+  count_met any part parts values closing h n e = ap (λ b. values_counted any b values) (goes_on part parts closing h n)
   count_met some part parts values closing h n e = refl
   count_met two part parts values closing h n e = ap (λ m. cond (m == 2) (Some values) None) (e ∙ n)
 
@@ -131,18 +131,18 @@ module _ (t : TextForm) where
   no_parts two h = cc
 
   nest_read_from : (o closing : ℕ) (parts : List (List Piece)) (values : List (Option (List ℕ))) → (form_of t).opens o ≡ true → (form_of t).closes closing ≡ true → AllByRecursion (ArePieces (form_of t)) parts → AreCounted (form_of t).count parts → Pairwise (IsPart (form_of t)) parts values →
-      nest_of (form_of t) (o ∷ joined parts ++ closing ∷ []) ≡ Some (nest_within o closing values)
+      nest_of (form_of t) (o ∷ comma_joined parts ++ closing ∷ []) ≡ Some (nest_within o closing values)
   nest_read_from o closing [] [] w k hs n vs =
       let value : Option (List ℕ) = value_here (form_of t) (closing ∷ []) [] in
-      ap (λ b. cond b (option_and_then (found_nest (form_of t) o (closing ∷ [])) (parse (form_of t) Start (closing ∷ []))) None) w
-      ∙ ap (λ c. option_and_then (found_nest (form_of t) o (closing ∷ [])) (parse_outside (form_of t) closing [] (λ q. parse (form_of t) q []) c)) (class_closing t closing k)
-      ∙ ap (λ c. option_map (nest_within o closing) (counted c (closes_here (form_of t) (closing ∷ [])) (value ∷ []))) (no_parts (form_of t).count n)
-      ∙ ap (λ b. option_map (nest_within o closing) (counted any b (value ∷ []))) k
+      ap (λ b. cond b (option_and_then (found_nest (form_of t) o (closing ∷ [])) (parse_pieces (form_of t) Start (closing ∷ []))) None) w
+      ∙ ap (λ c. option_and_then (found_nest (form_of t) o (closing ∷ [])) (parse_outside (form_of t) closing [] (λ q. parse_pieces (form_of t) q []) c)) (class_closing t closing k)
+      ∙ ap (λ c. option_map (nest_within o closing) (values_counted c (closes_here (form_of t) (closing ∷ [])) (value ∷ []))) (no_parts (form_of t).count n)
+      ∙ ap (λ b. option_map (nest_within o closing) (values_counted any b (value ∷ []))) k
   nest_read_from o closing (part ∷ parts) (value ∷ values) w k hs n vs =
       let cs : List ℕ = spelled part ++ after_part parts closing in
       let p = parts_read t part parts value values closing (class_closing t closing k) hs.0 hs.1 vs.0 vs.1 in
       ap (λ x. nest_of (form_of t) (o ∷ x)) (append_assoc (spelled part) (flat_map (λ p. 44 ∷ spelled p) parts) (closing ∷ []))
-      ∙ ap (λ b. cond b (option_and_then (found_nest (form_of t) o cs) (parse (form_of t) Start cs)) None) w
+      ∙ ap (λ b. cond b (option_and_then (found_nest (form_of t) o cs) (parse_pieces (form_of t) Start cs)) None) w
       ∙ ap (option_and_then (found_nest (form_of t) o cs)) p.0
       ∙ ap (λ v. nest_between (form_of t) o cs (v ∷ values) closing) p.1
       ∙ ap (option_map (nest_within o closing)) (count_met (form_of t).count part parts (value ∷ values) closing hs.0 n (as_many (IsPart (form_of t)) (part ∷ parts) (value ∷ values) vs))

@@ -18,11 +18,11 @@ use Rattle.pgv_text.specs.PartsLeftView.{or_none, values_left}
 use Rattle.pgv_text.specs.NestPieces.{Form, Nest, any}
 use Rattle.pgv_text.specs.Values.{array_values}
 use Rattle.pgv_text.proofs.ScannedBytes.{nest_bytes}
-use Rattle.pgv_text.specs.Scan.{Rest, at_end, closes_here, counted, grown, nest_between, nest_read, next, read, read_by, value_here, values_from}
+use Rattle.pgv_text.specs.Scan.{Rest, at_end, closes_here, values_counted, grown, nest_between, nest_read, next, read, read_by, value_here, values_from}
 
 -- after an opening bracket, where the closing one doesn't follow at once
 open_values : (b : ℕ) (bs : List ℕ) (r : Option Rest) (closes : Bool) → closes ≡ false →
-    option_map (λ (n : Nest). n.values) (option_and_then (λ r. option_map (λ values. record { values = values; lower = b == 91; upper = r.closing == 93 }) (counted any closes (values_from array_form bs r))) r)
+    option_map (λ (n : Nest). n.values) (option_and_then (λ r. option_map (λ values. record { values = values; lower = b == 91; upper = r.closing == 93 }) (values_counted any closes (values_from array_form bs r))) r)
     ≡ option_map (values_from array_form bs) r
 open_values b bs None closes e = refl
 open_values b bs (Some r) closes e = rw e refl

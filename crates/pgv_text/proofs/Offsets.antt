@@ -6,7 +6,7 @@ use Rattle.std.proofs.lemmas.Bool.{false≢true, and_parts}
 use Rattle.std.proofs.NetLemmas.Options.{and_then_some, map_some}
 use Rattle.jiff_core.specs.declared.offset.Offset.{Offset}
 use Rattle.jiff_core.specs.Timestamp.{IsOffsetSeconds}
-use Rattle.pgv_text.specs.FieldText.{after, two_below, two_digits, whole}
+use Rattle.pgv_text.specs.FieldText.{after_byte, two_below, two_digits, whole}
 use Rattle.pgv_text.specs.DateTimeText.{IsSecondsText, IsMinutesText, IsHoursText, IsOffsetText, IsIgnored, seconds_value, minutes_value, hours_value, offset_value, is_ignored}
 use Rattle.pgv_text.proofs.DigitFields.{then_read, after_is, below_read, below_is, whole_some}
 use Rattle.pgv_text.proofs.Fractions.{Stops, nothing_stops, plus_stops, minus_stops}
@@ -47,7 +47,7 @@ offset_stops offset text (seconds, rest, is, inr (spelled, value)) = subst Stops
 seconds_is : (text : List ℕ) (second : ℕ) → seconds_value text ≡ Some second → IsSecondsText text second
 seconds_is [] second e = inl (refl, sym (same_Some 0 second e))
 seconds_is (c ∷ cs) second e =
-    and_then_some _ (after 58 (c ∷ cs)) _ e λ rest colon e₁.
+    and_then_some _ (after_byte 58 (c ∷ cs)) _ e λ rest colon e₁.
     let read = whole_some (two_below 60 rest) second e₁ in
     let is = below_is 60 rest [] second read in
     inr (is.0, after_is 58 (c ∷ cs) rest colon ∙ ap (λ t. 58 ∷ t) is.1)
@@ -55,7 +55,7 @@ seconds_is (c ∷ cs) second e =
 minutes_is : (text : List ℕ) (seconds : ℕ) → minutes_value text ≡ Some seconds → IsMinutesText text seconds
 minutes_is [] seconds e = inl (refl, sym (same_Some 0 seconds e))
 minutes_is (c ∷ cs) seconds e =
-    and_then_some _ (after 58 (c ∷ cs)) _ e λ rest colon e₁.
+    and_then_some _ (after_byte 58 (c ∷ cs)) _ e λ rest colon e₁.
     and_then_some _ (two_below 60 rest) _ e₁ λ minute read e₂.
     and_then_some _ (seconds_value minute.1) _ e₂ λ second some e₃.
     let is = below_is 60 rest minute.1 minute.0 read in

@@ -17,8 +17,8 @@ use Rattle.pgv_text.specs.declared.scanner.Place.{Place}
 use Rattle.pgv_text.specs.declared.scanner.Place.TheVariants.{Start, Outside, Quoted, AfterQuote, AfterBackslash, QuotedBackslash}
 use Rattle.pgv_text.specs.NestPieces.{Form, Item, inner, inner_escaped, doubled, Piece, plain, escaped, quoted, item_meaning, meaning, text_of}
 use Rattle.pgv_text.specs.Forms.{form_of}
-use Rattle.pgv_text.specs.Scan.{Rest, class, cell, read, read_by, grown, next, at_end, outside_cell, quoted_cell, after_quote_cell, after_text, value_here, ends, counted, stands, closes_here, nest_between, values_from, nest_read}
-use Rattle.pgv_text.specs.ScannedPieces.{Found, with_piece, with_item, item_first, with_part, closed, parse_outside, parse_quoted, parse_after_quote, parse, nest_of}
+use Rattle.pgv_text.specs.Scan.{Rest, class, cell, read, read_by, grown, next, at_end, outside_cell, quoted_cell, after_quote_cell, after_text, value_here, ends, values_counted, stands, closes_here, nest_between, values_from, nest_read}
+use Rattle.pgv_text.specs.ScannedPieces.{Found, with_piece, with_item, item_first, with_part, closed, parse_outside, parse_quoted, parse_after_quote, parse_pieces, nest_of}
 use Rattle.pgv_text.proofs.CharacterClasses.{says, opens_low, closes_low}
 use Rattle.pgv_text.proofs.Nothing.{ArePlain, nothing_plain}
 use Rattle.pgv_text.proofs.Nests.{nest_within, found_nest}
@@ -111,12 +111,12 @@ ascii_read : (form : Form) (c : ℕ) (bs : List ℕ) (go : Place → Option Rest
 ascii_read form c bs go (Keep p) e = ap (λ b. grown b (go p)) (sym e)
 ascii_read form c bs go _ e = refl
 
-module _ (t : TextForm) (c : ℕ) (cs : List ℕ) (all : (q : Place) → read (form_of t) q (encode_utf8_all cs) ≡ option_map summary (parse (form_of t) q cs)) where
-  piece_read : (piece : Piece) → meaning piece ≡ c ∷ [] → grown (encode_utf8 c) (read (form_of t) Outside (encode_utf8_all cs)) ≡ option_map summary (option_map (with_piece piece) (parse (form_of t) Outside cs))
-  piece_read piece e = mapped (after_text (encode_utf8 c)) (with_piece piece) (read (form_of t) Outside (encode_utf8_all cs)) (parse (form_of t) Outside cs) (adds_piece piece c e) (all Outside)
+module _ (t : TextForm) (c : ℕ) (cs : List ℕ) (all : (q : Place) → read (form_of t) q (encode_utf8_all cs) ≡ option_map summary (parse_pieces (form_of t) q cs)) where
+  piece_read : (piece : Piece) → meaning piece ≡ c ∷ [] → grown (encode_utf8 c) (read (form_of t) Outside (encode_utf8_all cs)) ≡ option_map summary (option_map (with_piece piece) (parse_pieces (form_of t) Outside cs))
+  piece_read piece e = mapped (after_text (encode_utf8 c)) (with_piece piece) (read (form_of t) Outside (encode_utf8_all cs)) (parse_pieces (form_of t) Outside cs) (adds_piece piece c e) (all Outside)
 
-  item_read : (item : Item) → item_meaning item ≡ c → grown (encode_utf8 c) (read (form_of t) Quoted (encode_utf8_all cs)) ≡ option_map summary (option_map (with_item item) (parse (form_of t) Quoted cs))
-  item_read item e = mapped (after_text (encode_utf8 c)) (with_item item) (read (form_of t) Quoted (encode_utf8_all cs)) (parse (form_of t) Quoted cs) (adds_item item c e) (all Quoted)
+  item_read : (item : Item) → item_meaning item ≡ c → grown (encode_utf8 c) (read (form_of t) Quoted (encode_utf8_all cs)) ≡ option_map summary (option_map (with_item item) (parse_pieces (form_of t) Quoted cs))
+  item_read item e = mapped (after_text (encode_utf8 c)) (with_item item) (read (form_of t) Quoted (encode_utf8_all cs)) (parse_pieces (form_of t) Quoted cs) (adds_item item c e) (all Quoted)
 
   not_ended : (bs : List ℕ) → ¬ (length bs ≡ 0) → at_end c bs ≡ None
   not_ended [] n = absurd (n refl)
@@ -126,26 +126,26 @@ module _ (t : TextForm) (c : ℕ) (cs : List ℕ) (all : (q : Place) → read (f
   ended_read [] = refl
   ended_read (d ∷ ds) = not_ended (encode_utf8 d ++ encode_utf8_all ds) (first_byte d (encode_utf8_all ds))
 
-  outside_read : (k : Class) → read_character (form_of t) c (encode_utf8_all cs) (λ q. read (form_of t) q (encode_utf8_all cs)) (outside_cell k) ≡ option_map summary (parse_outside (form_of t) c cs (λ q. parse (form_of t) q cs) k)
+  outside_read : (k : Class) → read_character (form_of t) c (encode_utf8_all cs) (λ q. read (form_of t) q (encode_utf8_all cs)) (outside_cell k) ≡ option_map summary (parse_outside (form_of t) c cs (λ q. parse_pieces (form_of t) q cs) k)
   outside_read Quote = all Quoted
   outside_read Backslash = all AfterBackslash
   outside_read Comma =
-      mapped (next (form_of t) (encode_utf8_all cs)) (with_part (form_of t) cs) (read (form_of t) Start (encode_utf8_all cs)) (parse (form_of t) Start cs)
+      mapped (next (form_of t) (encode_utf8_all cs)) (with_part (form_of t) cs) (read (form_of t) Start (encode_utf8_all cs)) (parse_pieces (form_of t) Start cs)
       (λ r. ap (λ v. record { text = []; values = v ∷ r.values; closing = r.closing }) (value_same t cs (encode_utf8_all (text_of r.first)))) (all Start)
   outside_read Open = refl
   outside_read Close = ended_read cs
   outside_read Other = piece_read (plain c) refl
 
-  quoted_read : (k : Class) → read_character (form_of t) c (encode_utf8_all cs) (λ q. read (form_of t) q (encode_utf8_all cs)) (quoted_cell k) ≡ option_map summary (parse_quoted c (λ q. parse (form_of t) q cs) k)
+  quoted_read : (k : Class) → read_character (form_of t) c (encode_utf8_all cs) (λ q. read (form_of t) q (encode_utf8_all cs)) (quoted_cell k) ≡ option_map summary (parse_quoted c (λ q. parse_pieces (form_of t) q cs) k)
   quoted_read Quote = all AfterQuote
   quoted_read Backslash = all QuotedBackslash
   quoted_read _ = item_read (inner c) refl
 
-  after_read : (b : Bool) (k : Class) → class (form_of t) c ≡ k → read_character (form_of t) c (encode_utf8_all cs) (λ q. read (form_of t) q (encode_utf8_all cs)) (after_quote_cell b k) ≡ option_map summary (parse_after_quote (form_of t) c cs (λ q. parse (form_of t) q cs) b k)
+  after_read : (b : Bool) (k : Class) → class (form_of t) c ≡ k → read_character (form_of t) c (encode_utf8_all cs) (λ q. read (form_of t) q (encode_utf8_all cs)) (after_quote_cell b k) ≡ option_map summary (parse_after_quote (form_of t) c cs (λ q. parse_pieces (form_of t) q cs) b k)
   after_read true Quote h = item_read doubled (sym (says (form_of t) c Quote h))
-  after_read _ k h = outside_read k ∙ quote_adds_nothing (parse_outside (form_of t) c cs (λ q. parse (form_of t) q cs) k)
+  after_read _ k h = outside_read k ∙ quote_adds_nothing (parse_outside (form_of t) c cs (λ q. parse_pieces (form_of t) q cs) k)
 
-  at_place : (p : Place) → read_character (form_of t) c (encode_utf8_all cs) (λ q. read (form_of t) q (encode_utf8_all cs)) (cell (form_of t) p (class (form_of t) c)) ≡ option_map summary (parse (form_of t) p (c ∷ cs))
+  at_place : (p : Place) → read_character (form_of t) c (encode_utf8_all cs) (λ q. read (form_of t) q (encode_utf8_all cs)) (cell (form_of t) p (class (form_of t) c)) ≡ option_map summary (parse_pieces (form_of t) p (c ∷ cs))
   at_place Quoted = quoted_read (class (form_of t) c)
   at_place AfterQuote = after_read (form_of t).doubles (class (form_of t) c) refl
   at_place AfterBackslash = piece_read (escaped c) refl
@@ -163,7 +163,7 @@ closes_same t (c ∷ cs) =
       | inr k ↦ let e = high_bytes c k in ap (λ b. closes_here (form_of t) (b ++ encode_utf8_all cs)) e.2 ∙ open_high t e.0 e.3 ∙ sym (open_high t c k)
     ]
 
-bytes_read : (t : TextForm) (cs : List ℕ) (p : Place) → read (form_of t) p (encode_utf8_all cs) ≡ option_map summary (parse (form_of t) p cs)
+bytes_read : (t : TextForm) (cs : List ℕ) (p : Place) → read (form_of t) p (encode_utf8_all cs) ≡ option_map summary (parse_pieces (form_of t) p cs)
 bytes_read t [] p = refl
 bytes_read t (c ∷ cs) p =
     elim (cases_lt c 128) [
@@ -179,7 +179,7 @@ from_summary : (t : TextForm) (o : ℕ) (cs : List ℕ) (x : Option Rest) (f : O
 from_summary t o cs x None e = ap (option_and_then (λ r. nest_between (form_of t) o (encode_utf8_all cs) (values_from (form_of t) (encode_utf8_all cs) r) r.closing)) e
 from_summary t o cs x (Some r) e =
     ap (option_and_then (λ r. nest_between (form_of t) o (encode_utf8_all cs) (values_from (form_of t) (encode_utf8_all cs) r) r.closing)) e
-    ∙ ap (λ b. option_map (nest_within o r.closing) (counted (form_of t).count b (value_here (form_of t) (encode_utf8_all cs) (encode_utf8_all (text_of r.first)) ∷ r.values))) (closes_same t cs)
+    ∙ ap (λ b. option_map (nest_within o r.closing) (values_counted (form_of t).count b (value_here (form_of t) (encode_utf8_all cs) (encode_utf8_all (text_of r.first)) ∷ r.values))) (closes_same t cs)
     ∙ ap (λ v. nest_between (form_of t) o cs (v ∷ r.values) r.closing) (value_same t cs (encode_utf8_all (text_of r.first)))
 
 high_opens : (t : TextForm) (x : ℕ) → 128 ≤ x → (form_of t).opens x ≡ false
@@ -190,7 +190,7 @@ nest_encoded t [] = refl
 nest_encoded t (o ∷ cs) =
     elim (cases_lt o 128) [
       | inl k ↦ ap (λ b. nest_read (form_of t) (b ++ encode_utf8_all cs)) (encode_ascii o k)
-          ∙ ap (λ x. cond ((form_of t).opens o) x None) (from_summary t o cs (read (form_of t) Start (encode_utf8_all cs)) (parse (form_of t) Start cs) (bytes_read t cs Start))
+          ∙ ap (λ x. cond ((form_of t).opens o) x None) (from_summary t o cs (read (form_of t) Start (encode_utf8_all cs)) (parse_pieces (form_of t) Start cs) (bytes_read t cs Start))
       | inr k ↦ let e = high_bytes o k in ap (λ b. nest_read (form_of t) (b ++ encode_utf8_all cs)) e.2 ∙ rw (high_opens t e.0 e.3, high_opens t o k) refl
     ]
 

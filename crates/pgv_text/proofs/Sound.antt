@@ -12,7 +12,7 @@ use Rattle.pgv_text.specs.declared.scanner.Place.TheVariants.{Start, Outside, Qu
 use Rattle.pgv_text.specs.NestPieces.{Form, Item, inner, inner_escaped, doubled, Piece, plain, escaped, quoted, item_spelling, IsItem, IsPiece, NotQuotedFirst, QuotedApart, ArePieces, Pairwise, IsPart, spelling, spelled, text_of}
 use Rattle.pgv_text.specs.Forms.{form_of}
 use Rattle.pgv_text.specs.Scan.{class, ends, value_here}
-use Rattle.pgv_text.specs.ScannedPieces.{Found, with_piece, with_item, with_part, closed, parse_outside, parse_quoted, parse_after_quote, parse}
+use Rattle.pgv_text.specs.ScannedPieces.{Found, with_piece, with_item, with_part, closed, parse_outside, parse_quoted, parse_after_quote, parse_pieces}
 use Rattle.pgv_text.proofs.CharacterClasses.{says}
 use Rattle.pgv_text.proofs.Nothing.{value_is}
 
@@ -43,7 +43,7 @@ in_quotes AfterBackslash = false
 in_quotes _ = true
 
 abbrev pub Reads : Form → Place → List ℕ → Type 0
-Reads form place cs = IfSome (parse form place cs) (Valid form (before place) (in_quotes place) cs)
+Reads form place cs = IfSome (parse_pieces form place cs) (Valid form (before place) (in_quotes place) cs)
 
 if_mapped : {X Y : Type 0} (P : X → Type 0) (Q : Y → Type 0) (f : X → Y) (o : Option X) → ((x : X) → P x → Q (f x)) → IfSome o P → IfSome (option_map f o) Q
 if_mapped P Q f None g h = tt
@@ -115,34 +115,34 @@ module _ (t : TextForm) where
   closed_valid c (d ∷ cs) k = tt
 
   module _ (c : ℕ) (cs : List ℕ) (all : (q : Place) → Reads (form_of t) q cs) where
-    outside_valid : (k : Class) → class (form_of t) c ≡ k → IfSome (parse_outside (form_of t) c cs (λ q. parse (form_of t) q cs) k) (Valid (form_of t) [] false (c ∷ cs))
-    outside_valid Quote k = if_weaker _ _ (parse (form_of t) Quoted cs) (λ r. again (34 ∷ []) [] true false cs (c ∷ cs) r (λ h. refl) (ap (λ x. x ∷ cs) (says (form_of t) c Quote k))) (all Quoted)
-    outside_valid Backslash k = if_weaker _ _ (parse (form_of t) AfterBackslash cs) (λ r. again (92 ∷ []) [] false false cs (c ∷ cs) r (λ h. h) (ap (λ x. x ∷ cs) (says (form_of t) c Backslash k))) (all AfterBackslash)
-    outside_valid Comma k = if_mapped _ _ (with_part (form_of t) cs) (parse (form_of t) Start cs) (λ r. part_valid c cs r (says (form_of t) c Comma k)) (all Start)
+    outside_valid : (k : Class) → class (form_of t) c ≡ k → IfSome (parse_outside (form_of t) c cs (λ q. parse_pieces (form_of t) q cs) k) (Valid (form_of t) [] false (c ∷ cs))
+    outside_valid Quote k = if_weaker _ _ (parse_pieces (form_of t) Quoted cs) (λ r. again (34 ∷ []) [] true false cs (c ∷ cs) r (λ h. refl) (ap (λ x. x ∷ cs) (says (form_of t) c Quote k))) (all Quoted)
+    outside_valid Backslash k = if_weaker _ _ (parse_pieces (form_of t) AfterBackslash cs) (λ r. again (92 ∷ []) [] false false cs (c ∷ cs) r (λ h. h) (ap (λ x. x ∷ cs) (says (form_of t) c Backslash k))) (all AfterBackslash)
+    outside_valid Comma k = if_mapped _ _ (with_part (form_of t) cs) (parse_pieces (form_of t) Start cs) (λ r. part_valid c cs r (says (form_of t) c Comma k)) (all Start)
     outside_valid Open k = tt
     outside_valid Close k = closed_valid c cs k
-    outside_valid Other k = if_mapped _ _ (with_piece (plain c)) (parse (form_of t) Outside cs)
+    outside_valid Other k = if_mapped _ _ (with_piece (plain c)) (parse_pieces (form_of t) Outside cs)
         (λ r. piece_valid (plain c) [] false (c ∷ cs) cs r (says (form_of t) c Other k) (λ d a. a) refl (λ h. absurd (false≢true h))) (all Outside)
 
     not_class : (k d : Class) (e : ℕ) → class (form_of t) c ≡ k → class (form_of t) e ≡ d → k ≢ d → c ≢ e
     not_class k d e h g n same = n (sym h ∙ ap (class (form_of t)) same ∙ g)
 
-    inner_valid : (k : Class) → class (form_of t) c ≡ k → k ≢ Quote → k ≢ Backslash → IfSome (option_map (with_item (inner c)) (parse (form_of t) Quoted cs)) (Valid (form_of t) (34 ∷ []) true (c ∷ cs))
-    inner_valid k h n m = if_mapped _ _ (with_item (inner c)) (parse (form_of t) Quoted cs)
+    inner_valid : (k : Class) → class (form_of t) c ≡ k → k ≢ Quote → k ≢ Backslash → IfSome (option_map (with_item (inner c)) (parse_pieces (form_of t) Quoted cs)) (Valid (form_of t) (34 ∷ []) true (c ∷ cs))
+    inner_valid k h n m = if_mapped _ _ (with_item (inner c)) (parse_pieces (form_of t) Quoted cs)
         (λ r. item_valid (inner c) (34 ∷ []) (c ∷ cs) cs r (not_class k Quote 34 h refl n, not_class k Backslash 92 h refl m) refl) (all Quoted)
 
-    quoted_valid : (k : Class) → class (form_of t) c ≡ k → IfSome (parse_quoted c (λ q. parse (form_of t) q cs) k) (Valid (form_of t) (34 ∷ []) true (c ∷ cs))
-    quoted_valid Quote k = if_weaker _ _ (parse (form_of t) AfterQuote cs) (λ r. again (34 ∷ 34 ∷ []) (34 ∷ []) true true cs (c ∷ cs) r (λ h. h) (ap (λ x. 34 ∷ x ∷ cs) (says (form_of t) c Quote k))) (all AfterQuote)
-    quoted_valid Backslash k = if_weaker _ _ (parse (form_of t) QuotedBackslash cs) (λ r. again (34 ∷ 92 ∷ []) (34 ∷ []) true true cs (c ∷ cs) r (λ h. h) (ap (λ x. 34 ∷ x ∷ cs) (says (form_of t) c Backslash k))) (all QuotedBackslash)
+    quoted_valid : (k : Class) → class (form_of t) c ≡ k → IfSome (parse_quoted c (λ q. parse_pieces (form_of t) q cs) k) (Valid (form_of t) (34 ∷ []) true (c ∷ cs))
+    quoted_valid Quote k = if_weaker _ _ (parse_pieces (form_of t) AfterQuote cs) (λ r. again (34 ∷ 34 ∷ []) (34 ∷ []) true true cs (c ∷ cs) r (λ h. h) (ap (λ x. 34 ∷ x ∷ cs) (says (form_of t) c Quote k))) (all AfterQuote)
+    quoted_valid Backslash k = if_weaker _ _ (parse_pieces (form_of t) QuotedBackslash cs) (λ r. again (34 ∷ 92 ∷ []) (34 ∷ []) true true cs (c ∷ cs) r (λ h. h) (ap (λ x. 34 ∷ x ∷ cs) (says (form_of t) c Backslash k))) (all QuotedBackslash)
     quoted_valid k h = inner_valid k h (λ e. cc) (λ e. cc)
 
     -- after a quote that closes
-    after_quote : (k : Class) → class (form_of t) c ≡ k → ((form_of t).doubles ≡ true → c ≢ 34) → IfSome (option_map (with_piece (quoted [])) (parse_outside (form_of t) c cs (λ q. parse (form_of t) q cs) k)) (Valid (form_of t) (34 ∷ 34 ∷ []) true (c ∷ cs))
-    after_quote k h n = if_mapped _ _ (with_piece (quoted [])) (parse_outside (form_of t) c cs (λ q. parse (form_of t) q cs) k)
+    after_quote : (k : Class) → class (form_of t) c ≡ k → ((form_of t).doubles ≡ true → c ≢ 34) → IfSome (option_map (with_piece (quoted [])) (parse_outside (form_of t) c cs (λ q. parse_pieces (form_of t) q cs) k)) (Valid (form_of t) (34 ∷ 34 ∷ []) true (c ∷ cs))
+    after_quote k h n = if_mapped _ _ (with_piece (quoted [])) (parse_outside (form_of t) c cs (λ q. parse_pieces (form_of t) q cs) k)
         (λ r v. piece_valid (quoted []) (34 ∷ 34 ∷ []) true (c ∷ cs) (c ∷ cs) r tt (λ d a. (not_quoted r.first c cs (after_part r.more r.closing) v.whole (n d), a)) refl (λ h. ([], r.first, refl)) v) (outside_valid k h)
 
-    after_valid : (b : Bool) → (form_of t).doubles ≡ b → (k : Class) → class (form_of t) c ≡ k → IfSome (parse_after_quote (form_of t) c cs (λ q. parse (form_of t) q cs) b k) (Valid (form_of t) (34 ∷ 34 ∷ []) true (c ∷ cs))
-    after_valid true d Quote k = if_mapped _ _ (with_item doubled) (parse (form_of t) Quoted cs)
+    after_valid : (b : Bool) → (form_of t).doubles ≡ b → (k : Class) → class (form_of t) c ≡ k → IfSome (parse_after_quote (form_of t) c cs (λ q. parse_pieces (form_of t) q cs) b k) (Valid (form_of t) (34 ∷ 34 ∷ []) true (c ∷ cs))
+    after_valid true d Quote k = if_mapped _ _ (with_item doubled) (parse_pieces (form_of t) Quoted cs)
         (λ r. item_valid doubled (34 ∷ 34 ∷ []) (c ∷ cs) cs r d (ap (λ x. 34 ∷ 34 ∷ x ∷ cs) (says (form_of t) c Quote k))) (all Quoted)
     after_valid true d k h = after_quote k h (λ d. not_class k Quote 34 h refl (λ e. cc))
     after_valid false d k h = after_quote k h (λ e. absurd (false≢true (sym d ∙ e)))
@@ -150,9 +150,9 @@ module _ (t : TextForm) where
     place_valid : (place : Place) → Reads (form_of t) place (c ∷ cs)
     place_valid Quoted = quoted_valid (class (form_of t) c) refl
     place_valid AfterQuote = after_valid (form_of t).doubles refl (class (form_of t) c) refl
-    place_valid AfterBackslash = if_mapped _ _ (with_piece (escaped c)) (parse (form_of t) Outside cs)
+    place_valid AfterBackslash = if_mapped _ _ (with_piece (escaped c)) (parse_pieces (form_of t) Outside cs)
         (λ r. piece_valid (escaped c) (92 ∷ []) false (c ∷ cs) cs r tt (λ d a. a) refl (λ h. absurd (false≢true h))) (all Outside)
-    place_valid QuotedBackslash = if_mapped _ _ (with_item (inner_escaped c)) (parse (form_of t) Quoted cs)
+    place_valid QuotedBackslash = if_mapped _ _ (with_item (inner_escaped c)) (parse_pieces (form_of t) Quoted cs)
         (λ r. item_valid (inner_escaped c) (34 ∷ 92 ∷ []) (c ∷ cs) cs r tt refl) (all Quoted)
     place_valid _ = outside_valid (class (form_of t) c) refl
 

@@ -6,7 +6,7 @@ use Rattle.std.specs.List.{flat_map, AllByRecursion}
 use Rattle.std.specs.Char.{IsScalar, to_ascii_lowercase}
 use Rattle.std.proofs.lemmas.Bool.{eqb-true, false≢true}
 use Rattle.std.proofs.lemmas.List.{append-nil}
-use Rattle.pgv_text.specs.NestPieces.{Form, Item, inner, inner_escaped, doubled, Piece, plain, quoted, item_spelling, item_meaning, IsItem, IsPiece, QuotedApart, ArePieces, may_be_plain, spelled, text_of, joined, Pairwise, IsPart, Count, any, some, two, AreCounted, IsNestText}
+use Rattle.pgv_text.specs.NestPieces.{Form, Item, inner, inner_escaped, doubled, Piece, plain, quoted, item_spelling, item_meaning, IsItem, IsPiece, QuotedApart, ArePieces, may_be_plain, spelled, text_of, comma_joined, Pairwise, IsPart, Count, any, some, two, AreCounted, IsNestText}
 use Rattle.pgv_text.specs.declared.scanner.TextForm.{TextForm}
 use Rattle.pgv_text.specs.declared.scanner.TextForm.TheVariants.{Array}
 use Rattle.pgv_text.specs.Forms.{form_of}
@@ -136,7 +136,7 @@ record SpeltValues (form : Form) (values : List (Option (List ℕ))) (spellings 
   pub parts : List (List Piece)
   pub each : AllByRecursion (ArePieces form) parts
   pub more : flat_map (λ p. 44 ∷ spelled p) parts ≡ flat_map (λ s. 44 ∷ s) spellings
-  pub same : joined parts ≡ by_commas spellings
+  pub same : comma_joined parts ≡ by_commas spellings
   pub are : Pairwise (IsPart form) parts values
   pub some : form.count ≡ any → parts ≢ [] ∷ []
   pub more_scalars : AreScalars (flat_map (λ s. 44 ∷ s) spellings)
@@ -217,5 +217,5 @@ has_text t o k values w x n u =
 pub values_texts : ValuesAreTexts
 unfolding ValuesAreTexts
 values_texts t text nest u n =
-    let all : AreScalars (n.opening ∷ joined n.parts ++ n.closing ∷ []) = subst AreScalars n.whole (characters_of text u) in
-    values_are_texts (form_of t) n.parts nest.values (parts_scalars n.parts (all_parts (joined n.parts) (n.closing ∷ []) all.1).0) n.values
+    let all : AreScalars (n.opening ∷ comma_joined n.parts ++ n.closing ∷ []) = subst AreScalars n.whole (characters_of text u) in
+    values_are_texts (form_of t) n.parts nest.values (parts_scalars n.parts (all_parts (comma_joined n.parts) (n.closing ∷ []) all.1).0) n.values

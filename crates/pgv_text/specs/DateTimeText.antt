@@ -26,7 +26,7 @@ use Rattle.jiff_core.specs.declared.civil.datetime.DateTime.{DateTime}
 use Rattle.jiff_core.specs.declared.civil.time.Time.{Time}
 use Rattle.jiff_core.specs.declared.offset.Offset.{Offset}
 use Rattle.jiff_core.specs.declared.timestamp.Timestamp.{Timestamp}
-use Rattle.pgv_text.specs.FieldText.{two_digits, four_digits, IsFractionIfAny, Front, ◌>>=◌, after, two, two_below, four, fraction, whole}
+use Rattle.pgv_text.specs.FieldText.{two_digits, four_digits, IsFractionIfAny, Front, ◌>>=◌, after_byte, two, two_below, four, fraction, whole}
 
 -- ---- what the texts are; 45 is `-`, 58 is `:`, 43 is `+` and 32 is a space
 
@@ -102,9 +102,9 @@ day_number year month day = if is_day year month day then Some (days_from_civil 
 abbrev pub date_front : List ℕ → Front ℤ
 date_front text = do
   year ← four text
-  after_year ← after 45 year.1
+  after_year ← after_byte 45 year.1
   month ← two after_year
-  after_month ← after 45 month.1
+  after_month ← after_byte 45 month.1
   day ← two after_month
   number ← day_number year.0 month.0 day.0
   Some (number, day.1)
@@ -118,9 +118,9 @@ clock_nanos hour minute second nanos =
 abbrev pub clock_front : List ℕ → Front ℕ
 clock_front text = do
   hour ← two text
-  after_hour ← after 58 hour.1
+  after_hour ← after_byte 58 hour.1
   minute ← two after_hour
-  after_minute ← after 58 minute.1
+  after_minute ← after_byte 58 minute.1
   second ← two after_minute
   nanos ← fraction second.1
   time ← clock_nanos hour.0 minute.0 second.0 nanos.0
@@ -142,13 +142,13 @@ time_front text = midnight_or (clock_front text) (after_midnight text)
 abbrev pub seconds_value : List ℕ → Option ℕ
 seconds_value [] = Some 0
 seconds_value (c ∷ cs) = do
-  rest ← after 58 (c ∷ cs)
+  rest ← after_byte 58 (c ∷ cs)
   whole (two_below 60 rest)
 
 abbrev pub minutes_value : List ℕ → Option ℕ
 minutes_value [] = Some 0
 minutes_value (c ∷ cs) = do
-  rest ← after 58 (c ∷ cs)
+  rest ← after_byte 58 (c ∷ cs)
   minute ← two_below 60 rest
   second ← seconds_value minute.1
   Some (minute.0 * 60 + second)
@@ -176,7 +176,7 @@ nanos_at day time = day *ℤ pos 86_400_000_000_000 +ℤ pos time
 abbrev pub civil_front : List ℕ → Front ℤ
 civil_front text = do
   date ← date_front text
-  rest ← after 32 date.1
+  rest ← after_byte 32 date.1
   time ← clock_front rest
   Some (nanos_at date.0 time.0, time.1)
 

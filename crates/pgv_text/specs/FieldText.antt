@@ -40,9 +40,9 @@ abbrev pub ◌>>=◌ : {A B : Type 0} → Option A → (A → Option B) → Opti
 read >>= f = option_and_then f read
 
 -- The text after this byte.
-abbrev pub after : ℕ → List ℕ → Option (List ℕ)
-after byte [] = None
-after byte (first ∷ rest) = if first == byte then Some rest else None
+abbrev pub after_byte : ℕ → List ℕ → Option (List ℕ)
+after_byte byte [] = None
+after_byte byte (first ∷ rest) = if first == byte then Some rest else None
 
 -- Two digits.
 abbrev pub two : List ℕ → Front ℕ

@@ -1,4 +1,4 @@
-pub mod NumberText
+pub mod IntText
 pub mod ScalarText
 pub mod NestPieces
 pub mod ArrayText

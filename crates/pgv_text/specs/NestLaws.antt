@@ -48,5 +48,5 @@ ValuesAreTexts = (form : TextForm) (text : List ℕ) (nest : Nest) → IsUtf8 te
 abbrev pub RangeIsComputed : Type 0
 RangeIsComputed = (text : List ℕ) (content : RangeContent) → (range_content text ≡ Some content) ↔ IsRangeOf text content
 
-abbrev pub OneRange : Type 0
-OneRange = (text : List ℕ) (content other : RangeContent) → IsRangeOf text content → IsRangeOf text other → content ≡ other
+abbrev pub OneRangeOfText : Type 0
+OneRangeOfText = (text : List ℕ) (content other : RangeContent) → IsRangeOf text content → IsRangeOf text other → content ≡ other

@@ -100,9 +100,9 @@ abbrev pub text_of : List Piece → List ℕ
 text_of pieces = flat_map meaning pieces
 
 -- Parts joined by commas.
-abbrev pub joined : List (List Piece) → List ℕ
-joined [] = []
-joined (part ∷ parts) = spelled part ++ flat_map (λ p. 44 ∷ spelled p) parts
+abbrev pub comma_joined : List (List Piece) → List ℕ
+comma_joined [] = []
+comma_joined (part ∷ parts) = spelled part ++ flat_map (λ p. 44 ∷ spelled p) parts
 
 -- R holds of the elements of two lists in order, and the lists are as long.
 abbrev pub Pairwise : {X Y : Type 0} → (X → Y → Type 0) → List X → List Y → Type 0
@@ -137,7 +137,7 @@ pub record IsNestText (form : Form) (text : List ℕ) (nest : Nest) : Type 0 whe
   pub closes : form.closes closing ≡ true
   pub each : AllByRecursion (ArePieces form) parts
   pub counted : AreCounted form.count parts
-  pub whole : text ≡ opening ∷ joined parts ++ closing ∷ []
+  pub whole : text ≡ opening ∷ comma_joined parts ++ closing ∷ []
   pub values : Pairwise (IsPart form) parts nest.values
   pub lower : nest.lower ≡ (opening == 91)
   pub upper : nest.upper ≡ (closing == 93)

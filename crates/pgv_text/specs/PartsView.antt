@@ -57,8 +57,8 @@ abbrev pub HasEnded : Parts → Parts → Type 0
 HasEnded was now = ((nest was).values ≡ []) × (now ≡ was)
 
 -- a part was to come, and it is still
-abbrev pub IsKept : Parts → Parts → Type 0
-IsKept was now = ((nest was).values ≢ []) × (now ≡ was)
+abbrev pub StillComes : Parts → Parts → Type 0
+StillComes was now = ((nest was).values ≢ []) × (now ≡ was)
 
 -- what a taken part leaves as it is: the brackets, and whether it is the empty range
 pub record HasBracketsOf (was now : Parts) : Type 0 where

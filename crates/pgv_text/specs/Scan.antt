@@ -62,16 +62,16 @@ closes_here form [] = false
 closes_here form (c ∷ cs) = form.closes c
 
 -- as many values as the form has; the bracket may close at once
-abbrev pub counted : Count → Bool → List (Option (List ℕ)) → Option (List (Option (List ℕ)))
-counted any true values = Some []
-counted any false values = Some values
-counted some written_early values = Some values
-counted two written_early values = if length values == 2 then Some values else None
+abbrev pub values_counted : Count → Bool → List (Option (List ℕ)) → Option (List (Option (List ℕ)))
+values_counted any true values = Some []
+values_counted any false values = Some values
+values_counted some written_early values = Some values
+values_counted two written_early values = if length values == 2 then Some values else None
 
 -- after an opening bracket, with these values and this closing one
 abbrev pub nest_between : Form → ℕ → List ℕ → List (Option (List ℕ)) → ℕ → Option Nest
 nest_between form opening cs values closing =
-    option_map (λ values. record { values = values; lower = opening == 91; upper = closing == 93 }) (counted form.count (closes_here form cs) values)
+    option_map (λ values. record { values = values; lower = opening == 91; upper = closing == 93 }) (values_counted form.count (closes_here form cs) values)
 
 -- What is read from a place in a part: the rest of its text, the values of the parts after it, and the bracket.
 pub record Rest : Type 0 where

@@ -62,14 +62,14 @@ parse_at form c cs go k AfterQuote = parse_after_quote form c cs go form.doubles
 parse_at form c cs go k AfterBackslash = option_map (with_piece (escaped c)) (go Outside)
 parse_at form c cs go k QuotedBackslash = option_map (with_item (inner_escaped c)) (go Quoted)
 
-abbrev pub parse : Form → Place → List ℕ → Option Found
-parse form place [] = None
-parse form place (c ∷ cs) = parse_at form c cs (λ q. parse form q cs) (class form c) place
+abbrev pub parse_pieces : Form → Place → List ℕ → Option Found
+parse_pieces form place [] = None
+parse_pieces form place (c ∷ cs) = parse_at form c cs (λ q. parse_pieces form q cs) (class form c) place
 
 -- What a text of characters is of; the laws say that it is exactly this.
 abbrev pub nest_of : Form → List ℕ → Option Nest
 nest_of form [] = None
 nest_of form (c ∷ cs) =
     if form.opens c
-    then (option_and_then (λ r. nest_between form c cs (value_here form cs (encode_utf8_all (text_of r.first)) ∷ r.values) r.closing) (parse form Start cs))
+    then (option_and_then (λ r. nest_between form c cs (value_here form cs (encode_utf8_all (text_of r.first)) ∷ r.values) r.closing) (parse_pieces form Start cs))
     else None

@@ -7,7 +7,7 @@ ghost use Rattle.pgv_text.specs.FieldText as spec;
 
 /// The text after this byte.
 pub(crate) fn after(text: &[u8], byte: u8) -> Option<&[u8]>
-    ensures { option_copied result ≡ spec.after byte text.now }
+    ensures { option_copied result ≡ spec.after_byte byte text.now }
 {
     match text {
         [first, rest @ ..] if *first == byte => Some(rest),

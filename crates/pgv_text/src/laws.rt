@@ -4,32 +4,32 @@ ghost use Rattle.std.specs.Prelude.{◌≡◌, ◌↔◌, true};
 ghost use Rattle.pgv_text.specs.AddressText.{AddressIsItsValue};
 ghost use Rattle.pgv_text.specs.Copies.{UnquotedIsNotCopied};
 ghost use Rattle.pgv_text.specs.DateTimeText.{DateIsItsValue, DateTimeIsItsValue, InstantIsItsValue, OneDate, OneDateTime, OneInstant, OneTime, OneTimeTz, TimeIsItsValue, TimeTzIsItsValue};
-ghost use Rattle.pgv_text.specs.NestLaws.{ArrayIsItsValues, EveryListHasAText, NestIsComputed, OneNest, OneRange, RangeIsComputed, RecordIsItsValues, SpelledReadsBack, ValuesAreTexts};
+ghost use Rattle.pgv_text.specs.NestLaws.{ArrayIsItsValues, EveryListHasAText, NestIsComputed, OneNest, OneRangeOfText, RangeIsComputed, RecordIsItsValues, SpelledReadsBack, ValuesAreTexts};
 ghost use Rattle.pgv_text.specs.NetworkText.{network_of, NetworkIsItsValue, OneNetwork};
-ghost use Rattle.pgv_text.specs.NumberText.{NumberIsItsValue, OneNumber, OneUnsignedNumber, UnsignedIsItsValue};
+ghost use Rattle.pgv_text.specs.IntText.{NumberIsItsValue, OneNumber, OneUnsignedNumber, UnsignedIsItsValue};
 
 use crate::{IpNetwork, Ipv4Network, Ipv6Network};
 
 /// `number_value` computes a number from a text iff the grammar of whole numbers assigns this number to the text.
-#[tactic(auto, using(crate::proofs::ParsedNumbers::number_is_its_value))]
+#[tactic(auto, using(crate::proofs::ParsedInts::number_is_its_value))]
 pub fn number_is_its_value()
     ensures { NumberIsItsValue }
 {}
 
 /// `unsigned_value` computes a number from a text iff the grammar of unsigned numbers assigns this number to the text.
-#[tactic(auto, using(crate::proofs::ParsedNumbers::unsigned_is_its_value))]
+#[tactic(auto, using(crate::proofs::ParsedInts::unsigned_is_its_value))]
 pub fn unsigned_number_is_its_value()
     ensures { UnsignedIsItsValue }
 {}
 
 /// A text denotes at most one whole number.
-#[tactic(auto, using(crate::proofs::ParsedNumbers::one_number))]
+#[tactic(auto, using(crate::proofs::ParsedInts::one_number))]
 pub fn one_number()
     ensures { OneNumber }
 {}
 
 /// A text denotes at most one unsigned number.
-#[tactic(auto, using(crate::proofs::ParsedNumbers::one_unsigned))]
+#[tactic(auto, using(crate::proofs::ParsedInts::one_unsigned))]
 pub fn one_unsigned_number()
     ensures { OneUnsignedNumber }
 {}
@@ -57,7 +57,7 @@ pub fn range_is_computed()
 /// A text denotes at most one range, so that no text of two bounds also denotes the empty range.
 #[tactic(auto, using(crate::proofs::Contents::one_range))]
 pub fn one_range()
-    ensures { OneRange }
+    ensures { OneRangeOfText }
 {}
 
 /// No part of a well-formed text without quotes and backslashes is copied when it is read.

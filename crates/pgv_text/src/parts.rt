@@ -232,7 +232,7 @@ pub struct Parts<'a> {
 }
 
 impl<'a> Parts<'a> {
-    ghost use Rattle.pgv_text.specs.PartsView.{AreBounded, ArePartsOf, HasBracketsOf, HasEnded, IsKept, Takes, copies, is_of_empty, nest};
+    ghost use Rattle.pgv_text.specs.PartsView.{AreBounded, ArePartsOf, HasBracketsOf, HasEnded, StillComes, Takes, copies, is_of_empty, nest};
 
     /// The parts of a text; `None` if the text isn't in the form. The empty range has no parts.
     #[tactic(auto, using(crate::proofs::Contents::empty_parts, crate::proofs::Contents::nest_parts))]
@@ -321,7 +321,7 @@ impl<'a> Parts<'a> {
             (λ present. Takes (if present then Some (string_bytes text.new) else None)
             self.old self.new
             × (present ≡ false → string_bytes text.new ≡ [])))
-            (λ _. IsKept self.old self.new × (string_bytes text.new ≡ [])) }
+            (λ _. StillComes self.old self.new × (string_bytes text.new ≡ [])) }
         ensures brackets { HasBracketsOf self.old self.new }
     {
         if self.count == 0 {
@@ -357,7 +357,7 @@ impl<'a> Parts<'a> {
         ensures taken { MatchResult result
             (λ found. MatchOption found (HasEnded self.old self.new)
             (λ part. Takes (part_value part (string_bytes text.new)) self.old self.new))
-            (λ _. IsKept self.old self.new × (first_copied (copies self.old) ≡ true)) }
+            (λ _. StillComes self.old self.new × (first_copied (copies self.old) ≡ true)) }
         ensures brackets { HasBracketsOf self.old self.new }
     {
         if self.count == 0 {
@@ -377,7 +377,7 @@ impl<'a> Parts<'a> {
         ensures taken { MatchResult result
             (λ found. MatchOption found (HasEnded self.old self.new)
             (λ part. Takes (part_bytes part) self.old self.new))
-            (λ _. IsKept self.old self.new) }
+            (λ _. StillComes self.old self.new) }
         ensures brackets { HasBracketsOf self.old self.new }
     {
         let mut text = String::new(alloc);

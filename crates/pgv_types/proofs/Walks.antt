@@ -3,13 +3,13 @@ use Rattle.std.proofs.Common.{◌≡◌, ◌≢◌, ◌⊎◌, inl, inr, ℕ, �
 use Rattle.std.specs.List.{flat_map}
 use Rattle.std.proofs.lemmas.Bool.{ne_eqb, eq-eqb}
 use Rattle.std.proofs.lemmas.Bool.Decides.{eqb_tells}
-use Rattle.pgv_types.specs.Names.{Token, letter, quote, switch, token_spelling, switches, AreTokens, Significant, chars_after, AreSignificant, walk}
+use Rattle.pgv_types.specs.Names.{NameToken, letter, quote, switch, token_spelling, switches, AreTokens, Significant, chars_after, AreSignificant, walk}
 
 -- an odd number of switches
-abbrev pub odd : List Token → Bool
+abbrev pub odd : List NameToken → Bool
 odd front = switches front % 2 == 1
 
-switches_push : (front : List Token) (token : Token) → switches (front ++ token ∷ []) ≡ switches front + switches (token ∷ [])
+switches_push : (front : List NameToken) (token : NameToken) → switches (front ++ token ∷ []) ≡ switches front + switches (token ∷ [])
 switches_push [] (letter c) = refl
 switches_push [] quote = refl
 switches_push [] switch = refl
@@ -26,16 +26,16 @@ odd_more n = elim (eqb_tells (n % 2) 1) [
 ]
 
 -- The characters of tokens, by whether the number of switches before is odd.
-abbrev pub chars_of : Bool → List Token → List Significant
+abbrev pub chars_of : Bool → List NameToken → List Significant
 chars_of sensitive [] = []
 chars_of sensitive (letter c ∷ tokens) = record { char = c; sensitive = sensitive } ∷ chars_of sensitive tokens
 chars_of sensitive (quote ∷ tokens) = record { char = 34; sensitive = sensitive } ∷ chars_of sensitive tokens
 chars_of sensitive (switch ∷ tokens) = chars_of (not sensitive) tokens
 
-odd_push : (front : List Token) (token : Token) → odd (front ++ token ∷ []) ≡ ((switches front + switches (token ∷ [])) % 2 == 1)
+odd_push : (front : List NameToken) (token : NameToken) → odd (front ++ token ∷ []) ≡ ((switches front + switches (token ∷ [])) % 2 == 1)
 odd_push front token = ap (λ n. n % 2 == 1) (switches_push front token)
 
-pub counted : (tokens front : List Token) → chars_after front tokens ≡ chars_of (odd front) tokens
+pub counted : (tokens front : List NameToken) → chars_after front tokens ≡ chars_of (odd front) tokens
 counted [] front = refl
 counted (letter c ∷ tokens) front =
     ap (λ cs. record { char = c; sensitive = odd front } ∷ cs) (counted tokens (front ++ letter c ∷ []) ∙ ap (λ b. chars_of b tokens) (odd_push front (letter c) ∙ simp add-zero))
@@ -44,13 +44,13 @@ counted (quote ∷ tokens) front =
 counted (switch ∷ tokens) front =
     counted tokens (front ++ switch ∷ []) ∙ ap (λ b. chars_of b tokens) (odd_push front switch ∙ odd_more (switches front))
 
-abbrev pub spelled : List Token → List ℕ
+abbrev pub spelled : List NameToken → List ℕ
 spelled tokens = flat_map token_spelling tokens
 
 letter_walk : (sensitive pending : Bool) (c : ℕ) (cs : List ℕ) → c ≢ 34 → walk sensitive pending (c ∷ cs) ≡ cond pending (record { char = c; sensitive = not sensitive } ∷ walk (not sensitive) false cs) (record { char = c; sensitive = sensitive } ∷ walk sensitive false cs)
 letter_walk sensitive pending c cs n = rw (ne_eqb c 34 n)
 
-pub walked : (sensitive : Bool) (tokens : List Token) → AreTokens tokens → walk sensitive false (spelled tokens) ≡ chars_of sensitive tokens
+pub walked : (sensitive : Bool) (tokens : List NameToken) → AreTokens tokens → walk sensitive false (spelled tokens) ≡ chars_of sensitive tokens
 walked sensitive [] h = refl
 walked sensitive (letter c ∷ tokens) h = letter_walk sensitive false c (spelled tokens) h.0 ∙ ap (λ cs. record { char = c; sensitive = sensitive } ∷ cs) (walked sensitive tokens h.1)
 walked sensitive (quote ∷ tokens) h = ap (λ cs. record { char = 34; sensitive = sensitive } ∷ cs) (walked sensitive tokens h)
@@ -61,7 +61,7 @@ walked sensitive (switch ∷ switch ∷ tokens) h = absurd h.0
 
 -- every text has tokens; at true, with a quote in front
 pub record HasTokens (name : List ℕ) : Type 0 where
-  pub tokens : List Token
+  pub tokens : List NameToken
   pub are : AreTokens tokens
   pub whole : name ≡ spelled tokens
 

@@ -9,5 +9,5 @@ name_text n = n.text.now
 abbrev pub name_suffix : PgTypeName → List ℕ
 name_suffix n = suffix_of n.brackets
 
-abbrev pub whole : PgTypeName → List ℕ
-whole n = name_text n ++ name_suffix n
+abbrev pub whole_name : PgTypeName → List ℕ
+whole_name n = name_text n ++ name_suffix n

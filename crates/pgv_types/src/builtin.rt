@@ -3,7 +3,7 @@
 ghost use Rattle.std.specs.Prelude.{◌≡◌, Some, map, option_map, slice_get};
 ghost use Rattle.pgv_types.specs.Facts.{built_in, built_in_kind, element_oid};
 ghost use Rattle.pgv_types.specs.LentParts.{kind_lent, ref_type};
-ghost use Rattle.pgv_types.specs.Shown.{number_of};
+ghost use Rattle.pgv_types.specs.Shown.{oid_of_variant};
 ghost use Rattle.pgv_types.specs.Table.{TypeEntry, entries};
 ghost use Rattle.pgv_types.specs.TableView.{IsTableRow, entry_in_row};
 ghost use Rattle.pgv_types.specs.Ty.{builtin};
@@ -244,7 +244,7 @@ impl PgBuiltIn {
     #[inline(always)]
     fn place(self) -> usize
         ensures { option_map (λ (e : TypeEntry). e.oid) (slice_get entries result)
-            ≡ Some (number_of self) }
+            ≡ Some (oid_of_variant self) }
     {
         self as usize
     }
@@ -252,14 +252,14 @@ impl PgBuiltIn {
     /// Its row.
     #[inline(always)]
     pub(crate) fn row(self) -> &'static Row
-        ensures { IsTableRow (number_of self) result.now }
+        ensures { IsTableRow (oid_of_variant self) result.now }
     {
         &rows()[self.place()]
     }
 
     /// The element of an array.
     pub(crate) fn element(self) -> Option<PgBuiltIn>
-        ensures { option_map number_of result ≡ element_oid (number_of self) }
+        ensures { option_map oid_of_variant result ≡ element_oid (oid_of_variant self) }
     {
         match self.row().kind {
             RowKind::Array(element) => Some(element),
@@ -269,7 +269,7 @@ impl PgBuiltIn {
 
     /// Its kind.
     pub(crate) fn kind(self) -> PgTypeKindRef<'static>
-        ensures { kind_lent result ≡ built_in_kind (number_of self) }
+        ensures { kind_lent result ≡ built_in_kind (oid_of_variant self) }
     {
         match self.row().kind {
             RowKind::Simple => PgTypeKindRef::Simple,
@@ -281,7 +281,7 @@ impl PgBuiltIn {
 
     /// The built-in type with this OID. `None` where no built-in type has it.
     pub(crate) fn try_from_oid(oid: Oid) -> Option<PgBuiltIn>
-        ensures { option_map (λ found. builtin (number_of found)) result ≡ built_in oid.0 }
+        ensures { option_map (λ found. builtin (oid_of_variant found)) result ≡ built_in oid.0 }
     {
         let found = match oid.0 {
             16 => PgBuiltIn::Bool,
@@ -384,7 +384,7 @@ impl PgBuiltIn {
 
 /// A built-in type that is part of another.
 fn held(part: PgBuiltIn) -> PgTypeRef<'static>
-    ensures { ref_type result ≡ builtin (number_of part) }
+    ensures { ref_type result ≡ builtin (oid_of_variant part) }
 {
     PgTypeRef::Owned(PgTypeInfo(PgType::BuiltIn(part)))
 }

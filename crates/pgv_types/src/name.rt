@@ -8,7 +8,7 @@ ghost use Rattle.pgv_types.specs.Names.{AreSignificant, walk, alike, all_alike};
 ghost use Rattle.pgv_types.specs.Agree.{Agree, agree, BeginsUnicode, significant, char_seen};
 ghost use Rattle.pgv_types.specs.Suffix.{suffix_of};
 ghost use Rattle.pgv_types.specs.Left.{left};
-ghost use Rattle.pgv_types.specs.Whole.{whole, name_text, name_suffix};
+ghost use Rattle.pgv_types.specs.Whole.{whole_name, name_text, name_suffix};
 
 use crate::characters::Letters;
 use std::fmt::{Alignment, Display, Formatter, Result, Write};
@@ -178,7 +178,7 @@ pub struct PgTypeName<'a> {
 impl<'a> PgTypeName<'a> {
     /// A text, with `[]` after it or nothing.
     pub fn new(text: &'a str, brackets: bool) -> Self
-        ensures whole { whole result ≡ text.now ++ suffix_of brackets }
+        ensures whole_name { whole_name result ≡ text.now ++ suffix_of brackets }
         ensures text { name_text result ≡ text.now }
         ensures suffix { name_suffix result ≡ suffix_of brackets }
     {
@@ -187,7 +187,7 @@ impl<'a> PgTypeName<'a> {
 
     /// The name that is this text.
     pub fn plain(text: &'a str) -> Self
-        ensures { whole result ≡ text.now }
+        ensures { whole_name result ≡ text.now }
     {
         PgTypeName::new(text, false)
     }
@@ -230,7 +230,7 @@ impl<'a> PgTypeName<'a> {
 
     /// Whether the name begins with `U&`.
     fn begins_unicode(&self) -> bool
-        ensures { (result ≡ true) ↔ BeginsUnicode (whole self.now) }
+        ensures { (result ≡ true) ↔ BeginsUnicode (whole_name self.now) }
     {
         begins_unicode(self.text)
     }
@@ -238,7 +238,7 @@ impl<'a> PgTypeName<'a> {
     /// Whether two names are the same text.
     #[tactic(auto, using(crate::proofs::Same::same_after, crate::proofs::Same::bytes_eq_sym))]
     fn is_same(&self, other: &PgTypeName<'_>) -> bool
-        ensures { result ≡ bytes_eq (whole self.now) (whole other.now) }
+        ensures { result ≡ bytes_eq (whole_name self.now) (whole_name other.now) }
     {
         match (self.brackets, other.brackets) {
             (true, false) => is_with_brackets(other.text, self.text),
@@ -251,7 +251,7 @@ impl<'a> PgTypeName<'a> {
     /// Whether two names agree, as `name_eq` decides for texts. It takes no memory.
     #[tactic(auto, using(crate::proofs::Tells::agree_same))]
     pub fn agrees(&self, other: &PgTypeName<'_>) -> bool
-        ensures { result ≡ agree (whole self.now) (whole other.now) }
+        ensures { result ≡ agree (whole_name self.now) (whole_name other.now) }
     {
         if self.is_same(other) {
             return true;
@@ -278,11 +278,11 @@ fn fill<W: Write>(count: usize, f: &mut Formatter<W>) -> Result {
 /// The whole name. It is never padded.
 impl Display for PgTypeName<'_> {
     ghost use Rattle.std.specs.Prelude.{Some};
-    ghost use Rattle.pgv_types.specs.Whole.{whole};
+    ghost use Rattle.pgv_types.specs.Whole.{whole_name};
 
-    ghost output = { λ n. Some (whole n) };
+    ghost output = { λ n. Some (whole_name n) };
 
-    ghost styled_output = { λ n _. Some (whole n) };
+    ghost styled_output = { λ n _. Some (whole_name n) };
 
     fn fmt<W: Write>(&self, f: &mut Formatter<W>) -> Result {
         f.write_str(self.text)?;

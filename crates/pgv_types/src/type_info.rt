@@ -1,6 +1,6 @@
 //! Types as callers hold them.
 ghost use Rattle.std.specs.Prelude.{◌≡◌, None, false, true, option_map, IfOk, IfSome};
-ghost use Rattle.pgv_types.specs.Whole.{whole};
+ghost use Rattle.pgv_types.specs.Whole.{whole_name};
 ghost use Rattle.pgv_types.specs.Facts.{is_custom, is_void, IsNotCustom, domain_base, under_domains, oid_of, same_built_in, same_oid, built_in_oid, element_of, name_element, kind_at, name_of, name_text_of, display_text_of, has_brackets, has_oid, display_of, shows_brackets, built_in};
 ghost use Rattle.pgv_types.specs.Relations.{is_by_oid};
 ghost use Rattle.pgv_types.specs.Ty.{named, array_of, by_oid, custom};
@@ -145,14 +145,14 @@ impl PgType {
 
     /// The catalogue name: a custom type's or a declared one's own, and `?` where only an OID is known.
     pub fn name(&self) -> PgTypeName<'_>
-        ensures { whole result ≡ name_of (type_of self.now) }
+        ensures { whole_name result ≡ name_of (type_of self.now) }
     {
         PgTypeName::new(self.name_text(), self.is_array_of())
     }
 
     /// The name that is shown.
     pub fn display_name(&self) -> PgTypeName<'_>
-        ensures { whole result ≡ display_of (type_of self.now) }
+        ensures { whole_name result ≡ display_of (type_of self.now) }
     {
         PgTypeName::new(self.display_text(), self.shows_brackets())
     }
@@ -381,7 +381,7 @@ impl PgTypeInfo {
 
     /// The name that is shown: in upper case for a built-in type, with `[]` after an array.
     pub fn name(&self) -> PgTypeName<'_>
-        ensures { whole result ≡ display_of self.now }
+        ensures { whole_name result ≡ display_of self.now }
     {
         self.0.display_name()
     }

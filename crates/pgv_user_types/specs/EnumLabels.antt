@@ -20,19 +20,19 @@ labelled [] label = None
 labelled (row ∷ rows) label = if bytes_eq label row.0 then Some row.1 else labelled rows label
 
 -- Whether a label is UTF-8. Of one of ASCII characters this computes, so that `refl` shows it.
-abbrev pub is_label : List ℕ → Bool
-is_label label = are_ascii label || is_utf8 label
+abbrev pub is_enum_label : List ℕ → Bool
+is_enum_label label = are_ascii label || is_utf8 label
 
 -- whether all labels of a table are
 abbrev pub are_labels : {A : Type 0} → List (List ℕ × A) → Bool
 are_labels [] = true
-are_labels (row ∷ rows) = is_label row.0 && are_labels rows
+are_labels (row ∷ rows) = is_enum_label row.0 && are_labels rows
 
 either_utf8 : (label : List ℕ) (ascii : Bool) → are_ascii label ≡ ascii → (ascii || is_utf8 label) ≡ true → is_utf8 label ≡ true
 either_utf8 label true ascii e = ascii_is_utf8 label ascii
 either_utf8 label false ascii e = e
 
-row_utf8 : {A : Type 0} (row : List ℕ × A) (rows : List (List ℕ × A)) (label : List ℕ) (v : A) (same : Bool) → bytes_eq label row.0 ≡ same → is_label row.0 ≡ true →
+row_utf8 : {A : Type 0} (row : List ℕ × A) (rows : List (List ℕ × A)) (label : List ℕ) (v : A) (same : Bool) → bytes_eq label row.0 ≡ same → is_enum_label row.0 ≡ true →
     (labelled rows label ≡ Some v → is_utf8 label ≡ true) → (if same then Some row.1 else labelled rows label) ≡ Some v → is_utf8 label ≡ true
 row_utf8 row rows label v true same text below found =
     ap is_utf8 ((bytes_eq-Decides label row.0).0 same) ∙ either_utf8 row.0 (are_ascii row.0) refl text
@@ -41,7 +41,7 @@ row_utf8 row rows label v false same text below found = below found
 label_utf8 : {A : Type 0} (rows : List (List ℕ × A)) (label : List ℕ) (v : A) → are_labels rows ≡ true → labelled rows label ≡ Some v → is_utf8 label ≡ true
 label_utf8 [] label v e found = absurd cc
 label_utf8 (row ∷ rows) label v e found =
-    let parts = and_parts (is_label row.0) (are_labels rows) e in
+    let parts = and_parts (is_enum_label row.0) (are_labels rows) e in
     row_utf8 row rows label v (bytes_eq label row.0) refl parts.0 (label_utf8 rows label v parts.1) found
 
 -- a value is written as its label

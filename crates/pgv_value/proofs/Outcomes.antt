@@ -4,7 +4,7 @@ use Rattle.std.specs.Prelude.{ok_or, IfErr}
 use Rattle.std.proofs.lemmas.Bool.{false≢true}
 use Rattle.pgv_value.specs.declared.error.CodecError.{CodecError}
 use Rattle.pgv_value.specs.declared.error.CodecError.TheVariants.{Memory}
-use Rattle.pgv_value.specs.Outcome.{Outcome, Fails, fails_if, stated, exactly, bind_by, ok_of, ◌>>=◌, ◌>>◌}
+use Rattle.pgv_value.specs.Outcome.{Outcome, Fails, fails_if, stated, in_place, bind_by, ok_of, ◌>>=◌, ◌>>◌}
 use Rattle.pgv_value.specs.Parsed.{Parsed, ◌>>=◌ as ◌and_then◌}
 
 pub answer_is : {A : Type 0} (x y : A) → (let r : Result A (Option CodecError) = Ok x in r) ≡ Ok y → x ≡ y
@@ -47,7 +47,7 @@ module _ {A B : Type 0} where
   pub taken : (o : Outcome A) (next : A → Outcome B) (y : B) → (o >>= next).answer ≡ Ok y → (x : A) × (o.answer ≡ Ok x) × ((next x).answer ≡ Ok y)
   taken o next y e = taken_by o.answer o.may_alloc next y e
 
-  pub taken_exactly : (p : Parsed A) (next : A → Outcome B) (y : B) → (exactly p >>= next).answer ≡ Ok y → (x : A) × (p ≡ Ok x) × ((next x).answer ≡ Ok y)
+  pub taken_exactly : (p : Parsed A) (next : A → Outcome B) (y : B) → (in_place p >>= next).answer ≡ Ok y → (x : A) × (p ≡ Ok x) × ((next x).answer ≡ Ok y)
   taken_exactly (Ok x) next y e = (x, refl, e)
   taken_exactly (Err d) next y e = absurd cc
 

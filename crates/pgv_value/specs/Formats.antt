@@ -1,6 +1,6 @@
 -- Values by their format, where reading them may ask for memory. Null is C13.
 use Rattle.std.specs.Prelude.{ℕ, List, Option, Some, None}
-use Rattle.pgv_value.specs.Outcome.{Outcome, exactly, fails, ◌>>=◌}
+use Rattle.pgv_value.specs.Outcome.{Outcome, in_place, fails, ◌>>=◌}
 use Rattle.pgv_value.specs.Utf8.{utf8_part}
 use Rattle.pgv_value.specs.ValueView.{Given}
 use Rattle.pgv_value.specs.declared.error.CodecError.TheVariants.{UnexpectedNull, TextUnsupported}
@@ -10,7 +10,7 @@ use Rattle.pgv_value.specs.declared.value.PgValueFormat.TheVariants.{Text, Binar
 abbrev pub by_format : {M : Type 0} → (List ℕ → Outcome M) → (List ℕ → Outcome M) → PgValueFormat → Option (List ℕ) → Outcome M
 by_format binary text format None = fails UnexpectedNull
 by_format binary text Binary (Some bytes) = binary bytes
-by_format binary text Text (Some bytes) = exactly (utf8_part (Some bytes)) >>= text
+by_format binary text Text (Some bytes) = in_place (utf8_part (Some bytes)) >>= text
 
 -- in either format; a text that isn't UTF-8 is C14
 abbrev pub in_both_formats : {M : Type 0} → (List ℕ → Outcome M) → (List ℕ → Outcome M) → Given → Outcome M

@@ -10,7 +10,7 @@ use Rattle.pgv_value.specs.Utf8.{is_utf8}
 use Rattle.pgv_value.specs.declared.error.CodecError.TheVariants.{Short, OutOfRange, Utf8}
 use Rattle.pgv_value.specs.declared.value.PgValueFormat.{PgValueFormat}
 use Rattle.pgv_value.specs.declared.value.PgValueFormat.TheVariants.{Text, Binary}
-use Rattle.pgv_value.specs.Outcome.{Outcome, exactly}
+use Rattle.pgv_value.specs.Outcome.{Outcome, in_place}
 use Rattle.pgv_value.specs.Parsed.{Parsed, ◌>>=◌}
 use Rattle.pgv_value.specs.ValueView.{Given, given}
 
@@ -43,7 +43,7 @@ abbrev pub part_front : List ℕ → Parsed (Part × List ℕ)
 part_front bytes = ok_or (front bytes) (frame_fault bytes)
 
 abbrev pub one_part : List ℕ → Outcome (Part × List ℕ)
-one_part bytes = exactly (part_front bytes)
+one_part bytes = in_place (part_front bytes)
 
 -- the part of a frame as a value of a type and in a format
 abbrev pub value_front : Ty → PgValueFormat → List ℕ → Parsed (Given × List ℕ)
@@ -52,11 +52,11 @@ value_front t format bytes = part_front bytes >>= λ p. Ok (given t format p.0, 
 -- ---- the same as steps of an outcome
 
 abbrev pub u32_at : List ℕ → Outcome (ℕ × List ℕ)
-u32_at bytes = exactly (u32_front bytes)
+u32_at bytes = in_place (u32_front bytes)
 
 -- the part of a frame as a value in binary
 abbrev pub value_at : Ty → List ℕ → Outcome (Given × List ℕ)
-value_at t bytes = exactly (value_front t Binary bytes)
+value_at t bytes = in_place (value_front t Binary bytes)
 
 -- the format of a code: 0 is text and 1 binary, and any other is C30
 abbrev pub format_of : ℕ → Parsed PgValueFormat

@@ -10,7 +10,7 @@ pub mod Outcome
 pub mod Formats
 pub mod Fronts
 pub mod Several
-pub mod NumberBinary
+pub mod IntBinary
 pub mod ScalarGrammar
 pub mod DateTimeBinary
 pub mod NetworkBinary

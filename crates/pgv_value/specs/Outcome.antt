@@ -1,7 +1,7 @@
 -- What a reader gives: a view of the value or the error, and whether memory may have been asked for by then. A grammar
 -- is one function into an outcome, written step by step with `do`: the first step that fails says why, and memory may
 -- have been asked for where one of the steps that were taken may ask for it. A step that never asks for memory is
--- `exactly` a `Parsed`. What a reader promises is then one clause, `Gives`, and of one that asks for no memory
+-- `in_place` a `Parsed`. What a reader promises is then one clause, `Gives`, and of one that asks for no memory
 -- `GivesExactly`.
 use Rattle.std.specs.Prelude.{◌≡◌, ◌≢◌, ◌⊎◌, ℕ, Bool, true, false, ◌||◌, List, Option, Some, None, is_some, Result, Ok, Err, ok_or, if◌then◌else◌, ⊤}
 use Rattle.pgv_types.specs.Ty.{Ty}
@@ -53,20 +53,20 @@ abbrev pub Reads : {M : Type 0} → (Given → Outcome M) → Given → M → Ty
 Reads parse v m = (parse v).answer ≡ Ok m
 
 -- what is read without memory
-abbrev pub exactly : {M : Type 0} → Parsed M → Outcome M
-exactly parsed = record { answer = stated parsed; may_alloc = false }
+abbrev pub in_place : {M : Type 0} → Parsed M → Outcome M
+in_place parsed = record { answer = stated parsed; may_alloc = false }
 
 -- the same of a value of a row
 abbrev pub without_memory : {M : Type 0} → (Given → Parsed M) → Given → Outcome M
-without_memory parse v = exactly (parse v)
+without_memory parse v = in_place (parse v)
 
 -- refused with this error, if this holds
 abbrev pub fails_if : Bool → CodecError → Outcome ⊤
-fails_if b e = exactly (if b then Err e else Ok tt)
+fails_if b e = in_place (if b then Err e else Ok tt)
 
 -- refused with this error, if nothing is there
 abbrev pub or_fail : {M : Type 0} → Option M → CodecError → Outcome M
-or_fail found e = exactly (ok_or found e)
+or_fail found e = in_place (ok_or found e)
 
 -- an outcome after memory may have been asked for
 abbrev pub after : {M : Type 0} → Bool → Outcome M → Outcome M
@@ -110,7 +110,7 @@ takes_of parse t format bytes = (parse (given t format bytes)).may_alloc
 -- a list that is copied: memory is asked for where it isn't empty
 abbrev pub copied : {X : Type 0} → Parsed (List X) → Outcome (List X)
 copied parsed = do
-  items ← exactly parsed
+  items ← in_place parsed
   allocates (has_items (Some items))
   done items
 

@@ -8,7 +8,7 @@ use Rattle.std.proofs.lemmas.Bool.{ltb-true, lt-ltb, le-ltb}
 use Rattle.std.proofs.lemmas.Int.{ints, to_z-of_z}
 use Rattle.std.proofs.lemmas.Nat.{from_be_bytes-to_be_bytes_2, from_be_bytes-to_be_bytes_4, from_be_bytes-to_be_bytes_8}
 use Rattle.byteorder.specs.Endian.{big_number}
-use Rattle.pgv_value.specs.NumberBinary.{fits_signed, whole_number}
+use Rattle.pgv_value.specs.IntBinary.{fits_signed, whole_number}
 use Rattle.pgv_value.specs.Parsed.{Parsed}
 
 pub is_signed : (w : Width) (v : ℤ) → fits_signed w v ≡ true → FitsSigned w v

@@ -3,7 +3,7 @@
 ghost use Rattle.std.specs.Prelude.{◌≡◌};
 ghost use Rattle.pgv_value.specs.declared.error.CodecError.TheVariants.{Memory, OutOfRange};
 ghost use Rattle.pgv_value.specs.Codes.{code_of};
-ghost use Rattle.pgv_value.specs.NumberBinary.{refusal_of};
+ghost use Rattle.pgv_value.specs.IntBinary.{refusal_of};
 ghost use Rattle.pgv_value.specs.TreeErrors.{tree_refused, query_refused};
 
 use crate::tree_error::{PgLQueryParseError, PgLTreeParseError};

@@ -17,10 +17,10 @@ use Rattle.pgv_codec.specs.Writing.{write}
 use Rattle.pgv_codec.specs.Back.{AreOids, SlotsFit, ImageFits, ReadsBack}
 use Rattle.pgv_codec.specs.BackParts.{frame_parts, SlotsFit-back, AreOids-take, AreOids-drop}
 use Rattle.pgv_wire.specs.Given.{LastGiven, zeros, given_by, given_none, given_in, parts_given, ArgumentReadsBack}
-use Rattle.pgv_wire.specs.History.{Call, last_filling, after, added_in, blanks}
+use Rattle.pgv_wire.specs.History.{Call, last_filling, after_calls, added_in, blanks}
 use Rattle.pgv_wire.specs.MainSentence.{ComeBackIn, MainSentence}
 use Rattle.pgv_codec.specs.Encoding.{Encoding, Image, null_image, image_of, frame_of}
-use Rattle.pgv_wire.specs.ArgumentParts.{AreFrames, part_in, parts_in}
+use Rattle.pgv_wire.specs.ArgumentParts.{AreImages, part_in, parts_in}
 use Rattle.pgv_codec.specs.Writing.{written_part}
 use Rattle.pgv_wire.proofs.Framed.{framed-left}
 use Rattle.pgv_wire.proofs.Histories.{left_told, only_added, history_told}
@@ -43,14 +43,14 @@ part_blank (image_of ts) f e =
     let k = cut ts f e in
     ap (λ (r : List Token). let q : Part = Some (drop 4 (shown (blank r))) in q) k.1 ∙ ap (λ (r : List ℕ). let q : Part = Some r in q) (shown-blank (tokens_holes f) ts)
 
-parts_since : (fs : List Framed) (is : List Image) → AreFrames is fs → parts_in is (blanks fs) ≡ parts_given is (given_none fs)
+parts_since : (fs : List Framed) (is : List Image) → AreImages is fs → parts_in is (blanks fs) ≡ parts_given is (given_none fs)
 parts_since [] [] h = refl
 parts_since [] (i ∷ is) h = absurd h
 parts_since (f ∷ fs) [] h = absurd h
 parts_since (f ∷ fs) (i ∷ is) h =
     ap (λ (p : Part). p ∷ parts_in is (blanks fs)) (part_blank i f.1 h.0) ∙ ap (λ (r : List Part). written_part i None (zeros (tokens_holes f.1)) ∷ r) (parts_since fs is h.1)
 
-parts_left : (fs since : List Framed) (is : List Image) (ps : List Ty) (os : List Oid) → AreFrames is (fs ++ since) → parts_in is (filled_arguments (blanks fs) ps os ++ blanks since) ≡ parts_given is (given_by fs ps os ++ given_none since)
+parts_left : (fs since : List Framed) (is : List Image) (ps : List Ty) (os : List Oid) → AreImages is (fs ++ since) → parts_in is (filled_arguments (blanks fs) ps os ++ blanks since) ≡ parts_given is (given_by fs ps os ++ given_none since)
 parts_left [] since is ps os h = parts_since since is h
 parts_left (f ∷ fs) since [] ps os h = absurd h
 parts_left (f ∷ fs) since (i ∷ is) ps os h =
@@ -63,12 +63,12 @@ parts_left (f ∷ fs) since (i ∷ is) ps os h =
     ∙ (ap (λ (n : ℕ). written_part i (Some (first_type ps)) (take n os) ∷ rest n) many
     ∙ ap (λ (r : List Part). written_part i (Some (first_type ps)) (take (tokens_holes f.1) os) ∷ r) (parts_left fs since is (rest_of ps) (drop (tokens_holes f.1) os) h.1))
 
-pub parts_told : (calls : List Call) (is : List Image) → AreFrames is (added_in calls) → parts_in is (after [] calls) ≡ parts_given is (given_in (last_filling calls))
+pub parts_told : (calls : List Call) (is : List Image) → AreImages is (added_in calls) → parts_in is (after_calls [] calls) ≡ parts_given is (given_in (last_filling calls))
 parts_told calls is h =
     let left = left_told calls in
-    let fs_are : added_in calls ≡ (last_filling calls).filled ++ (last_filling calls).since = sym (only_added calls) ∙ framed-left (after [] calls) (last_filling calls) left in
+    let fs_are : added_in calls ≡ (last_filling calls).filled ++ (last_filling calls).since = sym (only_added calls) ∙ framed-left (after_calls [] calls) (last_filling calls) left in
     ap (λ (args : List Argument). parts_in is args) left
-    ∙ parts_left (last_filling calls).filled (last_filling calls).since is (last_filling calls).types (last_filling calls).oids (subst (λ (fs : List Framed). AreFrames is fs) fs_are h)
+    ∙ parts_left (last_filling calls).filled (last_filling calls).since is (last_filling calls).types (last_filling calls).oids (subst (λ (fs : List Framed). AreImages is fs) fs_are h)
 
 -- ---- one argument
 
@@ -78,7 +78,7 @@ part_at (j ∷ is) [] k i g e f = absurd cc
 part_at (j ∷ is) (x ∷ gs) zero i g e f = rw (same_Some j i e, same_Some x g f) refl
 part_at (j ∷ is) (x ∷ gs) (suc k) i g e f = part_at is gs k i g e f
 
-image_at : (is : List Image) (fs : List Framed) (k : ℕ) (a : Framed) (j : Image) → AreFrames is fs → slice_get fs k ≡ Some a → (frame_of j).answer ≡ Ok a.1 → slice_get is k ≡ Some j
+image_at : (is : List Image) (fs : List Framed) (k : ℕ) (a : Framed) (j : Image) → AreImages is fs → slice_get fs k ≡ Some a → (frame_of j).answer ≡ Ok a.1 → slice_get is k ≡ Some j
 image_at [] [] k a j h e f = absurd cc
 image_at [] (x ∷ fs) k a j h e f = absurd h
 image_at (i ∷ is) [] k a j h e f = absurd h
@@ -120,13 +120,13 @@ oids_fit (f ∷ fs) since ps os zero g h e = subst (λ (x : LastGiven). AreOids 
 oids_fit (f ∷ fs) since ps os (suc k) g h e = oids_fit fs since (rest_of ps) (drop (tokens_holes f.1) os) k g (AreOids-drop (tokens_holes f.1) os h) e
 
 module _ {A M : Type 0} (encoding : A → Encoding) (reading : Reading M) (kept : A → M) (fits : A → Ty → List Oid → Type 0) (law : ReadsBack encoding reading kept fits) where
-  come_back : (calls : List Call) (is : List Image) → AreFrames is (added_in calls) → Proper (all_tokens (after [] calls)) → AreOids (last_filling calls).oids →
-      ComeBackIn encoding reading kept fits calls (parts_in is (after [] calls))
+  come_back : (calls : List Call) (is : List Image) → AreImages is (added_in calls) → Proper (all_tokens (after_calls [] calls)) → AreOids (last_filling calls).oids →
+      ComeBackIn encoding reading kept fits calls (parts_in is (after_calls [] calls))
   come_back calls is frames proper small place a g v t there framed_as given fit =
       let f = frame_parts (encoding v) a.1 framed_as in
       let j_there = image_at is (added_in calls) place a f.0 frames there f.2 in
-      let a_there : slice_get (framed (after [] calls)) place ≡ Some a = ap (λ (fs : List Framed). slice_get fs place) (only_added calls) ∙ there in
-      let whole = image_fits f.0 a.1 f.2 (slots_fit_at (after [] calls) place a proper a_there) in
+      let a_there : slice_get (framed (after_calls [] calls)) place ≡ Some a = ap (λ (fs : List Framed). slice_get fs place) (only_added calls) ∙ there in
+      let whole = image_fits f.0 a.1 f.2 (slots_fit_at (after_calls [] calls) place a proper a_there) in
       let own = oids_fit (last_filling calls).filled (last_filling calls).since (last_filling calls).types (last_filling calls).oids place g small given in (
         written_part f.0 g.parameter g.oids,
         ap (λ (ps : List Part). slice_get ps place) (parts_told calls is frames) ∙ part_at is (given_in (last_filling calls)) place f.0 g j_there given,
@@ -135,12 +135,12 @@ module _ {A M : Type 0} (encoding : A → Encoding) (reading : Reading M) (kept 
 
   pub main_sentence : MainSentence encoding reading kept fits
   main_sentence calls is frames proper small =
-      let framed_too : AreFrames is (framed (after [] calls)) = subst (λ (fs : List Framed). AreFrames is fs) (sym (only_added calls)) frames in
+      let framed_too : AreImages is (framed (after_calls [] calls)) = subst (λ (fs : List Framed). AreImages is fs) (sym (only_added calls)) frames in
       record {
         written = history_told calls;
-        parts = parts_in is (after [] calls);
-        read = frames_read (after [] calls) is framed_too proper;
-        as_many = as_many (after [] calls) is framed_too ∙ (sym (length-map (after [] calls) _) ∙ ap length (only_added calls));
+        parts = parts_in is (after_calls [] calls);
+        read = frames_read (after_calls [] calls) is framed_too proper;
+        as_many = as_many (after_calls [] calls) is framed_too ∙ (sym (length-map (after_calls [] calls) _) ∙ ap length (only_added calls));
         come_back = come_back calls is frames proper small;
       }
 

@@ -13,7 +13,7 @@ use Rattle.pgv_wire.specs.Arguments.{Argument, Framed, framed, all_tokens, fille
 use Rattle.pgv_wire.specs.History.{blanks, LastFilling, with_added, with_filled, left_by, joined_frames, LeftBySome}
 use Rattle.pgv_codec.specs.Encoding.{Encoding, Image, frame_of, frame}
 use Rattle.pgv_codec.specs.BackParts.{frame_parts}
-use Rattle.pgv_wire.specs.ArgumentParts.{AreFrames, OfImages}
+use Rattle.pgv_wire.specs.ArgumentParts.{AreImages, OfImages}
 
 pub framed-filled : (args : List Argument) (ps : List Ty) (os : List Oid) → framed (filled_arguments args ps os) ≡ framed args
 framed-filled [] ps os = refl
@@ -118,7 +118,7 @@ pub of_image : (e : Encoding) (f : List Token) → (frame e).answer ≡ Ok f →
 of_image e f is = let p = frame_parts e f is in (p.0, p.2)
 
 -- one more after the others
-are-more : (is : List Image) (fs : List Framed) (i : Image) (f : Framed) → AreFrames is fs → (frame_of i).answer ≡ Ok f.1 → AreFrames (is ++ i ∷ []) (fs ++ f ∷ [])
+are-more : (is : List Image) (fs : List Framed) (i : Image) (f : Framed) → AreImages is fs → (frame_of i).answer ≡ Ok f.1 → AreImages (is ++ i ∷ []) (fs ++ f ∷ [])
 are-more [] [] i f h e = (e, tt)
 are-more [] (g ∷ fs) i f h e = absurd h
 are-more (j ∷ is) [] i f h e = absurd h
@@ -127,10 +127,10 @@ are-more (j ∷ is) (g ∷ fs) i f h e = (h.0, are-more is fs i f h.1 e)
 pub images_more : (args : List Argument) (f : Framed) → OfImages args → OfImage f.1 → OfImages (args ++ (f.0, blank f.1) ∷ [])
 images_more args f h k = (
   h.0 ++ k.0 ∷ [],
-  subst (λ (fs : List Framed). AreFrames (h.0 ++ k.0 ∷ []) fs) (sym (map-append (λ (x : Argument). (x.0, plain x.1)) args ((f.0, blank f.1) ∷ []) ∙ ap (λ (r : List Framed). framed args ++ r) (framed-blanks (f ∷ []))))
+  subst (λ (fs : List Framed). AreImages (h.0 ++ k.0 ∷ []) fs) (sym (map-append (λ (x : Argument). (x.0, plain x.1)) args ((f.0, blank f.1) ∷ []) ∙ ap (λ (r : List Framed). framed args ++ r) (framed-blanks (f ∷ []))))
       (are-more h.0 (framed args) k.0 f h.1 k.1),
 )
 
 -- a filling changes none
 pub images_filled : (args : List Argument) (ps : List Ty) (os : List Oid) → OfImages args → OfImages (filled_arguments args ps os)
-images_filled args ps os h = (h.0, subst (λ (fs : List Framed). AreFrames h.0 fs) (sym (framed-filled args ps os)) h.1)
+images_filled args ps os h = (h.0, subst (λ (fs : List Framed). AreImages h.0 fs) (sym (framed-filled args ps os)) h.1)

@@ -11,7 +11,7 @@ use Rattle.pgv_value.proofs.Outcomes.{answer_is}
 use Rattle.pgv_wire.specs.Arguments.{Argument, Framed, framed, all_tokens, filled_frame, filled_arguments}
 use Rattle.pgv_codec.specs.Writing.{write}
 use Rattle.pgv_codec.specs.Encoding.{Image, null_image, image_of, frame_of}
-use Rattle.pgv_wire.specs.ArgumentParts.{ReadAs, AreFrames, OfImages, AllRead, part_in, parts_in, written_parts}
+use Rattle.pgv_wire.specs.ArgumentParts.{ReadAs, AreImages, OfImages, AllRead, part_in, parts_in, written_parts}
 use Rattle.pgv_codec.specs.Writing.{written_part, image_holes}
 use Rattle.pgv_wire.proofs.ArgumentLists.{shown-frame}
 use Rattle.pgv_wire.proofs.Histories.{shown_plain}
@@ -35,7 +35,7 @@ frame_found (image_of ts) c rest e p =
     ) in
     found ∙ ap (λ (r : List ℕ). Some (Some r, rest)) (sym (ap (drop 4) bytes_are))
 
-pub frames_read : (args : List Argument) (is : List Image) → AreFrames is (framed args) → Proper (all_tokens args) → ReadAs (shown (all_tokens args)) (parts_in is args) []
+pub frames_read : (args : List Argument) (is : List Image) → AreImages is (framed args) → Proper (all_tokens args) → ReadAs (shown (all_tokens args)) (parts_in is args) []
 frames_read [] [] h p = refl
 frames_read [] (i ∷ is) h p = absurd h
 frames_read (a ∷ args) [] h p = absurd h
@@ -45,7 +45,7 @@ frames_read (a ∷ args) (i ∷ is) h p = (
   frames_read args is h.1 (Proper-back a.1 (all_tokens args) p),
 )
 
-pub as_many : (args : List Argument) (is : List Image) → AreFrames is (framed args) → length (parts_in is args) ≡ length args
+pub as_many : (args : List Argument) (is : List Image) → AreImages is (framed args) → length (parts_in is args) ≡ length args
 as_many [] [] h = refl
 as_many [] (i ∷ is) h = absurd h
 as_many (a ∷ args) [] h = absurd h
@@ -75,7 +75,7 @@ one_image (image_of ts) (image_of us) f d e =
     let same : ts ≡ us = cc in
     ap image_of same
 
-pub same_images : (is js : List Image) (fs : List Framed) → AreFrames is fs → AreFrames js fs → is ≡ js
+pub same_images : (is js : List Image) (fs : List Framed) → AreImages is fs → AreImages js fs → is ≡ js
 same_images [] [] [] h k = refl
 same_images [] [] (f ∷ fs) h k = absurd h
 same_images [] (j ∷ js) [] h k = absurd k
@@ -101,7 +101,7 @@ holes_are (image_of ts) c e =
     let k = cut ts (plain c) e in
     ap tokens_holes k.1
 
-pub parts_filled : (args : List Argument) (is : List Image) (ps : List Ty) (os : List Oid) → AreFrames is (framed args) → parts_in is (filled_arguments args ps os) ≡ written_parts is ps os
+pub parts_filled : (args : List Argument) (is : List Image) (ps : List Ty) (os : List Oid) → AreImages is (framed args) → parts_in is (filled_arguments args ps os) ≡ written_parts is ps os
 parts_filled [] [] ps os h = refl
 parts_filled [] (i ∷ is) ps os h = absurd h
 parts_filled (a ∷ args) [] ps os h = absurd h

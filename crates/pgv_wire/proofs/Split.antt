@@ -8,7 +8,7 @@ use Rattle.pgv_wire.specs.Arguments.{Argument, framed, all_tokens, types_in}
 use Rattle.pgv_codec.specs.Encoding.{Image, null_image, image_of, frame_of}
 use Rattle.pgv_codec.specs.BackParts.{image_parts}
 use Rattle.pgv_value.proofs.Outcomes.{answer_is}
-use Rattle.pgv_wire.specs.ArgumentParts.{AreFrames}
+use Rattle.pgv_wire.specs.ArgumentParts.{AreImages}
 use Rattle.pgv_wire.specs.Split.{as_wide, after_wide, bytes_by_length, frame_width, split}
 
 -- ---- how a frame begins
@@ -84,7 +84,7 @@ Begins (fixed x ∷ ts) = ⊤
 Begins (hole_cell t s ∷ ts) = ⊥
 Begins (slot_cell d cs s ∷ ts) = ⊥
 
-begins : (args : List Argument) (is : List Image) → AreFrames is (framed args) → Begins (all_tokens args)
+begins : (args : List Argument) (is : List Image) → AreImages is (framed args) → Begins (all_tokens args)
 begins [] is h = tt
 begins (a ∷ args) [] h = absurd h
 begins (a ∷ args) (i ∷ is) h =
@@ -109,7 +109,7 @@ others_are (t ∷ a) c w e b =
     let there : nat_le (cell_width t) w ≡ true = le-leb _ _ (omega (arith, e)) in
     rw there (others_are a c (w - cell_width t) (omega (arith, e)) b)
 
-pub split_back : (args : List Argument) (is : List Image) → AreFrames is (framed args) → split (types_in args) (all_tokens args) ≡ args
+pub split_back : (args : List Argument) (is : List Image) → AreImages is (framed args) → split (types_in args) (all_tokens args) ≡ args
 split_back [] is h = refl
 split_back (a ∷ args) [] h = absurd h
 split_back (a ∷ args) (i ∷ is) h =

@@ -18,15 +18,15 @@ ReadAs bs [] rest = bs ≡ rest
 ReadAs bs (p ∷ ps) rest = (rest_after : List ℕ) × (front bs ≡ Some (p, rest_after)) × ReadAs rest_after ps rest
 
 -- frames of these images
-abbrev pub AreFrames : List Image → List Framed → Type 0
-AreFrames [] [] = ⊤
-AreFrames [] (f ∷ fs) = ⊥
-AreFrames (i ∷ is) [] = ⊥
-AreFrames (i ∷ is) (f ∷ fs) = ((frame_of i).answer ≡ Ok f.1) × AreFrames is fs
+abbrev pub AreImages : List Image → List Framed → Type 0
+AreImages [] [] = ⊤
+AreImages [] (f ∷ fs) = ⊥
+AreImages (i ∷ is) [] = ⊥
+AreImages (i ∷ is) (f ∷ fs) = ((frame_of i).answer ≡ Ok f.1) × AreImages is fs
 
 -- each argument is the frame of an image
 abbrev pub OfImages : List Argument → Type 0
-OfImages args = (is : List Image) × AreFrames is (framed args)
+OfImages args = (is : List Image) × AreImages is (framed args)
 
 -- the part of a frame: null, or what it shows after its length
 abbrev pub part_in : Image → List Cell → Part
@@ -46,4 +46,4 @@ written_parts (i ∷ is) ps os = written_part i (Some (first_type ps)) (take (im
 -- frames that are read one after another, a part for each and nothing after: null where the image is null, and
 -- else what the argument shows after its length
 abbrev pub AllRead : List Argument → Type 0
-AllRead args = (is : List Image) × AreFrames is (framed args) × ReadAs (shown (all_tokens args)) (parts_in is args) [] × (length (parts_in is args) ≡ length args)
+AllRead args = (is : List Image) × AreImages is (framed args) × ReadAs (shown (all_tokens args)) (parts_in is args) [] × (length (parts_in is args) ≡ length args)

@@ -22,11 +22,11 @@ abbrev pub blanks : List Framed → List Argument
 blanks = map (λ f. (f.0, blank f.1))
 
 -- as the calls' contracts have it
-abbrev pub after : List Argument → List Call → List Argument
-after args [] = args
-after args (adds f ∷ calls) = after (args ++ (f.0, blank f.1) ∷ []) calls
-after args (fills ps os ∷ calls) = after (filled_arguments args ps os) calls
-after args (is_refused ∷ calls) = after args calls
+abbrev pub after_calls : List Argument → List Call → List Argument
+after_calls args [] = args
+after_calls args (adds f ∷ calls) = after_calls (args ++ (f.0, blank f.1) ∷ []) calls
+after_calls args (fills ps os ∷ calls) = after_calls (filled_arguments args ps os) calls
+after_calls args (is_refused ∷ calls) = after_calls args calls
 
 -- the arguments at the last filling, what it was given, and those added since
 pub record LastFilling : Type 0 where

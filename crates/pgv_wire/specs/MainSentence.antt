@@ -1,7 +1,7 @@
--- The main sentence, over every list of calls. What a call's contract says is one step of `after`: an accepted addition
+-- The main sentence, over every list of calls. What a call's contract says is one step of `after_calls`: an accepted addition
 -- appends the frame that its value has (`call_of`), a refused one changes nothing, each outcome of a list is a step of
 -- its own (`calls_of`), and a filling shows each argument as it is written early. So a list of calls leaves what
--- `after` leaves of it. Of any such list (`MainSentence`): the bytes are the accepted frames, written directly with
+-- `after_calls` leaves of it. Of any such list (`MainSentence`): the bytes are the accepted frames, written directly with
 -- what the last filling was given, and zeros and defaults for those added since; they are read as frames, a part for
 -- each accepted addition and nothing after them; and the part of an argument is read back as what its value keeps,
 -- under every type that fits.
@@ -22,8 +22,8 @@ use Rattle.pgv_codec.specs.Encoding.{Encoding, Image, frame, value_type}
 use Rattle.pgv_wire.specs.Arguments.{Argument, Framed, Added, argument_frame, all_tokens, filled_arguments}
 use Rattle.pgv_wire.specs.EachAddition.{Answered, accepted}
 use Rattle.pgv_wire.specs.Given.{LastGiven, given_in}
-use Rattle.pgv_wire.specs.History.{Call, adds, fills, is_refused, added_in, after, bytes_by, last_filling}
-use Rattle.pgv_wire.specs.ArgumentParts.{AreFrames, ReadAs}
+use Rattle.pgv_wire.specs.History.{Call, adds, fills, is_refused, added_in, after_calls, bytes_by, last_filling}
+use Rattle.pgv_wire.specs.ArgumentParts.{AreImages, ReadAs}
 
 -- ---- steps
 
@@ -36,17 +36,17 @@ abbrev pub call_of : Ty → Outcome (List Token) → Call
 call_of t f = call_by t (ok_of f.answer)
 
 abbrev pub AdditionIsAStep : Type 0
-AdditionIsAStep = (f : Outcome (List Token)) (t : Ty) (was now : List Argument) → Added f t was now → now ≡ after was (call_of t f ∷ [])
+AdditionIsAStep = (f : Outcome (List Token)) (t : Ty) (was now : List Argument) → Added f t was now → now ≡ after_calls was (call_of t f ∷ [])
 
 abbrev pub RefusalIsAStep : Type 0
 RefusalIsAStep =
-    (e : CodecError) (f : Outcome (List Token)) (t : Ty) (was now : List Argument) → Fails e f → e ≢ Memory → now ≡ was → now ≡ after was (call_of t f ∷ [])
+    (e : CodecError) (f : Outcome (List Token)) (t : Ty) (was now : List Argument) → Fails e f → e ≢ Memory → now ≡ was → now ≡ after_calls was (call_of t f ∷ [])
 
 abbrev pub UnchangedIsAStep : Type 0
-UnchangedIsAStep = (was now : List Argument) → now ≡ was → now ≡ after was (is_refused ∷ [])
+UnchangedIsAStep = (was now : List Argument) → now ≡ was → now ≡ after_calls was (is_refused ∷ [])
 
 abbrev pub FillingIsAStep : Type 0
-FillingIsAStep = (was : List Argument) (ps : List Ty) (os : List Oid) → filled_arguments was ps os ≡ after was (fills ps os ∷ [])
+FillingIsAStep = (was : List Argument) (ps : List Ty) (os : List Oid) → filled_arguments was ps os ≡ after_calls was (fills ps os ∷ [])
 
 module _ {X : Type 0} (framed_as : X → Outcome (List Token)) (typed_as : X → Ty) where
   -- an addition of each value, with its outcome
@@ -57,14 +57,14 @@ module _ {X : Type 0} (framed_as : X → Outcome (List Token)) (typed_as : X →
   calls_of (x ∷ xs) (Err e ∷ rs) = is_refused ∷ calls_of xs rs
 
   abbrev pub EachOutcomeIsAStep : Type 0
-  EachOutcomeIsAStep = (xs : List X) (rs : List Answered) (was : List Argument) → was ++ accepted framed_as typed_as xs rs ≡ after was (calls_of xs rs)
+  EachOutcomeIsAStep = (xs : List X) (rs : List Answered) (was : List Argument) → was ++ accepted framed_as typed_as xs rs ≡ after_calls was (calls_of xs rs)
 
 -- the same by what a type states of its values
 abbrev pub EachAdditionIsAStep : {X : Type 0} → Ty → (X → Encoding) → Type 0
 EachAdditionIsAStep info encoding = EachOutcomeIsAStep (λ x. argument_frame (encoding x)) (λ x. value_type info (encoding x))
 
 abbrev pub CallsAreJoined : Type 0
-CallsAreJoined = (was : List Argument) (calls more : List Call) → after (after was calls) more ≡ after was (calls ++ more)
+CallsAreJoined = (was : List Argument) (calls more : List Call) → after_calls (after_calls was calls) more ≡ after_calls was (calls ++ more)
 
 -- ---- what any list of calls leaves
 
@@ -78,9 +78,9 @@ module _ {A M : Type 0} (encoding : A → Encoding) (reading : Reading M) (kept 
       (part : Part) × (slice_get parts place ≡ Some part) × (reading t Binary part ≡ Some (kept v))
 
   pub record HoldsAfter (calls : List Call) : Type 0 where
-    pub written : shown (all_tokens (after [] calls)) ≡ bytes_by (last_filling calls)
+    pub written : shown (all_tokens (after_calls [] calls)) ≡ bytes_by (last_filling calls)
     pub parts : List Part
-    pub read : ReadAs (shown (all_tokens (after [] calls))) parts []
+    pub read : ReadAs (shown (all_tokens (after_calls [] calls))) parts []
     pub as_many : length parts ≡ length (added_in calls)
     pub come_back : ComeBackIn calls parts
 
@@ -88,4 +88,4 @@ module _ {A M : Type 0} (encoding : A → Encoding) (reading : Reading M) (kept 
   -- what running calls say.
   abbrev pub MainSentence : Type 0
   MainSentence =
-      (calls : List Call) (is : List Image) → AreFrames is (added_in calls) → Proper (all_tokens (after [] calls)) → AreOids (last_filling calls).oids → HoldsAfter calls
+      (calls : List Call) (is : List Image) → AreImages is (added_in calls) → Proper (all_tokens (after_calls [] calls)) → AreOids (last_filling calls).oids → HoldsAfter calls

@@ -9,10 +9,10 @@ ghost use Rattle.pgv_buf.specs.Tokens.{tokens_hole_types, Token, Cell, shown, wi
 ghost use Rattle.pgv_value.specs.Outcome.{reading_of};
 ghost use Rattle.pgv_wire.specs.Arguments.{Argument, Framed, all_tokens, types_in, framed, filled_arguments};
 ghost use Rattle.pgv_wire.specs.Given.{ArgumentReadsBack, given_in, parts_given};
-ghost use Rattle.pgv_wire.specs.History.{Call, after, last_filling, bytes_by, added_in, joined_frames, framed_types, lengths_in, ArePlain, joined_bytes};
+ghost use Rattle.pgv_wire.specs.History.{Call, after_calls, last_filling, bytes_by, added_in, joined_frames, framed_types, lengths_in, ArePlain, joined_bytes};
 ghost use Rattle.pgv_wire.specs.MainSentence.{MainSentence, AdditionIsAStep, RefusalIsAStep, UnchangedIsAStep, EachAdditionIsAStep, FillingIsAStep, CallsAreJoined};
 ghost use Rattle.pgv_codec.specs.Encoding.{Image, frame_of};
-ghost use Rattle.pgv_wire.specs.ArgumentParts.{ReadAs, AreFrames, AllRead, parts_in, written_parts};
+ghost use Rattle.pgv_wire.specs.ArgumentParts.{ReadAs, AreImages, AllRead, parts_in, written_parts};
 
 use crate::arguments::PgArguments;
 use pgv_codec::{Encode, ReadBack, Type};
@@ -54,7 +54,7 @@ pub fn call_is_a_step<T: Encode + Type>()
 /// written as with its types and OIDs, and then the arguments added since, with zeros and defaults.
 #[tactic(auto, using(crate::proofs::Histories::history_told))]
 pub fn history()
-    ensures { (calls : List Call) → shown (all_tokens (after [] calls))
+    ensures { (calls : List Call) → shown (all_tokens (after_calls [] calls))
         ≡ bytes_by (last_filling calls) }
 {}
 
@@ -76,12 +76,12 @@ pub fn lengths_stay()
 /// order, whatever was filled in.
 #[tactic(auto, using(crate::proofs::Histories::only_added, crate::proofs::Histories::types_told, crate::proofs::Histories::holes_told, crate::proofs::Histories::width_told))]
 pub fn only_additions_count()
-    ensures frames { (calls : List Call) → framed (after [] calls) ≡ added_in calls }
-    ensures types { (calls : List Call) → types_in (after [] calls)
+    ensures frames { (calls : List Call) → framed (after_calls [] calls) ≡ added_in calls }
+    ensures types { (calls : List Call) → types_in (after_calls [] calls)
         ≡ framed_types (added_in calls) }
-    ensures holes { (calls : List Call) → hole_types_of (all_tokens (after [] calls))
+    ensures holes { (calls : List Call) → hole_types_of (all_tokens (after_calls [] calls))
         ≡ tokens_hole_types (joined_frames (added_in calls)) }
-    ensures length { (calls : List Call) → width (all_tokens (after [] calls))
+    ensures length { (calls : List Call) → width (all_tokens (after_calls [] calls))
         ≡ tokens_width (joined_frames (added_in calls)) }
 {}
 
@@ -95,7 +95,7 @@ pub fn all_counted()
 #[tactic(auto, using(crate::proofs::Histories::plain_told))]
 pub fn frames_joined()
     ensures { (calls : List Call) (xss : List (List ℕ)) → ArePlain (added_in calls) xss
-        → shown (all_tokens (after [] calls)) ≡ joined_bytes xss }
+        → shown (all_tokens (after_calls [] calls)) ≡ joined_bytes xss }
 {}
 
 /// The frames of arguments, read from the buffer one after another as [`PgValueRef::get`](crate::PgValueRef::get) does,
@@ -104,9 +104,9 @@ pub fn frames_joined()
 /// [`PgArgumentBuffer::as_slice`](crate::PgArgumentBuffer::as_slice) says that its cells are proper.
 #[tactic(auto, using(crate::proofs::PartsRead::frames_read, crate::proofs::PartsRead::as_many))]
 pub fn frames_read()
-    ensures parts { (args : List Argument) (is : List Image) → AreFrames is (framed args)
+    ensures parts { (args : List Argument) (is : List Image) → AreImages is (framed args)
         → Proper (all_tokens args) → ReadAs (shown (all_tokens args)) (parts_in is args) [] }
-    ensures many { (args : List Argument) (is : List Image) → AreFrames is (framed args)
+    ensures many { (args : List Argument) (is : List Image) → AreImages is (framed args)
         → length (parts_in is args) ≡ length args }
 {}
 
@@ -126,8 +126,8 @@ pub fn arguments_read(arguments: &PgArguments)
 pub fn one_image()
     ensures frame { (i j : Image) (f : List Token) → (frame_of i).answer ≡ Ok f
         → (frame_of j).answer ≡ Ok f → i ≡ j }
-    ensures frames { (is js : List Image) (fs : List Framed) → AreFrames is fs
-        → AreFrames js fs → is ≡ js }
+    ensures frames { (is js : List Image) (fs : List Framed) → AreImages is fs
+        → AreImages js fs → is ≡ js }
 {}
 
 /// After a filling, the parts of arguments are what their images are written as, each for its own parameter type and
@@ -135,7 +135,7 @@ pub fn one_image()
 #[tactic(auto, using(crate::proofs::PartsRead::parts_filled))]
 pub fn parts_written()
     ensures { (args : List Argument) (is : List Image) (ps : List Ty) (os : List Oid)
-        → AreFrames is (framed args) → parts_in is (filled_arguments args ps os)
+        → AreImages is (framed args) → parts_in is (filled_arguments args ps os)
         ≡ written_parts is ps os }
 {}
 
@@ -146,8 +146,8 @@ pub fn parts_written()
 /// since was given neither: it has zeros and defaults.
 #[tactic(auto, using(crate::proofs::ArgumentsBack::parts_told))]
 pub fn parts_after()
-    ensures { (calls : List Call) (is : List Image) → AreFrames is (added_in calls)
-        → parts_in is (after [] calls) ≡ parts_given is (given_in (last_filling calls)) }
+    ensures { (calls : List Call) (is : List Image) → AreImages is (added_in calls)
+        → parts_in is (after_calls [] calls) ≡ parts_given is (given_in (last_filling calls)) }
 {}
 
 /// After any additions, refusals and fillings, in any order, the buffer's bytes are read frame by frame with nothing

@@ -3,8 +3,8 @@
 ghost use Rattle.std.specs.Prelude.{◌≡◌, ℕ, List, [], ◌∷◌, ◌++◌, OnErr};
 ghost use Rattle.pgv_value.specs.Outcome.{Gives, Outcome};
 ghost use Rattle.pgv_codec.specs.RecordLemmas.{one_found, further_found};
-ghost use Rattle.pgv_codec.specs.NestTextLemmas.{one_text, further_text};
-ghost use Rattle.pgv_codec.specs.NestBinary.{FindExactly, Stretch, IsField, ◌and◌};
+ghost use Rattle.pgv_codec.specs.NestTextLemmas.{one_field_text, further_text};
+ghost use Rattle.pgv_codec.specs.NestBinary.{FindExactly, Stretch, IsRecordField, ◌and◌};
 ghost use Rattle.pgv_codec.specs.NestText.{FindInText, TextStretch, IsTextField, ◌before◌};
 ghost use Rattle.pgv_codec.specs.RecordGrammar.{Left, next_field, parse_record, ◌then◌};
 ghost use Rattle.pgv_buf.specs.Tokens.{Token};
@@ -66,7 +66,7 @@ impl<A: Type + Decode> FieldList for (A,) {
 
     ghost written_fields = { λ says. field A.info (A.written A.info says) ∷ [] };
 
-    ghost in_binary = { IsField A.accepts A.parse };
+    ghost in_binary = { IsRecordField A.accepts A.parse };
 
     ghost in_text = { IsTextField A.parse };
 
@@ -77,7 +77,7 @@ impl<A: Type + Decode> FieldList for (A,) {
 
     ghost found = { one_found A.accepts A.parse };
 
-    ghost found_in_text = { one_text A.accepts A.parse };
+    ghost found_in_text = { one_field_text A.accepts A.parse };
 }
 
 /// A field and the rest.
@@ -90,7 +90,7 @@ impl<A: Type + Decode, Rest: FieldList> FieldList for (A, Rest) {
 
     ghost written_fields = { λ says. field A.info (A.written A.info says.0) ∷ Rest.written_fields says.1 };
 
-    ghost in_binary = { IsField A.accepts A.parse and Rest.in_binary };
+    ghost in_binary = { IsRecordField A.accepts A.parse and Rest.in_binary };
 
     ghost in_text = { IsTextField A.parse before Rest.in_text };
 

@@ -13,7 +13,6 @@ pub mod option;
 mod part;
 pub mod record;
 pub mod reference;
-pub mod str;
 pub mod text;
 pub mod tuple;
 pub mod uuids;

@@ -6,7 +6,7 @@ ghost use Rattle.pgv_value.specs.Outcome.{Gives};
 ghost use Rattle.pgv_value.specs.Parsed.{GivesFront};
 ghost use Rattle.pgv_value.specs.declared.error.CodecError.TheVariants.{Memory};
 ghost use Rattle.pgv_codec.specs.FieldsLeftView.{left_in_text};
-ghost use Rattle.pgv_codec.specs.RecordGrammar.{field_in_binary, fields_in_text, fields_of, next_field};
+ghost use Rattle.pgv_codec.specs.RecordGrammar.{field_in_binary, fields_in_text, begin_fields, next_field};
 ghost use Rattle.pgv_codec.specs.Encoding.{field, counted_field};
 ghost use Rattle.pgv_codec.specs.Appending.{Appends, Extends};
 ghost use Rattle.pgv_codec.specs.Record.{IsOpen, begun, so_far, WritesField};
@@ -146,7 +146,7 @@ impl<'r> PgRecordDecoder<'r> {
     /// [`UnexpectedNull`](CodecError::UnexpectedNull) (C13), and nothing else is.
     #[inline(always)]
     pub fn new(alloc: Global, value: PgValueRef<'r>) -> Result<Self, CodecError>
-        ensures { Gives (λ d. d) (fields_of value.entry) result }
+        ensures { Gives (λ d. d) (begin_fields value.entry) result }
     {
         let left = match value.format() {
             PgValueFormat::Text => FieldsLeft::Text(text_fields_of(alloc, value.as_str()?)?),

@@ -6,7 +6,7 @@ ghost use Rattle.pgv_types.specs.Relations.{softly};
 ghost use Rattle.pgv_codec.specs.Encoding.{plainly, writes};
 ghost use Rattle.pgv_value.specs.Outcome.{without_memory};
 ghost use Rattle.pgv_value.specs.Parsed.{GivesExactly};
-ghost use Rattle.pgv_more.specs.ByteaText.{of_length, parse_sized, sized_image, sized_in_text};
+ghost use Rattle.pgv_more.specs.ByteaText.{of_length, parse_bytea_sized, bytea_sized_image, sized_in_text};
 
 use super::{are_pairs, digits_of};
 use hex::FromHex;
@@ -77,7 +77,7 @@ impl<const N: usize> PgHasArrayType for PgByteaArray<N> {
 /// Written as the bytes.
 /// `[1, 255]` is `01ff`.
 impl<const N: usize> Encode for PgByteaArray<N> {
-    ghost encoding = { λ b. plainly (writes (sized_image N b.0)) };
+    ghost encoding = { λ b. plainly (writes (bytea_sized_image N b.0)) };
 
     fn encode_by_ref(&self, out: &mut PgArgumentBuffer) -> Result<IsNull, CodecError> {
         out.extend_from_slice(&self.0)?;
@@ -104,11 +104,11 @@ impl<const N: usize> Plain for PgByteaArray<N> {
 
     ghost view = { λ b. b.0 };
 
-    ghost parse = { without_memory (parse_sized N) };
+    ghost parse = { without_memory (parse_bytea_sized N) };
 
     ghost null = { λ _ _. refl };
 
-    ghost written = { λ _ m. plainly (writes (sized_image N m)) };
+    ghost written = { λ _ m. plainly (writes (bytea_sized_image N m)) };
 
     fn read(_alloc: Global, value: PgValueRef<'_>) -> Result<PgByteaArray<N>, CodecError> {
         let bytes = value.as_bytes()?;

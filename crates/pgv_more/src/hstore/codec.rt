@@ -7,7 +7,7 @@ ghost use Rattle.pgv_value.specs.Outcome.{Gives, after};
 ghost use Rattle.pgv_value.specs.Parsed.{GivesExactly};
 ghost use Rattle.pgv_codec.specs.Appending.{Appends, Extends};
 ghost use Rattle.pgv_codec.specs.Encoding.{plainly};
-ghost use Rattle.pgv_more.specs.Hstore.{Pair, pair_of, pairs_of, hstore_image, hstore_in_binary, key_at, number_form, part_written, pair_written, pairs_written, parse_hstore, put_read, text_at, value_at};
+ghost use Rattle.pgv_more.specs.Hstore.{Pair, pair_of, pairs_of, hstore_image, hstore_in_binary, key_at, number_form, part_written, pair_written, pairs_written, parse_hstore, put_read, text_at, map_value};
 
 use super::{PgHstore, put_pair};
 use pgv_codec::{Encode, IsNull, PgArgumentBuffer, PgHasArrayType, Plain, Type};
@@ -168,7 +168,7 @@ fn key_in_front(alloc: Global, form: &[u8]) -> Result<(String, &[u8]), CodecErro
 
 /// The value in front, and the rest.
 fn value_in_front(alloc: Global, form: &[u8]) -> Result<(Option<String>, &[u8]), CodecError>
-    ensures { Gives (λ p. (option_map string_bytes p.0, p.1.now)) (value_at form.now) result }
+    ensures { Gives (λ p. (option_map string_bytes p.0, p.1.now)) (map_value form.now) result }
 {
     match part_in_front(form)? {
         (Some(part), rest) => Ok((Some(text_of(alloc, part)?), rest)),

@@ -2,7 +2,7 @@
 
 ghost use Rattle.std.specs.Prelude.{◌≡◌, MatchResult};
 ghost use Rattle.std.specs.Int.{w16, w32, w64};
-ghost use Rattle.pgv_value.specs.NumberBinary.{whole_number};
+ghost use Rattle.pgv_value.specs.IntBinary.{whole_number};
 ghost use Rattle.pgv_value.specs.ScalarGrammar.{int_in_binary, parse_char, parse_int};
 ghost use Rattle.pgv_value.specs.Parsed.{GivesExactly};
 ghost use Rattle.pgv_value.specs.declared.error.CodecError.TheVariants.{OutOfRange};

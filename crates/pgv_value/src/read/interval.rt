@@ -4,8 +4,8 @@ ghost use Rattle.pgv_value.specs.Interval.{interval_in_binary, parse_interval};
 ghost use Rattle.pgv_value.specs.Parsed.{GivesExactly};
 
 use crate::error::CodecError;
+use crate::front::{number_of_eight, number_of_four};
 use crate::interval::PgInterval;
-use crate::number::{number_of_eight, number_of_four};
 use crate::value::{PgValueFormat, PgValueRef};
 
 /// The interval of sixteen bytes, whatever comes after them.

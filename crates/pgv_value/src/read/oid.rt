@@ -4,7 +4,7 @@ ghost use Rattle.pgv_value.specs.ScalarGrammar.{parse_oid};
 ghost use Rattle.pgv_value.specs.Parsed.{GivesExactly};
 
 use crate::error::CodecError;
-use crate::number::u32_in_front;
+use crate::front::u32_in_front;
 use crate::read::int::in_type;
 use crate::value::{PgValueFormat, PgValueRef};
 use pgv_text::unsigned_number_of;

@@ -1,6 +1,6 @@
 use Rattle.std.proofs.Common.{◌≡◌, ◌≢◌, ◌∙◌, ◌<◌, ◌+◌, ℕ, List, [], ◌∷◌, ◌++◌, true, false, Some, None, take, length, get_or, sym, ap, rules, arith, inl, inr}
 use Rattle.std.proofs.lemmas.List.{take_more}
-use Rattle.pgv_catalog.specs.Entries.{Entry, with_oid}
+use Rattle.pgv_catalog.specs.Entries.{Entry, type_with_oid}
 use Rattle.pgv_catalog.specs.Rows.{IsIn, entry_in}
 use Rattle.pgv_catalog.specs.declared.rows.PgTypeRow.{PgTypeRow}
 use Rattle.pgv_catalog.proofs.MadeTypes.{all_more, one_more_made}
@@ -24,7 +24,7 @@ loop-row-preserved c =
           let made : Entry = w.in-Some.made in
           let there : IsIn row types = is_there types i row lt is in
           let shown : entry_in rows known row ≡ Some made = search (rules, w.in_ok-made.ensures, w.in-Some.is) in
-          let none : with_oid row.oid.0 known ≡ None = search (rules, c.type_of.ensures, c.is_none.ensures, w.if-is_none.true) in
+          let none : type_with_oid row.oid.0 known ≡ None = search (rules, c.type_of.ensures, c.is_none.ensures, w.if-is_none.true) in
           let known_is : c.if-is_none.known ≡ known ++ made ∷ [] = search (rules, w.known-is, w.in_ok-push.ensures.items, c.known.view_is) in
           let fewer = one_made types known made row there none (entry_oid rows known row made shown) in
           rw known_is (record {
@@ -42,7 +42,7 @@ loop-row-preserved c =
             waiting = λ e. all_more _ (take i types) row (so_far.waiting e) (inr waits);
           })
       | else-is_none w ↦
-          let there : with_oid row.oid.0 known ≢ None = search (rules, c.type_of.ensures, c.is_none.ensures, w.if-is_none.false) in
+          let there : type_with_oid row.oid.0 known ≢ None = search (rules, c.type_of.ensures, c.is_none.ensures, w.if-is_none.false) in
           rw (w.known-is, w.added-is, taken) (record {
             each = so_far.each;
             left = so_far.left;

@@ -3,7 +3,7 @@ use Rattle.std.specs.Prelude.{string_bytes}
 use Rattle.std.proofs.lemmas.List.{map-append}
 use Rattle.std.specs.Rc.{rc_str_bytes}
 use Rattle.pgv_types.specs.Ty.{Ty}
-use Rattle.pgv_catalog.specs.Rows.{named_type, part_in}
+use Rattle.pgv_catalog.specs.Rows.{named_type, part_type}
 use Rattle.pgv_catalog.specs.declared.rows.PgFieldRow.{PgFieldRow}
 use Rattle.pgv_catalog.proofs.MadeTypes.{one_field, other_type}
 use Rattle.pgv_catalog.proofs.resolve.fields_of_type.Goals as goal
@@ -20,7 +20,7 @@ loop-row-preserved c =
     elim c.if-eq.branch [
       | then-eq+in_ok-field_type+in-Some+in_ok-from_str+in_ok-push w ↦
           let t : Ty = w.in-Some.field_type in
-          let part : part_in types c.args.known.now row.field_type.0 ≡ Some t = search (rules, w.in_ok-field_type.ensures, w.in-Some.is, w.as_slice.ensures.value) in
+          let part : part_type types c.args.known.now row.field_type.0 ≡ Some t = search (rules, w.in_ok-field_type.ensures, w.in-Some.is, w.as_slice.ensures.value) in
           let name : rc_str_bytes w.in_ok-from_str.field-0 ≡ string_bytes row.name = search (rules, w.in_ok-from_str.ensures.ok, w.as_str.ensures.value) in
           let pushed = ap (λ fs. fs.items) w.fields-is ∙ w.in_ok-push.ensures.items in
           rw (add-one, pushed, map-append named_type c.loop-row.fields.items ((w.in_ok-from_str.field-0, t) ∷ []), name) (

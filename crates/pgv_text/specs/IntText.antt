@@ -1,8 +1,8 @@
 -- The texts of whole numbers (PostgreSQL: "Numeric Types", 8.1.1; "Object Identifier Types", 8.19): an optional sign
 -- and one or more digits (`IsNumber`). For an OID the sign may only be `+` (`IsUnsignedNumber`).
 use mir.Syntax.{w64}
-use Rattle.pgv_text.specs.declared.number.NumberFault.{NumberFault}
-use Rattle.pgv_text.specs.declared.number.NumberFault.TheVariants.{Syntax, OutOfRange}
+use Rattle.pgv_text.specs.declared.int.NumberFault.{NumberFault}
+use Rattle.pgv_text.specs.declared.int.NumberFault.TheVariants.{Syntax, OutOfRange}
 use Rattle.std.specs.Prelude.{◌≡◌, ◌↔◌, FitsSigned, Result, Ok, Err, Option, Some, None, ℕ, ◌+◌, ◌<◌, ◌^◌, ℤ, pos, neg_ℤ, Bool, true, false, if◌then◌else◌, not, ◌&&◌, nat_lt, ◌==◌, List, [], ◌∷◌, ◌++◌, map, length}
 use Rattle.std.specs.List.{AllByRecursion, list_all}
 use Rattle.std.specs.Char.{digit_value}

@@ -1,6 +1,6 @@
 use Rattle.std.proofs.Common.{Ok, Err}
-use Rattle.pgv_text.proofs.ParsedNumbers.{read_ok, fault_read, computed}
-use Rattle.pgv_text.proofs.number.number_of.Goals as goal
+use Rattle.pgv_text.proofs.ParsedInts.{read_ok, fault_read, computed}
+use Rattle.pgv_text.proofs.int.number_of.Goals as goal
 
 pub returns-in-Ok : goal.returns-in-Ok
 returns-in-Ok c =

@@ -15,9 +15,9 @@ use Rattle.std.proofs.lemmas.Int.Digits.{digits_value_is, all_below_base_from_di
 use Rattle.std.proofs.lemmas.List.{length-map}
 use Rattle.std.proofs.lemmas.Bool.{and_parts, eqb-true, ne_eqb, ltb-true, lt-ltb, false≢true}
 use Rattle.std.proofs.lemmas.Option.{cond_some}
-use Rattle.pgv_text.specs.declared.number.NumberFault.{NumberFault}
-use Rattle.pgv_text.specs.declared.number.NumberFault.TheVariants.{Syntax, OutOfRange}
-use Rattle.pgv_text.specs.NumberText.{Sign, none, plus, minus, sign_text, signed, IsNumber, plus_text, IsUnsignedNumber, is_numeral, number_value, unsigned_value, IsComputed, IsUnsignedComputed, OneNumber, OneUnsignedNumber, NumberIsItsValue, UnsignedIsItsValue}
+use Rattle.pgv_text.specs.declared.int.NumberFault.{NumberFault}
+use Rattle.pgv_text.specs.declared.int.NumberFault.TheVariants.{Syntax, OutOfRange}
+use Rattle.pgv_text.specs.IntText.{Sign, none, plus, minus, sign_text, signed, IsNumber, plus_text, IsUnsignedNumber, is_numeral, number_value, unsigned_value, IsComputed, IsUnsignedComputed, OneNumber, OneUnsignedNumber, NumberIsItsValue, UnsignedIsItsValue}
 
 -- The number of a text, that it does not fit in 64 bits, or that the text is not a number.
 abbrev IsRead : List ℕ → Result ℤ NumberFault → Type 0

@@ -1,10 +1,10 @@
-//! Texts of whole numbers, of the type "char" and of truth values.
+//! Texts of whole numbers and of the type "char".
 
 ghost use Rattle.std.specs.Prelude.{◌≡◌, ◌↔◌, IsTrue, EachIndex, slice_index, if◌then◌else◌};
 ghost use Rattle.std.specs.Int.{IsInRange};
 ghost use Rattle.std.specs.Str.Parse.{IsNumeral, without_leading_plus, without_leading_sign};
-ghost use Rattle.pgv_text.specs.NumberText.{IsComputed, IsUnsignedComputed};
-ghost use Rattle.pgv_text.specs.ScalarText.{bool_value, char_value, octal_byte};
+ghost use Rattle.pgv_text.specs.IntText.{IsComputed, IsUnsignedComputed};
+ghost use Rattle.pgv_text.specs.ScalarText.{char_value, octal_byte};
 
 /// Why a text is not a number of its type.
 #[derive(Debug, Clone, Copy, PartialEq, Eq, Drop)]
@@ -40,7 +40,7 @@ fn are_digits(bytes: &[u8]) -> bool
 }
 
 /// Whether there is one digit or more, and nothing else.
-#[tactic(auto, using(crate::proofs::ParsedNumbers::by_index, crate::proofs::ParsedNumbers::each_digit))]
+#[tactic(auto, using(crate::proofs::ParsedInts::by_index, crate::proofs::ParsedInts::each_digit))]
 fn is_numeral(bytes: &[u8]) -> bool
     ensures { IsTrue result ↔ IsNumeral 10 bytes.now }
 {
@@ -103,16 +103,5 @@ pub fn char_of(text: &str) -> Option<i8>
         [b'\\'] => Some(92),
         [b'\\', digits @ ..] => octal_byte_of(digits).map(|byte| byte.cast_signed()),
         [first, ..] => Some(first.cast_signed()),
-    }
-}
-
-/// The truth value of a text: `t` or `f`, as PostgreSQL writes them.
-pub fn bool_of(text: &str) -> Option<bool>
-    ensures { result ≡ bool_value text.now }
-{
-    match text {
-        "t" => Some(true),
-        "f" => Some(false),
-        _ => None,
     }
 }

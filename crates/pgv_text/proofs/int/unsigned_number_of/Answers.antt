@@ -1,6 +1,6 @@
 use Rattle.std.proofs.Common.{Ok, Err}
-use Rattle.pgv_text.proofs.ParsedNumbers.{unsigned_read_ok, unsigned_fault_read, unsigned_computed}
-use Rattle.pgv_text.proofs.number.unsigned_number_of.Goals as goal
+use Rattle.pgv_text.proofs.ParsedInts.{unsigned_read_ok, unsigned_fault_read, unsigned_computed}
+use Rattle.pgv_text.proofs.int.unsigned_number_of.Goals as goal
 
 pub returns-in-Ok : goal.returns-in-Ok
 returns-in-Ok c =
