@@ -13,13 +13,13 @@ nullable parse v = if is_none v.bytes then done None else (parse v >>= λ m. don
 abbrev pub anything : Given → Outcome ⊤
 anything v = done tt
 
-abbrev pub IsReadOfNull : {M : Type 0} → Result M (Option CodecError) → Bool → Type 0
-IsReadOfNull (Ok m) may_alloc = ⊤
-IsReadOfNull (Err why) may_alloc = (why ≡ Some UnexpectedNull) × (may_alloc ≡ false)
+abbrev pub IsOfNullBy : {M : Type 0} → Result M (Option CodecError) → Bool → Type 0
+IsOfNullBy (Ok m) may_alloc = ⊤
+IsOfNullBy (Err why) may_alloc = (why ≡ Some UnexpectedNull) × (may_alloc ≡ false)
 
 -- what an outcome of null is: something is read, or it is refused with C13 and without memory
 abbrev pub IsOfNull : {M : Type 0} → Outcome M → Type 0
-IsOfNull o = IsReadOfNull o.answer o.may_alloc
+IsOfNull o = IsOfNullBy o.answer o.may_alloc
 
 pub refused_null : {M : Type 0} (o : Outcome M) → o ≡ fails UnexpectedNull → IsOfNull o
 refused_null o e = rw e (refl, refl)
