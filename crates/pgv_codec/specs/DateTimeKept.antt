@@ -24,7 +24,7 @@ time_kept t = time_of (whole_micros (time_nanos t)) (cut_fits (time_nanos t) (ti
 pub time_kept_cut : (t : Time) → time_nanos (time_kept t) ≡ time_nanos t / 1000 * 1000
 time_kept_cut t = time_nanos-time_of (whole_micros (time_nanos t)) (cut_fits (time_nanos t) (time_nanos_bound t))
 
--- ---- a date-time: the one whose nanoseconds are those of the microseconds that are written, which there is (`is_found`)
+-- ---- a date-time: the one that has the nanoseconds of the microseconds that are written, which there is (`is_found`)
 
 abbrev pub date_time_kept : DateTime → DateTime
 date_time_kept at = (is_found at).0

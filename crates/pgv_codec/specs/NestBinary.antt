@@ -2,8 +2,8 @@
 -- "Composite Types", 8.16; the forms are those of its source, array_send and record_send). An array (`IsArray`) is 0
 -- and anything; or 1, flags, OID, count and 1, each of four bytes, and after them frames of the elements
 -- (`BeginWithFrames`). Law: `array_is_its_elements`. A record (`IsRecord`) is four bytes, and fields joined by `and`.
--- Each field (`IsRecordField`) is an OID and a frame of a value under the type that `HasFieldType` names. Laws: the decoders
--- of tuples compute it (`tuple_is_its_fields`), and so do their parts (`field_is_its_value`, `record_begins`,
+-- Each field (`IsRecordField`) is an OID and a frame of a value under the type that `HasFieldType` names. Laws: the
+-- decoders of tuples compute it (`tuple_is_its_fields`), and so do their parts (`field_is_its_value`, `record_begins`,
 -- `field_type_is_found`).
 use Rattle.std.specs.Prelude.{◌≡◌, ◌↔◌, ◌⊎◌, ℕ, suc, ◌<◌, ◌^◌, Bool, true, List, [], ◌∷◌, ◌++◌, length, Some, Ok, ⊤, ◌*◌, ◌≤◌}
 use Rattle.std.specs.Int.{w32, to_be_bytes}

@@ -1,7 +1,7 @@
 -- How a message is written, and what a call that writes one leaves. A message (PostgreSQL: "Message Formats") is a byte
--- that names it, its length in four bytes, which counts these four, and its body (`whole_message`). A text in a body ends with
--- a zero byte, so it has none itself (`ended_text`). What is counted in two bytes is at most 65535 (`count_of`). The first
--- step that is refused refuses the message.
+-- that names it, its length in four bytes, which counts these four, and its body (`whole_message`). A text in a body
+-- ends with a zero byte, so it has none itself (`ended_text`). What is counted in two bytes is at most 65535
+-- (`count_of`). The first step that is refused refuses the message.
 use Rattle.std.specs.Prelude.{◌≡◌, ℕ, nat_lt, ◌+◌, ◌==◌, ◌⊎◌, List, [], ◌∷◌, ◌++◌, length, Bool, ⊤, Result, Ok, Err, if◌then◌else◌}
 use Rattle.std.specs.List.{list_any}
 use Rattle.std.specs.Int.{w16, w32, to_be_bytes}

@@ -1,7 +1,7 @@
 -- What bytes are amounts and numbers, as what the bytes are and not as how they are read (PostgreSQL: "Monetary Types",
--- 8.2; "Numeric Types", 8.1.2). They are read in binary alone. A number (`IsNumericImage`) is the words of its form, digits
--- of any value, and anything after them. No number (`IsNoNumber`) is any two words, the sign c000 and one word more.
--- Laws: what is computed is exactly this (`money_is_read`, `numeric_is_read` and their like).
+-- 8.2; "Numeric Types", 8.1.2). They are read in binary alone. A number (`IsNumericImage`) is the words of its form,
+-- digits of any value, and anything after them. No number (`IsNoNumber`) is any two words, the sign c000 and one word
+-- more. Laws: what is computed is exactly this (`money_is_read`, `numeric_is_read` and their like).
 use Rattle.std.specs.Prelude.{◌≡◌, ◌↔◌, ℕ, ◌<◌, ◌≤◌, ◌^◌, Bool, true, ℤ, List, ◌++◌, length, Ok}
 use Rattle.std.specs.Int.{w16, to_be_bytes}
 use Rattle.std.specs.List.{list_all}

@@ -1,10 +1,10 @@
--- The main sentence, over every list of calls. What a call's contract says is one step of `after_calls`: an accepted addition
--- appends the frame that its value has (`call_of`), a refused one changes nothing, each outcome of a list is a step of
--- its own (`calls_of`), and a filling shows each argument as it is written early. So a list of calls leaves what
--- `after_calls` leaves of it. Of any such list (`MainSentence`): the bytes are the accepted frames, written directly with
--- what the last filling was given, and zeros and defaults for those added since; they are read as frames, a part for
--- each accepted addition and nothing after them; and the part of an argument is read back as what its value keeps,
--- under every type that fits.
+-- The main sentence, over every list of calls. What a call's contract says is one step of `after_calls`: an accepted
+-- addition appends the frame that its value has (`call_of`), a refused one changes nothing, each outcome of a list is a
+-- step of its own (`calls_of`), and a filling shows each argument as it is written early. So a list of calls leaves
+-- what `after_calls` leaves of it. Of any such list (`MainSentence`): the bytes are the accepted frames, written
+-- directly with what the last filling was given, and zeros and defaults for those added since; they are read as frames,
+-- a part for each accepted addition and nothing after them; and the part of an argument is read back as what its value
+-- keeps, under every type that fits.
 use Rattle.std.specs.Prelude.{◌≡◌, ◌≢◌, ℕ, List, [], ◌∷◌, ◌++◌, length, Option, Some, None, Ok, Err}
 use Rattle.std.specs.List.{slice_get}
 use Rattle.pgv_types.specs.Ty.{Ty}
