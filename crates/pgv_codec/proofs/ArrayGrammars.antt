@@ -5,7 +5,7 @@ use Rattle.std.specs.Int.{w32, to_be_bytes}
 use Rattle.std.proofs.lemmas.Grind.{common_steps}
 use Rattle.pgv_value.specs.FrameBinary.{Part, front}
 use Rattle.pgv_types.specs.Ty.{Ty}
-use Rattle.pgv_codec.specs.ArrayGrammar.{frames, element_type, Head, one_dimension, head, elements, elements_after, array_in_binary}
+use Rattle.pgv_codec.specs.ArrayGrammar.{parse_frames, element_type, Head, one_dimension, head, elements, elements_after, array_in_binary}
 use Rattle.pgv_codec.specs.Found.{frames_there, array_there}
 use Rattle.pgv_codec.specs.NestBinary.{FewElements, BeginWithFrames, IsArray, ArrayIsItsElements, OneArray}
 use Rattle.pgv_value.specs.Fronts.{value_front, u32_front}
@@ -29,13 +29,13 @@ front_takes bytes part rest f = grind (arith, common_steps)
 
 module _ {M : Type 0} (parse : Given → Outcome M) (t : Ty) where
   -- n frames have few elements for their bytes
-  pub few_frames : (n : ℕ) (bytes : List ℕ) (ms : List M) → (frames parse t n bytes).answer ≡ Ok ms → 4 * length ms ≤ length bytes
-  unfolding frames
+  pub few_frames : (n : ℕ) (bytes : List ℕ) (ms : List M) → (parse_frames parse t n bytes).answer ≡ Ok ms → 4 * length ms ≤ length bytes
+  unfolding parse_frames
   few_frames zero bytes ms e = let none = answer_is {A = List M} [] ms e in rw (← none) (omega arith)
   few_frames (suc n) bytes ms e =
       let a = taken_exactly (value_front t Binary bytes) _ ms e in
       let b = taken (parse a.0.0) _ ms a.2 in
-      let c = taken (frames parse t n a.0.1) _ ms b.2 in
+      let c = taken (parse_frames parse t n a.0.1) _ ms b.2 in
       let less = few_frames n a.0.1 c.0 c.1 in
       let v = value_found t bytes a.0.0 a.0.1 a.1 in
       let here = front_takes bytes v.0 a.0.1 v.1 in
@@ -64,14 +64,14 @@ few_elements parse t bytes ms (inr h) =
 
 -- ---- what is read from an array in binary is what its bytes are
 
-frames_are : {M : Type 0} (parse : Given → Outcome M) (t : Ty) (n : ℕ) (bytes : List ℕ) (ms : List M) → AreBytes bytes → (frames parse t n bytes).answer ≡ Ok ms → (length ms ≡ n) × BeginWithFrames parse t bytes ms
-unfolding frames
+frames_are : {M : Type 0} (parse : Given → Outcome M) (t : Ty) (n : ℕ) (bytes : List ℕ) (ms : List M) → AreBytes bytes → (parse_frames parse t n bytes).answer ≡ Ok ms → (length ms ≡ n) × BeginWithFrames parse t bytes ms
+unfolding parse_frames
 frames_are {M} parse t zero bytes ms h e =
     subst (λ (ns : List M). (length ns ≡ 0) × BeginWithFrames parse t bytes ns) (answer_is {A = List M} [] ms e) (refl, tt)
 frames_are {M} parse t (suc n) bytes ms h e =
     let a = taken_exactly (value_front t Binary bytes) _ ms e in
     let b = taken (parse a.0.0) _ ms a.2 in
-    let c = taken (frames parse t n a.0.1) _ ms b.2 in
+    let c = taken (parse_frames parse t n a.0.1) _ ms b.2 in
     let v = value_is t bytes a.0.0 a.0.1 h a.1 in
     let tail = frames_are parse t n a.0.1 c.0 (after_frame bytes v.0 a.0.1 v.1 h) c.1 in
     let read : (parse (record { bytes = v.0; type_info = t; format = Binary })).answer ≡ Ok b.0 = ap (λ (g : Given). (parse g).answer) v.2 ∙ b.1 in
@@ -140,7 +140,7 @@ array_with parse t bytes rest_after n h ms false false other b whole e f found r
 array_with {M} parse t bytes rest_after n h ms false true other b whole e f found read_is =
     let x = taken (one_dimension t rest_after) (λ (y : Head). done (Some y)) h found in
     let k = one_dimension_is t rest_after x.0 b x.1 in
-    let there : (frames parse x.0.element x.0.count x.0.frames).answer ≡ Ok ms = subst (λ (o : Option Head). (elements_after parse o).answer ≡ Ok ms) (sym (answer_is {A = Option Head} (Some x.0) h x.2)) read_is in
+    let there : (parse_frames parse x.0.element x.0.count x.0.frames).answer ≡ Ok ms = subst (λ (o : Option Head). (elements_after parse o).answer ≡ Ok ms) (sym (answer_is {A = Option Head} (Some x.0) h x.2)) read_is in
     let tail : List ℕ = to_be_bytes w32 1 ++ x.0.frames in
     let b_oid = bytes_after k.flags (to_be_bytes w32 k.oid ++ (to_be_bytes w32 x.0.count ++ tail)) (subst AreBytes k.whole b) in
     let b_frames : AreBytes x.0.frames = bytes_after (to_be_bytes w32 1) x.0.frames (bytes_after (to_be_bytes w32 x.0.count) tail (bytes_after (to_be_bytes w32 k.oid) (to_be_bytes w32 x.0.count ++ tail) b_oid)) in

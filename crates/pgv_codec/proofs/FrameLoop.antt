@@ -12,7 +12,7 @@ use Rattle.pgv_value.specs.declared.error.CodecError.{CodecError}
 use Rattle.pgv_value.specs.declared.error.CodecError.TheVariants.{Short}
 use Rattle.pgv_value.specs.FrameBinary.{front}
 use Rattle.pgv_value.specs.declared.value.PgValueFormat.TheVariants.{Binary}
-use Rattle.pgv_codec.specs.ArrayGrammar.{elements, frames}
+use Rattle.pgv_codec.specs.ArrayGrammar.{elements, parse_frames}
 use Rattle.pgv_codec.specs.AtOnce.{AreFirst, IsBinaryOf, IsInFront, with_front}
 
 module _ {M : Type 0} where
@@ -26,59 +26,59 @@ module _ {M : Type 0} (parse : Given → Outcome M) (t : Ty) where
 
   -- one step: a value is read, none stands in front, one isn't read
   step_read : (ms : List M) (k : ℕ) (bytes : List ℕ) (v : Given) (rest : List ℕ) (m : M) → value_front t Binary bytes ≡ Ok (v, rest) → (parse v).answer ≡ Ok m →
-      with_front ms (frames parse t (suc k) bytes).answer ≡ with_front (ms ++ m ∷ []) (frames parse t k rest).answer
-  unfolding frames
-  step_read ms k bytes v rest m f r = rw (f, r) (regroup ms m (frames parse t k rest).answer (frames parse t k rest).may_alloc)
+      with_front ms (parse_frames parse t (suc k) bytes).answer ≡ with_front (ms ++ m ∷ []) (parse_frames parse t k rest).answer
+  unfolding parse_frames
+  step_read ms k bytes v rest m f r = rw (f, r) (regroup ms m (parse_frames parse t k rest).answer (parse_frames parse t k rest).may_alloc)
 
-  step_short : (k : ℕ) (bytes : List ℕ) (e : CodecError) → value_front t Binary bytes ≡ Err e → (frames parse t (suc k) bytes).answer ≡ Err (Some e)
-  unfolding frames
+  step_short : (k : ℕ) (bytes : List ℕ) (e : CodecError) → value_front t Binary bytes ≡ Err e → (parse_frames parse t (suc k) bytes).answer ≡ Err (Some e)
+  unfolding parse_frames
   step_short k bytes e f = rw f refl
 
   step_unread : (k : ℕ) (bytes : List ℕ) (v : Given) (rest : List ℕ) (why : Option CodecError) → value_front t Binary bytes ≡ Ok (v, rest) → (parse v).answer ≡ Err why →
-      (frames parse t (suc k) bytes).answer ≡ Err why
-  unfolding frames
+      (parse_frames parse t (suc k) bytes).answer ≡ Err why
+  unfolding parse_frames
   step_unread k bytes v rest why f r = rw (f, r) refl
 
   -- where not even a length stands in front of the first one
   pub too_short : (n : ℕ) (bytes : List ℕ) → n ≢ 0 → length bytes < 4 → Fails Short (elements parse t n bytes)
-  unfolding elements frames front
+  unfolding elements parse_frames front
   too_short zero bytes some short = absurd (some refl)
   too_short (suc n) bytes some short = inl (rw (lt-ltb (length bytes) 4 short) refl)
 
-  none_left : (bytes : List ℕ) → (frames parse t 0 bytes).answer ≡ Ok []
-  unfolding frames
+  none_left : (bytes : List ℕ) → (parse_frames parse t 0 bytes).answer ≡ Ok []
+  unfolding parse_frames
   none_left bytes = refl
 
   -- the loop over the frames: it is done, it goes on, no frame stands in front, a frame isn't read
-  pub is_done : (ms : List M) (count i : ℕ) (bytes : List ℕ) (total : Answer) → count ≤ i → with_front ms (frames parse t (count - i) bytes).answer ≡ total → total ≡ Ok ms
+  pub is_done : (ms : List M) (count i : ℕ) (bytes : List ℕ) (total : Answer) → count ≤ i → with_front ms (parse_frames parse t (count - i) bytes).answer ≡ total → total ≡ Ok ms
   is_done ms count i bytes total le so_far =
       let k : count - i ≡ 0 = omega arith in
-      let one : with_front ms (frames parse t (count - i) bytes).answer ≡ Ok ms = rw (k, none_left bytes) (ap (λ (xs : List M). let r : Answer = Ok xs in r) (append-nil ms)) in
+      let one : with_front ms (parse_frames parse t (count - i) bytes).answer ≡ Ok ms = rw (k, none_left bytes) (ap (λ (xs : List M). let r : Answer = Ok xs in r) (append-nil ms)) in
       sym so_far ∙ one
 
   pub goes_on : (ms : List M) (count i : ℕ) (bytes : List ℕ) (v : Given) (rest : List ℕ) (m : M) (total : Answer) → i < count → value_front t Binary bytes ≡ Ok (v, rest) → (parse v).answer ≡ Ok m →
-      with_front ms (frames parse t (count - i) bytes).answer ≡ total → with_front (ms ++ m ∷ []) (frames parse t (count - (i + 1)) rest).answer ≡ total
+      with_front ms (parse_frames parse t (count - i) bytes).answer ≡ total → with_front (ms ++ m ∷ []) (parse_frames parse t (count - (i + 1)) rest).answer ≡ total
   goes_on ms count i bytes v rest m total lt f r so_far =
       let k : count - i ≡ suc (count - (i + 1)) = omega arith in
-      let one : with_front ms (frames parse t (count - i) bytes).answer ≡ with_front (ms ++ m ∷ []) (frames parse t (count - (i + 1)) rest).answer = rw k (step_read ms (count - (i + 1)) bytes v rest m f r) in
+      let one : with_front ms (parse_frames parse t (count - i) bytes).answer ≡ with_front (ms ++ m ∷ []) (parse_frames parse t (count - (i + 1)) rest).answer = rw k (step_read ms (count - (i + 1)) bytes v rest m f r) in
       sym one ∙ so_far
 
   pub ends_short : (ms : List M) (count i : ℕ) (bytes : List ℕ) (e : CodecError) (total : Answer) → i < count → value_front t Binary bytes ≡ Err e →
-      with_front ms (frames parse t (count - i) bytes).answer ≡ total → total ≡ Err (Some e)
+      with_front ms (parse_frames parse t (count - i) bytes).answer ≡ total → total ≡ Err (Some e)
   ends_short ms count i bytes e total lt f so_far =
       let k : count - i ≡ suc (count - (i + 1)) = omega arith in
-      let one : with_front ms (frames parse t (count - i) bytes).answer ≡ Err (Some e) = rw (k, step_short (count - (i + 1)) bytes e f) refl in
+      let one : with_front ms (parse_frames parse t (count - i) bytes).answer ≡ Err (Some e) = rw (k, step_short (count - (i + 1)) bytes e f) refl in
       sym so_far ∙ one
 
   ends_why : (ms : List M) (count i : ℕ) (bytes : List ℕ) (v : Given) (rest : List ℕ) (why : Option CodecError) (total : Answer) → i < count → value_front t Binary bytes ≡ Ok (v, rest) →
-      (parse v).answer ≡ Err why → with_front ms (frames parse t (count - i) bytes).answer ≡ total → total ≡ Err why
+      (parse v).answer ≡ Err why → with_front ms (parse_frames parse t (count - i) bytes).answer ≡ total → total ≡ Err why
   ends_why ms count i bytes v rest why total lt f r so_far =
       let k : count - i ≡ suc (count - (i + 1)) = omega arith in
-      let one : with_front ms (frames parse t (count - i) bytes).answer ≡ Err why = rw (k, step_unread (count - (i + 1)) bytes v rest why f r) refl in
+      let one : with_front ms (parse_frames parse t (count - i) bytes).answer ≡ Err why = rw (k, step_unread (count - (i + 1)) bytes v rest why f r) refl in
       sym so_far ∙ one
 
   pub ends_unread : (ms : List M) (count i : ℕ) (bytes : List ℕ) (v : Given) (rest : List ℕ) (e : CodecError) (total : Outcome (List M)) → i < count → value_front t Binary bytes ≡ Ok (v, rest) →
-      Fails e (parse v) → with_front ms (frames parse t (count - i) bytes).answer ≡ total.answer → total.may_alloc ≡ true → Fails e total
+      Fails e (parse v) → with_front ms (parse_frames parse t (count - i) bytes).answer ≡ total.answer → total.may_alloc ≡ true → Fails e total
   ends_unread ms count i bytes v rest e total lt f (inl h) so_far free = inl (ends_why ms count i bytes v rest (Some e) total.answer lt f h so_far)
   ends_unread ms count i bytes v rest e total lt f (inr (inl h)) so_far free = inr (inl (ends_why ms count i bytes v rest None total.answer lt f h.0 so_far, h.1))
   ends_unread ms count i bytes v rest e total lt f (inr (inr h)) so_far free = inr (inr (h.0, free))
@@ -93,11 +93,11 @@ module _ {M : Type 0} (parse : Given → Outcome M) (count : ℕ) (bytes : List 
   pub first_none : AreFirst parse count bytes [] bytes
   first_none t =
       let all : count - 0 ≡ count = omega arith in
-      rw all (no_items (frames parse t count bytes).answer)
+      rw all (no_items (parse_frames parse t count bytes).answer)
 
   pub first_more : (ms : List M) (rest : List ℕ) (m : M) (width : ℕ) → length ms < count → AreFirst parse count bytes ms rest → IsInFront parse width rest m → AreFirst parse count bytes (ms ++ m ∷ []) (drop (4 + width) rest)
   first_more ms rest m width lt are is t =
-      let on = goes_on parse t ms count (length ms) rest (given t Binary (Some is.0)) (drop (4 + width) rest) m (frames parse t count bytes).answer lt (is.1 t) (is.2 t) (are t) in
+      let on = goes_on parse t ms count (length ms) rest (given t Binary (Some is.0)) (drop (4 + width) rest) m (parse_frames parse t count bytes).answer lt (is.1 t) (is.2 t) (are t) in
       rw (length_push ms m) on
 
   pub first_step : {V : Type 0} (view : V → M) (items : List V) (item : V) (now : List V) (place width : ℕ) (rest : List ℕ) → now ≡ items ++ item ∷ [] → length items ≡ place → place < count → rest ≡ drop (place * (4 + width)) bytes →

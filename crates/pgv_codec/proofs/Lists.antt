@@ -11,7 +11,7 @@ use Rattle.pgv_value.specs.Outcome.{Outcome, Fails, after, bind_by, done}
 use Rattle.pgv_value.specs.declared.error.CodecError.{CodecError}
 use Rattle.pgv_codec.specs.PlainBytes.{bytes-append}
 use Rattle.pgv_codec.proofs.OneFrame.{plain_frame}
-use Rattle.pgv_codec.specs.Encoding.{Encoding, Image, image_of, plainly, writes, frame, frames, typed, header, array_image, element_type, field, value_type}
+use Rattle.pgv_codec.specs.Encoding.{Encoding, Image, image_of, plainly, writes, frame, frames, typed, header, array_image, written_element, field, value_type}
 use Rattle.pgv_codec.specs.Appending.{Appended, Appends}
 use Rattle.pgv_codec.specs.AtOnce.{AreFrames, WritesFirst, word_frame}
 use Rattle.std.specs.Prelude.{◌≡◌, ℕ, List, [], ◌∷◌, refl, length}
@@ -187,7 +187,7 @@ module _ {X : Type 0} (encoding : X → Encoding) where
 
   -- ---- arrays
 
-  pub array_there : (info : Ty) (xs : List X) (head parts : List Token) → length xs ≤ 2147483647 → (header (element_type info (map encoding xs)) (length xs)).answer ≡ Ok head → (still xs).answer ≡ Ok parts →
+  pub array_there : (info : Ty) (xs : List X) (head parts : List Token) → length xs ≤ 2147483647 → (header (written_element info (map encoding xs)) (length xs)).answer ≡ Ok head → (still xs).answer ≡ Ok parts →
       (array_image info (map encoding xs)).answer ≡ Ok (image_of (head ++ parts))
   unfolding array_image
   array_there info xs head parts le head_is parts_are =

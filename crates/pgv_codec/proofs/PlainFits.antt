@@ -7,7 +7,7 @@ use Rattle.pgv_types.specs.declared.oid.Oid.{Oid}
 use Rattle.pgv_codec.specs.ArrayGrammar.{element_type}
 use Rattle.pgv_codec.specs.Back.{ArrayFits, FieldFits, written_oid}
 use Rattle.pgv_codec.specs.NestBinary.{HasFieldType, of_record, of_composite, of_domain}
-use Rattle.pgv_codec.specs.Encoding.{Encoding, value_type, element_type as written_type}
+use Rattle.pgv_codec.specs.Encoding.{Encoding, value_type, written_element}
 use Rattle.pgv_codec.specs.PlainFit.{ArrayIsPlain, HasField, in_composite, in_domain, in_record, FieldIsPlain}
 
 element_is : (t u : Ty) (oid : ℕ) (o : Option Ty) → built_in oid ≡ o → element_of t ≡ Some u → ((other : Ty) → built_in oid ≡ Some other → other ≡ u) → element_type t oid ≡ Some u
@@ -23,7 +23,7 @@ field_is place oid u t (in_record other e b) f =
 
 module _ {A : Type 0} (info : Ty) (encoding : A → Encoding) (fits : A → Ty → List Oid → Type 0) where
   pub array_fits : (xs : List A) (t : Ty) (os : List Oid) → ArrayIsPlain info encoding fits xs t os → ArrayFits info encoding fits xs t os
-  array_fits xs t os h = (h.0, element_is t h.0 (written_oid (oid_of (written_type info (map encoding xs))) os) _ refl h.1 h.2.1, h.3)
+  array_fits xs t os h = (h.0, element_is t h.0 (written_oid (oid_of (written_element info (map encoding xs))) os) _ refl h.1 h.2.1, h.3)
 
   pub field_fits : (accepts : Ty → Bool) (x : A) (t : Ty) (place : ℕ) (os : List Oid) → FieldIsPlain info encoding accepts fits x t place os → FieldFits info encoding accepts fits x t place os
   field_fits accepts x t place os h = (h.0, field_is place (written_oid (oid_of (value_type info (encoding x))) os) h.0 t h.1 h.2, h.3, h.4)

@@ -27,7 +27,7 @@ element_type t oid = elim (built_in oid) [ None ↦ element_of t | Some u ↦ So
 pub record Head : Type 0 where
   pub element : Ty
   pub count : ℕ
-  pub frames : List ℕ
+  pub parse_frames : List ℕ
 
 -- after the number of dimensions, which is one; the elements' type is copied, which asks for memory of a custom one
 -- alone
@@ -52,12 +52,12 @@ head t bytes = do
       else fails (Dimensions (cast_signed w32 dimensions.0))
 
 -- n frames of values of a type, each read; anything may come after them
-unfoldable pub frames : {M : Type 0} → (Given → Outcome M) → Ty → ℕ → List ℕ → Outcome (List M)
-frames parse t zero bytes = done []
-frames parse t (suc n) bytes = do
+unfoldable pub parse_frames : {M : Type 0} → (Given → Outcome M) → Ty → ℕ → List ℕ → Outcome (List M)
+parse_frames parse t zero bytes = done []
+parse_frames parse t (suc n) bytes = do
   value ← value_at t bytes
   m ← parse value.0
-  ms ← frames parse t n value.1
+  ms ← parse_frames parse t n value.1
   done (m ∷ ms)
 
 -- parts in text, each read
@@ -75,7 +75,7 @@ has_room count bytes = nat_lt 0 count && nat_lt 3 (length bytes)
 unfoldable pub elements : {M : Type 0} → (Given → Outcome M) → Ty → ℕ → List ℕ → Outcome (List M)
 elements parse t count bytes = do
   allocates (has_room count bytes)
-  frames parse t count bytes
+  parse_frames parse t count bytes
 
 -- the elements after a head
 abbrev pub elements_after : {M : Type 0} → (Given → Outcome M) → Option Head → Outcome (List M)

@@ -5,14 +5,14 @@
 use Rattle.std.specs.Prelude.{◌≡◌, ℕ, ◌+◌, ◌-◌, ◌≤◌, List, ◌++◌, length, map, take, drop, Some, Result, Ok, Err, Option}
 use Rattle.pgv_types.specs.Ty.{Ty}
 use Rattle.pgv_buf.specs.Tokens.{Cell, be4, bytes}
-use Rattle.pgv_codec.specs.ArrayGrammar.{frames}
+use Rattle.pgv_codec.specs.ArrayGrammar.{parse_frames}
 use Rattle.pgv_value.specs.Fronts.{value_front}
 use Rattle.pgv_value.specs.Outcome.{Outcome}
 use Rattle.pgv_value.specs.ValueView.{Given, given}
 use Rattle.pgv_value.specs.declared.error.CodecError.{CodecError}
 use Rattle.pgv_value.specs.declared.value.PgValueFormat.TheVariants.{Binary}
 use Rattle.pgv_codec.specs.Appending.{Appended}
-use Rattle.pgv_codec.specs.Encoding.{Encoding, frames as frames_of}
+use Rattle.pgv_codec.specs.Encoding.{Encoding, frames}
 
 -- ---- reading
 
@@ -36,7 +36,7 @@ with_front ms (Err why) = Err why
 
 -- under every type these are read from the first frames, and the others from the rest
 abbrev pub AreFirst : {M : Type 0} → (Given → Outcome M) → ℕ → List ℕ → List M → List ℕ → Type 0
-AreFirst parse count bytes ms rest = (t : Ty) → with_front ms (frames parse t (count - length ms) rest).answer ≡ (frames parse t count bytes).answer
+AreFirst parse count bytes ms rest = (t : Ty) → with_front ms (parse_frames parse t (count - length ms) rest).answer ≡ (parse_frames parse t count bytes).answer
 
 -- ---- writing
 
@@ -46,8 +46,8 @@ word_frame word = be4 4 ++ word
 
 -- the frames of these values are these bytes
 abbrev pub AreFrames : {X : Type 0} → (X → Encoding) → List X → List ℕ → Type 0
-AreFrames encoding values xs = (frames_of (map encoding values)).answer ≡ Ok (bytes xs)
+AreFrames encoding values xs = (frames (map encoding values)).answer ≡ Ok (bytes xs)
 
 -- the frames of the first n values were appended
 abbrev pub WritesFirst : {X : Type 0} → (X → Encoding) → List X → ℕ → List Cell → List Cell → Type 0
-WritesFirst encoding values n was now = (n ≤ length values) × Appended (frames_of (map encoding (take n values))) was now
+WritesFirst encoding values n was now = (n ≤ length values) × Appended (frames (map encoding (take n values))) was now

@@ -22,7 +22,7 @@ use Rattle.pgv_value.specs.declared.value.PgValueFormat.TheVariants.{Binary}
 use Rattle.pgv_codec.specs.Writing.{write}
 use Rattle.pgv_codec.specs.ArrayGrammar.{element_type}
 use Rattle.pgv_codec.specs.NestBinary.{HasFieldType}
-use Rattle.pgv_codec.specs.Encoding.{Encoding, Image, null_image, image_of, value_type, writes, field, fields_from, record_image, element_type as written_type}
+use Rattle.pgv_codec.specs.Encoding.{Encoding, Image, null_image, image_of, value_type, writes, field, fields_from, record_image, written_element}
 use Rattle.pgv_codec.specs.Writing.{image_holes, written_part}
 use Rattle.pgv_codec.specs.RecordGrammar.{Left, binary_fields, next_field, begin_fields}
 
@@ -106,7 +106,7 @@ FitEach encoding fits u (x ∷ xs) os = fits x u (take (holes_of (encoding x)) o
 -- array's type, and each fits that
 abbrev pub ArrayFits : {A : Type 0} → Ty → (A → Encoding) → (A → Ty → List Oid → Type 0) → List A → Ty → List Oid → Type 0
 ArrayFits info encoding fits xs t os =
-    let own = oid_of (written_type info (map encoding xs)) in
+    let own = oid_of (written_element info (map encoding xs)) in
     (u : Ty) × (element_type t (written_oid own os) ≡ Some u) × FitEach encoding fits u xs (oids_after own os)
 
 -- ---- the fields of records

@@ -21,7 +21,7 @@ use Rattle.pgv_codec.specs.BackParts.{type_written, SlotsFit-back, AreOids-after
 use Rattle.pgv_codec.specs.Found.{array_there}
 use Rattle.pgv_value.proofs.Outcomes.{answer_is, answer_of, taken, tested}
 use Rattle.pgv_codec.specs.NestBinary.{IsArray}
-use Rattle.pgv_codec.specs.Encoding.{Encoding, Image, null_image, image_of, limit, plainly, frames, typed, header, array_image, sized_image, option_encoding, element_type as written_type}
+use Rattle.pgv_codec.specs.Encoding.{Encoding, Image, null_image, image_of, limit, plainly, frames, typed, header, array_image, sized_image, option_encoding, written_element}
 use Rattle.pgv_codec.specs.Nullable.{nullable}
 use Rattle.pgv_codec.specs.Writing.{written_part}
 
@@ -50,22 +50,22 @@ head_parts w n h e =
     (a.0, a.1, answer_is _ h a.2)
 
 array_parts : (info : Ty) (es : List Encoding) (i : Image) → (array_image info es).answer ≡ Ok i →
-    (h : List Token) × (fs : List Token) × ((header (written_type info es) (length es)).answer ≡ Ok h) × ((frames es).answer ≡ Ok fs) × (length es ≤ limit) × (image_of (h ++ fs) ≡ i)
+    (h : List Token) × (fs : List Token) × ((header (written_element info es) (length es)).answer ≡ Ok h) × ((frames es).answer ≡ Ok fs) × (length es ≤ limit) × (image_of (h ++ fs) ≡ i)
 unfolding array_image
 array_parts info es i e =
     let rest_of : List Token → Outcome Image = λ head. frames es >>= λ parts. done (image_of (head ++ parts)) in
-    let g = tested (nat_lt limit (length es)) (ArrayLength (length es)) (allocates true >> (header (written_type info es) (length es) >>= rest_of)) i e in
-    let a = taken (header (written_type info es) (length es)) rest_of i g.1 in
+    let g = tested (nat_lt limit (length es)) (ArrayLength (length es)) (allocates true >> (header (written_element info es) (length es) >>= rest_of)) i e in
+    let a = taken (header (written_element info es) (length es)) rest_of i g.1 in
     let b = taken (frames es) (λ parts. done (image_of (a.0 ++ parts))) i a.2 in
     (a.0, b.0, a.1, b.1, ltb-false _ _ g.0, answer_is _ i b.2)
 
 module _ {A M : Type 0} (info : Ty) (encoding : A → Encoding) (parse : Given → Outcome M) (kept : A → M) (fits : A → Ty → List Oid → Type 0) (law : ReadsBack encoding (reading_of parse) kept fits) where
   -- what is written of elements is an array of what they keep
-  is_array : (xs : List A) (fs ys : List Token) (t : Ty) (p : Option Ty) (os : List Oid) → (typed (written_type info (map encoding xs))).answer ≡ Ok ys → (frames (map encoding xs)).answer ≡ Ok fs → length xs ≤ limit →
+  is_array : (xs : List A) (fs ys : List Token) (t : Ty) (p : Option Ty) (os : List Oid) → (typed (written_element info (map encoding xs))).answer ≡ Ok ys → (frames (map encoding xs)).answer ≡ Ok fs → length xs ≤ limit →
       SlotsFit fs → AreOids os → ArrayFits info encoding fits xs t os →
       IsArray parse t (write p os (((bytes (be4 1) ++ bytes (be4 0)) ++ (ys ++ (bytes (be4 (length xs)) ++ bytes (be4 1)))) ++ fs)) (map kept xs)
   is_array xs fs ys t p os e f few whole small fit =
-      let w = written_type info (map encoding xs) in
+      let w = written_element info (map encoding xs) in
       let n = length xs in
       let rest : List Token = (bytes (be4 n) ++ bytes (be4 1)) ++ fs in
       let left : List Oid = oids_after (oid_of w) os in
@@ -92,7 +92,7 @@ module _ {A M : Type 0} (info : Ty) (encoding : A → Encoding) (parse : Given �
   array_back xs i t p os e whole small fit =
       let a = array_parts info (map encoding xs) i e in
       let many : length (map encoding xs) ≡ length xs = length-map xs encoding in
-      let h = head_parts (written_type info (map encoding xs)) (length (map encoding xs)) a.0 a.2 in
+      let h = head_parts (written_element info (map encoding xs)) (length (map encoding xs)) a.0 a.2 in
       let all : image_of (((bytes (be4 1) ++ bytes (be4 0)) ++ (h.0 ++ (bytes (be4 (length xs)) ++ bytes (be4 1)))) ++ a.1) ≡ i
       = ap (λ (n : ℕ). image_of (((bytes (be4 1) ++ bytes (be4 0)) ++ (h.0 ++ (bytes (be4 n) ++ bytes (be4 1)))) ++ a.1)) (sym many) ∙ (ap (λ (r : List Token). image_of (r ++ a.1)) h.2 ∙ a.5) in
       let fs_fit : SlotsFit a.1 = SlotsFit-back ((bytes (be4 1) ++ bytes (be4 0)) ++ (h.0 ++ (bytes (be4 (length xs)) ++ bytes (be4 1)))) a.1 (subst ImageFits (sym all) whole) in

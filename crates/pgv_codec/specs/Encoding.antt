@@ -92,9 +92,9 @@ frames (e ∷ es) = do
   done (first ++ others)
 
 -- the type of the elements: that of the first, or else that of their Rust type
-abbrev pub element_type : Ty → List Encoding → Ty
-element_type info [] = info
-element_type info (e ∷ es) = value_type info e
+abbrev pub written_element : Ty → List Encoding → Ty
+written_element info [] = info
+written_element info (e ∷ es) = value_type info e
 
 -- one dimension, no flags, the type of the elements, how many there are, and the lower bound
 abbrev pub header : Ty → ℕ → Outcome (List Token)
@@ -106,7 +106,7 @@ unfoldable pub array_image : Ty → List Encoding → Outcome Image
 array_image info es = do
   fails_if (nat_lt limit (length es)) (ArrayLength (length es))
   allocates true
-  head ← header (element_type info es) (length es)
+  head ← header (written_element info es) (length es)
   parts ← frames es
   done (image_of (head ++ parts))
 

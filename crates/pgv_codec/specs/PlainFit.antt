@@ -8,7 +8,7 @@ use Rattle.pgv_types.specs.Ty.{Ty, builtin, custom, domain, composite, Fields}
 use Rattle.pgv_types.specs.Facts.{built_in, oid_of, element_of}
 use Rattle.pgv_types.specs.declared.oid.Oid.{Oid}
 use Rattle.pgv_codec.specs.Back.{FitEach, holes_of, written_oid, oids_after}
-use Rattle.pgv_codec.specs.Encoding.{Encoding, value_type, element_type as written_type}
+use Rattle.pgv_codec.specs.Encoding.{Encoding, value_type, written_element}
 use Rattle.pgv_codec.specs.RecordGrammar.{field_at}
 
 -- a type's own OID, which no other type has as a built-in
@@ -18,7 +18,7 @@ IsOwnOid u oid = (oid_of u ≡ Some oid) × ((other : Ty) → built_in oid ≡ S
 -- the type has elements of some type, whose own OID is written, and each element fits it
 abbrev pub ArrayIsPlain : {A : Type 0} → Ty → (A → Encoding) → (A → Ty → List Oid → Type 0) → List A → Ty → List Oid → Type 0
 ArrayIsPlain info encoding fits xs t os =
-    let own = oid_of (written_type info (map encoding xs)) in
+    let own = oid_of (written_element info (map encoding xs)) in
     (u : Ty) × (element_of t ≡ Some u) × IsOwnOid u (written_oid own os) × FitEach encoding fits u xs (oids_after own os)
 
 -- The type of the field at a place: of a composite type, under a domain of its base, and under `record` a built-in

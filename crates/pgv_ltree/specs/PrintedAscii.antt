@@ -36,9 +36,9 @@ variants_ascii (v ∷ vs) e =
     and_from (are_ascii (printed_variant v)) (list_all are_ascii (map printed_variant vs))
     (ascii_append v.label (printed_marks v.any_end v.in_case v.sublexeme) (label_is_ascii v.label b.0) (marks_ascii v.any_end v.in_case v.sublexeme)) (variants_ascii vs b.1)
 
-by_case : (b : Bool) (x y : List ℕ) → are_ascii x ≡ true → are_ascii y ≡ true → are_ascii (if b then x else y) ≡ true
-by_case true x y e f = e
-by_case false x y e f = f
+ascii_by_case : (b : Bool) (x y : List ℕ) → are_ascii x ≡ true → are_ascii y ≡ true → are_ascii (if b then x else y) ≡ true
+ascii_by_case true x y e f = e
+ascii_by_case false x y e f = f
 
 star_ascii : (low high : Option ℕ) → is_level (star low high) ≡ true → are_ascii (printed_star low high) ≡ true
 star_ascii None None e = refl
@@ -48,7 +48,7 @@ star_ascii (Some low) (Some high) e =
     let b = and_parts (nat_lt low 65536) (nat_lt high 65536) e in
     let l = decimal_ascii low b.0 in
     let h = decimal_ascii high b.1 in
-    by_case (low == high) _ _ (ascii_append (decimal low) (125 ∷ []) l refl) (ascii_append (decimal low ++ 44 ∷ [] ++ decimal high) (125 ∷ []) (ascii_append (decimal low ++ 44 ∷ []) (decimal high) (ascii_append (decimal low) (44 ∷ []) l refl) h) refl)
+    ascii_by_case (low == high) _ _ (ascii_append (decimal low) (125 ∷ []) l refl) (ascii_append (decimal low ++ 44 ∷ [] ++ decimal high) (125 ∷ []) (ascii_append (decimal low ++ 44 ∷ []) (decimal high) (ascii_append (decimal low) (44 ∷ []) l refl) h) refl)
 
 level_ascii : (l : Level) → is_level l ≡ true → are_ascii (printed_level l) ≡ true
 level_ascii (star low high) e = star_ascii low high e

@@ -24,12 +24,12 @@ level_from (inl p) = star p.0 p.1
 level_from (inr (inl vs)) = one_of vs
 level_from (inr (inr vs)) = none_of vs
 
-pub level_again : (l : Level) → level_from (stored_level l) ≡ l
-level_again (star low high) = refl
-level_again (one_of vs) = refl
-level_again (none_of vs) = refl
+pub stored_again : (l : Level) → level_from (stored_level l) ≡ l
+stored_again (star low high) = refl
+stored_again (one_of vs) = refl
+stored_again (none_of vs) = refl
 
 abbrev pub level_code : Coded Level
 level_code = code_by StoredLevel
     (coded⊎ (coded× (coded_option coded_ℕ) (coded_option coded_ℕ)) (coded⊎ (coded_list variant_code) (coded_list variant_code)))
-    stored_level level_from level_again
+    stored_level level_from stored_again

@@ -3,7 +3,7 @@
 use Rattle.std.specs.Prelude.{ℕ, true, List, [], ◌∷◌}
 use Rattle.pgv_value.specs.declared.error.CodecError.TheVariants.{Short}
 use Rattle.pgv_value.specs.declared.value.PgValueFormat.{PgValueFormat}
-use Rattle.pgv_value.specs.Fronts.{u16_front, format_of}
+use Rattle.pgv_value.specs.Fronts.{u16_front, format_of_code}
 use Rattle.pgv_value.specs.Outcome.{Outcome, after, in_place, fails, allocates, done, ◌>>=◌, ◌>>◌}
 use Rattle.pgv_value.specs.Several.{several}
 use Rattle.pgv_message.specs.Bodies.{whole_body}
@@ -11,7 +11,7 @@ use Rattle.pgv_message.specs.Bodies.{whole_body}
 unfoldable pub format_front : List ℕ → Outcome (PgValueFormat × List ℕ)
 format_front bytes = do
   code ← in_place (u16_front bytes)
-  format ← in_place (format_of code.0)
+  format ← in_place (format_of_code code.0)
   done (format, code.1)
 
 -- as many formats, where memory may have been asked for
@@ -21,7 +21,7 @@ formats_front count bytes = after true (several format_front count bytes)
 unfoldable pub copy_formats : List ℕ → Outcome (PgValueFormat × List PgValueFormat)
 copy_formats [] = fails Short
 copy_formats (code ∷ rest) = do
-  format ← in_place (format_of code)
+  format ← in_place (format_of_code code)
   count ← in_place (u16_front rest)
   allocates true
   columns ← several format_front count.0 count.1

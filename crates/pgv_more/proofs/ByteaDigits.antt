@@ -9,7 +9,7 @@ use Rattle.hex.proofs.HexLemmas.{decode_of-digits, decode_of-ok, decode_sized-tw
 use Rattle.pgv_value.specs.Outcome.{copied}
 use Rattle.pgv_value.specs.Reading.{has_items}
 use Rattle.pgv_value.specs.declared.error.CodecError.TheVariants.{Syntax, WrongLength}
-use Rattle.pgv_more.specs.ByteaText.{all_digits, bytea_in_text, digits_after, of_length, sized_in_text, where_ok}
+use Rattle.pgv_more.specs.ByteaText.{all_digits, bytea_in_text, after_prefix, of_length, sized_in_text, where_ok}
 
 value_of_pairs : (digits : List ℕ) → (length digits % 2 == 0 && all_digits digits) ≡ true → (value : List ℕ) × (decode_of digits ≡ Ok value)
 value_of_pairs digits pairs =
@@ -27,13 +27,13 @@ asks None has = has
 asks (Some []) has = has
 asks (Some (byte ∷ value)) has = refl
 
-pub pairs_ask : (text digits : List ℕ) → Some digits ≡ digits_after text → 0 < length digits → (length digits % 2 == 0 && all_digits digits) ≡ true → (copied (ok_or (bytea_in_text text) Syntax)).may_alloc ≡ true
+pub pairs_ask : (text digits : List ℕ) → Some digits ≡ after_prefix text → 0 < length digits → (length digits % 2 == 0 && all_digits digits) ≡ true → (copied (ok_or (bytea_in_text text) Syntax)).may_alloc ≡ true
 pairs_ask text digits after some pairs =
     let value = value_of_pairs digits pairs in
     asks (bytea_in_text text) (rw (← after) (held digits value.0 some value.1))
 
 -- and nothing of none
-pub nothing_is_read : (text digits : List ℕ) → Some digits ≡ digits_after text → length digits ≡ 0 → bytea_in_text text ≡ Some []
+pub nothing_is_read : (text digits : List ℕ) → Some digits ≡ after_prefix text → length digits ≡ 0 → bytea_in_text text ≡ Some []
 unfolding decode_pairs
 nothing_is_read text [] after none = rw (← after) refl
 nothing_is_read text (digit ∷ digits) after none = absurd (omega (arith, none))
@@ -47,7 +47,7 @@ others_are_none digits others (Ok value) is =
     let pairs : (length digits % 2 == 0 && all_digits digits) ≡ true = rw (good.0, all) refl in
     absurd (cc)
 
-pub others_not_read : (text digits : List ℕ) → Some digits ≡ digits_after text → (length digits % 2 == 0 && all_digits digits) ≡ false → bytea_in_text text ≡ None
+pub others_not_read : (text digits : List ℕ) → Some digits ≡ after_prefix text → (length digits % 2 == 0 && all_digits digits) ≡ false → bytea_in_text text ≡ None
 others_not_read text digits after others = rw (← after) (others_are_none digits others (decode_of digits) refl)
 
 -- ---- of n bytes
@@ -63,11 +63,11 @@ wrong_length digits value n e is refused = by (nat_eq (length value) n) refl
         let both : Ok value ≡ Err e = sym is ∙ sym (decode_sized-twice digits n size) ∙ refused in
         absurd (cc)
 
-pub refused_for_length : (text digits : List ℕ) (n : ℕ) (e : FromHexError) → Some digits ≡ digits_after text → (length digits % 2 == 0 && all_digits digits) ≡ true → decode_sized digits n ≡ Err e →
+pub refused_for_length : (text digits : List ℕ) (n : ℕ) (e : FromHexError) → Some digits ≡ after_prefix text → (length digits % 2 == 0 && all_digits digits) ≡ true → decode_sized digits n ≡ Err e →
     sized_in_text n text ≡ Err (WrongLength (length digits / 2))
 refused_for_length text digits n e after pairs refused =
     let value = value_of_pairs digits pairs in
     rw (← after, value.1) (wrong_length digits value.0 n e value.1 refused)
 
-pub refused_for_digits : (text digits : List ℕ) (n : ℕ) → Some digits ≡ digits_after text → (length digits % 2 == 0 && all_digits digits) ≡ false → sized_in_text n text ≡ Err Syntax
+pub refused_for_digits : (text digits : List ℕ) (n : ℕ) → Some digits ≡ after_prefix text → (length digits % 2 == 0 && all_digits digits) ≡ false → sized_in_text n text ≡ Err Syntax
 refused_for_digits text digits n after others = rw (others_not_read text digits after others) refl

@@ -18,7 +18,7 @@ use Rattle.pgv_codec.specs.Encoding.{Image, image_of}
 use Rattle.pgv_codec.specs.declared.buffer.IsNull.TheVariants.{No}
 use Rattle.pgv_codec.proofs.StepOutcomes.{fails_here, fails_then}
 use Rattle.pgv_codec.proofs.Lists.{both}
-use Rattle.pgv_more.specs.Hstore.{Pair, pair_of, order, in_order, number_form, pair_written, pairs_written, hstore_image}
+use Rattle.pgv_more.specs.Hstore.{Pair, pair_of, order, in_order, size_form, pair_written, pairs_written, hstore_image}
 
 -- ---- pairs of a map, one after another
 
@@ -74,28 +74,28 @@ module _ {Z : Type 0} (es : List (String Z × Option (String Z))) where
   abbrev pub pairs_after : List ℕ → Outcome Image
   pairs_after number = allocates true >> (pairs_written (map pair_of es) >>= λ all. in_order (map pair_of es) >> done (image_of (bytes number ++ all)))
 
-  image_by : (n : ℕ) → n ≡ length es → in_place (number_form n) >>= pairs_after ≡ hstore_image (map pair_of es)
+  image_by : (n : ℕ) → n ≡ length es → in_place (size_form n) >>= pairs_after ≡ hstore_image (map pair_of es)
   unfolding hstore_image
   image_by n e = rw (e, same_length es) refl
 
-  pub number_fails : (n : ℕ) (e : CodecError) → n ≡ length es → number_form n ≡ Err e → Fails e (hstore_image (map pair_of es))
-  number_fails n e count is = subst (Fails e) (image_by n count) (fails_here (in_place (number_form n)) pairs_after e (inl (ap stated is)))
+  pub number_fails : (n : ℕ) (e : CodecError) → n ≡ length es → size_form n ≡ Err e → Fails e (hstore_image (map pair_of es))
+  number_fails n e count is = subst (Fails e) (image_by n count) (fails_here (in_place (size_form n)) pairs_after e (inl (ap stated is)))
 
-  pub memory_fails : (n : ℕ) (number : List ℕ) (e : CodecError) → n ≡ length es → number_form n ≡ Ok number → e ≡ Memory → Fails e (hstore_image (map pair_of es))
-  memory_fails n number e count is memory = subst (Fails e) (image_by n count) (fails_then (in_place (number_form n)) pairs_after number e (ap stated is) (inr (inr (memory, refl))))
+  pub memory_fails : (n : ℕ) (number : List ℕ) (e : CodecError) → n ≡ length es → size_form n ≡ Ok number → e ≡ Memory → Fails e (hstore_image (map pair_of es))
+  memory_fails n number e count is memory = subst (Fails e) (image_by n count) (fails_then (in_place (size_form n)) pairs_after number e (ap stated is) (inr (inr (memory, refl))))
 
   part_fails : {A B : Type 0} (o : Outcome A) (next : A → Outcome B) (e : CodecError) → Fails e (after true o) → Fails e (allocates true >> (o >>= next))
   part_fails o next e (inl h) = inl (rw h refl)
   part_fails o next e (inr (inl h)) = inr (inl (rw h.0 refl, h.1))
   part_fails o next e (inr (inr h)) = inr (inr (h.0, refl))
 
-  pub pairs_fail : (n : ℕ) (number : List ℕ) (e : CodecError) → n ≡ length es → number_form n ≡ Ok number → Fails e (after true (pairs_written (map pair_of es))) → Fails e (hstore_image (map pair_of es))
+  pub pairs_fail : (n : ℕ) (number : List ℕ) (e : CodecError) → n ≡ length es → size_form n ≡ Ok number → Fails e (after true (pairs_written (map pair_of es))) → Fails e (hstore_image (map pair_of es))
   pairs_fail n number e count is fault =
-      subst (Fails e) (image_by n count) (fails_then (in_place (number_form n)) pairs_after number e (ap stated is)
+      subst (Fails e) (image_by n count) (fails_then (in_place (size_form n)) pairs_after number e (ap stated is)
       (part_fails (pairs_written (map pair_of es)) (λ all. in_order (map pair_of es) >> done (image_of (bytes number ++ all))) e fault))
 
   -- the number of pairs, and the pairs
-  pub map_appended : (n : ℕ) (number : List ℕ) (start mid now : List Cell) → n ≡ length es → number_form n ≡ Ok number → IsStrictlySortedBy string_cmp (map (λ e. e.0) es) →
+  pub map_appended : (n : ℕ) (number : List ℕ) (start mid now : List Cell) → n ≡ length es → size_form n ≡ Ok number → IsStrictlySortedBy string_cmp (map (λ e. e.0) es) →
       mid ≡ start ++ blank (bytes number) → Appended (after true (pairs_written (map pair_of es))) mid now → Encoded No (hstore_image (map pair_of es)) start now
   map_appended n number start mid now count is sorted first all = (
     bytes number ++ all.0,

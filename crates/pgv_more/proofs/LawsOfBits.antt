@@ -15,7 +15,7 @@ use Rattle.pgv_value.specs.declared.error.CodecError.TheVariants.{Short, Negativ
 use Rattle.pgv_value.proofs.Outcomes.{ok_is}
 use Rattle.pgv_more.specs.Bits.{bits_of, byte_count, bytes_of, packed}
 use Rattle.pgv_more.specs.BitsBinary.{IsBits, BitsAreRead, OneListOfBits, bits_in_binary, bit_count}
-use Rattle.pgv_more.specs.BitsText.{BitsAreReadOfText, digit_of, is_digit, is_one}
+use Rattle.pgv_more.specs.BitsText.{BitsAreReadOfText, digit_of, is_bit_digit, is_one}
 use Rattle.pgv_more.specs.BitsBack.{binary_there}
 use Rattle.pgv_more.specs.PackedBits.{PackedIsOne}
 use Rattle.pgv_more.specs.Packing.{AreByteNumbers, length-bits_of, number_of-lt, bytes_of-bits_of, bits_of-bytes_of, fill}
@@ -105,16 +105,16 @@ one_list_of_bits form first second small a b = ok_is first second (sym ((bits_ar
 
 -- ---- texts
 
-digit_is : (c : ℕ) → is_digit c ≡ true → digit_of (is_one c) ≡ c
+digit_is : (c : ℕ) → is_bit_digit c ≡ true → digit_of (is_one c) ≡ c
 digit_is c e = grind (arith, nat_tests)
 
-digits_are : (text : List ℕ) → list_all is_digit text ≡ true → text ≡ map digit_of (map is_one text)
+digits_are : (text : List ℕ) → list_all is_bit_digit text ≡ true → text ≡ map digit_of (map is_one text)
 digits_are [] e = refl
 digits_are (c ∷ text) e =
-    let both = and_parts (is_digit c) (list_all is_digit text) e in
+    let both = and_parts (is_bit_digit c) (list_all is_bit_digit text) e in
     ap (λ (d : ℕ). d ∷ text) (sym (digit_is c both.0)) ∙ ap (λ (ds : List ℕ). digit_of (is_one c) ∷ ds) (digits_are text both.1)
 
-are_digits : (bits : List Bool) → (list_all is_digit (map digit_of bits) ≡ true) × (map is_one (map digit_of bits) ≡ bits)
+are_digits : (bits : List Bool) → (list_all is_bit_digit (map digit_of bits) ≡ true) × (map is_one (map digit_of bits) ≡ bits)
 are_digits [] = (refl, refl)
 are_digits (true ∷ bits) = let h = are_digits bits in (h.0, ap (λ (bs : List Bool). true ∷ bs) h.1)
 are_digits (false ∷ bits) = let h = are_digits bits in (h.0, ap (λ (bs : List Bool). false ∷ bs) h.1)
@@ -126,6 +126,6 @@ kept false x y e = absurd (cc)
 pub bits_are_read_of_text : BitsAreReadOfText
 unfolding BitsAreReadOfText
 bits_are_read_of_text text bits = (
-  λ e. let k = kept (list_all is_digit text) (map is_one text) bits e in digits_are text k.0 ∙ ap (map digit_of) k.1,
+  λ e. let k = kept (list_all is_bit_digit text) (map is_one text) bits e in digits_are text k.0 ∙ ap (map digit_of) k.1,
   λ h. let k = are_digits bits in rw (h, k.0, k.1) refl,
 )

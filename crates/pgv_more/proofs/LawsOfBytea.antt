@@ -7,7 +7,7 @@ use Rattle.std.specs.Option.{option_and_then}
 use Rattle.hex.specs.Hex.{decode_of, decode_pairs, hex_digit_value, pair_value, ◌>>=◌}
 use Rattle.hex.specs.declared.error.FromHexError.{FromHexError}
 use Rattle.hex.proofs.HexLemmas.{decode_of-ok, decode_of-even}
-use Rattle.pgv_more.specs.ByteaText.{ArePairs, IsByteaText, ByteaTextIsRead, OneByteaText, bytea_in_text, digits_after, where_ok}
+use Rattle.pgv_more.specs.ByteaText.{ArePairs, IsByteaText, ByteaTextIsRead, OneByteaText, bytea_in_text, after_prefix, where_ok}
 use Rattle.pgv_more.specs.MacAddressText.{IsHexDigit, IsPair}
 
 -- ---- digits
@@ -71,14 +71,14 @@ both_are true true x y e = (refl, refl, same_Some x y e)
 both_are true false x y e = absurd (cc)
 both_are false b x y e = absurd (cc)
 
-after_is : (text digits : List ℕ) → digits_after text ≡ Some digits → text ≡ 92 ∷ 120 ∷ digits
+after_is : (text digits : List ℕ) → after_prefix text ≡ Some digits → text ≡ 92 ∷ 120 ∷ digits
 after_is [] digits e = absurd (cc)
 after_is (a ∷ []) digits e = absurd (cc)
 after_is (a ∷ b ∷ rest) digits e =
     let k = both_are (a == 92) (b == 120) rest digits e in
     rw (eqb-true a 92 k.0, eqb-true b 120 k.1, k.2) refl
 
-read_is : (text value : List ℕ) (o : Option (List ℕ)) → digits_after text ≡ o → option_and_then (λ digits. where_ok (decode_of digits)) o ≡ Some value → IsByteaText text value
+read_is : (text value : List ℕ) (o : Option (List ℕ)) → after_prefix text ≡ o → option_and_then (λ digits. where_ok (decode_of digits)) o ≡ Some value → IsByteaText text value
 read_is text value None after e = absurd (cc)
 read_is text value (Some digits) after e =
     let whole = where_is (decode_of digits) value e in
@@ -92,7 +92,7 @@ read_there digits value h =
 pub bytea_text_is_read : ByteaTextIsRead
 unfolding ByteaTextIsRead
 bytea_text_is_read text value = (
-  λ e. read_is text value (digits_after text) refl e,
+  λ e. read_is text value (after_prefix text) refl e,
   λ h. ap bytea_in_text h.1 ∙ read_there h.0 value h.2,
 )
 

@@ -22,7 +22,7 @@ use Rattle.pgv_value.proofs.Numbers.{number_is, bytes_after, after_four}
 use Rattle.pgv_value.proofs.Outcomes.{answer_is, answers_are, ok_is, held, taken, taken_exactly, tested, found_or}
 use Rattle.pgv_codec.specs.Encoding.{limit}
 use Rattle.pgv_more.specs.Hstore.{Pair, order, part_form, pair_form, text_at, as_key, as_value, key_at, map_value, pairs, put_all, put_read, hstore_in_binary}
-use Rattle.pgv_more.specs.HstoreBack.{IsText, IsMapValue, ArePairs, hstore_there}
+use Rattle.pgv_more.specs.HstoreBack.{IsText, IsMapValue, AreMapPairs, hstore_there}
 use Rattle.pgv_more.specs.HstoreLaws.{last_value, IsMapOf, IsHstore, HstoreIsRead, OneHstore}
 
 -- ---- a key, a value and a pair that are read stand there
@@ -73,7 +73,7 @@ value_is form value rest small e =
         subst (λ (v : Part). ValueIs form v rest) (answer_is {A = Part} (Some text.0) value text.2) is
 
 abbrev PairsAre : ℕ → List ℕ → List Pair → Type 0
-PairsAre n form ps = (rest : List ℕ) × (length ps ≡ n) × ArePairs ps × (form ≡ flat_map pair_form ps ++ rest)
+PairsAre n form ps = (rest : List ℕ) × (length ps ≡ n) × AreMapPairs ps × (form ≡ flat_map pair_form ps ++ rest)
 
 -- a key, a value and what is left, one after another
 one_after : (form key between : List ℕ) (value : Part) (later : List ℕ) (ps : List Pair) (rest : List ℕ) → form ≡ part_form (Some key) ++ between → between ≡ part_form value ++ later → later ≡ flat_map pair_form ps ++ rest →

@@ -1,6 +1,6 @@
 -- The laws of MAC addresses.
 use Rattle.std.proofs.Common.{◌≡◌, ℕ, ◌≤◌, List, [], ◌∷◌, length, refl, arith, None, zero, suc, ◌+◌, ◌*◌, ◌<◌, eqb, ltb, Bool, true, false, drop, sym, subst, ap, ◌∙◌, Option, Some, ◌⊎◌, inl, inr}
-use Rattle.pgv_more.specs.MacAddressText.{no_text_left, IsHexDigit, IsPair, ArePairsAfter, IsSeparator, IsMacAddress, hex_value, pair_of, pair_value, with_rest, next_pair, pair_before, pairs_after, is_separator, mac_value, MacAddressIsRead, OneMacAddress}
+use Rattle.pgv_more.specs.MacAddressText.{no_text_left, IsHexDigit, IsPair, ArePairsAfter, IsSeparator, IsMacAddress, hex_value, byte_of_pair, pair_value, with_rest, next_pair, pair_before, pairs_after, is_separator, mac_value, MacAddressIsRead, OneMacAddress}
 use Rattle.std.specs.Prelude.{◌||◌}
 use Rattle.std.specs.Option.{option_map}
 use Rattle.std.specs.Char.{digit_value}
@@ -65,7 +65,7 @@ digit_read c v h =
 
 -- ---- pairs
 
-both_there : (x y : Option ℕ) (byte : ℕ) → pair_of x y ≡ Some byte → (h : ℕ) × (l : ℕ) × (x ≡ Some h) × (y ≡ Some l) × (byte ≡ 16 * h + l)
+both_there : (x y : Option ℕ) (byte : ℕ) → byte_of_pair x y ≡ Some byte → (h : ℕ) × (l : ℕ) × (x ≡ Some h) × (y ≡ Some l) × (byte ≡ 16 * h + l)
 both_there None y byte e = absurd (cc)
 both_there (Some h) None byte e = absurd (cc)
 both_there (Some h) (Some l) byte e = (h, l, refl, refl, sym (same_Some (16 * h + l) byte e))

@@ -10,15 +10,15 @@ digit_of bit = if bit then 49 else 48
 abbrev pub IsBitsText : List ℕ → List Bool → Type 0
 IsBitsText text bits = text ≡ map digit_of bits
 
-abbrev pub is_digit : ℕ → Bool
-is_digit c = c == 48 || c == 49
+abbrev pub is_bit_digit : ℕ → Bool
+is_bit_digit c = c == 48 || c == 49
 
 abbrev pub is_one : ℕ → Bool
 is_one c = c == 49
 
 -- the bits that are read
 abbrev pub bits_in_text : List ℕ → Option (List Bool)
-bits_in_text text = if list_all is_digit text then Some (map is_one text) else None
+bits_in_text text = if list_all is_bit_digit text then Some (map is_one text) else None
 
 -- bits are read from a text iff the text is their digits
 unfoldable pub BitsAreReadOfText : Type 0

@@ -31,17 +31,17 @@ IsByteaText text value = (digits : List ℕ) × (text ≡ 92 ∷ 120 ∷ digits)
 -- ---- what is read
 
 -- the digits after `\x`
-abbrev pub digits_after : List ℕ → Option (List ℕ)
-digits_after [] = None
-digits_after (a ∷ []) = None
-digits_after (a ∷ b ∷ digits) = if a == 92 && b == 120 then Some digits else None
+abbrev pub after_prefix : List ℕ → Option (List ℕ)
+after_prefix [] = None
+after_prefix (a ∷ []) = None
+after_prefix (a ∷ b ∷ digits) = if a == 92 && b == 120 then Some digits else None
 
 abbrev pub where_ok : {E A : Type 0} → Result A E → Option A
 where_ok (Ok a) = Some a
 where_ok (Err e) = None
 
 abbrev pub bytea_in_text : List ℕ → Option (List ℕ)
-bytea_in_text text = option_and_then (λ digits. where_ok (decode_of digits)) (digits_after text)
+bytea_in_text text = option_and_then (λ digits. where_ok (decode_of digits)) (after_prefix text)
 
 -- in binary the bytes as they are; a text isn't tested for UTF-8, and one that denotes no bytes is C29
 abbrev pub bytea_part : PgValueFormat → Option (List ℕ) → Parsed (List ℕ)

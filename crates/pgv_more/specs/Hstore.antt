@@ -73,14 +73,14 @@ abbrev pub pair_fits : Pair → Bool
 pair_fits p = part_fits (Some p.0) && part_fits p.1
 
 -- a number of pairs or a length in four bytes, where it has room (C9)
-unfoldable pub number_form : ℕ → Parsed (List ℕ)
-number_form n = if nat_lt limit n then Err (HstoreLength (cast_signed w64 n)) else Ok (be4 n)
+unfoldable pub size_form : ℕ → Parsed (List ℕ)
+size_form n = if nat_lt limit n then Err (HstoreLength (cast_signed w64 n)) else Ok (be4 n)
 
 -- a key or a value, a pair, and pairs one after another
 unfoldable pub part_written : Part → Outcome (List Token)
 part_written None = allocates true >> done (bytes (be4 4294967295))
 part_written (Some part) = do
-  number ← in_place (number_form (length part))
+  number ← in_place (size_form (length part))
   allocates true
   done (bytes (number ++ part))
 
@@ -104,7 +104,7 @@ in_order ps = record { answer = if is_sorted order ps then Ok tt else Err None; 
 -- the number of pairs, and the pairs in the order of their keys
 unfoldable pub hstore_image : List Pair → Outcome Image
 hstore_image ps = do
-  number ← in_place (number_form (length ps))
+  number ← in_place (size_form (length ps))
   allocates true
   all ← pairs_written ps
   in_order ps

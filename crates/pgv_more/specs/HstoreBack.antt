@@ -28,7 +28,7 @@ use Rattle.pgv_codec.specs.Back.{ReadsBack, always}
 use Rattle.pgv_codec.specs.BackScalars.{part_is}
 use Rattle.pgv_codec.specs.Encoding.{Image, image_of, limit, plainly}
 use Rattle.pgv_codec.specs.PlainBytes.{bytes-append}
-use Rattle.pgv_more.specs.Hstore.{Pair, pair_of, pairs_of, order, part_form, pair_form, hstore_form, part_fits, pair_fits, number_form, part_written, pair_written, pairs_written, in_order, hstore_image, key_at, map_value, pairs, put_all, hstore_in_binary, parse_hstore}
+use Rattle.pgv_more.specs.Hstore.{Pair, pair_of, pairs_of, order, part_form, pair_form, hstore_form, part_fits, pair_fits, size_form, part_written, pair_written, pairs_written, in_order, hstore_image, key_at, map_value, pairs, put_all, hstore_in_binary, parse_hstore}
 use Rattle.pgv_more.specs.declared.hstore.PgHstore.{PgHstore}
 
 -- ---- a pair is read from its form, whatever comes after it
@@ -42,12 +42,12 @@ abbrev pub IsMapValue : Part → Type 0
 IsMapValue None = Unit {0}
 IsMapValue (Some part) = IsText part
 
-abbrev pub IsPair : Pair → Type 0
-IsPair p = IsText p.0 × IsMapValue p.1
+abbrev pub IsMapPair : Pair → Type 0
+IsMapPair p = IsText p.0 × IsMapValue p.1
 
-abbrev pub ArePairs : List Pair → Type 0
-ArePairs [] = Unit {0}
-ArePairs (p ∷ ps) = IsPair p × ArePairs ps
+abbrev pub AreMapPairs : List Pair → Type 0
+AreMapPairs [] = Unit {0}
+AreMapPairs (p ∷ ps) = IsMapPair p × AreMapPairs ps
 
 part_framed : (part : List ℕ) (rest : List ℕ) → IsText part → front (part_form (Some part) ++ rest) ≡ Some (Some part, rest)
 part_framed part rest is = frame_in_front (part_form (Some part) ++ rest) (Some part) rest (is.room, append_assoc (be4 (length part)) part rest)
@@ -64,7 +64,7 @@ pair_then : (n : ℕ) (form between later : List ℕ) (key : List ℕ) (value : 
 unfolding pairs
 pair_then n form between later key value ps f g h = rw (f, g, h) refl
 
-pub pairs_there : (ps : List Pair) (rest : List ℕ) → ArePairs ps → (pairs (length ps) (flat_map pair_form ps ++ rest)).answer ≡ Ok ps
+pub pairs_there : (ps : List Pair) (rest : List ℕ) → AreMapPairs ps → (pairs (length ps) (flat_map pair_form ps ++ rest)).answer ≡ Ok ps
 unfolding pairs
 pairs_there [] rest is = refl
 pairs_there (p ∷ ps) rest is =
@@ -75,7 +75,7 @@ pairs_there (p ∷ ps) rest is =
     ∙ pair_then (length ps) _ (part_form p.1 ++ later) later p.0 p.1 ps (key_there p.0 (part_form p.1 ++ later) is.0.0) (value_there p.1 later is.0.1) (pairs_there ps rest is.1)
 
 -- what is after its number is put into a map
-pub hstore_there : (ps : List Pair) (rest : List ℕ) → length ps < 2 ^ 31 → ArePairs ps → (hstore_in_binary (be4 (length ps) ++ (flat_map pair_form ps ++ rest))).answer ≡ Ok (put_all [] ps)
+pub hstore_there : (ps : List Pair) (rest : List ℕ) → length ps < 2 ^ 31 → AreMapPairs ps → (hstore_in_binary (be4 (length ps) ++ (flat_map pair_form ps ++ rest))).answer ≡ Ok (put_all [] ps)
 hstore_there ps rest few are =
     let small : nat_lt limit (length ps) ≡ false = le-ltb _ _ (omega (arith, few)) in
     rw (number_there (length ps) (flat_map pair_form ps ++ rest) (omega (arith, few)), small, pairs_there ps rest are) refl
@@ -118,7 +118,7 @@ is_value : {Z : Type 0} (o : Option (String Z)) → part_fits (option_map string
 is_value None fits = tt
 is_value (Some s) fits = string_is_text s fits
 
-are_pairs : {Z : Type 0} (es : List (String Z × Option (String Z))) → list_all pair_fits (map pair_of es) ≡ true → ArePairs (map pair_of es)
+are_pairs : {Z : Type 0} (es : List (String Z × Option (String Z))) → list_all pair_fits (map pair_of es) ≡ true → AreMapPairs (map pair_of es)
 are_pairs [] fits = tt
 are_pairs (e ∷ es) fits =
     let b = and_parts (pair_fits (pair_of e)) (list_all pair_fits (map pair_of es)) fits in
@@ -129,10 +129,10 @@ few_pairs : (n : ℕ) → nat_le n limit ≡ true → n < 2 ^ 31
 few_pairs n e = grind (arith, nat_tests)
 
 part_parts : (part : Part) (ts : List Token) → (part_written part).answer ≡ Ok ts → (part_fits part ≡ true) × (bytes (part_form part) ≡ ts)
-unfolding part_written number_form
+unfolding part_written size_form
 part_parts None ts e = (refl, answer_is _ ts e)
 part_parts (Some part) ts e =
-    let a = taken_exactly (number_form (length part)) (λ number. allocates true >> done (bytes (number ++ part))) ts e in
+    let a = taken_exactly (size_form (length part)) (λ number. allocates true >> done (bytes (number ++ part))) ts e in
     let k = failed (nat_lt limit (length part)) (HstoreLength (cast_signed w64 (length part))) (Ok (be4 (length part))) a.0 a.1 in
     (le-leb _ _ (ltb-false limit (length part) k.0), ap (λ (number : List ℕ). bytes (number ++ part)) (ok_is (be4 (length part)) a.0 k.1) ∙ answer_is _ ts a.2)
 
@@ -167,9 +167,9 @@ is_in_order true u e = refl
 is_in_order false u e = absurd cc
 
 map_parts : (ps : List Pair) (i : Image) → (hstore_image ps).answer ≡ Ok i → IsMap ps i
-unfolding hstore_image number_form
+unfolding hstore_image size_form
 map_parts ps i e =
-    let a = taken_exactly (number_form (length ps)) (λ number. allocates true >> (pairs_written ps >>= λ all. in_order ps >> done (image_of (bytes number ++ all)))) i e in
+    let a = taken_exactly (size_form (length ps)) (λ number. allocates true >> (pairs_written ps >>= λ all. in_order ps >> done (image_of (bytes number ++ all)))) i e in
     let k = failed (nat_lt limit (length ps)) (HstoreLength (cast_signed w64 (length ps))) (Ok (be4 (length ps))) a.0 a.1 in
     let b = taken (pairs_written ps) (λ all. in_order ps >> done (image_of (bytes a.0 ++ all))) i a.2 in
     let c = taken (in_order ps) (λ _. done (image_of (bytes a.0 ++ b.0))) i b.2 in

@@ -6,7 +6,7 @@ use Rattle.pgv_buf.specs.Tokens.{be4}
 use Rattle.pgv_value.specs.FrameBinary.{Part}
 use Rattle.pgv_value.specs.FrameLaws.{AreBytes}
 use Rattle.pgv_more.specs.Hstore.{Pair, order, pair_form, pairs_of, hstore_in_binary}
-use Rattle.pgv_more.specs.HstoreBack.{ArePairs}
+use Rattle.pgv_more.specs.HstoreBack.{AreMapPairs}
 use Rattle.pgv_more.specs.declared.hstore.PgHstore.{PgHstore}
 
 -- the value that the last pair of a key has
@@ -26,7 +26,7 @@ pub record IsHstore (form : List ℕ) (ps : List Pair) : Type 0 where
   pub rest : List ℕ
   pub whole : form ≡ be4 (length stood) ++ (flat_map pair_form stood ++ rest)
   pub few : length stood < 2 ^ 31
-  pub each : ArePairs stood
+  pub each : AreMapPairs stood
   pub map : IsMapOf stood ps
 
 unfoldable pub HstoreIsRead : Type 0

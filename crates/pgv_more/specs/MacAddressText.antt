@@ -34,13 +34,13 @@ IsMacAddress text bytes = (separator : ℕ) × IsSeparator separator × (length 
 abbrev pub hex_value : ℕ → Option ℕ
 hex_value c = if nat_lt (digit_value c) 16 then Some (digit_value c) else None
 
-abbrev pub pair_of : Option ℕ → Option ℕ → Option ℕ
-pair_of None l = None
-pair_of (Some h) None = None
-pair_of (Some h) (Some l) = Some (16 * h + l)
+abbrev pub byte_of_pair : Option ℕ → Option ℕ → Option ℕ
+byte_of_pair None l = None
+byte_of_pair (Some h) None = None
+byte_of_pair (Some h) (Some l) = Some (16 * h + l)
 
 abbrev pub pair_value : ℕ → ℕ → Option ℕ
-pair_value high low = pair_of (hex_value high) (hex_value low)
+pair_value high low = byte_of_pair (hex_value high) (hex_value low)
 
 abbrev pub with_rest : Option ℕ → List ℕ → Option (ℕ × List ℕ)
 with_rest None rest = None

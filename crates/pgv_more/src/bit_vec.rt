@@ -4,7 +4,7 @@ ghost use Rattle.std.specs.Prelude.{◌≡◌, ◌≢◌, ◌↔◌, ◌++◌, �
 ghost use Rattle.pgv_value.specs.Reading.{has_items};
 ghost use Rattle.pgv_more.specs.Bits.{bits_of, byte_count, low_bits, number_of, packed};
 ghost use Rattle.std.specs.List.{list_all};
-ghost use Rattle.pgv_more.specs.BitsText.{bits_in_text, is_digit, is_one};
+ghost use Rattle.pgv_more.specs.BitsText.{bits_in_text, is_bit_digit, is_one};
 
 mod codec;
 
@@ -266,7 +266,7 @@ fn bytes_of<B: Bit>(alloc: Global, bits: &[B]) -> Result<Vec<u8>, AllocError>
 
 /// Whether there are only digits `0` and `1`.
 fn are_digits(text: &[u8]) -> bool
-    ensures { result ≡ list_all is_digit text.now }
+    ensures { result ≡ list_all is_bit_digit text.now }
 {
     text.iter().all(|digit| *digit == b'0' || *digit == b'1')
 }

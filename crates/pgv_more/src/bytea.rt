@@ -3,7 +3,7 @@
 ghost use Rattle.std.specs.Prelude.{◌≡◌, ◌≢◌, ◌%◌, ◌==◌, ◌&&◌, [], MatchResult, length, ok_or};
 ghost use Rattle.pgv_value.specs.Outcome.{Gives, copied};
 ghost use Rattle.pgv_value.specs.declared.error.CodecError.TheVariants.{Syntax};
-ghost use Rattle.pgv_more.specs.ByteaText.{all_digits, bytea_in_text, digits_after};
+ghost use Rattle.pgv_more.specs.ByteaText.{all_digits, bytea_in_text, after_prefix};
 ghost use Rattle.std.specs.Option.{option_copied};
 
 mod array;
@@ -29,7 +29,7 @@ pub(crate) fn copy_of(alloc: Global, bytes: &[u8]) -> Result<Vec<u8>, AllocError
 
 /// The digits of a text `\x00ff`.
 fn digits_of(text: &[u8]) -> Option<&[u8]>
-    ensures { option_copied result ≡ digits_after text.now }
+    ensures { option_copied result ≡ after_prefix text.now }
 {
     match text {
         [b'\\', b'x', digits @ ..] => Some(digits),

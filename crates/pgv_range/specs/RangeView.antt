@@ -22,6 +22,6 @@ upper_of Empty = None
 upper_of (Bounds lower upper) = Some upper
 
 -- the range has these bounds, the lower one first
-abbrev pub IsOfBounds : {T : Type 0} → List (Bound T) → PgRange T → Type 0
-IsOfBounds both Empty = ⊥
-IsOfBounds both (Bounds lower upper) = both ≡ lower ∷ upper ∷ []
+abbrev pub HasBothBounds : {T : Type 0} → List (Bound T) → PgRange T → Type 0
+HasBothBounds both Empty = ⊥
+HasBothBounds both (Bounds lower upper) = both ≡ lower ∷ upper ∷ []

@@ -25,7 +25,7 @@ ghost use Rattle.pgv_range.specs.RangeLaws.{Converts, RangeFieldComesBack, Takes
 ghost use Rattle.pgv_range.specs.RangeOf.{RangeOf, range_view};
 ghost use Rattle.pgv_range.specs.RangeRow.{ComesBackUnderRanges, IsRangeRow};
 ghost use Rattle.pgv_range.specs.RangeShown.{range_eq, range_text};
-ghost use Rattle.pgv_range.specs.RangeView.{IsOfBounds};
+ghost use Rattle.pgv_range.specs.RangeView.{HasBothBounds};
 ghost use Rattle.pgv_range.specs.declared.range.PgRange.TheVariants.{Bounds, Empty};
 
 use crate::range::PgRange;
@@ -180,7 +180,7 @@ pub fn conversions<T>()
 /// The conversion of an array of two bounds gives the range with these bounds, and never the empty range.
 pub fn conversion_of_array<T: Copy>()
     ensures { (from : _) (r : _) → ⟦<PgRange<T> as From<[Bound<T>; 2]>>⟧.from_gives from r
-        ↔ IsOfBounds from r }
+        ↔ HasBothBounds from r }
 {}
 
 /// A range is printed as `empty`, or as its brackets around the printed values of its bounds, so far as `Display` of

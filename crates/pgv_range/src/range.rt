@@ -80,9 +80,9 @@ impl<T> PgRange<T> {
 
 /// The lower bound and the upper one.
 impl<T: Copy> From<[Bound<T>; 2]> for PgRange<T> {
-    ghost use Rattle.pgv_range.specs.RangeView.{IsOfBounds};
+    ghost use Rattle.pgv_range.specs.RangeView.{HasBothBounds};
 
-    ghost from_gives = { IsOfBounds };
+    ghost from_gives = { HasBothBounds };
 
     fn from(bounds: [Bound<T>; 2]) -> PgRange<T> {
         PgRange::Bounds {

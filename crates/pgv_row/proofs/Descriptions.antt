@@ -13,7 +13,7 @@ use Rattle.pgv_value.specs.declared.value.PgValueFormat.TheVariants.{Text, Binar
 use Rattle.pgv_value.proofs.Numbers.{bytes_after}
 use Rattle.pgv_row.specs.ColumnView.{Column}
 use Rattle.pgv_row.specs.Description.{KnownTypes, type_by, column_front, description, column_bytes, IsColumn, IsDescription, DescriptionIsRead}
-use Rattle.pgv_value.specs.Fronts.{i16_front, u16_front, u32_front, name_front, format_of, format_number}
+use Rattle.pgv_value.specs.Fronts.{i16_front, u16_front, u32_front, name_front, format_of_code, format_number}
 use Rattle.pgv_value.specs.Outcome.{Outcome, Gives, GivesWhole, in_place, allocates, done, ◌>>=◌, ◌>>◌}
 use Rattle.pgv_value.specs.Several.{several, ReadsOne}
 use Rattle.pgv_value.proofs.ReadFronts.{u16_there, u16_is, i16_there, i16_is, u32_there, u32_is, IsName, name_there, name_is, format_there, format_is, nothing_is}
@@ -24,7 +24,7 @@ use Rattle.pgv_value.proofs.Several.{are_several, several_read}
 
 column_by : (known : KnownTypes) (bytes name b1 b2 b3 b4 b5 b6 rest : List ℕ) (table oid modifier code : ℕ) (attribute size : ℤ) (f : PgValueFormat) →
     name_front bytes ≡ Ok (name, b1) → u32_front b1 ≡ Ok (table, b2) → i16_front b2 ≡ Ok (attribute, b3) → u32_front b3 ≡ Ok (oid, b4) → i16_front b4 ≡ Ok (size, b5) → u32_front b5 ≡ Ok (modifier, b6) →
-    u16_front b6 ≡ Ok (code, rest) → format_of code ≡ Ok f →
+    u16_front b6 ≡ Ok (code, rest) → format_of_code code ≡ Ok f →
     (column_front known bytes).answer
     ≡ Ok (record { name = name; table = table; attribute = attribute; type_oid = oid; size = size; modifier = cast_signed w32 modifier; format = f; type_info = type_by known oid }, rest)
 unfolding column_front
@@ -65,7 +65,7 @@ abbrev tail_front : (ℤ → PgValueFormat → Column) → Bool → List ℕ →
 tail_front g b bytes = do
   modifier ← in_place (u32_front bytes)
   code ← in_place (u16_front modifier.1)
-  format ← in_place (format_of code.0)
+  format ← in_place (format_of_code code.0)
   allocates b
   done (g (cast_signed w32 modifier.0) format, code.1)
 
@@ -73,7 +73,7 @@ tail_is : (g : ℤ → PgValueFormat → Column) (b : Bool) (bytes rest : List �
 tail_is g b bytes rest c h e =
     let m = taken_exactly (u32_front bytes) _ (c, rest) e in
     let k = taken_exactly (u16_front m.0.1) _ (c, rest) m.2 in
-    let f = taken_exactly (format_of k.0.0) _ (c, rest) k.2 in
+    let f = taken_exactly (format_of_code k.0.0) _ (c, rest) k.2 in
     let p = answer_is {A = Column × List ℕ} (g (cast_signed w32 m.0.0) f.0, k.0.1) (c, rest) f.2 in
     let number = u32_is bytes m.0.1 m.0.0 h m.1 in
     let h1 : AreBytes m.0.1 = bytes_after (to_be_bytes w32 m.0.0) m.0.1 (subst AreBytes number.1 h) in

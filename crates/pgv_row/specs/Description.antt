@@ -15,7 +15,7 @@ use Rattle.pgv_value.specs.declared.error.CodecError.TheVariants.{WrongLength}
 use Rattle.pgv_value.specs.declared.value.PgValueFormat.{PgValueFormat}
 use Rattle.pgv_value.specs.declared.value.PgValueFormat.TheVariants.{Binary}
 use Rattle.pgv_row.specs.ColumnView.{Column}
-use Rattle.pgv_value.specs.Fronts.{i16_front, u16_front, u32_front, name_front, format_of, format_number}
+use Rattle.pgv_value.specs.Fronts.{i16_front, u16_front, u32_front, name_front, format_of_code, format_number}
 use Rattle.pgv_value.specs.Outcome.{Outcome, in_place, allocates, fails_if, done, ◌>>=◌, ◌>>◌}
 use Rattle.pgv_value.specs.Several.{several}
 
@@ -47,7 +47,7 @@ column_front known bytes = do
   size ← in_place (i16_front oid.1)
   modifier ← in_place (u32_front size.1)
   code ← in_place (u16_front modifier.1)
-  format ← in_place (format_of code.0)
+  format ← in_place (format_of_code code.0)
   allocates (is_custom (type_by known oid.0))
   done (record { name = name.0; table = table.0; attribute = attribute.0; type_oid = oid.0; size = size.0; modifier = cast_signed w32 modifier.0; format = format; type_info = type_by known oid.0 }, code.1)
 

@@ -4,11 +4,11 @@ use Rattle.std.proofs.lemmas.Cmp.{nat_eq_equiv}
 use Rattle.std.specs.Cmp.{IsPartialEquivalence, IsEquivalence, on_equiv, partial_equiv_from_equiv}
 use Rattle.pgv_types.specs.declared.custom.PgCustomType.{PgCustomType}
 
-abbrev pub same_oid : PgCustomType → PgCustomType → Bool
-same_oid a b = a.oid.0 == b.oid.0
+abbrev pub same_custom_oid : PgCustomType → PgCustomType → Bool
+same_custom_oid a b = a.oid.0 == b.oid.0
 
-pub same_oid_equiv : IsEquivalence same_oid
+pub same_oid_equiv : IsEquivalence same_custom_oid
 same_oid_equiv = on_equiv (λ a. a.oid.0) nat_eq_equiv
 
-pub same_oid_per : IsPartialEquivalence same_oid
+pub same_oid_per : IsPartialEquivalence same_custom_oid
 same_oid_per = partial_equiv_from_equiv same_oid_equiv

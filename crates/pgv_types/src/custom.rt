@@ -41,9 +41,9 @@ impl PgCustomType {
 
 /// Two custom types are equal iff their OIDs are, whatever their names and kinds.
 impl PartialEq for PgCustomType {
-    ghost use Rattle.pgv_types.specs.SameOid.{same_oid, same_oid_per};
+    ghost use Rattle.pgv_types.specs.SameOid.{same_custom_oid, same_oid_per};
 
-    ghost eq = { same_oid };
+    ghost eq = { same_custom_oid };
 
     ghost laws = { same_oid_per };
 

@@ -18,7 +18,7 @@ use Rattle.pgv_value.specs.declared.value.PgValueFormat.{PgValueFormat}
 use Rattle.pgv_value.specs.declared.value.PgValueFormat.TheVariants.{Text, Binary}
 use Rattle.pgv_value.proofs.Fronts.{front_exactly, frame_in_front}
 use Rattle.pgv_value.proofs.Numbers.{bytes_below, test_failed, number_is, number_there}
-use Rattle.pgv_value.specs.Fronts.{u16_front, i16_front, u32_front, ended_front, name_front, part_front, one_part, format_of, format_number}
+use Rattle.pgv_value.specs.Fronts.{u16_front, i16_front, u32_front, ended_front, name_front, part_front, one_part, format_of_code, format_number}
 use Rattle.pgv_value.specs.Parsed.{Parsed}
 use Rattle.pgv_value.specs.Several.{ReadsOne}
 use Rattle.pgv_value.proofs.Outcomes.{ok_is, found_or, stated_is, and_then_taken, held, failed}
@@ -153,7 +153,7 @@ name_is bytes name rest e =
 
 -- ---- formats
 
-pub format_there : (f : PgValueFormat) → format_of (format_number f) ≡ Ok f
+pub format_there : (f : PgValueFormat) → format_of_code (format_number f) ≡ Ok f
 format_there Text = refl
 format_there Binary = refl
 
@@ -162,7 +162,7 @@ format_by true y code f is_0 is_1 e = eqb-true code 0 is_0 ∙ ap format_number 
 format_by false true code f is_0 is_1 e = eqb-true code 1 is_1 ∙ ap format_number (ok_is {A = PgValueFormat} Binary f e)
 format_by false false code f is_0 is_1 e = absurd cc
 
-pub format_is : (code : ℕ) (f : PgValueFormat) → format_of code ≡ Ok f → code ≡ format_number f
+pub format_is : (code : ℕ) (f : PgValueFormat) → format_of_code code ≡ Ok f → code ≡ format_number f
 format_is code f e = format_by _ _ code f refl refl e
 
 -- ---- frames

@@ -7,20 +7,20 @@ use Rattle.pgv_value.specs.declared.error.CodecError.TheVariants.{UnexpectedNull
 use Rattle.pgv_value.specs.declared.value.PgValueFormat.{PgValueFormat}
 use Rattle.pgv_value.specs.declared.value.PgValueFormat.TheVariants.{Text, Binary}
 
-abbrev pub by_format : {M : Type 0} → (List ℕ → Outcome M) → (List ℕ → Outcome M) → PgValueFormat → Option (List ℕ) → Outcome M
-by_format binary text format None = fails UnexpectedNull
-by_format binary text Binary (Some bytes) = binary bytes
-by_format binary text Text (Some bytes) = in_place (utf8_part (Some bytes)) >>= text
+abbrev pub outcome_by_format : {M : Type 0} → (List ℕ → Outcome M) → (List ℕ → Outcome M) → PgValueFormat → Option (List ℕ) → Outcome M
+outcome_by_format binary text format None = fails UnexpectedNull
+outcome_by_format binary text Binary (Some bytes) = binary bytes
+outcome_by_format binary text Text (Some bytes) = in_place (utf8_part (Some bytes)) >>= text
 
 -- in either format; a text that isn't UTF-8 is C14
 abbrev pub in_both_formats : {M : Type 0} → (List ℕ → Outcome M) → (List ℕ → Outcome M) → Given → Outcome M
-in_both_formats binary text v = by_format binary text v.format v.bytes
+in_both_formats binary text v = outcome_by_format binary text v.format v.bytes
 
-abbrev pub by_binary : {M : Type 0} → (List ℕ → Outcome M) → PgValueFormat → Option (List ℕ) → Outcome M
-by_binary binary format None = fails UnexpectedNull
-by_binary binary Binary (Some bytes) = binary bytes
-by_binary binary Text (Some bytes) = fails TextUnsupported
+abbrev pub outcome_by_binary : {M : Type 0} → (List ℕ → Outcome M) → PgValueFormat → Option (List ℕ) → Outcome M
+outcome_by_binary binary format None = fails UnexpectedNull
+outcome_by_binary binary Binary (Some bytes) = binary bytes
+outcome_by_binary binary Text (Some bytes) = fails TextUnsupported
 
 -- in binary; any text is C18
 abbrev pub in_binary_alone : {M : Type 0} → (List ℕ → Outcome M) → Given → Outcome M
-in_binary_alone binary v = by_binary binary v.format v.bytes
+in_binary_alone binary v = outcome_by_binary binary v.format v.bytes

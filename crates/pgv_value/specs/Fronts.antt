@@ -59,8 +59,8 @@ abbrev pub value_at : Ty → List ℕ → Outcome (Given × List ℕ)
 value_at t bytes = in_place (value_front t Binary bytes)
 
 -- the format of a code: 0 is text and 1 binary, and any other is C30
-abbrev pub format_of : ℕ → Parsed PgValueFormat
-format_of code = if code == 0 then Ok Text else if code == 1 then Ok Binary else Err OutOfRange
+abbrev pub format_of_code : ℕ → Parsed PgValueFormat
+format_of_code code = if code == 0 then Ok Text else if code == 1 then Ok Binary else Err OutOfRange
 
 -- the code of a format
 abbrev pub format_number : PgValueFormat → ℕ

@@ -3,7 +3,7 @@
 ghost use Rattle.std.specs.Prelude.{◌≡◌, ◌<◌, ◌≤◌, slice_range, length, Some, None, OnOk, OnErr, is_none};
 ghost use Rattle.std.specs.Option.{option_copied};
 ghost use Rattle.pgv_types.specs.Facts.{IsNotCustom};
-ghost use Rattle.pgv_value.specs.Fronts.{format_of, value_front};
+ghost use Rattle.pgv_value.specs.Fronts.{format_of_code, value_front};
 ghost use Rattle.pgv_value.specs.Outcome.{Gives, lent_value, owned_value};
 ghost use Rattle.pgv_value.specs.Parsed.{GivesExactly, GivesOr};
 ghost use Rattle.pgv_value.specs.PartOfRow.{held_bytes};
@@ -35,7 +35,7 @@ impl PgValueFormat {
     /// The format of a code in a message: 0 is text and 1 binary. Any other is refused with
     /// [`OutOfRange`](CodecError::OutOfRange) (C30).
     pub fn from_code(code: u16) -> Result<PgValueFormat, CodecError>
-        ensures { GivesExactly (λ format. format) (format_of code) result }
+        ensures { GivesExactly (λ format. format) (format_of_code code) result }
     {
         match code {
             0 => Ok(PgValueFormat::Text),

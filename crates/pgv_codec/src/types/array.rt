@@ -9,8 +9,8 @@ ghost use Rattle.pgv_value.specs.Reading.{has_items};
 ghost use Rattle.pgv_value.specs.declared.error.CodecError.TheVariants.{Memory};
 ghost use Rattle.pgv_value.specs.declared.value.PgValueFormat.TheVariants.{Binary};
 ghost use Rattle.pgv_types.specs.Facts.{oid_of};
-ghost use Rattle.pgv_codec.specs.ArrayGrammar.{array_in_binary, array_in_text, elements, frames, parse_array, parse_sized};
-ghost use Rattle.pgv_codec.specs.Encoding.{array_image, element_type, frames as frames_of, header, is_copied, plainly, sized_image, value_type};
+ghost use Rattle.pgv_codec.specs.ArrayGrammar.{array_in_binary, array_in_text, elements, parse_frames, parse_array, parse_sized};
+ghost use Rattle.pgv_codec.specs.Encoding.{array_image, written_element, frames, header, is_copied, plainly, sized_image, value_type};
 ghost use Rattle.pgv_codec.specs.Appending.{Appended, Appends, Encodes, Extends};
 ghost use Rattle.pgv_codec.specs.AtOnce.{AreFirst, IsInFront, IsNext};
 ghost use Rattle.pgv_codec.specs.Agreeing.{array_agrees, sized_agrees};
@@ -52,7 +52,7 @@ pub fn encode_array<T: Encode + Type>(
 /// The type of the elements, as an array writes it.
 #[inline(always)]
 fn type_of_elements<T: Encode + Type>(values: &[T]) -> Result<PgTypeInfo, AllocError>
-    ensures { IfOk result (λ t. t ≡ element_type T.info (map T.encoding values.now)) }
+    ensures { IfOk result (λ t. t ≡ written_element T.info (map T.encoding values.now)) }
 {
     match values.first() {
         None => Ok(T::type_info()),
@@ -124,7 +124,7 @@ fn write_open_header(
 /// A frame for each element: the first ones in a loop of their own, where the type has one.
 #[inline(always)]
 fn write_frames<T: Encode>(values: &[T], out: &mut PgArgumentBuffer) -> Result<(), CodecError>
-    ensures exact { Appends (after true (frames_of (map T.encoding values.now)))
+    ensures exact { Appends (after true (frames (map T.encoding values.now)))
         out.old out.new result }
     ensures appended { OnErr result (Extends out.old out.new) }
 {
@@ -136,7 +136,7 @@ fn write_frames<T: Encode>(values: &[T], out: &mut PgArgumentBuffer) -> Result<(
 /// A frame for each element, one after another.
 #[inline(always)]
 fn write_each<T: Encode>(values: &[T], out: &mut PgArgumentBuffer) -> Result<(), CodecError>
-    ensures exact { Appends (after true (frames_of (map T.encoding values.now)))
+    ensures exact { Appends (after true (frames (map T.encoding values.now)))
         out.old out.new result }
     ensures appended { OnErr result (Extends out.old out.new) }
 {
@@ -305,7 +305,7 @@ fn read_array<T: Decode>(
 }
 
 /// As many frames as the head says. Without one, or without the length of one, no memory is asked for.
-#[tactic(auto, unfolding(crate::specs::ArrayGrammar::elements, crate::specs::ArrayGrammar::frames, pgv_value::specs::FrameBinary::front), using(crate::proofs::FrameLoop::too_short))]
+#[tactic(auto, unfolding(crate::specs::ArrayGrammar::elements, crate::specs::ArrayGrammar::parse_frames, pgv_value::specs::FrameBinary::front), using(crate::proofs::FrameLoop::too_short))]
 fn read_frames<T: Decode>(
     alloc: Global,
     element: &PgTypeInfo,
@@ -333,7 +333,7 @@ fn read_in_room<T: Decode>(
     bytes: &[u8],
 ) -> Result<Vec<T>, CodecError>
     ensures exact { Gives (λ v. map T.view v.items)
-        (after true (frames T.parse element.now count bytes.now)) result }
+        (after true (parse_frames T.parse element.now count bytes.now)) result }
     ensures few { IfOk result (λ v. 4 * length v.items ≤ length bytes.now) }
 {
     let (mut items, mut rest) = read_first(alloc, count as usize, bytes)?;

@@ -7,7 +7,7 @@ ghost use Rattle.pgv_value.specs.Outcome.{Gives, after};
 ghost use Rattle.pgv_value.specs.Parsed.{GivesExactly};
 ghost use Rattle.pgv_codec.specs.Appending.{Appends, Extends};
 ghost use Rattle.pgv_codec.specs.Encoding.{plainly};
-ghost use Rattle.pgv_more.specs.Hstore.{Pair, pair_of, pairs_of, hstore_image, hstore_in_binary, key_at, number_form, part_written, pair_written, pairs_written, parse_hstore, put_read, text_at, map_value};
+ghost use Rattle.pgv_more.specs.Hstore.{Pair, pair_of, pairs_of, hstore_image, hstore_in_binary, key_at, size_form, part_written, pair_written, pairs_written, parse_hstore, put_read, text_at, map_value};
 
 use super::{PgHstore, put_pair};
 use pgv_codec::{Encode, IsNull, PgArgumentBuffer, PgHasArrayType, Plain, Type};
@@ -55,9 +55,9 @@ impl PgHasArrayType for PgHstore {
 /// A number of pairs, or a length, in four bytes. More than 2147483647 are refused with
 /// [`HstoreLength`](CodecError::HstoreLength) (C9).
 #[inline(always)]
-#[tactic(auto, unfolding(crate::specs::Hstore::number_form))]
+#[tactic(auto, unfolding(crate::specs::Hstore::size_form))]
 fn number_of(count: usize) -> Result<[u8; 4], CodecError>
-    ensures { GivesExactly (λ number. number) (number_form count) result }
+    ensures { GivesExactly (λ number. number) (size_form count) result }
 {
     length_bytes(count).ok_or(CodecError::HstoreLength((count as u64).cast_signed()))
 }

@@ -1,7 +1,7 @@
 use Rattle.std.proofs.Common.{List, ◌++◌, length, map, subst, arith}
 use Rattle.pgv_types.specs.Ty.{Ty}
 use Rattle.pgv_buf.specs.Tokens.{Cell}
-use Rattle.pgv_codec.specs.Encoding.{header, element_type}
+use Rattle.pgv_codec.specs.Encoding.{header, written_element}
 use Rattle.pgv_codec.specs.Appending.{Appended}
 use Rattle.pgv_codec.proofs.Lists.{both, array_there}
 use Rattle.pgv_codec.proofs.types.array.encode_array.Goals as goal
@@ -10,7 +10,7 @@ pub returns-clause-encodes : goal.returns-clause-encodes
 returns-clause-encodes g c =
     let was = c.args.out.now in
     let xs = c.args.values.now in
-    let t = element_type g.T.Type.info (map g.T.Encode.encoding xs) in
+    let t = written_element g.T.Type.info (map g.T.Encode.encoding xs) in
     let a = c.in_ok-write_frames.ensures.exact in
     let start : Appended (header c.in_ok-element.element (length xs)) was c.write_header.new.out =
     subst (λ (b : List Cell). Appended (header c.in_ok-element.element (length xs)) b c.write_header.new.out) c.reserve.ensures.same c.in_ok-write_header.ensures.ok in

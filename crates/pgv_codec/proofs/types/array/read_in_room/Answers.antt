@@ -6,7 +6,7 @@ use Rattle.pgv_types.specs.Ty.{Ty}
 use Rattle.pgv_value.specs.Fronts.{value_front}
 use Rattle.pgv_value.specs.Outcome.{after}
 use Rattle.pgv_value.specs.declared.value.PgValueFormat.TheVariants.{Binary}
-use Rattle.pgv_codec.specs.ArrayGrammar.{frames}
+use Rattle.pgv_codec.specs.ArrayGrammar.{parse_frames}
 use Rattle.pgv_codec.proofs.ArrayGrammars.{few_frames}
 use Rattle.pgv_codec.proofs.FrameLoop.{is_done, goes_on, ends_short, ends_unread}
 use Rattle.pgv_codec.proofs.types.array.read_in_room.Goals as goal
@@ -30,7 +30,7 @@ returns-in_err-decode-in-None-clause-exact g c =
     let p = err_from_is_err_and c.from_residual-in_err-decode-in-None.result c.from_residual-in_err-decode-in-None.ensures.1 in
     rw (p.1, p.2)
     (ends_unread parse t (map g.T.Decode.view c.loop.items.items) c.args.count c.loop.counter c.loop.rest.now c.in_ok-part-in-None.part c.get.new.bytes.now c.in_err-decode-in-None.field-0.0
-    (after true (frames parse t c.args.count c.args.bytes.now)) c.loop-test.true found c.in_err-decode-in-None.ensures c.loop.invariant refl)
+    (after true (parse_frames parse t c.args.count c.args.bytes.now)) c.loop-test.true found c.in_err-decode-in-None.ensures c.loop.invariant refl)
 
 pub loop-preserved : goal.loop-preserved
 loop-preserved g c =

@@ -2,7 +2,7 @@ use Rattle.std.proofs.Common.{rules, ◌≡◌, ◌++◌, ◌∙◌, ap, sym, le
 use Rattle.std.specs.Prelude.{string_bytes}
 use Rattle.pgv_buf.specs.Tokens.{bytes, blank}
 use Rattle.pgv_codec.specs.PlainBytes.{appended_parts}
-use Rattle.pgv_more.specs.Hstore.{number_form, part_written}
+use Rattle.pgv_more.specs.Hstore.{size_form, part_written}
 use Rattle.pgv_more.proofs.hstore.codec.write_text.Goals as goal
 
 pub returns-clause-exact : goal.returns-clause-exact
@@ -10,6 +10,6 @@ unfolding part_written
 returns-clause-exact c =
     let part = string_bytes c.args.text.now in
     let number = c.in_ok-number.number in
-    let is : number_form (length part) ≡ Ok number = ap (λ n. number_form n) (sym (ap length c.as_bytes-text.ensures.value)) ∙ c.in_ok-number.ensures in
+    let is : size_form (length part) ≡ Ok number = ap (λ n. size_form n) (sym (ap length c.as_bytes-text.ensures.value)) ∙ c.in_ok-number.ensures in
     let second : c.extend_from_slice-2.new.self ≡ c.extend_from_slice.new.self ++ blank (bytes part) = search rules in
     (bytes (number ++ part), rw is refl, appended_parts c.args.out.now c.extend_from_slice.new.self c.extend_from_slice-2.new.self number part c.in_ok-extend_from_slice.ensures.ok second)
