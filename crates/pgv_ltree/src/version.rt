@@ -10,7 +10,7 @@ pub const VERSION: u8 = 1;
 
 /// The text after the version. No bytes are refused with [`Short`](CodecError::Short) (C15), another version as given
 /// here, and other bytes than UTF-8 with [`Utf8`](CodecError::Utf8) (C14).
-#[tactic(auto, using(pgv_value::proofs::Text::whole_text))]
+#[tactic(auto, using(pgv_value::proofs::Fronts::whole_text))]
 pub fn text_after_version(form: &[u8], wrong_version: CodecError) -> Result<&str, CodecError>
     ensures { GivesExactly (λ text. text.now) (versioned wrong_version form.now) result }
 {

@@ -60,7 +60,7 @@ fn number_in(text: &str) -> Option<u64>
 impl PgCommandTag<'_> {
     /// How many rows the command has read or written, where its text ends with a number: 5 of `SELECT 5` and of
     /// `INSERT 0 5`, and `None` of `BEGIN`.
-    #[tactic(auto, unfolding(crate::specs::RowCounts::row_count), using(pgv_value::proofs::Text::whole_text))]
+    #[tactic(auto, unfolding(crate::specs::RowCounts::row_count), using(pgv_value::proofs::Fronts::whole_text))]
     pub fn rows(&self) -> Option<u64>
         ensures { result ≡ row_count self.now.text.now }
     {

@@ -70,7 +70,7 @@ pub fn is(word: &[u8], name: &str) -> bool
 }
 
 /// Digits up to 4294967295.
-#[tactic(auto, using(pgv_value::proofs::Text::whole_text))]
+#[tactic(auto, using(pgv_value::proofs::Fronts::whole_text))]
 fn oid(word: &[u8]) -> Option<Oid>
     ensures { result ≡ oid_named word.now }
 {

@@ -12,6 +12,7 @@ use Rattle.pgv_value.specs.Fronts.{first_zero}
 use Rattle.pgv_value.specs.FrameLaws.{AreBytes}
 use Rattle.pgv_value.specs.declared.error.CodecError.TheVariants.{Short}
 use Rattle.pgv_value.proofs.Numbers.{bytes_below, AreBytes-take}
+use Rattle.std.proofs.lemmas.Str.{utf8_valid_len-IsUtf8}
 
 -- ---- a frame is found in front
 
@@ -116,3 +117,6 @@ cut_is_short bytes rest_after part more h = cut_off bytes rest_after part _ refl
 
 pub zero_within : (bytes : List ℕ) (i : ℕ) → Some i ≡ first_zero bytes → i < length bytes
 zero_within bytes i is = (position-Some (λ (b : ℕ). b == 0) bytes i 0 (sym is)).0
+
+-- a text is UTF-8 through its whole length
+pub ruleset whole_text = utf8_valid_len-IsUtf8

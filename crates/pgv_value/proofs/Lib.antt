@@ -1,4 +1,3 @@
-pub mod Text
 pub mod Fronts
 pub mod Numbers
 pub mod Outcomes

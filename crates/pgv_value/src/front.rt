@@ -99,7 +99,7 @@ fn ended_in_front(bytes: &[u8]) -> Result<(&[u8], &[u8]), CodecError>
 /// The text that a zero byte ends, and the rest: of `696400ff` it is `id`, and the rest is `ff` (PostgreSQL, "Message
 /// Data Types", String). Without a zero byte it is refused with [`Short`](CodecError::Short) (C15), and where it isn't
 /// UTF-8 with [`Utf8`](CodecError::Utf8) (C14).
-#[tactic(auto, unfolding(crate::specs::Fronts::name_front), using(crate::proofs::Text::whole_text))]
+#[tactic(auto, unfolding(crate::specs::Fronts::name_front), using(crate::proofs::Fronts::whole_text))]
 pub fn name_in_front(bytes: &[u8]) -> Result<(&str, &[u8]), CodecError>
     ensures { GivesFront (GivesExactly (λ x. (x.0.now, x.1.now)) (name_front bytes.now))
         (λ x. length x.1.now < length bytes.now) result }

@@ -319,7 +319,7 @@ impl<'r> PgValueRef<'r> {
     /// [`UnexpectedNull`](CodecError::UnexpectedNull) (C13), and bytes that are not UTF-8 with
     /// [`Utf8`](CodecError::Utf8) (C14).
     #[inline(always)]
-    #[tactic(auto, using(crate::proofs::Text::whole_text))]
+    #[tactic(auto, using(crate::proofs::Fronts::whole_text))]
     pub fn as_str(&self) -> Result<&'r str, CodecError>
         ensures { GivesText (λ s. s.now) self.now.bytes result }
     {

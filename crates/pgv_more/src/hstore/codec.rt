@@ -146,7 +146,7 @@ impl Encode for PgHstore {
 }
 
 /// A text of bytes, where they are UTF-8, else [`Utf8`](CodecError::Utf8) (C14).
-#[tactic(auto, using(pgv_value::proofs::Text::whole_text))]
+#[tactic(auto, using(pgv_value::proofs::Fronts::whole_text))]
 fn text_of(alloc: Global, form: &[u8]) -> Result<String, CodecError>
     ensures { Gives (λ text. string_bytes text) (text_at form.now) result }
 {
