@@ -27,7 +27,7 @@ element_type t oid = elim (built_in oid) [ None ↦ element_of t | Some u ↦ So
 pub record Head : Type 0 where
   pub element : Ty
   pub count : ℕ
-  pub parse_frames : List ℕ
+  pub frames : List ℕ
 
 -- after the number of dimensions, which is one; the elements' type is copied, which asks for memory of a custom one
 -- alone
