@@ -201,7 +201,7 @@ impl PgExchange {
     }
 
     /// Takes a message, where it may come.
-    #[tactic(auto, unfolding(crate::specs::Exchange::step))]
+    #[tactic(auto, unfolding(crate::specs::Exchange::exchange_step))]
     fn takes(&mut self, tag: PgTag) -> bool
         ensures { TakesTag (exchange_of self.old) tag (exchange_of self.new) result }
     {

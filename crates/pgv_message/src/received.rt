@@ -27,7 +27,7 @@ pub struct PgMessage<'a> {
 /// Formats"). A length below 4 or above 2147483647 is refused, as soon as it has come.
 ///
 /// Of `5a 00000005 49 44` the tag is `Z`, the body `49`, and the rest `44`.
-#[tactic(auto, unfolding(crate::specs::Received::in_front))]
+#[tactic(auto, unfolding(crate::specs::Received::message_at_front))]
 pub fn message_in_front(bytes: &[u8]) -> Result<Option<PgMessage<'_>>, MessageError>
     // Each message takes bytes, so a loop over them ends.
     ensures { GivesFront (Finds bytes.now)
