@@ -44,7 +44,7 @@ pub use Rattle.pgv_value.specs.Formats.{in_both_formats, in_binary_alone}
 -- The grammars of truth values, numbers of a width (`parse_int w32`; in binary `int_in_binary w32`), OIDs, UUIDs and
 -- texts.
 pub use Rattle.pgv_value.specs.ScalarGrammar.{parse_bool, parse_int, int_in_binary, parse_oid, parse_uuid}
-pub use Rattle.pgv_value.specs.Utf8.{utf8_part, parse_text}
+pub use Rattle.pgv_value.specs.Text.{utf8_part, parse_text}
 -- `reading_of parse`, `error_of parse` and `takes_of parse` are its three parts: the reading, why nothing is read, and
 -- whether memory may be asked for.
 pub use Rattle.pgv_value.specs.Outcome.{reading_of, error_of, takes_of}

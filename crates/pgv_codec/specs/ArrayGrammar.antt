@@ -13,7 +13,7 @@ use Rattle.pgv_value.specs.FrameBinary.{Part}
 use Rattle.pgv_value.specs.Fronts.{u32_at, value_at}
 use Rattle.pgv_value.specs.Outcome.{Outcome, done, fails, fails_if, or_fail, allocates, ◌>>=◌, ◌>>◌}
 use Rattle.pgv_value.specs.Reading.{has_items}
-use Rattle.pgv_value.specs.Utf8.{is_utf8}
+use Rattle.pgv_value.specs.Text.{is_utf8}
 use Rattle.pgv_value.specs.ValueView.{Given, given}
 use Rattle.pgv_value.specs.declared.error.CodecError.TheVariants.{UnexpectedNull, Utf8, Syntax, NegativeLength, Dimensions, LowerBound, ElementType, ElementCount}
 use Rattle.pgv_value.specs.declared.value.PgValueFormat.{PgValueFormat}

@@ -18,7 +18,7 @@ use Rattle.pgv_value.specs.Outcome.{ok_of, reading_of, stated, without_memory}
 use Rattle.pgv_value.specs.Parsed.{Parsed}
 use Rattle.pgv_value.specs.ReadingSteps.{number}
 use Rattle.pgv_value.specs.ScalarGrammar.{parse_bool, parse_int, parse_char, parse_oid, parse_uuid}
-use Rattle.pgv_value.specs.Utf8.{parse_text}
+use Rattle.pgv_value.specs.Text.{parse_text}
 use Rattle.pgv_value.specs.declared.error.CodecError.{CodecError}
 use Rattle.pgv_value.specs.declared.value.PgValueFormat.TheVariants.{Binary}
 use Rattle.pgv_codec.specs.Back.{ReadsBack, always, image_is}

@@ -16,7 +16,7 @@ use Rattle.pgv_text.specs.declared.scanner.TextForm.TheVariants.{Record}
 use Rattle.pgv_value.specs.FrameBinary.{Part}
 use Rattle.pgv_value.specs.Outcome.{Outcome, Reads}
 use Rattle.pgv_value.specs.ValueView.{Given, given}
-use Rattle.pgv_value.specs.Utf8.{is_utf8}
+use Rattle.pgv_value.specs.Text.{is_utf8}
 use Rattle.pgv_value.specs.declared.value.PgValueFormat.TheVariants.{Text}
 use Rattle.pgv_codec.specs.RecordGrammar.{Left, text_fields, next_field, begin_fields}
 

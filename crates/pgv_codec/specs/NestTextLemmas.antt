@@ -10,7 +10,7 @@ use Rattle.pgv_text.specs.Values.{array_values, record_values}
 use Rattle.pgv_text.specs.declared.scanner.TextForm.TheVariants.{Record}
 use Rattle.pgv_value.specs.FrameBinary.{Part}
 use Rattle.pgv_value.specs.Outcome.{Outcome, Reads, done, fails}
-use Rattle.pgv_value.specs.Utf8.{is_utf8}
+use Rattle.pgv_value.specs.Text.{is_utf8}
 use Rattle.pgv_value.specs.ValueView.{Given, given}
 use Rattle.pgv_value.specs.declared.error.CodecError.{CodecError}
 use Rattle.pgv_value.specs.declared.error.CodecError.TheVariants.{Utf8, Syntax, ElementCount}

@@ -11,7 +11,7 @@ use Rattle.pgv_value.specs.Formats.{in_both_formats}
 use Rattle.pgv_value.specs.Outcome.{Outcome, after, in_place, or_fail, ◌>>=◌}
 use Rattle.pgv_value.specs.Parsed.{Parsed}
 use Rattle.pgv_value.specs.ValueView.{Given}
-use Rattle.pgv_value.specs.Utf8.{is_utf8}
+use Rattle.pgv_value.specs.Text.{is_utf8}
 use Rattle.pgv_value.specs.declared.error.CodecError.{CodecError}
 use Rattle.pgv_value.specs.declared.error.CodecError.TheVariants.{Short, Utf8, LTree}
 use Rattle.pgv_value.specs.declared.tree_error.PgLTreeParseError.TheVariants.{InvalidLtreeLabel, InvalidLtreeVersion}

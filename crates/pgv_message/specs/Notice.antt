@@ -5,7 +5,7 @@
 -- (`NoticeIsRead`).
 use Rattle.std.specs.Prelude.{◌≡◌, ◌↔◌, ℕ, zero, suc, ◌==◌, true, false, List, [], ◌∷◌, ◌++◌, map, flat_map, length, Option, Some, None, Ok, Err, if◌then◌else◌}
 use Rattle.std.specs.List.{AllByRecursion}
-use Rattle.pgv_value.specs.Utf8.{is_utf8}
+use Rattle.pgv_value.specs.Text.{is_utf8}
 use Rattle.pgv_value.specs.declared.error.CodecError.TheVariants.{Short}
 use Rattle.pgv_value.specs.Fronts.{name_front}
 use Rattle.pgv_value.specs.Outcome.{Outcome, after, in_place, allocates, ◌>>◌}

@@ -2,7 +2,7 @@
 -- space of its text.
 use Rattle.std.specs.Prelude.{ℕ, ◌^◌, ◌==◌, nat_lt, List, [], ◌∷◌, Option, Some, None, option_and_then, if◌then◌else◌}
 use Rattle.pgv_text.specs.IntText.{unsigned_value}
-use Rattle.pgv_value.specs.Utf8.{is_utf8}
+use Rattle.pgv_value.specs.Text.{is_utf8}
 
 -- the first of two, or else the second
 abbrev pub or_else : {A : Type 0} → Option A → Option A → Option A

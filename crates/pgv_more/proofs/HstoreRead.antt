@@ -14,7 +14,7 @@ use Rattle.pgv_value.specs.FrameBinary.{Part}
 use Rattle.pgv_value.specs.Fronts.{part_front}
 use Rattle.pgv_value.specs.Outcome.{Outcome, Fails, done, in_place, allocates, after, bind_by, ◌>>=◌, ◌>>◌}
 use Rattle.pgv_value.specs.Parsed.{Parsed}
-use Rattle.pgv_value.specs.Utf8.{is_utf8}
+use Rattle.pgv_value.specs.Text.{is_utf8}
 use Rattle.pgv_value.specs.declared.error.CodecError.{CodecError}
 use Rattle.pgv_value.specs.declared.error.CodecError.TheVariants.{Utf8}
 use Rattle.pgv_value.proofs.Outcomes.{taken, taken_exactly}

@@ -15,7 +15,7 @@ use Rattle.pgv_value.specs.Fronts.{part_front, u32_front}
 use Rattle.pgv_value.specs.FrameLaws.{AreBytes}
 use Rattle.pgv_value.specs.Outcome.{Outcome, done}
 use Rattle.pgv_value.specs.ReadingSteps.{number}
-use Rattle.pgv_value.specs.Utf8.{is_utf8}
+use Rattle.pgv_value.specs.Text.{is_utf8}
 use Rattle.pgv_value.specs.declared.error.CodecError.{CodecError}
 use Rattle.pgv_value.specs.declared.error.CodecError.TheVariants.{HstoreLength, Short, Utf8}
 use Rattle.pgv_value.proofs.Numbers.{number_is, bytes_after, after_four}

@@ -23,7 +23,7 @@ use Rattle.pgv_value.specs.FrameBinary.{Part}
 use Rattle.pgv_value.specs.Fronts.{one_part, u32_at}
 use Rattle.pgv_value.specs.Parsed.{Parsed}
 use Rattle.pgv_value.specs.Outcome.{Outcome, done, fails, in_place, fails_if, allocates, ◌>>=◌, ◌>>◌}
-use Rattle.pgv_value.specs.Utf8.{is_utf8}
+use Rattle.pgv_value.specs.Text.{is_utf8}
 use Rattle.pgv_value.specs.ValueView.{Given}
 use Rattle.pgv_value.specs.declared.error.CodecError.TheVariants.{HstoreLength, HstoreNullKey, Utf8}
 use Rattle.pgv_more.specs.declared.hstore.PgHstore.{PgHstore}

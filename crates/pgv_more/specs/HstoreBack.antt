@@ -20,7 +20,7 @@ use Rattle.pgv_value.specs.FrameBinary.{Part, front}
 use Rattle.pgv_value.specs.Outcome.{ok_of, reading_of, done, allocates, ◌>>=◌, ◌>>◌}
 use Rattle.pgv_value.proofs.Outcomes.{answer_is, answer_of, failed, ok_is, taken, taken_exactly}
 use Rattle.pgv_value.specs.declared.error.CodecError.TheVariants.{HstoreLength}
-use Rattle.pgv_value.specs.Utf8.{is_utf8}
+use Rattle.pgv_value.specs.Text.{is_utf8}
 use Rattle.pgv_value.specs.declared.error.CodecError.{CodecError}
 use Rattle.pgv_value.specs.declared.value.PgValueFormat.TheVariants.{Binary}
 use Rattle.pgv_value.proofs.Numbers.{number_there}

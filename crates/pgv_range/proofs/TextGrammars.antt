@@ -13,7 +13,7 @@ use Rattle.pgv_text.specs.RangeText.{range_form}
 use Rattle.pgv_text.specs.declared.scanner.TextForm.TheVariants.{Range}
 use Rattle.pgv_value.specs.FrameBinary.{Part}
 use Rattle.pgv_value.specs.Outcome.{Outcome, Reads, done}
-use Rattle.pgv_value.specs.Utf8.{is_utf8}
+use Rattle.pgv_value.specs.Text.{is_utf8}
 use Rattle.pgv_value.specs.ValueView.{Given, given}
 use Rattle.pgv_value.specs.declared.error.CodecError.TheVariants.{Syntax}
 use Rattle.pgv_value.specs.declared.value.PgValueFormat.TheVariants.{Text}

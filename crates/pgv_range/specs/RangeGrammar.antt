@@ -15,7 +15,7 @@ use Rattle.pgv_text.specs.declared.scanner.TextForm.TheVariants.{Range}
 use Rattle.pgv_value.specs.FrameBinary.{Part}
 use Rattle.pgv_value.specs.Fronts.{one_part}
 use Rattle.pgv_value.specs.Outcome.{Outcome, done, fails, or_fail, allocates, ◌>>=◌, ◌>>◌}
-use Rattle.pgv_value.specs.Utf8.{is_utf8}
+use Rattle.pgv_value.specs.Text.{is_utf8}
 use Rattle.pgv_value.specs.ValueView.{Given, given}
 use Rattle.pgv_value.specs.declared.error.CodecError.TheVariants.{UnexpectedNull, Utf8, Short, NotARange, Syntax}
 use Rattle.pgv_value.specs.declared.value.PgValueFormat.{PgValueFormat}

@@ -86,15 +86,15 @@ ReadsFrame (Some f) why part answer = Shows (Some f) why answer
 ReadsFrame None why (Some bytes) answer = Shows None why answer
 ReadsFrame None why None answer = answer ≡ refused 13
 
-abbrev pub ReadsPart : LineType → Option (List ℕ) → List ℕ → Type 0
-ReadsPart row part answer = ReadsFrame (row.value InBinary part) (row.refusal InBinary part) part answer
+abbrev pub ReadsLinePart : LineType → Option (List ℕ) → List ℕ → Type 0
+ReadsLinePart row part answer = ReadsFrame (row.value InBinary part) (row.refusal InBinary part) part answer
 
 -- what is asked of a value, by the row of its TYPE, where that has one
 abbrev pub RespondsBy : Option LineType → Ask → State → List ℕ → State → Type 0
 RespondsBy None ask was answer now = (answer ≡ codes "refused line") × (now ≡ was)
 RespondsBy (Some row) (to_add text) was answer now = AddsText row text was answer now
 RespondsBy (Some row) to_add_null was answer now = AddsNull row was answer now
-RespondsBy (Some row) (to_read part) was answer now = ReadsPart row part answer × (now ≡ was)
+RespondsBy (Some row) (to_read part) was answer now = ReadsLinePart row part answer × (now ≡ was)
 
 -- ---- streams of COPY
 

@@ -5,7 +5,7 @@ use Rattle.std.specs.Prelude.{ℕ, codes, bytes_eq, List, [], ◌∷◌, map, Op
 use Rattle.std.specs.Int.{w8, w16, w32, w64}
 use Rattle.pgv_types.specs.Ty.{Ty, builtin, named}
 use Rattle.pgv_value.specs.ScalarGrammar.{parse_bool, parse_int, parse_char, parse_oid, parse_uuid}
-use Rattle.pgv_value.specs.Utf8.{parse_text}
+use Rattle.pgv_value.specs.Text.{parse_text}
 use Rattle.pgv_value.specs.DateTimeBinary.{parse_date, parse_time, parse_date_time, parse_instant}
 use Rattle.pgv_value.specs.Interval.{parse_interval}
 use Rattle.pgv_value.specs.NetworkBinary.{parse_network}

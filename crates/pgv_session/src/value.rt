@@ -8,7 +8,7 @@ ghost use Rattle.pgv_value.specs.declared.error.CodecError.TheVariants.{Memory};
 ghost use Rattle.pgv_value.specs.declared.value.PgValueFormat.TheVariants.{Binary as InBinary};
 ghost use Rattle.pgv_codec.specs.Encoding.{frame};
 ghost use Rattle.pgv_session.specs.RequestsView.{ask_seen};
-ghost use Rattle.pgv_session.specs.Session.{RespondsBy, AddsLine, AddsText, ReadsPart, Shows, IsRefusal, refused, placeholder as placeholder_of};
+ghost use Rattle.pgv_session.specs.Session.{RespondsBy, AddsLine, AddsText, ReadsLinePart, Shows, IsRefusal, refused, placeholder as placeholder_of};
 ghost use Rattle.pgv_session.specs.Spelled.{to_read};
 ghost use Rattle.pgv_session.specs.ToldView.{told_text, is_said, TellsOf};
 ghost use Rattle.pgv_session.specs.Types.{framed_as, line_type, row_named, row_of, types};
@@ -233,7 +233,7 @@ fn placeholder(alloc: Global, arguments: &PgArguments) -> Result<String, AllocEr
 fn read<T: Codec>(alloc: Global, part: Option<&[u8]>) -> Result<Told, AllocError>
     requires { reading_of T.parse T.info InBinary None ≡ None }
     ensures { IfOk result (λ told.
-        ReadsPart (line_type T.info T.parse T.written) (option_copied part.entry)
+        ReadsLinePart (line_type T.info T.parse T.written) (option_copied part.entry)
         (told_text told)
         × TellsOf (Some (line_type T.info T.parse T.written))
         (to_read (option_copied part.entry)) told) }

@@ -5,7 +5,7 @@ use Rattle.std.proofs.lemmas.Bool.{and_parts}
 use Rattle.std.proofs.lemmas.Slice.Eq.{bytes_eq-Decides}
 use Rattle.pgv_value.specs.Outcome.{reading_of, without_memory}
 use Rattle.pgv_value.specs.Parsed.{Parsed, ◌>>=◌}
-use Rattle.pgv_value.specs.Utf8.{is_utf8, utf8_part}
+use Rattle.pgv_value.specs.Text.{is_utf8, utf8_part}
 use Rattle.pgv_value.specs.ValueView.{Given}
 use Rattle.pgv_value.specs.declared.error.CodecError.TheVariants.{Syntax}
 use Rattle.pgv_codec.specs.Back.{ReadsBack, always, image_is}

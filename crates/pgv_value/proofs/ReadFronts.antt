@@ -12,7 +12,7 @@ use Rattle.std.proofs.Math.Facts.{sfits_to_z, Fits-of_z, of_z-to_z, to_z-of_z}
 use Rattle.pgv_value.specs.FrameBinary.{Part, IsFrame, front, frame_fault, field_bytes, IsField}
 use Rattle.pgv_value.specs.FrameLaws.{AreBytes}
 use Rattle.pgv_value.specs.ReadingSteps.{number, signed_two}
-use Rattle.pgv_value.specs.Utf8.{is_utf8}
+use Rattle.pgv_value.specs.Text.{is_utf8}
 use Rattle.pgv_value.specs.declared.error.CodecError.TheVariants.{Short, Utf8, OutOfRange}
 use Rattle.pgv_value.specs.declared.value.PgValueFormat.{PgValueFormat}
 use Rattle.pgv_value.specs.declared.value.PgValueFormat.TheVariants.{Text, Binary}

@@ -1,7 +1,7 @@
 -- Values by their format, where reading them may ask for memory. Null is C13.
 use Rattle.std.specs.Prelude.{ℕ, List, Option, Some, None}
 use Rattle.pgv_value.specs.Outcome.{Outcome, in_place, fails, ◌>>=◌}
-use Rattle.pgv_value.specs.Utf8.{utf8_part}
+use Rattle.pgv_value.specs.Text.{utf8_part}
 use Rattle.pgv_value.specs.ValueView.{Given}
 use Rattle.pgv_value.specs.declared.error.CodecError.TheVariants.{UnexpectedNull, TextUnsupported}
 use Rattle.pgv_value.specs.declared.value.PgValueFormat.{PgValueFormat}

@@ -2,7 +2,7 @@ pub mod Reading
 pub mod Codes
 pub mod ValueView
 pub mod PartOfRow
-pub mod Utf8
+pub mod Text
 pub mod FrameBinary
 pub mod ReadingSteps
 pub mod Parsed

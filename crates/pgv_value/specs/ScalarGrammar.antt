@@ -10,7 +10,7 @@ use Rattle.pgv_text.specs.ScalarText.{bool_value, char_value}
 use Rattle.pgv_value.specs.Fronts.{u32_front}
 use Rattle.pgv_value.specs.IntBinary.{whole_number, within, within_32}
 use Rattle.pgv_value.specs.Parsed.{Parsed, ◌>>=◌}
-use Rattle.pgv_value.specs.Utf8.{is_utf8}
+use Rattle.pgv_value.specs.Text.{is_utf8}
 use Rattle.pgv_value.specs.ValueView.{Given}
 use Rattle.pgv_value.specs.declared.error.CodecError.TheVariants.{UnexpectedNull, Utf8, Short, WrongLength, TextUnsupported, Syntax}
 use Rattle.pgv_value.specs.declared.value.PgValueFormat.{PgValueFormat}

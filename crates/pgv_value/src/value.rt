@@ -7,7 +7,7 @@ ghost use Rattle.pgv_value.specs.Fronts.{format_of_code, value_front};
 ghost use Rattle.pgv_value.specs.Outcome.{Gives, lent_value, owned_value};
 ghost use Rattle.pgv_value.specs.Parsed.{GivesExactly, GivesOr};
 ghost use Rattle.pgv_value.specs.PartOfRow.{held_bytes};
-ghost use Rattle.pgv_value.specs.Utf8.{GivesText};
+ghost use Rattle.pgv_value.specs.Text.{GivesText};
 ghost use Rattle.pgv_value.specs.ValueView.{given};
 ghost use Rattle.pgv_value.specs.declared.error.CodecError.TheVariants.{UnexpectedNull};
 ghost use Rattle.pgv_value.specs.declared.value.PgValueFormat.TheVariants.{Text};

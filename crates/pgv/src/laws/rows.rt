@@ -10,7 +10,7 @@ ghost use Rattle.std.specs.Int.{w8, w16, w32, w64};
 ghost use Rattle.pgv_types.specs.Ty.{builtin};
 ghost use Rattle.pgv_value.specs.Outcome.{without_memory};
 ghost use Rattle.pgv_value.specs.ScalarGrammar.{parse_bool, parse_char, parse_int, parse_oid, parse_uuid};
-ghost use Rattle.pgv_value.specs.Utf8.{parse_text};
+ghost use Rattle.pgv_value.specs.Text.{parse_text};
 ghost use Rattle.pgv_codec.specs.ArrayGrammar.{parse_array, parse_sized};
 ghost use Rattle.pgv_codec.specs.Encoding.{array_image, option_encoding, plainly, sized_image, writes};
 ghost use Rattle.pgv_codec.specs.Nullable.{nullable};

@@ -124,7 +124,7 @@ impl Encode for String {
 /// [`Utf8`](CodecError::Utf8) (C14): `6869` is `hi`. Null is refused with
 /// [`UnexpectedNull`](CodecError::UnexpectedNull) (C13). An empty text asks for no memory.
 impl Plain for String {
-    ghost use Rattle.pgv_value.specs.Utf8.{parse_text};
+    ghost use Rattle.pgv_value.specs.Text.{parse_text};
     ghost use Rattle.pgv_codec.specs.BackScalars.{text_back};
 
     ghost View = { List ℕ };

@@ -2,7 +2,7 @@
 
 ghost use Rattle.std.specs.Prelude.{ℕ, List, refl, codes, string_bytes};
 ghost use Rattle.pgv_types.specs.Ty.{named};
-ghost use Rattle.pgv_value.specs.Utf8.{parse_text};
+ghost use Rattle.pgv_value.specs.Text.{parse_text};
 ghost use Rattle.pgv_codec.specs.Encoding.{plainly, writes};
 ghost use Rattle.pgv_codec.specs.ScalarImage.{is_text, is_text_array, text_image};
 
