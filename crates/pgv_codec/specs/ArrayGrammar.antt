@@ -9,7 +9,7 @@ use Rattle.std.specs.Int.{w32, cast_signed}
 use Rattle.pgv_types.specs.Ty.{Ty}
 use Rattle.pgv_types.specs.Facts.{built_in, element_of, is_custom}
 use Rattle.pgv_text.specs.Values.{array_values}
-use Rattle.pgv_value.specs.FrameBinary.{Part}
+use Rattle.pgv_value.specs.FrameBinary.{Part, max_length}
 use Rattle.pgv_value.specs.Fronts.{u32_at, value_at}
 use Rattle.pgv_value.specs.Outcome.{Outcome, done, fails, fails_if, or_fail, allocates, ◌>>=◌, ◌>>◌}
 use Rattle.pgv_value.specs.Reading.{has_items}
@@ -37,7 +37,7 @@ one_dimension t bytes = do
   oid ← u32_at flags.1
   element ← or_fail (element_type t oid.0) (ElementType (record { 0 = oid.0 }))
   count ← u32_at oid.1
-  fails_if (nat_lt 2147483647 count.0) (NegativeLength (cast_signed w32 count.0))
+  fails_if (nat_lt max_length count.0) (NegativeLength (cast_signed w32 count.0))
   bound ← u32_at count.1
   fails_if (not (bound.0 == 1)) (LowerBound (cast_signed w32 bound.0))
   allocates (is_custom element)

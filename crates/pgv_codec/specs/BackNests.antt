@@ -10,6 +10,7 @@ use Rattle.pgv_types.specs.Ty.{Ty}
 use Rattle.pgv_types.specs.Facts.{oid_of}
 use Rattle.pgv_types.specs.declared.oid.Oid.{Oid}
 use Rattle.pgv_buf.specs.Tokens.{Token, bytes, be4}
+use Rattle.pgv_value.specs.FrameBinary.{max_length}
 use Rattle.pgv_value.specs.Outcome.{Outcome, ok_of, reading_of, done, unstated, allocates, ◌>>=◌, ◌>>◌}
 use Rattle.pgv_value.specs.declared.error.CodecError.TheVariants.{ArrayLength}
 use Rattle.pgv_value.specs.ValueView.{Given, given}
@@ -21,7 +22,7 @@ use Rattle.pgv_codec.specs.BackParts.{type_written, SlotsFit-back, AreOids-after
 use Rattle.pgv_codec.specs.Found.{array_there}
 use Rattle.pgv_value.proofs.Outcomes.{answer_is, answer_of, taken, tested}
 use Rattle.pgv_codec.specs.NestBinary.{IsArray}
-use Rattle.pgv_codec.specs.Encoding.{Encoding, Image, null_image, image_of, limit, plainly, frames, typed, header, array_image, sized_image, option_encoding, written_element}
+use Rattle.pgv_codec.specs.Encoding.{Encoding, Image, null_image, image_of, plainly, frames, typed, header, array_image, sized_image, option_encoding, written_element}
 use Rattle.pgv_codec.specs.Nullable.{nullable}
 use Rattle.pgv_codec.specs.Writing.{written_part}
 
@@ -50,18 +51,18 @@ head_parts w n h e =
     (a.0, a.1, answer_is _ h a.2)
 
 array_parts : (info : Ty) (es : List Encoding) (i : Image) → (array_image info es).answer ≡ Ok i →
-    (h : List Token) × (fs : List Token) × ((header (written_element info es) (length es)).answer ≡ Ok h) × ((frames es).answer ≡ Ok fs) × (length es ≤ limit) × (image_of (h ++ fs) ≡ i)
+    (h : List Token) × (fs : List Token) × ((header (written_element info es) (length es)).answer ≡ Ok h) × ((frames es).answer ≡ Ok fs) × (length es ≤ max_length) × (image_of (h ++ fs) ≡ i)
 unfolding array_image
 array_parts info es i e =
     let rest_of : List Token → Outcome Image = λ head. frames es >>= λ parts. done (image_of (head ++ parts)) in
-    let g = tested (nat_lt limit (length es)) (ArrayLength (length es)) (allocates true >> (header (written_element info es) (length es) >>= rest_of)) i e in
+    let g = tested (nat_lt max_length (length es)) (ArrayLength (length es)) (allocates true >> (header (written_element info es) (length es) >>= rest_of)) i e in
     let a = taken (header (written_element info es) (length es)) rest_of i g.1 in
     let b = taken (frames es) (λ parts. done (image_of (a.0 ++ parts))) i a.2 in
     (a.0, b.0, a.1, b.1, ltb-false _ _ g.0, answer_is _ i b.2)
 
 module _ {A M : Type 0} (info : Ty) (encoding : A → Encoding) (parse : Given → Outcome M) (kept : A → M) (fits : A → Ty → List Oid → Type 0) (law : ReadsBack encoding (reading_of parse) kept fits) where
   -- what is written of elements is an array of what they keep
-  is_array : (xs : List A) (fs ys : List Token) (t : Ty) (p : Option Ty) (os : List Oid) → (typed (written_element info (map encoding xs))).answer ≡ Ok ys → (frames (map encoding xs)).answer ≡ Ok fs → length xs ≤ limit →
+  is_array : (xs : List A) (fs ys : List Token) (t : Ty) (p : Option Ty) (os : List Oid) → (typed (written_element info (map encoding xs))).answer ≡ Ok ys → (frames (map encoding xs)).answer ≡ Ok fs → length xs ≤ max_length →
       SlotsFit fs → AreOids os → ArrayFits info encoding fits xs t os →
       IsArray parse t (write p os (((bytes (be4 1) ++ bytes (be4 0)) ++ (ys ++ (bytes (be4 (length xs)) ++ bytes (be4 1)))) ++ fs)) (map kept xs)
   is_array xs fs ys t p os e f few whole small fit =
@@ -96,7 +97,7 @@ module _ {A M : Type 0} (info : Ty) (encoding : A → Encoding) (parse : Given �
       let all : image_of (((bytes (be4 1) ++ bytes (be4 0)) ++ (h.0 ++ (bytes (be4 (length xs)) ++ bytes (be4 1)))) ++ a.1) ≡ i
       = ap (λ (n : ℕ). image_of (((bytes (be4 1) ++ bytes (be4 0)) ++ (h.0 ++ (bytes (be4 n) ++ bytes (be4 1)))) ++ a.1)) (sym many) ∙ (ap (λ (r : List Token). image_of (r ++ a.1)) h.2 ∙ a.5) in
       let fs_fit : SlotsFit a.1 = SlotsFit-back ((bytes (be4 1) ++ bytes (be4 0)) ++ (h.0 ++ (bytes (be4 (length xs)) ++ bytes (be4 1)))) a.1 (subst ImageFits (sym all) whole) in
-      let few : length xs ≤ limit = subst (λ (n : ℕ). n ≤ limit) many a.4 in
+      let few : length xs ≤ max_length = subst (λ (n : ℕ). n ≤ max_length) many a.4 in
       rw (← all) (array_there parse t _ (map kept xs) (is_array xs a.1 h.0 t p os h.1 a.3 few fs_fit small fit))
 
 -- ---- lists and arrays of a length

@@ -12,7 +12,7 @@ use Rattle.pgv_buf.specs.Fill.{first_number}
 use Rattle.pgv_buf.specs.Proper.{rest_of}
 use Rattle.pgv_buf.specs.Tokens.{Token, byte, hole, slot, bytes, be4, tokens_width, tokens_holes, CasesFit}
 use Rattle.pgv_buf.proofs.Patches.{chosen_fits}
-use Rattle.pgv_value.specs.FrameBinary.{Part, IsFrame}
+use Rattle.pgv_value.specs.FrameBinary.{Part, IsFrame, max_length, null_length}
 use Rattle.pgv_value.specs.Outcome.{Outcome, Reads, ok_of, reading_of, done, unstated, allocates, ◌>>=◌, ◌>>◌}
 use Rattle.pgv_value.specs.ValueView.{Given, given}
 use Rattle.pgv_value.proofs.Outcomes.{answer_is, answer_of, taken, tested}
@@ -21,7 +21,7 @@ use Rattle.pgv_value.specs.declared.value.PgValueFormat.TheVariants.{Binary}
 use Rattle.pgv_codec.specs.Writing.{write, chosen_for, image_holes}
 use Rattle.pgv_codec.specs.Back.{AreOids, SlotsFit, ReadsBack, FitEach, holes_in, holes_of, written_oid, oids_after}
 use Rattle.pgv_codec.specs.NestBinary.{BeginWithFrames}
-use Rattle.pgv_codec.specs.Encoding.{Encoding, Image, null_image, image_of, limit, frame, frame_of, frames, typed_oid}
+use Rattle.pgv_codec.specs.Encoding.{Encoding, Image, null_image, image_of, frame, frame_of, frames, typed_oid}
 
 -- ---- writing
 
@@ -126,19 +126,19 @@ oids_left w None ys (o ∷ os) e = rw (← answer_is (hole w ∷ []) ys e) refl
 -- a frame is that of an image
 pub frame_parts : (e : Encoding) (f : List Token) → (frame e).answer ≡ Ok f → (i : Image) × (e.image.answer ≡ Ok i) × ((frame_of i).answer ≡ Ok f)
 unfolding frame
-frame_parts e f is = taken e.image frame_of f (tested (nat_lt limit e.size_hint) (ValueSize e.size_hint) (allocates true >> (e.image >>= frame_of)) f is).1
+frame_parts e f is = taken e.image frame_of f (tested (nat_lt max_length e.size_hint) (ValueSize e.size_hint) (allocates true >> (e.image >>= frame_of)) f is).1
 
 -- which is narrow enough
-pub image_parts : (ts f : List Token) → (frame_of (image_of ts)).answer ≡ Ok f → (tokens_width ts ≤ limit) × (bytes (be4 (tokens_width ts)) ++ ts ≡ f)
+pub image_parts : (ts f : List Token) → (frame_of (image_of ts)).answer ≡ Ok f → (tokens_width ts ≤ max_length) × (bytes (be4 (tokens_width ts)) ++ ts ≡ f)
 image_parts ts f is =
-    let g = tested (nat_lt limit (tokens_width ts)) (ValueSize (tokens_width ts)) (done (bytes (be4 (tokens_width ts)) ++ ts)) f is in
-    (ltb-false limit (tokens_width ts) g.0, answer_is _ f g.1)
+    let g = tested (nat_lt max_length (tokens_width ts)) (ValueSize (tokens_width ts)) (done (bytes (be4 (tokens_width ts)) ++ ts)) f is in
+    (ltb-false max_length (tokens_width ts) g.0, answer_is _ f g.1)
 
 module _ {A M : Type 0} (encoding : A → Encoding) (parse : Given → Outcome M) (kept : A → M) (fits : A → Ty → List Oid → Type 0) (law : ReadsBack encoding (reading_of parse) kept fits) where
   image_back : (x : A) (i : Image) (f after : List Token) (u : Ty) (p : Option Ty) (os : List Oid) → (encoding x).image.answer ≡ Ok i → (frame_of i).answer ≡ Ok f → SlotsFit f → AreOids os → fits x u (take (image_holes i) os) →
       (part : Part) × IsFrame (write p os (f ++ after)) part (write p (drop (image_holes i) os) after) × Reads parse (given u Binary part) (kept x)
   image_back x null_image f after u p os is e whole small fit =
-      let f_is : bytes (be4 4294967295) ≡ f = answer_is _ _ e in
+      let f_is : bytes (be4 null_length) ≡ f = answer_is _ _ e in
       (None, rw (← f_is) refl, answer_of (parse (given u Binary None)).answer (kept x) (law x null_image u p (take 0 os) (ap ok_of is) tt tt fit))
   image_back x (image_of ts) f after u p os is e whole small fit =
       let g = image_parts ts f e in

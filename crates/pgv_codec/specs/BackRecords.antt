@@ -17,8 +17,8 @@ use Rattle.pgv_codec.specs.BackParts.{type_written, oids_left, frame_parts, imag
 use Rattle.pgv_codec.specs.Found.{next_there}
 use Rattle.pgv_value.proofs.Numbers.{number_of_four}
 use Rattle.pgv_codec.specs.NestBinary.{IsRecordField}
-use Rattle.pgv_value.specs.FrameBinary.{IsFrame}
-use Rattle.pgv_codec.specs.Encoding.{Encoding, Image, null_image, image_of, frame, frame_of, typed, value_type, field, counted_field, fields_from, record_image}
+use Rattle.pgv_value.specs.FrameBinary.{IsFrame, null_length}
+use Rattle.pgv_codec.specs.Encoding.{Encoding, Image, null_image, image_of, frame, frame_of, typed, value_type, field, counted_field, fields_from, record_image, most_fields}
 use Rattle.pgv_codec.specs.Writing.{image_holes, written_part}
 use Rattle.pgv_codec.specs.RecordGrammar.{Left, binary_fields, next_field, begin_fields, parse_record, ◌then◌}
 
@@ -30,7 +30,7 @@ one_by_one : (n : ℕ) (f : Outcome (List Token)) (fs : List (Outcome (List Toke
 one_by_one n f fs ts e =
     let a = taken (counted_field n f) (λ first. fields_from (n + 1) fs >>= λ others. done (first ++ others)) ts e in
     let b = taken (fields_from (n + 1) fs) (λ others. done (a.0 ++ others)) ts a.2 in
-    (a.0, b.0, (tested (n == 4294967295) FieldCount f a.0 a.1).1, b.1, answer_is _ ts b.2)
+    (a.0, b.0, (tested (n == most_fields) FieldCount f a.0 a.1).1, b.1, answer_is _ ts b.2)
 
 record_parts : (fs : List (Outcome (List Token))) (i : Image) → (record_image fs).answer ≡ Ok i → (gs : List Token) × ((fields_from 0 fs).answer ≡ Ok gs) × (image_of (bytes (be4 (length fs)) ++ gs) ≡ i)
 unfolding record_image
@@ -48,7 +48,7 @@ field_parts info e g is =
     (a.0, b.0, a.1, b.1, answer_is _ g b.2)
 
 image_frame_holes : (i : Image) (f : List Token) → (frame_of i).answer ≡ Ok f → tokens_holes f ≡ image_holes i
-image_frame_holes null_image f e = rw (← answer_is (bytes (be4 4294967295)) f e) refl
+image_frame_holes null_image f e = rw (← answer_is (bytes (be4 null_length)) f e) refl
 image_frame_holes (image_of ts) f e = rw (← (image_parts ts f e).1) refl
 
 frame_holes : (e : Encoding) (f : List Token) → (frame e).answer ≡ Ok f → tokens_holes f ≡ holes_of e

@@ -11,6 +11,7 @@ use Rattle.std.specs.Prelude.{ℕ, ◌+◌, List, [], ◌∷◌, ◌++◌, lengt
 use Rattle.pgv_types.specs.Ty.{Ty}
 use Rattle.pgv_types.specs.Facts.{is_custom, oid_of}
 use Rattle.pgv_buf.specs.Tokens.{Token, hole, bytes, be4, tokens_width}
+use Rattle.pgv_value.specs.FrameBinary.{max_length, null_length}
 use Rattle.pgv_value.specs.Outcome.{Outcome, done, fails_if, unstated, allocates, ◌>>=◌, ◌>>◌}
 use Rattle.pgv_value.specs.declared.error.CodecError.TheVariants.{ValueSize, ArrayLength, FieldCount}
 
@@ -22,10 +23,6 @@ pub record Encoding : Type 0 where
   pub size_hint : ℕ
   pub produced : Option Ty
   pub image : Outcome Image
-
--- the longest that a frame or an array may be
-abbrev pub limit : ℕ
-limit = 2147483647
 
 abbrev pub given_or : Option Ty → Ty → Ty
 given_or (Some t) u = t
@@ -61,14 +58,14 @@ unwritten = plainly unstated
 -- ---- frames
 
 abbrev pub frame_of : Image → Outcome (List Token)
-frame_of null_image = done (bytes (be4 4294967295))
+frame_of null_image = done (bytes (be4 null_length))
 frame_of (image_of ts) = do
-  fails_if (nat_lt limit (tokens_width ts)) (ValueSize (tokens_width ts))
+  fails_if (nat_lt max_length (tokens_width ts)) (ValueSize (tokens_width ts))
   done (bytes (be4 (tokens_width ts)) ++ ts)
 
 unfoldable pub frame : Encoding → Outcome (List Token)
 frame e = do
-  fails_if (nat_lt limit e.size_hint) (ValueSize e.size_hint)
+  fails_if (nat_lt max_length e.size_hint) (ValueSize e.size_hint)
   allocates true
   image ← e.image
   frame_of image
@@ -104,7 +101,7 @@ header t n = do
 
 unfoldable pub array_image : Ty → List Encoding → Outcome Image
 array_image info es = do
-  fails_if (nat_lt limit (length es)) (ArrayLength (length es))
+  fails_if (nat_lt max_length (length es)) (ArrayLength (length es))
   allocates true
   head ← header (written_element info es) (length es)
   parts ← frames es
@@ -130,9 +127,13 @@ field info e = do
   part ← frame e
   done (oid ++ part)
 
--- a field after n others: there may be 4294967295
+-- the most fields that a record may have
+abbrev pub most_fields : ℕ
+most_fields = 4294967295
+
+-- a field after n others
 abbrev pub counted_field : ℕ → Outcome (List Token) → Outcome (List Token)
-counted_field n f = fails_if (n == 4294967295) FieldCount >> f
+counted_field n f = fails_if (n == most_fields) FieldCount >> f
 
 -- fields one after another, after n others
 abbrev pub fields_from : ℕ → List (Outcome (List Token)) → Outcome (List Token)

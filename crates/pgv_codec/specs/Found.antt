@@ -5,6 +5,7 @@ use Rattle.std.proofs.Common.{inl, inr, arith}
 use Rattle.std.proofs.lemmas.Bool.{le-ltb, eq-eqb}
 use Rattle.std.proofs.lemmas.Bool.Decides.{nat_tests}
 use Rattle.pgv_types.specs.Ty.{Ty}
+use Rattle.pgv_value.specs.FrameBinary.{max_length}
 use Rattle.pgv_value.specs.Outcome.{Outcome}
 use Rattle.pgv_value.specs.ValueView.{Given}
 use Rattle.pgv_value.proofs.Fronts.{frame_in_front}
@@ -26,7 +27,7 @@ pub one_dimension_there :
     (one_dimension t (flags ++ (to_be_bytes w32 oid ++ (to_be_bytes w32 n ++ (to_be_bytes w32 1 ++ parse_frames))))).answer ≡ Ok (record { element = element; count = n; frames = parse_frames })
 unfolding one_dimension
 one_dimension_there t flags parse_frames oid n element four oid_fits count_fits typed =
-    let small : nat_lt 2147483647 n ≡ false = le-ltb _ _ (omega arith) in
+    let small : nat_lt max_length n ≡ false = le-ltb _ _ (omega arith) in
     rw (number_of_four flags (to_be_bytes w32 oid ++ (to_be_bytes w32 n ++ (to_be_bytes w32 1 ++ parse_frames))) four, number_there oid (to_be_bytes w32 n ++ (to_be_bytes w32 1 ++ parse_frames)) oid_fits, typed, number_there n (to_be_bytes w32 1 ++ parse_frames) (omega arith), small, number_there 1 parse_frames (omega arith)) refl
 
 module _ {M : Type 0} (parse : Given → Outcome M) where

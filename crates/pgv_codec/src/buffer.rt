@@ -6,6 +6,7 @@ ghost use Rattle.pgv_buf.specs.CasesView.{cases_of};
 ghost use Rattle.pgv_buf.specs.Marks.{mark_of};
 ghost use Rattle.pgv_buf.specs.Proper.{Proper};
 ghost use Rattle.pgv_buf.specs.Fill.{fill_holes, fill_slots, slot_types};
+ghost use Rattle.pgv_value.specs.FrameBinary.{max_length, null_length};
 ghost use Rattle.pgv_value.specs.declared.error.CodecError.TheVariants.{Memory};
 ghost use Rattle.pgv_codec.specs.Encoding.{frame, image_of, plainly, typed, writes};
 ghost use Rattle.pgv_codec.specs.Appending.{Appended, Appends, AtOnce, Extends};
@@ -13,15 +14,9 @@ ghost use Rattle.pgv_codec.specs.Appending.{Appended, Appends, AtOnce, Extends};
 use crate::traits::Encode;
 use pgv_buf::{Mark, Tokens};
 use pgv_types::{Oid, PgTypeInfo};
-use pgv_value::{CodecError, length_bytes};
+use pgv_value::{CodecError, MAX_LENGTH, NULL_LENGTH, length_bytes};
 use std::alloc::{AllocError, Global};
 use std::marker::Model;
-
-/// The largest length of a value, and the largest number of elements.
-pub(crate) const LENGTH_LIMIT: usize = 2147483647;
-
-/// The length that means null: -1.
-const NULL_LENGTH: u32 = 4294967295;
 
 /// Whether the value that an encoder wrote is null.
 #[derive(Clone, Copy, Debug, PartialEq, Eq)]
@@ -157,10 +152,10 @@ impl PgArgumentBuffer {
     pub fn encode<T: Encode>(&mut self, value: &T) -> Result<(), CodecError>
         ensures exact { Appends (frame (T.encoding value.now)) self.old self.new result }
         ensures appended { OnErr result (Extends self.old self.new) }
-        ensures hint { 2147483647 < (T.encoding value.now).size_hint → self.new ≡ self.old }
+        ensures hint { max_length < (T.encoding value.now).size_hint → self.new ≡ self.old }
     {
         let hint = value.size_hint();
-        if hint > LENGTH_LIMIT {
+        if hint > MAX_LENGTH as usize {
             return Err(CodecError::ValueSize(hint));
         }
         if value.encode_at_once(self)? {
@@ -173,7 +168,7 @@ impl PgArgumentBuffer {
     #[inline(always)]
     #[tactic(auto, unfolding(crate::specs::Encoding::frame))]
     fn encode_in_steps<T: Encode>(&mut self, value: &T) -> Result<(), CodecError>
-        requires { (T.encoding value.now).size_hint ≤ 2147483647 }
+        requires { (T.encoding value.now).size_hint ≤ max_length }
         ensures exact { Appends (frame (T.encoding value.now)) self.old self.new result }
         ensures appended { OnErr result (Extends self.old self.new) }
     {
@@ -187,7 +182,7 @@ impl PgArgumentBuffer {
             }
             IsNull::No => {
                 let size = self.len() - start;
-                if size > LENGTH_LIMIT {
+                if size > MAX_LENGTH as usize {
                     return Err(CodecError::ValueSize(size));
                 }
                 self.tokens.put_u32(mark, size as u32);
@@ -284,7 +279,7 @@ impl PgArgumentBuffer {
     #[inline(always)]
     pub(crate) fn push_null(&mut self) -> Result<bool, CodecError>
         ensures ok { IfOk result (λ done. (done ≡ true)
-            × (self.new ≡ self.old ++ blank (bytes (be4 4294967295)))) }
+            × (self.new ≡ self.old ++ blank (bytes (be4 null_length)))) }
         ensures err { IfErr result (λ e. (e ≡ Memory) × (self.new ≡ self.old)) }
     {
         self.push_u32(NULL_LENGTH)?;

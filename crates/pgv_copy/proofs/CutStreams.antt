@@ -6,7 +6,7 @@ use Rattle.std.specs.Int.{w16, w32, to_be_bytes}
 use Rattle.std.proofs.lemmas.Bool.{le-ltb, lt-ltb, eq-eqb}
 use Rattle.std.proofs.lemmas.List.{length-append, take_at}
 use Rattle.pgv_types.specs.Ty.{Ty}
-use Rattle.pgv_value.specs.FrameBinary.{Part, IsFrame, front, field_bytes, row_bytes, IsField}
+use Rattle.pgv_value.specs.FrameBinary.{Part, IsFrame, front, field_bytes, row_bytes, FitsLength}
 use Rattle.pgv_value.specs.ReadingSteps.{number, signed_two}
 use Rattle.pgv_value.specs.ValueView.{Given}
 use Rattle.pgv_value.specs.declared.error.CodecError.TheVariants.{Short}
@@ -104,13 +104,13 @@ extension_cut n bytes cut lt =
 pub no_bytes : (xs ys : List ℕ) → xs ++ ys ≡ [] → 0 < length ys → ⊥
 no_bytes xs ys e more = let len = ap length e in omega (arith, len, length-append xs ys)
 
-field_cut : (t : Ty) (types : List Ty) (part : Part) (bytes m : List ℕ) → IsField part → field_bytes part ≡ bytes ++ m → 0 < length m → fields (t ∷ types) bytes ≡ Err Short
+field_cut : (t : Ty) (types : List Ty) (part : Part) (bytes m : List ℕ) → FitsLength part → field_bytes part ≡ bytes ++ m → 0 < length m → fields (t ∷ types) bytes ≡ Err Short
 field_cut t types part bytes m h e more =
     let frame : IsFrame (bytes ++ m) part [] = subst (λ (xs : List ℕ). IsFrame xs part []) (append-nil (field_bytes part) ∙ e) (framed part [] h) in
     let short = cut_is_short bytes m part more frame in
     field_missing t types bytes Short (rw (short.0, short.1) refl)
 
-pub fields_cut : (types : List Ty) (row : List Part) (bytes m : List ℕ) → length row ≡ length types → AllByRecursion IsField row → flat_map field_bytes row ≡ bytes ++ m → 0 < length m → fields types bytes ≡ Err Short
+pub fields_cut : (types : List Ty) (row : List Part) (bytes m : List ℕ) → length row ≡ length types → AllByRecursion FitsLength row → flat_map field_bytes row ≡ bytes ++ m → 0 < length m → fields types bytes ≡ Err Short
 fields_cut [] [] bytes m len each e more = absurd (no_bytes bytes m (sym e) more)
 fields_cut [] (part ∷ row) bytes m len each e more = absurd (omega (arith, len))
 fields_cut (t ∷ types) [] bytes m len each e more = absurd (omega (arith, len))
@@ -244,10 +244,10 @@ cut_copy_is_short types bytes more rows h some =
 
 -- ---- frames
 
-got_there : (part : Part) (rest : List ℕ) → IsField part → got (field_bytes part ++ rest) ≡ (Ok part, rest)
+got_there : (part : Part) (rest : List ℕ) → FitsLength part → got (field_bytes part ++ rest) ≡ (Ok part, rest)
 got_there part rest h = ap (got_of (field_bytes part ++ rest)) (frame_in_front (field_bytes part ++ rest) part rest (framed part rest h))
 
-got_cut : (part : Part) (bytes m : List ℕ) → IsField part → field_bytes part ≡ bytes ++ m → 0 < length m → got bytes ≡ (Err Short, bytes)
+got_cut : (part : Part) (bytes m : List ℕ) → FitsLength part → field_bytes part ≡ bytes ++ m → 0 < length m → got bytes ≡ (Err Short, bytes)
 got_cut part bytes m h e more =
     let frame : IsFrame (bytes ++ m) part [] = subst (λ (xs : List ℕ). IsFrame xs part []) (append-nil (field_bytes part) ∙ e) (framed part [] h) in
     let short = cut_is_short bytes m part more frame in
@@ -257,7 +257,7 @@ refused_again : (bytes : List ℕ) (n : ℕ) → got bytes ≡ (Err Short, bytes
 refused_again bytes zero e = refl
 refused_again bytes (suc n) e = ap (λ (g : Got). g.0 ∷ all_got n g.1) e ∙ ap (λ (xs : List (Parsed Part)). Err Short ∷ xs) (refused_again bytes n e)
 
-one_frame_more : (bytes m : List ℕ) (part : Part) (row : List Part) → IsField part → bytes ≡ field_bytes part ++ m → StopsAtTheFrame m row → StopsAtTheFrame bytes (part ∷ row)
+one_frame_more : (bytes m : List ℕ) (part : Part) (row : List Part) → FitsLength part → bytes ≡ field_bytes part ++ m → StopsAtTheFrame m row → StopsAtTheFrame bytes (part ∷ row)
 one_frame_more bytes m part row h e c = record {
   count = suc c.count;
   begun = c.begun;

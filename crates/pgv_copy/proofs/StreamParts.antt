@@ -12,7 +12,7 @@ use Rattle.pgv_copy.specs.CopyBinary.{signature, after_signature, after_flags, a
 use Rattle.pgv_copy.specs.CopyStream.{IsHeader, trailer, IsRow, Answer, called, answers, values, row_answers, CopyIsItsRows}
 use Rattle.std.specs.List.{AllByRecursion}
 use Rattle.pgv_types.specs.Ty.{Ty}
-use Rattle.pgv_value.specs.FrameBinary.{Part, front, field_bytes, row_bytes, IsField}
+use Rattle.pgv_value.specs.FrameBinary.{Part, front, field_bytes, row_bytes, FitsLength}
 use Rattle.pgv_value.specs.ValueView.{Given}
 use Rattle.pgv_value.specs.declared.value.PgValueFormat.TheVariants.{Binary}
 use Rattle.pgv_value.proofs.Fronts.{frame_in_front}
@@ -87,7 +87,7 @@ no_fields : (rest : List ℕ) → fields [] rest ≡ Ok ([], rest)
 unfolding fields
 no_fields rest = refl
 
-pub fields_there : (types : List Ty) (row : List Part) (rest : List ℕ) → length row ≡ length types → AllByRecursion IsField row → fields types (flat_map field_bytes row ++ rest) ≡ Ok (values types row, rest)
+pub fields_there : (types : List Ty) (row : List Part) (rest : List ℕ) → length row ≡ length types → AllByRecursion FitsLength row → fields types (flat_map field_bytes row ++ rest) ≡ Ok (values types row, rest)
 fields_there [] [] rest len each = no_fields rest
 fields_there [] (part ∷ row) rest len each = absurd (omega (arith, len))
 fields_there (t ∷ types) [] rest len each = absurd (omega (arith, len))

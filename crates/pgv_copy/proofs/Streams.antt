@@ -10,7 +10,7 @@ use Rattle.std.proofs.lemmas.Slice.Eq.{bytes_eq-Decides}
 use Rattle.std.proofs.lemmas.Nat.{be_bytes_2}
 use Rattle.std.proofs.lemmas.List.{take-append-drop, length-take-le}
 use Rattle.pgv_types.specs.Ty.{Ty}
-use Rattle.pgv_value.specs.FrameBinary.{Part, front, frame_fault, field_bytes, row_bytes, IsField}
+use Rattle.pgv_value.specs.FrameBinary.{Part, front, frame_fault, field_bytes, row_bytes, FitsLength}
 use Rattle.pgv_value.specs.FrameLaws.{AreBytes}
 use Rattle.pgv_value.specs.ReadingSteps.{number, signed_two}
 use Rattle.pgv_value.specs.ValueView.{Given}
@@ -177,7 +177,7 @@ end_is width bytes h e =
 record AreFields (types : List Ty) (bytes rest : List ℕ) (row : List Given) : Type 0 where
   parts : List Part
   wide : length parts ≡ length types
-  each : AllByRecursion IsField parts
+  each : AllByRecursion FitsLength parts
   row_is : row ≡ values types parts
   whole : bytes ≡ flat_map field_bytes parts ++ rest
 

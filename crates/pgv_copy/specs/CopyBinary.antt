@@ -8,6 +8,7 @@ use Rattle.std.specs.List.{list_any}
 use Rattle.std.specs.Ordering.{int_eq}
 use Rattle.pgv_types.specs.Facts.{is_custom}
 use Rattle.pgv_types.specs.Ty.{Ty}
+use Rattle.pgv_value.specs.FrameBinary.{max_length}
 use Rattle.pgv_value.specs.Fronts.{i16_front, u32_front, value_front}
 use Rattle.pgv_value.specs.Outcome.{Outcome, after, in_place}
 use Rattle.pgv_value.specs.Parsed.{Parsed, ◌>>=◌}
@@ -36,7 +37,7 @@ after_flags bytes = u32_front bytes >>= λ flags. if nat_lt 65535 flags.0 then E
 unfoldable pub after_extension : List ℕ → Parsed (List ℕ)
 after_extension bytes =
     u32_front bytes >>= λ size.
-    if nat_lt 2147483647 size.0 then Err (NegativeLength (cast_signed w32 size.0)) else
+    if nat_lt max_length size.0 then Err (NegativeLength (cast_signed w32 size.0)) else
     if nat_lt (length size.1) size.0 then Err Short else Ok (drop size.0 size.1)
 
 -- what comes after the header

@@ -7,7 +7,7 @@ use Rattle.std.specs.Prelude.{◌≡◌, ℕ, zero, suc, ◌+◌, ◌<◌, ◌�
 use Rattle.std.specs.Int.{w32, to_be_bytes}
 use Rattle.std.specs.List.{AllByRecursion}
 use Rattle.pgv_types.specs.Ty.{Ty}
-use Rattle.pgv_value.specs.FrameBinary.{Part, row_bytes, IsField}
+use Rattle.pgv_value.specs.FrameBinary.{Part, row_bytes, FitsLength}
 use Rattle.pgv_value.specs.FrameLaws.{AreBytes}
 use Rattle.pgv_value.specs.Parsed.{Parsed}
 use Rattle.pgv_value.specs.ValueView.{Given}
@@ -34,7 +34,7 @@ trailer = 255 ∷ 255 ∷ []
 pub record IsRow (width : ℕ) (row : List Part) : Type 0 where
   pub wide : length row ≡ width
   pub width_fits : width < 2 ^ 15
-  pub each : AllByRecursion IsField row
+  pub each : AllByRecursion FitsLength row
 
 -- A stream: a header, the rows one after another, the trailer, and whatever follows.
 pub record IsCopy (width : ℕ) (bytes : List ℕ) (rows : List (List Part)) (follows : List ℕ) : Type 0 where

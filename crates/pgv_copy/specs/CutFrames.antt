@@ -4,7 +4,7 @@
 -- call is C15 (`StopsAtTheFrame`).
 use Rattle.std.specs.Prelude.{◌≡◌, ℕ, zero, suc, ◌+◌, ◌<◌, List, [], ◌∷◌, ◌++◌, map, flat_map, length, take, replicate, Option, Some, None, Ok, Err}
 use Rattle.std.specs.List.{AllByRecursion}
-use Rattle.pgv_value.specs.FrameBinary.{Part, front, frame_fault, field_bytes, IsField}
+use Rattle.pgv_value.specs.FrameBinary.{Part, front, frame_fault, field_bytes, FitsLength}
 use Rattle.pgv_value.specs.declared.error.CodecError.TheVariants.{Short}
 use Rattle.pgv_value.specs.Parsed.{Parsed}
 
@@ -36,4 +36,4 @@ pub record StopsAtTheFrame (bytes : List ℕ) (row : List Part) : Type 0 where
 -- Frames that are cut off anywhere, within one or between two, are read up to the cut.
 unfoldable pub CutFramesAreShort : Type 0
 CutFramesAreShort =
-    (bytes more : List ℕ) (row : List Part) → AllByRecursion IsField row → flat_map field_bytes row ≡ bytes ++ more → 0 < length more → StopsAtTheFrame bytes row
+    (bytes more : List ℕ) (row : List Part) → AllByRecursion FitsLength row → flat_map field_bytes row ≡ bytes ++ more → 0 < length more → StopsAtTheFrame bytes row

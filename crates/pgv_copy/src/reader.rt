@@ -7,15 +7,13 @@ ghost use Rattle.pgv_value.specs.Outcome.{Gives};
 ghost use Rattle.pgv_copy.specs.CopyBinary.{after_header, after_signature as signature_passed, after_flags as flags_passed, after_extension as extension_passed, after_count as count_passed, filled, listed, next_row as next_row_of, next_row_in, opened, bytes_left};
 
 use pgv_types::PgTypeInfo;
-use pgv_value::{CodecError, PgValueFormat, PgValueRef, i16_in_front, u32_in_front};
+use pgv_value::{CodecError, MAX_LENGTH, PgValueFormat, PgValueRef, i16_in_front, u32_in_front};
 use std::marker::Model;
 
 /// What a stream begins with.
 const SIGNATURE: [u8; 11] = *b"PGCOPY\n\xff\r\n\0";
 /// The largest number of which the flags that a reader has to know, bits 16 to 31, are clear.
 const MAX_FLAGS: u32 = 0xffff;
-/// The largest length of the header's extension.
-const MAX_LENGTH: u32 = 0x7fff_ffff;
 /// The number of fields that means that no row follows.
 const TRAILER: i16 = -1;
 

@@ -4,7 +4,7 @@ use Rattle.std.specs.Prelude.{flat_map, if◌then◌else◌}
 use Rattle.std.specs.List.{AllByRecursion}
 use Rattle.std.specs.Int.{w16, to_be_bytes}
 use Rattle.std.proofs.lemmas.Bool.{ltb-false}
-use Rattle.pgv_value.specs.FrameBinary.{Part, field_bytes, IsField}
+use Rattle.pgv_value.specs.FrameBinary.{Part, field_bytes, FitsLength}
 use Rattle.pgv_value.specs.FrameLaws.{AreBytes}
 use Rattle.pgv_value.specs.declared.value.PgValueFormat.{PgValueFormat}
 use Rattle.pgv_value.proofs.Fronts.{front_exactly}
@@ -21,7 +21,7 @@ use Rattle.pgv_message.specs.Received.{message}
 use Rattle.pgv_message.specs.Pieces.{format_bytes}
 use Rattle.pgv_message.specs.Frames.{bind_of, ParametersAreArguments}
 
-pub frames_are : (bytes : List ℕ) (parts : List Part) (rest : List ℕ) → AreBytes bytes → ReadAs bytes parts rest → (bytes ≡ flat_map field_bytes parts ++ rest) × AllByRecursion IsField parts
+pub frames_are : (bytes : List ℕ) (parts : List Part) (rest : List ℕ) → AreBytes bytes → ReadAs bytes parts rest → (bytes ≡ flat_map field_bytes parts ++ rest) × AllByRecursion FitsLength parts
 frames_are bytes [] rest h e = (e, tt)
 frames_are bytes (p ∷ parts) rest h r =
     let frame = frame_bytes bytes p r.0 ((front_exactly bytes p r.0 h).0 r.1) in

@@ -3,7 +3,7 @@
 use Rattle.std.specs.Prelude.{◌≡◌, ℕ, List, [], ◌∷◌, length, flat_map, Ok}
 use Rattle.std.specs.Int.{w16, to_be_bytes}
 use Rattle.std.specs.List.{AllByRecursion}
-use Rattle.pgv_value.specs.FrameBinary.{Part, field_bytes, IsField}
+use Rattle.pgv_value.specs.FrameBinary.{Part, field_bytes, FitsLength}
 use Rattle.pgv_value.specs.declared.value.PgValueFormat.{PgValueFormat}
 use Rattle.pgv_codec.specs.Encoding.{Image}
 use Rattle.pgv_wire.specs.Arguments.{Argument, framed}
@@ -26,7 +26,7 @@ pub record BindsArguments (sent portal statement : List ℕ) (arguments : List A
   pub images : List Image
   pub of_images : AreImages images (framed arguments)
   pub many : length (parts_in images arguments) ≡ length arguments
-  pub each : AllByRecursion IsField (parts_in images arguments)
+  pub each : AllByRecursion FitsLength (parts_in images arguments)
   pub sent_is : sent ≡ bind_of portal statement (parts_in images arguments) results
 
 -- Whatever Bind is sent of these arguments has them as its parameters.

@@ -3,6 +3,7 @@
 -- found, whatever follows it (`MessageIsFound`), and what is found is a message (`FoundIsMessage`). Of a message that
 -- is cut off anywhere nothing is found yet (`CutIsNotFound`).
 use Rattle.std.specs.Prelude.{◌≡◌, ℕ, ◌-◌, ◌<◌, ◌≤◌, nat_lt, List, [], ◌∷◌, ◌++◌, length, take, drop, Option, Some, None, option_map, Result, Ok, Err, if◌then◌else◌}
+use Rattle.pgv_value.specs.FrameBinary.{max_length}
 use Rattle.pgv_value.specs.FrameLaws.{AreBytes}
 use Rattle.pgv_value.specs.ReadingSteps.{number}
 use Rattle.pgv_message.specs.declared.error.MessageError.{MessageError}
@@ -27,7 +28,7 @@ abbrev pub with_length : ℕ → Option (ℕ × List ℕ) → Result (Option Mes
 with_length tag None = Ok None
 with_length tag (Some size) =
     if nat_lt size.0 4 then Err (BadLength size.0) else
-    if nat_lt 2147483647 size.0 then Err (BadLength size.0) else
+    if nat_lt max_length size.0 then Err (BadLength size.0) else
     Ok (with_body tag (size.0 - 4) size.1)
 
 unfoldable pub message_at_front : List ℕ → Result (Option Message) MessageError

@@ -5,12 +5,10 @@ ghost use Rattle.pgv_value.specs.Parsed.{GivesFront};
 ghost use Rattle.pgv_message.specs.Received.{Finds};
 
 use crate::error::MessageError;
-use pgv_value::u32_in_front;
+use pgv_value::{MAX_LENGTH, u32_in_front};
 
 /// The least length of a message, which counts its own four bytes.
 const MIN_LENGTH: u32 = 4;
-/// The largest length of a message.
-const MAX_LENGTH: u32 = 0x7fff_ffff;
 
 /// A message that a server sent, and the bytes after it.
 #[derive(Clone, Copy)]

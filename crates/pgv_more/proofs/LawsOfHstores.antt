@@ -10,7 +10,7 @@ use Rattle.std.specs.List.{flat_map}
 use Rattle.std.specs.Ordering.{eq_by_cmp}
 use Rattle.pgv_buf.specs.Tokens.{be4}
 use Rattle.pgv_value.proofs.Fronts.{front_exactly}
-use Rattle.pgv_value.specs.FrameBinary.{Part, IsFrame, front, frame_fault}
+use Rattle.pgv_value.specs.FrameBinary.{Part, IsFrame, front, frame_fault, max_length}
 use Rattle.pgv_value.specs.Fronts.{part_front, u32_front}
 use Rattle.pgv_value.specs.FrameLaws.{AreBytes}
 use Rattle.pgv_value.specs.Outcome.{Outcome, done}
@@ -20,7 +20,6 @@ use Rattle.pgv_value.specs.declared.error.CodecError.{CodecError}
 use Rattle.pgv_value.specs.declared.error.CodecError.TheVariants.{HstoreLength, Short, Utf8}
 use Rattle.pgv_value.proofs.Numbers.{number_is, bytes_after, after_four}
 use Rattle.pgv_value.proofs.Outcomes.{answer_is, answers_are, ok_is, held, taken, taken_exactly, tested, found_or}
-use Rattle.pgv_codec.specs.Encoding.{limit}
 use Rattle.pgv_more.specs.Hstore.{Pair, order, part_form, pair_form, text_at, as_key, as_value, key_at, map_value, pairs, put_all, put_read, hstore_in_binary}
 use Rattle.pgv_more.specs.HstoreBack.{IsText, IsMapValue, AreMapPairs, hstore_there}
 use Rattle.pgv_more.specs.HstoreLaws.{last_value, IsMapOf, IsHstore, HstoreIsRead, OneHstore}
@@ -153,10 +152,10 @@ is_hstore : (form : List ℕ) (ps : List Pair) → AreBytes form → (hstore_in_
 is_hstore form ps small e =
     let n = taken_exactly (u32_front form) _ ps e in
     let count = number_is form n.0.1 n.0.0 small (found_or (number form) Short n.0 n.1) in
-    let few = tested (nat_lt limit n.0.0) (HstoreLength (cast_signed w32 n.0.0)) (put_read [] n.0.0 n.0.1) ps n.2 in
+    let few = tested (nat_lt max_length n.0.0) (HstoreLength (cast_signed w32 n.0.0)) (put_read [] n.0.0 n.0.1) ps n.2 in
     let s = taken (pairs n.0.0 n.0.1) _ ps few.1 in
     let are = pairs_are n.0.0 n.0.1 s.0 (after_four n.0.0 form n.0.1 count.1 small) s.1 in
-    let most : n.0.0 ≤ limit = ltb-false limit n.0.0 few.0 in
+    let most : n.0.0 ≤ max_length = ltb-false max_length n.0.0 few.0 in
     let less : n.0.0 < 2 ^ 31 = omega (arith, most) in
     record {
       stood = s.0;

@@ -5,6 +5,7 @@
 use Rattle.std.specs.Prelude.{◌≡◌, ◌↔◌, ℕ, ◌+◌, ◌<◌, ◌^◌, ◌==◌, min, nat_lt, Bool, true, List, ◌++◌, length, take, drop, Ok, Err, if◌then◌else◌}
 use Rattle.std.specs.Int.{w32, from_be_bytes, to_be_bytes, cast_signed}
 use Rattle.pgv_buf.specs.Tokens.{bytes, be4}
+use Rattle.pgv_value.specs.FrameBinary.{max_length}
 use Rattle.pgv_codec.specs.Encoding.{Image, image_of}
 use Rattle.pgv_value.specs.FrameLaws.{AreBytes}
 use Rattle.pgv_value.specs.Outcome.{Outcome, allocates, done, fails_if, ◌>>◌}
@@ -20,7 +21,7 @@ IsBits form bits =
 -- what is written: zeros fill the last byte; more than 2147483647 bits are C2, with their number, and without memory
 abbrev pub bits_image : List Bool → Outcome Image
 bits_image bits = do
-  fails_if (nat_lt 2147483647 (length bits)) (ValueSize (length bits))
+  fails_if (nat_lt max_length (length bits)) (ValueSize (length bits))
   allocates true
   done (image_of (bytes (be4 (length bits) ++ packed bits)))
 
@@ -37,7 +38,7 @@ bit_count form = from_be_bytes w32 (take 4 form)
 abbrev pub bits_in_binary : List ℕ → Parsed (List Bool)
 bits_in_binary form =
     if nat_lt (length form) 4 then Err Short else
-    if nat_lt 2147483647 (bit_count form) then Err (NegativeLength (cast_signed w32 (bit_count form))) else
+    if nat_lt max_length (bit_count form) then Err (NegativeLength (cast_signed w32 (bit_count form))) else
     if length (drop 4 form) == byte_count (bit_count form) then Ok (take (bit_count form) (bits_of (drop 4 form))) else Err (WrongLength (length form))
 
 -- bits are read from bytes iff the bytes are a form of these bits

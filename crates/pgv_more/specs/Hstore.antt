@@ -17,9 +17,9 @@ use Rattle.std.specs.FinMap.{is_sorted, put}
 use Rattle.std.specs.List.{flat_map}
 use Rattle.std.specs.Ordering.{nat_cmp}
 use Rattle.pgv_buf.specs.Tokens.{Token, bytes, be4}
-use Rattle.pgv_codec.specs.Encoding.{Image, image_of, limit}
+use Rattle.pgv_codec.specs.Encoding.{Image, image_of}
 use Rattle.pgv_value.specs.Formats.{in_binary_alone}
-use Rattle.pgv_value.specs.FrameBinary.{Part}
+use Rattle.pgv_value.specs.FrameBinary.{Part, max_length, null_length}
 use Rattle.pgv_value.specs.Fronts.{one_part, u32_at}
 use Rattle.pgv_value.specs.Parsed.{Parsed}
 use Rattle.pgv_value.specs.Outcome.{Outcome, done, fails, in_place, fails_if, allocates, ◌>>=◌, ◌>>◌}
@@ -55,7 +55,7 @@ order = slice_cmp nat_cmp
 
 -- a length and the bytes, or the length -1
 abbrev pub part_form : Part → List ℕ
-part_form None = be4 4294967295
+part_form None = be4 null_length
 part_form (Some part) = be4 (length part) ++ part
 
 abbrev pub pair_form : Pair → List ℕ
@@ -67,18 +67,18 @@ hstore_form ps = be4 (length ps) ++ flat_map pair_form ps
 -- whether the length has room in a frame
 abbrev pub part_fits : Part → Bool
 part_fits None = true
-part_fits (Some part) = nat_le (length part) limit
+part_fits (Some part) = nat_le (length part) max_length
 
 abbrev pub pair_fits : Pair → Bool
 pair_fits p = part_fits (Some p.0) && part_fits p.1
 
 -- a number of pairs or a length in four bytes, where it has room (C9)
 unfoldable pub size_form : ℕ → Parsed (List ℕ)
-size_form n = if nat_lt limit n then Err (HstoreLength (cast_signed w64 n)) else Ok (be4 n)
+size_form n = if nat_lt max_length n then Err (HstoreLength (cast_signed w64 n)) else Ok (be4 n)
 
 -- a key or a value, a pair, and pairs one after another
 unfoldable pub part_written : Part → Outcome (List Token)
-part_written None = allocates true >> done (bytes (be4 4294967295))
+part_written None = allocates true >> done (bytes (be4 null_length))
 part_written (Some part) = do
   number ← in_place (size_form (length part))
   allocates true
@@ -167,7 +167,7 @@ put_read into n form = do
 abbrev pub hstore_in_binary : List ℕ → Outcome (List Pair)
 hstore_in_binary form = do
   count ← u32_at form
-  fails_if (nat_lt limit count.0) (HstoreLength (cast_signed w32 count.0))
+  fails_if (nat_lt max_length count.0) (HstoreLength (cast_signed w32 count.0))
   put_read [] count.0 count.1
 
 -- a map, in binary alone

@@ -16,7 +16,7 @@ use Rattle.std.proofs.lemmas.List.{append-nil}
 use Rattle.std.proofs.lemmas.Str.{IsUtf8-had, utf8_valid_len-IsUtf8}
 use Rattle.pgv_buf.specs.Tokens.{Token, bytes, be4}
 use Rattle.pgv_value.proofs.Fronts.{frame_in_front}
-use Rattle.pgv_value.specs.FrameBinary.{Part, front}
+use Rattle.pgv_value.specs.FrameBinary.{Part, front, max_length}
 use Rattle.pgv_value.specs.Outcome.{ok_of, reading_of, done, allocates, ◌>>=◌, ◌>>◌}
 use Rattle.pgv_value.proofs.Outcomes.{answer_is, answer_of, failed, ok_is, taken, taken_exactly}
 use Rattle.pgv_value.specs.declared.error.CodecError.TheVariants.{HstoreLength}
@@ -26,7 +26,7 @@ use Rattle.pgv_value.specs.declared.value.PgValueFormat.TheVariants.{Binary}
 use Rattle.pgv_value.proofs.Numbers.{number_there}
 use Rattle.pgv_codec.specs.Back.{ReadsBack, always}
 use Rattle.pgv_codec.specs.BackScalars.{part_is}
-use Rattle.pgv_codec.specs.Encoding.{Image, image_of, limit, plainly}
+use Rattle.pgv_codec.specs.Encoding.{Image, image_of, plainly}
 use Rattle.pgv_codec.specs.PlainBytes.{bytes-append}
 use Rattle.pgv_more.specs.Hstore.{Pair, pair_of, pairs_of, order, part_form, pair_form, hstore_form, part_fits, pair_fits, size_form, part_written, pair_written, pairs_written, in_order, hstore_image, key_at, map_value, pairs, put_all, hstore_in_binary, parse_hstore}
 use Rattle.pgv_more.specs.declared.hstore.PgHstore.{PgHstore}
@@ -77,7 +77,7 @@ pairs_there (p ∷ ps) rest is =
 -- what is after its number is put into a map
 pub hstore_there : (ps : List Pair) (rest : List ℕ) → length ps < 2 ^ 31 → AreMapPairs ps → (hstore_in_binary (be4 (length ps) ++ (flat_map pair_form ps ++ rest))).answer ≡ Ok (put_all [] ps)
 hstore_there ps rest few are =
-    let small : nat_lt limit (length ps) ≡ false = le-ltb _ _ (omega (arith, few)) in
+    let small : nat_lt max_length (length ps) ≡ false = le-ltb _ _ (omega (arith, few)) in
     rw (number_there (length ps) (flat_map pair_form ps ++ rest) (omega (arith, few)), small, pairs_there ps rest are) refl
 
 -- ---- pairs in order are put where they are
@@ -125,7 +125,7 @@ are_pairs (e ∷ es) fits =
     let k = and_parts (part_fits (Some (string_bytes e.0))) (part_fits (option_map string_bytes e.1)) b.0 in
     ((string_is_text e.0 k.0, is_value e.1 k.1), are_pairs es b.1)
 
-few_pairs : (n : ℕ) → nat_le n limit ≡ true → n < 2 ^ 31
+few_pairs : (n : ℕ) → nat_le n max_length ≡ true → n < 2 ^ 31
 few_pairs n e = grind (arith, nat_tests)
 
 part_parts : (part : Part) (ts : List Token) → (part_written part).answer ≡ Ok ts → (part_fits part ≡ true) × (bytes (part_form part) ≡ ts)
@@ -133,8 +133,8 @@ unfolding part_written size_form
 part_parts None ts e = (refl, answer_is _ ts e)
 part_parts (Some part) ts e =
     let a = taken_exactly (size_form (length part)) (λ number. allocates true >> done (bytes (number ++ part))) ts e in
-    let k = failed (nat_lt limit (length part)) (HstoreLength (cast_signed w64 (length part))) (Ok (be4 (length part))) a.0 a.1 in
-    (le-leb _ _ (ltb-false limit (length part) k.0), ap (λ (number : List ℕ). bytes (number ++ part)) (ok_is (be4 (length part)) a.0 k.1) ∙ answer_is _ ts a.2)
+    let k = failed (nat_lt max_length (length part)) (HstoreLength (cast_signed w64 (length part))) (Ok (be4 (length part))) a.0 a.1 in
+    (le-leb _ _ (ltb-false max_length (length part) k.0), ap (λ (number : List ℕ). bytes (number ++ part)) (ok_is (be4 (length part)) a.0 k.1) ∙ answer_is _ ts a.2)
 
 pair_parts : (p : Pair) (ts : List Token) → (pair_written p).answer ≡ Ok ts → (pair_fits p ≡ true) × (bytes (pair_form p) ≡ ts)
 unfolding pair_written
@@ -158,7 +158,7 @@ pairs_parts (p ∷ ps) ts e =
 -- what is written of a map that is written
 record IsMap (ps : List Pair) (i : Image) : Type 0 where
   sorted : is_sorted order ps ≡ true
-  few : nat_le (length ps) limit ≡ true
+  few : nat_le (length ps) max_length ≡ true
   fit : list_all pair_fits ps ≡ true
   whole : image_of (bytes (hstore_form ps)) ≡ i
 
@@ -170,14 +170,14 @@ map_parts : (ps : List Pair) (i : Image) → (hstore_image ps).answer ≡ Ok i �
 unfolding hstore_image size_form
 map_parts ps i e =
     let a = taken_exactly (size_form (length ps)) (λ number. allocates true >> (pairs_written ps >>= λ all. in_order ps >> done (image_of (bytes number ++ all)))) i e in
-    let k = failed (nat_lt limit (length ps)) (HstoreLength (cast_signed w64 (length ps))) (Ok (be4 (length ps))) a.0 a.1 in
+    let k = failed (nat_lt max_length (length ps)) (HstoreLength (cast_signed w64 (length ps))) (Ok (be4 (length ps))) a.0 a.1 in
     let b = taken (pairs_written ps) (λ all. in_order ps >> done (image_of (bytes a.0 ++ all))) i a.2 in
     let c = taken (in_order ps) (λ _. done (image_of (bytes a.0 ++ b.0))) i b.2 in
     let all = pairs_parts ps b.0 b.1 in
     let number : be4 (length ps) ≡ a.0 = ok_is (be4 (length ps)) a.0 k.1 in
     record {
       sorted = is_in_order (is_sorted order ps) c.0 c.1;
-      few = le-leb _ _ (ltb-false limit (length ps) k.0);
+      few = le-leb _ _ (ltb-false max_length (length ps) k.0);
       fit = all.0;
       whole =
           ap image_of (bytes-append (be4 (length ps)) (flat_map pair_form ps) ∙ (ap (λ (ts : List Token). bytes (be4 (length ps)) ++ ts) all.1 ∙ ap (λ (n : List ℕ). bytes n ++ b.0) number))

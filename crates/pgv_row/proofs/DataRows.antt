@@ -3,7 +3,7 @@ use Rattle.std.proofs.Common.{◌≡◌, ◌≢◌, ℕ, ℤ, ◌≤◌, Bool, t
 use Rattle.std.specs.Prelude.{flat_map, not, ok_or, IfErr}
 use Rattle.std.specs.Int.{w16, w32, to_be_bytes, from_be_bytes, cast_signed}
 use Rattle.std.proofs.lemmas.Bool.{le-ltb}
-use Rattle.pgv_value.specs.FrameBinary.{Part, front, front_length, frame_fault, field_bytes, IsField}
+use Rattle.pgv_value.specs.FrameBinary.{Part, front, front_length, frame_fault, field_bytes, FitsLength}
 use Rattle.pgv_value.specs.FrameLaws.{AreBytes}
 use Rattle.pgv_value.specs.declared.error.CodecError.{CodecError}
 use Rattle.pgv_value.specs.declared.error.CodecError.TheVariants.{Memory, FieldCount, NegativeLength, Short, WrongLength}
@@ -30,7 +30,7 @@ frames_of_row width bytes row h s =
     let left : AreBytes frames = bytes_after (to_be_bytes w16 width) frames (subst AreBytes whole h) in (
       frames,
       frames_read width bytes frames s.width_fits whole,
-      several_read IsField field_bytes one_part reads_part width frames row [] left (record { many = s.wide; each = s.each; whole = sym (append-nil frames) }),
+      several_read FitsLength field_bytes one_part reads_part width frames row [] left (record { many = s.wide; each = s.each; whole = sym (append-nil frames) }),
     )
 
 is_read : (room width : ℕ) (bytes : List ℕ) (row : List Part) → AreBytes bytes → IsDataRow width bytes row → (data_row room width bytes).answer ≡ Ok row
@@ -46,7 +46,7 @@ is_row room width bytes row h e =
     let b = taken (several one_part width a.0) _ row a.2 in
     let t = tested (not (nat_eq (length b.0.1) 0)) (WrongLength (length bytes)) (done b.0.0) row b.2 in
     let left : AreBytes a.0 = bytes_after (to_be_bytes w16 width) a.0 (subst AreBytes k.1 h) in
-    let p = are_several IsField field_bytes one_part reads_part width a.0 b.0.0 b.0.1 left b.1 in
+    let p = are_several FitsLength field_bytes one_part reads_part width a.0 b.0.0 b.0.1 left b.1 in
     let row_is : b.0.0 ≡ row = answer_is {A = List Part} b.0.0 row t.1 in
     let frames : a.0 ≡ flat_map field_bytes b.0.0 = p.whole ∙ ap (λ (xs : List ℕ). flat_map field_bytes b.0.0 ++ xs) (nothing_is b.0.1 t.0) ∙ append-nil (flat_map field_bytes b.0.0) in
     subst (IsDataRow width bytes) row_is (record {

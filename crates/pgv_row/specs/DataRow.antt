@@ -5,7 +5,7 @@
 -- is smaller than the row.
 use Rattle.std.specs.Prelude.{◌≡◌, ◌↔◌, ℕ, ◌<◌, ◌^◌, ◌==◌, nat_lt, not, List, length, Ok, Err, if◌then◌else◌}
 use Rattle.std.specs.List.{AllByRecursion}
-use Rattle.pgv_value.specs.FrameBinary.{Part, row_bytes, IsField}
+use Rattle.pgv_value.specs.FrameBinary.{Part, row_bytes, FitsLength}
 use Rattle.pgv_value.specs.FrameLaws.{AreBytes}
 use Rattle.pgv_value.specs.declared.error.CodecError.TheVariants.{FieldCount, WrongLength}
 use Rattle.pgv_value.specs.Fronts.{u16_front, one_part}
@@ -20,7 +20,7 @@ pub record IsDataRow (width : ℕ) (bytes : List ℕ) (row : List Part) : Type 0
   pub whole : bytes ≡ row_bytes row
   pub wide : length row ≡ width
   pub width_fits : width < 2 ^ 16
-  pub each : AllByRecursion IsField row
+  pub each : AllByRecursion FitsLength row
 
 -- ---- how it is read
 

@@ -446,6 +446,8 @@ impl<T: ColumnTuple> FromRow for T {
     ghost in_one_pass = { T.List.in_one_pass 0 };
 }
 
+// The impls below are written by tools/tuples.
+
 /// The first column.
 impl<A: Type + Decode> ColumnTuple for (A,) {
     type List = (A,);

@@ -14,6 +14,7 @@ use Rattle.pgv_types.specs.Ty.{Ty}
 use Rattle.pgv_types.specs.Facts.{display_of}
 use Rattle.pgv_types.specs.declared.oid.Oid.{Oid}
 use Rattle.pgv_buf.specs.Tokens.{bytes, be4, blank, shown, hole_count, hole_types_of}
+use Rattle.pgv_value.specs.FrameBinary.{null_length}
 use Rattle.pgv_value.specs.Codes.{code_of}
 use Rattle.pgv_value.specs.ValueView.{Given}
 use Rattle.pgv_value.specs.declared.error.CodecError.{CodecError}
@@ -58,7 +59,7 @@ AddsText row text was answer now = AddsLine (row.value InText (Some text)) (row.
 
 -- null, which every TYPE has
 abbrev pub AddsNull : LineType → State → List ℕ → State → Type 0
-AddsNull row was answer now = AddsLine (Some (row.info, bytes (be4 4294967295))) None was answer now
+AddsNull row was answer now = AddsLine (Some (row.info, bytes (be4 null_length))) None was answer now
 
 -- the display names, with one space before each
 abbrev pub names_after : List Ty → List ℕ

@@ -9,7 +9,7 @@ use Rattle.std.proofs.lemmas.List.Quantifiers.{position-Some}
 use Rattle.std.proofs.lemmas.Nat.{be_bytes_2, from_be_bytes-to_be_bytes_2}
 use Rattle.std.proofs.lemmas.Option.{same_Some}
 use Rattle.std.proofs.Math.Facts.{sfits_to_z, Fits-of_z, of_z-to_z, to_z-of_z}
-use Rattle.pgv_value.specs.FrameBinary.{Part, IsFrame, front, frame_fault, field_bytes, IsField}
+use Rattle.pgv_value.specs.FrameBinary.{Part, IsFrame, front, frame_fault, field_bytes, FitsLength}
 use Rattle.pgv_value.specs.FrameLaws.{AreBytes}
 use Rattle.pgv_value.specs.ReadingSteps.{number, signed_two}
 use Rattle.pgv_value.specs.Text.{is_utf8}
@@ -167,22 +167,22 @@ format_is code f e = format_by _ _ code f refl refl e
 
 -- ---- frames
 
-pub framed : (part : Part) (rest : List ℕ) → IsField part → IsFrame (field_bytes part ++ rest) part rest
+pub framed : (part : Part) (rest : List ℕ) → FitsLength part → IsFrame (field_bytes part ++ rest) part rest
 framed None rest h = refl
 framed (Some part) rest h = (h, append_assoc (to_be_bytes w32 (length part)) part rest)
 
-pub frame_bytes : (bytes : List ℕ) (part : Part) (rest : List ℕ) → IsFrame bytes part rest → IsField part × (bytes ≡ field_bytes part ++ rest)
+pub frame_bytes : (bytes : List ℕ) (part : Part) (rest : List ℕ) → IsFrame bytes part rest → FitsLength part × (bytes ≡ field_bytes part ++ rest)
 frame_bytes bytes None rest e = (tt, e)
 frame_bytes bytes (Some part) rest e = (e.0, e.1 ∙ sym (append_assoc (to_be_bytes w32 (length part)) part rest))
 
 -- a part is read exactly from its frame
-pub reads_part : ReadsOne IsField field_bytes one_part
+pub reads_part : ReadsOne FitsLength field_bytes one_part
 reads_part bytes part rest h = (to, from)
   where
-    to : (one_part bytes).answer ≡ Ok (part, rest) → IsField part × (bytes ≡ field_bytes part ++ rest)
+    to : (one_part bytes).answer ≡ Ok (part, rest) → FitsLength part × (bytes ≡ field_bytes part ++ rest)
     to e = frame_bytes bytes part rest ((front_exactly bytes part rest h).0 (found_or (front bytes) (frame_fault bytes) (part, rest) (stated_is (part_front bytes) (part, rest) e)))
 
-    from : IsField part × (bytes ≡ field_bytes part ++ rest) → (one_part bytes).answer ≡ Ok (part, rest)
+    from : FitsLength part × (bytes ≡ field_bytes part ++ rest) → (one_part bytes).answer ≡ Ok (part, rest)
     from s =
         let found : front bytes ≡ Some (part, rest) = ap front s.1 ∙ frame_in_front (field_bytes part ++ rest) part rest (framed part rest s.0) in
         rw found refl

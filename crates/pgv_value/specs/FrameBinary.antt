@@ -10,6 +10,14 @@ use Rattle.pgv_value.specs.declared.error.CodecError.TheVariants.{Short, Negativ
 abbrev pub Part : Type 0
 Part = Option (List ℕ)
 
+-- the length that means null: -1
+abbrev pub null_length : ℕ
+null_length = 4294967295
+
+-- the largest length of a part, and the largest number of elements, of pairs and of bits
+abbrev pub max_length : ℕ
+max_length = 2147483647
+
 -- the bytes are a frame of a part, followed by a rest
 abbrev pub IsFrame : List ℕ → Part → List ℕ → Type 0
 IsFrame bytes None rest = bytes ≡ 255 ∷ 255 ∷ 255 ∷ 255 ∷ rest
@@ -17,7 +25,7 @@ IsFrame bytes (Some part) rest = (length part < 2 ^ 31) × (bytes ≡ to_be_byte
 
 -- the frame of a part: a length and that many bytes, or for null the length -1
 abbrev pub field_bytes : Part → List ℕ
-field_bytes None = to_be_bytes w32 4294967295
+field_bytes None = to_be_bytes w32 null_length
 field_bytes (Some part) = to_be_bytes w32 (length part) ++ part
 
 -- a row: the number of its parts, and their frames
@@ -25,9 +33,9 @@ abbrev pub row_bytes : List Part → List ℕ
 row_bytes row = to_be_bytes w16 (length row) ++ flat_map field_bytes row
 
 -- a part's length fits its four bytes
-abbrev pub IsField : Part → Type 0
-IsField None = ⊤
-IsField (Some part) = length part < 2 ^ 31
+abbrev pub FitsLength : Part → Type 0
+FitsLength None = ⊤
+FitsLength (Some part) = length part < 2 ^ 31
 
 -- the length that is in front
 abbrev pub front_length : List ℕ → ℕ
@@ -37,8 +45,8 @@ front_length bytes = from_be_bytes w32 (take 4 bytes)
 unfoldable pub front : List ℕ → Option (Part × List ℕ)
 front bytes =
     if nat_lt (length bytes) 4 then None else
-    if front_length bytes == 4294967295 then Some (None, drop 4 bytes) else
-    if nat_lt 2147483647 (front_length bytes) then None else
+    if front_length bytes == null_length then Some (None, drop 4 bytes) else
+    if nat_lt max_length (front_length bytes) then None else
     if nat_lt (length (drop 4 bytes)) (front_length bytes) then None else
     Some (Some (take (front_length bytes) (drop 4 bytes)), drop (front_length bytes) (drop 4 bytes))
 
@@ -52,5 +60,5 @@ pub record IsPartOfLength (bytes : List ℕ) (size : ℕ) (part rest : List ℕ)
 abbrev pub frame_fault : List ℕ → CodecError
 frame_fault bytes =
     if nat_lt (length bytes) 4 then Short else
-    if nat_lt 2147483647 (front_length bytes) then NegativeLength (cast_signed w32 (front_length bytes)) else
+    if nat_lt max_length (front_length bytes) then NegativeLength (cast_signed w32 (front_length bytes)) else
     Short

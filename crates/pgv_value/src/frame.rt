@@ -3,15 +3,15 @@
 ghost use Rattle.std.specs.Prelude.{◌≡◌, ◌≢◌, ◌+◌, ◌<◌, ◌≤◌, length, MatchOption};
 ghost use Rattle.std.specs.Int.{w32, to_be_bytes};
 ghost use Rattle.std.specs.Option.{option_copied};
-ghost use Rattle.pgv_value.specs.FrameBinary.{front, frame_fault, front_length, IsPartOfLength};
+ghost use Rattle.pgv_value.specs.FrameBinary.{front, frame_fault, front_length, max_length, IsPartOfLength};
 ghost use Rattle.pgv_value.specs.Parsed.{GivesFront, GivesOr};
 
 use crate::error::CodecError;
 
-/// The length that means null.
-const NULL_LENGTH: u32 = 0xffff_ffff;
-/// The largest length of a part.
-const MAX_LENGTH: u32 = 0x7fff_ffff;
+/// The length that means null: -1, as an unsigned number.
+pub const NULL_LENGTH: u32 = 0xffff_ffff;
+/// The largest length of a part, and the largest number of elements, of pairs or of bits: 2147483647.
+pub const MAX_LENGTH: u32 = 0x7fff_ffff;
 
 /// The part of the frame in front, null or bytes, and the rest: of `0000000161ff` it is `61`, and the rest is `ff`.
 /// Bytes that end too early are refused with [`Short`](CodecError::Short) (C15), and a negative length but -1, which is
@@ -72,8 +72,8 @@ fn length_in_front(bytes: &[u8]) -> u32
 /// before that is asked: where LLVM knows that the highest bit is 0, it takes five instructions in place of one.
 #[inline(always)]
 pub fn length_bytes(length: usize) -> Option<[u8; 4]>
-    ensures { MatchOption result (2147483647 < length)
-        (λ bytes. (length ≤ 2147483647) × (bytes ≡ to_be_bytes w32 length)) }
+    ensures { MatchOption result (max_length < length)
+        (λ bytes. (length ≤ max_length) × (bytes ≡ to_be_bytes w32 length)) }
 {
     let turned = ((length % 0x1_0000_0000) as u32).swap_bytes();
     if length > MAX_LENGTH as usize {

@@ -11,7 +11,7 @@ pub mod tree_error;
 pub mod value;
 
 pub use error::CodecError;
-pub use frame::{length_bytes, part_in_front, part_of_length};
+pub use frame::{MAX_LENGTH, NULL_LENGTH, length_bytes, part_in_front, part_of_length};
 pub use front::{
     i16_in_front, name_in_front, number_of_eight, number_of_four, u16_in_front, u32_in_front,
 };

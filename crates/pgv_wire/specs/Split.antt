@@ -3,6 +3,7 @@ use Rattle.std.specs.Prelude.{ℕ, ◌+◌, ◌-◌, nat_le, ◌==◌, if◌then
 use Rattle.std.specs.Int.{w32, from_be_bytes}
 use Rattle.pgv_types.specs.Ty.{Ty}
 use Rattle.pgv_buf.specs.Tokens.{Cell, cell_width, shown}
+use Rattle.pgv_value.specs.FrameBinary.{null_length}
 use Rattle.pgv_wire.specs.Arguments.{Argument}
 
 -- the cells in front that are n bytes, and then those without bytes
@@ -17,7 +18,7 @@ after_wide w (t ∷ ts) = if nat_le (cell_width t) w then after_wide (w - cell_w
 
 -- a frame's bytes: four for its length, and as many as this says; the length -1 is null's
 abbrev pub bytes_by_length : ℕ → ℕ
-bytes_by_length n = if n == 4294967295 then 4 else 4 + n
+bytes_by_length n = if n == null_length then 4 else 4 + n
 
 -- the bytes of the frame in front
 abbrev pub frame_width : List Cell → ℕ

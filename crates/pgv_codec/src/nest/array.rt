@@ -9,10 +9,7 @@ ghost use Rattle.pgv_codec.specs.ArrayGrammar.{element_type, head, one_dimension
 ghost use Rattle.pgv_codec.specs.HeadsView.{head_shown};
 
 use pgv_types::{Oid, PgTypeInfo, PgTypeRef};
-use pgv_value::{CodecError, u32_in_front};
-
-/// The largest number of elements.
-const MAX_COUNT: u32 = 0x7fff_ffff;
+use pgv_value::{CodecError, MAX_LENGTH, u32_in_front};
 
 /// What comes before the frames of an array's elements, and these frames.
 #[derive(Drop)]
@@ -61,7 +58,7 @@ fn one_dimension_of<'a>(
     let (oid, rest) = u32_in_front(rest)?;
     let element = element_type_of(type_info, Oid(oid))?;
     let (count, rest) = u32_in_front(rest)?;
-    if count > MAX_COUNT {
+    if count > MAX_LENGTH {
         return Err(CodecError::NegativeLength(count.cast_signed()));
     }
     let (lower_bound, frames) = u32_in_front(rest)?;

@@ -18,12 +18,12 @@ ghost use Rattle.pgv_codec.specs.Back.{ArrayFits};
 ghost use Rattle.pgv_codec.specs.BackNests.{vec_back, sized_back};
 
 use super::part::read_part;
-use crate::buffer::{IsNull, LENGTH_LIMIT, PgArgumentBuffer};
+use crate::buffer::{IsNull, PgArgumentBuffer};
 use crate::nest::array_head_of;
 use crate::traits::{Codec, Decode, Encode, PgHasArrayType, ReadBack, Type};
 use pgv_text::{Elements, Next, Parts, TextForm};
 use pgv_types::PgTypeInfo;
-use pgv_value::{CodecError, PgValueFormat, PgValueRef, part_of_length};
+use pgv_value::{CodecError, MAX_LENGTH, PgValueFormat, PgValueRef, part_of_length};
 use std::alloc::{AllocError, Global};
 
 /// Appends the elements as an array of one dimension, for a caller's own encoder. More than 2147483647 are refused with
@@ -39,7 +39,7 @@ pub fn encode_array<T: Encode + Type>(
     ensures appended { OnErr result (Extends out.old out.new) }
 {
     let count = values.len();
-    if count > LENGTH_LIMIT {
+    if count > MAX_LENGTH as usize {
         return Err(CodecError::ArrayLength(count));
     }
     let element = type_of_elements(values)?;

@@ -12,6 +12,8 @@ use pgv_types::{PgType, PgTypeInfo};
 use pgv_value::{CodecError, PgValueRef};
 use std::alloc::Global;
 
+// The impls below are written by tools/tuples.
+
 /// The first field of a record. Further fields are ignored. `00000001 00000017 00000004 00000007` is `(7,)`, and so is
 /// the text `(7)`.
 impl<A: Type + Decode> Decode for (A,) {

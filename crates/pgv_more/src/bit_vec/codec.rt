@@ -12,7 +12,7 @@ ghost use Rattle.pgv_codec.specs.Encoding.{with_hint};
 use super::BitVec;
 use pgv_codec::{Encode, IsNull, PgArgumentBuffer, PgHasArrayType, Plain, Type};
 use pgv_types::{PgType, PgTypeInfo};
-use pgv_value::{CodecError, PgValueFormat, PgValueRef, u32_in_front};
+use pgv_value::{CodecError, MAX_LENGTH, PgValueFormat, PgValueRef, u32_in_front};
 use std::alloc::{AllocError, Global};
 
 /// `varbit` (OID 1562), read under `bit`, `varbit` and domains over one of them.
@@ -77,7 +77,7 @@ fn read_binary(alloc: Global, form: &[u8]) -> Result<BitVec, CodecError>
     ensures { Gives (λ bits. bits) (copied (bits_in_binary form.now)) result }
 {
     let (count, body) = u32_in_front(form)?;
-    if count > 2147483647 {
+    if count > MAX_LENGTH {
         return Err(CodecError::NegativeLength(count.cast_signed()));
     }
     let count = count as usize;

@@ -12,15 +12,12 @@ ghost use Rattle.pgv_more.specs.Hstore.{Pair, pair_of, pairs_of, hstore_image, h
 use super::{PgHstore, put_pair};
 use pgv_codec::{Encode, IsNull, PgArgumentBuffer, PgHasArrayType, Plain, Type};
 use pgv_types::PgTypeInfo;
-use pgv_value::{CodecError, PgValueFormat, PgValueRef, length_bytes, part_in_front, u32_in_front};
+use pgv_value::{
+    CodecError, MAX_LENGTH, NULL_LENGTH, PgValueFormat, PgValueRef, length_bytes, part_in_front,
+    u32_in_front,
+};
 use std::alloc::{AllocError, Global};
 use std::collections::BTreeMap;
-
-/// The largest number of pairs, and the largest length of a key or a value.
-const LENGTH_LIMIT: usize = 2_147_483_647;
-
-/// The length of null.
-const NULL_LENGTH: u32 = 0xffff_ffff;
 
 /// `hstore`, of which only the name is known.
 impl Type for PgHstore {
@@ -196,7 +193,7 @@ fn of_bytes(alloc: Global, form: &[u8]) -> Result<PgHstore, CodecError>
     ensures { Gives pairs_of (hstore_in_binary form.now) result }
 {
     let (count, rest) = u32_in_front(form)?;
-    if count as usize > LENGTH_LIMIT {
+    if count > MAX_LENGTH {
         return Err(CodecError::HstoreLength(count.cast_signed() as i64));
     }
     read_pairs(alloc, count, rest)

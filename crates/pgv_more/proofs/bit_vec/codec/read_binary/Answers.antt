@@ -35,5 +35,5 @@ pub returns-in_err-from_packed : goal.returns-in_err-from_packed
 returns-in_err-from_packed c =
     let p = err_from_is_err_and c.from_residual-in_err-from_packed.result c.from_residual-in_err-from_packed.ensures.1 in
     let some : 0 < c.in_ok-count.count = omega (arith, c.in_err-from_packed.ensures) in
-    let asked = some_bits c.args.form.now c.in_ok-count.body.now c.in_ok-count.count c.in_ok-count.ensures.exact some c.if-count-gt2147483647.false (omega (arith, c.if-body-div_ceil.false, c.div_ceil.ensures)) in
+    let asked = some_bits c.args.form.now c.in_ok-count.body.now c.in_ok-count.count c.in_ok-count.ensures.exact some c.if-count-gt-MAX_LENGTH.false (omega (arith, c.if-body-div_ceil.false, c.div_ceil.ensures)) in
     rw (p.1, p.2) (inr (inr (refl, asked)))
