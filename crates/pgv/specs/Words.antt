@@ -23,6 +23,8 @@ pub use Rattle.pgv_buf.specs.Tokens.{blank, shown}
 -- `Some (part, rest)`, or `None`; `value_front type format bytes` is it as a value: `Ok (value, rest)`, or `Err` why
 -- there is none.
 pub use Rattle.pgv_value.specs.FrameBinary.{Part, front}
+-- `max_length` is the largest length, and `null_length` the one that means null.
+pub use Rattle.pgv_value.specs.FrameBinary.{max_length, null_length}
 pub use Rattle.pgv_value.specs.Fronts.{value_front}
 pub use Rattle.pgv_value.specs.declared.value.PgValueFormat.{PgValueFormat}
 pub use Rattle.pgv_value.specs.declared.value.PgValueFormat.TheVariants.{Binary, Text}
@@ -76,33 +78,21 @@ pub use Rattle.pgv_wire.specs.Given.{ArgumentReadsBack}
 -- where the last field of a composite fits, `FieldsFit` where one and those after it do; `Followed` and `FieldIsPlain`
 -- say so in plain words.
 pub use Rattle.pgv_codec.specs.Back.{ReadsBack, always, FieldFits, FieldsFit, Followed}
--- Steps of such a proof: what is written has an image (`image_is`), a value that has one has passed the test before it
--- (`guarded`), and bytes are written as they are (`part_is`, `write-bytes`); what has a reading was parsed
--- (`parsed_as`). Then the law for `i32`, `i64` and `String`.
-pub use Rattle.pgv_codec.specs.Back.{image_is}
-pub use Rattle.pgv_codec.specs.BackParts.{guarded, write-bytes}
-pub use Rattle.pgv_codec.specs.BackScalars.{part_is, parsed_as, int4_back, int8_back, text_back}
--- The three steps for a composite.
-pub use Rattle.pgv_codec.specs.BackRecords.{further_back, last_back, record_back}
 pub use Rattle.pgv_codec.specs.PlainFit.{FieldIsPlain}
 -- `written_part i p oids` is the part that an image is written as, and `write p oids tokens` the bytes of tokens.
 -- `ImageFits i`: each case of a slot has as many bytes as its default.
 pub use Rattle.pgv_codec.specs.Writing.{write, written_part}
 pub use Rattle.pgv_codec.specs.Back.{ImageFits}
--- A text of ASCII alone is UTF-8.
-pub use Rattle.pgv_ltree.specs.Ascii.{are_ascii, ascii_is_utf8}
+-- `are_ascii text`: it is of ASCII alone.
+pub use Rattle.pgv_ltree.specs.Ascii.{are_ascii}
 -- Of an enum: `labelled rows label` is the value that a table of labels gives to a label, and `are_labels rows` says
 -- that its labels are UTF-8. `label_written label` is what is written of a label, and `parse_label label_of rows` how
 -- one is read.
 pub use Rattle.pgv_user_types.specs.EnumLabels.{labelled, are_labels, label_written, parse_label}
 -- What a plain type of one's own says of itself: its types, what is written of a value, what is read, and two proofs.
 pub use Rattle.pgv_user_types.specs.Plains.{PlainRules}
--- The law for `PgLTree`, and what comes back of a tree.
-pub use Rattle.pgv_ltree.specs.TreesBack.{tree_back, tree_kept}
--- For a record that is written field by field, one `more_fields` for each.
-pub use Rattle.pgv_codec.specs.Fields.{no_fields, more_fields, all_fields}
--- A field that is plain fits.
-pub use Rattle.pgv_codec.proofs.PlainFits.{field_fits}
+-- What comes back of a tree.
+pub use Rattle.pgv_ltree.specs.TreeBackLemmas.{tree_kept}
 -- `capacity room` is how many columns a row in this room may have before it asks for memory.
 pub use Rattle.pgv_row.specs.RowParts.{capacity}
 -- Why a column of a row was not read: `NotFound index place`, or `Decode index place source`.

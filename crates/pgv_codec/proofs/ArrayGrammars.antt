@@ -6,7 +6,7 @@ use Rattle.std.proofs.lemmas.Grind.{common_steps}
 use Rattle.pgv_value.specs.FrameBinary.{Part, front}
 use Rattle.pgv_types.specs.Ty.{Ty}
 use Rattle.pgv_codec.specs.ArrayGrammar.{parse_frames, element_type, Head, one_dimension, head, elements, elements_after, array_in_binary}
-use Rattle.pgv_codec.specs.Found.{frames_there, array_there}
+use Rattle.pgv_codec.specs.FoundLemmas.{frames_there, array_there}
 use Rattle.pgv_codec.specs.NestBinary.{FewElements, BeginWithFrames, IsArray, ArrayIsItsElements, OneArray}
 use Rattle.pgv_value.specs.Fronts.{value_front, u32_front}
 use Rattle.pgv_value.specs.Outcome.{Outcome, done, fails, ◌>>=◌}

@@ -5,7 +5,7 @@ use Rattle.pgv_buf.specs.declared.Mark.{Mark}
 use Rattle.pgv_buf.specs.Tokens.{Token, Cell, bytes, be4, blank, fixed_bytes, width, hole_count, slot_count}
 use Rattle.pgv_buf.specs.Blank.{blank-append, plain-blank}
 use Rattle.pgv_buf.specs.Marks.{mark_of}
-use Rattle.pgv_codec.specs.TokenFronts.{front_is, rest_after_is}
+use Rattle.pgv_codec.specs.TokenLemmas.{front_is, rest_after_is}
 use Rattle.pgv_value.specs.Outcome.{Outcome, Fails}
 use Rattle.pgv_value.specs.declared.error.CodecError.TheVariants.{FieldCount}
 use Rattle.pgv_codec.specs.Encoding.{counted_field}

@@ -13,7 +13,7 @@ use Rattle.jiff_core.specs.Timestamp.{IsTimestampNanos}
 use Rattle.jiff_core.proofs.DateTimeLemmas.{time_nanos_bound}
 use Rattle.pgv_value.specs.DateTimeBinary.{first_nanosecond, nanos_after}
 use Rattle.pgv_codec.specs.DateTimeImage.{micros_of}
-use Rattle.pgv_codec.specs.DateTimeFound.{is_found}
+use Rattle.pgv_codec.specs.DateTimeLemmas.{is_found}
 use Rattle.pgv_codec.specs.TimeOfDay.{time_of, time_nanos-time_of, whole_micros, cut_fits}
 
 -- ---- a time

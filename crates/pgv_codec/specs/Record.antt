@@ -6,7 +6,7 @@ use Rattle.pgv_buf.specs.Marks.{mark_of}
 use Rattle.pgv_value.specs.Outcome.{Outcome, Fails}
 use Rattle.pgv_value.specs.declared.error.CodecError.{CodecError}
 use Rattle.pgv_codec.specs.Encoding.{fields_from}
-use Rattle.pgv_codec.specs.TokenFronts.{front_of, cells_after}
+use Rattle.pgv_codec.specs.TokenLemmas.{front_of, cells_after}
 
 -- what stood before it, how many fields it has, and these
 pub record RecordWriting : Type 0 where

@@ -3,7 +3,7 @@ use Rattle.std.specs.Prelude.{◌≡◌, List, [], ◌∷◌, ◌++◌, refl}
 use Rattle.std.proofs.Common.{sym, subst, append_assoc}
 use Rattle.std.proofs.lemmas.List.{append-nil}
 use Rattle.pgv_buf.specs.Tokens.{Token, Cell}
-use Rattle.pgv_codec.specs.Fields.{HasFields, no_fields, more_fields, all_fields}
+use Rattle.pgv_codec.specs.FieldLemmas.{HasFields, no_fields, more_fields, all_fields}
 use Rattle.pgv_codec.specs.Encoding.{counted_field, record_image}
 use Rattle.pgv_value.specs.Outcome.{Outcome}
 use Rattle.pgv_codec.specs.Appending.{Encoded}

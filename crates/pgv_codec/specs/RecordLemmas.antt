@@ -16,7 +16,7 @@ use Rattle.pgv_value.specs.declared.value.PgValueFormat.TheVariants.{Binary}
 use Rattle.pgv_value.proofs.Numbers.{number_of_four, bytes_after, after_four, after_frame}
 use Rattle.pgv_value.proofs.Outcomes.{answer_is, answers_are, taken, taken_exactly, tested, found_or, stated_is}
 use Rattle.pgv_value.proofs.ValueFronts.{u32_is, u32_splits, value_is}
-use Rattle.pgv_codec.specs.Found.{field_type_there, field_there, next_there}
+use Rattle.pgv_codec.specs.FoundLemmas.{field_type_there, field_there, next_there}
 use Rattle.pgv_codec.specs.NestBinary.{FindExactly, HasFieldType, of_record, of_custom_record, of_composite, of_domain, Stretch, IsRecordField, ◌and◌, RecordIsItsFields, FieldIsItsValue, OneField, RecordBegins}
 use Rattle.pgv_codec.specs.RecordGrammar.{field_at, composite_field, field_type, field_type_in, field_head, field_in_binary, Left, binary_fields, next_field, begin_fields, parse_record, ◌then◌}
 

@@ -157,14 +157,14 @@ pub fn field_reads_back<T: ReadBack + Type>()
 {}
 
 /// The fields of a written record follow its first four bytes, one after another.
-#[tactic(auto, using(crate::specs::BackRecords::fields_back))]
+#[tactic(auto, using(crate::specs::RecordBackLemmas::fields_back))]
 pub fn record_fields_follow()
     ensures { RecordFieldsFollow }
 {}
 
 /// A tuple of the first fields of a written record, as a list ([`tuple_is_its_list`]), is read back from it under each
 /// type that these fields fit, each with the OIDs that those before it leave.
-#[tactic(auto, using(crate::specs::BackRecords::record_back))]
+#[tactic(auto, using(crate::specs::RecordBackLemmas::record_back))]
 pub fn tuple_reads_back<Fields: KeptList>()
     ensures { (fields : Fields) (further : List (Outcome (List Token)))
         → RecordReadsBack (reading_of (parse_record Fields.step)) (Fields.fields fields ++ further)

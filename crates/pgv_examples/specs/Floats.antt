@@ -1,7 +1,8 @@
 -- Numbers of float8 by their bits: eight bytes in binary, read as an int8 is, and no text.
 use Rattle.std.specs.Prelude.{◌≡◌, ◌==◌, ℤ, if◌then◌else◌, List, ℕ, length, Some, Err, refl}
 use Rattle.std.specs.Int.{w64, cast_unsigned, to_be_bytes}
-use Rattle.pgv.specs.Words.{Binary, Given, Parsed, PlainRules, ReadsBack, WrongLength, always, binary_alone, builtin, guarded, image_is, int_in_binary, int8_back, parse_int, part_is, plainly, reading_of, text_image, signed_image, softly, without_memory, writes, written_part}
+use Rattle.pgv.specs.Words.{Binary, Given, Parsed, PlainRules, ReadsBack, WrongLength, always, binary_alone, builtin, int_in_binary, parse_int, plainly, reading_of, text_image, signed_image, softly, without_memory, writes, written_part}
+use Rattle.pgv.specs.Lemmas.{guarded, image_is, int8_back, part_is}
 use Rattle.pgv_examples.specs.declared.float8.Float8.{Float8}
 
 -- another number of bytes is C17

@@ -2,7 +2,8 @@
 use Rattle.std.specs.Prelude.{◌≡◌, ◌==◌, ◌||◌, ℕ, Bool, true, false, if◌then◌else◌, List, [], ◌∷◌, ◌++◌, Option, Some, None, refl, string_bytes}
 use Rattle.std.proofs.Common.{sym, ap, ◌∙◌, subst}
 use Rattle.std.proofs.lemmas.Option.{same_Some}
-use Rattle.pgv.specs.Words.{Ty, builtin, softly, Token, slot, bytes, Image, ImageFits, Given, Outcome, Part, Binary, PlainRules, ReadsBack, always, copied, image_of, parse_text, part_is, plainly, reading_of, text_back, utf8_part, write, write-bytes, writes, written_part}
+use Rattle.pgv.specs.Words.{Ty, builtin, softly, Token, slot, bytes, Image, ImageFits, Given, Outcome, Part, Binary, PlainRules, ReadsBack, always, copied, image_of, parse_text, plainly, reading_of, utf8_part, write, writes, written_part}
+use Rattle.pgv.specs.Lemmas.{part_is, text_back, write-bytes}
 use Rattle.pgv_examples.specs.declared.json.Json.{Json}
 
 -- the version where the parameter is jsonb, and else a space; and the text

@@ -1,7 +1,8 @@
 -- Shares in percent: numbers of int4 from 0 to 100.
 use Rattle.std.specs.Prelude.{◌≡◌, Bool, true, false, not, ◌&&◌, ℤ, pos, int_le, Some, Ok, Err, if◌then◌else◌, refl}
 use Rattle.std.specs.Int.{w32}
-use Rattle.pgv.specs.Words.{Caller, Given, Image, Outcome, Parsed, ◌>>=◌, PlainRules, ReadsBack, always, builtin, ok_of, plainly, signed_image, int4_back, parse_int, parsed_as, reading_of, softly, without_memory, writes}
+use Rattle.pgv.specs.Words.{Caller, Given, Image, Outcome, Parsed, ◌>>=◌, PlainRules, ReadsBack, always, builtin, ok_of, plainly, signed_image, parse_int, reading_of, softly, without_memory, writes}
+use Rattle.pgv.specs.Lemmas.{int4_back, parsed_as}
 use Rattle.pgv.specs.Steps.{fails_if, ◌>>◌}
 use Rattle.pgv_examples.specs.declared.percent.Percent.{Percent}
 

@@ -7,11 +7,11 @@ use Rattle.std.proofs.lemmas.Bool.{eqb-true, false≢true, ltb-true, and_parts}
 use Rattle.std.proofs.lemmas.Option.{same_Some}
 use Rattle.pgv_value.specs.declared.tree_error.PgLQueryParseError.{PgLQueryParseError}
 use Rattle.pgv_value.specs.declared.tree_error.PgLQueryParseError.TheVariants.{ParseIntError, UnexpectedCharacter}
-use Rattle.pgv_ltree.specs.Joins.{lacks}
-use Rattle.pgv_ltree.specs.CountAgain.{bound_there, count_there, digits_lack}
+use Rattle.pgv_ltree.specs.JoinLemmas.{lacks}
+use Rattle.pgv_ltree.specs.CountLemmas.{bound_there, count_there, digits_lack}
 use Rattle.pgv_ltree.specs.Lacking.{before_last_at, lacks-append}
 use Rattle.pgv_ltree.specs.QueryLaws.{LevelIsRead, OneLevel}
-use Rattle.pgv_ltree.specs.LevelAgain.{bounds_there, exact_there, one_there}
+use Rattle.pgv_ltree.specs.LevelLemmas.{bounds_there, exact_there, one_there}
 use Rattle.pgv_ltree.specs.Queries.{Level, star, one_of, none_of}
 use Rattle.pgv_ltree.specs.QueryRead.{before_last, bound_read, count_read, counts_read, cut, inner_read, is_count_text, is_nil, level_read, read_as, star_of, star_read, variants_read}
 use Rattle.pgv_ltree.specs.QueryText.{IsBoundText, IsCountText, IsLevelText, has_mark}

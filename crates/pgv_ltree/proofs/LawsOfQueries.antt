@@ -5,11 +5,11 @@ use Rattle.std.specs.List.{AllZip, join_with_byte, list_all, slice_split}
 use Rattle.std.proofs.lemmas.Bool.{false≢true, lt-ltb, and_from, and_parts}
 use Rattle.std.proofs.lemmas.List.Splits.{join_with_byte-slice_split}
 use Rattle.pgv_value.specs.declared.tree_error.PgLQueryParseError.{PgLQueryParseError}
-use Rattle.pgv_ltree.specs.Joins.{lacks}
+use Rattle.pgv_ltree.specs.JoinLemmas.{lacks}
 use Rattle.pgv_ltree.specs.QueryLaws.{OneQuery, PrintedQueryIsRead, QueryIsRead, ReadQueryIsReadAgain, begins_with_no_star}
-use Rattle.pgv_ltree.specs.LevelAgain.{BeginsPlainly, EachNeeds, NeedsFirst, query_again, query_there}
+use Rattle.pgv_ltree.specs.LevelLemmas.{BeginsPlainly, EachNeeds, NeedsFirst, query_again, query_there}
 use Rattle.pgv_ltree.specs.Queries.{Variant, Level, star, one_of, none_of, is_count, is_level, is_variant, is_query}
-use Rattle.pgv_ltree.specs.QueryBack.{begins_plainly, printed_again}
+use Rattle.pgv_ltree.specs.QueryBackLemmas.{begins_plainly, printed_again}
 use Rattle.pgv_ltree.specs.QueryPrinted.{printed_marks, printed_query, printed_variant}
 use Rattle.pgv_ltree.specs.QueryRead.{is_nil, level_read, query_read}
 use Rattle.pgv_ltree.specs.QueryText.{IsBoundText, IsLevelText, IsQueryText, IsVariantText, has_mark, is_mark}

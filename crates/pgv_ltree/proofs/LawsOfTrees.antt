@@ -9,7 +9,7 @@ use Rattle.pgv_value.specs.declared.tree_error.PgLTreeParseError.TheVariants.{In
 use Rattle.pgv_ltree.specs.TextsInTurn.{read_each}
 use Rattle.pgv_ltree.specs.Labels.{is_label, label_read}
 use Rattle.pgv_ltree.specs.TreeLaws.{OneTree, PrintedTreeIsRead, TreeIsRead}
-use Rattle.pgv_ltree.specs.PrintedAgain.{tree_again}
+use Rattle.pgv_ltree.specs.PrintedLemmas.{tree_again}
 use Rattle.pgv_ltree.specs.Trees.{IsTreeText, parts, printed_tree, tree_read}
 use Rattle.pgv_ltree.proofs.EachRead.{first_of}
 use Rattle.std.specs.Cmp.Lexicographic.{bytes_decides, pointwise_decides}

@@ -6,11 +6,11 @@ use Rattle.std.proofs.lemmas.List.{take-append-drop}
 use Rattle.std.proofs.lemmas.List.Splits.{join_with_byte-slice_split}
 use Rattle.pgv_value.specs.declared.tree_error.PgLQueryParseError.{PgLQueryParseError}
 use Rattle.pgv_ltree.specs.TextsInTurn.{read_each}
-use Rattle.pgv_ltree.specs.Joins.{lacks, split_again}
+use Rattle.pgv_ltree.specs.JoinLemmas.{lacks, split_again}
 use Rattle.pgv_ltree.specs.Labels.{is_label, is_label_char}
 use Rattle.pgv_ltree.specs.QueryLaws.{OneVariant, VariantIsRead}
 use Rattle.pgv_ltree.specs.Lacking.{lacks-joined}
-use Rattle.pgv_ltree.specs.LevelAgain.{variant_lacks, variant_there}
+use Rattle.pgv_ltree.specs.LevelLemmas.{variant_lacks, variant_there}
 use Rattle.pgv_ltree.specs.Queries.{Variant}
 use Rattle.pgv_ltree.specs.QueryRead.{label_length, marked, variant_read, variants_read}
 use Rattle.pgv_ltree.specs.QueryText.{AreVariantsText, IsVariantText, is_mark}

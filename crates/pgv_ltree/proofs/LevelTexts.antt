@@ -7,7 +7,7 @@ use Rattle.std.proofs.lemmas.Bool.{lt-ltb, ltb-true, and_from, and_parts, eq-eqb
 use Rattle.std.proofs.lemmas.Result.{OkIff-at_ok}
 use Rattle.std.proofs.lemmas.Str.Parse.{parse_plain}
 use Rattle.pgv_value.specs.declared.tree_error.PgLQueryParseError.TheVariants.{ParseIntError, Memory}
-use Rattle.pgv_ltree.specs.CountAgain.{own}
+use Rattle.pgv_ltree.specs.CountLemmas.{own}
 use Rattle.pgv_ltree.specs.QueryRead.{count_read, is_count_text, before_last, braced, cut, begins_with_variant, level_allocates, level_read, read_as, variants_read}
 use Rattle.pgv_ltree.specs.Lacking.{before_last_at}
 use Rattle.pgv_value.specs.declared.tree_error.PgLQueryParseError.{PgLQueryParseError}

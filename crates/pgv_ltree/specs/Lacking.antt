@@ -4,7 +4,7 @@ use Rattle.std.specs.List.{join_with_byte, list_all}
 use Rattle.std.proofs.Common.{ap, ◌∙◌}
 use Rattle.std.proofs.lemmas.Bool.{eq-eqb, and_from, not-true, and_parts}
 use Rattle.std.proofs.lemmas.List.Folds.{list_all-append}
-use Rattle.pgv_ltree.specs.Joins.{lacks}
+use Rattle.pgv_ltree.specs.JoinLemmas.{lacks}
 use Rattle.pgv_ltree.specs.QueryRead.{before_last, cut}
 use Rattle.pgv_ltree.specs.QueryText.{has_mark}
 

@@ -2,7 +2,7 @@
 use Rattle.std.specs.Prelude.{◌≡◌, ◌↔◌, ℕ, not, ◌&&◌, Bool, true, List, [], ◌∷◌, Ok}
 use Rattle.std.specs.List.{list_all}
 use Rattle.pgv_ltree.specs.Queries.{Variant, Level, star, one_of, none_of, is_query}
-use Rattle.pgv_ltree.specs.QueryBack.{comes_back}
+use Rattle.pgv_ltree.specs.QueryBackLemmas.{comes_back}
 use Rattle.pgv_ltree.specs.QueryPrinted.{printed_query}
 use Rattle.pgv_ltree.specs.QueryRead.{is_nil, level_read, query_read, variant_read}
 use Rattle.pgv_ltree.specs.QueryText.{IsLevelText, IsQueryText, IsVariantText}

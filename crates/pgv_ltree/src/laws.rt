@@ -7,7 +7,7 @@ ghost use Rattle.pgv_codec.specs.Encoding.{plainly, writes};
 ghost use Rattle.pgv_codec.specs.TypeRow.{FitsAlways, IsCodecRow};
 ghost use Rattle.pgv_ltree.specs.Labels.{is_label};
 ghost use Rattle.pgv_ltree.specs.TreeLaws.{OneTree, PrintedTreeIsRead, TreeIsRead};
-ghost use Rattle.pgv_ltree.specs.TreesBack.{tree_kept};
+ghost use Rattle.pgv_ltree.specs.TreeBackLemmas.{tree_kept};
 ghost use Rattle.pgv_ltree.specs.TreesCodec.{ltree, ltree_array, parse_tree, tree_image};
 
 use pgv_codec::{Decode, Encode, PgHasArrayType, ReadBack, Type};

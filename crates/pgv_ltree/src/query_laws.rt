@@ -11,7 +11,7 @@ ghost use Rattle.pgv_codec.specs.TypeRow.{IsCodecRow};
 ghost use Rattle.pgv_ltree.specs.QueryLaws.{LevelIsRead, OneLevel, OneQuery, OneVariant, PrintedQueryIsRead, QueryIsRead, ReadQueryIsReadAgain, VariantIsRead};
 ghost use Rattle.pgv_ltree.specs.LevelView.{level_of};
 ghost use Rattle.pgv_ltree.specs.Queries.{Level, is_count, is_level, is_query, is_variant};
-ghost use Rattle.pgv_ltree.specs.QueryBack.{query_fits};
+ghost use Rattle.pgv_ltree.specs.QueryBackLemmas.{query_fits};
 ghost use Rattle.pgv_ltree.specs.QueryCodec.{lquery, lquery_array, query_image, parse_query};
 
 use pgv_codec::{Decode, Encode, PgHasArrayType, ReadBack, Type};

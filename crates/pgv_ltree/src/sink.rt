@@ -42,7 +42,7 @@ pub trait Sink {
 
 /// A formatter writes them. What an error leaves is open.
 impl<W: fmt::Write> Sink for fmt::Formatter<W> {
-    ghost use Rattle.pgv_ltree.specs.Sinks.{written_none, written_both};
+    ghost use Rattle.pgv_ltree.specs.SinkLemmas.{written_none, written_both};
 
     type Error = fmt::Error;
 
@@ -67,7 +67,7 @@ impl<W: fmt::Write> Sink for fmt::Formatter<W> {
 /// The buffer appends them. An error is out of memory (C1); the old bytes stay, and more may come after them.
 impl Sink for PgArgumentBuffer {
     ghost use Rattle.pgv_codec.specs.PlainBytes.{appended_parts};
-    ghost use Rattle.pgv_ltree.specs.Sinks.{appended_none, appended_after};
+    ghost use Rattle.pgv_ltree.specs.SinkLemmas.{appended_none, appended_after};
 
     type Error = CodecError;
 

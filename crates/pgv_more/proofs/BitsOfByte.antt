@@ -8,7 +8,7 @@ use Rattle.std.proofs.lemmas.Nat.Bits.{ones_shl, and_high_mask}
 use Rattle.std.proofs.lemmas.List.{get_or_append_left, get_or-append-add}
 use Rattle.std.proofs.Math.Pow.{shr_mod}
 use Rattle.pgv_more.specs.Bits.{low_bits, bits_of, number_of}
-use Rattle.pgv_more.specs.Packing.{length-low_bits, number_of-push, number_of-short, front_number}
+use Rattle.pgv_more.specs.PackingLemmas.{length-low_bits, number_of-push, number_of-short, front_number}
 
 mask : (place : ℕ) → place < 8 → 128 / 2 ^ place ≡ 2 ^ (7 - place)
 mask place l =

@@ -16,7 +16,7 @@ use Rattle.pgv_more.proofs.BitsOfByte.{bit_there}
 use Rattle.std.specs.Prelude.{map, min, Option, Some, slice_get, option_to_list, IsSome, nat_lt, ◌↔◌}
 use Rattle.std.proofs.lemmas.Option.{slice_get-get_or}
 use Rattle.pgv_more.specs.Bits.{low_bits, bits_of, number_of, byte_count, bytes_of, packed}
-use Rattle.pgv_more.specs.Packing.{length-bits_of, length-bytes_of, packed_again, bytes_of-append, bytes_of-split, bytes_of-bits_of, number_of-take, AreByteNumbers, length-low_bits, bits_of-append}
+use Rattle.pgv_more.specs.PackingLemmas.{length-bits_of, length-bytes_of, packed_again, bytes_of-append, bytes_of-split, bytes_of-bits_of, number_of-take, AreByteNumbers, length-low_bits, bits_of-append}
 use Rattle.std.proofs.lemmas.Bool.{le-ltb}
 use Rattle.pgv_buf.specs.Tokens.{Token, Cell, bytes, be4, blank}
 use Rattle.pgv_codec.specs.Encoding.{image_of}

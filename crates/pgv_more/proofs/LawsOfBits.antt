@@ -16,9 +16,9 @@ use Rattle.pgv_value.proofs.Outcomes.{ok_is}
 use Rattle.pgv_more.specs.Bits.{bits_of, byte_count, bytes_of, packed}
 use Rattle.pgv_more.specs.BitsBinary.{IsBits, BitsAreRead, OneListOfBits, bits_in_binary, bit_count}
 use Rattle.pgv_more.specs.BitsText.{BitsAreReadOfText, digit_of, is_bit_digit, is_one}
-use Rattle.pgv_more.specs.BitsBack.{binary_there}
+use Rattle.pgv_more.specs.BitsBackLemmas.{binary_there}
 use Rattle.pgv_more.specs.PackedBits.{PackedIsOne}
-use Rattle.pgv_more.specs.Packing.{AreByteNumbers, length-bits_of, number_of-lt, bytes_of-bits_of, bits_of-bytes_of, fill}
+use Rattle.pgv_more.specs.PackingLemmas.{AreByteNumbers, length-bits_of, number_of-lt, bytes_of-bits_of, bits_of-bytes_of, fill}
 
 numbers : (bytes : List ℕ) → AreBytes bytes → AreByteNumbers bytes
 numbers [] small i = omega arith

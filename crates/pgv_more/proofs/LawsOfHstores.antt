@@ -21,7 +21,7 @@ use Rattle.pgv_value.specs.declared.error.CodecError.TheVariants.{HstoreLength, 
 use Rattle.pgv_value.proofs.Numbers.{number_is, bytes_after, after_four}
 use Rattle.pgv_value.proofs.Outcomes.{answer_is, answers_are, ok_is, held, taken, taken_exactly, tested, found_or}
 use Rattle.pgv_more.specs.Hstore.{Pair, order, part_form, pair_form, text_at, as_key, as_value, key_at, map_value, pairs, put_all, put_read, hstore_in_binary}
-use Rattle.pgv_more.specs.HstoreBack.{IsText, IsMapValue, AreMapPairs, hstore_there}
+use Rattle.pgv_more.specs.HstoreBackLemmas.{IsText, IsMapValue, AreMapPairs, hstore_there}
 use Rattle.pgv_more.specs.HstoreLaws.{last_value, IsMapOf, IsHstore, HstoreIsRead, OneHstore}
 
 -- ---- a key, a value and a pair that are read stand there

@@ -7,7 +7,7 @@ use Rattle.std.specs.Char.{digit_value}
 use Rattle.std.proofs.lemmas.Bool.{eqb-true, eq-eqb, ltb-true, lt-ltb, cases_lt}
 use Rattle.std.proofs.lemmas.Bool.Decides.{nat_tests}
 use Rattle.std.proofs.lemmas.Option.{same_Some}
-use Rattle.pgv_codec.specs.BackParts.{guarded}
+use Rattle.pgv_codec.specs.PartBackLemmas.{guarded}
 
 -- ---- texts of MAC addresses
 

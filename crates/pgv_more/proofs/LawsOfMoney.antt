@@ -6,7 +6,7 @@ use Rattle.std.specs.Prelude.{ℤ, FitsSigned, nat_lt, true, false}
 use Rattle.std.specs.Int.{w64, cast_signed, cast_unsigned, from_be_bytes, to_be_bytes}
 use Rattle.pgv_value.specs.Interval.{eight_bytes}
 use Rattle.pgv_value.specs.FrameLaws.{AreBytes}
-use Rattle.pgv_value.specs.OwnBytes.{eight_again, signed_fits}
+use Rattle.pgv_value.specs.OwnBytesLemmas.{eight_again, signed_fits}
 use Rattle.pgv_more.proofs.NumericWords.{by_eight, signed_eight}
 use Rattle.pgv_more.specs.MoneyCodec.{IsMoney, MoneyIsRead, money_in_binary}
 

@@ -17,7 +17,7 @@ use Rattle.pgv_value.specs.declared.error.CodecError.TheVariants.{NumericSign, S
 use Rattle.pgv_value.proofs.Outcomes.{answer_is, found_or, taken, taken_exactly, tested}
 use Rattle.pgv_more.proofs.NumericWords.{by_eight, unsigned_two, signed_two}
 use Rattle.pgv_more.specs.NumericLaws.{IsNumeric, NumericIsRead, OneNumeric}
-use Rattle.pgv_more.specs.NumericBack.{number_there}
+use Rattle.pgv_more.specs.NumericBackLemmas.{number_there}
 use Rattle.pgv_more.specs.declared.numeric.PgNumericSign.TheVariants.{Positive, Negative}
 
 -- ---- numbers are equal where their parts are

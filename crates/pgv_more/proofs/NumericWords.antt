@@ -7,7 +7,7 @@ use Rattle.std.specs.Prelude.{FitsSigned, nat_lt, ℤ, ◌==◌}
 use Rattle.std.specs.Int.{w16, w64, cast_signed, cast_unsigned, from_be_bytes, to_be_bytes}
 use Rattle.pgv_value.specs.FrameLaws.{AreBytes}
 use Rattle.pgv_value.specs.IntBinary.{fits_signed}
-use Rattle.pgv_value.specs.OwnBytes.{signed_fits}
+use Rattle.pgv_value.specs.OwnBytesLemmas.{signed_fits}
 use Rattle.pgv_value.proofs.Numbers.{bytes_below}
 use Rattle.std.proofs.lemmas.List.{drop-drop}
 use Rattle.pgv_more.specs.Numeric.{number, digits, digits_after, sign_of, said_sign, no_number, signed_word, unsigned_word, numeric_in_binary}

@@ -6,7 +6,7 @@ use Rattle.pgv_buf.specs.Tokens.{be4}
 use Rattle.pgv_value.specs.FrameBinary.{Part}
 use Rattle.pgv_value.specs.FrameLaws.{AreBytes}
 use Rattle.pgv_more.specs.Hstore.{Pair, order, pair_form, pairs_of, hstore_in_binary}
-use Rattle.pgv_more.specs.HstoreBack.{AreMapPairs}
+use Rattle.pgv_more.specs.HstoreBackLemmas.{AreMapPairs}
 use Rattle.pgv_more.specs.declared.hstore.PgHstore.{PgHstore}
 
 -- the value that the last pair of a key has

@@ -161,7 +161,7 @@ impl Encode for PgTimeTz {
 /// `0000000a7a358200ffffe3e0` and the text `12:30:00+02` are 12:30 two hours east. The time comes back in whole
 /// microseconds, where what is less is cut off, and the offset as it is.
 impl Plain for PgTimeTz {
-    ghost use Rattle.pgv_more.specs.TimeTzBack.{time_tz_back, time_tz_kept};
+    ghost use Rattle.pgv_more.specs.TimeTzBackLemmas.{time_tz_back, time_tz_kept};
 
     ghost View = { ℕ × ℤ };
 

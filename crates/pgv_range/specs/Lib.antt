@@ -7,7 +7,7 @@ pub mod RangeBinary
 pub mod RangeInText
 pub mod RangeSaying
 pub mod RangeFits
-pub mod RangeBack
+pub mod RangeBackLemmas
 pub mod RangeShown
 pub mod RangeRow
 pub mod RangeLaws

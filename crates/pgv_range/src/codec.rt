@@ -285,7 +285,7 @@ fn side_of<T>(included: bool, value: T) -> Bound<T>
 /// A range is read back under a type of kind range, if each bound's value is read back under the type that it is a
 /// range over; the empty range under every type of kind range.
 impl<T: ReadBack + Type> ReadBack for PgRange<T> {
-    ghost use Rattle.pgv_range.specs.RangeBack.{range_back};
+    ghost use Rattle.pgv_range.specs.RangeBackLemmas.{range_back};
     ghost use Rattle.pgv_range.specs.RangeFits.{RangeFits, range_kept};
 
     ghost kept = { range_kept T.kept };

@@ -8,7 +8,7 @@ use Rattle.pgv_value.specs.Outcome.{Outcome, ok_of, reading_of}
 use Rattle.pgv_value.specs.declared.error.CodecError.{CodecError}
 use Rattle.pgv_codec.specs.RecordGrammar.{Left, parse_record}
 use Rattle.pgv_codec.specs.Back.{FieldsBack, ReadsBack}
-use Rattle.pgv_codec.specs.BackRecords.{record_back}
+use Rattle.pgv_codec.specs.RecordBackLemmas.{record_back}
 use Rattle.pgv_codec.specs.Encoding.{plainly, record_image}
 
 answer_is : {A : Type 0} (answer : Result A (Option CodecError)) (x : A) → ok_of answer ≡ Some x → answer ≡ Ok x

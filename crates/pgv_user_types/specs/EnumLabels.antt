@@ -9,7 +9,7 @@ use Rattle.pgv_value.specs.Text.{is_utf8, utf8_part}
 use Rattle.pgv_value.specs.ValueView.{Given}
 use Rattle.pgv_value.specs.declared.error.CodecError.TheVariants.{Syntax}
 use Rattle.pgv_codec.specs.Back.{ReadsBack, always, image_is}
-use Rattle.pgv_codec.specs.BackScalars.{part_is}
+use Rattle.pgv_codec.specs.ScalarBackLemmas.{part_is}
 use Rattle.pgv_codec.specs.Encoding.{Encoding, plainly, writes}
 use Rattle.pgv_codec.specs.ScalarImage.{text_image}
 use Rattle.pgv_ltree.specs.Ascii.{are_ascii, ascii_is_utf8}

@@ -16,5 +16,5 @@ pub mod DateTimeBinary
 pub mod NetworkBinary
 pub mod Interval
 pub mod FrameLaws
-pub mod OwnBytes
+pub mod OwnBytesLemmas
 pub mod TreeErrors

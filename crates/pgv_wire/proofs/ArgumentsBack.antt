@@ -15,7 +15,7 @@ use Rattle.pgv_value.specs.Outcome.{ok_of}
 use Rattle.pgv_value.specs.declared.error.CodecError.{CodecError}
 use Rattle.pgv_codec.specs.Writing.{write}
 use Rattle.pgv_codec.specs.Back.{AreOids, SlotsFit, ImageFits, ReadsBack}
-use Rattle.pgv_codec.specs.BackParts.{frame_parts, SlotsFit-back, AreOids-take, AreOids-drop}
+use Rattle.pgv_codec.specs.PartBackLemmas.{frame_parts, SlotsFit-back, AreOids-take, AreOids-drop}
 use Rattle.pgv_wire.specs.Given.{LastGiven, zeros, given_by, given_none, given_in, parts_given, ArgumentReadsBack}
 use Rattle.pgv_wire.specs.History.{Call, last_filling, after_calls, added_in, blanks}
 use Rattle.pgv_wire.specs.MainSentence.{ComeBackIn, MainSentence}

@@ -12,7 +12,7 @@ use Rattle.pgv_buf.proofs.Patches.{holes_plain, slots_plain}
 use Rattle.pgv_wire.specs.Arguments.{Argument, Framed, framed, all_tokens, filled_frame, filled_arguments}
 use Rattle.pgv_wire.specs.History.{blanks, LastFilling, with_added, with_filled, left_by, joined_frames, LeftBySome}
 use Rattle.pgv_codec.specs.Encoding.{Encoding, Image, frame_of, frame}
-use Rattle.pgv_codec.specs.BackParts.{frame_parts}
+use Rattle.pgv_codec.specs.PartBackLemmas.{frame_parts}
 use Rattle.pgv_wire.specs.ArgumentParts.{AreImages, OfImages}
 
 pub framed-filled : (args : List Argument) (ps : List Ty) (os : List Oid) → framed (filled_arguments args ps os) ≡ framed args

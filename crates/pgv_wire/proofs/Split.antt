@@ -6,7 +6,7 @@ use Rattle.std.proofs.lemmas.Nat.{from_be_bytes-to_be_bytes_4}
 use Rattle.pgv_buf.specs.Tokens.{Token, bytes, be4, tokens_width, Cell, fixed, hole_cell, slot_cell, fixed_bytes, cell_width, plain, width}
 use Rattle.pgv_wire.specs.Arguments.{Argument, framed, all_tokens, types_in}
 use Rattle.pgv_codec.specs.Encoding.{Image, null_image, image_of, frame_of}
-use Rattle.pgv_codec.specs.BackParts.{image_parts}
+use Rattle.pgv_codec.specs.PartBackLemmas.{image_parts}
 use Rattle.pgv_value.proofs.Outcomes.{answer_is}
 use Rattle.pgv_wire.specs.ArgumentParts.{AreImages}
 use Rattle.pgv_wire.specs.Split.{as_wide, after_wide, bytes_by_length, frame_width, split}

@@ -13,9 +13,9 @@ ghost use Rattle.pgv_codec.specs.ArrayGrammar.{array_in_binary, array_in_text, e
 ghost use Rattle.pgv_codec.specs.Encoding.{array_image, written_element, frames, header, is_copied, plainly, sized_image, value_type};
 ghost use Rattle.pgv_codec.specs.Appending.{Appended, Appends, Encodes, Extends};
 ghost use Rattle.pgv_codec.specs.AtOnce.{AreFirst, IsInFront, IsNext};
-ghost use Rattle.pgv_codec.specs.Agreeing.{array_agrees, sized_agrees};
+ghost use Rattle.pgv_codec.specs.AgreeLemmas.{array_agrees, sized_agrees};
 ghost use Rattle.pgv_codec.specs.Back.{ArrayFits};
-ghost use Rattle.pgv_codec.specs.BackNests.{vec_back, sized_back};
+ghost use Rattle.pgv_codec.specs.NestBackLemmas.{vec_back, sized_back};
 
 use super::part::read_part;
 use crate::buffer::{IsNull, PgArgumentBuffer};

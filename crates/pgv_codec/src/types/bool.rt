@@ -48,7 +48,7 @@ impl Scalar for bool {
 
 /// A truth value (PostgreSQL, "Boolean Type"), as [`read_bool`] reads it: `01` and `t` are `true`.
 impl Plain for bool {
-    ghost use Rattle.pgv_codec.specs.BackScalars.{bool_back};
+    ghost use Rattle.pgv_codec.specs.ScalarBackLemmas.{bool_back};
 
     ghost View = { Bool };
 

@@ -59,7 +59,7 @@ impl Scalar for Date {
 /// A `date`, as [`read_date`] reads it: `00002279` and `2024-02-29` are the same day.
 /// A date comes back as it is.
 impl Plain for Date {
-    ghost use Rattle.pgv_codec.specs.DateTimeBack.{date_back};
+    ghost use Rattle.pgv_codec.specs.DateTimeBackLemmas.{date_back};
 
     ghost View = { ℤ };
 
@@ -126,7 +126,7 @@ impl Scalar for Time {
 /// A `time`, as [`read_time`] reads it: `0000000a7a358200` and `12:30:00` are half past twelve.
 /// A time comes back in whole microseconds; what is less is cut off.
 impl Plain for Time {
-    ghost use Rattle.pgv_codec.specs.DateTimeBack.{time_back};
+    ghost use Rattle.pgv_codec.specs.DateTimeBackLemmas.{time_back};
     ghost use Rattle.pgv_codec.specs.DateTimeKept.{time_kept};
 
     ghost View = { ℕ };
@@ -200,7 +200,7 @@ impl Scalar for DateTime {
 /// date-time comes back in whole microseconds, cut towards 2000-01-01 00:00: one before 2000 may come back as the
 /// midnight after it.
 impl Plain for DateTime {
-    ghost use Rattle.pgv_codec.specs.DateTimeBack.{date_time_back};
+    ghost use Rattle.pgv_codec.specs.DateTimeBackLemmas.{date_time_back};
     ghost use Rattle.pgv_codec.specs.DateTimeKept.{date_time_kept};
 
     ghost View = { ℤ };
@@ -264,7 +264,7 @@ impl Scalar for Timestamp {
 /// A `timestamptz`, as [`read_instant`] reads it: `00000000000f4240` and `2000-01-01 02:00:01+02` are the same.
 /// An instant comes back in whole microseconds, cut towards 2000-01-01 00:00 UTC.
 impl Plain for Timestamp {
-    ghost use Rattle.pgv_codec.specs.DateTimeBack.{instant_back};
+    ghost use Rattle.pgv_codec.specs.DateTimeBackLemmas.{instant_back};
     ghost use Rattle.pgv_codec.specs.DateTimeKept.{instant_kept};
 
     ghost View = { ℤ };

@@ -10,9 +10,9 @@ ghost use Rattle.pgv_codec.specs.RecordGrammar.{Left, next_field, parse_record, 
 ghost use Rattle.pgv_buf.specs.Tokens.{Token};
 ghost use Rattle.pgv_types.specs.Ty.{Ty};
 ghost use Rattle.pgv_types.specs.declared.oid.Oid.{Oid};
-ghost use Rattle.pgv_codec.specs.Agreeing.{further_agrees, last_agrees};
+ghost use Rattle.pgv_codec.specs.AgreeLemmas.{further_agrees, last_agrees};
 ghost use Rattle.pgv_codec.specs.Back.{FieldFits, FieldsFit, FieldsBack};
-ghost use Rattle.pgv_codec.specs.BackRecords.{last_back, further_back};
+ghost use Rattle.pgv_codec.specs.RecordBackLemmas.{last_back, further_back};
 ghost use Rattle.pgv_codec.specs.Appending.{Encodes, Extends};
 ghost use Rattle.pgv_codec.specs.Encoding.{field, record_image};
 ghost use Rattle.pgv_codec.specs.Record.{WritesFields, so_far};

@@ -7,7 +7,7 @@ ghost use Rattle.pgv_value.specs.Interval.{parse_interval};
 ghost use Rattle.pgv_value.specs.declared.interval.PgInterval.{PgInterval as Interval};
 ghost use Rattle.pgv_codec.specs.Intervals.{interval_image};
 ghost use Rattle.pgv_codec.specs.Appending.{Encodes, Extends};
-ghost use Rattle.pgv_codec.specs.IntervalsBack.{interval_back};
+ghost use Rattle.pgv_codec.specs.IntervalBackLemmas.{interval_back};
 ghost use Rattle.pgv_codec.specs.Encoding.{with_hint, writes};
 
 use crate::buffer::{IsNull, PgArgumentBuffer};

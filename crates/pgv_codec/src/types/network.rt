@@ -139,7 +139,7 @@ impl Encode for IpNetwork {
 /// An `inet` or a `cidr`, as [`read_ip_network`] reads it: `020800040a000000` and `10.0.0.0/8` are the same network.
 /// A network comes back as it is.
 impl Plain for IpNetwork {
-    ghost use Rattle.pgv_codec.specs.NetworkBack.{network_back};
+    ghost use Rattle.pgv_codec.specs.NetworkBackLemmas.{network_back};
 
     ghost View = { Network };
 
@@ -221,7 +221,7 @@ impl Encode for IpAddr {
 /// An `inet` or a `cidr` of one address, as [`read_ip_address`] reads it: `022000040a000001` and `10.0.0.1` are the
 /// same address. An address comes back as it is.
 impl Plain for IpAddr {
-    ghost use Rattle.pgv_codec.specs.NetworkBack.{address_back};
+    ghost use Rattle.pgv_codec.specs.NetworkBackLemmas.{address_back};
 
     ghost View = { Address };
 

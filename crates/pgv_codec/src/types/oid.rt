@@ -56,7 +56,7 @@ impl Scalar for Oid {
 /// An object identifier (PostgreSQL, "Object Identifier Types"), as [`read_oid`] reads it: `00000019` and `25` are the
 /// OID of `text`.
 impl Plain for Oid {
-    ghost use Rattle.pgv_codec.specs.BackScalars.{oid_back};
+    ghost use Rattle.pgv_codec.specs.ScalarBackLemmas.{oid_back};
 
     ghost View = { ℕ };
 

@@ -4,7 +4,7 @@ ghost use Rattle.std.specs.Prelude.{Option, option_map, Some, None, refl};
 ghost use Rattle.pgv_codec.specs.Encoding.{option_encoding};
 ghost use Rattle.pgv_codec.specs.Nullable.{nullable};
 ghost use Rattle.pgv_codec.specs.Back.{option_kept, option_fits};
-ghost use Rattle.pgv_codec.specs.BackNests.{option_back};
+ghost use Rattle.pgv_codec.specs.NestBackLemmas.{option_back};
 
 use crate::buffer::{IsNull, PgArgumentBuffer};
 use crate::traits::{Codec, Decode, Encode, PgHasArrayType, ReadBack, Type};

@@ -125,7 +125,7 @@ impl Encode for String {
 /// [`UnexpectedNull`](CodecError::UnexpectedNull) (C13). An empty text asks for no memory.
 impl Plain for String {
     ghost use Rattle.pgv_value.specs.Text.{parse_text};
-    ghost use Rattle.pgv_codec.specs.BackScalars.{text_back};
+    ghost use Rattle.pgv_codec.specs.ScalarBackLemmas.{text_back};
 
     ghost View = { List ℕ };
 

@@ -51,7 +51,7 @@ impl Scalar for Uuid {
 /// A UUID (PostgreSQL, "UUID Type"), as [`read_uuid`] reads it: its sixteen bytes, or
 /// `550e8400-e29b-41d4-a716-446655440000` and the other spellings.
 impl Plain for Uuid {
-    ghost use Rattle.pgv_codec.specs.BackScalars.{uuid_back};
+    ghost use Rattle.pgv_codec.specs.ScalarBackLemmas.{uuid_back};
 
     ghost View = { List ℕ };
 

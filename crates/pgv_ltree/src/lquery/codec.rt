@@ -119,7 +119,7 @@ impl Codec for PgLQuery {
 /// A query is read back as it was written if it has a level, each level that is not a star has a variant, and no
 /// `NonStar` begins with an empty label. Others print a text that is read as something else, or not at all.
 impl ReadBack for PgLQuery {
-    ghost use Rattle.pgv_ltree.specs.QueryBack.{query_back, query_fits};
+    ghost use Rattle.pgv_ltree.specs.QueryBackLemmas.{query_back, query_fits};
 
     ghost kept = { λ query. query };
 

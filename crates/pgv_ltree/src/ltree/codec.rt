@@ -85,7 +85,7 @@ fn read_binary(alloc: Global, form: &[u8]) -> Result<PgLTree, CodecError>
 /// refused with [`UnexpectedNull`](CodecError::UnexpectedNull) (C13). A tree is read back as it was written, and a tree
 /// without labels as one empty label.
 impl Plain for PgLTree {
-    ghost use Rattle.pgv_ltree.specs.TreesBack.{tree_back, tree_kept};
+    ghost use Rattle.pgv_ltree.specs.TreeBackLemmas.{tree_back, tree_kept};
 
     ghost View = { List (List ℕ) };
 

@@ -104,7 +104,7 @@ fn read_text(alloc: Global, text: &str) -> Result<BitVec, CodecError>
 /// [`Syntax`](CodecError::Syntax) (C29). Null is refused with [`UnexpectedNull`](CodecError::UnexpectedNull) (C13).
 /// `00000003a0` and the text `101` are `101`. For no bits no memory is asked for. Bits come back as they were written.
 impl Plain for BitVec {
-    ghost use Rattle.pgv_more.specs.BitsBack.{bits_back};
+    ghost use Rattle.pgv_more.specs.BitsBackLemmas.{bits_back};
 
     ghost View = { List Bool };
 

@@ -98,7 +98,7 @@ impl<const N: usize> Encode for PgByteaArray<N> {
 /// Null is refused with [`UnexpectedNull`](CodecError::UnexpectedNull) (C13). It takes no memory. Bytes come back as
 /// they were written.
 impl<const N: usize> Plain for PgByteaArray<N> {
-    ghost use Rattle.pgv_more.specs.ByteaBack.{sized_back};
+    ghost use Rattle.pgv_more.specs.ByteaBackLemmas.{sized_back};
 
     ghost View = { List ℕ };
 

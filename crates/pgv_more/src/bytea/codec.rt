@@ -67,7 +67,7 @@ impl Encode for PgBytea {
 /// [`UnexpectedNull`](CodecError::UnexpectedNull) (C13). (A server that writes the older escape format is not read.)
 /// For no bytes no memory is asked for. Bytes come back as they were written.
 impl Plain for PgBytea {
-    ghost use Rattle.pgv_more.specs.ByteaBack.{bytea_back};
+    ghost use Rattle.pgv_more.specs.ByteaBackLemmas.{bytea_back};
 
     ghost View = { List ℕ };
 

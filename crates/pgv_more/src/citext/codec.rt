@@ -70,7 +70,7 @@ impl Encode for PgCiText {
 /// Read as a `String` is: in either format any bytes that are UTF-8, else [`Utf8`](CodecError::Utf8) (C14). Null is
 /// refused with [`UnexpectedNull`](CodecError::UnexpectedNull) (C13). A text comes back as it was written.
 impl Plain for PgCiText {
-    ghost use Rattle.pgv_codec.specs.BackScalars.{text_back};
+    ghost use Rattle.pgv_codec.specs.ScalarBackLemmas.{text_back};
 
     ghost View = { List ℕ };
 

@@ -207,7 +207,7 @@ fn of_bytes(alloc: Global, form: &[u8]) -> Result<PgHstore, CodecError>
 /// [`Utf8`](CodecError::Utf8) (C14). A text is refused with [`TextUnsupported`](CodecError::TextUnsupported) (C18), and
 /// null with [`UnexpectedNull`](CodecError::UnexpectedNull) (C13). A map is read back as it was written.
 impl Plain for PgHstore {
-    ghost use Rattle.pgv_more.specs.HstoreBack.{hstore_back};
+    ghost use Rattle.pgv_more.specs.HstoreBackLemmas.{hstore_back};
 
     ghost View = { List Pair };
 

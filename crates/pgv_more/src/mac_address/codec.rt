@@ -89,7 +89,7 @@ impl Encode for MacAddress {
 /// [`Syntax`](CodecError::Syntax) (C29). Null is refused with [`UnexpectedNull`](CodecError::UnexpectedNull) (C13).
 /// `08002b010203` and the text `08:00:2b:01:02:03` are one address. An address comes back as it was written.
 impl Plain for MacAddress {
-    ghost use Rattle.pgv_more.specs.MacAddressBack.{mac_back};
+    ghost use Rattle.pgv_more.specs.MacAddressBackLemmas.{mac_back};
 
     ghost View = { List ℕ };
 

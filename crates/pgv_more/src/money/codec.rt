@@ -67,7 +67,7 @@ impl Encode for PgMoney {
 /// [`UnexpectedNull`](CodecError::UnexpectedNull) (C13). (The text depends on the settings of the server,
 /// `lc_monetary`.) An amount is read back as it is.
 impl Plain for PgMoney {
-    ghost use Rattle.pgv_more.specs.MoneyBack.{money_back};
+    ghost use Rattle.pgv_more.specs.MoneyBackLemmas.{money_back};
 
     ghost View = { ℤ };
 

@@ -233,7 +233,7 @@ fn of_bytes(alloc: Global, form: &[u8]) -> Result<PgNumeric, CodecError>
 /// (C13). Memory is asked for only by the digits: `NaN`, and a number without digits, are never refused as out of
 /// memory. A number is read back as it is.
 impl Plain for PgNumeric {
-    ghost use Rattle.pgv_more.specs.NumericBack.{numeric_back};
+    ghost use Rattle.pgv_more.specs.NumericBackLemmas.{numeric_back};
 
     ghost View = { Numeric };
 

@@ -1,4 +1,4 @@
-use Rattle.pgv_codec.specs.BackRecords.{next_back}
+use Rattle.pgv_codec.specs.RecordBackLemmas.{next_back}
 use Rattle.pgv_codec.proofs.laws.field_reads_back.Goals as goal
 
 pub returns : goal.returns

@@ -1,7 +1,7 @@
 use Rattle.std.proofs.Common.{subst, sym}
 use Rattle.std.proofs.lemmas.List.{take_more}
 use Rattle.pgv_codec.specs.Back.{AreOids}
-use Rattle.pgv_codec.specs.BackParts.{AreOids-more}
+use Rattle.pgv_codec.specs.PartBackLemmas.{AreOids-more}
 use Rattle.pgv_codec.proofs.laws.oids_fit.Goals as goal
 
 pub loop-oid-preserved : goal.loop-oid-preserved

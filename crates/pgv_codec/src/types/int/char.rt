@@ -48,7 +48,7 @@ impl Scalar for i8 {
 
 /// A `"char"` as a number (PostgreSQL, "Character Types"), as [`read_i8`] reads it: `61` and `a` are 97.
 impl Plain for i8 {
-    ghost use Rattle.pgv_codec.specs.BackScalars.{char_back};
+    ghost use Rattle.pgv_codec.specs.ScalarBackLemmas.{char_back};
 
     ghost View = { ℤ };
 

@@ -49,7 +49,7 @@ impl Scalar for i16 {
 
 /// An `int2` (PostgreSQL, "Integer Types"), as [`read_i16`] reads it: `0007` and `7` are 7.
 impl Plain for i16 {
-    ghost use Rattle.pgv_codec.specs.BackScalars.{int2_back};
+    ghost use Rattle.pgv_codec.specs.ScalarBackLemmas.{int2_back};
 
     ghost View = { ℤ };
 

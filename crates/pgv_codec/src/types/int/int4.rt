@@ -55,7 +55,7 @@ impl Scalar for i32 {
 
 /// An `int4` (PostgreSQL, "Integer Types"), as [`read_i32`] reads it: `00000007` and `7` are 7.
 impl Plain for i32 {
-    ghost use Rattle.pgv_codec.specs.BackScalars.{int4_back};
+    ghost use Rattle.pgv_codec.specs.ScalarBackLemmas.{int4_back};
 
     ghost View = { ℤ };
 

@@ -49,7 +49,7 @@ impl Scalar for i64 {
 
 /// An `int8` (PostgreSQL, "Integer Types"), as [`read_i64`] reads it: `0000000000000007` and `7` are 7.
 impl Plain for i64 {
-    ghost use Rattle.pgv_codec.specs.BackScalars.{int8_back};
+    ghost use Rattle.pgv_codec.specs.ScalarBackLemmas.{int8_back};
 
     ghost View = { ℤ };
 

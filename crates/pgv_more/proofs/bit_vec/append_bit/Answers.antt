@@ -1,7 +1,7 @@
 use Rattle.std.proofs.Common.{◌≡◌, ◌*◌, ◌/◌, ℕ, List, ◌++◌, ◌∷◌, [], get_or, drop, set, sym, ◌∙◌, ap, arith, refl}
 use Rattle.std.proofs.lemmas.List.{length-drop}
 use Rattle.pgv_more.specs.Bits.{number_of, packed}
-use Rattle.pgv_more.specs.Packing.{number_of-nil}
+use Rattle.pgv_more.specs.PackingLemmas.{number_of-nil}
 use Rattle.pgv_more.proofs.Kept.{pushed_new, pushed_in, last_byte}
 use Rattle.pgv_more.proofs.bit_vec.append_bit.Goals as goal
 

@@ -3,7 +3,7 @@ use Rattle.std.proofs.Common.{◌≡◌, ◌∙◌, ◌++◌, ℕ, ℤ, List, So
 use Rattle.std.specs.Int.{w32, w64, cast_signed, cast_unsigned, to_be_bytes}
 use Rattle.std.proofs.lemmas.Int.{to_z-of_z}
 use Rattle.pgv_buf.specs.Tokens.{bytes}
-use Rattle.pgv_value.specs.OwnBytes.{signed_fits}
+use Rattle.pgv_value.specs.OwnBytesLemmas.{signed_fits}
 use Rattle.pgv_codec.specs.Encoding.{image_of}
 use Rattle.pgv_codec.specs.PlainBytes.{appended_parts}
 use Rattle.pgv_more.specs.TimeTzCodec.{image_of_numbers}

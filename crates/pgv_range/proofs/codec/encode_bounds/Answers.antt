@@ -3,7 +3,7 @@ use Rattle.std.specs.Range.Bound.{bound_map}
 use Rattle.pgv_buf.specs.Tokens.{byte, blank}
 use Rattle.pgv_codec.proofs.Lists.{both}
 use Rattle.pgv_range.specs.FlagByte.{flags_of}
-use Rattle.pgv_range.specs.RangeBack.{flags_same}
+use Rattle.pgv_range.specs.RangeBackLemmas.{flags_same}
 use Rattle.pgv_range.specs.RangeImage.{bounds_image}
 use Rattle.pgv_range.proofs.codec.encode_bounds.Goals as goal
 

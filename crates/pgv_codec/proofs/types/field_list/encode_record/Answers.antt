@@ -1,5 +1,5 @@
 use Rattle.std.proofs.Common.{rules}
-use Rattle.pgv_codec.specs.Fields.{record_written}
+use Rattle.pgv_codec.specs.FieldLemmas.{record_written}
 use Rattle.pgv_codec.proofs.types.field_list.encode_record.Goals as goal
 
 pub returns-clause-encodes : goal.returns-clause-encodes

@@ -4,7 +4,7 @@ use Rattle.std.specs.Int.{w32, w64, cast_signed, cast_unsigned, to_be_bytes}
 use Rattle.std.proofs.lemmas.Int.{to_z-of_z}
 use Rattle.pgv_buf.specs.Tokens.{bytes}
 use Rattle.pgv_value.specs.declared.interval.PgInterval.{PgInterval}
-use Rattle.pgv_value.specs.OwnBytes.{signed_fits}
+use Rattle.pgv_value.specs.OwnBytesLemmas.{signed_fits}
 use Rattle.pgv_codec.specs.Encoding.{image_of}
 use Rattle.pgv_codec.specs.Intervals.{interval_image}
 use Rattle.pgv_codec.specs.PlainBytes.{appended_parts}

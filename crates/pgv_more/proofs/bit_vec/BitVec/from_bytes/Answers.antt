@@ -1,6 +1,6 @@
 use Rattle.std.proofs.Common.{sym, ◌∙◌, ap, arith, subst, length}
 use Rattle.pgv_more.specs.Bits.{bits_of}
-use Rattle.pgv_more.specs.Packing.{AreByteNumbers, length-bits_of}
+use Rattle.pgv_more.specs.PackingLemmas.{AreByteNumbers, length-bits_of}
 use Rattle.pgv_more.proofs.Kept.{closes, shows, whole_bytes}
 use Rattle.pgv_more.proofs.bit_vec.BitVec.from_bytes.Goals as goal
 

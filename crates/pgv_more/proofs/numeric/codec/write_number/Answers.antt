@@ -3,7 +3,7 @@ use Rattle.std.proofs.lemmas.Bool.Decides.{nat_tests}
 use Rattle.std.proofs.lemmas.Result.{err_from_is_err_and}
 use Rattle.std.specs.Int.{w16}
 use Rattle.pgv_buf.specs.Tokens.{bytes, blank}
-use Rattle.pgv_value.specs.OwnBytes.{signed_fits}
+use Rattle.pgv_value.specs.OwnBytesLemmas.{signed_fits}
 use Rattle.pgv_more.proofs.NumericWritten.{number_appended, number_unwritten}
 use Rattle.pgv_more.specs.Numeric.{head_form, sign_word}
 use Rattle.pgv_more.proofs.numeric.codec.write_number.Goals as goal

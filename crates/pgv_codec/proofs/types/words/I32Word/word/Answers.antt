@@ -3,7 +3,7 @@ use mir.Val.{SFits}
 use Rattle.std.specs.Int.{w32, cast_unsigned, to_be_bytes}
 use Rattle.std.proofs.lemmas.Int.{to_z-of_z}
 use Rattle.pgv_buf.specs.Tokens.{bytes}
-use Rattle.pgv_value.specs.OwnBytes.{signed_fits}
+use Rattle.pgv_value.specs.OwnBytesLemmas.{signed_fits}
 use Rattle.pgv_codec.specs.Encoding.{Image, image_of}
 use Rattle.pgv_codec.specs.ScalarImage.{signed_image}
 use Rattle.pgv_codec.proofs.Lists.{word_is}

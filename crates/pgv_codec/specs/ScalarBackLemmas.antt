@@ -13,7 +13,7 @@ use Rattle.pgv_types.specs.declared.oid.Oid.{Oid}
 use Rattle.pgv_buf.specs.Tokens.{bytes, be4}
 use Rattle.pgv_value.specs.FrameBinary.{Part}
 use Rattle.pgv_value.specs.IntBinary.{fits_signed, whole_number}
-use Rattle.pgv_value.specs.OwnBytes.{own_byte, own_two_bytes, own_four_bytes, own_eight_bytes}
+use Rattle.pgv_value.specs.OwnBytesLemmas.{own_byte, own_two_bytes, own_four_bytes, own_eight_bytes}
 use Rattle.pgv_value.specs.Outcome.{ok_of, reading_of, stated, without_memory}
 use Rattle.pgv_value.specs.Parsed.{Parsed}
 use Rattle.pgv_value.specs.ReadingSteps.{number}
@@ -22,7 +22,7 @@ use Rattle.pgv_value.specs.Text.{parse_text}
 use Rattle.pgv_value.specs.declared.error.CodecError.{CodecError}
 use Rattle.pgv_value.specs.declared.value.PgValueFormat.TheVariants.{Binary}
 use Rattle.pgv_codec.specs.Back.{ReadsBack, always, image_is}
-use Rattle.pgv_codec.specs.BackParts.{guarded, write-bytes}
+use Rattle.pgv_codec.specs.PartBackLemmas.{guarded, write-bytes}
 use Rattle.pgv_codec.specs.Encoding.{Image, image_of, plainly, writes}
 use Rattle.pgv_codec.specs.Writing.{written_part}
 use Rattle.pgv_codec.specs.ScalarImage.{signed_image, unsigned_image, bool_image, text_image, uuid_image}

@@ -7,7 +7,7 @@ use Rattle.std.proofs.lemmas.List.{length-append, length-drop, take-append-drop,
 use Rattle.std.proofs.lemmas.Nat.{from_be_bytes-to_be_bytes_4}
 use Rattle.pgv_buf.specs.Tokens.{bytes, be4}
 use Rattle.pgv_codec.specs.Back.{ReadsBack, always}
-use Rattle.pgv_codec.specs.BackScalars.{part_is}
+use Rattle.pgv_codec.specs.ScalarBackLemmas.{part_is}
 use Rattle.pgv_codec.specs.Encoding.{image_of, with_hint}
 use Rattle.pgv_value.specs.Outcome.{allocates, copied, done, ok_of, reading_of, ◌>>◌}
 use Rattle.pgv_value.specs.Parsed.{Parsed}
@@ -18,7 +18,7 @@ use Rattle.pgv_value.specs.declared.value.PgValueFormat.TheVariants.{Binary}
 use Rattle.pgv_more.specs.Bits.{bits_of, byte_count, packed}
 use Rattle.pgv_more.specs.BitsBinary.{bits_image, bits_hint, bits_in_binary, bit_count}
 use Rattle.pgv_more.specs.BitsCodec.{parse_bits}
-use Rattle.pgv_more.specs.Packing.{length-bits_of, length-bytes_of, packed_again}
+use Rattle.pgv_more.specs.PackingLemmas.{length-bits_of, length-bytes_of, packed_again}
 
 -- the bits of a number and of bytes that begin with them
 pub binary_there : (bits padding : List Bool) (body : List ℕ) → length bits < 2 ^ 31 → length padding < 8 → bits_of body ≡ bits ++ padding → bits_in_binary (to_be_bytes w32 (length bits) ++ body) ≡ Ok bits

@@ -19,10 +19,10 @@ use Rattle.pgv_text.specs.DateTimeText.{instant_nanos}
 use Rattle.pgv_value.specs.DateTimeBinary.{day_after, time_after, nanos_after, civil_at, parse_date, parse_time, parse_date_time, parse_instant}
 use Rattle.pgv_value.specs.IntBinary.{fits_signed, whole_number}
 use Rattle.pgv_value.specs.Outcome.{reading_of, without_memory}
-use Rattle.pgv_value.specs.OwnBytes.{own_four_bytes, own_eight_bytes}
+use Rattle.pgv_value.specs.OwnBytesLemmas.{own_four_bytes, own_eight_bytes}
 use Rattle.pgv_codec.specs.Back.{ReadsBack, always, image_is}
-use Rattle.pgv_codec.specs.BackParts.{guarded}
-use Rattle.pgv_codec.specs.BackScalars.{part_is}
+use Rattle.pgv_codec.specs.PartBackLemmas.{guarded}
+use Rattle.pgv_codec.specs.ScalarBackLemmas.{part_is}
 use Rattle.pgv_codec.specs.DateTimeImage.{days_of, date_image, time_image, micros_of, moment_image}
 use Rattle.pgv_codec.specs.DateTimeKept.{time_kept, date_time_kept, date_time_kept_cut, instant_kept}
 use Rattle.pgv_codec.specs.Encoding.{Image, image_of, with_hint, writes}

@@ -11,12 +11,12 @@ use Rattle.pgv_value.specs.Parsed.{Parsed}
 use Rattle.pgv_value.specs.declared.interval.PgInterval.{PgInterval}
 use Rattle.pgv_value.specs.declared.value.PgValueFormat.TheVariants.{Binary}
 use Rattle.pgv_codec.specs.Back.{ReadsBack, always, image_is}
-use Rattle.pgv_codec.specs.BackParts.{guarded}
-use Rattle.pgv_codec.specs.BackScalars.{part_is}
+use Rattle.pgv_codec.specs.PartBackLemmas.{guarded}
+use Rattle.pgv_codec.specs.ScalarBackLemmas.{part_is}
 use Rattle.pgv_codec.specs.Encoding.{image_of, with_hint, writes}
 use Rattle.pgv_codec.specs.Intervals.{interval_image}
 use Rattle.pgv_value.specs.IntBinary.{fits_signed}
-use Rattle.pgv_value.specs.OwnBytes.{eight_again, four_again}
+use Rattle.pgv_value.specs.OwnBytesLemmas.{eight_again, four_again}
 
 form : PgInterval → List ℕ
 form i = to_be_bytes w64 (cast_unsigned w64 i.microseconds) ++ (to_be_bytes w32 (cast_unsigned w32 i.days) ++ to_be_bytes w32 (cast_unsigned w32 i.months))

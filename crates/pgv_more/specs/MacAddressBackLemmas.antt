@@ -2,8 +2,8 @@
 use Rattle.std.specs.Prelude.{◌==◌, length, Some, refl}
 use Rattle.pgv_buf.specs.Tokens.{bytes}
 use Rattle.pgv_codec.specs.Back.{ReadsBack, always, image_is}
-use Rattle.pgv_codec.specs.BackParts.{guarded}
-use Rattle.pgv_codec.specs.BackScalars.{part_is}
+use Rattle.pgv_codec.specs.PartBackLemmas.{guarded}
+use Rattle.pgv_codec.specs.ScalarBackLemmas.{part_is}
 use Rattle.pgv_codec.specs.Encoding.{image_of, with_hint, writes}
 use Rattle.pgv_more.specs.MacAddressCodec.{mac_image, parse_mac}
 use Rattle.pgv_value.specs.Outcome.{reading_of, without_memory}

@@ -11,15 +11,15 @@ use Rattle.pgv_value.specs.FrameBinary.{Part}
 use Rattle.pgv_value.specs.Outcome.{ok_of, reading_of}
 use Rattle.pgv_value.specs.declared.value.PgValueFormat.TheVariants.{Binary}
 use Rattle.pgv_codec.specs.Back.{ReadsBack, image_is}
-use Rattle.pgv_codec.specs.BackParts.{guarded}
-use Rattle.pgv_codec.specs.BackScalars.{part_is}
+use Rattle.pgv_codec.specs.PartBackLemmas.{guarded}
+use Rattle.pgv_codec.specs.ScalarBackLemmas.{part_is}
 use Rattle.pgv_codec.specs.Encoding.{image_of, plainly, writes}
 use Rattle.pgv_ltree.specs.Ascii.{ascii_is_utf8}
-use Rattle.pgv_ltree.specs.Joins.{other_char}
+use Rattle.pgv_ltree.specs.JoinLemmas.{other_char}
 use Rattle.pgv_ltree.specs.Labels.{is_label, is_label_char}
-use Rattle.pgv_ltree.specs.PrintedAgain.{label_chars}
-use Rattle.pgv_ltree.specs.LevelAgain.{BeginsPlainly, EachNeeds, NeedsFirst, query_again}
-use Rattle.pgv_ltree.specs.PrintedAscii.{query_ascii}
+use Rattle.pgv_ltree.specs.PrintedLemmas.{label_chars}
+use Rattle.pgv_ltree.specs.LevelLemmas.{BeginsPlainly, EachNeeds, NeedsFirst, query_again}
+use Rattle.pgv_ltree.specs.AsciiLemmas.{query_ascii}
 use Rattle.pgv_ltree.specs.Queries.{Variant, Level, star, one_of, none_of, is_level, is_query, is_variant}
 use Rattle.pgv_ltree.specs.QueryCodec.{query_image, query_in_binary, parse_query}
 use Rattle.pgv_ltree.specs.QueryPrinted.{printed_marks, printed_query, printed_variant}

@@ -9,7 +9,7 @@ use Rattle.std.proofs.Common.{arith, sym}
 use Rattle.std.proofs.lemmas.Bool.{lt-ltb, and_from, and_parts}
 use Rattle.std.proofs.lemmas.Fmt.{decimal_nonempty, digits_decimal, digits_value-decimal}
 use Rattle.std.proofs.lemmas.Str.Parse.{IsNumeralModel, numerals_by_value, tells_all_ascii_digits}
-use Rattle.pgv_ltree.specs.Joins.{lacks, other_char, wider}
+use Rattle.pgv_ltree.specs.JoinLemmas.{lacks, other_char, wider}
 use Rattle.pgv_ltree.specs.QueryRead.{bound_read, count_read, is_count_text}
 
 pub own : IsNumeralModel (λ ds. all_ascii_digits ds ≡ true) (digits_value 10)

@@ -7,14 +7,14 @@ use Rattle.pgv_value.specs.FrameBinary.{Part}
 use Rattle.pgv_value.specs.Outcome.{ok_of, reading_of}
 use Rattle.pgv_value.specs.declared.value.PgValueFormat.TheVariants.{Binary}
 use Rattle.pgv_codec.specs.Back.{ReadsBack, always, image_is}
-use Rattle.pgv_codec.specs.BackParts.{guarded}
-use Rattle.pgv_codec.specs.BackScalars.{part_is}
+use Rattle.pgv_codec.specs.PartBackLemmas.{guarded}
+use Rattle.pgv_codec.specs.ScalarBackLemmas.{part_is}
 use Rattle.pgv_codec.specs.Encoding.{image_of, plainly, writes}
 use Rattle.pgv_ltree.specs.Ascii.{are_ascii, ascii_is_utf8, ascii_joined, is_ascii}
-use Rattle.pgv_ltree.specs.Joins.{wider}
+use Rattle.pgv_ltree.specs.JoinLemmas.{wider}
 use Rattle.pgv_ltree.specs.Labels.{is_label, is_label_char}
 use Rattle.pgv_ltree.specs.LabelChars.{char_is_ascii}
-use Rattle.pgv_ltree.specs.PrintedAgain.{label_chars, tree_again}
+use Rattle.pgv_ltree.specs.PrintedLemmas.{label_chars, tree_again}
 use Rattle.pgv_ltree.specs.Trees.{printed_tree}
 use Rattle.pgv_ltree.specs.TreesCodec.{parse_tree, tree_image, tree_in_binary, tree_in_text}
 

@@ -7,9 +7,9 @@ use Rattle.std.proofs.Common.{arith}
 use Rattle.std.proofs.lemmas.Bool.{ltb-true, and_from, and_parts}
 use Rattle.std.proofs.lemmas.Bool.Decides.{nat_tests}
 use Rattle.pgv_ltree.specs.Ascii.{are_ascii, ascii_append, ascii_joined, is_ascii}
-use Rattle.pgv_ltree.specs.Joins.{wider}
-use Rattle.pgv_ltree.specs.TreesBack.{label_is_ascii}
-use Rattle.pgv_ltree.specs.CountAgain.{decimal_digits, each_digit}
+use Rattle.pgv_ltree.specs.JoinLemmas.{wider}
+use Rattle.pgv_ltree.specs.TreeBackLemmas.{label_is_ascii}
+use Rattle.pgv_ltree.specs.CountLemmas.{decimal_digits, each_digit}
 use Rattle.pgv_ltree.specs.Queries.{Variant, Level, star, one_of, none_of, is_level, is_query, is_variant}
 use Rattle.pgv_ltree.specs.QueryPrinted.{printed_level, printed_marks, printed_query, printed_star, printed_variant}
 

@@ -15,8 +15,8 @@ use Rattle.pgv_text.specs.declared.network.IpNetwork.TheVariants as Versions
 use Rattle.pgv_value.specs.NetworkBinary.{network_in_binary, parse_address, parse_network}
 use Rattle.pgv_value.specs.Outcome.{reading_of, without_memory}
 use Rattle.pgv_codec.specs.Back.{ReadsBack, always, image_is}
-use Rattle.pgv_codec.specs.BackParts.{guarded}
-use Rattle.pgv_codec.specs.BackScalars.{part_is}
+use Rattle.pgv_codec.specs.PartBackLemmas.{guarded}
+use Rattle.pgv_codec.specs.ScalarBackLemmas.{part_is}
 use Rattle.pgv_codec.specs.Encoding.{Image, image_of, with_hint, writes}
 use Rattle.pgv_codec.specs.NetworkImage.{image_with, network_image, network_hint, address_image, address_hint}
 use Rattle.pgv_codec.specs.Writing.{written_part}

@@ -14,7 +14,7 @@ use Rattle.pgv_value.proofs.Outcomes.{answer_is, answer_of, taken}
 use Rattle.pgv_value.specs.ValueView.{Given, given}
 use Rattle.pgv_value.specs.declared.value.PgValueFormat.TheVariants.{Binary}
 use Rattle.pgv_codec.specs.Back.{AreOids, SlotsFit, ImageFits, ReadsBack, holes_of}
-use Rattle.pgv_codec.specs.BackParts.{SlotsFit-front, SlotsFit-back, AreOids-drop, frame_back}
+use Rattle.pgv_codec.specs.PartBackLemmas.{SlotsFit-front, SlotsFit-back, AreOids-drop, frame_back}
 use Rattle.pgv_codec.specs.Encoding.{Encoding, Image, image_of, frame, plainly}
 use Rattle.pgv_codec.specs.Writing.{write, written_part}
 use Rattle.pgv_range.specs.RangeOf.{empty, bounds, range_view}

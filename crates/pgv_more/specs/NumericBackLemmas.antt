@@ -12,12 +12,12 @@ use Rattle.pgv_value.specs.FrameBinary.{Part}
 use Rattle.pgv_value.specs.Outcome.{ok_of, reading_of, allocates, in_place, ◌>>◌}
 use Rattle.pgv_value.proofs.Outcomes.{answer_of, held, taken_exactly, tested}
 use Rattle.pgv_value.specs.IntBinary.{fits_signed}
-use Rattle.pgv_value.specs.OwnBytes.{two_again}
+use Rattle.pgv_value.specs.OwnBytesLemmas.{two_again}
 use Rattle.pgv_value.specs.declared.error.CodecError.TheVariants.{NumericDigits, NumericDigit}
 use Rattle.pgv_value.specs.declared.value.PgValueFormat.TheVariants.{Binary}
 use Rattle.pgv_codec.specs.Back.{ReadsBack, always, image_is}
-use Rattle.pgv_codec.specs.BackParts.{guarded}
-use Rattle.pgv_codec.specs.BackScalars.{part_is}
+use Rattle.pgv_codec.specs.PartBackLemmas.{guarded}
+use Rattle.pgv_codec.specs.ScalarBackLemmas.{part_is}
 use Rattle.pgv_codec.specs.Encoding.{image_of, plainly, writes}
 use Rattle.pgv_more.specs.Numeric.{number, numeric_of, word, sign_word, number_form, is_digit, digits_tested, number_image, numeric_image, digits, digits_after, said_sign, signed_word, unsigned_word, signed_number, numeric_in_binary, parse_numeric}
 use Rattle.pgv_more.specs.declared.numeric.PgNumericSign.{PgNumericSign}

@@ -8,11 +8,11 @@ use Rattle.pgv_value.specs.IntBinary.{fits_signed}
 use Rattle.pgv_value.specs.Outcome.{ok_of, reading_of, stated, without_memory}
 use Rattle.pgv_value.specs.Parsed.{Parsed}
 use Rattle.pgv_value.specs.declared.error.CodecError.TheVariants.{Short}
-use Rattle.pgv_value.specs.OwnBytes.{eight_again}
+use Rattle.pgv_value.specs.OwnBytesLemmas.{eight_again}
 use Rattle.pgv_value.specs.declared.value.PgValueFormat.TheVariants.{Binary}
 use Rattle.pgv_codec.specs.Back.{ReadsBack, always, image_is}
-use Rattle.pgv_codec.specs.BackParts.{guarded}
-use Rattle.pgv_codec.specs.BackScalars.{part_is}
+use Rattle.pgv_codec.specs.PartBackLemmas.{guarded}
+use Rattle.pgv_codec.specs.ScalarBackLemmas.{part_is}
 use Rattle.pgv_codec.specs.Encoding.{image_of, plainly, writes}
 use Rattle.pgv_codec.specs.ScalarImage.{signed_image}
 use Rattle.pgv_more.specs.MoneyCodec.{money_in_binary, parse_money}

@@ -13,8 +13,8 @@ use Rattle.pgv_value.specs.ValueView.{Given, given}
 use Rattle.pgv_value.specs.declared.value.PgValueFormat.TheVariants.{Binary}
 use Rattle.pgv_codec.specs.Writing.{write}
 use Rattle.pgv_codec.specs.Back.{AreOids, SlotsFit, ImageFits, ReadsBack, holes_in, holes_of, holes_among, written_oid, oids_after, FieldFits, Followed, FieldReadsBack, FieldsBack, RecordReadsBack, RecordFieldsFollow}
-use Rattle.pgv_codec.specs.BackParts.{type_written, oids_left, frame_parts, image_parts, tokens_holes-append, SlotsFit-front, SlotsFit-back, AreOids-drop, AreOids-after, frame_back}
-use Rattle.pgv_codec.specs.Found.{next_there}
+use Rattle.pgv_codec.specs.PartBackLemmas.{type_written, oids_left, frame_parts, image_parts, tokens_holes-append, SlotsFit-front, SlotsFit-back, AreOids-drop, AreOids-after, frame_back}
+use Rattle.pgv_codec.specs.FoundLemmas.{next_there}
 use Rattle.pgv_value.proofs.Numbers.{number_of_four}
 use Rattle.pgv_codec.specs.NestBinary.{IsRecordField}
 use Rattle.pgv_value.specs.FrameBinary.{IsFrame, null_length}

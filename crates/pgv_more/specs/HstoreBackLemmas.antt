@@ -25,7 +25,7 @@ use Rattle.pgv_value.specs.declared.error.CodecError.{CodecError}
 use Rattle.pgv_value.specs.declared.value.PgValueFormat.TheVariants.{Binary}
 use Rattle.pgv_value.proofs.Numbers.{number_there}
 use Rattle.pgv_codec.specs.Back.{ReadsBack, always}
-use Rattle.pgv_codec.specs.BackScalars.{part_is}
+use Rattle.pgv_codec.specs.ScalarBackLemmas.{part_is}
 use Rattle.pgv_codec.specs.Encoding.{Image, image_of, plainly}
 use Rattle.pgv_codec.specs.PlainBytes.{bytes-append}
 use Rattle.pgv_more.specs.Hstore.{Pair, pair_of, pairs_of, order, part_form, pair_form, hstore_form, part_fits, pair_fits, size_form, part_written, pair_written, pairs_written, in_order, hstore_image, key_at, map_value, pairs, put_all, hstore_in_binary, parse_hstore}

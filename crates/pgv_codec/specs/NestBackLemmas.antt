@@ -18,8 +18,8 @@ use Rattle.pgv_value.specs.declared.value.PgValueFormat.TheVariants.{Binary}
 use Rattle.pgv_codec.specs.Writing.{write}
 use Rattle.pgv_codec.specs.ArrayGrammar.{parse_array, parse_sized}
 use Rattle.pgv_codec.specs.Back.{AreOids, SlotsFit, ImageFits, ReadsBack, is_null, option_kept, option_fits, written_oid, oids_after, ArrayFits}
-use Rattle.pgv_codec.specs.BackParts.{type_written, SlotsFit-back, AreOids-after, frames_back}
-use Rattle.pgv_codec.specs.Found.{array_there}
+use Rattle.pgv_codec.specs.PartBackLemmas.{type_written, SlotsFit-back, AreOids-after, frames_back}
+use Rattle.pgv_codec.specs.FoundLemmas.{array_there}
 use Rattle.pgv_value.proofs.Outcomes.{answer_is, answer_of, taken, tested}
 use Rattle.pgv_codec.specs.NestBinary.{IsArray}
 use Rattle.pgv_codec.specs.Encoding.{Encoding, Image, null_image, image_of, plainly, frames, typed, header, array_image, sized_image, option_encoding, written_element}

@@ -9,10 +9,10 @@ use Rattle.std.proofs.lemmas.Bool.{eqb-true, ltb-true, and_from, not-true, and_p
 use Rattle.std.proofs.lemmas.List.{take_at, drop_at}
 use Rattle.pgv_value.specs.declared.tree_error.PgLQueryParseError.{PgLQueryParseError}
 use Rattle.pgv_ltree.specs.TextsInTurn.{read_each}
-use Rattle.pgv_ltree.specs.Joins.{lacks, other_char, split_again, wider}
+use Rattle.pgv_ltree.specs.JoinLemmas.{lacks, other_char, split_again, wider}
 use Rattle.pgv_ltree.specs.Labels.{is_label, is_label_char}
-use Rattle.pgv_ltree.specs.PrintedAgain.{label_chars}
-use Rattle.pgv_ltree.specs.CountAgain.{bound_there, count_again, decimal_digits, decimal_some, digits_lack}
+use Rattle.pgv_ltree.specs.PrintedLemmas.{label_chars}
+use Rattle.pgv_ltree.specs.CountLemmas.{bound_there, count_again, decimal_digits, decimal_some, digits_lack}
 use Rattle.pgv_ltree.specs.Lacking.{before_last_at, cut_there, cut_lacks, lacks-append, lacks-joined, no_mark}
 use Rattle.pgv_ltree.specs.Queries.{Variant, Level, star, one_of, none_of, is_level, is_variant}
 use Rattle.pgv_ltree.specs.QueryPrinted.{printed_level, printed_marks, printed_query, printed_star, printed_variant, printed_variants}

@@ -12,14 +12,14 @@ use Rattle.pgv_value.specs.FrameBinary.{Part}
 use Rattle.pgv_value.specs.IntBinary.{fits_signed}
 use Rattle.pgv_value.specs.Outcome.{ok_of, or_fail, reading_of, stated, without_memory, ◌>>=◌}
 use Rattle.pgv_value.specs.Parsed.{Parsed, ◌>>=◌ as ◌and_then◌}
-use Rattle.pgv_value.specs.OwnBytes.{eight_again, four_again}
+use Rattle.pgv_value.specs.OwnBytesLemmas.{eight_again, four_again}
 use Rattle.pgv_value.specs.declared.error.CodecError.{CodecError}
 use Rattle.pgv_value.specs.declared.error.CodecError.TheVariants.{OffsetRange, Short}
 use Rattle.pgv_value.specs.declared.value.PgValueFormat.TheVariants.{Binary}
 use Rattle.pgv_codec.specs.Back.{ReadsBack, always, image_is}
-use Rattle.pgv_codec.specs.BackParts.{guarded}
-use Rattle.pgv_codec.specs.BackScalars.{part_is}
-use Rattle.pgv_codec.specs.DateTimeBack.{time_again}
+use Rattle.pgv_codec.specs.PartBackLemmas.{guarded}
+use Rattle.pgv_codec.specs.ScalarBackLemmas.{part_is}
+use Rattle.pgv_codec.specs.DateTimeBackLemmas.{time_again}
 use Rattle.pgv_codec.specs.DateTimeKept.{time_kept}
 use Rattle.pgv_codec.specs.Encoding.{Image, image_of, with_hint, writes}
 use Rattle.pgv_codec.specs.Writing.{written_part}
