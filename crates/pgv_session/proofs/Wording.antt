@@ -1,8 +1,7 @@
 -- Words, and the numbers that they are.
 use Rattle.std.proofs.Common.{◌≡◌, ◌++◌, ◌+◌, ◌≤◌, ◌<◌, ◌∙◌, sym, ap, List, ℕ, [], ◌∷◌, ◌==◌, Bool, true, false, refl, length, append_assoc, arith}
 use Rattle.std.specs.Prelude.{Option, Some, None, option_map}
-use Rattle.pgv_types.specs.declared.oid.Oid.{Oid}
-use Rattle.pgv_session.specs.Lines.{text_before, text_after, words, at_first, oid_named, oids_named, with_first}
+use Rattle.pgv_session.specs.Lines.{text_before, text_after, words, at_first, each_named, with_first}
 
 abbrev pub words_after : Option (List ℕ) → List (List ℕ)
 words_after None = []
@@ -29,24 +28,25 @@ pub shorter : (text : List ℕ) → size_left (text_after 32 text) ≤ length te
 shorter [] = omega arith
 shorter (c ∷ cs) = shorter_at c cs (c == 32) refl (shorter cs)
 
-put_first : (done : List Oid) (oid : Oid) (rest : Option (List Oid)) → option_map (λ os. (done ++ oid ∷ []) ++ os) rest ≡ option_map (λ os. done ++ os) (with_first (Some oid) rest)
-put_first done oid None = refl
-put_first done oid (Some os) = ap (λ (l : List Oid). Some l) (append_assoc done (oid ∷ []) os)
+pub put_first : {A : Type 0} (done : List A) (x : A) (rest : Option (List A)) → option_map (λ xs. (done ++ x ∷ []) ++ xs) rest ≡ option_map (λ xs. done ++ xs) (with_first (Some x) rest)
+put_first done x None = refl
+put_first done x (Some xs) = ap (λ l. Some l) (append_assoc done (x ∷ []) xs)
 
--- one word more
-pub oid_more : (done done' : List Oid) (oid : Oid) (text all : List ℕ) (rest : Option (List ℕ)) → done' ≡ done ++ oid ∷ [] → rest ≡ text_after 32 text → Some oid ≡ oid_named (text_before 32 text) →
-    option_map (λ os. done ++ os) (oids_named (words text)) ≡ oids_named (words all) →
-    option_map (λ os. done' ++ os) (oids_named (words_after rest)) ≡ oids_named (words all)
-oid_more done done' oid text all rest d r o h =
-    rw (d, r) (put_first done oid (oids_named (words_after (text_after 32 text)))
-    ∙ (ap (λ (f : Option Oid). option_map (λ os. done ++ os) (with_first f (oids_named (words_after (text_after 32 text))))) o
-    ∙ (ap (λ (ws : List (List ℕ)). option_map (λ os. done ++ os) (oids_named ws)) (sym (words_split text)) ∙ h)))
+module _ {A : Type 0} (named : List ℕ → Option A) where
+  -- one word more
+  pub named_more : (done done' : List A) (x : A) (text all : List ℕ) (rest : Option (List ℕ)) → done' ≡ done ++ x ∷ [] → rest ≡ text_after 32 text → Some x ≡ named (text_before 32 text) →
+      option_map (λ xs. done ++ xs) (each_named named (words text)) ≡ each_named named (words all) →
+      option_map (λ xs. done' ++ xs) (each_named named (words_after rest)) ≡ each_named named (words all)
+  named_more done done' x text all rest d r n h =
+      rw (d, r) (put_first done x (each_named named (words_after (text_after 32 text)))
+      ∙ (ap (λ (f : Option A). option_map (λ xs. done ++ xs) (with_first f (each_named named (words_after (text_after 32 text))))) n
+      ∙ (ap (λ (ws : List (List ℕ)). option_map (λ xs. done ++ xs) (each_named named ws)) (sym (words_split text)) ∙ h)))
 
--- a word that is none
-pub oid_none : (done : List Oid) (text all : List ℕ) → None ≡ oid_named (text_before 32 text) → option_map (λ os. done ++ os) (oids_named (words text)) ≡ oids_named (words all) → None ≡ oids_named (words all)
-oid_none done text all o h =
-    ap (λ (f : Option Oid). option_map (λ (os : List Oid). done ++ os) (with_first f (oids_named (words_after (text_after 32 text))))) o
-    ∙ (ap (λ (ws : List (List ℕ)). option_map (λ os. done ++ os) (oids_named ws)) (sym (words_split text)) ∙ h)
+  -- a word that names nothing
+  pub named_none : (done : List A) (text all : List ℕ) → None ≡ named (text_before 32 text) → option_map (λ xs. done ++ xs) (each_named named (words text)) ≡ each_named named (words all) → None ≡ each_named named (words all)
+  named_none done text all n h =
+      ap (λ (f : Option A). option_map (λ (xs : List A). done ++ xs) (with_first f (each_named named (words_after (text_after 32 text))))) n
+      ∙ (ap (λ (ws : List (List ℕ)). option_map (λ xs. done ++ xs) (each_named named ws)) (sym (words_split text)) ∙ h)
 
 -- less is left
 pub less_left : (text : List ℕ) (was now : Option (List ℕ)) → was ≡ Some text → now ≡ text_after 32 text → size_left now < size_left was

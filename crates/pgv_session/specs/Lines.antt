@@ -54,9 +54,13 @@ spelled_oid (Some n) = if nat_lt n 4294967296 then Some (record { 0 = n }) else 
 abbrev pub oid_named : List ℕ → Option Oid
 oid_named word = if is_utf8 word then (if starts_with_plus word then None else spelled_oid (unsigned_value word)) else None
 
+-- what each word names, where each names something
+abbrev pub each_named : {A : Type 0} → (List ℕ → Option A) → List (List ℕ) → Option (List A)
+each_named named [] = Some []
+each_named named (word ∷ rest) = with_first (named word) (each_named named rest)
+
 abbrev pub oids_named : List (List ℕ) → Option (List Oid)
-oids_named [] = Some []
-oids_named (word ∷ rest) = with_first (oid_named word) (oids_named rest)
+oids_named words = each_named oid_named words
 
 -- ---- what is asked for
 

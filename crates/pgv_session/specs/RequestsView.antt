@@ -3,14 +3,13 @@ use Rattle.std.specs.Prelude.{option_map, Some}
 use Rattle.pgv_session.specs.Lines.{words}
 use Rattle.pgv_session.specs.Spelled.{Ask as Asked, to_add, to_add_null, to_read, asks, asks_holes, resolves, asks_wire, copies, Request as RequestSeen}
 use Rattle.pgv_session.specs.declared.line.Ask.{Ask}
-use Rattle.pgv_session.specs.declared.line.Ask.TheVariants.{Add, Null, Read, Show}
+use Rattle.pgv_session.specs.declared.line.Ask.TheVariants.{Add, Null, Read}
 use Rattle.pgv_session.specs.declared.line.Request.{Request}
 use Rattle.pgv_session.specs.declared.line.Request.TheVariants.{Of, Holes, Resolve, Wire, Copy}
 
 abbrev pub ask_seen : Ask → Asked
 ask_seen (Add text) = to_add text.now
 ask_seen Null = to_add_null
-ask_seen (Show bytes) = to_read (Some bytes.now)
 ask_seen (Read part) = to_read (option_map (λ b. b.items) part)
 
 abbrev pub request_seen : Request → RequestSeen

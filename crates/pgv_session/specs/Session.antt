@@ -24,7 +24,7 @@ use Rattle.pgv_copy.specs.CopyView.{Copying}
 use Rattle.pgv_value.specs.declared.value.PgValueFormat.TheVariants.{Text as InText, Binary as InBinary}
 use Rattle.pgv_wire.specs.Arguments.{Argument, Framed, all_tokens, types_in, filled_arguments}
 use Rattle.pgv_session.specs.Spelled.{Ask, to_add, to_add_null, to_read, Request, asks, asks_holes, resolves, asks_wire, copies, Asks}
-use Rattle.pgv_session.specs.Lines.{with_first}
+use Rattle.pgv_session.specs.Lines.{each_named, with_first}
 use Rattle.pgv_session.specs.Types.{LineType, types, row_named}
 
 -- ---- answers
@@ -101,8 +101,7 @@ RespondsBy (Some row) (to_read part) was answer now = ReadsLinePart row part ans
 
 -- the rows of the TYPEs, where each name has one
 abbrev pub rows_named : List (List ℕ) → Option (List LineType)
-rows_named [] = Some []
-rows_named (name ∷ names) = with_first (row_named types name) (rows_named names)
+rows_named names = each_named (row_named types) names
 
 -- a field: null as `null`, and bytes as `read` shows them, where they are read
 abbrev pub field_shown : LineType → Option (List ℕ) → Option (List ℕ)

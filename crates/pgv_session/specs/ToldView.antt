@@ -1,7 +1,7 @@
 -- What is reported of a value: a text, or why it is refused.
 use Rattle.std.specs.Prelude.{◌≡◌, ℕ, Bool, true, false, List, Option, Some, None, IsSome, string_bytes, ⊤}
 use Rattle.pgv_value.specs.declared.value.PgValueFormat.TheVariants.{Binary}
-use Rattle.pgv_session.specs.Spelled.{Ask, to_read}
+use Rattle.pgv_session.specs.Session.{ReadsLinePart}
 use Rattle.pgv_session.specs.Types.{LineType}
 use Rattle.pgv_session.specs.declared.value.Told.{Told}
 use Rattle.pgv_session.specs.declared.value.Told.TheVariants.{Said, Refused}
@@ -15,7 +15,11 @@ is_said (Said text) = true
 is_said (Refused text) = false
 
 -- bytes are refused exactly where they are not read
-abbrev pub TellsOf : Option LineType → Ask → Told → Type 0
-TellsOf (Some row) (to_read (Some bytes)) (Said text) = IsSome (row.value Binary (Some bytes))
-TellsOf (Some row) (to_read (Some bytes)) (Refused text) = row.value Binary (Some bytes) ≡ None
-TellsOf row ask told = ⊤
+abbrev pub Tells : LineType → Option (List ℕ) → Told → Type 0
+Tells row None told = ⊤
+Tells row (Some bytes) (Said text) = IsSome (row.value Binary (Some bytes))
+Tells row (Some bytes) (Refused text) = row.value Binary (Some bytes) ≡ None
+
+-- what bytes are shown as, under a TYPE
+abbrev pub ShowsBytes : LineType → List ℕ → Told → Type 0
+ShowsBytes row bytes told = ReadsLinePart row (Some bytes) (told_text told) × Tells row (Some bytes) told

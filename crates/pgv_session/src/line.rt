@@ -22,8 +22,6 @@ pub enum Ask<'a> {
     Null,
     /// `read TYPE HEX`: the bytes, or null, are read under the type and written again.
     Read(Option<Vec<u8>>),
-    /// A field of a COPY stream that is not null: as [`Ask::Read`].
-    Show(&'a [u8]),
 }
 
 /// What a line asks for.
@@ -63,7 +61,7 @@ pub fn split_word(line: &[u8]) -> (&[u8], Option<&[u8]>)
 }
 
 /// Whether a word is this name.
-pub fn is(word: &[u8], name: &str) -> bool
+pub fn is_word(word: &[u8], name: &str) -> bool
     ensures { result ≡ bytes_eq word.now name.now }
 {
     word == name.as_bytes()
@@ -78,7 +76,7 @@ fn oid(word: &[u8]) -> Option<Oid>
     if is_plus_first(text) {
         return None;
     }
-    number(text)
+    oid_in_digits(text)
 }
 
 fn is_plus_first(text: &str) -> bool
@@ -90,8 +88,8 @@ fn is_plus_first(text: &str) -> bool
     }
 }
 
-/// A number up to 4294967295.
-fn number(text: &str) -> Option<Oid>
+/// The OID that digits up to 4294967295 are.
+fn oid_in_digits(text: &str) -> Option<Oid>
     ensures { result ≡ spelled_oid (unsigned_value text.now) }
 {
     let number = unsigned_number_of(text).ok()?;
@@ -133,7 +131,7 @@ fn given_bytes(alloc: Global, text: &[u8]) -> Result<Option<Option<Vec<u8>>>, Al
     ensures { IfOk result (λ found. option_map (option_map (λ v. v.items)) found
         ≡ bytes_given text.now) }
 {
-    if is(text, "null") {
+    if is_word(text, "null") {
         return Ok(Some(None));
     }
     match hex_bytes(alloc, text)? {
@@ -147,25 +145,25 @@ pub fn parse<'a>(alloc: Global, line: &'a [u8]) -> Result<Option<Request<'a>>, A
     ensures { IfOk result (λ found. Asks line.now (option_map request_seen found)) }
 {
     let (verb, rest) = split_word(line);
-    if is(verb, "add") {
+    if is_word(verb, "add") {
         return Ok(add_line(rest));
     }
-    if is(verb, "null") {
+    if is_word(verb, "null") {
         return Ok(null_line(rest));
     }
-    if is(verb, "holes") {
+    if is_word(verb, "holes") {
         return Ok(alone(Request::Holes, rest));
     }
-    if is(verb, "resolve") {
+    if is_word(verb, "resolve") {
         return resolve_line(alloc, rest);
     }
-    if is(verb, "wire") {
+    if is_word(verb, "wire") {
         return Ok(alone(Request::Wire, rest));
     }
-    if is(verb, "read") {
+    if is_word(verb, "read") {
         return read_line(alloc, rest);
     }
-    if is(verb, "copy") {
+    if is_word(verb, "copy") {
         return copy_line(alloc, rest);
     }
     Ok(None)

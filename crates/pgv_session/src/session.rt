@@ -37,7 +37,7 @@ fn respond_to(
         return String::from_str(alloc, "refused line");
     };
     match request {
-        Request::Of(name, ask) => Ok(respond_by(alloc, arguments, name, ask)?.into_text()),
+        Request::Of(name, ask) => respond_by(alloc, arguments, name, ask),
         Request::Holes => names(alloc, arguments.hole_types()),
         Request::Resolve(oids) => resolve(alloc, arguments, oids.as_slice()),
         Request::Copy(bytes, names) => copied(alloc, bytes.as_slice(), names),

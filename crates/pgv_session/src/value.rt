@@ -1,6 +1,6 @@
 //! What is asked of a value of a TYPE.
 
-ghost use Rattle.std.specs.Prelude.{◌≡◌, ◌≢◌, Some, None, IfOk, option_map, is_some, false, string_bytes};
+ghost use Rattle.std.specs.Prelude.{◌≡◌, ◌≢◌, Some, None, IfOk, is_some, false, string_bytes};
 ghost use Rattle.std.specs.Option.{option_copied};
 ghost use Rattle.pgv_value.specs.Codes.{code_of};
 ghost use Rattle.pgv_value.specs.Outcome.{reading_of, why_of};
@@ -9,8 +9,7 @@ ghost use Rattle.pgv_value.specs.declared.value.PgValueFormat.TheVariants.{Binar
 ghost use Rattle.pgv_codec.specs.Encoding.{frame};
 ghost use Rattle.pgv_session.specs.RequestsView.{ask_seen};
 ghost use Rattle.pgv_session.specs.Session.{RespondsBy, AddsLine, AddsText, ReadsLinePart, Shows, IsRefusal, refused, placeholder as placeholder_of};
-ghost use Rattle.pgv_session.specs.Spelled.{to_read};
-ghost use Rattle.pgv_session.specs.ToldView.{told_text, is_said, TellsOf};
+ghost use Rattle.pgv_session.specs.ToldView.{told_text, is_said, ShowsBytes, Tells};
 ghost use Rattle.pgv_session.specs.Types.{framed_as, line_type, row_named, row_of, types};
 
 use crate::line::Ask;
@@ -28,7 +27,7 @@ use pgv_wire::PgArguments;
 use std::alloc::{AllocError, Global};
 use uuid::Uuid;
 
-/// The response of a TYPE to what is asked of a value.
+/// What bytes are shown as.
 #[derive(Drop)]
 pub enum Told {
     /// What was asked for.
@@ -48,50 +47,57 @@ impl Told {
     }
 }
 
-/// The type that a TYPE of this name has, if there is one.
-pub fn type_named(name: &[u8]) -> Option<PgTypeInfo>
-    ensures { result ≡ option_map (λ row. row.info) (row_named types name.now) }
-{
-    Some(type_of(type_name(name)?))
+/// A call of a function of one type parameter with the Rust type of a TYPE: the one table of these types.
+macro_rules! by_type {
+    ($name:expr, $call:ident($($given:expr),*)) => {
+        match $name {
+            TypeName::Bool => $call::<bool>($($given),*),
+            TypeName::Char => $call::<i8>($($given),*),
+            TypeName::Int2 => $call::<i16>($($given),*),
+            TypeName::Int4 => $call::<i32>($($given),*),
+            TypeName::Int8 => $call::<i64>($($given),*),
+            TypeName::Oid => $call::<Oid>($($given),*),
+            TypeName::Text => $call::<String>($($given),*),
+            TypeName::Uuid => $call::<Uuid>($($given),*),
+            TypeName::Date => $call::<Date>($($given),*),
+            TypeName::Time => $call::<Time>($($given),*),
+            TypeName::Timestamp => $call::<DateTime>($($given),*),
+            TypeName::Timestamptz => $call::<Timestamp>($($given),*),
+            TypeName::Timetz => $call::<PgTimeTz>($($given),*),
+            TypeName::Interval => $call::<PgInterval>($($given),*),
+            TypeName::Varbit => $call::<BitVec>($($given),*),
+            TypeName::Inet => $call::<IpNetwork>($($given),*),
+            TypeName::Macaddr => $call::<MacAddress>($($given),*),
+            TypeName::Bytea => $call::<PgBytea>($($given),*),
+            TypeName::Citext => $call::<PgCiText>($($given),*),
+            TypeName::Money => $call::<PgMoney>($($given),*),
+            TypeName::Numeric => $call::<PgNumeric>($($given),*),
+            TypeName::Hstore => $call::<PgHstore>($($given),*),
+            TypeName::Int4Range => $call::<PgRange<i32>>($($given),*),
+            TypeName::Int8Range => $call::<PgRange<i64>>($($given),*),
+            TypeName::DateRange => $call::<PgRange<Date>>($($given),*),
+            TypeName::Ltree => $call::<PgLTree>($($given),*),
+            TypeName::Lquery => $call::<PgLQuery>($($given),*),
+            TypeName::Int4Array => $call::<Vec<Option<i32>>>($($given),*),
+            TypeName::TextArray => $call::<Vec<Option<String>>>($($given),*),
+            TypeName::DateArray => $call::<Vec<Option<Date>>>($($given),*),
+            TypeName::LtreeArray => $call::<Vec<Option<PgLTree>>>($($given),*),
+        }
+    };
 }
 
 /// The type that a TYPE has.
-fn type_of(name: TypeName) -> PgTypeInfo
+pub fn type_of(name: TypeName) -> PgTypeInfo
     ensures { result ≡ (row_of name).info }
 {
-    match name {
-        TypeName::Bool => bool::type_info(),
-        TypeName::Char => i8::type_info(),
-        TypeName::Int2 => i16::type_info(),
-        TypeName::Int4 => i32::type_info(),
-        TypeName::Int8 => i64::type_info(),
-        TypeName::Oid => Oid::type_info(),
-        TypeName::Text => String::type_info(),
-        TypeName::Uuid => Uuid::type_info(),
-        TypeName::Date => Date::type_info(),
-        TypeName::Time => Time::type_info(),
-        TypeName::Timestamp => DateTime::type_info(),
-        TypeName::Timestamptz => Timestamp::type_info(),
-        TypeName::Timetz => PgTimeTz::type_info(),
-        TypeName::Interval => PgInterval::type_info(),
-        TypeName::Varbit => BitVec::type_info(),
-        TypeName::Inet => IpNetwork::type_info(),
-        TypeName::Macaddr => MacAddress::type_info(),
-        TypeName::Bytea => PgBytea::type_info(),
-        TypeName::Citext => PgCiText::type_info(),
-        TypeName::Money => PgMoney::type_info(),
-        TypeName::Numeric => PgNumeric::type_info(),
-        TypeName::Hstore => PgHstore::type_info(),
-        TypeName::Int4Range => <PgRange<i32>>::type_info(),
-        TypeName::Int8Range => <PgRange<i64>>::type_info(),
-        TypeName::DateRange => <PgRange<Date>>::type_info(),
-        TypeName::Ltree => PgLTree::type_info(),
-        TypeName::Lquery => PgLQuery::type_info(),
-        TypeName::Int4Array => <Vec<Option<i32>>>::type_info(),
-        TypeName::TextArray => <Vec<Option<String>>>::type_info(),
-        TypeName::DateArray => <Vec<Option<Date>>>::type_info(),
-        TypeName::LtreeArray => <Vec<Option<PgLTree>>>::type_info(),
-    }
+    by_type!(name, info_of())
+}
+
+/// The type that a Rust type has.
+fn info_of<T: Type>() -> PgTypeInfo
+    ensures { result ≡ T.info }
+{
+    T::type_info()
 }
 
 /// Answers what is asked of a value of the TYPE of this name, if there is one.
@@ -100,15 +106,14 @@ pub fn respond_by(
     arguments: &mut PgArguments,
     name: &[u8],
     ask: Ask,
-) -> Result<Told, AllocError>
-    ensures { IfOk result (λ told.
+) -> Result<String, AllocError>
+    ensures { IfOk result (λ text.
         RespondsBy (row_named types name.now) (ask_seen ask.entry)
-        arguments.old (told_text told) arguments.new
-        × TellsOf (row_named types name.now) (ask_seen ask.entry) told) }
+        arguments.old (string_bytes text) arguments.new) }
 {
     match type_name(name) {
         Some(name) => respond(alloc, arguments, name, ask),
-        None => Ok(Told::Refused(String::from_str(alloc, "refused line")?)),
+        None => String::from_str(alloc, "refused line"),
     }
 }
 
@@ -118,45 +123,12 @@ fn respond(
     arguments: &mut PgArguments,
     name: TypeName,
     ask: Ask,
-) -> Result<Told, AllocError>
-    ensures { IfOk result (λ told.
+) -> Result<String, AllocError>
+    ensures { IfOk result (λ text.
         RespondsBy (Some (row_of name)) (ask_seen ask.entry)
-        arguments.old (told_text told) arguments.new
-        × TellsOf (Some (row_of name)) (ask_seen ask.entry) told) }
+        arguments.old (string_bytes text) arguments.new) }
 {
-    match name {
-        TypeName::Bool => respond_as::<bool>(alloc, arguments, ask),
-        TypeName::Char => respond_as::<i8>(alloc, arguments, ask),
-        TypeName::Int2 => respond_as::<i16>(alloc, arguments, ask),
-        TypeName::Int4 => respond_as::<i32>(alloc, arguments, ask),
-        TypeName::Int8 => respond_as::<i64>(alloc, arguments, ask),
-        TypeName::Oid => respond_as::<Oid>(alloc, arguments, ask),
-        TypeName::Text => respond_as::<String>(alloc, arguments, ask),
-        TypeName::Uuid => respond_as::<Uuid>(alloc, arguments, ask),
-        TypeName::Date => respond_as::<Date>(alloc, arguments, ask),
-        TypeName::Time => respond_as::<Time>(alloc, arguments, ask),
-        TypeName::Timestamp => respond_as::<DateTime>(alloc, arguments, ask),
-        TypeName::Timestamptz => respond_as::<Timestamp>(alloc, arguments, ask),
-        TypeName::Timetz => respond_as::<PgTimeTz>(alloc, arguments, ask),
-        TypeName::Interval => respond_as::<PgInterval>(alloc, arguments, ask),
-        TypeName::Varbit => respond_as::<BitVec>(alloc, arguments, ask),
-        TypeName::Inet => respond_as::<IpNetwork>(alloc, arguments, ask),
-        TypeName::Macaddr => respond_as::<MacAddress>(alloc, arguments, ask),
-        TypeName::Bytea => respond_as::<PgBytea>(alloc, arguments, ask),
-        TypeName::Citext => respond_as::<PgCiText>(alloc, arguments, ask),
-        TypeName::Money => respond_as::<PgMoney>(alloc, arguments, ask),
-        TypeName::Numeric => respond_as::<PgNumeric>(alloc, arguments, ask),
-        TypeName::Hstore => respond_as::<PgHstore>(alloc, arguments, ask),
-        TypeName::Int4Range => respond_as::<PgRange<i32>>(alloc, arguments, ask),
-        TypeName::Int8Range => respond_as::<PgRange<i64>>(alloc, arguments, ask),
-        TypeName::DateRange => respond_as::<PgRange<Date>>(alloc, arguments, ask),
-        TypeName::Ltree => respond_as::<PgLTree>(alloc, arguments, ask),
-        TypeName::Lquery => respond_as::<PgLQuery>(alloc, arguments, ask),
-        TypeName::Int4Array => respond_as::<Vec<Option<i32>>>(alloc, arguments, ask),
-        TypeName::TextArray => respond_as::<Vec<Option<String>>>(alloc, arguments, ask),
-        TypeName::DateArray => respond_as::<Vec<Option<Date>>>(alloc, arguments, ask),
-        TypeName::LtreeArray => respond_as::<Vec<Option<PgLTree>>>(alloc, arguments, ask),
-    }
+    by_type!(name, respond_as(alloc, arguments, ask))
 }
 
 /// Answers what is asked of a value of a Rust type that does not read null.
@@ -164,22 +136,38 @@ fn respond_as<T: Codec>(
     alloc: Global,
     arguments: &mut PgArguments,
     ask: Ask,
-) -> Result<Told, AllocError>
+) -> Result<String, AllocError>
     requires { reading_of T.parse T.info InBinary None ≡ None }
-    ensures { IfOk result (λ told.
+    ensures { IfOk result (λ text.
         RespondsBy (Some (line_type T.info T.parse T.written)) (ask_seen ask.entry)
-        arguments.old (told_text told) arguments.new
-        × TellsOf (Some (line_type T.info T.parse T.written)) (ask_seen ask.entry) told) }
+        arguments.old (string_bytes text) arguments.new) }
 {
     match ask {
-        Ask::Add(text) => Ok(Told::Said(add::<T>(alloc, arguments, text)?)),
-        Ask::Null => Ok(Told::Said(add_value(alloc, arguments, &None::<T>)?)),
-        Ask::Show(bytes) => read::<T>(alloc, Some(bytes)),
-        Ask::Read(part) => match &part {
-            Some(bytes) => read::<T>(alloc, Some(bytes.as_slice())),
-            None => read::<T>(alloc, None),
-        },
+        Ask::Add(text) => add::<T>(alloc, arguments, text),
+        Ask::Null => add_value(alloc, arguments, &None::<T>),
+        Ask::Read(part) => {
+            let told = match &part {
+                Some(bytes) => read::<T>(alloc, Some(bytes.as_slice()))?,
+                None => read::<T>(alloc, None)?,
+            };
+            Ok(told.into_text())
+        }
     }
+}
+
+/// The frame that the value of a TYPE which bytes are writes, in hex, or why it is refused.
+pub fn show(alloc: Global, name: TypeName, bytes: &[u8]) -> Result<Told, AllocError>
+    ensures { IfOk result (ShowsBytes (row_of name) bytes.now) }
+{
+    by_type!(name, show_as(alloc, bytes))
+}
+
+/// The same of a Rust type that does not read null.
+fn show_as<T: Codec>(alloc: Global, bytes: &[u8]) -> Result<Told, AllocError>
+    requires { reading_of T.parse T.info InBinary None ≡ None }
+    ensures { IfOk result (ShowsBytes (line_type T.info T.parse T.written) bytes.now) }
+{
+    read::<T>(alloc, Some(bytes))
 }
 
 /// Adds the value that a text is.
@@ -235,8 +223,7 @@ fn read<T: Codec>(alloc: Global, part: Option<&[u8]>) -> Result<Told, AllocError
     ensures { IfOk result (λ told.
         ReadsLinePart (line_type T.info T.parse T.written) (option_copied part.entry)
         (told_text told)
-        × TellsOf (Some (line_type T.info T.parse T.written))
-        (to_read (option_copied part.entry)) told) }
+        × Tells (line_type T.info T.parse T.written) (option_copied part.entry) told) }
 {
     match T::decode(
         alloc,

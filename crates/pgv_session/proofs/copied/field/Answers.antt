@@ -2,4 +2,4 @@ use Rattle.pgv_session.proofs.CopySteps.{field_shows}
 use Rattle.pgv_session.proofs.copied.field.Goals as goal
 
 pub returns-in-Ok : goal.returns-in-Ok
-returns-in-Ok c = field_shows _ _ c.in-Ok.bytes.now _ _ c.respond_by.result c.in-Ok.ensures c.respond_by.ensures
+returns-in-Ok c = field_shows _ _ c.in-Ok.bytes.now c.show.result c.in-Ok.ensures c.show.ensures

@@ -1,22 +1,23 @@
 use Rattle.std.proofs.Common.{rules, ap, ◌∙◌}
 use Rattle.std.specs.Prelude.{map, string_bytes}
 use Rattle.std.proofs.lemmas.List.{map-append}
+use Rattle.pgv_session.specs.CopiedView.{rows_of}
 use Rattle.pgv_session.proofs.CopySteps.{row_more, row_stops, stream_refused}
 use Rattle.pgv_session.proofs.copied.rows.Goals as goal
 
 pub returns-in-Err-next_row : goal.returns-in-Err-next_row
 returns-in-Err-next_row c =
-    stream_refused _ _ c.args.bytes.now c.loop.invariant.0 _ c.loop.reader c.in-Err-next_row.error c.refusal-in-Err-next_row.result c.loop.invariant.1 c.loop.invariant.2 c.in-Err-next_row.ensures.exact
+    stream_refused (rows_of c.args.columns.now) c.args.bytes.now c.loop.invariant.0 _ c.loop.reader c.in-Err-next_row.error c.refusal-in-Err-next_row.result c.loop.invariant.1 c.loop.invariant.2 c.in-Err-next_row.ensures.exact
     c.refusal-in-Err-next_row.ensures.told c.refusal-in-Err-next_row.ensures.number
 
 pub returns-in-Refused : goal.returns-in-Refused
 returns-in-Refused c =
-    row_stops _ _ c.args.bytes.now c.loop.invariant.0 _ c.loop.reader c.next_row.new.self c.in-Ok-Some.row.items c.in-Refused.text c.loop.invariant.1 c.loop.invariant.2 (search rules) (search rules)
+    row_stops (rows_of c.args.columns.now) c.args.bytes.now c.loop.invariant.0 _ c.loop.reader c.next_row.new.self c.in-Ok-Some.row.items c.in-Refused.text c.loop.invariant.1 c.loop.invariant.2 (search rules) (search rules)
 
 pub loop-preserved : goal.loop-preserved
 loop-preserved c = (
   c.loop.invariant.0,
   c.loop.invariant.1,
-  row_more _ _ c.loop.invariant.0 _ _ c.loop.reader c.next_row.new.self c.in-Ok-Some.row.items c.in-Said.text c.loop.invariant.2 (search rules) (search rules)
+  row_more (rows_of c.args.columns.now) c.loop.invariant.0 _ _ c.loop.reader c.next_row.new.self c.in-Ok-Some.row.items c.in-Said.text c.loop.invariant.2 (search rules) (search rules)
       (ap (map (λ t. string_bytes t)) c.in_ok-push-in-Said.ensures.items ∙ map-append (λ t. string_bytes t) _ _),
 )
