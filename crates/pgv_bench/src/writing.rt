@@ -47,6 +47,7 @@ pub fn write_all<T: Encode + Type>(
     Ok(sum)
 }
 
+/// Writes truth values as [`write_all`] does: those of numbers above 0 are true.
 pub fn write_bools(
     alloc: Global,
     values: &[i32],
@@ -60,6 +61,7 @@ pub fn write_bools(
     write_all(alloc, made.as_slice(), rounds, how)
 }
 
+/// Writes UUIDs of sixteen bytes each.
 pub fn write_ids(alloc: Global, bytes: &[u8], rounds: u32, how: u32) -> Result<usize, CodecError> {
     let mut made = Vec::new(alloc);
     for part in bytes.chunks(16) {
@@ -86,6 +88,7 @@ fn texts_of(alloc: Global, blob: &[u8], lens: &[u32]) -> Result<Vec<String>, Cod
     Ok(made)
 }
 
+/// Writes texts of these lengths, one after another in `blob`.
 pub fn write_texts(
     alloc: Global,
     blob: &[u8],
@@ -97,6 +100,7 @@ pub fn write_texts(
     write_all(alloc, made.as_slice(), rounds, how)
 }
 
+/// Writes arrays of `per` numbers each.
 pub fn write_lists(
     alloc: Global,
     values: &[i32],
@@ -120,6 +124,7 @@ fn options_of(alloc: Global, part: &[i32]) -> Result<Vec<Option<i32>>, CodecErro
     Ok(list)
 }
 
+/// Writes arrays of `per` numbers, some of them null.
 pub fn write_options(
     alloc: Global,
     values: &[i32],
@@ -134,6 +139,7 @@ pub fn write_options(
     write_all(alloc, made.as_slice(), rounds, how)
 }
 
+/// Writes arrays of `per` texts each.
 pub fn write_text_lists(
     alloc: Global,
     blob: &[u8],
@@ -153,6 +159,7 @@ pub fn write_text_lists(
     write_all(alloc, made.as_slice(), rounds, how)
 }
 
+/// Writes records of a number, a text and a truth value.
 pub fn write_records(
     alloc: Global,
     blob: &[u8],
@@ -177,6 +184,7 @@ fn statement(alloc: Global, name: &String) -> Result<usize, CodecError> {
     Ok(arguments.buffer().len())
 }
 
+/// Adds the arguments of a statement for each name, `rounds` times; the sum of their bytes.
 pub fn statements(
     alloc: Global,
     blob: &[u8],
@@ -193,6 +201,7 @@ pub fn statements(
     Ok(sum)
 }
 
+/// Writes a Bind for each name, `rounds` times.
 pub fn bindings(
     alloc: Global,
     blob: &[u8],
@@ -239,6 +248,7 @@ fn filled(
     Ok(arguments.buffer().len())
 }
 
+/// Fills the holes of `n` arrays of a type that is known by its name, `rounds` times.
 pub fn patches(alloc: Global, n: u32, rounds: u32) -> Result<usize, CodecError> {
     let mut arguments = lists_of_moods(alloc, n)?;
     let types = own_types(alloc, &arguments)?;
@@ -264,6 +274,7 @@ fn types_of_objects(alloc: Global, n: u32) -> Result<Vec<PgTypeInfo>, CodecError
     Ok(types)
 }
 
+/// Fills the slots of `n` objects, `rounds` times.
 pub fn slots(alloc: Global, n: u32, rounds: u32) -> Result<usize, CodecError> {
     let mut arguments = objects(alloc, n)?;
     let types = types_of_objects(alloc, n)?;
