@@ -16,12 +16,12 @@ overflow_sub-size g c =
     let h = encoded_image e.image c.push_u32.new.self c.encode_by_ref.new.out c.in-No.is c.in_ok-encode_by_ref.ensures.encodes in
     omega (arith, c.len.ensures, c.len-start.ensures, grown c.push_u32.new.self c.encode_by_ref.new.out h.0 h.2)
 
-pub returns-then-size-gt-MAX_LENGTH-clause-exact : goal.returns-then-size-gt-MAX_LENGTH-clause-exact
-returns-then-size-gt-MAX_LENGTH-clause-exact g c =
+pub returns-then-size-clause-exact : goal.returns-then-size-clause-exact
+returns-then-size-clause-exact g c =
     let e = g.T.Encode.encoding c.args.value.now in
     let h = encoded_image e.image c.push_u32.new.self c.encode_by_ref.new.out c.in-No.is c.in_ok-encode_by_ref.ensures.encodes in
     let s : tokens_width h.0 ≡ c.len.result - c.len-start.result = omega (arith, c.len.ensures, c.len-start.ensures, grown c.push_u32.new.self c.encode_by_ref.new.out h.0 h.2) in
-    rw (← s) (inl (long_frame e h.0 c.requires h.1 (omega (arith, s, c.if-size-gt-MAX_LENGTH.true))))
+    rw (← s) (inl (long_frame e h.0 c.requires h.1 (omega (arith, s, c.if-size.true))))
 
 pub put_u32-requires-in-No : goal.put_u32-requires-in-No
 put_u32-requires-in-No g c =
@@ -39,13 +39,13 @@ returns-in-Yes-clause-exact g c =
           ∙ append-nil (c.args.self.now ++ fixed_bytes (be4 4294967295)),
     )
 
-pub returns-else-size-gt-MAX_LENGTH-clause-exact : goal.returns-else-size-gt-MAX_LENGTH-clause-exact
-returns-else-size-gt-MAX_LENGTH-clause-exact g c =
+pub returns-else-size-clause-exact : goal.returns-else-size-clause-exact
+returns-else-size-clause-exact g c =
     let e = g.T.Encode.encoding c.args.value.now in
     let h = encoded_image e.image c.push_u32.new.self c.encode_by_ref.new.out c.in-No.is c.in_ok-encode_by_ref.ensures.encodes in
     let s : c.len.result - c.len-start.result ≡ tokens_width h.0 = omega (arith, c.len.ensures, c.len-start.ensures, grown c.push_u32.new.self c.encode_by_ref.new.out h.0 h.2) in
     let put = c.put_u32-in-No.ensures c.args.self.now (be4 0) (blank h.0) (c.self-2.view_is ∙ (h.2 ∙ ap (λ r. r ++ blank h.0) c.in_ok-push_u32.ensures.ok)) refl (c.mark-mark.ensures ∙ ap mark_of c.self.view_is) in (
       bytes (be4 (tokens_width h.0)) ++ h.0,
-      image_frame e h.0 c.requires h.1 (omega (arith, s, c.if-size-gt-MAX_LENGTH.false)),
+      image_frame e h.0 c.requires h.1 (omega (arith, s, c.if-size.false)),
       put ∙ (ap (λ n. c.args.self.now ++ fixed_bytes (be4 n) ++ blank h.0) s ∙ append_assoc c.args.self.now (fixed_bytes (be4 (tokens_width h.0))) (blank h.0)),
     )

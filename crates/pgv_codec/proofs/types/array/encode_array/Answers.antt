@@ -17,6 +17,6 @@ returns-clause-encodes g c =
     let h : Appended (header t (length xs)) was c.write_header.new.out =
     subst (λ (u : Ty). Appended (header u (length xs)) was c.write_header.new.out) c.in_ok-element.ensures start in (
       h.0 ++ a.0,
-      array_there g.T.Encode.encoding g.T.Type.info xs h.0 a.0 (omega (arith, c.if-count-gt-MAX_LENGTH.false)) h.1 a.1,
+      array_there g.T.Encode.encoding g.T.Type.info xs h.0 a.0 (omega (arith, c.if-count.false)) h.1 a.1,
       both was c.write_header.new.out c.write_frames.new.out h.0 a.0 h.2 a.2,
     )
