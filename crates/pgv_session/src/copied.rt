@@ -97,14 +97,13 @@ fn row_text(alloc: Global, columns: &[TypeName], row: &[PgValueRef<'_>]) -> Resu
     let mut texts = Vec::new(alloc);
     let mut left = row;
     for column in columns {
-        let Some((value, rest)) = left.split_first() else {
-            break;
-        };
-        match field(alloc, *column, value)? {
-            Told::Said(text) => texts.push(text)?,
-            Told::Refused(text) => return Ok(Told::Refused(text)),
+        if let Some((value, rest)) = left.split_first() {
+            match field(alloc, *column, value)? {
+                Told::Said(text) => texts.push(text)?,
+                Told::Refused(text) => return Ok(Told::Refused(text)),
+            }
+            left = rest;
         }
-        left = rest;
     }
     Ok(Told::Said(joined(alloc, texts.as_slice(), " ")?))
 }

@@ -155,19 +155,11 @@ fn respond_as<T: Codec>(
     }
 }
 
-/// The frame that the value of a TYPE which bytes are writes, in hex, or why it is refused.
+/// Reads bytes under a TYPE, and shows the frame that the value writes, in hex; or why it is refused.
 pub fn show(alloc: Global, name: TypeName, bytes: &[u8]) -> Result<Told, AllocError>
     ensures { IfOk result (ShowsBytes (row_of name) bytes.now) }
 {
-    by_type!(name, show_as(alloc, bytes))
-}
-
-/// The same of a Rust type that does not read null.
-fn show_as<T: Codec>(alloc: Global, bytes: &[u8]) -> Result<Told, AllocError>
-    requires { reading_of T.parse T.info InBinary None ≡ None }
-    ensures { IfOk result (ShowsBytes (line_type T.info T.parse T.written) bytes.now) }
-{
-    read::<T>(alloc, Some(bytes))
+    by_type!(name, read(alloc, Some(bytes)))
 }
 
 /// Adds the value that a text is.
