@@ -1,5 +1,5 @@
 -- The steps of the line `copy`.
-use Rattle.std.proofs.Common.{◌≡◌, ◌≢◌, ◌++◌, ◌∙◌, sym, ap, subst, ℕ, List, [], ◌∷◌, inl, inr, refl, Option, Some, None, append-nil}
+use Rattle.std.proofs.Common.{◌≡◌, ◌≢◌, ◌++◌, ◌∙◌, sym, ap, subst, Bool, ℕ, List, [], ◌∷◌, inl, inr, refl, Option, Some, None, append-nil}
 use Rattle.std.specs.Prelude.{option_map, zip, string_bytes, Result, Ok, Err, IfOk, IsSome, codes}
 use Rattle.std.specs.declared.alloc.AllocError.{AllocError}
 use Rattle.hex.specs.Hex.{encode_lower}
@@ -94,11 +94,9 @@ all_shown columns row texts fields e h =
 pub no_column : (columns : List LineType) (row : List Given) (texts : List (List ℕ)) (columns_left : List LineType) (left : List Given) → columns_left ≡ [] → AreSoFar columns row texts columns_left left → row_shown columns row ≡ Some (all_with (codes " ") texts)
 no_column columns row texts columns_left left e h = all_shown columns row texts (zip columns_left left) (ap (λ cs. zip cs left) e) h.shown_so_far
 
--- no value is left for a column
-pub no_value : (columns : List LineType) (row : List Given) (texts : List (List ℕ)) (column : LineType) (columns_left : List LineType) (left : List Given) → left ≡ [] → AreSoFar columns row texts (column ∷ columns_left) left → AreSoFar columns row texts columns_left left
-no_value columns row texts column columns_left left e h =
-    let same : ◌≡◌ {A = List (LineType × Given)} (zip columns_left left) (zip (column ∷ columns_left) left) = rw e (zip_nothing columns_left) in
-    record { shown_so_far = ap (λ (fs : List (LineType × Given)). option_map (λ ts. texts ++ ts) (fields_shown fs)) same ∙ h.shown_so_far; refused_later = ap fields_refused same ∙ h.refused_later }
+-- no value is left
+pub no_value : (columns : List LineType) (row : List Given) (texts : List (List ℕ)) (columns_left : List LineType) (left : List Given) → left ≡ [] → AreSoFar columns row texts columns_left left → row_shown columns row ≡ Some (all_with (codes " ") texts)
+no_value columns row texts columns_left left e h = all_shown columns row texts (zip columns_left left) (ap (zip columns_left) e ∙ zip_nothing columns_left) h.shown_so_far
 
 -- ---- rows
 

@@ -95,14 +95,13 @@ fn row_text(alloc: Global, columns: &[TypeName], row: &[PgValueRef<'_>]) -> Resu
     ensures { IfOk result (ShowsRow (rows_of columns.now) row.now) }
 {
     let mut texts = Vec::new(alloc);
-    let mut left = row;
-    for column in columns {
-        if let Some((value, rest)) = left.split_first() {
-            match field(alloc, *column, value)? {
-                Told::Said(text) => texts.push(text)?,
-                Told::Refused(text) => return Ok(Told::Refused(text)),
-            }
-            left = rest;
+    for (place, column) in columns.iter().enumerate() {
+        let Some(value) = row.get(place) else {
+            return Ok(Told::Said(joined(alloc, texts.as_slice(), " ")?));
+        };
+        match field(alloc, *column, value)? {
+            Told::Said(text) => texts.push(text)?,
+            Told::Refused(text) => return Ok(Told::Refused(text)),
         }
     }
     Ok(Told::Said(joined(alloc, texts.as_slice(), " ")?))
