@@ -1,9 +1,10 @@
 -- A COPY in binary to the driver (PostgreSQL: "COPY", "Binary Format"; "COPY Operations"): the lines of its rows, as
 -- they come in messages.
-use Rattle.std.specs.Prelude.{◌≡◌, ◌≢◌, ℕ, Bool, true, false, zero, suc, ◌==◌, List, [], ◌∷◌, ◌++◌, length, replicate, Option, Some, None, Ok}
+use Rattle.std.specs.Prelude.{◌≡◌, ◌≢◌, ℕ, Bool, true, false, zero, suc, ◌==◌, codes, List, [], ◌∷◌, ◌++◌, length, replicate, Option, Some, None, Ok}
 use Rattle.std.specs.List.{flat_map, slice_get}
 use Rattle.hex.specs.Hex.{encode_lower}
 use Rattle.pgv.specs.Words.{Given, Part}
+use Rattle.pgv_text.specs.Characters.{upper_h, lower_d}
 use Rattle.pgv_types.specs.Ty.{by_oid}
 use Rattle.pgv_copy.specs.CopyPieces.{Advances, Pieces, nothing_came, with_more}
 use Rattle.pgv_copy.specs.declared.pieces.PgCopyNext.{PgCopyNext}
@@ -21,7 +22,7 @@ use Rattle.pgquery.specs.declared.connection.Connection.{Connection}
 
 -- null as `\N`, and else the bytes in hex
 abbrev pub in_hex : Part → List ℕ
-in_hex None = 92 ∷ 78 ∷ []
+in_hex None = codes "\\N"
 in_hex (Some bytes) = encode_lower bytes
 
 abbrev pub field_in_hex : Option Given → List ℕ
@@ -56,15 +57,15 @@ abbrev pub OpensCopy : List ℕ → Pieces → Type 0
 OpensCopy body reader =
     (columns : List PgValueFormat) × ((copy_formats body).answer ≡ Ok (Binary, columns)) × (reader ≡ nothing_came (replicate (length columns) (by_oid 0)))
 
--- What an answer does to the reader, and which text it shows: CopyOutResponse, whose tag is 72, makes the reader, and a
--- CopyData, whose tag is 100, is a piece.
+-- What an answer does to the reader, and which text it shows: CopyOutResponse, whose tag is `H`, makes the reader, and
+-- a CopyData, whose tag is `d`, is a piece.
 abbrev pub CopiesBy : Bool → Bool → List ℕ → Pieces → Pieces → List ℕ → Type 0
 CopiesBy true is_data body reader after text = OpensCopy body after × (text ≡ [])
 CopiesBy false true body reader after text = ShowsPiece body reader after text
 CopiesBy false false body reader after text = (after ≡ reader) × (text ≡ [])
 
 abbrev pub CopiesAnswer : ℕ → List ℕ → Pieces → Pieces → List ℕ → Type 0
-CopiesAnswer tag body reader after text = CopiesBy (tag == 72) (tag == 100) body reader after text
+CopiesAnswer tag body reader after text = CopiesBy (tag == upper_h) (tag == lower_d) body reader after text
 
 -- This text is the lines of the rows that come in answers, in order.
 abbrev pub CopiesAnswers : Pieces → List Incoming → Pieces → List ℕ → Type 0

@@ -2,9 +2,10 @@
 -- two; null as `\N`, and in a text tabs, line feeds, carriage returns and backslashes escaped. As an object of JSON
 -- (RFC 8259): the name of each column, and its value as a string or null; in a string quotes and backslashes escaped,
 -- and controls by their number.
-use Rattle.std.specs.Prelude.{◌≡◌, ℕ, Bool, true, false, zero, suc, ◌+◌, ◌/◌, ◌%◌, ◌==◌, nat_lt, if◌then◌else◌, List, [], ◌∷◌, ◌++◌, length, Option, Some, None, ⊤}
+use Rattle.std.specs.Prelude.{◌≡◌, ℕ, Bool, true, false, zero, suc, ◌+◌, ◌-◌, ◌/◌, ◌%◌, ◌==◌, nat_lt, if◌then◌else◌, codes, List, [], ◌∷◌, ◌++◌, length, Option, Some, None, ⊤}
 use Rattle.std.specs.List.{flat_map, slice_get}
 use Rattle.std.specs.Io.KnownBytes.{Appends}
+use Rattle.pgv_text.specs.Characters.{tab, line_feed, carriage_return, space, double_quote, comma, digit_zero, colon, upper_d, lower_a, backslash, left_brace, right_brace}
 use Rattle.pgv.specs.Words.{Given, Part}
 use Rattle.pgv_row.specs.ColumnView.{Column}
 use Rattle.pgv_row.specs.DataRow.{IsDataRow}
@@ -15,20 +16,19 @@ use Rattle.pgquery.specs.declared.options.Shown.TheVariants.{Texts, Objects, Fra
 
 -- ---- as texts
 
--- 9 is the tab, 10 the line feed, 13 the carriage return, 92 the backslash
 abbrev pub escape : ℕ → List ℕ
 escape byte =
-    if byte == 9 then 92 ∷ 116 ∷ [] else
-    if byte == 10 then 92 ∷ 110 ∷ [] else
-    if byte == 13 then 92 ∷ 114 ∷ [] else
-    if byte == 92 then 92 ∷ 92 ∷ [] else
+    if byte == tab then codes "\\t" else
+    if byte == line_feed then codes "\\n" else
+    if byte == carriage_return then codes "\\r" else
+    if byte == backslash then codes "\\\\" else
     byte ∷ []
 
 abbrev pub escaped : List ℕ → List ℕ
 escaped text = flat_map escape text
 
 abbrev pub part_shown : Part → List ℕ
-part_shown None = 92 ∷ 78 ∷ []
+part_shown None = codes "\\N"
 part_shown (Some text) = escaped text
 
 abbrev pub value_shown : Option Given → List ℕ
@@ -43,33 +43,33 @@ byte_between byte (suc n) = byte ∷ []
 -- the first n values
 abbrev pub values_shown : Row → ℕ → List ℕ
 values_shown row zero = []
-values_shown row (suc n) = values_shown row n ++ (byte_between 9 n ++ value_shown (value_at_column row n))
+values_shown row (suc n) = values_shown row n ++ (byte_between tab n ++ value_shown (value_at_column row n))
 
 abbrev pub line_of : Row → List ℕ
-line_of row = values_shown row (length row.columns) ++ 10 ∷ []
+line_of row = values_shown row (length row.columns) ++ line_feed ∷ []
 
 -- ---- as an object
 
 abbrev pub hex_digit : ℕ → ℕ
-hex_digit n = if nat_lt n 10 then 48 + n else 87 + n
+hex_digit n = if nat_lt n line_feed then digit_zero + n else (lower_a - 10) + n
 
--- 34 is the quote; a control is `\u00` and two digits
+-- a control, which is a byte below the space, is `\u00` and two digits
 abbrev pub json_escape : ℕ → List ℕ
 json_escape byte =
-    if byte == 34 then 92 ∷ 34 ∷ [] else
-    if byte == 92 then 92 ∷ 92 ∷ [] else
-    if nat_lt byte 32 then 92 ∷ 117 ∷ 48 ∷ 48 ∷ hex_digit (byte / 16) ∷ hex_digit (byte % 16) ∷ [] else
+    if byte == double_quote then codes "\\\"" else
+    if byte == backslash then codes "\\\\" else
+    if nat_lt byte space then codes "\\u00" ++ hex_digit (byte / 16) ∷ hex_digit (byte % 16) ∷ [] else
     byte ∷ []
 
 abbrev pub json_escaped : List ℕ → List ℕ
 json_escaped text = flat_map json_escape text
 
 abbrev pub string_of : List ℕ → List ℕ
-string_of text = 34 ∷ (json_escaped text ++ 34 ∷ [])
+string_of text = double_quote ∷ (json_escaped text ++ double_quote ∷ [])
 
 -- `null`, or a string
 abbrev pub json_part : Part → List ℕ
-json_part None = 110 ∷ 117 ∷ 108 ∷ 108 ∷ []
+json_part None = codes "null"
 json_part (Some text) = string_of text
 
 abbrev pub json_value : Option Given → List ℕ
@@ -82,15 +82,15 @@ column_name (Some column) = string_of column.name
 
 -- the name, a colon and the value of a column
 abbrev pub member : Row → ℕ → List ℕ
-member row place = column_name (slice_get row.columns place) ++ 58 ∷ json_value (value_at_column row place)
+member row place = column_name (slice_get row.columns place) ++ colon ∷ json_value (value_at_column row place)
 
 -- the first n columns, a comma between two
 abbrev pub members : Row → ℕ → List ℕ
 members row zero = []
-members row (suc n) = members row n ++ (byte_between 44 n ++ member row n)
+members row (suc n) = members row n ++ (byte_between comma n ++ member row n)
 
 abbrev pub object_of : Row → List ℕ
-object_of row = 123 ∷ (members row (length row.columns) ++ 125 ∷ 10 ∷ [])
+object_of row = left_brace ∷ (members row (length row.columns) ++ right_brace ∷ line_feed ∷ [])
 
 -- ---- of a body
 
@@ -108,7 +108,7 @@ ShowsBody shown columns body was now =
 
 -- ---- of messages
 
--- the line of a DataRow, whose tag is 68; of any other message nothing
+-- the line of a DataRow, whose tag is `D`; of any other message nothing
 abbrev pub ShowsAnswer : Bool → Shown → List Column → List ℕ → List ℕ → Type 0
 ShowsAnswer true shown columns body text = ShowsBody shown columns body [] text
 ShowsAnswer false shown columns body text = text ≡ []
@@ -117,7 +117,7 @@ ShowsAnswer false shown columns body text = text ≡ []
 abbrev pub ShowsRows : Shown → List Column → List Incoming → List ℕ → Type 0
 ShowsRows shown columns [] text = text ≡ []
 ShowsRows shown columns (m ∷ ms) text =
-    (line : List ℕ) × (rest : List ℕ) × (text ≡ line ++ rest) × ShowsAnswer (m.tag == 68) shown columns m.body line × ShowsRows shown columns ms rest
+    (line : List ℕ) × (rest : List ℕ) × (text ≡ line ++ rest) × ShowsAnswer (m.tag == upper_d) shown columns m.body line × ShowsRows shown columns ms rest
 
 -- A writer was given a text of which this holds.
 abbrev pub Writes : Option (List ℕ) → Option (List ℕ) → (List ℕ → Type 0) → Type 0

@@ -1,6 +1,7 @@
 -- A statement in a session (PostgreSQL: "Message Flow", "Extended Query"): it is prepared and described, its parameters
 -- are bound, it is executed, and the rows that come are shown.
 use Rattle.std.specs.Prelude.{◌≡◌, ℕ, ◌==◌, List, [], ◌∷◌, ◌++◌, map, slice_set, if◌then◌else◌, Option, Ok}
+use Rattle.pgv_text.specs.Characters.{upper_s}
 use Rattle.pgv_row.specs.ColumnView.{Column}
 use Rattle.pgv_row.specs.Description.{IsDescription, KnownTypes, in_format}
 use Rattle.pgv_value.specs.declared.value.PgValueFormat.{PgValueFormat}
@@ -23,7 +24,7 @@ abbrev pub preparing : List ℕ → Writing (List ℕ)
 preparing sql = do
   parsed ← parse_message [] sql []
   described ← describe Statement []
-  ended ← bare_message 83
+  ended ← bare_message upper_s
   Ok ((parsed ++ described) ++ ended)
 
 -- A Bind without names, whose parameters are in this format: its code comes after the tag, the length, two empty names
@@ -37,7 +38,7 @@ abbrev pub executing : List Argument → PgValueFormat → PgValueFormat → Wri
 executing arguments parameters results = do
   bound ← bind [] [] arguments (results ∷ [])
   executed ← execute [] 0
-  ended ← bare_message 83
+  ended ← bare_message upper_s
   Ok ((with_format parameters bound ++ executed) ++ ended)
 
 -- ---- what is answered

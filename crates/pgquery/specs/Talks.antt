@@ -1,6 +1,7 @@
 -- What is sent in a session, and what a server answers.
 use Rattle.std.specs.Prelude.{◌≡◌, ℕ, Bool, false, ◌||◌, ◌==◌, List, [], ◌∷◌, map, if◌then◌else◌, Option, Ok, codes}
 use Rattle.std.specs.Io.KnownBytes.{Appends}
+use Rattle.pgv_text.specs.Characters.{upper_a, upper_k, upper_n, upper_s, upper_z}
 use Rattle.pgv_message.specs.Startup.{startup}
 use Rattle.pgv_message.specs.MessageWriting.{Writing}
 use Rattle.pgv_message.specs.declared.startup.PgSetting.{PgSetting}
@@ -9,7 +10,7 @@ use Rattle.pgquery.specs.declared.connection.Connection.{Connection}
 
 -- a notice, a setting, the key that cancels, or a notification: no answer
 abbrev pub is_passed_over : ℕ → Bool
-is_passed_over tag = tag == 78 || (tag == 83 || (tag == 75 || tag == 65))
+is_passed_over tag = tag == upper_n || (tag == upper_s || (tag == upper_k || tag == upper_a))
 
 abbrev pub answers_among : List Incoming → List Incoming
 answers_among [] = []
@@ -39,8 +40,8 @@ Answers remaining contents old new tag = (body : List ℕ) × IsLast tag body ne
 -- The last of these messages, and it alone, says that the server is ready.
 abbrev pub UpToReady : List Incoming → Type 0
 UpToReady [] = ⊥
-UpToReady (m ∷ []) = m.tag ≡ 90
-UpToReady (m ∷ n ∷ ms) = ((m.tag == 90) ≡ false) × UpToReady (n ∷ ms)
+UpToReady (m ∷ []) = m.tag ≡ upper_z
+UpToReady (m ∷ n ∷ ms) = ((m.tag == upper_z) ≡ false) × UpToReady (n ∷ ms)
 
 -- ---- how a session starts
 

@@ -1,6 +1,7 @@
 //! A session with a server, over any reader and writer.
 
 ghost use Rattle.std.specs.Prelude.{◌≡◌, [], OnOk, IfOk};
+ghost use Rattle.pgv_text.specs.Characters.{upper_x};
 ghost use Rattle.pgv_message.specs.Messages.{bare_message};
 ghost use Rattle.pgquery.specs.Incoming.{Lends};
 ghost use Rattle.pgquery.specs.Talks.{Answers, Hears, SendsMessages, Starts, Talks};
@@ -128,7 +129,7 @@ impl<R: Read, W: Write> Connection<R, W> {
     /// Ends the session.
     pub fn end(&mut self, alloc: Global) -> Result<(), Fault>
         ensures { OnOk result
-            (SendsMessages R.remaining W.contents (bare_message 88) self.old self.new) }
+            (SendsMessages R.remaining W.contents (bare_message upper_x) self.old self.new) }
     {
         let mut out = Vec::new(alloc);
         message::write_terminate(&mut out)?;

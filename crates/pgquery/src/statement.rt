@@ -1,6 +1,7 @@
 //! A statement: it is prepared, its parameters are bound, and its rows are shown.
 
 ghost use Rattle.std.specs.Prelude.{◌≡◌, ◌==◌, OnOk, IfOk, string_bytes};
+ghost use Rattle.pgv_text.specs.Characters.{upper_d};
 ghost use Rattle.pgquery.specs.RowLines.{ShowsAnswer, ShowsBody, Writes};
 ghost use Rattle.pgquery.specs.Statement.{Describes, Prepares, PreparesAtLast, Runs, ShowsAnswers, described, executing};
 ghost use Rattle.pgquery.specs.Statement as statement;
@@ -262,7 +263,7 @@ fn set_line(
     answer: &PgMessage<'_>,
     line: &mut Vec<u8>,
 ) -> Result<(), Fault>
-    ensures { OnOk result (ShowsAnswer (answer.now.tag == 68) shown columns.now
+    ensures { OnOk result (ShowsAnswer (answer.now.tag == upper_d) shown columns.now
         answer.now.body.now line.new.items) }
 {
     line.clear();

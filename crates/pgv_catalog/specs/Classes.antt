@@ -1,6 +1,7 @@
 -- What the columns of the three statements are read as.
 use Rattle.std.specs.Prelude.{◌≡◌, ℕ, ℤ, pos, Bool, List, Ok, string_bytes, if◌then◌else◌}
 use Rattle.std.specs.Ordering.{int_eq}
+use Rattle.pgv_text.specs.Characters.{lower_a, lower_c, lower_d, lower_e, lower_p, lower_r}
 use Rattle.pgv_value.specs.Outcome.{Outcome}
 use Rattle.pgv_catalog.specs.declared.rows.PgFieldRow.{PgFieldRow}
 use Rattle.pgv_catalog.specs.declared.rows.PgLabelRow.{PgLabelRow}
@@ -11,12 +12,12 @@ use Rattle.pgv_catalog.specs.declared.rows.PgTypeRow.{PgTypeRow}
 -- what kind of type a letter says
 abbrev pub class_of : ℤ → PgTypeClass
 class_of letter =
-    if int_eq letter (pos 97) then Array else
-    if int_eq letter (pos 99) then Composite else
-    if int_eq letter (pos 100) then Domain else
-    if int_eq letter (pos 101) then Enum else
-    if int_eq letter (pos 112) then Pseudo else
-    if int_eq letter (pos 114) then Range else Simple
+    if int_eq letter (pos lower_a) then Array else
+    if int_eq letter (pos lower_c) then Composite else
+    if int_eq letter (pos lower_d) then Domain else
+    if int_eq letter (pos lower_e) then Enum else
+    if int_eq letter (pos lower_p) then Pseudo else
+    if int_eq letter (pos lower_r) then Range else Simple
 
 -- a row of types is what its columns are read as
 abbrev pub ReadsType : Outcome (ℕ × (List ℕ × (List ℕ × (Bool × (ℤ × ℕ))))) → PgTypeRow → Type 0

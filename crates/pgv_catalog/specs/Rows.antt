@@ -3,7 +3,7 @@
 -- its OID; else the one of the catalogue that has it; else, where it has no row, known by its OID alone. Where a part
 -- is still to come there is none yet. `AreMade`: each type is shown by a row, of parts that come before it.
 -- `HasEndlessParts`: a type is among its own parts' parts.
-use Rattle.std.specs.Prelude.{◌≡◌, ◌≢◌, ◌==◌, ◌⊎◌, ℕ, zero, suc, Bool, List, [], ◌∷◌, ◌++◌, flat_map, is_none, option_map, string_bytes, Option, Some, None, ⊤, if◌then◌else◌}
+use Rattle.std.specs.Prelude.{◌≡◌, ◌≢◌, ◌==◌, ◌⊎◌, ℕ, zero, suc, Bool, codes, List, [], ◌∷◌, ◌++◌, flat_map, is_none, option_map, string_bytes, Option, Some, None, ⊤, if◌then◌else◌}
 use Rattle.std.specs.List.{AllByRecursion, list_any}
 use Rattle.std.specs.Rc.{rc_str_bytes}
 use Rattle.std.specs.declared.alloc.Global.{Global}
@@ -73,7 +73,7 @@ kind_in rows known row = kind_by row.class rows known row
 
 -- a name with its schema and a dot before it
 abbrev pub full_name_of : PgTypeRow → List ℕ
-full_name_of row = string_bytes row.schema ++ 46 ∷ string_bytes row.name
+full_name_of row = string_bytes row.schema ++ codes "." ++ string_bytes row.name
 
 -- the type of a row, of this kind
 abbrev pub entry_of_row : PgTypeRow → Kind → Entry

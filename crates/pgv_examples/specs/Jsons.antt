@@ -1,5 +1,5 @@
 -- Documents of json and jsonb (PostgreSQL: "JSON Types", 8.14): in binary those of jsonb have the version 1 in front.
-use Rattle.std.specs.Prelude.{◌≡◌, ◌==◌, ◌||◌, ℕ, Bool, true, false, if◌then◌else◌, List, [], ◌∷◌, ◌++◌, Option, Some, None, refl, string_bytes}
+use Rattle.std.specs.Prelude.{◌≡◌, ◌==◌, ◌||◌, ℕ, Bool, true, false, if◌then◌else◌, codes, List, [], ◌∷◌, ◌++◌, Option, Some, None, refl, string_bytes}
 use Rattle.std.proofs.Common.{sym, ap, ◌∙◌, subst}
 use Rattle.std.proofs.lemmas.Option.{same_Some}
 use Rattle.pgv.specs.Words.{Ty, builtin, softly, Token, slot, bytes, Image, ImageFits, Given, Outcome, Part, Binary, PlainRules, ReadsBack, always, copied, image_of, parse_text, plainly, reading_of, utf8_part, write, writes, written_part}
@@ -8,12 +8,12 @@ use Rattle.pgv_examples.specs.declared.json.Json.{Json}
 
 -- the version where the parameter is jsonb, and else a space; and the text
 abbrev pub json_tokens : List ℕ → List Token
-json_tokens text = slot (32 ∷ []) ((builtin 3802, 1 ∷ []) ∷ []) ∷ bytes text
+json_tokens text = slot (codes " ") ((builtin 3802, 1 ∷ []) ∷ []) ∷ bytes text
 
 abbrev pub json_image : List ℕ → Outcome Image
 json_image text = writes (Some (image_of (json_tokens text)))
 
--- what comes after a version, or after the space in its place
+-- what comes after a version, or after the space in its place, which is 32
 abbrev pub after_version : List ℕ → List ℕ
 after_version [] = []
 after_version (byte ∷ text) = if byte == 1 || byte == 32 then text else byte ∷ text
@@ -45,7 +45,7 @@ json_back json i t p oids e whole small fit = rw (← is) (by_parameter p)
     written : (q : Option Ty) → reading_of parse_text t Binary (Some (write q oids (bytes text))) ≡ Some text
     written q = ap (λ (xs : List ℕ). reading_of parse_text t Binary (Some xs)) (write-bytes q oids text) ∙ again
 
-    by_case : (q : Option Ty) (b : Bool) → reading_of parse_json t Binary (Some ((if b then 1 ∷ [] else 32 ∷ []) ++ write q oids (bytes text))) ≡ Some text
+    by_case : (q : Option Ty) (b : Bool) → reading_of parse_json t Binary (Some ((if b then 1 ∷ [] else codes " ") ++ write q oids (bytes text))) ≡ Some text
     by_case q true = written q
     by_case q false = written q
 

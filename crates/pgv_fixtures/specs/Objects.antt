@@ -1,9 +1,9 @@
 -- Empty objects of json and jsonb (PostgreSQL: "JSON Types", 8.14): a version, or a space, and two braces.
-use Rattle.std.specs.Prelude.{◌≡◌, ℕ, ◌==◌, Bool, true, false, if◌then◌else◌, List, [], ◌∷◌, ◌++◌, length, get_or, Option, Some, None, Ok, Err, ⊤, refl}
+use Rattle.std.specs.Prelude.{◌≡◌, ℕ, ◌==◌, Bool, true, false, if◌then◌else◌, codes, List, [], ◌∷◌, ◌++◌, length, get_or, Option, Some, None, Ok, Err, ⊤, refl}
 use Rattle.std.proofs.lemmas.Option.{same_Some}
 use Rattle.pgv.specs.Words.{Ty, builtin, softly, Token, byte, slot, Part, Given, Parsed, Binary, UnexpectedNull, Syntax, ReadsBack, reading_of, without_memory, always, image_of, plainly, writes, written_part}
 
--- a byte of any value, which is the slot's, and the braces; other bytes are C29
+-- a byte of any value, which is the slot's, and the braces, 123 and 125; other bytes are C29
 abbrev pub braces : List ℕ → Parsed ⊤
 braces bytes =
     if length bytes == 3 then (if get_or bytes 1 0 == 123 then (if get_or bytes 2 0 == 125 then Ok tt else Err Syntax) else Err Syntax) else Err Syntax
@@ -17,13 +17,13 @@ abbrev pub parse_object : Given → Parsed ⊤
 parse_object v = object_part v.bytes
 
 abbrev pub object_image : List Token
-object_image = slot (32 ∷ []) ((builtin 3802, 1 ∷ []) ∷ []) ∷ byte 123 ∷ byte 125 ∷ []
+object_image = slot (codes " ") ((builtin 3802, 1 ∷ []) ∷ []) ∷ byte 123 ∷ byte 125 ∷ []
 
 -- whichever case the slot shows
 pub object_back : {A : Type 0} → ReadsBack {A = A} (λ _. plainly (writes (Some (image_of object_image)))) (reading_of (without_memory parse_object)) (λ _. tt) always
 object_back v i t p os e whole small fit = rw (← same_Some _ i e) (by_parameter p)
   where
-    by_case : (b : Bool) → reading_of (without_memory parse_object) t Binary (Some ((if b then 1 ∷ [] else 32 ∷ []) ++ (123 ∷ 125 ∷ []))) ≡ Some tt
+    by_case : (b : Bool) → reading_of (without_memory parse_object) t Binary (Some ((if b then 1 ∷ [] else codes " ") ++ codes "{}")) ≡ Some tt
     by_case true = refl
     by_case false = refl
 

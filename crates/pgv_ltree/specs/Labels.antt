@@ -3,12 +3,13 @@
 use Rattle.std.specs.Prelude.{ℕ, nat_le, Bool, ◌&&◌, ◌||◌, ◌==◌, List, length, Result, Ok, Err, if◌then◌else◌}
 use Rattle.std.specs.Char.{is_ascii_alphanumeric}
 use Rattle.std.specs.List.{list_all}
+use Rattle.pgv_text.specs.Characters.{hyphen, underscore}
 use Rattle.pgv_value.specs.declared.tree_error.PgLTreeParseError.{PgLTreeParseError}
 use Rattle.pgv_value.specs.declared.tree_error.PgLTreeParseError.TheVariants.{InvalidLtreeLabel}
 
 -- the characters of labels: ASCII letters, digits, `_` and `-`
 abbrev pub is_label_char : ℕ → Bool
-is_label_char c = is_ascii_alphanumeric c || c == 95 || c == 45
+is_label_char c = is_ascii_alphanumeric c || c == underscore || c == hyphen
 
 -- the longest label, in characters
 abbrev pub label_limit : ℕ

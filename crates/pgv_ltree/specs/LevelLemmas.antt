@@ -7,6 +7,7 @@ use Rattle.std.specs.Str.{all_ascii_digits}
 use Rattle.std.proofs.Common.{arith, ap, sym, ◌∙◌, append_assoc}
 use Rattle.std.proofs.lemmas.Bool.{eqb-true, ltb-true, and_from, not-true, and_parts}
 use Rattle.std.proofs.lemmas.List.{take_at, drop_at}
+use Rattle.pgv_text.specs.Characters.{exclamation_mark, percent_sign, asterisk, comma, dot, at_sign, vertical_bar, right_brace}
 use Rattle.pgv_value.specs.declared.tree_error.PgLQueryParseError.{PgLQueryParseError}
 use Rattle.pgv_ltree.specs.TextsInTurn.{read_each}
 use Rattle.pgv_ltree.specs.JoinLemmas.{lacks, other_char, split_again, wider}
@@ -24,7 +25,7 @@ use Rattle.pgv_ltree.specs.QueryText.{begins_with_star, is_mark}
 -- a label's character is no modifier
 no_mark_there : (c : ℕ) → is_label_char c ≡ true → is_mark c ≡ false
 no_mark_there c e =
-    rw (not-true (c == 42) (other_char is_label_char 42 refl c e), not-true (c == 64) (other_char is_label_char 64 refl c e), not-true (c == 37) (other_char is_label_char 37 refl c e)) refl
+    rw (not-true (c == asterisk) (other_char is_label_char asterisk refl c e), not-true (c == at_sign) (other_char is_label_char at_sign refl c e), not-true (c == percent_sign) (other_char is_label_char percent_sign refl c e)) refl
 
 length_at : (label marks : List ℕ) → list_all is_label_char label ≡ true → list_all is_mark marks ≡ true → label_length (label ++ marks) ≡ length label
 length_at [] [] e f = refl
@@ -38,7 +39,7 @@ variant_there label marks e f =
     let n = length_at label marks (label_chars label e) f in
     rw (n, take_at label marks (length label) refl, drop_at label marks (length label) refl, e, f) refl
 
-marks_are : (a b c : Bool) → list_all is_mark (printed_marks a b c) ≡ true
+pub marks_are : (a b c : Bool) → list_all is_mark (printed_marks a b c) ≡ true
 marks_are true true true = refl
 marks_are true true false = refl
 marks_are true false true = refl
@@ -83,20 +84,20 @@ each_again (v ∷ vs) e =
 
 variants_again : (v : Variant) (vs : List Variant) → list_all is_variant (v ∷ vs) ≡ true → variants_read (printed_variants (v ∷ vs)) ≡ Ok (v ∷ vs)
 variants_again v vs e =
-    ap (read_each variant_read) (split_again 124 (printed_variant v) (map printed_variant vs) (printed_lack 124 refl refl (v ∷ vs) e)) ∙ each_again (v ∷ vs) e
+    ap (read_each variant_read) (split_again vertical_bar (printed_variant v) (map printed_variant vs) (printed_lack vertical_bar refl refl (v ∷ vs) e)) ∙ each_again (v ∷ vs) e
 
 -- ---- stars
 
 -- exactly this number
 pub exact_there : (count : List ℕ) (n : ℕ) → all_ascii_digits count ≡ true → count_read count ≡ Ok n → inner_read (Some count) ≡ Ok (star (Some n) (Some n))
-exact_there count n d e = rw (cut_lacks 44 count (digits_lack 44 refl count d), e) refl
+exact_there count n d e = rw (cut_lacks comma count (digits_lack comma refl count d), e) refl
 
 -- between two numbers, one of which may be missing
-pub bounds_there : (least most : List ℕ) (low high : Option ℕ) → lacks 44 least ≡ true → lacks 44 most ≡ true → bound_read least ≡ Ok low → bound_read most ≡ Ok high → (length least + length most ≢ 0) →
-    inner_read (Some (least ++ 44 ∷ most)) ≡ Ok (star low high)
+pub bounds_there : (least most : List ℕ) (low high : Option ℕ) → lacks comma least ≡ true → lacks comma most ≡ true → bound_read least ≡ Ok low → bound_read most ≡ Ok high → (length least + length most ≢ 0) →
+    inner_read (Some (least ++ comma ∷ most)) ≡ Ok (star low high)
 bounds_there [] [] low high p q e f some = absurd (some refl)
-bounds_there [] (c ∷ most) low high p q e f some = rw (no_mark 44 (c ∷ most) q, e, f) refl
-bounds_there (c ∷ least) most low high p q e f some = rw (cut_there 44 (c ∷ least) most p, no_mark 44 most q, e, f) refl
+bounds_there [] (c ∷ most) low high p q e f some = rw (no_mark comma (c ∷ most) q, e, f) refl
+bounds_there (c ∷ least) most low high p q e f some = rw (cut_there comma (c ∷ least) most p, no_mark comma most q, e, f) refl
 
 small : (n : ℕ) → nat_lt n 65536 ≡ true → n < 65536
 small n e = ltb-true n 65536 e
@@ -110,21 +111,21 @@ decimal_bound n l = bound_there (decimal n) n (decimal_some n l) (count_again n 
 both_bounds : (low high : ℕ) (b : Bool) → (low == high) ≡ b → low < 65536 → high < 65536 →
     level_read (if b then codes "*{" ++ decimal low ++ codes "}" else codes "*{" ++ decimal low ++ codes "," ++ decimal high ++ codes "}") ≡ Ok (star (Some low) (Some high))
 both_bounds low high true e l h =
-    rw (before_last_at 125 (decimal low)) (exact_there (decimal low) low (decimal_digits low l) (count_again low l) ∙ ap (λ n. let r : Result Level PgLQueryParseError = Ok (star (Some low) (Some n)) in r) (eqb-true low high e))
+    rw (before_last_at right_brace (decimal low)) (exact_there (decimal low) low (decimal_digits low l) (count_again low l) ∙ ap (λ n. let r : Result Level PgLQueryParseError = Ok (star (Some low) (Some n)) in r) (eqb-true low high e))
 both_bounds low high false e l h =
-    let whole : (decimal low ++ 44 ∷ []) ++ decimal high ≡ decimal low ++ 44 ∷ decimal high = append_assoc (decimal low) (44 ∷ []) (decimal high) in
-    rw (before_last_at 125 ((decimal low ++ 44 ∷ []) ++ decimal high), whole)
-    (bounds_there (decimal low) (decimal high) (Some low) (Some high) (decimal_lacks 44 low refl l) (decimal_lacks 44 high refl h) (decimal_bound low l) (decimal_bound high h) (λ n. let s = decimal_some low l in omega (arith, n, s)))
+    let whole : (decimal low ++ comma ∷ []) ++ decimal high ≡ decimal low ++ comma ∷ decimal high = append_assoc (decimal low) (comma ∷ []) (decimal high) in
+    rw (before_last_at right_brace ((decimal low ++ comma ∷ []) ++ decimal high), whole)
+    (bounds_there (decimal low) (decimal high) (Some low) (Some high) (decimal_lacks comma low refl l) (decimal_lacks comma high refl h) (decimal_bound low l) (decimal_bound high h) (λ n. let s = decimal_some low l in omega (arith, n, s)))
 
 pub star_again : (low high : Option ℕ) → is_level (star low high) ≡ true → level_read (printed_star low high) ≡ Ok (star low high)
 star_again None None e = refl
 star_again (Some low) None e =
     let l = small low (and_parts (nat_lt low 65536) true e).0 in
-    let whole : decimal low ++ 44 ∷ 125 ∷ [] ≡ (decimal low ++ 44 ∷ []) ++ 125 ∷ [] = sym (append_assoc (decimal low) (44 ∷ []) (125 ∷ [])) in
-    rw (whole, before_last_at 125 (decimal low ++ 44 ∷ [])) (bounds_there (decimal low) [] (Some low) None (decimal_lacks 44 low refl l) refl (decimal_bound low l) refl (λ n. let s = decimal_some low l in omega (arith, n, s)))
+    let whole : decimal low ++ comma ∷ right_brace ∷ [] ≡ (decimal low ++ comma ∷ []) ++ right_brace ∷ [] = sym (append_assoc (decimal low) (comma ∷ []) (right_brace ∷ [])) in
+    rw (whole, before_last_at right_brace (decimal low ++ comma ∷ [])) (bounds_there (decimal low) [] (Some low) None (decimal_lacks comma low refl l) refl (decimal_bound low l) refl (λ n. let s = decimal_some low l in omega (arith, n, s)))
 star_again None (Some high) e =
     let h = small high e in
-    rw (before_last_at 125 (44 ∷ decimal high)) (bounds_there [] (decimal high) None (Some high) refl (decimal_lacks 44 high refl h) refl (decimal_bound high h) (λ n. let s = decimal_some high h in omega (arith, n, s)))
+    rw (before_last_at right_brace (comma ∷ decimal high)) (bounds_there [] (decimal high) None (Some high) refl (decimal_lacks comma high refl h) refl (decimal_bound high h) (λ n. let s = decimal_some high h in omega (arith, n, s)))
 star_again (Some low) (Some high) e =
     let b = and_parts (nat_lt low 65536) (nat_lt high 65536) e in
     both_bounds low high (low == high) refl (small low b.0) (small high b.1)
@@ -135,9 +136,9 @@ not_first : (d c : ℕ) (text : List ℕ) → lacks d (c ∷ text) ≡ true → 
 not_first d c text e = not-true (c == d) (and_parts (not (c == d)) (lacks d text) e).0
 
 -- a text of variants that is neither empty nor begins with a star
-pub one_there : (text : List ℕ) (vs : List Variant) → text ≢ [] → begins_with_star text ≡ false → lacks 33 text ≡ true → variants_read text ≡ Ok vs → level_read text ≡ Ok (one_of vs)
+pub one_there : (text : List ℕ) (vs : List Variant) → text ≢ [] → begins_with_star text ≡ false → lacks exclamation_mark text ≡ true → variants_read text ≡ Ok vs → level_read text ≡ Ok (one_of vs)
 one_there [] vs some plain no_not e = absurd (some refl)
-one_there (c ∷ text) vs some plain no_not e = rw (plain, not_first 33 c text no_not, e) refl
+one_there (c ∷ text) vs some plain no_not e = rw (plain, not_first exclamation_mark c text no_not, e) refl
 
 -- the text begins, with something else than a star
 abbrev pub BeginsPlainly : List ℕ → Type 0
@@ -153,43 +154,43 @@ pub level_again : (l : Level) → is_level l ≡ true → NeedsFirst l → level
 level_again (star low high) e begins = star_again low high e
 level_again (one_of []) e begins = absurd (begins.0 refl)
 level_again (one_of (v ∷ vs)) e begins =
-    one_there (printed_variants (v ∷ vs)) (v ∷ vs) begins.0 begins.1 (lacks-joined 33 124 refl (map printed_variant (v ∷ vs)) (printed_lack 33 refl refl (v ∷ vs) e)) (variants_again v vs e)
+    one_there (printed_variants (v ∷ vs)) (v ∷ vs) begins.0 begins.1 (lacks-joined exclamation_mark vertical_bar refl (map printed_variant (v ∷ vs)) (printed_lack exclamation_mark refl refl (v ∷ vs) e)) (variants_again v vs e)
 level_again (none_of []) e begins = absurd (begins refl)
 level_again (none_of (v ∷ vs)) e begins = rw (variants_again v vs e) refl
 
 -- ---- dots
 
-by_case : (b : Bool) (x y : List ℕ) → lacks 46 x ≡ true → lacks 46 y ≡ true → lacks 46 (if b then x else y) ≡ true
+by_case : (b : Bool) (x y : List ℕ) → lacks dot x ≡ true → lacks dot y ≡ true → lacks dot (if b then x else y) ≡ true
 by_case true x y e f = e
 by_case false x y e f = f
 
-star_lacks : (low high : Option ℕ) → is_level (star low high) ≡ true → lacks 46 (printed_star low high) ≡ true
+star_lacks : (low high : Option ℕ) → is_level (star low high) ≡ true → lacks dot (printed_star low high) ≡ true
 star_lacks None None e = refl
-star_lacks (Some low) None e = lacks-append 46 (decimal low) (44 ∷ 125 ∷ []) (decimal_lacks 46 low refl (small low (and_parts (nat_lt low 65536) true e).0)) refl
-star_lacks None (Some high) e = lacks-append 46 (decimal high) (125 ∷ []) (decimal_lacks 46 high refl (small high e)) refl
+star_lacks (Some low) None e = lacks-append dot (decimal low) (comma ∷ right_brace ∷ []) (decimal_lacks dot low refl (small low (and_parts (nat_lt low 65536) true e).0)) refl
+star_lacks None (Some high) e = lacks-append dot (decimal high) (right_brace ∷ []) (decimal_lacks dot high refl (small high e)) refl
 star_lacks (Some low) (Some high) e =
     let b = and_parts (nat_lt low 65536) (nat_lt high 65536) e in
-    let l = decimal_lacks 46 low refl (small low b.0) in
-    let h = decimal_lacks 46 high refl (small high b.1) in
-    by_case (low == high) _ _ (lacks-append 46 (decimal low) (125 ∷ []) l refl) (lacks-append 46 (decimal low ++ 44 ∷ [] ++ decimal high) (125 ∷ []) (lacks-append 46 (decimal low ++ 44 ∷ []) (decimal high) (lacks-append 46 (decimal low) (44 ∷ []) l refl) h) refl)
+    let l = decimal_lacks dot low refl (small low b.0) in
+    let h = decimal_lacks dot high refl (small high b.1) in
+    by_case (low == high) _ _ (lacks-append dot (decimal low) (right_brace ∷ []) l refl) (lacks-append dot (decimal low ++ comma ∷ [] ++ decimal high) (right_brace ∷ []) (lacks-append dot (decimal low ++ comma ∷ []) (decimal high) (lacks-append dot (decimal low) (comma ∷ []) l refl) h) refl)
 
-pub level_lacks : (l : Level) → is_level l ≡ true → lacks 46 (printed_level l) ≡ true
+pub level_lacks : (l : Level) → is_level l ≡ true → lacks dot (printed_level l) ≡ true
 level_lacks (star low high) e = star_lacks low high e
-level_lacks (one_of vs) e = lacks-joined 46 124 refl (map printed_variant vs) (printed_lack 46 refl refl vs e)
+level_lacks (one_of vs) e = lacks-joined dot vertical_bar refl (map printed_variant vs) (printed_lack dot refl refl vs e)
 level_lacks (none_of []) e = refl
-level_lacks (none_of (v ∷ vs)) e = lacks-joined 46 124 refl (map printed_variant (v ∷ vs)) (printed_lack 46 refl refl (v ∷ vs) e)
+level_lacks (none_of (v ∷ vs)) e = lacks-joined dot vertical_bar refl (map printed_variant (v ∷ vs)) (printed_lack dot refl refl (v ∷ vs) e)
 
 -- ---- queries
 
-pub query_there : (texts : List (List ℕ)) (levels : List Level) → texts ≢ [] → list_all (lacks 46) texts ≡ true → read_each level_read texts ≡ Ok levels → query_read (join_with_byte 46 texts) ≡ Ok levels
+pub query_there : (texts : List (List ℕ)) (levels : List Level) → texts ≢ [] → list_all (lacks dot) texts ≡ true → read_each level_read texts ≡ Ok levels → query_read (join_with_byte dot texts) ≡ Ok levels
 query_there [] levels some e r = absurd (some refl)
-query_there (text ∷ texts) levels some e r = ap (read_each level_read) (split_again 46 text texts e) ∙ r
+query_there (text ∷ texts) levels some e r = ap (read_each level_read) (split_again dot text texts e) ∙ r
 
-levels_lack : (levels : List Level) → list_all is_level levels ≡ true → list_all (lacks 46) (map printed_level levels) ≡ true
+levels_lack : (levels : List Level) → list_all is_level levels ≡ true → list_all (lacks dot) (map printed_level levels) ≡ true
 levels_lack [] e = refl
 levels_lack (l ∷ levels) e =
     let b = and_parts (is_level l) (list_all is_level levels) e in
-    and_from (lacks 46 (printed_level l)) (list_all (lacks 46) (map printed_level levels)) (level_lacks l b.0) (levels_lack levels b.1)
+    and_from (lacks dot (printed_level l)) (list_all (lacks dot) (map printed_level levels)) (level_lacks l b.0) (levels_lack levels b.1)
 
 -- each level of a query has what it needs
 abbrev pub EachNeeds : List Level → Type 0

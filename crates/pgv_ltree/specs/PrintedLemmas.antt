@@ -3,6 +3,7 @@ use Rattle.std.specs.Prelude.{◌≡◌, ℕ, nat_le, true, List, [], ◌∷◌,
 use Rattle.std.specs.List.{list_all}
 use Rattle.std.proofs.Common.{ap, ◌∙◌}
 use Rattle.std.proofs.lemmas.Bool.{and_parts}
+use Rattle.pgv_text.specs.Characters.{dot}
 use Rattle.pgv_ltree.specs.TextsInTurn.{read_each}
 use Rattle.pgv_ltree.specs.JoinLemmas.{lacks, other_char, split_again, wider}
 use Rattle.pgv_ltree.specs.Labels.{is_label, is_label_char, label_limit, label_read}
@@ -13,8 +14,8 @@ pub label_chars : (label : List ℕ) → is_label label ≡ true → list_all is
 label_chars label e = (and_parts (nat_le (length label) label_limit) (list_all is_label_char label) e).1
 
 -- a label has no dot
-pub no_dot : (label : List ℕ) → is_label label ≡ true → lacks 46 label ≡ true
-no_dot label e = wider is_label_char _ (other_char is_label_char 46 refl) label (label_chars label e)
+pub no_dot : (label : List ℕ) → is_label label ≡ true → lacks dot label ≡ true
+no_dot label e = wider is_label_char _ (other_char is_label_char dot refl) label (label_chars label e)
 
 -- labels are read as they are
 pub labels_again : (labels : List (List ℕ)) → list_all is_label labels ≡ true → read_each label_read labels ≡ Ok labels
@@ -24,7 +25,7 @@ labels_again (label ∷ labels) e =
     rw (b.0, labels_again labels b.1) refl
 
 pub parts_again : (label : List ℕ) (labels : List (List ℕ)) → list_all is_label (label ∷ labels) ≡ true → parts (printed_tree (label ∷ labels)) ≡ label ∷ labels
-parts_again label labels e = split_again 46 label labels (wider is_label (lacks 46) no_dot (label ∷ labels) e)
+parts_again label labels e = split_again dot label labels (wider is_label (lacks dot) no_dot (label ∷ labels) e)
 
 pub tree_again : (label : List ℕ) (labels : List (List ℕ)) → list_all is_label (label ∷ labels) ≡ true → tree_read (printed_tree (label ∷ labels)) ≡ Ok (label ∷ labels)
 tree_again label labels e = ap (read_each label_read) (parts_again label labels e) ∙ labels_again (label ∷ labels) e

@@ -4,6 +4,7 @@ use Rattle.std.specs.Prelude.{◌≡◌, ℕ, not, ◌&&◌, ◌==◌, Bool, tru
 use Rattle.std.specs.List.{join_with_byte, list_all}
 use Rattle.std.proofs.Common.{ap, ◌∙◌}
 use Rattle.std.proofs.lemmas.Bool.{false≢true, not-true, and_parts}
+use Rattle.pgv_text.specs.Characters.{asterisk, vertical_bar}
 use Rattle.pgv_types.specs.Ty.{Ty}
 use Rattle.pgv_types.specs.declared.oid.Oid.{Oid}
 use Rattle.pgv_buf.specs.Tokens.{bytes}
@@ -41,11 +42,11 @@ query_fits levels t os = comes_back levels ≡ true
 
 -- ---- a first label that is not empty begins plainly
 
-begins_so : (c : ℕ) (label marks : List ℕ) (parts : List (List ℕ)) → is_label_char c ≡ true → BeginsPlainly (join_with_byte 124 (((c ∷ label) ++ marks) ∷ parts))
-begins_so c label marks [] e = (λ n. absurd cc, not-true (c == 42) (other_char is_label_char 42 refl c e))
-begins_so c label marks (next ∷ parts) e = (λ n. absurd cc, not-true (c == 42) (other_char is_label_char 42 refl c e))
+begins_so : (c : ℕ) (label marks : List ℕ) (parts : List (List ℕ)) → is_label_char c ≡ true → BeginsPlainly (join_with_byte vertical_bar (((c ∷ label) ++ marks) ∷ parts))
+begins_so c label marks [] e = (λ n. absurd cc, not-true (c == asterisk) (other_char is_label_char asterisk refl c e))
+begins_so c label marks (next ∷ parts) e = (λ n. absurd cc, not-true (c == asterisk) (other_char is_label_char asterisk refl c e))
 
-pub begins_plainly : (label : List ℕ) (a b c : Bool) (vs : List Variant) → is_label label ≡ true → not (is_nil label) ≡ true → BeginsPlainly (join_with_byte 124 ((label ++ printed_marks a b c) ∷ map printed_variant vs))
+pub begins_plainly : (label : List ℕ) (a b c : Bool) (vs : List Variant) → is_label label ≡ true → not (is_nil label) ≡ true → BeginsPlainly (join_with_byte vertical_bar ((label ++ printed_marks a b c) ∷ map printed_variant vs))
 begins_plainly [] a b c vs e some = absurd (false≢true some)
 begins_plainly (d ∷ label) a b c vs e some = begins_so d label (printed_marks a b c) (map printed_variant vs) (and_parts (is_label_char d) (list_all is_label_char label) (label_chars (d ∷ label) e)).0
 

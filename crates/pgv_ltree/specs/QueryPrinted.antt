@@ -5,6 +5,7 @@
 use Rattle.std.specs.Prelude.{ℕ, ◌==◌, Bool, if◌then◌else◌, codes, List, [], ◌∷◌, ◌++◌, map, Option, Some, None}
 use Rattle.std.specs.Fmt.{decimal}
 use Rattle.std.specs.List.{join_with_byte}
+use Rattle.pgv_text.specs.Characters.{dot, vertical_bar}
 use Rattle.pgv_ltree.specs.Queries.{Variant, Level, star, one_of, none_of}
 
 -- a modifier that is set
@@ -19,7 +20,7 @@ abbrev pub printed_variant : Variant → List ℕ
 printed_variant v = v.label ++ printed_marks v.any_end v.in_case v.sublexeme
 
 abbrev pub printed_variants : List Variant → List ℕ
-printed_variants vs = join_with_byte 124 (map printed_variant vs)
+printed_variants vs = join_with_byte vertical_bar (map printed_variant vs)
 
 -- one number where both are equal
 abbrev pub printed_star : Option ℕ → Option ℕ → List ℕ
@@ -36,4 +37,4 @@ printed_level (none_of []) = []
 printed_level (none_of (v ∷ vs)) = codes "!" ++ printed_variants (v ∷ vs)
 
 abbrev pub printed_query : List Level → List ℕ
-printed_query levels = join_with_byte 46 (map printed_level levels)
+printed_query levels = join_with_byte dot (map printed_level levels)

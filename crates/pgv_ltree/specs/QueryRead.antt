@@ -3,6 +3,7 @@ use Rattle.std.specs.Prelude.{ℕ, nat_lt, not, ◌==◌, ◌&&◌, ◌||◌, Bo
 use Rattle.std.specs.List.{list_all, position_or_len, slice_split}
 use Rattle.std.specs.Str.{all_ascii_digits}
 use Rattle.std.specs.Str.Parse.{digits_value}
+use Rattle.pgv_text.specs.Characters.{exclamation_mark, percent_sign, asterisk, comma, dot, at_sign, left_brace, vertical_bar, right_brace}
 use Rattle.pgv_value.specs.declared.tree_error.PgLTreeParseError.TheVariants.{InvalidLtreeLabel}
 use Rattle.pgv_value.specs.declared.tree_error.PgLQueryParseError.{PgLQueryParseError}
 use Rattle.pgv_value.specs.declared.tree_error.PgLQueryParseError.TheVariants.{EmptyString, UnexpectedCharacter, ParseIntError, LTreeParrseError}
@@ -20,7 +21,7 @@ read_as make (Err e) = Err e
 
 -- the variant of a label and its modifiers
 abbrev pub marked : List ℕ → List ℕ → Variant
-marked label marks = record { label = label; any_end = has_mark 42 marks; in_case = has_mark 64 marks; sublexeme = has_mark 37 marks }
+marked label marks = record { label = label; any_end = has_mark asterisk marks; in_case = has_mark at_sign marks; sublexeme = has_mark percent_sign marks }
 
 abbrev pub variant_of : List ℕ → List ℕ → Result Variant PgLQueryParseError
 variant_of label marks = if list_all is_mark marks && is_label label then Ok (marked label marks) else Err (LTreeParrseError InvalidLtreeLabel)
@@ -33,14 +34,14 @@ abbrev pub variant_read : List ℕ → Result Variant PgLQueryParseError
 variant_read text = variant_of (take (label_length text) text) (drop (label_length text) text)
 
 abbrev pub variants_read : List ℕ → Result (List Variant) PgLQueryParseError
-variants_read text = read_each variant_read (slice_split (λ c. c == 124) text)
+variants_read text = read_each variant_read (slice_split (λ c. c == vertical_bar) text)
 
 abbrev pub is_variant_text : List ℕ → Bool
 is_variant_text text = is_ok (variant_read text)
 
 -- whether the first part is a variant
 abbrev pub begins_with_variant : List ℕ → Bool
-begins_with_variant text = first_is is_variant_text (slice_split (λ c. c == 124) text)
+begins_with_variant text = first_is is_variant_text (slice_split (λ c. c == vertical_bar) text)
 
 -- ---- stars
 
@@ -80,7 +81,7 @@ is_nil (x ∷ xs) = false
 -- two numbers, of which one is there; a further comma isn't one of their characters
 abbrev pub between_read : List ℕ → List ℕ → Result Level PgLQueryParseError
 between_read least most =
-    if has_mark 44 most || (is_nil least && is_nil most) then Err UnexpectedCharacter else star_of (bound_read least) (bound_read most)
+    if has_mark comma most || (is_nil least && is_nil most) then Err UnexpectedCharacter else star_of (bound_read least) (bound_read most)
 
 -- what is between the braces
 abbrev pub counts_read : List ℕ → Option (List ℕ × List ℕ) → Result Level PgLQueryParseError
@@ -89,12 +90,12 @@ counts_read inner (Some parts) = between_read parts.0 parts.1
 
 abbrev pub inner_read : Option (List ℕ) → Result Level PgLQueryParseError
 inner_read None = Err UnexpectedCharacter
-inner_read (Some inner) = counts_read inner (cut 44 inner)
+inner_read (Some inner) = counts_read inner (cut comma inner)
 
 -- what is between braces, where the text begins and ends with them
 abbrev pub braced : List ℕ → Option (List ℕ)
 braced [] = None
-braced (c ∷ text) = if c == 123 then before_last 125 text else None
+braced (c ∷ text) = if c == left_brace then before_last right_brace text else None
 
 -- what is after the star
 abbrev pub star_read : List ℕ → Result Level PgLQueryParseError
@@ -106,19 +107,19 @@ star_read (c ∷ text) = inner_read (braced (c ∷ text))
 abbrev pub level_read : List ℕ → Result Level PgLQueryParseError
 level_read [] = Err EmptyString
 level_read (c ∷ text) =
-    if c == 42 then star_read text else
-    if c == 33 then read_as (λ vs. none_of vs) (variants_read text) else
+    if c == asterisk then star_read text else
+    if c == exclamation_mark then read_as (λ vs. none_of vs) (variants_read text) else
     read_as (λ vs. one_of vs) (variants_read (c ∷ text))
 
 abbrev pub query_read : List ℕ → Result (List Level) PgLQueryParseError
-query_read text = read_each level_read (slice_split (λ c. c == 46) text)
+query_read text = read_each level_read (slice_split (λ c. c == dot) text)
 
 -- whether the text is a star, or begins with a variant: what is seen of a level before memory is asked for
 abbrev pub begins_level : List ℕ → Bool
 begins_level [] = false
 begins_level (c ∷ text) =
-    if c == 42 then is_ok (star_read text) else
-    if c == 33 then begins_with_variant text else
+    if c == asterisk then is_ok (star_read text) else
+    if c == exclamation_mark then begins_with_variant text else
     begins_with_variant (c ∷ text)
 
 -- where memory may be asked for: a text that begins with a star takes none, whether it is a star or not
@@ -127,4 +128,4 @@ level_allocates text = not (begins_with_star text) && begins_level text
 
 -- whether the first part is a star, or begins with a variant
 abbrev pub begins_with_level : List ℕ → Bool
-begins_with_level text = first_is begins_level (slice_split (λ c. c == 46) text)
+begins_with_level text = first_is begins_level (slice_split (λ c. c == dot) text)

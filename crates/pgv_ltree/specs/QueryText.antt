@@ -1,5 +1,4 @@
--- The texts of queries (PostgreSQL: appendix F, "ltree", lquery). 42 is `*`, 33 `!`, 46 `.`, 44 `,`, 64 `@`, 37 `%`,
--- 123 and 125 are braces, and 124 is the bar between variants. A query's text (`IsQueryText`) is one or more levels
+-- The texts of queries (PostgreSQL: appendix F, "ltree", lquery). A query's text (`IsQueryText`) is one or more levels
 -- joined by `.`. A level's (`IsLevelText`) is a star in one of its spellings, variants joined by `|`, or `!` and such.
 -- A variant's (`IsVariantText`) is a label and modifiers `*`, `@`, `%` in any order and number. Laws: what is computed
 -- is exactly these (`query_is_read`, `level_is_read`, `variant_is_read`), and no text is two queries.
@@ -7,6 +6,7 @@ use Rattle.std.specs.Prelude.{◌≡◌, ◌≢◌, ◌⊎◌, ℕ, ◌<◌, ◌
 use Rattle.std.specs.List.{AllZip, join_with_byte, list_all, list_any}
 use Rattle.std.specs.Str.{all_ascii_digits}
 use Rattle.std.specs.Str.Parse.{digits_value}
+use Rattle.pgv_text.specs.Characters.{exclamation_mark, percent_sign, asterisk, dot, at_sign, vertical_bar}
 use Rattle.pgv_ltree.specs.Labels.{is_label}
 use Rattle.pgv_ltree.specs.Queries.{Variant, Level, star, one_of, none_of}
 
@@ -14,7 +14,7 @@ use Rattle.pgv_ltree.specs.Queries.{Variant, Level, star, one_of, none_of}
 
 -- a modifier is one of `*`, `@` and `%`
 abbrev pub is_mark : ℕ → Bool
-is_mark c = c == 42 || c == 64 || c == 37
+is_mark c = c == asterisk || c == at_sign || c == percent_sign
 
 abbrev pub has_mark : ℕ → List ℕ → Bool
 has_mark mark marks = list_any (λ c. c == mark) marks
@@ -25,16 +25,16 @@ pub record IsVariantText (text : List ℕ) (v : Variant) : Type 0 where
   pub label : is_label v.label ≡ true
   pub each : list_all is_mark marks ≡ true
   pub whole : text ≡ v.label ++ marks
-  pub any_end : v.any_end ≡ has_mark 42 marks
-  pub in_case : v.in_case ≡ has_mark 64 marks
-  pub sublexeme : v.sublexeme ≡ has_mark 37 marks
+  pub any_end : v.any_end ≡ has_mark asterisk marks
+  pub in_case : v.in_case ≡ has_mark at_sign marks
+  pub sublexeme : v.sublexeme ≡ has_mark percent_sign marks
 
 -- The text is that of variants, joined by bars.
 pub record AreVariantsText (text : List ℕ) (vs : List Variant) : Type 0 where
   pub texts : List (List ℕ)
   pub some : texts ≢ []
   pub each : AllZip IsVariantText texts vs
-  pub whole : text ≡ join_with_byte 124 texts
+  pub whole : text ≡ join_with_byte vertical_bar texts
 
 -- ---- stars
 
@@ -69,17 +69,17 @@ IsBoundedStar text low high =
 -- the text begins with `*`
 abbrev pub begins_with_star : List ℕ → Bool
 begins_with_star [] = false
-begins_with_star (c ∷ text) = c == 42
+begins_with_star (c ∷ text) = c == asterisk
 
 -- The text is that of a level.
 abbrev pub IsLevelText : List ℕ → Level → Type 0
 IsLevelText text (star low high) = IsFreeStar text low high ⊎ IsExactStar text low high ⊎ IsBoundedStar text low high
 IsLevelText text (one_of vs) = (text ≢ []) × (begins_with_star text ≡ false) × AreVariantsText text vs
-IsLevelText text (none_of vs) = (rest : List ℕ) × (text ≡ 33 ∷ rest) × AreVariantsText rest vs
+IsLevelText text (none_of vs) = (rest : List ℕ) × (text ≡ exclamation_mark ∷ rest) × AreVariantsText rest vs
 
 -- The text is that of a query: levels, joined by dots.
 pub record IsQueryText (text : List ℕ) (levels : List Level) : Type 0 where
   pub texts : List (List ℕ)
   pub some : texts ≢ []
   pub each : AllZip IsLevelText texts levels
-  pub whole : text ≡ join_with_byte 46 texts
+  pub whole : text ≡ join_with_byte dot texts

@@ -2,6 +2,7 @@
 use Rattle.std.specs.Prelude.{◌≡◌, ℕ, true, List, [], ◌∷◌, Some, Ok, refl}
 use Rattle.std.specs.List.{list_all}
 use Rattle.std.proofs.Common.{ap, ◌∙◌}
+use Rattle.pgv_text.specs.Characters.{dot}
 use Rattle.pgv_buf.specs.Tokens.{bytes}
 use Rattle.pgv_value.specs.FrameBinary.{Part}
 use Rattle.pgv_value.specs.Outcome.{ok_of, reading_of}
@@ -32,7 +33,7 @@ tree_text_again (label ∷ labels) e = rw (tree_again label labels e) refl
 
 tree_binary_again : (labels : List (List ℕ)) → list_all is_label labels ≡ true → (tree_in_binary (1 ∷ printed_tree labels)).answer ≡ Ok (tree_kept labels)
 tree_binary_again labels e =
-    rw (ascii_is_utf8 (printed_tree labels) (ascii_joined 46 refl labels (wider is_label are_ascii label_is_ascii labels e))) (tree_text_again labels e)
+    rw (ascii_is_utf8 (printed_tree labels) (ascii_joined dot refl labels (wider is_label are_ascii label_is_ascii labels e))) (tree_text_again labels e)
 
 pub tree_back : ReadsBack (λ tree. plainly (writes (tree_image tree))) (reading_of parse_tree) tree_kept always
 tree_back labels i t p os e whole small fit =

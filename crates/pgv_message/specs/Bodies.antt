@@ -2,6 +2,7 @@
 -- are C15, a text that isn't UTF-8 is C14, bytes after the last field are C17, and a code that isn't one of its field's
 -- is C30.
 use Rattle.std.specs.Prelude.{ℕ, ◌==◌, List, [], ◌∷◌, length, Ok, Err, if◌then◌else◌}
+use Rattle.pgv_text.specs.Characters.{upper_e, upper_i, upper_t}
 use Rattle.pgv_value.specs.declared.error.CodecError.TheVariants.{Short, WrongLength, OutOfRange}
 use Rattle.pgv_value.specs.Fronts.{u32_front, name_front}
 use Rattle.pgv_value.specs.Parsed.{Parsed, ◌>>=◌}
@@ -22,7 +23,7 @@ command_complete bytes = do
 
 -- ReadyForQuery: `I` no transaction, `T` in a transaction, `E` in one that failed
 abbrev pub status_of : ℕ → Parsed PgTransactionStatus
-status_of code = if code == 73 then Ok Idle else if code == 84 then Ok Transaction else if code == 69 then Ok Failed else Err OutOfRange
+status_of code = if code == upper_i then Ok Idle else if code == upper_t then Ok Transaction else if code == upper_e then Ok Failed else Err OutOfRange
 
 unfoldable pub ready_for_query : List ℕ → Parsed PgTransactionStatus
 ready_for_query [] = Err Short

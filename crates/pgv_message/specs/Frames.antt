@@ -3,6 +3,7 @@
 use Rattle.std.specs.Prelude.{◌≡◌, ℕ, List, [], ◌∷◌, length, flat_map, Ok}
 use Rattle.std.specs.Int.{w16, to_be_bytes}
 use Rattle.std.specs.List.{AllByRecursion}
+use Rattle.pgv_text.specs.Characters.{upper_b}
 use Rattle.pgv_value.specs.FrameBinary.{Part, field_bytes, FitsLength}
 use Rattle.pgv_value.specs.declared.value.PgValueFormat.{PgValueFormat}
 use Rattle.pgv_codec.specs.Encoding.{Image}
@@ -17,7 +18,7 @@ use Rattle.pgv_message.specs.MessageWriting.{text}
 -- Bind with these parts for its parameters, all in binary
 abbrev pub bind_of : List ℕ → List ℕ → List Part → List PgValueFormat → List ℕ
 bind_of portal statement parts results =
-    message 66 (joined (
+    message upper_b (joined (
     text portal ∷ text statement ∷ to_be_bytes w16 1 ∷ to_be_bytes w16 1 ∷ to_be_bytes w16 (length parts) ∷ flat_map field_bytes parts ∷ to_be_bytes w16 (length results) ∷ flat_map format_bytes results ∷ []
     ))
 

@@ -1,6 +1,7 @@
 -- How many rows a CommandComplete says (PostgreSQL: "Message Formats", CommandComplete): the number after the last
 -- space of its text.
 use Rattle.std.specs.Prelude.{ℕ, ◌^◌, ◌==◌, nat_lt, List, [], ◌∷◌, Option, Some, None, option_and_then, if◌then◌else◌}
+use Rattle.pgv_text.specs.Characters.{space}
 use Rattle.pgv_text.specs.IntText.{unsigned_value}
 use Rattle.pgv_value.specs.Text.{is_utf8}
 
@@ -11,7 +12,7 @@ or_else None y = y
 
 abbrev pub after_last_space : List ℕ → Option (List ℕ)
 after_last_space [] = None
-after_last_space (b ∷ rest) = or_else (after_last_space rest) (if b == 32 then Some rest else None)
+after_last_space (b ∷ rest) = or_else (after_last_space rest) (if b == space then Some rest else None)
 
 -- a number that fits 64 bits
 abbrev pub within_64 : Option ℕ → Option ℕ

@@ -1,5 +1,6 @@
 //! COPY: its data, its end and its failure.
 
+ghost use Rattle.pgv_text.specs.Characters.{lower_c};
 ghost use Rattle.pgv_message.specs.Messages.{bare_message, copy_data, copy_fail};
 ghost use Rattle.pgv_message.specs.MessageWriting.{Sends};
 
@@ -23,7 +24,7 @@ pub fn write_copy_data(out: &mut Vec<u8>, bytes: &[u8]) -> Result<(), MessageErr
 /// Appends CopyDone (PostgreSQL: "Message Formats", CopyDone): the stream has ended. It is `63 00000004`. A refused
 /// call leaves the buffer as it was.
 pub fn write_copy_done(out: &mut Vec<u8>) -> Result<(), MessageError>
-    ensures { Sends (bare_message 99) out.old.items out.new.items result }
+    ensures { Sends (bare_message lower_c) out.old.items out.new.items result }
 {
     write_bare(out, b'c')
 }

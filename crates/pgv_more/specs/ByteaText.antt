@@ -3,10 +3,11 @@
 -- and two hex digits of either case for each byte, the high one first (`IsByteaText`). Of N bytes another number is
 -- refused with C17, and a text that denotes no bytes with C29. Text without case is read as `text` is. Law:
 -- `bytea_text_is_read`.
-use Rattle.std.specs.Prelude.{◌≡◌, ◌↔◌, ℕ, ◌==◌, ◌&&◌, Bool, List, [], ◌∷◌, length, Option, Some, None, Result, Ok, Err, ok_or, if◌then◌else◌}
+use Rattle.std.specs.Prelude.{◌≡◌, ◌↔◌, ℕ, ◌==◌, ◌&&◌, Bool, codes, List, [], ◌∷◌, ◌++◌, length, Option, Some, None, Result, Ok, Err, ok_or, if◌then◌else◌}
 use Rattle.std.specs.Option.{option_and_then}
 use Rattle.std.specs.List.{list_all}
 use Rattle.hex.specs.Hex.{decode_of, is_hex_digit}
+use Rattle.pgv_text.specs.Characters.{backslash, lower_x}
 use Rattle.pgv_buf.specs.Tokens.{bytes}
 use Rattle.pgv_codec.specs.Encoding.{Image, image_of}
 use Rattle.pgv_value.specs.Outcome.{Outcome, copied}
@@ -24,9 +25,9 @@ abbrev pub ArePairs : List ℕ → List ℕ → Type 0
 ArePairs [] text = text ≡ []
 ArePairs (byte ∷ more) text = (high : ℕ) × (low : ℕ) × (rest : List ℕ) × (text ≡ high ∷ low ∷ rest) × IsPair high low byte × ArePairs more rest
 
--- 92 is `\` and 120 is `x`
+-- `\x` and the digits
 abbrev pub IsByteaText : List ℕ → List ℕ → Type 0
-IsByteaText text value = (digits : List ℕ) × (text ≡ 92 ∷ 120 ∷ digits) × ArePairs value digits
+IsByteaText text value = (digits : List ℕ) × (text ≡ codes "\\x" ++ digits) × ArePairs value digits
 
 -- ---- what is read
 
@@ -34,7 +35,7 @@ IsByteaText text value = (digits : List ℕ) × (text ≡ 92 ∷ 120 ∷ digits)
 abbrev pub after_prefix : List ℕ → Option (List ℕ)
 after_prefix [] = None
 after_prefix (a ∷ []) = None
-after_prefix (a ∷ b ∷ digits) = if a == 92 && b == 120 then Some digits else None
+after_prefix (a ∷ b ∷ digits) = if a == backslash && b == lower_x then Some digits else None
 
 abbrev pub where_ok : {E A : Type 0} → Result A E → Option A
 where_ok (Ok a) = Some a

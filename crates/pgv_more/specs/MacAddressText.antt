@@ -1,15 +1,16 @@
 -- The text of MAC addresses (PostgreSQL: "Network Address Types", 8.9, macaddr), as `08:00:2b:01:02:03` or
 -- `08-00-2B-01-02-03`: six pairs of hex digits of either case, with `:` between each two pairs or with `-`
 -- (`IsMacAddress`). Laws: what is computed is exactly this.
-use Rattle.std.specs.Prelude.{◌≡◌, ◌↔◌, ◌⊎◌, ℕ, suc, zero, ◌+◌, ◌*◌, ◌<◌, ◌≤◌, ◌==◌, ◌||◌, nat_lt, Bool, List, [], ◌∷◌, length, Option, Some, None, if◌then◌else◌}
+use Rattle.std.specs.Prelude.{◌≡◌, ◌↔◌, ◌⊎◌, ℕ, suc, zero, ◌+◌, ◌-◌, ◌*◌, ◌<◌, ◌≤◌, ◌==◌, ◌||◌, nat_lt, Bool, List, [], ◌∷◌, length, Option, Some, None, if◌then◌else◌}
 use Rattle.std.specs.Option.{option_map}
 use Rattle.std.specs.Char.{digit_value}
+use Rattle.pgv_text.specs.Characters.{hyphen, digit_zero, colon, upper_a, lower_a}
 
 -- ---- which texts these are
 
--- a hex digit of either case: 48 is `0`, 55 + 10 is `A` and 87 + 10 is `a`
+-- a hex digit of either case
 abbrev pub IsHexDigit : ℕ → ℕ → Type 0
-IsHexDigit c v = ((v < 10) × (c ≡ 48 + v)) ⊎ ((10 ≤ v) × (v < 16) × ((c ≡ 55 + v) ⊎ (c ≡ 87 + v)))
+IsHexDigit c v = ((v < 10) × (c ≡ digit_zero + v)) ⊎ ((10 ≤ v) × (v < 16) × ((c ≡ (upper_a - 10) + v) ⊎ (c ≡ (lower_a - 10) + v)))
 
 -- two digits of a byte, the high one first
 abbrev pub IsPair : ℕ → ℕ → ℕ → Type 0
@@ -23,7 +24,7 @@ ArePairsAfter separator (byte ∷ more) text =
 
 -- a separator: `:` or `-`
 abbrev pub IsSeparator : ℕ → Type 0
-IsSeparator c = (c ≡ 58) ⊎ (c ≡ 45)
+IsSeparator c = (c ≡ colon) ⊎ (c ≡ hyphen)
 
 -- the text is six pairs, a separator between each two of them, always the same one
 abbrev pub IsMacAddress : List ℕ → List ℕ → Type 0
@@ -69,7 +70,7 @@ pairs_after separator zero text = no_text_left text
 pairs_after separator (suc n) text = pair_before (next_pair separator text) (pairs_after separator n)
 
 abbrev pub is_separator : ℕ → Bool
-is_separator c = c == 58 || c == 45
+is_separator c = c == colon || c == hyphen
 
 -- the bytes of a text: the separator is what is after the first pair
 abbrev pub mac_value : List ℕ → Option (List ℕ)

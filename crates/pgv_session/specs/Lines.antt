@@ -4,6 +4,7 @@
 use Rattle.std.specs.Prelude.{ℕ, ◌==◌, nat_lt, Bool, false, codes, bytes_eq, List, [], ◌∷◌, Option, Some, None, Result, Ok, Err, option_map, if◌then◌else◌}
 use Rattle.hex.specs.Hex.{decode_of}
 use Rattle.hex.specs.declared.error.FromHexError.{FromHexError}
+use Rattle.pgv_text.specs.Characters.{space, plus_sign}
 use Rattle.pgv_types.specs.declared.oid.Oid.{Oid}
 use Rattle.pgv_text.specs.IntText.{unsigned_value}
 use Rattle.pgv_value.specs.Text.{is_utf8}
@@ -20,10 +21,10 @@ text_after mark (c ∷ cs) = if c == mark then Some cs else text_after mark cs
 
 -- the first word, which ends at a space or with the line, and what comes after the space
 abbrev pub first_word : List ℕ → List ℕ
-first_word line = text_before 32 line
+first_word line = text_before space line
 
 abbrev pub after_word : List ℕ → Option (List ℕ)
-after_word line = text_after 32 line
+after_word line = text_after space line
 
 -- one more character at the front of the first word
 abbrev pub at_first : ℕ → List (List ℕ) → List (List ℕ)
@@ -33,20 +34,20 @@ at_first c (word ∷ rest) = (c ∷ word) ∷ rest
 -- the words between single spaces
 abbrev pub words : List ℕ → List (List ℕ)
 words [] = [] ∷ []
-words (c ∷ cs) = if c == 32 then [] ∷ words cs else at_first c (words cs)
+words (c ∷ cs) = if c == space then [] ∷ words cs else at_first c (words cs)
 
 -- ---- numbers
 
 abbrev pub starts_with_plus : List ℕ → Bool
 starts_with_plus [] = false
-starts_with_plus (c ∷ cs) = c == 43
+starts_with_plus (c ∷ cs) = c == plus_sign
 
 abbrev pub with_first : {A : Type 0} → Option A → Option (List A) → Option (List A)
 with_first None rest = None
 with_first (Some x) None = None
 with_first (Some x) (Some xs) = Some (x ∷ xs)
 
--- digits up to 4294967295; 43 is `+`
+-- digits up to 4294967295
 abbrev pub spelled_oid : Option ℕ → Option Oid
 spelled_oid None = None
 spelled_oid (Some n) = if nat_lt n 4294967296 then Some (record { 0 = n }) else None

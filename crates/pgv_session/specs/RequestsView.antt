@@ -1,5 +1,5 @@
 -- What contracts see of a request.
-use Rattle.std.specs.Prelude.{option_map, Some}
+use Rattle.std.specs.Prelude.{option_map}
 use Rattle.pgv_session.specs.Lines.{words}
 use Rattle.pgv_session.specs.Spelled.{Ask as Asked, to_add, to_add_null, to_read, asks, asks_holes, resolves, asks_wire, copies, Request as RequestSeen}
 use Rattle.pgv_session.specs.declared.line.Ask.{Ask}

@@ -10,6 +10,7 @@
 use Rattle.std.specs.Prelude.{◌≡◌, ◌≢◌, ℕ, ◌≤◌, ◌==◌, Bool, true, false, codes, decimal, List, [], ◌∷◌, ◌++◌, map, length, Option, Some, None, IfSome, option_map, Ok, Err, zip, if◌then◌else◌}
 use Rattle.std.specs.List.{AllByRecursion}
 use Rattle.hex.specs.Hex.{encode_lower}
+use Rattle.pgv_text.specs.Characters.{space, dollar_sign}
 use Rattle.pgv_types.specs.Ty.{Ty}
 use Rattle.pgv_types.specs.Facts.{display_of}
 use Rattle.pgv_types.specs.declared.oid.Oid.{Oid}
@@ -34,7 +35,7 @@ State = List Argument
 
 -- `$` and the number of arguments
 abbrev pub placeholder : State → List ℕ
-placeholder args = 36 ∷ decimal (length args)
+placeholder args = dollar_sign ∷ decimal (length args)
 
 -- `refused Cn`
 abbrev pub refused : ℕ → List ℕ
@@ -64,7 +65,7 @@ AddsNull row was answer now = AddsLine (Some (row.info, bytes (be4 null_length))
 -- the display names, with one space before each
 abbrev pub names_after : List Ty → List ℕ
 names_after [] = []
-names_after (t ∷ ts) = 32 ∷ (display_of t ++ names_after ts)
+names_after (t ∷ ts) = space ∷ (display_of t ++ names_after ts)
 
 -- the display names with one space between them, or `none`
 abbrev pub names_shown : List Ty → List ℕ

@@ -12,6 +12,7 @@
 use Rattle.std.specs.Prelude.{◌≡◌, ◌≢◌, ◌≤◌, ◌<◌, ◌+◌, ℕ, codes, List, [], ◌∷◌, ◌++◌, map, length, Option, Some, None}
 use Rattle.std.specs.List.{AllByRecursion}
 use Rattle.std.specs.Int.Digits.{number_from_digits}
+use Rattle.pgv_text.specs.Characters.{space, digit_zero}
 use Rattle.pgv_types.specs.declared.oid.Oid.{Oid}
 use Rattle.pgv_more.specs.ByteaText.{ArePairs}
 
@@ -34,42 +35,42 @@ pub data Request : Type 0 where
 
 -- a name, of which nothing is said but that it has no space
 abbrev pub IsName : List ℕ → Type 0
-IsName name = AllByRecursion (λ c. c ≢ 32) name
+IsName name = AllByRecursion (λ c. c ≢ space) name
 
--- The word is this OID: one decimal digit or more, with no sign; 48 is `0`.
+-- The word is this OID: one decimal digit or more, with no sign.
 pub record IsOidWord (word : List ℕ) (oid : Oid) : Type 0 where
   pub digits : List ℕ
   pub some : 0 < length digits
   pub each : AllByRecursion (λ d. d < 10) digits
-  pub whole : word ≡ map (λ d. 48 + d) digits
+  pub whole : word ≡ map (λ d. digit_zero + d) digits
   pub value : oid.0 ≡ number_from_digits 10 digits
   pub fits : oid.0 ≤ 4294967295
 
 -- the OIDs in turn, with one space before each
 abbrev pub SpellsOids : List Oid → List ℕ → Type 0
 SpellsOids [] text = text ≡ []
-SpellsOids (oid ∷ oids) text = (word rest : List ℕ) × IsOidWord word oid × SpellsOids oids rest × (text ≡ 32 ∷ (word ++ rest))
+SpellsOids (oid ∷ oids) text = (word rest : List ℕ) × IsOidWord word oid × SpellsOids oids rest × (text ≡ space ∷ (word ++ rest))
 
 -- the names in turn, with one space between each two
 abbrev pub SpellsNames : List (List ℕ) → List ℕ → Type 0
 SpellsNames [] text = ⊥
 SpellsNames (name ∷ []) text = IsName name × (text ≡ name)
-SpellsNames (name ∷ next ∷ names) text = (rest : List ℕ) × IsName name × SpellsNames (next ∷ names) rest × (text ≡ name ++ 32 ∷ rest)
+SpellsNames (name ∷ next ∷ names) text = (rest : List ℕ) × IsName name × SpellsNames (next ∷ names) rest × (text ≡ name ++ space ∷ rest)
 
 -- the bytes of a value, two digits for each and the high one first (`ArePairs`), or that it is null
 abbrev pub SpellsPart : Option (List ℕ) → List ℕ → Type 0
 SpellsPart None text = text ≡ codes "null"
 SpellsPart (Some bytes) text = ArePairs bytes text
 
--- The line is this request; 32 is a space.
+-- The line is this request.
 abbrev pub Spells : Request → List ℕ → Type 0
-Spells (asks name (to_add text)) line = IsName name × (line ≡ codes "add " ++ (name ++ 32 ∷ text))
+Spells (asks name (to_add text)) line = IsName name × (line ≡ codes "add " ++ (name ++ space ∷ text))
 Spells (asks name to_add_null) line = IsName name × (line ≡ codes "null " ++ name)
-Spells (asks name (to_read part)) line = (text : List ℕ) × IsName name × SpellsPart part text × (line ≡ codes "read " ++ (name ++ 32 ∷ text))
+Spells (asks name (to_read part)) line = (text : List ℕ) × IsName name × SpellsPart part text × (line ≡ codes "read " ++ (name ++ space ∷ text))
 Spells asks_holes line = line ≡ codes "holes"
 Spells (resolves oids) line = (text : List ℕ) × SpellsOids oids text × (line ≡ codes "resolve" ++ text)
 Spells asks_wire line = line ≡ codes "wire"
-Spells (copies bytes names) line = (text rest : List ℕ) × ArePairs bytes text × SpellsNames names rest × (line ≡ codes "copy " ++ (text ++ 32 ∷ rest))
+Spells (copies bytes names) line = (text rest : List ℕ) × ArePairs bytes text × SpellsNames names rest × (line ≡ codes "copy " ++ (text ++ space ∷ rest))
 
 -- what a line asks for: the request that it spells, or nothing where it spells none
 abbrev pub Asks : List ℕ → Option Request → Type 0

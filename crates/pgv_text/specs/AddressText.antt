@@ -6,6 +6,7 @@ use Rattle.std.specs.Net.Grammar.{IsIpText}
 use Rattle.std.specs.Net.Reader.{read_ipv4, read_ipv6}
 use Rattle.std.specs.declared.net.ip_addr.IpAddr.{IpAddr}
 use Rattle.std.specs.declared.net.ip_addr.IpAddr.TheVariants as Ip
+use Rattle.pgv_text.specs.Characters.{slash, digit_zero, digit_one, digit_nine}
 use Rattle.pgv_text.specs.FieldText.{whole}
 
 -- The number of all bits of an address.
@@ -13,12 +14,12 @@ abbrev pub full_prefix : IpAddr → ℕ
 full_prefix (Ip.V4 address) = 32
 full_prefix (Ip.V6 address) = 128
 
--- ---- what the texts are; 47 is `/`
+-- ---- what the texts are
 
 -- The number of bits after an address: `/` and a decimal number without leading zeros, or nothing for all of them.
 abbrev pub IsPrefixText : List ℕ → IpAddr → ℕ → Type 0
 IsPrefixText text address prefix =
-    ((text ≡ []) × (prefix ≡ full_prefix address)) ⊎ ((text ≡ 47 ∷ decimal prefix) × (prefix ≤ full_prefix address))
+    ((text ≡ []) × (prefix ≡ full_prefix address)) ⊎ ((text ≡ slash ∷ decimal prefix) × (prefix ≤ full_prefix address))
 
 -- ---- the same, computed
 
@@ -29,11 +30,11 @@ v6_or segments None = option_map (λ found. Ip.V6 (record { segments = found }))
 abbrev pub address_value : List ℕ → Option IpAddr
 address_value text = v6_or (whole (read_ipv6 text)) (whole (read_ipv4 text))
 
--- A decimal number below 200 without leading zeros; 48 is `0` and 49 `1`.
+-- A decimal number below 200 without leading zeros.
 abbrev pub prefix_value : List ℕ → Option ℕ
-prefix_value (a ∷ []) = if is_ascii_digit a then Some (a - 48) else None
-prefix_value (a ∷ b ∷ []) = if nat_le 49 a && nat_le a 57 && is_ascii_digit b then Some ((a - 48) * 10 + (b - 48)) else None
-prefix_value (a ∷ b ∷ c ∷ []) = if a == 49 && is_ascii_digit b && is_ascii_digit c then Some (100 + (b - 48) * 10 + (c - 48)) else None
+prefix_value (a ∷ []) = if is_ascii_digit a then Some (a - digit_zero) else None
+prefix_value (a ∷ b ∷ []) = if nat_le digit_one a && nat_le a digit_nine && is_ascii_digit b then Some ((a - digit_zero) * 10 + (b - digit_zero)) else None
+prefix_value (a ∷ b ∷ c ∷ []) = if a == digit_one && is_ascii_digit b && is_ascii_digit c then Some (100 + (b - digit_zero) * 10 + (c - digit_zero)) else None
 prefix_value _ = None
 
 -- ---- the law

@@ -2,6 +2,7 @@
 -- by `,`, `}`. An element is a list of pieces. Plain is all but `"`, `\`, `,`, `{` and `}`; quotes are not doubled. An
 -- element is null exactly where it is the four plain pieces NULL. Nothing at all between the braces is no element.
 use Rattle.std.specs.Prelude.{ℕ, false, ◌==◌, List, [], ◌∷◌, Option}
+use Rattle.pgv_text.specs.Characters.{left_brace, right_brace}
 use Rattle.pgv_text.specs.NestPieces.{Piece, plain, Form, any, IsNestText}
 
 -- The four plain pieces NULL.
@@ -10,7 +11,7 @@ null_pieces = plain 78 ∷ plain 85 ∷ plain 76 ∷ plain 76 ∷ []
 
 -- `{` and `}`
 abbrev pub array_form : Form
-array_form = record { opens = λ c. c == 123; closes = λ c. c == 125; doubles = false; nothing = null_pieces; count = any }
+array_form = record { opens = λ c. c == left_brace; closes = λ c. c == right_brace; doubles = false; nothing = null_pieces; count = any }
 
 -- These characters are an array of these values.
 abbrev pub IsArrayText : List ℕ → List (Option (List ℕ)) → Type 0

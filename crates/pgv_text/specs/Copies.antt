@@ -1,6 +1,7 @@
 -- Which parts of a text are copied when they are read: each that isn't in the text as it is, alone or in quotes.
 use Rattle.std.specs.Prelude.{◌≡◌, ℕ, Bool, true, false, not, ◌&&◌, ◌||◌, ◌==◌, if◌then◌else◌, is_some, List, [], ◌∷◌, Option, Some, None}
 use Rattle.std.specs.Str.{IsUtf8, chars}
+use Rattle.pgv_text.specs.Characters.{double_quote, backslash}
 use Rattle.pgv_text.specs.declared.scanner.Class.{Class}
 use Rattle.pgv_text.specs.declared.scanner.Class.TheVariants.{Quote, Backslash, Other}
 use Rattle.pgv_text.specs.declared.scanner.Place.{Place}
@@ -92,10 +93,10 @@ abbrev pub none_copied : List Bool → Bool
 none_copied [] = true
 none_copied (copied ∷ later) = not copied && none_copied later
 
--- no quote (34) and no backslash (92)
+-- no quote and no backslash
 abbrev pub unquoted : List ℕ → Bool
 unquoted [] = true
-unquoted (c ∷ cs) = not (c == 34 || c == 92) && unquoted cs
+unquoted (c ∷ cs) = not (c == double_quote || c == backslash) && unquoted cs
 
 -- Of a text of parts without quotes and backslashes no part is copied.
 abbrev pub UnquotedIsNotCopied : Type 0

@@ -26,19 +26,20 @@ use Rattle.jiff_core.specs.declared.civil.datetime.DateTime.{DateTime}
 use Rattle.jiff_core.specs.declared.civil.time.Time.{Time}
 use Rattle.jiff_core.specs.declared.offset.Offset.{Offset}
 use Rattle.jiff_core.specs.declared.timestamp.Timestamp.{Timestamp}
+use Rattle.pgv_text.specs.Characters.{space, plus_sign, hyphen, digit_zero, digit_two, digit_four, colon}
 use Rattle.pgv_text.specs.FieldText.{two_digits, four_digits, IsFractionIfAny, Front, ◌>>=◌, after_byte, two, two_below, four, fraction, whole}
 
--- ---- what the texts are; 45 is `-`, 58 is `:`, 43 is `+` and 32 is a space
+-- ---- what the texts are
 
 -- A date: `YYYY-MM-DD`. The year of a date is at most 9999.
 abbrev pub IsDateText : List ℕ → Date → Type 0
 IsDateText text date =
-    (year : ℕ) × (date.year ≡ pos year) × (text ≡ four_digits year ++ 45 ∷ two_digits date.month ++ 45 ∷ two_digits date.day)
+    (year : ℕ) × (date.year ≡ pos year) × (text ≡ four_digits year ++ hyphen ∷ two_digits date.month ++ hyphen ∷ two_digits date.day)
 
 -- A time as a clock shows it: `HH:MM:SS`, and perhaps a fraction.
 abbrev pub IsClockText : List ℕ → Time → Type 0
 IsClockText text time =
-    (fraction : List ℕ) × (text ≡ two_digits time.hour ++ 58 ∷ two_digits time.minute ++ 58 ∷ two_digits time.second ++ fraction)
+    (fraction : List ℕ) × (text ≡ two_digits time.hour ++ colon ∷ two_digits time.minute ++ colon ∷ two_digits time.second ++ fraction)
     × IsFractionIfAny fraction time.subsec_nanosecond
 
 -- A time: the same, or `24:00:00` for midnight.
@@ -47,13 +48,13 @@ IsTimeText text time = IsClockText text time ⊎ ((text ≡ codes "24:00:00") ×
 
 -- What may follow the minutes of an offset: `:` and the seconds.
 abbrev pub IsSecondsText : List ℕ → ℕ → Type 0
-IsSecondsText text second = ((text ≡ []) × (second ≡ 0)) ⊎ ((second < 60) × (text ≡ 58 ∷ two_digits second))
+IsSecondsText text second = ((text ≡ []) × (second ≡ 0)) ⊎ ((second < 60) × (text ≡ colon ∷ two_digits second))
 
 -- What may follow its hours, in seconds: `:` and the minutes, and what may follow those.
 abbrev pub IsMinutesText : List ℕ → ℕ → Type 0
 IsMinutesText text seconds =
     ((text ≡ []) × (seconds ≡ 0))
-    ⊎ ((minute second : ℕ) × (rest : List ℕ) × (minute < 60) × (text ≡ 58 ∷ two_digits minute ++ rest) × IsSecondsText rest second
+    ⊎ ((minute second : ℕ) × (rest : List ℕ) × (minute < 60) × (text ≡ colon ∷ two_digits minute ++ rest) × IsSecondsText rest second
     × (seconds ≡ minute * 60 + second))
 
 -- An offset without its sign, in seconds.
@@ -66,15 +67,15 @@ IsHoursText text seconds =
 abbrev pub IsOffsetText : List ℕ → Offset → Type 0
 IsOffsetText text offset =
     (seconds : ℕ) × (rest : List ℕ) × IsHoursText rest seconds
-    × (((text ≡ 43 ∷ rest) × (offset.seconds ≡ pos seconds)) ⊎ ((text ≡ 45 ∷ rest) × (offset.seconds ≡ neg_ℤ (pos seconds))))
+    × (((text ≡ plus_sign ∷ rest) × (offset.seconds ≡ pos seconds)) ⊎ ((text ≡ hyphen ∷ rest) × (offset.seconds ≡ neg_ℤ (pos seconds))))
 
 -- What may follow a date-time, and says nothing: an offset with `+`.
 abbrev pub IsIgnored : List ℕ → Type 0
-IsIgnored text = (text ≡ []) ⊎ ((rest : List ℕ) × (seconds : ℕ) × (text ≡ 43 ∷ rest) × IsHoursText rest seconds)
+IsIgnored text = (text ≡ []) ⊎ ((rest : List ℕ) × (seconds : ℕ) × (text ≡ plus_sign ∷ rest) × IsHoursText rest seconds)
 
 -- A date, a space and a time, which is never `24:00:00`.
 abbrev pub IsCivilText : List ℕ → DateTime → Type 0
-IsCivilText text at = (date clock : List ℕ) × (text ≡ date ++ 32 ∷ clock) × IsDateText date at.date × IsClockText clock at.time
+IsCivilText text at = (date clock : List ℕ) × (text ≡ date ++ space ∷ clock) × IsDateText date at.date × IsClockText clock at.time
 
 -- A date-time.
 abbrev pub IsDateTimeText : List ℕ → DateTime → Type 0
@@ -102,9 +103,9 @@ day_number year month day = if is_day year month day then Some (days_from_civil 
 abbrev pub date_front : List ℕ → Front ℤ
 date_front text = do
   year ← four text
-  after_year ← after_byte 45 year.1
+  after_year ← after_byte hyphen year.1
   month ← two after_year
-  after_month ← after_byte 45 month.1
+  after_month ← after_byte hyphen month.1
   day ← two after_month
   number ← day_number year.0 month.0 day.0
   Some (number, day.1)
@@ -118,9 +119,9 @@ clock_nanos hour minute second nanos =
 abbrev pub clock_front : List ℕ → Front ℕ
 clock_front text = do
   hour ← two text
-  after_hour ← after_byte 58 hour.1
+  after_hour ← after_byte colon hour.1
   minute ← two after_hour
-  after_minute ← after_byte 58 minute.1
+  after_minute ← after_byte colon minute.1
   second ← two after_minute
   nanos ← fraction second.1
   time ← clock_nanos hour.0 minute.0 second.0 nanos.0
@@ -129,7 +130,7 @@ clock_front text = do
 -- What follows `24:00:00`.
 abbrev pub after_midnight : List ℕ → Option (List ℕ)
 after_midnight (a ∷ b ∷ c ∷ d ∷ e ∷ f ∷ g ∷ h ∷ rest) =
-    if a == 50 && b == 52 && c == 58 && d == 48 && e == 48 && f == 58 && g == 48 && h == 48 then Some rest else None
+    if a == digit_two && b == digit_four && c == colon && d == digit_zero && e == digit_zero && f == colon && g == digit_zero && h == digit_zero then Some rest else None
 after_midnight _ = None
 
 abbrev pub midnight_or : Front ℕ → Option (List ℕ) → Front ℕ
@@ -142,13 +143,13 @@ time_front text = midnight_or (clock_front text) (after_midnight text)
 abbrev pub seconds_value : List ℕ → Option ℕ
 seconds_value [] = Some 0
 seconds_value (c ∷ cs) = do
-  rest ← after_byte 58 (c ∷ cs)
+  rest ← after_byte colon (c ∷ cs)
   whole (two_below 60 rest)
 
 abbrev pub minutes_value : List ℕ → Option ℕ
 minutes_value [] = Some 0
 minutes_value (c ∷ cs) = do
-  rest ← after_byte 58 (c ∷ cs)
+  rest ← after_byte colon (c ∷ cs)
   minute ← two_below 60 rest
   second ← seconds_value minute.1
   Some (minute.0 * 60 + second)
@@ -162,12 +163,12 @@ hours_value text = do
 abbrev pub offset_value : List ℕ → Option ℤ
 offset_value [] = None
 offset_value (sign ∷ rest) =
-    if sign == 43 then option_map pos (hours_value rest)
-    else (if sign == 45 then option_map (λ n. neg_ℤ (pos n)) (hours_value rest) else None)
+    if sign == plus_sign then option_map pos (hours_value rest)
+    else (if sign == hyphen then option_map (λ n. neg_ℤ (pos n)) (hours_value rest) else None)
 
 abbrev pub is_ignored : List ℕ → Bool
 is_ignored [] = true
-is_ignored (sign ∷ rest) = sign == 43 && is_some (hours_value rest)
+is_ignored (sign ∷ rest) = sign == plus_sign && is_some (hours_value rest)
 
 -- Nanoseconds from 1970 by the day and the nanoseconds in it.
 abbrev pub nanos_at : ℤ → ℕ → ℤ
@@ -176,7 +177,7 @@ nanos_at day time = day *ℤ pos 86_400_000_000_000 +ℤ pos time
 abbrev pub civil_front : List ℕ → Front ℤ
 civil_front text = do
   date ← date_front text
-  rest ← after_byte 32 date.1
+  rest ← after_byte space date.1
   time ← clock_front rest
   Some (nanos_at date.0 time.0, time.1)
 

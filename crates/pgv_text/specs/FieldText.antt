@@ -5,24 +5,25 @@ use Rattle.std.specs.List.{AllByRecursion}
 use Rattle.std.specs.Char.{is_ascii_digit}
 use Rattle.std.specs.Int.Digits.{number_from_digits}
 use Rattle.std.specs.Borrow.{Bor}
+use Rattle.pgv_text.specs.Characters.{dot, digit_zero}
 
 -- ---- what is written
 
--- A number below 100 in two digits; 48 is `0`.
+-- A number below 100 in two digits.
 abbrev pub two_digits : ℕ → List ℕ
-two_digits n = (48 + n / 10) ∷ (48 + n % 10) ∷ []
+two_digits n = (digit_zero + n / 10) ∷ (digit_zero + n % 10) ∷ []
 
 -- A number below 10000 in four digits.
 abbrev pub four_digits : ℕ → List ℕ
 four_digits n = two_digits (n / 100) ++ two_digits (n % 100)
 
--- A fraction of a second in nanoseconds: `.`, which is 46, and one to six digits.
+-- A fraction of a second in nanoseconds: `.` and one to six digits.
 pub record IsFraction (text : List ℕ) (nanos : ℕ) : Type 0 where
   pub digits : List ℕ
   pub some : 0 < length digits
   pub few : length digits ≤ 6
   pub each : AllByRecursion (λ d. d < 10) digits
-  pub whole : text ≡ 46 ∷ map (λ d. 48 + d) digits
+  pub whole : text ≡ dot ∷ map (λ d. digit_zero + d) digits
   pub value : nanos ≡ number_from_digits 10 digits * 10 ^ (9 - length digits)
 
 -- The same, or nothing.
@@ -47,7 +48,7 @@ after_byte byte (first ∷ rest) = if first == byte then Some rest else None
 -- Two digits.
 abbrev pub two : List ℕ → Front ℕ
 two (high ∷ low ∷ rest) =
-    if is_ascii_digit high && is_ascii_digit low then Some ((high - 48) * 10 + (low - 48), rest) else None
+    if is_ascii_digit high && is_ascii_digit low then Some ((high - digit_zero) * 10 + (low - digit_zero), rest) else None
 two _ = None
 
 -- Two digits of a number below the limit.
@@ -68,14 +69,14 @@ four text = do
 abbrev pub worth : ℕ → List ℕ → ℕ × List ℕ
 worth unit [] = (0, [])
 worth unit (c ∷ cs) =
-    if nat_lt 0 unit && is_ascii_digit c then ((c - 48) * unit + (worth (unit / 10) cs).0, (worth (unit / 10) cs).1) else (0, c ∷ cs)
+    if nat_lt 0 unit && is_ascii_digit c then ((c - digit_zero) * unit + (worth (unit / 10) cs).0, (worth (unit / 10) cs).1) else (0, c ∷ cs)
 
 -- A fraction of a second in nanoseconds, or 0 where the text does not begin with `.`.
 abbrev pub fraction : List ℕ → Front ℕ
 fraction [] = Some (0, [])
-fraction (c ∷ []) = if c == 46 then None else Some (0, c ∷ [])
+fraction (c ∷ []) = if c == dot then None else Some (0, c ∷ [])
 fraction (c ∷ d ∷ cs) =
-    if c == 46
+    if c == dot
     then (if is_ascii_digit d then Some ((worth 100_000 (d ∷ cs)).0 * 1000, (worth 100_000 (d ∷ cs)).1) else None)
     else Some (0, c ∷ d ∷ cs)
 

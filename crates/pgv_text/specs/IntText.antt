@@ -8,35 +8,35 @@ use Rattle.std.specs.List.{AllByRecursion, list_all}
 use Rattle.std.specs.Char.{digit_value}
 use Rattle.std.specs.Int.Digits.{number_from_digits}
 use Rattle.std.specs.Str.Parse.{digits_value, signed_digits_value, without_leading_plus, without_leading_sign}
+use Rattle.pgv_text.specs.Characters.{plus_sign, hyphen, digit_zero}
 
 pub data Sign : Type 0 where
   none : Sign
   plus : Sign
   minus : Sign
 
--- 43 is `+` and 45 is `-`.
 abbrev pub sign_text : Sign → List ℕ
 sign_text none = []
-sign_text plus = 43 ∷ []
-sign_text minus = 45 ∷ []
+sign_text plus = plus_sign ∷ []
+sign_text minus = hyphen ∷ []
 
 abbrev pub signed : Sign → ℕ → ℤ
 signed none n = pos n
 signed plus n = pos n
 signed minus n = neg_ℤ (pos n)
 
--- The text is this number: perhaps a sign, and one or more digits; 48 is `0`.
+-- The text is this number: perhaps a sign, and one or more digits.
 pub record IsNumber (text : List ℕ) (n : ℤ) : Type 0 where
   pub sign : Sign
   pub digits : List ℕ
   pub some : 0 < length digits
   pub each : AllByRecursion (λ d. d < 10) digits
-  pub whole : text ≡ sign_text sign ++ map (λ d. 48 + d) digits
+  pub whole : text ≡ sign_text sign ++ map (λ d. digit_zero + d) digits
   pub value : n ≡ signed sign (number_from_digits 10 digits)
 
 abbrev pub plus_text : Bool → List ℕ
 plus_text false = []
-plus_text true = 43 ∷ []
+plus_text true = plus_sign ∷ []
 
 -- The text is this number: perhaps a plus, and one or more digits.
 pub record IsUnsignedNumber (text : List ℕ) (n : ℕ) : Type 0 where
@@ -44,7 +44,7 @@ pub record IsUnsignedNumber (text : List ℕ) (n : ℕ) : Type 0 where
   pub digits : List ℕ
   pub some : 0 < length digits
   pub each : AllByRecursion (λ d. d < 10) digits
-  pub whole : text ≡ plus_text plus ++ map (λ d. 48 + d) digits
+  pub whole : text ≡ plus_text plus ++ map (λ d. digit_zero + d) digits
   pub value : n ≡ number_from_digits 10 digits
 
 -- Whether there is one digit or more, and nothing else.

@@ -1,3 +1,4 @@
+pub mod Characters
 pub mod IntText
 pub mod ScalarText
 pub mod NestPieces

@@ -2,6 +2,7 @@
 use Rattle.std.specs.Prelude.{◌≡◌, ◌↔◌, ℕ, true, ◌==◌, List, Some, Option}
 use Rattle.std.specs.List.{AllByRecursion}
 use Rattle.std.specs.Str.{chars, IsUtf8}
+use Rattle.pgv_text.specs.Characters.{left_bracket, right_bracket}
 use Rattle.pgv_text.specs.Spellings.{IsOptionalText, IsSpelled, AreEnough, nest_text}
 use Rattle.pgv_text.specs.declared.scanner.TextForm.{TextForm}
 use Rattle.pgv_text.specs.Forms.{form_of}
@@ -31,13 +32,13 @@ RecordIsItsValues = (text : List ℕ) (values : List (Option (List ℕ))) → (r
 unfoldable pub SpelledReadsBack : Type 0
 SpelledReadsBack = (form : TextForm) (opening closing : ℕ) (values : List (Option (List ℕ))) (spellings : List (List ℕ)) →
     (form_of form).opens opening ≡ true → (form_of form).closes closing ≡ true → AreEnough (form_of form).count values → AllByRecursion IsOptionalText values → Pairwise (IsSpelled (form_of form)) values spellings →
-    IsUtf8 (nest_text opening closing spellings) × IsNestText (form_of form) (chars (nest_text opening closing spellings)) (record { values = values; lower = opening == 91; upper = closing == 93 })
+    IsUtf8 (nest_text opening closing spellings) × IsNestText (form_of form) (chars (nest_text opening closing spellings)) (record { values = values; lower = opening == left_bracket; upper = closing == right_bracket })
 
 -- Every list of as many optional texts as the form has parts has a text, with any brackets of the form.
 abbrev pub EveryListHasAText : Type 0
 EveryListHasAText = (form : TextForm) (opening closing : ℕ) (values : List (Option (List ℕ))) →
     (form_of form).opens opening ≡ true → (form_of form).closes closing ≡ true → AreEnough (form_of form).count values → AllByRecursion IsOptionalText values →
-    (text : List ℕ) × IsUtf8 text × IsNestText (form_of form) (chars text) (record { values = values; lower = opening == 91; upper = closing == 93 })
+    (text : List ℕ) × IsUtf8 text × IsNestText (form_of form) (chars text) (record { values = values; lower = opening == left_bracket; upper = closing == right_bracket })
 
 -- The values of a text in UTF-8 are null or UTF-8.
 unfoldable pub ValuesAreTexts : Type 0

@@ -12,6 +12,7 @@
 use Rattle.std.specs.Prelude.{◌≡◌, ◌≢◌, ℕ, Bool, true, List, [], ◌∷◌, ◌++◌, length, map, Option, Some, None, not, ◌||◌, ◌==◌}
 use Rattle.std.specs.List.{flat_map, AllByRecursion}
 use Rattle.std.specs.Str.{encode_utf8_all}
+use Rattle.pgv_text.specs.Characters.{double_quote, comma, left_bracket, backslash, right_bracket}
 
 -- What is between quotes: a character, a character after a backslash, or a doubled quote.
 pub data Item : Type 0 where
@@ -42,23 +43,22 @@ pub record Form : Type 0 where
 
 -- All but `"`, `\`, `,` and the brackets may be plain.
 abbrev pub may_be_plain : Form → ℕ → Bool
-may_be_plain form c = not (c == 34 || c == 92 || c == 44 || form.opens c || form.closes c)
+may_be_plain form c = not (c == double_quote || c == backslash || c == comma || form.opens c || form.closes c)
 
--- 34 is `"` and 92 is `\`.
 abbrev pub item_spelling : Item → List ℕ
 item_spelling (inner c) = c ∷ []
-item_spelling (inner_escaped c) = 92 ∷ c ∷ []
-item_spelling doubled = 34 ∷ 34 ∷ []
+item_spelling (inner_escaped c) = backslash ∷ c ∷ []
+item_spelling doubled = double_quote ∷ double_quote ∷ []
 
 abbrev pub item_meaning : Item → ℕ
 item_meaning (inner c) = c
 item_meaning (inner_escaped c) = c
-item_meaning doubled = 34
+item_meaning doubled = double_quote
 
 abbrev pub spelling : Piece → List ℕ
 spelling (plain c) = c ∷ []
-spelling (escaped c) = 92 ∷ c ∷ []
-spelling (quoted items) = 34 ∷ flat_map item_spelling items ++ 34 ∷ []
+spelling (escaped c) = backslash ∷ c ∷ []
+spelling (quoted items) = double_quote ∷ flat_map item_spelling items ++ double_quote ∷ []
 
 abbrev pub meaning : Piece → List ℕ
 meaning (plain c) = c ∷ []
@@ -66,7 +66,7 @@ meaning (escaped c) = c ∷ []
 meaning (quoted items) = map item_meaning items
 
 abbrev pub IsItem : Form → Item → Type 0
-IsItem form (inner c) = (c ≢ 34) × (c ≢ 92)
+IsItem form (inner c) = (c ≢ double_quote) × (c ≢ backslash)
 IsItem form (inner_escaped c) = Unit {0}
 IsItem form doubled = form.doubles ≡ true
 
@@ -102,7 +102,7 @@ text_of pieces = flat_map meaning pieces
 -- Parts joined by commas.
 abbrev pub comma_joined : List (List Piece) → List ℕ
 comma_joined [] = []
-comma_joined (part ∷ parts) = spelled part ++ flat_map (λ p. 44 ∷ spelled p) parts
+comma_joined (part ∷ parts) = spelled part ++ flat_map (λ p. comma ∷ spelled p) parts
 
 -- R holds of the elements of two lists in order, and the lists are as long.
 abbrev pub Pairwise : {X Y : Type 0} → (X → Y → Type 0) → List X → List Y → Type 0
@@ -128,7 +128,7 @@ pub record Nest : Type 0 where
   pub lower : Bool
   pub upper : Bool
 
--- These characters are a text of this form. 91 is `[` and 93 is `]`.
+-- These characters are a text of this form.
 pub record IsNestText (form : Form) (text : List ℕ) (nest : Nest) : Type 0 where
   pub opening : ℕ
   pub closing : ℕ
@@ -139,5 +139,5 @@ pub record IsNestText (form : Form) (text : List ℕ) (nest : Nest) : Type 0 whe
   pub counted : AreCounted form.count parts
   pub whole : text ≡ opening ∷ comma_joined parts ++ closing ∷ []
   pub values : Pairwise (IsPart form) parts nest.values
-  pub lower : nest.lower ≡ (opening == 91)
-  pub upper : nest.upper ≡ (closing == 93)
+  pub lower : nest.lower ≡ (opening == left_bracket)
+  pub upper : nest.upper ≡ (closing == right_bracket)

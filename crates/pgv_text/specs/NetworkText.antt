@@ -8,6 +8,7 @@ use Rattle.std.specs.List.{position_or_len, before_first, after_first}
 use Rattle.std.specs.Net.Grammar.{IsIpText}
 use Rattle.std.specs.declared.net.ip_addr.IpAddr.{IpAddr}
 use Rattle.std.specs.declared.net.ip_addr.IpAddr.TheVariants as Ip
+use Rattle.pgv_text.specs.Characters.{slash}
 use Rattle.pgv_text.specs.declared.network.IpNetwork.{IpNetwork}
 use Rattle.pgv_text.specs.declared.network.IpNetwork.TheVariants as Versions
 use Rattle.pgv_text.specs.AddressText.{full_prefix, IsPrefixText, address_value, prefix_value}
@@ -47,11 +48,11 @@ network_with address prefix = if nat_le prefix (full_prefix address) then Some (
 
 abbrev pub network_value : List ℕ → Option Network
 network_value text =
-    if position_or_len (λ c. c == 47) text == length text
+    if position_or_len (λ c. c == slash) text == length text
     then option_map (λ address. record { address = address; prefix = full_prefix address }) (address_value text)
     else (do
-      address ← address_value (before_first (λ c. c == 47) text)
-      prefix ← prefix_value (after_first (λ c. c == 47) text)
+      address ← address_value (before_first (λ c. c == slash) text)
+      prefix ← prefix_value (after_first (λ c. c == slash) text)
       network_with address prefix)
 
 -- ---- the laws

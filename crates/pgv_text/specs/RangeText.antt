@@ -2,11 +2,12 @@
 -- square bracket includes its bound. Pieces are as in records, but all four brackets are excluded from plain. A bound
 -- without pieces is unbounded.
 use Rattle.std.specs.Prelude.{ℕ, Bool, true, ◌==◌, ◌||◌, List, [], ◌∷◌, Option}
+use Rattle.pgv_text.specs.Characters.{left_parenthesis, right_parenthesis, left_bracket, right_bracket}
 use Rattle.pgv_text.specs.NestPieces.{Form, two, IsNestText}
 
 -- `[` or `(`, and `]` or `)`; a part without pieces is unbounded.
 abbrev pub range_form : Form
-range_form = record { opens = λ c. c == 40 || c == 91; closes = λ c. c == 41 || c == 93; doubles = true; nothing = []; count = two }
+range_form = record { opens = λ c. c == left_parenthesis || c == left_bracket; closes = λ c. c == right_parenthesis || c == right_bracket; doubles = true; nothing = []; count = two }
 
 -- These characters are a range of these bounds, each included or not by its bracket.
 abbrev pub IsRangeText : List ℕ → Option (List ℕ) → Option (List ℕ) → Bool → Bool → Type 0

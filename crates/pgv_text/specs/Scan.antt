@@ -1,6 +1,7 @@
 -- The table of the scanner, and what it makes of bytes.
 use Rattle.std.specs.Prelude.{ℕ, Bool, true, false, if◌then◌else◌, ◌&&◌, ◌==◌, ◌+◌, List, [], ◌∷◌, ◌++◌, length, Option, Some, None}
 use Rattle.std.specs.Option.{option_and_then, option_map}
+use Rattle.pgv_text.specs.Characters.{double_quote, comma, left_bracket, backslash, right_bracket}
 use Rattle.pgv_text.specs.declared.scanner.Class.{Class}
 use Rattle.pgv_text.specs.declared.scanner.Class.TheVariants.{Quote, Backslash, Comma, Open, Close, Other}
 use Rattle.pgv_text.specs.declared.scanner.Place.{Place}
@@ -11,7 +12,7 @@ use Rattle.pgv_text.specs.NestPieces.{Form, Piece, plain, Count, any, some, two,
 
 abbrev pub class : Form → ℕ → Class
 class form c =
-    if c == 34 then Quote else if c == 92 then Backslash else if c == 44 then Comma
+    if c == double_quote then Quote else if c == backslash then Backslash else if c == comma then Comma
     else if form.opens c then Open else if form.closes c then Close else Other
 
 abbrev pub outside_cell : Class → Cell
@@ -71,7 +72,7 @@ values_counted two written_early values = if length values == 2 then Some values
 -- after an opening bracket, with these values and this closing one
 abbrev pub nest_between : Form → ℕ → List ℕ → List (Option (List ℕ)) → ℕ → Option Nest
 nest_between form opening cs values closing =
-    option_map (λ values. record { values = values; lower = opening == 91; upper = closing == 93 }) (values_counted form.count (closes_here form cs) values)
+    option_map (λ values. record { values = values; lower = opening == left_bracket; upper = closing == right_bracket }) (values_counted form.count (closes_here form cs) values)
 
 -- What is read from a place in a part: the rest of its text, the values of the parts after it, and the bracket.
 pub record Rest : Type 0 where

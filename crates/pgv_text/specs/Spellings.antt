@@ -5,6 +5,7 @@ use Rattle.std.specs.Prelude.{◌≡◌, ◌≢◌, ◌⊎◌, ℕ, true, if◌t
 use Rattle.std.specs.Char.{to_ascii_lowercase}
 use Rattle.std.specs.List.{AllByRecursion, flat_map}
 use Rattle.std.specs.Str.{IsUtf8, chars, encode_utf8_all}
+use Rattle.pgv_text.specs.Characters.{double_quote, comma, backslash}
 use Rattle.pgv_text.specs.NestPieces.{Form, Count, any, some, two, may_be_plain, spelled, text_of}
 
 -- Null, or UTF-8.
@@ -12,16 +13,16 @@ abbrev pub IsOptionalText : Option (List ℕ) → Type 0
 IsOptionalText None = Unit {0}
 IsOptionalText (Some text) = IsUtf8 text
 
--- Between quotes, a backslash (92) before each quote (34) and each backslash.
+-- Between quotes, a backslash before each quote and each backslash.
 abbrev pub escaped_character : ℕ → List ℕ
-escaped_character c = if c == 34 || c == 92 then 92 ∷ c ∷ [] else c ∷ []
+escaped_character c = if c == double_quote || c == backslash then backslash ∷ c ∷ [] else c ∷ []
 
 -- Between quotes, each quote and each backslash doubled.
 abbrev pub doubled_character : ℕ → List ℕ
-doubled_character c = if c == 34 || c == 92 then c ∷ c ∷ [] else c ∷ []
+doubled_character c = if c == double_quote || c == backslash then c ∷ c ∷ [] else c ∷ []
 
 abbrev pub quoted_by : (ℕ → List ℕ) → List ℕ → List ℕ
-quoted_by spell characters = 34 ∷ flat_map spell characters ++ 34 ∷ []
+quoted_by spell characters = double_quote ∷ flat_map spell characters ++ double_quote ∷ []
 
 -- Not empty, no character that the form excludes from standing plain, and not, in any case, what is null.
 abbrev pub MayBeBare : Form → List ℕ → Type 0
@@ -42,10 +43,10 @@ AreEnough any values = Unit {0}
 AreEnough some values = values ≢ []
 AreEnough two values = length values ≡ 2
 
--- Joined by commas (44).
+-- Joined by commas.
 abbrev pub by_commas : List (List ℕ) → List ℕ
 by_commas [] = []
-by_commas (spelling ∷ spellings) = spelling ++ flat_map (λ s. 44 ∷ s) spellings
+by_commas (spelling ∷ spellings) = spelling ++ flat_map (λ s. comma ∷ s) spellings
 
 -- Between brackets, as bytes.
 abbrev pub nest_text : ℕ → ℕ → List (List ℕ) → List ℕ

@@ -8,6 +8,7 @@
 --   OID has the name `?`. An array of a name has the name and `[]`.
 -- - The size falls with each step to an element or to a domain's base.
 use Rattle.std.specs.Prelude.{◌≡◌, ℕ, ◌+◌, ◌^◌, ◌==◌, ◌||◌, ltb, Bool, true, false, if◌then◌else◌, Option, Some, None, List, [], ◌∷◌, ◌++◌, codes, option_map}
+use Rattle.pgv_types.specs.NameCharacters.{underscore}
 use Rattle.pgv_types.specs.Suffix.{suffix_of}
 use Rattle.pgv_types.specs.Ty.{Ty, builtin, custom, named, by_oid, array_of, Kind, simple, pseudo, domain, composite, array, enumeration, range, Fields, no_fields, field}
 use Rattle.pgv_types.specs.Table.{TypeEntry, RowKind, a_simple, a_pseudo, range_of, entry_of}
@@ -95,7 +96,7 @@ element_in (range t) = None
 -- what comes after the _ of a declared name
 abbrev pub name_element : List ℕ → Option (List ℕ)
 name_element [] = None
-name_element (c ∷ cs) = if c == 95 then Some cs else None
+name_element (c ∷ cs) = if c == underscore then Some cs else None
 
 abbrev pub element_of : Ty → Option Ty
 element_of (builtin o) = option_map builtin (element_oid o)
@@ -241,7 +242,7 @@ display_of t = display_text_of t ++ suffix_of (shows_brackets t)
 
 abbrev pub underscores : List ℕ → ℕ
 underscores [] = 0
-underscores (c ∷ cs) = if c == 95 then 1 + underscores cs else 0
+underscores (c ∷ cs) = if c == underscore then 1 + underscores cs else 0
 
 abbrev pub one_if_known : Option ℕ → ℕ
 one_if_known None = 0

@@ -3,6 +3,7 @@
 -- equal. One side is declared by its OID: yes. Two elements: whether these are softly the same. Else: whether the
 -- catalogue names agree. Exactly is the same without the second rule, and elements are compared exactly.
 use Rattle.std.specs.Prelude.{ℕ, ◌==◌, ◌&&◌, ◌||◌, Bool, true, false, if◌then◌else◌, Option, Some, None, List, [], ◌∷◌}
+use Rattle.pgv_types.specs.NameCharacters.{underscore}
 use Rattle.pgv_types.specs.Agree.{agree}
 use Rattle.pgv_types.specs.Ty.{Ty, builtin, custom, named, by_oid, array_of, Kind, simple, pseudo, domain, composite, array, enumeration, range}
 use Rattle.pgv_types.specs.Facts.{base_oid, name_of, element_oid, element_of}
@@ -34,7 +35,7 @@ built_in_levels o (Some e) = over (level (builtin o)) (last (level (builtin e)))
 
 abbrev pub name_levels : List ℕ → Levels
 name_levels [] = last (level (named []))
-name_levels (c ∷ cs) = if c == 95 then over (level (named (c ∷ cs))) (name_levels cs) else last (level (named (c ∷ cs)))
+name_levels (c ∷ cs) = if c == underscore then over (level (named (c ∷ cs))) (name_levels cs) else last (level (named (c ∷ cs)))
 
 abbrev mutual
   pub levels : Ty → Levels
