@@ -2,7 +2,7 @@
 use Rattle.std.specs.Prelude.{◌≡◌, ◌==◌, ◌||◌, ℕ, Bool, true, false, if◌then◌else◌, codes, List, [], ◌∷◌, ◌++◌, Option, Some, None, refl, string_bytes}
 use Rattle.std.proofs.Common.{sym, ap, ◌∙◌, subst}
 use Rattle.std.proofs.lemmas.Option.{same_Some}
-use Rattle.pgv.specs.Words.{Ty, builtin, softly, Token, slot, bytes, Image, ImageFits, Given, Outcome, Part, Binary, PlainRules, ReadsBack, always, copied, image_of, parse_text, plainly, reading_of, utf8_part, write, writes, written_part}
+use Rattle.pgv.specs.Words.{Ty, builtin, softly, space, Token, slot, bytes, Image, ImageFits, Given, Outcome, Part, Binary, PlainRules, ReadsBack, always, copied, image_of, parse_text, plainly, reading_of, utf8_part, write, writes, written_part}
 use Rattle.pgv.specs.Lemmas.{part_is, text_back, write-bytes}
 use Rattle.pgv_examples.specs.declared.json.Json.{Json}
 
@@ -13,10 +13,10 @@ json_tokens text = slot (codes " ") ((builtin 3802, 1 ∷ []) ∷ []) ∷ bytes 
 abbrev pub json_image : List ℕ → Outcome Image
 json_image text = writes (Some (image_of (json_tokens text)))
 
--- what comes after a version, or after the space in its place, which is 32
+-- what comes after a version, or after the space in its place
 abbrev pub after_version : List ℕ → List ℕ
 after_version [] = []
-after_version (byte ∷ text) = if byte == 1 || byte == 32 then text else byte ∷ text
+after_version (byte ∷ text) = if byte == 1 || byte == space then text else byte ∷ text
 
 abbrev pub document : Part → Part
 document None = None

@@ -1,12 +1,12 @@
 -- Empty objects of json and jsonb (PostgreSQL: "JSON Types", 8.14): a version, or a space, and two braces.
 use Rattle.std.specs.Prelude.{◌≡◌, ℕ, ◌==◌, Bool, true, false, if◌then◌else◌, codes, List, [], ◌∷◌, ◌++◌, length, get_or, Option, Some, None, Ok, Err, ⊤, refl}
 use Rattle.std.proofs.lemmas.Option.{same_Some}
-use Rattle.pgv.specs.Words.{Ty, builtin, softly, Token, byte, slot, Part, Given, Parsed, Binary, UnexpectedNull, Syntax, ReadsBack, reading_of, without_memory, always, image_of, plainly, writes, written_part}
+use Rattle.pgv.specs.Words.{Ty, builtin, softly, left_brace, right_brace, Token, byte, slot, Part, Given, Parsed, Binary, UnexpectedNull, Syntax, ReadsBack, reading_of, without_memory, always, image_of, plainly, writes, written_part}
 
--- a byte of any value, which is the slot's, and the braces, 123 and 125; other bytes are C29
+-- a byte of any value, which is the slot's, and the braces; other bytes are C29
 abbrev pub braces : List ℕ → Parsed ⊤
 braces bytes =
-    if length bytes == 3 then (if get_or bytes 1 0 == 123 then (if get_or bytes 2 0 == 125 then Ok tt else Err Syntax) else Err Syntax) else Err Syntax
+    if length bytes == 3 then (if get_or bytes 1 0 == left_brace then (if get_or bytes 2 0 == right_brace then Ok tt else Err Syntax) else Err Syntax) else Err Syntax
 
 -- null is C13
 abbrev pub object_part : Part → Parsed ⊤
@@ -17,7 +17,7 @@ abbrev pub parse_object : Given → Parsed ⊤
 parse_object v = object_part v.bytes
 
 abbrev pub object_image : List Token
-object_image = slot (codes " ") ((builtin 3802, 1 ∷ []) ∷ []) ∷ byte 123 ∷ byte 125 ∷ []
+object_image = slot (codes " ") ((builtin 3802, 1 ∷ []) ∷ []) ∷ byte left_brace ∷ byte right_brace ∷ []
 
 -- whichever case the slot shows
 pub object_back : {A : Type 0} → ReadsBack {A = A} (λ _. plainly (writes (Some (image_of object_image)))) (reading_of (without_memory parse_object)) (λ _. tt) always
