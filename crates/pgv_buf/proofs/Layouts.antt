@@ -5,7 +5,7 @@ use Rattle.std.proofs.lemmas.List.{length-map, take_at, drop_at}
 use Rattle.pgv_types.specs.Ty.{Ty}
 use Rattle.pgv_buf.specs.Tokens.{token_width, tokens_hole_types, Token, byte, hole, slot, tokens_width, Cell, fixed, hole_cell, slot_cell, plain, shown, width, hole_count, slot_count}
 use Rattle.pgv_buf.specs.Blank.{plain-append}
-use Rattle.pgv_buf.specs.Proper.{Proper, Proper-append, Proper-front, shown-append, length-shown, length-hole_types_of}
+use Rattle.pgv_buf.specs.Proper.{Proper, Proper-append, Proper-front, shown-append, length_shown, length-hole_types_of}
 use Rattle.pgv_buf.specs.Fill.{slot_count-filled}
 use Rattle.pgv_buf.specs.Layout.{is_hole, is_slot, if_so, places, last_from, Kept, slots_of, Layout, layout_of, first_at, parse_cells, tokens_of, Represents, Valid}
 
@@ -126,7 +126,7 @@ held {b} {l} ts v e = subst (λ us. Represents us b l) e v
 -- ---- joining and cutting
 
 pub wide : {ts : List Cell} {b : List ℕ} {l : Layout} → Represents ts b l → length b ≡ width ts
-wide {ts} r = ap length r.bytes_are ∙ length-shown ts r.proper
+wide {ts} r = ap length r.bytes_are ∙ length_shown ts r.proper
 
 pub joined : {a : List Cell} {b : List ℕ} {l : Layout} → Represents a b l → (c : List Cell) → Proper c → Represents (a ++ c) (b ++ shown c) (with_more l (length b) (plain c))
 joined {a} {b} {l} r c q =
@@ -146,7 +146,7 @@ pub cut : {b : List ℕ} {l : Layout} (a c : List Cell) → Represents (a ++ c) 
 cut {b} {l} a c r =
     let e : l ≡ with_more (layout_of (plain a)) (tokens_width (plain a)) (plain c) = r.layout_is ∙ (ap layout_of (plain-append a c) ∙ layout-append (plain a) (plain c)) in
     record {
-      bytes_are = rw (r.bytes_are, shown-append a c) (take_at (shown a) (shown c) (width a) (length-shown a (Proper-front a c r.proper)));
+      bytes_are = rw (r.bytes_are, shown-append a c) (take_at (shown a) (shown c) (width a) (length_shown a (Proper-front a c r.proper)));
       layout_is =
           ap (λ m. cut_layout (hole_count a) (slot_count a) m) e
           ∙ same_layout

@@ -6,7 +6,7 @@ use Rattle.pgv_types.specs.Relations.{softly}
 use Rattle.pgv_types.specs.declared.oid.Oid.{Oid}
 use Rattle.pgv_buf.specs.Tokens.{Token, byte, hole, slot, bytes, token_width, tokens_width, Cell, fixed, hole_cell, slot_cell, fixed_bytes, token_of, plain, be4, shown, cell_shown, width, hole_count, CasesFit, chosen}
 use Rattle.pgv_buf.specs.Blank.{plain-append}
-use Rattle.pgv_buf.specs.Proper.{Proper, Proper-front, Proper-back, Proper-append, first_type, shown-append, length-shown, width-append, rest_of}
+use Rattle.pgv_buf.specs.Proper.{Proper, Proper-front, Proper-back, Proper-append, first_type, shown-append, length_shown, width-append, rest_of}
 use Rattle.pgv_buf.specs.Fill.{fill_holes, fill_slots}
 use Rattle.pgv_buf.specs.Layout.{is_hole, is_slot, if_so, places, slots_of, Layout, layout_of, Represents}
 use Rattle.pgv_buf.specs.Patches.{put, first_string, put_each, Within, numbers, choices}
@@ -185,7 +185,7 @@ pub replaced :
     (b' : List ℕ) → b' ≡ put (width front) ys b → Represents (front ++ fixed_bytes ys ++ rest) b' l
 replaced {b} {l} front xs ys rest r0 e b' f =
     let r : Represents (front ++ (fixed_bytes xs ++ rest)) b l = subst (λ us. Represents us b l) (append_assoc front (fixed_bytes xs) rest) r0 in
-    let w : width front ≡ length (shown front) = sym (length-shown front (Proper-front front (fixed_bytes xs ++ rest) r.proper)) in
+    let w : width front ≡ length (shown front) = sym (length_shown front (Proper-front front (fixed_bytes xs ++ rest) r.proper)) in
     let was : b ≡ shown front ++ xs ++ shown rest =
     r.bytes_are ∙ (shown-append front (fixed_bytes xs ++ rest) ∙ (ap (λ z. shown front ++ z) (shown-append (fixed_bytes xs) rest ∙ ap (λ z. z ++ shown rest) (shown-bytes xs)) ∙ sym (append_assoc (shown front) xs (shown rest)))) in
     let is : shown (front ++ (fixed_bytes ys ++ rest)) ≡ shown front ++ ys ++ shown rest =

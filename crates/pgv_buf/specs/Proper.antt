@@ -49,11 +49,11 @@ Proper-back (fixed x ∷ a) c p = Proper-back a c p
 Proper-back (hole_cell t s ∷ a) c p = Proper-back a c p.1
 Proper-back (slot_cell d cs s ∷ a) c p = Proper-back a c p.2
 
-pub length-shown : (ts : List Cell) → Proper ts → length (shown ts) ≡ width ts
-length-shown [] p = refl
-length-shown (fixed x ∷ ts) p = omega (arith, length-shown ts p)
-length-shown (hole_cell t s ∷ ts) p = omega (arith, length-append s (shown ts), length-shown ts p.1, p.0)
-length-shown (slot_cell d cs s ∷ ts) p = omega (arith, length-append s (shown ts), length-shown ts p.2, p.0)
+pub length_shown : (ts : List Cell) → Proper ts → length (shown ts) ≡ width ts
+length_shown [] p = refl
+length_shown (fixed x ∷ ts) p = omega (arith, length_shown ts p)
+length_shown (hole_cell t s ∷ ts) p = omega (arith, length-append s (shown ts), length_shown ts p.1, p.0)
+length_shown (slot_cell d cs s ∷ ts) p = omega (arith, length-append s (shown ts), length_shown ts p.2, p.0)
 
 pub length-hole_types_of : (ts : List Cell) → length (hole_types_of ts) ≡ hole_count ts
 length-hole_types_of [] = refl

@@ -136,7 +136,7 @@ FieldsFit info encoding accepts fits x further = Followed (FieldFits info encodi
 
 -- A field that was written is the next that is read, whatever comes after it, under each type that fits; and what
 -- comes after it is left, with the OIDs that are left.
-abbrev pub FieldReadsBack : {A M : Type 0} → Ty → (A → Encoding) → (Ty → Bool) → (Given → Outcome M) → (A → M) → (A → Ty → List Oid → Type 0) → Type 0
+unfoldable pub FieldReadsBack : {A M : Type 0} → Ty → (A → Encoding) → (Ty → Bool) → (Given → Outcome M) → (A → M) → (A → Ty → List Oid → Type 0) → Type 0
 FieldReadsBack {A} info encoding accepts parse kept fits =
     (x : A) (g after : List Token) (t : Ty) (place : ℕ) (p : Option Ty) (os : List Oid) →
     (field info (encoding x)).answer ≡ Ok g → SlotsFit g → AreOids os → FieldFits info encoding accepts fits x t place os →

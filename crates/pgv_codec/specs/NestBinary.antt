@@ -116,7 +116,7 @@ RecordBegins =
     ((begin_fields (given t Binary (Some bytes))).answer ≡ Ok (binary_fields t 0 rest)) ↔ ((count : List ℕ) × (bytes ≡ count ++ rest) × (length count ≡ 4))
 
 -- something is read from bytes in binary under a type iff the bytes are a record of it
-abbrev pub RecordIsItsFields : {M : Type 0} → (Given → Outcome M) → Stretch M → Type 0
+unfoldable pub RecordIsItsFields : {M : Type 0} → (Given → Outcome M) → Stretch M → Type 0
 RecordIsItsFields {M} parse fields = (t : Ty) (bytes : List ℕ) (m : M) → AreBytes bytes → Reads parse (given t Binary (Some bytes)) m ↔ IsRecord fields t bytes m
 
 -- Steps that read fields from the bytes that are left find exactly such fields.

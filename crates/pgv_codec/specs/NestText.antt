@@ -59,11 +59,11 @@ pub record IsRecordInText {M : Type 0} (fields : TextStretch M) (bytes : List �
 -- ---- what is computed is what the text is
 
 -- something is read from bytes in text, under any type, iff the bytes are it
-abbrev pub TextIs : {M : Type 0} → (Given → Outcome M) → (List ℕ → M → Type 0) → Type 0
+unfoldable pub TextIs : {M : Type 0} → (Given → Outcome M) → (List ℕ → M → Type 0) → Type 0
 TextIs {M} parse Is = (t : Ty) (bytes : List ℕ) (m : M) → Reads parse (given t Text (Some bytes)) m ↔ Is bytes m
 
 -- The fields that are left of a record text at its beginning are all of them.
-abbrev pub RecordTextBegins : Type 0
+unfoldable pub RecordTextBegins : Type 0
 RecordTextBegins =
     (t : Ty) (bytes : List ℕ) (left : Left) →
     ((begin_fields (given t Text (Some bytes))).answer ≡ Ok left) ↔ ((parts : List Part) × (left ≡ text_fields (length parts) (copies_of Record bytes) parts) × (is_utf8 bytes ≡ true) × IsRecordText (chars bytes) parts)

@@ -48,7 +48,7 @@ whole_text false o y e = absurd cc
 
 module _ (law : ArrayIsItsValues) {M : Type 0} (info : Ty) (parse : Given → Outcome M) where
   pub array_text : TextIs (parse_array info parse) (IsArrayInText parse info)
-  unfolding array_in_text
+  unfolding TextIs array_in_text ArrayIsItsValues
   array_text t bytes ms = (
     λ e.
         let u = whole_text (is_utf8 bytes) (array_in_text parse info bytes) ms e in
@@ -58,6 +58,7 @@ module _ (law : ArrayIsItsValues) {M : Type 0} (info : Ty) (parse : Given → Ou
   )
 
   pub sized_text : (n : ℕ) → TextIs (parse_sized n info parse) (IsSizedInText n parse info)
+  unfolding TextIs
   sized_text n t bytes ms = (
     λ e.
         let a = taken (parse_array info parse (given t Text (Some bytes))) _ ms e in
@@ -71,6 +72,7 @@ module _ (law : ArrayIsItsValues) {M : Type 0} (info : Ty) (parse : Given → Ou
 
 module _ (law : RecordIsItsValues) where
   pub text_begins : RecordTextBegins
+  unfolding RecordTextBegins RecordIsItsValues
   text_begins t bytes left = (
     λ e.
         let u = tested (not (is_utf8 bytes)) Utf8 _ left e in
@@ -118,6 +120,7 @@ further_text {A} {B} accepts parse steps fields found n copied parts m = (
 )
 
 pub record_text : {M : Type 0} (law : RecordIsItsValues) (steps : Left → Outcome (M × Left)) (fields : TextStretch M) → FindInText steps fields → TextIs (parse_record steps) (IsRecordInText fields)
+unfolding TextIs RecordTextBegins
 record_text {M} law steps fields found t bytes m = (
   λ e.
       let start = taken (begin_fields (given t Text (Some bytes))) _ m e in

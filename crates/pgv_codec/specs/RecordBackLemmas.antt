@@ -86,6 +86,7 @@ module _ {A M : Type 0} (info : Ty) (encoding : A → Encoding) (accepts : Ty �
 
   -- the next step reads it, and leaves what comes after it
   pub next_back : FieldReadsBack info encoding accepts parse kept fits
+  unfolding FieldReadsBack
   next_back x g after t place p os e whole small fit =
       next_there accepts parse t place (write p os (g ++ after)) (kept x) (write p (drop (tokens_holes g) os) after) (is_field x g after t place p os e whole small fit)
 
@@ -93,6 +94,7 @@ module _ {A M : Type 0} (info : Ty) (encoding : A → Encoding) (accepts : Ty �
 
   -- the last field that is read
   pub last_back : (x : A) (fs : List (Outcome (List Token))) → FieldsBack (next_field accepts parse) (field info (encoding x) ∷ fs) (kept x) (FieldFits info encoding accepts fits x)
+  unfolding FieldReadsBack
   last_back x fs = record {
     back = λ n t place p os gs e whole small fit.
         let a = one_by_one n (field info (encoding x)) fs gs e in
@@ -104,6 +106,7 @@ module _ {A M : Type 0} (info : Ty) (encoding : A → Encoding) (accepts : Ty �
   -- a field, and further ones
   pub further_back : (x : A) {B : Type 0} {steps : Left → Outcome (B × Left)} {fs : List (Outcome (List Token))} {others : B} {fit : Ty → ℕ → List Oid → Type 0} → FieldsBack steps fs others fit →
       FieldsBack (next_field accepts parse then steps) (field info (encoding x) ∷ fs) (kept x, others) (Followed (FieldFits info encoding accepts fits x) (field info (encoding x)) fit)
+  unfolding FieldReadsBack
   further_back x {B} {steps} {fs} {others} {fit} further = record {
     back = λ n t place p os gs e whole small fits_there.
         let a = one_by_one n (field info (encoding x)) fs gs e in

@@ -169,6 +169,7 @@ further_found {A} {B} accepts parse steps fields found t place bytes m b = (
 )
 
 pub record_found : {M : Type 0} (steps : Left → Outcome (M × Left)) (fields : Stretch M) → FindExactly steps fields → RecordIsItsFields (parse_record steps) fields
+unfolding RecordIsItsFields
 record_found {M} steps fields found t bytes m b = (
   λ e.
       let start = taken (begin_fields (given t Binary (Some bytes))) _ m e in

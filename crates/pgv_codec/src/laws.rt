@@ -115,6 +115,7 @@ pub fn kept_lists_are_their_fields<A: ReadBack + Type, Rest: KeptList>()
 
 /// Fields are decoded from bytes in binary as a tuple iff the bytes are a record of these fields, taken as a list
 /// ([`tuple_is_its_list`]).
+#[tactic(auto, using(crate::specs::RecordLemmas::record_found))]
 pub fn tuple_is_its_fields<Fields: FieldList>()
     ensures { RecordIsItsFields (parse_record Fields.step) Fields.in_binary }
 {}
@@ -152,6 +153,7 @@ pub fn oids_fit(oids: &[pgv_types::Oid])
 /// left, with the OIDs of the holes there.
 ///
 /// Applied to one field after another, it reads back every list of fields.
+#[tactic(auto, using(crate::specs::RecordBackLemmas::next_back))]
 pub fn field_reads_back<T: ReadBack + Type>()
     ensures { FieldReadsBack T.info T.encoding T.accepts T.parse (λ v. T.view (T.kept v)) T.fits }
 {}

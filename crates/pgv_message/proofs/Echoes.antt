@@ -49,6 +49,7 @@ module _ {A M : Type 0} (encoding : A → Encoding) (accepts : Ty → Bool) (par
 
   pub comes_back : (arguments : List Argument) (bytes : List ℕ) → MainSentence encoding (reading_of parse) kept fits → ((calls : List Call) → framed (after_calls [] calls) ≡ added_in calls) →
       ((i : ℕ) → get_or bytes i 0 < 256) → bytes ≡ shown (all_tokens arguments) → Proper (all_tokens arguments) → OfImages arguments → ComeBack encoding accepts parse kept fits arguments
+  unfolding MainSentence
   comes_back arguments bytes main only_added below is proper images calls portal statement sent results after_is oids_fit sent_by =
       let added : framed arguments ≡ added_in calls = ap framed after_is ∙ only_added calls in
       let held = main calls images.0 (subst (AreImages images.0) added images.1) (subst (λ (xs : List Argument). Proper (all_tokens xs)) after_is proper) oids_fit in

@@ -90,6 +90,7 @@ arguments_fit portal statement sent arguments results e =
     count_fits (length arguments) n.0 n.1
 
 pub parameters_are : (arguments : List Argument) (bytes : List ℕ) → ((i : ℕ) → get_or bytes i 0 < 256) → bytes ≡ shown (all_tokens arguments) → AllRead arguments → ParametersAreArguments arguments
+unfolding ParametersAreArguments
 parameters_are arguments bytes h is read portal statement sent results e =
     let parts = parts_in read.0 arguments in
     let frames = frames_are bytes parts [] (are_bytes bytes h) (subst (λ (xs : List ℕ). ReadAs xs parts []) (sym is) read.2) in

@@ -31,5 +31,5 @@ pub record BindsArguments (sent portal statement : List ℕ) (arguments : List A
   pub sent_is : sent ≡ bind_of portal statement (parts_in images arguments) results
 
 -- Whatever Bind is sent of these arguments has them as its parameters.
-abbrev pub ParametersAreArguments : List Argument → Type 0
+unfoldable pub ParametersAreArguments : List Argument → Type 0
 ParametersAreArguments arguments = (portal statement sent : List ℕ) (results : List PgValueFormat) → bind portal statement arguments results ≡ Ok sent → BindsArguments sent portal statement arguments results

@@ -66,6 +66,7 @@ fn frames_come_back<T: Type + ReadBack>(frames: &[u8], arguments: &PgArguments)
 }
 
 /// Bytes that are the buffer of arguments are the parameters of a Bind.
+#[tactic(auto, using(crate::proofs::Frames::parameters_are))]
 fn frames_are_parameters(frames: &[u8], arguments: &PgArguments)
     requires { frames.now ≡ shown (all_tokens arguments.now) }
     ensures { ParametersAreArguments arguments.now }
@@ -100,6 +101,7 @@ pub fn error_skips_to_sync()
 
 /// After an error only a ReadyForQuery may come, and messages that may come at any time; the ReadyForQuery ends the
 /// passing over of requests, and no request ends it.
+#[tactic(auto, using(crate::proofs::ExchangeLaws::only_ready_ends_skipping, crate::proofs::ExchangeLaws::requests_do_not_end_skipping))]
 pub fn only_ready_ends_skipping()
     ensures messages { OnlyReadyEndsSkipping }
     ensures requests { RequestsDoNotEndSkipping }

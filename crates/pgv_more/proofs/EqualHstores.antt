@@ -11,6 +11,7 @@ use Rattle.std.specs.declared.string.String.{String}
 use Rattle.std.proofs.lemmas.Bool.{and_parts}
 use Rattle.pgv_value.specs.FrameBinary.{Part}
 use Rattle.pgv_more.specs.Hstore.{Pair, pair_of}
+use Rattle.pgv_more.specs.HstoreLaws.{HstoresAreEqual}
 use Rattle.std.specs.List.{AllZip}
 use Rattle.std.specs.Iterator.{AlwaysYields}
 use Rattle.std.specs.Map.Iter.{TakesFirst}
@@ -54,6 +55,10 @@ equal_entries (e ∷ es) (f ∷ fs) = (
       λ i. same i ∷ more i,
   λ s. rw ((same_pair e f).1 (ap (first_of (pair_of e)) s), (equal_entries es fs).1 (ap others_of s)) refl,
 )
+
+pub hstores_are_equal : HstoresAreEqual (λ a b. pointwise (λ p q. string_eq p.0 q.0 && option_eq string_eq p.1 q.1) a.0.entries b.0.entries)
+unfolding HstoresAreEqual
+hstores_are_equal a b = equal_entries a.0.entries b.0.entries
 
 -- ---- a map whose texts are clones has the same pairs
 

@@ -36,5 +36,5 @@ unfoldable pub OneHstore : Type 0
 OneHstore = (form : List ℕ) (first second : List Pair) → AreBytes form → IsHstore form first → IsHstore form second → first ≡ second
 
 -- two maps are equal iff they have the same pairs
-abbrev pub HstoresAreEqual : (PgHstore → PgHstore → Bool) → Type 0
+unfoldable pub HstoresAreEqual : (PgHstore → PgHstore → Bool) → Type 0
 HstoresAreEqual eq = (a b : PgHstore) → (eq a b ≡ true) ↔ (pairs_of a ≡ pairs_of b)

@@ -39,6 +39,7 @@ pub fn one_hstore()
 {}
 
 /// Two maps are equal iff they have the same pairs, and maps with the same pairs are written alike.
+#[tactic(auto, using(crate::proofs::EqualHstores::hstores_are_equal))]
 pub fn equal_hstores()
     ensures equal { HstoresAreEqual ⟦<PgHstore as PartialEq>⟧.eq }
     ensures written_alike { (a b : _) → pairs_of a ≡ pairs_of b

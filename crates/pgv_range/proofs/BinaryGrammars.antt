@@ -20,7 +20,7 @@ use Rattle.pgv_value.proofs.Outcomes.{answer_is, answers_are, taken, taken_exact
 use Rattle.pgv_range.specs.RangeOf.{RangeOf, empty, bounds}
 use Rattle.pgv_range.specs.FlagByte.{has, side_by, side_of}
 use Rattle.pgv_range.specs.RangeBinary.{IsClear, BeginsWith, IsBound, IsRangeBytes, IsRange, RangeIsItsBounds, OneRange}
-use Rattle.pgv_range.specs.RangeGrammar.{element_in_kind, bound_in_front, bound_in, bounds_in, range_by, range_bytes, range_in_binary}
+use Rattle.pgv_range.specs.RangeGrammar.{element_in_kind, bound_in_front, bound_in, bounds_in, range_by, range_bytes, range_in_binary, parse_range}
 use Rattle.pgv_range.specs.declared.flags.RangeForm.TheVariants.{Empty, Sides}
 
 over : (k : Option Kind) (u : Ty) → element_in_kind k ≡ Some u → k ≡ Some (range_over u)
@@ -104,8 +104,9 @@ module _ {M : Type 0} (parse : Given → Outcome M) where
   range_there : (t : Ty) (bytes : List ℕ) (m : RangeOf M) → IsRange parse t bytes m → (range_in_binary parse t bytes).answer ≡ Ok m
   range_there t bytes m h = rw h.1 (bytes_there parse h.0 bytes m h.2)
 
-  pub range_exactly : RangeIsItsBounds parse
-  range_exactly t bytes m b = (
+  pub range_exactly : (info : Ty) → RangeIsItsBounds (parse_range info parse) parse
+  unfolding RangeIsItsBounds
+  range_exactly info t bytes m b = (
     λ e.
         let u = taken_exactly (ok_or (element_in_kind (kind_at t)) NotARange) _ m e in
         (u.0, over (kind_at t) u.0 (found_or (element_in_kind (kind_at t)) NotARange u.0 u.1), bytes_are parse u.0 bytes m b u.2),
@@ -113,4 +114,5 @@ module _ {M : Type 0} (parse : Given → Outcome M) where
   )
 
   pub one_range : OneRange parse
+  unfolding OneRange
   one_range t bytes m other h k = answer_is m other (sym (range_there t bytes m h) ∙ range_there t bytes other k)

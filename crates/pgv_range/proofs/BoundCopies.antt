@@ -89,4 +89,5 @@ module _ {M : Type 0} (parse : Given → Outcome M) (none : (v : Given) → (par
     binary_free t u (Some bytes) over own = rw over (bytes_free u own bytes)
 
     pub takes_only_for_copies : TakesOnlyForCopies (parse_range info parse)
+    unfolding TakesOnlyForCopies
     takes_only_for_copies = (binary_free, λ t text plain. whole_free (is_utf8 text) (range_in_text parse info text) (text_free text plain))

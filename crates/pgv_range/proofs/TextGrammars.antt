@@ -125,6 +125,7 @@ module _ (law : RangeIsComputed) {M : Type 0} (parse : Given → Outcome M) (t :
 -- whatever the type of the value
 module _ (law : RangeIsComputed) {M : Type 0} (info : Ty) (parse : Given → Outcome M) where
   pub range_text : TextIs (parse_range info parse) (IsRangeInText parse info)
+  unfolding TextIs
   range_text t bytes m = (
     λ e.
         let u = whole_text (is_utf8 bytes) (range_in_text parse info bytes) m e in

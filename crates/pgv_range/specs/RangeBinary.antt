@@ -3,7 +3,7 @@
 -- bound of which the flags don't say that there is none, read under the type that it is a range over, and anything
 -- after them. A flag byte with 1 is the empty range, whatever other flags it has and whatever comes after it
 -- (`IsEmptyRange`). Law: `range_is_its_bounds`.
-use Rattle.std.specs.Prelude.{◌≡◌, ◌↔◌, ℕ, true, false, List, ◌∷◌, Some, Ok}
+use Rattle.std.specs.Prelude.{◌≡◌, ◌↔◌, ℕ, true, false, List, ◌∷◌, Some}
 use Rattle.std.specs.declared.ops.Bound.{Bound}
 use Rattle.std.specs.declared.ops.Bound.TheVariants.{Included, Excluded, Unbounded}
 use Rattle.pgv_types.specs.Ty.{Ty, range as range_over}
@@ -15,7 +15,6 @@ use Rattle.pgv_value.specs.ValueView.{Given, given}
 use Rattle.pgv_value.specs.declared.value.PgValueFormat.TheVariants.{Binary}
 use Rattle.pgv_range.specs.RangeOf.{RangeOf, empty, bounds}
 use Rattle.pgv_range.specs.FlagByte.{has}
-use Rattle.pgv_range.specs.RangeGrammar.{range_in_binary}
 
 -- the type is a range over this one
 abbrev pub IsRangeOver : Ty → Ty → Type 0
@@ -62,10 +61,10 @@ IsRangeBytes parse u bytes (bounds lower upper) = IsOfBounds parse u bytes lower
 abbrev pub IsRange : {M : Type 0} → (Given → Outcome M) → Ty → List ℕ → RangeOf M → Type 0
 IsRange parse t bytes m = (u : Ty) × IsRangeOver t u × IsRangeBytes parse u bytes m
 
--- ---- what is computed is what the bytes are
+-- ---- what is read is what the bytes are
 
-abbrev pub RangeIsItsBounds : {M : Type 0} → (Given → Outcome M) → Type 0
-RangeIsItsBounds {M} parse = (t : Ty) (bytes : List ℕ) (m : RangeOf M) → AreBytes bytes → ((range_in_binary parse t bytes).answer ≡ Ok m) ↔ IsRange parse t bytes m
+unfoldable pub RangeIsItsBounds : {M : Type 0} → (Given → Outcome (RangeOf M)) → (Given → Outcome M) → Type 0
+RangeIsItsBounds {M} of_ranges parse = (t : Ty) (bytes : List ℕ) (m : RangeOf M) → AreBytes bytes → Reads of_ranges (given t Binary (Some bytes)) m ↔ IsRange parse t bytes m
 
-abbrev pub OneRange : {M : Type 0} → (Given → Outcome M) → Type 0
+unfoldable pub OneRange : {M : Type 0} → (Given → Outcome M) → Type 0
 OneRange {M} parse = (t : Ty) (bytes : List ℕ) (m other : RangeOf M) → IsRange parse t bytes m → IsRange parse t bytes other → m ≡ other

@@ -30,7 +30,7 @@ RangeFieldComesBack encoding element parse view kept info accepts fits =
 
 -- memory may be asked for only to copy: in binary a custom type that the range is over, in text a part that isn't
 -- in it as it is
-abbrev pub TakesOnlyForCopies : {M : Type 0} → (Given → Outcome M) → Type 0
+unfoldable pub TakesOnlyForCopies : {M : Type 0} → (Given → Outcome M) → Type 0
 TakesOnlyForCopies parse =
     ((t u : Ty) (bytes : Part) → IsRangeOver t u → is_custom u ≡ false → (parse (given t Binary bytes)).may_alloc ≡ false)
     × ((t : Ty) (text : List ℕ) → none_copied (copies_of Range text) ≡ true → (parse (given t Text (Some text))).may_alloc ≡ false)

@@ -1,28 +1,26 @@
 //! Laws of ranges: what they are in binary and in text, what they are read back as, and what each type of this crate
 //! is. Each is the contract of a function that does nothing.
 
-ghost use Rattle.std.specs.Prelude.{◌≡◌, ◌↔◌, ℕ, false, List, Some, None};
+ghost use Rattle.std.specs.Prelude.{◌≡◌, ◌↔◌, false, List, None};
 ghost use Rattle.std.specs.Range.{range_inclusive_start, range_inclusive_end};
 ghost use Rattle.std.specs.declared.ops.Bound.TheVariants.{Included, Excluded, Unbounded};
 ghost use Rattle.pgv_types.specs.Relations.{softly};
 ghost use Rattle.pgv_types.specs.Ty.{Ty};
 ghost use Rattle.pgv_types.specs.declared.oid.Oid.{Oid};
-ghost use Rattle.pgv_value.specs.FrameLaws.{AreBytes};
-ghost use Rattle.pgv_value.specs.Outcome.{Reads, fails};
+ghost use Rattle.pgv_value.specs.Outcome.{fails};
 ghost use Rattle.pgv_value.specs.ValueView.{Given, given};
 ghost use Rattle.pgv_value.specs.declared.error.CodecError.TheVariants.{UnexpectedNull};
 ghost use Rattle.pgv_value.specs.declared.value.PgValueFormat.{PgValueFormat as Format};
-ghost use Rattle.pgv_value.specs.declared.value.PgValueFormat.TheVariants.{Binary};
 ghost use Rattle.pgv_codec.specs.NestText.{TextIs};
 ghost use Rattle.pgv_codec.specs.TypeRow.{ComesBack, HasArrayType, HasType, IsReadAs, IsWrittenAs};
-ghost use Rattle.pgv_range.specs.RangeBinary.{IsRange, IsRangeOver, OneRange};
+ghost use Rattle.pgv_range.specs.RangeBinary.{IsRangeOver, OneRange, RangeIsItsBounds};
 ghost use Rattle.pgv_range.specs.RangeFits.{BoundsFit, range_kept};
 ghost use Rattle.pgv_range.specs.RangeGrammar.{parse_range};
 ghost use Rattle.pgv_codec.specs.Encoding.{plainly};
 ghost use Rattle.pgv_range.specs.RangeImage.{range_image};
 ghost use Rattle.pgv_range.specs.RangeInText.{IsRangeInText, OneRangeInText};
 ghost use Rattle.pgv_range.specs.RangeLaws.{Converts, RangeFieldComesBack, TakesOnlyForCopies};
-ghost use Rattle.pgv_range.specs.RangeOf.{RangeOf, range_view};
+ghost use Rattle.pgv_range.specs.RangeOf.{range_view};
 ghost use Rattle.pgv_range.specs.RangeRow.{ComesBackUnderRanges, IsRangeRow};
 ghost use Rattle.pgv_range.specs.RangeShown.{range_eq, range_text};
 ghost use Rattle.pgv_range.specs.RangeView.{HasBothBounds};
@@ -49,13 +47,13 @@ type OfLists<T> = PgRange<Vec<T>>;
 ///
 /// The bytes are a flag byte and a frame for each bound that there is, or a flag byte with 01; anything may come after
 /// them.
+#[tactic(auto, using(crate::proofs::BinaryGrammars::range_exactly))]
 pub fn range_is_its_bounds<T: Type + Decode>()
-    ensures { (t : Ty) (bytes : List ℕ) (m : RangeOf T.View) → AreBytes bytes
-        → Reads ⟦<PgRange<T> as Decode>⟧.parse (given t Binary (Some bytes)) m
-        ↔ IsRange T.parse t bytes m }
+    ensures { RangeIsItsBounds ⟦<PgRange<T> as Decode>⟧.parse T.parse }
 {}
 
 /// Under a type, bytes in binary are at most one range.
+#[tactic(auto, using(crate::proofs::BinaryGrammars::one_range))]
 pub fn one_range<T: Decode>()
     ensures { OneRange T.parse }
 {}
@@ -97,6 +95,7 @@ pub fn ranges_are_their_bounds<T: ReadBack + Type>()
 
 /// If reading a bound never asks for memory, reading a range asks only for copies: in binary of a custom type that the
 /// range is over, in text of a part that is not one run of the text's bytes.
+#[tactic(auto, using(crate::proofs::BoundCopies::takes_only_for_copies))]
 pub fn ranges_take_only_for_copies<T: Decode + Type>()
     ensures { ((value : Given) → (T.parse value).may_alloc ≡ false)
         → TakesOnlyForCopies ⟦<PgRange<T> as Decode>⟧.parse }

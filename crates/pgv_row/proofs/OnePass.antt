@@ -136,6 +136,7 @@ module _ {M : Type 0} (fits : List Column → Fit) (parse : Row → Outcome M) (
 
 pub reads_rows : {M : Type 0} (fits : List Column → Fit) (parse : Row → Outcome M) (refused : Row → ColumnError ℕ → Type 0) (read : List Column → List ℕ → Outcome (M × ColumnsLeft)) (refused_in_front : List Column → List ℕ → ColumnError ℕ → Type 0) →
     InOnePass 0 fits parse refused read refused_in_front → ReadsRows fits parse refused read refused_in_front
+unfolding ReadsRows
 reads_rows fits parse refused read refused_in_front law = record {
   of_row = λ columns body m h. of_row fits parse refused read refused_in_front law columns body h m;
   as_row = λ columns parts body h. as_row fits parse refused read refused_in_front law columns body h parts;

@@ -144,8 +144,11 @@ pub record InOnePass {M : Type 0} (place : ℕ) (fits : List Column → Fit) (pa
 
 -- Only a DataRow is read in one pass. Where the columns fit, the same is read from it as from the row of its parts, and
 -- the same column is refused.
-pub record ReadsRows {M : Type 0} (fits : List Column → Fit) (parse : Row → Outcome M) (refused : Row → ColumnError ℕ → Type 0) (read : List Column → List ℕ → Outcome (M × ColumnsLeft)) (refused_in_front : List Column → List ℕ → ColumnError ℕ → Type 0) : Type 0 where
+pub record RowsInOnePass {M : Type 0} (fits : List Column → Fit) (parse : Row → Outcome M) (refused : Row → ColumnError ℕ → Type 0) (read : List Column → List ℕ → Outcome (M × ColumnsLeft)) (refused_in_front : List Column → List ℕ → ColumnError ℕ → Type 0) : Type 0 where
   pub of_row : (columns : List Column) (body : List ℕ) (m : M) → AreBytes body → (one_pass read columns body).answer ≡ Ok m → IsRowOf columns body
   pub as_row : (columns : List Column) (parts : List Part) (body : List ℕ) → AreBytes body → fits columns ≡ Ok tt → IsDataRow (length columns) body parts → one_pass read columns body ≡ parse (record { columns = columns; parts = parts })
   pub refused_as_row : (columns : List Column) (parts : List Part) (body : List ℕ) (e : ColumnError ℕ) → AreBytes body → fits columns ≡ Ok tt → IsDataRow (length columns) body parts → IsRowRefused read refused_in_front columns body e →
       refused (record { columns = columns; parts = parts }) e
+
+unfoldable pub ReadsRows : {M : Type 0} → (List Column → Fit) → (Row → Outcome M) → (Row → ColumnError ℕ → Type 0) → (List Column → List ℕ → Outcome (M × ColumnsLeft)) → (List Column → List ℕ → ColumnError ℕ → Type 0) → Type 0
+ReadsRows fits parse refused read refused_in_front = RowsInOnePass fits parse refused read refused_in_front

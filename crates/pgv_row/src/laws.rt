@@ -22,6 +22,7 @@ pub fn description_is_read()
 
 /// [`PgColumns::read_row`](crate::PgColumns::read_row) reads only a DataRow. Where the columns fit, it reads from it
 /// what [`PgRow::as_tuple`](crate::PgRow::as_tuple) reads from its row, and refuses the same column.
+#[tactic(auto, using(crate::proofs::OnePass::reads_rows))]
 pub fn one_pass_reads_rows<T: FromRow>()
     ensures { ReadsRows T.fits T.parse T.refused T.in_front T.refused_in_front }
 {}

@@ -1,7 +1,7 @@
 -- What is computed of a text is what it is of.
 use Rattle.std.proofs.Common.{◌≡◌, ◌≢◌, ℕ, Bool, true, false, cond, ◌==◌, suc, List, [], ◌∷◌, ◌++◌, length, Option, Some, None, IfSome, ap, subst, ◌∙◌, sym, refl, append_assoc, ◌↔◌}
 use Rattle.std.specs.Option.{option_map, option_and_then}
-use Rattle.std.specs.Str.{encode_utf8_all}
+use Rattle.std.specs.Str.{chars, encode_utf8_all}
 use Rattle.std.specs.List.{flat_map, AllByRecursion}
 use Rattle.std.proofs.lemmas.Bool.{eqb-true, false≢true, false_from_ne_true}
 use Rattle.std.proofs.lemmas.Option.{same_Some}
@@ -20,7 +20,7 @@ use Rattle.pgv_text.proofs.SpelledTexts.{parts_read}
 use Rattle.pgv_text.specs.declared.scanner.TextForm.TheVariants.{Array, Record}
 use Rattle.pgv_text.specs.ArrayText.{array_form, IsArrayText}
 use Rattle.pgv_text.specs.RecordText.{record_form, IsRecordText}
-use Rattle.pgv_text.specs.NestLaws.{NestIsComputed, OneNest}
+use Rattle.pgv_text.specs.NestLaws.{ArrayIsItsValues, NestIsComputed, OneNest, RecordIsItsValues}
 
 pub as_many : {X Y : Type 0} (R : X → Y → Type 0) (xs : List X) (ys : List Y) → Pairwise R xs ys → length ys ≡ length xs
 as_many R [] [] h = refl
@@ -174,11 +174,13 @@ list_is t text values o k = (
   λ n. ap (option_map (λ nest. nest.values)) (nest_complete t text (record { values = values; lower = false; upper = false }) n),
 )
 
-pub array_is : (text : List ℕ) (values : List (Option (List ℕ))) → (option_map (λ nest. nest.values) (nest_of array_form text) ≡ Some values) ↔ IsArrayText text values
-array_is text values = list_is Array text values (λ c h. ap (λ c. c == 91) (eqb-true c 123 h)) (λ c h. ap (λ c. c == 93) (eqb-true c 125 h))
+pub array_is : ArrayIsItsValues
+unfolding ArrayIsItsValues
+array_is text values = list_is Array (chars text) values (λ c h. ap (λ c. c == 91) (eqb-true c 123 h)) (λ c h. ap (λ c. c == 93) (eqb-true c 125 h))
 
-pub record_is : (text : List ℕ) (values : List (Option (List ℕ))) → (option_map (λ nest. nest.values) (nest_of record_form text) ≡ Some values) ↔ IsRecordText text values
-record_is text values = list_is Record text values (λ c h. ap (λ c. c == 91) (eqb-true c 40 h)) (λ c h. ap (λ c. c == 93) (eqb-true c 41 h))
+pub record_is : RecordIsItsValues
+unfolding RecordIsItsValues
+record_is text values = list_is Record (chars text) values (λ c h. ap (λ c. c == 91) (eqb-true c 40 h)) (λ c h. ap (λ c. c == 93) (eqb-true c 41 h))
 
 -- ---- the laws
 

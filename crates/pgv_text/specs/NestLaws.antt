@@ -22,10 +22,10 @@ unfoldable pub OneNest : Type 0
 OneNest = (form : TextForm) (text : List ℕ) (nest other : Nest) → IsNestText (form_of form) text nest → IsNestText (form_of form) text other → nest ≡ other
 
 -- Values are computed from a text iff the grammar of arrays, or of records, assigns them to the text.
-abbrev pub ArrayIsItsValues : Type 0
+unfoldable pub ArrayIsItsValues : Type 0
 ArrayIsItsValues = (text : List ℕ) (values : List (Option (List ℕ))) → (array_values text ≡ Some values) ↔ IsArrayText (chars text) values
 
-abbrev pub RecordIsItsValues : Type 0
+unfoldable pub RecordIsItsValues : Type 0
 RecordIsItsValues = (text : List ℕ) (values : List (Option (List ℕ))) → (record_values text ≡ Some values) ↔ IsRecordText (chars text) values
 
 -- Every spelling of values, between brackets of the form, is UTF-8 and denotes these values.

@@ -67,11 +67,13 @@ pub fn unquoted_is_not_copied()
 {}
 
 /// `array_values` computes elements from a text iff the grammar of arrays assigns these elements to the text.
+#[tactic(auto, using(crate::proofs::Nests::array_is))]
 pub fn array_is_its_values()
     ensures { ArrayIsItsValues }
 {}
 
 /// `record_values` computes fields from a text iff the grammar of records assigns these fields to the text.
+#[tactic(auto, using(crate::proofs::Nests::record_is))]
 pub fn record_is_its_values()
     ensures { RecordIsItsValues }
 {}

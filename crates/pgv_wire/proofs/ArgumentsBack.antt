@@ -134,6 +134,7 @@ module _ {A M : Type 0} (encoding : A → Encoding) (reading : Reading M) (kept 
       )
 
   pub main_sentence : MainSentence encoding reading kept fits
+  unfolding MainSentence
   main_sentence calls is frames proper small =
       let framed_too : AreImages is (framed (after_calls [] calls)) = subst (λ (fs : List Framed). AreImages is fs) (sym (only_added calls)) frames in
       record {
@@ -145,6 +146,7 @@ module _ {A M : Type 0} (encoding : A → Encoding) (reading : Reading M) (kept 
       }
 
   pub argument_back : ArgumentReadsBack encoding reading kept fits
+  unfolding ArgumentReadsBack MainSentence
   argument_back calls is place a g v t frames proper small there framed_as given fit =
       let all = main_sentence calls is frames proper small in
       let back = all.come_back place a g v t there framed_as given fit in

@@ -3,7 +3,7 @@ use Rattle.std.proofs.Common.{◌≡◌, ℕ, suc, arith, List, [], ◌∷◌, �
 use Rattle.std.specs.Int.{w32, to_be_bytes}
 use Rattle.pgv_types.specs.Ty.{Ty}
 use Rattle.pgv_types.specs.declared.oid.Oid.{Oid}
-use Rattle.pgv_buf.specs.Proper.{Proper, Proper-front, Proper-back, first_type, shown-append, length-shown, rest_of}
+use Rattle.pgv_buf.specs.Proper.{Proper, Proper-front, Proper-back, first_type, shown-append, length_shown, rest_of}
 use Rattle.pgv_buf.specs.Tokens.{Token, bytes, be4, tokens_width, tokens_holes, Cell, plain, shown, hole_count, slot_count}
 use Rattle.pgv_value.specs.FrameBinary.{Part, front}
 use Rattle.pgv_value.proofs.Fronts.{frame_in_front}
@@ -26,7 +26,7 @@ frame_found (image_of ts) c rest e p =
     let k = cut ts (plain c) e in
     let b = after_bytes (be4 (tokens_width ts)) ts c k.1 in
     let q : Proper b.cells = subst (λ (r : List Cell). Proper r) b.whole p in
-    let len : length (shown b.cells) ≡ tokens_width ts = length-shown b.cells q ∙ ap tokens_width b.tokens in
+    let len : length (shown b.cells) ≡ tokens_width ts = length_shown b.cells q ∙ ap tokens_width b.tokens in
     let bytes_are : shown c ≡ be4 (tokens_width ts) ++ shown b.cells = ap shown b.whole in
     let found : front (shown c ++ rest) ≡ Some (Some (shown b.cells), rest) =
     frame_in_front (shown c ++ rest) (Some (shown b.cells)) rest (

@@ -47,7 +47,7 @@ parts_given (i ∷ is) (g ∷ gs) = written_part i g.parameter g.oids ∷ parts_
 -- Whatever was added, refused and filled: the bytes are frames, one after another, with nothing left; and where the
 -- argument at a place was added for a value, the part of its frame is read in binary as what the value keeps, under
 -- each type that fits with the OIDs that the argument was given.
-abbrev pub ArgumentReadsBack : {A M : Type 0} → (A → Encoding) → Reading M → (A → M) → (A → Ty → List Oid → Type 0) → Type 0
+unfoldable pub ArgumentReadsBack : {A M : Type 0} → (A → Encoding) → Reading M → (A → M) → (A → Ty → List Oid → Type 0) → Type 0
 ArgumentReadsBack {A} encoding reading kept fits =
     (calls : List Call) (is : List Image) (place : ℕ) (a : Framed) (g : LastGiven) (v : A) (t : Ty) →
     AreImages is (added_in calls) → Proper (all_tokens (after_calls [] calls)) → AreOids (last_filling calls).oids →

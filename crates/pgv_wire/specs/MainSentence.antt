@@ -86,6 +86,6 @@ module _ {A M : Type 0} (encoding : A → Encoding) (reading : Reading M) (kept 
 
   -- That the accepted frames are frames of images, that the cells are proper and that OIDs are numbers of 32 bits is
   -- what running calls say.
-  abbrev pub MainSentence : Type 0
+  unfoldable pub MainSentence : Type 0
   MainSentence =
       (calls : List Call) (is : List Image) → AreImages is (added_in calls) → Proper (all_tokens (after_calls [] calls)) → AreOids (last_filling calls).oids → HoldsAfter calls

@@ -31,6 +31,7 @@ use pgv_codec::{Encode, ReadBack, Type};
 /// says of running arguments; that their cells are proper, what
 /// [`PgArgumentBuffer::as_slice`](crate::PgArgumentBuffer::as_slice) says; and that OIDs are numbers of 32 bits, what
 /// [`oids_fit`] says.
+#[tactic(auto, using(crate::proofs::ArgumentsBack::main_sentence))]
 pub fn main_sentence<T: ReadBack>()
     ensures { MainSentence T.encoding (reading_of T.parse) (λ v. T.view (T.kept v)) T.fits }
 {}
@@ -86,6 +87,7 @@ pub fn only_additions_count()
 {}
 
 /// Proper cells show exactly as many bytes as `width` counts.
+#[tactic(auto, using(pgv_buf::specs::Proper::length_shown))]
 pub fn all_counted()
     ensures { (cells : List Cell) → Proper cells → length (shown cells) ≡ width cells }
 {}
@@ -160,6 +162,7 @@ pub fn parts_after()
 /// That the cells are proper is what [`PgArgumentBuffer::as_slice`](crate::PgArgumentBuffer::as_slice) says of every
 /// running buffer; that each addition is the frame of an image, what [`PgArguments::buffer`] says; and that OIDs are
 /// numbers of 32 bits, what [`oids_fit`] says.
+#[tactic(auto, using(crate::proofs::ArgumentsBack::argument_back))]
 pub fn argument_reads_back<T: ReadBack>()
     ensures { ArgumentReadsBack T.encoding (reading_of T.parse) (λ v. T.view (T.kept v)) T.fits }
 {}

@@ -58,6 +58,7 @@ pub fn record_begins()
 
 /// Reading a record in text begins iff the bytes are UTF-8 and a record text, and then all fields of the text are left
 /// (PostgreSQL: "Composite Type Input and Output Syntax").
+#[tactic(auto, using(crate::specs::NestTextLemmas::text_begins))]
 pub fn record_text_begins()
     ensures { RecordTextBegins }
 {
