@@ -51,7 +51,7 @@ line_of row = values_shown row (length row.columns) ++ line_feed ∷ []
 -- ---- as an object
 
 abbrev pub hex_digit : ℕ → ℕ
-hex_digit n = if nat_lt n 10 then digit_zero + n else (lower_a - 10) + n
+hex_digit n = if nat_lt n 10 then digit_zero + n else lower_a + (n - 10)
 
 -- a control, which is a byte below the space, is `\u00` and two digits
 abbrev pub json_escape : ℕ → List ℕ

@@ -9,7 +9,7 @@ use Rattle.pgv_buf.specs.declared.mark.Mark.{Mark}
 use Rattle.pgv_buf.specs.declared.fill.Slot.{Slot}
 use Rattle.pgv_buf.specs.TokensView.{kept_of}
 use Rattle.pgv_buf.specs.Tokens.{tokens_hole_types, byte, bytes, Token, Cell, fixed_bytes, plain, shown, blank_cell, hole, slot, CasesFit}
-use Rattle.pgv_buf.specs.Blank.{plain-blank, blank-bytes}
+use Rattle.pgv_buf.specs.Blank.{plain-blank}
 use Rattle.pgv_buf.specs.Marks.{mark_of}
 use Rattle.pgv_buf.specs.Proper.{Proper}
 use Rattle.pgv_buf.specs.Layout.{is_hole, is_slot, places, last_from, Kept, slots_of, Layout, Represents, Valid, tokens_of}
@@ -23,11 +23,11 @@ shown-bytes [] = refl
 shown-bytes (x ∷ xs) = ap (λ r. x ∷ r) (shown-bytes xs)
 
 pub plain-bytes : (xs : List ℕ) → plain (fixed_bytes xs) ≡ bytes xs
-plain-bytes xs = ap plain (sym (blank-bytes xs)) ∙ plain-blank (bytes xs)
+plain-bytes xs = plain-blank (bytes xs)
 
 pub Proper-bytes : (xs : List ℕ) → Proper (fixed_bytes xs)
 Proper-bytes [] = tt
-Proper-bytes (x ∷ xs) = Proper-bytes xs
+Proper-bytes (x ∷ xs) = (refl, Proper-bytes xs)
 
 no_places : (is : Token → Bool) → ((x : ℕ) → is (byte x) ≡ false) → (i : ℕ) (xs : List ℕ) → places is i (bytes xs) ≡ []
 no_places is h i [] = refl
@@ -88,7 +88,7 @@ pub slot_joined :
     b' ≡ b ++ d → qs' ≡ l.slot_places ++ length b ∷ [] → ks' ≡ l.slots ++ record { standard = d; cases = cs } ∷ [] →
     Represents (ts ++ blank_cell (slot d cs) ∷ []) b' (record { holes = l.holes; types = l.types; slot_places = qs'; slots = ks' })
 slot_joined {ts} {b} {l} r d cs fit b' qs' ks' e f g =
-    let j = joined r (blank_cell (slot d cs) ∷ []) (refl, fit, tt) in
+    let j = joined r (blank_cell (slot d cs) ∷ []) ((refl, fit), tt) in
     record {
       bytes_are = e ∙ (ap (λ x. b ++ x) (sym (append-nil d)) ∙ j.bytes_are);
       layout_is = same_layout (sym (append-nil l.holes)) (sym (append-nil l.types)) f g ∙ j.layout_is;
@@ -112,8 +112,8 @@ pub enough :
     (m : Mark) (front rest : List Cell) → ts ≡ front ++ rest → m ≡ mark_of front → (m.holes ≤ length l.holes) × (m.slots ≤ length l.slot_places)
 enough {b} {l} ts r m front rest e f =
     let c : Represents front (take m.bytes b) (cut_layout m.holes m.slots l) = cut_at ts r m front rest e f in
-    let h : length (take m.holes l.holes) ≡ m.holes = ap (λ (k : Layout). length k.holes) c.layout_is ∙ (length-holes 0 front ∙ ap (λ (k : Mark). k.holes) (sym f)) in
-    let s : length (take m.slots l.slot_places) ≡ m.slots = ap (λ (k : Layout). length k.slot_places) c.layout_is ∙ (length-slot_places 0 front ∙ ap (λ (k : Mark). k.slots) (sym f)) in
+    let h : length (take m.holes l.holes) ≡ m.holes = ap (λ (k : Layout). length k.holes) c.layout_is ∙ (length-holes 0 (plain front) ∙ ap (λ (k : Mark). k.holes) (sym f)) in
+    let s : length (take m.slots l.slot_places) ≡ m.slots = ap (λ (k : Layout). length k.slot_places) c.layout_is ∙ (length-slot_places 0 (plain front) ∙ ap (λ (k : Mark). k.slots) (sym f)) in
     (omega (arith, h, length-take m.holes l.holes), omega (arith, s, length-take m.slots l.slot_places))
 
 -- ---- what is kept where nothing is

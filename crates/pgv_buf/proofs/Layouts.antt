@@ -3,10 +3,9 @@ use Rattle.std.proofs.Common.{◌≡◌, ℕ, ◌+◌, ◌≤◌, ◌<◌, ◌==
 use Rattle.std.proofs.lemmas.Bool.{eq-eqb}
 use Rattle.std.proofs.lemmas.List.{length-map, take_at, drop_at}
 use Rattle.pgv_types.specs.Ty.{Ty}
-use Rattle.pgv_buf.specs.Tokens.{token_width, tokens_hole_types, Token, byte, hole, slot, tokens_width, Cell, fixed, hole_cell, slot_cell, plain, shown, width, hole_count, slot_count}
+use Rattle.pgv_buf.specs.Tokens.{token_width, tokens_hole_types, tokens_holes, tokens_slots, Token, byte, hole, slot, tokens_width, Cell, plain, shown, width, hole_count, slot_count}
 use Rattle.pgv_buf.specs.Blank.{plain-append}
-use Rattle.pgv_buf.specs.Proper.{Proper, Proper-append, Proper-front, shown-append, length_shown, length-hole_types_of}
-use Rattle.pgv_buf.specs.Fill.{slot_count-filled}
+use Rattle.pgv_buf.specs.Proper.{Proper, Proper-append, Proper-front, shown-append, length_of_shown, length_shown, length-hole_types, length-hole_types_of}
 use Rattle.pgv_buf.specs.Layout.{is_hole, is_slot, if_so, places, last_from, Kept, slots_of, Layout, layout_of, first_at, parse_cells, tokens_of, Represents, Valid}
 
 -- ---- places
@@ -39,17 +38,17 @@ none_at is i j (t ∷ ts) h =
     later : (i j : ℕ) → i < j → (j == i) ≡ false
     later i j h = grind arith
 
-pub length-holes : (i : ℕ) (ts : List Cell) → length (places is_hole i (plain ts)) ≡ hole_count ts
+pub length-holes : (i : ℕ) (ts : List Token) → length (places is_hole i ts) ≡ tokens_holes ts
 length-holes i [] = refl
-length-holes i (fixed x ∷ ts) = length-holes (i + 1) ts
-length-holes i (hole_cell t s ∷ ts) = omega (arith, length-holes (i + 4) ts)
-length-holes i (slot_cell d cs s ∷ ts) = length-holes (i + length d) ts
+length-holes i (byte x ∷ ts) = length-holes (i + 1) ts
+length-holes i (hole t ∷ ts) = omega (arith, length-holes (i + 4) ts)
+length-holes i (slot d cs ∷ ts) = length-holes (i + length d) ts
 
-pub length-slot_places : (i : ℕ) (ts : List Cell) → length (places is_slot i (plain ts)) ≡ slot_count ts
+pub length-slot_places : (i : ℕ) (ts : List Token) → length (places is_slot i ts) ≡ tokens_slots ts
 length-slot_places i [] = refl
-length-slot_places i (fixed x ∷ ts) = length-slot_places (i + 1) ts
-length-slot_places i (hole_cell t s ∷ ts) = length-slot_places (i + 4) ts
-length-slot_places i (slot_cell d cs s ∷ ts) = omega (arith, length-slot_places (i + length d) ts)
+length-slot_places i (byte x ∷ ts) = length-slot_places (i + 1) ts
+length-slot_places i (hole t ∷ ts) = length-slot_places (i + 4) ts
+length-slot_places i (slot d cs ∷ ts) = omega (arith, length-slot_places (i + length d) ts)
 
 -- ---- types and slots
 
@@ -65,11 +64,11 @@ slots-append (byte x ∷ a) c = slots-append a c
 slots-append (hole t ∷ a) c = slots-append a c
 slots-append (slot d cs ∷ a) c = ap (λ r. record { standard = d; cases = cs } ∷ r) (slots-append a c)
 
-pub length-slots : (ts : List Cell) → length (slots_of (plain ts)) ≡ slot_count ts
+pub length-slots : (ts : List Token) → length (slots_of ts) ≡ tokens_slots ts
 length-slots [] = refl
-length-slots (fixed x ∷ ts) = length-slots ts
-length-slots (hole_cell t s ∷ ts) = length-slots ts
-length-slots (slot_cell d cs s ∷ ts) = omega (arith, length-slots ts)
+length-slots (byte x ∷ ts) = length-slots ts
+length-slots (hole t ∷ ts) = length-slots ts
+length-slots (slot d cs ∷ ts) = omega (arith, length-slots ts)
 
 -- ---- layouts
 
@@ -95,24 +94,24 @@ parsed : (n i : ℕ) (ts : List Cell) → Proper ts → length ts ≤ n → pars
 parsed zero i [] p h = refl
 parsed zero i (t ∷ ts) p h = absurd (omega arith)
 parsed (suc n) i [] p h = refl
-parsed (suc n) i (fixed x ∷ ts) p h =
-    rw (none_at is_slot i (i + 1) (plain ts) (omega arith), none_at is_hole i (i + 1) (plain ts) (omega arith)) (ap (λ r. fixed x ∷ r) (parsed n (i + 1) ts p (omega arith)))
-parsed (suc n) i (hole_cell t s ∷ ts) p h =
+parsed (suc n) i ((byte x, s) ∷ ts) p h =
+    rw (p.0, none_at is_slot i (i + 1) (plain ts) (omega arith), none_at is_hole i (i + 1) (plain ts) (omega arith)) (ap (λ (r : List Cell). (byte x, x ∷ []) ∷ r) (parsed n (i + 1) ts p.1 (omega arith)))
+parsed (suc n) i ((hole t, s) ∷ ts) p h =
     rw (none_at is_slot i (i + 4) (plain ts) (omega arith), eq-eqb i i refl, take_at s (shown ts) 4 p.0, drop_at s (shown ts) 4 p.0)
-    (ap (λ r. hole_cell t s ∷ r) (parsed n (i + 4) ts p.1 (omega arith)))
-parsed (suc n) i (slot_cell d cs s ∷ ts) p h =
-    rw (eq-eqb i i refl, take_at s (shown ts) (length d) p.0, drop_at s (shown ts) (length d) p.0)
-    (ap (λ r. slot_cell d cs s ∷ r) (parsed n (i + length d) ts p.2 (omega arith)))
+    (ap (λ (r : List Cell). (hole t, s) ∷ r) (parsed n (i + 4) ts p.1 (omega arith)))
+parsed (suc n) i ((slot d cs, s) ∷ ts) p h =
+    rw (eq-eqb i i refl, take_at s (shown ts) (length d) p.0.0, drop_at s (shown ts) (length d) p.0.0)
+    (ap (λ (r : List Cell). (slot d cs, s) ∷ r) (parsed n (i + length d) ts p.1 (omega arith)))
 
-steps_fit : (i : ℕ) (ts : List Cell) → length ts ≤ length (shown ts) + length (places is_hole i (plain ts)) + length (places is_slot i (plain ts))
-steps_fit i [] = omega arith
-steps_fit i (fixed x ∷ ts) = omega (arith, steps_fit (i + 1) ts)
-steps_fit i (hole_cell t s ∷ ts) = omega (arith, steps_fit (i + 4) ts, length-append s (shown ts))
-steps_fit i (slot_cell d cs s ∷ ts) = omega (arith, steps_fit (i + length d) ts, length-append s (shown ts))
+steps_fit : (i : ℕ) (ts : List Cell) → Proper ts → length ts ≤ length (shown ts) + length (places is_hole i (plain ts)) + length (places is_slot i (plain ts))
+steps_fit i [] p = omega arith
+steps_fit i ((byte x, s) ∷ ts) p = omega (arith, steps_fit (i + 1) ts p.1, length-append s (shown ts), length_of_shown (byte x) s p.0)
+steps_fit i ((hole t, s) ∷ ts) p = omega (arith, steps_fit (i + 4) ts p.1, length-append s (shown ts))
+steps_fit i ((slot d cs, s) ∷ ts) p = omega (arith, steps_fit (i + length d) ts p.1, length-append s (shown ts))
 
 tokens_of-kept : (ts : List Cell) → Proper ts → tokens_of (shown ts) (layout_of (plain ts)) ≡ ts
 unfolding tokens_of
-tokens_of-kept ts p = parsed (length (shown ts) + length (places is_hole 0 (plain ts)) + length (places is_slot 0 (plain ts))) 0 ts p (steps_fit 0 ts)
+tokens_of-kept ts p = parsed (length (shown ts) + length (places is_hole 0 (plain ts)) + length (places is_slot 0 (plain ts))) 0 ts p (steps_fit 0 ts p)
 
 pub tokens_are : {ts : List Cell} {b : List ℕ} {l : Layout} → Represents ts b l → tokens_of b l ≡ ts
 tokens_are {ts} r = rw (r.bytes_are, r.layout_is) (tokens_of-kept ts r.proper)
@@ -150,11 +149,11 @@ cut {b} {l} a c r =
       layout_is =
           ap (λ m. cut_layout (hole_count a) (slot_count a) m) e
           ∙ same_layout
-          (take_at (places is_hole 0 (plain a)) (places is_hole (tokens_width (plain a)) (plain c)) (hole_count a) (length-holes 0 a))
-          (take_at (tokens_hole_types (plain a)) (tokens_hole_types (plain c)) (hole_count a) (length-hole_types_of a))
-          (take_at (places is_slot 0 (plain a)) (places is_slot (tokens_width (plain a)) (plain c)) (slot_count a) (length-slot_places 0 a))
-          (take_at (slots_of (plain a)) (slots_of (plain c)) (slot_count a) (length-slots a));
+          (take_at (places is_hole 0 (plain a)) (places is_hole (tokens_width (plain a)) (plain c)) (hole_count a) (length-holes 0 (plain a)))
+          (take_at (tokens_hole_types (plain a)) (tokens_hole_types (plain c)) (hole_count a) (length-hole_types (plain a)))
+          (take_at (places is_slot 0 (plain a)) (places is_slot (tokens_width (plain a)) (plain c)) (slot_count a) (length-slot_places 0 (plain a)))
+          (take_at (slots_of (plain a)) (slots_of (plain c)) (slot_count a) (length-slots (plain a)));
       proper = Proper-front a c r.proper;
     }
 
-pub ruleset lengths = (length-slots, length-hole_types_of, length-map, slot_count-filled)
+pub ruleset lengths = (length-slots, length-hole_types_of, length-map)

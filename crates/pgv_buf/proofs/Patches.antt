@@ -4,10 +4,10 @@ use Rattle.std.proofs.Math.Seq.{take-append_seam}
 use Rattle.pgv_types.specs.Ty.{Ty}
 use Rattle.pgv_types.specs.Relations.{softly}
 use Rattle.pgv_types.specs.declared.oid.Oid.{Oid}
-use Rattle.pgv_buf.specs.Tokens.{Token, byte, hole, slot, bytes, token_width, tokens_width, Cell, fixed, hole_cell, slot_cell, fixed_bytes, token_of, plain, be4, shown, cell_shown, width, hole_count, CasesFit, chosen}
+use Rattle.pgv_buf.specs.Tokens.{Token, byte, hole, slot, bytes, token_width, tokens_width, tokens_holes, Cell, fixed_bytes, plain, be4, shown, width, hole_count, CasesFit, chosen}
 use Rattle.pgv_buf.specs.Blank.{plain-append}
-use Rattle.pgv_buf.specs.Proper.{Proper, Proper-front, Proper-back, Proper-append, first_type, shown-append, length_shown, width-append, rest_of}
-use Rattle.pgv_buf.specs.Fill.{fill_holes, fill_slots}
+use Rattle.pgv_buf.specs.Proper.{Proper, Proper-front, Proper-back, Proper-append, first_type, shown-append, length_of_shown, length_shown, width-append, rest_of}
+use Rattle.pgv_buf.specs.Fill.{filled_cells}
 use Rattle.pgv_buf.specs.Layout.{is_hole, is_slot, if_so, places, slots_of, Layout, layout_of, Represents}
 use Rattle.pgv_buf.specs.Patches.{put, first_string, put_each, Within, numbers, choices}
 use Rattle.pgv_buf.proofs.Layouts.{layout-append, with_more, wide}
@@ -22,40 +22,45 @@ put_at x y z w e =
 -- ---- writing over the pieces of one sort
 
 -- the widths of the pieces
-abbrev pub widths : (Token → Bool) → List Token → List ℕ
+abbrev widths : (Token → Bool) → List Token → List ℕ
 widths is [] = []
 widths is (t ∷ ts) = if_so (is t) (token_width t) ++ widths is ts
 
--- what cells show where the pieces show these strings
-abbrev showing : (Token → Bool) → List (List ℕ) → List Cell → List ℕ
-showing is ws [] = []
-showing is ws (t ∷ ts) = cond (is (token_of t)) (first_string ws ++ showing is (rest_of ws) ts) (cell_shown t ++ showing is ws ts)
+-- cells whose pieces show these strings
+abbrev with_pieces : (Token → Bool) → List (List ℕ) → List Cell → List Cell
+with_pieces is ws [] = []
+with_pieces is ws (t ∷ ts) = (t.0, cond (is t.0) (first_string ws) t.1) ∷ with_pieces is (cond (is t.0) (rest_of ws) ws) ts
 
 -- one cell, a piece or not, after bytes that stand already
 one_written :
     (b : Bool) (before s : List ℕ) (is : Token → Bool) (ws : List (List ℕ)) (ts : List Cell) (n : ℕ) → length s ≡ n →
     map length ws ≡ if_so b n ++ widths is (plain ts) →
-    ((front : List ℕ) (vs : List (List ℕ)) → map length vs ≡ widths is (plain ts) → put_each (places is (length front) (plain ts)) vs (front ++ shown ts) ≡ front ++ showing is vs ts) →
-    put_each (if_so b (length before) ++ places is (length before + n) (plain ts)) ws (before ++ (s ++ shown ts)) ≡ before ++ cond b (first_string ws ++ showing is (rest_of ws) ts) (s ++ showing is ws ts)
+    ((front : List ℕ) (vs : List (List ℕ)) → map length vs ≡ widths is (plain ts) → put_each (places is (length front) (plain ts)) vs (front ++ shown ts) ≡ front ++ shown (with_pieces is vs ts)) →
+    put_each (if_so b (length before) ++ places is (length before + n) (plain ts)) ws (before ++ (s ++ shown ts)) ≡ before ++ (cond b (first_string ws) s ++ shown (with_pieces is (cond b (rest_of ws) ws) ts))
 one_written true before s is [] ts n e f rest = cc
 one_written true before s is (w ∷ ws) ts n e f rest =
     let k : length w ≡ n = cc in
     let g : map length ws ≡ widths is (plain ts) = cc in
+    let others : List ℕ = shown (with_pieces is ws ts) in
     let e1 : put (length before) w (before ++ (s ++ shown ts)) ≡ (before ++ w) ++ shown ts = rw (← append_assoc before s (shown ts)) (put_at before s (shown ts) w (e ∙ sym k)) in
-    let h : put_each (places is (length (before ++ w)) (plain ts)) ws ((before ++ w) ++ shown ts) ≡ (before ++ w) ++ showing is ws ts = rest (before ++ w) ws g in
-    let h' : put_each (places is (length before + n) (plain ts)) ws ((before ++ w) ++ shown ts) ≡ (before ++ w) ++ showing is ws ts = (rw (length-append before w, k) at h) in
-    ap (λ z. put_each (places is (length before + n) (plain ts)) ws z) e1 ∙ (h' ∙ append_assoc before w (showing is ws ts))
+    let h : put_each (places is (length (before ++ w)) (plain ts)) ws ((before ++ w) ++ shown ts) ≡ (before ++ w) ++ others = rest (before ++ w) ws g in
+    let h' : put_each (places is (length before + n) (plain ts)) ws ((before ++ w) ++ shown ts) ≡ (before ++ w) ++ others = (rw (length-append before w, k) at h) in
+    ap (λ z. put_each (places is (length before + n) (plain ts)) ws z) e1 ∙ (h' ∙ append_assoc before w others)
 one_written false before s is ws ts n e f rest =
-    let h : put_each (places is (length (before ++ s)) (plain ts)) ws ((before ++ s) ++ shown ts) ≡ (before ++ s) ++ showing is ws ts = rest (before ++ s) ws f in
-    (rw (length-append before s, e, append_assoc before s (shown ts), append_assoc before s (showing is ws ts)) at h)
+    let others : List ℕ = shown (with_pieces is ws ts) in
+    let h : put_each (places is (length (before ++ s)) (plain ts)) ws ((before ++ s) ++ shown ts) ≡ (before ++ s) ++ others = rest (before ++ s) ws f in
+    (rw (length-append before s, e, append_assoc before s (shown ts), append_assoc before s others) at h)
 
 written-shown :
     (is : Token → Bool) (before : List ℕ) (ws : List (List ℕ)) (ts : List Cell) → map length ws ≡ widths is (plain ts) → Proper ts →
-    put_each (places is (length before) (plain ts)) ws (before ++ shown ts) ≡ before ++ showing is ws ts
+    put_each (places is (length before) (plain ts)) ws (before ++ shown ts) ≡ before ++ shown (with_pieces is ws ts)
 written-shown is before ws [] f p = refl
-written-shown is before ws (fixed x ∷ ts) f p = one_written (is (byte x)) before (x ∷ []) is ws ts 1 refl f (λ front vs g. written-shown is front vs ts g p)
-written-shown is before ws (hole_cell t s ∷ ts) f p = one_written (is (hole t)) before s is ws ts 4 p.0 f (λ front vs g. written-shown is front vs ts g p.1)
-written-shown is before ws (slot_cell d cs s ∷ ts) f p = one_written (is (slot d cs)) before s is ws ts (length d) p.0 f (λ front vs g. written-shown is front vs ts g p.2)
+written-shown is before ws (t ∷ ts) f p =
+    one_written (is t.0) before t.1 is ws ts (token_width t.0) (length_of_shown t.0 t.1 p.0) f (λ front vs g. written-shown is front vs ts g p.1)
+
+pieces_plain : (is : Token → Bool) (ws : List (List ℕ)) (ts : List Cell) → plain (with_pieces is ws ts) ≡ plain ts
+pieces_plain is ws [] = refl
+pieces_plain is ws (t ∷ ts) = ap (λ r. t.0 ∷ r) (pieces_plain is (cond (is t.0) (rest_of ws) ws) ts)
 
 -- strings of the widths of the pieces are within the bytes
 one_within :
@@ -75,47 +80,37 @@ within is n i ws (t ∷ ts) f h =
 
 -- ---- holes
 
-numbers_fit : (os : List Oid) (ts : List Cell) → length os ≡ hole_count ts → map length (numbers os) ≡ widths is_hole (plain ts)
+numbers_fit : (os : List Oid) (ts : List Token) → length os ≡ tokens_holes ts → map length (numbers os) ≡ widths is_hole ts
 numbers_fit [] [] h = refl
 numbers_fit (o ∷ os) [] h = absurd (omega arith)
-numbers_fit os (fixed x ∷ ts) h = numbers_fit os ts h
-numbers_fit [] (hole_cell t s ∷ ts) h = absurd (omega arith)
-numbers_fit (o ∷ os) (hole_cell t s ∷ ts) h = ap (λ r. 4 ∷ r) (numbers_fit os ts (omega arith))
-numbers_fit os (slot_cell d cs s ∷ ts) h = numbers_fit os ts h
+numbers_fit os (byte x ∷ ts) h = numbers_fit os ts h
+numbers_fit [] (hole t ∷ ts) h = absurd (omega arith)
+numbers_fit (o ∷ os) (hole t ∷ ts) h = ap (λ r. 4 ∷ r) (numbers_fit os ts (omega arith))
+numbers_fit os (slot d cs ∷ ts) h = numbers_fit os ts h
 
-numbers_show : (os : List Oid) (ts : List Cell) → length os ≡ hole_count ts → showing is_hole (numbers os) ts ≡ shown (fill_holes os ts)
-numbers_show os [] h = refl
-numbers_show os (fixed x ∷ ts) h = ap (λ r. x ∷ r) (numbers_show os ts h)
-numbers_show [] (hole_cell t s ∷ ts) h = absurd (omega arith)
-numbers_show (o ∷ os) (hole_cell t s ∷ ts) h = ap (λ r. be4 o.0 ++ r) (numbers_show os ts (omega arith))
-numbers_show os (slot_cell d cs s ∷ ts) h = ap (λ r. s ++ r) (numbers_show os ts h)
-
-pub holes_plain : (os : List Oid) (ts : List Cell) → plain (fill_holes os ts) ≡ plain ts
-holes_plain os [] = refl
-holes_plain os (fixed x ∷ ts) = ap (λ r. byte x ∷ r) (holes_plain os ts)
-holes_plain os (hole_cell t s ∷ ts) = ap (λ r. hole t ∷ r) (holes_plain (rest_of os) ts)
-holes_plain os (slot_cell d cs s ∷ ts) = ap (λ r. slot d cs ∷ r) (holes_plain os ts)
-
-holes_proper : (os : List Oid) (ts : List Cell) → Proper ts → Proper (fill_holes os ts)
-holes_proper os [] p = tt
-holes_proper os (fixed x ∷ ts) p = holes_proper os ts p
-holes_proper os (hole_cell t s ∷ ts) p = (refl, holes_proper (rest_of os) ts p.1)
-holes_proper os (slot_cell d cs s ∷ ts) p = (p.0, p.1, holes_proper os ts p.2)
+holes_proper : (ws : List (List ℕ)) (ts : List Cell) → map length ws ≡ widths is_hole (plain ts) → Proper ts → Proper (with_pieces is_hole ws ts)
+holes_proper ws [] f p = tt
+holes_proper ws ((byte x, s) ∷ ts) f p = (p.0, holes_proper ws ts f p.1)
+holes_proper [] ((hole t, s) ∷ ts) f p = absurd cc
+holes_proper (w ∷ ws) ((hole t, s) ∷ ts) f p = (cc, holes_proper ws ts (cc) p.1)
+holes_proper ws ((slot d cs, s) ∷ ts) f p = (p.0, holes_proper ws ts f p.1)
 
 pub holes_filled :
     {ts : List Cell} {b : List ℕ} {l : Layout} → Represents ts b l →
-    (os : List Oid) → length os ≡ hole_count ts → (b' : List ℕ) → b' ≡ put_each l.holes (numbers os) b → Represents (fill_holes os ts) b' l
-holes_filled {ts} {b} {l} r os n b' e = record {
-  bytes_are = e ∙ (rw (r.layout_is, r.bytes_are) (written-shown is_hole [] (numbers os) ts (numbers_fit os ts n) r.proper) ∙ numbers_show os ts n);
-  layout_is = r.layout_is ∙ ap layout_of (sym (holes_plain os ts));
-  proper = holes_proper os ts r.proper;
-}
+    (os : List Oid) → length os ≡ hole_count ts → (b' : List ℕ) → b' ≡ put_each l.holes (numbers os) b → Represents (with_pieces is_hole (numbers os) ts) b' l
+holes_filled {ts} {b} {l} r os n b' e =
+    let fit = numbers_fit os (plain ts) n in
+    record {
+      bytes_are = e ∙ rw (r.layout_is, r.bytes_are) (written-shown is_hole [] (numbers os) ts fit r.proper);
+      layout_is = r.layout_is ∙ ap layout_of (sym (pieces_plain is_hole (numbers os) ts));
+      proper = holes_proper (numbers os) ts fit r.proper;
+    }
 
 pub holes_within :
     {ts : List Cell} {b : List ℕ} {l : Layout} → Represents ts b l →
     (os : List Oid) → length os ≡ hole_count ts → Within (length b) l.holes (numbers os)
 holes_within {ts} {b} {l} r os n =
-    rw r.layout_is (within is_hole (length b) 0 (numbers os) (plain ts) (numbers_fit os ts n) (omega (arith, wide r)))
+    rw r.layout_is (within is_hole (length b) 0 (numbers os) (plain ts) (numbers_fit os (plain ts) n) (omega (arith, wide r)))
 
 -- ---- slots
 
@@ -126,42 +121,54 @@ chosen_fits p d (c ∷ cs) h =
 
 choices_fit : (ps : List Ty) (ts : List Cell) → Proper ts → map length (choices ps (slots_of (plain ts))) ≡ widths is_slot (plain ts)
 choices_fit ps [] p = refl
-choices_fit ps (fixed x ∷ ts) p = choices_fit ps ts p
-choices_fit ps (hole_cell t s ∷ ts) p = choices_fit ps ts p.1
-choices_fit ps (slot_cell d cs s ∷ ts) p =
-    ap (λ n. n ∷ map length (choices (rest_of ps) (slots_of (plain ts)))) (chosen_fits (first_type ps) d cs p.1)
-    ∙ ap (λ r. length d ∷ r) (choices_fit (rest_of ps) ts p.2)
+choices_fit ps ((byte x, s) ∷ ts) p = choices_fit ps ts p.1
+choices_fit ps ((hole t, s) ∷ ts) p = choices_fit ps ts p.1
+choices_fit ps ((slot d cs, s) ∷ ts) p =
+    ap (λ n. n ∷ map length (choices (rest_of ps) (slots_of (plain ts)))) (chosen_fits (first_type ps) d cs p.0.1)
+    ∙ ap (λ r. length d ∷ r) (choices_fit (rest_of ps) ts p.1)
 
-choices_show : (ps : List Ty) (ts : List Cell) → showing is_slot (choices ps (slots_of (plain ts))) ts ≡ shown (fill_slots ps ts)
-choices_show ps [] = refl
-choices_show ps (fixed x ∷ ts) = ap (λ r. x ∷ r) (choices_show ps ts)
-choices_show ps (hole_cell t s ∷ ts) = ap (λ r. s ++ r) (choices_show ps ts)
-choices_show ps (slot_cell d cs s ∷ ts) = ap (λ r. chosen (first_type ps) d cs ++ r) (choices_show (rest_of ps) ts)
+slots_proper : (ws : List (List ℕ)) (ts : List Cell) → map length ws ≡ widths is_slot (plain ts) → Proper ts → Proper (with_pieces is_slot ws ts)
+slots_proper ws [] f p = tt
+slots_proper ws ((byte x, s) ∷ ts) f p = (p.0, slots_proper ws ts f p.1)
+slots_proper ws ((hole t, s) ∷ ts) f p = (p.0, slots_proper ws ts f p.1)
+slots_proper [] ((slot d cs, s) ∷ ts) f p = absurd cc
+slots_proper (w ∷ ws) ((slot d cs, s) ∷ ts) f p = ((cc, p.0.1), slots_proper ws ts (cc) p.1)
 
-pub slots_plain : (ps : List Ty) (ts : List Cell) → plain (fill_slots ps ts) ≡ plain ts
-slots_plain ps [] = refl
-slots_plain ps (fixed x ∷ ts) = ap (λ r. byte x ∷ r) (slots_plain ps ts)
-slots_plain ps (hole_cell t s ∷ ts) = ap (λ r. hole t ∷ r) (slots_plain ps ts)
-slots_plain ps (slot_cell d cs s ∷ ts) = ap (λ r. slot d cs ∷ r) (slots_plain (rest_of ps) ts)
-
-slots_proper : (ps : List Ty) (ts : List Cell) → Proper ts → Proper (fill_slots ps ts)
-slots_proper ps [] p = tt
-slots_proper ps (fixed x ∷ ts) p = slots_proper ps ts p
-slots_proper ps (hole_cell t s ∷ ts) p = (p.0, slots_proper ps ts p.1)
-slots_proper ps (slot_cell d cs s ∷ ts) p = (chosen_fits (first_type ps) d cs p.1, p.1, slots_proper (rest_of ps) ts p.2)
-
-pub slots_filled :
+slots_filled :
     {ts : List Cell} {b : List ℕ} {l : Layout} → Represents ts b l →
-    (ps : List Ty) (b' : List ℕ) → b' ≡ put_each l.slot_places (choices ps l.slots) b → Represents (fill_slots ps ts) b' l
-slots_filled {ts} {b} {l} r ps b' e = record {
-  bytes_are = e ∙ (rw (r.layout_is, r.bytes_are) (written-shown is_slot [] (choices ps (slots_of (plain ts))) ts (choices_fit ps ts r.proper) r.proper) ∙ choices_show ps ts);
-  layout_is = r.layout_is ∙ ap layout_of (sym (slots_plain ps ts));
-  proper = slots_proper ps ts r.proper;
-}
+    (ps : List Ty) (b' : List ℕ) → b' ≡ put_each l.slot_places (choices ps l.slots) b → Represents (with_pieces is_slot (choices ps (slots_of (plain ts))) ts) b' l
+slots_filled {ts} {b} {l} r ps b' e =
+    let ws = choices ps (slots_of (plain ts)) in
+    let fit = choices_fit ps ts r.proper in
+    record {
+      bytes_are = e ∙ rw (r.layout_is, r.bytes_are) (written-shown is_slot [] ws ts fit r.proper);
+      layout_is = r.layout_is ∙ ap layout_of (sym (pieces_plain is_slot ws ts));
+      proper = slots_proper ws ts fit r.proper;
+    }
 
 pub slots_within : {ts : List Cell} {b : List ℕ} {l : Layout} → Represents ts b l → (ps : List Ty) → Within (length b) l.slot_places (choices ps l.slots)
 slots_within {ts} {b} {l} r ps =
     rw r.layout_is (within is_slot (length b) 0 (choices ps (slots_of (plain ts))) (plain ts) (choices_fit ps ts r.proper) (omega (arith, wide r)))
+
+-- ---- all of them
+
+both_shown : (ps : List Ty) (os : List Oid) (ts : List Cell) → Proper ts → length os ≡ hole_count ts →
+    with_pieces is_slot (choices ps (slots_of (plain ts))) (with_pieces is_hole (numbers os) ts) ≡ filled_cells ps os (plain ts)
+both_shown ps os [] p n = refl
+both_shown ps os ((byte x, s) ∷ ts) p n = rw p.0 (ap (λ (r : List Cell). (byte x, x ∷ []) ∷ r) (both_shown ps os ts p.1 n))
+both_shown ps [] ((hole t, s) ∷ ts) p n = absurd (omega arith)
+both_shown ps (o ∷ os) ((hole t, s) ∷ ts) p n = ap (λ (r : List Cell). (hole t, be4 o.0) ∷ r) (both_shown ps os ts p.1 (omega arith))
+both_shown ps os ((slot d cs, s) ∷ ts) p n = ap (λ (r : List Cell). (slot d cs, chosen (first_type ps) d cs) ∷ r) (both_shown (rest_of ps) os ts p.1 n)
+
+pub all_filled :
+    {ts : List Cell} {b : List ℕ} {l : Layout} → Represents ts b l →
+    (ps : List Ty) (os : List Oid) → length os ≡ hole_count ts → (b' b'' : List ℕ) → b' ≡ put_each l.holes (numbers os) b → b'' ≡ put_each l.slot_places (choices ps l.slots) b' →
+    Represents (filled_cells ps os (plain ts)) b'' l
+all_filled {ts} {b} {l} r ps os n b' b'' e f =
+    let slots : slots_of (plain (with_pieces is_hole (numbers os) ts)) ≡ slots_of (plain ts) = ap slots_of (pieces_plain is_hole (numbers os) ts) in
+    subst (λ us. Represents us b'' l)
+    (ap (λ ks. with_pieces is_slot (choices ps ks) (with_pieces is_hole (numbers os) ts)) slots ∙ both_shown ps os ts r.proper n)
+    (slots_filled (holes_filled r os n b' e) ps b'' f)
 
 -- ---- four bytes in place of four
 

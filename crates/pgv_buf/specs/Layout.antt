@@ -2,7 +2,7 @@
 use Rattle.std.specs.Prelude.{◌≡◌, ℕ, ◌+◌, ◌==◌, Bool, true, false, if◌then◌else◌, List, [], ◌∷◌, ◌++◌, length, take, drop}
 use Rattle.std.proofs.Common.{suc, zero}
 use Rattle.pgv_types.specs.Ty.{Ty}
-use Rattle.pgv_buf.specs.Tokens.{token_width, tokens_hole_types, Token, byte, hole, slot, Cell, fixed, hole_cell, slot_cell, plain, shown}
+use Rattle.pgv_buf.specs.Tokens.{token_width, tokens_hole_types, Token, byte, hole, slot, Cell, blank_cell, plain, shown}
 use Rattle.pgv_buf.specs.Proper.{Proper, first_type, first_or_zero, rest_of}
 
 -- holes and slots are pieces: of known places and widths, and written over
@@ -70,10 +70,10 @@ abbrev pub parse_cells : ℕ → ℕ → List ℕ → List ℕ → List Ty → L
 parse_cells zero i b ps ts qs ks = []
 parse_cells (suc n) i b ps ts qs ks =
     if first_at i qs
-    then slot_cell (first_slot ks).standard (first_slot ks).cases (take (length (first_slot ks).standard) b) ∷ parse_cells n (i + length (first_slot ks).standard) (drop (length (first_slot ks).standard) b) ps ts (rest_of qs) (rest_of ks)
+    then (slot (first_slot ks).standard (first_slot ks).cases, take (length (first_slot ks).standard) b) ∷ parse_cells n (i + length (first_slot ks).standard) (drop (length (first_slot ks).standard) b) ps ts (rest_of qs) (rest_of ks)
     else if first_at i ps
-    then hole_cell (first_type ts) (take 4 b) ∷ parse_cells n (i + 4) (drop 4 b) (rest_of ps) (rest_of ts) qs ks
-    else if holds_none b then [] else fixed (first_or_zero b) ∷ parse_cells n (i + 1) (rest_of b) ps ts qs ks
+    then (hole (first_type ts), take 4 b) ∷ parse_cells n (i + 4) (drop 4 b) (rest_of ps) (rest_of ts) qs ks
+    else if holds_none b then [] else blank_cell (byte (first_or_zero b)) ∷ parse_cells n (i + 1) (rest_of b) ps ts qs ks
 
 unfoldable pub tokens_of : List ℕ → Layout → List Cell
 tokens_of b l = parse_cells (length b + length l.holes + length l.slot_places) 0 b l.holes l.types l.slot_places l.slots

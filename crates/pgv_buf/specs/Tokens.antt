@@ -41,80 +41,73 @@ tokens_hole_types (byte x ∷ ts) = tokens_hole_types ts
 tokens_hole_types (hole t ∷ ts) = t ∷ tokens_hole_types ts
 tokens_hole_types (slot d cs ∷ ts) = tokens_hole_types ts
 
+-- how many slots are among them
+abbrev pub tokens_slots : List Token → ℕ
+tokens_slots [] = 0
+tokens_slots (byte x ∷ ts) = tokens_slots ts
+tokens_slots (hole t ∷ ts) = tokens_slots ts
+tokens_slots (slot d cs ∷ ts) = 1 + tokens_slots ts
+
 -- ---- cells
 
-pub data Cell : Type 0 where
-  fixed : ℕ → Cell
-  hole_cell : Ty → List ℕ → Cell
-  slot_cell : List ℕ → List (Ty × List ℕ) → List ℕ → Cell
+-- a token, and the bytes that a buffer shows for it
+abbrev pub Cell : Type 0
+Cell = Token × List ℕ
 
--- a token as it is first written: a hole is four zeros, a slot its default
+-- a token as it is first written: a byte shows itself, a hole four zeros, a slot its default
+abbrev pub first_shown : Token → List ℕ
+first_shown (byte x) = x ∷ []
+first_shown (hole t) = 0 ∷ 0 ∷ 0 ∷ 0 ∷ []
+first_shown (slot d cs) = d
+
 abbrev pub blank_cell : Token → Cell
-blank_cell (byte x) = fixed x
-blank_cell (hole t) = hole_cell t (0 ∷ 0 ∷ 0 ∷ 0 ∷ [])
-blank_cell (slot d cs) = slot_cell d cs d
+blank_cell t = (t, first_shown t)
 
 abbrev pub blank : List Token → List Cell
 blank = map blank_cell
 
--- a cell without what it shows
-abbrev pub token_of : Cell → Token
-token_of (fixed x) = byte x
-token_of (hole_cell t s) = hole t
-token_of (slot_cell d cs s) = slot d cs
-
+-- cells without what they show
 abbrev pub plain : List Cell → List Token
-plain = map token_of
+plain = map (λ c. c.0)
 
 -- ---- how the logic stores a cell
 
 abbrev pub Parts : Type 0
-Parts = ℕ ⊎ ((Ty × List ℕ) ⊎ (List ℕ × (List (Ty × List ℕ) × List ℕ)))
+Parts = ℕ ⊎ (Ty ⊎ (List ℕ × List (Ty × List ℕ)))
 
-abbrev pub to_parts : Cell → Parts
-to_parts (fixed x) = inl x
-to_parts (hole_cell t s) = inr (inl (t, s))
-to_parts (slot_cell d cs s) = inr (inr (d, (cs, s)))
+abbrev pub to_parts : Token → Parts
+to_parts (byte x) = inl x
+to_parts (hole t) = inr (inl t)
+to_parts (slot d cs) = inr (inr (d, cs))
 
-abbrev pub from_parts : Parts → Cell
-from_parts (inl x) = fixed x
-from_parts (inr (inl p)) = hole_cell p.0 p.1
-from_parts (inr (inr p)) = slot_cell p.0 p.1.0 p.1.1
+abbrev pub from_parts : Parts → Token
+from_parts (inl x) = byte x
+from_parts (inr (inl t)) = hole t
+from_parts (inr (inr p)) = slot p.0 p.1
 
-pub from_parts-to_parts : (t : Cell) → from_parts (to_parts t) ≡ t
-from_parts-to_parts (fixed x) = refl
-from_parts-to_parts (hole_cell t s) = refl
-from_parts-to_parts (slot_cell d cs s) = refl
+pub from_parts-to_parts : (t : Token) → from_parts (to_parts t) ≡ t
+from_parts-to_parts (byte x) = refl
+from_parts-to_parts (hole t) = refl
+from_parts-to_parts (slot d cs) = refl
 
-abbrev pub cell_code : Coded Cell
-cell_code =
-    code_by Parts
-    (coded⊎ coded_ℕ (coded⊎ (coded× ty_code (coded_list coded_ℕ)) (coded× (coded_list coded_ℕ) (coded× (coded_list (coded× ty_code (coded_list coded_ℕ))) (coded_list coded_ℕ)))))
-    to_parts from_parts from_parts-to_parts
+abbrev pub token_code : Coded Token
+token_code = code_by Parts (coded⊎ coded_ℕ (coded⊎ ty_code (coded× (coded_list coded_ℕ) (coded_list (coded× ty_code (coded_list coded_ℕ)))))) to_parts from_parts from_parts-to_parts
 
 abbrev pub cells_code : Coded (List Cell)
-cells_code = coded_list cell_code
+cells_code = coded_list (coded× token_code (coded_list coded_ℕ))
 
 -- ---- words
 
--- the bytes that a cell shows, and how many they are
-abbrev pub cell_shown : Cell → List ℕ
-cell_shown (fixed x) = x ∷ []
-cell_shown (hole_cell t s) = s
-cell_shown (slot_cell d cs s) = s
-
-abbrev pub cell_width : Cell → ℕ
-cell_width c = token_width (token_of c)
-
+-- the bytes that cells show, and how many they are
 abbrev pub shown : List Cell → List ℕ
-shown = flat_map cell_shown
+shown = flat_map (λ c. c.1)
 
 abbrev pub width : List Cell → ℕ
 width cs = tokens_width (plain cs)
 
 -- plain bytes, as cells
 abbrev pub fixed_bytes : List ℕ → List Cell
-fixed_bytes = map fixed
+fixed_bytes xs = blank (bytes xs)
 
 -- a number as four bytes, the highest first
 abbrev pub be4 : ℕ → List ℕ
@@ -128,10 +121,7 @@ abbrev pub hole_count : List Cell → ℕ
 hole_count cs = tokens_holes (plain cs)
 
 abbrev pub slot_count : List Cell → ℕ
-slot_count [] = 0
-slot_count (fixed x ∷ ts) = slot_count ts
-slot_count (hole_cell t s ∷ ts) = slot_count ts
-slot_count (slot_cell d cs s ∷ ts) = 1 + slot_count ts
+slot_count cs = tokens_slots (plain cs)
 
 -- each case has as many bytes as the default
 abbrev pub CasesFit : ℕ → List (Ty × List ℕ) → Type 0

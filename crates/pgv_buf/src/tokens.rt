@@ -1,10 +1,10 @@
 //! A list of tokens, kept as one run of bytes.
 
 ghost use Rattle.std.specs.Prelude.{◌≡◌, ◌==◌, ◌≤◌, ℕ, ◌++◌, List, [], ◌∷◌, length, OnOk, OnErr, sum};
-ghost use Rattle.pgv_buf.specs.Tokens.{CasesFit, slot_count, byte, hole, slot, bytes, blank, Cell, fixed_bytes, hole_count, shown, width, be4, hole_types_of};
+ghost use Rattle.pgv_buf.specs.Tokens.{CasesFit, slot_count, byte, hole, slot, bytes, blank, Cell, fixed_bytes, hole_count, plain, shown, width, be4, hole_types_of};
 ghost use Rattle.pgv_buf.specs.Proper.{Proper};
 ghost use Rattle.pgv_buf.specs.Marks.{mark_of};
-ghost use Rattle.pgv_buf.specs.Fill.{fill_holes, fill_slots, slot_types};
+ghost use Rattle.pgv_buf.specs.Fill.{filled_cells, slot_types};
 ghost use Rattle.pgv_buf.specs.CasesView.{cases_of};
 
 use crate::fill::{Slot, put_number, write_oids, write_slots};
@@ -229,30 +229,14 @@ impl Tokens {
     /// Fills each hole with its OID and each slot by the parameter type of its own argument, whatever they
     /// showed before: `types` has the parameter type of each argument, `counts` how many slots each has. Arguments
     /// after the last count have none.
-    #[tactic(auto, using(crate::proofs::Layouts::lengths))]
     pub fn fill(&mut self, types: &[PgTypeInfo], counts: &[usize], oids: &[Oid])
         requires arguments { length counts.now ≤ length types.now }
         requires slots { sum counts.now ≡ slot_count self.old }
         requires holes { length oids.now ≡ hole_count self.old }
-        ensures { self.new ≡ fill_slots (slot_types types.now counts.now)
-            (fill_holes oids.now self.old) }
-    {
-        self.fill_oids(oids);
-        self.fill_types(types, counts);
-    }
-
-    fn fill_oids(&mut self, oids: &[Oid])
-        requires { length oids.now ≡ hole_count self.old }
-        ensures { self.new ≡ fill_holes oids.now self.old }
+        ensures { self.new ≡ filled_cells (slot_types types.now counts.now) oids.now
+            (plain self.old) }
     {
         write_oids(&mut self.bytes, self.holes.gaps(), oids);
-    }
-
-    fn fill_types(&mut self, types: &[PgTypeInfo], counts: &[usize])
-        requires arguments { length counts.now ≤ length types.now }
-        requires slots { sum counts.now ≡ slot_count self.old }
-        ensures { self.new ≡ fill_slots (slot_types types.now counts.now) self.old }
-    {
         write_slots(
             &mut self.bytes,
             self.slot_places.gaps(),

@@ -1,11 +1,11 @@
 //! The buffer that encoders append to.
 
 ghost use Rattle.std.specs.Prelude.{◌≡◌, ◌==◌, ◌<◌, ◌≤◌, ◌++◌, ℕ, List, [], ◌∷◌, length, true, Some, OnOk, OnErr, IfOk, IfErr, sum};
-ghost use Rattle.pgv_buf.specs.Tokens.{byte, hole, slot, bytes, Cell, blank, fixed_bytes, shown, width, be4, hole_types_of, hole_count, slot_count, CasesFit};
+ghost use Rattle.pgv_buf.specs.Tokens.{byte, hole, slot, bytes, Cell, blank, fixed_bytes, plain, shown, width, be4, hole_types_of, hole_count, slot_count, CasesFit};
 ghost use Rattle.pgv_buf.specs.CasesView.{cases_of};
 ghost use Rattle.pgv_buf.specs.Marks.{mark_of};
 ghost use Rattle.pgv_buf.specs.Proper.{Proper};
-ghost use Rattle.pgv_buf.specs.Fill.{fill_holes, fill_slots, slot_types};
+ghost use Rattle.pgv_buf.specs.Fill.{filled_cells, slot_types};
 ghost use Rattle.pgv_value.specs.FrameBinary.{max_length, null_length};
 ghost use Rattle.pgv_value.specs.declared.error.CodecError.TheVariants.{Memory};
 ghost use Rattle.pgv_codec.specs.Encoding.{frame, image_of, plainly, typed, writes};
@@ -336,8 +336,8 @@ impl PgArgumentBuffer {
         requires arguments { length counts.now ≤ length types.now }
         requires slots { sum counts.now ≡ slot_count self.old }
         requires holes { length oids.now ≡ hole_count self.old }
-        ensures { self.new ≡ fill_slots (slot_types types.now counts.now)
-            (fill_holes oids.now self.old) }
+        ensures { self.new ≡ filled_cells (slot_types types.now counts.now) oids.now
+            (plain self.old) }
     {
         self.tokens.fill(types, counts, oids);
     }

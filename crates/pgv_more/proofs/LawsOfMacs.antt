@@ -1,5 +1,5 @@
 -- The laws of MAC addresses.
-use Rattle.std.proofs.Common.{◌≡◌, ℕ, ◌≤◌, List, [], ◌∷◌, length, refl, arith, None, zero, suc, ◌+◌, ◌*◌, ◌<◌, eqb, ltb, Bool, true, false, drop, sym, subst, ap, ◌∙◌, Option, Some, ◌⊎◌, inl, inr}
+use Rattle.std.proofs.Common.{◌≡◌, ℕ, ◌≤◌, List, [], ◌∷◌, length, refl, arith, None, zero, suc, ◌+◌, ◌-◌, ◌*◌, ◌<◌, eqb, ltb, Bool, true, false, drop, sym, subst, ap, ◌∙◌, Option, Some, ◌⊎◌, inl, inr}
 use Rattle.pgv_more.specs.MacAddressText.{no_text_left, IsHexDigit, IsPair, ArePairsAfter, IsSeparator, IsMacAddress, hex_value, byte_of_pair, pair_value, with_rest, next_pair, pair_before, pairs_after, is_separator, mac_value, MacAddressIsRead, OneMacAddress}
 use Rattle.std.specs.Prelude.{◌||◌}
 use Rattle.std.specs.Option.{option_map}
@@ -22,19 +22,19 @@ not_at_end (c ∷ text) l = refl
 low_digit : (c v : ℕ) → digit_value c ≡ v → v < 10 → c ≡ 48 + v
 low_digit c v e l = grind (arith, nat_tests)
 
-upper_digit : (c v : ℕ) → digit_value c ≡ v → 10 ≤ v → v < 16 → c < 97 → c ≡ 55 + v
+upper_digit : (c v : ℕ) → digit_value c ≡ v → 10 ≤ v → v < 16 → c < 97 → c ≡ 65 + (v - 10)
 upper_digit c v e m l h = grind (arith, nat_tests)
 
-lower_digit : (c v : ℕ) → digit_value c ≡ v → 10 ≤ v → v < 16 → 97 ≤ c → c ≡ 87 + v
+lower_digit : (c v : ℕ) → digit_value c ≡ v → 10 ≤ v → v < 16 → 97 ≤ c → c ≡ 97 + (v - 10)
 lower_digit c v e m l h = grind (arith, nat_tests)
 
 low_value : (c v : ℕ) → v < 10 → c ≡ 48 + v → digit_value c ≡ v
 low_value c v l e = grind (arith, nat_tests)
 
-upper_value : (c v : ℕ) → 10 ≤ v → v < 16 → c ≡ 55 + v → digit_value c ≡ v
+upper_value : (c v : ℕ) → 10 ≤ v → v < 16 → c ≡ 65 + (v - 10) → digit_value c ≡ v
 upper_value c v m l e = grind (arith, nat_tests)
 
-lower_value : (c v : ℕ) → 10 ≤ v → v < 16 → c ≡ 87 + v → digit_value c ≡ v
+lower_value : (c v : ℕ) → 10 ≤ v → v < 16 → c ≡ 97 + (v - 10) → digit_value c ≡ v
 lower_value c v m l e = grind (arith, nat_tests)
 
 by_sum : {A B C : Type 0} → A ⊎ B → (A → C) → (B → C) → C
@@ -54,7 +54,7 @@ value_is : (c v : ℕ) → IsHexDigit c v → (digit_value c ≡ v) × (v < 16)
 value_is c v (inl h) = (low_value c v h.0 h.1, omega arith)
 value_is c v (inr h) = (letter h.2, h.1)
   where
-    letter : ((c ≡ 55 + v) ⊎ (c ≡ 87 + v)) → digit_value c ≡ v
+    letter : ((c ≡ 65 + (v - 10)) ⊎ (c ≡ 97 + (v - 10))) → digit_value c ≡ v
     letter (inl e) = upper_value c v h.0 h.1 e
     letter (inr e) = lower_value c v h.0 h.1 e
 

@@ -10,7 +10,7 @@ use Rattle.pgv_text.specs.Characters.{hyphen, digit_zero, colon, upper_a, lower_
 
 -- a hex digit of either case
 abbrev pub IsHexDigit : ℕ → ℕ → Type 0
-IsHexDigit c v = ((v < 10) × (c ≡ digit_zero + v)) ⊎ ((10 ≤ v) × (v < 16) × ((c ≡ (upper_a - 10) + v) ⊎ (c ≡ (lower_a - 10) + v)))
+IsHexDigit c v = ((v < 10) × (c ≡ digit_zero + v)) ⊎ ((10 ≤ v) × (v < 16) × ((c ≡ upper_a + (v - 10)) ⊎ (c ≡ lower_a + (v - 10))))
 
 -- two digits of a byte, the high one first
 abbrev pub IsPair : ℕ → ℕ → ℕ → Type 0

@@ -23,7 +23,7 @@ use Rattle.pgv_value.specs.Parsed.{Parsed}
 use Rattle.pgv_copy.specs.CopyBinary.{Step, after_header, reader_before, step}
 use Rattle.pgv_copy.specs.CopyView.{Copying}
 use Rattle.pgv_value.specs.declared.value.PgValueFormat.TheVariants.{Text as InText, Binary as InBinary}
-use Rattle.pgv_wire.specs.Arguments.{Argument, Framed, all_tokens, types_in, filled_arguments}
+use Rattle.pgv_wire.specs.Arguments.{Argument, Framed, framed, all_tokens, types_in, filled_arguments}
 use Rattle.pgv_session.specs.Spelled.{Ask, to_add, to_add_null, to_read, Request, asks, asks_holes, resolves, asks_wire, copies, Asks}
 use Rattle.pgv_session.specs.Lines.{each_named, with_first}
 use Rattle.pgv_session.specs.Types.{LineType, types, row_named}
@@ -75,7 +75,7 @@ names_shown (t ∷ ts) = display_of t ++ names_after ts
 -- each argument's parameter type is its own
 abbrev pub Resolves : Bool → List Oid → State → List ℕ → State → Type 0
 Resolves false oids was answer now = (answer ≡ refused 11) × (now ≡ was)
-Resolves true oids was answer now = (answer ≡ codes "ok") × (now ≡ filled_arguments was (types_in was) oids)
+Resolves true oids was answer now = (answer ≡ codes "ok") × (now ≡ filled_arguments (framed was) (types_in was) oids)
 
 -- the frame that a value writes, its holes as zeros, or its refusal
 abbrev pub Shows : Option Framed → Option CodecError → List ℕ → Type 0

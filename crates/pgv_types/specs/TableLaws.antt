@@ -4,9 +4,13 @@ use Rattle.pgv_types.specs.Ty.{Ty, builtin}
 use Rattle.pgv_types.specs.Table.{TypeEntry, entries, entry_of, IsAmong}
 use Rattle.pgv_types.specs.Facts.{built_in, HasOid32}
 
+-- a row has this OID, and this is its type
+abbrev pub IsTypeOfRow : ℕ → Ty → Type 0
+IsTypeOfRow o t = (e : TypeEntry) × IsAmong e entries × (t ≡ builtin e.oid) × (e.oid ≡ o)
+
 -- The built-in type of an OID is found iff a row has this OID, and it is the type of that row.
 unfoldable pub BuiltInIsItsRow : Type 0
-BuiltInIsItsRow = (o : ℕ) (t : Ty) → (built_in o ≡ Some t) ↔ ((e : TypeEntry) × IsAmong e entries × (t ≡ builtin e.oid) × (e.oid ≡ o))
+BuiltInIsItsRow = (o : ℕ) (t : Ty) → (built_in o ≡ Some t) ↔ IsTypeOfRow o t
 
 -- The OID of a row finds that row.
 unfoldable pub OidFindsItsRow : Type 0

@@ -5,9 +5,8 @@ use Rattle.std.proofs.lemmas.List.{length-map}
 use Rattle.std.proofs.lemmas.Option.{same_Some}
 use Rattle.pgv_types.specs.Ty.{Ty}
 use Rattle.pgv_types.specs.declared.oid.Oid.{Oid}
-use Rattle.pgv_buf.specs.Blank.{plain-blank}
 use Rattle.pgv_buf.specs.Proper.{Proper, Proper-front, Proper-back, first_type, rest_of}
-use Rattle.pgv_buf.specs.Tokens.{Token, byte, hole, slot, bytes, be4, tokens_width, tokens_holes, Cell, fixed, hole_cell, slot_cell, blank, plain, shown, hole_count}
+use Rattle.pgv_buf.specs.Tokens.{Token, byte, hole, slot, bytes, be4, tokens_width, tokens_holes, Cell, blank, plain, shown}
 use Rattle.pgv_value.specs.FrameBinary.{Part}
 use Rattle.pgv_value.specs.Reading.{Reading}
 use Rattle.pgv_wire.specs.Arguments.{Argument, Framed, framed, all_tokens, filled_arguments}
@@ -50,18 +49,13 @@ parts_since (f ∷ fs) [] h = absurd h
 parts_since (f ∷ fs) (i ∷ is) h =
     ap (λ (p : Part). p ∷ parts_in is (blanks fs)) (part_blank i f.1 h.0) ∙ ap (λ (r : List Part). written_part i None (zeros (tokens_holes f.1)) ∷ r) (parts_since fs is h.1)
 
-parts_left : (fs since : List Framed) (is : List Image) (ps : List Ty) (os : List Oid) → AreImages is (fs ++ since) → parts_in is (filled_arguments (blanks fs) ps os ++ blanks since) ≡ parts_given is (given_by fs ps os ++ given_none since)
+parts_left : (fs since : List Framed) (is : List Image) (ps : List Ty) (os : List Oid) → AreImages is (fs ++ since) → parts_in is (filled_arguments fs ps os ++ blanks since) ≡ parts_given is (given_by fs ps os ++ given_none since)
 parts_left [] since is ps os h = parts_since since is h
 parts_left (f ∷ fs) since [] ps os h = absurd h
 parts_left (f ∷ fs) since (i ∷ is) ps os h =
-    let c : List Cell = blank f.1 in
-    let same : plain c ≡ f.1 = plain-blank f.1 in
-    let there : (frame_of i).answer ≡ Ok (plain c) = h.0 ∙ ap (λ (r : List Token). let o : Result (List Token) (Option CodecError) = Ok r in o) (sym same) in
-    let many : hole_count c ≡ tokens_holes f.1 = ap tokens_holes same in
-    let rest : ℕ → List Part = λ n. parts_in is (filled_arguments (blanks fs) (rest_of ps) (drop n os) ++ blanks since) in
-    ap (λ (p : Part). p ∷ rest (hole_count c)) (part_filled i c (first_type ps) (take (hole_count c) os) there)
-    ∙ (ap (λ (n : ℕ). written_part i (Some (first_type ps)) (take n os) ∷ rest n) many
-    ∙ ap (λ (r : List Part). written_part i (Some (first_type ps)) (take (tokens_holes f.1) os) ∷ r) (parts_left fs since is (rest_of ps) (drop (tokens_holes f.1) os) h.1))
+    let n = tokens_holes f.1 in
+    ap (λ (p : Part). p ∷ parts_in is (filled_arguments fs (rest_of ps) (drop n os) ++ blanks since)) (part_filled i f.1 (first_type ps) (take n os) h.0)
+    ∙ ap (λ (r : List Part). written_part i (Some (first_type ps)) (take n os) ∷ r) (parts_left fs since is (rest_of ps) (drop n os) h.1)
 
 pub parts_told : (calls : List Call) (is : List Image) → AreImages is (added_in calls) → parts_in is (after_calls [] calls) ≡ parts_given is (given_in (last_filling calls))
 parts_told calls is h =
@@ -90,9 +84,9 @@ image_at (i ∷ is) (x ∷ fs) (suc k) a j h e f = image_at is fs k a j h.1 e f
 -- slots of proper cells fit
 slots_fit : (c : List Cell) → Proper c → SlotsFit (plain c)
 slots_fit [] h = tt
-slots_fit (fixed x ∷ c) h = slots_fit c h
-slots_fit (hole_cell t s ∷ c) h = slots_fit c h.1
-slots_fit (slot_cell d cs s ∷ c) h = (h.1, slots_fit c h.2)
+slots_fit ((byte x, s) ∷ c) h = slots_fit c h.1
+slots_fit ((hole t, s) ∷ c) h = slots_fit c h.1
+slots_fit ((slot d cs, s) ∷ c) h = (h.0.1, slots_fit c h.1)
 
 slots_fit_at : (args : List Argument) (k : ℕ) (a : Framed) → Proper (all_tokens args) → slice_get (framed args) k ≡ Some a → SlotsFit a.1
 slots_fit_at [] k a h e = absurd cc

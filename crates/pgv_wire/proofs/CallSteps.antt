@@ -4,7 +4,7 @@ use Rattle.pgv_types.specs.Ty.{Ty}
 use Rattle.pgv_buf.specs.Tokens.{Token, blank}
 use Rattle.pgv_value.specs.Outcome.{Outcome, ok_of}
 use Rattle.pgv_value.specs.declared.error.CodecError.{CodecError}
-use Rattle.pgv_wire.specs.Arguments.{Argument, filled_arguments}
+use Rattle.pgv_wire.specs.Arguments.{Argument, framed, filled_arguments}
 use Rattle.pgv_wire.specs.EachAddition.{argument_by, added_by, accepted}
 use Rattle.pgv_wire.specs.History.{Call, adds, fills, is_refused, after_calls}
 use Rattle.pgv_wire.specs.MainSentence.{call_by, call_of, calls_of, AdditionIsAStep, RefusalIsAStep, EachOutcomeIsAStep, CallsAreJoined}
@@ -23,7 +23,7 @@ refusal_step e f t was now (inr (inr h)) n same = absurd (n h.0)
 pub calls_joined : CallsAreJoined
 calls_joined was [] more = refl
 calls_joined was (adds f ∷ calls) more = calls_joined (was ++ (f.0, blank f.1) ∷ []) calls more
-calls_joined was (fills ps os ∷ calls) more = calls_joined (filled_arguments was ps os) calls more
+calls_joined was (fills ps os ∷ calls) more = calls_joined (filled_arguments (framed was) ps os) calls more
 calls_joined was (is_refused ∷ calls) more = calls_joined was calls more
 
 module _ {X : Type 0} (framed_as : X → Outcome (List Token)) (typed_as : X → Ty) where

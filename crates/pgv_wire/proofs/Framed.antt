@@ -4,65 +4,37 @@ use Rattle.std.proofs.Common.{◌≡◌, ℕ, ◌+◌, List, [], ◌∷◌, ◌+
 use Rattle.std.proofs.lemmas.List.{length-map, map-append}
 use Rattle.pgv_types.specs.Ty.{Ty}
 use Rattle.pgv_types.specs.declared.oid.Oid.{Oid}
-use Rattle.pgv_buf.specs.Tokens.{Token, tokens_holes, Cell, fixed, hole_cell, slot_cell, be4, blank, plain, hole_count, slot_count, chosen}
+use Rattle.pgv_buf.specs.Tokens.{Token, byte, hole, slot, tokens_holes, tokens_slots, Cell, blank, plain, hole_count}
 use Rattle.pgv_buf.specs.Blank.{plain-append, plain-blank}
-use Rattle.pgv_buf.specs.Fill.{first_number, fill_holes, fill_slots}
+use Rattle.pgv_buf.specs.Fill.{filled_cells}
 use Rattle.pgv_buf.specs.Proper.{first_type, rest_of}
-use Rattle.pgv_buf.proofs.Patches.{holes_plain, slots_plain}
 use Rattle.pgv_wire.specs.Arguments.{Argument, Framed, framed, all_tokens, filled_frame, filled_arguments}
 use Rattle.pgv_wire.specs.History.{blanks, LastFilling, with_added, with_filled, left_by, joined_frames, LeftBySome}
 use Rattle.pgv_codec.specs.Encoding.{Encoding, Image, frame_of, frame}
 use Rattle.pgv_codec.specs.PartBackLemmas.{frame_parts}
 use Rattle.pgv_wire.specs.ArgumentParts.{AreImages, OfImages}
 
-pub framed-filled : (args : List Argument) (ps : List Ty) (os : List Oid) → framed (filled_arguments args ps os) ≡ framed args
+plain-filled : (ps : List Ty) (os : List Oid) (f : List Token) → plain (filled_cells ps os f) ≡ f
+plain-filled ps os [] = refl
+plain-filled ps os (byte x ∷ f) = ap (λ r. byte x ∷ r) (plain-filled ps os f)
+plain-filled ps os (hole t ∷ f) = ap (λ r. hole t ∷ r) (plain-filled ps (rest_of os) f)
+plain-filled ps os (slot d cs ∷ f) = ap (λ r. slot d cs ∷ r) (plain-filled (rest_of ps) os f)
+
+pub framed-filled : (fs : List Framed) (ps : List Ty) (os : List Oid) → framed (filled_arguments fs ps os) ≡ fs
 framed-filled [] ps os = refl
-framed-filled (a ∷ args) ps os =
-    ap (λ (f : List Token). (a.0, f) ∷ framed (filled_arguments args (rest_of ps) (drop (hole_count a.1) os))) (slots_plain (replicate (slot_count a.1) (first_type ps)) (fill_holes (take (hole_count a.1) os) a.1) ∙ holes_plain (take (hole_count a.1) os) a.1)
-    ∙ ap (λ (r : List Framed). (a.0, plain a.1) ∷ r) (framed-filled args (rest_of ps) (drop (hole_count a.1) os))
+framed-filled (f ∷ fs) ps os =
+    let n : ℕ = tokens_holes f.1 in
+    ap (λ (t : List Token). (f.0, t) ∷ framed (filled_arguments fs (rest_of ps) (drop n os))) (plain-filled (replicate (tokens_slots f.1) (first_type ps)) (take n os) f.1)
+    ∙ ap (λ (r : List Framed). (f.0, f.1) ∷ r) (framed-filled fs (rest_of ps) (drop n os))
 
 pub framed-blanks : (fs : List Framed) → framed (blanks fs) ≡ fs
 framed-blanks [] = refl
 framed-blanks (f ∷ fs) = ap (λ (t : List Token). (f.0, t) ∷ framed (blanks fs)) (plain-blank f.1) ∙ ap (λ (r : List Framed). (f.0, f.1) ∷ r) (framed-blanks fs)
 
--- a filling sees nothing of what was shown
-
-filled-same : (ps : List Ty) (os : List Oid) (a : List Cell) → fill_slots ps (fill_holes os a) ≡ fill_slots ps (fill_holes os (blank (plain a)))
-filled-same ps os [] = refl
-filled-same ps os (fixed x ∷ a) = ap (λ r. fixed x ∷ r) (filled-same ps os a)
-filled-same ps os (hole_cell t s ∷ a) = ap (λ r. hole_cell t (be4 (first_number os)) ∷ r) (filled-same ps (rest_of os) a)
-filled-same ps os (slot_cell d cs s ∷ a) = ap (λ r. slot_cell d cs (chosen (first_type ps) d cs) ∷ r) (filled-same (rest_of ps) os a)
-
-holes-same : (a : List Cell) → hole_count (blank (plain a)) ≡ hole_count a
-holes-same [] = refl
-holes-same (fixed x ∷ a) = holes-same a
-holes-same (hole_cell t s ∷ a) = ap (λ n. 1 + n) (holes-same a)
-holes-same (slot_cell d cs s ∷ a) = holes-same a
-
-slots-same : (a : List Cell) → slot_count (blank (plain a)) ≡ slot_count a
-slots-same [] = refl
-slots-same (fixed x ∷ a) = slots-same a
-slots-same (hole_cell t s ∷ a) = slots-same a
-slots-same (slot_cell d cs s ∷ a) = ap (λ n. 1 + n) (slots-same a)
-
-frame-same : (p : Ty) (os : List Oid) (a : List Cell) → filled_frame p os a ≡ filled_frame p os (blank (plain a))
-frame-same p os a =
-    filled-same (replicate (slot_count a) p) os a ∙ ap (λ n. fill_slots (replicate n p) (fill_holes os (blank (plain a)))) (sym (slots-same a))
-
-pub arguments-same : (args : List Argument) (ps : List Ty) (os : List Oid) → filled_arguments args ps os ≡ filled_arguments (blanks (framed args)) ps os
-arguments-same [] ps os = refl
-arguments-same (a ∷ args) ps os =
-    let n = hole_count a.1 in
-    let m = hole_count (blank (plain a.1)) in
-    let rest : ℕ → List Argument = λ k. filled_arguments (blanks (framed args)) (rest_of ps) (drop k os) in
-    ap (λ (r : List Argument). (a.0, filled_frame (first_type ps) (take n os) a.1) ∷ r) (arguments-same args (rest_of ps) (drop n os))
-    ∙ (ap (λ (f : List Cell). (a.0, f) ∷ rest n) (frame-same (first_type ps) (take n os) a.1)
-    ∙ ap (λ (k : ℕ). (a.0, filled_frame (first_type ps) (take k os) (blank (plain a.1))) ∷ rest k) (sym (holes-same a.1)))
-
-framed-stands : (a s : List Framed) (ps : List Ty) (os : List Oid) → framed (filled_arguments (blanks a) ps os ++ blanks s) ≡ a ++ s
+framed-stands : (a s : List Framed) (ps : List Ty) (os : List Oid) → framed (filled_arguments a ps os ++ blanks s) ≡ a ++ s
 framed-stands a s ps os =
-    map-append (λ (x : Argument). (x.0, plain x.1)) (filled_arguments (blanks a) ps os) (blanks s)
-    ∙ (ap (λ r. r ++ framed (blanks s)) (framed-filled (blanks a) ps os ∙ framed-blanks a) ∙ ap (λ r. a ++ r) (framed-blanks s))
+    map-append (λ (x : Argument). (x.0, plain x.1)) (filled_arguments a ps os) (blanks s)
+    ∙ (ap (λ r. r ++ framed (blanks s)) (framed-filled a ps os) ∙ ap (λ r. a ++ r) (framed-blanks s))
 
 pub joined-plain : (args : List Argument) → plain (all_tokens args) ≡ joined_frames (framed args)
 joined-plain [] = refl
@@ -72,17 +44,14 @@ joined-plain (a ∷ args) = plain-append a.1 (all_tokens args) ∙ ap (λ (r : L
 
 pub left-added : (args : List Argument) (h : LastFilling) (f : Framed) → args ≡ left_by h → args ++ (f.0, blank f.1) ∷ [] ≡ left_by (with_added h f)
 left-added args h f e =
-    let a : List Argument = filled_arguments (blanks h.filled) h.types h.oids in
+    let a : List Argument = filled_arguments h.filled h.types h.oids in
     ap (λ (r : List Argument). r ++ (f.0, blank f.1) ∷ []) e ∙ (append_assoc a (blanks h.since) ((f.0, blank f.1) ∷ []) ∙ ap (λ r. a ++ r) (sym (map-append (λ (x : Framed). (x.0, blank x.1)) h.since (f ∷ []))))
-
-pub left-filled : (args : List Argument) (h : LastFilling) (ps : List Ty) (os : List Oid) → args ≡ left_by h → filled_arguments args ps os ≡ left_by (with_filled h ps os)
-left-filled args h ps os e =
-    arguments-same args ps os
-    ∙ (ap (λ r. filled_arguments (blanks (framed r)) ps os) e
-    ∙ (ap (λ f. filled_arguments (blanks f) ps os) (framed-stands h.filled h.since h.types h.oids) ∙ sym (append-nil (filled_arguments (blanks (h.filled ++ h.since)) ps os))))
 
 pub framed-left : (args : List Argument) (h : LastFilling) → args ≡ left_by h → framed args ≡ h.filled ++ h.since
 framed-left args h e = ap framed e ∙ framed-stands h.filled h.since h.types h.oids
+
+pub left-filled : (args : List Argument) (h : LastFilling) (ps : List Ty) (os : List Oid) → args ≡ left_by h → filled_arguments (framed args) ps os ≡ left_by (with_filled h ps os)
+left-filled args h ps os e = ap (λ f. filled_arguments f ps os) (framed-left args h e) ∙ sym (append-nil (filled_arguments (h.filled ++ h.since) ps os))
 
 -- one more after the others
 pub left_more : (args : List Argument) (f : Framed) → LeftBySome args → LeftBySome (args ++ (f.0, blank f.1) ∷ [])
@@ -96,7 +65,7 @@ left_more args f l = (
 )
 
 -- all filled
-pub left_filled : (args : List Argument) (ps : List Ty) (os : List Oid) → length ps ≡ length args → length os ≡ hole_count (all_tokens args) → LeftBySome args → LeftBySome (filled_arguments args ps os)
+pub left_filled : (args : List Argument) (ps : List Ty) (os : List Oid) → length ps ≡ length args → length os ≡ hole_count (all_tokens args) → LeftBySome args → LeftBySome (filled_arguments (framed args) ps os)
 left_filled args ps os n m l =
     let fs : framed args ≡ l.0.filled ++ l.0.since = framed-left args l.0 l.1.arguments_are in (
       with_filled l.0 ps os,
@@ -132,5 +101,5 @@ images_more args f h k = (
 )
 
 -- a filling changes none
-pub images_filled : (args : List Argument) (ps : List Ty) (os : List Oid) → OfImages args → OfImages (filled_arguments args ps os)
-images_filled args ps os h = (h.0, subst (λ (fs : List Framed). AreImages h.0 fs) (sym (framed-filled args ps os)) h.1)
+pub images_filled : (args : List Argument) (ps : List Ty) (os : List Oid) → OfImages args → OfImages (filled_arguments (framed args) ps os)
+images_filled args ps os h = (h.0, subst (λ (fs : List Framed). AreImages h.0 fs) (sym (framed-filled (framed args) ps os)) h.1)

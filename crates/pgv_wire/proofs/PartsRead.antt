@@ -1,10 +1,11 @@
 -- The frames of arguments, read one after another.
-use Rattle.std.proofs.Common.{◌≡◌, ℕ, suc, arith, List, [], ◌∷◌, ◌++◌, length, take, drop, Some, None, Ok, refl, sym, ◌∙◌, ap, subst}
+use Rattle.std.proofs.Common.{◌≡◌, ℕ, suc, arith, List, [], ◌∷◌, ◌++◌, length, take, drop, Some, None, Ok, refl, sym, ◌∙◌, ap, length-drop}
+use Rattle.std.proofs.lemmas.List.{take-append-drop, nil_from_length}
 use Rattle.std.specs.Int.{w32, to_be_bytes}
 use Rattle.pgv_types.specs.Ty.{Ty}
 use Rattle.pgv_types.specs.declared.oid.Oid.{Oid}
 use Rattle.pgv_buf.specs.Proper.{Proper, Proper-front, Proper-back, first_type, shown-append, length_shown, rest_of}
-use Rattle.pgv_buf.specs.Tokens.{Token, bytes, be4, tokens_width, tokens_holes, Cell, plain, shown, hole_count, slot_count}
+use Rattle.pgv_buf.specs.Tokens.{Token, byte, hole, slot, bytes, be4, tokens_width, tokens_holes, tokens_slots, Cell, plain, shown}
 use Rattle.pgv_value.specs.FrameBinary.{Part, front}
 use Rattle.pgv_value.proofs.Fronts.{frame_in_front}
 use Rattle.pgv_value.proofs.Outcomes.{answer_is}
@@ -14,26 +15,40 @@ use Rattle.pgv_codec.specs.Encoding.{Image, null_image, image_of, frame_of}
 use Rattle.pgv_wire.specs.ArgumentParts.{ReadAs, AreImages, OfImages, AllRead, part_in, parts_in, written_parts}
 use Rattle.pgv_codec.specs.Writing.{written_part, image_holes}
 use Rattle.pgv_wire.proofs.ArgumentLists.{shown-frame}
-use Rattle.pgv_wire.proofs.Histories.{shown_plain}
-use Rattle.pgv_wire.proofs.Split.{after_bytes, cut}
+use Rattle.pgv_wire.proofs.Split.{cut}
+
+-- proper cells show the bytes that they begin with
+shown_front : (xs : List ℕ) (ts : List Token) (c : List Cell) → Proper c → plain c ≡ bytes xs ++ ts → take (length xs) (shown c) ≡ xs
+shown_front [] ts c p e = refl
+shown_front (x ∷ xs) ts [] p e = absurd cc
+shown_front (x ∷ xs) ts ((byte y, s) ∷ c) p e =
+    let head : y ≡ x = cc in
+    let tail : plain c ≡ bytes xs ++ ts = cc in
+    rw p.0 (ap (λ (n : ℕ). n ∷ take (length xs) (shown c)) head ∙ ap (λ (r : List ℕ). x ∷ r) (shown_front xs ts c p.1 tail))
+shown_front (x ∷ xs) ts ((hole t, s) ∷ c) p e = absurd cc
+shown_front (x ∷ xs) ts ((slot d cs, s) ∷ c) p e = absurd cc
+
+-- so they are the length and the others
+headed : (n : ℕ) (ts : List Token) (c : List Cell) → Proper c → plain c ≡ bytes (be4 n) ++ ts → (shown c ≡ be4 n ++ drop 4 (shown c)) × (length (drop 4 (shown c)) ≡ tokens_width ts)
+headed n ts c p e =
+    let wide : length (shown c) ≡ 4 + tokens_width ts = length_shown c p ∙ ap tokens_width e in (
+      sym (take-append-drop 4 (shown c)) ∙ ap (λ (r : List ℕ). r ++ drop 4 (shown c)) (shown_front (be4 n) ts c p e),
+      omega (arith, wide, length-drop 4 (shown c)),
+    )
 
 -- one frame is found in front
 frame_found : (i : Image) (c : List Cell) (rest : List ℕ) → (frame_of i).answer ≡ Ok (plain c) → Proper c → front (shown c ++ rest) ≡ Some (part_in i c, rest)
 frame_found null_image c rest e p =
-    let tokens : plain c ≡ bytes (255 ∷ 255 ∷ 255 ∷ 255 ∷ []) = sym (answer_is (bytes (be4 4294967295)) (plain c) e) in
-    frame_in_front (shown c ++ rest) None rest (ap (λ (r : List ℕ). r ++ rest) (shown_plain c (255 ∷ 255 ∷ 255 ∷ 255 ∷ []) tokens))
+    let h = headed 4294967295 [] c p (sym (answer_is (bytes (be4 4294967295)) (plain c) e)) in
+    let none : drop 4 (shown c) ≡ [] = nil_from_length h.1 in
+    frame_in_front (shown c ++ rest) None rest (ap (λ (r : List ℕ). r ++ rest) (h.0 ∙ ap (λ (r : List ℕ). be4 4294967295 ++ r) none))
 frame_found (image_of ts) c rest e p =
     let k = cut ts (plain c) e in
-    let b = after_bytes (be4 (tokens_width ts)) ts c k.1 in
-    let q : Proper b.cells = subst (λ (r : List Cell). Proper r) b.whole p in
-    let len : length (shown b.cells) ≡ tokens_width ts = length_shown b.cells q ∙ ap tokens_width b.tokens in
-    let bytes_are : shown c ≡ be4 (tokens_width ts) ++ shown b.cells = ap shown b.whole in
-    let found : front (shown c ++ rest) ≡ Some (Some (shown b.cells), rest) =
-    frame_in_front (shown c ++ rest) (Some (shown b.cells)) rest (
-      omega (arith, len, k.0),
-      ap (λ (r : List ℕ). r ++ rest) bytes_are ∙ ap (λ n. to_be_bytes w32 n ++ (shown b.cells ++ rest)) (sym len),
-    ) in
-    found ∙ ap (λ (r : List ℕ). Some (Some r, rest)) (sym (ap (drop 4) bytes_are))
+    let h = headed (tokens_width ts) ts c p k.1 in
+    frame_in_front (shown c ++ rest) (Some (drop 4 (shown c))) rest (
+      omega (arith, h.1, k.0),
+      ap (λ (r : List ℕ). r ++ rest) h.0 ∙ ap (λ n. to_be_bytes w32 n ++ (drop 4 (shown c) ++ rest)) (sym h.1),
+    )
 
 pub frames_read : (args : List Argument) (is : List Image) → AreImages is (framed args) → Proper (all_tokens args) → ReadAs (shown (all_tokens args)) (parts_in is args) []
 frames_read [] [] h p = refl
@@ -87,26 +102,22 @@ same_images (i ∷ is) (j ∷ js) (f ∷ fs) h k = ap (λ n. n ∷ is) (one_imag
 
 -- ---- after a filling
 
-pub part_filled : (i : Image) (c : List Cell) (p : Ty) (os : List Oid) → (frame_of i).answer ≡ Ok (plain c) → part_in i (filled_frame p os c) ≡ written_part i (Some p) os
-part_filled null_image c p os e = refl
-part_filled (image_of ts) c p os e =
-    let k = cut ts (plain c) e in
-    ap (λ (r : List ℕ). let q : Part = Some (drop 4 r) in q) (shown-frame (slot_count c) p os c refl ∙ ap (λ (r : List Token). write (Some p) os r) k.1)
+pub part_filled : (i : Image) (f : List Token) (p : Ty) (os : List Oid) → (frame_of i).answer ≡ Ok f → part_in i (filled_frame p os f) ≡ written_part i (Some p) os
+part_filled null_image f p os e = refl
+part_filled (image_of ts) f p os e =
+    let k = cut ts f e in
+    ap (λ (r : List ℕ). let q : Part = Some (drop 4 r) in q) (shown-frame (tokens_slots f) p os f refl ∙ ap (λ (r : List Token). write (Some p) os r) k.1)
 
-holes_are : (i : Image) (c : List Cell) → (frame_of i).answer ≡ Ok (plain c) → hole_count c ≡ image_holes i
-holes_are null_image c e =
-    let tokens : plain c ≡ bytes (255 ∷ 255 ∷ 255 ∷ 255 ∷ []) = sym (answer_is (bytes (be4 4294967295)) (plain c) e) in
-    ap tokens_holes tokens
-holes_are (image_of ts) c e =
-    let k = cut ts (plain c) e in
-    ap tokens_holes k.1
+holes_are : (i : Image) (f : List Token) → (frame_of i).answer ≡ Ok f → tokens_holes f ≡ image_holes i
+holes_are null_image f e = ap tokens_holes (sym (answer_is (bytes (be4 4294967295)) f e))
+holes_are (image_of ts) f e = ap tokens_holes (cut ts f e).1
 
-pub parts_filled : (args : List Argument) (is : List Image) (ps : List Ty) (os : List Oid) → AreImages is (framed args) → parts_in is (filled_arguments args ps os) ≡ written_parts is ps os
+pub parts_filled : (fs : List Framed) (is : List Image) (ps : List Ty) (os : List Oid) → AreImages is fs → parts_in is (filled_arguments fs ps os) ≡ written_parts is ps os
 parts_filled [] [] ps os h = refl
 parts_filled [] (i ∷ is) ps os h = absurd h
-parts_filled (a ∷ args) [] ps os h = absurd h
-parts_filled (a ∷ args) (i ∷ is) ps os h =
-    let n = hole_count a.1 in
-    ap (λ (p : Part). p ∷ parts_in is (filled_arguments args (rest_of ps) (drop n os))) (part_filled i a.1 (first_type ps) (take n os) h.0)
-    ∙ (ap (λ (r : List Part). written_part i (Some (first_type ps)) (take n os) ∷ r) (parts_filled args is (rest_of ps) (drop n os) h.1)
-    ∙ ap (λ (m : ℕ). written_part i (Some (first_type ps)) (take m os) ∷ written_parts is (rest_of ps) (drop m os)) (holes_are i a.1 h.0))
+parts_filled (f ∷ fs) [] ps os h = absurd h
+parts_filled (f ∷ fs) (i ∷ is) ps os h =
+    let n = tokens_holes f.1 in
+    ap (λ (p : Part). p ∷ parts_in is (filled_arguments fs (rest_of ps) (drop n os))) (part_filled i f.1 (first_type ps) (take n os) h.0)
+    ∙ (ap (λ (r : List Part). written_part i (Some (first_type ps)) (take n os) ∷ r) (parts_filled fs is (rest_of ps) (drop n os) h.1)
+    ∙ ap (λ (m : ℕ). written_part i (Some (first_type ps)) (take m os) ∷ written_parts is (rest_of ps) (drop m os)) (holes_are i f.1 h.0))

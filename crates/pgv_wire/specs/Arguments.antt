@@ -5,8 +5,8 @@ use Rattle.std.specs.Prelude.{◌≡◌, ℕ, List, [], ◌∷◌, ◌++◌, map
 use Rattle.std.specs.List.{flat_map}
 use Rattle.pgv_types.specs.Ty.{Ty}
 use Rattle.pgv_types.specs.declared.oid.Oid.{Oid}
-use Rattle.pgv_buf.specs.Tokens.{Token, tokens_holes, Cell, blank, plain, hole_count, slot_count}
-use Rattle.pgv_buf.specs.Fill.{fill_holes, fill_slots}
+use Rattle.pgv_buf.specs.Tokens.{Token, tokens_holes, tokens_slots, Cell, blank, plain, slot_count}
+use Rattle.pgv_buf.specs.Fill.{filled_cells}
 use Rattle.pgv_buf.specs.Proper.{first_type, rest_of}
 use Rattle.pgv_value.specs.Outcome.{Outcome, Fails, after}
 use Rattle.pgv_value.specs.declared.error.CodecError.{CodecError}
@@ -39,13 +39,14 @@ abbrev pub early : List Framed → List Ty → List Oid → List ℕ
 early [] ps os = []
 early (a ∷ args) ps os = write (Some (first_type ps)) (take (tokens_holes a.1) os) a.1 ++ early args (rest_of ps) (drop (tokens_holes a.1) os)
 
--- a frame, with these shown
-abbrev pub filled_frame : Ty → List Oid → List Cell → List Cell
-filled_frame p os ts = fill_slots (replicate (slot_count ts) p) (fill_holes os ts)
+-- a frame that shows what it is written as
+abbrev pub filled_frame : Ty → List Oid → List Token → List Cell
+filled_frame p os f = filled_cells (replicate (tokens_slots f) p) os f
 
-abbrev pub filled_arguments : List Argument → List Ty → List Oid → List Argument
+-- so each frame, with its own parameter type and its share of the OIDs
+abbrev pub filled_arguments : List Framed → List Ty → List Oid → List Argument
 filled_arguments [] ps os = []
-filled_arguments (a ∷ args) ps os = (a.0, filled_frame (first_type ps) (take (hole_count a.1) os) a.1) ∷ filled_arguments args (rest_of ps) (drop (hole_count a.1) os)
+filled_arguments (f ∷ fs) ps os = (f.0, filled_frame (first_type ps) (take (tokens_holes f.1) os) f.1) ∷ filled_arguments fs (rest_of ps) (drop (tokens_holes f.1) os)
 
 -- an argument is added at the end, not yet filled
 abbrev pub Added : Outcome (List Token) → Ty → List Argument → List Argument → Type 0

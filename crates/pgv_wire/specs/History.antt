@@ -25,7 +25,7 @@ blanks = map (λ f. (f.0, blank f.1))
 abbrev pub after_calls : List Argument → List Call → List Argument
 after_calls args [] = args
 after_calls args (adds f ∷ calls) = after_calls (args ++ (f.0, blank f.1) ∷ []) calls
-after_calls args (fills ps os ∷ calls) = after_calls (filled_arguments args ps os) calls
+after_calls args (fills ps os ∷ calls) = after_calls (filled_arguments (framed args) ps os) calls
 after_calls args (is_refused ∷ calls) = after_calls args calls
 
 -- the arguments at the last filling, what it was given, and those added since
@@ -56,7 +56,7 @@ bytes_by h = early h.filled h.types h.oids ++ shown (all_tokens (blanks h.since)
 
 -- the arguments: those at the last filling as it left them, and the others blank
 abbrev pub left_by : LastFilling → List Argument
-left_by h = filled_arguments (blanks h.filled) h.types h.oids ++ blanks h.since
+left_by h = filled_arguments h.filled h.types h.oids ++ blanks h.since
 
 -- the accepted additions, in order, whatever was filled or refused between
 abbrev pub added_in : List Call → List Framed

@@ -19,7 +19,7 @@ use Rattle.pgv_value.specs.declared.error.CodecError.TheVariants.{Memory}
 use Rattle.pgv_value.specs.declared.value.PgValueFormat.TheVariants.{Binary}
 use Rattle.pgv_codec.specs.Back.{AreOids}
 use Rattle.pgv_codec.specs.Encoding.{Encoding, Image, frame, value_type}
-use Rattle.pgv_wire.specs.Arguments.{Argument, Framed, Added, argument_frame, all_tokens, filled_arguments}
+use Rattle.pgv_wire.specs.Arguments.{Argument, Framed, framed, Added, argument_frame, all_tokens, filled_arguments}
 use Rattle.pgv_wire.specs.EachAddition.{Answered, accepted}
 use Rattle.pgv_wire.specs.Given.{LastGiven, given_in}
 use Rattle.pgv_wire.specs.History.{Call, adds, fills, is_refused, added_in, after_calls, bytes_by, last_filling}
@@ -46,7 +46,7 @@ abbrev pub UnchangedIsAStep : Type 0
 UnchangedIsAStep = (was now : List Argument) → now ≡ was → now ≡ after_calls was (is_refused ∷ [])
 
 abbrev pub FillingIsAStep : Type 0
-FillingIsAStep = (was : List Argument) (ps : List Ty) (os : List Oid) → filled_arguments was ps os ≡ after_calls was (fills ps os ∷ [])
+FillingIsAStep = (was : List Argument) (ps : List Ty) (os : List Oid) → filled_arguments (framed was) ps os ≡ after_calls was (fills ps os ∷ [])
 
 module _ {X : Type 0} (framed_as : X → Outcome (List Token)) (typed_as : X → Ty) where
   -- an addition of each value, with its outcome

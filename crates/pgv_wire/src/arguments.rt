@@ -211,7 +211,8 @@ impl PgArguments {
         ensures parameters { length types.now ≢ length self.old → IsErrOf result ParameterCount }
         ensures holes { length types.now ≡ length self.old
             → length oids.now ≢ hole_count (all_tokens self.old) → IsErrOf result HoleCount }
-        ensures filled { OnOk result (self.new ≡ filled_arguments self.old types.now oids.now) }
+        ensures filled { OnOk result (self.new
+            ≡ filled_arguments (framed self.old) types.now oids.now) }
         ensures written { OnOk result (shown (all_tokens self.new)
             ≡ early (framed self.old) types.now oids.now) }
         ensures unchanged { OnErr result (self.new ≡ self.old) }

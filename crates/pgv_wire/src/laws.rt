@@ -62,15 +62,16 @@ pub fn history()
 /// A second filling leaves the same arguments as if it were the only one.
 #[tactic(auto, using(crate::proofs::Histories::filled_over))]
 pub fn filled_again()
-    ensures { (args : List Argument) (ps ps' : List Ty) (os os' : List Oid)
-        → filled_arguments (filled_arguments args ps os) ps' os' ≡ filled_arguments args ps' os' }
+    ensures { (fs : List Framed) (ps ps' : List Ty) (os os' : List Oid)
+        → filled_arguments (framed (filled_arguments fs ps os)) ps' os'
+            ≡ filled_arguments fs ps' os' }
 {}
 
 /// A filling changes the length of no frame.
 #[tactic(auto, using(crate::proofs::Histories::lengths_kept))]
 pub fn lengths_stay()
     ensures { (args : List Argument) (ps : List Ty) (os : List Oid)
-        → lengths_in (filled_arguments args ps os) ≡ lengths_in args }
+        → lengths_in (filled_arguments (framed args) ps os) ≡ lengths_in args }
 {}
 
 /// After any calls, the frames, the types, the holes and the length of the bytes are those of the accepted additions in
@@ -136,9 +137,8 @@ pub fn one_image()
 /// with the OIDs of its own holes.
 #[tactic(auto, using(crate::proofs::PartsRead::parts_filled))]
 pub fn parts_written()
-    ensures { (args : List Argument) (is : List Image) (ps : List Ty) (os : List Oid)
-        → AreImages is (framed args) → parts_in is (filled_arguments args ps os)
-        ≡ written_parts is ps os }
+    ensures { (fs : List Framed) (is : List Image) (ps : List Ty) (os : List Oid)
+        → AreImages is fs → parts_in is (filled_arguments fs ps os) ≡ written_parts is ps os }
 {}
 
 /// After any calls, the parts of the arguments are what their images are written as, each with what its argument was

@@ -1,5 +1,3 @@
-use Rattle.std.proofs.Common.{◌++◌, ◌∙◌, sym, ap}
-use Rattle.pgv_buf.specs.Blank.{blank-bytes}
 use Rattle.pgv_buf.proofs.Layouts.{held, valid, tokens_are}
 use Rattle.pgv_buf.proofs.CellSteps.{bytes_joined}
 use Rattle.pgv_buf.proofs.tokens.Tokens.extend_from_slice.Goals as goal
@@ -8,6 +6,4 @@ pub invariant_of-self-2 : goal.invariant_of-self-2
 invariant_of-self-2 c = valid (bytes_joined (held c.args.self.now c.self.invariant c.self.view_is) c.args.values.now _ c.in_ok-extend_from_slice.ensures.items)
 
 pub returns-clause-ok : goal.returns-clause-ok
-returns-clause-ok c =
-    tokens_are (bytes_joined (held c.args.self.now c.self.invariant c.self.view_is) c.args.values.now _ c.in_ok-extend_from_slice.ensures.items)
-    ∙ ap (λ r. c.args.self.now ++ r) (sym (blank-bytes c.args.values.now))
+returns-clause-ok c = tokens_are (bytes_joined (held c.args.self.now c.self.invariant c.self.view_is) c.args.values.now _ c.in_ok-extend_from_slice.ensures.items)

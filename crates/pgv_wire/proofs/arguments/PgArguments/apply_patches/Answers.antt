@@ -1,8 +1,8 @@
 use Rattle.std.proofs.Common.{ℕ, List, ◌∙◌, sym, ap, length, sum, arith}
 use Rattle.std.proofs.lemmas.List.{length-map}
-use Rattle.pgv_buf.specs.Tokens.{hole_count, slot_count, shown}
-use Rattle.pgv_buf.specs.Fill.{fill_slots, fill_holes, slot_types}
-use Rattle.pgv_wire.specs.Arguments.{Argument, all_tokens, counts_in}
+use Rattle.pgv_buf.specs.Tokens.{plain, hole_count, slot_count, shown}
+use Rattle.pgv_buf.specs.Fill.{filled_cells, slot_types}
+use Rattle.pgv_wire.specs.Arguments.{Argument, framed, all_tokens, counts_in}
 use Rattle.pgv_wire.proofs.Counts.{fewer_kept, slots_counted}
 use Rattle.pgv_wire.proofs.ArgumentLists.{stands, arguments_are, held, all_filled, late_is_early, sum-counts_in}
 use Rattle.pgv_wire.proofs.arguments.PgArguments.apply_patches.Goals as goal
@@ -23,12 +23,12 @@ fill-requires-clause-holes c =
     c.if-oids-holes.false ∙ (c.holes.ensures ∙ sym (ap hole_count s.tokens_are))
 
 pub invariant_of-self : goal.invariant_of-self
-invariant_of-self c = stands (all_filled (held c.args.self.now c.self.invariant c.self.view_is) c.args.types.now c.args.oids.now _ (c.if-types-len.false ∙ c.len.ensures) (c.if-oids-holes.false ∙ c.holes.ensures) (c.fill.ensures ∙ ap (λ (n : List ℕ). fill_slots (slot_types c.args.types.now n) (fill_holes c.args.oids.now c.self.inside.buffer)) c.as_slice.ensures.value))
+invariant_of-self c = stands (all_filled (held c.args.self.now c.self.invariant c.self.view_is) c.args.types.now c.args.oids.now _ (c.if-types-len.false ∙ c.len.ensures) (c.if-oids-holes.false ∙ c.holes.ensures) (c.fill.ensures ∙ ap (λ (n : List ℕ). filled_cells (slot_types c.args.types.now n) c.args.oids.now (plain c.self.inside.buffer)) c.as_slice.ensures.value))
 
 pub returns-clause-filled : goal.returns-clause-filled
-returns-clause-filled c = arguments_are (all_filled (held c.args.self.now c.self.invariant c.self.view_is) c.args.types.now c.args.oids.now _ (c.if-types-len.false ∙ c.len.ensures) (c.if-oids-holes.false ∙ c.holes.ensures) (c.fill.ensures ∙ ap (λ (n : List ℕ). fill_slots (slot_types c.args.types.now n) (fill_holes c.args.oids.now c.self.inside.buffer)) c.as_slice.ensures.value))
+returns-clause-filled c = arguments_are (all_filled (held c.args.self.now c.self.invariant c.self.view_is) c.args.types.now c.args.oids.now _ (c.if-types-len.false ∙ c.len.ensures) (c.if-oids-holes.false ∙ c.holes.ensures) (c.fill.ensures ∙ ap (λ (n : List ℕ). filled_cells (slot_types c.args.types.now n) c.args.oids.now (plain c.self.inside.buffer)) c.as_slice.ensures.value))
 
 pub returns-clause-written : goal.returns-clause-written
 returns-clause-written c =
-    ap (λ a. shown (all_tokens a)) (arguments_are (all_filled (held c.args.self.now c.self.invariant c.self.view_is) c.args.types.now c.args.oids.now _ (c.if-types-len.false ∙ c.len.ensures) (c.if-oids-holes.false ∙ c.holes.ensures) (c.fill.ensures ∙ ap (λ (n : List ℕ). fill_slots (slot_types c.args.types.now n) (fill_holes c.args.oids.now c.self.inside.buffer)) c.as_slice.ensures.value)))
-    ∙ late_is_early c.args.self.now c.args.types.now c.args.oids.now
+    ap (λ a. shown (all_tokens a)) (arguments_are (all_filled (held c.args.self.now c.self.invariant c.self.view_is) c.args.types.now c.args.oids.now _ (c.if-types-len.false ∙ c.len.ensures) (c.if-oids-holes.false ∙ c.holes.ensures) (c.fill.ensures ∙ ap (λ (n : List ℕ). filled_cells (slot_types c.args.types.now n) c.args.oids.now (plain c.self.inside.buffer)) c.as_slice.ensures.value)))
+    ∙ late_is_early (framed c.args.self.now) c.args.types.now c.args.oids.now
