@@ -68,7 +68,7 @@ pub use Rattle.pgv_copy.specs.CopyPieces.{Advances, next_of, with_more}
 -- Of arguments: their buffer, their types, and type and frame of each. `early (framed a) types oids` are the bytes of
 -- these frames, written with types and OIDs from the start. `Adds frame type old new result`: what `add` has put after
 -- what was there (`Added`), or why not; `argument_frame encoding` is the frame of an argument.
-pub use Rattle.pgv_wire.specs.Arguments.{Added, Adds, Argument, argument_frame, all_tokens, types_in, framed, early}
+pub use Rattle.pgv_wire.specs.Arguments.{Added, Adds, Argument, argument_frame, all_cells, types_in, framed, early}
 -- `hole_types_of cells` are the types whose OIDs are missing, and `oid_of type` is the OID that a type has.
 pub use Rattle.pgv_buf.specs.Tokens.{hole_types_of}
 pub use Rattle.pgv_types.specs.Facts.{oid_of}

@@ -12,8 +12,8 @@ use Rattle.pgv_buf.specs.Tokens.{tokens_hole_types, byte, bytes, Token, Cell, fi
 use Rattle.pgv_buf.specs.Blank.{plain-blank}
 use Rattle.pgv_buf.specs.Marks.{mark_of}
 use Rattle.pgv_buf.specs.Proper.{Proper}
-use Rattle.pgv_buf.specs.Layout.{is_hole, is_slot, places, last_from, Kept, slots_of, Layout, Represents, Valid, tokens_of}
-use Rattle.pgv_buf.proofs.Layouts.{joined, tokens_are, valid, cut, cut_layout, same_layout, last_before, wide, with_more, length-holes, length-slot_places}
+use Rattle.pgv_buf.specs.Layout.{is_hole, is_slot, places, last_from, Kept, slots_of, Layout, Represents, Valid, cells_of}
+use Rattle.pgv_buf.proofs.Layouts.{joined, cells_are, valid, cut, cut_layout, same_layout, last_before, wide, with_more, length-holes, length-slot_places}
 
 pub none_kept : Represents [] [] (record { holes = []; types = []; slot_places = []; slots = [] })
 none_kept = record { bytes_are = refl; layout_is = refl; proper = tt }
@@ -123,8 +123,8 @@ pub none_valid : (b ps qs : List ℕ) (hs : List Ty) (ss : List Slot) → b ≡ 
 none_valid b ps qs hs ss e f g h k = rw (e, f, g, h, k) (valid none_kept)
 
 pub none_seen : (b ps qs : List ℕ) (hs : List Ty) (ss : List Slot) → b ≡ [] → ps ≡ [] → hs ≡ [] → qs ≡ [] → ss ≡ [] →
-    tokens_of b (record { holes = ps; types = hs; slot_places = qs; slots = map kept_of ss }) ≡ []
-none_seen b ps qs hs ss e f g h k = rw (e, f, g, h, k) (tokens_are none_kept)
+    cells_of b (record { holes = ps; types = hs; slot_places = qs; slots = map kept_of ss }) ≡ []
+none_seen b ps qs hs ss e f g h k = rw (e, f, g, h, k) (cells_are none_kept)
 
 -- ---- clones of what is kept
 

@@ -6,7 +6,7 @@ use Rattle.pgv_types.specs.Ty.{Ty}
 use Rattle.pgv_buf.specs.Tokens.{token_width, tokens_hole_types, tokens_holes, tokens_slots, Token, byte, hole, slot, tokens_width, Cell, plain, shown, width, hole_count, slot_count}
 use Rattle.pgv_buf.specs.Blank.{plain-append}
 use Rattle.pgv_buf.specs.Proper.{Proper, Proper-append, Proper-front, shown-append, length_of_shown, length_shown, length-hole_types, length-hole_types_of}
-use Rattle.pgv_buf.specs.Layout.{is_hole, is_slot, if_so, places, last_from, Kept, slots_of, Layout, layout_of, first_at, parse_cells, tokens_of, Represents, Valid}
+use Rattle.pgv_buf.specs.Layout.{is_hole, is_slot, if_so, places, last_from, Kept, slots_of, Layout, layout_of, first_at, parse_cells, cells_of, Represents, Valid}
 
 -- ---- places
 
@@ -109,17 +109,17 @@ steps_fit i ((byte x, s) ∷ ts) p = omega (arith, steps_fit (i + 1) ts p.1, len
 steps_fit i ((hole t, s) ∷ ts) p = omega (arith, steps_fit (i + 4) ts p.1, length-append s (shown ts))
 steps_fit i ((slot d cs, s) ∷ ts) p = omega (arith, steps_fit (i + length d) ts p.1, length-append s (shown ts))
 
-tokens_of-kept : (ts : List Cell) → Proper ts → tokens_of (shown ts) (layout_of (plain ts)) ≡ ts
-unfolding tokens_of
-tokens_of-kept ts p = parsed (length (shown ts) + length (places is_hole 0 (plain ts)) + length (places is_slot 0 (plain ts))) 0 ts p (steps_fit 0 ts p)
+cells_of-kept : (ts : List Cell) → Proper ts → cells_of (shown ts) (layout_of (plain ts)) ≡ ts
+unfolding cells_of
+cells_of-kept ts p = parsed (length (shown ts) + length (places is_hole 0 (plain ts)) + length (places is_slot 0 (plain ts))) 0 ts p (steps_fit 0 ts p)
 
-pub tokens_are : {ts : List Cell} {b : List ℕ} {l : Layout} → Represents ts b l → tokens_of b l ≡ ts
-tokens_are {ts} r = rw (r.bytes_are, r.layout_is) (tokens_of-kept ts r.proper)
+pub cells_are : {ts : List Cell} {b : List ℕ} {l : Layout} → Represents ts b l → cells_of b l ≡ ts
+cells_are {ts} r = rw (r.bytes_are, r.layout_is) (cells_of-kept ts r.proper)
 
 pub valid : {ts : List Cell} {b : List ℕ} {l : Layout} → Represents ts b l → Valid b l
-valid {ts} {b} {l} r = subst (λ us. Represents us b l) (sym (tokens_are r)) r
+valid {ts} {b} {l} r = subst (λ us. Represents us b l) (sym (cells_are r)) r
 
-pub held : {b : List ℕ} {l : Layout} (ts : List Cell) → Valid b l → tokens_of b l ≡ ts → Represents ts b l
+pub held : {b : List ℕ} {l : Layout} (ts : List Cell) → Valid b l → cells_of b l ≡ ts → Represents ts b l
 held {b} {l} ts v e = subst (λ us. Represents us b l) e v
 
 -- ---- joining and cutting

@@ -1,5 +1,5 @@
 -- What is written over bytes that stand, for the cells that are kept.
-use Rattle.std.proofs.Common.{◌≡◌, ℕ, ◌+◌, ◌≤◌, Bool, true, false, cond, List, [], ◌∷◌, ◌++◌, length, take, drop, drop_at, map, refl, sym, ◌∙◌, ap, subst, arith, append_assoc, length-append}
+use Rattle.std.proofs.Common.{◌≡◌, ℕ, ◌+◌, ◌≤◌, Bool, true, false, if◌then◌else◌, List, [], ◌∷◌, ◌++◌, length, take, drop, drop_at, map, refl, sym, ◌∙◌, ap, subst, arith, append_assoc, length-append}
 use Rattle.std.proofs.Math.Seq.{take-append_seam}
 use Rattle.pgv_types.specs.Ty.{Ty}
 use Rattle.pgv_types.specs.Relations.{softly}
@@ -29,14 +29,14 @@ widths is (t ∷ ts) = if_so (is t) (token_width t) ++ widths is ts
 -- cells whose pieces show these strings
 abbrev with_pieces : (Token → Bool) → List (List ℕ) → List Cell → List Cell
 with_pieces is ws [] = []
-with_pieces is ws (t ∷ ts) = (t.0, cond (is t.0) (first_string ws) t.1) ∷ with_pieces is (cond (is t.0) (rest_of ws) ws) ts
+with_pieces is ws (t ∷ ts) = (t.0, if is t.0 then first_string ws else t.1) ∷ with_pieces is (if is t.0 then rest_of ws else ws) ts
 
 -- one cell, a piece or not, after bytes that stand already
 one_written :
     (b : Bool) (before s : List ℕ) (is : Token → Bool) (ws : List (List ℕ)) (ts : List Cell) (n : ℕ) → length s ≡ n →
     map length ws ≡ if_so b n ++ widths is (plain ts) →
     ((front : List ℕ) (vs : List (List ℕ)) → map length vs ≡ widths is (plain ts) → put_each (places is (length front) (plain ts)) vs (front ++ shown ts) ≡ front ++ shown (with_pieces is vs ts)) →
-    put_each (if_so b (length before) ++ places is (length before + n) (plain ts)) ws (before ++ (s ++ shown ts)) ≡ before ++ (cond b (first_string ws) s ++ shown (with_pieces is (cond b (rest_of ws) ws) ts))
+    put_each (if_so b (length before) ++ places is (length before + n) (plain ts)) ws (before ++ (s ++ shown ts)) ≡ before ++ ((if b then first_string ws else s) ++ shown (with_pieces is (if b then rest_of ws else ws) ts))
 one_written true before s is [] ts n e f rest = cc
 one_written true before s is (w ∷ ws) ts n e f rest =
     let k : length w ≡ n = cc in
@@ -60,7 +60,7 @@ written-shown is before ws (t ∷ ts) f p =
 
 pieces_plain : (is : Token → Bool) (ws : List (List ℕ)) (ts : List Cell) → plain (with_pieces is ws ts) ≡ plain ts
 pieces_plain is ws [] = refl
-pieces_plain is ws (t ∷ ts) = ap (λ r. t.0 ∷ r) (pieces_plain is (cond (is t.0) (rest_of ws) ws) ts)
+pieces_plain is ws (t ∷ ts) = ap (λ r. t.0 ∷ r) (pieces_plain is (if is t.0 then rest_of ws else ws) ts)
 
 -- strings of the widths of the pieces are within the bytes
 one_within :
@@ -117,7 +117,7 @@ holes_within {ts} {b} {l} r os n =
 pub chosen_fits : (p : Ty) (d : List ℕ) (cs : List (Ty × List ℕ)) → CasesFit (length d) cs → length (chosen p d cs) ≡ length d
 chosen_fits p d [] h = refl
 chosen_fits p d (c ∷ cs) h =
-    elim (softly c.0 p) as (λ b. length (cond b c.1 (chosen p d cs)) ≡ length d) [ true ↦ h.0 | false ↦ chosen_fits p d cs h.1 ]
+    elim (softly c.0 p) as (λ b. length (if b then c.1 else chosen p d cs) ≡ length d) [ true ↦ h.0 | false ↦ chosen_fits p d cs h.1 ]
 
 choices_fit : (ps : List Ty) (ts : List Cell) → Proper ts → map length (choices ps (slots_of (plain ts))) ≡ widths is_slot (plain ts)
 choices_fit ps [] p = refl

@@ -75,8 +75,8 @@ parse_cells (suc n) i b ps ts qs ks =
     then (hole (first_type ts), take 4 b) ∷ parse_cells n (i + 4) (drop 4 b) (rest_of ps) (rest_of ts) qs ks
     else if holds_none b then [] else blank_cell (byte (first_or_zero b)) ∷ parse_cells n (i + 1) (rest_of b) ps ts qs ks
 
-unfoldable pub tokens_of : List ℕ → Layout → List Cell
-tokens_of b l = parse_cells (length b + length l.holes + length l.slot_places) 0 b l.holes l.types l.slot_places l.slots
+unfoldable pub cells_of : List ℕ → Layout → List Cell
+cells_of b l = parse_cells (length b + length l.holes + length l.slot_places) 0 b l.holes l.types l.slot_places l.slots
 
 pub record Represents (ts : List Cell) (b : List ℕ) (l : Layout) : Type 0 where
   pub bytes_are : b ≡ shown ts
@@ -84,4 +84,4 @@ pub record Represents (ts : List Cell) (b : List ℕ) (l : Layout) : Type 0 wher
   pub proper : Proper ts
 
 abbrev pub Valid : List ℕ → Layout → Type 0
-Valid b l = Represents (tokens_of b l) b l
+Valid b l = Represents (cells_of b l) b l

@@ -3,7 +3,7 @@ use Rattle.std.specs.Prelude.{◌≡◌, ◌≢◌, ◌<◌, ℕ, ◌⊎◌, Lis
 use Rattle.pgv_types.specs.Ty.{Ty}
 use Rattle.pgv_types.specs.declared.oid.Oid.{Oid}
 use Rattle.pgv_buf.specs.Tokens.{hole_types_of, shown}
-use Rattle.pgv_wire.specs.Arguments.{Argument, all_tokens, early, framed}
+use Rattle.pgv_wire.specs.Arguments.{Argument, all_cells, early, framed}
 use Rattle.pgv_value.specs.declared.error.CodecError.TheVariants.{ParameterCount}
 use Rattle.pgv_catalog.specs.declared.error.CatalogError.{CatalogError}
 use Rattle.pgv_catalog.specs.declared.error.CatalogError.TheVariants.{Memory, Unknown, Codec}
@@ -29,13 +29,13 @@ OidsRefused named holes e = (e ≡ Memory) ⊎ ((place : ℕ) × (e ≡ Unknown 
 
 -- the types of the holes of arguments, in order
 abbrev pub argument_holes : List Argument → List Ty
-argument_holes list = hole_types_of (all_tokens list)
+argument_holes list = hole_types_of (all_cells list)
 
 -- the bytes are the frames written early with these types, and with the OIDs that the catalogue has for the types of
 -- the holes
 abbrev pub IsFilled : (Ty → Option ℕ) → List Argument → List Ty → List Argument → Type 0
 IsFilled named old types new =
-    (oids : List Oid) × AreNamed named (argument_holes old) oids × (shown (all_tokens new) ≡ early (framed old) types oids)
+    (oids : List Oid) × AreNamed named (argument_holes old) oids × (shown (all_cells new) ≡ early (framed old) types oids)
 
 -- There are not as many types as arguments; or there are, and memory ran out or the type of a hole isn't known.
 abbrev pub FillRefused : (Ty → Option ℕ) → List Argument → List Ty → CatalogError → Type 0

@@ -1,15 +1,20 @@
 -- What an encoder did to its buffer.
-use Rattle.std.specs.Prelude.{◌≡◌, Bool, true, false, List, ◌++◌, Result, Ok, Err, ⊤}
+use Rattle.std.specs.Prelude.{◌≡◌, Bool, true, false, List, ◌++◌, Result, Ok, Err, IfErr, ⊤}
 use Rattle.pgv_buf.specs.Tokens.{Token, Cell, blank}
 use Rattle.pgv_codec.specs.Encoding.{Image, null_image, image_of}
 use Rattle.pgv_codec.specs.declared.buffer.IsNull.{IsNull}
 use Rattle.pgv_codec.specs.declared.buffer.IsNull.TheVariants.{Yes, No}
 use Rattle.pgv_value.specs.Outcome.{Outcome, Fails}
 use Rattle.pgv_value.specs.declared.error.CodecError.{CodecError}
+use Rattle.pgv_value.specs.declared.error.CodecError.TheVariants.{Memory}
 
 -- the old cells stay; more may come after them
 abbrev pub Extends : List Cell → List Cell → Type 0
 Extends was now = (ts : List Cell) × (now ≡ was ++ ts)
+
+-- an error is out of memory, and leaves all as it was
+abbrev pub OutOfMemoryUnchanged : {V : Type 0} → Result V CodecError → List Cell → List Cell → Type 0
+OutOfMemoryUnchanged result was now = IfErr result (λ e. (e ≡ Memory) × (now ≡ was))
 
 -- exactly these tokens are after what was there, not yet filled
 abbrev pub Appended : Outcome (List Token) → List Cell → List Cell → Type 0

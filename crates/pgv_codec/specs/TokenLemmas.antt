@@ -1,10 +1,10 @@
--- The tokens in front of a mark, and those after it.
+-- The cells in front of a mark, and those after it.
 use Rattle.std.specs.Prelude.{◌≡◌, ℕ, ◌+◌, ◌-◌, ◌<◌, ◌==◌, false, if◌then◌else◌, List, [], ◌∷◌, ◌++◌, length, refl}
 use Rattle.std.proofs.Common.{arith, ap}
 use Rattle.std.proofs.lemmas.Bool.Decides.{nat_tests}
 use Rattle.pgv_buf.specs.Tokens.{Token, byte, hole, slot, token_width, tokens_holes, tokens_slots, Cell, plain, width, hole_count, slot_count}
 
--- the tokens at the front that are n bytes, holes and slots, and those after them
+-- the cells at the front that have w bytes, h holes and s slots, and those after them
 abbrev pub front_of : ℕ → ℕ → ℕ → List Cell → List Cell
 front_of w h s [] = []
 front_of w h s (t ∷ ts) = if w + h + s == 0 then [] else t ∷ front_of (w - width (t ∷ [])) (h - hole_count (t ∷ [])) (s - slot_count (t ∷ [])) ts

@@ -9,7 +9,7 @@ ghost use Rattle.pgv_buf.specs.Fill.{filled_cells, slot_types};
 ghost use Rattle.pgv_value.specs.FrameBinary.{max_length, null_length};
 ghost use Rattle.pgv_value.specs.declared.error.CodecError.TheVariants.{Memory};
 ghost use Rattle.pgv_codec.specs.Encoding.{frame, image_of, plainly, typed, writes};
-ghost use Rattle.pgv_codec.specs.Appending.{Appended, Appends, AtOnce, Extends};
+ghost use Rattle.pgv_codec.specs.Appending.{Appended, Appends, AtOnce, Extends, OutOfMemoryUnchanged};
 
 use crate::traits::Encode;
 use pgv_buf::{Mark, Tokens};
@@ -93,7 +93,7 @@ impl PgArgumentBuffer {
     #[inline(always)]
     pub fn push(&mut self, value: u8) -> Result<(), CodecError>
         ensures ok { OnOk result (self.new ≡ self.old ++ blank (byte value ∷ [])) }
-        ensures err { IfErr result (λ e. (e ≡ Memory) × (self.new ≡ self.old)) }
+        ensures err { OutOfMemoryUnchanged result self.old self.new }
     {
         self.tokens.push(value)?;
         Ok(())
@@ -103,7 +103,7 @@ impl PgArgumentBuffer {
     #[inline(always)]
     pub fn extend_from_slice(&mut self, values: &[u8]) -> Result<(), CodecError>
         ensures ok { OnOk result (self.new ≡ self.old ++ blank (bytes values.now)) }
-        ensures err { IfErr result (λ e. (e ≡ Memory) × (self.new ≡ self.old)) }
+        ensures err { OutOfMemoryUnchanged result self.old self.new }
     {
         self.tokens.extend_from_slice(values)?;
         Ok(())
@@ -113,7 +113,7 @@ impl PgArgumentBuffer {
     /// as it was.
     pub fn push_hole(&mut self, hole_type: PgTypeInfo) -> Result<(), CodecError>
         ensures ok { OnOk result (self.new ≡ self.old ++ blank (hole hole_type ∷ [])) }
-        ensures err { IfErr result (λ e. (e ≡ Memory) × (self.new ≡ self.old)) }
+        ensures err { OutOfMemoryUnchanged result self.old self.new }
     {
         self.tokens.push_hole(hole_type)?;
         Ok(())
@@ -130,7 +130,7 @@ impl PgArgumentBuffer {
         requires { CasesFit (length standard.now) (cases_of cases.items) }
         ensures ok { OnOk result (self.new ≡ self.old
             ++ blank (slot standard.now (cases_of cases.items) ∷ [])) }
-        ensures err { IfErr result (λ e. (e ≡ Memory) × (self.new ≡ self.old)) }
+        ensures err { OutOfMemoryUnchanged result self.old self.new }
     {
         self.tokens.push_slot(standard, cases)?;
         Ok(())
@@ -217,7 +217,7 @@ impl PgArgumentBuffer {
     pub(crate) fn push_u32(&mut self, value: u32) -> Result<(), CodecError>
         ensures ok { OnOk result (self.new ≡ self.old ++ blank (bytes (be4 value))) }
         ensures number { value < 4294967296 }
-        ensures err { IfErr result (λ e. (e ≡ Memory) × (self.new ≡ self.old)) }
+        ensures err { OutOfMemoryUnchanged result self.old self.new }
     {
         self.extend_from_slice(&value.to_be_bytes())
     }
@@ -228,7 +228,7 @@ impl PgArgumentBuffer {
         requires { length value.now ≤ 16 }
         ensures ok { OnOk result (self.new ≡ self.old
             ++ blank (bytes (be4 (length value.now) ++ value.now))) }
-        ensures err { IfErr result (λ e. (e ≡ Memory) × (self.new ≡ self.old)) }
+        ensures err { OutOfMemoryUnchanged result self.old self.new }
     {
         let after = 4 + value.len();
         let length = (value.len() as u32).to_be_bytes();
@@ -280,7 +280,7 @@ impl PgArgumentBuffer {
     pub(crate) fn push_null(&mut self) -> Result<bool, CodecError>
         ensures ok { IfOk result (λ done. (done ≡ true)
             × (self.new ≡ self.old ++ blank (bytes (be4 null_length)))) }
-        ensures err { IfErr result (λ e. (e ≡ Memory) × (self.new ≡ self.old)) }
+        ensures err { OutOfMemoryUnchanged result self.old self.new }
     {
         self.push_u32(NULL_LENGTH)?;
         Ok(true)
@@ -290,7 +290,7 @@ impl PgArgumentBuffer {
     #[inline(always)]
     pub(crate) fn push_type(&mut self, written: PgTypeInfo) -> Result<(), CodecError>
         ensures ok { OnOk result (Appended (typed written) self.old self.new) }
-        ensures err { IfErr result (λ e. (e ≡ Memory) × (self.new ≡ self.old)) }
+        ensures err { OutOfMemoryUnchanged result self.old self.new }
     {
         match written.oid() {
             Some(oid) => self.push_u32(oid.0),

@@ -3,7 +3,7 @@
 
 ghost use Rattle.std.specs.Prelude.{◌≡◌, ◌++◌, ◌<◌, ◌⊎◌, List, [], length, IfOk, IfErr, codes};
 ghost use Rattle.std.specs.Int.{w16, to_be_bytes};
-ghost use Rattle.pgv.specs.Words.{Added, Argument, builtin, argument_frame, array_of, shown, all_tokens};
+ghost use Rattle.pgv.specs.Words.{Added, Argument, builtin, argument_frame, array_of, shown, all_cells};
 
 use crate::mood::Mood;
 use pgv::{CodecError, Encode, PgArguments, PgEnum};
@@ -34,7 +34,7 @@ pub fn arguments_of_search(
 /// frames. More than 65535 are refused with [`ParameterCount`](CodecError::ParameterCount) (C10).
 pub fn parameters_of_bind(alloc: Global, arguments: &PgArguments) -> Result<Vec<u8>, CodecError>
     ensures ok { IfOk result (λ message. message.items
-        ≡ to_be_bytes w16 (length arguments.now) ++ shown (all_tokens arguments.now)) }
+        ≡ to_be_bytes w16 (length arguments.now) ++ shown (all_cells arguments.now)) }
     ensures err { IfErr result (λ e. (e ≡ CodecError.Memory)
         ⊎ ((e ≡ CodecError.ParameterCount) × (65535 < length arguments.now))) }
 {

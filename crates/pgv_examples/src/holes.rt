@@ -1,7 +1,7 @@
 //! Fills the holes of arguments by the types that a server described.
 
 ghost use Rattle.std.specs.Prelude.{◌≡◌, List, IfOk, OnOk, OnErr};
-ghost use Rattle.pgv.specs.Words.{Oid, hole_types_of, shown, all_tokens, framed, early};
+ghost use Rattle.pgv.specs.Words.{Oid, hole_types_of, shown, all_cells, framed, early};
 ghost use Rattle.pgv_examples.specs.Known.{AreKnownOids, IsKnownOid};
 
 use pgv::{CodecError, Oid, PgArguments, PgTypeInfo};
@@ -19,8 +19,8 @@ pub fn fill(
 ) -> Result<(), CodecError>
     // Each OID is that of a known type which its hole's is softly equal to.
     ensures written { OnOk result ((oids : List Oid)
-        × AreKnownOids known.now (hole_types_of (all_tokens arguments.old)) oids
-        × (shown (all_tokens arguments.new) ≡ early (framed arguments.old) parameters.now oids)) }
+        × AreKnownOids known.now (hole_types_of (all_cells arguments.old)) oids
+        × (shown (all_cells arguments.new) ≡ early (framed arguments.old) parameters.now oids)) }
     ensures unchanged { OnErr result (arguments.new ≡ arguments.old) }
 {
     let oids = oids_among(alloc, known, arguments.hole_types())?;

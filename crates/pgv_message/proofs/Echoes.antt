@@ -16,7 +16,7 @@ use Rattle.pgv_codec.specs.Encoding.{Encoding}
 use Rattle.pgv_row.specs.ColumnView.{Column}
 use Rattle.pgv_row.specs.RowView.{Row, value_at_column}
 use Rattle.pgv_row.specs.RowValues.{may_read, raw_value, column_value}
-use Rattle.pgv_wire.specs.Arguments.{Argument, framed, all_tokens}
+use Rattle.pgv_wire.specs.Arguments.{Argument, framed, all_cells}
 use Rattle.pgv_wire.specs.History.{Call, added_in, after_calls}
 use Rattle.pgv_wire.specs.MainSentence.{MainSentence, HoldsAfter}
 use Rattle.pgv_wire.specs.ArgumentParts.{AreImages, ReadAs, OfImages}
@@ -48,14 +48,14 @@ module _ {A M : Type 0} (encoding : A → Encoding) (accepts : Ty → Bool) (par
       (there columns held.parts place c back.0 column_is back.1) accepts_is (rw binary (answer_of (parse (record { bytes = back.0; type_info = c.type_info; format = Binary })).answer (kept v) back.2))
 
   pub comes_back : (arguments : List Argument) (bytes : List ℕ) → MainSentence encoding (reading_of parse) kept fits → ((calls : List Call) → framed (after_calls [] calls) ≡ added_in calls) →
-      ((i : ℕ) → get_or bytes i 0 < 256) → bytes ≡ shown (all_tokens arguments) → Proper (all_tokens arguments) → OfImages arguments → ComeBack encoding accepts parse kept fits arguments
+      ((i : ℕ) → get_or bytes i 0 < 256) → bytes ≡ shown (all_cells arguments) → Proper (all_cells arguments) → OfImages arguments → ComeBack encoding accepts parse kept fits arguments
   unfolding MainSentence
   comes_back arguments bytes main only_added below is proper images calls portal statement sent results after_is oids_fit sent_by =
       let added : framed arguments ≡ added_in calls = ap framed after_is ∙ only_added calls in
-      let held = main calls images.0 (subst (AreImages images.0) added images.1) (subst (λ (xs : List Argument). Proper (all_tokens xs)) after_is proper) oids_fit in
-      let read : ReadAs (shown (all_tokens arguments)) held.parts [] = subst (λ (xs : List Argument). ReadAs (shown (all_tokens xs)) held.parts []) (sym after_is) held.read in
+      let held = main calls images.0 (subst (AreImages images.0) added images.1) (subst (λ (xs : List Argument). Proper (all_cells xs)) after_is proper) oids_fit in
+      let read : ReadAs (shown (all_cells arguments)) held.parts [] = subst (λ (xs : List Argument). ReadAs (shown (all_cells xs)) held.parts []) (sym after_is) held.read in
       let frames = frames_are bytes held.parts [] (are_bytes bytes below) (subst (λ (xs : List ℕ). ReadAs xs held.parts []) (sym is) read) in
-      let shown_is : shown (all_tokens arguments) ≡ flat_map field_bytes held.parts = sym is ∙ frames.0 ∙ append-nil (flat_map field_bytes held.parts) in
+      let shown_is : shown (all_cells arguments) ≡ flat_map field_bytes held.parts = sym is ∙ frames.0 ∙ append-nil (flat_map field_bytes held.parts) in
       let many : length held.parts ≡ length arguments = held.as_many ∙ ap length (sym added) ∙ length-map arguments _ in
       let fit : length arguments ≤ 65535 = arguments_fit portal statement sent arguments results sent_by in
       let same : bind_of portal statement held.parts results ≡ sent = rw (← shown_is, many) (bind_is portal statement sent arguments results sent_by) in

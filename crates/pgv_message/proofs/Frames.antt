@@ -11,7 +11,7 @@ use Rattle.pgv_value.proofs.Fronts.{front_exactly}
 use Rattle.pgv_value.proofs.Numbers.{bytes_after}
 use Rattle.pgv_value.proofs.ReadFronts.{are_bytes, frame_bytes}
 use Rattle.pgv_buf.specs.Tokens.{shown}
-use Rattle.pgv_wire.specs.Arguments.{Argument, all_tokens}
+use Rattle.pgv_wire.specs.Arguments.{Argument, all_cells}
 use Rattle.pgv_wire.specs.ArgumentParts.{ReadAs, AllRead, parts_in}
 use Rattle.pgv_message.specs.declared.error.MessageError.{MessageError}
 use Rattle.pgv_message.specs.Messages.{bind}
@@ -58,7 +58,7 @@ same_four f a a' b b' c c' d d' p q r s = ap (λ (x : List ℕ). f x b c d) p �
 -- Bind with these texts and numbers
 abbrev bind_with : List Argument → List PgValueFormat → List ℕ → List ℕ → List ℕ → List ℕ → List ℕ
 bind_with arguments results portal statement many formats =
-    message 66 (joined (portal ∷ statement ∷ to_be_bytes w16 1 ∷ to_be_bytes w16 1 ∷ many ∷ shown (all_tokens arguments) ∷ formats ∷ flat_map format_bytes results ∷ []))
+    message 66 (joined (portal ∷ statement ∷ to_be_bytes w16 1 ∷ to_be_bytes w16 1 ∷ many ∷ shown (all_cells arguments) ∷ formats ∷ flat_map format_bytes results ∷ []))
 
 pub bind_is : (portal statement sent : List ℕ) (arguments : List Argument) (results : List PgValueFormat) → bind portal statement arguments results ≡ Ok sent →
     bind_with arguments results (text portal) (text statement) (to_be_bytes w16 (length arguments)) (to_be_bytes w16 (length results)) ≡ sent
@@ -89,12 +89,12 @@ arguments_fit portal statement sent arguments results e =
     let n = step_is {A = List ℕ} (count_of (length arguments)) _ sent s.2 in
     count_fits (length arguments) n.0 n.1
 
-pub parameters_are : (arguments : List Argument) (bytes : List ℕ) → ((i : ℕ) → get_or bytes i 0 < 256) → bytes ≡ shown (all_tokens arguments) → AllRead arguments → ParametersAreArguments arguments
+pub parameters_are : (arguments : List Argument) (bytes : List ℕ) → ((i : ℕ) → get_or bytes i 0 < 256) → bytes ≡ shown (all_cells arguments) → AllRead arguments → ParametersAreArguments arguments
 unfolding ParametersAreArguments
 parameters_are arguments bytes h is read portal statement sent results e =
     let parts = parts_in read.0 arguments in
     let frames = frames_are bytes parts [] (are_bytes bytes h) (subst (λ (xs : List ℕ). ReadAs xs parts []) (sym is) read.2) in
-    let shown_is : shown (all_tokens arguments) ≡ flat_map field_bytes parts = sym is ∙ frames.0 ∙ append-nil (flat_map field_bytes parts) in
+    let shown_is : shown (all_cells arguments) ≡ flat_map field_bytes parts = sym is ∙ frames.0 ∙ append-nil (flat_map field_bytes parts) in
     let many : length parts ≡ length arguments = read.3 in
     let same : bind_of portal statement parts results ≡ sent = rw (← shown_is, many) (bind_is portal statement sent arguments results e) in
     record { images = read.0; of_images = read.1; many = many; each = frames.1; sent_is = sym same }

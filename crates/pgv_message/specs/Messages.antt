@@ -5,7 +5,7 @@ use Rattle.pgv_text.specs.Characters.{upper_c, upper_d, upper_p, upper_q, upper_
 use Rattle.pgv_types.specs.declared.oid.Oid.{Oid}
 use Rattle.pgv_buf.specs.Tokens.{shown}
 use Rattle.pgv_value.specs.declared.value.PgValueFormat.{PgValueFormat}
-use Rattle.pgv_wire.specs.Arguments.{Argument, all_tokens}
+use Rattle.pgv_wire.specs.Arguments.{Argument, all_cells}
 use Rattle.pgv_message.specs.declared.describe.Prepared.{Prepared}
 use Rattle.pgv_message.specs.declared.describe.Prepared.TheVariants.{Statement, Portal}
 use Rattle.pgv_message.specs.Pieces.{format_bytes, oid_bytes}
@@ -21,7 +21,7 @@ bind portal statement arguments results = do
   statement_name ← ended_text statement
   parameters ← count_of (length arguments)
   formats ← count_of (length results)
-  whole_message (codes "B") (joined (portal_name ∷ statement_name ∷ to_be_bytes w16 1 ∷ to_be_bytes w16 1 ∷ parameters ∷ shown (all_tokens arguments) ∷ formats ∷ flat_map format_bytes results ∷ []))
+  whole_message (codes "B") (joined (portal_name ∷ statement_name ∷ to_be_bytes w16 1 ∷ to_be_bytes w16 1 ∷ parameters ∷ shown (all_cells arguments) ∷ formats ∷ flat_map format_bytes results ∷ []))
 
 -- Parse, `P`: the statement's name, the query, the number of parameters whose types are given, and their OIDs, 0 where
 -- the server is to find one.

@@ -2,7 +2,7 @@
 
 ghost use Rattle.std.specs.Prelude.{◌≡◌};
 ghost use Rattle.pgv_buf.specs.Tokens.{shown};
-ghost use Rattle.pgv_wire.specs.Arguments.{all_tokens};
+ghost use Rattle.pgv_wire.specs.Arguments.{all_cells};
 ghost use Rattle.pgv_message.specs.Echo.{ComeBack};
 ghost use Rattle.pgv_message.specs.ExchangeLaws.{AnswersEndTheExchange, OnlyAnswersEndTheExchange, AsyncChangesNothing, ErrorSkipsToSync, OnlyReadyEndsSkipping, RequestsDoNotEndSkipping};
 ghost use Rattle.pgv_message.specs.Frames.{ParametersAreArguments};
@@ -55,7 +55,7 @@ pub fn parameters_come_back<T: Type + ReadBack>(arguments: &PgArguments)
 
 /// What [`parameters_come_back`] says of arguments holds of bytes that are their buffer.
 fn frames_come_back<T: Type + ReadBack>(frames: &[u8], arguments: &PgArguments)
-    requires { frames.now ≡ shown (all_tokens arguments.now) }
+    requires { frames.now ≡ shown (all_cells arguments.now) }
     ensures { ComeBack T.encoding T.accepts T.parse (λ v. T.view (T.kept v)) T.fits
         arguments.now }
 {
@@ -68,7 +68,7 @@ fn frames_come_back<T: Type + ReadBack>(frames: &[u8], arguments: &PgArguments)
 /// Bytes that are the buffer of arguments are the parameters of a Bind.
 #[tactic(auto, using(crate::proofs::Frames::parameters_are))]
 fn frames_are_parameters(frames: &[u8], arguments: &PgArguments)
-    requires { frames.now ≡ shown (all_tokens arguments.now) }
+    requires { frames.now ≡ shown (all_cells arguments.now) }
     ensures { ParametersAreArguments arguments.now }
 {
     arguments_read(arguments);

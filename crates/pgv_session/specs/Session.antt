@@ -23,7 +23,7 @@ use Rattle.pgv_value.specs.Parsed.{Parsed}
 use Rattle.pgv_copy.specs.CopyBinary.{Step, after_header, reader_before, step}
 use Rattle.pgv_copy.specs.CopyView.{Copying}
 use Rattle.pgv_value.specs.declared.value.PgValueFormat.TheVariants.{Text as InText, Binary as InBinary}
-use Rattle.pgv_wire.specs.Arguments.{Argument, Framed, framed, all_tokens, types_in, filled_arguments}
+use Rattle.pgv_wire.specs.Arguments.{Argument, Framed, framed, all_cells, types_in, filled_arguments}
 use Rattle.pgv_session.specs.Spelled.{Ask, to_add, to_add_null, to_read, Request, asks, asks_holes, resolves, asks_wire, copies, Asks}
 use Rattle.pgv_session.specs.Lines.{each_named, with_first}
 use Rattle.pgv_session.specs.Types.{LineType, types, row_named}
@@ -166,10 +166,10 @@ Copies (Some columns) bytes answer = CopiesFrom columns (after_header bytes) ans
 
 abbrev pub Responds : Request → State → List ℕ → State → Type 0
 Responds (asks name ask) was answer now = RespondsBy (row_named types name) ask was answer now
-Responds asks_holes was answer now = (answer ≡ names_shown (hole_types_of (all_tokens was))) × (now ≡ was)
-Responds (resolves oids) was answer now = Resolves (length oids == hole_count (all_tokens was)) oids was answer now
+Responds asks_holes was answer now = (answer ≡ names_shown (hole_types_of (all_cells was))) × (now ≡ was)
+Responds (resolves oids) was answer now = Resolves (length oids == hole_count (all_cells was)) oids was answer now
 Responds (copies bytes names) was answer now = Copies (rows_named names) bytes answer × (now ≡ was)
-Responds asks_wire was answer now = (answer ≡ encode_lower (shown (all_tokens was))) × (now ≡ was)
+Responds asks_wire was answer now = (answer ≡ encode_lower (shown (all_cells was))) × (now ≡ was)
 
 abbrev pub RespondsTo : Option Request → State → List ℕ → State → Type 0
 RespondsTo None was answer now = (answer ≡ codes "refused line") × (now ≡ was)

@@ -3,7 +3,7 @@
 ghost use Rattle.std.specs.Prelude.{◌≡◌, ◌++◌, IfOk, OnOk, length, ◌==◌, string_bytes, option_map};
 ghost use Rattle.pgv_types.specs.Facts.{display_of};
 ghost use Rattle.pgv_buf.specs.Tokens.{hole_count};
-ghost use Rattle.pgv_wire.specs.Arguments.{all_tokens};
+ghost use Rattle.pgv_wire.specs.Arguments.{all_cells};
 ghost use Rattle.pgv_session.specs.RequestsView.{request_seen};
 ghost use Rattle.pgv_session.specs.Session.{AnswersLine, RespondsTo, Resolves, names_shown};
 
@@ -49,7 +49,7 @@ fn respond_to(
 /// copied.
 fn resolve(alloc: Global, arguments: &mut PgArguments, oids: &[Oid]) -> Result<String, AllocError>
     ensures { IfOk result (λ answer. Resolves
-        (length oids.now == hole_count (all_tokens arguments.old)) oids.now arguments.old
+        (length oids.now == hole_count (all_cells arguments.old)) oids.now arguments.old
         (string_bytes answer) arguments.new) }
 {
     if oids.len() != arguments.hole_types().len() {

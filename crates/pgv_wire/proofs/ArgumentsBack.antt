@@ -9,7 +9,7 @@ use Rattle.pgv_buf.specs.Proper.{Proper, Proper-front, Proper-back, first_type, 
 use Rattle.pgv_buf.specs.Tokens.{Token, byte, hole, slot, bytes, be4, tokens_width, tokens_holes, Cell, blank, plain, shown}
 use Rattle.pgv_value.specs.FrameBinary.{Part}
 use Rattle.pgv_value.specs.Reading.{Reading}
-use Rattle.pgv_wire.specs.Arguments.{Argument, Framed, framed, all_tokens, filled_arguments}
+use Rattle.pgv_wire.specs.Arguments.{Argument, Framed, framed, all_cells, filled_arguments}
 use Rattle.pgv_value.specs.Outcome.{ok_of}
 use Rattle.pgv_value.specs.declared.error.CodecError.{CodecError}
 use Rattle.pgv_codec.specs.Writing.{write}
@@ -88,10 +88,10 @@ slots_fit ((byte x, s) ∷ c) h = slots_fit c h.1
 slots_fit ((hole t, s) ∷ c) h = slots_fit c h.1
 slots_fit ((slot d cs, s) ∷ c) h = (h.0.1, slots_fit c h.1)
 
-slots_fit_at : (args : List Argument) (k : ℕ) (a : Framed) → Proper (all_tokens args) → slice_get (framed args) k ≡ Some a → SlotsFit a.1
+slots_fit_at : (args : List Argument) (k : ℕ) (a : Framed) → Proper (all_cells args) → slice_get (framed args) k ≡ Some a → SlotsFit a.1
 slots_fit_at [] k a h e = absurd cc
-slots_fit_at (x ∷ args) zero a h e = subst (λ (f : Framed). SlotsFit f.1) (same_Some (x.0, plain x.1) a e) (slots_fit x.1 (Proper-front x.1 (all_tokens args) h))
-slots_fit_at (x ∷ args) (suc k) a h e = slots_fit_at args k a (Proper-back x.1 (all_tokens args) h) e
+slots_fit_at (x ∷ args) zero a h e = subst (λ (f : Framed). SlotsFit f.1) (same_Some (x.0, plain x.1) a e) (slots_fit x.1 (Proper-front x.1 (all_cells args) h))
+slots_fit_at (x ∷ args) (suc k) a h e = slots_fit_at args k a (Proper-back x.1 (all_cells args) h) e
 
 image_fits : (i : Image) (f : List Token) → (frame_of i).answer ≡ Ok f → SlotsFit f → ImageFits i
 image_fits null_image f e h = tt
@@ -114,7 +114,7 @@ oids_fit (f ∷ fs) since ps os zero g h e = subst (λ (x : LastGiven). AreOids 
 oids_fit (f ∷ fs) since ps os (suc k) g h e = oids_fit fs since (rest_of ps) (drop (tokens_holes f.1) os) k g (AreOids-drop (tokens_holes f.1) os h) e
 
 module _ {A M : Type 0} (encoding : A → Encoding) (reading : Reading M) (kept : A → M) (fits : A → Ty → List Oid → Type 0) (law : ReadsBack encoding reading kept fits) where
-  come_back : (calls : List Call) (is : List Image) → AreImages is (added_in calls) → Proper (all_tokens (after_calls [] calls)) → AreOids (last_filling calls).oids →
+  come_back : (calls : List Call) (is : List Image) → AreImages is (added_in calls) → Proper (all_cells (after_calls [] calls)) → AreOids (last_filling calls).oids →
       ComeBackIn encoding reading kept fits calls (parts_in is (after_calls [] calls))
   come_back calls is frames proper small place a g v t there framed_as given fit =
       let f = frame_parts (encoding v) a.1 framed_as in

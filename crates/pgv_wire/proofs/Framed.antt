@@ -8,7 +8,7 @@ use Rattle.pgv_buf.specs.Tokens.{Token, byte, hole, slot, tokens_holes, tokens_s
 use Rattle.pgv_buf.specs.Blank.{plain-append, plain-blank}
 use Rattle.pgv_buf.specs.Fill.{filled_cells}
 use Rattle.pgv_buf.specs.Proper.{first_type, rest_of}
-use Rattle.pgv_wire.specs.Arguments.{Argument, Framed, framed, all_tokens, filled_frame, filled_arguments}
+use Rattle.pgv_wire.specs.Arguments.{Argument, Framed, framed, all_cells, filled_frame, filled_arguments}
 use Rattle.pgv_wire.specs.History.{blanks, LastFilling, with_added, with_filled, left_by, joined_frames, LeftBySome}
 use Rattle.pgv_codec.specs.Encoding.{Encoding, Image, frame_of, frame}
 use Rattle.pgv_codec.specs.PartBackLemmas.{frame_parts}
@@ -36,9 +36,9 @@ framed-stands a s ps os =
     map-append (λ (x : Argument). (x.0, plain x.1)) (filled_arguments a ps os) (blanks s)
     ∙ (ap (λ r. r ++ framed (blanks s)) (framed-filled a ps os) ∙ ap (λ r. a ++ r) (framed-blanks s))
 
-pub joined-plain : (args : List Argument) → plain (all_tokens args) ≡ joined_frames (framed args)
+pub joined-plain : (args : List Argument) → plain (all_cells args) ≡ joined_frames (framed args)
 joined-plain [] = refl
-joined-plain (a ∷ args) = plain-append a.1 (all_tokens args) ∙ ap (λ (r : List Token). plain a.1 ++ r) (joined-plain args)
+joined-plain (a ∷ args) = plain-append a.1 (all_cells args) ∙ ap (λ (r : List Token). plain a.1 ++ r) (joined-plain args)
 
 -- ---- what a filling and later additions leave
 
@@ -65,7 +65,7 @@ left_more args f l = (
 )
 
 -- all filled
-pub left_filled : (args : List Argument) (ps : List Ty) (os : List Oid) → length ps ≡ length args → length os ≡ hole_count (all_tokens args) → LeftBySome args → LeftBySome (filled_arguments (framed args) ps os)
+pub left_filled : (args : List Argument) (ps : List Ty) (os : List Oid) → length ps ≡ length args → length os ≡ hole_count (all_cells args) → LeftBySome args → LeftBySome (filled_arguments (framed args) ps os)
 left_filled args ps os n m l =
     let fs : framed args ≡ l.0.filled ++ l.0.since = framed-left args l.0 l.1.arguments_are in (
       with_filled l.0 ps os,

@@ -9,7 +9,7 @@ use Rattle.pgv_buf.specs.Tokens.{Token, byte, hole, slot, bytes, be4, tokens_wid
 use Rattle.pgv_value.specs.FrameBinary.{Part, front}
 use Rattle.pgv_value.proofs.Fronts.{frame_in_front}
 use Rattle.pgv_value.proofs.Outcomes.{answer_is}
-use Rattle.pgv_wire.specs.Arguments.{Argument, Framed, framed, all_tokens, filled_frame, filled_arguments}
+use Rattle.pgv_wire.specs.Arguments.{Argument, Framed, framed, all_cells, filled_frame, filled_arguments}
 use Rattle.pgv_codec.specs.Writing.{write}
 use Rattle.pgv_codec.specs.Encoding.{Image, null_image, image_of, frame_of}
 use Rattle.pgv_wire.specs.ArgumentParts.{ReadAs, AreImages, OfImages, AllRead, part_in, parts_in, written_parts}
@@ -50,14 +50,14 @@ frame_found (image_of ts) c rest e p =
       ap (λ (r : List ℕ). r ++ rest) h.0 ∙ ap (λ n. to_be_bytes w32 n ++ (drop 4 (shown c) ++ rest)) (sym h.1),
     )
 
-pub frames_read : (args : List Argument) (is : List Image) → AreImages is (framed args) → Proper (all_tokens args) → ReadAs (shown (all_tokens args)) (parts_in is args) []
+pub frames_read : (args : List Argument) (is : List Image) → AreImages is (framed args) → Proper (all_cells args) → ReadAs (shown (all_cells args)) (parts_in is args) []
 frames_read [] [] h p = refl
 frames_read [] (i ∷ is) h p = absurd h
 frames_read (a ∷ args) [] h p = absurd h
 frames_read (a ∷ args) (i ∷ is) h p = (
-  shown (all_tokens args),
-  ap front (shown-append a.1 (all_tokens args)) ∙ frame_found i a.1 (shown (all_tokens args)) h.0 (Proper-front a.1 (all_tokens args) p),
-  frames_read args is h.1 (Proper-back a.1 (all_tokens args) p),
+  shown (all_cells args),
+  ap front (shown-append a.1 (all_cells args)) ∙ frame_found i a.1 (shown (all_cells args)) h.0 (Proper-front a.1 (all_cells args) p),
+  frames_read args is h.1 (Proper-back a.1 (all_cells args) p),
 )
 
 pub as_many : (args : List Argument) (is : List Image) → AreImages is (framed args) → length (parts_in is args) ≡ length args
@@ -67,7 +67,7 @@ as_many (a ∷ args) [] h = absurd h
 as_many (a ∷ args) (i ∷ is) h = ap suc (as_many args is h.1)
 
 -- arguments whose images are known to exist are all read
-pub all_read : (args : List Argument) → OfImages args → Proper (all_tokens args) → AllRead args
+pub all_read : (args : List Argument) → OfImages args → Proper (all_cells args) → AllRead args
 all_read args h p = (h.0, h.1, frames_read args h.0 h.1 p, as_many args h.0 h.1)
 
 -- ---- a frame is that of one image

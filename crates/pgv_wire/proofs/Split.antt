@@ -5,7 +5,7 @@ use Rattle.std.proofs.lemmas.Bool.{le-leb, ne_eqb}
 use Rattle.std.proofs.lemmas.Nat.{from_be_bytes-to_be_bytes_4}
 use Rattle.pgv_buf.specs.Tokens.{Token, byte, hole, slot, bytes, be4, token_width, tokens_width, Cell, plain, width}
 use Rattle.pgv_buf.specs.Blank.{plain-append}
-use Rattle.pgv_wire.specs.Arguments.{Argument, framed, all_tokens, types_in}
+use Rattle.pgv_wire.specs.Arguments.{Argument, framed, all_cells, types_in}
 use Rattle.pgv_codec.specs.Encoding.{Image, null_image, image_of, frame_of}
 use Rattle.pgv_codec.specs.PartBackLemmas.{image_parts}
 use Rattle.pgv_value.proofs.Outcomes.{answer_is}
@@ -50,12 +50,12 @@ Begins (byte x ∷ ts) = ⊤
 Begins (hole t ∷ ts) = ⊥
 Begins (slot d cs ∷ ts) = ⊥
 
-begins : (args : List Argument) (is : List Image) → AreImages is (framed args) → Begins (plain (all_tokens args))
+begins : (args : List Argument) (is : List Image) → AreImages is (framed args) → Begins (plain (all_cells args))
 begins [] is h = tt
 begins (a ∷ args) [] h = absurd h
 begins (a ∷ args) (i ∷ is) h =
     let k = headed i (plain a.1) h.0 in
-    subst Begins (sym (plain-append a.1 (all_tokens args))) (subst (λ (r : List Token). Begins (r ++ plain (all_tokens args))) (sym k.whole) tt)
+    subst Begins (sym (plain-append a.1 (all_cells args))) (subst (λ (r : List Token). Begins (r ++ plain (all_cells args))) (sym k.whole) tt)
 
 first_is : (a c : List Cell) (w : ℕ) → w ≡ width a → Begins (plain c) → as_wide w (a ++ c) ≡ a
 first_is [] [] w e b = refl
@@ -75,12 +75,12 @@ others_are (t ∷ a) c w e b =
     let there : nat_le (token_width t.0) w ≡ true = le-leb _ _ (omega (arith, e)) in
     rw there (others_are a c (w - token_width t.0) (omega (arith, e)) b)
 
-pub split_back : (args : List Argument) (is : List Image) → AreImages is (framed args) → split (types_in args) (all_tokens args) ≡ args
+pub split_back : (args : List Argument) (is : List Image) → AreImages is (framed args) → split (types_in args) (all_cells args) ≡ args
 split_back [] is h = refl
 split_back (a ∷ args) [] h = absurd h
 split_back (a ∷ args) (i ∷ is) h =
-    let w : frame_width (plain (a.1 ++ all_tokens args)) ≡ width a.1 =
-    ap frame_width (plain-append a.1 (all_tokens args)) ∙ width_found (plain a.1) (plain (all_tokens args)) (headed i (plain a.1) h.0) in
-    let b : Begins (plain (all_tokens args)) = begins args is h.1 in
-    rw (first_is a.1 (all_tokens args) _ w b, others_are a.1 (all_tokens args) _ w b)
+    let w : frame_width (plain (a.1 ++ all_cells args)) ≡ width a.1 =
+    ap frame_width (plain-append a.1 (all_cells args)) ∙ width_found (plain a.1) (plain (all_cells args)) (headed i (plain a.1) h.0) in
+    let b : Begins (plain (all_cells args)) = begins args is h.1 in
+    rw (first_is a.1 (all_cells args) _ w b, others_are a.1 (all_cells args) _ w b)
     (ap (λ (r : List Argument). (a.0, a.1) ∷ r) (split_back args is h.1))

@@ -10,7 +10,7 @@ use Rattle.pgv_buf.specs.Tokens.{Cell, shown}
 use Rattle.pgv_value.specs.FrameBinary.{Part, front}
 use Rattle.pgv_codec.specs.Encoding.{Image, null_image, image_of, frame_of}
 use Rattle.pgv_codec.specs.Writing.{written_part, image_holes}
-use Rattle.pgv_wire.specs.Arguments.{Argument, Framed, framed, all_tokens}
+use Rattle.pgv_wire.specs.Arguments.{Argument, Framed, framed, all_cells}
 
 -- one frame after the other is found in front, with these parts, and then this is left
 abbrev pub ReadAs : List ℕ → List Part → List ℕ → Type 0
@@ -46,4 +46,4 @@ written_parts (i ∷ is) ps os = written_part i (Some (first_type ps)) (take (im
 -- frames that are read one after another, a part for each and nothing after: null where the image is null, and
 -- else what the argument shows after its length
 abbrev pub AllRead : List Argument → Type 0
-AllRead args = (is : List Image) × AreImages is (framed args) × ReadAs (shown (all_tokens args)) (parts_in is args) [] × (length (parts_in is args) ≡ length args)
+AllRead args = (is : List Image) × AreImages is (framed args) × ReadAs (shown (all_cells args)) (parts_in is args) [] × (length (parts_in is args) ≡ length args)

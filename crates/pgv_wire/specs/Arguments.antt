@@ -16,8 +16,8 @@ use Rattle.pgv_codec.specs.Writing.{write}
 abbrev pub Argument : Type 0
 Argument = Ty × List Cell
 
-abbrev pub all_tokens : List Argument → List Cell
-all_tokens = flat_map (λ a. a.1)
+abbrev pub all_cells : List Argument → List Cell
+all_cells = flat_map (λ a. a.1)
 
 abbrev pub types_in : List Argument → List Ty
 types_in = map (λ a. a.0)

@@ -11,7 +11,7 @@ use Rattle.pgv_buf.specs.Tokens.{tokens_holes, shown}
 use Rattle.pgv_value.specs.FrameBinary.{Part}
 use Rattle.pgv_value.specs.Reading.{Reading}
 use Rattle.pgv_value.specs.declared.value.PgValueFormat.TheVariants.{Binary}
-use Rattle.pgv_wire.specs.Arguments.{Framed, all_tokens}
+use Rattle.pgv_wire.specs.Arguments.{Framed, all_cells}
 use Rattle.pgv_codec.specs.Back.{AreOids}
 use Rattle.pgv_wire.specs.History.{Call, LastFilling, last_filling, after_calls, added_in}
 use Rattle.pgv_codec.specs.Encoding.{Encoding, Image, frame}
@@ -50,6 +50,6 @@ parts_given (i ∷ is) (g ∷ gs) = written_part i g.parameter g.oids ∷ parts_
 unfoldable pub ArgumentReadsBack : {A M : Type 0} → (A → Encoding) → Reading M → (A → M) → (A → Ty → List Oid → Type 0) → Type 0
 ArgumentReadsBack {A} encoding reading kept fits =
     (calls : List Call) (is : List Image) (place : ℕ) (a : Framed) (g : LastGiven) (v : A) (t : Ty) →
-    AreImages is (added_in calls) → Proper (all_tokens (after_calls [] calls)) → AreOids (last_filling calls).oids →
+    AreImages is (added_in calls) → Proper (all_cells (after_calls [] calls)) → AreOids (last_filling calls).oids →
     slice_get (added_in calls) place ≡ Some a → (frame (encoding v)).answer ≡ Ok a.1 → slice_get (given_in (last_filling calls)) place ≡ Some g → fits v t g.oids →
-    (parts : List Part) × (part : Part) × ReadAs (shown (all_tokens (after_calls [] calls))) parts [] × (slice_get parts place ≡ Some part) × (reading t Binary part ≡ Some (kept v))
+    (parts : List Part) × (part : Part) × ReadAs (shown (all_cells (after_calls [] calls))) parts [] × (slice_get parts place ≡ Some part) × (reading t Binary part ≡ Some (kept v))

@@ -9,7 +9,7 @@ use Rattle.std.specs.List.{flat_map}
 use Rattle.pgv_types.specs.Ty.{Ty}
 use Rattle.pgv_types.specs.declared.oid.Oid.{Oid}
 use Rattle.pgv_buf.specs.Tokens.{Token, bytes, blank, shown, width, tokens_holes}
-use Rattle.pgv_wire.specs.Arguments.{Argument, Framed, framed, all_tokens, early, filled_arguments}
+use Rattle.pgv_wire.specs.Arguments.{Argument, Framed, framed, all_cells, early, filled_arguments}
 
 -- an accepted addition, an accepted filling, or a call that was refused
 pub data Call : Type 0 where
@@ -52,7 +52,7 @@ last_filling calls = last_filling_by (record { filled = []; types = []; oids = [
 
 -- the bytes: those at the last filling written early, the others blank
 abbrev pub bytes_by : LastFilling → List ℕ
-bytes_by h = early h.filled h.types h.oids ++ shown (all_tokens (blanks h.since))
+bytes_by h = early h.filled h.types h.oids ++ shown (all_cells (blanks h.since))
 
 -- the arguments: those at the last filling as it left them, and the others blank
 abbrev pub left_by : LastFilling → List Argument
@@ -85,7 +85,7 @@ LeftBySome args = (h : LastFilling) × LeftBy args h
 -- arguments and holes, and then the others blank; there are no other frames
 abbrev pub WrittenEarly : List Argument → Type 0
 WrittenEarly args =
-    (h : LastFilling) × (framed args ≡ h.filled ++ h.since) × (length h.types ≡ length h.filled) × (length h.oids ≡ tokens_holes (joined_frames h.filled)) × (shown (all_tokens args) ≡ bytes_by h)
+    (h : LastFilling) × (framed args ≡ h.filled ++ h.since) × (length h.types ≡ length h.filled) × (length h.oids ≡ tokens_holes (joined_frames h.filled)) × (shown (all_cells args) ≡ bytes_by h)
 
 -- the lengths of arguments
 abbrev pub lengths_in : List Argument → List ℕ

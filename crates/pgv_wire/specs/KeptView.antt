@@ -3,7 +3,7 @@
 use Rattle.std.specs.Prelude.{◌≡◌, ℕ, List}
 use Rattle.pgv_types.specs.Ty.{Ty}
 use Rattle.pgv_buf.specs.Tokens.{Cell}
-use Rattle.pgv_wire.specs.Arguments.{Argument, all_tokens, types_in, counts_in}
+use Rattle.pgv_wire.specs.Arguments.{Argument, all_cells, types_in, counts_in}
 use Rattle.pgv_wire.specs.Counts.{AreCounts}
 use Rattle.pgv_wire.specs.History.{LeftBySome}
 use Rattle.pgv_wire.specs.ArgumentParts.{OfImages}
@@ -16,7 +16,7 @@ arguments_of hs ts = split hs ts
 pub record Stands (args : List Argument) (hs : List Ty) (ns : List ℕ) (ts : List Cell) : Type 0 where
   pub types_are : hs ≡ types_in args
   pub counts_are : AreCounts (counts_in args) ns
-  pub tokens_are : ts ≡ all_tokens args
+  pub cells_are : ts ≡ all_cells args
   pub images_are : OfImages args
   pub left_are : LeftBySome args
 

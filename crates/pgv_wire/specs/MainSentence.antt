@@ -19,7 +19,7 @@ use Rattle.pgv_value.specs.declared.error.CodecError.TheVariants.{Memory}
 use Rattle.pgv_value.specs.declared.value.PgValueFormat.TheVariants.{Binary}
 use Rattle.pgv_codec.specs.Back.{AreOids}
 use Rattle.pgv_codec.specs.Encoding.{Encoding, Image, frame, value_type}
-use Rattle.pgv_wire.specs.Arguments.{Argument, Framed, framed, Added, argument_frame, all_tokens, filled_arguments}
+use Rattle.pgv_wire.specs.Arguments.{Argument, Framed, framed, Added, argument_frame, all_cells, filled_arguments}
 use Rattle.pgv_wire.specs.EachAddition.{Answered, accepted}
 use Rattle.pgv_wire.specs.Given.{LastGiven, given_in}
 use Rattle.pgv_wire.specs.History.{Call, adds, fills, is_refused, added_in, after_calls, bytes_by, last_filling}
@@ -78,9 +78,9 @@ module _ {A M : Type 0} (encoding : A → Encoding) (reading : Reading M) (kept 
       (part : Part) × (slice_get parts place ≡ Some part) × (reading t Binary part ≡ Some (kept v))
 
   pub record HoldsAfter (calls : List Call) : Type 0 where
-    pub written : shown (all_tokens (after_calls [] calls)) ≡ bytes_by (last_filling calls)
+    pub written : shown (all_cells (after_calls [] calls)) ≡ bytes_by (last_filling calls)
     pub parts : List Part
-    pub read : ReadAs (shown (all_tokens (after_calls [] calls))) parts []
+    pub read : ReadAs (shown (all_cells (after_calls [] calls))) parts []
     pub as_many : length parts ≡ length (added_in calls)
     pub come_back : ComeBackIn calls parts
 
@@ -88,4 +88,4 @@ module _ {A M : Type 0} (encoding : A → Encoding) (reading : Reading M) (kept 
   -- what running calls say.
   unfoldable pub MainSentence : Type 0
   MainSentence =
-      (calls : List Call) (is : List Image) → AreImages is (added_in calls) → Proper (all_tokens (after_calls [] calls)) → AreOids (last_filling calls).oids → HoldsAfter calls
+      (calls : List Call) (is : List Image) → AreImages is (added_in calls) → Proper (all_cells (after_calls [] calls)) → AreOids (last_filling calls).oids → HoldsAfter calls

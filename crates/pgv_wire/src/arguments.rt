@@ -3,7 +3,7 @@
 ghost use Rattle.std.specs.Prelude.{◌≡◌, ◌≢◌, ◌==◌, ◌+◌, ◌-◌, ◌≤◌, ◌++◌, ℕ, List, [], ◌∷◌, length, OnOk, OnErr, IfOk, IfErr, IsOk, IsErrOf, string_bytes, decimal, replicate};
 ghost use Rattle.pgv_buf.specs.Tokens.{shown, hole_count, hole_types_of};
 ghost use Rattle.pgv_value.specs.declared.error.CodecError.TheVariants.{Memory, ParameterCount, HoleCount};
-ghost use Rattle.pgv_wire.specs.Arguments.{types_in, all_tokens, Adds, argument_frame, filled_arguments, framed, early};
+ghost use Rattle.pgv_wire.specs.Arguments.{types_in, all_cells, Adds, argument_frame, filled_arguments, framed, early};
 ghost use Rattle.pgv_wire.specs.Counts.{AreCounts};
 ghost use Rattle.pgv_wire.specs.EachAddition.{AreOutcomes, accepted};
 ghost use Rattle.pgv_wire.specs.History.{WrittenEarly};
@@ -99,7 +99,7 @@ impl PgArguments {
     /// [`laws::arguments_read`](crate::laws::arguments_read) says what reading the frames gives.
     #[tactic(auto, using(crate::proofs::Histories::written_early, crate::proofs::ArgumentLists::held))]
     pub fn buffer(&self) -> &PgArgumentBuffer
-        ensures frames { result.now ≡ all_tokens self.now }
+        ensures frames { result.now ≡ all_cells self.now }
         ensures images { OfImages self.now }
         ensures written { WrittenEarly self.now }
     {
@@ -184,14 +184,14 @@ impl PgArguments {
     /// The types whose OIDs are missing, in the order of their holes.
     /// After a list of values of the type `mood`, known by its name, they are `mood` alone.
     pub fn hole_types(&self) -> &[PgTypeInfo]
-        ensures { result.now ≡ hole_types_of (all_tokens self.now) }
+        ensures { result.now ≡ hole_types_of (all_cells self.now) }
     {
         self.buffer.hole_types()
     }
 
     /// How many holes there are.
     fn holes(&self) -> usize
-        ensures { result ≡ hole_count (all_tokens self.now) }
+        ensures { result ≡ hole_count (all_cells self.now) }
     {
         self.hole_types().len()
     }
@@ -207,13 +207,13 @@ impl PgArguments {
     /// OID 16600 the four bytes of its third number are `000040d8`, and after a second call with 16601 `000040d9`.
     pub fn apply_patches(&mut self, types: &[PgTypeInfo], oids: &[Oid]) -> Result<(), CodecError>
         ensures ok { length types.now ≡ length self.old
-            → length oids.now ≡ hole_count (all_tokens self.old) → IsOk result }
+            → length oids.now ≡ hole_count (all_cells self.old) → IsOk result }
         ensures parameters { length types.now ≢ length self.old → IsErrOf result ParameterCount }
         ensures holes { length types.now ≡ length self.old
-            → length oids.now ≢ hole_count (all_tokens self.old) → IsErrOf result HoleCount }
+            → length oids.now ≢ hole_count (all_cells self.old) → IsErrOf result HoleCount }
         ensures filled { OnOk result (self.new
             ≡ filled_arguments (framed self.old) types.now oids.now) }
-        ensures written { OnOk result (shown (all_tokens self.new)
+        ensures written { OnOk result (shown (all_cells self.new)
             ≡ early (framed self.old) types.now oids.now) }
         ensures unchanged { OnErr result (self.new ≡ self.old) }
     {

@@ -7,7 +7,7 @@ ghost use Rattle.pgv_types.specs.declared.oid.Oid.{Oid};
 ghost use Rattle.pgv_buf.specs.Proper.{Proper};
 ghost use Rattle.pgv_buf.specs.Tokens.{tokens_hole_types, Token, Cell, shown, width, tokens_width, hole_types_of};
 ghost use Rattle.pgv_value.specs.Outcome.{reading_of};
-ghost use Rattle.pgv_wire.specs.Arguments.{Argument, Framed, all_tokens, types_in, framed, filled_arguments};
+ghost use Rattle.pgv_wire.specs.Arguments.{Argument, Framed, all_cells, types_in, framed, filled_arguments};
 ghost use Rattle.pgv_wire.specs.Given.{ArgumentReadsBack, given_in, parts_given};
 ghost use Rattle.pgv_wire.specs.History.{Call, after_calls, last_filling, bytes_by, added_in, joined_frames, framed_types, lengths_in, ArePlain, joined_bytes};
 ghost use Rattle.pgv_wire.specs.MainSentence.{MainSentence, AdditionIsAStep, RefusalIsAStep, UnchangedIsAStep, EachAdditionIsAStep, FillingIsAStep, CallsAreJoined};
@@ -55,7 +55,7 @@ pub fn call_is_a_step<T: Encode + Type>()
 /// written as with its types and OIDs, and then the arguments added since, with zeros and defaults.
 #[tactic(auto, using(crate::proofs::Histories::history_told))]
 pub fn history()
-    ensures { (calls : List Call) → shown (all_tokens (after_calls [] calls))
+    ensures { (calls : List Call) → shown (all_cells (after_calls [] calls))
         ≡ bytes_by (last_filling calls) }
 {}
 
@@ -81,9 +81,9 @@ pub fn only_additions_count()
     ensures frames { (calls : List Call) → framed (after_calls [] calls) ≡ added_in calls }
     ensures types { (calls : List Call) → types_in (after_calls [] calls)
         ≡ framed_types (added_in calls) }
-    ensures holes { (calls : List Call) → hole_types_of (all_tokens (after_calls [] calls))
+    ensures holes { (calls : List Call) → hole_types_of (all_cells (after_calls [] calls))
         ≡ tokens_hole_types (joined_frames (added_in calls)) }
-    ensures length { (calls : List Call) → width (all_tokens (after_calls [] calls))
+    ensures length { (calls : List Call) → width (all_cells (after_calls [] calls))
         ≡ tokens_width (joined_frames (added_in calls)) }
 {}
 
@@ -98,7 +98,7 @@ pub fn all_counted()
 #[tactic(auto, using(crate::proofs::Histories::plain_told))]
 pub fn frames_joined()
     ensures { (calls : List Call) (xss : List (List ℕ)) → ArePlain (added_in calls) xss
-        → shown (all_tokens (after_calls [] calls)) ≡ joined_bytes xss }
+        → shown (all_cells (after_calls [] calls)) ≡ joined_bytes xss }
 {}
 
 /// The frames of arguments, read from the buffer one after another as [`PgValueRef::get`](crate::PgValueRef::get) does,
@@ -108,7 +108,7 @@ pub fn frames_joined()
 #[tactic(auto, using(crate::proofs::PartsRead::frames_read, crate::proofs::PartsRead::as_many))]
 pub fn frames_read()
     ensures parts { (args : List Argument) (is : List Image) → AreImages is (framed args)
-        → Proper (all_tokens args) → ReadAs (shown (all_tokens args)) (parts_in is args) [] }
+        → Proper (all_cells args) → ReadAs (shown (all_cells args)) (parts_in is args) [] }
     ensures many { (args : List Argument) (is : List Image) → AreImages is (framed args)
         → length (parts_in is args) ≡ length args }
 {}

@@ -1,6 +1,6 @@
 use Rattle.std.proofs.lemmas.List.{take-map}
 use Rattle.pgv_buf.specs.TokensView.{kept_of}
-use Rattle.pgv_buf.proofs.Layouts.{held, valid, tokens_are}
+use Rattle.pgv_buf.proofs.Layouts.{held, valid, cells_are}
 use Rattle.pgv_buf.proofs.CellSteps.{cut_at, enough}
 use Rattle.pgv_buf.proofs.tokens.Tokens.back.Goals as goal
 
@@ -18,4 +18,4 @@ invariant_of-self c =
 pub returns : goal.returns
 returns c = λ front rest e f.
     rw (c.truncate.ensures.items, c.truncate-2.ensures, c.truncate-3.ensures.items, c.truncate-4.ensures, c.truncate-5.ensures.items, ← take-map kept_of c.args.mark.slots c.self.inside.slots.items)
-    (tokens_are (cut_at c.args.self.now (held c.args.self.now c.self.invariant c.self.view_is) c.args.mark front rest e f))
+    (cells_are (cut_at c.args.self.now (held c.args.self.now c.self.invariant c.self.view_is) c.args.mark front rest e f))

@@ -7,7 +7,7 @@ use Rattle.pgv_buf.specs.TokensView.{kept_of}
 use Rattle.pgv_buf.specs.Layout.{Layout, Represents}
 use Rattle.pgv_buf.specs.Fill.{filled_cells, slot_types}
 use Rattle.pgv_buf.specs.Patches.{put_each, numbers, choices}
-use Rattle.pgv_buf.proofs.Layouts.{held, valid, tokens_are, length-holes, length-slots, length-slot_places}
+use Rattle.pgv_buf.proofs.Layouts.{held, valid, cells_are, length-holes, length-slots, length-slot_places}
 use Rattle.pgv_buf.proofs.Gaps.{length-after}
 use Rattle.pgv_buf.proofs.Patches.{holes_filled, holes_within, slots_within, all_filled}
 use Rattle.pgv_buf.proofs.tokens.Tokens.fill.Goals as goal
@@ -50,4 +50,4 @@ pub invariant_of-self : goal.invariant_of-self
 invariant_of-self c = valid (all_here c)
 
 pub returns : goal.returns
-returns c = tokens_are (all_here c)
+returns c = cells_are (all_here c)

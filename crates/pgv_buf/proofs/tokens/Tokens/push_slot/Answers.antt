@@ -6,7 +6,7 @@ use Rattle.pgv_buf.specs.Tokens.{blank_cell, slot}
 use Rattle.pgv_buf.specs.CasesView.{cases_of}
 use Rattle.pgv_buf.specs.TokensView.{kept_of}
 use Rattle.pgv_buf.specs.Layout.{Kept, Represents}
-use Rattle.pgv_buf.proofs.Layouts.{held, valid, tokens_are}
+use Rattle.pgv_buf.proofs.Layouts.{held, valid, cells_are}
 use Rattle.pgv_buf.proofs.CellSteps.{slot_joined, slots_before}
 use Rattle.pgv_buf.proofs.tokens.Tokens.push_slot.Goals as goal
 
@@ -36,4 +36,4 @@ pub invariant_of-self-2 : goal.invariant_of-self-2
 invariant_of-self-2 c = valid (joined_here c)
 
 pub returns-clause-ok : goal.returns-clause-ok
-returns-clause-ok c = tokens_are (joined_here c)
+returns-clause-ok c = cells_are (joined_here c)

@@ -4,7 +4,7 @@ use Rattle.pgv_buf.specs.Tokens.{Cell, fixed_bytes, be4}
 use Rattle.pgv_buf.specs.Marks.{mark_of}
 use Rattle.pgv_buf.specs.Layout.{Layout, Represents}
 use Rattle.pgv_buf.specs.Patches.{put}
-use Rattle.pgv_buf.proofs.Layouts.{held, valid, tokens_are}
+use Rattle.pgv_buf.proofs.Layouts.{held, valid, cells_are}
 use Rattle.pgv_buf.proofs.Patches.{replaced, room}
 use Rattle.pgv_buf.proofs.tokens.Tokens.put_u32.Goals as goal
 
@@ -30,4 +30,4 @@ invariant_of-self c =
 
 pub returns : goal.returns
 returns c = λ front xs rest e n g.
-    tokens_are (replaced_at c.args.self.now (held c.args.self.now c.self.invariant c.self.view_is) c.args.mark c.args.value _ c.put_number.ensures front xs rest e n g)
+    cells_are (replaced_at c.args.self.now (held c.args.self.now c.self.invariant c.self.view_is) c.args.mark c.args.value _ c.put_number.ensures front xs rest e n g)
