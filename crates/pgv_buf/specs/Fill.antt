@@ -1,4 +1,5 @@
--- Filling: a byte shows itself, the i-th hole the i-th OID, and each slot what it has for its type, whatever they showed.
+-- Filling: a byte shows itself, the i-th hole the i-th OID, and each slot what it has for its type, whatever they
+-- showed.
 use Rattle.std.specs.Prelude.{ℕ, List, [], ◌∷◌, ◌++◌, replicate}
 use Rattle.pgv_types.specs.Ty.{Ty}
 use Rattle.pgv_types.specs.declared.oid.Oid.{Oid}

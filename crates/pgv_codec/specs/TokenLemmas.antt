@@ -31,9 +31,9 @@ record IsMore (t : Token) (ts : List Token) : Type 0 where
   some : 0 < token_width t + tokens_holes (t ∷ []) + tokens_slots (t ∷ [])
 
 is_more : (t : Token) (ts : List Token) → IsMore t ts
-is_more (byte x) ts = record { holes = refl; slots = refl; some = omega arith }
-is_more (hole t) ts = record { holes = refl; slots = refl; some = omega arith }
-is_more (slot d cs) ts = record { holes = refl; slots = refl; some = omega arith }
+is_more (byte x) ts = record { holes = omega arith; slots = omega arith; some = omega arith }
+is_more (hole t) ts = record { holes = omega arith; slots = omega arith; some = omega arith }
+is_more (slot d cs) ts = record { holes = omega arith; slots = omega arith; some = omega arith }
 
 pub front_is : (a c : List Cell) (w h s : ℕ) → w ≡ width a → h ≡ hole_count a → s ≡ slot_count a → front_of w h s (a ++ c) ≡ a
 front_is [] c w h s e f g = rw (e, f, g) (nothing_in_front c)

@@ -1,14 +1,14 @@
 -- What additions and fillings keep of arguments: their frames without what these show, that each is the frame of an
 -- image, and that each shows what some types and OIDs write, or is not filled yet.
-use Rattle.std.proofs.Common.{◌≡◌, ℕ, ◌+◌, List, [], ◌∷◌, ◌++◌, length, drop, take, replicate, Ok, refl, sym, ◌∙◌, ap, subst, append_assoc, append-nil}
+use Rattle.std.proofs.Common.{◌≡◌, ℕ, List, [], ◌∷◌, ◌++◌, length, drop, take, replicate, Ok, refl, sym, ◌∙◌, ap, subst, append_assoc, append-nil}
 use Rattle.std.proofs.lemmas.List.{length-map, map-append}
 use Rattle.pgv_types.specs.Ty.{Ty}
 use Rattle.pgv_types.specs.declared.oid.Oid.{Oid}
-use Rattle.pgv_buf.specs.Tokens.{Token, byte, hole, slot, tokens_holes, tokens_slots, Cell, blank, plain, hole_count}
+use Rattle.pgv_buf.specs.Tokens.{Token, byte, hole, slot, tokens_holes, tokens_slots, blank, plain, hole_count}
 use Rattle.pgv_buf.specs.Blank.{plain-append, plain-blank}
 use Rattle.pgv_buf.specs.Fill.{filled_cells}
 use Rattle.pgv_buf.specs.Proper.{first_type, rest_of}
-use Rattle.pgv_wire.specs.Arguments.{Argument, Framed, framed, all_cells, filled_frame, filled_arguments}
+use Rattle.pgv_wire.specs.Arguments.{Argument, Framed, framed, all_cells, filled_arguments}
 use Rattle.pgv_wire.specs.History.{blanks, LastFilling, with_added, with_filled, left_by, joined_frames, LeftBySome}
 use Rattle.pgv_codec.specs.Encoding.{Encoding, Image, frame_of, frame}
 use Rattle.pgv_codec.specs.PartBackLemmas.{frame_parts}

@@ -8,7 +8,7 @@ use Rattle.pgv_buf.specs.Tokens.{tokens_holes, tokens_slots, tokens_hole_types, 
 use Rattle.pgv_buf.specs.Fill.{filled_cells}
 use Rattle.pgv_buf.proofs.CellSteps.{shown-bytes}
 use Rattle.pgv_buf.specs.Proper.{shown-append, first_type, rest_of}
-use Rattle.pgv_wire.specs.Arguments.{Argument, Framed, framed, all_cells, types_in, early, filled_frame, filled_arguments}
+use Rattle.pgv_wire.specs.Arguments.{Argument, Framed, framed, all_cells, types_in, filled_frame, filled_arguments}
 use Rattle.pgv_wire.specs.History.{LeftBySome, WrittenEarly, left_by, with_added, with_filled, Call, adds, fills, is_refused, blanks, after_calls, LastFilling, last_filling_by, last_filling, bytes_by, added_in, joined_frames, framed_types, lengths_in, ArePlain, joined_bytes}
 use Rattle.pgv_wire.proofs.ArgumentLists.{late_is_early, types-framed}
 use Rattle.pgv_wire.proofs.Framed.{framed-filled, framed-blanks, joined-plain, left-added, left-filled, framed-left}

@@ -1,5 +1,5 @@
 -- The frames of arguments, read one after another.
-use Rattle.std.proofs.Common.{◌≡◌, ℕ, suc, arith, List, [], ◌∷◌, ◌++◌, length, take, drop, Some, None, Ok, refl, sym, ◌∙◌, ap, length-drop}
+use Rattle.std.proofs.Common.{◌≡◌, ℕ, ◌+◌, suc, arith, List, [], ◌∷◌, ◌++◌, length, take, drop, Some, None, Ok, refl, sym, ◌∙◌, ap, length-drop}
 use Rattle.std.proofs.lemmas.List.{take-append-drop, nil_from_length}
 use Rattle.std.specs.Int.{w32, to_be_bytes}
 use Rattle.pgv_types.specs.Ty.{Ty}
@@ -31,7 +31,7 @@ shown_front (x ∷ xs) ts ((slot d cs, s) ∷ c) p e = absurd cc
 -- so they are the length and the others
 headed : (n : ℕ) (ts : List Token) (c : List Cell) → Proper c → plain c ≡ bytes (be4 n) ++ ts → (shown c ≡ be4 n ++ drop 4 (shown c)) × (length (drop 4 (shown c)) ≡ tokens_width ts)
 headed n ts c p e =
-    let wide : length (shown c) ≡ 4 + tokens_width ts = length_shown c p ∙ ap tokens_width e in (
+    let wide : length (shown c) ≡ 4 + tokens_width ts = omega (arith, length_shown c p, ap tokens_width e) in (
       sym (take-append-drop 4 (shown c)) ∙ ap (λ (r : List ℕ). r ++ drop 4 (shown c)) (shown_front (be4 n) ts c p e),
       omega (arith, wide, length-drop 4 (shown c)),
     )
@@ -40,7 +40,7 @@ headed n ts c p e =
 frame_found : (i : Image) (c : List Cell) (rest : List ℕ) → (frame_of i).answer ≡ Ok (plain c) → Proper c → front (shown c ++ rest) ≡ Some (part_in i c, rest)
 frame_found null_image c rest e p =
     let h = headed 4294967295 [] c p (sym (answer_is (bytes (be4 4294967295)) (plain c) e)) in
-    let none : drop 4 (shown c) ≡ [] = nil_from_length h.1 in
+    let none : drop 4 (shown c) ≡ [] = nil_from_length (drop 4 (shown c)) h.1 in
     frame_in_front (shown c ++ rest) None rest (ap (λ (r : List ℕ). r ++ rest) (h.0 ∙ ap (λ (r : List ℕ). be4 4294967295 ++ r) none))
 frame_found (image_of ts) c rest e p =
     let k = cut ts (plain c) e in

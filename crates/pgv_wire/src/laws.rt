@@ -64,7 +64,7 @@ pub fn history()
 pub fn filled_again()
     ensures { (fs : List Framed) (ps ps' : List Ty) (os os' : List Oid)
         → filled_arguments (framed (filled_arguments fs ps os)) ps' os'
-            ≡ filled_arguments fs ps' os' }
+        ≡ filled_arguments fs ps' os' }
 {}
 
 /// A filling changes the length of no frame.
