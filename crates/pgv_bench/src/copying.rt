@@ -1,4 +1,6 @@
 //! The stream of a COPY of an `int4`, a `text` and an `int8`, and the same fields as one frame after another.
+//!
+//! Each way of reading them is a function that isn't inlined: all in one function, they take up to a twentieth longer.
 
 use crate::seen::Seen;
 use pgv_codec::{Decode, Type};
@@ -72,6 +74,7 @@ fn lent_seen(alloc: Global, row: &[PgValueRef<'_>]) -> Result<usize, CodecError>
     Ok(sum.wrapping_add(lent_field::<i64>(alloc, long)?))
 }
 
+#[inline(never)]
 fn stream_once(alloc: Global, stream: &[u8]) -> Result<usize, CodecError> {
     let mut reader = PgCopyReader::new(stream, columns(alloc)?)?;
     let mut sum = 0usize;
@@ -84,8 +87,9 @@ fn stream_once(alloc: Global, stream: &[u8]) -> Result<usize, CodecError> {
     Ok(sum)
 }
 
-/// The rows in one list, whose values are taken from it, or where `lent` stay in it.
-fn stream_kept(alloc: Global, stream: &[u8], lent: bool) -> Result<usize, CodecError> {
+/// The rows in one list, whose values are taken from it, or where `LENT` stay in it.
+#[inline(never)]
+fn stream_kept<const LENT: bool>(alloc: Global, stream: &[u8]) -> Result<usize, CodecError> {
     let mut reader = PgCopyReader::new(stream, columns(alloc)?)?;
     let mut row = Vec::new(alloc);
     let mut sum = 0usize;
@@ -93,7 +97,7 @@ fn stream_kept(alloc: Global, stream: &[u8], lent: bool) -> Result<usize, CodecE
         if !reader.next_row_into(&mut row)? {
             return Ok(sum);
         }
-        let seen = if lent {
+        let seen = if LENT {
             lent_seen(alloc, row.as_slice())?
         } else {
             kept_seen(alloc, &mut row)?
@@ -123,6 +127,7 @@ fn tuple_seen(alloc: Global, rows: &mut PgCopyRows<'_, '_>) -> Result<Option<usi
     }
 }
 
+#[inline(never)]
 fn tuples_once(alloc: Global, stream: &[u8]) -> Result<usize, CodecError> {
     let columns = described(alloc)?;
     let mut rows = columns.copy_rows(stream)?;
@@ -142,6 +147,7 @@ fn frame<T: Decode + Type + Seen>(alloc: Global, rest: &mut &[u8]) -> Result<usi
     field::<T>(alloc, value)
 }
 
+#[inline(never)]
 fn frames_once(alloc: Global, frames: &[u8]) -> Result<usize, CodecError> {
     let mut sum = 0usize;
     let mut rest = frames;
@@ -164,8 +170,8 @@ pub fn copies(alloc: Global, bytes: &[u8], rounds: u32, how: u32) -> Result<usiz
         let once = match how {
             0 => stream_once(alloc, bytes)?,
             2 => tuples_once(alloc, bytes)?,
-            3 => stream_kept(alloc, bytes, false)?,
-            4 => stream_kept(alloc, bytes, true)?,
+            3 => stream_kept::<false>(alloc, bytes)?,
+            4 => stream_kept::<true>(alloc, bytes)?,
             _ => frames_once(alloc, bytes)?,
         };
         sum = sum.wrapping_add(once);

@@ -168,13 +168,15 @@ fn push_pieces(out: &mut Vec<u8>, pieces: &[Piece<'_>]) -> Result<(), AllocError
     Ok(())
 }
 
-/// Appends the message under a tag whose body is these pieces. A refused call leaves all as it was.
+/// Appends the message under a tag whose body is these pieces; room for all of it is made first. A refused call leaves
+/// all as it was.
 #[tactic(auto, unfolding(crate::specs::MessageWriting::whole_message))]
 pub fn push_message(out: &mut Vec<u8>, tag: &[u8], pieces: &[Piece<'_>]) -> Result<(), MessageError>
     ensures { Sends (whole_message tag.now (joined_pieces pieces.now))
         out.old.items out.new.items result }
 {
     let length = body_size(pieces)? + 4;
+    out.reserve(length + 1)?;
     let mark = out.len();
     out.extend_from_slice(tag)?;
     if push_piece(out, &Piece::Number(length as u32)).is_err()
