@@ -61,7 +61,7 @@ fn lent_field<T: Decode + Seen>(
     alloc: Global,
     value: &PgValueRef<'_>,
 ) -> Result<usize, CodecError> {
-    Ok(T::decode(alloc, value.clone()?)?.seen())
+    Ok(T::decode_by_ref(alloc, value)?.seen())
 }
 
 /// The same of a row whose values stay in its list.

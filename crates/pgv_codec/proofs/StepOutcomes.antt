@@ -1,7 +1,9 @@
 -- How an outcome fails: at a step, or after one that was taken.
 use Rattle.std.proofs.Common.{◌≡◌, Bool, true, false, ◌||◌, Option, Result, Ok, Err, refl, inl, inr}
-use Rattle.pgv_value.specs.Outcome.{Outcome, Fails, bind_by, ◌>>=◌}
+use Rattle.pgv_value.specs.Outcome.{Outcome, Fails, Gives, bind_by, lent_value, ◌>>=◌}
+use Rattle.pgv_value.specs.ValueView.{Given}
 use Rattle.pgv_value.specs.declared.error.CodecError.{CodecError}
+use Rattle.pgv_codec.specs.Lent.{lent}
 
 module _ {A B : Type 0} (o : Outcome A) (next : A → Outcome B) where
   -- memory that may be asked for stays so
@@ -27,3 +29,11 @@ module _ {A B : Type 0} (o : Outcome A) (next : A → Outcome B) where
   fails_then x e is (inl h) = inl (rw is h)
   fails_then x e is (inr (inl h)) = inr (inl (rw is h.0, h.1))
   fails_then x e is (inr (inr h)) = inr (inr (h.0, rw is (or_true o.may_alloc (next x).may_alloc h.1)))
+
+-- ---- values that are read where they lie
+
+module _ {V M : Type 0} (view : V → M) (parse : Given → Outcome M) (v : Given) where
+  -- what is read of a value itself is read of its copy
+  pub read_of_copy : (r : Result V CodecError) → Gives view (parse v) r → Gives view (lent parse v) r
+  read_of_copy (Ok x) h = h
+  read_of_copy (Err e) h = fails_then (lent_value v) parse v e refl h

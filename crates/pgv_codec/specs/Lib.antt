@@ -8,6 +8,7 @@ pub mod WrittenView
 pub mod TokenLemmas
 pub mod FieldLemmas
 pub mod Nullable
+pub mod Lent
 pub mod FieldsLeftView
 pub mod AgreeLemmas
 pub mod TypeRow

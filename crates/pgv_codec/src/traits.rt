@@ -4,6 +4,7 @@ ghost use Rattle.std.specs.Prelude.{◌≡◌, ◌≤◌, ℕ, Bool, true, List,
 ghost use Rattle.pgv_types.specs.Relations.{softly};
 ghost use Rattle.pgv_types.specs.Ty.{Ty};
 ghost use Rattle.pgv_value.specs.Outcome.{Outcome, Gives, fails, reading_of};
+ghost use Rattle.pgv_codec.specs.Lent.{lent};
 ghost use Rattle.pgv_value.specs.ValueView.{Given, given};
 ghost use Rattle.pgv_codec.specs.Nullable.{IsOfNull, refused_null};
 ghost use Rattle.pgv_value.specs.declared.error.CodecError.{CodecError};
@@ -135,6 +136,17 @@ pub trait Decode: Sized + Drop {
     fn decode(alloc: Global, value: PgValueRef<'_>) -> Result<Self, CodecError>
         ensures { Gives view (parse value.entry) result };
 
+    /// The value that is read of one that stays where it is, as in a list that rows are read into. It is what
+    /// [`decode`](Decode::decode) reads of a copy, and is refused as that is, or where a custom type has too many
+    /// copies (C1).
+    #[inline(always)]
+    #[tactic(auto, using(crate::proofs::StepOutcomes::read_of_copy))]
+    fn decode_by_ref(alloc: Global, value: &PgValueRef<'_>) -> Result<Self, CodecError>
+        ensures { Gives view (lent parse value.now) result }
+    {
+        Self::decode(alloc, value.clone()?)
+    }
+
     /// How many bytes [`decode_at_once`](Decode::decode_at_once) reads in binary; 0 if it reads none.
     #[inline(always)]
     fn width_at_once() -> usize
@@ -199,8 +211,8 @@ pub trait Plain: Type + Encode + Sized + Drop {
     ghost kept: { Self → Self } = { λ v. v };
 
     /// The value that is read: what [`Decode::decode`] answers.
-    fn read(alloc: Global, value: PgValueRef<'_>) -> Result<Self, CodecError>
-        ensures { Gives view (parse value.entry) result };
+    fn read(alloc: Global, value: &PgValueRef<'_>) -> Result<Self, CodecError>
+        ensures { Gives view (parse value.now) result };
 
     /// How many bytes [`read_at_once`](Plain::read_at_once) reads in binary: what [`Decode::width_at_once`] says.
     #[inline(always)]
@@ -239,6 +251,12 @@ impl<T: Plain> Decode for T {
 
     #[inline(always)]
     fn decode(alloc: Global, value: PgValueRef<'_>) -> Result<T, CodecError> {
+        T::read(alloc, &value)
+    }
+
+    #[inline(always)]
+    #[tactic(auto, using(crate::proofs::StepOutcomes::read_of_copy))]
+    fn decode_by_ref(alloc: Global, value: &PgValueRef<'_>) -> Result<T, CodecError> {
         T::read(alloc, value)
     }
 

@@ -90,7 +90,7 @@ impl<'r> PgCopyReader<'r> {
     /// No memory is asked for where the list has room for a value of each column, as it has after a row, and no
     /// column's type is custom.
     ///
-    /// The values are read where they lie, as by `i32::decode(alloc, row[0].clone()?)`, or taken from the last one on,
+    /// The values are read where they lie, as by `i32::decode_by_ref(alloc, &row[0])`, or taken from the last one on,
     /// by `row.pop()`: `row.drain(..)` turns the list round first.
     #[inline(always)]
     #[tactic(auto, unfolding(crate::specs::CopyBinary::step))]

@@ -35,7 +35,7 @@ impl PlainCodec for Float8 {
         self.0.encode_by_ref(out)
     }
 
-    fn read(alloc: Global, value: PgValueRef<'_>) -> Result<Float8, CodecError> {
+    fn read(alloc: Global, value: &PgValueRef<'_>) -> Result<Float8, CodecError> {
         match value.format() {
             PgValueFormat::Binary => {
                 // An `i64` is read from one to eight bytes.

@@ -40,10 +40,10 @@ impl PlainCodec for Json {
         Ok(IsNull::No)
     }
 
-    fn read(alloc: Global, value: PgValueRef<'_>) -> Result<Json, CodecError> {
+    fn read(alloc: Global, value: &PgValueRef<'_>) -> Result<Json, CodecError> {
         let bytes = after_version(value.as_bytes()?);
         let text = PgTypeInfo(PgType::Text);
         let part = PgValueRef::new(Some(bytes), text, PgValueFormat::Text);
-        Ok(Json(String::read(alloc, part)?))
+        Ok(Json(String::read(alloc, &part)?))
     }
 }

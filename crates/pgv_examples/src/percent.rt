@@ -49,7 +49,7 @@ impl PlainCodec for Percent {
         self.number.encode_by_ref(out)
     }
 
-    fn read(alloc: Global, value: PgValueRef<'_>) -> Result<Percent, CodecError> {
+    fn read(alloc: Global, value: &PgValueRef<'_>) -> Result<Percent, CodecError> {
         let number = i32::read(alloc, value)?;
         check(number)?;
         Ok(Percent { number })

@@ -69,7 +69,7 @@ impl Plain for EmptyObject {
 
     ghost written = { λ _ _. plainly (writes (Some (image_of object_image))) };
 
-    fn read(alloc: Global, value: PgValueRef<'_>) -> Result<EmptyObject, CodecError> {
+    fn read(alloc: Global, value: &PgValueRef<'_>) -> Result<EmptyObject, CodecError> {
         let bytes = value.as_bytes()?;
         if bytes.len() == 3 && bytes[1] == b'{' && bytes[2] == b'}' {
             return Ok(EmptyObject { alloc });

@@ -176,7 +176,7 @@ impl Plain for PgTimeTz {
     ghost kept = { time_tz_kept };
 
     #[inline(always)]
-    fn read(_alloc: Global, value: PgValueRef<'_>) -> Result<PgTimeTz, CodecError> {
+    fn read(_alloc: Global, value: &PgValueRef<'_>) -> Result<PgTimeTz, CodecError> {
         match value.format() {
             PgValueFormat::Binary => of_bytes(value.as_bytes()?),
             PgValueFormat::Text => of_text(value.as_str()?).ok_or(CodecError::Syntax),

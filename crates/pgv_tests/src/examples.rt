@@ -166,7 +166,7 @@ fn kept_of_cut(alloc: Global) -> Result<Option<i32>, CodecError> {
         return Ok(None);
     }
     match first {
-        Some(row) => Ok(Some(read_item(alloc, row)?.id)),
+        Some(row) => Ok(Some(read_item(alloc, row.as_slice())?.id)),
         None => Ok(None),
     }
 }

@@ -116,7 +116,7 @@ impl<T: Labelled> Plain for PgEnum<T> {
 
     ghost written = { λ _ label. label_written label };
 
-    fn read(_alloc: Global, value: PgValueRef<'_>) -> Result<PgEnum<T>, CodecError> {
+    fn read(_alloc: Global, value: &PgValueRef<'_>) -> Result<PgEnum<T>, CodecError> {
         match T::from_label(value.as_str()?) {
             Some(known) => Ok(PgEnum(known)),
             None => Err(CodecError::Syntax),

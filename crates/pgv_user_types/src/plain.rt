@@ -35,8 +35,8 @@ pub trait PlainCodec: Sized + Drop {
         ensures appended { OnErr result (Extends out.old out.new) };
 
     /// The value that is read: what [`Decode::decode`](pgv_codec::Decode::decode) answers.
-    fn read(alloc: Global, value: PgValueRef<'_>) -> Result<Self, CodecError>
-        ensures { Gives rules.view (rules.parse value.entry) result };
+    fn read(alloc: Global, value: &PgValueRef<'_>) -> Result<Self, CodecError>
+        ensures { Gives rules.view (rules.parse value.now) result };
 }
 
 /// A value of a plain type, written and read as the type says: one of `float8` that is 1.0 is `3ff0000000000000`.
@@ -109,7 +109,7 @@ impl<T: PlainCodec> Plain for PgPlain<T> {
 
     ghost written = { λ _ view. plainly (T.rules.image view) };
 
-    fn read(alloc: Global, value: PgValueRef<'_>) -> Result<PgPlain<T>, CodecError> {
+    fn read(alloc: Global, value: &PgValueRef<'_>) -> Result<PgPlain<T>, CodecError> {
         Ok(PgPlain(T::read(alloc, value)?))
     }
 

@@ -61,8 +61,8 @@ impl Plain for bool {
     ghost written = { λ _ m. plainly (writes (bool_image m)) };
 
     #[inline(always)]
-    fn read(_alloc: Global, value: PgValueRef<'_>) -> Result<bool, CodecError> {
-        read_bool(&value)
+    fn read(_alloc: Global, value: &PgValueRef<'_>) -> Result<bool, CodecError> {
+        read_bool(value)
     }
 
     #[inline(always)]

@@ -71,8 +71,8 @@ impl Plain for Date {
 
     ghost written = { λ _ m. with_hint 4 (writes (date_image m)) };
 
-    fn read(_alloc: Global, value: PgValueRef<'_>) -> Result<Date, CodecError> {
-        read_date(&value)
+    fn read(_alloc: Global, value: &PgValueRef<'_>) -> Result<Date, CodecError> {
+        read_date(value)
     }
 
     #[inline(always)]
@@ -141,8 +141,8 @@ impl Plain for Time {
 
     ghost kept = { time_kept };
 
-    fn read(_alloc: Global, value: PgValueRef<'_>) -> Result<Time, CodecError> {
-        read_time(&value)
+    fn read(_alloc: Global, value: &PgValueRef<'_>) -> Result<Time, CodecError> {
+        read_time(value)
     }
 
     #[inline(always)]
@@ -215,8 +215,8 @@ impl Plain for DateTime {
 
     ghost kept = { date_time_kept };
 
-    fn read(_alloc: Global, value: PgValueRef<'_>) -> Result<DateTime, CodecError> {
-        read_date_time(&value)
+    fn read(_alloc: Global, value: &PgValueRef<'_>) -> Result<DateTime, CodecError> {
+        read_date_time(value)
     }
 
     #[inline(always)]
@@ -279,8 +279,8 @@ impl Plain for Timestamp {
 
     ghost kept = { instant_kept };
 
-    fn read(_alloc: Global, value: PgValueRef<'_>) -> Result<Timestamp, CodecError> {
-        read_instant(&value)
+    fn read(_alloc: Global, value: &PgValueRef<'_>) -> Result<Timestamp, CodecError> {
+        read_instant(value)
     }
 
     #[inline(always)]

@@ -69,8 +69,8 @@ impl Plain for PgInterval {
 
     ghost written = { λ _ m. with_hint 16 (writes (interval_image m)) };
 
-    fn read(_alloc: Global, value: PgValueRef<'_>) -> Result<PgInterval, CodecError> {
-        read_interval(&value)
+    fn read(_alloc: Global, value: &PgValueRef<'_>) -> Result<PgInterval, CodecError> {
+        read_interval(value)
     }
 
     ghost reads_back = { interval_back };

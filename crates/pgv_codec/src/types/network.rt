@@ -152,8 +152,8 @@ impl Plain for IpNetwork {
     ghost written = { λ _ m. with_hint (network_hint m) (writes (network_image m)) };
 
     #[inline(always)]
-    fn read(_alloc: Global, value: PgValueRef<'_>) -> Result<IpNetwork, CodecError> {
-        read_ip_network(&value)
+    fn read(_alloc: Global, value: &PgValueRef<'_>) -> Result<IpNetwork, CodecError> {
+        read_ip_network(value)
     }
 
     ghost reads_back = { network_back };
@@ -233,8 +233,8 @@ impl Plain for IpAddr {
 
     ghost written = { λ _ m. with_hint (address_hint m) (writes (address_image m)) };
 
-    fn read(_alloc: Global, value: PgValueRef<'_>) -> Result<IpAddr, CodecError> {
-        read_ip_address(&value)
+    fn read(_alloc: Global, value: &PgValueRef<'_>) -> Result<IpAddr, CodecError> {
+        read_ip_address(value)
     }
 
     ghost reads_back = { address_back };

@@ -69,8 +69,8 @@ impl Plain for Oid {
     ghost written = { λ _ m. plainly (writes (unsigned_image w32 m)) };
 
     #[inline(always)]
-    fn read(_alloc: Global, value: PgValueRef<'_>) -> Result<Oid, CodecError> {
-        read_oid(&value)
+    fn read(_alloc: Global, value: &PgValueRef<'_>) -> Result<Oid, CodecError> {
+        read_oid(value)
     }
 
     #[inline(always)]

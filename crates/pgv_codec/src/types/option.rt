@@ -103,6 +103,14 @@ impl<T: Decode> Decode for Option<T> {
     }
 
     #[inline(always)]
+    fn decode_by_ref(alloc: Global, value: &PgValueRef<'_>) -> Result<Option<T>, CodecError> {
+        if value.is_null() {
+            return Ok(None);
+        }
+        Ok(Some(T::decode_by_ref(alloc, value)?))
+    }
+
+    #[inline(always)]
     fn width_at_once() -> usize {
         T::width_at_once()
     }

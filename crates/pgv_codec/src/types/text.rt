@@ -138,7 +138,7 @@ impl Plain for String {
     ghost written = { λ _ m. plainly (writes (spec.text_image m)) };
 
     #[inline(always)]
-    fn read(alloc: Global, value: PgValueRef<'_>) -> Result<String, CodecError> {
+    fn read(alloc: Global, value: &PgValueRef<'_>) -> Result<String, CodecError> {
         Ok(copy_of(alloc, value.as_str()?)?)
     }
 

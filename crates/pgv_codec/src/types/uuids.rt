@@ -64,8 +64,8 @@ impl Plain for Uuid {
     ghost written = { λ _ m. plainly (writes (uuid_image m)) };
 
     #[inline(always)]
-    fn read(_alloc: Global, value: PgValueRef<'_>) -> Result<Uuid, CodecError> {
-        read_uuid(&value)
+    fn read(_alloc: Global, value: &PgValueRef<'_>) -> Result<Uuid, CodecError> {
+        read_uuid(value)
     }
 
     #[inline(always)]

@@ -99,7 +99,7 @@ impl Plain for PgLTree {
 
     ghost kept = { tree_kept };
 
-    fn read(alloc: Global, value: PgValueRef<'_>) -> Result<PgLTree, CodecError> {
+    fn read(alloc: Global, value: &PgValueRef<'_>) -> Result<PgLTree, CodecError> {
         match value.format() {
             PgValueFormat::Binary => read_binary(alloc, value.as_bytes()?),
             PgValueFormat::Text => read_text(alloc, value.as_str()?),

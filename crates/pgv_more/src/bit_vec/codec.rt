@@ -116,7 +116,7 @@ impl Plain for BitVec {
 
     ghost written = { λ _ m. with_hint (bits_hint m) (bits_image m) };
 
-    fn read(alloc: Global, value: PgValueRef<'_>) -> Result<BitVec, CodecError> {
+    fn read(alloc: Global, value: &PgValueRef<'_>) -> Result<BitVec, CodecError> {
         match value.format() {
             PgValueFormat::Binary => read_binary(alloc, value.as_bytes()?),
             PgValueFormat::Text => read_text(alloc, value.as_str()?),

@@ -110,7 +110,7 @@ impl<const N: usize> Plain for PgByteaArray<N> {
 
     ghost written = { λ _ m. plainly (writes (bytea_sized_image N m)) };
 
-    fn read(_alloc: Global, value: PgValueRef<'_>) -> Result<PgByteaArray<N>, CodecError> {
+    fn read(_alloc: Global, value: &PgValueRef<'_>) -> Result<PgByteaArray<N>, CodecError> {
         let bytes = value.as_bytes()?;
         match value.format() {
             PgValueFormat::Binary => of_bytes(bytes),

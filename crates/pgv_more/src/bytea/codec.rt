@@ -80,7 +80,7 @@ impl Plain for PgBytea {
     ghost written = { λ _ m. plainly (writes (plain_image m)) };
 
     #[inline(always)]
-    fn read(alloc: Global, value: PgValueRef<'_>) -> Result<PgBytea, CodecError> {
+    fn read(alloc: Global, value: &PgValueRef<'_>) -> Result<PgBytea, CodecError> {
         let bytes = value.as_bytes()?;
         match value.format() {
             PgValueFormat::Binary => Ok(PgBytea(copy_of(alloc, bytes)?)),

@@ -83,7 +83,7 @@ impl Plain for PgCiText {
     ghost written = { λ _ m. plainly (writes (text_image m)) };
 
     #[inline(always)]
-    fn read(alloc: Global, value: PgValueRef<'_>) -> Result<PgCiText, CodecError> {
+    fn read(alloc: Global, value: &PgValueRef<'_>) -> Result<PgCiText, CodecError> {
         Ok(PgCiText(String::read(alloc, value)?))
     }
 

@@ -219,7 +219,7 @@ impl Plain for PgHstore {
 
     ghost written = { λ _ ps. plainly (hstore_image ps) };
 
-    fn read(alloc: Global, value: PgValueRef<'_>) -> Result<PgHstore, CodecError> {
+    fn read(alloc: Global, value: &PgValueRef<'_>) -> Result<PgHstore, CodecError> {
         let bytes = value.as_bytes()?;
         match value.format() {
             PgValueFormat::Binary => of_bytes(alloc, bytes),

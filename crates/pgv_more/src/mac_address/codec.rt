@@ -102,7 +102,7 @@ impl Plain for MacAddress {
     ghost written = { λ _ m. with_hint 6 (writes (mac_image m)) };
 
     #[inline(always)]
-    fn read(_alloc: Global, value: PgValueRef<'_>) -> Result<MacAddress, CodecError> {
+    fn read(_alloc: Global, value: &PgValueRef<'_>) -> Result<MacAddress, CodecError> {
         match value.format() {
             PgValueFormat::Binary => of_bytes(value.as_bytes()?),
             PgValueFormat::Text => of_text(value.as_str()?),

@@ -79,7 +79,7 @@ impl Plain for PgMoney {
 
     ghost written = { λ _ m. plainly (writes (signed_image w64 m)) };
 
-    fn read(_alloc: Global, value: PgValueRef<'_>) -> Result<PgMoney, CodecError> {
+    fn read(_alloc: Global, value: &PgValueRef<'_>) -> Result<PgMoney, CodecError> {
         let bytes = value.as_bytes()?;
         match value.format() {
             PgValueFormat::Binary => of_bytes(bytes),

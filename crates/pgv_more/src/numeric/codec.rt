@@ -246,7 +246,7 @@ impl Plain for PgNumeric {
     ghost written = { λ _ m. plainly (numeric_image m) };
 
     #[inline(always)]
-    fn read(alloc: Global, value: PgValueRef<'_>) -> Result<PgNumeric, CodecError> {
+    fn read(alloc: Global, value: &PgValueRef<'_>) -> Result<PgNumeric, CodecError> {
         let bytes = value.as_bytes()?;
         match value.format() {
             PgValueFormat::Binary => of_bytes(alloc, bytes),

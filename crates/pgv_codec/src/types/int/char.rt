@@ -61,8 +61,8 @@ impl Plain for i8 {
     ghost written = { λ _ m. plainly (writes (signed_image w8 m)) };
 
     #[inline(always)]
-    fn read(_alloc: Global, value: PgValueRef<'_>) -> Result<i8, CodecError> {
-        read_i8(&value)
+    fn read(_alloc: Global, value: &PgValueRef<'_>) -> Result<i8, CodecError> {
+        read_i8(value)
     }
 
     ghost reads_back = { char_back };

@@ -62,8 +62,8 @@ impl Plain for i16 {
     ghost written = { λ _ m. plainly (writes (signed_image w16 m)) };
 
     #[inline(always)]
-    fn read(_alloc: Global, value: PgValueRef<'_>) -> Result<i16, CodecError> {
-        read_i16(&value)
+    fn read(_alloc: Global, value: &PgValueRef<'_>) -> Result<i16, CodecError> {
+        read_i16(value)
     }
 
     #[inline(always)]

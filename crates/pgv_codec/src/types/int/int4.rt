@@ -68,8 +68,8 @@ impl Plain for i32 {
     ghost written = { λ _ m. plainly (writes (signed_image w32 m)) };
 
     #[inline(always)]
-    fn read(_alloc: Global, value: PgValueRef<'_>) -> Result<i32, CodecError> {
-        read_i32(&value)
+    fn read(_alloc: Global, value: &PgValueRef<'_>) -> Result<i32, CodecError> {
+        read_i32(value)
     }
 
     #[inline(always)]

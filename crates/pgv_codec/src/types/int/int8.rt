@@ -62,8 +62,8 @@ impl Plain for i64 {
     ghost written = { λ _ m. plainly (writes (signed_image w64 m)) };
 
     #[inline(always)]
-    fn read(_alloc: Global, value: PgValueRef<'_>) -> Result<i64, CodecError> {
-        read_i64(&value)
+    fn read(_alloc: Global, value: &PgValueRef<'_>) -> Result<i64, CodecError> {
+        read_i64(value)
     }
 
     #[inline(always)]
