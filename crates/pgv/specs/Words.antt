@@ -39,6 +39,8 @@ pub use Rattle.pgv_value.specs.declared.value.PgValueFormat.TheVariants.{Binary,
 pub use Rattle.pgv_value.specs.ValueView.{Given, given}
 pub use Rattle.pgv_value.specs.Parsed.{Parsed, ◌>>=◌, GivesExactly}
 pub use Rattle.pgv_value.specs.Outcome.{Outcome, Gives, Reads, without_memory, copied, ok_of}
+-- `lent parse` is what is read of a value by reference: what is read of its copy.
+pub use Rattle.pgv_codec.specs.Lent.{lent}
 -- What the elements of an array are read as, and of an array of n: in text under the elements' own type.
 pub use Rattle.pgv_codec.specs.ArrayGrammar.{parse_array, parse_sized}
 -- `scalar` and `binary_alone` make a grammar of one for each format, or for binary; `in_both_formats` and

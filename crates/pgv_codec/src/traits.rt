@@ -136,9 +136,8 @@ pub trait Decode: Sized + Drop {
     fn decode(alloc: Global, value: PgValueRef<'_>) -> Result<Self, CodecError>
         ensures { Gives view (parse value.entry) result };
 
-    /// The value that is read of one that stays where it is, as in a list that rows are read into. It is what
-    /// [`decode`](Decode::decode) reads of a copy, and is refused as that is, or where a custom type has too many
-    /// copies (C1).
+    /// Reads a value that stays where it is, as in a list of a row's fields: what [`decode`](Decode::decode) reads of a
+    /// copy. So it is refused as that is, or where a custom type has too many copies (C1).
     #[inline(always)]
     #[tactic(auto, using(crate::proofs::StepOutcomes::read_of_copy))]
     fn decode_by_ref(alloc: Global, value: &PgValueRef<'_>) -> Result<Self, CodecError>

@@ -99,6 +99,10 @@ where
     fn decode(alloc: Global, value: PgValueRef<'_>) -> Result<PgDomain<T>, CodecError> {
         Ok(PgDomain(T::from_base(T::Base::decode(alloc, value)?)))
     }
+
+    fn decode_by_ref(alloc: Global, value: &PgValueRef<'_>) -> Result<PgDomain<T>, CodecError> {
+        Ok(PgDomain(T::from_base(T::Base::decode_by_ref(alloc, value)?)))
+    }
 }
 
 /// Read back where what it holds is.

@@ -103,6 +103,10 @@ impl<T: Newtype> Decode for PgNewtype<T> {
     fn decode(alloc: Global, value: PgValueRef<'_>) -> Result<PgNewtype<T>, CodecError> {
         Ok(PgNewtype(T::from_base(T::Base::decode(alloc, value)?)))
     }
+
+    fn decode_by_ref(alloc: Global, value: &PgValueRef<'_>) -> Result<PgNewtype<T>, CodecError> {
+        Ok(PgNewtype(T::from_base(T::Base::decode_by_ref(alloc, value)?)))
+    }
 }
 
 /// Read back where what it holds is.
