@@ -3,22 +3,14 @@
 mod server;
 
 use pgv::{
-    CodecError, Decode, Encode, Oid, PgArgumentBuffer, PgRecord, PgRecordDecoder, PgType,
-    PgTypeInfo, PgTypeKind, PgValueFormat, PgValueRef, Type,
+    CodecError, Decode, Encode, PgArgumentBuffer, PgRecord, PgRecordDecoder, PgType, PgTypeInfo,
+    PgValueFormat, PgValueRef, Type,
 };
+use pgv_fixtures::type_of;
 use server::RECORDS;
-use std::alloc::{AllocError, Global};
-use std::rc::RcStr;
+use std::alloc::Global;
 use std::test::Fail;
 use uuid::Uuid;
-
-/// The composite type of an `int4` and a text.
-pub fn pair(alloc: Global) -> Result<PgTypeInfo, AllocError> {
-    let mut fields = Vec::new(alloc);
-    fields.push((RcStr::from_str(alloc, "a")?, PgTypeInfo(PgType::Int4)))?;
-    fields.push((RcStr::from_str(alloc, "b")?, PgTypeInfo(PgType::Text)))?;
-    PgTypeInfo::custom(alloc, Oid(16700), "pair", PgTypeKind::Composite(fields))
-}
 
 /// The frame of a value, in hex.
 fn frame_of<T: Encode>(alloc: Global, value: &T) -> Result<String, CodecError> {
@@ -92,11 +84,9 @@ fn record<'a>(
     bytes: &'a [u8],
     format: PgValueFormat,
 ) -> Result<PgRecordDecoder<'a>, CodecError> {
-    let type_info = match name {
-        "pair" => pair(alloc)?,
-        _ => PgTypeInfo(PgType::Record),
-    };
-    PgRecordDecoder::new(alloc, PgValueRef::new(Some(bytes), type_info, format))
+    let type_name = if name == "pair" { "(int4,text)" } else { name };
+    let value = PgValueRef::new(Some(bytes), type_of(alloc, type_name)?, format);
+    PgRecordDecoder::new(alloc, value)
 }
 
 /// Whether the fields of a record of these bytes are read and written so.
